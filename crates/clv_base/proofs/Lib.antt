@@ -1,0 +1,6 @@
+pub mod Arrays
+pub mod SameNames
+pub mod Spans
+pub mod Settling
+pub mod Folding
+pub mod Grouping

@@ -1,0 +1,113 @@
+// Lists inside other types, which contracts see as lists.
+
+ghost use Rattle.std.specs.Prelude.{◌≡◌, ℕ, List};
+ghost use Rattle.clv_base.specs.declared.names.TxId.{TxId};
+ghost use Rattle.clv_base.specs.declared.causes.Vote.{Vote};
+ghost use Rattle.clv_base.specs.Arrays.{present_from};
+
+use crate::causes::Vote;
+use crate::names::TxId;
+use std::marker::Model;
+
+/// Pairs of a key and its value.
+#[derive(Clone, Drop, Debug)]
+pub struct Pairs {
+    items: Vec<(u64, u64)>,
+}
+
+impl Model for Pairs {
+    ghost Value = { List (ℕ × ℕ) };
+
+    ghost view = { λ p. p.items.items };
+}
+
+impl Pairs {
+    /// The list of the vector's pairs, in its order. Takes no memory.
+    pub fn new(items: Vec<(u64, u64)>) -> Self
+        ensures { result ≡ items.items }
+    {
+        Pairs { items }
+    }
+
+    /// The pairs, in order.
+    pub fn as_slice(&self) -> &[(u64, u64)]
+        ensures { result.now ≡ self.now }
+    {
+        self.items.as_slice()
+    }
+}
+
+/// Transactions, in rising order.
+#[derive(Clone, Drop, Debug)]
+pub struct TxList {
+    items: Vec<TxId>,
+}
+
+impl Model for TxList {
+    ghost Value = { List TxId };
+
+    ghost view = { λ p. p.items.items };
+}
+
+impl TxList {
+    /// The list of the vector's transactions, in its order. Takes no memory.
+    pub fn new(items: Vec<TxId>) -> Self
+        ensures { result ≡ items.items }
+    {
+        TxList { items }
+    }
+
+    /// The transactions, in order.
+    pub fn as_slice(&self) -> &[TxId]
+        ensures { result.now ≡ self.now }
+    {
+        self.items.as_slice()
+    }
+
+    /// The vector of the list's transactions, given back. Takes no memory.
+    pub fn into_vec(self) -> Vec<TxId>
+        ensures { result.items ≡ self }
+    {
+        self.items
+    }
+}
+
+/// Touched shards, each with its epoch.
+#[derive(Clone, Drop, Debug)]
+pub struct Touched {
+    items: Vec<(u32, u64)>,
+}
+
+impl Model for Touched {
+    ghost Value = { List (ℕ × ℕ) };
+
+    ghost view = { λ p. p.items.items };
+}
+
+impl Touched {
+    /// The list of the vector's shards and epochs, in its order. Takes no memory.
+    pub fn new(items: Vec<(u32, u64)>) -> Self
+        ensures { result ≡ items.items }
+    {
+        Touched { items }
+    }
+
+    /// The shards with their epochs, in order.
+    pub fn as_slice(&self) -> &[(u32, u64)]
+        ensures { result.now ≡ self.now }
+    {
+        self.items.as_slice()
+    }
+}
+
+/// Votes by shard, each at its place.
+#[derive(Clone, Drop, Debug)]
+pub struct Votes {
+    given: [Option<Vote>; 16],
+}
+
+impl Model for Votes {
+    ghost Value = { List (ℕ × Vote) };
+
+    ghost view = { λ v. present_from 0 v.given };
+}
