@@ -1,0 +1,11 @@
+pub mod Playing
+pub mod Writers
+pub mod Crashes
+pub mod InDoubt
+pub mod Cascades
+pub mod Waiting
+pub mod Repeats
+pub mod Scans
+pub mod Histories
+pub mod Soundness
+pub mod LogRows

@@ -1,0 +1,11 @@
+pub mod Growing
+pub mod GrowingEvents
+pub mod Resting
+pub mod InOrder
+pub mod Facts
+pub mod Dooming
+pub mod Sets
+pub mod Doubts
+pub mod Undone
+pub mod Reaching
+pub mod Rested

@@ -1,0 +1,6 @@
+pub mod Growth
+pub mod Resting
+pub mod SessionLaws
+pub mod FactLaws
+pub mod UndoLaws
+pub mod RestartLaws

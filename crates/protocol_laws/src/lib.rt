@@ -1,0 +1,11 @@
+// Laws of the protocol: what every event, restart, undo and session keeps to, whatever the state.
+// Each law is the clause of a function with an empty body; the statements stand in specs/, by topic.
+// Stands on the definitions of clv_base alone. Proofs over whole histories cite these laws.
+#![tactic(auto)]
+
+pub mod events;
+pub mod replay;
+pub mod restarts;
+pub mod sessions;
+pub mod undo;
+pub mod votes;
