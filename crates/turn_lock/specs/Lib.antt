@@ -1,0 +1,3 @@
+pub mod Journals
+pub mod Rule
+pub mod Passes
