@@ -1,0 +1,5 @@
+pub mod Closing
+pub mod Copies
+pub mod Counts
+pub mod Places
+pub mod Rising

@@ -1,0 +1,17 @@
+//! The locks that transactions hold on the anchors of a shard, and what a request for more meets: granted, to wait, or to die.
+//! Each call is promised to be the protocol's definition over the list of all locks: rows of an anchor and a holder, by anchor and then transaction.
+//! Calls that change locks take no memory, where room was reserved for the locks that they add.
+//! It stands on `clv_base`, which has the definitions, and `range_modes`.
+#![tactic(auto)]
+
+mod gaps;
+mod holding;
+mod list_locks;
+mod locks;
+mod meeting;
+mod rows;
+#[cfg(test)]
+mod tests;
+
+pub use list_locks::ListLocks;
+pub use locks::{Locks, Memory};

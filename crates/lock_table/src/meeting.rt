@@ -1,0 +1,118 @@
+//! What a request meets among the rows.
+ghost use Rattle.std.specs.Prelude.{◌≡◌, not, position, IfOk, OnOk};
+ghost use Rattle.std.specs.Ordering.{is_gt};
+ghost use Rattle.std.specs.List.Sorted.{IsStrictlySortedBy};
+ghost use Rattle.clv_base.specs.Modes.{compatible as fits, writes as is_written};
+ghost use Rattle.clv_base.specs.Locks.{meets, decide as decision_on, violated as violated_by_grant, older_of as older_holder};
+ghost use Rattle.clv_base.specs.Orders.{tx_cmp, tx_insert};
+
+use crate::locks::Memory;
+use crate::rows::Row;
+use clv_base::modes::{Decision, Holder, Need};
+use clv_base::names::{Birth, TxId};
+use range_modes::{compatible, writes};
+use std::alloc::Global;
+
+/// Whether a row doesn't fit some need on its anchor.
+pub(crate) fn conflicts(needs: &[Need], row: &Row) -> bool
+    ensures { result ≡ meets (λ a h. not (fits a h)) needs.now row.now }
+{
+    for need in needs {
+        if need.anchor == row.0 && !compatible(need.mode, row.1.mode) {
+            return true;
+        }
+    }
+    false
+}
+
+/// Whether a write in a row is violated by some need on its anchor.
+pub(crate) fn is_write_met(needs: &[Need], row: &Row) -> bool
+    ensures { result ≡ meets is_written needs.now row.now }
+{
+    for need in needs {
+        if need.anchor == row.0 && writes(need.mode, row.1.mode) {
+            return true;
+        }
+    }
+    false
+}
+
+/// The older of two holders, where there are two.
+fn older_of(holder: Holder, other: Option<Holder>) -> Holder
+    ensures { result ≡ older_holder holder other }
+{
+    match other {
+        Some(other) if other.birth < holder.birth => other,
+        _ => holder,
+    }
+}
+
+/// The decision over all rows.
+pub(crate) fn decide(rows: &[Row], tx: TxId, birth: Birth, needs: &[Need]) -> Decision
+    ensures { result ≡ decision_on tx birth needs.now rows.now }
+{
+    let mut older = None;
+    let mut active = None;
+    let mut left = rows.len();
+    while left > 0 {
+        left -= 1;
+        let holder = rows[left].1;
+        if tx != holder.tx && conflicts(needs, &rows[left]) && !holder.closed {
+            active = Some(older_of(holder, active));
+            if holder.birth < birth {
+                older = Some(older_of(holder, older));
+            }
+        }
+    }
+    match (older, active) {
+        (Some(holder), _) => Decision::Die { older: holder.tx },
+        (None, Some(holder)) => Decision::Wait { younger: holder.tx },
+        (None, None) => Decision::Grant,
+    }
+}
+
+/// The closed holders whose writes a grant would violate, rising.
+pub(crate) fn violated(
+    alloc: Global,
+    rows: &[Row],
+    tx: TxId,
+    needs: &[Need],
+) -> Result<Vec<TxId>, Memory>
+    ensures ok { IfOk result (λ txs. txs.items ≡ violated_by_grant tx needs.now rows.now) }
+    ensures rising { IfOk result (λ txs. IsStrictlySortedBy tx_cmp txs.items) }
+{
+    let mut found = Vec::new(alloc);
+    for row in rows {
+        if tx != row.1.tx && row.1.closed && is_write_met(needs, row) {
+            insert(&mut found, row.1.tx)?;
+        }
+    }
+    Ok(found)
+}
+
+/// The first of a rising list that isn't before the transaction.
+fn place_of(txs: &[TxId], tx: TxId) -> Option<usize>
+    ensures { result ≡ position (λ x. not (is_gt (tx_cmp tx x))) txs.now }
+{
+    txs.iter().position(|other| !tx.cmp(other).is_gt())
+}
+
+/// Puts a transaction at its place in a rising list, once.
+fn insert(txs: &mut Vec<TxId>, tx: TxId) -> Result<(), Memory>
+    ensures { OnOk result (txs.new.items ≡ tx_insert tx txs.old.items) }
+{
+    let Some(at) = place_of(txs, tx) else {
+        return match txs.push(tx) {
+            Ok(()) => Ok(()),
+            Err(_) => Err(Memory),
+        };
+    };
+    let there = txs[at];
+    if tx.cmp(&there).is_eq() {
+        return Ok(());
+    }
+    match txs.insert(at, tx) {
+        Ok(()) => Ok(()),
+        Err(_) => Err(Memory),
+    }
+}
