@@ -1,0 +1,25 @@
+// Points at which a run may be held.
+
+/// Where a run has come.
+#[derive(Clone, Copy, Debug, PartialEq, Eq)]
+pub enum Step {
+    /// A session is about to make a transaction's first event.
+    Begun { session: u32 },
+    /// An operation of a session was answered.
+    Answered { session: u32 },
+    /// The shard's gate is out, and nothing of the batch is written.
+    FlushOut { shard: u32 },
+}
+
+/// Is told each step; a test may hold the run there. It can't fail, and answers nothing.
+pub trait Pace {
+    fn pass(&self, point: Step);
+}
+
+/// Holds nothing.
+#[derive(Clone, Copy, Debug, PartialEq, Eq)]
+pub struct NoPace;
+
+impl Pace for NoPace {
+    fn pass(&self, _point: Step) {}
+}
