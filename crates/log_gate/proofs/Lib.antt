@@ -1,0 +1,16 @@
+pub mod Opened
+pub mod Places
+pub mod Parsing
+pub mod Recording
+pub mod Crash
+pub mod Numbers
+pub mod Headers
+pub mod Records
+pub mod Chain
+pub mod Views
+pub mod Ends
+pub mod RecordLoop
+pub mod SplitLoop
+pub mod Batches
+pub mod Unchanged
+pub mod ManyLogs

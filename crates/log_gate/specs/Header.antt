@@ -1,0 +1,80 @@
+-- The header of a shard's log: magic, version 1, the shard, the number of shards, and the splits.
+use Rattle.std.specs.Prelude.{ℕ, zero, suc, ◌+◌, ◌-◌, ◌*◌, ◌<◌, ◌≤◌, ◌^◌, List, [], ◌∷◌, ◌++◌, length, take, drop, Bool, true, false, ◌&&◌, nat_le, nat_lt, nat_eq, get_or, Option, Some, None, Result, Ok, Err, if◌then◌else◌}
+use Rattle.std.specs.List.{flat_map}
+use Rattle.byteorder.specs.Endian.{little_bytes, little_number}
+
+-- the text CLVLOG01
+abbrev pub magic : List ℕ
+magic = 67 ∷ 76 ∷ 86 ∷ 76 ∷ 79 ∷ 71 ∷ 48 ∷ 49 ∷ []
+
+-- the header's bytes, with numbers lowest byte first
+unfoldable pub header_bytes : ℕ → List ℕ → List ℕ
+header_bytes shard splits = magic ++ (little_bytes 4 1 ++ (little_bytes 4 shard ++ (little_bytes 4 (suc (length splits)) ++ flat_map (little_bytes 8) splits)))
+
+-- how many they are
+abbrev pub header_size : List ℕ → ℕ
+header_size splits = 20 + 8 * length splits
+
+abbrev pub same_bytes : List ℕ → List ℕ → Bool
+same_bytes [] [] = true
+same_bytes [] (y ∷ ys) = false
+same_bytes (x ∷ xs) [] = false
+same_bytes (x ∷ xs) (y ∷ ys) = nat_eq x y && same_bytes xs ys
+
+-- where splits are agreed on: whether there are so many, and whether the split at this place of the list is this one
+abbrev pub agrees_on_count : Option (List ℕ) → ℕ → Bool
+agrees_on_count None count = true
+agrees_on_count (Some agreed) count = nat_eq (length agreed) count
+
+abbrev pub agrees_at : Option (List ℕ) → ℕ → ℕ → Bool
+agrees_at None i split = true
+agrees_at (Some agreed) i split = nat_lt i (length agreed) && nat_eq (get_or agreed i 0) split
+
+abbrev pub with_split : ℕ → Result (List ℕ) ℕ → Result (List ℕ) ℕ
+with_split split (Ok splits) = Ok (split ∷ splits)
+with_split split (Err place) = Err place
+
+-- a split that is at least this, and the one agreed on at i, stands at the front
+abbrev pub has_split : Option (List ℕ) → (i least : ℕ) → List ℕ → Bool
+has_split agreed i least rest = nat_le 8 (length rest) && (nat_le least (little_number 8 rest) && agrees_at agreed i (little_number 8 rest))
+
+-- so many splits from the one at i on, each greater than the one before and at least this; or the place of the first that isn't as it should be
+unfoldable pub splits_from : (agreed : Option (List ℕ)) → (count i least : ℕ) → List ℕ → Result (List ℕ) ℕ
+splits_from agreed zero i least bytes = Ok []
+splits_from agreed (suc count) i least bytes =
+    if has_split agreed i least bytes
+    then with_split (little_number 8 bytes) (splits_from agreed count (i + 1) (little_number 8 bytes + 1) (drop 8 bytes))
+    else Err (20 + 8 * i)
+
+-- a number of four bytes stands at this place
+abbrev pub has_number : ℕ → ℕ → List ℕ → Bool
+has_number place n bytes = nat_le (place + 4) (length bytes) && nat_eq (little_number 4 (drop place bytes)) n
+
+-- a number of shards from 1 to 16, as agreed, stands at place 16
+abbrev pub has_count : Option (List ℕ) → List ℕ → Bool
+has_count agreed bytes =
+    nat_le 20 (length bytes)
+    && (nat_le 1 (little_number 4 (drop 16 bytes)) && (nat_le (little_number 4 (drop 16 bytes)) 16 && agrees_on_count agreed (little_number 4 (drop 16 bytes) - 1)))
+
+-- what stands behind a field that is as it should be
+abbrev pub behind_field : Bool → ℕ → Result (List ℕ) ℕ → Result (List ℕ) ℕ
+behind_field holds place rest = if holds then rest else Err place
+
+-- the splits of the header of this shard; or the place of the first field that isn't as it should be
+unfoldable pub header_of : (shard : ℕ) → (agreed : Option (List ℕ)) → List ℕ → Result (List ℕ) ℕ
+header_of shard agreed bytes =
+    behind_field (same_bytes (take 8 bytes) magic) 0
+    (behind_field (has_number 8 1 bytes) 8
+    (behind_field (has_number 12 shard bytes) 12
+    (behind_field (has_count agreed bytes) 16
+    (splits_from agreed (little_number 4 (drop 16 bytes) - 1) 0 0 (drop 20 bytes)))))
+
+-- the least that the next split may be
+abbrev pub least_after : Option ℕ → ℕ
+least_after None = 0
+least_after (Some split) = split + 1
+
+-- numbers of 64 bits, each greater than the one before, and at least this
+abbrev pub Rise : ℕ → List ℕ → Type 0
+Rise least [] = Unit {0}
+Rise least (s ∷ splits) = (least ≤ s) × (s < 2 ^ 64) × Rise (s + 1) splits

@@ -1,0 +1,37 @@
+-- What callers see of a gate.
+use Rattle.std.specs.Prelude.{◌≡◌, ◌⊎◌, ℕ, List, ◌++◌, Bool, Option, Some, None, IfSome}
+use Rattle.clv_base.specs.declared.logs.LogRecord.{LogRecord}
+use Rattle.disk_model.specs.Story.{Story, reads, IsImage}
+use Rattle.log_gate.specs.Image.{log_of, records_of, HasLog, HasHeader}
+use Rattle.log_gate.specs.Gate.{EachNow}
+
+-- its disk's story, where it is told, and the disk's count of faults; the shard; and whether it is shut
+pub record View : Type 0 where
+  pub story : Option Story
+  pub faults : ℕ
+  pub shard : ℕ
+  pub is_shut : Bool
+
+-- what a read gives and each image that a crash now may leave have as their log these records, where the disk tells them
+abbrev pub IsLogOf : View → List LogRecord → Type 0
+IsLogOf g records = IfSome g.story (EachNow (HasLog g.shard records))
+
+-- these all have a header with these splits
+abbrev pub IsHeaderOf : View → List ℕ → Type 0
+IsHeaderOf g splits = IfSome g.story (EachNow (HasHeader g.shard splits))
+
+abbrev pub logs_told : Option Story → ℕ → Option (List LogRecord) → Type 0
+logs_told None shard log = ⊥
+logs_told (Some s) shard log = (image : List ℕ) × ((image ≡ reads s) ⊎ IsImage s image) × (records_of (log_of shard image) ≡ log)
+
+-- its logs: that of what a read gives, and that of each image that a crash now may leave; none where the disk doesn't tell
+abbrev pub logs_of : View → Option (List LogRecord) → Type 0
+logs_of g log = logs_told g.story g.shard log
+
+-- each log is these records
+abbrev pub Only : List LogRecord → (Option (List LogRecord) → Type 0) → Type 0
+Only records logs = (log : Option (List LogRecord)) → logs log → log ≡ Some records
+
+-- each log is these records, with more behind them or without
+abbrev pub OnlyOrMore : List LogRecord → List LogRecord → (Option (List LogRecord) → Type 0) → Type 0
+OnlyOrMore records more logs = (log : Option (List LogRecord)) → logs log → (log ≡ Some records) ⊎ (log ≡ Some (records ++ more))

@@ -1,0 +1,76 @@
+// Why a log wasn't made or read.
+ghost use Rattle.std.specs.Prelude.{◌≡◌};
+ghost use Rattle.log_gate.specs.declared.error.OpenLogError.TheVariants.{Memory as no_memory, Failed as disk_failed};
+ghost use Rattle.log_gate.specs.declared.error.MakeError.TheVariants.{Failed as making_failed};
+ghost use Rattle.log_gate.specs.declared.error.ParseError.TheVariants.{Memory as none_to_parse};
+
+use disk_model::Failed;
+use std::alloc::{AllocError, AllocFailed};
+
+/// Why a log wasn't made.
+#[derive(Clone, Copy, Debug, PartialEq, Eq)]
+pub enum MakeError {
+    /// The disk has so many bytes already.
+    Exists { len: u64 },
+    /// The disk failed.
+    Failed,
+    Memory,
+}
+
+impl From<Failed> for MakeError {
+    ghost from_gives = { λ _ e. e ≡ making_failed };
+
+    fn from(_: Failed) -> Self {
+        MakeError::Failed
+    }
+}
+
+/// Why a log wasn't opened.
+#[derive(Clone, Copy, Debug, PartialEq, Eq)]
+pub enum OpenLogError {
+    /// The first field that is not as it should be stands at this place.
+    NotLog { offset: u64 },
+    /// The disk failed.
+    Failed,
+    Memory,
+}
+
+impl From<AllocError> for OpenLogError {
+    ghost from_gives = { λ _ e. e ≡ no_memory };
+
+    fn from(_: AllocError) -> Self {
+        OpenLogError::Memory
+    }
+}
+
+impl From<Failed> for OpenLogError {
+    ghost from_gives = { λ _ e. e ≡ disk_failed };
+
+    fn from(_: Failed) -> Self {
+        OpenLogError::Failed
+    }
+}
+
+/// Why bytes weren't read.
+#[derive(Clone, Copy, Debug, PartialEq, Eq)]
+pub enum ParseError {
+    /// The first field that is not as it should be stands at this place.
+    NotLog(usize),
+    Memory,
+}
+
+impl From<AllocError> for ParseError {
+    ghost from_gives = { λ _ e. e ≡ none_to_parse };
+
+    fn from(_: AllocError) -> Self {
+        ParseError::Memory
+    }
+}
+
+impl<T: Drop> From<AllocFailed<T>> for ParseError {
+    ghost from_gives = { λ _ e. e ≡ none_to_parse };
+
+    fn from(_: AllocFailed<T>) -> Self {
+        ParseError::Memory
+    }
+}

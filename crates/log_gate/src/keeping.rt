@@ -1,0 +1,44 @@
+// What the layers above see of a gate.
+ghost use Rattle.std.specs.Prelude.{◌≡◌, ◌++◌, ℕ, List, Option, Bool, true, false, Err, OnOk, IsErrOf};
+ghost use Rattle.clv_base.specs.declared.logs.LogRecord.{LogRecord};
+ghost use Rattle.log_gate.specs.Image.{SpellAll, IsBatch};
+ghost use Rattle.log_gate.specs.View.{Only, OnlyOrMore, logs_of};
+ghost use Rattle.log_gate.specs.Errors.{Counts};
+
+use crate::gate::{LogGate, PushError};
+use disk_model::Disk;
+
+/// A log to which batches are pushed.
+pub trait Gate {
+    /// Which logs it may have: that of what a read gives, and those that a crash now may leave. None where it doesn't tell.
+    ghost logs: { Self → Option (List LogRecord) → Type 0 };
+
+    /// How often its disk has failed.
+    ghost faults: { Self → ℕ };
+
+    ghost is_shut: { Self → Bool };
+
+    /// Adds a batch, the spellings of whole records, of 1 to 1,048,576 bytes. After `Failed` each log is the old one,
+    /// with the whole batch or without, and the gate answers `Shut` from then on.
+    fn push(&mut self, payload: &[u8]) -> Result<(), PushError>
+        requires { IsBatch payload.now }
+        ensures ok { OnOk result ((records more : List LogRecord) → Only records (logs self.old) → SpellAll more payload.now → Only (records ++ more) (logs self.new)) }
+        ensures either { (records more : List LogRecord) → Only records (logs self.old) → SpellAll more payload.now → OnlyOrMore records more (logs self.new) }
+        ensures up { OnOk result (is_shut self.new ≡ false) }
+        ensures down { IsErrOf result PushError.Failed → is_shut self.new ≡ true }
+        ensures shut { IsErrOf result PushError.Shut → is_shut self.old ≡ true }
+        ensures only_shut { is_shut self.old ≡ true → result ≡ Err PushError.Shut }
+        ensures cause { Counts (faults self.old) (faults self.new) result };
+}
+
+impl<D: Disk> Gate for LogGate<D> {
+    ghost logs = { λ g. logs_of g };
+
+    ghost faults = { λ g. g.faults };
+
+    ghost is_shut = { λ g. g.is_shut };
+
+    fn push(&mut self, payload: &[u8]) -> Result<(), PushError> {
+        LogGate::push(self, payload)
+    }
+}

@@ -1,0 +1,5 @@
+pub mod Fields
+pub mod Loops
+pub mod Records
+pub mod Spellings
+pub mod UnknownKinds

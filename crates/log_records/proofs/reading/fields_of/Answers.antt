@@ -1,0 +1,35 @@
+use Rattle.std.proofs.Common.{rules}
+use Rattle.log_records.specs.Reading.{fields_at}
+use Rattle.log_records.proofs.UnknownKinds.{unknown_kind}
+use Rattle.log_records.proofs.reading.fields_of.Goals as goal
+
+pub returns-in-1 : goal.returns-in-1
+unfolding fields_at
+returns-in-1 c = rw c.in-1.is c.update_of.ensures
+
+pub returns-in-2 : goal.returns-in-2
+unfolding fields_at
+returns-in-2 c = rw c.in-2.is c.clr_of.ensures
+
+pub returns-in-3 : goal.returns-in-3
+unfolding fields_at
+returns-in-3 c = rw c.in-3.is c.prepare_of.ensures
+
+pub returns-in-4 : goal.returns-in-4
+unfolding fields_at
+returns-in-4 c = rw c.in-4.is c.commit_of.ensures
+
+pub returns-in-5 : goal.returns-in-5
+unfolding fields_at
+returns-in-5 c = rw c.in-5.is c.abort_of.ensures
+
+pub returns-in-6 : goal.returns-in-6
+unfolding fields_at
+returns-in-6 c = rw c.in-6.is c.end_of.ensures
+
+pub returns-in-7 : goal.returns-in-7
+unfolding fields_at
+returns-in-7 c = rw c.in-7.is c.restart_of.ensures
+
+pub returns-in_default : goal.returns-in_default
+returns-in_default c = let h = c.in_default in unknown_kind c.args.kind c.args.bytes.now (search rules) (search rules) (search rules) (search rules) (search rules) (search rules) (search rules)

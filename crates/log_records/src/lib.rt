@@ -1,0 +1,25 @@
+//! The records of a log as bytes, and back.
+//!
+//! Each record whose fields are in bounds has one spelling, and no spelling begins another, so records that stand one
+//! behind the other are read in one way. `encode` appends a spelling and `decode` finds the record that is spelled at
+//! the front of any bytes. Stands on the types and bounds of `clv_base`, and on `byteorder` for numbers.
+#![tactic(auto)]
+
+mod bounds;
+mod error;
+mod laws;
+mod lists;
+mod numbers;
+mod reading;
+mod writing;
+
+pub use bounds::{has_spelling, record_size};
+pub use error::{DecodeError, Memory};
+pub use laws::{
+    at_most_one_record, at_most_one_spelling, length_is_size, no_spelling_begins_another,
+};
+pub use reading::decode;
+pub use writing::encode;
+
+#[cfg(test)]
+mod tests;
