@@ -1,0 +1,8 @@
+pub mod Covered
+pub mod Fitting
+pub mod IndexOf
+pub mod Names
+pub mod OnlyWrites
+pub mod Outside
+pub mod Pushes
+pub mod Walking

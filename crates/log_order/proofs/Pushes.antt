@@ -1,0 +1,71 @@
+-- What one more record at the end of a log changes.
+use Rattle.std.proofs.Common.{◌≡◌, ℕ, suc, ◌+◌, Bool, true, false, ◌&&◌, ◌||◌, List, [], ◌∷◌, ◌++◌, length, Some, None, refl, sym, ap, ◌∙◌, append_assoc, add-zero, zero-add, nat_lt, ◌==◌, arith}
+use Rattle.std.specs.List.{list_any, list_all}
+use Rattle.clv_base.specs.declared.logs.LogRecord.{LogRecord}
+use Rattle.clv_base.specs.declared.logs.LogRecord.TheVariants.{Restart}
+use Rattle.clv_base.specs.Logs.{StandingUpdate, standing_from, standing_after, standing}
+use Rattle.clv_base.specs.LogRules.{last_restart, above_restarts, before_restart}
+
+pub or_false : (a : Bool) → a || false ≡ a
+or_false true = refl
+or_false false = refl
+
+pub and_true : (a : Bool) → a && true ≡ a
+and_true true = refl
+and_true false = refl
+
+or_assoc : (a b c : Bool) → (a || b) || c ≡ a || (b || c)
+or_assoc true b c = refl
+or_assoc false b c = refl
+
+and_assoc : (a b c : Bool) → (a && b) && c ≡ a && (b && c)
+and_assoc true b c = refl
+and_assoc false b c = refl
+
+pub any_push : {X : Type 0} (test : X → Bool) (xs : List X) (y : X) → list_any test (xs ++ y ∷ []) ≡ list_any test xs || test y
+any_push test [] y = or_false (test y)
+any_push test (x ∷ xs) y = ap (λ (b : Bool). test x || b) (any_push test xs y) ∙ sym (or_assoc (test x) (list_any test xs) (test y))
+
+pub all_push : {X : Type 0} (test : X → Bool) (xs : List X) (y : X) → list_all test (xs ++ y ∷ []) ≡ list_all test xs && test y
+all_push test [] y = and_true (test y)
+all_push test (x ∷ xs) y = ap (λ (b : Bool). test x && b) (all_push test xs y) ∙ sym (and_assoc (test x) (list_all test xs) (test y))
+
+-- ---- RESTARTs
+
+pub last_restart_push : (log : List LogRecord) (run epoch : ℕ) → last_restart (log ++ Restart run epoch ∷ []) ≡ Some (run, epoch)
+last_restart_push [] run epoch = refl
+last_restart_push (Restart r e ∷ rs) run epoch = rw (last_restart_push rs run epoch) refl
+last_restart_push (_ ∷ rs) run epoch = last_restart_push rs run epoch
+
+pub last_restart_other : (log : List LogRecord) (r : LogRecord) → last_restart (r ∷ []) ≡ None → last_restart (log ++ r ∷ []) ≡ last_restart log
+last_restart_other [] r other = other
+last_restart_other (Restart run epoch ∷ rs) r other = rw (last_restart_other rs r other) refl
+last_restart_other (_ ∷ rs) r other = last_restart_other rs r other
+
+pub above_push : (run epoch : ℕ) (log : List LogRecord) (r : LogRecord) → above_restarts run epoch (log ++ r ∷ []) ≡ above_restarts run epoch log && above_restarts run epoch (r ∷ [])
+above_push run epoch [] r = refl
+above_push run epoch (Restart run' epoch' ∷ rs) r =
+    let test : Bool = nat_lt run' run || ((run' == run) && nat_lt epoch' epoch) in
+    ap (λ (b : Bool). test && b) (above_push run epoch rs r) ∙ sym (and_assoc test (above_restarts run epoch rs) (above_restarts run epoch (r ∷ [])))
+above_push run epoch (_ ∷ rs) r = above_push run epoch rs r
+
+pub before_restart_push : (so_far log : List LogRecord) (run epoch : ℕ) → before_restart so_far (log ++ Restart run epoch ∷ []) ≡ so_far ++ log
+before_restart_push so_far [] run epoch = refl
+before_restart_push so_far (Restart r e ∷ rs) run epoch = ap (λ (l : List LogRecord). so_far ++ l) (before_restart_push (Restart r e ∷ []) rs run epoch)
+before_restart_push so_far (h ∷ rs) run epoch = before_restart_push (so_far ++ h ∷ []) rs run epoch ∙ append_assoc so_far (h ∷ []) rs
+
+pub before_restart_other : (so_far log : List LogRecord) (r : LogRecord) → ((s : List LogRecord) → before_restart s (r ∷ []) ≡ []) → before_restart so_far (log ++ r ∷ []) ≡ before_restart so_far log
+before_restart_other so_far [] r other = other so_far
+before_restart_other so_far (Restart run epoch ∷ rs) r other = ap (λ (l : List LogRecord). so_far ++ l) (before_restart_other (Restart run epoch ∷ []) rs r other)
+before_restart_other so_far (h ∷ rs) r other = before_restart_other (so_far ++ h ∷ []) rs r other
+
+-- ---- UPDATEs that stand
+
+standing_from_push : (n : ℕ) (log : List LogRecord) (r : LogRecord) (ws : List StandingUpdate) → standing_from n (log ++ r ∷ []) ws ≡ standing_after (n + length log) r (standing_from n log ws)
+standing_from_push n [] r ws = ap (λ (k : ℕ). standing_after k r ws) (sym (add-zero n))
+standing_from_push n (h ∷ rs) r ws =
+    let place : suc n + length rs ≡ n + suc (length rs) = omega arith in
+    standing_from_push (suc n) rs r (standing_after n h ws) ∙ ap (λ (k : ℕ). standing_after k r (standing_from (suc n) rs (standing_after n h ws))) place
+
+pub standing_push : (log : List LogRecord) (r : LogRecord) → standing (log ++ r ∷ []) ≡ standing_after (length log) r (standing log)
+standing_push log r = standing_from_push 0 log r [] ∙ ap (λ (k : ℕ). standing_after k r (standing log)) (zero-add (length log))

@@ -1,0 +1,4 @@
+pub mod Facts
+pub mod Tables
+pub mod Rules
+pub mod Writes
