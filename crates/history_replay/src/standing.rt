@@ -1,0 +1,85 @@
+// What logs stand for.
+
+ghost use Rattle.std.specs.Prelude.{◌≡◌, ◌||◌, map, [], IfOk, OnOk};
+ghost use Rattle.clv_base.specs.declared.names.TxId.{TxId as Tx};
+ghost use Rattle.clv_base.specs.Logs.{committed_in, committed_somewhere, fold_updates, stands_from, stands as stands_for};
+ghost use Rattle.clv_base.specs.Maps.{map_set};
+ghost use Rattle.history_replay.specs.Transactions.{has_member};
+
+use crate::Memory;
+use crate::transactions::TxSet;
+use clv_base::logs::LogRecord;
+use key_map::KeyMap;
+use std::alloc::Global;
+
+// The transactions with a COMMIT in this log join the set.
+fn add_committed(set: &mut TxSet, log: &[LogRecord]) -> Result<(), Memory>
+    ensures { OnOk result ((t : Tx) → has_member set.new t ≡ (has_member set.old t || committed_in log.now t)) }
+{
+    for record in log {
+        if let LogRecord::Commit { tx, .. } = record {
+            set.insert(*tx)?;
+        }
+    }
+    Ok(())
+}
+
+// The transactions with a COMMIT in some log.
+fn committed(alloc: Global, logs: &[Vec<LogRecord>]) -> Result<TxSet, Memory>
+    ensures { IfOk result (λ set. (t : Tx) → has_member set t ≡ committed_somewhere (map (λ l. l.items) logs.now) t) }
+{
+    let mut set = TxSet::new(alloc);
+    for log in logs {
+        add_committed(&mut set, log)?;
+    }
+    Ok(set)
+}
+
+// The value that a key has from now on, or none.
+fn set_to(pairs: &mut KeyMap, key: u64, after: Option<u64>) -> Result<(), Memory>
+    ensures { OnOk result (pairs.new ≡ map_set key after pairs.old) }
+{
+    match after {
+        Some(value) => {
+            pairs.set(key, value)?;
+        }
+        None => {
+            pairs.remove(key);
+        }
+    }
+    Ok(())
+}
+
+// Each UPDATE of a transaction of the set is done, in the log's order.
+fn fold(pairs: &mut KeyMap, set: &TxSet, log: &[LogRecord]) -> Result<(), Memory>
+    ensures { OnOk result (pairs.new ≡ fold_updates (has_member set.now) log.now pairs.old) }
+{
+    for record in log {
+        if let LogRecord::Update { tx, key, after, .. } = record {
+            if set.contains(*tx) {
+                set_to(pairs, *key, *after)?;
+            }
+        }
+    }
+    Ok(())
+}
+
+fn fold_all(pairs: &mut KeyMap, set: &TxSet, logs: &[Vec<LogRecord>]) -> Result<(), Memory>
+    ensures { OnOk result (pairs.new ≡ stands_from (has_member set.now) (map (λ l. l.items) logs.now) pairs.old) }
+{
+    for log in logs {
+        fold(pairs, set, log)?;
+    }
+    Ok(())
+}
+
+/// The map that a set of logs stands for: from the empty map, log by log and in order of LSN, each UPDATE of a transaction that has a
+/// COMMIT in some of the logs sets its key to the value after. Each record takes time logarithmic in the records.
+pub fn stands(alloc: Global, logs: &[Vec<LogRecord>]) -> Result<KeyMap, Memory>
+    ensures { IfOk result (λ pairs. pairs ≡ stands_for (map (λ l. l.items) logs.now)) }
+{
+    let set = committed(alloc, logs)?;
+    let mut pairs = KeyMap::new(alloc);
+    fold_all(&mut pairs, &set, logs)?;
+    Ok(pairs)
+}
