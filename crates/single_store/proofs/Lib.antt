@@ -1,0 +1,4 @@
+pub mod Flushing
+pub mod Asking
+pub mod Requests
+pub mod Acknowledging
