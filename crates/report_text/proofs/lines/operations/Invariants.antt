@@ -1,0 +1,7 @@
+use Rattle.std.proofs.Common.{◌≡◌, ◌++◌, map, drop}
+use Rattle.serde_json.specs.View.{view}
+use Rattle.report_text.specs.Lines.{operations_from, operations}
+use Rattle.report_text.proofs.lines.operations.Given as goal
+
+abbrev pub invariant-loop-place : goal.invariant-loop-place
+invariant-loop-place l = map view l.values.items ++ operations_from l.before (drop l.place l.told) ≡ operations l.told

@@ -1,0 +1,6 @@
+pub mod Told
+pub mod Lines
+pub mod Counts
+pub mod Report
+pub mod Sets
+pub mod Sinks

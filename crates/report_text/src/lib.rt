@@ -1,0 +1,20 @@
+//! The texts that the program prints: the report of a history, and the pairs of a map.
+//!
+//! Each is exactly its definition, as compact JSON with a line feed after each line. A report is made whole before any of it is written.
+//! It stands on the definitions of `clv_base`, the histories of `history_replay`, the sinks of `io_edge` and the writer of `serde_json`.
+#![tactic(auto)]
+
+mod counts;
+mod lines;
+mod pairs;
+mod sets;
+#[cfg(test)]
+mod tests;
+mod texts;
+mod told;
+
+pub use pairs::pairs_text;
+pub use texts::{ReportError, report, report_into};
+
+/// Want of memory.
+pub type Memory = std::alloc::AllocError;

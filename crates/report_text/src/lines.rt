@@ -1,0 +1,182 @@
+// The line of a transaction.
+
+ghost use Rattle.std.specs.Prelude.{◌≡◌, ◌++◌, IfOk, OnOk, map, take, length, ◌≤◌, string_bytes, false};
+ghost use Rattle.serde_json.specs.Written.{has_float};
+ghost use Rattle.clv_base.specs.declared.ops.Op.TheVariants.{Scan};
+ghost use Rattle.serde_json.specs.View.{view};
+ghost use Rattle.report_text.specs.Lines.{line as line_of, optional as optional_value, pair as pair_value, pairs_of as pairs_in, answer as answer_data, parts_of, upper as upper_end, upper_of as upper_end_of, all_pairs, operation as operation_value, operations_from, operations as operations_values, goes_on as continues, transaction as transaction_value};
+
+use crate::Memory;
+use crate::told::Told;
+use clv_base::names::TxId;
+use clv_base::ops::{Answer, Op};
+use serde_json::{Value, json};
+use std::alloc::Global;
+
+// A value as compact JSON, with a line feed.
+pub fn line(alloc: Global, value: &Value) -> Result<String, Memory>
+    requires { has_float (view value.now) ≡ false }
+    ensures { IfOk result (λ text. string_bytes text ≡ line_of (view value.now)) }
+{
+    let mut text = value.to_string(alloc)?;
+    text.push('\n')?;
+    Ok(text)
+}
+
+fn optional(value: Option<u64>) -> Value
+    ensures { view result ≡ optional_value value }
+{
+    match value {
+        Some(number) => Value::from(number),
+        None => Value::Null,
+    }
+}
+
+pub fn pair(alloc: Global, key: u64, value: u64) -> Result<Value, Memory>
+    ensures { IfOk result (λ v. view v ≡ pair_value (key, value)) }
+{
+    json!(in alloc; [key, value])
+}
+
+// The pairs are added to a list of values.
+fn add_pairs(alloc: Global, values: &mut Vec<Value>, pairs: &[(u64, u64)]) -> Result<(), Memory>
+    ensures { OnOk result (map view values.new.items ≡ map view values.old.items ++ map pair_value pairs.now) }
+{
+    for entry in pairs {
+        values.push(pair(alloc, entry.0, entry.1)?)?;
+    }
+    Ok(())
+}
+
+fn pairs_of(answer: &Answer) -> &[(u64, u64)]
+    ensures { result.now ≡ pairs_in answer.now }
+{
+    match answer {
+        Answer::Value(_) => &[],
+        Answer::Pairs(pairs) => pairs.as_slice(),
+    }
+}
+
+fn answer_value(alloc: Global, answer: &Answer) -> Result<Value, Memory>
+    ensures { IfOk result (λ v. view v ≡ answer_data answer.now) }
+{
+    match answer {
+        Answer::Value(value) => Ok(optional(*value)),
+        Answer::Pairs(pairs) => {
+            let mut values = Vec::new(alloc);
+            add_pairs(alloc, &mut values, pairs.as_slice())?;
+            Ok(Value::Array(values))
+        }
+    }
+}
+
+// How many of these follow with this number.
+fn count_parts(nth: u64, told: &[Told]) -> usize
+    ensures within { result ≤ length told.now }
+    ensures parts { take result told.now ≡ parts_of nth told.now }
+{
+    for place in 0..told.len() {
+        if nth != told[place].nth {
+            return place;
+        }
+    }
+    told.len()
+}
+
+fn upper(high: u64, op: Op) -> u64
+    ensures { result ≡ upper_end high op }
+{
+    match op {
+        Op::Scan(_, end) => end,
+        _ => high,
+    }
+}
+
+fn upper_of(high: u64, parts: &[Told]) -> u64
+    ensures { result ≡ upper_end_of high parts.now }
+{
+    let mut end = high;
+    for part in parts {
+        end = upper(end, part.op);
+    }
+    end
+}
+
+fn add_all_pairs(alloc: Global, values: &mut Vec<Value>, parts: &[Told]) -> Result<(), Memory>
+    ensures { OnOk result (map view values.new.items ≡ map view values.old.items ++ map pair_value (all_pairs parts.now)) }
+{
+    for part in parts {
+        add_pairs(alloc, values, pairs_of(&part.answer))?;
+    }
+    Ok(())
+}
+
+fn scan_value(
+    alloc: Global,
+    low: u64,
+    high: u64,
+    answer: &Answer,
+    parts: &[Told],
+) -> Result<Value, Memory>
+    ensures { IfOk result (λ v. view v ≡ operation_value (Scan low high) answer.now parts.now) }
+{
+    let mut values = Vec::new(alloc);
+    add_pairs(alloc, &mut values, pairs_of(answer))?;
+    add_all_pairs(alloc, &mut values, parts)?;
+    let end = upper_of(high, parts);
+    json!(in alloc; ["scan", low, end, values])
+}
+
+fn operation(alloc: Global, op: Op, answer: &Answer, parts: &[Told]) -> Result<Value, Memory>
+    ensures { IfOk result (λ v. view v ≡ operation_value op answer.now parts.now) }
+{
+    match op {
+        Op::Get(key) => {
+            let given = answer_value(alloc, answer)?;
+            json!(in alloc; ["get", key, given])
+        }
+        Op::Put(key, value) => {
+            let given = answer_value(alloc, answer)?;
+            json!(in alloc; ["put", key, value, given])
+        }
+        Op::Del(key) => {
+            let given = answer_value(alloc, answer)?;
+            json!(in alloc; ["del", key, given])
+        }
+        Op::Scan(low, high) => scan_value(alloc, low, high, answer, parts),
+    }
+}
+
+fn goes_on(before: Option<u64>, nth: u64) -> bool
+    ensures { result ≡ continues before nth }
+{
+    match before {
+        None => false,
+        Some(number) => number == nth,
+    }
+}
+
+fn operations(alloc: Global, told: &[Told]) -> Result<Vec<Value>, Memory>
+    ensures { IfOk result (λ values. map view values.items ≡ operations_values told.now) }
+{
+    let mut values = Vec::new(alloc);
+    let mut before = None;
+    for place in 0..told.len() {
+        let one = &told[place];
+        if !goes_on(before, one.nth) {
+            let later = &told[place + 1..];
+            let parts = &later[..count_parts(one.nth, later)];
+            values.push(operation(alloc, one.op, &one.answer, parts)?)?;
+        }
+        before = Some(one.nth);
+    }
+    Ok(values)
+}
+
+// The object of a transaction.
+pub fn transaction(alloc: Global, tx: TxId, told: &[Told]) -> Result<Value, Memory>
+    ensures { IfOk result (λ v. view v ≡ transaction_value tx told.now) }
+{
+    let ops = operations(alloc, told)?;
+    json!(in alloc; {"ops": ops, "serial": tx.serial, "session": tx.session})
+}

@@ -1,0 +1,28 @@
+// The pairs of a map.
+
+ghost use Rattle.std.specs.Prelude.{◌≡◌, IfOk};
+ghost use Rattle.report_text.specs.Report.{pairs_text as text_of_pairs};
+
+use crate::Memory;
+use crate::lines::{line, pair};
+use key_map::KeyMap;
+use std::alloc::Global;
+
+fn text_of(alloc: Global, pairs: &[(u64, u64)]) -> Result<Vec<u8>, Memory>
+    ensures { IfOk result (λ text. text.items ≡ text_of_pairs pairs.now) }
+{
+    let mut text = Vec::new(alloc);
+    for entry in pairs {
+        let next = line(alloc, &pair(alloc, entry.0, entry.1)?)?;
+        text.extend_from_slice(next.as_bytes())?;
+    }
+    Ok(text)
+}
+
+/// A line `[K,V]` for each pair of a map, by rising keys, as bytes. Takes time linear in the map.
+pub fn pairs_text(alloc: Global, pairs: &KeyMap) -> Result<Vec<u8>, Memory>
+    ensures { IfOk result (λ text. text.items ≡ text_of_pairs pairs.now) }
+{
+    let all = pairs.pairs(alloc)?;
+    text_of(alloc, &all)
+}
