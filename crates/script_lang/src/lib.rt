@@ -4,6 +4,7 @@
 //! outside the grammar at its place. It stands on the operations of `clv_base`.
 #![tactic(auto)]
 
+pub mod laws;
 mod lines;
 mod parsing;
 mod reader;

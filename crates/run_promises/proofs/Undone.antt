@@ -1,0 +1,54 @@
+-- What an opening may add to a log leaves what it stands for.
+use Rattle.std.proofs.Common.{◌≡◌, refl, ap, sym, ◌∙◌, Bool, true, false, cond, ◌||◌, ◌&&◌, List, [], ◌∷◌, ◌++◌, Option}
+use Rattle.std.specs.List.{list_all, list_any}
+use Rattle.std.proofs.lemmas.List.Folds.{list_any-append}
+use Rattle.std.proofs.lemmas.Grind.{common_steps}
+use Rattle.clv_base.specs.declared.names.TxId.{TxId}
+use Rattle.clv_base.specs.declared.logs.LogRecord.{LogRecord}
+use Rattle.clv_base.specs.declared.logs.LogRecord.TheVariants.{Update, Clr, Prepare, Commit, Abort, End, Restart}
+use Rattle.clv_base.specs.Maps.{KeyMap, map_set}
+use Rattle.clv_base.specs.Logs.{committed_in, is_commit_of, fold_updates, committed_somewhere, stands}
+use Rattle.run_promises.specs.Disks.{is_undo}
+use Rattle.run_promises.specs.Laws.{UndoStands}
+
+-- the fold over two logs, with tests that agree, where the second one has no writes that count
+pub fold_undo :
+    (keep keep' : TxId → Bool) → ((t : TxId) → keep t ≡ keep' t) → (log more : List LogRecord) (m : KeyMap) → list_all is_undo more ≡ true
+    → fold_updates keep (log ++ more) m ≡ fold_updates keep' log m
+fold_undo keep keep' same [] [] m all = refl
+fold_undo keep keep' same [] (Clr tx u k a ∷ more) m all = fold_undo keep keep' same [] more m all
+fold_undo keep keep' same [] (Abort tx ∷ more) m all = fold_undo keep keep' same [] more m all
+fold_undo keep keep' same [] (Restart run epoch ∷ more) m all = fold_undo keep keep' same [] more m all
+fold_undo keep keep' same [] (Update tx k b a ∷ more) m all = absurd cc
+fold_undo keep keep' same [] (Prepare tx home ps ∷ more) m all = absurd cc
+fold_undo keep keep' same [] (Commit tx ps ∷ more) m all = absurd cc
+fold_undo keep keep' same [] (End tx ∷ more) m all = absurd cc
+fold_undo keep keep' same (Update tx k b a ∷ log) more m all =
+    ap (λ c. fold_updates keep (log ++ more) (cond c (map_set k a m) m)) (same tx) ∙ fold_undo keep keep' same log more (cond (keep' tx) (map_set k a m) m) all
+fold_undo keep keep' same (Clr tx u k a ∷ log) more m all = fold_undo keep keep' same log more m all
+fold_undo keep keep' same (Prepare tx home ps ∷ log) more m all = fold_undo keep keep' same log more m all
+fold_undo keep keep' same (Commit tx ps ∷ log) more m all = fold_undo keep keep' same log more m all
+fold_undo keep keep' same (Abort tx ∷ log) more m all = fold_undo keep keep' same log more m all
+fold_undo keep keep' same (End tx ∷ log) more m all = fold_undo keep keep' same log more m all
+fold_undo keep keep' same (Restart run epoch ∷ log) more m all = fold_undo keep keep' same log more m all
+
+-- none of them is a COMMIT
+commits_none : (t : TxId) (more : List LogRecord) → list_all is_undo more ≡ true → committed_in more t ≡ false
+commits_none t [] all = refl
+commits_none t (Clr tx u k a ∷ more) all = commits_none t more all
+commits_none t (Abort tx ∷ more) all = commits_none t more all
+commits_none t (Restart run epoch ∷ more) all = commits_none t more all
+commits_none t (Update tx k b a ∷ more) all = absurd cc
+commits_none t (Prepare tx home ps ∷ more) all = absurd cc
+commits_none t (Commit tx ps ∷ more) all = absurd cc
+commits_none t (End tx ∷ more) all = absurd cc
+
+pub or_false : (b : Bool) → (b || false) ≡ b
+or_false true = refl
+or_false false = refl
+
+pub undo_stands_for_it : UndoStands
+undo_stands_for_it log more all =
+    fold_undo (committed_somewhere ((log ++ more) ∷ [])) (committed_somewhere (log ∷ []))
+    (λ t. ap (λ b. b || false) (list_any-append (is_commit_of t) log more ∙ ap (λ b. committed_in log t || b) (commits_none t more all) ∙ or_false (committed_in log t)))
+    log more [] all

@@ -1,0 +1,4 @@
+pub mod Disks
+pub mod Histories
+pub mod Scripts
+pub mod Laws

@@ -1,0 +1,5 @@
+use Rattle.script_lang.proofs.Scripts.{short_scripts}
+use Rattle.script_lang.proofs.laws.scripts_are_short.Goals as goal
+
+pub returns : goal.returns
+returns c = short_scripts
