@@ -1,0 +1,4 @@
+//! A run of one session on one shard over a house of disks: it opens the shard's log, does the session's transactions, and gives the disk back.
+#![tactic(auto)]
+
+mod laws;
