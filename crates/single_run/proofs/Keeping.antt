@@ -45,7 +45,7 @@ module _
     (found : List LogRecord) (plan : List (List Op)) (stop : Stop) (before now : ℕ → Option Story) (kept : Kept) (played : IsPlayed found plan stop (before 0) (now 0) kept) where
 
   -- its entries are the history of the run
-  own_entries : OneShardsEntries → entries_of kept.journals ≡ history found plan stop
+  pub own_entries : OneShardsEntries → entries_of kept.journals ≡ history found plan stop
   own_entries one =
       ap entries_of played.journal ∙ one (play found plan stop).entries ∙ same_history (play found plan stop).entries
 

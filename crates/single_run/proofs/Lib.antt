@@ -1,2 +1,5 @@
 pub mod Disks
 pub mod Keeping
+pub mod Growing
+pub mod Following
+pub mod Stopping

@@ -1,11 +1,14 @@
 // What the runs of one session on one shard keep.
 
 ghost use Rattle.single_run.specs.Plays.{PlaysKeep};
+ghost use Rattle.single_run.specs.Runs.{RunsKeep};
 
 use history_replay::one_shard;
 use single_path::laws::{
-    crashes_leave, members_are_in_order, runs_are_legal, runs_have_their_log, runs_may_be_opened, runs_replay,
+    births_are_of_transactions, crashes_leave, members_are_in_order, members_are_the_plan,
+    runs_are_legal, runs_have_their_log, runs_may_be_opened, runs_replay, steps_are_the_plan,
 };
+use single_path::steps::runs_fail_where_they_stop;
 
 /// A run whose journal and log are kept, and whose disk holds its log, keeps what the program promises.
 pub fn plays_keep()
@@ -18,4 +21,18 @@ pub fn plays_keep()
     runs_replay();
     members_are_in_order();
     runs_may_be_opened();
+}
+
+/// A run of a session's transactions, however it ended, keeps what the program promises, follows its script, and at its end has
+/// acknowledged all of it.
+pub fn runs_keep()
+    ensures { RunsKeep }
+{
+    plays_keep();
+    one_shard();
+    steps_are_the_plan();
+    births_are_of_transactions();
+    runs_fail_where_they_stop();
+    crashes_leave();
+    members_are_the_plan();
 }
