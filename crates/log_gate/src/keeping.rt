@@ -18,6 +18,9 @@ pub trait Gate {
 
     ghost is_shut: { Self → Bool };
 
+    /// Whose log it is.
+    ghost shard: { Self → ℕ };
+
     /// Adds a batch, the spellings of whole records, of 1 to 1,048,576 bytes. After `Failed` each log is the old one,
     /// with the whole batch or without, and the gate answers `Shut` from then on.
     fn push(&mut self, payload: &[u8]) -> Result<(), PushError>
@@ -28,6 +31,7 @@ pub trait Gate {
         ensures down { IsErrOf result PushError.Failed → is_shut self.new ≡ true }
         ensures shut { IsErrOf result PushError.Shut → is_shut self.old ≡ true }
         ensures only_shut { is_shut self.old ≡ true → result ≡ Err PushError.Shut }
+        ensures same_shard { shard self.new ≡ shard self.old }
         ensures cause { Counts (faults self.old) (faults self.new) result };
 }
 
@@ -37,6 +41,8 @@ impl<D: Disk> Gate for LogGate<D> {
     ghost faults = { λ g. g.faults };
 
     ghost is_shut = { λ g. g.is_shut };
+
+    ghost shard = { λ g. g.shard };
 
     fn push(&mut self, payload: &[u8]) -> Result<(), PushError> {
         LogGate::push(self, payload)

@@ -35,6 +35,7 @@ pub fn run_transactions<G: Gate, P: Pace>(
     ensures failed { IsErrOf result CommitError.Failed → FailsIn walk.old.run transactions.now walk.old.play walk.new.play (G.logs gate.new) }
     ensures memory { IsErrOf result CommitError.Memory → StopsIn walk.old.run transactions.now walk.old.play walk.new.play (G.logs gate.new) }
     ensures cause { CountsCommit (G.faults gate.old) (G.faults gate.new) result }
+    ensures shard { G.shard gate.new ≡ G.shard gate.old }
     ensures run { walk.new.run ≡ walk.old.run }
 {
     clocks_are_bounded();

@@ -44,6 +44,7 @@ fn flush<G: Gate, P: Pace>(walk: &mut Walk, gate: &mut G, pace: &P) -> Result<()
     ensures ok { OnOk result ((walk.new.play ≡ landed (out walk.old.play)) × (walk.new.buffer ≡ []) × (1 ≤ walk.new.room) × (G.is_shut gate.new ≡ false) × Only (walk.old.play).log (G.logs gate.new)) }
     ensures failed { OnErr result ((walk.new.play ≡ failed (out walk.old.play)) × OnlyOrMore (take (walk.old.play).durable (walk.old.play).log) (drop (walk.old.play).durable (walk.old.play).log) (G.logs gate.new)) }
     ensures cause { HasCause (G.faults gate.old) (G.faults gate.new) result }
+    ensures shard { G.shard gate.new ≡ G.shard gate.old }
     ensures error { IfErr result (λ e. e ≡ CommitError.Failed) }
     ensures run { walk.new.run ≡ walk.old.run }
 {
@@ -78,6 +79,7 @@ fn settle<G: Gate, P: Pace>(
     ensures gate { OnOk result ((G.is_shut gate.new ≡ false) × Only (walk.old.play).log (G.logs gate.new)) }
     ensures failed { OnErr result ((wrote ≡ true) × (walk.new.play ≡ failed (out walk.old.play)) × OnlyOrMore (take (walk.old.play).durable (walk.old.play).log) (drop (walk.old.play).durable (walk.old.play).log) (G.logs gate.new)) }
     ensures cause { HasCause (G.faults gate.old) (G.faults gate.new) result }
+    ensures shard { G.shard gate.new ≡ G.shard gate.old }
     ensures run { walk.new.run ≡ walk.old.run }
 {
     if !wrote {
@@ -132,6 +134,7 @@ pub fn commit<G: Gate, P: Pace>(
     ensures failed { IsErrOf result CommitError.Failed → HasFailed walk.old.run operations.now walk.old.play walk.new.play (G.logs gate.new) }
     ensures memory { IsErrOf result CommitError.Memory → HasStopped walk.old.run operations.now walk.old.play walk.new.play (G.logs gate.new) }
     ensures cause { CountsCommit (G.faults gate.old) (G.faults gate.new) result }
+    ensures shard { G.shard gate.new ≡ G.shard gate.old }
     ensures run { walk.new.run ≡ walk.old.run }
 {
     if operations.is_empty() {

@@ -31,6 +31,8 @@ impl Gate for Counting {
 
     ghost is_shut = { λ g. g.shut };
 
+    ghost shard = { λ g. 0 };
+
     fn push(&mut self, _payload: &[u8]) -> Result<(), PushError> {
         if self.shut {
             return Err(PushError::Shut);

@@ -36,5 +36,6 @@ loop-transaction-preserved g c =
         c.in-Ok.ensures.ok c.runs_go_on.ensures;
       run = cc (c.in-Ok.ensures.run, c.loop-transaction.invariant.run);
       kept = c.in-Ok.ensures.kept;
+      shard = cc (c.in-Ok.ensures.shard, c.loop-transaction.invariant.shard);
       faults = cc (c.in-Ok.ensures.cause, c.loop-transaction.invariant.faults);
     }

@@ -10,5 +10,6 @@ invariant-loop-transaction g l =
       done : l.walk.play ≡ run_all l.fn.walk.run (take l.transaction-index l.transactions) l.fn.walk.play;
       run : l.walk.run ≡ l.fn.walk.run;
       kept : IsKept l.walk (g.G.Gate.is_shut l.gate) (g.G.Gate.logs l.gate);
+      shard : g.G.Gate.shard l.gate ≡ g.G.Gate.shard l.fn.gate;
       faults : g.G.Gate.faults l.gate ≡ g.G.Gate.faults l.fn.gate;
     }
