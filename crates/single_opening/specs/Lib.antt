@@ -1,0 +1,3 @@
+pub mod Opening
+pub mod Finding
+pub mod Laws
