@@ -93,7 +93,7 @@ module _ (found : List LogRecord) (story : Option Story) (faults : ℕ) (g : Vie
     pub opened : v.buffer ≡ [] → v.run ≡ w.run → IsOpened (found_in count v) count v story
     opened empty same =
         subst (λ (l : List LogRecord). IsOpened l count v story) (sym found_is)
-        (record { may = may_go_on; counted = sym counted; run = same ∙ run; play = played; buffer = empty; told = f.here })
+        (record { may = may_go_on; counted = sym counted; run = same ∙ run; play = played; buffer = empty; told = f.here; before = f.before })
 
     pub moments : (new : Option Story) → Tells g.story new Pushed → Tells story new (WritesRestart (found_in count v))
     moments new told =

@@ -52,6 +52,7 @@ pub record IsOpened (found : List LogRecord) (count : ℕ) (w : View) (story : O
   pub play : w.play ≡ opening found
   pub buffer : w.buffer ≡ []
   pub told : IfSome story (HasFound found)
+  pub before : IfSome story (λ s. HasLog 0 found (reads s))
 
 -- at each moment from s to t a crash leaves what one before could leave, or the log found, with the RESTART or without
 abbrev pub WritesRestart : List LogRecord → Story → Story → Type 0

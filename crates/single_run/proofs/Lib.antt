@@ -3,3 +3,5 @@ pub mod Keeping
 pub mod Growing
 pub mod Following
 pub mod Stopping
+pub mod Refused
+pub mod Opened

@@ -1,5 +1,5 @@
 -- How the transactions of a session ended, as a run.
-use Rattle.std.proofs.Common.{◌≡◌, refl, ap, sym, ◌∙◌, subst, ◌⊎◌, inl, inr, ℕ, zero, suc, ◌+◌, ◌*◌, ◌<◌, ◌≤◌, ◌^◌, Bool, true, false, ◌&&◌, nat_le, List, [], ◌∷◌, ◌++◌, take, drop, length, Option, Some, None, IfSome, Result, Ok, Err, arith, length-append}
+use Rattle.std.proofs.Common.{◌≡◌, refl, ap, sym, ◌∙◌, subst, ◌⊎◌, inl, inr, ℕ, zero, suc, ◌+◌, ◌*◌, ◌<◌, ◌≤◌, ◌^◌, Bool, true, false, ◌&&◌, nat_le, List, [], ◌∷◌, ◌++◌, take, drop, length, Option, Some, None, IfSome, Result, Ok, Err, OnOk, arith, length-append}
 use Rattle.std.specs.List.{list_all, list_any}
 use Rattle.std.proofs.lemmas.List.{take-append-drop}
 use Rattle.std.proofs.lemmas.List.Folds.{list_all-append}
@@ -212,3 +212,11 @@ module _
             holds = holds_only (play found f.done (In_operations front)) p.log now (left_in_operations (run_after (found ∷ [])) front p (rests f.done)) last.log;
           };
       }
+
+  -- however the transactions ended
+  pub ran : (shut : Bool) (ended : Result (Unit {0}) CommitError) → OnOk ended (q.play ≡ run_all run plan (opening found)) → OnOk ended (IsKept q shut (logs_told now 0))
+      → (ended ≡ Err Failed → FailsIn run plan (opening found) q.play (logs_told now 0)) → (ended ≡ Err Memory → StopsIn run plan (opening found) q.play (logs_told now 0))
+      → IsRun plan ended before now kept
+  ran shut (Ok a) ok keeps fails stops = ran_to_end a shut ok keeps
+  ran shut (Err Failed) ok keeps fails stops = ran_to_failure (fails refl)
+  ran shut (Err Memory) ok keeps fails stops = ran_out_of_memory (stops refl)

@@ -2,3 +2,6 @@
 #![tactic(auto)]
 
 mod laws;
+mod session;
+
+pub use session::{Ran, run_session};
