@@ -8,6 +8,10 @@ use Rattle.single_path.specs.Plan.{Stop, After_all}
 use Rattle.single_path.specs.Steps.{stops_at_failure}
 use Rattle.single_store.specs.declared.commits.CommitError.{CommitError}
 use Rattle.single_store.specs.declared.commits.CommitError.TheVariants.{Failed, Memory}
+use Rattle.log_gate.specs.Opening.{IsUnchanged}
+use Rattle.single_opening.specs.declared.error.OpeningError.{OpeningError}
+use Rattle.single_opening.specs.declared.error.OpeningError.TheVariants as opening
+use Rattle.run_promises.specs.Disks.{StaysClosed}
 use Rattle.run_promises.specs.Histories.{entries, Keeps}
 use Rattle.run_promises.specs.Scripts.{StopsIn, FollowsScript, HasNoStop, has_failure, HasAll}
 use Rattle.single_run.specs.Plays.{IsPlayed}
@@ -46,3 +50,10 @@ abbrev pub RunsKeep : Type 0
 RunsKeep =
     (script : List (List Op)) (ended : Result (Unit {0}) CommitError) (before now : ℕ → Option Story) (kept : Kept)
     → IsRun script ended (before 0) (now 0) kept → Keeps [] before now kept × FollowsTo script ended kept × AcknowledgesAll script ended kept
+
+-- what a disk is after an opening that was refused: not written, but where the disk failed its log may have been begun
+abbrev pub Stays : OpeningError → Story → Story → Type 0
+Stays (opening.NotLog at) s t = IsUnchanged s t
+Stays opening.Worn s t = IsUnchanged s t
+Stays opening.Memory s t = IsUnchanged s t
+Stays opening.Failed s t = StaysClosed s t

@@ -11,8 +11,7 @@ ghost use Rattle.single_path.specs.Plan.{may_run};
 ghost use Rattle.single_store.specs.Steady.{IsKept, CountsCommit};
 ghost use Rattle.single_opening.specs.Opening.{found_in, IsOpened, Refuses, Leaves, CountsError};
 ghost use Rattle.run_promises.specs.Histories.{Keeps};
-ghost use Rattle.run_promises.specs.Disks.{StaysClosed};
-ghost use Rattle.single_run.specs.Runs.{IsRun, FollowsTo, AcknowledgesAll};
+ghost use Rattle.single_run.specs.Runs.{IsRun, FollowsTo, AcknowledgesAll, Stays};
 
 use crate::laws::runs_keep;
 use clv_base::events::Entry;
@@ -116,6 +115,7 @@ fn run_opened<H: House, P: Pace>(
     requires empty { (journals.items ≡ []) × (logs.items ≡ []) }
     requires room { (1 ≤ vec_capacity journals) × (1 ≤ vec_capacity logs) }
     ensures run { (before : Option Story) → IsOpened (found_in opened.found opened.walk) opened.found opened.walk before → IsRun transactions.now result.ended before (H.story house.new 0) result.history }
+    ensures one { length (result.history).journals ≡ 1 }
     ensures unchanged { transactions.now ≡ [] → result.content ≡ stands (result.history).found }
     ensures back { H.is_out house.new 0 ≡ false }
     ensures ended { CountsCommit (H.faults house.old 0) (H.faults house.new 0) result.ended }
@@ -158,9 +158,11 @@ pub fn run_session<H: House, P: Pace>(
     ensures all { IfOk result (λ r. AcknowledgesAll transactions.now r.ended r.history) }
     ensures unchanged { IfOk result (λ r. transactions.now ≡ [] → r.content ≡ stands (r.history).found) }
 
+    ensures one { IfOk result (λ r. length (r.history).journals ≡ 1) }
+
     // Where the disk wasn't opened.
     ensures refused { IfErr result (λ e. IfSome (H.story house.old 0) (Refuses e)) }
-    ensures closed { OnErr result (Tells (H.story house.old 0) (H.story house.new 0) StaysClosed) }
+    ensures closed { IfErr result (λ e. Tells (H.story house.old 0) (H.story house.new 0) (Stays e)) }
 
     ensures back { H.is_out house.new 0 ≡ false }
     ensures ended { IfOk result (λ r. CountsCommit (H.faults house.old 0) (H.faults house.new 0) r.ended) }
