@@ -1,0 +1,4 @@
+pub mod Narrow
+pub mod Endings
+pub mod Lengths
+pub mod Shown
