@@ -10,3 +10,5 @@ pub mod TellingEvents
 pub mod OldRuns
 pub mod Worlds
 pub mod Staying
+pub mod InTurn
+pub mod Endings

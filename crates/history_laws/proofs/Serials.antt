@@ -63,7 +63,7 @@ committed_front xs ys t (more, e) h = subst (λ z. committed_in z t ≡ true) e 
 abbrev pub is_in : List (List LogRecord) → History → ℕ → TxId → Bool
 is_in logs h n t = committed_in (log_of logs n) t || acknowledged_in h t
 
-abbrev member_at : History → Placed → TxId → Member
+abbrev pub member_at : History → Placed → TxId → Member
 member_at h e t = record { tx = t; point = record { stamp = (e.1).stamp; shard = e.0 }; ops = ops_in t h }
 
 abbrev with_member : History → Placed → Bool → TxId → List Member → List Member

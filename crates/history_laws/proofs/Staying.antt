@@ -52,17 +52,22 @@ pub walker_of : (splits : List ℕ) (before after : List (List LogRecord)) (h : 
 walker_of splits before after h x tx l i e = of_session splits (run_after before) (x.1).walker (own (x.1).walker h) x tx (session_of splits before after h x l i) (in_own x h i) e
 
 -- two entries of one transaction stand in the same session
-record Together (splits : List ℕ) (before : List (List LogRecord)) (h : History) (x y : Placed) : Type 0 where
-  session : is_session splits (run_after before) (x.1).walker (own (x.1).walker h) ≡ true
-  first : Among x (own (x.1).walker h)
-  second : Among y (own (x.1).walker h)
+pub record Together (splits : List ℕ) (before : List (List LogRecord)) (h : History) (x y : Placed) : Type 0 where
+  pub session : is_session splits (run_after before) (x.1).walker (own (x.1).walker h) ≡ true
+  pub first : Among x (own (x.1).walker h)
+  pub second : Among y (own (x.1).walker h)
 
-together : (splits : List ℕ) (before after : List (List LogRecord)) (h : History) (x y : Placed) (tx : TxId) → Legal splits before h after → Among x h → Among y h → tx_of (x.1).event ≡ Some tx → tx_of (y.1).event ≡ Some tx
+pub together : (splits : List ℕ) (before after : List (List LogRecord)) (h : History) (x y : Placed) (tx : TxId) → Legal splits before h after → Among x h → Among y h → tx_of (x.1).event ≡ Some tx → tx_of (y.1).event ≡ Some tx
     → Together splits before h x y
 together splits before after h x y tx l i j e f =
     let p = walker_of splits before after h x tx l i e in
     let q = walker_of splits before after h y tx l j f in
     record { session = session_of splits before after h x l i; first = in_own x h i; second = subst (λ w. Among y (own w h)) (sym q.1 ∙ p.1) (in_own y h j) }
+
+pub together_by_walker : (splits : List ℕ) (before after : List (List LogRecord)) (h : History) (x y : Placed) → Legal splits before h after → Among x h → Among y h → (x.1).walker ≡ (y.1).walker
+    → Together splits before h x y
+together_by_walker splits before after h x y l i j e =
+    record { session = session_of splits before after h x l i; first = in_own x h i; second = subst (λ w. Among y (own w h)) (sym e) (in_own y h j) }
 
 works : (tx : TxId) (ev : Event) (ts : List (ℕ × ℕ)) → ev ≡ RequestEvent tx ts → works_on tx.serial ev ≡ true
 works tx ev ts e = subst (λ z. works_on tx.serial z ≡ true) (sym e) (eq-eqb tx.serial tx.serial refl)
@@ -190,7 +195,7 @@ op_stands splits before h after h' after' c x tx ts i r v y p j e =
     op_by splits before h after h' after' c x tx ts i r v y j o.0 o.1 o.2 o.3 o.4 o.5 o.6 o.7
 
 -- a member was voted on by all
-is_request : (t : TxId) (ev : Event) (o : Outcome) → request_of ev o ≡ Some t → (ts : List (ℕ × ℕ)) × (ev ≡ RequestEvent t ts) × (o ≡ Asked)
+pub is_request : (t : TxId) (ev : Event) (o : Outcome) → request_of ev o ≡ Some t → (ts : List (ℕ × ℕ)) × (ev ≡ RequestEvent t ts) × (o ≡ Asked)
 is_request t (RequestEvent tx ts) Asked e = (ts, ap (λ z. RequestEvent z ts) (same_one e), refl)
   where
     same_one : Some tx ≡ Some t → tx ≡ t
