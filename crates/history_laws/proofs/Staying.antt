@@ -123,7 +123,7 @@ touched_entry splits before after h x tx ts m l i r (y, us, j, s, k) t =
 -- ---- no operation comes later
 
 -- an entry that is an answered operation of the transaction
-is_op : (t : TxId) (ev : Event) (o : Outcome) (p : Op × Answer) → answered_op t ev o ≡ Some p
+pub is_op : (t : TxId) (ev : Event) (o : Outcome) (p : Op × Answer) → answered_op t ev o ≡ Some p
     → (birth : Birth) × (nth : ℕ) × (seen : Option ℕ) × (op : Op) × (a : Answer) × (epoch : ℕ) × (ev ≡ OpEvent t birth nth seen op) × (o ≡ Answered a epoch)
 is_op t (OpEvent tx birth nth seen op) (Answered a epoch) p e = at (tx_same t tx) refl e
   where

@@ -136,10 +136,13 @@ pub data Step (s : Shard) : Event → Outcome → Shard → Type 0 where
   request_doomed :
       (tx : TxId) (touched : List (ℕ × ℕ)) (doom : TxId) → stage_of s.local tx ≡ Some (Gone (Some doom)) → Step s (RequestEvent tx touched) (Dead (doom_cause tx doom)) s
   request_again :
-      (tx : TxId) (touched : List (ℕ × ℕ)) → (stage_of s.local tx ≡ Some (Gone None)) ⊎ (stage_of s.local tx ≡ Some Closed) → Step s (RequestEvent tx touched) Asked s
-  request_new : (tx : TxId) (touched : List (ℕ × ℕ)) → stage_of s.local tx ≡ None → Step s (RequestEvent tx touched) Asked (coordinate tx touched s)
+      (tx : TxId) (touched : List (ℕ × ℕ)) → seen_fits s.local.epoch (epoch_in s.shard touched) ≡ true → (stage_of s.local tx ≡ Some (Gone None)) ⊎ (stage_of s.local tx ≡ Some Closed)
+      → Step s (RequestEvent tx touched) Asked s
+  request_new :
+      (tx : TxId) (touched : List (ℕ × ℕ)) → seen_fits s.local.epoch (epoch_in s.shard touched) ≡ true → stage_of s.local tx ≡ None
+      → Step s (RequestEvent tx touched) Asked (coordinate tx touched s)
   request_closes :
-      (tx : TxId) (touched : List (ℕ × ℕ)) → stage_of s.local tx ≡ Some Active
+      (tx : TxId) (touched : List (ℕ × ℕ)) → seen_fits s.local.epoch (epoch_in s.shard touched) ≡ true → stage_of s.local tx ≡ Some Active
       → Step s (RequestEvent tx touched) Asked (coordinate tx touched (with_local (close_part tx s.shard (is_alone (others s.shard touched))) s))
   looks_well : (tx : TxId) → FindsWell s tx → Step s (Look tx) Acknowledged s
   looks_ill : (tx : TxId) (cause : AbortCause) → has_durable_commit (facts_of s tx) ≡ false → FindsIll s tx cause → Step s (Look tx) (Aborted cause) s
@@ -186,16 +189,16 @@ operation s tx birth nth seen op (OpCrowded n) u e = late
 operation s tx birth nth seen op (OpDies c l) u e = does (finishes u (op_dies tx birth nth seen op c l e))
 operation s tx birth nth seen op (OpAnswers a l) u e = does (finishes u (op_answers tx birth nth seen op a l e))
 
-by_stage : (s : Shard) (tx : TxId) (ts : List (ℕ × ℕ)) (st : Option Stage) → s.is_up ≡ true → stage_of s.local tx ≡ st → HappensIn s (RequestEvent tx ts) (request_by_stage s tx ts st)
-by_stage s tx ts None u e = does (finishes u (request_new tx ts e))
-by_stage s tx ts (Some Active) u e = does (finishes u (request_closes tx ts e))
-by_stage s tx ts (Some Closed) u e = does (finishes u (request_again tx ts (inr e)))
-by_stage s tx ts (Some (Gone None)) u e = does (finishes u (request_again tx ts (inl e)))
-by_stage s tx ts (Some (Gone (Some d))) u e = does (finishes u (request_doomed tx ts d e))
+by_stage : (s : Shard) (tx : TxId) (ts : List (ℕ × ℕ)) (st : Option Stage) → s.is_up ≡ true → seen_fits s.local.epoch (epoch_in s.shard ts) ≡ true → stage_of s.local tx ≡ st → HappensIn s (RequestEvent tx ts) (request_by_stage s tx ts st)
+by_stage s tx ts None u f e = does (finishes u (request_new tx ts f e))
+by_stage s tx ts (Some Active) u f e = does (finishes u (request_closes tx ts f e))
+by_stage s tx ts (Some Closed) u f e = does (finishes u (request_again tx ts f (inr e)))
+by_stage s tx ts (Some (Gone None)) u f e = does (finishes u (request_again tx ts f (inl e)))
+by_stage s tx ts (Some (Gone (Some d))) u f e = does (finishes u (request_doomed tx ts d e))
 
 request : (s : Shard) (tx : TxId) (ts : List (ℕ × ℕ)) (b : Bool) → s.is_up ≡ true → seen_fits s.local.epoch (epoch_in s.shard ts) ≡ b → HappensIn s (RequestEvent tx ts) (request_event s tx ts b)
 request s tx ts false u e = does (finishes u (request_refused tx ts _ e))
-request s tx ts true u e = by_stage s tx ts (stage_of s.local tx) u refl
+request s tx ts true u e = by_stage s tx ts (stage_of s.local tx) u e refl
 
 look_at_lost : (s : Shard) (tx : TxId) (e : ℕ) (b : Bool) → s.is_up ≡ true → has_durable_commit (facts_of s tx) ≡ false → tx_get tx s.requests ≡ None → committed_in s.local.log tx ≡ false
     → request_epoch s.shard tx s.journal ≡ Some e → (e == s.local.epoch) ≡ b → HappensIn s (Look tx) (cond b (QuietBeforeWorn NotYet) (Does (Aborted (RestartedCause s.shard e s.local.epoch)) (finish s)))

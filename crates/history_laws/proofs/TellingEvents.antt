@@ -211,9 +211,9 @@ told_step h run s t x (op_dies tx birth nth seen op cause l g) k b p = told_log 
 told_step h run s t x (op_answers tx birth nth seen op answer l g) k b p = told_log h run _ s l (op_answering s.shard s.local l tx birth seen op answer g) p
 told_step h run s t x (request_refused tx ts cause g) k b p = p
 told_step h run s t x (request_doomed tx ts doom g) k b p = p
-told_step h run s t x (request_again tx ts g) k b p = p
-told_step h run s t x (request_new tx ts g) k b p = told_coordinate h run s x tx ts k p
-told_step h run s t x (request_closes tx ts g) k b p =
+told_step h run s t x (request_again tx ts f0 g) k b p = p
+told_step h run s t x (request_new tx ts f0 g) k b p = told_coordinate h run s x tx ts k p
+told_step h run s t x (request_closes tx ts f0 g) k b p =
     let u = with_local (close_part tx s.shard (is_alone (others s.shard ts))) s in
     told_coordinate h run u x tx ts (record { among = k.among; event = k.event; outcome = k.outcome; later = k.later; above = k.above })
     (told_close h run (suc x.stamp) s tx s.shard (is_alone (others s.shard ts)) (alone_voted h s x tx ts (others s.shard ts) refl k) p)
