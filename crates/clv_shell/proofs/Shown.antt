@@ -1,5 +1,5 @@
 -- What holds of the one command that the words are.
-use Rattle.std.proofs.Common.{◌≡◌, sym, ap, ◌∙◌, ℕ, List, [], ◌∷◌, Option}
+use Rattle.std.proofs.Common.{◌≡◌, sym, ap, ◌∙◌, ℕ, List, [], ◌∷◌, Option, arith}
 use Rattle.std.specs.Prelude.{codes}
 use Rattle.history_replay.specs.Entries.{Kept}
 use Rattle.clv_shell.specs.declared.command.Command.{Command}
@@ -14,10 +14,10 @@ first_letter ([] ∷ ws) = 0
 first_letter ((letter ∷ letters) ∷ ws) = letter
 
 apart : ◌≡◌ {A = ℕ} 115 114 → ⊥
-apart e = absurd cc
+apart e = omega (arith, e)
 
 apart_too : ◌≡◌ {A = ℕ} 115 109 → ⊥
-apart_too e = absurd cc
+apart_too e = omega (arith, e)
 
 pub follows_shown : (words : List (List ℕ)) (left : Option (List ℕ)) (status : Status) (history : Option Kept) → IsCommand words Show → FollowsCommand Show left status history
     → (command : Command) → IsCommand words command → FollowsCommand command left status history

@@ -1,0 +1,98 @@
+-- The histories are legal, entry by entry.
+use Rattle.std.proofs.Common.{refl, ℕ, zero, suc, ◌<◌, lit<, inl, arith, [], ◌∷◌, true, false}
+use Rattle.clv_base.specs.LogRules.{log_of}
+use Rattle.clv_base.specs.Restarts.{untouched}
+use Rattle.clv_base.specs.Journals.{MayRun, MayLeave, start_of, final_of, journal_of}
+use Rattle.single_path.specs.Plan.{After_all}
+use Rattle.single_path.specs.Laws.{MayPlay}
+use Rattle.single_path.proofs.Legality.{runs_are_legal}
+use Rattle.protocol_laws.specs.Growth.{IsPrefixOf}
+use Rattle.history_laws.specs.Continuing.{SameAtRestarts}
+use Rattle.one_shard_laws.specs.Replaying.{new_log}
+use Rattle.history_examples.specs.Worked.{one_plan, two_plan, short_run, long_run, short_log, long_log, RunsGoOn, restarted, looked_at, restarted_log, RestartIsLegal, RestartGoesOn}
+
+-- what holds of shard 0 holds of each shard below 1
+only_one : (P : ℕ → Type 0) → P 0 → (n : ℕ) → n < 1 → P n
+only_one P p zero h = p
+only_one P p (suc n) h = absurd (omega arith)
+
+one_plays : MayPlay [] one_plan After_all
+one_plays = record { plain = refl; in_order = refl; run_fits = lit< tt; may_run_all = refl; may_stop_there = refl; stamps_fit = lit< tt }
+
+two_plays : MayPlay [] two_plan After_all
+two_plays = record { plain = refl; in_order = refl; run_fits = lit< tt; may_run_all = refl; may_stop_there = refl; stamps_fit = lit< tt }
+
+pub runs_go_on : RunsGoOn
+runs_go_on = (
+  refl,
+  runs_are_legal [] one_plan After_all false one_plays,
+  runs_are_legal [] two_plan After_all false two_plays,
+  record {
+    journals = only_one (λ n. IsPrefixOf (journal_of n short_run) (journal_of n long_run)) (_, refl);
+    restarts = only_one (λ n. SameAtRestarts 1 (log_of short_log n) (log_of long_log n) (journal_of n short_run)) (tt, (tt, (tt, (tt, (tt, tt)))));
+  },
+)
+
+restart_runs : MayRun restarted_log (start_of new_log 0) (journal_of 0 restarted)
+restart_runs = (
+  record { event = (refl, (_, refl)); rises = lit< tt; above_message = lit< tt; bounded = lit< tt },
+  (
+    record { event = (_, refl); rises = lit< tt; above_message = lit< tt; bounded = lit< tt },
+    (
+      record { event = (_, refl); rises = lit< tt; above_message = lit< tt; bounded = lit< tt },
+      (record { event = (refl, (false, (_, untouched, refl, refl))); rises = lit< tt; above_message = lit< tt; bounded = lit< tt }, tt),
+    ),
+  ),
+)
+
+look_runs : MayRun restarted_log (start_of new_log 0) (journal_of 0 looked_at)
+look_runs = (
+  record { event = (refl, (_, refl)); rises = lit< tt; above_message = lit< tt; bounded = lit< tt },
+  (
+    record { event = (_, refl); rises = lit< tt; above_message = lit< tt; bounded = lit< tt },
+    (
+      record { event = (_, refl); rises = lit< tt; above_message = lit< tt; bounded = lit< tt },
+      (
+        record { event = (refl, (false, (_, untouched, refl, refl))); rises = lit< tt; above_message = lit< tt; bounded = lit< tt },
+        (record { event = (_, refl); rises = lit< tt; above_message = lit< tt; bounded = lit< tt }, tt),
+      ),
+    ),
+  ),
+)
+
+pub restart_is_legal : RestartIsLegal
+restart_is_legal = (
+  record {
+    splits_rise = refl;
+    ordered = refl;
+    each_log = (refl, refl);
+    in_shards = refl;
+    run_fits = lit< tt;
+    runs = only_one (λ n. MayRun (log_of (restarted_log ∷ []) n) (start_of new_log n) (journal_of n restarted)) restart_runs;
+    leaves = only_one (λ n. MayLeave (final_of new_log restarted (restarted_log ∷ []) n) (log_of (restarted_log ∷ []) n)) (true, inl refl);
+    stamps = refl;
+    sessions = refl;
+    numbered = refl;
+    messages = (tt, (tt, (tt, (tt, tt))));
+  },
+  record {
+    splits_rise = refl;
+    ordered = refl;
+    each_log = (refl, refl);
+    in_shards = refl;
+    run_fits = lit< tt;
+    runs = only_one (λ n. MayRun (log_of (restarted_log ∷ []) n) (start_of new_log n) (journal_of n looked_at)) look_runs;
+    leaves = only_one (λ n. MayLeave (final_of new_log looked_at (restarted_log ∷ []) n) (log_of (restarted_log ∷ []) n)) (true, inl refl);
+    stamps = refl;
+    sessions = refl;
+    numbered = refl;
+    messages = (tt, (tt, (tt, (tt, (tt, tt)))));
+  },
+)
+
+pub restart_goes_on : RestartGoesOn
+restart_goes_on =
+    record {
+      journals = only_one (λ n. IsPrefixOf (journal_of n restarted) (journal_of n looked_at)) (_, refl);
+      restarts = only_one (λ n. SameAtRestarts 1 (log_of (restarted_log ∷ []) n) (log_of (restarted_log ∷ []) n) (journal_of n restarted)) (tt, (tt, (tt, (refl, tt))));
+    }

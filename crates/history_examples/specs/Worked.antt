@@ -1,0 +1,87 @@
+-- Legal histories, worked out by hand.
+use Rattle.std.specs.Prelude.{◌≡◌, ℕ, true, false, List, [], ◌∷◌, ◌++◌, Some, None}
+use Rattle.clv_base.specs.declared.ops.Op.{Op}
+use Rattle.clv_base.specs.declared.ops.Op.TheVariants.{Get, Put}
+use Rattle.clv_base.specs.declared.ops.Answer.TheVariants.{Value}
+use Rattle.clv_base.specs.declared.causes.AbortCause.TheVariants.{Restarted}
+use Rattle.clv_base.specs.declared.logs.LogRecord.{LogRecord}
+use Rattle.clv_base.specs.declared.logs.LogRecord.TheVariants.{Restart as RestartRecord}
+use Rattle.clv_base.specs.declared.events.Event.{Event}
+use Rattle.clv_base.specs.declared.events.Event.TheVariants.{Op as OpEvent, Request, Look, Stop, Restart}
+use Rattle.clv_base.specs.declared.events.Outcome.{Outcome}
+use Rattle.clv_base.specs.declared.events.Outcome.TheVariants.{Answered, Asked, Aborted, Stopped, Up}
+use Rattle.clv_base.specs.declared.events.Entry.{Entry}
+use Rattle.clv_base.specs.Journals.{History}
+use Rattle.clv_base.specs.FileRules.{may_open}
+use Rattle.clv_base.specs.History.{Legal, Member, acknowledged_in}
+use Rattle.single_path.specs.Plan.{tx_of, birth_of, After_all, play, log_left_by}
+use Rattle.single_path.specs.Laws.{history}
+use Rattle.history_laws.specs.Continuing.{GoesOn, serial_now, serial_left}
+use Rattle.history_laws.specs.Outcomes.{aborted_in_history}
+use Rattle.one_shard_laws.specs.Replaying.{new_log}
+
+-- ---- two transactions of a session, each committed and durable before the next
+
+abbrev pub one_plan : List (List Op)
+one_plan = (Put 5 10 ∷ []) ∷ []
+
+abbrev pub two_plan : List (List Op)
+two_plan = (Put 5 10 ∷ []) ∷ (Get 5 ∷ Put 5 11 ∷ []) ∷ []
+
+abbrev pub short_run : History
+short_run = history [] one_plan After_all
+
+abbrev pub long_run : History
+long_run = history [] two_plan After_all
+
+abbrev pub short_log : List (List LogRecord)
+short_log = log_left_by false (play [] one_plan After_all) ∷ []
+
+abbrev pub long_log : List (List LogRecord)
+long_log = log_left_by false (play [] two_plan After_all) ∷ []
+
+abbrev pub RunsGoOn : Type 0
+RunsGoOn =
+    (may_open [] new_log ≡ true) × Legal [] new_log short_run short_log × Legal [] new_log long_run long_log
+    × GoesOn [] new_log short_run short_log long_run long_log
+
+abbrev pub first_member : Member
+first_member = record { tx = tx_of 1 1; point = record { stamp = 3; shard = 0 }; ops = (Put 5 10, Value None) ∷ [] }
+
+abbrev pub second_member : Member
+second_member =
+    record { tx = tx_of 1 2; point = record { stamp = 10; shard = 0 }; ops = (Get 5, Value (Some 10)) ∷ (Put 5 11, Value (Some 10)) ∷ [] }
+
+abbrev pub RunsHaveMembers : Type 0
+RunsHaveMembers =
+    (serial_now [] new_log short_run short_log ≡ first_member ∷ [])
+    × (serial_left [] new_log long_run long_log (λ n. true) ≡ first_member ∷ second_member ∷ [])
+    × (acknowledged_in long_run (tx_of 1 1) ≡ true) × (acknowledged_in long_run (tx_of 1 2) ≡ true)
+
+-- ---- a shard that stops with nothing flushed, and is restarted
+
+abbrev pub at : ℕ → ℕ → Event → Outcome → ℕ × Entry
+at stamp walker e o = (0, record { stamp = stamp; walker = walker; event = e; outcome = o })
+
+abbrev pub restarted : History
+restarted =
+    at 2 1 (OpEvent (tx_of 1 1) (birth_of 1 1) 1 None (Put 5 10)) (Answered (Value None) 0)
+    ∷ at 3 1 (Request (tx_of 1 1) ((0, 0) ∷ [])) Asked ∷ at 4 0 Stop Stopped ∷ at 5 0 Restart (Up 1) ∷ []
+
+abbrev pub looked_at : History
+looked_at = restarted ++ at 6 1 (Look (tx_of 1 1)) (Aborted (Restarted 0 0 1)) ∷ []
+
+abbrev pub restarted_log : List LogRecord
+restarted_log = RestartRecord 1 0 ∷ RestartRecord 1 1 ∷ []
+
+abbrev pub RestartIsLegal : Type 0
+RestartIsLegal = Legal [] new_log restarted (restarted_log ∷ []) × Legal [] new_log looked_at (restarted_log ∷ [])
+
+abbrev pub RestartGoesOn : Type 0
+RestartGoesOn = GoesOn [] new_log restarted (restarted_log ∷ []) looked_at (restarted_log ∷ [])
+
+abbrev pub RestartHasNoMember : Type 0
+RestartHasNoMember =
+    (serial_now [] new_log restarted (restarted_log ∷ []) ≡ [])
+    × (serial_left [] new_log looked_at (restarted_log ∷ []) (λ n. false) ≡ [])
+    × (aborted_in_history looked_at (tx_of 1 1) ≡ true)

@@ -1,0 +1,28 @@
+// Histories worked out by hand, and what the laws say of them.
+
+ghost use Rattle.history_examples.specs.Worked.{RunsGoOn, RunsHaveMembers, RestartIsLegal, RestartGoesOn, RestartHasNoMember};
+
+/// A run of one transaction goes on to one of two, all that the law of what is never taken back supposes is there.
+pub fn runs_go_on()
+    ensures { RunsGoOn }
+{}
+
+/// The first is a member of both, the second of the longer; they stand in the order of their serials, and both are acknowledged.
+pub fn runs_have_members()
+    ensures { RunsHaveMembers }
+{}
+
+/// A shard that stops before a flush and is restarted: the history up to the restart is legal, and so is the one with a look after it.
+pub fn restart_is_legal()
+    ensures { RestartIsLegal }
+{}
+
+/// The second goes on from the first: its restart left the same log.
+pub fn restart_goes_on()
+    ensures { RestartGoesOn }
+{}
+
+/// The transaction is no member, and it is told of its abort.
+pub fn restart_has_no_member()
+    ensures { RestartHasNoMember }
+{}

@@ -1,0 +1,4 @@
+//! Worked legal histories for which the premises of the laws of histories are computed, so that no law speaks of nothing.
+#![tactic(auto)]
+
+pub mod legal;

@@ -1,0 +1,5 @@
+use Rattle.history_laws.proofs.InTurn.{sessions_keep_their_order}
+use Rattle.history_laws.proofs.sessions.sessions_keep_their_order.Goals as goal
+
+pub returns : goal.returns
+returns c = sessions_keep_their_order

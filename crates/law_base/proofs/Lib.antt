@@ -1,0 +1,9 @@
+pub mod Lists
+pub mod Cells
+pub mod Tables
+pub mod Commits
+pub mod Running
+pub mod Undoing
+pub mod Anchors
+pub mod Changed
+pub mod Rows

@@ -1,0 +1,10 @@
+pub mod Owning
+pub mod OwningEvents
+pub mod Walking
+pub mod Dropping
+pub mod Naming
+pub mod Requesting
+pub mod Leading
+pub mod Following
+pub mod Knowing
+pub mod Replaying

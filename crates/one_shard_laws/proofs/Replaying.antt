@@ -1,0 +1,318 @@
+-- The members of a legal history of one shard replay.
+use Rattle.std.proofs.Common.{◌≡◌, ◌⊎◌, inl, inr, refl, sym, ap, subst, ◌∙◌, ℕ, ◌≤◌, true, false, cond, Bool, List, [], ◌∷◌, ◌++◌, map, Option, Some, None, ◌||◌, arith, append_assoc, append-nil}
+use Rattle.std.specs.Prelude.{unwrap_or}
+use Rattle.std.specs.List.{AllByRecursion, filter}
+use Rattle.std.proofs.lemmas.Bool.{both_ways}
+use Rattle.clv_base.specs.declared.names.TxId.{TxId}
+use Rattle.clv_base.specs.declared.names.Birth.{Birth}
+use Rattle.clv_base.specs.declared.ops.Op.{Op}
+use Rattle.clv_base.specs.declared.ops.Answer.{Answer}
+use Rattle.clv_base.specs.declared.logs.LogRecord.{LogRecord}
+use Rattle.clv_base.specs.declared.logs.LogRecord.TheVariants.{Update, Clr, Prepare, Commit, Abort, End, Restart as RestartRecord}
+use Rattle.clv_base.specs.declared.messages.Message.{Message}
+use Rattle.clv_base.specs.declared.events.Event.{Event}
+use Rattle.clv_base.specs.declared.events.Event.TheVariants.{Op as OpEvent, Look, Deliver, FlushIn, Restart}
+use Rattle.clv_base.specs.declared.events.Outcome.{Outcome}
+use Rattle.clv_base.specs.declared.events.Outcome.TheVariants.{Sent, Durable, Failed, Up}
+use Rattle.clv_base.specs.declared.events.Entry.{Entry}
+use Rattle.clv_base.specs.State.{Shard}
+use Rattle.clv_base.specs.Events.{Does, happen, with_entry, with_durable, put_down, finish}
+use Rattle.clv_base.specs.Restarts.{run_after, log_left, revived}
+use Rattle.clv_base.specs.LogRules.{log_of}
+use Rattle.clv_base.specs.Journals.{History, journal_of, event_state, up_to_restart}
+use Rattle.clv_base.specs.History.{Legal, WasSent, MessagesSent, is_acknowledgement, acknowledged_in, answered_op, ops_in, request_of}
+use Rattle.law_base.specs.Items.{Item}
+use Rattle.law_base.proofs.Changed.{none_some}
+use Rattle.shard_laws.specs.OneShard.{items_of, with_one, new_item, new_asked, new_met, new_told, HomeIs, Leads, opens, happens, lands, revives}
+use Rattle.history_laws.proofs.Stepping.{Happens}
+use Rattle.history_laws.proofs.Entering.{Makes, by_event, by_flush, by_failure, by_restart, makes}
+use Rattle.history_laws.proofs.Merging.{Placed, Before, InOrder, in_order, Among, is_among, among_left, among_right, among_all, among_append, precedes_before, front_precedes, before_then, not_before_itself}
+use Rattle.history_laws.proofs.Worlds.{state_at, split_at, sent_at}
+use Rattle.one_shard_laws.proofs.Owning.{RecordIs}
+use Rattle.one_shard_laws.proofs.Leading.{DidAny, requests_in, Fits, Knows, Next, may_happen}
+use Rattle.one_shard_laws.specs.Replaying.{new_log}
+use Rattle.clv_base.specs.Maps.{replay_map, replay_answers}
+use Rattle.clv_base.specs.Logs.{stands, committed_in}
+use Rattle.clv_base.specs.Journals.{final_of, start_of}
+use Rattle.clv_base.specs.History.{Member, members, serial, serial_ops, serial_answers, logs_left}
+use Rattle.shard_laws.specs.OneShard.{is_member, members_of, ops_by, answers_by}
+use Rattle.shard_laws.proofs.Histories.{answers_and_map}
+use Rattle.history_laws.specs.Continuing.{serial_left}
+use Rattle.history_laws.proofs.Durability.{fronts_entries, opened_counted, Counted}
+use Rattle.history_laws.proofs.Worlds.{in_a_shard}
+use Rattle.one_shard_laws.proofs.Leading.{told_pair}
+use Rattle.one_shard_laws.proofs.Following.{fits_event, fits_plain, IsPlain}
+use Rattle.one_shard_laws.proofs.Knowing.{Silent, knows_event, knows_flush, knows_down, knows_restart}
+use Rattle.one_shard_laws.specs.Replaying.{Replays, MembersReplay}
+
+pub record At (pre : History) (s : Shard) : Type 0 where
+  all : List Item
+  asked : List TxId
+  told : List TxId
+  met : List (TxId × TxId)
+  leads : Leads (run_after new_log) all asked told met s
+  fits : Fits pre all asked told met
+  knows : Knows pre s
+
+-- a flush's end and a restart are no operation, no request and no look
+plain_flush : (x : Entry) → x.event ≡ FlushIn → IsPlain x
+plain_flush x e =
+    ((λ t. ap (λ z. answered_op t z x.outcome) e), ap (λ z. request_of z x.outcome) e, (λ t. ap (λ z. is_acknowledgement t z x.outcome) e))
+
+plain_restart : (x : Entry) → x.event ≡ Restart → IsPlain x
+plain_restart x e =
+    ((λ t. ap (λ z. answered_op t z x.outcome) e), ap (λ z. request_of z x.outcome) e, (λ t. ap (λ z. is_acknowledgement t z x.outcome) e))
+
+silent_flush : (x : Entry) (o : Outcome) → x.event ≡ FlushIn → x.outcome ≡ o → ((m : Message) → o ≡ Sent m → ⊥) → Silent x
+silent_flush x o e f k =
+    record {
+      no_op = λ u b nth seen op q. op_is u b nth seen op (sym e ∙ q);
+      no_look = λ u q. look_is u (sym e ∙ q);
+      no_send = λ m q. k m (sym f ∙ q);
+    }
+  where
+    op_is : (u : TxId) (b : Birth) (nth : ℕ) (seen : Option ℕ) (op : Op) → FlushIn ≡ OpEvent u b nth seen op → ⊥
+    op_is u b nth seen op q = absurd cc
+
+    look_is : (u : TxId) → FlushIn ≡ Look u → ⊥
+    look_is u q = absurd cc
+
+silent_restart : (x : Entry) (n : ℕ) → x.event ≡ Restart → x.outcome ≡ Up n → Silent x
+silent_restart x n e f =
+    record {
+      no_op = λ u b nth seen op q. op_is u b nth seen op (sym e ∙ q);
+      no_look = λ u q. look_is u (sym e ∙ q);
+      no_send = λ m q. send_is m (sym f ∙ q);
+    }
+  where
+    op_is : (u : TxId) (b : Birth) (nth : ℕ) (seen : Option ℕ) (op : Op) → Restart ≡ OpEvent u b nth seen op → ⊥
+    op_is u b nth seen op q = absurd cc
+
+    look_is : (u : TxId) → Restart ≡ Look u → ⊥
+    look_is u q = absurd cc
+
+    send_is : (m : Message) → Up n ≡ Sent m → ⊥
+    send_is m q = absurd cc
+
+all_homes : (A : TxId → Type 0) (shard : ℕ) (rs : List LogRecord) → shard ≡ 0 → AllByRecursion (RecordIs A) rs → AllByRecursion (HomeIs shard) rs
+all_homes A shard [] e a = tt
+all_homes A shard (Prepare tx home ps ∷ rs) e a = ((a.0).1 ∙ sym e, all_homes A shard rs e a.1)
+all_homes A shard (Update tx key before after ∷ rs) e a = (tt, all_homes A shard rs e a.1)
+all_homes A shard (Clr tx next key after ∷ rs) e a = (tt, all_homes A shard rs e a.1)
+all_homes A shard (Commit tx parts ∷ rs) e a = (tt, all_homes A shard rs e a.1)
+all_homes A shard (Abort tx ∷ rs) e a = (tt, all_homes A shard rs e a.1)
+all_homes A shard (End tx ∷ rs) e a = (tt, all_homes A shard rs e a.1)
+all_homes A shard (RestartRecord run epoch ∷ rs) e a = (tt, all_homes A shard rs e a.1)
+
+written_as : (x : Entry) (e : Event) (o : Outcome) (t : Shard) (P : Shard → Type 0) → x.event ≡ e → x.outcome ≡ o → P (with_entry x.stamp x.walker e o t) → P (with_entry x.stamp x.walker x.event x.outcome t)
+written_as x e o t P p q k = subst (λ z. P (with_entry x.stamp x.walker z x.outcome t)) (sym p) (subst (λ z. P (with_entry x.stamp x.walker e z t)) (sym q) k)
+
+after_event : (after : List (List LogRecord)) (h pre : History) (x : Entry) (s t : Shard) → Next new_log after h pre x → At pre s → ((m : Message) (stamp : ℕ) → x.event ≡ Deliver m stamp → ⊥) → happen s x.event ≡ Does x.outcome t → Happens s x.event x.outcome t
+    → At (pre ++ (0, x) ∷ []) (with_entry x.stamp x.walker x.event x.outcome t)
+after_event after h pre x s t n a d eq g =
+    record {
+      all = with_one a.all (new_item s x.event x.outcome);
+      asked = with_one a.asked (new_asked s x.event);
+      told = with_one a.told (new_told x.event x.outcome);
+      met = new_met s x.event x.outcome ++ a.met;
+      leads = happens x.event x.outcome t x.stamp x.walker a.leads (may_happen new_log after h pre x s a.all a.asked a.told a.met n a.knows a.fits d x.event refl) eq;
+      fits = fits_event new_log after h pre x s t a.all a.asked a.told a.met n a.knows a.fits eq g;
+      knows = knows_event new_log after h pre x s t n a.knows g d;
+    }
+
+made_at : (after : List (List LogRecord)) (h pre : History) (x : Entry) (log : List LogRecord) (s t : Shard) {e : Event} {o : Outcome} → Next new_log after h pre x → At pre s → ((m : Message) (stamp : ℕ) → x.event ≡ Deliver m stamp → ⊥)
+    → Makes log s e o t → x.event ≡ e → x.outcome ≡ o → At (pre ++ (0, x) ∷ []) (with_entry x.stamp x.walker x.event x.outcome t)
+made_at after h pre x log s t n a d (by_event {e = e} {o = o} eq g) p q =
+    after_event after h pre x s t n a d
+    (subst (λ z. happen s z ≡ Does x.outcome t) (sym p) (subst (λ z. happen s e ≡ Does z t) (sym q) eq))
+    (subst (λ z. Happens s z x.outcome t) (sym p) (subst (λ z. Happens s e z t) (sym q) g))
+made_at after h pre x log s _ n a d (by_flush m u f) p q =
+    record {
+      all = a.all;
+      asked = a.asked;
+      told = a.told;
+      met = a.met;
+      leads = written_as x FlushIn (Durable m) (finish (with_durable m s)) (Leads (run_after new_log) a.all a.asked a.told a.met) p q (lands m true (Durable m) (finish (with_durable m s)) x.stamp x.walker a.leads f refl);
+      fits = fits_plain pre x a.all a.asked a.told a.met (plain_flush x p) a.fits;
+      knows = knows_flush pre x s m (silent_flush x (Durable m) p q (λ k z. sent_is m k z)) a.knows;
+    }
+  where
+    sent_is : (m : ℕ) (k : Message) → Durable m ≡ Sent k → ⊥
+    sent_is m k z = absurd cc
+made_at after h pre x log s _ n a d (by_failure m u f) p q =
+    record {
+      all = a.all;
+      asked = a.asked;
+      told = a.told;
+      met = a.met;
+      leads = written_as x FlushIn Failed (put_down s) (Leads (run_after new_log) a.all a.asked a.told a.met) p q (lands m false Failed (put_down s) x.stamp x.walker a.leads f refl);
+      fits = fits_plain pre x a.all a.asked a.told a.met (plain_flush x p) a.fits;
+      knows = knows_down pre x s (silent_flush x Failed p q sent_is) a.knows;
+    }
+  where
+    sent_is : (k : Message) → Failed ≡ Sent k → ⊥
+    sent_is k z = absurd cc
+made_at after h pre x log s _ n a d (by_restart epoch kept u r) p q =
+    let found = up_to_restart s.run epoch log in
+    record {
+      all = a.all;
+      asked = a.asked;
+      told = a.told;
+      met = a.met;
+      leads = written_as x Restart (Up epoch) (revived s epoch found) (Leads (run_after new_log) a.all a.asked a.told a.met) p q
+          (revives kept epoch found x.stamp x.walker a.leads u (all_homes (DidAny pre) s.shard s.local.log ((a.knows).owned).shard ((a.knows).owned).log) r);
+      fits = fits_plain pre x a.all a.asked a.told a.met (plain_restart x p) a.fits;
+      knows = knows_restart pre x s kept epoch found (silent_restart x epoch p q) a.knows r;
+    }
+
+-- ---- along the history
+
+nothing_comes : (pre : History) (s : Shard) (x : Entry) → Knows pre s → WasSent pre x.event → (m : Message) (stamp : ℕ) → x.event ≡ Deliver m stamp → ⊥
+nothing_comes pre s x k w m stamp e = let y = subst (WasSent pre) e w in k.quiet (y.0, y.1) m (is_among y.0 y.1 pre y.2) y.4
+
+all_before : (pre : History) (x : Placed) (post : History) (y : Placed) → InOrder (pre ++ x ∷ post) → Among y pre → Before y x
+all_before pre x post y o i = precedes_before y x (pre ++ x ∷ post) o (front_precedes y x pre (x ∷ post) i (inl refl))
+
+earlier_is : (pre : History) (x : Placed) (post : History) (y : Placed) → InOrder (pre ++ x ∷ post) → Among y (pre ++ x ∷ post) → Before y x → Among y pre
+earlier_is pre x post y o i b = at (among_append y pre (x ∷ post) i) (second_order pre x post o)
+  where
+    second_order : (pre : History) (x : Placed) (post : History) → InOrder (pre ++ x ∷ post) → AllByRecursion (Before x) post
+    second_order [] x post o = o.0
+    second_order (z ∷ zs) x post o = second_order zs x post o.1
+
+    at : Among y pre ⊎ Among y (x ∷ post) → AllByRecursion (Before x) post → Among y pre
+    at (inl j) a = j
+    at (inr (inl q)) a = absurd (not_before_itself y x (sym q) b)
+    at (inr (inr j)) a = absurd (not_before_itself y y refl (before_then y x y b (among_all (Before x) y post a j)))
+
+next_of : (after : List (List LogRecord)) (h pre : History) (x : Entry) (post : History) → Legal [] new_log h after → pre ++ (0, x) ∷ post ≡ h → Next new_log after h pre x
+next_of after h pre x post l q =
+    let o : InOrder (pre ++ (0, x) ∷ post) = subst InOrder (sym q) (in_order h l.ordered) in
+    record {
+      legal = l;
+      here = subst (Among (0, x)) q (among_right (0, x) pre ((0, x) ∷ post) (inl refl));
+      turn = λ y i. (subst (Among y) q (among_left y pre ((0, x) ∷ post) i), all_before pre (0, x) post y o i);
+      earlier = λ y i b. earlier_is pre (0, x) post y o (subst (Among y) (sym q) i) b;
+    }
+
+at_next : (after : List (List LogRecord)) (h pre : History) (x : Entry) (post : History) → Legal [] new_log h after → pre ++ (0, x) ∷ post ≡ h → At pre (state_at new_log after 0 pre) → At (pre ++ (0, x) ∷ []) (state_at new_log after 0 (pre ++ (0, x) ∷ []))
+at_next after h pre x post l q a =
+    let s = state_at new_log after 0 pre in
+    let log = log_of after 0 in
+    let p = split_at [] new_log after h pre (0, x) post l q (omega arith) in
+    let w : WasSent pre x.event = sent_at [] pre (0, x) post (subst (MessagesSent []) (sym q) l.messages) in
+    subst (At (pre ++ (0, x) ∷ [])) (sym p.next)
+    (made_at after h pre x log s (event_state log s x.event x.outcome) (next_of after h pre x post l q) a (nothing_comes pre s x a.knows w) (makes log s x.event x.outcome (p.enters).event) refl refl)
+
+pub walk : (after : List (List LogRecord)) (h pre post : History) → Legal [] new_log h after → pre ++ post ≡ h → At pre (state_at new_log after 0 pre) → At h (state_at new_log after 0 h)
+walk after h pre [] l q a = subst (λ z. At z (state_at new_log after 0 z)) (sym (append-nil pre) ∙ q) a
+walk after h pre (e ∷ post) l q a =
+    let i : Among e h = subst (Among e) q (among_right e pre (e ∷ post) (inl refl)) in
+    let n = in_a_shard [] new_log after h e l i in
+    let z : e.0 ≡ 0 = omega (arith, n) in
+    let same : e ≡ (0, e.1) = ap (λ (k : ℕ). (k, e.1)) z in
+    let q2 : pre ++ (0, e.1) ∷ post ≡ h = subst (λ w. pre ++ w ∷ post ≡ h) same q in
+    walk after h (pre ++ (0, e.1) ∷ []) post l (append_assoc pre ((0, e.1) ∷ []) post ∙ q2) (at_next after h pre e.1 post l q2 a)
+
+pub begins : (after : List (List LogRecord)) → At [] (state_at new_log after 0 [])
+begins after =
+    record {
+      all = [];
+      asked = [];
+      told = [];
+      met = [];
+      leads = opens;
+      fits = record { items = λ t. refl; asked_are = refl; told_are = λ t. refl; met_did = λ t p e. absurd (both_ways false refl e) };
+      knows = record {
+        owned = record {
+          shard = refl;
+          epoch = refl;
+          out = refl;
+          voters = refl;
+          parts = tt;
+          known = λ t d. elim (d.1).1 [ ];
+          gone = λ t g. refl;
+          log = (tt, tt);
+          requests = tt;
+          refused = λ t q e. absurd (none_some q e);
+        };
+        epochs = λ y t b nth seen op a n i. elim i [ ];
+        quiet = λ y m i. elim i [ ];
+        journal = refl;
+        all_here = λ y i. elim i [ ];
+      };
+    }
+
+-- ---- the members
+
+map_twice : {X Y Z : Type 0} (f : X → Y) (g : Y → Z) (xs : List X) → map g (map f xs) ≡ map (λ x. g (f x)) xs
+map_twice f g [] = refl
+map_twice f g (x ∷ xs) = ap (λ l. g (f x) ∷ l) (map_twice f g xs)
+
+-- the requests that pass a test, and their members
+pub members_are : {X : Type 0} (f : Member → X) (g : TxId → X) (logs : List (List LogRecord)) (h es : History) (keep : TxId → Bool) → ((e : Placed) → Among e es → (t : TxId) → (committed_in (log_of logs e.0) t || acknowledged_in h t) ≡ keep t)
+    → ((m : Member) → m.ops ≡ ops_in m.tx h → f m ≡ g m.tx) → map f (members logs h es) ≡ map g (filter keep (requests_in es))
+members_are f g logs h [] keep k l = refl
+members_are f g logs h (e ∷ es) keep k l = at (request_of (e.1).event (e.1).outcome) (members_are f g logs h es keep (λ y i. k y (inr i)) l)
+  where
+    one : (t : TxId) → Member
+    one t = record { tx = t; point = record { stamp = (e.1).stamp; shard = e.0 }; ops = ops_in t h }
+
+    by : (t : TxId) (b c : Bool) → b ≡ c → map f (members logs h es) ≡ map g (filter keep (requests_in es)) → map f (cond b (record { tx = t; point = record { stamp = (e.1).stamp; shard = e.0 }; ops = ops_in t h } ∷ members logs h es) (members logs h es)) ≡ map g (cond c (t ∷ filter keep (requests_in es)) (filter keep (requests_in es)))
+    by t true true q r = ap (λ x. x ∷ map f (members logs h es)) (l (record { tx = t; point = record { stamp = (e.1).stamp; shard = e.0 }; ops = ops_in t h }) refl) ∙ ap (λ x. g t ∷ x) r
+    by t true false q r = absurd (both_ways true (sym (sym q)) refl)
+    by t false true q r = absurd (both_ways true (sym q) refl)
+    by t false false q r = r
+
+    at : (o : Option TxId) → map f (members logs h es) ≡ map g (filter keep (requests_in es))
+        → map f (elim o [ Some t ↦ cond (committed_in (log_of logs e.0) t || acknowledged_in h t) (record { tx = t; point = record { stamp = (e.1).stamp; shard = e.0 }; ops = ops_in t h } ∷ members logs h es) (members logs h es) | None ↦ members logs h es ])
+        ≡ map g (filter keep (elim o [ Some t ↦ t ∷ requests_in es | None ↦ requests_in es ]))
+    at None r = r
+    at (Some t) r = by t (committed_in (log_of logs e.0) t || acknowledged_in h t) (keep t) (k e (inl refl) t) r
+
+cut_by : (s : Shard) (f : Option ℕ) → Counted s → s.flight ≡ f → s.durable ≤ unwrap_or f s.durable
+cut_by s None c e = omega arith
+cut_by s (Some n) c e = (c.flying n e).0
+
+cut_above : (s : Shard) (kept : Bool) → Counted s → s.durable ≤ cond kept (unwrap_or s.flight s.durable) s.durable
+cut_above s true c = cut_by s s.flight c refl
+cut_above s false c = omega arith
+
+counted_end : (after : List (List LogRecord)) (h : History) → Legal [] new_log h after → Counted (final_of new_log h after 0)
+counted_end after h l = (fronts_entries (log_of after 0) (start_of new_log 0) (journal_of 0 h) (opened_counted 0 (run_after new_log) []) (l.runs 0 (omega arith))).counted
+
+-- a member by the histories' lists and by those of the shard
+keeps_same : (after : List (List LogRecord)) (h : History) (choice : ℕ → Bool) (a : At h (final_of new_log h after 0)) → Legal [] new_log h after → (e : Placed) → Among e h → (t : TxId)
+    → (committed_in (log_of (logs_left [] new_log h after choice) e.0) t || acknowledged_in h t)
+    ≡ is_member (final_of new_log h after 0) (cond (choice 0) (unwrap_or (final_of new_log h after 0).flight (final_of new_log h after 0).durable) (final_of new_log h after 0).durable) a.told t
+keeps_same after h choice a l e i t =
+    ap (λ n. committed_in (log_of (logs_left [] new_log h after choice) n) t || acknowledged_in h t) ((a.knows).all_here e i)
+    ∙ ap (λ b. committed_in (log_left (final_of new_log h after 0) (choice 0)) t || b) (sym ((a.fits).told_are t))
+
+told_ops : (h : History) (all : List Item) → ((t : TxId) → ops_in t h ≡ map told_pair (items_of t all)) → (m : Member) → m.ops ≡ ops_in m.tx h → map (λ p. p.0) m.ops ≡ map (λ x. x.op) (items_of m.tx all)
+told_ops h all f m e = ap (map (λ p. p.0)) (e ∙ f m.tx) ∙ map_twice told_pair (λ p. p.0) (items_of m.tx all)
+
+told_answers : (h : History) (all : List Item) → ((t : TxId) → ops_in t h ≡ map told_pair (items_of t all)) → (m : Member) → m.ops ≡ ops_in m.tx h → map (λ p. p.1) m.ops ≡ map (λ x. x.answer) (items_of m.tx all)
+told_answers h all f m e = ap (map (λ p. p.1)) (e ∙ f m.tx) ∙ map_twice told_pair (λ p. p.1) (items_of m.tx all)
+
+-- two lists that agree, replayed
+replays_as : (ops ops2 : List (List Op)) (answers answers2 : List (List Answer)) (left : List (List LogRecord)) → ops ≡ ops2 → answers ≡ answers2 → (replay_answers [] ops2 ≡ answers2) × (replay_map [] ops2 ≡ stands left)
+    → (replay_answers [] ops ≡ answers) × (replay_map [] ops ≡ stands left)
+replays_as ops ops2 answers answers2 left e f r = (ap (replay_answers []) e ∙ r.0 ∙ sym f, ap (replay_map []) e ∙ r.1)
+
+replay_at : (after : List (List LogRecord)) (h : History) (choice : ℕ → Bool) → Legal [] new_log h after → At h (final_of new_log h after 0)
+    → Replays new_log (serial_left [] new_log h after choice) (logs_left [] new_log h after choice)
+replay_at after h choice l a =
+    let s = final_of new_log h after 0 in
+    let cut = cond (choice 0) (unwrap_or s.flight s.durable) s.durable in
+    let logs = logs_left [] new_log h after choice in
+    let keep = is_member s cut a.told in
+    let r = answers_and_map (run_after new_log) a.all a.asked a.told a.met s cut a.leads (cut_above s (choice 0) (counted_end after h l)) in
+    let same = (a.fits).asked_are in
+    replays_as (serial_ops (serial logs h)) (ops_by (members_of s cut a.told a.asked) a.all) (serial_answers (serial logs h)) (answers_by (members_of s cut a.told a.asked) a.all) logs
+    (members_are (λ m. map (λ p. p.0) m.ops) (λ t. map (λ x. x.op) (items_of t a.all)) logs h h keep (keeps_same after h choice a l) (told_ops h a.all (a.fits).items) ∙ ap (λ z. ops_by (filter keep z) a.all) (sym same))
+    (members_are (λ m. map (λ p. p.1) m.ops) (λ t. map (λ x. x.answer) (items_of t a.all)) logs h h keep (keeps_same after h choice a l) (told_answers h a.all (a.fits).items) ∙ ap (λ z. answers_by (filter keep z) a.all) (sym same))
+    r
+
+pub members_replay : MembersReplay
+members_replay h after choice l = replay_at after h choice l (walk after h [] h l refl (begins after))

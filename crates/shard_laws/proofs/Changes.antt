@@ -1,0 +1,298 @@
+-- Changes of a shard that keep what it keeps: a record more, a part closed, the durable front, a purge.
+use Rattle.std.proofs.Common.{◌≡◌, ℕ, ◌≤◌, ◌<◌, inl, inr, ⊎_elim, Bool, true, false, cond, not, ◌||◌, List, [], ◌∷◌, ◌++◌, Option, Some, None, ◌==◌, refl, sym, ap, subst, ◌∙◌, arith, append_assoc, eqb-true}
+use Rattle.std.specs.List.{AllByRecursion}
+use Rattle.std.proofs.lemmas.Bool.{cases_Bool, both_ways, cond-true, cond-false, or_cases, false_from_ne_true}
+use Rattle.std.proofs.lemmas.List.Folds.{list_any-append}
+use Rattle.clv_base.specs.declared.names.TxId.{TxId}
+use Rattle.clv_base.specs.declared.logs.LogRecord.{LogRecord}
+use Rattle.clv_base.specs.declared.logs.LogRecord.TheVariants.{Prepare, Commit, End}
+use Rattle.clv_base.specs.declared.modes.Part.{Part}
+use Rattle.clv_base.specs.declared.modes.Part.TheVariants.{S, X}
+use Rattle.clv_base.specs.declared.modes.Anchor.{Anchor}
+use Rattle.clv_base.specs.declared.modes.Anchor.TheVariants.{Low, At}
+use Rattle.clv_base.specs.declared.state.Stage.{Stage}
+use Rattle.clv_base.specs.declared.state.Stage.TheVariants.{Active, Closed, Gone}
+use Rattle.clv_base.specs.Orders.{tx_same}
+use Rattle.clv_base.specs.Logs.{standing, committed_in, wrote_in, is_update_of, is_commit_of}
+use Rattle.clv_base.specs.Locks.{Locks, is_free}
+use Rattle.clv_base.specs.State.{is_present}
+use Rattle.clv_base.specs.Needs.{Records, value_at, lower_anchor, is_locked_or_live, without_ghosts}
+use Rattle.law_base.proofs.Cells.{record_at, live_by}
+use Rattle.clv_base.proofs.SameNames.{or_left, tx_true, tx_ne}
+use Rattle.law_base.proofs.Lists.{all_mono, later_mono}
+use Rattle.law_base.proofs.Running.{top_value}
+use Rattle.law_base.proofs.Undoing.{standing_append}
+use Rattle.law_base.proofs.Anchors.{Rising, rising_filter, record_kept, record_absent, anchor_kept, absent_above}
+use Rattle.shard_laws.proofs.LockRows.{holds, held_not_free}
+use Rattle.shard_laws.proofs.Asking.{holds_at, holds_by}
+use Rattle.law_base.proofs.Tables.{stage_in, is_pair}
+use Rattle.law_base.proofs.Commits.{CommitBefore, commit_durable, before_keeps, before_new, durable_keeps, durable_parts, durable_from, committed_append, uncommitted_append}
+use Rattle.shard_laws.proofs.Kept.{View, Past, Dep, Kept, Ended, moves, Open_at, Tidy}
+use Rattle.shard_laws.specs.OneShard.{is_clr_of, undone_in}
+use Rattle.std.proofs.Common.{append-nil}
+
+-- ---- a record more
+
+undurable : (log more : List LogRecord) (d e : ℕ) (tx : TxId) → d ≤ e → commit_durable (log ++ more) e tx ≡ false → commit_durable log d tx ≡ false
+undurable log more d e tx le h = false_from_ne_true _ (λ t. both_ways _ h (durable_keeps log more d e tx le t))
+
+dep_more : (v : View) (more : List LogRecord) (t p : TxId) → Dep v t p → Dep (record v { log = v.log ++ more }) t p
+dep_more v more t p d = ⊎_elim (λ h. inl (durable_keeps v.log more v.durable v.durable p (omega arith) h)) (λ h. ⊎_elim (λ i. inr (inl i)) (λ i. inr (inr (before_keeps v.log more p t i))) h) d
+
+pub wrote_keeps : (log more : List LogRecord) (tx : TxId) → wrote_in log tx ≡ true → wrote_in (log ++ more) tx ≡ true
+wrote_keeps log more tx e = list_any-append (is_update_of tx) log more ∙ or_left _ _ e
+
+-- a log that is tidy and more records that are
+pub tidy_append : (before xs ys : List LogRecord) → Tidy before xs → Tidy (before ++ xs) ys → Tidy before (xs ++ ys)
+tidy_append before [] ys t u = subst (λ l. Tidy l ys) (append-nil before) u
+tidy_append before (x ∷ xs) ys t u = (t.0, tidy_append (before ++ x ∷ []) xs ys t.1 (subst (λ l. Tidy l ys) (sym (append_assoc before (x ∷ []) xs)) u))
+
+pub undone_append : (log more : List LogRecord) (t : TxId) → undone_in (log ++ more) t ≡ (undone_in log t || undone_in more t)
+undone_append log more t = list_any-append (is_clr_of t) log more
+
+pub wrote_append : (log more : List LogRecord) (t : TxId) → wrote_in (log ++ more) t ≡ (wrote_in log t || wrote_in more t)
+wrote_append log more t = list_any-append (is_update_of t) log more
+
+or_false : (a b : Bool) → a ≡ false → b ≡ false → (a || b) ≡ false
+or_false true b e f = e
+or_false false b e f = f
+
+pub ended_more : (g : Past) (v : View) (more : List LogRecord) (t : TxId) → (is_present (stage_in v.parts t) ≡ false → committed_in more t ≡ false) → wrote_in more t ≡ false → Ended g v t → Ended g (record v { log = v.log ++ more }) t
+ended_more g v more t c w e =
+    ⊎_elim (λ h. inl (durable_keeps v.log more v.durable v.durable t (omega arith) h)) (λ h. inr (uncommitted_append v.log more t h.0 (c h.2), wrote_append v.log more t ∙ or_false _ _ h.1 w, h.2, h.3)) e
+
+-- what more records may be
+pub record More (v : View) (more : List LogRecord) : Type 0 where
+  pub same_standing : standing (v.log ++ more) ≡ standing v.log
+  pub not_active : (t : TxId) → stage_in v.parts t ≡ Some Active → committed_in more t ≡ false
+  pub not_gone : (t : TxId) → is_present (stage_in v.parts t) ≡ false → committed_in more t ≡ false
+  pub not_doomed : (t d : TxId) → stage_in v.parts t ≡ Some (Gone (Some d)) → committed_in more t ≡ false
+  pub not_dead : (t : TxId) → undone_in v.log t ≡ true → committed_in more t ≡ false
+  pub no_write : (t : TxId) → wrote_in more t ≡ false
+  pub no_undo : (t : TxId) → undone_in more t ≡ false
+  pub down : (t p : TxId) → is_pair v.pairs t p ≡ true → committed_in more t ≡ true → CommitBefore (v.log ++ more) p t
+  pub tidies : Tidy v.log more
+
+pub keeps_records : (g : Past) (v : View) (more : List LogRecord) → Kept g v → More v more → Kept g (record v { log = v.log ++ more })
+keeps_records g v more k m = record {
+  start_rises = k.start_rises;
+  base_value = k.base_value;
+  base_chain = k.base_chain;
+  base_done = all_mono _ _ (λ w h. durable_keeps v.log more v.durable v.durable w.tx (omega arith) h) g.base k.base_done;
+  runs = k.runs;
+  standing_is = m.same_standing ∙ k.standing_is;
+  rises = k.rises;
+  values = λ q. k.values q ∙ ap (top_value q) (sym m.same_standing);
+  logged = all_mono _ _ (λ x h q w. wrote_keeps v.log more x.tx (h q w)) g.items k.logged;
+  rows = k.rows;
+  covered = k.covered;
+  wrote = all_mono _ _ (λ x h out. h (undurable v.log more v.durable v.durable x.tx (omega arith) out)) g.items k.wrote;
+  known = k.known;
+  uncommitted = λ t h. uncommitted_append v.log more t (k.uncommitted t h) (m.not_active t h);
+  closed = k.closed;
+  over = λ t h. ended_more g v more t (m.not_gone t) (m.no_write t) (k.over t h);
+  dead = λ t u. let old : undone_in v.log t ≡ true = ⊎_elim (λ h. h) (λ h. absurd (both_ways _ (m.no_undo t) h)) (or_cases (undone_in v.log t) (undone_in more t) (sym (undone_append v.log more t) ∙ u)) in
+      let d = k.dead t old in (uncommitted_append v.log more t d.0 (m.not_dead t old), d.1, d.2);
+  tidy = tidy_append [] v.log more k.tidy m.tidies;
+  doomed = λ t d h. uncommitted_append v.log more t (k.doomed t d h) (m.not_doomed t d h);
+  successors = k.successors;
+  downwards = λ t p h c. ⊎_elim (λ i. before_keeps v.log more p t (k.downwards t p h i)) (λ i. m.down t p h i) (or_cases (committed_in v.log t) (committed_in more t) (sym (committed_append v.log more t) ∙ c));
+  order = k.order;
+  causes = later_mono _ _ (λ x y h r. ⊎_elim (λ s. inl s) (λ d. inr (dep_more v more y.tx x.tx d)) (h r)) g.items k.causes;
+  recover = λ t p e. ⊎_elim (λ o. inl (uncommitted_append v.log more t o.0 (m.not_gone t o.1), o.1, o.2)) (λ d. inr (dep_more v more t p d.0, d.1)) (k.recover t p e);
+  front = k.front;
+}
+
+or_none : (b : Bool) → b ≡ false → (b || false) ≡ false
+or_none b e = ap (λ c. c || false) e
+
+-- a record that is no UPDATE, CLR or COMMIT
+pub record Quiet (r : LogRecord) : Type 0 where
+  pub no_commit : (t : TxId) → is_commit_of t r ≡ false
+  pub no_update : (t : TxId) → is_update_of t r ≡ false
+  pub no_clr : (t : TxId) → is_clr_of t r ≡ false
+  pub no_move : moves r ≡ None
+
+open_none : (before : List LogRecord) (o : Option TxId) → o ≡ None → Open_at before o
+open_none before o e = subst (Open_at before) (sym e) tt
+
+pub keeps_quiet : (g : Past) (v : View) (r : LogRecord) → Kept g v → standing (v.log ++ r ∷ []) ≡ standing v.log → Quiet r → Kept g (record v { log = v.log ++ r ∷ [] })
+keeps_quiet g v r k e q = keeps_records g v (r ∷ []) k (record {
+  same_standing = e;
+  not_active = λ t h. or_none _ (q.no_commit t);
+  not_gone = λ t h. or_none _ (q.no_commit t);
+  not_doomed = λ t d h. or_none _ (q.no_commit t);
+  not_dead = λ t h. or_none _ (q.no_commit t);
+  no_write = λ t. or_none _ (q.no_update t);
+  no_undo = λ t. or_none _ (q.no_clr t);
+  down = λ t p h c. absurd (both_ways _ (or_none _ (q.no_commit t)) c);
+  tidies = (open_none v.log (moves r) q.no_move, tt);
+})
+
+pub quiet_prepare : (tx : TxId) (home : ℕ) (ps : List TxId) → Quiet (Prepare tx home ps)
+quiet_prepare tx home ps = record { no_commit = λ t. refl; no_update = λ t. refl; no_clr = λ t. refl; no_move = refl }
+
+pub quiet_end : (tx : TxId) → Quiet (End tx)
+quiet_end tx = record { no_commit = λ t. refl; no_update = λ t. refl; no_clr = λ t. refl; no_move = refl }
+
+stage_apart : (v : View) (t u : TxId) (a b : Stage) → stage_in v.parts t ≡ Some a → stage_in v.parts u ≡ Some b → (Some a ≡ Some b → ⊥) → tx_same u t ≡ false
+stage_apart v t u a b e f ne = tx_ne u t (λ s. ne (sym e ∙ ap (stage_in v.parts) (sym s) ∙ f))
+
+-- a COMMIT of a closed part whose predecessors are committed
+pub keeps_commit : (g : Past) (v : View) (t : TxId) (parts : List ℕ) → Kept g v → stage_in v.parts t ≡ Some Closed → committed_in v.log t ≡ false → ((p : TxId) → is_pair v.pairs t p ≡ true → committed_in v.log p ≡ true)
+    → Kept g (record v { log = v.log ++ Commit t parts ∷ [] })
+keeps_commit g v t parts k closed new before = keeps_records g v (Commit t parts ∷ []) k (record {
+  same_standing = standing_append 0 v.log (Commit t parts ∷ []) [];
+  not_active = λ u h. or_none _ (stage_apart v t u Closed Active closed h (λ s. absurd cc));
+  not_gone = λ u h. or_none _ (tx_ne u t (λ s. both_ways _ h (ap is_present (ap (stage_in v.parts) s ∙ closed))));
+  not_doomed = λ u d h. or_none _ (stage_apart v t u Closed (Gone (Some d)) closed h (λ s. absurd cc));
+  not_dead = λ u h. or_none _ (tx_ne u t (λ s. (k.dead u h).2 (ap (stage_in v.parts) s ∙ closed)));
+  no_write = λ u. refl;
+  no_undo = λ u. refl;
+  down = λ u p h c. ⊎_elim
+      (λ i. let same : u ≡ t = tx_true u t i in
+      subst (λ x. CommitBefore (v.log ++ Commit t parts ∷ []) p x) (sym same) (before_new v.log p t parts (before p (subst (λ x. is_pair v.pairs x p ≡ true) same h)) new))
+      (λ i. absurd (both_ways false refl i))
+      (or_cases (tx_same u t) false c);
+  tidies = (tt, tt);
+})
+
+-- ---- the durable front
+
+dep_front : (v : View) (n : ℕ) (t p : TxId) → v.durable ≤ n → Dep v t p → Dep (record v { durable = n; flight = None }) t p
+dep_front v n t p le d = ⊎_elim (λ h. inl (further v.log v.durable n p le h)) (λ h. inr h) d
+  where
+    further : (log : List LogRecord) (d e : ℕ) (tx : TxId) → d ≤ e → commit_durable log d tx ≡ true → commit_durable log e tx ≡ true
+    further log d e tx le h = let m = durable_parts log d tx h in let l = m.2 in durable_from log e tx m.0 m.1 (omega arith)
+
+further : (log : List LogRecord) (d e : ℕ) (tx : TxId) → d ≤ e → commit_durable log d tx ≡ true → commit_durable log e tx ≡ true
+further log d e tx le h = let m = durable_parts log d tx h in let l = m.2 in durable_from log e tx m.0 m.1 (omega arith)
+
+none_some : (n : ℕ) → ◌≡◌ {A = Option ℕ} None (Some n) → ⊥
+none_some n e = absurd cc
+
+pub keeps_front : (g : Past) (v : View) (n : ℕ) → Kept g v → v.durable ≤ n → Kept g (record v { durable = n; flight = None })
+keeps_front g v n k le = record {
+  start_rises = k.start_rises;
+  base_value = k.base_value;
+  base_chain = k.base_chain;
+  base_done = all_mono _ _ (λ w h. further v.log v.durable n w.tx le h) g.base k.base_done;
+  runs = k.runs;
+  standing_is = k.standing_is;
+  rises = k.rises;
+  values = k.values;
+  logged = k.logged;
+  rows = k.rows;
+  covered = k.covered;
+  wrote = all_mono _ _ (λ x h out. h (false_from_ne_true _ (λ t. both_ways _ out (further v.log v.durable n x.tx le t)))) g.items k.wrote;
+  known = k.known;
+  uncommitted = k.uncommitted;
+  closed = k.closed;
+  over = λ t h. ⊎_elim (λ c. inl (further v.log v.durable n t le c)) (λ c. inr c) (k.over t h);
+  dead = k.dead;
+  tidy = k.tidy;
+  doomed = k.doomed;
+  successors = k.successors;
+  downwards = k.downwards;
+  order = k.order;
+  causes = later_mono _ _ (λ x y h r. ⊎_elim (λ s. inl s) (λ d. inr (dep_front v n y.tx x.tx le d)) (h r)) g.items k.causes;
+  recover = λ t p e. ⊎_elim (λ o. inl o) (λ d. inr (dep_front v n t p le d.0, d.1)) (k.recover t p e);
+  front = λ m e. absurd (none_some m e);
+}
+
+some_same : (a b : ℕ) → Some a ≡ Some b → a ≡ b
+some_same a b e = cc
+
+pub keeps_flight : (g : Past) (v : View) (n : ℕ) → Kept g v → v.durable ≤ n → Kept g (record v { flight = Some n })
+keeps_flight g v n k le = record {
+  start_rises = k.start_rises;
+  base_value = k.base_value;
+  base_chain = k.base_chain;
+  base_done = k.base_done;
+  runs = k.runs;
+  standing_is = k.standing_is;
+  rises = k.rises;
+  values = k.values;
+  logged = k.logged;
+  rows = k.rows;
+  covered = k.covered;
+  wrote = k.wrote;
+  known = k.known;
+  uncommitted = k.uncommitted;
+  closed = k.closed;
+  over = k.over;
+  dead = k.dead;
+  tidy = k.tidy;
+  doomed = k.doomed;
+  successors = k.successors;
+  downwards = k.downwards;
+  order = k.order;
+  causes = k.causes;
+  recover = k.recover;
+  front = λ m e. subst (λ x. v.durable ≤ x) (some_same n m e) le;
+}
+
+-- ---- a purge
+
+kept_live : (locks : Locks) (k : ℕ) → is_free (At k) locks ≡ false → (v : Option ℕ) → is_locked_or_live locks (k, v) ≡ true
+kept_live locks k e (Some v) = refl
+kept_live locks k e None = ap not e
+
+value_purged : (locks : Locks) (k : ℕ) (rs : Records) → Rising rs → value_at k (without_ghosts locks rs) ≡ value_at k rs
+value_purged locks k [] h = refl
+value_purged locks k (r ∷ rs) h =
+    ⊎_elim
+    (λ e. ap (λ l. value_at k l) (cond-true (is_locked_or_live locks r) (r ∷ without_ghosts locks rs) (without_ghosts locks rs) e) ∙ same (k == r.0) (value_purged locks k rs h.1))
+    (λ e. ap (λ l. value_at k l) (cond-false (is_locked_or_live locks r) (r ∷ without_ghosts locks rs) (without_ghosts locks rs) e) ∙ value_purged locks k rs h.1 ∙ dropped r.1 e (k == r.0) (λ t. absent_above k rs (subst (λ j. AllByRecursion (λ q. j < q.0) rs) (sym (eqb-true k r.0 t)) h.0)))
+    (cases_Bool (is_locked_or_live locks r))
+  where
+    same : (b : Bool) → live_by (record_at k (without_ghosts locks rs)) ≡ live_by (record_at k rs) → live_by (cond b (Some r.1) (record_at k (without_ghosts locks rs))) ≡ live_by (cond b (Some r.1) (record_at k rs))
+    same true e = refl
+    same false e = e
+
+    dropped : (x : Option ℕ) → is_locked_or_live locks (r.0, x) ≡ false → (b : Bool) → (b ≡ true → record_at k rs ≡ None) → live_by (record_at k rs) ≡ live_by (cond b (Some x) (record_at k rs))
+    dropped (Some v) e b none = absurd (both_ways true e refl)
+    dropped None e true none = ap live_by (none refl)
+    dropped None e false none = refl
+
+at_key : (locks : Locks) (f : Bool) (p : Part) (a : Anchor) (tx : TxId) → holds f p a tx locks ≡ true → (q : ℕ × Option ℕ) → a ≡ At q.0 → is_locked_or_live locks q ≡ true
+at_key locks f p a tx e q s = kept_live locks q.0 (subst (λ b. is_free b locks ≡ false) s (held_not_free f p a tx locks e)) q.1
+
+purge_case : (locks : Locks) (rs : Records) (p : Part) (tx : TxId) (k : ℕ) (o : Option (Option ℕ)) → record_at k rs ≡ o → holds_by p locks rs tx k o ≡ true → holds_at p locks (without_ghosts locks rs) tx k ≡ true
+purge_case locks rs p tx k (Some v) e h =
+    subst (λ o. holds_by p locks (without_ghosts locks rs) tx k o ≡ true) (sym (record_kept (is_locked_or_live locks) k rs (λ x. at_key locks true p (At k) tx h (k, x) refl) ∙ e)) h
+purge_case locks rs p tx k None e h =
+    subst (λ o. holds_by p locks (without_ghosts locks rs) tx k o ≡ true) (sym (record_absent (is_locked_or_live locks) k rs e))
+    (subst (λ a. holds false p a tx locks ≡ true) (sym (anchor_kept (is_locked_or_live locks) k Low (lower_anchor k rs) rs (λ q s. at_key locks false p (lower_anchor k rs) tx h q s) refl)) h)
+
+purge_holds : (locks : Locks) (rs : Records) (p : Part) (tx : TxId) (k : ℕ) → holds_at p locks rs tx k ≡ true → holds_at p locks (without_ghosts locks rs) tx k ≡ true
+purge_holds locks rs p tx k h = purge_case locks rs p tx k (record_at k rs) refl h
+
+pub keeps_purge : (g : Past) (v : View) → Kept g v → Kept g (record v { records = without_ghosts v.locks v.records })
+keeps_purge g v k = record {
+  start_rises = k.start_rises;
+  base_value = k.base_value;
+  base_chain = k.base_chain;
+  base_done = k.base_done;
+  runs = k.runs;
+  standing_is = k.standing_is;
+  rises = rising_filter (is_locked_or_live v.locks) v.records k.rises;
+  values = λ q. value_purged v.locks q v.records k.rises ∙ k.values q;
+  logged = k.logged;
+  rows = k.rows;
+  covered = all_mono _ _ (λ y h active. let c = h active in (λ q m. purge_holds v.locks v.records S y.tx q (c.0 q m), λ q m. purge_holds v.locks v.records X y.tx q (c.1 q m))) g.items k.covered;
+  wrote = all_mono _ _ (λ x h out q w. let c = h out q w in (c.0, λ none. c.1 (sym (record_kept (is_locked_or_live v.locks) q v.records (λ b. at_key v.locks true X (At q) x.tx c.0 (q, b) refl)) ∙ none))) g.items k.wrote;
+  known = k.known;
+  uncommitted = k.uncommitted;
+  closed = k.closed;
+  over = k.over;
+  dead = k.dead;
+  tidy = k.tidy;
+  doomed = k.doomed;
+  successors = k.successors;
+  downwards = k.downwards;
+  order = k.order;
+  causes = k.causes;
+  recover = k.recover;
+  front = k.front;
+}

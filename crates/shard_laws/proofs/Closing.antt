@@ -1,0 +1,244 @@
+-- A part is closed, and its transaction is the last that asked.
+use Rattle.std.proofs.Common.{◌≡◌, ℕ, zero, suc, ◌≤◌, ◌<◌, inl, inr, ⊎_elim, Bool, true, false, cond, ◌||◌, List, [], ◌∷◌, ◌++◌, length, Option, Some, None, refl, sym, ap, subst, ◌∙◌, arith}
+use Rattle.std.proofs.lemmas.Bool.{cases_Bool, both_ways, cond-true, cond-false, or_cases, false_from_ne_true}
+use Rattle.std.proofs.lemmas.List.Folds.{list_any-append}
+use Rattle.clv_base.specs.declared.names.TxId.{TxId}
+use Rattle.clv_base.specs.declared.modes.Part.{Part}
+use Rattle.clv_base.specs.declared.modes.Part.TheVariants.{S, X}
+use Rattle.clv_base.specs.declared.modes.Anchor.TheVariants.{At}
+use Rattle.clv_base.specs.declared.state.Stage.{Stage}
+use Rattle.clv_base.specs.declared.state.Stage.TheVariants.{Active, Closed, Gone}
+use Rattle.clv_base.specs.declared.state.Held.{Held}
+use Rattle.clv_base.specs.Orders.{Table, tx_same, tx_in, tx_get}
+use Rattle.clv_base.specs.Locks.{close_locks}
+use Rattle.clv_base.specs.State.{is_present}
+use Rattle.clv_base.specs.OneShard.{closed_part, closed_in}
+use Rattle.clv_base.specs.Needs.{lower_anchor}
+use Rattle.law_base.proofs.Cells.{record_at}
+use Rattle.clv_base.proofs.SameNames.{or_left, tx_true, tx_self, tx_ne, tx_flip}
+use Rattle.law_base.proofs.Lists.{all_mono, later_mono}
+use Rattle.shard_laws.proofs.LockRows.{rows_close, close_holds}
+use Rattle.shard_laws.proofs.Asking.{holds_at, holds_by}
+use Rattle.law_base.proofs.Tables.{stage_in, stage_by, get_changed}
+use Rattle.shard_laws.proofs.Kept.{View, Past, place, StageFits, Belongs, Known, Kept}
+use Rattle.clv_base.specs.Locks.{close_locks}
+
+-- ---- places
+
+pub place_most : (as_ : List TxId) (t : TxId) → place as_ t ≤ length as_
+place_most [] t = omega arith
+place_most (a ∷ rest) t = at (tx_same t a) (place_most rest t)
+  where
+    at : (b : Bool) → place rest t ≤ length rest → cond b zero (suc (place rest t)) ≤ length (a ∷ rest)
+    at true h = omega arith
+    at false h = omega arith
+
+pub place_push : (as_ : List TxId) (n t u : TxId) → place as_ t < place as_ u → place (as_ ++ n ∷ []) t < place (as_ ++ n ∷ []) u
+place_push [] n t u h = absurd (omega arith)
+place_push (a ∷ rest) n t u h = at (tx_same t a) (tx_same u a) h (place_push rest n t u)
+  where
+    at : (b c : Bool) → cond b zero (suc (place rest t)) < cond c zero (suc (place rest u)) → (place rest t < place rest u → place (rest ++ n ∷ []) t < place (rest ++ n ∷ []) u) → cond b zero (suc (place (rest ++ n ∷ []) t)) < cond c zero (suc (place (rest ++ n ∷ []) u))
+    at true true h ih = absurd (omega arith)
+    at true false h ih = omega arith
+    at false true h ih = absurd (omega arith)
+    at false false h ih = let l = ih (omega arith) in omega arith
+
+pub place_in : (as_ : List TxId) (t : TxId) → tx_in t as_ ≡ true → place as_ t < length as_
+place_in [] t e = absurd (both_ways false refl e)
+place_in (a ∷ rest) t e =
+    ⊎_elim
+    (λ h. let z : place (a ∷ rest) t ≡ zero = cond-true (tx_same t a) zero (suc (place rest t)) (tx_flip a t h) in omega arith)
+    (λ h. at (tx_same t a) (place_in rest t h))
+    (or_cases (tx_same a t) (tx_in t rest) e)
+  where
+    at : (b : Bool) → place rest t < length rest → cond b zero (suc (place rest t)) < length (a ∷ rest)
+    at true h = omega arith
+    at false h = omega arith
+
+or_l : (a b : Bool) → (a || b) ≡ false → a ≡ false
+or_l true b e = e
+or_l false b e = refl
+
+or_r : (a b : Bool) → (a || b) ≡ false → b ≡ false
+or_r true b e = absurd (both_ways true e refl)
+or_r false b e = e
+
+flip_false : (a b : TxId) → tx_same a b ≡ false → tx_same b a ≡ false
+flip_false a b e = false_from_ne_true _ (λ h. both_ways _ e (tx_flip b a h))
+
+pub place_out : (as_ : List TxId) (t : TxId) → tx_in t as_ ≡ false → place as_ t ≡ length as_
+place_out [] t e = refl
+place_out (a ∷ rest) t e =
+    cond-false (tx_same t a) zero (suc (place rest t)) (flip_false a t (or_l _ _ e)) ∙ ap suc (place_out rest t (or_r (tx_same a t) _ e)) ∙ one
+  where
+    one : suc (length rest) ≡ length (a ∷ rest)
+    one = omega arith
+
+pub in_push : (as_ : List TxId) (n t : TxId) → tx_in t (as_ ++ n ∷ []) ≡ (tx_in t as_ || (tx_same n t || false))
+in_push as_ n t = list_any-append (λ x. tx_same x t) as_ (n ∷ [])
+
+-- ---- the part
+
+some_inj : (a b : Stage) → Some a ≡ Some b → a ≡ b
+some_inj a b e = cc
+
+stage_of_some : (parts : Table Held) (t : TxId) (s : Stage) → stage_in parts t ≡ Some s → (h : Held) × (tx_get t parts ≡ Some h) × (h.stage ≡ s)
+stage_of_some parts t s e = at (tx_get t parts) refl e
+  where
+    at : (o : Option Held) → tx_get t parts ≡ o → stage_by o ≡ Some s → (h : Held) × (tx_get t parts ≡ Some h) × (h.stage ≡ s)
+    at None f g = absurd cc
+    at (Some h) f g = (h, f, some_inj h.stage s g)
+
+pub found : (parts : Table Held) (t : TxId) (s : Stage) → stage_in parts t ≡ Some s → (h : Held) × (tx_get t parts ≡ Some h) × (h.stage ≡ s)
+found parts t s e = stage_of_some parts t s e
+
+get_closed : (t u : TxId) (parts : Table Held) → tx_get u (closed_in t parts) ≡ elim (tx_get u parts) [ Some h ↦ Some (cond (tx_same t u) (closed_part h) h) | None ↦ None ]
+get_closed t u parts = get_changed (tx_same t) closed_part u parts
+
+same_part : (o : Option Held) → elim o [ Some h ↦ Some h | None ↦ None ] ≡ o
+same_part None = refl
+same_part (Some h) = refl
+
+get_closed_other : (t u : TxId) (parts : Table Held) → tx_same t u ≡ false → tx_get u (closed_in t parts) ≡ tx_get u parts
+get_closed_other t u parts e = get_closed t u parts ∙ ap (λ b. elim (tx_get u parts) [ Some h ↦ Some (cond b (closed_part h) h) | None ↦ None ]) e ∙ same_part (tx_get u parts)
+
+get_closed_own : (t u : TxId) (parts : Table Held) (h : Held) → tx_same t u ≡ true → tx_get u parts ≡ Some h → tx_get u (closed_in t parts) ≡ Some (closed_part h)
+get_closed_own t u parts h e f = get_closed t u parts ∙ ap (λ b. elim (tx_get u parts) [ Some h ↦ Some (cond b (closed_part h) h) | None ↦ None ]) e ∙ ap (λ o. elim o [ Some h ↦ Some (closed_part h) | None ↦ None ]) f
+
+pub stage_closed : (parts : Table Held) (t : TxId) → stage_in parts t ≡ Some Active → stage_in (closed_in t parts) t ≡ Some Closed
+stage_closed parts t e = let h = stage_of_some parts t Active e in ap stage_by (get_closed_own t t parts h.0 (tx_self t) h.1)
+
+pub stage_other : (parts : Table Held) (t u : TxId) → tx_same t u ≡ false → stage_in (closed_in t parts) u ≡ stage_in parts u
+stage_other parts t u e = ap stage_by (get_closed_other t u parts e)
+
+-- a stage after it that is not Closed was there before
+stage_back : (parts : Table Held) (t u : TxId) (s : Stage) → stage_in parts t ≡ Some Active → (Some Closed ≡ Some s → ⊥) → stage_in (closed_in t parts) u ≡ Some s → (tx_same t u ≡ false) × (stage_in parts u ≡ Some s)
+stage_back parts t u s act ne e =
+    let apart : tx_same t u ≡ false = false_from_ne_true _ (λ h. ne (sym (stage_closed parts t act) ∙ ap (stage_in (closed_in t parts)) (tx_true t u h) ∙ e)) in
+    (apart, sym (stage_other parts t u apart) ∙ e)
+
+fits_closed : (c : Bool) (s : Stage) → StageFits c s → s ≡ Active → c ≡ false
+fits_closed c s f e = subst (λ x. StageFits c x → c ≡ false) (sym e) (at c) f
+  where
+    at : (c : Bool) → StageFits c Active → c ≡ false
+    at true f = absurd f
+    at false f = refl
+
+closed_not_active : ◌≡◌ {A = Option Stage} (Some Closed) (Some Active) → ⊥
+closed_not_active e = absurd cc
+
+closed_not_gone : ◌≡◌ {A = Option Stage} (Some Closed) (Some (Gone None)) → ⊥
+closed_not_gone e = absurd cc
+
+closed_not_doomed : (d : TxId) → ◌≡◌ {A = Option Stage} (Some Closed) (Some (Gone (Some d))) → ⊥
+closed_not_doomed d e = absurd cc
+
+active_not_closed : ◌≡◌ {A = Option Stage} (Some Active) (Some Closed) → ⊥
+active_not_closed e = absurd cc
+
+active_not_gone : ◌≡◌ {A = Option Stage} (Some Active) (Some (Gone None)) → ⊥
+active_not_gone e = absurd cc
+
+present_closed : (parts : Table Held) (t u : TxId) → is_present (stage_in parts u) ≡ true → is_present (stage_in (closed_in t parts) u) ≡ true
+present_closed parts t u e = subst (λ o. is_present (stage_by o) ≡ true) (sym (get_closed t u parts)) (at (tx_get u parts) (tx_same t u) e)
+  where
+    at : (o : Option Held) (b : Bool) → is_present (stage_by o) ≡ true → is_present (stage_by (elim o [ Some h ↦ Some (cond b (closed_part h) h) | None ↦ None ])) ≡ true
+    at None b e = e
+    at (Some h) true e = refl
+    at (Some h) false e = e
+
+or_none : (b : Bool) → b ≡ false → (b || false) ≡ false
+or_none b e = ap (λ c. c || false) e
+
+both_none : (a b : Bool) → a ≡ false → b ≡ false → (a || b) ≡ false
+both_none true b e f = e
+both_none false b e f = f
+
+-- a transaction more has asked, here or elsewhere
+pub keeps_asked : (g : Past) (v : View) (t : TxId) → Kept g v → Kept (record g { asked = g.asked ++ t ∷ [] }) v
+keeps_asked g v t k = record {
+  start_rises = k.start_rises;
+  base_value = k.base_value;
+  base_chain = k.base_chain;
+  base_done = k.base_done;
+  runs = k.runs;
+  standing_is = k.standing_is;
+  rises = k.rises;
+  values = k.values;
+  logged = k.logged;
+  rows = k.rows;
+  covered = k.covered;
+  wrote = k.wrote;
+  known = all_mono _ _ (λ x h. ⊎_elim (λ a. inl a) (λ r. inr (in_push g.asked t x.tx ∙ or_left _ _ r.0, r.1)) h) g.items k.known;
+  uncommitted = k.uncommitted;
+  closed = λ u h. in_push g.asked t u ∙ or_left _ _ (k.closed u h);
+  over = λ u h. ⊎_elim (λ c. inl c) (λ c. inr (c.0, c.1, c.2, in_push g.asked t u ∙ or_left _ _ c.3)) (k.over u h);
+  dead = k.dead;
+  tidy = k.tidy;
+  doomed = k.doomed;
+  successors = k.successors;
+  downwards = k.downwards;
+  order = later_mono _ _ (λ x y h c. ⊎_elim (λ s. inl s) (λ l. inr (place_push g.asked t x.tx y.tx l)) (h c)) g.items k.order;
+  causes = k.causes;
+  recover = λ u p e. ⊎_elim (λ o. inl o) (λ d. inr (d.0, place_push g.asked t p u d.1)) (k.recover u p e);
+  front = k.front;
+}
+
+-- the part of one that asked is closed
+pub keeps_close : (g : Past) (v : View) (t : TxId) → Kept g v → stage_in v.parts t ≡ Some Active → tx_in t g.asked ≡ true
+    → Kept g (record v { locks = close_locks t v.locks; parts = closed_in t v.parts })
+keeps_close g v t k act asks = record {
+  start_rises = k.start_rises;
+  base_value = k.base_value;
+  base_chain = k.base_chain;
+  base_done = k.base_done;
+  runs = k.runs;
+  standing_is = k.standing_is;
+  rises = k.rises;
+  values = k.values;
+  logged = k.logged;
+  rows = rows_close (Belongs v.parts) (Belongs (closed_in t v.parts)) t v.locks
+      (λ u b c h same. (closed_part h.0, get_closed_own t u v.parts h.0 same h.1, h.2, tt))
+      (λ u b c h other. (h.0, get_closed_other t u v.parts other ∙ h.1, h.2, h.3))
+      k.rows;
+  covered = all_mono _ _ (λ y h active.
+      let c = h (stage_back v.parts t y.tx Active act closed_not_active active).1 in
+      (λ q m. holds_closed S y.tx q (c.0 q m), λ q m. holds_closed X y.tx q (c.1 q m))) g.items k.covered;
+  wrote = all_mono _ _ (λ x h out q w. let c = h out q w in (close_holds t true X (At q) x.tx v.locks ∙ c.0, c.1)) g.items k.wrote;
+  known = all_mono _ _ (λ x h. still_known x.tx h) g.items k.known;
+  uncommitted = λ u h. k.uncommitted u (stage_back v.parts t u Active act closed_not_active h).1;
+  closed = λ u h. ⊎_elim (λ e. subst (λ z. tx_in z g.asked ≡ true) (tx_true t u e) asks) (λ e. k.closed u (sym (stage_other v.parts t u e) ∙ h)) (cases_Bool (tx_same t u));
+  over = λ u h. ⊎_elim (λ c. inl c) (λ c. inr (c.0, c.1, not_present u c.2, c.3)) (k.over u h);
+  dead = λ u h. let d = k.dead u h in (d.0, (λ a. d.1 (stage_back v.parts t u Active act closed_not_active a).1), (λ a. still_dead u d.1 d.2 a));
+  tidy = k.tidy;
+  doomed = λ u d h. k.doomed u d (stage_back v.parts t u (Gone (Some d)) act (closed_not_doomed d) h).1;
+  successors = λ u p h. present_closed v.parts t u (k.successors u p h);
+  downwards = k.downwards;
+  order = k.order;
+  causes = k.causes;
+  recover = λ u p e. ⊎_elim (λ o. inl (o.0, not_present u o.1, o.2)) (λ d. inr d) (k.recover u p e);
+  front = k.front;
+}
+  where
+    holds_closed : (p : Part) (u : TxId) (q : ℕ) → holds_at p v.locks v.records u q ≡ true → holds_at p (close_locks t v.locks) v.records u q ≡ true
+    holds_closed p u q h = at (record_at q v.records) h
+      where
+        at : (o : Option (Option ℕ)) → holds_by p v.locks v.records u q o ≡ true → holds_by p (close_locks t v.locks) v.records u q o ≡ true
+        at (Some x) h = close_holds t true p (At q) u v.locks ∙ h
+        at None h = close_holds t false p (lower_anchor q v.records) u v.locks ∙ h
+
+    not_present : (u : TxId) → is_present (stage_in v.parts u) ≡ false → is_present (stage_in (closed_in t v.parts) u) ≡ false
+    not_present u e = ap is_present (stage_other v.parts t u (tx_ne t u (λ s. both_ways _ e (ap is_present (ap (stage_in v.parts) (sym s) ∙ act))))) ∙ e
+
+    still_dead : (u : TxId) → (stage_in v.parts u ≡ Some Active → ⊥) → (stage_in v.parts u ≡ Some Closed → ⊥) → stage_in (closed_in t v.parts) u ≡ Some Closed → ⊥
+    still_dead u na nc e = ⊎_elim (λ s. na (ap (stage_in v.parts) (sym (tx_true t u s)) ∙ act)) (λ s. nc (sym (stage_other v.parts t u s) ∙ e)) (cases_Bool (tx_same t u))
+
+    still_known : (u : TxId) → Known g v u → Known g (record v { locks = close_locks t v.locks; parts = closed_in t v.parts }) u
+    still_known u h =
+        ⊎_elim
+        (λ a. ⊎_elim
+        (λ e. inr (subst (λ z. tx_in z g.asked ≡ true) (tx_true t u e) asks, λ a. closed_not_active (sym (subst (λ x. stage_in (closed_in t v.parts) x ≡ Some Closed) (tx_true t u e) (stage_closed v.parts t act)) ∙ a)))
+        (λ e. inl (stage_other v.parts t u e ∙ a))
+        (cases_Bool (tx_same t u)))
+        (λ r. inr (r.0, λ a. r.1 (stage_back v.parts t u Active act closed_not_active a).1))
+        h

@@ -1,0 +1,549 @@
+-- A granted operation keeps what a shard keeps.
+use Rattle.std.proofs.Common.{◌≡◌, ℕ, ◌+◌, ◌<◌, ◌⊎◌, inl, inr, ⊎_elim, Bool, true, false, cond, ◌&&◌, ◌||◌, List, [], ◌∷◌, ◌++◌, map, length, Option, Some, None, ◌==◌, refl, sym, ap, subst, ◌∙◌, arith, eqb-true, eq-eqb}
+use Rattle.std.proofs.lemmas.Bool.{cases_Bool, both_ways, cond-true, cond-false, or_cases, and_parts, false_from_ne_true}
+use Rattle.std.proofs.lemmas.List.Folds.{list_any-append}
+use Rattle.clv_base.specs.declared.names.TxId.{TxId}
+use Rattle.clv_base.specs.declared.names.Birth.{Birth}
+use Rattle.clv_base.specs.declared.logs.LogRecord.{LogRecord}
+use Rattle.clv_base.specs.declared.logs.LogRecord.TheVariants.{Update}
+use Rattle.clv_base.specs.declared.modes.Part.{Part}
+use Rattle.clv_base.specs.declared.modes.Part.TheVariants.{N, S, X}
+use Rattle.clv_base.specs.declared.modes.Anchor.{Anchor}
+use Rattle.clv_base.specs.declared.modes.Anchor.TheVariants.{Low, At}
+use Rattle.clv_base.specs.declared.state.Stage.{Stage}
+use Rattle.clv_base.specs.declared.state.Stage.TheVariants.{Active, Closed, Gone}
+use Rattle.clv_base.specs.declared.state.Held.{Held}
+use Rattle.clv_base.specs.Orders.{Table, tx_same, tx_in, tx_get}
+use Rattle.clv_base.specs.Maps.{map_get}
+use Rattle.clv_base.specs.Logs.{standing, committed_in, wrote_in, is_update_of}
+use Rattle.clv_base.specs.Locks.{Locks}
+use Rattle.clv_base.specs.State.{is_present}
+use Rattle.clv_base.specs.Needs.{Records, value_at, lower_anchor}
+use Rattle.law_base.proofs.Cells.{record_at, live_by, live_some}
+use Rattle.law_base.specs.Items.{Item, wrote, writes, meets, after, Reaches, Clash, pile, on_top, is_write_at}
+use Rattle.clv_base.proofs.SameNames.{or_left, or_right, tx_true, tx_self, tx_ne, tx_flip}
+use Rattle.law_base.proofs.Lists.{all_mono, all_both, all_push, later_mono, later_push}
+use Rattle.law_base.proofs.Running.{top_value}
+use Rattle.law_base.proofs.Undoing.{standing_append}
+use Rattle.law_base.proofs.Anchors.{Rising}
+use Rattle.shard_laws.proofs.LockRows.{holds, Rows}
+use Rattle.shard_laws.proofs.Asking.{holds_at, holds_by}
+use Rattle.law_base.proofs.Tables.{stage_in, stage_by, is_pair}
+use Rattle.law_base.proofs.Commits.{CommitBefore, commit_durable, before_keeps, durable_keeps, committed_keeps, uncommitted_append, committed_from}
+use Rattle.shard_laws.proofs.Kept.{View, Past, place, StageFits, Belongs, Covers, Wrote, Dep, Known, Kept, Tidy}
+use Rattle.shard_laws.specs.OneShard.{undone_in}
+use Rattle.clv_base.specs.declared.ops.Op.{Op}
+use Rattle.clv_base.specs.declared.ops.Op.TheVariants.{Get, Put, Del, Scan}
+use Rattle.clv_base.specs.declared.modes.Need.{Need}
+use Rattle.clv_base.specs.State.{Shard}
+use Rattle.clv_base.specs.Orders.{tx_put}
+use Rattle.clv_base.specs.declared.modes.Decision.TheVariants.{Grant}
+use Rattle.clv_base.specs.Modes.{on_key, part_compatible}
+use Rattle.clv_base.specs.Locks.{take_all, split_gap, decide, violated, holder_of}
+use Rattle.shard_laws.proofs.Kept.{Out}
+use Rattle.clv_base.specs.Needs.{found_at, found_by, needs_of, inserts, writes_of, key_of, record_set, answer_of}
+use Rattle.clv_base.specs.OneShard.{active_part, inserted_locks, new_part, add_pairs, locked, written, performed}
+use Rattle.law_base.specs.Items.{told}
+use Rattle.clv_base.proofs.SameNames.{cases_tx}
+use Rattle.law_base.proofs.Running.{after_of, runs_push, rising_all, pile_value, pile_push}
+use Rattle.law_base.proofs.Undoing.{write_met}
+use Rattle.shard_laws.proofs.Answering.{same_told}
+use Rattle.law_base.proofs.Anchors.{rising_set, record_at_set, lower_insert, anchor_present}
+use Rattle.shard_laws.proofs.LockRows.{least, asks, take_keeps, take_gives, rows_take, rows_all, all_keeps, all_gives, split_keeps, split_gives, rows_split, conflict, violates, violated_row}
+use Rattle.shard_laws.proofs.Asking.{asks_at, asks_by, asks_met, asks_written}
+use Rattle.law_base.proofs.Tables.{get_put, add_keeps, add_has, add_from}
+use Rattle.shard_laws.proofs.Closing.{place_in, place_out}
+use Rattle.shard_laws.proofs.Changes.{wrote_keeps, tidy_append, undone_append, wrote_append}
+use Rattle.shard_laws.proofs.Kept.{view_of}
+use Rattle.clv_base.specs.Logs.{newest_at}
+
+abbrev Change : Type 0
+Change = Option (ℕ × Option ℕ × Option ℕ)
+
+abbrev records_by : Change → Records → Records
+records_by None rs = rs
+records_by (Some w) rs = record_set w.0 w.2 rs
+
+abbrev log_by : TxId → Change → List LogRecord → List LogRecord
+log_by tx None log = log
+log_by tx (Some w) log = log ++ Update tx w.0 w.1 w.2 ∷ []
+
+-- nothing is written, or where a record stands, or a new record
+data Writing (rs : Records) : Change → Option ℕ → Type 0 where
+  nothing : Writing rs None None
+  there : (k : ℕ) (b a x : Option ℕ) → record_at k rs ≡ Some x → Writing rs (Some (k, b, a)) None
+  fresh : (k : ℕ) (b a : Option ℕ) → record_at k rs ≡ None → Writing rs (Some (k, b, a)) (Some k)
+
+put_writing : (k v : ℕ) (b : Option ℕ) (rs : Records) (o : Option (Option ℕ)) → record_at k rs ≡ o → Writing rs (writes_of (Put k v) b) (inserts (Put k v) (found_by o))
+put_writing k v b rs None e = fresh k b (Some v) e
+put_writing k v b rs (Some None) e = there k b (Some v) None e
+put_writing k v b rs (Some (Some x)) e = there k b (Some v) (Some x) e
+
+del_writing : (k : ℕ) (rs : Records) (o : Option (Option ℕ)) → record_at k rs ≡ o → Writing rs (writes_of (Del k) (live_by o)) (inserts (Del k) (found_by o))
+del_writing k rs None e = nothing
+del_writing k rs (Some None) e = nothing
+del_writing k rs (Some (Some x)) e = there k (Some x) None (Some x) e
+
+writing : (op : Op) (rs : Records) → Writing rs (writes_of op (value_at (key_of op) rs)) (inserts op (found_at (key_of op) rs))
+writing (Get k) rs = nothing
+writing (Put k v) rs = put_writing k v (value_at k rs) rs (record_at k rs) refl
+writing (Del k) rs = del_writing k rs (record_at k rs) refl
+writing (Scan lo hi) rs = nothing
+
+some_key : (j k : ℕ) → Some j ≡ Some k → k ≡ j
+some_key j k e = cc
+
+none_key : (k : ℕ) → ◌≡◌ {A = Option ℕ} None (Some k) → ⊥
+none_key k e = absurd cc
+
+-- an insert is a write
+insert_writes : (rs : Records) (w : Change) (ins : Option ℕ) (q : ℕ) → Writing rs w ins → ins ≡ Some q → is_write_at w q ≡ true
+insert_writes rs _ _ q nothing e = absurd (none_key q e)
+insert_writes rs _ _ q (there k b a x h) e = absurd (none_key q e)
+insert_writes rs _ _ q (fresh k b a h) e = eq-eqb q k (some_key k q e)
+
+set_some : (q k : ℕ) (a : Option ℕ) (rs : Records) → (q == k) ≡ true → record_at q (record_set k a rs) ≡ Some a
+set_some q k a rs e = record_at_set q k a rs ∙ cond-true (q == k) (Some a) (record_at q rs) e
+
+set_same : (q k : ℕ) (a : Option ℕ) (rs : Records) → (q == k) ≡ false → record_at q (record_set k a rs) ≡ record_at q rs
+set_same q k a rs e = record_at_set q k a rs ∙ cond-false (q == k) (Some a) (record_at q rs) e
+
+-- where it was written, a record stands
+written_record : (rs : Records) (w : Change) (ins : Option ℕ) (q : ℕ) → Writing rs w ins → is_write_at w q ≡ true → (x : Option ℕ) × (record_at q (records_by w rs) ≡ Some x)
+written_record rs _ _ q nothing e = absurd (both_ways false refl e)
+written_record rs _ _ q (there k b a x h) e = (a, set_some q k a rs e)
+written_record rs _ _ q (fresh k b a h) e = (a, set_some q k a rs e)
+
+still_record : (rs : Records) (w : Change) (ins : Option ℕ) (q : ℕ) → Writing rs w ins → record_at q (records_by w rs) ≡ None → record_at q rs ≡ None
+still_record rs _ _ q nothing e = e
+still_record rs _ _ q (there k b a x h) e = ⊎_elim (λ t. absurd (some_none a (sym (set_some q k a rs t) ∙ e))) (λ f. sym (set_same q k a rs f) ∙ e) (cases_Bool (q == k))
+  where
+    some_none : (a : Option ℕ) → Some a ≡ None → ⊥
+    some_none a e = absurd cc
+still_record rs _ _ q (fresh k b a h) e = ⊎_elim (λ t. absurd (some_none a (sym (set_some q k a rs t) ∙ e))) (λ f. sym (set_same q k a rs f) ∙ e) (cases_Bool (q == k))
+  where
+    some_none : (a : Option ℕ) → Some a ≡ None → ⊥
+    some_none a e = absurd cc
+
+rising_by : (rs : Records) (w : Change) → Rising rs → Rising (records_by w rs)
+rising_by rs None h = h
+rising_by rs (Some w) h = rising_set w.0 w.2 rs h
+
+least_X : (p : Part) → least p X ≡ true
+least_X N = refl
+least_X S = refl
+least_X X = refl
+
+-- ---- what is held, through the write
+
+same_by : (p : Part) (locks more : Locks) (rs ts : Records) (u : TxId) (q : ℕ) (o : Option (Option ℕ)) → record_at q rs ≡ o → record_at q ts ≡ o → (holds true p (At q) u locks ≡ true → holds true p (At q) u more ≡ true)
+    → (o ≡ None → holds false p (lower_anchor q rs) u locks ≡ true → holds false p (lower_anchor q ts) u more ≡ true) → holds_at p locks rs u q ≡ true → holds_at p more ts u q ≡ true
+same_by p locks more rs ts u q (Some x) e f key gap h = subst (λ o. holds_by p more ts u q o ≡ true) (sym f) (key (subst (λ o. holds_by p locks rs u q o ≡ true) e h))
+same_by p locks more rs ts u q None e f key gap h = subst (λ o. holds_by p more ts u q o ≡ true) (sym f) (gap refl (subst (λ o. holds_by p locks rs u q o ≡ true) e h))
+
+moved_there : (k : ℕ) (a x : Option ℕ) (p : Part) (locks : Locks) (rs : Records) (u : TxId) (q : ℕ) → Rising rs → record_at k rs ≡ Some x → holds_at p locks rs u q ≡ true → holds_at p locks (record_set k a rs) u q ≡ true
+moved_there k a x p locks rs u q h e held =
+    ⊎_elim
+    (λ t. let same : q ≡ k = eqb-true q k t in
+    subst (λ o. holds_by p locks (record_set k a rs) u q o ≡ true) (sym (set_some q k a rs t)) (subst (λ o. holds_by p locks rs u q o ≡ true) (ap (λ j. record_at j rs) same ∙ e) held))
+    (λ f. same_by p locks locks rs (record_set k a rs) u q (record_at q rs) refl (set_same q k a rs f) (λ i. i) (λ none i. subst (λ b. holds false p b u locks ≡ true) (sym (anchor_present q k a x Low rs h e)) i) held)
+    (cases_Bool (q == k))
+
+moved_fresh : (tx : TxId) (birth : Birth) (k : ℕ) (a : Option ℕ) (p : Part) (locks : Locks) (rs : Records) (u : TxId) (q : ℕ) → Rising rs → record_at k rs ≡ None → least S p ≡ true → (Some k ≡ Some q → u ≡ tx)
+    → holds_at p locks rs u q ≡ true → holds_at p (inserted_locks tx birth rs (Some k) locks) (record_set k a rs) u q ≡ true
+moved_fresh tx birth k a p locks rs u q h none least_p own held =
+    ⊎_elim
+    (λ t. let same : q ≡ k = eqb-true q k t in
+    subst (λ o. holds_by p (inserted_locks tx birth rs (Some k) locks) (record_set k a rs) u q o ≡ true) (sym (set_some q k a rs t))
+    (subst (λ z. holds true p (At q) z (inserted_locks tx birth rs (Some k) locks) ≡ true) (sym (own (ap Some (sym same))))
+    (subst (λ j. holds true p (At j) tx (inserted_locks tx birth rs (Some k) locks) ≡ true) (sym same) (take_gives true p (At k) (holder_of tx birth (on_key X)) (split_gap (lower_anchor k rs) (At k) locks) (least_X p)))))
+    (λ f. same_by p locks (inserted_locks tx birth rs (Some k) locks) rs (record_set k a rs) u q (record_at q rs) refl (set_same q k a rs f)
+    (λ i. keep true (At q) i)
+    (λ empty i. ⊎_elim
+    (λ s. subst (λ b. holds false p b u (inserted_locks tx birth rs (Some k) locks) ≡ true) (sym s) (keep false (lower_anchor q rs) i))
+    (λ s. subst (λ b. holds false p b u (inserted_locks tx birth rs (Some k) locks) ≡ true) (sym s.0)
+    (take_keeps false p (At k) u (At k) (holder_of tx birth (on_key X)) (split_gap (lower_anchor k rs) (At k) locks)
+    (split_gives p u (lower_anchor k rs) (At k) locks least_p (subst (λ b. holds false p b u locks ≡ true) s.1 i))))
+    (lower_insert q k a rs h none)) held)
+    (cases_Bool (q == k))
+  where
+    keep : (f : Bool) (b : Anchor) → holds f p b u locks ≡ true → holds f p b u (inserted_locks tx birth rs (Some k) locks) ≡ true
+    keep f b i = take_keeps f p b u (At k) (holder_of tx birth (on_key X)) (split_gap (lower_anchor k rs) (At k) locks) (split_keeps f p b u (lower_anchor k rs) (At k) locks i)
+
+moved : (tx : TxId) (birth : Birth) (p : Part) (locks : Locks) (rs : Records) (w : Change) (ins : Option ℕ) (u : TxId) (q : ℕ) → Rising rs → Writing rs w ins → least S p ≡ true → (ins ≡ Some q → u ≡ tx)
+    → holds_at p locks rs u q ≡ true → holds_at p (inserted_locks tx birth rs ins locks) (records_by w rs) u q ≡ true
+moved tx birth p locks rs _ _ u q h nothing least_p own held = held
+moved tx birth p locks rs _ _ u q h (there k b a x e) least_p own held = moved_there k a x p locks rs u q h e held
+moved tx birth p locks rs _ _ u q h (fresh k b a e) least_p own held = moved_fresh tx birth k a p locks rs u q h e least_p own held
+
+insert_keeps_key : (tx : TxId) (birth : Birth) (rs : Records) (ins : Option ℕ) (locks : Locks) (p : Part) (b : Anchor) (u : TxId) → holds true p b u locks ≡ true → holds true p b u (inserted_locks tx birth rs ins locks) ≡ true
+insert_keeps_key tx birth rs None locks p b u i = i
+insert_keeps_key tx birth rs (Some k) locks p b u i = take_keeps true p b u (At k) (holder_of tx birth (on_key X)) (split_gap (lower_anchor k rs) (At k) locks) (split_keeps true p b u (lower_anchor k rs) (At k) locks i)
+
+rows_insert : (P : TxId → Birth → Bool → Type 0) (tx : TxId) (birth : Birth) (rs : Records) (ins : Option ℕ) (locks : Locks) → P tx birth false → Rows P locks → Rows P (inserted_locks tx birth rs ins locks)
+rows_insert P tx birth rs None locks p all = all
+rows_insert P tx birth rs (Some k) locks p all = rows_take P (At k) (holder_of tx birth (on_key X)) (split_gap (lower_anchor k rs) (At k) locks) p (rows_split P (lower_anchor k rs) (At k) locks all)
+
+asked_held : (p : Part) (tx : TxId) (birth : Birth) (ns : List Need) (locks : Locks) (rs : Records) (q : ℕ) (o : Option (Option ℕ)) → asks_by p ns rs q o ≡ true → holds_by p (take_all tx birth ns locks) rs tx q o ≡ true
+asked_held p tx birth ns locks rs q (Some x) e = all_gives true p (At q) tx birth ns locks e
+asked_held p tx birth ns locks rs q None e = all_gives false p (lower_anchor q rs) tx birth ns locks e
+
+all_held : (p : Part) (tx : TxId) (birth : Birth) (ns : List Need) (locks : Locks) (rs : Records) (u : TxId) (q : ℕ) (o : Option (Option ℕ)) → holds_by p locks rs u q o ≡ true → holds_by p (take_all tx birth ns locks) rs u q o ≡ true
+all_held p tx birth ns locks rs u q (Some x) e = all_keeps true p (At q) u tx birth ns locks e
+all_held p tx birth ns locks rs u q None e = all_keeps false p (lower_anchor q rs) u tx birth ns locks e
+
+-- ---- the part
+
+-- the transaction has no part here, or an active one of this birth
+abbrev pub MayStand : Table Held → TxId → Birth → Type 0
+MayStand parts tx birth = (tx_get tx parts ≡ None) ⊎ ((h : Held) × (tx_get tx parts ≡ Some h) × (h.birth ≡ birth) × (h.stage ≡ Active))
+
+none_held : (h : Held) → ◌≡◌ {A = Option Held} None (Some h) → ⊥
+none_held h e = absurd cc
+
+get_new : (tx : TxId) (birth : Birth) (parts : Table Held) (u : TxId) (h : Held) → tx_get tx parts ≡ None → tx_get u parts ≡ Some h → tx_get u (tx_put tx (active_part birth) parts) ≡ Some h
+get_new tx birth parts u h none e =
+    get_put tx u (active_part birth) parts
+    ∙ ap (λ b. cond b (Some (active_part birth)) (tx_get u parts)) (tx_ne u tx (λ s. none_held h (sym none ∙ ap (λ z. tx_get z parts) (sym s) ∙ e))) ∙ e
+
+part_keeps : (tx : TxId) (birth : Birth) (parts : Table Held) (u : TxId) (h : Held) (o : Option Held) → tx_get tx parts ≡ o → tx_get u parts ≡ Some h → tx_get u (new_part tx birth o parts) ≡ Some h
+part_keeps tx birth parts u h None e f = get_new tx birth parts u h e f
+part_keeps tx birth parts u h (Some x) e f = f
+
+pub own_part : (tx : TxId) (birth : Birth) (parts : Table Held) → MayStand parts tx birth → (h : Held) × (tx_get tx (new_part tx birth (tx_get tx parts) parts) ≡ Some h) × (h.birth ≡ birth) × (h.stage ≡ Active)
+own_part tx birth parts may =
+    ⊎_elim
+    (λ e. (active_part birth, ap (λ o. tx_get tx (new_part tx birth o parts)) e ∙ get_put tx tx (active_part birth) parts ∙ cond-true (tx_same tx tx) _ _ (tx_self tx), refl, refl))
+    (λ m. (m.0, ap (λ o. tx_get tx (new_part tx birth o parts)) m.1 ∙ m.1, m.2, m.3)) may
+
+pub other_part : (tx : TxId) (birth : Birth) (parts : Table Held) (u : TxId) (o : Option Held) → tx_same u tx ≡ false → tx_get u (new_part tx birth o parts) ≡ tx_get u parts
+other_part tx birth parts u None e = get_put tx u (active_part birth) parts ∙ cond-false (tx_same u tx) _ (tx_get u parts) e
+other_part tx birth parts u (Some x) e = refl
+
+fits_active : (s : Stage) → s ≡ Active → StageFits false s
+fits_active s e = subst (StageFits false) (sym e) tt
+
+some_stage : (a b : Stage) → Some a ≡ Some b → a ≡ b
+some_stage a b e = cc
+
+-- a closed lock is not of an active part
+not_active : (parts : Table Held) (u : TxId) (b : Birth) → Belongs parts u b true → stage_in parts u ≡ Some Active → ⊥
+not_active parts u b (h, e, f, fit) a = at h.stage fit (some_stage h.stage Active (sym (ap stage_by e) ∙ a))
+  where
+    at : (s : Stage) → StageFits true s → s ≡ Active → ⊥
+    at s fit e = subst (StageFits true) e fit
+
+-- a lock of a part that is not active is closed
+is_closed : (parts : Table Held) (u : TxId) (b : Birth) (c : Bool) → Belongs parts u b c → (stage_in parts u ≡ Some Active → ⊥) → c ≡ true
+is_closed parts u b true h n = refl
+is_closed parts u b false (h, e, f, fit) n = absurd (n (ap stage_by e ∙ at h.stage fit))
+  where
+    at : (s : Stage) → StageFits false s → Some s ≡ Some Active
+    at Active fit = refl
+    at Closed fit = absurd fit
+    at (Gone d) fit = absurd fit
+
+told_same : (op : Op) (rs : Records) → writes_of op (told (answer_of op rs)) ≡ writes_of op (value_at (key_of op) rs)
+told_same (Get k) rs = refl
+told_same (Put k v) rs = refl
+told_same (Del k) rs = refl
+told_same (Scan lo hi) rs = refl
+
+-- ---- all of it
+
+module _ (g : Past) (v : View) (tx : TxId) (birth : Birth) (op : Op) (k : Kept g v) (grant : decide tx birth (needs_of op v.records) v.locks ≡ Grant)
+    (may : MayStand v.parts tx birth) (new : tx_in tx g.asked ≡ false) (open_ : committed_in v.log tx ≡ false) (alive : undone_in v.log tx ≡ false) (unmet : (p : TxId) → is_pair g.met tx p ≡ true → stage_in v.parts tx ≡ Some Active) where
+  abbrev needs : List Need
+  needs = needs_of op v.records
+
+  abbrev change : Change
+  change = writes_of op (value_at (key_of op) v.records)
+
+  abbrev ins : Option ℕ
+  ins = inserts op (found_at (key_of op) v.records)
+
+  abbrev item : Item
+  item = record { tx = tx; op = op; answer = answer_of op v.records; lsn = 0 + length v.log }
+
+  abbrev parts_after : Table Held
+  parts_after = new_part tx birth (tx_get tx v.parts) v.parts
+
+  abbrev locks_after : Locks
+  locks_after = inserted_locks tx birth v.records ins (take_all tx birth needs v.locks)
+
+  abbrev View_by : Change → View
+  View_by w = record {
+    records = records_by w v.records;
+    locks = locks_after;
+    parts = parts_after;
+    pairs = add_pairs tx (violated tx needs v.locks) v.pairs;
+    log = log_by tx w v.log;
+    durable = v.durable;
+    flight = v.flight;
+  }
+
+  wrote_here : wrote item ≡ change
+  wrote_here = told_same op v.records
+
+  writes_here : (q : ℕ) → writes item q ≡ true → is_write_at change q ≡ true
+  writes_here q e = ap (λ w. is_write_at w q) (sym wrote_here) ∙ e
+
+  met_asked : (q : ℕ) → meets item q ≡ true → asks_at S needs v.records q ≡ true
+  met_asked q m = asks_met op v.records q k.rises m
+
+  write_asked : (q : ℕ) → is_write_at change q ≡ true → asks_at X needs v.records q ≡ true
+  write_asked q m = asks_written op v.records q m
+
+  -- who holds what does not fit has no active part
+  apart_at : (u : TxId) (p q : Part) (j : ℕ) (o : Option (Option ℕ)) → holds_by p v.locks v.records u j o ≡ true → asks_by q needs v.records j o ≡ true → part_compatible q p ≡ false → (tx ≡ u → ⊥) → stage_in v.parts u ≡ Some Active → ⊥
+  apart_at u p q j (Some x) held asked clash ne active = let c = conflict (Belongs v.parts) tx u birth true p q (At j) needs v.locks k.rows grant held asked clash ne in not_active v.parts u c.0 c.1 active
+  apart_at u p q j None held asked clash ne active = let c = conflict (Belongs v.parts) tx u birth false p q (lower_anchor j v.records) needs v.locks k.rows grant held asked clash ne in not_active v.parts u c.0 c.1 active
+
+  stage_own : stage_in parts_after tx ≡ Some Active
+  stage_own = let h = own_part tx birth v.parts may in ap stage_by h.1 ∙ ap Some h.3
+
+  stage_same : (u : TxId) → (u ≡ tx → ⊥) → stage_in parts_after u ≡ stage_in v.parts u
+  stage_same u ne = ap stage_by (other_part tx birth v.parts u (tx_get tx v.parts) (tx_ne u tx ne))
+
+  -- the stage of the transaction before
+  not_other : (s : Stage) → (Some Active ≡ Some s → ⊥) → stage_in v.parts tx ≡ Some s → ⊥
+  not_other s ne e = ⊎_elim (λ none. none_stage (sym (ap stage_by none) ∙ e)) (λ m. ne (sym (ap stage_by m.1 ∙ ap Some m.3) ∙ e)) may
+    where
+      none_stage : ◌≡◌ {A = Option Stage} None (Some s) → ⊥
+      none_stage e = absurd cc
+
+  closed_apart : ◌≡◌ {A = Option Stage} (Some Active) (Some Closed) → ⊥
+  closed_apart e = absurd cc
+
+  gone_apart : ◌≡◌ {A = Option Stage} (Some Active) (Some (Gone None)) → ⊥
+  gone_apart e = absurd cc
+
+  doomed_apart : (d : TxId) → ◌≡◌ {A = Option Stage} (Some Active) (Some (Gone (Some d))) → ⊥
+  doomed_apart d e = absurd cc
+
+  asked_other : (u : TxId) → tx_in u g.asked ≡ true → u ≡ tx → ⊥
+  asked_other u r e = both_ways _ new (ap (λ z. tx_in z g.asked) (sym e) ∙ r)
+
+  active_item : (u : TxId) → Known g v u → stage_in parts_after u ≡ Some Active → stage_in v.parts u ≡ Some Active
+  active_item u known a = ⊎_elim (λ h. h) (λ r. sym (stage_same u (asked_other u r.0)) ∙ a) known
+
+  -- another's item, active, does not meet the inserted key
+  insert_own : (y : Item) → (stage_in v.parts y.tx ≡ Some Active) → Covers v y → (q : ℕ) → meets y q ≡ true → ins ≡ Some q → y.tx ≡ tx
+  insert_own y active c q met e =
+      ⊎_elim (λ s. s)
+      (λ ne. absurd (apart_at y.tx S X q (record_at q v.records) (c.0 q met) (write_asked q (insert_writes v.records change ins q (writing op v.records) e)) refl (λ s. ne (sym s)) active))
+      (cases_tx y.tx tx)
+
+  old_holds : (p : Part) (y : Item) (q : ℕ) → least S p ≡ true → (ins ≡ Some q → y.tx ≡ tx) → holds_at p v.locks v.records y.tx q ≡ true → holds_at p locks_after (records_by change v.records) y.tx q ≡ true
+  old_holds p y q least_p own held =
+      moved tx birth p (take_all tx birth needs v.locks) v.records change ins y.tx q k.rises (writing op v.records) least_p own (all_held p tx birth needs v.locks v.records y.tx q (record_at q v.records) held)
+
+  new_holds : (p : Part) (q : ℕ) → least S p ≡ true → asks_at p needs v.records q ≡ true → holds_at p locks_after (records_by change v.records) tx q ≡ true
+  new_holds p q least_p asked =
+      moved tx birth p (take_all tx birth needs v.locks) v.records change ins tx q k.rises (writing op v.records) least_p (λ e. refl) (asked_held p tx birth needs v.locks v.records q (record_at q v.records) asked)
+
+  -- ---- the log
+  standing_by : (w : Change) → standing (log_by tx w v.log) ≡ on_top tx (0 + length v.log) w (standing v.log)
+  standing_by None = refl
+  standing_by (Some w) = standing_append 0 v.log (Update tx w.0 w.1 w.2 ∷ []) []
+
+  value_by : (w : Change) (q : ℕ) → value_at q (records_by w v.records) ≡ top_value q (on_top tx (0 + length v.log) w (standing v.log))
+  value_by None q = k.values q
+  value_by (Some w) q = ap live_by (record_at_set q w.0 w.2 v.records) ∙ at (q == w.0)
+    where
+      at : (b : Bool) → live_by (cond b (Some w.2) (record_at q v.records)) ≡ after_of (cond b (Some (record { lsn = 0 + length v.log; tx = tx; key = w.0; before = w.1; after = w.2 })) (newest_at q (standing v.log)))
+      at true = live_some w.2
+      at false = k.values q
+
+  base_by : (w : Change) (t : TxId) → committed_in v.log t ≡ true → committed_in (log_by tx w v.log) t ≡ true
+  base_by None t c = c
+  base_by (Some w) t c = committed_keeps v.log (Update tx w.0 w.1 w.2 ∷ []) t c
+
+  from_by : (w : Change) (t : TxId) → committed_in (log_by tx w v.log) t ≡ true → committed_in v.log t ≡ true
+  from_by None t c = c
+  from_by (Some w) t c = committed_from v.log (Update tx w.0 w.1 w.2 ∷ []) t refl c
+
+  none_by : (w : Change) (t : TxId) → committed_in v.log t ≡ false → committed_in (log_by tx w v.log) t ≡ false
+  none_by None t c = c
+  none_by (Some w) t c = uncommitted_append v.log (Update tx w.0 w.1 w.2 ∷ []) t c refl
+
+  durable_by : (w : Change) (t : TxId) → commit_durable v.log v.durable t ≡ true → commit_durable (log_by tx w v.log) v.durable t ≡ true
+  durable_by None t c = c
+  durable_by (Some w) t c = durable_keeps v.log (Update tx w.0 w.1 w.2 ∷ []) v.durable v.durable t (omega arith) c
+
+  before_by : (w : Change) (p t : TxId) → CommitBefore v.log p t → CommitBefore (log_by tx w v.log) p t
+  before_by None p t c = c
+  before_by (Some w) p t c = before_keeps v.log (Update tx w.0 w.1 w.2 ∷ []) p t c
+
+  wrote_by : (w : Change) (t : TxId) → wrote_in v.log t ≡ true → wrote_in (log_by tx w v.log) t ≡ true
+  wrote_by None t c = c
+  wrote_by (Some w) t c = wrote_keeps v.log (Update tx w.0 w.1 w.2 ∷ []) t c
+
+  own_wrote : (w : Change) (q : ℕ) → is_write_at w q ≡ true → wrote_in (log_by tx w v.log) tx ≡ true
+  own_wrote None q e = absurd (both_ways false refl e)
+  own_wrote (Some w) q e = list_any-append (is_update_of tx) v.log (Update tx w.0 w.1 w.2 ∷ []) ∙ or_right (wrote_in v.log tx) _ (or_left _ _ (tx_self tx))
+
+  unwritten_by : (w : Change) (u : TxId) → (u ≡ tx → ⊥) → wrote_in v.log u ≡ false → wrote_in (log_by tx w v.log) u ≡ false
+  unwritten_by None u ne e = e
+  unwritten_by (Some w) u ne e = wrote_append v.log (Update tx w.0 w.1 w.2 ∷ []) u ∙ both (wrote_in v.log u) (tx_same u tx) e (tx_ne u tx ne)
+    where
+      both : (a b : Bool) → a ≡ false → b ≡ false → (a || (b || false)) ≡ false
+      both true b e f = e
+      both false true e f = f
+      both false false e f = refl
+
+  undone_by : (w : Change) (u : TxId) → undone_in (log_by tx w v.log) u ≡ true → undone_in v.log u ≡ true
+  undone_by None u e = e
+  undone_by (Some w) u e = ⊎_elim (λ h. h) (λ h. absurd (both_ways false refl h)) (or_cases (undone_in v.log u) false (sym (undone_append v.log (Update tx w.0 w.1 w.2 ∷ []) u) ∙ e))
+
+  tidy_by : (w : Change) → Tidy [] (log_by tx w v.log)
+  tidy_by None = k.tidy
+  tidy_by (Some w) = tidy_append [] v.log (Update tx w.0 w.1 w.2 ∷ []) k.tidy (open_, tt)
+
+  -- ---- the new item against an earlier one
+  order_new : (y : Item) → Known g v y.tx → (stage_in v.parts y.tx ≡ Some Active → Covers v y) → Clash y item → (y.tx ≡ tx) ⊎ (place g.asked y.tx < place g.asked tx)
+  order_new y known covers clash =
+      ⊎_elim (λ s. inl s)
+      (λ ne. ⊎_elim
+      (λ active. let c = covers active in
+      absurd (⊎_elim
+      (λ w. apart_at y.tx X S clash.0 (record_at clash.0 v.records) (c.1 clash.0 w) (met_asked clash.0 clash.2) refl (λ s. ne (sym s)) active)
+      (λ w. apart_at y.tx S X clash.0 (record_at clash.0 v.records) (c.0 clash.0 clash.1) (write_asked clash.0 (writes_here clash.0 (clash.3 w))) refl (λ s. ne (sym s)) active)
+      (cases_Bool (writes y clash.0))))
+      (λ r. let in_place = place_in g.asked y.tx r.0 in inr (subst (λ n. place g.asked y.tx < n) (sym (place_out g.asked tx new)) in_place))
+      known)
+      (cases_tx y.tx tx)
+
+  cause_new : (y : Item) → Known g v y.tx → (stage_in v.parts y.tx ≡ Some Active → Covers v y) → Wrote v y → Reaches y item → (y.tx ≡ tx) ⊎ Dep (View_by change) tx y.tx
+  cause_new y known covers wrote reach =
+      ⊎_elim (λ s. inl s)
+      (λ ne. inr (⊎_elim
+      (λ d. inl (durable_by change y.tx d))
+      (λ out. inr (inl (add_has tx (violated tx needs v.locks) v.pairs y.tx (violates_here ne out))))
+      (cases_Bool (commit_durable v.log v.durable y.tx))))
+      (cases_tx y.tx tx)
+    where
+      violates_here : (y.tx ≡ tx → ⊥) → commit_durable v.log v.durable y.tx ≡ false → tx_in y.tx (violated tx needs v.locks) ≡ true
+      violates_here ne out =
+          let held = wrote out reach.0 reach.1 in
+          violates (Belongs v.parts) tx y.tx true S (At reach.0) needs v.locks k.rows
+          (λ b c h. is_closed v.parts y.tx b c h (λ active. apart_at y.tx X S reach.0 (record_at reach.0 v.records) ((covers active).1 reach.0 reach.1) (met_asked reach.0 reach.2) refl (λ s. ne (sym s)) active))
+          held.0 (at (record_at reach.0 v.records) held.1 (met_asked reach.0 reach.2)) refl (λ s. ne (sym s))
+        where
+          at : (o : Option (Option ℕ)) → (o ≡ None → ⊥) → asks_by S needs v.records reach.0 o ≡ true → asks true S (At reach.0) needs ≡ true
+          at (Some x) n e = e
+          at None n e = absurd (n refl)
+
+  grown : List Item
+  grown = g.items ++ item ∷ []
+
+  same_values : (q : ℕ) → map_get q (after g.start g.items) ≡ value_at q v.records
+  same_values q = pile_value g.items g.start g.base q k.runs (k.base_value q) ∙ ap (top_value q) (sym k.standing_is) ∙ sym (k.values q)
+
+  present_after : (u : TxId) → is_present (stage_in v.parts u) ≡ true → is_present (stage_in parts_after u) ≡ true
+  present_after u e = ⊎_elim (λ s. ap is_present (ap (stage_in parts_after) s ∙ stage_own)) (λ ne. ap is_present (stage_same u ne) ∙ e) (cases_tx u tx)
+
+  active_back : (u : TxId) → stage_in parts_after u ≡ Some Active → (u ≡ tx) ⊎ (stage_in v.parts u ≡ Some Active)
+  active_back u e = ⊎_elim (λ s. inl s) (λ ne. inr (sym (stage_same u ne) ∙ e)) (cases_tx u tx)
+
+  keeps_view : Kept (record g { items = g.items ++ item ∷ []; met = map (λ p. (tx, p)) (violated tx needs v.locks) ++ g.met }) (View_by change)
+  keeps_view = record {
+    start_rises = k.start_rises;
+    base_value = k.base_value;
+    base_chain = k.base_chain;
+    base_done = all_mono _ _ (λ w c. durable_by change w.tx c) g.base k.base_done;
+    runs = runs_push g.items item g.start k.runs (same_told op v.records (after g.start g.items) k.rises (rising_all g.items g.start k.start_rises) same_values);
+    standing_is = standing_by change ∙ ap (on_top tx (0 + length v.log) change) k.standing_is ∙ ap (λ w. on_top tx (0 + length v.log) w (pile g.items g.base)) (sym wrote_here) ∙ sym (pile_push g.items item g.base);
+    rises = rising_by v.records change k.rises;
+    values = λ q. value_by change q ∙ ap (top_value q) (sym (standing_by change));
+    logged = all_push _ g.items item (all_mono _ _ (λ x h q w. wrote_by change x.tx (h q w)) g.items k.logged) (λ q w. own_wrote change q (writes_here q w));
+    rows = rows_insert (Belongs parts_after) tx birth v.records ins (take_all tx birth needs v.locks) own_belongs (rows_all (Belongs parts_after) tx birth needs v.locks own_belongs
+        (all_mono _ _ (λ r h. (h.0, part_keeps tx birth v.parts (r.1).tx h.0 (tx_get tx v.parts) refl h.1, h.2, h.3)) v.locks k.rows));
+    covered = all_push _ g.items item
+        (all_mono _ _ (λ y h active. let a = active_item y.tx h.1 active in let c = h.0 a in
+        (λ q m. old_holds S y q refl (insert_own y a c q m) (c.0 q m), λ q m. old_holds X y q refl (insert_own y a c q (write_met y q m)) (c.1 q m))) g.items (all_both _ _ g.items k.covered k.known))
+        (λ active. (λ q m. new_holds S q refl (met_asked q m), λ q m. new_holds X q refl (write_asked q (writes_here q m))));
+    wrote = all_push _ g.items item
+        (all_mono _ _ (λ y h out q w. let c = h (false_from_ne_true _ (λ d. both_ways _ out (durable_by change y.tx d))) q w in (
+          insert_keeps_key tx birth v.records ins (take_all tx birth needs v.locks) X (At q) y.tx (all_keeps true X (At q) y.tx tx birth needs v.locks c.0),
+          λ none. c.1 (still_record v.records change ins q (writing op v.records) none),
+        )) g.items k.wrote)
+        (λ out q w. let here = writes_here q w in let r = written_record v.records change ins q (writing op v.records) here in
+        (subst (λ o. holds_by X locks_after (records_by change v.records) tx q o ≡ true) r.1 (new_holds X q refl (write_asked q here)), λ none. absurd (some_none r.0 (sym r.1 ∙ none))));
+    known = all_push _ g.items item
+        (all_mono _ _ (λ x h. still_known x.tx h) g.items k.known)
+        (inl stage_own);
+    uncommitted = λ u a. none_by change u (⊎_elim (λ s. ap (committed_in v.log) s ∙ open_) (λ b. k.uncommitted u b) (active_back u a));
+    closed = λ u e. k.closed u (sym (stage_same u (λ s. closed_apart (sym stage_own ∙ ap (stage_in parts_after) (sym s) ∙ e))) ∙ e);
+    over = λ u e. ⊎_elim (λ c. inl (durable_by change u c)) (λ c. let ne : u ≡ tx → ⊥ = λ s. both_ways _ new (ap (λ z. tx_in z g.asked) (sym s) ∙ c.3) in
+        inr (none_by change u c.0, unwritten_by change u ne c.1, ap is_present (stage_same u ne) ∙ c.2, c.3)) (k.over u e);
+    dead = λ u h. let old = undone_by change u h in let d = k.dead u old in let ne : u ≡ tx → ⊥ = λ s. both_ways _ alive (ap (undone_in v.log) (sym s) ∙ old) in
+        (none_by change u d.0, (λ a. d.1 (sym (stage_same u ne) ∙ a)), (λ a. d.2 (sym (stage_same u ne) ∙ a)));
+    tidy = tidy_by change;
+    doomed = λ u d h. none_by change u (k.doomed u d (sym (stage_same u (λ s. doomed_apart d (sym stage_own ∙ ap (stage_in parts_after) (sym s) ∙ h))) ∙ h));
+    successors = λ t p e. ⊎_elim (λ old. present_after t (k.successors t p old)) (λ s. ap is_present (ap (stage_in parts_after) s ∙ stage_own)) (add_from tx (violated tx needs v.locks) v.pairs t p e);
+    downwards = λ t p e c. ⊎_elim (λ old. before_by change p t (k.downwards t p old (from_by change t c))) (λ s. absurd (both_ways _ open_ (ap (committed_in v.log) (sym s) ∙ from_by change t c))) (add_from tx (violated tx needs v.locks) v.pairs t p e);
+    order = later_push _ g.items item k.order (all_mono _ _ (λ y h. order_new y h.0 h.1) g.items (all_both _ _ g.items k.known k.covered));
+    causes = later_push _ g.items item
+        (later_mono _ _ (λ x y h r. ⊎_elim (λ s. inl s) (λ d. inr (⊎_elim (λ c. inl (durable_by change x.tx c)) (λ m. ⊎_elim (λ pair. inr (inl (add_keeps tx (violated tx needs v.locks) v.pairs y.tx x.tx pair))) (λ b. inr (inr (before_by change x.tx y.tx b))) m) d)) (h r)) g.items k.causes)
+        (all_mono _ _ (λ y h. cause_new y h.0.0 h.0.1 h.1) g.items (all_both _ _ g.items (all_both _ _ g.items k.known k.covered) k.wrote));
+    recover = λ t p e. ⊎_elim (λ n. recover_new t p n) (λ old. recover_old t p old (k.recover t p old)) (met_cases (violated tx needs v.locks) t p e);
+    front = k.front;
+  }
+    where
+      met_cases : (ps : List TxId) (t p : TxId) → is_pair (map (λ q. (tx, q)) ps ++ g.met) t p ≡ true → ((t ≡ tx) × (tx_in p ps ≡ true)) ⊎ (is_pair g.met t p ≡ true)
+      met_cases [] t p e = inr e
+      met_cases (q ∷ qs) t p e = ⊎_elim
+          (λ h. let m = and_parts (tx_same t tx) (tx_same p q) h in inl (tx_true t tx m.0, or_left _ _ (tx_flip p q m.1)))
+          (λ h. ⊎_elim (λ i. inl (i.0, or_right (tx_same q p) _ i.1)) (λ i. inr i) (met_cases qs t p h))
+          (or_cases (tx_same t tx && tx_same p q) (is_pair (map (λ q. (tx, q)) qs ++ g.met) t p) e)
+
+      closed_row : (parts : Table Held) (u : TxId) (b : Birth) → Belongs parts u b true → stage_in parts u ≡ Some Closed
+      closed_row parts u b (h, e, f, fit) = ap stage_by e ∙ at h.stage fit
+        where
+          at : (s : Stage) → StageFits true s → Some s ≡ Some Closed
+          at Active fit = absurd fit
+          at Closed fit = refl
+          at (Gone d) fit = absurd fit
+
+      recover_new : (t p : TxId) → (t ≡ tx) × (tx_in p (violated tx needs v.locks) ≡ true) → Out (record g { items = g.items ++ item ∷ []; met = map (λ p. (tx, p)) (violated tx needs v.locks) ++ g.met }) (View_by change) t ⊎ (Dep (View_by change) t p × (place g.asked p < place g.asked t))
+      recover_new t p n =
+          let row = violated_row (Belongs v.parts) tx p needs v.locks k.rows n.1 in
+          let before = place_in g.asked p (k.closed p (closed_row v.parts p row.0 row.1)) in
+          inr (subst (λ z. Dep (View_by change) z p) (sym n.0) (inr (inl (add_has tx (violated tx needs v.locks) v.pairs p n.1))), subst (λ z. place g.asked p < place g.asked z) (sym n.0) (subst (λ m. place g.asked p < m) (sym (place_out g.asked tx new)) before))
+
+      recover_old : (t p : TxId) → is_pair g.met t p ≡ true → Out g v t ⊎ (Dep v t p × (place g.asked p < place g.asked t)) → Out (record g { items = g.items ++ item ∷ []; met = map (λ p. (tx, p)) (violated tx needs v.locks) ++ g.met }) (View_by change) t ⊎ (Dep (View_by change) t p × (place g.asked p < place g.asked t))
+      recover_old t p old h =
+          ⊎_elim
+          (λ o. let ne : t ≡ tx → ⊥ = λ s. both_ways _ o.1 (ap is_present (ap (stage_in v.parts) s ∙ unmet p (ap (λ z. is_pair g.met z p) (sym s) ∙ old))) in inl (none_by change t o.0, ap is_present (stage_same t ne) ∙ o.1, o.2))
+          (λ d. inr (⊎_elim (λ c. inl (durable_by change p c)) (λ m. ⊎_elim (λ pair. inr (inl (add_keeps tx (violated tx needs v.locks) v.pairs t p pair))) (λ b. inr (inr (before_by change p t b))) m) d.0, d.1)) h
+
+      some_none : (a : Option ℕ) → Some a ≡ None → ⊥
+      some_none a e = absurd cc
+
+      own_belongs : Belongs parts_after tx birth false
+      own_belongs = let h = own_part tx birth v.parts may in (h.0, h.1, h.2, fits_active h.0.stage h.3)
+
+      still_known : (u : TxId) → Known g v u → Known (record g { items = g.items ++ item ∷ []; met = map (λ p. (tx, p)) (violated tx needs v.locks) ++ g.met }) (View_by change) u
+      still_known u h =
+          ⊎_elim
+          (λ a. inl (⊎_elim (λ s. ap (stage_in parts_after) s ∙ stage_own) (λ ne. stage_same u ne ∙ a) (cases_tx u tx)))
+          (λ r. inr (r.0, λ a. r.1 (sym (stage_same u (asked_other u r.0)) ∙ a))) h
+
+-- the state after a granted operation
+view_written : (g : Past) (tx : TxId) (birth : Birth) (op : Op) (s : Shard) (w : Change) → Kept g (record {
+  records = records_by w s.local.records;
+  locks = (locked tx birth op s.local).locks;
+  parts = (locked tx birth op s.local).parts;
+  pairs = (locked tx birth op s.local).pairs;
+  log = log_by tx w s.local.log;
+  durable = s.durable;
+  flight = s.flight;
+}) → Kept g (view_of (record s { local = written tx w (locked tx birth op s.local) }))
+view_written g tx birth op s None k = k
+view_written g tx birth op s (Some w) k = k
+
+pub keeps_performed : (g : Past) (s : Shard) (tx : TxId) (birth : Birth) (op : Op) → Kept g (view_of s) → decide tx birth (needs_of op s.local.records) s.local.locks ≡ Grant → MayStand s.local.parts tx birth → tx_in tx g.asked ≡ false → committed_in s.local.log tx ≡ false → undone_in s.local.log tx ≡ false → ((p : TxId) → is_pair g.met tx p ≡ true → stage_in s.local.parts tx ≡ Some Active)
+    → Kept (record g { items = g.items ++ record { tx = tx; op = op; answer = answer_of op s.local.records; lsn = 0 + length s.local.log } ∷ []; met = map (λ p. (tx, p)) (violated tx (needs_of op s.local.records) s.local.locks) ++ g.met }) (view_of (record s { local = performed tx birth op s.local }))
+keeps_performed g s tx birth op k grant may new open_ alive unmet =
+    view_written (record g { items = g.items ++ record { tx = tx; op = op; answer = answer_of op s.local.records; lsn = 0 + length s.local.log } ∷ []; met = map (λ p. (tx, p)) (violated tx (needs_of op s.local.records) s.local.locks) ++ g.met }) tx birth op s (writes_of op (value_at (key_of op) s.local.records)) (keeps_view g (view_of s) tx birth op k grant may new open_ alive unmet)

@@ -1,0 +1,655 @@
+-- Each event of a shard keeps what it keeps.
+use Rattle.std.proofs.Common.{◌≡◌, ℕ, zero, suc, ◌+◌, ◌⊎◌, inl, inr, ⊎_elim, Bool, true, false, cond, not, ◌&&◌, ◌||◌, List, [], ◌∷◌, ◌++◌, map, length, Option, Some, None, ◌==◌, refl, sym, ap, subst, ◌∙◌, arith}
+use Rattle.std.specs.List.{AllByRecursion, filter}
+use Rattle.std.proofs.lemmas.Bool.{cases_Bool, both_ways, cond-true, cond-false, or_cases, false_from_ne_true}
+use Rattle.std.proofs.lemmas.List.Folds.{list_any-append}
+use Rattle.clv_base.specs.declared.names.TxId.{TxId}
+use Rattle.clv_base.specs.declared.names.Birth.{Birth}
+use Rattle.clv_base.specs.declared.logs.LogRecord.TheVariants.{Update, Prepare, Commit}
+use Rattle.clv_base.specs.declared.state.Stage.{Stage}
+use Rattle.clv_base.specs.declared.state.Stage.TheVariants.{Active, Closed, Gone}
+use Rattle.clv_base.specs.declared.state.Held.{Held}
+use Rattle.clv_base.specs.Orders.{tx_same, tx_in, tx_get}
+use Rattle.clv_base.specs.Logs.{committed_in, wrote_in, is_update_of}
+use Rattle.clv_base.specs.Locks.{close_locks}
+use Rattle.clv_base.specs.declared.modes.Decision.{Decision}
+use Rattle.clv_base.specs.declared.modes.Decision.TheVariants.{Grant, Wait, Die}
+use Rattle.clv_base.specs.Needs.{value_at}
+use Rattle.clv_base.specs.State.{Local, Shard, with_local, is_present}
+use Rattle.clv_base.specs.Undo.{stage_of}
+use Rattle.clv_base.specs.Facts.{predecessors_of, undecided_of, facts_of, is_waiting, has_durable_commit}
+use Rattle.clv_base.specs.Participant.{asked_voter, taken_if, taken_by}
+use Rattle.clv_base.specs.Coordinator.{new_request, others, vote_from, takes_vote, counts_vote, with_vote_of, takes_done, with_done_of, ask_answer}
+use Rattle.clv_base.specs.OneShard.{OpDies, seen_fits, locked, written, performed, rolled_back_if, without_part, op_granted, op_decided, op_by_stage, op_seen, closing, closed_in, close_part, drop_part}
+use Rattle.clv_base.specs.Due.{send}
+use Rattle.clv_base.specs.Events.{Reply, QuietBeforeWorn, QuietAfterWorn, Does, finish, op_event, is_alone, epoch_in, coordinate, request_by_stage, request_event, look_lost, look_state, look_known, look_event, request_epoch, drop_event, owe_vote, on_prepare, with_votes, on_vote, decided, on_decide, with_done, on_done, ask_messages, on_message, to_of, send_event, with_outbox, remind_with, reminders, out_event, with_flight, with_durable, put_down, happen_up, happen}
+use Rattle.shard_laws.specs.OneShard.{predecessors_committed}
+use Rattle.law_base.specs.Items.{Item}
+use Rattle.clv_base.proofs.SameNames.{or_left, or_right, tx_true, tx_self, tx_eq, tx_ne}
+use Rattle.law_base.proofs.Undoing.{standing_append}
+use Rattle.law_base.proofs.Tables.{stage_in, stage_by, is_pair, pair_in}
+use Rattle.law_base.proofs.Commits.{durable_committed, uncommitted_append}
+use Rattle.shard_laws.proofs.Kept.{View, Past, Known, Kept}
+use Rattle.shard_laws.specs.OneShard.{undone_in}
+use Rattle.clv_base.specs.declared.ops.Op.{Op}
+use Rattle.clv_base.specs.declared.state.Request.{Request}
+use Rattle.clv_base.specs.declared.state.RequestState.{RequestState}
+use Rattle.clv_base.specs.declared.state.RequestState.TheVariants.{Undecided, Committed, Finished, Refused}
+use Rattle.clv_base.specs.declared.causes.AbortCause.{AbortCause}
+use Rattle.clv_base.specs.declared.causes.AbortCause.TheVariants.{Restarted as RestartedCause}
+use Rattle.clv_base.specs.declared.messages.Message.{Message}
+use Rattle.clv_base.specs.declared.messages.Message.TheVariants.{Prepare as PrepareMessage, Vote as VoteMessage, Decide, Done, Ask}
+use Rattle.clv_base.specs.declared.causes.Vote.{Vote}
+use Rattle.clv_base.specs.declared.causes.Vote.TheVariants.{Read}
+use Rattle.clv_base.specs.declared.state.Voter.{Voter}
+use Rattle.std.proofs.Common.{is_some}
+use Rattle.clv_base.specs.Orders.{tx_set, nat_in}
+use Rattle.clv_base.specs.declared.events.Outcome.TheVariants.{Taken, Stale}
+use Rattle.clv_base.specs.declared.events.Event.{Event}
+use Rattle.clv_base.specs.declared.events.Event.TheVariants.{Op as OpEvent, Request as RequestEvent, Look, Drop, Send, Deliver, Remind, FlushOut, FlushIn, Stop, Restart as RestartEvent}
+use Rattle.clv_base.specs.declared.events.Outcome.{Outcome}
+use Rattle.clv_base.specs.declared.events.Outcome.TheVariants.{Dead, Acknowledged, Aborted, NotYet, Down}
+use Rattle.clv_base.specs.Orders.{tx_put}
+use Rattle.clv_base.specs.Locks.{violated, decide}
+use Rattle.clv_base.specs.Needs.{needs_of, answer_of}
+use Rattle.shard_laws.proofs.Kept.{view_of}
+use Rattle.shard_laws.specs.OneShard.{with_one, new_item, asks_by_stage, new_asked, Fresh, MayTouch, MayAsk, MayDeliver, MayHappen, new_told, new_met, items_of}
+use Rattle.clv_base.proofs.SameNames.{cases_tx}
+use Rattle.law_base.proofs.Tables.{get_put}
+use Rattle.shard_laws.proofs.Changes.{keeps_quiet, quiet_prepare, keeps_commit, keeps_front, keeps_flight}
+use Rattle.shard_laws.proofs.Closing.{keeps_close, keeps_asked, in_push, stage_closed, stage_other as stage_left}
+use Rattle.std.proofs.Common.{append-nil}
+use Rattle.shard_laws.proofs.Granting.{keeps_performed, MayStand, other_part}
+use Rattle.clv_base.specs.Needs.{writes_of, key_of}
+use Rattle.shard_laws.proofs.Sound.{Sound, Open, After, More_over, at_once, rolled, marked_sound, finish_sound, get_set, set_none, commit_here, commit_other, commit_asked, waiting_here, agreed_before, list_all_at}
+
+-- ---- the state after it
+
+abbrev pub Later : List Item → Past → Shard → Event → Outcome → Shard → Type 0
+Later all g s e o t = (h : Past) × Sound (with_one all (new_item s e o)) h t × (h.start ≡ g.start) × (h.base ≡ g.base) × (h.asked ≡ with_one g.asked (new_asked s e)) × More_over g h × ((u : TxId) → new_told e o ≡ Some u → tx_in u h.over ≡ true) × (h.met ≡ new_met s e o ++ g.met)
+
+pub data Keeps_reply (all : List Item) (g : Past) (s : Shard) (e : Event) : Reply → Type 0 where
+  early : {o : Outcome} → Keeps_reply all g s e (QuietBeforeWorn o)
+  late : {o : Outcome} → Keeps_reply all g s e (QuietAfterWorn o)
+  does : {o : Outcome} {t : Shard} → Later all g s e o t → Keeps_reply all g s e (Does o t)
+
+none_told : (u : TxId) → ◌≡◌ {A = Option TxId} None (Some u) → ⊥
+none_told u e = absurd cc
+
+-- where nothing is answered and nobody asks
+abbrev Same : List Item → Past → Shard → Event → Outcome → Type 0
+Same all g s e o = (with_one all (new_item s e o) ≡ all) × (with_one g.asked (new_asked s e) ≡ g.asked) × (new_met s e o ≡ [])
+
+ends_told : (all : List Item) (g : Past) (s u : Shard) (e : Event) (o : Outcome) → Same all g s e o → (a : After all g u) → ((t : TxId) → new_told e o ≡ Some t → tx_in t (a.0).over ≡ true) → Keeps_reply all g s e (Does o (finish u))
+ends_told all g s u e o same a told =
+    let f = finish_sound all a.0 u a.1 in
+    does (f.0, subst (λ l. Sound l f.0 (finish u)) (sym same.0) f.1, f.2 ∙ a.2, f.3 ∙ a.3, f.4 ∙ a.4 ∙ sym same.1, (λ t i. f.5 t (a.5 t i)), (λ t n. f.5 t (told t n)), f.6 ∙ a.6 ∙ sym (ap (λ l. l ++ g.met) same.2))
+
+ends : (all : List Item) (g : Past) (s u : Shard) (e : Event) (o : Outcome) → Same all g s e o → new_told e o ≡ None → After all g u → Keeps_reply all g s e (Does o (finish u))
+ends all g s u e o same none a = ends_told all g s u e o same a (λ t n. absurd (none_told t (sym none ∙ n)))
+
+at_cond : (all : List Item) (g : Past) (s : Shard) (e : Event) (b : Bool) (x y : Reply) → Keeps_reply all g s e x → Keeps_reply all g s e y → Keeps_reply all g s e (cond b x y)
+at_cond all g s e true x y p q = p
+at_cond all g s e false x y p q = q
+
+-- ---- an operation
+
+dies_if : (all : List Item) (g : Past) (s : Shard) (tx : TxId) (b : Bool) → Sound all g s → (b ≡ true → committed_in s.local.log tx ≡ false) → After all g (record s { local = rolled_back_if b tx s.local })
+dies_if all g s tx true h open_ = rolled all g s tx h (open_ refl)
+dies_if all g s tx false h open_ = at_once all g (record s { local = s.local }) (record { kept = h.kept; told = h.told; undecided = h.undecided; readers = h.readers; apart = h.apart; unvoted = h.unvoted; read = h.read; asked = h.asked })
+
+present_open : (all : List Item) (g : Past) (s : Shard) (tx : TxId) → Sound all g s → (stage_of s.local tx ≡ Some Closed → ⊥) → is_present (stage_of s.local tx) ≡ true → committed_in s.local.log tx ≡ false
+present_open all g s tx h not_closed e = at (stage_of s.local tx) refl e
+  where
+    at : (o : Option Stage) → stage_of s.local tx ≡ o → is_present o ≡ true → committed_in s.local.log tx ≡ false
+    at None f e = absurd (both_ways false refl e)
+    at (Some Active) f e = h.kept.uncommitted tx f
+    at (Some Closed) f e = absurd (not_closed f)
+    at (Some (Gone d)) f e = absurd (both_ways false refl e)
+
+dies : (all : List Item) (g : Past) (s : Shard) (tx : TxId) (birth : Birth) (nth : ℕ) (seen : Option ℕ) (op : Op) (c : AbortCause) → Sound all g s → (stage_of s.local tx ≡ Some Closed → ⊥) → Keeps_reply all g s (OpEvent tx birth nth seen op) (op_event s (OpDies c (without_part tx s.local)))
+dies all g s tx birth nth seen op c h not_closed =
+    ends all g s (record s { local = without_part tx s.local }) (OpEvent tx birth nth seen op) (Dead c) (refl, refl, refl) refl (dies_if all g s tx (is_present (stage_of s.local tx)) h (present_open all g s tx h not_closed))
+
+-- the part of one that does an operation now
+stands_now : (g : Past) (s : Shard) (tx : TxId) (birth : Birth) → ((h : Held) → tx_get tx s.local.parts ≡ Some h → h.birth ≡ birth) → (stage_of s.local tx ≡ None) ⊎ (stage_of s.local tx ≡ Some Active) → MayStand s.local.parts tx birth
+stands_now g s tx birth may o = at (tx_get tx s.local.parts) refl o
+  where
+    some_stage : (a b : Stage) → Some a ≡ Some b → a ≡ b
+    some_stage a b e = cc
+
+    some_none : (a : Stage) → Some a ≡ None → ⊥
+    some_none a e = absurd cc
+
+    at : (x : Option Held) → tx_get tx s.local.parts ≡ x → (stage_by x ≡ None) ⊎ (stage_by x ≡ Some Active) → MayStand s.local.parts tx birth
+    at None e f = inl e
+    at (Some h) e f = inr (h, e, may h e, ⊎_elim (λ n. absurd (some_none h.stage n)) (λ a. some_stage h.stage Active a) f)
+
+fresh_now : (all : List Item) (g : Past) (s : Shard) (tx : TxId) (birth : Birth) → Sound all g s → (tx_get tx s.local.parts ≡ None → Fresh all g.asked g.met s tx) → (stage_of s.local tx ≡ None) ⊎ (stage_of s.local tx ≡ Some Active) → (committed_in s.local.log tx ≡ false) × (undone_in s.local.log tx ≡ false)
+fresh_now all g s tx birth h may o =
+    ⊎_elim (λ n. let f = may (none_part (tx_get tx s.local.parts) n) in (f.0, f.1)) (λ a. (h.kept.uncommitted tx a, false_from_ne_true _ (λ u. (h.kept.dead tx u).1 a))) o
+  where
+    none_part : (x : Option Held) → stage_by x ≡ None → x ≡ None
+    none_part None e = refl
+    none_part (Some h) e = absurd cc
+
+abbrev Change : Type 0
+Change = Option (ℕ × Option ℕ × Option ℕ)
+
+written_parts : (tx : TxId) (w : Change) (u : Local) → (written tx w u).parts ≡ u.parts
+written_parts tx None u = refl
+written_parts tx (Some w) u = refl
+
+written_open : (tx : TxId) (w : Change) (u : Local) (t : TxId) → committed_in u.log t ≡ false → committed_in (written tx w u).log t ≡ false
+written_open tx None u t e = e
+written_open tx (Some w) u t e = uncommitted_append u.log (Update tx w.0 w.1 w.2 ∷ []) t e refl
+
+filter_push : (f : Item → Bool) (xs : List Item) (x : Item) → f x ≡ true → filter f (xs ++ x ∷ []) ≡ filter f xs ++ x ∷ []
+filter_push f [] x e = cond-true (f x) (x ∷ []) [] e
+filter_push f (y ∷ ys) x e = ap (λ l. cond (f y) (y ∷ l) l) (filter_push f ys x e) ∙ at (f y)
+  where
+    at : (b : Bool) → cond b (y ∷ (filter f ys ++ x ∷ [])) (filter f ys ++ x ∷ []) ≡ cond b (y ∷ filter f ys) (filter f ys) ++ x ∷ []
+    at true = refl
+    at false = refl
+
+written_wrote : (tx : TxId) (w : Change) (u : Local) (t : TxId) → wrote_in u.log t ≡ true → wrote_in (written tx w u).log t ≡ true
+written_wrote tx None u t e = e
+written_wrote tx (Some w) u t e = list_any-append (is_update_of t) u.log (Update tx w.0 w.1 w.2 ∷ []) ∙ or_left _ _ e
+
+-- the items of a transaction, with a new one
+push_own : (x : Item) (tx : TxId) → x.tx ≡ tx → (u : TxId) → u ≡ tx → (xs : List Item) → items_of u (xs ++ x ∷ []) ≡ items_of u xs ++ x ∷ []
+push_own x tx own u e xs = filter_push (λ y. tx_same y.tx u) xs x (tx_eq x.tx u (own ∙ sym e))
+
+push_other : (x : Item) (u : TxId) → (x.tx ≡ u → ⊥) → (xs : List Item) → items_of u (xs ++ x ∷ []) ≡ items_of u xs
+push_other x u ne [] = cond-false (tx_same x.tx u) (x ∷ []) [] (tx_ne x.tx u ne)
+push_other x u ne (y ∷ ys) = ap (λ l. cond (tx_same y.tx u) (y ∷ l) l) (push_other x u ne ys)
+
+-- a transaction without a part, that did not ask, has no items
+no_items : (g : Past) (v : View) (u : TxId) (xs : List Item) → AllByRecursion (λ x. Known g v x.tx) xs → tx_get u v.parts ≡ None → tx_in u g.asked ≡ false → items_of u xs ≡ []
+no_items g v u [] all none new = refl
+no_items g v u (x ∷ xs) all none new =
+    cond-false (tx_same x.tx u) (x ∷ items_of u xs) (items_of u xs) (tx_ne x.tx u (λ e.
+    ⊎_elim (λ a. none_active (sym (ap stage_by (ap (λ z. tx_get z v.parts) e ∙ none)) ∙ a)) (λ r. both_ways _ new (ap (λ z. tx_in z g.asked) (sym e) ∙ r.0)) all.0))
+    ∙ no_items g v u xs all.1 none new
+  where
+    none_active : ◌≡◌ {A = Option Stage} None (Some Active) → ⊥
+    none_active e = absurd cc
+
+told_own : (all : List Item) (g : Past) (s : Shard) (tx u : TxId) → u ≡ tx → Sound all g s → (tx_get tx s.local.parts ≡ None → Fresh all g.asked g.met s tx) → tx_in tx g.asked ≡ false → (stage_of s.local tx ≡ None) ⊎ (stage_of s.local tx ≡ Some Active) → items_of u g.items ≡ items_of u all
+told_own all g s tx u e h fresh new o =
+    subst (λ z. items_of z g.items ≡ items_of z all) (sym e)
+    (⊎_elim
+    (λ n. let none = none_part (tx_get tx s.local.parts) n in let f = fresh none in no_items g (view_of s) tx g.items h.kept.known none new ∙ sym f.2)
+    (λ a. ⊎_elim (λ l. absurd (both_ways _ l.1 (ap is_present a))) (λ i. i) (h.told tx)) o)
+  where
+    none_part : (x : Option Held) → stage_by x ≡ None → x ≡ None
+    none_part None e = refl
+    none_part (Some h) e = absurd cc
+
+performed_sound : (all : List Item) (g : Past) (s : Shard) (tx : TxId) (birth : Birth) (op : Op) → Sound all g s → decide tx birth (needs_of op s.local.records) s.local.locks ≡ Grant → (tx_get tx s.local.parts ≡ None → Fresh all g.asked g.met s tx) → ((h : Held) → tx_get tx s.local.parts ≡ Some h → h.birth ≡ birth) → tx_in tx g.asked ≡ false → (stage_of s.local tx ≡ None) ⊎ (stage_of s.local tx ≡ Some Active)
+    → Sound (all ++ record { tx = tx; op = op; answer = answer_of op s.local.records; lsn = 0 + length s.local.log } ∷ []) (record g { items = g.items ++ record { tx = tx; op = op; answer = answer_of op s.local.records; lsn = 0 + length s.local.log } ∷ []; met = map (λ p. (tx, p)) (violated tx (needs_of op s.local.records) s.local.locks) ++ g.met }) (record s { local = performed tx birth op s.local })
+performed_sound all g s tx birth op h grant fresh same new o =
+    let fr = fresh_now all g s tx birth h fresh o in
+    let w : Change = writes_of op (value_at (key_of op) s.local.records) in
+    let u : Local = locked tx birth op s.local in
+    let x : Item = record { tx = tx; op = op; answer = answer_of op s.local.records; lsn = 0 + length s.local.log } in
+    record {
+      kept = keeps_performed g s tx birth op h.kept grant (stands_now g s tx birth same o) new fr.0 fr.1 (λ p i. met_active fresh o p i);
+      told = λ v. ⊎_elim
+          (λ e. inr (push_own x tx refl v e g.items ∙ ap (λ l. l ++ x ∷ []) (told_own all g s tx v e h fresh new o) ∙ sym (push_own x tx refl v e all)))
+          (λ ne. ⊎_elim (λ l. inl (written_open tx w u v l.0, ap (λ p. is_present (stage_in p v)) (written_parts tx w u) ∙ ap (λ z. is_present (stage_by z)) (other_part tx birth s.local.parts v (tx_get tx s.local.parts) (tx_ne v tx ne)) ∙ l.1, l.2))
+          (λ e. inr (push_other x v (λ q. ne (sym q)) g.items ∙ e ∙ sym (push_other x v (λ q. ne (sym q)) all))) (h.told v))
+          (cases_tx v tx);
+      undecided = λ t q e un. ⊎_elim (λ c. inl (written_open tx w u t c)) (λ c. inr c) (h.undecided t q e un);
+      readers = h.readers;
+      apart = h.apart;
+      unvoted = λ t v e x. written_open tx w u t (h.unvoted t v e (false_from_ne_true _ (λ y. both_ways _ x (written_wrote tx w u t y))));
+      read = λ t v e f. let r = h.read t v e f in
+          ap (λ p. stage_in p t) (written_parts tx w u) ∙ ap stage_by (other_part tx birth s.local.parts t (tx_get tx s.local.parts) (tx_ne t tx (λ q. left o (ap (stage_of s.local) (sym q) ∙ r)))) ∙ r;
+      asked = λ t e. ⊎_elim (λ c. h.asked t c) (λ c. absurd (both_ways _ (written_open tx w u t c) e)) (cases_Bool (committed_in s.local.log t));
+    }
+  where
+    left : (stage_of s.local tx ≡ None) ⊎ (stage_of s.local tx ≡ Some Active) → stage_of s.local tx ≡ Some (Gone None) → ⊥
+    left o e = ⊎_elim (λ n. none_gone (sym n ∙ e)) (λ a. active_gone (sym a ∙ e)) o
+      where
+        none_gone : ◌≡◌ {A = Option Stage} None (Some (Gone None)) → ⊥
+        none_gone e = absurd cc
+
+        active_gone : ◌≡◌ {A = Option Stage} (Some Active) (Some (Gone None)) → ⊥
+        active_gone e = absurd cc
+
+    none_part : (x : Option Held) → stage_by x ≡ None → x ≡ None
+    none_part None e = refl
+    none_part (Some h) e = absurd cc
+
+    met_active : (tx_get tx s.local.parts ≡ None → Fresh all g.asked g.met s tx) → (stage_of s.local tx ≡ None) ⊎ (stage_of s.local tx ≡ Some Active) → (p : TxId) → is_pair g.met tx p ≡ true → stage_in s.local.parts tx ≡ Some Active
+    met_active fresh o p i = ⊎_elim (λ n. absurd ((fresh (none_part (tx_get tx s.local.parts) n)).3 p i)) (λ a. a) o
+
+granted : (all : List Item) (g : Past) (s : Shard) (tx : TxId) (birth : Birth) (nth : ℕ) (seen : Option ℕ) (op : Op) (b : Bool) → Sound all g s → decide tx birth (needs_of op s.local.records) s.local.locks ≡ Grant → MayTouch all g.asked g.met s tx birth seen → seen_fits s.local.epoch seen ≡ true → (stage_of s.local tx ≡ None) ⊎ (stage_of s.local tx ≡ Some Active)
+    → Keeps_reply all g s (OpEvent tx birth nth seen op) (op_event s (op_granted s.local tx birth op b))
+granted all g s tx birth nth seen op true h grant may fit o = late
+granted all g s tx birth nth seen op false h grant may fit o =
+    let x : Item = record { tx = tx; op = op; answer = answer_of op s.local.records; lsn = 0 + length s.local.log } in
+    let f = finish_sound (all ++ x ∷ []) (record g { items = g.items ++ x ∷ []; met = map (λ p. (tx, p)) (violated tx (needs_of op s.local.records) s.local.locks) ++ g.met }) (record s { local = performed tx birth op s.local }) (performed_sound all g s tx birth op h grant (may.fresh fit) may.same_birth (may.not_asked fit) o) in
+    does (f.0, f.1, f.2, f.3, f.4, f.5, (λ u n. absurd (none_told u n)), f.6)
+
+by_decision : (all : List Item) (g : Past) (s : Shard) (tx : TxId) (birth : Birth) (nth : ℕ) (seen : Option ℕ) (op : Op) (d : Decision) → Sound all g s → decide tx birth (needs_of op s.local.records) s.local.locks ≡ d → MayTouch all g.asked g.met s tx birth seen → seen_fits s.local.epoch seen ≡ true → (stage_of s.local tx ≡ None) ⊎ (stage_of s.local tx ≡ Some Active)
+    → Keeps_reply all g s (OpEvent tx birth nth seen op) (op_event s (op_decided s.local tx birth op d))
+by_decision all g s tx birth nth seen op Grant h e may fit o = granted all g s tx birth nth seen op _ h e may fit o
+by_decision all g s tx birth nth seen op (Wait y) h e may fit o = late
+by_decision all g s tx birth nth seen op (Die y) h e may fit o = dies all g s tx birth nth seen op _ h may.not_closed
+
+by_stage : (all : List Item) (g : Past) (s : Shard) (tx : TxId) (birth : Birth) (nth : ℕ) (seen : Option ℕ) (op : Op) (o : Option Stage) → Sound all g s → MayTouch all g.asked g.met s tx birth seen → seen_fits s.local.epoch seen ≡ true → stage_of s.local tx ≡ o → Keeps_reply all g s (OpEvent tx birth nth seen op) (op_event s (op_by_stage s.local tx birth op o))
+by_stage all g s tx birth nth seen op None h may fit e = by_decision all g s tx birth nth seen op (decide tx birth (needs_of op s.local.records) s.local.locks) h refl may fit (inl e)
+by_stage all g s tx birth nth seen op (Some Active) h may fit e = by_decision all g s tx birth nth seen op (decide tx birth (needs_of op s.local.records) s.local.locks) h refl may fit (inr e)
+by_stage all g s tx birth nth seen op (Some Closed) h may fit e = absurd (may.not_closed e)
+by_stage all g s tx birth nth seen op (Some (Gone None)) h may fit e = ends all g s (record s { local = s.local }) (OpEvent tx birth nth seen op) _ (refl, refl, refl) refl (at_once all g _ (record { kept = h.kept; told = h.told; undecided = h.undecided; readers = h.readers; apart = h.apart; unvoted = h.unvoted; read = h.read; asked = h.asked }))
+by_stage all g s tx birth nth seen op (Some (Gone (Some d))) h may fit e = ends all g s (record s { local = s.local }) (OpEvent tx birth nth seen op) _ (refl, refl, refl) refl (at_once all g _ (record { kept = h.kept; told = h.told; undecided = h.undecided; readers = h.readers; apart = h.apart; unvoted = h.unvoted; read = h.read; asked = h.asked }))
+
+operation : (all : List Item) (g : Past) (s : Shard) (tx : TxId) (birth : Birth) (nth : ℕ) (seen : Option ℕ) (op : Op) (b : Bool) → Sound all g s → MayTouch all g.asked g.met s tx birth seen → seen_fits s.local.epoch seen ≡ b → Keeps_reply all g s (OpEvent tx birth nth seen op) (op_event s (op_seen s.shard s.local tx birth seen op b))
+operation all g s tx birth nth seen op true h may fit = by_stage all g s tx birth nth seen op (stage_of s.local tx) h may fit refl
+operation all g s tx birth nth seen op false h may fit = dies all g s tx birth nth seen op _ h may.not_closed
+
+-- ---- a request
+
+-- the view after a part is closed, whatever record closes it
+closes : (all : List Item) (g : Past) (s : Shard) (tx : TxId) (home : ℕ) (wrote one : Bool) (ps : List TxId) → Sound all g s → stage_of s.local tx ≡ Some Active → tx_in tx g.asked ≡ true → undecided_of s.local tx ≡ ps
+    → Kept g (record (view_of s) { locks = close_locks tx s.local.locks; parts = closed_in tx s.local.parts; log = s.local.log ++ closing wrote one tx home ps })
+closes all g s tx home false one ps h act asks e =
+    subst (λ l. Kept g (record (view_of s) { locks = close_locks tx s.local.locks; parts = closed_in tx s.local.parts; log = l })) (sym (append-nil s.local.log)) (keeps_close g (view_of s) tx h.kept act asks)
+closes all g s tx home true true [] h act asks e =
+    keeps_commit g (record (view_of s) { locks = close_locks tx s.local.locks; parts = closed_in tx s.local.parts }) tx [] (keeps_close g (view_of s) tx h.kept act asks)
+    (stage_closed s.local.parts tx act) (h.kept.uncommitted tx act) (agreed_before s tx (ap (λ l. length l == 0) e))
+closes all g s tx home true true (p ∷ ps) h act asks e =
+    keeps_quiet g (record (view_of s) { locks = close_locks tx s.local.locks; parts = closed_in tx s.local.parts }) (Prepare tx home (p ∷ ps)) (keeps_close g (view_of s) tx h.kept act asks) (standing_append 0 s.local.log (Prepare tx home (p ∷ ps) ∷ []) []) (quiet_prepare tx home (p ∷ ps))
+closes all g s tx home true false ps h act asks e =
+    keeps_quiet g (record (view_of s) { locks = close_locks tx s.local.locks; parts = closed_in tx s.local.parts }) (Prepare tx home ps) (keeps_close g (view_of s) tx h.kept act asks) (standing_append 0 s.local.log (Prepare tx home ps ∷ []) []) (quiet_prepare tx home ps)
+
+closing_open : (wrote one : Bool) (tx : TxId) (home : ℕ) (ps : List TxId) (u : TxId) → tx_same u tx ≡ false → committed_in (closing wrote one tx home ps) u ≡ false
+closing_open false one tx home ps u e = refl
+closing_open true true tx home [] u e = ap (λ b. b || false) e
+closing_open true true tx home (p ∷ ps) u e = refl
+closing_open true false tx home ps u e = refl
+
+some_request : (q r : Request) → Some q ≡ Some r → q ≡ r
+some_request q r e = cc
+
+-- the requests with a new one
+put_open : (s : Shard) (tx : TxId) (touched : List (ℕ × ℕ)) → Open s.shard s.local.log tx (new_request touched Undecided) → ((u : TxId) (q : Request) → tx_get u s.requests ≡ Some q → q.state ≡ Undecided → Open s.shard s.local.log u q)
+    → (u : TxId) (q : Request) → tx_get u (tx_put tx (new_request touched Undecided) s.requests) ≡ Some q → q.state ≡ Undecided → Open s.shard s.local.log u q
+put_open s tx touched new old u q e un = at (tx_same u tx) refl (sym (get_put tx u (new_request touched Undecided) s.requests) ∙ e)
+  where
+    at : (b : Bool) → tx_same u tx ≡ b → cond b (Some (new_request touched Undecided)) (tx_get u s.requests) ≡ Some q → Open s.shard s.local.log u q
+    at true t f = subst (λ z. Open s.shard s.local.log z q) (sym (tx_true u tx t)) (subst (Open s.shard s.local.log tx) (some_request _ q f) new)
+    at false t f = old u q f un
+
+-- a new request is not a finished one
+first_unfinished : Undecided ≡ Finished → ⊥
+first_unfinished e = absurd cc
+
+put_reader : (g : Past) (s : Shard) (tx : TxId) (touched : List (ℕ × ℕ)) → ((u : TxId) (q : Request) → tx_get u s.requests ≡ Some q → q.state ≡ Finished → tx_in u g.over ≡ true)
+    → (u : TxId) (q : Request) → tx_get u (tx_put tx (new_request touched Undecided) s.requests) ≡ Some q → q.state ≡ Finished → tx_in u g.over ≡ true
+put_reader g s tx touched old u q e f = at (tx_same u tx) (sym (get_put tx u (new_request touched Undecided) s.requests) ∙ e)
+  where
+    at : (b : Bool) → cond b (Some (new_request touched Undecided)) (tx_get u s.requests) ≡ Some q → tx_in u g.over ≡ true
+    at true i = absurd (first_unfinished (ap (λ r. r.state) (some_request _ q i) ∙ f))
+    at false i = old u q i f
+
+closing_wrote : (wrote one : Bool) (tx : TxId) (home : ℕ) (ps : List TxId) (u : TxId) → wrote_in (closing wrote one tx home ps) u ≡ false
+closing_wrote false one tx home ps u = refl
+closing_wrote true true tx home [] u = refl
+closing_wrote true true tx home (p ∷ ps) u = refl
+closing_wrote true false tx home ps u = refl
+
+flip_false : (a b : TxId) → tx_same a b ≡ false → tx_same b a ≡ false
+flip_false a b e = tx_ne b a (λ s. both_ways _ e (tx_eq a b (sym s)))
+
+-- a part that is not the only one is prepared
+prepared_only : (tx : TxId) (home : ℕ) (wrote one : Bool) (ps : List TxId) (u : TxId) → one ≡ false → committed_in (closing wrote one tx home ps) u ≡ false
+prepared_only tx home false one ps u e = refl
+prepared_only tx home true true [] u e = absurd (both_ways true e refl)
+prepared_only tx home true true (p ∷ ps) u e = refl
+prepared_only tx home true false ps u e = refl
+
+-- an active part of one that asked is closed
+closed_sound : (all : List Item) (g : Past) (s : Shard) (tx : TxId) (home : ℕ) (one : Bool) → Sound all g s → stage_of s.local tx ≡ Some Active → tx_in tx g.asked ≡ true
+    → ((u : TxId) (q : Request) → tx_get u s.requests ≡ Some q → q.state ≡ Undecided → tx_same u tx ≡ false) → ((v : Voter) → tx_get tx s.voters ≡ Some v → one ≡ false) → Sound all g (with_local (close_part tx home one) s)
+closed_sound all g s tx home one h act asks no_request no_vote = record {
+  kept = closes all g s tx home (wrote_in s.local.log tx) one (undecided_of s.local tx) h act asks refl;
+  told = λ u. ⊎_elim (λ l. let ne : tx_same tx u ≡ false = tx_ne tx u (λ e. both_ways _ l.1 (ap is_present (ap (stage_of s.local) (sym e) ∙ act))) in
+      inl (uncommitted_append s.local.log _ u l.0 (closing_open (wrote_in s.local.log tx) one tx home (undecided_of s.local tx) u (flip_false tx u ne)), ap is_present (stage_left s.local.parts tx u ne) ∙ l.1, l.2)) (λ e. inr e) (h.told u);
+  undecided = λ u q e un. ⊎_elim (λ c. inl (uncommitted_append s.local.log _ u c (closing_open (wrote_in s.local.log tx) one tx home (undecided_of s.local tx) u (no_request u q e un)))) (λ c. inr c) (h.undecided u q e un);
+  readers = h.readers;
+  apart = h.apart;
+  unvoted = λ u v e w. ⊎_elim
+      (λ same. uncommitted_append s.local.log _ u (h.unvoted u v e (old u w)) (prepared_only tx home (wrote_in s.local.log tx) one (undecided_of s.local tx) u (no_vote v (ap (λ z. tx_get z s.voters) (sym (tx_true u tx same)) ∙ e))))
+      (λ ne. uncommitted_append s.local.log _ u (h.unvoted u v e (old u w)) (closing_open (wrote_in s.local.log tx) one tx home (undecided_of s.local tx) u ne))
+      (cases_Bool (tx_same u tx));
+  read = λ u v e f. let r = h.read u v e f in stage_left s.local.parts tx u (tx_ne tx u (λ q. active_gone (sym act ∙ ap (stage_of s.local) q ∙ r))) ∙ r;
+  asked = λ u e. ⊎_elim (λ t. ap (λ z. tx_in z g.asked) (tx_true u tx t) ∙ asks)
+      (λ ne. ⊎_elim (λ c. h.asked u c) (λ c. absurd (both_ways _ (uncommitted_append s.local.log _ u c (closing_open (wrote_in s.local.log tx) one tx home (undecided_of s.local tx) u ne)) e)) (cases_Bool (committed_in s.local.log u)))
+      (cases_Bool (tx_same u tx));
+}
+  where
+    old : (u : TxId) → wrote_in (s.local.log ++ closing (wrote_in s.local.log tx) one tx home (undecided_of s.local tx)) u ≡ false → wrote_in s.local.log u ≡ false
+    old u w = false_from_ne_true _ (λ x. both_ways _ w (list_any-append (is_update_of u) s.local.log (closing (wrote_in s.local.log tx) one tx home (undecided_of s.local tx)) ∙ or_left _ _ x))
+
+    active_gone : ◌≡◌ {A = Option Stage} (Some Active) (Some (Gone None)) → ⊥
+    active_gone e = absurd cc
+
+asks_sound : (all : List Item) (g : Past) (s : Shard) (tx : TxId) → Sound all g s → Sound all (record g { asked = g.asked ++ tx ∷ [] }) s
+asks_sound all g s tx h = record { kept = keeps_asked g (view_of s) tx h.kept; told = h.told; undecided = h.undecided; readers = h.readers; apart = h.apart; unvoted = h.unvoted; read = h.read; asked = λ u c. in_push g.asked tx u ∙ or_left _ _ (h.asked u c) }
+
+pub others_asked : (all : List Item) (g : Past) (s : Shard) (tx : TxId) → Sound all g s → Sound all (record g { asked = g.asked ++ tx ∷ [] }) s
+others_asked all g s tx h = asks_sound all g s tx h
+
+-- a request here: no voter of it, and no request yet
+coordinated : (all : List Item) (g : Past) (s : Shard) (tx : TxId) (touched : List (ℕ × ℕ)) → Sound all g s → Open s.shard s.local.log tx (new_request touched Undecided) → ((v : Voter) → tx_get tx s.voters ≡ Some v → ⊥) → Sound all g (coordinate tx touched s)
+coordinated all g s tx touched h new no_vote = record {
+  kept = h.kept;
+  told = h.told;
+  undecided = put_open s tx touched new h.undecided;
+  readers = put_reader g s tx touched h.readers;
+  apart = λ u v e. get_put tx u (new_request touched Undecided) s.requests ∙ cond-false (tx_same u tx) _ (tx_get u s.requests) (tx_ne u tx (λ same. no_vote v (ap (λ z. tx_get z s.voters) (sym same) ∙ e))) ∙ h.apart u v e;
+  unvoted = h.unvoted;
+  read = h.read;
+  asked = h.asked;
+}
+
+-- its COMMIT was written only if it has no other shard
+new_open : (s : Shard) (tx : TxId) (touched : List (ℕ × ℕ)) (os : List ℕ) → others s.shard touched ≡ os → committed_in s.local.log tx ≡ false → Open s.shard (s.local.log ++ closing (wrote_in s.local.log tx) (is_alone os) tx s.shard (undecided_of s.local tx)) tx (new_request touched Undecided)
+new_open s tx touched [] e open_ = inr (e, refl)
+new_open s tx touched (o ∷ os) e open_ = inl (uncommitted_append s.local.log _ tx open_ (prepared_only tx s.shard (wrote_in s.local.log tx) false (undecided_of s.local tx) tx refl))
+
+asked_sound : (all : List Item) (g : Past) (s : Shard) (tx : TxId) (touched : List (ℕ × ℕ)) → Sound all g s → stage_of s.local tx ≡ Some Active → ((v : Voter) → tx_get tx s.voters ≡ Some v → ⊥) → tx_get tx s.requests ≡ None
+    → Sound all (record g { asked = g.asked ++ tx ∷ [] }) (coordinate tx touched (with_local (close_part tx s.shard (is_alone (others s.shard touched))) s))
+asked_sound all g s tx touched h act no_vote no_request =
+    coordinated all (record g { asked = g.asked ++ tx ∷ [] }) (with_local (close_part tx s.shard (is_alone (others s.shard touched))) s) tx touched
+    (closed_sound all (record g { asked = g.asked ++ tx ∷ [] }) s tx s.shard (is_alone (others s.shard touched)) (asks_sound all g s tx h) act (in_push g.asked tx tx ∙ or_right (tx_in tx g.asked) _ (or_left _ _ (tx_self tx)))
+    (λ u q e un. tx_ne u tx (λ same. none_request q (sym no_request ∙ ap (λ z. tx_get z s.requests) (sym same) ∙ e))) (λ v e. absurd (no_vote v e)))
+    (new_open s tx touched (others s.shard touched) refl (h.kept.uncommitted tx act)) no_vote
+  where
+    none_request : (q : Request) → ◌≡◌ {A = Option Request} None (Some q) → ⊥
+    none_request q e = absurd cc
+
+none_asks : (g : Past) (s : Shard) (tx : TxId) (touched : List (ℕ × ℕ)) (o : Option Stage) (b : Bool) → stage_of s.local tx ≡ o → seen_fits s.local.epoch (epoch_in s.shard touched) ≡ b → asks_by_stage tx o b ≡ None → with_one g.asked (new_asked s (RequestEvent tx touched)) ≡ g.asked
+none_asks g s tx touched o b e f n = ap (with_one g.asked) (ap (λ x. asks_by_stage tx x (seen_fits s.local.epoch (epoch_in s.shard touched))) e ∙ ap (asks_by_stage tx o) f ∙ n)
+
+asks_unseen : (tx : TxId) (o : Option Stage) → asks_by_stage tx o false ≡ None
+asks_unseen tx None = refl
+asks_unseen tx (Some Active) = refl
+asks_unseen tx (Some Closed) = refl
+asks_unseen tx (Some (Gone d)) = refl
+
+request_stage : (all : List Item) (g : Past) (s : Shard) (tx : TxId) (touched : List (ℕ × ℕ)) (o : Option Stage) → Sound all g s → MayAsk g.asked s tx → stage_of s.local tx ≡ o → seen_fits s.local.epoch (epoch_in s.shard touched) ≡ true → Keeps_reply all g s (RequestEvent tx touched) (request_by_stage s tx touched o)
+request_stage all g s tx touched None h may e f = ends all g s (coordinate tx touched s) (RequestEvent tx touched) _ (refl, none_asks g s tx touched None true e f refl, refl) refl (at_once all g _ (coordinated all g s tx touched h (inl (false_from_ne_true _ (λ c. both_ways _ may.0 (h.asked tx c)))) may.1))
+request_stage all g s tx touched (Some Closed) h may e f = ends all g s s (RequestEvent tx touched) _ (refl, none_asks g s tx touched (Some Closed) true e f refl, refl) refl (at_once all g s h)
+request_stage all g s tx touched (Some (Gone None)) h may e f = ends all g s s (RequestEvent tx touched) _ (refl, none_asks g s tx touched (Some (Gone None)) true e f refl, refl) refl (at_once all g s h)
+request_stage all g s tx touched (Some (Gone (Some d))) h may e f = ends all g s s (RequestEvent tx touched) _ (refl, none_asks g s tx touched (Some (Gone (Some d))) true e f refl, refl) refl (at_once all g s h)
+request_stage all g s tx touched (Some Active) h may e f =
+    let r = finish_sound all (record g { asked = g.asked ++ tx ∷ [] }) (coordinate tx touched (with_local (close_part tx s.shard (is_alone (others s.shard touched))) s)) (asked_sound all g s tx touched h e may.1 may.2) in
+    does (r.0, r.1, r.2, r.3, r.4 ∙ sym (ap (with_one g.asked) (ap (λ x. asks_by_stage tx x (seen_fits s.local.epoch (epoch_in s.shard touched))) e ∙ ap (asks_by_stage tx (Some Active)) f)), r.5, (λ u n. absurd (none_told u n)), r.6)
+
+request : (all : List Item) (g : Past) (s : Shard) (tx : TxId) (touched : List (ℕ × ℕ)) (b : Bool) → Sound all g s → MayAsk g.asked s tx → seen_fits s.local.epoch (epoch_in s.shard touched) ≡ b → Keeps_reply all g s (RequestEvent tx touched) (request_event s tx touched b)
+request all g s tx touched true h may f = request_stage all g s tx touched (stage_of s.local tx) h may refl f
+request all g s tx touched false h may f = ends all g s s (RequestEvent tx touched) _ (refl, none_asks g s tx touched (stage_of s.local tx) false refl f (asks_unseen tx (stage_of s.local tx)), refl) refl (at_once all g s h)
+
+-- ---- the others
+
+some_tx : (a b : TxId) → Some a ≡ Some b → a ≡ b
+some_tx a b e = cc
+
+-- whose COMMIT is durable may be told so
+add_over : (all : List Item) (g : Past) (s : Shard) (tx : TxId) → Sound all g s → has_durable_commit (facts_of s tx) ≡ true → Sound all (record g { over = tx ∷ g.over }) s
+add_over all g s tx h d =
+    let k = h.kept in
+    record {
+      kept = record {
+        start_rises = k.start_rises;
+        base_value = k.base_value;
+        base_chain = k.base_chain;
+        base_done = k.base_done;
+        runs = k.runs;
+        standing_is = k.standing_is;
+        rises = k.rises;
+        values = k.values;
+        logged = k.logged;
+        rows = k.rows;
+        covered = k.covered;
+        wrote = k.wrote;
+        known = k.known;
+        uncommitted = k.uncommitted;
+        closed = k.closed;
+        over = λ u o. ⊎_elim (λ e. inl (subst (λ z. has_durable_commit (facts_of s z) ≡ true) (tx_true tx u e) d)) (λ i. k.over u i) (or_cases (tx_same tx u) (tx_in u g.over) o);
+        dead = k.dead;
+        tidy = k.tidy;
+        doomed = k.doomed;
+        successors = k.successors;
+        downwards = k.downwards;
+        order = k.order;
+        causes = k.causes;
+        recover = λ t p e. ⊎_elim (λ o. inl (o.0, o.1, neither (tx_same tx t) (tx_in t g.over) (tx_ne tx t (λ s2. both_ways _ o.0 (subst (λ z. committed_in s.local.log z ≡ true) s2 (durable_committed s.local.log s.durable tx d)))) o.2)) (λ x. inr x) (k.recover t p e);
+        front = k.front;
+      };
+      told = λ u. ⊎_elim (λ l. inl (l.0, l.1, out (tx_same tx u) (tx_in u g.over) (tx_ne tx u (λ e. both_ways _ l.0 (subst (λ z. committed_in s.local.log z ≡ true) e (durable_committed s.local.log s.durable tx d)))) l.2)) (λ e. inr e) (h.told u);
+      undecided = h.undecided;
+      readers = λ u q e f. or_right (tx_same tx u) _ (h.readers u q e f);
+      apart = h.apart;
+      unvoted = h.unvoted;
+      read = h.read;
+      asked = h.asked;
+    }
+  where
+    neither : (a b : Bool) → a ≡ false → b ≡ false → (a || b) ≡ false
+    neither true b e f = e
+    neither false b e f = f
+
+    out : (a b : Bool) → a ≡ false → b ≡ false → (a || b) ≡ false
+    out true b e f = e
+    out false b e f = f
+
+lost : (all : List Item) (g : Past) (s : Shard) (tx : TxId) (e : Option ℕ) → Sound all g s → Keeps_reply all g s (Look tx) (look_lost s tx e)
+lost all g s tx None h = early
+lost all g s tx (Some e) h = at_cond all g s (Look tx) (e == s.local.epoch) (QuietBeforeWorn NotYet) (Does (Aborted (RestartedCause s.shard e s.local.epoch)) (finish s)) early (ends all g s s (Look tx) _ (refl, refl, refl) refl (at_once all g s h))
+
+ruled : (all : List Item) (g : Past) (s : Shard) (tx : TxId) (r : RequestState) → Sound all g s → (r ≡ Finished → tx_in tx g.over ≡ true) → Keeps_reply all g s (Look tx) (look_state s r)
+ruled all g s tx Undecided h f = early
+ruled all g s tx (Committed ps) h f = early
+ruled all g s tx Finished h f = ends_told all g s s (Look tx) _ (refl, refl, refl) (g, h, refl, refl, refl, (λ u o. o), refl) (λ u n. ap (λ z. tx_in z g.over) (sym (some_tx tx u n)) ∙ f refl)
+ruled all g s tx (Refused c) h f = ends all g s s (Look tx) _ (refl, refl, refl) refl (at_once all g s h)
+
+known : (all : List Item) (g : Past) (s : Shard) (tx : TxId) (q : Option Request) → Sound all g s → tx_get tx s.requests ≡ q → Keeps_reply all g s (Look tx) (look_known s tx q)
+known all g s tx None h e = at_cond all g s (Look tx) (committed_in s.local.log tx) (QuietBeforeWorn NotYet) (look_lost s tx (request_epoch s.shard tx s.journal)) early (lost all g s tx (request_epoch s.shard tx s.journal) h)
+known all g s tx (Some q) h e = ruled all g s tx q.state h (h.readers tx q e)
+
+looked : (all : List Item) (g : Past) (s : Shard) (tx : TxId) → Sound all g s → Keeps_reply all g s (Look tx) (look_event s tx)
+looked all g s tx h = at (has_durable_commit (facts_of s tx)) refl
+  where
+    at : (b : Bool) → has_durable_commit (facts_of s tx) ≡ b → Keeps_reply all g s (Look tx) (cond b (Does Acknowledged (finish s)) (look_known s tx (tx_get tx s.requests)))
+    at true d = ends_told all g s s (Look tx) Acknowledged (refl, refl, refl) (record g { over = tx ∷ g.over }, add_over all g s tx h d, refl, refl, refl, (λ u o. or_right (tx_same tx u) _ o), refl) (λ u n. or_left _ _ (tx_eq tx u (some_tx tx u n)))
+    at false d = known all g s tx (tx_get tx s.requests) h refl
+
+dropped : (all : List Item) (g : Past) (s : Shard) (tx : TxId) (o : Option Stage) → Sound all g s → (stage_of s.local tx ≡ Some Closed → committed_in s.local.log tx ≡ false) → Keeps_reply all g s (Drop tx) (drop_event s tx o)
+dropped all g s tx None h n = early
+dropped all g s tx (Some st) h n =
+    let a = dies_if all g s tx (is_present (stage_of s.local tx)) h (open_ (stage_of s.local tx) refl) in
+    let m = marked_sound all a.0 (record s { local = without_part tx s.local }) tx a.1 in
+    ends all g s (with_local (drop_part tx) s) (Drop tx) _ (refl, refl, refl) refl
+    (a.0, record { kept = m.kept; told = m.told; undecided = m.undecided; readers = m.readers; apart = m.apart; unvoted = m.unvoted; read = m.read; asked = m.asked }, a.2, a.3, a.4, a.5, a.6)
+  where
+    open_ : (o : Option Stage) → stage_of s.local tx ≡ o → is_present o ≡ true → committed_in s.local.log tx ≡ false
+    open_ None e p = absurd (both_ways false refl p)
+    open_ (Some Active) e p = h.kept.uncommitted tx e
+    open_ (Some Closed) e p = n e
+    open_ (Some (Gone d)) e p = absurd (both_ways false refl p)
+
+quietly : (all : List Item) (g : Past) (s u : Shard) (e : Event) (o : Outcome) → Same all g s e o → new_told e o ≡ None → Sound all g u → Keeps_reply all g s e (Does o (finish u))
+quietly all g s u e o same none h = ends all g s u e o same none (at_once all g u h)
+
+sent : (all : List Item) (g : Past) (s : Shard) (ms : List Message) → Sound all g s → Keeps_reply all g s Send (send_event s ms)
+sent all g s [] h = early
+sent all g s (m ∷ ms) h = quietly all g s (with_outbox ms s) Send _ (refl, refl, refl) refl (record { kept = h.kept; told = h.told; undecided = h.undecided; readers = h.readers; apart = h.apart; unvoted = h.unvoted; read = h.read; asked = h.asked })
+
+reminded : (all : List Item) (g : Past) (s : Shard) (out ms : List Message) → Sound all g s → Keeps_reply all g s Remind (remind_with s out ms)
+reminded all g s [] [] h = early
+reminded all g s [] (m ∷ ms) h = quietly all g s (send (m ∷ ms) s) Remind _ (refl, refl, refl) refl (record { kept = h.kept; told = h.told; undecided = h.undecided; readers = h.readers; apart = h.apart; unvoted = h.unvoted; read = h.read; asked = h.asked })
+reminded all g s (o ∷ os) ms h = early
+
+flushed : (all : List Item) (g : Past) (s : Shard) (f : Option ℕ) (n : ℕ) → Sound all g s → Keeps_reply all g s FlushOut (out_event s f n)
+flushed all g s None zero h = early
+flushed all g s (Some m) zero h = early
+flushed all g s (Some m) (suc n) h = early
+flushed all g s None (suc n) h = quietly all g s (with_flight (s.durable + suc n) s) FlushOut _ (refl, refl, refl) refl (record { kept = keeps_flight g (view_of s) (s.durable + suc n) h.kept (omega arith); told = h.told; undecided = h.undecided; readers = h.readers; apart = h.apart; unvoted = h.unvoted; read = h.read; asked = h.asked })
+
+-- ---- messages that come
+
+owed : (all : List Item) (g : Past) (s : Shard) (tx : TxId) (home seen : ℕ) → Sound all g s → tx_get tx s.requests ≡ None → (wrote_in s.local.log tx ≡ false → committed_in s.local.log tx ≡ false) → Sound all g (owe_vote tx home seen s)
+owed all g s tx home seen h no_request open_ = record {
+  kept = h.kept;
+  told = h.told;
+  undecided = h.undecided;
+  readers = h.readers;
+  apart = λ u v e. at u v (tx_same u tx) refl (sym (get_put tx u (asked_voter home seen (tx_get tx s.voters)) s.voters) ∙ e);
+  unvoted = λ u v e. open_at u v (tx_same u tx) refl (sym (get_put tx u (asked_voter home seen (tx_get tx s.voters)) s.voters) ∙ e);
+  read = λ u v e f. read_at u v (tx_same u tx) refl (sym (get_put tx u (asked_voter home seen (tx_get tx s.voters)) s.voters) ∙ e) f;
+  asked = h.asked;
+}
+  where
+    some_voter : (v w : Voter) → Some v ≡ Some w → v ≡ w
+    some_voter v w e = cc
+
+    none_read : ◌≡◌ {A = Option Vote} None (Some Read) → ⊥
+    none_read e = absurd cc
+
+    same_vote : (o : Option Voter) → tx_get tx s.voters ≡ o → (asked_voter home seen o).vote ≡ Some Read → stage_of s.local tx ≡ Some (Gone None)
+    same_vote None e f = absurd (none_read f)
+    same_vote (Some w) e f = h.read tx w e f
+
+    read_at : (u : TxId) (v : Voter) (b : Bool) → tx_same u tx ≡ b → cond b (Some (asked_voter home seen (tx_get tx s.voters))) (tx_get u s.voters) ≡ Some v → v.vote ≡ Some Read → stage_of s.local u ≡ Some (Gone None)
+    read_at u v true t e f = ap (stage_of s.local) (tx_true u tx t) ∙ same_vote (tx_get tx s.voters) refl (ap (λ z. z.vote) (some_voter _ v e) ∙ f)
+    read_at u v false t e f = h.read u v e f
+
+    at : (u : TxId) (v : Voter) (b : Bool) → tx_same u tx ≡ b → cond b (Some (asked_voter home seen (tx_get tx s.voters))) (tx_get u s.voters) ≡ Some v → tx_get u s.requests ≡ None
+    at u v true t e = ap (λ z. tx_get z s.requests) (tx_true u tx t) ∙ no_request
+    at u v false t e = h.apart u v e
+
+    open_at : (u : TxId) (v : Voter) (b : Bool) → tx_same u tx ≡ b → cond b (Some (asked_voter home seen (tx_get tx s.voters))) (tx_get u s.voters) ≡ Some v → wrote_in s.local.log u ≡ false → committed_in s.local.log u ≡ false
+    open_at u v true t e = subst (λ z. wrote_in s.local.log z ≡ false → committed_in s.local.log z ≡ false) (sym (tx_true u tx t)) open_
+    open_at u v false t e = h.unvoted u v e
+
+prepares : (all : List Item) (g : Past) (s : Shard) (m : Message) (stamp : ℕ) (tx : TxId) (home seen : ℕ) (o : Option Stage) → Sound all g s → stage_of s.local tx ≡ o → tx_in tx g.asked ≡ true → tx_get tx s.requests ≡ None → (wrote_in s.local.log tx ≡ false → committed_in s.local.log tx ≡ false) → Keeps_reply all g s (Deliver m stamp) (on_prepare s tx home seen o)
+prepares all g s m stamp tx home seen None h st asks none open_ = at_cond all g s (Deliver m stamp) (seen == s.local.epoch) (QuietBeforeWorn Stale) (Does Taken (finish (owe_vote tx home seen s))) early (quietly all g s (owe_vote tx home seen s) (Deliver m stamp) Taken (refl, refl, refl) refl (owed all g s tx home seen h none open_))
+prepares all g s m stamp tx home seen (Some Closed) h st asks none open_ = quietly all g s (owe_vote tx home seen s) (Deliver m stamp) Taken (refl, refl, refl) refl (owed all g s tx home seen h none open_)
+prepares all g s m stamp tx home seen (Some (Gone d)) h st asks none open_ = quietly all g s (owe_vote tx home seen s) (Deliver m stamp) Taken (refl, refl, refl) refl (owed all g s tx home seen h none open_)
+prepares all g s m stamp tx home seen (Some Active) h st asks none open_ =
+    quietly all g s (owe_vote tx home seen (with_local (close_part tx home false) s)) (Deliver m stamp) Taken (refl, refl, refl) refl
+    (owed all g (with_local (close_part tx home false) s) tx home seen
+    (closed_sound all g s tx home false h st asks (λ u q e un. tx_ne u tx (λ same. none_request q (sym none ∙ ap (λ z. tx_get z s.requests) (sym same) ∙ e))) (λ v e. refl)) none
+    (λ w. uncommitted_append s.local.log _ tx (h.kept.uncommitted tx st) (prepared (wrote_in s.local.log tx) (undecided_of s.local tx))))
+  where
+    none_request : (q : Request) → ◌≡◌ {A = Option Request} None (Some q) → ⊥
+    none_request q e = absurd cc
+
+    prepared : (wrote : Bool) (ps : List TxId) → committed_in (closing wrote false tx home ps) tx ≡ false
+    prepared true ps = refl
+    prepared false ps = refl
+
+-- a request with its ruling as it was
+same_ruling : (all : List Item) (g : Past) (s : Shard) (tx : TxId) (q w : Request) → Sound all g s → tx_get tx s.requests ≡ Some q → w.state ≡ q.state → (q.state ≡ Undecided → Open s.shard s.local.log tx w) → Sound all g (record s { requests = tx_set tx w s.requests })
+same_ruling all g s tx q w h e r open_ = record {
+  kept = h.kept;
+  told = h.told;
+  undecided = λ u p f un. ⊎_elim (λ i. subst (λ z. Open s.shard s.local.log z p) (sym i.0) (subst (Open s.shard s.local.log tx) (sym i.1) (open_ (sym r ∙ ap (λ z. z.state) (sym i.1) ∙ un)))) (λ i. h.undecided u p i.1 un) (get_set tx u w p s.requests f);
+  readers = λ u p f un. ⊎_elim (λ i. subst (λ z. tx_in z g.over ≡ true) (sym i.0) (h.readers tx q e (sym r ∙ ap (λ z. z.state) (sym i.1) ∙ un))) (λ i. h.readers u p i.1 un) (get_set tx u w p s.requests f);
+  apart = λ u v f. set_none tx u w s.requests (h.apart u v f);
+  unvoted = h.unvoted;
+  read = h.read;
+  asked = h.asked;
+}
+
+-- a vote is taken only of another shard
+votes_open : (all : List Item) (g : Past) (s : Shard) (tx : TxId) (from : ℕ) (v : Vote) (q : Request) → Sound all g s → tx_get tx s.requests ≡ Some q → takes_vote s.shard from q ≡ true → q.state ≡ Undecided → Open s.shard s.local.log tx (with_vote_of from v q)
+votes_open all g s tx from v q h e takes un =
+    ⊎_elim (λ c. inl c) (λ c. absurd (none (others s.shard q.touched) c.0 (ap (counts_vote s.shard from q) (sym un) ∙ takes))) (h.undecided tx q e un)
+  where
+    none : (os : List ℕ) → os ≡ [] → (nat_in from os && not (is_some (vote_from from q.votes))) ≡ true → ⊥
+    none os z t = both_ways false refl (sym (ap (λ l. nat_in from l && not (is_some (vote_from from q.votes))) z) ∙ t)
+
+votes : (all : List Item) (g : Past) (s : Shard) (m : Message) (stamp : ℕ) (tx : TxId) (from : ℕ) (v : Vote) (o : Option Request) → Sound all g s → tx_get tx s.requests ≡ o → Keeps_reply all g s (Deliver m stamp) (on_vote s tx from v o)
+votes all g s m stamp tx from v None h e = early
+votes all g s m stamp tx from v (Some q) h e = at (takes_vote s.shard from q) refl
+  where
+    at : (b : Bool) → takes_vote s.shard from q ≡ b → Keeps_reply all g s (Deliver m stamp) (cond b (Does Taken (finish (with_votes tx from v q s))) (QuietBeforeWorn Stale))
+    at true t = quietly all g s (with_votes tx from v q s) (Deliver m stamp) Taken (refl, refl, refl) refl (same_ruling all g s tx q (with_vote_of from v q) h e refl (λ un. votes_open all g s tx from v q h e t un))
+    at false t = early
+
+dones : (all : List Item) (g : Past) (s : Shard) (m : Message) (stamp : ℕ) (tx : TxId) (from : ℕ) (o : Option Request) → Sound all g s → tx_get tx s.requests ≡ o → Keeps_reply all g s (Deliver m stamp) (on_done s tx from o)
+dones all g s m stamp tx from None h e = early
+dones all g s m stamp tx from (Some q) h e =
+    at_cond all g s (Deliver m stamp) (takes_done from q) (Does Taken (finish (with_done tx from q s))) (QuietBeforeWorn Stale)
+    (quietly all g s (with_done tx from q s) (Deliver m stamp) Taken (refl, refl, refl) refl (same_ruling all g s tx q (with_done_of from q) h e refl (λ un. h.undecided tx q e un))) early
+
+commit_sound : (all : List Item) (g : Past) (s : Shard) (tx : TxId) → Sound all g s → stage_of s.local tx ≡ Some Closed → committed_in s.local.log tx ≡ false → predecessors_committed s.local tx ≡ true → wrote_in s.local.log tx ≡ true → ((q : Request) → tx_get tx s.requests ≡ Some q → q.state ≡ Undecided → ⊥) → Sound all g (decided s tx true)
+commit_sound all g s tx h closed open_ before w none = record {
+  kept = commit_here all g s tx [] h closed open_ (λ p e. list_all_at (committed_in s.local.log) p (predecessors_of s.local.pairs tx) before (pair_in s.local.pairs tx p e));
+  told = λ u. ⊎_elim (λ l. inl (commit_other s.local.log tx u [] l.0 (tx_ne u tx (λ e. both_ways _ l.1 (ap is_present (ap (stage_of s.local) e ∙ closed)))), l.1, l.2)) (λ e. inr e) (h.told u);
+  undecided = λ u q e un. ⊎_elim (λ c. inl (commit_other s.local.log tx u [] c (tx_ne u tx (λ same. none q (ap (λ z. tx_get z s.requests) (sym same) ∙ e) un)))) (λ c. inr c) (h.undecided u q e un);
+  readers = h.readers;
+  apart = h.apart;
+  unvoted = λ u v e x. let y : wrote_in s.local.log u ≡ false = false_from_ne_true _ (λ z. both_ways _ x (list_any-append (is_update_of u) s.local.log (Commit tx [] ∷ []) ∙ or_left _ _ z)) in
+      commit_other s.local.log tx u [] (h.unvoted u v e y) (tx_ne u tx (λ same. both_ways _ y (ap (wrote_in s.local.log) same ∙ w)));
+  read = h.read;
+  asked = commit_asked all g s tx [] h closed;
+}
+
+decides : (all : List Item) (g : Past) (s : Shard) (m : Message) (stamp : ℕ) (tx : TxId) (home : ℕ) (commit : Bool) → Sound all g s → (commit ≡ true → (predecessors_committed s.local tx ≡ true) × (wrote_in s.local.log tx ≡ true) × ((q : Request) → tx_get tx s.requests ≡ Some q → q.state ≡ Undecided → ⊥))
+    → Keeps_reply all g s (Deliver m stamp) (on_decide s tx home commit (taken_by (facts_of s tx) commit))
+decides all g s m stamp tx home commit h may = at (is_waiting (facts_of s tx)) (commit && has_durable_commit (facts_of s tx)) refl
+  where
+    decided_after : (c : Bool) → commit ≡ c → is_waiting (facts_of s tx) ≡ true → After all g (decided s tx c)
+    decided_after true e w = let x = waiting_here s tx w in let y = may e in at_once all g _ (commit_sound all g s tx h x.0 x.1 y.0 y.1 y.2)
+    decided_after false e w = rolled all g s tx h (waiting_here s tx w).1
+
+    at : (b c : Bool) → is_waiting (facts_of s tx) ≡ b → Keeps_reply all g s (Deliver m stamp) (on_decide s tx home commit (taken_if b c))
+    at true c w = ends all g s (decided s tx commit) (Deliver m stamp) Taken (refl, refl, refl) refl (decided_after commit refl w)
+    at false true w = quietly all g s (send (Done home tx s.shard ∷ []) s) (Deliver m stamp) Taken (refl, refl, refl) refl (record { kept = h.kept; told = h.told; undecided = h.undecided; readers = h.readers; apart = h.apart; unvoted = h.unvoted; read = h.read; asked = h.asked })
+    at false false w = early
+
+message : (all : List Item) (g : Past) (s : Shard) (m : Message) (stamp : ℕ) → Sound all g s → MayDeliver g.asked s m → Keeps_reply all g s (Deliver m stamp) (on_message s m)
+message all g s (PrepareMessage to tx home seen) stamp h may = prepares all g s (PrepareMessage to tx home seen) stamp tx home seen (stage_of s.local tx) h refl may.0 may.1 may.2
+message all g s (VoteMessage to tx from vote) stamp h may = votes all g s (VoteMessage to tx from vote) stamp tx from vote (tx_get tx s.requests) h refl
+message all g s (Decide to tx home true) stamp h may = decides all g s (Decide to tx home true) stamp tx home true h (λ e. may)
+message all g s (Decide to tx home false) stamp h may = decides all g s (Decide to tx home false) stamp tx home false h (λ e. absurd (both_ways false refl e))
+message all g s (Done to tx from) stamp h may = dones all g s (Done to tx from) stamp tx from (tx_get tx s.requests) h refl
+message all g s (Ask to tx from) stamp h may = quietly all g s (send (ask_messages s tx from (ask_answer (tx_get tx s.requests) (facts_of s tx))) s) (Deliver (Ask to tx from) stamp) Taken (refl, refl, refl) refl (record { kept = h.kept; told = h.told; undecided = h.undecided; readers = h.readers; apart = h.apart; unvoted = h.unvoted; read = h.read; asked = h.asked })
+
+up : (all : List Item) (g : Past) (s : Shard) (e : Event) → Sound all g s → MayHappen all g.asked g.met s e → Keeps_reply all g s e (happen_up s e)
+up all g s (OpEvent tx birth nth seen op) h may = operation all g s tx birth nth seen op (seen_fits s.local.epoch seen) h may refl
+up all g s (RequestEvent tx touched) h may = request all g s tx touched (seen_fits s.local.epoch (epoch_in s.shard touched)) h may refl
+up all g s (Look tx) h may = looked all g s tx h
+up all g s (Drop tx) h may = dropped all g s tx (stage_of s.local tx) h may
+up all g s Send h may = sent all g s s.outbox h
+up all g s (Deliver m stamp) h may = at_cond all g s (Deliver m stamp) (to_of m == s.shard) (on_message s m) (QuietBeforeWorn Stale) (message all g s m stamp h may) early
+up all g s Remind h may = reminded all g s s.outbox (reminders s) h
+up all g s FlushOut h may = flushed all g s s.flight _ h
+up all g s FlushIn h may = early
+up all g s Stop h may = does (g, record { kept = h.kept; told = h.told; undecided = h.undecided; readers = h.readers; apart = h.apart; unvoted = h.unvoted; read = h.read; asked = h.asked }, refl, refl, refl, (λ u o. o), (λ u n. absurd (none_told u n)), refl)
+up all g s RestartEvent h may = early
+
+all_events : (all : List Item) (g : Past) (s : Shard) (e : Event) (b : Bool) → Sound all g s → MayHappen all g.asked g.met s e → Keeps_reply all g s e (elim b [ true ↦ happen_up s e | false ↦ QuietBeforeWorn Down ])
+all_events all g s e true h may = up all g s e h may
+all_events all g s e false h may = early
+
+from_reply : (all : List Item) (g : Past) (s : Shard) (e : Event) (o : Outcome) (t : Shard) → Keeps_reply all g s e (Does o t) → Later all g s e o t
+from_reply all g s e o t (does l) = l
+
+-- every event keeps it
+pub happen_sound : (all : List Item) (g : Past) (s : Shard) (e : Event) (o : Outcome) (t : Shard) → Sound all g s → MayHappen all g.asked g.met s e → happen s e ≡ Does o t → Later all g s e o t
+happen_sound all g s e o t h may eq = from_reply all g s e o t (subst (Keeps_reply all g s e) eq (all_events all g s e s.is_up h may))
+
+-- and so does the end of a flush
+pub landed_sound : (all : List Item) (g : Past) (s : Shard) (n : ℕ) → Sound all g s → s.flight ≡ Some n → After all g (finish (with_durable n s))
+landed_sound all g s n h e = finish_sound all g (with_durable n s) (record { kept = keeps_front g (view_of s) n h.kept (h.kept.front n e); told = h.told; undecided = h.undecided; readers = h.readers; apart = h.apart; unvoted = h.unvoted; read = h.read; asked = h.asked })
+
+pub failed_sound : (all : List Item) (g : Past) (s : Shard) → Sound all g s → Sound all g (put_down s)
+failed_sound all g s h = record { kept = h.kept; told = h.told; undecided = h.undecided; readers = h.readers; apart = h.apart; unvoted = h.unvoted; read = h.read; asked = h.asked }

@@ -1,0 +1,199 @@
+-- Each history of one shard keeps what a shard keeps, so its members are a serial run.
+use Rattle.std.proofs.Common.{◌≡◌, ℕ, ◌<◌, inr, ⊎_elim, Bool, true, false, ◌||◌, List, [], ◌∷◌, ◌++◌, Option, Some, None, refl, sym, ap, subst, ◌∙◌}
+use Rattle.std.proofs.lemmas.Bool.{both_ways, or_cases}
+use Rattle.std.proofs.lemmas.List.Folds.{list_any-append}
+use Rattle.clv_base.specs.declared.names.TxId.{TxId}
+use Rattle.clv_base.specs.declared.state.Stage.{Stage}
+use Rattle.clv_base.specs.declared.state.Stage.TheVariants.{Active, Closed, Gone}
+use Rattle.clv_base.specs.Orders.{tx_same, tx_in}
+use Rattle.law_base.specs.Items.{Item}
+use Rattle.clv_base.proofs.SameNames.{tx_true, tx_eq, tx_ne}
+use Rattle.law_base.proofs.Tables.{is_pair}
+use Rattle.shard_laws.proofs.Kept.{Past, place}
+use Rattle.std.specs.Prelude.{take}
+use Rattle.clv_base.specs.declared.events.Event.{Event}
+use Rattle.clv_base.specs.declared.events.Event.TheVariants.{Op as OpEvent, Request as RequestEvent, Look, Drop, Send, Deliver, Remind, FlushOut, FlushIn, Stop, Restart as RestartEvent}
+use Rattle.clv_base.specs.declared.events.Outcome.{Outcome}
+use Rattle.clv_base.specs.declared.events.Outcome.TheVariants.{Up}
+use Rattle.clv_base.specs.Maps.{replay_map, replay_answers}
+use Rattle.clv_base.specs.Logs.{stands}
+use Rattle.clv_base.specs.State.{Shard}
+use Rattle.clv_base.specs.Undo.{stage_of}
+use Rattle.clv_base.specs.Events.{Reply, Does, landed, with_entry, put_down, epoch_in}
+use Rattle.clv_base.specs.OneShard.{seen_fits}
+use Rattle.clv_base.specs.Restarts.{opened, revived}
+use Rattle.shard_laws.specs.OneShard.{with_one, asks_by_stage, new_asked, MayHappen, Leads, opens, happens, lands, others_ask, revives, new_told, members_of, ops_by, answers_by, AnswersAndMap, Recoverable, new_met}
+use Rattle.shard_laws.proofs.Sound.{Sound, After, More_over, at_once}
+use Rattle.shard_laws.proofs.Reviving.{revived_sound}
+use Rattle.shard_laws.proofs.Happening.{happen_sound, landed_sound, failed_sound, others_asked}
+use Rattle.shard_laws.proofs.Serial.{Once}
+use Rattle.shard_laws.proofs.Members.{serial_run, recovered}
+
+none_stage : (s : Stage) → ◌≡◌ {A = Option Stage} None (Some s) → ⊥
+none_stage s e = absurd cc
+
+none_number : (n : ℕ) → ◌≡◌ {A = Option ℕ} None (Some n) → ⊥
+none_number n e = absurd cc
+
+abbrev nothing : Past
+nothing = record { start = []; base = []; items = []; asked = []; over = []; met = [] }
+
+-- an empty shard
+sound_opened : (run : ℕ) → Sound [] nothing (opened 0 run [])
+sound_opened run = record {
+  kept = record {
+    start_rises = tt;
+    base_value = λ k. refl;
+    base_chain = tt;
+    base_done = tt;
+    runs = tt;
+    standing_is = refl;
+    rises = tt;
+    values = λ k. refl;
+    logged = tt;
+    rows = tt;
+    covered = tt;
+    wrote = tt;
+    known = tt;
+    uncommitted = λ t e. absurd (none_stage Active e);
+    closed = λ t e. absurd (none_stage Closed e);
+    over = λ t e. absurd (both_ways false refl e);
+    dead = λ t e. absurd (both_ways false refl e);
+    tidy = (tt, tt);
+    doomed = λ t d e. absurd (none_stage (Gone (Some d)) e);
+    successors = λ t p e. absurd (both_ways false refl e);
+    downwards = λ t p e c. absurd (both_ways false refl e);
+    order = tt;
+    causes = tt;
+    recover = λ t p e. absurd (both_ways false refl e);
+    front = λ n e. absurd (none_number n e);
+  };
+  told = λ t. inr refl;
+  undecided = λ t q e u. absurd (none_request q e);
+  readers = λ t q e u. absurd (none_request q e);
+  apart = λ t v e. absurd (none_request v e);
+  unvoted = λ t v e. absurd (none_request v e);
+  read = λ t v e. absurd (none_request v e);
+  asked = λ t e. absurd (both_ways false refl e);
+}
+  where
+    none_request : {X : Type 0} (x : X) → ◌≡◌ {A = Option X} None (Some x) → ⊥
+    none_request x e = absurd cc
+
+noted : (all : List Item) (g : Past) (s : Shard) (stamp walker : ℕ) (e : Event) (o : Outcome) → Sound all g s → Sound all g (with_entry stamp walker e o s)
+noted all g s stamp walker e o h = record { kept = h.kept; told = h.told; undecided = h.undecided; readers = h.readers; apart = h.apart; unvoted = h.unvoted; read = h.read; asked = h.asked }
+
+-- ---- who asks, asks once
+
+some_tx : (a b : TxId) → Some a ≡ Some b → a ≡ b
+some_tx a b e = cc
+
+none_tx : (a : TxId) → ◌≡◌ {A = Option TxId} None (Some a) → ⊥
+none_tx a e = absurd cc
+
+asks_active : (t u : TxId) (o : Option Stage) (b : Bool) → asks_by_stage t o b ≡ Some u → (o ≡ Some Active) × (t ≡ u)
+asks_active t u None b e = absurd (none_tx u e)
+asks_active t u (Some Active) true e = (refl, some_tx t u e)
+asks_active t u (Some Active) false e = absurd (none_tx u e)
+asks_active t u (Some Closed) b e = absurd (none_tx u e)
+asks_active t u (Some (Gone d)) b e = absurd (none_tx u e)
+
+asked_new : (all : List Item) (asked : List TxId) (met : List (TxId × TxId)) (s : Shard) (e : Event) (u : TxId) → MayHappen all asked met s e → new_asked s e ≡ Some u → tx_in u asked ≡ false
+asked_new all asked met s (OpEvent tx birth nth seen op) u may e = absurd (none_tx u e)
+asked_new all asked met s (RequestEvent tx touched) u may e = let a = asks_active tx u (stage_of s.local tx) (seen_fits s.local.epoch (epoch_in s.shard touched)) e in ap (λ z. tx_in z asked) (sym a.1) ∙ may.0
+asked_new all asked met s (Look tx) u may e = absurd (none_tx u e)
+asked_new all asked met s (Drop tx) u may e = absurd (none_tx u e)
+asked_new all asked met s Send u may e = absurd (none_tx u e)
+asked_new all asked met s (Deliver m stamp) u may e = absurd (none_tx u e)
+asked_new all asked met s Remind u may e = absurd (none_tx u e)
+asked_new all asked met s FlushOut u may e = absurd (none_tx u e)
+asked_new all asked met s FlushIn u may e = absurd (none_tx u e)
+asked_new all asked met s Stop u may e = absurd (none_tx u e)
+asked_new all asked met s RestartEvent u may e = absurd (none_tx u e)
+
+once_push : (as_ : List TxId) (t : TxId) → Once as_ → tx_in t as_ ≡ false → Once (as_ ++ t ∷ [])
+once_push [] t o e = (refl, tt)
+once_push (a ∷ rest) t o e =
+    (list_any-append (λ x. tx_same x a) rest (t ∷ []) ∙ both (tx_in a rest) (tx_same t a) o.0 (flip (left (tx_same a t) (tx_in t rest) e)), once_push rest t o.1 (right (tx_same a t) (tx_in t rest) e))
+  where
+    both : (p q : Bool) → p ≡ false → q ≡ false → (p || (q || false)) ≡ false
+    both true q e f = e
+    both false true e f = f
+    both false false e f = refl
+
+    left : (a b : Bool) → (a || b) ≡ false → a ≡ false
+    left true b e = e
+    left false b e = refl
+
+    right : (a b : Bool) → (a || b) ≡ false → b ≡ false
+    right true b e = absurd (both_ways true e refl)
+    right false b e = e
+
+    flip : tx_same a t ≡ false → tx_same t a ≡ false
+    flip e = tx_ne t a (λ s. both_ways _ e (tx_eq a t (sym s)))
+
+once_more : (as_ : List TxId) (o : Option TxId) → Once as_ → ((t : TxId) → o ≡ Some t → tx_in t as_ ≡ false) → Once (with_one as_ o)
+once_more as_ None h n = h
+once_more as_ (Some t) h n = once_push as_ t h (n t refl)
+
+-- ---- all histories
+
+data Landed (all : List Item) (g : Past) : Reply → Type 0 where
+  does : {o : Outcome} {t : Shard} → After all g t → Landed all g (Does o t)
+
+landed_any : (all : List Item) (g : Past) (s : Shard) (n : ℕ) (pushed : Bool) → Sound all g s → s.flight ≡ Some n → Landed all g (landed s n pushed)
+landed_any all g s n true h e = does (landed_sound all g s n h e)
+landed_any all g s n false h e = does (at_once all g (put_down s) (failed_sound all g s h))
+
+from_landed : (all : List Item) (g : Past) (o : Outcome) (t : Shard) → Landed all g (Does o t) → After all g t
+from_landed all g o t (does a) = a
+
+abbrev Over_all : List TxId → Past → Type 0
+Over_all told g = (t : TxId) → tx_in t told ≡ true → tx_in t g.over ≡ true
+
+told_more : (told : List TxId) (o : Option TxId) (g h : Past) → Over_all told g → More_over g h → ((u : TxId) → o ≡ Some u → tx_in u h.over ≡ true) → Over_all (with_one told o) h
+told_more told None g h a m n = λ t i. m t (a t i)
+told_more told (Some u) g h a m n = λ t i. ⊎_elim (λ j. m t (a t j)) (λ j. ⊎_elim (λ e. ap (λ z. tx_in z h.over) (sym (tx_true u t e)) ∙ n u refl) (λ e. absurd (both_ways false refl e)) (or_cases (tx_same u t) false j)) (or_cases (tx_in t told) _ (sym (list_any-append (λ x. tx_same x t) told (u ∷ [])) ∙ i))
+
+abbrev Holds : List Item → List TxId → List TxId → List (TxId × TxId) → Shard → Type 0
+Holds all asked told met s = (g : Past) × Sound all g s × (g.start ≡ []) × (g.base ≡ []) × (g.asked ≡ asked) × Once asked × Over_all told g × (g.met ≡ met)
+
+held : (run : ℕ) (all : List Item) (asked told : List TxId) (met : List (TxId × TxId)) (s : Shard) → Leads run all asked told met s → Holds all asked told met s
+held run _ _ _ _ _ opens = (nothing, sound_opened run, refl, refl, refl, tt, (λ t i. absurd (both_ways false refl i)), refl)
+held run _ _ _ _ _ (happens {all} {asked} {told} {met} {s} e o t stamp walker before may eq) =
+    let b = held run all asked told met s before in
+    let later = happen_sound all b.0 s e o t b.1 (subst (λ l. MayHappen all l (b.0).met s e) (sym b.4) (subst (λ m. MayHappen all asked m s e) (sym b.7) may)) eq in (
+      later.0,
+      noted _ later.0 t stamp walker e o later.1,
+      later.2 ∙ b.2,
+      later.3 ∙ b.3,
+      later.4 ∙ ap (λ l. with_one l (new_asked s e)) b.4,
+      once_more asked (new_asked s e) b.5 (λ u n. asked_new all asked met s e u may n),
+      told_more told (new_told e o) b.0 later.0 b.6 later.5 later.6,
+      later.7 ∙ ap (λ l. new_met s e o ++ l) b.7,
+    )
+held run _ _ _ _ _ (lands {all} {asked} {told} {met} {s} n pushed o t stamp walker before flies eq) =
+    let b = held run all asked told met s before in
+    let later = from_landed all b.0 o t (subst (Landed all b.0) eq (landed_any all b.0 s n pushed b.1 flies)) in
+    (later.0, noted all later.0 t stamp walker FlushIn o later.1, later.2 ∙ b.2, later.3 ∙ b.3, later.4 ∙ b.4, b.5, (λ u i. later.5 u (b.6 u i)), later.6 ∙ b.7)
+held run _ _ _ _ _ (others_ask {all} {asked} {told} {met} {s} t before new) =
+    let b = held run all asked told met s before in
+    (record b.0 { asked = (b.0).asked ++ t ∷ [] }, others_asked all b.0 s t b.1, b.2, b.3, ap (λ l. l ++ t ∷ []) b.4, once_push asked t b.5 new, b.6, b.7)
+held run _ _ _ _ _ (revives {all} {asked} {told} {met} {s} kept epoch log stamp walker before down homes leads) =
+    let b = held run all asked told met s before in
+    let later = revived_sound all told b.0 s kept epoch log b.1 homes (subst Once (sym b.4) b.5) b.6 leads in
+    (later.0, noted all later.0 (revived s epoch log) stamp walker RestartEvent (Up epoch) later.1, later.2 ∙ b.2, later.3 ∙ b.3, later.4 ∙ b.4, b.5, later.5, later.6 ∙ b.7)
+
+pub answers_and_map : AnswersAndMap
+answers_and_map run all asked told met s cut leads le =
+    let b = held run all asked told met s leads in
+    let r = serial_run all b.0 s told cut b.1 le (subst Once (sym b.4) b.5) b.6 in (
+      subst (λ l. replay_answers [] (ops_by (members_of s cut told l) all) ≡ answers_by (members_of s cut told l) all) b.4 (subst (λ m. replay_answers m (ops_by (members_of s cut told (b.0).asked) all) ≡ answers_by (members_of s cut told (b.0).asked) all) b.2 r.0),
+      subst (λ l. replay_map [] (ops_by (members_of s cut told l) all) ≡ stands (take cut s.local.log ∷ [])) b.4 (subst (λ m. replay_map m (ops_by (members_of s cut told (b.0).asked) all) ≡ stands (take cut s.local.log ∷ [])) b.2 r.1),
+    )
+
+pub recoverable : Recoverable
+recoverable run all asked told met s cut t p leads le e member =
+    let b = held run all asked told met s leads in
+    let r = recovered all b.0 s told cut b.1 le (subst Once (sym b.4) b.5) b.6 t p (subst (λ m. is_pair m t p ≡ true) (sym b.7) e) member in
+    (r.0, subst (λ l. place (members_of s cut told l) p < place (members_of s cut told l) t) b.4 r.1)

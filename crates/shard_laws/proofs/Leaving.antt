@@ -1,0 +1,459 @@
+-- A set of transactions leaves the shard: finished, or taken away with what it wrote.
+use Rattle.std.proofs.Common.{◌≡◌, ℕ, ◌⊎◌, inl, inr, ⊎_elim, Bool, true, false, cond, not, ◌||◌, List, [], ◌∷◌, ◌++◌, map, Option, Some, None, refl, sym, ap, subst, ◌∙◌, arith, append_assoc, eq-eqb}
+use Rattle.std.specs.List.{AllByRecursion, filter}
+use Rattle.std.proofs.lemmas.Bool.{cases_Bool, both_ways, cond_both, or_cases, not-true, false_from_ne_true}
+use Rattle.clv_base.specs.declared.names.TxId.{TxId}
+use Rattle.clv_base.specs.declared.logs.LogRecord.{LogRecord}
+use Rattle.clv_base.specs.declared.logs.LogRecord.TheVariants.{Clr, Abort}
+use Rattle.clv_base.specs.declared.modes.Part.{Part}
+use Rattle.clv_base.specs.declared.modes.Part.TheVariants.{S, X}
+use Rattle.clv_base.specs.declared.modes.Anchor.TheVariants.{Low, At}
+use Rattle.clv_base.specs.declared.state.Stage.{Stage}
+use Rattle.clv_base.specs.declared.state.Stage.TheVariants.{Active, Closed, Gone}
+use Rattle.clv_base.specs.declared.state.Held.{Held}
+use Rattle.clv_base.specs.Orders.{Table, tx_same, tx_in, tx_get}
+use Rattle.clv_base.specs.Logs.{StandingUpdate, standing, committed_in, wrote_in, is_commit_of}
+use Rattle.clv_base.specs.Locks.{Locks, release}
+use Rattle.clv_base.specs.Undo.{gone_part, gone_in, pairs_without, records_without, aborts_of, clrs_of}
+use Rattle.clv_base.specs.State.{is_present}
+use Rattle.clv_base.specs.Needs.{Records, lower_anchor}
+use Rattle.law_base.proofs.Cells.{record_at}
+use Rattle.law_base.specs.Items.{Item, wrote, AllLater, Reaches, pile, on_top, is_write_at}
+use Rattle.clv_base.proofs.SameNames.{or_left, tx_true, tx_self, tx_ne}
+use Rattle.law_base.proofs.Lists.{all_mono, all_both, all_filter, later_mono, later_filter}
+use Rattle.law_base.proofs.Running.{top_value, Keeps, kept_runs}
+use Rattle.law_base.specs.Undone.{stays_of}
+use Rattle.law_base.proofs.Undoing.{Chain, keeps_of, standing_undone, values_undone, HaveRecords, Upward, record_undone, pile_filter, filter_all, chain_pile, upward_pile, clear_base, upward_base}
+use Rattle.law_base.proofs.Anchors.{rising_undone, anchor_undone}
+use Rattle.shard_laws.proofs.LockRows.{holds, Rows, rows_release, release_holds}
+use Rattle.shard_laws.proofs.Asking.{holds_at, holds_by}
+use Rattle.law_base.proofs.Tables.{stage_in, stage_by, is_pair, get_changed, without_pairs, pairs_stay}
+use Rattle.law_base.proofs.Commits.{commit_durable, before_keeps, before_first, durable_keeps, durable_committed, before_durable, committed_append, uncommitted_append, committed_from}
+use Rattle.shard_laws.proofs.Kept.{View, Past, Belongs, Dep, Known, Kept, Ended, moves, Open_at, Tidy}
+use Rattle.shard_laws.specs.OneShard.{undone_in}
+use Rattle.clv_base.specs.Undo.{value_before}
+use Rattle.law_base.proofs.Undoing.{reset}
+use Rattle.clv_base.specs.Undo.{newest_lsn}
+use Rattle.shard_laws.proofs.Changes.{wrote_keeps, tidy_append, undone_append, wrote_append, ended_more}
+
+-- ---- parts that are gone
+
+get_gone : (set : List TxId) (d : Option TxId) (u : TxId) (parts : Table Held) → tx_get u (gone_in set d parts) ≡ elim (tx_get u parts) [ Some h ↦ Some (cond (tx_in u set) (gone_part d h) h) | None ↦ None ]
+get_gone set d u parts = get_changed (λ x. tx_in x set) (gone_part d) u parts
+
+same_part : (o : Option Held) → elim o [ Some h ↦ Some h | None ↦ None ] ≡ o
+same_part None = refl
+same_part (Some h) = refl
+
+pub get_other : (set : List TxId) (d : Option TxId) (u : TxId) (parts : Table Held) → tx_in u set ≡ false → tx_get u (gone_in set d parts) ≡ tx_get u parts
+get_other set d u parts e = get_gone set d u parts ∙ ap (λ b. elim (tx_get u parts) [ Some h ↦ Some (cond b (gone_part d h) h) | None ↦ None ]) e ∙ same_part (tx_get u parts)
+
+pub stage_other : (set : List TxId) (d : Option TxId) (u : TxId) (parts : Table Held) → tx_in u set ≡ false → stage_in (gone_in set d parts) u ≡ stage_in parts u
+stage_other set d u parts e = ap stage_by (get_other set d u parts e)
+
+abbrev pub gone_by : Option TxId → Option Stage → Option Stage
+gone_by d None = None
+gone_by d (Some s) = Some (Gone d)
+
+pub stage_own : (set : List TxId) (d : Option TxId) (u : TxId) (parts : Table Held) → tx_in u set ≡ true → stage_in (gone_in set d parts) u ≡ gone_by d (stage_in parts u)
+stage_own set d u parts e =
+    ap stage_by (get_gone set d u parts) ∙ ap (λ b. stage_by (elim (tx_get u parts) [ Some h ↦ Some (cond b (gone_part d h) h) | None ↦ None ])) e ∙ at (tx_get u parts)
+  where
+    at : (o : Option Held) → stage_by (elim o [ Some h ↦ Some (gone_part d h) | None ↦ None ]) ≡ gone_by d (stage_by o)
+    at None = refl
+    at (Some h) = refl
+
+gone_active : (d : Option TxId) (o : Option Stage) → gone_by d o ≡ Some Active → ⊥
+gone_active d None e = absurd cc
+gone_active d (Some s) e = absurd cc
+
+-- an active part was active, and is not of the set
+pub active_back : (set : List TxId) (d : Option TxId) (u : TxId) (parts : Table Held) → stage_in (gone_in set d parts) u ≡ Some Active → (tx_in u set ≡ false) × (stage_in parts u ≡ Some Active)
+active_back set d u parts e =
+    let out : tx_in u set ≡ false = false_from_ne_true _ (λ h. gone_active d (stage_in parts u) (sym (stage_own set d u parts h) ∙ e)) in
+    (out, sym (stage_other set d u parts out) ∙ e)
+
+gone_closed : (d : Option TxId) (o : Option Stage) → gone_by d o ≡ Some Closed → ⊥
+gone_closed d None e = absurd cc
+gone_closed d (Some s) e = absurd cc
+
+pub closed_back : (set : List TxId) (d : Option TxId) (u : TxId) (parts : Table Held) → stage_in (gone_in set d parts) u ≡ Some Closed → stage_in parts u ≡ Some Closed
+closed_back set d u parts e =
+    ⊎_elim (λ i. absurd (gone_closed d (stage_in parts u) (sym (stage_own set d u parts i) ∙ e))) (λ i. sym (stage_other set d u parts i) ∙ e) (cases_Bool (tx_in u set))
+
+gone_none : (d : TxId) (o : Option Stage) → gone_by None o ≡ Some (Gone (Some d)) → ⊥
+gone_none d None e = absurd cc
+gone_none d (Some s) e = absurd cc
+
+doomed_back : (set : List TxId) (u d : TxId) (parts : Table Held) → stage_in (gone_in set None parts) u ≡ Some (Gone (Some d)) → stage_in parts u ≡ Some (Gone (Some d))
+doomed_back set u d parts e =
+    ⊎_elim (λ i. absurd (gone_none d (stage_in parts u) (sym (stage_own set None u parts i) ∙ e))) (λ i. sym (stage_other set None u parts i) ∙ e) (cases_Bool (tx_in u set))
+
+gone_out : (e : Option TxId) (o : Option Stage) → is_present (gone_by e o) ≡ false
+gone_out e None = refl
+gone_out e (Some x) = refl
+
+-- who is not present stays so
+pub absent_go : (set : List TxId) (d : Option TxId) (u : TxId) (parts : Table Held) → is_present (stage_in parts u) ≡ false → is_present (stage_in (gone_in set d parts) u) ≡ false
+absent_go set d u parts e = ⊎_elim (λ i. ap is_present (stage_own set d u parts i) ∙ gone_out d (stage_in parts u)) (λ i. ap is_present (stage_other set d u parts i) ∙ e) (cases_Bool (tx_in u set))
+
+pub own_go : (set : List TxId) (d : Option TxId) (u : TxId) (parts : Table Held) → tx_in u set ≡ true → is_present (stage_in (gone_in set d parts) u) ≡ false
+own_go set d u parts i = ap is_present (stage_own set d u parts i) ∙ gone_out d (stage_in parts u)
+
+rows_go : (set : List TxId) (d : Option TxId) (parts : Table Held) (locks : Locks) → Rows (Belongs parts) locks → Rows (Belongs (gone_in set d parts)) (release set locks)
+rows_go set d parts locks rows = rows_release (Belongs parts) (Belongs (gone_in set d parts)) set locks (λ u b c h out. (h.0, get_other set d u parts out ∙ h.1, h.2, h.3)) rows
+
+holds_go : (set : List TxId) (locks : Locks) (rs : Records) (p : Part) (u : TxId) (q : ℕ) → tx_in u set ≡ false → holds_at p locks rs u q ≡ true → holds_at p (release set locks) rs u q ≡ true
+holds_go set locks rs p u q out h = at (record_at q rs) h
+  where
+    at : (o : Option (Option ℕ)) → holds_by p locks rs u q o ≡ true → holds_by p (release set locks) rs u q o ≡ true
+    at (Some x) h = release_holds set true p (At q) u locks out h
+    at None h = release_holds set false p (lower_anchor q rs) u locks out h
+
+-- ---- one is finished: its COMMIT is durable, or it only read and those of its predecessors are
+
+closed_active : ◌≡◌ {A = Option Stage} (Some Closed) (Some Active) → ⊥
+closed_active e = absurd cc
+
+pub one_in : (t u : TxId) → tx_in u (t ∷ []) ≡ true → u ≡ t
+one_in t u e = ⊎_elim (λ h. sym (tx_true t u h)) (λ h. absurd (both_ways false refl h)) (or_cases (tx_same t u) false e)
+
+in_one : (t : TxId) → tx_in t (t ∷ []) ≡ true
+in_one t = or_left _ _ (tx_self t)
+
+-- why it may be finished
+abbrev pub Done : View → TxId → Type 0
+Done v t = (commit_durable v.log v.durable t ≡ true) ⊎ ((committed_in v.log t ≡ false) × (wrote_in v.log t ≡ false) × ((p : TxId) → is_pair v.pairs t p ≡ true → commit_durable v.log v.durable p ≡ true))
+
+left_with : List TxId → Option TxId → View → View
+left_with set d v = record v { locks = release set v.locks; parts = gone_in set d v.parts; pairs = pairs_without set v.pairs }
+
+pub keeps_finish : (g : Past) (v : View) (t : TxId) → Kept g v → stage_in v.parts t ≡ Some Closed → Done v t
+    → Kept (record g { over = t ∷ g.over }) (record v { locks = release (t ∷ []) v.locks; parts = gone_in (t ∷ []) None v.parts; pairs = pairs_without (t ∷ []) v.pairs })
+keeps_finish g v t k closed done = record {
+  start_rises = k.start_rises;
+  base_value = k.base_value;
+  base_chain = k.base_chain;
+  base_done = k.base_done;
+  runs = k.runs;
+  standing_is = k.standing_is;
+  rises = k.rises;
+  values = k.values;
+  logged = k.logged;
+  rows = rows_go (t ∷ []) None v.parts v.locks k.rows;
+  covered = all_mono _ _ (λ y h active.
+      let a = active_back (t ∷ []) None y.tx v.parts active in
+      let c = h a.1 in
+      (λ q m. holds_go (t ∷ []) v.locks v.records S y.tx q a.0 (c.0 q m), λ q m. holds_go (t ∷ []) v.locks v.records X y.tx q a.0 (c.1 q m))) g.items k.covered;
+  wrote = all_mono _ _ (λ x h out q w. let c = h.0 out q w in (release_holds (t ∷ []) true X (At q) x.tx v.locks (not_own x (h.1 q w) out) c.0, c.1)) g.items (all_both _ _ g.items k.wrote k.logged);
+  known = all_mono _ _ (λ x h. still_known x.tx h) g.items k.known;
+  uncommitted = λ u h. k.uncommitted u (active_back (t ∷ []) None u v.parts h).1;
+  closed = λ u h. k.closed u (closed_back (t ∷ []) None u v.parts h);
+  over = λ u h. ⊎_elim (λ e. own_ended u (sym (tx_true t u e))) (λ i. still_ended u (k.over u i)) (or_cases (tx_same t u) (tx_in u g.over) h);
+  dead = λ u h. let d = k.dead u h in (d.0, (λ a. d.1 (active_back (t ∷ []) None u v.parts a).1), (λ a. d.2 (closed_back (t ∷ []) None u v.parts a)));
+  tidy = k.tidy;
+  doomed = λ u d h. k.doomed u d (doomed_back (t ∷ []) u d v.parts h);
+  successors = λ u p h. let s = without_pairs (t ∷ []) v.pairs u p h in subst (λ o. is_present o ≡ true) (sym (stage_other (t ∷ []) None u v.parts s.1)) (k.successors u p s.0);
+  downwards = λ u p h c. k.downwards u p (without_pairs (t ∷ []) v.pairs u p h).0 c;
+  order = k.order;
+  causes = later_mono _ _ (λ x y h r. ⊎_elim (λ s. inl s) (λ d. inr (still_dep y.tx x.tx d)) (h r)) g.items k.causes;
+  recover = λ u p e. ⊎_elim (λ o. inl (o.0, absent u o.1, neither (tx_same t u) (tx_in u g.over) (tx_ne t u (λ s. both_ways _ o.1 (ap is_present (ap (stage_in v.parts) (sym s) ∙ closed)))) o.2)) (λ d. inr (still_dep u p d.0, d.1)) (k.recover u p e);
+  front = k.front;
+}
+  where
+    not_own : (x : Item) → wrote_in v.log x.tx ≡ true → commit_durable v.log v.durable x.tx ≡ false → tx_in x.tx (t ∷ []) ≡ false
+    not_own x wrote out = false_from_ne_true _ (λ i. let same = one_in t x.tx i in
+        ⊎_elim (λ d. both_ways _ out (subst (λ z. commit_durable v.log v.durable z ≡ true) (sym same) d)) (λ d. both_ways _ d.1 (subst (λ z. wrote_in v.log z ≡ true) same wrote)) done)
+
+    neither : (a b : Bool) → a ≡ false → b ≡ false → (a || b) ≡ false
+    neither true b e f = e
+    neither false b e f = f
+
+    gone_absent : (o : Option Stage) → is_present (gone_by None o) ≡ false
+    gone_absent None = refl
+    gone_absent (Some x) = refl
+
+    absent : (u : TxId) → is_present (stage_in v.parts u) ≡ false → is_present (stage_in (gone_in (t ∷ []) None v.parts) u) ≡ false
+    absent u e = ⊎_elim (λ i. ap is_present (stage_own (t ∷ []) None u v.parts i) ∙ gone_absent (stage_in v.parts u)) (λ i. ap is_present (stage_other (t ∷ []) None u v.parts i) ∙ e) (cases_Bool (tx_in u (t ∷ [])))
+
+    own_ended : (u : TxId) → u ≡ t → Ended (record g { over = t ∷ g.over }) (record v { locks = release (t ∷ []) v.locks; parts = gone_in (t ∷ []) None v.parts; pairs = pairs_without (t ∷ []) v.pairs }) u
+    own_ended u same = subst (Ended (record g { over = t ∷ g.over }) (record v { locks = release (t ∷ []) v.locks; parts = gone_in (t ∷ []) None v.parts; pairs = pairs_without (t ∷ []) v.pairs })) (sym same)
+        (⊎_elim (λ d. inl d) (λ d. inr (d.0, d.1, ap is_present (stage_own (t ∷ []) None t v.parts (in_one t)) ∙ gone_absent (stage_in v.parts t), k.closed t closed)) done)
+
+    still_ended : (u : TxId) → Ended g v u → Ended (record g { over = t ∷ g.over }) (record v { locks = release (t ∷ []) v.locks; parts = gone_in (t ∷ []) None v.parts; pairs = pairs_without (t ∷ []) v.pairs }) u
+    still_ended u e = ⊎_elim (λ d. inl d) (λ d. inr (d.0, d.1, absent u d.2, d.3)) e
+
+    still_known : (u : TxId) → Known g v u → Known (record g { over = t ∷ g.over }) (record v { locks = release (t ∷ []) v.locks; parts = gone_in (t ∷ []) None v.parts; pairs = pairs_without (t ∷ []) v.pairs }) u
+    still_known u h =
+        ⊎_elim
+        (λ i. ⊎_elim
+        (λ a. absurd (closed_active (sym closed ∙ ap (stage_in v.parts) (sym (one_in t u i)) ∙ a)))
+        (λ r. inr (r.0, λ a. r.1 (active_back (t ∷ []) None u v.parts a).1))
+        h)
+        (λ i. ⊎_elim
+        (λ a. inl (stage_other (t ∷ []) None u v.parts i ∙ a))
+        (λ r. inr (r.0, λ a. r.1 (active_back (t ∷ []) None u v.parts a).1))
+        h)
+        (cases_Bool (tx_in u (t ∷ [])))
+
+    still_dep : (u p : TxId) → Dep v u p → Dep (record v { locks = release (t ∷ []) v.locks; parts = gone_in (t ∷ []) None v.parts; pairs = pairs_without (t ∷ []) v.pairs }) u p
+    still_dep u p d =
+        ⊎_elim (λ h. inl h)
+        (λ h. ⊎_elim
+        (λ i. ⊎_elim
+        (λ own. let same = one_in t u own in
+        let pair : is_pair v.pairs t p ≡ true = subst (λ z. is_pair v.pairs z p ≡ true) same i in
+        ⊎_elim (λ c. inl (before_durable v.log v.durable p t (k.downwards t p pair (durable_committed v.log v.durable t c)) c)) (λ c. inl (c.2 p pair)) done)
+        (λ out. inr (inl (pairs_stay (t ∷ []) v.pairs u p out i)))
+        (cases_Bool (tx_in u (t ∷ []))))
+        (λ i. inr (inr i)) h)
+        d
+
+-- ---- a set is taken away: it holds with each its successors, and none of it is committed
+
+pub record MayGo (v : View) (set : List TxId) : Type 0 where
+  pub upward : (t p : TxId) → is_pair v.pairs t p ≡ true → tx_in p set ≡ true → tx_in t set ≡ true
+  pub undecided : (t : TxId) → tx_in t set ≡ true → committed_in v.log t ≡ false
+  pub present : (t : TxId) → tx_in t set ≡ true → is_present (stage_in v.parts t) ≡ true
+
+undone_log : List TxId → List LogRecord → List LogRecord
+undone_log set log = log ++ aborts_of log set ++ clrs_of set (standing log)
+
+pub no_commit_aborts : (t : TxId) (ts : List TxId) → committed_in (map (λ u. Abort u) ts) t ≡ false
+no_commit_aborts t [] = refl
+no_commit_aborts t (u ∷ us) = no_commit_aborts t us
+
+pub no_commit_clrs : (set : List TxId) (t : TxId) (ws : List StandingUpdate) → committed_in (clrs_of set ws) t ≡ false
+no_commit_clrs set t [] = refl
+no_commit_clrs set t (w ∷ ws) = cond_both (tx_in w.tx set) _ (clrs_of set ws) (λ l. committed_in l t ≡ false) (λ e. no_commit_clrs set t ws) (λ e. no_commit_clrs set t ws)
+
+pub no_commits : (set : List TxId) (t : TxId) (log : List LogRecord) → committed_in (aborts_of log set ++ clrs_of set (standing log)) t ≡ false
+no_commits set t log = committed_append (aborts_of log set) _ t ∙ both (committed_in (aborts_of log set) t) _ (no_commit_aborts t (filter (wrote_in log) set)) (no_commit_clrs set t (standing log))
+  where
+    both : (a b : Bool) → a ≡ false → b ≡ false → (a || b) ≡ false
+    both true b e f = e
+    both false b e f = f
+
+pub no_write_aborts : (t : TxId) (ts : List TxId) → wrote_in (map (λ u. Abort u) ts) t ≡ false
+no_write_aborts t [] = refl
+no_write_aborts t (u ∷ us) = no_write_aborts t us
+
+pub no_write_clrs : (set : List TxId) (t : TxId) (ws : List StandingUpdate) → wrote_in (clrs_of set ws) t ≡ false
+no_write_clrs set t [] = refl
+no_write_clrs set t (w ∷ ws) = cond_both (tx_in w.tx set) _ (clrs_of set ws) (λ l. wrote_in l t ≡ false) (λ e. no_write_clrs set t ws) (λ e. no_write_clrs set t ws)
+
+none_of_both : (a b : Bool) → a ≡ false → b ≡ false → (a || b) ≡ false
+none_of_both true b e f = e
+none_of_both false b e f = f
+
+no_writes : (set : List TxId) (t : TxId) (log : List LogRecord) → wrote_in (aborts_of log set ++ clrs_of set (standing log)) t ≡ false
+no_writes set t log = wrote_append (aborts_of log set) _ t ∙ none_of_both _ _ (no_write_aborts t (filter (wrote_in log) set)) (no_write_clrs set t (standing log))
+
+pub no_undo_aborts : (t : TxId) (ts : List TxId) → undone_in (map (λ u. Abort u) ts) t ≡ false
+no_undo_aborts t [] = refl
+no_undo_aborts t (u ∷ us) = no_undo_aborts t us
+
+pub undone_set : (set : List TxId) (t : TxId) (ws : List StandingUpdate) → undone_in (clrs_of set ws) t ≡ true → tx_in t set ≡ true
+undone_set set t [] e = absurd (both_ways false refl e)
+undone_set set t (w ∷ ws) e = at (tx_in w.tx set) refl e (undone_set set t ws)
+  where
+    at : (b : Bool) → tx_in w.tx set ≡ b → undone_in (cond b (Clr w.tx (newest_lsn w.tx ws) w.key w.before ∷ clrs_of set ws) (clrs_of set ws)) t ≡ true → (undone_in (clrs_of set ws) t ≡ true → tx_in t set ≡ true) → tx_in t set ≡ true
+    at true i e ih = ⊎_elim (λ h. subst (λ z. tx_in z set ≡ true) (sym (tx_true t w.tx h)) i) (λ h. ih h) (or_cases (tx_same t w.tx) (undone_in (clrs_of set ws) t) e)
+    at false i e ih = ih e
+
+undone_here : (set : List TxId) (t : TxId) (log : List LogRecord) → undone_in (aborts_of log set ++ clrs_of set (standing log)) t ≡ true → tx_in t set ≡ true
+undone_here set t log e =
+    ⊎_elim (λ h. absurd (both_ways _ (no_undo_aborts t (filter (wrote_in log) set)) h)) (λ h. undone_set set t (standing log) h)
+    (or_cases (undone_in (aborts_of log set) t) _ (sym (undone_append (aborts_of log set) (clrs_of set (standing log)) t) ∙ e))
+
+-- records of which none is a COMMIT, and which move those that are not committed
+abbrev pub Harmless : List LogRecord → LogRecord → Type 0
+Harmless log r = Open_at log (moves r) × ((t : TxId) → is_commit_of t r ≡ false)
+
+open_more : (log before : List LogRecord) (o : Option TxId) → ((t : TxId) → committed_in log t ≡ false → committed_in before t ≡ false) → Open_at log o → Open_at before o
+open_more log before None h e = tt
+open_more log before (Some t) h e = h t e
+
+pub tidy_harmless : (log before rs : List LogRecord) → ((t : TxId) → committed_in log t ≡ false → committed_in before t ≡ false) → AllByRecursion (Harmless log) rs → Tidy before rs
+tidy_harmless log before [] h all = tt
+tidy_harmless log before (r ∷ rs) h all = (
+  open_more log before (moves r) h all.0.0,
+  tidy_harmless log (before ++ r ∷ []) rs (λ t e. committed_append before (r ∷ []) t ∙ none_of_both _ _ (h t e) (none_of_both _ false (all.0.1 t) refl)) all.1,
+)
+
+pub all_append : {I : Type 0} (P : I → Type 0) (xs ys : List I) → AllByRecursion P xs → AllByRecursion P ys → AllByRecursion P (xs ++ ys)
+all_append P [] ys a b = b
+all_append P (x ∷ xs) ys a b = (a.0, all_append P xs ys a.1 b)
+
+harmless_aborts : (log : List LogRecord) (ts : List TxId) → AllByRecursion (Harmless log) (map (λ u. Abort u) ts)
+harmless_aborts log [] = tt
+harmless_aborts log (t ∷ ts) = ((tt, λ u. refl), harmless_aborts log ts)
+
+harmless_clrs : (log : List LogRecord) (set : List TxId) (ws : List StandingUpdate) → ((t : TxId) → tx_in t set ≡ true → committed_in log t ≡ false) → AllByRecursion (Harmless log) (clrs_of set ws)
+harmless_clrs log set [] h = tt
+harmless_clrs log set (w ∷ ws) h =
+    cond_both (tx_in w.tx set) (Clr w.tx (newest_lsn w.tx ws) w.key w.before ∷ clrs_of set ws) (clrs_of set ws) (AllByRecursion (Harmless log))
+    (λ i. ((h w.tx i, λ u. refl), harmless_clrs log set ws h)) (λ i. harmless_clrs log set ws h)
+
+-- a fact on each write of the items and of the base
+pub pile_all : (P : StandingUpdate → Type 0) (xs : List Item) (ws : List StandingUpdate) → AllByRecursion (λ x. (w : ℕ × Option ℕ × Option ℕ) → wrote x ≡ Some w → P (record { lsn = x.lsn; tx = x.tx; key = w.0; before = w.1; after = w.2 })) xs → AllByRecursion P ws → AllByRecursion P (pile xs ws)
+pile_all P [] ws all base = base
+pile_all P (x ∷ xs) ws all base = pile_all P xs (on_top x.tx x.lsn (wrote x) ws) all.1 (at (wrote x) refl)
+  where
+    at : (o : Option (ℕ × Option ℕ × Option ℕ)) → wrote x ≡ o → AllByRecursion P (on_top x.tx x.lsn o ws)
+    at None e = base
+    at (Some w) e = (all.0 w e, base)
+
+holds_undone : (set : List TxId) (ws : List StandingUpdate) (locks : Locks) (rs : Records) (p : Part) (u : TxId) (q : ℕ) → holds_at p locks rs u q ≡ true → holds_at p locks (records_without set ws rs) u q ≡ true
+holds_undone set ws locks rs p u q h =
+    subst (λ o. holds_by p locks (records_without set ws rs) u q o ≡ true) (sym (record_undone set ws rs q)) (at (record_at q rs) h)
+  where
+    at : (o : Option (Option ℕ)) → holds_by p locks rs u q o ≡ true → holds_by p locks (records_without set ws rs) u q (reset (value_before set q ws) o) ≡ true
+    at (Some x) h = h
+    at None h = subst (λ a. holds false p a u locks ≡ true) (sym (anchor_undone set ws q Low rs)) h
+
+reset_none : (b o : Option (Option ℕ)) → reset b o ≡ None → o ≡ None
+reset_none b None e = refl
+reset_none b (Some v) e = absurd cc
+
+gone_gone : (d : TxId) (o : Option Stage) → gone_by (Some d) o ≡ Some (Gone None) → ⊥
+gone_gone d None e = absurd cc
+gone_gone d (Some s) e = absurd cc
+
+module _ (g : Past) (v : View) (set : List TxId) (d : TxId) (k : Kept g v) (may : MayGo v set) where
+  Taken : List LogRecord → View
+  Taken log = record {
+    records = records_without set (standing v.log) v.records;
+    locks = release set v.locks;
+    parts = gone_in set (Some d) v.parts;
+    pairs = pairs_without set v.pairs;
+    log = log;
+    durable = v.durable;
+    flight = v.flight;
+  }
+
+  committed_out : (t : TxId) → committed_in v.log t ≡ true → tx_in t set ≡ false
+  committed_out t c = false_from_ne_true _ (λ i. both_ways _ (may.undecided t i) c)
+
+  keeps_pair : (x y : Item) → (Reaches x y → (x.tx ≡ y.tx) ⊎ Dep v y.tx x.tx) → Keeps (keeps_of set) x y
+  keeps_pair x y h r here =
+      let out : tx_in y.tx set ≡ false = not-true _ here in
+      ap not
+      (⊎_elim
+      (λ s. subst (λ z. tx_in z set ≡ false) (sym s) out)
+      (λ dep. ⊎_elim (λ c. committed_out x.tx (durable_committed v.log v.durable x.tx c))
+      (λ more. ⊎_elim (λ pair. false_from_ne_true _ (λ i. both_ways _ out (may.upward y.tx x.tx pair i))) (λ b. committed_out x.tx (before_first v.log x.tx y.tx b)) more)
+      dep)
+      (h r))
+
+  keeps_all : AllLater (Keeps (keeps_of set)) g.items
+  keeps_all = later_mono _ _ keeps_pair g.items k.causes
+
+  base_out : AllByRecursion (λ w. tx_in w.tx set ≡ false) g.base
+  base_out = all_mono _ _ (λ w c. committed_out w.tx (durable_committed v.log v.durable w.tx c)) g.base k.base_done
+
+  chain_here : Chain (standing v.log)
+  chain_here = subst Chain (sym k.standing_is) (chain_pile g.items g.start g.base k.runs k.base_value k.base_chain)
+
+  upward_here : Upward set (standing v.log)
+  upward_here = subst (Upward set) (sym k.standing_is) (upward_pile set g.items g.base keeps_all (clear_base set g.items g.base base_out) (upward_base set g.base base_out))
+
+  have_here : HaveRecords v.records set (standing v.log)
+  have_here = subst (HaveRecords v.records set) (sym k.standing_is) (pile_all (λ w. tx_in w.tx set ≡ true → record_at w.key v.records ≡ None → ⊥) g.items g.base
+      (all_mono _ _ (λ x h w e i. (h (false_from_ne_true _ (λ c. both_ways _ (may.undecided x.tx i) (durable_committed v.log v.durable x.tx c))) w.0 (ap (λ o. is_write_at o w.0) e ∙ eq-eqb w.0 w.0 refl)).1) g.items k.wrote)
+      (all_mono _ _ (λ w out i. absurd (both_ways _ out i)) g.base base_out))
+
+  more : List LogRecord
+  more = aborts_of v.log set ++ clrs_of set (standing v.log)
+
+  standing_more : standing (v.log ++ (aborts_of v.log set ++ clrs_of set (standing v.log))) ≡ filter (stays_of set) (standing v.log)
+  standing_more = ap standing (sym (append_assoc v.log (aborts_of v.log set) (clrs_of set (standing v.log)))) ∙ standing_undone set v.log
+
+  no_more : (t : TxId) → committed_in (aborts_of v.log set ++ clrs_of set (standing v.log)) t ≡ false
+  no_more t = no_commits set t v.log
+
+  back : (t : TxId) → committed_in (v.log ++ (aborts_of v.log set ++ clrs_of set (standing v.log))) t ≡ true → committed_in v.log t ≡ true
+  back t c = committed_from v.log (aborts_of v.log set ++ clrs_of set (standing v.log)) t (no_more t) c
+
+  still_durable : (t : TxId) → commit_durable v.log v.durable t ≡ true → commit_durable (v.log ++ (aborts_of v.log set ++ clrs_of set (standing v.log))) v.durable t ≡ true
+  still_durable t c = durable_keeps v.log (aborts_of v.log set ++ clrs_of set (standing v.log)) v.durable v.durable t (omega arith) c
+
+  gone_absent : (e : Option TxId) (o : Option Stage) → is_present (gone_by e o) ≡ false
+  gone_absent e None = refl
+  gone_absent e (Some x) = refl
+
+  absent : (u : TxId) → is_present (stage_in v.parts u) ≡ false → is_present (stage_in (gone_in set (Some d) v.parts) u) ≡ false
+  absent u e = ⊎_elim (λ i. ap is_present (stage_own set (Some d) u v.parts i) ∙ gone_absent (Some d) (stage_in v.parts u)) (λ i. ap is_present (stage_other set (Some d) u v.parts i) ∙ e) (cases_Bool (tx_in u set))
+
+  taken_kept : Kept (record g { items = filter (keeps_of set) g.items }) (Taken (v.log ++ (aborts_of v.log set ++ clrs_of set (standing v.log))))
+  unfolding Taken
+  taken_kept = record {
+    start_rises = k.start_rises;
+    base_value = k.base_value;
+    base_chain = k.base_chain;
+    base_done = all_mono _ _ (λ w c. still_durable w.tx c) g.base k.base_done;
+    runs = kept_runs (keeps_of set) g.items g.start g.start k.start_rises k.start_rises k.runs keeps_all (λ q. inl refl);
+    standing_is = standing_more ∙ ap (filter (stays_of set)) k.standing_is ∙ pile_filter set g.items g.base ∙ ap (pile (filter (keeps_of set) g.items)) (filter_all set g.base base_out);
+    rises = rising_undone set (standing v.log) v.records k.rises;
+    values = λ q. values_undone set (standing v.log) v.records q chain_here upward_here have_here (k.values q) ∙ ap (top_value q) (sym standing_more);
+    logged = all_mono _ _ (λ x h q w. wrote_keeps v.log _ x.tx (h.0 q w)) (filter (keeps_of set) g.items) (all_filter _ (keeps_of set) g.items k.logged);
+    rows = rows_go set (Some d) v.parts v.locks k.rows;
+    covered = all_mono _ _ (λ y h active.
+        let a = active_back set (Some d) y.tx v.parts active in
+        let c = h.0 a.1 in (
+          λ q m. holds_undone set (standing v.log) (release set v.locks) v.records S y.tx q (holds_go set v.locks v.records S y.tx q a.0 (c.0 q m)),
+          λ q m. holds_undone set (standing v.log) (release set v.locks) v.records X y.tx q (holds_go set v.locks v.records X y.tx q a.0 (c.1 q m)),
+        ))
+        (filter (keeps_of set) g.items) (all_filter _ (keeps_of set) g.items k.covered);
+    wrote = all_mono _ _ (λ x h out q w.
+        let c = h.0 (false_from_ne_true _ (λ t. both_ways _ out (still_durable x.tx t))) q w in
+        (release_holds set true X (At q) x.tx v.locks (not-true _ h.1) c.0, λ none. c.1 (reset_none (value_before set q (standing v.log)) (record_at q v.records) (sym (record_undone set (standing v.log) v.records q) ∙ none))))
+        (filter (keeps_of set) g.items) (all_filter _ (keeps_of set) g.items k.wrote);
+    known = all_mono _ _ (λ x h.
+        let out : tx_in x.tx set ≡ false = not-true _ h.1 in
+        ⊎_elim (λ a. inl (stage_other set (Some d) x.tx v.parts out ∙ a))
+        (λ r. inr (r.0, λ a. r.1 (active_back set (Some d) x.tx v.parts a).1)) h.0)
+        (filter (keeps_of set) g.items) (all_filter _ (keeps_of set) g.items k.known);
+    uncommitted = λ u h. uncommitted_append v.log _ u (k.uncommitted u (active_back set (Some d) u v.parts h).1) (no_more u);
+    closed = λ u h. k.closed u (closed_back set (Some d) u v.parts h);
+    over = λ u h. ⊎_elim (λ c. inl c) (λ c. inr (c.0, c.1, absent u c.2, c.3)) (ended_more g v (aborts_of v.log set ++ clrs_of set (standing v.log)) u (λ a. no_more u) (no_writes set u v.log) (k.over u h));
+    dead = λ u h.
+        ⊎_elim
+        (λ old. let e = k.dead u old in (uncommitted_append v.log _ u e.0 (no_more u), (λ a. e.1 (active_back set (Some d) u v.parts a).1), (λ a. e.2 (closed_back set (Some d) u v.parts a))))
+        (λ new. let i = undone_here set u v.log new in
+        (uncommitted_append v.log _ u (may.undecided u i) (no_more u), (λ a. both_ways _ (active_back set (Some d) u v.parts a).0 i), (λ a. gone_closed (Some d) (stage_in v.parts u) (sym (stage_own set (Some d) u v.parts i) ∙ a))))
+        (or_cases (undone_in v.log u) _ (sym (undone_append v.log (aborts_of v.log set ++ clrs_of set (standing v.log)) u) ∙ h));
+    doomed = λ u e h. uncommitted_append v.log _ u (⊎_elim (λ i. may.undecided u i) (λ i. k.doomed u e (sym (stage_other set (Some d) u v.parts i) ∙ h)) (cases_Bool (tx_in u set))) (no_more u);
+    tidy = tidy_append [] v.log _ k.tidy (tidy_harmless v.log v.log _ (λ t e. e) (all_append _ (aborts_of v.log set) (clrs_of set (standing v.log)) (harmless_aborts v.log (filter (wrote_in v.log) set)) (harmless_clrs v.log set (standing v.log) may.undecided)));
+    successors = λ u p h. let s = without_pairs set v.pairs u p h in subst (λ o. is_present o ≡ true) (sym (stage_other set (Some d) u v.parts s.1)) (k.successors u p s.0);
+    downwards = λ u p h c. before_keeps v.log _ p u (k.downwards u p (without_pairs set v.pairs u p h).0 (back u c));
+    order = later_mono _ _ (λ x y h c. h.0 c) (filter (keeps_of set) g.items) (later_filter _ (keeps_of set) g.items k.order);
+    causes = later_mono _ _ (λ x y h r.
+        ⊎_elim (λ s. inl s) (λ dep. inr (⊎_elim (λ c. inl (still_durable x.tx c))
+        (λ m. ⊎_elim (λ pair. inr (inl (pairs_stay set v.pairs y.tx x.tx (not-true _ h.2) pair))) (λ b. inr (inr (before_keeps v.log _ x.tx y.tx b))) m) dep)) (h.0 r))
+        (filter (keeps_of set) g.items) (later_filter _ (keeps_of set) g.items k.causes);
+    recover = λ u p e. ⊎_elim (λ o. inl (uncommitted_append v.log _ u o.0 (no_more u), absent u o.1, o.2))
+        (λ dep. ⊎_elim
+        (λ i. inl (
+          uncommitted_append v.log _ u (may.undecided u i) (no_more u),
+          own_go set (Some d) u v.parts i,
+          false_from_ne_true _ (λ o.
+              ⊎_elim (λ c. both_ways _ (may.undecided u i) (durable_committed v.log v.durable u c)) (λ c. both_ways _ c.2 (may.present u i)) (k.over u o)),
+        ))
+        (λ i. inr (⊎_elim (λ c. inl (still_durable p c)) (λ m. ⊎_elim (λ pair. inr (inl (pairs_stay set v.pairs u p i pair))) (λ b. inr (inr (before_keeps v.log _ p u b))) m) dep.0, dep.1))
+        (cases_Bool (tx_in u set)))
+        (k.recover u p e);
+    front = k.front;
+  }
+
+  pub keeps_taken : Kept (record g { items = filter (keeps_of set) g.items }) (record {
+    records = records_without set (standing v.log) v.records;
+    locks = release set v.locks;
+    parts = gone_in set (Some d) v.parts;
+    pairs = pairs_without set v.pairs;
+    log = v.log ++ aborts_of v.log set ++ clrs_of set (standing v.log);
+    durable = v.durable;
+    flight = v.flight;
+  })
+  unfolding Taken
+  keeps_taken = subst (λ log. Kept (record g { items = filter (keeps_of set) g.items }) (Taken log)) (sym (append_assoc v.log (aborts_of v.log set) (clrs_of set (standing v.log)))) taken_kept

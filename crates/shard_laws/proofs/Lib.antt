@@ -1,0 +1,17 @@
+pub mod LockRows
+pub mod Asking
+pub mod Kept
+pub mod Changes
+pub mod Closing
+pub mod Leaving
+pub mod Answering
+pub mod Granting
+pub mod Dooming
+pub mod Marking
+pub mod Sound
+pub mod Happening
+pub mod Cutting
+pub mod Serial
+pub mod Members
+pub mod Reviving
+pub mod Histories

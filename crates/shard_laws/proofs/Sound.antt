@@ -1,0 +1,560 @@
+-- What is due, and each event, keep what a shard keeps.
+use Rattle.std.proofs.Common.{◌≡◌, ℕ, zero, suc, ◌⊎◌, inl, inr, ⊎_elim, Bool, true, false, cond, not, ◌&&◌, ◌||◌, List, [], ◌∷◌, ◌++◌, Option, Some, None, is_none, length, ◌==◌, eqb-true, arith, refl, sym, ap, subst, ◌∙◌, append_assoc}
+use Rattle.std.specs.List.{AllByRecursion, filter, list_all}
+use Rattle.std.proofs.lemmas.Bool.{cases_Bool, both_ways, cond-false, or_cases, and_parts, and_from, false_from_ne_true}
+use Rattle.std.proofs.lemmas.List.Folds.{list_any-append}
+use Rattle.clv_base.specs.declared.names.TxId.{TxId}
+use Rattle.clv_base.specs.declared.logs.LogRecord.{LogRecord}
+use Rattle.clv_base.specs.declared.logs.LogRecord.TheVariants.{Commit, End}
+use Rattle.clv_base.specs.declared.state.Stage.{Stage}
+use Rattle.clv_base.specs.declared.state.Stage.TheVariants.{Active, Closed, Gone}
+use Rattle.clv_base.specs.Orders.{Table, tx_same, tx_in, tx_get}
+use Rattle.clv_base.specs.Logs.{standing, committed_in, wrote_in, is_update_of, is_commit_of, commit_lsn}
+use Rattle.clv_base.specs.Undo.{stage_of, aborts_of, clrs_of, doomed_here, doomed_by, roll_back}
+use Rattle.clv_base.specs.State.{Shard, with_local, is_present}
+use Rattle.clv_base.specs.Facts.{predecessors_of, undecided_of, facts_of, state_by, doom_by, has_durable_predecessors, has_durable_prepare, is_closed_state, is_waiting}
+use Rattle.clv_base.specs.Participant.{gone_vote, vote_in_state, first_vote, vote_owed, vote_by, voted}
+use Rattle.clv_base.specs.Coordinator.{others, is_good, vote_from, yes_shards, open_shards, is_agreed, agreed_ruling, first_no, cause_by, refusal, refused_ruling, end_ruling, undecided_ruling, ruling_in}
+use Rattle.clv_base.specs.declared.state.Ruling.TheVariants.{Commit as CommitRuling, Acknowledge, Abort as AbortRuling, End as EndRuling}
+use Rattle.clv_base.specs.OneShard.{purge, mark_dropped}
+use Rattle.clv_base.specs.Due.{finish_part, or_else, with_commit_done, commit_due, with_vote, finish_reader, give_vote, vote_due, with_ruling, do_ruling, rule, request_due, due_of, first_due, known_txs, next_due, do_due, with_due_done, work}
+use Rattle.clv_base.specs.Events.{finish}
+use Rattle.protocol_laws.proofs.Facts.{predecessors_by_facts}
+use Rattle.shard_laws.proofs.Marking.{keeps_marked, stage_marked, gone_stays, keeps_again}
+use Rattle.law_base.specs.Items.{Item}
+use Rattle.clv_base.proofs.SameNames.{or_left, or_right, tx_true, tx_self, tx_ne}
+use Rattle.law_base.proofs.Undoing.{keeps_of, standing_append}
+use Rattle.law_base.proofs.Tables.{is_pair, pair_in}
+use Rattle.law_base.proofs.Commits.{commit_durable, durable_committed, uncommitted_append, committed_from, place_some}
+use Rattle.shard_laws.proofs.Kept.{Past, Kept}
+use Rattle.clv_base.specs.declared.state.Voter.{Voter}
+use Rattle.clv_base.specs.declared.causes.Vote.{Vote}
+use Rattle.clv_base.specs.declared.causes.Vote.TheVariants.{Yes, Read, No}
+use Rattle.clv_base.specs.declared.causes.NoWhy.TheVariants.{Doomed, Restarted as RestartedWhy}
+use Rattle.clv_base.specs.declared.state.Request.{Request}
+use Rattle.clv_base.specs.declared.state.RequestState.{RequestState}
+use Rattle.clv_base.specs.declared.state.RequestState.TheVariants.{Undecided, Committed, Finished, Refused}
+use Rattle.clv_base.specs.declared.causes.AbortCause.{AbortCause}
+use Rattle.clv_base.specs.Orders.{tx_set, nat_in}
+use Rattle.shard_laws.proofs.Kept.{view_of}
+use Rattle.shard_laws.proofs.Dooming.{may_go, in_filter}
+use Rattle.shard_laws.proofs.Changes.{keeps_quiet, quiet_end, keeps_commit, keeps_purge}
+use Rattle.shard_laws.proofs.Leaving.{keeps_finish, keeps_taken, MayGo, Done, no_commits, absent_go, own_go, stage_own, stage_other, gone_by}
+use Rattle.shard_laws.specs.OneShard.{items_of}
+
+-- ---- lists of items
+
+pub filter_same : (f h : Item → Bool) (xs : List Item) → ((x : Item) → f x ≡ h x) → filter f xs ≡ filter h xs
+filter_same f h [] e = refl
+filter_same f h (x ∷ xs) e = ap (λ b. cond b (x ∷ filter f xs) (filter f xs)) (e x) ∙ ap (λ l. cond (h x) (x ∷ l) l) (filter_same f h xs e)
+
+pub filter_both : (f h : Item → Bool) (xs : List Item) → filter h (filter f xs) ≡ filter (λ x. f x && h x) xs
+filter_both f h [] = refl
+filter_both f h (x ∷ xs) = at (f x) (filter_both f h xs)
+  where
+    at : (b : Bool) → filter h (filter f xs) ≡ filter (λ x. f x && h x) xs → filter h (cond b (x ∷ filter f xs) (filter f xs)) ≡ cond (b && h x) (x ∷ filter (λ x. f x && h x) xs) (filter (λ x. f x && h x) xs)
+    at true e = ap (λ l. cond (h x) (x ∷ l) l) e
+    at false e = e
+
+-- ---- what is true of a state and all that was answered in it
+
+-- neither committed nor finished, and never to be
+abbrev pub Lost : Past → Shard → TxId → Type 0
+Lost g s t = (committed_in s.local.log t ≡ false) × (is_present (stage_of s.local t) ≡ false) × (tx_in t g.over ≡ false)
+
+-- an undecided request is of one that is not committed here, or it has no other shard, and its COMMIT was written at once
+abbrev pub Open : ℕ → List LogRecord → TxId → Request → Type 0
+Open shard log t q = (committed_in log t ≡ false) ⊎ ((others shard q.touched ≡ []) × (q.votes ≡ []))
+
+pub record Sound (all : List Item) (g : Past) (s : Shard) : Type 0 where
+  pub kept : Kept g (view_of s)
+  -- of each transaction the past has all that it was answered, or it is lost
+  pub told : (t : TxId) → Lost g s t ⊎ (items_of t g.items ≡ items_of t all)
+  pub undecided : (t : TxId) (q : Request) → tx_get t s.requests ≡ Some q → q.state ≡ Undecided → Open s.shard s.local.log t q
+  pub readers : (t : TxId) (q : Request) → tx_get t s.requests ≡ Some q → q.state ≡ Finished → tx_in t g.over ≡ true
+  -- no home is asked by another; what votes and did not write is not committed
+  pub apart : (t : TxId) (v : Voter) → tx_get t s.voters ≡ Some v → tx_get t s.requests ≡ None
+  pub unvoted : (t : TxId) (v : Voter) → tx_get t s.voters ≡ Some v → wrote_in s.local.log t ≡ false → committed_in s.local.log t ≡ false
+  -- a part that voted Read has left
+  pub read : (t : TxId) (v : Voter) → tx_get t s.voters ≡ Some v → v.vote ≡ Some Read → stage_of s.local t ≡ Some (Gone None)
+  -- who is committed asked
+  pub asked : (t : TxId) → committed_in s.local.log t ≡ true → tx_in t g.asked ≡ true
+
+abbrev pub More_over : Past → Past → Type 0
+More_over g h = (t : TxId) → tx_in t g.over ≡ true → tx_in t h.over ≡ true
+
+abbrev pub After : List Item → Past → Shard → Type 0
+After all g t = (h : Past) × Sound all h t × (h.start ≡ g.start) × (h.base ≡ g.base) × (h.asked ≡ g.asked) × More_over g h × (h.met ≡ g.met)
+
+pub then_after : (all : List Item) (g h : Past) (t : Shard) → h.start ≡ g.start → h.base ≡ g.base → h.asked ≡ g.asked → More_over g h → h.met ≡ g.met → After all h t → After all g t
+then_after all g h t a b c m x (i, s, d, e, f, n, y) = (i, s, d ∙ a, e ∙ b, f ∙ c, (λ u o. n u (m u o)), y ∙ x)
+
+pub at_once : (all : List Item) (g : Past) (t : Shard) → Sound all g t → After all g t
+at_once all g t s = (g, s, refl, refl, refl, (λ u o. o), refl)
+
+pub data Next (all : List Item) (g : Past) : Option Shard → Type 0 where
+  nothing : Next all g None
+  step : {t : Shard} → After all g t → Next all g (Some t)
+
+-- ---- changed requests
+
+some_same : {V : Type 0} (q r : V) → Some q ≡ Some r → q ≡ r
+some_same q r e = cc
+
+none_some : {V : Type 0} (q : V) → ◌≡◌ {A = Option V} None (Some q) → ⊥
+none_some q e = absurd cc
+
+abbrev Set_or_old : {V : Type 0} → TxId → TxId → V → V → Option V → Type 0
+Set_or_old t u w q old = ((u ≡ t) × (q ≡ w)) ⊎ ((u ≡ t → ⊥) × (old ≡ Some q))
+
+set_here : {V : Type 0} (t u : TxId) (w q : V) (r : TxId × V) (rs : Table V) (b : Bool) → tx_same u r.0 ≡ b → tx_same t r.0 ≡ true → cond b (Some w) (tx_get u rs) ≡ Some q → Set_or_old t u w q (cond b (Some r.1) (tx_get u rs))
+set_here t u w q r rs true e f h = inl (tx_true u r.0 e ∙ sym (tx_true t r.0 f), some_same q w (sym h))
+set_here t u w q r rs false e f h = inr (λ s. both_ways _ e (subst (λ z. tx_same z r.0 ≡ true) (sym s) f), h)
+
+set_later : {V : Type 0} (t u : TxId) (w q : V) (r : TxId × V) (rs : Table V) (b : Bool) → tx_same u r.0 ≡ b → tx_same t r.0 ≡ false → cond b (Some r.1) (tx_get u (tx_set t w rs)) ≡ Some q → (tx_get u (tx_set t w rs) ≡ Some q → Set_or_old t u w q (tx_get u rs)) → Set_or_old t u w q (cond b (Some r.1) (tx_get u rs))
+set_later t u w q r rs true e f h ih = inr (λ s. both_ways _ f (subst (λ z. tx_same z r.0 ≡ true) s e), h)
+set_later t u w q r rs false e f h ih = ih h
+
+set_case : {V : Type 0} (t u : TxId) (w q : V) (r : TxId × V) (rs : Table V) (b : Bool) → tx_same t r.0 ≡ b → tx_get u (cond b ((r.0, w) ∷ rs) (r ∷ tx_set t w rs)) ≡ Some q → (tx_get u (tx_set t w rs) ≡ Some q → Set_or_old t u w q (tx_get u rs)) → Set_or_old t u w q (tx_get u (r ∷ rs))
+set_case t u w q r rs true f h ih = set_here t u w q r rs (tx_same u r.0) refl f h
+set_case t u w q r rs false f h ih = set_later t u w q r rs (tx_same u r.0) refl f h ih
+
+pub get_set : {V : Type 0} (t u : TxId) (w q : V) (rs : Table V) → tx_get u (tx_set t w rs) ≡ Some q → Set_or_old t u w q (tx_get u rs)
+get_set t u w q [] e = absurd (none_some q e)
+get_set t u w q (r ∷ rs) e = set_case t u w q r rs (tx_same t r.0) refl e (get_set t u w q rs)
+
+-- who is not there is not there after a change
+none_here : {V : Type 0} (u : TxId) (r : TxId × V) (rs : Table V) (c : Bool) → tx_same u r.0 ≡ c → cond c (Some r.1) (tx_get u rs) ≡ None → (tx_same u r.0 ≡ false) × (tx_get u rs ≡ None)
+none_here u r rs true f e = absurd (none_some r.1 (sym e))
+none_here u r rs false f e = (f, e)
+
+none_case : {V : Type 0} (t u : TxId) (w : V) (r : TxId × V) (rs : Table V) (b : Bool) → tx_get u (r ∷ rs) ≡ None → (tx_get u rs ≡ None → tx_get u (tx_set t w rs) ≡ None) → tx_get u (cond b ((r.0, w) ∷ rs) (r ∷ tx_set t w rs)) ≡ None
+none_case t u w r rs true e ih = let n = none_here u r rs (tx_same u r.0) refl e in cond-false (tx_same u r.0) (Some w) (tx_get u rs) n.0 ∙ n.1
+none_case t u w r rs false e ih = let n = none_here u r rs (tx_same u r.0) refl e in cond-false (tx_same u r.0) (Some r.1) (tx_get u (tx_set t w rs)) n.0 ∙ ih n.1
+
+pub set_none : {V : Type 0} (t u : TxId) (w : V) (rs : Table V) → tx_get u rs ≡ None → tx_get u (tx_set t w rs) ≡ None
+set_none t u w [] e = refl
+set_none t u w (r ∷ rs) e = none_case t u w r rs (tx_same t r.0) e (set_none t u w rs)
+
+-- rulings that are none of two
+ruled_open : (s : Shard) (t : TxId) (w : Request) → (w.state ≡ Undecided → ⊥) → (log : List LogRecord) → ((u : TxId) (q : Request) → tx_get u s.requests ≡ Some q → q.state ≡ Undecided → Open s.shard log u q)
+    → (u : TxId) (q : Request) → tx_get u (tx_set t w s.requests) ≡ Some q → q.state ≡ Undecided → Open s.shard log u q
+ruled_open s t w ne log old u q e un = ⊎_elim (λ p. absurd (ne (ap (λ r. r.state) (sym p.1) ∙ un))) (λ p. old u q p.1 un) (get_set t u w q s.requests e)
+
+ruled_reader : (g : Past) (s : Shard) (t : TxId) (w : Request) → (w.state ≡ Finished → tx_in t g.over ≡ true) → ((u : TxId) (q : Request) → tx_get u s.requests ≡ Some q → q.state ≡ Finished → tx_in u g.over ≡ true)
+    → (u : TxId) (q : Request) → tx_get u (tx_set t w s.requests) ≡ Some q → q.state ≡ Finished → tx_in u g.over ≡ true
+ruled_reader g s t w own old u q e f = ⊎_elim (λ p. ap (λ z. tx_in z g.over) p.0 ∙ own (ap (λ r. r.state) (sym p.1) ∙ f)) (λ p. old u q p.1 f) (get_set t u w q s.requests e)
+
+-- ---- what is due
+
+pub list_all_at : (f : TxId → Bool) (u : TxId) (xs : List TxId) → list_all f xs ≡ true → tx_in u xs ≡ true → f u ≡ true
+list_all_at f u [] e i = absurd (both_ways false refl i)
+list_all_at f u (x ∷ xs) e i =
+    let p = and_parts (f x) (list_all f xs) e in
+    ⊎_elim (λ h. subst (λ z. f z ≡ true) (tx_true x u h) p.0) (λ h. list_all_at f u xs p.1 h) (or_cases (tx_same x u) (tx_in u xs) i)
+
+-- one is finished
+finish_told : (all : List Item) (g : Past) (s : Shard) (t : TxId) → Sound all g s → stage_of s.local t ≡ Some Closed → (u : TxId) → Lost (record g { over = t ∷ g.over }) (finish_part t s) u ⊎ (items_of u g.items ≡ items_of u all)
+finish_told all g s t h closed u =
+    ⊎_elim
+    (λ l. inl (l.0, absent_go (t ∷ []) None u s.local.parts l.1, none (tx_same t u) (tx_in u g.over) (tx_ne t u (λ e. both_ways _ l.1 (ap is_present (ap (stage_of s.local) (sym e) ∙ closed)))) l.2))
+    (λ e. inr e) (h.told u)
+  where
+    none : (a b : Bool) → a ≡ false → b ≡ false → (a || b) ≡ false
+    none true b e f = e
+    none false b e f = f
+
+finished : (all : List Item) (g : Past) (s : Shard) (t : TxId) → Sound all g s → stage_of s.local t ≡ Some Closed → Done (view_of s) t → Sound all (record g { over = t ∷ g.over }) (finish_part t s)
+finished all g s t h closed done = record {
+  kept = keeps_finish g (view_of s) t h.kept closed done;
+  told = finish_told all g s t h closed;
+  undecided = h.undecided;
+  readers = λ u q e f. or_right (tx_same t u) _ (h.readers u q e f);
+  apart = h.apart;
+  unvoted = h.unvoted;
+  read = λ u v e f. gone_stays t u s.local.parts (h.read u v e f);
+  asked = h.asked;
+}
+
+-- one that was finished is finished again
+finished_again : (all : List Item) (g : Past) (s : Shard) (t : TxId) → Sound all g s → stage_of s.local t ≡ Some (Gone None) → Sound all g (finish_part t s)
+finished_again all g s t h gone = record {
+  kept = keeps_again g (view_of s) t h.kept gone;
+  told = λ u. ⊎_elim (λ l. inl (l.0, absent_go (t ∷ []) None u s.local.parts l.1, l.2)) (λ e. inr e) (h.told u);
+  undecided = h.undecided;
+  readers = h.readers;
+  apart = h.apart;
+  unvoted = h.unvoted;
+  read = λ u v e f. gone_stays t u s.local.parts (h.read u v e f);
+  asked = h.asked;
+}
+
+-- a part is marked
+pub marked_sound : (all : List Item) (g : Past) (s : Shard) (t : TxId) → Sound all g s → Sound all g (with_local (mark_dropped t) s)
+marked_sound all g s t h = record {
+  kept = keeps_marked g (view_of s) t h.kept;
+  told = λ u. ⊎_elim (λ l. inl (l.0, ap is_present (stage_marked t u s.local.parts) ∙ l.1, l.2)) (λ e. inr e) (h.told u);
+  undecided = h.undecided;
+  readers = h.readers;
+  apart = h.apart;
+  unvoted = h.unvoted;
+  read = λ u v e f. stage_marked t u s.local.parts ∙ h.read u v e f;
+  asked = h.asked;
+}
+
+due_cond : (all : List Item) (g : Past) (b : Bool) (x y : Option Shard) → (b ≡ true → Next all g x) → (b ≡ false → Next all g y) → Next all g (cond b x y)
+due_cond all g true x y p q = p refl
+due_cond all g false x y p q = q refl
+
+or_next : (all : List Item) (g : Past) (x y : Option Shard) → Next all g x → Next all g y → Next all g (or_else x y)
+or_next all g None y p q = q
+or_next all g (Some t) y p q = p
+
+over_more : (g : Past) (t : TxId) → More_over g (record g { over = t ∷ g.over })
+over_more g t u o = or_right (tx_same t u) _ o
+
+commit_next : (all : List Item) (g : Past) (s : Shard) (tx : TxId) (o : Option Stage) → Sound all g s → stage_of s.local tx ≡ o → Next all g (commit_due s tx o)
+commit_next all g s tx None h e = nothing
+commit_next all g s tx (Some Active) h e = nothing
+commit_next all g s tx (Some Closed) h e =
+    due_cond all g (commit_durable s.local.log s.durable tx) (Some (with_commit_done s tx)) None
+    (λ d. let f = finished all g s tx h e (inl d) in step (record g { over = tx ∷ g.over }, record { kept = f.kept; told = f.told; undecided = f.undecided; readers = f.readers; apart = f.apart; unvoted = f.unvoted; read = f.read; asked = f.asked }, refl, refl, refl, over_more g tx, refl)) (λ d. nothing)
+commit_next all g s tx (Some (Gone d)) h e = nothing
+
+some_vote : (a b : Vote) → Some a ≡ Some b → a ≡ b
+some_vote a b e = cc
+
+-- a vote changes what the shard keeps of the voter alone
+voted_sound : (all : List Item) (g : Past) (s : Shard) (tx : TxId) (v : Voter) (vote : Vote) → Sound all g s → tx_get tx s.voters ≡ Some v → (vote ≡ Read → stage_of s.local tx ≡ Some (Gone None)) → Sound all g (with_vote s tx v vote)
+voted_sound all g s tx v vote h e left = record {
+  kept = h.kept;
+  told = h.told;
+  undecided = h.undecided;
+  readers = h.readers;
+  apart = λ u w f. ⊎_elim (λ p. subst (λ z. tx_get z s.requests ≡ None) (sym p.0) (h.apart tx v e)) (λ p. h.apart u w p.1) (get_set tx u (voted vote v) w s.voters f);
+  unvoted = λ u w f. ⊎_elim (λ p. subst (λ z. wrote_in s.local.log z ≡ false → committed_in s.local.log z ≡ false) (sym p.0) (h.unvoted tx v e)) (λ p. h.unvoted u w p.1) (get_set tx u (voted vote v) w s.voters f);
+  read = λ u w f i. ⊎_elim (λ p. ap (stage_of s.local) p.0 ∙ left (some_vote vote Read (ap (λ z. z.vote) (sym p.1) ∙ i))) (λ p. h.read u w p.1 i) (get_set tx u (voted vote v) w s.voters f);
+  asked = h.asked;
+}
+
+-- all predecessors are durable by the facts
+durable_before : (s : Shard) (tx : TxId) → has_durable_predecessors (facts_of s tx) ≡ true → (p : TxId) → is_pair s.local.pairs tx p ≡ true → commit_durable s.local.log s.durable p ≡ true
+durable_before s tx d p i =
+    list_all_at (λ q. commit_durable s.local.log s.durable q) p (predecessors_of s.local.pairs tx) (sym (predecessors_by_facts s.local s.durable tx) ∙ d) (pair_in s.local.pairs tx p i)
+
+-- a Read is given again, or where the part only read and its predecessors' COMMITs are durable
+abbrev ReadNow : Shard → TxId → Type 0
+ReadNow s tx = (stage_of s.local tx ≡ Some Closed) × (has_durable_predecessors (facts_of s tx) ≡ true) × (wrote_in s.local.log tx ≡ false)
+
+gone_read : (o : Option TxId) → gone_vote o ≡ Some Read → ⊥
+gone_read None e = none_some Read e
+gone_read (Some d) e = let x = some_vote (No (Doomed d)) Read e in absurd cc
+
+closed_read : (a b c : Bool) → cond a (cond b (cond c (Some Yes) None) (Some Read)) None ≡ Some Read → (a ≡ true) × (b ≡ false)
+closed_read false b c e = absurd (none_some Read e)
+closed_read true true true e = let x = some_vote Yes Read e in absurd cc
+closed_read true true false e = absurd (none_some Read e)
+closed_read true false c e = (refl, refl)
+
+read_new : (s : Shard) (tx : TxId) (v : Voter) (o : Option Stage) → stage_of s.local tx ≡ o → vote_in_state (facts_of s tx) v.seen (state_by o) ≡ Some Read → ReadNow s tx
+read_new s tx v None e f = let x = some_vote (No (RestartedWhy v.seen s.local.epoch)) Read f in absurd cc
+read_new s tx v (Some Active) e f = absurd (none_some Read f)
+read_new s tx v (Some (Gone d)) e f = absurd (gone_read (doom_by (stage_of s.local tx)) f)
+read_new s tx v (Some Closed) e f = let c = closed_read (has_durable_predecessors (facts_of s tx)) (wrote_in s.local.log tx) (has_durable_prepare (facts_of s tx)) f in (e, c.0, c.1)
+
+read_first : (s : Shard) (tx : TxId) (v : Voter) (o : Option Vote) → v.vote ≡ o → first_vote (facts_of s tx) v.seen o ≡ Some Read → (v.vote ≡ Some Read) ⊎ ReadNow s tx
+read_first s tx v None e f = inr (read_new s tx v (stage_of s.local tx) refl f)
+read_first s tx v (Some vote) e f = inl (e ∙ f)
+
+read_by : (s : Shard) (tx : TxId) (v : Voter) (b : Bool) → vote_owed (facts_of s tx) v b ≡ Some Read → (v.vote ≡ Some Read) ⊎ ReadNow s tx
+read_by s tx v true e = absurd (none_some Read e)
+read_by s tx v false e = read_first s tx v v.vote refl e
+
+give_next : (all : List Item) (g : Past) (s : Shard) (tx : TxId) (v : Voter) (o : Option Vote) → Sound all g s → tx_get tx s.voters ≡ Some v → vote_by (facts_of s tx) v ≡ o → Next all g (give_vote s tx v o)
+give_next all g s tx v None h e f = nothing
+give_next all g s tx v (Some Yes) h e f = step (at_once all g (with_vote s tx v Yes) (voted_sound all g s tx v Yes h e (λ x. absurd cc)))
+give_next all g s tx v (Some (No why)) h e f = step (at_once all g (with_vote s tx v (No why)) (voted_sound all g s tx v (No why) h e (λ x. absurd cc)))
+give_next all g s tx v (Some Read) h e f = ⊎_elim again first (read_by s tx v (v.owed == 0) f)
+  where
+    again : v.vote ≡ Some Read → Next all g (Some (finish_reader tx Read (with_vote s tx v Read)))
+    again r =
+        let gone = h.read tx v e r in
+        let x = voted_sound all g (finish_part tx s) tx v Read (finished_again all g s tx h gone) e (λ y. gone_stays tx tx s.local.parts gone) in
+        step (at_once all g (finish_part tx (with_vote s tx v Read)) (record { kept = x.kept; told = x.told; undecided = x.undecided; readers = x.readers; apart = x.apart; unvoted = x.unvoted; read = x.read; asked = x.asked }))
+
+    first : ReadNow s tx → Next all g (Some (finish_reader tx Read (with_vote s tx v Read)))
+    first r =
+        let x = voted_sound all (record g { over = tx ∷ g.over }) (finish_part tx s) tx v Read
+        (finished all g s tx h r.0 (inr (h.unvoted tx v e r.2, r.2, durable_before s tx r.1))) e
+        (λ y. stage_own (tx ∷ []) None tx s.local.parts (or_left _ _ (tx_self tx)) ∙ ap (gone_by None) r.0) in
+        step (record g { over = tx ∷ g.over }, record { kept = x.kept; told = x.told; undecided = x.undecided; readers = x.readers; apart = x.apart; unvoted = x.unvoted; read = x.read; asked = x.asked }, refl, refl, refl, over_more g tx, refl)
+
+vote_next : (all : List Item) (g : Past) (s : Shard) (tx : TxId) (o : Option Voter) → Sound all g s → tx_get tx s.voters ≡ o → Next all g (vote_due s tx o)
+vote_next all g s tx None h e = nothing
+vote_next all g s tx (Some v) h e = give_next all g s tx v (vote_by (facts_of s tx) v) h e refl
+
+-- ---- rolled back
+
+all_append : {I : Type 0} (P : I → Type 0) (xs ys : List I) → AllByRecursion P xs → AllByRecursion P ys → AllByRecursion P (xs ++ ys)
+all_append P [] ys a b = b
+all_append P (x ∷ xs) ys a b = (a.0, all_append P xs ys a.1 b)
+
+none_rolled : (s : Shard) (tx t : TxId) → committed_in s.local.log t ≡ false → committed_in (s.local.log ++ aborts_of s.local.log (doomed_here s.local tx) ++ clrs_of (doomed_here s.local tx) (standing s.local.log)) t ≡ false
+none_rolled s tx t e =
+    ap (λ l. committed_in l t) (append_assoc s.local.log (aborts_of s.local.log (doomed_here s.local tx)) (clrs_of (doomed_here s.local tx) (standing s.local.log)))
+    ∙ uncommitted_append s.local.log _ t e (no_commits (doomed_here s.local tx) t s.local.log)
+
+rolled_wrote : (s : Shard) (tx t : TxId) → wrote_in s.local.log t ≡ true → wrote_in (s.local.log ++ aborts_of s.local.log (doomed_here s.local tx) ++ clrs_of (doomed_here s.local tx) (standing s.local.log)) t ≡ true
+rolled_wrote s tx t e =
+    ap (λ l. wrote_in l t) (append_assoc s.local.log (aborts_of s.local.log (doomed_here s.local tx)) (clrs_of (doomed_here s.local tx) (standing s.local.log)))
+    ∙ list_any-append (is_update_of t) s.local.log _ ∙ or_left _ _ e
+
+-- the items of one that stays
+own_kept : (set : List TxId) (t : TxId) (xs : List Item) → tx_in t set ≡ false → items_of t (filter (keeps_of set) xs) ≡ items_of t xs
+own_kept set t xs out = filter_both (keeps_of set) (λ x. tx_same x.tx t) xs ∙ filter_same _ _ xs (λ x. at x (tx_same x.tx t) refl)
+  where
+    none : (a : Bool) → (a && false) ≡ false
+    none true = refl
+    none false = refl
+
+    at : (x : Item) (b : Bool) → tx_same x.tx t ≡ b → (keeps_of set x && b) ≡ b
+    at x true e = and_from _ _ (ap not (subst (λ z. tx_in z set ≡ false) (sym (tx_true x.tx t e)) out)) refl
+    at x false e = none (keeps_of set x)
+
+rolled_asked : (all : List Item) (g : Past) (s : Shard) (tx t : TxId) → Sound all g s → committed_in (s.local.log ++ aborts_of s.local.log (doomed_here s.local tx) ++ clrs_of (doomed_here s.local tx) (standing s.local.log)) t ≡ true → tx_in t g.asked ≡ true
+rolled_asked all g s tx t h e = ⊎_elim (λ c. h.asked t c) (λ c. absurd (both_ways _ (none_rolled s tx t c) e)) (cases_Bool (committed_in s.local.log t))
+
+pub rolled : (all : List Item) (g : Past) (s : Shard) (tx : TxId) → Sound all g s → committed_in s.local.log tx ≡ false → After all g (with_local (roll_back tx) s)
+rolled all g s tx h open_ =
+    let go : MayGo (view_of s) (doomed_here s.local tx) = may_go g s tx h.kept open_ in (
+      record g { items = filter (keeps_of (doomed_here s.local tx)) g.items },
+      record {
+        kept = keeps_taken g (view_of s) (doomed_here s.local tx) tx h.kept go;
+        told = λ u. ⊎_elim
+            (λ i. inl (
+              none_rolled s tx u (go.undecided u i),
+              own_go (doomed_here s.local tx) (Some tx) u s.local.parts i,
+              false_from_ne_true _ (λ o.
+                  ⊎_elim (λ d. both_ways _ (go.undecided u i) (durable_committed s.local.log s.durable u d)) (λ d. both_ways _ d.2 (in_filter (λ x. is_present (stage_of s.local x)) u (doomed_by s.local tx) i).1) (h.kept.over u o)),
+            ))
+            (λ i. ⊎_elim (λ l. inl (none_rolled s tx u l.0, absent_go (doomed_here s.local tx) (Some tx) u s.local.parts l.1, l.2)) (λ e. inr (own_kept (doomed_here s.local tx) u g.items i ∙ e)) (h.told u))
+            (cases_Bool (tx_in u (doomed_here s.local tx)));
+        undecided = λ t q e u. ⊎_elim (λ c. inl (none_rolled s tx t c)) (λ c. inr c) (h.undecided t q e u);
+        readers = h.readers;
+        apart = h.apart;
+        unvoted = λ t v e w. none_rolled s tx t (h.unvoted t v e (false_from_ne_true _ (λ x. both_ways _ w (rolled_wrote s tx t x))));
+        read = λ t v e f. let r = h.read t v e f in
+            stage_other (doomed_here s.local tx) (Some tx) t s.local.parts (false_from_ne_true _ (λ i. both_ways false refl (sym (ap is_present r) ∙ (in_filter (λ x. is_present (stage_of s.local x)) t (doomed_by s.local tx) i).1))) ∙ r;
+        asked = λ t e. rolled_asked all g s tx t h e;
+      },
+      refl,
+      refl,
+      refl,
+      (λ u o. o),
+      refl,
+    )
+
+-- ---- the home decides
+
+pub committed_not : (parts : List ℕ) → Committed parts ≡ Undecided → ⊥
+committed_not parts e = absurd cc
+
+committed_unfinished : (parts : List ℕ) → Committed parts ≡ Finished → ⊥
+committed_unfinished parts e = absurd cc
+
+finished_not : Finished ≡ Undecided → ⊥
+finished_not e = absurd cc
+
+refused_not : (c : AbortCause) → Refused c ≡ Undecided → ⊥
+refused_not c e = absurd cc
+
+refused_unfinished : (c : AbortCause) → Refused c ≡ Finished → ⊥
+refused_unfinished c e = absurd cc
+
+refused_as : (all : List Item) (g : Past) (s : Shard) (tx : TxId) (q : Request) (c : AbortCause) (to : List ℕ) → Sound all g s → Sound all g (with_ruling tx q (AbortRuling c to) s)
+refused_as all g s tx q c to h = record {
+  kept = h.kept;
+  told = h.told;
+  undecided = ruled_open s tx (record q { state = Refused c }) (refused_not c) s.local.log h.undecided;
+  readers = ruled_reader g s tx (record q { state = Refused c }) (λ e. absurd (refused_unfinished c e)) h.readers;
+  apart = λ t v e. set_none tx t (record q { state = Refused c }) s.requests (h.apart t v e);
+  unvoted = h.unvoted;
+  read = h.read;
+  asked = h.asked;
+}
+
+pub commit_here : (all : List Item) (g : Past) (s : Shard) (tx : TxId) (parts : List ℕ) → Sound all g s → stage_of s.local tx ≡ Some Closed → committed_in s.local.log tx ≡ false → ((p : TxId) → is_pair s.local.pairs tx p ≡ true → committed_in s.local.log p ≡ true)
+    → Kept g (record (view_of s) { log = s.local.log ++ Commit tx parts ∷ [] })
+commit_here all g s tx parts h closed open_ before = keeps_commit g (view_of s) tx parts h.kept closed open_ before
+
+pub commit_other : (log : List LogRecord) (tx u : TxId) (parts : List ℕ) → committed_in log u ≡ false → (tx_same u tx ≡ false) → committed_in (log ++ Commit tx parts ∷ []) u ≡ false
+commit_other log tx u parts e ne = uncommitted_append log (Commit tx parts ∷ []) u e (ap (λ b. b || false) ne)
+
+pub commit_asked : (all : List Item) (g : Past) (s : Shard) (tx : TxId) (parts : List ℕ) → Sound all g s → stage_of s.local tx ≡ Some Closed → (u : TxId) → committed_in (s.local.log ++ Commit tx parts ∷ []) u ≡ true → tx_in u g.asked ≡ true
+commit_asked all g s tx parts h closed u e =
+    ⊎_elim (λ t. ap (λ z. tx_in z g.asked) (tx_true u tx t) ∙ h.kept.closed tx closed)
+    (λ ne. ⊎_elim (λ c. h.asked u c) (λ c. absurd (both_ways _ (commit_other s.local.log tx u parts c ne) e)) (cases_Bool (committed_in s.local.log u)))
+    (cases_Bool (tx_same u tx))
+
+abbrev Before : Shard → TxId → Type 0
+Before s tx = (p : TxId) → is_pair s.local.pairs tx p ≡ true → committed_in s.local.log p ≡ true
+
+update_committed : (all : List Item) (g : Past) (s : Shard) (tx : TxId) (q : Request) (parts : List ℕ) → Sound all g s → tx_get tx s.requests ≡ Some q → stage_of s.local tx ≡ Some Closed → committed_in s.local.log tx ≡ false → Before s tx → Next all g (rule s tx q (Some (CommitRuling parts)))
+update_committed all g s tx q parts h there closed open_ before = step (
+  g,
+  record {
+    kept = commit_here all g s tx parts h closed open_ before;
+    told = λ u. ⊎_elim (λ l. inl (commit_other s.local.log tx u parts l.0 (tx_ne u tx (λ e. both_ways _ l.1 (ap is_present (ap (stage_of s.local) e ∙ closed)))), l.1, l.2)) (λ e. inr e) (h.told u);
+    undecided = λ u r e un. ⊎_elim
+        (λ p. absurd (committed_not parts (ap (λ z. z.state) (sym p.1) ∙ un)))
+        (λ p. ⊎_elim (λ c. inl (commit_other s.local.log tx u parts c (tx_ne u tx p.0))) (λ c. inr c) (h.undecided u r p.1 un))
+        (get_set tx u (record q { state = Committed parts }) r s.requests e);
+    readers = ruled_reader g s tx (record q { state = Committed parts }) (λ e. absurd (committed_unfinished parts e)) h.readers;
+    apart = λ t v e. set_none tx t (record q { state = Committed parts }) s.requests (h.apart t v e);
+    unvoted = λ t v e w. commit_other s.local.log tx t parts (h.unvoted t v e (false_from_ne_true _ (λ x. both_ways _ w (list_any-append (is_update_of t) s.local.log (Commit tx parts ∷ []) ∙ or_left _ _ x))))
+        (tx_ne t tx (λ same. none_some q (sym (h.apart t v e) ∙ ap (λ z. tx_get z s.requests) same ∙ there)));
+    read = h.read;
+    asked = commit_asked all g s tx parts h closed;
+  },
+  refl,
+  refl,
+  refl,
+  (λ u o. o),
+  refl,
+)
+
+reader_sound : (all : List Item) (g : Past) (s : Shard) (tx : TxId) (q : Request) → Sound all g s → stage_of s.local tx ≡ Some Closed → Done (view_of s) tx → Sound all (record g { over = tx ∷ g.over }) (do_ruling tx Acknowledge (with_ruling tx q Acknowledge s))
+reader_sound all g s tx q h closed done =
+    let f = finished all g s tx h closed done in
+    record {
+      kept = f.kept;
+      told = f.told;
+      undecided = ruled_open s tx (record q { state = Finished }) finished_not s.local.log h.undecided;
+      readers = ruled_reader (record g { over = tx ∷ g.over }) s tx (record q { state = Finished }) (λ e. or_left _ _ (tx_self tx)) f.readers;
+      apart = λ t v e. set_none tx t (record q { state = Finished }) s.requests (h.apart t v e);
+      unvoted = h.unvoted;
+      read = f.read;
+      asked = h.asked;
+    }
+
+update_next : (all : List Item) (g : Past) (s : Shard) (tx : TxId) (q : Request) (w : Bool) (ps : List ℕ) → Sound all g s → tx_get tx s.requests ≡ Some q → stage_of s.local tx ≡ Some Closed → committed_in s.local.log tx ≡ false → Before s tx → wrote_in s.local.log tx ≡ w → Next all g (rule s tx q (agreed_ruling (facts_of s tx) w ps))
+update_next all g s tx q w (p ∷ ps) h there closed open_ before e = update_committed all g s tx q (p ∷ ps) h there closed open_ before
+update_next all g s tx q true [] h there closed open_ before e = update_committed all g s tx q [] h there closed open_ before
+update_next all g s tx q false [] h there closed open_ before e = at (has_durable_predecessors (facts_of s tx)) refl
+  where
+    at : (b : Bool) → has_durable_predecessors (facts_of s tx) ≡ b → Next all g (rule s tx q (cond b (Some Acknowledge) None))
+    at true d = step (record g { over = tx ∷ g.over }, reader_sound all g s tx q h closed (inr (open_, e, durable_before s tx d)), refl, refl, refl, over_more g tx, refl)
+    at false d = nothing
+
+-- what is agreed on: the part is closed, it is not committed, its predecessors are
+pub closed_state : (o : Option Stage) → is_closed_state (state_by o) ≡ true → o ≡ Some Closed
+closed_state None e = absurd (both_ways false refl e)
+closed_state (Some Active) e = absurd (both_ways false refl e)
+closed_state (Some Closed) e = refl
+closed_state (Some (Gone d)) e = absurd (both_ways false refl e)
+
+pub no_place : (log : List LogRecord) (tx : TxId) → is_none (commit_lsn log tx) ≡ true → committed_in log tx ≡ false
+no_place log tx e = false_from_ne_true _ (λ c. let k = place_some 0 (is_commit_of tx) log c in both_ways false refl (sym (ap is_none k.1) ∙ e))
+
+pub waiting_here : (s : Shard) (tx : TxId) → is_waiting (facts_of s tx) ≡ true → (stage_of s.local tx ≡ Some Closed) × (committed_in s.local.log tx ≡ false)
+waiting_here s tx w = let p = and_parts (is_closed_state (state_by (stage_of s.local tx))) (is_none (commit_lsn s.local.log tx)) w in (closed_state (stage_of s.local tx) p.0, no_place s.local.log tx p.1)
+
+none_left : (f : TxId → Bool) (u : TxId) (xs : List TxId) → (length (filter (λ p. not (f p)) xs) == 0) ≡ true → tx_in u xs ≡ true → f u ≡ true
+none_left f u [] e i = absurd (both_ways false refl i)
+none_left f u (x ∷ xs) e i = at (f x) refl e (none_left f u xs)
+  where
+    at : (b : Bool) → f x ≡ b → (length (cond (not b) (x ∷ filter (λ p. not (f p)) xs) (filter (λ p. not (f p)) xs)) == 0) ≡ true → ((length (filter (λ p. not (f p)) xs) == 0) ≡ true → tx_in u xs ≡ true → f u ≡ true) → f u ≡ true
+    at true t e ih = ⊎_elim (λ h. subst (λ z. f z ≡ true) (tx_true x u h) t) (λ h. ih e h) (or_cases (tx_same x u) (tx_in u xs) i)
+    at false t e ih = let z = eqb-true (length (x ∷ filter (λ p. not (f p)) xs)) 0 e in absurd (omega (arith, z))
+
+pub agreed_before : (s : Shard) (tx : TxId) → (length (undecided_of s.local tx) == 0) ≡ true → Before s tx
+agreed_before s tx e p i = none_left (committed_in s.local.log) p (predecessors_of s.local.pairs tx) e (pair_in s.local.pairs tx p i)
+
+-- an abort is ruled of one that is not committed
+no_refusal : (all : List Item) (g : Past) (s : Shard) (tx : TxId) (o : Option Stage) → Sound all g s → stage_of s.local tx ≡ o → committed_in s.local.log tx ≡ true → doom_by o ≡ None
+no_refusal all g s tx None h e c = refl
+no_refusal all g s tx (Some Active) h e c = refl
+no_refusal all g s tx (Some Closed) h e c = refl
+no_refusal all g s tx (Some (Gone None)) h e c = refl
+no_refusal all g s tx (Some (Gone (Some d))) h e c = absurd (both_ways _ (h.kept.doomed tx d e) c)
+
+refusal_open : (all : List Item) (g : Past) (s : Shard) (tx : TxId) (q : Request) (c : AbortCause) → Sound all g s → Open s.shard s.local.log tx q → refusal tx q (facts_of s tx) ≡ Some c → committed_in s.local.log tx ≡ false
+refusal_open all g s tx q c h open_ e =
+    ⊎_elim (λ n. n) (λ n. false_from_ne_true _ (λ m. none_some c (sym (ap (λ v. cause_by tx (first_no v) (doom_by (stage_of s.local tx))) n.1 ∙ ap (cause_by tx None) (no_refusal all g s tx (stage_of s.local tx) h refl m)) ∙ e))) open_
+
+refuse_next : (all : List Item) (g : Past) (s : Shard) (tx : TxId) (q : Request) (o : Option AbortCause) → Sound all g s → Open s.shard s.local.log tx q → refusal tx q (facts_of s tx) ≡ o → Next all g (rule s tx q (refused_ruling s.shard q o))
+refuse_next all g s tx q None h open_ e = nothing
+refuse_next all g s tx q (Some c) h open_ e =
+    let r = rolled all g (with_ruling tx q (AbortRuling c (open_shards s.shard q)) s) tx (refused_as all g s tx q c (open_shards s.shard q) h) (refusal_open all g s tx q c h open_ e) in
+    let f = r.1 in
+    step (r.0, record { kept = f.kept; told = f.told; undecided = f.undecided; readers = f.readers; apart = f.apart; unvoted = f.unvoted; read = f.read; asked = f.asked }, r.2, r.3, r.4, r.5, r.6)
+
+undecided_next : (all : List Item) (g : Past) (s : Shard) (tx : TxId) (q : Request) (b : Bool) → Sound all g s → tx_get tx s.requests ≡ Some q → Open s.shard s.local.log tx q → is_agreed s.shard q (facts_of s tx) ≡ b → Next all g (rule s tx q (undecided_ruling s.shard tx q (facts_of s tx) b))
+undecided_next all g s tx q false h there open_ a = refuse_next all g s tx q (refusal tx q (facts_of s tx)) h open_ refl
+undecided_next all g s tx q true h there open_ a =
+    let p = and_parts (is_waiting (facts_of s tx) && (length (undecided_of s.local tx) == 0)) (list_all (λ p. is_good (vote_from p q.votes)) (others s.shard q.touched)) a in
+    let r = and_parts (is_waiting (facts_of s tx)) (length (undecided_of s.local tx) == 0) p.0 in
+    let w = waiting_here s tx r.0 in
+    update_next all g s tx q (wrote_in s.local.log tx) (yes_shards s.shard q) h there w.0 w.1 (agreed_before s tx r.1) refl
+
+end_sound : (all : List Item) (g : Past) (s : Shard) (tx : TxId) (q : Request) → Sound all g s → (q.state ≡ Undecided → ⊥) → (q.state ≡ Finished → ⊥) → Sound all g (do_ruling tx EndRuling (with_ruling tx q EndRuling s))
+end_sound all g s tx q h ne nf = record {
+  kept = keeps_quiet g (view_of s) (End tx) h.kept (standing_append 0 s.local.log (End tx ∷ []) []) (quiet_end tx);
+  told = λ u. ⊎_elim (λ l. inl (uncommitted_append s.local.log (End tx ∷ []) u l.0 refl, l.1, l.2)) (λ e. inr e) (h.told u);
+  undecided = ruled_open s tx (record q { is_ended = true }) ne (s.local.log ++ End tx ∷ []) (λ u r e un. ⊎_elim (λ c. inl (uncommitted_append s.local.log (End tx ∷ []) u c refl)) (λ c. inr c) (h.undecided u r e un));
+  readers = ruled_reader g s tx (record q { is_ended = true }) (λ e. absurd (nf e)) h.readers;
+  apart = λ t v e. set_none tx t (record q { is_ended = true }) s.requests (h.apart t v e);
+  unvoted = λ t v e w. uncommitted_append s.local.log (End tx ∷ []) t (h.unvoted t v e (false_from_ne_true _ (λ x. both_ways _ w (list_any-append (is_update_of t) s.local.log (End tx ∷ []) ∙ or_left _ _ x)))) refl;
+  read = h.read;
+  asked = λ t e. h.asked t (committed_from s.local.log (End tx ∷ []) t refl e);
+}
+
+end_next : (all : List Item) (g : Past) (s : Shard) (tx : TxId) (q : Request) (ps : List ℕ) → Sound all g s → (q.state ≡ Undecided → ⊥) → (q.state ≡ Finished → ⊥) → Next all g (rule s tx q (end_ruling q ps))
+end_next all g s tx q [] h ne nf = nothing
+end_next all g s tx q (p ∷ ps) h ne nf = at (not q.is_ended && list_all (λ n. nat_in n q.acknowledged_by) (p ∷ ps))
+  where
+    at : (b : Bool) → Next all g (rule s tx q (cond b (Some EndRuling) None))
+    at true = step (at_once all g _ (end_sound all g s tx q h ne nf))
+    at false = nothing
+
+ruling_next : (all : List Item) (g : Past) (s : Shard) (tx : TxId) (q : Request) (r : RequestState) → Sound all g s → tx_get tx s.requests ≡ Some q → q.state ≡ r → Next all g (rule s tx q (ruling_in s.shard tx q (facts_of s tx) r))
+ruling_next all g s tx q Undecided h e f = undecided_next all g s tx q (is_agreed s.shard q (facts_of s tx)) h e (h.undecided tx q e f) refl
+ruling_next all g s tx q (Committed parts) h e f = end_next all g s tx q parts h (λ u. committed_not parts (sym f ∙ u)) (λ u. committed_unfinished parts (sym f ∙ u))
+ruling_next all g s tx q Finished h e f = nothing
+ruling_next all g s tx q (Refused c) h e f = nothing
+
+request_next : (all : List Item) (g : Past) (s : Shard) (tx : TxId) (o : Option Request) → Sound all g s → tx_get tx s.requests ≡ o → Next all g (request_due s tx o)
+request_next all g s tx None h e = nothing
+request_next all g s tx (Some q) h e = ruling_next all g s tx q q.state h e refl
+
+due_next : (all : List Item) (g : Past) (s : Shard) (tx : TxId) → Sound all g s → Next all g (due_of s tx)
+due_next all g s tx h =
+    or_next all g _ _ (commit_next all g s tx (stage_of s.local tx) h refl) (or_next all g _ _ (vote_next all g s tx (tx_get tx s.voters) h refl) (request_next all g s tx (tx_get tx s.requests) h refl))
+
+found_next : (all : List Item) (g : Past) (o rest : Option Shard) → Next all g o → Next all g rest → Next all g (elim o [ Some t ↦ Some t | None ↦ rest ])
+found_next all g None rest a b = b
+found_next all g (Some t) rest a b = a
+
+first_next : (all : List Item) (g : Past) (s : Shard) (txs : List TxId) → Sound all g s → Next all g (first_due s txs)
+first_next all g s [] h = nothing
+first_next all g s (tx ∷ txs) h = found_next all g (due_of s tx) _ (due_next all g s tx h) (first_next all g s txs h)
+
+-- ---- until nothing is due
+
+abbrev do_due_at : ℕ → Shard → Option Shard → Shard
+do_due_at n s o = elim o [ Some t ↦ do_due n t | None ↦ s ]
+
+settle_step : (all : List Item) (g : Past) (n : ℕ) (s : Shard) (o : Option Shard) → Sound all g s → Next all g o → ((h : Past) (t : Shard) → Sound all h t → After all h (do_due n t)) → After all g (do_due_at n s o)
+settle_step all g n s None h nothing ih = at_once all g s h
+settle_step all g n s (Some t) h (step a) ih = then_after all g a.0 (do_due n t) a.2 a.3 a.4 a.5 a.6 (ih a.0 t a.1)
+
+settle_sound : (all : List Item) (n : ℕ) (g : Past) (s : Shard) → Sound all g s → After all g (do_due n s)
+settle_sound all zero g s h = at_once all g s h
+settle_sound all (suc n) g s h = settle_step all g n s (next_due s) h (first_next all g s (known_txs s) h) (settle_sound all n)
+
+purged_sound : (all : List Item) (g : Past) (s : Shard) → Sound all g s → Sound all g (with_local purge s)
+purged_sound all g s h = record { kept = keeps_purge g (view_of s) h.kept; told = h.told; undecided = h.undecided; readers = h.readers; apart = h.apart; unvoted = h.unvoted; read = h.read; asked = h.asked }
+
+-- at the end of an event
+pub finish_sound : (all : List Item) (g : Past) (s : Shard) → Sound all g s → After all g (finish s)
+finish_sound all g s h = let a = settle_sound all (work s) g s h in (a.0, purged_sound all a.0 (with_due_done s) a.1, a.2, a.3, a.4, a.5, a.6)

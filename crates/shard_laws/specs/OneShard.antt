@@ -1,0 +1,173 @@
+-- Histories of one shard alone, with restarts; its members; and what is to be shown of them.
+use Rattle.std.specs.Prelude.{◌≡◌, ⊤, ℕ, ◌+◌, ◌≤◌, ◌<◌, ◌&&◌, Bool, true, false, ◌||◌, List, [], ◌∷◌, ◌++◌, map, take, length, Option, Some, None, cond, zero, suc}
+use Rattle.std.specs.List.{list_any, list_all, filter}
+use Rattle.clv_base.specs.declared.names.TxId.{TxId}
+use Rattle.clv_base.specs.declared.names.Birth.{Birth}
+use Rattle.clv_base.specs.declared.state.Stage.{Stage}
+use Rattle.clv_base.specs.declared.state.Stage.TheVariants.{Active, Closed, Gone}
+use Rattle.clv_base.specs.declared.state.Held.{Held}
+use Rattle.clv_base.specs.declared.logs.LogRecord.{LogRecord}
+use Rattle.clv_base.specs.declared.logs.LogRecord.TheVariants.{Clr, Prepare as PrepareRecord}
+use Rattle.clv_base.specs.declared.ops.Op.{Op}
+use Rattle.clv_base.specs.declared.ops.Answer.{Answer}
+use Rattle.clv_base.specs.declared.events.Event.{Event}
+use Rattle.clv_base.specs.declared.events.Event.TheVariants.{Op as OpEvent, Request as RequestEvent, Look, Drop, Deliver, FlushIn, Restart as RestartEvent}
+use Rattle.clv_base.specs.declared.events.Outcome.{Outcome}
+use Rattle.clv_base.specs.declared.events.Outcome.TheVariants.{Answered, Acknowledged, Up}
+use Rattle.clv_base.specs.Orders.{tx_same, tx_in, tx_get}
+use Rattle.clv_base.specs.Maps.{replay_map, replay_answers}
+use Rattle.clv_base.specs.Logs.{committed_in, wrote_in, stands}
+use Rattle.clv_base.specs.declared.messages.Message.{Message}
+use Rattle.clv_base.specs.declared.messages.Message.TheVariants.{Prepare, Vote as VoteMessage, Decide, Done, Ask}
+use Rattle.std.specs.List.{AllByRecursion}
+use Rattle.clv_base.specs.State.{Shard, Local}
+use Rattle.clv_base.specs.Facts.{predecessors_of}
+use Rattle.clv_base.specs.Locks.{violated}
+use Rattle.clv_base.specs.Needs.{needs_of}
+use Rattle.clv_base.specs.declared.state.Voter.{Voter}
+use Rattle.clv_base.specs.declared.state.Request.{Request}
+use Rattle.clv_base.specs.declared.state.RequestState.TheVariants.{Undecided}
+use Rattle.clv_base.specs.Undo.{stage_of}
+use Rattle.clv_base.specs.Events.{Does, happen, landed, with_entry, epoch_in}
+use Rattle.clv_base.specs.OneShard.{seen_fits}
+use Rattle.clv_base.specs.Restarts.{opened, log_left, revived, Restarts}
+use Rattle.law_base.specs.Items.{Item}
+
+-- whether a CLR of the transaction stands in a log
+abbrev pub is_clr_of : TxId → LogRecord → Bool
+is_clr_of t (Clr tx undo_next key after) = tx_same t tx
+is_clr_of t _ = false
+
+abbrev pub undone_in : List LogRecord → TxId → Bool
+undone_in log t = list_any (is_clr_of t) log
+
+abbrev pub items_of : TxId → List Item → List Item
+items_of t all = filter (λ x. tx_same x.tx t) all
+
+-- ---- what an event adds to all that was answered, and to those that asked
+
+abbrev pub with_one : {X : Type 0} → List X → Option X → List X
+with_one xs None = xs
+with_one xs (Some x) = xs ++ x ∷ []
+
+abbrev pub new_item : Shard → Event → Outcome → Option Item
+new_item s (OpEvent tx birth nth seen op) (Answered answer epoch) = Some (record { tx = tx; op = op; answer = answer; lsn = 0 + length s.local.log })
+new_item s (OpEvent tx birth nth seen op) _ = None
+new_item s _ o = None
+
+abbrev pub asks_by_stage : TxId → Option Stage → Bool → Option TxId
+asks_by_stage tx (Some Active) true = Some tx
+asks_by_stage tx (Some Active) false = None
+asks_by_stage tx (Some Closed) b = None
+asks_by_stage tx (Some (Gone d)) b = None
+asks_by_stage tx None b = None
+
+abbrev pub new_asked : Shard → Event → Option TxId
+new_asked s (RequestEvent tx touched) = asks_by_stage tx (stage_of s.local tx) (seen_fits s.local.epoch (epoch_in s.shard touched))
+new_asked s _ = None
+
+-- ---- which events the sessions of one shard make
+
+-- those whose writes a grant violated
+abbrev pub new_met : Shard → Event → Outcome → List (TxId × TxId)
+new_met s (OpEvent tx birth nth seen op) (Answered answer epoch) = map (λ p. (tx, p)) (violated tx (needs_of op s.local.records) s.local.locks)
+new_met s (OpEvent tx birth nth seen op) _ = []
+new_met s _ o = []
+
+abbrev pub has_met : List (TxId × TxId) → TxId → TxId → Bool
+has_met met t p = list_any (λ q. tx_same t q.0 && tx_same p q.1) met
+
+-- the place of a transaction among those of a list, or how many there are
+abbrev pub place : List TxId → TxId → ℕ
+place [] t = zero
+place (a ∷ as_) t = cond (tx_same t a) zero (suc (place as_ t))
+
+-- a transaction without a part here, that does an operation in this epoch, is new
+abbrev pub Fresh : List Item → List TxId → List (TxId × TxId) → Shard → TxId → Type 0
+Fresh all asked met s tx = (committed_in s.local.log tx ≡ false) × (undone_in s.local.log tx ≡ false) × (items_of tx all ≡ []) × ((p : TxId) → has_met met tx p ≡ true → ⊥)
+
+-- no operation after a request, and each transaction has one birth
+pub record MayTouch (all : List Item) (asked : List TxId) (met : List (TxId × TxId)) (s : Shard) (tx : TxId) (birth : Birth) (seen : Option ℕ) : Type 0 where
+  pub not_closed : stage_of s.local tx ≡ Some Closed → ⊥
+  pub not_asked : seen_fits s.local.epoch seen ≡ true → tx_in tx asked ≡ false
+  pub fresh : seen_fits s.local.epoch seen ≡ true → tx_get tx s.local.parts ≡ None → Fresh all asked met s tx
+  pub same_birth : (h : Held) → tx_get tx s.local.parts ≡ Some h → h.birth ≡ birth
+
+-- a request is the first of its transaction, which no other shard has asked for its vote here
+abbrev pub MayAsk : List TxId → Shard → TxId → Type 0
+MayAsk asked s tx = (tx_in tx asked ≡ false) × ((v : Voter) → tx_get tx s.voters ≡ Some v → ⊥) × (tx_get tx s.requests ≡ None)
+
+-- all predecessors have COMMITs in the log
+abbrev pub predecessors_committed : Local → TxId → Bool
+predecessors_committed l tx = list_all (committed_in l.log) (predecessors_of l.pairs tx)
+
+-- what other shards and the transport owe of a message that is delivered here: a Prepare is of one that asked elsewhere; a Decide(commit)
+-- finds the COMMITs of the predecessors, at a part that wrote
+abbrev pub MayDeliver : List TxId → Shard → Message → Type 0
+MayDeliver asked s (Prepare to tx home seen) = (tx_in tx asked ≡ true) × (tx_get tx s.requests ≡ None) × (wrote_in s.local.log tx ≡ false → committed_in s.local.log tx ≡ false)
+MayDeliver asked s (VoteMessage to tx from vote) = ⊤
+MayDeliver asked s (Decide to tx home true) = (predecessors_committed s.local tx ≡ true) × (wrote_in s.local.log tx ≡ true) × ((q : Request) → tx_get tx s.requests ≡ Some q → q.state ≡ Undecided → ⊥)
+MayDeliver asked s (Decide to tx home false) = ⊤
+MayDeliver asked s (Done to tx from) = ⊤
+MayDeliver asked s (Ask to tx from) = ⊤
+
+abbrev pub MayHappen : List Item → List TxId → List (TxId × TxId) → Shard → Event → Type 0
+MayHappen all asked met s (OpEvent tx birth nth seen op) = MayTouch all asked met s tx birth seen
+MayHappen all asked met s (Drop tx) = stage_of s.local tx ≡ Some Closed → committed_in s.local.log tx ≡ false
+MayHappen all asked met s (RequestEvent tx touched) = MayAsk asked s tx
+MayHappen all asked met s (Deliver m stamp) = MayDeliver asked s m
+MayHappen all asked met s _ = ⊤
+
+-- who is told that it is acknowledged
+abbrev pub new_told : Event → Outcome → Option TxId
+new_told (Look tx) Acknowledged = Some tx
+new_told (Look tx) _ = None
+new_told _ o = None
+
+abbrev pub HomeIs : ℕ → LogRecord → Type 0
+HomeIs shard (PrepareRecord tx home ps) = home ≡ shard
+HomeIs shard _ = ⊤
+
+-- from a shard that opened an empty log: all operations that were answered, those that made a request, those that were told of success,
+-- in their orders, and the state
+pub data Leads (run : ℕ) : List Item → List TxId → List TxId → List (TxId × TxId) → Shard → Type 0 where
+  opens : Leads run [] [] [] [] (opened 0 run [])
+  happens :
+      {all : List Item} {asked told : List TxId} {met : List (TxId × TxId)} {s : Shard} (e : Event) (o : Outcome) (t : Shard) (stamp walker : ℕ) → Leads run all asked told met s → MayHappen all asked met s e → happen s e ≡ Does o t
+      → Leads run (with_one all (new_item s e o)) (with_one asked (new_asked s e)) (with_one told (new_told e o)) (new_met s e o ++ met) (with_entry stamp walker e o t)
+  lands :
+      {all : List Item} {asked told : List TxId} {met : List (TxId × TxId)} {s : Shard} (n : ℕ) (pushed : Bool) (o : Outcome) (t : Shard) (stamp walker : ℕ) → Leads run all asked told met s → s.flight ≡ Some n → landed s n pushed ≡ Does o t
+      → Leads run all asked told met (with_entry stamp walker FlushIn o t)
+  -- others ask at their homes
+  others_ask : {all : List Item} {asked told : List TxId} {met : List (TxId × TxId)} {s : Shard} (t : TxId) → Leads run all asked told met s → tx_in t asked ≡ false → Leads run all (asked ++ t ∷ []) told met s
+  -- where nothing can be in doubt: each PREPARE names this shard as its home
+  revives :
+      {all : List Item} {asked told : List TxId} {met : List (TxId × TxId)} {s : Shard} (kept : Bool) (epoch : ℕ) (log : List LogRecord) (stamp walker : ℕ) → Leads run all asked told met s → s.is_up ≡ false → AllByRecursion (HomeIs s.shard) s.local.log → Restarts s (log_left s kept) epoch log
+      → Leads run all asked told met (with_entry stamp walker RestartEvent (Up epoch) (revived s epoch log))
+
+-- ---- the members, by a cut of the log, and what they did
+
+abbrev pub is_member : Shard → ℕ → List TxId → TxId → Bool
+is_member s cut told t = committed_in (take cut s.local.log) t || tx_in t told
+
+abbrev pub members_of : Shard → ℕ → List TxId → List TxId → List TxId
+members_of s cut told asked = filter (is_member s cut told) asked
+
+abbrev pub ops_by : List TxId → List Item → List (List Op)
+ops_by ts all = map (λ t. map (λ x. x.op) (items_of t all)) ts
+
+abbrev pub answers_by : List TxId → List Item → List (List Answer)
+answers_by ts all = map (λ t. map (λ x. x.answer) (items_of t all)) ts
+
+-- replayed one after another in the order of their requests, the members give their answers, and the map that the cut log stands for
+abbrev pub AnswersAndMap : Type 0
+AnswersAndMap =
+    (run : ℕ) (all : List Item) (asked told : List TxId) (met : List (TxId × TxId)) (s : Shard) (cut : ℕ) → Leads run all asked told met s → s.durable ≤ cut
+    → (replay_answers [] (ops_by (members_of s cut told asked) all) ≡ answers_by (members_of s cut told asked) all)
+    × (replay_map [] (ops_by (members_of s cut told asked) all) ≡ stands (take cut s.local.log ∷ []))
+
+-- whose writes a member violated is a member at an earlier place
+abbrev pub Recoverable : Type 0
+Recoverable =
+    (run : ℕ) (all : List Item) (asked told : List TxId) (met : List (TxId × TxId)) (s : Shard) (cut : ℕ) (t p : TxId) → Leads run all asked told met s → s.durable ≤ cut → has_met met t p ≡ true → is_member s cut told t ≡ true
+    → (is_member s cut told p ≡ true) × (place (members_of s cut told asked) p < place (members_of s cut told asked) t)

@@ -1,0 +1,14 @@
+// Laws over all histories of one shard.
+
+ghost use Rattle.shard_laws.specs.OneShard.{AnswersAndMap, Recoverable};
+
+/// In each history of one shard in which nothing is in doubt at a restart, the members of each cut of the log at or above what is durable
+/// replay, in the order of their requests, to the answers that they were given and to the map that the cut stands for.
+pub fn answers_and_map()
+    ensures { AnswersAndMap }
+{}
+
+/// Whose writes a member violated is a member too, at an earlier place.
+pub fn recoverable()
+    ensures { Recoverable }
+{}
