@@ -39,11 +39,11 @@ fn gate_over(alloc: Global, disk: MemoryDisk) -> Result<LogGate<MemoryDisk>, Fai
 }
 
 // Pushes a batch of one record.
-fn push(alloc: Global, gate: &mut LogGate<MemoryDisk>, record: &LogRecord) -> Result<(), Fail>
-    requires { IsTrue (is_spelled record.now) }
+fn push(alloc: Global, gate: &mut LogGate<MemoryDisk>, r: &LogRecord) -> Result<(), Fail>
+    requires { IsTrue (is_spelled r.now) }
 {
     let mut payload = Vec::new(alloc);
-    encode(alloc, record, &mut payload)?;
+    encode(alloc, r, &mut payload)?;
     if payload.len() > 64 {
         return Err(Fail::new("a long record"));
     }

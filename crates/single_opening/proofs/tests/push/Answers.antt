@@ -7,7 +7,7 @@ use Rattle.single_opening.proofs.tests.push.Goals as goal
 
 pub push-requires : goal.push-requires
 push-requires c =
-    let r = c.args.record.now in
+    let r = c.args.r.now in
     let bytes : c.deref.result.now ≡ spelling r = c.deref.ensures.value ∙ c.in_ok-encode.ensures.appended ∙ ap (λ (l : List ℕ). l ++ spelling r) c.new-payload.ensures.items in
     let one : list_all has_spelling (r ∷ []) ≡ true = grind (arith, c.requires) in
     record {
