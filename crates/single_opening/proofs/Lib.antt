@@ -1,3 +1,4 @@
 pub mod Taken
 pub mod Single
 pub mod Restarting
+pub mod Unchecked

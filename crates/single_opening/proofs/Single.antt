@@ -16,14 +16,14 @@ use Rattle.single_opening.specs.Opening.{Refuses}
 use Rattle.single_opening.specs.Finding.{told_as}
 
 -- where all four fields are as they should be
-four_fields : (a b c d : Bool) (splits : List ℕ) (rest : Result (List ℕ) ℕ) → behind_field a 0 (behind_field b 8 (behind_field c 12 (behind_field d 16 rest))) ≡ Ok splits → (d ≡ true) × (rest ≡ Ok splits)
+pub four_fields : (a b c d : Bool) (splits : List ℕ) (rest : Result (List ℕ) ℕ) → behind_field a 0 (behind_field b 8 (behind_field c 12 (behind_field d 16 rest))) ≡ Ok splits → (d ≡ true) × (rest ≡ Ok splits)
 four_fields true true true true splits rest e = (refl, e)
 four_fields false b c d splits rest e = absurd (let no : ◌≡◌ {A = Result (List ℕ) ℕ} (Err 0) (Ok splits) = e in cc)
 four_fields true false c d splits rest e = absurd (let no : ◌≡◌ {A = Result (List ℕ) ℕ} (Err 8) (Ok splits) = e in cc)
 four_fields true true false d splits rest e = absurd (let no : ◌≡◌ {A = Result (List ℕ) ℕ} (Err 12) (Ok splits) = e in cc)
 four_fields true true true false splits rest e = absurd (let no : ◌≡◌ {A = Result (List ℕ) ℕ} (Err 16) (Ok splits) = e in cc)
 
-last_holds : (a b c d : Bool) → (a && (b && (c && d))) ≡ true → d ≡ true
+pub last_holds : (a b c d : Bool) → (a && (b && (c && d))) ≡ true → d ≡ true
 last_holds a b c d e = (and_parts c d (and_parts b (c && d) (and_parts a (b && (c && d)) e).1).1).1
 
 none_follow : (bytes splits : List ℕ) (n : ℕ) → n ≡ 0 → splits_from (Some []) n 0 0 bytes ≡ Ok splits → splits ≡ []
@@ -32,7 +32,7 @@ none_follow bytes splits n zero e =
     let none : ◌≡◌ {A = Result (List ℕ) ℕ} (Ok []) (Ok splits) = subst (λ (m : ℕ). splits_from (Some []) m 0 0 bytes ≡ Ok splits) zero e in
     cc
 
-single_header : (image splits : List ℕ) → header_of 0 (Some []) image ≡ Ok splits → splits ≡ []
+pub single_header : (image splits : List ℕ) → header_of 0 (Some []) image ≡ Ok splits → splits ≡ []
 unfolding header_of
 single_header image splits e =
     let n : ℕ = little_number 4 (drop 16 image) in

@@ -9,7 +9,7 @@ use Rattle.disk_model.specs.Story.{Story, reads}
 use Rattle.log_gate.specs.Image.{HasLog}
 use Rattle.single_path.specs.Plan.{is_plain}
 use Rattle.single_opening.specs.declared.error.OpeningError.{OpeningError}
-use Rattle.single_opening.specs.Opening.{first_refused, Leaves}
+use Rattle.single_opening.specs.Opening.{first_refused, HasFound, Leaves}
 
 -- where no record of a single shard's log is refused, the log is plain and in order
 abbrev pub TakenLogsArePlain : Type 0
@@ -18,6 +18,10 @@ TakenLogsArePlain = (found : List LogRecord) → list_all (passes_file_rules [] 
 -- and no record of a plain log in order is refused
 abbrev pub PlainLogsAreTaken : Type 0
 PlainLogsAreTaken = (found : List LogRecord) → is_plain found ≡ true → disorder 0 found ≡ None → first_refused found ≡ None
+
+-- the records found are the log that a read of the disk gives
+abbrev pub FoundIsTheLog : Type 0
+FoundIsTheLog = (found : List LogRecord) (s : Story) → HasFound found s → HasLog 0 found (reads s)
 
 -- after an opening that failed a read gives a log again, which stands for the same map, and is plain and in order
 abbrev pub MapsStay : Type 0

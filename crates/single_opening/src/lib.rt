@@ -9,6 +9,8 @@ mod error;
 mod judging;
 pub mod laws;
 mod opening;
+#[cfg(test)]
+mod tests;
 
 pub use error::{At, OpeningError};
 pub use opening::{Opened, open_shard};

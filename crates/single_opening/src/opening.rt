@@ -34,7 +34,7 @@ pub struct Opened<D: Disk> {
 }
 
 // The header of a single shard's log.
-fn single() -> Header
+pub(crate) fn single() -> Header
     ensures { (result.shard ≡ 0) × (result.splits ≡ []) }
 {
     Header {
