@@ -13,15 +13,13 @@ mod status;
 mod top;
 
 pub use command::{Command, command_of};
-pub use ended::Ended;
-pub use status::Status;
-pub use top::run;
-
 use disk_model::FileHouse;
+pub use ended::Ended;
 use io_edge::{NoPace, ReadSource, WriteSink};
-use std::env;
-use std::io;
+pub use status::Status;
 use std::process::ExitCode;
+use std::{env, io};
+pub use top::run;
 
 // The status of a run with the words of the command line.
 fn main(rt: HostRuntime) -> io::Result<ExitCode> {
@@ -37,7 +35,15 @@ fn main(rt: HostRuntime) -> io::Result<ExitCode> {
     let mut source = ReadSource::new(rt.stdin());
     let mut sink = WriteSink::new(rt.stdout());
     let mut house = FileHouse::new(rt.clone()?);
-    let ended = run(&rt, alloc, &texts, &mut source, &mut sink, &mut house, &NoPace);
+    let ended = run(
+        &rt,
+        alloc,
+        &texts,
+        &mut source,
+        &mut sink,
+        &mut house,
+        &NoPace,
+    );
     let text = ended.status.text(alloc)?;
     eprint!(rt; "{text}")?;
     Ok(ExitCode::from(ended.status.number()))

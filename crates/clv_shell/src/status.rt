@@ -65,7 +65,9 @@ impl Status {
     {
         match *self {
             Status::Fine => Ok(String::new(alloc)),
-            Status::Usage => format!(in alloc; "usage: clv_shell make [SPLIT].. | run [--tries N] | show | load --seed S --sessions N --accounts A --transfers T\n"),
+            Status::Usage => format!(in alloc;
+                "usage: clv_shell make [SPLIT].. | run [--tries N] | show | load --seed S --sessions N --accounts A --transfers T\n"
+            ),
             Status::Script { line } => format!(in alloc; "script line {line}\n"),
             Status::ReadFault => format!(in alloc; "read fault\n"),
             Status::WriteFault => format!(in alloc; "write fault\n"),

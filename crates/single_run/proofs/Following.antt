@@ -34,22 +34,22 @@ follows : OneShardsEntries → StepsAreThePlan → BirthsAreOfTransactions → R
 follows one steps births fails script ended before now kept run =
     let own_is : entries_of kept.journals ≡ history run.found run.done run.stop = own_entries run.found run.done run.stop before now kept run.played one in
     let path : AllByRecursion (λ e. is_path_event e.event ≡ true) (play run.found run.done run.stop).entries
-        × (list_any (λ e. is_failure e.outcome) (play run.found run.done run.stop).entries ≡ stops_at_failure run.stop) = fails run.found run.done run.stop in
+    × (list_any (λ e. is_failure e.outcome) (play run.found run.done run.stop).entries ≡ stops_at_failure run.stop) = fails run.found run.done run.stop in
     record {
       stop = run.stop;
       ends = run.ends;
       follows =
-        record {
-          done = run.done;
-          rest = run.rest;
-          whole = run.whole;
-          stops = run.stops;
-          steps = ap (λ h. steps_in (own 1 h)) own_is ∙ steps run.found run.done run.stop;
-          stamp_of = birth_stamp run.found run.done;
-          births =
-            subst (λ h. AllByRecursion (λ e. HasBirth (birth_stamp run.found run.done) (e.1).event) h) (sym own_is)
-            (over_history (λ e. HasBirth (birth_stamp run.found run.done) e.event) (play run.found run.done run.stop).entries (births run.found run.done run.stop));
-        };
+          record {
+            done = run.done;
+            rest = run.rest;
+            whole = run.whole;
+            stops = run.stops;
+            steps = ap (λ h. steps_in (own 1 h)) own_is ∙ steps run.found run.done run.stop;
+            stamp_of = birth_stamp run.found run.done;
+            births =
+                subst (λ h. AllByRecursion (λ e. HasBirth (birth_stamp run.found run.done) (e.1).event) h) (sym own_is)
+                (over_history (λ e. HasBirth (birth_stamp run.found run.done) e.event) (play run.found run.done run.stop).entries (births run.found run.done run.stop));
+          };
       no_stop = subst HasNoStop (sym own_is) (over_history (λ e. is_path_event e.event ≡ true) (play run.found run.done run.stop).entries path.0);
       failure = ap has_failure own_is ∙ any_history (λ e. is_failure e.outcome) (play run.found run.done run.stop).entries ∙ path.1;
     }
@@ -83,7 +83,8 @@ acknowledges one crashes members script (Ok a) before now kept run = λ left cho
 acknowledges one crashes members script (Err e) before now kept run = tt
 
 pub runs_keep : PlaysKeep → OneShardsEntries → StepsAreThePlan → BirthsAreOfTransactions → RunsFailWhereTheyStop → CrashesLeave → MembersAreThePlan → RunsKeep
-runs_keep keeps one steps births fails crashes members script ended before now kept run =
-    (keeps run.found run.done run.stop before now kept run.played,
-     follows one steps births fails script ended before now kept run,
-     acknowledges one crashes members script ended before now kept run)
+runs_keep keeps one steps births fails crashes members script ended before now kept run = (
+  keeps run.found run.done run.stop before now kept run.played,
+  follows one steps births fails script ended before now kept run,
+  acknowledges one crashes members script ended before now kept run,
+)

@@ -74,7 +74,7 @@ begins_with_found found plan stop =
     let run : ℕ = run_after (found ∷ []) in
     let first : GoesOn found (log_opened found) = record { more = _; is = refl } in
     let all : GoesOn found (play found plan stop).log =
-      then found (run_all run plan (opening found)).log _ (then found (opening found).log _ first (all_log run plan (opening found))) (stopped_log run stop (run_all run plan (opening found))) in
+    then found (run_all run plan (opening found)).log _ (then found (opening found).log _ first (all_log run plan (opening found))) (stopped_log run stop (run_all run plan (opening found))) in
     ap (take (length found)) all.is ∙ take-append_seam found all.more
 
 -- ---- between two transactions all is durable

@@ -31,9 +31,9 @@ after_all : (n : ℕ) (m : Member) (ms : List Member) → (m.tx).serial ≡ n �
 after_all n m [] e h = tt
 after_all n m (o ∷ ms) e h = ((λ same. subst (λ k. k < (o.tx).serial) (sym e) h.1), after_all n m ms e (below n (o.tx).serial ms h.1 h.2))
   where
-  below : (a b : ℕ) (ms : List Member) → a < b → InOrder b ms → InOrder a ms
-  below a b [] lt h = tt
-  below a b (o ∷ ms) lt h = (h.0, omega (arith, lt, h.1), h.2)
+    below : (a b : ℕ) (ms : List Member) → a < b → InOrder b ms → InOrder a ms
+    below a b [] lt h = tt
+    below a b (o ∷ ms) lt h = (h.0, omega (arith, lt, h.1), h.2)
 
 pub in_order : (n : ℕ) (ms : List Member) → InOrder n ms → SessionsInOrder ms
 in_order n [] h = tt
@@ -43,14 +43,12 @@ in_order n (m ∷ ms) h = (after_all (m.tx).serial m ms refl h.2, in_order (m.tx
 
 module _
     (found : List LogRecord) (plan : List (List Op)) (stop : Stop) (before now : ℕ → Option Story) (kept : Kept) (played : IsPlayed found plan stop (before 0) (now 0) kept) where
-
   -- its entries are the history of the run
   pub own_entries : OneShardsEntries → entries_of kept.journals ≡ history found plan stop
   own_entries one =
       ap entries_of played.journal ∙ one (play found plan stop).entries ∙ same_history (play found plan stop).entries
 
   module _ (one : OneShardsEntries) (choice : Bool) where
-
     pub legal_run : RunsAreLegal → Legal [] kept.found (entries_of kept.journals) (log_left_by choice (play found plan stop) ∷ [])
     legal_run law =
         subst (λ f. Legal [] f (entries_of kept.journals) (log_left_by choice (play found plan stop) ∷ [])) (sym played.found_is)
@@ -58,7 +56,6 @@ module _
 
   -- the shard at the end, by the history and whatever logs are left
   module _ (one : OneShardsEntries) (left : List (List LogRecord)) where
-
     final_is : final_of kept.found (entries_of kept.journals) left 0 ≡ final_of (found ∷ []) (history found plan stop) left 0
     final_is = ap (λ f. final_of f (entries_of kept.journals) left 0) played.found_is ∙ ap (λ h. final_of (found ∷ []) h left 0) (own_entries one)
 
@@ -72,15 +69,15 @@ module _
     disk_holds law =
         subst (λ s. IfSome (now 0) (EachNow (HoldsLog (flush_failed (journal_of 0 (entries_of kept.journals))) s 0))) (sym final_is)
         (if_some
-           (EachNow (PlayHolds (stops_at_failure stop) (play found plan stop)))
-           (EachNow (HoldsLog (flush_failed (journal_of 0 (entries_of kept.journals))) (final_of (found ∷ []) (history found plan stop) left 0) 0))
-           (now 0)
-           (λ s. each_now
-              (PlayHolds (stops_at_failure stop) (play found plan stop))
-              (HoldsLog (flush_failed (journal_of 0 (entries_of kept.journals))) (final_of (found ∷ []) (history found plan stop) left 0) 0)
-              s
-              (holds_too (stops_at_failure stop) (flush_failed (journal_of 0 (entries_of kept.journals))) fails_too (final_of (found ∷ []) (history found plan stop) left 0) (play found plan stop) (law found plan stop left played.may)))
-           played.holds)
+        (EachNow (PlayHolds (stops_at_failure stop) (play found plan stop)))
+        (EachNow (HoldsLog (flush_failed (journal_of 0 (entries_of kept.journals))) (final_of (found ∷ []) (history found plan stop) left 0) 0))
+        (now 0)
+        (λ s. each_now
+        (PlayHolds (stops_at_failure stop) (play found plan stop))
+        (HoldsLog (flush_failed (journal_of 0 (entries_of kept.journals))) (final_of (found ∷ []) (history found plan stop) left 0) 0)
+        s
+        (holds_too (stops_at_failure stop) (flush_failed (journal_of 0 (entries_of kept.journals))) fails_too (final_of (found ∷ []) (history found plan stop) left 0) (play found plan stop) (law found plan stop left played.may)))
+        played.holds)
 
     pub disks_hold : RunsHaveTheirLog → DisksHold [] kept.found (entries_of kept.journals) left now
     disks_hold law n lt =
@@ -91,7 +88,6 @@ module _
 
   -- whatever a crash keeps of the records in flight
   module _ (one : OneShardsEntries) (left : List (List LogRecord)) (choice : ℕ → Bool) where
-
     pub logs_are : CrashesLeave → logs_left [] kept.found (entries_of kept.journals) left choice ≡ log_left_by (choice 0) (play found plan stop) ∷ []
     logs_are law =
         ap (λ f. logs_left [] f (entries_of kept.journals) left choice) played.found_is ∙ ap (λ h. logs_left [] (found ∷ []) h left choice) (own_entries one)
@@ -108,11 +104,11 @@ module _
         let base : stands kept.found ≡ stands (found ∷ []) = ap stands played.found_is in
         record {
           answers =
-            ap (λ m. replay_answers m (serial_ops (serial (logs_left [] kept.found (entries_of kept.journals) left choice) (entries_of kept.journals)))) base
-            ∙ ap (λ xs. replay_answers (stands (found ∷ [])) (serial_ops xs)) ms ∙ (replays found plan stop (choice 0) played.may).0 ∙ ap serial_answers (sym ms);
+              ap (λ m. replay_answers m (serial_ops (serial (logs_left [] kept.found (entries_of kept.journals) left choice) (entries_of kept.journals)))) base
+              ∙ ap (λ xs. replay_answers (stands (found ∷ [])) (serial_ops xs)) ms ∙ (replays found plan stop (choice 0) played.may).0 ∙ ap serial_answers (sym ms);
           map =
-            ap (λ m. replay_map m (serial_ops (serial (logs_left [] kept.found (entries_of kept.journals) left choice) (entries_of kept.journals)))) base
-            ∙ ap (λ xs. replay_map (stands (found ∷ [])) (serial_ops xs)) ms ∙ (replays found plan stop (choice 0) played.may).1 ∙ ap stands (sym logs);
+              ap (λ m. replay_map m (serial_ops (serial (logs_left [] kept.found (entries_of kept.journals) left choice) (entries_of kept.journals)))) base
+              ∙ ap (λ xs. replay_map (stands (found ∷ [])) (serial_ops xs)) ms ∙ (replays found plan stop (choice 0) played.may).1 ∙ ap stands (sym logs);
           order = subst SessionsInOrder (sym ms) (in_order 0 (members_left found plan stop (choice 0)) (orders found plan stop (choice 0) played.may));
           opens = ap (may_open []) logs ∙ opens found plan stop (choice 0) played.may played.fits;
         }
@@ -124,16 +120,16 @@ plays_keep one legal has crashes replays orders opens found plan stop before now
     record {
       left = left;
       legal =
-        record {
-          found =
-            λ n lt. subst (λ k. IfSome (before k) (λ s. HasLog k (log_of kept.found k) (reads s))) (only_one n lt)
-              (subst (λ f. IfSome (before 0) (λ s. HasLog 0 (log_of f 0) (reads s))) (sym played.found_is) played.held);
-          left_is_read = λ n lt. subst (λ k. IfSome (now k) (λ s. HasLog k (log_of left k) (reads s))) (only_one n lt) pick.read;
-          untold =
-            λ n lt. subst (λ k. now k ≡ None → log_of left k ≡ log_left (final_of kept.found (entries_of kept.journals) left k) false) (only_one n lt)
-              (λ none. ap (λ b. log_left_by b (play found plan stop)) (pick.untold none) ∙ sym (left_is found plan stop before now kept played one left has false));
-          legal = legal_run found plan stop before now kept played one pick.choice legal;
-        };
+          record {
+            found =
+                λ n lt. subst (λ k. IfSome (before k) (λ s. HasLog k (log_of kept.found k) (reads s))) (only_one n lt)
+                (subst (λ f. IfSome (before 0) (λ s. HasLog 0 (log_of f 0) (reads s))) (sym played.found_is) played.held);
+            left_is_read = λ n lt. subst (λ k. IfSome (now k) (λ s. HasLog k (log_of left k) (reads s))) (only_one n lt) pick.read;
+            untold =
+                λ n lt. subst (λ k. now k ≡ None → log_of left k ≡ log_left (final_of kept.found (entries_of kept.journals) left k) false) (only_one n lt)
+                (λ none. ap (λ b. log_left_by b (play found plan stop)) (pick.untold none) ∙ sym (left_is found plan stop before now kept played one left has false));
+            legal = legal_run found plan stop before now kept played one pick.choice legal;
+          };
       disks = disks_hold found plan stop before now kept played one left has;
       serial = λ choice. is_serial found plan stop before now kept played one left choice crashes replays orders opens;
     }

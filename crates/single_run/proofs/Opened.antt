@@ -22,7 +22,6 @@ module _
     (count : ℕ) (w q : View) (before now story : Option Story) (shard : ℕ) (shut : Bool) (plan : List (List Op)) (ended : Result (Unit {0}) CommitError) (kept : Kept)
     (is : IsOpened (found_in count w) count w before) (zero : shard ≡ 0) (here : now ≡ story) (may : list_all may_run plan ≡ true) (size : session_size plan < 2 ^ 40)
     (bounded : ClocksAreBounded) (journal : kept.journals ≡ (q.play).entries ∷ []) (log : kept.found ≡ take count (q.play).log ∷ []) where
-
   Ends : (Option (List LogRecord) → Type 0) → Play → Type 0
   Ends logs p =
       OnOk ended (q.play ≡ run_all w.run plan p) → OnOk ended (IsKept q shut logs) → (ended ≡ Err Failed → FailsIn w.run plan p q.play logs)

@@ -66,7 +66,6 @@ and_true true b p q = q
 and_true false b p q = absurd cc
 
 module _ (plan done : List (List Op)) (ops : List Op) (rest : List (List Op)) (whole : plan ≡ done ++ ops ∷ rest) where
-
   done_may : list_all may_run plan ≡ true → list_all may_run done ≡ true
   done_may h = and_first _ _ (sym (list_all-append may_run done (ops ∷ rest)) ∙ ap (list_all may_run) (sym whole) ∙ h)
 
@@ -107,7 +106,6 @@ module _
     (fits : list_all (passes_file_rules [] 0) found ≡ true) (may : list_all may_run plan ≡ true) (size : session_size plan < 2 ^ 40)
     (held : IfSome before (λ s. HasLog 0 found (reads s))) (found_is : kept.found ≡ take (length found) (q.play).log ∷ []) (journal : kept.journals ≡ (q.play).entries ∷ [])
     (bounded : ClocksAreBounded) where
-
   may_play : (done : List (List Op)) (stop : Stop) → list_all may_run done ≡ true → may_stop stop ≡ true → session_size done + stop_operations stop ≤ session_size plan → MayPlay found done stop
   may_play done stop all stops small =
       record {
@@ -135,21 +133,21 @@ module _
         stops = refl;
         ends = refl;
         played =
-          record {
-            may = may_play plan After_all may refl (omega arith);
-            fits = fits;
-            found_is = found_too plan After_all (ap (λ p. p.log) same);
-            journal = journal ∙ ap (λ p. p.entries ∷ []) same;
-            held = held;
-            holds =
-              subst (λ p. IfSome now (EachNow (PlayHolds false p))) same
-              (holds_only q.play (q.play).log now (left_after_all q.play (record { durable = (keeps.steady).durable; flight = (keeps.steady).flight })) keeps.log);
-          };
+            record {
+              may = may_play plan After_all may refl (omega arith);
+              fits = fits;
+              found_is = found_too plan After_all (ap (λ p. p.log) same);
+              journal = journal ∙ ap (λ p. p.entries ∷ []) same;
+              held = held;
+              holds =
+                  subst (λ p. IfSome now (EachNow (PlayHolds false p))) same
+                  (holds_only q.play (q.play).log now (left_after_all q.play (record { durable = (keeps.steady).durable; flight = (keeps.steady).flight })) keeps.log);
+            };
       }
     where
-    nil : (xs : List (List Op)) → xs ++ [] ≡ xs
-    nil [] = refl
-    nil (x ∷ xs) = ap (λ ys. x ∷ ys) (nil xs)
+      nil : (xs : List (List Op)) → xs ++ [] ≡ xs
+      nil [] = refl
+      nil (x ∷ xs) = ap (λ ys. x ∷ ys) (nil xs)
 
   -- the run between two of its transactions
   abbrev so_far : List (List Op) → Play
@@ -172,19 +170,19 @@ module _
         stops = (f.rest, refl);
         ends = refl;
         played =
-          record {
-            may =
-              may_play f.done (At_failure f.ops) (done_may plan f.done f.ops f.rest f.whole may)
-              (and_true _ _ (next_may plan f.done f.ops f.rest f.whole may) last.wrote)
-              (omega (arith, size_append f.done (f.ops ∷ f.rest), ap session_size f.whole));
-            fits = fits;
-            found_is = found_too f.done (At_failure f.ops) (last.entered).log;
-            journal = journal ∙ ap (λ es. es ∷ []) (last.entered).entries;
-            held = held;
-            holds =
-              holds_or_more stopped_at p.log (drop (length p.log) stopped_at.log) now (left_at_failure (run_after (found ∷ [])) f.ops p (rests f.done))
-              (left_with_flight (run_after (found ∷ [])) f.ops p) last.log;
-          };
+            record {
+              may =
+                  may_play f.done (At_failure f.ops) (done_may plan f.done f.ops f.rest f.whole may)
+                  (and_true _ _ (next_may plan f.done f.ops f.rest f.whole may) last.wrote)
+                  (omega (arith, size_append f.done (f.ops ∷ f.rest), ap session_size f.whole));
+              fits = fits;
+              found_is = found_too f.done (At_failure f.ops) (last.entered).log;
+              journal = journal ∙ ap (λ es. es ∷ []) (last.entered).entries;
+              held = held;
+              holds =
+                  holds_or_more stopped_at p.log (drop (length p.log) stopped_at.log) now (left_at_failure (run_after (found ∷ [])) f.ops p (rests f.done))
+                  (left_with_flight (run_after (found ∷ [])) f.ops p) last.log;
+            };
       }
 
   pub ran_out_of_memory : StopsIn run plan (opening found) q.play (logs_told now 0) → IsRun plan (Err Memory) before now kept
@@ -201,16 +199,16 @@ module _
         stops = (drop last.done f.ops, f.rest, ap (λ xs. xs ∷ f.rest) (sym (take-append-drop last.done f.ops)));
         ends = refl;
         played =
-          record {
-            may =
-              may_play f.done (In_operations front) (done_may plan f.done f.ops f.rest f.whole may) (front_may last.done f.ops (next_may plan f.done f.ops f.rest f.whole may))
-              (omega (arith, size_append f.done (f.ops ∷ f.rest), ap session_size f.whole, shorter last.done f.ops));
-            fits = fits;
-            found_is = found_too f.done (In_operations front) (last.entered).log;
-            journal = journal ∙ ap (λ es. es ∷ []) (last.entered).entries;
-            held = held;
-            holds = holds_only (play found f.done (In_operations front)) p.log now (left_in_operations (run_after (found ∷ [])) front p (rests f.done)) last.log;
-          };
+            record {
+              may =
+                  may_play f.done (In_operations front) (done_may plan f.done f.ops f.rest f.whole may) (front_may last.done f.ops (next_may plan f.done f.ops f.rest f.whole may))
+                  (omega (arith, size_append f.done (f.ops ∷ f.rest), ap session_size f.whole, shorter last.done f.ops));
+              fits = fits;
+              found_is = found_too f.done (In_operations front) (last.entered).log;
+              journal = journal ∙ ap (λ es. es ∷ []) (last.entered).entries;
+              held = held;
+              holds = holds_only (play found f.done (In_operations front)) p.log now (left_in_operations (run_after (found ∷ [])) front p (rests f.done)) last.log;
+            };
       }
 
   -- however the transactions ended

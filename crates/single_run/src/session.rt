@@ -178,15 +178,7 @@ pub fn run_session<H: House, P: Pace>(
         return Err(OpeningError::Memory);
     };
     match open(alloc, house) {
-        Ok(opened) => Ok(run_opened(
-            alloc,
-            house,
-            pace,
-            opened,
-            transactions,
-            journals,
-            logs,
-        )),
+        Ok(opened) => Ok(run_opened(alloc, house, pace, opened, transactions, journals, logs)),
         Err(error) => Err(error),
     }
 }

@@ -63,7 +63,7 @@ pub clock_fits :
     → q ≡ run_all run (take i plan) p → ClocksAreBounded → q.clock < 2 ^ 46
 clock_fits found run plan i p q is_opening is_run small e bounded =
     let same : q.clock ≡ (run_all (run_after (found ∷ [])) (take i plan) (opening found)).clock =
-      ap (λ x. x.clock) e ∙ ap (λ x. (run_all run (take i plan) x).clock) is_opening ∙ ap (λ r. (run_all r (take i plan) (opening found)).clock) is_run in
+    ap (λ x. x.clock) e ∙ ap (λ x. (run_all run (take i plan) x).clock) is_opening ∙ ap (λ r. (run_all r (take i plan) (opening found)).clock) is_run in
     let bound : (run_all (run_after (found ∷ [])) (take i plan) (opening found)).clock ≤ operations (take i plan) + 0 + 5 * length (take i plan) + 4 = bounded found (take i plan) After_all in
     omega (arith, same, bound, size_is (take i plan), front_smaller i plan)
 
@@ -80,7 +80,6 @@ serial_fits found run plan i p q is_opening small e =
 module _
     (run now : ℕ) (plan : List (List Op)) (i : ℕ) (ops ops' : List Op) (p q after : Play) (logs : Option (List LogRecord) → Type 0) (lt : i < length plan)
     (same : ops' ≡ ops) (is : ops ≡ get_or plan i ops) (still : now ≡ run) (done : q ≡ run_all run (take i plan) p) where
-
   pub fails_in : HasFailed now ops' q after logs → FailsIn run plan p after logs
   fails_in failed =
       record {

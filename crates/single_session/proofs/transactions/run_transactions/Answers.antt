@@ -30,10 +30,10 @@ pub loop-transaction-preserved : goal.loop-transaction-preserved
 loop-transaction-preserved g c =
     record {
       done =
-        goes_on c.args.walk.now.run c.loop-transaction.walk.run c.args.transactions.now c.loop-transaction.transaction-index c.transaction-item.result c.operations.result.now
-    c.args.walk.now.play c.loop-transaction.walk.play c.commit.new.walk.play (g.G.Gate.logs c.commit.new.gate) c.loop-transaction-test.true
-    c.operations.ensures c.transaction-item.is c.loop-transaction.invariant.run c.loop-transaction.invariant.done
-        c.in-Ok.ensures.ok c.runs_go_on.ensures;
+          goes_on c.args.walk.now.run c.loop-transaction.walk.run c.args.transactions.now c.loop-transaction.transaction-index c.transaction-item.result c.operations.result.now
+          c.args.walk.now.play c.loop-transaction.walk.play c.commit.new.walk.play (g.G.Gate.logs c.commit.new.gate) c.loop-transaction-test.true
+          c.operations.ensures c.transaction-item.is c.loop-transaction.invariant.run c.loop-transaction.invariant.done
+          c.in-Ok.ensures.ok c.runs_go_on.ensures;
       run = cc (c.in-Ok.ensures.run, c.loop-transaction.invariant.run);
       kept = c.in-Ok.ensures.kept;
       shard = cc (c.in-Ok.ensures.shard, c.loop-transaction.invariant.shard);
