@@ -10,6 +10,8 @@ mod ended;
 mod making;
 mod running;
 mod status;
+#[cfg(test)]
+mod tests;
 mod top;
 
 pub use command::{Command, command_of};

@@ -1,13 +1,12 @@
 -- What an opening may add to a log leaves what it stands for.
-use Rattle.std.proofs.Common.{◌≡◌, refl, ap, sym, ◌∙◌, Bool, true, false, cond, ◌||◌, ◌&&◌, List, [], ◌∷◌, ◌++◌, Option}
-use Rattle.std.specs.List.{list_all, list_any}
+use Rattle.std.proofs.Common.{◌≡◌, refl, ap, ◌∙◌, Bool, true, false, cond, ◌||◌, List, [], ◌∷◌, ◌++◌}
+use Rattle.std.specs.List.{list_all}
 use Rattle.std.proofs.lemmas.List.Folds.{list_any-append}
-use Rattle.std.proofs.lemmas.Grind.{common_steps}
 use Rattle.clv_base.specs.declared.names.TxId.{TxId}
 use Rattle.clv_base.specs.declared.logs.LogRecord.{LogRecord}
 use Rattle.clv_base.specs.declared.logs.LogRecord.TheVariants.{Update, Clr, Prepare, Commit, Abort, End, Restart}
 use Rattle.clv_base.specs.Maps.{KeyMap, map_set}
-use Rattle.clv_base.specs.Logs.{committed_in, is_commit_of, fold_updates, committed_somewhere, stands}
+use Rattle.clv_base.specs.Logs.{committed_in, is_commit_of, fold_updates, committed_somewhere}
 use Rattle.run_promises.specs.Disks.{is_undo}
 use Rattle.run_promises.specs.Laws.{UndoStands}
 

@@ -1,5 +1,5 @@
 -- What the entries of a run have of its script, which has one session.
-use Rattle.std.specs.Prelude.{◌≡◌, ℕ, suc, Bool, true, false, List, [], ◌∷◌, ◌++◌, length}
+use Rattle.std.specs.Prelude.{◌≡◌, ℕ, suc, Bool, true, List, [], ◌∷◌, ◌++◌, length}
 use Rattle.std.specs.List.{AllByRecursion, list_any}
 use Rattle.clv_base.specs.declared.ops.Op.{Op}
 use Rattle.clv_base.specs.declared.logs.LogRecord.{LogRecord}
@@ -10,7 +10,7 @@ use Rattle.single_path.specs.Plan.{Stop, After_all, In_operations, At_request, I
 use Rattle.single_path.specs.Script.{steps_in, plan_steps, stop_steps, HasBirth}
 use Rattle.single_path.specs.Steps.{is_path_event, is_failure}
 use Rattle.single_path.specs.Serial.{with_operations}
-use Rattle.run_promises.specs.Histories.{entries, members_by}
+use Rattle.run_promises.specs.Histories.{members_by}
 
 -- the transactions that are left begin with the one in which a run stops: with all its operations where it made its request, else with some
 abbrev pub StopsIn : Stop → List (List Op) → Type 0

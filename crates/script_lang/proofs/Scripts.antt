@@ -1,11 +1,11 @@
 -- What every script keeps to: by its lines, one after another.
-use Rattle.std.proofs.Common.{◌≡◌, refl, ap, sym, ◌∙◌, subst, ℕ, suc, zero, ◌+◌, ◌≤◌, ◌<◌, ◌^◌, Bool, true, false, nat_lt, nat_le, ◌&&◌, ◌==◌, cond, List, [], ◌∷◌, ◌++◌, length, Option, Some, None, arith, length-append, add-one}
+use Rattle.std.proofs.Common.{◌≡◌, refl, ap, ◌∙◌, subst, ℕ, suc, ◌+◌, ◌≤◌, ◌<◌, ◌^◌, Bool, true, false, nat_lt, nat_le, ◌&&◌, ◌==◌, cond, List, [], ◌∷◌, ◌++◌, length, Option, Some, None, arith, length-append}
 use Rattle.std.specs.List.{list_all}
 use Rattle.std.proofs.lemmas.List.Folds.{list_all-append}
 use Rattle.std.proofs.lemmas.Bool.Decides.{nat_tests}
 use Rattle.clv_base.specs.declared.ops.Op.{Op}
 use Rattle.clv_base.specs.declared.ops.Op.TheVariants.{Get, Put, Del, Scan}
-use Rattle.script_lang.specs.Grammar.{Line, Blank, Session, Begin, Operation, Commit, IsNumber, IsOperation, AreNumbers, IsLine, Reading, nothing_read, with_transaction, after_operation, read_line, after_line, Reads, at_first, one_more, lines_of, before_line}
+use Rattle.script_lang.specs.Grammar.{Line, Blank, Session, Begin, Operation, Commit, IsOperation, IsLine, Reading, with_transaction, after_operation, read_line, Reads, at_first, one_more, lines_of, before_line}
 use Rattle.script_lang.specs.Laws.{is_narrow, is_narrow_transaction, session_size, script_size, ScriptsAreNarrow, ScriptsAreShort, ScriptsHaveOneSession}
 
 -- ---- an operation of a line
