@@ -9,7 +9,7 @@ use Rattle.single_path.proofs.Legality.{runs_are_legal}
 use Rattle.protocol_laws.specs.Growth.{IsPrefixOf}
 use Rattle.history_laws.specs.Continuing.{SameAtRestarts}
 use Rattle.one_shard_laws.specs.Replaying.{new_log}
-use Rattle.history_examples.specs.Worked.{one_plan, two_plan, short_run, long_run, short_log, long_log, RunsGoOn, restarted, looked_at, restarted_log, RestartIsLegal, RestartGoesOn}
+use Rattle.history_examples.specs.Worked.{one_plan, two_plan, short_run, long_run, short_log, long_log, RunsGoOn, restarted, looked_at, restarted_log, RestartIsLegal, RestartGoesOn, violated, violated_log, ViolatedIsLegal}
 
 -- what holds of shard 0 holds of each shard below 1
 only_one : (P : ℕ → Type 0) → P 0 → (n : ℕ) → n < 1 → P n
@@ -95,4 +95,41 @@ restart_goes_on =
     record {
       journals = only_one (λ n. IsPrefixOf (journal_of n restarted) (journal_of n looked_at)) (_, refl);
       restarts = only_one (λ n. SameAtRestarts 1 (log_of (restarted_log ∷ []) n) (log_of (restarted_log ∷ []) n) (journal_of n restarted)) (tt, (tt, (tt, (refl, tt))));
+    }
+
+violated_runs : MayRun violated_log (start_of new_log 0) (journal_of 0 violated)
+violated_runs = (
+  record { event = (refl, (_, refl)); rises = lit< tt; above_message = lit< tt; bounded = lit< tt },
+  (
+    record { event = (_, refl); rises = lit< tt; above_message = lit< tt; bounded = lit< tt },
+    (
+      record { event = (refl, (_, refl)); rises = lit< tt; above_message = lit< tt; bounded = lit< tt },
+      (
+        record { event = (_, refl); rises = lit< tt; above_message = lit< tt; bounded = lit< tt },
+        (
+          record { event = (_, refl); rises = lit< tt; above_message = lit< tt; bounded = lit< tt },
+          (
+            record { event = (refl, refl); rises = lit< tt; above_message = lit< tt; bounded = lit< tt },
+            (record { event = (_, refl); rises = lit< tt; above_message = lit< tt; bounded = lit< tt }, tt),
+          ),
+        ),
+      ),
+    ),
+  ),
+)
+
+pub violated_is_legal : ViolatedIsLegal
+violated_is_legal =
+    record {
+      splits_rise = refl;
+      ordered = refl;
+      each_log = (refl, refl);
+      in_shards = refl;
+      run_fits = lit< tt;
+      runs = only_one (λ n. MayRun (log_of (violated_log ∷ []) n) (start_of new_log n) (journal_of n violated)) violated_runs;
+      leaves = only_one (λ n. MayLeave (final_of new_log violated (violated_log ∷ []) n) (log_of (violated_log ∷ []) n)) (false, inl refl);
+      stamps = refl;
+      sessions = refl;
+      numbered = refl;
+      messages = (tt, (tt, (tt, (tt, (tt, (tt, (tt, tt)))))));
     }

@@ -5,11 +5,11 @@ use Rattle.clv_base.specs.declared.ops.Op.TheVariants.{Get, Put}
 use Rattle.clv_base.specs.declared.ops.Answer.TheVariants.{Value}
 use Rattle.clv_base.specs.declared.causes.AbortCause.TheVariants.{Restarted}
 use Rattle.clv_base.specs.declared.logs.LogRecord.{LogRecord}
-use Rattle.clv_base.specs.declared.logs.LogRecord.TheVariants.{Restart as RestartRecord}
+use Rattle.clv_base.specs.declared.logs.LogRecord.TheVariants.{Update, Commit, Restart as RestartRecord}
 use Rattle.clv_base.specs.declared.events.Event.{Event}
-use Rattle.clv_base.specs.declared.events.Event.TheVariants.{Op as OpEvent, Request, Look, Stop, Restart}
+use Rattle.clv_base.specs.declared.events.Event.TheVariants.{Op as OpEvent, Request, Look, FlushOut, FlushIn, Stop, Restart}
 use Rattle.clv_base.specs.declared.events.Outcome.{Outcome}
-use Rattle.clv_base.specs.declared.events.Outcome.TheVariants.{Answered, Asked, Aborted, Stopped, Up}
+use Rattle.clv_base.specs.declared.events.Outcome.TheVariants.{Answered, Asked, Acknowledged, Aborted, Out, Durable, Stopped, Up}
 use Rattle.clv_base.specs.declared.events.Entry.{Entry}
 use Rattle.clv_base.specs.Journals.{History}
 use Rattle.clv_base.specs.FileRules.{may_open}
@@ -18,7 +18,10 @@ use Rattle.single_path.specs.Plan.{tx_of, birth_of, After_all, play, log_left_by
 use Rattle.single_path.specs.Laws.{history}
 use Rattle.history_laws.specs.Continuing.{GoesOn, serial_now, serial_left}
 use Rattle.history_laws.specs.Outcomes.{aborted_in_history}
+use Rattle.clv_base.specs.declared.names.TxId.{TxId}
+use Rattle.clv_base.specs.declared.names.Birth.{Birth}
 use Rattle.one_shard_laws.specs.Replaying.{new_log}
+use Rattle.one_shard_laws.specs.Recovering.{predecessors_of_history}
 
 -- ---- two transactions of a session, each committed and durable before the next
 
@@ -85,3 +88,32 @@ RestartHasNoMember =
     (serial_now [] new_log restarted (restarted_log ∷ []) ≡ [])
     × (serial_left [] new_log looked_at (restarted_log ∷ []) (λ n. false) ≡ [])
     × (aborted_in_history looked_at (tx_of 1 1) ≡ true)
+
+-- ---- a reader that violates a closed writer
+
+abbrev pub reader : TxId
+reader = record { run = 1; session = 2; serial = 1 }
+
+abbrev pub reader_birth : Birth
+reader_birth = record { stamp = 2; session = 2; serial = 1 }
+
+abbrev pub violated : History
+violated =
+    at 2 1 (OpEvent (tx_of 1 1) (birth_of 1 1) 1 None (Put 5 10)) (Answered (Value None) 0)
+    ∷ at 3 1 (Request (tx_of 1 1) ((0, 0) ∷ [])) Asked
+    ∷ at 4 2 (OpEvent reader reader_birth 1 None (Get 5)) (Answered (Value (Some 10)) 0)
+    ∷ at 5 2 (Request reader ((0, 0) ∷ [])) Asked ∷ at 6 0 FlushOut (Out 3) ∷ at 7 0 FlushIn (Durable 3) ∷ at 8 2 (Look reader) Acknowledged ∷ []
+
+abbrev pub violated_log : List LogRecord
+violated_log = RestartRecord 1 0 ∷ Update (tx_of 1 1) 5 None (Some 10) ∷ Commit (tx_of 1 1) [] ∷ []
+
+abbrev pub ViolatedIsLegal : Type 0
+ViolatedIsLegal = Legal [] new_log violated (violated_log ∷ [])
+
+abbrev pub reader_member : Member
+reader_member = record { tx = reader; point = record { stamp = 5; shard = 0 }; ops = (Get 5, Value (Some 10)) ∷ [] }
+
+abbrev pub ViolatedHasMembers : Type 0
+ViolatedHasMembers =
+    (serial_left [] new_log violated (violated_log ∷ []) (λ n. false) ≡ first_member ∷ reader_member ∷ [])
+    × (predecessors_of_history violated (violated_log ∷ []) reader ≡ tx_of 1 1 ∷ [])

@@ -1,6 +1,6 @@
 // Histories worked out by hand, and what the laws say of them.
 
-ghost use Rattle.history_examples.specs.Worked.{RunsGoOn, RunsHaveMembers, RestartIsLegal, RestartGoesOn, RestartHasNoMember};
+ghost use Rattle.history_examples.specs.Worked.{RunsGoOn, RunsHaveMembers, RestartIsLegal, RestartGoesOn, RestartHasNoMember, ViolatedIsLegal, ViolatedHasMembers};
 
 /// A run of one transaction goes on to one of two, all that the law of what is never taken back supposes is there.
 pub fn runs_go_on()
@@ -25,4 +25,14 @@ pub fn restart_goes_on()
 /// The transaction is no member, and it is told of its abort.
 pub fn restart_has_no_member()
     ensures { RestartHasNoMember }
+{}
+
+/// A reader violates a writer that has closed, and both are told of success once the writer's COMMIT is durable.
+pub fn violated_is_legal()
+    ensures { ViolatedIsLegal }
+{}
+
+/// The writer is the reader's predecessor, and a member before it.
+pub fn violated_has_members()
+    ensures { ViolatedHasMembers }
 {}

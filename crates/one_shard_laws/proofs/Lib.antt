@@ -8,3 +8,4 @@ pub mod Leading
 pub mod Following
 pub mod Knowing
 pub mod Replaying
+pub mod Meeting

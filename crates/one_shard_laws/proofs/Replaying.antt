@@ -23,7 +23,7 @@ use Rattle.clv_base.specs.Journals.{History, journal_of, event_state, up_to_rest
 use Rattle.clv_base.specs.History.{Legal, WasSent, MessagesSent, is_acknowledgement, acknowledged_in, answered_op, ops_in, request_of}
 use Rattle.law_base.specs.Items.{Item}
 use Rattle.law_base.proofs.Changed.{none_some}
-use Rattle.shard_laws.specs.OneShard.{items_of, with_one, new_item, new_asked, new_met, new_told, HomeIs, Leads, opens, happens, lands, revives}
+use Rattle.shard_laws.specs.OneShard.{items_of, with_one, new_item, new_asked, new_met, new_told, HomeIs, has_met, Leads, opens, happens, lands, revives}
 use Rattle.history_laws.proofs.Stepping.{Happens}
 use Rattle.history_laws.proofs.Entering.{Makes, by_event, by_flush, by_failure, by_restart, makes}
 use Rattle.history_laws.proofs.Merging.{Placed, Before, InOrder, in_order, Among, is_among, among_left, among_right, among_all, among_append, precedes_before, front_precedes, before_then, not_before_itself}
@@ -31,6 +31,16 @@ use Rattle.history_laws.proofs.Worlds.{state_at, split_at, sent_at}
 use Rattle.one_shard_laws.proofs.Owning.{RecordIs}
 use Rattle.one_shard_laws.proofs.Leading.{DidAny, requests_in, Fits, Knows, Next, may_happen}
 use Rattle.one_shard_laws.specs.Replaying.{new_log}
+use Rattle.std.proofs.Common.{⊎_elim, ◌&&◌}
+use Rattle.std.proofs.lemmas.List.Folds.{list_any-append}
+use Rattle.clv_base.specs.declared.events.Outcome.TheVariants.{Answered}
+use Rattle.history_laws.proofs.Worlds.{journal_append}
+use Rattle.clv_base.specs.Orders.{tx_same, tx_in, tx_union, tx_insert}
+use Rattle.clv_base.specs.Locks.{violated}
+use Rattle.clv_base.specs.Needs.{needs_of}
+use Rattle.clv_base.specs.Journals.{after_entry, after_entries, predecessors_in, got_predecessors}
+use Rattle.clv_base.proofs.SameNames.{tx_flip, tx_true, tx_self, in_insert, insert_keeps, insert_has}
+use Rattle.std.proofs.lemmas.Bool.{and_from, or_left, or_right, or_cases}
 use Rattle.clv_base.specs.Maps.{replay_map, replay_answers}
 use Rattle.clv_base.specs.Logs.{stands, committed_in}
 use Rattle.clv_base.specs.Journals.{final_of, start_of}
@@ -45,14 +55,80 @@ use Rattle.one_shard_laws.proofs.Following.{fits_event, fits_plain, IsPlain}
 use Rattle.one_shard_laws.proofs.Knowing.{Silent, knows_event, knows_flush, knows_down, knows_restart}
 use Rattle.one_shard_laws.specs.Replaying.{Replays, MembersReplay}
 
-pub record At (pre : History) (s : Shard) : Type 0 where
-  all : List Item
-  asked : List TxId
-  told : List TxId
-  met : List (TxId × TxId)
-  leads : Leads (run_after new_log) all asked told met s
-  fits : Fits pre all asked told met
-  knows : Knows pre s
+pub record At (log : List LogRecord) (pre : History) (s : Shard) : Type 0 where
+  pub all : List Item
+  pub asked : List TxId
+  pub told : List TxId
+  pub met : List (TxId × TxId)
+  pub leads : Leads (run_after new_log) all asked told met s
+  pub fits : Fits pre all asked told met
+  pub knows : Knows pre s
+  pub known_met : (t p : TxId) → tx_in p (predecessors_in log (start_of new_log 0) t (journal_of 0 pre)) ≡ true → has_met met t p ≡ true
+
+-- the predecessors by a longer journal
+in_union : (p : TxId) (xs ys : List TxId) → tx_in p (tx_union xs ys) ≡ true → (tx_in p xs ≡ true) ⊎ (tx_in p ys ≡ true)
+in_union p [] ys e = inr e
+in_union p (x ∷ xs) ys e =
+    ⊎_elim (λ a. inl (or_left (tx_same x p) (tx_in p xs) (subst (λ z. tx_same x z ≡ true) (sym a) (tx_self x))))
+    (λ a. ⊎_elim (λ b. inl (or_right (tx_same x p) (tx_in p xs) b)) (λ b. inr b) (in_union p xs ys a))
+    (in_insert x p (tx_union xs ys) e)
+
+union_left : (p : TxId) (xs ys : List TxId) → tx_in p xs ≡ true → tx_in p (tx_union xs ys) ≡ true
+union_left p [] ys e = absurd (both_ways false refl e)
+union_left p (x ∷ xs) ys e =
+    ⊎_elim (λ a. subst (λ z. tx_in z (tx_insert x (tx_union xs ys)) ≡ true) (tx_true x p a) (insert_has x (tx_union xs ys)))
+    (λ a. insert_keeps x p (tx_union xs ys) (union_left p xs ys a)) (or_cases (tx_same x p) (tx_in p xs) e)
+
+union_right : (p : TxId) (xs ys : List TxId) → tx_in p ys ≡ true → tx_in p (tx_union xs ys) ≡ true
+union_right p [] ys e = e
+union_right p (x ∷ xs) ys e = insert_keeps x p (tx_union xs ys) (union_right p xs ys e)
+
+got_append : (log : List LogRecord) (s : Shard) (t p : TxId) (xs : List Entry) (x : Entry) → tx_in p (predecessors_in log s t (xs ++ x ∷ [])) ≡ true
+    → (tx_in p (predecessors_in log s t xs) ≡ true) ⊎ (tx_in p (got_predecessors (after_entries log s xs) t x.event x.outcome) ≡ true)
+got_append log s t p [] x e =
+    ⊎_elim (λ a. inr a) (λ a. absurd (both_ways false refl a)) (in_union p (got_predecessors s t x.event x.outcome) [] e)
+got_append log s t p (y ∷ ys) x e =
+    ⊎_elim (λ a. inl (union_left p (got_predecessors s t y.event y.outcome) _ a))
+    (λ a. ⊎_elim (λ b. inl (union_right p (got_predecessors s t y.event y.outcome) _ b)) (λ b. inr b) (got_append log (after_entry log s y) t p ys x a))
+    (in_union p (got_predecessors s t y.event y.outcome) (predecessors_in log (after_entry log s y) t (ys ++ x ∷ [])) e)
+
+met_here : (tx p : TxId) (ps : List TxId) (t : TxId) → tx_same t tx ≡ true → tx_in p ps ≡ true → has_met (map (λ q. (tx, q)) ps) t p ≡ true
+met_here tx p [] t s e = absurd (both_ways false refl e)
+met_here tx p (q ∷ qs) t s e =
+    ⊎_elim (λ a. or_left (tx_same t tx && tx_same p q) _ (and_from (tx_same t tx) (tx_same p q) s (tx_flip q p a))) (λ a. or_right (tx_same t tx && tx_same p q) _ (met_here tx p qs t s a))
+    (or_cases (tx_same q p) (tx_in p qs) e)
+
+-- what the entry's grant violated is met
+got_met : (s : Shard) (t p : TxId) (e : Event) (o : Outcome) → tx_in p (got_predecessors s t e o) ≡ true → has_met (new_met s e o) t p ≡ true
+got_met s t p (OpEvent tx birth nth seen op) (Answered a n) e = at (tx_same t tx) refl e
+  where
+    at : (b : Bool) → tx_same t tx ≡ b → tx_in p (cond b (violated tx (needs_of op s.local.records) s.local.locks) []) ≡ true → has_met (map (λ q. (tx, q)) (violated tx (needs_of op s.local.records) s.local.locks)) t p ≡ true
+    at true f g = met_here tx p (violated tx (needs_of op s.local.records) s.local.locks) t f g
+    at false f g = absurd (both_ways false refl g)
+got_met s t p (OpEvent tx birth nth seen op) _ e = absurd (both_ways false refl e)
+got_met s t p _ o e = absurd (both_ways false refl e)
+
+-- the shard is that of the journal so far
+abbrev IsState : List LogRecord → History → Shard → Type 0
+IsState log pre s = s ≡ after_entries log (start_of new_log 0) (journal_of 0 pre)
+
+met_event : (log : List LogRecord) (pre : History) (x : Entry) (s : Shard) (met : List (TxId × TxId)) → IsState log pre s → ((t p : TxId) → tx_in p (predecessors_in log (start_of new_log 0) t (journal_of 0 pre)) ≡ true → has_met met t p ≡ true)
+    → (t p : TxId) → tx_in p (predecessors_in log (start_of new_log 0) t (journal_of 0 (pre ++ (0, x) ∷ []))) ≡ true → has_met (new_met s x.event x.outcome ++ met) t p ≡ true
+met_event log pre x s met z k t p e =
+    let e2 = subst (λ j. tx_in p (predecessors_in log (start_of new_log 0) t j) ≡ true) (journal_append 0 pre ((0, x) ∷ [])) e in
+    list_any-append (λ q. tx_same t q.0 && tx_same p q.1) (new_met s x.event x.outcome) met
+    ∙ ⊎_elim (λ a. or_right (has_met (new_met s x.event x.outcome) t p) (has_met met t p) (k t p a))
+    (λ a. or_left (has_met (new_met s x.event x.outcome) t p) (has_met met t p) (got_met s t p x.event x.outcome (subst (λ w. tx_in p (got_predecessors w t x.event x.outcome) ≡ true) (sym z) a)))
+    (got_append log (start_of new_log 0) t p (journal_of 0 pre) x e2)
+
+met_plain : (log : List LogRecord) (pre : History) (x : Entry) (s : Shard) (met : List (TxId × TxId)) → IsState log pre s → ((t : TxId) → got_predecessors s t x.event x.outcome ≡ [])
+    → ((t p : TxId) → tx_in p (predecessors_in log (start_of new_log 0) t (journal_of 0 pre)) ≡ true → has_met met t p ≡ true)
+    → (t p : TxId) → tx_in p (predecessors_in log (start_of new_log 0) t (journal_of 0 (pre ++ (0, x) ∷ []))) ≡ true → has_met met t p ≡ true
+met_plain log pre x s met z n k t p e =
+    let e2 = subst (λ j. tx_in p (predecessors_in log (start_of new_log 0) t j) ≡ true) (journal_append 0 pre ((0, x) ∷ [])) e in
+    ⊎_elim (λ a. k t p a)
+    (λ a. absurd (both_ways false refl (subst (λ w. tx_in p w ≡ true) (n t) (subst (λ w. tx_in p (got_predecessors w t x.event x.outcome) ≡ true) (sym z) a))))
+    (got_append log (start_of new_log 0) t p (journal_of 0 pre) x e2)
 
 -- a flush's end and a restart are no operation, no request and no look
 plain_flush : (x : Entry) → x.event ≡ FlushIn → IsPlain x
@@ -107,9 +183,9 @@ all_homes A shard (RestartRecord run epoch ∷ rs) e a = (tt, all_homes A shard 
 written_as : (x : Entry) (e : Event) (o : Outcome) (t : Shard) (P : Shard → Type 0) → x.event ≡ e → x.outcome ≡ o → P (with_entry x.stamp x.walker e o t) → P (with_entry x.stamp x.walker x.event x.outcome t)
 written_as x e o t P p q k = subst (λ z. P (with_entry x.stamp x.walker z x.outcome t)) (sym p) (subst (λ z. P (with_entry x.stamp x.walker e z t)) (sym q) k)
 
-after_event : (after : List (List LogRecord)) (h pre : History) (x : Entry) (s t : Shard) → Next new_log after h pre x → At pre s → ((m : Message) (stamp : ℕ) → x.event ≡ Deliver m stamp → ⊥) → happen s x.event ≡ Does x.outcome t → Happens s x.event x.outcome t
-    → At (pre ++ (0, x) ∷ []) (with_entry x.stamp x.walker x.event x.outcome t)
-after_event after h pre x s t n a d eq g =
+after_event : (after : List (List LogRecord)) (h pre : History) (x : Entry) (log : List LogRecord) (s t : Shard) → IsState log pre s → Next new_log after h pre x → At log pre s → ((m : Message) (stamp : ℕ) → x.event ≡ Deliver m stamp → ⊥) → happen s x.event ≡ Does x.outcome t → Happens s x.event x.outcome t
+    → At log (pre ++ (0, x) ∷ []) (with_entry x.stamp x.walker x.event x.outcome t)
+after_event after h pre x log s t z n a d eq g =
     record {
       all = with_one a.all (new_item s x.event x.outcome);
       asked = with_one a.asked (new_asked s x.event);
@@ -118,15 +194,16 @@ after_event after h pre x s t n a d eq g =
       leads = happens x.event x.outcome t x.stamp x.walker a.leads (may_happen new_log after h pre x s a.all a.asked a.told a.met n a.knows a.fits d x.event refl) eq;
       fits = fits_event new_log after h pre x s t a.all a.asked a.told a.met n a.knows a.fits eq g;
       knows = knows_event new_log after h pre x s t n a.knows g d;
+      known_met = met_event log pre x s a.met z a.known_met;
     }
 
-made_at : (after : List (List LogRecord)) (h pre : History) (x : Entry) (log : List LogRecord) (s t : Shard) {e : Event} {o : Outcome} → Next new_log after h pre x → At pre s → ((m : Message) (stamp : ℕ) → x.event ≡ Deliver m stamp → ⊥)
-    → Makes log s e o t → x.event ≡ e → x.outcome ≡ o → At (pre ++ (0, x) ∷ []) (with_entry x.stamp x.walker x.event x.outcome t)
-made_at after h pre x log s t n a d (by_event {e = e} {o = o} eq g) p q =
-    after_event after h pre x s t n a d
+made_at : (after : List (List LogRecord)) (h pre : History) (x : Entry) (log : List LogRecord) (s t : Shard) {e : Event} {o : Outcome} → IsState log pre s → Next new_log after h pre x → At log pre s → ((m : Message) (stamp : ℕ) → x.event ≡ Deliver m stamp → ⊥)
+    → Makes log s e o t → x.event ≡ e → x.outcome ≡ o → At log (pre ++ (0, x) ∷ []) (with_entry x.stamp x.walker x.event x.outcome t)
+made_at after h pre x log s t z n a d (by_event {e = e} {o = o} eq g) p q =
+    after_event after h pre x log s t z n a d
     (subst (λ z. happen s z ≡ Does x.outcome t) (sym p) (subst (λ z. happen s e ≡ Does z t) (sym q) eq))
     (subst (λ z. Happens s z x.outcome t) (sym p) (subst (λ z. Happens s e z t) (sym q) g))
-made_at after h pre x log s _ n a d (by_flush m u f) p q =
+made_at after h pre x log s _ z n a d (by_flush m u f) p q =
     record {
       all = a.all;
       asked = a.asked;
@@ -134,12 +211,13 @@ made_at after h pre x log s _ n a d (by_flush m u f) p q =
       met = a.met;
       leads = written_as x FlushIn (Durable m) (finish (with_durable m s)) (Leads (run_after new_log) a.all a.asked a.told a.met) p q (lands m true (Durable m) (finish (with_durable m s)) x.stamp x.walker a.leads f refl);
       fits = fits_plain pre x a.all a.asked a.told a.met (plain_flush x p) a.fits;
-      knows = knows_flush pre x s m (silent_flush x (Durable m) p q (λ k z. sent_is m k z)) a.knows;
+      knows = knows_flush pre x s m (silent_flush x (Durable m) p q (λ k w. sent_is m k w)) a.knows;
+      known_met = met_plain log pre x s a.met z (λ u. ap (λ w. got_predecessors s u w x.outcome) p) a.known_met;
     }
   where
     sent_is : (m : ℕ) (k : Message) → Durable m ≡ Sent k → ⊥
     sent_is m k z = absurd cc
-made_at after h pre x log s _ n a d (by_failure m u f) p q =
+made_at after h pre x log s _ z n a d (by_failure m u f) p q =
     record {
       all = a.all;
       asked = a.asked;
@@ -148,11 +226,12 @@ made_at after h pre x log s _ n a d (by_failure m u f) p q =
       leads = written_as x FlushIn Failed (put_down s) (Leads (run_after new_log) a.all a.asked a.told a.met) p q (lands m false Failed (put_down s) x.stamp x.walker a.leads f refl);
       fits = fits_plain pre x a.all a.asked a.told a.met (plain_flush x p) a.fits;
       knows = knows_down pre x s (silent_flush x Failed p q sent_is) a.knows;
+      known_met = met_plain log pre x s a.met z (λ u. ap (λ w. got_predecessors s u w x.outcome) p) a.known_met;
     }
   where
     sent_is : (k : Message) → Failed ≡ Sent k → ⊥
     sent_is k z = absurd cc
-made_at after h pre x log s _ n a d (by_restart epoch kept u r) p q =
+made_at after h pre x log s _ z n a d (by_restart epoch kept u r) p q =
     let found = up_to_restart s.run epoch log in
     record {
       all = a.all;
@@ -163,6 +242,7 @@ made_at after h pre x log s _ n a d (by_restart epoch kept u r) p q =
           (revives kept epoch found x.stamp x.walker a.leads u (all_homes (DidAny pre) s.shard s.local.log ((a.knows).owned).shard ((a.knows).owned).log) r);
       fits = fits_plain pre x a.all a.asked a.told a.met (plain_restart x p) a.fits;
       knows = knows_restart pre x s kept epoch found (silent_restart x epoch p q) a.knows r;
+      known_met = met_plain log pre x s a.met z (λ u. ap (λ w. got_predecessors s u w x.outcome) p) a.known_met;
     }
 
 -- ---- along the history
@@ -195,17 +275,17 @@ next_of after h pre x post l q =
       earlier = λ y i b. earlier_is pre (0, x) post y o (subst (Among y) (sym q) i) b;
     }
 
-at_next : (after : List (List LogRecord)) (h pre : History) (x : Entry) (post : History) → Legal [] new_log h after → pre ++ (0, x) ∷ post ≡ h → At pre (state_at new_log after 0 pre) → At (pre ++ (0, x) ∷ []) (state_at new_log after 0 (pre ++ (0, x) ∷ []))
+at_next : (after : List (List LogRecord)) (h pre : History) (x : Entry) (post : History) → Legal [] new_log h after → pre ++ (0, x) ∷ post ≡ h → At (log_of after 0) pre (state_at new_log after 0 pre) → At (log_of after 0) (pre ++ (0, x) ∷ []) (state_at new_log after 0 (pre ++ (0, x) ∷ []))
 at_next after h pre x post l q a =
     let s = state_at new_log after 0 pre in
     let log = log_of after 0 in
     let p = split_at [] new_log after h pre (0, x) post l q (omega arith) in
     let w : WasSent pre x.event = sent_at [] pre (0, x) post (subst (MessagesSent []) (sym q) l.messages) in
-    subst (At (pre ++ (0, x) ∷ [])) (sym p.next)
-    (made_at after h pre x log s (event_state log s x.event x.outcome) (next_of after h pre x post l q) a (nothing_comes pre s x a.knows w) (makes log s x.event x.outcome (p.enters).event) refl refl)
+    subst (At log (pre ++ (0, x) ∷ [])) (sym p.next)
+    (made_at after h pre x log s (event_state log s x.event x.outcome) refl (next_of after h pre x post l q) a (nothing_comes pre s x a.knows w) (makes log s x.event x.outcome (p.enters).event) refl refl)
 
-pub walk : (after : List (List LogRecord)) (h pre post : History) → Legal [] new_log h after → pre ++ post ≡ h → At pre (state_at new_log after 0 pre) → At h (state_at new_log after 0 h)
-walk after h pre [] l q a = subst (λ z. At z (state_at new_log after 0 z)) (sym (append-nil pre) ∙ q) a
+pub walk : (after : List (List LogRecord)) (h pre post : History) → Legal [] new_log h after → pre ++ post ≡ h → At (log_of after 0) pre (state_at new_log after 0 pre) → At (log_of after 0) h (state_at new_log after 0 h)
+walk after h pre [] l q a = subst (λ z. At (log_of after 0) z (state_at new_log after 0 z)) (sym (append-nil pre) ∙ q) a
 walk after h pre (e ∷ post) l q a =
     let i : Among e h = subst (Among e) q (among_right e pre (e ∷ post) (inl refl)) in
     let n = in_a_shard [] new_log after h e l i in
@@ -214,7 +294,7 @@ walk after h pre (e ∷ post) l q a =
     let q2 : pre ++ (0, e.1) ∷ post ≡ h = subst (λ w. pre ++ w ∷ post ≡ h) same q in
     walk after h (pre ++ (0, e.1) ∷ []) post l (append_assoc pre ((0, e.1) ∷ []) post ∙ q2) (at_next after h pre e.1 post l q2 a)
 
-pub begins : (after : List (List LogRecord)) → At [] (state_at new_log after 0 [])
+pub begins : (after : List (List LogRecord)) → At (log_of after 0) [] (state_at new_log after 0 [])
 begins after =
     record {
       all = [];
@@ -241,6 +321,7 @@ begins after =
         journal = refl;
         all_here = λ y i. elim i [ ];
       };
+      known_met = λ t p e. absurd (both_ways false refl e);
     }
 
 -- ---- the members
@@ -274,15 +355,15 @@ cut_by : (s : Shard) (f : Option ℕ) → Counted s → s.flight ≡ f → s.dur
 cut_by s None c e = omega arith
 cut_by s (Some n) c e = (c.flying n e).0
 
-cut_above : (s : Shard) (kept : Bool) → Counted s → s.durable ≤ cond kept (unwrap_or s.flight s.durable) s.durable
+pub cut_above : (s : Shard) (kept : Bool) → Counted s → s.durable ≤ cond kept (unwrap_or s.flight s.durable) s.durable
 cut_above s true c = cut_by s s.flight c refl
 cut_above s false c = omega arith
 
-counted_end : (after : List (List LogRecord)) (h : History) → Legal [] new_log h after → Counted (final_of new_log h after 0)
+pub counted_end : (after : List (List LogRecord)) (h : History) → Legal [] new_log h after → Counted (final_of new_log h after 0)
 counted_end after h l = (fronts_entries (log_of after 0) (start_of new_log 0) (journal_of 0 h) (opened_counted 0 (run_after new_log) []) (l.runs 0 (omega arith))).counted
 
 -- a member by the histories' lists and by those of the shard
-keeps_same : (after : List (List LogRecord)) (h : History) (choice : ℕ → Bool) (a : At h (final_of new_log h after 0)) → Legal [] new_log h after → (e : Placed) → Among e h → (t : TxId)
+pub keeps_same : (after : List (List LogRecord)) (h : History) (choice : ℕ → Bool) (a : At (log_of after 0) h (final_of new_log h after 0)) → Legal [] new_log h after → (e : Placed) → Among e h → (t : TxId)
     → (committed_in (log_of (logs_left [] new_log h after choice) e.0) t || acknowledged_in h t)
     ≡ is_member (final_of new_log h after 0) (cond (choice 0) (unwrap_or (final_of new_log h after 0).flight (final_of new_log h after 0).durable) (final_of new_log h after 0).durable) a.told t
 keeps_same after h choice a l e i t =
@@ -300,7 +381,7 @@ replays_as : (ops ops2 : List (List Op)) (answers answers2 : List (List Answer))
     → (replay_answers [] ops ≡ answers) × (replay_map [] ops ≡ stands left)
 replays_as ops ops2 answers answers2 left e f r = (ap (replay_answers []) e ∙ r.0 ∙ sym f, ap (replay_map []) e ∙ r.1)
 
-replay_at : (after : List (List LogRecord)) (h : History) (choice : ℕ → Bool) → Legal [] new_log h after → At h (final_of new_log h after 0)
+replay_at : (after : List (List LogRecord)) (h : History) (choice : ℕ → Bool) → Legal [] new_log h after → At (log_of after 0) h (final_of new_log h after 0)
     → Replays new_log (serial_left [] new_log h after choice) (logs_left [] new_log h after choice)
 replay_at after h choice l a =
     let s = final_of new_log h after 0 in

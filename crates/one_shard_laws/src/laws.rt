@@ -1,9 +1,15 @@
 // Laws of every legal history of one shard.
 
 ghost use Rattle.one_shard_laws.specs.Replaying.{MembersReplay};
+ghost use Rattle.one_shard_laws.specs.Recovering.{PredecessorsStandBefore};
 
 /// From a new log, in every legal history of one shard: the members replay, in the order of their requests, to the answers that they were
 /// given, and to the map that the log left stands for, whatever a crash keeps of what is in flight.
 pub fn members_replay()
     ensures { MembersReplay }
+{}
+
+/// Nor is a member left without one that it depends on: whose writes it violated is a member too, and stands before it.
+pub fn predecessors_stand_before()
+    ensures { PredecessorsStandBefore }
 {}
