@@ -1,0 +1,89 @@
+-- A transaction's writes that stand are those of its chain.
+use Rattle.std.proofs.Common.{◌≡◌, ℕ, suc, Bool, true, false, cond, ◌||◌, List, [], ◌∷◌, map, Some, None, refl, sym, ap, ◌∙◌}
+use Rattle.std.proofs.lemmas.Bool.{cond-true, both_ways}
+use Rattle.std.specs.List.{list_any}
+use Rattle.clv_base.specs.declared.names.TxId.{TxId}
+use Rattle.clv_base.specs.declared.logs.LogRecord.{LogRecord}
+use Rattle.clv_base.specs.declared.logs.LogRecord.TheVariants.{Update, Clr, Prepare, Commit, Abort, End, Restart}
+use Rattle.clv_base.specs.Orders.{tx_same}
+use Rattle.clv_base.specs.Logs.{StandingUpdate, is_update_of, wrote_in, without_newest, standing_after, standing_from, standing, newest_of}
+use Rattle.clv_base.specs.Undo.{newest_lsn}
+use Rattle.clv_base.proofs.SameNames.{tx_true, tx_self}
+use Rattle.log_buffer.specs.Links.{link_of, is_write_of}
+use Rattle.log_buffer.specs.Chains.{first, others, places_after, places_from, places}
+
+-- the places of a transaction's writes among some
+lsns : TxId → List StandingUpdate → List ℕ
+lsns t [] = []
+lsns t (w ∷ ws) = cond (tx_same t w.tx) (w.lsn ∷ lsns t ws) (lsns t ws)
+
+newest_lsn-first : (t : TxId) (ws : List StandingUpdate) → newest_lsn t ws ≡ first (lsns t ws)
+unfolding lsns
+newest_lsn-first t [] = refl
+newest_lsn-first t (w ∷ ws) = at (tx_same t w.tx) (newest_lsn-first t ws)
+  where
+    at : (b : Bool) → elim (newest_of t ws) [ Some v ↦ Some v.lsn | None ↦ None ] ≡ first (lsns t ws)
+        → elim (cond b (Some w) (newest_of t ws)) [ Some v ↦ Some v.lsn | None ↦ None ] ≡ first (cond b (w.lsn ∷ lsns t ws) (lsns t ws))
+    at true h = refl
+    at false h = h
+
+-- without the newest of u, the places of t are the others where t is u
+lsns-without : (t u : TxId) (ws : List StandingUpdate) → lsns t (without_newest u ws) ≡ cond (tx_same t u) (others (lsns t ws)) (lsns t ws)
+unfolding lsns
+lsns-without t u [] = same (tx_same t u)
+  where
+    same : (b : Bool) → [] ≡ cond b (others []) []
+    same true = refl
+    same false = refl
+lsns-without t u (w ∷ ws) = at (tx_same u w.tx) (tx_same t w.tx) (tx_same t u) (λ e. ap (tx_same t) (sym (tx_true u w.tx e))) (λ e. ap (λ x. tx_same x w.tx) (tx_true t u e)) refl (lsns-without t u ws)
+  where
+    at : (uw tw tu : Bool) → (uw ≡ true → tw ≡ tu) → (tu ≡ true → tw ≡ uw) → tx_same t w.tx ≡ tw → lsns t (without_newest u ws) ≡ cond tu (others (lsns t ws)) (lsns t ws)
+        → lsns t (cond uw ws (w ∷ without_newest u ws)) ≡ cond tu (others (cond tw (w.lsn ∷ lsns t ws) (lsns t ws))) (cond tw (w.lsn ∷ lsns t ws) (lsns t ws))
+    at true true true h k e more = refl
+    at true true false h k e more = absurd (both_ways false refl (sym (h refl)))
+    at true false true h k e more = absurd (both_ways false refl (h refl))
+    at true false false h k e more = refl
+    at false true true h k e more = absurd (both_ways false refl (sym (k refl)))
+    at false tw false h k e more = ap (λ b. cond b (w.lsn ∷ lsns t (without_newest u ws)) (lsns t (without_newest u ws))) e ∙ ap (λ l. cond tw (w.lsn ∷ l) l) more
+    at false false true h k e more = ap (λ b. cond b (w.lsn ∷ lsns t (without_newest u ws)) (lsns t (without_newest u ws))) e ∙ more
+
+lsns-after : (t : TxId) (n : ℕ) (r : LogRecord) (ws : List StandingUpdate) → lsns t (standing_after n r ws) ≡ places_after t n (link_of r) (lsns t ws)
+unfolding lsns
+lsns-after t n (Update tx key before after) ws = refl
+lsns-after t n (Clr tx undo_next key after) ws = lsns-without t tx ws
+lsns-after t n (Prepare tx home predecessors) ws = refl
+lsns-after t n (Commit tx parts) ws = refl
+lsns-after t n (Abort tx) ws = refl
+lsns-after t n (End tx) ws = refl
+lsns-after t n (Restart run epoch) ws = refl
+
+lsns-standing : (t : TxId) (n : ℕ) (log : List LogRecord) (ws : List StandingUpdate) → lsns t (standing_from n log ws) ≡ places_from t n (map link_of log) (lsns t ws)
+lsns-standing t n [] ws = refl
+lsns-standing t n (r ∷ rs) ws = lsns-standing t (suc n) rs (standing_after n r ws) ∙ ap (places_from t (suc n) (map link_of rs)) (lsns-after t n r ws)
+
+places-standing : (t : TxId) (log : List LogRecord) → lsns t (standing log) ≡ places t (map link_of log)
+unfolding lsns
+places-standing t log = lsns-standing t 0 log []
+
+-- the newest write that stands, and the one below it
+pub newest_told : (t : TxId) (log : List LogRecord) → newest_lsn t (standing log) ≡ first (places t (map link_of log))
+newest_told t log = newest_lsn-first t (standing log) ∙ ap first (places-standing t log)
+
+pub second_newest_told : (t : TxId) (log : List LogRecord) → newest_lsn t (without_newest t (standing log)) ≡ first (others (places t (map link_of log)))
+second_newest_told t log =
+    newest_lsn-first t (without_newest t (standing log))
+    ∙ ap first (lsns-without t t (standing log) ∙ cond-true (tx_same t t) (others (lsns t (standing log))) (lsns t (standing log)) (tx_self t) ∙ ap others (places-standing t log))
+
+write_of : (t : TxId) (r : LogRecord) → is_update_of t r ≡ is_write_of t (link_of r)
+write_of t (Update tx key before after) = refl
+write_of t (Clr tx undo_next key after) = refl
+write_of t (Prepare tx home predecessors) = refl
+write_of t (Commit tx parts) = refl
+write_of t (Abort tx) = refl
+write_of t (End tx) = refl
+write_of t (Restart run epoch) = refl
+
+-- whether it wrote
+pub wrote_told : (t : TxId) (log : List LogRecord) → list_any (is_write_of t) (map link_of log) ≡ wrote_in log t
+wrote_told t [] = refl
+wrote_told t (r ∷ rs) = ap (λ b. is_write_of t (link_of r) || b) (wrote_told t rs) ∙ ap (λ b. b || wrote_in rs t) (sym (write_of t r))

@@ -1,0 +1,6 @@
+use Rattle.std.proofs.Common.{◌≡◌, ◌+◌, drop}
+use Rattle.log_buffer.specs.Buffers.{fitting_by}
+use Rattle.log_buffer.proofs.batch.fitting.Given as goal
+
+abbrev pub invariant-loop-count : goal.invariant-loop-count
+invariant-loop-count g l = l.count + fitting_by g.R.Measured.size l.left (drop l.count l.records) ≡ fitting_by g.R.Measured.size l.limit l.records

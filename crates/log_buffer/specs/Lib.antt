@@ -1,0 +1,4 @@
+pub mod Links
+pub mod Chains
+pub mod Chained
+pub mod Buffers

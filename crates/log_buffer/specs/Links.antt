@@ -1,0 +1,20 @@
+-- What a record is to the writes of a transaction.
+use Rattle.std.specs.Prelude.{Bool, false}
+use Rattle.clv_base.specs.declared.names.TxId.{TxId}
+use Rattle.clv_base.specs.declared.logs.LogRecord.{LogRecord}
+use Rattle.clv_base.specs.declared.logs.LogRecord.TheVariants.{Update, Clr}
+use Rattle.clv_base.specs.Orders.{tx_same}
+use Rattle.log_buffer.specs.declared.measured.Link.{Link}
+use Rattle.log_buffer.specs.declared.measured.Link.TheVariants.{Writes, Undoes, Neither}
+
+-- an UPDATE is a write, and a CLR compensates one
+abbrev pub link_of : LogRecord → Link
+link_of (Update tx key before after) = Writes tx
+link_of (Clr tx undo_next key after) = Undoes tx
+link_of _ = Neither
+
+-- a write of the transaction
+abbrev pub is_write_of : TxId → Link → Bool
+is_write_of t (Writes u) = tx_same t u
+is_write_of t (Undoes u) = false
+is_write_of t Neither = false

@@ -1,0 +1,172 @@
+//! The buffer.
+ghost use Rattle.std.specs.Prelude.{◌≡◌, ◌≤◌, ◌<◌, ◌+◌, [], ◌∷◌, ◌++◌, ℕ, length, drop, slice_get, slice_range, IsNone, IfSome, IfOk, IfErr, OnOk, ◌↔◌};
+ghost use Rattle.std.specs.Option.{option_copied};
+
+use crate::batch::fitting;
+use crate::chain::Chain;
+use crate::making::chain_of;
+use crate::measured::Measured;
+use std::alloc::{AllocError, AllocFailed, Global};
+use std::marker::Model;
+
+/// A batch: the records at `from` and above, below `upto`.
+#[derive(Clone, Copy, PartialEq, Eq, Debug)]
+pub struct Taken {
+    pub from: u64,
+    pub upto: u64,
+}
+
+/// The records of a log in their order. An LSN is a record's place, from 0. Those below `durable()` are on the disk, those from there on
+/// and below `taken()` are on their way to it.
+#[derive(Drop)]
+pub struct LogBuffer<R: Measured> {
+    records: Vec<R>,
+    durable: usize,
+    taken: usize,
+    pub(crate) chain: Chain,
+}
+
+impl<R: Measured> Model for LogBuffer<R> {
+    ghost use Rattle.std.specs.Prelude.{◌-◌, ◌≤◌, map, min, length, vec_len, vec_capacity};
+    ghost use Rattle.log_buffer.specs.Buffers.{Buffer};
+    ghost use Rattle.log_buffer.specs.Chained.{IsChainOf, chain_room};
+
+    ghost Value = { Buffer R };
+
+    ghost view = { λ s. record { records = s.records.items; durable = s.durable; taken = s.taken; room = min (vec_capacity s.records - vec_len s.records) (chain_room s.chain) } };
+
+    ghost invariant = { λ s. (s.durable ≤ s.taken) × (s.taken ≤ length s.records.items) × IsChainOf s.chain (map R.link s.records.items) };
+}
+
+impl<R: Measured> LogBuffer<R> {
+    ghost use Rattle.log_buffer.specs.Buffers.{Buffer, IsInOrder, next_count};
+
+    /// The buffer of the empty log. Takes no memory.
+    pub fn new(alloc: Global) -> Self
+        ensures { (result.records ≡ []) × (result.durable ≡ 0) × (result.taken ≡ 0) }
+    {
+        LogBuffer {
+            records: Vec::new(alloc),
+            durable: 0,
+            taken: 0,
+            chain: Chain::new(alloc),
+        }
+    }
+
+    /// The buffer of a log whose records are all durable. An `Err` gives the records back.
+    pub fn from_durable(alloc: Global, records: Vec<R>) -> Result<Self, AllocFailed<Vec<R>>>
+        ensures ok { IfOk result (λ b. (b.records ≡ records.items) × (b.durable ≡ length records.items) × (b.taken ≡ length records.items)) }
+        ensures value_returned { IfErr result (λ e. e.value.items ≡ records.items) }
+    {
+        match chain_of(alloc, &records) {
+            Ok(chain) => {
+                let end = records.len();
+                Ok(LogBuffer {
+                    records,
+                    durable: end,
+                    taken: end,
+                    chain,
+                })
+            }
+            Err(_) => Err(AllocFailed { value: records }),
+        }
+    }
+
+    /// For how many records more there is room.
+    pub fn room(&self) -> usize
+        ensures { result ≡ self.now.room }
+    {
+        let left = self.records.capacity() - self.records.len();
+        left.min(self.chain.room())
+    }
+
+    /// Makes room for so many records more, whatever was reserved before. Room alone changes, and never shrinks.
+    pub fn reserve(&mut self, count: usize) -> Result<(), AllocError>
+        ensures ok { OnOk result (count ≤ self.new.room) }
+        ensures room { self.old.room ≤ self.new.room }
+        ensures same { self.new ≡ record self.old { room = self.new.room } }
+    {
+        self.records.reserve(count)?;
+        self.chain.reserve(count)
+    }
+
+    /// Puts a record at the end, and gives its LSN. Takes no memory.
+    pub fn append_reserved(&mut self, added: R) -> u64
+        requires { 0 < self.old.room }
+        ensures lsn { result ≡ length self.old.records }
+        ensures records { self.new.records ≡ self.old.records ++ added ∷ [] }
+        ensures fronts { (self.new.durable ≡ self.old.durable) × (self.new.taken ≡ self.old.taken) }
+        ensures room { self.old.room ≤ self.new.room + 1 }
+    {
+        let lsn = self.records.len();
+        self.chain.push(added.link());
+        self.records.push_reserved(added);
+        lsn as u64
+    }
+
+    /// Takes the longest run of next records that have together at most so many bytes: none where the next one alone has more, or there is none.
+    pub fn take_batch(&mut self, limit: usize) -> Option<Taken>
+        ensures none { IsNone result ↔ (next_count R.size limit self.old ≡ 0) }
+        ensures some { IfSome result (λ b. (b.from ≡ self.old.taken) × (b.upto ≡ self.old.taken + next_count R.size limit self.old)) }
+        ensures taken { self.new ≡ record self.old { taken = self.old.taken + next_count R.size limit self.old } }
+    {
+        let from = self.taken;
+        let count = fitting(&self.records[from..], limit);
+        if count == 0 {
+            return None;
+        }
+        self.taken = from + count;
+        Some(Taken {
+            from: from as u64,
+            upto: self.taken as u64,
+        })
+    }
+
+    /// The records below this LSN are durable.
+    pub fn durable_to(&mut self, n: u64)
+        requires { (self.old.durable ≤ n) × (n ≤ self.old.taken) }
+        ensures { self.new ≡ record self.old { durable = n } }
+    {
+        self.durable = n as usize;
+    }
+
+    /// The record at an LSN.
+    pub fn lsn_at(&self, n: u64) -> Option<&R>
+        ensures found { option_copied result ≡ slice_get self.now.records n }
+        ensures none { IsNone result ↔ (length self.now.records ≤ n) }
+    {
+        self.records.get(n as usize)
+    }
+
+    /// The records from an LSN on and below another.
+    pub fn records(&self, from: u64, upto: u64) -> &[R]
+        requires { (from ≤ upto) × (upto ≤ length self.now.records) }
+        ensures { result.now ≡ slice_range self.now.records from upto }
+    {
+        &self.records[from as usize..upto as usize]
+    }
+
+    /// The records below this LSN are durable.
+    pub fn durable(&self) -> u64
+        ensures durable { result ≡ self.now.durable }
+        ensures fronts { IsInOrder self.now }
+    {
+        self.durable as u64
+    }
+
+    /// Those below this LSN were taken.
+    pub fn taken(&self) -> u64
+        ensures taken { result ≡ self.now.taken }
+        ensures fronts { IsInOrder self.now }
+    {
+        self.taken as u64
+    }
+
+    /// The LSN of the next record.
+    pub fn end(&self) -> u64
+        ensures end { result ≡ length self.now.records }
+        ensures fronts { IsInOrder self.now }
+    {
+        self.records.len() as u64
+    }
+}

@@ -1,0 +1,73 @@
+//! What a buffer asks of its records.
+ghost use Rattle.std.specs.Prelude.{◌≡◌, ℕ};
+ghost use Rattle.clv_base.specs.Logs.{optional_size, record_size};
+ghost use Rattle.log_buffer.specs.declared.measured.Link.{Link as LinkTo};
+ghost use Rattle.log_buffer.specs.Links.{link_of};
+
+use clv_base::logs::LogRecord;
+use clv_base::names::TxId;
+
+/// What a record is to the writes of a transaction.
+#[derive(Clone, Copy, PartialEq, Eq, Debug)]
+pub enum Link {
+    /// A write of the transaction.
+    Writes(TxId),
+    /// It compensates the newest write of the transaction that stands.
+    Undoes(TxId),
+    /// Neither.
+    Neither,
+}
+
+/// A record whose size is known, and whose write it is or compensates.
+pub trait Measured {
+    /// Its size in bytes, as it is spelled.
+    ghost size: { Self → ℕ };
+
+    /// What it is to the writes of a transaction.
+    ghost link: { Self → LinkTo };
+
+    /// Its size in bytes.
+    fn size(&self) -> usize
+        ensures { result ≡ size self.now };
+
+    /// What it is to the writes of a transaction.
+    fn link(&self) -> Link
+        ensures { result ≡ link self.now };
+}
+
+fn value_size(value: Option<u64>) -> usize
+    ensures { result ≡ optional_size value }
+{
+    match value {
+        None => 1,
+        Some(_) => 9,
+    }
+}
+
+impl Measured for LogRecord {
+    ghost size = { record_size };
+
+    ghost link = { link_of };
+
+    fn size(&self) -> usize {
+        match self {
+            LogRecord::Update { before, after, .. } => 25
+                + value_size(*before)
+                + value_size(*after),
+            LogRecord::Clr { after, .. } => 33 + value_size(*after),
+            LogRecord::Prepare { predecessors, .. } => 25 + 16 * predecessors.as_slice().len(),
+            LogRecord::Commit { parts, .. } => 21 + 4 * parts.as_slice().len(),
+            LogRecord::Abort { .. } => 17,
+            LogRecord::End { .. } => 17,
+            LogRecord::Restart { .. } => 13,
+        }
+    }
+
+    fn link(&self) -> Link {
+        match self {
+            LogRecord::Update { tx, .. } => Link::Writes(*tx),
+            LogRecord::Clr { tx, .. } => Link::Undoes(*tx),
+            _ => Link::Neither,
+        }
+    }
+}

@@ -1,0 +1,40 @@
+//! The writes of a transaction in a log.
+ghost use Rattle.std.specs.Prelude.{◌≡◌};
+ghost use Rattle.clv_base.specs.Logs.{wrote_in, standing, without_newest};
+ghost use Rattle.clv_base.specs.Undo.{newest_lsn};
+
+use crate::buffer::LogBuffer;
+use clv_base::logs::LogRecord;
+use clv_base::names::TxId;
+
+impl LogBuffer<LogRecord> {
+    /// Whether the transaction has an UPDATE.
+    pub fn wrote(&self, tx: TxId) -> bool
+        ensures { result ≡ wrote_in self.now.records tx }
+    {
+        self.chain.newest(tx).is_some()
+    }
+
+    /// The LSN of the transaction's newest UPDATE that stands.
+    pub fn newest(&self, tx: TxId) -> Option<u64>
+        ensures { result ≡ newest_lsn tx (standing self.now.records) }
+    {
+        lsn_of(self.chain.newest(tx).flatten())
+    }
+
+    /// The LSN of its UPDATE that stands below that one.
+    pub fn second_newest(&self, tx: TxId) -> Option<u64>
+        ensures { result ≡ newest_lsn tx (without_newest tx (standing self.now.records)) }
+    {
+        lsn_of(self.chain.second(tx))
+    }
+}
+
+fn lsn_of(place: Option<usize>) -> Option<u64>
+    ensures { result ≡ place }
+{
+    match place {
+        None => None,
+        Some(place) => Some(place as u64),
+    }
+}

@@ -1,0 +1,5 @@
+pub mod Rising
+pub mod Finding
+pub mod Writing
+pub mod Ranging
+pub mod Placed
