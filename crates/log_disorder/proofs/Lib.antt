@@ -1,0 +1,15 @@
+pub mod Barring
+pub mod Below
+pub mod Doubt
+pub mod Fitting
+pub mod Growing
+pub mod Held
+pub mod IndexGrows
+pub mod IndexOf
+pub mod Laws
+pub mod Links
+pub mod Listing
+pub mod RuleParts
+pub mod Steps
+pub mod Walking
+pub mod Walks

@@ -1,0 +1,4 @@
+pub mod Writes
+pub mod Listers
+pub mod Rules
+pub mod Adding

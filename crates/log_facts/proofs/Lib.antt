@@ -1,0 +1,5 @@
+pub mod Bools
+pub mod Growing
+pub mod Members
+pub mod Names
+pub mod Places

@@ -1,0 +1,94 @@
+// What a log says of all transactions.
+
+ghost use Rattle.std.specs.Prelude.{◌≡◌, List, ◌∷◌, ◌++◌, [], length, IfOk, OnOk, OnErr, if◌then◌else◌};
+ghost use Rattle.clv_base.specs.declared.names.TxId.{TxId as Tx};
+ghost use Rattle.clv_base.specs.declared.logs.LogRecord.{LogRecord as Record};
+ghost use Rattle.clv_base.specs.Orders.{tx_same, tx_get, tx_put};
+ghost use Rattle.clv_base.specs.Logs.{is_record_of};
+ghost use Rattle.log_facts.specs.Facts.{Knows, known, facts_of, facts_with};
+
+use crate::facts::{TxFacts, owner};
+use clv_base::logs::LogRecord;
+use clv_base::names::TxId;
+use std::alloc::{AllocError, Global};
+use std::collections::BTreeMap;
+use std::marker::Model;
+
+fn row_of(rows: &BTreeMap<TxId, TxFacts>, tx: TxId) -> TxFacts
+    ensures { result ≡ known rows.now.entries tx }
+{
+    rows.get(&tx).copied().unwrap_or(TxFacts::unnamed())
+}
+
+fn set_row(rows: &mut BTreeMap<TxId, TxFacts>, tx: TxId, facts: TxFacts) -> Result<(), AllocError>
+    ensures set { OnOk result ((t : Tx) → known rows.new.entries t ≡ (if tx_same tx t then facts else known rows.old.entries t)) }
+    ensures err { OnErr result (rows.new.entries ≡ rows.old.entries) }
+{
+    rows.insert(tx, facts)?;
+    Ok(())
+}
+
+/// What a log says of each transaction.
+#[derive(Drop)]
+pub struct LogFacts {
+    rows: BTreeMap<TxId, TxFacts>,
+}
+
+impl Model for LogFacts {
+    ghost use Rattle.clv_base.specs.Orders.{Table};
+    ghost use Rattle.log_facts.specs.Facts.{TxFacts as Facts};
+
+    ghost Value = { Table Facts };
+
+    ghost view = { λ f. f.rows.entries };
+}
+
+impl LogFacts {
+    /// Of the empty log. Takes no memory.
+    pub fn new(alloc: Global) -> Self
+        ensures { Knows result [] }
+    {
+        LogFacts {
+            rows: BTreeMap::new(alloc),
+        }
+    }
+
+    /// What the log says of a transaction.
+    pub fn get(&self, tx: TxId) -> TxFacts
+        ensures { result ≡ known self.now tx }
+    {
+        row_of(&self.rows, tx)
+    }
+
+    fn put(&mut self, lsn: usize, r: &LogRecord) -> Result<(), AllocError>
+        ensures set { OnOk result ((t : Tx) → known self.new t ≡ (if is_record_of t r.now then facts_with lsn r.now (known self.old t) else known self.old t)) }
+        ensures err { OnErr result (self.new ≡ self.old) }
+    {
+        match owner(r) {
+            None => Ok(()),
+            Some(tx) => {
+                let facts = row_of(&self.rows, tx).with(lsn, r);
+                set_row(&mut self.rows, tx, facts)
+            }
+        }
+    }
+
+    /// With one more record at the end of the log, at this LSN. An `Err` changes nothing.
+    pub fn add(&mut self, lsn: usize, r: &LogRecord) -> Result<(), AllocError>
+        ensures added { OnOk result ((log : List Record) → length log ≡ lsn → Knows self.old log → Knows self.new (log ++ r.now ∷ [])) }
+        ensures err { OnErr result (self.new ≡ self.old) }
+    {
+        self.put(lsn, r)
+    }
+
+    /// Of a whole log.
+    pub fn of_log(alloc: Global, records: &[LogRecord]) -> Result<Self, AllocError>
+        ensures { IfOk result (λ f. Knows f records.now) }
+    {
+        let mut facts = Self::new(alloc);
+        for (lsn, r) in records.iter().enumerate() {
+            facts.add(lsn, r)?;
+        }
+        Ok(facts)
+    }
+}
