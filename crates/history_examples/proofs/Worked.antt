@@ -3,13 +3,14 @@ use Rattle.std.proofs.Common.{refl, ℕ, zero, suc, ◌<◌, lit<, inl, arith, [
 use Rattle.clv_base.specs.LogRules.{log_of}
 use Rattle.clv_base.specs.Restarts.{untouched}
 use Rattle.clv_base.specs.Journals.{MayRun, MayLeave, start_of, final_of, journal_of}
+use Rattle.clv_base.specs.History.{IsQuiet}
 use Rattle.single_path.specs.Plan.{After_all}
 use Rattle.single_path.specs.Laws.{MayPlay}
 use Rattle.single_path.proofs.Legality.{runs_are_legal}
 use Rattle.protocol_laws.specs.Growth.{IsPrefixOf}
 use Rattle.history_laws.specs.Continuing.{SameAtRestarts}
 use Rattle.one_shard_laws.specs.Replaying.{new_log}
-use Rattle.history_examples.specs.Worked.{one_plan, two_plan, short_run, long_run, short_log, long_log, RunsGoOn, restarted, looked_at, restarted_log, RestartIsLegal, RestartGoesOn, violated, violated_log, ViolatedIsLegal}
+use Rattle.history_examples.specs.Worked.{one_plan, two_plan, short_run, long_run, short_log, long_log, RunsGoOn, restarted, looked_at, restarted_log, RestartIsLegal, RestartGoesOn, violated, violated_log, ViolatedIsLegal, opened_log, OpenedIsSettled}
 
 -- what holds of shard 0 holds of each shard below 1
 only_one : (P : ℕ → Type 0) → P 0 → (n : ℕ) → n < 1 → P n
@@ -133,3 +134,22 @@ violated_is_legal =
       numbered = refl;
       messages = (tt, (tt, (tt, (tt, (tt, (tt, (tt, tt)))))));
     }
+
+pub opened_is_settled : OpenedIsSettled
+opened_is_settled = (
+  record {
+    splits_rise = refl;
+    ordered = refl;
+    each_log = (refl, refl);
+    in_shards = refl;
+    run_fits = lit< tt;
+    runs = only_one (λ n. MayRun (log_of (opened_log ∷ []) n) (start_of new_log n) (journal_of n [])) tt;
+    leaves = only_one (λ n. MayLeave (final_of new_log [] (opened_log ∷ []) n) (log_of (opened_log ∷ []) n)) (true, inl refl);
+    stamps = refl;
+    sessions = refl;
+    numbered = refl;
+    messages = tt;
+  },
+  only_one (λ n. IsQuiet (final_of new_log [] (opened_log ∷ []) n)) (refl, refl, refl, refl),
+  refl,
+)

@@ -13,7 +13,9 @@ use Rattle.clv_base.specs.declared.events.Outcome.TheVariants.{Answered, Asked, 
 use Rattle.clv_base.specs.declared.events.Entry.{Entry}
 use Rattle.clv_base.specs.Journals.{History}
 use Rattle.clv_base.specs.FileRules.{may_open}
-use Rattle.clv_base.specs.History.{Legal, Member, acknowledged_in}
+use Rattle.clv_base.specs.Needs.{live_pairs}
+use Rattle.clv_base.specs.Journals.{final_of}
+use Rattle.clv_base.specs.History.{Legal, Member, IsSettled, acknowledged_in}
 use Rattle.single_path.specs.Plan.{tx_of, birth_of, After_all, play, log_left_by}
 use Rattle.single_path.specs.Laws.{history}
 use Rattle.history_laws.specs.Continuing.{GoesOn, serial_now, serial_left}
@@ -117,3 +119,14 @@ abbrev pub ViolatedHasMembers : Type 0
 ViolatedHasMembers =
     (serial_left [] new_log violated (violated_log ∷ []) (λ n. false) ≡ first_member ∷ reader_member ∷ [])
     × (predecessors_of_history violated (violated_log ∷ []) reader ≡ tx_of 1 1 ∷ [])
+
+-- ---- where nothing is left to do
+
+-- a shard that was opened and did nothing
+abbrev pub opened_log : List LogRecord
+opened_log = RestartRecord 1 0 ∷ []
+
+abbrev pub OpenedIsSettled : Type 0
+OpenedIsSettled =
+    Legal [] new_log [] (opened_log ∷ []) × IsSettled [] new_log [] (opened_log ∷ [])
+    × (live_pairs (final_of new_log [] (opened_log ∷ []) 0).local.records ≡ [])

@@ -1,6 +1,6 @@
 // Histories worked out by hand, and what the laws say of them.
 
-ghost use Rattle.history_examples.specs.Worked.{RunsGoOn, RunsHaveMembers, RestartIsLegal, RestartGoesOn, RestartHasNoMember, ViolatedIsLegal, ViolatedHasMembers};
+ghost use Rattle.history_examples.specs.Worked.{RunsGoOn, RunsHaveMembers, RestartIsLegal, RestartGoesOn, RestartHasNoMember, ViolatedIsLegal, ViolatedHasMembers, OpenedIsSettled};
 
 /// A run of one transaction goes on to one of two, all that the law of what is never taken back supposes is there.
 pub fn runs_go_on()
@@ -35,4 +35,9 @@ pub fn violated_is_legal()
 /// The writer is the reader's predecessor, and a member before it.
 pub fn violated_has_members()
     ensures { ViolatedHasMembers }
+{}
+
+/// A shard that was opened and did nothing is settled.
+pub fn opened_is_settled()
+    ensures { OpenedIsSettled }
 {}

@@ -9,3 +9,4 @@ pub mod Following
 pub mod Knowing
 pub mod Replaying
 pub mod Meeting
+pub mod Settling

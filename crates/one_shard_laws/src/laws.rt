@@ -2,6 +2,7 @@
 
 ghost use Rattle.one_shard_laws.specs.Replaying.{MembersReplay};
 ghost use Rattle.one_shard_laws.specs.Recovering.{PredecessorsStandBefore};
+ghost use Rattle.one_shard_laws.specs.Settling.{SettledIsTheMap};
 
 /// From a new log, in every legal history of one shard: the members replay, in the order of their requests, to the answers that they were
 /// given, and to the map that the log left stands for, whatever a crash keeps of what is in flight.
@@ -12,4 +13,9 @@ pub fn members_replay()
 /// Nor is a member left without one that it depends on: whose writes it violated is a member too, and stands before it.
 pub fn predecessors_stand_before()
     ensures { PredecessorsStandBefore }
+{}
+
+/// Where the shard is up, nothing is buffered or in flight, and no part is undecided, the live records are that map.
+pub fn settled_is_the_map()
+    ensures { SettledIsTheMap }
 {}

@@ -17,7 +17,7 @@ use Rattle.law_base.proofs.Anchors.{Rising, AllAbove, absent_above, rising_filte
 
 -- ---- the live pairs as a map
 
-t_true : (b : Bool) → b ≡ true → T b
+pub t_true : (b : Bool) → b ≡ true → T b
 t_true b e = subst T (sym e) tt
 
 less_true : (a b : ℕ) → a < b → is_lt (nat_cmp a b) ≡ true
@@ -35,7 +35,7 @@ rises_case : (j : ℕ) (o : Option ℕ) (rest : KeyMap) → below_all nat_cmp j 
 rises_case j None rest a e = e
 rises_case j (Some v) rest a e = and_from _ _ a e
 
-live_rises : (rs : Records) → Rising rs → is_sorted nat_cmp (live_pairs rs) ≡ true
+pub live_rises : (rs : Records) → Rising rs → is_sorted nat_cmp (live_pairs rs) ≡ true
 live_rises [] h = refl
 live_rises (r ∷ rs) h = rises_case r.0 r.1 (live_pairs rs) (live_above r.0 rs h.0) (live_rises rs h.1)
 
@@ -51,7 +51,7 @@ find_case q j None rest old e none = e ∙ at (q == j) none
     at true none = ap live_by (none refl)
     at false none = refl
 
-live_find : (q : ℕ) (rs : Records) → Rising rs → map_get q (live_pairs rs) ≡ value_at q rs
+pub live_find : (q : ℕ) (rs : Records) → Rising rs → map_get q (live_pairs rs) ≡ value_at q rs
 live_find q [] h = refl
 live_find q (r ∷ rs) h =
     find_case q r.0 r.1 (live_pairs rs) (record_at q rs) (live_find q rs h.1) (λ e. absent_above q rs (subst (λ j. AllAbove j rs) (sym (eqb-true q r.0 e)) h.0))

@@ -155,10 +155,10 @@ told_more : (told : List TxId) (o : Option TxId) (g h : Past) → Over_all told 
 told_more told None g h a m n = λ t i. m t (a t i)
 told_more told (Some u) g h a m n = λ t i. ⊎_elim (λ j. m t (a t j)) (λ j. ⊎_elim (λ e. ap (λ z. tx_in z h.over) (sym (tx_true u t e)) ∙ n u refl) (λ e. absurd (both_ways false refl e)) (or_cases (tx_same u t) false j)) (or_cases (tx_in t told) _ (sym (list_any-append (λ x. tx_same x t) told (u ∷ [])) ∙ i))
 
-abbrev Holds : List Item → List TxId → List TxId → List (TxId × TxId) → Shard → Type 0
+abbrev pub Holds : List Item → List TxId → List TxId → List (TxId × TxId) → Shard → Type 0
 Holds all asked told met s = (g : Past) × Sound all g s × (g.start ≡ []) × (g.base ≡ []) × (g.asked ≡ asked) × Once asked × Over_all told g × (g.met ≡ met)
 
-held : (run : ℕ) (all : List Item) (asked told : List TxId) (met : List (TxId × TxId)) (s : Shard) → Leads run all asked told met s → Holds all asked told met s
+pub held : (run : ℕ) (all : List Item) (asked told : List TxId) (met : List (TxId × TxId)) (s : Shard) → Leads run all asked told met s → Holds all asked told met s
 held run _ _ _ _ _ opens = (nothing, sound_opened run, refl, refl, refl, tt, (λ t i. absurd (both_ways false refl i)), refl)
 held run _ _ _ _ _ (happens {all} {asked} {told} {met} {s} e o t stamp walker before may eq) =
     let b = held run all asked told met s before in

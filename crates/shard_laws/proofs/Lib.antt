@@ -15,3 +15,4 @@ pub mod Serial
 pub mod Members
 pub mod Reviving
 pub mod Histories
+pub mod Settled

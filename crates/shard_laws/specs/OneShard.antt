@@ -23,7 +23,8 @@ use Rattle.std.specs.List.{AllByRecursion}
 use Rattle.clv_base.specs.State.{Shard, Local}
 use Rattle.clv_base.specs.Facts.{predecessors_of}
 use Rattle.clv_base.specs.Locks.{violated}
-use Rattle.clv_base.specs.Needs.{needs_of}
+use Rattle.clv_base.specs.Needs.{needs_of, live_pairs}
+use Rattle.clv_base.specs.History.{IsQuiet}
 use Rattle.clv_base.specs.declared.state.Voter.{Voter}
 use Rattle.clv_base.specs.declared.state.Request.{Request}
 use Rattle.clv_base.specs.declared.state.RequestState.TheVariants.{Undecided}
@@ -171,3 +172,9 @@ abbrev pub Recoverable : Type 0
 Recoverable =
     (run : ℕ) (all : List Item) (asked told : List TxId) (met : List (TxId × TxId)) (s : Shard) (cut : ℕ) (t p : TxId) → Leads run all asked told met s → s.durable ≤ cut → has_met met t p ≡ true → is_member s cut told t ≡ true
     → (is_member s cut told p ≡ true) × (place (members_of s cut told asked) p < place (members_of s cut told asked) t)
+
+-- where the shard is quiet its live records are what its log stands for
+abbrev pub QuietIsSettled : Type 0
+QuietIsSettled =
+    (run : ℕ) (all : List Item) (asked told : List TxId) (met : List (TxId × TxId)) (s : Shard) → Leads run all asked told met s → IsQuiet s
+    → live_pairs s.local.records ≡ stands (s.local.log ∷ [])

@@ -1,6 +1,6 @@
 // Laws over all histories of one shard.
 
-ghost use Rattle.shard_laws.specs.OneShard.{AnswersAndMap, Recoverable};
+ghost use Rattle.shard_laws.specs.OneShard.{AnswersAndMap, Recoverable, QuietIsSettled};
 
 /// In each history of one shard in which nothing is in doubt at a restart, the members of each cut of the log at or above what is durable
 /// replay, in the order of their requests, to the answers that they were given and to the map that the cut stands for.
@@ -11,4 +11,9 @@ pub fn answers_and_map()
 /// Whose writes a member violated is a member too, at an earlier place.
 pub fn recoverable()
     ensures { Recoverable }
+{}
+
+/// Where nothing is buffered or in flight, and each part is gone or committed, the live records are what the log stands for.
+pub fn quiet_is_settled()
+    ensures { QuietIsSettled }
 {}
