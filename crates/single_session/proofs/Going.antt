@@ -6,7 +6,7 @@ use Rattle.clv_base.specs.declared.names.Birth.{Birth}
 use Rattle.clv_base.specs.declared.ops.Op.{Op}
 use Rattle.clv_base.specs.declared.logs.LogRecord.{LogRecord}
 use Rattle.clv_base.specs.Restarts.{run_after}
-use Rattle.single_path.specs.Plan.{Play, begun, ops_done, op_done, touched, requested, flushed, run_one, run_all, opening, After_all, writes}
+use Rattle.single_path.specs.Plan.{Play, begun, ops_done, op_done, requested, flushed, run_one, run_all, opening, After_all, writes}
 use Rattle.single_path.specs.Steps.{RunsGoOn, ClocksAreBounded, operations}
 use Rattle.script_lang.specs.Laws.{session_size}
 use Rattle.single_store.specs.Steady.{HasFailed, HasStopped}

@@ -1,4 +1,3 @@
-use Rattle.std.proofs.Common.{◌≡◌, refl, ap, sym, ◌∙◌, subst, take, drop, ◌+◌, arith}
 use Rattle.single_session.proofs.Going.{clock_fits, serial_fits, fails_in, stops_in, goes_on}
 use Rattle.single_session.proofs.transactions.run_transactions.Goals as goal
 
