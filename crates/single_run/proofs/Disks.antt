@@ -1,17 +1,16 @@
 -- What the disk of a run holds, by its history.
-use Rattle.std.proofs.Common.{◌≡◌, refl, ap, sym, ◌∙◌, subst, ◌⊎◌, inl, inr, ℕ, zero, suc, ◌<◌, Bool, true, false, cond, List, [], ◌∷◌, ◌++◌, take, Option, Some, None, unwrap_or, IfSome, map, arith}
-use Rattle.clv_base.specs.declared.logs.LogRecord.{LogRecord}
+use Rattle.std.proofs.Common.{◌≡◌, refl, ap, sym, ◌∙◌, subst, inl, inr, ℕ, suc, ◌<◌, Bool, true, false, cond, List, [], ◌∷◌, ◌++◌, take, Option, Some, None, unwrap_or, IfSome, arith}
 use Rattle.clv_base.specs.declared.events.Entry.{Entry}
 use Rattle.clv_base.specs.declared.events.Event.TheVariants.{FlushIn}
 use Rattle.clv_base.specs.declared.events.Outcome.TheVariants.{Failed}
 use Rattle.clv_base.specs.State.{Shard}
 use Rattle.clv_base.specs.Restarts.{log_left}
-use Rattle.clv_base.specs.Journals.{History, journal_of}
-use Rattle.disk_model.specs.Story.{Story, reads, IsImage}
+use Rattle.clv_base.specs.Journals.{journal_of}
+use Rattle.disk_model.specs.Story.{Story, reads}
 use Rattle.log_gate.specs.Image.{HasLog}
 use Rattle.log_gate.specs.Gate.{EachNow}
 use Rattle.history_replay.specs.Entries.{on_shard}
-use Rattle.single_path.specs.Plan.{Play, Stop, After_all, In_operations, At_request, In_flight, At_failure, history_of, log_left_by, play, stopped, requested, out}
+use Rattle.single_path.specs.Plan.{Play, Stop, After_all, In_operations, At_request, In_flight, At_failure, history_of, log_left_by, stopped, requested, out}
 use Rattle.single_path.specs.Laws.{HasLog as HasRunsLog}
 use Rattle.single_path.specs.Steps.{stops_at_failure}
 use Rattle.run_promises.specs.Disks.{HoldsLog, flush_after, flush_failed_from, flush_failed}

@@ -1,24 +1,23 @@
 -- A run follows its script, and at its end has acknowledged all of it.
-use Rattle.std.proofs.Common.{◌≡◌, refl, ap, sym, ◌∙◌, subst, ℕ, suc, Bool, true, false, ◌||◌, List, [], ◌∷◌, ◌++◌, length, Option, Some, None, Result, Ok, Err}
+use Rattle.std.proofs.Common.{◌≡◌, refl, ap, sym, ◌∙◌, subst, ℕ, Bool, true, false, ◌||◌, List, [], ◌∷◌, ◌++◌, Option, Result, Ok, Err}
 use Rattle.std.specs.List.{AllByRecursion, list_any}
 use Rattle.clv_base.specs.declared.ops.Op.{Op}
 use Rattle.clv_base.specs.declared.logs.LogRecord.{LogRecord}
 use Rattle.clv_base.specs.declared.events.Entry.{Entry}
-use Rattle.clv_base.specs.Journals.{History, own}
-use Rattle.clv_base.specs.History.{serial, serial_ops, logs_left}
+use Rattle.clv_base.specs.Journals.{own}
+use Rattle.clv_base.specs.History.{serial_ops}
 use Rattle.disk_model.specs.Story.{Story}
 use Rattle.history_replay.specs.Entries.{Kept, entries_of}
 use Rattle.history_replay.specs.Laws.{OneShardsEntries}
-use Rattle.single_path.specs.Plan.{Stop, After_all, In_operations, At_request, In_flight, At_failure, play, history_of}
+use Rattle.single_path.specs.Plan.{Stop, After_all, play, history_of}
 use Rattle.single_path.specs.Laws.{MayPlay, history}
-use Rattle.single_path.specs.Script.{StepsAreThePlan, BirthsAreOfTransactions, HasBirth, birth_stamp, steps_in, plan_steps, stop_steps}
+use Rattle.single_path.specs.Script.{StepsAreThePlan, BirthsAreOfTransactions, HasBirth, birth_stamp, steps_in}
 use Rattle.single_path.specs.Serial.{CrashesLeave, MembersAreThePlan, members_left, with_operations, kept_last}
 use Rattle.single_path.specs.Steps.{RunsFailWhereTheyStop, is_path_event, is_failure, stops_at_failure}
 use Rattle.single_store.specs.declared.commits.CommitError.{CommitError}
-use Rattle.run_promises.specs.Histories.{entries, Keeps}
-use Rattle.run_promises.specs.Scripts.{StopsIn, FollowsScript, HasNoStop, has_failure, HasAll}
-use Rattle.single_run.specs.Plays.{IsPlayed, PlaysKeep}
-use Rattle.single_run.specs.Runs.{EndsAt, IsRun, FollowsTo, AcknowledgesAll, RunsKeep}
+use Rattle.run_promises.specs.Scripts.{StopsIn, HasNoStop, has_failure}
+use Rattle.single_run.specs.Plays.{PlaysKeep}
+use Rattle.single_run.specs.Runs.{IsRun, FollowsTo, AcknowledgesAll, RunsKeep}
 use Rattle.single_run.proofs.Keeping.{own_entries, members_are}
 
 over_history : (P : Entry → Type 0) (es : List Entry) → AllByRecursion P es → AllByRecursion (λ e. P e.1) (history_of es)

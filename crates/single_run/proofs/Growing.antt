@@ -1,8 +1,6 @@
 -- How the log of a run grows, and what of it is durable.
-use Rattle.std.proofs.Common.{◌≡◌, refl, ap, sym, ◌∙◌, subst, ℕ, zero, suc, ◌+◌, ◌≤◌, Bool, true, false, ◌||◌, cond, List, [], ◌∷◌, ◌++◌, take, drop, length, Option, Some, None, unwrap_or, append_assoc, length-append, arith}
+use Rattle.std.proofs.Common.{◌≡◌, refl, ap, sym, ◌∙◌, ℕ, suc, Bool, true, false, ◌||◌, List, [], ◌∷◌, ◌++◌, take, drop, length, Option, Some, None, append_assoc}
 use Rattle.std.proofs.Math.Seq.{take-append_seam, drop-append_seam}
-use Rattle.std.proofs.lemmas.List.{take-append-drop}
-use Rattle.std.specs.List.{list_any}
 use Rattle.clv_base.specs.declared.names.TxId.{TxId}
 use Rattle.clv_base.specs.declared.names.Birth.{Birth}
 use Rattle.clv_base.specs.declared.ops.Op.{Op}
@@ -10,7 +8,7 @@ use Rattle.clv_base.specs.declared.ops.Op.TheVariants.{Get, Put, Del, Scan}
 use Rattle.clv_base.specs.declared.logs.LogRecord.{LogRecord}
 use Rattle.clv_base.specs.Maps.{KeyMap}
 use Rattle.clv_base.specs.Restarts.{run_after}
-use Rattle.single_path.specs.Plan.{Play, is_put, writes, tx_of, birth_of, begun, log_after, op_done, ops_done, touched, log_asked, asked, out, landed, failed, flushed, told, requested, run_one, run_all, opening, log_opened, Stop, After_all, In_operations, At_request, In_flight, At_failure, stopped, play, log_left_by}
+use Rattle.single_path.specs.Plan.{Play, is_put, writes, tx_of, begun, log_after, op_done, ops_done, touched, log_asked, asked, out, failed, flushed, requested, run_one, run_all, opening, log_opened, Stop, After_all, In_operations, At_request, In_flight, At_failure, stopped, play, log_left_by}
 
 -- ---- a log that goes on from another
 

@@ -1,5 +1,5 @@
 -- A run that is kept keeps what the program promises.
-use Rattle.std.proofs.Common.{◌≡◌, refl, ap, sym, ◌∙◌, subst, ◌⊎◌, inl, inr, ℕ, zero, suc, ◌<◌, Bool, true, false, List, [], ◌∷◌, Option, Some, None, IfSome, arith}
+use Rattle.std.proofs.Common.{◌≡◌, refl, ap, sym, ◌∙◌, subst, ℕ, ◌<◌, Bool, true, false, List, [], ◌∷◌, Option, None, IfSome, arith}
 use Rattle.std.specs.List.{AllByRecursion}
 use Rattle.clv_base.specs.declared.ops.Op.{Op}
 use Rattle.clv_base.specs.declared.logs.LogRecord.{LogRecord}
@@ -8,20 +8,20 @@ use Rattle.clv_base.specs.Logs.{stands}
 use Rattle.clv_base.specs.LogRules.{log_of}
 use Rattle.clv_base.specs.FileRules.{may_open}
 use Rattle.clv_base.specs.Restarts.{log_left}
-use Rattle.clv_base.specs.Journals.{History, journal_of, final_of}
+use Rattle.clv_base.specs.Journals.{journal_of, final_of}
 use Rattle.clv_base.specs.History.{Legal, Member, serial, serial_ops, serial_answers, logs_left}
 use Rattle.disk_model.specs.Story.{Story, reads}
 use Rattle.log_gate.specs.Image.{HasLog}
 use Rattle.log_gate.specs.Gate.{EachNow}
-use Rattle.history_replay.specs.Entries.{Kept, entries_of, on_shard}
+use Rattle.history_replay.specs.Entries.{Kept, entries_of}
 use Rattle.history_replay.specs.Laws.{OneShardsEntries}
-use Rattle.single_path.specs.Plan.{Stop, play, log_left_by, run_all, opening, history_of}
+use Rattle.single_path.specs.Plan.{Stop, play, log_left_by, run_all, opening}
 use Rattle.single_path.specs.Laws.{history, RunsAreLegal, RunsHaveTheirLog}
 use Rattle.single_path.specs.Serial.{CrashesLeave, RunsReplay, InOrder, MembersAreInOrder, RunsMayBeOpened, members_left}
 use Rattle.single_path.specs.Steps.{stops_at_failure}
 use Rattle.clv_base.specs.Restarts.{run_after}
 use Rattle.run_promises.specs.Disks.{HoldsLog, flush_failed, DisksHold}
-use Rattle.run_promises.specs.Histories.{IsLegalRun, IsAfter, SessionsInOrder, IsSerial, Keeps}
+use Rattle.run_promises.specs.Histories.{IsAfter, SessionsInOrder, IsSerial}
 use Rattle.single_run.specs.Plays.{PlayHolds, IsPlayed, PlaysKeep}
 use Rattle.single_run.proofs.Disks.{if_some, each_now, only_one, same_history, same_journal, failure_is_last, same_log, holds_too, Chosen, chosen}
 

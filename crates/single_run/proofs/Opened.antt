@@ -1,5 +1,5 @@
 -- A run over a shard that was opened.
-use Rattle.std.proofs.Common.{◌≡◌, refl, ap, sym, ◌∙◌, subst, ℕ, ◌<◌, ◌^◌, Bool, true, List, [], ◌∷◌, take, length, Option, Result, Err, OnOk}
+use Rattle.std.proofs.Common.{◌≡◌, ap, sym, ◌∙◌, subst, ℕ, ◌<◌, ◌^◌, Bool, true, List, [], ◌∷◌, take, Option, Result, Err, OnOk}
 use Rattle.std.specs.List.{list_all}
 use Rattle.clv_base.specs.declared.ops.Op.{Op}
 use Rattle.clv_base.specs.declared.logs.LogRecord.{LogRecord}
@@ -7,7 +7,7 @@ use Rattle.disk_model.specs.Story.{Story}
 use Rattle.log_gate.specs.View.{logs_told}
 use Rattle.history_replay.specs.Entries.{Kept}
 use Rattle.script_lang.specs.Laws.{session_size}
-use Rattle.single_path.specs.Plan.{Play, may_run, run_all, opening}
+use Rattle.single_path.specs.Plan.{Play, may_run, run_all}
 use Rattle.single_path.specs.Steps.{ClocksAreBounded}
 use Rattle.single_store.specs.declared.commits.CommitError.{CommitError}
 use Rattle.single_store.specs.declared.commits.CommitError.TheVariants.{Failed, Memory}

@@ -1,11 +1,10 @@
 -- What an opening that failed leaves.
-use Rattle.std.proofs.Common.{◌≡◌, refl, subst, inl, inr, ◌⊎◌, true, List, [], ◌∷◌, Option, Some, None}
+use Rattle.std.proofs.Common.{refl, inl, inr, Option, Some, None}
 use Rattle.disk_model.specs.Story.{Story}
 use Rattle.disk_model.specs.Disk.{Tells}
-use Rattle.log_gate.specs.Opening.{IsUnchanged}
 use Rattle.single_opening.specs.declared.error.OpeningError.{OpeningError}
 use Rattle.single_opening.specs.declared.error.OpeningError.TheVariants.{NotLog, Worn, Failed, Memory}
-use Rattle.single_opening.specs.Opening.{restart_of, HasTried, Leaves}
+use Rattle.single_opening.specs.Opening.{restart_of, Leaves}
 use Rattle.run_promises.specs.Disks.{unwritten, begun}
 use Rattle.single_run.specs.Runs.{Stays}
 use Rattle.run_promises.specs.Laws.{UndoStands}

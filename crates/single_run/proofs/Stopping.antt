@@ -1,32 +1,30 @@
 -- How the transactions of a session ended, as a run.
-use Rattle.std.proofs.Common.{◌≡◌, refl, ap, sym, ◌∙◌, subst, ◌⊎◌, inl, inr, ℕ, zero, suc, ◌+◌, ◌*◌, ◌<◌, ◌≤◌, ◌^◌, Bool, true, false, ◌&&◌, nat_le, List, [], ◌∷◌, ◌++◌, take, drop, length, Option, Some, None, IfSome, Result, Ok, Err, OnOk, arith, length-append}
-use Rattle.std.specs.List.{list_all, list_any}
+use Rattle.std.proofs.Common.{◌≡◌, refl, ap, sym, ◌∙◌, subst, ◌⊎◌, inl, inr, ℕ, zero, suc, ◌+◌, ◌<◌, ◌≤◌, ◌^◌, Bool, true, false, ◌&&◌, nat_le, List, [], ◌∷◌, ◌++◌, take, drop, length, Option, Some, None, IfSome, Result, Ok, Err, OnOk, arith}
+use Rattle.std.specs.List.{list_all}
 use Rattle.std.proofs.lemmas.List.{take-append-drop}
 use Rattle.std.proofs.lemmas.List.Folds.{list_all-append}
 use Rattle.std.proofs.lemmas.Bool.Decides.{nat_tests}
 use Rattle.clv_base.specs.declared.ops.Op.{Op}
 use Rattle.clv_base.specs.declared.logs.LogRecord.{LogRecord}
-use Rattle.clv_base.specs.declared.events.Entry.{Entry}
 use Rattle.clv_base.specs.LogRules.{disorder}
 use Rattle.clv_base.specs.FileRules.{passes_file_rules}
 use Rattle.clv_base.specs.Restarts.{run_after}
-use Rattle.disk_model.specs.Story.{Story, reads, IsImage}
+use Rattle.disk_model.specs.Story.{Story, reads}
 use Rattle.log_gate.specs.Image.{HasLog}
 use Rattle.log_gate.specs.Gate.{EachNow}
 use Rattle.log_gate.specs.View.{Only, OnlyOrMore, logs_told}
 use Rattle.history_replay.specs.Entries.{Kept}
 use Rattle.script_lang.specs.Laws.{session_size}
-use Rattle.single_path.specs.Plan.{Play, is_plain, may_do, may_run, writes, touched, requested, out, failed, run_all, opening, Stop, After_all, In_operations, At_failure, may_stop, stopped, play, log_left_by}
+use Rattle.single_path.specs.Plan.{Play, is_plain, may_do, may_run, run_all, opening, Stop, After_all, In_operations, At_failure, may_stop, play, log_left_by}
 use Rattle.single_path.specs.Laws.{MayPlay}
-use Rattle.single_path.specs.Steps.{ClocksAreBounded, operations, stop_operations, stops_at_failure}
+use Rattle.single_path.specs.Steps.{ClocksAreBounded, operations, stop_operations}
 use Rattle.single_store.specs.declared.commits.CommitError.{CommitError}
 use Rattle.single_store.specs.declared.commits.CommitError.TheVariants.{Failed, Memory}
 use Rattle.single_store.specs.Steady.{IsKept, HasFailed, HasStopped}
 use Rattle.single_session.specs.Stops.{FailsIn, StopsIn}
-use Rattle.single_walk.specs.View.{View, IsSameHistory}
-use Rattle.run_promises.specs.Scripts.{StopsIn as StopsAt}
-use Rattle.single_run.specs.Plays.{PlayHolds, IsPlayed}
-use Rattle.single_run.specs.Runs.{EndsAt, IsRun}
+use Rattle.single_walk.specs.View.{View}
+use Rattle.single_run.specs.Plays.{PlayHolds}
+use Rattle.single_run.specs.Runs.{IsRun}
 use Rattle.single_run.proofs.Growing.{Rests, all_rests, opening_rests, begins_with_found, left_after_all, left_in_operations, left_at_failure, left_with_flight}
 
 -- ---- what the disk holds
