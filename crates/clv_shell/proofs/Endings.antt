@@ -1,17 +1,15 @@
 -- How a run ends, as the program's status.
-use Rattle.std.proofs.Common.{◌≡◌, refl, sym, subst, ◌≤◌, ℕ, true, false, List, [], ◌∷◌, Option, Some, None, Result, Ok, Err}
+use Rattle.std.proofs.Common.{◌≡◌, sym, subst, ℕ, List, [], Option, Some, Result, Ok, Err}
 use Rattle.clv_base.specs.declared.ops.Op.{Op}
 use Rattle.history_replay.specs.Entries.{Kept}
 use Rattle.single_path.specs.Plan.{Stop}
 use Rattle.single_store.specs.declared.commits.CommitError.{CommitError}
 use Rattle.single_store.specs.declared.commits.CommitError.TheVariants as commits
-use Rattle.single_store.specs.Steady.{CountsCommit}
 use Rattle.single_run.specs.Runs.{EndsAt, FollowsTo, AcknowledgesAll}
 use Rattle.clv_shell.specs.declared.command.Command.TheVariants.{Run, Show}
 use Rattle.clv_shell.specs.declared.status.Status.{Status}
 use Rattle.clv_shell.specs.declared.status.Status.TheVariants.{Fine, Usage, Script, ReadFault, WriteFault, DiskFault, NotLog, Memory, Worn, Exists}
 use Rattle.clv_shell.specs.Ends.{EndsBy, Follows, HasAllAt, HasScript, FollowsCommand}
-use Rattle.clv_shell.specs.Counts.{CountsDisk}
 use Rattle.clv_shell.specs.Steps.{IsEnd}
 
 ends_by : (ended : Result (Unit {0}) CommitError) (status : Status) (stop : Stop) → IsEnd ended status → EndsAt ended stop → EndsBy status stop

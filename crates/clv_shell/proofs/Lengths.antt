@@ -1,11 +1,10 @@
 -- A log that wasn't made.
-use Rattle.std.proofs.Common.{◌≡◌, ◌≢◌, refl, ap, sym, ◌∙◌, subst, ◌⊎◌, inl, ℕ, List, [], ◌∷◌, length, Option, Some, None, IfSome, Result, Err}
-use Rattle.disk_model.specs.Story.{Story, Len, after, reads, IsImage}
+use Rattle.std.proofs.Common.{◌≡◌, ◌≢◌, refl, sym, subst, inl, ℕ, List, [], ◌∷◌, length, Option, Some, None, IfSome, Err}
+use Rattle.disk_model.specs.Story.{Story, Len, after, reads}
 use Rattle.disk_model.specs.Disk.{Tells}
-use Rattle.disk_model.specs.Crash.{AtEachMoment}
 use Rattle.log_gate.specs.declared.error.MakeError.{MakeError}
 use Rattle.log_gate.specs.declared.error.MakeError.TheVariants.{Exists, Failed, Memory}
-use Rattle.log_gate.specs.Make.{Makes, CountsMaking}
+use Rattle.log_gate.specs.Make.{Makes}
 use Rattle.log_gate.specs.Opening.{IsUnchanged}
 use Rattle.clv_shell.specs.declared.status.Status.{Status}
 use Rattle.clv_shell.specs.Ends.{IsUntouched}

@@ -1,6 +1,5 @@
 -- What holds of the one command that the words are.
 use Rattle.std.proofs.Common.{◌≡◌, sym, ap, ◌∙◌, ℕ, List, [], ◌∷◌, Option, arith}
-use Rattle.std.specs.Prelude.{codes}
 use Rattle.history_replay.specs.Entries.{Kept}
 use Rattle.clv_shell.specs.declared.command.Command.{Command}
 use Rattle.clv_shell.specs.declared.command.Command.TheVariants.{Make, Run, Show}

@@ -1,5 +1,5 @@
 -- What the counts of faults say of a status, and which statuses a command has.
-use Rattle.std.specs.Prelude.{◌≡◌, ◌≢◌, ◌≤◌, ◌⊎◌, ◌^◌, ℕ, List, [], length, Option, Some, None, IfSome}
+use Rattle.std.specs.Prelude.{◌≡◌, ◌≢◌, ◌^◌, ℕ, List, length, Option, None, IfSome}
 use Rattle.disk_model.specs.Story.{Story, reads}
 use Rattle.disk_model.specs.Disk.{Rose}
 use Rattle.history_replay.specs.Entries.{Kept}

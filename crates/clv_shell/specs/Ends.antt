@@ -1,5 +1,5 @@
 -- What the program promises where it ends, by its status and its history.
-use Rattle.std.specs.Prelude.{◌≡◌, ◌⊎◌, true, ◌<◌, ◌^◌, ◌++◌, ℕ, List, [], ◌∷◌, length, take, Option, Some, None, IfSome, Ok}
+use Rattle.std.specs.Prelude.{◌≡◌, ◌⊎◌, true, ◌<◌, ◌^◌, ◌++◌, ℕ, List, [], ◌∷◌, length, take, Option, Some, None, IfSome}
 use Rattle.clv_base.specs.declared.ops.Op.{Op}
 use Rattle.clv_base.specs.declared.logs.LogRecord.{LogRecord}
 use Rattle.clv_base.specs.Logs.{stands}
@@ -25,7 +25,7 @@ use Rattle.run_promises.specs.Scripts.{FollowsScript, HasNoStop, has_failure, Ha
 use Rattle.clv_shell.specs.declared.command.Command.{Command}
 use Rattle.clv_shell.specs.declared.command.Command.TheVariants.{Make, Run, Show}
 use Rattle.clv_shell.specs.declared.status.Status.{Status}
-use Rattle.clv_shell.specs.declared.status.Status.TheVariants.{Fine, Usage, Script, ReadFault, WriteFault, DiskFault, NotLog, Memory, Worn, Exists}
+use Rattle.clv_shell.specs.declared.status.Status.TheVariants.{Fine, WriteFault, DiskFault, Memory}
 
 -- ---- the disk of a shard that was not opened
 

@@ -1,6 +1,5 @@
 -- What the steps of a command answer.
-use Rattle.std.specs.Prelude.{◌≡◌, ◌≤◌, ◌^◌, ℕ, List, take, Option, Some, None, IfSome, Result, Ok, Err}
-use Rattle.clv_base.specs.declared.ops.Op.{Op}
+use Rattle.std.specs.Prelude.{◌≡◌, ◌≤◌, ◌^◌, ℕ, List, take, Option, IfSome, Result, Ok, Err}
 use Rattle.clv_base.specs.Maps.{KeyMap}
 use Rattle.disk_model.specs.Disk.{Rose}
 use Rattle.io_edge.specs.Streams.{Grows}
@@ -12,7 +11,7 @@ use Rattle.single_opening.specs.declared.error.OpeningError.TheVariants as openi
 use Rattle.single_store.specs.declared.commits.CommitError.{CommitError}
 use Rattle.single_store.specs.declared.commits.CommitError.TheVariants as commits
 use Rattle.clv_shell.specs.declared.status.Status.{Status}
-use Rattle.clv_shell.specs.declared.status.Status.TheVariants.{Fine, Usage, Script, ReadFault, WriteFault, DiskFault, NotLog, Memory, Worn, Exists}
+use Rattle.clv_shell.specs.declared.status.Status.TheVariants.{Fine, Script, ReadFault, WriteFault, DiskFault, NotLog, Memory, Worn, Exists}
 use Rattle.clv_shell.specs.Ends.{IsRefusedScript}
 
 -- the status of an opening that was refused

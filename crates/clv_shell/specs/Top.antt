@@ -1,10 +1,10 @@
 -- What the top call promises by its words.
-use Rattle.std.specs.Prelude.{◌≡◌, ◌≢◌, ℕ, List, Option, Some, None}
+use Rattle.std.specs.Prelude.{◌≡◌, ℕ, List, Option, None}
 use Rattle.history_replay.specs.Entries.{Kept}
 use Rattle.clv_shell.specs.declared.command.Command.{Command}
 use Rattle.clv_shell.specs.declared.command.Command.TheVariants.{Make, Run, Show}
 use Rattle.clv_shell.specs.declared.status.Status.{Status}
-use Rattle.clv_shell.specs.declared.status.Status.TheVariants.{Fine, Usage, Script, ReadFault, WriteFault, DiskFault, NotLog, Memory, Worn, Exists}
+use Rattle.clv_shell.specs.declared.status.Status.TheVariants.{Usage}
 use Rattle.clv_shell.specs.Words.{IsCommand}
 use Rattle.clv_shell.specs.Counts.{Opened}
 

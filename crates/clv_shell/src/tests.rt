@@ -16,10 +16,12 @@ use std::thread::Threads;
 const EMPTY: &[u8; 21] = b"CLVLOG01\x01\0\0\0\0\0\0\0\x01\0\0\0\0";
 
 // Behind it: a batch with the RESTART of run 1, and a batch with an UPDATE of key 5 from none to 10 and its COMMIT.
-const ONE_PUT: &[u8; 100] = b"CLVLOG01\x01\0\0\0\0\0\0\0\x01\0\0\0\x01\x0d\0\0\0\x07\x01\0\0\0\0\0\0\0\0\0\0\0\x01\x38\0\0\0\x01\x01\0\0\0\x01\0\0\0\x01\0\0\0\0\0\0\0\x05\0\0\0\0\0\0\0\0\x01\x0a\0\0\0\0\0\0\0\x04\x01\0\0\0\x01\0\0\0\x01\0\0\0\0\0\0\0\0\0\0\0\0";
+const ONE_PUT: &[u8; 100] =
+    b"CLVLOG01\x01\0\0\0\0\0\0\0\x01\0\0\0\x01\x0d\0\0\0\x07\x01\0\0\0\0\0\0\0\0\0\0\0\x01\x38\0\0\0\x01\x01\0\0\0\x01\0\0\0\x01\0\0\0\0\0\0\0\x05\0\0\0\0\0\0\0\0\x01\x0a\0\0\0\0\0\0\0\x04\x01\0\0\0\x01\0\0\0\x01\0\0\0\0\0\0\0\0\0\0\0\0";
 
 // A RESTART of run 1, and an UPDATE of key 5 from 7 to 8.
-const WRONG_BEFORE: &[u8; 82] = b"CLVLOG01\x01\0\0\0\0\0\0\0\x01\0\0\0\x01\x38\0\0\0\x07\x01\0\0\0\0\0\0\0\0\0\0\0\x01\x01\0\0\0\x01\0\0\0\x01\0\0\0\0\0\0\0\x05\0\0\0\0\0\0\0\x01\x07\0\0\0\0\0\0\0\x01\x08\0\0\0\0\0\0\0\0";
+const WRONG_BEFORE: &[u8; 82] =
+    b"CLVLOG01\x01\0\0\0\0\0\0\0\x01\0\0\0\x01\x38\0\0\0\x07\x01\0\0\0\0\0\0\0\0\0\0\0\x01\x01\0\0\0\x01\0\0\0\x01\0\0\0\0\0\0\0\x05\0\0\0\0\0\0\0\x01\x07\0\0\0\0\0\0\0\x01\x08\0\0\0\0\0\0\0\0";
 
 // A RESTART of run 4294967295.
 const LAST_RUN: &[u8; 39] =
@@ -27,13 +29,12 @@ const LAST_RUN: &[u8; 39] =
 
 const PUT: &[u8; 30] = b"session\nbegin\nput 5 10\ncommit\n";
 
-const NONE: &[u8; 45] =
-    b"{\"aborted\":0,\"acknowledged\":0,\"unsettled\":0}\n";
+const NONE: &[u8; 45] = b"{\"aborted\":0,\"acknowledged\":0,\"unsettled\":0}\n";
 
-const PUT_REPORT: &[u8; 96] = b"{\"ops\":[[\"put\",5,10,null]],\"serial\":1,\"session\":1}\n{\"aborted\":0,\"acknowledged\":1,\"unsettled\":0}\n";
+const PUT_REPORT: &[u8; 96] =
+    b"{\"ops\":[[\"put\",5,10,null]],\"serial\":1,\"session\":1}\n{\"aborted\":0,\"acknowledged\":1,\"unsettled\":0}\n";
 
-const UNSETTLED: &[u8; 45] =
-    b"{\"aborted\":0,\"acknowledged\":0,\"unsettled\":1}\n";
+const UNSETTLED: &[u8; 45] = b"{\"aborted\":0,\"acknowledged\":0,\"unsettled\":1}\n";
 
 // A house whose first disk has these bytes; its calls whose numbers are in `failing` fail.
 fn house_of(alloc: Global, bytes: &[u8], failing: &[u64]) -> Result<MemoryHouse, Fail>
@@ -128,7 +129,8 @@ fn reads_are_answered(rt: HostRuntime) -> Result<(), Fail> {
     let script = b"session\nbegin\nget 5\nput 5 11\nget 6\ncommit\nbegin\nget 5\ncommit";
     let (status, text) = call(&rt, alloc, "run", script, &mut house)?;
     assert_eq!(rt; status, Status::Fine);
-    let wanted = b"{\"ops\":[[\"get\",5,10],[\"put\",5,11,10],[\"get\",6,null]],\"serial\":1,\"session\":1}\n{\"ops\":[[\"get\",5,11]],\"serial\":2,\"session\":1}\n{\"aborted\":0,\"acknowledged\":2,\"unsettled\":0}\n";
+    let wanted =
+        b"{\"ops\":[[\"get\",5,10],[\"put\",5,11,10],[\"get\",6,null]],\"serial\":1,\"session\":1}\n{\"ops\":[[\"get\",5,11]],\"serial\":2,\"session\":1}\n{\"aborted\":0,\"acknowledged\":2,\"unsettled\":0}\n";
     assert_eq!(rt; text.as_slice(), wanted.as_slice());
     Ok(())
 }
@@ -148,7 +150,11 @@ fn words_and_scripts_are_refused(rt: HostRuntime) -> Result<(), Fail> {
 }
 
 // The status of `show` over a disk of these bytes, and how many bytes it wrote.
-fn shown<R: Threads + Wait + Sync>(rt: &R, alloc: Global, bytes: &[u8]) -> Result<(Status, usize), Fail> {
+fn shown<R: Threads + Wait + Sync>(
+    rt: &R,
+    alloc: Global,
+    bytes: &[u8],
+) -> Result<(Status, usize), Fail> {
     let mut house = house_of(alloc, bytes, &[])?;
     let (status, text) = call(rt, alloc, "show", b"", &mut house)?;
     Ok((status, text.len()))
@@ -165,7 +171,10 @@ fn logs_that_are_cut_or_wrong(rt: HostRuntime) -> Result<(), Fail> {
     assert_eq!(rt; shown(&rt, alloc, &ONE_PUT[..99])?, (at(At::Byte(99)), 0));
     assert_eq!(rt; shown(&rt, alloc, &[])?, (at(At::Byte(0)), 0));
     assert_eq!(rt; shown(&rt, alloc, WRONG_BEFORE)?, (at(At::Record(1)), 0));
-    assert_eq!(rt; shown(&rt, alloc, LAST_RUN)?, (Status::Worn { at: 4294967296 }, 0));
+    assert_eq!(rt;
+        shown(&rt, alloc, LAST_RUN)?,
+        (Status::Worn { at: 4294967296 }, 0)
+    );
     Ok(())
 }
 
@@ -192,11 +201,22 @@ fn comment(alloc: Global, count: usize) -> Result<Vec<u8>, AllocError> {
 #[test]
 fn the_longest_script(rt: HostRuntime) -> Result<(), Fail> {
     let alloc = rt.alloc();
-    for (count, wanted) in [(16777216, Status::Fine), (16777217, Status::Script { line: 0 })] {
+    for (count, wanted) in [
+        (16777216, Status::Fine),
+        (16777217, Status::Script { line: 0 }),
+    ] {
         let mut house = house_of(alloc, EMPTY, &[])?;
         let mut source = MemorySource::new(alloc, &comment(alloc, count)?, 100000, &[])?;
         let mut sink = MemorySink::new(alloc, 100, 100, &[])?;
-        let ended = run(&rt, alloc, &["run"], &mut source, &mut sink, &mut house, &NoPace);
+        let ended = run(
+            &rt,
+            alloc,
+            &["run"],
+            &mut source,
+            &mut sink,
+            &mut house,
+            &NoPace,
+        );
         assert_eq!(rt; ended.status, wanted);
     }
     Ok(())
@@ -208,10 +228,26 @@ fn faults_of_the_source_and_the_sink(rt: HostRuntime) -> Result<(), Fail> {
     let mut house = house_of(alloc, EMPTY, &[])?;
     let mut source = MemorySource::new(alloc, PUT, 7, &[2])?;
     let mut sink = MemorySink::new(alloc, 65536, 5, &[2])?;
-    let ended = run(&rt, alloc, &["run"], &mut source, &mut sink, &mut house, &NoPace);
+    let ended = run(
+        &rt,
+        alloc,
+        &["run"],
+        &mut source,
+        &mut sink,
+        &mut house,
+        &NoPace,
+    );
     assert_eq!(rt; ended.status, Status::ReadFault);
     let mut again = MemorySource::new(alloc, PUT, 7, &[])?;
-    let ended = run(&rt, alloc, &["run"], &mut again, &mut sink, &mut house, &NoPace);
+    let ended = run(
+        &rt,
+        alloc,
+        &["run"],
+        &mut again,
+        &mut sink,
+        &mut house,
+        &NoPace,
+    );
     assert_eq!(rt; ended.status, Status::WriteFault);
     assert_eq!(rt; sink.taken(), b"{\"ops".as_slice());
     Ok(())

@@ -1,4 +1,3 @@
-use Rattle.std.proofs.Common.{◌++◌}
 use Rattle.log_gate.specs.Header.{header_bytes}
 use Rattle.clv_shell.proofs.Lengths.{untouched}
 use Rattle.clv_shell.proofs.making.make_on.Goals as goal

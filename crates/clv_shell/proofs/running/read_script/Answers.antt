@@ -1,4 +1,4 @@
-use Rattle.std.proofs.Common.{◌≡◌, ◌≤◌, length, arith}
+use Rattle.std.proofs.Common.{◌≤◌, length, arith}
 use Rattle.clv_shell.proofs.Narrow.{may_all_run, is_small}
 use Rattle.clv_shell.proofs.running.read_script.Goals as goal
 

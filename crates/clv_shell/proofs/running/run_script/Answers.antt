@@ -1,4 +1,3 @@
-use Rattle.std.proofs.Common.{◌≡◌}
 use Rattle.clv_shell.proofs.Endings.{follows_run}
 use Rattle.clv_shell.proofs.running.run_script.Goals as goal
 
