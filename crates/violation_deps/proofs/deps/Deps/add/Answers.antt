@@ -1,0 +1,12 @@
+use Rattle.std.proofs.Common.{◌<◌, ◌+◌, length, ap, arith}
+use Rattle.std.specs.Vec.{vec_capacity}
+use Rattle.violation_deps.specs.Dependencies.{Dependencies}
+use Rattle.violation_deps.proofs.Turning.{kept_more}
+use Rattle.violation_deps.proofs.deps.Deps.add.Goals as goal
+
+pub invariant_of-self : goal.invariant_of-self
+invariant_of-self c =
+    let room = ap (λ (v : Dependencies). v.room) c.self.view_is in let now = c.insert-2.new.items.ok.0 in
+    let marks_room : length c.insert-2.new.items.items + 1 < vec_capacity c.self.inside.marks = omega (arith, room, now, c.insert-2.ensures.room.1, c.requires) in
+    let queue_room : length c.insert-2.new.items.items + 1 < vec_capacity c.self.inside.queue = omega (arith, room, now, c.insert-2.ensures.room.1, c.requires) in
+    kept_more _ _ _ _ _ c.self.invariant _ _ c.args.tx c.args.pred c.insert.ensures.items c.insert-2.ensures.items marks_room queue_room

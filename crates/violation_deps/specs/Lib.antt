@@ -1,0 +1,4 @@
+pub mod Dependencies
+pub mod Pairs
+pub mod Marking
+pub mod Kept
