@@ -43,6 +43,11 @@ abbrev pub log_after : TxId → Option Write → List LogRecord → List LogReco
 log_after tx None log = log
 log_after tx (Some w) log = log ++ Update tx w.key w.before w.after ∷ []
 
+-- how many records it writes into the log
+abbrev pub record_count : Option Write → ℕ
+record_count None = 0
+record_count (Some w) = 1
+
 -- a value wants room for a record; a delete wants the record
 abbrev pub CanSet : ℕ → Option ℕ → ℕ → Records → Type 0
 CanSet k (Some v) room rs = 0 < room

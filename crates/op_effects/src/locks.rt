@@ -64,7 +64,7 @@ fn reserve_insert<L: Locks>(
     needs: usize,
     insert: Insert,
 ) -> Result<(), Memory>
-    ensures ok { OnOk result (needs + (gaps_held insert.lower (L.rows locks.old) + needs) + 1 ≤ L.room locks.new tx (At insert.key ∷ [])) }
+    ensures ok { OnOk result (needs + (gaps_held insert.lower (L.rows locks.new) + needs) + 1 ≤ L.room locks.new tx (At insert.key ∷ [])) }
     ensures rows { L.rows locks.new ≡ L.rows locks.old }
     ensures room { (t : Tx) (on : List Place) → L.room locks.old t on ≤ L.room locks.new t on }
 {
@@ -82,7 +82,7 @@ pub fn reserve_locks<L: Locks>(
     needs: &[Need],
     insert: Option<Insert>,
 ) -> Result<(), Memory>
-    ensures ok { OnOk result (HasLockRoom (L.room locks.new) tx needs.now insert (L.rows locks.old)) }
+    ensures ok { OnOk result (HasLockRoom (L.room locks.new) tx needs.now insert (L.rows locks.new)) }
     ensures rows { L.rows locks.new ≡ L.rows locks.old }
 {
     match reserve_needed(alloc, locks, tx, needs) {

@@ -1,7 +1,7 @@
 //! What an operation writes.
-ghost use Rattle.std.specs.Prelude.{◌≡◌, ◌≤◌, ◌<◌, ◌+◌};
+ghost use Rattle.std.specs.Prelude.{◌≡◌, ◌≤◌, ◌+◌};
 ghost use Rattle.clv_base.specs.Needs.{record_set};
-ghost use Rattle.op_effects.specs.Effects.{records_after, log_after, CanSet, CanWrite};
+ghost use Rattle.op_effects.specs.Effects.{records_after, log_after, record_count, CanSet, CanWrite};
 
 use clv_base::logs::LogRecord;
 use clv_base::names::TxId;
@@ -29,12 +29,12 @@ pub fn write_down<S: Store>(
     tx: TxId,
     write: Option<Write>,
 )
-    requires log { 0 < buffer.old.room }
+    requires log { record_count write ≤ buffer.old.room }
     requires store { CanWrite write (S.room store.old) (S.records store.old) }
     ensures records { S.records store.new ≡ records_after write (S.records store.old) }
     ensures log { buffer.new.records ≡ log_after tx write buffer.old.records }
     ensures fronts { (buffer.new.durable ≡ buffer.old.durable) × (buffer.new.taken ≡ buffer.old.taken) }
-    ensures room { buffer.old.room ≤ buffer.new.room + 1 }
+    ensures room { buffer.old.room ≤ buffer.new.room + record_count write }
 {
     if let Some(write) = write {
         set(store, write.key, write.after);

@@ -1,0 +1,60 @@
+//! The transactions of a shard.
+ghost use Rattle.std.specs.Prelude.{◌≡◌};
+ghost use Rattle.clv_base.specs.Undo.{stage_of as stage_in};
+
+use clv_base::logs::LogRecord;
+use clv_base::names::TxId;
+use clv_base::state::{Held, Stage};
+use lock_table::Locks;
+use log_buffer::LogBuffer;
+use ordered_store::Store;
+use std::collections::BTreeMap;
+use std::marker::Model;
+use violation_deps::Deps;
+
+/// The records, locks, log, dependencies and parts of one shard, in one epoch.
+#[derive(Drop)]
+pub struct ShardTx<S: Store + Drop, L: Locks + Drop> {
+    pub(crate) shard: u32,
+    pub(crate) epoch: u64,
+    pub(crate) store: S,
+    pub(crate) locks: L,
+    pub(crate) parts: BTreeMap<TxId, Held>,
+    pub(crate) deps: Deps,
+    pub(crate) buffer: LogBuffer<LogRecord>,
+}
+
+impl<S: Store + Drop, L: Locks + Drop> Model for ShardTx<S, L> {
+    ghost use Rattle.txn_core.specs.State.{TxState, AreSettled};
+
+    ghost Value = { TxState };
+
+    ghost view = { λ s. record {
+      shard = s.shard;
+      local = record { records = S.records s.store; locks = L.rows s.locks; parts = s.parts.entries; pairs = s.deps.pairs; log = s.buffer.records; epoch = s.epoch };
+      durable = s.buffer.durable;
+      taken = s.buffer.taken;
+      room = s.buffer.room;
+    } };
+
+    ghost invariant = { λ s. AreSettled s.deps.commits s.buffer.records };
+}
+
+impl<S: Store + Drop, L: Locks + Drop> ShardTx<S, L> {
+    /// How far the transaction's part here is, where it is known.
+    pub fn stage_of(&self, tx: TxId) -> Option<Stage>
+        ensures { result ≡ stage_in self.now.local tx }
+    {
+        match self.parts.get(&tx) {
+            Some(part) => Some(part.stage),
+            None => None,
+        }
+    }
+
+    /// The shard's epoch.
+    pub fn epoch(&self) -> u64
+        ensures { result ≡ (self.now.local).epoch }
+    {
+        self.epoch
+    }
+}
