@@ -1,0 +1,1 @@
+// Rolling back, with memory at hand.
