@@ -22,9 +22,6 @@ one_longer log after r room left e less = let grown = ap length e ∙ length-app
 
 -- ---- at first
 
-pub all_under : (set : List TxId) (log : List LogRecord) (end : ℕ) → end ≡ length log → AreBelow set end (standing log)
-all_under set log end e = subst (λ n. AreBelow set n (standing log)) (sym e) (all_mono _ _ (λ v l _. l) (standing log) (all_below (length log) (standing log) (falls log)))
-
 pub advances_none : (set : List TxId) (b : Buffer LogRecord) (rs : Records) → Advances set b b rs rs
 advances_none set b rs = record { log = refl; records = refl; fronts = (refl, refl); room = omega arith }
 

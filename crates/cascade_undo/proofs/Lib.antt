@@ -7,3 +7,4 @@ pub mod Stepping
 pub mod Placing
 pub mod Aborting
 pub mod Growing
+pub mod Covering

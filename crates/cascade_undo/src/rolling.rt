@@ -14,7 +14,7 @@ use violation_deps::Deps;
 /// Takes away the effects of the marked transactions, and gives how many of their UPDATEs it undid. The log gets an ABORT for each that
 /// has an UPDATE, in rising order, and then a CLR for each of their UPDATEs that stand, from the greatest LSN down. Each of their keys gets
 /// the value before the first of these UPDATEs; where there was none, a ghost stays. Nobody is released or unmarked. The room for these
-/// records must have been reserved. Takes no memory, and time in the length of the log from its end back to the oldest of these UPDATEs,
+/// records must have been reserved. Takes no memory, and time in the length of the log from the newest of these UPDATEs back to the oldest,
 /// times the logarithm of the number of marks.
 pub fn roll_back<S: Store>(
     store: &mut S,

@@ -9,7 +9,7 @@ ghost use Rattle.clv_base.specs.Needs.{found_at, is_there, record_set};
 ghost use Rattle.cascade_undo.specs.Writes.{writes_of, HaveRecords};
 ghost use Rattle.cascade_undo.specs.Steps.{AreBelow, Advances, open_of};
 
-use crate::marks::count_open;
+use crate::marks::{count_open, greatest_lsn};
 use crate::write::{Write, newest_at};
 use clv_base::logs::LogRecord;
 use clv_base::names::TxId;
@@ -79,7 +79,7 @@ fn undo_at<S: Store>(
 
 /// Takes back all writes of the transactions, which rise, that stand in the log: a CLR for each, from the greatest LSN down, which names its
 /// transaction's write before it; the key goes back to the value before, and to a ghost where there was none. Gives how many these are.
-/// The log is walked back from its end to the oldest of these writes, with two look-ups at each UPDATE. Takes no memory.
+/// The log is walked back from the newest of these writes to the oldest, with two look-ups at each UPDATE. Takes no memory.
 pub fn undo_writes<S: Store>(
     store: &mut S,
     buffer: &mut LogBuffer<LogRecord>,
@@ -97,7 +97,7 @@ pub fn undo_writes<S: Store>(
 {
     let end = buffer.end();
     let mut open = count_open(buffer, set);
-    let mut lsn = end;
+    let mut lsn = greatest_lsn(buffer, set) + 1;
     while open > 0 {
         lsn -= 1;
         if undo_at(store, buffer, set, lsn) {

@@ -2,13 +2,13 @@ use Rattle.std.proofs.Common.{◌≡◌, ◌≤◌, ◌<◌, ◌+◌, ◌-◌, l
 use Rattle.clv_base.specs.Logs.{standing}
 use Rattle.cascade_undo.specs.Writes.{writes_of}
 use Rattle.cascade_undo.specs.Steps.{AreBelow, open_of}
-use Rattle.cascade_undo.proofs.Growing.{all_under, advances_none, advances_more, still_some, log_at_last, records_at_last, length_at_last}
+use Rattle.cascade_undo.proofs.Growing.{advances_none, advances_more, still_some, log_at_last, records_at_last, length_at_last}
 use Rattle.cascade_undo.proofs.undoing.undo_writes.Goals as goal
 
 pub loop-open-init : goal.loop-open-init
 loop-open-init g c = record {
   advances = advances_none c.args.set.now c.args.buffer.now (g.S.Store.records c.args.store.now);
-  below = all_under c.args.set.now c.args.buffer.now.records c.end-end.result c.end-end.ensures.end;
+  below = c.greatest_lsn-lsn.ensures.below;
   there = c.requires.there;
   room = c.requires.room;
   store_room = omega arith;
