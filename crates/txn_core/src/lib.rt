@@ -6,6 +6,7 @@
 
 mod attempt;
 mod deciding;
+mod ending;
 mod judging;
 mod performing;
 mod shard;
