@@ -43,12 +43,16 @@ gone_in-one_more doom t ts (p ∷ ps) = at (tx_same t p.0) (tx_in p.0 ts) (gone_
     at false true more = ap (λ l. (p.0, gone_part doom p.1) ∷ l) more
     at false false more = ap (λ l. (p.0, p.1) ∷ l) more
 
--- where there is none, nothing ends
-pub gone_in-none : (doom : Option TxId) (t : TxId) (parts : Table Held) → tx_get t parts ≡ None → gone_in (t ∷ []) doom parts ≡ parts
-gone_in-none doom t [] e = refl
-gone_in-none doom t (p ∷ ps) e = at (tx_same t p.0) e (gone_in-none doom t ps)
+-- the table with another value for one transaction
+abbrev pub changed : TxId → (Held → Held) → Table Held → Table Held
+changed t f parts = map (λ p. (p.0, cond (tx_same t p.0) (f p.1) p.1)) parts
+
+-- where there is none, nothing changes
+pub changed-none : (t : TxId) (f : Held → Held) (parts : Table Held) → tx_get t parts ≡ None → changed t f parts ≡ parts
+changed-none t f [] e = refl
+changed-none t f (p ∷ ps) e = at (tx_same t p.0) e (changed-none t f ps)
   where
-    at : (b : Bool) → cond b (Some p.1) (tx_get t ps) ≡ None → (tx_get t ps ≡ None → gone_in (t ∷ []) doom ps ≡ ps) → (p.0, cond (b || false) (gone_part doom p.1) p.1) ∷ gone_in (t ∷ []) doom ps ≡ p ∷ ps
+    at : (b : Bool) → cond b (Some p.1) (tx_get t ps) ≡ None → (tx_get t ps ≡ None → changed t f ps ≡ ps) → (p.0, cond b (f p.1) p.1) ∷ changed t f ps ≡ p ∷ ps
     at true e more = absurd cc
     at false e more = ap (λ l. p ∷ l) (more e)
 
@@ -63,22 +67,31 @@ all_above : (t u : TxId) (ts : List TxId) → tx_cmp t u ≡ Less → Above u ts
 all_above t u [] l a = tt
 all_above t u (x ∷ xs) l a = (tx_total.trans t u x l a.0, all_above t u xs l a.1)
 
--- a part that is there ends by its new value
-pub gone_in-found : (doom : Option TxId) (t : TxId) (h : Held) (parts : Table Held) → IsStrictlySortedBy tx_cmp (keys_of parts) → tx_get t parts ≡ Some h
-    → insert_entry tx_cmp parts t (gone_part doom h) ≡ gone_in (t ∷ []) doom parts
+-- the new value of one that is there
+pub changed-found : (t : TxId) (f : Held → Held) (h : Held) (parts : Table Held) → IsStrictlySortedBy tx_cmp (keys_of parts) → tx_get t parts ≡ Some h
+    → insert_entry tx_cmp parts t (f h) ≡ changed t f parts
 unfolding IsStrictlySortedBy
-gone_in-found doom t h [] s e = absurd cc
-gone_in-found doom t h (p ∷ ps) s e = at (tx_cmp t p.0) refl e (gone_in-found doom t h ps s.1)
+changed-found t f h [] s e = absurd cc
+changed-found t f h (p ∷ ps) s e = at (tx_cmp t p.0) refl e (changed-found t f h ps s.1)
   where
     same : tx_cmp t p.0 ≡ Equal → Above t (keys_of ps)
     same i = subst (λ u. Above u (keys_of ps)) (sym (tx_true t p.0 (ap is_eq i))) s.0
 
-    at : (c : Ordering) → tx_cmp t p.0 ≡ c → cond (is_eq c) (Some p.1) (tx_get t ps) ≡ Some h → (tx_get t ps ≡ Some h → insert_entry tx_cmp ps t (gone_part doom h) ≡ gone_in (t ∷ []) doom ps)
-        → match_ordering c ((t, gone_part doom h) ∷ p ∷ ps) ((p.0, gone_part doom h) ∷ ps) (p ∷ insert_entry tx_cmp ps t (gone_part doom h))
-        ≡ (p.0, cond (is_eq c || false) (gone_part doom p.1) p.1) ∷ gone_in (t ∷ []) doom ps
+    at : (c : Ordering) → tx_cmp t p.0 ≡ c → cond (is_eq c) (Some p.1) (tx_get t ps) ≡ Some h → (tx_get t ps ≡ Some h → insert_entry tx_cmp ps t (f h) ≡ changed t f ps)
+        → match_ordering c ((t, f h) ∷ p ∷ ps) ((p.0, f h) ∷ ps) (p ∷ insert_entry tx_cmp ps t (f h)) ≡ (p.0, cond (is_eq c) (f p.1) p.1) ∷ changed t f ps
     at Less i e more = let none = not_above t ps (all_above t p.0 (keys_of ps) i s.0) in absurd cc
-    at Equal i e more = let k : p.1 ≡ h = cc in ap (λ x. (p.0, gone_part doom x) ∷ ps) (sym k) ∙ ap (λ l. (p.0, gone_part doom p.1) ∷ l) (sym (gone_in-none doom t ps (not_above t ps (same i))))
+    at Equal i e more = let k : p.1 ≡ h = cc in ap (λ x. (p.0, f x) ∷ ps) (sym k) ∙ ap (λ l. (p.0, f p.1) ∷ l) (sym (changed-none t f ps (not_above t ps (same i))))
     at Greater i e more = ap (λ l. p ∷ l) (more e)
+
+-- a part that is gone is one that changed
+pub gone_in-changed : (doom : Option TxId) (t : TxId) (parts : Table Held) → gone_in (t ∷ []) doom parts ≡ changed t (gone_part doom) parts
+gone_in-changed doom t [] = refl
+gone_in-changed doom t (p ∷ ps) = at (tx_same t p.0) (gone_in-changed doom t ps)
+  where
+    at : (b : Bool) → gone_in (t ∷ []) doom ps ≡ changed t (gone_part doom) ps
+        → (p.0, cond (b || false) (gone_part doom p.1) p.1) ∷ gone_in (t ∷ []) doom ps ≡ (p.0, cond b (gone_part doom p.1) p.1) ∷ changed t (gone_part doom) ps
+    at true more = ap (λ l. (p.0, gone_part doom p.1) ∷ l) more
+    at false more = ap (λ l. p ∷ l) more
 
 -- ---- by a list's places
 

@@ -26,13 +26,16 @@ use Rattle.txn_core.specs.declared.deciding.Decided.{Decided}
 use Rattle.txn_core.specs.declared.deciding.Decided.TheVariants.{Grant as GrantedSo, Wait as ToWait, Die as ToDie, Crowded as TooCrowded}
 use Rattle.txn_core.specs.Judged.{IsJudged, IsDecided, death_by, judged_by}
 
--- a death is judged by the part that is there
-pub death_is : (l : Local) (tx : TxId) (birth : Birth) (op : Op) (cause : AbortCause) (stage : Option Stage)
+death_at : (l : Local) (tx : TxId) (birth : Birth) (op : Op) (cause : AbortCause) (stage : Option Stage) → stage_of l tx ≡ stage
     → IsJudged l tx birth op (OpDies cause (rolled_back_if (is_present stage) tx l)) (death_by stage cause)
-death_is l tx birth op cause None = refl
-death_is l tx birth op cause (Some Active) = refl
-death_is l tx birth op cause (Some Closed) = refl
-death_is l tx birth op cause (Some (Gone doom)) = refl
+death_at l tx birth op cause None e = refl
+death_at l tx birth op cause (Some Active) e = (refl, ap is_present e)
+death_at l tx birth op cause (Some Closed) e = (refl, ap is_present e)
+death_at l tx birth op cause (Some (Gone doom)) e = refl
+
+-- a death is judged by the part that is there
+pub death_is : (l : Local) (tx : TxId) (birth : Birth) (op : Op) (cause : AbortCause) → IsJudged l tx birth op (OpDies cause (without_part tx l)) (death_by (stage_of l tx) cause)
+death_is l tx birth op cause = death_at l tx birth op cause (stage_of l tx) refl
 
 at_most : (n : ℕ) → n ≤ 1024 → nat_lt 1024 n ≡ false
 at_most n h = grind (arith, nat_tests)
@@ -55,7 +58,7 @@ module _ (d : Dependencies) (l : Local) (tx : TxId) (birth : Birth) (op : Op) (p
       let few : length (undecided_after l tx op) ≤ 1024 = subst (λ us. length us ≤ 1024) undecided_same h.3 in
       (granted_as false h.0 (at_most _ few) ∙ ap (λ a. OpAnswers a (performed tx birth op l)) (sym h.1.answer), h.1, h.2)
   judged_is (ToWait younger) h = decided_as (IsToWait younger) h
-  judged_is (ToDie older) h = subst (λ r. IsJudged l tx birth op r (death_by (stage_of l tx) (Died older))) (sym (decided_as (IsToDie older) h)) (death_is l tx birth op (Died older) (stage_of l tx))
+  judged_is (ToDie older) h = subst (λ r. IsJudged l tx birth op r (death_by (stage_of l tx) (Died older))) (sym (decided_as (IsToDie older) h)) (death_is l tx birth op (Died older))
   judged_is (TooCrowded count) h =
       let same : count ≡ length (undecided_after l tx op) = h.1 ∙ ap length undecided_same in
       granted_as true h.0 (ap (nat_lt 1024) (sym same) ∙ more_than count h.2) ∙ ap OpCrowded (sym same)

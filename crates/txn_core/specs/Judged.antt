@@ -1,5 +1,5 @@
 -- What is found of an operation before anything is done.
-use Rattle.std.specs.Prelude.{◌≡◌, ◌<◌, ◌≤◌, ℕ, List, length, Option, Some, None}
+use Rattle.std.specs.Prelude.{◌≡◌, true, ◌<◌, ◌≤◌, ℕ, List, length, Option, Some, None}
 use Rattle.clv_base.specs.declared.names.TxId.{TxId}
 use Rattle.clv_base.specs.declared.names.Birth.{Birth}
 use Rattle.clv_base.specs.declared.ops.Op.{Op}
@@ -8,8 +8,8 @@ use Rattle.clv_base.specs.declared.causes.AbortCause.TheVariants.{Died}
 use Rattle.clv_base.specs.declared.modes.Decision.TheVariants.{Grant as IsGranted, Wait as IsToWait, Die as IsToDie}
 use Rattle.clv_base.specs.Needs.{Records, needs_of}
 use Rattle.clv_base.specs.Locks.{Locks, decide, violated}
-use Rattle.clv_base.specs.State.{Local}
-use Rattle.clv_base.specs.Undo.{roll_back}
+use Rattle.clv_base.specs.State.{Local, is_present}
+use Rattle.clv_base.specs.Undo.{stage_of, roll_back}
 use Rattle.clv_base.specs.OneShard.{OpReply, OpWaits, OpCrowded, OpDies, OpAnswers, performed}
 use Rattle.clv_base.specs.declared.state.Stage.{Stage}
 use Rattle.clv_base.specs.declared.state.Stage.TheVariants.{Active, Closed, Gone}
@@ -65,4 +65,4 @@ IsJudged l tx birth op reply (Grant plan preds) =
 IsJudged l tx birth op reply (Wait younger) = reply ≡ OpWaits younger
 IsJudged l tx birth op reply (Crowded count) = reply ≡ OpCrowded count
 IsJudged l tx birth op reply (Dead cause) = reply ≡ OpDies cause l
-IsJudged l tx birth op reply (Dying cause) = reply ≡ OpDies cause (roll_back tx l)
+IsJudged l tx birth op reply (Dying cause) = (reply ≡ OpDies cause (roll_back tx l)) × (is_present (stage_of l tx) ≡ true)

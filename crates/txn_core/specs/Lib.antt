@@ -1,3 +1,5 @@
 pub mod State
 pub mod Judged
 pub mod Attempts
+pub mod Undoable
+pub mod Replies

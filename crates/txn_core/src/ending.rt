@@ -2,6 +2,7 @@
 ghost use Rattle.std.specs.Prelude.{◌≡◌, [], ◌∷◌, Some};
 ghost use Rattle.clv_base.specs.Locks.{release as without_locks_of};
 ghost use Rattle.clv_base.specs.Undo.{gone_in, gone_part};
+ghost use Rattle.clv_base.specs.OneShard.{marked_in, dropped_part};
 
 use clv_base::names::TxId;
 use clv_base::state::{Held, Stage};
@@ -36,6 +37,29 @@ fn end_part(parts: &mut BTreeMap<TxId, Held>, tx: TxId, doom: TxId)
         None => return,
     };
     let Ok(_) = parts.insert(tx, gone(part, doom)) else {
+        unreachable!()
+    };
+}
+
+/// The part, of which a Drop came.
+fn dropped(part: Held) -> Held
+    ensures { result ≡ dropped_part part }
+{
+    Held {
+        is_dropped: true,
+        ..part
+    }
+}
+
+/// The transaction's part, if there is one, is marked as dropped. Takes no memory.
+pub(crate) fn mark_dropped(parts: &mut BTreeMap<TxId, Held>, tx: TxId)
+    ensures { parts.new.entries ≡ marked_in tx parts.old.entries }
+{
+    let part = match parts.get(&tx).copied() {
+        Some(part) => part,
+        None => return,
+    };
+    let Ok(_) = parts.insert(tx, dropped(part)) else {
         unreachable!()
     };
 }

@@ -8,9 +8,12 @@ mod attempt;
 mod deciding;
 mod ending;
 mod judging;
+mod op;
 mod performing;
+mod rolling;
 mod shard;
 
 pub use attempt::Attempt;
 pub use lock_table::Memory;
+pub use op::Reply;
 pub use shard::ShardTx;
