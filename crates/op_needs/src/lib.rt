@@ -8,6 +8,8 @@ mod meeting;
 mod needs;
 mod plan;
 mod scan;
+#[cfg(test)]
+mod tests;
 
 pub use lock_table::Memory;
 pub use meeting::{CROWD, Meeting, meet};

@@ -1,3 +1,6 @@
 pub mod Replies
 pub mod Settled
 pub mod Ends
+pub mod Owing
+pub mod Undoing
+pub mod Doing

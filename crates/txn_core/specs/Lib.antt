@@ -3,3 +3,4 @@ pub mod Judged
 pub mod Attempts
 pub mod Undoable
 pub mod Replies
+pub mod Sound

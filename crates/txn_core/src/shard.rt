@@ -41,6 +41,34 @@ impl<S: Store + Drop, L: Locks + Drop> Model for ShardTx<S, L> {
 }
 
 impl<S: Store + Drop, L: Locks + Drop> ShardTx<S, L> {
+    ghost use Rattle.txn_core.specs.State.{AreSettled};
+
+    /// The transactions of a shard, made of what they work on. The dependencies have the COMMITs of the log. Takes no memory.
+    pub fn new(
+        shard: u32,
+        epoch: u64,
+        store: S,
+        locks: L,
+        parts: BTreeMap<TxId, Held>,
+        deps: Deps,
+        buffer: LogBuffer<LogRecord>,
+    ) -> Self
+        requires { AreSettled deps.commits buffer.records }
+        ensures shard { result.shard ≡ shard }
+        ensures local { result.local ≡ record { records = S.records store; locks = L.rows locks; parts = parts.entries; pairs = deps.pairs; log = buffer.records; epoch = epoch } }
+        ensures fronts { (result.durable ≡ buffer.durable) × (result.taken ≡ buffer.taken) × (result.room ≡ buffer.room) }
+    {
+        ShardTx {
+            shard,
+            epoch,
+            store,
+            locks,
+            parts,
+            deps,
+            buffer,
+        }
+    }
+
     /// How far the transaction's part here is, where it is known.
     pub fn stage_of(&self, tx: TxId) -> Option<Stage>
         ensures { result ≡ stage_in self.now.local tx }
