@@ -1,5 +1,5 @@
 -- What is granted leaves a state of which all can still be taken away.
-use Rattle.std.proofs.Common.{◌≡◌, ℕ, suc, ◌+◌, ◌*◌, ◌≤◌, ◌⊎◌, inl, inr, ⊎_elim, Bool, true, false, cond, not, ◌&&◌, ◌||◌, ◌==◌, List, [], ◌∷◌, ◌++◌, length, zero, Option, Some, None, refl, sym, ap, subst, ◌∙◌, eq-eqb, length-append, arith}
+use Rattle.std.proofs.Common.{◌≡◌, ℕ, suc, ◌+◌, ◌*◌, ◌≤◌, ◌⊎◌, inl, inr, ⊎_elim, Bool, true, false, cond, not, ◌&&◌, ◌||◌, ◌==◌, List, [], ◌∷◌, ◌++◌, length, zero, Option, Some, None, is_none, refl, sym, ap, subst, ◌∙◌, eq-eqb, length-append, arith}
 use Rattle.std.specs.Prelude.{slice_get}
 use Rattle.std.proofs.lemmas.Bool.{both_ways, or_cases, cond_both, cases_Bool, cond-true, cond-false, false_from_ne_true}
 use Rattle.std.specs.List.{AllByRecursion, list_any}
@@ -39,7 +39,7 @@ use Rattle.cascade_undo.proofs.Standing.{IsIn, in_log}
 use Rattle.op_needs.specs.declared.plan.Insert.{Insert}
 use Rattle.op_needs.specs.declared.plan.Write.{Write}
 use Rattle.op_needs.specs.Planned.{insert_by, write_by, insert_of, write_of}
-use Rattle.op_effects.specs.Effects.{performed_by, locks_after, records_after, log_after, new_key}
+use Rattle.op_effects.specs.Effects.{performed_by, locks_after, records_after, log_after, new_key, record_count}
 use Rattle.txn_core.specs.Sound.{is_here, has_lock, IsHeld, is_update_by, updates_by, IsSound, may_work, has_need, IsCovered}
 use Rattle.txn_core.proofs.Owing.{one_if, count-first, updates-one, count_updates_fewer}
 use Rattle.txn_core.proofs.Undoing.{lock_is_held}
@@ -254,3 +254,16 @@ sound_performed tx birth needs insert write preds l spare left sound work known 
   room =
       let a = updates_still tx birth needs insert write preds l known work in let b = updates_written (is_here (performed_by tx birth needs insert write preds l)) tx write l.log in omega (arith, a, b, room, sound.room);
 }
+
+-- ---- what is known of a transaction that may work
+
+pub known_from : (l : Local) (tx : TxId) → may_work (stage_of l tx) ≡ true → (is_none (tx_get tx l.parts) && wrote_in l.log tx) ≡ false → (is_here l tx ≡ true) ⊎ (wrote_in l.log tx ≡ false)
+known_from l tx m e = at (tx_get tx l.parts) m e
+  where
+    at : (o : Option Held) → may_work (stage_at o) ≡ true → (is_none o && wrote_in l.log tx) ≡ false → (is_present (stage_at o) ≡ true) ⊎ (wrote_in l.log tx ≡ false)
+    at None m e = inr e
+    at (Some h) m e = inl (work_here h.stage m)
+
+pub length-log_after : (tx : TxId) (write : Option Write) (log : List LogRecord) → length (log_after tx write log) ≡ length log + record_count write
+length-log_after tx None log = omega arith
+length-log_after tx (Some w) log = length-append log (Update tx w.key w.before w.after ∷ [])

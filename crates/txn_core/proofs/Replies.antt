@@ -24,6 +24,7 @@ use Rattle.violation_deps.proofs.InLog.{AreInLog, undecided_like_log}
 use Rattle.op_needs.specs.Met.{undecided_by_grant}
 use Rattle.txn_core.specs.declared.deciding.Decided.{Decided}
 use Rattle.txn_core.specs.declared.deciding.Decided.TheVariants.{Grant as GrantedSo, Wait as ToWait, Die as ToDie, Crowded as TooCrowded}
+use Rattle.txn_core.specs.Sound.{may_work}
 use Rattle.txn_core.specs.Judged.{IsJudged, IsDecided, death_by, judged_by}
 
 death_at : (l : Local) (tx : TxId) (birth : Birth) (op : Op) (cause : AbortCause) (stage : Option Stage) → stage_of l tx ≡ stage
@@ -53,12 +54,12 @@ module _ (d : Dependencies) (l : Local) (tx : TxId) (birth : Birth) (op : Op) (p
   granted_as : (b : Bool) → decide tx birth (needs_of op l.records) l.locks ≡ IsGranted → nat_lt 1024 (length (undecided_after l tx op)) ≡ b → op_active l tx birth op ≡ op_granted l tx birth op b
   granted_as b e n = decided_as IsGranted e ∙ ap (op_granted l tx birth op) n
 
-  pub judged_is : (x : Decided) → IsDecided l.records l.locks d tx birth op x → IsJudged l tx birth op (op_active l tx birth op) (judged_by (stage_of l tx) x)
-  judged_is (GrantedSo plan preds) h =
+  pub judged_is : (x : Decided) → may_work (stage_of l tx) ≡ true → IsDecided l.records l.locks d tx birth op x → IsJudged l tx birth op (op_active l tx birth op) (judged_by (stage_of l tx) x)
+  judged_is (GrantedSo plan preds) m h =
       let few : length (undecided_after l tx op) ≤ 1024 = subst (λ us. length us ≤ 1024) undecided_same h.3 in
-      (granted_as false h.0 (at_most _ few) ∙ ap (λ a. OpAnswers a (performed tx birth op l)) (sym h.1.answer), h.1, h.2)
-  judged_is (ToWait younger) h = decided_as (IsToWait younger) h
-  judged_is (ToDie older) h = subst (λ r. IsJudged l tx birth op r (death_by (stage_of l tx) (Died older))) (sym (decided_as (IsToDie older) h)) (death_is l tx birth op (Died older))
-  judged_is (TooCrowded count) h =
+      (granted_as false h.0 (at_most _ few) ∙ ap (λ a. OpAnswers a (performed tx birth op l)) (sym h.1.answer), h.1, h.2, m)
+  judged_is (ToWait younger) m h = decided_as (IsToWait younger) h
+  judged_is (ToDie older) m h = subst (λ r. IsJudged l tx birth op r (death_by (stage_of l tx) (Died older))) (sym (decided_as (IsToDie older) h)) (death_is l tx birth op (Died older))
+  judged_is (TooCrowded count) m h =
       let same : count ≡ length (undecided_after l tx op) = h.1 ∙ ap length undecided_same in
       granted_as true h.0 (ap (nat_lt 1024) (sym same) ∙ more_than count h.2) ∙ ap OpCrowded (sym same)

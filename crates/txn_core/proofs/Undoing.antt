@@ -17,12 +17,17 @@ use Rattle.clv_base.specs.Locks.{Locks, release}
 use Rattle.clv_base.specs.Needs.{found_at, found_by, is_there}
 use Rattle.clv_base.specs.State.{Local, is_present}
 use Rattle.clv_base.specs.Undo.{doomed_by, doomed_here, with_successors, successors_through, value_before, records_without, pairs_without, take_away, roll_back}
+use Rattle.clv_base.specs.declared.state.Held.{Held}
+use Rattle.clv_base.specs.declared.logs.LogRecord.{LogRecord}
+use Rattle.clv_base.specs.Orders.{Table}
+use Rattle.clv_base.specs.OneShard.{marked_in, mark_dropped}
 use Rattle.clv_base.proofs.SameNames.{tx_true}
 use Rattle.law_base.proofs.Cells.{record_at}
 use Rattle.law_base.proofs.Undoing.{record_undone, reset, standing_undone}
 use Rattle.law_base.specs.Undone.{stays_of}
 use Rattle.shard_laws.proofs.LockRows.{holds, row_holds, release_holds}
 use Rattle.shard_laws.proofs.Leaving.{stage_other, own_go, absent_go}
+use Rattle.shard_laws.proofs.Marking.{stage_marked}
 use Rattle.violation_deps.proofs.Runs.{tx_total}
 use Rattle.violation_deps.proofs.Rising.{insert_key-rises}
 use Rattle.cascade_undo.specs.Writes.{writes_of, HaveRecords}
@@ -157,3 +162,42 @@ module _ (set : List TxId) (tx : TxId) (l : Local) where
         let apart = count_updates_apart (is_here (take_away set tx l)) (in_set set) (is_here l) l.log (λ t h. (gone_here t h).1) all (λ t h. (gone_here t h).0) in
         omega (arith, same, apart, sound.room, room);
   }
+
+-- ---- other parts, and more room
+
+pub sound_parts : (l : Local) (parts : Table Held) (spare : ℕ) → ((t : TxId) → is_here (record l { parts = parts }) t ≡ is_here l t) → IsSound l spare → IsSound (record l { parts = parts }) spare
+sound_parts l parts spare same sound = record {
+  successors = pairs_again l.pairs sound.successors;
+  writes = all_mono (IsHeld l) (IsHeld (record l { parts = parts })) (λ w h here. h (sym (same w.tx) ∙ here)) (standing l.log) sound.writes;
+  room = let a = count_updates_fewer (is_here (record l { parts = parts })) (is_here l) l.log (λ t h. sym (same t) ∙ h) in omega (arith, a, sound.room);
+}
+  where
+    pairs_again : (ps : List (TxId × TxId)) → AllByRecursion (λ p. is_here l p.0 ≡ true) ps → AllByRecursion (λ p. is_here (record l { parts = parts }) p.0 ≡ true) ps
+    pairs_again [] a = tt
+    pairs_again (p ∷ ps) a = (same p.0 ∙ a.0, pairs_again ps a.1)
+
+pub marked_sound : (l : Local) (tx : TxId) (spare : ℕ) → IsSound l spare → IsSound (mark_dropped tx l) spare
+marked_sound l tx spare sound = sound_parts l (marked_in tx l.parts) spare (λ t. ap is_present (stage_marked tx t l.parts)) sound
+
+pub sound_more : (l m : Local) (spare left : ℕ) → m ≡ l → spare ≤ left → IsSound l spare → IsSound m left
+sound_more l m spare left same more sound = subst (λ (x : Local). IsSound x left) (sym same) (record { successors = sound.successors; writes = sound.writes; room = let r = sound.room in omega (arith, r, more) })
+
+-- equal parts make equal states
+abbrev loc : List (ℕ × Option ℕ) → Locks → Table Held → List (TxId × TxId) → List LogRecord → ℕ → Local
+loc rs ks ps qs lg n = record { records = rs; locks = ks; parts = ps; pairs = qs; log = lg; epoch = n }
+
+abbrev state : ℕ → Local → ℕ → ℕ → ℕ → TxState
+state n l d t r = record { shard = n; local = l; durable = d; taken = t; room = r }
+
+pub local_same : (rs : List (ℕ × Option ℕ)) (ks : Locks) (ps : Table Held) (qs : List (TxId × TxId)) (lg : List LogRecord) (l : Local) → rs ≡ l.records → ks ≡ l.locks → ps ≡ l.parts → qs ≡ l.pairs → lg ≡ l.log
+    → ◌≡◌ {A = Local} (record { records = rs; locks = ks; parts = ps; pairs = qs; log = lg; epoch = l.epoch }) l
+local_same rs ks ps qs lg l a b c d e =
+    ap (λ r. loc r ks ps qs lg l.epoch) a ∙ ap (λ k. loc l.records k ps qs lg l.epoch) b ∙ ap (λ p. loc l.records l.locks p qs lg l.epoch) c
+    ∙ ap (λ q. loc l.records l.locks l.parts q lg l.epoch) d ∙ ap (λ m. loc l.records l.locks l.parts l.pairs m l.epoch) e
+
+pub state_same : (n : ℕ) (l m : Local) (d e t u r : ℕ) → l ≡ m → d ≡ e → t ≡ u
+    → ◌≡◌ {A = TxState} (record { shard = n; local = l; durable = d; taken = t; room = r }) (record { shard = n; local = m; durable = e; taken = u; room = r })
+state_same n l m d e t u r a b c = ap (λ x. state n x d t r) a ∙ ap (λ x. state n m x t r) b ∙ ap (λ x. state n m e x r) c
+
+pub each_here : (l : Local) (spare : ℕ) → IsSound l spare → (tx : TxId) → is_here l tx ≡ true → (t : TxId) → tx_in t (doomed_by l tx) ≡ true → is_here l t ≡ true
+each_here l spare sound tx here t i = one_passes (is_here l) t (doomed_by l tx) (all_here l spare sound tx here) i

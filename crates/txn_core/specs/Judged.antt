@@ -21,6 +21,7 @@ use Rattle.op_needs.specs.declared.meeting.Meeting.{Meeting}
 use Rattle.op_needs.specs.declared.meeting.Meeting.TheVariants.{Grant as MeetsGrant, Wait as MeetsWait, Die as MeetsDie, Crowded as MeetsCrowd}
 use Rattle.txn_core.specs.declared.deciding.Decided.{Decided}
 use Rattle.txn_core.specs.declared.deciding.Decided.TheVariants.{Grant as GrantedSo, Wait as ToWait, Die as ToDie, Crowded as TooCrowded}
+use Rattle.txn_core.specs.Sound.{may_work}
 use Rattle.txn_core.specs.declared.judging.Judged.{Judged}
 use Rattle.txn_core.specs.declared.judging.Judged.TheVariants.{Grant, Wait, Crowded, Dead, Dying}
 
@@ -61,7 +62,7 @@ judged_by stage (TooCrowded count) = Crowded count
 -- the protocol's reply is what was found: of a grant with the plan that leads to it, of a death with or without a part to be rolled back
 abbrev pub IsJudged : Local → TxId → Birth → Op → OpReply → Judged → Type 0
 IsJudged l tx birth op reply (Grant plan preds) =
-    (reply ≡ OpAnswers plan.answer (performed tx birth op l)) × IsPlanOf op l.records plan × (preds.items ≡ violated tx (needs_of op l.records) l.locks)
+    (reply ≡ OpAnswers plan.answer (performed tx birth op l)) × IsPlanOf op l.records plan × (preds.items ≡ violated tx (needs_of op l.records) l.locks) × (may_work (stage_of l tx) ≡ true)
 IsJudged l tx birth op reply (Wait younger) = reply ≡ OpWaits younger
 IsJudged l tx birth op reply (Crowded count) = reply ≡ OpCrowded count
 IsJudged l tx birth op reply (Dead cause) = reply ≡ OpDies cause l

@@ -8,7 +8,7 @@ use Rattle.clv_base.specs.declared.modes.Anchor.TheVariants.{At}
 use Rattle.clv_base.specs.declared.modes.Need.{Need}
 use Rattle.clv_base.specs.declared.state.Stage.{Stage}
 use Rattle.clv_base.specs.declared.state.Stage.TheVariants.{Active, Closed, Gone}
-use Rattle.clv_base.specs.Orders.{tx_same, anchor_same}
+use Rattle.clv_base.specs.Orders.{Table, tx_same, anchor_same}
 use Rattle.clv_base.specs.Logs.{StandingUpdate, standing}
 use Rattle.clv_base.specs.Locks.{Locks}
 use Rattle.clv_base.specs.Needs.{found_at, is_there}
@@ -16,6 +16,7 @@ use Rattle.clv_base.specs.State.{Local, is_present}
 use Rattle.clv_base.specs.Undo.{stage_of}
 use Rattle.op_needs.specs.declared.plan.Insert.{Insert}
 use Rattle.op_needs.specs.declared.plan.Write.{Write}
+use Rattle.txn_core.specs.State.{AreSettled}
 
 -- whether the transaction's part here is active or closed
 abbrev pub is_here : Local → TxId → Bool
@@ -44,6 +45,11 @@ pub record IsSound (l : Local) (spare : ℕ) : Type 0 where
   pub writes : AllByRecursion (IsHeld l) (standing l.log)
   -- so much room is in the log: for an ABORT and a CLR for each UPDATE of a part that is here
   pub room : 2 * updates_by (is_here l) l.log ≤ spare
+
+-- that, and the COMMITs of the log are known to the dependencies, each at its place
+pub record IsKept (commits : Table ℕ) (l : Local) (spare : ℕ) : Type 0 where
+  pub settled : AreSettled commits l.log
+  pub sound : IsSound l spare
 
 -- whether a part may have operations: it is not known, or active
 abbrev pub may_work : Option Stage → Bool

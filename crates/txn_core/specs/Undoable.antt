@@ -1,9 +1,8 @@
 -- When what an abort takes along can be taken away.
-use Rattle.std.specs.Prelude.{◌≡◌, true, ◌+◌, ◌≤◌, length}
+use Rattle.std.specs.Prelude.{◌≡◌, ◌+◌, ◌≤◌, length}
 use Rattle.clv_base.specs.declared.names.TxId.{TxId}
 use Rattle.clv_base.specs.Logs.{standing}
-use Rattle.clv_base.specs.State.{is_present}
-use Rattle.clv_base.specs.Undo.{stage_of, doomed_by, doomed_here, aborts_of}
+use Rattle.clv_base.specs.Undo.{doomed_by, doomed_here, aborts_of}
 use Rattle.cascade_undo.specs.Writes.{writes_of, HaveRecords}
 use Rattle.txn_core.specs.State.{TxState}
 
@@ -12,7 +11,3 @@ pub record IsUndoable (s : TxState) (tx : TxId) : Type 0 where
   pub parts : doomed_here s.local tx ≡ doomed_by s.local tx
   pub records : HaveRecords (doomed_by s.local tx) (standing (s.local).log) (s.local).records
   pub room : length (aborts_of (s.local).log (doomed_by s.local tx)) + length (writes_of (doomed_by s.local tx) (standing (s.local).log)) ≤ s.room
-
--- that, where the transaction has a part here that is not gone
-abbrev pub MayEnd : TxState → TxId → Type 0
-MayEnd s tx = is_present (stage_of s.local tx) ≡ true → IsUndoable s tx

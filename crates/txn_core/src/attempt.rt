@@ -1,9 +1,11 @@
 //! An operation, up to the rolling back of a part that dies.
-ghost use Rattle.std.specs.Prelude.{◌≡◌, IfOk, OnErr};
+ghost use Rattle.std.specs.Prelude.{◌≡◌, true, IfOk, OnErr};
 ghost use Rattle.clv_base.specs.Needs.{needs_of};
 ghost use Rattle.clv_base.specs.Locks.{violated as violated_by};
 ghost use Rattle.clv_base.specs.OneShard.{OpAnswers, op_reply, performed};
 ghost use Rattle.op_needs.specs.Planned.{IsPlanOf};
+ghost use Rattle.clv_base.specs.Undo.{stage_of as stage_in};
+ghost use Rattle.txn_core.specs.Sound.{may_work};
 ghost use Rattle.txn_core.specs.State.{IsSameBut};
 ghost use Rattle.txn_core.specs.Attempts.{ComesTo, KeepsRoom};
 
@@ -45,6 +47,7 @@ impl<S: Store + Drop, L: Locks + Drop> ShardTx<S, L> {
         violated: &[TxId],
     ) -> Result<Attempt, Memory>
         requires plan { IsPlanOf op (self.old.local).records plan }
+        requires work { may_work (stage_in self.old.local tx) ≡ true }
         requires violated { violated.now ≡ violated_by tx (needs_of op (self.old.local).records) (self.old.local).locks }
         ensures ok { IfOk result (λ a. ComesTo (OpAnswers plan.answer (performed tx birth op self.old.local)) tx self.old a self.new) }
         ensures err { OnErr result (IsSameBut self.old self.old.local self.new) }

@@ -1,7 +1,9 @@
 //! What is found of an operation, before anything is done.
-ghost use Rattle.std.specs.Prelude.{◌≡◌, IfOk};
+ghost use Rattle.std.specs.Prelude.{◌≡◌, true, IfOk};
 ghost use Rattle.clv_base.specs.OneShard.{op_active, op_reply, seen_fits as seen_is_fit};
 ghost use Rattle.clv_base.specs.Coordinator.{doom_cause as cause_of_doom};
+ghost use Rattle.clv_base.specs.Undo.{stage_of as stage_in};
+ghost use Rattle.txn_core.specs.Sound.{may_work};
 ghost use Rattle.txn_core.specs.Judged.{IsJudged, death_by, judged_by};
 
 use crate::deciding::{Decided, decide};
@@ -76,6 +78,7 @@ fn outcome_of(stage: Option<Stage>, decided: Decided) -> Judged
 impl<S: Store + Drop, L: Locks + Drop> ShardTx<S, L> {
     /// What the locks say of an operation.
     fn judge_locks(&self, alloc: Global, tx: TxId, birth: Birth, op: Op) -> Result<Judged, Memory>
+        requires { may_work (stage_in self.now.local tx) ≡ true }
         ensures { IfOk result (IsJudged self.now.local tx birth op (op_active self.now.local tx birth op)) }
     {
         match decide(alloc, &self.store, &self.locks, &self.deps, tx, birth, op) {

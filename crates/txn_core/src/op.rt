@@ -2,7 +2,6 @@
 ghost use Rattle.std.specs.Prelude.{◌≡◌, IfOk, OnErr};
 ghost use Rattle.clv_base.specs.OneShard.{op_reply};
 ghost use Rattle.txn_core.specs.State.{IsSameBut};
-ghost use Rattle.txn_core.specs.Undoable.{MayEnd};
 ghost use Rattle.txn_core.specs.Replies.{Replies};
 
 use crate::attempt::Attempt;
@@ -39,7 +38,6 @@ impl<S: Store + Drop, L: Locks + Drop> ShardTx<S, L> {
         seen: Option<u64>,
         op: Op,
     ) -> Result<Reply, Memory>
-        requires { MayEnd self.old tx }
         ensures ok { IfOk result (λ r. Replies (op_reply self.old.shard self.old.local tx birth seen op) self.old r self.new) }
         ensures err { OnErr result (IsSameBut self.old self.old.local self.new) }
     {

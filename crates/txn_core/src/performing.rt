@@ -1,21 +1,34 @@
 //! Doing what is granted.
-ghost use Rattle.std.specs.Prelude.{◌≡◌, ◌≤◌, ◌+◌, ◌*◌, OnOk, OnErr};
+ghost use Rattle.std.specs.Prelude.{◌≡◌, true, ◌≤◌, ◌+◌, ◌*◌, ◌&&◌, is_none, OnOk, OnErr};
 ghost use Rattle.clv_base.specs.declared.names.TxId.{TxId as Tx};
 ghost use Rattle.clv_base.specs.Orders.{tx_get};
 ghost use Rattle.op_effects.specs.Effects.{record_count, CanWrite, performed_by};
 ghost use Rattle.txn_core.specs.State.{IsSameBut};
+ghost use Rattle.clv_base.specs.Logs.{wrote_in};
+ghost use Rattle.clv_base.specs.Undo.{stage_of as stage_in};
+ghost use Rattle.txn_core.specs.Sound.{may_work, IsCovered};
 ghost use Rattle.txn_core.specs.Attempts.{KeepsRoom};
 
 use crate::shard::ShardTx;
 use clv_base::logs::LogRecord;
 use clv_base::names::{Birth, TxId};
+use clv_base::state::Held;
 use lock_table::{Locks, Memory};
 use log_buffer::LogBuffer;
 use op_effects::{add_predecessors, enter_part, reserve_locks, take_locks, write_down};
 use op_needs::{Plan, Write};
 use ordered_store::Store;
 use std::alloc::Global;
+use std::collections::BTreeMap;
 use violation_deps::Deps;
+
+/// Whether a transaction has no part here, and yet an UPDATE in the log, from before a restart. Its session is told of the restart before it
+/// may come again, so what is made of it doesn't matter.
+fn was_before(parts: &BTreeMap<TxId, Held>, buffer: &LogBuffer<LogRecord>, tx: TxId) -> bool
+    ensures { result ≡ (is_none (tx_get tx parts.now.entries) && wrote_in buffer.now.records tx) }
+{
+    parts.get(&tx).is_none() && buffer.wrote(tx)
+}
 
 /// Makes room for an UPDATE, and for the CLR and the ABORT that it may want.
 fn reserve_log(buffer: &mut LogBuffer<LogRecord>, write: Option<Write>) -> Result<(), Memory>
@@ -63,11 +76,16 @@ impl<S: Store + Drop, L: Locks + Drop> ShardTx<S, L> {
         plan: &Plan,
         violated: &[TxId],
     ) -> Result<(), Memory>
-        requires { CanWrite plan.now.write 1 (self.old.local).records }
+        requires write { CanWrite plan.now.write 1 (self.old.local).records }
+        requires covered { IsCovered plan.now.needs.items plan.now.insert plan.now.write }
+        requires work { may_work (stage_in self.old.local tx) ≡ true }
         ensures ok { OnOk result (IsSameBut self.old (performed_by tx birth plan.now.needs.items plan.now.insert plan.now.write violated.now self.old.local) self.new) }
         ensures err { OnErr result (IsSameBut self.old self.old.local self.new) }
         ensures room { KeepsRoom self.old self.new }
     {
+        if was_before(&self.parts, &self.buffer, tx) {
+            return Err(Memory);
+        }
         match reserve_locks(alloc, &mut self.locks, tx, &plan.needs, plan.insert) {
             Ok(()) => {}
             Err(memory) => return Err(memory),

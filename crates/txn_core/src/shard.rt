@@ -25,7 +25,8 @@ pub struct ShardTx<S: Store + Drop, L: Locks + Drop> {
 }
 
 impl<S: Store + Drop, L: Locks + Drop> Model for ShardTx<S, L> {
-    ghost use Rattle.txn_core.specs.State.{TxState, AreSettled};
+    ghost use Rattle.txn_core.specs.State.{TxState};
+    ghost use Rattle.txn_core.specs.Sound.{IsKept};
 
     ghost Value = { TxState };
 
@@ -37,13 +38,14 @@ impl<S: Store + Drop, L: Locks + Drop> Model for ShardTx<S, L> {
       room = s.buffer.room;
     } };
 
-    ghost invariant = { λ s. AreSettled s.deps.commits s.buffer.records };
+    ghost invariant = { λ s. IsKept s.deps.commits (record { records = S.records s.store; locks = L.rows s.locks; parts = s.parts.entries; pairs = s.deps.pairs; log = s.buffer.records; epoch = s.epoch }) s.buffer.room };
 }
 
 impl<S: Store + Drop, L: Locks + Drop> ShardTx<S, L> {
-    ghost use Rattle.txn_core.specs.State.{AreSettled};
+    ghost use Rattle.txn_core.specs.Sound.{IsKept};
 
-    /// The transactions of a shard, made of what they work on. The dependencies have the COMMITs of the log. Takes no memory.
+    /// The transactions of a shard, made of what they work on: the dependencies have the COMMITs of the log; each part's writes that stand have
+    /// their records, and its locks; and the log has room for an ABORT and a CLR for each UPDATE of a part that isn't gone. Takes no memory.
     pub fn new(
         shard: u32,
         epoch: u64,
@@ -53,7 +55,7 @@ impl<S: Store + Drop, L: Locks + Drop> ShardTx<S, L> {
         deps: Deps,
         buffer: LogBuffer<LogRecord>,
     ) -> Self
-        requires { AreSettled deps.commits buffer.records }
+        requires { IsKept deps.commits (record { records = S.records store; locks = L.rows locks; parts = parts.entries; pairs = deps.pairs; log = buffer.records; epoch = epoch }) buffer.room }
         ensures shard { result.shard ≡ shard }
         ensures local { result.local ≡ record { records = S.records store; locks = L.rows locks; parts = parts.entries; pairs = deps.pairs; log = buffer.records; epoch = epoch } }
         ensures fronts { (result.durable ≡ buffer.durable) × (result.taken ≡ buffer.taken) × (result.room ≡ buffer.room) }
