@@ -249,8 +249,10 @@ sound_performed tx birth needs insert write preds l spare left sound work known 
       (all_weaker (λ p. is_here l p.0 ≡ true) (λ p. is_here (performed_by tx birth needs insert write preds l) p.0 ≡ true) (λ p h. here_keeps tx birth needs insert write preds l work p.0 h) l.pairs sound.successors);
   writes =
       written_all (IsHeld (performed_by tx birth needs insert write preds l)) tx write l.log (standing_still tx birth needs insert write preds l known sound.writes)
-      (λ w e n h. (subst (λ o. is_there (found_at w.key (records_after o l.records)) ≡ true) (sym e) (set_has w.key w.after l.records),
-      covered_lock tx birth needs l.locks insert w (subst (IsCovered needs insert) e covered)));
+      (λ w e n h. (
+        subst (λ o. is_there (found_at w.key (records_after o l.records)) ≡ true) (sym e) (set_has w.key w.after l.records),
+        covered_lock tx birth needs l.locks insert w (subst (IsCovered needs insert) e covered),
+      ));
   room =
       let a = updates_still tx birth needs insert write preds l known work in let b = updates_written (is_here (performed_by tx birth needs insert write preds l)) tx write l.log in omega (arith, a, b, room, sound.room);
 }

@@ -4,3 +4,4 @@ pub mod Ends
 pub mod Owing
 pub mod Undoing
 pub mod Doing
+pub mod Unlocked

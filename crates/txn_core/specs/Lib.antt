@@ -4,3 +4,4 @@ pub mod Attempts
 pub mod Undoable
 pub mod Replies
 pub mod Sound
+pub mod Purged

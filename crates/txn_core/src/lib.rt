@@ -10,6 +10,7 @@ mod ending;
 mod judging;
 mod op;
 mod performing;
+mod purging;
 mod rolling;
 mod shard;
 
