@@ -22,7 +22,7 @@ use std::alloc::Global;
 
 /// What an operation comes to.
 #[derive(Drop, Debug)]
-pub enum Attempt {
+pub(crate) enum Attempt {
     /// It is done; the shard has this epoch.
     Answered { answer: Answer, epoch: u64 },
     /// Its transaction is dead, and no part of it is here that would have to be rolled back.
@@ -68,7 +68,7 @@ impl<S: Store + Drop, L: Locks + Drop> ShardTx<S, L> {
     /// first. It comes to what the protocol says, and leaves the state that the protocol says; ghosts that no lock needs stay until they are
     /// purged, and a part that dies is still to be rolled back. After a quiet answer, and where there is no memory, all is as before, but that
     /// there may be more room.
-    pub fn attempt(
+    pub(crate) fn attempt(
         &mut self,
         alloc: Global,
         tx: TxId,

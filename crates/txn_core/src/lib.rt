@@ -13,8 +13,9 @@ mod performing;
 mod purging;
 mod rolling;
 mod shard;
+#[cfg(test)]
+mod tests;
 
-pub use attempt::Attempt;
 pub use lock_table::Memory;
 pub use op::Reply;
 pub use shard::ShardTx;

@@ -1,0 +1,256 @@
+// Operations on a shard that begins empty, with memory at hand.
+
+use crate::{Reply, ShardTx};
+use clv_base::causes::AbortCause;
+use clv_base::logs::LogRecord;
+use clv_base::modes::Found;
+use clv_base::names::{Birth, TxId};
+use clv_base::ops::{Answer, Op};
+use clv_base::state::Stage;
+use lock_table::ListLocks;
+use log_buffer::LogBuffer;
+use ordered_store::{SortedStore, Store};
+use std::alloc::{AllocError, Global};
+use std::collections::BTreeMap;
+use std::test::Fail;
+use violation_deps::Deps;
+
+type Shard = ShardTx<SortedStore, ListLocks>;
+
+/// The transaction of a session; the session with the smaller number is older.
+fn tx(session: u32) -> TxId {
+    TxId {
+        run: 1,
+        session,
+        serial: 1,
+    }
+}
+
+fn birth(session: u32) -> Birth {
+    Birth {
+        stamp: u64::from(session),
+        session,
+        serial: 1,
+    }
+}
+
+/// Shard 3 in epoch 2, with these records.
+fn over(alloc: Global, store: SortedStore) -> Result<Shard, AllocError> {
+    let deps = Deps::new(alloc)?;
+    let buffer = LogBuffer::<LogRecord>::new(alloc);
+    Ok(ShardTx::new(
+        3,
+        2,
+        store,
+        ListLocks::new(alloc),
+        BTreeMap::new(alloc),
+        deps,
+        buffer,
+    ))
+}
+
+fn empty(alloc: Global) -> Result<Shard, AllocError> {
+    over(alloc, SortedStore::new(alloc))
+}
+
+/// The values 1, 2, 3 at 10, 20, 30.
+fn filled(alloc: Global) -> Result<Shard, AllocError> {
+    let mut store = SortedStore::new(alloc);
+    for (key, value) in [(10, 1), (20, 2), (30, 3)] {
+        store.reserve(1)?;
+        store.set(key, value);
+    }
+    over(alloc, store)
+}
+
+/// What an operation of a session comes to, in a few words.
+#[derive(Clone, Copy, PartialEq, Eq, Debug)]
+enum Told {
+    Value(Option<u64>),
+    Pairs(usize),
+    Waits(u32),
+    Dies(u32),
+    Other,
+}
+
+fn in_words(reply: Reply) -> Told {
+    match reply {
+        Reply::Answered { answer, epoch: _ } => match answer {
+            Answer::Value(value) => Told::Value(value),
+            Answer::Pairs(pairs) => Told::Pairs(pairs.as_slice().len()),
+        },
+        Reply::Wait { younger } => Told::Waits(younger.session),
+        Reply::Dead(AbortCause::Died { older }) => Told::Dies(older.session),
+        _ => Told::Other,
+    }
+}
+
+fn ask(alloc: Global, shard: &mut Shard, session: u32, op: Op) -> Result<Told, AllocError> {
+    match shard.op(alloc, tx(session), birth(session), None, op) {
+        Ok(reply) => Ok(in_words(reply)),
+        Err(_) => Err(AllocError),
+    }
+}
+
+#[test]
+fn an_older_one_waits_and_a_younger_one_dies(rt: HostRuntime) -> Result<(), Fail> {
+    let alloc = rt.alloc();
+    let mut shard = empty(alloc)?;
+    let rows = [
+        (2, Op::Put(5, 50), Told::Value(None)),
+        (1, Op::Get(5), Told::Waits(2)),
+        (1, Op::Put(5, 1), Told::Waits(2)),
+        (3, Op::Get(5), Told::Dies(2)),
+        (2, Op::Put(5, 51), Told::Value(Some(50))),
+    ];
+    for (session, op, want) in rows {
+        assert_eq!(rt; ask(alloc, &mut shard, session, op)?, want);
+    }
+    Ok(())
+}
+
+#[test]
+fn the_oldest_in_the_way_is_named(rt: HostRuntime) -> Result<(), Fail> {
+    let alloc = rt.alloc();
+    let mut shard = empty(alloc)?;
+    let rows = [
+        (3, Op::Get(7), Told::Value(None)),
+        (2, Op::Get(8), Told::Value(None)),
+        (4, Op::Put(9, 1), Told::Dies(2)),
+        (1, Op::Put(9, 1), Told::Waits(2)),
+        (2, Op::Put(9, 1), Told::Waits(3)),
+    ];
+    for (session, op, want) in rows {
+        assert_eq!(rt; ask(alloc, &mut shard, session, op)?, want);
+    }
+    Ok(())
+}
+
+#[test]
+fn a_scanned_gap_is_closed_to_others(rt: HostRuntime) -> Result<(), Fail> {
+    let alloc = rt.alloc();
+    let mut shard = empty(alloc)?;
+    let rows = [
+        (2, Op::Scan(10, 20), Told::Pairs(0)),
+        (3, Op::Put(15, 1), Told::Dies(2)),
+        (1, Op::Put(15, 1), Told::Waits(2)),
+        (3, Op::Get(15), Told::Value(None)),
+        (1, Op::Put(30, 1), Told::Waits(2)),
+        (2, Op::Put(30, 1), Told::Waits(3)),
+    ];
+    for (session, op, want) in rows {
+        assert_eq!(rt; ask(alloc, &mut shard, session, op)?, want);
+    }
+    Ok(())
+}
+
+#[test]
+fn an_insert_copies_the_locks_on_its_gap(rt: HostRuntime) -> Result<(), Fail> {
+    let alloc = rt.alloc();
+    let mut shard = empty(alloc)?;
+    let rows = [
+        (1, Op::Put(10, 1), Told::Value(None)),
+        (2, Op::Get(40), Told::Dies(1)),
+        (1, Op::Put(20, 2), Told::Value(None)),
+        (2, Op::Put(30, 3), Told::Dies(1)),
+        (2, Op::Put(15, 3), Told::Dies(1)),
+        (1, Op::Scan(0, 99), Told::Pairs(2)),
+    ];
+    for (session, op, want) in rows {
+        assert_eq!(rt; ask(alloc, &mut shard, session, op)?, want);
+    }
+    Ok(())
+}
+
+#[test]
+fn a_delete_leaves_a_ghost(rt: HostRuntime) -> Result<(), Fail> {
+    let alloc = rt.alloc();
+    let mut shard = empty(alloc)?;
+    let rows = [
+        (1, Op::Put(5, 10), Told::Value(None)),
+        (1, Op::Put(5, 11), Told::Value(Some(10))),
+        (1, Op::Get(5), Told::Value(Some(11))),
+        (1, Op::Del(5), Told::Value(Some(11))),
+        (1, Op::Get(5), Told::Value(None)),
+        (1, Op::Del(5), Told::Value(None)),
+        (1, Op::Scan(0, 9), Told::Pairs(0)),
+    ];
+    for (session, op, want) in rows {
+        assert_eq!(rt; ask(alloc, &mut shard, session, op)?, want);
+    }
+    assert_eq!(rt; shard.store.get(5), Found::Ghost);
+    assert_eq!(rt; shard.buffer.end(), 3);
+    Ok(())
+}
+
+#[test]
+fn another_epoch_is_told(rt: HostRuntime) -> Result<(), Fail> {
+    let alloc = rt.alloc();
+    let mut shard = empty(alloc)?;
+    let old = shard.op(alloc, tx(1), birth(1), Some(1), Op::Get(5));
+    let Ok(Reply::Dead(cause)) = old else {
+        return Err(AllocError.into());
+    };
+    assert_eq!(rt;
+        cause,
+        AbortCause::Restarted {
+            shard: 3,
+            seen: 1,
+            now: 2
+        }
+    );
+    let fits = shard.op(alloc, tx(1), birth(1), Some(2), Op::Get(5));
+    let Ok(Reply::Answered { epoch, .. }) = fits else {
+        return Err(AllocError.into());
+    };
+    assert_eq!(rt; epoch, 2);
+    Ok(())
+}
+
+#[test]
+fn a_part_that_dies_is_rolled_back(rt: HostRuntime) -> Result<(), Fail> {
+    let alloc = rt.alloc();
+    let mut shard = filled(alloc)?;
+    let rows = [
+        (2, Op::Put(10, 7), Told::Value(Some(1))),
+        (1, Op::Put(20, 8), Told::Value(Some(2))),
+        (1, Op::Get(10), Told::Waits(2)),
+        (2, Op::Get(20), Told::Dies(1)),
+        (1, Op::Get(10), Told::Value(Some(1))),
+        (2, Op::Get(30), Told::Other),
+    ];
+    for (session, op, want) in rows {
+        assert_eq!(rt; ask(alloc, &mut shard, session, op)?, want);
+    }
+    assert_eq!(rt;
+        shard.stage_of(tx(2)),
+        Some(Stage::Gone { doom: Some(tx(2)) })
+    );
+    assert_eq!(rt; shard.buffer.end(), 4);
+    Ok(())
+}
+
+#[test]
+fn a_drop_undoes_and_ghosts_go_with_their_locks(rt: HostRuntime) -> Result<(), Fail> {
+    let alloc = rt.alloc();
+    let mut shard = filled(alloc)?;
+    assert_eq!(rt;
+        ask(alloc, &mut shard, 1, Op::Del(10))?,
+        Told::Value(Some(1))
+    );
+    assert_eq!(rt;
+        ask(alloc, &mut shard, 1, Op::Put(25, 5))?,
+        Told::Value(None)
+    );
+    shard.purge(10);
+    assert_eq!(rt; shard.store.get(10), Found::Ghost);
+    assert!(rt; shard.drop_part(tx(1)));
+    assert!(rt; !shard.drop_part(tx(2)));
+    assert_eq!(rt; shard.store.get(10), Found::Live(1));
+    assert_eq!(rt; shard.store.get(25), Found::Ghost);
+    shard.purge(25);
+    shard.purge(10);
+    assert_eq!(rt; shard.store.get(25), Found::Absent);
+    assert_eq!(rt; shard.store.get(10), Found::Live(1));
+    Ok(())
+}
