@@ -5,3 +5,4 @@ pub mod Owing
 pub mod Undoing
 pub mod Doing
 pub mod Unlocked
+pub mod Undoable

@@ -33,7 +33,7 @@ use Rattle.violation_deps.proofs.Rising.{insert_key-rises}
 use Rattle.cascade_undo.specs.Writes.{writes_of, HaveRecords}
 use Rattle.cascade_undo.proofs.Standing.{all_mono}
 use Rattle.txn_core.specs.State.{TxState}
-use Rattle.txn_core.specs.Undoable.{IsUndoable}
+use Rattle.txn_core.proofs.Undoable.{IsUndoable}
 use Rattle.txn_core.specs.Sound.{is_here, has_lock, IsHeld, is_update_by, updates_by, IsSound}
 use Rattle.txn_core.proofs.Owing.{undo_at_most, in_set, count_updates_fewer, count_updates_apart, updates-undone}
 
