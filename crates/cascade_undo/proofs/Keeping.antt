@@ -68,7 +68,11 @@ fewer_aborts log (t ∷ ts) =
     let h = fewer_aborts log ts in
     both (λ b. length (map (λ u. Abort u) (cond b (t ∷ filter (wrote_in log) ts) (filter (wrote_in log) ts))) ≤ length (t ∷ ts)) (wrote_in log t) (λ _. omega arith) (λ _. omega arith)
 
+-- the set's writes are no more than the log's records
+pub writes_within : (set : List TxId) (log : List LogRecord) → length (writes_of set (standing log)) ≤ length log
+writes_within set log = let w = fewer_writes set (standing log) in let s = falls_length (length log) (standing log) (falls log) in omega arith
+
 -- as many records as the log has, and one for each of the set, are enough
 pub room_enough : (log : List LogRecord) (set : List TxId) → length (aborts_of log set) + length (writes_of set (standing log)) ≤ length set + length log
 room_enough log set =
-    let a = fewer_aborts log set in let w = fewer_writes set (standing log) in let s = falls_length (length log) (standing log) (falls log) in omega arith
+    let a = fewer_aborts log set in let w = writes_within set log in omega arith

@@ -60,7 +60,7 @@ pub all_mono : (P Q : StandingUpdate → Type 0) → ((w : StandingUpdate) → P
 all_mono P Q h [] a = tt
 all_mono P Q h (w ∷ ws) a = (h w a.0, all_mono P Q h ws a.1)
 
-all_without : (P : StandingUpdate → Type 0) (t : TxId) (ws : List StandingUpdate) → AllByRecursion P ws → AllByRecursion P (without_newest t ws)
+pub all_without : (P : StandingUpdate → Type 0) (t : TxId) (ws : List StandingUpdate) → AllByRecursion P ws → AllByRecursion P (without_newest t ws)
 all_without P t [] a = tt
 all_without P t (w ∷ ws) a = both (λ b. AllByRecursion P (cond b ws (w ∷ without_newest t ws))) (tx_same t w.tx) (λ _. a.1) (λ _. (a.0, all_without P t ws a.1))
 

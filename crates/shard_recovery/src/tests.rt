@@ -1,0 +1,1 @@
+// A restart, with memory at hand.
