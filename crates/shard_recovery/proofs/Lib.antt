@@ -1,2 +1,3 @@
 pub mod Redone
 pub mod Whole
+pub mod Folded

@@ -8,5 +8,7 @@ mod rebuilding;
 mod redo;
 #[cfg(test)]
 mod tests;
+mod winners;
 
 pub use rebuilding::rebuild;
+pub use winners::fill;

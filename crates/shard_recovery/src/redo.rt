@@ -9,7 +9,7 @@ use ordered_store::Store;
 use std::alloc::AllocError;
 
 /// Makes the record at a key a ghost, whether there is one or not.
-fn hide<S: Store>(store: &mut S, key: u64)
+pub(crate) fn hide<S: Store>(store: &mut S, key: u64)
     requires { 0 < S.room store.old }
     ensures records { S.records store.new ≡ record_set key None (S.records store.old) }
     ensures room { S.room store.old ≤ S.room store.new + 1 }
