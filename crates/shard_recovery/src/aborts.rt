@@ -1,8 +1,6 @@
 //! The ABORTs of the losers.
 ghost use Rattle.std.specs.Prelude.{◌≡◌, ◌≤◌, ◌+◌, ◌++◌, length, not, IfOk};
-
 ghost use Rattle.std.specs.List.{filter};
-
 ghost use Rattle.log_facts.specs.Facts.{known};
 ghost use Rattle.shard_recovery.specs.Redoing.{aborts};
 

@@ -6,9 +6,9 @@
 mod aborts;
 mod rebuilding;
 mod redo;
+mod restarting;
 #[cfg(test)]
 mod tests;
 mod winners;
 
-pub use rebuilding::rebuild;
-pub use winners::fill;
+pub use restarting::restart;

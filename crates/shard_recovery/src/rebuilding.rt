@@ -39,7 +39,7 @@ fn buffer_of(
 /// Does all of a log again in an empty store, undoes the losers, which rise, and gives the buffer of the log: the records found, which are
 /// durable, an ABORT for each loser that has none, the CLRs of their writes that stand, from the greatest LSN down, and the RESTART.
 /// The keys of losers whose writes were the first stay as ghosts. An `Err` leaves the store in the middle of it.
-pub fn rebuild<S: Store>(
+pub(crate) fn rebuild<S: Store>(
     alloc: Global,
     store: &mut S,
     records: Vec<LogRecord>,

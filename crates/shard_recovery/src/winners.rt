@@ -103,11 +103,7 @@ fn haunt_one<S: Store>(store: &mut S, doubtful: &TxSet, found: &LogRecord)
 }
 
 /// Makes a ghost at each key that these wrote and that has no record.
-fn haunt<S: Store>(
-    store: &mut S,
-    doubtful: &TxSet,
-    log: &[LogRecord],
-) -> Result<(), AllocError>
+fn haunt<S: Store>(store: &mut S, doubtful: &TxSet, log: &[LogRecord]) -> Result<(), AllocError>
     ensures ok { OnOk result (S.records store.new ≡ with_ghosts doubtful.now log.now (S.records store.old)) }
 {
     store.reserve(log.len())?;
@@ -120,7 +116,7 @@ fn haunt<S: Store>(
 /// Puts the records of a shard whose log is this into an empty store, as a restart leaves them: the values that the UPDATEs of the committed
 /// and of those in doubt leave, in the log's order, and ghosts at the keys that those in doubt wrote and that have no value. An `Err` leaves
 /// the store in the middle of it.
-pub fn fill<S: Store>(
+pub(crate) fn fill<S: Store>(
     alloc: Global,
     store: &mut S,
     log: &[LogRecord],
