@@ -1,6 +1,5 @@
 -- The records that a restart writes leave who is in doubt, who wins, and what the winners leave.
-use Rattle.std.proofs.Common.{◌≡◌, ℕ, Bool, true, false, cond, not, List, [], ◌∷◌, ◌++◌, Option, refl, sym, ap, subst, ◌∙◌, append-nil, append_assoc}
-use Rattle.std.specs.List.{AllByRecursion, filter}
+use Rattle.std.proofs.Common.{◌≡◌, ℕ, Bool, true, false, cond, not, List, [], ◌∷◌, ◌++◌, refl, sym, ap, subst, ◌∙◌, append-nil, append_assoc}
 use Rattle.std.proofs.lemmas.Bool.{both_ways, not-true, or_parts, false_from_ne_true}
 use Rattle.clv_base.specs.declared.names.TxId.{TxId}
 use Rattle.clv_base.specs.declared.logs.LogRecord.{LogRecord}
@@ -10,7 +9,7 @@ use Rattle.clv_base.specs.Maps.{KeyMap}
 use Rattle.clv_base.specs.Logs.{StandingUpdate, standing, writers, aborted_in, committed_in, in_doubt, is_winner, fold_updates}
 use Rattle.clv_base.specs.Needs.{Records, found_at}
 use Rattle.clv_base.specs.Undo.{clrs_of, newest_lsn}
-use Rattle.clv_base.specs.Restarts.{losers, undo_records, log_after_restart, records_of, with_ghosts, ghost_if_absent}
+use Rattle.clv_base.specs.Restarts.{losers, log_after_restart, records_of, with_ghosts, ghost_if_absent}
 use Rattle.clv_base.proofs.SameNames.{or_left, or_right, tx_true, tx_self}
 use Rattle.protocol_laws.proofs.Doubts.{Unlike, is_it, nobody, abort_unlike, clr_unlike, restart_unlike, doubts_more, winners_more}
 use Rattle.protocol_laws.proofs.Sets.{in_filter}

@@ -1,5 +1,5 @@
 -- Doing all of a log again, and the ABORTs of those that have none.
-use Rattle.std.specs.Prelude.{ℕ, not, List, [], ◌∷◌, map}
+use Rattle.std.specs.Prelude.{not, List, [], ◌∷◌, map}
 use Rattle.std.specs.List.{filter}
 use Rattle.clv_base.specs.declared.names.TxId.{TxId}
 use Rattle.clv_base.specs.declared.logs.LogRecord.{LogRecord}

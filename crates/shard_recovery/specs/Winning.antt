@@ -1,13 +1,11 @@
 -- The records that a log leaves of those that win in it.
-use Rattle.std.specs.Prelude.{List, []}
+use Rattle.std.specs.Prelude.{ℕ, Bool, ◌||◌, List, []}
 use Rattle.clv_base.specs.declared.names.TxId.{TxId}
 use Rattle.clv_base.specs.declared.logs.LogRecord.{LogRecord}
-use Rattle.clv_base.specs.Logs.{fold_updates, is_winner, in_doubt}
+use Rattle.clv_base.specs.Orders.{tx_in}
+use Rattle.clv_base.specs.Logs.{committed_in, in_doubt, is_winner, fold_updates}
 use Rattle.clv_base.specs.Needs.{Records}
 use Rattle.clv_base.specs.Restarts.{records_of, with_ghosts}
-use Rattle.std.specs.Prelude.{ℕ, Bool, ◌||◌}
-use Rattle.clv_base.specs.Orders.{tx_in}
-use Rattle.clv_base.specs.Logs.{committed_in}
 
 -- committed in the log, or one of those in doubt
 abbrev pub wins_in : List LogRecord → List TxId → TxId → Bool

@@ -1,6 +1,6 @@
-//! The restart of one shard from its log: all of it is done again, the losers are undone, and the RESTART is put at the end.
-//! It promises exactly the log that the protocol's definition of a restart gives, and the records that redo and undo leave.
-//! It stands on `cascade_undo`, `log_buffer`, `log_facts` and `ordered_store`.
+//! The restart of one shard from its log, in memory: the log with what the restart adds, and the records that the winners leave.
+//! It promises exactly the log and the records of the protocol's definition of a restart, from the lists of losers and of those in doubt.
+//! It stands on `cascade_undo`, which undoes the losers, and on `log_buffer`, `log_facts` and `ordered_store`.
 #![tactic(auto)]
 
 mod aborts;

@@ -1,4 +1,4 @@
-use Rattle.std.proofs.Common.{◌≡◌, ◌≤◌, ◌+◌, ◌++◌, length, take}
+use Rattle.std.proofs.Common.{◌≡◌, ◌≤◌, ◌+◌, ◌++◌, take}
 use Rattle.shard_recovery.specs.Redoing.{aborts}
 use Rattle.shard_recovery.proofs.aborts.append_aborts.Given as goal
 

@@ -1,5 +1,4 @@
-use Rattle.std.proofs.Common.{◌≡◌, ◌≤◌, ◌+◌, ◌++◌, not, [], length, sym, ap, subst, ◌∙◌, arith}
-use Rattle.clv_base.specs.declared.logs.LogRecord.{LogRecord}
+use Rattle.std.proofs.Common.{◌≡◌, ◌++◌, not, [], length, sym, ap, subst, ◌∙◌, arith}
 use Rattle.clv_base.specs.Logs.{standing}
 use Rattle.clv_base.specs.Undo.{records_without}
 use Rattle.log_facts.specs.Facts.{Knows, known}
