@@ -1,0 +1,74 @@
+-- A log that grows by one record, and what is left to undo at the end.
+use Rattle.std.proofs.Common.{◌≡◌, ℕ, zero, suc, ◌+◌, ◌<◌, ◌≤◌, cond, List, [], ◌∷◌, ◌++◌, length, None, unwrap_or, refl, sym, ap, ◌∙◌, append-nil, length-append, arith}
+use Rattle.std.proofs.lemmas.Bool.{cond-false, false_from_ne_true}
+use Rattle.clv_base.specs.declared.names.TxId.{TxId}
+use Rattle.clv_base.specs.declared.logs.LogRecord.{LogRecord}
+use Rattle.clv_base.specs.declared.logs.LogRecord.TheVariants.{Clr}
+use Rattle.clv_base.specs.Orders.{tx_in}
+use Rattle.clv_base.specs.Logs.{StandingUpdate, standing}
+use Rattle.clv_base.specs.Undo.{value_before, records_without, clrs_of, newest_lsn}
+use Rattle.clv_base.specs.Needs.{Records}
+use Rattle.log_buffer.specs.Buffers.{Buffer}
+use Rattle.cascade_undo.specs.Writes.{writes_of}
+use Rattle.cascade_undo.specs.Steps.{AreBelow, Advances, open_of}
+use Rattle.cascade_undo.proofs.Bools.{both}
+use Rattle.cascade_undo.proofs.Standing.{falls, all_mono}
+use Rattle.cascade_undo.proofs.Splitting.{NoneOf, before_above}
+use Rattle.cascade_undo.proofs.Opening.{none_open, open_none}
+
+pub one_longer : (log after : List LogRecord) (r : LogRecord) (room left : ℕ) → after ≡ log ++ r ∷ [] → room ≤ left + 1 → room + length log ≤ left + length after
+one_longer log after r room left e less = let grown = ap length e ∙ length-append log (r ∷ []) in omega arith
+
+-- ---- at first
+
+pub advances_none : (set : List TxId) (b : Buffer LogRecord) (rs : Records) → Advances set b b rs rs
+advances_none set b rs = record { log = refl; records = refl; fronts = (refl, refl); room = omega arith }
+
+-- ---- in between
+
+pub advances_more : (set : List TxId) (b c d : Buffer LogRecord) (ps qs rs : Records) → Advances set b c ps qs → Advances set c d qs rs → Advances set b d ps rs
+advances_more set b c d ps qs rs first next = record {
+  log = next.log ∙ first.log;
+  records = next.records ∙ first.records;
+  fronts = (next.fronts.0 ∙ first.fronts.0, next.fronts.1 ∙ first.fronts.1);
+  room = let f = first.room in let n = next.room in omega arith;
+}
+
+-- where someone has a write, the writes are below an LSN above 0
+pub still_some : (set : List TxId) (lsn : ℕ) (log : List LogRecord) → AreBelow set lsn (standing log) → 0 < length (open_of set (standing log)) → 1 ≤ lsn
+still_some set zero log below some =
+    let none = none_open set (standing log) (all_mono _ _ (λ v h. false_from_ne_true _ (λ i. let l : v.lsn < 0 = h i in absurd (omega arith))) (standing log) below) in
+    absurd (omega arith)
+still_some set (suc n) log below some = omega arith
+
+-- ---- at last
+
+clrs_none : (set : List TxId) (ws : List StandingUpdate) → NoneOf set ws → clrs_of set ws ≡ []
+clrs_none set [] h = refl
+clrs_none set (w ∷ ws) h = cond-false _ _ _ h.0 ∙ clrs_none set ws h.1
+
+nothing_before : (set : List TxId) (k : ℕ) (ws : List StandingUpdate) → NoneOf set ws → value_before set k ws ≡ None
+nothing_before set k ws h = ap (value_before set k) (sym (append-nil ws)) ∙ before_above set k ws [] h
+
+records_none : (set : List TxId) (ws : List StandingUpdate) (rs : Records) → NoneOf set ws → records_without set ws rs ≡ rs
+records_none set ws [] h = refl
+records_none set ws (r ∷ rs) h = ap (λ o. (r.0, unwrap_or o r.1) ∷ records_without set ws rs) (nothing_before set r.0 ws h) ∙ ap (λ l. r ∷ l) (records_none set ws rs h)
+
+pub length-clrs : (set : List TxId) (ws : List StandingUpdate) → length (clrs_of set ws) ≡ length (writes_of set ws)
+length-clrs set [] = refl
+length-clrs set (w ∷ ws) =
+    both (λ b. length (cond b (Clr w.tx (newest_lsn w.tx ws) w.key w.before ∷ clrs_of set ws) (clrs_of set ws)) ≡ length (cond b (w ∷ writes_of set ws) (writes_of set ws))) (tx_in w.tx set)
+    (λ _. let e = length-clrs set ws in omega arith) (λ _. length-clrs set ws)
+
+module _ (set : List TxId) (b c : Buffer LogRecord) (rs qs : Records) (all : Advances set b c rs qs) (done : length (open_of set (standing c.records)) ≡ 0) where
+  nobody : NoneOf set (standing c.records)
+  nobody = open_none set (length c.records) (standing c.records) (falls c.records) done
+
+  pub log_at_last : c.records ≡ b.records ++ clrs_of set (standing b.records)
+  log_at_last = sym (append-nil c.records) ∙ ap (λ l. c.records ++ l) (sym (clrs_none set (standing c.records) nobody)) ∙ all.log
+
+  pub records_at_last : qs ≡ records_without set (standing b.records) rs
+  records_at_last = sym (records_none set (standing c.records) qs nobody) ∙ all.records
+
+  pub length_at_last : length c.records ≡ length b.records + length (writes_of set (standing b.records))
+  length_at_last = ap length log_at_last ∙ length-append b.records (clrs_of set (standing b.records)) ∙ ap (λ n. length b.records + n) (length-clrs set (standing b.records))

@@ -1,0 +1,119 @@
+-- The newest write of a set, among the writes that stand: those above it are others', and it goes.
+use Rattle.std.proofs.Common.{◌≡◌, ℕ, suc, ◌+◌, ◌<◌, Bool, true, false, cond, ◌&&◌, ◌==◌, List, [], ◌∷◌, ◌++◌, length, Option, Some, None, unwrap_or, refl, sym, ap, subst, ◌∙◌, arith}
+use Rattle.std.specs.List.{AllByRecursion}
+use Rattle.std.proofs.lemmas.Bool.{both_ways, cond-true, cond-false, false_from_ne_true}
+use Rattle.clv_base.specs.declared.names.TxId.{TxId}
+use Rattle.clv_base.specs.declared.logs.LogRecord.TheVariants.{Clr}
+use Rattle.clv_base.specs.Orders.{tx_same, tx_in}
+use Rattle.clv_base.specs.Logs.{StandingUpdate, without_newest, newest_of}
+use Rattle.clv_base.specs.Undo.{value_before, clrs_of, newest_lsn}
+use Rattle.clv_base.proofs.SameNames.{tx_true, tx_self}
+use Rattle.cascade_undo.specs.Writes.{writes_of}
+use Rattle.cascade_undo.specs.Steps.{AreBelow}
+use Rattle.cascade_undo.proofs.Bools.{both}
+use Rattle.cascade_undo.proofs.Standing.{Falls, all_mono, lsn_of, newest_under, all_below}
+
+-- none of the writes is of the set
+abbrev pub NoneOf : List TxId → List StandingUpdate → Type 0
+NoneOf set ws = AllByRecursion (λ w. tx_in w.tx set ≡ false) ws
+
+pub record SplitAt (set : List TxId) (w : StandingUpdate) (ws : List StandingUpdate) : Type 0 where
+  pub above : List StandingUpdate
+  pub rest : List StandingUpdate
+  pub is : ws ≡ above ++ w ∷ rest
+  pub others : NoneOf set above
+
+-- a transaction's newest write, where no write of the set is above it
+pub split_at : (set : List TxId) (n : ℕ) (ws : List StandingUpdate) (t : TxId) (w : StandingUpdate) → Falls n ws → newest_of t ws ≡ Some w → AreBelow set (w.lsn + 1) ws → SplitAt set w ws
+split_at set n [] t w falls newest below = absurd cc
+split_at set n (v ∷ vs) t w falls newest below =
+    both (λ b. cond b (Some v) (newest_of t vs) ≡ Some w → SplitAt set w (v ∷ vs)) (tx_same t v.tx)
+    (λ _ e. let same : v ≡ w = cc in record { above = []; rest = vs; is = ap (λ u. u ∷ vs) same; others = tt })
+    (λ _ e.
+    let more = split_at set v.lsn vs t w falls.1 e below.1 in
+    let under : w.lsn < v.lsn = newest_under v.lsn vs t w falls.1 e in
+    record {
+      above = v ∷ more.above;
+      rest = more.rest;
+      is = ap (λ l. v ∷ l) more.is;
+      others = (false_from_ne_true _ (λ i. let l : v.lsn < w.lsn + 1 = below.0 i in absurd (omega arith)), more.others);
+    }) newest
+
+pub other_name : (set : List TxId) (t u : TxId) → tx_in t set ≡ true → tx_in u set ≡ false → tx_same t u ≡ false
+other_name set t u i o = false_from_ne_true _ (λ e. both_ways _ o (subst (λ x. tx_in x set ≡ true) (tx_true t u e) i))
+
+module _ (set : List TxId) where
+  -- ---- what lies above changes nothing
+
+  pub clrs_above : (above ws : List StandingUpdate) → NoneOf set above → clrs_of set (above ++ ws) ≡ clrs_of set ws
+  clrs_above [] ws h = refl
+  clrs_above (v ∷ vs) ws h = cond-false _ _ _ h.0 ∙ clrs_above vs ws h.1
+
+  pub writes_above : (above ws : List StandingUpdate) → NoneOf set above → writes_of set (above ++ ws) ≡ writes_of set ws
+  writes_above [] ws h = refl
+  writes_above (v ∷ vs) ws h = cond-false _ _ _ h.0 ∙ writes_above vs ws h.1
+
+  abbrev before_with : Option (Option ℕ) → Bool → Option ℕ → Option (Option ℕ)
+  before_with o b v = elim o [ Some x ↦ Some x | None ↦ cond b (Some v) None ]
+
+  before_none : (o : Option (Option ℕ)) (v : Option ℕ) → before_with o false v ≡ o
+  before_none None v = refl
+  before_none (Some x) v = refl
+
+  pub before_above : (k : ℕ) (above ws : List StandingUpdate) → NoneOf set above → value_before set k (above ++ ws) ≡ value_before set k ws
+  before_above k [] ws h = refl
+  before_above k (v ∷ vs) ws h = ap (λ b. before_with (value_before set k (vs ++ ws)) (b && (k == v.key)) v.before) h.0 ∙ before_none (value_before set k (vs ++ ws)) v.before ∙ before_above k vs ws h.1
+
+  pub newest_above : (t : TxId) (above ws : List StandingUpdate) → tx_in t set ≡ true → NoneOf set above → newest_of t (above ++ ws) ≡ newest_of t ws
+  newest_above t [] ws i h = refl
+  newest_above t (v ∷ vs) ws i h = cond-false _ _ _ (other_name set t v.tx i h.0) ∙ newest_above t vs ws i h.1
+
+  pub without_above : (t : TxId) (above ws : List StandingUpdate) → tx_in t set ≡ true → NoneOf set above → without_newest t (above ++ ws) ≡ above ++ without_newest t ws
+  without_above t [] ws i h = refl
+  without_above t (v ∷ vs) ws i h = cond-false _ _ _ (other_name set t v.tx i h.0) ∙ ap (λ l. v ∷ l) (without_above t vs ws i h.1)
+
+  pub all_above : (P : StandingUpdate → Type 0) (above ws : List StandingUpdate) → AllByRecursion P (above ++ ws) → AllByRecursion P ws
+  all_above P [] ws a = a
+  all_above P (v ∷ vs) ws a = all_above P vs ws a.1
+
+  pub with_above : (P : StandingUpdate → Type 0) (above ws : List StandingUpdate) → NoneOf set above → AllByRecursion (λ v. tx_in v.tx set ≡ true → P v) ws → AllByRecursion (λ v. tx_in v.tx set ≡ true → P v) (above ++ ws)
+  with_above P [] ws h a = a
+  with_above P (v ∷ vs) ws h a = (λ i. absurd (both_ways _ h.0 i), with_above P vs ws h.1 a)
+
+  falls_under : (n : ℕ) (above : List StandingUpdate) (w : StandingUpdate) (rest : List StandingUpdate) → Falls n (above ++ w ∷ rest) → Falls w.lsn rest
+  falls_under n [] w rest f = f.1
+  falls_under n (v ∷ vs) w rest f = falls_under v.lsn vs w rest f.1
+
+  -- ---- it goes
+
+  module _ (w : StandingUpdate) (i : tx_in w.tx set ≡ true) (above rest : List StandingUpdate) (h : NoneOf set above) where
+    pub without_it : without_newest w.tx (above ++ w ∷ rest) ≡ above ++ rest
+    without_it = without_above w.tx above (w ∷ rest) i h ∙ ap (λ l. above ++ l) (cond-true _ _ _ (tx_self w.tx))
+
+    pub clrs_with_it : clrs_of set (above ++ w ∷ rest) ≡ Clr w.tx (newest_lsn w.tx (above ++ rest)) w.key w.before ∷ clrs_of set (above ++ rest)
+    clrs_with_it =
+        clrs_above above (w ∷ rest) h ∙ cond-true _ _ _ i
+        ∙ ap (λ o. Clr w.tx (lsn_of o) w.key w.before ∷ clrs_of set rest) (sym (newest_above w.tx above rest i h))
+        ∙ ap (λ l. Clr w.tx (newest_lsn w.tx (above ++ rest)) w.key w.before ∷ l) (sym (clrs_above above rest h))
+
+    pub writes_with_it : length (writes_of set (above ++ w ∷ rest)) ≡ suc (length (writes_of set (above ++ rest)))
+    writes_with_it = ap length (writes_above above (w ∷ rest) h ∙ cond-true _ _ _ i) ∙ ap (λ l. suc (length l)) (sym (writes_above above rest h))
+
+    -- the value before at a key, from what was set back at its own key
+    pub before_with_it : (k : ℕ) (v : Option ℕ) → unwrap_or (value_before set k (above ++ rest)) (cond (k == w.key) w.before v) ≡ unwrap_or (value_before set k (above ++ w ∷ rest)) v
+    before_with_it k v =
+        ap (λ o. unwrap_or o (cond (k == w.key) w.before v)) (before_above k above rest h)
+        ∙ at (value_before set k rest) (k == w.key)
+        ∙ ap (λ b. unwrap_or (before_with (value_before set k rest) (b && (k == w.key)) w.before) v) (sym i)
+        ∙ ap (λ o. unwrap_or o v) (sym (before_above k above (w ∷ rest) h))
+      where
+        at : (o : Option (Option ℕ)) (b : Bool) → unwrap_or o (cond b w.before v) ≡ unwrap_or (before_with o (true && b) w.before) v
+        at (Some x) b = refl
+        at None true = refl
+        at None false = refl
+
+    pub below_it : (n : ℕ) → Falls n (above ++ w ∷ rest) → AreBelow set w.lsn (above ++ rest)
+    below_it n f = with_above (λ v. v.lsn < w.lsn) above rest h (all_mono _ _ (λ v l _. l) rest (all_below w.lsn rest (falls_under n above w rest f)))
+
+    pub others_stay : (P : StandingUpdate → Type 0) → AllByRecursion (λ v. tx_in v.tx set ≡ true → P v) (above ++ w ∷ rest) → AllByRecursion (λ v. tx_in v.tx set ≡ true → P v) (above ++ rest)
+    others_stay P a = with_above P above rest h (all_above (λ v. tx_in v.tx set ≡ true → P v) above (w ∷ rest) a).1

@@ -1,0 +1,108 @@
+-- The UPDATEs that stand are records of the log, and their LSNs fall.
+use Rattle.std.proofs.Common.{◌≡◌, ℕ, suc, ◌+◌, ◌<◌, ◌≤◌, cond, List, [], ◌∷◌, ◌++◌, length, Option, Some, None, refl, sym, ap, subst, ◌∙◌, append_assoc, length-append, arith}
+use Rattle.std.specs.Prelude.{slice_get}
+use Rattle.std.specs.List.{AllByRecursion}
+use Rattle.std.proofs.Math.Seq.{get_or-append_seam}
+use Rattle.std.proofs.lemmas.List.{length_push}
+use Rattle.std.proofs.lemmas.Option.{slice_get_read}
+use Rattle.clv_base.specs.declared.names.TxId.{TxId}
+use Rattle.clv_base.specs.declared.logs.LogRecord.{LogRecord}
+use Rattle.clv_base.specs.declared.logs.LogRecord.TheVariants.{Update, Clr, Prepare, Commit, Abort, End, Restart}
+use Rattle.clv_base.specs.Orders.{tx_same}
+use Rattle.clv_base.specs.Logs.{StandingUpdate, without_newest, standing_after, standing_from, standing, newest_of}
+use Rattle.clv_base.specs.Undo.{newest_lsn}
+use Rattle.clv_base.proofs.SameNames.{tx_self}
+use Rattle.cascade_undo.proofs.Bools.{both}
+
+-- ---- LSNs fall
+
+-- from the newest on, all below n
+abbrev pub Falls : ℕ → List StandingUpdate → Type 0
+Falls n [] = Unit {0}
+Falls n (w ∷ ws) = (w.lsn < n) × Falls w.lsn ws
+
+pub falls_weaker : (n m : ℕ) (ws : List StandingUpdate) → n ≤ m → Falls n ws → Falls m ws
+falls_weaker n m [] le falls = tt
+falls_weaker n m (w ∷ ws) le falls = (omega arith, falls.1)
+
+falls_without : (t : TxId) (n : ℕ) (ws : List StandingUpdate) → Falls n ws → Falls n (without_newest t ws)
+falls_without t n [] falls = tt
+falls_without t n (w ∷ ws) falls =
+    both (λ b. Falls n (cond b ws (w ∷ without_newest t ws))) (tx_same t w.tx) (λ _. falls_weaker w.lsn n ws (omega (arith, falls.0)) falls.1) (λ _. (falls.0, falls_without t w.lsn ws falls.1))
+
+falls_after : (n : ℕ) (r : LogRecord) (ws : List StandingUpdate) → Falls n ws → Falls (suc n) (standing_after n r ws)
+falls_after n (Update tx key before after) ws falls = (omega arith, falls)
+falls_after n (Clr tx undo_next key after) ws falls = falls_weaker n (suc n) (without_newest tx ws) (omega arith) (falls_without tx n ws falls)
+falls_after n (Prepare tx home predecessors) ws falls = falls_weaker n (suc n) ws (omega arith) falls
+falls_after n (Commit tx parts) ws falls = falls_weaker n (suc n) ws (omega arith) falls
+falls_after n (Abort tx) ws falls = falls_weaker n (suc n) ws (omega arith) falls
+falls_after n (End tx) ws falls = falls_weaker n (suc n) ws (omega arith) falls
+falls_after n (Restart run epoch) ws falls = falls_weaker n (suc n) ws (omega arith) falls
+
+falls_from : (n : ℕ) (rs : List LogRecord) (ws : List StandingUpdate) → Falls n ws → Falls (n + length rs) (standing_from n rs ws)
+falls_from n [] ws falls = falls_weaker n (n + 0) ws (omega arith) falls
+falls_from n (r ∷ rs) ws falls =
+    subst (λ m. Falls m (standing_from (suc n) rs (standing_after n r ws))) (omega arith) (falls_from (suc n) rs (standing_after n r ws) (falls_after n r ws falls))
+
+pub falls : (log : List LogRecord) → Falls (length log) (standing log)
+falls log = subst (λ m. Falls m (standing log)) (omega arith) (falls_from 0 log [] tt)
+
+pub all_below : (n : ℕ) (ws : List StandingUpdate) → Falls n ws → AllByRecursion (λ w. w.lsn < n) ws
+all_below n [] h = tt
+all_below n (w ∷ ws) h = (h.0, all_below n ws (falls_weaker w.lsn n ws (omega (arith, h.0)) h.1))
+
+-- ---- they are records of the log
+
+abbrev pub IsIn : List LogRecord → StandingUpdate → Type 0
+IsIn log w = slice_get log w.lsn ≡ Some (Update w.tx w.key w.before w.after)
+
+pub all_mono : (P Q : StandingUpdate → Type 0) → ((w : StandingUpdate) → P w → Q w) → (ws : List StandingUpdate) → AllByRecursion P ws → AllByRecursion Q ws
+all_mono P Q h [] a = tt
+all_mono P Q h (w ∷ ws) a = (h w a.0, all_mono P Q h ws a.1)
+
+pub all_without : (P : StandingUpdate → Type 0) (t : TxId) (ws : List StandingUpdate) → AllByRecursion P ws → AllByRecursion P (without_newest t ws)
+all_without P t [] a = tt
+all_without P t (w ∷ ws) a = both (λ b. AllByRecursion P (cond b ws (w ∷ without_newest t ws))) (tx_same t w.tx) (λ _. a.1) (λ _. (a.0, all_without P t ws a.1))
+
+get_seam : (front : List LogRecord) (r : LogRecord) (rest : List LogRecord) → slice_get (front ++ r ∷ rest) (length front) ≡ Some r
+get_seam front r rest = slice_get_read (front ++ r ∷ rest) (length (front ++ r ∷ rest)) (length front) r refl (omega (arith, length-append front (r ∷ rest))) (sym (get_or-append_seam front r rest r))
+
+in_after : (all : List LogRecord) (n : ℕ) (r : LogRecord) (ws : List StandingUpdate) → slice_get all n ≡ Some r → AllByRecursion (IsIn all) ws → AllByRecursion (IsIn all) (standing_after n r ws)
+in_after all n (Update tx key before after) ws at a = (at, a)
+in_after all n (Clr tx undo_next key after) ws at a = all_without (IsIn all) tx ws a
+in_after all n (Prepare tx home predecessors) ws at a = a
+in_after all n (Commit tx parts) ws at a = a
+in_after all n (Abort tx) ws at a = a
+in_after all n (End tx) ws at a = a
+in_after all n (Restart run epoch) ws at a = a
+
+in_from : (rs front all : List LogRecord) (n : ℕ) (ws : List StandingUpdate) → n ≡ length front → all ≡ front ++ rs → AllByRecursion (IsIn all) ws → AllByRecursion (IsIn all) (standing_from n rs ws)
+in_from [] front all n ws at is a = a
+in_from (r ∷ rs) front all n ws at is a =
+    in_from rs (front ++ r ∷ []) all (suc n) (standing_after n r ws) (omega (arith, length_push front r)) (is ∙ sym (append_assoc front (r ∷ []) rs))
+    (in_after all n r ws (ap (λ l. slice_get l n) is ∙ ap (slice_get (front ++ r ∷ rs)) at ∙ get_seam front r rs) a)
+
+pub in_log : (log : List LogRecord) → AllByRecursion (IsIn log) (standing log)
+in_log log = in_from log [] log 0 [] refl refl tt
+
+-- ---- the newest of a transaction
+
+abbrev pub lsn_of : Option StandingUpdate → Option ℕ
+lsn_of o = elim o [ Some w ↦ Some w.lsn | None ↦ None ]
+
+-- each write's transaction has a newest one, no older than it
+pub newest_there : (n : ℕ) (ws : List StandingUpdate) → Falls n ws → AllByRecursion (λ v. (q : ℕ) × (newest_lsn v.tx ws ≡ Some q) × (v.lsn ≤ q) × (q < n)) ws
+newest_there n [] h = tt
+newest_there n (w ∷ ws) h = (
+  (w.lsn, ap (λ b. lsn_of (cond b (Some w) (newest_of w.tx ws))) (tx_self w.tx), omega arith, h.0),
+  all_mono _ _
+      (λ v e.
+      both (λ b. (q : ℕ) × (lsn_of (cond b (Some w) (newest_of v.tx ws)) ≡ Some q) × (v.lsn ≤ q) × (q < n)) (tx_same v.tx w.tx)
+      (λ _. (w.lsn, refl, omega (arith, e.2, e.3), h.0)) (λ _. (e.0, e.1, e.2, omega (arith, e.3, h.0)))) ws (newest_there w.lsn ws h.1),
+)
+
+pub newest_under : (n : ℕ) (ws : List StandingUpdate) (t : TxId) (w : StandingUpdate) → Falls n ws → newest_of t ws ≡ Some w → w.lsn < n
+newest_under n [] t w h e = absurd cc
+newest_under n (v ∷ vs) t w h e =
+    both (λ b. cond b (Some v) (newest_of t vs) ≡ Some w → w.lsn < n) (tx_same t v.tx) (λ _ is. let same : v ≡ w = cc in subst (λ u. u.lsn < n) same h.0)
+    (λ _ is. let under : w.lsn < v.lsn = newest_under v.lsn vs t w h.1 is in omega (arith, under, h.0)) e

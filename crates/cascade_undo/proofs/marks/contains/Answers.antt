@@ -1,0 +1,7 @@
+use Rattle.std.proofs.Common.{◌∙◌}
+use Rattle.protocol_laws.proofs.Sets.{tx_total}
+use Rattle.violation_deps.proofs.Rising.{search_there}
+use Rattle.cascade_undo.proofs.marks.contains.Goals as goal
+
+pub returns : goal.returns
+returns c = c.is_ok.ensures.value ∙ search_there tx_total c.args.tx c.args.set.now c.binary_search.result c.requires c.binary_search.ensures.bound c.binary_search.ensures.position
