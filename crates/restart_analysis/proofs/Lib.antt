@@ -1,0 +1,3 @@
+pub mod Counting
+pub mod Doubted
+pub mod Ended

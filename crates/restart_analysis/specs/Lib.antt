@@ -1,0 +1,3 @@
+pub mod Standing
+pub mod Doubt
+pub mod Unended
