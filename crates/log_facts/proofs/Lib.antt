@@ -4,3 +4,4 @@ pub mod Members
 pub mod Names
 pub mod Places
 pub mod Rising
+pub mod Whole
