@@ -1,25 +1,28 @@
 -- Who is in doubt by a table of a log's facts is in doubt in the log.
-use Rattle.std.proofs.Common.{◌≡◌, ℕ, Bool, true, false, cond, not, ◌&&◌, ◌||◌, ◌==◌, List, [], ◌∷◌, ◌++◌, length, take, map, Option, Some, None, is_some, unwrap_or, refl, ap, subst, ◌∙◌}
-use Rattle.std.proofs.Math.Seq.{take-length}
+use Rattle.std.proofs.Common.{◌≡◌, ℕ, Bool, true, false, cond, not, ◌&&◌, ◌||◌, ◌==◌, List, [], ◌∷◌, ◌++◌, map, Option, Some, None, is_some, unwrap_or, refl, ap, ◌∙◌}
 use Rattle.std.specs.List.{filter, list_all}
 use Rattle.clv_base.specs.declared.names.TxId.{TxId}
 use Rattle.clv_base.specs.declared.logs.LogRecord.{LogRecord}
 use Rattle.clv_base.specs.declared.logs.LogRecord.TheVariants.{Update, Clr, Prepare, Commit, Abort, End, Restart}
 use Rattle.clv_base.specs.Orders.{Table, tx_in, tx_insert}
-use Rattle.clv_base.specs.Logs.{is_commit_of, committed_in, aborted_in, prepare_of, prepare_lsn, doubt_by, in_doubt_from, in_doubt, is_winner, writers, standing}
+use Rattle.clv_base.specs.Logs.{committed_in, aborted_in, prepare_of, doubt_by, in_doubt_from, in_doubt, is_winner, writers, standing}
 use Rattle.clv_base.specs.LogRules.{listed_in}
 use Rattle.clv_base.specs.Restarts.{losers, home_by, homes_of, pairs_of_listed, restored_pairs}
 use Rattle.log_facts.specs.declared.facts.TxFacts.{TxFacts}
 use Rattle.log_facts.specs.Facts.{known, Knows}
 use Rattle.log_facts.specs.Lists.{home_at, listed_at}
 use Rattle.log_facts.proofs.Bools.{all_same}
-use Rattle.log_facts.proofs.Places.{is_some_place, home_is, listed_is}
+use Rattle.log_facts.proofs.Whole.{commit_there, home_there, listed_there}
 use Rattle.log_facts.proofs.Places as places
 use Rattle.restart_analysis.specs.Doubt.{has_commit, settles, is_doubted, doubted_from, home_in, pairs_by, pairs_from}
 
+pub filter_same : (f g : TxId → Bool) → ((t : TxId) → f t ≡ g t) → (txs : List TxId) → filter f txs ≡ filter g txs
+filter_same f g same [] = refl
+filter_same f g same (t ∷ ts) = ap (λ b. cond b (t ∷ filter f ts) (filter f ts)) (same t) ∙ ap (λ us. cond (g t) (t ∷ us) us) (filter_same f g same ts)
+
 module _ (m : Table TxFacts) (log : List LogRecord) (knows : Knows m log) where
   pub commit_is : (t : TxId) → has_commit m t ≡ committed_in log t
-  commit_is t = ap (λ f. is_some f.commit) (knows t) ∙ is_some_place 0 (is_commit_of t) log
+  commit_is t = ap (λ f. is_some f.commit) (knows t) ∙ commit_there log t
 
   pub settles_is : (so_far : List TxId) (p : TxId) → settles m so_far p ≡ committed_in log p || tx_in p so_far
   settles_is so_far p = ap (λ b. b || tx_in p so_far) (commit_is p)
@@ -58,19 +61,16 @@ module _ (m : Table TxFacts) (log : List LogRecord) (knows : Knows m log) where
   home_named None = refl
   home_named (Some p) = refl
 
-  whole : take (length log) log ≡ log
-  whole = take-length log
-
   home_of : (t : TxId) → home_in m log t ≡ home_by (prepare_of log t)
   home_of t =
       ap (λ f. unwrap_or (home_at log f.prepare) 0) (knows t)
-      ∙ ap (λ o. unwrap_or o 0) (subst (λ l. home_at log (prepare_lsn l t) ≡ places.home_in (prepare_of l t)) whole (home_is log (length log) t)) ∙ home_named (prepare_of log t)
+      ∙ ap (λ o. unwrap_or o 0) (home_there log t) ∙ home_named (prepare_of log t)
 
   pub homes_are : (txs : List TxId) → map (λ t. (t, home_in m log t)) txs ≡ homes_of log txs
   homes_are txs = homes_same (home_in m log) (λ t. home_by (prepare_of log t)) home_of txs
 
   listed_of : (t : TxId) → listed_at log (known m t).prepare ≡ listed_in log t
-  listed_of t = ap (λ f. listed_at log f.prepare) (knows t) ∙ subst (λ l. listed_at log (prepare_lsn l t) ≡ listed_in l t) whole (listed_is log (length log) t)
+  listed_of t = ap (λ f. listed_at log f.prepare) (knows t) ∙ listed_there log t
 
   abbrev open_pairs : TxId → List TxId → List (TxId × TxId)
   open_pairs tx ps = map (λ q. (tx, q)) (filter (λ q. not (committed_in log q)) ps)
@@ -96,10 +96,6 @@ module _ (m : Table TxFacts) (log : List LogRecord) (knows : Knows m log) where
       ∙ ap (λ ps. pairs_of_listed log t (prepare_of log t) ++ ps) (pairs_are ts)
 
   -- ---- losers
-
-  filter_same : (f g : TxId → Bool) → ((t : TxId) → f t ≡ g t) → (txs : List TxId) → filter f txs ≡ filter g txs
-  filter_same f g same [] = refl
-  filter_same f g same (t ∷ ts) = ap (λ b. cond b (t ∷ filter f ts) (filter f ts)) (same t) ∙ ap (λ us. cond (g t) (t ∷ us) us) (filter_same f g same ts)
 
   pub losers_are : (shard : ℕ) → filter (λ t. not (settles m (in_doubt shard log) t)) (writers (standing log)) ≡ losers shard log
   losers_are shard =

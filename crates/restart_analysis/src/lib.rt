@@ -7,6 +7,7 @@
 
 mod analysis;
 mod doubt;
+pub mod laws;
 mod standing;
 mod unended;
 
