@@ -3,7 +3,7 @@ use Rattle.std.proofs.Common.{◌≡◌, ℕ, suc, Bool, true, false, cond, not,
 use Rattle.std.specs.List.{filter, list_any}
 use Rattle.clv_base.specs.declared.names.TxId.{TxId}
 use Rattle.clv_base.specs.declared.logs.LogRecord.{LogRecord}
-use Rattle.clv_base.specs.Orders.{tx_get}
+use Rattle.clv_base.specs.Orders.{tx_get, tx_union}
 use Rattle.clv_base.specs.Logs.{is_commit_of, committed_in, commit_lsn, place_from}
 use Rattle.clv_base.specs.State.{Local}
 use Rattle.clv_base.specs.Facts.{predecessors_of, undecided_of, greater_place, greatest_commit, due_by, due_lsn_of}
@@ -42,3 +42,10 @@ module _ (d : Dependencies) (l : Local) (pairs : d.pairs ≡ l.pairs) (settled :
   due_of-log tx =
       ap (λ us. due_by us (greatest_of d.commits (predecessors_of d.pairs tx))) (undecided_by-log tx)
       ∙ ap (due_by (undecided_of l tx)) (greatest_alike (predecessors_of d.pairs tx) ∙ ap (λ ps. greatest_commit l.log (predecessors_of ps tx)) pairs)
+
+  -- those that the transaction would have with these
+  pub undecided_like_log : (tx : TxId) (more : List TxId)
+      → filter (λ p. is_none (tx_get p d.commits)) (tx_union more (predecessors_of d.pairs tx)) ≡ filter (λ p. not (committed_in l.log p)) (tx_union more (predecessors_of l.pairs tx))
+  undecided_like_log tx more =
+      filter_alike (λ p. is_none (tx_get p d.commits)) (λ p. not (committed_in l.log p)) (tx_union more (predecessors_of d.pairs tx)) open_alike
+      ∙ ap (λ ps. filter (λ p. not (committed_in l.log p)) (tx_union more (predecessors_of ps tx))) pairs

@@ -1,13 +1,15 @@
 -- Who is a member of a list of transactions, and of the marks with more.
 use Rattle.std.proofs.Common.{◌≡◌, ℕ, zero, suc, ◌<◌, ◌⊎◌, inl, inr, ⊎_elim, Bool, true, false, cond, ◌&&◌, ◌||◌, List, [], ◌∷◌, ◌++◌, length, map, get_or, refl, sym, ap, subst, ◌∙◌, append_assoc, arith}
 use Rattle.std.proofs.lemmas.Bool.{both_ways, or_cases}
-use Rattle.std.specs.List.{AllByRecursion}
+use Rattle.std.specs.List.{AllByRecursion, list_any}
 use Rattle.std.specs.List.Sorted.{IsStrictlySortedBy}
-use Rattle.std.specs.declared.cmp.Ordering.TheVariants.{Less}
-use Rattle.std.specs.Ordering.{is_eq}
+use Rattle.std.specs.declared.cmp.Ordering.{Ordering}
+use Rattle.std.specs.declared.cmp.Ordering.TheVariants.{Less, Equal, Greater}
+use Rattle.std.specs.Ordering.{is_eq, ordering_then}
 use Rattle.std.specs.Cmp.{both_ways as same_tests}
 use Rattle.clv_base.specs.declared.names.TxId.{TxId}
-use Rattle.clv_base.specs.Orders.{tx_cmp, tx_same, tx_in, tx_insert}
+use Rattle.clv_base.specs.Orders.{tx_cmp, tx_same, tx_in, tx_insert, pair_cmp}
+use Rattle.clv_base.specs.Facts.{predecessors_of}
 use Rattle.clv_base.proofs.SameNames.{or_left, or_right, tx_true, tx_self, tx_eq, in_insert, insert_keeps, insert_has}
 use Rattle.tx_table.proofs.Names.{tx_symmetric}
 use Rattle.protocol_laws.specs.UndoLaws.{is_pair}
@@ -129,3 +131,23 @@ same_list (x ∷ xs) (y ∷ ys) s r same =
     let back : (t : TxId) → tx_in t ys ≡ true → tx_in t xs ≡ true =
     λ t e. ⊎_elim (λ q. absurd (not_below_itself y (ap (tx_cmp y) (sym first ∙ tx_true x t q) ∙ not_in_above y t ys r.0 e))) (λ m. m) (or_cases (tx_same x t) (tx_in t xs) (same t ∙ or_right _ _ e)) in
     ap (λ z. z ∷ xs) first ∙ ap (λ l. y ∷ l) (same_list xs ys s.1 r.1 (λ t. same_tests _ _ (forth t) (back t)))
+
+-- ---- a pair, and the predecessors
+
+then_tied : (a b : Ordering) → is_eq (ordering_then a b) ≡ (is_eq a && is_eq b)
+then_tied Less b = refl
+then_tied Equal b = refl
+then_tied Greater b = refl
+
+abbrev pub has_pair : TxId → TxId → List (TxId × TxId) → Bool
+has_pair tx pred pairs = list_any (λ (p : TxId × TxId). is_eq (pair_cmp p (tx, pred))) pairs
+
+pub in_predecessors : (tx pred : TxId) (pairs : List (TxId × TxId)) → has_pair tx pred pairs ≡ tx_in pred (predecessors_of pairs tx)
+in_predecessors tx pred [] = refl
+in_predecessors tx pred (p ∷ ps) =
+    ap (λ b. b || has_pair tx pred ps) (then_tied (tx_cmp p.0 tx) (tx_cmp p.1 pred)) ∙ at (tx_same tx p.0) (tx_symmetric p.0 tx) (in_predecessors tx pred ps)
+  where
+    at : (b : Bool) → tx_same p.0 tx ≡ b → has_pair tx pred ps ≡ tx_in pred (predecessors_of ps tx)
+        → ((tx_same p.0 tx && tx_same p.1 pred) || has_pair tx pred ps) ≡ tx_in pred (elim b [ true ↦ tx_insert p.1 (predecessors_of ps tx) | false ↦ predecessors_of ps tx ])
+    at true e more = ap (λ c. (c && tx_same p.1 pred) || has_pair tx pred ps) e ∙ ap (λ c. tx_same p.1 pred || c) more ∙ sym (tx_in-insert p.1 pred (predecessors_of ps tx))
+    at false e more = ap (λ c. (c && tx_same p.1 pred) || has_pair tx pred ps) e ∙ more

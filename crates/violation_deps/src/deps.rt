@@ -119,6 +119,13 @@ impl Deps {
         run_of(&self.pairs, tx)
     }
 
+    /// Whether the second transaction is a predecessor of the first.
+    pub fn is_predecessor(&self, tx: TxId, pred: TxId) -> bool
+        ensures { result ≡ tx_in pred (predecessors_of self.now.pairs tx) }
+    {
+        contains(&self.pairs, &(tx, pred))
+    }
+
     /// How many of its predecessors aren't settled.
     pub fn undecided(&self, tx: TxId) -> usize
         ensures { result ≡ length (undecided_by self.now tx) }

@@ -1,0 +1,10 @@
+use Rattle.std.proofs.Common.{◌≡◌, ◌≤◌, drop, length}
+use Rattle.clv_base.specs.OneShard.{add_pairs}
+use Rattle.op_effects.proofs.dependencies.add_predecessors.Given as goal
+
+abbrev pub invariant-loop-pred : goal.invariant-loop-pred
+invariant-loop-pred l = record {
+  left : add_pairs l.tx (drop l.pred-index l.preds) (l.deps).pairs ≡ add_pairs l.tx l.preds (l.initial.deps).pairs;
+  room : length (drop l.pred-index l.preds) ≤ (l.deps).room;
+  commits : (l.deps).commits ≡ (l.initial.deps).commits;
+}

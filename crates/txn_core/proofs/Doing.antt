@@ -1,0 +1,271 @@
+-- What is granted leaves a state of which all can still be taken away.
+use Rattle.std.proofs.Common.{◌≡◌, ℕ, suc, ◌+◌, ◌*◌, ◌≤◌, ◌⊎◌, inl, inr, ⊎_elim, Bool, true, false, cond, not, ◌&&◌, ◌||◌, ◌==◌, List, [], ◌∷◌, ◌++◌, length, zero, Option, Some, None, is_none, refl, sym, ap, subst, ◌∙◌, eq-eqb, length-append, arith}
+use Rattle.std.specs.Prelude.{slice_get}
+use Rattle.std.proofs.lemmas.Bool.{both_ways, or_cases, cond_both, cases_Bool, cond-true, cond-false, false_from_ne_true}
+use Rattle.std.specs.List.{AllByRecursion, list_any}
+use Rattle.std.specs.BTreeSet.{insert_key}
+use Rattle.std.specs.declared.cmp.Ordering.{Ordering}
+use Rattle.std.specs.declared.cmp.Ordering.TheVariants.{Less, Equal, Greater}
+use Rattle.std.specs.Ordering.{match_ordering}
+use Rattle.clv_base.specs.declared.names.TxId.{TxId}
+use Rattle.clv_base.specs.declared.names.Birth.{Birth}
+use Rattle.clv_base.specs.declared.ops.Op.{Op}
+use Rattle.clv_base.specs.declared.ops.Op.TheVariants.{Get, Put, Del, Scan}
+use Rattle.clv_base.specs.declared.logs.LogRecord.{LogRecord}
+use Rattle.clv_base.specs.declared.logs.LogRecord.TheVariants.{Update, Clr, Prepare, Commit, Abort, End, Restart}
+use Rattle.clv_base.specs.declared.modes.Anchor.TheVariants.{At}
+use Rattle.clv_base.specs.declared.modes.Part.TheVariants.{N}
+use Rattle.clv_base.specs.declared.modes.Need.{Need}
+use Rattle.clv_base.specs.declared.modes.Found.{Found}
+use Rattle.clv_base.specs.declared.modes.Found.TheVariants.{Live, Ghost, Absent}
+use Rattle.clv_base.specs.declared.state.Stage.{Stage}
+use Rattle.clv_base.specs.declared.state.Stage.TheVariants.{Active, Closed, Gone}
+use Rattle.clv_base.specs.declared.state.Held.{Held}
+use Rattle.clv_base.specs.Orders.{Table, tx_same, tx_get, tx_put, pair_cmp, pair_insert, anchor_same}
+use Rattle.clv_base.specs.Logs.{StandingUpdate, standing, wrote_in, is_update_of}
+use Rattle.clv_base.specs.Locks.{Locks, take_all, split_gap}
+use Rattle.clv_base.specs.Needs.{Records, found_at, found_by, is_there, live_of, record_set, needs_of, needs_by, inserts, writes_of}
+use Rattle.clv_base.specs.State.{Local, is_present}
+use Rattle.clv_base.specs.Undo.{stage_of}
+use Rattle.clv_base.specs.OneShard.{new_part, active_part, add_pairs}
+use Rattle.clv_base.proofs.SameNames.{or_left, or_right, tx_true, tx_self, tx_flip}
+use Rattle.law_base.proofs.Cells.{record_at}
+use Rattle.law_base.proofs.Tables.{get_put, stage_in}
+use Rattle.law_base.proofs.Anchors.{record_at_set}
+use Rattle.law_base.proofs.Undoing.{standing_append}
+use Rattle.shard_laws.proofs.LockRows.{holds, asks, need_asks, anchor_self, all_keeps, all_gives, split_keeps}
+use Rattle.shard_laws.proofs.Granting.{other_part}
+use Rattle.cascade_undo.proofs.Standing.{IsIn, in_log}
+use Rattle.op_needs.specs.declared.plan.Insert.{Insert}
+use Rattle.op_needs.specs.declared.plan.Write.{Write}
+use Rattle.op_needs.specs.Planned.{insert_by, write_by, insert_of, write_of}
+use Rattle.op_effects.specs.Effects.{performed_by, locks_after, records_after, log_after, new_key, record_count}
+use Rattle.txn_core.specs.Sound.{is_here, has_lock, IsHeld, is_update_by, updates_by, IsSound, may_work, has_need, IsCovered}
+use Rattle.txn_core.proofs.Owing.{one_if, count-first, updates-one, count_updates_fewer}
+use Rattle.txn_core.proofs.Undoing.{lock_is_held}
+
+-- ---- what a plan writes is locked
+
+pub covers : (op : Op) (rs : Records) → IsCovered (needs_of op rs) (insert_of op rs) (write_of op rs)
+covers (Get k) rs = tt
+covers (Scan lo hi) rs = tt
+covers (Put k v) rs = at (found_at k rs)
+  where
+    at : (f : Found) → IsCovered (needs_by (Put k v) rs f) (insert_by rs (inserts (Put k v) f)) (write_by (writes_of (Put k v) (live_of (found_at k rs))))
+    at (Live w) = inl (or_left _ _ (anchor_self (At k)))
+    at Ghost = inl (or_left _ _ (anchor_self (At k)))
+    at Absent = inr (_, refl, refl)
+covers (Del k) rs = at (found_at k rs)
+  where
+    at : (f : Found) → IsCovered (needs_by (Del k) rs f) (insert_by rs (inserts (Del k) f)) (write_by (writes_of (Del k) (live_of f)))
+    at (Live w) = inl (or_left _ _ (anchor_self (At k)))
+    at Ghost = tt
+    at Absent = tt
+
+-- ---- lists of pairs
+
+all_insert_key : {K : Type 0} (R : K → K → Ordering) (P : K → Type 0) (k : K) (xs : List K) → P k → AllByRecursion P xs → AllByRecursion P (insert_key R xs k)
+all_insert_key R P k [] h a = (h, tt)
+all_insert_key R P k (x ∷ xs) h a = at (R k x) (all_insert_key R P k xs h a.1)
+  where
+    at : (c : Ordering) → AllByRecursion P (insert_key R xs k) → AllByRecursion P (match_ordering c (k ∷ x ∷ xs) (x ∷ xs) (x ∷ insert_key R xs k))
+    at Less more = (h, a)
+    at Equal more = a
+    at Greater more = (a.0, more)
+
+all_add : (P : TxId × TxId → Type 0) (tx : TxId) (ps : List TxId) (pairs : List (TxId × TxId)) → ((p : TxId) → P (tx, p)) → AllByRecursion P pairs → AllByRecursion P (add_pairs tx ps pairs)
+all_add P tx [] pairs h a = a
+all_add P tx (p ∷ ps) pairs h a = all_add P tx ps (pair_insert (tx, p) pairs) h (all_insert_key pair_cmp P (tx, p) pairs (h p) a)
+
+all_weaker : {A : Type 0} (P Q : A → Type 0) → ((x : A) → P x → Q x) → (xs : List A) → AllByRecursion P xs → AllByRecursion Q xs
+all_weaker P Q h [] a = tt
+all_weaker P Q h (x ∷ xs) a = (h x a.0, all_weaker P Q h xs a.1)
+
+all_both : {A : Type 0} (P Q : A → Type 0) (xs : List A) → AllByRecursion P xs → AllByRecursion Q xs → AllByRecursion (λ x. P x × Q x) xs
+all_both P Q [] a b = tt
+all_both P Q (x ∷ xs) a b = ((a.0, b.0), all_both P Q xs a.1 b.1)
+
+-- ---- the log tells who wrote
+
+any_at : (f : LogRecord → Bool) (log : List LogRecord) (n : ℕ) (r : LogRecord) → slice_get log n ≡ Some r → f r ≡ true → list_any f log ≡ true
+any_at f [] n r e h = absurd cc
+any_at f (x ∷ xs) zero r e h = let same : x ≡ r = cc in or_left _ _ (ap f same ∙ h)
+any_at f (x ∷ xs) (suc n) r e h = or_right (f x) _ (any_at f xs n r e h)
+
+wrote_by : (log : List LogRecord) (w : StandingUpdate) → IsIn log w → wrote_in log w.tx ≡ true
+wrote_by log w i = any_at (is_update_of w.tx) log w.lsn (Update w.tx w.key w.before w.after) i (tx_self w.tx)
+
+none_or : (a b : Bool) → (a || b) ≡ false → (a ≡ false) × (b ≡ false)
+none_or true b e = absurd (both_ways true e refl)
+none_or false b e = (refl, e)
+
+updates_of_others : (tx : TxId) (p q : TxId → Bool) (log : List LogRecord) → wrote_in log tx ≡ false → ((t : TxId) → tx_same tx t ≡ false → p t ≡ true → q t ≡ true) → updates_by p log ≤ updates_by q log
+updates_of_others tx p q [] e h = omega arith
+updates_of_others tx p q (Update t key before after ∷ rs) e h =
+    let parts = none_or (tx_same tx t) (wrote_in rs tx) e in let more = updates_of_others tx p q rs parts.1 h in
+    let a = count-first (is_update_by p) (Update t key before after) rs in let b = count-first (is_update_by q) (Update t key before after) rs in
+    let c = fewer (p t) (q t) (h t parts.0) in omega (arith, a, b, c, more)
+  where
+    fewer : (a b : Bool) → (a ≡ true → b ≡ true) → one_if a ≤ one_if b
+    fewer true true h = omega arith
+    fewer true false h = absurd (both_ways false refl (h refl))
+    fewer false true h = omega arith
+    fewer false false h = omega arith
+updates_of_others tx p q (Clr t undo_next key after ∷ rs) e h = updates_of_others tx p q rs e h
+updates_of_others tx p q (Prepare t home predecessors ∷ rs) e h = updates_of_others tx p q rs e h
+updates_of_others tx p q (Commit t parts ∷ rs) e h = updates_of_others tx p q rs e h
+updates_of_others tx p q (Abort t ∷ rs) e h = updates_of_others tx p q rs e h
+updates_of_others tx p q (End t ∷ rs) e h = updates_of_others tx p q rs e h
+updates_of_others tx p q (Restart run epoch ∷ rs) e h = updates_of_others tx p q rs e h
+
+-- ---- records and locks stay
+
+set_keeps : (q k : ℕ) (v : Option ℕ) (rs : Records) → is_there (found_at q rs) ≡ true → is_there (found_at q (record_set k v rs)) ≡ true
+set_keeps q k v rs h = ap (λ o. is_there (found_by o)) (record_at_set q k v rs) ∙ at (q == k) v
+  where
+    at : (b : Bool) (v : Option ℕ) → is_there (found_by (cond b (Some v) (record_at q rs))) ≡ true
+    at true None = refl
+    at true (Some u) = refl
+    at false v = h
+
+set_has : (k : ℕ) (v : Option ℕ) (rs : Records) → is_there (found_at k (record_set k v rs)) ≡ true
+set_has k v rs = ap (λ o. is_there (found_by o)) (record_at_set k k v rs ∙ cond-true (k == k) (Some v) (record_at k rs) (eq-eqb k k refl)) ∙ some v
+  where
+    some : (v : Option ℕ) → is_there (found_by (Some v)) ≡ true
+    some None = refl
+    some (Some u) = refl
+
+after_keeps : (write : Option Write) (q : ℕ) (rs : Records) → is_there (found_at q rs) ≡ true → is_there (found_at q (records_after write rs)) ≡ true
+after_keeps None q rs h = h
+after_keeps (Some w) q rs h = set_keeps q w.key w.after rs h
+
+module _ (tx : TxId) (birth : Birth) (needs : List Need) (locks : Locks) where
+  locks_keep : (insert : Option Insert) (u : TxId) (k : ℕ) → holds true N (At k) u locks ≡ true → holds true N (At k) u (locks_after tx birth needs insert locks) ≡ true
+  locks_keep None u k h = all_keeps true N (At k) u tx birth needs locks h
+  locks_keep (Some i) u k h =
+      all_keeps true N (At k) u tx birth (new_key i.key) (split_gap i.lower (At i.key) (take_all tx birth needs locks))
+      (split_keeps true N (At k) u i.lower (At i.key) (take_all tx birth needs locks) (all_keeps true N (At k) u tx birth needs locks h))
+
+  asks_need : (k : ℕ) (ns : List Need) → has_need k ns ≡ asks true N (At k) ns
+  asks_need k [] = refl
+  asks_need k (n ∷ ns) = ap (λ b. b || has_need k ns) (sym (and_true (anchor_same (At k) n.anchor))) ∙ ap (λ b. need_asks true N (At k) n || b) (asks_need k ns)
+    where
+      and_true : (b : Bool) → (b && true) ≡ b
+      and_true true = refl
+      and_true false = refl
+
+  locks_needed : (insert : Option Insert) (k : ℕ) → has_need k needs ≡ true → holds true N (At k) tx (locks_after tx birth needs insert locks) ≡ true
+  locks_needed None k h = all_gives true N (At k) tx birth needs locks (sym (asks_need k needs) ∙ h)
+  locks_needed (Some i) k h =
+      all_keeps true N (At k) tx tx birth (new_key i.key) (split_gap i.lower (At i.key) (take_all tx birth needs locks))
+      (split_keeps true N (At k) tx i.lower (At i.key) (take_all tx birth needs locks) (all_gives true N (At k) tx birth needs locks (sym (asks_need k needs) ∙ h)))
+
+  locks_new : (insert : Option Insert) (k : ℕ) (i : Insert) → insert ≡ Some i → i.key ≡ k → holds true N (At k) tx (locks_after tx birth needs insert locks) ≡ true
+  locks_new None k i e same = absurd cc
+  locks_new (Some j) k i e same =
+      let key : k ≡ j.key = cc in
+      all_gives true N (At k) tx birth (new_key j.key) (split_gap j.lower (At j.key) (take_all tx birth needs locks)) (or_left _ _ (own k j.key key))
+    where
+      own : (a b : ℕ) → a ≡ b → (anchor_same (At a) (At b) && true) ≡ true
+      own a b e = subst (λ c. (anchor_same (At a) (At c) && true) ≡ true) e (ap (λ x. x && true) (anchor_self (At a)))
+
+  pub covered_lock : (insert : Option Insert) (w : Write) → IsCovered needs insert (Some w) → has_lock tx w.key (locks_after tx birth needs insert locks) ≡ true
+  covered_lock insert w c = lock_is_held tx w.key (locks_after tx birth needs insert locks) ∙ ⊎_elim (λ h. locks_needed insert w.key h) (λ n. locks_new insert w.key n.0 n.1 n.2) c
+
+  lock_stays : (insert : Option Insert) (u : TxId) (k : ℕ) → has_lock u k locks ≡ true → has_lock u k (locks_after tx birth needs insert locks) ≡ true
+  lock_stays insert u k h = lock_is_held u k (locks_after tx birth needs insert locks) ∙ locks_keep insert u k (sym (lock_is_held u k locks) ∙ h)
+
+-- ---- the parts
+
+work_here : (s : Stage) → may_work (Some s) ≡ true → is_present (Some s) ≡ true
+work_here Active e = refl
+work_here Closed e = absurd (both_ways false refl e)
+work_here (Gone doom) e = absurd (both_ways false refl e)
+
+abbrev stage_at : Option Held → Option Stage
+stage_at o = elim o [ Some h ↦ Some h.stage | None ↦ None ]
+
+module _ (tx : TxId) (birth : Birth) (needs : List Need) (insert : Option Insert) (write : Option Write) (preds : List TxId) (l : Local) where
+  abbrev after : Local
+  after = performed_by tx birth needs insert write preds l
+
+  own_by : (o : Option Held) → tx_get tx l.parts ≡ o → may_work (stage_of l tx) ≡ true → is_present (stage_in (new_part tx birth o l.parts) tx) ≡ true
+  own_by None e m = let got = get_put tx tx (active_part birth) l.parts ∙ cond-true (tx_same tx tx) (Some (active_part birth)) (tx_get tx l.parts) (tx_self tx) in ap (λ o. is_present (stage_at o)) got
+  own_by (Some h) e m = ap (λ o. is_present (stage_at o)) e ∙ work_here h.stage (ap (λ o. may_work (stage_at o)) (sym e) ∙ m)
+
+  pub own_here : may_work (stage_of l tx) ≡ true → is_here after tx ≡ true
+  own_here m = own_by (tx_get tx l.parts) refl m
+
+  others : (u : TxId) → tx_same u tx ≡ false → is_here after u ≡ is_here l u
+  others u e = let same = other_part tx birth l.parts u (tx_get tx l.parts) e in ap (λ o. is_present (stage_at o)) same
+
+  here_keeps : may_work (stage_of l tx) ≡ true → (u : TxId) → is_here l u ≡ true → is_here after u ≡ true
+  here_keeps m u h = ⊎_elim (λ s. subst (λ x. is_here after x ≡ true) (sym (tx_true u tx s)) (own_here m)) (λ n. others u n ∙ h) (cases_Bool (tx_same u tx))
+
+  abbrev Known : Type 0
+  Known = (is_here l tx ≡ true) ⊎ (wrote_in l.log tx ≡ false)
+
+  held_still : Known → (w : StandingUpdate) → IsHeld l w × IsIn l.log w → IsHeld after w
+  held_still known w h here =
+      let before : is_here l w.tx ≡ true =
+      ⊎_elim
+      (λ s. let name = tx_true w.tx tx s in
+      ⊎_elim (λ k. subst (λ x. is_here l x ≡ true) (sym name) k) (λ n. absurd (both_ways _ n (subst (λ x. wrote_in l.log x ≡ true) name (wrote_by l.log w h.1)))) known)
+      (λ n. sym (others w.tx n) ∙ here) (cases_Bool (tx_same w.tx tx)) in
+      let held = h.0 before in
+      (after_keeps write w.key l.records held.0, lock_stays tx birth needs l.locks insert w.tx w.key held.1)
+
+  standing_still : Known → AllByRecursion (IsHeld l) (standing l.log) → AllByRecursion (IsHeld after) (standing l.log)
+  standing_still known a = all_weaker (λ w. IsHeld l w × IsIn l.log w) (IsHeld after) (held_still known) (standing l.log) (all_both (IsHeld l) (IsIn l.log) (standing l.log) a (in_log l.log))
+
+  updates_still : Known → may_work (stage_of l tx) ≡ true → updates_by (is_here after) l.log ≤ updates_by (is_here l) l.log
+  updates_still known m =
+      ⊎_elim
+      (λ k. count_updates_fewer (is_here after) (is_here l) l.log
+      (λ t h. ⊎_elim (λ s. subst (λ x. is_here l x ≡ true) (sym (tx_true t tx s)) k) (λ n. sym (others t n) ∙ h) (cases_Bool (tx_same t tx))))
+      (λ n. updates_of_others tx (is_here after) (is_here l) l.log n (λ t e h. sym (others t (flipped t e)) ∙ h)) known
+    where
+      flipped : (t : TxId) → tx_same tx t ≡ false → tx_same t tx ≡ false
+      flipped t e = false_from_ne_true _ (λ s. both_ways _ e (tx_flip t tx s))
+
+written_all : (P : StandingUpdate → Type 0) (tx : TxId) (write : Option Write) (log : List LogRecord) → AllByRecursion P (standing log)
+    → ((w : Write) → write ≡ Some w → (n : ℕ) → P (record { lsn = n; tx = tx; key = w.key; before = w.before; after = w.after })) → AllByRecursion P (standing (log_after tx write log))
+written_all P tx None log a new = a
+written_all P tx (Some w) log a new =
+    subst (AllByRecursion P) (sym (standing_append 0 log (Update tx w.key w.before w.after ∷ []) [])) (new w refl (0 + length log), a)
+
+updates_written : (test : TxId → Bool) (tx : TxId) (write : Option Write) (log : List LogRecord) → updates_by test (log_after tx write log) + length log ≤ updates_by test log + length (log_after tx write log)
+updates_written test tx None log = omega arith
+updates_written test tx (Some w) log =
+    let a = updates-one test log tx w.key w.before w.after in let b = length-append log (Update tx w.key w.before w.after ∷ []) in omega (arith, a, b)
+
+-- what is done by a plan that locks what it writes
+pub sound_performed : (tx : TxId) (birth : Birth) (needs : List Need) (insert : Option Insert) (write : Option Write) (preds : List TxId) (l : Local) (spare left : ℕ)
+    → IsSound l spare → may_work (stage_of l tx) ≡ true → (is_here l tx ≡ true) ⊎ (wrote_in l.log tx ≡ false) → IsCovered needs insert write
+    → spare + 2 * length (log_after tx write l.log) ≤ left + 2 * length l.log → IsSound (performed_by tx birth needs insert write preds l) left
+sound_performed tx birth needs insert write preds l spare left sound work known covered room = record {
+  successors =
+      all_add (λ p. is_here (performed_by tx birth needs insert write preds l) p.0 ≡ true) tx preds l.pairs (λ p. own_here tx birth needs insert write preds l work)
+      (all_weaker (λ p. is_here l p.0 ≡ true) (λ p. is_here (performed_by tx birth needs insert write preds l) p.0 ≡ true) (λ p h. here_keeps tx birth needs insert write preds l work p.0 h) l.pairs sound.successors);
+  writes =
+      written_all (IsHeld (performed_by tx birth needs insert write preds l)) tx write l.log (standing_still tx birth needs insert write preds l known sound.writes)
+      (λ w e n h. (
+        subst (λ o. is_there (found_at w.key (records_after o l.records)) ≡ true) (sym e) (set_has w.key w.after l.records),
+        covered_lock tx birth needs l.locks insert w (subst (IsCovered needs insert) e covered),
+      ));
+  room =
+      let a = updates_still tx birth needs insert write preds l known work in let b = updates_written (is_here (performed_by tx birth needs insert write preds l)) tx write l.log in omega (arith, a, b, room, sound.room);
+}
+
+-- ---- what is known of a transaction that may work
+
+pub known_from : (l : Local) (tx : TxId) → may_work (stage_of l tx) ≡ true → (is_none (tx_get tx l.parts) && wrote_in l.log tx) ≡ false → (is_here l tx ≡ true) ⊎ (wrote_in l.log tx ≡ false)
+known_from l tx m e = at (tx_get tx l.parts) m e
+  where
+    at : (o : Option Held) → may_work (stage_at o) ≡ true → (is_none o && wrote_in l.log tx) ≡ false → (is_present (stage_at o) ≡ true) ⊎ (wrote_in l.log tx ≡ false)
+    at None m e = inr e
+    at (Some h) m e = inl (work_here h.stage m)
+
+pub length-log_after : (tx : TxId) (write : Option Write) (log : List LogRecord) → length (log_after tx write log) ≡ length log + record_count write
+length-log_after tx None log = omega arith
+length-log_after tx (Some w) log = length-append log (Update tx w.key w.before w.after ∷ [])

@@ -1,0 +1,7 @@
+pub mod Replies
+pub mod Settled
+pub mod Ends
+pub mod Owing
+pub mod Undoing
+pub mod Doing
+pub mod Unlocked

@@ -1,0 +1,67 @@
+-- What holds of a shard's transactions, whatever was done: what a part did can be taken away.
+use Rattle.std.specs.Prelude.{◌≡◌, ℕ, ◌*◌, ◌≤◌, ◌⊎◌, Bool, true, false, ◌&&◌, List, length, Option, Some, None}
+use Rattle.std.specs.List.{AllByRecursion, filter, list_any}
+use Rattle.clv_base.specs.declared.names.TxId.{TxId}
+use Rattle.clv_base.specs.declared.logs.LogRecord.{LogRecord}
+use Rattle.clv_base.specs.declared.logs.LogRecord.TheVariants.{Update}
+use Rattle.clv_base.specs.declared.modes.Anchor.TheVariants.{At}
+use Rattle.clv_base.specs.declared.modes.Need.{Need}
+use Rattle.clv_base.specs.declared.state.Stage.{Stage}
+use Rattle.clv_base.specs.declared.state.Stage.TheVariants.{Active, Closed, Gone}
+use Rattle.clv_base.specs.Orders.{Table, tx_same, anchor_same}
+use Rattle.clv_base.specs.Logs.{StandingUpdate, standing}
+use Rattle.clv_base.specs.Locks.{Locks}
+use Rattle.clv_base.specs.Needs.{found_at, is_there}
+use Rattle.clv_base.specs.State.{Local, is_present}
+use Rattle.clv_base.specs.Undo.{stage_of}
+use Rattle.op_needs.specs.declared.plan.Insert.{Insert}
+use Rattle.op_needs.specs.declared.plan.Write.{Write}
+use Rattle.txn_core.specs.State.{AreSettled}
+
+-- whether the transaction's part here is active or closed
+abbrev pub is_here : Local → TxId → Bool
+is_here l t = is_present (stage_of l t)
+
+-- whether the transaction has a lock on the record at the key
+abbrev pub has_lock : TxId → ℕ → Locks → Bool
+has_lock t k locks = list_any (λ r. anchor_same (At k) r.0 && tx_same t (r.1).tx) locks
+
+-- a write of a part that is here has its record, and its transaction a lock on it
+abbrev pub IsHeld : Local → StandingUpdate → Type 0
+IsHeld l w = is_here l w.tx ≡ true → (is_there (found_at w.key l.records) ≡ true) × (has_lock w.tx w.key l.locks ≡ true)
+
+-- whether a record is an UPDATE of a transaction that passes
+abbrev pub is_update_by : (TxId → Bool) → LogRecord → Bool
+is_update_by test (Update tx key before after) = test tx
+is_update_by test _ = false
+
+-- how many UPDATEs of such transactions the log has
+abbrev pub updates_by : (TxId → Bool) → List LogRecord → ℕ
+updates_by test log = length (filter (is_update_by test) log)
+
+pub record IsSound (l : Local) (spare : ℕ) : Type 0 where
+  -- each that depends on another has its part here
+  pub successors : AllByRecursion (λ p. is_here l p.0 ≡ true) l.pairs
+  pub writes : AllByRecursion (IsHeld l) (standing l.log)
+  -- so much room is in the log: for an ABORT and a CLR for each UPDATE of a part that is here
+  pub room : 2 * updates_by (is_here l) l.log ≤ spare
+
+-- that, and the COMMITs of the log are known to the dependencies, each at its place
+pub record IsKept (commits : Table ℕ) (l : Local) (spare : ℕ) : Type 0 where
+  pub settled : AreSettled commits l.log
+  pub sound : IsSound l spare
+
+-- whether a part may have operations: it is not known, or active
+abbrev pub may_work : Option Stage → Bool
+may_work None = true
+may_work (Some Active) = true
+may_work (Some Closed) = false
+may_work (Some (Gone doom)) = false
+
+-- what is written is locked: some need is on its record, or the record is the one that is inserted
+abbrev pub has_need : ℕ → List Need → Bool
+has_need k needs = list_any (λ n. anchor_same (At k) n.anchor) needs
+
+abbrev pub IsCovered : List Need → Option Insert → Option Write → Type 0
+IsCovered needs insert None = Unit {0}
+IsCovered needs insert (Some w) = (has_need w.key needs ≡ true) ⊎ ((i : Insert) × (insert ≡ Some i) × (i.key ≡ w.key))

@@ -1,0 +1,97 @@
+//! An operation, up to the rolling back of a part that dies.
+ghost use Rattle.std.specs.Prelude.{◌≡◌, true, IfOk, OnErr};
+ghost use Rattle.clv_base.specs.Needs.{needs_of};
+ghost use Rattle.clv_base.specs.Locks.{violated as violated_by};
+ghost use Rattle.clv_base.specs.OneShard.{OpAnswers, op_reply, performed};
+ghost use Rattle.op_needs.specs.Planned.{IsPlanOf};
+ghost use Rattle.clv_base.specs.Undo.{stage_of as stage_in};
+ghost use Rattle.txn_core.specs.Sound.{may_work};
+ghost use Rattle.txn_core.specs.State.{IsSameBut};
+ghost use Rattle.txn_core.specs.Attempts.{ComesTo, KeepsRoom};
+
+use crate::judging::Judged;
+use crate::shard::ShardTx;
+use clv_base::causes::AbortCause;
+use clv_base::names::{Birth, TxId};
+use clv_base::ops::{Answer, Op};
+use lock_table::{Locks, Memory};
+use op_effects::performed_by_plan;
+use op_needs::Plan;
+use ordered_store::Store;
+use std::alloc::Global;
+
+/// What an operation comes to.
+#[derive(Drop, Debug)]
+pub enum Attempt {
+    /// It is done; the shard has this epoch.
+    Answered { answer: Answer, epoch: u64 },
+    /// Its transaction is dead, and no part of it is here that would have to be rolled back.
+    Dead(AbortCause),
+    /// Its transaction dies, and its part here is still to be rolled back.
+    Dying(AbortCause),
+    /// Nothing is done: this younger active transaction holds what it needs.
+    Wait { younger: TxId },
+    /// Nothing is done: it would have so many undecided predecessors, which are too many.
+    Crowded { count: usize },
+}
+
+impl<S: Store + Drop, L: Locks + Drop> ShardTx<S, L> {
+    /// Does what was granted.
+    fn grant(
+        &mut self,
+        alloc: Global,
+        tx: TxId,
+        birth: Birth,
+        op: Op,
+        plan: Plan,
+        violated: &[TxId],
+    ) -> Result<Attempt, Memory>
+        requires plan { IsPlanOf op (self.old.local).records plan }
+        requires work { may_work (stage_in self.old.local tx) ≡ true }
+        requires violated { violated.now ≡ violated_by tx (needs_of op (self.old.local).records) (self.old.local).locks }
+        ensures ok { IfOk result (λ a. ComesTo (OpAnswers plan.answer (performed tx birth op self.old.local)) tx self.old a self.new) }
+        ensures err { OnErr result (IsSameBut self.old self.old.local self.new) }
+        ensures room { KeepsRoom self.old self.new }
+    {
+        performed_by_plan();
+        let epoch = self.epoch;
+        match self.perform(alloc, tx, birth, &plan, violated) {
+            Ok(()) => Ok(Attempt::Answered {
+                answer: plan.answer,
+                epoch,
+            }),
+            Err(memory) => Err(memory),
+        }
+    }
+
+    /// An operation of a transaction that was born then; `seen` is the epoch that its session was answered here at its first touch, none at the
+    /// first. It comes to what the protocol says, and leaves the state that the protocol says; ghosts that no lock needs stay until they are
+    /// purged, and a part that dies is still to be rolled back. After a quiet answer, and where there is no memory, all is as before, but that
+    /// there may be more room.
+    pub fn attempt(
+        &mut self,
+        alloc: Global,
+        tx: TxId,
+        birth: Birth,
+        seen: Option<u64>,
+        op: Op,
+    ) -> Result<Attempt, Memory>
+        ensures ok { IfOk result (λ a. ComesTo (op_reply self.old.shard self.old.local tx birth seen op) tx self.old a self.new) }
+        ensures err { OnErr result (IsSameBut self.old self.old.local self.new) }
+        ensures room { KeepsRoom self.old self.new }
+    {
+        let found = match self.judge(alloc, tx, birth, seen, op) {
+            Ok(found) => found,
+            Err(memory) => return Err(memory),
+        };
+        match found {
+            Judged::Grant { plan, violated } => {
+                self.grant(alloc, tx, birth, op, plan, &violated)
+            }
+            Judged::Wait { younger } => Ok(Attempt::Wait { younger }),
+            Judged::Crowded { count } => Ok(Attempt::Crowded { count }),
+            Judged::Dead(cause) => Ok(Attempt::Dead(cause)),
+            Judged::Dying(cause) => Ok(Attempt::Dying(cause)),
+        }
+    }
+}

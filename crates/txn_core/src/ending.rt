@@ -1,0 +1,74 @@
+//! The end of parts that an abort takes away.
+ghost use Rattle.std.specs.Prelude.{◌≡◌, [], ◌∷◌, Some};
+ghost use Rattle.clv_base.specs.Locks.{release as without_locks_of};
+ghost use Rattle.clv_base.specs.Undo.{gone_in, gone_part};
+ghost use Rattle.clv_base.specs.OneShard.{marked_in, dropped_part};
+
+use clv_base::names::TxId;
+use clv_base::state::{Held, Stage};
+use lock_table::Locks;
+use std::collections::BTreeMap;
+
+/// The transactions give up all their locks.
+pub(crate) fn release_all<L: Locks>(locks: &mut L, txs: &[TxId])
+    ensures { L.rows locks.new ≡ without_locks_of txs.now (L.rows locks.old) }
+{
+    for tx in txs {
+        locks.release(*tx);
+    }
+}
+
+/// The part, taken away by this abort.
+fn gone(part: Held, doom: TxId) -> Held
+    ensures { result ≡ gone_part (Some doom) part }
+{
+    Held {
+        stage: Stage::Gone { doom: Some(doom) },
+        ..part
+    }
+}
+
+/// The transaction's part is gone, by this abort. Takes no memory.
+fn end_part(parts: &mut BTreeMap<TxId, Held>, tx: TxId, doom: TxId)
+    ensures { parts.new.entries ≡ gone_in (tx ∷ []) (Some doom) parts.old.entries }
+{
+    let part = match parts.get(&tx).copied() {
+        Some(part) => part,
+        None => return,
+    };
+    let Ok(_) = parts.insert(tx, gone(part, doom)) else {
+        unreachable!()
+    };
+}
+
+/// The part, of which a Drop came.
+fn dropped(part: Held) -> Held
+    ensures { result ≡ dropped_part part }
+{
+    Held {
+        is_dropped: true,
+        ..part
+    }
+}
+
+/// The transaction's part, if there is one, is marked as dropped. Takes no memory.
+pub(crate) fn mark_dropped(parts: &mut BTreeMap<TxId, Held>, tx: TxId)
+    ensures { parts.new.entries ≡ marked_in tx parts.old.entries }
+{
+    let part = match parts.get(&tx).copied() {
+        Some(part) => part,
+        None => return,
+    };
+    let Ok(_) = parts.insert(tx, dropped(part)) else {
+        unreachable!()
+    };
+}
+
+/// The parts of the transactions are gone, by this abort. Takes no memory.
+pub(crate) fn end_parts(parts: &mut BTreeMap<TxId, Held>, txs: &[TxId], doom: TxId)
+    ensures { parts.new.entries ≡ gone_in txs.now (Some doom) parts.old.entries }
+{
+    for tx in txs {
+        end_part(parts, *tx, doom);
+    }
+}

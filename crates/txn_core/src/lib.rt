@@ -1,0 +1,20 @@
+//! The transactions of one shard, and their operations.
+//! It promises that what an operation comes to, and the records with their ghosts, the locks, the parts, the predecessors and the log after
+//! it, are the protocol's definition, for each operation and each decision; a quiet answer and want of memory change nothing.
+//! It stands on `op_needs` and `op_effects`, and on the traits of `ordered_store` and `lock_table`, so with each store and each lock table.
+#![tactic(auto)]
+
+mod attempt;
+mod deciding;
+mod ending;
+mod judging;
+mod op;
+mod performing;
+mod purging;
+mod rolling;
+mod shard;
+
+pub use attempt::Attempt;
+pub use lock_table::Memory;
+pub use op::Reply;
+pub use shard::ShardTx;

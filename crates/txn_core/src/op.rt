@@ -1,0 +1,59 @@
+//! An operation.
+ghost use Rattle.std.specs.Prelude.{◌≡◌, IfOk, OnErr};
+ghost use Rattle.clv_base.specs.OneShard.{op_reply};
+ghost use Rattle.txn_core.specs.State.{IsSameBut};
+ghost use Rattle.txn_core.specs.Replies.{Replies};
+
+use crate::attempt::Attempt;
+use crate::shard::ShardTx;
+use clv_base::causes::AbortCause;
+use clv_base::names::{Birth, TxId};
+use clv_base::ops::{Answer, Op};
+use lock_table::{Locks, Memory};
+use ordered_store::Store;
+use std::alloc::Global;
+
+/// What an operation is answered.
+#[derive(Drop, Debug)]
+pub enum Reply {
+    /// It is done; the shard has this epoch.
+    Answered { answer: Answer, epoch: u64 },
+    /// Its transaction is dead: no part of it is left here.
+    Dead(AbortCause),
+    /// Nothing is done: this younger active transaction holds what it needs.
+    Wait { younger: TxId },
+    /// Nothing is done: it would have so many undecided predecessors, which are too many.
+    Crowded { count: usize },
+}
+
+impl<S: Store + Drop, L: Locks + Drop> ShardTx<S, L> {
+    /// An operation of a transaction that was born then; `seen` is the epoch that its session was answered here at its first touch, none at the
+    /// first. It is answered what the protocol says, and leaves the state that the protocol says, but for ghosts that no lock needs: these stay
+    /// until they are purged. After a quiet answer all is as before; where there is no memory too, but that there may be more room.
+    pub fn op(
+        &mut self,
+        alloc: Global,
+        tx: TxId,
+        birth: Birth,
+        seen: Option<u64>,
+        op: Op,
+    ) -> Result<Reply, Memory>
+        ensures ok { IfOk result (λ r. Replies (op_reply self.old.shard self.old.local tx birth seen op) self.old r self.new) }
+        ensures err { OnErr result (IsSameBut self.old self.old.local self.new) }
+    {
+        let attempt = match self.attempt(alloc, tx, birth, seen, op) {
+            Ok(attempt) => attempt,
+            Err(memory) => return Err(memory),
+        };
+        match attempt {
+            Attempt::Answered { answer, epoch } => Ok(Reply::Answered { answer, epoch }),
+            Attempt::Dead(cause) => Ok(Reply::Dead(cause)),
+            Attempt::Dying(cause) => {
+                self.roll_back_part(tx);
+                Ok(Reply::Dead(cause))
+            }
+            Attempt::Wait { younger } => Ok(Reply::Wait { younger }),
+            Attempt::Crowded { count } => Ok(Reply::Crowded { count }),
+        }
+    }
+}

@@ -1,0 +1,110 @@
+//! Doing what is granted.
+ghost use Rattle.std.specs.Prelude.{◌≡◌, true, ◌≤◌, ◌+◌, ◌*◌, ◌&&◌, is_none, OnOk, OnErr};
+ghost use Rattle.clv_base.specs.declared.names.TxId.{TxId as Tx};
+ghost use Rattle.clv_base.specs.Orders.{tx_get};
+ghost use Rattle.op_effects.specs.Effects.{record_count, CanWrite, performed_by};
+ghost use Rattle.txn_core.specs.State.{IsSameBut};
+ghost use Rattle.clv_base.specs.Logs.{wrote_in};
+ghost use Rattle.clv_base.specs.Undo.{stage_of as stage_in};
+ghost use Rattle.txn_core.specs.Sound.{may_work, IsCovered};
+ghost use Rattle.txn_core.specs.Attempts.{KeepsRoom};
+
+use crate::shard::ShardTx;
+use clv_base::logs::LogRecord;
+use clv_base::names::{Birth, TxId};
+use clv_base::state::Held;
+use lock_table::{Locks, Memory};
+use log_buffer::LogBuffer;
+use op_effects::{add_predecessors, enter_part, reserve_locks, take_locks, write_down};
+use op_needs::{Plan, Write};
+use ordered_store::Store;
+use std::alloc::Global;
+use std::collections::BTreeMap;
+use violation_deps::Deps;
+
+/// Whether a transaction has no part here, and yet an UPDATE in the log, from before a restart. Its session is told of the restart before it
+/// may come again, so what is made of it doesn't matter.
+fn was_before(parts: &BTreeMap<TxId, Held>, buffer: &LogBuffer<LogRecord>, tx: TxId) -> bool
+    ensures { result ≡ (is_none (tx_get tx parts.now.entries) && wrote_in buffer.now.records tx) }
+{
+    parts.get(&tx).is_none() && buffer.wrote(tx)
+}
+
+/// Makes room for an UPDATE, and for the CLR and the ABORT that it may want.
+fn reserve_log(buffer: &mut LogBuffer<LogRecord>, write: Option<Write>) -> Result<(), Memory>
+    ensures ok { OnOk result (buffer.old.room + 3 * record_count write ≤ buffer.new.room) }
+    ensures room { buffer.old.room ≤ buffer.new.room }
+    ensures same { buffer.new ≡ record buffer.old { room = buffer.new.room } }
+{
+    if write.is_none() {
+        return Ok(());
+    }
+    let Some(count) = buffer.room().checked_add(3) else {
+        return Err(Memory);
+    };
+    match buffer.reserve(count) {
+        Ok(()) => Ok(()),
+        Err(_) => Err(Memory),
+    }
+}
+
+/// Makes room for a record, and for so many predecessors.
+fn reserve_rest<S: Store>(store: &mut S, deps: &mut Deps, preds: usize) -> Result<(), Memory>
+    ensures store { OnOk result (1 ≤ S.room store.new) }
+    ensures deps { OnOk result (preds ≤ deps.new.room) }
+    ensures records { S.records store.new ≡ S.records store.old }
+    ensures pairs { deps.new.pairs ≡ deps.old.pairs }
+    ensures commits { (t : Tx) → tx_get t deps.new.commits ≡ tx_get t deps.old.commits }
+{
+    match store.reserve(1) {
+        Ok(()) => {}
+        Err(_) => return Err(Memory),
+    }
+    match deps.reserve(preds) {
+        Ok(()) => Ok(()),
+        Err(_) => Err(Memory),
+    }
+}
+
+impl<S: Store + Drop, L: Locks + Drop> ShardTx<S, L> {
+    /// Does what was planned and granted, which violates the writes of these. An `Err` changes nothing but room.
+    pub(crate) fn perform(
+        &mut self,
+        alloc: Global,
+        tx: TxId,
+        birth: Birth,
+        plan: &Plan,
+        violated: &[TxId],
+    ) -> Result<(), Memory>
+        requires write { CanWrite plan.now.write 1 (self.old.local).records }
+        requires covered { IsCovered plan.now.needs.items plan.now.insert plan.now.write }
+        requires work { may_work (stage_in self.old.local tx) ≡ true }
+        ensures ok { OnOk result (IsSameBut self.old (performed_by tx birth plan.now.needs.items plan.now.insert plan.now.write violated.now self.old.local) self.new) }
+        ensures err { OnErr result (IsSameBut self.old self.old.local self.new) }
+        ensures room { KeepsRoom self.old self.new }
+    {
+        if was_before(&self.parts, &self.buffer, tx) {
+            return Err(Memory);
+        }
+        match reserve_locks(alloc, &mut self.locks, tx, &plan.needs, plan.insert) {
+            Ok(()) => {}
+            Err(memory) => return Err(memory),
+        }
+        match reserve_rest(&mut self.store, &mut self.deps, violated.len()) {
+            Ok(()) => {}
+            Err(memory) => return Err(memory),
+        }
+        match reserve_log(&mut self.buffer, plan.write) {
+            Ok(()) => {}
+            Err(memory) => return Err(memory),
+        }
+        match enter_part(&mut self.parts, tx, birth) {
+            Ok(()) => {}
+            Err(memory) => return Err(memory),
+        }
+        take_locks(&mut self.locks, tx, birth, &plan.needs, plan.insert);
+        add_predecessors(&mut self.deps, tx, violated);
+        write_down(&mut self.store, &mut self.buffer, tx, plan.write);
+        Ok(())
+    }
+}
