@@ -27,8 +27,8 @@ use Rattle.shard_laws.proofs.LockRows.{holds, held_not_free}
 use Rattle.shard_laws.proofs.Asking.{holds_at, holds_by}
 use Rattle.law_base.proofs.Tables.{stage_in, is_pair}
 use Rattle.law_base.proofs.Commits.{CommitBefore, commit_durable, before_keeps, before_new, durable_keeps, durable_parts, durable_from, committed_append, uncommitted_append}
-use Rattle.shard_laws.proofs.Kept.{View, Past, Dep, Kept, Ended, moves, Open_at, Tidy}
-use Rattle.shard_laws.specs.OneShard.{is_clr_of, undone_in}
+use Rattle.shard_laws.proofs.Kept.{View, Past, Dep, Kept, Ended}
+use Rattle.order_laws.specs.Order.{moves, Open_at, Tidy, is_clr_of, undone_in}
 use Rattle.std.proofs.Common.{append-nil}
 
 -- ---- a record more

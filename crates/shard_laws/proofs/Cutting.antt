@@ -14,8 +14,8 @@ use Rattle.clv_base.proofs.SameNames.{or_left, or_right, tx_true, tx_self}
 use Rattle.law_base.proofs.Running.{top_value}
 use Rattle.law_base.proofs.Undoing.{standing_append}
 use Rattle.law_base.proofs.Commits.{CommitBefore, commit_durable, durable_parts, committed_keeps}
-use Rattle.shard_laws.proofs.Kept.{View, Past, Kept, moves, Open_at, Tidy}
-use Rattle.shard_laws.specs.OneShard.{is_clr_of, undone_in}
+use Rattle.shard_laws.proofs.Kept.{View, Past, Kept}
+use Rattle.order_laws.specs.Order.{moves, Open_at, Tidy, is_clr_of, undone_in}
 use Rattle.std.proofs.Common.{append-nil}
 use Rattle.std.specs.Prelude.{take, drop}
 use Rattle.std.proofs.lemmas.List.{take-append-drop}

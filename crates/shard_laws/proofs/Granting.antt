@@ -30,8 +30,8 @@ use Rattle.shard_laws.proofs.LockRows.{holds, Rows}
 use Rattle.shard_laws.proofs.Asking.{holds_at, holds_by}
 use Rattle.law_base.proofs.Tables.{stage_in, stage_by, is_pair}
 use Rattle.law_base.proofs.Commits.{CommitBefore, commit_durable, before_keeps, durable_keeps, committed_keeps, uncommitted_append, committed_from}
-use Rattle.shard_laws.proofs.Kept.{View, Past, place, StageFits, Belongs, Covers, Wrote, Dep, Known, Kept, Tidy}
-use Rattle.shard_laws.specs.OneShard.{undone_in}
+use Rattle.shard_laws.proofs.Kept.{View, Past, place, StageFits, Belongs, Covers, Wrote, Dep, Known, Kept}
+use Rattle.order_laws.specs.Order.{Tidy, undone_in}
 use Rattle.clv_base.specs.declared.ops.Op.{Op}
 use Rattle.clv_base.specs.declared.ops.Op.TheVariants.{Get, Put, Del, Scan}
 use Rattle.clv_base.specs.declared.modes.Need.{Need}

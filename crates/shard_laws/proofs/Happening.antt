@@ -1,5 +1,5 @@
 -- Each event of a shard keeps what it keeps.
-use Rattle.std.proofs.Common.{◌≡◌, ℕ, zero, suc, ◌+◌, ◌⊎◌, inl, inr, ⊎_elim, Bool, true, false, cond, not, ◌&&◌, ◌||◌, List, [], ◌∷◌, ◌++◌, map, length, Option, Some, None, ◌==◌, refl, sym, ap, subst, ◌∙◌, arith}
+use Rattle.std.proofs.Common.{◌≡◌, ℕ, zero, suc, ◌+◌, ◌<◌, ◌⊎◌, inl, inr, ⊎_elim, Bool, true, false, cond, not, ◌&&◌, ◌||◌, List, [], ◌∷◌, ◌++◌, map, length, Option, Some, None, ◌==◌, refl, sym, ap, subst, ◌∙◌, arith}
 use Rattle.std.specs.List.{AllByRecursion, filter}
 use Rattle.std.proofs.lemmas.Bool.{cases_Bool, both_ways, cond-true, cond-false, or_cases, false_from_ne_true}
 use Rattle.std.proofs.lemmas.List.Folds.{list_any-append}
@@ -30,7 +30,7 @@ use Rattle.law_base.proofs.Undoing.{standing_append}
 use Rattle.law_base.proofs.Tables.{stage_in, stage_by, is_pair, pair_in}
 use Rattle.law_base.proofs.Commits.{durable_committed, uncommitted_append}
 use Rattle.shard_laws.proofs.Kept.{View, Past, Known, Kept}
-use Rattle.shard_laws.specs.OneShard.{undone_in}
+use Rattle.order_laws.specs.Order.{undone_in}
 use Rattle.clv_base.specs.declared.ops.Op.{Op}
 use Rattle.clv_base.specs.declared.state.Request.{Request}
 use Rattle.clv_base.specs.declared.state.RequestState.{RequestState}
@@ -61,7 +61,7 @@ use Rattle.shard_laws.proofs.Closing.{keeps_close, keeps_asked, in_push, stage_c
 use Rattle.std.proofs.Common.{append-nil}
 use Rattle.shard_laws.proofs.Granting.{keeps_performed, MayStand, other_part}
 use Rattle.clv_base.specs.Needs.{writes_of, key_of}
-use Rattle.shard_laws.proofs.Sound.{Sound, Open, After, More_over, at_once, rolled, marked_sound, finish_sound, get_set, set_none, commit_here, commit_other, commit_asked, waiting_here, agreed_before, list_all_at}
+use Rattle.shard_laws.proofs.Sound.{AskedOrOld, Sound, Open, After, More_over, at_once, rolled, marked_sound, finish_sound, get_set, set_none, commit_here, commit_other, commit_asked, waiting_here, agreed_before, list_all_at}
 
 -- ---- the state after it
 
@@ -326,7 +326,7 @@ closed_sound all g s tx home one h act asks no_request no_vote = record {
       (λ ne. uncommitted_append s.local.log _ u (h.unvoted u v e (old u w)) (closing_open (wrote_in s.local.log tx) one tx home (undecided_of s.local tx) u ne))
       (cases_Bool (tx_same u tx));
   read = λ u v e f. let r = h.read u v e f in stage_left s.local.parts tx u (tx_ne tx u (λ q. active_gone (sym act ∙ ap (stage_of s.local) q ∙ r))) ∙ r;
-  asked = λ u e. ⊎_elim (λ t. ap (λ z. tx_in z g.asked) (tx_true u tx t) ∙ asks)
+  asked = λ u e. ⊎_elim (λ t. inl (ap (λ z. tx_in z g.asked) (tx_true u tx t) ∙ asks))
       (λ ne. ⊎_elim (λ c. h.asked u c) (λ c. absurd (both_ways _ (uncommitted_append s.local.log _ u c (closing_open (wrote_in s.local.log tx) one tx home (undecided_of s.local tx) u ne)) e)) (cases_Bool (committed_in s.local.log u)))
       (cases_Bool (tx_same u tx));
 }
@@ -338,7 +338,7 @@ closed_sound all g s tx home one h act asks no_request no_vote = record {
     active_gone e = absurd cc
 
 asks_sound : (all : List Item) (g : Past) (s : Shard) (tx : TxId) → Sound all g s → Sound all (record g { asked = g.asked ++ tx ∷ [] }) s
-asks_sound all g s tx h = record { kept = keeps_asked g (view_of s) tx h.kept; told = h.told; undecided = h.undecided; readers = h.readers; apart = h.apart; unvoted = h.unvoted; read = h.read; asked = λ u c. in_push g.asked tx u ∙ or_left _ _ (h.asked u c) }
+asks_sound all g s tx h = record { kept = keeps_asked g (view_of s) tx h.kept; told = h.told; undecided = h.undecided; readers = h.readers; apart = h.apart; unvoted = h.unvoted; read = h.read; asked = λ u c. ⊎_elim (λ a. inl (in_push g.asked tx u ∙ or_left _ _ a)) (λ l. inr l) (h.asked u c) }
 
 pub others_asked : (all : List Item) (g : Past) (s : Shard) (tx : TxId) → Sound all g s → Sound all (record g { asked = g.asked ++ tx ∷ [] }) s
 others_asked all g s tx h = asks_sound all g s tx h
@@ -381,8 +381,13 @@ asks_unseen tx (Some Active) = refl
 asks_unseen tx (Some Closed) = refl
 asks_unseen tx (Some (Gone d)) = refl
 
+-- a first request of this run is of one that is not committed
+new_here : (g : Past) (s : Shard) (tx : TxId) → MayAsk g.asked s tx → AskedOrOld g s.run tx → ⊥
+new_here g s tx may (inl a) = both_ways _ may.0 a
+new_here g s tx may (inr l) = let q = may.3 in omega (arith, l, q)
+
 request_stage : (all : List Item) (g : Past) (s : Shard) (tx : TxId) (touched : List (ℕ × ℕ)) (o : Option Stage) → Sound all g s → MayAsk g.asked s tx → stage_of s.local tx ≡ o → seen_fits s.local.epoch (epoch_in s.shard touched) ≡ true → Keeps_reply all g s (RequestEvent tx touched) (request_by_stage s tx touched o)
-request_stage all g s tx touched None h may e f = ends all g s (coordinate tx touched s) (RequestEvent tx touched) _ (refl, none_asks g s tx touched None true e f refl, refl) refl (at_once all g _ (coordinated all g s tx touched h (inl (false_from_ne_true _ (λ c. both_ways _ may.0 (h.asked tx c)))) may.1))
+request_stage all g s tx touched None h may e f = ends all g s (coordinate tx touched s) (RequestEvent tx touched) _ (refl, none_asks g s tx touched None true e f refl, refl) refl (at_once all g _ (coordinated all g s tx touched h (inl (false_from_ne_true _ (λ c. new_here g s tx may (h.asked tx c)))) may.1))
 request_stage all g s tx touched (Some Closed) h may e f = ends all g s s (RequestEvent tx touched) _ (refl, none_asks g s tx touched (Some Closed) true e f refl, refl) refl (at_once all g s h)
 request_stage all g s tx touched (Some (Gone None)) h may e f = ends all g s s (RequestEvent tx touched) _ (refl, none_asks g s tx touched (Some (Gone None)) true e f refl, refl) refl (at_once all g s h)
 request_stage all g s tx touched (Some (Gone (Some d))) h may e f = ends all g s s (RequestEvent tx touched) _ (refl, none_asks g s tx touched (Some (Gone (Some d))) true e f refl, refl) refl (at_once all g s h)

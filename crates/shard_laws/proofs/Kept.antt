@@ -20,7 +20,7 @@ use Rattle.clv_base.specs.Needs.{Records, value_at}
 use Rattle.law_base.proofs.Cells.{record_at}
 use Rattle.clv_base.specs.Folding.{IsRising}
 use Rattle.law_base.specs.Items.{Item, writes, meets, Runs, after, AllLater, Reaches, Clash, pile}
-use Rattle.shard_laws.specs.OneShard.{undone_in}
+use Rattle.order_laws.specs.Order.{undone_in, Tidy}
 pub use Rattle.shard_laws.specs.OneShard.{place}
 use Rattle.law_base.proofs.Running.{top_value}
 use Rattle.law_base.proofs.Undoing.{Chain}
@@ -90,22 +90,6 @@ Ended g v t = (commit_durable v.log v.durable t ≡ true) ⊎ Read_only g v t
 -- it is neither committed nor finished, and never will be
 abbrev pub Out : Past → View → TxId → Type 0
 Out g v t = (committed_in v.log t ≡ false) × (is_present (stage_in v.parts t) ≡ false) × (tx_in t g.over ≡ false)
-
--- ---- the order of the log
-
--- whose write a record makes or undoes
-abbrev pub moves : LogRecord → Option TxId
-moves (Update tx key before after) = Some tx
-moves (Clr tx undo_next key after) = Some tx
-moves _ = None
-
-abbrev pub Open_at : List LogRecord → Option TxId → Type 0
-Open_at before None = Unit {0}
-Open_at before (Some t) = committed_in before t ≡ false
-
-abbrev pub Tidy : List LogRecord → List LogRecord → Type 0
-Tidy before [] = Unit {0}
-Tidy before (r ∷ rs) = Open_at before (moves r) × Tidy (before ++ r ∷ []) rs
 
 pub record Kept (g : Past) (v : View) : Type 0 where
   -- the past

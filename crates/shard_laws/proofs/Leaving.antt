@@ -29,8 +29,8 @@ use Rattle.shard_laws.proofs.LockRows.{holds, Rows, rows_release, release_holds}
 use Rattle.shard_laws.proofs.Asking.{holds_at, holds_by}
 use Rattle.law_base.proofs.Tables.{stage_in, stage_by, is_pair, get_changed, without_pairs, pairs_stay}
 use Rattle.law_base.proofs.Commits.{commit_durable, before_keeps, before_first, durable_keeps, durable_committed, before_durable, committed_append, uncommitted_append, committed_from}
-use Rattle.shard_laws.proofs.Kept.{View, Past, Belongs, Dep, Known, Kept, Ended, moves, Open_at, Tidy}
-use Rattle.shard_laws.specs.OneShard.{undone_in}
+use Rattle.shard_laws.proofs.Kept.{View, Past, Belongs, Dep, Known, Kept, Ended}
+use Rattle.order_laws.specs.Order.{moves, Open_at, Tidy, undone_in}
 use Rattle.clv_base.specs.Undo.{value_before}
 use Rattle.law_base.proofs.Undoing.{reset}
 use Rattle.clv_base.specs.Undo.{newest_lsn}

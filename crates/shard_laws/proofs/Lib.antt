@@ -14,5 +14,6 @@ pub mod Cutting
 pub mod Serial
 pub mod Members
 pub mod Reviving
+pub mod Opening
 pub mod Histories
 pub mod Settled

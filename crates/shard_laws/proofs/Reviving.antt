@@ -22,8 +22,8 @@ use Rattle.law_base.specs.Undone.{stays_of}
 use Rattle.law_base.proofs.Undoing.{standing_append}
 use Rattle.law_base.proofs.Anchors.{Rising}
 use Rattle.law_base.proofs.Commits.{commit_durable, durable_from, committed_append}
-use Rattle.shard_laws.proofs.Kept.{Past, moves, Open_at, Tidy}
-use Rattle.shard_laws.specs.OneShard.{is_clr_of, undone_in}
+use Rattle.shard_laws.proofs.Kept.{Past}
+use Rattle.order_laws.specs.Order.{moves, Open_at, Tidy, is_clr_of, undone_in}
 use Rattle.std.proofs.Common.{T, nat_lt}
 use Rattle.std.specs.Prelude.{take, drop}
 use Rattle.std.proofs.lemmas.List.{take-append-drop}
@@ -67,13 +67,13 @@ Homes shard log = AllByRecursion (HomeIs shard) log
 abbrev Plain : List LogRecord → LogRecord → Type 0
 Plain log r = Open_at log (moves r) × ((t : TxId) → is_commit_of t r ≡ false) × ((t : TxId) → is_update_of t r ≡ false) × ((shard : ℕ) → HomeIs shard r) × ((t : TxId) → is_clr_of t r ≡ true → committed_in log t ≡ false)
 
-record Found (shard : ℕ) (cut log : List LogRecord) : Type 0 where
-  commits : (t : TxId) → committed_in log t ≡ committed_in cut t
-  same_kept : filter (of_kept (committed_in cut)) (standing log) ≡ filter (of_kept (committed_in cut)) (standing cut)
-  tidy : Tidy [] log
-  dead : (t : TxId) → undone_in log t ≡ true → committed_in cut t ≡ false
-  wrote : (t : TxId) → wrote_in log t ≡ wrote_in cut t
-  homes : Homes shard log
+pub record Found (shard : ℕ) (cut log : List LogRecord) : Type 0 where
+  pub commits : (t : TxId) → committed_in log t ≡ committed_in cut t
+  pub same_kept : filter (of_kept (committed_in cut)) (standing log) ≡ filter (of_kept (committed_in cut)) (standing cut)
+  pub tidy : Tidy [] log
+  pub dead : (t : TxId) → undone_in log t ≡ true → committed_in cut t ≡ false
+  pub wrote : (t : TxId) → wrote_in log t ≡ wrote_in cut t
+  pub homes : Homes shard log
 
 none_commit : (log : List LogRecord) (rs : List LogRecord) (t : TxId) → AllByRecursion (Plain log) rs → committed_in rs t ≡ false
 none_commit log [] t all = refl
@@ -139,7 +139,7 @@ all_take P (suc n) (x ∷ xs) all = (all.0, all_take P n xs all.1)
 
 -- ---- nothing is in doubt where each PREPARE is for this shard
 
-none_doubt : (log : List LogRecord) (shard : ℕ) (rs : List LogRecord) → Homes shard rs → in_doubt_from log shard rs [] ≡ []
+pub none_doubt : (log : List LogRecord) (shard : ℕ) (rs : List LogRecord) → Homes shard rs → in_doubt_from log shard rs [] ≡ []
 none_doubt log shard [] h = refl
 none_doubt log shard (Update tx k b a ∷ rs) h = none_doubt log shard rs h.1
 none_doubt log shard (Clr tx u k a ∷ rs) h = none_doubt log shard rs h.1
@@ -151,7 +151,7 @@ none_doubt log shard (Abort tx ∷ rs) h = none_doubt log shard rs h.1
 none_doubt log shard (End tx ∷ rs) h = none_doubt log shard rs h.1
 none_doubt log shard (Restart run epoch ∷ rs) h = none_doubt log shard rs h.1
 
-kept_committed : (shard : ℕ) (log : List LogRecord) (t : TxId) → Homes shard log → is_winner shard log t ≡ committed_in log t
+pub kept_committed : (shard : ℕ) (log : List LogRecord) (t : TxId) → Homes shard log → is_winner shard log t ≡ committed_in log t
 kept_committed shard log t h = ap (λ d. committed_in log t || tx_in t d) (none_doubt log shard log h) ∙ or_right_false _ false refl
 
 -- ---- the whole restart leaves the writes of the committed ones alone
@@ -185,16 +185,16 @@ standing_whole shard log run epoch h =
     stays_alike : (ws : List StandingUpdate) → AllByRecursion (λ w. not (tx_in w.tx (losers shard log)) ≡ committed_in log w.tx) ws → filter (stays_of (losers shard log)) ws ≡ filter (of_kept (committed_in log)) ws
     stays_alike ws all = filter_alike (λ t. not (tx_in t (losers shard log))) (committed_in log) ws all
 
-record Restarted (shard : ℕ) (cut log : List LogRecord) : Type 0 where
-  found : Found shard cut log
-  only_kept : standing log ≡ filter (of_kept (committed_in cut)) (standing cut)
+pub record Restarted (shard : ℕ) (cut log : List LogRecord) : Type 0 where
+  pub found : Found shard cut log
+  pub only_kept : standing log ≡ filter (of_kept (committed_in cut)) (standing cut)
 
 of_failed : (s : Shard) (cut found left : List LogRecord) → Found s.shard cut found → FailedRestarts s found left → Found s.shard cut left
 of_failed s cut found _ f (untouched) = f
 of_failed s cut found left f (failed_first n more) =
     of_failed s cut (found ++ take n (restart_records s.shard found s.run (next_epoch s found))) left (found_more s.shard cut found (take n (restart_records s.shard found s.run (next_epoch s found))) f (all_take (Plain found) n _ (plain_restart s.shard found s.run (next_epoch s found)))) more
 
-of_whole : (s : Shard) (cut found : List LogRecord) (epoch : ℕ) → Found s.shard cut found → Restarted s.shard cut (log_after_restart s.shard found s.run epoch)
+pub of_whole : (s : Shard) (cut found : List LogRecord) (epoch : ℕ) → Found s.shard cut found → Restarted s.shard cut (log_after_restart s.shard found s.run epoch)
 of_whole s cut found epoch f = record {
   found = found_more s.shard cut found (restart_records s.shard found s.run epoch) f (plain_restart s.shard found s.run epoch);
   only_kept = standing_whole s.shard found s.run epoch f.homes ∙ filter_alike (committed_in found) (committed_in cut) (standing found) (every (standing found)) ∙ f.same_kept;
@@ -238,7 +238,7 @@ found_cut all g s c h homes = record {
 
 -- ---- the records of a map
 
-get_records : (q : ℕ) (m : KeyMap) → value_at q (records_of m) ≡ map_get q m
+pub get_records : (q : ℕ) (m : KeyMap) → value_at q (records_of m) ≡ map_get q m
 get_records q [] = refl
 get_records q (e ∷ es) = at (q == e.0) (get_records q es) ∙ ap (λ b. cond b (Some e.1) (map_get q es)) (sym (unsigned_tied q e.0))
   where
@@ -266,11 +266,11 @@ above_records : (k : ℕ) (m : KeyMap) → T (below_all nat_cmp k m) → AllAbov
 above_records k [] h = tt
 above_records k (e ∷ es) h = (less_from k e.0 (t_first _ _ h), above_records k es (t_second (is_lt (nat_cmp k e.0)) _ h))
 
-rising_records : (m : KeyMap) → IsRising m → Rising (records_of m)
+pub rising_records : (m : KeyMap) → IsRising m → Rising (records_of m)
 rising_records [] h = tt
 rising_records (e ∷ es) h = (above_records e.0 es (t_first _ _ h), rising_records es (t_second (below_all nat_cmp e.0 es) _ h))
 
-no_ghosts : (log : List LogRecord) (rs : Records) → with_ghosts [] log rs ≡ rs
+pub no_ghosts : (log : List LogRecord) (rs : Records) → with_ghosts [] log rs ≡ rs
 no_ghosts [] rs = refl
 no_ghosts (Update tx k b a ∷ log) rs = no_ghosts log rs
 no_ghosts (Clr tx u k a ∷ log) rs = no_ghosts log rs
@@ -280,7 +280,7 @@ no_ghosts (Abort tx ∷ log) rs = no_ghosts log rs
 no_ghosts (End tx ∷ log) rs = no_ghosts log rs
 no_ghosts (Restart run e ∷ log) rs = no_ghosts log rs
 
-no_locks : (log : List LogRecord) → restored_locks [] log [] ≡ []
+pub no_locks : (log : List LogRecord) → restored_locks [] log [] ≡ []
 no_locks [] = refl
 no_locks (Update tx k b a ∷ log) = no_locks log
 no_locks (Clr tx u k a ∷ log) = no_locks log
@@ -292,7 +292,7 @@ no_locks (Restart run e ∷ log) = no_locks log
 
 -- ---- the requests of a restarted shard are committed
 
-abbrev IsCommitted : Option Request → Type 0
+abbrev pub IsCommitted : Option Request → Type 0
 IsCommitted None = Unit {0}
 IsCommitted (Some q) = (q.state ≡ Undecided → ⊥) × (q.state ≡ Finished → ⊥)
 
@@ -302,7 +302,7 @@ not_undecided ps e = absurd cc
 not_finished : (ps : List ℕ) → Committed ps ≡ Finished → ⊥
 not_finished ps e = absurd cc
 
-restored_committed : (rs : Table (List ℕ)) (t : TxId) → IsCommitted (tx_get t (restored_requests rs))
+pub restored_committed : (rs : Table (List ℕ)) (t : TxId) → IsCommitted (tx_get t (restored_requests rs))
 restored_committed [] t = tt
 restored_committed (r ∷ rs) t = at (tx_same t r.0) (restored_committed rs t)
   where
@@ -312,7 +312,7 @@ restored_committed (r ∷ rs) t = at (tx_same t r.0) (restored_committed rs t)
 
 -- ---- whole logs are durable
 
-all_durable : (log : List LogRecord) (t : TxId) → committed_in log t ≡ true → commit_durable log (length log) t ≡ true
+pub all_durable : (log : List LogRecord) (t : TxId) → committed_in log t ≡ true → commit_durable log (length log) t ≡ true
 all_durable log t e = let k = place_some 0 (is_commit_of t) log e in let l = place_less 0 (is_commit_of t) log k.0 k.1 in durable_from log (length log) t k.0 k.1 (omega arith)
 
 later_from : (P : Item → Type 0) (R : Item → Item → Type 0) (xs : List Item) → ((x y : Item) → P x → R x y) → AllByRecursion P xs → AllLater R xs
@@ -331,7 +331,7 @@ none_stage st e = absurd cc
 none_number : (n : ℕ) → ◌≡◌ {A = Option ℕ} None (Some n) → ⊥
 none_number n e = absurd cc
 
-filter_twice : (f : TxId → Bool) (ws : List StandingUpdate) → filter (of_kept f) (filter (of_kept f) ws) ≡ filter (of_kept f) ws
+pub filter_twice : (f : TxId → Bool) (ws : List StandingUpdate) → filter (of_kept f) (filter (of_kept f) ws) ≡ filter (of_kept f) ws
 filter_twice f [] = refl
 filter_twice f (w ∷ ws) = at (f w.tx) refl (filter_twice f ws)
   where
@@ -339,11 +339,11 @@ filter_twice f (w ∷ ws) = at (f w.tx) refl (filter_twice f ws)
     at true e ih = cond-true (f w.tx) _ _ e ∙ ap (λ l. w ∷ l) ih
     at false e ih = ih
 
-whole_log : (cut : List LogRecord) (rs : List LogRecord) → ((t : TxId) → undone_in rs t ≡ true → committed_in cut t ≡ false) → KeptWhole (committed_in cut) rs
+pub whole_log : (cut : List LogRecord) (rs : List LogRecord) → ((t : TxId) → undone_in rs t ≡ true → committed_in cut t ≡ false) → KeptWhole (committed_in cut) rs
 whole_log cut [] h = tt
 whole_log cut (r ∷ rs) h = (λ t e. h t (or_left _ _ e), whole_log cut rs (λ t e. h t (or_right (is_clr_of t r) _ e)))
 
-fold_alike : (f k : TxId → Bool) (log : List LogRecord) (m : KeyMap) → ((t : TxId) → f t ≡ k t) → fold_updates f log m ≡ fold_updates k log m
+pub fold_alike : (f k : TxId → Bool) (log : List LogRecord) (m : KeyMap) → ((t : TxId) → f t ≡ k t) → fold_updates f log m ≡ fold_updates k log m
 fold_alike f k [] m e = refl
 fold_alike f k (Update tx key b a ∷ rs) m e = ap (λ c. fold_updates f rs (cond c (map_set key a m) m)) (e tx) ∙ fold_alike f k rs (cond (k tx) (map_set key a m) m) e
 fold_alike f k (Clr tx u key a ∷ rs) m e = fold_alike f k rs m e
@@ -396,7 +396,7 @@ write_some None k e = absurd (both_ways false refl e)
 write_some (Some w) k e = (w, refl)
 
 -- the state after a restart, with what is in doubt, its records and its locks given
-state_with : Shard → ℕ → List LogRecord → List TxId → Records → Locks → Shard
+unfoldable pub state_with : Shard → ℕ → List LogRecord → List TxId → Records → Locks → Shard
 state_with s epoch log doubt rs ls = record {
   shard = s.shard;
   run = s.run;

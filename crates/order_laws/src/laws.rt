@@ -1,0 +1,23 @@
+// Laws of a log in order.
+
+ghost use Rattle.order_laws.specs.Order.{NothingAfterCommit, UndoneAreUncommitted, CommittedLieOnCommitted, RunsAreThoseOfRestarts};
+
+/// In a log in order no UPDATE and no CLR of a transaction stands behind its COMMIT.
+pub fn nothing_after_commit()
+    ensures { NothingAfterCommit }
+{}
+
+/// No transaction is undone and committed.
+pub fn undone_are_uncommitted()
+    ensures { UndoneAreUncommitted }
+{}
+
+/// Below a committed transaction's standing UPDATE those of its key are of committed ones.
+pub fn committed_lie_on_committed()
+    ensures { CommittedLieOnCommitted }
+{}
+
+/// Each record's transaction is of a run that a RESTART of the log names, or of an earlier one.
+pub fn runs_are_those_of_restarts()
+    ensures { RunsAreThoseOfRestarts }
+{}
