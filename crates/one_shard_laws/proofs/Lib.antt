@@ -5,6 +5,7 @@ pub mod Dropping
 pub mod Naming
 pub mod Requesting
 pub mod Leading
+pub mod Opening
 pub mod Following
 pub mod Knowing
 pub mod Replaying

@@ -393,7 +393,7 @@ aborts_from : (A : TxId → Type 0) (ts : List TxId) → AllByRecursion A ts →
 aborts_from A [] a = tt
 aborts_from A (t ∷ ts) a = (a.0, aborts_from A ts a.1)
 
-restart_all : (A : TxId → Type 0) (shard : ℕ) (log : List LogRecord) (run epoch : ℕ) → AllByRecursion (RecordIs A) log → AllByRecursion (RecordIs A) (restart_records shard log run epoch)
+pub restart_all : (A : TxId → Type 0) (shard : ℕ) (log : List LogRecord) (run epoch : ℕ) → AllByRecursion (RecordIs A) log → AllByRecursion (RecordIs A) (restart_records shard log run epoch)
 restart_all A shard log run epoch a =
     let ls = filter_all_of A _ (writers (standing log)) (all_from A (writers (standing log)) (in_writers A (standing log) (standing_of A log a))) in
     push_records A (undo_records shard log) (RestartRecord run epoch ∷ [])

@@ -1,10 +1,9 @@
 -- What one shard keeps.
-use Rattle.std.proofs.Common.{◌≡◌, ℕ, ◌≤◌, ◌<◌, ◌⊎◌, Bool, true, false, List, [], ◌∷◌, ◌++◌, Option, Some, None}
+use Rattle.std.proofs.Common.{◌≡◌, ℕ, ◌≤◌, ◌<◌, ◌⊎◌, Bool, true, false, List, [], Option, Some, None}
 use Rattle.std.specs.List.{AllByRecursion}
 use Rattle.clv_base.specs.declared.names.TxId.{TxId}
 use Rattle.clv_base.specs.declared.names.Birth.{Birth}
 use Rattle.clv_base.specs.declared.logs.LogRecord.{LogRecord}
-use Rattle.clv_base.specs.declared.logs.LogRecord.TheVariants.{Update, Clr}
 use Rattle.clv_base.specs.declared.modes.Part.TheVariants.{S, X}
 use Rattle.clv_base.specs.declared.modes.Anchor.TheVariants.{At}
 use Rattle.clv_base.specs.declared.state.Stage.{Stage}
@@ -19,7 +18,7 @@ use Rattle.clv_base.specs.State.{is_present}
 use Rattle.clv_base.specs.Needs.{Records, value_at}
 use Rattle.law_base.proofs.Cells.{record_at}
 use Rattle.clv_base.specs.Folding.{IsRising}
-use Rattle.law_base.specs.Items.{Item, writes, meets, Runs, after, AllLater, Reaches, Clash, pile}
+use Rattle.law_base.specs.Items.{Item, writes, meets, Runs, AllLater, Reaches, Clash, pile}
 use Rattle.order_laws.specs.Order.{undone_in, Tidy}
 pub use Rattle.shard_laws.specs.OneShard.{place}
 use Rattle.law_base.proofs.Running.{top_value}
