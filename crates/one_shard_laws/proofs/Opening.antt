@@ -1,5 +1,5 @@
 -- A log of one shard that may be opened is one from which the shard serves with nothing in doubt.
-use Rattle.std.proofs.Common.{◌≡◌, inr, refl, sym, ap, subst, ◌∙◌, ℕ, ◌<◌, true, false, Bool, List, [], ◌∷◌, ◌++◌, Option, Some, None, is_none, ◌&&◌, ◌||◌, ◌==◌, nat_lt, arith, eq-eqb}
+use Rattle.std.proofs.Common.{◌≡◌, inr, refl, sym, ◌∙◌, ℕ, ◌<◌, true, false, List, [], ◌∷◌, Option, Some, None, is_none, ◌==◌, nat_lt, arith, eq-eqb}
 use Rattle.std.specs.List.{AllByRecursion, list_all}
 use Rattle.std.proofs.lemmas.Bool.{both_ways, and_parts, ltb-true}
 use Rattle.clv_base.specs.declared.names.TxId.{TxId}
@@ -11,9 +11,9 @@ use Rattle.clv_base.specs.FileRules.{passes_file_rules, log_passes, may_open}
 use Rattle.clv_base.specs.Restarts.{greatest_run, run_after, restart_records, log_after_restart, opened}
 use Rattle.clv_base.proofs.SameNames.{or_left}
 use Rattle.order_laws.specs.Order.{RunFits}
-use Rattle.order_laws.proofs.InOrder.{OtherParts, Order, in_order}
+use Rattle.order_laws.proofs.InOrder.{OtherParts, in_order}
 use Rattle.shard_laws.specs.OneShard.{HomeIs, MayServe}
-use Rattle.one_shard_laws.proofs.Owning.{RecordIs, Owned, push_records}
+use Rattle.one_shard_laws.proofs.Owning.{RecordIs, push_records}
 use Rattle.one_shard_laws.proofs.OwningEvents.{restart_all, owned_state}
 use Rattle.one_shard_laws.proofs.Leading.{Did, OfHistory, Requested, DidNow, ToldAborted, Knows}
 

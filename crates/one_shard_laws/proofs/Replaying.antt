@@ -8,7 +8,6 @@ use Rattle.clv_base.specs.declared.names.Birth.{Birth}
 use Rattle.clv_base.specs.declared.ops.Op.{Op}
 use Rattle.clv_base.specs.declared.ops.Answer.{Answer}
 use Rattle.clv_base.specs.declared.logs.LogRecord.{LogRecord}
-use Rattle.clv_base.specs.declared.logs.LogRecord.TheVariants.{Update, Clr, Prepare, Commit, Abort, End, Restart as RestartRecord}
 use Rattle.clv_base.specs.declared.messages.Message.{Message}
 use Rattle.clv_base.specs.declared.events.Event.{Event}
 use Rattle.clv_base.specs.declared.events.Event.TheVariants.{Op as OpEvent, Look, Deliver, FlushIn, Restart}
@@ -22,13 +21,11 @@ use Rattle.clv_base.specs.LogRules.{log_of}
 use Rattle.clv_base.specs.Journals.{History, journal_of, event_state, up_to_restart}
 use Rattle.clv_base.specs.History.{Legal, WasSent, MessagesSent, is_acknowledgement, acknowledged_in, answered_op, ops_in, request_of}
 use Rattle.law_base.specs.Items.{Item}
-use Rattle.law_base.proofs.Changed.{none_some}
-use Rattle.shard_laws.specs.OneShard.{items_of, with_one, new_item, new_asked, new_met, new_told, HomeIs, has_met, Leads, opens, happens, lands, revives}
+use Rattle.shard_laws.specs.OneShard.{items_of, with_one, new_item, new_asked, new_met, new_told, has_met, Leads, opens, happens, lands, revives}
 use Rattle.history_laws.proofs.Stepping.{Happens}
 use Rattle.history_laws.proofs.Entering.{Makes, by_event, by_flush, by_failure, by_restart, makes}
 use Rattle.history_laws.proofs.Merging.{Placed, Before, InOrder, in_order, Among, is_among, among_left, among_right, among_all, among_append, precedes_before, front_precedes, before_then, not_before_itself}
 use Rattle.history_laws.proofs.Worlds.{state_at, split_at, sent_at}
-use Rattle.one_shard_laws.proofs.Owning.{RecordIs}
 use Rattle.one_shard_laws.proofs.Leading.{OfHistory, requests_in, Fits, Knows, Next, may_happen}
 use Rattle.std.proofs.Common.{⊎_elim, ◌&&◌}
 use Rattle.std.proofs.lemmas.List.Folds.{list_any-append}
