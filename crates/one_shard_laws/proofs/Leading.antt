@@ -20,7 +20,7 @@ use Rattle.clv_base.specs.declared.events.Outcome.{Outcome}
 use Rattle.clv_base.specs.declared.events.Outcome.TheVariants.{Answered, Acknowledged, Aborted, Sent}
 use Rattle.clv_base.specs.declared.events.Entry.{Entry}
 use Rattle.clv_base.specs.Orders.{tx_same, tx_in, tx_get}
-use Rattle.clv_base.specs.Logs.{committed_in}
+use Rattle.clv_base.specs.Logs.{committed_in, prepared_in}
 use Rattle.clv_base.specs.Locks.{violated}
 use Rattle.clv_base.specs.Needs.{needs_of}
 use Rattle.clv_base.specs.State.{Shard, is_present}
@@ -328,6 +328,16 @@ clr_all A (Abort u ∷ rs) t a e = clr_all A rs t a.1 e
 clr_all A (End u ∷ rs) t a e = clr_all A rs t a.1 e
 clr_all A (RestartRecord run epoch ∷ rs) t a e = clr_all A rs t a.1 e
 
+prepare_all : (A : TxId → Type 0) (rs : List LogRecord) (t : TxId) → AllByRecursion (RecordIs A) rs → prepared_in rs t ≡ true → A t
+prepare_all A [] t a e = absurd (both_ways false refl e)
+prepare_all A (Prepare u home ps ∷ rs) t a e = ⊎_elim (λ s. subst A (sym (tx_true t u s)) (a.0).0) (λ s. prepare_all A rs t a.1 s) (or_cases (tx_same t u) (prepared_in rs t) e)
+prepare_all A (Update u key before after ∷ rs) t a e = prepare_all A rs t a.1 e
+prepare_all A (Clr u next key after ∷ rs) t a e = prepare_all A rs t a.1 e
+prepare_all A (Commit u parts ∷ rs) t a e = prepare_all A rs t a.1 e
+prepare_all A (Abort u ∷ rs) t a e = prepare_all A rs t a.1 e
+prepare_all A (End u ∷ rs) t a e = prepare_all A rs t a.1 e
+prepare_all A (RestartRecord run epoch ∷ rs) t a e = prepare_all A rs t a.1 e
+
 no_map : {X Y : Type 0} (f : X → Y) (xs : List X) → [] ≡ map f xs → xs ≡ []
 no_map f [] e = refl
 no_map f (x ∷ xs) e = absurd cc
@@ -353,6 +363,7 @@ may_touch before after h pre x s all asked told met n k f t birth nth seen op e 
             false_from_ne_true _ (λ c. no_old none (clr_all (OfHistory (run_after before) pre) s.local.log t (k.owned).log c)),
             no_map (λ y. (y.op, y.answer)) (items_of t all) (sym (none_done t pre (λ y p i w. none (done y p i w))) ∙ f.items t),
             (λ p m. none (f.met_did t p m)),
+            false_from_ne_true _ (λ c. no_old none (prepare_all (OfHistory (run_after before) pre) s.local.log t (k.owned).log c)),
           );
       same_birth = λ w g.
           let d = (rows_get (λ r. PartIs (Did pre s.local.epoch) (Requested pre) r.0 r.1) t w s.local.parts (k.owned).parts g).0 in

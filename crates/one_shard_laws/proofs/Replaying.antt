@@ -21,11 +21,13 @@ use Rattle.clv_base.specs.LogRules.{log_of}
 use Rattle.clv_base.specs.Journals.{History, journal_of, event_state, up_to_restart}
 use Rattle.clv_base.specs.History.{Legal, WasSent, MessagesSent, is_acknowledgement, acknowledged_in, answered_op, ops_in, request_of}
 use Rattle.law_base.specs.Items.{Item}
-use Rattle.shard_laws.specs.OneShard.{items_of, with_one, new_item, new_asked, new_met, new_told, has_met, Leads, opens, happens, lands, revives}
+use Rattle.shard_laws.specs.OneShard.{StillHere, items_of, with_one, new_item, new_asked, new_met, new_told, has_met, Leads, opens, happens, lands, revives}
 use Rattle.history_laws.proofs.Stepping.{Happens}
 use Rattle.history_laws.proofs.Entering.{Makes, by_event, by_flush, by_failure, by_restart, makes}
 use Rattle.history_laws.proofs.Merging.{Placed, Before, InOrder, in_order, Among, is_among, among_left, among_right, among_all, among_append, precedes_before, front_precedes, before_then, not_before_itself}
 use Rattle.history_laws.proofs.Worlds.{state_at, split_at, sent_at}
+use Rattle.one_shard_laws.proofs.Owning.{RecordIs}
+use Rattle.one_shard_laws.proofs.OwningEvents.{no_doubt, take_all_of}
 use Rattle.one_shard_laws.proofs.Leading.{OfHistory, requests_in, Fits, Knows, Next, may_happen}
 use Rattle.std.proofs.Common.{⊎_elim, ◌&&◌}
 use Rattle.std.proofs.lemmas.List.Folds.{list_any-append}
@@ -48,7 +50,7 @@ use Rattle.history_laws.specs.Continuing.{serial_left}
 use Rattle.history_laws.proofs.Durability.{fronts_entries, opened_counted, Counted}
 use Rattle.history_laws.proofs.Worlds.{in_a_shard}
 use Rattle.one_shard_laws.proofs.Leading.{told_pair}
-use Rattle.one_shard_laws.proofs.Opening.{all_homes, may_serve, knows_opened}
+use Rattle.one_shard_laws.proofs.Opening.{may_serve, knows_opened}
 use Rattle.one_shard_laws.proofs.Following.{fits_event, fits_plain, IsPlain}
 use Rattle.one_shard_laws.proofs.Knowing.{Silent, knows_event, knows_flush, knows_down, knows_restart}
 use Rattle.one_shard_laws.specs.Replaying.{Replays, MembersReplay}
@@ -168,6 +170,12 @@ silent_restart x n e f =
     send_is : (m : Message) → Up n ≡ Sent m → ⊥
     send_is m q = absurd cc
 
+-- a shard that is alone has nothing in doubt
+nothing_in_doubt : (A : TxId → Type 0) (s : Shard) (kept : Bool) → s.shard ≡ 0 → AllByRecursion (RecordIs A) s.local.log → StillHere s (log_left s kept)
+nothing_in_doubt A s kept e a t i =
+    let none = no_doubt A (log_left s kept) s.shard (log_left s kept) [] e (take_all_of (RecordIs A) (cond kept (unwrap_or s.flight s.durable) s.durable) s.local.log a) in
+    absurd (both_ways false refl (subst (λ l. tx_in t l ≡ true) none i))
+
 written_as : (x : Entry) (e : Event) (o : Outcome) (t : Shard) (P : Shard → Type 0) → x.event ≡ e → x.outcome ≡ o → P (with_entry x.stamp x.walker e o t) → P (with_entry x.stamp x.walker x.event x.outcome t)
 written_as x e o t P p q k = subst (λ z. P (with_entry x.stamp x.walker z x.outcome t)) (sym p) (subst (λ z. P (with_entry x.stamp x.walker e z t)) (sym q) k)
 
@@ -227,7 +235,7 @@ made_at before after h pre x log s _ z n a d (by_restart epoch kept u r) p q =
       told = a.told;
       met = a.met;
       leads = written_as x Restart (Up epoch) (revived s epoch found) (Leads 0 (run_after (before ∷ [])) before a.all a.asked a.told a.met) p q
-          (revives kept epoch found x.stamp x.walker a.leads u (all_homes (OfHistory (run_after (before ∷ [])) pre) s.shard s.local.log ((a.knows).owned).shard ((a.knows).owned).log) r);
+          (revives kept epoch found x.stamp x.walker a.leads u (nothing_in_doubt (OfHistory (run_after (before ∷ [])) pre) s kept ((a.knows).owned).shard ((a.knows).owned).log) r);
       fits = fits_plain pre x a.all a.asked a.told a.met (plain_restart x p) a.fits;
       knows = knows_restart (run_after (before ∷ [])) pre x s kept epoch found (silent_restart x epoch p q) a.knows r;
       known_met = met_plain before log pre x s a.met z (λ u. ap (λ w. got_predecessors s u w x.outcome) p) a.known_met;

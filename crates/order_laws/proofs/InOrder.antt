@@ -5,14 +5,14 @@ use Rattle.std.specs.List.{AllByRecursion}
 use Rattle.std.proofs.lemmas.Bool.{both_ways, not-true, false_from_ne_true}
 use Rattle.clv_base.specs.declared.names.TxId.{TxId}
 use Rattle.clv_base.specs.declared.logs.LogRecord.{LogRecord}
-use Rattle.clv_base.specs.declared.logs.LogRecord.TheVariants.{Update, Clr, Commit, Abort}
+use Rattle.clv_base.specs.declared.logs.LogRecord.TheVariants.{Update, Clr, Prepare, Commit, Abort}
 use Rattle.clv_base.specs.Orders.{nat_in}
 use Rattle.clv_base.specs.Logs.{standing, standing_after, committed_in, aborted_in, is_commit_of, is_abort_of}
 use Rattle.clv_base.specs.LogRules.{may_follow, disorder_from, disorder}
 use Rattle.clv_base.specs.Restarts.{greatest_run}
 use Rattle.clv_base.proofs.SameNames.{tx_true}
 use Rattle.law_base.proofs.Undoing.{standing_append}
-use Rattle.order_laws.specs.Order.{is_clr_of, undone_in, moves, Open_at, Tidy, RunFits, NothingAfterCommit, UndoneAreUncommitted, CommittedLieOnCommitted, RunsAreThoseOfRestarts}
+use Rattle.order_laws.specs.Order.{is_clr_of, undone_in, moves, Open_at, Tidy, Unprepared, Sealed, RunFits, NothingAfterCommit, NothingAfterPrepare, UndoneAreUncommitted, CommittedLieOnCommitted, RunsAreThoseOfRestarts}
 use Rattle.order_laws.proofs.Records.{front, last, push_cases, push_left, push_false}
 use Rattle.order_laws.proofs.Runs.{runs_step}
 use Rattle.order_laws.proofs.Writes.{Writes, writes_step}
@@ -24,6 +24,7 @@ OtherParts shard _ = ⊤
 
 pub record Order (shard : ℕ) (log : List LogRecord) : Type 0 where
   pub tidy : Tidy [] log
+  pub sealed : Sealed [] log
   pub apart : (t : TxId) → committed_in log t ≡ true → aborted_in log t ≡ false
   pub undone : (t : TxId) → undone_in log t ≡ true → aborted_in log t ≡ true
   pub writes : Writes (committed_in log) (length log) (standing log)
@@ -33,6 +34,15 @@ pub record Order (shard : ℕ) (log : List LogRecord) : Type 0 where
 tidy_push : (before log : List LogRecord) (r : LogRecord) → Tidy before log → Open_at (before ++ log) (moves r) → Tidy before (log ++ r ∷ [])
 tidy_push before [] r t o = (subst (λ l. Open_at l (moves r)) (append-nil before) o, tt)
 tidy_push before (x ∷ xs) r t o = (t.0, tidy_push (before ++ x ∷ []) xs r t.1 (subst (λ l. Open_at l (moves r)) (sym (append_assoc before (x ∷ []) xs)) o))
+
+sealed_push : (before log : List LogRecord) (r : LogRecord) → Sealed before log → Unprepared (before ++ log) r → Sealed before (log ++ r ∷ [])
+sealed_push before [] r t o = (subst (λ l. Unprepared l r) (append-nil before) o, tt)
+sealed_push before (x ∷ xs) r t o = (t.0, sealed_push (before ++ x ∷ []) xs r t.1 (subst (λ l. Unprepared l r) (sym (append_assoc before (x ∷ []) xs)) o))
+
+unprepared_step : (shard : ℕ) (log : List LogRecord) (r : LogRecord) → may_follow shard log r ≡ true → Unprepared log r
+unprepared_step shard log (Update tx key before after) m = not-true _ (last _ _ (front _ _ (front _ _ (front _ _ (front _ _ (front _ _ (front _ _ m)))))))
+unprepared_step shard log (Prepare tx home ps) m = not-true _ (last _ _ (front _ _ (front _ _ (front _ _ (front _ _ m)))))
+unprepared_step shard log _ m = tt
 
 open_step : (shard : ℕ) (log : List LogRecord) (r : LogRecord) → Order shard log → may_follow shard log r ≡ true → Open_at log (moves r)
 open_step shard log (Update tx key before after) h m = not-true _ (last _ _ (front _ _ (front _ _ (front _ _ (front _ _ (front _ _ m))))))
@@ -71,6 +81,7 @@ order_push : (shard : ℕ) (log : List LogRecord) (r : LogRecord) → Order shar
 order_push shard log r h m =
     record {
       tidy = tidy_push [] log r h.tidy (open_step shard log r h m);
+      sealed = sealed_push [] log r h.sealed (unprepared_step shard log r m);
       apart = λ t c. ⊎_elim (λ old. push_false (is_abort_of t) log r (h.apart t old) (no_abort shard log r t m old)) (λ new. let p = commit_new shard log r t m new in push_false (is_abort_of t) log r p.0 p.1)
           (push_cases (is_commit_of t) log r c);
       undone = λ t u. push_left (is_abort_of t) log r (⊎_elim (λ old. h.undone t old) (λ new. clr_new shard log r t m new) (push_cases (is_clr_of t) log r u));
@@ -99,6 +110,7 @@ in_order shard log d =
     order_from shard 0 [] log d
     (record {
       tidy = tt;
+      sealed = tt;
       apart = λ t c. absurd (both_ways false refl c);
       undone = λ t u. absurd (both_ways false refl u);
       writes = record { chain = tt; falls = tt; low = tt; lie = tt };
@@ -111,6 +123,9 @@ undone_open shard log t h u = false_from_ne_true _ (λ c. both_ways _ (h.apart t
 
 pub tidy_in_order : NothingAfterCommit
 tidy_in_order shard log d = (in_order shard log d).tidy
+
+pub sealed_in_order : NothingAfterPrepare
+sealed_in_order shard log d = (in_order shard log d).sealed
 
 pub undone_uncommitted : UndoneAreUncommitted
 undone_uncommitted shard log t d u = undone_open shard log t (in_order shard log d) u

@@ -3,9 +3,9 @@ use Rattle.std.specs.Prelude.{◌≡◌, ⊤, ◌≤◌, ℕ, Bool, true, false,
 use Rattle.std.specs.List.{AllByRecursion, list_any}
 use Rattle.clv_base.specs.declared.names.TxId.{TxId}
 use Rattle.clv_base.specs.declared.logs.LogRecord.{LogRecord}
-use Rattle.clv_base.specs.declared.logs.LogRecord.TheVariants.{Update, Clr}
+use Rattle.clv_base.specs.declared.logs.LogRecord.TheVariants.{Update, Clr, Prepare}
 use Rattle.clv_base.specs.Orders.{tx_same}
-use Rattle.clv_base.specs.Logs.{StandingUpdate, standing, committed_in, own_tx}
+use Rattle.clv_base.specs.Logs.{StandingUpdate, standing, committed_in, prepared_in, own_tx}
 use Rattle.clv_base.specs.LogRules.{disorder}
 use Rattle.clv_base.specs.Restarts.{greatest_run}
 
@@ -32,6 +32,17 @@ abbrev pub Tidy : List LogRecord → List LogRecord → Type 0
 Tidy before [] = ⊤
 Tidy before (r ∷ rs) = Open_at before (moves r) × Tidy (before ++ r ∷ []) rs
 
+-- whether an UPDATE's or a PREPARE's transaction has no PREPARE yet
+abbrev pub Unprepared : List LogRecord → LogRecord → Type 0
+Unprepared before (Update tx key left right) = prepared_in before tx ≡ false
+Unprepared before (Prepare tx home predecessors) = prepared_in before tx ≡ false
+Unprepared before _ = ⊤
+
+-- behind the first records no UPDATE and no PREPARE is of a transaction whose PREPARE stands before it
+abbrev pub Sealed : List LogRecord → List LogRecord → Type 0
+Sealed before [] = ⊤
+Sealed before (r ∷ rs) = Unprepared before r × Sealed (before ++ r ∷ []) rs
+
 -- in writes, the newest first: under a write of one of these, all of its key are of these
 abbrev pub LieOnThese : (TxId → Bool) → List StandingUpdate → Type 0
 LieOnThese these [] = ⊤
@@ -49,6 +60,9 @@ RunFits run r = OfRun run (own_tx r)
 
 abbrev pub NothingAfterCommit : Type 0
 NothingAfterCommit = (shard : ℕ) (log : List LogRecord) → disorder shard log ≡ None → Tidy [] log
+
+abbrev pub NothingAfterPrepare : Type 0
+NothingAfterPrepare = (shard : ℕ) (log : List LogRecord) → disorder shard log ≡ None → Sealed [] log
 
 abbrev pub UndoneAreUncommitted : Type 0
 UndoneAreUncommitted = (shard : ℕ) (log : List LogRecord) (t : TxId) → disorder shard log ≡ None → undone_in log t ≡ true → committed_in log t ≡ false

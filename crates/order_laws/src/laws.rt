@@ -1,10 +1,15 @@
 // Laws of a log in order.
 
-ghost use Rattle.order_laws.specs.Order.{NothingAfterCommit, UndoneAreUncommitted, CommittedLieOnCommitted, RunsAreThoseOfRestarts};
+ghost use Rattle.order_laws.specs.Order.{NothingAfterCommit, NothingAfterPrepare, UndoneAreUncommitted, CommittedLieOnCommitted, RunsAreThoseOfRestarts};
 
 /// In a log in order no UPDATE and no CLR of a transaction stands behind its COMMIT.
 pub fn nothing_after_commit()
     ensures { NothingAfterCommit }
+{}
+
+/// And no UPDATE and no second PREPARE stands behind its PREPARE.
+pub fn nothing_after_prepare()
+    ensures { NothingAfterPrepare }
 {}
 
 /// No transaction is undone and committed.

@@ -81,7 +81,7 @@ without_case : (keep : TxId → Bool) (t : TxId) (w : StandingUpdate) (ws : List
 without_case keep t w ws true e out ih = sym (cond-false (keep w.tx) (w ∷ filter (of_kept keep) ws) (filter (of_kept keep) ws) (subst (λ z. keep z ≡ false) (tx_true t w.tx e) out))
 without_case keep t w ws false e out ih = ap (λ l. cond (keep w.tx) (w ∷ l) l) ih
 
-without_other : (keep : TxId → Bool) (t : TxId) (ws : List StandingUpdate) → keep t ≡ false → filter (of_kept keep) (without_newest t ws) ≡ filter (of_kept keep) ws
+pub without_other : (keep : TxId → Bool) (t : TxId) (ws : List StandingUpdate) → keep t ≡ false → filter (of_kept keep) (without_newest t ws) ≡ filter (of_kept keep) ws
 without_other keep t [] out = refl
 without_other keep t (w ∷ ws) out = without_case keep t w ws (tx_same t w.tx) refl out (without_other keep t ws out)
 

@@ -28,6 +28,7 @@ use Rattle.shard_laws.proofs.LockRows.{holds, Rows}
 use Rattle.shard_laws.proofs.Asking.{holds_at}
 use Rattle.law_base.proofs.Tables.{stage_in, is_pair}
 use Rattle.law_base.proofs.Commits.{CommitBefore, commit_durable}
+use Rattle.shard_laws.proofs.Prepared.{Prepared}
 
 -- the parts of a shard's state that count
 pub record View : Type 0 where
@@ -114,6 +115,7 @@ pub record Kept (g : Past) (v : View) : Type 0 where
   -- who is undone is never committed, and nothing is written or undone after a COMMIT
   pub dead : (t : TxId) → undone_in v.log t ≡ true → (committed_in v.log t ≡ false) × (stage_in v.parts t ≡ Some Active → ⊥) × (stage_in v.parts t ≡ Some Closed → ⊥)
   pub tidy : Tidy [] v.log
+  pub prepared : Prepared g.items g.met v.parts v.log
   pub doomed : (t d : TxId) → stage_in v.parts t ≡ Some (Gone (Some d)) → committed_in v.log t ≡ false
   -- pairs
   pub successors : (t p : TxId) → is_pair v.pairs t p ≡ true → is_present (stage_in v.parts t) ≡ true

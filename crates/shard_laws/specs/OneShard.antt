@@ -16,11 +16,11 @@ use Rattle.clv_base.specs.declared.events.Outcome.{Outcome}
 use Rattle.clv_base.specs.declared.events.Outcome.TheVariants.{Answered, Acknowledged, Up}
 use Rattle.clv_base.specs.Orders.{tx_same, tx_in, tx_get}
 use Rattle.clv_base.specs.Maps.{replay_map, replay_answers}
-use Rattle.clv_base.specs.Logs.{committed_in, wrote_in, stands}
+use Rattle.clv_base.specs.Logs.{committed_in, prepared_in, wrote_in, in_doubt, stands}
 use Rattle.clv_base.specs.declared.messages.Message.{Message}
 use Rattle.clv_base.specs.declared.messages.Message.TheVariants.{Prepare, Vote as VoteMessage, Decide, Done, Ask}
 use Rattle.std.specs.List.{AllByRecursion}
-use Rattle.clv_base.specs.State.{Shard, Local}
+use Rattle.clv_base.specs.State.{Shard, Local, is_present}
 use Rattle.clv_base.specs.Facts.{predecessors_of}
 use Rattle.clv_base.specs.Locks.{violated}
 use Rattle.clv_base.specs.Needs.{needs_of, live_pairs}
@@ -79,7 +79,8 @@ place (a ∷ as_) t = cond (tx_same t a) zero (suc (place as_ t))
 
 -- a transaction without a part here, that does an operation in this epoch, is new
 abbrev pub Fresh : List Item → List TxId → List (TxId × TxId) → Shard → TxId → Type 0
-Fresh all asked met s tx = (committed_in s.local.log tx ≡ false) × (undone_in s.local.log tx ≡ false) × (items_of tx all ≡ []) × ((p : TxId) → has_met met tx p ≡ true → ⊥)
+Fresh all asked met s tx =
+    (committed_in s.local.log tx ≡ false) × (undone_in s.local.log tx ≡ false) × (items_of tx all ≡ []) × ((p : TxId) → has_met met tx p ≡ true → ⊥) × (prepared_in s.local.log tx ≡ false)
 
 -- no operation after a request, and each transaction has one birth
 pub record MayTouch (all : List Item) (asked : List TxId) (met : List (TxId × TxId)) (s : Shard) (tx : TxId) (birth : Birth) (seen : Option ℕ) : Type 0 where
@@ -128,6 +129,10 @@ HomeIs shard _ = ⊤
 abbrev pub MayServe : ℕ → ℕ → List LogRecord → Type 0
 MayServe shard run log = (disorder shard log ≡ None) × (greatest_run log < run) × AllByRecursion (HomeIs shard) log
 
+-- of those in doubt in the log that a restart finds, none was rolled back since
+abbrev pub StillHere : Shard → List LogRecord → Type 0
+StillHere s found = (t : TxId) → tx_in t (in_doubt s.shard found) ≡ true → is_present (stage_of s.local t) ≡ true
+
 -- from the shard that opened such a log: all operations that were answered, those that made a request, those that were told of success,
 -- those whose writes were violated, in their orders, and the state
 pub data Leads (shard run : ℕ) (before : List LogRecord) : List Item → List TxId → List TxId → List (TxId × TxId) → Shard → Type 0 where
@@ -140,9 +145,9 @@ pub data Leads (shard run : ℕ) (before : List LogRecord) : List Item → List 
       → Leads shard run before all asked told met (with_entry stamp walker FlushIn o t)
   -- others ask at their homes
   others_ask : {all : List Item} {asked told : List TxId} {met : List (TxId × TxId)} {s : Shard} (t : TxId) → Leads shard run before all asked told met s → tx_in t asked ≡ false → Leads shard run before all (asked ++ t ∷ []) told met s
-  -- where nothing can be in doubt: each PREPARE names this shard as its home
+  -- those in doubt are restored
   revives :
-      {all : List Item} {asked told : List TxId} {met : List (TxId × TxId)} {s : Shard} (kept : Bool) (epoch : ℕ) (log : List LogRecord) (stamp walker : ℕ) → Leads shard run before all asked told met s → s.is_up ≡ false → AllByRecursion (HomeIs s.shard) s.local.log
+      {all : List Item} {asked told : List TxId} {met : List (TxId × TxId)} {s : Shard} (kept : Bool) (epoch : ℕ) (log : List LogRecord) (stamp walker : ℕ) → Leads shard run before all asked told met s → s.is_up ≡ false → StillHere s (log_left s kept)
       → Restarts s (log_left s kept) epoch log → Leads shard run before all asked told met (with_entry stamp walker RestartEvent (Up epoch) (revived s epoch log))
 
 -- ---- the members, by a cut of the log, and what they did

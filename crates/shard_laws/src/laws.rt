@@ -2,9 +2,8 @@
 
 ghost use Rattle.shard_laws.specs.OneShard.{AnswersAndMap, Recoverable, QuietIsSettled};
 
-/// In each history of one shard in which nothing is in doubt at the opening or at a restart, the members of each cut of the log at or above
-/// what is durable replay, in the order of their requests, from the map that the log found stands for: to the answers that they were given,
-/// and to the map that the cut stands for.
+/// In each history of one shard the members of each cut of the log at or above what is durable replay, in the order of their requests, from
+/// the map that the log found stands for: to the answers that they were given, and to the map that the cut stands for.
 pub fn answers_and_map()
     ensures { AnswersAndMap }
 {}
