@@ -28,7 +28,7 @@ use Rattle.shard_laws.proofs.LockRows.{holds, held_not_free}
 use Rattle.shard_laws.proofs.Asking.{holds_at, holds_by}
 use Rattle.law_base.proofs.Tables.{stage_in, is_pair}
 use Rattle.law_base.proofs.Commits.{CommitBefore, commit_durable, before_keeps, before_new, durable_keeps, durable_parts, durable_from, durable_committed, before_second, committed_append, uncommitted_append, place_some, place_less, place_keeps, place_new}
-use Rattle.shard_laws.proofs.Prepared.{IsListed, Lists, Prepared, unprepared_append, lists_more, sealed_append, prepared_more}
+use Rattle.shard_laws.proofs.Prepared.{IsListed, Lists, Prepared, by_prepare, prepare_here, unprepared_append, lists_more, sealed_append, prepared_more}
 use Rattle.shard_laws.proofs.Kept.{View, Past, Dep, Kept, Ended}
 use Rattle.order_laws.specs.Order.{moves, Open_at, Tidy, is_clr_of, undone_in}
 use Rattle.std.proofs.Common.{append-nil}
@@ -106,17 +106,6 @@ keeps_records g v more k m prep = record {
   front = k.front;
 }
 
-or_l : (a b : Bool) → (a || b) ≡ false → a ≡ false
-or_l true b e = e
-or_l false b e = refl
-
-or_r : (a b : Bool) → (a || b) ≡ false → b ≡ false
-or_r true b e = absurd (both_ways true e refl)
-or_r false b e = e
-
-abbrev by_prepare : Option (ℕ × List TxId) → List TxId
-by_prepare o = elim o [ Some p ↦ p.1 | None ↦ [] ]
-
 or_none : (b : Bool) → b ≡ false → (b || false) ≡ false
 or_none b e = ap (λ c. c || false) e
 
@@ -176,16 +165,6 @@ later_both P Q (x ∷ xs) a b = (all_both _ _ xs a.0 b.0, later_both P Q xs a.1 
 
 module _ (g : Past) (v : View) (t : TxId) (home : ℕ) (ps : List TxId) (k : Kept g v) (closed : stage_in v.parts t ≡ Some Closed) (new : committed_in v.log t ≡ false) (first : prepared_in v.log t ≡ false)
     (before : (p : TxId) → is_pair v.pairs t p ≡ true → (committed_in v.log p ≡ true) ⊎ (tx_in p ps ≡ true)) where
-  prepare_of_new : (log : List LogRecord) → prepared_in log t ≡ false → prepare_of (log ++ Prepare t home ps ∷ []) t ≡ Some (home, ps)
-  prepare_of_new [] e = cond-true (tx_same t t) (Some (home, ps)) None (tx_self t)
-  prepare_of_new (Prepare tx h qs ∷ rs) e = cond-false (tx_same t tx) (Some (h, qs)) (prepare_of (rs ++ Prepare t home ps ∷ []) t) (or_l _ _ e) ∙ prepare_of_new rs (or_r (tx_same t tx) _ e)
-  prepare_of_new (Update tx q b a ∷ rs) e = prepare_of_new rs e
-  prepare_of_new (Clr tx u q a ∷ rs) e = prepare_of_new rs e
-  prepare_of_new (Commit tx qs ∷ rs) e = prepare_of_new rs e
-  prepare_of_new (Abort tx ∷ rs) e = prepare_of_new rs e
-  prepare_of_new (End tx ∷ rs) e = prepare_of_new rs e
-  prepare_of_new (Restart run epoch ∷ rs) e = prepare_of_new rs e
-
   committed_first : (p : TxId) → committed_in v.log p ≡ true → IsListed (v.log ++ Prepare t home ps ∷ []) t p
   committed_first p c =
       let m = place_some 0 (is_commit_of p) v.log c in
@@ -195,7 +174,7 @@ module _ (g : Past) (v : View) (t : TxId) (home : ℕ) (ps : List TxId) (k : Kep
   own_listed : (p : TxId) → Dep v t p → IsListed (v.log ++ Prepare t home ps ∷ []) t p
   own_listed p d =
       ⊎_elim (λ c. committed_first p (durable_committed v.log v.durable p c))
-      (λ m. ⊎_elim (λ pair. ⊎_elim (λ c. committed_first p c) (λ i. inl (ap (λ o. tx_in p (by_prepare o)) (prepare_of_new v.log first) ∙ i)) (before p pair))
+      (λ m. ⊎_elim (λ pair. ⊎_elim (λ c. committed_first p c) (λ i. inl (ap (λ o. tx_in p (by_prepare o)) (prepare_here v.log [] t home ps first) ∙ i)) (before p pair))
       (λ b. absurd (both_ways _ new (before_second v.log p t b))) m) d
 
   lists_now : (u p : TxId) → ((u ≡ t) → Dep v t p) → Lists v.log u p → Lists (v.log ++ Prepare t home ps ∷ []) u p

@@ -106,6 +106,16 @@ fold_values keep n (Abort tx ∷ rs) ws m k whole e = fold_values keep (suc n) r
 fold_values keep n (End tx ∷ rs) ws m k whole e = fold_values keep (suc n) rs ws m k whole.1 e
 fold_values keep n (Restart run epoch ∷ rs) ws m k whole e = fold_values keep (suc n) rs ws m k whole.1 e
 
+pub fold_alike : (f k : TxId → Bool) (log : List LogRecord) (m : KeyMap) → ((t : TxId) → f t ≡ k t) → fold_updates f log m ≡ fold_updates k log m
+fold_alike f k [] m e = refl
+fold_alike f k (Update tx key b a ∷ rs) m e = ap (λ c. fold_updates f rs (cond c (map_set key a m) m)) (e tx) ∙ fold_alike f k rs (cond (k tx) (map_set key a m) m) e
+fold_alike f k (Clr tx u key a ∷ rs) m e = fold_alike f k rs m e
+fold_alike f k (Prepare tx home ps ∷ rs) m e = fold_alike f k rs m e
+fold_alike f k (Commit tx ps ∷ rs) m e = fold_alike f k rs m e
+fold_alike f k (Abort tx ∷ rs) m e = fold_alike f k rs m e
+fold_alike f k (End tx ∷ rs) m e = fold_alike f k rs m e
+fold_alike f k (Restart run epoch ∷ rs) m e = fold_alike f k rs m e
+
 pub fold_rises : (keep : TxId → Bool) (log : List LogRecord) (m : KeyMap) → IsRising m → IsRising (fold_updates keep log m)
 fold_rises keep [] m h = h
 fold_rises keep (Update tx key before after ∷ rs) m h = fold_rises keep rs (cond (keep tx) (map_set key after m) m) (at (keep tx))

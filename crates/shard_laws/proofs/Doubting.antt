@@ -14,26 +14,9 @@ use Rattle.clv_base.proofs.SameNames.{or_left, or_right, tx_true, tx_self, inser
 use Rattle.law_base.proofs.Commits.{place_some, place_keeps, place_there}
 use Rattle.order_laws.specs.Order.{Sealed}
 use Rattle.shard_laws.proofs.Cutting.{taken_there, taken_place}
-use Rattle.shard_laws.proofs.Prepared.{IsListed, listed_keeps, prepared_append}
-
--- the first PREPARE of a transaction is the one behind records that have none
-or_l : (a b : Bool) → (a || b) ≡ false → a ≡ false
-or_l true b e = e
-or_l false b e = refl
-
-or_r : (a b : Bool) → (a || b) ≡ false → b ≡ false
-or_r true b e = absurd (both_ways true e refl)
-or_r false b e = e
-
-pub prepare_here : (before rest : List LogRecord) (t : TxId) (home : ℕ) (ps : List TxId) → prepared_in before t ≡ false → prepare_of (before ++ Prepare t home ps ∷ rest) t ≡ Some (home, ps)
-prepare_here [] rest t home ps e = cond-true (tx_same t t) (Some (home, ps)) (prepare_of rest t) (tx_self t)
-prepare_here (Prepare tx h qs ∷ rs) rest t home ps e = cond-false (tx_same t tx) (Some (h, qs)) (prepare_of (rs ++ Prepare t home ps ∷ rest) t) (or_l _ _ e) ∙ prepare_here rs rest t home ps (or_r (tx_same t tx) _ e)
-prepare_here (Update tx q b a ∷ rs) rest t home ps e = prepare_here rs rest t home ps e
-prepare_here (Clr tx u q a ∷ rs) rest t home ps e = prepare_here rs rest t home ps e
-prepare_here (Commit tx qs ∷ rs) rest t home ps e = prepare_here rs rest t home ps e
-prepare_here (Abort tx ∷ rs) rest t home ps e = prepare_here rs rest t home ps e
-prepare_here (End tx ∷ rs) rest t home ps e = prepare_here rs rest t home ps e
-prepare_here (Restart run epoch ∷ rs) rest t home ps e = prepare_here rs rest t home ps e
+use Rattle.protocol_laws.proofs.Doubts.{stays_in}
+use Rattle.shard_laws.proofs.Sound.{list_all_at}
+use Rattle.shard_laws.proofs.Prepared.{IsListed, by_prepare, prepare_here, listed_keeps, prepared_append}
 
 -- ---- in doubt
 
@@ -43,20 +26,6 @@ pub record Doubted (log : List LogRecord) (these : List TxId) (t : TxId) : Type 
   pub open_ : committed_in log t ≡ false
   pub listed : list_all (λ p. committed_in log p || tx_in p these) (listed_in log t) ≡ true
 
-stays_in : (log : List LogRecord) (shard : ℕ) (rs : List LogRecord) (so_far : List TxId) (u : TxId) → tx_in u so_far ≡ true → tx_in u (in_doubt_from log shard rs so_far) ≡ true
-stays_in log shard [] so_far u i = i
-stays_in log shard (Update tx k b a ∷ rs) so_far u i = stays_in log shard rs so_far u i
-stays_in log shard (Clr tx v k a ∷ rs) so_far u i = stays_in log shard rs so_far u i
-stays_in log shard (Prepare tx home ps ∷ rs) so_far u i = stays_in log shard rs _ u (at (doubt_by log shard tx home ps so_far))
-  where
-    at : (b : Bool) → tx_in u (cond b (tx_insert tx so_far) so_far) ≡ true
-    at true = insert_keeps tx u so_far i
-    at false = i
-stays_in log shard (Commit tx ps ∷ rs) so_far u i = stays_in log shard rs so_far u i
-stays_in log shard (Abort tx ∷ rs) so_far u i = stays_in log shard rs so_far u i
-stays_in log shard (End tx ∷ rs) so_far u i = stays_in log shard rs so_far u i
-stays_in log shard (Restart run epoch ∷ rs) so_far u i = stays_in log shard rs so_far u i
-
 more_all : (f h : TxId → Bool) (xs : List TxId) → ((x : TxId) → f x ≡ true → h x ≡ true) → list_all f xs ≡ true → list_all h xs ≡ true
 more_all f h [] k e = refl
 more_all f h (x ∷ xs) k e = let p = and_parts (f x) (list_all f xs) e in and_from _ _ (k x p.0) (more_all f h xs k p.1)
@@ -64,9 +33,6 @@ more_all f h (x ∷ xs) k e = let p = and_parts (f x) (list_all f xs) e in and_f
 or_more : (a b c : Bool) → (b ≡ true → c ≡ true) → (a || b) ≡ true → (a || c) ≡ true
 or_more true b c k e = refl
 or_more false b c k e = k e
-
-abbrev by_prepare : Option (ℕ × List TxId) → List TxId
-by_prepare o = elim o [ Some p ↦ p.1 | None ↦ [] ]
 
 Result : List LogRecord → ℕ → List LogRecord → List TxId → TxId → Type 0
 Result log shard rs sf t = (tx_in t sf ≡ true) ⊎ Doubted log (in_doubt_from log shard rs sf) t
@@ -109,12 +75,6 @@ doubts_are log shard before (Restart run epoch ∷ rs) sf t e s i = doubts_are l
 pub doubted : (shard : ℕ) (log : List LogRecord) (t : TxId) → Sealed [] log → tx_in t (in_doubt shard log) ≡ true → Doubted log (in_doubt shard log) t
 unfolding Result
 doubted shard log t s i = ⊎_elim (λ j. absurd (both_ways false refl j)) (λ d. d) (doubts_are log shard [] log [] t refl s i)
-
--- each listed one is committed or in doubt
-pub list_all_at : (f : TxId → Bool) (u : TxId) (xs : List TxId) → list_all f xs ≡ true → tx_in u xs ≡ true → f u ≡ true
-list_all_at f u [] e i = absurd (both_ways false refl i)
-list_all_at f u (x ∷ xs) e i =
-    let p = and_parts (f x) (list_all f xs) e in ⊎_elim (λ h. subst (λ z. f z ≡ true) (tx_true x u h) p.0) (λ h. list_all_at f u xs p.1 h) (or_cases (tx_same x u) (tx_in u xs) i)
 
 -- ---- a cut
 

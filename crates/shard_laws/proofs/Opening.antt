@@ -10,7 +10,7 @@ use Rattle.clv_base.specs.declared.state.Stage.{Stage}
 use Rattle.clv_base.specs.declared.state.Stage.TheVariants.{Active, Closed, Gone}
 use Rattle.clv_base.specs.declared.state.Voter.{Voter}
 use Rattle.clv_base.specs.Maps.{map_get}
-use Rattle.clv_base.specs.Needs.{value_at}
+use Rattle.clv_base.specs.Needs.{Records, value_at}
 use Rattle.clv_base.specs.Logs.{StandingUpdate, standing, committed_in, aborted_in, committed_somewhere, is_commit_of, in_doubt, in_doubt_from, is_winner, fold_updates, stands}
 use Rattle.clv_base.specs.Restarts.{greatest_run, log_after_restart, records_of, with_ghosts, restored_locks, unended_in, opened}
 use Rattle.law_base.proofs.Running.{top_value}
@@ -24,10 +24,10 @@ use Rattle.order_laws.specs.Order.{undone_in}
 use Rattle.shard_laws.specs.OneShard.{HomeIs, MayServe}
 use Rattle.shard_laws.proofs.Kept.{Past}
 use Rattle.shard_laws.proofs.Sound.{Sound}
-use Rattle.shard_laws.proofs.Cutting.{of_kept, fold_values, fold_rises}
+use Rattle.shard_laws.proofs.Cutting.{of_kept, fold_alike, fold_values, fold_rises}
 use Rattle.shard_laws.proofs.Members.{filter_alike}
 use Rattle.shard_laws.proofs.Rebuilding.{Found, Restarted, of_whole}
-use Rattle.shard_laws.proofs.Reviving.{get_records, rising_records, no_ghosts, no_locks, all_durable, filter_twice, whole_log, fold_alike, state_with, restored_committed, IsCommitted}
+use Rattle.shard_laws.proofs.Reviving.{get_records, rising_records, all_durable, filter_twice, whole_log, state_with, restored_committed, IsCommitted}
 
 or_nothing : (b : Bool) → (b || false) ≡ b
 or_nothing true = refl
@@ -48,6 +48,26 @@ none_doubt log shard (Restart run epoch ∷ rs) h = none_doubt log shard rs h.1
 
 kept_committed : (shard : ℕ) (log : List LogRecord) (t : TxId) → in_doubt shard log ≡ [] → is_winner shard log t ≡ committed_in log t
 kept_committed shard log t e = ap (λ d. committed_in log t || tx_in t d) e ∙ or_nothing (committed_in log t)
+
+no_ghosts : (log : List LogRecord) (rs : Records) → with_ghosts [] log rs ≡ rs
+no_ghosts [] rs = refl
+no_ghosts (Update tx k b a ∷ log) rs = no_ghosts log rs
+no_ghosts (Clr tx u k a ∷ log) rs = no_ghosts log rs
+no_ghosts (Prepare tx h ps ∷ log) rs = no_ghosts log rs
+no_ghosts (Commit tx ps ∷ log) rs = no_ghosts log rs
+no_ghosts (Abort tx ∷ log) rs = no_ghosts log rs
+no_ghosts (End tx ∷ log) rs = no_ghosts log rs
+no_ghosts (Restart run e ∷ log) rs = no_ghosts log rs
+
+no_locks : (log : List LogRecord) → restored_locks [] log [] ≡ []
+no_locks [] = refl
+no_locks (Update tx k b a ∷ log) = no_locks log
+no_locks (Clr tx u k a ∷ log) = no_locks log
+no_locks (Prepare tx h ps ∷ log) = no_locks log
+no_locks (Commit tx ps ∷ log) = no_locks log
+no_locks (Abort tx ∷ log) = no_locks log
+no_locks (End tx ∷ log) = no_locks log
+no_locks (Restart run e ∷ log) = no_locks log
 
 -- nothing was done, over what the log found commits
 abbrev pub past_of : ℕ → ℕ → List LogRecord → Past

@@ -1,7 +1,7 @@
 -- What is kept of transactions that have a PREPARE.
 use Rattle.std.proofs.Common.{◌≡◌, ◌⊎◌, inl, inr, ⊎_elim, refl, sym, ap, subst, ◌∙◌, ℕ, ◌<◌, Bool, true, false, cond, ◌||◌, List, [], ◌∷◌, ◌++◌, Option, Some, None, append-nil, append_assoc}
 use Rattle.std.specs.List.{AllByRecursion, filter}
-use Rattle.std.proofs.lemmas.Bool.{both_ways, or_cases}
+use Rattle.std.proofs.lemmas.Bool.{both_ways, cond-true, cond-false, or_cases}
 use Rattle.std.proofs.lemmas.List.Folds.{list_any-append}
 use Rattle.clv_base.specs.declared.names.TxId.{TxId}
 use Rattle.clv_base.specs.declared.logs.LogRecord.{LogRecord}
@@ -33,6 +33,25 @@ pub record Prepared (items : List Item) (met : List (TxId × TxId)) (parts : Tab
   pub causes : AllLater (λ x y. Reaches x y → (x.tx ≡ y.tx) ⊎ Lists log y.tx x.tx) items
   pub recover : (t p : TxId) → is_pair met t p ≡ true → Lists log t p
 
+-- the first PREPARE of a transaction is the one behind records that have none
+or_l : (a b : Bool) → (a || b) ≡ false → a ≡ false
+or_l true b e = e
+or_l false b e = refl
+
+or_r : (a b : Bool) → (a || b) ≡ false → b ≡ false
+or_r true b e = absurd (both_ways true e refl)
+or_r false b e = e
+
+pub prepare_here : (before rest : List LogRecord) (t : TxId) (home : ℕ) (ps : List TxId) → prepared_in before t ≡ false → prepare_of (before ++ Prepare t home ps ∷ rest) t ≡ Some (home, ps)
+prepare_here [] rest t home ps e = cond-true (tx_same t t) (Some (home, ps)) (prepare_of rest t) (tx_self t)
+prepare_here (Prepare tx h qs ∷ rs) rest t home ps e = cond-false (tx_same t tx) (Some (h, qs)) (prepare_of (rs ++ Prepare t home ps ∷ rest) t) (or_l _ _ e) ∙ prepare_here rs rest t home ps (or_r (tx_same t tx) _ e)
+prepare_here (Update tx q b a ∷ rs) rest t home ps e = prepare_here rs rest t home ps e
+prepare_here (Clr tx u q a ∷ rs) rest t home ps e = prepare_here rs rest t home ps e
+prepare_here (Commit tx qs ∷ rs) rest t home ps e = prepare_here rs rest t home ps e
+prepare_here (Abort tx ∷ rs) rest t home ps e = prepare_here rs rest t home ps e
+prepare_here (End tx ∷ rs) rest t home ps e = prepare_here rs rest t home ps e
+prepare_here (Restart run epoch ∷ rs) rest t home ps e = prepare_here rs rest t home ps e
+
 -- ---- more records
 
 pub prepared_append : (log more : List LogRecord) (t : TxId) → prepared_in (log ++ more) t ≡ (prepared_in log t || prepared_in more t)
@@ -62,7 +81,7 @@ prepare_keeps (Abort tx ∷ rs) more t e = prepare_keeps rs more t e
 prepare_keeps (End tx ∷ rs) more t e = prepare_keeps rs more t e
 prepare_keeps (Restart run epoch ∷ rs) more t e = prepare_keeps rs more t e
 
-abbrev by_prepare : Option (ℕ × List TxId) → List TxId
+abbrev pub by_prepare : Option (ℕ × List TxId) → List TxId
 by_prepare o = elim o [ Some p ↦ p.1 | None ↦ [] ]
 
 pub listed_keeps : (log more : List LogRecord) (t : TxId) → prepared_in log t ≡ true → listed_in (log ++ more) t ≡ listed_in log t
@@ -79,10 +98,6 @@ pub sealed_append : (before xs ys : List LogRecord) → Sealed before xs → Sea
 sealed_append before [] ys t u = subst (λ l. Sealed l ys) (append-nil before) u
 sealed_append before (x ∷ xs) ys t u = (t.0, sealed_append (before ++ x ∷ []) xs ys t.1 (subst (λ l. Sealed l ys) (sym (append_assoc before (x ∷ []) xs)) u))
 
-or_right_false : (a b : Bool) → (a || b) ≡ false → b ≡ false
-or_right_false true b e = absurd (both_ways true e refl)
-or_right_false false b e = e
-
 no_update : (before : List LogRecord) (r : LogRecord) (rs : List LogRecord) → ((t : TxId) → wrote_in (r ∷ rs) t ≡ false) → ((t : TxId) → prepared_in (r ∷ rs) t ≡ false) → Unprepared before r
 no_update before (Update tx k b a) rs none unp = absurd (both_ways _ (none tx) (or_left (tx_same tx tx) (wrote_in rs tx) (tx_self tx)))
 no_update before (Prepare tx home ps) rs none unp = absurd (both_ways _ (unp tx) (or_left (tx_same tx tx) (prepared_in rs tx) (tx_self tx)))
@@ -90,7 +105,7 @@ no_update before _ rs none unp = tt
 
 sealed_none : (before rs : List LogRecord) → ((t : TxId) → wrote_in rs t ≡ false) → ((t : TxId) → prepared_in rs t ≡ false) → Sealed before rs
 sealed_none before [] none unp = tt
-sealed_none before (r ∷ rs) none unp = (no_update before r rs none unp, sealed_none (before ++ r ∷ []) rs (λ t. or_right_false _ (wrote_in rs t) (none t)) (λ t. or_right_false _ (prepared_in rs t) (unp t)))
+sealed_none before (r ∷ rs) none unp = (no_update before r rs none unp, sealed_none (before ++ r ∷ []) rs (λ t. or_r _ (wrote_in rs t) (none t)) (λ t. or_r _ (prepared_in rs t) (unp t)))
 
 pub sealed_more : (log more : List LogRecord) → Sealed [] log → ((t : TxId) → wrote_in more t ≡ false) → ((t : TxId) → prepared_in more t ≡ false) → Sealed [] (log ++ more)
 sealed_more log more s none unp = sealed_append [] log more s (sealed_none log more none unp)

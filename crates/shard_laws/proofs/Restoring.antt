@@ -10,7 +10,7 @@ use Rattle.clv_base.specs.declared.modes.Anchor.TheVariants.{At}
 use Rattle.clv_base.specs.declared.state.Stage.{Stage}
 use Rattle.clv_base.specs.declared.state.Stage.TheVariants.{Closed}
 use Rattle.clv_base.specs.Orders.{tx_same, tx_in, tx_get}
-use Rattle.clv_base.specs.Logs.{StandingUpdate, standing, standing_from, without_newest}
+use Rattle.clv_base.specs.Logs.{StandingUpdate, standing, standing_from, without_newest, wrote_in}
 use Rattle.clv_base.specs.declared.modes.Found.{Found}
 use Rattle.clv_base.specs.declared.modes.Found.TheVariants.{Live, Ghost, Absent}
 use Rattle.clv_base.specs.declared.modes.Holder.{Holder}
@@ -22,6 +22,7 @@ use Rattle.clv_base.proofs.SameNames.{or_left, or_right, tx_true, tx_self, tx_fl
 use Rattle.law_base.proofs.Cells.{record_at, live_by}
 use Rattle.law_base.proofs.Anchors.{Rising, record_at_set, rising_set}
 use Rattle.law_base.proofs.Tables.{stage_in, stage_by}
+use Rattle.order_laws.proofs.Writes.{all_without}
 use Rattle.shard_laws.proofs.LockRows.{holds, Rows, take_keeps, take_gives, rows_take}
 use Rattle.shard_laws.proofs.Kept.{Belongs}
 
@@ -34,17 +35,13 @@ is_update_at t q _ = false
 abbrev pub has_update : List LogRecord → TxId → ℕ → Bool
 has_update log t q = list_any (is_update_at t q) log
 
-without_all : (P : StandingUpdate → Type 0) (t : TxId) (ws : List StandingUpdate) → AllByRecursion P ws → AllByRecursion P (without_newest t ws)
-without_all P t [] all = tt
-without_all P t (w ∷ ws) all = cond_both (tx_same t w.tx) ws (w ∷ without_newest t ws) (AllByRecursion P) (λ e. all.1) (λ e. (all.0, without_all P t ws all.1))
-
 standing_all : (log : List LogRecord) (n : ℕ) (rs : List LogRecord) (ws : List StandingUpdate) → ((t : TxId) (q : ℕ) → has_update rs t q ≡ true → has_update log t q ≡ true) → AllByRecursion (λ w. has_update log w.tx w.key ≡ true) ws
     → AllByRecursion (λ w. has_update log w.tx w.key ≡ true) (standing_from n rs ws)
 standing_all log n [] ws h all = all
 standing_all log n (Update tx k b a ∷ rs) ws h all =
     standing_all log (suc n) rs (record { lsn = n; tx = tx; key = k; before = b; after = a } ∷ ws) (λ t q e. h t q (or_right (tx_same t tx && (q == k)) _ e))
     (h tx k (or_left _ _ (and_from _ _ (tx_self tx) (eq-eqb k k refl))), all)
-standing_all log n (Clr tx u k a ∷ rs) ws h all = standing_all log (suc n) rs (without_newest tx ws) h (without_all _ tx ws all)
+standing_all log n (Clr tx u k a ∷ rs) ws h all = standing_all log (suc n) rs (without_newest tx ws) h (all_without _ tx ws all)
 standing_all log n (Prepare tx home ps ∷ rs) ws h all = standing_all log (suc n) rs ws h all
 standing_all log n (Commit tx ps ∷ rs) ws h all = standing_all log (suc n) rs ws h all
 standing_all log n (Abort tx ∷ rs) ws h all = standing_all log (suc n) rs ws h all
@@ -53,6 +50,16 @@ standing_all log n (Restart run epoch ∷ rs) ws h all = standing_all log (suc n
 
 pub standing_updates : (log : List LogRecord) → AllByRecursion (λ w. has_update log w.tx w.key ≡ true) (standing log)
 standing_updates log = standing_all log 0 log [] (λ t q e. e) tt
+
+pub wrote_of : (log : List LogRecord) (t : TxId) (q : ℕ) → has_update log t q ≡ true → wrote_in log t ≡ true
+wrote_of [] t q e = e
+wrote_of (Update tx k b a ∷ rs) t q e = ⊎_elim (λ h. or_left _ _ (and_parts (tx_same t tx) (q == k) h).0) (λ h. or_right (tx_same t tx) _ (wrote_of rs t q h)) (or_cases (tx_same t tx && (q == k)) (has_update rs t q) e)
+wrote_of (Clr tx u k a ∷ rs) t q e = wrote_of rs t q e
+wrote_of (Prepare tx home ps ∷ rs) t q e = wrote_of rs t q e
+wrote_of (Commit tx ps ∷ rs) t q e = wrote_of rs t q e
+wrote_of (Abort tx ∷ rs) t q e = wrote_of rs t q e
+wrote_of (End tx ∷ rs) t q e = wrote_of rs t q e
+wrote_of (Restart run epoch ∷ rs) t q e = wrote_of rs t q e
 
 -- ---- parts
 

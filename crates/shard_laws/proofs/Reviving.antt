@@ -48,11 +48,11 @@ use Rattle.shard_laws.proofs.Changes.{undone_append, wrote_append, later_both}
 use Rattle.shard_laws.proofs.Dooming.{filter_in}
 use Rattle.shard_laws.proofs.Leaving.{pile_all}
 use Rattle.shard_laws.proofs.Sound.{Sound, Lost, filter_both, filter_same}
-use Rattle.shard_laws.proofs.Cutting.{cut_keeps, durable_cut, of_kept, KeptWhole, tidy_later, fold_values, fold_rises}
+use Rattle.shard_laws.proofs.Cutting.{cut_keeps, durable_cut, of_kept, KeptWhole, tidy_later, fold_alike, fold_values, fold_rises}
 use Rattle.shard_laws.proofs.Serial.{Once}
 use Rattle.shard_laws.proofs.Members.{dep_cut, item_asked, cut_base, pile_keep, filter_all_kept, filter_alike}
 use Rattle.shard_laws.proofs.Doubting.{Doubted, doubted, prepared_cut, listed_cut, listed_wins}
-use Rattle.shard_laws.proofs.Restoring.{has_update, standing_updates, restored_closed, restored_stage, restored_none, locks_hold, rows_restored, ghosts_value, ghosts_rise, ghosts_there}
+use Rattle.shard_laws.proofs.Restoring.{has_update, standing_updates, wrote_of, restored_closed, restored_stage, restored_none, locks_hold, rows_restored, ghosts_value, ghosts_rise, ghosts_there}
 use Rattle.shard_laws.proofs.Rebuilding.{Found, winners, unmoved_from, out_left, out_right, Restarted, of_restarts}
 
 -- ---- a cut of the log
@@ -104,26 +104,6 @@ pub rising_records : (m : KeyMap) → IsRising m → Rising (records_of m)
 rising_records [] h = tt
 rising_records (e ∷ es) h = (above_records e.0 es (t_first _ _ h), rising_records es (t_second (below_all nat_cmp e.0 es) _ h))
 
-pub no_ghosts : (log : List LogRecord) (rs : Records) → with_ghosts [] log rs ≡ rs
-no_ghosts [] rs = refl
-no_ghosts (Update tx k b a ∷ log) rs = no_ghosts log rs
-no_ghosts (Clr tx u k a ∷ log) rs = no_ghosts log rs
-no_ghosts (Prepare tx h ps ∷ log) rs = no_ghosts log rs
-no_ghosts (Commit tx ps ∷ log) rs = no_ghosts log rs
-no_ghosts (Abort tx ∷ log) rs = no_ghosts log rs
-no_ghosts (End tx ∷ log) rs = no_ghosts log rs
-no_ghosts (Restart run e ∷ log) rs = no_ghosts log rs
-
-pub no_locks : (log : List LogRecord) → restored_locks [] log [] ≡ []
-no_locks [] = refl
-no_locks (Update tx k b a ∷ log) = no_locks log
-no_locks (Clr tx u k a ∷ log) = no_locks log
-no_locks (Prepare tx h ps ∷ log) = no_locks log
-no_locks (Commit tx ps ∷ log) = no_locks log
-no_locks (Abort tx ∷ log) = no_locks log
-no_locks (End tx ∷ log) = no_locks log
-no_locks (Restart run e ∷ log) = no_locks log
-
 -- ---- the requests of a restarted shard are committed
 
 abbrev pub IsCommitted : Option Request → Type 0
@@ -149,14 +129,6 @@ restored_committed (r ∷ rs) t = at (tx_same t r.0) (restored_committed rs t)
 pub all_durable : (log : List LogRecord) (t : TxId) → committed_in log t ≡ true → commit_durable log (length log) t ≡ true
 all_durable log t e = let k = place_some 0 (is_commit_of t) log e in let l = place_less 0 (is_commit_of t) log k.0 k.1 in durable_from log (length log) t k.0 k.1 (omega arith)
 
-later_from : (P : Item → Type 0) (R : Item → Item → Type 0) (xs : List Item) → ((x y : Item) → P x → R x y) → AllByRecursion P xs → AllLater R xs
-later_from P R [] h all = tt
-later_from P R (x ∷ xs) h all = (each xs, later_from P R xs h all.1)
-  where
-    each : (ys : List Item) → AllByRecursion (R x) ys
-    each [] = tt
-    each (y ∷ ys) = (h x y all.0, each ys)
-
 -- ---- all of it
 
 none_stage : (st : Stage) → ◌≡◌ {A = Option Stage} None (Some st) → ⊥
@@ -176,16 +148,6 @@ filter_twice f (w ∷ ws) = at (f w.tx) refl (filter_twice f ws)
 pub whole_log : (keep : TxId → Bool) (rs : List LogRecord) → ((t : TxId) → undone_in rs t ≡ true → keep t ≡ false) → KeptWhole keep rs
 whole_log keep [] h = tt
 whole_log keep (r ∷ rs) h = (λ t e. h t (or_left _ _ e), whole_log keep rs (λ t e. h t (or_right (is_clr_of t r) _ e)))
-
-pub fold_alike : (f k : TxId → Bool) (log : List LogRecord) (m : KeyMap) → ((t : TxId) → f t ≡ k t) → fold_updates f log m ≡ fold_updates k log m
-fold_alike f k [] m e = refl
-fold_alike f k (Update tx key b a ∷ rs) m e = ap (λ c. fold_updates f rs (cond c (map_set key a m) m)) (e tx) ∙ fold_alike f k rs (cond (k tx) (map_set key a m) m) e
-fold_alike f k (Clr tx u key a ∷ rs) m e = fold_alike f k rs m e
-fold_alike f k (Prepare tx home ps ∷ rs) m e = fold_alike f k rs m e
-fold_alike f k (Commit tx ps ∷ rs) m e = fold_alike f k rs m e
-fold_alike f k (Abort tx ∷ rs) m e = fold_alike f k rs m e
-fold_alike f k (End tx ∷ rs) m e = fold_alike f k rs m e
-fold_alike f k (Restart run epoch ∷ rs) m e = fold_alike f k rs m e
 
 -- each write of the items stands in the pile
 pile_each : (P : StandingUpdate → Type 0) (xs : List Item) (ws : List StandingUpdate) → AllByRecursion P (pile xs ws) → AllByRecursion (λ x. (w : ℕ × Option ℕ × Option ℕ) → wrote x ≡ Some w → P (record { lsn = x.lsn; tx = x.tx; key = w.0; before = w.1; after = w.2 })) xs
@@ -207,24 +169,6 @@ pile_each P (x ∷ xs) ws all = (λ w e. first x.tx x.lsn w (wrote x) e (pile_ba
         same : (v w : ℕ × Option ℕ × Option ℕ) → Some v ≡ Some w → v ≡ w
         same v w e = cc
 
--- who wrote what stands, wrote
-without_all : (P : StandingUpdate → Type 0) (t : TxId) (ws : List StandingUpdate) → AllByRecursion P ws → AllByRecursion P (without_newest t ws)
-without_all P t [] all = tt
-without_all P t (w ∷ ws) all = cond_both (tx_same t w.tx) ws (w ∷ without_newest t ws) (AllByRecursion P) (λ e. all.1) (λ e. (all.0, without_all P t ws all.1))
-
-standing_all : (log : List LogRecord) (n : ℕ) (rs : List LogRecord) (ws : List StandingUpdate) → ((t : TxId) → wrote_in rs t ≡ true → wrote_in log t ≡ true) → AllByRecursion (λ w. wrote_in log w.tx ≡ true) ws → AllByRecursion (λ w. wrote_in log w.tx ≡ true) (standing_from n rs ws)
-standing_all log n [] ws h all = all
-standing_all log n (Update tx k b a ∷ rs) ws h all = standing_all log (suc n) rs (record { lsn = n; tx = tx; key = k; before = b; after = a } ∷ ws) (λ t e. h t (or_right (tx_same t tx) _ e)) (h tx (or_left _ _ (tx_self tx)), all)
-standing_all log n (Clr tx u k a ∷ rs) ws h all = standing_all log (suc n) rs (without_newest tx ws) h (without_all _ tx ws all)
-standing_all log n (Prepare tx home ps ∷ rs) ws h all = standing_all log (suc n) rs ws h all
-standing_all log n (Commit tx ps ∷ rs) ws h all = standing_all log (suc n) rs ws h all
-standing_all log n (Abort tx ∷ rs) ws h all = standing_all log (suc n) rs ws h all
-standing_all log n (End tx ∷ rs) ws h all = standing_all log (suc n) rs ws h all
-standing_all log n (Restart run epoch ∷ rs) ws h all = standing_all log (suc n) rs ws h all
-
-standing_wrote : (log : List LogRecord) → AllByRecursion (λ w. wrote_in log w.tx ≡ true) (standing log)
-standing_wrote log = standing_all log 0 log [] (λ t e. e) tt
-
 write_some : (o : Option (ℕ × Option ℕ × Option ℕ)) (k : ℕ) → is_write_at o k ≡ true → (w : ℕ × Option ℕ × Option ℕ) × (o ≡ Some w)
 write_some None k e = absurd (both_ways false refl e)
 write_some (Some w) k e = (w, refl)
@@ -244,9 +188,6 @@ state_with s epoch log doubt rs ls = record {
   last = s.last;
   journal = s.journal;
 }
-
-cut_of : Shard → Bool → ℕ
-cut_of s kept = cond kept (unwrap_or s.flight s.durable) s.durable
 
 -- ---- what a restored shard asks and votes
 
@@ -502,20 +443,20 @@ module _ (all : List Item) (g : Past) (s : Shard) (c epoch : ℕ) (log : List Lo
       (AllByRecursion (λ w. is_winner s.shard (take c s.local.log) w.tx ≡ true)) (λ e. (e, kept_wins ws)) (λ e. kept_wins ws)
 
   abbrev Written : StandingUpdate → Type 0
-  Written w = (is_winner s.shard (take c s.local.log) w.tx ≡ true) × ((has_update log w.tx w.key ≡ true) × (wrote_in log w.tx ≡ true))
+  Written w = (is_winner s.shard (take c s.local.log) w.tx ≡ true) × (has_update log w.tx w.key ≡ true)
 
   all_written : AllByRecursion Written (standing log)
   all_written = all_both _ _ (standing log) (subst (AllByRecursion (λ w. is_winner s.shard (take c s.local.log) w.tx ≡ true)) standing_kept (kept_wins (standing log)))
-      (all_both _ _ (standing log) (standing_updates log) (standing_wrote log))
+      (standing_updates log)
 
   key_is : (o : Option (ℕ × Option ℕ × Option ℕ)) (w : ℕ × Option ℕ × Option ℕ) (q : ℕ) → o ≡ Some w → is_write_at o q ≡ true → q ≡ w.0
   key_is o w q e i = eqb-true q w.0 (ap (λ z. is_write_at z q) (sym e) ∙ i)
 
-  wrote_now : AllByRecursion (λ x. (q : ℕ) → writes x q ≡ true → (wins x.tx ≡ true) × ((has_update log x.tx q ≡ true) × (wrote_in log x.tx ≡ true))) (filter (λ x. stays x.tx) g.items)
+  wrote_now : AllByRecursion (λ x. (q : ℕ) → writes x q ≡ true → (wins x.tx ≡ true) × (has_update log x.tx q ≡ true)) (filter (λ x. stays x.tx) g.items)
   wrote_now = all_mono _ _ (λ x f q w.
       let o = write_some (wrote x) q w in
       let r = f o.0 o.1 in
-      (r.0, (subst (λ k. has_update log x.tx k ≡ true) (sym (key_is (wrote x) o.0 q o.1 w)) (r.1).0, (r.1).1)))
+      (r.0, subst (λ k. has_update log x.tx k ≡ true) (sym (key_is (wrote x) o.0 q o.1 w)) r.1))
       (filter (λ x. stays x.tx) g.items) (pile_each Written (filter (λ x. stays x.tx) g.items) g.base (subst (AllByRecursion Written) standing_now all_written))
 
   -- ---- the transactions
@@ -581,12 +522,12 @@ module _ (all : List Item) (g : Past) (s : Shard) (c epoch : ℕ) (log : List Lo
       standing_is = standing_now;
       rises = ghosts_rise doubt log (records_of (fold_updates (is_winner s.shard log) log [])) (rising_records (fold_updates (is_winner s.shard log) log []) (fold_rises (is_winner s.shard log) log [] tt));
       values = values_now;
-      logged = all_mono _ _ (λ x f q w. ((f q w).1).1) (filter (λ x. stays x.tx) g.items) wrote_now;
+      logged = all_mono _ _ (λ x f q w. wrote_of log x.tx q (f q w).1) (filter (λ x. stays x.tx) g.items) wrote_now;
       rows = rows_restored doubt log [] tt;
       covered = all_mono _ _ (λ x f a. absurd (no_active x.tx a)) (filter (λ x. stays x.tx) g.items) wrote_now;
       wrote = all_mono _ _ (λ x f out q w.
           let r = f q w in
-          ⊎_elim (λ d. absurd (both_ways _ out d)) (λ i. (locks_hold doubt log [] x.tx q i (r.1).0, ghosts_there doubt log (records_of (fold_updates (is_winner s.shard log) log [])) x.tx q i (r.1).0)) (wins_split x.tx r.0))
+          ⊎_elim (λ d. absurd (both_ways _ out d)) (λ i. (locks_hold doubt log [] x.tx q i r.1, ghosts_there doubt log (records_of (fold_updates (is_winner s.shard log) log [])) x.tx q i r.1)) (wins_split x.tx r.0))
           (filter (λ x. stays x.tx) g.items) wrote_now;
       known = all_mono _ _ (λ x f. inr (stays_asked x.tx f.0 f.1, λ a. no_active x.tx a)) (filter (λ x. stays x.tx) g.items) known_now;
       uncommitted = λ t e. absurd (no_active t e);

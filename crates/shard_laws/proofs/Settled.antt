@@ -27,7 +27,7 @@ use Rattle.shard_laws.proofs.Histories.{held}
 use Rattle.shard_laws.proofs.LockRows.{holder_row}
 use Rattle.shard_laws.proofs.Kept.{Past, view_of, Kept, Wrote, Belongs, StageFits}
 use Rattle.shard_laws.proofs.Answering.{t_true, live_rises, live_find}
-use Rattle.shard_laws.proofs.Cutting.{of_kept, cut_values, fold_rises}
+use Rattle.shard_laws.proofs.Cutting.{of_kept, cut_values, fold_rises, fold_alike}
 use Rattle.shard_laws.proofs.Members.{filter_all_kept}
 
 each_row : {A : Type 0} (test : A → Bool) (xs : List A) → list_all test xs ≡ true → AllByRecursion (λ x. test x ≡ true) xs
@@ -51,16 +51,6 @@ writer_committed g s x k h q w e =
     let t = rows_get (λ r. (is_gone_stage (r.1).stage || committed_in s.local.log r.0) ≡ true) x.tx p s.local.parts (each_row (λ p. is_gone_stage (p.1).stage || committed_in s.local.log p.0) s.local.parts q.3) (r.2).1 in
     ⊎_elim (λ a. absurd (both_ways _ (not_gone r.1 p.stage (r.2).3) a)) (λ a. a) (or_cases (is_gone_stage p.stage) (committed_in s.local.log x.tx) t))
     (cases_Bool (commit_durable s.local.log s.durable x.tx))
-
-fold_alike : (f k : TxId → Bool) (log : List LogRecord) (m : KeyMap) → ((t : TxId) → f t ≡ k t) → fold_updates f log m ≡ fold_updates k log m
-fold_alike f k [] m e = refl
-fold_alike f k (Update tx key b a ∷ rs) m e = ap (λ c. fold_updates f rs (cond c (map_set key a m) m)) (e tx) ∙ fold_alike f k rs (cond (k tx) (map_set key a m) m) e
-fold_alike f k (Clr tx u key a ∷ rs) m e = fold_alike f k rs m e
-fold_alike f k (Prepare tx home ps ∷ rs) m e = fold_alike f k rs m e
-fold_alike f k (Commit tx ps ∷ rs) m e = fold_alike f k rs m e
-fold_alike f k (Abort tx ∷ rs) m e = fold_alike f k rs m e
-fold_alike f k (End tx ∷ rs) m e = fold_alike f k rs m e
-fold_alike f k (Restart run epoch ∷ rs) m e = fold_alike f k rs m e
 
 or_nothing : (b : Bool) → (b || false) ≡ b
 or_nothing true = refl
