@@ -12,9 +12,9 @@ use Rattle.clv_base.specs.Restarts.{greatest_run, run_after, restart_records, lo
 use Rattle.clv_base.proofs.SameNames.{or_left}
 use Rattle.order_laws.specs.Order.{RunFits}
 use Rattle.order_laws.proofs.InOrder.{OtherParts, in_order}
-use Rattle.shard_laws.specs.OneShard.{HomeIs, MayServe}
+use Rattle.shard_laws.specs.OneShard.{MayServe}
 use Rattle.one_shard_laws.proofs.Owning.{RecordIs, push_records}
-use Rattle.one_shard_laws.proofs.OwningEvents.{restart_all, owned_state}
+use Rattle.one_shard_laws.proofs.OwningEvents.{no_doubt, restart_all, owned_state}
 use Rattle.one_shard_laws.proofs.Leading.{Did, OfHistory, Requested, DidNow, ToldAborted, Knows}
 
 none_of : {X : Type 0} (o : Option X) → is_none o ≡ true → o ≡ None
@@ -48,16 +48,6 @@ records_are : (n run : ℕ) (rs : List LogRecord) → n < run → list_all (pass
 records_are n run [] l e f o = tt
 records_are n run (r ∷ rs) l e f o = let p = and_parts (passes_file_rules [] 0 r) (list_all (passes_file_rules [] 0) rs) e in (record_is n run r l p.0 f.0 o.0, records_are n run rs l p.1 f.1 o.1)
 
-pub all_homes : (A : TxId → Type 0) (shard : ℕ) (rs : List LogRecord) → shard ≡ 0 → AllByRecursion (RecordIs A) rs → AllByRecursion (HomeIs shard) rs
-all_homes A shard [] e a = tt
-all_homes A shard (Prepare tx home ps ∷ rs) e a = ((a.0).1 ∙ sym e, all_homes A shard rs e a.1)
-all_homes A shard (Update tx key before after ∷ rs) e a = (tt, all_homes A shard rs e a.1)
-all_homes A shard (Clr tx next key after ∷ rs) e a = (tt, all_homes A shard rs e a.1)
-all_homes A shard (Commit tx parts ∷ rs) e a = (tt, all_homes A shard rs e a.1)
-all_homes A shard (Abort tx ∷ rs) e a = (tt, all_homes A shard rs e a.1)
-all_homes A shard (End tx ∷ rs) e a = (tt, all_homes A shard rs e a.1)
-all_homes A shard (Restart run epoch ∷ rs) e a = (tt, all_homes A shard rs e a.1)
-
 -- the log found has records of earlier runs alone, which name no other shard
 found_is : (before : List LogRecord) → may_open [] (before ∷ []) ≡ true → AllByRecursion (RecordIs (OfHistory (run_after (before ∷ [])) [])) before
 found_is before may =
@@ -66,7 +56,7 @@ found_is before may =
     records_are (greatest_run before) (run_after (before ∷ [])) before (omega arith) p.0 o.runs o.parts
 
 pub may_serve : (before : List LogRecord) → may_open [] (before ∷ []) ≡ true → MayServe 0 (run_after (before ∷ [])) before
-may_serve before may = ((passes before may).1, omega arith, all_homes (OfHistory (run_after (before ∷ [])) []) 0 before refl (found_is before may))
+may_serve before may = ((passes before may).1, omega arith, no_doubt (OfHistory (run_after (before ∷ [])) []) before 0 before [] refl (found_is before may))
 
 pub knows_opened : (before : List LogRecord) → may_open [] (before ∷ []) ≡ true → Knows (run_after (before ∷ [])) [] (opened 0 (run_after (before ∷ [])) before)
 knows_opened before may =

@@ -21,7 +21,7 @@ use Rattle.order_laws.proofs.Runs.{record_fits}
 use Rattle.order_laws.proofs.Writes.{chain_kept}
 use Rattle.order_laws.proofs.InOrder.{Order, in_order, undone_open}
 use Rattle.order_laws.specs.Order.{undone_in}
-use Rattle.shard_laws.specs.OneShard.{HomeIs, MayServe}
+use Rattle.shard_laws.specs.OneShard.{MayServe}
 use Rattle.shard_laws.proofs.Kept.{Past}
 use Rattle.shard_laws.proofs.Sound.{Sound}
 use Rattle.shard_laws.proofs.Cutting.{of_kept, fold_alike, fold_values, fold_rises}
@@ -33,19 +33,7 @@ or_nothing : (b : Bool) → (b || false) ≡ b
 or_nothing true = refl
 or_nothing false = refl
 
--- nothing is in doubt where each PREPARE is for this shard
-none_doubt : (log : List LogRecord) (shard : ℕ) (rs : List LogRecord) → AllByRecursion (HomeIs shard) rs → in_doubt_from log shard rs [] ≡ []
-none_doubt log shard [] h = refl
-none_doubt log shard (Update tx k b a ∷ rs) h = none_doubt log shard rs h.1
-none_doubt log shard (Clr tx u k a ∷ rs) h = none_doubt log shard rs h.1
-none_doubt log shard (Prepare tx home ps ∷ rs) h =
-    ap (λ b. in_doubt_from log shard rs (cond (not b && not (committed_in log tx) && not (aborted_in log tx) && list_all (λ p. committed_in log p || tx_in p []) ps) (tx_insert tx []) [])) (eq-eqb shard home (sym h.0))
-    ∙ none_doubt log shard rs h.1
-none_doubt log shard (Commit tx ps ∷ rs) h = none_doubt log shard rs h.1
-none_doubt log shard (Abort tx ∷ rs) h = none_doubt log shard rs h.1
-none_doubt log shard (End tx ∷ rs) h = none_doubt log shard rs h.1
-none_doubt log shard (Restart run epoch ∷ rs) h = none_doubt log shard rs h.1
-
+-- where nothing is in doubt those that win are the committed ones
 kept_committed : (shard : ℕ) (log : List LogRecord) (t : TxId) → in_doubt shard log ≡ [] → is_winner shard log t ≡ committed_in log t
 kept_committed shard log t e = ap (λ d. committed_in log t || tx_in t d) e ∙ or_nothing (committed_in log t)
 
@@ -86,9 +74,6 @@ module _ (shard run : ℕ) (before : List LogRecord) (may : MayServe shard run b
   order : Order shard before
   order = in_order shard before may.0
 
-  no_doubt : in_doubt shard before ≡ []
-  no_doubt = none_doubt before shard before may.2
-
   found_before : Found shard before before
   found_before = record {
     commits = λ t. refl;
@@ -98,7 +83,7 @@ module _ (shard run : ℕ) (before : List LogRecord) (may : MayServe shard run b
     same_kept = refl;
     tidy = order.tidy;
     sealed = order.sealed;
-    dead = λ t u. kept_committed shard before t no_doubt ∙ undone_open shard before t order u;
+    dead = λ t u. kept_committed shard before t may.2 ∙ undone_open shard before t order u;
     wrote = λ t. refl;
   }
 
@@ -111,10 +96,10 @@ module _ (shard run : ℕ) (before : List LogRecord) (may : MayServe shard run b
     where
       every : (ws : List StandingUpdate) → AllByRecursion (λ w. is_winner shard before w.tx ≡ committed_in before w.tx) ws
       every [] = tt
-      every (w ∷ ws) = (kept_committed shard before w.tx no_doubt, every ws)
+      every (w ∷ ws) = (kept_committed shard before w.tx may.2, every ws)
 
   dead_now : (t : TxId) → undone_in (log_after_restart shard before run 0) t ≡ true → committed_in before t ≡ false
-  dead_now t u = sym (kept_committed shard before t no_doubt) ∙ re.found.dead t u
+  dead_now t u = sym (kept_committed shard before t may.2) ∙ re.found.dead t u
 
   committed_now : (t : TxId) → committed_in before t ≡ true → commit_durable (log_after_restart shard before run 0) (length (log_after_restart shard before run 0)) t ≡ true
   committed_now t e = all_durable (log_after_restart shard before run 0) t (re.found.commits t ∙ e)
@@ -130,7 +115,7 @@ module _ (shard run : ℕ) (before : List LogRecord) (may : MayServe shard run b
 
   records_is : fold_updates (is_winner shard (log_after_restart shard before run 0)) (log_after_restart shard before run 0) [] ≡ fold_updates (committed_in before) (log_after_restart shard before run 0) []
   records_is = fold_alike (is_winner shard (log_after_restart shard before run 0)) (committed_in before) (log_after_restart shard before run 0) []
-      (λ t. kept_committed shard (log_after_restart shard before run 0) t (re.found.doubts ∙ no_doubt) ∙ re.found.commits t)
+      (λ t. kept_committed shard (log_after_restart shard before run 0) t (re.found.doubts ∙ may.2) ∙ re.found.commits t)
 
   values_now : (q : ℕ) → value_at q (records_of (fold_updates (is_winner shard (log_after_restart shard before run 0)) (log_after_restart shard before run 0) [])) ≡ top_value q (standing (log_after_restart shard before run 0))
   values_now q =
@@ -196,6 +181,6 @@ module _ (shard run : ℕ) (before : List LogRecord) (may : MayServe shard run b
   pub sound_opened : Sound [] (past_of shard run before) (opened shard run before)
   unfolding state_with
   sound_opened =
-      subst (λ d. Sound [] (past_of shard run before) (state_with (opened shard run []) 0 (log_after_restart shard before run 0) d (with_ghosts d (log_after_restart shard before run 0) (records_of (fold_updates (is_winner shard (log_after_restart shard before run 0)) (log_after_restart shard before run 0) []))) (restored_locks d (log_after_restart shard before run 0) []))) (sym (re.found.doubts ∙ no_doubt))
+      subst (λ d. Sound [] (past_of shard run before) (state_with (opened shard run []) 0 (log_after_restart shard before run 0) d (with_ghosts d (log_after_restart shard before run 0) (records_of (fold_updates (is_winner shard (log_after_restart shard before run 0)) (log_after_restart shard before run 0) []))) (restored_locks d (log_after_restart shard before run 0) []))) (sym (re.found.doubts ∙ may.2))
       (subst (λ rs. Sound [] (past_of shard run before) (state_with (opened shard run []) 0 (log_after_restart shard before run 0) [] rs (restored_locks [] (log_after_restart shard before run 0) []))) (sym (no_ghosts (log_after_restart shard before run 0) (records_of (fold_updates (is_winner shard (log_after_restart shard before run 0)) (log_after_restart shard before run 0) []))))
       (subst (λ ls. Sound [] (past_of shard run before) (state_with (opened shard run []) 0 (log_after_restart shard before run 0) [] (records_of (fold_updates (is_winner shard (log_after_restart shard before run 0)) (log_after_restart shard before run 0) [])) ls)) (sym (no_locks (log_after_restart shard before run 0))) sound_start))

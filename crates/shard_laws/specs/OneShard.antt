@@ -7,7 +7,6 @@ use Rattle.clv_base.specs.declared.state.Stage.{Stage}
 use Rattle.clv_base.specs.declared.state.Stage.TheVariants.{Active, Closed, Gone}
 use Rattle.clv_base.specs.declared.state.Held.{Held}
 use Rattle.clv_base.specs.declared.logs.LogRecord.{LogRecord}
-use Rattle.clv_base.specs.declared.logs.LogRecord.TheVariants.{Prepare as PrepareRecord}
 use Rattle.clv_base.specs.declared.ops.Op.{Op}
 use Rattle.clv_base.specs.declared.ops.Answer.{Answer}
 use Rattle.clv_base.specs.declared.events.Event.{Event}
@@ -120,14 +119,9 @@ new_told (Look tx) Acknowledged = Some tx
 new_told (Look tx) _ = None
 new_told _ o = None
 
-abbrev pub HomeIs : ℕ → LogRecord → Type 0
-HomeIs shard (PrepareRecord tx home ps) = home ≡ shard
-HomeIs shard _ = ⊤
-
--- a log from which a shard may be opened in this run with nothing in doubt: it keeps the order rules, it is of earlier runs, and each of its
--- PREPAREs names this shard as its home
+-- a log from which a shard may be opened in this run: it keeps the order rules, it is of earlier runs, and nothing is in doubt in it
 abbrev pub MayServe : ℕ → ℕ → List LogRecord → Type 0
-MayServe shard run log = (disorder shard log ≡ None) × (greatest_run log < run) × AllByRecursion (HomeIs shard) log
+MayServe shard run log = (disorder shard log ≡ None) × (greatest_run log < run) × (in_doubt shard log ≡ [])
 
 -- of those in doubt in the log that a restart finds, none was rolled back since
 abbrev pub StillHere : Shard → List LogRecord → Type 0
