@@ -11,3 +11,4 @@ pub mod Knowing
 pub mod Replaying
 pub mod Meeting
 pub mod Settling
+pub mod Doubting

@@ -1,8 +1,7 @@
 -- A log of one shard that may be opened is one from which the shard serves with nothing in doubt.
-use Rattle.std.proofs.Common.{◌≡◌, inr, refl, sym, ◌∙◌, ℕ, ◌<◌, true, false, List, [], ◌∷◌, Option, Some, None, is_none, ◌==◌, nat_lt, arith, eq-eqb}
+use Rattle.std.proofs.Common.{◌≡◌, inr, refl, ℕ, ◌<◌, true, false, List, [], ◌∷◌, Option, Some, None, is_none, ◌==◌, nat_lt, arith, eq-eqb}
 use Rattle.std.specs.List.{AllByRecursion, list_all}
 use Rattle.std.proofs.lemmas.Bool.{both_ways, and_parts, ltb-true}
-use Rattle.clv_base.specs.declared.names.TxId.{TxId}
 use Rattle.clv_base.specs.declared.logs.LogRecord.{LogRecord}
 use Rattle.clv_base.specs.declared.logs.LogRecord.TheVariants.{Update, Clr, Prepare, Commit, Abort, End, Restart}
 use Rattle.clv_base.specs.Orders.{nat_in}

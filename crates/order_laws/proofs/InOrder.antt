@@ -1,6 +1,6 @@
 -- What holds of a log in order, record by record.
-use Rattle.std.proofs.Common.{◌≡◌, ⊎_elim, refl, sym, ap, subst, ◌∙◌, ℕ, suc, true, false, Bool, List, [], ◌∷◌, ◌++◌, length, Option, Some, None, arith, append-nil, append_assoc}
-use Rattle.std.specs.Prelude.{⊤}
+use Rattle.std.proofs.Common.{◌≡◌, ⊎_elim, refl, sym, ap, subst, ◌∙◌, ℕ, zero, suc, true, false, Bool, List, [], ◌∷◌, ◌++◌, length, Option, Some, None, arith, append-nil, append_assoc}
+use Rattle.std.specs.Prelude.{⊤, take}
 use Rattle.std.specs.List.{AllByRecursion}
 use Rattle.std.proofs.lemmas.Bool.{both_ways, not-true, false_from_ne_true}
 use Rattle.clv_base.specs.declared.names.TxId.{TxId}
@@ -12,7 +12,7 @@ use Rattle.clv_base.specs.LogRules.{may_follow, disorder_from, disorder}
 use Rattle.clv_base.specs.Restarts.{greatest_run}
 use Rattle.clv_base.proofs.SameNames.{tx_true}
 use Rattle.law_base.proofs.Undoing.{standing_append}
-use Rattle.order_laws.specs.Order.{is_clr_of, undone_in, moves, Open_at, Tidy, Unprepared, Sealed, RunFits, NothingAfterCommit, NothingAfterPrepare, UndoneAreUncommitted, CommittedLieOnCommitted, RunsAreThoseOfRestarts}
+use Rattle.order_laws.specs.Order.{is_clr_of, undone_in, moves, Open_at, Tidy, Unprepared, Sealed, RunFits, NothingAfterCommit, NothingAfterPrepare, UndoneAreUncommitted, CommittedLieOnCommitted, RunsAreThoseOfRestarts, FrontsKeepOrder}
 use Rattle.order_laws.proofs.Records.{front, last, push_cases, push_left, push_false}
 use Rattle.order_laws.proofs.Runs.{runs_step}
 use Rattle.order_laws.proofs.Writes.{Writes, writes_step}
@@ -135,3 +135,13 @@ lie_in_order shard log d = (in_order shard log d).writes.lie
 
 pub runs_in_order : RunsAreThoseOfRestarts
 runs_in_order shard log d = (in_order shard log d).runs
+
+front_from : (shard k : ℕ) (before rs : List LogRecord) (n : ℕ) → disorder_from shard k before rs ≡ None → disorder_from shard k before (take n rs) ≡ None
+front_from shard k before rs zero d = refl
+front_from shard k before [] (suc n) d = refl
+front_from shard k before (r ∷ rs) (suc n) d =
+    let p = order_case shard k before r rs (may_follow shard before r) refl d in
+    ap (λ b. elim b [ true ↦ disorder_from shard (suc k) (before ++ r ∷ []) (take n rs) | false ↦ Some k ]) p.0 ∙ front_from shard (suc k) (before ++ r ∷ []) rs n p.1
+
+pub fronts_in_order : FrontsKeepOrder
+fronts_in_order shard n log d = front_from shard 0 [] log n d

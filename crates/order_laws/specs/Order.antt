@@ -1,5 +1,5 @@
 -- What the order rules make of a log.
-use Rattle.std.specs.Prelude.{◌≡◌, ⊤, ◌≤◌, ℕ, Bool, true, false, List, [], ◌∷◌, ◌++◌, Option, Some, None}
+use Rattle.std.specs.Prelude.{◌≡◌, ⊤, ◌≤◌, ℕ, Bool, true, false, List, [], ◌∷◌, ◌++◌, Option, Some, None, take}
 use Rattle.std.specs.List.{AllByRecursion, list_any}
 use Rattle.clv_base.specs.declared.names.TxId.{TxId}
 use Rattle.clv_base.specs.declared.logs.LogRecord.{LogRecord}
@@ -72,3 +72,6 @@ CommittedLieOnCommitted = (shard : ℕ) (log : List LogRecord) → disorder shar
 
 abbrev pub RunsAreThoseOfRestarts : Type 0
 RunsAreThoseOfRestarts = (shard : ℕ) (log : List LogRecord) → disorder shard log ≡ None → AllByRecursion (RunFits (greatest_run log)) log
+
+abbrev pub FrontsKeepOrder : Type 0
+FrontsKeepOrder = (shard n : ℕ) (log : List LogRecord) → disorder shard log ≡ None → disorder shard (take n log) ≡ None

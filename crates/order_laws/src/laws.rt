@@ -1,6 +1,6 @@
 // Laws of a log in order.
 
-ghost use Rattle.order_laws.specs.Order.{NothingAfterCommit, NothingAfterPrepare, UndoneAreUncommitted, CommittedLieOnCommitted, RunsAreThoseOfRestarts};
+ghost use Rattle.order_laws.specs.Order.{NothingAfterCommit, NothingAfterPrepare, UndoneAreUncommitted, CommittedLieOnCommitted, RunsAreThoseOfRestarts, FrontsKeepOrder};
 
 /// In a log in order no UPDATE and no CLR of a transaction stands behind its COMMIT.
 pub fn nothing_after_commit()
@@ -25,4 +25,9 @@ pub fn committed_lie_on_committed()
 /// Each record's transaction is of a run that a RESTART of the log names, or of an earlier one.
 pub fn runs_are_those_of_restarts()
     ensures { RunsAreThoseOfRestarts }
+{}
+
+/// Each front of a log in order is in order: the rules hold at every length, and so in what a crash leaves.
+pub fn fronts_keep_order()
+    ensures { FrontsKeepOrder }
 {}
