@@ -5,7 +5,7 @@ use Rattle.std.proofs.lemmas.Bool.{cases_Bool, both_ways, cond-true, cond-false,
 use Rattle.std.proofs.lemmas.List.Folds.{list_any-append}
 use Rattle.clv_base.specs.declared.names.TxId.{TxId}
 use Rattle.clv_base.specs.declared.logs.LogRecord.{LogRecord}
-use Rattle.clv_base.specs.declared.logs.LogRecord.TheVariants.{Update, Clr, Prepare, Commit, Abort, End, Restart}
+use Rattle.clv_base.specs.declared.logs.LogRecord.TheVariants.{Prepare, Commit, End}
 use Rattle.clv_base.specs.declared.modes.Part.{Part}
 use Rattle.clv_base.specs.declared.modes.Part.TheVariants.{S, X}
 use Rattle.clv_base.specs.declared.modes.Anchor.{Anchor}
@@ -13,7 +13,7 @@ use Rattle.clv_base.specs.declared.modes.Anchor.TheVariants.{Low, At}
 use Rattle.clv_base.specs.declared.state.Stage.{Stage}
 use Rattle.clv_base.specs.declared.state.Stage.TheVariants.{Active, Closed, Gone}
 use Rattle.clv_base.specs.Orders.{tx_same, tx_in}
-use Rattle.clv_base.specs.Logs.{standing, committed_in, wrote_in, prepared_in, prepare_of, is_update_of, is_commit_of, is_prepare_of}
+use Rattle.clv_base.specs.Logs.{standing, committed_in, wrote_in, prepared_in, is_update_of, is_commit_of, is_prepare_of}
 use Rattle.clv_base.specs.Locks.{Locks, is_free}
 use Rattle.clv_base.specs.State.{is_present}
 use Rattle.clv_base.specs.Needs.{Records, value_at, lower_anchor, is_locked_or_live, without_ghosts}

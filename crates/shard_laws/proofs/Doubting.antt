@@ -1,8 +1,8 @@
 -- Who is in doubt in a log that lists what its PREPAREs met, and what a cut of the log lists.
-use Rattle.std.proofs.Common.{◌≡◌, ◌⊎◌, inl, inr, ⊎_elim, refl, sym, ap, subst, ◌∙◌, ℕ, ◌<◌, Bool, true, false, cond, not, ◌&&◌, ◌||◌, ◌==◌, List, [], ◌∷◌, ◌++◌, Option, Some, None, arith, append_assoc}
+use Rattle.std.proofs.Common.{◌≡◌, ◌⊎◌, inl, inr, ⊎_elim, refl, sym, ap, subst, ◌∙◌, ℕ, ◌<◌, Bool, true, false, cond, not, ◌&&◌, ◌||◌, ◌==◌, List, [], ◌∷◌, ◌++◌, Option, Some, arith, append_assoc}
 use Rattle.std.specs.Prelude.{take, drop}
 use Rattle.std.specs.List.{list_all}
-use Rattle.std.proofs.lemmas.Bool.{both_ways, cond-true, cond-false, or_cases, and_parts, and_from, not-true}
+use Rattle.std.proofs.lemmas.Bool.{both_ways, and_parts, and_from, not-true}
 use Rattle.std.proofs.lemmas.List.{take-append-drop}
 use Rattle.clv_base.specs.declared.names.TxId.{TxId}
 use Rattle.clv_base.specs.declared.logs.LogRecord.{LogRecord}
@@ -10,7 +10,7 @@ use Rattle.clv_base.specs.declared.logs.LogRecord.TheVariants.{Update, Clr, Prep
 use Rattle.clv_base.specs.Orders.{tx_same, tx_in, tx_insert}
 use Rattle.clv_base.specs.Logs.{committed_in, aborted_in, prepared_in, prepare_of, place_from, is_commit_of, is_prepare_of, doubt_by, in_doubt_from, in_doubt, is_winner}
 use Rattle.clv_base.specs.LogRules.{listed_in}
-use Rattle.clv_base.proofs.SameNames.{or_left, or_right, tx_true, tx_self, insert_keeps, in_insert}
+use Rattle.clv_base.proofs.SameNames.{or_left, or_right, tx_self, insert_keeps, in_insert}
 use Rattle.law_base.proofs.Commits.{place_some, place_keeps, place_there}
 use Rattle.order_laws.specs.Order.{Sealed}
 use Rattle.shard_laws.proofs.Cutting.{taken_there, taken_place}

@@ -20,4 +20,5 @@ pub mod Rebuilding
 pub mod Reviving
 pub mod Opening
 pub mod Histories
+pub mod Choosing
 pub mod Settled

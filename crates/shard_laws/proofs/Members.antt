@@ -3,10 +3,7 @@ use Rattle.std.proofs.Common.{◌≡◌, ℕ, ◌≤◌, ◌<◌, ◌⊎◌, inl
 use Rattle.std.specs.List.{AllByRecursion, filter}
 use Rattle.std.proofs.lemmas.Bool.{cases_Bool, both_ways, cond-true, or_cases, and_from}
 use Rattle.clv_base.specs.declared.names.TxId.{TxId}
-use Rattle.clv_base.specs.declared.logs.LogRecord.{LogRecord}
-use Rattle.clv_base.specs.declared.logs.LogRecord.TheVariants.{Update, Clr, Prepare, Commit, Abort, End, Restart}
 use Rattle.clv_base.specs.Orders.{tx_same, tx_in}
-use Rattle.clv_base.specs.Maps.{KeyMap}
 use Rattle.clv_base.specs.Logs.{StandingUpdate, committed_in, wrote_in}
 use Rattle.clv_base.specs.State.{is_present}
 use Rattle.law_base.specs.Items.{Item, wrote, Runs, after, AllLater, Reaches, Clash, pile, on_top, is_write_at}
@@ -17,7 +14,7 @@ use Rattle.law_base.proofs.Tables.{is_pair}
 use Rattle.law_base.proofs.Commits.{before_second, durable_committed, before_durable}
 use Rattle.shard_laws.proofs.Kept.{Past, place, Dep, Known, Ended}
 use Rattle.std.specs.Prelude.{take}
-use Rattle.clv_base.specs.Maps.{replay_map, replay_answers, map_set}
+use Rattle.clv_base.specs.Maps.{replay_map, replay_answers}
 use Rattle.clv_base.specs.Logs.{stands, fold_updates, committed_somewhere}
 use Rattle.clv_base.specs.State.{Shard}
 use Rattle.clv_base.specs.Folding.{Placed, grouped_from, ops_of, answers_of}

@@ -1,17 +1,17 @@
 -- A shard that was opened keeps what a shard keeps: nothing was done yet, over the writes that the log found commits.
-use Rattle.std.proofs.Common.{◌≡◌, ℕ, ◌<◌, inr, Bool, true, false, cond, not, ◌&&◌, ◌||◌, List, [], ◌∷◌, length, Option, Some, None, refl, sym, ap, subst, ◌∙◌, arith, eq-eqb}
-use Rattle.std.specs.List.{AllByRecursion, filter, list_all}
+use Rattle.std.proofs.Common.{◌≡◌, ℕ, ◌<◌, inr, Bool, true, false, ◌||◌, List, [], ◌∷◌, length, Option, Some, None, refl, sym, ap, subst, ◌∙◌, arith}
+use Rattle.std.specs.List.{AllByRecursion, filter}
 use Rattle.std.proofs.lemmas.Bool.{both_ways, cond_both}
 use Rattle.clv_base.specs.declared.names.TxId.{TxId}
 use Rattle.clv_base.specs.declared.logs.LogRecord.{LogRecord}
 use Rattle.clv_base.specs.declared.logs.LogRecord.TheVariants.{Update, Clr, Prepare, Commit, Abort, End, Restart}
-use Rattle.clv_base.specs.Orders.{tx_in, tx_insert}
+use Rattle.clv_base.specs.Orders.{tx_in}
 use Rattle.clv_base.specs.declared.state.Stage.{Stage}
 use Rattle.clv_base.specs.declared.state.Stage.TheVariants.{Active, Closed, Gone}
 use Rattle.clv_base.specs.declared.state.Voter.{Voter}
 use Rattle.clv_base.specs.Maps.{map_get}
 use Rattle.clv_base.specs.Needs.{Records, value_at}
-use Rattle.clv_base.specs.Logs.{StandingUpdate, standing, committed_in, aborted_in, committed_somewhere, is_commit_of, in_doubt, in_doubt_from, is_winner, fold_updates, stands}
+use Rattle.clv_base.specs.Logs.{StandingUpdate, standing, committed_in, committed_somewhere, is_commit_of, in_doubt, is_winner, fold_updates, stands}
 use Rattle.clv_base.specs.Restarts.{greatest_run, log_after_restart, records_of, with_ghosts, restored_locks, unended_in, opened}
 use Rattle.law_base.proofs.Running.{top_value}
 use Rattle.law_base.proofs.Undoing.{Chain}

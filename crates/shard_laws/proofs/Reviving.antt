@@ -1,5 +1,5 @@
 -- A restart keeps what a shard keeps: of the past what the log that was found commits or leaves in doubt, and what was told.
-use Rattle.std.proofs.Common.{◌≡◌, ℕ, suc, ◌+◌, ◌≤◌, ◌<◌, ◌⊎◌, inl, inr, ⊎_elim, Bool, true, false, cond, not, ◌&&◌, ◌||◌, List, [], ◌∷◌, ◌++◌, map, length, Option, Some, None, unwrap_or, ◌==◌, T, nat_lt, refl, sym, ap, subst, ◌∙◌, arith, eqb-true, eq-eqb}
+use Rattle.std.proofs.Common.{◌≡◌, ℕ, ◌+◌, ◌≤◌, ◌<◌, ◌⊎◌, inl, inr, ⊎_elim, Bool, true, false, cond, not, ◌&&◌, ◌||◌, List, [], ◌∷◌, ◌++◌, map, length, Option, Some, None, unwrap_or, ◌==◌, T, nat_lt, refl, sym, ap, subst, ◌∙◌, arith, eqb-true, eq-eqb}
 use Rattle.std.specs.Prelude.{take, drop}
 use Rattle.std.specs.List.{AllByRecursion, filter}
 use Rattle.std.proofs.lemmas.Bool.{cases_Bool, both_ways, cond_both, cond-true, cond-false, or_cases, and_parts, and_from, false_from_ne_true, ltb-true}
@@ -20,8 +20,8 @@ use Rattle.clv_base.specs.declared.state.Request.{Request}
 use Rattle.clv_base.specs.declared.state.RequestState.TheVariants.{Undecided, Committed, Finished}
 use Rattle.clv_base.specs.declared.state.Voter.{Voter}
 use Rattle.clv_base.specs.Orders.{Table, tx_same, tx_in, tx_get, tx_put}
-use Rattle.clv_base.specs.Maps.{KeyMap, map_get, map_set}
-use Rattle.clv_base.specs.Logs.{StandingUpdate, standing, standing_from, without_newest, committed_in, prepared_in, wrote_in, ended_in, prepare_of, is_update_of, is_commit_of, in_doubt, is_winner, fold_updates}
+use Rattle.clv_base.specs.Maps.{KeyMap, map_get}
+use Rattle.clv_base.specs.Logs.{StandingUpdate, standing, committed_in, prepared_in, wrote_in, ended_in, prepare_of, is_update_of, is_commit_of, in_doubt, is_winner, fold_updates}
 use Rattle.clv_base.specs.LogRules.{listed_in}
 use Rattle.clv_base.specs.Locks.{Locks}
 use Rattle.clv_base.specs.State.{Shard, is_present}
@@ -31,7 +31,7 @@ use Rattle.clv_base.specs.Folding.{IsRising}
 use Rattle.clv_base.specs.Participant.{restored_voter, restored_voters}
 use Rattle.clv_base.specs.Coordinator.{restored_request, restored_requests}
 use Rattle.clv_base.specs.Restarts.{records_of, with_ghosts, restored_locks, restored_parts, home_by, homes_of, pairs_of_listed, restored_pairs, unended_with, unended_in, log_left, revived, Restarts}
-use Rattle.clv_base.proofs.SameNames.{or_left, or_right, tx_true, tx_self, tx_eq, tx_flip}
+use Rattle.clv_base.proofs.SameNames.{or_left, or_right, tx_true, tx_eq, tx_flip}
 use Rattle.law_base.specs.Items.{Item, wrote, writes, Runs, AllLater, Reaches, pile, on_top, is_write_at}
 use Rattle.law_base.proofs.Cells.{record_at, live_by}
 use Rattle.law_base.proofs.Lists.{all_mono, all_both, all_filter, later_mono, later_filter}
@@ -262,7 +262,7 @@ pair_of log (x ∷ xs) t p e =
 
 -- ---- the cut
 
-tidy_closed : (before rs : List LogRecord) (t : TxId) → Tidy before rs → committed_in before t ≡ true → wrote_in rs t ≡ true → ⊥
+pub tidy_closed : (before rs : List LogRecord) (t : TxId) → Tidy before rs → committed_in before t ≡ true → wrote_in rs t ≡ true → ⊥
 tidy_closed before [] t d c w = both_ways false refl w
 tidy_closed before (r ∷ rs) t d c w = ⊎_elim (λ h. one r d.0 h) (λ h. tidy_closed (before ++ r ∷ []) rs t d.1 (committed_append before (r ∷ []) t ∙ or_left _ _ c) h) (or_cases (is_update_of t r) (wrote_in rs t) w)
   where
@@ -270,7 +270,7 @@ tidy_closed before (r ∷ rs) t d c w = ⊎_elim (λ h. one r d.0 h) (λ h. tidy
     one (Update tx k b a) o e = both_ways _ (subst (λ z. committed_in before z ≡ false) (sym (tx_true t tx e)) o) c
     one _ o e = both_ways false refl e
 
-sealed_closed : (before rs : List LogRecord) (t : TxId) → Sealed before rs → prepared_in before t ≡ true → wrote_in rs t ≡ true → ⊥
+pub sealed_closed : (before rs : List LogRecord) (t : TxId) → Sealed before rs → prepared_in before t ≡ true → wrote_in rs t ≡ true → ⊥
 sealed_closed before [] t d c w = both_ways false refl w
 sealed_closed before (r ∷ rs) t d c w = ⊎_elim (λ h. one r d.0 h) (λ h. sealed_closed (before ++ r ∷ []) rs t d.1 (prepared_append before (r ∷ []) t ∙ or_left _ _ c) h) (or_cases (is_update_of t r) (wrote_in rs t) w)
   where
@@ -285,20 +285,20 @@ present_is (Some Closed) e = inr refl
 present_is (Some (Gone d)) e = absurd (both_ways false refl e)
 
 -- who is in doubt in the cut is here still
-abbrev Here : Shard → ℕ → Type 0
+abbrev pub Here : Shard → ℕ → Type 0
 Here s c = (t : TxId) → tx_in t (in_doubt s.shard (take c s.local.log)) ≡ true → is_present (stage_of s.local t) ≡ true
 
 module _ (all : List Item) (g : Past) (s : Shard) (c : ℕ) (h : Sound all g s) (here : Here s c) where
   sealed_cut : Sealed [] (take c s.local.log)
   sealed_cut = sealed_front [] (take c s.local.log) (drop c s.local.log) (subst (Sealed []) (sym (take-append-drop c s.local.log)) h.kept.prepared.sealed)
 
-  doubt_of : (t : TxId) → tx_in t (in_doubt s.shard (take c s.local.log)) ≡ true → Doubted (take c s.local.log) (in_doubt s.shard (take c s.local.log)) t
+  pub doubt_of : (t : TxId) → tx_in t (in_doubt s.shard (take c s.local.log)) ≡ true → Doubted (take c s.local.log) (in_doubt s.shard (take c s.local.log)) t
   doubt_of t i = doubted s.shard (take c s.local.log) t sealed_cut i
 
-  doubt_closed : (t : TxId) → tx_in t (in_doubt s.shard (take c s.local.log)) ≡ true → stage_of s.local t ≡ Some Closed
+  pub doubt_closed : (t : TxId) → tx_in t (in_doubt s.shard (take c s.local.log)) ≡ true → stage_of s.local t ≡ Some Closed
   doubt_closed t i = ⊎_elim (λ a. absurd (both_ways _ (h.kept.prepared.unprepared t a) (prepared_cut c s.local.log t (doubt_of t i).prepared))) (λ e. e) (present_is (stage_of s.local t) (here t i))
 
-  wins_alive : (t : TxId) → is_winner s.shard (take c s.local.log) t ≡ true → undone_in s.local.log t ≡ true → ⊥
+  pub wins_alive : (t : TxId) → is_winner s.shard (take c s.local.log) t ≡ true → undone_in s.local.log t ≡ true → ⊥
   wins_alive t w u =
       let d = h.kept.dead t u in
       ⊎_elim (λ k. both_ways _ d.0 (cut_keeps c s.local.log t k)) (λ i. d.2 (doubt_closed t i)) (or_cases (committed_in (take c s.local.log) t) (tx_in t (in_doubt s.shard (take c s.local.log))) w)

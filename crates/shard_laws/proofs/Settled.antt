@@ -1,17 +1,15 @@
 -- Where a shard is quiet its live records are the map that its log stands for.
-use Rattle.std.proofs.Common.{◌≡◌, ⊎_elim, ℕ, true, false, cond, Bool, List, [], ◌∷◌, Option, Some, None, ◌||◌, length, refl, sym, ap, subst, ◌∙◌, arith}
+use Rattle.std.proofs.Common.{◌≡◌, ⊎_elim, ℕ, true, false, Bool, List, [], ◌∷◌, Option, Some, None, ◌||◌, length, refl, sym, ap, subst, ◌∙◌, arith}
 use Rattle.std.specs.Prelude.{take}
 use Rattle.std.specs.List.{AllByRecursion, filter, list_all}
 use Rattle.std.proofs.lemmas.Bool.{both_ways, and_parts, or_cases, cases_Bool, eq-eqb}
 use Rattle.std.proofs.lemmas.List.{take_all}
 use Rattle.clv_base.specs.declared.names.TxId.{TxId}
-use Rattle.clv_base.specs.declared.logs.LogRecord.{LogRecord}
-use Rattle.clv_base.specs.declared.logs.LogRecord.TheVariants.{Update, Clr, Prepare, Commit, Abort, End, Restart}
 use Rattle.clv_base.specs.declared.modes.Anchor.TheVariants.{At}
 use Rattle.clv_base.specs.declared.modes.Part.TheVariants.{X}
 use Rattle.clv_base.specs.declared.state.Stage.{Stage}
 use Rattle.clv_base.specs.declared.state.Stage.TheVariants.{Active, Closed, Gone}
-use Rattle.clv_base.specs.Maps.{KeyMap, map_set, map_get}
+use Rattle.clv_base.specs.Maps.{map_get}
 use Rattle.clv_base.specs.Logs.{StandingUpdate, committed_in, fold_updates, committed_somewhere, stands, standing}
 use Rattle.clv_base.specs.State.{Shard, is_gone_stage}
 use Rattle.clv_base.specs.Needs.{live_pairs}

@@ -1,5 +1,5 @@
 -- Histories of one shard alone, with restarts; its members; and what is to be shown of them.
-use Rattle.std.specs.Prelude.{◌≡◌, ⊤, ℕ, ◌+◌, ◌≤◌, ◌<◌, ◌&&◌, Bool, true, false, ◌||◌, List, [], ◌∷◌, ◌++◌, map, take, length, Option, Some, None, cond, zero, suc}
+use Rattle.std.specs.Prelude.{◌⊎◌, ◌≡◌, ⊤, ℕ, ◌+◌, ◌≤◌, ◌<◌, ◌&&◌, Bool, true, false, ◌||◌, List, [], ◌∷◌, ◌++◌, map, take, length, Option, Some, None, cond, zero, suc}
 use Rattle.std.specs.List.{list_any, list_all, filter}
 use Rattle.clv_base.specs.declared.names.TxId.{TxId}
 use Rattle.clv_base.specs.declared.names.Birth.{Birth}
@@ -15,10 +15,9 @@ use Rattle.clv_base.specs.declared.events.Outcome.{Outcome}
 use Rattle.clv_base.specs.declared.events.Outcome.TheVariants.{Answered, Acknowledged, Up}
 use Rattle.clv_base.specs.Orders.{tx_same, tx_in, tx_get}
 use Rattle.clv_base.specs.Maps.{replay_map, replay_answers}
-use Rattle.clv_base.specs.Logs.{committed_in, prepared_in, wrote_in, in_doubt, stands}
+use Rattle.clv_base.specs.Logs.{committed_in, prepared_in, wrote_in, in_doubt, fold_updates, stands}
 use Rattle.clv_base.specs.declared.messages.Message.{Message}
 use Rattle.clv_base.specs.declared.messages.Message.TheVariants.{Prepare, Vote as VoteMessage, Decide, Done, Ask}
-use Rattle.std.specs.List.{AllByRecursion}
 use Rattle.clv_base.specs.State.{Shard, Local, is_present}
 use Rattle.clv_base.specs.Facts.{predecessors_of}
 use Rattle.clv_base.specs.Locks.{violated}
@@ -30,7 +29,7 @@ use Rattle.clv_base.specs.declared.state.RequestState.TheVariants.{Undecided}
 use Rattle.clv_base.specs.Undo.{stage_of}
 use Rattle.clv_base.specs.Events.{Does, happen, landed, with_entry, epoch_in}
 use Rattle.clv_base.specs.OneShard.{seen_fits}
-use Rattle.clv_base.specs.LogRules.{disorder}
+use Rattle.clv_base.specs.LogRules.{disorder, listed_in}
 use Rattle.clv_base.specs.Restarts.{greatest_run, opened, log_left, revived, Restarts}
 use Rattle.law_base.specs.Items.{Item}
 use Rattle.order_laws.specs.Order.{undone_in}
@@ -165,6 +164,23 @@ AnswersAndMap =
     (shard run : ℕ) (before : List LogRecord) (all : List Item) (asked told : List TxId) (met : List (TxId × TxId)) (s : Shard) (cut : ℕ) → Leads shard run before all asked told met s → s.durable ≤ cut
     → (replay_answers (stands (before ∷ [])) (ops_by (members_of s cut told asked) all) ≡ answers_by (members_of s cut told asked) all)
     × (replay_map (stands (before ∷ [])) (ops_by (members_of s cut told asked) all) ≡ stands (take cut s.local.log ∷ []))
+
+-- a choice of transactions as other shards' COMMITs make it: all that the cut commits are chosen, and each of the chosen is a member here, or
+-- is in doubt in the cut, which commits all that its PREPARE lists
+pub record MayChoose (s : Shard) (cut : ℕ) (told : List TxId) (chosen : TxId → Bool) : Type 0 where
+  pub commits : (t : TxId) → committed_in (take cut s.local.log) t ≡ true → chosen t ≡ true
+  pub are_here :
+      (t : TxId) → chosen t ≡ true
+      → (is_member s cut told t ≡ true)
+      ⊎ ((tx_in t (in_doubt s.shard (take cut s.local.log)) ≡ true) × (list_all (committed_in (take cut s.local.log)) (listed_in (take cut s.local.log) t) ≡ true))
+
+-- then the chosen ones that asked give their answers, and the map of the chosen ones' UPDATEs in the cut
+abbrev pub ChosenReplay : Type 0
+ChosenReplay =
+    (shard run : ℕ) (before : List LogRecord) (all : List Item) (asked told : List TxId) (met : List (TxId × TxId)) (s : Shard) (cut : ℕ) (chosen : TxId → Bool)
+    → Leads shard run before all asked told met s → s.durable ≤ cut → StillHere s (take cut s.local.log) → MayChoose s cut told chosen
+    → (replay_answers (stands (before ∷ [])) (ops_by (filter chosen asked) all) ≡ answers_by (filter chosen asked) all)
+    × (replay_map (stands (before ∷ [])) (ops_by (filter chosen asked) all) ≡ fold_updates chosen (take cut s.local.log) [])
 
 -- whose writes a member violated is a member at an earlier place
 abbrev pub Recoverable : Type 0
