@@ -1,5 +1,5 @@
 -- The records at the places that a whole log says.
-use Rattle.std.proofs.Common.{◌≡◌, cond, ◌||◌, List, [], ◌∷◌, length, Some, is_some, unwrap_or, refl, sym, ap, subst, ◌∙◌}
+use Rattle.std.proofs.Common.{◌≡◌, cond, ◌||◌, List, [], ◌∷◌, length, Some, is_some, unwrap_or, refl, subst, ◌∙◌}
 use Rattle.std.proofs.Math.Seq.{take-length}
 use Rattle.clv_base.specs.declared.names.TxId.{TxId}
 use Rattle.clv_base.specs.declared.logs.LogRecord.{LogRecord}

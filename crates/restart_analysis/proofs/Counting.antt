@@ -11,7 +11,7 @@ use Rattle.log_facts.proofs.Bools.{both}
 use Rattle.log_facts.proofs.Members.{in_inserted}
 use Rattle.log_facts.proofs.Names.{tx_symmetric}
 use Rattle.log_facts.proofs.Rising.{Rises, insert_rises, nothing_rises, same_list}
-use Rattle.log_order.proofs.Pushes.{standing_push}
+use Rattle.log_order.proofs.Pushes.{or_false, standing_push}
 use Rattle.restart_analysis.specs.Standing.{number_of, count_after, with_writer, writers_by}
 
 -- ---- the numbers after one more record
@@ -118,6 +118,10 @@ number_kept n (r ∷ rs) ws t none =
 
 -- ---- the two lists
 
+or_true : (a : Bool) → a || true ≡ true
+or_true true = refl
+or_true false = refl
+
 in_writers : (t : TxId) (ws : List StandingUpdate) → tx_in t (writers ws) ≡ nat_lt 0 (number_of t ws)
 in_writers t [] = refl
 in_writers t (w ∷ ws) =
@@ -153,53 +157,17 @@ module _ (count : TxId → ℕ) where
       has some = in_inserted tx t txs ∙ ap (λ b. cond b true (tx_in t txs)) (tx_symmetric tx t)
           ∙ both (λ b. tx_same t tx ≡ b → cond b true (tx_in t txs) ≡ tx_in t txs || (b && nat_lt 0 (count t))) (tx_same t tx)
           (λ _ e. sym (ap (λ b. tx_in t txs || b) (ap (λ u. nat_lt 0 (count u)) (tx_true t tx e) ∙ some) ∙ or_true (tx_in t txs))) (λ _ _. sym (or_false (tx_in t txs))) refl
-        where
-          or_true : (b : Bool) → b || true ≡ true
-          or_true true = refl
-          or_true false = refl
-
-          or_false : (b : Bool) → b || false ≡ b
-          or_false true = refl
-          or_false false = refl
 
       lacks : nat_lt 0 (count tx) ≡ false → tx_in t txs ≡ tx_in t txs || (tx_same t tx && nat_lt 0 (count t))
       lacks none =
           both (λ b. tx_same t tx ≡ b → tx_in t txs ≡ tx_in t txs || (b && nat_lt 0 (count t))) (tx_same t tx)
           (λ _ e. sym (ap (λ b. tx_in t txs || b) (ap (λ u. nat_lt 0 (count u)) (tx_true t tx e) ∙ none) ∙ or_false (tx_in t txs))) (λ _ _. sym (or_false (tx_in t txs))) refl
-        where
-          or_false : (b : Bool) → b || false ≡ b
-          or_false true = refl
-          or_false false = refl
-  in_with (Clr tx undo_next key after) txs t = or_nothing (tx_in t txs)
-    where
-      or_nothing : (b : Bool) → b ≡ b || false
-      or_nothing true = refl
-      or_nothing false = refl
-  in_with (Prepare tx home predecessors) txs t = or_nothing (tx_in t txs)
-    where
-      or_nothing : (b : Bool) → b ≡ b || false
-      or_nothing true = refl
-      or_nothing false = refl
-  in_with (Commit tx parts) txs t = or_nothing (tx_in t txs)
-    where
-      or_nothing : (b : Bool) → b ≡ b || false
-      or_nothing true = refl
-      or_nothing false = refl
-  in_with (Abort tx) txs t = or_nothing (tx_in t txs)
-    where
-      or_nothing : (b : Bool) → b ≡ b || false
-      or_nothing true = refl
-      or_nothing false = refl
-  in_with (End tx) txs t = or_nothing (tx_in t txs)
-    where
-      or_nothing : (b : Bool) → b ≡ b || false
-      or_nothing true = refl
-      or_nothing false = refl
-  in_with (Restart run epoch) txs t = or_nothing (tx_in t txs)
-    where
-      or_nothing : (b : Bool) → b ≡ b || false
-      or_nothing true = refl
-      or_nothing false = refl
+  in_with (Clr tx undo_next key after) txs t = sym (or_false (tx_in t txs))
+  in_with (Prepare tx home predecessors) txs t = sym (or_false (tx_in t txs))
+  in_with (Commit tx parts) txs t = sym (or_false (tx_in t txs))
+  in_with (Abort tx) txs t = sym (or_false (tx_in t txs))
+  in_with (End tx) txs t = sym (or_false (tx_in t txs))
+  in_with (Restart run epoch) txs t = sym (or_false (tx_in t txs))
 
   either : (a b c p : Bool) → (a || (b && p)) || (c && p) ≡ a || ((b || c) && p)
   either true b c p = refl
@@ -209,11 +177,7 @@ module _ (count : TxId → ℕ) where
   either false false c p = refl
 
   in_by : (rs : List LogRecord) (txs : List TxId) (t : TxId) → tx_in t (writers_by count rs txs) ≡ tx_in t txs || (wrote_in rs t && nat_lt 0 (count t))
-  in_by [] txs t = or_nothing (tx_in t txs)
-    where
-      or_nothing : (b : Bool) → b ≡ b || false
-      or_nothing true = refl
-      or_nothing false = refl
+  in_by [] txs t = sym (or_false (tx_in t txs))
   in_by (r ∷ rs) txs t =
       in_by rs (with_writer count r txs) t ∙ ap (λ b. b || (wrote_in rs t && nat_lt 0 (count t))) (in_with r txs t)
       ∙ either (tx_in t txs) (is_update_of t r) (wrote_in rs t) (nat_lt 0 (count t))

@@ -13,12 +13,9 @@ use Rattle.clv_base.specs.Restarts.{losers, restart_records, log_after_restart, 
 use Rattle.clv_base.proofs.SameNames.{tx_true, insert_keeps, insert_has}
 use Rattle.log_facts.proofs.Bools.{both, and_first, and_second, and_both, not_true, all_same}
 use Rattle.log_facts.proofs.Members.{in_flipped}
+use Rattle.log_order.proofs.Pushes.{or_false}
 use Rattle.restart_analysis.proofs.Doubted.{filter_same}
 use Rattle.restart_analysis.specs.Restarting.{KeepsDoubt, KeepsHomes, KeepsPairs, KeepsUnended}
-
-or_false : (a : Bool) → a || false ≡ a
-or_false true = refl
-or_false false = refl
 
 -- of a restart's kinds
 abbrev is_restarts : LogRecord → Bool
