@@ -1,5 +1,5 @@
 -- The steps of the shard that is restarted with a transaction in doubt.
-use Rattle.std.proofs.Common.{◌≡◌, ⊎_elim, refl, subst, ℕ, lit<, Bool, true, false, List, [], ◌∷◌, Option, Some, None}
+use Rattle.std.proofs.Common.{◌≡◌, ◌⊎◌, inr, arith, ⊎_elim, refl, subst, ℕ, lit<, Bool, true, false, List, [], ◌∷◌, Option, Some, None}
 use Rattle.std.proofs.lemmas.Bool.{both_ways, or_cases}
 use Rattle.clv_base.specs.declared.names.TxId.{TxId}
 use Rattle.clv_base.specs.declared.names.Birth.{Birth}
@@ -28,11 +28,13 @@ use Rattle.law_base.specs.Items.{Item}
 use Rattle.clv_base.specs.Undo.{stage_of}
 use Rattle.clv_base.specs.declared.logs.LogRecord.{LogRecord}
 use Rattle.clv_base.specs.declared.logs.LogRecord.TheVariants.{Update, Prepare as PrepareRecord, Restart as RestartRecord}
-use Rattle.clv_base.specs.Logs.{in_doubt}
+use Rattle.std.specs.List.{list_all}
+use Rattle.clv_base.specs.Logs.{committed_in, in_doubt}
+use Rattle.clv_base.specs.LogRules.{listed_in}
 use Rattle.clv_base.specs.Restarts.{opened, revived, untouched}
 use Rattle.clv_base.proofs.SameNames.{tx_true}
-use Rattle.shard_laws.specs.OneShard.{Leads, opens, happens, lands, others_ask, revives}
-use Rattle.history_examples.specs.Doubt.{doubtful, DoubtIsRestored, DoubtIsCommitted}
+use Rattle.shard_laws.specs.OneShard.{Leads, opens, happens, lands, others_ask, revives, is_member, MayChoose}
+use Rattle.history_examples.specs.Doubt.{doubtful, DoubtIsRestored, DoubtIsCommitted, DoubtIsChosen}
 
 abbrev birth : Birth
 birth = record { stamp = 1; session = 1; serial = 1 }
@@ -133,7 +135,7 @@ Led asked s = Leads 1 1 [] items asked [] [] s
 
 led1 : Led [] s1
 led1 =
-    happens put put_answered (reply_state s0 (happen s0 put)) 2 0 (opens (refl, lit< tt, tt))
+    happens put put_answered (reply_state s0 (happen s0 put)) 2 0 (opens (refl, lit< tt, refl))
     (record { not_closed = none_closed; not_asked = λ q. refl; fresh = λ q e. (refl, refl, refl, (λ p m. absurd (both_ways false refl m)), refl); same_birth = λ h e. absurd (none_held h e) }) refl
 
 led2 : Led (doubtful ∷ []) s2
@@ -167,3 +169,16 @@ doubt_is_restored = (items, doubtful ∷ [], [], s5, led5, refl, refl, refl)
 
 pub doubt_is_committed : DoubtIsCommitted
 doubt_is_committed = (items, doubtful ∷ [], [], s8, led8, refl, refl, refl, refl)
+
+still_here : (t : TxId) → tx_in t (in_doubt 1 log_now) ≡ true → is_present (stage_of s5.local t) ≡ true
+still_here t i =
+    ⊎_elim (λ h. subst (λ z. is_present (stage_of s5.local z) ≡ true) (tx_true doubtful t h) refl) (λ h. absurd (both_ways false refl h)) (or_cases (tx_same doubtful t) false i)
+
+chooses : MayChoose s5 4 [] (tx_same doubtful)
+chooses = record {
+  commits = λ t e. absurd (both_ways false refl e);
+  are_here = λ t e. subst (λ z. (is_member s5 4 [] z ≡ true) ⊎ ((tx_in z (in_doubt 1 log_now) ≡ true) × (list_all (committed_in log_now) (listed_in log_now z) ≡ true))) (tx_true doubtful t e) (inr (refl, refl));
+}
+
+pub doubt_is_chosen : DoubtIsChosen
+doubt_is_chosen = (items, doubtful ∷ [], [], s5, led5, omega arith, still_here, chooses, refl, refl)

@@ -20,9 +20,10 @@ use Rattle.law_base.specs.Items.{Item, Runs, after, AllLater, Reaches, Clash, pi
 use Rattle.law_base.proofs.Lists.{all_mono, all_filter, later_mono, later_filter}
 use Rattle.law_base.proofs.Running.{top_value, Keeps, kept_runs, rising_all, pile_value}
 use Rattle.law_base.proofs.Undoing.{standing_append}
+use Rattle.law_base.proofs.Tables.{is_pair}
 use Rattle.law_base.proofs.Commits.{place_there}
 use Rattle.order_laws.specs.Order.{Tidy, Sealed, undone_in}
-use Rattle.shard_laws.specs.OneShard.{items_of, ops_by, answers_by, MayChoose, ChosenReplay}
+use Rattle.shard_laws.specs.OneShard.{items_of, ops_by, answers_by, MayChoose, ChosenReplay, ChosenStandBefore}
 use Rattle.shard_laws.proofs.Kept.{Past, view_of, place, Dep, Known}
 use Rattle.shard_laws.proofs.Prepared.{Lists, sealed_later}
 use Rattle.shard_laws.proofs.Changes.{undone_append, wrote_append, later_both}
@@ -181,6 +182,13 @@ module _ (all : List Item) (g : Past) (s : Shard) (told : List TxId) (cut : ℕ)
       let answers : map answers_of (grouped_from 0 (length ms) ps) ≡ answers_by ms all = ap (map answers_of) (groups_are ms kept o) ∙ all_answers ms ms kept ∙ same_answers ms ms_chosen in
       (ap (replay_answers g.start) (sym ops) ∙ run.0 ∙ answers, ap (replay_map g.start) (sym ops) ∙ run.1 ∙ after_placed ms g.start kept ∙ same_chosen)
 
+  pub chosen_before : (t p : TxId) → is_pair g.met t p ≡ true → chosen t ≡ true → (chosen p ≡ true) × (place (filter chosen g.asked) p < place (filter chosen g.asked) t)
+  chosen_before t p e k =
+      ⊎_elim
+      (λ o. absurd (not_lost t k o))
+      (λ d. let q = dep_chosen t p d.0 (h.kept.prepared.recover t p e) k in (q, filter_place chosen g.asked p t q k d.1))
+      (h.kept.recover t p e)
+
 pub chosen_replay : ChosenReplay
 chosen_replay shard run before all asked told met s cut chosen leads le here may =
     let b = held shard run before all asked told met s leads in
@@ -188,3 +196,9 @@ chosen_replay shard run before all asked told met s cut chosen leads le here may
       subst (λ l. replay_answers (stands (before ∷ [])) (ops_by (filter chosen l) all) ≡ answers_by (filter chosen l) all) b.4 (subst (λ m. replay_answers m (ops_by (filter chosen (b.0).asked) all) ≡ answers_by (filter chosen (b.0).asked) all) b.2 r.0),
       subst (λ l. replay_map (stands (before ∷ [])) (ops_by (filter chosen l) all) ≡ fold_updates chosen (take cut s.local.log) []) b.4 (subst (λ m. replay_map m (ops_by (filter chosen (b.0).asked) all) ≡ fold_updates chosen (take cut s.local.log) []) b.2 r.1),
     )
+
+pub chosen_stand_before : ChosenStandBefore
+chosen_stand_before shard run before all asked told met s cut chosen t p leads le here may e k =
+    let b = held shard run before all asked told met s leads in
+    let r = chosen_before all b.0 s told cut chosen b.1 le (subst Once (sym b.4) b.5) b.6 here may t p (subst (λ m. is_pair m t p ≡ true) (sym b.7) e) k in
+    (r.0, subst (λ l. place (filter chosen l) p < place (filter chosen l) t) b.4 r.1)

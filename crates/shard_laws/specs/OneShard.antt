@@ -182,6 +182,13 @@ ChosenReplay =
     → (replay_answers (stands (before ∷ [])) (ops_by (filter chosen asked) all) ≡ answers_by (filter chosen asked) all)
     × (replay_map (stands (before ∷ [])) (ops_by (filter chosen asked) all) ≡ fold_updates chosen (take cut s.local.log) [])
 
+-- whose writes a chosen one violated is chosen, at an earlier place
+abbrev pub ChosenStandBefore : Type 0
+ChosenStandBefore =
+    (shard run : ℕ) (before : List LogRecord) (all : List Item) (asked told : List TxId) (met : List (TxId × TxId)) (s : Shard) (cut : ℕ) (chosen : TxId → Bool) (t p : TxId)
+    → Leads shard run before all asked told met s → s.durable ≤ cut → StillHere s (take cut s.local.log) → MayChoose s cut told chosen → has_met met t p ≡ true → chosen t ≡ true
+    → (chosen p ≡ true) × (place (filter chosen asked) p < place (filter chosen asked) t)
+
 -- whose writes a member violated is a member at an earlier place
 abbrev pub Recoverable : Type 0
 Recoverable =

@@ -1,6 +1,6 @@
 // Laws over all histories of one shard.
 
-ghost use Rattle.shard_laws.specs.OneShard.{AnswersAndMap, Recoverable, QuietIsSettled, ChosenReplay};
+ghost use Rattle.shard_laws.specs.OneShard.{AnswersAndMap, Recoverable, QuietIsSettled, ChosenReplay, ChosenStandBefore};
 
 /// In each history of one shard the members of each cut of the log at or above what is durable replay, in the order of their requests, from
 /// the map that the log found stands for: to the answers that they were given, and to the map that the cut stands for.
@@ -22,4 +22,9 @@ pub fn quiet_is_settled()
 /// answers and to the map of their UPDATEs in the cut.
 pub fn chosen_replay()
     ensures { ChosenReplay }
+{}
+
+/// Whose writes a chosen one violated is chosen too, at an earlier place.
+pub fn chosen_stand_before()
+    ensures { ChosenStandBefore }
 {}
