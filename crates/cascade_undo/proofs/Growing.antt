@@ -1,6 +1,5 @@
 -- A log that grows by one record, and what is left to undo at the end.
-use Rattle.std.proofs.Common.{◌≡◌, ℕ, zero, suc, ◌+◌, ◌-◌, ◌<◌, ◌≤◌, true, false, cond, List, [], ◌∷◌, ◌++◌, length, Option, Some, None, unwrap_or, refl, sym, ap, subst, ◌∙◌, append-nil, length-append, arith}
-use Rattle.std.specs.List.{AllByRecursion}
+use Rattle.std.proofs.Common.{◌≡◌, ℕ, zero, suc, ◌+◌, ◌<◌, ◌≤◌, cond, List, [], ◌∷◌, ◌++◌, length, None, unwrap_or, refl, sym, ap, ◌∙◌, append-nil, length-append, arith}
 use Rattle.std.proofs.lemmas.Bool.{cond-false, false_from_ne_true}
 use Rattle.clv_base.specs.declared.names.TxId.{TxId}
 use Rattle.clv_base.specs.declared.logs.LogRecord.{LogRecord}
@@ -13,7 +12,7 @@ use Rattle.log_buffer.specs.Buffers.{Buffer}
 use Rattle.cascade_undo.specs.Writes.{writes_of}
 use Rattle.cascade_undo.specs.Steps.{AreBelow, Advances, open_of}
 use Rattle.cascade_undo.proofs.Bools.{both}
-use Rattle.cascade_undo.proofs.Standing.{Falls, falls, all_mono, all_below}
+use Rattle.cascade_undo.proofs.Standing.{falls, all_mono}
 use Rattle.cascade_undo.proofs.Splitting.{NoneOf, before_above}
 use Rattle.cascade_undo.proofs.Opening.{none_open, open_none}
 

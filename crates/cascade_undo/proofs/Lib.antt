@@ -8,3 +8,4 @@ pub mod Placing
 pub mod Aborting
 pub mod Growing
 pub mod Covering
+pub mod Keeping

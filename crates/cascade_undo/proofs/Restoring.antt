@@ -1,5 +1,5 @@
 -- Records with one set back.
-use Rattle.std.proofs.Common.{◌≡◌, ℕ, ◌<◌, Bool, true, false, cond, ◌==◌, List, [], ◌∷◌, map, Option, Some, None, refl, sym, ap, ◌∙◌, eqb-true, eq-eqb, arith}
+use Rattle.std.proofs.Common.{◌≡◌, ℕ, ◌<◌, true, false, cond, ◌==◌, [], ◌∷◌, map, Option, Some, None, refl, sym, ap, ◌∙◌, eq-eqb, arith}
 use Rattle.std.proofs.lemmas.Bool.{both_ways, ne_eqb}
 use Rattle.std.proofs.lemmas.Bool.Decides.{nat_tests}
 use Rattle.std.specs.Map.{lookup}
@@ -41,7 +41,7 @@ set_there k v (r ∷ rs) h e = at (nat_cmp k r.0) refl (set_there k v rs h.1)
         let there : is_there (found_at k rs) ≡ true = ap (λ b. is_there (found_by (cond b (Some r.1) (lookup (◌==◌ k) rs)))) (sym past) ∙ e in
         ap (λ l. r ∷ l) (more there) ∙ ap (λ b. (r.0, cond b v r.1) ∷ set_back k v rs) (sym (ne_eqb r.0 k (λ q. absurd (omega arith))))
 
-there_by : (v : Option ℕ) → is_there (found_by (Some v)) ≡ true
+pub there_by : (v : Option ℕ) → is_there (found_by (Some v)) ≡ true
 there_by None = refl
 there_by (Some x) = refl
 

@@ -1,9 +1,8 @@
 -- The newest write of a set, among the writes that stand: those above it are others', and it goes.
-use Rattle.std.proofs.Common.{◌≡◌, ℕ, suc, ◌+◌, ◌<◌, ◌≤◌, Bool, true, false, cond, ◌&&◌, ◌==◌, List, [], ◌∷◌, ◌++◌, map, length, Option, Some, None, unwrap_or, refl, sym, ap, subst, ◌∙◌, arith}
-use Rattle.std.specs.List.{AllByRecursion, filter}
+use Rattle.std.proofs.Common.{◌≡◌, ℕ, suc, ◌+◌, ◌<◌, Bool, true, false, cond, ◌&&◌, ◌==◌, List, [], ◌∷◌, ◌++◌, length, Option, Some, None, unwrap_or, refl, sym, ap, subst, ◌∙◌, arith}
+use Rattle.std.specs.List.{AllByRecursion}
 use Rattle.std.proofs.lemmas.Bool.{both_ways, cond-true, cond-false, false_from_ne_true}
 use Rattle.clv_base.specs.declared.names.TxId.{TxId}
-use Rattle.clv_base.specs.declared.logs.LogRecord.{LogRecord}
 use Rattle.clv_base.specs.declared.logs.LogRecord.TheVariants.{Clr}
 use Rattle.clv_base.specs.Orders.{tx_same, tx_in}
 use Rattle.clv_base.specs.Logs.{StandingUpdate, without_newest, newest_of}
@@ -12,7 +11,7 @@ use Rattle.clv_base.proofs.SameNames.{tx_true, tx_self}
 use Rattle.cascade_undo.specs.Writes.{writes_of}
 use Rattle.cascade_undo.specs.Steps.{AreBelow}
 use Rattle.cascade_undo.proofs.Bools.{both}
-use Rattle.cascade_undo.proofs.Standing.{Falls, all_mono, lsn_of, newest_under, falls_weaker, all_below}
+use Rattle.cascade_undo.proofs.Standing.{Falls, all_mono, lsn_of, newest_under, all_below}
 
 -- none of the writes is of the set
 abbrev pub NoneOf : List TxId → List StandingUpdate → Type 0

@@ -1,9 +1,8 @@
 -- The UPDATEs that stand are records of the log, and their LSNs fall.
-use Rattle.std.proofs.Common.{◌≡◌, ℕ, suc, ◌+◌, ◌<◌, ◌≤◌, Bool, true, false, cond, List, [], ◌∷◌, ◌++◌, length, Option, Some, None, is_some, refl, sym, ap, subst, ◌∙◌, append_assoc, length-append, arith}
+use Rattle.std.proofs.Common.{◌≡◌, ℕ, suc, ◌+◌, ◌<◌, ◌≤◌, cond, List, [], ◌∷◌, ◌++◌, length, Option, Some, None, refl, sym, ap, subst, ◌∙◌, append_assoc, length-append, arith}
 use Rattle.std.specs.Prelude.{slice_get}
 use Rattle.std.specs.List.{AllByRecursion}
 use Rattle.std.proofs.Math.Seq.{get_or-append_seam}
-use Rattle.std.proofs.lemmas.Bool.{both_ways, cond-true}
 use Rattle.std.proofs.lemmas.List.{length_push}
 use Rattle.std.proofs.lemmas.Option.{slice_get_read}
 use Rattle.clv_base.specs.declared.names.TxId.{TxId}
@@ -12,7 +11,7 @@ use Rattle.clv_base.specs.declared.logs.LogRecord.TheVariants.{Update, Clr, Prep
 use Rattle.clv_base.specs.Orders.{tx_same}
 use Rattle.clv_base.specs.Logs.{StandingUpdate, without_newest, standing_after, standing_from, standing, newest_of}
 use Rattle.clv_base.specs.Undo.{newest_lsn}
-use Rattle.clv_base.proofs.SameNames.{tx_true, tx_self}
+use Rattle.clv_base.proofs.SameNames.{tx_self}
 use Rattle.cascade_undo.proofs.Bools.{both}
 
 -- ---- LSNs fall
@@ -61,7 +60,7 @@ pub all_mono : (P Q : StandingUpdate → Type 0) → ((w : StandingUpdate) → P
 all_mono P Q h [] a = tt
 all_mono P Q h (w ∷ ws) a = (h w a.0, all_mono P Q h ws a.1)
 
-all_without : (P : StandingUpdate → Type 0) (t : TxId) (ws : List StandingUpdate) → AllByRecursion P ws → AllByRecursion P (without_newest t ws)
+pub all_without : (P : StandingUpdate → Type 0) (t : TxId) (ws : List StandingUpdate) → AllByRecursion P ws → AllByRecursion P (without_newest t ws)
 all_without P t [] a = tt
 all_without P t (w ∷ ws) a = both (λ b. AllByRecursion P (cond b ws (w ∷ without_newest t ws))) (tx_same t w.tx) (λ _. a.1) (λ _. (a.0, all_without P t ws a.1))
 

@@ -1,9 +1,8 @@
 -- One write of a set undone, and the others left.
-use Rattle.std.proofs.Common.{◌≡◌, ℕ, suc, ◌+◌, ◌<◌, ◌≤◌, true, false, cond, ◌==◌, List, [], ◌∷◌, ◌++◌, map, length, Option, Some, None, unwrap_or, refl, sym, ap, subst, ◌∙◌, append_assoc, arith}
-use Rattle.std.specs.Prelude.{is_none, slice_get}
+use Rattle.std.proofs.Common.{◌≡◌, ℕ, ◌+◌, ◌<◌, ◌≤◌, true, cond, List, [], ◌∷◌, ◌++◌, length, Option, Some, unwrap_or, refl, sym, ap, subst, ◌∙◌, append_assoc, arith}
+use Rattle.std.specs.Prelude.{is_none}
 use Rattle.std.specs.List.{AllByRecursion}
 use Rattle.std.specs.List.Sorted.{IsStrictlySortedBy}
-use Rattle.std.proofs.lemmas.Bool.{both_ways, false_from_ne_true}
 use Rattle.clv_base.specs.declared.names.TxId.{TxId}
 use Rattle.clv_base.specs.declared.logs.LogRecord.{LogRecord}
 use Rattle.clv_base.specs.declared.logs.LogRecord.TheVariants.{Clr}
@@ -18,10 +17,10 @@ use Rattle.cascade_undo.specs.declared.write.Write.{Write}
 use Rattle.cascade_undo.specs.Writes.{writes_of, HaveRecords}
 use Rattle.cascade_undo.specs.Steps.{AreBelow, open_of, IsNewestAt}
 use Rattle.cascade_undo.proofs.Bools.{both}
-use Rattle.cascade_undo.proofs.Standing.{Falls, all_mono, all_below, falls, lsn_of, newest_there}
-use Rattle.cascade_undo.proofs.Splitting.{NoneOf, SplitAt, split_at, without_it, clrs_with_it, writes_with_it, before_with_it, below_it, others_stay, all_above}
+use Rattle.cascade_undo.proofs.Standing.{Falls, all_mono, falls, lsn_of, newest_there}
+use Rattle.cascade_undo.proofs.Splitting.{SplitAt, split_at, without_it, clrs_with_it, writes_with_it, before_with_it, below_it, others_stay, all_above}
 use Rattle.cascade_undo.proofs.Restoring.{set_back, set_there, there_stays}
-use Rattle.cascade_undo.proofs.Opening.{open_with_it, none_open, open_none}
+use Rattle.cascade_undo.proofs.Opening.{open_with_it}
 
 abbrev pub as_standing : ℕ → Write → Option ℕ → StandingUpdate
 as_standing lsn w after = record { lsn = lsn; tx = w.tx; key = w.key; before = w.before; after = after }
@@ -110,6 +109,8 @@ below_less set lsn log below none = less (standing log) none (newest_there (leng
     less : (ws : List StandingUpdate) → AllByRecursion (λ w. tx_in w.tx set ≡ true → newest_lsn w.tx (standing log) ≡ Some lsn → ⊥) ws
         → AllByRecursion (λ v. (q : ℕ) × (newest_lsn v.tx (standing log) ≡ Some q) × (v.lsn ≤ q) × (q < length log)) ws → AreBelow set lsn ws
     less [] n t = tt
-    less (v ∷ vs) n t =
-        (λ i. let q = t.0.0 in let up : v.lsn ≤ q = t.0.2 in let low : q < lsn + 1 = newest_below set (lsn + 1) (standing log) v.tx q i below t.0.1 in
-        let not_it : q ≡ lsn → ⊥ = λ s. n.0 i (t.0.1 ∙ ap (λ x. Some x) s) in omega arith, less vs n.1 t.1)
+    less (v ∷ vs) n t = (
+      λ i. let q = t.0.0 in let up : v.lsn ≤ q = t.0.2 in let low : q < lsn + 1 = newest_below set (lsn + 1) (standing log) v.tx q i below t.0.1 in
+          let not_it : q ≡ lsn → ⊥ = λ s. n.0 i (t.0.1 ∙ ap (λ x. Some x) s) in omega arith,
+      less vs n.1 t.1,
+    )

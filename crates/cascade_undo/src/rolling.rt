@@ -16,11 +16,7 @@ use violation_deps::Deps;
 /// the value before the first of these UPDATEs; where there was none, a ghost stays. Nobody is released or unmarked. The room for these
 /// records must have been reserved. Takes no memory, and time in the length of the log from the newest of these UPDATEs back to the oldest,
 /// times the logarithm of the number of marks.
-pub fn roll_back<S: Store>(
-    store: &mut S,
-    buffer: &mut LogBuffer<LogRecord>,
-    deps: &Deps,
-) -> usize
+pub fn roll_back<S: Store>(store: &mut S, buffer: &mut LogBuffer<LogRecord>, deps: &Deps) -> usize
     requires there { HaveRecords deps.now.marked (standing buffer.old.records) (S.records store.old) }
     requires room { length (aborts_of buffer.old.records deps.now.marked) + length (writes_of deps.now.marked (standing buffer.old.records)) ≤ buffer.old.room }
     ensures records { S.records store.new ≡ records_without deps.now.marked (standing buffer.old.records) (S.records store.old) }

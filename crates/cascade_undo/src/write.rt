@@ -26,7 +26,10 @@ fn write_of(found: &LogRecord) -> Option<Write>
 {
     match found {
         LogRecord::Update {
-            tx, key, before, ..
+            tx,
+            key,
+            before,
+            ..
         } => Some(Write {
             tx: *tx,
             key: *key,
@@ -47,11 +50,7 @@ fn write_at(buffer: &LogBuffer<LogRecord>, lsn: u64) -> Option<Write>
 }
 
 /// The write at an LSN, where it is the newest one that stands of a transaction of the set.
-pub(crate) fn newest_at(
-    buffer: &LogBuffer<LogRecord>,
-    set: &[TxId],
-    lsn: u64,
-) -> Option<Write>
+pub(crate) fn newest_at(buffer: &LogBuffer<LogRecord>, set: &[TxId], lsn: u64) -> Option<Write>
     requires { IsStrictlySortedBy tx_cmp set.now }
     ensures newest { IfSome result (IsNewestAt lsn (standing buffer.now.records)) }
     ensures of_set { IfSome result (λ w. tx_in w.tx set.now ≡ true) }

@@ -9,8 +9,7 @@ use Rattle.single_path.specs.Laws.{MayPlay}
 use Rattle.single_path.proofs.Legality.{runs_are_legal}
 use Rattle.protocol_laws.specs.Growth.{IsPrefixOf}
 use Rattle.history_laws.specs.Continuing.{SameAtRestarts}
-use Rattle.one_shard_laws.specs.Replaying.{new_log}
-use Rattle.history_examples.specs.Worked.{one_plan, two_plan, short_run, long_run, short_log, long_log, RunsGoOn, restarted, looked_at, restarted_log, RestartIsLegal, RestartGoesOn, violated, violated_log, ViolatedIsLegal, opened_log, OpenedIsSettled}
+use Rattle.history_examples.specs.Worked.{new_log, one_plan, two_plan, short_run, long_run, short_log, long_log, RunsGoOn, restarted, looked_at, restarted_log, RestartIsLegal, RestartGoesOn, violated, violated_log, ViolatedIsLegal, found_log, from_found, found_left, FoundIsLegal, opened_log, OpenedIsSettled}
 
 -- what holds of shard 0 holds of each shard below 1
 only_one : (P : ℕ → Type 0) → P 0 → (n : ℕ) → n < 1 → P n
@@ -134,6 +133,42 @@ violated_is_legal =
       numbered = refl;
       messages = (tt, (tt, (tt, (tt, (tt, (tt, (tt, tt)))))));
     }
+
+found_runs : MayRun found_left (start_of (found_log ∷ []) 0) (journal_of 0 from_found)
+found_runs = (
+  record { event = (refl, (_, refl)); rises = lit< tt; above_message = lit< tt; bounded = lit< tt },
+  (
+    record { event = (refl, (_, refl)); rises = lit< tt; above_message = lit< tt; bounded = lit< tt },
+    (
+      record { event = (_, refl); rises = lit< tt; above_message = lit< tt; bounded = lit< tt },
+      (
+        record { event = (_, refl); rises = lit< tt; above_message = lit< tt; bounded = lit< tt },
+        (
+          record { event = (refl, refl); rises = lit< tt; above_message = lit< tt; bounded = lit< tt },
+          (record { event = (_, refl); rises = lit< tt; above_message = lit< tt; bounded = lit< tt }, tt),
+        ),
+      ),
+    ),
+  ),
+)
+
+pub found_is_legal : FoundIsLegal
+found_is_legal = (
+  refl,
+  record {
+    splits_rise = refl;
+    ordered = refl;
+    each_log = (refl, refl);
+    in_shards = refl;
+    run_fits = lit< tt;
+    runs = only_one (λ n. MayRun (log_of (found_left ∷ []) n) (start_of (found_log ∷ []) n) (journal_of n from_found)) found_runs;
+    leaves = only_one (λ n. MayLeave (final_of (found_log ∷ []) from_found (found_left ∷ []) n) (log_of (found_left ∷ []) n)) (false, inl refl);
+    stamps = refl;
+    sessions = refl;
+    numbered = refl;
+    messages = (tt, (tt, (tt, (tt, (tt, (tt, tt))))));
+  },
+)
 
 pub opened_is_settled : OpenedIsSettled
 opened_is_settled = (

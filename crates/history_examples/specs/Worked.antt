@@ -5,12 +5,13 @@ use Rattle.clv_base.specs.declared.ops.Op.TheVariants.{Get, Put}
 use Rattle.clv_base.specs.declared.ops.Answer.TheVariants.{Value}
 use Rattle.clv_base.specs.declared.causes.AbortCause.TheVariants.{Restarted}
 use Rattle.clv_base.specs.declared.logs.LogRecord.{LogRecord}
-use Rattle.clv_base.specs.declared.logs.LogRecord.TheVariants.{Update, Commit, Restart as RestartRecord}
+use Rattle.clv_base.specs.declared.logs.LogRecord.TheVariants.{Update, Clr, Commit, Abort, Restart as RestartRecord}
 use Rattle.clv_base.specs.declared.events.Event.{Event}
 use Rattle.clv_base.specs.declared.events.Event.TheVariants.{Op as OpEvent, Request, Look, FlushOut, FlushIn, Stop, Restart}
 use Rattle.clv_base.specs.declared.events.Outcome.{Outcome}
 use Rattle.clv_base.specs.declared.events.Outcome.TheVariants.{Answered, Asked, Acknowledged, Aborted, Out, Durable, Stopped, Up}
 use Rattle.clv_base.specs.declared.events.Entry.{Entry}
+use Rattle.clv_base.specs.Logs.{stands}
 use Rattle.clv_base.specs.Journals.{History}
 use Rattle.clv_base.specs.FileRules.{may_open}
 use Rattle.clv_base.specs.Needs.{live_pairs}
@@ -22,8 +23,11 @@ use Rattle.history_laws.specs.Continuing.{GoesOn, serial_now, serial_left}
 use Rattle.history_laws.specs.Outcomes.{aborted_in_history}
 use Rattle.clv_base.specs.declared.names.TxId.{TxId}
 use Rattle.clv_base.specs.declared.names.Birth.{Birth}
-use Rattle.one_shard_laws.specs.Replaying.{new_log}
 use Rattle.one_shard_laws.specs.Recovering.{predecessors_of_history}
+
+-- a disk that was made and never used: one shard, whose log has no record
+abbrev pub new_log : List (List LogRecord)
+new_log = [] ∷ []
 
 -- ---- two transactions of a session, each committed and durable before the next
 
@@ -118,7 +122,37 @@ reader_member = record { tx = reader; point = record { stamp = 5; shard = 0 }; o
 abbrev pub ViolatedHasMembers : Type 0
 ViolatedHasMembers =
     (serial_left [] new_log violated (violated_log ∷ []) (λ n. false) ≡ first_member ∷ reader_member ∷ [])
-    × (predecessors_of_history violated (violated_log ∷ []) reader ≡ tx_of 1 1 ∷ [])
+    × (predecessors_of_history new_log violated (violated_log ∷ []) reader ≡ tx_of 1 1 ∷ [])
+
+-- ---- a log with a committed transaction and a loser, which wrote over it
+
+abbrev pub loser : TxId
+loser = record { run = 1; session = 2; serial = 1 }
+
+abbrev pub found_log : List LogRecord
+found_log = RestartRecord 1 0 ∷ Update (tx_of 1 1) 5 None (Some 10) ∷ Commit (tx_of 1 1) [] ∷ Update loser 5 (Some 10) (Some 11) ∷ Update loser 6 None (Some 1) ∷ []
+
+abbrev pub from_found : History
+from_found =
+    at 2 1 (OpEvent (tx_of 2 1) (birth_of 1 1) 1 None (Get 6)) (Answered (Value None) 0)
+    ∷ at 3 1 (OpEvent (tx_of 2 1) (birth_of 1 1) 2 (Some 0) (Put 5 12)) (Answered (Value (Some 10)) 0)
+    ∷ at 4 1 (Request (tx_of 2 1) ((0, 0) ∷ [])) Asked ∷ at 5 0 FlushOut (Out 11) ∷ at 6 0 FlushIn (Durable 11) ∷ at 7 1 (Look (tx_of 2 1)) Acknowledged ∷ []
+
+-- the opening undoes the loser
+abbrev pub found_left : List LogRecord
+found_left =
+    found_log ++ Abort loser ∷ Clr loser (Some 3) 6 None ∷ Clr loser None 5 (Some 10) ∷ RestartRecord 2 0 ∷ Update (tx_of 2 1) 5 (Some 10) (Some 12) ∷ Commit (tx_of 2 1) [] ∷ []
+
+abbrev pub FoundIsLegal : Type 0
+FoundIsLegal = (may_open [] (found_log ∷ []) ≡ true) × Legal [] (found_log ∷ []) from_found (found_left ∷ [])
+
+abbrev pub new_member : Member
+new_member = record { tx = tx_of 2 1; point = record { stamp = 4; shard = 0 }; ops = (Get 6, Value None) ∷ (Put 5 12, Value (Some 10)) ∷ [] }
+
+abbrev pub FoundHasMembers : Type 0
+FoundHasMembers =
+    (serial_left [] (found_log ∷ []) from_found (found_left ∷ []) (λ n. false) ≡ new_member ∷ [])
+    × (stands (found_log ∷ []) ≡ (5, 10) ∷ []) × (stands (found_left ∷ []) ≡ (5, 12) ∷ [])
 
 -- ---- where nothing is left to do
 

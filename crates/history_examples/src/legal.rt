@@ -1,6 +1,6 @@
 // Histories worked out by hand, and what the laws say of them.
 
-ghost use Rattle.history_examples.specs.Worked.{RunsGoOn, RunsHaveMembers, RestartIsLegal, RestartGoesOn, RestartHasNoMember, ViolatedIsLegal, ViolatedHasMembers, OpenedIsSettled};
+ghost use Rattle.history_examples.specs.Worked.{RunsGoOn, RunsHaveMembers, RestartIsLegal, RestartGoesOn, RestartHasNoMember, ViolatedIsLegal, ViolatedHasMembers, FoundIsLegal, FoundHasMembers, OpenedIsSettled};
 
 /// A run of one transaction goes on to one of two, all that the law of what is never taken back supposes is there.
 pub fn runs_go_on()
@@ -35,6 +35,16 @@ pub fn violated_is_legal()
 /// The writer is the reader's predecessor, and a member before it.
 pub fn violated_has_members()
     ensures { ViolatedHasMembers }
+{}
+
+/// A log with a committed transaction and a loser that wrote over it may be opened, and a history from it is legal.
+pub fn found_is_legal()
+    ensures { FoundIsLegal }
+{}
+
+/// Its one member reads nothing where the loser wrote, and replaces the committed value; the map goes from the one to the other.
+pub fn found_has_members()
+    ensures { FoundHasMembers }
 {}
 
 /// A shard that was opened and did nothing is settled.

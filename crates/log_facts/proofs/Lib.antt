@@ -3,3 +3,5 @@ pub mod Growing
 pub mod Members
 pub mod Names
 pub mod Places
+pub mod Rising
+pub mod Whole

@@ -6,6 +6,7 @@
 #![tactic(auto)]
 
 pub mod facts;
+mod listing;
 pub mod lists;
 mod set;
 mod table;

@@ -19,7 +19,7 @@ fn is_in(members: &BTreeSet<TxId>, tx: TxId) -> bool
 /// A set of transactions, seen as the list of its members, which rises.
 #[derive(Drop)]
 pub struct TxSet {
-    members: BTreeSet<TxId>,
+    pub(crate) members: BTreeSet<TxId>,
 }
 
 impl Model for TxSet {

@@ -90,6 +90,7 @@ fn a_set_holds(rt: HostRuntime) -> Result<(), Fail> {
     set.insert(tx(1))?;
     set.insert(tx(2))?;
     assert!(rt; set.contains(tx(1)) && set.contains(tx(2)) && !set.contains(tx(3)));
+    assert!(rt; set.to_vec(rt.alloc())?.as_slice() == [tx(1), tx(2)].as_slice());
     set.remove(tx(2));
     set.remove(tx(3));
     assert!(rt; set.contains(tx(1)) && !set.contains(tx(2)) && !set.is_empty());

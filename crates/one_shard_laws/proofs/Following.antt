@@ -20,6 +20,7 @@ use Rattle.clv_base.specs.State.{Shard}
 use Rattle.clv_base.specs.Undo.{stage_of}
 use Rattle.clv_base.specs.OneShard.{seen_fits}
 use Rattle.clv_base.specs.Events.{Does, QuietBeforeWorn, happen, happen_up, request_event, request_by_stage, epoch_in}
+use Rattle.clv_base.specs.Restarts.{run_after}
 use Rattle.clv_base.specs.Journals.{History}
 use Rattle.clv_base.specs.History.{is_acknowledgement, acknowledged_in, answered_op, ops_in, request_of}
 use Rattle.law_base.specs.Items.{Item}
@@ -84,14 +85,14 @@ none_stage parts t e = at (tx_get t parts) refl e
     at None q f = q
     at (Some h) q f = absurd (none_some h.stage (sym f))
 
-active_when_asked : (before after : List (List LogRecord)) (h pre : History) (x : Entry) (s : Shard) (tx : TxId) (ts : List (ℕ × ℕ)) → Next before after h pre x → Knows pre s → x.event ≡ RequestEvent tx ts → AskedOf s tx ts
+active_when_asked : (before after : List (List LogRecord)) (h pre : History) (x : Entry) (s : Shard) (tx : TxId) (ts : List (ℕ × ℕ)) → Next before after h pre x → Knows (run_after before) pre s → x.event ≡ RequestEvent tx ts → AskedOf s tx ts
     → (stage_of s.local tx ≡ Some Active) × (seen_fits s.local.epoch (epoch_in s.shard ts) ≡ true)
 active_when_asked before after h pre x s tx ts n k e (fits f (inl a)) = (a, f)
 active_when_asked before after h pre x s tx ts n k e (fits f (inr (inl a))) = absurd ((k.owned).known tx ((request_known before after h pre x s tx ts n k e).1 f) (none_stage s.local.parts tx a))
 active_when_asked before after h pre x s tx ts n k e (fits f (inr (inr (inl a)))) = absurd (request_no_request before after h pre x tx ts n e (part_of s.local.epoch _ _ (Requested pre) _ _ s tx (Gone None) k.owned a).1)
 active_when_asked before after h pre x s tx ts n k e (fits f (inr (inr (inr a)))) = absurd (request_no_request before after h pre x tx ts n e (part_of s.local.epoch _ _ (Requested pre) _ _ s tx Closed k.owned a).1)
 
-one_asked : (before after : List (List LogRecord)) (h pre : History) (x : Entry) (s t : Shard) → Next before after h pre x → Knows pre s → (e : Event) → x.event ≡ e → happen s e ≡ Does x.outcome t → Happens s e x.outcome t
+one_asked : (before after : List (List LogRecord)) (h pre : History) (x : Entry) (s t : Shard) → Next before after h pre x → Knows (run_after before) pre s → (e : Event) → x.event ≡ e → happen s e ≡ Does x.outcome t → Happens s e x.outcome t
     → ◌≡◌ {A = List TxId} (with_one [] (new_asked s e)) (elim (request_of e x.outcome) [ Some u ↦ u ∷ [] | None ↦ [] ])
 one_asked before after h pre x s t n k (RequestEvent tx ts) q eq g =
     asked_is tx ts (seen_fits s.local.epoch (epoch_in s.shard ts)) (stage_of s.local tx) x.outcome
@@ -113,7 +114,7 @@ one_asked before after h pre x s t n k Restart q eq g = refl
 did_now : (pre : History) (x : Entry) (s : Shard) (t : TxId) (b : Birth) (nth : ℕ) (seen : Option ℕ) (op : Op) (a : Answer) (n : ℕ) → x.event ≡ OpEvent t b nth seen op → x.outcome ≡ Answered a n → SeenIs seen n → Did (pre ++ (0, x) ∷ []) n t b
 did_now pre x s t b nth seen op a n e f z = ((0, x), among_right (0, x) pre ((0, x) ∷ []) (inl refl), record { seen = seen; answer = a; at = record { nth = nth; op = op; is = e }; outcome = f; saw = z })
 
-pub fits_event : (before after : List (List LogRecord)) (h pre : History) (x : Entry) (s t : Shard) (all : List Item) (asked told : List TxId) (met : List (TxId × TxId)) → Next before after h pre x → Knows pre s → Fits pre all asked told met
+pub fits_event : (before after : List (List LogRecord)) (h pre : History) (x : Entry) (s t : Shard) (all : List Item) (asked told : List TxId) (met : List (TxId × TxId)) → Next before after h pre x → Knows (run_after before) pre s → Fits pre all asked told met
     → happen s x.event ≡ Does x.outcome t → Happens s x.event x.outcome t
     → Fits (pre ++ (0, x) ∷ []) (with_one all (new_item s x.event x.outcome)) (with_one asked (new_asked s x.event)) (with_one told (new_told x.event x.outcome)) (new_met s x.event x.outcome ++ met)
 fits_event before after h pre x s t all asked told met n k f eq g =

@@ -19,7 +19,7 @@ use Rattle.clv_base.specs.Orders.{tx_same, tx_get}
 use Rattle.clv_base.specs.State.{Shard, is_present}
 use Rattle.clv_base.specs.Undo.{stage_of}
 use Rattle.clv_base.specs.Events.{with_entry, with_durable, put_down, finish, epoch_in, is_asked_outcome, entry_request, request_epoch}
-use Rattle.clv_base.specs.Restarts.{greatest_epoch, log_left, revived, Restarts}
+use Rattle.clv_base.specs.Restarts.{run_after, greatest_epoch, log_left, revived, Restarts}
 use Rattle.clv_base.specs.Journals.{History, journal_of}
 use Rattle.clv_base.proofs.SameNames.{tx_true}
 use Rattle.law_base.proofs.Changed.{none_some, some_same}
@@ -34,7 +34,7 @@ use Rattle.one_shard_laws.proofs.Owning.{PartIs, Owned}
 use Rattle.one_shard_laws.proofs.OwningEvents.{Owes, owned_happens, owned_flushed, owned_down, owned_revived, owned_mono, owned_kg, known_after, answered_epoch, absent_after}
 use Rattle.one_shard_laws.proofs.Requesting.{IllOf, ill, ill_happens, sent_happens}
 use Rattle.one_shard_laws.proofs.Walking.{SeenIs, AnswersAt}
-use Rattle.one_shard_laws.proofs.Leading.{Did, DidAny, Requested, DidNow, ToldAborted, Knows, Next, owes, named_at, first_named, one_epoch, did_more, answers_of}
+use Rattle.one_shard_laws.proofs.Leading.{Did, OfHistory, Requested, DidNow, ToldAborted, Knows, Next, owes, named_at, first_named, one_epoch, of_more, answers_of}
 use Rattle.one_shard_laws.proofs.Owning.{IsRefused}
 
 -- ---- an abort that a look tells: its part isn't there
@@ -79,7 +79,7 @@ request_entry shard t (r ∷ rs) n e = at (cond (is_asked_outcome r.outcome) (en
     at None q f k = k f
     at (Some m) q f k = here (is_asked_outcome r.outcome) refl (q ∙ f)
 
-lost_absent : (before after : List (List LogRecord)) (h pre : History) (x : Entry) (s : Shard) (u : TxId) (c : AbortCause) → Next before after h pre x → Knows pre s → FindsLost s u c → is_present (stage_of s.local u) ≡ true → ⊥
+lost_absent : (before after : List (List LogRecord)) (h pre : History) (x : Entry) (s : Shard) (u : TxId) (c : AbortCause) → Next before after h pre x → Knows (run_after before) pre s → FindsLost s u c → is_present (stage_of s.local u) ≡ true → ⊥
 lost_absent before after h pre x s u c n k (e, none, unc, req, ne, cause) pr = at (tx_get u s.local.parts) refl pr
   where
     at : (o : Option Held) → tx_get u s.local.parts ≡ o → is_present (stage_by o) ≡ true → ⊥
@@ -96,7 +96,7 @@ lost_absent before after h pre x s u c n k (e, none, unc, req, ne, cause) pr = a
         let same : y.epoch ≡ s.local.epoch = one_epoch before after h (b.1).0 d.0 u b.0 w.birth y.epoch s.local.epoch n.legal (n.turn (b.1).0 (b.1).1).0 (n.turn d.0 d.1).0 (b.1).2 d.2 in
         both_ways _ ne (eq-eqb e s.local.epoch (some_same e y.epoch (sym r.5 ∙ y.names) ∙ same))
 
-ill_absent : (before after : List (List LogRecord)) (h pre : History) (x : Entry) (s : Shard) (u : TxId) (c : AbortCause) → Next before after h pre x → Knows pre s → FindsIll s u c → is_present (stage_of s.local u) ≡ false
+ill_absent : (before after : List (List LogRecord)) (h pre : History) (x : Entry) (s : Shard) (u : TxId) (c : AbortCause) → Next before after h pre x → Knows (run_after before) pre s → FindsIll s u c → is_present (stage_of s.local u) ≡ false
 ill_absent before after h pre x s u c n k (inl (q, g, r)) = (k.owned).refused u q g (subst IsRefused (sym r) tt)
 ill_absent before after h pre x s u c n k (inr l) = false_from_ne_true (is_present (stage_of s.local u)) (lost_absent before after h pre x s u c n k l)
 
@@ -111,15 +111,15 @@ did_later pre x ep t b (y, i, a) = (y, among_left y pre (x ∷ []) i, a)
 requested_later : (pre : History) (x : Placed) (t : TxId) → Requested pre t → Requested (pre ++ x ∷ []) t
 requested_later pre x t (y, ts, i, q) = (y, ts, among_left y pre (x ∷ []) i, q)
 
-raised : (pre : History) (x : Placed) (ep : ℕ) (K G : TxId → Type 0) (s : Shard) → Owned ep (Did pre ep) (DidAny pre) (Requested pre) K G s → Owned ep (Did (pre ++ x ∷ []) ep) (DidAny (pre ++ x ∷ [])) (Requested (pre ++ x ∷ [])) K G s
-raised pre x ep K G s p = owned_mono ep (Did pre ep) (Did (pre ++ x ∷ []) ep) (DidAny pre) (DidAny (pre ++ x ∷ [])) (Requested pre) (Requested (pre ++ x ∷ [])) K G s (did_later pre x ep) (did_more pre x) (requested_later pre x) p
+raised : (run : ℕ) (pre : History) (x : Placed) (ep : ℕ) (K G : TxId → Type 0) (s : Shard) → Owned ep (Did pre ep) (OfHistory run pre) (Requested pre) K G s → Owned ep (Did (pre ++ x ∷ []) ep) (OfHistory run (pre ++ x ∷ [])) (Requested (pre ++ x ∷ [])) K G s
+raised run pre x ep K G s p = owned_mono ep (Did pre ep) (Did (pre ++ x ∷ []) ep) (OfHistory run pre) (OfHistory run (pre ++ x ∷ [])) (Requested pre) (Requested (pre ++ x ∷ [])) K G s (did_later pre x ep) (of_more run pre x) (requested_later pre x) p
 
 noted : (ep : ℕ) (D : TxId → Birth → Type 0) (A R K G : TxId → Type 0) (s : Shard) (stamp walker : ℕ) (e : Event) (o : Outcome) → Owned ep D A R K G s → Owned ep D A R K G (with_entry stamp walker e o s)
 noted ep D A R K G s stamp walker e o p =
     record { shard = p.shard; epoch = p.epoch; out = p.out; voters = p.voters; parts = p.parts; known = p.known; gone = p.gone; log = p.log; requests = p.requests; refused = p.refused }
 
-any_of : (pre : History) (ep : ℕ) (t : TxId) (b : Birth) → Did pre ep t b → DidAny pre t
-any_of pre ep t b d = (b, ep, d)
+any_of : (run : ℕ) (pre : History) (ep : ℕ) (t : TxId) (b : Birth) → Did pre ep t b → OfHistory run pre t
+any_of run pre ep t b d = inl (b, ep, d)
 
 journal_next : (pre : History) (x : Entry) (j : List Entry) → j ≡ journal_of 0 pre → j ++ x ∷ [] ≡ journal_of 0 (pre ++ (0, x) ∷ [])
 journal_next pre x j e = ap (λ z. z ++ x ∷ []) e ∙ sym (journal_append 0 pre ((0, x) ∷ []))
@@ -132,35 +132,35 @@ here_next pre x k y i = at (among_append y pre ((0, x) ∷ []) i)
     at (inr (inl q)) = sym (ap (λ w. w.0) q)
     at (inr (inr q)) = elim q [ ]
 
-abbrev Owned_at : History → ℕ → Shard → Type 0
-Owned_at pre ep s = Owned ep (Did pre ep) (DidAny pre) (Requested pre) (DidNow pre ep) (ToldAborted pre) s
+abbrev Owned_at : ℕ → History → ℕ → Shard → Type 0
+Owned_at run pre ep s = Owned ep (Did pre ep) (OfHistory run pre) (Requested pre) (DidNow pre ep) (ToldAborted pre) s
 
-owned_event : (before after : List (List LogRecord)) (h pre : History) (x : Entry) (s t : Shard) → Next before after h pre x → Knows pre s → Happens s x.event x.outcome t → ((m : Message) (stamp : ℕ) → x.event ≡ Deliver m stamp → ⊥)
-    → Owned_at (pre ++ (0, x) ∷ []) s.local.epoch t
+owned_event : (before after : List (List LogRecord)) (h pre : History) (x : Entry) (s t : Shard) → Next before after h pre x → Knows (run_after before) pre s → Happens s x.event x.outcome t → ((m : Message) (stamp : ℕ) → x.event ≡ Deliver m stamp → ⊥)
+    → Owned_at (run_after before) (pre ++ (0, x) ∷ []) s.local.epoch t
 owned_event before after h pre x s t n k g d =
     let ep = s.local.epoch in
     let new = pre ++ (0, x) ∷ [] in
     let w = owes before after h pre x s t n k g d in
-    let p = raised pre (0, x) ep (DidNow pre ep) (ToldAborted pre) s k.owned in
-    let o = owned_happens ep (Did new ep) (DidAny new) (Requested new) (DidNow pre ep) (ToldAborted pre) (any_of new ep) s t g w p in
-    owned_kg ep (Did new ep) (DidAny new) (Requested new) (DidNow pre ep) (DidNow new ep) (ToldAborted pre) (ToldAborted new) t
+    let p = raised (run_after before) pre (0, x) ep (DidNow pre ep) (ToldAborted pre) s k.owned in
+    let o = owned_happens ep (Did new ep) (OfHistory (run_after before) new) (Requested new) (DidNow pre ep) (ToldAborted pre) (any_of (run_after before) new ep) s t g w p in
+    owned_kg ep (Did new ep) (OfHistory (run_after before) new) (Requested new) (DidNow pre ep) (DidNow new ep) (ToldAborted pre) (ToldAborted new) t
     (λ u q z. known u q.0 (q.1).0 (among_append (q.1).0 pre ((0, x) ∷ []) (q.1).1) (q.1).2 w p o z)
     (λ u q. gone u q.0 q.1 (among_append q.0 pre ((0, x) ∷ []) q.2) q.3 q.4 p o) o
   where
     known : (u : TxId) (b : Birth) (y : Placed) → Among y pre ⊎ Among y ((0, x) ∷ []) → AnswersAt y u b s.local.epoch
         → Owes (Did (pre ++ (0, x) ∷ []) s.local.epoch) (Requested (pre ++ (0, x) ∷ [])) (DidNow pre s.local.epoch) (ToldAborted pre) x.event x.outcome
-        → Owned s.local.epoch (Did (pre ++ (0, x) ∷ []) s.local.epoch) (DidAny (pre ++ (0, x) ∷ [])) (Requested (pre ++ (0, x) ∷ [])) (DidNow pre s.local.epoch) (ToldAborted pre) s
-        → Owned s.local.epoch (Did (pre ++ (0, x) ∷ []) s.local.epoch) (DidAny (pre ++ (0, x) ∷ [])) (Requested (pre ++ (0, x) ∷ [])) (DidNow pre s.local.epoch) (ToldAborted pre) t
+        → Owned s.local.epoch (Did (pre ++ (0, x) ∷ []) s.local.epoch) (OfHistory (run_after before) (pre ++ (0, x) ∷ [])) (Requested (pre ++ (0, x) ∷ [])) (DidNow pre s.local.epoch) (ToldAborted pre) s
+        → Owned s.local.epoch (Did (pre ++ (0, x) ∷ []) s.local.epoch) (OfHistory (run_after before) (pre ++ (0, x) ∷ [])) (Requested (pre ++ (0, x) ∷ [])) (DidNow pre s.local.epoch) (ToldAborted pre) t
         → tx_get u t.local.parts ≡ None → ⊥
     known u b y (inl j) a w p o z = o.known u (b, (y, j, a)) z
     known u b y (inr (inl q)) a w p o z =
-        known_after s.local.epoch (Did (pre ++ (0, x) ∷ []) s.local.epoch) (DidAny (pre ++ (0, x) ∷ [])) (Requested (pre ++ (0, x) ∷ [])) (DidNow pre s.local.epoch) (ToldAborted pre) (any_of (pre ++ (0, x) ∷ []) s.local.epoch) s t g w p
+        known_after s.local.epoch (Did (pre ++ (0, x) ∷ []) s.local.epoch) (OfHistory (run_after before) (pre ++ (0, x) ∷ [])) (Requested (pre ++ (0, x) ∷ [])) (DidNow pre s.local.epoch) (ToldAborted pre) (any_of (run_after before) (pre ++ (0, x) ∷ []) s.local.epoch) s t g w p
         u b (a.at).nth a.seen (a.at).op a.answer s.local.epoch (ap (λ v. (v.1).event) q ∙ (a.at).is) (ap (λ v. (v.1).outcome) q ∙ a.outcome) z
     known u b y (inr (inr q)) a w p o z = elim q [ ]
 
     gone : (u : TxId) (y : Placed) (c : AbortCause) → Among y pre ⊎ Among y ((0, x) ∷ []) → (y.1).event ≡ Look u → (y.1).outcome ≡ Aborted c
-        → Owned s.local.epoch (Did (pre ++ (0, x) ∷ []) s.local.epoch) (DidAny (pre ++ (0, x) ∷ [])) (Requested (pre ++ (0, x) ∷ [])) (DidNow pre s.local.epoch) (ToldAborted pre) s
-        → Owned s.local.epoch (Did (pre ++ (0, x) ∷ []) s.local.epoch) (DidAny (pre ++ (0, x) ∷ [])) (Requested (pre ++ (0, x) ∷ [])) (DidNow pre s.local.epoch) (ToldAborted pre) t
+        → Owned s.local.epoch (Did (pre ++ (0, x) ∷ []) s.local.epoch) (OfHistory (run_after before) (pre ++ (0, x) ∷ [])) (Requested (pre ++ (0, x) ∷ [])) (DidNow pre s.local.epoch) (ToldAborted pre) s
+        → Owned s.local.epoch (Did (pre ++ (0, x) ∷ []) s.local.epoch) (OfHistory (run_after before) (pre ++ (0, x) ∷ [])) (Requested (pre ++ (0, x) ∷ [])) (DidNow pre s.local.epoch) (ToldAborted pre) t
         → is_present (stage_of t.local u) ≡ false
     gone u y c (inl j) e f p o = o.gone u (y, c, j, e, f)
     gone u y c (inr (inl q)) e f p o = at (ill_happens s t g u c (ap (λ v. (v.1).event) q ∙ e) (ap (λ v. (v.1).outcome) q ∙ f))
@@ -168,16 +168,17 @@ owned_event before after h pre x s t n k g d =
         at : IllOf s t u c → is_present (stage_of t.local u) ≡ false
         at (ill i z) =
             subst (λ v. is_present (stage_of v.local u) ≡ false) (sym z)
-            (absent_after s.local.epoch (Did (pre ++ (0, x) ∷ []) s.local.epoch) (DidAny (pre ++ (0, x) ∷ [])) (Requested (pre ++ (0, x) ∷ [])) (DidNow pre s.local.epoch) (ToldAborted pre) (any_of (pre ++ (0, x) ∷ []) s.local.epoch) s p u
+            (absent_after s.local.epoch (Did (pre ++ (0, x) ∷ []) s.local.epoch) (OfHistory (run_after before) (pre ++ (0, x) ∷ [])) (Requested (pre ++ (0, x) ∷ [])) (DidNow pre s.local.epoch) (ToldAborted pre) (any_of (run_after before) (pre ++ (0, x) ∷ []) s.local.epoch) s p u
             (ill_absent before after h pre x s u c n k i))
     gone u y c (inr (inr q)) e f p o = elim q [ ]
 
-pub knows_event : (before after : List (List LogRecord)) (h pre : History) (x : Entry) (s t : Shard) → Next before after h pre x → Knows pre s → Happens s x.event x.outcome t → ((m : Message) (stamp : ℕ) → x.event ≡ Deliver m stamp → ⊥)
-    → Knows (pre ++ (0, x) ∷ []) (with_entry x.stamp x.walker x.event x.outcome t)
+pub knows_event : (before after : List (List LogRecord)) (h pre : History) (x : Entry) (s t : Shard) → Next before after h pre x → Knows (run_after before) pre s → Happens s x.event x.outcome t → ((m : Message) (stamp : ℕ) → x.event ≡ Deliver m stamp → ⊥)
+    → Knows (run_after before) (pre ++ (0, x) ∷ []) (with_entry x.stamp x.walker x.event x.outcome t)
 knows_event before after h pre x s t n k g d =
     let o = owned_event before after h pre x s t n k g d in
     record {
-      owned = noted t.local.epoch _ _ _ _ _ t x.stamp x.walker x.event x.outcome (subst (λ z. Owned_at (pre ++ (0, x) ∷ []) z t) (sym o.epoch) o);
+      run_is = (happens_steps s t g).run ∙ k.run_is;
+      owned = noted t.local.epoch _ _ _ _ _ t x.stamp x.walker x.event x.outcome (subst (λ z. Owned_at (run_after before) (pre ++ (0, x) ∷ []) z t) (sym o.epoch) o);
       epochs = λ y u b nth seen op a m i e f. epochs y u b nth seen op a m (among_append y pre ((0, x) ∷ []) i) e f o.epoch;
       quiet = λ y m i f. quiet y m (among_append y pre ((0, x) ∷ []) i) f;
       journal = journal_next pre x t.journal ((happens_steps s t g).journal ∙ k.journal);
@@ -220,10 +221,11 @@ told_before pre x t q (y, c, i, e, f) = at (among_append y pre ((0, x) ∷ []) i
     at (inr (inl w)) = absurd (q.no_look t (ap (λ v. (v.1).event) w ∙ e))
     at (inr (inr w)) = elim w [ ]
 
-knows_from : (pre : History) (x : Entry) (s t : Shard) → Silent x → Knows pre s → Owned_at (pre ++ (0, x) ∷ []) t.local.epoch t → s.local.epoch ≤ t.local.epoch → t.journal ≡ s.journal
-    → Knows (pre ++ (0, x) ∷ []) (with_entry x.stamp x.walker x.event x.outcome t)
-knows_from pre x s t q k o l j =
+knows_from : (run : ℕ) (pre : History) (x : Entry) (s t : Shard) → Silent x → Knows run pre s → Owned_at run (pre ++ (0, x) ∷ []) t.local.epoch t → s.local.epoch ≤ t.local.epoch → t.journal ≡ s.journal → t.run ≡ s.run
+    → Knows run (pre ++ (0, x) ∷ []) (with_entry x.stamp x.walker x.event x.outcome t)
+knows_from run pre x s t q k o l j r =
     record {
+      run_is = r ∙ k.run_is;
       owned = noted t.local.epoch _ _ _ _ _ t x.stamp x.walker x.event x.outcome o;
       epochs = λ y u b nth seen op a m i e f. epochs y u b nth seen op a m (among_append y pre ((0, x) ∷ []) i) e f;
       quiet = λ y m i f. quiet y m (among_append y pre ((0, x) ∷ []) i) f;
@@ -242,19 +244,19 @@ knows_from pre x s t q k o l j =
     quiet y m (inr (inr w)) f = elim w [ ]
 
 -- the same state, with the history one entry longer
-still : (pre : History) (x : Entry) (ep : ℕ) (s : Shard) → Silent x → Owned_at pre ep s → Owned_at (pre ++ (0, x) ∷ []) ep s
-still pre x ep s q p =
-    let o = raised pre (0, x) ep (DidNow pre ep) (ToldAborted pre) s p in
+still : (run : ℕ) (pre : History) (x : Entry) (ep : ℕ) (s : Shard) → Silent x → Owned_at run pre ep s → Owned_at run (pre ++ (0, x) ∷ []) ep s
+still run pre x ep s q p =
+    let o = raised run pre (0, x) ep (DidNow pre ep) (ToldAborted pre) s p in
     owned_kg ep _ _ _ (DidNow pre ep) (DidNow (pre ++ (0, x) ∷ []) ep) (ToldAborted pre) (ToldAborted (pre ++ (0, x) ∷ [])) s (λ u d z. o.known u (did_before pre x ep u q d) z) (λ u a. o.gone u (told_before pre x u q a)) o
 
-pub knows_flush : (pre : History) (x : Entry) (s : Shard) (n : ℕ) → Silent x → Knows pre s → Knows (pre ++ (0, x) ∷ []) (with_entry x.stamp x.walker x.event x.outcome (finish (with_durable n s)))
-knows_flush pre x s n q k =
-    let o = owned_flushed s.local.epoch _ _ _ _ _ (any_of (pre ++ (0, x) ∷ []) s.local.epoch) s n (still pre x s.local.epoch s q k.owned) in
+pub knows_flush : (run : ℕ) (pre : History) (x : Entry) (s : Shard) (n : ℕ) → Silent x → Knows run pre s → Knows run (pre ++ (0, x) ∷ []) (with_entry x.stamp x.walker x.event x.outcome (finish (with_durable n s)))
+knows_flush run pre x s n q k =
+    let o = owned_flushed s.local.epoch _ _ _ _ _ (any_of run (pre ++ (0, x) ∷ []) s.local.epoch) s n (still run pre x s.local.epoch s q k.owned) in
     let e = o.epoch in
-    knows_from pre x s (finish (with_durable n s)) q k (subst (λ z. Owned_at (pre ++ (0, x) ∷ []) z (finish (with_durable n s))) (sym e) o) (omega (arith, e)) (framed_finish (with_durable n s)).journal
+    knows_from run pre x s (finish (with_durable n s)) q k (subst (λ z. Owned_at run (pre ++ (0, x) ∷ []) z (finish (with_durable n s))) (sym e) o) (omega (arith, e)) (framed_finish (with_durable n s)).journal (framed_finish (with_durable n s)).run
 
-pub knows_down : (pre : History) (x : Entry) (s : Shard) → Silent x → Knows pre s → Knows (pre ++ (0, x) ∷ []) (with_entry x.stamp x.walker x.event x.outcome (put_down s))
-knows_down pre x s q k = knows_from pre x s (put_down s) q k (owned_down s.local.epoch _ _ _ _ _ s (still pre x s.local.epoch s q k.owned)) (omega arith) refl
+pub knows_down : (run : ℕ) (pre : History) (x : Entry) (s : Shard) → Silent x → Knows run pre s → Knows run (pre ++ (0, x) ∷ []) (with_entry x.stamp x.walker x.event x.outcome (put_down s))
+knows_down run pre x s q k = knows_from run pre x s (put_down s) q k (owned_down s.local.epoch _ _ _ _ _ s (still run pre x s.local.epoch s q k.owned)) (omega arith) refl refl
 
 either_least : (run own e : ℕ) (rs : List LogRecord) (b : Bool) → max own e ≤ greatest_epoch run (max own e) rs → own ≤ greatest_epoch run own rs → own ≤ greatest_epoch run (cond b (max own e) own) rs
 either_least run own e rs true k l = omega (arith, k)
@@ -270,16 +272,16 @@ own_least run own (Commit tx parts ∷ rs) = own_least run own rs
 own_least run own (Abort tx ∷ rs) = own_least run own rs
 own_least run own (End tx ∷ rs) = own_least run own rs
 
-pub knows_restart : (pre : History) (x : Entry) (s : Shard) (kept : Bool) (epoch : ℕ) (log : List LogRecord) → Silent x → Knows pre s → Restarts s (log_left s kept) epoch log → Knows (pre ++ (0, x) ∷ []) (with_entry x.stamp x.walker x.event x.outcome (revived s epoch log))
-knows_restart pre x s kept epoch log q k r =
+pub knows_restart : (run : ℕ) (pre : History) (x : Entry) (s : Shard) (kept : Bool) (epoch : ℕ) (log : List LogRecord) → Silent x → Knows run pre s → Restarts s (log_left s kept) epoch log → Knows run (pre ++ (0, x) ∷ []) (with_entry x.stamp x.walker x.event x.outcome (revived s epoch log))
+knows_restart run pre x s kept epoch log q k r =
     let a = (restarts_lead_to_one s (log_left s kept) epoch log r).0 in
     let b = own_least s.run s.local.epoch (log_left s kept) in
     let l : s.local.epoch < epoch = omega (arith, a, b) in
-    let o = still pre x s.local.epoch s q k.owned in
-    knows_from pre x s (revived s epoch log) q k
-    (owned_revived s.local.epoch (Did (pre ++ (0, x) ∷ []) s.local.epoch) (Did (pre ++ (0, x) ∷ []) epoch) (DidAny (pre ++ (0, x) ∷ [])) (Requested (pre ++ (0, x) ∷ [])) (DidNow (pre ++ (0, x) ∷ []) s.local.epoch)
+    let o = still run pre x s.local.epoch s q k.owned in
+    knows_from run pre x s (revived s epoch log) q k
+    (owned_revived s.local.epoch (Did (pre ++ (0, x) ∷ []) s.local.epoch) (Did (pre ++ (0, x) ∷ []) epoch) (OfHistory run (pre ++ (0, x) ∷ [])) (Requested (pre ++ (0, x) ∷ [])) (DidNow (pre ++ (0, x) ∷ []) s.local.epoch)
     (DidNow (pre ++ (0, x) ∷ []) epoch) (ToldAborted (pre ++ (0, x) ∷ [])) s kept epoch log r (λ u d. none_yet u (did_before pre x epoch u q d) l) o)
-    (omega (arith, l)) refl
+    (omega (arith, l)) refl refl
   where
     none_yet : (u : TxId) → DidNow pre epoch u → s.local.epoch < epoch → ⊥
     none_yet u (b, (y, i, a)) l = let z = (k.epochs y u b (a.at).nth a.seen (a.at).op a.answer epoch i (a.at).is a.outcome).0 in omega (arith, z, l)

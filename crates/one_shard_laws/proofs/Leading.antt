@@ -1,5 +1,5 @@
 -- A legal history of one shard is one whose sessions owe nothing: at each entry what the laws of a shard suppose is there.
-use Rattle.std.proofs.Common.{◌≡◌, ◌⊎◌, inl, inr, ⊎_elim, refl, sym, ap, subst, ◌∙◌, ℕ, ◌+◌, ◌≤◌, true, false, cond, Bool, List, [], ◌∷◌, ◌++◌, map, Option, Some, None, ◌&&◌, ◌||◌, ◌==◌, length, arith, eqb-true, append-nil}
+use Rattle.std.proofs.Common.{◌≡◌, ◌⊎◌, inl, inr, ⊎_elim, refl, sym, ap, subst, ◌∙◌, ℕ, ◌+◌, ◌≤◌, ◌<◌, true, false, cond, Bool, List, [], ◌∷◌, ◌++◌, map, Option, Some, None, ◌&&◌, ◌||◌, ◌==◌, length, arith, eqb-true, append-nil}
 use Rattle.std.specs.List.{AllByRecursion, filter}
 use Rattle.std.specs.Map.{lookup}
 use Rattle.std.proofs.lemmas.Bool.{both_ways, and_parts, or_cases, eq-eqb, false_from_ne_true}
@@ -20,7 +20,7 @@ use Rattle.clv_base.specs.declared.events.Outcome.{Outcome}
 use Rattle.clv_base.specs.declared.events.Outcome.TheVariants.{Answered, Acknowledged, Aborted, Sent}
 use Rattle.clv_base.specs.declared.events.Entry.{Entry}
 use Rattle.clv_base.specs.Orders.{tx_same, tx_in, tx_get}
-use Rattle.clv_base.specs.Logs.{committed_in}
+use Rattle.clv_base.specs.Logs.{committed_in, prepared_in}
 use Rattle.clv_base.specs.Locks.{violated}
 use Rattle.clv_base.specs.Needs.{needs_of}
 use Rattle.clv_base.specs.State.{Shard, is_present}
@@ -37,13 +37,14 @@ use Rattle.law_base.proofs.Changed.{none_some, some_same}
 use Rattle.law_base.proofs.Rows.{rows_get}
 use Rattle.protocol_laws.specs.SessionLaws.{tx_of, works_on, ended_by}
 use Rattle.protocol_laws.proofs.InOrder.{sessions_keep_order}
-use Rattle.shard_laws.specs.OneShard.{items_of, undone_in, with_one, new_item, new_met, has_met, new_told, MayTouch, MayHappen}
+use Rattle.order_laws.specs.Order.{undone_in}
+use Rattle.shard_laws.specs.OneShard.{items_of, with_one, new_item, new_met, has_met, new_told, MayTouch, MayHappen}
 use Rattle.history_laws.proofs.Stepping.{Happens}
 use Rattle.history_laws.proofs.Merging.{Placed, Before, in_order, Among, among_left, among_right, among_append, Precedes, in_turn, precedes_before, before_then, not_before_itself, own_in_order}
 use Rattle.history_laws.proofs.Walkers.{nothing_follows}
 use Rattle.history_laws.proofs.Telling.{IsRequest}
 use Rattle.history_laws.proofs.Worlds.{in_a_shard}
-use Rattle.history_laws.proofs.Staying.{together, is_request, is_op}
+use Rattle.history_laws.proofs.Staying.{walker_of, together, is_request, is_op}
 use Rattle.history_laws.proofs.Endings.{names, tells_end, nothing_after_end}
 use Rattle.one_shard_laws.proofs.Owning.{RecordIs, PartIs, AllHere, Owned, part_of, row_of, committed_all}
 use Rattle.one_shard_laws.proofs.OwningEvents.{Owes, answered_epoch}
@@ -68,6 +69,10 @@ DidNow pre ep t = (b : Birth) × Did pre ep t b
 
 abbrev pub ToldAborted : History → TxId → Type 0
 ToldAborted pre t = (y : Placed) × (c : AbortCause) × Among y pre × ((y.1).event ≡ Look t) × ((y.1).outcome ≡ Aborted c)
+
+-- it is of the history so far, or of an earlier run
+abbrev pub OfHistory : ℕ → History → TxId → Type 0
+OfHistory run pre t = DidAny pre t ⊎ (t.run < run)
 
 did_any : (pre : History) (ep : ℕ) (t : TxId) (b : Birth) → Did pre ep t b → DidAny pre t
 did_any pre ep t b d = (b, ep, d)
@@ -121,15 +126,16 @@ pub record Fits (pre : History) (all : List Item) (asked told : List TxId) (met 
   pub told_are : (t : TxId) → tx_in t told ≡ acknowledged_in pre t
   pub met_did : (t p : TxId) → has_met met t p ≡ true → DidAny pre t
 
-pub record Knows (pre : History) (s : Shard) : Type 0 where
-  pub owned : Owned s.local.epoch (Did pre s.local.epoch) (DidAny pre) (Requested pre) (DidNow pre s.local.epoch) (ToldAborted pre) s
+pub record Knows (run : ℕ) (pre : History) (s : Shard) : Type 0 where
+  pub run_is : s.run ≡ run
+  pub owned : Owned s.local.epoch (Did pre s.local.epoch) (OfHistory run pre) (Requested pre) (DidNow pre s.local.epoch) (ToldAborted pre) s
   pub epochs : (y : Placed) (t : TxId) (b : Birth) (nth : ℕ) (seen : Option ℕ) (op : Op) (a : Answer) (n : ℕ) → Among y pre → (y.1).event ≡ OpEvent t b nth seen op → (y.1).outcome ≡ Answered a n → (n ≤ s.local.epoch) × SeenIs seen n
   pub quiet : (y : Placed) (m : Message) → Among y pre → (y.1).outcome ≡ Sent m → ⊥
   pub journal : s.journal ≡ journal_of 0 pre
   pub all_here : (y : Placed) → Among y pre → y.0 ≡ 0
 
 -- an answered operation of the history so far
-pub did_of : (pre : History) (s : Shard) (y : Placed) (t : TxId) (b : Birth) (nth : ℕ) (seen : Option ℕ) (op : Op) (a : Answer) (n : ℕ) → Knows pre s → Among y pre → (y.1).event ≡ OpEvent t b nth seen op → (y.1).outcome ≡ Answered a n → Did pre n t b
+pub did_of : {run : ℕ} (pre : History) (s : Shard) (y : Placed) (t : TxId) (b : Birth) (nth : ℕ) (seen : Option ℕ) (op : Op) (a : Answer) (n : ℕ) → Knows run pre s → Among y pre → (y.1).event ≡ OpEvent t b nth seen op → (y.1).outcome ≡ Answered a n → Did pre n t b
 did_of pre s y t b nth seen op a n k i e f =
     (y, i, record { seen = seen; answer = a; at = record { nth = nth; op = op; is = e }; outcome = f; saw = (k.epochs y t b nth seen op a n i e f).1 })
 
@@ -266,11 +272,11 @@ asked_in (e ∷ es) t i = at (request_of (e.1).event (e.1).outcome) refl i (aske
 
 -- ---- what the laws of a shard suppose
 
-pub answers_of : (pre : History) (s : Shard) (y : Placed) (t : TxId) (ep : ℕ) → Knows pre s → Among y pre → AnsweredAt y t 0 ep → (b : Birth) × Did pre ep t b
+pub answers_of : {run : ℕ} (pre : History) (s : Shard) (y : Placed) (t : TxId) (ep : ℕ) → Knows run pre s → Among y pre → AnsweredAt y t 0 ep → (b : Birth) × Did pre ep t b
 answers_of pre s y t ep k i a = (a.birth, did_of pre s y t a.birth a.nth a.seen a.op a.answer ep k i a.event a.outcome)
 
 -- a request that fits the epoch is of one whose operations were answered in it
-pub request_known : (before after : List (List LogRecord)) (h pre : History) (x : Entry) (s : Shard) (t : TxId) (ts : List (ℕ × ℕ)) → Next before after h pre x → Knows pre s → x.event ≡ RequestEvent t ts
+pub request_known : (before after : List (List LogRecord)) (h pre : History) (x : Entry) (s : Shard) (t : TxId) (ts : List (ℕ × ℕ)) → Next before after h pre x → Knows (run_after before) pre s → x.event ≡ RequestEvent t ts
     → AllHere ts × (seen_fits s.local.epoch (epoch_in s.shard ts) ≡ true → DidNow pre s.local.epoch t)
 request_known before after h pre x s t ts n k e =
     let p = named_at before after h (0, x) t ts n.legal n.here e in (
@@ -282,7 +288,7 @@ request_known before after h pre x s t ts n k e =
           subst (λ z. DidNow pre z t) same a),
     )
 
-pub owes : (before after : List (List LogRecord)) (h pre : History) (x : Entry) (s t : Shard) → Next before after h pre x → Knows pre s → Happens s x.event x.outcome t → ((m : Message) (stamp : ℕ) → x.event ≡ Deliver m stamp → ⊥)
+pub owes : (before after : List (List LogRecord)) (h pre : History) (x : Entry) (s t : Shard) → Next before after h pre x → Knows (run_after before) pre s → Happens s x.event x.outcome t → ((m : Message) (stamp : ℕ) → x.event ≡ Deliver m stamp → ⊥)
     → Owes (Did (pre ++ (0, x) ∷ []) s.local.epoch) (Requested (pre ++ (0, x) ∷ [])) (DidNow pre s.local.epoch) (ToldAborted pre) x.event x.outcome
 owes before after h pre x s t n k g d =
     record {
@@ -322,6 +328,16 @@ clr_all A (Abort u ∷ rs) t a e = clr_all A rs t a.1 e
 clr_all A (End u ∷ rs) t a e = clr_all A rs t a.1 e
 clr_all A (RestartRecord run epoch ∷ rs) t a e = clr_all A rs t a.1 e
 
+prepare_all : (A : TxId → Type 0) (rs : List LogRecord) (t : TxId) → AllByRecursion (RecordIs A) rs → prepared_in rs t ≡ true → A t
+prepare_all A [] t a e = absurd (both_ways false refl e)
+prepare_all A (Prepare u home ps ∷ rs) t a e = ⊎_elim (λ s. subst A (sym (tx_true t u s)) (a.0).0) (λ s. prepare_all A rs t a.1 s) (or_cases (tx_same t u) (prepared_in rs t) e)
+prepare_all A (Update u key before after ∷ rs) t a e = prepare_all A rs t a.1 e
+prepare_all A (Clr u next key after ∷ rs) t a e = prepare_all A rs t a.1 e
+prepare_all A (Commit u parts ∷ rs) t a e = prepare_all A rs t a.1 e
+prepare_all A (Abort u ∷ rs) t a e = prepare_all A rs t a.1 e
+prepare_all A (End u ∷ rs) t a e = prepare_all A rs t a.1 e
+prepare_all A (RestartRecord run epoch ∷ rs) t a e = prepare_all A rs t a.1 e
+
 no_map : {X Y : Type 0} (f : X → Y) (xs : List X) → [] ≡ map f xs → xs ≡ []
 no_map f [] e = refl
 no_map f (x ∷ xs) e = absurd cc
@@ -335,7 +351,7 @@ none_done t (e ∷ es) k = at (answered_op t (e.1).event (e.1).outcome) refl (no
     at None q r = r
     at (Some p) q r = absurd (k e p (inl refl) q)
 
-may_touch : (before after : List (List LogRecord)) (h pre : History) (x : Entry) (s : Shard) (all : List Item) (asked told : List TxId) (met : List (TxId × TxId)) → Next before after h pre x → Knows pre s → Fits pre all asked told met
+may_touch : (before after : List (List LogRecord)) (h pre : History) (x : Entry) (s : Shard) (all : List Item) (asked told : List TxId) (met : List (TxId × TxId)) → Next before after h pre x → Knows (run_after before) pre s → Fits pre all asked told met
     → (t : TxId) (birth : Birth) (nth : ℕ) (seen : Option ℕ) (op : Op) → x.event ≡ OpEvent t birth nth seen op → MayTouch all asked met s t birth seen
 may_touch before after h pre x s all asked told met n k f t birth nth seen op e =
     record {
@@ -343,10 +359,11 @@ may_touch before after h pre x s all asked told met n k f t birth nth seen op e 
       not_asked = λ q. false_from_ne_true (tx_in t asked) (λ i. op_no_request before after h pre x t birth nth seen op n e (was_asked i));
       fresh = λ q g.
           let none = no_did q g in (
-            false_from_ne_true _ (λ c. none (committed_all (DidAny pre) s.local.log t (k.owned).log c)),
-            false_from_ne_true _ (λ c. none (clr_all (DidAny pre) s.local.log t (k.owned).log c)),
+            false_from_ne_true _ (λ c. no_old none (committed_all (OfHistory (run_after before) pre) s.local.log t (k.owned).log c)),
+            false_from_ne_true _ (λ c. no_old none (clr_all (OfHistory (run_after before) pre) s.local.log t (k.owned).log c)),
             no_map (λ y. (y.op, y.answer)) (items_of t all) (sym (none_done t pre (λ y p i w. none (done y p i w))) ∙ f.items t),
             (λ p m. none (f.met_did t p m)),
+            false_from_ne_true _ (λ c. no_old none (prepare_all (OfHistory (run_after before) pre) s.local.log t (k.owned).log c)),
           );
       same_birth = λ w g.
           let d = (rows_get (λ r. PartIs (Did pre s.local.epoch) (Requested pre) r.0 r.1) t w s.local.parts (k.owned).parts g).0 in
@@ -359,13 +376,17 @@ may_touch before after h pre x s all asked told met n k f t birth nth seen op e 
         let z : ep ≡ s.local.epoch = eqb-true ep s.local.epoch (subst (λ w. seen_fits s.local.epoch w ≡ true) p q) in
         (k.owned).known t (subst (λ w. DidNow pre w t) z (b, (y, i, a))) g
 
+    no_old : (DidAny pre t → ⊥) → OfHistory (run_after before) pre t → ⊥
+    no_old none (inl d) = none d
+    no_old none (inr l) = let q = (walker_of [] before after h (0, x) t n.legal n.here (ap tx_of e)).0 in omega (arith, l, q)
+
     was_asked : tx_in t asked ≡ true → Requested pre t
     was_asked i = asked_in pre t (subst (λ z. tx_in t z ≡ true) f.asked_are i)
 
     done : (y : Placed) (p : Op × Answer) → Among y pre → answered_op t (y.1).event (y.1).outcome ≡ Some p → DidAny pre t
     done y p i w = let o = is_op t (y.1).event (y.1).outcome p w in (o.0, o.5, did_of pre s y t o.0 o.1 o.2 o.3 o.4 o.5 k i o.6 o.7)
 
-may_drop : (before after : List (List LogRecord)) (h pre : History) (x : Entry) (s : Shard) → Next before after h pre x → Knows pre s → (t : TxId) → x.event ≡ Drop t → stage_of s.local t ≡ Some Closed → committed_in s.local.log t ≡ false
+may_drop : (before after : List (List LogRecord)) (h pre : History) (x : Entry) (s : Shard) → Next before after h pre x → Knows (run_after before) pre s → (t : TxId) → x.event ≡ Drop t → stage_of s.local t ≡ Some Closed → committed_in s.local.log t ≡ false
 may_drop before after h pre x s n k t e c =
     let r = (part_of s.local.epoch _ _ (Requested pre) _ _ s t Closed k.owned c).1 in
     let q = own_precedes before after h r.0 (0, x) t n.legal (turn_of before after h pre x r.0 n r.2) (ap tx_of (r.3).0) (ap tx_of e) in
@@ -374,7 +395,7 @@ may_drop before after h pre x s n k t e c =
     let i = n.earlier y.0 (from_own ((r.0).1).walker y.0 h (first_among y.0 (0, x) w y.2)) (precedes_before y.0 (0, x) w (own_in_order ((r.0).1).walker h (in_order h (n.legal).ordered)) y.2) in
     absurd (both_ways _ ((k.owned).gone t (y.0, y.1, i, y.3, y.4)) (ap is_present c))
 
-pub may_happen : (before after : List (List LogRecord)) (h pre : History) (x : Entry) (s : Shard) (all : List Item) (asked told : List TxId) (met : List (TxId × TxId)) → Next before after h pre x → Knows pre s → Fits pre all asked told met
+pub may_happen : (before after : List (List LogRecord)) (h pre : History) (x : Entry) (s : Shard) (all : List Item) (asked told : List TxId) (met : List (TxId × TxId)) → Next before after h pre x → Knows (run_after before) pre s → Fits pre all asked told met
     → ((m : Message) (stamp : ℕ) → x.event ≡ Deliver m stamp → ⊥) → (e : Event) → x.event ≡ e → MayHappen all asked met s e
 may_happen before after h pre x s all asked told met n k f d (OpEvent t birth nth seen op) e = may_touch before after h pre x s all asked told met n k f t birth nth seen op e
 may_happen before after h pre x s all asked told met n k f d (Drop t) e = may_drop before after h pre x s n k t e
@@ -382,6 +403,7 @@ may_happen before after h pre x s all asked told met n k f d (RequestEvent t ts)
   false_from_ne_true (tx_in t asked) (λ i. request_no_request before after h pre x t ts n e (asked_in pre t (subst (λ z. tx_in t z ≡ true) f.asked_are i))),
   (λ v g. none_some v (sym (ap (tx_get t) (k.owned).voters) ∙ g)),
   no_row (tx_get t s.requests) refl,
+  (walker_of [] before after h (0, x) t n.legal n.here (ap tx_of e)).0 ∙ sym k.run_is,
 )
   where
     no_row : (o : Option Request) → tx_get t s.requests ≡ o → tx_get t s.requests ≡ None
@@ -498,6 +520,10 @@ told_next pre x told t e =
 -- whose meetings it adds
 pub did_more : (pre : History) (x : Placed) (t : TxId) → DidAny pre t → DidAny (pre ++ x ∷ []) t
 did_more pre x t (b, ep, (y, i, a)) = (b, ep, (y, among_left y pre (x ∷ []) i, a))
+
+pub of_more : (run : ℕ) (pre : History) (x : Placed) (t : TxId) → OfHistory run pre t → OfHistory run (pre ++ x ∷ []) t
+of_more run pre x t (inl d) = inl (did_more pre x t d)
+of_more run pre x t (inr l) = inr l
 
 mapped_met : (tx t p : TxId) (ps : List TxId) → has_met (map (λ q. (tx, q)) ps) t p ≡ true → t ≡ tx
 mapped_met tx t p [] e = absurd (both_ways false refl e)

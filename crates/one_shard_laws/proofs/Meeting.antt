@@ -14,7 +14,6 @@ use Rattle.clv_base.proofs.SameNames.{tx_true, tx_flip}
 use Rattle.shard_laws.specs.OneShard.{has_met, place, is_member, members_of}
 use Rattle.shard_laws.proofs.Histories.{recoverable}
 use Rattle.history_laws.specs.Continuing.{serial_left}
-use Rattle.one_shard_laws.specs.Replaying.{new_log}
 use Rattle.one_shard_laws.specs.Recovering.{transactions_of, StandsBefore, PredecessorsStandBefore}
 use Rattle.one_shard_laws.proofs.Leading.{requests_in}
 use Rattle.one_shard_laws.proofs.Replaying.{At, walk, begins, members_are, cut_above, counted_end, keeps_same}
@@ -45,28 +44,28 @@ in_kept : (f : TxId → Bool) (t : TxId) (xs : List TxId) → tx_in t (filter f 
 in_kept f t [] e = absurd (both_ways false refl e)
 in_kept f t (x ∷ xs) e = kept_case f t x (filter f xs) (f x) refl e (in_kept f t xs)
 
-names_are : (after : List (List LogRecord)) (h : History) (choice : ℕ → Bool) (a : At (log_of after 0) h (final_of new_log h after 0)) → Legal [] new_log h after
-    → transactions_of (serial_left [] new_log h after choice)
-    ≡ members_of (final_of new_log h after 0) (cond (choice 0) (unwrap_or (final_of new_log h after 0).flight (final_of new_log h after 0).durable) (final_of new_log h after 0).durable) a.told a.asked
-names_are after h choice a l =
-    let s = final_of new_log h after 0 in
+names_are : (before : List LogRecord) (after : List (List LogRecord)) (h : History) (choice : ℕ → Bool) (a : At before (log_of after 0) h (final_of (before ∷ []) h after 0)) → Legal [] (before ∷ []) h after
+    → transactions_of (serial_left [] (before ∷ []) h after choice)
+    ≡ members_of (final_of (before ∷ []) h after 0) (cond (choice 0) (unwrap_or (final_of (before ∷ []) h after 0).flight (final_of (before ∷ []) h after 0).durable) (final_of (before ∷ []) h after 0).durable) a.told a.asked
+names_are before after h choice a l =
+    let s = final_of (before ∷ []) h after 0 in
     let keep = is_member s (cond (choice 0) (unwrap_or s.flight s.durable) s.durable) a.told in
-    members_are (λ m. m.tx) (λ t. t) (logs_left [] new_log h after choice) h h keep (keeps_same after h choice a l) (λ m e. refl) ∙ same_map (filter keep (requests_in h)) ∙ ap (filter keep) (sym (a.fits).asked_are)
+    members_are (λ m. m.tx) (λ t. t) (logs_left [] (before ∷ []) h after choice) h h keep (keeps_same before after h choice a l) (λ m e. refl) ∙ same_map (filter keep (requests_in h)) ∙ ap (filter keep) (sym (a.fits).asked_are)
   where
     same_map : (xs : List TxId) → map (λ t. t) xs ≡ xs
     same_map [] = refl
     same_map (x ∷ xs) = ap (λ z. x ∷ z) (same_map xs)
 
-stands_at : (after : List (List LogRecord)) (h : History) (choice : ℕ → Bool) (t p : TxId) → Legal [] new_log h after → (a : At (log_of after 0) h (final_of new_log h after 0)) → tx_in t (transactions_of (serial_left [] new_log h after choice)) ≡ true
-    → has_met a.met t p ≡ true → StandsBefore p t (transactions_of (serial_left [] new_log h after choice))
-stands_at after h choice t p l a i m =
-    let s = final_of new_log h after 0 in
+stands_at : (before : List LogRecord) (after : List (List LogRecord)) (h : History) (choice : ℕ → Bool) (t p : TxId) → Legal [] (before ∷ []) h after → (a : At before (log_of after 0) h (final_of (before ∷ []) h after 0)) → tx_in t (transactions_of (serial_left [] (before ∷ []) h after choice)) ≡ true
+    → has_met a.met t p ≡ true → StandsBefore p t (transactions_of (serial_left [] (before ∷ []) h after choice))
+stands_at before after h choice t p l a i m =
+    let s = final_of (before ∷ []) h after 0 in
     let cut = cond (choice 0) (unwrap_or s.flight s.durable) s.durable in
-    let e = names_are after h choice a l in
+    let e = names_are before after h choice a l in
     let j = subst (λ z. tx_in t z ≡ true) e i in
-    let r = recoverable (run_after new_log) a.all a.asked a.told a.met s cut t p a.leads (cut_above s (choice 0) (counted_end after h l)) m (in_kept (is_member s cut a.told) t a.asked j) in
+    let r = recoverable 0 (run_after (before ∷ [])) before a.all a.asked a.told a.met s cut t p a.leads (cut_above s (choice 0) (counted_end before after h l)) m (in_kept (is_member s cut a.told) t a.asked j) in
     subst (StandsBefore p t) (sym e) (placed_before p t (members_of s cut a.told a.asked) r.1 j)
 
 pub predecessors_stand_before : PredecessorsStandBefore
-predecessors_stand_before h after choice t p l i e =
-    let a = walk after h [] h l refl (begins after) in stands_at after h choice t p l a i (a.known_met t p e)
+predecessors_stand_before before h after choice t p may l i e =
+    let a = walk before after h [] h l refl (begins before after may) in stands_at before after h choice t p l a i (a.known_met t p e)

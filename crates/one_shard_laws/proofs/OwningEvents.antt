@@ -343,7 +343,7 @@ owned_down ep D A R K G s p =
 
 -- ---- a restart
 
-no_doubt : (A : TxId → Type 0) (log : List LogRecord) (shard : ℕ) (rs : List LogRecord) (so_far : List TxId) → shard ≡ 0 → AllByRecursion (RecordIs A) rs → in_doubt_from log shard rs so_far ≡ so_far
+pub no_doubt : (A : TxId → Type 0) (log : List LogRecord) (shard : ℕ) (rs : List LogRecord) (so_far : List TxId) → shard ≡ 0 → AllByRecursion (RecordIs A) rs → in_doubt_from log shard rs so_far ≡ so_far
 no_doubt A log shard [] sf e a = refl
 no_doubt A log shard (Prepare tx home ps ∷ rs) sf e a =
     ap (λ z. in_doubt_from log shard rs z) (cond-false (doubt_by log shard tx home ps sf) (tx_insert tx sf) sf (out (shard == home) (eq-eqb shard home (e ∙ sym (a.0).1)))) ∙ no_doubt A log shard rs sf e a.1
@@ -368,7 +368,7 @@ no_unended A log (Abort tx ∷ rs) a = no_unended A log rs a.1
 no_unended A log (End tx ∷ rs) a = no_unended A log rs a.1
 no_unended A log (RestartRecord run epoch ∷ rs) a = no_unended A log rs a.1
 
-take_all_of : {X : Type 0} (P : X → Type 0) (n : ℕ) (xs : List X) → AllByRecursion P xs → AllByRecursion P (take n xs)
+pub take_all_of : {X : Type 0} (P : X → Type 0) (n : ℕ) (xs : List X) → AllByRecursion P xs → AllByRecursion P (take n xs)
 take_all_of P zero xs a = tt
 take_all_of P (suc n) [] a = tt
 take_all_of P (suc n) (x ∷ xs) a = (a.0, take_all_of P n xs a.1)
@@ -393,7 +393,7 @@ aborts_from : (A : TxId → Type 0) (ts : List TxId) → AllByRecursion A ts →
 aborts_from A [] a = tt
 aborts_from A (t ∷ ts) a = (a.0, aborts_from A ts a.1)
 
-restart_all : (A : TxId → Type 0) (shard : ℕ) (log : List LogRecord) (run epoch : ℕ) → AllByRecursion (RecordIs A) log → AllByRecursion (RecordIs A) (restart_records shard log run epoch)
+pub restart_all : (A : TxId → Type 0) (shard : ℕ) (log : List LogRecord) (run epoch : ℕ) → AllByRecursion (RecordIs A) log → AllByRecursion (RecordIs A) (restart_records shard log run epoch)
 restart_all A shard log run epoch a =
     let ls = filter_all_of A _ (writers (standing log)) (all_from A (writers (standing log)) (in_writers A (standing log) (standing_of A log a))) in
     push_records A (undo_records shard log) (RestartRecord run epoch ∷ [])

@@ -8,7 +8,6 @@ use Rattle.clv_base.specs.declared.names.Birth.{Birth}
 use Rattle.clv_base.specs.declared.ops.Op.{Op}
 use Rattle.clv_base.specs.declared.ops.Answer.{Answer}
 use Rattle.clv_base.specs.declared.logs.LogRecord.{LogRecord}
-use Rattle.clv_base.specs.declared.logs.LogRecord.TheVariants.{Update, Clr, Prepare, Commit, Abort, End, Restart as RestartRecord}
 use Rattle.clv_base.specs.declared.messages.Message.{Message}
 use Rattle.clv_base.specs.declared.events.Event.{Event}
 use Rattle.clv_base.specs.declared.events.Event.TheVariants.{Op as OpEvent, Look, Deliver, FlushIn, Restart}
@@ -22,15 +21,14 @@ use Rattle.clv_base.specs.LogRules.{log_of}
 use Rattle.clv_base.specs.Journals.{History, journal_of, event_state, up_to_restart}
 use Rattle.clv_base.specs.History.{Legal, WasSent, MessagesSent, is_acknowledgement, acknowledged_in, answered_op, ops_in, request_of}
 use Rattle.law_base.specs.Items.{Item}
-use Rattle.law_base.proofs.Changed.{none_some}
-use Rattle.shard_laws.specs.OneShard.{items_of, with_one, new_item, new_asked, new_met, new_told, HomeIs, has_met, Leads, opens, happens, lands, revives}
+use Rattle.shard_laws.specs.OneShard.{StillHere, items_of, with_one, new_item, new_asked, new_met, new_told, has_met, Leads, opens, happens, lands, revives}
 use Rattle.history_laws.proofs.Stepping.{Happens}
 use Rattle.history_laws.proofs.Entering.{Makes, by_event, by_flush, by_failure, by_restart, makes}
 use Rattle.history_laws.proofs.Merging.{Placed, Before, InOrder, in_order, Among, is_among, among_left, among_right, among_all, among_append, precedes_before, front_precedes, before_then, not_before_itself}
 use Rattle.history_laws.proofs.Worlds.{state_at, split_at, sent_at}
 use Rattle.one_shard_laws.proofs.Owning.{RecordIs}
-use Rattle.one_shard_laws.proofs.Leading.{DidAny, requests_in, Fits, Knows, Next, may_happen}
-use Rattle.one_shard_laws.specs.Replaying.{new_log}
+use Rattle.one_shard_laws.proofs.OwningEvents.{no_doubt, take_all_of}
+use Rattle.one_shard_laws.proofs.Leading.{OfHistory, requests_in, Fits, Knows, Next, may_happen}
 use Rattle.std.proofs.Common.{⊎_elim, ◌&&◌}
 use Rattle.std.proofs.lemmas.List.Folds.{list_any-append}
 use Rattle.clv_base.specs.declared.events.Outcome.TheVariants.{Answered}
@@ -41,7 +39,8 @@ use Rattle.clv_base.specs.Needs.{needs_of}
 use Rattle.clv_base.specs.Journals.{after_entry, after_entries, predecessors_in, got_predecessors}
 use Rattle.clv_base.proofs.SameNames.{tx_flip, tx_true, tx_self, in_insert, insert_keeps, insert_has}
 use Rattle.std.proofs.lemmas.Bool.{and_from, or_left, or_right, or_cases}
-use Rattle.clv_base.specs.Maps.{replay_map, replay_answers}
+use Rattle.clv_base.specs.FileRules.{may_open}
+use Rattle.clv_base.specs.Maps.{KeyMap, replay_map, replay_answers}
 use Rattle.clv_base.specs.Logs.{stands, committed_in}
 use Rattle.clv_base.specs.Journals.{final_of, start_of}
 use Rattle.clv_base.specs.History.{Member, members, serial, serial_ops, serial_answers, logs_left}
@@ -51,19 +50,20 @@ use Rattle.history_laws.specs.Continuing.{serial_left}
 use Rattle.history_laws.proofs.Durability.{fronts_entries, opened_counted, Counted}
 use Rattle.history_laws.proofs.Worlds.{in_a_shard}
 use Rattle.one_shard_laws.proofs.Leading.{told_pair}
+use Rattle.one_shard_laws.proofs.Opening.{may_serve, knows_opened}
 use Rattle.one_shard_laws.proofs.Following.{fits_event, fits_plain, IsPlain}
 use Rattle.one_shard_laws.proofs.Knowing.{Silent, knows_event, knows_flush, knows_down, knows_restart}
 use Rattle.one_shard_laws.specs.Replaying.{Replays, MembersReplay}
 
-pub record At (log : List LogRecord) (pre : History) (s : Shard) : Type 0 where
+pub record At (before log : List LogRecord) (pre : History) (s : Shard) : Type 0 where
   pub all : List Item
   pub asked : List TxId
   pub told : List TxId
   pub met : List (TxId × TxId)
-  pub leads : Leads (run_after new_log) all asked told met s
+  pub leads : Leads 0 (run_after (before ∷ [])) before all asked told met s
   pub fits : Fits pre all asked told met
-  pub knows : Knows pre s
-  pub known_met : (t p : TxId) → tx_in p (predecessors_in log (start_of new_log 0) t (journal_of 0 pre)) ≡ true → has_met met t p ≡ true
+  pub knows : Knows (run_after (before ∷ [])) pre s
+  pub known_met : (t p : TxId) → tx_in p (predecessors_in log (start_of (before ∷ []) 0) t (journal_of 0 pre)) ≡ true → has_met met t p ≡ true
 
 -- the predecessors by a longer journal
 in_union : (p : TxId) (xs ys : List TxId) → tx_in p (tx_union xs ys) ≡ true → (tx_in p xs ≡ true) ⊎ (tx_in p ys ≡ true)
@@ -109,26 +109,26 @@ got_met s t p (OpEvent tx birth nth seen op) _ e = absurd (both_ways false refl 
 got_met s t p _ o e = absurd (both_ways false refl e)
 
 -- the shard is that of the journal so far
-abbrev IsState : List LogRecord → History → Shard → Type 0
-IsState log pre s = s ≡ after_entries log (start_of new_log 0) (journal_of 0 pre)
+abbrev IsState : List LogRecord → List LogRecord → History → Shard → Type 0
+IsState before log pre s = s ≡ after_entries log (start_of (before ∷ []) 0) (journal_of 0 pre)
 
-met_event : (log : List LogRecord) (pre : History) (x : Entry) (s : Shard) (met : List (TxId × TxId)) → IsState log pre s → ((t p : TxId) → tx_in p (predecessors_in log (start_of new_log 0) t (journal_of 0 pre)) ≡ true → has_met met t p ≡ true)
-    → (t p : TxId) → tx_in p (predecessors_in log (start_of new_log 0) t (journal_of 0 (pre ++ (0, x) ∷ []))) ≡ true → has_met (new_met s x.event x.outcome ++ met) t p ≡ true
-met_event log pre x s met z k t p e =
-    let e2 = subst (λ j. tx_in p (predecessors_in log (start_of new_log 0) t j) ≡ true) (journal_append 0 pre ((0, x) ∷ [])) e in
+met_event : (before log : List LogRecord) (pre : History) (x : Entry) (s : Shard) (met : List (TxId × TxId)) → IsState before log pre s → ((t p : TxId) → tx_in p (predecessors_in log (start_of (before ∷ []) 0) t (journal_of 0 pre)) ≡ true → has_met met t p ≡ true)
+    → (t p : TxId) → tx_in p (predecessors_in log (start_of (before ∷ []) 0) t (journal_of 0 (pre ++ (0, x) ∷ []))) ≡ true → has_met (new_met s x.event x.outcome ++ met) t p ≡ true
+met_event before log pre x s met z k t p e =
+    let e2 = subst (λ j. tx_in p (predecessors_in log (start_of (before ∷ []) 0) t j) ≡ true) (journal_append 0 pre ((0, x) ∷ [])) e in
     list_any-append (λ q. tx_same t q.0 && tx_same p q.1) (new_met s x.event x.outcome) met
     ∙ ⊎_elim (λ a. or_right (has_met (new_met s x.event x.outcome) t p) (has_met met t p) (k t p a))
     (λ a. or_left (has_met (new_met s x.event x.outcome) t p) (has_met met t p) (got_met s t p x.event x.outcome (subst (λ w. tx_in p (got_predecessors w t x.event x.outcome) ≡ true) (sym z) a)))
-    (got_append log (start_of new_log 0) t p (journal_of 0 pre) x e2)
+    (got_append log (start_of (before ∷ []) 0) t p (journal_of 0 pre) x e2)
 
-met_plain : (log : List LogRecord) (pre : History) (x : Entry) (s : Shard) (met : List (TxId × TxId)) → IsState log pre s → ((t : TxId) → got_predecessors s t x.event x.outcome ≡ [])
-    → ((t p : TxId) → tx_in p (predecessors_in log (start_of new_log 0) t (journal_of 0 pre)) ≡ true → has_met met t p ≡ true)
-    → (t p : TxId) → tx_in p (predecessors_in log (start_of new_log 0) t (journal_of 0 (pre ++ (0, x) ∷ []))) ≡ true → has_met met t p ≡ true
-met_plain log pre x s met z n k t p e =
-    let e2 = subst (λ j. tx_in p (predecessors_in log (start_of new_log 0) t j) ≡ true) (journal_append 0 pre ((0, x) ∷ [])) e in
+met_plain : (before log : List LogRecord) (pre : History) (x : Entry) (s : Shard) (met : List (TxId × TxId)) → IsState before log pre s → ((t : TxId) → got_predecessors s t x.event x.outcome ≡ [])
+    → ((t p : TxId) → tx_in p (predecessors_in log (start_of (before ∷ []) 0) t (journal_of 0 pre)) ≡ true → has_met met t p ≡ true)
+    → (t p : TxId) → tx_in p (predecessors_in log (start_of (before ∷ []) 0) t (journal_of 0 (pre ++ (0, x) ∷ []))) ≡ true → has_met met t p ≡ true
+met_plain before log pre x s met z n k t p e =
+    let e2 = subst (λ j. tx_in p (predecessors_in log (start_of (before ∷ []) 0) t j) ≡ true) (journal_append 0 pre ((0, x) ∷ [])) e in
     ⊎_elim (λ a. k t p a)
     (λ a. absurd (both_ways false refl (subst (λ w. tx_in p w ≡ true) (n t) (subst (λ w. tx_in p (got_predecessors w t x.event x.outcome) ≡ true) (sym z) a))))
-    (got_append log (start_of new_log 0) t p (journal_of 0 pre) x e2)
+    (got_append log (start_of (before ∷ []) 0) t p (journal_of 0 pre) x e2)
 
 -- a flush's end and a restart are no operation, no request and no look
 plain_flush : (x : Entry) → x.event ≡ FlushIn → IsPlain x
@@ -170,84 +170,80 @@ silent_restart x n e f =
     send_is : (m : Message) → Up n ≡ Sent m → ⊥
     send_is m q = absurd cc
 
-all_homes : (A : TxId → Type 0) (shard : ℕ) (rs : List LogRecord) → shard ≡ 0 → AllByRecursion (RecordIs A) rs → AllByRecursion (HomeIs shard) rs
-all_homes A shard [] e a = tt
-all_homes A shard (Prepare tx home ps ∷ rs) e a = ((a.0).1 ∙ sym e, all_homes A shard rs e a.1)
-all_homes A shard (Update tx key before after ∷ rs) e a = (tt, all_homes A shard rs e a.1)
-all_homes A shard (Clr tx next key after ∷ rs) e a = (tt, all_homes A shard rs e a.1)
-all_homes A shard (Commit tx parts ∷ rs) e a = (tt, all_homes A shard rs e a.1)
-all_homes A shard (Abort tx ∷ rs) e a = (tt, all_homes A shard rs e a.1)
-all_homes A shard (End tx ∷ rs) e a = (tt, all_homes A shard rs e a.1)
-all_homes A shard (RestartRecord run epoch ∷ rs) e a = (tt, all_homes A shard rs e a.1)
+-- a shard that is alone has nothing in doubt
+nothing_in_doubt : (A : TxId → Type 0) (s : Shard) (kept : Bool) → s.shard ≡ 0 → AllByRecursion (RecordIs A) s.local.log → StillHere s (log_left s kept)
+nothing_in_doubt A s kept e a t i =
+    let none = no_doubt A (log_left s kept) s.shard (log_left s kept) [] e (take_all_of (RecordIs A) (cond kept (unwrap_or s.flight s.durable) s.durable) s.local.log a) in
+    absurd (both_ways false refl (subst (λ l. tx_in t l ≡ true) none i))
 
 written_as : (x : Entry) (e : Event) (o : Outcome) (t : Shard) (P : Shard → Type 0) → x.event ≡ e → x.outcome ≡ o → P (with_entry x.stamp x.walker e o t) → P (with_entry x.stamp x.walker x.event x.outcome t)
 written_as x e o t P p q k = subst (λ z. P (with_entry x.stamp x.walker z x.outcome t)) (sym p) (subst (λ z. P (with_entry x.stamp x.walker e z t)) (sym q) k)
 
-after_event : (after : List (List LogRecord)) (h pre : History) (x : Entry) (log : List LogRecord) (s t : Shard) → IsState log pre s → Next new_log after h pre x → At log pre s → ((m : Message) (stamp : ℕ) → x.event ≡ Deliver m stamp → ⊥) → happen s x.event ≡ Does x.outcome t → Happens s x.event x.outcome t
-    → At log (pre ++ (0, x) ∷ []) (with_entry x.stamp x.walker x.event x.outcome t)
-after_event after h pre x log s t z n a d eq g =
+after_event : (before : List LogRecord) (after : List (List LogRecord)) (h pre : History) (x : Entry) (log : List LogRecord) (s t : Shard) → IsState before log pre s → Next (before ∷ []) after h pre x → At before log pre s → ((m : Message) (stamp : ℕ) → x.event ≡ Deliver m stamp → ⊥) → happen s x.event ≡ Does x.outcome t → Happens s x.event x.outcome t
+    → At before log (pre ++ (0, x) ∷ []) (with_entry x.stamp x.walker x.event x.outcome t)
+after_event before after h pre x log s t z n a d eq g =
     record {
       all = with_one a.all (new_item s x.event x.outcome);
       asked = with_one a.asked (new_asked s x.event);
       told = with_one a.told (new_told x.event x.outcome);
       met = new_met s x.event x.outcome ++ a.met;
-      leads = happens x.event x.outcome t x.stamp x.walker a.leads (may_happen new_log after h pre x s a.all a.asked a.told a.met n a.knows a.fits d x.event refl) eq;
-      fits = fits_event new_log after h pre x s t a.all a.asked a.told a.met n a.knows a.fits eq g;
-      knows = knows_event new_log after h pre x s t n a.knows g d;
-      known_met = met_event log pre x s a.met z a.known_met;
+      leads = happens x.event x.outcome t x.stamp x.walker a.leads (may_happen (before ∷ []) after h pre x s a.all a.asked a.told a.met n a.knows a.fits d x.event refl) eq;
+      fits = fits_event (before ∷ []) after h pre x s t a.all a.asked a.told a.met n a.knows a.fits eq g;
+      knows = knows_event (before ∷ []) after h pre x s t n a.knows g d;
+      known_met = met_event before log pre x s a.met z a.known_met;
     }
 
-made_at : (after : List (List LogRecord)) (h pre : History) (x : Entry) (log : List LogRecord) (s t : Shard) {e : Event} {o : Outcome} → IsState log pre s → Next new_log after h pre x → At log pre s → ((m : Message) (stamp : ℕ) → x.event ≡ Deliver m stamp → ⊥)
-    → Makes log s e o t → x.event ≡ e → x.outcome ≡ o → At log (pre ++ (0, x) ∷ []) (with_entry x.stamp x.walker x.event x.outcome t)
-made_at after h pre x log s t z n a d (by_event {e = e} {o = o} eq g) p q =
-    after_event after h pre x log s t z n a d
+made_at : (before : List LogRecord) (after : List (List LogRecord)) (h pre : History) (x : Entry) (log : List LogRecord) (s t : Shard) {e : Event} {o : Outcome} → IsState before log pre s → Next (before ∷ []) after h pre x → At before log pre s → ((m : Message) (stamp : ℕ) → x.event ≡ Deliver m stamp → ⊥)
+    → Makes log s e o t → x.event ≡ e → x.outcome ≡ o → At before log (pre ++ (0, x) ∷ []) (with_entry x.stamp x.walker x.event x.outcome t)
+made_at before after h pre x log s t z n a d (by_event {e = e} {o = o} eq g) p q =
+    after_event before after h pre x log s t z n a d
     (subst (λ z. happen s z ≡ Does x.outcome t) (sym p) (subst (λ z. happen s e ≡ Does z t) (sym q) eq))
     (subst (λ z. Happens s z x.outcome t) (sym p) (subst (λ z. Happens s e z t) (sym q) g))
-made_at after h pre x log s _ z n a d (by_flush m u f) p q =
+made_at before after h pre x log s _ z n a d (by_flush m u f) p q =
     record {
       all = a.all;
       asked = a.asked;
       told = a.told;
       met = a.met;
-      leads = written_as x FlushIn (Durable m) (finish (with_durable m s)) (Leads (run_after new_log) a.all a.asked a.told a.met) p q (lands m true (Durable m) (finish (with_durable m s)) x.stamp x.walker a.leads f refl);
+      leads = written_as x FlushIn (Durable m) (finish (with_durable m s)) (Leads 0 (run_after (before ∷ [])) before a.all a.asked a.told a.met) p q (lands m true (Durable m) (finish (with_durable m s)) x.stamp x.walker a.leads f refl);
       fits = fits_plain pre x a.all a.asked a.told a.met (plain_flush x p) a.fits;
-      knows = knows_flush pre x s m (silent_flush x (Durable m) p q (λ k w. sent_is m k w)) a.knows;
-      known_met = met_plain log pre x s a.met z (λ u. ap (λ w. got_predecessors s u w x.outcome) p) a.known_met;
+      knows = knows_flush (run_after (before ∷ [])) pre x s m (silent_flush x (Durable m) p q (λ k w. sent_is m k w)) a.knows;
+      known_met = met_plain before log pre x s a.met z (λ u. ap (λ w. got_predecessors s u w x.outcome) p) a.known_met;
     }
   where
     sent_is : (m : ℕ) (k : Message) → Durable m ≡ Sent k → ⊥
     sent_is m k z = absurd cc
-made_at after h pre x log s _ z n a d (by_failure m u f) p q =
+made_at before after h pre x log s _ z n a d (by_failure m u f) p q =
     record {
       all = a.all;
       asked = a.asked;
       told = a.told;
       met = a.met;
-      leads = written_as x FlushIn Failed (put_down s) (Leads (run_after new_log) a.all a.asked a.told a.met) p q (lands m false Failed (put_down s) x.stamp x.walker a.leads f refl);
+      leads = written_as x FlushIn Failed (put_down s) (Leads 0 (run_after (before ∷ [])) before a.all a.asked a.told a.met) p q (lands m false Failed (put_down s) x.stamp x.walker a.leads f refl);
       fits = fits_plain pre x a.all a.asked a.told a.met (plain_flush x p) a.fits;
-      knows = knows_down pre x s (silent_flush x Failed p q sent_is) a.knows;
-      known_met = met_plain log pre x s a.met z (λ u. ap (λ w. got_predecessors s u w x.outcome) p) a.known_met;
+      knows = knows_down (run_after (before ∷ [])) pre x s (silent_flush x Failed p q sent_is) a.knows;
+      known_met = met_plain before log pre x s a.met z (λ u. ap (λ w. got_predecessors s u w x.outcome) p) a.known_met;
     }
   where
     sent_is : (k : Message) → Failed ≡ Sent k → ⊥
     sent_is k z = absurd cc
-made_at after h pre x log s _ z n a d (by_restart epoch kept u r) p q =
+made_at before after h pre x log s _ z n a d (by_restart epoch kept u r) p q =
     let found = up_to_restart s.run epoch log in
     record {
       all = a.all;
       asked = a.asked;
       told = a.told;
       met = a.met;
-      leads = written_as x Restart (Up epoch) (revived s epoch found) (Leads (run_after new_log) a.all a.asked a.told a.met) p q
-          (revives kept epoch found x.stamp x.walker a.leads u (all_homes (DidAny pre) s.shard s.local.log ((a.knows).owned).shard ((a.knows).owned).log) r);
+      leads = written_as x Restart (Up epoch) (revived s epoch found) (Leads 0 (run_after (before ∷ [])) before a.all a.asked a.told a.met) p q
+          (revives kept epoch found x.stamp x.walker a.leads u (nothing_in_doubt (OfHistory (run_after (before ∷ [])) pre) s kept ((a.knows).owned).shard ((a.knows).owned).log) r);
       fits = fits_plain pre x a.all a.asked a.told a.met (plain_restart x p) a.fits;
-      knows = knows_restart pre x s kept epoch found (silent_restart x epoch p q) a.knows r;
-      known_met = met_plain log pre x s a.met z (λ u. ap (λ w. got_predecessors s u w x.outcome) p) a.known_met;
+      knows = knows_restart (run_after (before ∷ [])) pre x s kept epoch found (silent_restart x epoch p q) a.knows r;
+      known_met = met_plain before log pre x s a.met z (λ u. ap (λ w. got_predecessors s u w x.outcome) p) a.known_met;
     }
 
 -- ---- along the history
 
-nothing_comes : (pre : History) (s : Shard) (x : Entry) → Knows pre s → WasSent pre x.event → (m : Message) (stamp : ℕ) → x.event ≡ Deliver m stamp → ⊥
+nothing_comes : {run : ℕ} (pre : History) (s : Shard) (x : Entry) → Knows run pre s → WasSent pre x.event → (m : Message) (stamp : ℕ) → x.event ≡ Deliver m stamp → ⊥
 nothing_comes pre s x k w m stamp e = let y = subst (WasSent pre) e w in k.quiet (y.0, y.1) m (is_among y.0 y.1 pre y.2) y.4
 
 all_before : (pre : History) (x : Placed) (post : History) (y : Placed) → InOrder (pre ++ x ∷ post) → Among y pre → Before y x
@@ -265,8 +261,8 @@ earlier_is pre x post y o i b = at (among_append y pre (x ∷ post) i) (second_o
     at (inr (inl q)) a = absurd (not_before_itself y x (sym q) b)
     at (inr (inr j)) a = absurd (not_before_itself y y refl (before_then y x y b (among_all (Before x) y post a j)))
 
-next_of : (after : List (List LogRecord)) (h pre : History) (x : Entry) (post : History) → Legal [] new_log h after → pre ++ (0, x) ∷ post ≡ h → Next new_log after h pre x
-next_of after h pre x post l q =
+next_of : (before : List LogRecord) (after : List (List LogRecord)) (h pre : History) (x : Entry) (post : History) → Legal [] (before ∷ []) h after → pre ++ (0, x) ∷ post ≡ h → Next (before ∷ []) after h pre x
+next_of before after h pre x post l q =
     let o : InOrder (pre ++ (0, x) ∷ post) = subst InOrder (sym q) (in_order h l.ordered) in
     record {
       legal = l;
@@ -275,52 +271,35 @@ next_of after h pre x post l q =
       earlier = λ y i b. earlier_is pre (0, x) post y o (subst (Among y) (sym q) i) b;
     }
 
-at_next : (after : List (List LogRecord)) (h pre : History) (x : Entry) (post : History) → Legal [] new_log h after → pre ++ (0, x) ∷ post ≡ h → At (log_of after 0) pre (state_at new_log after 0 pre) → At (log_of after 0) (pre ++ (0, x) ∷ []) (state_at new_log after 0 (pre ++ (0, x) ∷ []))
-at_next after h pre x post l q a =
-    let s = state_at new_log after 0 pre in
+at_next : (before : List LogRecord) (after : List (List LogRecord)) (h pre : History) (x : Entry) (post : History) → Legal [] (before ∷ []) h after → pre ++ (0, x) ∷ post ≡ h → At before (log_of after 0) pre (state_at (before ∷ []) after 0 pre) → At before (log_of after 0) (pre ++ (0, x) ∷ []) (state_at (before ∷ []) after 0 (pre ++ (0, x) ∷ []))
+at_next before after h pre x post l q a =
+    let s = state_at (before ∷ []) after 0 pre in
     let log = log_of after 0 in
-    let p = split_at [] new_log after h pre (0, x) post l q (omega arith) in
+    let p = split_at [] (before ∷ []) after h pre (0, x) post l q (omega arith) in
     let w : WasSent pre x.event = sent_at [] pre (0, x) post (subst (MessagesSent []) (sym q) l.messages) in
-    subst (At log (pre ++ (0, x) ∷ [])) (sym p.next)
-    (made_at after h pre x log s (event_state log s x.event x.outcome) refl (next_of after h pre x post l q) a (nothing_comes pre s x a.knows w) (makes log s x.event x.outcome (p.enters).event) refl refl)
+    subst (At before log (pre ++ (0, x) ∷ [])) (sym p.next)
+    (made_at before after h pre x log s (event_state log s x.event x.outcome) refl (next_of before after h pre x post l q) a (nothing_comes pre s x a.knows w) (makes log s x.event x.outcome (p.enters).event) refl refl)
 
-pub walk : (after : List (List LogRecord)) (h pre post : History) → Legal [] new_log h after → pre ++ post ≡ h → At (log_of after 0) pre (state_at new_log after 0 pre) → At (log_of after 0) h (state_at new_log after 0 h)
-walk after h pre [] l q a = subst (λ z. At (log_of after 0) z (state_at new_log after 0 z)) (sym (append-nil pre) ∙ q) a
-walk after h pre (e ∷ post) l q a =
+pub walk : (before : List LogRecord) (after : List (List LogRecord)) (h pre post : History) → Legal [] (before ∷ []) h after → pre ++ post ≡ h → At before (log_of after 0) pre (state_at (before ∷ []) after 0 pre) → At before (log_of after 0) h (state_at (before ∷ []) after 0 h)
+walk before after h pre [] l q a = subst (λ z. At before (log_of after 0) z (state_at (before ∷ []) after 0 z)) (sym (append-nil pre) ∙ q) a
+walk before after h pre (e ∷ post) l q a =
     let i : Among e h = subst (Among e) q (among_right e pre (e ∷ post) (inl refl)) in
-    let n = in_a_shard [] new_log after h e l i in
+    let n = in_a_shard [] (before ∷ []) after h e l i in
     let z : e.0 ≡ 0 = omega (arith, n) in
     let same : e ≡ (0, e.1) = ap (λ (k : ℕ). (k, e.1)) z in
     let q2 : pre ++ (0, e.1) ∷ post ≡ h = subst (λ w. pre ++ w ∷ post ≡ h) same q in
-    walk after h (pre ++ (0, e.1) ∷ []) post l (append_assoc pre ((0, e.1) ∷ []) post ∙ q2) (at_next after h pre e.1 post l q2 a)
+    walk before after h (pre ++ (0, e.1) ∷ []) post l (append_assoc pre ((0, e.1) ∷ []) post ∙ q2) (at_next before after h pre e.1 post l q2 a)
 
-pub begins : (after : List (List LogRecord)) → At (log_of after 0) [] (state_at new_log after 0 [])
-begins after =
+pub begins : (before : List LogRecord) (after : List (List LogRecord)) → may_open [] (before ∷ []) ≡ true → At before (log_of after 0) [] (state_at (before ∷ []) after 0 [])
+begins before after may =
     record {
       all = [];
       asked = [];
       told = [];
       met = [];
-      leads = opens;
+      leads = opens (may_serve before may);
       fits = record { items = λ t. refl; asked_are = refl; told_are = λ t. refl; met_did = λ t p e. absurd (both_ways false refl e) };
-      knows = record {
-        owned = record {
-          shard = refl;
-          epoch = refl;
-          out = refl;
-          voters = refl;
-          parts = tt;
-          known = λ t d. elim (d.1).1 [ ];
-          gone = λ t g. refl;
-          log = (tt, tt);
-          requests = tt;
-          refused = λ t q e. absurd (none_some q e);
-        };
-        epochs = λ y t b nth seen op a n i. elim i [ ];
-        quiet = λ y m i. elim i [ ];
-        journal = refl;
-        all_here = λ y i. elim i [ ];
-      };
+      knows = knows_opened before may;
       known_met = λ t p e. absurd (both_ways false refl e);
     }
 
@@ -359,16 +338,16 @@ pub cut_above : (s : Shard) (kept : Bool) → Counted s → s.durable ≤ cond k
 cut_above s true c = cut_by s s.flight c refl
 cut_above s false c = omega arith
 
-pub counted_end : (after : List (List LogRecord)) (h : History) → Legal [] new_log h after → Counted (final_of new_log h after 0)
-counted_end after h l = (fronts_entries (log_of after 0) (start_of new_log 0) (journal_of 0 h) (opened_counted 0 (run_after new_log) []) (l.runs 0 (omega arith))).counted
+pub counted_end : (before : List LogRecord) (after : List (List LogRecord)) (h : History) → Legal [] (before ∷ []) h after → Counted (final_of (before ∷ []) h after 0)
+counted_end before after h l = (fronts_entries (log_of after 0) (start_of (before ∷ []) 0) (journal_of 0 h) (opened_counted 0 (run_after (before ∷ [])) before) (l.runs 0 (omega arith))).counted
 
 -- a member by the histories' lists and by those of the shard
-pub keeps_same : (after : List (List LogRecord)) (h : History) (choice : ℕ → Bool) (a : At (log_of after 0) h (final_of new_log h after 0)) → Legal [] new_log h after → (e : Placed) → Among e h → (t : TxId)
-    → (committed_in (log_of (logs_left [] new_log h after choice) e.0) t || acknowledged_in h t)
-    ≡ is_member (final_of new_log h after 0) (cond (choice 0) (unwrap_or (final_of new_log h after 0).flight (final_of new_log h after 0).durable) (final_of new_log h after 0).durable) a.told t
-keeps_same after h choice a l e i t =
-    ap (λ n. committed_in (log_of (logs_left [] new_log h after choice) n) t || acknowledged_in h t) ((a.knows).all_here e i)
-    ∙ ap (λ b. committed_in (log_left (final_of new_log h after 0) (choice 0)) t || b) (sym ((a.fits).told_are t))
+pub keeps_same : (before : List LogRecord) (after : List (List LogRecord)) (h : History) (choice : ℕ → Bool) (a : At before (log_of after 0) h (final_of (before ∷ []) h after 0)) → Legal [] (before ∷ []) h after → (e : Placed) → Among e h → (t : TxId)
+    → (committed_in (log_of (logs_left [] (before ∷ []) h after choice) e.0) t || acknowledged_in h t)
+    ≡ is_member (final_of (before ∷ []) h after 0) (cond (choice 0) (unwrap_or (final_of (before ∷ []) h after 0).flight (final_of (before ∷ []) h after 0).durable) (final_of (before ∷ []) h after 0).durable) a.told t
+keeps_same before after h choice a l e i t =
+    ap (λ n. committed_in (log_of (logs_left [] (before ∷ []) h after choice) n) t || acknowledged_in h t) ((a.knows).all_here e i)
+    ∙ ap (λ b. committed_in (log_left (final_of (before ∷ []) h after 0) (choice 0)) t || b) (sym ((a.fits).told_are t))
 
 told_ops : (h : History) (all : List Item) → ((t : TxId) → ops_in t h ≡ map told_pair (items_of t all)) → (m : Member) → m.ops ≡ ops_in m.tx h → map (λ p. p.0) m.ops ≡ map (λ x. x.op) (items_of m.tx all)
 told_ops h all f m e = ap (map (λ p. p.0)) (e ∙ f m.tx) ∙ map_twice told_pair (λ p. p.0) (items_of m.tx all)
@@ -377,23 +356,23 @@ told_answers : (h : History) (all : List Item) → ((t : TxId) → ops_in t h �
 told_answers h all f m e = ap (map (λ p. p.1)) (e ∙ f m.tx) ∙ map_twice told_pair (λ p. p.1) (items_of m.tx all)
 
 -- two lists that agree, replayed
-replays_as : (ops ops2 : List (List Op)) (answers answers2 : List (List Answer)) (left : List (List LogRecord)) → ops ≡ ops2 → answers ≡ answers2 → (replay_answers [] ops2 ≡ answers2) × (replay_map [] ops2 ≡ stands left)
-    → (replay_answers [] ops ≡ answers) × (replay_map [] ops ≡ stands left)
-replays_as ops ops2 answers answers2 left e f r = (ap (replay_answers []) e ∙ r.0 ∙ sym f, ap (replay_map []) e ∙ r.1)
+replays_as : (start : KeyMap) (ops ops2 : List (List Op)) (answers answers2 : List (List Answer)) (left : List (List LogRecord)) → ops ≡ ops2 → answers ≡ answers2 → (replay_answers start ops2 ≡ answers2) × (replay_map start ops2 ≡ stands left)
+    → (replay_answers start ops ≡ answers) × (replay_map start ops ≡ stands left)
+replays_as start ops ops2 answers answers2 left e f r = (ap (replay_answers start) e ∙ r.0 ∙ sym f, ap (replay_map start) e ∙ r.1)
 
-replay_at : (after : List (List LogRecord)) (h : History) (choice : ℕ → Bool) → Legal [] new_log h after → At (log_of after 0) h (final_of new_log h after 0)
-    → Replays new_log (serial_left [] new_log h after choice) (logs_left [] new_log h after choice)
-replay_at after h choice l a =
-    let s = final_of new_log h after 0 in
+replay_at : (before : List LogRecord) (after : List (List LogRecord)) (h : History) (choice : ℕ → Bool) → Legal [] (before ∷ []) h after → At before (log_of after 0) h (final_of (before ∷ []) h after 0)
+    → Replays (before ∷ []) (serial_left [] (before ∷ []) h after choice) (logs_left [] (before ∷ []) h after choice)
+replay_at before after h choice l a =
+    let s = final_of (before ∷ []) h after 0 in
     let cut = cond (choice 0) (unwrap_or s.flight s.durable) s.durable in
-    let logs = logs_left [] new_log h after choice in
+    let logs = logs_left [] (before ∷ []) h after choice in
     let keep = is_member s cut a.told in
-    let r = answers_and_map (run_after new_log) a.all a.asked a.told a.met s cut a.leads (cut_above s (choice 0) (counted_end after h l)) in
+    let r = answers_and_map 0 (run_after (before ∷ [])) before a.all a.asked a.told a.met s cut a.leads (cut_above s (choice 0) (counted_end before after h l)) in
     let same = (a.fits).asked_are in
-    replays_as (serial_ops (serial logs h)) (ops_by (members_of s cut a.told a.asked) a.all) (serial_answers (serial logs h)) (answers_by (members_of s cut a.told a.asked) a.all) logs
-    (members_are (λ m. map (λ p. p.0) m.ops) (λ t. map (λ x. x.op) (items_of t a.all)) logs h h keep (keeps_same after h choice a l) (told_ops h a.all (a.fits).items) ∙ ap (λ z. ops_by (filter keep z) a.all) (sym same))
-    (members_are (λ m. map (λ p. p.1) m.ops) (λ t. map (λ x. x.answer) (items_of t a.all)) logs h h keep (keeps_same after h choice a l) (told_answers h a.all (a.fits).items) ∙ ap (λ z. answers_by (filter keep z) a.all) (sym same))
+    replays_as (stands (before ∷ [])) (serial_ops (serial logs h)) (ops_by (members_of s cut a.told a.asked) a.all) (serial_answers (serial logs h)) (answers_by (members_of s cut a.told a.asked) a.all) logs
+    (members_are (λ m. map (λ p. p.0) m.ops) (λ t. map (λ x. x.op) (items_of t a.all)) logs h h keep (keeps_same before after h choice a l) (told_ops h a.all (a.fits).items) ∙ ap (λ z. ops_by (filter keep z) a.all) (sym same))
+    (members_are (λ m. map (λ p. p.1) m.ops) (λ t. map (λ x. x.answer) (items_of t a.all)) logs h h keep (keeps_same before after h choice a l) (told_answers h a.all (a.fits).items) ∙ ap (λ z. answers_by (filter keep z) a.all) (sym same))
     r
 
 pub members_replay : MembersReplay
-members_replay h after choice l = replay_at after h choice l (walk after h [] h l refl (begins after))
+members_replay before h after choice may l = replay_at before after h choice l (walk before after h [] h l refl (begins before after may))

@@ -1,3 +1,4 @@
 pub mod Replaying
 pub mod Recovering
 pub mod Settling
+pub mod Doubting

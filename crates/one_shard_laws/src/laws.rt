@@ -3,14 +3,16 @@
 ghost use Rattle.one_shard_laws.specs.Replaying.{MembersReplay};
 ghost use Rattle.one_shard_laws.specs.Recovering.{PredecessorsStandBefore};
 ghost use Rattle.one_shard_laws.specs.Settling.{SettledIsTheMap};
+ghost use Rattle.one_shard_laws.specs.Doubting.{NothingInDoubt};
 
-/// From a new log, in every legal history of one shard: the members replay, in the order of their requests, to the answers that they were
-/// given, and to the map that the log left stands for, whatever a crash keeps of what is in flight.
+/// In every legal history of one shard, from any log that may be opened: the members replay, in the order of their requests and from the map
+/// that the log found stands for, to the answers that they were given, and to the map that the log left stands for, whatever a crash keeps of
+/// what is in flight.
 pub fn members_replay()
     ensures { MembersReplay }
 {}
 
-/// Nor is a member left without one that it depends on: whose writes it violated is a member too, and stands before it.
+/// From such a log no member is left without one that it depends on: whose writes it violated is a member too, and stands before it.
 pub fn predecessors_stand_before()
     ensures { PredecessorsStandBefore }
 {}
@@ -18,4 +20,9 @@ pub fn predecessors_stand_before()
 /// Where the shard is up, nothing is buffered or in flight, and no part is undecided, the live records are that map.
 pub fn settled_is_the_map()
     ensures { SettledIsTheMap }
+{}
+
+/// One shard has nothing in doubt: neither when it is opened, nor in what a crash leaves.
+pub fn nothing_is_in_doubt()
+    ensures { NothingInDoubt }
 {}

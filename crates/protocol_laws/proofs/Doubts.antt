@@ -79,7 +79,7 @@ restart_unlike run epoch = record { no_commit = λ v. refl; aborts = λ v. refl;
 
 -- ---- who is in doubt is so still, where none of them is aborted
 
-stays_in : (log : List LogRecord) (shard : ℕ) (rs : List LogRecord) (so_far : List TxId) (u : TxId) → tx_in u so_far ≡ true → tx_in u (in_doubt_from log shard rs so_far) ≡ true
+pub stays_in : (log : List LogRecord) (shard : ℕ) (rs : List LogRecord) (so_far : List TxId) (u : TxId) → tx_in u so_far ≡ true → tx_in u (in_doubt_from log shard rs so_far) ≡ true
 stays_in log shard [] so_far u i = i
 stays_in log shard (Update tx k b a ∷ rs) so_far u i = stays_in log shard rs so_far u i
 stays_in log shard (Clr tx v k a ∷ rs) so_far u i = stays_in log shard rs so_far u i

@@ -9,6 +9,7 @@ use Rattle.clv_base.specs.Journals.{History}
 use Rattle.clv_base.specs.History.{Legal, Member, serial, serial_ops, serial_answers, logs_left}
 use Rattle.disk_model.specs.Story.{Story}
 use Rattle.history_replay.specs.Entries.{Kept, entries_of}
+use Rattle.history_laws.specs.Continuing.{IsSublistOf, GoesOn, serial_now, serial_left}
 use Rattle.run_promises.specs.Disks.{DisksRead, DisksHold, UntoldAreDurable}
 
 -- the entries of a run
@@ -46,10 +47,20 @@ pub record IsSerial (splits : List ℕ) (kept : Kept) (left : List (List LogReco
   pub order : SessionsInOrder (members_by splits kept left choice)
   pub opens : may_open splits (crash_logs splits kept left choice) ≡ true
 
+-- Members of the serial history stay members, at the same points, with the same operations and answers, in each legal history that goes
+-- on from this one, whatever a crash keeps of the records in flight then.
+abbrev pub MembersStay : List ℕ → Kept → List (List LogRecord) → Type 0
+MembersStay splits kept left =
+    (later : History) (after : List (List LogRecord)) (choice : ℕ → Bool)
+    → Legal splits kept.found later after → GoesOn splits kept.found (entries kept) left later after
+    → IsSublistOf (serial_now splits kept.found (entries kept) left) (serial_left splits kept.found later after choice)
+
 -- The promise of a run that opened its shards: there are logs that it left, by which its history is legal, each disk holds the durable
--- records in each image that a crash may leave, and each choice of what a crash keeps stands for a serial history.
+-- records in each image that a crash may leave, each choice of what a crash keeps stands for a serial history, and no member of it is ever
+-- taken back.
 pub record Keeps (splits : List ℕ) (before now : ℕ → Option Story) (kept : Kept) : Type 0 where
   pub left : List (List LogRecord)
   pub legal : IsLegalRun splits before now kept left
   pub disks : DisksHold splits kept.found (entries kept) left now
   pub serial : (choice : ℕ → Bool) → IsSerial splits kept left choice
+  pub for_good : MembersStay splits kept left

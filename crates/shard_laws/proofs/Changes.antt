@@ -1,5 +1,5 @@
 -- Changes of a shard that keep what it keeps: a record more, a part closed, the durable front, a purge.
-use Rattle.std.proofs.Common.{◌≡◌, ℕ, ◌≤◌, ◌<◌, inl, inr, ⊎_elim, Bool, true, false, cond, not, ◌||◌, List, [], ◌∷◌, ◌++◌, Option, Some, None, ◌==◌, refl, sym, ap, subst, ◌∙◌, arith, append_assoc, eqb-true}
+use Rattle.std.proofs.Common.{◌≡◌, ℕ, ◌≤◌, ◌<◌, inl, inr, ⊎_elim, Bool, true, false, cond, not, ◌||◌, List, [], ◌∷◌, ◌++◌, length, Option, Some, None, ◌==◌, ◌+◌, ◌⊎◌, refl, sym, ap, subst, ◌∙◌, arith, append_assoc, eqb-true}
 use Rattle.std.specs.List.{AllByRecursion}
 use Rattle.std.proofs.lemmas.Bool.{cases_Bool, both_ways, cond-true, cond-false, or_cases, false_from_ne_true}
 use Rattle.std.proofs.lemmas.List.Folds.{list_any-append}
@@ -12,23 +12,25 @@ use Rattle.clv_base.specs.declared.modes.Anchor.{Anchor}
 use Rattle.clv_base.specs.declared.modes.Anchor.TheVariants.{Low, At}
 use Rattle.clv_base.specs.declared.state.Stage.{Stage}
 use Rattle.clv_base.specs.declared.state.Stage.TheVariants.{Active, Closed, Gone}
-use Rattle.clv_base.specs.Orders.{tx_same}
-use Rattle.clv_base.specs.Logs.{standing, committed_in, wrote_in, is_update_of, is_commit_of}
+use Rattle.clv_base.specs.Orders.{tx_same, tx_in}
+use Rattle.clv_base.specs.Logs.{standing, committed_in, wrote_in, prepared_in, is_update_of, is_commit_of, is_prepare_of}
 use Rattle.clv_base.specs.Locks.{Locks, is_free}
 use Rattle.clv_base.specs.State.{is_present}
 use Rattle.clv_base.specs.Needs.{Records, value_at, lower_anchor, is_locked_or_live, without_ghosts}
 use Rattle.law_base.proofs.Cells.{record_at, live_by}
-use Rattle.clv_base.proofs.SameNames.{or_left, tx_true, tx_ne}
-use Rattle.law_base.proofs.Lists.{all_mono, later_mono}
+use Rattle.clv_base.proofs.SameNames.{or_left, tx_true, tx_self, tx_ne}
+use Rattle.law_base.specs.Items.{AllLater}
+use Rattle.law_base.proofs.Lists.{all_mono, all_both, later_mono}
 use Rattle.law_base.proofs.Running.{top_value}
 use Rattle.law_base.proofs.Undoing.{standing_append}
 use Rattle.law_base.proofs.Anchors.{Rising, rising_filter, record_kept, record_absent, anchor_kept, absent_above}
 use Rattle.shard_laws.proofs.LockRows.{holds, held_not_free}
 use Rattle.shard_laws.proofs.Asking.{holds_at, holds_by}
 use Rattle.law_base.proofs.Tables.{stage_in, is_pair}
-use Rattle.law_base.proofs.Commits.{CommitBefore, commit_durable, before_keeps, before_new, durable_keeps, durable_parts, durable_from, committed_append, uncommitted_append}
-use Rattle.shard_laws.proofs.Kept.{View, Past, Dep, Kept, Ended, moves, Open_at, Tidy}
-use Rattle.shard_laws.specs.OneShard.{is_clr_of, undone_in}
+use Rattle.law_base.proofs.Commits.{CommitBefore, commit_durable, before_keeps, before_new, durable_keeps, durable_parts, durable_from, durable_committed, before_second, committed_append, uncommitted_append, place_some, place_less, place_keeps, place_new}
+use Rattle.shard_laws.proofs.Prepared.{IsListed, Lists, Prepared, by_prepare, prepare_here, unprepared_append, lists_more, sealed_append, prepared_more}
+use Rattle.shard_laws.proofs.Kept.{View, Past, Dep, Kept, Ended}
+use Rattle.order_laws.specs.Order.{moves, Open_at, Tidy, is_clr_of, undone_in}
 use Rattle.std.proofs.Common.{append-nil}
 
 -- ---- a record more
@@ -73,8 +75,8 @@ pub record More (v : View) (more : List LogRecord) : Type 0 where
   pub down : (t p : TxId) → is_pair v.pairs t p ≡ true → committed_in more t ≡ true → CommitBefore (v.log ++ more) p t
   pub tidies : Tidy v.log more
 
-pub keeps_records : (g : Past) (v : View) (more : List LogRecord) → Kept g v → More v more → Kept g (record v { log = v.log ++ more })
-keeps_records g v more k m = record {
+pub keeps_records : (g : Past) (v : View) (more : List LogRecord) → Kept g v → More v more → Prepared g.items g.met v.parts (v.log ++ more) → Kept g (record v { log = v.log ++ more })
+keeps_records g v more k m prep = record {
   start_rises = k.start_rises;
   base_value = k.base_value;
   base_chain = k.base_chain;
@@ -94,6 +96,7 @@ keeps_records g v more k m = record {
   dead = λ t u. let old : undone_in v.log t ≡ true = ⊎_elim (λ h. h) (λ h. absurd (both_ways _ (m.no_undo t) h)) (or_cases (undone_in v.log t) (undone_in more t) (sym (undone_append v.log more t) ∙ u)) in
       let d = k.dead t old in (uncommitted_append v.log more t d.0 (m.not_dead t old), d.1, d.2);
   tidy = tidy_append [] v.log more k.tidy m.tidies;
+  prepared = prep;
   doomed = λ t d h. uncommitted_append v.log more t (k.doomed t d h) (m.not_doomed t d h);
   successors = k.successors;
   downwards = λ t p h c. ⊎_elim (λ i. before_keeps v.log more p t (k.downwards t p h i)) (λ i. m.down t p h i) (or_cases (committed_in v.log t) (committed_in more t) (sym (committed_append v.log more t) ∙ c));
@@ -106,12 +109,13 @@ keeps_records g v more k m = record {
 or_none : (b : Bool) → b ≡ false → (b || false) ≡ false
 or_none b e = ap (λ c. c || false) e
 
--- a record that is no UPDATE, CLR or COMMIT
+-- a record that is no UPDATE, CLR, COMMIT or PREPARE
 pub record Quiet (r : LogRecord) : Type 0 where
   pub no_commit : (t : TxId) → is_commit_of t r ≡ false
   pub no_update : (t : TxId) → is_update_of t r ≡ false
   pub no_clr : (t : TxId) → is_clr_of t r ≡ false
   pub no_move : moves r ≡ None
+  pub no_prepare : (t : TxId) → is_prepare_of t r ≡ false
 
 open_none : (before : List LogRecord) (o : Option TxId) → o ≡ None → Open_at before o
 open_none before o e = subst (Open_at before) (sym e) tt
@@ -127,13 +131,10 @@ keeps_quiet g v r k e q = keeps_records g v (r ∷ []) k (record {
   no_undo = λ t. or_none _ (q.no_clr t);
   down = λ t p h c. absurd (both_ways _ (or_none _ (q.no_commit t)) c);
   tidies = (open_none v.log (moves r) q.no_move, tt);
-})
-
-pub quiet_prepare : (tx : TxId) (home : ℕ) (ps : List TxId) → Quiet (Prepare tx home ps)
-quiet_prepare tx home ps = record { no_commit = λ t. refl; no_update = λ t. refl; no_clr = λ t. refl; no_move = refl }
+}) (prepared_more g.items g.met v.parts v.log (r ∷ []) k.prepared (λ t. or_none _ (q.no_update t)) (λ t. or_none _ (q.no_prepare t)))
 
 pub quiet_end : (tx : TxId) → Quiet (End tx)
-quiet_end tx = record { no_commit = λ t. refl; no_update = λ t. refl; no_clr = λ t. refl; no_move = refl }
+quiet_end tx = record { no_commit = λ t. refl; no_update = λ t. refl; no_clr = λ t. refl; no_move = refl; no_prepare = λ t. refl }
 
 stage_apart : (v : View) (t u : TxId) (a b : Stage) → stage_in v.parts t ≡ Some a → stage_in v.parts u ≡ Some b → (Some a ≡ Some b → ⊥) → tx_same u t ≡ false
 stage_apart v t u a b e f ne = tx_ne u t (λ s. ne (sym e ∙ ap (stage_in v.parts) (sym s) ∙ f))
@@ -155,7 +156,55 @@ keeps_commit g v t parts k closed new before = keeps_records g v (Commit t parts
       (λ i. absurd (both_ways false refl i))
       (or_cases (tx_same u t) false c);
   tidies = (tt, tt);
-})
+}) (prepared_more g.items g.met v.parts v.log (Commit t parts ∷ []) k.prepared (λ u. refl) (λ u. refl))
+
+-- a PREPARE of a closed part, whose predecessors it lists or are committed
+pub later_both : {I : Type 0} (P Q : I → I → Type 0) (xs : List I) → AllLater P xs → AllLater Q xs → AllLater (λ x y. P x y × Q x y) xs
+later_both P Q [] a b = tt
+later_both P Q (x ∷ xs) a b = (all_both _ _ xs a.0 b.0, later_both P Q xs a.1 b.1)
+
+module _ (g : Past) (v : View) (t : TxId) (home : ℕ) (ps : List TxId) (k : Kept g v) (closed : stage_in v.parts t ≡ Some Closed) (new : committed_in v.log t ≡ false) (first : prepared_in v.log t ≡ false)
+    (before : (p : TxId) → is_pair v.pairs t p ≡ true → (committed_in v.log p ≡ true) ⊎ (tx_in p ps ≡ true)) where
+  committed_first : (p : TxId) → committed_in v.log p ≡ true → IsListed (v.log ++ Prepare t home ps ∷ []) t p
+  committed_first p c =
+      let m = place_some 0 (is_commit_of p) v.log c in
+      let l = place_less 0 (is_commit_of p) v.log m.0 m.1 in
+      inr (m.0, 0 + length v.log, place_keeps 0 (is_commit_of p) v.log (Prepare t home ps ∷ []) m.0 m.1, place_new 0 (is_prepare_of t) v.log (Prepare t home ps) first (tx_self t), l)
+
+  own_listed : (p : TxId) → Dep v t p → IsListed (v.log ++ Prepare t home ps ∷ []) t p
+  own_listed p d =
+      ⊎_elim (λ c. committed_first p (durable_committed v.log v.durable p c))
+      (λ m. ⊎_elim (λ pair. ⊎_elim (λ c. committed_first p c) (λ i. inl (ap (λ o. tx_in p (by_prepare o)) (prepare_here v.log [] t home ps first) ∙ i)) (before p pair))
+      (λ b. absurd (both_ways _ new (before_second v.log p t b))) m) d
+
+  lists_now : (u p : TxId) → ((u ≡ t) → Dep v t p) → Lists v.log u p → Lists (v.log ++ Prepare t home ps ∷ []) u p
+  lists_now u p dep old =
+      ⊎_elim (λ same. let e = tx_true u t same in λ is. subst (λ z. IsListed (v.log ++ Prepare t home ps ∷ []) z p) (sym e) (own_listed p (dep e)))
+      (λ other. lists_more v.log (Prepare t home ps ∷ []) u p (ap (λ b. b || false) other) old) (cases_Bool (tx_same u t))
+
+  more_prepare : More v (Prepare t home ps ∷ [])
+  more_prepare = record {
+    same_standing = standing_append 0 v.log (Prepare t home ps ∷ []) [];
+    not_active = λ u h. refl;
+    not_gone = λ u h. refl;
+    not_doomed = λ u d h. refl;
+    not_dead = λ u h. refl;
+    no_write = λ u. refl;
+    no_undo = λ u. refl;
+    down = λ u p h c. absurd (both_ways false refl c);
+    tidies = (tt, tt);
+  }
+
+  prepared_prepare : Prepared g.items g.met v.parts (v.log ++ Prepare t home ps ∷ [])
+  prepared_prepare = record {
+    unprepared = λ u a. unprepared_append v.log (Prepare t home ps ∷ []) u (k.prepared.unprepared u a) (or_none _ (stage_apart v t u Closed Active closed a (λ s. absurd cc)));
+    sealed = sealed_append [] v.log (Prepare t home ps ∷ []) k.prepared.sealed (first, tt);
+    causes = later_mono _ _ (λ x y h r. ⊎_elim (λ s. inl s) (λ dep. ⊎_elim (λ s. inl s) (λ old. inr (lists_now y.tx x.tx (λ e. subst (λ z. Dep v z x.tx) e dep) old)) (h.1 r)) (h.0 r)) g.items (later_both _ _ g.items k.causes k.prepared.causes);
+    recover = λ u p e. lists_now u p (λ same. ⊎_elim (λ o. absurd (both_ways _ o.1 (ap is_present (ap (stage_in v.parts) same ∙ closed)))) (λ d. subst (λ z. Dep v z p) same d.0) (k.recover u p e)) (k.prepared.recover u p e);
+  }
+
+  pub keeps_prepare : Kept g (record v { log = v.log ++ Prepare t home ps ∷ [] })
+  keeps_prepare = keeps_records g v (Prepare t home ps ∷ []) k more_prepare prepared_prepare
 
 -- ---- the durable front
 
@@ -191,6 +240,7 @@ keeps_front g v n k le = record {
   over = λ t h. ⊎_elim (λ c. inl (further v.log v.durable n t le c)) (λ c. inr c) (k.over t h);
   dead = k.dead;
   tidy = k.tidy;
+  prepared = k.prepared;
   doomed = k.doomed;
   successors = k.successors;
   downwards = k.downwards;
@@ -223,6 +273,7 @@ keeps_flight g v n k le = record {
   over = k.over;
   dead = k.dead;
   tidy = k.tidy;
+  prepared = k.prepared;
   doomed = k.doomed;
   successors = k.successors;
   downwards = k.downwards;
@@ -288,6 +339,7 @@ keeps_purge g v k = record {
   over = k.over;
   dead = k.dead;
   tidy = k.tidy;
+  prepared = k.prepared;
   doomed = k.doomed;
   successors = k.successors;
   downwards = k.downwards;

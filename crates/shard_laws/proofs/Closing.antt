@@ -20,6 +20,7 @@ use Rattle.law_base.proofs.Lists.{all_mono, later_mono}
 use Rattle.shard_laws.proofs.LockRows.{rows_close, close_holds}
 use Rattle.shard_laws.proofs.Asking.{holds_at, holds_by}
 use Rattle.law_base.proofs.Tables.{stage_in, stage_by, get_changed}
+use Rattle.shard_laws.proofs.Prepared.{prepared_parts}
 use Rattle.shard_laws.proofs.Kept.{View, Past, place, StageFits, Belongs, Known, Kept}
 use Rattle.clv_base.specs.Locks.{close_locks}
 
@@ -175,6 +176,7 @@ keeps_asked g v t k = record {
   over = λ u h. ⊎_elim (λ c. inl c) (λ c. inr (c.0, c.1, c.2, in_push g.asked t u ∙ or_left _ _ c.3)) (k.over u h);
   dead = k.dead;
   tidy = k.tidy;
+  prepared = k.prepared;
   doomed = k.doomed;
   successors = k.successors;
   downwards = k.downwards;
@@ -211,6 +213,7 @@ keeps_close g v t k act asks = record {
   over = λ u h. ⊎_elim (λ c. inl c) (λ c. inr (c.0, c.1, not_present u c.2, c.3)) (k.over u h);
   dead = λ u h. let d = k.dead u h in (d.0, (λ a. d.1 (stage_back v.parts t u Active act closed_not_active a).1), (λ a. still_dead u d.1 d.2 a));
   tidy = k.tidy;
+  prepared = prepared_parts g.items g.met v.parts (closed_in t v.parts) v.log k.prepared (λ u a. (stage_back v.parts t u Active act closed_not_active a).1);
   doomed = λ u d h. k.doomed u d (stage_back v.parts t u (Gone (Some d)) act (closed_not_doomed d) h).1;
   successors = λ u p h. present_closed v.parts t u (k.successors u p h);
   downwards = k.downwards;

@@ -14,8 +14,8 @@ use Rattle.clv_base.proofs.SameNames.{or_left, or_right, tx_true, tx_self}
 use Rattle.law_base.proofs.Running.{top_value}
 use Rattle.law_base.proofs.Undoing.{standing_append}
 use Rattle.law_base.proofs.Commits.{CommitBefore, commit_durable, durable_parts, committed_keeps}
-use Rattle.shard_laws.proofs.Kept.{View, Past, Kept, moves, Open_at, Tidy}
-use Rattle.shard_laws.specs.OneShard.{is_clr_of, undone_in}
+use Rattle.shard_laws.proofs.Kept.{View, Past, Kept}
+use Rattle.order_laws.specs.Order.{moves, Open_at, Tidy, is_clr_of, undone_in}
 use Rattle.std.proofs.Common.{append-nil}
 use Rattle.std.specs.Prelude.{take, drop}
 use Rattle.std.proofs.lemmas.List.{take-append-drop}
@@ -81,7 +81,7 @@ without_case : (keep : TxId → Bool) (t : TxId) (w : StandingUpdate) (ws : List
 without_case keep t w ws true e out ih = sym (cond-false (keep w.tx) (w ∷ filter (of_kept keep) ws) (filter (of_kept keep) ws) (subst (λ z. keep z ≡ false) (tx_true t w.tx e) out))
 without_case keep t w ws false e out ih = ap (λ l. cond (keep w.tx) (w ∷ l) l) ih
 
-without_other : (keep : TxId → Bool) (t : TxId) (ws : List StandingUpdate) → keep t ≡ false → filter (of_kept keep) (without_newest t ws) ≡ filter (of_kept keep) ws
+pub without_other : (keep : TxId → Bool) (t : TxId) (ws : List StandingUpdate) → keep t ≡ false → filter (of_kept keep) (without_newest t ws) ≡ filter (of_kept keep) ws
 without_other keep t [] out = refl
 without_other keep t (w ∷ ws) out = without_case keep t w ws (tx_same t w.tx) refl out (without_other keep t ws out)
 
@@ -105,6 +105,16 @@ fold_values keep n (Commit tx ps ∷ rs) ws m k whole e = fold_values keep (suc 
 fold_values keep n (Abort tx ∷ rs) ws m k whole e = fold_values keep (suc n) rs ws m k whole.1 e
 fold_values keep n (End tx ∷ rs) ws m k whole e = fold_values keep (suc n) rs ws m k whole.1 e
 fold_values keep n (Restart run epoch ∷ rs) ws m k whole e = fold_values keep (suc n) rs ws m k whole.1 e
+
+pub fold_alike : (f k : TxId → Bool) (log : List LogRecord) (m : KeyMap) → ((t : TxId) → f t ≡ k t) → fold_updates f log m ≡ fold_updates k log m
+fold_alike f k [] m e = refl
+fold_alike f k (Update tx key b a ∷ rs) m e = ap (λ c. fold_updates f rs (cond c (map_set key a m) m)) (e tx) ∙ fold_alike f k rs (cond (k tx) (map_set key a m) m) e
+fold_alike f k (Clr tx u key a ∷ rs) m e = fold_alike f k rs m e
+fold_alike f k (Prepare tx home ps ∷ rs) m e = fold_alike f k rs m e
+fold_alike f k (Commit tx ps ∷ rs) m e = fold_alike f k rs m e
+fold_alike f k (Abort tx ∷ rs) m e = fold_alike f k rs m e
+fold_alike f k (End tx ∷ rs) m e = fold_alike f k rs m e
+fold_alike f k (Restart run epoch ∷ rs) m e = fold_alike f k rs m e
 
 pub fold_rises : (keep : TxId → Bool) (log : List LogRecord) (m : KeyMap) → IsRising m → IsRising (fold_updates keep log m)
 fold_rises keep [] m h = h

@@ -15,7 +15,7 @@ use Rattle.clv_base.specs.declared.state.Stage.TheVariants.{Active, Closed, Gone
 use Rattle.clv_base.specs.declared.state.Held.{Held}
 use Rattle.clv_base.specs.Orders.{Table, tx_same, tx_in, tx_get}
 use Rattle.clv_base.specs.Maps.{map_get}
-use Rattle.clv_base.specs.Logs.{standing, committed_in, wrote_in, is_update_of}
+use Rattle.clv_base.specs.Logs.{standing, committed_in, wrote_in, prepared_in, is_update_of}
 use Rattle.clv_base.specs.Locks.{Locks}
 use Rattle.clv_base.specs.State.{is_present}
 use Rattle.clv_base.specs.Needs.{Records, value_at, lower_anchor}
@@ -30,8 +30,9 @@ use Rattle.shard_laws.proofs.LockRows.{holds, Rows}
 use Rattle.shard_laws.proofs.Asking.{holds_at, holds_by}
 use Rattle.law_base.proofs.Tables.{stage_in, stage_by, is_pair}
 use Rattle.law_base.proofs.Commits.{CommitBefore, commit_durable, before_keeps, durable_keeps, committed_keeps, uncommitted_append, committed_from}
-use Rattle.shard_laws.proofs.Kept.{View, Past, place, StageFits, Belongs, Covers, Wrote, Dep, Known, Kept, Tidy}
-use Rattle.shard_laws.specs.OneShard.{undone_in}
+use Rattle.shard_laws.proofs.Prepared.{Prepared, prepared_item, prepared_update}
+use Rattle.shard_laws.proofs.Kept.{View, Past, place, StageFits, Belongs, Covers, Wrote, Dep, Known, Kept}
+use Rattle.order_laws.specs.Order.{Tidy, undone_in}
 use Rattle.clv_base.specs.declared.ops.Op.{Op}
 use Rattle.clv_base.specs.declared.ops.Op.TheVariants.{Get, Put, Del, Scan}
 use Rattle.clv_base.specs.declared.modes.Need.{Need}
@@ -252,7 +253,7 @@ told_same (Scan lo hi) rs = refl
 -- ---- all of it
 
 module _ (g : Past) (v : View) (tx : TxId) (birth : Birth) (op : Op) (k : Kept g v) (grant : decide tx birth (needs_of op v.records) v.locks ≡ Grant)
-    (may : MayStand v.parts tx birth) (new : tx_in tx g.asked ≡ false) (open_ : committed_in v.log tx ≡ false) (alive : undone_in v.log tx ≡ false) (unmet : (p : TxId) → is_pair g.met tx p ≡ true → stage_in v.parts tx ≡ Some Active) where
+    (may : MayStand v.parts tx birth) (new : tx_in tx g.asked ≡ false) (open_ : committed_in v.log tx ≡ false) (alive : undone_in v.log tx ≡ false) (unprepared : prepared_in v.log tx ≡ false) (unmet : (p : TxId) → is_pair g.met tx p ≡ true → stage_in v.parts tx ≡ Some Active) where
   abbrev needs : List Need
   needs = needs_of op v.records
 
@@ -446,6 +447,17 @@ module _ (g : Past) (v : View) (tx : TxId) (birth : Birth) (op : Op) (k : Kept g
   active_back : (u : TxId) → stage_in parts_after u ≡ Some Active → (u ≡ tx) ⊎ (stage_in v.parts u ≡ Some Active)
   active_back u e = ⊎_elim (λ s. inl s) (λ ne. inr (sym (stage_same u ne) ∙ e)) (cases_tx u tx)
 
+  now_met : (ps : List TxId) (t p : TxId) → is_pair (map (λ q. (tx, q)) ps ++ g.met) t p ≡ true → (t ≡ tx) ⊎ (is_pair g.met t p ≡ true)
+  now_met [] t p e = inr e
+  now_met (q ∷ qs) t p e = ⊎_elim (λ h. inl (tx_true t tx (and_parts (tx_same t tx) (tx_same p q) h).0)) (λ h. now_met qs t p h) (or_cases (tx_same t tx && tx_same p q) (is_pair (map (λ q. (tx, q)) qs ++ g.met) t p) e)
+
+  prepared_now : Prepared (g.items ++ item ∷ []) (map (λ p. (tx, p)) (violated tx needs v.locks) ++ g.met) parts_after v.log
+  prepared_now = prepared_item g.items g.met (map (λ p. (tx, p)) (violated tx needs v.locks) ++ g.met) v.parts parts_after v.log item k.prepared unprepared active_back (now_met (violated tx needs v.locks))
+
+  prepared_by : (w : Change) → Prepared (g.items ++ item ∷ []) (map (λ p. (tx, p)) (violated tx needs v.locks) ++ g.met) parts_after (log_by tx w v.log)
+  prepared_by None = prepared_now
+  prepared_by (Some w) = prepared_update (g.items ++ item ∷ []) (map (λ p. (tx, p)) (violated tx needs v.locks) ++ g.met) parts_after v.log tx w.0 w.1 w.2 prepared_now unprepared
+
   keeps_view : Kept (record g { items = g.items ++ item ∷ []; met = map (λ p. (tx, p)) (violated tx needs v.locks) ++ g.met }) (View_by change)
   keeps_view = record {
     start_rises = k.start_rises;
@@ -480,6 +492,7 @@ module _ (g : Past) (v : View) (tx : TxId) (birth : Birth) (op : Op) (k : Kept g
     dead = λ u h. let old = undone_by change u h in let d = k.dead u old in let ne : u ≡ tx → ⊥ = λ s. both_ways _ alive (ap (undone_in v.log) (sym s) ∙ old) in
         (none_by change u d.0, (λ a. d.1 (sym (stage_same u ne) ∙ a)), (λ a. d.2 (sym (stage_same u ne) ∙ a)));
     tidy = tidy_by change;
+    prepared = prepared_by change;
     doomed = λ u d h. none_by change u (k.doomed u d (sym (stage_same u (λ s. doomed_apart d (sym stage_own ∙ ap (stage_in parts_after) (sym s) ∙ h))) ∙ h));
     successors = λ t p e. ⊎_elim (λ old. present_after t (k.successors t p old)) (λ s. ap is_present (ap (stage_in parts_after) s ∙ stage_own)) (add_from tx (violated tx needs v.locks) v.pairs t p e);
     downwards = λ t p e c. ⊎_elim (λ old. before_by change p t (k.downwards t p old (from_by change t c))) (λ s. absurd (both_ways _ open_ (ap (committed_in v.log) (sym s) ∙ from_by change t c))) (add_from tx (violated tx needs v.locks) v.pairs t p e);
@@ -543,7 +556,7 @@ view_written : (g : Past) (tx : TxId) (birth : Birth) (op : Op) (s : Shard) (w :
 view_written g tx birth op s None k = k
 view_written g tx birth op s (Some w) k = k
 
-pub keeps_performed : (g : Past) (s : Shard) (tx : TxId) (birth : Birth) (op : Op) → Kept g (view_of s) → decide tx birth (needs_of op s.local.records) s.local.locks ≡ Grant → MayStand s.local.parts tx birth → tx_in tx g.asked ≡ false → committed_in s.local.log tx ≡ false → undone_in s.local.log tx ≡ false → ((p : TxId) → is_pair g.met tx p ≡ true → stage_in s.local.parts tx ≡ Some Active)
+pub keeps_performed : (g : Past) (s : Shard) (tx : TxId) (birth : Birth) (op : Op) → Kept g (view_of s) → decide tx birth (needs_of op s.local.records) s.local.locks ≡ Grant → MayStand s.local.parts tx birth → tx_in tx g.asked ≡ false → committed_in s.local.log tx ≡ false → undone_in s.local.log tx ≡ false → prepared_in s.local.log tx ≡ false → ((p : TxId) → is_pair g.met tx p ≡ true → stage_in s.local.parts tx ≡ Some Active)
     → Kept (record g { items = g.items ++ record { tx = tx; op = op; answer = answer_of op s.local.records; lsn = 0 + length s.local.log } ∷ []; met = map (λ p. (tx, p)) (violated tx (needs_of op s.local.records) s.local.locks) ++ g.met }) (view_of (record s { local = performed tx birth op s.local }))
-keeps_performed g s tx birth op k grant may new open_ alive unmet =
-    view_written (record g { items = g.items ++ record { tx = tx; op = op; answer = answer_of op s.local.records; lsn = 0 + length s.local.log } ∷ []; met = map (λ p. (tx, p)) (violated tx (needs_of op s.local.records) s.local.locks) ++ g.met }) tx birth op s (writes_of op (value_at (key_of op) s.local.records)) (keeps_view g (view_of s) tx birth op k grant may new open_ alive unmet)
+keeps_performed g s tx birth op k grant may new open_ alive unprepared unmet =
+    view_written (record g { items = g.items ++ record { tx = tx; op = op; answer = answer_of op s.local.records; lsn = 0 + length s.local.log } ∷ []; met = map (λ p. (tx, p)) (violated tx (needs_of op s.local.records) s.local.locks) ++ g.met }) tx birth op s (writes_of op (value_at (key_of op) s.local.records)) (keeps_view g (view_of s) tx birth op k grant may new open_ alive unprepared unmet)

@@ -5,12 +5,13 @@ use Rattle.std.proofs.lemmas.Bool.{cases_Bool, both_ways, cond-true, cond-false,
 use Rattle.std.proofs.lemmas.List.Folds.{list_any-append}
 use Rattle.clv_base.specs.declared.names.TxId.{TxId}
 use Rattle.clv_base.specs.declared.names.Birth.{Birth}
-use Rattle.clv_base.specs.declared.logs.LogRecord.TheVariants.{Update, Prepare, Commit}
+use Rattle.clv_base.specs.declared.logs.LogRecord.TheVariants.{Update, Commit}
 use Rattle.clv_base.specs.declared.state.Stage.{Stage}
 use Rattle.clv_base.specs.declared.state.Stage.TheVariants.{Active, Closed, Gone}
 use Rattle.clv_base.specs.declared.state.Held.{Held}
 use Rattle.clv_base.specs.Orders.{tx_same, tx_in, tx_get}
-use Rattle.clv_base.specs.Logs.{committed_in, wrote_in, is_update_of}
+use Rattle.clv_base.specs.Logs.{committed_in, wrote_in, prepared_in, is_update_of}
+use Rattle.shard_laws.proofs.Dooming.{filter_in}
 use Rattle.clv_base.specs.Locks.{close_locks}
 use Rattle.clv_base.specs.declared.modes.Decision.{Decision}
 use Rattle.clv_base.specs.declared.modes.Decision.TheVariants.{Grant, Wait, Die}
@@ -26,11 +27,10 @@ use Rattle.clv_base.specs.Events.{Reply, QuietBeforeWorn, QuietAfterWorn, Does, 
 use Rattle.shard_laws.specs.OneShard.{predecessors_committed}
 use Rattle.law_base.specs.Items.{Item}
 use Rattle.clv_base.proofs.SameNames.{or_left, or_right, tx_true, tx_self, tx_eq, tx_ne}
-use Rattle.law_base.proofs.Undoing.{standing_append}
 use Rattle.law_base.proofs.Tables.{stage_in, stage_by, is_pair, pair_in}
 use Rattle.law_base.proofs.Commits.{durable_committed, uncommitted_append}
 use Rattle.shard_laws.proofs.Kept.{View, Past, Known, Kept}
-use Rattle.shard_laws.specs.OneShard.{undone_in}
+use Rattle.order_laws.specs.Order.{undone_in}
 use Rattle.clv_base.specs.declared.ops.Op.{Op}
 use Rattle.clv_base.specs.declared.state.Request.{Request}
 use Rattle.clv_base.specs.declared.state.RequestState.{RequestState}
@@ -56,12 +56,12 @@ use Rattle.shard_laws.proofs.Kept.{view_of}
 use Rattle.shard_laws.specs.OneShard.{with_one, new_item, asks_by_stage, new_asked, Fresh, MayTouch, MayAsk, MayDeliver, MayHappen, new_told, new_met, items_of}
 use Rattle.clv_base.proofs.SameNames.{cases_tx}
 use Rattle.law_base.proofs.Tables.{get_put}
-use Rattle.shard_laws.proofs.Changes.{keeps_quiet, quiet_prepare, keeps_commit, keeps_front, keeps_flight}
+use Rattle.shard_laws.proofs.Changes.{keeps_prepare, keeps_commit, keeps_front, keeps_flight}
 use Rattle.shard_laws.proofs.Closing.{keeps_close, keeps_asked, in_push, stage_closed, stage_other as stage_left}
 use Rattle.std.proofs.Common.{append-nil}
 use Rattle.shard_laws.proofs.Granting.{keeps_performed, MayStand, other_part}
 use Rattle.clv_base.specs.Needs.{writes_of, key_of}
-use Rattle.shard_laws.proofs.Sound.{Sound, Open, After, More_over, at_once, rolled, marked_sound, finish_sound, get_set, set_none, commit_here, commit_other, commit_asked, waiting_here, agreed_before, list_all_at}
+use Rattle.shard_laws.proofs.Sound.{AskedOrOld, Sound, Open, After, More_over, at_once, rolled, marked_sound, finish_sound, get_set, set_none, commit_here, commit_other, commit_asked, waiting_here, agreed_before, list_all_at}
 
 -- ---- the state after it
 
@@ -125,9 +125,9 @@ stands_now g s tx birth may o = at (tx_get tx s.local.parts) refl o
     at None e f = inl e
     at (Some h) e f = inr (h, e, may h e, ⊎_elim (λ n. absurd (some_none h.stage n)) (λ a. some_stage h.stage Active a) f)
 
-fresh_now : (all : List Item) (g : Past) (s : Shard) (tx : TxId) (birth : Birth) → Sound all g s → (tx_get tx s.local.parts ≡ None → Fresh all g.asked g.met s tx) → (stage_of s.local tx ≡ None) ⊎ (stage_of s.local tx ≡ Some Active) → (committed_in s.local.log tx ≡ false) × (undone_in s.local.log tx ≡ false)
+fresh_now : (all : List Item) (g : Past) (s : Shard) (tx : TxId) (birth : Birth) → Sound all g s → (tx_get tx s.local.parts ≡ None → Fresh all g.asked g.met s tx) → (stage_of s.local tx ≡ None) ⊎ (stage_of s.local tx ≡ Some Active) → (committed_in s.local.log tx ≡ false) × (undone_in s.local.log tx ≡ false) × (prepared_in s.local.log tx ≡ false)
 fresh_now all g s tx birth h may o =
-    ⊎_elim (λ n. let f = may (none_part (tx_get tx s.local.parts) n) in (f.0, f.1)) (λ a. (h.kept.uncommitted tx a, false_from_ne_true _ (λ u. (h.kept.dead tx u).1 a))) o
+    ⊎_elim (λ n. let f = may (none_part (tx_get tx s.local.parts) n) in (f.0, f.1, f.4)) (λ a. (h.kept.uncommitted tx a, false_from_ne_true _ (λ u. (h.kept.dead tx u).1 a), h.kept.prepared.unprepared tx a)) o
   where
     none_part : (x : Option Held) → stage_by x ≡ None → x ≡ None
     none_part None e = refl
@@ -194,7 +194,7 @@ performed_sound all g s tx birth op h grant fresh same new o =
     let u : Local = locked tx birth op s.local in
     let x : Item = record { tx = tx; op = op; answer = answer_of op s.local.records; lsn = 0 + length s.local.log } in
     record {
-      kept = keeps_performed g s tx birth op h.kept grant (stands_now g s tx birth same o) new fr.0 fr.1 (λ p i. met_active fresh o p i);
+      kept = keeps_performed g s tx birth op h.kept grant (stands_now g s tx birth same o) new fr.0 fr.1 fr.2 (λ p i. met_active fresh o p i);
       told = λ v. ⊎_elim
           (λ e. inr (push_own x tx refl v e g.items ∙ ap (λ l. l ++ x ∷ []) (told_own all g s tx v e h fresh new o) ∙ sym (push_own x tx refl v e all)))
           (λ ne. ⊎_elim (λ l. inl (written_open tx w u v l.0, ap (λ p. is_present (stage_in p v)) (written_parts tx w u) ∙ ap (λ z. is_present (stage_by z)) (other_part tx birth s.local.parts v (tx_get tx s.local.parts) (tx_ne v tx ne)) ∙ l.1, l.2))
@@ -252,6 +252,11 @@ operation all g s tx birth nth seen op false h may fit = dies all g s tx birth n
 
 -- ---- a request
 
+-- each predecessor is committed or among the undecided ones
+lists_all : (s : Shard) (tx : TxId) (ps : List TxId) → undecided_of s.local tx ≡ ps → (p : TxId) → is_pair s.local.pairs tx p ≡ true → (committed_in s.local.log p ≡ true) ⊎ (tx_in p ps ≡ true)
+lists_all s tx ps e p pair =
+    ⊎_elim (λ c. inl c) (λ c. inr (subst (λ l. tx_in p l ≡ true) e (filter_in (λ q. not (committed_in s.local.log q)) p (predecessors_of s.local.pairs tx) (pair_in s.local.pairs tx p pair) (ap not c)))) (cases_Bool (committed_in s.local.log p))
+
 -- the view after a part is closed, whatever record closes it
 closes : (all : List Item) (g : Past) (s : Shard) (tx : TxId) (home : ℕ) (wrote one : Bool) (ps : List TxId) → Sound all g s → stage_of s.local tx ≡ Some Active → tx_in tx g.asked ≡ true → undecided_of s.local tx ≡ ps
     → Kept g (record (view_of s) { locks = close_locks tx s.local.locks; parts = closed_in tx s.local.parts; log = s.local.log ++ closing wrote one tx home ps })
@@ -261,9 +266,9 @@ closes all g s tx home true true [] h act asks e =
     keeps_commit g (record (view_of s) { locks = close_locks tx s.local.locks; parts = closed_in tx s.local.parts }) tx [] (keeps_close g (view_of s) tx h.kept act asks)
     (stage_closed s.local.parts tx act) (h.kept.uncommitted tx act) (agreed_before s tx (ap (λ l. length l == 0) e))
 closes all g s tx home true true (p ∷ ps) h act asks e =
-    keeps_quiet g (record (view_of s) { locks = close_locks tx s.local.locks; parts = closed_in tx s.local.parts }) (Prepare tx home (p ∷ ps)) (keeps_close g (view_of s) tx h.kept act asks) (standing_append 0 s.local.log (Prepare tx home (p ∷ ps) ∷ []) []) (quiet_prepare tx home (p ∷ ps))
+    keeps_prepare g (record (view_of s) { locks = close_locks tx s.local.locks; parts = closed_in tx s.local.parts }) tx home (p ∷ ps) (keeps_close g (view_of s) tx h.kept act asks) (stage_closed s.local.parts tx act) (h.kept.uncommitted tx act) (h.kept.prepared.unprepared tx act) (lists_all s tx (p ∷ ps) e)
 closes all g s tx home true false ps h act asks e =
-    keeps_quiet g (record (view_of s) { locks = close_locks tx s.local.locks; parts = closed_in tx s.local.parts }) (Prepare tx home ps) (keeps_close g (view_of s) tx h.kept act asks) (standing_append 0 s.local.log (Prepare tx home ps ∷ []) []) (quiet_prepare tx home ps)
+    keeps_prepare g (record (view_of s) { locks = close_locks tx s.local.locks; parts = closed_in tx s.local.parts }) tx home ps (keeps_close g (view_of s) tx h.kept act asks) (stage_closed s.local.parts tx act) (h.kept.uncommitted tx act) (h.kept.prepared.unprepared tx act) (lists_all s tx ps e)
 
 closing_open : (wrote one : Bool) (tx : TxId) (home : ℕ) (ps : List TxId) (u : TxId) → tx_same u tx ≡ false → committed_in (closing wrote one tx home ps) u ≡ false
 closing_open false one tx home ps u e = refl
@@ -326,7 +331,7 @@ closed_sound all g s tx home one h act asks no_request no_vote = record {
       (λ ne. uncommitted_append s.local.log _ u (h.unvoted u v e (old u w)) (closing_open (wrote_in s.local.log tx) one tx home (undecided_of s.local tx) u ne))
       (cases_Bool (tx_same u tx));
   read = λ u v e f. let r = h.read u v e f in stage_left s.local.parts tx u (tx_ne tx u (λ q. active_gone (sym act ∙ ap (stage_of s.local) q ∙ r))) ∙ r;
-  asked = λ u e. ⊎_elim (λ t. ap (λ z. tx_in z g.asked) (tx_true u tx t) ∙ asks)
+  asked = λ u e. ⊎_elim (λ t. inl (ap (λ z. tx_in z g.asked) (tx_true u tx t) ∙ asks))
       (λ ne. ⊎_elim (λ c. h.asked u c) (λ c. absurd (both_ways _ (uncommitted_append s.local.log _ u c (closing_open (wrote_in s.local.log tx) one tx home (undecided_of s.local tx) u ne)) e)) (cases_Bool (committed_in s.local.log u)))
       (cases_Bool (tx_same u tx));
 }
@@ -338,7 +343,7 @@ closed_sound all g s tx home one h act asks no_request no_vote = record {
     active_gone e = absurd cc
 
 asks_sound : (all : List Item) (g : Past) (s : Shard) (tx : TxId) → Sound all g s → Sound all (record g { asked = g.asked ++ tx ∷ [] }) s
-asks_sound all g s tx h = record { kept = keeps_asked g (view_of s) tx h.kept; told = h.told; undecided = h.undecided; readers = h.readers; apart = h.apart; unvoted = h.unvoted; read = h.read; asked = λ u c. in_push g.asked tx u ∙ or_left _ _ (h.asked u c) }
+asks_sound all g s tx h = record { kept = keeps_asked g (view_of s) tx h.kept; told = h.told; undecided = h.undecided; readers = h.readers; apart = h.apart; unvoted = h.unvoted; read = h.read; asked = λ u c. ⊎_elim (λ a. inl (in_push g.asked tx u ∙ or_left _ _ a)) (λ l. inr l) (h.asked u c) }
 
 pub others_asked : (all : List Item) (g : Past) (s : Shard) (tx : TxId) → Sound all g s → Sound all (record g { asked = g.asked ++ tx ∷ [] }) s
 others_asked all g s tx h = asks_sound all g s tx h
@@ -381,8 +386,13 @@ asks_unseen tx (Some Active) = refl
 asks_unseen tx (Some Closed) = refl
 asks_unseen tx (Some (Gone d)) = refl
 
+-- a first request of this run is of one that is not committed
+new_here : (g : Past) (s : Shard) (tx : TxId) → MayAsk g.asked s tx → AskedOrOld g s.run tx → ⊥
+new_here g s tx may (inl a) = both_ways _ may.0 a
+new_here g s tx may (inr l) = let q = may.3 in omega (arith, l, q)
+
 request_stage : (all : List Item) (g : Past) (s : Shard) (tx : TxId) (touched : List (ℕ × ℕ)) (o : Option Stage) → Sound all g s → MayAsk g.asked s tx → stage_of s.local tx ≡ o → seen_fits s.local.epoch (epoch_in s.shard touched) ≡ true → Keeps_reply all g s (RequestEvent tx touched) (request_by_stage s tx touched o)
-request_stage all g s tx touched None h may e f = ends all g s (coordinate tx touched s) (RequestEvent tx touched) _ (refl, none_asks g s tx touched None true e f refl, refl) refl (at_once all g _ (coordinated all g s tx touched h (inl (false_from_ne_true _ (λ c. both_ways _ may.0 (h.asked tx c)))) may.1))
+request_stage all g s tx touched None h may e f = ends all g s (coordinate tx touched s) (RequestEvent tx touched) _ (refl, none_asks g s tx touched None true e f refl, refl) refl (at_once all g _ (coordinated all g s tx touched h (inl (false_from_ne_true _ (λ c. new_here g s tx may (h.asked tx c)))) may.1))
 request_stage all g s tx touched (Some Closed) h may e f = ends all g s s (RequestEvent tx touched) _ (refl, none_asks g s tx touched (Some Closed) true e f refl, refl) refl (at_once all g s h)
 request_stage all g s tx touched (Some (Gone None)) h may e f = ends all g s s (RequestEvent tx touched) _ (refl, none_asks g s tx touched (Some (Gone None)) true e f refl, refl) refl (at_once all g s h)
 request_stage all g s tx touched (Some (Gone (Some d))) h may e f = ends all g s s (RequestEvent tx touched) _ (refl, none_asks g s tx touched (Some (Gone (Some d))) true e f refl, refl) refl (at_once all g s h)
@@ -423,6 +433,7 @@ add_over all g s tx h d =
         over = λ u o. ⊎_elim (λ e. inl (subst (λ z. has_durable_commit (facts_of s z) ≡ true) (tx_true tx u e) d)) (λ i. k.over u i) (or_cases (tx_same tx u) (tx_in u g.over) o);
         dead = k.dead;
         tidy = k.tidy;
+        prepared = k.prepared;
         doomed = k.doomed;
         successors = k.successors;
         downwards = k.downwards;

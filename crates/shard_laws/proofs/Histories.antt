@@ -1,5 +1,5 @@
 -- Each history of one shard keeps what a shard keeps, so its members are a serial run.
-use Rattle.std.proofs.Common.{◌≡◌, ℕ, ◌<◌, inr, ⊎_elim, Bool, true, false, ◌||◌, List, [], ◌∷◌, ◌++◌, Option, Some, None, refl, sym, ap, subst, ◌∙◌}
+use Rattle.std.proofs.Common.{◌≡◌, ℕ, ◌<◌, ⊎_elim, Bool, true, false, ◌||◌, List, [], ◌∷◌, ◌++◌, Option, Some, None, refl, sym, ap, subst, ◌∙◌}
 use Rattle.std.proofs.lemmas.Bool.{both_ways, or_cases}
 use Rattle.std.proofs.lemmas.List.Folds.{list_any-append}
 use Rattle.clv_base.specs.declared.names.TxId.{TxId}
@@ -16,69 +16,20 @@ use Rattle.clv_base.specs.declared.events.Event.TheVariants.{Op as OpEvent, Requ
 use Rattle.clv_base.specs.declared.events.Outcome.{Outcome}
 use Rattle.clv_base.specs.declared.events.Outcome.TheVariants.{Up}
 use Rattle.clv_base.specs.Maps.{replay_map, replay_answers}
-use Rattle.clv_base.specs.Logs.{stands}
+use Rattle.clv_base.specs.declared.logs.LogRecord.{LogRecord}
+use Rattle.clv_base.specs.Logs.{stands, standing}
 use Rattle.clv_base.specs.State.{Shard}
 use Rattle.clv_base.specs.Undo.{stage_of}
 use Rattle.clv_base.specs.Events.{Reply, Does, landed, with_entry, put_down, epoch_in}
 use Rattle.clv_base.specs.OneShard.{seen_fits}
-use Rattle.clv_base.specs.Restarts.{opened, revived}
+use Rattle.clv_base.specs.Restarts.{log_after_restart, revived}
 use Rattle.shard_laws.specs.OneShard.{with_one, asks_by_stage, new_asked, MayHappen, Leads, opens, happens, lands, others_ask, revives, new_told, members_of, ops_by, answers_by, AnswersAndMap, Recoverable, new_met}
 use Rattle.shard_laws.proofs.Sound.{Sound, After, More_over, at_once}
+use Rattle.shard_laws.proofs.Opening.{past_of, sound_opened}
 use Rattle.shard_laws.proofs.Reviving.{revived_sound}
 use Rattle.shard_laws.proofs.Happening.{happen_sound, landed_sound, failed_sound, others_asked}
 use Rattle.shard_laws.proofs.Serial.{Once}
 use Rattle.shard_laws.proofs.Members.{serial_run, recovered}
-
-none_stage : (s : Stage) → ◌≡◌ {A = Option Stage} None (Some s) → ⊥
-none_stage s e = absurd cc
-
-none_number : (n : ℕ) → ◌≡◌ {A = Option ℕ} None (Some n) → ⊥
-none_number n e = absurd cc
-
-abbrev nothing : Past
-nothing = record { start = []; base = []; items = []; asked = []; over = []; met = [] }
-
--- an empty shard
-sound_opened : (run : ℕ) → Sound [] nothing (opened 0 run [])
-sound_opened run = record {
-  kept = record {
-    start_rises = tt;
-    base_value = λ k. refl;
-    base_chain = tt;
-    base_done = tt;
-    runs = tt;
-    standing_is = refl;
-    rises = tt;
-    values = λ k. refl;
-    logged = tt;
-    rows = tt;
-    covered = tt;
-    wrote = tt;
-    known = tt;
-    uncommitted = λ t e. absurd (none_stage Active e);
-    closed = λ t e. absurd (none_stage Closed e);
-    over = λ t e. absurd (both_ways false refl e);
-    dead = λ t e. absurd (both_ways false refl e);
-    tidy = (tt, tt);
-    doomed = λ t d e. absurd (none_stage (Gone (Some d)) e);
-    successors = λ t p e. absurd (both_ways false refl e);
-    downwards = λ t p e c. absurd (both_ways false refl e);
-    order = tt;
-    causes = tt;
-    recover = λ t p e. absurd (both_ways false refl e);
-    front = λ n e. absurd (none_number n e);
-  };
-  told = λ t. inr refl;
-  undecided = λ t q e u. absurd (none_request q e);
-  readers = λ t q e u. absurd (none_request q e);
-  apart = λ t v e. absurd (none_request v e);
-  unvoted = λ t v e. absurd (none_request v e);
-  read = λ t v e. absurd (none_request v e);
-  asked = λ t e. absurd (both_ways false refl e);
-}
-  where
-    none_request : {X : Type 0} (x : X) → ◌≡◌ {A = Option X} None (Some x) → ⊥
-    none_request x e = absurd cc
 
 noted : (all : List Item) (g : Past) (s : Shard) (stamp walker : ℕ) (e : Event) (o : Outcome) → Sound all g s → Sound all g (with_entry stamp walker e o s)
 noted all g s stamp walker e o h = record { kept = h.kept; told = h.told; undecided = h.undecided; readers = h.readers; apart = h.apart; unvoted = h.unvoted; read = h.read; asked = h.asked }
@@ -155,13 +106,14 @@ told_more : (told : List TxId) (o : Option TxId) (g h : Past) → Over_all told 
 told_more told None g h a m n = λ t i. m t (a t i)
 told_more told (Some u) g h a m n = λ t i. ⊎_elim (λ j. m t (a t j)) (λ j. ⊎_elim (λ e. ap (λ z. tx_in z h.over) (sym (tx_true u t e)) ∙ n u refl) (λ e. absurd (both_ways false refl e)) (or_cases (tx_same u t) false j)) (or_cases (tx_in t told) _ (sym (list_any-append (λ x. tx_same x t) told (u ∷ [])) ∙ i))
 
-abbrev pub Holds : List Item → List TxId → List TxId → List (TxId × TxId) → Shard → Type 0
-Holds all asked told met s = (g : Past) × Sound all g s × (g.start ≡ []) × (g.base ≡ []) × (g.asked ≡ asked) × Once asked × Over_all told g × (g.met ≡ met)
+abbrev pub Holds : ℕ → ℕ → List LogRecord → List Item → List TxId → List TxId → List (TxId × TxId) → Shard → Type 0
+Holds shard run before all asked told met s =
+    (g : Past) × Sound all g s × (g.start ≡ stands (before ∷ [])) × (g.base ≡ standing (log_after_restart shard before run 0)) × (g.asked ≡ asked) × Once asked × Over_all told g × (g.met ≡ met)
 
-pub held : (run : ℕ) (all : List Item) (asked told : List TxId) (met : List (TxId × TxId)) (s : Shard) → Leads run all asked told met s → Holds all asked told met s
-held run _ _ _ _ _ opens = (nothing, sound_opened run, refl, refl, refl, tt, (λ t i. absurd (both_ways false refl i)), refl)
-held run _ _ _ _ _ (happens {all} {asked} {told} {met} {s} e o t stamp walker before may eq) =
-    let b = held run all asked told met s before in
+pub held : (shard run : ℕ) (before : List LogRecord) (all : List Item) (asked told : List TxId) (met : List (TxId × TxId)) (s : Shard) → Leads shard run before all asked told met s → Holds shard run before all asked told met s
+held shard run log0 _ _ _ _ _ (opens may) = (past_of shard run log0, sound_opened shard run log0 may, refl, refl, refl, tt, (λ t i. absurd (both_ways false refl i)), refl)
+held shard run log0 _ _ _ _ _ (happens {all} {asked} {told} {met} {s} e o t stamp walker before may eq) =
+    let b = held shard run log0 all asked told met s before in
     let later = happen_sound all b.0 s e o t b.1 (subst (λ l. MayHappen all l (b.0).met s e) (sym b.4) (subst (λ m. MayHappen all asked m s e) (sym b.7) may)) eq in (
       later.0,
       noted _ later.0 t stamp walker e o later.1,
@@ -172,28 +124,28 @@ held run _ _ _ _ _ (happens {all} {asked} {told} {met} {s} e o t stamp walker be
       told_more told (new_told e o) b.0 later.0 b.6 later.5 later.6,
       later.7 ∙ ap (λ l. new_met s e o ++ l) b.7,
     )
-held run _ _ _ _ _ (lands {all} {asked} {told} {met} {s} n pushed o t stamp walker before flies eq) =
-    let b = held run all asked told met s before in
+held shard run log0 _ _ _ _ _ (lands {all} {asked} {told} {met} {s} n pushed o t stamp walker before flies eq) =
+    let b = held shard run log0 all asked told met s before in
     let later = from_landed all b.0 o t (subst (Landed all b.0) eq (landed_any all b.0 s n pushed b.1 flies)) in
     (later.0, noted all later.0 t stamp walker FlushIn o later.1, later.2 ∙ b.2, later.3 ∙ b.3, later.4 ∙ b.4, b.5, (λ u i. later.5 u (b.6 u i)), later.6 ∙ b.7)
-held run _ _ _ _ _ (others_ask {all} {asked} {told} {met} {s} t before new) =
-    let b = held run all asked told met s before in
+held shard run log0 _ _ _ _ _ (others_ask {all} {asked} {told} {met} {s} t before new) =
+    let b = held shard run log0 all asked told met s before in
     (record b.0 { asked = (b.0).asked ++ t ∷ [] }, others_asked all b.0 s t b.1, b.2, b.3, ap (λ l. l ++ t ∷ []) b.4, once_push asked t b.5 new, b.6, b.7)
-held run _ _ _ _ _ (revives {all} {asked} {told} {met} {s} kept epoch log stamp walker before down homes leads) =
-    let b = held run all asked told met s before in
+held shard run log0 _ _ _ _ _ (revives {all} {asked} {told} {met} {s} kept epoch log stamp walker before down homes leads) =
+    let b = held shard run log0 all asked told met s before in
     let later = revived_sound all told b.0 s kept epoch log b.1 homes (subst Once (sym b.4) b.5) b.6 leads in
     (later.0, noted all later.0 (revived s epoch log) stamp walker RestartEvent (Up epoch) later.1, later.2 ∙ b.2, later.3 ∙ b.3, later.4 ∙ b.4, b.5, later.5, later.6 ∙ b.7)
 
 pub answers_and_map : AnswersAndMap
-answers_and_map run all asked told met s cut leads le =
-    let b = held run all asked told met s leads in
+answers_and_map shard run before all asked told met s cut leads le =
+    let b = held shard run before all asked told met s leads in
     let r = serial_run all b.0 s told cut b.1 le (subst Once (sym b.4) b.5) b.6 in (
-      subst (λ l. replay_answers [] (ops_by (members_of s cut told l) all) ≡ answers_by (members_of s cut told l) all) b.4 (subst (λ m. replay_answers m (ops_by (members_of s cut told (b.0).asked) all) ≡ answers_by (members_of s cut told (b.0).asked) all) b.2 r.0),
-      subst (λ l. replay_map [] (ops_by (members_of s cut told l) all) ≡ stands (take cut s.local.log ∷ [])) b.4 (subst (λ m. replay_map m (ops_by (members_of s cut told (b.0).asked) all) ≡ stands (take cut s.local.log ∷ [])) b.2 r.1),
+      subst (λ l. replay_answers (stands (before ∷ [])) (ops_by (members_of s cut told l) all) ≡ answers_by (members_of s cut told l) all) b.4 (subst (λ m. replay_answers m (ops_by (members_of s cut told (b.0).asked) all) ≡ answers_by (members_of s cut told (b.0).asked) all) b.2 r.0),
+      subst (λ l. replay_map (stands (before ∷ [])) (ops_by (members_of s cut told l) all) ≡ stands (take cut s.local.log ∷ [])) b.4 (subst (λ m. replay_map m (ops_by (members_of s cut told (b.0).asked) all) ≡ stands (take cut s.local.log ∷ [])) b.2 r.1),
     )
 
 pub recoverable : Recoverable
-recoverable run all asked told met s cut t p leads le e member =
-    let b = held run all asked told met s leads in
+recoverable shard run before all asked told met s cut t p leads le e member =
+    let b = held shard run before all asked told met s leads in
     let r = recovered all b.0 s told cut b.1 le (subst Once (sym b.4) b.5) b.6 t p (subst (λ m. is_pair m t p ≡ true) (sym b.7) e) member in
     (r.0, subst (λ l. place (members_of s cut told l) p < place (members_of s cut told l) t) b.4 r.1)

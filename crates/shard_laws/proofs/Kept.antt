@@ -1,10 +1,9 @@
 -- What one shard keeps.
-use Rattle.std.proofs.Common.{◌≡◌, ℕ, ◌≤◌, ◌<◌, ◌⊎◌, Bool, true, false, List, [], ◌∷◌, ◌++◌, Option, Some, None}
+use Rattle.std.proofs.Common.{◌≡◌, ℕ, ◌≤◌, ◌<◌, ◌⊎◌, Bool, true, false, List, [], Option, Some, None}
 use Rattle.std.specs.List.{AllByRecursion}
 use Rattle.clv_base.specs.declared.names.TxId.{TxId}
 use Rattle.clv_base.specs.declared.names.Birth.{Birth}
 use Rattle.clv_base.specs.declared.logs.LogRecord.{LogRecord}
-use Rattle.clv_base.specs.declared.logs.LogRecord.TheVariants.{Update, Clr}
 use Rattle.clv_base.specs.declared.modes.Part.TheVariants.{S, X}
 use Rattle.clv_base.specs.declared.modes.Anchor.TheVariants.{At}
 use Rattle.clv_base.specs.declared.state.Stage.{Stage}
@@ -19,8 +18,8 @@ use Rattle.clv_base.specs.State.{is_present}
 use Rattle.clv_base.specs.Needs.{Records, value_at}
 use Rattle.law_base.proofs.Cells.{record_at}
 use Rattle.clv_base.specs.Folding.{IsRising}
-use Rattle.law_base.specs.Items.{Item, writes, meets, Runs, after, AllLater, Reaches, Clash, pile}
-use Rattle.shard_laws.specs.OneShard.{undone_in}
+use Rattle.law_base.specs.Items.{Item, writes, meets, Runs, AllLater, Reaches, Clash, pile}
+use Rattle.order_laws.specs.Order.{undone_in, Tidy}
 pub use Rattle.shard_laws.specs.OneShard.{place}
 use Rattle.law_base.proofs.Running.{top_value}
 use Rattle.law_base.proofs.Undoing.{Chain}
@@ -29,6 +28,7 @@ use Rattle.shard_laws.proofs.LockRows.{holds, Rows}
 use Rattle.shard_laws.proofs.Asking.{holds_at}
 use Rattle.law_base.proofs.Tables.{stage_in, is_pair}
 use Rattle.law_base.proofs.Commits.{CommitBefore, commit_durable}
+use Rattle.shard_laws.proofs.Prepared.{Prepared}
 
 -- the parts of a shard's state that count
 pub record View : Type 0 where
@@ -91,22 +91,6 @@ Ended g v t = (commit_durable v.log v.durable t ≡ true) ⊎ Read_only g v t
 abbrev pub Out : Past → View → TxId → Type 0
 Out g v t = (committed_in v.log t ≡ false) × (is_present (stage_in v.parts t) ≡ false) × (tx_in t g.over ≡ false)
 
--- ---- the order of the log
-
--- whose write a record makes or undoes
-abbrev pub moves : LogRecord → Option TxId
-moves (Update tx key before after) = Some tx
-moves (Clr tx undo_next key after) = Some tx
-moves _ = None
-
-abbrev pub Open_at : List LogRecord → Option TxId → Type 0
-Open_at before None = Unit {0}
-Open_at before (Some t) = committed_in before t ≡ false
-
-abbrev pub Tidy : List LogRecord → List LogRecord → Type 0
-Tidy before [] = Unit {0}
-Tidy before (r ∷ rs) = Open_at before (moves r) × Tidy (before ++ r ∷ []) rs
-
 pub record Kept (g : Past) (v : View) : Type 0 where
   -- the past
   pub start_rises : IsRising g.start
@@ -131,6 +115,7 @@ pub record Kept (g : Past) (v : View) : Type 0 where
   -- who is undone is never committed, and nothing is written or undone after a COMMIT
   pub dead : (t : TxId) → undone_in v.log t ≡ true → (committed_in v.log t ≡ false) × (stage_in v.parts t ≡ Some Active → ⊥) × (stage_in v.parts t ≡ Some Closed → ⊥)
   pub tidy : Tidy [] v.log
+  pub prepared : Prepared g.items g.met v.parts v.log
   pub doomed : (t d : TxId) → stage_in v.parts t ≡ Some (Gone (Some d)) → committed_in v.log t ≡ false
   -- pairs
   pub successors : (t p : TxId) → is_pair v.pairs t p ≡ true → is_present (stage_in v.parts t) ≡ true

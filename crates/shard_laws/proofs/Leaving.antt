@@ -12,7 +12,7 @@ use Rattle.clv_base.specs.declared.state.Stage.{Stage}
 use Rattle.clv_base.specs.declared.state.Stage.TheVariants.{Active, Closed, Gone}
 use Rattle.clv_base.specs.declared.state.Held.{Held}
 use Rattle.clv_base.specs.Orders.{Table, tx_same, tx_in, tx_get}
-use Rattle.clv_base.specs.Logs.{StandingUpdate, standing, committed_in, wrote_in, is_commit_of}
+use Rattle.clv_base.specs.Logs.{StandingUpdate, standing, committed_in, wrote_in, prepared_in, is_commit_of}
 use Rattle.clv_base.specs.Locks.{Locks, release}
 use Rattle.clv_base.specs.Undo.{gone_part, gone_in, pairs_without, records_without, aborts_of, clrs_of}
 use Rattle.clv_base.specs.State.{is_present}
@@ -29,8 +29,9 @@ use Rattle.shard_laws.proofs.LockRows.{holds, Rows, rows_release, release_holds}
 use Rattle.shard_laws.proofs.Asking.{holds_at, holds_by}
 use Rattle.law_base.proofs.Tables.{stage_in, stage_by, is_pair, get_changed, without_pairs, pairs_stay}
 use Rattle.law_base.proofs.Commits.{commit_durable, before_keeps, before_first, durable_keeps, durable_committed, before_durable, committed_append, uncommitted_append, committed_from}
-use Rattle.shard_laws.proofs.Kept.{View, Past, Belongs, Dep, Known, Kept, Ended, moves, Open_at, Tidy}
-use Rattle.shard_laws.specs.OneShard.{undone_in}
+use Rattle.shard_laws.proofs.Prepared.{unprepared_append, prepared_more, prepared_parts, prepared_kept}
+use Rattle.shard_laws.proofs.Kept.{View, Past, Belongs, Dep, Known, Kept, Ended}
+use Rattle.order_laws.specs.Order.{moves, Open_at, Tidy, undone_in}
 use Rattle.clv_base.specs.Undo.{value_before}
 use Rattle.law_base.proofs.Undoing.{reset}
 use Rattle.clv_base.specs.Undo.{newest_lsn}
@@ -152,6 +153,7 @@ keeps_finish g v t k closed done = record {
   over = λ u h. ⊎_elim (λ e. own_ended u (sym (tx_true t u e))) (λ i. still_ended u (k.over u i)) (or_cases (tx_same t u) (tx_in u g.over) h);
   dead = λ u h. let d = k.dead u h in (d.0, (λ a. d.1 (active_back (t ∷ []) None u v.parts a).1), (λ a. d.2 (closed_back (t ∷ []) None u v.parts a)));
   tidy = k.tidy;
+  prepared = prepared_parts g.items g.met v.parts (gone_in (t ∷ []) None v.parts) v.log k.prepared (λ u a. (active_back (t ∷ []) None u v.parts a).1);
   doomed = λ u d h. k.doomed u d (doomed_back (t ∷ []) u d v.parts h);
   successors = λ u p h. let s = without_pairs (t ∷ []) v.pairs u p h in subst (λ o. is_present o ≡ true) (sym (stage_other (t ∷ []) None u v.parts s.1)) (k.successors u p s.0);
   downwards = λ u p h c. k.downwards u p (without_pairs (t ∷ []) v.pairs u p h).0 c;
@@ -248,6 +250,17 @@ none_of_both false b e f = f
 
 no_writes : (set : List TxId) (t : TxId) (log : List LogRecord) → wrote_in (aborts_of log set ++ clrs_of set (standing log)) t ≡ false
 no_writes set t log = wrote_append (aborts_of log set) _ t ∙ none_of_both _ _ (no_write_aborts t (filter (wrote_in log) set)) (no_write_clrs set t (standing log))
+
+no_prepare_aborts : (t : TxId) (ts : List TxId) → prepared_in (map (λ u. Abort u) ts) t ≡ false
+no_prepare_aborts t [] = refl
+no_prepare_aborts t (u ∷ us) = no_prepare_aborts t us
+
+no_prepare_clrs : (set : List TxId) (t : TxId) (ws : List StandingUpdate) → prepared_in (clrs_of set ws) t ≡ false
+no_prepare_clrs set t [] = refl
+no_prepare_clrs set t (w ∷ ws) = cond_both (tx_in w.tx set) (Clr w.tx (newest_lsn w.tx ws) w.key w.before ∷ clrs_of set ws) (clrs_of set ws) (λ l. prepared_in l t ≡ false) (λ e. no_prepare_clrs set t ws) (λ e. no_prepare_clrs set t ws)
+
+no_prepares : (set : List TxId) (t : TxId) (log : List LogRecord) → prepared_in (aborts_of log set ++ clrs_of set (standing log)) t ≡ false
+no_prepares set t log = unprepared_append (aborts_of log set) (clrs_of set (standing log)) t (no_prepare_aborts t (filter (wrote_in log) set)) (no_prepare_clrs set t (standing log))
 
 pub no_undo_aborts : (t : TxId) (ts : List TxId) → undone_in (map (λ u. Abort u) ts) t ≡ false
 no_undo_aborts t [] = refl
@@ -424,6 +437,9 @@ module _ (g : Past) (v : View) (set : List TxId) (d : TxId) (k : Kept g v) (may 
         (uncommitted_append v.log _ u (may.undecided u i) (no_more u), (λ a. both_ways _ (active_back set (Some d) u v.parts a).0 i), (λ a. gone_closed (Some d) (stage_in v.parts u) (sym (stage_own set (Some d) u v.parts i) ∙ a))))
         (or_cases (undone_in v.log u) _ (sym (undone_append v.log (aborts_of v.log set ++ clrs_of set (standing v.log)) u) ∙ h));
     doomed = λ u e h. uncommitted_append v.log _ u (⊎_elim (λ i. may.undecided u i) (λ i. k.doomed u e (sym (stage_other set (Some d) u v.parts i) ∙ h)) (cases_Bool (tx_in u set))) (no_more u);
+    prepared = prepared_more (filter (keeps_of set) g.items) g.met (gone_in set (Some d) v.parts) v.log (aborts_of v.log set ++ clrs_of set (standing v.log))
+        (prepared_kept (keeps_of set) g.items g.met (gone_in set (Some d) v.parts) v.log (prepared_parts g.items g.met v.parts (gone_in set (Some d) v.parts) v.log k.prepared (λ u a. (active_back set (Some d) u v.parts a).1)))
+        (λ u. no_writes set u v.log) (λ u. no_prepares set u v.log);
     tidy = tidy_append [] v.log _ k.tidy (tidy_harmless v.log v.log _ (λ t e. e) (all_append _ (aborts_of v.log set) (clrs_of set (standing v.log)) (harmless_aborts v.log (filter (wrote_in v.log) set)) (harmless_clrs v.log set (standing v.log) may.undecided)));
     successors = λ u p h. let s = without_pairs set v.pairs u p h in subst (λ o. is_present o ≡ true) (sym (stage_other set (Some d) u v.parts s.1)) (k.successors u p s.0);
     downwards = λ u p h c. before_keeps v.log _ p u (k.downwards u p (without_pairs set v.pairs u p h).0 (back u c));

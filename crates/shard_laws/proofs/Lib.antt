@@ -1,5 +1,6 @@
 pub mod LockRows
 pub mod Asking
+pub mod Prepared
 pub mod Kept
 pub mod Changes
 pub mod Closing
@@ -13,6 +14,11 @@ pub mod Happening
 pub mod Cutting
 pub mod Serial
 pub mod Members
+pub mod Doubting
+pub mod Restoring
+pub mod Rebuilding
 pub mod Reviving
+pub mod Opening
 pub mod Histories
+pub mod Choosing
 pub mod Settled

@@ -15,6 +15,7 @@ use Rattle.clv_base.proofs.SameNames.{or_left, or_right, tx_self}
 use Rattle.law_base.proofs.Lists.{all_mono}
 use Rattle.shard_laws.proofs.LockRows.{Rows}
 use Rattle.law_base.proofs.Tables.{stage_in, stage_by, is_pair, row_pairs, get_changed}
+use Rattle.shard_laws.proofs.Prepared.{prepared_parts}
 use Rattle.shard_laws.proofs.Kept.{View, Past, StageFits, Belongs, Kept}
 use Rattle.shard_laws.proofs.Leaving.{get_other, stage_own, stage_other, gone_by, one_in}
 
@@ -38,6 +39,7 @@ keeps_parts g v parts same own k = record {
   over = λ t h. ⊎_elim (λ c. inl c) (λ c. inr (c.0, c.1, ap is_present (same t) ∙ c.2, c.3)) (k.over t h);
   dead = λ t u. let d = k.dead t u in (d.0, (λ a. d.1 (sym (same t) ∙ a)), (λ a. d.2 (sym (same t) ∙ a)));
   tidy = k.tidy;
+  prepared = prepared_parts g.items g.met v.parts parts v.log k.prepared (λ t a. sym (same t) ∙ a);
   doomed = λ t d h. k.doomed t d (sym (same t) ∙ h);
   successors = λ t p h. ap is_present (same t) ∙ k.successors t p h;
   downwards = k.downwards;

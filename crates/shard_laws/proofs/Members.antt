@@ -3,10 +3,7 @@ use Rattle.std.proofs.Common.{◌≡◌, ℕ, ◌≤◌, ◌<◌, ◌⊎◌, inl
 use Rattle.std.specs.List.{AllByRecursion, filter}
 use Rattle.std.proofs.lemmas.Bool.{cases_Bool, both_ways, cond-true, or_cases, and_from}
 use Rattle.clv_base.specs.declared.names.TxId.{TxId}
-use Rattle.clv_base.specs.declared.logs.LogRecord.{LogRecord}
-use Rattle.clv_base.specs.declared.logs.LogRecord.TheVariants.{Update, Clr, Prepare, Commit, Abort, End, Restart}
 use Rattle.clv_base.specs.Orders.{tx_same, tx_in}
-use Rattle.clv_base.specs.Maps.{KeyMap}
 use Rattle.clv_base.specs.Logs.{StandingUpdate, committed_in, wrote_in}
 use Rattle.clv_base.specs.State.{is_present}
 use Rattle.law_base.specs.Items.{Item, wrote, Runs, after, AllLater, Reaches, Clash, pile, on_top, is_write_at}
@@ -17,7 +14,7 @@ use Rattle.law_base.proofs.Tables.{is_pair}
 use Rattle.law_base.proofs.Commits.{before_second, durable_committed, before_durable}
 use Rattle.shard_laws.proofs.Kept.{Past, place, Dep, Known, Ended}
 use Rattle.std.specs.Prelude.{take}
-use Rattle.clv_base.specs.Maps.{replay_map, replay_answers, map_set}
+use Rattle.clv_base.specs.Maps.{replay_map, replay_answers}
 use Rattle.clv_base.specs.Logs.{stands, fold_updates, committed_somewhere}
 use Rattle.clv_base.specs.State.{Shard}
 use Rattle.clv_base.specs.Folding.{Placed, grouped_from, ops_of, answers_of}
@@ -27,7 +24,7 @@ use Rattle.shard_laws.specs.OneShard.{is_member, members_of, items_of, ops_by, a
 use Rattle.shard_laws.proofs.Kept.{view_of}
 use Rattle.law_base.proofs.Running.{rising_all, pile_value}
 use Rattle.shard_laws.proofs.Leaving.{pile_all}
-use Rattle.shard_laws.proofs.Cutting.{durable_cut, before_cut, cut_keeps, of_kept, cut_values, fold_rises}
+use Rattle.shard_laws.proofs.Cutting.{durable_cut, before_cut, cut_keeps, of_kept, cut_values, fold_rises, fold_alike}
 use Rattle.shard_laws.proofs.Sound.{Sound, Lost, filter_both, filter_same}
 use Rattle.shard_laws.proofs.Serial.{placed, runs_placed, after_placed, filter_place, in_kept, Once, once_filter, groups_are, all_ops, all_answers, order_placed, below_placed}
 
@@ -192,16 +189,6 @@ module _ (all : List Item) (g : Past) (s : Shard) (told : List TxId) (cut : ℕ)
       at : (a : Bool) → (a || false) ≡ a
       at true = refl
       at false = refl
-
-  fold_alike : (f k : TxId → Bool) (log : List LogRecord) (m : KeyMap) → ((t : TxId) → f t ≡ k t) → fold_updates f log m ≡ fold_updates k log m
-  fold_alike f k [] m e = refl
-  fold_alike f k (Update tx key b a ∷ rs) m e = ap (λ c. fold_updates f rs (cond c (map_set key a m) m)) (e tx) ∙ fold_alike f k rs (cond (k tx) (map_set key a m) m) e
-  fold_alike f k (Clr tx u key a ∷ rs) m e = fold_alike f k rs m e
-  fold_alike f k (Prepare tx home ps ∷ rs) m e = fold_alike f k rs m e
-  fold_alike f k (Commit tx ps ∷ rs) m e = fold_alike f k rs m e
-  fold_alike f k (Abort tx ∷ rs) m e = fold_alike f k rs m e
-  fold_alike f k (End tx ∷ rs) m e = fold_alike f k rs m e
-  fold_alike f k (Restart run epoch ∷ rs) m e = fold_alike f k rs m e
 
   same_stands : after g.start kept ≡ stands (take cut s.local.log ∷ [])
   same_stands =

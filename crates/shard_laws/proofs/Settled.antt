@@ -1,17 +1,15 @@
 -- Where a shard is quiet its live records are the map that its log stands for.
-use Rattle.std.proofs.Common.{◌≡◌, ⊎_elim, ℕ, true, false, cond, Bool, List, [], ◌∷◌, Option, Some, None, ◌||◌, length, refl, sym, ap, subst, ◌∙◌, arith}
+use Rattle.std.proofs.Common.{◌≡◌, ⊎_elim, ℕ, true, false, Bool, List, [], ◌∷◌, Option, Some, None, ◌||◌, length, refl, sym, ap, subst, ◌∙◌, arith}
 use Rattle.std.specs.Prelude.{take}
 use Rattle.std.specs.List.{AllByRecursion, filter, list_all}
 use Rattle.std.proofs.lemmas.Bool.{both_ways, and_parts, or_cases, cases_Bool, eq-eqb}
 use Rattle.std.proofs.lemmas.List.{take_all}
 use Rattle.clv_base.specs.declared.names.TxId.{TxId}
-use Rattle.clv_base.specs.declared.logs.LogRecord.{LogRecord}
-use Rattle.clv_base.specs.declared.logs.LogRecord.TheVariants.{Update, Clr, Prepare, Commit, Abort, End, Restart}
 use Rattle.clv_base.specs.declared.modes.Anchor.TheVariants.{At}
 use Rattle.clv_base.specs.declared.modes.Part.TheVariants.{X}
 use Rattle.clv_base.specs.declared.state.Stage.{Stage}
 use Rattle.clv_base.specs.declared.state.Stage.TheVariants.{Active, Closed, Gone}
-use Rattle.clv_base.specs.Maps.{KeyMap, map_set, map_get}
+use Rattle.clv_base.specs.Maps.{map_get}
 use Rattle.clv_base.specs.Logs.{StandingUpdate, committed_in, fold_updates, committed_somewhere, stands, standing}
 use Rattle.clv_base.specs.State.{Shard, is_gone_stage}
 use Rattle.clv_base.specs.Needs.{live_pairs}
@@ -27,7 +25,7 @@ use Rattle.shard_laws.proofs.Histories.{held}
 use Rattle.shard_laws.proofs.LockRows.{holder_row}
 use Rattle.shard_laws.proofs.Kept.{Past, view_of, Kept, Wrote, Belongs, StageFits}
 use Rattle.shard_laws.proofs.Answering.{t_true, live_rises, live_find}
-use Rattle.shard_laws.proofs.Cutting.{of_kept, cut_values, fold_rises}
+use Rattle.shard_laws.proofs.Cutting.{of_kept, cut_values, fold_rises, fold_alike}
 use Rattle.shard_laws.proofs.Members.{filter_all_kept}
 
 each_row : {A : Type 0} (test : A → Bool) (xs : List A) → list_all test xs ≡ true → AllByRecursion (λ x. test x ≡ true) xs
@@ -51,16 +49,6 @@ writer_committed g s x k h q w e =
     let t = rows_get (λ r. (is_gone_stage (r.1).stage || committed_in s.local.log r.0) ≡ true) x.tx p s.local.parts (each_row (λ p. is_gone_stage (p.1).stage || committed_in s.local.log p.0) s.local.parts q.3) (r.2).1 in
     ⊎_elim (λ a. absurd (both_ways _ (not_gone r.1 p.stage (r.2).3) a)) (λ a. a) (or_cases (is_gone_stage p.stage) (committed_in s.local.log x.tx) t))
     (cases_Bool (commit_durable s.local.log s.durable x.tx))
-
-fold_alike : (f k : TxId → Bool) (log : List LogRecord) (m : KeyMap) → ((t : TxId) → f t ≡ k t) → fold_updates f log m ≡ fold_updates k log m
-fold_alike f k [] m e = refl
-fold_alike f k (Update tx key b a ∷ rs) m e = ap (λ c. fold_updates f rs (cond c (map_set key a m) m)) (e tx) ∙ fold_alike f k rs (cond (k tx) (map_set key a m) m) e
-fold_alike f k (Clr tx u key a ∷ rs) m e = fold_alike f k rs m e
-fold_alike f k (Prepare tx home ps ∷ rs) m e = fold_alike f k rs m e
-fold_alike f k (Commit tx ps ∷ rs) m e = fold_alike f k rs m e
-fold_alike f k (Abort tx ∷ rs) m e = fold_alike f k rs m e
-fold_alike f k (End tx ∷ rs) m e = fold_alike f k rs m e
-fold_alike f k (Restart run epoch ∷ rs) m e = fold_alike f k rs m e
 
 or_nothing : (b : Bool) → (b || false) ≡ b
 or_nothing true = refl
@@ -92,4 +80,4 @@ settled_map g s h q =
     ∙ sym (fold_alike (committed_somewhere (log ∷ [])) (committed_in log) log [] (λ t. or_nothing (committed_in log t)))
 
 pub quiet_is_settled : QuietIsSettled
-quiet_is_settled run all asked told met s leads q = let b = held run all asked told met s leads in settled_map b.0 s (b.1).kept q
+quiet_is_settled shard run before all asked told met s leads q = let b = held shard run before all asked told met s leads in settled_map b.0 s (b.1).kept q

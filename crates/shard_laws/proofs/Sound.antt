@@ -1,5 +1,5 @@
 -- What is due, and each event, keep what a shard keeps.
-use Rattle.std.proofs.Common.{◌≡◌, ℕ, zero, suc, ◌⊎◌, inl, inr, ⊎_elim, Bool, true, false, cond, not, ◌&&◌, ◌||◌, List, [], ◌∷◌, ◌++◌, Option, Some, None, is_none, length, ◌==◌, eqb-true, arith, refl, sym, ap, subst, ◌∙◌, append_assoc}
+use Rattle.std.proofs.Common.{◌≡◌, ℕ, zero, suc, ◌<◌, ◌⊎◌, inl, inr, ⊎_elim, Bool, true, false, cond, not, ◌&&◌, ◌||◌, List, [], ◌∷◌, ◌++◌, Option, Some, None, is_none, length, ◌==◌, eqb-true, arith, refl, sym, ap, subst, ◌∙◌, append_assoc}
 use Rattle.std.specs.List.{AllByRecursion, filter, list_all}
 use Rattle.std.proofs.lemmas.Bool.{cases_Bool, both_ways, cond-false, or_cases, and_parts, and_from, false_from_ne_true}
 use Rattle.std.proofs.lemmas.List.Folds.{list_any-append}
@@ -66,6 +66,10 @@ Lost g s t = (committed_in s.local.log t ≡ false) × (is_present (stage_of s.l
 abbrev pub Open : ℕ → List LogRecord → TxId → Request → Type 0
 Open shard log t q = (committed_in log t ≡ false) ⊎ ((others shard q.touched ≡ []) × (q.votes ≡ []))
 
+-- it asked, or it is of an earlier run
+abbrev pub AskedOrOld : Past → ℕ → TxId → Type 0
+AskedOrOld g run t = (tx_in t g.asked ≡ true) ⊎ (t.run < run)
+
 pub record Sound (all : List Item) (g : Past) (s : Shard) : Type 0 where
   pub kept : Kept g (view_of s)
   -- of each transaction the past has all that it was answered, or it is lost
@@ -77,8 +81,8 @@ pub record Sound (all : List Item) (g : Past) (s : Shard) : Type 0 where
   pub unvoted : (t : TxId) (v : Voter) → tx_get t s.voters ≡ Some v → wrote_in s.local.log t ≡ false → committed_in s.local.log t ≡ false
   -- a part that voted Read has left
   pub read : (t : TxId) (v : Voter) → tx_get t s.voters ≡ Some v → v.vote ≡ Some Read → stage_of s.local t ≡ Some (Gone None)
-  -- who is committed asked
-  pub asked : (t : TxId) → committed_in s.local.log t ≡ true → tx_in t g.asked ≡ true
+  -- who is committed asked, or is of an earlier run
+  pub asked : (t : TxId) → committed_in s.local.log t ≡ true → AskedOrOld g s.run t
 
 abbrev pub More_over : Past → Past → Type 0
 More_over g h = (t : TxId) → tx_in t g.over ≡ true → tx_in t h.over ≡ true
@@ -321,7 +325,7 @@ own_kept set t xs out = filter_both (keeps_of set) (λ x. tx_same x.tx t) xs ∙
     at x true e = and_from _ _ (ap not (subst (λ z. tx_in z set ≡ false) (sym (tx_true x.tx t e)) out)) refl
     at x false e = none (keeps_of set x)
 
-rolled_asked : (all : List Item) (g : Past) (s : Shard) (tx t : TxId) → Sound all g s → committed_in (s.local.log ++ aborts_of s.local.log (doomed_here s.local tx) ++ clrs_of (doomed_here s.local tx) (standing s.local.log)) t ≡ true → tx_in t g.asked ≡ true
+rolled_asked : (all : List Item) (g : Past) (s : Shard) (tx t : TxId) → Sound all g s → committed_in (s.local.log ++ aborts_of s.local.log (doomed_here s.local tx) ++ clrs_of (doomed_here s.local tx) (standing s.local.log)) t ≡ true → AskedOrOld g s.run t
 rolled_asked all g s tx t h e = ⊎_elim (λ c. h.asked t c) (λ c. absurd (both_ways _ (none_rolled s tx t c) e)) (cases_Bool (committed_in s.local.log t))
 
 pub rolled : (all : List Item) (g : Past) (s : Shard) (tx : TxId) → Sound all g s → committed_in s.local.log tx ≡ false → After all g (with_local (roll_back tx) s)
@@ -390,9 +394,9 @@ commit_here all g s tx parts h closed open_ before = keeps_commit g (view_of s) 
 pub commit_other : (log : List LogRecord) (tx u : TxId) (parts : List ℕ) → committed_in log u ≡ false → (tx_same u tx ≡ false) → committed_in (log ++ Commit tx parts ∷ []) u ≡ false
 commit_other log tx u parts e ne = uncommitted_append log (Commit tx parts ∷ []) u e (ap (λ b. b || false) ne)
 
-pub commit_asked : (all : List Item) (g : Past) (s : Shard) (tx : TxId) (parts : List ℕ) → Sound all g s → stage_of s.local tx ≡ Some Closed → (u : TxId) → committed_in (s.local.log ++ Commit tx parts ∷ []) u ≡ true → tx_in u g.asked ≡ true
+pub commit_asked : (all : List Item) (g : Past) (s : Shard) (tx : TxId) (parts : List ℕ) → Sound all g s → stage_of s.local tx ≡ Some Closed → (u : TxId) → committed_in (s.local.log ++ Commit tx parts ∷ []) u ≡ true → AskedOrOld g s.run u
 commit_asked all g s tx parts h closed u e =
-    ⊎_elim (λ t. ap (λ z. tx_in z g.asked) (tx_true u tx t) ∙ h.kept.closed tx closed)
+    ⊎_elim (λ t. inl (ap (λ z. tx_in z g.asked) (tx_true u tx t) ∙ h.kept.closed tx closed))
     (λ ne. ⊎_elim (λ c. h.asked u c) (λ c. absurd (both_ways _ (commit_other s.local.log tx u parts c ne) e)) (cases_Bool (committed_in s.local.log u)))
     (cases_Bool (tx_same u tx))
 

@@ -1,5 +1,5 @@
 -- Histories of one shard alone, with restarts; its members; and what is to be shown of them.
-use Rattle.std.specs.Prelude.{◌≡◌, ⊤, ℕ, ◌+◌, ◌≤◌, ◌<◌, ◌&&◌, Bool, true, false, ◌||◌, List, [], ◌∷◌, ◌++◌, map, take, length, Option, Some, None, cond, zero, suc}
+use Rattle.std.specs.Prelude.{◌⊎◌, ◌≡◌, ⊤, ℕ, ◌+◌, ◌≤◌, ◌<◌, ◌&&◌, Bool, true, false, ◌||◌, List, [], ◌∷◌, ◌++◌, map, take, length, Option, Some, None, cond, zero, suc}
 use Rattle.std.specs.List.{list_any, list_all, filter}
 use Rattle.clv_base.specs.declared.names.TxId.{TxId}
 use Rattle.clv_base.specs.declared.names.Birth.{Birth}
@@ -7,7 +7,6 @@ use Rattle.clv_base.specs.declared.state.Stage.{Stage}
 use Rattle.clv_base.specs.declared.state.Stage.TheVariants.{Active, Closed, Gone}
 use Rattle.clv_base.specs.declared.state.Held.{Held}
 use Rattle.clv_base.specs.declared.logs.LogRecord.{LogRecord}
-use Rattle.clv_base.specs.declared.logs.LogRecord.TheVariants.{Clr, Prepare as PrepareRecord}
 use Rattle.clv_base.specs.declared.ops.Op.{Op}
 use Rattle.clv_base.specs.declared.ops.Answer.{Answer}
 use Rattle.clv_base.specs.declared.events.Event.{Event}
@@ -16,11 +15,10 @@ use Rattle.clv_base.specs.declared.events.Outcome.{Outcome}
 use Rattle.clv_base.specs.declared.events.Outcome.TheVariants.{Answered, Acknowledged, Up}
 use Rattle.clv_base.specs.Orders.{tx_same, tx_in, tx_get}
 use Rattle.clv_base.specs.Maps.{replay_map, replay_answers}
-use Rattle.clv_base.specs.Logs.{committed_in, wrote_in, stands}
+use Rattle.clv_base.specs.Logs.{committed_in, prepared_in, wrote_in, in_doubt, fold_updates, stands}
 use Rattle.clv_base.specs.declared.messages.Message.{Message}
 use Rattle.clv_base.specs.declared.messages.Message.TheVariants.{Prepare, Vote as VoteMessage, Decide, Done, Ask}
-use Rattle.std.specs.List.{AllByRecursion}
-use Rattle.clv_base.specs.State.{Shard, Local}
+use Rattle.clv_base.specs.State.{Shard, Local, is_present}
 use Rattle.clv_base.specs.Facts.{predecessors_of}
 use Rattle.clv_base.specs.Locks.{violated}
 use Rattle.clv_base.specs.Needs.{needs_of, live_pairs}
@@ -31,16 +29,10 @@ use Rattle.clv_base.specs.declared.state.RequestState.TheVariants.{Undecided}
 use Rattle.clv_base.specs.Undo.{stage_of}
 use Rattle.clv_base.specs.Events.{Does, happen, landed, with_entry, epoch_in}
 use Rattle.clv_base.specs.OneShard.{seen_fits}
-use Rattle.clv_base.specs.Restarts.{opened, log_left, revived, Restarts}
+use Rattle.clv_base.specs.LogRules.{disorder, listed_in}
+use Rattle.clv_base.specs.Restarts.{greatest_run, opened, log_left, revived, Restarts}
 use Rattle.law_base.specs.Items.{Item}
-
--- whether a CLR of the transaction stands in a log
-abbrev pub is_clr_of : TxId → LogRecord → Bool
-is_clr_of t (Clr tx undo_next key after) = tx_same t tx
-is_clr_of t _ = false
-
-abbrev pub undone_in : List LogRecord → TxId → Bool
-undone_in log t = list_any (is_clr_of t) log
+use Rattle.order_laws.specs.Order.{undone_in}
 
 abbrev pub items_of : TxId → List Item → List Item
 items_of t all = filter (λ x. tx_same x.tx t) all
@@ -85,7 +77,8 @@ place (a ∷ as_) t = cond (tx_same t a) zero (suc (place as_ t))
 
 -- a transaction without a part here, that does an operation in this epoch, is new
 abbrev pub Fresh : List Item → List TxId → List (TxId × TxId) → Shard → TxId → Type 0
-Fresh all asked met s tx = (committed_in s.local.log tx ≡ false) × (undone_in s.local.log tx ≡ false) × (items_of tx all ≡ []) × ((p : TxId) → has_met met tx p ≡ true → ⊥)
+Fresh all asked met s tx =
+    (committed_in s.local.log tx ≡ false) × (undone_in s.local.log tx ≡ false) × (items_of tx all ≡ []) × ((p : TxId) → has_met met tx p ≡ true → ⊥) × (prepared_in s.local.log tx ≡ false)
 
 -- no operation after a request, and each transaction has one birth
 pub record MayTouch (all : List Item) (asked : List TxId) (met : List (TxId × TxId)) (s : Shard) (tx : TxId) (birth : Birth) (seen : Option ℕ) : Type 0 where
@@ -94,9 +87,9 @@ pub record MayTouch (all : List Item) (asked : List TxId) (met : List (TxId × T
   pub fresh : seen_fits s.local.epoch seen ≡ true → tx_get tx s.local.parts ≡ None → Fresh all asked met s tx
   pub same_birth : (h : Held) → tx_get tx s.local.parts ≡ Some h → h.birth ≡ birth
 
--- a request is the first of its transaction, which no other shard has asked for its vote here
+-- a request is the first of its transaction, which is of this run, and which no other shard has asked for its vote here
 abbrev pub MayAsk : List TxId → Shard → TxId → Type 0
-MayAsk asked s tx = (tx_in tx asked ≡ false) × ((v : Voter) → tx_get tx s.voters ≡ Some v → ⊥) × (tx_get tx s.requests ≡ None)
+MayAsk asked s tx = (tx_in tx asked ≡ false) × ((v : Voter) → tx_get tx s.voters ≡ Some v → ⊥) × (tx_get tx s.requests ≡ None) × (tx.run ≡ s.run)
 
 -- all predecessors have COMMITs in the log
 abbrev pub predecessors_committed : Local → TxId → Bool
@@ -125,26 +118,30 @@ new_told (Look tx) Acknowledged = Some tx
 new_told (Look tx) _ = None
 new_told _ o = None
 
-abbrev pub HomeIs : ℕ → LogRecord → Type 0
-HomeIs shard (PrepareRecord tx home ps) = home ≡ shard
-HomeIs shard _ = ⊤
+-- a log from which a shard may be opened in this run: it keeps the order rules, it is of earlier runs, and nothing is in doubt in it
+abbrev pub MayServe : ℕ → ℕ → List LogRecord → Type 0
+MayServe shard run log = (disorder shard log ≡ None) × (greatest_run log < run) × (in_doubt shard log ≡ [])
 
--- from a shard that opened an empty log: all operations that were answered, those that made a request, those that were told of success,
--- in their orders, and the state
-pub data Leads (run : ℕ) : List Item → List TxId → List TxId → List (TxId × TxId) → Shard → Type 0 where
-  opens : Leads run [] [] [] [] (opened 0 run [])
+-- of those in doubt in the log that a restart finds, none was rolled back since
+abbrev pub StillHere : Shard → List LogRecord → Type 0
+StillHere s found = (t : TxId) → tx_in t (in_doubt s.shard found) ≡ true → is_present (stage_of s.local t) ≡ true
+
+-- from the shard that opened such a log: all operations that were answered, those that made a request, those that were told of success,
+-- those whose writes were violated, in their orders, and the state
+pub data Leads (shard run : ℕ) (before : List LogRecord) : List Item → List TxId → List TxId → List (TxId × TxId) → Shard → Type 0 where
+  opens : MayServe shard run before → Leads shard run before [] [] [] [] (opened shard run before)
   happens :
-      {all : List Item} {asked told : List TxId} {met : List (TxId × TxId)} {s : Shard} (e : Event) (o : Outcome) (t : Shard) (stamp walker : ℕ) → Leads run all asked told met s → MayHappen all asked met s e → happen s e ≡ Does o t
-      → Leads run (with_one all (new_item s e o)) (with_one asked (new_asked s e)) (with_one told (new_told e o)) (new_met s e o ++ met) (with_entry stamp walker e o t)
+      {all : List Item} {asked told : List TxId} {met : List (TxId × TxId)} {s : Shard} (e : Event) (o : Outcome) (t : Shard) (stamp walker : ℕ) → Leads shard run before all asked told met s → MayHappen all asked met s e → happen s e ≡ Does o t
+      → Leads shard run before (with_one all (new_item s e o)) (with_one asked (new_asked s e)) (with_one told (new_told e o)) (new_met s e o ++ met) (with_entry stamp walker e o t)
   lands :
-      {all : List Item} {asked told : List TxId} {met : List (TxId × TxId)} {s : Shard} (n : ℕ) (pushed : Bool) (o : Outcome) (t : Shard) (stamp walker : ℕ) → Leads run all asked told met s → s.flight ≡ Some n → landed s n pushed ≡ Does o t
-      → Leads run all asked told met (with_entry stamp walker FlushIn o t)
+      {all : List Item} {asked told : List TxId} {met : List (TxId × TxId)} {s : Shard} (n : ℕ) (pushed : Bool) (o : Outcome) (t : Shard) (stamp walker : ℕ) → Leads shard run before all asked told met s → s.flight ≡ Some n → landed s n pushed ≡ Does o t
+      → Leads shard run before all asked told met (with_entry stamp walker FlushIn o t)
   -- others ask at their homes
-  others_ask : {all : List Item} {asked told : List TxId} {met : List (TxId × TxId)} {s : Shard} (t : TxId) → Leads run all asked told met s → tx_in t asked ≡ false → Leads run all (asked ++ t ∷ []) told met s
-  -- where nothing can be in doubt: each PREPARE names this shard as its home
+  others_ask : {all : List Item} {asked told : List TxId} {met : List (TxId × TxId)} {s : Shard} (t : TxId) → Leads shard run before all asked told met s → tx_in t asked ≡ false → Leads shard run before all (asked ++ t ∷ []) told met s
+  -- those in doubt are restored
   revives :
-      {all : List Item} {asked told : List TxId} {met : List (TxId × TxId)} {s : Shard} (kept : Bool) (epoch : ℕ) (log : List LogRecord) (stamp walker : ℕ) → Leads run all asked told met s → s.is_up ≡ false → AllByRecursion (HomeIs s.shard) s.local.log → Restarts s (log_left s kept) epoch log
-      → Leads run all asked told met (with_entry stamp walker RestartEvent (Up epoch) (revived s epoch log))
+      {all : List Item} {asked told : List TxId} {met : List (TxId × TxId)} {s : Shard} (kept : Bool) (epoch : ℕ) (log : List LogRecord) (stamp walker : ℕ) → Leads shard run before all asked told met s → s.is_up ≡ false → StillHere s (log_left s kept)
+      → Restarts s (log_left s kept) epoch log → Leads shard run before all asked told met (with_entry stamp walker RestartEvent (Up epoch) (revived s epoch log))
 
 -- ---- the members, by a cut of the log, and what they did
 
@@ -160,21 +157,47 @@ ops_by ts all = map (λ t. map (λ x. x.op) (items_of t all)) ts
 abbrev pub answers_by : List TxId → List Item → List (List Answer)
 answers_by ts all = map (λ t. map (λ x. x.answer) (items_of t all)) ts
 
--- replayed one after another in the order of their requests, the members give their answers, and the map that the cut log stands for
+-- replayed one after another in the order of their requests, from what the log found stands for, the members give their answers, and the map
+-- that the cut log stands for
 abbrev pub AnswersAndMap : Type 0
 AnswersAndMap =
-    (run : ℕ) (all : List Item) (asked told : List TxId) (met : List (TxId × TxId)) (s : Shard) (cut : ℕ) → Leads run all asked told met s → s.durable ≤ cut
-    → (replay_answers [] (ops_by (members_of s cut told asked) all) ≡ answers_by (members_of s cut told asked) all)
-    × (replay_map [] (ops_by (members_of s cut told asked) all) ≡ stands (take cut s.local.log ∷ []))
+    (shard run : ℕ) (before : List LogRecord) (all : List Item) (asked told : List TxId) (met : List (TxId × TxId)) (s : Shard) (cut : ℕ) → Leads shard run before all asked told met s → s.durable ≤ cut
+    → (replay_answers (stands (before ∷ [])) (ops_by (members_of s cut told asked) all) ≡ answers_by (members_of s cut told asked) all)
+    × (replay_map (stands (before ∷ [])) (ops_by (members_of s cut told asked) all) ≡ stands (take cut s.local.log ∷ []))
+
+-- a choice of transactions as other shards' COMMITs make it: all that the cut commits are chosen, and each of the chosen is a member here, or
+-- is in doubt in the cut, which commits all that its PREPARE lists
+pub record MayChoose (s : Shard) (cut : ℕ) (told : List TxId) (chosen : TxId → Bool) : Type 0 where
+  pub commits : (t : TxId) → committed_in (take cut s.local.log) t ≡ true → chosen t ≡ true
+  pub are_here :
+      (t : TxId) → chosen t ≡ true
+      → (is_member s cut told t ≡ true)
+      ⊎ ((tx_in t (in_doubt s.shard (take cut s.local.log)) ≡ true) × (list_all (committed_in (take cut s.local.log)) (listed_in (take cut s.local.log) t) ≡ true))
+
+-- then the chosen ones that asked give their answers, and the map of the chosen ones' UPDATEs in the cut
+abbrev pub ChosenReplay : Type 0
+ChosenReplay =
+    (shard run : ℕ) (before : List LogRecord) (all : List Item) (asked told : List TxId) (met : List (TxId × TxId)) (s : Shard) (cut : ℕ) (chosen : TxId → Bool)
+    → Leads shard run before all asked told met s → s.durable ≤ cut → StillHere s (take cut s.local.log) → MayChoose s cut told chosen
+    → (replay_answers (stands (before ∷ [])) (ops_by (filter chosen asked) all) ≡ answers_by (filter chosen asked) all)
+    × (replay_map (stands (before ∷ [])) (ops_by (filter chosen asked) all) ≡ fold_updates chosen (take cut s.local.log) [])
+
+-- whose writes a chosen one violated is chosen, at an earlier place
+abbrev pub ChosenStandBefore : Type 0
+ChosenStandBefore =
+    (shard run : ℕ) (before : List LogRecord) (all : List Item) (asked told : List TxId) (met : List (TxId × TxId)) (s : Shard) (cut : ℕ) (chosen : TxId → Bool) (t p : TxId)
+    → Leads shard run before all asked told met s → s.durable ≤ cut → StillHere s (take cut s.local.log) → MayChoose s cut told chosen → has_met met t p ≡ true → chosen t ≡ true
+    → (chosen p ≡ true) × (place (filter chosen asked) p < place (filter chosen asked) t)
 
 -- whose writes a member violated is a member at an earlier place
 abbrev pub Recoverable : Type 0
 Recoverable =
-    (run : ℕ) (all : List Item) (asked told : List TxId) (met : List (TxId × TxId)) (s : Shard) (cut : ℕ) (t p : TxId) → Leads run all asked told met s → s.durable ≤ cut → has_met met t p ≡ true → is_member s cut told t ≡ true
+    (shard run : ℕ) (before : List LogRecord) (all : List Item) (asked told : List TxId) (met : List (TxId × TxId)) (s : Shard) (cut : ℕ) (t p : TxId)
+    → Leads shard run before all asked told met s → s.durable ≤ cut → has_met met t p ≡ true → is_member s cut told t ≡ true
     → (is_member s cut told p ≡ true) × (place (members_of s cut told asked) p < place (members_of s cut told asked) t)
 
 -- where the shard is quiet its live records are what its log stands for
 abbrev pub QuietIsSettled : Type 0
 QuietIsSettled =
-    (run : ℕ) (all : List Item) (asked told : List TxId) (met : List (TxId × TxId)) (s : Shard) → Leads run all asked told met s → IsQuiet s
+    (shard run : ℕ) (before : List LogRecord) (all : List Item) (asked told : List TxId) (met : List (TxId × TxId)) (s : Shard) → Leads shard run before all asked told met s → IsQuiet s
     → live_pairs s.local.records ≡ stands (s.local.log ∷ [])

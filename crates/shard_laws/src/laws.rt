@@ -1,9 +1,9 @@
 // Laws over all histories of one shard.
 
-ghost use Rattle.shard_laws.specs.OneShard.{AnswersAndMap, Recoverable, QuietIsSettled};
+ghost use Rattle.shard_laws.specs.OneShard.{AnswersAndMap, Recoverable, QuietIsSettled, ChosenReplay, ChosenStandBefore};
 
-/// In each history of one shard in which nothing is in doubt at a restart, the members of each cut of the log at or above what is durable
-/// replay, in the order of their requests, to the answers that they were given and to the map that the cut stands for.
+/// In each history of one shard the members of each cut of the log at or above what is durable replay, in the order of their requests, from
+/// the map that the log found stands for: to the answers that they were given, and to the map that the cut stands for.
 pub fn answers_and_map()
     ensures { AnswersAndMap }
 {}
@@ -16,4 +16,15 @@ pub fn recoverable()
 /// Where nothing is buffered or in flight, and each part is gone or committed, the live records are what the log stands for.
 pub fn quiet_is_settled()
     ensures { QuietIsSettled }
+{}
+
+/// Where transactions are chosen by the COMMITs of other shards, those that are in doubt here among them, the chosen ones replay to their
+/// answers and to the map of their UPDATEs in the cut.
+pub fn chosen_replay()
+    ensures { ChosenReplay }
+{}
+
+/// Whose writes a chosen one violated is chosen too, at an earlier place.
+pub fn chosen_stand_before()
+    ensures { ChosenStandBefore }
 {}

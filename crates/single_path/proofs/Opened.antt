@@ -14,7 +14,7 @@ use Rattle.clv_base.specs.LogRules.{home_is, agrees_at, is_home_of, committed_of
 use Rattle.clv_base.specs.FileRules.{passes_file_rules}
 use Rattle.clv_base.specs.Restarts.{run_after}
 use Rattle.single_path.specs.Plan.{Play, is_plain, is_plain_record, may_do, may_run, writes, tx_of, birth_of, begun, op_done, ops_done, touched, flushed, requested, run_one, run_all, log_asked, log_opened, opening, Stop, After_all, In_operations, At_request, In_flight, At_failure, stopped, may_stop, play, log_left_by}
-use Rattle.single_path.specs.Serial.{RunsMayBeOpened}
+use Rattle.single_path.specs.Serial.{PlainLogsMayBeOpened, RunsMayBeOpened}
 use Rattle.single_path.proofs.Names.{tx_self}
 use Rattle.single_path.proofs.Tables.{all_append, all_mono}
 use Rattle.single_path.proofs.Plain.{AllPlain, plain_kinds, all_true, true_all, all_insert, no_prepare}
@@ -130,6 +130,10 @@ plain_agrees log e =
 
 -- ---- all of it
 
+pub plain_logs_may_be_opened : PlainLogsMayBeOpened
+plain_logs_may_be_opened log plain in_order keys =
+    and_from _ _ (and_from _ _ (and_from _ _ keys (ap is_none in_order)) refl) (ap is_none (plain_agrees log plain))
+
 pub runs_may_be_opened : RunsMayBeOpened
 runs_may_be_opened found plan stop kept m keys =
     let run = run_after (found ∷ []) in
@@ -138,6 +142,4 @@ runs_may_be_opened found plan stop kept m keys =
     let all : Passes (play found plan stop).log = pass_stop run stop p m.may_stop_there (pass_all run plan (opening found) m.may_run_all first) in
     let left = log_left_by kept (play found plan stop) in
     let again = runs_open_again found plan stop kept m in
-    and_from _ _
-    (and_from _ _ (and_from _ _ (true_all (passes_file_rules [] 0) left (all_take (λ r. passes_file_rules [] 0 r ≡ true) _ (play found plan stop).log all)) (ap is_none again.1)) refl)
-    (ap is_none (plain_agrees left again.0))
+    plain_logs_may_be_opened left again.0 again.1 (true_all (passes_file_rules [] 0) left (all_take (λ r. passes_file_rules [] 0 r ≡ true) _ (play found plan stop).log all))

@@ -61,6 +61,11 @@ RunsOpenAgain =
     (found : List LogRecord) (plan : List (List Op)) (stop : Stop) (kept : Bool) → MayPlay found plan stop
     → (is_plain (log_left_by kept (play found plan stop)) ≡ true) × (disorder 0 (log_left_by kept (play found plan stop)) ≡ None)
 
+-- a plain log in order, whose keys are this shard's, may be opened
+abbrev pub PlainLogsMayBeOpened : Type 0
+PlainLogsMayBeOpened =
+    (log : List LogRecord) → is_plain log ≡ true → disorder 0 log ≡ None → list_all (passes_file_rules [] 0) log ≡ true → may_open [] (log ∷ []) ≡ true
+
 -- where the keys of the log found are this shard's, what is left may be opened
 abbrev pub RunsMayBeOpened : Type 0
 RunsMayBeOpened =

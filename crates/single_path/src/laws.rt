@@ -2,7 +2,7 @@
 
 ghost use Rattle.single_path.specs.Laws.{RunsAreLegal, RunsHaveTheirLog};
 ghost use Rattle.single_path.specs.Script.{StepsAreThePlan, BirthsAreOfTransactions};
-ghost use Rattle.single_path.specs.Serial.{CrashesLeave, MembersAreThePlan, RunsReplay, MembersAreInOrder, RunsOpenAgain, RunsMayBeOpened};
+ghost use Rattle.single_path.specs.Serial.{CrashesLeave, MembersAreThePlan, RunsReplay, MembersAreInOrder, RunsOpenAgain, PlainLogsMayBeOpened, RunsMayBeOpened};
 
 /// The history of a run is legal, also where its last flush failed, whether the records in flight are kept or not.
 pub fn runs_are_legal()
@@ -49,6 +49,11 @@ pub fn members_are_in_order()
 /// Each log that may be left is plain and in order, so that the next run may find it.
 pub fn runs_open_again()
     ensures { RunsOpenAgain }
+{}
+
+/// A plain log in order, whose keys are this shard's, may be opened.
+pub fn plain_logs_may_be_opened()
+    ensures { PlainLogsMayBeOpened }
 {}
 
 /// Where the keys of the log found are this shard's, each log that may be left may be opened: it is in order, its keys are the shard's

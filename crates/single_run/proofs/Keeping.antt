@@ -13,15 +13,16 @@ use Rattle.clv_base.specs.History.{Legal, Member, serial, serial_ops, serial_ans
 use Rattle.disk_model.specs.Story.{Story, reads}
 use Rattle.log_gate.specs.Image.{HasLog}
 use Rattle.log_gate.specs.Gate.{EachNow}
+use Rattle.history_laws.specs.Continuing.{NeverTakenBack}
 use Rattle.history_replay.specs.Entries.{Kept, entries_of}
 use Rattle.history_replay.specs.Laws.{OneShardsEntries}
 use Rattle.single_path.specs.Plan.{Stop, play, log_left_by, run_all, opening}
 use Rattle.single_path.specs.Laws.{history, RunsAreLegal, RunsHaveTheirLog}
-use Rattle.single_path.specs.Serial.{CrashesLeave, RunsReplay, InOrder, MembersAreInOrder, RunsMayBeOpened, members_left}
+use Rattle.single_path.specs.Serial.{CrashesLeave, RunsReplay, InOrder, MembersAreInOrder, PlainLogsMayBeOpened, RunsMayBeOpened, members_left}
 use Rattle.single_path.specs.Steps.{stops_at_failure}
 use Rattle.clv_base.specs.Restarts.{run_after}
 use Rattle.run_promises.specs.Disks.{HoldsLog, flush_failed, DisksHold}
-use Rattle.run_promises.specs.Histories.{IsAfter, SessionsInOrder, IsSerial}
+use Rattle.run_promises.specs.Histories.{IsAfter, SessionsInOrder, IsSerial, MembersStay}
 use Rattle.single_run.specs.Plays.{PlayHolds, IsPlayed, PlaysKeep}
 use Rattle.single_run.proofs.Disks.{if_some, each_now, only_one, same_history, same_journal, failure_is_last, same_log, holds_too, Chosen, chosen}
 
@@ -113,8 +114,17 @@ module _
           opens = ap (may_open []) logs ∙ opens found plan stop (choice 0) played.may played.fits;
         }
 
-pub plays_keep : OneShardsEntries → RunsAreLegal → RunsHaveTheirLog → CrashesLeave → RunsReplay → MembersAreInOrder → RunsMayBeOpened → PlaysKeep
-plays_keep one legal has crashes replays orders opens found plan stop before now kept played =
+  -- whatever goes on from its history
+  module _ (one : OneShardsEntries) (left : List (List LogRecord)) (legal : Legal [] kept.found (entries_of kept.journals) left) where
+    found_opens : PlainLogsMayBeOpened → may_open [] kept.found ≡ true
+    found_opens law = ap (may_open []) played.found_is ∙ law found (played.may).plain (played.may).in_order played.fits
+
+    pub members_stay : PlainLogsMayBeOpened → NeverTakenBack → MembersStay [] kept left
+    members_stay plain stay later after choice legal_later goes_on =
+        stay [] kept.found (entries_of kept.journals) left later after choice (found_opens plain) legal legal_later goes_on
+
+pub plays_keep : OneShardsEntries → RunsAreLegal → RunsHaveTheirLog → CrashesLeave → RunsReplay → MembersAreInOrder → RunsMayBeOpened → PlainLogsMayBeOpened → NeverTakenBack → PlaysKeep
+plays_keep one legal has crashes replays orders opens plain stay found plan stop before now kept played =
     let pick : Chosen (play found plan stop) (now 0) = chosen (stops_at_failure stop) (play found plan stop) (now 0) played.holds in
     let left : List (List LogRecord) = log_left_by pick.choice (play found plan stop) ∷ [] in
     record {
@@ -132,4 +142,5 @@ plays_keep one legal has crashes replays orders opens found plan stop before now
           };
       disks = disks_hold found plan stop before now kept played one left has;
       serial = λ choice. is_serial found plan stop before now kept played one left choice crashes replays orders opens;
+      for_good = members_stay found plan stop before now kept played one left (legal_run found plan stop before now kept played one pick.choice legal) plain stay;
     }

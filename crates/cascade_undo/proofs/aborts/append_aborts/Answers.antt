@@ -1,4 +1,4 @@
-use Rattle.std.proofs.Common.{◌<◌, length, sym, ◌∙◌}
+use Rattle.std.proofs.Common.{◌<◌, length, ◌∙◌}
 use Rattle.clv_base.specs.declared.names.TxId.{TxId}
 use Rattle.cascade_undo.proofs.Aborting.{next_fits, log_more, room_more}
 use Rattle.cascade_undo.proofs.aborts.append_aborts.Goals as goal

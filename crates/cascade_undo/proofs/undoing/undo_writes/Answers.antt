@@ -1,8 +1,7 @@
-use Rattle.std.proofs.Common.{◌≡◌, ◌≤◌, ◌<◌, ◌+◌, ◌-◌, length, sym, ap, subst, ◌∙◌, arith}
+use Rattle.std.proofs.Common.{◌≡◌, ◌≤◌, ◌<◌, ◌+◌, ◌-◌, length, subst, arith}
 use Rattle.clv_base.specs.Logs.{standing}
-use Rattle.cascade_undo.specs.Writes.{writes_of}
 use Rattle.cascade_undo.specs.Steps.{AreBelow, open_of}
-use Rattle.cascade_undo.proofs.Growing.{advances_none, advances_more, still_some, log_at_last, records_at_last, length_at_last}
+use Rattle.cascade_undo.proofs.Growing.{advances_none, still_some, log_at_last, records_at_last, length_at_last}
 use Rattle.cascade_undo.proofs.undoing.undo_writes.Goals as goal
 
 pub loop-open-init : goal.loop-open-init

@@ -1,11 +1,10 @@
-use Rattle.std.proofs.Common.{rules, ◌≡◌, true, false, Some, None, eqb, eq-eqb, refl, sym, ap, ◌∙◌}
+use Rattle.std.proofs.Common.{rules, ◌≡◌, false, Some, None, eqb, eq-eqb, refl, sym, ap, ◌∙◌}
 use Rattle.std.specs.Prelude.{slice_get}
 use Rattle.std.specs.Option.{option_eq}
 use Rattle.std.proofs.lemmas.Bool.{both_ways}
 use Rattle.clv_base.specs.Orders.{tx_in}
 use Rattle.clv_base.specs.Logs.{standing}
 use Rattle.clv_base.specs.Undo.{newest_lsn}
-use Rattle.cascade_undo.specs.declared.write.Write.{Write}
 use Rattle.cascade_undo.specs.Steps.{write_in}
 use Rattle.cascade_undo.proofs.Placing.{some_at, none_at}
 use Rattle.cascade_undo.proofs.write.newest_at.Goals as goal
@@ -29,7 +28,7 @@ returns-else-contains-clause-none c = λ _.
     let same : w ≡ c.in_ok-write.write = cc in
     elim c.else-contains.branch [
       | else-contains-via-then-contains+else-eq v ↦
-        (let found : v.newest.result ≡ Some c.args.lsn = v.newest.ensures ∙ ap (λ x. newest_lsn x.tx (standing c.args.buffer.now.records)) (sym same) ∙ n in
-        both_ways _ (sym v.eq.ensures ∙ v.if-eq.false) (ap (λ o. option_eq eqb o (Some c.args.lsn)) found ∙ eq-eqb c.args.lsn c.args.lsn refl))
+          (let found : v.newest.result ≡ Some c.args.lsn = v.newest.ensures ∙ ap (λ x. newest_lsn x.tx (standing c.args.buffer.now.records)) (sym same) ∙ n in
+          both_ways _ (sym v.eq.ensures ∙ v.if-eq.false) (ap (λ o. option_eq eqb o (Some c.args.lsn)) found ∙ eq-eqb c.args.lsn c.args.lsn refl))
       | else-contains-via-else-contains v ↦ (let out : tx_in c.in_ok-write.write.tx c.args.set.now ≡ false = search rules in absurd cc)
     ])

@@ -1,0 +1,78 @@
+-- What a caller keeps: each write that stands has a record, and there is room to undo all.
+use Rattle.std.proofs.Common.{◌≡◌, ℕ, ◌+◌, ◌≤◌, ◌<◌, Bool, true, false, cond, ◌==◌, List, [], ◌∷◌, ◌++◌, map, length, Option, Some, None, refl, sym, ap, subst, ◌∙◌, eq-eqb, arith}
+use Rattle.std.specs.List.{filter}
+use Rattle.std.specs.Map.{lookup}
+use Rattle.std.specs.declared.cmp.Ordering.{Ordering}
+use Rattle.std.specs.declared.cmp.Ordering.TheVariants.{Less, Equal, Greater}
+use Rattle.std.specs.Ordering.{nat_cmp, match_ordering}
+use Rattle.std.proofs.lemmas.Bool.Decides.{nat_tests}
+use Rattle.std.proofs.lemmas.Bool.{both_ways}
+use Rattle.clv_base.specs.declared.names.TxId.{TxId}
+use Rattle.clv_base.specs.declared.logs.LogRecord.{LogRecord}
+use Rattle.clv_base.specs.declared.logs.LogRecord.TheVariants.{Update, Abort}
+use Rattle.clv_base.specs.Orders.{tx_in}
+use Rattle.clv_base.specs.Logs.{StandingUpdate, standing, wrote_in}
+use Rattle.clv_base.specs.Undo.{aborts_of}
+use Rattle.clv_base.specs.Needs.{Records, found_at, found_by, is_there, record_set}
+use Rattle.protocol_laws.proofs.Doubts.{standing_more}
+use Rattle.cascade_undo.specs.Writes.{writes_of, HaveRecords}
+use Rattle.cascade_undo.proofs.Bools.{both}
+use Rattle.cascade_undo.proofs.Standing.{Falls, falls, all_mono}
+use Rattle.cascade_undo.proofs.Restoring.{there_by}
+
+-- a record that is there stays so when one is set
+pub there_set : (k j : ℕ) (v : Option ℕ) (rs : Records) → is_there (found_at j rs) ≡ true → is_there (found_at j (record_set k v rs)) ≡ true
+there_set k j v [] e = absurd (both_ways false refl e)
+there_set k j v (r ∷ rs) e = at (nat_cmp k r.0) (k == j) (j == r.0) refl e (there_set k j v rs)
+  where
+    at : (o : Ordering) (b c : Bool) → (j == r.0) ≡ c → is_there (found_by (cond c (Some r.1) (lookup (◌==◌ j) rs))) ≡ true → (is_there (found_at j rs) ≡ true → is_there (found_at j (record_set k v rs)) ≡ true)
+        → is_there (found_at j (match_ordering o ((k, v) ∷ r ∷ rs) ((r.0, v) ∷ rs) (r ∷ record_set k v rs))) ≡ true
+    at Less b c q h more =
+        both (λ d. is_there (found_by (cond d (Some v) (lookup (◌==◌ j) (r ∷ rs)))) ≡ true) (j == k) (λ _. there_by v) (λ _. e)
+    at Equal b true q h more = ap (λ d. is_there (found_by (cond d (Some v) (lookup (◌==◌ j) rs)))) q ∙ there_by v
+    at Equal b false q h more = ap (λ d. is_there (found_by (cond d (Some v) (lookup (◌==◌ j) rs)))) q ∙ h
+    at Greater b true q h more = ap (λ d. is_there (found_by (cond d (Some r.1) (lookup (◌==◌ j) (record_set k v rs))))) q ∙ there_by r.1
+    at Greater b false q h more = ap (λ d. is_there (found_by (cond d (Some r.1) (lookup (◌==◌ j) (record_set k v rs))))) q ∙ more h
+
+-- the record that is set is there
+pub set_is_there : (k : ℕ) (v : Option ℕ) (rs : Records) → is_there (found_at k (record_set k v rs)) ≡ true
+set_is_there k v [] = ap (λ d. is_there (found_by (cond d (Some v) None))) (eq-eqb k k refl) ∙ there_by v
+set_is_there k v (r ∷ rs) = at (nat_cmp k r.0) refl (set_is_there k v rs)
+  where
+    at : (o : Ordering) → nat_cmp k r.0 ≡ o → is_there (found_at k (record_set k v rs)) ≡ true → is_there (found_at k (match_ordering o ((k, v) ∷ r ∷ rs) ((r.0, v) ∷ rs) (r ∷ record_set k v rs))) ≡ true
+    at Less o more = ap (λ d. is_there (found_by (cond d (Some v) (lookup (◌==◌ k) (r ∷ rs))))) (eq-eqb k k refl) ∙ there_by v
+    at Equal o more = let same : k ≡ r.0 = grind (arith, nat_tests) in ap (λ d. is_there (found_by (cond d (Some v) (lookup (◌==◌ k) rs)))) (eq-eqb k r.0 same) ∙ there_by v
+    at Greater o more = both (λ d. is_there (found_by (cond d (Some r.1) (lookup (◌==◌ k) (record_set k v rs)))) ≡ true) (k == r.0) (λ _. there_by r.1) (λ _. more)
+
+-- so each write has its record when one more is made
+pub have_more : (set : List TxId) (log after : List LogRecord) (rs qs : Records) (tx : TxId) (key : ℕ) (v before x : Option ℕ) → HaveRecords set (standing log) rs
+    → after ≡ log ++ Update tx key before x ∷ [] → qs ≡ record_set key v rs → HaveRecords set (standing after) qs
+have_more set log after rs qs tx key v before x have e q =
+    subst (λ l. HaveRecords set l qs) (sym (ap standing e ∙ standing_more log (Update tx key before x)))
+    (subst (λ l. HaveRecords set (record { lsn = 0 + length log; tx = tx; key = key; before = before; after = x } ∷ standing log) l) (sym q)
+    ((λ _. set_is_there key v rs), all_mono _ _ (λ w h i. there_set key w.key v rs (h i)) (standing log) have))
+
+-- ---- room
+
+falls_length : (n : ℕ) (ws : List StandingUpdate) → Falls n ws → length ws ≤ n
+falls_length n [] f = omega arith
+falls_length n (w ∷ ws) f = let l : w.lsn < n = f.0 in let m : length ws ≤ w.lsn = falls_length w.lsn ws f.1 in omega arith
+
+fewer_writes : (set : List TxId) (ws : List StandingUpdate) → length (writes_of set ws) ≤ length ws
+fewer_writes set [] = omega arith
+fewer_writes set (w ∷ ws) = let h = fewer_writes set ws in both (λ b. length (cond b (w ∷ writes_of set ws) (writes_of set ws)) ≤ length (w ∷ ws)) (tx_in w.tx set) (λ _. omega arith) (λ _. omega arith)
+
+fewer_aborts : (log : List LogRecord) (txs : List TxId) → length (aborts_of log txs) ≤ length txs
+fewer_aborts log [] = omega arith
+fewer_aborts log (t ∷ ts) =
+    let h = fewer_aborts log ts in
+    both (λ b. length (map (λ u. Abort u) (cond b (t ∷ filter (wrote_in log) ts) (filter (wrote_in log) ts))) ≤ length (t ∷ ts)) (wrote_in log t) (λ _. omega arith) (λ _. omega arith)
+
+-- the set's writes are no more than the log's records
+pub writes_within : (set : List TxId) (log : List LogRecord) → length (writes_of set (standing log)) ≤ length log
+writes_within set log = let w = fewer_writes set (standing log) in let s = falls_length (length log) (standing log) (falls log) in omega arith
+
+-- as many records as the log has, and one for each of the set, are enough
+pub room_enough : (log : List LogRecord) (set : List TxId) → length (aborts_of log set) + length (writes_of set (standing log)) ≤ length set + length log
+room_enough log set =
+    let a = fewer_aborts log set in let w = writes_within set log in omega arith

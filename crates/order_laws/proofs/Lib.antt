@@ -1,0 +1,4 @@
+pub mod Records
+pub mod Runs
+pub mod Writes
+pub mod InOrder

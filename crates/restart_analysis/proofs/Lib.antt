@@ -1,0 +1,4 @@
+pub mod Counting
+pub mod Doubted
+pub mod Ended
+pub mod Restarting

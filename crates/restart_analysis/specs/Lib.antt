@@ -1,0 +1,4 @@
+pub mod Standing
+pub mod Doubt
+pub mod Unended
+pub mod Restarting

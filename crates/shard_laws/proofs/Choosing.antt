@@ -1,0 +1,204 @@
+-- Transactions that are chosen by other shards' COMMITs replay.
+use Rattle.std.proofs.Common.{◌≡◌, ℕ, ◌+◌, ◌≤◌, ◌<◌, ◌⊎◌, inl, inr, ⊎_elim, Bool, true, false, cond, ◌&&◌, List, [], ◌∷◌, ◌++◌, map, length, refl, sym, ap, subst, ◌∙◌}
+use Rattle.std.specs.Prelude.{take, drop}
+use Rattle.std.specs.List.{AllByRecursion, filter}
+use Rattle.std.proofs.lemmas.Bool.{both_ways, or_cases, and_parts, and_from, false_from_ne_true}
+use Rattle.std.proofs.lemmas.List.{take-append-drop}
+use Rattle.clv_base.specs.declared.names.TxId.{TxId}
+use Rattle.clv_base.specs.declared.logs.LogRecord.{LogRecord}
+use Rattle.clv_base.specs.declared.logs.LogRecord.TheVariants.{Update, Clr, Prepare, Commit, Abort, End, Restart}
+use Rattle.clv_base.specs.Orders.{tx_same, tx_in}
+use Rattle.clv_base.specs.Maps.{KeyMap, map_get, map_set, replay_map, replay_answers}
+use Rattle.clv_base.specs.Logs.{standing, committed_in, wrote_in, is_commit_of, in_doubt, is_winner, fold_updates, stands}
+use Rattle.clv_base.specs.LogRules.{listed_in}
+use Rattle.clv_base.specs.State.{Shard}
+use Rattle.clv_base.specs.Folding.{Placed, grouped_from, ops_of, answers_of}
+use Rattle.clv_base.proofs.Grouping.{is_serial_run}
+use Rattle.clv_base.proofs.Folding.{same_map}
+use Rattle.clv_base.proofs.SameNames.{or_left, or_right, tx_true, tx_self}
+use Rattle.law_base.specs.Items.{Item, Runs, after, AllLater, Reaches, Clash, pile}
+use Rattle.law_base.proofs.Lists.{all_mono, all_filter, later_mono, later_filter}
+use Rattle.law_base.proofs.Running.{top_value, Keeps, kept_runs, rising_all, pile_value}
+use Rattle.law_base.proofs.Undoing.{standing_append}
+use Rattle.law_base.proofs.Tables.{is_pair}
+use Rattle.law_base.proofs.Commits.{place_there}
+use Rattle.order_laws.specs.Order.{Tidy, Sealed, undone_in}
+use Rattle.shard_laws.specs.OneShard.{items_of, ops_by, answers_by, MayChoose, ChosenReplay, ChosenStandBefore}
+use Rattle.shard_laws.proofs.Kept.{Past, view_of, place, Dep, Known}
+use Rattle.shard_laws.proofs.Prepared.{Lists, sealed_later}
+use Rattle.shard_laws.proofs.Changes.{undone_append, wrote_append, later_both}
+use Rattle.shard_laws.proofs.Sound.{Sound, Lost, filter_both, filter_same, list_all_at}
+use Rattle.shard_laws.proofs.Cutting.{cut_keeps, durable_cut, of_kept, tidy_later, fold_values, fold_rises}
+use Rattle.shard_laws.proofs.Serial.{placed, runs_placed, after_placed, filter_place, in_kept, Once, once_filter, groups_are, all_ops, all_answers, order_placed, below_placed}
+use Rattle.shard_laws.proofs.Members.{dep_cut, item_asked, cut_base, pile_keep, filter_all_kept, filter_alike}
+use Rattle.shard_laws.proofs.Doubting.{prepared_cut, listed_cut}
+use Rattle.shard_laws.proofs.Restoring.{standing_updates, wrote_of}
+use Rattle.shard_laws.proofs.Rebuilding.{unmoved_from}
+use Rattle.shard_laws.proofs.Reviving.{Here, doubt_of, doubt_closed, wins_alive, tidy_closed, sealed_closed, whole_log}
+use Rattle.shard_laws.proofs.Histories.{held}
+
+-- of the records of a log the writers alone count
+fold_writers : (f k : TxId → Bool) (log : List LogRecord) (m : KeyMap) → ((t : TxId) → wrote_in log t ≡ true → f t ≡ k t) → fold_updates f log m ≡ fold_updates k log m
+fold_writers f k [] m e = refl
+fold_writers f k (Update tx key b a ∷ rs) m e =
+    ap (λ c. fold_updates f rs (cond c (map_set key a m) m)) (e tx (or_left _ _ (tx_self tx))) ∙ fold_writers f k rs (cond (k tx) (map_set key a m) m) (λ t w. e t (or_right (tx_same t tx) _ w))
+fold_writers f k (Clr tx u key a ∷ rs) m e = fold_writers f k rs m e
+fold_writers f k (Prepare tx home ps ∷ rs) m e = fold_writers f k rs m e
+fold_writers f k (Commit tx ps ∷ rs) m e = fold_writers f k rs m e
+fold_writers f k (Abort tx ∷ rs) m e = fold_writers f k rs m e
+fold_writers f k (End tx ∷ rs) m e = fold_writers f k rs m e
+fold_writers f k (Restart run epoch ∷ rs) m e = fold_writers f k rs m e
+
+and_true : (a b : Bool) → b ≡ true → a ≡ (a && b)
+and_true true b e = sym e
+and_true false b e = refl
+
+module _ (all : List Item) (g : Past) (s : Shard) (told : List TxId) (cut : ℕ) (chosen : TxId → Bool) (h : Sound all g s) (le : s.durable ≤ cut) (once : Once g.asked) (all_over : (t : TxId) → tx_in t told ≡ true → tx_in t g.over ≡ true)
+    (here : Here s cut) (may : MayChoose s cut told chosen) where
+  abbrev front : List LogRecord
+  front = take cut s.local.log
+
+  abbrev kept : List Item
+  kept = filter (λ x. chosen x.tx) g.items
+
+  abbrev ms : List TxId
+  ms = filter chosen g.asked
+
+  -- whom a chosen one met is chosen
+  dep_chosen : (t p : TxId) → Dep (view_of s) t p → Lists s.local.log t p → chosen t ≡ true → chosen p ≡ true
+  dep_chosen t p d l k =
+      ⊎_elim (λ m. may.commits p (dep_cut all g s told cut h le once all_over t p d m))
+      (λ q. let e = (doubt_of all g s cut h here t q.0).prepared in
+      may.commits p (⊎_elim (λ i. list_all_at (committed_in (take cut s.local.log)) p (listed_in (take cut s.local.log) t) q.1 i) (λ i. place_there 0 (is_commit_of p) (take cut s.local.log) i.0 i.2) (listed_cut cut s.local.log t p e (l (prepared_cut cut s.local.log t e)))))
+      (may.are_here t k)
+
+  keeps_chosen : (x y : Item) → (Reaches x y → (x.tx ≡ y.tx) ⊎ Dep (view_of s) y.tx x.tx) × (Reaches x y → (x.tx ≡ y.tx) ⊎ Lists s.local.log y.tx x.tx) → Keeps (λ z. chosen z.tx) x y
+  keeps_chosen x y f reach k =
+      ⊎_elim (λ same. subst (λ t. chosen t ≡ true) (sym same) k)
+      (λ d. ⊎_elim (λ same. subst (λ t. chosen t ≡ true) (sym same) k) (λ l. dep_chosen y.tx x.tx d l k) (f.1 reach)) (f.0 reach)
+
+  kept_run : Runs g.start (filter (λ x. chosen x.tx) g.items)
+  kept_run = kept_runs (λ z. chosen z.tx) g.items g.start g.start h.kept.start_rises h.kept.start_rises h.kept.runs (later_mono _ _ keeps_chosen g.items (later_both _ _ g.items h.kept.causes h.kept.prepared.causes)) (λ q. inl refl)
+
+  kept_order : AllLater (λ x y. Clash x y → (x.tx ≡ y.tx) ⊎ (place ms x.tx < place ms y.tx)) (filter (λ x. chosen x.tx) g.items)
+  kept_order = later_mono _ _ (λ x y o c. ⊎_elim (λ same. inl same) (λ l. inr (filter_place chosen g.asked x.tx y.tx o.1 o.2 l)) (o.0 c)) (filter (λ x. chosen x.tx) g.items) (later_filter _ (λ z. chosen z.tx) g.items h.kept.order)
+
+  chosen_asked : (t : TxId) → Known g (view_of s) t → chosen t ≡ true → tx_in t g.asked ≡ true
+  chosen_asked t known k = ⊎_elim (λ m. item_asked all g s told cut h le once all_over t known m) (λ q. h.kept.closed t (doubt_closed all g s cut h here t q.0)) (may.are_here t k)
+
+  kept_in : AllByRecursion (λ x. tx_in x.tx ms ≡ true) (filter (λ x. chosen x.tx) g.items)
+  kept_in = all_mono _ _ (λ x k. in_kept chosen g.asked x.tx (chosen_asked x.tx k.0 k.1) k.1) (filter (λ x. chosen x.tx) g.items) (all_filter _ (λ z. chosen z.tx) g.items h.kept.known)
+
+  not_lost : (t : TxId) → chosen t ≡ true → Lost g s t → ⊥
+  not_lost t k l =
+      ⊎_elim (λ m. ⊎_elim (λ c. both_ways _ l.0 (cut_keeps cut s.local.log t c)) (λ o. both_ways _ l.2 (all_over t o)) (or_cases (committed_in (take cut s.local.log) t) (tx_in t told) m)) (λ q. both_ways _ l.1 (here t q.0)) (may.are_here t k)
+
+  both_false : (a : Bool) → (a && false) ≡ false
+  both_false true = refl
+  both_false false = refl
+
+  own_items : (t : TxId) → chosen t ≡ true → items_of t (filter (λ x. chosen x.tx) g.items) ≡ items_of t all
+  own_items t k =
+      filter_both (λ x. chosen x.tx) (λ x. tx_same x.tx t) g.items
+      ∙ filter_same _ _ g.items (λ x. at x (tx_same x.tx t) refl)
+      ∙ ⊎_elim (λ l. absurd (not_lost t k l)) (λ i. i) (h.told t)
+    where
+      at : (x : Item) (b : Bool) → tx_same x.tx t ≡ b → (chosen x.tx && b) ≡ b
+      at x true f = and_from _ _ (ap chosen (tx_true x.tx t f) ∙ k) refl
+      at x false f = both_false _
+
+  same_ops : (ts : List TxId) → AllByRecursion (λ t. chosen t ≡ true) ts → ops_by ts (filter (λ x. chosen x.tx) g.items) ≡ ops_by ts all
+  same_ops [] a = refl
+  same_ops (t ∷ ts) a = ap (λ xs. map (λ x. x.op) xs ∷ ops_by ts (filter (λ x. chosen x.tx) g.items)) (own_items t a.0) ∙ ap (λ l. map (λ x. x.op) (items_of t all) ∷ l) (same_ops ts a.1)
+
+  same_answers : (ts : List TxId) → AllByRecursion (λ t. chosen t ≡ true) ts → answers_by ts (filter (λ x. chosen x.tx) g.items) ≡ answers_by ts all
+  same_answers [] a = refl
+  same_answers (t ∷ ts) a = ap (λ xs. map (λ x. x.answer) xs ∷ answers_by ts (filter (λ x. chosen x.tx) g.items)) (own_items t a.0) ∙ ap (λ l. map (λ x. x.answer) (items_of t all) ∷ l) (same_answers ts a.1)
+
+  every : (ts : List TxId) → AllByRecursion (λ t. Unit {0}) ts
+  every [] = tt
+  every (t ∷ ts) = (tt, every ts)
+
+  ms_chosen : AllByRecursion (λ t. chosen t ≡ true) ms
+  ms_chosen = all_mono _ _ (λ t k. k.1) (filter chosen g.asked) (all_filter (λ t. Unit {0}) chosen g.asked (every g.asked))
+
+  -- ---- the map
+
+  abbrev wrote_chosen : TxId → Bool
+  wrote_chosen t = chosen t && wrote_in s.local.log t
+
+  -- a chosen one that wrote is committed in the cut, or in doubt there
+  wins_here : (t : TxId) → (chosen t && wrote_in s.local.log t) ≡ true → is_winner s.shard (take cut s.local.log) t ≡ true
+  wins_here t e =
+      let p = and_parts (chosen t) (wrote_in s.local.log t) e in
+      ⊎_elim
+      (λ m. or_left _ _ (⊎_elim (λ c. c) (λ o. ⊎_elim (λ d. durable_cut s.durable cut s.local.log t le d) (λ r. absurd (both_ways _ r.1 p.1)) (h.kept.over t (all_over t o))) (or_cases (committed_in (take cut s.local.log) t) (tx_in t told) m)))
+      (λ q. or_right (committed_in (take cut s.local.log) t) _ q.0) (may.are_here t p.0)
+
+  whole : take cut s.local.log ++ drop cut s.local.log ≡ s.local.log
+  whole = take-append-drop cut s.local.log
+
+  rest_unmoved : filter (of_kept (λ t. chosen t && wrote_in s.local.log t)) (standing s.local.log) ≡ filter (of_kept (λ t. chosen t && wrote_in s.local.log t)) (standing (take cut s.local.log))
+  rest_unmoved =
+      ap (λ l. filter (of_kept (λ t. chosen t && wrote_in s.local.log t)) (standing l)) (sym whole)
+      ∙ ap (filter (of_kept (λ t. chosen t && wrote_in s.local.log t))) (standing_append 0 (take cut s.local.log) (drop cut s.local.log) [])
+      ∙ unmoved_from (λ t. chosen t && wrote_in s.local.log t) (0 + length (take cut s.local.log)) (drop cut s.local.log) (standing (take cut s.local.log))
+      (λ t w. false_from_ne_true _ (λ k. ⊎_elim (λ e. tidy_closed (take cut s.local.log) (drop cut s.local.log) t (tidy_later [] (take cut s.local.log) (drop cut s.local.log) (subst (Tidy []) (sym whole) h.kept.tidy)) e w)
+      (λ i. sealed_closed (take cut s.local.log) (drop cut s.local.log) t (sealed_later [] (take cut s.local.log) (drop cut s.local.log) (subst (Sealed []) (sym whole) h.kept.prepared.sealed)) (doubt_of all g s cut h here t i).prepared w)
+      (or_cases (committed_in (take cut s.local.log) t) (tx_in t (in_doubt s.shard (take cut s.local.log))) (wins_here t k))))
+      (λ t u. false_from_ne_true _ (λ k. wins_alive all g s cut h here t (wins_here t k) (subst (λ l. undone_in l t ≡ true) whole (undone_append (take cut s.local.log) (drop cut s.local.log) t ∙ or_right (undone_in (take cut s.local.log) t) _ u))))
+
+  cut_alive : (t : TxId) → undone_in (take cut s.local.log) t ≡ true → (chosen t && wrote_in s.local.log t) ≡ false
+  cut_alive t u = false_from_ne_true _ (λ k. wins_alive all g s cut h here t (wins_here t k) (subst (λ l. undone_in l t ≡ true) whole (undone_append (take cut s.local.log) (drop cut s.local.log) t ∙ or_left _ _ u)))
+
+  writers_wrote : AllByRecursion (λ w. chosen w.tx ≡ (chosen w.tx && wrote_in s.local.log w.tx)) (standing s.local.log)
+  writers_wrote = all_mono _ _ (λ w u. and_true (chosen w.tx) (wrote_in s.local.log w.tx) (wrote_of s.local.log w.tx w.key u)) (standing s.local.log) (standing_updates s.local.log)
+
+  base_chosen : AllByRecursion (λ w. chosen w.tx ≡ true) g.base
+  base_chosen = all_mono _ _ (λ w e. may.commits w.tx e) g.base (cut_base all g s told cut h le once all_over)
+
+  cut_map : (q : ℕ) → map_get q (fold_updates chosen (take cut s.local.log) []) ≡ top_value q (filter (of_kept chosen) (standing s.local.log))
+  cut_map q =
+      ap (map_get q) (fold_writers chosen (λ t. chosen t && wrote_in s.local.log t) (take cut s.local.log) []
+      (λ t w. and_true (chosen t) (wrote_in s.local.log t) (subst (λ l. wrote_in l t ≡ true) whole (wrote_append (take cut s.local.log) (drop cut s.local.log) t ∙ or_left _ _ w))))
+      ∙ fold_values (λ t. chosen t && wrote_in s.local.log t) 0 (take cut s.local.log) [] [] q (whole_log (λ t. chosen t && wrote_in s.local.log t) (take cut s.local.log) cut_alive) refl
+      ∙ ap (top_value q) (sym rest_unmoved ∙ sym (filter_alike chosen (λ t. chosen t && wrote_in s.local.log t) (standing s.local.log) writers_wrote))
+
+  same_chosen : after g.start (filter (λ x. chosen x.tx) g.items) ≡ fold_updates chosen (take cut s.local.log) []
+  same_chosen =
+      same_map (after g.start (filter (λ x. chosen x.tx) g.items)) (fold_updates chosen (take cut s.local.log) [])
+      (rising_all (filter (λ x. chosen x.tx) g.items) g.start h.kept.start_rises) (fold_rises chosen (take cut s.local.log) [] tt)
+      (λ q. pile_value (filter (λ x. chosen x.tx) g.items) g.start g.base q kept_run (h.kept.base_value q)
+      ∙ ap (λ ws. top_value q (pile (filter (λ x. chosen x.tx) g.items) ws)) (sym (filter_all_kept chosen g.base base_chosen))
+      ∙ ap (top_value q) (sym (pile_keep chosen g.items g.base) ∙ ap (filter (of_kept chosen)) (sym h.kept.standing_is))
+      ∙ sym (cut_map q))
+
+  pub chosen_run : (replay_answers g.start (ops_by (filter chosen g.asked) all) ≡ answers_by (filter chosen g.asked) all) × (replay_map g.start (ops_by (filter chosen g.asked) all) ≡ fold_updates chosen (take cut s.local.log) [])
+  chosen_run =
+      let ps : List Placed = map (placed ms) kept in
+      let o : Once ms = once_filter chosen g.asked once in
+      let run = is_serial_run g.start ps (length ms) h.kept.start_rises (order_placed ms kept kept_order) (runs_placed ms g.start kept kept_run) (below_placed ms kept kept_in) in
+      let ops : map ops_of (grouped_from 0 (length ms) ps) ≡ ops_by ms all = ap (map ops_of) (groups_are ms kept o) ∙ all_ops ms ms kept ∙ same_ops ms ms_chosen in
+      let answers : map answers_of (grouped_from 0 (length ms) ps) ≡ answers_by ms all = ap (map answers_of) (groups_are ms kept o) ∙ all_answers ms ms kept ∙ same_answers ms ms_chosen in
+      (ap (replay_answers g.start) (sym ops) ∙ run.0 ∙ answers, ap (replay_map g.start) (sym ops) ∙ run.1 ∙ after_placed ms g.start kept ∙ same_chosen)
+
+  pub chosen_before : (t p : TxId) → is_pair g.met t p ≡ true → chosen t ≡ true → (chosen p ≡ true) × (place (filter chosen g.asked) p < place (filter chosen g.asked) t)
+  chosen_before t p e k =
+      ⊎_elim
+      (λ o. absurd (not_lost t k o))
+      (λ d. let q = dep_chosen t p d.0 (h.kept.prepared.recover t p e) k in (q, filter_place chosen g.asked p t q k d.1))
+      (h.kept.recover t p e)
+
+pub chosen_replay : ChosenReplay
+chosen_replay shard run before all asked told met s cut chosen leads le here may =
+    let b = held shard run before all asked told met s leads in
+    let r = chosen_run all b.0 s told cut chosen b.1 le (subst Once (sym b.4) b.5) b.6 here may in (
+      subst (λ l. replay_answers (stands (before ∷ [])) (ops_by (filter chosen l) all) ≡ answers_by (filter chosen l) all) b.4 (subst (λ m. replay_answers m (ops_by (filter chosen (b.0).asked) all) ≡ answers_by (filter chosen (b.0).asked) all) b.2 r.0),
+      subst (λ l. replay_map (stands (before ∷ [])) (ops_by (filter chosen l) all) ≡ fold_updates chosen (take cut s.local.log) []) b.4 (subst (λ m. replay_map m (ops_by (filter chosen (b.0).asked) all) ≡ fold_updates chosen (take cut s.local.log) []) b.2 r.1),
+    )
+
+pub chosen_stand_before : ChosenStandBefore
+chosen_stand_before shard run before all asked told met s cut chosen t p leads le here may e k =
+    let b = held shard run before all asked told met s leads in
+    let r = chosen_before all b.0 s told cut chosen b.1 le (subst Once (sym b.4) b.5) b.6 here may t p (subst (λ m. is_pair m t p ≡ true) (sym b.7) e) k in
+    (r.0, subst (λ l. place (filter chosen l) p < place (filter chosen l) t) b.4 r.1)

@@ -1,0 +1,5 @@
+use Rattle.shard_laws.proofs.Choosing.{chosen_replay}
+use Rattle.shard_laws.proofs.laws.chosen_replay.Goals as goal
+
+pub returns : goal.returns
+returns c = chosen_replay

@@ -1,0 +1,141 @@
+-- The records of those that win, one record of the log after another.
+use Rattle.std.proofs.Common.{◌≡◌, ℕ, ◌<◌, Bool, true, false, cond, not, ◌||◌, ◌==◌, List, [], ◌∷◌, ◌++◌, Option, Some, None, is_some, refl, sym, ap, ◌∙◌, eq-eqb, arith}
+use Rattle.std.specs.List.{filter}
+use Rattle.std.specs.Map.{lookup}
+use Rattle.std.specs.declared.cmp.Ordering.{Ordering}
+use Rattle.std.specs.declared.cmp.Ordering.TheVariants.{Less, Equal, Greater}
+use Rattle.std.specs.Ordering.{nat_cmp, match_ordering}
+use Rattle.std.specs.FinMap.{put}
+use Rattle.std.specs.FinMap.Entries.{by_order}
+use Rattle.std.proofs.lemmas.Bool.{both_ways, ne_eqb}
+use Rattle.std.proofs.lemmas.Bool.Decides.{nat_tests}
+use Rattle.clv_base.specs.declared.names.TxId.{TxId}
+use Rattle.clv_base.specs.declared.logs.LogRecord.{LogRecord}
+use Rattle.clv_base.specs.declared.logs.LogRecord.TheVariants.{Update, Clr, Prepare, Commit, Abort, End, Restart}
+use Rattle.clv_base.specs.declared.modes.Found.TheVariants.{Absent}
+use Rattle.clv_base.specs.Orders.{Table, tx_in}
+use Rattle.clv_base.specs.Maps.{KeyMap, map_set}
+use Rattle.clv_base.specs.Logs.{is_commit_of, committed_in, is_winner, in_doubt, fold_updates}
+use Rattle.clv_base.specs.Needs.{Records, found_at, found_by, record_set}
+use Rattle.clv_base.specs.Restarts.{records_of, with_ghosts, ghost_if_absent}
+use Rattle.log_facts.specs.declared.facts.TxFacts.{TxFacts}
+use Rattle.log_facts.specs.Facts.{Knows, known}
+use Rattle.log_facts.proofs.Places.{is_some_place}
+use Rattle.cascade_undo.proofs.Bools.{both}
+use Rattle.shard_recovery.specs.Winning.{wins_in, records_after}
+
+-- ---- a record taken away
+
+abbrev is_other : ℕ → ℕ × Option ℕ → Bool
+is_other k r = not (r.0 == k)
+
+apart : (a b : ℕ) → (a == b) ≡ false → (b == a) ≡ false
+apart a b e = ne_eqb b a (λ s. both_ways _ e (eq-eqb a b (sym s)))
+
+some_found : (v : Option ℕ) → found_by (Some v) ≡ Absent → ⊥
+some_found None e = absurd cc
+some_found (Some x) e = absurd cc
+
+pub none_gone : (k : ℕ) (rs : Records) → found_at k rs ≡ Absent → rs ≡ filter (λ r. not (r.0 == k)) rs
+none_gone k [] e = refl
+none_gone k (r ∷ rs) e =
+    both (λ b. (k == r.0) ≡ b → found_by (cond b (Some r.1) (lookup (◌==◌ k) rs)) ≡ Absent → r ∷ rs ≡ filter (is_other k) (r ∷ rs)) (k == r.0)
+    (λ _ _ h. absurd (some_found r.1 h))
+    (λ _ o h. ap (λ l. r ∷ l) (none_gone k rs h) ∙ ap (λ b. cond (not b) (r ∷ filter (is_other k) rs) (filter (is_other k) rs)) (sym (apart k r.0 o))) refl e
+
+abbrev set_by : Ordering → ℕ → Option ℕ → ℕ × Option ℕ → Records → Records
+set_by o k v r rs = match_ordering o ((k, v) ∷ r ∷ rs) ((r.0, v) ∷ rs) (r ∷ record_set k v rs)
+
+pub found_set : (k : ℕ) (v : Option ℕ) (rs : Records) → lookup (◌==◌ k) (record_set k v rs) ≡ Some v
+found_set k v [] = ap (λ b. cond b (Some v) None) (eq-eqb k k refl)
+found_set k v (r ∷ rs) = at (nat_cmp k r.0) refl (found_set k v rs)
+  where
+    at : (o : Ordering) → nat_cmp k r.0 ≡ o → lookup (◌==◌ k) (record_set k v rs) ≡ Some v → lookup (◌==◌ k) (set_by o k v r rs) ≡ Some v
+    at Less e more = ap (λ b. cond b (Some v) (lookup (◌==◌ k) (r ∷ rs))) (eq-eqb k k refl)
+    at Equal e more = let same : k ≡ r.0 = grind (arith, nat_tests) in ap (λ b. cond b (Some v) (lookup (◌==◌ k) rs)) (eq-eqb k r.0 same)
+    at Greater e more = let l : r.0 < k = grind (arith, nat_tests) in ap (λ b. cond b (Some r.1) (lookup (◌==◌ k) (record_set k v rs))) (ne_eqb k r.0 (λ s. absurd (omega arith))) ∙ more
+
+pub set_gone : (k : ℕ) (v : Option ℕ) (rs : Records) → filter (λ r. not (r.0 == k)) (record_set k v rs) ≡ filter (λ r. not (r.0 == k)) rs
+set_gone k v [] = ap (λ b. cond (not b) ((k, v) ∷ []) []) (eq-eqb k k refl)
+set_gone k v (r ∷ rs) = at (nat_cmp k r.0) refl (set_gone k v rs)
+  where
+    at : (o : Ordering) → nat_cmp k r.0 ≡ o → filter (is_other k) (record_set k v rs) ≡ filter (is_other k) rs → filter (is_other k) (set_by o k v r rs) ≡ filter (is_other k) (r ∷ rs)
+    at Less e more = ap (λ b. cond (not b) ((k, v) ∷ filter (is_other k) (r ∷ rs)) (filter (is_other k) (r ∷ rs))) (eq-eqb k k refl)
+    at Equal e more =
+        let same : r.0 ≡ k = grind (arith, nat_tests) in let is : (r.0 == k) ≡ true = eq-eqb r.0 k same in
+        ap (λ b. cond (not b) ((r.0, v) ∷ filter (is_other k) rs) (filter (is_other k) rs)) is ∙ sym (ap (λ b. cond (not b) (r ∷ filter (is_other k) rs) (filter (is_other k) rs)) is)
+    at Greater e more = ap (λ l. cond (not (r.0 == k)) (r ∷ l) l) more
+
+-- ---- records of a map
+
+pub records_set : (k v : ℕ) (m : KeyMap) → record_set k (Some v) (records_of m) ≡ records_of (put nat_cmp k v m)
+records_set k v [] = refl
+records_set k v (e ∷ es) = at (nat_cmp k e.0) (records_set k v es)
+  where
+    at : (o : Ordering) → record_set k (Some v) (records_of es) ≡ records_of (put nat_cmp k v es)
+        → match_ordering o ((k, Some v) ∷ (e.0, Some e.1) ∷ records_of es) ((e.0, Some v) ∷ records_of es) ((e.0, Some e.1) ∷ record_set k (Some v) (records_of es))
+        ≡ records_of (by_order o ((k, v) ∷ e ∷ es) ((e.0, v) ∷ es) (e ∷ put nat_cmp k v es))
+    at Less ih = refl
+    at Equal ih = refl
+    at Greater ih = ap (λ l. (e.0, Some e.1) ∷ l) ih
+
+pub records_gone : (k : ℕ) (m : KeyMap) → filter (λ r. not (r.0 == k)) (records_of m) ≡ records_of (map_set k None m)
+records_gone k [] = refl
+records_gone k (e ∷ es) =
+    both (λ b. cond b ((e.0, Some e.1) ∷ filter (is_other k) (records_of es)) (filter (is_other k) (records_of es)) ≡ records_of (cond b (e ∷ map_set k None es) (map_set k None es))) (not (e.0 == k))
+    (λ _. ap (λ l. (e.0, Some e.1) ∷ l) (records_gone k es)) (λ _. records_gone k es)
+
+-- ---- one record more
+
+pub fold_more : (keep : TxId → Bool) (xs : List LogRecord) (r : LogRecord) (m : KeyMap) → fold_updates keep (xs ++ r ∷ []) m ≡ fold_updates keep (r ∷ []) (fold_updates keep xs m)
+fold_more keep [] r m = refl
+fold_more keep (Update tx key before after ∷ xs) r m = fold_more keep xs r (cond (keep tx) (map_set key after m) m)
+fold_more keep (Clr tx undo_next key after ∷ xs) r m = fold_more keep xs r m
+fold_more keep (Prepare tx home predecessors ∷ xs) r m = fold_more keep xs r m
+fold_more keep (Commit tx parts ∷ xs) r m = fold_more keep xs r m
+fold_more keep (Abort tx ∷ xs) r m = fold_more keep xs r m
+fold_more keep (End tx ∷ xs) r m = fold_more keep xs r m
+fold_more keep (Restart run epoch ∷ xs) r m = fold_more keep xs r m
+
+pub fold_alike : (f g : TxId → Bool) → ((t : TxId) → f t ≡ g t) → (xs : List LogRecord) (m : KeyMap) → fold_updates f xs m ≡ fold_updates g xs m
+fold_alike f g h [] m = refl
+fold_alike f g h (Update tx key before after ∷ xs) m = ap (λ b. fold_updates f xs (cond b (map_set key after m) m)) (h tx) ∙ fold_alike f g h xs (cond (g tx) (map_set key after m) m)
+fold_alike f g h (Clr tx undo_next key after ∷ xs) m = fold_alike f g h xs m
+fold_alike f g h (Prepare tx home predecessors ∷ xs) m = fold_alike f g h xs m
+fold_alike f g h (Commit tx parts ∷ xs) m = fold_alike f g h xs m
+fold_alike f g h (Abort tx ∷ xs) m = fold_alike f g h xs m
+fold_alike f g h (End tx ∷ xs) m = fold_alike f g h xs m
+fold_alike f g h (Restart run epoch ∷ xs) m = fold_alike f g h xs m
+
+pub ghosts_first : (txs : List TxId) (r : LogRecord) (xs : List LogRecord) (rs : Records) → with_ghosts txs (r ∷ xs) rs ≡ with_ghosts txs xs (with_ghosts txs (r ∷ []) rs)
+ghosts_first txs (Update tx key before after) xs rs = refl
+ghosts_first txs (Clr tx undo_next key after) xs rs = refl
+ghosts_first txs (Prepare tx home predecessors) xs rs = refl
+ghosts_first txs (Commit tx parts) xs rs = refl
+ghosts_first txs (Abort tx) xs rs = refl
+ghosts_first txs (End tx) xs rs = refl
+ghosts_first txs (Restart run epoch) xs rs = refl
+
+pub ghosts_alike : (ts us : List TxId) → ((t : TxId) → tx_in t ts ≡ tx_in t us) → (xs : List LogRecord) (rs : Records) → with_ghosts ts xs rs ≡ with_ghosts us xs rs
+ghosts_alike ts us h [] rs = refl
+ghosts_alike ts us h (Update tx key before after ∷ xs) rs =
+    ap (λ b. with_ghosts ts xs (cond b (ghost_if_absent key rs (found_at key rs)) rs)) (h tx) ∙ ghosts_alike ts us h xs (cond (tx_in tx us) (ghost_if_absent key rs (found_at key rs)) rs)
+ghosts_alike ts us h (Clr tx undo_next key after ∷ xs) rs = ghosts_alike ts us h xs rs
+ghosts_alike ts us h (Prepare tx home predecessors ∷ xs) rs = ghosts_alike ts us h xs rs
+ghosts_alike ts us h (Commit tx parts ∷ xs) rs = ghosts_alike ts us h xs rs
+ghosts_alike ts us h (Abort tx ∷ xs) rs = ghosts_alike ts us h xs rs
+ghosts_alike ts us h (End tx ∷ xs) rs = ghosts_alike ts us h xs rs
+ghosts_alike ts us h (Restart run epoch ∷ xs) rs = ghosts_alike ts us h xs rs
+
+-- ---- who wins
+
+pub wins_known : (m : Table TxFacts) (log : List LogRecord) (doubtful : List TxId) (t : TxId) → Knows m log → (is_some (known m t).commit || tx_in t doubtful) ≡ wins_in log doubtful t
+wins_known m log doubtful t knows = ap (λ b. b || tx_in t doubtful) (ap (λ (f : TxFacts). is_some f.commit) (knows t) ∙ is_some_place 0 (is_commit_of t) log)
+
+-- the records of a restart, from sets that have the same members
+pub filled : (shard : ℕ) (log : List LogRecord) (names doubtful : List TxId) (first last : Records) → ((t : TxId) → tx_in t names ≡ tx_in t doubtful) → doubtful ≡ in_doubt shard log
+    → first ≡ records_of (fold_updates (wins_in log names) log []) → last ≡ with_ghosts names log first → last ≡ records_after shard log
+filled shard log names doubtful first last same is f l =
+    let alike : (t : TxId) → tx_in t names ≡ tx_in t (in_doubt shard log) = λ t. same t ∙ ap (tx_in t) is in
+    l ∙ ghosts_alike names (in_doubt shard log) alike log first
+    ∙ ap (with_ghosts (in_doubt shard log) log) (f ∙ ap records_of (fold_alike (wins_in log names) (is_winner shard log) (λ t. ap (λ b. committed_in log t || b) (alike t)) log []))

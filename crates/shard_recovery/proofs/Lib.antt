@@ -1,0 +1,4 @@
+pub mod Redone
+pub mod Whole
+pub mod Folded
+pub mod Lasting

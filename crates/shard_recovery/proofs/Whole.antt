@@ -1,0 +1,40 @@
+-- The whole log of a restart.
+use Rattle.std.proofs.Common.{◌≡◌, ℕ, ◌≤◌, Bool, true, false, cond, not, List, [], ◌∷◌, ◌++◌, length, sym, ap, ◌∙◌, append_assoc, arith}
+use Rattle.std.specs.List.{filter}
+use Rattle.clv_base.specs.declared.names.TxId.{TxId}
+use Rattle.clv_base.specs.declared.logs.LogRecord.{LogRecord}
+use Rattle.clv_base.specs.declared.logs.LogRecord.TheVariants.{Restart}
+use Rattle.clv_base.specs.Orders.{Table}
+use Rattle.clv_base.specs.Logs.{standing, aborted_in}
+use Rattle.clv_base.specs.Undo.{clrs_of}
+use Rattle.clv_base.specs.Restarts.{losers, log_after_restart}
+use Rattle.log_facts.specs.declared.facts.TxFacts.{TxFacts}
+use Rattle.log_facts.specs.Facts.{Knows, known}
+use Rattle.protocol_laws.proofs.Sets.{filter_alike}
+use Rattle.shard_recovery.specs.Redoing.{unaborted, aborts}
+use Rattle.shard_recovery.proofs.Redone.{standing_aborts}
+
+pub open_is : (m : Table TxFacts) (log : List LogRecord) (txs fresh : List TxId) → Knows m log → fresh ≡ filter (λ t. not (known m t).is_aborted) txs → fresh ≡ unaborted log txs
+open_is m log txs fresh knows e = e ∙ filter_alike (λ t. not (known m t).is_aborted) (λ t. not (aborted_in log t)) txs (λ t. ap (λ (f : TxFacts). not f.is_aborted) (knows t))
+
+pub fewer : (f : TxId → Bool) (txs : List TxId) → length (filter f txs) ≤ length txs
+fewer f [] = omega arith
+fewer f (t ∷ ts) = at (f t) (fewer f ts)
+  where
+    at : (b : Bool) → length (filter f ts) ≤ length ts → length (cond b (t ∷ filter f ts) (filter f ts)) ≤ length (t ∷ ts)
+    at true h = omega arith
+    at false h = omega arith
+
+module _ (log mid : List LogRecord) (txs fresh : List TxId) (e : mid ≡ log ++ aborts fresh) where
+  pub stands : standing mid ≡ standing log
+  stands = ap standing e ∙ standing_aborts log fresh
+
+  pub log_whole : (shard run epoch : ℕ) (undone after : List LogRecord) → txs ≡ losers shard log → fresh ≡ unaborted log txs → undone ≡ mid ++ clrs_of txs (standing mid) → after ≡ undone ++ Restart run epoch ∷ []
+      → after ≡ log_after_restart shard log run epoch
+  log_whole shard run epoch undone after all some u a =
+      a ∙ ap (λ l. l ++ Restart run epoch ∷ []) (u ∙ ap (λ ws. mid ++ clrs_of txs ws) stands ∙ ap (λ l. l ++ clrs_of txs (standing log)) e)
+      ∙ append_assoc (log ++ aborts fresh) (clrs_of txs (standing log)) (Restart run epoch ∷ [])
+      ∙ append_assoc log (aborts fresh) (clrs_of txs (standing log) ++ Restart run epoch ∷ [])
+      ∙ ap (λ l. log ++ l) (sym (append_assoc (aborts fresh) (clrs_of txs (standing log)) (Restart run epoch ∷ [])))
+      ∙ ap (λ ts. log ++ ((aborts ts ++ clrs_of txs (standing log)) ++ Restart run epoch ∷ [])) some
+      ∙ ap (λ ts. log ++ ((aborts (unaborted log ts) ++ clrs_of ts (standing log)) ++ Restart run epoch ∷ [])) all

@@ -1,0 +1,132 @@
+//! The records that a log leaves of those that win in it.
+ghost use Rattle.std.specs.Prelude.{◌≡◌, ◌≤◌, ◌<◌, ◌+◌, ◌==◌, ℕ, [], ◌∷◌, List, not, OnOk};
+ghost use Rattle.std.specs.List.{filter};
+ghost use Rattle.clv_base.specs.Maps.{KeyMap, map_set};
+ghost use Rattle.clv_base.specs.Logs.{fold_updates, in_doubt};
+ghost use Rattle.clv_base.specs.Restarts.{records_of, with_ghosts};
+ghost use Rattle.clv_base.specs.declared.logs.LogRecord.{LogRecord as Record};
+ghost use Rattle.log_facts.specs.Facts.{Knows};
+ghost use Rattle.shard_recovery.specs.Winning.{wins_in, records_after};
+
+use crate::redo::hide;
+use clv_base::logs::LogRecord;
+use clv_base::modes::Found;
+use clv_base::names::TxId;
+use log_facts::{LogFacts, TxSet};
+use ordered_store::Store;
+use std::alloc::{AllocError, Global};
+
+/// Takes the record at a key away, if there is one.
+fn remove<S: Store>(store: &mut S, key: u64)
+    ensures records { S.records store.new ≡ filter (λ r. not (r.0 == key)) (S.records store.old) }
+    ensures room { S.room store.old ≤ S.room store.new }
+{
+    match store.get(key) {
+        Found::Absent => {}
+        Found::Live(_) => {
+            store.hide(key);
+            store.purge(key);
+        }
+        Found::Ghost => store.purge(key),
+    }
+}
+
+/// Sets the value at a key, or takes its record away.
+fn set<S: Store>(store: &mut S, key: u64, value: Option<u64>)
+    requires { 0 < S.room store.old }
+    ensures records { (m : KeyMap) → S.records store.old ≡ records_of m → S.records store.new ≡ records_of (map_set key value m) }
+    ensures room { S.room store.old ≤ S.room store.new + 1 }
+{
+    match value {
+        Some(value) => {
+            store.set(key, value);
+        }
+        None => remove(store, key),
+    }
+}
+
+/// Whether the transaction is committed in the log that is known, or one of those in doubt.
+fn wins(facts: &LogFacts, doubtful: &TxSet, tx: TxId) -> bool
+    ensures { (log : List Record) → Knows facts.now log → result ≡ wins_in log doubtful.now tx }
+{
+    facts.get(tx).commit.is_some() || doubtful.contains(tx)
+}
+
+/// Does an UPDATE of a winner again, and no other record.
+fn fold_one<S: Store>(store: &mut S, facts: &LogFacts, doubtful: &TxSet, found: &LogRecord)
+    requires { 0 < S.room store.old }
+    ensures records { (log : List Record) → Knows facts.now log → (m : KeyMap) → S.records store.old ≡ records_of m → S.records store.new ≡ records_of (fold_updates (wins_in log doubtful.now) (found.now ∷ []) m) }
+    ensures room { S.room store.old ≤ S.room store.new + 1 }
+{
+    match found {
+        LogRecord::Update { tx, key, after, .. } => {
+            if wins(facts, doubtful, *tx) {
+                set(store, *key, *after);
+            }
+        }
+        _ => {}
+    }
+}
+
+/// Does the UPDATEs of the winners again, in order, in an empty store.
+fn fold<S: Store>(
+    store: &mut S,
+    facts: &LogFacts,
+    doubtful: &TxSet,
+    log: &[LogRecord],
+) -> Result<(), AllocError>
+    requires knows { Knows facts.now log.now }
+    requires empty { S.records store.old ≡ [] }
+    ensures ok { OnOk result (S.records store.new ≡ records_of (fold_updates (wins_in log.now doubtful.now) log.now [])) }
+{
+    store.reserve(log.len())?;
+    for found in log {
+        fold_one(store, facts, doubtful, found);
+    }
+    Ok(())
+}
+
+/// Makes a ghost at the key of an UPDATE of one of these, where there is no record.
+fn haunt_one<S: Store>(store: &mut S, doubtful: &TxSet, found: &LogRecord)
+    requires { 0 < S.room store.old }
+    ensures records { S.records store.new ≡ with_ghosts doubtful.now (found.now ∷ []) (S.records store.old) }
+    ensures room { S.room store.old ≤ S.room store.new + 1 }
+{
+    match found {
+        LogRecord::Update { tx, key, .. } => {
+            if doubtful.contains(*tx) && store.get(*key) == Found::Absent {
+                hide(store, *key);
+            }
+        }
+        _ => {}
+    }
+}
+
+/// Makes a ghost at each key that these wrote and that has no record.
+fn haunt<S: Store>(store: &mut S, doubtful: &TxSet, log: &[LogRecord]) -> Result<(), AllocError>
+    ensures ok { OnOk result (S.records store.new ≡ with_ghosts doubtful.now log.now (S.records store.old)) }
+{
+    store.reserve(log.len())?;
+    for found in log {
+        haunt_one(store, doubtful, found);
+    }
+    Ok(())
+}
+
+/// Puts the records of a shard whose log is this into an empty store, as a restart leaves them: the values that the UPDATEs of the committed
+/// and of those in doubt leave, in the log's order, and ghosts at the keys that those in doubt wrote and that have no value. An `Err` leaves
+/// the store in the middle of it.
+pub(crate) fn fill<S: Store>(
+    alloc: Global,
+    store: &mut S,
+    log: &[LogRecord],
+    doubtful: &[TxId],
+) -> Result<(), AllocError>
+    requires empty { S.records store.old ≡ [] }
+    ensures ok { OnOk result ((shard : ℕ) → doubtful.now ≡ in_doubt shard log.now → S.records store.new ≡ records_after shard log.now) }
+{
+    let facts = LogFacts::of_log(alloc, log)?;
+    let names = TxSet::of(alloc, doubtful)?;
+    fold(store, &facts, &names, log)?;
+    haunt(store, &names, log)
+}
