@@ -66,6 +66,36 @@ fn gap(anchor: Anchor, part: Part) -> Need {
     }
 }
 
+/// Takes X on a key, for which it makes room.
+fn hold<L: Locks>(table: &mut L, session: u32, at: u64) -> Result<(), lock_table::Memory> {
+    let anchor = Anchor::At(at);
+    let tx = tx(session);
+    table.reserve(tx, &[anchor], 1)?;
+    table.take(
+        tx,
+        birth(session),
+        &[Need {
+            anchor,
+            mode: Mode {
+                key: Part::X,
+                gap: Part::N,
+            },
+        }],
+    );
+    Ok(())
+}
+
+/// The needs of an operation and what it answers.
+fn asked(alloc: Global, store: &SortedStore, op: Op) -> Result<(Vec<Need>, Answer), AllocError> {
+    let Plan {
+        needs,
+        answer,
+        insert: _,
+        write: _,
+    } = plan(alloc, store, op)?;
+    Ok((needs, answer))
+}
+
 #[test]
 fn needs_of_one_key(rt: HostRuntime) -> Result<(), Fail> {
     let alloc = rt.alloc();
@@ -95,25 +125,23 @@ fn a_scan_needs_its_records_and_its_gaps(rt: HostRuntime) -> Result<(), Fail> {
         key: Part::S,
         gap: Part::S,
     };
-    let inside = plan(alloc, &store, Op::Scan(15, 30))?;
-    let want = [
-        gap(Anchor::At(10), Part::S),
-        Need {
-            anchor: Anchor::At(20),
-            mode: both,
-        },
-        Need {
-            anchor: Anchor::At(30),
-            mode: both,
-        },
-    ];
-    assert!(rt; inside.needs.as_slice() == want.as_slice());
-    let Answer::Pairs(pairs) = inside.answer else {
+    let at_20 = Need {
+        anchor: Anchor::At(20),
+        mode: both,
+    };
+    let at_30 = Need {
+        anchor: Anchor::At(30),
+        mode: both,
+    };
+    let (inside, answer) = asked(alloc, &store, Op::Scan(15, 30))?;
+    let want = [gap(Anchor::At(10), Part::S), at_20, at_30];
+    assert!(rt; inside.as_slice() == want.as_slice());
+    let Answer::Pairs(pairs) = answer else {
         return Err(AllocError.into());
     };
     assert!(rt; pairs.as_slice() == [(30, 3)].as_slice());
-    let from_a_record = plan(alloc, &store, Op::Scan(20, 25))?;
-    assert!(rt; from_a_record.needs.as_slice() == [want[1]].as_slice());
+    let (from_a_record, _) = asked(alloc, &store, Op::Scan(20, 25))?;
+    assert!(rt; from_a_record.as_slice() == [at_20].as_slice());
     Ok(())
 }
 
@@ -165,10 +193,9 @@ fn closed_writers_are_violated(rt: HostRuntime) -> Result<(), Fail> {
     let alloc = rt.alloc();
     let mut locks = ListLocks::new(alloc);
     let held = [key(10, Part::X)];
-    if locks.reserve(tx(2), &[Anchor::At(10)], 1).is_err() {
+    if hold(&mut locks, 2, 10).is_err() {
         return Err(AllocError.into());
     }
-    locks.take(tx(2), birth(2), &held);
     let deps = Deps::new(alloc)?;
     let young = meet(alloc, &locks, &deps, tx(3), birth(3), &held);
     assert!(rt; matches!(young, Ok(Meeting::Die { older }) if older == tx(2)));
