@@ -99,7 +99,8 @@ fn error_of(error: FlushError) -> RecoverError
 /// adds to the log (an ABORT for each loser that has none, the CLRs of the losers' writes that stand, and the RESTART) is durable when it returns.
 /// Takes time linear in the log, times a logarithm.
 ///
-/// `Failed` comes where the disk failed. `Memory` comes before anything is written, and after either the store is in the middle of it.
+/// `Failed` comes where the disk failed, `Memory` before anything is written. After either the store is in the middle of it: drop it, and begin
+/// again with an empty one.
 pub fn recover<S: Store, G: Gate>(
     alloc: Global,
     store: &mut S,
@@ -122,6 +123,7 @@ pub fn recover<S: Store, G: Gate>(
     ensures unended { IfOk result (λ r. r.unended.items ≡ unended_in r.buffer.records r.buffer.records) }
     ensures gate { IfOk result (λ r. (G.is_shut gate.new ≡ false) × Only r.buffer.records (G.logs gate.new)) }
     ensures failed { IsErrOf result RecoverError.Failed → IsBegun shard records.items run epoch (G.logs gate.new) }
+    ensures down { IsErrOf result RecoverError.Failed → G.is_shut gate.new ≡ true }
     ensures memory { IsErrOf result RecoverError.Memory → gate.new ≡ gate.old }
     ensures cause { CountsRecovery (G.faults gate.old) (G.faults gate.new) result }
     ensures shard { G.shard gate.new ≡ G.shard gate.old }

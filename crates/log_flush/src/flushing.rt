@@ -38,6 +38,7 @@ fn flush_next<G: Gate>(
     ensures grows { OnOk result (buffer.old.durable < buffer.new.durable) }
     ensures rest { OnOk result (AtRest buffer.new (G.is_shut gate.new) (G.logs gate.new)) }
     ensures failed { OnErr result ((result ≡ Err FlushError.Failed) × (buffer.new ≡ flown buffer.old) × InFlight buffer.new (G.logs gate.new)) }
+    ensures down { IsErrOf result FlushError.Failed → G.is_shut gate.new ≡ true }
     ensures cause { CountsFlush (G.faults gate.old) (G.faults gate.new) result }
     ensures shard { G.shard gate.new ≡ G.shard gate.old }
     ensures room { vec_capacity payload.old ≤ vec_capacity payload.new }
@@ -73,6 +74,7 @@ pub fn flush_all<G: Gate>(
     ensures rest { OnOk result (AtRest buffer.new (G.is_shut gate.new) (G.logs gate.new)) }
     ensures failed { IsErrOf result FlushError.Failed → InFlight buffer.new (G.logs gate.new) }
     ensures memory { IsErrOf result FlushError.Memory → (buffer.new ≡ buffer.old) × (gate.new ≡ gate.old) }
+    ensures down { IsErrOf result FlushError.Failed → G.is_shut gate.new ≡ true }
     ensures cause { CountsFlush (G.faults gate.old) (G.faults gate.new) result }
     ensures shard { G.shard gate.new ≡ G.shard gate.old }
 {
