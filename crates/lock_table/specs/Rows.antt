@@ -1,11 +1,12 @@
 -- What contracts say of the locks beside the protocol's definitions.
-use Rattle.std.specs.Prelude.{ℕ, List, length, map}
-use Rattle.std.specs.List.{filter}
+use Rattle.std.specs.Prelude.{◌≡◌, ℕ, Bool, true, not, ◌&&◌, List, [], ◌∷◌, length, map, Option, Some, None}
+use Rattle.std.specs.List.{filter, list_any}
+use Rattle.clv_base.specs.declared.names.TxId.{TxId}
 use Rattle.clv_base.specs.declared.modes.Anchor.{Anchor}
 use Rattle.clv_base.specs.declared.modes.Need.{Need}
 use Rattle.clv_base.specs.declared.modes.Holder.{Holder}
-use Rattle.clv_base.specs.Locks.{Locks, holds_gap}
-use Rattle.clv_base.specs.Orders.{anchor_same}
+use Rattle.clv_base.specs.Locks.{Locks, holds_gap, release}
+use Rattle.clv_base.specs.Orders.{tx_same, anchor_same}
 
 -- how many hold the anchor's gap
 abbrev pub gaps_held : Anchor → Locks → ℕ
@@ -18,3 +19,22 @@ holders_on a rows = map (λ r. r.1) (filter (λ r. anchor_same a r.0) rows)
 -- the anchors of the needs
 abbrev pub anchors_of : List Need → List Anchor
 anchors_of needs = map (λ n. n.anchor) needs
+
+-- ---- giving up one lock
+
+-- whether a row is the transaction's lock on the anchor
+abbrev pub is_lock_of : TxId → Anchor → Anchor × Holder → Bool
+is_lock_of tx a r = anchor_same a r.0 && tx_same tx (r.1).tx
+
+-- whether the transaction has a lock on the anchor
+abbrev pub has_lock_on : TxId → Anchor → Locks → Bool
+has_lock_on tx a rows = list_any (is_lock_of tx a) rows
+
+-- the locks without the transaction's on the anchor
+abbrev pub without_lock : TxId → Anchor → Locks → Locks
+without_lock tx a rows = filter (λ r. not (is_lock_of tx a r)) rows
+
+-- the transaction gave up its lock on this anchor; or it had no lock at all, and all stay
+abbrev pub GivesUpOne : TxId → Option Anchor → Locks → Locks → Type 0
+GivesUpOne tx (Some a) before after = (has_lock_on tx a before ≡ true) × (after ≡ without_lock tx a before)
+GivesUpOne tx None before after = (after ≡ before) × (release (tx ∷ []) before ≡ before)

@@ -76,6 +76,10 @@ impl Locks for ListLocks {
         holding::release(&mut self.rows, tx);
     }
 
+    fn release_next(&mut self, tx: TxId) -> Option<Anchor> {
+        holding::release_next(&mut self.rows, tx)
+    }
+
     fn free(&self, anchor: Anchor) -> bool {
         holding::is_free(&self.rows, anchor)
     }

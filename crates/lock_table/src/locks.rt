@@ -6,7 +6,7 @@ ghost use Rattle.clv_base.specs.declared.names.TxId.{TxId};
 ghost use Rattle.clv_base.specs.declared.modes.Anchor.{Anchor};
 ghost use Rattle.clv_base.specs.Orders.{tx_cmp};
 ghost use Rattle.clv_base.specs.Locks.{Locks as Rows, decide as decision_on, violated as violated_by_grant, take_all, split_gap as with_gaps_copied, close_locks, release as without_locks_of, is_free};
-ghost use Rattle.lock_table.specs.Rows.{gaps_held, holders_on, anchors_of};
+ghost use Rattle.lock_table.specs.Rows.{gaps_held, holders_on, anchors_of, GivesUpOne};
 
 use clv_base::modes::{Anchor, Decision, Holder, Need};
 use clv_base::names::{Birth, TxId};
@@ -67,6 +67,10 @@ pub trait Locks {
     /// The transaction gives up all its locks. Room that was reserved ends.
     fn release(&mut self, tx: TxId)
         ensures { rows self.new ≡ without_locks_of (tx ∷ []) (rows self.old) };
+
+    /// The transaction gives up one of its locks, on the anchor that is told; none exactly where it has none, and then all stay. Room that was reserved ends. Takes no memory.
+    fn release_next(&mut self, tx: TxId) -> Option<Anchor>
+        ensures { GivesUpOne tx result (rows self.old) (rows self.new) };
 
     /// Whether nobody holds a lock on the anchor.
     fn free(&self, anchor: Anchor) -> bool

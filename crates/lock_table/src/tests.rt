@@ -189,3 +189,20 @@ fn writes_alone_are_violated_and_each_writer_is_told_once(rt: HostRuntime) -> Re
     assert!(rt; table.violated(rt.alloc(), tx(3), &needs)?.as_slice() == [tx(1)].as_slice());
     Ok(())
 }
+
+#[test]
+fn locks_are_given_up_one_by_one(rt: HostRuntime) -> Result<(), Fail> {
+    let (one, two) = (Anchor::At(1), Anchor::At(2));
+    let mut table = ListLocks::new(rt.alloc());
+    hold(&mut table, 1, two, KEY_X)?;
+    hold(&mut table, 1, one, KEY_S)?;
+    hold(&mut table, 2, one, KEY_S)?;
+    assert!(rt; table.release_next(tx(1)) == Some(one));
+    assert!(rt; table.holders(rt.alloc(), one)?.as_slice() == [holder(2, KEY_S, false)].as_slice());
+    assert!(rt; table.release_next(tx(1)) == Some(two));
+    assert!(rt; table.free(two));
+    assert!(rt; table.release_next(tx(1)) == None);
+    assert!(rt; table.release_next(tx(2)) == Some(one));
+    assert!(rt; table.free(one));
+    Ok(())
+}
