@@ -1,5 +1,5 @@
 -- What a granted operation does to each part of a shard's state, by what it needs, inserts and writes.
-use Rattle.std.specs.Prelude.{◌≡◌, ℕ, ◌+◌, ◌<◌, ◌≤◌, IsTrue, List, [], ◌∷◌, ◌++◌, length, Option, Some, None}
+use Rattle.std.specs.Prelude.{◌≡◌, ℕ, ◌+◌, ◌<◌, ◌≤◌, IsTrue, cond, List, [], ◌∷◌, ◌++◌, length, Option, Some, None}
 use Rattle.clv_base.specs.declared.names.TxId.{TxId}
 use Rattle.clv_base.specs.declared.names.Birth.{Birth}
 use Rattle.clv_base.specs.declared.ops.Op.{Op}
@@ -47,6 +47,14 @@ log_after tx (Some w) log = log ++ Update tx w.key w.before w.after ∷ []
 abbrev pub record_count : Option Write → ℕ
 record_count None = 0
 record_count (Some w) = 1
+
+-- how many records more there are after a write at the key: one where none stands there
+abbrev pub new_at : ℕ → Records → ℕ
+new_at k rs = cond (is_there (found_at k rs)) 0 1
+
+abbrev pub new_records : Option Write → Records → ℕ
+new_records None rs = 0
+new_records (Some w) rs = new_at w.key rs
 
 -- a value wants room for a record; a delete wants the record
 abbrev pub CanSet : ℕ → Option ℕ → ℕ → Records → Type 0

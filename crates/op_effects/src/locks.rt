@@ -50,6 +50,7 @@ fn reserve_needed<L: Locks>(
 ) -> Result<(), Memory>
     ensures ok { OnOk result (length needs.now ≤ L.room locks.new tx (anchors_of needs.now)) }
     ensures rows { L.rows locks.new ≡ L.rows locks.old }
+    ensures room { (t : Tx) (on : List Place) → L.room locks.old t on ≤ L.room locks.new t on }
 {
     match needed_anchors(alloc, needs) {
         Ok(anchors) => locks.reserve(tx, &anchors, needs.len()),
@@ -74,7 +75,7 @@ fn reserve_insert<L: Locks>(
     }
 }
 
-/// Makes room for the locks of a granted operation. The locks stay as they are; the only error is want of memory.
+/// Makes room for the locks of a granted operation. The locks stay as they are, and room never shrinks; the only error is want of memory.
 pub fn reserve_locks<L: Locks>(
     alloc: Global,
     locks: &mut L,
@@ -84,6 +85,7 @@ pub fn reserve_locks<L: Locks>(
 ) -> Result<(), Memory>
     ensures ok { OnOk result (HasLockRoom (L.room locks.new) tx needs.now insert (L.rows locks.new)) }
     ensures rows { L.rows locks.new ≡ L.rows locks.old }
+    ensures room { (t : Tx) (on : List Place) → L.room locks.old t on ≤ L.room locks.new t on }
 {
     match reserve_needed(alloc, locks, tx, needs) {
         Ok(()) => {}

@@ -10,7 +10,7 @@ ghost use Rattle.violation_deps.specs.Dependencies.{doomed, undecided_by, due_of
 
 use crate::marking::mark_from;
 use crate::pairs::{Pair, drop_firsts, drop_seconds, run_of};
-use crate::room::{hold, with_places};
+use crate::room::{free_places, hold, with_places};
 use crate::settled::{count_open, greatest};
 use crate::sorted::{contains, insert};
 use clv_base::names::TxId;
@@ -64,6 +64,16 @@ impl Deps {
             marks,
             queue,
         })
+    }
+
+    /// For how many pairs and settled transactions more there is room. Takes no memory.
+    pub fn room(&self) -> usize
+        ensures { result ≡ self.now.room }
+    {
+        let pairs = free_places(&self.pairs).min(free_places(&self.turned));
+        let marked = self.turned.len() + 2;
+        let marks = (self.marks.capacity() - marked).min(self.queue.capacity() - marked);
+        pairs.min(marks).min(self.commits.room())
     }
 
     /// Makes room for so many pairs and settled transactions more, whatever was reserved before. Room alone changes, and never shrinks.

@@ -79,3 +79,17 @@ fn a_first_mark_needs_no_room(rt: HostRuntime) -> Result<(), Fail> {
     assert!(rt; deps.marked(tx(1)) && !deps.marked(tx(2)));
     Ok(())
 }
+
+#[test]
+fn room_is_told(rt: HostRuntime) -> Result<(), Fail> {
+    let mut deps = Deps::new(rt.alloc())?;
+    assert_eq!(rt; deps.room(), 0);
+    deps.reserve(2)?;
+    assert!(rt; deps.room() >= 2);
+    deps.add(tx(2), tx(1));
+    assert!(rt; deps.room() >= 1);
+    let more = deps.room() / 2;
+    deps.reserve(more)?;
+    assert!(rt; deps.room() >= 1 && deps.room() >= more);
+    Ok(())
+}
