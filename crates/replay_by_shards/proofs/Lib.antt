@@ -1,0 +1,4 @@
+pub mod Spans
+pub mod Agreeing
+pub mod Standing
+pub mod Replaying

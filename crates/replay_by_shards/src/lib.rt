@@ -1,0 +1,6 @@
+//! Transactions over many shards replay where each shard's part of them replays: an operation meets keys of one shard alone, and the map that
+//! a set of logs stands for is made of what each log has of it. The law is the clause of a function with an empty body; its statement stands in
+//! specs/. It stands on the definitions of `clv_base`.
+#![tactic(auto)]
+
+pub mod laws;
