@@ -1,0 +1,5 @@
+pub mod Walking
+pub mod Offers
+pub mod Records
+pub mod Filing
+pub mod Passing
