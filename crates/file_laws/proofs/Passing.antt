@@ -1,5 +1,5 @@
 -- The logs that a crash leaves of a history pass.
-use Rattle.std.proofs.Common.{◌≡◌, refl, sym, subst, ◌∙◌, ℕ, zero, suc, ◌+◌, ◌<◌, ◌≤◌, true, Bool, List, [], ◌∷◌, length, arith}
+use Rattle.std.proofs.Common.{◌≡◌, refl, sym, subst, ◌∙◌, ℕ, zero, suc, ◌+◌, ◌<◌, ◌≤◌, true, Bool, List, [], ◌∷◌, ◌++◌, length, arith}
 use Rattle.std.specs.Prelude.{is_none}
 use Rattle.std.specs.List.{list_all}
 use Rattle.std.proofs.lemmas.Bool.{and_parts, and_from}
@@ -39,8 +39,8 @@ found_passes splits before n m l =
 
 -- ---- along the history
 
-abbrev FiledAt : List ℕ → ℕ → Shard → Type 0
-FiledAt splits n s = (s.shard ≡ n) × Counted s × Filed splits s
+abbrev FiledAt : List ℕ → History → ℕ → Shard → Type 0
+FiledAt splits pre n s = (s.shard ≡ n) × Counted s × Filed splits s
 
 abbrev Told : List ℕ → Placed → Type 0
 Told splits e = SendsNames splits (e.1).outcome
@@ -52,18 +52,18 @@ brought splits before after pre w _ s = tt
 steps : (splits : List ℕ) (before after : List (List LogRecord)) (h : History) → Legal splits before h after → Steps (FiledAt splits) (Told splits) splits before after h
 steps splits before after h l pre e w x =
     let s = state_at before after e.0 pre in
-    let p : FiledAt splits e.0 s = w.states e.0 x.below in
-    let o : OffersBy splits s.shard (e.1).event (e.1).outcome = subst (λ n. OffersBy splits n (e.1).event (e.1).outcome) (sym p.0) (offered splits before after h e l x.among) in
+    let p : FiledAt splits pre e.0 s = w.states e.0 x.below in
+    let o : OffersBy splits s.shard (e.1).event (e.1).outcome = subst (λ n. OffersBy splits n (e.1).event (e.1).outcome) (sym p.0) (offered splits before after h e l (x.behind).here) in
     let f = filed_entry splits (log_of after e.0) s e.1 (x.split).enters o (brought splits before after pre w (e.1).event x.sent) p.2 in
     let c = fronts_entry (log_of after e.0) s e.1 p.1 (x.split).enters in
-    (subst (FiledAt splits e.0) (sym (x.split).next) (c.shard ∙ p.0, c.counted, f), sends_entry splits (log_of after e.0) s e.1 (x.split).enters p.2)
+    (subst (FiledAt splits (pre ++ e ∷ []) e.0) (sym (x.split).next) (c.shard ∙ p.0, c.counted, f), sends_entry splits (log_of after e.0) s e.1 (x.split).enters p.2, (λ n m d q. q))
 
-opens : (splits : List ℕ) (before after : List (List LogRecord)) (h : History) → may_open splits before ≡ true → Legal splits before h after → (n : ℕ) → n < shard_count splits → FiledAt splits n (start_of before n)
+opens : (splits : List ℕ) (before after : List (List LogRecord)) (h : History) → may_open splits before ≡ true → Legal splits before h after → (n : ℕ) → n < shard_count splits → FiledAt splits [] n (start_of before n)
 opens splits before after h m l n i = (refl, opened_counted n (run_after before) (log_of before n), filed_opened splits n (run_after before) (log_of before n) i (found_passes splits before n m (let e = (l.each_log).0 in omega (arith, e, i))))
 
 -- ---- the logs left
 
-left_from : (splits : List ℕ) (finals : ℕ → Shard) (choice : ℕ → Bool) (n k : ℕ) → ((m : ℕ) → n ≤ m → m < n + k → FiledAt splits m (finals m)) → all_logs_from n (λ m log. list_all (passes_file_rules splits m) log) (logs_left_from finals choice n k) ≡ true
+left_from : (splits : List ℕ) (finals : ℕ → Shard) (choice : ℕ → Bool) (n k : ℕ) → ((m : ℕ) → n ≤ m → m < n + k → FiledAt splits [] m (finals m)) → all_logs_from n (λ m log. list_all (passes_file_rules splits m) log) (logs_left_from finals choice n k) ≡ true
 left_from splits finals choice n zero h = refl
 left_from splits finals choice n (suc k) h =
     let p = h n (omega arith) (omega arith) in

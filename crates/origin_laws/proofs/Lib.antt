@@ -1,0 +1,5 @@
+pub mod Sessions
+pub mod Origins
+pub mod Events
+pub mod Entries
+pub mod Coming
