@@ -357,8 +357,8 @@ brought splits before after h pre x b w (Deliver m stamp) (n, y, i, s, o) =
     (λ t k q. (q.0, q.1, b.earlier q.0 q.2 (before_then q.0 (n, y) x q.5 (b.turn (n, y) j).1), q.3, q.4)) m (subst (SentFrom (RequestedBefore h (n, y))) o (w.said (n, y) j))
 brought splits before after h pre x b w _ s = tt
 
-steps : (splits : List ℕ) (before after : List (List LogRecord)) (h : History) → Legal splits before h after → Steps (Traced (run_after before)) (Says h) splits before after h
-steps splits before after h l pre e w x =
+pub traced_steps : (splits : List ℕ) (before after : List (List LogRecord)) (h : History) → Legal splits before h after → Steps (Traced (run_after before)) (Says h) splits before after h
+traced_steps splits before after h l pre e w x =
     let s = state_at before after e.0 pre in
     let k = w.states e.0 x.below in
     let run = run_after before in
@@ -392,8 +392,8 @@ old_log splits before n m l =
     let d = none_of (disorder (0 + n) (log_of before n)) (and_parts (list_all (passes_file_rules splits (0 + n)) (log_of before n)) _ q).1 in
     all_mono (RunFits (greatest_run (log_of before n))) _ (λ r. old_record (greatest_run (log_of before n)) (run_after before) n (DidAny [] n) (Requested []) r (below_next_run before n)) (log_of before n) (runs_in_order (0 + n) (log_of before n) d)
 
-opens : (splits : List ℕ) (before after : List (List LogRecord)) (h : History) → may_open splits before ≡ true → Legal splits before h after → (n : ℕ) → n < shard_count splits → Traced (run_after before) [] n (start_of before n)
-opens splits before after h m l n i =
+pub traced_opens : (splits : List ℕ) (before after : List (List LogRecord)) (h : History) → may_open splits before ≡ true → Legal splits before h after → (n : ℕ) → n < shard_count splits → Traced (run_after before) [] n (start_of before n)
+traced_opens splits before after h m l n i =
     record {
       run_is = refl;
       counted = opened_counted n (run_after before) (log_of before n);
@@ -404,4 +404,4 @@ opens splits before after h m l n i =
 
 -- along each front of a legal history
 pub traced_front : (splits : List ℕ) (before after : List (List LogRecord)) (h pre rest : History) → may_open splits before ≡ true → Legal splits before h after → pre ++ rest ≡ h → Walked (Traced (run_after before)) (Says h) splits before after pre
-traced_front splits before after h pre rest m l q = walked_front (Traced (run_after before)) (Says h) splits before after h pre rest l q (opens splits before after h m l) (steps splits before after h l)
+traced_front splits before after h pre rest m l q = walked_front (Traced (run_after before)) (Says h) splits before after h pre rest l q (traced_opens splits before after h m l) (traced_steps splits before after h l)

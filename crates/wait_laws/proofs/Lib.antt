@@ -1,0 +1,5 @@
+pub mod Deciding
+pub mod Tied
+pub mod Births
+pub mod Entries
+pub mod Waiting

@@ -1,0 +1,60 @@
+-- Who waits for whom after a legal history.
+use Rattle.std.specs.Prelude.{◌≡◌, ◌⊎◌, ℕ, ◌<◌, true, false, List, Option, Some}
+use Rattle.clv_base.specs.declared.names.TxId.{TxId}
+use Rattle.clv_base.specs.declared.names.Birth.{Birth}
+use Rattle.clv_base.specs.declared.logs.LogRecord.{LogRecord}
+use Rattle.clv_base.specs.declared.ops.Op.{Op}
+use Rattle.clv_base.specs.declared.state.Held.{Held}
+use Rattle.clv_base.specs.declared.state.Stage.TheVariants.{Active}
+use Rattle.clv_base.specs.declared.events.Event.TheVariants.{Op as OpEvent}
+use Rattle.clv_base.specs.declared.events.Entry.{Entry}
+use Rattle.clv_base.specs.Orders.{tx_get, is_older}
+use Rattle.clv_base.specs.State.{Shard}
+use Rattle.clv_base.specs.FileRules.{may_open}
+use Rattle.clv_base.specs.Restarts.{run_after}
+use Rattle.clv_base.specs.Journals.{History, comes_before, final_of}
+use Rattle.clv_base.specs.History.{Legal, IsAmong, request_of, has_request, MayOffer, Waits}
+
+-- the transaction's request was taken by this entry
+abbrev pub IsRequestOf : History → TxId → ℕ × Entry → Type 0
+IsRequestOf h t x = IsAmong x.0 x.1 h × (request_of (x.1).event (x.1).outcome ≡ Some t)
+
+-- the first's request was taken before the second's
+abbrev pub AskedBefore : History → TxId → TxId → Type 0
+AskedBefore h u t = (x : ℕ × Entry) × (y : ℕ × Entry) × IsRequestOf h u x × IsRequestOf h t y × (comes_before x y ≡ true)
+
+-- an operation that the transaction's session may make now on some shard is of this birth
+abbrev pub MayDo : List ℕ → History → (ℕ → Shard) → TxId → Birth → Type 0
+MayDo splits h states t birth = (n : ℕ) × (walker : ℕ) × (nth : ℕ) × (seen : Option ℕ) × (op : Op) × MayOffer splits h n (states n) walker (OpEvent t birth nth seen op)
+
+-- it has an active part of this birth on some shard
+abbrev pub IsActiveAs : (ℕ → Shard) → TxId → Birth → Type 0
+IsActiveAs states u birth = (n : ℕ) × (p : Held) × (tx_get u (states n).local.parts ≡ Some p) × (p.stage ≡ Active) × (p.birth ≡ birth)
+
+-- the one that waits may do operations, the other is active, and younger
+abbrev pub WaitsForYounger : List ℕ → History → (ℕ → Shard) → TxId → TxId → Type 0
+WaitsForYounger splits h states t u = (a : Birth) × (b : Birth) × MayDo splits h states t a × IsActiveAs states u b × (is_older a b ≡ true)
+
+-- for whom a transaction without a request may wait, and for whom one with a request
+abbrev pub WithoutRequest : List ℕ → History → (ℕ → Shard) → ℕ → TxId → TxId → Type 0
+WithoutRequest splits h states run t u = WaitsForYounger splits h states t u ⊎ ((has_request u h ≡ true) ⊎ (u.run < run))
+
+abbrev pub WithRequest : History → ℕ → TxId → TxId → Type 0
+WithRequest h run t u = AskedBefore h u t ⊎ (u.run < run)
+
+-- after every legal history
+abbrev pub WaitsGoDown : Type 0
+WaitsGoDown =
+    (splits : List ℕ) (before : List (List LogRecord)) (h : History) (after : List (List LogRecord)) (t u : TxId)
+    → may_open splits before ≡ true → Legal splits before h after → Waits splits h (final_of before h after) t u
+    → (has_request t h ≡ false → WithoutRequest splits h (final_of before h after) (run_after before) t u) × (has_request t h ≡ true → WithRequest h (run_after before) t u)
+
+-- one waits for another, through any number
+pub data WaitsThrough (splits : List ℕ) (h : History) (states : ℕ → Shard) : TxId → TxId → Type 0 where
+  at_once : {t u : TxId} → Waits splits h states t u → WaitsThrough splits h states t u
+  through : {t u v : TxId} → Waits splits h states t u → WaitsThrough splits h states u v → WaitsThrough splits h states t v
+
+abbrev pub WaitsHaveNoCycle : Type 0
+WaitsHaveNoCycle =
+    (splits : List ℕ) (before : List (List LogRecord)) (h : History) (after : List (List LogRecord)) (t : TxId)
+    → may_open splits before ≡ true → Legal splits before h after → WaitsThrough splits h (final_of before h after) t t → ⊥
