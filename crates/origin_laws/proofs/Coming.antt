@@ -25,9 +25,9 @@ use Rattle.law_base.proofs.Changed.{some_same, none_some}
 use Rattle.law_base.proofs.Rows.{rows_get}
 use Rattle.history_laws.proofs.Merging.{Among, among_is, is_among}
 use Rattle.file_laws.proofs.Walking.{next_entry}
-use Rattle.origin_laws.specs.Origins.{answered_as, WasAnsweredAs, WasEverAnswered, WasAskedAt, WasAsked, ComesOf, AllComesOfEntries, PreparesComeOfRequests}
+use Rattle.origin_laws.specs.Origins.{answered_as, WasAnsweredAs, WasEverAnswered, WasAskedAt, WasAsked, WasAskedAway, ComesOf, AllComesOfEntries, PreparesComeOfRequests}
 use Rattle.origin_laws.proofs.Sessions.{Requested}
-use Rattle.origin_laws.proofs.Origins.{SomeRequest, OwnRequest, StageFrom, PartFrom, RowFrom, CommitFrom, AllFrom, part_of, own_some}
+use Rattle.origin_laws.proofs.Origins.{SomeRequest, OwnRequest, AwayRequest, StageFrom, PartFrom, RowFrom, CommitFrom, AllFrom, part_of, own_some}
 use Rattle.origin_laws.proofs.Events.{active_done}
 use Rattle.origin_laws.proofs.Entries.{Did, DidOrOld, IsOld, Traced, traced_front, brought}
 
@@ -98,6 +98,10 @@ was_asked : (run : ℕ) (h : History) (t : TxId) → SomeRequest (Requested h) (
 was_asked run h t (inl (n, q)) = inl (n, was_asked_at h n t q)
 was_asked run h t (inr o) = inr o
 
+was_away : (run : ℕ) (h : History) (n : ℕ) (t : TxId) → AwayRequest (Requested h) (IsOld run) n t → WasAskedAway h n t ⊎ (t.run < run)
+was_away run h n t (inl (m, k, q)) = inl (m, k, was_asked_at h m t q)
+was_away run h n t (inr o) = inr o
+
 was_own : (run : ℕ) (h : History) (n : ℕ) (t : TxId) → OwnRequest (Requested h) (IsOld run) n t → WasAskedAt h n t ⊎ (t.run < run)
 was_own run h n t (inl q) = inl (was_asked_at h n t q)
 was_own run h n t (inr o) = inr o
@@ -116,7 +120,7 @@ wrote_from A Q O n (RestartRecord r ep ∷ rs) t a e = wrote_from A Q O n rs t a
 
 prepared_from : (A : TxId → Type 0) (Q : TxId → ℕ → Type 0) (O : TxId → Type 0) (n : ℕ) (rs : List LogRecord) (t : TxId) → AllFrom A Q O n rs → prepared_in rs t ≡ true → SomeRequest Q O t
 prepared_from A Q O n [] t a e = absurd (both_ways false refl e)
-prepared_from A Q O n (PrepareRecord u home ps ∷ rs) t a e = ⊎_elim (λ s. subst (SomeRequest Q O) (sym (tx_true t u s)) (a.0).1) (λ s. prepared_from A Q O n rs t a.1 s) (or_cases (tx_same t u) (prepared_in rs t) e)
+prepared_from A Q O n (PrepareRecord u home ps ∷ rs) t a e = ⊎_elim (λ s. subst (SomeRequest Q O) (sym (tx_true t u s)) (own_some Q O home u (a.0).1)) (λ s. prepared_from A Q O n rs t a.1 s) (or_cases (tx_same t u) (prepared_in rs t) e)
 prepared_from A Q O n (Update u key b x ∷ rs) t a e = prepared_from A Q O n rs t a.1 e
 prepared_from A Q O n (Clr u next key x ∷ rs) t a e = prepared_from A Q O n rs t a.1 e
 prepared_from A Q O n (Commit u ps ∷ rs) t a e = prepared_from A Q O n rs t a.1 e
@@ -160,7 +164,7 @@ comes_of run h n s k =
       prepared = λ t e. was_asked run h t (prepared_from _ (Requested h) (IsOld run) n s.local.log t o.log e);
       committed = λ t e. was_asked run h t (committed_from _ (Requested h) (IsOld run) n s.local.log t o.log e);
       coordinated = λ t q g. was_own run h n t (rows_get (λ x. RowFrom (Requested h) (IsOld run) n x.0 x.1) t q s.requests o.requests g).0;
-      asked = λ t v g. was_asked run h t (rows_get (λ x. SomeRequest (Requested h) (IsOld run) x.0) t v s.voters o.voters g);
+      asked = λ t v g. was_away run h n t (rows_get (λ x. AwayRequest (Requested h) (IsOld run) n x.0) t v s.voters o.voters g);
     }
 
 pub all_comes_of_entries : AllComesOfEntries

@@ -45,7 +45,7 @@ use Rattle.one_shard_laws.proofs.Walking.{SeenIs, AnswersAt}
 use Rattle.one_shard_laws.proofs.OwningEvents.{OpIs, performs, reply_is, answered_epoch}
 use Rattle.file_laws.proofs.Walking.{Behind, Walked, Steps, walked_front}
 use Rattle.origin_laws.proofs.Sessions.{Requested}
-use Rattle.origin_laws.proofs.Origins.{MessageFrom, Origins, AllFrom, RecordFrom, from_finish}
+use Rattle.origin_laws.proofs.Origins.{AwayRequest, MessageFrom, Origins, AllFrom, RecordFrom, from_finish}
 use Rattle.protocol_laws.proofs.Reaching.{restarts_lead_to_one}
 use Rattle.origin_laws.proofs.Events.{Owes, written_parts, from_step, from_happens, from_flushed, from_down, from_revived, from_opened, from_more, from_known}
 
@@ -150,40 +150,48 @@ has_step n ep D A Q O K s t _ p = tt
 did_now : (pre : History) (n : ℕ) (x : Entry) (tx : TxId) (b : Birth) (nth : ℕ) (seen : Option ℕ) (op : Op) (a : Answer) (ep : ℕ) → x.event ≡ OpEvent tx b nth seen op → x.outcome ≡ Answered a ep → SeenIs seen ep → Did (pre ++ (n, x) ∷ []) n ep tx b
 did_now pre n x tx b nth seen op a ep e f z = ((n, x), among_right (n, x) pre ((n, x) ∷ []) (inl refl), refl, record { seen = seen; answer = a; at = record { nth = nth; op = op; is = e }; outcome = f; saw = z })
 
--- a message that comes tells of its request
-abbrev pub Brings : (TxId → ℕ → Type 0) → Event → Type 0
-Brings Q (Deliver m stamp) = MessageFrom Q m
-Brings Q _ = ⊤
+away_mono : (Q Q' : TxId → ℕ → Type 0) (O : TxId → Type 0) (n : ℕ) (t : TxId) → ((u : TxId) (m : ℕ) → Q u m → Q' u m) → AwayRequest Q O n t → AwayRequest Q' O n t
+away_mono Q Q' O n t k (inl (m, d, q)) = inl (m, d, k t m q)
+away_mono Q Q' O n t k (inr o) = inr o
 
-owed : (pre : History) (n : ℕ) (x : Entry) (s t : Shard) (e : Event) (o : Outcome) → x.event ≡ e → x.outcome ≡ o → Happens s e o t → Brings (Requested pre) e → Owes n (Did (pre ++ (n, x) ∷ []) n s.local.epoch) (Requested (pre ++ (n, x) ∷ [])) e o
-owed pre n x s t (OpEvent tx b nth seen op) (Answered a m) p q g w =
+message_mono : (Q Q' : TxId → ℕ → Type 0) (O : TxId → Type 0) → ((t : TxId) (n : ℕ) → Q t n → Q' t n) → (m : Message) → MessageFrom Q O m → MessageFrom Q' O m
+message_mono Q Q' O k (Prepare to tx home seen) w = (k tx home w.0, w.1)
+message_mono Q Q' O k (VoteMessage to tx from vote) w = tt
+message_mono Q Q' O k (Decide to tx home true) w = tt
+message_mono Q Q' O k (Decide to tx home false) w = away_mono Q Q' O to tx k w
+message_mono Q Q' O k (Done to tx from) w = tt
+message_mono Q Q' O k (Ask to tx from) w = away_mono Q Q' O from tx k w
+
+-- a message that comes tells of its request
+abbrev pub Brings : (TxId → ℕ → Type 0) → (TxId → Type 0) → Event → Type 0
+Brings Q O (Deliver m stamp) = MessageFrom Q O m
+Brings Q O _ = ⊤
+
+owed : (run : ℕ) (pre : History) (n : ℕ) (x : Entry) (s t : Shard) (e : Event) (o : Outcome) → x.event ≡ e → x.outcome ≡ o → Happens s e o t → Brings (Requested pre) (IsOld run) e → Owes n (Did (pre ++ (n, x) ∷ []) n s.local.epoch) (Requested (pre ++ (n, x) ∷ [])) (IsOld run) e o
+owed run pre n x s t (OpEvent tx b nth seen op) (Answered a m) p q g w =
     let z = answered_epoch s t g tx b nth seen op a m refl refl in
     did_now pre n x tx b nth seen op a s.local.epoch p (q ∙ ap (Answered a) z.0) (subst (SeenIs seen) z.0 z.1)
-owed pre n x s t (OpEvent tx b nth seen op) _ p q g w = tt
-owed pre n x s t (RequestEvent tx ts) Asked p q g w = ((n, x), ts, among_right (n, x) pre ((n, x) ∷ []) (inl refl), (p, q), refl)
-owed pre n x s t (RequestEvent tx ts) _ p q g w = tt
-owed pre n x s t (Deliver (Prepare to tx home seen) stamp) o p q g w = requested_more pre (n, x) tx home w.0
-owed pre n x s t (Deliver (VoteMessage to tx from vote) stamp) o p q g w = tt
-owed pre n x s t (Deliver (Decide to tx home commit) stamp) o p q g w = tt
-owed pre n x s t (Deliver (Done to tx from) stamp) o p q g w = tt
-owed pre n x s t (Deliver (Ask to tx from) stamp) o p q g w = tt
-owed pre n x s t (Look tx) o p q g w = tt
-owed pre n x s t (Drop tx) o p q g w = tt
-owed pre n x s t Send o p q g w = tt
-owed pre n x s t Remind o p q g w = tt
-owed pre n x s t FlushOut o p q g w = tt
-owed pre n x s t FlushIn o p q g w = tt
-owed pre n x s t Stop o p q g w = tt
-owed pre n x s t Restart o p q g w = tt
+owed run pre n x s t (OpEvent tx b nth seen op) _ p q g w = tt
+owed run pre n x s t (RequestEvent tx ts) Asked p q g w = ((n, x), ts, among_right (n, x) pre ((n, x) ∷ []) (inl refl), (p, q), refl)
+owed run pre n x s t (RequestEvent tx ts) _ p q g w = tt
+owed run pre n x s t (Deliver m stamp) o p q g w = message_mono (Requested pre) (Requested (pre ++ (n, x) ∷ [])) (IsOld run) (requested_more pre (n, x)) m w
+owed run pre n x s t (Look tx) o p q g w = tt
+owed run pre n x s t (Drop tx) o p q g w = tt
+owed run pre n x s t Send o p q g w = tt
+owed run pre n x s t Remind o p q g w = tt
+owed run pre n x s t FlushOut o p q g w = tt
+owed run pre n x s t FlushIn o p q g w = tt
+owed run pre n x s t Stop o p q g w = tt
+owed run pre n x s t Restart o p q g w = tt
 
 -- after an event, with the parts that were known before
-happens_from : (run : ℕ) (pre : History) (n : ℕ) (x : Entry) (s t : Shard) {e : Event} {o : Outcome} → x.event ≡ e → x.outcome ≡ o → Happens s e o t → Brings (Requested pre) e → Traced run pre n s
+happens_from : (run : ℕ) (pre : History) (n : ℕ) (x : Entry) (s t : Shard) {e : Event} {o : Outcome} → x.event ≡ e → x.outcome ≡ o → Happens s e o t → Brings (Requested pre) (IsOld run) e → Traced run pre n s
     → Origins n s.local.epoch (Did (pre ++ (n, x) ∷ []) n s.local.epoch) (DidOrOld run (pre ++ (n, x) ∷ []) n) (Requested (pre ++ (n, x) ∷ [])) (IsOld run) (DidNow pre n s.local.epoch) t
 happens_from run pre n x s t {e} {o} p q g w k =
     from_happens n s.local.epoch (Did (pre ++ (n, x) ∷ []) n s.local.epoch) (DidOrOld run (pre ++ (n, x) ∷ []) n) (Requested (pre ++ (n, x) ∷ [])) (IsOld run) (DidNow pre n s.local.epoch) (any_of run (pre ++ (n, x) ∷ []) n s.local.epoch) s t g
-    (owed pre n x s t e o p q g w) (raised run pre (n, x) n s.local.epoch (DidNow pre n s.local.epoch) s k.origins)
+    (owed run pre n x s t e o p q g w) (raised run pre (n, x) n s.local.epoch (DidNow pre n s.local.epoch) s k.origins)
 
-answered_has : (n ep : ℕ) (D : TxId → Birth → Type 0) (A : TxId → Type 0) (Q : TxId → ℕ → Type 0) (O K : TxId → Type 0) → ((t : TxId) (b : Birth) → D t b → A t) → (s t : Shard) {e : Event} {o : Outcome} → Happens s e o t → Owes n D Q e o → Origins n ep D A Q O K s → AnsweredHas e o t
+answered_has : (n ep : ℕ) (D : TxId → Birth → Type 0) (A : TxId → Type 0) (Q : TxId → ℕ → Type 0) (O K : TxId → Type 0) → ((t : TxId) (b : Birth) → D t b → A t) → (s t : Shard) {e : Event} {o : Outcome} → Happens s e o t → Owes n D Q O e o → Origins n ep D A Q O K s → AnsweredHas e o t
 unfolding AnsweredHas
 answered_has n ep D A Q O K da s _ (finishes {t = t} u g) w p = has_step n ep D A Q O K s t g (from_step n ep D A Q O K da s t g w p)
 answered_has n ep D A Q O K da s _ (stops u) w p = tt
@@ -192,11 +200,11 @@ now_known : (e : Event) (o : Outcome) (t : Shard) (tx : TxId) (b : Birth) (nth :
 unfolding AnsweredHas
 now_known e o t tx b nth seen op a m h p q = subst (λ z. AnsweredHas z (Answered a m) t) p (subst (λ z. AnsweredHas e z t) q h)
 
-traced_event : (run : ℕ) (pre : History) (n : ℕ) (x : Entry) (s t : Shard) {e : Event} {o : Outcome} → x.event ≡ e → x.outcome ≡ o → Happens s e o t → Brings (Requested pre) e → Counted t → t.run ≡ s.run → Traced run pre n s → Traced run (pre ++ (n, x) ∷ []) n t
+traced_event : (run : ℕ) (pre : History) (n : ℕ) (x : Entry) (s t : Shard) {e : Event} {o : Outcome} → x.event ≡ e → x.outcome ≡ o → Happens s e o t → Brings (Requested pre) (IsOld run) e → Counted t → t.run ≡ s.run → Traced run pre n s → Traced run (pre ++ (n, x) ∷ []) n t
 traced_event run pre n x s t {e} {o} p q g w c r k =
     let new = pre ++ (n, x) ∷ [] in
     let f = happens_from run pre n x s t p q g w k in
-    let h = answered_has n s.local.epoch (Did new n s.local.epoch) (DidOrOld run new n) (Requested new) (IsOld run) (DidNow pre n s.local.epoch) (any_of run new n s.local.epoch) s t g (owed pre n x s t e o p q g w) (raised run pre (n, x) n s.local.epoch (DidNow pre n s.local.epoch) s k.origins) in
+    let h = answered_has n s.local.epoch (Did new n s.local.epoch) (DidOrOld run new n) (Requested new) (IsOld run) (DidNow pre n s.local.epoch) (any_of run new n s.local.epoch) s t g (owed run pre n x s t e o p q g w) (raised run pre (n, x) n s.local.epoch (DidNow pre n s.local.epoch) s k.origins) in
     let z = f.epoch in
     record {
       run_is = r ∙ k.run_is;
@@ -269,7 +277,7 @@ later_epoch s kept epoch log r = let a = (restarts_lead_to_one s (log_left s kep
 no_op : (x : Entry) (e : Event) → x.event ≡ e → ((u : TxId) (b : Birth) (nth : ℕ) (seen : Option ℕ) (op : Op) → e ≡ OpEvent u b nth seen op → ⊥) → NoOp x
 no_op x e p k u b nth seen op q = k u b nth seen op (sym p ∙ q)
 
-traced_made : (run : ℕ) (pre : History) (n : ℕ) (x : Entry) (log : List LogRecord) (s t : Shard) {e : Event} {o : Outcome} → x.event ≡ e → x.outcome ≡ o → Makes log s e o t → Brings (Requested pre) e → Counted t → t.run ≡ s.run → Traced run pre n s → Traced run (pre ++ (n, x) ∷ []) n t
+traced_made : (run : ℕ) (pre : History) (n : ℕ) (x : Entry) (log : List LogRecord) (s t : Shard) {e : Event} {o : Outcome} → x.event ≡ e → x.outcome ≡ o → Makes log s e o t → Brings (Requested pre) (IsOld run) e → Counted t → t.run ≡ s.run → Traced run pre n s → Traced run (pre ++ (n, x) ∷ []) n t
 traced_made run pre n x log s t p q (by_event g m) w c r k = traced_event run pre n x s t p q m w c r k
 traced_made run pre n x log s _ p q (by_flush m u f) w c r k =
     let z = no_op x FlushIn p (λ u b nth seen op h. absurd cc) in
@@ -304,7 +312,7 @@ noted run pre n stamp walker e o s c k =
 plain_counted : (stamp walker : ℕ) (e : Event) (o : Outcome) (s : Shard) → Counted (with_entry stamp walker e o s) → Counted s
 plain_counted stamp walker e o s c = record { within = c.within; flying = c.flying }
 
-pub traced_entry : (run : ℕ) (pre : History) (n : ℕ) (x : Entry) (log : List LogRecord) (s : Shard) → MayEnter log s x → Brings (Requested pre) x.event → Traced run pre n s → Traced run (pre ++ (n, x) ∷ []) n (after_entry log s x)
+pub traced_entry : (run : ℕ) (pre : History) (n : ℕ) (x : Entry) (log : List LogRecord) (s : Shard) → MayEnter log s x → Brings (Requested pre) (IsOld run) x.event → Traced run pre n s → Traced run (pre ++ (n, x) ∷ []) n (after_entry log s x)
 traced_entry run pre n x log s m w k =
     let f = fronts_entry log s x k.counted m in
     let t = event_state log s x.event x.outcome in
@@ -318,53 +326,46 @@ traced_entry run pre n x log s m w k =
 abbrev pub RequestedBefore : History → Placed → TxId → ℕ → Type 0
 RequestedBefore h x t n = (r : Placed) × (ts : List (ℕ × ℕ)) × Among r h × IsRequest t ts r × (r.0 ≡ n) × Before r x
 
-abbrev pub SentFrom : (TxId → ℕ → Type 0) → Outcome → Type 0
-SentFrom Q (Sent m) = MessageFrom Q m
-SentFrom Q _ = ⊤
+abbrev pub SentFrom : (TxId → ℕ → Type 0) → (TxId → Type 0) → Outcome → Type 0
+SentFrom Q O (Sent m) = MessageFrom Q O m
+SentFrom Q O _ = ⊤
 
-abbrev pub Says : History → Placed → Type 0
-Says h x = SentFrom (RequestedBefore h x) (x.1).outcome
+abbrev pub Says : ℕ → History → Placed → Type 0
+Says run h x = SentFrom (RequestedBefore h x) (IsOld run) (x.1).outcome
 
-message_mono : (Q Q' : TxId → ℕ → Type 0) → ((t : TxId) (n : ℕ) → Q t n → Q' t n) → (m : Message) → MessageFrom Q m → MessageFrom Q' m
-message_mono Q Q' k (Prepare to tx home seen) w = (k tx home w.0, w.1)
-message_mono Q Q' k (VoteMessage to tx from vote) w = tt
-message_mono Q Q' k (Decide to tx home commit) w = tt
-message_mono Q Q' k (Done to tx from) w = tt
-message_mono Q Q' k (Ask to tx from) w = tt
-
-sends_step : (n ep : ℕ) (D : TxId → Birth → Type 0) (A : TxId → Type 0) (Q : TxId → ℕ → Type 0) (O K : TxId → Type 0) (s t : Shard) {e : Event} {o : Outcome} → Step s e o t → Origins n ep D A Q O K s → SentFrom Q o
-sends_step n ep D A Q O K s t (sends m ms g) p = (subst (AllByRecursion (MessageFrom Q)) g p.out).0
+sends_step : (n ep : ℕ) (D : TxId → Birth → Type 0) (A : TxId → Type 0) (Q : TxId → ℕ → Type 0) (O K : TxId → Type 0) (s t : Shard) {e : Event} {o : Outcome} → Step s e o t → Origins n ep D A Q O K s → SentFrom Q O o
+sends_step n ep D A Q O K s t (sends m ms g) p = (subst (AllByRecursion (MessageFrom Q O)) g p.out).0
 sends_step n ep D A Q O K s t _ p = tt
 
-sends_happens : (n ep : ℕ) (D : TxId → Birth → Type 0) (A : TxId → Type 0) (Q : TxId → ℕ → Type 0) (O K : TxId → Type 0) (s t : Shard) {e : Event} {o : Outcome} → Happens s e o t → Origins n ep D A Q O K s → SentFrom Q o
+sends_happens : (n ep : ℕ) (D : TxId → Birth → Type 0) (A : TxId → Type 0) (Q : TxId → ℕ → Type 0) (O K : TxId → Type 0) (s t : Shard) {e : Event} {o : Outcome} → Happens s e o t → Origins n ep D A Q O K s → SentFrom Q O o
 sends_happens n ep D A Q O K s _ (finishes {t = t} u g) p = sends_step n ep D A Q O K s t g p
 sends_happens n ep D A Q O K s _ (stops u) p = tt
 
-sends_made : (n ep : ℕ) (D : TxId → Birth → Type 0) (A : TxId → Type 0) (Q : TxId → ℕ → Type 0) (O K : TxId → Type 0) (log : List LogRecord) (s t : Shard) {e : Event} {o : Outcome} → Makes log s e o t → Origins n ep D A Q O K s → SentFrom Q o
+sends_made : (n ep : ℕ) (D : TxId → Birth → Type 0) (A : TxId → Type 0) (Q : TxId → ℕ → Type 0) (O K : TxId → Type 0) (log : List LogRecord) (s t : Shard) {e : Event} {o : Outcome} → Makes log s e o t → Origins n ep D A Q O K s → SentFrom Q O o
 sends_made n ep D A Q O K log s t (by_event g m) p = sends_happens n ep D A Q O K s t m p
 sends_made n ep D A Q O K log s _ (by_flush m u f) p = tt
 sends_made n ep D A Q O K log s _ (by_failure m u f) p = tt
 sends_made n ep D A Q O K log s _ (by_restart epoch kept u r) p = tt
 
-sent_mono : (Q Q' : TxId → ℕ → Type 0) → ((t : TxId) (n : ℕ) → Q t n → Q' t n) → (o : Outcome) → SentFrom Q o → SentFrom Q' o
-sent_mono Q Q' k (Sent m) w = message_mono Q Q' k m w
-sent_mono Q Q' k _ w = tt
+sent_mono : (Q Q' : TxId → ℕ → Type 0) (O : TxId → Type 0) → ((t : TxId) (n : ℕ) → Q t n → Q' t n) → (o : Outcome) → SentFrom Q O o → SentFrom Q' O o
+sent_mono Q Q' O k (Sent m) w = message_mono Q Q' O k m w
+sent_mono Q Q' O k _ w = tt
 
-pub brought : (splits : List ℕ) (before after : List (List LogRecord)) (h pre : History) (x : Placed) → Behind h pre x → Walked (Traced (run_after before)) (Says h) splits before after pre → (e : Event) → WasSent pre e → Brings (Requested pre) e
+pub brought : (splits : List ℕ) (before after : List (List LogRecord)) (h pre : History) (x : Placed) → Behind h pre x → Walked (Traced (run_after before)) (Says (run_after before) h) splits before after pre → (e : Event) → WasSent pre e → Brings (Requested pre) (IsOld (run_after before)) e
 brought splits before after h pre x b w (Deliver m stamp) (n, y, i, s, o) =
     let j = is_among n y pre i in
-    message_mono (RequestedBefore h (n, y)) (Requested pre)
-    (λ t k q. (q.0, q.1, b.earlier q.0 q.2 (before_then q.0 (n, y) x q.5 (b.turn (n, y) j).1), q.3, q.4)) m (subst (SentFrom (RequestedBefore h (n, y))) o (w.said (n, y) j))
+    message_mono (RequestedBefore h (n, y)) (Requested pre) (IsOld (run_after before))
+    (λ t k q. (q.0, q.1, b.earlier q.0 q.2 (before_then q.0 (n, y) x q.5 (b.turn (n, y) j).1), q.3, q.4)) m (subst (SentFrom (RequestedBefore h (n, y)) (IsOld (run_after before))) o (w.said (n, y) j))
 brought splits before after h pre x b w _ s = tt
 
-pub traced_steps : (splits : List ℕ) (before after : List (List LogRecord)) (h : History) → Legal splits before h after → Steps (Traced (run_after before)) (Says h) splits before after h
+pub traced_steps : (splits : List ℕ) (before after : List (List LogRecord)) (h : History) → Legal splits before h after → Steps (Traced (run_after before)) (Says (run_after before) h) splits before after h
 traced_steps splits before after h l pre e w x =
     let s = state_at before after e.0 pre in
     let k = w.states e.0 x.below in
     let run = run_after before in
     let f = traced_entry run pre e.0 e.1 (log_of after e.0) s (x.split).enters (brought splits before after h pre e x.behind w (e.1).event x.sent) k in (
       subst (Traced run (pre ++ e ∷ []) e.0) (sym (x.split).next) f,
-      sent_mono (Requested pre) (RequestedBefore h e) (λ t n q. let b = (x.behind).turn q.0 q.2 in (q.0, q.1, b.0, q.3, q.4, b.1)) (e.1).outcome
+      sent_mono (Requested pre) (RequestedBefore h e) (IsOld run) (λ t n q. let b = (x.behind).turn q.0 q.2 in (q.0, q.1, b.0, q.3, q.4, b.1)) (e.1).outcome
           (sends_made e.0 s.local.epoch _ _ (Requested pre) _ _ (log_of after e.0) s (event_state (log_of after e.0) s (e.1).event (e.1).outcome) (makes (log_of after e.0) s (e.1).event (e.1).outcome ((x.split).enters).event) k.origins),
       (λ n m d q. traced_other run pre e n (state_at before after n pre) d q),
     )
@@ -403,5 +404,5 @@ traced_opens splits before after h m l n i =
     }
 
 -- along each front of a legal history
-pub traced_front : (splits : List ℕ) (before after : List (List LogRecord)) (h pre rest : History) → may_open splits before ≡ true → Legal splits before h after → pre ++ rest ≡ h → Walked (Traced (run_after before)) (Says h) splits before after pre
-traced_front splits before after h pre rest m l q = walked_front (Traced (run_after before)) (Says h) splits before after h pre rest l q (traced_opens splits before after h m l) (traced_steps splits before after h l)
+pub traced_front : (splits : List ℕ) (before after : List (List LogRecord)) (h pre rest : History) → may_open splits before ≡ true → Legal splits before h after → pre ++ rest ≡ h → Walked (Traced (run_after before)) (Says (run_after before) h) splits before after pre
+traced_front splits before after h pre rest m l q = walked_front (Traced (run_after before)) (Says (run_after before) h) splits before after h pre rest l q (traced_opens splits before after h m l) (traced_steps splits before after h l)

@@ -26,7 +26,7 @@ use Rattle.clv_base.specs.declared.events.Outcome.{Outcome}
 use Rattle.clv_base.specs.declared.events.Outcome.TheVariants.{Answered, Asked}
 use Rattle.clv_base.specs.declared.state.Taken.TheVariants.{Waiting as IsAwaited}
 use Rattle.clv_base.specs.Orders.{Table, tx_same, tx_in, tx_get, tx_put, tx_insert}
-use Rattle.clv_base.specs.Logs.{StandingUpdate, standing, wrote_in, aborted_in, ended_in, prepare_of, in_doubt_from, doubt_by, in_doubt, writers}
+use Rattle.clv_base.specs.Logs.{StandingUpdate, standing, wrote_in, aborted_in, ended_in, prepare_of, in_doubt_from, doubt_by, in_doubt, writers, committed_in}
 use Rattle.clv_base.specs.State.{Shard, Local, with_local, is_present}
 use Rattle.clv_base.specs.Undo.{stage_of, clrs_of}
 use Rattle.clv_base.specs.Facts.{facts_of, is_waiting, undecided_of}
@@ -39,23 +39,23 @@ use Rattle.clv_base.specs.Restarts.{losers, undo_records, restart_records, log_a
 use Rattle.clv_base.proofs.SameNames.{tx_true, tx_self, in_insert}
 use Rattle.law_base.proofs.Changed.{none_some}
 use Rattle.law_base.proofs.Lists.{all_mono}
-use Rattle.law_base.proofs.Rows.{rows_put}
+use Rattle.law_base.proofs.Rows.{rows_get, rows_put}
 use Rattle.law_base.proofs.Tables.{get_changed, get_put}
 use Rattle.shard_laws.proofs.Sound.{waiting_here}
 use Rattle.history_laws.proofs.Stepping.{with_work, Step, op_dies, op_answers, request_refused, request_doomed, request_again, request_new, request_closes, looks_well, looks_ill, drops, sends, prepare_closes, prepare_again, vote_counts, decision_comes, decision_again, done_counts, asked, reminds, flushes, Happens, finishes, stops}
 use Rattle.history_laws.proofs.Telling.{all_append, all_map}
 use Rattle.one_shard_laws.proofs.OwningEvents.{OpIs, dies, rolls, performs, reply_is}
-use Rattle.origin_laws.proofs.Origins.{SomeRequest, OwnRequest, BirthFrom, StageFrom, PartFrom, CommitFrom, RecordFrom, StateFrom, RowFrom, MessageFrom, Origins, part_of, none_changed, AllFrom, push_records, clrs_all, standing_of, from_rolled, from_send, from_push, row_of, from_set, from_finish}
+use Rattle.origin_laws.proofs.Origins.{SomeRequest, OwnRequest, AwayRequest, away_some, own_some, BirthFrom, StageFrom, PartFrom, CommitFrom, RecordFrom, StateFrom, RowFrom, MessageFrom, Origins, part_of, none_changed, AllFrom, push_records, clrs_all, standing_of, from_rolled, from_send, from_push, row_of, from_set, from_finish}
 
 -- ---- what an entry owes: an operation that is answered, a request that is taken, a Prepare that comes
 
-abbrev pub Owes : ℕ → (TxId → Birth → Type 0) → (TxId → ℕ → Type 0) → Event → Outcome → Type 0
-Owes n D Q (OpEvent tx birth nth seen op) (Answered answer epoch) = D tx birth
-Owes n D Q (OpEvent tx birth nth seen op) _ = ⊤
-Owes n D Q (RequestEvent tx ts) Asked = Q tx n
-Owes n D Q (RequestEvent tx ts) _ = ⊤
-Owes n D Q (Deliver (Prepare to tx home seen) stamp) o = Q tx home
-Owes n D Q _ o = ⊤
+abbrev pub Owes : ℕ → (TxId → Birth → Type 0) → (TxId → ℕ → Type 0) → (TxId → Type 0) → Event → Outcome → Type 0
+Owes n D Q O (OpEvent tx birth nth seen op) (Answered answer epoch) = D tx birth
+Owes n D Q O (OpEvent tx birth nth seen op) _ = ⊤
+Owes n D Q O (RequestEvent tx ts) Asked = Q tx n
+Owes n D Q O (RequestEvent tx ts) _ = ⊤
+Owes n D Q O (Deliver m stamp) o = MessageFrom Q O m
+Owes n D Q O _ o = ⊤
 
 -- ---- an operation
 
@@ -123,9 +123,9 @@ closed_rows D R tx (p ∷ ps) r a = (at (tx_same tx p.0) refl, closed_rows D R t
 closed_known : (tx : TxId) (parts : Table Held) (t : TxId) → tx_get t (closed_in tx parts) ≡ None → tx_get t parts ≡ None
 closed_known tx parts t e = none_changed (tx_get t parts) (λ h. cond (tx_same tx t) (closed_part h) h) (sym (get_changed (λ u. tx_same tx u) closed_part t parts) ∙ e)
 
-closing_all : (A : TxId → Type 0) (Q : TxId → ℕ → Type 0) (O : TxId → Type 0) (n : ℕ) (b one : Bool) (tx : TxId) (home : ℕ) (us : List TxId) → A tx → SomeRequest Q O tx → AllFrom A Q O n (closing b one tx home us)
+closing_all : (A : TxId → Type 0) (Q : TxId → ℕ → Type 0) (O : TxId → Type 0) (n : ℕ) (b one : Bool) (tx : TxId) (home : ℕ) (us : List TxId) → A tx → OwnRequest Q O home tx → AllFrom A Q O n (closing b one tx home us)
 closing_all A Q O n false one tx home us a r = tt
-closing_all A Q O n true true tx home [] a r = (r, tt)
+closing_all A Q O n true true tx home [] a r = (own_some Q O home tx r, tt)
 closing_all A Q O n true true tx home (u ∷ us) a r = ((a, r), tt)
 closing_all A Q O n true false tx home us a r = ((a, r), tt)
 
@@ -134,7 +134,7 @@ pub active_done : (D : TxId → Birth → Type 0) (restored : Bool) (t : TxId) (
 active_done D true t b d e = absurd (both_ways true e refl)
 active_done D false t b d e = d
 
-from_close : (n ep : ℕ) (D : TxId → Birth → Type 0) (A : TxId → Type 0) (Q : TxId → ℕ → Type 0) (O K : TxId → Type 0) → ((t : TxId) (b : Birth) → D t b → A t) → (s : Shard) (tx : TxId) (home : ℕ) (one : Bool) → stage_of s.local tx ≡ Some Active → SomeRequest Q O tx → Origins n ep D A Q O K s
+from_close : (n ep : ℕ) (D : TxId → Birth → Type 0) (A : TxId → Type 0) (Q : TxId → ℕ → Type 0) (O K : TxId → Type 0) → ((t : TxId) (b : Birth) → D t b → A t) → (s : Shard) (tx : TxId) (home : ℕ) (one : Bool) → stage_of s.local tx ≡ Some Active → OwnRequest Q O home tx → Origins n ep D A Q O K s
     → Origins n ep D A Q O K (with_local (close_part tx home one) s)
 from_close n ep D A Q O K da s tx home one a r p =
     let own = part_of n ep D A Q O K s tx Active p a in
@@ -143,7 +143,7 @@ from_close n ep D A Q O K da s tx home one a r p =
       epoch = p.epoch;
       out = p.out;
       voters = p.voters;
-      parts = closed_rows D (SomeRequest Q O) tx s.local.parts r p.parts;
+      parts = closed_rows D (SomeRequest Q O) tx s.local.parts (own_some Q O home tx r) p.parts;
       known = λ t k e. p.known t k (closed_known tx s.local.parts t e);
       log = push_records A Q O n s.local.log (closing (wrote_in s.local.log tx) one tx home (undecided_of s.local tx)) p.log
           (closing_all A Q O n (wrote_in s.local.log tx) one tx home (undecided_of s.local tx) (da tx own.1 (active_done D own.0 tx own.1 own.2 own.3)) r);
@@ -152,11 +152,11 @@ from_close n ep D A Q O K da s tx home one a r p =
 
 -- ---- a request
 
-to_others : (Q : TxId → ℕ → Type 0) (shard : ℕ) (tx : TxId) (test : ℕ × ℕ → Bool) (ts : List (ℕ × ℕ)) → Q tx shard → ((t : ℕ × ℕ) → test t ≡ true → t.0 ≡ shard → ⊥) → AllByRecursion (MessageFrom Q) (map (prepare_for shard tx) (filter test ts))
-to_others Q shard tx test [] q k = tt
-to_others Q shard tx test (t ∷ ts) q k = at (test t) refl (to_others Q shard tx test ts q k)
+to_others : (Q : TxId → ℕ → Type 0) (O : TxId → Type 0) (shard : ℕ) (tx : TxId) (test : ℕ × ℕ → Bool) (ts : List (ℕ × ℕ)) → Q tx shard → ((t : ℕ × ℕ) → test t ≡ true → t.0 ≡ shard → ⊥) → AllByRecursion (MessageFrom Q O) (map (prepare_for shard tx) (filter test ts))
+to_others Q O shard tx test [] q k = tt
+to_others Q O shard tx test (t ∷ ts) q k = at (test t) refl (to_others Q O shard tx test ts q k)
   where
-    at : (b : Bool) → test t ≡ b → AllByRecursion (MessageFrom Q) (map (prepare_for shard tx) (filter test ts)) → AllByRecursion (MessageFrom Q) (map (prepare_for shard tx) (cond b (t ∷ filter test ts) (filter test ts)))
+    at : (b : Bool) → test t ≡ b → AllByRecursion (MessageFrom Q O) (map (prepare_for shard tx) (filter test ts)) → AllByRecursion (MessageFrom Q O) (map (prepare_for shard tx) (cond b (t ∷ filter test ts) (filter test ts)))
     at true e a = ((q, k t e), a)
     at false e a = a
 
@@ -171,7 +171,7 @@ from_coordinate n ep D A Q O K s tx ts q p =
     record {
       shard = p.shard;
       epoch = p.epoch;
-      out = all_append (MessageFrom Q) s.outbox (prepares s.shard tx ts) p.out (to_others Q s.shard tx (λ t. not (t.0 == s.shard)) ts (subst (Q tx) (sym p.shard) q) (not_here s.shard));
+      out = all_append (MessageFrom Q O) s.outbox (prepares s.shard tx ts) p.out (to_others Q O s.shard tx (λ t. not (t.0 == s.shard)) ts (subst (Q tx) (sym p.shard) q) (not_here s.shard));
       voters = p.voters;
       parts = p.parts;
       known = p.known;
@@ -214,56 +214,58 @@ from_drop n ep D A Q O K s tx p = from_marked n ep D A Q O K (with_local (withou
 
 -- ---- reminders
 
-each_from : (Q : TxId → ℕ → Type 0) (f : TxId → Request → List Message) (rs : Table Request) → AllByRecursion (λ r. AllByRecursion (MessageFrom Q) (f r.0 r.1)) rs → AllByRecursion (MessageFrom Q) (each_request f rs)
-each_from Q f [] a = tt
-each_from Q f (r ∷ rs) a = all_append (MessageFrom Q) (f r.0 r.1) _ a.0 (each_from Q f rs a.1)
+each_from : (Q : TxId → ℕ → Type 0) (O : TxId → Type 0) (f : TxId → Request → List Message) (rs : Table Request) → AllByRecursion (λ r. AllByRecursion (MessageFrom Q O) (f r.0 r.1)) rs → AllByRecursion (MessageFrom Q O) (each_request f rs)
+each_from Q O f [] a = tt
+each_from Q O f (r ∷ rs) a = all_append (MessageFrom Q O) (f r.0 r.1) _ a.0 (each_from Q O f rs a.1)
 
 all_rows : {X : Type 0} (P : X → Type 0) → ((x : X) → P x) → (xs : List X) → AllByRecursion P xs
 all_rows P k [] = tt
 all_rows P k (x ∷ xs) = (k x, all_rows P k xs)
 
-missing_from : (Q : TxId → ℕ → Type 0) (shard : ℕ) (tx : TxId) (q : Request) (st : RequestState) → StateFrom Q shard tx st → AllByRecursion (MessageFrom Q) (missing_votes shard tx q st)
-missing_from Q shard tx q Undecided k = to_others Q shard tx (λ t. not (t.0 == shard) && not (is_some (vote_from t.0 q.votes))) q.touched k (λ t. not_here_too shard t (not (is_some (vote_from t.0 q.votes))))
-missing_from Q shard tx q (Committed parts) k = tt
-missing_from Q shard tx q Finished k = tt
-missing_from Q shard tx q (Refused c) k = tt
+missing_from : (Q : TxId → ℕ → Type 0) (O : TxId → Type 0) (shard : ℕ) (tx : TxId) (q : Request) (st : RequestState) → StateFrom Q shard tx st → AllByRecursion (MessageFrom Q O) (missing_votes shard tx q st)
+missing_from Q O shard tx q Undecided k = to_others Q O shard tx (λ t. not (t.0 == shard) && not (is_some (vote_from t.0 q.votes))) q.touched k (λ t. not_here_too shard t (not (is_some (vote_from t.0 q.votes))))
+missing_from Q O shard tx q (Committed parts) k = tt
+missing_from Q O shard tx q Finished k = tt
+missing_from Q O shard tx q (Refused c) k = tt
 
-dones_from : (Q : TxId → ℕ → Type 0) (shard : ℕ) (tx : TxId) (q : Request) (st : RequestState) → AllByRecursion (MessageFrom Q) (missing_dones shard tx q st)
-dones_from Q shard tx q Undecided = tt
-dones_from Q shard tx q (Committed parts) = all_map _ (λ p. Decide p tx shard true) _ (λ p. tt)
-dones_from Q shard tx q Finished = tt
-dones_from Q shard tx q (Refused c) = tt
+dones_from : (Q : TxId → ℕ → Type 0) (O : TxId → Type 0) (shard : ℕ) (tx : TxId) (q : Request) (st : RequestState) → AllByRecursion (MessageFrom Q O) (missing_dones shard tx q st)
+dones_from Q O shard tx q Undecided = tt
+dones_from Q O shard tx q (Committed parts) = all_map (MessageFrom Q O) (λ p. Decide p tx shard true) _ (λ p. tt)
+dones_from Q O shard tx q Finished = tt
+dones_from Q O shard tx q (Refused c) = tt
 
-dones_if : (Q : TxId → ℕ → Type 0) (shard : ℕ) (tx : TxId) (q : Request) (b : Bool) → AllByRecursion (MessageFrom Q) (elim b [ true ↦ missing_dones shard tx q q.state | false ↦ [] ])
-dones_if Q shard tx q true = dones_from Q shard tx q q.state
-dones_if Q shard tx q false = tt
+dones_if : (Q : TxId → ℕ → Type 0) (O : TxId → Type 0) (shard : ℕ) (tx : TxId) (q : Request) (b : Bool) → AllByRecursion (MessageFrom Q O) (elim b [ true ↦ missing_dones shard tx q q.state | false ↦ [] ])
+dones_if Q O shard tx q true = dones_from Q O shard tx q q.state
+dones_if Q O shard tx q false = tt
 
-ask_from : (Q : TxId → ℕ → Type 0) (shard : ℕ) (tx : TxId) (o : Option Voter) → AllByRecursion (MessageFrom Q) (ask_by shard tx o)
-ask_from Q shard tx None = tt
-ask_from Q shard tx (Some v) = (tt, tt)
+ask_from : (Q : TxId → ℕ → Type 0) (O : TxId → Type 0) (shard : ℕ) (tx : TxId) (o : Option Voter) → ((v : Voter) → o ≡ Some v → AwayRequest Q O shard tx) → AllByRecursion (MessageFrom Q O) (ask_by shard tx o)
+ask_from Q O shard tx None k = tt
+ask_from Q O shard tx (Some v) k = (k v refl, tt)
 
-asks_from : (Q : TxId → ℕ → Type 0) (shard : ℕ) (voters : Table Voter) (txs : List TxId) → AllByRecursion (MessageFrom Q) (asks shard voters txs)
-asks_from Q shard voters [] = tt
-asks_from Q shard voters (tx ∷ txs) = all_append (MessageFrom Q) (ask_by shard tx (tx_get tx voters)) _ (ask_from Q shard tx (tx_get tx voters)) (asks_from Q shard voters txs)
+asks_from : (Q : TxId → ℕ → Type 0) (O : TxId → Type 0) (shard : ℕ) (voters : Table Voter) (txs : List TxId) → AllByRecursion (λ r. AwayRequest Q O shard r.0) voters → AllByRecursion (MessageFrom Q O) (asks shard voters txs)
+asks_from Q O shard voters [] a = tt
+asks_from Q O shard voters (tx ∷ txs) a =
+    all_append (MessageFrom Q O) (ask_by shard tx (tx_get tx voters)) _ (ask_from Q O shard tx (tx_get tx voters) (λ v g. rows_get (λ r. AwayRequest Q O shard r.0) tx v voters a g)) (asks_from Q O shard voters txs a)
 
-reminders_from : (n ep : ℕ) (D : TxId → Birth → Type 0) (A : TxId → Type 0) (Q : TxId → ℕ → Type 0) (O K : TxId → Type 0) (s : Shard) → Origins n ep D A Q O K s → AllByRecursion (MessageFrom Q) (reminders s)
+reminders_from : (n ep : ℕ) (D : TxId → Birth → Type 0) (A : TxId → Type 0) (Q : TxId → ℕ → Type 0) (O K : TxId → Type 0) (s : Shard) → Origins n ep D A Q O K s → AllByRecursion (MessageFrom Q O) (reminders s)
 reminders_from n ep D A Q O K s p =
-    all_append (MessageFrom Q) (home_reminders s.shard s.requests (durable_requests s)) (asks s.shard s.voters (waiting_voters s))
-    (all_append (MessageFrom Q) (each_request (λ tx q. missing_votes s.shard tx q q.state) s.requests) _
-    (each_from Q (λ tx q. missing_votes s.shard tx q q.state) s.requests
-    (all_mono (λ r. RowFrom Q O n r.0 r.1) _ (λ r w. missing_from Q s.shard r.0 r.1 (r.1).state (subst (λ z. StateFrom Q z r.0 (r.1).state) (sym p.shard) w.1)) s.requests p.requests))
-    (each_from Q (λ tx q. elim (tx_in tx (durable_requests s)) [ true ↦ missing_dones s.shard tx q q.state | false ↦ [] ]) s.requests
-    (all_rows _ (λ r. dones_if Q s.shard r.0 r.1 (tx_in r.0 (durable_requests s))) s.requests)))
-    (asks_from Q s.shard s.voters (waiting_voters s))
+    all_append (MessageFrom Q O) (home_reminders s.shard s.requests (durable_requests s)) (asks s.shard s.voters (waiting_voters s))
+    (all_append (MessageFrom Q O) (each_request (λ tx q. missing_votes s.shard tx q q.state) s.requests) _
+    (each_from Q O (λ tx q. missing_votes s.shard tx q q.state) s.requests
+    (all_mono (λ r. RowFrom Q O n r.0 r.1) _ (λ r w. missing_from Q O s.shard r.0 r.1 (r.1).state (subst (λ z. StateFrom Q z r.0 (r.1).state) (sym p.shard) w.1)) s.requests p.requests))
+    (each_from Q O (λ tx q. elim (tx_in tx (durable_requests s)) [ true ↦ missing_dones s.shard tx q q.state | false ↦ [] ]) s.requests
+    (all_rows _ (λ r. dones_if Q O s.shard r.0 r.1 (tx_in r.0 (durable_requests s))) s.requests)))
+    (asks_from Q O s.shard s.voters (waiting_voters s) (subst (λ z. AllByRecursion (λ r. AwayRequest Q O z r.0) s.voters) (sym p.shard) p.voters))
 
 -- ---- each step
 
 counted_vote : (Q : TxId → ℕ → Type 0) (n shard from : ℕ) (tx : TxId) (vote : Vote) (q : Request) → StateFrom Q n tx q.state → StateFrom Q n tx (with_vote_of from vote q).state
 counted_vote Q n shard from tx vote q k = k
 
-answer_from : (Q : TxId → ℕ → Type 0) (s : Shard) (tx : TxId) (from : ℕ) (o : Option Bool) → AllByRecursion (MessageFrom Q) (ask_messages s tx from o)
-answer_from Q s tx from None = tt
-answer_from Q s tx from (Some b) = (tt, tt)
+answer_from : (Q : TxId → ℕ → Type 0) (O : TxId → Type 0) (s : Shard) (tx : TxId) (from : ℕ) (o : Option Bool) → AwayRequest Q O from tx → AllByRecursion (MessageFrom Q O) (ask_messages s tx from o)
+answer_from Q O s tx from None a = tt
+answer_from Q O s tx from (Some true) a = (tt, tt)
+answer_from Q O s tx from (Some false) a = (a, tt)
 
 waits_taken : (b d : Bool) → taken_if b d ≡ IsAwaited → b ≡ true
 waits_taken true d e = refl
@@ -274,11 +276,15 @@ from_decided : (n ep : ℕ) (D : TxId → Birth → Type 0) (A : TxId → Type 0
 from_decided n ep D A Q O K s tx true r p = from_push n ep D A Q O K s (Commit tx []) r p
 from_decided n ep D A Q O K s tx false r p = from_rolled n ep D A Q O K s tx p
 
-from_owe : (n ep : ℕ) (D : TxId → Birth → Type 0) (A : TxId → Type 0) (Q : TxId → ℕ → Type 0) (O K : TxId → Type 0) (s : Shard) (tx : TxId) (home seen : ℕ) → SomeRequest Q O tx → Origins n ep D A Q O K s → Origins n ep D A Q O K (owe_vote tx home seen s)
+from_owe : (n ep : ℕ) (D : TxId → Birth → Type 0) (A : TxId → Type 0) (Q : TxId → ℕ → Type 0) (O K : TxId → Type 0) (s : Shard) (tx : TxId) (home seen : ℕ) → AwayRequest Q O n tx → Origins n ep D A Q O K s → Origins n ep D A Q O K (owe_vote tx home seen s)
 from_owe n ep D A Q O K s tx home seen r p =
-    record { shard = p.shard; epoch = p.epoch; out = p.out; voters = rows_put (λ x. SomeRequest Q O x.0) tx (asked_voter home seen (tx_get tx s.voters)) s.voters r p.voters; parts = p.parts; known = p.known; log = p.log; requests = p.requests }
+    record { shard = p.shard; epoch = p.epoch; out = p.out; voters = rows_put (λ x. AwayRequest Q O n x.0) tx (asked_voter home seen (tx_get tx s.voters)) s.voters r p.voters; parts = p.parts; known = p.known; log = p.log; requests = p.requests }
 
-pub from_step : (n ep : ℕ) (D : TxId → Birth → Type 0) (A : TxId → Type 0) (Q : TxId → ℕ → Type 0) (O K : TxId → Type 0) → ((t : TxId) (b : Birth) → D t b → A t) → (s t : Shard) {e : Event} {o : Outcome} → Step s e o t → Owes n D Q e o → Origins n ep D A Q O K s → Origins n ep D A Q O K t
+-- a Prepare that came makes a voter
+came_from : (Q : TxId → ℕ → Type 0) (O : TxId → Type 0) (n to home : ℕ) (tx : TxId) → to ≡ n → Q tx home × (to ≡ home → ⊥) → AwayRequest Q O n tx
+came_from Q O n to home tx e w = inl (home, (λ f. w.1 (e ∙ sym f)), w.0)
+
+pub from_step : (n ep : ℕ) (D : TxId → Birth → Type 0) (A : TxId → Type 0) (Q : TxId → ℕ → Type 0) (O K : TxId → Type 0) → ((t : TxId) (b : Birth) → D t b → A t) → (s t : Shard) {e : Event} {o : Outcome} → Step s e o t → Owes n D Q O e o → Origins n ep D A Q O K s → Origins n ep D A Q O K t
 from_step n ep D A Q O K da s _ (op_dies tx birth nth seen op cause l g) w p = dies_from n ep D A Q O K s tx birth seen op cause l (reply_is s.shard s.local tx birth seen op (OpDies cause l) g) p
 from_step n ep D A Q O K da s _ (op_answers tx birth nth seen op answer l g) w p = answers_from n ep D A Q O K da s tx birth seen op answer l (reply_is s.shard s.local tx birth seen op (OpAnswers answer l) g) w p
 from_step n ep D A Q O K da s _ (request_refused tx ts cause g) w p = p
@@ -286,15 +292,15 @@ from_step n ep D A Q O K da s _ (request_doomed tx ts doom g) w p = p
 from_step n ep D A Q O K da s _ (request_again tx ts f g) w p = p
 from_step n ep D A Q O K da s _ (request_new tx ts f g) w p = from_coordinate n ep D A Q O K s tx ts w p
 from_step n ep D A Q O K da s _ (request_closes tx ts f g) w p =
-    from_coordinate n ep D A Q O K (with_local (close_part tx s.shard (is_alone (others s.shard ts))) s) tx ts w (from_close n ep D A Q O K da s tx s.shard (is_alone (others s.shard ts)) g (inl (n, w)) p)
+    from_coordinate n ep D A Q O K (with_local (close_part tx s.shard (is_alone (others s.shard ts))) s) tx ts w (from_close n ep D A Q O K da s tx s.shard (is_alone (others s.shard ts)) g (inl (subst (Q tx) (sym p.shard) w)) p)
 from_step n ep D A Q O K da s _ (looks_well tx g) w p = p
 from_step n ep D A Q O K da s _ (looks_ill tx cause d g) w p = p
 from_step n ep D A Q O K da s _ (drops tx stage g) w p = from_drop n ep D A Q O K s tx p
 from_step n ep D A Q O K da s _ (sends m ms g) w p =
-    record { shard = p.shard; epoch = p.epoch; out = (subst (AllByRecursion (MessageFrom Q)) g p.out).1; voters = p.voters; parts = p.parts; known = p.known; log = p.log; requests = p.requests }
+    record { shard = p.shard; epoch = p.epoch; out = (subst (AllByRecursion (MessageFrom Q O)) g p.out).1; voters = p.voters; parts = p.parts; known = p.known; log = p.log; requests = p.requests }
 from_step n ep D A Q O K da s _ (prepare_closes tx home seen stamp g) w p =
-    from_owe n ep D A Q O K (with_local (close_part tx home false) s) tx home seen (inl (home, w)) (from_close n ep D A Q O K da s tx home false g (inl (home, w)) p)
-from_step n ep D A Q O K da s _ (prepare_again tx home seen stamp g) w p = from_owe n ep D A Q O K s tx home seen (inl (home, w)) p
+    from_owe n ep D A Q O K (with_local (close_part tx home false) s) tx home seen (came_from Q O n s.shard home tx p.shard w) (from_close n ep D A Q O K da s tx home false g (inl w.0) p)
+from_step n ep D A Q O K da s _ (prepare_again tx home seen stamp g) w p = from_owe n ep D A Q O K s tx home seen (came_from Q O n s.shard home tx p.shard w) p
 from_step n ep D A Q O K da s _ (vote_counts tx from vote stamp q g c) w p =
     let row = row_of n ep D A Q O K s tx q g p in from_set n ep D A Q O K s tx (with_vote_of from vote q) (row.0, row.1) p
 from_step n ep D A Q O K da s _ (decision_comes tx home commit stamp g) w p =
@@ -303,11 +309,11 @@ from_step n ep D A Q O K da s _ (decision_comes tx home commit stamp g) w p =
 from_step n ep D A Q O K da s _ (decision_again tx home commit stamp g) w p = from_send n ep D A Q O K s (Done home tx s.shard ∷ []) (tt, tt) p
 from_step n ep D A Q O K da s _ (done_counts tx from stamp q g c) w p =
     let row = row_of n ep D A Q O K s tx q g p in from_set n ep D A Q O K s tx (with_done_of from q) (row.0, row.1) p
-from_step n ep D A Q O K da s _ (asked tx from stamp) w p = from_send n ep D A Q O K s _ (answer_from Q s tx from (ask_answer (tx_get tx s.requests) (facts_of s tx))) p
-from_step n ep D A Q O K da s _ (reminds m ms g c) w p = from_send n ep D A Q O K s (m ∷ ms) (subst (AllByRecursion (MessageFrom Q)) c (reminders_from n ep D A Q O K s p)) p
+from_step n ep D A Q O K da s _ (asked tx from stamp) w p = from_send n ep D A Q O K s _ (answer_from Q O s tx from (ask_answer (tx_get tx s.requests) (facts_of s tx)) w) p
+from_step n ep D A Q O K da s _ (reminds m ms g c) w p = from_send n ep D A Q O K s (m ∷ ms) (subst (AllByRecursion (MessageFrom Q O)) c (reminders_from n ep D A Q O K s p)) p
 from_step n ep D A Q O K da s _ (flushes k g c) w p = record { shard = p.shard; epoch = p.epoch; out = p.out; voters = p.voters; parts = p.parts; known = p.known; log = p.log; requests = p.requests }
 
-pub from_happens : (n ep : ℕ) (D : TxId → Birth → Type 0) (A : TxId → Type 0) (Q : TxId → ℕ → Type 0) (O K : TxId → Type 0) → ((t : TxId) (b : Birth) → D t b → A t) → (s t : Shard) {e : Event} {o : Outcome} → Happens s e o t → Owes n D Q e o → Origins n ep D A Q O K s → Origins n ep D A Q O K t
+pub from_happens : (n ep : ℕ) (D : TxId → Birth → Type 0) (A : TxId → Type 0) (Q : TxId → ℕ → Type 0) (O K : TxId → Type 0) → ((t : TxId) (b : Birth) → D t b → A t) → (s t : Shard) {e : Event} {o : Outcome} → Happens s e o t → Owes n D Q O e o → Origins n ep D A Q O K s → Origins n ep D A Q O K t
 from_happens n ep D A Q O K da s _ (finishes {t = t} u g) w p = from_finish n ep D A Q O K t (from_step n ep D A Q O K da s t g w p)
 from_happens n ep D A Q O K da s _ (stops u) w p = record { shard = p.shard; epoch = p.epoch; out = p.out; voters = p.voters; parts = p.parts; known = p.known; log = p.log; requests = p.requests }
 
@@ -321,14 +327,22 @@ from_down n ep D A Q O K s p = record { shard = p.shard; epoch = p.epoch; out = 
 -- ---- a restart
 
 -- who is in doubt made its request
-doubt_case : (R : TxId → Type 0) (b : Bool) (tx : TxId) (so_far : List TxId) → R tx → ((t : TxId) → tx_in t so_far ≡ true → R t) → (t : TxId) → tx_in t (cond b (tx_insert tx so_far) so_far) ≡ true → R t
-doubt_case R true tx so_far r k t i = ⊎_elim (λ e. subst R (sym e) r) (λ j. k t j) (in_insert tx t so_far i)
+doubt_case : (R : TxId → Type 0) (b : Bool) (tx : TxId) (so_far : List TxId) → (b ≡ true → R tx) → ((t : TxId) → tx_in t so_far ≡ true → R t) → (t : TxId) → tx_in t (cond b (tx_insert tx so_far) so_far) ≡ true → R t
+doubt_case R true tx so_far r k t i = ⊎_elim (λ e. subst R (sym e) (r refl)) (λ j. k t j) (in_insert tx t so_far i)
 doubt_case R false tx so_far r k t i = k t i
 
-doubts_from : (A : TxId → Type 0) (Q : TxId → ℕ → Type 0) (O : TxId → Type 0) (n : ℕ) (log : List LogRecord) (shard : ℕ) (rs : List LogRecord) (so_far : List TxId) → AllFrom A Q O n rs → ((t : TxId) → tx_in t so_far ≡ true → SomeRequest Q O t)
-    → (t : TxId) → tx_in t (in_doubt_from log shard rs so_far) ≡ true → SomeRequest Q O t
+not_home : (log : List LogRecord) (shard : ℕ) (tx : TxId) (home : ℕ) (ps so_far : List TxId) → doubt_by log shard tx home ps so_far ≡ true → home ≡ shard → ⊥
+not_home log shard tx home ps sf e f =
+    both_ways false refl (subst (λ b. not b ≡ true) (eq-eqb shard home (sym f)) (and_parts (not (shard == home)) (not (committed_in log tx)) (and_parts (not (shard == home) && not (committed_in log tx)) (not (aborted_in log tx)) (and_parts (not (shard == home) && not (committed_in log tx) && not (aborted_in log tx)) _ e).0).0).0)
+
+away_home : (Q : TxId → ℕ → Type 0) (O : TxId → Type 0) (n home : ℕ) (tx : TxId) → OwnRequest Q O home tx → (home ≡ n → ⊥) → AwayRequest Q O n tx
+away_home Q O n home tx (inl q) k = inl (home, k, q)
+away_home Q O n home tx (inr o) k = inr o
+
+doubts_from : (A : TxId → Type 0) (Q : TxId → ℕ → Type 0) (O : TxId → Type 0) (n : ℕ) (log : List LogRecord) (shard : ℕ) (rs : List LogRecord) (so_far : List TxId) → AllFrom A Q O n rs → ((t : TxId) → tx_in t so_far ≡ true → AwayRequest Q O shard t)
+    → (t : TxId) → tx_in t (in_doubt_from log shard rs so_far) ≡ true → AwayRequest Q O shard t
 doubts_from A Q O n log shard [] sf a k = k
-doubts_from A Q O n log shard (PrepareRecord tx home ps ∷ rs) sf a k = doubts_from A Q O n log shard rs _ a.1 (doubt_case (SomeRequest Q O) (doubt_by log shard tx home ps sf) tx sf (a.0).1 k)
+doubts_from A Q O n log shard (PrepareRecord tx home ps ∷ rs) sf a k = doubts_from A Q O n log shard rs _ a.1 (doubt_case (AwayRequest Q O shard) (doubt_by log shard tx home ps sf) tx sf (λ b. away_home Q O shard home tx (a.0).1 (not_home log shard tx home ps sf b)) k)
 doubts_from A Q O n log shard (Update tx key before after ∷ rs) sf a k = doubts_from A Q O n log shard rs sf a.1 k
 doubts_from A Q O n log shard (Clr tx next key after ∷ rs) sf a k = doubts_from A Q O n log shard rs sf a.1 k
 doubts_from A Q O n log shard (Commit tx parts ∷ rs) sf a k = doubts_from A Q O n log shard rs sf a.1 k
@@ -344,8 +358,8 @@ map_rows : {X : Type 0} {Y : Type 0} (P : X → Type 0) (S : Y → Type 0) (f : 
 map_rows P S f [] k a = tt
 map_rows P S f (x ∷ xs) k a = (k x a.0, map_rows P S f xs k a.1)
 
-doubts_all : (A : TxId → Type 0) (Q : TxId → ℕ → Type 0) (O : TxId → Type 0) (n shard : ℕ) (log : List LogRecord) → AllFrom A Q O n log → AllByRecursion (SomeRequest Q O) (in_doubt shard log)
-doubts_all A Q O n shard log a = all_from (SomeRequest Q O) (in_doubt shard log) (doubts_from A Q O n log shard log [] a (λ t i. absurd (both_ways false refl i)))
+doubts_all : (A : TxId → Type 0) (Q : TxId → ℕ → Type 0) (O : TxId → Type 0) (n shard : ℕ) (log : List LogRecord) → AllFrom A Q O n log → AllByRecursion (AwayRequest Q O shard) (in_doubt shard log)
+doubts_all A Q O n shard log a = all_from (AwayRequest Q O shard) (in_doubt shard log) (doubts_from A Q O n log shard log [] a (λ t i. absurd (both_ways false refl i)))
 
 -- whose COMMIT has parts made its request here
 unended_case : (Q : TxId → ℕ → Type 0) (O : TxId → Type 0) (n : ℕ) (log : List LogRecord) (tx : TxId) (parts : List ℕ) (rest : Table (List ℕ)) → CommitFrom Q O n tx parts → AllByRecursion (λ r. OwnRequest Q O n r.0) rest
@@ -407,14 +421,14 @@ restarts_all A Q O n s found epoch after (left, f, e, q) a = subst (AllFrom A Q 
 -- the state that a log leaves
 from_log : (n : ℕ) (D : TxId → Birth → Type 0) (A : TxId → Type 0) (Q : TxId → ℕ → Type 0) (O K : TxId → Type 0) (s : Shard) (epoch : ℕ) (log : List LogRecord) → s.shard ≡ n → ((t : TxId) → K t → ⊥) → AllFrom A Q O n log → Origins n epoch D A Q O K (revived s epoch log)
 from_log n D A Q O K s epoch log e k a =
-    let d = doubts_all A Q O n s.shard log a in
+    let d = subst (λ z. AllByRecursion (AwayRequest Q O z) (in_doubt s.shard log)) e (doubts_all A Q O n s.shard log a) in
     record {
       shard = e;
       epoch = refl;
       out = tt;
-      voters = map_rows (λ r. SomeRequest Q O r.0) (λ r. SomeRequest Q O r.0) (λ p. (p.0, restored_voter p.1)) (homes_of log (in_doubt s.shard log)) (λ r x. x)
-          (map_rows (SomeRequest Q O) (λ r. SomeRequest Q O r.0) (λ t. (t, home_by (prepare_of log t))) (in_doubt s.shard log) (λ t x. x) d);
-      parts = map_rows (SomeRequest Q O) (λ r. PartFrom D (SomeRequest Q O) r.0 r.1) (λ t. (t, restored_part t)) (in_doubt s.shard log) (λ t x. (tt, x)) d;
+      voters = map_rows (λ r. AwayRequest Q O n r.0) (λ r. AwayRequest Q O n r.0) (λ p. (p.0, restored_voter p.1)) (homes_of log (in_doubt s.shard log)) (λ r x. x)
+          (map_rows (AwayRequest Q O n) (λ r. AwayRequest Q O n r.0) (λ t. (t, home_by (prepare_of log t))) (in_doubt s.shard log) (λ t x. x) d);
+      parts = map_rows (AwayRequest Q O n) (λ r. PartFrom D (SomeRequest Q O) r.0 r.1) (λ t. (t, restored_part t)) (in_doubt s.shard log) (λ t x. (tt, away_some Q O n t x)) d;
       known = λ t i f. k t i;
       log = a;
       requests = map_rows (λ r. OwnRequest Q O n r.0) (λ r. RowFrom Q O n r.0 r.1) (λ p. (p.0, restored_request p.1)) (unended_in log log) (λ r x. (x, tt)) (unended_all A Q O n log log a);
@@ -438,28 +452,36 @@ from_more n ep D D' A A' Q Q' O K s d a q p =
     record {
       shard = p.shard;
       epoch = p.epoch;
-      out = all_mono (MessageFrom Q) (MessageFrom Q') messages s.outbox p.out;
-      voters = all_mono (λ r. SomeRequest Q O r.0) (λ r. SomeRequest Q' O r.0) (λ r x. some r.0 x) s.voters p.voters;
+      out = all_mono (MessageFrom Q O) (MessageFrom Q' O) messages s.outbox p.out;
+      voters = all_mono (λ r. AwayRequest Q O n r.0) (λ r. AwayRequest Q' O n r.0) (λ r x. away n r.0 x) s.voters p.voters;
       parts = all_mono (λ r. PartFrom D (SomeRequest Q O) r.0 r.1) (λ r. PartFrom D' (SomeRequest Q' O) r.0 r.1) (λ r x. (births (r.1).is_restored r.0 (r.1).birth x.0, stages (r.1).is_restored r.0 (r.1).stage x.1)) s.local.parts p.parts;
       known = p.known;
       log = all_mono (RecordFrom A Q O n) (RecordFrom A' Q' O n) records s.local.log p.log;
       requests = all_mono (λ r. RowFrom Q O n r.0 r.1) (λ r. RowFrom Q' O n r.0 r.1) (λ r x. (own r.0 x.0, states r.0 (r.1).state x.1)) s.requests p.requests;
     }
   where
+    own_at : (m : ℕ) (t : TxId) → OwnRequest Q O m t → OwnRequest Q' O m t
+    own_at m t (inl x) = inl (q t m x)
+    own_at m t (inr x) = inr x
+
     own : (t : TxId) → OwnRequest Q O n t → OwnRequest Q' O n t
-    own t (inl x) = inl (q t n x)
-    own t (inr x) = inr x
+    own t x = own_at n t x
+
+    away : (m : ℕ) (t : TxId) → AwayRequest Q O m t → AwayRequest Q' O m t
+    away m t (inl (j, k, x)) = inl (j, k, q t j x)
+    away m t (inr x) = inr x
 
     some : (t : TxId) → SomeRequest Q O t → SomeRequest Q' O t
     some t (inl (m, x)) = inl (m, q t m x)
     some t (inr x) = inr x
 
-    messages : (m : Message) → MessageFrom Q m → MessageFrom Q' m
+    messages : (m : Message) → MessageFrom Q O m → MessageFrom Q' O m
     messages (Prepare to tx home seen) x = (q tx home x.0, x.1)
     messages (VoteMessage to tx from vote) x = tt
-    messages (Decide to tx home commit) x = tt
+    messages (Decide to tx home true) x = tt
+    messages (Decide to tx home false) x = away to tx x
     messages (Done to tx from) x = tt
-    messages (Ask to tx from) x = tt
+    messages (Ask to tx from) x = away from tx x
 
     births : (b : Bool) (t : TxId) (w : Birth) → BirthFrom D b t w → BirthFrom D' b t w
     births true t w x = tt
@@ -478,7 +500,7 @@ from_more n ep D D' A A' Q Q' O K s d a q p =
     records : (r : LogRecord) → RecordFrom A Q O n r → RecordFrom A' Q' O n r
     records (Update tx key before after) x = a tx x
     records (Clr tx next key after) x = a tx x
-    records (PrepareRecord tx home ps) x = (a tx x.0, some tx x.1)
+    records (PrepareRecord tx home ps) x = (a tx x.0, own_at home tx x.1)
     records (Commit tx parts) x = commits tx parts x
     records (Abort tx) x = a tx x
     records (End tx) x = own tx x

@@ -1,8 +1,8 @@
 -- Where what a shard has of transactions comes from, and that what is due keeps it so.
-use Rattle.std.proofs.Common.{◌≡◌, ◌⊎◌, inl, inr, ⊎_elim, refl, sym, subst, ◌∙◌, ℕ, suc, true, false, cond, Bool, List, [], ◌∷◌, ◌++◌, map, Option, Some, None}
+use Rattle.std.proofs.Common.{◌≡◌, ◌⊎◌, inl, inr, ⊎_elim, refl, sym, subst, ◌∙◌, ℕ, suc, true, false, cond, not, ◌==◌, Bool, List, [], ◌∷◌, ◌++◌, map, Option, Some, None}
 use Rattle.std.specs.Prelude.{⊤}
 use Rattle.std.specs.List.{AllByRecursion, filter}
-use Rattle.std.proofs.lemmas.Bool.{both_ways, or_cases}
+use Rattle.std.proofs.lemmas.Bool.{both_ways, or_cases, eq-eqb}
 use Rattle.clv_base.specs.declared.names.TxId.{TxId}
 use Rattle.clv_base.specs.declared.names.Birth.{Birth}
 use Rattle.clv_base.specs.declared.logs.LogRecord.{LogRecord}
@@ -24,8 +24,10 @@ use Rattle.clv_base.specs.Orders.{Table, tx_same, tx_in, tx_get, tx_set}
 use Rattle.clv_base.specs.Logs.{StandingUpdate, standing_from, standing, without_newest, wrote_in}
 use Rattle.clv_base.specs.State.{Shard, with_local}
 use Rattle.clv_base.specs.Undo.{aborts_of, clrs_of, newest_lsn, gone_part, gone_in, doomed_here, roll_back}
-use Rattle.clv_base.specs.Facts.{facts_of}
-use Rattle.clv_base.specs.Coordinator.{end_ruling, ruling_in, ruled_request}
+use Rattle.clv_base.specs.declared.causes.AbortCause.{AbortCause}
+use Rattle.clv_base.specs.declared.parts.PartFacts.{PartFacts}
+use Rattle.clv_base.specs.Facts.{has_durable_predecessors, facts_of}
+use Rattle.clv_base.specs.Coordinator.{vote_from, is_open, is_agreed, yes_shards, open_shards, agreed_ruling, refusal, refused_ruling, end_ruling, undecided_ruling, ruling_in, ruled_request}
 use Rattle.clv_base.specs.Due.{send, finish_part, commit_messages, with_vote, finish_reader, with_ruling, do_ruling}
 use Rattle.clv_base.specs.Events.{finish}
 use Rattle.clv_base.proofs.SameNames.{tx_true}
@@ -45,6 +47,14 @@ SomeRequest Q O t = ((n : ℕ) × Q t n) ⊎ O t
 -- it was taken here, or it is of an earlier run
 abbrev pub OwnRequest : (TxId → ℕ → Type 0) → (TxId → Type 0) → ℕ → TxId → Type 0
 OwnRequest Q O n t = Q t n ⊎ O t
+
+-- it was taken on another shard, or it is of an earlier run
+abbrev pub AwayRequest : (TxId → ℕ → Type 0) → (TxId → Type 0) → ℕ → TxId → Type 0
+AwayRequest Q O n t = ((m : ℕ) × (m ≡ n → ⊥) × Q t m) ⊎ O t
+
+pub away_some : (Q : TxId → ℕ → Type 0) (O : TxId → Type 0) (n : ℕ) (t : TxId) → AwayRequest Q O n t → SomeRequest Q O t
+away_some Q O n t (inl (m, k, q)) = inl (m, q)
+away_some Q O n t (inr o) = inr o
 
 pub own_some : (Q : TxId → ℕ → Type 0) (O : TxId → Type 0) (n : ℕ) (t : TxId) → OwnRequest Q O n t → SomeRequest Q O t
 own_some Q O n t (inl q) = inl (n, q)
@@ -72,7 +82,7 @@ CommitFrom Q O n t (p ∷ ps) = OwnRequest Q O n t
 abbrev pub RecordFrom : (TxId → Type 0) → (TxId → ℕ → Type 0) → (TxId → Type 0) → ℕ → LogRecord → Type 0
 RecordFrom A Q O n (Update tx key before after) = A tx
 RecordFrom A Q O n (Clr tx next key after) = A tx
-RecordFrom A Q O n (PrepareRecord tx home ps) = A tx × SomeRequest Q O tx
+RecordFrom A Q O n (PrepareRecord tx home ps) = A tx × OwnRequest Q O home tx
 RecordFrom A Q O n (Commit tx parts) = CommitFrom Q O n tx parts
 RecordFrom A Q O n (Abort tx) = A tx
 RecordFrom A Q O n (End tx) = OwnRequest Q O n tx
@@ -88,19 +98,20 @@ StateFrom Q n t (Refused cause) = ⊤
 abbrev pub RowFrom : (TxId → ℕ → Type 0) → (TxId → Type 0) → ℕ → TxId → Request → Type 0
 RowFrom Q O n t q = OwnRequest Q O n t × StateFrom Q n t q.state
 
--- a Prepare comes of its request at the home, and goes to another shard
-abbrev pub MessageFrom : (TxId → ℕ → Type 0) → Message → Type 0
-MessageFrom Q (Prepare to tx home seen) = Q tx home × (to ≡ home → ⊥)
-MessageFrom Q (VoteMessage to tx from vote) = ⊤
-MessageFrom Q (Decide to tx home commit) = ⊤
-MessageFrom Q (Done to tx from) = ⊤
-MessageFrom Q (Ask to tx from) = ⊤
+-- a Prepare comes of its request at the home, and goes to another shard; so does the word of an abort, and a part that asks is not the home's
+abbrev pub MessageFrom : (TxId → ℕ → Type 0) → (TxId → Type 0) → Message → Type 0
+MessageFrom Q O (Prepare to tx home seen) = Q tx home × (to ≡ home → ⊥)
+MessageFrom Q O (VoteMessage to tx from vote) = ⊤
+MessageFrom Q O (Decide to tx home true) = ⊤
+MessageFrom Q O (Decide to tx home false) = AwayRequest Q O to tx
+MessageFrom Q O (Done to tx from) = ⊤
+MessageFrom Q O (Ask to tx from) = AwayRequest Q O from tx
 
 pub record Origins (n ep : ℕ) (D : TxId → Birth → Type 0) (A : TxId → Type 0) (Q : TxId → ℕ → Type 0) (O : TxId → Type 0) (K : TxId → Type 0) (s : Shard) : Type 0 where
   pub shard : s.shard ≡ n
   pub epoch : s.local.epoch ≡ ep
-  pub out : AllByRecursion (MessageFrom Q) s.outbox
-  pub voters : AllByRecursion (λ r. SomeRequest Q O r.0) s.voters
+  pub out : AllByRecursion (MessageFrom Q O) s.outbox
+  pub voters : AllByRecursion (λ r. AwayRequest Q O n r.0) s.voters
   pub parts : AllByRecursion (λ r. PartFrom D (SomeRequest Q O) r.0 r.1) s.local.parts
   -- whose part is known
   pub known : (t : TxId) → K t → tx_get t s.local.parts ≡ None → ⊥
@@ -229,9 +240,9 @@ from_finished n ep D A Q O K s tx r p =
       requests = p.requests;
     }
 
-pub from_send : (n ep : ℕ) (D : TxId → Birth → Type 0) (A : TxId → Type 0) (Q : TxId → ℕ → Type 0) (O K : TxId → Type 0) (s : Shard) (ms : List Message) → AllByRecursion (MessageFrom Q) ms → Origins n ep D A Q O K s → Origins n ep D A Q O K (send ms s)
+pub from_send : (n ep : ℕ) (D : TxId → Birth → Type 0) (A : TxId → Type 0) (Q : TxId → ℕ → Type 0) (O K : TxId → Type 0) (s : Shard) (ms : List Message) → AllByRecursion (MessageFrom Q O) ms → Origins n ep D A Q O K s → Origins n ep D A Q O K (send ms s)
 from_send n ep D A Q O K s ms a p =
-    record { shard = p.shard; epoch = p.epoch; out = all_append (MessageFrom Q) s.outbox ms p.out a; voters = p.voters; parts = p.parts; known = p.known; log = p.log; requests = p.requests }
+    record { shard = p.shard; epoch = p.epoch; out = all_append (MessageFrom Q O) s.outbox ms p.out a; voters = p.voters; parts = p.parts; known = p.known; log = p.log; requests = p.requests }
 
 pub from_push : (n ep : ℕ) (D : TxId → Birth → Type 0) (A : TxId → Type 0) (Q : TxId → ℕ → Type 0) (O K : TxId → Type 0) (s : Shard) (r : LogRecord) → RecordFrom A Q O n r → Origins n ep D A Q O K s → Origins n ep D A Q O K (record s { local = record s.local { log = s.local.log ++ r ∷ [] } })
 from_push n ep D A Q O K s r a p =
@@ -250,16 +261,38 @@ abbrev Ruled : (TxId → ℕ → Type 0) → ℕ → TxId → RequestState → O
 Ruled Q n t st None = ⊤
 Ruled Q n t st (Some (CommitVerdict parts)) = StateFrom Q n t Undecided
 Ruled Q n t st (Some Acknowledge) = StateFrom Q n t Undecided
-Ruled Q n t st (Some (AbortVerdict cause to)) = ⊤
+Ruled Q n t st (Some (AbortVerdict cause to)) = StateFrom Q n t Undecided × AllByRecursion (λ m. m ≡ n → ⊥) to
 Ruled Q n t st (Some EndVerdict) = ⊤
 
 -- a ruling is given: a commit or an acknowledgement only of an undecided request
-undecided_rules : (Q : TxId → ℕ → Type 0) (n : ℕ) (t : TxId) (o : Option Ruling) → Q t n → Ruled Q n t Undecided o
-undecided_rules Q n t None q = tt
-undecided_rules Q n t (Some (CommitVerdict parts)) q = q
-undecided_rules Q n t (Some Acknowledge) q = q
-undecided_rules Q n t (Some (AbortVerdict cause to)) q = tt
-undecided_rules Q n t (Some EndVerdict) q = tt
+agreed_rules : (Q : TxId → ℕ → Type 0) (n : ℕ) (t : TxId) (f : PartFacts) (u : Bool) (ps : List ℕ) → Q t n → Ruled Q n t Undecided (agreed_ruling f u ps)
+agreed_rules Q n t f u (p ∷ ps) q = q
+agreed_rules Q n t f true [] q = q
+agreed_rules Q n t f false [] q = at (has_durable_predecessors f)
+  where
+    at : (b : Bool) → Ruled Q n t Undecided (cond b (Some Acknowledge) None)
+    at true = q
+    at false = tt
+
+away_shards : (n : ℕ) (test : ℕ → Bool) (ps : List ℕ) → AllByRecursion (λ m. m ≡ n → ⊥) (filter test (filter (λ p. not (p == n)) ps))
+away_shards n test [] = tt
+away_shards n test (p ∷ ps) = at (p == n) refl (away_shards n test ps)
+  where
+    tested : (b : Bool) → (p ≡ n → ⊥) → AllByRecursion (λ m. m ≡ n → ⊥) (filter test (filter (λ p. not (p == n)) ps)) → AllByRecursion (λ m. m ≡ n → ⊥) (cond b (p ∷ filter test (filter (λ p. not (p == n)) ps)) (filter test (filter (λ p. not (p == n)) ps)))
+    tested true k a = (k, a)
+    tested false k a = a
+
+    at : (b : Bool) → (p == n) ≡ b → AllByRecursion (λ m. m ≡ n → ⊥) (filter test (filter (λ p. not (p == n)) ps)) → AllByRecursion (λ m. m ≡ n → ⊥) (filter test (cond (not b) (p ∷ filter (λ p. not (p == n)) ps) (filter (λ p. not (p == n)) ps)))
+    at true e a = a
+    at false e a = tested (test p) (λ f. both_ways (p == n) e (eq-eqb p n f)) a
+
+refused_rules : (Q : TxId → ℕ → Type 0) (n shard : ℕ) (t : TxId) (q : Request) (o : Option AbortCause) → shard ≡ n → Q t n → Ruled Q n t Undecided (refused_ruling shard q o)
+refused_rules Q n shard t q None e k = tt
+refused_rules Q n shard t q (Some c) e k = (k, subst (λ z. AllByRecursion (λ m. m ≡ z → ⊥) (open_shards shard q)) e (away_shards shard (λ p. is_open (vote_from p q.votes)) (map (λ t. t.0) q.touched)))
+
+undecided_rules : (Q : TxId → ℕ → Type 0) (n shard : ℕ) (t : TxId) (q : Request) (f : PartFacts) (b : Bool) → shard ≡ n → Q t n → Ruled Q n t Undecided (undecided_ruling shard t q f b)
+undecided_rules Q n shard t q f true e k = agreed_rules Q n t f f.updates (yes_shards shard q) k
+undecided_rules Q n shard t q f false e k = refused_rules Q n shard t q (refusal t q f) e k
 
 end_rules : (Q : TxId → ℕ → Type 0) (n : ℕ) (t : TxId) (q : Request) (ps parts : List ℕ) → Ruled Q n t (Committed parts) (end_ruling q ps)
 end_rules Q n t q [] parts = tt
@@ -269,11 +302,11 @@ end_rules Q n t q (p ∷ ps) parts = at _
     at true = tt
     at false = tt
 
-ruled : (Q : TxId → ℕ → Type 0) (n : ℕ) (s : Shard) (t : TxId) (q : Request) (st : RequestState) → StateFrom Q n t st → Ruled Q n t st (ruling_in s.shard t q (facts_of s t) st)
-ruled Q n s t q Undecided k = undecided_rules Q n t _ k
-ruled Q n s t q (Committed parts) k = end_rules Q n t q parts parts
-ruled Q n s t q Finished k = tt
-ruled Q n s t q (Refused c) k = tt
+ruled : (Q : TxId → ℕ → Type 0) (n : ℕ) (s : Shard) (t : TxId) (q : Request) (st : RequestState) → s.shard ≡ n → StateFrom Q n t st → Ruled Q n t st (ruling_in s.shard t q (facts_of s t) st)
+ruled Q n s t q Undecided e k = undecided_rules Q n s.shard t q (facts_of s t) (is_agreed s.shard q (facts_of s t)) e k
+ruled Q n s t q (Committed parts) e k = end_rules Q n t q parts parts
+ruled Q n s t q Finished e k = tt
+ruled Q n s t q (Refused c) e k = tt
 
 commit_from : (Q : TxId → ℕ → Type 0) (O : TxId → Type 0) (n : ℕ) (t : TxId) (parts : List ℕ) → Q t n → CommitFrom Q O n t parts
 commit_from Q O n t [] q = inl (n, q)
@@ -281,6 +314,10 @@ commit_from Q O n t (p ∷ ps) q = inl q
 
 ended_state : (Q : TxId → ℕ → Type 0) (n : ℕ) (t : TxId) (q : Request) → StateFrom Q n t q.state → StateFrom Q n t (record q { is_ended = true }).state
 ended_state Q n t q k = k
+
+aborts_away : (Q : TxId → ℕ → Type 0) (O : TxId → Type 0) (n shard : ℕ) (tx : TxId) (ms : List ℕ) → Q tx n → AllByRecursion (λ m. m ≡ n → ⊥) ms → AllByRecursion (MessageFrom Q O) (map (λ m. Decide m tx shard false) ms)
+aborts_away Q O n shard tx [] q a = tt
+aborts_away Q O n shard tx (m ∷ ms) q a = (inl (n, (λ e. a.0 (sym e)), q), aborts_away Q O n shard tx ms q a.1)
 
 from_ruling : (n ep : ℕ) (D : TxId → Birth → Type 0) (A : TxId → Type 0) (Q : TxId → ℕ → Type 0) (O K : TxId → Type 0) (s : Shard) (tx : TxId) (q : Request) (r : Ruling) → RowFrom Q O n tx q → Ruled Q n tx q.state (Some r) → Origins n ep D A Q O K s
     → Origins n ep D A Q O K (do_ruling tx r (with_ruling tx q r s))
@@ -290,23 +327,23 @@ from_ruling n ep D A Q O K s tx q Acknowledge row k p =
     from_finished n ep D A Q O K (with_ruling tx q Acknowledge s) tx (inl (n, k)) (from_set n ep D A Q O K s tx (ruled_request Acknowledge q) (row.0, tt) p)
 from_ruling n ep D A Q O K s tx q (AbortVerdict cause to) row k p =
     let a = from_set n ep D A Q O K s tx (ruled_request (AbortVerdict cause to) q) (row.0, tt) p in
-    from_send n ep D A Q O K (with_local (roll_back tx) (with_ruling tx q (AbortVerdict cause to) s)) (map (λ m. Decide m tx s.shard false) to) (all_map _ (λ m. Decide m tx s.shard false) to (λ m. tt))
+    from_send n ep D A Q O K (with_local (roll_back tx) (with_ruling tx q (AbortVerdict cause to) s)) (map (λ m. Decide m tx s.shard false) to) (aborts_away Q O n s.shard tx to k.0 k.1)
     (from_rolled n ep D A Q O K (with_ruling tx q (AbortVerdict cause to) s) tx a)
 from_ruling n ep D A Q O K s tx q EndVerdict row k p =
     from_push n ep D A Q O K (with_ruling tx q EndVerdict s) (End tx) row.0 (from_set n ep D A Q O K s tx (ruled_request EndVerdict q) (row.0, row.1) p)
 
 -- ---- what is due
 
-commit_messages_from : (Q : TxId → ℕ → Type 0) (s : Shard) (tx : TxId) (o : Option Request) (v : Option Voter) → AllByRecursion (MessageFrom Q) (commit_messages s tx o v)
-commit_messages_from Q s tx (Some q) v = at q.state
+commit_messages_from : (Q : TxId → ℕ → Type 0) (O : TxId → Type 0) (s : Shard) (tx : TxId) (o : Option Request) (v : Option Voter) → AllByRecursion (MessageFrom Q O) (commit_messages s tx o v)
+commit_messages_from Q O s tx (Some q) v = at q.state
   where
-    at : (st : RequestState) → AllByRecursion (MessageFrom Q) (elim st [ Committed parts ↦ map (λ p. Decide p tx s.shard true) parts | Undecided ↦ [] | Finished ↦ [] | Refused cause ↦ [] ])
+    at : (st : RequestState) → AllByRecursion (MessageFrom Q O) (elim st [ Committed parts ↦ map (λ p. Decide p tx s.shard true) parts | Undecided ↦ [] | Finished ↦ [] | Refused cause ↦ [] ])
     at Undecided = tt
     at (Committed parts) = all_map _ (λ p. Decide p tx s.shard true) parts (λ p. tt)
     at Finished = tt
     at (Refused cause) = tt
-commit_messages_from Q s tx None (Some v) = (tt, tt)
-commit_messages_from Q s tx None None = tt
+commit_messages_from Q O s tx None (Some v) = (tt, tt)
+commit_messages_from Q O s tx None None = tt
 
 from_reader : (n ep : ℕ) (D : TxId → Birth → Type 0) (A : TxId → Type 0) (Q : TxId → ℕ → Type 0) (O K : TxId → Type 0) (s : Shard) (tx : TxId) (vote : Vote) → SomeRequest Q O tx → Origins n ep D A Q O K s → Origins n ep D A Q O K (finish_reader tx vote s)
 from_reader n ep D A Q O K s tx Yes r p = p
@@ -316,16 +353,17 @@ from_reader n ep D A Q O K s tx (No why) r p = p
 from_due : (n ep : ℕ) (D : TxId → Birth → Type 0) (A : TxId → Type 0) (Q : TxId → ℕ → Type 0) (O K : TxId → Type 0) → KeptByDue (Origins n ep D A Q O K)
 from_due n ep D A Q O K s _ (commits tx c d) p =
     let own = part_of n ep D A Q O K s tx Closed p c in
-    from_send n ep D A Q O K (finish_part tx s) (commit_messages s tx (tx_get tx s.requests) (tx_get tx s.voters)) (commit_messages_from Q s tx (tx_get tx s.requests) (tx_get tx s.voters))
+    from_send n ep D A Q O K (finish_part tx s) (commit_messages s tx (tx_get tx s.requests) (tx_get tx s.voters)) (commit_messages_from Q O s tx (tx_get tx s.requests) (tx_get tx s.voters))
     (from_finished n ep D A Q O K s tx own.3 p)
 from_due n ep D A Q O K s _ (votes tx v vote g e) p =
-    let r = rows_get (λ x. SomeRequest Q O x.0) tx v s.voters p.voters g in
+    let w = rows_get (λ x. AwayRequest Q O n x.0) tx v s.voters p.voters g in
+    let r = away_some Q O n tx w in
     from_reader n ep D A Q O K (with_vote s tx v vote) tx vote r
     (record {
       shard = p.shard;
       epoch = p.epoch;
-      out = all_append (MessageFrom Q) s.outbox (VoteMessage v.home tx s.shard vote ∷ []) p.out (tt, tt);
-      voters = rows_set (λ x. SomeRequest Q O x.0) tx _ s.voters r p.voters;
+      out = all_append (MessageFrom Q O) s.outbox (VoteMessage v.home tx s.shard vote ∷ []) p.out (tt, tt);
+      voters = rows_set (λ x. AwayRequest Q O n x.0) tx _ s.voters w p.voters;
       parts = p.parts;
       known = p.known;
       log = p.log;
@@ -333,7 +371,7 @@ from_due n ep D A Q O K s _ (votes tx v vote g e) p =
     })
 from_due n ep D A Q O K s _ (rules tx q r g e) p =
     let row = row_of n ep D A Q O K s tx q g p in
-    from_ruling n ep D A Q O K s tx q r row (subst (Ruled Q n tx q.state) e (ruled Q n s tx q q.state row.1)) p
+    from_ruling n ep D A Q O K s tx q r row (subst (Ruled Q n tx q.state) e (ruled Q n s tx q q.state p.shard row.1)) p
 
 pub from_finish : (n ep : ℕ) (D : TxId → Birth → Type 0) (A : TxId → Type 0) (Q : TxId → ℕ → Type 0) (O K : TxId → Type 0) (s : Shard) → Origins n ep D A Q O K s → Origins n ep D A Q O K (finish s)
 from_finish n ep D A Q O K s p =

@@ -43,6 +43,10 @@ WasAskedAt h n t = (e : Entry) × IsAmong n e h × (request_of e.event e.outcome
 abbrev pub WasAsked : History → TxId → Type 0
 WasAsked h t = (n : ℕ) × WasAskedAt h n t
 
+-- or on another than this one
+abbrev pub WasAskedAway : History → ℕ → TxId → Type 0
+WasAskedAway h n t = (m : ℕ) × (m ≡ n → ⊥) × WasAskedAt h m t
+
 -- what a shard of this run has of transactions comes of entries so far, or they are of an earlier run
 pub record ComesOf (run : ℕ) (so_far : History) (n : ℕ) (s : Shard) : Type 0 where
   -- who is active here was answered here in this epoch, with the birth that its part has; and who was has a part
@@ -54,9 +58,9 @@ pub record ComesOf (run : ℕ) (so_far : History) (n : ℕ) (s : Shard) : Type 0
   pub wrote : (t : TxId) → wrote_in s.local.log t ≡ true → WasEverAnswered so_far n t ⊎ (t.run < run)
   pub prepared : (t : TxId) → prepared_in s.local.log t ≡ true → WasAsked so_far t ⊎ (t.run < run)
   pub committed : (t : TxId) → committed_in s.local.log t ≡ true → WasAsked so_far t ⊎ (t.run < run)
-  -- a request that is coordinated here was taken here; who is asked for its vote made its request
+  -- a request that is coordinated here was taken here; who is asked for its vote made its request elsewhere
   pub coordinated : (t : TxId) (q : Request) → tx_get t s.requests ≡ Some q → WasAskedAt so_far n t ⊎ (t.run < run)
-  pub asked : (t : TxId) (v : Voter) → tx_get t s.voters ≡ Some v → WasAsked so_far t ⊎ (t.run < run)
+  pub asked : (t : TxId) (v : Voter) → tx_get t s.voters ≡ Some v → WasAskedAway so_far n t ⊎ (t.run < run)
 
 -- after each front of a legal history, on each shard
 abbrev pub AllComesOfEntries : Type 0

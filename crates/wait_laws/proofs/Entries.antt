@@ -208,10 +208,10 @@ pub record Depends (run : ℕ) (pre : History) (n : ℕ) (s : Shard) : Type 0 wh
   pub traced : Traced run pre n s
   pub tied : Tied (Earlier run pre) s
 
-of_traced : (splits : List ℕ) (before after : List (List LogRecord)) (h pre : History) → Walked (Depends (run_after before)) (Says h) splits before after pre → Walked (Traced (run_after before)) (Says h) splits before after pre
+of_traced : (splits : List ℕ) (before after : List (List LogRecord)) (h pre : History) → Walked (Depends (run_after before)) (Says (run_after before) h) splits before after pre → Walked (Traced (run_after before)) (Says (run_after before) h) splits before after pre
 of_traced splits before after h pre w = record { states = λ n i. (w.states n i).traced; said = w.said }
 
-depends_steps : (splits : List ℕ) (before after : List (List LogRecord)) (h : History) → Legal splits before h after → Steps (Depends (run_after before)) (Says h) splits before after h
+depends_steps : (splits : List ℕ) (before after : List (List LogRecord)) (h : History) → Legal splits before h after → Steps (Depends (run_after before)) (Says (run_after before) h) splits before after h
 depends_steps splits before after h l pre e w x =
     let run = run_after before in
     let s = state_at before after e.0 pre in
@@ -224,7 +224,7 @@ depends_steps splits before after h l pre e w x =
       (λ n i c q. record { traced = g.2 n i c q.traced; tied = tied_mono (Earlier run pre) (Earlier run (pre ++ e ∷ [])) (state_at before after n pre) (earlier_more run h pre e x.behind) q.tied }),
     )
 
-pub depends : (splits : List ℕ) (before after : List (List LogRecord)) (h : History) → may_open splits before ≡ true → Legal splits before h after → Walked (Depends (run_after before)) (Says h) splits before after h
+pub depends : (splits : List ℕ) (before after : List (List LogRecord)) (h : History) → may_open splits before ≡ true → Legal splits before h after → Walked (Depends (run_after before)) (Says (run_after before) h) splits before after h
 depends splits before after h m l =
-    walked (Depends (run_after before)) (Says h) splits before after h l
+    walked (Depends (run_after before)) (Says (run_after before) h) splits before after h l
     (λ n i. record { traced = traced_opens splits before after h m l n i; tied = tied_opens splits before n m (let e = (l.each_log).0 in omega (arith, e, i)) }) (depends_steps splits before after h l)
