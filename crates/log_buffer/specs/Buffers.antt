@@ -1,4 +1,4 @@
--- A buffer: the records with its three fronts, and for how many records more there is room.
+-- A buffer: the records with its three fronts, and for how many records more room is reserved.
 use Rattle.std.specs.Prelude.{ℕ, suc, ◌-◌, ◌≤◌, true, false, nat_lt, List, [], ◌∷◌, length, drop}
 
 pub record Buffer (R : Type 0) : Type 0 where

@@ -23,6 +23,9 @@ pub struct LogBuffer<R: Measured> {
     records: Vec<R>,
     durable: usize,
     taken: usize,
+    // For how many records room was reserved that isn't used. What is free beyond that was promised to nobody, so a call that asks for room on
+    // top of what is reserved doesn't ask for it again, and the lists grow with the records alone.
+    reserved: usize,
     pub(crate) chain: Chain,
 }
 
@@ -33,9 +36,9 @@ impl<R: Measured> Model for LogBuffer<R> {
 
     ghost Value = { Buffer R };
 
-    ghost view = { λ s. record { records = s.records.items; durable = s.durable; taken = s.taken; room = min (vec_capacity s.records - vec_len s.records) (chain_room s.chain) } };
+    ghost view = { λ s. record { records = s.records.items; durable = s.durable; taken = s.taken; room = s.reserved } };
 
-    ghost invariant = { λ s. (s.durable ≤ s.taken) × (s.taken ≤ length s.records.items) × IsChainOf s.chain (map R.link s.records.items) };
+    ghost invariant = { λ s. (s.durable ≤ s.taken) × (s.taken ≤ length s.records.items) × IsChainOf s.chain (map R.link s.records.items) × (s.reserved ≤ min (vec_capacity s.records - vec_len s.records) (chain_room s.chain)) };
 }
 
 impl<R: Measured> LogBuffer<R> {
@@ -49,6 +52,7 @@ impl<R: Measured> LogBuffer<R> {
             records: Vec::new(alloc),
             durable: 0,
             taken: 0,
+            reserved: 0,
             chain: Chain::new(alloc),
         }
     }
@@ -65,6 +69,7 @@ impl<R: Measured> LogBuffer<R> {
                     records,
                     durable: end,
                     taken: end,
+                    reserved: 0,
                     chain,
                 })
             }
@@ -72,12 +77,11 @@ impl<R: Measured> LogBuffer<R> {
         }
     }
 
-    /// For how many records more there is room.
+    /// For how many records more room is reserved.
     pub fn room(&self) -> usize
         ensures { result ≡ self.now.room }
     {
-        let left = self.records.capacity() - self.records.len();
-        left.min(self.chain.room())
+        self.reserved
     }
 
     /// Makes room for so many records more, whatever was reserved before. Room alone changes, and never shrinks.
@@ -87,7 +91,9 @@ impl<R: Measured> LogBuffer<R> {
         ensures same { self.new ≡ record self.old { room = self.new.room } }
     {
         self.records.reserve(count)?;
-        self.chain.reserve(count)
+        self.chain.reserve(count)?;
+        self.reserved = self.reserved.max(count);
+        Ok(())
     }
 
     /// Puts a record at the end, and gives its LSN. Takes no memory.
@@ -101,6 +107,7 @@ impl<R: Measured> LogBuffer<R> {
         let lsn = self.records.len();
         self.chain.push(added.link());
         self.records.push_reserved(added);
+        self.reserved -= 1;
         lsn as u64
     }
 

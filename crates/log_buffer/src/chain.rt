@@ -51,14 +51,6 @@ impl Chain {
         self.newest.reserve(count)
     }
 
-    /// For how many records more there is room.
-    pub(crate) fn room(&self) -> usize
-        ensures { result ≡ chain_room self.now }
-    {
-        let left = self.below.capacity() - self.below.len();
-        left.min(self.newest.room())
-    }
-
     /// None where the transaction has no write, else its newest one that stands.
     pub(crate) fn newest(&self, tx: TxId) -> Option<Option<usize>>
         ensures { (links : List LinkTo) → IsChainOf self.now links → result ≡ newest_in tx links }

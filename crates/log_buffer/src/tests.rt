@@ -114,6 +114,6 @@ fn a_log_that_was_found_is_durable(rt: HostRuntime) -> Result<(), Fail> {
         (None, Some(1))
     );
     assert_eq!(rt; put(&mut buffer, write(3, 40))?, 3);
-    assert!(rt; buffer.reserve(5).is_ok() && buffer.room() >= 5);
+    assert!(rt; buffer.reserve(5).is_ok() && buffer.room() == 5);
     Ok(())
 }

@@ -1,7 +1,7 @@
 -- What is granted leaves a state of which all can still be taken away.
-use Rattle.std.proofs.Common.{◌≡◌, ℕ, suc, ◌+◌, ◌*◌, ◌≤◌, ◌⊎◌, inl, inr, ⊎_elim, Bool, true, false, cond, not, ◌&&◌, ◌||◌, ◌==◌, List, [], ◌∷◌, ◌++◌, length, zero, Option, Some, None, is_none, refl, sym, ap, subst, ◌∙◌, eq-eqb, length-append, arith}
+use Rattle.std.proofs.Common.{◌≡◌, ℕ, suc, ◌+◌, ◌*◌, ◌≤◌, ◌⊎◌, inl, inr, ⊎_elim, Bool, true, false, cond, ◌&&◌, ◌||◌, ◌==◌, List, [], ◌∷◌, length, zero, Option, Some, None, is_none, refl, sym, ap, subst, ◌∙◌, eq-eqb, length-append, arith}
 use Rattle.std.specs.Prelude.{slice_get}
-use Rattle.std.proofs.lemmas.Bool.{both_ways, or_cases, cond_both, cases_Bool, cond-true, cond-false, false_from_ne_true}
+use Rattle.std.proofs.lemmas.Bool.{both_ways, cases_Bool, cond-true, false_from_ne_true}
 use Rattle.std.specs.List.{AllByRecursion, list_any}
 use Rattle.std.specs.BTreeSet.{insert_key}
 use Rattle.std.specs.declared.cmp.Ordering.{Ordering}
@@ -21,7 +21,7 @@ use Rattle.clv_base.specs.declared.modes.Found.TheVariants.{Live, Ghost, Absent}
 use Rattle.clv_base.specs.declared.state.Stage.{Stage}
 use Rattle.clv_base.specs.declared.state.Stage.TheVariants.{Active, Closed, Gone}
 use Rattle.clv_base.specs.declared.state.Held.{Held}
-use Rattle.clv_base.specs.Orders.{Table, tx_same, tx_get, tx_put, pair_cmp, pair_insert, anchor_same}
+use Rattle.clv_base.specs.Orders.{tx_same, tx_get, pair_cmp, pair_insert, anchor_same}
 use Rattle.clv_base.specs.Logs.{StandingUpdate, standing, wrote_in, is_update_of}
 use Rattle.clv_base.specs.Locks.{Locks, take_all, split_gap}
 use Rattle.clv_base.specs.Needs.{Records, found_at, found_by, is_there, live_of, record_set, needs_of, needs_by, inserts, writes_of}
@@ -140,7 +140,7 @@ after_keeps None q rs h = h
 after_keeps (Some w) q rs h = set_keeps q w.key w.after rs h
 
 module _ (tx : TxId) (birth : Birth) (needs : List Need) (locks : Locks) where
-  locks_keep : (insert : Option Insert) (u : TxId) (k : ℕ) → holds true N (At k) u locks ≡ true → holds true N (At k) u (locks_after tx birth needs insert locks) ≡ true
+  pub locks_keep : (insert : Option Insert) (u : TxId) (k : ℕ) → holds true N (At k) u locks ≡ true → holds true N (At k) u (locks_after tx birth needs insert locks) ≡ true
   locks_keep None u k h = all_keeps true N (At k) u tx birth needs locks h
   locks_keep (Some i) u k h =
       all_keeps true N (At k) u tx birth (new_key i.key) (split_gap i.lower (At i.key) (take_all tx birth needs locks))
@@ -239,6 +239,13 @@ updates_written test tx None log = omega arith
 updates_written test tx (Some w) log =
     let a = updates-one test log tx w.key w.before w.after in let b = length-append log (Update tx w.key w.before w.after ∷ []) in omega (arith, a, b)
 
+-- what is reserved beyond the undo of the parts that are here stays so
+pub spare_performed : (tx : TxId) (birth : Birth) (needs : List Need) (insert : Option Insert) (write : Option Write) (preds : List TxId) (l : Local) (spare left : ℕ)
+    → may_work (stage_of l tx) ≡ true → (is_here l tx ≡ true) ⊎ (wrote_in l.log tx ≡ false) → spare + 2 * length (log_after tx write l.log) ≤ left + 2 * length l.log
+    → spare + 2 * updates_by (is_here (performed_by tx birth needs insert write preds l)) (log_after tx write l.log) ≤ left + 2 * updates_by (is_here l) l.log
+spare_performed tx birth needs insert write preds l spare left work known room =
+    let a = updates_still tx birth needs insert write preds l known work in let b = updates_written (is_here (performed_by tx birth needs insert write preds l)) tx write l.log in omega (arith, a, b, room)
+
 -- what is done by a plan that locks what it writes
 pub sound_performed : (tx : TxId) (birth : Birth) (needs : List Need) (insert : Option Insert) (write : Option Write) (preds : List TxId) (l : Local) (spare left : ℕ)
     → IsSound l spare → may_work (stage_of l tx) ≡ true → (is_here l tx ≡ true) ⊎ (wrote_in l.log tx ≡ false) → IsCovered needs insert write
@@ -253,8 +260,7 @@ sound_performed tx birth needs insert write preds l spare left sound work known 
         subst (λ o. is_there (found_at w.key (records_after o l.records)) ≡ true) (sym e) (set_has w.key w.after l.records),
         covered_lock tx birth needs l.locks insert w (subst (IsCovered needs insert) e covered),
       ));
-  room =
-      let a = updates_still tx birth needs insert write preds l known work in let b = updates_written (is_here (performed_by tx birth needs insert write preds l)) tx write l.log in omega (arith, a, b, room, sound.room);
+  room = let a = spare_performed tx birth needs insert write preds l spare left work known room in omega (arith, a, sound.room);
 }
 
 -- ---- what is known of a transaction that may work

@@ -1,33 +1,18 @@
--- Ending one part after another, and giving up locks transaction by transaction.
-use Rattle.std.proofs.Common.{◌≡◌, ℕ, ◌+◌, ◌<◌, length, get_or, drop, drop-cons, add-one, Bool, true, false, cond, not, ◌||◌, List, [], ◌∷◌, map, Option, Some, None, refl, sym, ap, subst, ◌∙◌}
-use Rattle.std.specs.List.{AllByRecursion, filter}
+-- Ending one part after another.
+use Rattle.std.proofs.Common.{◌≡◌, ℕ, ◌+◌, ◌<◌, length, get_or, drop, drop-cons, add-one, Bool, true, false, cond, ◌||◌, List, [], ◌∷◌, map, Option, Some, None, refl, sym, ap, subst, ◌∙◌}
+use Rattle.std.specs.List.{AllByRecursion}
 use Rattle.std.specs.List.Sorted.{IsStrictlySortedBy}
-use Rattle.std.specs.Map.{lookup, keys_of}
+use Rattle.std.specs.Map.{keys_of}
 use Rattle.std.specs.BTreeMap.{insert_entry}
 use Rattle.std.specs.declared.cmp.Ordering.{Ordering}
 use Rattle.std.specs.declared.cmp.Ordering.TheVariants.{Less, Equal, Greater}
 use Rattle.std.specs.Ordering.{is_eq, match_ordering}
 use Rattle.clv_base.specs.declared.names.TxId.{TxId}
-use Rattle.clv_base.specs.declared.modes.Anchor.{Anchor}
-use Rattle.clv_base.specs.declared.modes.Holder.{Holder}
 use Rattle.clv_base.specs.declared.state.Held.{Held}
 use Rattle.clv_base.specs.Orders.{Table, tx_cmp, tx_same, tx_in, tx_get}
-use Rattle.clv_base.specs.Locks.{Locks, release}
 use Rattle.clv_base.specs.Undo.{gone_in, gone_part}
 use Rattle.clv_base.proofs.SameNames.{tx_true}
 use Rattle.violation_deps.proofs.Runs.{tx_total}
-
--- ---- locks
-
-pub release-one_more : (t : TxId) (ts : List TxId) (rows : Locks) → release ts (release (t ∷ []) rows) ≡ release (t ∷ ts) rows
-release-one_more t ts [] = refl
-release-one_more t ts (r ∷ rs) = at (tx_same t (r.1).tx) (release-one_more t ts rs)
-  where
-    at : (a : Bool) → release ts (release (t ∷ []) rs) ≡ release (t ∷ ts) rs
-        → release ts (cond (not (a || false)) (r ∷ release (t ∷ []) rs) (release (t ∷ []) rs))
-        ≡ cond (not (a || tx_in (r.1).tx ts)) (r ∷ release (t ∷ ts) rs) (release (t ∷ ts) rs)
-    at true more = more
-    at false more = ap (λ l. cond (not (tx_in (r.1).tx ts)) (r ∷ l) l) more
 
 -- ---- parts
 
@@ -94,15 +79,6 @@ gone_in-changed doom t (p ∷ ps) = at (tx_same t p.0) (gone_in-changed doom t p
     at false more = ap (λ l. p ∷ l) more
 
 -- ---- by a list's places
-
-pub release-none : (rows : Locks) → release [] rows ≡ rows
-release-none [] = refl
-release-none (r ∷ rs) = ap (λ l. r ∷ l) (release-none rs)
-
-pub release-step : (i : ℕ) (txs : List TxId) (d : TxId) (rows : Locks) → i < length txs → release (drop (i + 1) txs) (release (get_or txs i d ∷ []) rows) ≡ release (drop i txs) rows
-release-step i txs d rows h =
-    let e : drop i txs ≡ get_or txs i d ∷ drop (i + 1) txs = rw (add-one, drop-cons txs i d) refl in
-    release-one_more (get_or txs i d) (drop (i + 1) txs) rows ∙ ap (λ l. release l rows) (sym e)
 
 pub gone_in-nobody : (doom : Option TxId) (parts : Table Held) → gone_in [] doom parts ≡ parts
 gone_in-nobody doom [] = refl

@@ -4,5 +4,5 @@ pub mod Ends
 pub mod Owing
 pub mod Undoing
 pub mod Doing
-pub mod Unlocked
+pub mod Locked
 pub mod Undoable

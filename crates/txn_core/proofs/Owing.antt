@@ -1,5 +1,5 @@
 -- How many records an undo writes.
-use Rattle.std.proofs.Common.{◌≡◌, ℕ, Option, suc, ◌+◌, ◌*◌, ◌≤◌, ⊎_elim, Bool, true, false, cond, not, ◌&&◌, ◌||◌, List, [], ◌∷◌, ◌++◌, map, length, refl, sym, ap, ◌∙◌, length-append, arith}
+use Rattle.std.proofs.Common.{◌≡◌, ℕ, Option, suc, ◌+◌, ◌*◌, ◌≤◌, ⊎_elim, Bool, true, false, cond, ◌||◌, List, [], ◌∷◌, ◌++◌, map, length, refl, sym, ap, ◌∙◌, arith}
 use Rattle.std.proofs.lemmas.Bool.{both_ways, or_cases, cond_both, false_from_ne_true}
 use Rattle.std.proofs.lemmas.List.{length-map}
 use Rattle.std.specs.List.{AllByRecursion, filter}
@@ -10,9 +10,9 @@ use Rattle.clv_base.specs.declared.names.TxId.{TxId}
 use Rattle.clv_base.specs.declared.logs.LogRecord.{LogRecord}
 use Rattle.clv_base.specs.declared.logs.LogRecord.TheVariants.{Update, Clr, Prepare, Commit, Abort, End, Restart}
 use Rattle.clv_base.specs.Orders.{tx_cmp, tx_same, tx_in}
-use Rattle.clv_base.specs.Logs.{StandingUpdate, wrote_in, without_newest, standing_after, standing_from, standing}
+use Rattle.clv_base.specs.Logs.{StandingUpdate, wrote_in, without_newest, standing_from, standing}
 use Rattle.clv_base.specs.Undo.{aborts_of, clrs_of}
-use Rattle.clv_base.proofs.SameNames.{or_right, tx_true, tx_self, tx_flip}
+use Rattle.clv_base.proofs.SameNames.{tx_true, tx_self}
 use Rattle.cascade_undo.specs.Writes.{writes_of}
 use Rattle.txn_core.specs.Sound.{is_update_by, updates_by}
 

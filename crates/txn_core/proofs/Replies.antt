@@ -1,7 +1,6 @@
 -- What the protocol replies, by what is found.
-use Rattle.std.proofs.Common.{◌≡◌, ℕ, ◌<◌, ◌≤◌, Bool, true, false, not, List, length, Option, Some, None, is_none, refl, sym, ap, subst, ◌∙◌, nat_lt, arith}
+use Rattle.std.proofs.Common.{◌≡◌, ℕ, ◌<◌, ◌≤◌, Bool, true, false, length, Option, Some, None, refl, sym, ap, subst, ◌∙◌, nat_lt, arith}
 use Rattle.std.proofs.lemmas.Bool.Decides.{nat_tests}
-use Rattle.std.specs.List.{filter}
 use Rattle.clv_base.specs.declared.names.TxId.{TxId}
 use Rattle.clv_base.specs.declared.names.Birth.{Birth}
 use Rattle.clv_base.specs.declared.ops.Op.{Op}
@@ -11,14 +10,11 @@ use Rattle.clv_base.specs.declared.state.Stage.{Stage}
 use Rattle.clv_base.specs.declared.state.Stage.TheVariants.{Active, Closed, Gone}
 use Rattle.clv_base.specs.declared.modes.Decision.{Decision}
 use Rattle.clv_base.specs.declared.modes.Decision.TheVariants.{Grant as IsGranted, Wait as IsToWait, Die as IsToDie}
-use Rattle.clv_base.specs.Orders.{tx_get, tx_union}
-use Rattle.clv_base.specs.Logs.{committed_in}
 use Rattle.clv_base.specs.Needs.{needs_of}
 use Rattle.clv_base.specs.Locks.{decide, violated}
-use Rattle.clv_base.specs.Facts.{predecessors_of}
 use Rattle.clv_base.specs.State.{Local, is_present}
 use Rattle.clv_base.specs.Undo.{stage_of}
-use Rattle.clv_base.specs.OneShard.{OpDies, OpCrowded, OpReply, op_active, op_decided, op_granted, without_part, rolled_back_if, undecided_after, performed, OpAnswers}
+use Rattle.clv_base.specs.OneShard.{OpDies, OpCrowded, op_active, op_decided, op_granted, without_part, rolled_back_if, undecided_after, performed, OpAnswers}
 use Rattle.violation_deps.specs.Dependencies.{Dependencies}
 use Rattle.violation_deps.proofs.InLog.{AreInLog, undecided_like_log}
 use Rattle.op_needs.specs.Met.{undecided_by_grant}

@@ -1,14 +1,12 @@
 -- What a part did, with all that depend on it, can be taken away, and that leaves the same of the others.
-use Rattle.std.proofs.Common.{◌≡◌, ℕ, zero, suc, ◌+◌, ◌*◌, ◌≤◌, ⊎_elim, Bool, true, false, cond, not, ◌&&◌, ◌||◌, List, [], ◌∷◌, ◌++◌, length, Option, Some, None, refl, sym, ap, subst, ◌∙◌, arith}
-use Rattle.std.proofs.lemmas.Bool.{both_ways, or_cases, cond_both, cases_Bool, cond-true, cond-false, false_from_ne_true}
-use Rattle.std.specs.List.{AllByRecursion, filter, list_any}
+use Rattle.std.proofs.Common.{◌≡◌, ℕ, zero, suc, ◌+◌, ◌*◌, ◌≤◌, ⊎_elim, Bool, true, false, cond, not, ◌&&◌, ◌||◌, List, [], ◌∷◌, length, Option, Some, None, refl, sym, ap, subst, ◌∙◌, arith}
+use Rattle.std.proofs.lemmas.Bool.{both_ways, or_cases, cond_both, cond-true, false_from_ne_true}
+use Rattle.std.specs.List.{AllByRecursion, filter}
 use Rattle.std.specs.List.Sorted.{IsStrictlySortedBy}
 use Rattle.std.specs.declared.cmp.Ordering.{Ordering}
 use Rattle.std.specs.declared.cmp.Ordering.TheVariants.{Less, Equal, Greater}
 use Rattle.std.specs.Ordering.{match_ordering}
 use Rattle.clv_base.specs.declared.names.TxId.{TxId}
-use Rattle.clv_base.specs.declared.modes.Anchor.{Anchor}
-use Rattle.clv_base.specs.declared.modes.Holder.{Holder}
 use Rattle.clv_base.specs.declared.modes.Anchor.TheVariants.{At}
 use Rattle.clv_base.specs.declared.modes.Part.TheVariants.{N}
 use Rattle.clv_base.specs.Orders.{tx_cmp, tx_same, tx_in, tx_insert, anchor_same}
@@ -16,7 +14,7 @@ use Rattle.clv_base.specs.Logs.{StandingUpdate, standing}
 use Rattle.clv_base.specs.Locks.{Locks, release}
 use Rattle.clv_base.specs.Needs.{found_at, found_by, is_there}
 use Rattle.clv_base.specs.State.{Local, is_present}
-use Rattle.clv_base.specs.Undo.{doomed_by, doomed_here, with_successors, successors_through, value_before, records_without, pairs_without, take_away, roll_back}
+use Rattle.clv_base.specs.Undo.{doomed_by, doomed_here, with_successors, successors_through, value_before, records_without, take_away}
 use Rattle.clv_base.specs.declared.state.Held.{Held}
 use Rattle.clv_base.specs.declared.logs.LogRecord.{LogRecord}
 use Rattle.clv_base.specs.Orders.{Table}
@@ -26,15 +24,15 @@ use Rattle.law_base.proofs.Cells.{record_at}
 use Rattle.law_base.proofs.Undoing.{record_undone, reset, standing_undone}
 use Rattle.law_base.specs.Undone.{stays_of}
 use Rattle.shard_laws.proofs.LockRows.{holds, row_holds, release_holds}
-use Rattle.shard_laws.proofs.Leaving.{stage_other, own_go, absent_go}
+use Rattle.shard_laws.proofs.Leaving.{stage_other, own_go}
 use Rattle.shard_laws.proofs.Marking.{stage_marked}
 use Rattle.violation_deps.proofs.Runs.{tx_total}
 use Rattle.violation_deps.proofs.Rising.{insert_key-rises}
-use Rattle.cascade_undo.specs.Writes.{writes_of, HaveRecords}
+use Rattle.cascade_undo.specs.Writes.{HaveRecords}
 use Rattle.cascade_undo.proofs.Standing.{all_mono}
 use Rattle.txn_core.specs.State.{TxState}
 use Rattle.txn_core.proofs.Undoable.{IsUndoable}
-use Rattle.txn_core.specs.Sound.{is_here, has_lock, IsHeld, is_update_by, updates_by, IsSound}
+use Rattle.txn_core.specs.Sound.{is_here, has_lock, IsHeld, updates_by, IsSound, KeepsSpare}
 use Rattle.txn_core.proofs.Owing.{undo_at_most, in_set, count_updates_fewer, count_updates_apart, updates-undone}
 
 -- ---- the doomed are here
@@ -149,6 +147,13 @@ module _ (set : List TxId) (tx : TxId) (l : Local) where
   still_here : (t : TxId) → tx_in t set ≡ false → is_here l t ≡ true → is_here (take_away set tx l) t ≡ true
   still_here t out h = ap is_present (stage_other set (Some tx) t l.parts out) ∙ h
 
+  -- what the set's undo may write was reserved for it
+  pub spare_away : (spare left : ℕ) → ((t : TxId) → tx_in t set ≡ true → is_here l t ≡ true) → spare ≤ left + 2 * updates_by (in_set set) l.log
+      → spare + 2 * updates_by (is_here (take_away set tx l)) (take_away set tx l).log ≤ left + 2 * updates_by (is_here l) l.log
+  spare_away spare left all room =
+      let same = updates-undone (is_here (take_away set tx l)) set (standing l.log) l.log in
+      let apart = count_updates_apart (is_here (take_away set tx l)) (in_set set) (is_here l) l.log (λ t h. (gone_here t h).1) all (λ t h. (gone_here t h).0) in omega (arith, same, apart, room)
+
   -- a set whose members were all here leaves a sound state
   pub sound_away : (spare left : ℕ) → IsSound l spare → ((t : TxId) → tx_in t set ≡ true → is_here l t ≡ true) → spare ≤ left + 2 * updates_by (in_set set) l.log → IsSound (take_away set tx l) left
   sound_away spare left sound all room = record {
@@ -157,10 +162,7 @@ module _ (set : List TxId) (tx : TxId) (l : Local) where
         subst (AllByRecursion (IsHeld (take_away set tx l))) (sym (standing_undone set l.log))
         (all_filter (IsHeld l) (IsHeld (take_away set tx l)) (stays_of set) (standing l.log)
         (λ w h e i. let q = gone_here w.tx i in let held = h q.1 in (undo_keeps set (standing l.log) w.key l held.0, release_keeps set w.tx w.key l.locks q.0 held.1)) sound.writes);
-    room =
-        let same = updates-undone (is_here (take_away set tx l)) set (standing l.log) l.log in
-        let apart = count_updates_apart (is_here (take_away set tx l)) (in_set set) (is_here l) l.log (λ t h. (gone_here t h).1) all (λ t h. (gone_here t h).0) in
-        omega (arith, same, apart, sound.room, room);
+    room = let a = spare_away spare left all room in omega (arith, a, sound.room);
   }
 
 -- ---- other parts, and more room
@@ -186,8 +188,8 @@ sound_more l m spare left same more sound = subst (λ (x : Local). IsSound x lef
 abbrev loc : List (ℕ × Option ℕ) → Locks → Table Held → List (TxId × TxId) → List LogRecord → ℕ → Local
 loc rs ks ps qs lg n = record { records = rs; locks = ks; parts = ps; pairs = qs; log = lg; epoch = n }
 
-abbrev state : ℕ → Local → ℕ → ℕ → ℕ → TxState
-state n l d t r = record { shard = n; local = l; durable = d; taken = t; room = r }
+abbrev state : ℕ → Local → ℕ → ℕ → ℕ → ℕ → TxState
+state n l d t r p = record { shard = n; local = l; durable = d; taken = t; room = r; pairs_room = p }
 
 pub local_same : (rs : List (ℕ × Option ℕ)) (ks : Locks) (ps : Table Held) (qs : List (TxId × TxId)) (lg : List LogRecord) (l : Local) → rs ≡ l.records → ks ≡ l.locks → ps ≡ l.parts → qs ≡ l.pairs → lg ≡ l.log
     → ◌≡◌ {A = Local} (record { records = rs; locks = ks; parts = ps; pairs = qs; log = lg; epoch = l.epoch }) l
@@ -195,9 +197,27 @@ local_same rs ks ps qs lg l a b c d e =
     ap (λ r. loc r ks ps qs lg l.epoch) a ∙ ap (λ k. loc l.records k ps qs lg l.epoch) b ∙ ap (λ p. loc l.records l.locks p qs lg l.epoch) c
     ∙ ap (λ q. loc l.records l.locks l.parts q lg l.epoch) d ∙ ap (λ m. loc l.records l.locks l.parts l.pairs m l.epoch) e
 
-pub state_same : (n : ℕ) (l m : Local) (d e t u r : ℕ) → l ≡ m → d ≡ e → t ≡ u
-    → ◌≡◌ {A = TxState} (record { shard = n; local = l; durable = d; taken = t; room = r }) (record { shard = n; local = m; durable = e; taken = u; room = r })
-state_same n l m d e t u r a b c = ap (λ x. state n x d t r) a ∙ ap (λ x. state n m x t r) b ∙ ap (λ x. state n m e x r) c
+pub state_same : (n : ℕ) (l m : Local) (d e t u r p : ℕ) → l ≡ m → d ≡ e → t ≡ u
+    → ◌≡◌ {A = TxState} (record { shard = n; local = l; durable = d; taken = t; room = r; pairs_room = p }) (record { shard = n; local = m; durable = e; taken = u; room = r; pairs_room = p })
+state_same n l m d e t u r p a b c = ap (λ x. state n x d t r p) a ∙ ap (λ x. state n m x t r p) b ∙ ap (λ x. state n m e x r p) c
 
 pub each_here : (l : Local) (spare : ℕ) → IsSound l spare → (tx : TxId) → is_here l tx ≡ true → (t : TxId) → tx_in t (doomed_by l tx) ≡ true → is_here l t ≡ true
 each_here l spare sound tx here t i = one_passes (is_here l) t (doomed_by l tx) (all_here l spare sound tx here) i
+
+-- ---- what is reserved beyond an undo
+
+-- of a state the parts and the log alone count
+pub spare_like : (s t : TxState) (m : Local) → (t.local).parts ≡ m.parts → (t.local).log ≡ m.log
+    → s.room + 2 * updates_by (is_here m) m.log ≤ t.room + 2 * updates_by (is_here s.local) (s.local).log → KeepsSpare s t
+spare_like s t m parts log h =
+    subst (λ (ps : Table Held). s.room + 2 * updates_by (is_here (record m { parts = ps })) (t.local).log ≤ t.room + 2 * updates_by (is_here s.local) (s.local).log) (sym parts)
+    (subst (λ (lg : List LogRecord). s.room + 2 * updates_by (is_here m) lg ≤ t.room + 2 * updates_by (is_here s.local) (s.local).log) (sym log) h)
+
+pub spare_through : (s m t : TxState) → KeepsSpare s m → KeepsSpare m t → KeepsSpare s t
+spare_through s m t a b = omega (arith, a, b)
+
+-- a mark changes no stage
+pub spare_marked : (s t : TxState) (tx : TxId) → (t.local).parts ≡ marked_in tx (s.local).parts → (t.local).log ≡ (s.local).log → s.room ≤ t.room → KeepsSpare s t
+spare_marked s t tx parts log more =
+    let a = count_updates_fewer (is_here (mark_dropped tx s.local)) (is_here s.local) (s.local).log (λ u h. sym (ap is_present (stage_marked tx u (s.local).parts)) ∙ h) in
+    spare_like s t (mark_dropped tx s.local) parts log (omega (arith, a, more))

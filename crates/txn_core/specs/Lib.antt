@@ -3,4 +3,3 @@ pub mod Judged
 pub mod Attempts
 pub mod Replies
 pub mod Sound
-pub mod Purged

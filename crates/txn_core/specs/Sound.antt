@@ -1,5 +1,5 @@
 -- What holds of a shard's transactions, whatever was done: what a part did can be taken away.
-use Rattle.std.specs.Prelude.{◌≡◌, ℕ, ◌*◌, ◌≤◌, ◌⊎◌, Bool, true, false, ◌&&◌, List, length, Option, Some, None}
+use Rattle.std.specs.Prelude.{◌≡◌, ℕ, ◌+◌, ◌*◌, ◌≤◌, ◌⊎◌, Bool, true, false, ◌&&◌, List, length, Option, Some, None}
 use Rattle.std.specs.List.{AllByRecursion, filter, list_any}
 use Rattle.clv_base.specs.declared.names.TxId.{TxId}
 use Rattle.clv_base.specs.declared.logs.LogRecord.{LogRecord}
@@ -14,9 +14,10 @@ use Rattle.clv_base.specs.Locks.{Locks}
 use Rattle.clv_base.specs.Needs.{found_at, is_there}
 use Rattle.clv_base.specs.State.{Local, is_present}
 use Rattle.clv_base.specs.Undo.{stage_of}
+use Rattle.lock_release.specs.Ghosts.{GhostsAreLocked}
 use Rattle.op_needs.specs.declared.plan.Insert.{Insert}
 use Rattle.op_needs.specs.declared.plan.Write.{Write}
-use Rattle.txn_core.specs.State.{AreSettled}
+use Rattle.txn_core.specs.State.{TxState, AreSettled}
 
 -- whether the transaction's part here is active or closed
 abbrev pub is_here : Local → TxId → Bool
@@ -46,10 +47,15 @@ pub record IsSound (l : Local) (spare : ℕ) : Type 0 where
   -- so much room is in the log: for an ABORT and a CLR for each UPDATE of a part that is here
   pub room : 2 * updates_by (is_here l) l.log ≤ spare
 
--- that, and the COMMITs of the log are known to the dependencies, each at its place
+-- that, each ghost bears a lock, and the COMMITs of the log are known to the dependencies, each at its place
 pub record IsKept (commits : Table ℕ) (l : Local) (spare : ℕ) : Type 0 where
   pub settled : AreSettled commits l.log
   pub sound : IsSound l spare
+  pub ghosts : GhostsAreLocked l.locks l.records
+
+-- room beyond an ABORT and a CLR for each UPDATE of a part that is here never shrinks: what was reserved for more stays reserved
+abbrev pub KeepsSpare : TxState → TxState → Type 0
+KeepsSpare s t = s.room + 2 * updates_by (is_here t.local) (t.local).log ≤ t.room + 2 * updates_by (is_here s.local) (s.local).log
 
 -- whether a part may have operations: it is not known, or active
 abbrev pub may_work : Option Stage → Bool

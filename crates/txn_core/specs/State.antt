@@ -12,12 +12,14 @@ pub record TxState : Type 0 where
   -- how many records of the log are durable, and how many were taken for a batch
   pub durable : ℕ
   pub taken : ℕ
-  -- for how many records more there is room in the log
+  -- for how many records more room is reserved in the log
   pub room : ℕ
+  -- for how many pairs and settled transactions more room is reserved in the dependencies
+  pub pairs_room : ℕ
 
--- another state to work on; the fronts and the shard stay
+-- another state to work on; the fronts and the shard stay, and of room this doesn't tell
 abbrev pub IsSameBut : TxState → Local → TxState → Type 0
-IsSameBut s l t = t ≡ record s { local = l; room = t.room }
+IsSameBut s l t = t ≡ record s { local = l; room = t.room; pairs_room = t.pairs_room }
 
 -- the transactions with a COMMIT in the log are known to be settled, each at its COMMIT's place, and no other
 abbrev pub AreSettled : Table ℕ → List LogRecord → Type 0

@@ -1,13 +1,13 @@
 //! An operation, up to the rolling back of a part that dies.
-ghost use Rattle.std.specs.Prelude.{◌≡◌, true, IfOk, OnErr};
+ghost use Rattle.std.specs.Prelude.{◌≡◌, ◌≤◌, true, IfOk, OnErr};
 ghost use Rattle.clv_base.specs.Needs.{needs_of};
 ghost use Rattle.clv_base.specs.Locks.{violated as violated_by};
 ghost use Rattle.clv_base.specs.OneShard.{OpAnswers, op_reply, performed};
 ghost use Rattle.op_needs.specs.Planned.{IsPlanOf};
 ghost use Rattle.clv_base.specs.Undo.{stage_of as stage_in};
-ghost use Rattle.txn_core.specs.Sound.{may_work};
+ghost use Rattle.txn_core.specs.Sound.{may_work, KeepsSpare};
 ghost use Rattle.txn_core.specs.State.{IsSameBut};
-ghost use Rattle.txn_core.specs.Attempts.{ComesTo, KeepsRoom};
+ghost use Rattle.txn_core.specs.Attempts.{ComesTo};
 
 use crate::judging::Judged;
 use crate::shard::ShardTx;
@@ -23,8 +23,8 @@ use std::alloc::Global;
 /// What an operation comes to.
 #[derive(Drop, Debug)]
 pub(crate) enum Attempt {
-    /// It is done; the shard has this epoch.
-    Answered { answer: Answer, epoch: u64 },
+    /// It is done.
+    Answered(Answer),
     /// Its transaction is dead, and no part of it is here that would have to be rolled back.
     Dead(AbortCause),
     /// Its transaction dies, and its part here is still to be rolled back.
@@ -51,22 +51,18 @@ impl<S: Store + Drop, L: Locks + Drop> ShardTx<S, L> {
         requires violated { violated.now ≡ violated_by tx (needs_of op (self.old.local).records) (self.old.local).locks }
         ensures ok { IfOk result (λ a. ComesTo (OpAnswers plan.answer (performed tx birth op self.old.local)) tx self.old a self.new) }
         ensures err { OnErr result (IsSameBut self.old self.old.local self.new) }
-        ensures room { KeepsRoom self.old self.new }
+        ensures room { KeepsSpare self.old self.new }
+        ensures pairs_room { self.old.pairs_room ≤ self.new.pairs_room }
     {
         performed_by_plan();
-        let epoch = self.epoch;
         match self.perform(alloc, tx, birth, &plan, violated) {
-            Ok(()) => Ok(Attempt::Answered {
-                answer: plan.answer,
-                epoch,
-            }),
+            Ok(()) => Ok(Attempt::Answered(plan.answer)),
             Err(memory) => Err(memory),
         }
     }
 
-    /// An operation of a transaction that was born then; `seen` is the epoch that its session was answered here at its first touch, none at the
-    /// first. It comes to what the protocol says, and leaves the state that the protocol says; ghosts that no lock needs stay until they are
-    /// purged, and a part that dies is still to be rolled back. After a quiet answer, and where there is no memory, all is as before, but that
+    /// An operation of a transaction with this birth; `seen` is the epoch that its session was answered here at its first touch, none at the
+    /// first. It comes to what the protocol says, and leaves the state that the protocol says; a part that dies is still to be rolled back. After a quiet answer, and where there is no memory, all is as before, but that
     /// there may be more room.
     pub(crate) fn attempt(
         &mut self,
@@ -78,7 +74,8 @@ impl<S: Store + Drop, L: Locks + Drop> ShardTx<S, L> {
     ) -> Result<Attempt, Memory>
         ensures ok { IfOk result (λ a. ComesTo (op_reply self.old.shard self.old.local tx birth seen op) tx self.old a self.new) }
         ensures err { OnErr result (IsSameBut self.old self.old.local self.new) }
-        ensures room { KeepsRoom self.old self.new }
+        ensures room { KeepsSpare self.old self.new }
+        ensures pairs_room { self.old.pairs_room ≤ self.new.pairs_room }
     {
         let found = match self.judge(alloc, tx, birth, seen, op) {
             Ok(found) => found,

@@ -1,22 +1,11 @@
 //! The end of parts that an abort takes away.
 ghost use Rattle.std.specs.Prelude.{◌≡◌, [], ◌∷◌, Some};
-ghost use Rattle.clv_base.specs.Locks.{release as without_locks_of};
 ghost use Rattle.clv_base.specs.Undo.{gone_in, gone_part};
 ghost use Rattle.clv_base.specs.OneShard.{marked_in, dropped_part};
 
 use clv_base::names::TxId;
 use clv_base::state::{Held, Stage};
-use lock_table::Locks;
 use std::collections::BTreeMap;
-
-/// The transactions give up all their locks.
-pub(crate) fn release_all<L: Locks>(locks: &mut L, txs: &[TxId])
-    ensures { L.rows locks.new ≡ without_locks_of txs.now (L.rows locks.old) }
-{
-    for tx in txs {
-        locks.release(*tx);
-    }
-}
 
 /// The part, taken away by this abort.
 fn gone(part: Held, doom: TxId) -> Held

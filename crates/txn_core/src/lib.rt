@@ -1,7 +1,9 @@
 //! The transactions of one shard, and their operations.
 //! It promises that what an operation comes to, and the records with their ghosts, the locks, the parts, the predecessors and the log after
-//! it, are the protocol's definition, for each operation and each decision; a quiet answer and want of memory change nothing.
-//! It stands on `op_needs` and `op_effects`, and on the traits of `ordered_store` and `lock_table`, so with each store and each lock table.
+//! it, are the protocol's definition, for each operation and each decision; a quiet answer and want of memory change nothing. Ghosts go with
+//! the last lock on them.
+//! It stands on `op_needs`, `op_effects` and `lock_release`, and on the traits of `ordered_store` and `lock_table`, so with each store and
+//! each lock table.
 #![tactic(auto)]
 
 mod attempt;
@@ -10,7 +12,6 @@ mod ending;
 mod judging;
 mod op;
 mod performing;
-mod purging;
 mod rolling;
 mod shard;
 #[cfg(test)]

@@ -1,8 +1,9 @@
 //! An operation.
-ghost use Rattle.std.specs.Prelude.{◌≡◌, IfOk, OnErr};
+ghost use Rattle.std.specs.Prelude.{◌≡◌, ◌≤◌, IfOk, OnErr};
 ghost use Rattle.clv_base.specs.OneShard.{op_reply};
 ghost use Rattle.txn_core.specs.State.{IsSameBut};
 ghost use Rattle.txn_core.specs.Replies.{Replies};
+ghost use Rattle.txn_core.specs.Sound.{KeepsSpare};
 
 use crate::attempt::Attempt;
 use crate::shard::ShardTx;
@@ -18,7 +19,7 @@ use std::alloc::Global;
 pub enum Reply {
     /// It is done; the shard has this epoch.
     Answered { answer: Answer, epoch: u64 },
-    /// Its transaction is dead: no part of it is left here.
+    /// Its transaction is dead: no active part of it is left here.
     Dead(AbortCause),
     /// Nothing is done: this younger active transaction holds what it needs.
     Wait { younger: TxId },
@@ -27,9 +28,10 @@ pub enum Reply {
 }
 
 impl<S: Store + Drop, L: Locks + Drop> ShardTx<S, L> {
-    /// An operation of a transaction that was born then; `seen` is the epoch that its session was answered here at its first touch, none at the
-    /// first. It is answered what the protocol says, and leaves the state that the protocol says, but for ghosts that no lock needs: these stay
-    /// until they are purged. After a quiet answer all is as before; where there is no memory too, but that there may be more room.
+    /// An operation of a transaction with this birth; `seen` is the epoch that its session was answered here at its first touch, none at the
+    /// first. It is answered what the protocol says, and leaves the state that the protocol says, without the ghosts that bear no lock. After a quiet answer all is as before; where there is no memory too, but that there may be more room. `Memory` is
+    /// also answered in place of a grant to a transaction that has no part here and yet an UPDATE in the log, from before a restart. What was
+    /// reserved in the log beyond the undo of the parts that are here stays reserved, and so does the room for dependencies.
     pub fn op(
         &mut self,
         alloc: Global,
@@ -40,13 +42,16 @@ impl<S: Store + Drop, L: Locks + Drop> ShardTx<S, L> {
     ) -> Result<Reply, Memory>
         ensures ok { IfOk result (λ r. Replies (op_reply self.old.shard self.old.local tx birth seen op) self.old r self.new) }
         ensures err { OnErr result (IsSameBut self.old self.old.local self.new) }
+        ensures room { KeepsSpare self.old self.new }
+        ensures pairs_room { self.old.pairs_room ≤ self.new.pairs_room }
     {
         let attempt = match self.attempt(alloc, tx, birth, seen, op) {
             Ok(attempt) => attempt,
             Err(memory) => return Err(memory),
         };
+        let epoch = self.epoch;
         match attempt {
-            Attempt::Answered { answer, epoch } => Ok(Reply::Answered { answer, epoch }),
+            Attempt::Answered(answer) => Ok(Reply::Answered { answer, epoch }),
             Attempt::Dead(cause) => Ok(Reply::Dead(cause)),
             Attempt::Dying(cause) => {
                 self.roll_back_part(tx);

@@ -6,8 +6,7 @@ ghost use Rattle.op_effects.specs.Effects.{record_count, CanWrite, performed_by}
 ghost use Rattle.txn_core.specs.State.{IsSameBut};
 ghost use Rattle.clv_base.specs.Logs.{wrote_in};
 ghost use Rattle.clv_base.specs.Undo.{stage_of as stage_in};
-ghost use Rattle.txn_core.specs.Sound.{may_work, IsCovered};
-ghost use Rattle.txn_core.specs.Attempts.{KeepsRoom};
+ghost use Rattle.txn_core.specs.Sound.{may_work, IsCovered, KeepsSpare};
 
 use crate::shard::ShardTx;
 use clv_base::logs::LogRecord;
@@ -48,10 +47,27 @@ fn reserve_log(buffer: &mut LogBuffer<LogRecord>, write: Option<Write>) -> Resul
     }
 }
 
+/// Makes room for so many pairs beside what was reserved before, for COMMITs that are to be settled.
+fn reserve_pairs(deps: &mut Deps, count: usize) -> Result<(), Memory>
+    ensures ok { OnOk result (deps.old.room + count ≤ deps.new.room) }
+    ensures room { deps.old.room ≤ deps.new.room }
+    ensures pairs { deps.new.pairs ≡ deps.old.pairs }
+    ensures commits { (t : Tx) → tx_get t deps.new.commits ≡ tx_get t deps.old.commits }
+{
+    let Some(all) = deps.room().checked_add(count) else {
+        return Err(Memory);
+    };
+    match deps.reserve(all) {
+        Ok(()) => Ok(()),
+        Err(_) => Err(Memory),
+    }
+}
+
 /// Makes room for a record, and for so many predecessors.
 fn reserve_rest<S: Store>(store: &mut S, deps: &mut Deps, preds: usize) -> Result<(), Memory>
     ensures store { OnOk result (1 ≤ S.room store.new) }
-    ensures deps { OnOk result (preds ≤ deps.new.room) }
+    ensures deps { OnOk result (deps.old.room + preds ≤ deps.new.room) }
+    ensures room { deps.old.room ≤ deps.new.room }
     ensures records { S.records store.new ≡ S.records store.old }
     ensures pairs { deps.new.pairs ≡ deps.old.pairs }
     ensures commits { (t : Tx) → tx_get t deps.new.commits ≡ tx_get t deps.old.commits }
@@ -60,14 +76,12 @@ fn reserve_rest<S: Store>(store: &mut S, deps: &mut Deps, preds: usize) -> Resul
         Ok(()) => {}
         Err(_) => return Err(Memory),
     }
-    match deps.reserve(preds) {
-        Ok(()) => Ok(()),
-        Err(_) => Err(Memory),
-    }
+    reserve_pairs(deps, preds)
 }
 
 impl<S: Store + Drop, L: Locks + Drop> ShardTx<S, L> {
-    /// Does what was planned and granted, which violates the writes of these. An `Err` changes nothing but room.
+    /// Does what was planned and granted, which violates the writes of these. An `Err` changes nothing but room. What was reserved before
+    /// stays reserved.
     pub(crate) fn perform(
         &mut self,
         alloc: Global,
@@ -81,7 +95,8 @@ impl<S: Store + Drop, L: Locks + Drop> ShardTx<S, L> {
         requires work { may_work (stage_in self.old.local tx) ≡ true }
         ensures ok { OnOk result (IsSameBut self.old (performed_by tx birth plan.now.needs.items plan.now.insert plan.now.write violated.now self.old.local) self.new) }
         ensures err { OnErr result (IsSameBut self.old self.old.local self.new) }
-        ensures room { KeepsRoom self.old self.new }
+        ensures room { KeepsSpare self.old self.new }
+        ensures pairs_room { self.old.pairs_room ≤ self.new.pairs_room }
     {
         if was_before(&self.parts, &self.buffer, tx) {
             return Err(Memory);

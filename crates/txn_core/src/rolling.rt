@@ -1,38 +1,43 @@
 //! Taking away a transaction's part with all that depend on it.
-ghost use Rattle.std.specs.Prelude.{◌≡◌, true, false, is_some, IsTrue};
+ghost use Rattle.std.specs.Prelude.{◌≡◌, ◌≤◌, true, false, is_some, IsTrue};
 ghost use Rattle.clv_base.specs.Undo.{stage_of as stage_in, roll_back as without};
-ghost use Rattle.clv_base.specs.OneShard.{drop_part as dropped_from};
+ghost use Rattle.clv_base.specs.OneShard.{drop_part as dropped_from, purge};
 ghost use Rattle.txn_core.specs.State.{IsSameBut};
-ghost use Rattle.txn_core.specs.Sound.{is_here};
+ghost use Rattle.txn_core.specs.Sound.{is_here, KeepsSpare};
 
-use crate::ending::{end_parts, mark_dropped, release_all};
+use crate::ending::{end_parts, mark_dropped};
 use crate::shard::ShardTx;
 use cascade_undo::roll_back;
 use clv_base::names::TxId;
 use clv_base::state::Stage;
+use lock_release::release_all;
 use lock_table::Locks;
 use ordered_store::Store;
 
 impl<S: Store + Drop, L: Locks + Drop> ShardTx<S, L> {
     /// The transaction and all that depend on it are rolled back: the log gets their ABORTs and CLRs, their keys the values before, their locks
-    /// are given up and their parts are gone. Takes no memory.
+    /// are given up, with the ghosts that bear no lock then, and their parts are gone. Takes no memory.
     pub(crate) fn roll_back_part(&mut self, tx: TxId)
         requires { is_here self.old.local tx ≡ true }
-        ensures { IsSameBut self.old (without tx self.old.local) self.new }
+        ensures without { IsSameBut self.old (purge (without tx self.old.local)) self.new }
+        ensures room { KeepsSpare self.old self.new }
+        ensures pairs_room { self.old.pairs_room ≤ self.new.pairs_room }
     {
         self.deps.mark_dependents(tx);
         roll_back(&mut self.store, &mut self.buffer, &self.deps);
-        release_all(&mut self.locks, self.deps.marks());
+        release_all(&mut self.store, &mut self.locks, self.deps.marks());
         end_parts(&mut self.parts, self.deps.marks(), tx);
         self.deps.forget_marked();
     }
 
-    /// The transaction's part is rolled back with all that depend on it, where it is there, and marked as dropped; false exactly where no part
-    /// of it is known, and then all is as before. Takes no memory.
+    /// The transaction's part is rolled back with all that depend on it, where it is there, and marked as dropped; ghosts that bear no lock then
+    /// go. It is false exactly where no part of it is known, and then all is as before. Takes no memory.
     pub fn drop_part(&mut self, tx: TxId) -> bool
         ensures known { result ≡ is_some (stage_in self.old.local tx) }
-        ensures dropped { IsTrue result → IsSameBut self.old (dropped_from tx self.old.local) self.new }
+        ensures dropped { IsTrue result → IsSameBut self.old (purge (dropped_from tx self.old.local)) self.new }
         ensures absent { result ≡ false → self.new ≡ self.old }
+        ensures room { KeepsSpare self.old self.new }
+        ensures pairs_room { self.old.pairs_room ≤ self.new.pairs_room }
     {
         match self.stage_of(tx) {
             None => return false,

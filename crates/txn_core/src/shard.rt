@@ -36,6 +36,7 @@ impl<S: Store + Drop, L: Locks + Drop> Model for ShardTx<S, L> {
       durable = s.buffer.durable;
       taken = s.buffer.taken;
       room = s.buffer.room;
+      pairs_room = s.deps.room;
     } };
 
     ghost invariant = { λ s. IsKept s.deps.commits (record { records = S.records s.store; locks = L.rows s.locks; parts = s.parts.entries; pairs = s.deps.pairs; log = s.buffer.records; epoch = s.epoch }) s.buffer.room };
@@ -44,8 +45,9 @@ impl<S: Store + Drop, L: Locks + Drop> Model for ShardTx<S, L> {
 impl<S: Store + Drop, L: Locks + Drop> ShardTx<S, L> {
     ghost use Rattle.txn_core.specs.Sound.{IsKept};
 
-    /// The transactions of a shard, made of what they work on: the dependencies have the COMMITs of the log; each part's writes that stand have
-    /// their records, and its locks; and the log has room for an ABORT and a CLR for each UPDATE of a part that isn't gone. Takes no memory.
+    /// The transactions of a shard, made of what they work on: the dependencies have the COMMITs of the log; each that depends on another has
+    /// its part here; each part's writes that stand have their records, and its locks; each ghost bears a lock; and the log has room for an
+    /// ABORT and a CLR for each UPDATE of a part that isn't gone. Takes no memory.
     pub fn new(
         shard: u32,
         epoch: u64,
@@ -59,6 +61,7 @@ impl<S: Store + Drop, L: Locks + Drop> ShardTx<S, L> {
         ensures shard { result.shard ≡ shard }
         ensures local { result.local ≡ record { records = S.records store; locks = L.rows locks; parts = parts.entries; pairs = deps.pairs; log = buffer.records; epoch = epoch } }
         ensures fronts { (result.durable ≡ buffer.durable) × (result.taken ≡ buffer.taken) × (result.room ≡ buffer.room) }
+        ensures pairs_room { result.pairs_room ≡ deps.room }
     {
         ShardTx {
             shard,

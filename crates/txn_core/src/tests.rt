@@ -1,4 +1,7 @@
-// Operations on a shard that begins empty, with memory at hand.
+// Operations on a shard that begins empty, or with three values, with memory at hand.
+ghost use Rattle.std.specs.Prelude.{◌≡◌, [], Some, OnOk};
+ghost use Rattle.clv_base.specs.Needs.{record_set};
+ghost use Rattle.lock_release.specs.Ghosts.{GhostsAreLocked};
 
 use crate::{Reply, ShardTx};
 use clv_base::causes::AbortCause;
@@ -34,8 +37,10 @@ fn birth(session: u32) -> Birth {
     }
 }
 
-/// Shard 3 in epoch 2, with these records.
-fn over(alloc: Global, store: SortedStore) -> Result<Shard, AllocError> {
+/// Shard 3 in epoch 2, with these records, of which none is a ghost.
+fn over(alloc: Global, store: SortedStore) -> Result<Shard, AllocError>
+    requires { GhostsAreLocked [] (⟦<SortedStore as Store>⟧.records store) }
+{
     let deps = Deps::new(alloc)?;
     let buffer = LogBuffer::<LogRecord>::new(alloc);
     Ok(ShardTx::new(
@@ -53,13 +58,21 @@ fn empty(alloc: Global) -> Result<Shard, AllocError> {
     over(alloc, SortedStore::new(alloc))
 }
 
+/// Puts a value at a key, for which it makes room.
+fn put<S: Store>(store: &mut S, key: u64, value: u64) -> Result<(), AllocError>
+    ensures { OnOk result (S.records store.new ≡ record_set key (Some value) (S.records store.old)) }
+{
+    store.reserve(1)?;
+    store.set(key, value);
+    Ok(())
+}
+
 /// The values 1, 2, 3 at 10, 20, 30.
 fn filled(alloc: Global) -> Result<Shard, AllocError> {
     let mut store = SortedStore::new(alloc);
-    for (key, value) in [(10, 1), (20, 2), (30, 3)] {
-        store.reserve(1)?;
-        store.set(key, value);
-    }
+    put(&mut store, 10, 1)?;
+    put(&mut store, 20, 2)?;
+    put(&mut store, 30, 3)?;
     over(alloc, store)
 }
 
@@ -242,15 +255,24 @@ fn a_drop_undoes_and_ghosts_go_with_their_locks(rt: HostRuntime) -> Result<(), F
         ask(alloc, &mut shard, 1, Op::Put(25, 5))?,
         Told::Value(None)
     );
-    shard.purge(10);
     assert_eq!(rt; shard.store.get(10), Found::Ghost);
     assert!(rt; shard.drop_part(tx(1)));
     assert!(rt; !shard.drop_part(tx(2)));
     assert_eq!(rt; shard.store.get(10), Found::Live(1));
-    assert_eq!(rt; shard.store.get(25), Found::Ghost);
-    shard.purge(25);
-    shard.purge(10);
     assert_eq!(rt; shard.store.get(25), Found::Absent);
-    assert_eq!(rt; shard.store.get(10), Found::Live(1));
+    Ok(())
+}
+
+#[test]
+fn many_writes_find_room(rt: HostRuntime) -> Result<(), Fail> {
+    let alloc = rt.alloc();
+    let mut shard = empty(alloc)?;
+    for key in 0..100 {
+        assert_eq!(rt;
+            ask(alloc, &mut shard, 1, Op::Put(key, key))?,
+            Told::Value(None)
+        );
+    }
+    assert_eq!(rt; (shard.buffer.end(), shard.buffer.room()), (100, 200));
     Ok(())
 }

@@ -13,7 +13,7 @@ pub record Dependencies : Type 0 where
   pub commits : Table ℕ
   -- rising
   pub marked : List TxId
-  -- for how many pairs and settled transactions more there is room
+  -- for how many pairs and settled transactions more room is reserved
   pub room : ℕ
 
 -- the predecessors of the transaction that aren't settled

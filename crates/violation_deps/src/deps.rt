@@ -10,7 +10,7 @@ ghost use Rattle.violation_deps.specs.Dependencies.{doomed, undecided_by, due_of
 
 use crate::marking::mark_from;
 use crate::pairs::{Pair, drop_firsts, drop_seconds, run_of};
-use crate::room::{free_places, hold, with_places};
+use crate::room::{hold, with_places};
 use crate::settled::{count_open, greatest};
 use crate::sorted::{contains, insert};
 use clv_base::names::TxId;
@@ -28,12 +28,15 @@ pub struct Deps {
     marks: Vec<TxId>,
     // Where marking gathers whom it still has to follow.
     queue: Vec<TxId>,
+    // For how many pairs and settled transactions room was reserved that isn't used. What is free beyond that was promised to nobody, so a call
+    // that asks for room on top of what is reserved doesn't ask for it again.
+    reserved: usize,
 }
 
 impl Model for Deps {
-    ghost use Rattle.std.specs.Prelude.{◌+◌, ◌-◌, min, vec_len, vec_capacity};
+    ghost use Rattle.std.specs.Prelude.{vec_len, vec_capacity};
     ghost use Rattle.violation_deps.specs.Dependencies.{Dependencies};
-    ghost use Rattle.violation_deps.specs.Kept.{AreKept};
+    ghost use Rattle.violation_deps.specs.Kept.{AreKept, HavePlaces};
 
     ghost Value = { Dependencies };
 
@@ -41,11 +44,11 @@ impl Model for Deps {
       pairs = s.pairs.items;
       commits = s.commits.rows;
       marked = s.marks.items;
-      room = min (min (min (vec_capacity s.pairs - vec_len s.pairs) (vec_capacity s.turned - vec_len s.turned))
-          (min (vec_capacity s.marks - (vec_len s.turned + 2)) (vec_capacity s.queue - (vec_len s.turned + 2)))) s.commits.room;
+      room = s.reserved;
     } };
 
-    ghost invariant = { λ s. AreKept s.pairs.items s.turned.items s.marks.items (vec_capacity s.marks) (vec_capacity s.queue) };
+    ghost invariant = { λ s. AreKept s.pairs.items s.turned.items s.marks.items (vec_capacity s.marks) (vec_capacity s.queue)
+        × HavePlaces s.reserved (vec_len s.pairs) (vec_capacity s.pairs) (vec_len s.turned) (vec_capacity s.turned) (vec_capacity s.marks) (vec_capacity s.queue) s.commits.room };
 }
 
 impl Deps {
@@ -63,17 +66,15 @@ impl Deps {
             commits: TxTable::new(alloc),
             marks,
             queue,
+            reserved: 0,
         })
     }
 
-    /// For how many pairs and settled transactions more there is room. Takes no memory.
+    /// For how many pairs and settled transactions more room is reserved. Takes no memory.
     pub fn room(&self) -> usize
         ensures { result ≡ self.now.room }
     {
-        let pairs = free_places(&self.pairs).min(free_places(&self.turned));
-        let marked = self.turned.len() + 2;
-        let marks = (self.marks.capacity() - marked).min(self.queue.capacity() - marked);
-        pairs.min(marks).min(self.commits.room())
+        self.reserved
     }
 
     /// Makes room for so many pairs and settled transactions more, whatever was reserved before. Room alone changes, and never shrinks.
@@ -89,7 +90,9 @@ impl Deps {
         self.commits.reserve(count)?;
         let places = self.turned.len() + count + 2;
         hold(&mut self.marks, places)?;
-        hold(&mut self.queue, places)
+        hold(&mut self.queue, places)?;
+        self.reserved = self.reserved.max(count);
+        Ok(())
     }
 
     /// The transaction is a successor of the other one. Takes no memory.
@@ -102,6 +105,7 @@ impl Deps {
     {
         insert(&mut self.pairs, (tx, pred));
         insert(&mut self.turned, (pred, tx));
+        self.reserved -= 1;
     }
 
     /// The transaction's COMMIT is in the log, at this LSN. Takes no memory.
@@ -113,6 +117,7 @@ impl Deps {
         ensures room { self.old.room ≤ self.new.room + 1 }
     {
         self.commits.set(pred, lsn);
+        self.reserved -= 1;
     }
 
     /// The LSN at which the transaction was settled.

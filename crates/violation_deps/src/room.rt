@@ -1,15 +1,8 @@
 //! Room in lists of transactions.
-ghost use Rattle.std.specs.Prelude.{◌≡◌, ◌≤◌, ◌-◌, [], IfOk, OnOk, vec_len, vec_capacity};
+ghost use Rattle.std.specs.Prelude.{◌≡◌, ◌≤◌, [], IfOk, OnOk, vec_capacity};
 
 use clv_base::names::TxId;
 use std::alloc::{AllocError, Global};
-
-/// How many places of a list are free.
-pub(crate) fn free_places<T>(list: &Vec<T>) -> usize
-    ensures { result ≡ vec_capacity list.now - vec_len list.now }
-{
-    list.capacity() - list.len()
-}
 
 /// The empty list with so many places.
 pub(crate) fn with_places(alloc: Global, places: usize) -> Result<Vec<TxId>, AllocError>

@@ -81,15 +81,15 @@ fn a_first_mark_needs_no_room(rt: HostRuntime) -> Result<(), Fail> {
 }
 
 #[test]
-fn room_is_told(rt: HostRuntime) -> Result<(), Fail> {
+fn what_is_reserved_is_told(rt: HostRuntime) -> Result<(), Fail> {
     let mut deps = Deps::new(rt.alloc())?;
     assert_eq!(rt; deps.room(), 0);
-    deps.reserve(2)?;
-    assert!(rt; deps.room() >= 2);
+    deps.reserve(3)?;
     deps.add(tx(2), tx(1));
-    assert!(rt; deps.room() >= 1);
-    let more = deps.room() / 2;
-    deps.reserve(more)?;
-    assert!(rt; deps.room() >= 1 && deps.room() >= more);
+    assert_eq!(rt; deps.room(), 2);
+    deps.reserve(1)?;
+    assert_eq!(rt; deps.room(), 2);
+    deps.settle(tx(1), 5);
+    assert_eq!(rt; deps.room(), 1);
     Ok(())
 }

@@ -1,16 +1,17 @@
--- The log has an UPDATE more, so what is settled stays so; and what was done is locked, so all can still be taken away.
-use Rattle.std.proofs.Common.{◌≡◌, ◌+◌, ◌*◌, ◌≤◌, true, false, ◌&&◌, is_none, length, sym, ap, subst, ◌∙◌, arith}
+-- The log has an UPDATE more, so what is settled stays so; what was done is locked, so all can still be taken away; and its undo has room of its own.
+use Rattle.std.proofs.Common.{◌≡◌, ◌+◌, ◌*◌, ◌≤◌, true, sym, ap, subst, ◌∙◌, arith}
 use Rattle.clv_base.specs.Orders.{tx_get}
-use Rattle.clv_base.specs.Logs.{commit_lsn, wrote_in}
+use Rattle.clv_base.specs.Logs.{commit_lsn}
 use Rattle.clv_base.specs.State.{Local}
 use Rattle.clv_base.specs.Undo.{stage_of}
-use Rattle.clv_base.specs.OneShard.{new_part, add_pairs}
+use Rattle.clv_base.specs.OneShard.{add_pairs}
 use Rattle.op_effects.specs.Effects.{performed_by, locks_after, records_after, log_after, record_count}
 use Rattle.txn_core.specs.State.{TxState}
-use Rattle.txn_core.specs.Sound.{may_work, IsSound}
+use Rattle.txn_core.specs.Sound.{may_work, KeepsSpare}
 use Rattle.txn_core.proofs.Settled.{commit_lsn-log_after}
-use Rattle.txn_core.proofs.Undoing.{sound_more, local_same}
-use Rattle.txn_core.proofs.Doing.{sound_performed, known_from, length-log_after}
+use Rattle.txn_core.proofs.Undoing.{sound_more, local_same, spare_like}
+use Rattle.txn_core.proofs.Doing.{sound_performed, spare_performed, known_from, length-log_after}
+use Rattle.txn_core.proofs.Locked.{granted_ghosts_are_locked, ghosts_same}
 use Rattle.txn_core.proofs.shard.ShardTx.perform.Goals as goal
 
 pub invariant_of-self-2 : goal.invariant_of-self-2
@@ -27,9 +28,28 @@ invariant_of-self-2 g c =
     let locks = c.take_locks.ensures ∙ ap (λ n. locks_after tx birth n plan.insert (g.L.Locks.rows c.reserve_locks.new.locks)) c.deref-2.ensures.value ∙ ap (locks_after tx birth needs plan.insert) c.reserve_locks.ensures.rows in
     let pairs = c.add_predecessors.ensures.pairs ∙ ap (add_pairs tx c.args.violated.now) c.reserve_rest.ensures.pairs in
     let log = c.write_down.ensures.log ∙ ap (λ b. log_after tx write b.records) c.reserve_log.ensures.same in
+    let locked = granted_ghosts_are_locked tx birth needs plan.insert l.locks write l.records c.requires.covered c.self.invariant.ghosts in
     record {
       settled = λ t.
           ap (tx_get t) c.add_predecessors.ensures.commits ∙ c.reserve_rest.ensures.commits t ∙ c.self.invariant.settled t
           ∙ sym (ap (λ m. commit_lsn m t) log ∙ commit_lsn-log_after t tx write l.log);
       sound = sound_more (performed_by tx birth needs plan.insert write c.args.violated.now l) _ left left (local_same _ _ _ _ _ (performed_by tx birth needs plan.insert write c.args.violated.now l) records locks c.in-Ok-enter_part.ensures.ok pairs log) (omega arith) after;
+      ghosts = ghosts_same _ _ _ _ locks records locked;
     }
+
+pub returns-clause-room : goal.returns-clause-room
+returns-clause-room g c =
+    let s = c.self.inside in let tx = c.args.tx in let birth = c.args.birth in let plan = c.args.plan.now in
+    let l : Local = record { records = g.S.Store.records s.store; locks = g.L.Locks.rows s.locks; parts = s.parts.entries; pairs = s.deps.pairs; log = s.buffer.records; epoch = s.epoch } in
+    let write = plan.write in let needs = plan.needs.items in let violated = c.args.violated.now in let now = c.write_down.new.buffer in
+    let work : may_work (stage_of l tx) ≡ true = subst (λ (v : TxState). may_work (stage_of v.local tx) ≡ true) (sym c.self.view_is) c.requires.work in
+    let known = known_from l tx work (sym c.was_before.ensures ∙ c.if-was_before.false) in
+    let grown = length-log_after tx write l.log in
+    let reserved : s.buffer.room + 3 * record_count write ≤ c.reserve_log.new.buffer.room = c.in-Ok-reserve_log.ensures.ok in
+    let spare = spare_performed tx birth needs plan.insert write violated l s.buffer.room now.room work known (omega (arith, grown, reserved, c.write_down.ensures.room)) in
+    let log = c.write_down.ensures.log ∙ ap (λ b. log_after tx write b.records) c.reserve_log.ensures.same in
+    let view : TxState = record { shard = s.shard; local = l; durable = s.buffer.durable; taken = s.buffer.taken; room = s.buffer.room; pairs_room = s.deps.room } in
+    let m : Local = record { records = g.S.Store.records c.write_down.new.store; locks = g.L.Locks.rows c.take_locks.new.locks; parts = c.enter_part.new.parts.entries; pairs = c.add_predecessors.new.deps.pairs; log = now.records; epoch = s.epoch } in
+    let left : TxState = record { shard = s.shard; local = m; durable = now.durable; taken = now.taken; room = now.room; pairs_room = c.add_predecessors.new.deps.room } in
+    let inside : KeepsSpare view left = spare_like view left (performed_by tx birth needs plan.insert write violated l) c.in-Ok-enter_part.ensures.ok log spare in
+    subst (λ (v : TxState). KeepsSpare v left) c.self.view_is inside

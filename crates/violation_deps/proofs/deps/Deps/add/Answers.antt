@@ -6,7 +6,10 @@ use Rattle.violation_deps.proofs.deps.Deps.add.Goals as goal
 
 pub invariant_of-self : goal.invariant_of-self
 invariant_of-self c =
-    let room = ap (λ (v : Dependencies). v.room) c.self.view_is in let now = c.insert-2.new.items.ok.0 in
-    let marks_room : length c.insert-2.new.items.items + 1 < vec_capacity c.self.inside.marks = omega (arith, room, now, c.insert-2.ensures.room.1, c.requires) in
-    let queue_room : length c.insert-2.new.items.items + 1 < vec_capacity c.self.inside.queue = omega (arith, room, now, c.insert-2.ensures.room.1, c.requires) in
-    kept_more _ _ _ _ _ c.self.invariant _ _ c.args.tx c.args.pred c.insert.ensures.items c.insert-2.ensures.items marks_room queue_room
+    let room = ap (λ (v : Dependencies). v.room) c.self.view_is in let now = c.insert-2.new.items.ok.0 in let left = c.self.invariant.1 in
+    let marks_room : length c.insert-2.new.items.items + 1 < vec_capacity c.self.inside.marks = omega (arith, room, left.2, now, c.insert-2.ensures.room.1, c.requires) in
+    let queue_room : length c.insert-2.new.items.items + 1 < vec_capacity c.self.inside.queue = omega (arith, room, left.3, now, c.insert-2.ensures.room.1, c.requires) in
+    let first = c.insert.ensures.room in let second = c.insert-2.ensures.room in (
+      kept_more _ _ _ _ _ c.self.invariant.0 _ _ c.args.tx c.args.pred c.insert.ensures.items c.insert-2.ensures.items marks_room queue_room,
+      (omega (arith, room, left.0, first, c.requires), omega (arith, room, left.1, second, c.requires), omega (arith, room, left.2, second, c.requires), omega (arith, room, left.3, second, c.requires), omega (arith, left.4)),
+    )

@@ -13,7 +13,7 @@ returns-then-count_open-gt0 c = let commits = c.self.inside.commits.rows in let 
     let counted : c.count_open.result ≡ length (filter (λ p. is_none (tx_get p commits)) (predecessors_of pairs c.args.tx)) =
     c.count_open.ensures
     ∙ ap (λ (l : List (TxId × TxId)). length (filter (λ p. is_none (tx_get p.1 commits)) l)) (c.run_of-run.ensures ∙ ap (of_tx c.args.tx) c.deref.ensures.value)
-    ∙ length-passing (λ p. is_none (tx_get p commits)) c.args.tx pairs c.self.invariant.pairs_rise in
+    ∙ length-passing (λ p. is_none (tx_get p commits)) c.args.tx pairs c.self.invariant.0.pairs_rise in
     let some : 0 < c.count_open.result = c.if-count_open-gt0.true in
     sym (due_without (filter (λ p. is_none (tx_get p commits)) (predecessors_of pairs c.args.tx)) (greatest_of commits (predecessors_of pairs c.args.tx)) (λ none. absurd (omega (arith, counted, none, some))))
     ∙ ap (λ (v : Dependencies). due_of v c.args.tx) c.self.view_is
@@ -23,9 +23,9 @@ returns c = let commits = c.self.inside.commits.rows in let pairs = c.self.insid
     let run = c.run_of-run.ensures ∙ ap (of_tx c.args.tx) c.deref.ensures.value in
     let counted : c.count_open.result ≡ length (filter (λ p. is_none (tx_get p commits)) (predecessors_of pairs c.args.tx)) =
     c.count_open.ensures ∙ ap (λ (l : List (TxId × TxId)). length (filter (λ p. is_none (tx_get p.1 commits)) l)) run
-    ∙ length-passing (λ p. is_none (tx_get p commits)) c.args.tx pairs c.self.invariant.pairs_rise in
+    ∙ length-passing (λ p. is_none (tx_get p commits)) c.args.tx pairs c.self.invariant.0.pairs_rise in
     let none : length (filter (λ p. is_none (tx_get p commits)) (predecessors_of pairs c.args.tx)) ≡ 0 = omega (arith, counted, c.if-count_open-gt0.false) in
     c.greatest.ensures
-    ∙ ap (greatest_of commits) (ap (map (λ (p : TxId × TxId). p.1)) run ∙ sym (predecessors_of-run c.args.tx pairs c.self.invariant.pairs_rise))
+    ∙ ap (greatest_of commits) (ap (map (λ (p : TxId × TxId). p.1)) run ∙ sym (predecessors_of-run c.args.tx pairs c.self.invariant.0.pairs_rise))
     ∙ sym (due_with (filter (λ p. is_none (tx_get p commits)) (predecessors_of pairs c.args.tx)) (greatest_of commits (predecessors_of pairs c.args.tx)) none)
     ∙ ap (λ (v : Dependencies). due_of v c.args.tx) c.self.view_is

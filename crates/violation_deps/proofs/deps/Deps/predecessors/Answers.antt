@@ -9,4 +9,4 @@ use Rattle.violation_deps.proofs.deps.Deps.predecessors.Goals as goal
 pub returns : goal.returns
 returns c =
     ap (map (λ (p : TxId × TxId). p.1)) (c.run_of.ensures ∙ ap (of_tx c.args.tx) c.deref.ensures.value)
-    ∙ sym (predecessors_of-run c.args.tx c.self.inside.pairs.items c.self.invariant.pairs_rise) ∙ ap (λ (v : Dependencies). predecessors_of v.pairs c.args.tx) c.self.view_is
+    ∙ sym (predecessors_of-run c.args.tx c.self.inside.pairs.items c.self.invariant.0.pairs_rise) ∙ ap (λ (v : Dependencies). predecessors_of v.pairs c.args.tx) c.self.view_is

@@ -11,5 +11,5 @@ pub returns : goal.returns
 returns c = let commits = c.self.inside.commits.rows in
     c.count_open.ensures
     ∙ ap (λ (l : List (TxId × TxId)). length (filter (λ p. is_none (tx_get p.1 commits)) l)) (c.run_of.ensures ∙ ap (of_tx c.args.tx) c.deref.ensures.value)
-    ∙ length-passing (λ p. is_none (tx_get p commits)) c.args.tx c.self.inside.pairs.items c.self.invariant.pairs_rise
+    ∙ length-passing (λ p. is_none (tx_get p commits)) c.args.tx c.self.inside.pairs.items c.self.invariant.0.pairs_rise
     ∙ ap (λ (v : Dependencies). length (undecided_by v c.args.tx)) c.self.view_is

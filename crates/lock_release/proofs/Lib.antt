@@ -1,0 +1,2 @@
+pub mod Purged
+pub mod Giving

@@ -1,0 +1,158 @@
+-- Each ghost bears a lock, whatever was done, and a purge leaves what a part did.
+use Rattle.std.proofs.Common.{◌≡◌, ℕ, Bool, true, false, cond, not, ◌&&◌, ◌==◌, List, [], ◌∷◌, unwrap_or, Option, Some, None, refl, sym, ap, subst, ◌∙◌, ⊎_elim, eqb-true}
+use Rattle.std.proofs.lemmas.Bool.{both_ways, not-false, and_from, and_parts, or_cases}
+use Rattle.std.specs.List.{AllByRecursion, list_any}
+use Rattle.std.specs.declared.cmp.Ordering.{Ordering}
+use Rattle.std.specs.declared.cmp.Ordering.TheVariants.{Less, Equal, Greater}
+use Rattle.std.specs.Ordering.{nat_cmp, is_eq, match_ordering}
+use Rattle.clv_base.specs.declared.names.TxId.{TxId}
+use Rattle.clv_base.specs.declared.names.Birth.{Birth}
+use Rattle.clv_base.specs.declared.modes.Anchor.TheVariants.{At}
+use Rattle.clv_base.specs.declared.modes.Part.TheVariants.{N}
+use Rattle.clv_base.specs.declared.modes.Need.{Need}
+use Rattle.clv_base.specs.Orders.{tx_in, anchor_same}
+use Rattle.clv_base.specs.Logs.{StandingUpdate, standing}
+use Rattle.clv_base.specs.Locks.{Locks}
+use Rattle.clv_base.specs.Needs.{Records, found_by, is_there, record_set, is_locked_or_live}
+use Rattle.clv_base.specs.State.{Local}
+use Rattle.clv_base.specs.Undo.{value_before, records_without}
+use Rattle.clv_base.specs.OneShard.{purge}
+use Rattle.clv_base.proofs.SameNames.{or_left, or_right, tx_self, nat_cmp_true}
+use Rattle.law_base.proofs.Anchors.{record_kept}
+use Rattle.shard_laws.proofs.LockRows.{holds, held_not_free}
+use Rattle.cascade_undo.proofs.Standing.{all_mono}
+use Rattle.lock_release.specs.Ghosts.{GhostsAreLocked}
+use Rattle.lock_release.proofs.Purged.{all_pass, all_stay}
+use Rattle.op_needs.specs.declared.plan.Insert.{Insert}
+use Rattle.op_needs.specs.declared.plan.Write.{Write}
+use Rattle.op_effects.specs.Effects.{locks_after, records_after}
+use Rattle.txn_core.specs.State.{TxState, IsSameBut}
+use Rattle.txn_core.specs.Sound.{is_here, has_lock, IsHeld, IsSound, IsCovered}
+use Rattle.txn_core.proofs.Undoing.{lock_is_held}
+use Rattle.txn_core.proofs.Doing.{locks_keep, covered_lock}
+
+-- whether somebody holds a lock on the record at the key
+abbrev is_held_at : ℕ → Locks → Bool
+is_held_at k locks = list_any (λ r. anchor_same (At k) r.0) locks
+
+-- each record is live, or bears a lock
+abbrev AllStay : Locks → Records → Type 0
+AllStay locks rs = AllByRecursion (λ r. is_locked_or_live locks r ≡ true) rs
+
+held_stays : (locks : Locks) (k : ℕ) → is_held_at k locks ≡ true → (v : Option ℕ) → is_locked_or_live locks (k, v) ≡ true
+held_stays locks k h (Some v) = refl
+held_stays locks k h None = ap (λ b. not (not b)) h
+
+-- a lock of one is a lock
+lock_on : (t : TxId) (k : ℕ) (locks : Locks) → has_lock t k locks ≡ true → is_held_at k locks ≡ true
+lock_on t k locks h = not-false _ (held_not_free true N (At k) t locks (sym (lock_is_held t k locks) ∙ h))
+
+-- who holds it
+holder_at : (k : ℕ) (locks : Locks) → is_held_at k locks ≡ true → (t : TxId) × (holds true N (At k) t locks ≡ true)
+holder_at k [] e = absurd (both_ways false refl e)
+holder_at k (r ∷ rs) e =
+    ⊎_elim
+    (λ h. ((r.1).tx, or_left _ _ (and_from _ true (and_from _ _ h (tx_self (r.1).tx)) refl)))
+    (λ h. let more = holder_at k rs h in (more.0, or_right _ _ more.1))
+    (or_cases (anchor_same (At k) r.0) (is_held_at k rs) e)
+
+-- ---- what is granted
+
+all_weaker : {A : Type 0} (P Q : A → Type 0) → ((x : A) → P x → Q x) → (xs : List A) → AllByRecursion P xs → AllByRecursion Q xs
+all_weaker P Q h [] a = tt
+all_weaker P Q h (x ∷ xs) a = (h x a.0, all_weaker P Q h xs a.1)
+
+set_all : (locks : Locks) (k : ℕ) (v : Option ℕ) (rs : Records) → is_held_at k locks ≡ true → AllStay locks rs → AllStay locks (record_set k v rs)
+set_all locks k v [] h a = (held_stays locks k h v, tt)
+set_all locks k v (r ∷ rs) h a = at (nat_cmp k r.0) (λ e. nat_cmp_true k r.0 (ap is_eq e)) (set_all locks k v rs h a.1)
+  where
+    at : (o : Ordering) → (o ≡ Equal → k ≡ r.0) → AllStay locks (record_set k v rs) → AllStay locks (match_ordering o ((k, v) ∷ r ∷ rs) ((r.0, v) ∷ rs) (r ∷ record_set k v rs))
+    at Less same more = (held_stays locks k h v, a)
+    at Equal same more = (held_stays locks r.0 (subst (λ j. is_held_at j locks ≡ true) (same refl) h) v, a.1)
+    at Greater same more = (a.0, more)
+
+module _ (tx : TxId) (birth : Birth) (needs : List Need) (insert : Option Insert) (locks : Locks) where
+  abbrev granted : Locks
+  granted = locks_after tx birth needs insert locks
+
+  held_still : (k : ℕ) → is_held_at k locks ≡ true → is_held_at k granted ≡ true
+  held_still k h = let t = holder_at k locks h in not-false _ (held_not_free true N (At k) t.0 granted (locks_keep tx birth needs locks insert t.0 k t.1))
+
+  stays_still : (k : ℕ) (v : Option ℕ) → is_locked_or_live locks (k, v) ≡ true → is_locked_or_live granted (k, v) ≡ true
+  stays_still k (Some v) e = refl
+  stays_still k None e = ap (λ b. not (not b)) (held_still k (twice (is_held_at k locks) e))
+    where
+      twice : (b : Bool) → not (not b) ≡ true → b ≡ true
+      twice true e = refl
+      twice false e = e
+
+  written_all : (write : Option Write) (rs : Records) → IsCovered needs insert write → AllStay granted rs → AllStay granted (records_after write rs)
+  written_all None rs covered a = a
+  written_all (Some w) rs covered a = set_all granted w.key w.after rs (lock_on tx w.key granted (covered_lock tx birth needs locks insert w covered)) a
+
+  -- what is written is locked, and no lock goes
+  pub granted_ghosts_are_locked : (write : Option Write) (rs : Records) → IsCovered needs insert write → GhostsAreLocked locks rs → GhostsAreLocked granted (records_after write rs)
+  granted_ghosts_are_locked write rs covered locked =
+      all_stay (is_locked_or_live granted) (records_after write rs)
+      (written_all write rs covered (all_weaker (λ r. is_locked_or_live locks r ≡ true) (λ r. is_locked_or_live granted r ≡ true) (λ r e. stays_still r.0 r.1 e) rs (all_pass (is_locked_or_live locks) rs locked)))
+
+-- ---- what is undone
+
+-- a key of which a value before was found is one that the set wrote
+before_held : (set : List TxId) (k : ℕ) (locks : Locks) (ws : List StandingUpdate) → AllByRecursion (λ (w : StandingUpdate). tx_in w.tx set ≡ true → is_held_at w.key locks ≡ true) ws
+    → (v : Option ℕ) → value_before set k ws ≡ Some v → is_held_at k locks ≡ true
+before_held set k locks [] a v e = absurd cc
+before_held set k locks (w ∷ ws) a v e = at (value_before set k ws) e (before_held set k locks ws a.1)
+  where
+    here : (b : Bool) → (tx_in w.tx set && (k == w.key)) ≡ b → cond b (Some w.before) None ≡ Some v → is_held_at k locks ≡ true
+    here true t e = let p = and_parts (tx_in w.tx set) (k == w.key) t in subst (λ j. is_held_at j locks ≡ true) (sym (eqb-true k w.key p.1)) (a.0 p.0)
+    here false t e = absurd cc
+
+    at : (o : Option (Option ℕ)) → elim o [ Some b ↦ Some b | None ↦ cond (tx_in w.tx set && (k == w.key)) (Some w.before) None ] ≡ Some v
+        → ((u : Option ℕ) → o ≡ Some u → is_held_at k locks ≡ true) → is_held_at k locks ≡ true
+    at (Some b) e more = more b refl
+    at None e more = here (tx_in w.tx set && (k == w.key)) refl e
+
+undone_all : (set : List TxId) (ws : List StandingUpdate) (locks : Locks) (rs : Records) → AllByRecursion (λ (w : StandingUpdate). tx_in w.tx set ≡ true → is_held_at w.key locks ≡ true) ws
+    → AllStay locks rs → AllStay locks (records_without set ws rs)
+undone_all set ws locks [] held a = tt
+undone_all set ws locks (r ∷ rs) held a = (at (value_before set r.0 ws) (before_held set r.0 locks ws held), undone_all set ws locks rs held a.1)
+  where
+    at : (o : Option (Option ℕ)) → ((v : Option ℕ) → o ≡ Some v → is_held_at r.0 locks ≡ true) → is_locked_or_live locks (r.0, unwrap_or o r.1) ≡ true
+    at None h = a.0
+    at (Some v) h = held_stays locks r.0 (h v refl) v
+
+-- an undo of parts that are here leaves ghosts alone that their locks are on
+pub undone_ghosts_are_locked : (set : List TxId) (l : Local) (spare : ℕ) → IsSound l spare → ((t : TxId) → tx_in t set ≡ true → is_here l t ≡ true)
+    → GhostsAreLocked l.locks l.records → GhostsAreLocked l.locks (records_without set (standing l.log) l.records)
+undone_ghosts_are_locked set l spare sound here locked =
+    all_stay (is_locked_or_live l.locks) (records_without set (standing l.log) l.records)
+    (undone_all set (standing l.log) l.locks l.records
+    (all_mono (IsHeld l) (λ (w : StandingUpdate). tx_in w.tx set ≡ true → is_held_at w.key l.locks ≡ true) (λ w h i. lock_on w.tx w.key l.locks (h (here w.tx i)).1) (standing l.log) sound.writes)
+    (all_pass (is_locked_or_live l.locks) l.records locked))
+
+-- ---- a purge
+
+-- a record that a part's write needs bears its lock, and stays
+held_purged : (l : Local) (w : StandingUpdate) → IsHeld l w → IsHeld (purge l) w
+held_purged l w h here =
+    let held = h here in
+    (ap (λ o. is_there (found_by o)) (record_kept (is_locked_or_live l.locks) w.key l.records (held_stays l.locks w.key (lock_on w.tx w.key l.locks held.1))) ∙ held.0, held.1)
+
+pub sound_purged : (l : Local) (spare : ℕ) → IsSound l spare → IsSound (purge l) spare
+sound_purged l spare sound = record { successors = sound.successors; writes = all_mono (IsHeld l) (IsHeld (purge l)) (held_purged l) (standing l.log) sound.writes; room = sound.room }
+
+pub ghosts_same : (locks few : Locks) (rs qs : Records) → few ≡ locks → qs ≡ rs → GhostsAreLocked locks rs → GhostsAreLocked few qs
+ghosts_same locks few rs qs a b h = subst (λ (x : Locks). GhostsAreLocked x qs) (sym a) (subst (λ (x : Records). GhostsAreLocked locks x) (sym b) h)
+
+-- where each ghost bears a lock, a purge takes none away
+pub purged_same : (l : Local) → GhostsAreLocked l.locks l.records → purge l ≡ l
+purged_same l h = ap (λ (rs : Records). record l { records = rs }) h
+
+pub same_purged : (s t : TxState) → t ≡ s → GhostsAreLocked (t.local).locks (t.local).records → IsSameBut s (purge s.local) t
+same_purged s t e h =
+    subst (λ (x : TxState). IsSameBut s (purge s.local) x) (sym e)
+    (ap (λ (l : Local). record s { local = l }) (sym (purged_same s.local (subst (λ (x : TxState). GhostsAreLocked (x.local).locks (x.local).records) e h))))
+
+pub known_purged : (s t : TxState) → IsSameBut s t.local t → GhostsAreLocked (t.local).locks (t.local).records → IsSameBut s (purge t.local) t
+known_purged s t e h = subst (λ (l : Local). IsSameBut s l t) (sym (purged_same t.local h)) e
