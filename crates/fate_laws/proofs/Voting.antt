@@ -1,0 +1,103 @@
+-- What a vote binds, and what no other's abort takes away.
+use Rattle.std.proofs.Common.{◌≡◌, ◌⊎◌, inl, inr, ⊎_elim, refl, sym, subst, ℕ, zero, suc, true, false, cond, Bool, ◌&&◌, List, [], ◌∷◌, ◌++◌, Option, Some, None, length}
+use Rattle.std.specs.List.{list_all}
+use Rattle.std.proofs.lemmas.Bool.{both_ways, or_cases, or_left, or_right, false_from_ne_true}
+use Rattle.clv_base.specs.declared.names.TxId.{TxId}
+use Rattle.clv_base.specs.declared.causes.Vote.{Vote}
+use Rattle.clv_base.specs.declared.causes.Vote.TheVariants.{Yes, Read, No}
+use Rattle.clv_base.specs.declared.state.Stage.{Stage}
+use Rattle.clv_base.specs.declared.state.Stage.TheVariants.{Active, Closed, Gone}
+use Rattle.clv_base.specs.Orders.{tx_same, tx_in, tx_insert}
+use Rattle.clv_base.specs.Logs.{committed_in}
+use Rattle.clv_base.specs.State.{Shard, is_present}
+use Rattle.clv_base.specs.Undo.{stage_of, with_successors, successors_through, doomed_by, doomed_here}
+use Rattle.clv_base.specs.Facts.{predecessors_of}
+use Rattle.clv_base.specs.Coordinator.{is_good}
+use Rattle.clv_base.specs.Restarts.{log_left}
+use Rattle.clv_base.proofs.SameNames.{tx_true, tx_self, in_insert}
+use Rattle.law_base.proofs.Tables.{row_pairs, is_pair, pair_in, in_pair}
+use Rattle.protocol_laws.proofs.Sets.{in_filter}
+use Rattle.history_laws.proofs.Merging.{is_among}
+use Rattle.history_laws.proofs.TellingEvents.{front_committed}
+use Rattle.history_laws.proofs.Worlds.{state_at}
+use Rattle.fate_laws.specs.Votes.{HasRead, IsPrepared, are_committed, VotesBind, OthersAbortsSpareIt}
+use Rattle.fate_laws.proofs.Prepares.{prepare_there}
+use Rattle.fate_laws.proofs.Arriving.{all_from, listed_is}
+use Rattle.fate_laws.proofs.Binding.{Bound, Reads}
+use Rattle.fate_laws.proofs.Parts.{VoteTells}
+use Rattle.fate_laws.proofs.Bindings.{FineAt, Said}
+use Rattle.fate_laws.proofs.Downwards.{Down, lowered_front, all_at}
+
+-- ---- votes
+
+absent : (o : Option Stage) → (o ≡ Some Active → ⊥) → (o ≡ Some Closed → ⊥) → is_present o ≡ false
+absent None a c = refl
+absent (Some Active) a c = absurd (a refl)
+absent (Some Closed) a c = absurd (c refl)
+absent (Some (Gone d)) a c = refl
+
+fine_holds : (s : Shard) (tx : TxId) → Down s → Bound s tx ⊎ (Reads s tx ⊎ (committed_in (log_left s false) tx ≡ true)) → HasRead s tx ⊎ (IsPrepared (log_left s false) tx × (are_committed s tx ≡ true))
+fine_holds s tx d (inl k) =
+    let log = log_left s false in
+    inr (
+      inr (prepare_there log tx k.listed k.prepare, subst (λ l. list_all (committed_in log) l ≡ true) (sym (listed_is log tx k.listed k.prepare)) (all_from (committed_in log) (k.listed).1 (λ q i. k.durable q i))),
+      all_from (committed_in s.local.log) (predecessors_of s.local.pairs tx) (λ q i. k.pairs q (in_pair s.local.pairs tx q i)),
+    )
+fine_holds s tx d (inr (inl k)) = inl (k.unprepared, absent (stage_of s.local tx) k.inactive k.unclosed)
+fine_holds s tx d (inr (inr c)) =
+    inr (inl c, all_from (committed_in s.local.log) (predecessors_of s.local.pairs tx) (λ q i. d tx q (front_committed s.durable s.local.log tx c) (in_pair s.local.pairs tx q i)))
+
+good_fine : (F : ℕ → TxId → Type 0) (n : ℕ) (tx : TxId) (vote : Vote) → is_good (Some vote) ≡ true → VoteTells F n tx vote → F n tx
+good_fine F n tx Yes g p = p
+good_fine F n tx Read g p = p
+good_fine F n tx (No why) g p = absurd (both_ways false refl g)
+
+pub votes_bind : VotesBind
+votes_bind splits before so_far later after n e home from tx vote o l i j q g =
+    let k = lowered_front splits before after (so_far ++ later) so_far later o l refl in
+    let t = subst (Said before after (so_far ++ later) so_far) q ((k.bindings).said (n, e) (is_among n e so_far j)) in
+    let f = good_fine (FineAt before after so_far) from tx vote g t in
+    fine_holds (state_at before after from so_far) tx (k.down from i) f.1
+
+-- ---- aborts of others
+
+successors_all : (P : TxId → Type 0) (pairs : List (TxId × TxId)) (set so_far : List TxId) → ((a b : TxId) → is_pair pairs a b ≡ true → P b → P a) → ((t : TxId) → tx_in t set ≡ true → P t) → ((t : TxId) → tx_in t so_far ≡ true → P t)
+    → (t : TxId) → tx_in t (with_successors pairs set so_far) ≡ true → P t
+successors_all P [] set so_far d k l t i = l t i
+successors_all P (p ∷ ps) set so_far d k l t i =
+    successors_all P ps set (cond (tx_in p.1 set) (tx_insert p.0 so_far) so_far) (λ a b j. d a b (or_right (row_pairs a b p) (is_pair ps a b) j)) k (λ u j. at (tx_in p.1 set) refl u j) t i
+  where
+    both : (a b : Bool) → a ≡ true → b ≡ true → (a && b) ≡ true
+    both true b e f = f
+    both false b e f = e
+
+    at : (b : Bool) → tx_in p.1 set ≡ b → (u : TxId) → tx_in u (cond b (tx_insert p.0 so_far) so_far) ≡ true → P u
+    at true e u j =
+        ⊎_elim (λ q. subst P (sym q) (d p.0 p.1 (or_left (row_pairs p.0 p.1 p) (is_pair ps p.0 p.1) (both (tx_same p.0 p.0) (tx_same p.1 p.1) (tx_self p.0) (tx_self p.1))) (k p.1 e))) (λ q. l u q) (in_insert p.0 u so_far j)
+    at false e u j = l u j
+
+through_all : (P : TxId → Type 0) (n : ℕ) (pairs : List (TxId × TxId)) (set : List TxId) → ((a b : TxId) → is_pair pairs a b ≡ true → P b → P a) → ((t : TxId) → tx_in t set ≡ true → P t) → (t : TxId) → tx_in t (successors_through n pairs set) ≡ true → P t
+through_all P zero pairs set d k t i = k t i
+through_all P (suc n) pairs set d k t i = through_all P n pairs (with_successors pairs set set) d (successors_all P pairs set set d k k) t i
+
+-- it isn't committed, and it is the other itself or has a predecessor that isn't committed
+Taken : Shard → TxId → TxId → Type 0
+Taken s u t = (committed_in s.local.log t ≡ false) × ((t ≡ u) ⊎ ((p : TxId) × (is_pair s.local.pairs t p ≡ true) × (committed_in s.local.log p ≡ false)))
+
+taken : (s : Shard) (u t : TxId) → Down s → committed_in s.local.log u ≡ false → tx_in t (doomed_here s.local u) ≡ true → Taken s u t
+unfolding Taken
+taken s u t d o i =
+    through_all (Taken s u) (length s.local.pairs) s.local.pairs (u ∷ []) (λ a b j n. (false_from_ne_true _ (λ c. both_ways _ n.0 (d a b c j)), inr (b, j, n.0)))
+    (λ v j. ⊎_elim (λ e. subst (Taken s u) (tx_true u v e) (o, inl refl)) (λ e. absurd (both_ways false refl e)) (or_cases (tx_same u v) false j)) t
+    (in_filter (λ v. is_present (stage_of s.local v)) t (doomed_by s.local u) i).0
+
+pub others_aborts_spare_it : OthersAbortsSpareIt
+unfolding Taken
+others_aborts_spare_it splits before so_far later after n tx other o l i c ne u =
+    let s = state_at before after n so_far in
+    let k = lowered_front splits before after (so_far ++ later) so_far later o l refl in
+    false_from_ne_true _
+    (λ j.
+    let t = taken s other tx (k.down n i) u j in
+    ⊎_elim (λ e. both_ways _ ne (subst (λ z. tx_same other z ≡ true) (sym e) (tx_self other)))
+    (λ p. both_ways _ p.2 (all_at (committed_in s.local.log) p.0 (predecessors_of s.local.pairs tx) c (pair_in s.local.pairs tx p.0 p.1))) t.1)

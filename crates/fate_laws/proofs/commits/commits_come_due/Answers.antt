@@ -1,0 +1,5 @@
+use Rattle.fate_laws.proofs.Arriving.{commits_come_due}
+use Rattle.fate_laws.proofs.commits.commits_come_due.Goals as goal
+
+pub returns : goal.returns
+returns c = commits_come_due

@@ -1,0 +1,5 @@
+use Rattle.fate_laws.proofs.Deciding.{told_aborts_stay}
+use Rattle.fate_laws.proofs.decisions.told_aborts_stay.Goals as goal
+
+pub returns : goal.returns
+returns c = told_aborts_stay

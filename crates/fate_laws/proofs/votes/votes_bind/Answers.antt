@@ -1,0 +1,5 @@
+use Rattle.fate_laws.proofs.Voting.{votes_bind}
+use Rattle.fate_laws.proofs.votes.votes_bind.Goals as goal
+
+pub returns : goal.returns
+returns c = votes_bind
