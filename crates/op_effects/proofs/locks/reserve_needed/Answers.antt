@@ -1,5 +1,5 @@
 -- The room that is reserved on the needs' anchors serves all of them.
-use Rattle.std.proofs.Common.{◌≡◌, ◌≤◌, ◌∙◌, List, length, subst, sym, OnOk}
+use Rattle.std.proofs.Common.{◌∙◌, List, subst, sym}
 use Rattle.std.specs.List.{All, Contains}
 use Rattle.std.proofs.lemmas.Result.{on_ok_weaker}
 use Rattle.std.proofs.lemmas.List.Elements.{All-contains_itself}
