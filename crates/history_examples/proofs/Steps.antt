@@ -34,7 +34,7 @@ use Rattle.clv_base.specs.LogRules.{listed_in}
 use Rattle.clv_base.specs.Restarts.{opened, revived, untouched}
 use Rattle.clv_base.proofs.SameNames.{tx_true}
 use Rattle.shard_laws.specs.OneShard.{Leads, opens, happens, lands, others_ask, revives, is_member, MayChoose}
-use Rattle.history_examples.specs.Doubt.{doubtful, DoubtIsRestored, DoubtIsCommitted, DoubtIsChosen}
+use Rattle.history_examples.specs.Doubt.{doubtful, DoubtIsRestored, DoubtComesBack, DoubtIsCommitted, DoubtIsChosen}
 
 abbrev birth : Birth
 birth = record { stamp = 1; session = 1; serial = 1 }
@@ -131,12 +131,18 @@ abbrev items : List Item
 items = record { tx = doubtful; op = Put 5 10; answer = Value None; lsn = 1 } ∷ []
 
 abbrev Led : List TxId → Shard → Type 0
-Led asked s = Leads 1 1 [] items asked [] [] s
+Led asked s = Leads 1 1 [] items asked [] [] [] s
 
 led1 : Led [] s1
 led1 =
     happens put put_answered (reply_state s0 (happen s0 put)) 2 0 (opens (refl, lit< tt, refl))
-    (record { not_closed = none_closed; not_asked = λ q. refl; fresh = λ q e. (refl, refl, refl, (λ p m. absurd (both_ways false refl m)), refl); same_birth = λ h e. absurd (none_held h e) }) refl
+    (record {
+      of_run = refl;
+      not_closed = none_closed;
+      not_asked = λ q. refl;
+      fresh = λ q e. record { unwritten = refl; unprepared = refl; uncommitted = refl; unaborted = refl; idle = refl; unmet = λ p m. absurd (both_ways false refl m); unfallen = refl };
+      same_birth = λ h e. absurd (none_held h e);
+    }) refl
 
 led2 : Led (doubtful ∷ []) s2
 led2 = happens prepare Taken (reply_state s1 (happen s1 prepare)) 3 0 (others_ask doubtful led1 refl) (refl, refl, (λ w. refl)) refl
@@ -147,16 +153,11 @@ led3 = happens FlushOut (Out 3) (reply_state s2 (happen s2 FlushOut)) 4 0 led2 t
 led4 : Led (doubtful ∷ []) s4
 led4 = happens Stop Stopped (reply_state s3 (happen s3 Stop)) 5 0 led3 tt refl
 
--- it is the one in doubt, and it is here still
-here : (t : TxId) → tx_in t (in_doubt 1 found) ≡ true → is_present (stage_of s4.local t) ≡ true
-here t i =
-    ⊎_elim (λ h. subst (λ z. is_present (stage_of s4.local z) ≡ true) (tx_true doubtful t h) refl) (λ h. absurd (both_ways false refl h)) (or_cases (tx_same doubtful t) false i)
-
 led5 : Led (doubtful ∷ []) s5
-led5 = revives true 1 log_now 6 0 led4 refl here (found, untouched, refl, refl)
+led5 = revives true 1 log_now 6 0 led4 refl (found, untouched, refl, refl)
 
 led6 : Led (doubtful ∷ []) s6
-led6 = happens decide Taken (reply_state s5 (happen s5 decide)) 7 0 led5 (refl, refl, (λ q e. absurd (none_request q e))) refl
+led6 = happens decide Taken (reply_state s5 (happen s5 decide)) 7 0 led5 (refl, refl, (λ q e. absurd (none_request q e)), refl) refl
 
 led7 : Led (doubtful ∷ []) s7
 led7 = happens FlushOut (Out 5) (reply_state s6 (happen s6 FlushOut)) 8 0 led6 tt refl
@@ -164,21 +165,42 @@ led7 = happens FlushOut (Out 5) (reply_state s6 (happen s6 FlushOut)) 8 0 led6 t
 led8 : Led (doubtful ∷ []) s8
 led8 = lands 5 true (Durable 5) (reply_state s7 (landed s7 5 true)) 9 0 led7 refl refl
 
+-- the PREPARE lands, the abort is taken, and the shard stops before its ABORT lands
+abbrev abort : Event
+abort = Deliver (Decide 1 doubtful 0 false) 1
+
+abbrev a4 : Shard
+a4 = with_entry 5 0 FlushIn (Durable 3) (reply_state s3 (landed s3 3 true))
+
+abbrev a5 : Shard
+a5 = entered 6 abort Taken a4
+
+abbrev a6 : Shard
+a6 = entered 7 Stop Stopped a5
+
+abbrev a7 : Shard
+a7 = with_entry 8 0 Restart (Up 1) (revived a6 1 log_now)
+
+aborts7 : Leads 1 1 [] items (doubtful ∷ []) [] [] (doubtful ∷ doubtful ∷ []) a7
+aborts7 =
+    revives true 1 log_now 8 0
+    (happens Stop Stopped (reply_state a5 (happen a5 Stop)) 7 0 (happens abort Taken (reply_state a4 (happen a4 abort)) 6 0 (lands 3 true (Durable 3) (reply_state s3 (landed s3 3 true)) 5 0 led3 refl refl) tt refl) tt refl)
+    refl (found, untouched, refl, refl)
+
+pub doubt_comes_back : DoubtComesBack
+doubt_comes_back = (items, doubtful ∷ [], [], doubtful ∷ doubtful ∷ [], a7, aborts7, refl, refl, refl, refl)
+
 pub doubt_is_restored : DoubtIsRestored
 doubt_is_restored = (items, doubtful ∷ [], [], s5, led5, refl, refl, refl)
 
 pub doubt_is_committed : DoubtIsCommitted
 doubt_is_committed = (items, doubtful ∷ [], [], s8, led8, refl, refl, refl, refl)
 
-still_here : (t : TxId) → tx_in t (in_doubt 1 log_now) ≡ true → is_present (stage_of s5.local t) ≡ true
-still_here t i =
-    ⊎_elim (λ h. subst (λ z. is_present (stage_of s5.local z) ≡ true) (tx_true doubtful t h) refl) (λ h. absurd (both_ways false refl h)) (or_cases (tx_same doubtful t) false i)
-
-chooses : MayChoose s5 4 [] (tx_same doubtful)
+chooses : MayChoose s5 4 [] [] (tx_same doubtful)
 chooses = record {
   commits = λ t e. absurd (both_ways false refl e);
-  are_here = λ t e. subst (λ z. (is_member s5 4 [] z ≡ true) ⊎ ((tx_in z (in_doubt 1 log_now) ≡ true) × (list_all (committed_in log_now) (listed_in log_now z) ≡ true))) (tx_true doubtful t e) (inr (refl, refl));
+  are_here = λ t e. subst (λ z. (is_member s5 4 [] z ≡ true) ⊎ ((tx_in z (in_doubt 1 log_now) ≡ true) × (list_all (committed_in log_now) (listed_in log_now z) ≡ true) × (tx_in z [] ≡ false))) (tx_true doubtful t e) (inr (refl, refl, refl));
 }
 
 pub doubt_is_chosen : DoubtIsChosen
-doubt_is_chosen = (items, doubtful ∷ [], [], s5, led5, omega arith, still_here, chooses, refl, refl)
+doubt_is_chosen = (items, doubtful ∷ [], [], s5, led5, omega arith, chooses, refl, refl)

@@ -4,12 +4,12 @@ use Rattle.clv_base.specs.declared.names.TxId.{TxId}
 use Rattle.clv_base.specs.declared.ops.Op.TheVariants.{Put}
 use Rattle.clv_base.specs.declared.state.Stage.TheVariants.{Closed}
 use Rattle.std.specs.List.{filter}
-use Rattle.clv_base.specs.Orders.{tx_same}
+use Rattle.clv_base.specs.Orders.{tx_same, tx_in}
 use Rattle.clv_base.specs.Logs.{committed_in, in_doubt, fold_updates}
 use Rattle.clv_base.specs.State.{Shard}
 use Rattle.clv_base.specs.Undo.{stage_of}
 use Rattle.law_base.specs.Items.{Item}
-use Rattle.shard_laws.specs.OneShard.{Leads, StillHere, MayChoose, members_of, ops_by}
+use Rattle.shard_laws.specs.OneShard.{Leads, MayChoose, members_of, ops_by}
 
 abbrev pub doubtful : TxId
 doubtful = record { run = 1; session = 1; serial = 1 }
@@ -18,18 +18,24 @@ doubtful = record { run = 1; session = 1; serial = 1 }
 abbrev pub DoubtIsRestored : Type 0
 DoubtIsRestored =
     (all : List Item) × (asked : List TxId) × (met : List (TxId × TxId)) × (s : Shard)
-    × Leads 1 1 [] all asked [] met s × (s.local.epoch ≡ 1) × (in_doubt 1 s.local.log ≡ doubtful ∷ []) × (stage_of s.local doubtful ≡ Some Closed)
+    × Leads 1 1 [] all asked [] met [] s × (s.local.epoch ≡ 1) × (in_doubt 1 s.local.log ≡ doubtful ∷ []) × (stage_of s.local doubtful ≡ Some Closed)
+
+-- or its abort was decided and taken here, and was not durable yet: after the restart it is in doubt again, and it fell
+abbrev pub DoubtComesBack : Type 0
+DoubtComesBack =
+    (all : List Item) × (asked : List TxId) × (met : List (TxId × TxId)) × (fell : List TxId) × (s : Shard)
+    × Leads 1 1 [] all asked [] met fell s × (tx_in doubtful fell ≡ true) × (s.local.epoch ≡ 1) × (in_doubt 1 s.local.log ≡ doubtful ∷ []) × (stage_of s.local doubtful ≡ Some Closed)
 
 -- and one that goes on: the decision to commit comes, and it is a member with what it put before the restart
 abbrev pub DoubtIsCommitted : Type 0
 DoubtIsCommitted =
     (all : List Item) × (asked : List TxId) × (met : List (TxId × TxId)) × (s : Shard)
-    × Leads 1 1 [] all asked [] met s × (s.local.epoch ≡ 1) × (committed_in s.local.log doubtful ≡ true)
+    × Leads 1 1 [] all asked [] met [] s × (s.local.epoch ≡ 1) × (committed_in s.local.log doubtful ≡ true)
     × (members_of s s.durable [] asked ≡ doubtful ∷ []) × (ops_by (doubtful ∷ []) all ≡ (Put 5 10 ∷ []) ∷ [])
 
 -- or another shard's COMMIT chooses it while it is in doubt still: then it replays to the map of its UPDATE
 abbrev pub DoubtIsChosen : Type 0
 DoubtIsChosen =
     (all : List Item) × (asked : List TxId) × (met : List (TxId × TxId)) × (s : Shard)
-    × Leads 1 1 [] all asked [] met s × (s.durable ≤ 4) × StillHere s (take 4 s.local.log) × MayChoose s 4 [] (tx_same doubtful)
+    × Leads 1 1 [] all asked [] met [] s × (s.durable ≤ 4) × MayChoose s 4 [] [] (tx_same doubtful)
     × (ops_by (filter (tx_same doubtful) asked) all ≡ (Put 5 10 ∷ []) ∷ []) × (fold_updates (tx_same doubtful) (take 4 s.local.log) [] ≡ (5, 10) ∷ [])

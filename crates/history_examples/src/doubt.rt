@@ -1,6 +1,6 @@
 // A shard of several with a transaction in doubt at a restart.
 
-ghost use Rattle.history_examples.specs.Doubt.{DoubtIsRestored, DoubtIsCommitted, DoubtIsChosen};
+ghost use Rattle.history_examples.specs.Doubt.{DoubtIsRestored, DoubtComesBack, DoubtIsCommitted, DoubtIsChosen};
 
 /// A shard is stopped and restarted with a prepared transaction of another home: it is in doubt, and its part is restored.
 pub fn doubt_is_restored()
@@ -15,4 +15,9 @@ pub fn doubt_is_committed()
 /// Before it comes, all that the law of chosen transactions supposes is there where its home's COMMIT chooses it.
 pub fn doubt_is_chosen()
     ensures { DoubtIsChosen }
+{}
+
+/// And there is one in which it is in doubt again after its abort was taken here, and was lost at the crash.
+pub fn doubt_comes_back()
+    ensures { DoubtComesBack }
 {}

@@ -20,7 +20,7 @@ use Rattle.clv_base.specs.declared.events.Outcome.{Outcome}
 use Rattle.clv_base.specs.declared.events.Outcome.TheVariants.{Answered, Acknowledged, Aborted, Sent}
 use Rattle.clv_base.specs.declared.events.Entry.{Entry}
 use Rattle.clv_base.specs.Orders.{tx_same, tx_in, tx_get}
-use Rattle.clv_base.specs.Logs.{committed_in, prepared_in}
+use Rattle.clv_base.specs.Logs.{committed_in, prepared_in, aborted_in, wrote_in}
 use Rattle.clv_base.specs.Locks.{violated}
 use Rattle.clv_base.specs.Needs.{needs_of}
 use Rattle.clv_base.specs.State.{Shard, is_present}
@@ -37,7 +37,6 @@ use Rattle.law_base.proofs.Changed.{none_some, some_same}
 use Rattle.law_base.proofs.Rows.{rows_get}
 use Rattle.protocol_laws.specs.SessionLaws.{tx_of, works_on, ended_by}
 use Rattle.protocol_laws.proofs.InOrder.{sessions_keep_order}
-use Rattle.order_laws.specs.Order.{undone_in}
 use Rattle.shard_laws.specs.OneShard.{items_of, with_one, new_item, new_met, has_met, new_told, MayTouch, MayHappen}
 use Rattle.history_laws.proofs.Stepping.{Happens}
 use Rattle.history_laws.proofs.Merging.{Placed, Before, in_order, Among, among_left, among_right, among_append, Precedes, in_turn, precedes_before, before_then, not_before_itself, own_in_order}
@@ -318,15 +317,25 @@ owes before after h pre x s t n k g d =
             other z = absurd cc
         at (inr (inr j)) = elim j [ ]
 
-clr_all : (A : TxId → Type 0) (rs : List LogRecord) (t : TxId) → AllByRecursion (RecordIs A) rs → undone_in rs t ≡ true → A t
-clr_all A [] t a e = absurd (both_ways false refl e)
-clr_all A (Clr u next key after ∷ rs) t a e = ⊎_elim (λ s. subst A (sym (tx_true t u s)) a.0) (λ s. clr_all A rs t a.1 s) (or_cases (tx_same t u) (undone_in rs t) e)
-clr_all A (Update u key before after ∷ rs) t a e = clr_all A rs t a.1 e
-clr_all A (Prepare u home ps ∷ rs) t a e = clr_all A rs t a.1 e
-clr_all A (Commit u parts ∷ rs) t a e = clr_all A rs t a.1 e
-clr_all A (Abort u ∷ rs) t a e = clr_all A rs t a.1 e
-clr_all A (End u ∷ rs) t a e = clr_all A rs t a.1 e
-clr_all A (RestartRecord run epoch ∷ rs) t a e = clr_all A rs t a.1 e
+abort_all : (A : TxId → Type 0) (rs : List LogRecord) (t : TxId) → AllByRecursion (RecordIs A) rs → aborted_in rs t ≡ true → A t
+abort_all A [] t a e = absurd (both_ways false refl e)
+abort_all A (Abort u ∷ rs) t a e = ⊎_elim (λ s. subst A (sym (tx_true t u s)) a.0) (λ s. abort_all A rs t a.1 s) (or_cases (tx_same t u) (aborted_in rs t) e)
+abort_all A (Update u key before after ∷ rs) t a e = abort_all A rs t a.1 e
+abort_all A (Clr u next key after ∷ rs) t a e = abort_all A rs t a.1 e
+abort_all A (Prepare u home ps ∷ rs) t a e = abort_all A rs t a.1 e
+abort_all A (Commit u parts ∷ rs) t a e = abort_all A rs t a.1 e
+abort_all A (End u ∷ rs) t a e = abort_all A rs t a.1 e
+abort_all A (RestartRecord run epoch ∷ rs) t a e = abort_all A rs t a.1 e
+
+update_all : (A : TxId → Type 0) (rs : List LogRecord) (t : TxId) → AllByRecursion (RecordIs A) rs → wrote_in rs t ≡ true → A t
+update_all A [] t a e = absurd (both_ways false refl e)
+update_all A (Update u key before after ∷ rs) t a e = ⊎_elim (λ s. subst A (sym (tx_true t u s)) a.0) (λ s. update_all A rs t a.1 s) (or_cases (tx_same t u) (wrote_in rs t) e)
+update_all A (Clr u next key after ∷ rs) t a e = update_all A rs t a.1 e
+update_all A (Prepare u home ps ∷ rs) t a e = update_all A rs t a.1 e
+update_all A (Commit u parts ∷ rs) t a e = update_all A rs t a.1 e
+update_all A (Abort u ∷ rs) t a e = update_all A rs t a.1 e
+update_all A (End u ∷ rs) t a e = update_all A rs t a.1 e
+update_all A (RestartRecord run epoch ∷ rs) t a e = update_all A rs t a.1 e
 
 prepare_all : (A : TxId → Type 0) (rs : List LogRecord) (t : TxId) → AllByRecursion (RecordIs A) rs → prepared_in rs t ≡ true → A t
 prepare_all A [] t a e = absurd (both_ways false refl e)
@@ -351,20 +360,24 @@ none_done t (e ∷ es) k = at (answered_op t (e.1).event (e.1).outcome) refl (no
     at None q r = r
     at (Some p) q r = absurd (k e p (inl refl) q)
 
-may_touch : (before after : List (List LogRecord)) (h pre : History) (x : Entry) (s : Shard) (all : List Item) (asked told : List TxId) (met : List (TxId × TxId)) → Next before after h pre x → Knows (run_after before) pre s → Fits pre all asked told met
-    → (t : TxId) (birth : Birth) (nth : ℕ) (seen : Option ℕ) (op : Op) → x.event ≡ OpEvent t birth nth seen op → MayTouch all asked met s t birth seen
-may_touch before after h pre x s all asked told met n k f t birth nth seen op e =
+may_touch : (before after : List (List LogRecord)) (h pre : History) (x : Entry) (s : Shard) (all : List Item) (asked told : List TxId) (met : List (TxId × TxId)) (fell : List TxId) → Next before after h pre x → Knows (run_after before) pre s → Fits pre all asked told met → ((u : TxId) → tx_in u fell ≡ true → DidAny pre u)
+    → (t : TxId) (birth : Birth) (nth : ℕ) (seen : Option ℕ) (op : Op) → x.event ≡ OpEvent t birth nth seen op → MayTouch all asked met fell s t birth seen
+may_touch before after h pre x s all asked told met fell n k f fd t birth nth seen op e =
     record {
+      of_run = (walker_of [] before after h (0, x) t n.legal n.here (ap tx_of e)).0 ∙ sym k.run_is;
       not_closed = λ c. op_no_request before after h pre x t birth nth seen op n e (part_of s.local.epoch _ _ (Requested pre) _ _ s t Closed k.owned c).1;
       not_asked = λ q. false_from_ne_true (tx_in t asked) (λ i. op_no_request before after h pre x t birth nth seen op n e (was_asked i));
       fresh = λ q g.
-          let none = no_did q g in (
-            false_from_ne_true _ (λ c. no_old none (committed_all (OfHistory (run_after before) pre) s.local.log t (k.owned).log c)),
-            false_from_ne_true _ (λ c. no_old none (clr_all (OfHistory (run_after before) pre) s.local.log t (k.owned).log c)),
-            no_map (λ y. (y.op, y.answer)) (items_of t all) (sym (none_done t pre (λ y p i w. none (done y p i w))) ∙ f.items t),
-            (λ p m. none (f.met_did t p m)),
-            false_from_ne_true _ (λ c. no_old none (prepare_all (OfHistory (run_after before) pre) s.local.log t (k.owned).log c)),
-          );
+          let none = no_did q g in
+          record {
+            unwritten = false_from_ne_true _ (λ c. no_old none (update_all (OfHistory (run_after before) pre) s.local.log t (k.owned).log c));
+            unprepared = false_from_ne_true _ (λ c. no_old none (prepare_all (OfHistory (run_after before) pre) s.local.log t (k.owned).log c));
+            uncommitted = false_from_ne_true _ (λ c. no_old none (committed_all (OfHistory (run_after before) pre) s.local.log t (k.owned).log c));
+            unaborted = false_from_ne_true _ (λ c. no_old none (abort_all (OfHistory (run_after before) pre) s.local.log t (k.owned).log c));
+            idle = no_map (λ y. (y.op, y.answer)) (items_of t all) (sym (none_done t pre (λ y p i w. none (done y p i w))) ∙ f.items t);
+            unmet = λ p m. none (f.met_did t p m);
+            unfallen = false_from_ne_true _ (λ c. none (fd t c));
+          };
       same_birth = λ w g.
           let d = (rows_get (λ r. PartIs (Did pre s.local.epoch) (Requested pre) r.0 r.1) t w s.local.parts (k.owned).parts g).0 in
           (same_epoch before after h d.0 (0, x) t w.birth birth s.local.epoch seen n.legal (turn_of before after h pre x d.0 n d.1) (k.all_here d.0 d.1) d.2 (record { nth = nth; op = op; is = e })).1;
@@ -395,11 +408,11 @@ may_drop before after h pre x s n k t e c =
     let i = n.earlier y.0 (from_own ((r.0).1).walker y.0 h (first_among y.0 (0, x) w y.2)) (precedes_before y.0 (0, x) w (own_in_order ((r.0).1).walker h (in_order h (n.legal).ordered)) y.2) in
     absurd (both_ways _ ((k.owned).gone t (y.0, y.1, i, y.3, y.4)) (ap is_present c))
 
-pub may_happen : (before after : List (List LogRecord)) (h pre : History) (x : Entry) (s : Shard) (all : List Item) (asked told : List TxId) (met : List (TxId × TxId)) → Next before after h pre x → Knows (run_after before) pre s → Fits pre all asked told met
-    → ((m : Message) (stamp : ℕ) → x.event ≡ Deliver m stamp → ⊥) → (e : Event) → x.event ≡ e → MayHappen all asked met s e
-may_happen before after h pre x s all asked told met n k f d (OpEvent t birth nth seen op) e = may_touch before after h pre x s all asked told met n k f t birth nth seen op e
-may_happen before after h pre x s all asked told met n k f d (Drop t) e = may_drop before after h pre x s n k t e
-may_happen before after h pre x s all asked told met n k f d (RequestEvent t ts) e = (
+pub may_happen : (before after : List (List LogRecord)) (h pre : History) (x : Entry) (s : Shard) (all : List Item) (asked told : List TxId) (met : List (TxId × TxId)) (fell : List TxId) → Next before after h pre x → Knows (run_after before) pre s → Fits pre all asked told met → ((u : TxId) → tx_in u fell ≡ true → DidAny pre u)
+    → ((m : Message) (stamp : ℕ) → x.event ≡ Deliver m stamp → ⊥) → (e : Event) → x.event ≡ e → MayHappen all asked met fell s e
+may_happen before after h pre x s all asked told met fell n k f fd d (OpEvent t birth nth seen op) e = may_touch before after h pre x s all asked told met fell n k f fd t birth nth seen op e
+may_happen before after h pre x s all asked told met fell n k f fd d (Drop t) e = may_drop before after h pre x s n k t e
+may_happen before after h pre x s all asked told met fell n k f fd d (RequestEvent t ts) e = (
   false_from_ne_true (tx_in t asked) (λ i. request_no_request before after h pre x t ts n e (asked_in pre t (subst (λ z. tx_in t z ≡ true) f.asked_are i))),
   (λ v g. none_some v (sym (ap (tx_get t) (k.owned).voters) ∙ g)),
   no_row (tx_get t s.requests) refl,
@@ -409,8 +422,8 @@ may_happen before after h pre x s all asked told met n k f d (RequestEvent t ts)
     no_row : (o : Option Request) → tx_get t s.requests ≡ o → tx_get t s.requests ≡ None
     no_row None q = q
     no_row (Some r) q = absurd (request_no_request before after h pre x t ts n e (row_of s.local.epoch _ _ (Requested pre) _ _ s t r q k.owned).0)
-may_happen before after h pre x s all asked told met n k f d (Deliver m stamp) e = absurd (d m stamp e)
-may_happen before after h pre x s all asked told met n k f d _ e = tt
+may_happen before after h pre x s all asked told met fell n k f fd d (Deliver m stamp) e = absurd (d m stamp e)
+may_happen before after h pre x s all asked told met fell n k f fd d _ e = tt
 
 -- ---- the histories' lists after an entry
 

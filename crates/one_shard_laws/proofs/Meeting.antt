@@ -63,7 +63,7 @@ stands_at before after h choice t p l a i m =
     let cut = cond (choice 0) (unwrap_or s.flight s.durable) s.durable in
     let e = names_are before after h choice a l in
     let j = subst (λ z. tx_in t z ≡ true) e i in
-    let r = recoverable 0 (run_after (before ∷ [])) before a.all a.asked a.told a.met s cut t p a.leads (cut_above s (choice 0) (counted_end before after h l)) m (in_kept (is_member s cut a.told) t a.asked j) in
+    let r = recoverable 0 (run_after (before ∷ [])) before a.all a.asked a.told a.met a.fell s cut t p a.leads (cut_above s (choice 0) (counted_end before after h l)) m (in_kept (is_member s cut a.told) t a.asked j) in
     subst (StandsBefore p t) (sym e) (placed_before p t (members_of s cut a.told a.asked) r.1 j)
 
 pub predecessors_stand_before : PredecessorsStandBefore

@@ -1,5 +1,5 @@
 -- The members of a legal history of one shard replay.
-use Rattle.std.proofs.Common.{◌≡◌, ◌⊎◌, inl, inr, refl, sym, ap, subst, ◌∙◌, ℕ, ◌≤◌, true, false, cond, Bool, List, [], ◌∷◌, ◌++◌, map, Option, Some, None, ◌||◌, arith, append_assoc, append-nil}
+use Rattle.std.proofs.Common.{◌≡◌, ◌⊎◌, inl, inr, refl, sym, ap, subst, ◌∙◌, ℕ, ◌≤◌, true, false, cond, Bool, List, [], ◌∷◌, ◌++◌, map, Option, Some, None, ◌||◌, arith, append_assoc, append-nil, not, ◌&&◌}
 use Rattle.std.specs.Prelude.{unwrap_or}
 use Rattle.std.specs.List.{AllByRecursion, filter}
 use Rattle.std.proofs.lemmas.Bool.{both_ways}
@@ -21,14 +21,12 @@ use Rattle.clv_base.specs.LogRules.{log_of}
 use Rattle.clv_base.specs.Journals.{History, journal_of, event_state, up_to_restart}
 use Rattle.clv_base.specs.History.{Legal, WasSent, MessagesSent, is_acknowledgement, acknowledged_in, answered_op, ops_in, request_of}
 use Rattle.law_base.specs.Items.{Item}
-use Rattle.shard_laws.specs.OneShard.{StillHere, items_of, with_one, new_item, new_asked, new_met, new_told, has_met, Leads, opens, happens, lands, revives}
+use Rattle.shard_laws.specs.OneShard.{items_of, with_one, new_item, new_asked, new_met, new_told, has_met, Leads, opens, happens, lands, revives, is_doomed, doomed_in, left_out}
 use Rattle.history_laws.proofs.Stepping.{Happens}
 use Rattle.history_laws.proofs.Entering.{Makes, by_event, by_flush, by_failure, by_restart, makes}
 use Rattle.history_laws.proofs.Merging.{Placed, Before, InOrder, in_order, Among, is_among, among_left, among_right, among_all, among_append, precedes_before, front_precedes, before_then, not_before_itself}
 use Rattle.history_laws.proofs.Worlds.{state_at, split_at, sent_at}
-use Rattle.one_shard_laws.proofs.Owning.{RecordIs}
-use Rattle.one_shard_laws.proofs.OwningEvents.{no_doubt, take_all_of}
-use Rattle.one_shard_laws.proofs.Leading.{OfHistory, requests_in, Fits, Knows, Next, may_happen}
+use Rattle.one_shard_laws.proofs.Leading.{requests_in, Fits, Knows, Next, may_happen}
 use Rattle.std.proofs.Common.{⊎_elim, ◌&&◌}
 use Rattle.std.proofs.lemmas.List.Folds.{list_any-append}
 use Rattle.clv_base.specs.declared.events.Outcome.TheVariants.{Answered}
@@ -51,6 +49,15 @@ use Rattle.history_laws.proofs.Durability.{fronts_entries, opened_counted, Count
 use Rattle.history_laws.proofs.Worlds.{in_a_shard}
 use Rattle.one_shard_laws.proofs.Leading.{told_pair}
 use Rattle.one_shard_laws.proofs.Opening.{may_serve, knows_opened}
+use Rattle.shard_laws.proofs.Histories.{named_doomed}
+use Rattle.shard_laws.proofs.Leaving.{in_two}
+use Rattle.shard_laws.proofs.Dooming.{in_filter}
+use Rattle.one_shard_laws.proofs.Owning.{part_of}
+use Rattle.clv_base.specs.declared.state.Stage.{Stage}
+use Rattle.clv_base.specs.Undo.{stage_of}
+use Rattle.clv_base.specs.State.{is_present}
+use Rattle.std.proofs.lemmas.Bool.{and_parts}
+use Rattle.one_shard_laws.proofs.Leading.{DidAny, Requested, did_more}
 use Rattle.one_shard_laws.proofs.Following.{fits_event, fits_plain, IsPlain}
 use Rattle.one_shard_laws.proofs.Knowing.{Silent, knows_event, knows_flush, knows_down, knows_restart}
 use Rattle.one_shard_laws.specs.Replaying.{Replays, MembersReplay}
@@ -60,9 +67,11 @@ pub record At (before log : List LogRecord) (pre : History) (s : Shard) : Type 0
   pub asked : List TxId
   pub told : List TxId
   pub met : List (TxId × TxId)
-  pub leads : Leads 0 (run_after (before ∷ [])) before all asked told met s
+  pub fell : List TxId
+  pub leads : Leads 0 (run_after (before ∷ [])) before all asked told met fell s
   pub fits : Fits pre all asked told met
   pub knows : Knows (run_after (before ∷ [])) pre s
+  pub fell_did : (t : TxId) → tx_in t fell ≡ true → DidAny pre t
   pub known_met : (t p : TxId) → tx_in p (predecessors_in log (start_of (before ∷ []) 0) t (journal_of 0 pre)) ≡ true → has_met met t p ≡ true
 
 -- the predecessors by a longer journal
@@ -170,11 +179,27 @@ silent_restart x n e f =
     send_is : (m : Message) → Up n ≡ Sent m → ⊥
     send_is m q = absurd cc
 
--- a shard that is alone has nothing in doubt
-nothing_in_doubt : (A : TxId → Type 0) (s : Shard) (kept : Bool) → s.shard ≡ 0 → AllByRecursion (RecordIs A) s.local.log → StillHere s (log_left s kept)
-nothing_in_doubt A s kept e a t i =
-    let none = no_doubt A (log_left s kept) s.shard (log_left s kept) [] e (take_all_of (RecordIs A) (cond kept (unwrap_or s.flight s.durable) s.durable) s.local.log a) in
-    absurd (both_ways false refl (subst (λ l. tx_in t l ≡ true) none i))
+-- who has a part did something
+did_here : (run : ℕ) (pre : History) (s : Shard) (t : TxId) (o : Option Stage) → Knows run pre s → stage_of s.local t ≡ o → (o ≡ None → ⊥) → DidAny pre t
+did_here run pre s t None k e n = absurd (n refl)
+did_here run pre s t (Some st) k e n = let q = (part_of s.local.epoch _ _ (Requested pre) _ _ s t st k.owned e).0 in (q.0, s.local.epoch, q.1)
+
+-- who falls did something
+none_doomed : (o : Option Stage) → is_doomed o ≡ true → o ≡ None → ⊥
+none_doomed o d e = both_ways false refl (sym (ap is_doomed e) ∙ d)
+
+none_present : (o : Option Stage) → is_present o ≡ true → o ≡ None → ⊥
+none_present o d e = both_ways false refl (sym (ap is_present e) ∙ d)
+
+fell_event : (run : ℕ) (pre : History) (x : Entry) (e : Event) (o : Outcome) (t : Shard) (fell : List TxId) → Knows run (pre ++ (0, x) ∷ []) (with_entry x.stamp x.walker e o t) → ((u : TxId) → tx_in u fell ≡ true → DidAny pre u) → (u : TxId) → tx_in u (doomed_in t ++ fell) ≡ true → DidAny (pre ++ (0, x) ∷ []) u
+fell_event run pre x e o t fell k fd u i = ⊎_elim (λ d. did_here run (pre ++ (0, x) ∷ []) (with_entry x.stamp x.walker e o t) u (stage_of t.local u) k refl (none_doomed (stage_of t.local u) (named_doomed t u d))) (λ j. did_more pre (0, x) u (fd u j)) (in_two (doomed_in t) fell u i)
+
+fell_restart : (run : ℕ) (pre : History) (x : Entry) (s t : Shard) (fell : List TxId) → Knows run pre s → ((u : TxId) → tx_in u fell ≡ true → DidAny pre u) → (u : TxId) → tx_in u (left_out s t ++ fell) ≡ true → DidAny (pre ++ (0, x) ∷ []) u
+fell_restart run pre x s t fell k fd u i =
+    did_more pre (0, x) u
+    (⊎_elim (λ d. let f = (in_filter (λ w. is_present (stage_of s.local w) && not (is_present (stage_of t.local w)) && not (committed_in t.local.log w)) u (map (λ p. p.0) s.local.parts) d).1 in
+    let q = and_parts (is_present (stage_of s.local u)) (not (is_present (stage_of t.local u))) (and_parts (is_present (stage_of s.local u) && not (is_present (stage_of t.local u))) (not (committed_in t.local.log u)) f).0 in
+    did_here run pre s u (stage_of s.local u) k refl (none_present (stage_of s.local u) q.0)) (λ j. fd u j) (in_two (left_out s t) fell u i))
 
 written_as : (x : Entry) (e : Event) (o : Outcome) (t : Shard) (P : Shard → Type 0) → x.event ≡ e → x.outcome ≡ o → P (with_entry x.stamp x.walker e o t) → P (with_entry x.stamp x.walker x.event x.outcome t)
 written_as x e o t P p q k = subst (λ z. P (with_entry x.stamp x.walker z x.outcome t)) (sym p) (subst (λ z. P (with_entry x.stamp x.walker e z t)) (sym q) k)
@@ -187,9 +212,11 @@ after_event before after h pre x log s t z n a d eq g =
       asked = with_one a.asked (new_asked s x.event);
       told = with_one a.told (new_told x.event x.outcome);
       met = new_met s x.event x.outcome ++ a.met;
-      leads = happens x.event x.outcome t x.stamp x.walker a.leads (may_happen (before ∷ []) after h pre x s a.all a.asked a.told a.met n a.knows a.fits d x.event refl) eq;
+      fell = doomed_in t ++ a.fell;
+      leads = happens x.event x.outcome t x.stamp x.walker a.leads (may_happen (before ∷ []) after h pre x s a.all a.asked a.told a.met a.fell n a.knows a.fits a.fell_did d x.event refl) eq;
       fits = fits_event (before ∷ []) after h pre x s t a.all a.asked a.told a.met n a.knows a.fits eq g;
       knows = knows_event (before ∷ []) after h pre x s t n a.knows g d;
+      fell_did = fell_event (run_after (before ∷ [])) pre x x.event x.outcome t a.fell (knows_event (before ∷ []) after h pre x s t n a.knows g d) a.fell_did;
       known_met = met_event before log pre x s a.met z a.known_met;
     }
 
@@ -205,9 +232,11 @@ made_at before after h pre x log s _ z n a d (by_flush m u f) p q =
       asked = a.asked;
       told = a.told;
       met = a.met;
-      leads = written_as x FlushIn (Durable m) (finish (with_durable m s)) (Leads 0 (run_after (before ∷ [])) before a.all a.asked a.told a.met) p q (lands m true (Durable m) (finish (with_durable m s)) x.stamp x.walker a.leads f refl);
+      fell = doomed_in (finish (with_durable m s)) ++ a.fell;
+      leads = written_as x FlushIn (Durable m) (finish (with_durable m s)) (Leads 0 (run_after (before ∷ [])) before a.all a.asked a.told a.met (doomed_in (finish (with_durable m s)) ++ a.fell)) p q (lands m true (Durable m) (finish (with_durable m s)) x.stamp x.walker a.leads f refl);
       fits = fits_plain pre x a.all a.asked a.told a.met (plain_flush x p) a.fits;
       knows = knows_flush (run_after (before ∷ [])) pre x s m (silent_flush x (Durable m) p q (λ k w. sent_is m k w)) a.knows;
+      fell_did = fell_event (run_after (before ∷ [])) pre x x.event x.outcome (finish (with_durable m s)) a.fell (knows_flush (run_after (before ∷ [])) pre x s m (silent_flush x (Durable m) p q (λ k w. sent_is m k w)) a.knows) a.fell_did;
       known_met = met_plain before log pre x s a.met z (λ u. ap (λ w. got_predecessors s u w x.outcome) p) a.known_met;
     }
   where
@@ -219,9 +248,11 @@ made_at before after h pre x log s _ z n a d (by_failure m u f) p q =
       asked = a.asked;
       told = a.told;
       met = a.met;
-      leads = written_as x FlushIn Failed (put_down s) (Leads 0 (run_after (before ∷ [])) before a.all a.asked a.told a.met) p q (lands m false Failed (put_down s) x.stamp x.walker a.leads f refl);
+      fell = doomed_in (put_down s) ++ a.fell;
+      leads = written_as x FlushIn Failed (put_down s) (Leads 0 (run_after (before ∷ [])) before a.all a.asked a.told a.met (doomed_in (put_down s) ++ a.fell)) p q (lands m false Failed (put_down s) x.stamp x.walker a.leads f refl);
       fits = fits_plain pre x a.all a.asked a.told a.met (plain_flush x p) a.fits;
       knows = knows_down (run_after (before ∷ [])) pre x s (silent_flush x Failed p q sent_is) a.knows;
+      fell_did = fell_event (run_after (before ∷ [])) pre x x.event x.outcome (put_down s) a.fell (knows_down (run_after (before ∷ [])) pre x s (silent_flush x Failed p q sent_is) a.knows) a.fell_did;
       known_met = met_plain before log pre x s a.met z (λ u. ap (λ w. got_predecessors s u w x.outcome) p) a.known_met;
     }
   where
@@ -234,10 +265,12 @@ made_at before after h pre x log s _ z n a d (by_restart epoch kept u r) p q =
       asked = a.asked;
       told = a.told;
       met = a.met;
-      leads = written_as x Restart (Up epoch) (revived s epoch found) (Leads 0 (run_after (before ∷ [])) before a.all a.asked a.told a.met) p q
-          (revives kept epoch found x.stamp x.walker a.leads u (nothing_in_doubt (OfHistory (run_after (before ∷ [])) pre) s kept ((a.knows).owned).shard ((a.knows).owned).log) r);
+      fell = left_out s (revived s epoch (up_to_restart s.run epoch log)) ++ a.fell;
+      leads = written_as x Restart (Up epoch) (revived s epoch found) (Leads 0 (run_after (before ∷ [])) before a.all a.asked a.told a.met (left_out s (revived s epoch found) ++ a.fell)) p q
+          (revives kept epoch found x.stamp x.walker a.leads u r);
       fits = fits_plain pre x a.all a.asked a.told a.met (plain_restart x p) a.fits;
       knows = knows_restart (run_after (before ∷ [])) pre x s kept epoch found (silent_restart x epoch p q) a.knows r;
+      fell_did = fell_restart (run_after (before ∷ [])) pre x s (revived s epoch found) a.fell a.knows a.fell_did;
       known_met = met_plain before log pre x s a.met z (λ u. ap (λ w. got_predecessors s u w x.outcome) p) a.known_met;
     }
 
@@ -297,9 +330,11 @@ begins before after may =
       asked = [];
       told = [];
       met = [];
+      fell = [];
       leads = opens (may_serve before may);
       fits = record { items = λ t. refl; asked_are = refl; told_are = λ t. refl; met_did = λ t p e. absurd (both_ways false refl e) };
       knows = knows_opened before may;
+      fell_did = λ t i. absurd (both_ways false refl i);
       known_met = λ t p e. absurd (both_ways false refl e);
     }
 
@@ -367,7 +402,7 @@ replay_at before after h choice l a =
     let cut = cond (choice 0) (unwrap_or s.flight s.durable) s.durable in
     let logs = logs_left [] (before ∷ []) h after choice in
     let keep = is_member s cut a.told in
-    let r = answers_and_map 0 (run_after (before ∷ [])) before a.all a.asked a.told a.met s cut a.leads (cut_above s (choice 0) (counted_end before after h l)) in
+    let r = answers_and_map 0 (run_after (before ∷ [])) before a.all a.asked a.told a.met a.fell s cut a.leads (cut_above s (choice 0) (counted_end before after h l)) in
     let same = (a.fits).asked_are in
     replays_as (stands (before ∷ [])) (serial_ops (serial logs h)) (ops_by (members_of s cut a.told a.asked) a.all) (serial_answers (serial logs h)) (answers_by (members_of s cut a.told a.asked) a.all) logs
     (members_are (λ m. map (λ p. p.0) m.ops) (λ t. map (λ x. x.op) (items_of t a.all)) logs h h keep (keeps_same before after h choice a l) (told_ops h a.all (a.fits).items) ∙ ap (λ z. ops_by (filter keep z) a.all) (sym same))

@@ -22,7 +22,7 @@ left_whole s false q = ap (λ n. take n s.local.log) q.1 ∙ take_all (length s.
 settled_at : (before : List LogRecord) (after : List (List LogRecord)) (h : History) (choice : ℕ → Bool) → At before (log_of after 0) h (final_of (before ∷ []) h after 0) → IsQuiet (final_of (before ∷ []) h after 0)
     → live_pairs (final_of (before ∷ []) h after 0).local.records ≡ stands (logs_left [] (before ∷ []) h after choice)
 settled_at before after h choice a q =
-    quiet_is_settled 0 (run_after (before ∷ [])) before a.all a.asked a.told a.met (final_of (before ∷ []) h after 0) a.leads q
+    quiet_is_settled 0 (run_after (before ∷ [])) before a.all a.asked a.told a.met a.fell (final_of (before ∷ []) h after 0) a.leads q
     ∙ ap (λ l. stands (l ∷ [])) (sym (left_whole (final_of (before ∷ []) h after 0) (choice 0) q))
 
 pub settled_is_the_map : SettledIsTheMap

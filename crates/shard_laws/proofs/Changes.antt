@@ -1,6 +1,6 @@
 -- Changes of a shard that keep what it keeps: a record more, a part closed, the durable front, a purge.
 use Rattle.std.proofs.Common.{◌≡◌, ℕ, ◌≤◌, ◌<◌, inl, inr, ⊎_elim, Bool, true, false, cond, not, ◌||◌, List, [], ◌∷◌, ◌++◌, length, Option, Some, None, ◌==◌, ◌+◌, ◌⊎◌, refl, sym, ap, subst, ◌∙◌, arith, append_assoc, eqb-true}
-use Rattle.std.specs.List.{AllByRecursion}
+use Rattle.std.specs.List.{AllByRecursion, filter}
 use Rattle.std.proofs.lemmas.Bool.{cases_Bool, both_ways, cond-true, cond-false, or_cases, false_from_ne_true}
 use Rattle.std.proofs.lemmas.List.Folds.{list_any-append}
 use Rattle.clv_base.specs.declared.names.TxId.{TxId}
@@ -29,7 +29,7 @@ use Rattle.shard_laws.proofs.Asking.{holds_at, holds_by}
 use Rattle.law_base.proofs.Tables.{stage_in, is_pair}
 use Rattle.law_base.proofs.Commits.{CommitBefore, commit_durable, before_keeps, before_new, durable_keeps, durable_parts, durable_from, durable_committed, before_second, committed_append, uncommitted_append, place_some, place_less, place_keeps, place_new}
 use Rattle.shard_laws.proofs.Prepared.{IsListed, Lists, Prepared, by_prepare, prepare_here, unprepared_append, lists_more, sealed_append, prepared_more}
-use Rattle.shard_laws.proofs.Kept.{View, Past, Dep, Kept, Ended}
+use Rattle.shard_laws.proofs.Kept.{View, Past, Dep, Kept, Ended, Wrote, of_kept, is_alive}
 use Rattle.order_laws.specs.Order.{moves, Open_at, Tidy, is_clr_of, undone_in}
 use Rattle.std.proofs.Common.{append-nil}
 
@@ -82,14 +82,16 @@ keeps_records g v more k m prep = record {
   base_chain = k.base_chain;
   base_done = all_mono _ _ (λ w h. durable_keeps v.log more v.durable v.durable w.tx (omega arith) h) g.base k.base_done;
   runs = k.runs;
-  standing_is = m.same_standing ∙ k.standing_is;
+  standing_is = ap (filter (of_kept (is_alive g.lost))) m.same_standing ∙ k.standing_is;
   rises = k.rises;
   values = λ q. k.values q ∙ ap (top_value q) (sym m.same_standing);
   logged = all_mono _ _ (λ x h q w. wrote_keeps v.log more x.tx (h q w)) g.items k.logged;
   rows = k.rows;
   covered = k.covered;
-  wrote = all_mono _ _ (λ x h out. h (undurable v.log more v.durable v.durable x.tx (omega arith) out)) g.items k.wrote;
+  wrote = subst (AllByRecursion (Wrote (record v { log = v.log ++ more }))) (sym m.same_standing) (all_mono _ _ (λ x h out. h (undurable v.log more v.durable v.durable x.tx (omega arith) out)) (standing v.log) k.wrote);
   known = k.known;
+  alive = k.alive;
+  left = all_mono _ _ (λ x l. ⊎_elim (λ a. inl a) (λ a. inr (⊎_elim (λ o. inl o) (λ d. inr (durable_keeps v.log more v.durable v.durable x.tx (omega arith) d)) a)) l) g.items k.left;
   uncommitted = λ t h. uncommitted_append v.log more t (k.uncommitted t h) (m.not_active t h);
   closed = k.closed;
   over = λ t h. ended_more g v more t (m.not_gone t) (m.no_write t) (k.over t h);
@@ -102,7 +104,7 @@ keeps_records g v more k m prep = record {
   downwards = λ t p h c. ⊎_elim (λ i. before_keeps v.log more p t (k.downwards t p h i)) (λ i. m.down t p h i) (or_cases (committed_in v.log t) (committed_in more t) (sym (committed_append v.log more t) ∙ c));
   order = k.order;
   causes = later_mono _ _ (λ x y h r. ⊎_elim (λ s. inl s) (λ d. inr (dep_more v more y.tx x.tx d)) (h r)) g.items k.causes;
-  recover = λ t p e. ⊎_elim (λ o. inl (uncommitted_append v.log more t o.0 (m.not_gone t o.1), o.1, o.2)) (λ d. inr (dep_more v more t p d.0, d.1)) (k.recover t p e);
+  recover = λ t p e. ⊎_elim (λ o. inl o) (λ d. inr (dep_more v more t p d.0, d.1)) (k.recover t p e);
   front = k.front;
 }
 
@@ -164,7 +166,7 @@ later_both P Q [] a b = tt
 later_both P Q (x ∷ xs) a b = (all_both _ _ xs a.0 b.0, later_both P Q xs a.1 b.1)
 
 module _ (g : Past) (v : View) (t : TxId) (home : ℕ) (ps : List TxId) (k : Kept g v) (closed : stage_in v.parts t ≡ Some Closed) (new : committed_in v.log t ≡ false) (first : prepared_in v.log t ≡ false)
-    (before : (p : TxId) → is_pair v.pairs t p ≡ true → (committed_in v.log p ≡ true) ⊎ (tx_in p ps ≡ true)) where
+    (before : (p : TxId) → is_pair v.pairs t p ≡ true → (committed_in v.log p ≡ true) ⊎ (tx_in p ps ≡ true)) (met_deps : (p : TxId) → is_pair g.met t p ≡ true → Dep v t p) where
   committed_first : (p : TxId) → committed_in v.log p ≡ true → IsListed (v.log ++ Prepare t home ps ∷ []) t p
   committed_first p c =
       let m = place_some 0 (is_commit_of p) v.log c in
@@ -200,7 +202,7 @@ module _ (g : Past) (v : View) (t : TxId) (home : ℕ) (ps : List TxId) (k : Kep
     unprepared = λ u a. unprepared_append v.log (Prepare t home ps ∷ []) u (k.prepared.unprepared u a) (or_none _ (stage_apart v t u Closed Active closed a (λ s. absurd cc)));
     sealed = sealed_append [] v.log (Prepare t home ps ∷ []) k.prepared.sealed (first, tt);
     causes = later_mono _ _ (λ x y h r. ⊎_elim (λ s. inl s) (λ dep. ⊎_elim (λ s. inl s) (λ old. inr (lists_now y.tx x.tx (λ e. subst (λ z. Dep v z x.tx) e dep) old)) (h.1 r)) (h.0 r)) g.items (later_both _ _ g.items k.causes k.prepared.causes);
-    recover = λ u p e. lists_now u p (λ same. ⊎_elim (λ o. absurd (both_ways _ o.1 (ap is_present (ap (stage_in v.parts) same ∙ closed)))) (λ d. subst (λ z. Dep v z p) same d.0) (k.recover u p e)) (k.prepared.recover u p e);
+    recover = λ u p e. lists_now u p (λ same. met_deps p (subst (λ z. is_pair g.met z p ≡ true) same e)) (k.prepared.recover u p e);
   }
 
   pub keeps_prepare : Kept g (record v { log = v.log ++ Prepare t home ps ∷ [] })
@@ -233,8 +235,10 @@ keeps_front g v n k le = record {
   logged = k.logged;
   rows = k.rows;
   covered = k.covered;
-  wrote = all_mono _ _ (λ x h out. h (false_from_ne_true _ (λ t. both_ways _ out (further v.log v.durable n x.tx le t)))) g.items k.wrote;
+  wrote = all_mono _ _ (λ x h out. h (false_from_ne_true _ (λ t. both_ways _ out (further v.log v.durable n x.tx le t)))) (standing v.log) k.wrote;
   known = k.known;
+  alive = k.alive;
+  left = all_mono _ _ (λ x l. ⊎_elim (λ a. inl a) (λ a. inr (⊎_elim (λ o. inl o) (λ d. inr (further v.log v.durable n x.tx le d)) a)) l) g.items k.left;
   uncommitted = k.uncommitted;
   closed = k.closed;
   over = λ t h. ⊎_elim (λ c. inl (further v.log v.durable n t le c)) (λ c. inr c) (k.over t h);
@@ -268,6 +272,8 @@ keeps_flight g v n k le = record {
   covered = k.covered;
   wrote = k.wrote;
   known = k.known;
+  alive = k.alive;
+  left = k.left;
   uncommitted = k.uncommitted;
   closed = k.closed;
   over = k.over;
@@ -332,8 +338,10 @@ keeps_purge g v k = record {
   logged = k.logged;
   rows = k.rows;
   covered = all_mono _ _ (λ y h active. let c = h active in (λ q m. purge_holds v.locks v.records S y.tx q (c.0 q m), λ q m. purge_holds v.locks v.records X y.tx q (c.1 q m))) g.items k.covered;
-  wrote = all_mono _ _ (λ x h out q w. let c = h out q w in (c.0, λ none. c.1 (sym (record_kept (is_locked_or_live v.locks) q v.records (λ b. at_key v.locks true X (At q) x.tx c.0 (q, b) refl)) ∙ none))) g.items k.wrote;
+  wrote = all_mono _ _ (λ w h out. let c = h out in (c.0, λ none. c.1 (sym (record_kept (is_locked_or_live v.locks) w.key v.records (λ b. at_key v.locks true X (At w.key) w.tx c.0 (w.key, b) refl)) ∙ none))) (standing v.log) k.wrote;
   known = k.known;
+  alive = k.alive;
+  left = k.left;
   uncommitted = k.uncommitted;
   closed = k.closed;
   over = k.over;

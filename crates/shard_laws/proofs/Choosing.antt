@@ -1,5 +1,5 @@
 -- Transactions that are chosen by other shards' COMMITs replay.
-use Rattle.std.proofs.Common.{◌≡◌, ℕ, ◌+◌, ◌≤◌, ◌<◌, ◌⊎◌, inl, inr, ⊎_elim, Bool, true, false, cond, ◌&&◌, List, [], ◌∷◌, ◌++◌, map, length, refl, sym, ap, subst, ◌∙◌}
+use Rattle.std.proofs.Common.{◌≡◌, ℕ, ◌+◌, ◌≤◌, ◌<◌, ◌⊎◌, inl, inr, ⊎_elim, Bool, true, false, cond, ◌&&◌, List, [], ◌∷◌, ◌++◌, map, length, refl, sym, ap, subst, ◌∙◌, not, Some}
 use Rattle.std.specs.Prelude.{take, drop}
 use Rattle.std.specs.List.{AllByRecursion, filter}
 use Rattle.std.proofs.lemmas.Bool.{both_ways, or_cases, and_parts, and_from, false_from_ne_true}
@@ -21,21 +21,24 @@ use Rattle.law_base.proofs.Lists.{all_mono, all_filter, later_mono, later_filter
 use Rattle.law_base.proofs.Running.{top_value, Keeps, kept_runs, rising_all, pile_value}
 use Rattle.law_base.proofs.Undoing.{standing_append}
 use Rattle.law_base.proofs.Tables.{is_pair}
-use Rattle.law_base.proofs.Commits.{place_there}
+use Rattle.law_base.proofs.Commits.{place_there, durable_committed}
 use Rattle.order_laws.specs.Order.{Tidy, Sealed, undone_in}
 use Rattle.shard_laws.specs.OneShard.{items_of, ops_by, answers_by, MayChoose, ChosenReplay, ChosenStandBefore}
-use Rattle.shard_laws.proofs.Kept.{Past, view_of, place, Dep, Known}
-use Rattle.shard_laws.proofs.Prepared.{Lists, sealed_later}
+use Rattle.shard_laws.proofs.Kept.{Past, view_of, place, Dep, Known, is_alive}
+use Rattle.shard_laws.proofs.Prepared.{Lists, sealed_later, listed_keeps}
 use Rattle.shard_laws.proofs.Changes.{undone_append, wrote_append, later_both}
-use Rattle.shard_laws.proofs.Sound.{Sound, Lost, filter_both, filter_same, list_all_at}
+use Rattle.shard_laws.proofs.Sound.{Sound, Lost, filter_both, filter_same}
+use Rattle.shard_laws.proofs.Dooming.{list_all_at}
 use Rattle.shard_laws.proofs.Cutting.{cut_keeps, durable_cut, of_kept, tidy_later, fold_values, fold_rises}
 use Rattle.shard_laws.proofs.Serial.{placed, runs_placed, after_placed, filter_place, in_kept, Once, once_filter, groups_are, all_ops, all_answers, order_placed, below_placed}
-use Rattle.shard_laws.proofs.Members.{dep_cut, item_asked, cut_base, pile_keep, filter_all_kept, filter_alike}
+use Rattle.shard_laws.proofs.Members.{dep_cut, item_asked, cut_base, pile_keep, filter_all_kept, filter_alike, filter_within}
 use Rattle.shard_laws.proofs.Doubting.{prepared_cut, listed_cut}
 use Rattle.shard_laws.proofs.Restoring.{standing_updates, wrote_of}
 use Rattle.shard_laws.proofs.Rebuilding.{unmoved_from}
-use Rattle.shard_laws.proofs.Reviving.{Here, doubt_of, doubt_closed, wins_alive, tidy_closed, sealed_closed, whole_log}
+use Rattle.shard_laws.proofs.Reviving.{doubt_of, doubt_closed, tidy_closed, sealed_closed, whole_log, Bounded, doubt_here}
 use Rattle.shard_laws.proofs.Histories.{held}
+use Rattle.clv_base.specs.Undo.{stage_of}
+use Rattle.clv_base.specs.declared.state.Stage.TheVariants.{Closed}
 
 -- of the records of a log the writers alone count
 fold_writers : (f k : TxId → Bool) (log : List LogRecord) (m : KeyMap) → ((t : TxId) → wrote_in log t ≡ true → f t ≡ k t) → fold_updates f log m ≡ fold_updates k log m
@@ -54,7 +57,7 @@ and_true true b e = sym e
 and_true false b e = refl
 
 module _ (all : List Item) (g : Past) (s : Shard) (told : List TxId) (cut : ℕ) (chosen : TxId → Bool) (h : Sound all g s) (le : s.durable ≤ cut) (once : Once g.asked) (all_over : (t : TxId) → tx_in t told ≡ true → tx_in t g.over ≡ true)
-    (here : Here s cut) (may : MayChoose s cut told chosen) where
+    (bounded : Bounded g s) (may : MayChoose s cut told g.fell chosen) where
   abbrev front : List LogRecord
   front = take cut s.local.log
 
@@ -64,11 +67,27 @@ module _ (all : List Item) (g : Past) (s : Shard) (told : List TxId) (cut : ℕ)
   abbrev ms : List TxId
   ms = filter chosen g.asked
 
+  whole : take cut s.local.log ++ drop cut s.local.log ≡ s.local.log
+  whole = take-append-drop cut s.local.log
+
+  -- a chosen one in doubt is here still
+  chosen_closed : (t : TxId) → tx_in t (in_doubt s.shard (take cut s.local.log)) ≡ true → tx_in t g.fell ≡ false → stage_of s.local t ≡ Some Closed
+  chosen_closed t i n = doubt_closed all g s cut h t i (doubt_here all g s cut h le t i (λ e. ⊎_elim (λ a. both_ways _ n a) (λ d. both_ways _ n (bounded t d)) e))
+
+  not_lost : (t : TxId) → chosen t ≡ true → Lost g t → ⊥
+  not_lost t k l =
+      ⊎_elim (λ m. ⊎_elim (λ c. both_ways _ (h.falls.open_ t l) (cut_keeps cut s.local.log t c)) (λ o. both_ways _ (h.falls.unfinished t l) (all_over t o)) (or_cases (committed_in (take cut s.local.log) t) (tx_in t told) m))
+      (λ q. ⊎_elim (λ e. ⊎_elim (λ a. both_ways _ q.2 a) (λ d. both_ways _ q.2 (bounded t d)) e)
+      (λ p. let d = (doubt_of all g s cut h t q.0).prepared in
+      ⊎_elim (λ i. both_ways _ (h.falls.open_ p.0 p.2) (cut_keeps cut s.local.log p.0 (list_all_at (committed_in (take cut s.local.log)) p.0 (listed_in (take cut s.local.log) t) q.1
+      (ap (tx_in p.0) (sym (subst (λ l. listed_in l t ≡ listed_in (take cut s.local.log) t) whole (listed_keeps (take cut s.local.log) (drop cut s.local.log) t d))) ∙ i))))
+      (λ c. both_ways _ (h.falls.open_ p.0 p.2) c) (h.falls.paired t p.0 p.1 (prepared_cut cut s.local.log t d))) (h.falls.why t l)) (may.are_here t k)
+
   -- whom a chosen one met is chosen
   dep_chosen : (t p : TxId) → Dep (view_of s) t p → Lists s.local.log t p → chosen t ≡ true → chosen p ≡ true
   dep_chosen t p d l k =
       ⊎_elim (λ m. may.commits p (dep_cut all g s told cut h le once all_over t p d m))
-      (λ q. let e = (doubt_of all g s cut h here t q.0).prepared in
+      (λ q. let e = (doubt_of all g s cut h t q.0).prepared in
       may.commits p (⊎_elim (λ i. list_all_at (committed_in (take cut s.local.log)) p (listed_in (take cut s.local.log) t) q.1 i) (λ i. place_there 0 (is_commit_of p) (take cut s.local.log) i.0 i.2) (listed_cut cut s.local.log t p e (l (prepared_cut cut s.local.log t e)))))
       (may.are_here t k)
 
@@ -84,14 +103,10 @@ module _ (all : List Item) (g : Past) (s : Shard) (told : List TxId) (cut : ℕ)
   kept_order = later_mono _ _ (λ x y o c. ⊎_elim (λ same. inl same) (λ l. inr (filter_place chosen g.asked x.tx y.tx o.1 o.2 l)) (o.0 c)) (filter (λ x. chosen x.tx) g.items) (later_filter _ (λ z. chosen z.tx) g.items h.kept.order)
 
   chosen_asked : (t : TxId) → Known g (view_of s) t → chosen t ≡ true → tx_in t g.asked ≡ true
-  chosen_asked t known k = ⊎_elim (λ m. item_asked all g s told cut h le once all_over t known m) (λ q. h.kept.closed t (doubt_closed all g s cut h here t q.0)) (may.are_here t k)
+  chosen_asked t known k = ⊎_elim (λ m. item_asked all g s told cut h le once all_over t known m) (λ q. h.kept.closed t (chosen_closed t q.0 q.2)) (may.are_here t k)
 
   kept_in : AllByRecursion (λ x. tx_in x.tx ms ≡ true) (filter (λ x. chosen x.tx) g.items)
   kept_in = all_mono _ _ (λ x k. in_kept chosen g.asked x.tx (chosen_asked x.tx k.0 k.1) k.1) (filter (λ x. chosen x.tx) g.items) (all_filter _ (λ z. chosen z.tx) g.items h.kept.known)
-
-  not_lost : (t : TxId) → chosen t ≡ true → Lost g s t → ⊥
-  not_lost t k l =
-      ⊎_elim (λ m. ⊎_elim (λ c. both_ways _ l.0 (cut_keeps cut s.local.log t c)) (λ o. both_ways _ l.2 (all_over t o)) (or_cases (committed_in (take cut s.local.log) t) (tx_in t told) m)) (λ q. both_ways _ l.1 (here t q.0)) (may.are_here t k)
 
   both_false : (a : Bool) → (a && false) ≡ false
   both_false true = refl
@@ -135,8 +150,14 @@ module _ (all : List Item) (g : Past) (s : Shard) (told : List TxId) (cut : ℕ)
       (λ m. or_left _ _ (⊎_elim (λ c. c) (λ o. ⊎_elim (λ d. durable_cut s.durable cut s.local.log t le d) (λ r. absurd (both_ways _ r.1 p.1)) (h.kept.over t (all_over t o))) (or_cases (committed_in (take cut s.local.log) t) (tx_in t told) m)))
       (λ q. or_right (committed_in (take cut s.local.log) t) _ q.0) (may.are_here t p.0)
 
-  whole : take cut s.local.log ++ drop cut s.local.log ≡ s.local.log
-  whole = take-append-drop cut s.local.log
+  wins_alive : (t : TxId) → (chosen t && wrote_in s.local.log t) ≡ true → undone_in s.local.log t ≡ true → ⊥
+  wins_alive t k u =
+      let d = h.kept.dead t u in
+      let p = and_parts (chosen t) (wrote_in s.local.log t) k in
+      ⊎_elim (λ c. both_ways _ d.0 (cut_keeps cut s.local.log t c))
+      (λ i. ⊎_elim (λ m. ⊎_elim (λ c. both_ways _ d.0 (cut_keeps cut s.local.log t c)) (λ o. ⊎_elim (λ e. both_ways _ d.0 (durable_committed s.local.log s.durable t e)) (λ e. both_ways _ e.1 p.1) (h.kept.over t (all_over t o))) (or_cases (committed_in (take cut s.local.log) t) (tx_in t told) m))
+      (λ q. d.2 (chosen_closed t q.0 q.2)) (may.are_here t p.0))
+      (or_cases (committed_in (take cut s.local.log) t) (tx_in t (in_doubt s.shard (take cut s.local.log))) (wins_here t k))
 
   rest_unmoved : filter (of_kept (λ t. chosen t && wrote_in s.local.log t)) (standing s.local.log) ≡ filter (of_kept (λ t. chosen t && wrote_in s.local.log t)) (standing (take cut s.local.log))
   rest_unmoved =
@@ -144,12 +165,12 @@ module _ (all : List Item) (g : Past) (s : Shard) (told : List TxId) (cut : ℕ)
       ∙ ap (filter (of_kept (λ t. chosen t && wrote_in s.local.log t))) (standing_append 0 (take cut s.local.log) (drop cut s.local.log) [])
       ∙ unmoved_from (λ t. chosen t && wrote_in s.local.log t) (0 + length (take cut s.local.log)) (drop cut s.local.log) (standing (take cut s.local.log))
       (λ t w. false_from_ne_true _ (λ k. ⊎_elim (λ e. tidy_closed (take cut s.local.log) (drop cut s.local.log) t (tidy_later [] (take cut s.local.log) (drop cut s.local.log) (subst (Tidy []) (sym whole) h.kept.tidy)) e w)
-      (λ i. sealed_closed (take cut s.local.log) (drop cut s.local.log) t (sealed_later [] (take cut s.local.log) (drop cut s.local.log) (subst (Sealed []) (sym whole) h.kept.prepared.sealed)) (doubt_of all g s cut h here t i).prepared w)
+      (λ i. sealed_closed (take cut s.local.log) (drop cut s.local.log) t (sealed_later [] (take cut s.local.log) (drop cut s.local.log) (subst (Sealed []) (sym whole) h.kept.prepared.sealed)) (doubt_of all g s cut h t i).prepared w)
       (or_cases (committed_in (take cut s.local.log) t) (tx_in t (in_doubt s.shard (take cut s.local.log))) (wins_here t k))))
-      (λ t u. false_from_ne_true _ (λ k. wins_alive all g s cut h here t (wins_here t k) (subst (λ l. undone_in l t ≡ true) whole (undone_append (take cut s.local.log) (drop cut s.local.log) t ∙ or_right (undone_in (take cut s.local.log) t) _ u))))
+      (λ t u. false_from_ne_true _ (λ k. wins_alive t k (subst (λ l. undone_in l t ≡ true) whole (undone_append (take cut s.local.log) (drop cut s.local.log) t ∙ or_right (undone_in (take cut s.local.log) t) _ u))))
 
   cut_alive : (t : TxId) → undone_in (take cut s.local.log) t ≡ true → (chosen t && wrote_in s.local.log t) ≡ false
-  cut_alive t u = false_from_ne_true _ (λ k. wins_alive all g s cut h here t (wins_here t k) (subst (λ l. undone_in l t ≡ true) whole (undone_append (take cut s.local.log) (drop cut s.local.log) t ∙ or_left _ _ u)))
+  cut_alive t u = false_from_ne_true _ (λ k. wins_alive t k (subst (λ l. undone_in l t ≡ true) whole (undone_append (take cut s.local.log) (drop cut s.local.log) t ∙ or_left _ _ u)))
 
   writers_wrote : AllByRecursion (λ w. chosen w.tx ≡ (chosen w.tx && wrote_in s.local.log w.tx)) (standing s.local.log)
   writers_wrote = all_mono _ _ (λ w u. and_true (chosen w.tx) (wrote_in s.local.log w.tx) (wrote_of s.local.log w.tx w.key u)) (standing s.local.log) (standing_updates s.local.log)
@@ -170,7 +191,7 @@ module _ (all : List Item) (g : Past) (s : Shard) (told : List TxId) (cut : ℕ)
       (rising_all (filter (λ x. chosen x.tx) g.items) g.start h.kept.start_rises) (fold_rises chosen (take cut s.local.log) [] tt)
       (λ q. pile_value (filter (λ x. chosen x.tx) g.items) g.start g.base q kept_run (h.kept.base_value q)
       ∙ ap (λ ws. top_value q (pile (filter (λ x. chosen x.tx) g.items) ws)) (sym (filter_all_kept chosen g.base base_chosen))
-      ∙ ap (top_value q) (sym (pile_keep chosen g.items g.base) ∙ ap (filter (of_kept chosen)) (sym h.kept.standing_is))
+      ∙ ap (top_value q) (sym (pile_keep chosen g.items g.base) ∙ ap (filter (of_kept chosen)) (sym h.kept.standing_is) ∙ filter_within chosen (is_alive g.lost) (standing s.local.log) (λ t k. ap not (false_from_ne_true _ (λ l. not_lost t k l))))
       ∙ sym (cut_map q))
 
   pub chosen_run : (replay_answers g.start (ops_by (filter chosen g.asked) all) ≡ answers_by (filter chosen g.asked) all) × (replay_map g.start (ops_by (filter chosen g.asked) all) ≡ fold_updates chosen (take cut s.local.log) [])
@@ -185,20 +206,20 @@ module _ (all : List Item) (g : Past) (s : Shard) (told : List TxId) (cut : ℕ)
   pub chosen_before : (t p : TxId) → is_pair g.met t p ≡ true → chosen t ≡ true → (chosen p ≡ true) × (place (filter chosen g.asked) p < place (filter chosen g.asked) t)
   chosen_before t p e k =
       ⊎_elim
-      (λ o. absurd (not_lost t k o))
+      (λ o. absurd (not_lost t k o.0))
       (λ d. let q = dep_chosen t p d.0 (h.kept.prepared.recover t p e) k in (q, filter_place chosen g.asked p t q k d.1))
       (h.kept.recover t p e)
 
 pub chosen_replay : ChosenReplay
-chosen_replay shard run before all asked told met s cut chosen leads le here may =
-    let b = held shard run before all asked told met s leads in
-    let r = chosen_run all b.0 s told cut chosen b.1 le (subst Once (sym b.4) b.5) b.6 here may in (
+chosen_replay shard run before all asked told met fell s cut chosen leads le may =
+    let b = held shard run before all asked told met fell s leads in
+    let r = chosen_run all b.0 s told cut chosen b.1 le (subst Once (sym b.4) b.5) b.6 b.9 (subst (λ f. MayChoose s cut told f chosen) (sym b.8) may) in (
       subst (λ l. replay_answers (stands (before ∷ [])) (ops_by (filter chosen l) all) ≡ answers_by (filter chosen l) all) b.4 (subst (λ m. replay_answers m (ops_by (filter chosen (b.0).asked) all) ≡ answers_by (filter chosen (b.0).asked) all) b.2 r.0),
       subst (λ l. replay_map (stands (before ∷ [])) (ops_by (filter chosen l) all) ≡ fold_updates chosen (take cut s.local.log) []) b.4 (subst (λ m. replay_map m (ops_by (filter chosen (b.0).asked) all) ≡ fold_updates chosen (take cut s.local.log) []) b.2 r.1),
     )
 
 pub chosen_stand_before : ChosenStandBefore
-chosen_stand_before shard run before all asked told met s cut chosen t p leads le here may e k =
-    let b = held shard run before all asked told met s leads in
-    let r = chosen_before all b.0 s told cut chosen b.1 le (subst Once (sym b.4) b.5) b.6 here may t p (subst (λ m. is_pair m t p ≡ true) (sym b.7) e) k in
+chosen_stand_before shard run before all asked told met fell s cut chosen t p leads le may e k =
+    let b = held shard run before all asked told met fell s leads in
+    let r = chosen_before all b.0 s told cut chosen b.1 le (subst Once (sym b.4) b.5) b.6 b.9 (subst (λ f. MayChoose s cut told f chosen) (sym b.8) may) t p (subst (λ m. is_pair m t p ≡ true) (sym b.7) e) k in
     (r.0, subst (λ l. place (filter chosen l) p < place (filter chosen l) t) b.4 r.1)

@@ -11,6 +11,7 @@ use Rattle.clv_base.specs.declared.state.Stage.TheVariants.{Active, Closed, Gone
 use Rattle.clv_base.specs.declared.state.Held.{Held}
 use Rattle.clv_base.specs.Orders.{Table, tx_same, tx_in, tx_get}
 use Rattle.clv_base.specs.Locks.{close_locks}
+use Rattle.clv_base.specs.Logs.{standing}
 use Rattle.clv_base.specs.State.{is_present}
 use Rattle.clv_base.specs.OneShard.{closed_part, closed_in}
 use Rattle.clv_base.specs.Needs.{lower_anchor}
@@ -113,7 +114,7 @@ pub stage_other : (parts : Table Held) (t u : TxId) → tx_same t u ≡ false �
 stage_other parts t u e = ap stage_by (get_closed_other t u parts e)
 
 -- a stage after it that is not Closed was there before
-stage_back : (parts : Table Held) (t u : TxId) (s : Stage) → stage_in parts t ≡ Some Active → (Some Closed ≡ Some s → ⊥) → stage_in (closed_in t parts) u ≡ Some s → (tx_same t u ≡ false) × (stage_in parts u ≡ Some s)
+pub stage_back : (parts : Table Held) (t u : TxId) (s : Stage) → stage_in parts t ≡ Some Active → (Some Closed ≡ Some s → ⊥) → stage_in (closed_in t parts) u ≡ Some s → (tx_same t u ≡ false) × (stage_in parts u ≡ Some s)
 stage_back parts t u s act ne e =
     let apart : tx_same t u ≡ false = false_from_ne_true _ (λ h. ne (sym (stage_closed parts t act) ∙ ap (stage_in (closed_in t parts)) (tx_true t u h) ∙ e)) in
     (apart, sym (stage_other parts t u apart) ∙ e)
@@ -125,7 +126,7 @@ fits_closed c s f e = subst (λ x. StageFits c x → c ≡ false) (sym e) (at c)
     at true f = absurd f
     at false f = refl
 
-closed_not_active : ◌≡◌ {A = Option Stage} (Some Closed) (Some Active) → ⊥
+pub closed_not_active : ◌≡◌ {A = Option Stage} (Some Closed) (Some Active) → ⊥
 closed_not_active e = absurd cc
 
 closed_not_gone : ◌≡◌ {A = Option Stage} (Some Closed) (Some (Gone None)) → ⊥
@@ -140,7 +141,7 @@ active_not_closed e = absurd cc
 active_not_gone : ◌≡◌ {A = Option Stage} (Some Active) (Some (Gone None)) → ⊥
 active_not_gone e = absurd cc
 
-present_closed : (parts : Table Held) (t u : TxId) → is_present (stage_in parts u) ≡ true → is_present (stage_in (closed_in t parts) u) ≡ true
+pub present_closed : (parts : Table Held) (t u : TxId) → is_present (stage_in parts u) ≡ true → is_present (stage_in (closed_in t parts) u) ≡ true
 present_closed parts t u e = subst (λ o. is_present (stage_by o) ≡ true) (sym (get_closed t u parts)) (at (tx_get u parts) (tx_same t u) e)
   where
     at : (o : Option Held) (b : Bool) → is_present (stage_by o) ≡ true → is_present (stage_by (elim o [ Some h ↦ Some (cond b (closed_part h) h) | None ↦ None ])) ≡ true
@@ -171,6 +172,8 @@ keeps_asked g v t k = record {
   covered = k.covered;
   wrote = k.wrote;
   known = all_mono _ _ (λ x h. ⊎_elim (λ a. inl a) (λ r. inr (in_push g.asked t x.tx ∙ or_left _ _ r.0, r.1)) h) g.items k.known;
+  alive = k.alive;
+  left = k.left;
   uncommitted = k.uncommitted;
   closed = λ u h. in_push g.asked t u ∙ or_left _ _ (k.closed u h);
   over = λ u h. ⊎_elim (λ c. inl c) (λ c. inr (c.0, c.1, c.2, in_push g.asked t u ∙ or_left _ _ c.3)) (k.over u h);
@@ -206,8 +209,10 @@ keeps_close g v t k act asks = record {
   covered = all_mono _ _ (λ y h active.
       let c = h (stage_back v.parts t y.tx Active act closed_not_active active).1 in
       (λ q m. holds_closed S y.tx q (c.0 q m), λ q m. holds_closed X y.tx q (c.1 q m))) g.items k.covered;
-  wrote = all_mono _ _ (λ x h out q w. let c = h out q w in (close_holds t true X (At q) x.tx v.locks ∙ c.0, c.1)) g.items k.wrote;
+  wrote = all_mono _ _ (λ w h out. let c = h out in (close_holds t true X (At w.key) w.tx v.locks ∙ c.0, c.1)) (standing v.log) k.wrote;
   known = all_mono _ _ (λ x h. still_known x.tx h) g.items k.known;
+  alive = k.alive;
+  left = all_mono _ _ (λ x l. ⊎_elim (λ a. inl (present_closed v.parts t x.tx a)) (λ a. inr a) l) g.items k.left;
   uncommitted = λ u h. k.uncommitted u (stage_back v.parts t u Active act closed_not_active h).1;
   closed = λ u h. ⊎_elim (λ e. subst (λ z. tx_in z g.asked ≡ true) (tx_true t u e) asks) (λ e. k.closed u (sym (stage_other v.parts t u e) ∙ h)) (cases_Bool (tx_same t u));
   over = λ u h. ⊎_elim (λ c. inl c) (λ c. inr (c.0, c.1, not_present u c.2, c.3)) (k.over u h);
@@ -219,7 +224,7 @@ keeps_close g v t k act asks = record {
   downwards = k.downwards;
   order = k.order;
   causes = k.causes;
-  recover = λ u p e. ⊎_elim (λ o. inl (o.0, not_present u o.1, o.2)) (λ d. inr d) (k.recover u p e);
+  recover = λ u p e. ⊎_elim (λ o. inl (o.0, λ a. o.1 (stage_back v.parts t u Active act closed_not_active a).1)) (λ d. inr d) (k.recover u p e);
   front = k.front;
 }
   where

@@ -14,6 +14,7 @@ use Rattle.clv_base.proofs.SameNames.{or_left, or_right, tx_true, tx_self}
 use Rattle.law_base.proofs.Running.{top_value}
 use Rattle.law_base.proofs.Undoing.{standing_append}
 use Rattle.law_base.proofs.Commits.{CommitBefore, commit_durable, durable_parts, committed_keeps}
+pub use Rattle.shard_laws.proofs.Kept.{of_kept}
 use Rattle.shard_laws.proofs.Kept.{View, Past, Kept}
 use Rattle.order_laws.specs.Order.{moves, Open_at, Tidy, is_clr_of, undone_in}
 use Rattle.std.proofs.Common.{append-nil}
@@ -73,9 +74,6 @@ before_cut c log p t (n, m, e, f, l) h = let k = taken_place 0 c (is_commit_of t
 -- no CLR undoes one that is kept
 abbrev pub KeptWhole : (TxId → Bool) → List LogRecord → Type 0
 KeptWhole keep log = AllByRecursion (λ r. (t : TxId) → is_clr_of t r ≡ true → keep t ≡ false) log
-
-abbrev pub of_kept : (TxId → Bool) → StandingUpdate → Bool
-of_kept keep w = keep w.tx
 
 without_case : (keep : TxId → Bool) (t : TxId) (w : StandingUpdate) (ws : List StandingUpdate) (b : Bool) → tx_same t w.tx ≡ b → keep t ≡ false → filter (of_kept keep) (without_newest t ws) ≡ filter (of_kept keep) ws → filter (of_kept keep) (cond b ws (w ∷ without_newest t ws)) ≡ filter (of_kept keep) (w ∷ ws)
 without_case keep t w ws true e out ih = sym (cond-false (keep w.tx) (w ∷ filter (of_kept keep) ws) (filter (of_kept keep) ws) (subst (λ z. keep z ≡ false) (tx_true t w.tx e) out))

@@ -1,6 +1,6 @@
 -- The set that goes with an aborted transaction holds each successor of each of its members.
 use Rattle.std.proofs.Common.{◌≡◌, ℕ, zero, suc, ◌+◌, ◌≤◌, ◌<◌, ◌⊎◌, inl, inr, ⊎_elim, Bool, true, false, cond, List, [], ◌∷◌, length, refl, sym, subst, arith}
-use Rattle.std.specs.List.{filter}
+use Rattle.std.specs.List.{filter, list_all}
 use Rattle.std.proofs.lemmas.Bool.{cases_Bool, both_ways, cond_both, cond-true, or_cases, and_parts, and_from, false_from_ne_true}
 use Rattle.clv_base.specs.declared.names.TxId.{TxId}
 use Rattle.clv_base.specs.Orders.{tx_same, tx_in, tx_insert}
@@ -193,3 +193,11 @@ may_go g s tx k open_ = record {
       (λ u j. one_uncommitted s tx u open_ j) t (in_filter (λ x. is_present (stage_of s.local x)) t (doomed_by s.local tx) i).0;
   present = λ t i. (in_filter (λ x. is_present (stage_of s.local x)) t (doomed_by s.local tx) i).1;
 }
+
+-- ---- each of a list
+
+pub list_all_at : (f : TxId → Bool) (u : TxId) (xs : List TxId) → list_all f xs ≡ true → tx_in u xs ≡ true → f u ≡ true
+list_all_at f u [] e i = absurd (both_ways false refl i)
+list_all_at f u (x ∷ xs) e i =
+    let p = and_parts (f x) (list_all f xs) e in
+    ⊎_elim (λ h. subst (λ z. f z ≡ true) (tx_true x u h) p.0) (λ h. list_all_at f u xs p.1 h) (or_cases (tx_same x u) (tx_in u xs) i)

@@ -15,15 +15,16 @@ use Rattle.law_base.proofs.Commits.{place_some, place_keeps, place_there}
 use Rattle.order_laws.specs.Order.{Sealed}
 use Rattle.shard_laws.proofs.Cutting.{taken_there, taken_place}
 use Rattle.protocol_laws.proofs.Doubts.{stays_in}
-use Rattle.shard_laws.proofs.Sound.{list_all_at}
+use Rattle.shard_laws.proofs.Dooming.{list_all_at}
 use Rattle.shard_laws.proofs.Prepared.{IsListed, by_prepare, prepare_here, listed_keeps, prepared_append}
 
 -- ---- in doubt
 
--- it is prepared, not committed, and each that its PREPARE lists is committed or of these
+-- it is prepared, neither committed nor aborted, and each that its PREPARE lists is committed or of these
 pub record Doubted (log : List LogRecord) (these : List TxId) (t : TxId) : Type 0 where
   pub prepared : prepared_in log t ≡ true
   pub open_ : committed_in log t ≡ false
+  pub unaborted : aborted_in log t ≡ false
   pub listed : list_all (λ p. committed_in log p || tx_in p these) (listed_in log t) ≡ true
 
 more_all : (f h : TxId → Bool) (xs : List TxId) → ((x : TxId) → f x ≡ true → h x ≡ true) → list_all f xs ≡ true → list_all h xs ≡ true
@@ -46,6 +47,7 @@ one_doubt log shard before rs sf t home ps e first d =
     record {
       prepared = subst (λ l. prepared_in l t ≡ true) e (prepared_append before (Prepare t home ps ∷ rs) t ∙ or_right (prepared_in before t) _ (or_left (tx_same t t) (prepared_in rs t) (tx_self t)));
       open_ = not-true _ r.1;
+      unaborted = not-true _ q.1;
       listed = subst (λ l. list_all (λ z. committed_in log z || tx_in z (in_doubt_from log shard rs (tx_insert t sf))) l ≡ true) (sym (ap by_prepare (ap (λ l. prepare_of l t) (sym e) ∙ prepare_here before rs t home ps first)))
           (more_all (λ z. committed_in log z || tx_in z sf) (λ z. committed_in log z || tx_in z (in_doubt_from log shard rs (tx_insert t sf))) ps
           (λ z. or_more (committed_in log z) (tx_in z sf) (tx_in z (in_doubt_from log shard rs (tx_insert t sf))) (λ i. stays_in log shard rs (tx_insert t sf) z (insert_keeps t z sf i))) p.1);

@@ -1,6 +1,12 @@
 -- A granted operation keeps what a shard keeps.
-use Rattle.std.proofs.Common.{◌≡◌, ℕ, ◌+◌, ◌<◌, ◌⊎◌, inl, inr, ⊎_elim, Bool, true, false, cond, ◌&&◌, ◌||◌, List, [], ◌∷◌, ◌++◌, map, length, Option, Some, None, ◌==◌, refl, sym, ap, subst, ◌∙◌, arith, eqb-true, eq-eqb}
-use Rattle.std.proofs.lemmas.Bool.{cases_Bool, both_ways, cond-true, cond-false, or_cases, and_parts, false_from_ne_true}
+use Rattle.std.proofs.Common.{◌≡◌, ℕ, ◌+◌, ◌<◌, ◌⊎◌, inl, inr, ⊎_elim, Bool, true, false, cond, not, ◌&&◌, ◌||◌, List, [], ◌∷◌, ◌++◌, map, length, Option, Some, None, ◌==◌, refl, sym, ap, subst, ◌∙◌, arith, eqb-true, eq-eqb}
+use Rattle.std.proofs.lemmas.Bool.{cases_Bool, both_ways, cond-true, cond-false, or_cases, and_parts, not-true, false_from_ne_true}
+use Rattle.std.specs.List.{AllByRecursion, filter}
+use Rattle.clv_base.specs.Needs.{live_pairs}
+use Rattle.law_base.specs.Items.{AllLater}
+use Rattle.law_base.specs.Undone.{stays_of}
+use Rattle.clv_base.specs.Maps.{op_answer}
+use Rattle.shard_laws.proofs.Leaving.{one_in, none_two, item_wrote, top_alive, filter_less}
 use Rattle.std.proofs.lemmas.List.Folds.{list_any-append}
 use Rattle.clv_base.specs.declared.names.TxId.{TxId}
 use Rattle.clv_base.specs.declared.names.Birth.{Birth}
@@ -15,23 +21,23 @@ use Rattle.clv_base.specs.declared.state.Stage.TheVariants.{Active, Closed, Gone
 use Rattle.clv_base.specs.declared.state.Held.{Held}
 use Rattle.clv_base.specs.Orders.{Table, tx_same, tx_in, tx_get}
 use Rattle.clv_base.specs.Maps.{map_get}
-use Rattle.clv_base.specs.Logs.{standing, committed_in, wrote_in, prepared_in, is_update_of}
+use Rattle.clv_base.specs.Logs.{StandingUpdate, standing, committed_in, wrote_in, prepared_in, is_update_of}
 use Rattle.clv_base.specs.Locks.{Locks}
 use Rattle.clv_base.specs.State.{is_present}
 use Rattle.clv_base.specs.Needs.{Records, value_at, lower_anchor}
 use Rattle.law_base.proofs.Cells.{record_at, live_by, live_some}
 use Rattle.law_base.specs.Items.{Item, wrote, writes, meets, after, Reaches, Clash, pile, on_top, is_write_at}
 use Rattle.clv_base.proofs.SameNames.{or_left, or_right, tx_true, tx_self, tx_ne, tx_flip}
-use Rattle.law_base.proofs.Lists.{all_mono, all_both, all_push, later_mono, later_push}
+use Rattle.law_base.proofs.Lists.{all_mono, all_both, all_filter, all_push, later_mono, later_filter, later_push}
 use Rattle.law_base.proofs.Running.{top_value}
 use Rattle.law_base.proofs.Undoing.{standing_append}
 use Rattle.law_base.proofs.Anchors.{Rising}
 use Rattle.shard_laws.proofs.LockRows.{holds, Rows}
 use Rattle.shard_laws.proofs.Asking.{holds_at, holds_by}
 use Rattle.law_base.proofs.Tables.{stage_in, stage_by, is_pair}
-use Rattle.law_base.proofs.Commits.{CommitBefore, commit_durable, before_keeps, durable_keeps, committed_keeps, uncommitted_append, committed_from}
+use Rattle.law_base.proofs.Commits.{CommitBefore, commit_durable, before_keeps, before_first, durable_committed, durable_keeps, uncommitted_append, committed_from}
 use Rattle.shard_laws.proofs.Prepared.{Prepared, prepared_item, prepared_update}
-use Rattle.shard_laws.proofs.Kept.{View, Past, place, StageFits, Belongs, Covers, Wrote, Dep, Known, Kept}
+use Rattle.shard_laws.proofs.Kept.{View, Past, place, StageFits, Belongs, Covers, Wrote, Dep, Known, Left, Ended, Kept, of_kept, is_alive}
 use Rattle.order_laws.specs.Order.{Tidy, undone_in}
 use Rattle.clv_base.specs.declared.ops.Op.{Op}
 use Rattle.clv_base.specs.declared.ops.Op.TheVariants.{Get, Put, Del, Scan}
@@ -46,9 +52,9 @@ use Rattle.clv_base.specs.Needs.{found_at, found_by, needs_of, inserts, writes_o
 use Rattle.clv_base.specs.OneShard.{active_part, inserted_locks, new_part, add_pairs, locked, written, performed}
 use Rattle.law_base.specs.Items.{told}
 use Rattle.clv_base.proofs.SameNames.{cases_tx}
-use Rattle.law_base.proofs.Running.{after_of, runs_push, rising_all, pile_value, pile_push}
-use Rattle.law_base.proofs.Undoing.{write_met}
-use Rattle.shard_laws.proofs.Answering.{same_told}
+use Rattle.law_base.proofs.Running.{after_of, same_answer, Keeps, kept_runs, runs_push, rising_all, pile_value, pile_push}
+use Rattle.law_base.proofs.Undoing.{write_met, keeps_of, pile_filter, filter_all}
+use Rattle.shard_laws.proofs.Answering.{same_told, live_find, live_rises, t_true}
 use Rattle.law_base.proofs.Anchors.{rising_set, record_at_set, lower_insert, anchor_present}
 use Rattle.shard_laws.proofs.LockRows.{least, asks, take_keeps, take_gives, rows_take, rows_all, all_keeps, all_gives, split_keeps, split_gives, rows_split, conflict, violates, violated_row}
 use Rattle.shard_laws.proofs.Asking.{asks_at, asks_by, asks_met, asks_written}
@@ -58,19 +64,19 @@ use Rattle.shard_laws.proofs.Changes.{wrote_keeps, tidy_append, undone_append, w
 use Rattle.shard_laws.proofs.Kept.{view_of}
 use Rattle.clv_base.specs.Logs.{newest_at}
 
-abbrev Change : Type 0
+abbrev pub Change : Type 0
 Change = Option (ℕ × Option ℕ × Option ℕ)
 
-abbrev records_by : Change → Records → Records
+abbrev pub records_by : Change → Records → Records
 records_by None rs = rs
 records_by (Some w) rs = record_set w.0 w.2 rs
 
-abbrev log_by : TxId → Change → List LogRecord → List LogRecord
+abbrev pub log_by : TxId → Change → List LogRecord → List LogRecord
 log_by tx None log = log
 log_by tx (Some w) log = log ++ Update tx w.0 w.1 w.2 ∷ []
 
 -- nothing is written, or where a record stands, or a new record
-data Writing (rs : Records) : Change → Option ℕ → Type 0 where
+pub data Writing (rs : Records) : Change → Option ℕ → Type 0 where
   nothing : Writing rs None None
   there : (k : ℕ) (b a x : Option ℕ) → record_at k rs ≡ Some x → Writing rs (Some (k, b, a)) None
   fresh : (k : ℕ) (b a : Option ℕ) → record_at k rs ≡ None → Writing rs (Some (k, b, a)) (Some k)
@@ -85,7 +91,7 @@ del_writing k rs None e = nothing
 del_writing k rs (Some None) e = nothing
 del_writing k rs (Some (Some x)) e = there k (Some x) None (Some x) e
 
-writing : (op : Op) (rs : Records) → Writing rs (writes_of op (value_at (key_of op) rs)) (inserts op (found_at (key_of op) rs))
+pub writing : (op : Op) (rs : Records) → Writing rs (writes_of op (value_at (key_of op) rs)) (inserts op (found_at (key_of op) rs))
 writing (Get k) rs = nothing
 writing (Put k v) rs = put_writing k v (value_at k rs) rs (record_at k rs) refl
 writing (Del k) rs = del_writing k rs (record_at k rs) refl
@@ -98,7 +104,7 @@ none_key : (k : ℕ) → ◌≡◌ {A = Option ℕ} None (Some k) → ⊥
 none_key k e = absurd cc
 
 -- an insert is a write
-insert_writes : (rs : Records) (w : Change) (ins : Option ℕ) (q : ℕ) → Writing rs w ins → ins ≡ Some q → is_write_at w q ≡ true
+pub insert_writes : (rs : Records) (w : Change) (ins : Option ℕ) (q : ℕ) → Writing rs w ins → ins ≡ Some q → is_write_at w q ≡ true
 insert_writes rs _ _ q nothing e = absurd (none_key q e)
 insert_writes rs _ _ q (there k b a x h) e = absurd (none_key q e)
 insert_writes rs _ _ q (fresh k b a h) e = eq-eqb q k (some_key k q e)
@@ -228,14 +234,14 @@ some_stage : (a b : Stage) → Some a ≡ Some b → a ≡ b
 some_stage a b e = cc
 
 -- a closed lock is not of an active part
-not_active : (parts : Table Held) (u : TxId) (b : Birth) → Belongs parts u b true → stage_in parts u ≡ Some Active → ⊥
+pub not_active : (parts : Table Held) (u : TxId) (b : Birth) → Belongs parts u b true → stage_in parts u ≡ Some Active → ⊥
 not_active parts u b (h, e, f, fit) a = at h.stage fit (some_stage h.stage Active (sym (ap stage_by e) ∙ a))
   where
     at : (s : Stage) → StageFits true s → s ≡ Active → ⊥
     at s fit e = subst (StageFits true) e fit
 
 -- a lock of a part that is not active is closed
-is_closed : (parts : Table Held) (u : TxId) (b : Birth) (c : Bool) → Belongs parts u b c → (stage_in parts u ≡ Some Active → ⊥) → c ≡ true
+pub is_closed : (parts : Table Held) (u : TxId) (b : Birth) (c : Bool) → Belongs parts u b c → (stage_in parts u ≡ Some Active → ⊥) → c ≡ true
 is_closed parts u b true h n = refl
 is_closed parts u b false (h, e, f, fit) n = absurd (n (ap stage_by e ∙ at h.stage fit))
   where
@@ -244,16 +250,34 @@ is_closed parts u b false (h, e, f, fit) n = absurd (n (ap stage_by e ∙ at h.s
     at Closed fit = absurd fit
     at (Gone d) fit = absurd fit
 
+-- who has a closed lock is closed
+pub closed_row : (parts : Table Held) (u : TxId) (b : Birth) → Belongs parts u b true → stage_in parts u ≡ Some Closed
+closed_row parts u b (h, e, f, fit) = ap stage_by e ∙ at h.stage fit
+  where
+    at : (s : Stage) → StageFits true s → Some s ≡ Some Closed
+    at Active fit = absurd fit
+    at Closed fit = refl
+    at (Gone d) fit = absurd fit
+
 told_same : (op : Op) (rs : Records) → writes_of op (told (answer_of op rs)) ≡ writes_of op (value_at (key_of op) rs)
 told_same (Get k) rs = refl
 told_same (Put k v) rs = refl
 told_same (Del k) rs = refl
 told_same (Scan lo hi) rs = refl
 
+-- the earlier ones of a list with one more
+later_first : {I : Type 0} (R : I → I → Type 0) (xs : List I) (x : I) → AllLater R (xs ++ x ∷ []) → AllLater R xs
+later_first R [] x a = tt
+later_first R (y ∷ ys) x a = (firsts (R y) ys x a.0, later_first R ys x a.1)
+  where
+    firsts : {I : Type 0} (P : I → Type 0) (zs : List I) (z : I) → AllByRecursion P (zs ++ z ∷ []) → AllByRecursion P zs
+    firsts P [] z a = tt
+    firsts P (u ∷ us) z a = (a.0, firsts P us z a.1)
+
 -- ---- all of it
 
 module _ (g : Past) (v : View) (tx : TxId) (birth : Birth) (op : Op) (k : Kept g v) (grant : decide tx birth (needs_of op v.records) v.locks ≡ Grant)
-    (may : MayStand v.parts tx birth) (new : tx_in tx g.asked ≡ false) (open_ : committed_in v.log tx ≡ false) (alive : undone_in v.log tx ≡ false) (unprepared : prepared_in v.log tx ≡ false) (unmet : (p : TxId) → is_pair g.met tx p ≡ true → stage_in v.parts tx ≡ Some Active) where
+    (may : MayStand v.parts tx birth) (new : tx_in tx g.asked ≡ false) (open_ : committed_in v.log tx ≡ false) (alive : undone_in v.log tx ≡ false) (unprepared : prepared_in v.log tx ≡ false) (unmet : (p : TxId) → is_pair g.met tx p ≡ true → stage_in v.parts tx ≡ Some Active) (no_succ : (t : TxId) → is_pair v.pairs t tx ≡ true → ⊥) (lost_open : (t : TxId) → tx_in t g.lost ≡ true → committed_in v.log t ≡ false) where
   abbrev needs : List Need
   needs = needs_of op v.records
 
@@ -316,9 +340,6 @@ module _ (g : Past) (v : View) (tx : TxId) (birth : Birth) (op : Op) (k : Kept g
   closed_apart : ◌≡◌ {A = Option Stage} (Some Active) (Some Closed) → ⊥
   closed_apart e = absurd cc
 
-  gone_apart : ◌≡◌ {A = Option Stage} (Some Active) (Some (Gone None)) → ⊥
-  gone_apart e = absurd cc
-
   doomed_apart : (d : TxId) → ◌≡◌ {A = Option Stage} (Some Active) (Some (Gone (Some d))) → ⊥
   doomed_apart d e = absurd cc
 
@@ -355,10 +376,6 @@ module _ (g : Past) (v : View) (tx : TxId) (birth : Birth) (op : Op) (k : Kept g
       at : (b : Bool) → live_by (cond b (Some w.2) (record_at q v.records)) ≡ after_of (cond b (Some (record { lsn = 0 + length v.log; tx = tx; key = w.0; before = w.1; after = w.2 })) (newest_at q (standing v.log)))
       at true = live_some w.2
       at false = k.values q
-
-  base_by : (w : Change) (t : TxId) → committed_in v.log t ≡ true → committed_in (log_by tx w v.log) t ≡ true
-  base_by None t c = c
-  base_by (Some w) t c = committed_keeps v.log (Update tx w.0 w.1 w.2 ∷ []) t c
 
   from_by : (w : Change) (t : TxId) → committed_in (log_by tx w v.log) t ≡ true → committed_in v.log t ≡ true
   from_by None t c = c
@@ -415,31 +432,47 @@ module _ (g : Past) (v : View) (tx : TxId) (birth : Birth) (op : Op) (k : Kept g
       known)
       (cases_tx y.tx tx)
 
-  cause_new : (y : Item) → Known g v y.tx → (stage_in v.parts y.tx ≡ Some Active → Covers v y) → Wrote v y → Reaches y item → (y.tx ≡ tx) ⊎ Dep (View_by change) tx y.tx
-  cause_new y known covers wrote reach =
+  -- who wrote a key that is met, and whose COMMIT is not durable, is violated
+  violates_at : (u : TxId) (q : ℕ) → (u ≡ tx → ⊥) → holds true X (At q) u v.locks ≡ true → (record_at q v.records ≡ None → ⊥) → meets item q ≡ true → tx_in u (violated tx needs v.locks) ≡ true
+  violates_at u q ne held stands met =
+      let a = at (record_at q v.records) stands (met_asked q met) in
+      let c = conflict (Belongs v.parts) tx u birth true X S (At q) needs v.locks k.rows grant held a refl (λ s. ne (sym s)) in
+      violates (Belongs v.parts) tx u true S (At q) needs v.locks k.rows
+      (λ b d h. is_closed v.parts u b d h (λ active. not_active v.parts u c.0 c.1 active)) held a refl (λ s. ne (sym s))
+    where
+      at : (o : Option (Option ℕ)) → (o ≡ None → ⊥) → asks_by S needs v.records q o ≡ true → asks true S (At q) needs ≡ true
+      at (Some x) n e = e
+      at None n e = absurd (n refl)
+
+  abbrev Item_wrote : Item → Type 0
+  Item_wrote y = commit_durable v.log v.durable y.tx ≡ false → (q : ℕ) → writes y q ≡ true → (holds true X (At q) y.tx v.locks ≡ true) × (record_at q v.records ≡ None → ⊥)
+
+  cause_new : (y : Item) → Item_wrote y → Reaches y item → (y.tx ≡ tx) ⊎ Dep (View_by change) tx y.tx
+  cause_new y wrote reach =
       ⊎_elim (λ s. inl s)
       (λ ne. inr (⊎_elim
       (λ d. inl (durable_by change y.tx d))
-      (λ out. inr (inl (add_has tx (violated tx needs v.locks) v.pairs y.tx (violates_here ne out))))
+      (λ out. let held = wrote out reach.0 reach.1 in inr (inl (add_has tx (violated tx needs v.locks) v.pairs y.tx (violates_at y.tx reach.0 ne held.0 held.1 reach.2))))
       (cases_Bool (commit_durable v.log v.durable y.tx))))
       (cases_tx y.tx tx)
+
+  -- where it is not lost, what stands at the keys that it meets is of those that are not
+  same_values : tx_in tx g.lost ≡ false → ((p : TxId) → tx_in p (violated tx needs v.locks) ≡ true → tx_in p g.lost ≡ false) → (q : ℕ) → meets item q ≡ true → map_get q (live_pairs v.records) ≡ map_get q (after g.start g.items)
+  same_values own others q met =
+      live_find q v.records k.rises ∙ k.values q
+      ∙ sym (pile_value g.items g.start g.base q k.runs (k.base_value q) ∙ ap (top_value q) (sym k.standing_is)
+      ∙ top_alive (is_alive g.lost) q (standing v.log) (all_mono _ _ (λ w h e. ap not (alive_at w h e)) (standing v.log) k.wrote))
     where
-      violates_here : (y.tx ≡ tx → ⊥) → commit_durable v.log v.durable y.tx ≡ false → tx_in y.tx (violated tx needs v.locks) ≡ true
-      violates_here ne out =
-          let held = wrote out reach.0 reach.1 in
-          violates (Belongs v.parts) tx y.tx true S (At reach.0) needs v.locks k.rows
-          (λ b c h. is_closed v.parts y.tx b c h (λ active. apart_at y.tx X S reach.0 (record_at reach.0 v.records) ((covers active).1 reach.0 reach.1) (met_asked reach.0 reach.2) refl (λ s. ne (sym s)) active))
-          held.0 (at (record_at reach.0 v.records) held.1 (met_asked reach.0 reach.2)) refl (λ s. ne (sym s))
-        where
-          at : (o : Option (Option ℕ)) → (o ≡ None → ⊥) → asks_by S needs v.records reach.0 o ≡ true → asks true S (At reach.0) needs ≡ true
-          at (Some x) n e = e
-          at None n e = absurd (n refl)
+      alive_at : (w : StandingUpdate) → Wrote v w → w.key ≡ q → tx_in w.tx g.lost ≡ false
+      alive_at w h e = false_from_ne_true _ (λ l.
+          let held = h (false_from_ne_true _ (λ d. both_ways _ (lost_open w.tx l) (durable_committed v.log v.durable w.tx d))) in
+          ⊎_elim (λ s. both_ways _ own (subst (λ z. tx_in z g.lost ≡ true) s l))
+          (λ ne. both_ways _ (others w.tx (violates_at w.tx q ne (subst (λ z. holds true X (At z) w.tx v.locks ≡ true) e held.0) (λ n. held.1 (ap (λ z. record_at z v.records) e ∙ n)) met)) l) (cases_tx w.tx tx))
 
-  grown : List Item
-  grown = g.items ++ item ∷ []
-
-  same_values : (q : ℕ) → map_get q (after g.start g.items) ≡ value_at q v.records
-  same_values q = pile_value g.items g.start g.base q k.runs (k.base_value q) ∙ ap (top_value q) (sym k.standing_is) ∙ sym (k.values q)
+  answer_now : tx_in tx g.lost ≡ false → ((p : TxId) → tx_in p (violated tx needs v.locks) ≡ true → tx_in p g.lost ≡ false) → answer_of op v.records ≡ op_answer op (after g.start g.items)
+  answer_now own others =
+      same_told op v.records (live_pairs v.records) k.rises (t_true _ (live_rises v.records k.rises)) (λ q. live_find q v.records k.rises)
+      ∙ same_answer op (live_pairs v.records) (after g.start g.items) (t_true _ (live_rises v.records k.rises)) (rising_all g.items g.start k.start_rises) (λ q met. same_values own others q met)
 
   present_after : (u : TxId) → is_present (stage_in v.parts u) ≡ true → is_present (stage_in parts_after u) ≡ true
   present_after u e = ⊎_elim (λ s. ap is_present (ap (stage_in parts_after) s ∙ stage_own)) (λ ne. ap is_present (stage_same u ne) ∙ e) (cases_tx u tx)
@@ -458,90 +491,184 @@ module _ (g : Past) (v : View) (tx : TxId) (birth : Birth) (op : Op) (k : Kept g
   prepared_by None = prepared_now
   prepared_by (Some w) = prepared_update (g.items ++ item ∷ []) (map (λ p. (tx, p)) (violated tx needs v.locks) ++ g.met) parts_after v.log tx w.0 w.1 w.2 prepared_now unprepared
 
-  keeps_view : Kept (record g { items = g.items ++ item ∷ []; met = map (λ p. (tx, p)) (violated tx needs v.locks) ++ g.met }) (View_by change)
-  keeps_view = record {
-    start_rises = k.start_rises;
-    base_value = k.base_value;
-    base_chain = k.base_chain;
-    base_done = all_mono _ _ (λ w c. durable_by change w.tx c) g.base k.base_done;
-    runs = runs_push g.items item g.start k.runs (same_told op v.records (after g.start g.items) k.rises (rising_all g.items g.start k.start_rises) same_values);
-    standing_is = standing_by change ∙ ap (on_top tx (0 + length v.log) change) k.standing_is ∙ ap (λ w. on_top tx (0 + length v.log) w (pile g.items g.base)) (sym wrote_here) ∙ sym (pile_push g.items item g.base);
-    rises = rising_by v.records change k.rises;
-    values = λ q. value_by change q ∙ ap (top_value q) (sym (standing_by change));
-    logged = all_push _ g.items item (all_mono _ _ (λ x h q w. wrote_by change x.tx (h q w)) g.items k.logged) (λ q w. own_wrote change q (writes_here q w));
-    rows = rows_insert (Belongs parts_after) tx birth v.records ins (take_all tx birth needs v.locks) own_belongs (rows_all (Belongs parts_after) tx birth needs v.locks own_belongs
-        (all_mono _ _ (λ r h. (h.0, part_keeps tx birth v.parts (r.1).tx h.0 (tx_get tx v.parts) refl h.1, h.2, h.3)) v.locks k.rows));
-    covered = all_push _ g.items item
-        (all_mono _ _ (λ y h active. let a = active_item y.tx h.1 active in let c = h.0 a in
-        (λ q m. old_holds S y q refl (insert_own y a c q m) (c.0 q m), λ q m. old_holds X y q refl (insert_own y a c q (write_met y q m)) (c.1 q m))) g.items (all_both _ _ g.items k.covered k.known))
-        (λ active. (λ q m. new_holds S q refl (met_asked q m), λ q m. new_holds X q refl (write_asked q (writes_here q m))));
-    wrote = all_push _ g.items item
-        (all_mono _ _ (λ y h out q w. let c = h (false_from_ne_true _ (λ d. both_ways _ out (durable_by change y.tx d))) q w in (
-          insert_keeps_key tx birth v.records ins (take_all tx birth needs v.locks) X (At q) y.tx (all_keeps true X (At q) y.tx tx birth needs v.locks c.0),
-          λ none. c.1 (still_record v.records change ins q (writing op v.records) none),
-        )) g.items k.wrote)
-        (λ out q w. let here = writes_here q w in let r = written_record v.records change ins q (writing op v.records) here in
-        (subst (λ o. holds_by X locks_after (records_by change v.records) tx q o ≡ true) r.1 (new_holds X q refl (write_asked q here)), λ none. absurd (some_none r.0 (sym r.1 ∙ none))));
-    known = all_push _ g.items item
-        (all_mono _ _ (λ x h. still_known x.tx h) g.items k.known)
-        (inl stage_own);
-    uncommitted = λ u a. none_by change u (⊎_elim (λ s. ap (committed_in v.log) s ∙ open_) (λ b. k.uncommitted u b) (active_back u a));
-    closed = λ u e. k.closed u (sym (stage_same u (λ s. closed_apart (sym stage_own ∙ ap (stage_in parts_after) (sym s) ∙ e))) ∙ e);
-    over = λ u e. ⊎_elim (λ c. inl (durable_by change u c)) (λ c. let ne : u ≡ tx → ⊥ = λ s. both_ways _ new (ap (λ z. tx_in z g.asked) (sym s) ∙ c.3) in
-        inr (none_by change u c.0, unwritten_by change u ne c.1, ap is_present (stage_same u ne) ∙ c.2, c.3)) (k.over u e);
-    dead = λ u h. let old = undone_by change u h in let d = k.dead u old in let ne : u ≡ tx → ⊥ = λ s. both_ways _ alive (ap (undone_in v.log) (sym s) ∙ old) in
-        (none_by change u d.0, (λ a. d.1 (sym (stage_same u ne) ∙ a)), (λ a. d.2 (sym (stage_same u ne) ∙ a)));
-    tidy = tidy_by change;
-    prepared = prepared_by change;
-    doomed = λ u d h. none_by change u (k.doomed u d (sym (stage_same u (λ s. doomed_apart d (sym stage_own ∙ ap (stage_in parts_after) (sym s) ∙ h))) ∙ h));
-    successors = λ t p e. ⊎_elim (λ old. present_after t (k.successors t p old)) (λ s. ap is_present (ap (stage_in parts_after) s ∙ stage_own)) (add_from tx (violated tx needs v.locks) v.pairs t p e);
-    downwards = λ t p e c. ⊎_elim (λ old. before_by change p t (k.downwards t p old (from_by change t c))) (λ s. absurd (both_ways _ open_ (ap (committed_in v.log) (sym s) ∙ from_by change t c))) (add_from tx (violated tx needs v.locks) v.pairs t p e);
-    order = later_push _ g.items item k.order (all_mono _ _ (λ y h. order_new y h.0 h.1) g.items (all_both _ _ g.items k.known k.covered));
-    causes = later_push _ g.items item
-        (later_mono _ _ (λ x y h r. ⊎_elim (λ s. inl s) (λ d. inr (⊎_elim (λ c. inl (durable_by change x.tx c)) (λ m. ⊎_elim (λ pair. inr (inl (add_keeps tx (violated tx needs v.locks) v.pairs y.tx x.tx pair))) (λ b. inr (inr (before_by change x.tx y.tx b))) m) d)) (h r)) g.items k.causes)
-        (all_mono _ _ (λ y h. cause_new y h.0.0 h.0.1 h.1) g.items (all_both _ _ g.items (all_both _ _ g.items k.known k.covered) k.wrote));
-    recover = λ t p e. ⊎_elim (λ n. recover_new t p n) (λ old. recover_old t p old (k.recover t p old)) (met_cases (violated tx needs v.locks) t p e);
-    front = k.front;
-  }
+  -- ---- what both share
+  wrote_now : AllByRecursion (Wrote (View_by change)) (standing (log_by tx change v.log))
+  wrote_now = subst (AllByRecursion (Wrote (View_by change))) (sym (standing_by change)) (on_new change refl)
     where
-      met_cases : (ps : List TxId) (t p : TxId) → is_pair (map (λ q. (tx, q)) ps ++ g.met) t p ≡ true → ((t ≡ tx) × (tx_in p ps ≡ true)) ⊎ (is_pair g.met t p ≡ true)
-      met_cases [] t p e = inr e
-      met_cases (q ∷ qs) t p e = ⊎_elim
-          (λ h. let m = and_parts (tx_same t tx) (tx_same p q) h in inl (tx_true t tx m.0, or_left _ _ (tx_flip p q m.1)))
-          (λ h. ⊎_elim (λ i. inl (i.0, or_right (tx_same q p) _ i.1)) (λ i. inr i) (met_cases qs t p h))
-          (or_cases (tx_same t tx && tx_same p q) (is_pair (map (λ q. (tx, q)) qs ++ g.met) t p) e)
-
-      closed_row : (parts : Table Held) (u : TxId) (b : Birth) → Belongs parts u b true → stage_in parts u ≡ Some Closed
-      closed_row parts u b (h, e, f, fit) = ap stage_by e ∙ at h.stage fit
-        where
-          at : (s : Stage) → StageFits true s → Some s ≡ Some Closed
-          at Active fit = absurd fit
-          at Closed fit = refl
-          at (Gone d) fit = absurd fit
-
-      recover_new : (t p : TxId) → (t ≡ tx) × (tx_in p (violated tx needs v.locks) ≡ true) → Out (record g { items = g.items ++ item ∷ []; met = map (λ p. (tx, p)) (violated tx needs v.locks) ++ g.met }) (View_by change) t ⊎ (Dep (View_by change) t p × (place g.asked p < place g.asked t))
-      recover_new t p n =
-          let row = violated_row (Belongs v.parts) tx p needs v.locks k.rows n.1 in
-          let before = place_in g.asked p (k.closed p (closed_row v.parts p row.0 row.1)) in
-          inr (subst (λ z. Dep (View_by change) z p) (sym n.0) (inr (inl (add_has tx (violated tx needs v.locks) v.pairs p n.1))), subst (λ z. place g.asked p < place g.asked z) (sym n.0) (subst (λ m. place g.asked p < m) (sym (place_out g.asked tx new)) before))
-
-      recover_old : (t p : TxId) → is_pair g.met t p ≡ true → Out g v t ⊎ (Dep v t p × (place g.asked p < place g.asked t)) → Out (record g { items = g.items ++ item ∷ []; met = map (λ p. (tx, p)) (violated tx needs v.locks) ++ g.met }) (View_by change) t ⊎ (Dep (View_by change) t p × (place g.asked p < place g.asked t))
-      recover_old t p old h =
-          ⊎_elim
-          (λ o. let ne : t ≡ tx → ⊥ = λ s. both_ways _ o.1 (ap is_present (ap (stage_in v.parts) s ∙ unmet p (ap (λ z. is_pair g.met z p) (sym s) ∙ old))) in inl (none_by change t o.0, ap is_present (stage_same t ne) ∙ o.1, o.2))
-          (λ d. inr (⊎_elim (λ c. inl (durable_by change p c)) (λ m. ⊎_elim (λ pair. inr (inl (add_keeps tx (violated tx needs v.locks) v.pairs t p pair))) (λ b. inr (inr (before_by change p t b))) m) d.0, d.1)) h
+      olds : AllByRecursion (Wrote (View_by change)) (standing v.log)
+      olds = all_mono _ _ (λ w h out. let c = h (false_from_ne_true _ (λ d. both_ways _ out (durable_by change w.tx d))) in (
+        insert_keeps_key tx birth v.records ins (take_all tx birth needs v.locks) X (At w.key) w.tx (all_keeps true X (At w.key) w.tx tx birth needs v.locks c.0),
+        λ none. c.1 (still_record v.records change ins w.key (writing op v.records) none),
+      )) (standing v.log) k.wrote
 
       some_none : (a : Option ℕ) → Some a ≡ None → ⊥
       some_none a e = absurd cc
 
-      own_belongs : Belongs parts_after tx birth false
-      own_belongs = let h = own_part tx birth v.parts may in (h.0, h.1, h.2, fits_active h.0.stage h.3)
+      here : (q : ℕ) → is_write_at change q ≡ true → (holds true X (At q) tx locks_after ≡ true) × (record_at q (records_by change v.records) ≡ None → ⊥)
+      here q e = let r = written_record v.records change ins q (writing op v.records) e in
+          (subst (λ o. holds_by X locks_after (records_by change v.records) tx q o ≡ true) r.1 (new_holds X q refl (write_asked q e)), λ none. absurd (some_none r.0 (sym r.1 ∙ none)))
 
-      still_known : (u : TxId) → Known g v u → Known (record g { items = g.items ++ item ∷ []; met = map (λ p. (tx, p)) (violated tx needs v.locks) ++ g.met }) (View_by change) u
-      still_known u h =
-          ⊎_elim
-          (λ a. inl (⊎_elim (λ s. ap (stage_in parts_after) s ∙ stage_own) (λ ne. stage_same u ne ∙ a) (cases_tx u tx)))
-          (λ r. inr (r.0, λ a. r.1 (sym (stage_same u (asked_other u r.0)) ∙ a))) h
+      on_new : (w : Change) → change ≡ w → AllByRecursion (Wrote (View_by change)) (on_top tx (0 + length v.log) w (standing v.log))
+      on_new None e = olds
+      on_new (Some w) e = ((λ out. here w.0 (ap (λ z. is_write_at z w.0) e ∙ eq-eqb w.0 w.0 refl)), olds)
+
+  met_cases : (ps : List TxId) (t p : TxId) → is_pair (map (λ q. (tx, q)) ps ++ g.met) t p ≡ true → ((t ≡ tx) × (tx_in p ps ≡ true)) ⊎ (is_pair g.met t p ≡ true)
+  met_cases [] t p e = inr e
+  met_cases (q ∷ qs) t p e = ⊎_elim
+      (λ h. let m = and_parts (tx_same t tx) (tx_same p q) h in inl (tx_true t tx m.0, or_left _ _ (tx_flip p q m.1)))
+      (λ h. ⊎_elim (λ i. inl (i.0, or_right (tx_same q p) _ i.1)) (λ i. inr i) (met_cases qs t p h))
+      (or_cases (tx_same t tx && tx_same p q) (is_pair (map (λ q. (tx, q)) qs ++ g.met) t p) e)
+
+  abbrev Recovers : List TxId → TxId → TxId → Type 0
+  Recovers lost t p = ((tx_in t lost ≡ true) × (stage_in parts_after t ≡ Some Active → ⊥)) ⊎ (Dep (View_by change) t p × (place g.asked p < place g.asked t))
+
+  recover_new : (lost : List TxId) (t p : TxId) → (t ≡ tx) × (tx_in p (violated tx needs v.locks) ≡ true) → Recovers lost t p
+  recover_new lost t p n =
+      let row = violated_row (Belongs v.parts) tx p needs v.locks k.rows n.1 in
+      let before = place_in g.asked p (k.closed p (closed_row v.parts p row.0 row.1)) in
+      inr (subst (λ z. Dep (View_by change) z p) (sym n.0) (inr (inl (add_has tx (violated tx needs v.locks) v.pairs p n.1))), subst (λ z. place g.asked p < place g.asked z) (sym n.0) (subst (λ m. place g.asked p < m) (sym (place_out g.asked tx new)) before))
+
+  recover_old : (lost : List TxId) → ((t : TxId) → tx_in t g.lost ≡ true → tx_in t lost ≡ true) → (t p : TxId) → is_pair g.met t p ≡ true → Out g v t ⊎ (Dep v t p × (place g.asked p < place g.asked t)) → Recovers lost t p
+  recover_old lost more t p old h =
+      ⊎_elim
+      (λ o. inl (more t o.0, λ a. ⊎_elim (λ s. o.1 (ap (stage_in v.parts) s ∙ unmet p (ap (λ z. is_pair g.met z p) (sym s) ∙ old))) (λ b. o.1 b) (active_back t a)))
+      (λ d. inr (⊎_elim (λ c. inl (durable_by change p c)) (λ m. ⊎_elim (λ pair. inr (inl (add_keeps tx (violated tx needs v.locks) v.pairs t p pair))) (λ b. inr (inr (before_by change p t b))) m) d.0, d.1)) h
+
+  recovers : (lost : List TxId) → ((t : TxId) → tx_in t g.lost ≡ true → tx_in t lost ≡ true) → (t p : TxId) → is_pair (map (λ q. (tx, q)) (violated tx needs v.locks) ++ g.met) t p ≡ true → Recovers lost t p
+  recovers lost more t p e = ⊎_elim (λ n. recover_new lost t p n) (λ old. recover_old lost more t p old (k.recover t p old)) (met_cases (violated tx needs v.locks) t p e)
+
+  own_belongs : Belongs parts_after tx birth false
+  own_belongs = let h = own_part tx birth v.parts may in (h.0, h.1, h.2, fits_active h.0.stage h.3)
+
+  still_known : (u : TxId) → Known g v u → Known g (View_by change) u
+  still_known u h =
+      ⊎_elim
+      (λ a. inl (⊎_elim (λ s. ap (stage_in parts_after) s ∙ stage_own) (λ ne. stage_same u ne ∙ a) (cases_tx u tx)))
+      (λ r. inr (r.0, λ a. r.1 (sym (stage_same u (asked_other u r.0)) ∙ a))) h
+
+  still_left : (u : TxId) → Left g v u → Left g (View_by change) u
+  still_left u l = ⊎_elim (λ a. inl (present_after u a)) (λ a. inr (⊎_elim (λ o. inl o) (λ d. inr (durable_by change u d)) a)) l
+
+  rows_now : Rows (Belongs parts_after) locks_after
+  rows_now = rows_insert (Belongs parts_after) tx birth v.records ins (take_all tx birth needs v.locks) own_belongs (rows_all (Belongs parts_after) tx birth needs v.locks own_belongs
+      (all_mono _ _ (λ r h. (h.0, part_keeps tx birth v.parts (r.1).tx h.0 (tx_get tx v.parts) refl h.1, h.2, h.3)) v.locks k.rows))
+
+  covered_now : AllByRecursion (λ y. stage_in parts_after y.tx ≡ Some Active → Covers (View_by change) y) g.items
+  covered_now = all_mono _ _ (λ y h active. let a = active_item y.tx h.1 active in let c = h.0 a in
+      (λ q m. old_holds S y q refl (insert_own y a c q m) (c.0 q m), λ q m. old_holds X y q refl (insert_own y a c q (write_met y q m)) (c.1 q m))) g.items (all_both _ _ g.items k.covered k.known)
+
+  causes_now : AllLater (λ x y. Reaches x y → (x.tx ≡ y.tx) ⊎ Dep (View_by change) y.tx x.tx) g.items
+  causes_now = later_mono _ _ (λ x y h r. ⊎_elim (λ s. inl s) (λ d. inr (⊎_elim (λ c. inl (durable_by change x.tx c)) (λ m. ⊎_elim (λ pair. inr (inl (add_keeps tx (violated tx needs v.locks) v.pairs y.tx x.tx pair))) (λ b. inr (inr (before_by change x.tx y.tx b))) m) d)) (h r)) g.items k.causes
+
+  over_now : (u : TxId) → tx_in u g.over ≡ true → Ended g (View_by change) u
+  over_now u e = ⊎_elim (λ c. inl (durable_by change u c)) (λ c. let ne : u ≡ tx → ⊥ = λ s. both_ways _ new (ap (λ z. tx_in z g.asked) (sym s) ∙ c.3) in
+      inr (none_by change u c.0, unwritten_by change u ne c.1, ap is_present (stage_same u ne) ∙ c.2, c.3)) (k.over u e)
+
+  dead_now : (u : TxId) → undone_in (log_by tx change v.log) u ≡ true → (committed_in (log_by tx change v.log) u ≡ false) × (stage_in parts_after u ≡ Some Active → ⊥) × (stage_in parts_after u ≡ Some Closed → ⊥)
+  dead_now u h = let old = undone_by change u h in let d = k.dead u old in let ne : u ≡ tx → ⊥ = λ s. both_ways _ alive (ap (undone_in v.log) (sym s) ∙ old) in
+      (none_by change u d.0, (λ a. d.1 (sym (stage_same u ne) ∙ a)), (λ a. d.2 (sym (stage_same u ne) ∙ a)))
+
+  doomed_now : (u d : TxId) → stage_in parts_after u ≡ Some (Gone (Some d)) → committed_in (log_by tx change v.log) u ≡ false
+  doomed_now u d h = none_by change u (k.doomed u d (sym (stage_same u (λ s. doomed_apart d (sym stage_own ∙ ap (stage_in parts_after) (sym s) ∙ h))) ∙ h))
+
+  successors_now : (t p : TxId) → is_pair (add_pairs tx (violated tx needs v.locks) v.pairs) t p ≡ true → is_present (stage_in parts_after t) ≡ true
+  successors_now t p e = ⊎_elim (λ old. present_after t (k.successors t p old)) (λ s. ap is_present (ap (stage_in parts_after) s ∙ stage_own)) (add_from tx (violated tx needs v.locks) v.pairs t p e)
+
+  downwards_now : (t p : TxId) → is_pair (add_pairs tx (violated tx needs v.locks) v.pairs) t p ≡ true → committed_in (log_by tx change v.log) t ≡ true → CommitBefore (log_by tx change v.log) p t
+  downwards_now t p e c = ⊎_elim (λ old. before_by change p t (k.downwards t p old (from_by change t c))) (λ s. absurd (both_ways _ open_ (ap (committed_in v.log) (sym s) ∙ from_by change t c))) (add_from tx (violated tx needs v.locks) v.pairs t p e)
+
+  values_now : (q : ℕ) → value_at q (records_by change v.records) ≡ top_value q (standing (log_by tx change v.log))
+  values_now q = value_by change q ∙ ap (top_value q) (sym (standing_by change))
+
+  -- ---- it is not lost: it did one thing more
+  top_kept : (w : Change) → tx_in tx g.lost ≡ false → filter (of_kept (is_alive g.lost)) (on_top tx (0 + length v.log) w (standing v.log)) ≡ on_top tx (0 + length v.log) w (filter (of_kept (is_alive g.lost)) (standing v.log))
+  top_kept None own = refl
+  top_kept (Some w) own = cond-true (not (tx_in tx g.lost)) (record { lsn = 0 + length v.log; tx = tx; key = w.0; before = w.1; after = w.2 } ∷ filter (of_kept (is_alive g.lost)) (standing v.log)) (filter (of_kept (is_alive g.lost)) (standing v.log)) (ap not own)
+
+  keeps_view : tx_in tx g.lost ≡ false → ((p : TxId) → tx_in p (violated tx needs v.locks) ≡ true → tx_in p g.lost ≡ false) → Kept (record g { items = g.items ++ item ∷ []; met = map (λ p. (tx, p)) (violated tx needs v.locks) ++ g.met }) (View_by change)
+  keeps_view own others = record {
+    start_rises = k.start_rises;
+    base_value = k.base_value;
+    base_chain = k.base_chain;
+    base_done = all_mono _ _ (λ w c. durable_by change w.tx c) g.base k.base_done;
+    runs = runs_push g.items item g.start k.runs (answer_now own others);
+    standing_is = ap (filter (of_kept (is_alive g.lost))) (standing_by change) ∙ top_kept change own ∙ ap (on_top tx (0 + length v.log) change) k.standing_is ∙ ap (λ w. on_top tx (0 + length v.log) w (pile g.items g.base)) (sym wrote_here) ∙ sym (pile_push g.items item g.base);
+    rises = rising_by v.records change k.rises;
+    values = values_now;
+    logged = all_push _ g.items item (all_mono _ _ (λ x h q w. wrote_by change x.tx (h q w)) g.items k.logged) (λ q w. own_wrote change q (writes_here q w));
+    rows = rows_now;
+    covered = all_push _ g.items item covered_now (λ active. (λ q m. new_holds S q refl (met_asked q m), λ q m. new_holds X q refl (write_asked q (writes_here q m))));
+    wrote = wrote_now;
+    known = all_push _ g.items item (all_mono _ _ (λ x h. still_known x.tx h) g.items k.known) (inl stage_own);
+    alive = all_push _ g.items item k.alive own;
+    left = all_push _ g.items item (all_mono _ _ (λ x l. still_left x.tx l) g.items k.left) (inl (ap is_present stage_own));
+    uncommitted = λ u a. none_by change u (⊎_elim (λ s. ap (committed_in v.log) s ∙ open_) (λ b. k.uncommitted u b) (active_back u a));
+    closed = λ u e. k.closed u (sym (stage_same u (λ s. closed_apart (sym stage_own ∙ ap (stage_in parts_after) (sym s) ∙ e))) ∙ e);
+    over = over_now;
+    dead = dead_now;
+    tidy = tidy_by change;
+    prepared = prepared_by change;
+    doomed = doomed_now;
+    successors = successors_now;
+    downwards = downwards_now;
+    order = later_push _ g.items item k.order (all_mono _ _ (λ y h. order_new y h.0 h.1) g.items (all_both _ _ g.items k.known k.covered));
+    causes = later_push _ g.items item causes_now (all_mono _ _ (λ y h. cause_new y h) g.items (item_wrote g v k));
+    recover = recovers g.lost (λ t l. l);
+    front = k.front;
+  }
+
+  -- ---- it is lost: it violated one that is, or is lost already; what it did leaves the past
+  keeps_own : (x y : Item) → (Reaches x y → (x.tx ≡ y.tx) ⊎ Dep v y.tx x.tx) → Keeps (keeps_of (tx ∷ [])) x y
+  keeps_own x y h r here =
+      let out : tx_in y.tx (tx ∷ []) ≡ false = not-true _ here in
+      ap not (false_from_ne_true _ (λ i. let same = one_in tx x.tx i in
+      ⊎_elim (λ s. both_ways _ out (subst (λ z. tx_in z (tx ∷ []) ≡ true) s i))
+      (λ dep. ⊎_elim (λ c. both_ways _ open_ (subst (λ z. committed_in v.log z ≡ true) same (durable_committed v.log v.durable x.tx c)))
+      (λ m. ⊎_elim (λ pair. no_succ y.tx (subst (λ z. is_pair v.pairs y.tx z ≡ true) same pair)) (λ b. both_ways _ open_ (subst (λ z. committed_in v.log z ≡ true) same (before_first v.log x.tx y.tx b))) m) dep) (h r)))
+
+  top_lost : (w : Change) → filter (of_kept (is_alive (tx ∷ g.lost))) (on_top tx (0 + length v.log) w (standing v.log)) ≡ filter (of_kept (is_alive (tx ∷ g.lost))) (standing v.log)
+  top_lost None = refl
+  top_lost (Some w) = cond-false (not (tx_in tx (tx ∷ g.lost))) (record { lsn = 0 + length v.log; tx = tx; key = w.0; before = w.1; after = w.2 } ∷ filter (of_kept (is_alive (tx ∷ g.lost))) (standing v.log)) (filter (of_kept (is_alive (tx ∷ g.lost))) (standing v.log)) (ap not (or_left _ _ (tx_self tx)))
+
+  base_other : AllByRecursion (λ w. tx_in w.tx (tx ∷ []) ≡ false) g.base
+  base_other = all_mono _ _ (λ w c. false_from_ne_true _ (λ i. both_ways _ open_ (subst (λ z. committed_in v.log z ≡ true) (one_in tx w.tx i) (durable_committed v.log v.durable w.tx c)))) g.base k.base_done
+
+  prepared_lost : (w : Change) → Prepared (filter (keeps_of (tx ∷ [])) g.items) (map (λ p. (tx, p)) (violated tx needs v.locks) ++ g.met) parts_after (log_by tx w v.log)
+  prepared_lost w = let p = prepared_by w in
+      record { unprepared = p.unprepared; sealed = p.sealed; causes = later_mono _ _ (λ x y h. h.0) (filter (keeps_of (tx ∷ [])) g.items) (later_filter _ (keeps_of (tx ∷ [])) g.items (later_first _ g.items item p.causes)); recover = p.recover }
+
+  keeps_lost : Kept (record g { items = filter (keeps_of (tx ∷ [])) g.items; lost = tx ∷ g.lost; met = map (λ p. (tx, p)) (violated tx needs v.locks) ++ g.met }) (View_by change)
+  keeps_lost = record {
+    start_rises = k.start_rises;
+    base_value = k.base_value;
+    base_chain = k.base_chain;
+    base_done = all_mono _ _ (λ w c. durable_by change w.tx c) g.base k.base_done;
+    runs = kept_runs (keeps_of (tx ∷ [])) g.items g.start g.start k.start_rises k.start_rises k.runs (later_mono _ _ keeps_own g.items k.causes) (λ q. inl refl);
+    standing_is = ap (filter (of_kept (is_alive (tx ∷ g.lost)))) (standing_by change) ∙ top_lost change ∙ filter_less (tx ∷ []) g.lost (standing v.log) ∙ ap (filter (stays_of (tx ∷ []))) k.standing_is ∙ pile_filter (tx ∷ []) g.items g.base
+        ∙ ap (pile (filter (keeps_of (tx ∷ [])) g.items)) (filter_all (tx ∷ []) g.base base_other);
+    rises = rising_by v.records change k.rises;
+    values = values_now;
+    logged = all_mono _ _ (λ x h q w. wrote_by change x.tx (h.0 q w)) (filter (keeps_of (tx ∷ [])) g.items) (all_filter _ (keeps_of (tx ∷ [])) g.items k.logged);
+    rows = rows_now;
+    covered = all_mono _ _ (λ y h. h.0) (filter (keeps_of (tx ∷ [])) g.items) (all_filter _ (keeps_of (tx ∷ [])) g.items covered_now);
+    wrote = wrote_now;
+    known = all_mono _ _ (λ x h. still_known x.tx h.0) (filter (keeps_of (tx ∷ [])) g.items) (all_filter _ (keeps_of (tx ∷ [])) g.items k.known);
+    alive = all_mono _ _ (λ x h. none_two (tx ∷ []) g.lost x.tx (not-true _ h.1) h.0) (filter (keeps_of (tx ∷ [])) g.items) (all_filter _ (keeps_of (tx ∷ [])) g.items k.alive);
+    left = all_mono _ _ (λ x h. still_left x.tx h.0) (filter (keeps_of (tx ∷ [])) g.items) (all_filter _ (keeps_of (tx ∷ [])) g.items k.left);
+    uncommitted = λ u a. none_by change u (⊎_elim (λ s. ap (committed_in v.log) s ∙ open_) (λ b. k.uncommitted u b) (active_back u a));
+    closed = λ u e. k.closed u (sym (stage_same u (λ s. closed_apart (sym stage_own ∙ ap (stage_in parts_after) (sym s) ∙ e))) ∙ e);
+    over = over_now;
+    dead = dead_now;
+    tidy = tidy_by change;
+    prepared = prepared_lost change;
+    doomed = doomed_now;
+    successors = successors_now;
+    downwards = downwards_now;
+    order = later_mono _ _ (λ x y h c. h.0 c) (filter (keeps_of (tx ∷ [])) g.items) (later_filter _ (keeps_of (tx ∷ [])) g.items k.order);
+    causes = later_mono _ _ (λ x y h. h.0) (filter (keeps_of (tx ∷ [])) g.items) (later_filter _ (keeps_of (tx ∷ [])) g.items causes_now);
+    recover = recovers (tx ∷ g.lost) (λ t l. or_right (tx_same tx t) _ l);
+    front = k.front;
+  }
 
 -- the state after a granted operation
 view_written : (g : Past) (tx : TxId) (birth : Birth) (op : Op) (s : Shard) (w : Change) → Kept g (record {
@@ -556,7 +683,13 @@ view_written : (g : Past) (tx : TxId) (birth : Birth) (op : Op) (s : Shard) (w :
 view_written g tx birth op s None k = k
 view_written g tx birth op s (Some w) k = k
 
-pub keeps_performed : (g : Past) (s : Shard) (tx : TxId) (birth : Birth) (op : Op) → Kept g (view_of s) → decide tx birth (needs_of op s.local.records) s.local.locks ≡ Grant → MayStand s.local.parts tx birth → tx_in tx g.asked ≡ false → committed_in s.local.log tx ≡ false → undone_in s.local.log tx ≡ false → prepared_in s.local.log tx ≡ false → ((p : TxId) → is_pair g.met tx p ≡ true → stage_in s.local.parts tx ≡ Some Active)
-    → Kept (record g { items = g.items ++ record { tx = tx; op = op; answer = answer_of op s.local.records; lsn = 0 + length s.local.log } ∷ []; met = map (λ p. (tx, p)) (violated tx (needs_of op s.local.records) s.local.locks) ++ g.met }) (view_of (record s { local = performed tx birth op s.local }))
-keeps_performed g s tx birth op k grant may new open_ alive unprepared unmet =
-    view_written (record g { items = g.items ++ record { tx = tx; op = op; answer = answer_of op s.local.records; lsn = 0 + length s.local.log } ∷ []; met = map (λ p. (tx, p)) (violated tx (needs_of op s.local.records) s.local.locks) ++ g.met }) tx birth op s (writes_of op (value_at (key_of op) s.local.records)) (keeps_view g (view_of s) tx birth op k grant may new open_ alive unprepared unmet)
+module _ (g : Past) (s : Shard) (tx : TxId) (birth : Birth) (op : Op) (k : Kept g (view_of s)) (grant : decide tx birth (needs_of op s.local.records) s.local.locks ≡ Grant) (may : MayStand s.local.parts tx birth) (new : tx_in tx g.asked ≡ false) (open_ : committed_in s.local.log tx ≡ false)
+    (alive : undone_in s.local.log tx ≡ false) (unprepared : prepared_in s.local.log tx ≡ false) (unmet : (p : TxId) → is_pair g.met tx p ≡ true → stage_in s.local.parts tx ≡ Some Active) (no_succ : (t : TxId) → is_pair s.local.pairs t tx ≡ true → ⊥) (lost_open : (t : TxId) → tx_in t g.lost ≡ true → committed_in s.local.log t ≡ false) where
+  pub keeps_performed : tx_in tx g.lost ≡ false → ((p : TxId) → tx_in p (violated tx (needs_of op s.local.records) s.local.locks) ≡ true → tx_in p g.lost ≡ false)
+      → Kept (record g { items = g.items ++ record { tx = tx; op = op; answer = answer_of op s.local.records; lsn = 0 + length s.local.log } ∷ []; met = map (λ p. (tx, p)) (violated tx (needs_of op s.local.records) s.local.locks) ++ g.met }) (view_of (record s { local = performed tx birth op s.local }))
+  keeps_performed own others =
+      view_written (record g { items = g.items ++ record { tx = tx; op = op; answer = answer_of op s.local.records; lsn = 0 + length s.local.log } ∷ []; met = map (λ p. (tx, p)) (violated tx (needs_of op s.local.records) s.local.locks) ++ g.met }) tx birth op s (writes_of op (value_at (key_of op) s.local.records)) (keeps_view g (view_of s) tx birth op k grant may new open_ alive unprepared unmet no_succ lost_open own others)
+
+  pub keeps_lost_op : Kept (record g { items = filter (keeps_of (tx ∷ [])) g.items; lost = tx ∷ g.lost; met = map (λ p. (tx, p)) (violated tx (needs_of op s.local.records) s.local.locks) ++ g.met }) (view_of (record s { local = performed tx birth op s.local }))
+  keeps_lost_op =
+      view_written (record g { items = filter (keeps_of (tx ∷ [])) g.items; lost = tx ∷ g.lost; met = map (λ p. (tx, p)) (violated tx (needs_of op s.local.records) s.local.locks) ++ g.met }) tx birth op s (writes_of op (value_at (key_of op) s.local.records)) (keeps_lost g (view_of s) tx birth op k grant may new open_ alive unprepared unmet no_succ lost_open)

@@ -1,17 +1,25 @@
 -- Each event of a shard keeps what it keeps.
-use Rattle.std.proofs.Common.{◌≡◌, ℕ, zero, suc, ◌+◌, ◌⊎◌, inl, inr, ⊎_elim, Bool, true, false, cond, not, ◌&&◌, ◌||◌, List, [], ◌∷◌, ◌++◌, map, length, Option, Some, None, ◌==◌, refl, sym, ap, subst, ◌∙◌, arith}
+use Rattle.std.proofs.Common.{◌≡◌, ℕ, zero, suc, ◌+◌, ◌≤◌, ◌⊎◌, inl, inr, ⊎_elim, Bool, true, false, cond, not, ◌&&◌, ◌||◌, List, [], ◌∷◌, ◌++◌, map, length, Option, Some, None, ◌==◌, refl, sym, ap, subst, ◌∙◌, arith}
 use Rattle.std.specs.List.{AllByRecursion, filter}
-use Rattle.std.proofs.lemmas.Bool.{cases_Bool, both_ways, cond-true, cond-false, or_cases, false_from_ne_true}
+use Rattle.std.proofs.lemmas.Bool.{cases_Bool, both_ways, cond-true, cond-false, or_cases, not-true, false_from_ne_true}
 use Rattle.std.proofs.lemmas.List.Folds.{list_any-append}
 use Rattle.clv_base.specs.declared.names.TxId.{TxId}
 use Rattle.clv_base.specs.declared.names.Birth.{Birth}
-use Rattle.clv_base.specs.declared.logs.LogRecord.TheVariants.{Update, Commit}
+use Rattle.clv_base.specs.declared.logs.LogRecord.{LogRecord}
+use Rattle.clv_base.specs.declared.logs.LogRecord.TheVariants.{Update, Prepare, Commit}
+use Rattle.clv_base.specs.LogRules.{before_restart}
+use Rattle.order_laws.proofs.Records.{prepared_there}
+use Rattle.shard_laws.proofs.Prepared.{prepare_here, unprepared_append}
+use Rattle.shard_laws.proofs.Following.{unwritten_before}
+use Rattle.shard_laws.proofs.Listing.{order_of}
+use Rattle.shard_laws.proofs.Keeping.{KeepsOrder, order_asked, order_closes, order_performs, decision_commits}
+use Rattle.shard_laws.proofs.Rulings.{Ruled, ruled_alike}
 use Rattle.clv_base.specs.declared.state.Stage.{Stage}
 use Rattle.clv_base.specs.declared.state.Stage.TheVariants.{Active, Closed, Gone}
 use Rattle.clv_base.specs.declared.state.Held.{Held}
-use Rattle.clv_base.specs.Orders.{tx_same, tx_in, tx_get}
-use Rattle.clv_base.specs.Logs.{committed_in, wrote_in, prepared_in, is_update_of}
-use Rattle.shard_laws.proofs.Dooming.{filter_in}
+use Rattle.clv_base.specs.Orders.{Table, tx_same, tx_in, tx_get}
+use Rattle.clv_base.specs.Logs.{committed_in, wrote_in, prepared_in, aborted_in, prepare_of, is_update_of}
+use Rattle.shard_laws.proofs.Dooming.{filter_in, in_filter}
 use Rattle.clv_base.specs.Locks.{close_locks}
 use Rattle.clv_base.specs.declared.modes.Decision.{Decision}
 use Rattle.clv_base.specs.declared.modes.Decision.TheVariants.{Grant, Wait, Die}
@@ -27,7 +35,7 @@ use Rattle.clv_base.specs.Events.{Reply, QuietBeforeWorn, QuietAfterWorn, Does, 
 use Rattle.shard_laws.specs.OneShard.{predecessors_committed}
 use Rattle.law_base.specs.Items.{Item}
 use Rattle.clv_base.proofs.SameNames.{or_left, or_right, tx_true, tx_self, tx_eq, tx_ne}
-use Rattle.law_base.proofs.Tables.{stage_in, stage_by, is_pair, pair_in}
+use Rattle.law_base.proofs.Tables.{stage_in, stage_by, is_pair, pair_in, in_pair}
 use Rattle.law_base.proofs.Commits.{durable_committed, uncommitted_append}
 use Rattle.shard_laws.proofs.Kept.{View, Past, Known, Kept}
 use Rattle.order_laws.specs.Order.{undone_in}
@@ -59,14 +67,26 @@ use Rattle.law_base.proofs.Tables.{get_put}
 use Rattle.shard_laws.proofs.Changes.{keeps_prepare, keeps_commit, keeps_front, keeps_flight}
 use Rattle.shard_laws.proofs.Closing.{keeps_close, keeps_asked, in_push, stage_closed, stage_other as stage_left}
 use Rattle.std.proofs.Common.{append-nil}
-use Rattle.shard_laws.proofs.Granting.{keeps_performed, MayStand, other_part}
+use Rattle.shard_laws.proofs.Granting.{keeps_performed, keeps_lost_op, MayStand, other_part, own_part, log_by}
+use Rattle.shard_laws.specs.OneShard.{is_doomed}
+use Rattle.shard_laws.proofs.Falls.{Falls, falls_more, falls_prepare, falls_parts, falls_over, falls_front, falls_alive, falls_lost}
+use Rattle.shard_laws.proofs.Listing.{listed_prepared}
+use Rattle.shard_laws.proofs.Prepared.{by_prepare}
+use Rattle.shard_laws.proofs.Kept.{Dep}
+use Rattle.shard_laws.proofs.Sound.{here_alive, commit_falls, own_kept}
+use Rattle.law_base.proofs.Undoing.{keeps_of}
+use Rattle.law_base.proofs.Commits.{commit_durable, durable_parts, durable_from}
+use Rattle.law_base.proofs.Lists.{all_mono}
+use Rattle.clv_base.specs.OneShard.{OpAnswers, new_part, add_pairs}
+use Rattle.std.specs.List.{list_any}
 use Rattle.clv_base.specs.Needs.{writes_of, key_of}
-use Rattle.shard_laws.proofs.Sound.{AskedOrOld, Sound, Open, After, More_over, at_once, rolled, marked_sound, finish_sound, get_set, set_none, commit_here, commit_other, commit_asked, waiting_here, agreed_before, list_all_at}
+use Rattle.shard_laws.proofs.Sound.{AskedOrOld, Sound, order_set, Open, After, More_over, at_once, rolled, marked_sound, finish_sound, get_set, set_none, commit_here, commit_other, commit_asked, waiting_here, agreed_before}
+use Rattle.shard_laws.proofs.Dooming.{list_all_at}
 
 -- ---- the state after it
 
 abbrev pub Later : List Item → Past → Shard → Event → Outcome → Shard → Type 0
-Later all g s e o t = (h : Past) × Sound (with_one all (new_item s e o)) h t × (h.start ≡ g.start) × (h.base ≡ g.base) × (h.asked ≡ with_one g.asked (new_asked s e)) × More_over g h × ((u : TxId) → new_told e o ≡ Some u → tx_in u h.over ≡ true) × (h.met ≡ new_met s e o ++ g.met)
+Later all g s e o t = (h : Past) × Sound (with_one all (new_item s e o)) h t × (h.start ≡ g.start) × (h.base ≡ g.base) × (h.asked ≡ with_one g.asked (new_asked s e)) × More_over g h × ((u : TxId) → new_told e o ≡ Some u → tx_in u h.over ≡ true) × (h.met ≡ new_met s e o ++ g.met) × (h.fell ≡ g.fell)
 
 pub data Keeps_reply (all : List Item) (g : Past) (s : Shard) (e : Event) : Reply → Type 0 where
   early : {o : Outcome} → Keeps_reply all g s e (QuietBeforeWorn o)
@@ -83,7 +103,7 @@ Same all g s e o = (with_one all (new_item s e o) ≡ all) × (with_one g.asked 
 ends_told : (all : List Item) (g : Past) (s u : Shard) (e : Event) (o : Outcome) → Same all g s e o → (a : After all g u) → ((t : TxId) → new_told e o ≡ Some t → tx_in t (a.0).over ≡ true) → Keeps_reply all g s e (Does o (finish u))
 ends_told all g s u e o same a told =
     let f = finish_sound all a.0 u a.1 in
-    does (f.0, subst (λ l. Sound l f.0 (finish u)) (sym same.0) f.1, f.2 ∙ a.2, f.3 ∙ a.3, f.4 ∙ a.4 ∙ sym same.1, (λ t i. f.5 t (a.5 t i)), (λ t n. f.5 t (told t n)), f.6 ∙ a.6 ∙ sym (ap (λ l. l ++ g.met) same.2))
+    does (f.0, subst (λ l. Sound l f.0 (finish u)) (sym same.0) f.1, f.2 ∙ a.2, f.3 ∙ a.3, f.4 ∙ a.4 ∙ sym same.1, (λ t i. f.5 t (a.5 t i)), (λ t n. f.5 t (told t n)), f.6 ∙ a.6 ∙ sym (ap (λ l. l ++ g.met) same.2), f.7 ∙ a.7)
 
 ends : (all : List Item) (g : Past) (s u : Shard) (e : Event) (o : Outcome) → Same all g s e o → new_told e o ≡ None → After all g u → Keeps_reply all g s e (Does o (finish u))
 ends all g s u e o same none a = ends_told all g s u e o same a (λ t n. absurd (none_told t (sym none ∙ n)))
@@ -96,7 +116,7 @@ at_cond all g s e false x y p q = q
 
 dies_if : (all : List Item) (g : Past) (s : Shard) (tx : TxId) (b : Bool) → Sound all g s → (b ≡ true → committed_in s.local.log tx ≡ false) → After all g (record s { local = rolled_back_if b tx s.local })
 dies_if all g s tx true h open_ = rolled all g s tx h (open_ refl)
-dies_if all g s tx false h open_ = at_once all g (record s { local = s.local }) (record { kept = h.kept; told = h.told; undecided = h.undecided; readers = h.readers; apart = h.apart; unvoted = h.unvoted; read = h.read; asked = h.asked })
+dies_if all g s tx false h open_ = at_once all g (record s { local = s.local }) (record { kept = h.kept; told = h.told; undecided = h.undecided; readers = h.readers; apart = h.apart; unvoted = h.unvoted; read = h.read; asked = h.asked; order = h.order; falls = h.falls; unfallen = h.unfallen })
 
 present_open : (all : List Item) (g : Past) (s : Shard) (tx : TxId) → Sound all g s → (stage_of s.local tx ≡ Some Closed → ⊥) → is_present (stage_of s.local tx) ≡ true → committed_in s.local.log tx ≡ false
 present_open all g s tx h not_closed e = at (stage_of s.local tx) refl e
@@ -125,9 +145,35 @@ stands_now g s tx birth may o = at (tx_get tx s.local.parts) refl o
     at None e f = inl e
     at (Some h) e f = inr (h, e, may h e, ⊎_elim (λ n. absurd (some_none h.stage n)) (λ a. some_stage h.stage Active a) f)
 
-fresh_now : (all : List Item) (g : Past) (s : Shard) (tx : TxId) (birth : Birth) → Sound all g s → (tx_get tx s.local.parts ≡ None → Fresh all g.asked g.met s tx) → (stage_of s.local tx ≡ None) ⊎ (stage_of s.local tx ≡ Some Active) → (committed_in s.local.log tx ≡ false) × (undone_in s.local.log tx ≡ false) × (prepared_in s.local.log tx ≡ false)
+none_closed : ◌≡◌ {A = Option Stage} None (Some Closed) → ⊥
+none_closed e = absurd cc
+
+active_closed : ◌≡◌ {A = Option Stage} (Some Active) (Some Closed) → ⊥
+active_closed e = absurd cc
+
+unfallen_now : (all : List Item) (g : Past) (s : Shard) (tx : TxId) → Sound all g s → stage_of s.local tx ≡ Some Active → tx_in tx g.fell ≡ false
+unfallen_now all g s tx h act = false_from_ne_true _ (λ i. both_ways _ (h.kept.prepared.unprepared tx act) (h.falls.back tx i (ap is_present act)))
+
+-- who does an operation is neither committed, aborted nor prepared, and wrote nothing before the last RESTART
+record NewHere (g : Past) (s : Shard) (tx : TxId) : Type 0 where
+  open_ : committed_in s.local.log tx ≡ false
+  alive : undone_in s.local.log tx ≡ false
+  unprepared : prepared_in s.local.log tx ≡ false
+  unaborted : aborted_in s.local.log tx ≡ false
+  unwritten : wrote_in (before_restart [] s.local.log) tx ≡ false
+  unfallen : tx_in tx g.fell ≡ false
+  undoomed : is_doomed (stage_of s.local tx) ≡ false
+  unclosed : stage_of s.local tx ≡ Some Closed → ⊥
+
+fresh_now : (all : List Item) (g : Past) (s : Shard) (tx : TxId) (birth : Birth) → Sound all g s → (tx_get tx s.local.parts ≡ None → Fresh all g.met g.fell s tx) → (stage_of s.local tx ≡ None) ⊎ (stage_of s.local tx ≡ Some Active) → NewHere g s tx
 fresh_now all g s tx birth h may o =
-    ⊎_elim (λ n. let f = may (none_part (tx_get tx s.local.parts) n) in (f.0, f.1, f.4)) (λ a. (h.kept.uncommitted tx a, false_from_ne_true _ (λ u. (h.kept.dead tx u).1 a), h.kept.prepared.unprepared tx a)) o
+    let k = h.order.ordered in
+    let r = order_of s.shard s.local.log k.follows in
+    ⊎_elim
+    (λ n. let f = may (none_part (tx_get tx s.local.parts) n) in
+    record { open_ = f.uncommitted; alive = false_from_ne_true _ (λ u. both_ways _ f.unaborted (r.undone tx u)); unprepared = f.unprepared; unaborted = f.unaborted; unwritten = unwritten_before s.local.log tx f.unwritten; unfallen = f.unfallen; undoomed = ap is_doomed n; unclosed = λ c. none_closed (sym n ∙ c) })
+    (λ a. record { open_ = h.kept.uncommitted tx a; alive = false_from_ne_true _ (λ u. (h.kept.dead tx u).1 a); unprepared = h.kept.prepared.unprepared tx a; unaborted = k.unaborted tx (ap is_present a); unwritten = k.new tx a; unfallen = unfallen_now all g s tx h a; undoomed = ap is_doomed a; unclosed = λ c. active_closed (sym a ∙ c) })
+    o
   where
     none_part : (x : Option Held) → stage_by x ≡ None → x ≡ None
     none_part None e = refl
@@ -175,78 +221,175 @@ no_items g v u (x ∷ xs) all none new =
     none_active : ◌≡◌ {A = Option Stage} None (Some Active) → ⊥
     none_active e = absurd cc
 
-told_own : (all : List Item) (g : Past) (s : Shard) (tx u : TxId) → u ≡ tx → Sound all g s → (tx_get tx s.local.parts ≡ None → Fresh all g.asked g.met s tx) → tx_in tx g.asked ≡ false → (stage_of s.local tx ≡ None) ⊎ (stage_of s.local tx ≡ Some Active) → items_of u g.items ≡ items_of u all
-told_own all g s tx u e h fresh new o =
+told_own : (all : List Item) (g : Past) (s : Shard) (tx u : TxId) → u ≡ tx → Sound all g s → (tx_get tx s.local.parts ≡ None → Fresh all g.met g.fell s tx) → tx_in tx g.asked ≡ false → tx_in tx g.lost ≡ false → (stage_of s.local tx ≡ None) ⊎ (stage_of s.local tx ≡ Some Active) → items_of u g.items ≡ items_of u all
+told_own all g s tx u e h fresh new alive o =
     subst (λ z. items_of z g.items ≡ items_of z all) (sym e)
     (⊎_elim
-    (λ n. let none = none_part (tx_get tx s.local.parts) n in let f = fresh none in no_items g (view_of s) tx g.items h.kept.known none new ∙ sym f.2)
-    (λ a. ⊎_elim (λ l. absurd (both_ways _ l.1 (ap is_present a))) (λ i. i) (h.told tx)) o)
+    (λ n. let none = none_part (tx_get tx s.local.parts) n in let f = fresh none in no_items g (view_of s) tx g.items h.kept.known none new ∙ sym f.idle)
+    (λ a. ⊎_elim (λ l. absurd (both_ways _ alive l)) (λ i. i) (h.told tx)) o)
   where
     none_part : (x : Option Held) → stage_by x ≡ None → x ≡ None
     none_part None e = refl
     none_part (Some h) e = absurd cc
 
-performed_sound : (all : List Item) (g : Past) (s : Shard) (tx : TxId) (birth : Birth) (op : Op) → Sound all g s → decide tx birth (needs_of op s.local.records) s.local.locks ≡ Grant → (tx_get tx s.local.parts ≡ None → Fresh all g.asked g.met s tx) → ((h : Held) → tx_get tx s.local.parts ≡ Some h → h.birth ≡ birth) → tx_in tx g.asked ≡ false → (stage_of s.local tx ≡ None) ⊎ (stage_of s.local tx ≡ Some Active)
-    → Sound (all ++ record { tx = tx; op = op; answer = answer_of op s.local.records; lsn = 0 + length s.local.log } ∷ []) (record g { items = g.items ++ record { tx = tx; op = op; answer = answer_of op s.local.records; lsn = 0 + length s.local.log } ∷ []; met = map (λ p. (tx, p)) (violated tx (needs_of op s.local.records) s.local.locks) ++ g.met }) (record s { local = performed tx birth op s.local })
-performed_sound all g s tx birth op h grant fresh same new o =
-    let fr = fresh_now all g s tx birth h fresh o in
-    let w : Change = writes_of op (value_at (key_of op) s.local.records) in
-    let u : Local = locked tx birth op s.local in
-    let x : Item = record { tx = tx; op = op; answer = answer_of op s.local.records; lsn = 0 + length s.local.log } in
-    record {
-      kept = keeps_performed g s tx birth op h.kept grant (stands_now g s tx birth same o) new fr.0 fr.1 fr.2 (λ p i. met_active fresh o p i);
-      told = λ v. ⊎_elim
-          (λ e. inr (push_own x tx refl v e g.items ∙ ap (λ l. l ++ x ∷ []) (told_own all g s tx v e h fresh new o) ∙ sym (push_own x tx refl v e all)))
-          (λ ne. ⊎_elim (λ l. inl (written_open tx w u v l.0, ap (λ p. is_present (stage_in p v)) (written_parts tx w u) ∙ ap (λ z. is_present (stage_by z)) (other_part tx birth s.local.parts v (tx_get tx s.local.parts) (tx_ne v tx ne)) ∙ l.1, l.2))
-          (λ e. inr (push_other x v (λ q. ne (sym q)) g.items ∙ e ∙ sym (push_other x v (λ q. ne (sym q)) all))) (h.told v))
-          (cases_tx v tx);
-      undecided = λ t q e un. ⊎_elim (λ c. inl (written_open tx w u t c)) (λ c. inr c) (h.undecided t q e un);
-      readers = h.readers;
-      apart = h.apart;
-      unvoted = λ t v e x. written_open tx w u t (h.unvoted t v e (false_from_ne_true _ (λ y. both_ways _ x (written_wrote tx w u t y))));
-      read = λ t v e f. let r = h.read t v e f in
-          ap (λ p. stage_in p t) (written_parts tx w u) ∙ ap stage_by (other_part tx birth s.local.parts t (tx_get tx s.local.parts) (tx_ne t tx (λ q. left o (ap (stage_of s.local) (sym q) ∙ r)))) ∙ r;
-      asked = λ t e. ⊎_elim (λ c. h.asked t c) (λ c. absurd (both_ways _ (written_open tx w u t c) e)) (cases_Bool (committed_in s.local.log t));
-    }
-  where
-    left : (stage_of s.local tx ≡ None) ⊎ (stage_of s.local tx ≡ Some Active) → stage_of s.local tx ≡ Some (Gone None) → ⊥
-    left o e = ⊎_elim (λ n. none_gone (sym n ∙ e)) (λ a. active_gone (sym a ∙ e)) o
-      where
-        none_gone : ◌≡◌ {A = Option Stage} None (Some (Gone None)) → ⊥
-        none_gone e = absurd cc
+falls_by : (run : ℕ) (fell lost over : List TxId) (parts : Table Held) (pairs : List (TxId × TxId)) (log : List LogRecord) (durable : ℕ) (tx : TxId) (w : Change) → Falls run fell lost over parts pairs log durable → Falls run fell lost over parts pairs (log_by tx w log) durable
+falls_by run fell lost over parts pairs log durable tx None f = f
+falls_by run fell lost over parts pairs log durable tx (Some w) f = falls_more run fell lost over parts pairs log (Update tx w.0 w.1 w.2 ∷ []) durable f (λ t. refl) (λ t c. absurd (both_ways false refl c))
 
-        active_gone : ◌≡◌ {A = Option Stage} (Some Active) (Some (Gone None)) → ⊥
-        active_gone e = absurd cc
+falls_written : (run : ℕ) (fell lost over : List TxId) (tx : TxId) (birth : Birth) (op : Op) (l : Local) (durable : ℕ) (w : Change) → Falls run fell lost over (locked tx birth op l).parts (locked tx birth op l).pairs (log_by tx w l.log) durable
+    → Falls run fell lost over (written tx w (locked tx birth op l)).parts (written tx w (locked tx birth op l)).pairs (written tx w (locked tx birth op l)).log durable
+falls_written run fell lost over tx birth op l durable None f = f
+falls_written run fell lost over tx birth op l durable (Some w) f = f
 
-    none_part : (x : Option Held) → stage_by x ≡ None → x ≡ None
-    none_part None e = refl
-    none_part (Some h) e = absurd cc
+module _ (all : List Item) (g : Past) (s : Shard) (tx : TxId) (birth : Birth) (op : Op) (h : Sound all g s) (grant : decide tx birth (needs_of op s.local.records) s.local.locks ≡ Grant) (fresh : tx_get tx s.local.parts ≡ None → Fresh all g.met g.fell s tx) (same : (h : Held) → tx_get tx s.local.parts ≡ Some h → h.birth ≡ birth)
+    (new : tx_in tx g.asked ≡ false) (run_is : tx.run ≡ s.run) (o : (stage_of s.local tx ≡ None) ⊎ (stage_of s.local tx ≡ Some Active)) where
+  fr : NewHere g s tx
+  fr = fresh_now all g s tx birth h fresh o
 
-    met_active : (tx_get tx s.local.parts ≡ None → Fresh all g.asked g.met s tx) → (stage_of s.local tx ≡ None) ⊎ (stage_of s.local tx ≡ Some Active) → (p : TxId) → is_pair g.met tx p ≡ true → stage_in s.local.parts tx ≡ Some Active
-    met_active fresh o p i = ⊎_elim (λ n. absurd ((fresh (none_part (tx_get tx s.local.parts) n)).3 p i)) (λ a. a) o
+  abbrev vs : List TxId
+  vs = violated tx (needs_of op s.local.records) s.local.locks
 
-granted : (all : List Item) (g : Past) (s : Shard) (tx : TxId) (birth : Birth) (nth : ℕ) (seen : Option ℕ) (op : Op) (b : Bool) → Sound all g s → decide tx birth (needs_of op s.local.records) s.local.locks ≡ Grant → MayTouch all g.asked g.met s tx birth seen → seen_fits s.local.epoch seen ≡ true → (stage_of s.local tx ≡ None) ⊎ (stage_of s.local tx ≡ Some Active)
+  abbrev done : Item
+  done = record { tx = tx; op = op; answer = answer_of op s.local.records; lsn = 0 + length s.local.log }
+
+  left : stage_of s.local tx ≡ Some (Gone None) → ⊥
+  left e = ⊎_elim (λ n. none_gone (sym n ∙ e)) (λ a. active_gone (sym a ∙ e)) o
+    where
+      none_gone : ◌≡◌ {A = Option Stage} None (Some (Gone None)) → ⊥
+      none_gone e = absurd cc
+
+      active_gone : ◌≡◌ {A = Option Stage} (Some Active) (Some (Gone None)) → ⊥
+      active_gone e = absurd cc
+
+  none_part : (x : Option Held) → stage_by x ≡ None → x ≡ None
+  none_part None e = refl
+  none_part (Some h) e = absurd cc
+
+  met_active : (p : TxId) → is_pair g.met tx p ≡ true → stage_in s.local.parts tx ≡ Some Active
+  met_active p i = ⊎_elim (λ n. absurd ((fresh (none_part (tx_get tx s.local.parts) n)).unmet p i)) (λ a. a) o
+
+  no_succ : (t : TxId) → is_pair s.local.pairs t tx ≡ true → ⊥
+  no_succ t e = ⊎_elim (λ c. both_ways _ fr.open_ c) (λ c. fr.unclosed c.0) (h.order.ordered.others t tx e).1
+
+  not_over : tx_in tx g.over ≡ false
+  not_over = false_from_ne_true _ (λ i. ⊎_elim (λ d. both_ways _ fr.open_ (durable_committed s.local.log s.durable tx d)) (λ d. both_ways _ new d.3) (h.kept.over tx i))
+
+  own_now : stage_in (new_part tx birth (tx_get tx s.local.parts) s.local.parts) tx ≡ Some Active
+  own_now = let p = own_part tx birth s.local.parts (stands_now g s tx birth same o) in ap stage_by p.1 ∙ ap Some p.3
+
+  others_now : (u : TxId) → (u ≡ tx → ⊥) → stage_in (new_part tx birth (tx_get tx s.local.parts) s.local.parts) u ≡ stage_of s.local u
+  others_now u ne = ap stage_by (other_part tx birth s.local.parts u (tx_get tx s.local.parts) (tx_ne u tx ne))
+
+  -- whatever the past keeps of it
+  performed_with : (items : List Item) (lost : List TxId) → Kept (record g { items = items; lost = lost; met = map (λ p. (tx, p)) vs ++ g.met }) (view_of (record s { local = performed tx birth op s.local }))
+      → ((v : TxId) → (tx_in v lost ≡ true) ⊎ (items_of v items ≡ items_of v (all ++ done ∷ []))) → Falls s.run g.fell lost g.over (new_part tx birth (tx_get tx s.local.parts) s.local.parts) (add_pairs tx vs s.local.pairs) s.local.log s.durable
+      → Sound (all ++ done ∷ []) (record g { items = items; lost = lost; met = map (λ p. (tx, p)) vs ++ g.met }) (record s { local = performed tx birth op s.local })
+  performed_with items lost kept told falls =
+      let w : Change = writes_of op (value_at (key_of op) s.local.records) in
+      let u : Local = locked tx birth op s.local in
+      record {
+        kept = kept;
+        told = told;
+        undecided = λ t q e un. ⊎_elim (λ c. inl (written_open tx w u t c)) (λ c. inr c) (h.undecided t q e un);
+        readers = h.readers;
+        apart = h.apart;
+        unvoted = λ t v e x. written_open tx w u t (h.unvoted t v e (false_from_ne_true _ (λ y. both_ways _ x (written_wrote tx w u t y))));
+        read = λ t v e f. let r = h.read t v e f in
+            ap (λ p. stage_in p t) (written_parts tx w u) ∙ others_now t (λ q. left (ap (stage_of s.local) (sym q) ∙ r)) ∙ r;
+        asked = λ t e. ⊎_elim (λ c. h.asked t c) (λ c. absurd (both_ways _ (written_open tx w u t c) e)) (cases_Bool (committed_in s.local.log t));
+        falls = falls_written s.run g.fell lost g.over tx birth op s.local s.durable (writes_of op (value_at (key_of op) s.local.records)) (falls_by s.run g.fell lost g.over (new_part tx birth (tx_get tx s.local.parts) s.local.parts) (add_pairs tx vs s.local.pairs) s.local.log s.durable tx (writes_of op (value_at (key_of op) s.local.records)) falls);
+        unfallen = λ t q e un here. ⊎_elim (λ e2. ap (λ z. tx_in z g.fell) e2 ∙ fr.unfallen) (λ ne. h.unfallen t q e un (ap is_present (sym (others_now t ne) ∙ sym (ap (λ p. stage_in p t) (written_parts tx w u))) ∙ here)) (cases_tx t tx);
+        order = order_performs g.asked g s tx birth op h.kept h.order grant (stands_now g s tx birth same o) run_is fr.open_ fr.unprepared fr.unaborted fr.unwritten;
+      }
+
+  told_alive : tx_in tx g.lost ≡ false → (v : TxId) → (tx_in v g.lost ≡ true) ⊎ (items_of v (g.items ++ done ∷ []) ≡ items_of v (all ++ done ∷ []))
+  told_alive alive v = ⊎_elim
+      (λ e. inr (push_own done tx refl v e g.items ∙ ap (λ l. l ++ done ∷ []) (told_own all g s tx v e h fresh new alive o) ∙ sym (push_own done tx refl v e all)))
+      (λ ne. ⊎_elim (λ l. inl l) (λ e. inr (push_other done v (λ q. ne (sym q)) g.items ∙ e ∙ sym (push_other done v (λ q. ne (sym q)) all))) (h.told v))
+      (cases_tx v tx)
+
+  told_lost : (v : TxId) → (tx_in v (tx ∷ g.lost) ≡ true) ⊎ (items_of v (filter (keeps_of (tx ∷ [])) g.items) ≡ items_of v (all ++ done ∷ []))
+  told_lost v = ⊎_elim
+      (λ e. inl (or_left _ _ (tx_eq tx v (sym e))))
+      (λ ne. ⊎_elim (λ l. inl (or_right (tx_same tx v) _ l)) (λ e. inr (own_kept (tx ∷ []) v g.items (ap (λ b. b || false) (tx_ne tx v (λ q. ne (sym q)))) ∙ e ∙ sym (push_other done v (λ q. ne (sym q)) all))) (h.told v))
+      (cases_tx v tx)
+
+  Performed : Type 0
+  Performed = (h2 : Past) × Sound (all ++ done ∷ []) h2 (record s { local = performed tx birth op s.local }) × (h2.start ≡ g.start) × (h2.base ≡ g.base) × (h2.asked ≡ g.asked) × (h2.over ≡ g.over) × (h2.met ≡ map (λ p. (tx, p)) vs ++ g.met) × (h2.fell ≡ g.fell)
+
+  any_lost : (ps : List TxId) → list_any (λ p. tx_in p g.lost) ps ≡ true → (p : TxId) × (tx_in p ps ≡ true) × (tx_in p g.lost ≡ true)
+  any_lost [] e = absurd (both_ways false refl e)
+  any_lost (p ∷ ps) e = ⊎_elim (λ i. (p, or_left _ _ (tx_self p), i)) (λ i. let q = any_lost ps i in (q.0, or_right (tx_same p q.0) _ q.1, q.2)) (or_cases (tx_in p g.lost) (list_any (λ p. tx_in p g.lost) ps) e)
+
+  none_lost : (ps : List TxId) → list_any (λ p. tx_in p g.lost) ps ≡ false → (p : TxId) → tx_in p ps ≡ true → tx_in p g.lost ≡ false
+  none_lost [] e p i = absurd (both_ways false refl i)
+  none_lost (q ∷ qs) e p i = false_from_ne_true _ (λ l. both_ways _ e (⊎_elim (λ s. or_left _ _ (subst (λ z. tx_in z g.lost ≡ true) (sym (tx_true q p s)) l)) (λ j. or_right (tx_in q g.lost) _ (not_false _ (λ n. both_ways _ (none_lost qs n p j) l))) (or_cases (tx_same q p) (tx_in p qs) i)))
+    where
+      not_false : (b : Bool) → (b ≡ false → ⊥) → b ≡ true
+      not_false true n = refl
+      not_false false n = absurd (n refl)
+
+  performed_lost : (tx_in tx g.lost ≡ true) ⊎ ((p : TxId) × (tx_in p vs ≡ true) × (tx_in p g.lost ≡ true)) → Performed
+  unfolding Performed
+  performed_lost why = (
+    record g { items = filter (keeps_of (tx ∷ [])) g.items; lost = tx ∷ g.lost; met = map (λ p. (tx, p)) vs ++ g.met },
+    performed_with (filter (keeps_of (tx ∷ [])) g.items) (tx ∷ g.lost)
+        (keeps_lost_op g s tx birth op h.kept grant (stands_now g s tx birth same o) new fr.open_ fr.alive fr.unprepared met_active no_succ h.falls.open_) told_lost
+        (falls_lost s.run g.fell g.lost g.over s.local.parts (new_part tx birth (tx_get tx s.local.parts) s.local.parts) s.local.pairs s.local.log s.durable tx vs h.falls own_now others_now run_is fr.unfallen fr.undoomed fr.unprepared fr.open_ not_over no_succ (listed_prepared s.shard s.local.log h.order.ordered.follows) why),
+    refl,
+    refl,
+    refl,
+    refl,
+    refl,
+    refl,
+  )
+
+  performed_sound : Performed
+  unfolding Performed
+  performed_sound = ⊎_elim
+      (λ l. performed_lost (inl l))
+      (λ alive. ⊎_elim (λ l. performed_lost (inr (any_lost vs l)))
+      (λ none. (
+        record g { items = g.items ++ done ∷ []; met = map (λ p. (tx, p)) vs ++ g.met },
+        performed_with (g.items ++ done ∷ []) g.lost
+            (keeps_performed g s tx birth op h.kept grant (stands_now g s tx birth same o) new fr.open_ fr.alive fr.unprepared met_active no_succ h.falls.open_ alive (none_lost vs none)) (told_alive alive)
+            (falls_alive s.run g.fell g.lost g.over s.local.parts (new_part tx birth (tx_get tx s.local.parts) s.local.parts) s.local.pairs s.local.log s.durable tx vs h.falls own_now others_now run_is fr.unfallen fr.undoomed fr.unprepared alive (none_lost vs none)),
+        refl,
+        refl,
+        refl,
+        refl,
+        refl,
+        refl,
+      )) (cases_Bool (list_any (λ p. tx_in p g.lost) vs)))
+      (cases_Bool (tx_in tx g.lost))
+
+finish_performed : (all : List Item) (g : Past) (s : Shard) (tx : TxId) (birth : Birth) (nth : ℕ) (seen : Option ℕ) (op : Op) (h : Sound all g s) (grant : decide tx birth (needs_of op s.local.records) s.local.locks ≡ Grant) (may : MayTouch all g.asked g.met g.fell s tx birth seen) (fit : seen_fits s.local.epoch seen ≡ true)
+    (o : (stage_of s.local tx ≡ None) ⊎ (stage_of s.local tx ≡ Some Active)) → Performed all g s tx birth op h grant (may.fresh fit) may.same_birth (may.not_asked fit) may.of_run o
+    → Keeps_reply all g s (OpEvent tx birth nth seen op) (op_event s (OpAnswers (answer_of op s.local.records) (performed tx birth op s.local)))
+unfolding Performed
+finish_performed all g s tx birth nth seen op h grant may fit o p =
+    let f = finish_sound (all ++ record { tx = tx; op = op; answer = answer_of op s.local.records; lsn = 0 + length s.local.log } ∷ []) p.0 (record s { local = performed tx birth op s.local }) p.1 in
+    does (f.0, f.1, f.2 ∙ p.2, f.3 ∙ p.3, f.4 ∙ p.4, (λ u i. f.5 u (ap (tx_in u) p.5 ∙ i)), (λ u n. absurd (none_told u n)), f.6 ∙ p.6, f.7 ∙ p.7)
+
+granted : (all : List Item) (g : Past) (s : Shard) (tx : TxId) (birth : Birth) (nth : ℕ) (seen : Option ℕ) (op : Op) (b : Bool) → Sound all g s → decide tx birth (needs_of op s.local.records) s.local.locks ≡ Grant → MayTouch all g.asked g.met g.fell s tx birth seen → seen_fits s.local.epoch seen ≡ true → (stage_of s.local tx ≡ None) ⊎ (stage_of s.local tx ≡ Some Active)
     → Keeps_reply all g s (OpEvent tx birth nth seen op) (op_event s (op_granted s.local tx birth op b))
 granted all g s tx birth nth seen op true h grant may fit o = late
-granted all g s tx birth nth seen op false h grant may fit o =
-    let x : Item = record { tx = tx; op = op; answer = answer_of op s.local.records; lsn = 0 + length s.local.log } in
-    let f = finish_sound (all ++ x ∷ []) (record g { items = g.items ++ x ∷ []; met = map (λ p. (tx, p)) (violated tx (needs_of op s.local.records) s.local.locks) ++ g.met }) (record s { local = performed tx birth op s.local }) (performed_sound all g s tx birth op h grant (may.fresh fit) may.same_birth (may.not_asked fit) o) in
-    does (f.0, f.1, f.2, f.3, f.4, f.5, (λ u n. absurd (none_told u n)), f.6)
+granted all g s tx birth nth seen op false h grant may fit o = finish_performed all g s tx birth nth seen op h grant may fit o (performed_sound all g s tx birth op h grant (may.fresh fit) may.same_birth (may.not_asked fit) may.of_run o)
 
-by_decision : (all : List Item) (g : Past) (s : Shard) (tx : TxId) (birth : Birth) (nth : ℕ) (seen : Option ℕ) (op : Op) (d : Decision) → Sound all g s → decide tx birth (needs_of op s.local.records) s.local.locks ≡ d → MayTouch all g.asked g.met s tx birth seen → seen_fits s.local.epoch seen ≡ true → (stage_of s.local tx ≡ None) ⊎ (stage_of s.local tx ≡ Some Active)
+by_decision : (all : List Item) (g : Past) (s : Shard) (tx : TxId) (birth : Birth) (nth : ℕ) (seen : Option ℕ) (op : Op) (d : Decision) → Sound all g s → decide tx birth (needs_of op s.local.records) s.local.locks ≡ d → MayTouch all g.asked g.met g.fell s tx birth seen → seen_fits s.local.epoch seen ≡ true → (stage_of s.local tx ≡ None) ⊎ (stage_of s.local tx ≡ Some Active)
     → Keeps_reply all g s (OpEvent tx birth nth seen op) (op_event s (op_decided s.local tx birth op d))
 by_decision all g s tx birth nth seen op Grant h e may fit o = granted all g s tx birth nth seen op _ h e may fit o
 by_decision all g s tx birth nth seen op (Wait y) h e may fit o = late
 by_decision all g s tx birth nth seen op (Die y) h e may fit o = dies all g s tx birth nth seen op _ h may.not_closed
 
-by_stage : (all : List Item) (g : Past) (s : Shard) (tx : TxId) (birth : Birth) (nth : ℕ) (seen : Option ℕ) (op : Op) (o : Option Stage) → Sound all g s → MayTouch all g.asked g.met s tx birth seen → seen_fits s.local.epoch seen ≡ true → stage_of s.local tx ≡ o → Keeps_reply all g s (OpEvent tx birth nth seen op) (op_event s (op_by_stage s.local tx birth op o))
+by_stage : (all : List Item) (g : Past) (s : Shard) (tx : TxId) (birth : Birth) (nth : ℕ) (seen : Option ℕ) (op : Op) (o : Option Stage) → Sound all g s → MayTouch all g.asked g.met g.fell s tx birth seen → seen_fits s.local.epoch seen ≡ true → stage_of s.local tx ≡ o → Keeps_reply all g s (OpEvent tx birth nth seen op) (op_event s (op_by_stage s.local tx birth op o))
 by_stage all g s tx birth nth seen op None h may fit e = by_decision all g s tx birth nth seen op (decide tx birth (needs_of op s.local.records) s.local.locks) h refl may fit (inl e)
 by_stage all g s tx birth nth seen op (Some Active) h may fit e = by_decision all g s tx birth nth seen op (decide tx birth (needs_of op s.local.records) s.local.locks) h refl may fit (inr e)
 by_stage all g s tx birth nth seen op (Some Closed) h may fit e = absurd (may.not_closed e)
-by_stage all g s tx birth nth seen op (Some (Gone None)) h may fit e = ends all g s (record s { local = s.local }) (OpEvent tx birth nth seen op) _ (refl, refl, refl) refl (at_once all g _ (record { kept = h.kept; told = h.told; undecided = h.undecided; readers = h.readers; apart = h.apart; unvoted = h.unvoted; read = h.read; asked = h.asked }))
-by_stage all g s tx birth nth seen op (Some (Gone (Some d))) h may fit e = ends all g s (record s { local = s.local }) (OpEvent tx birth nth seen op) _ (refl, refl, refl) refl (at_once all g _ (record { kept = h.kept; told = h.told; undecided = h.undecided; readers = h.readers; apart = h.apart; unvoted = h.unvoted; read = h.read; asked = h.asked }))
+by_stage all g s tx birth nth seen op (Some (Gone None)) h may fit e = ends all g s (record s { local = s.local }) (OpEvent tx birth nth seen op) _ (refl, refl, refl) refl (at_once all g _ (record { kept = h.kept; told = h.told; undecided = h.undecided; readers = h.readers; apart = h.apart; unvoted = h.unvoted; read = h.read; asked = h.asked; order = h.order; falls = h.falls; unfallen = h.unfallen }))
+by_stage all g s tx birth nth seen op (Some (Gone (Some d))) h may fit e = ends all g s (record s { local = s.local }) (OpEvent tx birth nth seen op) _ (refl, refl, refl) refl (at_once all g _ (record { kept = h.kept; told = h.told; undecided = h.undecided; readers = h.readers; apart = h.apart; unvoted = h.unvoted; read = h.read; asked = h.asked; order = h.order; falls = h.falls; unfallen = h.unfallen }))
 
-operation : (all : List Item) (g : Past) (s : Shard) (tx : TxId) (birth : Birth) (nth : ℕ) (seen : Option ℕ) (op : Op) (b : Bool) → Sound all g s → MayTouch all g.asked g.met s tx birth seen → seen_fits s.local.epoch seen ≡ b → Keeps_reply all g s (OpEvent tx birth nth seen op) (op_event s (op_seen s.shard s.local tx birth seen op b))
+operation : (all : List Item) (g : Past) (s : Shard) (tx : TxId) (birth : Birth) (nth : ℕ) (seen : Option ℕ) (op : Op) (b : Bool) → Sound all g s → MayTouch all g.asked g.met g.fell s tx birth seen → seen_fits s.local.epoch seen ≡ b → Keeps_reply all g s (OpEvent tx birth nth seen op) (op_event s (op_seen s.shard s.local tx birth seen op b))
 operation all g s tx birth nth seen op true h may fit = by_stage all g s tx birth nth seen op (stage_of s.local tx) h may fit refl
 operation all g s tx birth nth seen op false h may fit = dies all g s tx birth nth seen op _ h may.not_closed
 
@@ -257,6 +400,25 @@ lists_all : (s : Shard) (tx : TxId) (ps : List TxId) → undecided_of s.local tx
 lists_all s tx ps e p pair =
     ⊎_elim (λ c. inl c) (λ c. inr (subst (λ l. tx_in p l ≡ true) e (filter_in (λ q. not (committed_in s.local.log q)) p (predecessors_of s.local.pairs tx) (pair_in s.local.pairs tx p pair) (ap not c)))) (cases_Bool (committed_in s.local.log p))
 
+met_deps : (all : List Item) (g : Past) (s : Shard) (tx : TxId) → Sound all g s → stage_of s.local tx ≡ Some Active → (p : TxId) → is_pair g.met tx p ≡ true → Dep (view_of s) tx p
+met_deps all g s tx h act p e = ⊎_elim (λ o. absurd (o.1 act)) (λ d. d.0) (h.kept.recover tx p e)
+
+-- an active part did not fall
+unfallen_active : (all : List Item) (g : Past) (s : Shard) (tx : TxId) → Sound all g s → stage_of s.local tx ≡ Some Active → tx_in tx g.fell ≡ false
+unfallen_active all g s tx h act = false_from_ne_true _ (λ i. both_ways _ (h.kept.prepared.unprepared tx act) (h.falls.back tx i (ap is_present act)))
+
+closing_prepares : (all : List Item) (g : Past) (s : Shard) (tx : TxId) (home : ℕ) (ps : List TxId) → Sound all g s → stage_of s.local tx ≡ Some Active → undecided_of s.local tx ≡ ps → Falls s.run g.fell g.lost g.over s.local.parts s.local.pairs (s.local.log ++ Prepare tx home ps ∷ []) s.durable
+closing_prepares all g s tx home ps h act e = falls_prepare s.run g.fell g.lost g.over s.local.parts s.local.pairs s.local.log s.durable tx home ps h.falls (ap is_present act) (ap by_prepare (prepare_here s.local.log [] tx home ps (h.kept.prepared.unprepared tx act)))
+    (λ p i. in_pair s.local.pairs tx p (in_filter (λ q. not (committed_in s.local.log q)) p (predecessors_of s.local.pairs tx) (subst (λ l. tx_in p l ≡ true) (sym e) i)).0) (lists_all s tx ps e)
+
+closing_falls : (all : List Item) (g : Past) (s : Shard) (tx : TxId) (home : ℕ) (wrote one : Bool) (ps : List TxId) → Sound all g s → stage_of s.local tx ≡ Some Active → undecided_of s.local tx ≡ ps
+    → Falls s.run g.fell g.lost g.over s.local.parts s.local.pairs (s.local.log ++ closing wrote one tx home ps) s.durable
+closing_falls all g s tx home false one ps h act e = subst (λ l. Falls s.run g.fell g.lost g.over s.local.parts s.local.pairs l s.durable) (sym (append-nil s.local.log)) h.falls
+closing_falls all g s tx home true true [] h act e = falls_more s.run g.fell g.lost g.over s.local.parts s.local.pairs s.local.log (Commit tx [] ∷ []) s.durable h.falls (λ u. refl)
+    (λ u c. ⊎_elim (λ i. let same = tx_true u tx i in (ap is_present (ap (stage_of s.local) same ∙ act), ap (λ z. tx_in z g.lost) same ∙ here_alive all g s tx h (ap is_present act) (unfallen_active all g s tx h act) (agreed_before s tx (ap (λ l. length l == 0) e)))) (λ i. absurd (both_ways false refl i)) (or_cases (tx_same u tx) false c))
+closing_falls all g s tx home true true (p ∷ ps) h act e = closing_prepares all g s tx home (p ∷ ps) h act e
+closing_falls all g s tx home true false ps h act e = closing_prepares all g s tx home ps h act e
+
 -- the view after a part is closed, whatever record closes it
 closes : (all : List Item) (g : Past) (s : Shard) (tx : TxId) (home : ℕ) (wrote one : Bool) (ps : List TxId) → Sound all g s → stage_of s.local tx ≡ Some Active → tx_in tx g.asked ≡ true → undecided_of s.local tx ≡ ps
     → Kept g (record (view_of s) { locks = close_locks tx s.local.locks; parts = closed_in tx s.local.parts; log = s.local.log ++ closing wrote one tx home ps })
@@ -266,9 +428,9 @@ closes all g s tx home true true [] h act asks e =
     keeps_commit g (record (view_of s) { locks = close_locks tx s.local.locks; parts = closed_in tx s.local.parts }) tx [] (keeps_close g (view_of s) tx h.kept act asks)
     (stage_closed s.local.parts tx act) (h.kept.uncommitted tx act) (agreed_before s tx (ap (λ l. length l == 0) e))
 closes all g s tx home true true (p ∷ ps) h act asks e =
-    keeps_prepare g (record (view_of s) { locks = close_locks tx s.local.locks; parts = closed_in tx s.local.parts }) tx home (p ∷ ps) (keeps_close g (view_of s) tx h.kept act asks) (stage_closed s.local.parts tx act) (h.kept.uncommitted tx act) (h.kept.prepared.unprepared tx act) (lists_all s tx (p ∷ ps) e)
+    keeps_prepare g (record (view_of s) { locks = close_locks tx s.local.locks; parts = closed_in tx s.local.parts }) tx home (p ∷ ps) (keeps_close g (view_of s) tx h.kept act asks) (stage_closed s.local.parts tx act) (h.kept.uncommitted tx act) (h.kept.prepared.unprepared tx act) (lists_all s tx (p ∷ ps) e) (met_deps all g s tx h act)
 closes all g s tx home true false ps h act asks e =
-    keeps_prepare g (record (view_of s) { locks = close_locks tx s.local.locks; parts = closed_in tx s.local.parts }) tx home ps (keeps_close g (view_of s) tx h.kept act asks) (stage_closed s.local.parts tx act) (h.kept.uncommitted tx act) (h.kept.prepared.unprepared tx act) (lists_all s tx ps e)
+    keeps_prepare g (record (view_of s) { locks = close_locks tx s.local.locks; parts = closed_in tx s.local.parts }) tx home ps (keeps_close g (view_of s) tx h.kept act asks) (stage_closed s.local.parts tx act) (h.kept.uncommitted tx act) (h.kept.prepared.unprepared tx act) (lists_all s tx ps e) (met_deps all g s tx h act)
 
 closing_open : (wrote one : Bool) (tx : TxId) (home : ℕ) (ps : List TxId) (u : TxId) → tx_same u tx ≡ false → committed_in (closing wrote one tx home ps) u ≡ false
 closing_open false one tx home ps u e = refl
@@ -300,15 +462,6 @@ put_reader g s tx touched old u q e f = at (tx_same u tx) (sym (get_put tx u (ne
     at true i = absurd (first_unfinished (ap (λ r. r.state) (some_request _ q i) ∙ f))
     at false i = old u q i f
 
-closing_wrote : (wrote one : Bool) (tx : TxId) (home : ℕ) (ps : List TxId) (u : TxId) → wrote_in (closing wrote one tx home ps) u ≡ false
-closing_wrote false one tx home ps u = refl
-closing_wrote true true tx home [] u = refl
-closing_wrote true true tx home (p ∷ ps) u = refl
-closing_wrote true false tx home ps u = refl
-
-flip_false : (a b : TxId) → tx_same a b ≡ false → tx_same b a ≡ false
-flip_false a b e = tx_ne b a (λ s. both_ways _ e (tx_eq a b (sym s)))
-
 -- a part that is not the only one is prepared
 prepared_only : (tx : TxId) (home : ℕ) (wrote one : Bool) (ps : List TxId) (u : TxId) → one ≡ false → committed_in (closing wrote one tx home ps) u ≡ false
 prepared_only tx home false one ps u e = refl
@@ -321,8 +474,7 @@ closed_sound : (all : List Item) (g : Past) (s : Shard) (tx : TxId) (home : ℕ)
     → ((u : TxId) (q : Request) → tx_get u s.requests ≡ Some q → q.state ≡ Undecided → tx_same u tx ≡ false) → ((v : Voter) → tx_get tx s.voters ≡ Some v → one ≡ false) → Sound all g (with_local (close_part tx home one) s)
 closed_sound all g s tx home one h act asks no_request no_vote = record {
   kept = closes all g s tx home (wrote_in s.local.log tx) one (undecided_of s.local tx) h act asks refl;
-  told = λ u. ⊎_elim (λ l. let ne : tx_same tx u ≡ false = tx_ne tx u (λ e. both_ways _ l.1 (ap is_present (ap (stage_of s.local) (sym e) ∙ act))) in
-      inl (uncommitted_append s.local.log _ u l.0 (closing_open (wrote_in s.local.log tx) one tx home (undecided_of s.local tx) u (flip_false tx u ne)), ap is_present (stage_left s.local.parts tx u ne) ∙ l.1, l.2)) (λ e. inr e) (h.told u);
+  told = h.told;
   undecided = λ u q e un. ⊎_elim (λ c. inl (uncommitted_append s.local.log _ u c (closing_open (wrote_in s.local.log tx) one tx home (undecided_of s.local tx) u (no_request u q e un)))) (λ c. inr c) (h.undecided u q e un);
   readers = h.readers;
   apart = h.apart;
@@ -334,8 +486,19 @@ closed_sound all g s tx home one h act asks no_request no_vote = record {
   asked = λ u e. ⊎_elim (λ t. inl (ap (λ z. tx_in z g.asked) (tx_true u tx t) ∙ asks))
       (λ ne. ⊎_elim (λ c. h.asked u c) (λ c. absurd (both_ways _ (uncommitted_append s.local.log _ u c (closing_open (wrote_in s.local.log tx) one tx home (undecided_of s.local tx) u ne)) e)) (cases_Bool (committed_in s.local.log u)))
       (cases_Bool (tx_same u tx));
+  falls = falls_parts s.run g.fell g.lost g.over s.local.parts (closed_in tx s.local.parts) s.local.pairs (s.local.log ++ closing (wrote_in s.local.log tx) one tx home (undecided_of s.local tx)) s.durable
+      (λ u. same_present u) (λ u. same_doom u) (closing_falls all g s tx home (wrote_in s.local.log tx) one (undecided_of s.local tx) h act refl);
+  unfallen = λ u q e un here. h.unfallen u q e un (sym (same_present u) ∙ here);
+  order = order_closes g.asked s.shard s.run s.local.locks s.local.parts s.local.pairs s.local.log s.requests h.order tx home (wrote_in s.local.log tx) one (undecided_of s.local tx) refl act asks (h.kept.uncommitted tx act) (h.kept.prepared.unprepared tx act)
+      (λ p i. let f = in_filter (λ q. not (committed_in s.local.log q)) p (predecessors_of s.local.pairs tx) i in (in_pair s.local.pairs tx p f.0, not-true _ f.1)) (lists_all s tx (undecided_of s.local tx) refl) no_request;
 }
   where
+    same_present : (u : TxId) → is_present (stage_in (closed_in tx s.local.parts) u) ≡ is_present (stage_of s.local u)
+    same_present u = ⊎_elim (λ e. let q = tx_true tx u e in subst (λ z. is_present (stage_in (closed_in tx s.local.parts) z) ≡ is_present (stage_of s.local z)) q (ap is_present (stage_closed s.local.parts tx act) ∙ sym (ap is_present act))) (λ n. ap is_present (stage_left s.local.parts tx u n)) (cases_Bool (tx_same tx u))
+
+    same_doom : (u : TxId) → is_doomed (stage_in (closed_in tx s.local.parts) u) ≡ is_doomed (stage_of s.local u)
+    same_doom u = ⊎_elim (λ e. let q = tx_true tx u e in subst (λ z. is_doomed (stage_in (closed_in tx s.local.parts) z) ≡ is_doomed (stage_of s.local z)) q (ap is_doomed (stage_closed s.local.parts tx act) ∙ sym (ap is_doomed act))) (λ n. ap is_doomed (stage_left s.local.parts tx u n)) (cases_Bool (tx_same tx u))
+
     old : (u : TxId) → wrote_in (s.local.log ++ closing (wrote_in s.local.log tx) one tx home (undecided_of s.local tx)) u ≡ false → wrote_in s.local.log u ≡ false
     old u w = false_from_ne_true _ (λ x. both_ways _ w (list_any-append (is_update_of u) s.local.log (closing (wrote_in s.local.log tx) one tx home (undecided_of s.local tx)) ∙ or_left _ _ x))
 
@@ -343,14 +506,33 @@ closed_sound all g s tx home one h act asks no_request no_vote = record {
     active_gone e = absurd cc
 
 asks_sound : (all : List Item) (g : Past) (s : Shard) (tx : TxId) → Sound all g s → Sound all (record g { asked = g.asked ++ tx ∷ [] }) s
-asks_sound all g s tx h = record { kept = keeps_asked g (view_of s) tx h.kept; told = h.told; undecided = h.undecided; readers = h.readers; apart = h.apart; unvoted = h.unvoted; read = h.read; asked = λ u c. ⊎_elim (λ a. inl (in_push g.asked tx u ∙ or_left _ _ a)) (λ l. inr l) (h.asked u c) }
+asks_sound all g s tx h = record { kept = keeps_asked g (view_of s) tx h.kept; told = h.told; undecided = h.undecided; readers = h.readers; apart = h.apart; unvoted = h.unvoted; read = h.read; asked = λ u c. ⊎_elim (λ a. inl (in_push g.asked tx u ∙ or_left _ _ a)) (λ l. inr l) (h.asked u c); falls = h.falls; unfallen = h.unfallen; order = order_asked g.asked s.shard s.run s.local.locks s.local.parts s.local.pairs s.local.log s.requests tx h.order }
 
 pub others_asked : (all : List Item) (g : Past) (s : Shard) (tx : TxId) → Sound all g s → Sound all (record g { asked = g.asked ++ tx ∷ [] }) s
 others_asked all g s tx h = asks_sound all g s tx h
 
 -- a request here: no voter of it, and no request yet
-coordinated : (all : List Item) (g : Past) (s : Shard) (tx : TxId) (touched : List (ℕ × ℕ)) → Sound all g s → Open s.shard s.local.log tx (new_request touched Undecided) → ((v : Voter) → tx_get tx s.voters ≡ Some v → ⊥) → Sound all g (coordinate tx touched s)
-coordinated all g s tx touched h new no_vote = record {
+-- a new request is undecided
+order_put : (asked : List TxId) (s : Shard) (tx : TxId) (touched : List (ℕ × ℕ)) → KeepsOrder asked s.shard s.run s.local.locks s.local.parts s.local.pairs s.local.log s.requests → Ruled s.shard s.run s.local.log tx (new_request touched Undecided)
+    → KeepsOrder asked s.shard s.run s.local.locks s.local.parts s.local.pairs s.local.log (tx_put tx (new_request touched Undecided) s.requests)
+order_put asked s tx touched k ruled = record {
+  ordered = k.ordered;
+  lying = k.lying;
+  rulings = λ u q e. at u q (tx_same u tx) refl (sym (get_put tx u (new_request touched Undecided) s.requests) ∙ e);
+}
+  where
+    at : (u : TxId) (q : Request) (b : Bool) → tx_same u tx ≡ b → cond b (Some (new_request touched Undecided)) (tx_get u s.requests) ≡ Some q → Ruled s.shard s.run s.local.log u q
+    at u q true t f = subst (λ z. Ruled s.shard s.run s.local.log z q) (sym (tx_true u tx t)) (subst (Ruled s.shard s.run s.local.log tx) (some_request _ q f) ruled)
+    at u q false t f = k.rulings u q f
+
+undecided_not : (ps : List ℕ) → Undecided ≡ Committed ps → ⊥
+undecided_not ps e = absurd cc
+
+new_ruled : (shard run : ℕ) (log : List LogRecord) (tx : TxId) (touched : List (ℕ × ℕ)) → tx.run ≡ run → ((p : ℕ × List TxId) → prepare_of log tx ≡ Some p → p.0 ≡ shard) → Ruled shard run log tx (new_request touched Undecided)
+new_ruled shard run log tx touched e home = record { undecided = λ u. (e, home); committed = λ p ps f n. absurd (undecided_not (p ∷ ps) f) }
+
+coordinated : (all : List Item) (g : Past) (s : Shard) (tx : TxId) (touched : List (ℕ × ℕ)) → Sound all g s → Open s.shard s.local.log tx (new_request touched Undecided) → ((v : Voter) → tx_get tx s.voters ≡ Some v → ⊥) → Ruled s.shard s.run s.local.log tx (new_request touched Undecided) → (is_present (stage_of s.local tx) ≡ true → tx_in tx g.fell ≡ false) → Sound all g (coordinate tx touched s)
+coordinated all g s tx touched h new no_vote ruled unfallen = record {
   kept = h.kept;
   told = h.told;
   undecided = put_open s tx touched new h.undecided;
@@ -359,20 +541,48 @@ coordinated all g s tx touched h new no_vote = record {
   unvoted = h.unvoted;
   read = h.read;
   asked = h.asked;
+  falls = h.falls;
+  unfallen = λ u q e un here. put_unfallen u q here (tx_same u tx) refl (sym (get_put tx u (new_request touched Undecided) s.requests ∙ refl) ∙ e) un;
+  order = order_put g.asked s tx touched h.order ruled;
 }
+  where
+    put_unfallen : (u : TxId) (q : Request) → is_present (stage_of s.local u) ≡ true → (b : Bool) → tx_same u tx ≡ b → cond b (Some (new_request touched Undecided)) (tx_get u s.requests) ≡ Some q → q.state ≡ Undecided → tx_in u g.fell ≡ false
+    put_unfallen u q here true t f un = ap (λ z. tx_in z g.fell) (tx_true u tx t) ∙ unfallen (ap is_present (ap (stage_of s.local) (sym (tx_true u tx t))) ∙ here)
+    put_unfallen u q here false t f un = h.unfallen u q f un here
+
+-- the PREPARE that closes its part names this shard
+home_here : (log : List LogRecord) (tx : TxId) (home : ℕ) (wrote one : Bool) (ps : List TxId) (p : ℕ × List TxId) → prepared_in log tx ≡ false → prepare_of (log ++ closing wrote one tx home ps) tx ≡ Some p → p.0 ≡ home
+home_here log tx home wrote one ps p none e = at wrote one ps e
+  where
+    same : (a b : ℕ × List TxId) → Some a ≡ Some b → b.0 ≡ a.0
+    same a b e = cc
+
+    never : (l : List LogRecord) → prepared_in l tx ≡ false → prepare_of l tx ≡ Some p → p.0 ≡ home
+    never l n e = absurd (both_ways _ n (prepared_there l tx p e))
+
+    prepares_here : (qs : List TxId) → prepare_of (log ++ Prepare tx home qs ∷ []) tx ≡ Some p → p.0 ≡ home
+    prepares_here qs e = same (home, qs) p (sym (prepare_here log [] tx home qs none) ∙ e)
+
+    at : (w o : Bool) (qs : List TxId) → prepare_of (log ++ closing w o tx home qs) tx ≡ Some p → p.0 ≡ home
+    at false o qs e = never log none (subst (λ l. prepare_of l tx ≡ Some p) (append-nil log) e)
+    at true true [] e = never (log ++ Commit tx [] ∷ []) (unprepared_append log (Commit tx [] ∷ []) tx none refl) e
+    at true true (q ∷ qs) e = prepares_here (q ∷ qs) e
+    at true false qs e = prepares_here qs e
 
 -- its COMMIT was written only if it has no other shard
 new_open : (s : Shard) (tx : TxId) (touched : List (ℕ × ℕ)) (os : List ℕ) → others s.shard touched ≡ os → committed_in s.local.log tx ≡ false → Open s.shard (s.local.log ++ closing (wrote_in s.local.log tx) (is_alone os) tx s.shard (undecided_of s.local tx)) tx (new_request touched Undecided)
 new_open s tx touched [] e open_ = inr (e, refl)
 new_open s tx touched (o ∷ os) e open_ = inl (uncommitted_append s.local.log _ tx open_ (prepared_only tx s.shard (wrote_in s.local.log tx) false (undecided_of s.local tx) tx refl))
 
-asked_sound : (all : List Item) (g : Past) (s : Shard) (tx : TxId) (touched : List (ℕ × ℕ)) → Sound all g s → stage_of s.local tx ≡ Some Active → ((v : Voter) → tx_get tx s.voters ≡ Some v → ⊥) → tx_get tx s.requests ≡ None
+asked_sound : (all : List Item) (g : Past) (s : Shard) (tx : TxId) (touched : List (ℕ × ℕ)) → Sound all g s → stage_of s.local tx ≡ Some Active → ((v : Voter) → tx_get tx s.voters ≡ Some v → ⊥) → tx_get tx s.requests ≡ None → tx.run ≡ s.run
     → Sound all (record g { asked = g.asked ++ tx ∷ [] }) (coordinate tx touched (with_local (close_part tx s.shard (is_alone (others s.shard touched))) s))
-asked_sound all g s tx touched h act no_vote no_request =
+asked_sound all g s tx touched h act no_vote no_request run_is =
     coordinated all (record g { asked = g.asked ++ tx ∷ [] }) (with_local (close_part tx s.shard (is_alone (others s.shard touched))) s) tx touched
     (closed_sound all (record g { asked = g.asked ++ tx ∷ [] }) s tx s.shard (is_alone (others s.shard touched)) (asks_sound all g s tx h) act (in_push g.asked tx tx ∙ or_right (tx_in tx g.asked) _ (or_left _ _ (tx_self tx)))
     (λ u q e un. tx_ne u tx (λ same. none_request q (sym no_request ∙ ap (λ z. tx_get z s.requests) (sym same) ∙ e))) (λ v e. absurd (no_vote v e)))
     (new_open s tx touched (others s.shard touched) refl (h.kept.uncommitted tx act)) no_vote
+    (new_ruled s.shard s.run (s.local.log ++ closing (wrote_in s.local.log tx) (is_alone (others s.shard touched)) tx s.shard (undecided_of s.local tx)) tx touched run_is
+    (λ p e. home_here s.local.log tx s.shard (wrote_in s.local.log tx) (is_alone (others s.shard touched)) (undecided_of s.local tx) p (h.kept.prepared.unprepared tx act) e)) (λ e. unfallen_active all g s tx h act)
   where
     none_request : (q : Request) → ◌≡◌ {A = Option Request} None (Some q) → ⊥
     none_request q e = absurd cc
@@ -392,13 +602,15 @@ new_here g s tx may (inl a) = both_ways _ may.0 a
 new_here g s tx may (inr l) = let q = may.3 in omega (arith, l, q)
 
 request_stage : (all : List Item) (g : Past) (s : Shard) (tx : TxId) (touched : List (ℕ × ℕ)) (o : Option Stage) → Sound all g s → MayAsk g.asked s tx → stage_of s.local tx ≡ o → seen_fits s.local.epoch (epoch_in s.shard touched) ≡ true → Keeps_reply all g s (RequestEvent tx touched) (request_by_stage s tx touched o)
-request_stage all g s tx touched None h may e f = ends all g s (coordinate tx touched s) (RequestEvent tx touched) _ (refl, none_asks g s tx touched None true e f refl, refl) refl (at_once all g _ (coordinated all g s tx touched h (inl (false_from_ne_true _ (λ c. new_here g s tx may (h.asked tx c)))) may.1))
+request_stage all g s tx touched None h may e f = ends all g s (coordinate tx touched s) (RequestEvent tx touched) _ (refl, none_asks g s tx touched None true e f refl, refl) refl (at_once all g _ (coordinated all g s tx touched h (inl (false_from_ne_true _ (λ c. new_here g s tx may (h.asked tx c)))) may.1
+    (new_ruled s.shard s.run s.local.log tx touched may.3 (λ p i. absurd (new_here g s tx may (h.order.ordered.asks tx (prepared_there s.local.log tx p i)))))
+    (λ here. absurd (both_ways false refl (sym (ap is_present e) ∙ here)))))
 request_stage all g s tx touched (Some Closed) h may e f = ends all g s s (RequestEvent tx touched) _ (refl, none_asks g s tx touched (Some Closed) true e f refl, refl) refl (at_once all g s h)
 request_stage all g s tx touched (Some (Gone None)) h may e f = ends all g s s (RequestEvent tx touched) _ (refl, none_asks g s tx touched (Some (Gone None)) true e f refl, refl) refl (at_once all g s h)
 request_stage all g s tx touched (Some (Gone (Some d))) h may e f = ends all g s s (RequestEvent tx touched) _ (refl, none_asks g s tx touched (Some (Gone (Some d))) true e f refl, refl) refl (at_once all g s h)
 request_stage all g s tx touched (Some Active) h may e f =
-    let r = finish_sound all (record g { asked = g.asked ++ tx ∷ [] }) (coordinate tx touched (with_local (close_part tx s.shard (is_alone (others s.shard touched))) s)) (asked_sound all g s tx touched h e may.1 may.2) in
-    does (r.0, r.1, r.2, r.3, r.4 ∙ sym (ap (with_one g.asked) (ap (λ x. asks_by_stage tx x (seen_fits s.local.epoch (epoch_in s.shard touched))) e ∙ ap (asks_by_stage tx (Some Active)) f)), r.5, (λ u n. absurd (none_told u n)), r.6)
+    let r = finish_sound all (record g { asked = g.asked ++ tx ∷ [] }) (coordinate tx touched (with_local (close_part tx s.shard (is_alone (others s.shard touched))) s)) (asked_sound all g s tx touched h e may.1 may.2 may.3) in
+    does (r.0, r.1, r.2, r.3, r.4 ∙ sym (ap (with_one g.asked) (ap (λ x. asks_by_stage tx x (seen_fits s.local.epoch (epoch_in s.shard touched))) e ∙ ap (asks_by_stage tx (Some Active)) f)), r.5, (λ u n. absurd (none_told u n)), r.6, r.7)
 
 request : (all : List Item) (g : Past) (s : Shard) (tx : TxId) (touched : List (ℕ × ℕ)) (b : Bool) → Sound all g s → MayAsk g.asked s tx → seen_fits s.local.epoch (epoch_in s.shard touched) ≡ b → Keeps_reply all g s (RequestEvent tx touched) (request_event s tx touched b)
 request all g s tx touched true h may f = request_stage all g s tx touched (stage_of s.local tx) h may refl f
@@ -428,6 +640,8 @@ add_over all g s tx h d =
         covered = k.covered;
         wrote = k.wrote;
         known = k.known;
+        alive = k.alive;
+        left = all_mono _ _ (λ x l. ⊎_elim (λ a. inl a) (λ a. inr (⊎_elim (λ o. inl (or_right (tx_same tx x.tx) _ o)) (λ c. inr c) a)) l) g.items k.left;
         uncommitted = k.uncommitted;
         closed = k.closed;
         over = λ u o. ⊎_elim (λ e. inl (subst (λ z. has_durable_commit (facts_of s z) ≡ true) (tx_true tx u e) d)) (λ i. k.over u i) (or_cases (tx_same tx u) (tx_in u g.over) o);
@@ -439,25 +653,20 @@ add_over all g s tx h d =
         downwards = k.downwards;
         order = k.order;
         causes = k.causes;
-        recover = λ t p e. ⊎_elim (λ o. inl (o.0, o.1, neither (tx_same tx t) (tx_in t g.over) (tx_ne tx t (λ s2. both_ways _ o.0 (subst (λ z. committed_in s.local.log z ≡ true) s2 (durable_committed s.local.log s.durable tx d)))) o.2)) (λ x. inr x) (k.recover t p e);
+        recover = k.recover;
         front = k.front;
       };
-      told = λ u. ⊎_elim (λ l. inl (l.0, l.1, out (tx_same tx u) (tx_in u g.over) (tx_ne tx u (λ e. both_ways _ l.0 (subst (λ z. committed_in s.local.log z ≡ true) e (durable_committed s.local.log s.durable tx d)))) l.2)) (λ e. inr e) (h.told u);
+      told = h.told;
       undecided = h.undecided;
       readers = λ u q e f. or_right (tx_same tx u) _ (h.readers u q e f);
       apart = h.apart;
       unvoted = h.unvoted;
       read = h.read;
       asked = h.asked;
+      falls = falls_over s.run g.fell g.lost g.over s.local.parts s.local.pairs s.local.log s.durable tx (false_from_ne_true _ (λ l. both_ways _ (h.falls.open_ tx l) (durable_committed s.local.log s.durable tx d))) h.falls;
+      unfallen = h.unfallen;
+      order = h.order;
     }
-  where
-    neither : (a b : Bool) → a ≡ false → b ≡ false → (a || b) ≡ false
-    neither true b e f = e
-    neither false b e f = f
-
-    out : (a b : Bool) → a ≡ false → b ≡ false → (a || b) ≡ false
-    out true b e f = e
-    out false b e f = f
 
 lost : (all : List Item) (g : Past) (s : Shard) (tx : TxId) (e : Option ℕ) → Sound all g s → Keeps_reply all g s (Look tx) (look_lost s tx e)
 lost all g s tx None h = early
@@ -466,7 +675,7 @@ lost all g s tx (Some e) h = at_cond all g s (Look tx) (e == s.local.epoch) (Qui
 ruled : (all : List Item) (g : Past) (s : Shard) (tx : TxId) (r : RequestState) → Sound all g s → (r ≡ Finished → tx_in tx g.over ≡ true) → Keeps_reply all g s (Look tx) (look_state s r)
 ruled all g s tx Undecided h f = early
 ruled all g s tx (Committed ps) h f = early
-ruled all g s tx Finished h f = ends_told all g s s (Look tx) _ (refl, refl, refl) (g, h, refl, refl, refl, (λ u o. o), refl) (λ u n. ap (λ z. tx_in z g.over) (sym (some_tx tx u n)) ∙ f refl)
+ruled all g s tx Finished h f = ends_told all g s s (Look tx) _ (refl, refl, refl) (g, h, refl, refl, refl, (λ u o. o), refl, refl) (λ u n. ap (λ z. tx_in z g.over) (sym (some_tx tx u n)) ∙ f refl)
 ruled all g s tx (Refused c) h f = ends all g s s (Look tx) _ (refl, refl, refl) refl (at_once all g s h)
 
 known : (all : List Item) (g : Past) (s : Shard) (tx : TxId) (q : Option Request) → Sound all g s → tx_get tx s.requests ≡ q → Keeps_reply all g s (Look tx) (look_known s tx q)
@@ -477,7 +686,7 @@ looked : (all : List Item) (g : Past) (s : Shard) (tx : TxId) → Sound all g s 
 looked all g s tx h = at (has_durable_commit (facts_of s tx)) refl
   where
     at : (b : Bool) → has_durable_commit (facts_of s tx) ≡ b → Keeps_reply all g s (Look tx) (cond b (Does Acknowledged (finish s)) (look_known s tx (tx_get tx s.requests)))
-    at true d = ends_told all g s s (Look tx) Acknowledged (refl, refl, refl) (record g { over = tx ∷ g.over }, add_over all g s tx h d, refl, refl, refl, (λ u o. or_right (tx_same tx u) _ o), refl) (λ u n. or_left _ _ (tx_eq tx u (some_tx tx u n)))
+    at true d = ends_told all g s s (Look tx) Acknowledged (refl, refl, refl) (record g { over = tx ∷ g.over }, add_over all g s tx h d, refl, refl, refl, (λ u o. or_right (tx_same tx u) _ o), refl, refl) (λ u n. or_left _ _ (tx_eq tx u (some_tx tx u n)))
     at false d = known all g s tx (tx_get tx s.requests) h refl
 
 dropped : (all : List Item) (g : Past) (s : Shard) (tx : TxId) (o : Option Stage) → Sound all g s → (stage_of s.local tx ≡ Some Closed → committed_in s.local.log tx ≡ false) → Keeps_reply all g s (Drop tx) (drop_event s tx o)
@@ -486,7 +695,7 @@ dropped all g s tx (Some st) h n =
     let a = dies_if all g s tx (is_present (stage_of s.local tx)) h (open_ (stage_of s.local tx) refl) in
     let m = marked_sound all a.0 (record s { local = without_part tx s.local }) tx a.1 in
     ends all g s (with_local (drop_part tx) s) (Drop tx) _ (refl, refl, refl) refl
-    (a.0, record { kept = m.kept; told = m.told; undecided = m.undecided; readers = m.readers; apart = m.apart; unvoted = m.unvoted; read = m.read; asked = m.asked }, a.2, a.3, a.4, a.5, a.6)
+    (a.0, record { kept = m.kept; told = m.told; undecided = m.undecided; readers = m.readers; apart = m.apart; unvoted = m.unvoted; read = m.read; asked = m.asked; order = m.order; falls = m.falls; unfallen = m.unfallen }, a.2, a.3, a.4, a.5, a.6, a.7)
   where
     open_ : (o : Option Stage) → stage_of s.local tx ≡ o → is_present o ≡ true → committed_in s.local.log tx ≡ false
     open_ None e p = absurd (both_ways false refl p)
@@ -499,18 +708,18 @@ quietly all g s u e o same none h = ends all g s u e o same none (at_once all g 
 
 sent : (all : List Item) (g : Past) (s : Shard) (ms : List Message) → Sound all g s → Keeps_reply all g s Send (send_event s ms)
 sent all g s [] h = early
-sent all g s (m ∷ ms) h = quietly all g s (with_outbox ms s) Send _ (refl, refl, refl) refl (record { kept = h.kept; told = h.told; undecided = h.undecided; readers = h.readers; apart = h.apart; unvoted = h.unvoted; read = h.read; asked = h.asked })
+sent all g s (m ∷ ms) h = quietly all g s (with_outbox ms s) Send _ (refl, refl, refl) refl (record { kept = h.kept; told = h.told; undecided = h.undecided; readers = h.readers; apart = h.apart; unvoted = h.unvoted; read = h.read; asked = h.asked; order = h.order; falls = h.falls; unfallen = h.unfallen })
 
 reminded : (all : List Item) (g : Past) (s : Shard) (out ms : List Message) → Sound all g s → Keeps_reply all g s Remind (remind_with s out ms)
 reminded all g s [] [] h = early
-reminded all g s [] (m ∷ ms) h = quietly all g s (send (m ∷ ms) s) Remind _ (refl, refl, refl) refl (record { kept = h.kept; told = h.told; undecided = h.undecided; readers = h.readers; apart = h.apart; unvoted = h.unvoted; read = h.read; asked = h.asked })
+reminded all g s [] (m ∷ ms) h = quietly all g s (send (m ∷ ms) s) Remind _ (refl, refl, refl) refl (record { kept = h.kept; told = h.told; undecided = h.undecided; readers = h.readers; apart = h.apart; unvoted = h.unvoted; read = h.read; asked = h.asked; order = h.order; falls = h.falls; unfallen = h.unfallen })
 reminded all g s (o ∷ os) ms h = early
 
 flushed : (all : List Item) (g : Past) (s : Shard) (f : Option ℕ) (n : ℕ) → Sound all g s → Keeps_reply all g s FlushOut (out_event s f n)
 flushed all g s None zero h = early
 flushed all g s (Some m) zero h = early
 flushed all g s (Some m) (suc n) h = early
-flushed all g s None (suc n) h = quietly all g s (with_flight (s.durable + suc n) s) FlushOut _ (refl, refl, refl) refl (record { kept = keeps_flight g (view_of s) (s.durable + suc n) h.kept (omega arith); told = h.told; undecided = h.undecided; readers = h.readers; apart = h.apart; unvoted = h.unvoted; read = h.read; asked = h.asked })
+flushed all g s None (suc n) h = quietly all g s (with_flight (s.durable + suc n) s) FlushOut _ (refl, refl, refl) refl (record { kept = keeps_flight g (view_of s) (s.durable + suc n) h.kept (omega arith); told = h.told; undecided = h.undecided; readers = h.readers; apart = h.apart; unvoted = h.unvoted; read = h.read; asked = h.asked; order = h.order; falls = h.falls; unfallen = h.unfallen })
 
 -- ---- messages that come
 
@@ -524,6 +733,9 @@ owed all g s tx home seen h no_request open_ = record {
   unvoted = λ u v e. open_at u v (tx_same u tx) refl (sym (get_put tx u (asked_voter home seen (tx_get tx s.voters)) s.voters) ∙ e);
   read = λ u v e f. read_at u v (tx_same u tx) refl (sym (get_put tx u (asked_voter home seen (tx_get tx s.voters)) s.voters) ∙ e) f;
   asked = h.asked;
+  falls = h.falls;
+  unfallen = h.unfallen;
+  order = h.order;
 }
   where
     some_voter : (v w : Voter) → Some v ≡ Some w → v ≡ w
@@ -566,8 +778,8 @@ prepares all g s m stamp tx home seen (Some Active) h st asks none open_ =
     prepared false ps = refl
 
 -- a request with its ruling as it was
-same_ruling : (all : List Item) (g : Past) (s : Shard) (tx : TxId) (q w : Request) → Sound all g s → tx_get tx s.requests ≡ Some q → w.state ≡ q.state → (q.state ≡ Undecided → Open s.shard s.local.log tx w) → Sound all g (record s { requests = tx_set tx w s.requests })
-same_ruling all g s tx q w h e r open_ = record {
+same_ruling : (all : List Item) (g : Past) (s : Shard) (tx : TxId) (q w : Request) → Sound all g s → tx_get tx s.requests ≡ Some q → w.state ≡ q.state → w.is_ended ≡ q.is_ended → (q.state ≡ Undecided → Open s.shard s.local.log tx w) → Sound all g (record s { requests = tx_set tx w s.requests })
+same_ruling all g s tx q w h e r n open_ = record {
   kept = h.kept;
   told = h.told;
   undecided = λ u p f un. ⊎_elim (λ i. subst (λ z. Open s.shard s.local.log z p) (sym i.0) (subst (Open s.shard s.local.log tx) (sym i.1) (open_ (sym r ∙ ap (λ z. z.state) (sym i.1) ∙ un)))) (λ i. h.undecided u p i.1 un) (get_set tx u w p s.requests f);
@@ -576,6 +788,9 @@ same_ruling all g s tx q w h e r open_ = record {
   unvoted = h.unvoted;
   read = h.read;
   asked = h.asked;
+  falls = h.falls;
+  unfallen = λ u p f un here. ⊎_elim (λ i. ap (λ z. tx_in z g.fell) i.0 ∙ h.unfallen tx q e (sym r ∙ ap (λ z. z.state) (sym i.1) ∙ un) (ap is_present (ap (stage_of s.local) (sym i.0)) ∙ here)) (λ i. h.unfallen u p i.1 un here) (get_set tx u w p s.requests f);
+  order = order_set g.asked s tx w h.order (ruled_alike s.shard s.run s.local.log tx q w r n (h.order.rulings tx q e));
 }
 
 -- a vote is taken only of another shard
@@ -591,19 +806,19 @@ votes all g s m stamp tx from v None h e = early
 votes all g s m stamp tx from v (Some q) h e = at (takes_vote s.shard from q) refl
   where
     at : (b : Bool) → takes_vote s.shard from q ≡ b → Keeps_reply all g s (Deliver m stamp) (cond b (Does Taken (finish (with_votes tx from v q s))) (QuietBeforeWorn Stale))
-    at true t = quietly all g s (with_votes tx from v q s) (Deliver m stamp) Taken (refl, refl, refl) refl (same_ruling all g s tx q (with_vote_of from v q) h e refl (λ un. votes_open all g s tx from v q h e t un))
+    at true t = quietly all g s (with_votes tx from v q s) (Deliver m stamp) Taken (refl, refl, refl) refl (same_ruling all g s tx q (with_vote_of from v q) h e refl refl (λ un. votes_open all g s tx from v q h e t un))
     at false t = early
 
 dones : (all : List Item) (g : Past) (s : Shard) (m : Message) (stamp : ℕ) (tx : TxId) (from : ℕ) (o : Option Request) → Sound all g s → tx_get tx s.requests ≡ o → Keeps_reply all g s (Deliver m stamp) (on_done s tx from o)
 dones all g s m stamp tx from None h e = early
 dones all g s m stamp tx from (Some q) h e =
     at_cond all g s (Deliver m stamp) (takes_done from q) (Does Taken (finish (with_done tx from q s))) (QuietBeforeWorn Stale)
-    (quietly all g s (with_done tx from q s) (Deliver m stamp) Taken (refl, refl, refl) refl (same_ruling all g s tx q (with_done_of from q) h e refl (λ un. h.undecided tx q e un))) early
+    (quietly all g s (with_done tx from q s) (Deliver m stamp) Taken (refl, refl, refl) refl (same_ruling all g s tx q (with_done_of from q) h e refl refl (λ un. h.undecided tx q e un))) early
 
-commit_sound : (all : List Item) (g : Past) (s : Shard) (tx : TxId) → Sound all g s → stage_of s.local tx ≡ Some Closed → committed_in s.local.log tx ≡ false → predecessors_committed s.local tx ≡ true → wrote_in s.local.log tx ≡ true → ((q : Request) → tx_get tx s.requests ≡ Some q → q.state ≡ Undecided → ⊥) → Sound all g (decided s tx true)
-commit_sound all g s tx h closed open_ before w none = record {
+commit_sound : (all : List Item) (g : Past) (s : Shard) (tx : TxId) → Sound all g s → stage_of s.local tx ≡ Some Closed → committed_in s.local.log tx ≡ false → predecessors_committed s.local tx ≡ true → wrote_in s.local.log tx ≡ true → ((q : Request) → tx_get tx s.requests ≡ Some q → q.state ≡ Undecided → ⊥) → tx_in tx g.fell ≡ false → Sound all g (decided s tx true)
+commit_sound all g s tx h closed open_ before w none unfallen = record {
   kept = commit_here all g s tx [] h closed open_ (λ p e. list_all_at (committed_in s.local.log) p (predecessors_of s.local.pairs tx) before (pair_in s.local.pairs tx p e));
-  told = λ u. ⊎_elim (λ l. inl (commit_other s.local.log tx u [] l.0 (tx_ne u tx (λ e. both_ways _ l.1 (ap is_present (ap (stage_of s.local) e ∙ closed)))), l.1, l.2)) (λ e. inr e) (h.told u);
+  told = h.told;
   undecided = λ u q e un. ⊎_elim (λ c. inl (commit_other s.local.log tx u [] c (tx_ne u tx (λ same. none q (ap (λ z. tx_get z s.requests) (sym same) ∙ e) un)))) (λ c. inr c) (h.undecided u q e un);
   readers = h.readers;
   apart = h.apart;
@@ -611,30 +826,33 @@ commit_sound all g s tx h closed open_ before w none = record {
       commit_other s.local.log tx u [] (h.unvoted u v e y) (tx_ne u tx (λ same. both_ways _ y (ap (wrote_in s.local.log) same ∙ w)));
   read = h.read;
   asked = commit_asked all g s tx [] h closed;
+  falls = commit_falls all g s tx [] h closed (here_alive all g s tx h (ap is_present closed) unfallen (λ p e. list_all_at (committed_in s.local.log) p (predecessors_of s.local.pairs tx) before (pair_in s.local.pairs tx p e)));
+  unfallen = h.unfallen;
+  order = decision_commits g.asked s.shard s.run s.local.locks s.local.parts s.local.pairs s.local.log s.requests h.order tx closed open_ (λ p e. list_all_at (committed_in s.local.log) p (predecessors_of s.local.pairs tx) before (pair_in s.local.pairs tx p e)) w;
 }
 
-decides : (all : List Item) (g : Past) (s : Shard) (m : Message) (stamp : ℕ) (tx : TxId) (home : ℕ) (commit : Bool) → Sound all g s → (commit ≡ true → (predecessors_committed s.local tx ≡ true) × (wrote_in s.local.log tx ≡ true) × ((q : Request) → tx_get tx s.requests ≡ Some q → q.state ≡ Undecided → ⊥))
+decides : (all : List Item) (g : Past) (s : Shard) (m : Message) (stamp : ℕ) (tx : TxId) (home : ℕ) (commit : Bool) → Sound all g s → (commit ≡ true → (predecessors_committed s.local tx ≡ true) × (wrote_in s.local.log tx ≡ true) × ((q : Request) → tx_get tx s.requests ≡ Some q → q.state ≡ Undecided → ⊥) × (tx_in tx g.fell ≡ false))
     → Keeps_reply all g s (Deliver m stamp) (on_decide s tx home commit (taken_by (facts_of s tx) commit))
 decides all g s m stamp tx home commit h may = at (is_waiting (facts_of s tx)) (commit && has_durable_commit (facts_of s tx)) refl
   where
     decided_after : (c : Bool) → commit ≡ c → is_waiting (facts_of s tx) ≡ true → After all g (decided s tx c)
-    decided_after true e w = let x = waiting_here s tx w in let y = may e in at_once all g _ (commit_sound all g s tx h x.0 x.1 y.0 y.1 y.2)
+    decided_after true e w = let x = waiting_here s tx w in let y = may e in at_once all g _ (commit_sound all g s tx h x.0 x.1 y.0 y.1 y.2 y.3)
     decided_after false e w = rolled all g s tx h (waiting_here s tx w).1
 
     at : (b c : Bool) → is_waiting (facts_of s tx) ≡ b → Keeps_reply all g s (Deliver m stamp) (on_decide s tx home commit (taken_if b c))
     at true c w = ends all g s (decided s tx commit) (Deliver m stamp) Taken (refl, refl, refl) refl (decided_after commit refl w)
-    at false true w = quietly all g s (send (Done home tx s.shard ∷ []) s) (Deliver m stamp) Taken (refl, refl, refl) refl (record { kept = h.kept; told = h.told; undecided = h.undecided; readers = h.readers; apart = h.apart; unvoted = h.unvoted; read = h.read; asked = h.asked })
+    at false true w = quietly all g s (send (Done home tx s.shard ∷ []) s) (Deliver m stamp) Taken (refl, refl, refl) refl (record { kept = h.kept; told = h.told; undecided = h.undecided; readers = h.readers; apart = h.apart; unvoted = h.unvoted; read = h.read; asked = h.asked; order = h.order; falls = h.falls; unfallen = h.unfallen })
     at false false w = early
 
-message : (all : List Item) (g : Past) (s : Shard) (m : Message) (stamp : ℕ) → Sound all g s → MayDeliver g.asked s m → Keeps_reply all g s (Deliver m stamp) (on_message s m)
+message : (all : List Item) (g : Past) (s : Shard) (m : Message) (stamp : ℕ) → Sound all g s → MayDeliver g.asked g.fell s m → Keeps_reply all g s (Deliver m stamp) (on_message s m)
 message all g s (PrepareMessage to tx home seen) stamp h may = prepares all g s (PrepareMessage to tx home seen) stamp tx home seen (stage_of s.local tx) h refl may.0 may.1 may.2
 message all g s (VoteMessage to tx from vote) stamp h may = votes all g s (VoteMessage to tx from vote) stamp tx from vote (tx_get tx s.requests) h refl
 message all g s (Decide to tx home true) stamp h may = decides all g s (Decide to tx home true) stamp tx home true h (λ e. may)
 message all g s (Decide to tx home false) stamp h may = decides all g s (Decide to tx home false) stamp tx home false h (λ e. absurd (both_ways false refl e))
 message all g s (Done to tx from) stamp h may = dones all g s (Done to tx from) stamp tx from (tx_get tx s.requests) h refl
-message all g s (Ask to tx from) stamp h may = quietly all g s (send (ask_messages s tx from (ask_answer (tx_get tx s.requests) (facts_of s tx))) s) (Deliver (Ask to tx from) stamp) Taken (refl, refl, refl) refl (record { kept = h.kept; told = h.told; undecided = h.undecided; readers = h.readers; apart = h.apart; unvoted = h.unvoted; read = h.read; asked = h.asked })
+message all g s (Ask to tx from) stamp h may = quietly all g s (send (ask_messages s tx from (ask_answer (tx_get tx s.requests) (facts_of s tx))) s) (Deliver (Ask to tx from) stamp) Taken (refl, refl, refl) refl (record { kept = h.kept; told = h.told; undecided = h.undecided; readers = h.readers; apart = h.apart; unvoted = h.unvoted; read = h.read; asked = h.asked; order = h.order; falls = h.falls; unfallen = h.unfallen })
 
-up : (all : List Item) (g : Past) (s : Shard) (e : Event) → Sound all g s → MayHappen all g.asked g.met s e → Keeps_reply all g s e (happen_up s e)
+up : (all : List Item) (g : Past) (s : Shard) (e : Event) → Sound all g s → MayHappen all g.asked g.met g.fell s e → Keeps_reply all g s e (happen_up s e)
 up all g s (OpEvent tx birth nth seen op) h may = operation all g s tx birth nth seen op (seen_fits s.local.epoch seen) h may refl
 up all g s (RequestEvent tx touched) h may = request all g s tx touched (seen_fits s.local.epoch (epoch_in s.shard touched)) h may refl
 up all g s (Look tx) h may = looked all g s tx h
@@ -644,10 +862,10 @@ up all g s (Deliver m stamp) h may = at_cond all g s (Deliver m stamp) (to_of m 
 up all g s Remind h may = reminded all g s s.outbox (reminders s) h
 up all g s FlushOut h may = flushed all g s s.flight _ h
 up all g s FlushIn h may = early
-up all g s Stop h may = does (g, record { kept = h.kept; told = h.told; undecided = h.undecided; readers = h.readers; apart = h.apart; unvoted = h.unvoted; read = h.read; asked = h.asked }, refl, refl, refl, (λ u o. o), (λ u n. absurd (none_told u n)), refl)
+up all g s Stop h may = does (g, record { kept = h.kept; told = h.told; undecided = h.undecided; readers = h.readers; apart = h.apart; unvoted = h.unvoted; read = h.read; asked = h.asked; order = h.order; falls = h.falls; unfallen = h.unfallen }, refl, refl, refl, (λ u o. o), (λ u n. absurd (none_told u n)), refl, refl)
 up all g s RestartEvent h may = early
 
-all_events : (all : List Item) (g : Past) (s : Shard) (e : Event) (b : Bool) → Sound all g s → MayHappen all g.asked g.met s e → Keeps_reply all g s e (elim b [ true ↦ happen_up s e | false ↦ QuietBeforeWorn Down ])
+all_events : (all : List Item) (g : Past) (s : Shard) (e : Event) (b : Bool) → Sound all g s → MayHappen all g.asked g.met g.fell s e → Keeps_reply all g s e (elim b [ true ↦ happen_up s e | false ↦ QuietBeforeWorn Down ])
 all_events all g s e true h may = up all g s e h may
 all_events all g s e false h may = early
 
@@ -655,12 +873,15 @@ from_reply : (all : List Item) (g : Past) (s : Shard) (e : Event) (o : Outcome) 
 from_reply all g s e o t (does l) = l
 
 -- every event keeps it
-pub happen_sound : (all : List Item) (g : Past) (s : Shard) (e : Event) (o : Outcome) (t : Shard) → Sound all g s → MayHappen all g.asked g.met s e → happen s e ≡ Does o t → Later all g s e o t
+pub happen_sound : (all : List Item) (g : Past) (s : Shard) (e : Event) (o : Outcome) (t : Shard) → Sound all g s → MayHappen all g.asked g.met g.fell s e → happen s e ≡ Does o t → Later all g s e o t
 happen_sound all g s e o t h may eq = from_reply all g s e o t (subst (Keeps_reply all g s e) eq (all_events all g s e s.is_up h may))
+
+durable_further : (log : List LogRecord) (d e : ℕ) (tx : TxId) → d ≤ e → commit_durable log d tx ≡ true → commit_durable log e tx ≡ true
+durable_further log d e tx le h = let m = durable_parts log d tx h in let l = m.2 in durable_from log e tx m.0 m.1 (omega arith)
 
 -- and so does the end of a flush
 pub landed_sound : (all : List Item) (g : Past) (s : Shard) (n : ℕ) → Sound all g s → s.flight ≡ Some n → After all g (finish (with_durable n s))
-landed_sound all g s n h e = finish_sound all g (with_durable n s) (record { kept = keeps_front g (view_of s) n h.kept (h.kept.front n e); told = h.told; undecided = h.undecided; readers = h.readers; apart = h.apart; unvoted = h.unvoted; read = h.read; asked = h.asked })
+landed_sound all g s n h e = finish_sound all g (with_durable n s) (record { kept = keeps_front g (view_of s) n h.kept (h.kept.front n e); told = h.told; undecided = h.undecided; readers = h.readers; apart = h.apart; unvoted = h.unvoted; read = h.read; asked = h.asked; order = h.order; falls = falls_front s.run g.fell g.lost g.over s.local.parts s.local.pairs s.local.log s.durable n (h.kept.front n e) (λ t c. durable_further s.local.log s.durable n t (h.kept.front n e) c) h.falls; unfallen = h.unfallen })
 
 pub failed_sound : (all : List Item) (g : Past) (s : Shard) → Sound all g s → Sound all g (put_down s)
-failed_sound all g s h = record { kept = h.kept; told = h.told; undecided = h.undecided; readers = h.readers; apart = h.apart; unvoted = h.unvoted; read = h.read; asked = h.asked }
+failed_sound all g s h = record { kept = h.kept; told = h.told; undecided = h.undecided; readers = h.readers; apart = h.apart; unvoted = h.unvoted; read = h.read; asked = h.asked; order = h.order; falls = h.falls; unfallen = h.unfallen }

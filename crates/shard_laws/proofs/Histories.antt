@@ -1,5 +1,5 @@
 -- Each history of one shard keeps what a shard keeps, so its members are a serial run.
-use Rattle.std.proofs.Common.{◌≡◌, ℕ, ◌<◌, ⊎_elim, Bool, true, false, ◌||◌, List, [], ◌∷◌, ◌++◌, Option, Some, None, refl, sym, ap, subst, ◌∙◌}
+use Rattle.std.proofs.Common.{◌≡◌, ℕ, ◌<◌, ⊎_elim, Bool, true, false, ◌||◌, List, [], ◌∷◌, ◌++◌, Option, Some, None, refl, sym, ap, subst, ◌∙◌, inl, inr, map}
 use Rattle.std.proofs.lemmas.Bool.{both_ways, or_cases}
 use Rattle.std.proofs.lemmas.List.Folds.{list_any-append}
 use Rattle.clv_base.specs.declared.names.TxId.{TxId}
@@ -25,14 +25,21 @@ use Rattle.clv_base.specs.OneShard.{seen_fits}
 use Rattle.clv_base.specs.Restarts.{log_after_restart, revived}
 use Rattle.shard_laws.specs.OneShard.{with_one, asks_by_stage, new_asked, MayHappen, Leads, opens, happens, lands, others_ask, revives, new_told, members_of, ops_by, answers_by, AnswersAndMap, Recoverable, new_met}
 use Rattle.shard_laws.proofs.Sound.{Sound, After, More_over, at_once}
-use Rattle.shard_laws.proofs.Opening.{past_of, sound_opened}
+use Rattle.shard_laws.proofs.Opening.{past_of, sound_opened, opened_undoomed}
 use Rattle.shard_laws.proofs.Reviving.{revived_sound}
+use Rattle.shard_laws.specs.OneShard.{is_doomed, doomed_in, left_out}
+use Rattle.shard_laws.proofs.Falls.{Fell}
+use Rattle.shard_laws.proofs.Refalling.{stage_name}
+use Rattle.shard_laws.proofs.Leaving.{in_first, in_more, in_two, none_two}
+use Rattle.shard_laws.proofs.Dooming.{filter_in, in_filter}
+use Rattle.clv_base.specs.State.{is_present}
+use Rattle.std.proofs.lemmas.Bool.{false_from_ne_true}
 use Rattle.shard_laws.proofs.Happening.{happen_sound, landed_sound, failed_sound, others_asked}
 use Rattle.shard_laws.proofs.Serial.{Once}
 use Rattle.shard_laws.proofs.Members.{serial_run, recovered}
 
 noted : (all : List Item) (g : Past) (s : Shard) (stamp walker : ℕ) (e : Event) (o : Outcome) → Sound all g s → Sound all g (with_entry stamp walker e o s)
-noted all g s stamp walker e o h = record { kept = h.kept; told = h.told; undecided = h.undecided; readers = h.readers; apart = h.apart; unvoted = h.unvoted; read = h.read; asked = h.asked }
+noted all g s stamp walker e o h = record { kept = h.kept; told = h.told; undecided = h.undecided; readers = h.readers; apart = h.apart; unvoted = h.unvoted; read = h.read; asked = h.asked; order = h.order; falls = h.falls; unfallen = h.unfallen }
 
 -- ---- who asks, asks once
 
@@ -49,18 +56,18 @@ asks_active t u (Some Active) false e = absurd (none_tx u e)
 asks_active t u (Some Closed) b e = absurd (none_tx u e)
 asks_active t u (Some (Gone d)) b e = absurd (none_tx u e)
 
-asked_new : (all : List Item) (asked : List TxId) (met : List (TxId × TxId)) (s : Shard) (e : Event) (u : TxId) → MayHappen all asked met s e → new_asked s e ≡ Some u → tx_in u asked ≡ false
-asked_new all asked met s (OpEvent tx birth nth seen op) u may e = absurd (none_tx u e)
-asked_new all asked met s (RequestEvent tx touched) u may e = let a = asks_active tx u (stage_of s.local tx) (seen_fits s.local.epoch (epoch_in s.shard touched)) e in ap (λ z. tx_in z asked) (sym a.1) ∙ may.0
-asked_new all asked met s (Look tx) u may e = absurd (none_tx u e)
-asked_new all asked met s (Drop tx) u may e = absurd (none_tx u e)
-asked_new all asked met s Send u may e = absurd (none_tx u e)
-asked_new all asked met s (Deliver m stamp) u may e = absurd (none_tx u e)
-asked_new all asked met s Remind u may e = absurd (none_tx u e)
-asked_new all asked met s FlushOut u may e = absurd (none_tx u e)
-asked_new all asked met s FlushIn u may e = absurd (none_tx u e)
-asked_new all asked met s Stop u may e = absurd (none_tx u e)
-asked_new all asked met s RestartEvent u may e = absurd (none_tx u e)
+asked_new : (all : List Item) (asked : List TxId) (met : List (TxId × TxId)) (fell : List TxId) (s : Shard) (e : Event) (u : TxId) → MayHappen all asked met fell s e → new_asked s e ≡ Some u → tx_in u asked ≡ false
+asked_new all asked met fell s (OpEvent tx birth nth seen op) u may e = absurd (none_tx u e)
+asked_new all asked met fell s (RequestEvent tx touched) u may e = let a = asks_active tx u (stage_of s.local tx) (seen_fits s.local.epoch (epoch_in s.shard touched)) e in ap (λ z. tx_in z asked) (sym a.1) ∙ may.0
+asked_new all asked met fell s (Look tx) u may e = absurd (none_tx u e)
+asked_new all asked met fell s (Drop tx) u may e = absurd (none_tx u e)
+asked_new all asked met fell s Send u may e = absurd (none_tx u e)
+asked_new all asked met fell s (Deliver m stamp) u may e = absurd (none_tx u e)
+asked_new all asked met fell s Remind u may e = absurd (none_tx u e)
+asked_new all asked met fell s FlushOut u may e = absurd (none_tx u e)
+asked_new all asked met fell s FlushIn u may e = absurd (none_tx u e)
+asked_new all asked met fell s Stop u may e = absurd (none_tx u e)
+asked_new all asked met fell s RestartEvent u may e = absurd (none_tx u e)
 
 once_push : (as_ : List TxId) (t : TxId) → Once as_ → tx_in t as_ ≡ false → Once (as_ ++ t ∷ [])
 once_push [] t o e = (refl, tt)
@@ -106,46 +113,147 @@ told_more : (told : List TxId) (o : Option TxId) (g h : Past) → Over_all told 
 told_more told None g h a m n = λ t i. m t (a t i)
 told_more told (Some u) g h a m n = λ t i. ⊎_elim (λ j. m t (a t j)) (λ j. ⊎_elim (λ e. ap (λ z. tx_in z h.over) (sym (tx_true u t e)) ∙ n u refl) (λ e. absurd (both_ways false refl e)) (or_cases (tx_same u t) false j)) (or_cases (tx_in t told) _ (sym (list_any-append (λ x. tx_same x t) told (u ∷ [])) ∙ i))
 
-abbrev pub Holds : ℕ → ℕ → List LogRecord → List Item → List TxId → List TxId → List (TxId × TxId) → Shard → Type 0
-Holds shard run before all asked told met s =
-    (g : Past) × Sound all g s × (g.start ≡ stands (before ∷ [])) × (g.base ≡ standing (log_after_restart shard before run 0)) × (g.asked ≡ asked) × Once asked × Over_all told g × (g.met ≡ met)
+-- ---- who fell, between the steps
 
-pub held : (shard run : ℕ) (before : List LogRecord) (all : List Item) (asked told : List TxId) (met : List (TxId × TxId)) (s : Shard) → Leads shard run before all asked told met s → Holds shard run before all asked told met s
-held shard run log0 _ _ _ _ _ (opens may) = (past_of shard run log0, sound_opened shard run log0 may, refl, refl, refl, tt, (λ t i. absurd (both_ways false refl i)), refl)
-held shard run log0 _ _ _ _ _ (happens {all} {asked} {told} {met} {s} e o t stamp walker before may eq) =
-    let b = held shard run log0 all asked told met s before in
-    let later = happen_sound all b.0 s e o t b.1 (subst (λ l. MayHappen all l (b.0).met s e) (sym b.4) (subst (λ m. MayHappen all asked m s e) (sym b.7) may)) eq in (
-      later.0,
-      noted _ later.0 t stamp walker e o later.1,
+doomed_named : (t : Shard) (u : TxId) → is_doomed (stage_of t.local u) ≡ true → tx_in u (doomed_in t) ≡ true
+doomed_named t u d = filter_in (λ x. is_doomed (stage_of t.local x)) u (map (λ p. p.0) t.local.parts) (at (stage_of t.local u) refl d) d
+  where
+    at : (o : Option Stage) → stage_of t.local u ≡ o → is_doomed o ≡ true → tx_in u (map (λ p. p.0) t.local.parts) ≡ true
+    at None f d = absurd (both_ways false refl d)
+    at (Some st) f d = stage_name u t.local.parts st f
+
+pub named_doomed : (t : Shard) (u : TxId) → tx_in u (doomed_in t) ≡ true → is_doomed (stage_of t.local u) ≡ true
+named_doomed t u i = (in_filter (λ x. is_doomed (stage_of t.local x)) u (map (λ p. p.0) t.local.parts) i).1
+
+absent_doomed : (o : Option Stage) → is_doomed o ≡ true → is_present o ≡ true → ⊥
+absent_doomed None d p = both_ways false refl d
+absent_doomed (Some Active) d p = both_ways false refl d
+absent_doomed (Some Closed) d p = both_ways false refl d
+absent_doomed (Some (Gone x)) d p = both_ways false refl p
+
+-- at the end of a step those that an abort took away fell
+refell : (all : List Item) (g : Past) (t : Shard) → Sound all g t → Sound all (record g { fell = doomed_in t ++ g.fell }) t
+refell all g t h =
+    let k = h.kept in
+    let f = h.falls in
+    record {
+      kept = record {
+        start_rises = k.start_rises;
+        base_value = k.base_value;
+        base_chain = k.base_chain;
+        base_done = k.base_done;
+        runs = k.runs;
+        standing_is = k.standing_is;
+        rises = k.rises;
+        values = k.values;
+        logged = k.logged;
+        rows = k.rows;
+        covered = k.covered;
+        wrote = k.wrote;
+        known = k.known;
+        alive = k.alive;
+        left = k.left;
+        uncommitted = k.uncommitted;
+        closed = k.closed;
+        over = k.over;
+        dead = k.dead;
+        tidy = k.tidy;
+        prepared = k.prepared;
+        doomed = k.doomed;
+        successors = k.successors;
+        downwards = k.downwards;
+        order = k.order;
+        causes = k.causes;
+        recover = k.recover;
+        front = k.front;
+      };
+      told = h.told;
+      undecided = h.undecided;
+      readers = h.readers;
+      apart = h.apart;
+      unvoted = h.unvoted;
+      read = h.read;
+      asked = h.asked;
+      order = h.order;
+      falls = record {
+        fallen = λ u e. f.fallen u (⊎_elim (λ i. old u i) (λ d. inr d) e);
+        open_ = f.open_;
+        unfinished = f.unfinished;
+        why = λ u l. ⊎_elim (λ e. inl (now u e)) (λ q. inr q) (f.why u l);
+        up = f.up;
+        lists = f.lists;
+        back = λ u i here. ⊎_elim (λ j. f.back u j here) (λ d. absurd (absent_doomed (stage_of t.local u) d here)) (old u i);
+        gone = λ u p c n. ⊎_elim (λ e. inl (now u e)) (λ r. inr r) (f.gone u p c n);
+        away = f.away;
+        old = f.old;
+        settled = f.settled;
+        paired = f.paired;
+      };
+      unfallen = λ u q e un here. none_two (doomed_in t) g.fell u (false_from_ne_true _ (λ i. absent_doomed (stage_of t.local u) (named_doomed t u i) here)) (h.unfallen u q e un here);
+    }
+  where
+    old : (u : TxId) → tx_in u (doomed_in t ++ g.fell) ≡ true → Fell g.fell t.local.parts u
+    old u i = ⊎_elim (λ d. inr (named_doomed t u d)) (λ j. inl j) (in_two (doomed_in t) g.fell u i)
+
+    now : (u : TxId) → Fell g.fell t.local.parts u → Fell (doomed_in t ++ g.fell) t.local.parts u
+    now u (inl i) = inl (in_more (doomed_in t) g.fell u i)
+    now u (inr d) = inr d
+
+abbrev pub Holds : ℕ → ℕ → List LogRecord → List Item → List TxId → List TxId → List (TxId × TxId) → List TxId → Shard → Type 0
+Holds shard run before all asked told met fell s =
+    (g : Past) × Sound all g s × (g.start ≡ stands (before ∷ [])) × (g.base ≡ standing (log_after_restart shard before run 0)) × (g.asked ≡ asked) × Once asked × Over_all told g × (g.met ≡ met) × (g.fell ≡ fell) × ((u : TxId) → is_doomed (stage_of s.local u) ≡ true → tx_in u g.fell ≡ true)
+
+boundary : (t : Shard) (fell : List TxId) (u : TxId) → is_doomed (stage_of t.local u) ≡ true → tx_in u (doomed_in t ++ fell) ≡ true
+boundary t fell u d = in_first (doomed_in t) fell u (doomed_named t u d)
+
+pub held : (shard run : ℕ) (before : List LogRecord) (all : List Item) (asked told : List TxId) (met : List (TxId × TxId)) (fell : List TxId) (s : Shard) → Leads shard run before all asked told met fell s → Holds shard run before all asked told met fell s
+held shard run log0 _ _ _ _ _ _ (opens may) = (past_of shard run log0, sound_opened shard run log0 may, refl, refl, refl, tt, (λ t i. absurd (both_ways false refl i)), refl, refl, (λ u d. absurd (opened_undoomed shard run log0 u d)))
+held shard run log0 _ _ _ _ _ _ (happens {all} {asked} {told} {met} {fell} {s} e o t stamp walker before may eq) =
+    let b = held shard run log0 all asked told met fell s before in
+    let later = happen_sound all b.0 s e o t b.1 (subst (λ l. MayHappen all l (b.0).met (b.0).fell s e) (sym b.4) (subst (λ m. MayHappen all asked m (b.0).fell s e) (sym b.7) (subst (λ m. MayHappen all asked met m s e) (sym b.8) may))) eq in (
+      record later.0 { fell = doomed_in t ++ (later.0).fell },
+      noted _ (record later.0 { fell = doomed_in t ++ (later.0).fell }) t stamp walker e o (refell _ later.0 t later.1),
       later.2 ∙ b.2,
       later.3 ∙ b.3,
       later.4 ∙ ap (λ l. with_one l (new_asked s e)) b.4,
-      once_more asked (new_asked s e) b.5 (λ u n. asked_new all asked met s e u may n),
+      once_more asked (new_asked s e) b.5 (λ u n. asked_new all asked met fell s e u may n),
       told_more told (new_told e o) b.0 later.0 b.6 later.5 later.6,
       later.7 ∙ ap (λ l. new_met s e o ++ l) b.7,
+      ap (λ l. doomed_in t ++ l) (later.8 ∙ b.8),
+      boundary t (later.0).fell,
     )
-held shard run log0 _ _ _ _ _ (lands {all} {asked} {told} {met} {s} n pushed o t stamp walker before flies eq) =
-    let b = held shard run log0 all asked told met s before in
-    let later = from_landed all b.0 o t (subst (Landed all b.0) eq (landed_any all b.0 s n pushed b.1 flies)) in
-    (later.0, noted all later.0 t stamp walker FlushIn o later.1, later.2 ∙ b.2, later.3 ∙ b.3, later.4 ∙ b.4, b.5, (λ u i. later.5 u (b.6 u i)), later.6 ∙ b.7)
-held shard run log0 _ _ _ _ _ (others_ask {all} {asked} {told} {met} {s} t before new) =
-    let b = held shard run log0 all asked told met s before in
-    (record b.0 { asked = (b.0).asked ++ t ∷ [] }, others_asked all b.0 s t b.1, b.2, b.3, ap (λ l. l ++ t ∷ []) b.4, once_push asked t b.5 new, b.6, b.7)
-held shard run log0 _ _ _ _ _ (revives {all} {asked} {told} {met} {s} kept epoch log stamp walker before down homes leads) =
-    let b = held shard run log0 all asked told met s before in
-    let later = revived_sound all told b.0 s kept epoch log b.1 homes (subst Once (sym b.4) b.5) b.6 leads in
-    (later.0, noted all later.0 (revived s epoch log) stamp walker RestartEvent (Up epoch) later.1, later.2 ∙ b.2, later.3 ∙ b.3, later.4 ∙ b.4, b.5, later.5, later.6 ∙ b.7)
+held shard run log0 _ _ _ _ _ _ (lands {all} {asked} {told} {met} {fell} {s} n pushed o t stamp walker before flies eq) =
+    let b = held shard run log0 all asked told met fell s before in
+    let later = from_landed all b.0 o t (subst (Landed all b.0) eq (landed_any all b.0 s n pushed b.1 flies)) in (
+      record later.0 { fell = doomed_in t ++ (later.0).fell },
+      noted all (record later.0 { fell = doomed_in t ++ (later.0).fell }) t stamp walker FlushIn o (refell all later.0 t later.1),
+      later.2 ∙ b.2,
+      later.3 ∙ b.3,
+      later.4 ∙ b.4,
+      b.5,
+      (λ u i. later.5 u (b.6 u i)),
+      later.6 ∙ b.7,
+      ap (λ l. doomed_in t ++ l) (later.7 ∙ b.8),
+      boundary t (later.0).fell,
+    )
+held shard run log0 _ _ _ _ _ _ (others_ask {all} {asked} {told} {met} {fell} {s} t before new) =
+    let b = held shard run log0 all asked told met fell s before in
+    (record b.0 { asked = (b.0).asked ++ t ∷ [] }, others_asked all b.0 s t b.1, b.2, b.3, ap (λ l. l ++ t ∷ []) b.4, once_push asked t b.5 new, b.6, b.7, b.8, b.9)
+held shard run log0 _ _ _ _ _ _ (revives {all} {asked} {told} {met} {fell} {s} kept epoch log stamp walker before down leads) =
+    let b = held shard run log0 all asked told met fell s before in
+    let later = revived_sound all told b.0 s kept epoch log b.1 b.9 (subst Once (sym b.4) b.5) b.6 leads in
+    (later.0, noted all later.0 (revived s epoch log) stamp walker RestartEvent (Up epoch) later.1, later.2 ∙ b.2, later.3 ∙ b.3, later.4 ∙ b.4, b.5, later.5, later.6 ∙ b.7, later.7 ∙ ap (λ l. left_out s (revived s epoch log) ++ l) b.8, later.8)
 
 pub answers_and_map : AnswersAndMap
-answers_and_map shard run before all asked told met s cut leads le =
-    let b = held shard run before all asked told met s leads in
+answers_and_map shard run before all asked told met fell s cut leads le =
+    let b = held shard run before all asked told met fell s leads in
     let r = serial_run all b.0 s told cut b.1 le (subst Once (sym b.4) b.5) b.6 in (
       subst (λ l. replay_answers (stands (before ∷ [])) (ops_by (members_of s cut told l) all) ≡ answers_by (members_of s cut told l) all) b.4 (subst (λ m. replay_answers m (ops_by (members_of s cut told (b.0).asked) all) ≡ answers_by (members_of s cut told (b.0).asked) all) b.2 r.0),
       subst (λ l. replay_map (stands (before ∷ [])) (ops_by (members_of s cut told l) all) ≡ stands (take cut s.local.log ∷ [])) b.4 (subst (λ m. replay_map m (ops_by (members_of s cut told (b.0).asked) all) ≡ stands (take cut s.local.log ∷ [])) b.2 r.1),
     )
 
 pub recoverable : Recoverable
-recoverable shard run before all asked told met s cut t p leads le e member =
-    let b = held shard run before all asked told met s leads in
+recoverable shard run before all asked told met fell s cut t p leads le e member =
+    let b = held shard run before all asked told met fell s leads in
     let r = recovered all b.0 s told cut b.1 le (subst Once (sym b.4) b.5) b.6 t p (subst (λ m. is_pair m t p ≡ true) (sym b.7) e) member in
     (r.0, subst (λ l. place (members_of s cut told l) p < place (members_of s cut told l) t) b.4 r.1)

@@ -1,6 +1,6 @@
 -- What one shard keeps.
-use Rattle.std.proofs.Common.{◌≡◌, ℕ, ◌≤◌, ◌<◌, ◌⊎◌, Bool, true, false, List, [], Option, Some, None}
-use Rattle.std.specs.List.{AllByRecursion}
+use Rattle.std.proofs.Common.{◌≡◌, ℕ, ◌≤◌, ◌<◌, ◌⊎◌, Bool, true, false, not, List, [], Option, Some, None}
+use Rattle.std.specs.List.{AllByRecursion, filter}
 use Rattle.clv_base.specs.declared.names.TxId.{TxId}
 use Rattle.clv_base.specs.declared.names.Birth.{Birth}
 use Rattle.clv_base.specs.declared.logs.LogRecord.{LogRecord}
@@ -53,6 +53,9 @@ pub record Past : Type 0 where
   pub over : List TxId
   -- transactions with those whose writes they violated
   pub met : List (TxId × TxId)
+  -- who fell before this step; and who is lost: who fell, or depends on one that is lost
+  pub fell : List TxId
+  pub lost : List TxId
 
 -- a lock is that of a part which is there, with its birth, and closed as it is
 abbrev pub StageFits : Bool → Stage → Type 0
@@ -69,9 +72,9 @@ Belongs parts tx birth closed = (h : Held) × (tx_get tx parts ≡ Some h) × (h
 abbrev pub Covers : View → Item → Type 0
 Covers v y = ((k : ℕ) → meets y k ≡ true → holds_at S v.locks v.records y.tx k ≡ true) × ((k : ℕ) → writes y k ≡ true → holds_at X v.locks v.records y.tx k ≡ true)
 
--- who wrote a key and whose COMMIT is not durable holds it, and a record stands there
-abbrev pub Wrote : View → Item → Type 0
-Wrote v x = commit_durable v.log v.durable x.tx ≡ false → (k : ℕ) → writes x k ≡ true → (holds true X (At k) x.tx v.locks ≡ true) × (record_at k v.records ≡ None → ⊥)
+-- who wrote and whose COMMIT is not durable holds the key, and a record stands there
+abbrev pub Wrote : View → StandingUpdate → Type 0
+Wrote v w = commit_durable v.log v.durable w.tx ≡ false → (holds true X (At w.key) w.tx v.locks ≡ true) × (record_at w.key v.records ≡ None → ⊥)
 
 -- what a transaction has met: its own writes, those of a predecessor, or of one that was committed before
 abbrev pub Dep : View → TxId → TxId → Type 0
@@ -89,7 +92,18 @@ Ended g v t = (commit_durable v.log v.durable t ≡ true) ⊎ Read_only g v t
 
 -- it is neither committed nor finished, and never will be
 abbrev pub Out : Past → View → TxId → Type 0
-Out g v t = (committed_in v.log t ≡ false) × (is_present (stage_in v.parts t) ≡ false) × (tx_in t g.over ≡ false)
+Out g v t = (tx_in t g.lost ≡ true) × (stage_in v.parts t ≡ Some Active → ⊥)
+
+-- who did something is here, or has ended
+abbrev pub Left : Past → View → TxId → Type 0
+Left g v t = (is_present (stage_in v.parts t) ≡ true) ⊎ ((tx_in t g.over ≡ true) ⊎ (commit_durable v.log v.durable t ≡ true))
+
+-- the writes of those that pass
+abbrev pub of_kept : (TxId → Bool) → StandingUpdate → Bool
+of_kept keep w = keep w.tx
+
+abbrev pub is_alive : List TxId → TxId → Bool
+is_alive lost t = not (tx_in t lost)
 
 pub record Kept (g : Past) (v : View) : Type 0 where
   -- the past
@@ -99,16 +113,18 @@ pub record Kept (g : Past) (v : View) : Type 0 where
   pub base_done : AllByRecursion (λ w. commit_durable v.log v.durable w.tx ≡ true) g.base
   pub runs : Runs g.start g.items
   -- log and records
-  pub standing_is : standing v.log ≡ pile g.items g.base
+  pub standing_is : filter (of_kept (is_alive g.lost)) (standing v.log) ≡ pile g.items g.base
   pub rises : Rising v.records
   pub values : (k : ℕ) → value_at k v.records ≡ top_value k (standing v.log)
   pub logged : AllByRecursion (λ x. (k : ℕ) → writes x k ≡ true → wrote_in v.log x.tx ≡ true) g.items
   -- locks
   pub rows : Rows (Belongs v.parts) v.locks
   pub covered : AllByRecursion (λ y. stage_in v.parts y.tx ≡ Some Active → Covers v y) g.items
-  pub wrote : AllByRecursion (Wrote v) g.items
+  pub wrote : AllByRecursion (Wrote v) (standing v.log)
   -- parts
   pub known : AllByRecursion (λ x. Known g v x.tx) g.items
+  pub alive : AllByRecursion (λ x. tx_in x.tx g.lost ≡ false) g.items
+  pub left : AllByRecursion (λ x. Left g v x.tx) g.items
   pub uncommitted : (t : TxId) → stage_in v.parts t ≡ Some Active → committed_in v.log t ≡ false
   pub closed : (t : TxId) → stage_in v.parts t ≡ Some Closed → tx_in t g.asked ≡ true
   pub over : (t : TxId) → tx_in t g.over ≡ true → Ended g v t

@@ -1,7 +1,8 @@
 -- A set of transactions leaves the shard: finished, or taken away with what it wrote.
-use Rattle.std.proofs.Common.{◌≡◌, ℕ, ◌⊎◌, inl, inr, ⊎_elim, Bool, true, false, cond, not, ◌||◌, List, [], ◌∷◌, ◌++◌, map, Option, Some, None, refl, sym, ap, subst, ◌∙◌, arith, append_assoc, eq-eqb}
+use Rattle.std.proofs.Common.{◌≡◌, ℕ, ◌⊎◌, inl, inr, ⊎_elim, Bool, true, false, cond, not, ◌||◌, List, [], ◌∷◌, ◌++◌, map, Option, Some, None, refl, sym, ap, subst, ◌∙◌, arith, append_assoc, eqb-true, ◌==◌}
 use Rattle.std.specs.List.{AllByRecursion, filter}
-use Rattle.std.proofs.lemmas.Bool.{cases_Bool, both_ways, cond_both, or_cases, not-true, false_from_ne_true}
+use Rattle.std.proofs.lemmas.Bool.{cases_Bool, both_ways, cond_both, cond-true, cond-false, or_cases, not-true, false_from_ne_true}
+use Rattle.std.proofs.lemmas.List.Folds.{list_any-append}
 use Rattle.clv_base.specs.declared.names.TxId.{TxId}
 use Rattle.clv_base.specs.declared.logs.LogRecord.{LogRecord}
 use Rattle.clv_base.specs.declared.logs.LogRecord.TheVariants.{Clr, Abort}
@@ -18,19 +19,21 @@ use Rattle.clv_base.specs.Undo.{gone_part, gone_in, pairs_without, records_witho
 use Rattle.clv_base.specs.State.{is_present}
 use Rattle.clv_base.specs.Needs.{Records, lower_anchor}
 use Rattle.law_base.proofs.Cells.{record_at}
-use Rattle.law_base.specs.Items.{Item, wrote, AllLater, Reaches, pile, on_top, is_write_at}
-use Rattle.clv_base.proofs.SameNames.{or_left, tx_true, tx_self, tx_ne}
+use Rattle.law_base.specs.Items.{Item, wrote, writes, AllLater, Reaches, pile, on_top, is_write_at}
+use Rattle.clv_base.proofs.SameNames.{or_left, or_right, tx_true, tx_self, tx_eq}
 use Rattle.law_base.proofs.Lists.{all_mono, all_both, all_filter, later_mono, later_filter}
-use Rattle.law_base.proofs.Running.{top_value, Keeps, kept_runs}
+use Rattle.law_base.proofs.Running.{top_value, after_of, Keeps, kept_runs}
+use Rattle.clv_base.specs.Logs.{newest_at}
 use Rattle.law_base.specs.Undone.{stays_of}
-use Rattle.law_base.proofs.Undoing.{Chain, keeps_of, standing_undone, values_undone, HaveRecords, Upward, record_undone, pile_filter, filter_all, chain_pile, upward_pile, clear_base, upward_base}
+use Rattle.law_base.proofs.Undoing.{Chain, keeps_of, standing_undone, values_undone, HaveRecords, Upward, record_undone, pile_filter, filter_all}
 use Rattle.law_base.proofs.Anchors.{rising_undone, anchor_undone}
 use Rattle.shard_laws.proofs.LockRows.{holds, Rows, rows_release, release_holds}
 use Rattle.shard_laws.proofs.Asking.{holds_at, holds_by}
 use Rattle.law_base.proofs.Tables.{stage_in, stage_by, is_pair, get_changed, without_pairs, pairs_stay}
 use Rattle.law_base.proofs.Commits.{commit_durable, before_keeps, before_first, durable_keeps, durable_committed, before_durable, committed_append, uncommitted_append, committed_from}
 use Rattle.shard_laws.proofs.Prepared.{unprepared_append, prepared_more, prepared_parts, prepared_kept}
-use Rattle.shard_laws.proofs.Kept.{View, Past, Belongs, Dep, Known, Kept, Ended}
+use Rattle.shard_laws.proofs.Kept.{View, Past, Belongs, Dep, Known, Kept, Ended, Wrote, Left, of_kept, is_alive}
+use Rattle.shard_laws.proofs.Restoring.{standing_updates, wrote_of}
 use Rattle.order_laws.specs.Order.{moves, Open_at, Tidy, undone_in}
 use Rattle.clv_base.specs.Undo.{value_before}
 use Rattle.law_base.proofs.Undoing.{reset}
@@ -146,8 +149,10 @@ keeps_finish g v t k closed done = record {
       let a = active_back (t ∷ []) None y.tx v.parts active in
       let c = h a.1 in
       (λ q m. holds_go (t ∷ []) v.locks v.records S y.tx q a.0 (c.0 q m), λ q m. holds_go (t ∷ []) v.locks v.records X y.tx q a.0 (c.1 q m))) g.items k.covered;
-  wrote = all_mono _ _ (λ x h out q w. let c = h.0 out q w in (release_holds (t ∷ []) true X (At q) x.tx v.locks (not_own x (h.1 q w) out) c.0, c.1)) g.items (all_both _ _ g.items k.wrote k.logged);
+  wrote = all_mono _ _ (λ w h out. let c = h.0 out in (release_holds (t ∷ []) true X (At w.key) w.tx v.locks (not_own w.tx (wrote_of v.log w.tx w.key h.1) out) c.0, c.1)) (standing v.log) (all_both _ _ (standing v.log) k.wrote (standing_updates v.log));
   known = all_mono _ _ (λ x h. still_known x.tx h) g.items k.known;
+  alive = k.alive;
+  left = all_mono _ _ (λ x l. ⊎_elim (λ a. still_left x.tx a) (λ a. inr (⊎_elim (λ o. inl (or_right (tx_same t x.tx) _ o)) (λ d. inr d) a)) l) g.items k.left;
   uncommitted = λ u h. k.uncommitted u (active_back (t ∷ []) None u v.parts h).1;
   closed = λ u h. k.closed u (closed_back (t ∷ []) None u v.parts h);
   over = λ u h. ⊎_elim (λ e. own_ended u (sym (tx_true t u e))) (λ i. still_ended u (k.over u i)) (or_cases (tx_same t u) (tx_in u g.over) h);
@@ -159,17 +164,13 @@ keeps_finish g v t k closed done = record {
   downwards = λ u p h c. k.downwards u p (without_pairs (t ∷ []) v.pairs u p h).0 c;
   order = k.order;
   causes = later_mono _ _ (λ x y h r. ⊎_elim (λ s. inl s) (λ d. inr (still_dep y.tx x.tx d)) (h r)) g.items k.causes;
-  recover = λ u p e. ⊎_elim (λ o. inl (o.0, absent u o.1, neither (tx_same t u) (tx_in u g.over) (tx_ne t u (λ s. both_ways _ o.1 (ap is_present (ap (stage_in v.parts) (sym s) ∙ closed)))) o.2)) (λ d. inr (still_dep u p d.0, d.1)) (k.recover u p e);
+  recover = λ u p e. ⊎_elim (λ o. inl (o.0, λ a. o.1 (active_back (t ∷ []) None u v.parts a).1)) (λ d. inr (still_dep u p d.0, d.1)) (k.recover u p e);
   front = k.front;
 }
   where
-    not_own : (x : Item) → wrote_in v.log x.tx ≡ true → commit_durable v.log v.durable x.tx ≡ false → tx_in x.tx (t ∷ []) ≡ false
-    not_own x wrote out = false_from_ne_true _ (λ i. let same = one_in t x.tx i in
+    not_own : (u : TxId) → wrote_in v.log u ≡ true → commit_durable v.log v.durable u ≡ false → tx_in u (t ∷ []) ≡ false
+    not_own u wrote out = false_from_ne_true _ (λ i. let same = one_in t u i in
         ⊎_elim (λ d. both_ways _ out (subst (λ z. commit_durable v.log v.durable z ≡ true) (sym same) d)) (λ d. both_ways _ d.1 (subst (λ z. wrote_in v.log z ≡ true) same wrote)) done)
-
-    neither : (a b : Bool) → a ≡ false → b ≡ false → (a || b) ≡ false
-    neither true b e f = e
-    neither false b e f = f
 
     gone_absent : (o : Option Stage) → is_present (gone_by None o) ≡ false
     gone_absent None = refl
@@ -177,6 +178,9 @@ keeps_finish g v t k closed done = record {
 
     absent : (u : TxId) → is_present (stage_in v.parts u) ≡ false → is_present (stage_in (gone_in (t ∷ []) None v.parts) u) ≡ false
     absent u e = ⊎_elim (λ i. ap is_present (stage_own (t ∷ []) None u v.parts i) ∙ gone_absent (stage_in v.parts u)) (λ i. ap is_present (stage_other (t ∷ []) None u v.parts i) ∙ e) (cases_Bool (tx_in u (t ∷ [])))
+
+    still_left : (u : TxId) → is_present (stage_in v.parts u) ≡ true → Left (record g { over = t ∷ g.over }) (record v { locks = release (t ∷ []) v.locks; parts = gone_in (t ∷ []) None v.parts; pairs = pairs_without (t ∷ []) v.pairs }) u
+    still_left u a = ⊎_elim (λ i. inr (inl (or_left _ _ (tx_eq t u (sym (one_in t u i)))))) (λ i. inl (ap is_present (stage_other (t ∷ []) None u v.parts i) ∙ a)) (cases_Bool (tx_in u (t ∷ [])))
 
     own_ended : (u : TxId) → u ≡ t → Ended (record g { over = t ∷ g.over }) (record v { locks = release (t ∷ []) v.locks; parts = gone_in (t ∷ []) None v.parts; pairs = pairs_without (t ∷ []) v.pairs }) u
     own_ended u same = subst (Ended (record g { over = t ∷ g.over }) (record v { locks = release (t ∷ []) v.locks; parts = gone_in (t ∷ []) None v.parts; pairs = pairs_without (t ∷ []) v.pairs })) (sym same)
@@ -259,7 +263,7 @@ no_prepare_clrs : (set : List TxId) (t : TxId) (ws : List StandingUpdate) → pr
 no_prepare_clrs set t [] = refl
 no_prepare_clrs set t (w ∷ ws) = cond_both (tx_in w.tx set) (Clr w.tx (newest_lsn w.tx ws) w.key w.before ∷ clrs_of set ws) (clrs_of set ws) (λ l. prepared_in l t ≡ false) (λ e. no_prepare_clrs set t ws) (λ e. no_prepare_clrs set t ws)
 
-no_prepares : (set : List TxId) (t : TxId) (log : List LogRecord) → prepared_in (aborts_of log set ++ clrs_of set (standing log)) t ≡ false
+pub no_prepares : (set : List TxId) (t : TxId) (log : List LogRecord) → prepared_in (aborts_of log set ++ clrs_of set (standing log)) t ≡ false
 no_prepares set t log = unprepared_append (aborts_of log set) (clrs_of set (standing log)) t (no_prepare_aborts t (filter (wrote_in log) set)) (no_prepare_clrs set t (standing log))
 
 pub no_undo_aborts : (t : TxId) (ts : List TxId) → undone_in (map (λ u. Abort u) ts) t ≡ false
@@ -317,6 +321,106 @@ pile_all P (x ∷ xs) ws all base = pile_all P xs (on_top x.tx x.lsn (wrote x) w
     at None e = base
     at (Some w) e = (all.0 w e, base)
 
+-- each write of the items stands in the pile
+pub pile_each : (P : StandingUpdate → Type 0) (xs : List Item) (ws : List StandingUpdate) → AllByRecursion P (pile xs ws) → AllByRecursion (λ x. (w : ℕ × Option ℕ × Option ℕ) → wrote x ≡ Some w → P (record { lsn = x.lsn; tx = x.tx; key = w.0; before = w.1; after = w.2 })) xs
+pile_each P [] ws all = tt
+pile_each P (x ∷ xs) ws all = (λ w e. first x.tx x.lsn w (wrote x) e (pile_base P xs (on_top x.tx x.lsn (wrote x) ws) all), pile_each P xs (on_top x.tx x.lsn (wrote x) ws) all)
+  where
+    pile_base : (P : StandingUpdate → Type 0) (xs : List Item) (ws : List StandingUpdate) → AllByRecursion P (pile xs ws) → AllByRecursion P ws
+    pile_base P [] ws all = all
+    pile_base P (x ∷ xs) ws all = rest x.tx x.lsn (wrote x) (pile_base P xs (on_top x.tx x.lsn (wrote x) ws) all)
+      where
+        rest : (tx : TxId) (lsn : ℕ) (o : Option (ℕ × Option ℕ × Option ℕ)) → AllByRecursion P (on_top tx lsn o ws) → AllByRecursion P ws
+        rest tx lsn None a = a
+        rest tx lsn (Some w) a = a.1
+
+    first : (tx : TxId) (lsn : ℕ) (w : ℕ × Option ℕ × Option ℕ) (o : Option (ℕ × Option ℕ × Option ℕ)) → o ≡ Some w → AllByRecursion P (on_top tx lsn o ws) → P (record { lsn = lsn; tx = tx; key = w.0; before = w.1; after = w.2 })
+    first tx lsn w None e a = absurd cc
+    first tx lsn w (Some v) e a = subst (λ z. P (record { lsn = lsn; tx = tx; key = z.0; before = z.1; after = z.2 })) (same v w e) a.0
+      where
+        same : (v w : ℕ × Option ℕ × Option ℕ) → Some v ≡ Some w → v ≡ w
+        same v w e = cc
+
+pub write_some : (o : Option (ℕ × Option ℕ × Option ℕ)) (k : ℕ) → is_write_at o k ≡ true → (w : ℕ × Option ℕ × Option ℕ) × (o ≡ Some w)
+write_some None k e = absurd (both_ways false refl e)
+write_some (Some w) k e = (w, refl)
+
+-- an item's write holds its key
+pub item_wrote : (g : Past) (v : View) → Kept g v → AllByRecursion (λ x. commit_durable v.log v.durable x.tx ≡ false → (q : ℕ) → writes x q ≡ true → (holds true X (At q) x.tx v.locks ≡ true) × (record_at q v.records ≡ None → ⊥)) g.items
+item_wrote g v k =
+    all_mono _ _ (λ x h out q e.
+    let w = write_some (wrote x) q e in
+    subst (λ z. (holds true X (At z) x.tx v.locks ≡ true) × (record_at z v.records ≡ None → ⊥)) (sym (eqb-true q w.0.0 (ap (λ o. is_write_at o q) (sym w.1) ∙ e))) (h w.0 w.1 out)) g.items
+    (pile_each (Wrote v) g.items g.base (subst (AllByRecursion (Wrote v)) k.standing_is (all_kept (Wrote v) (is_alive g.lost) (standing v.log) k.wrote)))
+  where
+    all_kept : (P : StandingUpdate → Type 0) (f : TxId → Bool) (ws : List StandingUpdate) → AllByRecursion P ws → AllByRecursion P (filter (of_kept f) ws)
+    all_kept P f [] a = tt
+    all_kept P f (w ∷ ws) a = cond_both (f w.tx) (w ∷ filter (of_kept f) ws) (filter (of_kept f) ws) (AllByRecursion P) (λ e. (a.0, all_kept P f ws a.1)) (λ e. all_kept P f ws a.1)
+
+-- where all writes of a key are of those that pass, its newest is among them
+pub top_alive : (f : TxId → Bool) (q : ℕ) (ws : List StandingUpdate) → AllByRecursion (λ w. w.key ≡ q → f w.tx ≡ true) ws → top_value q (filter (of_kept f) ws) ≡ top_value q ws
+top_alive f q [] a = refl
+top_alive f q (w ∷ ws) a = at (q == w.key) (f w.tx) refl refl (top_alive f q ws a.1)
+  where
+    at : (b c : Bool) → (q == w.key) ≡ b → f w.tx ≡ c → top_value q (filter (of_kept f) ws) ≡ top_value q ws → top_value q (cond c (w ∷ filter (of_kept f) ws) (filter (of_kept f) ws)) ≡ top_value q (w ∷ ws)
+    at true true e h ih = ap after_of (cond-true (q == w.key) (Some w) (newest_at q (filter (of_kept f) ws)) e ∙ sym (cond-true (q == w.key) (Some w) (newest_at q ws) e))
+    at true false e h ih = absurd (both_ways _ h (a.0 (sym (eqb-true q w.key e))))
+    at false true e h ih = ap after_of (cond-false (q == w.key) (Some w) (newest_at q (filter (of_kept f) ws)) e) ∙ ih ∙ ap after_of (sym (cond-false (q == w.key) (Some w) (newest_at q ws) e))
+    at false false e h ih = ih ∙ ap after_of (sym (cond-false (q == w.key) (Some w) (newest_at q ws) e))
+
+-- the writes of those that pass, without a set's
+pub filter_less : (set lost : List TxId) (ws : List StandingUpdate) → filter (of_kept (is_alive (set ++ lost))) ws ≡ filter (stays_of set) (filter (of_kept (is_alive lost)) ws)
+filter_less set lost [] = refl
+filter_less set lost (w ∷ ws) = at (tx_in w.tx set) (tx_in w.tx lost) refl refl (filter_less set lost ws)
+  where
+    two : (b c : Bool) → tx_in w.tx set ≡ b → tx_in w.tx lost ≡ c → tx_in w.tx (set ++ lost) ≡ (b || c)
+    two b c e f = list_any-append (λ x. tx_same x w.tx) set lost ∙ ap (λ z. z || tx_in w.tx lost) e ∙ ap (λ z. b || z) f
+
+    skip : (b c : Bool) → tx_in w.tx set ≡ b → tx_in w.tx lost ≡ c → (b || c) ≡ true → filter (of_kept (is_alive (set ++ lost))) (w ∷ ws) ≡ filter (of_kept (is_alive (set ++ lost))) ws
+    skip b c e f t = cond-false (not (tx_in w.tx (set ++ lost))) (w ∷ filter (of_kept (is_alive (set ++ lost))) ws) (filter (of_kept (is_alive (set ++ lost))) ws) (ap not (two b c e f ∙ t))
+
+    at : (b c : Bool) → tx_in w.tx set ≡ b → tx_in w.tx lost ≡ c → filter (of_kept (is_alive (set ++ lost))) ws ≡ filter (stays_of set) (filter (of_kept (is_alive lost)) ws)
+        → filter (of_kept (is_alive (set ++ lost))) (w ∷ ws) ≡ filter (stays_of set) (cond (not c) (w ∷ filter (of_kept (is_alive lost)) ws) (filter (of_kept (is_alive lost)) ws))
+    at true true e f ih = skip true true e f refl ∙ ih
+    at true false e f ih = skip true false e f refl ∙ ih ∙ sym (cond-false (not (tx_in w.tx set)) (w ∷ filter (stays_of set) (filter (of_kept (is_alive lost)) ws)) (filter (stays_of set) (filter (of_kept (is_alive lost)) ws)) (ap not e))
+    at false true e f ih = skip false true e f refl ∙ ih
+    at false false e f ih =
+        cond-true (not (tx_in w.tx (set ++ lost))) (w ∷ filter (of_kept (is_alive (set ++ lost))) ws) (filter (of_kept (is_alive (set ++ lost))) ws) (ap not (two false false e f))
+        ∙ ap (λ l. w ∷ l) ih
+        ∙ sym (cond-true (not (tx_in w.tx set)) (w ∷ filter (stays_of set) (filter (of_kept (is_alive lost)) ws)) (filter (stays_of set) (filter (of_kept (is_alive lost)) ws)) (ap not e))
+
+-- ---- two sets
+
+pub in_first : (xs ys : List TxId) (t : TxId) → tx_in t xs ≡ true → tx_in t (xs ++ ys) ≡ true
+in_first xs ys t e = list_any-append (λ x. tx_same x t) xs ys ∙ or_left _ _ e
+
+pub in_more : (xs ys : List TxId) (t : TxId) → tx_in t ys ≡ true → tx_in t (xs ++ ys) ≡ true
+in_more xs ys t e = list_any-append (λ x. tx_same x t) xs ys ∙ or_right (tx_in t xs) _ e
+
+pub none_two : (xs ys : List TxId) (t : TxId) → tx_in t xs ≡ false → tx_in t ys ≡ false → tx_in t (xs ++ ys) ≡ false
+none_two xs ys t e f = list_any-append (λ x. tx_same x t) xs ys ∙ none_of_both (tx_in t xs) (tx_in t ys) e f
+
+pub in_two : (xs ys : List TxId) (t : TxId) → tx_in t (xs ++ ys) ≡ true → (tx_in t xs ≡ true) ⊎ (tx_in t ys ≡ true)
+in_two xs ys t e = or_cases (tx_in t xs) (tx_in t ys) (sym (list_any-append (λ x. tx_same x t) xs ys) ∙ e)
+
+-- the writes of neither
+pub filter_sets : (set lost : List TxId) (ws : List StandingUpdate) → filter (of_kept (is_alive (set ++ lost))) (filter (stays_of set) ws) ≡ filter (stays_of set) (filter (of_kept (is_alive lost)) ws)
+filter_sets set lost [] = refl
+filter_sets set lost (w ∷ ws) = at (tx_in w.tx set) (tx_in w.tx lost) refl refl (filter_sets set lost ws)
+  where
+    two : (b c : Bool) → tx_in w.tx set ≡ b → tx_in w.tx lost ≡ c → tx_in w.tx (set ++ lost) ≡ (b || c)
+    two b c e f = list_any-append (λ x. tx_same x w.tx) set lost ∙ ap (λ z. z || tx_in w.tx lost) e ∙ ap (λ z. b || z) f
+
+    at : (b c : Bool) → tx_in w.tx set ≡ b → tx_in w.tx lost ≡ c → filter (of_kept (is_alive (set ++ lost))) (filter (stays_of set) ws) ≡ filter (stays_of set) (filter (of_kept (is_alive lost)) ws)
+        → filter (of_kept (is_alive (set ++ lost))) (cond (not b) (w ∷ filter (stays_of set) ws) (filter (stays_of set) ws)) ≡ filter (stays_of set) (cond (not c) (w ∷ filter (of_kept (is_alive lost)) ws) (filter (of_kept (is_alive lost)) ws))
+    at true true e f ih = ih
+    at true false e f ih = ih ∙ sym (cond-false (not (tx_in w.tx set)) (w ∷ filter (stays_of set) (filter (of_kept (is_alive lost)) ws)) (filter (stays_of set) (filter (of_kept (is_alive lost)) ws)) (ap not e))
+    at false true e f ih = cond-false (not (tx_in w.tx (set ++ lost))) (w ∷ filter (of_kept (is_alive (set ++ lost))) (filter (stays_of set) ws)) (filter (of_kept (is_alive (set ++ lost))) (filter (stays_of set) ws)) (ap not (two false true e f)) ∙ ih
+    at false false e f ih =
+        cond-true (not (tx_in w.tx (set ++ lost))) (w ∷ filter (of_kept (is_alive (set ++ lost))) (filter (stays_of set) ws)) (filter (of_kept (is_alive (set ++ lost))) (filter (stays_of set) ws)) (ap not (two false false e f))
+        ∙ ap (λ l. w ∷ l) ih
+        ∙ sym (cond-true (not (tx_in w.tx set)) (w ∷ filter (stays_of set) (filter (of_kept (is_alive lost)) ws)) (filter (stays_of set) (filter (of_kept (is_alive lost)) ws)) (ap not e))
+
 holds_undone : (set : List TxId) (ws : List StandingUpdate) (locks : Locks) (rs : Records) (p : Part) (u : TxId) (q : ℕ) → holds_at p locks rs u q ≡ true → holds_at p locks (records_without set ws rs) u q ≡ true
 holds_undone set ws locks rs p u q h =
     subst (λ o. holds_by p locks (records_without set ws rs) u q o ≡ true) (sym (record_undone set ws rs q)) (at (record_at q rs) h)
@@ -333,7 +437,7 @@ gone_gone : (d : TxId) (o : Option Stage) → gone_by (Some d) o ≡ Some (Gone 
 gone_gone d None e = absurd cc
 gone_gone d (Some s) e = absurd cc
 
-module _ (g : Past) (v : View) (set : List TxId) (d : TxId) (k : Kept g v) (may : MayGo v set) where
+module _ (g : Past) (v : View) (set : List TxId) (d : TxId) (k : Kept g v) (may : MayGo v set) (chain_here : Chain (standing v.log)) (upward_here : Upward set (standing v.log)) where
   Taken : List LogRecord → View
   Taken log = record {
     records = records_without set (standing v.log) v.records;
@@ -365,16 +469,8 @@ module _ (g : Past) (v : View) (set : List TxId) (d : TxId) (k : Kept g v) (may 
   base_out : AllByRecursion (λ w. tx_in w.tx set ≡ false) g.base
   base_out = all_mono _ _ (λ w c. committed_out w.tx (durable_committed v.log v.durable w.tx c)) g.base k.base_done
 
-  chain_here : Chain (standing v.log)
-  chain_here = subst Chain (sym k.standing_is) (chain_pile g.items g.start g.base k.runs k.base_value k.base_chain)
-
-  upward_here : Upward set (standing v.log)
-  upward_here = subst (Upward set) (sym k.standing_is) (upward_pile set g.items g.base keeps_all (clear_base set g.items g.base base_out) (upward_base set g.base base_out))
-
   have_here : HaveRecords v.records set (standing v.log)
-  have_here = subst (HaveRecords v.records set) (sym k.standing_is) (pile_all (λ w. tx_in w.tx set ≡ true → record_at w.key v.records ≡ None → ⊥) g.items g.base
-      (all_mono _ _ (λ x h w e i. (h (false_from_ne_true _ (λ c. both_ways _ (may.undecided x.tx i) (durable_committed v.log v.durable x.tx c))) w.0 (ap (λ o. is_write_at o w.0) e ∙ eq-eqb w.0 w.0 refl)).1) g.items k.wrote)
-      (all_mono _ _ (λ w out i. absurd (both_ways _ out i)) g.base base_out))
+  have_here = all_mono _ _ (λ w h i. (h (false_from_ne_true _ (λ c. both_ways _ (may.undecided w.tx i) (durable_committed v.log v.durable w.tx c)))).1) (standing v.log) k.wrote
 
   more : List LogRecord
   more = aborts_of v.log set ++ clrs_of set (standing v.log)
@@ -398,7 +494,7 @@ module _ (g : Past) (v : View) (set : List TxId) (d : TxId) (k : Kept g v) (may 
   absent : (u : TxId) → is_present (stage_in v.parts u) ≡ false → is_present (stage_in (gone_in set (Some d) v.parts) u) ≡ false
   absent u e = ⊎_elim (λ i. ap is_present (stage_own set (Some d) u v.parts i) ∙ gone_absent (Some d) (stage_in v.parts u)) (λ i. ap is_present (stage_other set (Some d) u v.parts i) ∙ e) (cases_Bool (tx_in u set))
 
-  taken_kept : Kept (record g { items = filter (keeps_of set) g.items }) (Taken (v.log ++ (aborts_of v.log set ++ clrs_of set (standing v.log))))
+  taken_kept : Kept (record g { items = filter (keeps_of set) g.items; lost = set ++ g.lost }) (Taken (v.log ++ (aborts_of v.log set ++ clrs_of set (standing v.log))))
   unfolding Taken
   taken_kept = record {
     start_rises = k.start_rises;
@@ -406,7 +502,7 @@ module _ (g : Past) (v : View) (set : List TxId) (d : TxId) (k : Kept g v) (may 
     base_chain = k.base_chain;
     base_done = all_mono _ _ (λ w c. still_durable w.tx c) g.base k.base_done;
     runs = kept_runs (keeps_of set) g.items g.start g.start k.start_rises k.start_rises k.runs keeps_all (λ q. inl refl);
-    standing_is = standing_more ∙ ap (filter (stays_of set)) k.standing_is ∙ pile_filter set g.items g.base ∙ ap (pile (filter (keeps_of set) g.items)) (filter_all set g.base base_out);
+    standing_is = ap (filter (of_kept (is_alive (set ++ g.lost)))) standing_more ∙ filter_sets set g.lost (standing v.log) ∙ ap (filter (stays_of set)) k.standing_is ∙ pile_filter set g.items g.base ∙ ap (pile (filter (keeps_of set) g.items)) (filter_all set g.base base_out);
     rises = rising_undone set (standing v.log) v.records k.rises;
     values = λ q. values_undone set (standing v.log) v.records q chain_here upward_here have_here (k.values q) ∙ ap (top_value q) (sym standing_more);
     logged = all_mono _ _ (λ x h q w. wrote_keeps v.log _ x.tx (h.0 q w)) (filter (keeps_of set) g.items) (all_filter _ (keeps_of set) g.items k.logged);
@@ -418,15 +514,18 @@ module _ (g : Past) (v : View) (set : List TxId) (d : TxId) (k : Kept g v) (may 
           λ q m. holds_undone set (standing v.log) (release set v.locks) v.records X y.tx q (holds_go set v.locks v.records X y.tx q a.0 (c.1 q m)),
         ))
         (filter (keeps_of set) g.items) (all_filter _ (keeps_of set) g.items k.covered);
-    wrote = all_mono _ _ (λ x h out q w.
-        let c = h.0 (false_from_ne_true _ (λ t. both_ways _ out (still_durable x.tx t))) q w in
-        (release_holds set true X (At q) x.tx v.locks (not-true _ h.1) c.0, λ none. c.1 (reset_none (value_before set q (standing v.log)) (record_at q v.records) (sym (record_undone set (standing v.log) v.records q) ∙ none))))
-        (filter (keeps_of set) g.items) (all_filter _ (keeps_of set) g.items k.wrote);
+    wrote = subst (AllByRecursion (Wrote (Taken (v.log ++ (aborts_of v.log set ++ clrs_of set (standing v.log)))))) (sym standing_more)
+        (all_mono _ _ (λ w h out.
+        let c = h.0 (false_from_ne_true _ (λ t. both_ways _ out (still_durable w.tx t))) in
+        (release_holds set true X (At w.key) w.tx v.locks (not-true _ h.1) c.0, λ none. c.1 (reset_none (value_before set w.key (standing v.log)) (record_at w.key v.records) (sym (record_undone set (standing v.log) v.records w.key) ∙ none))))
+        (filter (stays_of set) (standing v.log)) (all_filter _ (stays_of set) (standing v.log) k.wrote));
     known = all_mono _ _ (λ x h.
         let out : tx_in x.tx set ≡ false = not-true _ h.1 in
         ⊎_elim (λ a. inl (stage_other set (Some d) x.tx v.parts out ∙ a))
         (λ r. inr (r.0, λ a. r.1 (active_back set (Some d) x.tx v.parts a).1)) h.0)
         (filter (keeps_of set) g.items) (all_filter _ (keeps_of set) g.items k.known);
+    alive = all_mono _ _ (λ x h. none_two set g.lost x.tx (not-true _ h.1) h.0) (filter (keeps_of set) g.items) (all_filter _ (keeps_of set) g.items k.alive);
+    left = all_mono _ _ (λ x h. ⊎_elim (λ a. inl (ap is_present (stage_other set (Some d) x.tx v.parts (not-true _ h.1)) ∙ a)) (λ a. inr (⊎_elim (λ o. inl o) (λ c. inr (still_durable x.tx c)) a)) h.0) (filter (keeps_of set) g.items) (all_filter _ (keeps_of set) g.items k.left);
     uncommitted = λ u h. uncommitted_append v.log _ u (k.uncommitted u (active_back set (Some d) u v.parts h).1) (no_more u);
     closed = λ u h. k.closed u (closed_back set (Some d) u v.parts h);
     over = λ u h. ⊎_elim (λ c. inl c) (λ c. inr (c.0, c.1, absent u c.2, c.3)) (ended_more g v (aborts_of v.log set ++ clrs_of set (standing v.log)) u (λ a. no_more u) (no_writes set u v.log) (k.over u h));
@@ -448,21 +547,15 @@ module _ (g : Past) (v : View) (set : List TxId) (d : TxId) (k : Kept g v) (may 
         ⊎_elim (λ s. inl s) (λ dep. inr (⊎_elim (λ c. inl (still_durable x.tx c))
         (λ m. ⊎_elim (λ pair. inr (inl (pairs_stay set v.pairs y.tx x.tx (not-true _ h.2) pair))) (λ b. inr (inr (before_keeps v.log _ x.tx y.tx b))) m) dep)) (h.0 r))
         (filter (keeps_of set) g.items) (later_filter _ (keeps_of set) g.items k.causes);
-    recover = λ u p e. ⊎_elim (λ o. inl (uncommitted_append v.log _ u o.0 (no_more u), absent u o.1, o.2))
-        (λ dep. ⊎_elim
-        (λ i. inl (
-          uncommitted_append v.log _ u (may.undecided u i) (no_more u),
-          own_go set (Some d) u v.parts i,
-          false_from_ne_true _ (λ o.
-              ⊎_elim (λ c. both_ways _ (may.undecided u i) (durable_committed v.log v.durable u c)) (λ c. both_ways _ c.2 (may.present u i)) (k.over u o)),
-        ))
+    recover = λ u p e. ⊎_elim (λ o. inl (in_more set g.lost u o.0, λ a. o.1 (active_back set (Some d) u v.parts a).1))
+        (λ dep. ⊎_elim (λ i. inl (in_first set g.lost u i, λ a. both_ways _ (active_back set (Some d) u v.parts a).0 i))
         (λ i. inr (⊎_elim (λ c. inl (still_durable p c)) (λ m. ⊎_elim (λ pair. inr (inl (pairs_stay set v.pairs u p i pair))) (λ b. inr (inr (before_keeps v.log _ p u b))) m) dep.0, dep.1))
         (cases_Bool (tx_in u set)))
         (k.recover u p e);
     front = k.front;
   }
 
-  pub keeps_taken : Kept (record g { items = filter (keeps_of set) g.items }) (record {
+  pub keeps_taken : Kept (record g { items = filter (keeps_of set) g.items; lost = set ++ g.lost }) (record {
     records = records_without set (standing v.log) v.records;
     locks = release set v.locks;
     parts = gone_in set (Some d) v.parts;
@@ -472,4 +565,4 @@ module _ (g : Past) (v : View) (set : List TxId) (d : TxId) (k : Kept g v) (may 
     flight = v.flight;
   })
   unfolding Taken
-  keeps_taken = subst (λ log. Kept (record g { items = filter (keeps_of set) g.items }) (Taken log)) (sym (append_assoc v.log (aborts_of v.log set) (clrs_of set (standing v.log)))) taken_kept
+  keeps_taken = subst (λ log. Kept (record g { items = filter (keeps_of set) g.items; lost = set ++ g.lost }) (Taken log)) (sym (append_assoc v.log (aborts_of v.log set) (clrs_of set (standing v.log)))) taken_kept

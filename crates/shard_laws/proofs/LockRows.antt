@@ -38,7 +38,7 @@ then_equal Less b e = absurd cc
 then_equal Equal b e = (refl, ap is_eq e)
 then_equal Greater b e = absurd cc
 
-row_equal : (a : Anchor) (tx : TxId) (r : Anchor × Holder) → row_cmp a tx r ≡ Equal → (a ≡ r.0) × (tx ≡ (r.1).tx)
+pub row_equal : (a : Anchor) (tx : TxId) (r : Anchor × Holder) → row_cmp a tx r ≡ Equal → (a ≡ r.0) × (tx ≡ (r.1).tx)
 row_equal a tx r e = let p = then_equal (anchor_cmp a r.0) (tx_cmp tx (r.1).tx) e in (anchor_true a r.0 p.0, tx_true tx (r.1).tx p.1)
 
 -- ---- parts of modes

@@ -34,6 +34,8 @@ keeps_parts g v parts same own k = record {
   covered = all_mono _ _ (λ y h active. h (sym (same y.tx) ∙ active)) g.items k.covered;
   wrote = k.wrote;
   known = all_mono _ _ (λ x h. ⊎_elim (λ a. inl (same x.tx ∙ a)) (λ r. inr (r.0, λ a. r.1 (sym (same x.tx) ∙ a))) h) g.items k.known;
+  alive = k.alive;
+  left = all_mono _ _ (λ x l. ⊎_elim (λ a. inl (ap is_present (same x.tx) ∙ a)) (λ a. inr a) l) g.items k.left;
   uncommitted = λ t h. k.uncommitted t (sym (same t) ∙ h);
   closed = λ t h. k.closed t (sym (same t) ∙ h);
   over = λ t h. ⊎_elim (λ c. inl c) (λ c. inr (c.0, c.1, ap is_present (same t) ∙ c.2, c.3)) (k.over t h);
@@ -45,7 +47,7 @@ keeps_parts g v parts same own k = record {
   downwards = k.downwards;
   order = k.order;
   causes = k.causes;
-  recover = λ t p e. ⊎_elim (λ o. inl (o.0, ap is_present (same t) ∙ o.1, o.2)) (λ d. inr d) (k.recover t p e);
+  recover = λ t p e. ⊎_elim (λ o. inl (o.0, λ a. o.1 (sym (same t) ∙ a))) (λ d. inr d) (k.recover t p e);
   front = k.front;
 }
 
@@ -77,7 +79,7 @@ keeps_marked g v t k = keeps_parts g v (marked_in t v.parts) (λ u. stage_marked
 pub gone_stays : (t u : TxId) (parts : Table Held) → stage_in parts u ≡ Some (Gone None) → stage_in (gone_in (t ∷ []) None parts) u ≡ Some (Gone None)
 gone_stays t u parts r = ⊎_elim (λ i. stage_own (t ∷ []) None u parts i ∙ ap (gone_by None) r) (λ i. stage_other (t ∷ []) None u parts i ∙ r) (cases_Bool (tx_in u (t ∷ [])))
 
-same_again : (t : TxId) (parts : Table Held) → stage_in parts t ≡ Some (Gone None) → (u : TxId) → stage_in (gone_in (t ∷ []) None parts) u ≡ stage_in parts u
+pub same_again : (t : TxId) (parts : Table Held) → stage_in parts t ≡ Some (Gone None) → (u : TxId) → stage_in (gone_in (t ∷ []) None parts) u ≡ stage_in parts u
 same_again t parts gone u =
     ⊎_elim (λ i. let e = ap (stage_in parts) (one_in t u i) ∙ gone in gone_stays t u parts e ∙ sym e) (λ i. stage_other (t ∷ []) None u parts i) (cases_Bool (tx_in u (t ∷ [])))
 
@@ -107,7 +109,7 @@ release_none t parts (r ∷ rs) gone rows =
     cond-true (not (tx_in (r.1).tx (t ∷ []))) (r ∷ release (t ∷ []) rs) (release (t ∷ []) rs) (ap not (row_apart t parts (r.1).tx (r.1).birth (r.1).closed gone rows.0))
     ∙ ap (λ l. r ∷ l) (release_none t parts rs gone rows.1)
 
-pairs_none : (t : TxId) (parts : Table Held) (pairs : List (TxId × TxId)) → stage_in parts t ≡ Some (Gone None) → ((u p : TxId) → is_pair pairs u p ≡ true → is_present (stage_in parts u) ≡ true) → pairs_without (t ∷ []) pairs ≡ pairs
+pub pairs_none : (t : TxId) (parts : Table Held) (pairs : List (TxId × TxId)) → stage_in parts t ≡ Some (Gone None) → ((u p : TxId) → is_pair pairs u p ≡ true → is_present (stage_in parts u) ≡ true) → pairs_without (t ∷ []) pairs ≡ pairs
 pairs_none t parts [] gone h = refl
 pairs_none t parts (q ∷ qs) gone h =
     let apart : tx_in q.0 (t ∷ []) ≡ false = false_from_ne_true _ (λ i. both_ways false refl (sym (ap is_present (ap (stage_in parts) (one_in t q.0 i) ∙ gone)) ∙ h q.0 q.1 (own q))) in

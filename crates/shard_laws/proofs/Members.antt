@@ -1,10 +1,10 @@
 -- The members of a cut of a shard's log replay to their answers and to the map that it stands for.
-use Rattle.std.proofs.Common.{◌≡◌, ℕ, ◌≤◌, ◌<◌, ◌⊎◌, inl, inr, ⊎_elim, Bool, true, false, cond, ◌&&◌, ◌||◌, List, [], ◌∷◌, map, length, Option, Some, None, refl, sym, ap, subst, ◌∙◌, eq-eqb}
+use Rattle.std.proofs.Common.{◌≡◌, ℕ, ◌≤◌, ◌<◌, ◌⊎◌, inl, inr, ⊎_elim, Bool, true, false, cond, ◌&&◌, ◌||◌, List, [], ◌∷◌, map, length, Option, Some, None, refl, sym, ap, subst, ◌∙◌, eq-eqb, not}
 use Rattle.std.specs.List.{AllByRecursion, filter}
-use Rattle.std.proofs.lemmas.Bool.{cases_Bool, both_ways, cond-true, or_cases, and_from}
+use Rattle.std.proofs.lemmas.Bool.{cases_Bool, both_ways, cond-true, or_cases, and_from, cond-false, false_from_ne_true}
 use Rattle.clv_base.specs.declared.names.TxId.{TxId}
 use Rattle.clv_base.specs.Orders.{tx_same, tx_in}
-use Rattle.clv_base.specs.Logs.{StandingUpdate, committed_in, wrote_in}
+use Rattle.clv_base.specs.Logs.{StandingUpdate, committed_in, wrote_in, standing}
 use Rattle.clv_base.specs.State.{is_present}
 use Rattle.law_base.specs.Items.{Item, wrote, Runs, after, AllLater, Reaches, Clash, pile, on_top, is_write_at}
 use Rattle.clv_base.proofs.SameNames.{or_left, tx_true}
@@ -12,7 +12,7 @@ use Rattle.law_base.proofs.Lists.{all_mono, all_filter, later_mono, later_filter
 use Rattle.law_base.proofs.Running.{top_value, Keeps, kept_runs}
 use Rattle.law_base.proofs.Tables.{is_pair}
 use Rattle.law_base.proofs.Commits.{before_second, durable_committed, before_durable}
-use Rattle.shard_laws.proofs.Kept.{Past, place, Dep, Known, Ended}
+use Rattle.shard_laws.proofs.Kept.{Past, place, Dep, Known, Ended, is_alive}
 use Rattle.std.specs.Prelude.{take}
 use Rattle.clv_base.specs.Maps.{replay_map, replay_answers}
 use Rattle.clv_base.specs.Logs.{stands, fold_updates, committed_somewhere}
@@ -51,6 +51,26 @@ pile_keep f (x ∷ xs) ws =
 pub filter_all_kept : (f : TxId → Bool) (ws : List StandingUpdate) → AllByRecursion (λ w. f w.tx ≡ true) ws → filter (of_kept f) ws ≡ ws
 filter_all_kept f [] all = refl
 filter_all_kept f (w ∷ ws) all = cond-true (f w.tx) (w ∷ filter (of_kept f) ws) _ all.0 ∙ ap (λ l. w ∷ l) (filter_all_kept f ws all.1)
+
+-- the writes of those that pass, among those of more
+pub filter_within : (f h : TxId → Bool) (ws : List StandingUpdate) → ((t : TxId) → f t ≡ true → h t ≡ true) → filter (of_kept f) (filter (of_kept h) ws) ≡ filter (of_kept f) ws
+filter_within f h [] k = refl
+filter_within f h (w ∷ ws) k = at (h w.tx) (f w.tx) refl refl (filter_within f h ws k)
+  where
+    at : (b c : Bool) → h w.tx ≡ b → f w.tx ≡ c → filter (of_kept f) (filter (of_kept h) ws) ≡ filter (of_kept f) ws → filter (of_kept f) (cond b (w ∷ filter (of_kept h) ws) (filter (of_kept h) ws)) ≡ cond c (w ∷ filter (of_kept f) ws) (filter (of_kept f) ws)
+    at true true e q ih = cond-true (f w.tx) _ _ q ∙ ap (λ l. w ∷ l) ih
+    at true false e q ih = cond-false (f w.tx) _ _ q ∙ ih
+    at false true e q ih = absurd (both_ways _ e (k w.tx q))
+    at false false e q ih = ih
+
+-- those of both
+pub filter_and : (f e h : TxId → Bool) (ws : List StandingUpdate) → ((t : TxId) → h t ≡ true → e t ≡ f t) → filter (of_kept e) (filter (of_kept h) ws) ≡ filter (of_kept (λ t. h t && f t)) ws
+filter_and f e h [] k = refl
+filter_and f e h (w ∷ ws) k = at (h w.tx) refl (filter_and f e h ws k)
+  where
+    at : (b : Bool) → h w.tx ≡ b → filter (of_kept e) (filter (of_kept h) ws) ≡ filter (of_kept (λ t. h t && f t)) ws → filter (of_kept e) (cond b (w ∷ filter (of_kept h) ws) (filter (of_kept h) ws)) ≡ cond (b && f w.tx) (w ∷ filter (of_kept (λ t. h t && f t)) ws) (filter (of_kept (λ t. h t && f t)) ws)
+    at true q ih = ap (λ c. cond c (w ∷ filter (of_kept e) (filter (of_kept h) ws)) (filter (of_kept e) (filter (of_kept h) ws))) (k w.tx q) ∙ ap (λ l. cond (f w.tx) (w ∷ l) l) ih
+    at false q ih = ih
 
 pub filter_alike : (f h : TxId → Bool) (ws : List StandingUpdate) → AllByRecursion (λ w. f w.tx ≡ h w.tx) ws → filter (of_kept f) ws ≡ filter (of_kept h) ws
 filter_alike f h [] all = refl
@@ -116,7 +136,7 @@ module _ (all : List Item) (g : Past) (s : Shard) (told : List TxId) (cut : ℕ)
   pub recovered : (t p : TxId) → is_pair g.met t p ≡ true → is_member s cut told t ≡ true → (is_member s cut told p ≡ true) × (place ms p < place ms t)
   recovered t p met member =
       ⊎_elim
-      (λ o. absurd (⊎_elim (λ c. both_ways _ o.0 (cut_keeps cut s.local.log t c)) (λ f. both_ways _ o.2 (all_over t f)) (or_cases (committed_in (take cut s.local.log) t) (tx_in t told) member)))
+      (λ o. absurd (⊎_elim (λ c. both_ways _ (h.falls.open_ t o.0) (cut_keeps cut s.local.log t c)) (λ f. both_ways _ (h.falls.unfinished t o.0) (all_over t f)) (or_cases (committed_in (take cut s.local.log) t) (tx_in t told) member)))
       (λ d. let there : is_member s cut told p ≡ true = or_left _ _ (dep_cut t p d.0 member) in (there, filter_place (λ u. is_member s cut told u) g.asked p t there member d.1))
       (h.kept.recover t p met)
 
@@ -130,8 +150,8 @@ module _ (all : List Item) (g : Past) (s : Shard) (told : List TxId) (cut : ℕ)
   kept_in = all_mono _ _ (λ x k. in_kept (λ t. is_member s cut told t) g.asked x.tx (item_asked x.tx k.0 k.1) k.1) kept (all_filter _ (λ z. is_member s cut told z.tx) g.items h.kept.known)
 
   -- the members' operations are all that they were answered
-  not_lost : (t : TxId) → is_member s cut told t ≡ true → Lost g s t → ⊥
-  not_lost t e l = ⊎_elim (λ c. both_ways _ l.0 (cut_keeps cut s.local.log t c)) (λ f. both_ways _ l.2 (all_over t f)) (or_cases (committed_in (take cut s.local.log) t) (tx_in t told) e)
+  not_lost : (t : TxId) → is_member s cut told t ≡ true → Lost g t → ⊥
+  not_lost t e l = ⊎_elim (λ c. both_ways _ (h.falls.open_ t l) (cut_keeps cut s.local.log t c)) (λ f. both_ways _ (h.falls.unfinished t l) (all_over t f)) (or_cases (committed_in (take cut s.local.log) t) (tx_in t told) e)
 
   pub own_items : (t : TxId) → is_member s cut told t ≡ true → items_of t kept ≡ items_of t all
   own_items t e =
@@ -197,7 +217,8 @@ module _ (all : List Item) (g : Past) (s : Shard) (told : List TxId) (cut : ℕ)
       (λ q. pile_value kept g.start g.base q kept_run (h.kept.base_value q)
       ∙ ap (λ ws. top_value q (pile kept ws)) (sym (filter_all_kept (λ t. is_member s cut told t) g.base (all_mono _ _ (λ w c. or_left _ _ c) g.base cut_base)))
       ∙ ap (top_value q) (sym (pile_keep (λ t. is_member s cut told t) g.items g.base) ∙ filter_alike (λ t. is_member s cut told t) (committed_in (take cut s.local.log)) (pile g.items g.base) writers_alike
-      ∙ ap (filter (of_kept (committed_in (take cut s.local.log)))) (sym h.kept.standing_is))
+      ∙ ap (filter (of_kept (committed_in (take cut s.local.log)))) (sym h.kept.standing_is)
+      ∙ filter_within (committed_in (take cut s.local.log)) (is_alive g.lost) (standing s.local.log) (λ t c. ap not (false_from_ne_true _ (λ l. both_ways _ (h.falls.open_ t l) (cut_keeps cut s.local.log t c)))))
       ∙ sym (cut_values g (view_of s) cut q h.kept))
       ∙ sym (fold_alike (committed_somewhere (take cut s.local.log ∷ [])) (committed_in (take cut s.local.log)) (take cut s.local.log) [] somewhere)
 

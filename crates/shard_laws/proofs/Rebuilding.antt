@@ -7,7 +7,7 @@ use Rattle.clv_base.specs.declared.names.TxId.{TxId}
 use Rattle.clv_base.specs.declared.logs.LogRecord.{LogRecord}
 use Rattle.clv_base.specs.declared.logs.LogRecord.TheVariants.{Update, Clr, Prepare, Commit, Abort, End, Restart}
 use Rattle.clv_base.specs.Orders.{tx_same, tx_in}
-use Rattle.clv_base.specs.Logs.{StandingUpdate, standing, standing_from, without_newest, committed_in, prepared_in, wrote_in, aborted_in, is_update_of, is_commit_of, is_prepare_of, writers, in_doubt, is_winner}
+use Rattle.clv_base.specs.Logs.{StandingUpdate, standing, standing_from, without_newest, committed_in, prepared_in, wrote_in, aborted_in, is_update_of, is_commit_of, is_prepare_of, writers, in_doubt, is_winner, is_abort_of}
 use Rattle.clv_base.specs.Undo.{clrs_of, newest_lsn}
 use Rattle.clv_base.specs.State.{Shard}
 use Rattle.clv_base.specs.Restarts.{losers, restart_records, log_after_restart, next_epoch, FailedRestarts, untouched, failed_first, Restarts}
@@ -17,12 +17,14 @@ use Rattle.law_base.proofs.Undoing.{standing_append, standing_aborts, standing_c
 use Rattle.law_base.proofs.Commits.{committed_append}
 use Rattle.protocol_laws.proofs.Doubts.{Unlike, is_it, nobody, abort_unlike, clr_unlike, restart_unlike, doubts_more}
 use Rattle.order_laws.specs.Order.{moves, Open_at, Tidy, Sealed, is_clr_of, undone_in}
-use Rattle.shard_laws.proofs.Prepared.{IsListed, is_listed_more, prepared_append, sealed_more}
+use Rattle.shard_laws.proofs.Prepared.{IsListed, is_listed_more, prepared_append, sealed_more, listed_keeps}
 use Rattle.shard_laws.proofs.Changes.{undone_append, wrote_append, tidy_append}
 use Rattle.shard_laws.proofs.Dooming.{in_filter, filter_in}
 use Rattle.shard_laws.proofs.Leaving.{Harmless, tidy_harmless, all_append}
 use Rattle.shard_laws.proofs.Cutting.{of_kept, without_other}
 use Rattle.shard_laws.proofs.Members.{filter_alike}
+use Rattle.std.proofs.lemmas.List.Folds.{list_any-append}
+use Rattle.clv_base.specs.LogRules.{listed_in}
 
 -- ---- what restarts may make of the log that was found
 
@@ -48,6 +50,8 @@ pub record Found (shard : ℕ) (cut log : List LogRecord) : Type 0 where
   pub sealed : Sealed [] log
   pub dead : (t : TxId) → undone_in log t ≡ true → is_winner shard cut t ≡ false
   pub wrote : (t : TxId) → wrote_in log t ≡ wrote_in cut t
+  pub aborts : (t : TxId) → aborted_in cut t ≡ true → aborted_in log t ≡ true
+  pub listed : (t : TxId) → prepared_in cut t ≡ true → listed_in log t ≡ listed_in cut t
 
 pub winners : (shard : ℕ) (cut log : List LogRecord) (t : TxId) → Found shard cut log → is_winner shard log t ≡ is_winner shard cut t
 winners shard cut log t f = ap (λ b. b || tx_in t (in_doubt shard log)) (f.commits t) ∙ ap (λ l. committed_in cut t || tx_in t l) f.doubts
@@ -94,7 +98,7 @@ unmoved_from keep n (Restart run epoch ∷ rs) ws w u = unmoved_from keep (suc n
 harmless_plain : (shard : ℕ) (log rs : List LogRecord) → AllByRecursion (Plain shard log) rs → AllByRecursion (Harmless log) rs
 harmless_plain shard log rs all = all_mono _ _ (λ r p. (p.opens, p.no_commit)) rs all
 
-found_more : (shard : ℕ) (cut log more : List LogRecord) → Found shard cut log → AllByRecursion (Plain shard log) more → Found shard cut (log ++ more)
+pub found_more : (shard : ℕ) (cut log more : List LogRecord) → Found shard cut log → AllByRecursion (Plain shard log) more → Found shard cut (log ++ more)
 found_more shard cut log more f all = record {
   commits = λ t. committed_append log more t ∙ or_right_false _ _ (none_commit shard log more t all) ∙ f.commits t;
   doubts = same_doubts shard log log more refl all ∙ f.doubts;
@@ -106,11 +110,13 @@ found_more shard cut log more f all = record {
   sealed = sealed_more log more f.sealed (λ t. none_update shard log more t all) (λ t. none_prepare shard log more t all);
   dead = λ t e. ⊎_elim (λ h. f.dead t h) (λ h. sym (winners shard cut log t f) ∙ undone_open shard log more t all h) (or_cases (undone_in log t) (undone_in more t) (sym (undone_append log more t) ∙ e));
   wrote = λ t. wrote_append log more t ∙ or_right_false _ _ (none_update shard log more t all) ∙ f.wrote t;
+  aborts = λ t e. list_any-append (is_abort_of t) log more ∙ or_left _ _ (f.aborts t e);
+  listed = λ t e. listed_keeps log more t (f.prepares t ∙ e) ∙ f.listed t e;
 }
 
 -- ---- what a restart writes is plain
 
-loser_out : (shard : ℕ) (log : List LogRecord) (t : TxId) → tx_in t (losers shard log) ≡ true → is_winner shard log t ≡ false
+pub loser_out : (shard : ℕ) (log : List LogRecord) (t : TxId) → tx_in t (losers shard log) ≡ true → is_winner shard log t ≡ false
 loser_out shard log t i = not-true _ (in_filter (λ u. not (is_winner shard log u)) t (writers (standing log)) i).1
 
 pub out_left : (a b : Bool) → (a || b) ≡ false → a ≡ false
@@ -175,18 +181,18 @@ all_take P (suc n) (x ∷ xs) all = (all.0, all_take P n xs all.1)
 writer_in : (w : StandingUpdate) (ws : List StandingUpdate) → tx_in w.tx (writers (w ∷ ws)) ≡ true
 writer_in w ws = insert_has w.tx (writers ws)
 
-each_writer : (ws : List StandingUpdate) → AllByRecursion (λ w. tx_in w.tx (writers ws) ≡ true) ws
+pub each_writer : (ws : List StandingUpdate) → AllByRecursion (λ w. tx_in w.tx (writers ws) ≡ true) ws
 each_writer [] = tt
 each_writer (w ∷ ws) = (writer_in w ws, all_mono _ _ (λ v h. insert_keeps w.tx v.tx (writers ws) h) ws (each_writer ws))
 
-loser_alike : (shard : ℕ) (log : List LogRecord) (t : TxId) → tx_in t (writers (standing log)) ≡ true → not (tx_in t (losers shard log)) ≡ is_winner shard log t
+pub loser_alike : (shard : ℕ) (log : List LogRecord) (t : TxId) → tx_in t (writers (standing log)) ≡ true → not (tx_in t (losers shard log)) ≡ is_winner shard log t
 loser_alike shard log t w = at (is_winner shard log t) refl
   where
     at : (b : Bool) → is_winner shard log t ≡ b → not (tx_in t (losers shard log)) ≡ b
     at true c = ap not (false_from_ne_true _ (λ i. both_ways _ (loser_out shard log t i) c))
     at false c = ap not (filter_in (λ u. not (is_winner shard log u)) t (writers (standing log)) w (ap not c))
 
-standing_whole : (shard : ℕ) (log : List LogRecord) (run epoch : ℕ) → standing (log_after_restart shard log run epoch) ≡ filter (of_kept (is_winner shard log)) (standing log)
+pub standing_whole : (shard : ℕ) (log : List LogRecord) (run epoch : ℕ) → standing (log_after_restart shard log run epoch) ≡ filter (of_kept (is_winner shard log)) (standing log)
 standing_whole shard log run epoch =
     let ts : List TxId = filter (λ t. not (aborted_in log t)) (losers shard log) in
     let cs : List LogRecord = clrs_of (losers shard log) (standing log) in

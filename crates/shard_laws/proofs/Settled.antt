@@ -1,10 +1,9 @@
 -- Where a shard is quiet its live records are the map that its log stands for.
-use Rattle.std.proofs.Common.{◌≡◌, ⊎_elim, ℕ, true, false, Bool, List, [], ◌∷◌, Option, Some, None, ◌||◌, length, refl, sym, ap, subst, ◌∙◌, arith}
+use Rattle.std.proofs.Common.{◌≡◌, ⊎_elim, true, false, Bool, List, [], ◌∷◌, ◌||◌, length, refl, sym, ap, subst, ◌∙◌, arith}
 use Rattle.std.specs.Prelude.{take}
 use Rattle.std.specs.List.{AllByRecursion, filter, list_all}
-use Rattle.std.proofs.lemmas.Bool.{both_ways, and_parts, or_cases, cases_Bool, eq-eqb}
+use Rattle.std.proofs.lemmas.Bool.{both_ways, and_parts, or_cases, cases_Bool}
 use Rattle.std.proofs.lemmas.List.{take_all}
-use Rattle.clv_base.specs.declared.names.TxId.{TxId}
 use Rattle.clv_base.specs.declared.modes.Anchor.TheVariants.{At}
 use Rattle.clv_base.specs.declared.modes.Part.TheVariants.{X}
 use Rattle.clv_base.specs.declared.state.Stage.{Stage}
@@ -15,7 +14,6 @@ use Rattle.clv_base.specs.State.{Shard, is_gone_stage}
 use Rattle.clv_base.specs.Needs.{live_pairs}
 use Rattle.clv_base.specs.History.{IsQuiet}
 use Rattle.clv_base.proofs.Folding.{same_map}
-use Rattle.law_base.specs.Items.{Item, wrote, is_write_at, writes, on_top, pile}
 use Rattle.law_base.proofs.Lists.{all_mono}
 use Rattle.law_base.proofs.Rows.{rows_get}
 use Rattle.law_base.proofs.Running.{top_value}
@@ -40,11 +38,11 @@ not_gone true (Gone d) f = absurd f
 not_gone false (Gone d) f = absurd f
 
 -- who wrote is committed
-writer_committed : (g : Past) (s : Shard) (x : Item) (k : ℕ) → Kept g (view_of s) → IsQuiet s → Wrote (view_of s) x → writes x k ≡ true → committed_in s.local.log x.tx ≡ true
-writer_committed g s x k h q w e =
+writer_committed : (g : Past) (s : Shard) (x : StandingUpdate) → Kept g (view_of s) → IsQuiet s → Wrote (view_of s) x → committed_in s.local.log x.tx ≡ true
+writer_committed g s x h q w =
     ⊎_elim (λ d. durable_committed s.local.log s.durable x.tx d)
     (λ d.
-    let r = holder_row (Belongs s.local.parts) true X (At k) x.tx s.local.locks h.rows (w d k e).0 in
+    let r = holder_row (Belongs s.local.parts) true X (At x.key) x.tx s.local.locks h.rows (w d).0 in
     let p = (r.2).0 in
     let t = rows_get (λ r. (is_gone_stage (r.1).stage || committed_in s.local.log r.0) ≡ true) x.tx p s.local.parts (each_row (λ p. is_gone_stage (p.1).stage || committed_in s.local.log p.0) s.local.parts q.3) (r.2).1 in
     ⊎_elim (λ a. absurd (both_ways _ (not_gone r.1 p.stage (r.2).3) a)) (λ a. a) (or_cases (is_gone_stage p.stage) (committed_in s.local.log x.tx) t))
@@ -54,30 +52,18 @@ or_nothing : (b : Bool) → (b || false) ≡ b
 or_nothing true = refl
 or_nothing false = refl
 
--- what is written is of those that wrote
-pile_of : (f : TxId → Bool) (xs : List Item) (ws : List StandingUpdate) → AllByRecursion (λ x. (w : ℕ × Option ℕ × Option ℕ) → wrote x ≡ Some w → f x.tx ≡ true) xs → AllByRecursion (λ w. f w.tx ≡ true) ws
-    → AllByRecursion (λ w. f w.tx ≡ true) (pile xs ws)
-pile_of f [] ws a b = b
-pile_of f (x ∷ xs) ws a b = pile_of f xs (on_top x.tx x.lsn (wrote x) ws) a.1 (at (wrote x) refl)
-  where
-    at : (o : Option (ℕ × Option ℕ × Option ℕ)) → wrote x ≡ o → AllByRecursion (λ w. f w.tx ≡ true) (on_top x.tx x.lsn o ws)
-    at None e = b
-    at (Some w) e = (a.0 w e, b)
-
 pub settled_map : (g : Past) (s : Shard) → Kept g (view_of s) → IsQuiet s → live_pairs s.local.records ≡ stands (s.local.log ∷ [])
 settled_map g s h q =
     let log = s.local.log in
     let whole : take (length log) log ≡ log = take_all (length log) log (omega arith) in
-    let all = pile_of (committed_in log) g.items g.base
-    (all_mono (Wrote (view_of s)) _ (λ x a w e. writer_committed g s x w.0 h q a (ap (λ o. is_write_at o w.0) e ∙ eq-eqb w.0 w.0 refl)) g.items h.wrote)
-    (all_mono _ _ (λ w d. durable_committed log s.durable w.tx d) g.base h.base_done) in
+    let all : AllByRecursion (λ w. committed_in s.local.log w.tx ≡ true) (standing s.local.log) = all_mono (Wrote (view_of s)) _ (λ w a. writer_committed g s w h q a) (standing s.local.log) h.wrote in
     same_map (live_pairs s.local.records) (fold_updates (committed_in log) log []) (t_true _ (live_rises s.local.records h.rises)) (fold_rises (committed_in log) log [] tt)
     (λ k.
     live_find k s.local.records h.rises
     ∙ h.values k
-    ∙ ap (top_value k) (h.standing_is ∙ sym (filter_all_kept (committed_in log) (pile g.items g.base) all) ∙ ap (filter (of_kept (committed_in log))) (sym h.standing_is))
+    ∙ ap (top_value k) (sym (filter_all_kept (committed_in log) (standing log) all))
     ∙ sym (subst (λ l. map_get k (fold_updates (committed_in l) l []) ≡ top_value k (filter (of_kept (committed_in l)) (standing log))) whole (cut_values g (view_of s) (length log) k h)))
     ∙ sym (fold_alike (committed_somewhere (log ∷ [])) (committed_in log) log [] (λ t. or_nothing (committed_in log t)))
 
 pub quiet_is_settled : QuietIsSettled
-quiet_is_settled shard run before all asked told met s leads q = let b = held shard run before all asked told met s leads in settled_map b.0 s (b.1).kept q
+quiet_is_settled shard run before all asked told met fell s leads q = let b = held shard run before all asked told met fell s leads in settled_map b.0 s (b.1).kept q

@@ -1,5 +1,5 @@
 -- Histories of one shard alone, with restarts; its members; and what is to be shown of them.
-use Rattle.std.specs.Prelude.{◌⊎◌, ◌≡◌, ⊤, ℕ, ◌+◌, ◌≤◌, ◌<◌, ◌&&◌, Bool, true, false, ◌||◌, List, [], ◌∷◌, ◌++◌, map, take, length, Option, Some, None, cond, zero, suc}
+use Rattle.std.specs.Prelude.{◌⊎◌, ◌≡◌, ⊤, ℕ, ◌+◌, ◌≤◌, ◌<◌, ◌&&◌, Bool, true, false, ◌||◌, not, List, [], ◌∷◌, ◌++◌, map, take, length, Option, Some, None, cond, zero, suc}
 use Rattle.std.specs.List.{list_any, list_all, filter}
 use Rattle.clv_base.specs.declared.names.TxId.{TxId}
 use Rattle.clv_base.specs.declared.names.Birth.{Birth}
@@ -15,7 +15,7 @@ use Rattle.clv_base.specs.declared.events.Outcome.{Outcome}
 use Rattle.clv_base.specs.declared.events.Outcome.TheVariants.{Answered, Acknowledged, Up}
 use Rattle.clv_base.specs.Orders.{tx_same, tx_in, tx_get}
 use Rattle.clv_base.specs.Maps.{replay_map, replay_answers}
-use Rattle.clv_base.specs.Logs.{committed_in, prepared_in, wrote_in, in_doubt, fold_updates, stands}
+use Rattle.clv_base.specs.Logs.{committed_in, prepared_in, aborted_in, wrote_in, in_doubt, fold_updates, stands}
 use Rattle.clv_base.specs.declared.messages.Message.{Message}
 use Rattle.clv_base.specs.declared.messages.Message.TheVariants.{Prepare, Vote as VoteMessage, Decide, Done, Ask}
 use Rattle.clv_base.specs.State.{Shard, Local, is_present}
@@ -32,7 +32,6 @@ use Rattle.clv_base.specs.OneShard.{seen_fits}
 use Rattle.clv_base.specs.LogRules.{disorder, listed_in}
 use Rattle.clv_base.specs.Restarts.{greatest_run, opened, log_left, revived, Restarts}
 use Rattle.law_base.specs.Items.{Item}
-use Rattle.order_laws.specs.Order.{undone_in}
 
 abbrev pub items_of : TxId → List Item → List Item
 items_of t all = filter (λ x. tx_same x.tx t) all
@@ -75,16 +74,22 @@ abbrev pub place : List TxId → TxId → ℕ
 place [] t = zero
 place (a ∷ as_) t = cond (tx_same t a) zero (suc (place as_ t))
 
--- a transaction without a part here, that does an operation in this epoch, is new
-abbrev pub Fresh : List Item → List TxId → List (TxId × TxId) → Shard → TxId → Type 0
-Fresh all asked met s tx =
-    (committed_in s.local.log tx ≡ false) × (undone_in s.local.log tx ≡ false) × (items_of tx all ≡ []) × ((p : TxId) → has_met met tx p ≡ true → ⊥) × (prepared_in s.local.log tx ≡ false)
+-- a transaction without a part here, that does an operation in this epoch, is new: it has no record here, did nothing, and did not fall
+pub record Fresh (all : List Item) (met : List (TxId × TxId)) (fell : List TxId) (s : Shard) (tx : TxId) : Type 0 where
+  pub unwritten : wrote_in s.local.log tx ≡ false
+  pub unprepared : prepared_in s.local.log tx ≡ false
+  pub uncommitted : committed_in s.local.log tx ≡ false
+  pub unaborted : aborted_in s.local.log tx ≡ false
+  pub idle : items_of tx all ≡ []
+  pub unmet : (p : TxId) → has_met met tx p ≡ true → ⊥
+  pub unfallen : tx_in tx fell ≡ false
 
--- no operation after a request, and each transaction has one birth
-pub record MayTouch (all : List Item) (asked : List TxId) (met : List (TxId × TxId)) (s : Shard) (tx : TxId) (birth : Birth) (seen : Option ℕ) : Type 0 where
+-- an operation is of this run's transaction, and none after a request; each transaction has one birth
+pub record MayTouch (all : List Item) (asked : List TxId) (met : List (TxId × TxId)) (fell : List TxId) (s : Shard) (tx : TxId) (birth : Birth) (seen : Option ℕ) : Type 0 where
+  pub of_run : tx.run ≡ s.run
   pub not_closed : stage_of s.local tx ≡ Some Closed → ⊥
   pub not_asked : seen_fits s.local.epoch seen ≡ true → tx_in tx asked ≡ false
-  pub fresh : seen_fits s.local.epoch seen ≡ true → tx_get tx s.local.parts ≡ None → Fresh all asked met s tx
+  pub fresh : seen_fits s.local.epoch seen ≡ true → tx_get tx s.local.parts ≡ None → Fresh all met fell s tx
   pub same_birth : (h : Held) → tx_get tx s.local.parts ≡ Some h → h.birth ≡ birth
 
 -- a request is the first of its transaction, which is of this run, and which no other shard has asked for its vote here
@@ -96,21 +101,21 @@ abbrev pub predecessors_committed : Local → TxId → Bool
 predecessors_committed l tx = list_all (committed_in l.log) (predecessors_of l.pairs tx)
 
 -- what other shards and the transport owe of a message that is delivered here: a Prepare is of one that asked elsewhere; a Decide(commit)
--- finds the COMMITs of the predecessors, at a part that wrote
-abbrev pub MayDeliver : List TxId → Shard → Message → Type 0
-MayDeliver asked s (Prepare to tx home seen) = (tx_in tx asked ≡ true) × (tx_get tx s.requests ≡ None) × (wrote_in s.local.log tx ≡ false → committed_in s.local.log tx ≡ false)
-MayDeliver asked s (VoteMessage to tx from vote) = ⊤
-MayDeliver asked s (Decide to tx home true) = (predecessors_committed s.local tx ≡ true) × (wrote_in s.local.log tx ≡ true) × ((q : Request) → tx_get tx s.requests ≡ Some q → q.state ≡ Undecided → ⊥)
-MayDeliver asked s (Decide to tx home false) = ⊤
-MayDeliver asked s (Done to tx from) = ⊤
-MayDeliver asked s (Ask to tx from) = ⊤
+-- finds the COMMITs of the predecessors, at a part that wrote and did not fall
+abbrev pub MayDeliver : List TxId → List TxId → Shard → Message → Type 0
+MayDeliver asked fell s (Prepare to tx home seen) = (tx_in tx asked ≡ true) × (tx_get tx s.requests ≡ None) × (wrote_in s.local.log tx ≡ false → committed_in s.local.log tx ≡ false)
+MayDeliver asked fell s (VoteMessage to tx from vote) = ⊤
+MayDeliver asked fell s (Decide to tx home true) = (predecessors_committed s.local tx ≡ true) × (wrote_in s.local.log tx ≡ true) × ((q : Request) → tx_get tx s.requests ≡ Some q → q.state ≡ Undecided → ⊥) × (tx_in tx fell ≡ false)
+MayDeliver asked fell s (Decide to tx home false) = ⊤
+MayDeliver asked fell s (Done to tx from) = ⊤
+MayDeliver asked fell s (Ask to tx from) = ⊤
 
-abbrev pub MayHappen : List Item → List TxId → List (TxId × TxId) → Shard → Event → Type 0
-MayHappen all asked met s (OpEvent tx birth nth seen op) = MayTouch all asked met s tx birth seen
-MayHappen all asked met s (Drop tx) = stage_of s.local tx ≡ Some Closed → committed_in s.local.log tx ≡ false
-MayHappen all asked met s (RequestEvent tx touched) = MayAsk asked s tx
-MayHappen all asked met s (Deliver m stamp) = MayDeliver asked s m
-MayHappen all asked met s _ = ⊤
+abbrev pub MayHappen : List Item → List TxId → List (TxId × TxId) → List TxId → Shard → Event → Type 0
+MayHappen all asked met fell s (OpEvent tx birth nth seen op) = MayTouch all asked met fell s tx birth seen
+MayHappen all asked met fell s (Drop tx) = stage_of s.local tx ≡ Some Closed → committed_in s.local.log tx ≡ false
+MayHappen all asked met fell s (RequestEvent tx touched) = MayAsk asked s tx
+MayHappen all asked met fell s (Deliver m stamp) = MayDeliver asked fell s m
+MayHappen all asked met fell s _ = ⊤
 
 -- who is told that it is acknowledged
 abbrev pub new_told : Event → Outcome → Option TxId
@@ -118,30 +123,42 @@ new_told (Look tx) Acknowledged = Some tx
 new_told (Look tx) _ = None
 new_told _ o = None
 
+-- whether a part is gone by an abort
+abbrev pub is_doomed : Option Stage → Bool
+is_doomed (Some (Gone (Some doom))) = true
+is_doomed (Some (Gone None)) = false
+is_doomed (Some Active) = false
+is_doomed (Some Closed) = false
+is_doomed None = false
+
 -- a log from which a shard may be opened in this run: it keeps the order rules, it is of earlier runs, and nothing is in doubt in it
 abbrev pub MayServe : ℕ → ℕ → List LogRecord → Type 0
 MayServe shard run log = (disorder shard log ≡ None) × (greatest_run log < run) × (in_doubt shard log ≡ [])
 
--- of those in doubt in the log that a restart finds, none was rolled back since
-abbrev pub StillHere : Shard → List LogRecord → Type 0
-StillHere s found = (t : TxId) → tx_in t (in_doubt s.shard found) ≡ true → is_present (stage_of s.local t) ≡ true
+-- who has fallen: after a step those whose parts an abort took away, and at a restart those that were here and are neither restored nor
+-- committed
+abbrev pub doomed_in : Shard → List TxId
+doomed_in t = filter (λ u. is_doomed (stage_of t.local u)) (map (λ p. p.0) t.local.parts)
+
+abbrev pub left_out : Shard → Shard → List TxId
+left_out s t = filter (λ u. is_present (stage_of s.local u) && not (is_present (stage_of t.local u)) && not (committed_in t.local.log u)) (map (λ p. p.0) s.local.parts)
 
 -- from the shard that opened such a log: all operations that were answered, those that made a request, those that were told of success,
--- those whose writes were violated, in their orders, and the state
-pub data Leads (shard run : ℕ) (before : List LogRecord) : List Item → List TxId → List TxId → List (TxId × TxId) → Shard → Type 0 where
-  opens : MayServe shard run before → Leads shard run before [] [] [] [] (opened shard run before)
+-- those whose writes were violated, in their orders, those that fell, and the state
+pub data Leads (shard run : ℕ) (before : List LogRecord) : List Item → List TxId → List TxId → List (TxId × TxId) → List TxId → Shard → Type 0 where
+  opens : MayServe shard run before → Leads shard run before [] [] [] [] [] (opened shard run before)
   happens :
-      {all : List Item} {asked told : List TxId} {met : List (TxId × TxId)} {s : Shard} (e : Event) (o : Outcome) (t : Shard) (stamp walker : ℕ) → Leads shard run before all asked told met s → MayHappen all asked met s e → happen s e ≡ Does o t
-      → Leads shard run before (with_one all (new_item s e o)) (with_one asked (new_asked s e)) (with_one told (new_told e o)) (new_met s e o ++ met) (with_entry stamp walker e o t)
+      {all : List Item} {asked told : List TxId} {met : List (TxId × TxId)} {fell : List TxId} {s : Shard} (e : Event) (o : Outcome) (t : Shard) (stamp walker : ℕ) → Leads shard run before all asked told met fell s → MayHappen all asked met fell s e → happen s e ≡ Does o t
+      → Leads shard run before (with_one all (new_item s e o)) (with_one asked (new_asked s e)) (with_one told (new_told e o)) (new_met s e o ++ met) (doomed_in t ++ fell) (with_entry stamp walker e o t)
   lands :
-      {all : List Item} {asked told : List TxId} {met : List (TxId × TxId)} {s : Shard} (n : ℕ) (pushed : Bool) (o : Outcome) (t : Shard) (stamp walker : ℕ) → Leads shard run before all asked told met s → s.flight ≡ Some n → landed s n pushed ≡ Does o t
-      → Leads shard run before all asked told met (with_entry stamp walker FlushIn o t)
+      {all : List Item} {asked told : List TxId} {met : List (TxId × TxId)} {fell : List TxId} {s : Shard} (n : ℕ) (pushed : Bool) (o : Outcome) (t : Shard) (stamp walker : ℕ) → Leads shard run before all asked told met fell s → s.flight ≡ Some n → landed s n pushed ≡ Does o t
+      → Leads shard run before all asked told met (doomed_in t ++ fell) (with_entry stamp walker FlushIn o t)
   -- others ask at their homes
-  others_ask : {all : List Item} {asked told : List TxId} {met : List (TxId × TxId)} {s : Shard} (t : TxId) → Leads shard run before all asked told met s → tx_in t asked ≡ false → Leads shard run before all (asked ++ t ∷ []) told met s
+  others_ask : {all : List Item} {asked told : List TxId} {met : List (TxId × TxId)} {fell : List TxId} {s : Shard} (t : TxId) → Leads shard run before all asked told met fell s → tx_in t asked ≡ false → Leads shard run before all (asked ++ t ∷ []) told met fell s
   -- those in doubt are restored
   revives :
-      {all : List Item} {asked told : List TxId} {met : List (TxId × TxId)} {s : Shard} (kept : Bool) (epoch : ℕ) (log : List LogRecord) (stamp walker : ℕ) → Leads shard run before all asked told met s → s.is_up ≡ false → StillHere s (log_left s kept)
-      → Restarts s (log_left s kept) epoch log → Leads shard run before all asked told met (with_entry stamp walker RestartEvent (Up epoch) (revived s epoch log))
+      {all : List Item} {asked told : List TxId} {met : List (TxId × TxId)} {fell : List TxId} {s : Shard} (kept : Bool) (epoch : ℕ) (log : List LogRecord) (stamp walker : ℕ) → Leads shard run before all asked told met fell s → s.is_up ≡ false
+      → Restarts s (log_left s kept) epoch log → Leads shard run before all asked told met (left_out s (revived s epoch log) ++ fell) (with_entry stamp walker RestartEvent (Up epoch) (revived s epoch log))
 
 -- ---- the members, by a cut of the log, and what they did
 
@@ -161,43 +178,48 @@ answers_by ts all = map (λ t. map (λ x. x.answer) (items_of t all)) ts
 -- that the cut log stands for
 abbrev pub AnswersAndMap : Type 0
 AnswersAndMap =
-    (shard run : ℕ) (before : List LogRecord) (all : List Item) (asked told : List TxId) (met : List (TxId × TxId)) (s : Shard) (cut : ℕ) → Leads shard run before all asked told met s → s.durable ≤ cut
+    (shard run : ℕ) (before : List LogRecord) (all : List Item) (asked told : List TxId) (met : List (TxId × TxId)) (fell : List TxId) (s : Shard) (cut : ℕ) → Leads shard run before all asked told met fell s → s.durable ≤ cut
     → (replay_answers (stands (before ∷ [])) (ops_by (members_of s cut told asked) all) ≡ answers_by (members_of s cut told asked) all)
     × (replay_map (stands (before ∷ [])) (ops_by (members_of s cut told asked) all) ≡ stands (take cut s.local.log ∷ []))
 
 -- a choice of transactions as other shards' COMMITs make it: all that the cut commits are chosen, and each of the chosen is a member here, or
--- is in doubt in the cut, which commits all that its PREPARE lists
-pub record MayChoose (s : Shard) (cut : ℕ) (told : List TxId) (chosen : TxId → Bool) : Type 0 where
+-- is in doubt in the cut, which commits all that its PREPARE lists, and did not fall
+pub record MayChoose (s : Shard) (cut : ℕ) (told fell : List TxId) (chosen : TxId → Bool) : Type 0 where
   pub commits : (t : TxId) → committed_in (take cut s.local.log) t ≡ true → chosen t ≡ true
   pub are_here :
       (t : TxId) → chosen t ≡ true
       → (is_member s cut told t ≡ true)
-      ⊎ ((tx_in t (in_doubt s.shard (take cut s.local.log)) ≡ true) × (list_all (committed_in (take cut s.local.log)) (listed_in (take cut s.local.log) t) ≡ true))
+      ⊎ ((tx_in t (in_doubt s.shard (take cut s.local.log)) ≡ true) × (list_all (committed_in (take cut s.local.log)) (listed_in (take cut s.local.log) t) ≡ true) × (tx_in t fell ≡ false))
 
 -- then the chosen ones that asked give their answers, and the map of the chosen ones' UPDATEs in the cut
 abbrev pub ChosenReplay : Type 0
 ChosenReplay =
-    (shard run : ℕ) (before : List LogRecord) (all : List Item) (asked told : List TxId) (met : List (TxId × TxId)) (s : Shard) (cut : ℕ) (chosen : TxId → Bool)
-    → Leads shard run before all asked told met s → s.durable ≤ cut → StillHere s (take cut s.local.log) → MayChoose s cut told chosen
+    (shard run : ℕ) (before : List LogRecord) (all : List Item) (asked told : List TxId) (met : List (TxId × TxId)) (fell : List TxId) (s : Shard) (cut : ℕ) (chosen : TxId → Bool)
+    → Leads shard run before all asked told met fell s → s.durable ≤ cut → MayChoose s cut told fell chosen
     → (replay_answers (stands (before ∷ [])) (ops_by (filter chosen asked) all) ≡ answers_by (filter chosen asked) all)
     × (replay_map (stands (before ∷ [])) (ops_by (filter chosen asked) all) ≡ fold_updates chosen (take cut s.local.log) [])
 
 -- whose writes a chosen one violated is chosen, at an earlier place
 abbrev pub ChosenStandBefore : Type 0
 ChosenStandBefore =
-    (shard run : ℕ) (before : List LogRecord) (all : List Item) (asked told : List TxId) (met : List (TxId × TxId)) (s : Shard) (cut : ℕ) (chosen : TxId → Bool) (t p : TxId)
-    → Leads shard run before all asked told met s → s.durable ≤ cut → StillHere s (take cut s.local.log) → MayChoose s cut told chosen → has_met met t p ≡ true → chosen t ≡ true
+    (shard run : ℕ) (before : List LogRecord) (all : List Item) (asked told : List TxId) (met : List (TxId × TxId)) (fell : List TxId) (s : Shard) (cut : ℕ) (chosen : TxId → Bool) (t p : TxId)
+    → Leads shard run before all asked told met fell s → s.durable ≤ cut → MayChoose s cut told fell chosen → has_met met t p ≡ true → chosen t ≡ true
     → (chosen p ≡ true) × (place (filter chosen asked) p < place (filter chosen asked) t)
 
 -- whose writes a member violated is a member at an earlier place
 abbrev pub Recoverable : Type 0
 Recoverable =
-    (shard run : ℕ) (before : List LogRecord) (all : List Item) (asked told : List TxId) (met : List (TxId × TxId)) (s : Shard) (cut : ℕ) (t p : TxId)
-    → Leads shard run before all asked told met s → s.durable ≤ cut → has_met met t p ≡ true → is_member s cut told t ≡ true
+    (shard run : ℕ) (before : List LogRecord) (all : List Item) (asked told : List TxId) (met : List (TxId × TxId)) (fell : List TxId) (s : Shard) (cut : ℕ) (t p : TxId)
+    → Leads shard run before all asked told met fell s → s.durable ≤ cut → has_met met t p ≡ true → is_member s cut told t ≡ true
     → (is_member s cut told p ≡ true) × (place (members_of s cut told asked) p < place (members_of s cut told asked) t)
 
 -- where the shard is quiet its live records are what its log stands for
 abbrev pub QuietIsSettled : Type 0
 QuietIsSettled =
-    (shard run : ℕ) (before : List LogRecord) (all : List Item) (asked told : List TxId) (met : List (TxId × TxId)) (s : Shard) → Leads shard run before all asked told met s → IsQuiet s
+    (shard run : ℕ) (before : List LogRecord) (all : List Item) (asked told : List TxId) (met : List (TxId × TxId)) (fell : List TxId) (s : Shard) → Leads shard run before all asked told met fell s → IsQuiet s
     → live_pairs s.local.records ≡ stands (s.local.log ∷ [])
+
+-- the log of a shard keeps the order rules at every moment
+abbrev pub OrderIsKept : Type 0
+OrderIsKept =
+    (shard run : ℕ) (before : List LogRecord) (all : List Item) (asked told : List TxId) (met : List (TxId × TxId)) (fell : List TxId) (s : Shard) → Leads shard run before all asked told met fell s → disorder shard s.local.log ≡ None

@@ -1,6 +1,6 @@
 // Laws over all histories of one shard.
 
-ghost use Rattle.shard_laws.specs.OneShard.{AnswersAndMap, Recoverable, QuietIsSettled, ChosenReplay, ChosenStandBefore};
+ghost use Rattle.shard_laws.specs.OneShard.{AnswersAndMap, Recoverable, QuietIsSettled, ChosenReplay, ChosenStandBefore, OrderIsKept};
 
 /// In each history of one shard the members of each cut of the log at or above what is durable replay, in the order of their requests, from
 /// the map that the log found stands for: to the answers that they were given, and to the map that the cut stands for.
@@ -27,4 +27,9 @@ pub fn chosen_replay()
 /// Whose writes a chosen one violated is chosen too, at an earlier place.
 pub fn chosen_stand_before()
     ensures { ChosenStandBefore }
+{}
+
+/// The log of a shard keeps the order rules at every moment, through messages, flushes, crashes and restarts that fail in between.
+pub fn order_is_kept()
+    ensures { OrderIsKept }
 {}

@@ -1,0 +1,5 @@
+use Rattle.shard_laws.proofs.OrderKept.{order_is_kept}
+use Rattle.shard_laws.proofs.laws.order_is_kept.Goals as goal
+
+pub returns : goal.returns
+returns c = order_is_kept
