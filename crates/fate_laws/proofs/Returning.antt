@@ -22,7 +22,7 @@ use Rattle.law_base.proofs.Changed.{some_same}
 use Rattle.protocol_laws.specs.Growth.{IsPrefixOf}
 use Rattle.protocol_laws.proofs.Sets.{in_filter, filter_in}
 use Rattle.shard_laws.proofs.Restoring.{restored_stage}
-use Rattle.shard_laws.proofs.Reviving.{all_durable}
+use Rattle.shard_laws.proofs.Refalling.{all_durable}
 use Rattle.history_laws.proofs.Telling.{all_map}
 use Rattle.history_laws.proofs.TellingEvents.{front_committed}
 use Rattle.history_laws.proofs.Durability.{restarts_front}
