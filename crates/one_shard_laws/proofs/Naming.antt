@@ -34,10 +34,10 @@ pub record AnsweredAt (y : Placed) (tx : TxId) (shard epoch : ℕ) : Type 0 wher
   pub place : y.0 ≡ shard
 
 -- each touched shard with its epoch comes of such an entry
-Traced : List Placed → SessionState → Type 0
+unfoldable pub Traced : List Placed → SessionState → Type 0
 Traced done t = AllByRecursion (λ r. (y : Placed) × Among y done × AnsweredAt y t.tx r.0 r.1) t.touched
 
-data TracedIn (done : List Placed) : Option SessionState → Type 0 where
+pub data TracedIn (done : List Placed) : Option SessionState → Type 0 where
   gone : TracedIn done None
   traced : {u : SessionState} → Traced done u → TracedIn done (Some u)
 
@@ -103,7 +103,7 @@ traced_look done t Acknowledged k = traced (same_traced done t _ k)
 traced_look done t (Aborted c) k = traced (same_traced done t _ k)
 traced_look done t _ k = gone
 
-traced_next : (splits : List ℕ) (done : List Placed) (z : Placed) (t : SessionState) (e : Event) (o : Outcome) → (z.1).event ≡ e → (z.1).outcome ≡ o → Traced done t → TracedIn (done ++ z ∷ []) (session_after splits z.0 t e o)
+pub traced_next : (splits : List ℕ) (done : List Placed) (z : Placed) (t : SessionState) (e : Event) (o : Outcome) → (z.1).event ≡ e → (z.1).outcome ≡ o → Traced done t → TracedIn (done ++ z ∷ []) (session_after splits z.0 t e o)
 traced_next splits done z t (OpEvent tx birth nth seen op) o e f k = traced_op splits done z t tx birth nth seen op o (session_for t tx birth) e f (for_by t tx birth (tx_same tx t.tx) refl) k
 traced_next splits done z t (Request tx ts) o e f k = traced_if _ _ _ (traced_request (done ++ z ∷ []) t z.0 o (traced_more done (z ∷ []) t k))
 traced_next splits done z t (Look tx) o e f k = traced_if _ _ _ (traced_look (done ++ z ∷ []) t o (traced_more done (z ∷ []) t k))
@@ -145,7 +145,7 @@ named_here splits tx x done rest t ts n o es true e h i k =
     )
 named_here splits tx x done rest t ts n o es false e h i k = absurd (both_ways false refl h)
 
-named_case : (splits : List ℕ) (done zs : List Placed) (z : Placed) (v : Option SessionState) {X : Type 0} → TracedIn (done ++ z ∷ []) v → makes_from splits v zs ≡ true
+pub named_case : (splits : List ℕ) (done zs : List Placed) (z : Placed) (v : Option SessionState) {X : Type 0} → TracedIn (done ++ z ∷ []) v → makes_from splits v zs ≡ true
     → ((u : SessionState) → Traced (done ++ z ∷ []) u → makes_from splits (Some u) zs ≡ true → X) → X
 named_case splits done zs z None gone h k = absurd (both_ways false refl h)
 named_case splits done zs z (Some u) (traced t) h k = k u t h

@@ -1,0 +1,10 @@
+pub mod Votes
+pub mod Resting
+pub mod Within
+pub mod Starting
+pub mod Causing
+pub mod Owing
+pub mod Fronts
+pub mod Seeing
+pub mod Reasons
+pub mod Telling
