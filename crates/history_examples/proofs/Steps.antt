@@ -1,6 +1,6 @@
 -- The steps of the shard that is restarted with a transaction in doubt.
-use Rattle.std.proofs.Common.{◌≡◌, ◌⊎◌, inr, arith, ⊎_elim, refl, subst, ℕ, lit<, Bool, true, false, List, [], ◌∷◌, Option, Some, None}
-use Rattle.std.proofs.lemmas.Bool.{both_ways, or_cases}
+use Rattle.std.proofs.Common.{◌≡◌, ◌⊎◌, inl, inr, arith, refl, subst, ℕ, lit<, Bool, true, false, List, [], ◌∷◌, Option, Some, None}
+use Rattle.std.proofs.lemmas.Bool.{both_ways}
 use Rattle.clv_base.specs.declared.names.TxId.{TxId}
 use Rattle.clv_base.specs.declared.names.Birth.{Birth}
 use Rattle.clv_base.specs.declared.ops.Op.TheVariants.{Put}
@@ -21,11 +21,10 @@ use Rattle.clv_base.specs.declared.state.Stage.TheVariants.{Closed}
 use Rattle.clv_base.specs.declared.state.Held.{Held}
 use Rattle.clv_base.specs.declared.state.Request.{Request}
 use Rattle.clv_base.specs.Orders.{tx_same, tx_in}
-use Rattle.clv_base.specs.State.{Shard, is_present}
+use Rattle.clv_base.specs.State.{Shard}
 use Rattle.clv_base.specs.Events.{happen, landed, with_entry}
 use Rattle.clv_base.specs.Journals.{reply_state}
 use Rattle.law_base.specs.Items.{Item}
-use Rattle.clv_base.specs.Undo.{stage_of}
 use Rattle.clv_base.specs.declared.logs.LogRecord.{LogRecord}
 use Rattle.clv_base.specs.declared.logs.LogRecord.TheVariants.{Update, Prepare as PrepareRecord, Restart as RestartRecord}
 use Rattle.std.specs.List.{list_all}
@@ -33,7 +32,7 @@ use Rattle.clv_base.specs.Logs.{committed_in, in_doubt}
 use Rattle.clv_base.specs.LogRules.{listed_in}
 use Rattle.clv_base.specs.Restarts.{opened, revived, untouched}
 use Rattle.clv_base.proofs.SameNames.{tx_true}
-use Rattle.shard_laws.specs.OneShard.{Leads, opens, happens, lands, others_ask, revives, is_member, MayChoose}
+use Rattle.shard_laws.specs.OneShard.{Leads, opens, happens, lands, others_ask, revives, is_member, Passes, MayChoose}
 use Rattle.history_examples.specs.Doubt.{doubtful, DoubtIsRestored, DoubtComesBack, DoubtIsCommitted, DoubtIsChosen}
 
 abbrev birth : Birth
@@ -157,7 +156,7 @@ led5 : Led (doubtful ∷ []) s5
 led5 = revives true 1 log_now 6 0 led4 refl (found, untouched, refl, refl)
 
 led6 : Led (doubtful ∷ []) s6
-led6 = happens decide Taken (reply_state s5 (happen s5 decide)) 7 0 led5 (refl, refl, (λ q e. absurd (none_request q e)), refl) refl
+led6 = happens decide Taken (reply_state s5 (happen s5 decide)) 7 0 led5 (λ open_. (refl, refl, (λ q e. absurd (none_request q e)), refl)) refl
 
 led7 : Led (doubtful ∷ []) s7
 led7 = happens FlushOut (Out 5) (reply_state s6 (happen s6 FlushOut)) 8 0 led6 tt refl
@@ -196,10 +195,10 @@ doubt_is_restored = (items, doubtful ∷ [], [], s5, led5, refl, refl, refl)
 pub doubt_is_committed : DoubtIsCommitted
 doubt_is_committed = (items, doubtful ∷ [], [], s8, led8, refl, refl, refl, refl)
 
-chooses : MayChoose s5 4 [] [] (tx_same doubtful)
+chooses : MayChoose s5 4 (doubtful ∷ []) [] [] (tx_same doubtful)
 chooses = record {
   commits = λ t e. absurd (both_ways false refl e);
-  are_here = λ t e. subst (λ z. (is_member s5 4 [] z ≡ true) ⊎ ((tx_in z (in_doubt 1 log_now) ≡ true) × (list_all (committed_in log_now) (listed_in log_now z) ≡ true) × (tx_in z [] ≡ false))) (tx_true doubtful t e) (inr (refl, refl, refl));
+  are_here = λ t e. subst (λ z. (is_member s5 4 [] z ≡ true) ⊎ (((tx_in z (in_doubt 1 log_now) ≡ true) × (list_all (committed_in log_now) (listed_in log_now z) ≡ true) × (tx_in z [] ≡ false)) ⊎ Passes (doubtful ∷ []) [] s5 z)) (tx_true doubtful t e) (inr (inl (refl, refl, refl)));
 }
 
 pub doubt_is_chosen : DoubtIsChosen

@@ -37,5 +37,5 @@ DoubtIsCommitted =
 abbrev pub DoubtIsChosen : Type 0
 DoubtIsChosen =
     (all : List Item) × (asked : List TxId) × (met : List (TxId × TxId)) × (s : Shard)
-    × Leads 1 1 [] all asked [] met [] s × (s.durable ≤ 4) × MayChoose s 4 [] [] (tx_same doubtful)
+    × Leads 1 1 [] all asked [] met [] s × (s.durable ≤ 4) × MayChoose s 4 asked [] [] (tx_same doubtful)
     × (ops_by (filter (tx_same doubtful) asked) all ≡ (Put 5 10 ∷ []) ∷ []) × (fold_updates (tx_same doubtful) (take 4 s.local.log) [] ≡ (5, 10) ∷ [])

@@ -21,9 +21,9 @@ use Rattle.law_base.proofs.Lists.{all_mono, all_filter, later_mono, later_filter
 use Rattle.law_base.proofs.Running.{top_value, Keeps, kept_runs, rising_all, pile_value}
 use Rattle.law_base.proofs.Undoing.{standing_append}
 use Rattle.law_base.proofs.Tables.{is_pair}
-use Rattle.law_base.proofs.Commits.{place_there, durable_committed}
+use Rattle.law_base.proofs.Commits.{place_there, durable_committed, before_second}
 use Rattle.order_laws.specs.Order.{Tidy, Sealed, undone_in}
-use Rattle.shard_laws.specs.OneShard.{items_of, ops_by, answers_by, MayChoose, ChosenReplay, ChosenStandBefore}
+use Rattle.shard_laws.specs.OneShard.{items_of, ops_by, answers_by, MayChoose, Passes, ChosenReplay, ChosenStandBefore}
 use Rattle.shard_laws.proofs.Kept.{Past, view_of, place, Dep, Known, is_alive}
 use Rattle.shard_laws.proofs.Prepared.{Lists, sealed_later, listed_keeps}
 use Rattle.shard_laws.proofs.Changes.{undone_append, wrote_append, later_both}
@@ -57,7 +57,7 @@ and_true true b e = sym e
 and_true false b e = refl
 
 module _ (all : List Item) (g : Past) (s : Shard) (told : List TxId) (cut : ℕ) (chosen : TxId → Bool) (h : Sound all g s) (le : s.durable ≤ cut) (once : Once g.asked) (all_over : (t : TxId) → tx_in t told ≡ true → tx_in t g.over ≡ true)
-    (bounded : Bounded g s) (may : MayChoose s cut told g.fell chosen) where
+    (bounded : Bounded g s) (may : MayChoose s cut g.asked told g.fell chosen) where
   abbrev front : List LogRecord
   front = take cut s.local.log
 
@@ -74,21 +74,35 @@ module _ (all : List Item) (g : Past) (s : Shard) (told : List TxId) (cut : ℕ)
   chosen_closed : (t : TxId) → tx_in t (in_doubt s.shard (take cut s.local.log)) ≡ true → tx_in t g.fell ≡ false → stage_of s.local t ≡ Some Closed
   chosen_closed t i n = doubt_closed all g s cut h t i (doubt_here all g s cut h le t i (λ e. ⊎_elim (λ a. both_ways _ n a) (λ d. both_ways _ n (bounded t d)) e))
 
+  -- one that wrote nothing here and left stays, and whom it met is committed in the cut
+  passing_stays : (t : TxId) → Passes g.asked g.fell s t → Lost g t → ⊥
+  passing_stays t r l =
+      ⊎_elim (λ e. ⊎_elim (λ a. both_ways _ r.unfallen a) (λ d. both_ways _ r.unfallen (bounded t d)) e) (λ p. both_ways _ r.absent (h.kept.successors t p.0 p.1)) (h.falls.why t l)
+
+  passing_met : (t p : TxId) → Passes g.asked g.fell s t → Dep (view_of s) t p → committed_in (take cut s.local.log) p ≡ true
+  passing_met t p r d =
+      ⊎_elim (λ e. durable_cut s.durable cut s.local.log p le e)
+      (λ m. ⊎_elim (λ pair. absurd (both_ways _ r.absent (h.kept.successors t p pair))) (λ b. absurd (both_ways _ r.uncommitted (before_second s.local.log p t b))) m) d
+
   not_lost : (t : TxId) → chosen t ≡ true → Lost g t → ⊥
   not_lost t k l =
       ⊎_elim (λ m. ⊎_elim (λ c. both_ways _ (h.falls.open_ t l) (cut_keeps cut s.local.log t c)) (λ o. both_ways _ (h.falls.unfinished t l) (all_over t o)) (or_cases (committed_in (take cut s.local.log) t) (tx_in t told) m))
+      (λ o. ⊎_elim
       (λ q. ⊎_elim (λ e. ⊎_elim (λ a. both_ways _ q.2 a) (λ d. both_ways _ q.2 (bounded t d)) e)
       (λ p. let d = (doubt_of all g s cut h t q.0).prepared in
       ⊎_elim (λ i. both_ways _ (h.falls.open_ p.0 p.2) (cut_keeps cut s.local.log p.0 (list_all_at (committed_in (take cut s.local.log)) p.0 (listed_in (take cut s.local.log) t) q.1
       (ap (tx_in p.0) (sym (subst (λ l. listed_in l t ≡ listed_in (take cut s.local.log) t) whole (listed_keeps (take cut s.local.log) (drop cut s.local.log) t d))) ∙ i))))
-      (λ c. both_ways _ (h.falls.open_ p.0 p.2) c) (h.falls.paired t p.0 p.1 (prepared_cut cut s.local.log t d))) (h.falls.why t l)) (may.are_here t k)
+      (λ c. both_ways _ (h.falls.open_ p.0 p.2) c) (h.falls.paired t p.0 p.1 (prepared_cut cut s.local.log t d))) (h.falls.why t l))
+      (λ r. passing_stays t r l) o) (may.are_here t k)
 
   -- whom a chosen one met is chosen
   dep_chosen : (t p : TxId) → Dep (view_of s) t p → Lists s.local.log t p → chosen t ≡ true → chosen p ≡ true
   dep_chosen t p d l k =
       ⊎_elim (λ m. may.commits p (dep_cut all g s told cut h le once all_over t p d m))
+      (λ o. ⊎_elim
       (λ q. let e = (doubt_of all g s cut h t q.0).prepared in
       may.commits p (⊎_elim (λ i. list_all_at (committed_in (take cut s.local.log)) p (listed_in (take cut s.local.log) t) q.1 i) (λ i. place_there 0 (is_commit_of p) (take cut s.local.log) i.0 i.2) (listed_cut cut s.local.log t p e (l (prepared_cut cut s.local.log t e)))))
+      (λ r. may.commits p (passing_met t p r d)) o)
       (may.are_here t k)
 
   keeps_chosen : (x y : Item) → (Reaches x y → (x.tx ≡ y.tx) ⊎ Dep (view_of s) y.tx x.tx) × (Reaches x y → (x.tx ≡ y.tx) ⊎ Lists s.local.log y.tx x.tx) → Keeps (λ z. chosen z.tx) x y
@@ -103,7 +117,7 @@ module _ (all : List Item) (g : Past) (s : Shard) (told : List TxId) (cut : ℕ)
   kept_order = later_mono _ _ (λ x y o c. ⊎_elim (λ same. inl same) (λ l. inr (filter_place chosen g.asked x.tx y.tx o.1 o.2 l)) (o.0 c)) (filter (λ x. chosen x.tx) g.items) (later_filter _ (λ z. chosen z.tx) g.items h.kept.order)
 
   chosen_asked : (t : TxId) → Known g (view_of s) t → chosen t ≡ true → tx_in t g.asked ≡ true
-  chosen_asked t known k = ⊎_elim (λ m. item_asked all g s told cut h le once all_over t known m) (λ q. h.kept.closed t (chosen_closed t q.0 q.2)) (may.are_here t k)
+  chosen_asked t known k = ⊎_elim (λ m. item_asked all g s told cut h le once all_over t known m) (λ o. ⊎_elim (λ q. h.kept.closed t (chosen_closed t q.0 q.2)) (λ r. r.has_asked) o) (may.are_here t k)
 
   kept_in : AllByRecursion (λ x. tx_in x.tx ms ≡ true) (filter (λ x. chosen x.tx) g.items)
   kept_in = all_mono _ _ (λ x k. in_kept chosen g.asked x.tx (chosen_asked x.tx k.0 k.1) k.1) (filter (λ x. chosen x.tx) g.items) (all_filter _ (λ z. chosen z.tx) g.items h.kept.known)
@@ -148,7 +162,7 @@ module _ (all : List Item) (g : Past) (s : Shard) (told : List TxId) (cut : ℕ)
       let p = and_parts (chosen t) (wrote_in s.local.log t) e in
       ⊎_elim
       (λ m. or_left _ _ (⊎_elim (λ c. c) (λ o. ⊎_elim (λ d. durable_cut s.durable cut s.local.log t le d) (λ r. absurd (both_ways _ r.1 p.1)) (h.kept.over t (all_over t o))) (or_cases (committed_in (take cut s.local.log) t) (tx_in t told) m)))
-      (λ q. or_right (committed_in (take cut s.local.log) t) _ q.0) (may.are_here t p.0)
+      (λ o. ⊎_elim (λ q. or_right (committed_in (take cut s.local.log) t) _ q.0) (λ r. absurd (both_ways _ r.unwritten p.1)) o) (may.are_here t p.0)
 
   wins_alive : (t : TxId) → (chosen t && wrote_in s.local.log t) ≡ true → undone_in s.local.log t ≡ true → ⊥
   wins_alive t k u =
@@ -156,7 +170,7 @@ module _ (all : List Item) (g : Past) (s : Shard) (told : List TxId) (cut : ℕ)
       let p = and_parts (chosen t) (wrote_in s.local.log t) k in
       ⊎_elim (λ c. both_ways _ d.0 (cut_keeps cut s.local.log t c))
       (λ i. ⊎_elim (λ m. ⊎_elim (λ c. both_ways _ d.0 (cut_keeps cut s.local.log t c)) (λ o. ⊎_elim (λ e. both_ways _ d.0 (durable_committed s.local.log s.durable t e)) (λ e. both_ways _ e.1 p.1) (h.kept.over t (all_over t o))) (or_cases (committed_in (take cut s.local.log) t) (tx_in t told) m))
-      (λ q. d.2 (chosen_closed t q.0 q.2)) (may.are_here t p.0))
+      (λ o. ⊎_elim (λ q. d.2 (chosen_closed t q.0 q.2)) (λ r. both_ways _ r.unwritten p.1) o) (may.are_here t p.0))
       (or_cases (committed_in (take cut s.local.log) t) (tx_in t (in_doubt s.shard (take cut s.local.log))) (wins_here t k))
 
   rest_unmoved : filter (of_kept (λ t. chosen t && wrote_in s.local.log t)) (standing s.local.log) ≡ filter (of_kept (λ t. chosen t && wrote_in s.local.log t)) (standing (take cut s.local.log))
@@ -213,7 +227,7 @@ module _ (all : List Item) (g : Past) (s : Shard) (told : List TxId) (cut : ℕ)
 pub chosen_replay : ChosenReplay
 chosen_replay shard run before all asked told met fell s cut chosen leads le may =
     let b = held shard run before all asked told met fell s leads in
-    let r = chosen_run all b.0 s told cut chosen b.1 le (subst Once (sym b.4) b.5) b.6 b.9 (subst (λ f. MayChoose s cut told f chosen) (sym b.8) may) in (
+    let r = chosen_run all b.0 s told cut chosen b.1 le (subst Once (sym b.4) b.5) b.6 b.9 (subst (λ q. MayChoose s cut q told (b.0).fell chosen) (sym b.4) (subst (λ f. MayChoose s cut asked told f chosen) (sym b.8) may)) in (
       subst (λ l. replay_answers (stands (before ∷ [])) (ops_by (filter chosen l) all) ≡ answers_by (filter chosen l) all) b.4 (subst (λ m. replay_answers m (ops_by (filter chosen (b.0).asked) all) ≡ answers_by (filter chosen (b.0).asked) all) b.2 r.0),
       subst (λ l. replay_map (stands (before ∷ [])) (ops_by (filter chosen l) all) ≡ fold_updates chosen (take cut s.local.log) []) b.4 (subst (λ m. replay_map m (ops_by (filter chosen (b.0).asked) all) ≡ fold_updates chosen (take cut s.local.log) []) b.2 r.1),
     )
@@ -221,5 +235,5 @@ chosen_replay shard run before all asked told met fell s cut chosen leads le may
 pub chosen_stand_before : ChosenStandBefore
 chosen_stand_before shard run before all asked told met fell s cut chosen t p leads le may e k =
     let b = held shard run before all asked told met fell s leads in
-    let r = chosen_before all b.0 s told cut chosen b.1 le (subst Once (sym b.4) b.5) b.6 b.9 (subst (λ f. MayChoose s cut told f chosen) (sym b.8) may) t p (subst (λ m. is_pair m t p ≡ true) (sym b.7) e) k in
+    let r = chosen_before all b.0 s told cut chosen b.1 le (subst Once (sym b.4) b.5) b.6 b.9 (subst (λ q. MayChoose s cut q told (b.0).fell chosen) (sym b.4) (subst (λ f. MayChoose s cut asked told f chosen) (sym b.8) may)) t p (subst (λ m. is_pair m t p ≡ true) (sym b.7) e) k in
     (r.0, subst (λ l. place (filter chosen l) p < place (filter chosen l) t) b.4 r.1)

@@ -831,12 +831,12 @@ commit_sound all g s tx h closed open_ before w none unfallen = record {
   order = decision_commits g.asked s.shard s.run s.local.locks s.local.parts s.local.pairs s.local.log s.requests h.order tx closed open_ (λ p e. list_all_at (committed_in s.local.log) p (predecessors_of s.local.pairs tx) before (pair_in s.local.pairs tx p e)) w;
 }
 
-decides : (all : List Item) (g : Past) (s : Shard) (m : Message) (stamp : ℕ) (tx : TxId) (home : ℕ) (commit : Bool) → Sound all g s → (commit ≡ true → (predecessors_committed s.local tx ≡ true) × (wrote_in s.local.log tx ≡ true) × ((q : Request) → tx_get tx s.requests ≡ Some q → q.state ≡ Undecided → ⊥) × (tx_in tx g.fell ≡ false))
+decides : (all : List Item) (g : Past) (s : Shard) (m : Message) (stamp : ℕ) (tx : TxId) (home : ℕ) (commit : Bool) → Sound all g s → (commit ≡ true → committed_in s.local.log tx ≡ false → (predecessors_committed s.local tx ≡ true) × (wrote_in s.local.log tx ≡ true) × ((q : Request) → tx_get tx s.requests ≡ Some q → q.state ≡ Undecided → ⊥) × (tx_in tx g.fell ≡ false))
     → Keeps_reply all g s (Deliver m stamp) (on_decide s tx home commit (taken_by (facts_of s tx) commit))
 decides all g s m stamp tx home commit h may = at (is_waiting (facts_of s tx)) (commit && has_durable_commit (facts_of s tx)) refl
   where
     decided_after : (c : Bool) → commit ≡ c → is_waiting (facts_of s tx) ≡ true → After all g (decided s tx c)
-    decided_after true e w = let x = waiting_here s tx w in let y = may e in at_once all g _ (commit_sound all g s tx h x.0 x.1 y.0 y.1 y.2 y.3)
+    decided_after true e w = let x = waiting_here s tx w in let y = may e x.1 in at_once all g _ (commit_sound all g s tx h x.0 x.1 y.0 y.1 y.2 y.3)
     decided_after false e w = rolled all g s tx h (waiting_here s tx w).1
 
     at : (b c : Bool) → is_waiting (facts_of s tx) ≡ b → Keeps_reply all g s (Deliver m stamp) (on_decide s tx home commit (taken_if b c))

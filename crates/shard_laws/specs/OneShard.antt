@@ -100,16 +100,18 @@ MayAsk asked s tx = (tx_in tx asked ≡ false) × ((v : Voter) → tx_get tx s.v
 abbrev pub predecessors_committed : Local → TxId → Bool
 predecessors_committed l tx = list_all (committed_in l.log) (predecessors_of l.pairs tx)
 
--- what other shards and the transport owe of a message that is delivered here: a Prepare is of one that asked elsewhere; a Decide(commit)
--- finds the COMMITs of the predecessors, at a part that wrote and did not fall
+-- what other shards and the transport owe of a message that is delivered here: a Prepare is of one that asked elsewhere, whose request doesn't
+-- stand here, and who isn't committed here without a write; the first Decide(commit) finds the COMMITs of the predecessors, at a part that wrote
+-- and did not fall, and no undecided request of it
 abbrev pub MayDeliver : List TxId → List TxId → Shard → Message → Type 0
 MayDeliver asked fell s (Prepare to tx home seen) = (tx_in tx asked ≡ true) × (tx_get tx s.requests ≡ None) × (wrote_in s.local.log tx ≡ false → committed_in s.local.log tx ≡ false)
 MayDeliver asked fell s (VoteMessage to tx from vote) = ⊤
-MayDeliver asked fell s (Decide to tx home true) = (predecessors_committed s.local tx ≡ true) × (wrote_in s.local.log tx ≡ true) × ((q : Request) → tx_get tx s.requests ≡ Some q → q.state ≡ Undecided → ⊥) × (tx_in tx fell ≡ false)
+MayDeliver asked fell s (Decide to tx home true) = committed_in s.local.log tx ≡ false → (predecessors_committed s.local tx ≡ true) × (wrote_in s.local.log tx ≡ true) × ((q : Request) → tx_get tx s.requests ≡ Some q → q.state ≡ Undecided → ⊥) × (tx_in tx fell ≡ false)
 MayDeliver asked fell s (Decide to tx home false) = ⊤
 MayDeliver asked fell s (Done to tx from) = ⊤
 MayDeliver asked fell s (Ask to tx from) = ⊤
 
+-- and what sessions owe: who is closed and committed is not dropped
 abbrev pub MayHappen : List Item → List TxId → List (TxId × TxId) → List TxId → Shard → Event → Type 0
 MayHappen all asked met fell s (OpEvent tx birth nth seen op) = MayTouch all asked met fell s tx birth seen
 MayHappen all asked met fell s (Drop tx) = stage_of s.local tx ≡ Some Closed → committed_in s.local.log tx ≡ false
@@ -182,20 +184,29 @@ AnswersAndMap =
     → (replay_answers (stands (before ∷ [])) (ops_by (members_of s cut told asked) all) ≡ answers_by (members_of s cut told asked) all)
     × (replay_map (stands (before ∷ [])) (ops_by (members_of s cut told asked) all) ≡ stands (take cut s.local.log ∷ []))
 
+-- it asked, but wrote nothing here: it read and left, or did nothing here
+pub record Passes (asked fell : List TxId) (s : Shard) (tx : TxId) : Type 0 where
+  pub has_asked : tx_in tx asked ≡ true
+  pub unwritten : wrote_in s.local.log tx ≡ false
+  pub uncommitted : committed_in s.local.log tx ≡ false
+  pub absent : is_present (stage_of s.local tx) ≡ false
+  pub unfallen : tx_in tx fell ≡ false
+
 -- a choice of transactions as other shards' COMMITs make it: all that the cut commits are chosen, and each of the chosen is a member here, or
--- is in doubt in the cut, which commits all that its PREPARE lists, and did not fall
-pub record MayChoose (s : Shard) (cut : ℕ) (told fell : List TxId) (chosen : TxId → Bool) : Type 0 where
+-- is in doubt in the cut, which commits all that its PREPARE lists, and did not fall, or it wrote nothing here and left
+pub record MayChoose (s : Shard) (cut : ℕ) (asked told fell : List TxId) (chosen : TxId → Bool) : Type 0 where
   pub commits : (t : TxId) → committed_in (take cut s.local.log) t ≡ true → chosen t ≡ true
   pub are_here :
       (t : TxId) → chosen t ≡ true
       → (is_member s cut told t ≡ true)
-      ⊎ ((tx_in t (in_doubt s.shard (take cut s.local.log)) ≡ true) × (list_all (committed_in (take cut s.local.log)) (listed_in (take cut s.local.log) t) ≡ true) × (tx_in t fell ≡ false))
+      ⊎ (((tx_in t (in_doubt s.shard (take cut s.local.log)) ≡ true) × (list_all (committed_in (take cut s.local.log)) (listed_in (take cut s.local.log) t) ≡ true) × (tx_in t fell ≡ false))
+      ⊎ Passes asked fell s t)
 
 -- then the chosen ones that asked give their answers, and the map of the chosen ones' UPDATEs in the cut
 abbrev pub ChosenReplay : Type 0
 ChosenReplay =
     (shard run : ℕ) (before : List LogRecord) (all : List Item) (asked told : List TxId) (met : List (TxId × TxId)) (fell : List TxId) (s : Shard) (cut : ℕ) (chosen : TxId → Bool)
-    → Leads shard run before all asked told met fell s → s.durable ≤ cut → MayChoose s cut told fell chosen
+    → Leads shard run before all asked told met fell s → s.durable ≤ cut → MayChoose s cut asked told fell chosen
     → (replay_answers (stands (before ∷ [])) (ops_by (filter chosen asked) all) ≡ answers_by (filter chosen asked) all)
     × (replay_map (stands (before ∷ [])) (ops_by (filter chosen asked) all) ≡ fold_updates chosen (take cut s.local.log) [])
 
@@ -203,7 +214,7 @@ ChosenReplay =
 abbrev pub ChosenStandBefore : Type 0
 ChosenStandBefore =
     (shard run : ℕ) (before : List LogRecord) (all : List Item) (asked told : List TxId) (met : List (TxId × TxId)) (fell : List TxId) (s : Shard) (cut : ℕ) (chosen : TxId → Bool) (t p : TxId)
-    → Leads shard run before all asked told met fell s → s.durable ≤ cut → MayChoose s cut told fell chosen → has_met met t p ≡ true → chosen t ≡ true
+    → Leads shard run before all asked told met fell s → s.durable ≤ cut → MayChoose s cut asked told fell chosen → has_met met t p ≡ true → chosen t ≡ true
     → (chosen p ≡ true) × (place (filter chosen asked) p < place (filter chosen asked) t)
 
 -- whose writes a member violated is a member at an earlier place

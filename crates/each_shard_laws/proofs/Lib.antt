@@ -1,0 +1,12 @@
+pub mod Deeds
+pub mod Records
+pub mod Restored
+pub mod Touching
+pub mod Delivering
+pub mod Finding
+pub mod Asking
+pub mod Remembering
+pub mod Leading
+pub mod Ordering
+pub mod Telling
+pub mod Settling

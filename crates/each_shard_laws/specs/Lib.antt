@@ -1,0 +1,4 @@
+pub mod Leading
+pub mod Ordering
+pub mod Telling
+pub mod Settling
