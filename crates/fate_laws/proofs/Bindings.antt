@@ -154,7 +154,7 @@ parted_made run W S F log s _ u (by_restart epoch kept v r) w c p = parted_reviv
 
 -- ---- what it sends
 
-abbrev SaysOut : ℕ → (TxId → ℕ → List (ℕ × ℕ) → Type 0) → (TxId → Type 0) → (ℕ → TxId → Type 0) → Shard → Outcome → Type 0
+abbrev pub SaysOut : ℕ → (TxId → ℕ → List (ℕ × ℕ) → Type 0) → (TxId → Type 0) → (ℕ → TxId → Type 0) → Shard → Outcome → Type 0
 SaysOut run W S F s (Sent m) = Tells run W S F s m
 SaysOut run W S F s _ = ⊤
 
@@ -166,7 +166,7 @@ says_event : (run : ℕ) (W : TxId → ℕ → List (ℕ × ℕ) → Type 0) (S 
 says_event run W S F s _ (finishes {t = x} u h) p = says_step run W S F s x h p
 says_event run W S F s _ (stops u) p = tt
 
-says_made : (run : ℕ) (W : TxId → ℕ → List (ℕ × ℕ) → Type 0) (S : TxId → Type 0) (F : ℕ → TxId → Type 0) (log : List LogRecord) (s t : Shard) {e : Event} {o : Outcome} → Makes log s e o t → Parted run W S F s → SaysOut run W S F s o
+pub says_made : (run : ℕ) (W : TxId → ℕ → List (ℕ × ℕ) → Type 0) (S : TxId → Type 0) (F : ℕ → TxId → Type 0) (log : List LogRecord) (s t : Shard) {e : Event} {o : Outcome} → Makes log s e o t → Parted run W S F s → SaysOut run W S F s o
 says_made run W S F log s t (by_event g h) p = says_event run W S F s t h p
 says_made run W S F log s _ (by_flush n u f) p = tt
 says_made run W S F log s _ (by_failure n u f) p = tt
@@ -242,10 +242,10 @@ sought_not_own splits before after h pre e tx w a birth nth seen op q =
 pub sought_later : (before : List (List LogRecord)) (pre : History) (e : Placed) (tx : TxId) → Sought before pre tx → Sought before (pre ++ e ∷ []) tx
 sought_later before pre e tx a r = let k = a r in (k.0, asked_later pre e tx k.0 k.1)
 
-noted_bound : (s : Shard) (log : List LogRecord) (x : Entry) (tx : TxId) → Bound (event_state log s x.event x.outcome) tx → Bound (after_entry log s x) tx
+pub noted_bound : (s : Shard) (log : List LogRecord) (x : Entry) (tx : TxId) → Bound (event_state log s x.event x.outcome) tx → Bound (after_entry log s x) tx
 noted_bound s log x tx b = record { listed = b.listed; prepare = b.prepare; durable = b.durable; pairs = b.pairs }
 
-noted_reads : (s : Shard) (log : List LogRecord) (x : Entry) (tx : TxId) → Reads (event_state log s x.event x.outcome) tx → Reads (after_entry log s x) tx
+pub noted_reads : (s : Shard) (log : List LogRecord) (x : Entry) (tx : TxId) → Reads (event_state log s x.event x.outcome) tx → Reads (after_entry log s x) tx
 noted_reads s log x tx b = record { unprepared = b.unprepared; inactive = b.inactive; unclosed = b.unclosed }
 
 pub fine_later : (splits : List ℕ) (before after : List (List LogRecord)) (h pre : History) (e : Placed) → Next splits before after h pre e → Fated splits before after pre → (n : ℕ) (tx : TxId) → FineAt before after pre n tx → FineAt before after (pre ++ e ∷ []) n tx

@@ -16,6 +16,7 @@ pub mod Returning
 pub mod Opening
 pub mod Standing
 pub mod Bindings
+pub mod Casting
 pub mod Arriving
 pub mod Downwards
 pub mod Dooming

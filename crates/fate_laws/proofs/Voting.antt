@@ -3,6 +3,8 @@ use Rattle.std.proofs.Common.{◌≡◌, ◌⊎◌, inl, inr, ⊎_elim, refl, sy
 use Rattle.std.specs.List.{list_all}
 use Rattle.std.proofs.lemmas.Bool.{both_ways, or_cases, or_left, or_right, false_from_ne_true}
 use Rattle.clv_base.specs.declared.names.TxId.{TxId}
+use Rattle.clv_base.specs.declared.logs.LogRecord.{LogRecord}
+use Rattle.clv_base.specs.Journals.{History}
 use Rattle.clv_base.specs.declared.causes.Vote.{Vote}
 use Rattle.clv_base.specs.declared.causes.Vote.TheVariants.{Yes, Read, No}
 use Rattle.clv_base.specs.declared.state.Stage.{Stage}
@@ -12,20 +14,17 @@ use Rattle.clv_base.specs.Logs.{committed_in}
 use Rattle.clv_base.specs.State.{Shard, is_present}
 use Rattle.clv_base.specs.Undo.{stage_of, with_successors, successors_through, doomed_by, doomed_here}
 use Rattle.clv_base.specs.Facts.{predecessors_of}
-use Rattle.clv_base.specs.Coordinator.{is_good}
 use Rattle.clv_base.specs.Restarts.{log_left}
 use Rattle.clv_base.proofs.SameNames.{tx_true, tx_self, in_insert}
 use Rattle.law_base.proofs.Tables.{row_pairs, is_pair, pair_in, in_pair}
 use Rattle.protocol_laws.proofs.Sets.{in_filter}
 use Rattle.history_laws.proofs.Merging.{is_among}
-use Rattle.history_laws.proofs.TellingEvents.{front_committed}
 use Rattle.history_laws.proofs.Worlds.{state_at}
-use Rattle.fate_laws.specs.Votes.{HasRead, IsPrepared, are_committed, VotesBind, OthersAbortsSpareIt}
+use Rattle.fate_laws.specs.Votes.{Keeps, VotesBind, OthersAbortsSpareIt}
 use Rattle.fate_laws.proofs.Prepares.{prepare_there}
 use Rattle.fate_laws.proofs.Arriving.{all_from, listed_is}
-use Rattle.fate_laws.proofs.Binding.{Bound, Reads}
-use Rattle.fate_laws.proofs.Parts.{VoteTells}
-use Rattle.fate_laws.proofs.Bindings.{FineAt, Said}
+use Rattle.fate_laws.proofs.Binding.{Bound}
+use Rattle.fate_laws.proofs.Casting.{Cast, casts_front}
 use Rattle.fate_laws.proofs.Downwards.{Down, lowered_front, all_at}
 
 -- ---- votes
@@ -36,28 +35,21 @@ absent (Some Active) a c = absurd (a refl)
 absent (Some Closed) a c = absurd (c refl)
 absent (Some (Gone d)) a c = refl
 
-fine_holds : (s : Shard) (tx : TxId) → Down s → Bound s tx ⊎ (Reads s tx ⊎ (committed_in (log_left s false) tx ≡ true)) → HasRead s tx ⊎ (IsPrepared (log_left s false) tx × (are_committed s tx ≡ true))
-fine_holds s tx d (inl k) =
-    let log = log_left s false in
-    inr (
-      inr (prepare_there log tx k.listed k.prepare, subst (λ l. list_all (committed_in log) l ≡ true) (sym (listed_is log tx k.listed k.prepare)) (all_from (committed_in log) (k.listed).1 (λ q i. k.durable q i))),
+bound_keeps : (s : Shard) (tx : TxId) → Bound s tx → Keeps s tx Yes
+bound_keeps s tx k =
+    let log = log_left s false in (
+      (prepare_there log tx k.listed k.prepare, subst (λ l. list_all (committed_in log) l ≡ true) (sym (listed_is log tx k.listed k.prepare)) (all_from (committed_in log) (k.listed).1 (λ q i. k.durable q i))),
       all_from (committed_in s.local.log) (predecessors_of s.local.pairs tx) (λ q i. k.pairs q (in_pair s.local.pairs tx q i)),
     )
-fine_holds s tx d (inr (inl k)) = inl (k.unprepared, absent (stage_of s.local tx) k.inactive k.unclosed)
-fine_holds s tx d (inr (inr c)) =
-    inr (inl c, all_from (committed_in s.local.log) (predecessors_of s.local.pairs tx) (λ q i. d tx q (front_committed s.durable s.local.log tx c) (in_pair s.local.pairs tx q i)))
 
-good_fine : (F : ℕ → TxId → Type 0) (n : ℕ) (tx : TxId) (vote : Vote) → is_good (Some vote) ≡ true → VoteTells F n tx vote → F n tx
-good_fine F n tx Yes g p = p
-good_fine F n tx Read g p = p
-good_fine F n tx (No why) g p = absurd (both_ways false refl g)
+cast_keeps : (before after : List (List LogRecord)) (pre : History) (n : ℕ) (tx : TxId) (vote : Vote) → Cast before after pre n tx vote → Keeps (state_at before after n pre) tx vote
+cast_keeps before after pre n tx Yes c = bound_keeps (state_at before after n pre) tx c.1
+cast_keeps before after pre n tx Read c = ((c.1).unprepared, absent (stage_of (state_at before after n pre).local tx) (c.1).inactive (c.1).unclosed)
+cast_keeps before after pre n tx (No why) c = tt
 
 pub votes_bind : VotesBind
-votes_bind splits before so_far later after n e home from tx vote o l i j q g =
-    let k = lowered_front splits before after (so_far ++ later) so_far later o l refl in
-    let t = subst (Said before after (so_far ++ later) so_far) q ((k.bindings).said (n, e) (is_among n e so_far j)) in
-    let f = good_fine (FineAt before after so_far) from tx vote g t in
-    fine_holds (state_at before after from so_far) tx (k.down from i) f.1
+votes_bind splits before so_far later after n e home from tx vote o l i j q =
+    cast_keeps before after so_far from tx vote ((casts_front splits before after (so_far ++ later) so_far later o l refl).cast (n, e) home from tx vote (is_among n e so_far j) q)
 
 -- ---- aborts of others
 

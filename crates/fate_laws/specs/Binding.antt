@@ -31,7 +31,7 @@ CommitsComeDue =
     → e.event ≡ Deliver (Decide to tx home true) stamp → e.outcome ≡ Taken → committed_in (state_before before so_far after n).local.log tx ≡ false
     → IsDue (state_before before so_far after n) tx
 
--- a part of a commit in a log that is left: committed, or prepared with all that its PREPARE lists committed, or it only read
+-- a part of a commit in a log that is left: committed, or prepared with all that its PREPARE lists committed, or not prepared
 abbrev pub HasItsPart : List LogRecord → TxId → Type 0
 HasItsPart log tx = (committed_in log tx ≡ true) ⊎ (((prepared_in log tx ≡ true) × (list_all (committed_in log) (listed_in log tx) ≡ true)) ⊎ (prepared_in log tx ≡ false))
 

@@ -33,14 +33,14 @@ CommitsStandAtHome =
     → may_open splits before ≡ true → Legal splits before h after → n < shard_count splits → tx.run ≡ run_after before
     → is_left splits before h after choice n tx ≡ true → (home : ℕ) × IsHome h tx home × (is_left splits before h after choice home tx ≡ true)
 
--- where a commit is told, the COMMIT at the home stays, whatever a crash keeps
+-- where a commit of a transaction of this run is told, the COMMIT at the home stays, whatever a crash keeps
 abbrev pub ToldCommitsStay : Type 0
 ToldCommitsStay =
     (splits : List ℕ) (before : List (List LogRecord)) (h : History) (after : List (List LogRecord)) (choice : ℕ → Bool) (home : ℕ) (tx : TxId)
     → may_open splits before ≡ true → Legal splits before h after → tx.run ≡ run_after before
     → IsTold h tx true → IsHome h tx home → is_left splits before h after choice home tx ≡ true
 
--- where an abort is told, no shard has a COMMIT of it then or ever after
+-- where an abort of one is told, no shard has a COMMIT of it then or ever after
 abbrev pub ToldAbortsStay : Type 0
 ToldAbortsStay =
     (splits : List ℕ) (before : List (List LogRecord)) (h : History) (after : List (List LogRecord)) (choice : ℕ → Bool) (n : ℕ) (tx : TxId)

@@ -1,9 +1,10 @@
 -- What a vote binds, and what no other's abort takes away.
-use Rattle.std.specs.Prelude.{◌≡◌, ◌⊎◌, ℕ, ◌<◌, Bool, true, false, List, ◌++◌, Some}
+use Rattle.std.specs.Prelude.{◌≡◌, ⊤, ℕ, ◌<◌, Bool, true, false, List, ◌++◌}
 use Rattle.std.specs.List.{list_all}
 use Rattle.clv_base.specs.declared.names.TxId.{TxId}
 use Rattle.clv_base.specs.declared.logs.LogRecord.{LogRecord}
 use Rattle.clv_base.specs.declared.causes.Vote.{Vote}
+use Rattle.clv_base.specs.declared.causes.Vote.TheVariants.{Yes, Read, No}
 use Rattle.clv_base.specs.declared.messages.Message.TheVariants.{Vote as VoteMessage}
 use Rattle.clv_base.specs.declared.events.Outcome.TheVariants.{Sent}
 use Rattle.clv_base.specs.declared.events.Entry.{Entry}
@@ -15,31 +16,31 @@ use Rattle.clv_base.specs.FileRules.{may_open}
 use Rattle.clv_base.specs.State.{Shard, is_present}
 use Rattle.clv_base.specs.Undo.{stage_of, doomed_here}
 use Rattle.clv_base.specs.Facts.{predecessors_of}
-use Rattle.clv_base.specs.Coordinator.{is_good}
 use Rattle.clv_base.specs.Restarts.{log_left}
 use Rattle.clv_base.specs.Journals.{History}
 use Rattle.clv_base.specs.History.{Legal, IsAmong, state_before}
 
--- the part only read and is finished: it has no PREPARE, and isn't there any more
-abbrev pub HasRead : Shard → TxId → Type 0
-HasRead s tx = (prepared_in s.local.log tx ≡ false) × (is_present (stage_of s.local tx) ≡ false)
-
--- in these records the transaction is committed, or prepared with all that its PREPARE lists committed
+-- in these records the transaction is prepared, and all that its PREPARE lists is committed
 abbrev pub IsPrepared : List LogRecord → TxId → Type 0
-IsPrepared log tx = (committed_in log tx ≡ true) ⊎ ((prepared_in log tx ≡ true) × (list_all (committed_in log) (listed_in log tx) ≡ true))
+IsPrepared log tx = (prepared_in log tx ≡ true) × (list_all (committed_in log) (listed_in log tx) ≡ true)
 
 -- all its predecessors on the shard have COMMITs
 abbrev pub are_committed : Shard → TxId → Bool
 are_committed s tx = list_all (committed_in s.local.log) (predecessors_of s.local.pairs tx)
 
--- from a vote of yes or read on, the shard's part has read, or is prepared by what is durable and has all its predecessors committed
+-- what a vote binds its shard to: yes, that the part is prepared by what is durable, with all its predecessors committed; read, that the part
+-- isn't there any more, and has no PREPARE
+abbrev pub Keeps : Shard → TxId → Vote → Type 0
+Keeps s tx Yes = IsPrepared (log_left s false) tx × (are_committed s tx ≡ true)
+Keeps s tx Read = (prepared_in s.local.log tx ≡ false) × (is_present (stage_of s.local tx) ≡ false)
+Keeps s tx (No why) = ⊤
+
+-- so it is at each moment from the vote on
 abbrev pub VotesBind : Type 0
 VotesBind =
     (splits : List ℕ) (before : List (List LogRecord)) (so_far later : History) (after : List (List LogRecord)) (n : ℕ) (e : Entry) (home from : ℕ) (tx : TxId) (vote : Vote)
     → may_open splits before ≡ true → Legal splits before (so_far ++ later) after → from < shard_count splits
-    → IsAmong n e so_far → e.outcome ≡ Sent (VoteMessage home tx from vote) → is_good (Some vote) ≡ true
-    → HasRead (state_before before so_far after from) tx
-    ⊎ (IsPrepared (log_left (state_before before so_far after from) false) tx × (are_committed (state_before before so_far after from) tx ≡ true))
+    → IsAmong n e so_far → e.outcome ≡ Sent (VoteMessage home tx from vote) → Keeps (state_before before so_far after from) tx vote
 
 -- at each moment, where all predecessors of a transaction are committed, no abort of another one that isn't committed takes it away
 abbrev pub OthersAbortsSpareIt : Type 0

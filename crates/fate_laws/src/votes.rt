@@ -2,12 +2,13 @@
 
 ghost use Rattle.fate_laws.specs.Votes.{VotesBind, OthersAbortsSpareIt};
 
-/// Who voted yes stays prepared by what is durable, with all its predecessors committed; who voted read has read.
+/// From a vote of yes on, the part is prepared by what is durable, with all its predecessors committed; from a vote of read on, it isn't there
+/// any more, and has no PREPARE.
 pub fn votes_bind()
     ensures { VotesBind }
 {}
 
-/// Whose predecessors are all committed goes with no other's abort.
+/// A part whose predecessors are all committed goes with no abort of another that isn't committed.
 pub fn others_aborts_spare_it()
     ensures { OthersAbortsSpareIt }
 {}
