@@ -41,7 +41,7 @@ use Rattle.origin_laws.proofs.Sessions.{Turn, Requested, turn_of, own_precedes, 
 use Rattle.origin_laws.proofs.Origins.{SomeRequest, part_of}
 use Rattle.origin_laws.proofs.Entries.{IsOld}
 use Rattle.fate_laws.proofs.Prefixes.{next_at}
-use Rattle.cause_laws.specs.Causes.{TellsCause, op_died, request_died, look_found, CausesStand}
+use Rattle.cause_laws.specs.Causes.{TellsCause, op_died, request_died, look_found, IsOfAnother, CausesStand}
 use Rattle.cause_laws.proofs.Seeing.{lookup_row, seen_before}
 use Rattle.cause_laws.proofs.Reasons.{OpWhy, unseen, closed, doomed, older, RequestWhy, late, fell, op_why, request_why, seen_other}
 use Rattle.cause_laws.proofs.Causing.{Ended, Fallen, GoneHow, RefusedHow, StateHow, Caused, fallen_more}
@@ -74,22 +74,25 @@ works_request e t ts p = subst (λ z. works_on t.serial z ≡ true) (sym p) (eq-
 
 -- ---- the causes
 
+abbrev Holds : List (List LogRecord) → History → List (List LogRecord) → Placed → TxId → AbortCause → Type 0
+Holds before pre after e t c = CauseStands before pre after e t c × IsOfAnother t c
+
 -- an abort that took it along
 fell_here : (before after : List (List LogRecord)) (pre : History) (e : Placed) (t d : TxId) → Fallen before after pre e.0 t d → DoomedHere before (pre ++ e ∷ []) after e.0 t d
 fell_here before after pre e t d f = let g = fallen_more before after pre e e.0 t d f in (g.0, g.2, g.3)
 
-doomed_stands : (run : ℕ) (before after : List (List LogRecord)) (pre : History) (e : Placed) (t d : TxId) (c : AbortCause) → c ≡ doom_cause t d → (Ended run pre t → ⊥) → GoneHow run before after pre e.0 t d → CauseStands before pre after e t c
+doomed_stands : (run : ℕ) (before after : List (List LogRecord)) (pre : History) (e : Placed) (t d : TxId) (c : AbortCause) → c ≡ doom_cause t d → (Ended run pre t → ⊥) → GoneHow run before after pre e.0 t d → Holds before pre after e t c
 doomed_stands run before after pre e t d c q n (inl x) = absurd (n x.1)
 doomed_stands run before after pre e t d c q n (inr x) =
     let other : tx_same t d ≡ false = false_from_ne_true (tx_same t d) (λ z. x.0 (tx_true t d z)) in
-    subst (CauseStands before pre after e t) (sym (q ∙ cond-false (tx_same t d) AskedCause (Predecessor d) other)) (fell_here before after pre e t d x.1)
+    subst (Holds before pre after e t) (sym (q ∙ cond-false (tx_same t d) AskedCause (Predecessor d) other)) (fell_here before after pre e t d x.1, x.0)
 
 -- a restart since it was answered
 restarted_stands : (before after : List (List LogRecord)) (pre : History) (e : Placed) (s : Shard) (t : TxId) (epoch : ℕ) (c : AbortCause) → s ≡ state_at before after e.0 pre → s.shard ≡ e.0 → c ≡ Restarted s.shard epoch s.local.epoch → (epoch == s.local.epoch) ≡ false → WasAnswered pre e.0 t epoch
-    → CauseStands before pre after e t c
+    → Holds before pre after e t c
 restarted_stands before after pre e s t epoch c k n q d a =
-    subst (CauseStands before pre after e t) (sym (q ∙ ap (λ z. Restarted z epoch s.local.epoch) n))
-    (refl, a, ap (λ z. z.local.epoch) k, (λ f. both_ways (epoch == s.local.epoch) d (eq-eqb epoch s.local.epoch f)))
+    subst (Holds before pre after e t) (sym (q ∙ ap (λ z. Restarted z epoch s.local.epoch) n))
+    ((refl, a, ap (λ z. z.local.epoch) k, (λ f. both_ways (epoch == s.local.epoch) d (eq-eqb epoch s.local.epoch f))), tt)
 
 -- ---- an operation
 
@@ -121,7 +124,7 @@ saw splits before after h pre e t b nth epoch op w p =
     was_answered pre e.0 t epoch y.0 ((w.behind).earlier y.0 (from_own (e.1).walker y.0 h (first_among y.0 e v y.1)) (precedes_before y.0 e v (own_in_order (e.1).walker h (in_order h (w.legal).ordered)) y.1)) y.2
 
 op_stands : (splits : List ℕ) (before after : List (List LogRecord)) (h pre : History) (e : Placed) (t : TxId) (b : Birth) (nth : ℕ) (seen : Option ℕ) (op : Operation) (c : AbortCause) → Before_entry splits before after h pre e
-    → Caused (run_after before) before after pre e.0 (state_at before after e.0 pre) → (e.1).event ≡ OpEvent t b nth seen op → OpWhy (state_at before after e.0 pre).shard (state_at before after e.0 pre).local t b seen op c → CauseStands before pre after e t c
+    → Caused (run_after before) before after pre e.0 (state_at before after e.0 pre) → (e.1).event ≡ OpEvent t b nth seen op → OpWhy (state_at before after e.0 pre).shard (state_at before after e.0 pre).local t b seen op c → Holds before pre after e t c
 op_stands splits before after h pre e t b nth seen op c w k p (unseen f q) =
     let s = state_at before after e.0 pre in
     let z = seen_other s.local.epoch seen f in
@@ -134,7 +137,7 @@ op_stands splits before after h pre e t b nth seen op c w k p (closed g) =
 op_stands splits before after h pre e t b nth seen op c w k p (doomed d g q) =
     doomed_stands (run_after before) before after pre e t d c q (nothing_after splits before after h pre e t w (ap tx_of p) (works_op e t b nth seen op p)) (k.gone t d g)
 op_stands splits before after h pre e t b nth seen op c w k p (older o g q) =
-    subst (CauseStands before pre after e t) (sym q) (subst (λ z. DiedOf (state_at before after e.0 pre) z o) (sym p) g)
+    subst (Holds before pre after e t) (sym q) (subst (λ z. DiedOf (state_at before after e.0 pre) z o) (sym p) g, tt)
 
 -- ---- a request
 
@@ -145,7 +148,7 @@ named splits before after h pre r t ts n epoch l i p q k =
     let y = lookup_row (λ x. (y : Placed) × Turn h y r × AnsweredAt y t x.0 x.1) n epoch ts q (named_at splits before after h r t ts l i p).0 in was_answered pre n t epoch y.0 (k y.0 y.1) y.2
 
 request_stands : (splits : List ℕ) (before after : List (List LogRecord)) (h pre : History) (e : Placed) (t : TxId) (ts : List (ℕ × ℕ)) (c : AbortCause) → Before_entry splits before after h pre e → Caused (run_after before) before after pre e.0 (state_at before after e.0 pre)
-    → (e.1).event ≡ RequestEvent t ts → RequestWhy (state_at before after e.0 pre) t ts c → CauseStands before pre after e t c
+    → (e.1).event ≡ RequestEvent t ts → RequestWhy (state_at before after e.0 pre) t ts c → Holds before pre after e t c
 request_stands splits before after h pre e t ts c w k p (late f q) =
     let s = state_at before after e.0 pre in
     let z = seen_other s.local.epoch (epoch_in s.shard ts) f in
@@ -207,13 +210,13 @@ names_entry shard t (r ∷ rs) n e = at (cond (is_asked_outcome r.outcome) (entr
     at (Some m) q f k = here (is_asked_outcome r.outcome) m (some_same m n f) q
 
 look_stands : (splits : List ℕ) (before after : List (List LogRecord)) (h pre : History) (e : Placed) (t : TxId) (c : AbortCause) → Before_entry splits before after h pre e → e.0 < shard_count splits → Caused (run_after before) before after pre e.0 (state_at before after e.0 pre)
-    → FindsIll (state_at before after e.0 pre) t c → CauseStands before pre after e t c
+    → FindsIll (state_at before after e.0 pre) t c → Holds before pre after e t c
 look_stands splits before after h pre e t c w i k (inl (q, g, f)) = refused (subst (StateHow (run_after before) before after pre e.0 (state_at before after e.0 pre) t) f (k.rows t q g).state)
   where
-    refused : RefusedHow before after pre e.0 t c → CauseStands before pre after e t c
+    refused : RefusedHow before after pre e.0 t c → Holds before pre after e t c
     refused (inl (p, why, x, y)) =
-        subst (CauseStands before pre after e t) (sym x) ((y.0).1, among_is e.0 (y.0).1 pre (subst (λ n. Among (n, (y.0).1) pre) y.2 y.1), y.3)
-    refused (inr (d, x, a, y)) = subst (CauseStands before pre after e t) (sym x) (fell_here before after pre e t d y)
+        subst (Holds before pre after e t) (sym x) (((y.0).1, among_is e.0 (y.0).1 pre (subst (λ n. Among (n, (y.0).1) pre) y.2 y.1), y.3), tt)
+    refused (inr (d, x, a, y)) = subst (Holds before pre after e t) (sym x) (fell_here before after pre e t d y, a)
 look_stands splits before after h pre e t c w i k (inr (epoch, none, open_, found, differs, q)) =
     let s = state_at before after e.0 pre in
     let n = ((w.traced).origins).shard in
@@ -227,7 +230,7 @@ look_stands splits before after h pre e t c w i k (inr (epoch, none, open_, foun
 -- ---- the law
 
 tells : (splits : List ℕ) (before after : List (List LogRecord)) (h pre : History) (e : Placed) (post : History) (t : TxId) (c : AbortCause) (ev : Event) (o : Outcome) → may_open splits before ≡ true → Legal splits before h after → pre ++ e ∷ post ≡ h → (e.1).event ≡ ev → (e.1).outcome ≡ o
-    → TellsCause ev o t c → CauseStands before pre after e t c
+    → TellsCause ev o t c → Holds before pre after e t c
 tells splits before after h pre e post _ _ _ _ m l q p r (op_died t b nth seen op c) =
     let s = state_at before after e.0 pre in
     let x = next_at splits before after h pre e post l q in
