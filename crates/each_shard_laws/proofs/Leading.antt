@@ -29,7 +29,8 @@ use Rattle.history_laws.proofs.Staying.{is_request}
 use Rattle.file_laws.proofs.Walking.{Behind, next_entry}
 use Rattle.origin_laws.proofs.Sessions.{Requested, request_no_request}
 use Rattle.origin_laws.proofs.Entries.{IsOld, Traced, Brings, brought, traced_front}
-use Rattle.each_shard_laws.specs.Leading.{Deeds, deeds_with, deeds_before, falling, requests_of, CommitsSpareTheFallen, EachShardLeads}
+use Rattle.fall_laws.specs.Falls.{OpensClear}
+use Rattle.each_shard_laws.specs.Leading.{Deeds, deeds_with, deeds_before, falling, requests_of, EachShardLeads}
 use Rattle.each_shard_laws.proofs.Deeds.{deeds_own, deeds_other, state_other, requests_push}
 use Rattle.each_shard_laws.proofs.Restored.{restored_prepared}
 use Rattle.each_shard_laws.proofs.Touching.{Here, Remembers, not_asked, may_ask, may_touch}
@@ -192,10 +193,10 @@ may_serve splits before n m l i =
 begins : (splits : List ℕ) (before after : List (List LogRecord)) (n : ℕ) → MayServe n (run_after before) (log_of before n) → At before after [] n
 begins splits before after n s = record { leads = opens s; remembers = record { items = tt; met = λ t p e. absurd (both_ways false refl e); fell = λ t i. absurd (both_ways false refl i) } }
 
-pub at_front : (splits : List ℕ) (before : List (List LogRecord)) (h : History) (after : List (List LogRecord)) (so_far rest : History) (n : ℕ) → may_open splits before ≡ true → Legal splits before h after → CommitsSpareTheFallen before h after → so_far ++ rest ≡ h
-    → n < shard_count splits → in_doubt n (log_of before n) ≡ [] → At before after so_far n
-at_front splits before h after so_far rest n m l k q i d =
-    walk splits before after h [] so_far rest n m l (all_found splits before after h m l k) (drops_spared splits before after h m l) q i (begins splits before after n (may_serve splits before n m (let e = (l.each_log).0 in omega (arith, e, i)) d))
+pub at_front : (splits : List ℕ) (before : List (List LogRecord)) (h : History) (after : List (List LogRecord)) (so_far rest : History) (n : ℕ) → may_open splits before ≡ true → Legal splits before h after → OpensClear splits before → so_far ++ rest ≡ h → n < shard_count splits
+    → At before after so_far n
+at_front splits before h after so_far rest n m l d q i =
+    walk splits before after h [] so_far rest n m l (all_found splits before after h m l d) (drops_spared splits before after h m l) q i (begins splits before after n (may_serve splits before n m (let e = (l.each_log).0 in omega (arith, e, i)) (d n i)))
 
 pub each_shard_leads : EachShardLeads
-each_shard_leads splits before h after so_far rest n m l k q i d = (at_front splits before h after so_far rest n m l k q i d).leads
+each_shard_leads splits before h after so_far rest n m l d q i = (at_front splits before h after so_far rest n m l d q i).leads

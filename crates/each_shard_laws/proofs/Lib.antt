@@ -1,3 +1,4 @@
+pub mod Fallen
 pub mod Deeds
 pub mod Records
 pub mod Restored

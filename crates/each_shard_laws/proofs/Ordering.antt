@@ -19,8 +19,8 @@ pub log_now : (splits : List ℕ) (before : List (List LogRecord)) (h : History)
 log_now splits before h after choice n l = left_at (final_of before h after) choice 0 (shard_count splits) n l ∙ ap (λ m. log_left (final_of before h after m) (choice m)) (omega arith)
 
 pub logs_left_are_in_order : LogsLeftAreInOrder
-logs_left_are_in_order splits before h after choice n m l k i d =
+logs_left_are_in_order splits before h after choice n m l d i =
     let s = final_of before h after n in
     let e = deeds_before before h after n in
-    let o = order_is_kept n (run_after before) (log_of before n) e.items (requests_of h) e.told e.met e.fell s (each_shard_leads splits before h after h [] n m l k (append-nil h) i d) in
+    let o = order_is_kept n (run_after before) (log_of before n) e.items (requests_of h) e.told e.met e.fell s (each_shard_leads splits before h after h [] n m l d (append-nil h) i) in
     subst (λ z. disorder n z ≡ None) (sym (log_now splits before h after choice n i)) (fronts_in_order n (cond (choice n) (unwrap_or s.flight s.durable) s.durable) s.local.log o)

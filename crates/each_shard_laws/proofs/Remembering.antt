@@ -34,7 +34,8 @@ use Rattle.one_shard_laws.proofs.Leading.{one_met}
 use Rattle.origin_laws.proofs.Sessions.{Requested}
 use Rattle.origin_laws.proofs.Origins.{SomeRequest, BirthFrom, PartFrom, stage_row}
 use Rattle.origin_laws.proofs.Entries.{Did, DidAny, IsOld, DidOrOld, Traced, any_of}
-use Rattle.each_shard_laws.specs.Leading.{Deeds, deeds_with, falling, FellOn, is_left_out}
+use Rattle.each_shard_laws.proofs.Fallen.{FellOn, is_left_out}
+use Rattle.each_shard_laws.specs.Leading.{Deeds, deeds_with, falling}
 use Rattle.each_shard_laws.proofs.Records.{prepared_from}
 use Rattle.each_shard_laws.proofs.Restored.{RestoredArePrepared}
 use Rattle.each_shard_laws.proofs.Touching.{Remembers}

@@ -27,7 +27,8 @@ use Rattle.file_laws.proofs.Walking.{Behind}
 use Rattle.origin_laws.proofs.Sessions.{Requested, turn_of, same_epoch, op_no_request, request_no_request}
 use Rattle.origin_laws.proofs.Origins.{SomeRequest, AwayRequest, BirthFrom, PartFrom, RowFrom, part_of, own_some, away_some}
 use Rattle.origin_laws.proofs.Entries.{Did, DidNow, DidAny, IsOld, DidOrOld, Traced}
-use Rattle.each_shard_laws.specs.Leading.{Deeds, FellOn, requests_of}
+use Rattle.each_shard_laws.proofs.Fallen.{FellOn}
+use Rattle.each_shard_laws.specs.Leading.{Deeds, requests_of}
 use Rattle.each_shard_laws.proofs.Deeds.{made_request}
 use Rattle.each_shard_laws.proofs.Records.{wrote_from, aborted_from, prepared_from, committed_from}
 use Rattle.each_shard_laws.proofs.Restored.{RestoredArePrepared}

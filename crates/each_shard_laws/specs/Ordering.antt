@@ -1,18 +1,17 @@
 -- The order rules of the logs that a history of many shards leaves.
-use Rattle.std.specs.Prelude.{◌≡◌, ℕ, ◌<◌, Bool, true, List, [], None}
+use Rattle.std.specs.Prelude.{◌≡◌, ℕ, ◌<◌, Bool, true, List, None}
 use Rattle.clv_base.specs.declared.logs.LogRecord.{LogRecord}
 use Rattle.clv_base.specs.Shards.{shard_count}
-use Rattle.clv_base.specs.Logs.{in_doubt}
 use Rattle.clv_base.specs.LogRules.{log_of, disorder}
 use Rattle.clv_base.specs.FileRules.{may_open}
 use Rattle.clv_base.specs.Journals.{History}
 use Rattle.clv_base.specs.History.{Legal, logs_left}
-use Rattle.each_shard_laws.specs.Leading.{CommitsSpareTheFallen}
+use Rattle.fall_laws.specs.Falls.{OpensClear}
 
--- whatever a crash keeps, the log of a shard that had nothing in doubt at opening is in order
+-- where nothing was in doubt at opening, whatever a crash keeps, the log left on each shard is in order
 abbrev pub LogsLeftAreInOrder : Type 0
 LogsLeftAreInOrder =
     (splits : List ℕ) (before : List (List LogRecord)) (h : History) (after : List (List LogRecord)) (choice : ℕ → Bool) (n : ℕ)
-    → may_open splits before ≡ true → Legal splits before h after → CommitsSpareTheFallen before h after
-    → n < shard_count splits → in_doubt n (log_of before n) ≡ []
+    → may_open splits before ≡ true → Legal splits before h after → OpensClear splits before
+    → n < shard_count splits
     → disorder n (log_of (logs_left splits before h after choice) n) ≡ None

@@ -2,18 +2,18 @@
 use Rattle.std.specs.Prelude.{◌≡◌, ℕ, ◌<◌, Bool, true, List, [], ◌∷◌}
 use Rattle.clv_base.specs.declared.logs.LogRecord.{LogRecord}
 use Rattle.clv_base.specs.Shards.{shard_count}
-use Rattle.clv_base.specs.Logs.{in_doubt, stands}
+use Rattle.clv_base.specs.Logs.{stands}
 use Rattle.clv_base.specs.LogRules.{log_of}
 use Rattle.clv_base.specs.Needs.{live_pairs}
 use Rattle.clv_base.specs.FileRules.{may_open}
 use Rattle.clv_base.specs.Journals.{History, final_of}
 use Rattle.clv_base.specs.History.{Legal, IsQuiet, logs_left}
-use Rattle.each_shard_laws.specs.Leading.{CommitsSpareTheFallen}
+use Rattle.fall_laws.specs.Falls.{OpensClear}
 
--- where a shard that had nothing in doubt at opening is quiet, its live records are the map that its log left stands for, whatever a crash would keep
+-- where nothing was in doubt at opening and a shard is quiet, its live records are the map that its log left stands for, whatever a crash would keep
 abbrev pub QuietShardsAreTheirMaps : Type 0
 QuietShardsAreTheirMaps =
     (splits : List ℕ) (before : List (List LogRecord)) (h : History) (after : List (List LogRecord)) (choice : ℕ → Bool) (n : ℕ)
-    → may_open splits before ≡ true → Legal splits before h after → CommitsSpareTheFallen before h after
-    → n < shard_count splits → in_doubt n (log_of before n) ≡ [] → IsQuiet (final_of before h after n)
+    → may_open splits before ≡ true → Legal splits before h after → OpensClear splits before
+    → n < shard_count splits → IsQuiet (final_of before h after n)
     → live_pairs (final_of before h after n).local.records ≡ stands (log_of (logs_left splits before h after choice) n ∷ [])

@@ -5,18 +5,18 @@ ghost use Rattle.each_shard_laws.specs.Ordering.{LogsLeftAreInOrder};
 ghost use Rattle.each_shard_laws.specs.Settling.{QuietShardsAreTheirMaps};
 ghost use Rattle.each_shard_laws.specs.Telling.{DeedsAreTold};
 
-/// After each front of a legal history, a shard whose log had nothing in doubt at opening is one that the laws of one shard lead there: with the
+/// After each front of a legal history from logs that leave nothing in doubt, each shard is one that the laws of one shard lead there: with the
 /// operations that it answered, and in the order of all requests on any shard.
 pub fn each_shard_leads()
     ensures { EachShardLeads }
 {}
 
-/// The log of such a shard is in order, whatever a crash keeps of what is in flight.
+/// The log of each shard is in order then, whatever a crash keeps of what is in flight.
 pub fn logs_left_are_in_order()
     ensures { LogsLeftAreInOrder }
 {}
 
-/// Where such a shard is quiet, its live records are the map that its log stands for.
+/// Where a shard is quiet, its live records are the map that its log stands for.
 pub fn quiet_shards_are_their_maps()
     ensures { QuietShardsAreTheirMaps }
 {}

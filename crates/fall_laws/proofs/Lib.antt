@@ -1,0 +1,13 @@
+pub mod Ahead
+pub mod Lined
+pub mod Doomed
+pub mod Barred
+pub mod BarredDue
+pub mod BarredStep
+pub mod BarredEvents
+pub mod BarredMade
+pub mod Falling
+pub mod Known
+pub mod Finding
+pub mod Counting
+pub mod Here
