@@ -1,0 +1,4 @@
+pub mod Unfallen
+pub mod Named
+pub mod Voted
+pub mod Readers
