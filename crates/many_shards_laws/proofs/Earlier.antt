@@ -1,0 +1,202 @@
+-- Of the transactions of earlier runs: what is left of them stood in the logs at opening.
+use Rattle.std.proofs.Common.{◌≡◌, ⊎_elim, inl, refl, sym, ap, subst, ◌∙◌, ℕ, ◌≤◌, ◌<◌, ◌+◌, true, false, cond, not, Bool, ◌&&◌, ◌||◌, ◌==◌, nat_lt, List, [], ◌∷◌, ◌++◌, map, Option, Some, None, is_none, length, arith, append-nil, append_assoc, eqb-true, ltb-true}
+use Rattle.std.specs.Prelude.{unwrap_or}
+use Rattle.std.specs.List.{filter, list_all}
+use Rattle.std.proofs.lemmas.Bool.{both_ways, and_parts, or_cases, false_from_ne_true}
+use Rattle.std.proofs.lemmas.List.{take_all}
+use Rattle.clv_base.specs.declared.names.TxId.{TxId}
+use Rattle.clv_base.specs.declared.logs.LogRecord.{LogRecord}
+use Rattle.clv_base.specs.declared.logs.LogRecord.TheVariants.{Update, Clr, Prepare, Commit, Abort, End, Restart}
+use Rattle.clv_base.specs.Orders.{tx_in}
+use Rattle.clv_base.specs.Logs.{is_update_of, wrote_in, committed_in, aborted_in, in_doubt, standing, StandingUpdate}
+use Rattle.clv_base.specs.LogRules.{log_of, last_restart, above_restarts, in_last_run, may_follow, disorder, all_logs_from, apart}
+use Rattle.clv_base.specs.Shards.{shard_count}
+use Rattle.clv_base.specs.FileRules.{may_open, log_passes, passes_file_rules}
+use Rattle.clv_base.specs.State.{is_present}
+use Rattle.clv_base.specs.Undo.{clrs_of, newest_lsn}
+use Rattle.clv_base.specs.Restarts.{run_after, log_left, losers, undo_records, restart_records, restored_parts, log_after_restart}
+use Rattle.clv_base.specs.Journals.{History, start_of, final_of, journal_of}
+use Rattle.clv_base.specs.History.{Legal, logs_left}
+use Rattle.clv_base.proofs.SameNames.{tx_true}
+use Rattle.law_base.proofs.Tables.{stage_in}
+use Rattle.law_base.proofs.Changed.{none_some, some_same}
+use Rattle.order_laws.proofs.Records.{front}
+use Rattle.protocol_laws.specs.Growth.{IsPrefixOf}
+use Rattle.protocol_laws.proofs.Growing.{chain, more}
+use Rattle.shard_laws.proofs.Following.{Follows, Plainly, from_disorder, last_push, last_new}
+use Rattle.shard_laws.proofs.Listing.{order_of}
+use Rattle.shard_laws.proofs.Rebuilding.{found_more, plain_restart}
+use Rattle.shard_laws.proofs.Renewing.{found_self}
+use Rattle.shard_laws.proofs.Changes.{wrote_append}
+use Rattle.shard_laws.proofs.Cutting.{cut_keeps}
+use Rattle.history_laws.proofs.Durability.{fronts_entries, opened_counted, left_front}
+use Rattle.history_laws.proofs.Uncommitting.{opening_adds}
+use Rattle.history_laws.proofs.OldRuns.{each_passes}
+use Rattle.history_laws.proofs.Serials.{committed_front}
+use Rattle.fall_laws.specs.Falls.{OpensClear}
+use Rattle.fall_laws.proofs.Falling.{WasOut, stands_front}
+use Rattle.each_shard_laws.proofs.Ordering.{log_now, logs_left_are_in_order}
+use Rattle.many_shards_laws.proofs.Homes.{none_of}
+
+-- ---- no UPDATE behind the RESTART of a run is of an earlier one
+
+-- the last RESTART is of this run or a later one
+abbrev LastFrom : ℕ → List LogRecord → Type 0
+LastFrom run log = (p : ℕ × ℕ) × (last_restart log ≡ Some p) × (run ≤ p.0)
+
+above_last : (run epoch : ℕ) (log : List LogRecord) (p : ℕ × ℕ) → above_restarts run epoch log ≡ true → last_restart log ≡ Some p → p.0 ≤ run
+above_last run epoch [] p a e = absurd (none_some p e)
+above_last run epoch (Restart r k ∷ rs) p a e =
+    let x = and_parts (nat_lt r run || ((r == run) && nat_lt k epoch)) (above_restarts run epoch rs) a in
+    at (last_restart rs) refl e x.0 (above_last run epoch rs p x.1)
+  where
+    own : (nat_lt r run || ((r == run) && nat_lt k epoch)) ≡ true → r ≤ run
+    own c = ⊎_elim (λ f. let l = ltb-true r run f in omega (arith, l)) (λ f. let q = eqb-true r run (and_parts (r == run) (nat_lt k epoch) f).0 in omega (arith, q)) (or_cases (nat_lt r run) ((r == run) && nat_lt k epoch) c)
+
+    at : (o : Option (ℕ × ℕ)) → last_restart rs ≡ o → elim o [ Some q ↦ Some q | None ↦ Some (r, k) ] ≡ Some p → (nat_lt r run || ((r == run) && nat_lt k epoch)) ≡ true → (last_restart rs ≡ Some p → p.0 ≤ run) → p.0 ≤ run
+    at None f g c h = subst (λ (z : ℕ × ℕ). z.0 ≤ run) (some_same (r, k) p g) (own c)
+    at (Some q) f g c h = h (f ∙ g)
+above_last run epoch (Update tx k b x ∷ rs) p a e = above_last run epoch rs p a e
+above_last run epoch (Clr tx u k x ∷ rs) p a e = above_last run epoch rs p a e
+above_last run epoch (Prepare tx home ps ∷ rs) p a e = above_last run epoch rs p a e
+above_last run epoch (Commit tx parts ∷ rs) p a e = above_last run epoch rs p a e
+above_last run epoch (Abort tx ∷ rs) p a e = above_last run epoch rs p a e
+above_last run epoch (End tx ∷ rs) p a e = above_last run epoch rs p a e
+
+plainly_next : (run : ℕ) (log : List LogRecord) (r : LogRecord) → Plainly r → LastFrom run log → LastFrom run (log ++ r ∷ [])
+plainly_next run log r p k = (k.0, last_push log r p ∙ k.1, k.2)
+
+last_next : (shard run : ℕ) (log : List LogRecord) (r : LogRecord) → LastFrom run log → may_follow shard log r ≡ true → LastFrom run (log ++ r ∷ [])
+last_next shard run log (Restart own epoch) k m =
+    let a = above_last own epoch log k.0 (front _ _ m) k.1 in
+    let b = k.2 in
+    ((own, epoch), last_new log own epoch, omega (arith, a, b))
+last_next shard run log (Update tx x y z) k m = plainly_next run log (Update tx x y z) tt k
+last_next shard run log (Clr tx x y z) k m = plainly_next run log (Clr tx x y z) tt k
+last_next shard run log (Prepare tx x y) k m = plainly_next run log (Prepare tx x y) tt k
+last_next shard run log (Commit tx x) k m = plainly_next run log (Commit tx x) tt k
+last_next shard run log (Abort tx) k m = plainly_next run log (Abort tx) tt k
+last_next shard run log (End tx) k m = plainly_next run log (End tx) tt k
+
+no_update : (shard run : ℕ) (log : List LogRecord) (r : LogRecord) (t : TxId) → t.run < run → LastFrom run log → may_follow shard log r ≡ true → is_update_of t r ≡ false
+no_update shard run log (Update tx key b a) t l k m =
+    false_from_ne_true _ (λ e.
+    let i : in_last_run log tx ≡ true = front _ _ (front _ _ (front _ _ (front _ _ (front _ _ (front _ _ (front _ _ m)))))) in
+    let q = eqb-true tx.run (k.0).0 (subst (λ (o : Option (ℕ × ℕ)). elim o [ Some p ↦ tx.run == p.0 | None ↦ false ] ≡ true) k.1 i) in
+    let f = ap (λ (z : TxId). z.run) (tx_true t tx e) in
+    let g = k.2 in
+    absurd (omega (arith, l, q, f, g)))
+no_update shard run log _ t l k m = refl
+
+none_behind : (shard run : ℕ) (log rs : List LogRecord) (t : TxId) → t.run < run → LastFrom run log → Follows shard log rs → wrote_in rs t ≡ false
+none_behind shard run log [] t l k f = refl
+none_behind shard run log (r ∷ rs) t l k f = ap (λ b. b || wrote_in rs t) (no_update shard run log r t l k f.0) ∙ none_behind shard run (log ++ r ∷ []) rs t l (last_next shard run log r k f.0) f.1
+
+follows_behind : (shard : ℕ) (log xs ys : List LogRecord) → Follows shard log (xs ++ ys) → Follows shard (log ++ xs) ys
+follows_behind shard log [] ys f = subst (λ l. Follows shard l ys) (sym (append-nil log)) f
+follows_behind shard log (x ∷ xs) ys f = subst (λ l. Follows shard l ys) (append_assoc log (x ∷ []) xs) (follows_behind shard (log ++ x ∷ []) xs ys f.1)
+
+-- ---- the records of a restart write nothing
+
+aborts_write_none : (ts : List TxId) (t : TxId) → wrote_in (map (λ u. Abort u) ts) t ≡ false
+aborts_write_none [] t = refl
+aborts_write_none (u ∷ us) t = aborts_write_none us t
+
+clrs_write_none : (set : List TxId) (ws : List StandingUpdate) (t : TxId) → wrote_in (clrs_of set ws) t ≡ false
+clrs_write_none set [] t = refl
+clrs_write_none set (w ∷ ws) t = at (tx_in w.tx set) (clrs_write_none set ws t)
+  where
+    at : (b : Bool) → wrote_in (clrs_of set ws) t ≡ false → wrote_in (cond b (Clr w.tx (newest_lsn w.tx ws) w.key w.before ∷ clrs_of set ws) (clrs_of set ws)) t ≡ false
+    at true e = e
+    at false e = e
+
+both_false : (a b : Bool) → a ≡ false → b ≡ false → (a || b) ≡ false
+both_false true b e f = e
+both_false false b e f = f
+
+restart_writes_none : (shard : ℕ) (log : List LogRecord) (run epoch : ℕ) (t : TxId) → wrote_in (restart_records shard log run epoch) t ≡ false
+restart_writes_none shard log run epoch t =
+    wrote_append (undo_records shard log) (Restart run epoch ∷ []) t
+    ∙ both_false _ _
+    (wrote_append (map (λ u. Abort u) (filter (λ u. not (aborted_in log u)) (losers shard log))) (clrs_of (losers shard log) (standing log)) t
+    ∙ both_false _ _ (aborts_write_none (filter (λ u. not (aborted_in log u)) (losers shard log)) t) (clrs_write_none (losers shard log) (standing log) t)) refl
+
+-- ---- what a crash leaves begins with what the shard opened with
+
+pub left_begins : (splits : List ℕ) (before : List (List LogRecord)) (h : History) (after : List (List LogRecord)) (kept : Bool) (n : ℕ) → Legal splits before h after → n < shard_count splits
+    → IsPrefixOf (log_after_restart n (log_of before n) (run_after before) 0) (log_left (final_of before h after n) kept)
+left_begins splits before h after kept n l i =
+    let log = log_after_restart n (log_of before n) (run_after before) 0 in
+    let f = fronts_entries (log_of after n) (start_of before n) (journal_of n h) (opened_counted n (run_after before) (log_of before n)) (l.runs n i) in
+    chain log (log_left (final_of before h after n) false) (log_left (final_of before h after n) kept) (subst (λ z. IsPrefixOf z (log_left (final_of before h after n) false)) (take_all (length log) log (omega arith)) f.front)
+    (left_front (final_of before h after n) kept f.counted)
+
+none_of_earlier : (splits : List ℕ) (before : List (List LogRecord)) (n : ℕ) (left : List LogRecord) (t : TxId) → t.run < run_after before → disorder n left ≡ None → IsPrefixOf (log_after_restart n (log_of before n) (run_after before) 0) left → wrote_in left t ≡ true
+    → wrote_in (log_of before n) t ≡ true
+none_of_earlier splits before n left t o d p w =
+    let found = log_of before n in
+    let records = restart_records n found (run_after before) 0 in
+    let opened = log_after_restart n found (run_after before) 0 in
+    let whole : Follows n [] (opened ++ p.0) = subst (Follows n []) (sym p.1) (from_disorder n 0 [] left d) in
+    let last : LastFrom (run_after before) opened = (
+      (run_after before, 0),
+      ap last_restart (sym (append_assoc found (undo_records n found) (Restart (run_after before) 0 ∷ []))) ∙ last_new (found ++ undo_records n found) (run_after before) 0,
+      omega arith,
+    ) in
+    let none = none_behind n (run_after before) opened p.0 t o last (follows_behind n [] opened p.0 whole) in
+    ⊎_elim (λ a. ⊎_elim (λ b. b) (λ b. absurd (both_ways _ (restart_writes_none n found (run_after before) 0 t) b)) (or_cases (wrote_in found t) (wrote_in records t) (sym (wrote_append found records t) ∙ a))) (λ a. absurd (both_ways _ none a))
+    (or_cases (wrote_in opened t) (wrote_in p.0 t) (sym (wrote_append opened p.0 t) ∙ ap (λ z. wrote_in z t) p.1 ∙ w))
+
+-- who is of an earlier run and wrote in what is left on a shard wrote there in the log found at opening
+pub wrote_at_opening : (splits : List ℕ) (before : List (List LogRecord)) (h : History) (after : List (List LogRecord)) (choice : ℕ → Bool) (n : ℕ) (t : TxId) → may_open splits before ≡ true → Legal splits before h after → OpensClear splits before → n < shard_count splits
+    → t.run < run_after before → wrote_in (log_of (logs_left splits before h after choice) n) t ≡ true → wrote_in (log_of before n) t ≡ true
+wrote_at_opening splits before h after choice n t m l c i o w =
+    none_of_earlier splits before n (log_of (logs_left splits before h after choice) n) t o (logs_left_are_in_order splits before h after choice n m l c i)
+    (subst (IsPrefixOf (log_after_restart n (log_of before n) (run_after before) 0)) (sym (log_now splits before h after choice n i)) (left_begins splits before h after (choice n) n l i)) w
+
+-- who is committed in the log found at opening is so in what is left
+pub committed_still : (splits : List ℕ) (before : List (List LogRecord)) (h : History) (after : List (List LogRecord)) (choice : ℕ → Bool) (n : ℕ) (t : TxId) → Legal splits before h after → n < shard_count splits → committed_in (log_of before n) t ≡ true
+    → committed_in (log_of (logs_left splits before h after choice) n) t ≡ true
+committed_still splits before h after choice n t l i c =
+    let log = log_after_restart n (log_of before n) (run_after before) 0 in
+    subst (λ z. committed_in z t ≡ true) (sym (log_now splits before h after choice n i))
+    (committed_front log (log_left (final_of before h after n) (choice n)) t (left_begins splits before h after (choice n) n l i) (committed_front (log_of before n) log t (more (log_of before n) (restart_records n (log_of before n) (run_after before) 0)) c))
+
+-- ---- no transaction of an earlier run is committed anew
+
+log_follows : (splits : List ℕ) (before : List (List LogRecord)) (n : ℕ) → may_open splits before ≡ true → n < length before → Follows n [] (log_of before n)
+log_follows splits before n m l =
+    let p = and_parts (all_logs_from 0 (log_passes splits) before) (is_none (apart before)) m in
+    let q = each_passes (log_passes splits) 0 n before p.0 l in
+    let d = none_of (disorder (0 + n) (log_of before n)) (and_parts (list_all (passes_file_rules splits (0 + n)) (log_of before n)) _ q).1 in
+    subst (λ k. Follows k [] (log_of before n)) (omega arith) (from_disorder (0 + n) 0 [] (log_of before n) d)
+
+clear_parts : (splits : List ℕ) (before : List (List LogRecord)) (n : ℕ) → may_open splits before ≡ true → n < length before → in_doubt n (log_of before n) ≡ [] → (start_of before n).local.parts ≡ []
+clear_parts splits before n m l c =
+    let log = log_of before n in
+    let f = found_more n log log (restart_records n log (run_after before) 0) (found_self n log (order_of n log (log_follows splits before n m l))) (plain_restart n log (run_after before) 0) in
+    ap restored_parts (f.doubts ∙ c)
+
+was_out : (splits : List ℕ) (before : List (List LogRecord)) (h : History) (after : List (List LogRecord)) (n : ℕ) (t : TxId) → may_open splits before ≡ true → Legal splits before h after → OpensClear splits before → n < shard_count splits → t.run < run_after before
+    → committed_in (log_of before n) t ≡ false → WasOut before after h n t
+was_out splits before h after n t m l c i o f = (
+  [],
+  h,
+  refl,
+  (
+    subst (λ ps. is_present (stage_in ps t) ≡ false) (sym (clear_parts splits before n m (let e = (l.each_log).0 in omega (arith, e, i)) (c n i))) refl,
+    false_from_ne_true _ (λ z. both_ways _ f (opening_adds n (log_of before n) (run_after before) 0 t z)),
+    inl (λ q. absurd (omega (arith, q, o))),
+  ),
+)
+
+pub committed_at_opening : (splits : List ℕ) (before : List (List LogRecord)) (h : History) (after : List (List LogRecord)) (choice : ℕ → Bool) (n : ℕ) (t : TxId) → may_open splits before ≡ true → Legal splits before h after → OpensClear splits before → n < shard_count splits
+    → t.run < run_after before → committed_in (log_of (logs_left splits before h after choice) n) t ≡ true → committed_in (log_of before n) t ≡ true
+committed_at_opening splits before h after choice n t m l c i o w = at (committed_in (log_of before n) t) refl
+  where
+    at : (b : Bool) → committed_in (log_of before n) t ≡ b → committed_in (log_of before n) t ≡ true
+    at true e = e
+    at false e =
+        let s = final_of before h after n in
+        let k = stands_front splits before after h h [] m l c (append-nil h) n i in
+        absurd (both_ways _ ((k.barred).open_ t (was_out splits before h after n t m l c i o e)) (cut_keeps (cond (choice n) (unwrap_or s.flight s.durable) s.durable) s.local.log t (subst (λ z. committed_in z t ≡ true) (log_now splits before h after choice n i) w)))

@@ -1,0 +1,63 @@
+-- A shard's share of the map is what its own log stands for.
+use Rattle.std.proofs.Common.{◌≡◌, ⊎_elim, refl, sym, ap, ◌∙◌, ℕ, zero, suc, ◌<◌, true, false, cond, Bool, List, [], ◌∷◌, length, arith}
+use Rattle.std.specs.List.{list_any}
+use Rattle.std.proofs.lemmas.Bool.{both_ways, or_cases, or_left, or_right}
+use Rattle.clv_base.specs.declared.names.TxId.{TxId}
+use Rattle.clv_base.specs.declared.logs.LogRecord.{LogRecord}
+use Rattle.clv_base.specs.declared.logs.LogRecord.TheVariants.{Update, Clr, Prepare, Commit, Abort, End, Restart}
+use Rattle.clv_base.specs.Orders.{tx_same}
+use Rattle.clv_base.specs.Maps.{KeyMap, map_set}
+use Rattle.clv_base.specs.Logs.{is_record_of, committed_in, wrote_in, committed_somewhere, fold_updates}
+use Rattle.clv_base.specs.LogRules.{log_of}
+use Rattle.clv_base.proofs.SameNames.{tx_self}
+use Rattle.many_shards_laws.specs.Replaying.{SharesAreMaps}
+use Rattle.many_shards_laws.proofs.Homes.{committed_here}
+
+-- of the records of a log the writers alone count
+pub fold_writers : (f k : TxId → Bool) (log : List LogRecord) (m : KeyMap) → ((t : TxId) → wrote_in log t ≡ true → f t ≡ k t) → fold_updates f log m ≡ fold_updates k log m
+fold_writers f k [] m e = refl
+fold_writers f k (Update tx key b a ∷ rs) m e =
+    ap (λ c. fold_updates f rs (cond c (map_set key a m) m)) (e tx (or_left _ _ (tx_self tx))) ∙ fold_writers f k rs (cond (k tx) (map_set key a m) m) (λ t w. e t (or_right (tx_same t tx) _ w))
+fold_writers f k (Clr tx u key a ∷ rs) m e = fold_writers f k rs m e
+fold_writers f k (Prepare tx home ps ∷ rs) m e = fold_writers f k rs m e
+fold_writers f k (Commit tx ps ∷ rs) m e = fold_writers f k rs m e
+fold_writers f k (Abort tx ∷ rs) m e = fold_writers f k rs m e
+fold_writers f k (End tx ∷ rs) m e = fold_writers f k rs m e
+fold_writers f k (Restart run epoch ∷ rs) m e = fold_writers f k rs m e
+
+pub wrote_record : (log : List LogRecord) (t : TxId) → wrote_in log t ≡ true → list_any (is_record_of t) log ≡ true
+wrote_record [] t w = absurd (both_ways false refl w)
+wrote_record (Update tx a b d ∷ rs) t w = ⊎_elim (λ h. or_left (tx_same t tx) _ h) (λ h. or_right (tx_same t tx) _ (wrote_record rs t h)) (or_cases (tx_same t tx) (wrote_in rs t) w)
+wrote_record (Prepare tx a b ∷ rs) t w = or_right (tx_same t tx) _ (wrote_record rs t w)
+wrote_record (Clr tx a b d ∷ rs) t w = or_right (tx_same t tx) _ (wrote_record rs t w)
+wrote_record (Commit tx a ∷ rs) t w = or_right (tx_same t tx) _ (wrote_record rs t w)
+wrote_record (Abort tx ∷ rs) t w = or_right (tx_same t tx) _ (wrote_record rs t w)
+wrote_record (End tx ∷ rs) t w = or_right (tx_same t tx) _ (wrote_record rs t w)
+wrote_record (Restart run epoch ∷ rs) t w = wrote_record rs t w
+
+pub wrote_within : (logs : List (List LogRecord)) (m : ℕ) (t : TxId) → wrote_in (log_of logs m) t ≡ true → m < length logs
+wrote_within [] m t p = absurd (both_ways false refl p)
+wrote_within (log ∷ logs) zero t p = omega arith
+wrote_within (log ∷ logs) (suc m) t p = let k = wrote_within logs m t p in omega (arith, k)
+
+-- whose COMMIT is in some log
+pub at_somewhere : (logs : List (List LogRecord)) (m : ℕ) (t : TxId) → committed_in (log_of logs m) t ≡ true → committed_somewhere logs t ≡ true
+at_somewhere [] m t c = absurd (both_ways false refl c)
+at_somewhere (log ∷ logs) zero t c = or_left (committed_in log t) _ c
+at_somewhere (log ∷ logs) (suc m) t c = or_right (committed_in log t) _ (at_somewhere logs m t c)
+
+pub somewhere_at : (logs : List (List LogRecord)) (t : TxId) → committed_somewhere logs t ≡ true → (m : ℕ) × (m < length logs) × (committed_in (log_of logs m) t ≡ true)
+somewhere_at [] t c = absurd (both_ways false refl c)
+somewhere_at (log ∷ logs) t c = ⊎_elim (λ h. (0, omega arith, h)) (λ h. let r = somewhere_at logs t h in (suc r.0, (let k = r.1 in omega (arith, k)), r.2)) (or_cases (committed_in log t) (committed_somewhere logs t) c)
+
+pub same_test : (a b : Bool) → (a ≡ true → b ≡ true) → (b ≡ true → a ≡ true) → a ≡ b
+same_test true b f g = sym (f refl)
+same_test false true f g = g refl
+same_test false false f g = refl
+
+pub shares_are_maps : SharesAreMaps
+shares_are_maps splits before n o clear i =
+    fold_writers (committed_somewhere before) (committed_somewhere (log_of before n ∷ [])) (log_of before n) []
+    (λ t w. same_test (committed_somewhere before t) (committed_somewhere (log_of before n ∷ []) t)
+    (λ c. let m = somewhere_at before t c in or_left (committed_in (log_of before n) t) false (committed_here splits before n m.0 t o (wrote_within before n t w) (clear n i) (wrote_record (log_of before n) t w) m.2))
+    (λ c. ⊎_elim (λ h. at_somewhere before n t h) (λ h. absurd (both_ways false refl h)) (or_cases (committed_in (log_of before n) t) false c)))
