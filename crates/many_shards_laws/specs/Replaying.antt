@@ -28,11 +28,11 @@ SharesAreMaps =
 
 -- ---- where a member is
 
--- a crash leaves it in doubt on the shard, where what is left commits all that its PREPARE lists, and a COMMIT of it on some shard
+-- a crash leaves it in doubt on the shard, where what is left commits all that its PREPARE lists, and it leaves a COMMIT of it on some shard
 abbrev pub IsInDoubt : List (List LogRecord) → ℕ → TxId → Type 0
 IsInDoubt left n t = (tx_in t (in_doubt n (log_of left n)) ≡ true) × (list_all (committed_in (log_of left n)) (listed_in (log_of left n) t) ≡ true) × (committed_somewhere left t ≡ true)
 
--- on the shard its COMMIT is left, or it is in doubt, or it asked, wrote nothing there and left
+-- on the shard its COMMIT is left, or it is in doubt, or it asked, wrote nothing there and is gone
 abbrev pub IsHere : List ℕ → List (List LogRecord) → History → List (List LogRecord) → (ℕ → Bool) → ℕ → TxId → Type 0
 IsHere splits before h after choice n t =
     (committed_in (log_of (logs_left splits before h after choice) n) t ≡ true)
