@@ -11,7 +11,7 @@ use Rattle.clv_base.specs.declared.state.RequestState.TheVariants.{Undecided, Co
 use Rattle.clv_base.specs.declared.events.Event.{Event}
 use Rattle.clv_base.specs.declared.events.Event.TheVariants.{Op as OpEvent, Request as RequestEvent, Look, Drop, Send, Deliver, Remind, FlushOut, FlushIn, Stop, Restart}
 use Rattle.clv_base.specs.declared.events.Outcome.{Outcome}
-use Rattle.clv_base.specs.declared.events.Outcome.TheVariants.{Asked, Aborted, Dead as DeadOutcome}
+use Rattle.clv_base.specs.declared.events.Outcome.TheVariants.{Asked, Aborted, Dead as DeadOutcome, Dropped}
 use Rattle.clv_base.specs.declared.events.Entry.{Entry}
 use Rattle.clv_base.specs.Shards.{shard_count}
 use Rattle.clv_base.specs.FileRules.{may_open}
@@ -318,7 +318,7 @@ died_unasked splits before after h x tx n l i t w a u (r, ts, j, q) =
     ⊎_elim (λ z. u (sym (ap (λ y. (y.1).outcome) z) ∙ q.1))
     (λ z. ⊎_elim
     (λ b. both_ways _ (nothing_follows v (n, r) x tx.serial s b (ap (λ y. ended_by y r.outcome) q.0 ∙ ap (ended_by (RequestEvent tx ts)) q.1)) w)
-    (λ b. both_ways _ (nothing_after_end splits v (no_session (run_after before) r.walker) x (n, r) tx p.session b (or_right (is_acknowledgement tx (x.1).event (x.1).outcome) _ a)) (ap (names tx) q.0 ∙ tx_self tx)) z)
+    (λ b. both_ways _ (nothing_after_end splits v (no_session (run_after before) r.walker) x (n, r) tx p.session b (or_right (is_acknowledgement tx (x.1).event (x.1).outcome) _ a)) (ap (names false tx) q.0 ∙ tx_self tx)) z)
     (in_turn (n, r) x v p.first p.second)
 
 died_nowhere : (splits : List ℕ) (before : List (List LogRecord)) (h : History) (after : List (List LogRecord)) (choice : ℕ → Bool) (n : ℕ) (x : Placed) (tx : TxId) → may_open splits before ≡ true → Legal splits before h after → n < shard_count splits
@@ -329,16 +329,40 @@ died_nowhere splits before h after choice n x tx o l i j t w a u c =
     let b = k.1 in
     died_unasked splits before after h x tx k.0 l j t w a u (b.0, b.1, is_among k.0 b.0 h b.2, (b.3, b.4))
 
+-- who was dropped made no request, or a look found it aborted before
+dropped_nowhere : (splits : List ℕ) (before : List (List LogRecord)) (h : History) (after : List (List LogRecord)) (choice : ℕ → Bool) (n : ℕ) (x : Placed) (tx : TxId) → may_open splits before ≡ true → Legal splits before h after → n < shard_count splits
+    → Among x h → (x.1).event ≡ Drop tx → is_abort tx (x.1).event (x.1).outcome ≡ true → is_left splits before h after choice n tx ≡ true → ⊥
+dropped_nowhere splits before h after choice n x tx o l i j q a c =
+    let run = (walker_of splits before after h x tx l j (ap tx_of q)).0 in
+    let k = commits_stand_at_home splits before h after choice n tx o l i run c in
+    let r : Placed = (k.0, (k.1).0) in
+    let asked : (((k.1).0).event ≡ RequestEvent tx (k.1).1) × (((k.1).0).outcome ≡ Asked) = ((k.1).3, (k.1).4) in
+    let p = together splits before after h r x tx l (is_among k.0 (k.1).0 h (k.1).2) j (ap tx_of asked.0) (ap tx_of q) in
+    let v = own ((k.1).0).walker h in
+    let start = no_session (run_after before) ((k.1).0).walker in
+    ⊎_elim (λ z. differ (k.1).1 (sym asked.0 ∙ ap (λ y. (y.1).event) z ∙ q))
+    (λ z. ⊎_elim
+    (λ b.
+    let y = drop_after_request splits v start r x tx (k.1).1 p.session b asked.0 asked.1 q in
+    looked_nowhere splits before h after choice n y.0 tx y.1 o l i (from_own ((k.1).0).walker y.0 h (first_among y.0 x v y.2)) y.3 y.4 c)
+    (λ b. both_ways _ (nothing_after_end splits v start x r tx p.session b (or_right (is_acknowledgement tx (x.1).event (x.1).outcome) _ a)) (ap (names false tx) asked.0 ∙ tx_self tx)) z)
+    (in_turn r x v p.first p.second)
+  where
+    differ : (ts : List (ℕ × ℕ)) → RequestEvent tx ts ≡ Drop tx → ⊥
+    differ ts z = absurd cc
+
 -- an entry that tells of an abort
 data TellsAbort (tx : TxId) : Event → Outcome → Type 0 where
   operated : (birth : Birth) (nth : ℕ) (seen : Option ℕ) (op : Op) (cause : AbortCause) → TellsAbort tx (OpEvent tx birth nth seen op) (DeadOutcome cause)
   requested : (ts : List (ℕ × ℕ)) (cause : AbortCause) → TellsAbort tx (RequestEvent tx ts) (DeadOutcome cause)
   looked : (cause : AbortCause) → TellsAbort tx (Look tx) (Aborted cause)
+  dropped : TellsAbort tx (Drop tx) Dropped
 
 tells_abort : (tx : TxId) (e : Event) (o : Outcome) → is_abort tx e o ≡ true → TellsAbort tx e o
 tells_abort tx (OpEvent u birth nth seen op) (DeadOutcome cause) a = subst (λ v. TellsAbort tx (OpEvent v birth nth seen op) (DeadOutcome cause)) (tx_true tx u a) (operated birth nth seen op cause)
 tells_abort tx (RequestEvent u ts) (DeadOutcome cause) a = subst (λ v. TellsAbort tx (RequestEvent v ts) (DeadOutcome cause)) (tx_true tx u a) (requested ts cause)
 tells_abort tx (Look u) (Aborted cause) a = subst (λ v. TellsAbort tx (Look v) (Aborted cause)) (tx_true tx u a) (looked cause)
+tells_abort tx (Drop u) Dropped a = subst (λ v. TellsAbort tx (Drop v) Dropped) (tx_true tx u a) dropped
 tells_abort tx _ _ a = absurd (both_ways false refl a)
 
 told_nowhere : (splits : List ℕ) (before : List (List LogRecord)) (h : History) (after : List (List LogRecord)) (choice : ℕ → Bool) (n : ℕ) (x : Placed) (tx : TxId) {e : Event} {o : Outcome} → (x.1).event ≡ e → (x.1).outcome ≡ o → TellsAbort tx e o
@@ -354,6 +378,7 @@ told_nowhere splits before h after choice n x tx f g (requested ts cause) o l i 
     differ : DeadOutcome cause ≡ Asked → ⊥
     differ z = absurd cc
 told_nowhere splits before h after choice n x tx f g (looked cause) o l i j a c = looked_nowhere splits before h after choice n x tx cause o l i j f g c
+told_nowhere splits before h after choice n x tx f g dropped o l i j a c = dropped_nowhere splits before h after choice n x tx o l i j f a c
 
 pub aborted_are_committed_nowhere : AbortedAreCommittedNowhere
 aborted_are_committed_nowhere splits before h after choice n tx o l i a =

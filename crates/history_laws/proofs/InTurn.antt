@@ -1,13 +1,13 @@
 -- A session's transactions one after another, each with one outcome.
 use Rattle.std.proofs.Common.{◌≡◌, ◌⊎◌, inl, inr, ⊎_elim, refl, sym, ap, subst, ◌∙◌, ℕ, ◌<◌, ◌≤◌, true, false, cond, Bool, List, [], ◌∷◌, Option, Some, None, arith}
 use Rattle.std.specs.List.{AllByRecursion}
-use Rattle.std.proofs.lemmas.Bool.{both_ways, cases_eq, or_left, or_right, false_from_ne_true}
+use Rattle.std.proofs.lemmas.Bool.{both_ways, cases_eq, or_right, false_from_ne_true}
 use Rattle.clv_base.specs.declared.names.TxId.{TxId}
 use Rattle.clv_base.specs.declared.logs.LogRecord.{LogRecord}
 use Rattle.clv_base.specs.declared.events.Event.{Event}
-use Rattle.clv_base.specs.declared.events.Event.TheVariants.{Op as OpEvent, Request as RequestEvent, Look}
+use Rattle.clv_base.specs.declared.events.Event.TheVariants.{Op as OpEvent, Request as RequestEvent, Look, Drop}
 use Rattle.clv_base.specs.declared.events.Outcome.{Outcome}
-use Rattle.clv_base.specs.declared.events.Outcome.TheVariants.{Acknowledged, Aborted, Dead}
+use Rattle.clv_base.specs.declared.events.Outcome.TheVariants.{Acknowledged, Aborted, Dead, Dropped}
 use Rattle.clv_base.specs.Restarts.{run_after}
 use Rattle.clv_base.specs.Sessions.{no_session}
 use Rattle.clv_base.specs.Journals.{History, own}
@@ -20,7 +20,7 @@ use Rattle.history_laws.specs.Outcomes.{is_abort, aborted_in_history, OneOutcome
 use Rattle.history_laws.proofs.Merging.{Placed, Before, before_then, not_before_itself, InOrder, in_order, Among, among_all, in_turn, precedes_before, own_in_order}
 use Rattle.history_laws.proofs.Serials.{is_in, any_among, member_at}
 use Rattle.history_laws.proofs.Walkers.{serials_follow}
-use Rattle.history_laws.proofs.Endings.{names, nothing_after_end}
+use Rattle.history_laws.proofs.Endings.{names, nothing_after_end, nothing_after_success}
 use Rattle.history_laws.proofs.Telling.{IsRequest}
 use Rattle.history_laws.proofs.Staying.{walker_of, together, together_by_walker, one_request, is_request}
 
@@ -109,18 +109,20 @@ sessions_keep_their_order splits before h after choice l = in_turn_from splits b
 
 -- ---- one outcome
 
-acknowledged_names : (t : TxId) (e : Event) (o : Outcome) → is_acknowledgement t e o ≡ true → (tx_of e ≡ Some t) × (names t e ≡ true)
+acknowledged_names : (t : TxId) (e : Event) (o : Outcome) → is_acknowledgement t e o ≡ true → (tx_of e ≡ Some t) × (names false t e ≡ true)
 acknowledged_names t (Look tx) Acknowledged k = (ap (λ z. Some z) (sym (tx_true t tx k)), k)
 acknowledged_names t (Look tx) _ k = absurd (both_ways false refl k)
 acknowledged_names t _ o k = absurd (both_ways false refl k)
 
-abort_names : (t : TxId) (e : Event) (o : Outcome) → is_abort t e o ≡ true → (tx_of e ≡ Some t) × (names t e ≡ true) × (is_acknowledgement t e o ≡ false)
+abort_names : (t : TxId) (e : Event) (o : Outcome) → is_abort t e o ≡ true → (tx_of e ≡ Some t) × (names true t e ≡ true) × (is_acknowledgement t e o ≡ false)
 abort_names t (OpEvent tx birth nth seen op) (Dead cause) k = (ap (λ z. Some z) (sym (tx_true t tx k)), k, refl)
 abort_names t (OpEvent tx birth nth seen op) _ k = absurd (both_ways false refl k)
 abort_names t (RequestEvent tx ts) (Dead cause) k = (ap (λ z. Some z) (sym (tx_true t tx k)), k, refl)
 abort_names t (RequestEvent tx ts) _ k = absurd (both_ways false refl k)
 abort_names t (Look tx) (Aborted cause) k = (ap (λ z. Some z) (sym (tx_true t tx k)), k, refl)
 abort_names t (Look tx) _ k = absurd (both_ways false refl k)
+abort_names t (Drop tx) Dropped k = (ap (λ z. Some z) (sym (tx_true t tx k)), k, refl)
+abort_names t (Drop tx) _ k = absurd (both_ways false refl k)
 abort_names t _ o k = absurd (both_ways false refl k)
 
 not_both : (splits : List ℕ) (before after : List (List LogRecord)) (h : History) (x y : Placed) (t : TxId) → Legal splits before h after → Among x h → Among y h
@@ -133,7 +135,7 @@ not_both splits before after h x y t l i j a b =
     let s = no_session (run_after before) (x.1).walker in
     ⊎_elim (λ e. both_ways _ q.2 (subst (λ z. is_acknowledgement t (z.1).event (z.1).outcome ≡ true) e a))
     (λ d. ⊎_elim
-    (λ f. both_ways _ (nothing_after_end splits w s x y t c.session f (or_left (is_acknowledgement t (x.1).event (x.1).outcome) (is_abort t (x.1).event (x.1).outcome) a)) q.1)
+    (λ f. both_ways _ (nothing_after_success splits w s x y t c.session f a) q.1)
     (λ f. both_ways _ (nothing_after_end splits w s y x t c.session f (or_right (is_acknowledgement t (y.1).event (y.1).outcome) (is_abort t (y.1).event (y.1).outcome) b)) p.1)
     d)
     (in_turn x y w c.first c.second)

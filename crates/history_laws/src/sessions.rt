@@ -8,7 +8,7 @@ pub fn sessions_keep_their_order()
     ensures { SessionsKeepTheirOrder }
 {}
 
-/// No transaction is told both that it is acknowledged and that it is aborted.
+/// No transaction is told both that it is acknowledged and of an abort: that it died, that it was found aborted, or its session's own drop.
 pub fn outcomes_are_one()
     ensures { OneOutcome }
 {}

@@ -167,7 +167,7 @@ op_no_abort before after h pre x t b nth seen op n e (y, c, i, f, g) =
     both_ways _
     (nothing_after_end [] (own (y.1).walker h) (no_session (run_after before) (y.1).walker) y (0, x) t p.1 p.0
     (subst (λ z. tells_end t z (y.1).outcome ≡ true) (sym f) (subst (λ z. tells_end t (Look t) z ≡ true) (sym g) (tx_self t))))
-    (subst (λ z. names t z ≡ true) (sym e) (tx_self t))
+    (subst (λ z. names false t z ≡ true) (sym e) (tx_self t))
 
 own_case : (w : ℕ) (y f : Placed) (fs : History) (b : Bool) → Among y (cond b (f ∷ own w fs) (own w fs)) → (Among y (own w fs) → Among y fs) → Among y (f ∷ fs)
 own_case w y f fs true (inl q) k = inl q
