@@ -1,0 +1,5 @@
+//! Worked legal histories over two shards for which the premises and the conclusions of the laws over all shards are computed, so that no law speaks
+//! of nothing.
+#![tactic(auto)]
+
+pub mod committed;
