@@ -133,7 +133,7 @@ may_prepare splits before after h pre n x s all told met fell log0 to t home see
   none_of (tx_get t s.requests) (λ q g. here_not (rows_get (λ r. RowFrom (Requested pre) (IsOld (run_after before)) n r.0 r.1) t q s.requests ((here.traced).origins).requests g).0),
   (λ w. false_from_ne_true _ (λ c.
       ⊎_elim (λ y. both_ways _ w y)
-      (λ y. here_not y)
+      here_not
       (committed_wrote (DidOrOld (run_after before) pre n) (Requested pre) (IsOld (run_after before)) n s.local.log t ((here.traced).origins).log (from_disorder n 0 [] s.local.log (order_is_kept n (run_after before) log0 all (requests_of pre) told met fell s leads)) c))),
 )
   where
