@@ -33,7 +33,7 @@ use Rattle.shard_laws.proofs.Following.{Follows, from_disorder, through}
 use Rattle.shard_laws.proofs.OrderKept.{order_is_kept}
 use Rattle.history_laws.proofs.Staying.{walker_of, one_request}
 use Rattle.origin_laws.proofs.Sessions.{Requested}
-use Rattle.origin_laws.proofs.Origins.{OwnRequest, RowFrom, RecordFrom}
+use Rattle.origin_laws.proofs.Origins.{OwnRequest, RowFrom, RecordFrom, AllFrom}
 use Rattle.origin_laws.proofs.Entries.{DidOrOld, IsOld}
 use Rattle.each_shard_laws.specs.Leading.{requests_of}
 use Rattle.each_shard_laws.proofs.Deeds.{request_is_in}
@@ -113,6 +113,10 @@ home_from A Q O n t (Abort u) p e = absurd (both_ways false refl e)
 home_from A Q O n t (End u) p e = absurd (both_ways false refl e)
 home_from A Q O n t (RestartRecord rn ep) p e = absurd (both_ways false refl e)
 
+-- who is committed wrote there, or made its request there
+pub committed_wrote : (A : TxId → Type 0) (Q : TxId → ℕ → Type 0) (O : TxId → Type 0) (n : ℕ) (log : List LogRecord) (t : TxId) → AllFrom A Q O n log → Follows n [] log → committed_in log t ≡ true → (wrote_in log t ≡ true) ⊎ OwnRequest Q O n t
+committed_wrote A Q O n log t a f c = ⊎_elim (λ y. inl y) (λ y. inr (any_from (RecordFrom A Q O n) (is_home_commit t) log (home_from A Q O n t) a y)) (wrote_or_home n log f t c)
+
 -- ---- a Prepare
 
 -- whose request was taken at another shard has none here
@@ -129,8 +133,8 @@ may_prepare splits before after h pre n x s all told met fell log0 to t home see
   none_of (tx_get t s.requests) (λ q g. here_not (rows_get (λ r. RowFrom (Requested pre) (IsOld (run_after before)) n r.0 r.1) t q s.requests ((here.traced).origins).requests g).0),
   (λ w. false_from_ne_true _ (λ c.
       ⊎_elim (λ y. both_ways _ w y)
-      (λ y. here_not (any_from (RecordFrom (DidOrOld (run_after before) pre n) (Requested pre) (IsOld (run_after before)) n) (is_home_commit t) s.local.log (home_from (DidOrOld (run_after before) pre n) (Requested pre) (IsOld (run_after before)) n t) ((here.traced).origins).log y))
-      (wrote_or_home n s.local.log (from_disorder n 0 [] s.local.log (order_is_kept n (run_after before) log0 all (requests_of pre) told met fell s leads)) t c))),
+      here_not
+      (committed_wrote (DidOrOld (run_after before) pre n) (Requested pre) (IsOld (run_after before)) n s.local.log t ((here.traced).origins).log (from_disorder n 0 [] s.local.log (order_is_kept n (run_after before) log0 all (requests_of pre) told met fell s leads)) c))),
 )
   where
     here_not : OwnRequest (Requested pre) (IsOld (run_after before)) n t → ⊥

@@ -30,7 +30,7 @@ FellOn before so_far after n tx =
     × (is_left_out (state_before before front after n) (state_before before (front ++ (n, e) ∷ []) after n) tx ≡ true)))
 
 -- in the words of the laws of who falls
-fell_is : (before : List (List LogRecord)) (so_far : History) (after : List (List LogRecord)) (n : ℕ) (tx : TxId) → FellOn before so_far after n tx → Fell before so_far after n tx
+pub fell_is : (before : List (List LogRecord)) (so_far : History) (after : List (List LogRecord)) (n : ℕ) (tx : TxId) → FellOn before so_far after n tx → Fell before so_far after n tx
 fell_is before so_far after n tx (front, rest, q, inl d) = inr (front, rest, q, d)
 fell_is before so_far after n tx (front, rest, q, inr (e, more, r, v, o)) =
     let s = state_before before front after n in

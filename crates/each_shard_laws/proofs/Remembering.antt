@@ -68,7 +68,7 @@ held_did : (run : ℕ) (pre : History) (n : ℕ) (s : Shard) (t : TxId) (p : Hel
 held_did run pre n s t p true q k r g d = (prepared_from (DidOrOld run pre n) (Requested pre) (IsOld run) n s.local.log (k.origins).log t (rows_get (λ y. (y.1).is_restored ≡ true → prepared_in s.local.log y.0 ≡ true) t p s.local.parts r g q)).0
 held_did run pre n s t p false q k r g d = any_of run pre n s.local.epoch t p.birth d
 
-part_did : (run : ℕ) (pre : History) (n : ℕ) (s : Shard) (t : TxId) (o : Option Stage) → Traced run pre n s → RestoredArePrepared s.local → stage_of s.local t ≡ o → (o ≡ None → ⊥) → DidOrOld run pre n t
+pub part_did : (run : ℕ) (pre : History) (n : ℕ) (s : Shard) (t : TxId) (o : Option Stage) → Traced run pre n s → RestoredArePrepared s.local → stage_of s.local t ≡ o → (o ≡ None → ⊥) → DidOrOld run pre n t
 part_did run pre n s t None k r e n0 = absurd (n0 refl)
 part_did run pre n s t (Some st) k r e n0 =
     let h = stage_row s.local.parts t st e in
@@ -77,7 +77,7 @@ part_did run pre n s t (Some st) k r e n0 =
 none_doomed : (o : Option Stage) → is_doomed o ≡ true → o ≡ None → ⊥
 none_doomed o d e = both_ways false refl (sym (ap is_doomed e) ∙ d)
 
-none_present : (o : Option Stage) → is_present o ≡ true → o ≡ None → ⊥
+pub none_present : (o : Option Stage) → is_present o ≡ true → o ≡ None → ⊥
 none_present o d e = both_ways false refl (sym (ap is_present e) ∙ d)
 
 -- ---- the shard's own entry

@@ -91,7 +91,7 @@ all_or f g [] a = refl
 all_or f g (p ∷ ps) a = let q = and_parts (f p) (list_all f ps) a in and_from _ _ (or_left (f p) (g p) q.0) (all_or f g ps q.1)
 
 -- whose home is elsewhere, undecided, with all that its PREPARE lists committed
-doubted : (log : List LogRecord) (shard : ℕ) (rs : List LogRecord) (sf : List TxId) (t : TxId) (p : ℕ × List TxId) → prepare_of rs t ≡ Some p → (shard == p.0) ≡ false → committed_in log t ≡ false → aborted_in log t ≡ false → list_all (committed_in log) p.1 ≡ true
+pub doubted : (log : List LogRecord) (shard : ℕ) (rs : List LogRecord) (sf : List TxId) (t : TxId) (p : ℕ × List TxId) → prepare_of rs t ≡ Some p → (shard == p.0) ≡ false → committed_in log t ≡ false → aborted_in log t ≡ false → list_all (committed_in log) p.1 ≡ true
     → tx_in t (in_doubt_from log shard rs sf) ≡ true
 doubted log shard [] sf t p e h c a l = absurd (none_some p e)
 doubted log shard (Prepare tx home ps ∷ rs) sf t p e h c a l = at (tx_same t tx) refl e (λ f s. doubted log shard rs s t p f h c a l)

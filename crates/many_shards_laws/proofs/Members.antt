@@ -41,7 +41,7 @@ abbrev AsksCounted : List (List LogRecord) → History → History → TxId → 
 AsksCounted logs h es t = (x : Placed) × Among x es × (request_of (x.1).event (x.1).outcome ≡ Some t) × (counts logs h x.0 t ≡ true)
 
 -- a member is one whose request counts
-asks : (logs : List (List LogRecord)) (h es : History) (t : TxId) → tx_in t (names (members logs h es)) ≡ true → AsksCounted logs h es t
+pub asks : (logs : List (List LogRecord)) (h es : History) (t : TxId) → tx_in t (names (members logs h es)) ≡ true → AsksCounted logs h es t
 asks logs h [] t i = absurd (both_ways false refl i)
 asks logs h (e ∷ es) t i = at (request_of (e.1).event (e.1).outcome) refl i (asks logs h es t)
   where

@@ -1,0 +1,145 @@
+-- Who voted yes on a member has its COMMIT left, or is in doubt.
+use Rattle.std.proofs.Common.{◌≡◌, inl, inr, refl, sym, ap, subst, ◌∙◌, ℕ, ◌<◌, true, false, cond, Bool, ◌==◌, List, [], Option, Some, None, append-nil}
+use Rattle.std.specs.Prelude.{unwrap_or}
+use Rattle.std.specs.List.{list_all}
+use Rattle.std.proofs.lemmas.Bool.{both_ways, eq-eqb, false_from_ne_true}
+use Rattle.clv_base.specs.declared.names.TxId.{TxId}
+use Rattle.clv_base.specs.declared.causes.Vote.TheVariants.{Yes}
+use Rattle.clv_base.specs.declared.logs.LogRecord.{LogRecord}
+use Rattle.clv_base.specs.declared.messages.Message.TheVariants.{Vote as VoteMessage}
+use Rattle.clv_base.specs.declared.events.Event.TheVariants.{Request as RequestEvent}
+use Rattle.clv_base.specs.declared.events.Outcome.TheVariants.{Asked, Sent}
+use Rattle.clv_base.specs.declared.events.Entry.{Entry}
+use Rattle.clv_base.specs.Orders.{tx_in, nat_in}
+use Rattle.clv_base.specs.Coordinator.{others}
+use Rattle.clv_base.specs.Shards.{shard_count}
+use Rattle.clv_base.specs.FileRules.{may_open}
+use Rattle.clv_base.specs.Logs.{committed_in, aborted_in, prepared_in, prepare_of, in_doubt}
+use Rattle.clv_base.specs.LogRules.{log_of, listed_in}
+use Rattle.clv_base.specs.State.{Shard, is_present}
+use Rattle.clv_base.specs.Undo.{stage_of}
+use Rattle.clv_base.specs.Restarts.{run_after, log_left}
+use Rattle.clv_base.specs.Journals.{History, final_of}
+use Rattle.clv_base.specs.History.{Legal, IsAmong, logs_left}
+use Rattle.protocol_laws.specs.Growth.{IsPrefixOf}
+use Rattle.protocol_laws.specs.SessionLaws.{tx_of}
+use Rattle.history_laws.proofs.Durability.{left_front}
+use Rattle.history_laws.proofs.Merging.{is_among}
+use Rattle.history_laws.proofs.Staying.{walker_of}
+use Rattle.history_laws.proofs.TellingEvents.{front_committed}
+use Rattle.history_laws.proofs.Worlds.{in_a_shard}
+use Rattle.shard_laws.proofs.Listing.{order_of}
+use Rattle.fate_laws.specs.Binding.{HasItsPart}
+use Rattle.fate_laws.specs.Decisions.{is_left}
+use Rattle.fate_laws.proofs.Arriving.{commits_have_their_parts}
+use Rattle.fate_laws.proofs.Binding.{Bound}
+use Rattle.fate_laws.proofs.Bindings.{Bindings, bindings_front}
+use Rattle.fate_laws.proofs.Casting.{casts_front}
+use Rattle.fate_laws.proofs.Deciding.{log_now, left_committed}
+use Rattle.fate_laws.proofs.Fates.{DeadIn}
+use Rattle.fate_laws.proofs.Prefixes.{one_home}
+use Rattle.fate_laws.proofs.Prepares.{prepare_there, prepare_more, front_prepare}
+use Rattle.fall_laws.specs.Falls.{OpensClear}
+use Rattle.fall_laws.proofs.Falling.{WasOut, Stands, stands_front}
+use Rattle.unfallen_laws.proofs.Going.{aborted_take}
+use Rattle.unfallen_laws.proofs.Losing.{Orderly, orderly, LostAt, all_lost}
+use Rattle.many_shards_laws.specs.Replaying.{IsHere}
+use Rattle.many_shards_laws.proofs.Homes.{doubted}
+use Rattle.many_shards_laws.proofs.Shares.{at_somewhere}
+
+module _ (splits : List ℕ) (before : List (List LogRecord)) (h : History) (after : List (List LogRecord)) (choice : ℕ → Bool) (o : may_open splits before ≡ true) (l : Legal splits before h after) (c : OpensClear splits before) (n : ℕ) (i : n < shard_count splits)
+    (t : TxId) (home : ℕ) (e : Entry) (touched : List (ℕ × ℕ)) (a : IsAmong home e h) (ev : e.event ≡ RequestEvent t touched) (out : e.outcome ≡ Asked)
+    (left : is_left splits before h after choice home t ≡ true) (away : (n == home) ≡ false) where
+  abbrev s : Shard
+  s = final_of before h after n
+
+  run_is : t.run ≡ run_after before
+  run_is = (walker_of splits before after h (home, e) t l (is_among home e h a) (ap tx_of ev)).0
+
+  inside : home < shard_count splits
+  inside = in_a_shard splits before after h (home, e) l (is_among home e h a)
+
+  bound_to : Bindings splits before after h h
+  bound_to = bindings_front splits before after h h [] o l (append-nil h)
+
+  stands : Stands before after h h n (final_of before h after n)
+  stands = stands_front splits before after h h [] o l c (append-nil h) n i
+
+  -- ---- its part never was out
+
+  home_of : (p : ℕ × List TxId) → prepare_of (final_of before h after n).local.log t ≡ Some p → p.0 ≡ home
+  home_of p k = let y = ((bound_to.fated).homed n i).prepares t p k run_is in one_home splits before after h t p.0 home y.0 e y.1 touched l y.2 y.3 (is_among home e h a) (ev, out)
+
+  living : (k : ℕ) → DeadIn before after h k t → ⊥
+  living k ((r, us, j, q), d) =
+      let z = one_home splits before after h t k home r e us touched l j q (is_among home e h a) (ev, out) in
+      both_ways _ d.0 (subst (λ m. committed_in (final_of before h after m).local.log t ≡ true) (sym z) (left_committed splits before h after choice home t inside left))
+
+  never_out : Bound (final_of before h after n) t → WasOut before after h n t → ⊥
+  never_out b w = by_lost (all_lost splits before after h h [] o l c (append-nil h) n i t b.listed run_is w prepared)
+    where
+      prepared : prepare_of (final_of before h after n).local.log t ≡ Some b.listed
+      prepared = front_prepare s.durable s.local.log t b.listed b.prepare
+
+      by_lost : LostAt before after h n t b.listed → ⊥
+      by_lost (inl z) = both_ways _ away (eq-eqb n home (sym z ∙ home_of b.listed prepared))
+      by_lost (inr (inl (r, k, d))) = living k d
+      by_lost (inr (inr (u, j, v))) = both_ways _ ((stands.barred).open_ u v) (front_committed s.durable s.local.log u (b.durable u j))
+
+  -- so no ABORT of it is in the log
+
+  unaborted : Bound (final_of before h after n) t → aborted_in (final_of before h after n).local.log t ≡ true → ⊥
+  unaborted b k = never_out b (h, [], append-nil h, (gone, undecided, (stands.barred).sought t (prepare_there s.local.log t b.listed (front_prepare s.durable s.local.log t b.listed b.prepare))))
+    where
+      ord : Orderly (final_of before h after n)
+      ord = orderly splits before after h h [] n o l c (append-nil h) i
+
+      gone : is_present (stage_of (final_of before h after n).local t) ≡ false
+      gone = false_from_ne_true _ (λ y. both_ways _ (ord.unaborted t y) k)
+
+      undecided : committed_in (final_of before h after n).local.log t ≡ false
+      undecided = false_from_ne_true _ (λ y. both_ways _ ((order_of s.shard s.local.log ord.follows).apart t y) k)
+
+  -- ---- in what is left
+
+  left_prepare : (b : Bound (final_of before h after n) t) → prepare_of (log_left (final_of before h after n) (choice n)) t ≡ Some b.listed
+  left_prepare b =
+      let p : IsPrefixOf (log_left s false) (log_left s (choice n)) = left_front s (choice n) (((bound_to.fated).counts).counted n i) in
+      subst (λ z. prepare_of z t ≡ Some b.listed) p.1 (prepare_more (log_left s false) p.0 t b.listed b.prepare)
+
+  doubt : Bound (final_of before h after n) t → committed_in (log_left (final_of before h after n) (choice n)) t ≡ false → list_all (committed_in (log_left (final_of before h after n) (choice n))) (listed_in (log_left (final_of before h after n) (choice n)) t) ≡ true
+      → tx_in t (in_doubt n (log_left (final_of before h after n) (choice n))) ≡ true
+  doubt b k listed =
+      let log = log_left s (choice n) in
+      let p = left_prepare b in
+      doubted log n log [] t b.listed p (subst (λ m. (n == m) ≡ false) (sym (home_of b.listed (front_prepare s.durable s.local.log t b.listed b.prepare))) away) k
+      (false_from_ne_true _ (λ z. unaborted b (aborted_take (cond (choice n) (unwrap_or s.flight s.durable) s.durable) s.local.log t z)))
+      (subst (λ (z : Option (ℕ × List TxId)). list_all (committed_in log) (elim z [ Some y ↦ y.1 | None ↦ [] ]) ≡ true) p listed)
+
+  pub yes_is_here : (k : ℕ) (x : Entry) (to : ℕ) → IsAmong k x h → x.outcome ≡ Sent (VoteMessage to t n Yes) → nat_in n (others home touched) ≡ true → IsHere splits before h after choice n t
+  yes_is_here k x to m sent there = by_part (commits_have_their_parts splits before h after choice home n home e touched t o l inside i a ev out there left)
+    where
+      bound : Bound (final_of before h after n) t
+      bound = ((casts_front splits before after h h [] o l (append-nil h)).cast (k, x) to n t Yes (is_among k x h m) sent).1
+
+      now : log_of (logs_left splits before h after choice) n ≡ log_left (final_of before h after n) (choice n)
+      now = log_now splits before h after choice n i
+
+      undecided : committed_in (log_of (logs_left splits before h after choice) n) t ≡ false → list_all (committed_in (log_of (logs_left splits before h after choice) n)) (listed_in (log_of (logs_left splits before h after choice) n) t) ≡ true
+          → IsHere splits before h after choice n t
+      undecided f g =
+          inr (inl (
+            subst (λ z. tx_in t (in_doubt n z) ≡ true) (sym now) (doubt bound (subst (λ z. committed_in z t ≡ false) now f) (subst (λ z. list_all (committed_in z) (listed_in z t) ≡ true) now g)),
+            g,
+            at_somewhere (logs_left splits before h after choice) home t left,
+          ))
+
+      at : (b : Bool) → committed_in (log_of (logs_left splits before h after choice) n) t ≡ b → list_all (committed_in (log_of (logs_left splits before h after choice) n)) (listed_in (log_of (logs_left splits before h after choice) n) t) ≡ true
+          → IsHere splits before h after choice n t
+      at true f g = inl f
+      at false f g = undecided f g
+
+      by_part : HasItsPart (log_of (logs_left splits before h after choice) n) t → IsHere splits before h after choice n t
+      by_part (inl f) = inl f
+      by_part (inr (inl (p, g))) = at (committed_in (log_of (logs_left splits before h after choice) n) t) refl g
+      by_part (inr (inr p)) = absurd (both_ways _ p (subst (λ z. prepared_in z t ≡ true) (sym now) (prepare_there (log_left s (choice n)) t bound.listed (left_prepare bound))))

@@ -1,0 +1,3 @@
+pub mod Passing
+pub mod Doubting
+pub mod Found

@@ -1,0 +1,127 @@
+-- Who passes on a shard: who voted read there, who only read at its home, and whom its request doesn't name.
+use Rattle.std.proofs.Common.{◌≡◌, inl, inr, ⊎_elim, refl, sym, ap, subst, ◌∙◌, ℕ, ◌<◌, true, false, List, [], ◌++◌, map, arith, append-nil}
+use Rattle.std.proofs.lemmas.Bool.{both_ways, false_from_ne_true}
+use Rattle.clv_base.specs.declared.names.TxId.{TxId}
+use Rattle.clv_base.specs.declared.causes.Vote.TheVariants.{Read}
+use Rattle.clv_base.specs.declared.logs.LogRecord.{LogRecord}
+use Rattle.clv_base.specs.declared.messages.Message.TheVariants.{Vote as VoteMessage}
+use Rattle.clv_base.specs.declared.events.Event.TheVariants.{Request as RequestEvent}
+use Rattle.clv_base.specs.declared.events.Outcome.TheVariants.{Asked, Sent}
+use Rattle.clv_base.specs.declared.events.Entry.{Entry}
+use Rattle.clv_base.specs.Orders.{tx_in, nat_in}
+use Rattle.clv_base.specs.Shards.{shard_count}
+use Rattle.clv_base.specs.FileRules.{may_open}
+use Rattle.clv_base.specs.Logs.{wrote_in, committed_in}
+use Rattle.clv_base.specs.LogRules.{log_of}
+use Rattle.clv_base.specs.State.{Shard, is_present}
+use Rattle.clv_base.specs.Undo.{stage_of}
+use Rattle.clv_base.specs.Restarts.{run_after}
+use Rattle.clv_base.specs.Journals.{History, final_of}
+use Rattle.clv_base.specs.History.{Legal, IsAmong}
+use Rattle.protocol_laws.specs.SessionLaws.{tx_of}
+use Rattle.history_laws.proofs.Merging.{Among, is_among, among_is}
+use Rattle.history_laws.proofs.Staying.{walker_of}
+use Rattle.shard_laws.specs.OneShard.{Leads, Passes}
+use Rattle.shard_laws.proofs.Following.{from_disorder}
+use Rattle.shard_laws.proofs.OrderKept.{order_is_kept}
+use Rattle.origin_laws.proofs.Sessions.{Requested}
+use Rattle.origin_laws.proofs.Origins.{OwnRequest}
+use Rattle.origin_laws.proofs.Entries.{DidAny, DidOrOld, IsOld, Traced, traced_front}
+use Rattle.fate_laws.proofs.Prefixes.{one_home}
+use Rattle.fate_laws.proofs.Voting.{votes_bind}
+use Rattle.fall_laws.specs.Falls.{Fell, OpensClear}
+use Rattle.each_shard_laws.specs.Leading.{deeds_before, requests_of}
+use Rattle.each_shard_laws.proofs.Deeds.{request_is_in}
+use Rattle.each_shard_laws.proofs.Delivering.{committed_wrote}
+use Rattle.each_shard_laws.proofs.Fallen.{fell_is}
+use Rattle.each_shard_laws.proofs.Leading.{at_front}
+use Rattle.each_shard_laws.proofs.Records.{wrote_from}
+use Rattle.each_shard_laws.proofs.Remembering.{part_did, none_present}
+use Rattle.each_shard_laws.proofs.Restored.{restored_prepared}
+use Rattle.unfallen_laws.proofs.Naming.{requests_name_their_shards}
+use Rattle.headline_laws.specs.Supposed.{ReadersPass, ReadersNeverFell, OnlyRead}
+
+module _ (splits : List ℕ) (before : List (List LogRecord)) (h : History) (after : List (List LogRecord)) (o : may_open splits before ≡ true) (l : Legal splits before h after) (c : OpensClear splits before) (n : ℕ) (i : n < shard_count splits)
+    (t : TxId) (home : ℕ) (e : Entry) (touched : List (ℕ × ℕ)) (a : IsAmong home e h) (ev : e.event ≡ RequestEvent t touched) (out : e.outcome ≡ Asked) where
+  run_is : t.run ≡ run_after before
+  run_is = (walker_of splits before after h (home, e) t l (is_among home e h a) (ap tx_of ev)).0
+
+  asked : tx_in t (requests_of h) ≡ true
+  asked = request_is_in h t (home, e) touched (is_among home e h a) (ev, out)
+
+  -- who never fell is none of the fallen that the shard counts
+  uncounted : (Fell before h after n t → ⊥) → tx_in t (deeds_before before h after n).fell ≡ false
+  uncounted k = false_from_ne_true _ (λ f. k (fell_is before h after n t (((at_front splits before h after h [] n o l c (append-nil h) i).remembers).fell t f).1))
+
+  -- ---- who voted read
+
+  pub reader_passes : ReadersPass → ReadersNeverFell → (k : ℕ) (x : Entry) (to : ℕ) → IsAmong k x h → x.outcome ≡ Sent (VoteMessage to t n Read) → Passes (requests_of h) (deeds_before before h after n).fell (final_of before h after n) t
+  reader_passes pass never k x to m s =
+      let w : Legal splits before (h ++ []) after = subst (λ z. Legal splits before z after) (sym (append-nil h)) l in
+      let p = pass splits before h [] after k x to n t o w i m s in
+      record {
+        has_asked = asked;
+        unwritten = p.0;
+        uncommitted = p.1;
+        absent = (votes_bind splits before h [] after k x to n t Read o w i m s).1;
+        unfallen = uncounted (never splits before h after k n x to t o l c i m s);
+      }
+
+  -- ---- who only read, at its home
+
+  pub home_passes : n ≡ home → OnlyRead before h after home touched t → Passes (requests_of h) (deeds_before before h after n).fell (final_of before h after n) t
+  home_passes z r =
+      record {
+        has_asked = asked;
+        unwritten = subst (λ m. wrote_in (final_of before h after m).local.log t ≡ false) (sym z) r.unwritten;
+        uncommitted = subst (λ m. committed_in (final_of before h after m).local.log t ≡ false) (sym z) r.uncommitted;
+        absent = subst (λ m. is_present (stage_of (final_of before h after m).local t) ≡ false) (sym z) r.absent;
+        unfallen = uncounted (subst (λ m. Fell before h after m t → ⊥) (sym z) r.unfallen);
+      }
+
+  -- ---- whom its request doesn't name
+
+  module _ (unnamed : nat_in n (map (λ r. r.0) touched) ≡ false) (away : n ≡ home → ⊥) where
+    abbrev A : TxId → Type 0
+    A = DidOrOld (run_after before) h n
+
+    abbrev Q : TxId → ℕ → Type 0
+    Q = Requested h
+
+    abbrev O : TxId → Type 0
+    O = IsOld (run_after before)
+
+    abbrev s : Shard
+    s = final_of before h after n
+
+    leads : Leads n (run_after before) (log_of before n) (deeds_before before h after n).items (requests_of h) (deeds_before before h after n).told (deeds_before before h after n).met (deeds_before before h after n).fell (final_of before h after n)
+    leads = (at_front splits before h after h [] n o l c (append-nil h) i).leads
+
+    traced : Traced (run_after before) h n (final_of before h after n)
+    traced = (traced_front splits before after h h [] o l (append-nil h)).states n i
+
+    undone : DidAny h n t → ⊥
+    undone (ep, (b, (y, j, q, p))) =
+        both_ways _ unnamed
+        (requests_name_their_shards splits before h after n home y.1 e t b (p.at).nth p.seen (p.at).op p.answer ep touched l (among_is n y.1 h (subst (λ m. Among (m, y.1) h) q j)) (p.at).is p.outcome a ev)
+
+    not_there : DidOrOld (run_after before) h n t → ⊥
+    not_there (inl d) = undone d
+    not_there (inr old) = let r = run_is in omega (arith, old, r)
+
+    not_its_home : OwnRequest (Requested h) (IsOld (run_after before)) n t → ⊥
+    not_its_home (inl (r, us, j, q, z)) = away (sym z ∙ one_home splits before after h t r.0 home r.1 e us touched l j q (is_among home e h a) (ev, out))
+    not_its_home (inr old) = let r = run_is in omega (arith, old, r)
+
+    pub unnamed_passes : Passes (requests_of h) (deeds_before before h after n).fell (final_of before h after n) t
+    unnamed_passes =
+        let d = deeds_before before h after n in
+        let log = (traced.origins).log in
+        record {
+          has_asked = asked;
+          unwritten = false_from_ne_true _ (λ w. not_there (wrote_from A Q O n s.local.log log t w));
+          uncommitted = false_from_ne_true _ (λ k. ⊎_elim (λ w. not_there (wrote_from A Q O n s.local.log log t w)) (λ r. not_its_home r)
+              (committed_wrote A Q O n s.local.log t log (from_disorder n 0 [] s.local.log (order_is_kept n (run_after before) (log_of before n) d.items (requests_of h) d.told d.met d.fell s leads)) k));
+          absent = false_from_ne_true _ (λ p. not_there (part_did (run_after before) h n s t (stage_of s.local t) traced (restored_prepared n (run_after before) (log_of before n) d.items (requests_of h) d.told d.met d.fell s leads) refl (none_present (stage_of s.local t) p)));
+          unfallen = false_from_ne_true _ (λ f. not_there (((at_front splits before h after h [] n o l c (append-nil h) i).remembers).fell t f).0);
+        }

@@ -1,0 +1,2 @@
+pub mod Supposed
+pub mod Found
