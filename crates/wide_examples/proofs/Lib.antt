@@ -1,1 +1,5 @@
+pub mod Entering
 pub mod Wide
+pub mod Again
+pub mod Refusing
+pub mod Restarting

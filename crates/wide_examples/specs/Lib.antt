@@ -1,1 +1,5 @@
+pub mod Noted
 pub mod Committed
+pub mod Reopened
+pub mod Aborted
+pub mod Restarted

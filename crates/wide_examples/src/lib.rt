@@ -2,4 +2,7 @@
 //! of nothing.
 #![tactic(auto)]
 
+pub mod aborted;
 pub mod committed;
+pub mod reopened;
+pub mod restarted;
