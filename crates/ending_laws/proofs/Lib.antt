@@ -1,3 +1,4 @@
 pub mod Ends
 pub mod Unended
 pub mod Hearing
+pub mod HearingEvents
