@@ -2,3 +2,5 @@ pub mod Ends
 pub mod Unended
 pub mod Hearing
 pub mod HearingEvents
+pub mod Opening
+pub mod Ended
