@@ -4,3 +4,4 @@ pub mod Hearing
 pub mod HearingEvents
 pub mod Opening
 pub mod Ended
+pub mod Polling
