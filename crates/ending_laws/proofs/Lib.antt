@@ -5,3 +5,4 @@ pub mod HearingEvents
 pub mod Opening
 pub mod Ended
 pub mod Polling
+pub mod Polled

@@ -218,6 +218,13 @@ ruled_parts shard tx q f parts e =
     let a = commit_agreed shard tx q f parts e in
     agreed_parts f f.updates (yes_shards shard q) parts (subst (λ b. undecided_ruling shard tx q f b ≡ Some (CommitVerdict parts)) a.1 (subst (λ st. ruling_in shard tx q f st ≡ Some (CommitVerdict parts)) a.0 e))
 
+-- what an event owes: a request and a vote that come tell what was; a commit comes to the home only where its COMMIT is in the log
+abbrev pub Owes : (TxId → ℕ → List (ℕ × ℕ) → Type 0) → (ℕ → TxId → ℕ → Vote → Type 0) → Shard → Event → Outcome → Type 0
+Owes W V s (RequestEvent tx ts) Asked = W tx s.shard ts
+Owes W V s (Deliver (VoteMessage to tx from vote) stamp) o = V to tx from vote
+Owes W V s (Deliver (Decide to tx home true) stamp) o = (ts : List (ℕ × ℕ)) → W tx s.shard ts → committed_in s.local.log tx ≡ true
+Owes W V s _ _ = ⊤
+
 module _ (run : ℕ) (W : TxId → ℕ → List (ℕ × ℕ) → Type 0) (V : ℕ → TxId → ℕ → Vote → Type 0) (once : Once run W) where
   polls_ruling : (s : Shard) (tx : TxId) (q : Request) (r : Ruling) → tx_get tx s.requests ≡ Some q → ruling_by s.shard tx q (facts_of s tx) ≡ Some r → Polls W V s → Polls W V (do_ruling tx r (with_ruling tx q r s))
   polls_ruling s tx q (CommitVerdict parts) g e p =
@@ -252,13 +259,6 @@ module _ (run : ℕ) (W : TxId → ℕ → List (ℕ × ℕ) → Type 0) (V : �
 
   -- ---- each step
 
-  -- a request and a vote that come tell what was; a commit comes to the home only where its COMMIT is in the log
-  abbrev pub Owes : Shard → Event → Outcome → Type 0
-  Owes s (RequestEvent tx ts) Asked = W tx s.shard ts
-  Owes s (Deliver (VoteMessage to tx from vote) stamp) o = V to tx from vote
-  Owes s (Deliver (Decide to tx home true) stamp) o = (ts : List (ℕ × ℕ)) → W tx s.shard ts → committed_in s.local.log tx ≡ true
-  Owes s _ _ = ⊤
-
   none_chosen : (shard : ℕ) (tx : TxId) (ts : List (ℕ × ℕ)) (os : List ℕ) → others shard ts ≡ os → is_alone os ≡ true → Chosen V shard tx ts []
   none_chosen shard tx ts [] e a = λ m. ((λ i. absurd (both_ways false refl i)), (λ i n. absurd (both_ways false refl (subst (λ z. nat_in m z ≡ true) e i))))
   none_chosen shard tx ts (x ∷ xs) e a = absurd (both_ways false refl a)
@@ -266,11 +266,11 @@ module _ (run : ℕ) (W : TxId → ℕ → List (ℕ × ℕ) → Type 0) (V : �
   polls_coordinate : (s : Shard) (tx : TxId) (ts : List (ℕ × ℕ)) → W tx s.shard ts → Polls W V s → Polls W V (coordinate tx ts s)
   polls_coordinate s tx ts w p = let q = polls_put W V s tx (new_request ts Undecided) (λ z. (w, tt)) p in record { log = q.log; rows = q.rows }
 
-  polls_decided : (s : Shard) (tx : TxId) (home stamp : ℕ) (commit : Bool) (o : Outcome) → committed_in s.local.log tx ≡ false → Owes s (Deliver (Decide s.shard tx home commit) stamp) o → Polls W V s → Polls W V (decided s tx commit)
+  polls_decided : (s : Shard) (tx : TxId) (home stamp : ℕ) (commit : Bool) (o : Outcome) → committed_in s.local.log tx ≡ false → Owes W V s (Deliver (Decide s.shard tx home commit) stamp) o → Polls W V s → Polls W V (decided s tx commit)
   polls_decided s tx home stamp true o n w p = polls_commit W V s _ tx [] refl (λ ts x. absurd (both_ways (committed_in s.local.log tx) n (w ts x))) p
   polls_decided s tx home stamp false o n w p = polls_local W V s (roll_back tx s.local) (plain_rolled tx s.local) p
 
-  polls_step : (s t : Shard) {e : Event} {o : Outcome} → Step s e o t → Owes s e o → Polls W V s → Polls W V t
+  polls_step : (s t : Shard) {e : Event} {o : Outcome} → Step s e o t → Owes W V s e o → Polls W V s → Polls W V t
   polls_step s _ (op_dies tx birth nth seen op cause l g) w p = polls_local W V s l ((inside_step s _ (op_dies tx birth nth seen op cause l g)).log, op_dying s.shard s.local l tx birth seen op cause g) p
   polls_step s _ (op_answers tx birth nth seen op answer l g) w p = polls_local W V s l ((inside_step s _ (op_answers tx birth nth seen op answer l g)).log, op_answering s.shard s.local l tx birth seen op answer g) p
   polls_step s _ (request_refused tx ts cause g) w p = p
@@ -320,11 +320,11 @@ module _ (run : ℕ) (W : TxId → ℕ → List (ℕ × ℕ) → Type 0) (V : �
 
   -- ---- each entry
 
-  polls_event : (s t : Shard) {e : Event} {o : Outcome} → Happens s e o t → Owes s e o → Polls W V s → Polls W V t
+  polls_event : (s t : Shard) {e : Event} {o : Outcome} → Happens s e o t → Owes W V s e o → Polls W V s → Polls W V t
   polls_event s _ (finishes {t = x} u h) w p = polls_finish x (polls_step s x h w p)
   polls_event s _ (stops u) w p = record { log = p.log; rows = p.rows }
 
-  pub polls_made : (log : List LogRecord) (s t : Shard) {e : Event} {o : Outcome} → Makes log s e o t → Owes s e o → Polls W V s → Polls W V t
+  pub polls_made : (log : List LogRecord) (s t : Shard) {e : Event} {o : Outcome} → Makes log s e o t → Owes W V s e o → Polls W V s → Polls W V t
   polls_made log s t (by_event g h) w p = polls_event s t h w p
   polls_made log s _ (by_flush n u f) w p = polls_finish _ (record { log = p.log; rows = p.rows })
   polls_made log s _ (by_failure n u f) w p = record { log = p.log; rows = p.rows }
