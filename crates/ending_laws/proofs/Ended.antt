@@ -1,5 +1,5 @@
 -- Where a transaction is ended, each of its parts is committed, along a history.
-use Rattle.std.proofs.Common.{◌≡◌, inl, inr, ⊎_elim, refl, sym, ap, subst, ◌∙◌, ℕ, zero, suc, ◌<◌, true, false, cond, Bool, nat_lt, List, [], ◌∷◌, ◌++◌, Option, Some, None, length, arith}
+use Rattle.std.proofs.Common.{◌≡◌, inl, inr, ⊎_elim, refl, sym, ap, subst, ℕ, zero, suc, ◌<◌, true, false, cond, Bool, nat_lt, List, [], ◌∷◌, ◌++◌, Some, length, arith}
 use Rattle.std.specs.List.{list_all}
 use Rattle.std.proofs.lemmas.Bool.{and_parts, ltb-true}
 use Rattle.clv_base.specs.declared.names.TxId.{TxId}
@@ -31,7 +31,7 @@ use Rattle.fate_laws.proofs.Fates.{fated}
 use Rattle.fate_laws.proofs.Prefixes.{Next, walk, each_shard, DurableIn, Counts, counts_start, counts_next, durable_later}
 use Rattle.ending_laws.specs.Ended.{EndedAreCommitted}
 use Rattle.ending_laws.proofs.Ends.{tell_front}
-use Rattle.ending_laws.proofs.Hearing.{Says, Hears, nat_at}
+use Rattle.ending_laws.proofs.Hearing.{Hears, nat_at}
 use Rattle.ending_laws.proofs.HearingEvents.{Brings, Enters, SaysOut, hears_mono, hears_opened, hears_made, hears_noted, out_made}
 use Rattle.ending_laws.proofs.Opening.{opening_tells}
 

@@ -21,13 +21,12 @@ use Rattle.clv_base.specs.Undo.{stage_of, aborts_of, clrs_of, newest_lsn, doomed
 use Rattle.clv_base.specs.Facts.{undecided_of}
 use Rattle.clv_base.specs.Coordinator.{others}
 use Rattle.clv_base.specs.Needs.{writes_of, value_at, key_of}
-use Rattle.clv_base.specs.OneShard.{OpDies, OpAnswers, op_reply, written, locked, rolled_back_if, drop_part, closing, close_part}
+use Rattle.clv_base.specs.OneShard.{OpDies, OpAnswers, written, locked, rolled_back_if, drop_part, closing, close_part}
 use Rattle.clv_base.specs.Events.{is_alone}
 use Rattle.clv_base.specs.Restarts.{undo_records, restart_records, log_after_restart, next_epoch, losers, FailedRestarts, untouched, failed_first, Restarts}
 use Rattle.clv_base.proofs.SameNames.{tx_true}
 use Rattle.law_base.proofs.Changed.{none_some, some_same}
 use Rattle.law_base.proofs.Commits.{committed_keeps}
-use Rattle.order_laws.proofs.Records.{committed_there}
 use Rattle.one_shard_laws.proofs.OwningEvents.{OpIs, dies, rolls, performs, reply_is}
 use Rattle.history_laws.proofs.Telling.{all_append}
 use Rattle.history_laws.proofs.Stepping.{Step, op_dies, op_answers, request_refused, request_doomed, request_again, request_new, request_closes, looks_well, looks_ill, drops, sends, prepare_closes, prepare_again, vote_counts, decision_comes, decision_again, done_counts, asked, reminds, flushes}

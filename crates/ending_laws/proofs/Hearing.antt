@@ -1,5 +1,5 @@
 -- What a home heard of the parts of its commits: each that acknowledged one has its COMMIT durable. And that what is due keeps it so.
-use Rattle.std.proofs.Common.{◌≡◌, ◌⊎◌, inl, inr, ⊎_elim, refl, sym, ap, subst, ◌∙◌, ℕ, true, false, cond, not, ◌&&◌, ◌||◌, ◌==◌, Bool, List, [], ◌∷◌, ◌++◌, map, Option, Some, None, eqb-true}
+use Rattle.std.proofs.Common.{◌≡◌, ⊎_elim, refl, sym, subst, ◌∙◌, ℕ, true, false, cond, not, ◌&&◌, ◌==◌, Bool, List, [], ◌∷◌, ◌++◌, map, Option, Some, None, eqb-true}
 use Rattle.std.specs.Prelude.{⊤}
 use Rattle.std.specs.List.{AllByRecursion, list_all}
 use Rattle.std.proofs.lemmas.Bool.{both_ways, and_parts, or_cases}
@@ -18,7 +18,7 @@ use Rattle.clv_base.specs.declared.state.Voter.{Voter}
 use Rattle.clv_base.specs.declared.state.Request.{Request}
 use Rattle.clv_base.specs.declared.state.RequestState.{RequestState}
 use Rattle.clv_base.specs.declared.state.RequestState.TheVariants.{Undecided, Committed, Finished, Refused}
-use Rattle.clv_base.specs.Orders.{Table, tx_same, tx_get, tx_put, tx_set, nat_in}
+use Rattle.clv_base.specs.Orders.{tx_same, tx_get, tx_put, tx_set, nat_in}
 use Rattle.clv_base.specs.Logs.{committed_in, commit_parts}
 use Rattle.clv_base.specs.State.{Shard, Local, with_local}
 use Rattle.clv_base.specs.Undo.{release_parts, roll_back}
@@ -164,7 +164,7 @@ hears_ruling K s tx q EndVerdict g e p =
     let r = p.rows tx q g in
     let (ps, f, k) = subst (Awaits s.local.log tx) x.1 r.1 in
     let done : (qs : List ℕ) (m : ℕ) → commit_parts s.local.log tx ≡ Some qs → nat_in m qs ≡ true → K m tx = λ qs m c i.
-        r.0 m (nat_at (λ n. nat_in n q.acknowledged_by) m x.0 x.2 (k m (subst (λ z. nat_in m z ≡ true) (some_same qs ps (sym c ∙ f)) i))) in
+    r.0 m (nat_at (λ n. nat_in n q.acknowledged_by) m x.0 x.2 (k m (subst (λ z. nat_in m z ≡ true) (some_same qs ps (sym c ∙ f)) i))) in
     let h = hears_set K s tx (ruled_request EndVerdict q) (r.0, r.1) p in
     record {
       log = tell_end K s.local.log tx (committed_there s.local.log tx ps f) done p.log;

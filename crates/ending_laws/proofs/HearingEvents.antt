@@ -1,17 +1,16 @@
 -- Each entry keeps what a home heard of the parts of its commits, and what it sends says it.
-use Rattle.std.proofs.Common.{◌≡◌, ◌⊎◌, inl, inr, ⊎_elim, refl, sym, ap, subst, ◌∙◌, ℕ, ◌≤◌, true, false, cond, not, ◌&&◌, ◌||◌, ◌==◌, Bool, List, [], ◌∷◌, ◌++◌, map, Option, Some, None, is_some, length, arith}
+use Rattle.std.proofs.Common.{◌≡◌, ◌⊎◌, inl, inr, ⊎_elim, refl, sym, ap, subst, ℕ, true, false, not, ◌&&◌, ◌==◌, Bool, List, [], ◌∷◌, Option, Some, None, is_some, arith}
 use Rattle.std.specs.Prelude.{⊤}
 use Rattle.std.specs.List.{AllByRecursion, filter}
-use Rattle.std.specs.BTreeSet.{insert_key}
 use Rattle.std.specs.Ordering.{nat_cmp, match_ordering, is_eq}
 use Rattle.std.specs.declared.cmp.Ordering.{Ordering}
 use Rattle.std.specs.declared.cmp.Ordering.TheVariants.{Less, Equal, Greater}
-use Rattle.std.proofs.lemmas.Bool.{both_ways, and_parts, or_cases, or_left, or_right, eqb-true}
+use Rattle.std.proofs.lemmas.Bool.{both_ways, or_cases, or_left, or_right, eqb-true}
 use Rattle.clv_base.specs.declared.names.TxId.{TxId}
 use Rattle.clv_base.specs.declared.logs.LogRecord.{LogRecord}
 use Rattle.clv_base.specs.declared.logs.LogRecord.TheVariants.{Commit}
 use Rattle.clv_base.specs.declared.messages.Message.{Message}
-use Rattle.clv_base.specs.declared.messages.Message.TheVariants.{Prepare, Decide, Done}
+use Rattle.clv_base.specs.declared.messages.Message.TheVariants.{Decide, Done}
 use Rattle.clv_base.specs.declared.state.Voter.{Voter}
 use Rattle.clv_base.specs.declared.state.Request.{Request}
 use Rattle.clv_base.specs.declared.state.RequestState.{RequestState}
@@ -27,12 +26,13 @@ use Rattle.clv_base.specs.State.{Shard, with_local}
 use Rattle.clv_base.specs.Undo.{roll_back}
 use Rattle.clv_base.specs.Facts.{facts_of, has_durable_commit, is_waiting}
 use Rattle.clv_base.specs.Participant.{ask_by, asks, taken_by, taken_if}
-use Rattle.clv_base.specs.Coordinator.{new_request, others, vote_from, with_vote_of, with_done_of, ask_answer, prepare_for, prepares, missing_votes, missing_dones, each_request, home_reminders, restored_request, restored_requests}
+use Rattle.clv_base.specs.Coordinator.{new_request, others, vote_from, with_vote_of, with_done_of, ask_answer, prepare_for, prepares, missing_votes, missing_dones, each_request, home_reminders, restored_requests}
 use Rattle.clv_base.specs.OneShard.{close_part, drop_part}
-use Rattle.clv_base.specs.Events.{finish, is_alone, coordinate, decided, ask_messages, durable_requests, waiting_voters, reminders, put_down, with_durable}
+use Rattle.clv_base.specs.Events.{finish, is_alone, coordinate, decided, ask_messages, durable_requests, waiting_voters, reminders, with_durable}
 use Rattle.clv_base.specs.Restarts.{log_left, revived, opened, unended_in, log_after_restart, Restarts}
 use Rattle.clv_base.specs.Journals.{event_state, after_entry, up_to_restart}
 use Rattle.clv_base.proofs.SameNames.{nat_cmp_true}
+use Rattle.law_base.proofs.Lists.{all_mono}
 use Rattle.law_base.proofs.Commits.{commit_durable, durable_keeps}
 use Rattle.protocol_laws.proofs.Growing.{grows_settled}
 use Rattle.shard_laws.proofs.Relisting.{request_from}
@@ -41,16 +41,11 @@ use Rattle.history_laws.proofs.Entering.{Makes, by_event, by_flush, by_failure, 
 use Rattle.history_laws.proofs.Durability.{Counted, framed_finish}
 use Rattle.history_laws.proofs.Telling.{all_append, all_map}
 use Rattle.fate_laws.proofs.Inside.{inside_self, inside_step}
-use Rattle.fate_laws.proofs.Homes.{Starts}
-use Rattle.ending_laws.proofs.Ends.{GoesOn, on_more, on_rolled, on_dropped, on_closed, on_opened, on_restarted, step_on, Tell, tell_on, tell_front, tell_mono}
+use Rattle.ending_laws.proofs.Ends.{on_more, on_rolled, on_dropped, on_closed, on_opened, on_restarted, step_on, Tell, tell_on, tell_front, tell_mono}
 use Rattle.ending_laws.proofs.Unended.{unended}
-use Rattle.ending_laws.proofs.Hearing.{Says, Awaits, Row, Hears, hears_local, hears_set, hears_put, hears_send, Within, hears_finish}
+use Rattle.ending_laws.proofs.Hearing.{Says, Row, Hears, hears_local, hears_set, hears_put, hears_send, hears_finish}
 
 -- ---- more is known
-
-all_mono : {X : Type 0} (P Q : X → Type 0) → ((x : X) → P x → Q x) → (xs : List X) → AllByRecursion P xs → AllByRecursion Q xs
-all_mono P Q k [] a = tt
-all_mono P Q k (x ∷ xs) a = (k x a.0, all_mono P Q k xs a.1)
 
 says_mono : (K L : ℕ → TxId → Type 0) → ((n : ℕ) (u : TxId) → K n u → L n u) → (m : Message) → Says K m → Says L m
 says_mono K L k (Done to tx from) p = k from tx p

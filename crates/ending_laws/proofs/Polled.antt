@@ -1,6 +1,5 @@
 -- The parts of a COMMIT are the shards that voted yes, along a history.
-use Rattle.std.proofs.Common.{◌≡◌, inl, inr, ⊎_elim, refl, sym, subst, ◌∙◌, ℕ, ◌<◌, true, false, List, [], ◌∷◌, ◌++◌, Some, arith}
-use Rattle.std.specs.Prelude.{⊤}
+use Rattle.std.proofs.Common.{◌≡◌, refl, sym, subst, ◌∙◌, ℕ, ◌<◌, true, List, [], ◌∷◌, ◌++◌, Some, arith}
 use Rattle.clv_base.specs.declared.names.TxId.{TxId}
 use Rattle.clv_base.specs.declared.logs.LogRecord.{LogRecord}
 use Rattle.clv_base.specs.declared.causes.Vote.{Vote}
@@ -15,7 +14,6 @@ use Rattle.clv_base.specs.Shards.{shard_count}
 use Rattle.clv_base.specs.Logs.{committed_in, commit_parts}
 use Rattle.clv_base.specs.LogRules.{log_of}
 use Rattle.clv_base.specs.FileRules.{may_open}
-use Rattle.clv_base.specs.State.{Shard}
 use Rattle.clv_base.specs.Restarts.{run_after}
 use Rattle.clv_base.specs.Journals.{History, final_of}
 use Rattle.clv_base.specs.History.{Legal, WasSent}
@@ -27,7 +25,6 @@ use Rattle.history_laws.proofs.Worlds.{state_at, in_a_shard}
 use Rattle.fate_laws.proofs.Bindings.{WasTaken, once}
 use Rattle.fate_laws.proofs.Deciding.{log_now}
 use Rattle.fate_laws.proofs.Fates.{Fated, fated_next, fated_start, delivered}
-use Rattle.fate_laws.proofs.PartsEvents.{Once}
 use Rattle.fate_laws.proofs.Prefixes.{Next, walk, each_shard, one_home, DurableIn}
 use Rattle.ending_laws.specs.Voters.{WasVoted, PartsAreTheYesVoters}
 use Rattle.ending_laws.proofs.Ends.{parts_front}

@@ -1,5 +1,5 @@
 -- What a home knows of the votes on its requests, and which parts its COMMITs name.
-use Rattle.std.proofs.Common.{◌≡◌, ◌⊎◌, inl, inr, ⊎_elim, refl, sym, ap, subst, ◌∙◌, ℕ, true, false, cond, not, ◌&&◌, ◌||◌, ◌==◌, Bool, List, [], ◌∷◌, ◌++◌, map, Option, Some, None, append-nil, eqb-true}
+use Rattle.std.proofs.Common.{◌≡◌, ⊎_elim, refl, sym, ap, subst, ◌∙◌, ℕ, true, false, cond, ◌&&◌, ◌==◌, Bool, List, [], ◌∷◌, ◌++◌, Option, Some, None, append-nil, eqb-true}
 use Rattle.std.specs.Prelude.{⊤}
 use Rattle.std.specs.List.{AllByRecursion, filter, list_all}
 use Rattle.std.specs.BTreeMap.{insert_entry}
@@ -17,34 +17,34 @@ use Rattle.clv_base.specs.declared.parts.PartFacts.{PartFacts}
 use Rattle.clv_base.specs.declared.state.Ruling.{Ruling}
 use Rattle.clv_base.specs.declared.state.Ruling.TheVariants.{Commit as CommitVerdict, Acknowledge, Abort as AbortVerdict, End as EndVerdict}
 use Rattle.clv_base.specs.declared.state.Request.{Request}
-use Rattle.clv_base.specs.declared.state.RequestState.{RequestState}
-use Rattle.clv_base.specs.declared.state.RequestState.TheVariants.{Undecided, Committed, Finished, Refused}
+use Rattle.clv_base.specs.declared.state.RequestState.TheVariants.{Undecided, Committed}
 use Rattle.clv_base.specs.declared.events.Event.{Event}
 use Rattle.clv_base.specs.declared.events.Event.TheVariants.{Request as RequestEvent, Deliver}
 use Rattle.clv_base.specs.declared.events.Outcome.{Outcome}
 use Rattle.clv_base.specs.declared.events.Outcome.TheVariants.{Asked, Taken}
 use Rattle.clv_base.specs.declared.events.Entry.{Entry}
-use Rattle.clv_base.specs.Orders.{Table, tx_same, tx_get, tx_put, tx_set, nat_in}
+use Rattle.clv_base.specs.Orders.{tx_same, tx_get, tx_put, tx_set, nat_in}
 use Rattle.clv_base.specs.Logs.{committed_in, commit_parts, wrote_in}
 use Rattle.clv_base.specs.State.{Shard, Local, with_local}
 use Rattle.clv_base.specs.Undo.{roll_back}
 use Rattle.clv_base.specs.OneShard.{closing, close_part, drop_part}
 use Rattle.clv_base.specs.Facts.{facts_of, undecided_of, has_durable_predecessors, is_waiting}
-use Rattle.clv_base.specs.Participant.{is_yes_vote, taken_by}
-use Rattle.clv_base.specs.Coordinator.{new_request, others, vote_from, with_vote_of, with_done_of, is_good, is_agreed, yes_shards, agreed_ruling, refusal, refused_ruling, undecided_ruling, ruling_in, ruling_by, ruled_request, restored_request, restored_requests}
-use Rattle.clv_base.specs.Due.{finish_reader, with_vote, with_ruling, do_ruling, with_due_done}
+use Rattle.clv_base.specs.Participant.{is_yes_vote}
+use Rattle.clv_base.specs.Coordinator.{new_request, others, vote_from, with_vote_of, with_done_of, is_good, is_agreed, yes_shards, agreed_ruling, undecided_ruling, ruling_in, ruling_by, ruled_request, restored_requests}
+use Rattle.clv_base.specs.Due.{finish_reader, with_vote, with_ruling, do_ruling}
 use Rattle.clv_base.specs.Events.{finish, is_alone, coordinate, decided}
 use Rattle.clv_base.specs.Restarts.{log_left, revived, opened, unended_in, log_after_restart, Restarts}
 use Rattle.clv_base.specs.Journals.{event_state, after_entry, up_to_restart}
 use Rattle.clv_base.proofs.SameNames.{nat_cmp_true, tx_true}
 use Rattle.law_base.proofs.Changed.{none_some, some_same, get_set}
+use Rattle.law_base.proofs.Lists.{all_mono}
 use Rattle.law_base.proofs.Tables.{get_put}
 use Rattle.order_laws.proofs.Records.{committed_there}
 use Rattle.protocol_laws.specs.Growth.{IsPrefixOf}
 use Rattle.protocol_laws.proofs.Growing.{same, more, more_twice}
 use Rattle.shard_laws.proofs.Relisting.{request_from}
 use Rattle.shard_laws.proofs.Rulings.{parts_new}
-use Rattle.history_laws.proofs.Stepping.{Due, commits, votes, rules, KeptByDue, settled, Step, op_dies, op_answers, request_refused, request_doomed, request_again, request_new, request_closes, looks_well, looks_ill, drops, sends, prepare_closes, prepare_again, vote_counts, decision_comes, decision_again, done_counts, asked, reminds, flushes, Happens, finishes, stops}
+use Rattle.history_laws.proofs.Stepping.{commits, votes, rules, KeptByDue, settled, Step, op_dies, op_answers, request_refused, request_doomed, request_again, request_new, request_closes, looks_well, looks_ill, drops, sends, prepare_closes, prepare_again, vote_counts, decision_comes, decision_again, done_counts, asked, reminds, flushes, Happens, finishes, stops}
 use Rattle.history_laws.proofs.Entering.{Makes, by_event, by_flush, by_failure, by_restart}
 use Rattle.history_laws.proofs.Uncommitting.{NoMoreCommits, with_more, rolled, dropped, op_dying, op_answering, restarts_add, opening_adds}
 use Rattle.fate_laws.proofs.Inside.{inside_step}
@@ -52,7 +52,7 @@ use Rattle.fate_laws.proofs.HomesEvents.{awaits}
 use Rattle.fate_laws.proofs.Parts.{commit_agreed}
 use Rattle.fate_laws.proofs.PartsEvents.{Once}
 use Rattle.fate_laws.proofs.Closings.{new_commit}
-use Rattle.ending_laws.proofs.Ends.{GoesOn, parts_more, parts_back, parts_front, on_restarted}
+use Rattle.ending_laws.proofs.Ends.{parts_back, parts_front, on_restarted}
 
 -- ---- lists of shards
 
@@ -331,10 +331,6 @@ module _ (run : ℕ) (W : TxId → ℕ → List (ℕ × ℕ) → Type 0) (V : �
   polls_made log s _ (by_restart epoch kept u r) w p = polls_revived s kept epoch (up_to_restart s.run epoch log) r p
 
 -- ---- more is known
-
-all_mono : {X : Type 0} (P Q : X → Type 0) → ((x : X) → P x → Q x) → (xs : List X) → AllByRecursion P xs → AllByRecursion Q xs
-all_mono P Q k [] a = tt
-all_mono P Q k (x ∷ xs) a = (k x a.0, all_mono P Q k xs a.1)
 
 pub polls_mono : (W : TxId → ℕ → List (ℕ × ℕ) → Type 0) (V U : ℕ → TxId → ℕ → Vote → Type 0) (s : Shard) → ((home : ℕ) (tx : TxId) (m : ℕ) (v : Vote) → V home tx m v → U home tx m v) → Polls W V s → Polls W U s
 polls_mono W V U s k p =

@@ -1,10 +1,10 @@
 -- What a restart brings back of commits that await their parts.
-use Rattle.std.proofs.Common.{◌≡◌, refl, sym, subst, ◌∙◌, ℕ, true, false, cond, Bool, List, [], ◌∷◌, Option, Some, None}
+use Rattle.std.proofs.Common.{◌≡◌, refl, sym, subst, ◌∙◌, ℕ, true, false, cond, Bool, List, [], ◌∷◌, Some}
 use Rattle.std.proofs.lemmas.Bool.{both_ways}
 use Rattle.clv_base.specs.declared.names.TxId.{TxId}
 use Rattle.clv_base.specs.declared.logs.LogRecord.{LogRecord}
 use Rattle.clv_base.specs.declared.logs.LogRecord.TheVariants.{Update, Clr, Prepare, Commit, Abort, End, Restart}
-use Rattle.clv_base.specs.Orders.{Table, tx_same, tx_get, tx_put, nat_in}
+use Rattle.clv_base.specs.Orders.{tx_same, tx_get, tx_put, nat_in}
 use Rattle.clv_base.specs.Logs.{ended_in, commit_parts}
 use Rattle.clv_base.specs.Restarts.{unended_with, unended_in}
 use Rattle.clv_base.proofs.SameNames.{tx_true}
