@@ -88,10 +88,10 @@ another l t u h k e = both_ways _ (quiet_absent l t k) (subst (λ z. is_present 
 differs : (t u : TxId) → (t ≡ u → ⊥) → tx_same t u ≡ false
 differs t u k = false_from_ne_true _ (λ e. k (tx_true t u e))
 
-active_here : (l : Local) (u : TxId) → stage_of l u ≡ Some Active → is_present (stage_of l u) ≡ true
+pub active_here : (l : Local) (u : TxId) → stage_of l u ≡ Some Active → is_present (stage_of l u) ≡ true
 active_here l u e = subst (λ o. is_present o ≡ true) (sym e) refl
 
-closed_here : (l : Local) (u : TxId) → stage_of l u ≡ Some Closed → is_present (stage_of l u) ≡ true
+pub closed_here : (l : Local) (u : TxId) → stage_of l u ≡ Some Closed → is_present (stage_of l u) ≡ true
 closed_here l u e = subst (λ o. is_present o ≡ true) (sym e) refl
 
 -- ---- records of others
