@@ -1,3 +1,4 @@
 pub mod Quiet
 pub mod Agreeing
 pub mod Starting
+pub mod Fronts
