@@ -4,3 +4,5 @@
 //! `unfallen_laws` say of who falls.
 #![tactic(auto)]
 
+
+pub mod laws;
