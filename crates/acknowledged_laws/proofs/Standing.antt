@@ -35,8 +35,9 @@ use Rattle.fate_laws.proofs.Bindings.{bindings_front}
 use Rattle.fate_laws.proofs.Prefixes.{Next, next_at, walk, Counts, counts_next, DurableIn, durable_later, one_home}
 use Rattle.fall_laws.specs.Falls.{OpensClear}
 use Rattle.fall_laws.proofs.Finding.{members_never_fell_at_home}
-use Rattle.acknowledged_laws.specs.Acknowledged.{VotedRead, OnlyRead, AcknowledgedStand, AcknowledgementsHaveRequests, AcknowledgedNeverFellAtHome}
+use Rattle.acknowledged_laws.specs.Acknowledged.{VotedRead, OnlyRead, AcknowledgedStand, AcknowledgedAtHome, AcknowledgementsHaveRequests, AcknowledgedNeverFellAtHome}
 use Rattle.acknowledged_laws.proofs.Quiet.{quiet_absent}
+use Rattle.acknowledged_laws.proofs.Looking.{is_look, told_at_home}
 use Rattle.acknowledged_laws.proofs.Fronts.{Finishes, Knows, knows_front}
 
 -- ---- what an acknowledgement finds
@@ -59,11 +60,6 @@ finds_made log s _ (by_flush n u f) = tt
 finds_made log s _ (by_failure n u f) = tt
 finds_made log s _ (by_restart epoch kept u r) = tt
 
-is_look : (t : TxId) (e : Event) (o : Outcome) → is_acknowledgement t e o ≡ true → (e ≡ Look t) × (o ≡ Acknowledged)
-is_look t (Look tx) Acknowledged h = (ap Look (sym (tx_true t tx h)), refl)
-is_look t (Look tx) _ h = absurd (both_ways false refl h)
-is_look t _ o h = absurd (both_ways false refl h)
-
 -- ---- the entry that tells it
 
 among_split : (y : Placed) (h : History) → Among y h → (pre : History) × (post : History) × (pre ++ y ∷ post ≡ h)
@@ -81,16 +77,17 @@ durable_on splits before after h pre post n t l q c d =
     (walk (Durably splits before after n t) splits before after h pre post l q (λ f e w p. record { counts = counts_next splits before after h f e w p.counts; durable = durable_later splits before after h f e w p.counts n t p.durable })
     (record { counts = c; durable = d })).durable
 
--- of this run, with a durable COMMIT on some shard, or it was finished on some
+-- of this run, with a home where its COMMIT is durable, or where it was finished
 record Where (splits : List ℕ) (before after : List (List LogRecord)) (h : History) (t : TxId) : Type 0 where
   run : t.run ≡ run_after before
   shard : ℕ
   inside : shard < shard_count splits
+  home : IsHome h t shard
   found : DurableIn before after h shard t ⊎ Finishes splits before after h shard t
 
 where_is : (splits : List ℕ) (before after : List (List LogRecord)) (h : History) (t : TxId) → may_open splits before ≡ true → Legal splits before h after → acknowledged_in h t ≡ true → Where splits before after h t
 where_is splits before after h t o l a =
-    record { run = (walker_of splits before after h y t l mine (ap tx_of look.0)).0; shard = y.0; inside = w.inside; found = found (subst (λ v. Finds s v Acknowledged) look.0 (subst (Finds s (y.1).event) look.1 told)) }
+    record { run = (walker_of splits before after h y t l mine (ap tx_of look.0)).0; shard = y.0; inside = w.inside; home = told_at_home splits before h after y t l mine any.2; found = found (subst (λ v. Finds s v Acknowledged) look.0 (subst (Finds s (y.1).event) look.1 told)) }
   where
     any : (x : Placed) × Among x h × (is_acknowledgement t (x.1).event (x.1).outcome ≡ true)
     any = any_among (λ e. is_acknowledgement t (e.1).event (e.1).outcome) h a
@@ -126,14 +123,6 @@ where_is splits before after h t o l a =
 -- ---- the laws
 
 module _ (splits : List ℕ) (before : List (List LogRecord)) (h : History) (after : List (List LogRecord)) (t : TxId) (o : may_open splits before ≡ true) (l : Legal splits before h after) (k : Where splits before after h t) where
-  -- where its COMMIT is durable on some shard, one is left at its home
-  at_home : (choice : ℕ → Bool) → DurableIn before after h k.shard t → (home : ℕ) × IsHome h t home × (is_left splits before h after choice home t ≡ true)
-  at_home choice d = commits_stand_at_home splits before h after choice k.shard t o l k.inside k.run (durable_left splits before h after choice k.shard t k.inside (fated splits before after h o l) d)
-
-  has_home : DurableIn before after h k.shard t ⊎ Finishes splits before after h k.shard t → (home : ℕ) × IsHome h t home
-  has_home (inl d) = let z = at_home (λ m. false) d in (z.0, z.1)
-  has_home (inr p) = let r = p.taken in (k.shard, (r.0, p.touched, among_is k.shard r.0 h r.1, (r.2).0, (r.2).1))
-
   only_read : OpensClear splits before → (p : Finishes splits before after h k.shard t) → OnlyRead before h after k.shard p.touched t
   only_read c p =
       record {
@@ -147,10 +136,9 @@ module _ (splits : List ℕ) (before : List (List LogRecord)) (h : History) (aft
   stands : (choice : ℕ → Bool) (home : ℕ) (e : Entry) (touched : List (ℕ × ℕ)) → OpensClear splits before → Among (home, e) h → e.event ≡ RequestEvent t touched → e.outcome ≡ Asked → DurableIn before after h k.shard t ⊎ Finishes splits before after h k.shard t
       → (is_left splits before h after choice home t ≡ true) ⊎ OnlyRead before h after home touched t
   stands choice home e touched c a ev out (inl d) =
-      let z = at_home choice d in
-      let b = z.1 in
-      let same = one_home splits before after h t z.0 home b.0 e b.1 touched l (is_among z.0 b.0 h b.2) (b.3, b.4) a (ev, out) in
-      inl (subst (λ m. is_left splits before h after choice m t ≡ true) same z.2)
+      let (b, us, i, x, y) = k.home in
+      let same = one_home splits before after h t k.shard home b e us touched l (is_among k.shard b h i) (x, y) a (ev, out) in
+      inl (subst (λ m. is_left splits before h after choice m t ≡ true) same (durable_left splits before h after choice k.shard t k.inside (fated splits before after h o l) d))
   stands choice home e touched c a ev out (inr p) =
       let r = p.taken in
       let same = one_request splits before after h (k.shard, r.0) (home, e) t p.touched touched l r.1 a r.2 (ev, out) in
@@ -164,8 +152,12 @@ pub acknowledged_stand : AcknowledgedStand
 acknowledged_stand splits before h after choice home e touched t o l c i k a ev out =
     let z = where_is splits before after h t o l k in stands splits before h after t o l z choice home e touched c (is_among home e h a) ev out z.found
 
+pub acknowledged_at_home : AcknowledgedAtHome
+acknowledged_at_home splits before h after n e t l i a = told_at_home splits before h after (n, e) t l (is_among n e h i) a
+
 pub acknowledgements_have_requests : AcknowledgementsHaveRequests
-acknowledgements_have_requests splits before h after t o l k = let z = where_is splits before after h t o l k in has_home splits before h after t o l z z.found
+acknowledgements_have_requests splits before h after t l k =
+    let x = any_among (λ e. is_acknowledgement t (e.1).event (e.1).outcome) h k in ((x.0).0, told_at_home splits before h after x.0 t l x.1 x.2)
 
 pub acknowledged_never_fell_at_home : AcknowledgedNeverFellAtHome
 acknowledged_never_fell_at_home splits before h after home t o l c i k m f = at (acknowledged_stand splits before h after (λ n. false) home m.0 m.1 t o l c i k m.2 m.3 m.4)

@@ -15,7 +15,7 @@ use Rattle.clv_base.specs.State.{is_present}
 use Rattle.clv_base.specs.Undo.{stage_of}
 use Rattle.clv_base.specs.Coordinator.{others}
 use Rattle.clv_base.specs.Journals.{History, final_of}
-use Rattle.clv_base.specs.History.{Legal, IsAmong, acknowledged_in}
+use Rattle.clv_base.specs.History.{Legal, IsAmong, is_acknowledgement, acknowledged_in}
 use Rattle.fate_laws.specs.Decisions.{IsHome, is_left}
 use Rattle.fall_laws.specs.Falls.{Fell, OpensClear}
 
@@ -42,13 +42,19 @@ AcknowledgedStand =
     → acknowledged_in h t ≡ true → IsAmong home e h → e.event ≡ RequestEvent t touched → e.outcome ≡ Asked
     → (is_left splits before h after choice home t ≡ true) ⊎ OnlyRead before h after home touched t
 
--- an acknowledged transaction made its request, which was taken at its home
+-- an entry that tells a transaction of its acknowledgement is of its home, where its request was taken
+abbrev pub AcknowledgedAtHome : Type 0
+AcknowledgedAtHome =
+    (splits : List ℕ) (before : List (List LogRecord)) (h : History) (after : List (List LogRecord)) (n : ℕ) (e : Entry) (t : TxId)
+    → Legal splits before h after → IsAmong n e h → is_acknowledgement t e.event e.outcome ≡ true → IsHome h t n
+
+-- so each acknowledged transaction made its request
 abbrev pub AcknowledgementsHaveRequests : Type 0
 AcknowledgementsHaveRequests =
     (splits : List ℕ) (before : List (List LogRecord)) (h : History) (after : List (List LogRecord)) (t : TxId)
-    → may_open splits before ≡ true → Legal splits before h after → acknowledged_in h t ≡ true → (home : ℕ) × IsHome h t home
+    → Legal splits before h after → acknowledged_in h t ≡ true → (home : ℕ) × IsHome h t home
 
--- and its part there never fell
+-- and its part at its home never fell there
 abbrev pub AcknowledgedNeverFellAtHome : Type 0
 AcknowledgedNeverFellAtHome =
     (splits : List ℕ) (before : List (List LogRecord)) (h : History) (after : List (List LogRecord)) (home : ℕ) (t : TxId)
