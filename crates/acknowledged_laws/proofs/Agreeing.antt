@@ -1,5 +1,5 @@
 -- Within an entry: a request is finished only where its part was here and wrote nothing, and each other shard that it names voted read.
-use Rattle.std.proofs.Common.{◌≡◌, ◌⊎◌, inl, inr, ⊎_elim, refl, sym, ap, subst, ◌∙◌, ℕ, true, false, cond, Bool, ◌&&◌, ◌==◌, List, [], ◌∷◌, Option, Some, None, eqb-true}
+use Rattle.std.proofs.Common.{◌≡◌, ◌⊎◌, inl, inr, refl, sym, ap, subst, ◌∙◌, ℕ, true, false, cond, Bool, ◌&&◌, ◌==◌, List, [], ◌∷◌, Option, Some, None, eqb-true}
 use Rattle.std.specs.Prelude.{⊤}
 use Rattle.std.specs.List.{AllByRecursion, filter, list_all}
 use Rattle.std.specs.BTreeMap.{insert_entry}
@@ -19,7 +19,7 @@ use Rattle.clv_base.specs.declared.state.RequestState.TheVariants.{Undecided, Co
 use Rattle.clv_base.specs.declared.state.Ruling.{Ruling}
 use Rattle.clv_base.specs.declared.state.Ruling.TheVariants.{Commit as CommitVerdict, Acknowledge, Abort as AbortVerdict, End as EndVerdict}
 use Rattle.clv_base.specs.declared.state.Stage.TheVariants.{Closed}
-use Rattle.clv_base.specs.Orders.{tx_same, tx_in, tx_get, nat_in}
+use Rattle.clv_base.specs.Orders.{tx_same, tx_get, nat_in}
 use Rattle.clv_base.specs.Logs.{wrote_in, prepared_in, committed_in}
 use Rattle.clv_base.specs.State.{Shard, Local}
 use Rattle.clv_base.specs.Undo.{stage_of, release_parts}
@@ -36,7 +36,7 @@ use Rattle.shard_laws.proofs.Changes.{wrote_keeps}
 use Rattle.shard_laws.proofs.Leaving.{gone_by, stage_own}
 use Rattle.history_laws.proofs.Stepping.{Due, commits, votes, rules, KeptByDue, settled}
 use Rattle.fate_laws.proofs.Calm.{due_closed, due_prepares}
-use Rattle.fate_laws.proofs.Inside.{Inside, inside_self, inside_due}
+use Rattle.fate_laws.proofs.Inside.{inside_self, inside_due}
 use Rattle.fate_laws.proofs.Prepares.{prepare_there, there_prepare}
 use Rattle.acknowledged_laws.proofs.Quiet.{Quiet, agreed_closed, quiet_due, quiet_purged}
 

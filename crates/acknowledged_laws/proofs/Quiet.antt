@@ -1,5 +1,5 @@
 -- Who wrote nothing on a shard and is gone there, by no abort, stays so.
-use Rattle.std.proofs.Common.{◌≡◌, ◌⊎◌, inl, inr, ⊎_elim, refl, sym, ap, subst, ◌∙◌, ℕ, true, false, cond, not, map, Bool, ◌||◌, ◌&&◌, ◌==◌, List, [], ◌∷◌, ◌++◌, Option, Some, None, take-append-drop}
+use Rattle.std.proofs.Common.{◌≡◌, ◌⊎◌, inl, inr, ⊎_elim, refl, sym, ap, subst, ◌∙◌, ℕ, true, false, not, map, Bool, ◌||◌, ◌&&◌, ◌==◌, List, [], ◌∷◌, ◌++◌, Option, Some, None, take-append-drop}
 use Rattle.std.specs.Prelude.{take, drop}
 use Rattle.std.specs.List.{filter, list_all}
 use Rattle.std.proofs.lemmas.Bool.{both_ways, and_parts, or_cases, false_from_ne_true}
@@ -26,10 +26,10 @@ use Rattle.clv_base.specs.State.{Shard, Local, is_present}
 use Rattle.clv_base.specs.Undo.{stage_of, gone_in, doomed_by, doomed_here, roll_back, aborts_of, clrs_of, release_parts}
 use Rattle.clv_base.specs.Facts.{facts_of, is_waiting, undecided_of, has_durable_commit}
 use Rattle.clv_base.specs.Coordinator.{others, is_agreed, is_good, vote_from}
-use Rattle.clv_base.specs.OneShard.{OpDies, OpAnswers, purge, written, locked, performed, rolled_back_if, closing, closed_in, close_part, mark_dropped}
+use Rattle.clv_base.specs.OneShard.{OpDies, OpAnswers, purge, written, locked, performed, rolled_back_if, closing, close_part, mark_dropped}
 use Rattle.clv_base.specs.Due.{with_due_done}
 use Rattle.clv_base.specs.Events.{is_alone, finish, with_durable}
-use Rattle.clv_base.specs.Restarts.{restart_records, undo_records, losers, next_epoch, log_left, log_after_restart, revived, FailedRestarts, untouched, failed_first, Restarts}
+use Rattle.clv_base.specs.Restarts.{restart_records, undo_records, losers, next_epoch, log_left, revived, FailedRestarts, untouched, failed_first, Restarts}
 use Rattle.clv_base.specs.Journals.{up_to_restart}
 use Rattle.clv_base.proofs.SameNames.{tx_true}
 use Rattle.law_base.proofs.Commits.{committed_append}

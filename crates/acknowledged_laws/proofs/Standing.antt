@@ -1,44 +1,39 @@
 -- An acknowledged transaction has its COMMIT at its home, or only read.
-use Rattle.std.proofs.Common.{◌≡◌, ◌⊎◌, inl, inr, refl, sym, ap, subst, ◌∙◌, ℕ, ◌<◌, true, false, Bool, List, [], ◌∷◌, ◌++◌, append-nil}
+use Rattle.std.proofs.Common.{◌≡◌, ◌⊎◌, inl, inr, sym, ap, subst, ◌∙◌, ℕ, ◌<◌, true, false, Bool, List, [], ◌∷◌, ◌++◌, append-nil}
 use Rattle.std.specs.Prelude.{⊤}
-use Rattle.std.proofs.lemmas.Bool.{both_ways}
 use Rattle.clv_base.specs.declared.names.TxId.{TxId}
-use Rattle.clv_base.specs.declared.causes.Vote.TheVariants.{Read}
 use Rattle.clv_base.specs.declared.logs.LogRecord.{LogRecord}
 use Rattle.clv_base.specs.declared.events.Event.{Event}
 use Rattle.clv_base.specs.declared.events.Event.TheVariants.{Request as RequestEvent, Look}
 use Rattle.clv_base.specs.declared.events.Outcome.{Outcome}
 use Rattle.clv_base.specs.declared.events.Outcome.TheVariants.{Asked, Acknowledged}
 use Rattle.clv_base.specs.declared.events.Entry.{Entry}
-use Rattle.clv_base.specs.Orders.{tx_same, nat_in}
 use Rattle.clv_base.specs.Shards.{shard_count}
 use Rattle.clv_base.specs.FileRules.{may_open}
 use Rattle.clv_base.specs.LogRules.{log_of}
 use Rattle.clv_base.specs.State.{Shard}
-use Rattle.clv_base.specs.Coordinator.{others}
 use Rattle.clv_base.specs.Restarts.{run_after}
 use Rattle.clv_base.specs.Journals.{History, final_of}
-use Rattle.clv_base.specs.History.{Legal, IsAmong, is_acknowledgement, acknowledged_in}
-use Rattle.clv_base.proofs.SameNames.{tx_true}
+use Rattle.clv_base.specs.History.{Legal, is_acknowledgement, acknowledged_in}
 use Rattle.protocol_laws.specs.SessionLaws.{tx_of}
 use Rattle.history_laws.proofs.Stepping.{FindsWell, Step, looks_well, Happens, finishes, stops}
 use Rattle.history_laws.proofs.Entering.{Makes, by_event, by_flush, by_failure, by_restart, makes}
 use Rattle.history_laws.proofs.Merging.{Placed, Among, is_among, among_is}
 use Rattle.history_laws.proofs.Serials.{any_among}
 use Rattle.history_laws.proofs.Staying.{walker_of, one_request}
-use Rattle.history_laws.proofs.Worlds.{state_at}
+use Rattle.history_laws.proofs.Worlds.{state_at, in_a_shard}
 use Rattle.fate_laws.specs.Decisions.{IsHome, is_left}
-use Rattle.fate_laws.proofs.Deciding.{durable_left, commits_stand_at_home}
+use Rattle.fate_laws.proofs.Deciding.{durable_left}
 use Rattle.fate_laws.proofs.Entering.{durable_front}
-use Rattle.fate_laws.proofs.Fates.{Fated, fated}
+use Rattle.fate_laws.proofs.Fates.{fated}
 use Rattle.fate_laws.proofs.Bindings.{bindings_front}
 use Rattle.fate_laws.proofs.Prefixes.{Next, next_at, walk, Counts, counts_next, DurableIn, durable_later, one_home}
 use Rattle.fall_laws.specs.Falls.{OpensClear}
 use Rattle.fall_laws.proofs.Finding.{members_never_fell_at_home}
-use Rattle.acknowledged_laws.specs.Acknowledged.{VotedRead, OnlyRead, AcknowledgedStand, AcknowledgedAtHome, AcknowledgementsHaveRequests, AcknowledgedNeverFellAtHome}
+use Rattle.acknowledged_laws.specs.Acknowledged.{OnlyRead, AcknowledgedStand, AcknowledgedAtHome, AcknowledgementsHaveRequests, AcknowledgedNeverFellAtHome}
 use Rattle.acknowledged_laws.proofs.Quiet.{quiet_absent}
 use Rattle.acknowledged_laws.proofs.Looking.{is_look, told_at_home}
-use Rattle.acknowledged_laws.proofs.Fronts.{Finishes, Knows, knows_front}
+use Rattle.acknowledged_laws.proofs.Fronts.{Finishes, knows_front}
 
 -- ---- what an acknowledgement finds
 
@@ -160,8 +155,11 @@ acknowledgements_have_requests splits before h after t l k =
     let x = any_among (λ e. is_acknowledgement t (e.1).event (e.1).outcome) h k in ((x.0).0, told_at_home splits before h after x.0 t l x.1 x.2)
 
 pub acknowledged_never_fell_at_home : AcknowledgedNeverFellAtHome
-acknowledged_never_fell_at_home splits before h after home t o l c i k m f = at (acknowledged_stand splits before h after (λ n. false) home m.0 m.1 t o l c i k m.2 m.3 m.4)
+acknowledged_never_fell_at_home splits before h after home t o l c k m f = at (acknowledged_stand splits before h after (λ n. false) home m.0 m.1 t o l c i k m.2 m.3 m.4)
   where
+    i : home < shard_count splits
+    i = in_a_shard splits before after h (home, m.0) l (is_among home m.0 h m.2)
+
     at : (is_left splits before h after (λ n. false) home t ≡ true) ⊎ OnlyRead before h after home m.1 t → ⊥
     at (inl left) = members_never_fell_at_home splits before h after (λ n. false) home home t o l c i i (where_is splits before after h t o l k).run left m f
     at (inr r) = r.unfallen f

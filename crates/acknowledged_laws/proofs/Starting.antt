@@ -1,5 +1,5 @@
 -- Each entry: where a request is finished after it and was not before, its part was here before it, and had written nothing.
-use Rattle.std.proofs.Common.{◌≡◌, ◌⊎◌, inl, inr, ⊎_elim, refl, sym, ap, subst, ◌∙◌, ℕ, true, false, Bool, List, Option, Some, None}
+use Rattle.std.proofs.Common.{◌≡◌, ◌⊎◌, inl, inr, ⊎_elim, refl, sym, subst, ◌∙◌, ℕ, true, false, Bool, List, Some}
 use Rattle.std.specs.Prelude.{⊤}
 use Rattle.clv_base.specs.declared.names.TxId.{TxId}
 use Rattle.clv_base.specs.declared.causes.Vote.{Vote}
@@ -8,8 +8,7 @@ use Rattle.clv_base.specs.declared.messages.Message.TheVariants.{Vote as VoteMes
 use Rattle.clv_base.specs.declared.state.Request.{Request}
 use Rattle.clv_base.specs.declared.state.RequestState.{RequestState}
 use Rattle.clv_base.specs.declared.state.RequestState.TheVariants.{Undecided, Committed, Finished, Refused}
-use Rattle.clv_base.specs.declared.state.Stage.{Stage}
-use Rattle.clv_base.specs.declared.state.Stage.TheVariants.{Active, Closed}
+use Rattle.clv_base.specs.declared.state.Stage.TheVariants.{Closed}
 use Rattle.clv_base.specs.declared.events.Event.{Event}
 use Rattle.clv_base.specs.declared.events.Event.TheVariants.{Request as RequestEvent, Deliver, FlushIn, Restart}
 use Rattle.clv_base.specs.declared.events.Outcome.{Outcome}

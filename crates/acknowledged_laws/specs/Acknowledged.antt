@@ -58,5 +58,5 @@ AcknowledgementsHaveRequests =
 abbrev pub AcknowledgedNeverFellAtHome : Type 0
 AcknowledgedNeverFellAtHome =
     (splits : List ℕ) (before : List (List LogRecord)) (h : History) (after : List (List LogRecord)) (home : ℕ) (t : TxId)
-    → may_open splits before ≡ true → Legal splits before h after → OpensClear splits before → home < shard_count splits
+    → may_open splits before ≡ true → Legal splits before h after → OpensClear splits before
     → acknowledged_in h t ≡ true → IsHome h t home → Fell before h after home t → ⊥

@@ -4,5 +4,4 @@
 //! `unfallen_laws` say of who falls.
 #![tactic(auto)]
 
-
 pub mod laws;
