@@ -1,5 +1,6 @@
 pub mod Deciding
 pub mod Tied
+pub mod Doubted
 pub mod Births
 pub mod Entries
 pub mod Waiting
