@@ -1,4 +1,5 @@
--- Of transactions of earlier runs a shard has parts of those alone that were in doubt in the log that it opened.
+-- Who is in doubt in a log that goes on from the one that a shard opened was so in the one found; and who has a part or a PREPARE on a shard,
+-- kept by each of its events.
 use Rattle.std.proofs.Common.{◌≡◌, ◌⊎◌, inl, inr, ⊎_elim, refl, sym, ap, subst, ◌∙◌, ℕ, Bool, true, false, cond, not, ◌&&◌, ◌||◌, ◌==◌, List, [], ◌∷◌, ◌++◌, map, Option, Some, None, append_assoc}
 use Rattle.std.specs.Prelude.{⊤, take}
 use Rattle.std.specs.List.{AllByRecursion, filter, list_all}
@@ -32,7 +33,7 @@ use Rattle.clv_base.specs.OneShard.{OpDies, OpAnswers, active_part, new_part, wr
 use Rattle.clv_base.specs.Due.{finish_part, finish_reader, with_vote, do_ruling, with_ruling}
 use Rattle.clv_base.specs.Events.{finish, is_alone, decided, with_durable, put_down}
 use Rattle.clv_base.specs.Coordinator.{others}
-use Rattle.clv_base.specs.Restarts.{losers, undo_records, restart_records, log_after_restart, next_epoch, log_left, restored_part, restored_parts, opened, revived, FailedRestarts, untouched, failed_first, Restarts}
+use Rattle.clv_base.specs.Restarts.{losers, undo_records, restart_records, log_after_restart, next_epoch, log_left, restored_parts, opened, revived, FailedRestarts, untouched, failed_first, Restarts}
 use Rattle.clv_base.proofs.SameNames.{tx_true, tx_self, tx_flip, in_insert}
 use Rattle.law_base.proofs.Changed.{none_some}
 use Rattle.law_base.proofs.Rows.{rows_get, rows_put}
@@ -221,14 +222,14 @@ has_performed P G s tx birth op p k =
 
 -- ---- closing a part
 
+own_record : (tx t : TxId) → (tx_same t tx || false) ≡ true → t ≡ tx
+own_record tx t e = ⊎_elim (λ s. tx_true t tx s) (λ f. absurd (both_ways false refl f)) (or_cases (tx_same t tx) false e)
+
 closing_prepares : (b one : Bool) (tx : TxId) (home : ℕ) (us : List TxId) (t : TxId) → prepared_in (closing b one tx home us) t ≡ true → t ≡ tx
 closing_prepares false one tx home us t e = absurd (both_ways false refl e)
 closing_prepares true true tx home [] t e = absurd (both_ways false refl e)
-closing_prepares true true tx home (u ∷ us) t e = own_prepare tx t e
-  where
-    own_prepare : (tx t : TxId) → (tx_same t tx || false) ≡ true → t ≡ tx
-    own_prepare tx t e = ⊎_elim (λ s. tx_true t tx s) (λ f. absurd (both_ways false refl f)) (or_cases (tx_same t tx) false e)
-closing_prepares true false tx home us t e = ⊎_elim (λ s. tx_true t tx s) (λ f. absurd (both_ways false refl f)) (or_cases (tx_same t tx) false e)
+closing_prepares true true tx home (u ∷ us) t e = own_record tx t e
+closing_prepares true false tx home us t e = own_record tx t e
 
 -- who has a part of some stage is of these
 pub has_stage : (P G : TxId → Type 0) (s : Shard) (t : TxId) (st : Stage) → Has P G s → stage_of s.local t ≡ Some st → P t
@@ -263,10 +264,10 @@ has_drop P G s tx k = has_marked P G (with_local (without_part tx) s) tx (has_ro
 
 -- ---- each step: an operation that is answered is of these
 
-abbrev pub MayDoThis : (TxId → Type 0) → Event → Outcome → Type 0
-MayDoThis P (OpEvent tx birth nth seen op) (Answered answer epoch) = P tx
-MayDoThis P (OpEvent tx birth nth seen op) _ = ⊤
-MayDoThis P _ o = ⊤
+abbrev pub AnswersOf : (TxId → Type 0) → Event → Outcome → Type 0
+AnswersOf P (OpEvent tx birth nth seen op) (Answered answer epoch) = P tx
+AnswersOf P (OpEvent tx birth nth seen op) _ = ⊤
+AnswersOf P _ o = ⊤
 
 has_answers : (P G : TxId → Type 0) (s : Shard) (tx : TxId) (birth : Birth) (seen : Option ℕ) (op : Op) (a : Answer) (l : Local) → OpIs s.local tx birth seen op (OpAnswers a l) → P tx → Has P G s → Has P G (with_work l s)
 has_answers P G s tx birth seen op _ _ (performs f e) p k = has_performed P G s tx birth op p k
@@ -279,7 +280,7 @@ has_decided : (P G : TxId → Type 0) (s : Shard) (tx : TxId) (commit : Bool) �
 has_decided P G s tx true k = has_push P G s (Commit tx []) (λ t. refl) k
 has_decided P G s tx false k = has_rolled P G s tx k
 
-has_step : (P G : TxId → Type 0) → ((t : TxId) → P t → G t) → (s t : Shard) {e : Event} {o : Outcome} → Step s e o t → MayDoThis P e o → Has P G s → Has P G t
+has_step : (P G : TxId → Type 0) → ((t : TxId) → P t → G t) → (s t : Shard) {e : Event} {o : Outcome} → Step s e o t → AnswersOf P e o → Has P G s → Has P G t
 has_step P G pg s _ (op_dies tx birth nth seen op cause l g) w k = has_dies P G s tx birth seen op cause l (reply_is s.shard s.local tx birth seen op (OpDies cause l) g) k
 has_step P G pg s _ (op_answers tx birth nth seen op answer l g) w k = has_answers P G s tx birth seen op answer l (reply_is s.shard s.local tx birth seen op (OpAnswers answer l) g) w k
 has_step P G pg s _ (request_refused tx ts cause g) w k = k
@@ -301,7 +302,7 @@ has_step P G pg s _ (asked tx from stamp) w k = has_as P G s _ refl k
 has_step P G pg s _ (reminds m ms g c) w k = has_as P G s _ refl k
 has_step P G pg s _ (flushes n g c) w k = has_as P G s _ refl k
 
-pub has_happens : (P G : TxId → Type 0) → ((t : TxId) → P t → G t) → (s t : Shard) {e : Event} {o : Outcome} → Happens s e o t → MayDoThis P e o → Has P G s → Has P G t
+pub has_happens : (P G : TxId → Type 0) → ((t : TxId) → P t → G t) → (s t : Shard) {e : Event} {o : Outcome} → Happens s e o t → AnswersOf P e o → Has P G s → Has P G t
 has_happens P G pg s _ (finishes {t = t} u g) w k = has_finish P G t (has_step P G pg s t g w k)
 has_happens P G pg s _ (stops u) w k = has_as P G s _ refl k
 
