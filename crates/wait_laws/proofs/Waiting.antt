@@ -20,7 +20,7 @@ use Rattle.clv_base.specs.declared.events.Event.{Event}
 use Rattle.clv_base.specs.declared.events.Event.TheVariants.{Op as OpEvent, Request as RequestEvent}
 use Rattle.clv_base.specs.declared.events.Outcome.TheVariants.{Wait, Down}
 use Rattle.clv_base.specs.Orders.{Table, tx_same, tx_in, tx_get, tx_union, birth_cmp, is_older}
-use Rattle.clv_base.specs.Logs.{committed_in}
+use Rattle.clv_base.specs.Logs.{committed_in, is_prepare_of}
 use Rattle.clv_base.specs.Shards.{shard_count}
 use Rattle.clv_base.specs.LogRules.{log_of}
 use Rattle.clv_base.specs.FileRules.{may_open}
@@ -32,7 +32,7 @@ use Rattle.clv_base.specs.Facts.{predecessors_of}
 use Rattle.clv_base.specs.OneShard.{OpReply, OpWaits, OpCrowded, OpDies, OpAnswers, op_granted, op_decided, op_by_stage, op_seen, op_reply, seen_fits, undecided_after}
 use Rattle.clv_base.specs.Events.{QuietBeforeWorn, QuietAfterWorn, op_event, happen_up, happen}
 use Rattle.clv_base.specs.Sessions.{is_session, no_session}
-use Rattle.clv_base.specs.Restarts.{run_after, opened}
+use Rattle.clv_base.specs.Restarts.{greatest_run, run_after, opened}
 use Rattle.clv_base.specs.Journals.{History, comes_before, own, journal_of, start_of, after_entries, final_of, has_equal_active_birth}
 use Rattle.clv_base.specs.History.{Legal, request_of, has_request, offered, MayOffer, is_active_in_way, Waits, for_lock, for_room, for_commit}
 use Rattle.clv_base.proofs.SameNames.{tx_true, tx_self, in_insert}
@@ -49,9 +49,15 @@ use Rattle.origin_laws.proofs.Sessions.{Requested}
 use Rattle.origin_laws.proofs.Origins.{SomeRequest, PartFrom, StageFrom, part_of}
 use Rattle.origin_laws.proofs.Events.{active_done}
 use Rattle.origin_laws.proofs.Entries.{Did, IsOld}
+use Rattle.order_laws.proofs.InOrder.{runs_in_order}
+use Rattle.order_laws.proofs.Records.{own_prepare}
+use Rattle.order_laws.proofs.Runs.{record_fits}
+use Rattle.history_laws.proofs.OldRuns.{below_next_run}
 use Rattle.law_base.proofs.Rows.{rows_get}
-use Rattle.wait_laws.specs.Waiting.{IsRequestOf, AskedBefore, MayDo, IsActiveAs, WaitsForYounger, WithoutRequest, WithRequest, WaitsGoDown, WaitsThrough, at_once, through, WaitsHaveNoCycle}
+use Rattle.wait_laws.specs.Waiting.{OpenedInDoubt, IsRequestOf, AskedBefore, MayDo, IsActiveAs, WaitsForYounger, WithoutRequest, WithRequest, WaitsGoDown, WaitsThrough, at_once, through, WaitsHaveNoCycle}
 use Rattle.wait_laws.proofs.Deciding.{Older, less_or_equal, is_less, older_of_test, older_is_told, either, older_then, not_older_itself, in_way}
+use Rattle.wait_laws.proofs.Doubted.{doubt_undecided, has_stage}
+use Rattle.wait_laws.proofs.Opening.{MayHave, MayPrepare, found_in_order}
 use Rattle.wait_laws.proofs.Tied.{LockOf}
 use Rattle.wait_laws.proofs.Births.{one_birth}
 use Rattle.wait_laws.proofs.Entries.{AskedFirst, Earlier, Depends, depends}
@@ -194,7 +200,7 @@ no_equal tx u birth (p ∷ ps) g n e d a = at (tx_same u p.0) refl e (no_equal t
     at false s f k = k (parts_of _ _ n).1 f d a
 
 -- an active one in the way is younger
-younger_in_way : (splits : List ℕ) (before after : List (List LogRecord)) (h : History) (n walker nth : ℕ) (t u y : TxId) (birth : Birth) (seen : Option ℕ) (op : Op) → Depends (run_after before) h n (final_of before h after n)
+younger_in_way : (splits : List ℕ) (before after : List (List LogRecord)) (h : History) (n walker nth : ℕ) (t u y : TxId) (birth : Birth) (seen : Option ℕ) (op : Op) → Depends splits before h n (final_of before h after n)
     → MayOffer splits h n (final_of before h after n) walker (OpEvent t birth nth seen op) → happen (final_of before h after n) (OpEvent t birth nth seen op) ≡ QuietAfterWorn (Wait y) → is_active_in_way t op (final_of before h after n) u ≡ true
     → WaitsForYounger splits h (final_of before h after) t u
 younger_in_way splits before after h n walker nth t u y birth seen op k m e i =
@@ -214,14 +220,11 @@ younger_in_way splits before after h n walker nth t u y birth seen op k m e i =
     told {c} a b (inr (inl o)) = absurd (both_ways _ b (older_is_told c birth o))
     told {c} a b (inr (inr q)) = absurd (both_ways _ a q)
 
--- whom a transaction depends on made its request, or is of an earlier run
-asked_or_old : (run : ℕ) (h : History) (t p : TxId) → Earlier run h t p → (has_request p h ≡ true) ⊎ (p.run < run)
-asked_or_old run h t p (inl (r, ts, i, q, k)) = inl (has_some p h r ts i q)
-asked_or_old run h t p (inr o) = inr o
-
-some_or_old : (run : ℕ) (h : History) (p : TxId) → SomeRequest (Requested h) (IsOld run) p → (has_request p h ≡ true) ⊎ (p.run < run)
-some_or_old run h p (inl (m, (r, ts, i, q, z))) = inl (has_some p h r ts i q)
-some_or_old run h p (inr o) = inr o
+-- whom a transaction of this run depends on made its request, or was in doubt at opening
+asked_or_doubted : (splits : List ℕ) (before : List (List LogRecord)) (h : History) (t p : TxId) → t.run ≡ run_after before → Earlier splits before h t p → (has_request p h ≡ true) ⊎ OpenedInDoubt splits before p
+asked_or_doubted splits before h t p r (inl (q, ts, i, w, k)) = inl (has_some p h q ts i w)
+asked_or_doubted splits before h t p r (inr (inl o)) = absurd (omega (arith, r, o))
+asked_or_doubted splits before h t p r (inr (inr d)) = inr d
 
 in_union : (u : TxId) (xs ys : List TxId) → tx_in u (tx_union xs ys) ≡ true → (tx_in u xs ≡ true) ⊎ (tx_in u ys ≡ true)
 in_union u [] ys e = inr e
@@ -236,15 +239,20 @@ in_filtered test u (x ∷ xs) e = at (test x) e (in_filtered test u xs)
     at true f k = ⊎_elim (λ a. or_left (tx_same x u) (tx_in u xs) a) (λ a. or_right (tx_same x u) (tx_in u xs) (k a)) (or_cases (tx_same x u) (tx_in u (filter test xs)) f)
     at false f k = or_right (tx_same x u) (tx_in u xs) (k f)
 
-crowding : (run : ℕ) (h : History) (n : ℕ) (s : Shard) (t u : TxId) (op : Op) → Depends run h n s → tx_in u (undecided_after s.local t op) ≡ true → (has_request u h ≡ true) ⊎ (u.run < run)
-crowding run h n s t u op k i =
+crowding : (splits : List ℕ) (before : List (List LogRecord)) (h : History) (n : ℕ) (s : Shard) (t u : TxId) (op : Op) → n < shard_count splits → t.run ≡ run_after before → Depends splits before h n s → tx_in u (undecided_after s.local t op) ≡ true → (has_request u h ≡ true) ⊎ OpenedInDoubt splits before u
+crowding splits before h n s t u op l r k i =
     let v = violated t (needs_of op s.local.records) s.local.locks in
     ⊎_elim (λ a. closed (violated_row (LockOf s.local.parts) t u (needs_of op s.local.records) s.local.locks (k.tied).rows a))
-    (λ a. asked_or_old run h t u ((k.tied).pairs t u (in_pair s.local.pairs t u a)))
+    (λ a. asked_or_doubted splits before h t u r ((k.tied).pairs t u (in_pair s.local.pairs t u a)))
     (in_union u v (predecessors_of s.local.pairs t) (in_filtered (λ p. not (committed_in s.local.log p)) u (tx_union v (predecessors_of s.local.pairs t)) i))
   where
-    closed : (b : Birth) × LockOf s.local.parts u b true → (has_request u h ≡ true) ⊎ (u.run < run)
-    closed (b, (g, e, f, st)) = some_or_old run h u (part_of n s.local.epoch _ _ (Requested h) (IsOld run) _ s u Closed (k.traced).origins (ap stage_by e ∙ ap (λ x. Some x) st)).3
+    known : stage_of s.local u ≡ Some Closed → SomeRequest (Requested h) (IsOld (run_after before)) u → (has_request u h ≡ true) ⊎ OpenedInDoubt splits before u
+    known c (inl (m, (q, ts, j, w, z))) = inl (has_some u h q ts j w)
+    known c (inr o) = inr (n, l, has_stage (MayHave before n) (MayPrepare before n) s u Closed (k.opened).has c o)
+
+    closed : (b : Birth) × LockOf s.local.parts u b true → (has_request u h ≡ true) ⊎ OpenedInDoubt splits before u
+    closed (b, (g, e, f, st)) =
+        let c = ap stage_by e ∙ ap (λ x. Some x) st in known c (part_of n s.local.epoch _ _ (Requested h) (IsOld (run_after before)) _ s u Closed (k.traced).origins c).3
 
 -- ---- entries in order, as it is tested
 
@@ -267,8 +275,8 @@ asked_before h t p q us i w (r, ts, j, v, k) =
 
 -- ---- each edge
 
-nothing_outside : (splits : List ℕ) (before after : List (List LogRecord)) (h : History) (n : ℕ) {X : Type 0} → may_open splits before ≡ true → Legal splits before h after → (Depends (run_after before) h n (final_of before h after n) → X) → (final_of before h after n ≡ opened n (run_after before) [] → X) → X
-nothing_outside splits before after h n {X} m l k f = ⊎_elim (λ i. k ((depends splits before after h m l).states n i)) (λ i. f (outside splits before after h n l i)) (cases_lt n (shard_count splits))
+nothing_outside : (splits : List ℕ) (before after : List (List LogRecord)) (h : History) (n : ℕ) {X : Type 0} → may_open splits before ≡ true → Legal splits before h after → (n < shard_count splits → Depends splits before h n (final_of before h after n) → X) → (final_of before h after n ≡ opened n (run_after before) [] → X) → X
+nothing_outside splits before after h n {X} m l k f = ⊎_elim (λ i. k i ((depends splits before after h m l).states n i)) (λ i. f (outside splits before after h n l i)) (cases_lt n (shard_count splits))
 
 of_offer : (splits : List ℕ) (before after : List (List LogRecord)) (h : History) (n walker : ℕ) (s : Shard) (e : Event) → s.run ≡ run_after before → MayOffer splits h n s walker e → Offer splits (run_after before) walker h (offered n walker s e)
 of_offer splits before after h n walker s e r m = record { session = subst (λ z. is_session splits z walker (own walker h ++ offered n walker s e ∷ []) ≡ true) r m.1 }
@@ -276,34 +284,50 @@ of_offer splits before after h n walker s e r m = record { session = subst (λ z
 pub waits_go_down : WaitsGoDown
 waits_go_down splits before h after t u m l (for_lock {younger = y} n walker nth birth seen op may q i) =
     nothing_outside splits before after h n m l
-    (λ k.
+    (λ below k.
     let s = final_of before h after n in
     let o = of_offer splits before after h n walker s (OpEvent t birth nth seen op) (k.traced).run_is may in
     ((λ e. inl (younger_in_way splits before after h n walker nth t u y birth seen op k may q i)), (λ e. absurd (unasked splits before after h (offered n walker s (OpEvent t birth nth seen op)) walker t birth nth seen op l o refl e))))
     (λ z. absurd (both_ways false refl (subst (λ (w : Shard). is_active_in_way t op w u ≡ true) z i)))
 waits_go_down splits before h after t u m l (for_room n walker nth count birth seen op may q i) =
     nothing_outside splits before after h n m l
-    (λ k.
+    (λ below k.
     let s = final_of before h after n in
     let o = of_offer splits before after h n walker s (OpEvent t birth nth seen op) (k.traced).run_is may in
-    ((λ e. inr (crowding (run_after before) h n s t u op k i)), (λ e. absurd (unasked splits before after h (offered n walker s (OpEvent t birth nth seen op)) walker t birth nth seen op l o refl e))))
+    ((λ e. inr (crowding splits before h n s t u op below (of_this_run splits before h (offered n walker s (OpEvent t birth nth seen op)) walker t o refl) k i)), (λ e. absurd (unasked splits before after h (offered n walker s (OpEvent t birth nth seen op)) walker t birth nth seen op l o refl e))))
     (λ z. absurd (both_ways false refl (subst (λ (w : Shard). tx_in u (undecided_after w.local t op) ≡ true) z i)))
 waits_go_down splits before h after t u m l (for_commit n r w i d) =
     nothing_outside splits before after h n m l
-    (λ k.
+    (λ below k.
     let s = final_of before h after n in
     let p = has_one t h r in
-    ((λ e. absurd (both_ways _ e r)), (λ e. ⊎_elim (λ a. inl (asked_before h t u p.0 p.1 p.2 p.3 a)) (λ a. inr a) ((k.tied).pairs t u (in_pair s.local.pairs t u i)))))
+    let run = (walker_of splits before after h p.0 t l p.2 (ap tx_of (p.3).0)).0 in
+    ((λ e. absurd (both_ways _ e r)), (λ e. asked p run ((k.tied).pairs t u (in_pair s.local.pairs t u i)))))
     (λ z. absurd (both_ways false refl (subst (λ (v : Shard). tx_in u (predecessors_of v.local.pairs t) ≡ true) z i)))
+  where
+    asked : (p : (q : Placed) × (ts : List (ℕ × ℕ)) × Among q h × IsRequest t ts q) → t.run ≡ run_after before → Earlier splits before h t u → WithRequest splits before h t u
+    asked p e (inl a) = inl (asked_before h t u p.0 p.1 p.2 p.3 a)
+    asked p e (inr (inl o)) = absurd (omega (arith, e, o))
+    asked p e (inr (inr d)) = inr d
 
 -- ---- no circle
+
+-- who was in doubt at opening is of an earlier run
+doubted_is_old : (splits : List ℕ) (before after : List (List LogRecord)) (h : History) (u : TxId) → may_open splits before ≡ true → Legal splits before h after → OpenedInDoubt splits before u → u.run < run_after before
+doubted_is_old splits before after h u m l (n, i, d) =
+    let log = log_of before n in
+    let c = (l.each_log).0 in
+    let fits = runs_in_order n log (found_in_order splits before n m (omega (arith, c, i))) in
+    let f = record_fits (greatest_run log) u (is_prepare_of u) (own_prepare u) log fits (doubt_undecided n log u d).0 in
+    let g = below_next_run before n in
+    omega (arith, f, g)
 
 -- an operation that may be done is of this run
 of_now : (splits : List ℕ) (before after : List (List LogRecord)) (h : History) (n walker : ℕ) (t : TxId) (birth : Birth) (nth : ℕ) (seen : Option ℕ) (op : Op) → may_open splits before ≡ true → Legal splits before h after → MayOffer splits h n (final_of before h after n) walker (OpEvent t birth nth seen op)
     → Offer splits (run_after before) walker h (offered n walker (final_of before h after n) (OpEvent t birth nth seen op))
 of_now splits before after h n walker t birth nth seen op m l may =
     let s = final_of before h after n in
-    of_offer splits before after h n walker s (OpEvent t birth nth seen op) (nothing_outside splits before after h n m l (λ k. (k.traced).run_is) (λ z. ap (λ (w : Shard). w.run) z)) may
+    of_offer splits before after h n walker s (OpEvent t birth nth seen op) (nothing_outside splits before after h n m l (λ below k. (k.traced).run_is) (λ z. ap (λ (w : Shard). w.run) z)) may
 
 not_old : (splits : List ℕ) (before after : List (List LogRecord)) (h : History) (n walker : ℕ) (t : TxId) (birth : Birth) (nth : ℕ) (seen : Option ℕ) (op : Op) → may_open splits before ≡ true → Legal splits before h after → MayOffer splits h n (final_of before h after n) walker (OpEvent t birth nth seen op)
     → t.run < run_after before → ⊥
@@ -316,15 +340,15 @@ old_waits_not splits before after h t u m l o (for_lock n walker nth birth seen 
 old_waits_not splits before after h t u m l o (for_room n walker nth count birth seen op may q i) = not_old splits before after h n walker t birth nth seen op m l may o
 old_waits_not splits before after h t u m l o (for_commit n r w i d) = let p = has_one t h r in let q = (walker_of splits before after h p.0 t l p.2 (ap tx_of (p.3).0)).0 in omega (arith, o, q)
 
-first_edge : (splits : List ℕ) (before after : List (List LogRecord)) (h : History) (t u : TxId) → may_open splits before ≡ true → Legal splits before h after → t.run < run_after before → WaitsThrough splits h (final_of before h after) t u → ⊥
-first_edge splits before after h t u m l o (at_once w) = old_waits_not splits before after h t u m l o w
-first_edge splits before after h t u m l o (through {u = v} w c) = old_waits_not splits before after h t v m l o w
+first_edge : (splits : List ℕ) (before after : List (List LogRecord)) (h : History) (t u : TxId) → may_open splits before ≡ true → Legal splits before h after → OpenedInDoubt splits before t → WaitsThrough splits h (final_of before h after) t u → ⊥
+first_edge splits before after h t u m l d (at_once w) = old_waits_not splits before after h t u m l (doubted_is_old splits before after h t m l d) w
+first_edge splits before after h t u m l d (through {u = v} w c) = old_waits_not splits before after h t v m l (doubted_is_old splits before after h t m l d) w
 
 -- the active part of one that may do operations is of their birth
 born_alike : (splits : List ℕ) (before after : List (List LogRecord)) (h : History) (u : TxId) (a b : Birth) → may_open splits before ≡ true → Legal splits before h after → MayDo splits h (final_of before h after) u a → IsActiveAs (final_of before h after) u b → b ≡ a
 born_alike splits before after h u a b m l (j, walker, nth, seen, op, may) (n, g, e, st, f) =
     nothing_outside splits before after h n m l
-    (λ k.
+    (λ below k.
     let s = final_of before h after n in
     let run = run_after before in
     let w = rows_get (λ y. PartFrom (Did h n s.local.epoch) (SomeRequest (Requested h) (IsOld run)) y.0 y.1) u g s.local.parts ((k.traced).origins).parts e in
@@ -362,31 +386,31 @@ has_asked h u t (x, y, a, b, c) = let p = before_told h u x a in has_some u h x 
 -- ---- through any number
 
 abbrev Downwards : List ℕ → List (List LogRecord) → List (List LogRecord) → History → TxId → TxId → Type 0
-Downwards splits before after h t u = (has_request t h ≡ false → WithoutRequest splits h (final_of before h after) (run_after before) t u) × (has_request t h ≡ true → WithRequest h (run_after before) t u)
+Downwards splits before after h t u = (has_request t h ≡ false → WithoutRequest splits before h (final_of before h after) t u) × (has_request t h ≡ true → WithRequest splits before h t u)
 
-with_then : (splits : List ℕ) (before after : List (List LogRecord)) (h : History) (t u v : TxId) → may_open splits before ≡ true → Legal splits before h after → WithRequest h (run_after before) t u → WaitsThrough splits h (final_of before h after) u v → Downwards splits before after h u v → WithRequest h (run_after before) t v
+with_then : (splits : List ℕ) (before after : List (List LogRecord)) (h : History) (t u v : TxId) → may_open splits before ≡ true → Legal splits before h after → WithRequest splits before h t u → WaitsThrough splits h (final_of before h after) u v → Downwards splits before after h u v → WithRequest splits before h t v
 with_then splits before after h t u v m l (inr o) c d = absurd (first_edge splits before after h u v m l o c)
 with_then splits before after h t u v m l (inl a) c d = ⊎_elim (λ b. inl (asked_then splits before after h v u t l b a)) (λ b. inr b) (d.1 (has_asked h u t a))
 
-asks_on : (h : History) (run : ℕ) (u v : TxId) → WithRequest h run u v → (has_request v h ≡ true) ⊎ (v.run < run)
-asks_on h run u v (inl a) = inl (has_asked h v u a)
-asks_on h run u v (inr o) = inr o
+asks_on : (splits : List ℕ) (before : List (List LogRecord)) (h : History) (u v : TxId) → WithRequest splits before h u v → (has_request v h ≡ true) ⊎ OpenedInDoubt splits before v
+asks_on splits before h u v (inl a) = inl (has_asked h v u a)
+asks_on splits before h u v (inr o) = inr o
 
-younger_then : (splits : List ℕ) (before after : List (List LogRecord)) (h : History) (t u v : TxId) → may_open splits before ≡ true → Legal splits before h after → WaitsForYounger splits h (final_of before h after) t u → WithoutRequest splits h (final_of before h after) (run_after before) u v
-    → WithoutRequest splits h (final_of before h after) (run_after before) t v
+younger_then : (splits : List ℕ) (before after : List (List LogRecord)) (h : History) (t u v : TxId) → may_open splits before ≡ true → Legal splits before h after → WaitsForYounger splits h (final_of before h after) t u → WithoutRequest splits before h (final_of before h after) u v
+    → WithoutRequest splits before h (final_of before h after) t v
 younger_then splits before after h t u v m l w (inr d) = inr d
 younger_then splits before after h t u v m l (a, b, may, is, o) (inl (c, d, may2, is2, o2)) =
     let same = born_alike splits before after h u c b m l may2 is in
     inl (a, d, may, is2, older_is_told a d (older_then a b d (older_of_test a b o) (subst (λ z. Older z d) (sym same) (older_of_test c d o2))))
 
-without_then : (splits : List ℕ) (before after : List (List LogRecord)) (h : History) (t u v : TxId) → may_open splits before ≡ true → Legal splits before h after → WithoutRequest splits h (final_of before h after) (run_after before) t u → WaitsThrough splits h (final_of before h after) u v → Downwards splits before after h u v
-    → WithoutRequest splits h (final_of before h after) (run_after before) t v
+without_then : (splits : List ℕ) (before after : List (List LogRecord)) (h : History) (t u v : TxId) → may_open splits before ≡ true → Legal splits before h after → WithoutRequest splits before h (final_of before h after) t u → WaitsThrough splits h (final_of before h after) u v → Downwards splits before after h u v
+    → WithoutRequest splits before h (final_of before h after) t v
 without_then splits before after h t u v m l (inr (inr o)) c d = absurd (first_edge splits before after h u v m l o c)
-without_then splits before after h t u v m l (inr (inl a)) c d = inr (asks_on h (run_after before) u v (d.1 a))
+without_then splits before after h t u v m l (inr (inl a)) c d = inr (asks_on splits before h u v (d.1 a))
 without_then splits before after h t u v m l (inl w) c d = at (has_request u h) refl
   where
-    at : (b : Bool) → has_request u h ≡ b → WithoutRequest splits h (final_of before h after) (run_after before) t v
-    at true e = inr (asks_on h (run_after before) u v (d.1 e))
+    at : (b : Bool) → has_request u h ≡ b → WithoutRequest splits before h (final_of before h after) t v
+    at true e = inr (asks_on splits before h u v (d.1 e))
     at false e = younger_then splits before after h t u v m l w (d.0 e)
 
 down_through : (splits : List ℕ) (before after : List (List LogRecord)) (h : History) (t v : TxId) → may_open splits before ≡ true → Legal splits before h after → WaitsThrough splits h (final_of before h after) t v → Downwards splits before after h t v
@@ -400,7 +424,7 @@ no_circle : (splits : List ℕ) (before after : List (List LogRecord)) (h : Hist
 no_circle splits before after h t m l c true e d = ⊎_elim (λ a. not_before_self splits before after h t l a) (λ o. first_edge splits before after h t t m l o c) (d.1 e)
 no_circle splits before after h t m l c false e d = at (d.0 e)
   where
-    at : WithoutRequest splits h (final_of before h after) (run_after before) t t → ⊥
+    at : WithoutRequest splits before h (final_of before h after) t t → ⊥
     at (inl (a, b, may, is, o)) = not_older_itself a (subst (Older a) (born_alike splits before after h t a b m l may is) (older_of_test a b o))
     at (inr (inl r)) = both_ways _ e r
     at (inr (inr o)) = first_edge splits before after h t t m l o c

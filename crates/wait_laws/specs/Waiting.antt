@@ -8,10 +8,12 @@ use Rattle.clv_base.specs.declared.state.Held.{Held}
 use Rattle.clv_base.specs.declared.state.Stage.TheVariants.{Active}
 use Rattle.clv_base.specs.declared.events.Event.TheVariants.{Op as OpEvent}
 use Rattle.clv_base.specs.declared.events.Entry.{Entry}
-use Rattle.clv_base.specs.Orders.{tx_get, is_older}
+use Rattle.clv_base.specs.Orders.{tx_in, tx_get, is_older}
+use Rattle.clv_base.specs.Logs.{in_doubt}
+use Rattle.clv_base.specs.LogRules.{log_of}
+use Rattle.clv_base.specs.Shards.{shard_count}
 use Rattle.clv_base.specs.State.{Shard}
 use Rattle.clv_base.specs.FileRules.{may_open}
-use Rattle.clv_base.specs.Restarts.{run_after}
 use Rattle.clv_base.specs.Journals.{History, comes_before, final_of}
 use Rattle.clv_base.specs.History.{Legal, IsAmong, request_of, has_request, MayOffer, Waits}
 
@@ -35,19 +37,23 @@ IsActiveAs states u birth = (n : ℕ) × (p : Held) × (tx_get u (states n).loca
 abbrev pub WaitsForYounger : List ℕ → History → (ℕ → Shard) → TxId → TxId → Type 0
 WaitsForYounger splits h states t u = (a : Birth) × (b : Birth) × MayDo splits h states t a × IsActiveAs states u b × (is_older a b ≡ true)
 
--- for whom a transaction without a request may wait, and for whom one with a request
-abbrev pub WithoutRequest : List ℕ → History → (ℕ → Shard) → ℕ → TxId → TxId → Type 0
-WithoutRequest splits h states run t u = WaitsForYounger splits h states t u ⊎ ((has_request u h ≡ true) ⊎ (u.run < run))
+-- it was in doubt on some shard in the logs found at opening
+abbrev pub OpenedInDoubt : List ℕ → List (List LogRecord) → TxId → Type 0
+OpenedInDoubt splits before u = (n : ℕ) × n < shard_count splits × (tx_in u (in_doubt n (log_of before n)) ≡ true)
 
-abbrev pub WithRequest : History → ℕ → TxId → TxId → Type 0
-WithRequest h run t u = AskedBefore h u t ⊎ (u.run < run)
+-- for whom a transaction without a request may wait, and for whom one with a request
+abbrev pub WithoutRequest : List ℕ → List (List LogRecord) → History → (ℕ → Shard) → TxId → TxId → Type 0
+WithoutRequest splits before h states t u = WaitsForYounger splits h states t u ⊎ ((has_request u h ≡ true) ⊎ OpenedInDoubt splits before u)
+
+abbrev pub WithRequest : List ℕ → List (List LogRecord) → History → TxId → TxId → Type 0
+WithRequest splits before h t u = AskedBefore h u t ⊎ OpenedInDoubt splits before u
 
 -- after every legal history
 abbrev pub WaitsGoDown : Type 0
 WaitsGoDown =
     (splits : List ℕ) (before : List (List LogRecord)) (h : History) (after : List (List LogRecord)) (t u : TxId)
     → may_open splits before ≡ true → Legal splits before h after → Waits splits h (final_of before h after) t u
-    → (has_request t h ≡ false → WithoutRequest splits h (final_of before h after) (run_after before) t u) × (has_request t h ≡ true → WithRequest h (run_after before) t u)
+    → (has_request t h ≡ false → WithoutRequest splits before h (final_of before h after) t u) × (has_request t h ≡ true → WithRequest splits before h t u)
 
 -- one waits for another, through any number
 pub data WaitsThrough (splits : List ℕ) (h : History) (states : ℕ → Shard) : TxId → TxId → Type 0 where
