@@ -329,7 +329,7 @@ within_vote E T W s0 s tx v Read m k =
     (within_alike E T W s0 s (finish_part tx s) (finished_alike s tx f) refl refl k)
 
 -- why a request is ruled on
-data RuledBy (s : Shard) (tx : TxId) (q : Request) : Option Ruling → Type 0 where
+pub data RuledBy (s : Shard) (tx : TxId) (q : Request) : Option Ruling → Type 0 where
   none : RuledBy s tx q None
   commit : {parts : List ℕ} → RuledBy s tx q (Some (CommitVerdict parts))
   acknowledge : stage_of s.local tx ≡ Some Closed → RuledBy s tx q (Some Acknowledge)
@@ -364,7 +364,7 @@ ended_by_all s tx q (p ∷ ps) = at _
     at true = end
     at false = none
 
-ruled_by : (s : Shard) (tx : TxId) (q : Request) (st : RequestState) → q.state ≡ st → RuledBy s tx q (ruling_in s.shard tx q (facts_of s tx) st)
+pub ruled_by : (s : Shard) (tx : TxId) (q : Request) (st : RequestState) → q.state ≡ st → RuledBy s tx q (ruling_in s.shard tx q (facts_of s tx) st)
 ruled_by s tx q Undecided u = undecided_by s tx q (is_agreed s.shard q (facts_of s tx)) refl u
 ruled_by s tx q (Committed parts) u = ended_by_all s tx q parts
 ruled_by s tx q Finished u = none
@@ -393,7 +393,7 @@ refused_so E T W s tx q c v n e = by_no (first_no q.votes) refl e
     by_no None f g = by_doom (doom_by (stage_of s.local tx)) refl g
     by_no (Some x) f g = let a = no_in (others s.shard q.touched) (T tx) q.votes q.votes c v (f ∙ g) in inl (a.from, a.why, a.cause, a.holds)
 
-opposed : (s : Shard) (tx : TxId) (q : Request) (c : AbortCause) → Unopposed s tx q → refusal tx q (facts_of s tx) ≡ Some c → ⊥
+pub opposed : (s : Shard) (tx : TxId) (q : Request) (c : AbortCause) → Unopposed s tx q → refusal tx q (facts_of s tx) ≡ Some c → ⊥
 opposed s tx q c u e = none_some c (sym (ap (λ o. cause_by tx o (doom_by (stage_of s.local tx))) u.0 ∙ ap (cause_by tx None) u.1) ∙ e)
 
 ruling_fits : (E : TxId → Type 0) (T : TxId → ℕ → NoWhy → Type 0) (W : TxId → TxId → Type 0) (s0 s : Shard) (tx : TxId) (q : Request) (r : Ruling) → tx_get tx s.requests ≡ Some q → RuledBy s tx q (Some r) → Within E T W s0 s → Within E T W s0 (do_ruling tx r (with_ruling tx q r s))

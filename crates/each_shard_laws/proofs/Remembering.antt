@@ -74,7 +74,7 @@ part_did run pre n s t (Some st) k r e n0 =
     let h = stage_row s.local.parts t st e in
     held_did run pre n s t h.0 (h.0).is_restored refl k r h.1 (rows_get (λ y. PartFrom (Did pre n s.local.epoch) (SomeRequest (Requested pre) (IsOld run)) y.0 y.1) t h.0 s.local.parts (k.origins).parts h.1).0
 
-none_doomed : (o : Option Stage) → is_doomed o ≡ true → o ≡ None → ⊥
+pub none_doomed : (o : Option Stage) → is_doomed o ≡ true → o ≡ None → ⊥
 none_doomed o d e = both_ways false refl (sym (ap is_doomed e) ∙ d)
 
 pub none_present : (o : Option Stage) → is_present o ≡ true → o ≡ None → ⊥

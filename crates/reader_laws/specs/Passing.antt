@@ -1,0 +1,25 @@
+-- Who voted read wrote nothing, and has no COMMIT.
+use Rattle.std.specs.Prelude.{◌≡◌, ℕ, ◌<◌, true, false, List, ◌++◌}
+use Rattle.clv_base.specs.declared.names.TxId.{TxId}
+use Rattle.clv_base.specs.declared.causes.Vote.TheVariants.{Read}
+use Rattle.clv_base.specs.declared.logs.LogRecord.{LogRecord}
+use Rattle.clv_base.specs.declared.messages.Message.TheVariants.{Vote as VoteMessage}
+use Rattle.clv_base.specs.declared.events.Outcome.TheVariants.{Sent}
+use Rattle.clv_base.specs.declared.events.Entry.{Entry}
+use Rattle.clv_base.specs.Shards.{shard_count}
+use Rattle.clv_base.specs.Logs.{wrote_in, committed_in}
+use Rattle.clv_base.specs.FileRules.{may_open}
+use Rattle.clv_base.specs.State.{Shard}
+use Rattle.clv_base.specs.Journals.{History}
+use Rattle.clv_base.specs.History.{Legal, IsAmong, state_before}
+
+-- the transaction has neither an UPDATE nor a COMMIT in the shard's log
+abbrev pub LeftNoMark : Shard → TxId → Type 0
+LeftNoMark s tx = (wrote_in s.local.log tx ≡ false) × (committed_in s.local.log tx ≡ false)
+
+-- so it is at each moment from a shard's vote of read on it on
+abbrev pub ReadersPass : Type 0
+ReadersPass =
+    (splits : List ℕ) (before : List (List LogRecord)) (so_far later : History) (after : List (List LogRecord)) (n : ℕ) (e : Entry) (home from : ℕ) (tx : TxId)
+    → may_open splits before ≡ true → Legal splits before (so_far ++ later) after → from < shard_count splits
+    → IsAmong n e so_far → e.outcome ≡ Sent (VoteMessage home tx from Read) → LeftNoMark (state_before before so_far after from) tx
