@@ -39,7 +39,9 @@ use Rattle.each_shard_laws.proofs.Records.{wrote_from}
 use Rattle.each_shard_laws.proofs.Remembering.{part_did, none_present}
 use Rattle.each_shard_laws.proofs.Restored.{restored_prepared}
 use Rattle.unfallen_laws.proofs.Naming.{requests_name_their_shards}
-use Rattle.headline_laws.specs.Supposed.{ReadersPass, ReadersNeverFell, OnlyRead}
+use Rattle.reader_laws.proofs.Readers.{readers_pass}
+use Rattle.reader_laws.proofs.Readers.{readers_never_fell}
+use Rattle.acknowledged_laws.specs.Acknowledged.{OnlyRead}
 
 module _ (splits : List ℕ) (before : List (List LogRecord)) (h : History) (after : List (List LogRecord)) (o : may_open splits before ≡ true) (l : Legal splits before h after) (c : OpensClear splits before) (n : ℕ) (i : n < shard_count splits)
     (t : TxId) (home : ℕ) (e : Entry) (touched : List (ℕ × ℕ)) (a : IsAmong home e h) (ev : e.event ≡ RequestEvent t touched) (out : e.outcome ≡ Asked) where
@@ -55,16 +57,16 @@ module _ (splits : List ℕ) (before : List (List LogRecord)) (h : History) (aft
 
   -- ---- who voted read
 
-  pub reader_passes : ReadersPass → ReadersNeverFell → (k : ℕ) (x : Entry) (to : ℕ) → IsAmong k x h → x.outcome ≡ Sent (VoteMessage to t n Read) → Passes (requests_of h) (deeds_before before h after n).fell (final_of before h after n) t
-  reader_passes pass never k x to m s =
+  pub reader_passes : (k : ℕ) (x : Entry) (to : ℕ) → IsAmong k x h → x.outcome ≡ Sent (VoteMessage to t n Read) → Passes (requests_of h) (deeds_before before h after n).fell (final_of before h after n) t
+  reader_passes k x to m s =
       let w : Legal splits before (h ++ []) after = subst (λ z. Legal splits before z after) (sym (append-nil h)) l in
-      let p = pass splits before h [] after k x to n t o w i m s in
+      let p = readers_pass splits before h [] after k x to n t o w i m s in
       record {
         has_asked = asked;
         unwritten = p.0;
         uncommitted = p.1;
         absent = (votes_bind splits before h [] after k x to n t Read o w i m s).1;
-        unfallen = uncounted (never splits before h after k n x to t o l c i m s);
+        unfallen = uncounted (readers_never_fell splits before h after n k to x t o l c i m s);
       }
 
   -- ---- who only read, at its home
