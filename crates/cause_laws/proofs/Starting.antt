@@ -142,14 +142,14 @@ new_stage tx t birth parts None g = at (tx_same t tx) refl
 
 -- ---- one request is another, or new
 
-put_row : {V : Type 0} (t tx : TxId) (w v : V) (rs : Table V) → tx_get t (tx_put tx w rs) ≡ Some v → ((t ≡ tx) × (v ≡ w)) ⊎ (tx_get t rs ≡ Some v)
+pub put_row : {V : Type 0} (t tx : TxId) (w v : V) (rs : Table V) → tx_get t (tx_put tx w rs) ≡ Some v → ((t ≡ tx) × (v ≡ w)) ⊎ (tx_get t rs ≡ Some v)
 put_row t tx w v rs e = at (tx_same t tx) refl (sym (get_put tx t w rs) ∙ e)
   where
     at : (b : Bool) → tx_same t tx ≡ b → cond b (Some w) (tx_get t rs) ≡ Some v → ((t ≡ tx) × (v ≡ w)) ⊎ (tx_get t rs ≡ Some v)
     at true f g = inl (tx_true t tx f, sym (some_same w v g))
     at false f g = inr g
 
-set_row : {V : Type 0} (t tx : TxId) (w v : V) (rs : Table V) → tx_get t (tx_set tx w rs) ≡ Some v → ((t ≡ tx) × (v ≡ w)) ⊎ (tx_get t rs ≡ Some v)
+pub set_row : {V : Type 0} (t tx : TxId) (w v : V) (rs : Table V) → tx_get t (tx_set tx w rs) ≡ Some v → ((t ≡ tx) × (v ≡ w)) ⊎ (tx_get t rs ≡ Some v)
 set_row t tx w v rs e = at (get_set tx t w v rs e)
   where
     at : Set_or_old tx t w v (tx_get t rs) → ((t ≡ tx) × (v ≡ w)) ⊎ (tx_get t rs ≡ Some v)

@@ -66,7 +66,7 @@ module _ (splits : List ℕ) (before : List (List LogRecord)) (h : History) (aft
         unwritten = p.0;
         uncommitted = p.1;
         absent = (votes_bind splits before h [] after k x to n t Read o w i m s).1;
-        unfallen = uncounted (readers_never_fell splits before h after n k to x t o l c i m s);
+        unfallen = uncounted (readers_never_fell splits before h after n k to x t o l i m s);
       }
 
   -- ---- who only read, at its home

@@ -1,5 +1,5 @@
 -- Within one entry: who votes read by it had a part here before, wrote nothing, and is finished by its vote.
-use Rattle.std.proofs.Common.{◌≡◌, ◌⊎◌, inl, inr, ⊎_elim, refl, sym, ap, subst, ◌∙◌, ℕ, true, false, cond, not, Bool, ◌&&◌, ◌==◌, List, [], ◌∷◌, ◌++◌, map, Option, Some, None, is_some}
+use Rattle.std.proofs.Common.{◌≡◌, ◌⊎◌, inl, inr, ⊎_elim, refl, sym, ap, subst, ◌∙◌, ℕ, true, false, not, Bool, ◌&&◌, ◌==◌, List, [], ◌∷◌, ◌++◌, map, Option, Some, None, is_some}
 use Rattle.std.specs.Prelude.{⊤}
 use Rattle.std.specs.List.{AllByRecursion, filter}
 use Rattle.std.proofs.lemmas.Bool.{both_ways, or_left, false_from_ne_true}
@@ -21,7 +21,7 @@ use Rattle.clv_base.specs.declared.state.Request.{Request}
 use Rattle.clv_base.specs.declared.state.RequestState.{RequestState}
 use Rattle.clv_base.specs.declared.state.RequestState.TheVariants.{Undecided, Committed, Finished, Refused}
 use Rattle.clv_base.specs.declared.state.Ruling.TheVariants.{Commit as CommitVerdict, Acknowledge, Abort as AbortVerdict, End as EndVerdict}
-use Rattle.clv_base.specs.Orders.{Table, tx_same, tx_in, nat_in, tx_get, tx_put, tx_set}
+use Rattle.clv_base.specs.Orders.{Table, tx_same, tx_in, nat_in, tx_get, tx_set}
 use Rattle.clv_base.specs.Logs.{wrote_in, in_doubt}
 use Rattle.clv_base.specs.State.{Shard, is_present}
 use Rattle.clv_base.specs.Undo.{stage_of, doomed_here}
@@ -32,10 +32,10 @@ use Rattle.clv_base.specs.Due.{commit_messages, finish_reader, with_vote, with_d
 use Rattle.clv_base.specs.Events.{Reply, QuietBeforeWorn, Does, happen, finish, with_durable, ask_messages, reminders, durable_requests, waiting_voters}
 use Rattle.clv_base.specs.Restarts.{homes_of, state_after}
 use Rattle.clv_base.specs.Journals.{up_to_restart}
-use Rattle.clv_base.proofs.SameNames.{tx_true, tx_self}
-use Rattle.law_base.proofs.Changed.{none_some, some_same, Set_or_old, get_set}
+use Rattle.clv_base.proofs.SameNames.{tx_self}
+use Rattle.law_base.proofs.Changed.{none_some}
 use Rattle.law_base.proofs.Rows.{rows_get}
-use Rattle.law_base.proofs.Tables.{stage_in, get_put}
+use Rattle.law_base.proofs.Tables.{stage_in}
 use Rattle.protocol_laws.specs.Growth.{IsPrefixOf}
 use Rattle.shard_laws.specs.OneShard.{is_doomed}
 use Rattle.shard_laws.proofs.Changes.{wrote_keeps}
@@ -48,6 +48,7 @@ use Rattle.fate_laws.proofs.Binding.{VoteIs, kept, yes, read, no, vote_is}
 use Rattle.fate_laws.proofs.Calm.{due_closed}
 use Rattle.fate_laws.proofs.Closings.{Closes, by_request, by_prepare, step_closed}
 use Rattle.fate_laws.proofs.PartsEvents.{Tables, same, coordinates, owes, counts, done, sent, again, answers, reminds, step_tables}
+use Rattle.cause_laws.proofs.Starting.{set_row, put_row}
 use Rattle.reader_laws.proofs.Staying.{Fewer, fewer_same, fewer_finished, present_back, rolled_doomed}
 use Rattle.reader_laws.proofs.Writing.{due_updates}
 
@@ -160,13 +161,13 @@ pub record Casts (R : TxId → Type 0) (s0 s : Shard) (t : TxId) : Type 0 where
   pub undoomed : is_doomed (stage_of s.local t) ≡ false
 
 -- it had voted so before, or casts it
-abbrev pub Read_by : (R P : TxId → Type 0) → Shard → Shard → TxId → Type 0
-Read_by R P s0 s t = P t ⊎ Casts R s0 s t
+abbrev pub ReadBy : (R P : TxId → Type 0) → Shard → Shard → TxId → Type 0
+ReadBy R P s0 s t = P t ⊎ Casts R s0 s t
 
 pub record Casting (R P : TxId → Type 0) (s0 s : Shard) : Type 0 where
   pub closed : (t : TxId) → stage_of s.local t ≡ Some Closed → is_present (stage_of s0.local t) ≡ true
   pub grown : (t : TxId) → wrote_in s0.local.log t ≡ true → wrote_in s.local.log t ≡ true
-  pub voters : Voters R (Read_by R P s0 s) s
+  pub voters : Voters R (ReadBy R P s0 s) s
 
 still : (a b : Bool) → (b ≡ true → a ≡ true) → a ≡ false → b ≡ false
 still a b k e = false_from_ne_true b (λ h. both_ways _ e (k h))
@@ -196,11 +197,11 @@ casts_due R s0 s u t d c =
     let q = quiet_due s u t d c.absent c.undoomed in
     record { asked = c.asked; here = c.here; fresh = c.fresh; unwritten = still _ _ (due_updates s u d t) c.unwritten; absent = q.0; undoomed = q.1 }
 
-carry : (R P : TxId → Type 0) (s0 s u : Shard) → Due s (Some u) → (t : TxId) → Read_by R P s0 s t → Read_by R P s0 u t
+carry : (R P : TxId → Type 0) (s0 s u : Shard) → Due s (Some u) → (t : TxId) → ReadBy R P s0 s t → ReadBy R P s0 u t
 carry R P s0 s u d t (inl p) = inl p
 carry R P s0 s u d t (inr c) = inr (casts_due R s0 s u t d c)
 
-casting_by : (R P : TxId → Type 0) (s0 s u : Shard) → Due s (Some u) → Voters R (Read_by R P s0 u) u → Casting R P s0 s → Casting R P s0 u
+casting_by : (R P : TxId → Type 0) (s0 s u : Shard) → Due s (Some u) → Voters R (ReadBy R P s0 u) u → Casting R P s0 s → Casting R P s0 u
 casting_by R P s0 s u d w k =
     record {
       closed = λ t c. k.closed t (due_closed s u t d c);
@@ -209,25 +210,18 @@ casting_by R P s0 s u d w k =
     }
 
 -- nothing changes in the table, and no vote is sent
-casting_more : (R P : TxId → Type 0) (s0 s u : Shard) (ms : List Message) → Due s (Some u) → u.voters ≡ s.voters → u.outbox ≡ s.outbox ++ ms → AllByRecursion (OutIs (Read_by R P s0 u)) ms → Casting R P s0 s → Casting R P s0 u
+casting_more : (R P : TxId → Type 0) (s0 s u : Shard) (ms : List Message) → Due s (Some u) → u.voters ≡ s.voters → u.outbox ≡ s.outbox ++ ms → AllByRecursion (OutIs (ReadBy R P s0 u)) ms → Casting R P s0 s → Casting R P s0 u
 casting_more R P s0 s u ms d e f a k =
     let c = carry R P s0 s u d in
     casting_by R P s0 s u d
-    (voters_on R R (Read_by R P s0 s) (Read_by R P s0 u) s u e
-    (subst (AllByRecursion (OutIs (Read_by R P s0 u))) (sym f) (all_append (OutIs (Read_by R P s0 u)) s.outbox ms (out_mono (Read_by R P s0 s) (Read_by R P s0 u) c s.outbox (k.voters).out) a)) (λ t r. r) c k.voters) k
+    (voters_on R R (ReadBy R P s0 s) (ReadBy R P s0 u) s u e
+    (subst (AllByRecursion (OutIs (ReadBy R P s0 u))) (sym f) (all_append (OutIs (ReadBy R P s0 u)) s.outbox ms (out_mono (ReadBy R P s0 s) (ReadBy R P s0 u) c s.outbox (k.voters).out) a)) (λ t r. r) c k.voters) k
 
 casting_same : (R P : TxId → Type 0) (s0 s u : Shard) → Due s (Some u) → u.voters ≡ s.voters → u.outbox ≡ s.outbox → Casting R P s0 s → Casting R P s0 u
 casting_same R P s0 s u d e f k =
     let c = carry R P s0 s u d in
     casting_by R P s0 s u d
-    (voters_on R R (Read_by R P s0 s) (Read_by R P s0 u) s u e (subst (AllByRecursion (OutIs (Read_by R P s0 u))) (sym f) (out_mono (Read_by R P s0 s) (Read_by R P s0 u) c s.outbox (k.voters).out)) (λ t r. r) c k.voters) k
-
-set_row : {V : Type 0} (t tx : TxId) (w v : V) (rs : Table V) → tx_get t (tx_set tx w rs) ≡ Some v → ((t ≡ tx) × (v ≡ w)) ⊎ (tx_get t rs ≡ Some v)
-set_row t tx w v rs e = at (get_set tx t w v rs e)
-  where
-    at : Set_or_old tx t w v (tx_get t rs) → ((t ≡ tx) × (v ≡ w)) ⊎ (tx_get t rs ≡ Some v)
-    at (inl c) = inl c
-    at (inr c) = inr c.1
+    (voters_on R R (ReadBy R P s0 s) (ReadBy R P s0 u) s u e (subst (AllByRecursion (OutIs (ReadBy R P s0 u))) (sym f) (out_mono (ReadBy R P s0 s) (ReadBy R P s0 u) c s.outbox (k.voters).out)) (λ t r. r) c k.voters) k
 
 -- a vote is given
 voters_voted : (R P Q : TxId → Type 0) (s u : Shard) (tx : TxId) (v : Voter) (vote : Vote) → u.voters ≡ tx_set tx (voted vote v) s.voters → u.outbox ≡ s.outbox ++ VoteMessage v.home tx s.shard vote ∷ [] → tx_get tx s.voters ≡ Some v → (v.owed == 0) ≡ false
@@ -254,7 +248,7 @@ reader_tables s tx v Read = (refl, refl)
 reader_tables s tx v (No why) = (refl, refl)
 
 -- one that is read is cast here, or was before
-reads_now : (R P : TxId → Type 0) (s0 s : Shard) (tx : TxId) (v : Voter) (y : Vote) → tx_get tx s.voters ≡ Some v → (v.owed == 0) ≡ false → VoteIs s tx v y → Casting R P s0 s → Due s (Some (finish_reader tx y (with_vote s tx v y))) → y ≡ Read → Read_by R P s0 (finish_reader tx y (with_vote s tx v y)) tx
+reads_now : (R P : TxId → Type 0) (s0 s : Shard) (tx : TxId) (v : Voter) (y : Vote) → tx_get tx s.voters ≡ Some v → (v.owed == 0) ≡ false → VoteIs s tx v y → Casting R P s0 s → Due s (Some (finish_reader tx y (with_vote s tx v y))) → y ≡ Read → ReadBy R P s0 (finish_reader tx y (with_vote s tx v y)) tx
 reads_now R P s0 s tx v y g w (kept e) k d q = carry R P s0 s (finish_reader tx y (with_vote s tx v y)) d tx ((k.voters).rows tx v g (e ∙ ap (λ z. Some z) q))
 reads_now R P s0 s tx v _ g w (yes c x z) k d q = absurd cc
 reads_now R P s0 s tx v _ g w (read c f) k d q =
@@ -271,25 +265,25 @@ reads_now R P s0 s tx v _ g w (read c f) k d q =
 reads_now R P s0 s tx v y g w (no a b) k d q = absurd (b q)
 
 casting_due : (R P : TxId → Type 0) (s0 : Shard) → KeptByDue (Casting R P s0)
-casting_due R P s0 s u (commits tx a b) k = casting_more R P s0 s u (commit_messages s tx (tx_get tx s.requests) (tx_get tx s.voters)) (commits tx a b) refl refl (commit_out (Read_by R P s0 u) s tx (tx_get tx s.requests) (tx_get tx s.voters)) k
+casting_due R P s0 s u (commits tx a b) k = casting_more R P s0 s u (commit_messages s tx (tx_get tx s.requests) (tx_get tx s.voters)) (commits tx a b) refl refl (commit_out (ReadBy R P s0 u) s tx (tx_get tx s.requests) (tx_get tx s.voters)) k
 casting_due R P s0 s u (votes tx v vote g e) k =
     let y = vote_is s tx v vote e in
     let d = votes tx v vote g e in
     let t = reader_tables s tx v vote in
-    casting_by R P s0 s u d (voters_voted R (Read_by R P s0 s) (Read_by R P s0 u) s u tx v vote t.0 t.1 g y.1 (carry R P s0 s u d) (reads_now R P s0 s tx v vote g y.1 y.0 k d) k.voters) k
+    casting_by R P s0 s u d (voters_voted R (ReadBy R P s0 s) (ReadBy R P s0 u) s u tx v vote t.0 t.1 g y.1 (carry R P s0 s u d) (reads_now R P s0 s tx v vote g y.1 y.0 k d) k.voters) k
 casting_due R P s0 s u (rules tx q (CommitVerdict parts) g e) k = casting_same R P s0 s u (rules tx q (CommitVerdict parts) g e) refl refl k
 casting_due R P s0 s u (rules tx q Acknowledge g e) k = casting_same R P s0 s u (rules tx q Acknowledge g e) refl refl k
-casting_due R P s0 s u (rules tx q (AbortVerdict cause to) g e) k = casting_more R P s0 s u (map (λ p. Decide p tx s.shard false) to) (rules tx q (AbortVerdict cause to) g e) refl refl (decides_out (Read_by R P s0 u) s.shard tx false to) k
+casting_due R P s0 s u (rules tx q (AbortVerdict cause to) g e) k = casting_more R P s0 s u (map (λ p. Decide p tx s.shard false) to) (rules tx q (AbortVerdict cause to) g e) refl refl (decides_out (ReadBy R P s0 u) s.shard tx false to) k
 casting_due R P s0 s u (rules tx q EndVerdict g e) k = casting_same R P s0 s u (rules tx q EndVerdict g e) refl refl k
 
-casting_finish : (R P : TxId → Type 0) (s0 x : Shard) → Casting R P s0 x → Voters R (Read_by R P s0 (finish x)) (finish x)
+casting_finish : (R P : TxId → Type 0) (s0 x : Shard) → Casting R P s0 x → Voters R (ReadBy R P s0 (finish x)) (finish x)
 casting_finish R P s0 x k =
     let y = with_due_done x in
     let d = settled (Casting R P s0) x (casting_due R P s0) k in
-    let c : (t : TxId) → Read_by R P s0 y t → Read_by R P s0 (finish x) t = λ t. again_by t in
-    voters_on R R (Read_by R P s0 y) (Read_by R P s0 (finish x)) y (finish x) refl (out_mono (Read_by R P s0 y) (Read_by R P s0 (finish x)) c y.outbox (d.voters).out) (λ t r. r) c d.voters
+    let c : (t : TxId) → ReadBy R P s0 y t → ReadBy R P s0 (finish x) t = λ t. again_by t in
+    voters_on R R (ReadBy R P s0 y) (ReadBy R P s0 (finish x)) y (finish x) refl (out_mono (ReadBy R P s0 y) (ReadBy R P s0 (finish x)) c y.outbox (d.voters).out) (λ t r. r) c d.voters
   where
-    again_by : (t : TxId) → Read_by R P s0 (with_due_done x) t → Read_by R P s0 (finish x) t
+    again_by : (t : TxId) → ReadBy R P s0 (with_due_done x) t → ReadBy R P s0 (finish x) t
     again_by t (inl p) = inl p
     again_by t (inr z) = inr (record { asked = z.asked; here = z.here; fresh = z.fresh; unwritten = z.unwritten; absent = z.absent; undoomed = z.undoomed })
 
@@ -299,13 +293,6 @@ casting_finish R P s0 x k =
 abbrev pub Asks : (TxId → Type 0) → Shard → Event → Type 0
 Asks R s (Deliver (Prepare to tx home seen) stamp) = to ≡ s.shard → R tx
 Asks R s _ = ⊤
-
-put_row : {V : Type 0} (t tx : TxId) (w v : V) (rs : Table V) → tx_get t (tx_put tx w rs) ≡ Some v → ((t ≡ tx) × (v ≡ w)) ⊎ (tx_get t rs ≡ Some v)
-put_row t tx w v rs e = at (tx_same t tx) refl (sym (get_put tx t w rs) ∙ e)
-  where
-    at : (b : Bool) → tx_same t tx ≡ b → cond b (Some w) (tx_get t rs) ≡ Some v → ((t ≡ tx) × (v ≡ w)) ⊎ (tx_get t rs ≡ Some v)
-    at true f g = inl (tx_true t tx f, sym (some_same w v g))
-    at false f g = inr g
 
 asked_read : (s : Shard) (tx : TxId) (home seen : ℕ) (o : Option Voter) → (asked_voter home seen o).vote ≡ Some Read → (v : Voter) × (o ≡ Some v) × (v.vote ≡ Some Read)
 asked_read s tx home seen None e = absurd (none_some Read e)
@@ -348,7 +335,7 @@ casting_step R P s x h w p =
     record {
       closed = λ t c. ⊎_elim (λ k. there (stage_of s.local t) Closed k refl) (λ k. closes_here s t k) (step_closed s x t h c);
       grown = λ t k. prefix_wrote s.local.log x.local.log t ((inside_step s x h).log) k;
-      voters = voters_step R P (Read_by R P s x) s x (step_tables s x h) w (λ t k. inl k) p;
+      voters = voters_step R P (ReadBy R P s x) s x (step_tables s x h) w (λ t k. inl k) p;
     }
 
 -- ---- an entry
@@ -364,7 +351,7 @@ no_restart s e o t h q = at s.is_up (subst (λ z. happen s z ≡ Does o t) q h)
     at true z = absurd cc
     at false z = absurd cc
 
-read_at : (R P : TxId → Type 0) (s x : Shard) (e : Event) → (e ≡ Restart → ⊥) → (t : TxId) → Read_by R P s x t → ReadAt R P s x e t
+read_at : (R P : TxId → Type 0) (s x : Shard) (e : Event) → (e ≡ Restart → ⊥) → (t : TxId) → ReadBy R P s x t → ReadAt R P s x e t
 read_at R P s x e n t (inl p) = inl p
 read_at R P s x e n t (inr c) = inr (c, n)
 
@@ -383,8 +370,8 @@ voters_restored R P shard run epoch log last journal =
     row : (t : TxId) (v : Voter) → tx_get t (state_after shard run epoch log last journal).voters ≡ Some v → (v.vote ≡ None) × ((v.owed == 0) ≡ true)
     row t v g = rows_get (λ (r : TxId × Voter). ((r.1).vote ≡ None) × (((r.1).owed == 0) ≡ true)) t v (state_after shard run epoch log last journal).voters (restored_votes (homes_of log (in_doubt shard log))) g
 
-voters_by : (R P : TxId → Type 0) (s x : Shard) (e : Event) → (e ≡ Restart → ⊥) → Voters R (Read_by R P s x) x → Voters R (ReadAt R P s x e) x
-voters_by R P s x e n k = voters_mono R R (Read_by R P s x) (ReadAt R P s x e) x (λ t r. r) (read_at R P s x e n) k
+voters_by : (R P : TxId → Type 0) (s x : Shard) (e : Event) → (e ≡ Restart → ⊥) → Voters R (ReadBy R P s x) x → Voters R (ReadAt R P s x e) x
+voters_by R P s x e n k = voters_mono R R (ReadBy R P s x) (ReadAt R P s x e) x (λ t r. r) (read_at R P s x e n) k
 
 pub voters_made : (R P : TxId → Type 0) (log : List LogRecord) (s x : Shard) {e : Event} {o : Outcome} → Makes log s e o x → Asks R s e → Voters R P s → Voters R (ReadAt R P s x e) x
 voters_made R P log s x {e} {o} (by_event g (finishes {t = y} u h)) w p = voters_by R P s (finish y) e (no_restart s e o (finish y) g) (casting_finish R P s y (casting_step R P s y h w p))
@@ -392,7 +379,7 @@ voters_made R P log s x {e} {o} (by_event g (stops u)) w p = voters_on R R P (Re
 voters_made R P log s x (by_flush n u f) w p =
     let y = with_durable n s in
     voters_by R P s (finish y) FlushIn (λ z. absurd cc)
-    (casting_finish R P s y (record { closed = λ t c. there (stage_of s.local t) Closed c refl; grown = λ t k. k; voters = voters_on R R P (Read_by R P s y) s y refl (out_mono P (Read_by R P s y) (λ t k. inl k) s.outbox p.out) (λ t r. r) (λ t k. inl k) p }))
+    (casting_finish R P s y (record { closed = λ t c. there (stage_of s.local t) Closed c refl; grown = λ t k. k; voters = voters_on R R P (ReadBy R P s y) s y refl (out_mono P (ReadBy R P s y) (λ t k. inl k) s.outbox p.out) (λ t r. r) (λ t k. inl k) p }))
 voters_made R P log s x (by_failure n u f) w p = voters_on R R P (ReadAt R P s x FlushIn) s x refl (out_mono P (ReadAt R P s x FlushIn) (λ t k. inl k) s.outbox p.out) (λ t r. r) (λ t k. inl k) p
 voters_made R P log s x (by_restart epoch keeps u r) w p =
     voters_restored R (ReadAt R P s x Restart) s.shard s.run epoch (up_to_restart s.run epoch log) s.last s.journal

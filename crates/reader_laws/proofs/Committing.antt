@@ -158,7 +158,7 @@ marks_more Q Q' t log f m k c = ⊎_elim (λ x. inl x) (λ x. inr (f x)) (m k c)
 
 -- ---- the log after an entry goes on from what the entry leaves of the log before it
 
-finish_prefix : (s x : Shard) → Inside s x → IsPrefixOf s.local.log (finish x).local.log
+pub finish_prefix : (s x : Shard) → Inside s x → IsPrefixOf s.local.log (finish x).local.log
 finish_prefix s x i = (settled (Inside s) x (inside_due s) i).log
 
 new_or_old : (Q : Type 0) (s x : Shard) {e : Event} {o : Outcome} (t : TxId) → (committed_in s.local.log t ≡ true) ⊎ (HasRow x t ⊎ Commits s t e o) → (HasRow x t ⊎ Commits s t e o → committed_in s.local.log t ≡ false → (wrote_in s.local.log t ≡ true) ⊎ Q)

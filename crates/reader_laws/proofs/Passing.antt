@@ -35,13 +35,13 @@ use Rattle.origin_laws.proofs.Entries.{IsOld, Brings, traced_front, brought, req
 use Rattle.fate_laws.proofs.Binding.{Reads, ordered_wrote}
 use Rattle.fate_laws.proofs.Bindings.{WasTaken, Sought, FineAt, SaysOut, says_made, Bindings, bindings_front, asked_not_own, noted_reads}
 use Rattle.fate_laws.proofs.Prefixes.{Next, next_at, each_shard}
-use Rattle.fate_laws.proofs.Prepares.{prepare_there}
 use Rattle.fate_laws.proofs.Standing.{NotOwn, reads_made}
-use Rattle.fall_laws.specs.Falls.{Fell, OpensClear}
-use Rattle.fall_laws.proofs.Falling.{stands_front, walk_on}
+use Rattle.fall_laws.specs.Falls.{Fell}
+use Rattle.fall_laws.proofs.Falling.{walk_on}
 use Rattle.unfallen_laws.proofs.Losing.{last_front}
 use Rattle.unfallen_laws.proofs.Sparing.{fell_out}
 use Rattle.reader_laws.proofs.Staying.{doomed_was}
+use Rattle.reader_laws.proofs.Returning.{out_prepared}
 use Rattle.reader_laws.proofs.Writing.{made_updates}
 use Rattle.reader_laws.proofs.Casting.{OutIs, Voters, voters_on, voters_mono, Casts, Asks, ReadAt, voters_made, voters_restored}
 
@@ -55,7 +55,7 @@ pub record Passed (splits : List ℕ) (before after : List (List LogRecord)) (pr
   pub asked : Away before pre n t
   pub unwritten : wrote_in (state_at before after n pre).local.log t ≡ false
   pub reads : Reads (state_at before after n pre) t
-  pub unfallen : OpensClear splits before → Fell before pre after n t → ⊥
+  pub unfallen : Fell before pre after n t → ⊥
 
 pub record Passing (splits : List ℕ) (before after : List (List LogRecord)) (pre : History) : Type 0 where
   pub voters : (n : ℕ) → n < shard_count splits → Voters (Away before pre n) (Passed splits before after pre n) (state_at before after n pre)
@@ -165,7 +165,7 @@ module _ (splits : List ℕ) (before after : List (List LogRecord)) (h pre : His
         asked = away_more n t p.asked;
         unwritten = unwritten_on n t (not_own n t p.asked) p.unwritten;
         reads = reads_on n t (not_own n t p.asked) p.reads;
-        unfallen = λ c. unfallen_by n t (p.unfallen c) (λ d. ⊎_elim (λ y. p.unfallen c (inr (pre, [], append-nil pre, y))) (λ y. both_ways _ gone y) (doomed_was splits before after h pre e post o l q n i t d)) (λ y z. both_ways _ gone y);
+        unfallen = unfallen_by n t p.unfallen (λ d. ⊎_elim (λ y. p.unfallen (inr (pre, [], append-nil pre, y))) (λ y. both_ways _ gone y) (doomed_was splits before after h pre e post o l q n i t d)) (λ y z. both_ways _ gone y);
       }
     where
       gone : is_present (stage_of (state_at before after n pre).local t) ≡ false
@@ -182,7 +182,7 @@ module _ (splits : List ℕ) (before after : List (List LogRecord)) (h pre : His
           inactive = λ y. both_ways _ gone (subst (λ z. is_present z ≡ true) (sym y) refl);
           unclosed = λ y. both_ways _ gone (subst (λ z. is_present z ≡ true) (sym y) refl);
         };
-        unfallen = λ k. unfallen_by e.0 t (past k) (λ d. both_ways _ undoomed d) (λ y z. n z);
+        unfallen = unfallen_by e.0 t past (λ d. both_ways _ undoomed d) (λ y z. n z);
       }
     where
       unwritten : wrote_in (state_at before after e.0 (pre ++ e ∷ [])).local.log t ≡ false
@@ -194,11 +194,8 @@ module _ (splits : List ℕ) (before after : List (List LogRecord)) (h pre : His
       undoomed : is_doomed (stage_of (state_at before after e.0 (pre ++ e ∷ [])).local t) ≡ false
       undoomed = subst (λ (z : Shard). is_doomed (stage_of z.local t) ≡ false) (sym (w.split).next) c.undoomed
 
-      past : OpensClear splits before → Fell before pre after e.0 t → ⊥
-      past k f =
-          let b = (stands_front splits before after h pre (e ∷ post) o l k q e.0 w.inside).barred in
-          let p = b.here t (fell_out splits before after h pre (e ∷ post) e.0 t o l q w.inside f) c.here in
-          both_ways _ c.fresh (ordered_wrote S.local.log t ((was.parted e.0 w.inside).base).ordered (prepare_there S.local.log t p.0 p.1))
+      past : Fell before pre after e.0 t → ⊥
+      past f = both_ways _ c.fresh (ordered_wrote S.local.log t ((was.parted e.0 w.inside).base).ordered (out_prepared splits before after h pre (e ∷ post) o l q e.0 w.inside t (fell_out splits before after h pre (e ∷ post) e.0 t o l q w.inside f) c.here))
 
   asks_of : (ev : Event) → Brings (Requested pre) (IsOld (run_after before)) ev → Asks (Away before (pre ++ e ∷ []) e.0) S ev
   asks_of (Deliver (Prepare to t home seen) stamp) b = λ z. from b.0 (λ y. b.1 (z ∙ (w.split).shard ∙ sym y))

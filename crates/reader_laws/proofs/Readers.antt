@@ -49,7 +49,7 @@ readers_pass splits before so_far later after n e home from tx o l i j q = (
             d (sym v ∙ one_home splits before after (so_far ++ later) tx x.0 y.0 x.1 y.1 us ts l (among_left x so_far later g) b (among_left y so_far later k) a ∙ z)
 
 pub readers_never_fell : ReadersNeverFell
-readers_never_fell splits before h after m k to x tx o l c i j q f = ((passing_front splits before after h h [] o l (append-nil h)).sent (k, x) to m tx i (is_among k x h j) q).unfallen c f
+readers_never_fell splits before h after m k to x tx o l i j q f = ((passing_front splits before after h h [] o l (append-nil h)).sent (k, x) to m tx i (is_among k x h j) q).unfallen f
 
 -- ---- who fell was answered there
 
@@ -88,4 +88,4 @@ members_never_fell splits before h after choice n m tx o l c i j run left f = by
     by_home : IsHome h tx k.0 → ⊥
     by_home r =
         let v = only_readers_may_fall splits before h after choice n m k.0 r.0 r.1 tx o l c i j r.2 r.3 r.4 (named k.0 r (fell_did splits before h after m tx o l c j f)) left f in
-        readers_never_fell splits before h after m v.0 v.2 v.1 tx o l c j v.3 v.4 f
+        readers_never_fell splits before h after m v.0 v.2 v.1 tx o l j v.3 v.4 f

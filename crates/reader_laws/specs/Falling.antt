@@ -18,7 +18,7 @@ use Rattle.fall_laws.specs.Falls.{Fell, OpensClear}
 abbrev pub ReadersNeverFell : Type 0
 ReadersNeverFell =
     (splits : List ℕ) (before : List (List LogRecord)) (h : History) (after : List (List LogRecord)) (m k to : ℕ) (x : Entry) (tx : TxId)
-    → may_open splits before ≡ true → Legal splits before h after → OpensClear splits before → m < shard_count splits
+    → may_open splits before ≡ true → Legal splits before h after → m < shard_count splits
     → IsAmong k x h → x.outcome ≡ Sent (VoteMessage to tx m Read) → Fell before h after m tx → ⊥
 
 -- where a COMMIT of a transaction of this run is left on any shard, no part of it ever fell, on any shard
