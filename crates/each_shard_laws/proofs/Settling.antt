@@ -15,7 +15,7 @@ use Rattle.each_shard_laws.proofs.Leading.{each_shard_leads}
 use Rattle.each_shard_laws.proofs.Ordering.{log_now}
 
 -- a quiet shard's log is left whole
-left_whole : (s : Shard) (kept : Bool) → IsQuiet s → log_left s kept ≡ s.local.log
+pub left_whole : (s : Shard) (kept : Bool) → IsQuiet s → log_left s kept ≡ s.local.log
 left_whole s true q = ap (λ f. take (unwrap_or f s.durable) s.local.log) q.2 ∙ ap (λ n. take n s.local.log) q.1 ∙ take_all (length s.local.log) s.local.log (omega arith)
 left_whole s false q = ap (λ n. take n s.local.log) q.1 ∙ take_all (length s.local.log) s.local.log (omega arith)
 

@@ -5,3 +5,5 @@ pub mod Answering
 pub mod Members
 pub mod Replaying
 pub mod Unfallen
+pub mod Recovering
+pub mod Settling

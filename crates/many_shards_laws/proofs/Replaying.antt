@@ -42,7 +42,7 @@ use Rattle.many_shards_laws.proofs.Answering.{part_ops, part_answers}
 use Rattle.many_shards_laws.proofs.Members.{request_run, asked_by, chosen, chosen_are_members, member_run}
 use Rattle.many_shards_laws.proofs.Unfallen.{unfallen}
 
-left_length : (finals : ℕ → Shard) (choice : ℕ → Bool) (n k : ℕ) → length (logs_left_from finals choice n k) ≡ k
+pub left_length : (finals : ℕ → Shard) (choice : ℕ → Bool) (n k : ℕ) → length (logs_left_from finals choice n k) ≡ k
 left_length finals choice n zero = refl
 left_length finals choice n (suc k) = ap suc (left_length finals choice (suc n) k)
 
@@ -56,21 +56,21 @@ module _ (splits : List ℕ) (before : List (List LogRecord)) (h : History) (aft
   abbrev cut : ℕ → ℕ
   cut n = cond (choice n) (unwrap_or (last n).flight (last n).durable) (last n).durable
 
-  leads : (n : ℕ) → n < shard_count splits
+  pub leads : (n : ℕ) → n < shard_count splits
       → Leads n (run_after before) (log_of before n) (deeds_before before h after n).items (requests_of h) (deeds_before before h after n).told (deeds_before before h after n).met (deeds_before before h after n).fell (final_of before h after n)
   leads n i = each_shard_leads splits before h after h [] n o l c (append-nil h) i
 
-  fronts : (n : ℕ) → n < shard_count splits → Fronts (start_of before n) (final_of before h after n)
+  pub fronts : (n : ℕ) → n < shard_count splits → Fronts (start_of before n) (final_of before h after n)
   fronts n i = fronts_entries (log_of after n) (start_of before n) (journal_of n h) (opened_counted n (run_after before) (log_of before n)) (l.runs n i)
 
-  left_is : (n : ℕ) → n < shard_count splits → log_of (logs_left splits before h after choice) n ≡ log_left (final_of before h after n) (choice n)
+  pub left_is : (n : ℕ) → n < shard_count splits → log_of (logs_left splits before h after choice) n ≡ log_left (final_of before h after n) (choice n)
   left_is n i = log_now splits before h after choice n i
 
-  within : (m : ℕ) → m < length (logs_left splits before h after choice) → m < shard_count splits
+  pub within : (m : ℕ) → m < length (logs_left splits before h after choice) → m < shard_count splits
   within m j = let e = left_length (final_of before h after) choice 0 (shard_count splits) in omega (arith, e, j)
 
   -- whose COMMIT is left is of this run or of an earlier one
-  left_run : (n : ℕ) (t : TxId) → n < shard_count splits → committed_in (log_of (logs_left splits before h after choice) n) t ≡ true → (t.run ≡ run_after before) ⊎ (t.run < run_after before)
+  pub left_run : (n : ℕ) (t : TxId) → n < shard_count splits → committed_in (log_of (logs_left splits before h after choice) n) t ≡ true → (t.run ≡ run_after before) ⊎ (t.run < run_after before)
   left_run n t i k =
       let d = deeds_before before h after n in
       let b = held n (run_after before) (log_of before n) d.items (requests_of h) d.told d.met d.fell (final_of before h after n) (leads n i) in
@@ -88,7 +88,7 @@ module _ (splits : List ℕ) (before : List (List LogRecord)) (h : History) (aft
       or_right (is_member splits before h after choice t) _ (committed_still splits before h after choice n t l i (committed_here splits before n m t o (wrote_within before n t b) (c n i) (wrote_record (log_of before n) t b) a)))
       (left_run m t j k)
 
-  wrote_last : (n : ℕ) (t : TxId) → n < shard_count splits → wrote_in (log_of (logs_left splits before h after choice) n) t ≡ true → wrote_in (final_of before h after n).local.log t ≡ true
+  pub wrote_last : (n : ℕ) (t : TxId) → n < shard_count splits → wrote_in (log_of (logs_left splits before h after choice) n) t ≡ true → wrote_in (final_of before h after n).local.log t ≡ true
   wrote_last n t i w =
       let s = final_of before h after n in
       let k = cond (choice n) (unwrap_or s.flight s.durable) s.durable in
@@ -98,6 +98,30 @@ module _ (splits : List ℕ) (before : List (List LogRecord)) (h : History) (aft
   here_somewhere n t i w (inl k) = at_somewhere (logs_left splits before h after choice) n t k
   here_somewhere n t i w (inr (inl d)) = d.2
   here_somewhere n t i w (inr (inr p)) = absurd (both_ways _ p.unwritten (wrote_last n t i w))
+
+  -- a member that is here is so as the laws of one shard want it of a chosen one
+  abbrev pub IsHereByCut : ℕ → TxId → Type 0
+  IsHereByCut n t =
+      ((committed_in (log_left (final_of before h after n) (choice n)) t || tx_in t (deeds_before before h after n).told) ≡ true)
+      ⊎ (((tx_in t (in_doubt (final_of before h after n).shard (log_left (final_of before h after n) (choice n))) ≡ true) × (list_all (committed_in (log_left (final_of before h after n) (choice n))) (listed_in (log_left (final_of before h after n) (choice n)) t) ≡ true) × (tx_in t (deeds_before before h after n).fell ≡ false))
+      ⊎ Passes (requests_of h) (deeds_before before h after n).fell (final_of before h after n) t)
+
+  pub left_here : (n : ℕ) (t : TxId) → n < shard_count splits → committed_in (log_of (logs_left splits before h after choice) n) t ≡ true → IsHereByCut n t
+  left_here n t i a = inl (or_left _ _ (subst (λ z. committed_in z t ≡ true) (left_is n i) a))
+
+  pub member_here : (n : ℕ) (t : TxId) → n < shard_count splits → is_member splits before h after choice t ≡ true → IsHere splits before h after choice n t → IsHereByCut n t
+  member_here n t i k (inl a) = left_here n t i a
+  member_here n t i k (inr (inl d)) =
+      let e : (final_of before h after n).shard ≡ n = (fronts n i).shard in
+      let doubt = subst (λ z. tx_in t (in_doubt n z) ≡ true) (left_is n i) d.0 in
+      let listed = subst (λ z. list_all (committed_in z) (listed_in z t) ≡ true) (left_is n i) d.1 in
+      let m = somewhere_at (logs_left splits before h after choice) t d.2 in
+      inr (inl (
+        subst (λ y. tx_in t (in_doubt y (log_left (final_of before h after n) (choice n))) ≡ true) (sym e) doubt,
+        listed,
+        unfallen splits before h after choice o l c n m.0 t i (within m.0 m.1) (member_run splits before h after choice t l k) doubt listed m.2,
+      ))
+  member_here n t i k (inr (inr p)) = inr (inr p)
 
   module _ (here : (n : ℕ) (t : TxId) → n < shard_count splits → is_member splits before h after choice t ≡ true → IsHere splits before h after choice n t) where
     writers_chosen : (n : ℕ) (t : TxId) → n < shard_count splits → wrote_in (log_of (logs_left splits before h after choice) n) t ≡ true → chosen splits before h after choice n t ≡ committed_somewhere (logs_left splits before h after choice) t
@@ -112,25 +136,8 @@ module _ (splits : List ℕ) (before : List (List LogRecord)) (h : History) (aft
     may_choose n i =
         record {
           commits = λ t k. or_right (is_member splits before h after choice t) _ (subst (λ z. committed_in z t ≡ true) (sym (left_is n i)) k);
-          are_here = λ t k. ⊎_elim (λ a. by_place t a (here n t i a)) (λ a. inl (or_left _ _ (subst (λ z. committed_in z t ≡ true) (left_is n i) a))) (or_cases (is_member splits before h after choice t) (committed_in (log_of (logs_left splits before h after choice) n) t) k);
+          are_here = λ t k. ⊎_elim (λ a. member_here n t i a (here n t i a)) (λ a. left_here n t i a) (or_cases (is_member splits before h after choice t) (committed_in (log_of (logs_left splits before h after choice) n) t) k);
         }
-      where
-        by_place : (t : TxId) → is_member splits before h after choice t ≡ true → IsHere splits before h after choice n t
-            → ((committed_in (log_left (final_of before h after n) (choice n)) t || tx_in t (deeds_before before h after n).told) ≡ true)
-            ⊎ (((tx_in t (in_doubt (final_of before h after n).shard (log_left (final_of before h after n) (choice n))) ≡ true) × (list_all (committed_in (log_left (final_of before h after n) (choice n))) (listed_in (log_left (final_of before h after n) (choice n)) t) ≡ true) × (tx_in t (deeds_before before h after n).fell ≡ false))
-            ⊎ Passes (requests_of h) (deeds_before before h after n).fell (final_of before h after n) t)
-        by_place t k (inl a) = inl (or_left _ _ (subst (λ z. committed_in z t ≡ true) (left_is n i) a))
-        by_place t k (inr (inl d)) =
-            let e : (final_of before h after n).shard ≡ n = (fronts n i).shard in
-            let doubt = subst (λ z. tx_in t (in_doubt n z) ≡ true) (left_is n i) d.0 in
-            let listed = subst (λ z. list_all (committed_in z) (listed_in z t) ≡ true) (left_is n i) d.1 in
-            let m = somewhere_at (logs_left splits before h after choice) t d.2 in
-            inr (inl (
-              subst (λ y. tx_in t (in_doubt y (log_left (final_of before h after n) (choice n))) ≡ true) (sym e) doubt,
-              listed,
-              unfallen splits before h after choice o l c n m.0 t i (within m.0 m.1) (member_run splits before h after choice t l k) doubt listed m.2,
-            ))
-        by_place t k (inr (inr p)) = inr (inr p)
 
     pub replays_on : (n : ℕ) → n < shard_count splits → ReplaysTo (share_of before n) (parts_on n (member_ops h (serial_left splits before h after choice))) (share_of (logs_left splits before h after choice) n)
     replays_on n i =

@@ -1,1 +1,3 @@
 pub mod Replaying
+pub mod Recovering
+pub mod Settling

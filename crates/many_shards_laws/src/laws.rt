@@ -1,6 +1,8 @@
 // Members of a history of many shards.
 
 ghost use Rattle.many_shards_laws.specs.Replaying.{SharesAreMaps, MembersReplayWhereHere};
+ghost use Rattle.many_shards_laws.specs.Recovering.{PredecessorsStandBeforeWhereHere};
+ghost use Rattle.many_shards_laws.specs.Settling.{SettledIsTheMapWhereReadersWroteNothing, SettledOpensClear};
 
 /// Where logs may be opened and leave nothing in doubt, what a shard has of the map that they all stand for is what its own log stands for.
 pub fn shares_are_maps()
@@ -12,4 +14,20 @@ pub fn shares_are_maps()
 /// give the answers that they were told.
 pub fn members_replay_where_here()
     ensures { MembersReplayWhereHere }
+{}
+
+/// No member is left without one that it depends on: whose writes it violated on a shard where it is here is a member too, and stands before it.
+pub fn predecessors_stand_before_where_here()
+    ensures { PredecessorsStandBeforeWhereHere }
+{}
+
+/// Where a history is settled, and whom a shard voted read on wrote nothing there, the live records of the shards, one shard after another, are
+/// the map that the logs left stand for.
+pub fn settled_is_the_map_where_readers_wrote_nothing()
+    ensures { SettledIsTheMapWhereReadersWroteNothing }
+{}
+
+/// Where a history is settled, nothing is in doubt in the logs left.
+pub fn settled_opens_clear()
+    ensures { SettledOpensClear }
 {}

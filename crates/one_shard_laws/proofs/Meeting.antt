@@ -32,7 +32,7 @@ same_flip_in t a rest e = ⊎_elim (λ x. or_left (tx_same t a) (tx_in t rest) (
     flipped : tx_same a t ≡ true → tx_same t a ≡ true
     flipped x = tx_flip a t x
 
-placed_before : (p t : TxId) (xs : List TxId) → place xs p < place xs t → tx_in t xs ≡ true → StandsBefore p t xs
+pub placed_before : (p t : TxId) (xs : List TxId) → place xs p < place xs t → tx_in t xs ≡ true → StandsBefore p t xs
 placed_before p t [] l i = absurd (both_ways false refl i)
 placed_before p t (a ∷ rest) l i = place_case p t a rest (tx_same t a) (tx_same p a) refl refl l (same_flip_in t a rest i) (placed_before p t rest)
 

@@ -2,3 +2,4 @@ pub mod Spans
 pub mod Agreeing
 pub mod Standing
 pub mod Replaying
+pub mod Turns

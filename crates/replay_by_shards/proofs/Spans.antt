@@ -64,6 +64,15 @@ below splits n (suc m) k r l i e f =
     let q = b.0 in
     omega arith
 
+-- the keys of a shard lie below those of a later one
+pub follow : (splits : List ℕ) (n j a b : ℕ) → are_splits splits ≡ true → n < j → j < shard_count splits → in_span splits n a ≡ true → in_span splits j b ≡ true → a < b
+follow splits n zero a b s l i e f = absurd (omega (arith, l))
+follow splits n (suc m) a b s l i e f =
+    let p = (bounds splits n a e).1 in
+    let q = (bounds splits (suc m) b f).0 in
+    let u = upwards splits n m (rises splits s) (omega (arith, l)) (omega (arith, i)) in
+    omega (arith, p, q, u)
+
 pub one_shard : (splits : List ℕ) (n j k : ℕ) → are_splits splits ≡ true → n < shard_count splits → j < shard_count splits → in_span splits n k ≡ true → in_span splits j k ≡ true → n ≡ j
 one_shard splits n j k s a b e f =
     ⊎_elim (λ q. q) (λ q. ⊎_elim (λ l. absurd (below splits n j k (rises splits s) l b e f)) (λ l. absurd (below splits j n k (rises splits s) l a f e)) q) (cases_order n j)

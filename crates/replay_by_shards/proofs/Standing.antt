@@ -53,7 +53,7 @@ set_away : (b : Bool) (key k : ℕ) (x : Option ℕ) (m : KeyMap) → (k == key)
 set_away true key k x m e = get_other k key x m e
 set_away false key k x m e = refl
 
-fold_away : (splits : List ℕ) (i : ℕ) (keep : TxId → Bool) (log : List LogRecord) (k : ℕ) (m : KeyMap) → list_all (passes_file_rules splits i) log ≡ true → in_span splits i k ≡ false → map_get k (fold_updates keep log m) ≡ map_get k m
+pub fold_away : (splits : List ℕ) (i : ℕ) (keep : TxId → Bool) (log : List LogRecord) (k : ℕ) (m : KeyMap) → list_all (passes_file_rules splits i) log ≡ true → in_span splits i k ≡ false → map_get k (fold_updates keep log m) ≡ map_get k m
 fold_away splits i keep [] k m p e = refl
 fold_away splits i keep (Update tx key before after ∷ rs) k m p e =
     let q = and_parts (in_span splits i key) (list_all (passes_file_rules splits i) rs) p in

@@ -1,5 +1,5 @@
 -- Transactions over many shards, and what each shard has of them and of the map.
-use Rattle.std.specs.Prelude.{◌≡◌, ℕ, ◌<◌, true, ◌==◌, List, [], map, length}
+use Rattle.std.specs.Prelude.{◌≡◌, ℕ, zero, suc, ◌<◌, true, ◌==◌, List, [], ◌++◌, map, length}
 use Rattle.std.specs.List.{AllByRecursion, filter, list_all}
 use Rattle.clv_base.specs.declared.logs.LogRecord.{LogRecord}
 use Rattle.clv_base.specs.declared.ops.Op.{Op}
@@ -64,3 +64,16 @@ ReplayByShards =
     → are_splits splits ≡ true → AreLogsOf splits before → AreLogsOf splits left → LieIn splits ts
     → ((n : ℕ) → n < shard_count splits → ReplaysTo (share_of before n) (parts_on n ts) (share_of left n))
     → ReplaysTo (stands before) ts (stands left)
+
+-- ---- the map, shard by shard
+
+-- the maps of k shards from n on, one after another
+abbrev pub in_turn : (ℕ → KeyMap) → ℕ → ℕ → KeyMap
+in_turn f n zero = []
+in_turn f n (suc k) = f n ++ in_turn f (suc n) k
+
+-- what each log has of the map that the logs stand for, one shard after another, is that map
+abbrev pub SharesMakeTheMap : Type 0
+SharesMakeTheMap =
+    (splits : List ℕ) (logs : List (List LogRecord)) → are_splits splits ≡ true → AreLogsOf splits logs
+    → in_turn (share_of logs) 0 (shard_count splits) ≡ stands logs

@@ -49,7 +49,7 @@ upward_from these set (w ∷ ws) a l = (
   upward_from these set ws a.1 l.1,
 )
 
-writer_wrote : (P : TxId → Type 0) (ws : List StandingUpdate) (t : TxId) → AllByRecursion (λ w. P w.tx) ws → tx_in t (writers ws) ≡ true → P t
+pub writer_wrote : (P : TxId → Type 0) (ws : List StandingUpdate) (t : TxId) → AllByRecursion (λ w. P w.tx) ws → tx_in t (writers ws) ≡ true → P t
 writer_wrote P [] t a i = absurd (both_ways false refl i)
 writer_wrote P (w ∷ ws) t a i = ⊎_elim (λ s. subst P (sym s) a.0) (λ j. writer_wrote P ws t a.1 j) (in_insert w.tx t (writers ws) i)
 

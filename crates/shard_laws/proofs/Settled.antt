@@ -38,7 +38,7 @@ not_gone true (Gone d) f = absurd f
 not_gone false (Gone d) f = absurd f
 
 -- who wrote is committed
-writer_committed : (g : Past) (s : Shard) (x : StandingUpdate) → Kept g (view_of s) → IsQuiet s → Wrote (view_of s) x → committed_in s.local.log x.tx ≡ true
+pub writer_committed : (g : Past) (s : Shard) (x : StandingUpdate) → Kept g (view_of s) → IsQuiet s → Wrote (view_of s) x → committed_in s.local.log x.tx ≡ true
 writer_committed g s x h q w =
     ⊎_elim (λ d. durable_committed s.local.log s.durable x.tx d)
     (λ d.
