@@ -1,3 +1,4 @@
 pub mod Passing
 pub mod Doubting
 pub mod Found
+pub mod Headline

@@ -1,6 +1,8 @@
-// Members of a history of many shards, each of them here on each shard.
+// The headline over all shards: answers and map, recoverable, settled.
 
 ghost use Rattle.headline_laws.specs.Found.{MembersAreFound, MembersReplay};
+ghost use Rattle.headline_laws.specs.Recovering.{PredecessorsStandBefore};
+ghost use Rattle.headline_laws.specs.Settling.{SettledIsTheMap};
 
 /// On each shard a member has its COMMIT left, or it is in doubt there beside a COMMIT elsewhere, or it asked, wrote nothing there and is gone.
 pub fn members_are_found()
@@ -11,4 +13,14 @@ pub fn members_are_found()
 /// stand for, and give the answers that they were told.
 pub fn members_replay()
     ensures { MembersReplay }
+{}
+
+/// Whose write a member violated, on any shard, is a member at an earlier place.
+pub fn predecessors_stand_before()
+    ensures { PredecessorsStandBefore }
+{}
+
+/// Where nothing is left to do, the live records of all shards are the map that the logs left stand for.
+pub fn settled_is_the_map()
+    ensures { SettledIsTheMap }
 {}

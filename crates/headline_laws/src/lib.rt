@@ -1,5 +1,6 @@
-//! The members of a legal history of many shards replay, from logs that leave nothing in doubt, whatever a crash keeps, under no other premise:
-//! each of them is here on each shard. Each law is the clause of a function with an empty body; the statements stand in specs/. They join what
+//! What a legal history of many shards promises, from logs that leave nothing in doubt and whatever a crash keeps, with no other premise: the members
+//! replay to their answers and to the map of the logs left; each predecessor of a member is a member before it; where nothing is left to do the live
+//! records are that map. Each law is the clause of a function with an empty body; the statements stand in specs/. They join what
 //! `many_shards_laws` says of members that are here on each shard with what the laws below say of parts: who voted yes, who only read, and
 //! who never was on a shard.
 #![tactic(auto)]
