@@ -32,7 +32,6 @@ use Rattle.fate_laws.proofs.Bindings.{WasTaken, FineAt, Bindings, bindings_front
 use Rattle.fate_laws.proofs.Arriving.{home_committed, due_at}
 use Rattle.fate_laws.proofs.Sparing.{Spared, spared_front}
 use Rattle.each_shard_laws.proofs.Fallen.{FellOn, commits_spare_the_fallen}
-use Rattle.fall_laws.specs.Falls.{OpensClear}
 
 -- at the first word of a commit its predecessors here are committed, it didn't fall here and isn't undecided, and it wrote here
 pub record Found (before after : List (List LogRecord)) (pre : History) (n : ℕ) (tx : TxId) : Type 0 where
@@ -62,14 +61,14 @@ undecided_away splits before after h pre n e tx to home stamp q w b v c g u =
     let z : WasSent pre (Deliver (Decide to tx home true) stamp) = subst (WasSent pre) v w.sent in
     both_ways _ c (home_committed splits before after h pre (n, e) tx q.touched w (delivered splits before after pre (Decide to tx home true) stamp b.fated z r) a)
 
-pub all_found : (splits : List ℕ) (before after : List (List LogRecord)) (h : History) → may_open splits before ≡ true → Legal splits before h after → OpensClear splits before → AllFound before h after
-all_found splits before after h m l k pre n e later tx to home stamp q v o c =
+pub all_found : (splits : List ℕ) (before after : List (List LogRecord)) (h : History) → may_open splits before ≡ true → Legal splits before h after → AllFound before h after
+all_found splits before after h m l pre n e later tx to home stamp q v o c =
     let w = next_at splits before after h pre (n, e) later l q in
     let b = bindings_front splits before after h pre ((n, e) ∷ later) m l q in
     let first = due_at splits before after h pre (n, e) tx to home stamp w b v c in
     record {
       due = first.0;
-      unfallen = commits_spare_the_fallen splits before after h m l k pre n e later tx to home stamp q v o c;
+      unfallen = commits_spare_the_fallen splits before after h m l pre n e later tx to home stamp q v o c;
       wrote = first.1;
       decided = λ r x u. undecided_away splits before after h pre n e tx to home stamp r w b v c x u;
     }

@@ -196,7 +196,7 @@ begins splits before after n s = record { leads = opens s; remembers = record { 
 pub at_front : (splits : List ℕ) (before : List (List LogRecord)) (h : History) (after : List (List LogRecord)) (so_far rest : History) (n : ℕ) → may_open splits before ≡ true → Legal splits before h after → OpensClear splits before → so_far ++ rest ≡ h → n < shard_count splits
     → At before after so_far n
 at_front splits before h after so_far rest n m l d q i =
-    walk splits before after h [] so_far rest n m l (all_found splits before after h m l d) (drops_spared splits before after h m l) q i (begins splits before after n (may_serve splits before n m (let e = (l.each_log).0 in omega (arith, e, i)) (d n i)))
+    walk splits before after h [] so_far rest n m l (all_found splits before after h m l) (drops_spared splits before after h m l) q i (begins splits before after n (may_serve splits before n m (let e = (l.each_log).0 in omega (arith, e, i)) (d n i)))
 
 pub each_shard_leads : EachShardLeads
 each_shard_leads splits before h after so_far rest n m l d q i = (at_front splits before h after so_far rest n m l d q i).leads

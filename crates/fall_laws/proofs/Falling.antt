@@ -3,7 +3,6 @@ use Rattle.std.proofs.Common.{◌≡◌, ◌⊎◌, inl, inr, ⊎_elim, refl, sy
 use Rattle.std.specs.Prelude.{⊤, is_none}
 use Rattle.std.specs.List.{AllByRecursion, list_all}
 use Rattle.std.proofs.lemmas.Bool.{both_ways, false_from_ne_true, eq-eqb, and_parts}
-use Rattle.std.proofs.lemmas.List.{take_all}
 use Rattle.clv_base.specs.declared.names.TxId.{TxId}
 use Rattle.clv_base.specs.declared.names.Birth.{Birth}
 use Rattle.clv_base.specs.declared.ops.Op.{Op}
@@ -27,14 +26,14 @@ use Rattle.clv_base.specs.State.{Shard, is_present}
 use Rattle.clv_base.specs.Undo.{stage_of}
 use Rattle.clv_base.specs.OneShard.{OpReply, seen_fits, op_reply}
 use Rattle.clv_base.specs.Events.{Reply, QuietBeforeWorn, Does, op_event}
-use Rattle.clv_base.specs.Restarts.{run_after, restored_parts, restart_records, log_after_restart}
+use Rattle.clv_base.specs.Restarts.{run_after, log_after_restart}
 use Rattle.clv_base.specs.Sessions.{no_session}
-use Rattle.clv_base.specs.Journals.{start_of, History, own, event_state, after_entry, up_to_restart, EventMay}
+use Rattle.clv_base.specs.Journals.{History, own, event_state, after_entry, up_to_restart, EventMay}
 use Rattle.clv_base.specs.History.{Legal, WasSent}
 use Rattle.law_base.proofs.Changed.{none_some}
 use Rattle.law_base.proofs.Commits.{durable_committed}
 use Rattle.law_base.proofs.Rows.{rows_get}
-use Rattle.law_base.proofs.Tables.{stage_by, stage_in, pair_in}
+use Rattle.law_base.proofs.Tables.{stage_by, pair_in}
 use Rattle.clv_base.specs.Facts.{predecessors_of}
 use Rattle.protocol_laws.specs.SessionLaws.{tx_of}
 use Rattle.history_laws.proofs.Entering.{Makes, by_event, by_flush, by_failure, by_restart, makes}
@@ -45,9 +44,6 @@ use Rattle.history_laws.proofs.Staying.{walker_of, together}
 use Rattle.history_laws.proofs.TellingEvents.{front_committed}
 use Rattle.shard_laws.proofs.Dooming.{list_all_at}
 use Rattle.shard_laws.proofs.Following.{Follows, from_disorder}
-use Rattle.shard_laws.proofs.Listing.{order_of}
-use Rattle.shard_laws.proofs.Rebuilding.{found_more, plain_restart}
-use Rattle.shard_laws.proofs.Renewing.{found_self}
 use Rattle.shard_laws.proofs.Restoring.{restored_closed}
 use Rattle.one_shard_laws.proofs.OwningEvents.{OpIs, waits, no_room, dies, rolls, performs, reply_is}
 use Rattle.one_shard_laws.proofs.Dropping.{drop_after_request}
@@ -58,7 +54,7 @@ use Rattle.origin_laws.proofs.Events.{active_done}
 use Rattle.origin_laws.proofs.Entries.{Did, DidNow, DidAny, IsOld, Traced, traced_front}
 use Rattle.wait_laws.proofs.Tied.{Tied, LockOf, ListsAre, OpOwes, MayStand, tied_as, tied_happens, tied_flushed, tied_down, tied_revived, tied_opened}
 use Rattle.fate_laws.proofs.Prepares.{prepare_there, there_prepare}
-use Rattle.fate_laws.proofs.Prefixes.{Next, next_at, stays_as_it_was, AskedIn, asked_later, one_home, DurableIn, durable_later}
+use Rattle.fate_laws.proofs.Prefixes.{Next, next_at, stays_as_it_was, AskedIn, asked_later, one_home, DurableIn}
 use Rattle.fate_laws.proofs.Fates.{Fated, DeadIn, delivered, dead_later}
 use Rattle.fate_laws.proofs.Parts.{VoterIs}
 use Rattle.fate_laws.proofs.Binding.{Ordered, ordered_wrote}
@@ -67,7 +63,8 @@ use Rattle.fate_laws.proofs.Arriving.{due_at}
 use Rattle.fate_laws.proofs.Downwards.{owed as owed_down}
 use Rattle.fate_laws.proofs.Dooming.{Kept}
 use Rattle.fate_laws.proofs.Sparing.{Spared, spared_front}
-use Rattle.fall_laws.specs.Falls.{OpensClear}
+use Rattle.earlier_laws.specs.Earlier.{IsEarlier, WasCommitted}
+use Rattle.earlier_laws.proofs.Elders.{Elders, elders_front, delivered as elders_tell}
 use Rattle.fall_laws.proofs.BarredStep.{barred_same}
 use Rattle.fall_laws.proofs.Ahead.{Ahead, follows_ahead, whole_ahead}
 use Rattle.fall_laws.proofs.Barred.{Absent, Out, Lost, Barred, lost_inactive}
@@ -78,6 +75,14 @@ use Rattle.fall_laws.proofs.BarredMade.{Frame, barred_state, barred_made}
 
 abbrev pub DeadAway : List (List LogRecord) → List (List LogRecord) → History → TxId → Type 0
 DeadAway before after pre t = (t.run ≡ run_after before) × (m : ℕ) × DeadIn before after pre m t
+
+-- it is of an earlier run, and no log had its COMMIT at opening
+abbrev pub Forgone : List (List LogRecord) → TxId → Type 0
+Forgone before t = IsEarlier before t × (WasCommitted before t → ⊥)
+
+-- an abort of it may be told: it is committed nowhere
+abbrev pub Denied : List (List LogRecord) → List (List LogRecord) → History → TxId → Type 0
+Denied before after pre t = DeadAway before after pre t ⊎ Forgone before t
 
 -- it asked or is of an earlier run, or an operation of it was answered here
 abbrev pub Met : List (List LogRecord) → History → History → ℕ → TxId → Type 0
@@ -118,7 +123,7 @@ barred_more K K' V V' O O' Q s k v w o b =
 
 -- ---- fronts
 
-empty_front : (front rest : History) → front ++ rest ≡ [] → front ≡ []
+pub empty_front : (front rest : History) → front ++ rest ≡ [] → front ≡ []
 empty_front [] rest e = refl
 empty_front (x ∷ xs) rest e = absurd cc
 
@@ -128,7 +133,7 @@ same_first x y xs ys e = cc
 same_rest : (x y : Placed) (xs ys : History) → x ∷ xs ≡ y ∷ ys → xs ≡ ys
 same_rest x y xs ys e = cc
 
-last_front : (front rest pre : History) (e : Placed) → front ++ rest ≡ pre ++ e ∷ [] → (front ≡ pre ++ e ∷ []) ⊎ ((r : History) × (front ++ r ≡ pre))
+pub last_front : (front rest pre : History) (e : Placed) → front ++ rest ≡ pre ++ e ∷ [] → (front ≡ pre ++ e ∷ []) ⊎ ((r : History) × (front ++ r ≡ pre))
 last_front [] rest pre e q = inr (pre, refl)
 last_front (x ∷ xs) rest [] e q = inl (ap (λ z. z ∷ xs) (same_first x e (xs ++ rest) [] q) ∙ ap (λ z. e ∷ z) (empty_front xs rest (same_rest x e (xs ++ rest) [] q)))
 last_front (x ∷ xs) rest (y ∷ ys) e q =
@@ -151,12 +156,11 @@ pub record At (splits : List ℕ) (before after : List (List LogRecord)) (h pre 
   pub was : Spared splits before after h pre
   pub is : Spared splits before after h (pre ++ e ∷ [])
   pub traced : Traced (run_after before) pre e.0 (state_at before after e.0 pre)
-  pub clear : (n : ℕ) → n < shard_count splits → (start_of before n).local.parts ≡ []
+  pub elders : Elders splits before after pre
 
 pub record Stands (before after : List (List LogRecord)) (h pre : History) (n : ℕ) (s : Shard) : Type 0 where
   pub tied : Tied (λ t p. ⊤) s
-  pub barred : Barred (DeadAway before after pre) (WasOut before after pre n) (Met before pre pre n) (HomeHere h n) s
-  pub opened : (t : TxId) → DurableIn before after [] n t → DurableIn before after pre n t
+  pub barred : Barred (Denied before after pre) (WasOut before after pre n) (Met before pre pre n) (HomeHere h n) s
 
 -- who is prepared asked, at the home that its PREPARE names
 pub prepared_asked : (splits : List ℕ) (before after : List (List LogRecord)) (h f : History) (n : ℕ) → Legal splits before h after → ((y : Placed) → Among y f → Among y h) → Fated splits before after f → n < shard_count splits
@@ -234,7 +238,7 @@ met_before splits before after h pre e tx birth nth seen op x q f n (inr (ep, (b
     let same : ep ≡ s.local.epoch = eqb-true ep s.local.epoch (subst (λ z. seen_fits s.local.epoch z ≡ true) g.0 f) in
     ((x.traced).origins).known tx (subst (λ z. DidNow pre e.0 z tx) same (b, (y, i, p, a))) (none_held (tx_get tx s.local.parts) n)
 
-no_return : (splits : List ℕ) (before after : List (List LogRecord)) (h pre : History) (e : Placed) (tx : TxId) (birth : Birth) (nth : ℕ) (seen : Option ℕ) (op : Op) (a : Answer) (ep : ℕ) → At splits before after h pre e → (e.1).event ≡ OpEvent tx birth nth seen op → (e.1).outcome ≡ Answered a ep
+pub no_return : (splits : List ℕ) (before after : List (List LogRecord)) (h pre : History) (e : Placed) (tx : TxId) (birth : Birth) (nth : ℕ) (seen : Option ℕ) (op : Op) (a : Answer) (ep : ℕ) → At splits before after h pre e → (e.1).event ≡ OpEvent tx birth nth seen op → (e.1).outcome ≡ Answered a ep
     → Stands before after h pre e.0 (state_at before after e.0 pre) → WasOut before after pre e.0 tx ⊎ Out (Met before (pre ++ e ∷ []) pre e.0) (state_at before after e.0 pre) tx → ⊥
 no_return splits before after h pre e tx birth nth seen op a ep x q r k w = by_stage (answered_fits splits before after h pre e tx birth nth seen op a ep x.next q r) w
   where
@@ -283,11 +287,11 @@ dead_open : (before after : List (List LogRecord)) (pre : History) (m : ℕ) (tx
 dead_open before after pre m tx d = (d.1).0
 
 -- a commit that comes finds one that was never out
-pub decision_finds : (splits : List ℕ) (before after : List (List LogRecord)) (h pre : History) (e : Placed) (tx : TxId) (to home stamp : ℕ) (O : TxId → Type 0) → Next splits before after h pre e → Bindings splits before after h pre → (e.1).event ≡ Deliver (Decide to tx home true) stamp
+pub decision_finds : (splits : List ℕ) (before after : List (List LogRecord)) (h pre : History) (e : Placed) (tx : TxId) (to home stamp : ℕ) (O : TxId → Type 0) → Next splits before after h pre e → Bindings splits before after h pre → Elders splits before after pre → (e.1).event ≡ Deliver (Decide to tx home true) stamp
     → Stands before after h pre e.0 (state_at before after e.0 pre) → committed_in (state_at before after e.0 pre).local.log tx ≡ false → stage_of (state_at before after e.0 pre).local tx ≡ Some Closed
     → WasOut before after pre e.0 tx ⊎ Out O (state_at before after e.0 pre) tx → ⊥
-decision_finds splits before after h pre e tx to home stamp O w bs q k n c (inr o) = both_ways _ o.0 (subst (λ z. is_present z ≡ true) (sym c) refl)
-decision_finds splits before after h pre e tx to home stamp O w bs q k n c (inl v) = by_reason (((k.barred).why tx hh.0 (inl v) hh.1))
+decision_finds splits before after h pre e tx to home stamp O w bs es q k n c (inr o) = both_ways _ o.0 (subst (λ z. is_present z ≡ true) (sym c) refl)
+decision_finds splits before after h pre e tx to home stamp O w bs es q k n c (inl v) = by_reason (((k.barred).why tx hh.0 (inl v) hh.1))
   where
     hh : (p : ℕ × List TxId) × (prepare_of (state_at before after e.0 pre).local.log tx ≡ Some p) × (p.0 ≡ (state_at before after e.0 pre).shard → ⊥)
     hh = (k.barred).here tx v (subst (λ z. is_present z ≡ true) (sym c) refl)
@@ -302,6 +306,10 @@ decision_finds splits before after h pre e tx to home stamp O w bs q k n c (inl 
         let z = subst (λ j. DurableIn before after pre j tx) (same_home splits before after h pre e tx t.0 m w t.1 d.0) t.2 in
         both_ways _ (dead_open before after pre m tx d) (front_committed s.durable s.local.log tx z)
 
+    denied : Denied before after pre tx → ⊥
+    denied (inl (r, m, d)) = dead r m d
+    denied (inr (r, z)) = ⊎_elim r z (elders_tell splits before after pre (Decide to tx home true) stamp es (subst (WasSent pre) q w.sent))
+
     committed_then : (u : TxId) → tx_in u (hh.0).1 ≡ true → committed_in (state_at before after e.0 pre).local.log u ≡ true
     committed_then u i =
         let s = state_at before after e.0 pre in
@@ -309,32 +317,15 @@ decision_finds splits before after h pre e tx to home stamp O w bs q k n c (inl 
         ⊎_elim (λ z. durable_committed s.local.log s.durable u z) (λ z. list_all_at (committed_in s.local.log) u (predecessors_of s.local.pairs tx) due.0 (pair_in s.local.pairs tx u z))
         (((bs.parted e.0 w.inside).base).listed tx hh.0 u c hh.1 i)
 
-    by_reason : Lost (DeadAway before after pre) (WasOut before after pre e.0) (Met before pre pre e.0) (state_at before after e.0 pre) tx hh.0 → ⊥
+    by_reason : Lost (Denied before after pre) (WasOut before after pre e.0) (Met before pre pre e.0) (state_at before after e.0 pre) tx hh.0 → ⊥
     by_reason (inl (a, z)) = present z
     by_reason (inr (inl (a, z))) = present z
-    by_reason (inr (inr (inl (r, m, d)))) = dead r m d
+    by_reason (inr (inr (inl z))) = denied z
     by_reason (inr (inr (inr (u, i, inl z)))) = both_ways _ ((k.barred).open_ u z) (committed_then u i)
     by_reason (inr (inr (inr (u, i, inr z)))) = both_ways _ z.1 (committed_then u i)
 
--- one of an earlier run that isn't committed was out from the beginning
-old_out : (splits : List ℕ) (before after : List (List LogRecord)) (h pre : History) (n : ℕ) (tx : TxId) → n < shard_count splits → ((m : ℕ) → m < shard_count splits → (start_of before m).local.parts ≡ []) → Stands before after h pre n (state_at before after n pre) → (tx.run ≡ run_after before → ⊥)
-    → committed_in (state_at before after n pre).local.log tx ≡ false → WasOut before after pre n tx
-old_out splits before after h pre n tx i clear k r c =
-    let s = state_at before after n [] in (
-      [],
-      pre,
-      refl,
-      (
-        subst (λ ps. is_present (stage_in ps tx) ≡ false) (sym (clear n i)) refl,
-        false_from_ne_true _ (λ z.
-            let d = k.opened tx (subst (λ l. committed_in l tx ≡ true) (sym (take_all (length s.local.log) s.local.log (omega arith))) z) in
-            both_ways _ c (front_committed (state_at before after n pre).durable (state_at before after n pre).local.log tx d)),
-        inl (λ q. absurd (r q)),
-      ),
-    )
-
 owes : (splits : List ℕ) (before after : List (List LogRecord)) (h pre : History) (e : Placed) (ev : Event) (o : Outcome) → At splits before after h pre e → (e.1).event ≡ ev → (e.1).outcome ≡ o → WasSent pre ev → Stands before after h pre e.0 (state_at before after e.0 pre)
-    → Owes (DeadAway before after pre) (WasOut before after pre e.0) (Met before (pre ++ e ∷ []) pre e.0) (HomeHere h e.0) (state_at before after e.0 pre) ev o
+    → Owes (Denied before after pre) (WasOut before after pre e.0) (Met before (pre ++ e ∷ []) pre e.0) (HomeHere h e.0) (state_at before after e.0 pre) ev o
 owes splits before after h pre e (OpEvent tx birth nth seen op) o x q r sent k =
     let w = x.next in
     let s = state_at before after e.0 pre in
@@ -359,14 +350,17 @@ owes splits before after h pre e (Drop tx) o x q r sent k =
           let d = dropped_dead splits before after h pre e tx a.0 x q run a.1 in
           let m = same_home splits before after h pre e tx a.0 d.0 w a.1 (d.1).0 in
           both_ways _ (dead_open before after pre d.0 tx d.1) (subst (λ n. committed_in (state_at before after n pre).local.log tx ≡ true) m a.2)),
-      (λ p f. let d = dropped_dead splits before after h pre e tx p.0 x q run (((bs.fated).homed e.0 w.inside).prepares tx p f run) in (run, d.0, d.1)),
+      (λ p f. let d = dropped_dead splits before after h pre e tx p.0 x q run (((bs.fated).homed e.0 w.inside).prepares tx p f run) in inl (run, d.0, d.1)),
     )
-owes splits before after h pre e (Deliver (Decide to tx home true) stamp) o x q r sent k = λ n c v. decision_finds splits before after h pre e tx to home stamp (Met before (pre ++ e ∷ []) pre e.0) x.next ((x.was).lowered).bindings q k n c v
-owes splits before after h pre e (Deliver (Decide to tx home false) stamp) o x q r sent k = λ n. by_run (tx.run == run_after before) refl n
+owes splits before after h pre e (Deliver (Decide to tx home true) stamp) o x q r sent k = λ n c v. decision_finds splits before after h pre e tx to home stamp (Met before (pre ++ e ∷ []) pre e.0) x.next ((x.was).lowered).bindings x.elders q k n c v
+owes splits before after h pre e (Deliver (Decide to tx home false) stamp) o x q r sent k = λ n. inl (by_run (tx.run == run_after before) refl)
   where
-    by_run : (b : Bool) → (tx.run == run_after before) ≡ b → committed_in (state_at before after e.0 pre).local.log tx ≡ false → DeadAway before after pre tx ⊎ WasOut before after pre e.0 tx
-    by_run true f n = let run = eqb-true tx.run (run_after before) f in inl (run, home, delivered splits before after pre (Decide to tx home false) stamp (((x.was).lowered).bindings).fated sent run)
-    by_run false f n = inr (old_out splits before after h pre e.0 tx (x.next).inside x.clear k (λ r. both_ways _ f (eq-eqb tx.run (run_after before) r)) n)
+    this_run : tx.run ≡ run_after before → Denied before after pre tx
+    this_run run = inl (run, home, delivered splits before after pre (Decide to tx home false) stamp (((x.was).lowered).bindings).fated sent run)
+
+    by_run : (b : Bool) → (tx.run == run_after before) ≡ b → Denied before after pre tx
+    by_run true f = this_run (eqb-true tx.run (run_after before) f)
+    by_run false f = ⊎_elim this_run (λ z. inr ((λ r. both_ways _ f (eq-eqb tx.run (run_after before) r)), z)) (elders_tell splits before after pre (Decide to tx home false) stamp x.elders sent)
 owes splits before after h pre e _ o x q r sent k = tt
 
 -- ---- one entry more
@@ -424,20 +418,21 @@ module _ (splits : List ℕ) (before after : List (List LogRecord)) (h pre : His
   more_met : (u : TxId) → Met before pre pre e.0 u → Met before New pre e.0 u
   more_met u m = met_front before pre pre New pre e.0 u (λ j a. asked_later pre e u j a) (λ y i. i) m
 
-  barred_then : Barred (DeadAway before after pre) (WasOut before after pre e.0) (Met before New pre e.0) (HomeHere h e.0) T
+  barred_then : Barred (Denied before after pre) (WasOut before after pre e.0) (Met before New pre e.0) (HomeHere h e.0) T
   barred_then =
-      barred_made (DeadAway before after pre) (WasOut before after pre e.0) (Met before pre pre e.0) (Met before New pre e.0) (HomeHere h e.0) (log_of after e.0) S T (LockOf S.local.parts) made framed (λ u o. (pre, [], append-nil pre, o))
+      barred_made (Denied before after pre) (WasOut before after pre e.0) (Met before pre pre e.0) (Met before New pre e.0) (HomeHere h e.0) (log_of after e.0) S T (LockOf S.local.parts) made framed (λ u o. (pre, [], append-nil pre, o))
       (owed_down splits before after h pre e (e.1).event refl x.next ((x.was).lowered).bindings) (owes splits before after h pre e (e.1).event (e.1).outcome x refl refl (x.next).sent k) k.barred
-      (barred_more (DeadAway before after pre) (DeadAway before after pre) (WasOut before after pre e.0) (WasOut before after pre e.0) (Met before pre pre e.0) (Met before New pre e.0) (HomeHere h e.0) S (λ u z. z) (λ u z. z) (λ u z. inl z) more_met k.barred)
+      (barred_more (Denied before after pre) (Denied before after pre) (WasOut before after pre e.0) (WasOut before after pre e.0) (Met before pre pre e.0) (Met before New pre e.0) (HomeHere h e.0) S (λ u z. z) (λ u z. z) (λ u z. inl z) more_met k.barred)
 
-  barred_state_then : Barred (DeadAway before after pre) (WasOut before after pre e.0) (Met before New pre e.0) (HomeHere h e.0) (state_at before after e.0 New)
+  barred_state_then : Barred (Denied before after pre) (WasOut before after pre e.0) (Met before New pre e.0) (HomeHere h e.0) (state_at before after e.0 New)
   barred_state_then =
       let c = barred_then in
-      subst (Barred (DeadAway before after pre) (WasOut before after pre e.0) (Met before New pre e.0) (HomeHere h e.0)) (sym ((x.next).split).next)
-      (barred_same (DeadAway before after pre) (WasOut before after pre e.0) (Met before New pre e.0) (HomeHere h e.0) T (after_entry (log_of after e.0) S e.1) refl refl refl c.rows c.readers c)
+      subst (Barred (Denied before after pre) (WasOut before after pre e.0) (Met before New pre e.0) (HomeHere h e.0)) (sym ((x.next).split).next)
+      (barred_same (Denied before after pre) (WasOut before after pre e.0) (Met before New pre e.0) (HomeHere h e.0) T (after_entry (log_of after e.0) S e.1) refl refl refl c.rows c.readers c)
 
-  dead_more : (u : TxId) → DeadAway before after pre u → DeadAway before after New u
-  dead_more u (r, m, d) = (r, m, dead_later splits before after h pre e x.next (((x.was).lowered).bindings).fated m u r d)
+  denied_more : (u : TxId) → Denied before after pre u → Denied before after New u
+  denied_more u (inl (r, m, d)) = inl (r, m, dead_later splits before after h pre e x.next (((x.was).lowered).bindings).fated m u r d)
+  denied_more u (inr z) = inr z
 
   out_more : (n : ℕ) (u : TxId) → WasOut before after pre n u → WasOut before after New n u
   out_more n u (front, rest, q, o) = (front, rest ++ e ∷ [], sym (append_assoc front rest (e ∷ [])) ∙ ap (λ z. z ++ e ∷ []) q, o)
@@ -445,16 +440,12 @@ module _ (splits : List ℕ) (before after : List (List LogRecord)) (h pre : His
   out_split : (n : ℕ) (u : TxId) → WasOut before after New n u → WasOut before after pre n u ⊎ Out (Met before New New n) (state_at before after n New) u
   out_split n u (front, rest, q, o) = ⊎_elim (λ f. inr (subst (λ z. Out (Met before z z n) (state_at before after n z) u) f o)) (λ r. inl (front, r.0, r.1, o)) (last_front front rest pre e q)
 
-  opened_more : (n : ℕ) → ((t : TxId) → DurableIn before after [] n t → DurableIn before after pre n t) → (t : TxId) → DurableIn before after [] n t → DurableIn before after New n t
-  opened_more n o t d = durable_later splits before after h pre e x.next ((((x.was).lowered).bindings).fated.counts) n t (o t d)
-
   pub stands_here : Stands before after h New e.0 (state_at before after e.0 New)
   stands_here =
       record {
         tied = tied_as (λ t p. ⊤) T (state_at before after e.0 New) (ap (λ (z : Shard). z.local) ((x.next).split).next) (tied_made (log_of after e.0) S T made (op_owes splits before after h pre e (e.1).event (e.1).outcome x refl refl) k.tied);
-        barred = barred_more (DeadAway before after pre) (DeadAway before after New) (WasOut before after pre e.0) (WasOut before after New e.0) (Met before New pre e.0) (Met before New New e.0) (HomeHere h e.0) (state_at before after e.0 New) dead_more (out_more e.0) (out_split e.0)
+        barred = barred_more (Denied before after pre) (Denied before after New) (WasOut before after pre e.0) (WasOut before after New e.0) (Met before New pre e.0) (Met before New New e.0) (HomeHere h e.0) (state_at before after e.0 New) denied_more (out_more e.0) (out_split e.0)
             (λ u m. met_front before New pre New New e.0 u (λ j a. a) (λ y i. among_left y pre (e ∷ []) i) m) barred_state_then;
-        opened = opened_more e.0 k.opened;
       }
 
   pub stands_there : (n : ℕ) → (e.0 == n) ≡ false → Stands before after h pre n (state_at before after n pre) → Stands before after h New n (state_at before after n New)
@@ -463,10 +454,9 @@ module _ (splits : List ℕ) (before after : List (List LogRecord)) (h pre : His
       subst (Stands before after h New n) (sym z)
       (record {
         tied = o.tied;
-        barred = barred_more (DeadAway before after pre) (DeadAway before after New) (WasOut before after pre n) (WasOut before after New n) (Met before pre pre n) (Met before New New n) (HomeHere h n) (state_at before after n pre) dead_more (out_more n)
+        barred = barred_more (Denied before after pre) (Denied before after New) (WasOut before after pre n) (WasOut before after New n) (Met before pre pre n) (Met before New New n) (HomeHere h n) (state_at before after n pre) denied_more (out_more n)
             (λ u v. ⊎_elim (λ y. inl y) (λ y. inr (subst (λ s. Out (Met before New New n) s u) z y)) (out_split n u v))
             (λ u m. met_front before pre pre New New n u (λ j a. asked_later pre e u j a) (λ y i. among_left y pre (e ∷ []) i) m) o.barred;
-        opened = opened_more n o.opened;
       })
 
 -- ---- when the shards open
@@ -489,7 +479,7 @@ none_of : {X : Type 0} (o : Option X) → is_none o ≡ true → o ≡ None
 none_of None e = refl
 none_of (Some x) e = absurd (both_ways false refl e)
 
-log_follows : (splits : List ℕ) (before : List (List LogRecord)) (n : ℕ) → may_open splits before ≡ true → n < length before → Follows n [] (log_of before n)
+pub log_follows : (splits : List ℕ) (before : List (List LogRecord)) (n : ℕ) → may_open splits before ≡ true → n < length before → Follows n [] (log_of before n)
 log_follows splits before n m l =
     let p = and_parts (all_logs_from 0 (log_passes splits) before) (is_none (apart before)) m in
     let q = each_passes (log_passes splits) 0 n before p.0 l in
@@ -499,13 +489,6 @@ log_follows splits before n m l =
 log_ahead : (splits : List ℕ) (before : List (List LogRecord)) (n : ℕ) → may_open splits before ≡ true → n < length before → Ahead [] (log_of before n)
 log_ahead splits before n m l = follows_ahead n [] (log_of before n) (log_follows splits before n m l)
 
--- where nothing is in doubt no part is restored
-clear_parts : (splits : List ℕ) (before : List (List LogRecord)) (n : ℕ) → may_open splits before ≡ true → n < length before → in_doubt n (log_of before n) ≡ [] → (start_of before n).local.parts ≡ []
-clear_parts splits before n m l c =
-    let log = log_of before n in
-    let f = found_more n log log (restart_records n log (run_after before) 0) (found_self n log (order_of n log (log_follows splits before n m l))) (plain_restart n log (run_after before) 0) in
-    ap restored_parts (f.doubts ∙ c)
-
 opens : (splits : List ℕ) (before after : List (List LogRecord)) (h : History) (n : ℕ) → may_open splits before ≡ true → Legal splits before h after → n < shard_count splits → Stands before after h [] n (state_at before after n [])
 opens splits before after h n o l i =
     let run = run_after before in
@@ -513,13 +496,12 @@ opens splits before after h n o l i =
     let bs = bindings_front splits before after h [] h o l refl in
     record {
       tied = tied_opened (λ t p. ⊤) n (run_after before) (log_of before n) (all_tied (log_of before n));
-      barred = barred_state (DeadAway before after []) (WasOut before after [] n) (Met before [] [] n) (HomeHere h n) n (run_after before) 0 log 0 []
+      barred = barred_state (Denied before after []) (WasOut before after [] n) (Met before [] [] n) (HomeHere h n) n (run_after before) 0 log 0 []
           (whole_ahead n (log_of before n) (run_after before) 0 (log_ahead splits before n o (let e = (l.each_log).0 in omega (arith, e, i))))
           (λ u c. ordered_wrote log u ((bs.parted n i).base).ordered c)
           (λ u p c. let r = prepared_asked splits before after h [] n l (λ y j. elim j [ ]) bs.fated i u p c in (inl r.0, r.1))
           (λ u v. (first u v).1)
           (λ u p v j c. absurd (both_ways _ (first u v).0 (ap is_present (restored_closed (in_doubt n log) u j))));
-      opened = λ t d. d;
     }
   where
     first : (u : TxId) → WasOut before after [] n u → Out (Met before [] [] n) (state_at before after n []) u
@@ -537,29 +519,32 @@ walk_on P h done (e ∷ pre) post q k p =
 StandsAll : (splits : List ℕ) (before after : List (List LogRecord)) (h pre : History) → Type 0
 StandsAll splits before after h pre = (n : ℕ) → n < shard_count splits → Stands before after h pre n (state_at before after n pre)
 
-next_stands : (splits : List ℕ) (before after : List (List LogRecord)) (h pre : History) (e : Placed) (post : History) → may_open splits before ≡ true → Legal splits before h after → OpensClear splits before → pre ++ e ∷ post ≡ h → StandsAll splits before after h pre → StandsAll splits before after h (pre ++ e ∷ [])
-unfolding StandsAll
-next_stands splits before after h pre e post o l c q k n i = at (e.0 == n) refl
-  where
-    later : (pre ++ e ∷ []) ++ post ≡ h
-    later = append_assoc pre (e ∷ []) post ∙ q
+-- what is known of an entry, and of the fronts before and behind it
+pub entry_at : (splits : List ℕ) (before after : List (List LogRecord)) (h pre : History) (e : Placed) (post : History) → may_open splits before ≡ true → Legal splits before h after → pre ++ e ∷ post ≡ h → At splits before after h pre e
+entry_at splits before after h pre e post o l q =
+    let w = next_at splits before after h pre e post l q in
+    let later : (pre ++ e ∷ []) ++ post ≡ h = append_assoc pre (e ∷ []) post ∙ q in
+    record {
+      next = w;
+      behind = (next_entry splits before after h pre e post l q).behind;
+      inside = λ y j. subst (Among y) later (among_left y (pre ++ e ∷ []) post j);
+      was = spared_front splits before after h pre (e ∷ post) o l q;
+      is = spared_front splits before after h (pre ++ e ∷ []) post o l later;
+      traced = (traced_front splits before after h pre (e ∷ post) o l q).states e.0 w.inside;
+      elders = elders_front splits before after h pre (e ∷ post) o l q;
+    }
 
+next_stands : (splits : List ℕ) (before after : List (List LogRecord)) (h pre : History) (e : Placed) (post : History) → may_open splits before ≡ true → Legal splits before h after → pre ++ e ∷ post ≡ h → StandsAll splits before after h pre → StandsAll splits before after h (pre ++ e ∷ [])
+unfolding StandsAll
+next_stands splits before after h pre e post o l q k n i = at (e.0 == n) refl
+  where
     x : At splits before after h pre e
-    x =
-        record {
-          next = next_at splits before after h pre e post l q;
-          behind = (next_entry splits before after h pre e post l q).behind;
-          inside = λ y j. subst (Among y) (append_assoc pre (e ∷ []) post ∙ q) (among_left y (pre ++ e ∷ []) post j);
-          was = spared_front splits before after h pre (e ∷ post) o l q;
-          is = spared_front splits before after h (pre ++ e ∷ []) post o l (append_assoc pre (e ∷ []) post ∙ q);
-          traced = (traced_front splits before after h pre (e ∷ post) o l q).states e.0 (next_at splits before after h pre e post l q).inside;
-          clear = λ m j. clear_parts splits before m o (let e = (l.each_log).0 in omega (arith, e, j)) (c m j);
-        }
+    x = entry_at splits before after h pre e post o l q
 
     at : (b : Bool) → (e.0 == n) ≡ b → Stands before after h (pre ++ e ∷ []) n (state_at before after n (pre ++ e ∷ []))
     at true f = subst (λ m. Stands before after h (pre ++ e ∷ []) m (state_at before after m (pre ++ e ∷ []))) (eqb-true e.0 n f) (stands_here splits before after h pre e x (k e.0 (x.next).inside))
     at false f = stands_there splits before after h pre e x (k e.0 (x.next).inside) n f (k n i)
 
-pub stands_front : (splits : List ℕ) (before after : List (List LogRecord)) (h pre post : History) → may_open splits before ≡ true → Legal splits before h after → OpensClear splits before → pre ++ post ≡ h → (n : ℕ) → n < shard_count splits → Stands before after h pre n (state_at before after n pre)
+pub stands_front : (splits : List ℕ) (before after : List (List LogRecord)) (h pre post : History) → may_open splits before ≡ true → Legal splits before h after → pre ++ post ≡ h → (n : ℕ) → n < shard_count splits → Stands before after h pre n (state_at before after n pre)
 unfolding StandsAll
-stands_front splits before after h pre post o l c q n i = walk_on (StandsAll splits before after h) h [] pre post q (λ f e r z k. next_stands splits before after h f e r o l c z k) (λ m j. opens splits before after h m o l j) n i
+stands_front splits before after h pre post o l q n i = walk_on (StandsAll splits before after h) h [] pre post q (λ f e r z k. next_stands splits before after h f e r o l z k) (λ m j. opens splits before after h m o l j) n i

@@ -1,5 +1,5 @@
 -- Who fell on a shard is not committed there, and no commit finds it.
-use Rattle.std.proofs.Common.{◌≡◌, inl, inr, refl, sym, ap, subst, ◌∙◌, ℕ, ◌<◌, true, false, cond, Bool, ◌&&◌, ◌==◌, List, [], ◌∷◌, ◌++◌, Option, Some, None, append_assoc, append-nil, arith}
+use Rattle.std.proofs.Common.{◌≡◌, inl, inr, refl, sym, ap, subst, ◌∙◌, ℕ, ◌<◌, true, false, cond, Bool, ◌&&◌, ◌==◌, List, [], ◌∷◌, ◌++◌, Option, Some, None, append_assoc, append-nil}
 use Rattle.std.proofs.lemmas.Bool.{both_ways}
 use Rattle.clv_base.specs.declared.names.TxId.{TxId}
 use Rattle.clv_base.specs.declared.logs.LogRecord.{LogRecord}
@@ -19,49 +19,36 @@ use Rattle.clv_base.specs.Undo.{stage_of}
 use Rattle.clv_base.specs.Facts.{facts_of, is_waiting, has_durable_commit}
 use Rattle.clv_base.specs.Participant.{taken_if, taken_by}
 use Rattle.clv_base.specs.Events.{Reply, QuietBeforeWorn, Does, on_decide, deliver_event}
-use Rattle.clv_base.specs.Restarts.{run_after}
 use Rattle.clv_base.specs.Journals.{History, EventMay}
 use Rattle.clv_base.specs.History.{Legal}
 use Rattle.law_base.proofs.Commits.{durable_committed}
-use Rattle.law_base.proofs.Rows.{rows_get}
 use Rattle.history_laws.proofs.Merging.{Placed, among_left, is_among}
 use Rattle.history_laws.proofs.Worlds.{state_at}
-use Rattle.origin_laws.proofs.Sessions.{Requested}
-use Rattle.origin_laws.proofs.Origins.{stage_row, part_of, PartFrom, StageFrom, SomeRequest}
-use Rattle.origin_laws.proofs.Events.{active_done}
-use Rattle.origin_laws.proofs.Entries.{Did, IsOld, Traced, traced_front}
-use Rattle.fate_laws.proofs.Prefixes.{Next, next_at, one_home}
+use Rattle.fate_laws.proofs.Prefixes.{Next, next_at, asked_later, one_home}
 use Rattle.fate_laws.specs.Decisions.{is_left}
 use Rattle.fate_laws.proofs.Deciding.{left_committed, commits_stand_at_home}
 use Rattle.fate_laws.proofs.Bindings.{bindings_front}
 use Rattle.fate_laws.proofs.Arriving.{taken_closed}
+use Rattle.earlier_laws.proofs.Elders.{elders_front}
 use Rattle.fall_laws.specs.Falls.{Fell, FallenAreUncommitted, CommitsFindTheUnfallen, CommittedNeverFell, MembersNeverFellAtHome}
 use Rattle.shard_laws.specs.OneShard.{is_doomed}
 use Rattle.fate_laws.proofs.Sparing.{spared_front}
 use Rattle.fall_laws.proofs.Known.{parts_met}
-use Rattle.fall_laws.proofs.Falling.{Met, WasOut, decision_finds, stands_front}
+use Rattle.fall_laws.proofs.Falling.{Met, met_front, WasOut, decision_finds, stands_front}
 
 -- ---- who fell was out
 
--- whose part is here asked, or is of an earlier run, or an operation of it was answered here
-part_met : (before : List (List LogRecord)) (f : History) (e : Placed) (n : ℕ) (s : Shard) (tx : TxId) → Traced (run_after before) f n s → (o : Option Stage) → stage_of s.local tx ≡ o → is_present o ≡ true → Met before (f ++ e ∷ []) (f ++ e ∷ []) n tx
-part_met before f e n s tx k None q h = absurd (both_ways false refl h)
-part_met before f e n s tx k (Some (Gone d)) q h = absurd (both_ways false refl h)
-part_met before f e n s tx k (Some Active) q h =
-    let r = stage_row s.local.parts tx Active q in
-    let g = rows_get (λ z. PartFrom (Did f n s.local.epoch) (SomeRequest (Requested f) (IsOld (run_after before))) z.0 z.1) tx r.0 s.local.parts (k.origins).parts r.1 in
-    let d = active_done (Did f n s.local.epoch) (r.0).is_restored tx (r.0).birth g.0 (subst (StageFrom (SomeRequest (Requested f) (IsOld (run_after before))) (r.0).is_restored tx) r.2 g.1) in
-    inr (s.local.epoch, ((r.0).birth, (d.0, among_left d.0 f (e ∷ []) d.1, d.2, d.3)))
-part_met before f e n s tx k (Some Closed) q h = by_request (part_of n s.local.epoch _ _ _ _ _ s tx Closed k.origins q).3
-  where
-    by_request : SomeRequest (Requested f) (IsOld (run_after before)) tx → Met before (f ++ e ∷ []) (f ++ e ∷ []) n tx
-    by_request (inl (m, (r, ts, i, a, p))) = inl (λ z. (r.0, (r.1, ts, among_left r f (e ∷ []) i, a)))
-    by_request (inr o) = inl (λ z. absurd (omega (arith, o, z)))
-
-fell_out : (splits : List ℕ) (before after : List (List LogRecord)) (h pre post : History) (n : ℕ) (tx : TxId) → may_open splits before ≡ true → Legal splits before h after → pre ++ post ≡ h → n < shard_count splits → Fell before pre after n tx → WasOut before after pre n tx
+pub fell_out : (splits : List ℕ) (before after : List (List LogRecord)) (h pre post : History) (n : ℕ) (tx : TxId) → may_open splits before ≡ true → Legal splits before h after → pre ++ post ≡ h → n < shard_count splits → Fell before pre after n tx → WasOut before after pre n tx
 fell_out splits before after h pre post n tx o l q i (inl (f, e, rest, z, ev, (there, gone, open_))) =
-    let k = (traced_front splits before after h f ((n, e) ∷ rest ++ post) o l (sym (append_assoc f ((n, e) ∷ rest) post) ∙ ap (λ y. y ++ post) z ∙ q)).states n i in
-    (f ++ (n, e) ∷ [], rest, append_assoc f ((n, e) ∷ []) rest ∙ z, (gone, open_, part_met before f (n, e) n (state_at before after n f) tx k (stage_of (state_at before after n f).local tx) refl there))
+    (f ++ (n, e) ∷ [], rest, append_assoc f ((n, e) ∷ []) rest ∙ z, (gone, open_, met (stage_of (state_at before after n f).local tx) refl there))
+  where
+    whole : f ++ ((n, e) ∷ rest ++ post) ≡ h
+    whole = sym (append_assoc f ((n, e) ∷ rest) post) ∙ ap (λ y. y ++ post) z ∙ q
+
+    met : (o2 : Option Stage) → stage_of (state_at before after n f).local tx ≡ o2 → is_present o2 ≡ true → Met before (f ++ (n, e) ∷ []) (f ++ (n, e) ∷ []) n tx
+    met None g y = absurd (both_ways false refl y)
+    met (Some st) g y =
+        met_front before f f (f ++ (n, e) ∷ []) (f ++ (n, e) ∷ []) n tx (λ j a. asked_later f (n, e) tx j a) (λ v j. among_left v f ((n, e) ∷ []) j) (parts_met splits before after h f ((n, e) ∷ rest ++ post) o l whole n i tx st g)
 fell_out splits before after h pre post n tx o l q i (inr (f, rest, z, d)) = by_stage (stage_of (state_at before after n f).local tx) refl d
   where
     whole : f ++ (rest ++ post) ≡ h
@@ -84,9 +71,9 @@ fell_out splits before after h pre post n tx o l q i (inr (f, rest, z, d)) = by_
     by_stage None g y = absurd (both_ways false refl y)
 
 pub fallen_are_uncommitted : FallenAreUncommitted
-fallen_are_uncommitted splits before so_far later after n tx o l c i f =
+fallen_are_uncommitted splits before so_far later after n tx o l i f =
     let h = so_far ++ later in
-    ((stands_front splits before after h so_far later o l c refl n i).barred).open_ tx (fell_out splits before after h so_far later n tx o l refl i f)
+    ((stands_front splits before after h so_far later o l refl n i).barred).open_ tx (fell_out splits before after h so_far later n tx o l refl i f)
 
 -- ---- a commit that is taken comes to a closed part
 
@@ -116,22 +103,22 @@ taken_at splits before after h pre e tx to home stamp w q o n =
     by_up s m.0 tx to home s.is_up n m.1
 
 pub commits_find_the_unfallen : CommitsFindTheUnfallen
-commits_find_the_unfallen splits before so_far n e later after tx to home stamp o l c q t u f =
+commits_find_the_unfallen splits before so_far n e later after tx to home stamp o l q t u f =
     let h = so_far ++ (n, e) ∷ later in
     let w = next_at splits before after h so_far (n, e) later l refl in
-    decision_finds splits before after h so_far (n, e) tx to home stamp (Met before so_far so_far n) w (bindings_front splits before after h so_far ((n, e) ∷ later) o l refl) q
-    (stands_front splits before after h so_far ((n, e) ∷ later) o l c refl n w.inside) u (taken_at splits before after h so_far (n, e) tx to home stamp w q t u)
+    decision_finds splits before after h so_far (n, e) tx to home stamp (Met before so_far so_far n) w (bindings_front splits before after h so_far ((n, e) ∷ later) o l refl) (elders_front splits before after h so_far ((n, e) ∷ later) o l refl) q
+    (stands_front splits before after h so_far ((n, e) ∷ later) o l refl n w.inside) u (taken_at splits before after h so_far (n, e) tx to home stamp w q t u)
     (inl (fell_out splits before after h so_far ((n, e) ∷ later) n tx o l refl w.inside f))
 
 -- ---- what is left
 
 pub committed_never_fell : CommittedNeverFell
-committed_never_fell splits before h after choice n tx o l c i left f =
-    both_ways _ (((stands_front splits before after h h [] o l c (append-nil h) n i).barred).open_ tx (fell_out splits before after h h [] n tx o l (append-nil h) i f)) (left_committed splits before h after choice n tx i left)
+committed_never_fell splits before h after choice n tx o l i left f =
+    both_ways _ (((stands_front splits before after h h [] o l (append-nil h) n i).barred).open_ tx (fell_out splits before after h h [] n tx o l (append-nil h) i f)) (left_committed splits before h after choice n tx i left)
 
 pub members_never_fell_at_home : MembersNeverFellAtHome
-members_never_fell_at_home splits before h after choice n home tx o l c i j r left (e, ts, a, ev, out) f =
+members_never_fell_at_home splits before h after choice n home tx o l i j r left (e, ts, a, ev, out) f =
     let k = commits_stand_at_home splits before h after choice n tx o l i r left in
     let b = k.1 in
     let same = one_home splits before after h tx k.0 home b.0 e b.1 ts l (is_among k.0 b.0 h b.2) (b.3, b.4) (is_among home e h a) (ev, out) in
-    committed_never_fell splits before h after choice home tx o l c j (subst (λ m. is_left splits before h after choice m tx ≡ true) same k.2) f
+    committed_never_fell splits before h after choice home tx o l j (subst (λ m. is_left splits before h after choice m tx ≡ true) same k.2) f

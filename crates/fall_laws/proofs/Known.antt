@@ -70,7 +70,7 @@ finish_none : (t : TxId) (s : Shard) → stage_of s.local t ≡ None → stage_o
 finish_none t s h = settled (λ z. stage_of z.local t ≡ None) s (due_none t) h
 
 -- an operation of it was answered
-abbrev DoesNow : TxId → Event → Outcome → Type 0
+abbrev pub DoesNow : TxId → Event → Outcome → Type 0
 DoesNow t e o = (birth : Birth) × (nth : ℕ) × (seen : Option ℕ) × (op : Op) × (a : Answer) × (ep : ℕ) × (e ≡ OpEvent t birth nth seen op) × (o ≡ Answered a ep)
 
 died_none : (l m : Local) (u : TxId) (birth : Birth) (seen : Option ℕ) (op : Op) (c : AbortCause) (t : TxId) → OpIs l u birth seen op (OpDies c m) → stage_of l t ≡ None → stage_of m t ≡ None
@@ -119,7 +119,7 @@ step_none s _ t (asked u from stamp) h = inl h
 step_none s _ t (reminds m ms g c) h = inl h
 step_none s _ t (flushes k g c) h = inl h
 
-none_made : (log : List LogRecord) (s x : Shard) {e : Event} {o : Outcome} (t : TxId) → Makes log s e o x → stage_of s.local t ≡ None → (stage_of x.local t ≡ None) ⊎ ((prepared_in x.local.log t ≡ true) ⊎ DoesNow t e o)
+pub none_made : (log : List LogRecord) (s x : Shard) {e : Event} {o : Outcome} (t : TxId) → Makes log s e o x → stage_of s.local t ≡ None → (stage_of x.local t ≡ None) ⊎ ((prepared_in x.local.log t ≡ true) ⊎ DoesNow t e o)
 none_made log s _ t (by_event g (finishes {t = y} u f)) h = ⊎_elim (λ k. inl (finish_none t y k)) (λ k. inr (inr k)) (step_none s y t f h)
 none_made log s _ t (by_event g (stops u)) h = inl h
 none_made log s _ t (by_flush n u f) h = inl (finish_none t (with_durable n s) h)

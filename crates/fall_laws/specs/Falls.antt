@@ -60,14 +60,14 @@ OpensClear splits before = (n : ℕ) → n < shard_count splits → in_doubt n (
 abbrev pub FallenAreUncommitted : Type 0
 FallenAreUncommitted =
     (splits : List ℕ) (before : List (List LogRecord)) (so_far later : History) (after : List (List LogRecord)) (n : ℕ) (tx : TxId)
-    → may_open splits before ≡ true → Legal splits before (so_far ++ later) after → OpensClear splits before → n < shard_count splits
+    → may_open splits before ≡ true → Legal splits before (so_far ++ later) after → n < shard_count splits
     → Fell before so_far after n tx → committed_in (state_before before so_far after n).local.log tx ≡ false
 
 -- a commit that is decided, and is taken where it isn't in the log yet, finds a part that never fell there
 abbrev pub CommitsFindTheUnfallen : Type 0
 CommitsFindTheUnfallen =
     (splits : List ℕ) (before : List (List LogRecord)) (so_far : History) (n : ℕ) (e : Entry) (later : History) (after : List (List LogRecord)) (tx : TxId) (to home stamp : ℕ)
-    → may_open splits before ≡ true → Legal splits before (so_far ++ (n, e) ∷ later) after → OpensClear splits before
+    → may_open splits before ≡ true → Legal splits before (so_far ++ (n, e) ∷ later) after
     → e.event ≡ Deliver (Decide to tx home true) stamp → e.outcome ≡ Taken → committed_in (state_before before so_far after n).local.log tx ≡ false
     → Fell before so_far after n tx → ⊥
 
@@ -75,7 +75,7 @@ CommitsFindTheUnfallen =
 abbrev pub CommitsFindNoneFallen : Type 0
 CommitsFindNoneFallen =
     (splits : List ℕ) (before : List (List LogRecord)) (so_far : History) (n : ℕ) (e : Entry) (later : History) (after : List (List LogRecord)) (tx : TxId) (to home stamp : ℕ)
-    → may_open splits before ≡ true → Legal splits before (so_far ++ (n, e) ∷ later) after → OpensClear splits before
+    → may_open splits before ≡ true → Legal splits before (so_far ++ (n, e) ∷ later) after
     → e.event ≡ Deliver (Decide to tx home true) stamp → e.outcome ≡ Taken → committed_in (state_before before so_far after n).local.log tx ≡ false
     → tx_in tx (fallen_on before so_far after n) ≡ false
 
@@ -83,12 +83,12 @@ CommitsFindNoneFallen =
 abbrev pub CommittedNeverFell : Type 0
 CommittedNeverFell =
     (splits : List ℕ) (before : List (List LogRecord)) (h : History) (after : List (List LogRecord)) (choice : ℕ → Bool) (n : ℕ) (tx : TxId)
-    → may_open splits before ≡ true → Legal splits before h after → OpensClear splits before → n < shard_count splits
+    → may_open splits before ≡ true → Legal splits before h after → n < shard_count splits
     → is_left splits before h after choice n tx ≡ true → Fell before h after n tx → ⊥
 
 -- nor at its home, where a COMMIT of it is left on any shard
 abbrev pub MembersNeverFellAtHome : Type 0
 MembersNeverFellAtHome =
     (splits : List ℕ) (before : List (List LogRecord)) (h : History) (after : List (List LogRecord)) (choice : ℕ → Bool) (n home : ℕ) (tx : TxId)
-    → may_open splits before ≡ true → Legal splits before h after → OpensClear splits before → n < shard_count splits → home < shard_count splits → tx.run ≡ run_after before
+    → may_open splits before ≡ true → Legal splits before h after → n < shard_count splits → home < shard_count splits → tx.run ≡ run_after before
     → is_left splits before h after choice n tx ≡ true → IsHome h tx home → Fell before h after home tx → ⊥

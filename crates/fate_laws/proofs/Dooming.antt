@@ -163,6 +163,10 @@ abort_open s tx q _ cause to p g (abort {cause = c} u r) e =
     let d = doomed_by_facts tx c (stage_of s.local tx) w in
     both_ways _ (p.gone tx d.0 d.1) k)
 
+-- an abort is ruled of one that has no COMMIT
+pub refused_open : (s : Shard) (tx : TxId) (q : Request) (cause : AbortCause) (to : List ℕ) → Kept s → tx_get tx s.requests ≡ Some q → ruling_by s.shard tx q (facts_of s tx) ≡ Some (AbortVerdict cause to) → committed_in s.local.log tx ≡ false
+refused_open s tx q cause to p g e = abort_open s tx q (ruling_by s.shard tx q (facts_of s tx)) cause to p g (ruling_is s.shard tx q (facts_of s tx) q.state refl) e
+
 -- ---- each thing that is due
 
 set_rows : (s : Shard) (log : List LogRecord) (tx : TxId) (w : Request) → RowKeeps log tx w w.state → ((u : TxId) → (u ≡ tx → ⊥) → committed_in log u ≡ true → committed_in s.local.log u ≡ true) → Kept s
@@ -186,7 +190,7 @@ commit_apart s tx v d parts c p e =
     differ : Some Closed ≡ Some (Gone (Some d)) → ⊥
     differ z = absurd cc
 
-agreed_waits : (shard : ℕ) (q : Request) (f : PartFacts) → is_agreed shard q f ≡ true → is_waiting f ≡ true
+pub agreed_waits : (shard : ℕ) (q : Request) (f : PartFacts) → is_agreed shard q f ≡ true → is_waiting f ≡ true
 agreed_waits shard q f a = (and_parts (is_waiting f) (f.undecided == 0) (and_parts (is_waiting f && (f.undecided == 0)) (list_all (λ p. is_good (vote_from p q.votes)) (others shard q.touched)) a).0).0
 
 pub kept_due : KeptByDue Kept
@@ -209,7 +213,7 @@ kept_due s _ (rules u q Acknowledge g e) p =
       rows = set_rows s s.local.log u (ruled_request Acknowledge q) tt (λ v n c. c) p;
     }
 kept_due s _ (rules u q (AbortVerdict cause to) g e) p =
-    let o = abort_open s u q (ruling_by s.shard u q (facts_of s u)) cause to p g (ruling_is s.shard u q (facts_of s u) q.state refl) e in
+    let o = refused_open s u q cause to p g e in
     record {
       down = down_due s _ (rules u q (AbortVerdict cause to) g e) p.down;
       gone = λ v d x. gone_rolled s u v d o p x;

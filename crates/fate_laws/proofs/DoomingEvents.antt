@@ -291,7 +291,7 @@ rows_step s t (flushes k g c) w p = p.rows
 
 -- ---- each entry
 
-kept_step : (s t : Shard) {e : Event} {o : Outcome} → Step s e o t → OwesDown s e → Owes s e → Kept s → Kept t
+pub kept_step : (s t : Shard) {e : Event} {o : Outcome} → Step s e o t → OwesDown s e → Owes s e → Kept s → Kept t
 kept_step s t h d w p = record { down = down_step s t h d p.down; gone = gone_step s t h w p; rows = rows_step s t h w p }
 
 kept_finish : (s : Shard) → Kept s → Kept (finish s)

@@ -3,14 +3,14 @@
 use Rattle.std.proofs.Common.{◌≡◌, ◌⊎◌, inl, inr, ⊎_elim, refl, sym, ap, subst, ◌∙◌, ℕ, zero, suc, ◌+◌, ◌<◌, true, false, cond, Bool, not, ◌||◌, ◌==◌, List, [], ◌∷◌, ◌++◌, Option, Some, None, is_none, length, arith, append_assoc, append-nil, eqb-true}
 use Rattle.std.specs.Prelude.{take}
 use Rattle.std.specs.List.{list_any, list_all}
-use Rattle.std.proofs.lemmas.Bool.{both_ways, and_parts, or_cases, or_left, or_right}
+use Rattle.std.proofs.lemmas.Bool.{both_ways, and_parts, not-true, or_cases, or_left, or_right}
 use Rattle.std.proofs.lemmas.List.{take-append-le, take_all}
 use Rattle.clv_base.specs.declared.names.TxId.{TxId}
 use Rattle.clv_base.specs.declared.logs.LogRecord.{LogRecord}
 use Rattle.clv_base.specs.declared.logs.LogRecord.TheVariants.{Update, Clr, Prepare, Commit, Abort, End, Restart}
 use Rattle.clv_base.specs.Orders.{tx_same, tx_in, tx_insert, tx_union, nat_in}
-use Rattle.clv_base.specs.Logs.{is_record_of, committed_in, prepared_in, wrote_in, prepare_of, is_prepare_of, is_update_of, commit_parts}
-use Rattle.clv_base.specs.LogRules.{since_restart, may_follow, disorder_from, disorder, log_of, all_logs_from, any_log_from, part_agrees, agrees_at, is_home_of, committed_of, committed_of_all, first_apart, apart, listed_in}
+use Rattle.clv_base.specs.Logs.{is_record_of, committed_in, prepared_in, aborted_in, wrote_in, prepare_of, is_prepare_of, is_update_of, commit_parts}
+use Rattle.clv_base.specs.LogRules.{since_restart, may_follow, disorder_from, disorder, log_of, all_logs_from, any_log_from, home_is, part_agrees, agrees_at, is_home_of, committed_of, committed_of_all, first_apart, apart, listed_in}
 use Rattle.clv_base.specs.FileRules.{may_open, log_passes, passes_file_rules}
 use Rattle.clv_base.proofs.SameNames.{tx_true, insert_keeps, insert_has}
 use Rattle.law_base.proofs.Commits.{place_there, place_new}
@@ -176,40 +176,81 @@ Settled log t p = (committed_in log t ≡ true) ⊎ ((q : TxId) → tx_in q p.1 
 part_settled : (t : TxId) (h : ℕ) (log : List LogRecord) (p : ℕ × List TxId) → part_agrees t h log ≡ true → prepare_of log t ≡ Some p → Settled log t p
 part_settled t h log p a e = inr (λ q i. tx_at (committed_in log) q (listed_in log t) (and_parts _ (list_all (committed_in log) (listed_in log t)) a).1 (subst (λ o. tx_in q (elim o [ Some x ↦ x.1 | None ↦ [] ]) ≡ true) (sym e) i))
 
-home_settled : (logs : List (List LogRecord)) (t : TxId) (h m : ℕ) (ps : List ℕ) (p : ℕ × List TxId) → m < length logs → commit_parts (log_of logs h) t ≡ Some ps → agrees_at logs t h (log_of logs h) ps ≡ true → prepare_of (log_of logs m) t ≡ Some p
-    → Settled (log_of logs m) t p
-home_settled logs t h m ps p l c a e = at (m == h) refl
+-- a PREPARE on another shard is of a part
+part_of_home : (logs : List (List LogRecord)) (t : TxId) (h m : ℕ) (ps : List ℕ) (p : ℕ × List TxId) → m < length logs → agrees_at logs t h (log_of logs h) ps ≡ true → prepare_of (log_of logs m) t ≡ Some p → (m == h) ≡ false
+    → part_agrees t h (log_of logs m) ≡ true
+part_of_home logs t h m ps p l a e q =
+    let x = and_parts _ _ a in
+    let y = and_parts _ _ x.0 in
+    let z = and_parts _ _ y.0 in
+    let w = each_passes (λ s other. (s == h) || not (list_any (is_record_of t) other) || nat_in s ps) 0 m logs z.1 l in
+    let v = subst (λ k. ((k == h) || not (list_any (is_record_of t) (log_of logs m)) || nat_in k ps) ≡ true) (zero_plus m) w in
+    nat_at (λ s. part_agrees t h (log_of logs s)) m ps y.1 (named (m == h) (list_any (is_record_of t) (log_of logs m)) (nat_in m ps) q (has_record (log_of logs m) t (prepare_there (log_of logs m) t p e)) v)
   where
-    at : (b : Bool) → (m == h) ≡ b → Settled (log_of logs m) t p
-    at true q = inl (subst (λ k. committed_in (log_of logs k) t ≡ true) (sym (eqb-true m h q)) (parts_committed (log_of logs h) t ps c))
-    at false q =
-        let x = and_parts _ _ a in
-        let y = and_parts _ _ x.0 in
-        let z = and_parts _ _ y.0 in
-        let w = each_passes (λ s other. (s == h) || not (list_any (is_record_of t) other) || nat_in s ps) 0 m logs z.1 l in
-        let v = subst (λ k. ((k == h) || not (list_any (is_record_of t) (log_of logs m)) || nat_in k ps) ≡ true) (zero_plus m) w in
-        part_settled t h (log_of logs m) p (nat_at (λ s. part_agrees t h (log_of logs s)) m ps y.1 (named (m == h) (list_any (is_record_of t) (log_of logs m)) (nat_in m ps) q (has_record (log_of logs m) t (prepare_there (log_of logs m) t p e)) v)) e
-      where
-        zero_plus : (m : ℕ) → 0 + m ≡ m
-        zero_plus m = omega arith
+    zero_plus : (m : ℕ) → 0 + m ≡ m
+    zero_plus m = omega arith
 
-        named : (a b c : Bool) → a ≡ false → b ≡ true → (a || not b || c) ≡ true → c ≡ true
-        named true b c n i v = absurd (both_ways true n refl)
-        named false true c n i v = v
-        named false false c n i v = absurd (both_ways false refl i)
+    named : (a b c : Bool) → a ≡ false → b ≡ true → (a || not b || c) ≡ true → c ≡ true
+    named true b c n i v = absurd (both_ways true n refl)
+    named false true c n i v = v
+    named false false c n i v = absurd (both_ways false refl i)
 
-home_is_settled : (logs : List (List LogRecord)) (t : TxId) (h m : ℕ) (p : ℕ × List TxId) (o : Option (List ℕ)) → m < length logs → commit_parts (log_of logs h) t ≡ o → elim o [ Some ps ↦ agrees_at logs t h (log_of logs h) ps | None ↦ false ] ≡ true
-    → prepare_of (log_of logs m) t ≡ Some p → Settled (log_of logs m) t p
-home_is_settled logs t h m p None l c a e = absurd (both_ways false refl a)
-home_is_settled logs t h m p (Some ps) l c a e = home_settled logs t h m ps p l c a e
+-- ---- the home of one that is committed somewhere, and the parts with a PREPARE
+
+home_at : (splits : List ℕ) (logs : List (List LogRecord)) (t : TxId) (n : ℕ) → may_open splits logs ≡ true → committed_in (log_of logs n) t ≡ true → (h : ℕ) × (is_home_of logs t h (log_of logs h) ≡ true)
+home_at splits logs t n o c =
+    let d = none_of (apart logs) (and_parts (all_logs_from 0 (log_passes splits) logs) (is_none (apart logs)) o).1 in
+    let a = which_log 0 (is_home_of logs t) logs (has_home logs (committed_of_all logs) t d (in_committed_all logs n t c)) in
+    (a.0, subst (λ k. is_home_of logs t k (log_of logs a.0) ≡ true) (zero_plus a.0) a.1)
+  where
+    zero_plus : (m : ℕ) → 0 + m ≡ m
+    zero_plus m = omega arith
+
+named_home : (h : ℕ) (o : Option (ℕ × List TxId)) (p : ℕ × List TxId) → home_is h o ≡ true → o ≡ Some p → p.0 ≡ h
+named_home h None p a e = absurd cc
+named_home h (Some q) p a e = sym (ap (λ z. z.0) (some_same q p e)) ∙ eqb-true q.0 h a
+
+home_names : (logs : List (List LogRecord)) (t : TxId) (h : ℕ) (ps : List ℕ) (p : ℕ × List TxId) → agrees_at logs t h (log_of logs h) ps ≡ true → prepare_of (log_of logs h) t ≡ Some p → p.0 ≡ h
+home_names logs t h ps p a e =
+    let b = and_parts _ _ (and_parts _ _ (and_parts _ _ a).0).0 in named_home h (prepare_of (log_of logs h) t) p b.0 e
+
+part_names : (t : TxId) (h : ℕ) (log : List LogRecord) (p : ℕ × List TxId) → part_agrees t h log ≡ true → prepare_of log t ≡ Some p → p.0 ≡ h
+part_names t h log p a e = let b = and_parts _ _ (and_parts _ _ (and_parts _ _ a).0).0 in named_home h (prepare_of log t) p b.1 e
+
+part_unaborted : (t : TxId) (h : ℕ) (log : List LogRecord) → part_agrees t h log ≡ true → aborted_in log t ≡ false
+part_unaborted t h log a = not-true (aborted_in log t) (and_parts _ _ (and_parts _ _ a).0).1
+
+-- where it is prepared: the home is the shard that the PREPARE names, it has the COMMIT, and this is it or one of the parts that agree with it
+abbrev PartOf : List (List LogRecord) → TxId → ℕ → ℕ × List TxId → Type 0
+PartOf logs t m p = (h : ℕ) × (committed_in (log_of logs h) t ≡ true) × (p.0 ≡ h) × ((m ≡ h) ⊎ (part_agrees t h (log_of logs m) ≡ true))
+
+by_home : (logs : List (List LogRecord)) (t : TxId) (h m : ℕ) (p : ℕ × List TxId) (o : Option (List ℕ)) → m < length logs → commit_parts (log_of logs h) t ≡ o → elim o [ Some ps ↦ agrees_at logs t h (log_of logs h) ps | None ↦ false ] ≡ true
+    → prepare_of (log_of logs m) t ≡ Some p → PartOf logs t m p
+by_home logs t h m p None l c a e = absurd (both_ways false refl a)
+by_home logs t h m p (Some ps) l c a e = at (m == h) refl
+  where
+    there : committed_in (log_of logs h) t ≡ true
+    there = parts_committed (log_of logs h) t ps c
+
+    at : (b : Bool) → (m == h) ≡ b → PartOf logs t m p
+    at true q = let z = eqb-true m h q in (h, there, home_names logs t h ps p a (subst (λ k. prepare_of (log_of logs k) t ≡ Some p) z e), inl z)
+    at false q = let z = part_of_home logs t h m ps p l a e q in (h, there, part_names t h (log_of logs m) p z e, inr z)
+
+part_of : (splits : List ℕ) (logs : List (List LogRecord)) (t : TxId) (n m : ℕ) (p : ℕ × List TxId) → may_open splits logs ≡ true → committed_in (log_of logs n) t ≡ true → m < length logs → prepare_of (log_of logs m) t ≡ Some p → PartOf logs t m p
+part_of splits logs t n m p o c l e = let a = home_at splits logs t n o c in by_home logs t a.0 m p (commit_parts (log_of logs a.0) t) l refl a.1 e
 
 pub opening_settled : (splits : List ℕ) (logs : List (List LogRecord)) (t : TxId) (n m : ℕ) (p : ℕ × List TxId) → may_open splits logs ≡ true → committed_in (log_of logs n) t ≡ true → m < length logs → prepare_of (log_of logs m) t ≡ Some p
     → Settled (log_of logs m) t p
 opening_settled splits logs t n m p o c l e =
-    let d = none_of (apart logs) (and_parts (all_logs_from 0 (log_passes splits) logs) (is_none (apart logs)) o).1 in
-    let a = which_log 0 (is_home_of logs t) logs (has_home logs (committed_of_all logs) t d (in_committed_all logs n t c)) in
-    let b = subst (λ k. is_home_of logs t k (log_of logs a.0) ≡ true) (zero_plus a.0) a.1 in
-    home_is_settled logs t a.0 m p (commit_parts (log_of logs a.0) t) l refl b e
-  where
-    zero_plus : (m : ℕ) → 0 + m ≡ m
-    zero_plus m = omega arith
+    let a = part_of splits logs t n m p o c l e in ⊎_elim (λ z. inl (subst (λ k. committed_in (log_of logs k) t ≡ true) (sym z) a.1)) (λ z. part_settled t a.0 (log_of logs m) p z e) a.3
+
+-- the home that the PREPARE names has its COMMIT
+pub opening_home : (splits : List ℕ) (logs : List (List LogRecord)) (t : TxId) (n m : ℕ) (p : ℕ × List TxId) → may_open splits logs ≡ true → committed_in (log_of logs n) t ≡ true → m < length logs → prepare_of (log_of logs m) t ≡ Some p
+    → committed_in (log_of logs p.0) t ≡ true
+opening_home splits logs t n m p o c l e = let a = part_of splits logs t n m p o c l e in subst (λ k. committed_in (log_of logs k) t ≡ true) (sym a.2) a.1
+
+-- and no part was aborted
+pub opening_unaborted : (splits : List ℕ) (logs : List (List LogRecord)) (t : TxId) (n m : ℕ) (p : ℕ × List TxId) → may_open splits logs ≡ true → committed_in (log_of logs n) t ≡ true → m < length logs → prepare_of (log_of logs m) t ≡ Some p
+    → (committed_in (log_of logs m) t ≡ true) ⊎ (aborted_in (log_of logs m) t ≡ false)
+opening_unaborted splits logs t n m p o c l e =
+    let a = part_of splits logs t n m p o c l e in ⊎_elim (λ z. inl (subst (λ k. committed_in (log_of logs k) t ≡ true) (sym z) a.1)) (λ z. inr (part_unaborted t a.0 (log_of logs m) z)) a.3

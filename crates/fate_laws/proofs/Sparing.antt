@@ -158,7 +158,7 @@ not_pending splits before after h s tx q (Committed parts) F l p k = tt
 not_pending splits before after h s tx q Finished F l p k = tt
 not_pending splits before after h s tx q (Refused cause) F l p k = k (walker_of splits before after h (s.shard, p.0) tx l p.1 (ap tx_of (p.2).0)).0 p
 
-owed : (splits : List ℕ) (before after : List (List LogRecord)) (h pre : History) (e : Placed) (ev : Event) → (e.1).event ≡ ev → Next splits before after h pre e → Spared splits before after h pre → WasSent pre ev → Owes (state_at before after e.0 pre) ev
+pub owed : (splits : List ℕ) (before after : List (List LogRecord)) (h pre : History) (e : Placed) (ev : Event) → (e.1).event ≡ ev → Next splits before after h pre e → Spared splits before after h pre → WasSent pre ev → Owes (state_at before after e.0 pre) ev
 owed splits before after h pre e (OpEvent tx birth nth seen op) q w k z =
     let r = (walker_of splits before after h e tx w.legal w.among (ap tx_of q)).0 in
     false_from_ne_true _ (λ c. let a = committed_asked splits before after h pre e.0 tx w.inside k r c in asked_not_own splits before after h pre e tx birth nth seen op a.0 w q a.1)

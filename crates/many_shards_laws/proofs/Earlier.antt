@@ -198,5 +198,5 @@ committed_at_opening splits before h after choice n t m l c i o w = at (committe
     at true e = e
     at false e =
         let s = final_of before h after n in
-        let k = stands_front splits before after h h [] m l c (append-nil h) n i in
+        let k = stands_front splits before after h h [] m l (append-nil h) n i in
         absurd (both_ways _ ((k.barred).open_ t (was_out splits before h after n t m l c i o e)) (cut_keeps (cond (choice n) (unwrap_or s.flight s.durable) s.durable) s.local.log t (subst (λ z. committed_in z t ≡ true) (log_now splits before h after choice n i) w)))

@@ -40,7 +40,7 @@ use Rattle.fall_laws.specs.Falls.{OpensClear}
 use Rattle.fall_laws.proofs.Ahead.{Ahead, ahead_take, home_elsewhere}
 use Rattle.fall_laws.proofs.Known.{parts_met}
 use Rattle.fall_laws.proofs.Barred.{Lost}
-use Rattle.fall_laws.proofs.Falling.{Met, DeadAway, WasOut, stands_front}
+use Rattle.fall_laws.proofs.Falling.{Met, Denied, WasOut, stands_front}
 use Rattle.each_shard_laws.specs.Leading.{deeds_before}
 use Rattle.each_shard_laws.proofs.Fallen.{FellOn}
 use Rattle.each_shard_laws.proofs.Leading.{at_front}
@@ -112,15 +112,16 @@ module _ (splits : List ℕ) (before : List (List LogRecord)) (h : History) (aft
       let s = final_of before h after n in
       let k = cond (choice n) (unwrap_or s.flight s.durable) s.durable in
       let p = there_prepare (log_left (final_of before h after n) (choice n)) t (doubt_prepared n (log_left (final_of before h after n) (choice n)) t doubt) in
-      let st = stands_front splits before after h h [] o l c (append-nil h) n i in
+      let st = stands_front splits before after h h [] o l (append-nil h) n i in
       let e : prepare_of s.local.log t ≡ Some p.0 = subst (λ z. prepare_of z t ≡ Some p.0) (take-append-drop k s.local.log) (prepare_more (take k s.local.log) (drop k s.local.log) t p.0 p.1) in
       by_reason p.0 p.1 ((st.barred).open_) (ahead_take k s.local.log ((st.barred).lined).ahead) ((st.barred).why t p.0 (inl v) e)
     where
       by_reason : (p : ℕ × List TxId) → prepare_of (log_left (final_of before h after n) (choice n)) t ≡ Some p → ((u : TxId) → WasOut before after h n u → committed_in (final_of before h after n).local.log u ≡ false) → Ahead [] (log_left (final_of before h after n) (choice n))
-          → Lost (DeadAway before after h) (WasOut before after h n) (Met before h h n) (final_of before h after n) t p → ⊥
+          → Lost (Denied before after h) (WasOut before after h n) (Met before h h n) (final_of before h after n) t p → ⊥
       by_reason p e open_ ahead (inl (a, z)) = unaborted a
       by_reason p e open_ ahead (inr (inl (a, z))) = home_elsewhere n (log_left (final_of before h after n) (choice n)) t p ahead e doubt (a ∙ fronts.shard)
-      by_reason p e open_ ahead (inr (inr (inl (r, k, d)))) = alive k d
+      by_reason p e open_ ahead (inr (inr (inl (inl (r, k, d))))) = alive k d
+      by_reason p e open_ ahead (inr (inr (inl (inr z)))) = z.0 run
       by_reason p e open_ ahead (inr (inr (inr (q, k, inl z)))) = both_ways _ (open_ q z) (named p e q k)
       by_reason p e open_ ahead (inr (inr (inr (q, k, inr z)))) = both_ways _ z.1 (named p e q k)
 

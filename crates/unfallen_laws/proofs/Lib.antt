@@ -1,5 +1,9 @@
 pub mod Going
+pub mod Striking
+pub mod StrikingFronts
 pub mod Losing
+pub mod Holding
+pub mod Earlier
 pub mod Sparing
 pub mod Naming
 pub mod Voting

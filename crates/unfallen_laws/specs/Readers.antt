@@ -13,13 +13,13 @@ use Rattle.clv_base.specs.FileRules.{may_open}
 use Rattle.clv_base.specs.Journals.{History}
 use Rattle.clv_base.specs.History.{Legal, IsAmong}
 use Rattle.fate_laws.specs.Decisions.{is_left}
-use Rattle.fall_laws.specs.Falls.{Fell, OpensClear}
+use Rattle.fall_laws.specs.Falls.{Fell}
 
 -- where a COMMIT of a transaction is left on any shard, and its part on a shard that its request names fell there, that shard voted read on it
 abbrev pub OnlyReadersMayFall : Type 0
 OnlyReadersMayFall =
     (splits : List ℕ) (before : List (List LogRecord)) (h : History) (after : List (List LogRecord)) (choice : ℕ → Bool) (n m home : ℕ) (e : Entry) (touched : List (ℕ × ℕ)) (tx : TxId)
-    → may_open splits before ≡ true → Legal splits before h after → OpensClear splits before → n < shard_count splits → m < shard_count splits
+    → may_open splits before ≡ true → Legal splits before h after → n < shard_count splits → m < shard_count splits
     → IsAmong home e h → e.event ≡ RequestEvent tx touched → e.outcome ≡ Asked → nat_in m (map (λ t. t.0) touched) ≡ true
     → is_left splits before h after choice n tx ≡ true → Fell before h after m tx
     → (k : ℕ) × (x : Entry) × (to : ℕ) × IsAmong k x h × (x.outcome ≡ Sent (VoteMessage to tx m Read))

@@ -1,6 +1,6 @@
 // No part of a member ever fell.
 
-ghost use Rattle.unfallen_laws.specs.Unfallen.{PreparedMembersNeverFell, YesVotersNeverFell};
+ghost use Rattle.unfallen_laws.specs.Unfallen.{PreparedMembersNeverFell, YesVotersNeverFell, EarlierMembersNeverFell};
 ghost use Rattle.unfallen_laws.specs.Readers.{OnlyReadersMayFall};
 ghost use Rattle.unfallen_laws.specs.Voted.{MembersAreVotedFor};
 
@@ -12,6 +12,11 @@ pub fn prepared_members_never_fell()
 /// Nor did one on a shard that voted yes on it.
 pub fn yes_voters_never_fell()
     ensures { YesVotersNeverFell }
+{}
+
+/// Nor did one of a transaction of an earlier run whose COMMIT some log had at opening.
+pub fn earlier_members_never_fell()
+    ensures { EarlierMembersNeverFell }
 {}
 
 /// Each other shard that the request of a member names voted yes or read on it.

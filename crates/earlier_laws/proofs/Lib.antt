@@ -1,0 +1,4 @@
+pub mod Elder
+pub mod ElderEvents
+pub mod Elders
+pub mod Earlier
