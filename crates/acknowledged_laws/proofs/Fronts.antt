@@ -34,10 +34,10 @@ use Rattle.fate_laws.proofs.Bindings.{asked_not_own, bindings_front}
 use Rattle.fate_laws.proofs.Prefixes.{Next, next_at, stays_as_it_was}
 use Rattle.fate_laws.proofs.Prepares.{prepare_there}
 use Rattle.fate_laws.proofs.Standing.{NotOwn}
-use Rattle.fall_laws.specs.Falls.{Fell, OpensClear}
+use Rattle.fall_laws.specs.Falls.{Fell}
 use Rattle.fall_laws.proofs.Falling.{stands_front, walk_on}
-use Rattle.unfallen_laws.proofs.Losing.{last_front}
-use Rattle.unfallen_laws.proofs.Sparing.{fell_out}
+use Rattle.fall_laws.proofs.Falling.{last_front}
+use Rattle.fall_laws.proofs.Finding.{fell_out}
 use Rattle.acknowledged_laws.proofs.Quiet.{Quiet, quiet_absent, quiet_undoomed, quiet_made}
 use Rattle.acknowledged_laws.proofs.Agreeing.{Told, Ends, RowIs}
 use Rattle.acknowledged_laws.proofs.Starting.{IsFinished, IsIdle, Begins, Owes, rows_made}
@@ -57,7 +57,7 @@ WasFinished before after pre n t = (front : History) × (rest : History) × (fro
 
 pub record Finishes (splits : List ℕ) (before after : List (List LogRecord)) (pre : History) (n : ℕ) (t : TxId) : Type 0 where
   pub quiet : Quiet (state_at before after n pre).local t
-  pub unfallen : OpensClear splits before → Fell before pre after n t → ⊥
+  pub unfallen : Fell before pre after n t → ⊥
   pub touched : List (ℕ × ℕ)
   pub taken : TakenIn pre n t touched
   pub read : (m : ℕ) → nat_in m (others n touched) ≡ true → VotedIn pre t m Read
@@ -151,7 +151,7 @@ module _ (splits : List ℕ) (before after : List (List LogRecord)) (h pre : His
   carry t p =
       record {
         quiet = now;
-        unfallen = λ c f. p.unfallen c (fell_before before after pre e e.0 t now (λ v there. both_ways _ (quiet_absent S.local t p.quiet) there) f);
+        unfallen = λ f. p.unfallen (fell_before before after pre e e.0 t now (λ v there. both_ways _ (quiet_absent S.local t p.quiet) there) f);
         touched = p.touched;
         taken = taken_later pre e e.0 t p.touched p.taken;
         read = λ m i. voted_later pre e t m Read (p.read m i);
@@ -164,16 +164,16 @@ module _ (splits : List ℕ) (before after : List (List LogRecord)) (h pre : His
       now = subst (λ (z : Shard). Quiet z.local t) (sym (w.split).next) (quiet_made (log_of after e.0) S T t made not_own p.quiet)
 
   -- who is idle did not fall
-  idle_unfallen : (t : TxId) → OpensClear splits before → IsIdle (e.1).event S t → Fell before pre after e.0 t → ⊥
-  idle_unfallen t c d f =
-      let b = (stands_front splits before after h pre (e ∷ post) o l c q e.0 w.inside).barred in
+  idle_unfallen : (t : TxId) → IsIdle (e.1).event S t → Fell before pre after e.0 t → ⊥
+  idle_unfallen t d f =
+      let b = (stands_front splits before after h pre (e ∷ post) o l q e.0 w.inside).barred in
       let x = b.here t (fell_out splits before after h pre (e ∷ post) e.0 t o l q w.inside f) d.1 in
       both_ways _ d.2 ((b.lined).wrote t (prepare_there S.local.log t x.0 x.1))
 
   -- who is finished by this entry
   fresh : (t : TxId) → Ends (IsIdle (e.1).event S) (TakenIn New e.0) (VotedIn New) e.0 T.local t → Finishes splits before after New e.0 t
   fresh t d =
-      record { quiet = now; unfallen = λ c f. idle_unfallen t c d.was (fell_before before after pre e e.0 t now (λ v there. (d.was).0 v) f); touched = d.touched; taken = d.taken; read = d.read }
+      record { quiet = now; unfallen = λ f. idle_unfallen t d.was (fell_before before after pre e e.0 t now (λ v there. (d.was).0 v) f); touched = d.touched; taken = d.taken; read = d.read }
     where
       now : Quiet (state_at before after e.0 (pre ++ e ∷ [])).local t
       now = subst (λ (z : Shard). Quiet z.local t) (sym (w.split).next) d.quiet
@@ -207,7 +207,7 @@ module _ (splits : List ℕ) (before after : List (List LogRecord)) (h pre : His
         let now = subst (λ (z : Shard). Quiet z.local t) (sym stays) p.quiet in
         record {
           quiet = now;
-          unfallen = λ c f. p.unfallen c (fell_before before after pre e n t now (λ v there. both_ways _ (quiet_absent (state_at before after n pre).local t p.quiet) there) f);
+          unfallen = λ f. p.unfallen (fell_before before after pre e n t now (λ v there. both_ways _ (quiet_absent (state_at before after n pre).local t p.quiet) there) f);
           touched = p.touched;
           taken = taken_later pre e n t p.touched p.taken;
           read = λ m j. voted_later pre e t m Read (p.read m j);

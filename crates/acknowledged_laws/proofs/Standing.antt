@@ -28,7 +28,6 @@ use Rattle.fate_laws.proofs.Entering.{durable_front}
 use Rattle.fate_laws.proofs.Fates.{fated}
 use Rattle.fate_laws.proofs.Bindings.{bindings_front}
 use Rattle.fate_laws.proofs.Prefixes.{Next, next_at, walk, Counts, counts_next, DurableIn, durable_later, one_home}
-use Rattle.fall_laws.specs.Falls.{OpensClear}
 use Rattle.fall_laws.proofs.Finding.{members_never_fell_at_home}
 use Rattle.acknowledged_laws.specs.Acknowledged.{OnlyRead, AcknowledgedStand, AcknowledgedAtHome, AcknowledgementsHaveRequests, AcknowledgedNeverFellAtHome}
 use Rattle.acknowledged_laws.proofs.Quiet.{quiet_absent}
@@ -118,34 +117,34 @@ where_is splits before after h t o l a =
 -- ---- the laws
 
 module _ (splits : List ℕ) (before : List (List LogRecord)) (h : History) (after : List (List LogRecord)) (t : TxId) (o : may_open splits before ≡ true) (l : Legal splits before h after) (k : Where splits before after h t) where
-  only_read : OpensClear splits before → (p : Finishes splits before after h k.shard t) → OnlyRead before h after k.shard p.touched t
-  only_read c p =
+  only_read : (p : Finishes splits before after h k.shard t) → OnlyRead before h after k.shard p.touched t
+  only_read p =
       record {
         unwritten = (p.quiet).unwritten;
         uncommitted = (p.quiet).uncommitted;
         absent = quiet_absent (final_of before h after k.shard).local t p.quiet;
-        unfallen = p.unfallen c;
+        unfallen = p.unfallen;
         voted = λ m i. let v = p.read m i in ((v.0).0, (v.0).1, v.1, among_is (v.0).0 (v.0).1 h v.2, v.3);
       }
 
-  stands : (choice : ℕ → Bool) (home : ℕ) (e : Entry) (touched : List (ℕ × ℕ)) → OpensClear splits before → Among (home, e) h → e.event ≡ RequestEvent t touched → e.outcome ≡ Asked → DurableIn before after h k.shard t ⊎ Finishes splits before after h k.shard t
+  stands : (choice : ℕ → Bool) (home : ℕ) (e : Entry) (touched : List (ℕ × ℕ)) → Among (home, e) h → e.event ≡ RequestEvent t touched → e.outcome ≡ Asked → DurableIn before after h k.shard t ⊎ Finishes splits before after h k.shard t
       → (is_left splits before h after choice home t ≡ true) ⊎ OnlyRead before h after home touched t
-  stands choice home e touched c a ev out (inl d) =
+  stands choice home e touched a ev out (inl d) =
       let (b, us, i, x, y) = k.home in
       let same = one_home splits before after h t k.shard home b e us touched l (is_among k.shard b h i) (x, y) a (ev, out) in
       inl (subst (λ m. is_left splits before h after choice m t ≡ true) same (durable_left splits before h after choice k.shard t k.inside (fated splits before after h o l) d))
-  stands choice home e touched c a ev out (inr p) =
+  stands choice home e touched a ev out (inr p) =
       let r = p.taken in
       let same = one_request splits before after h (k.shard, r.0) (home, e) t p.touched touched l r.1 a r.2 (ev, out) in
       let names = named (sym (r.2).0 ∙ ap (λ z. (z.1).event) same ∙ ev) in
-      inr (subst (λ m. OnlyRead before h after m touched t) (ap (λ z. z.0) same) (subst (λ ts. OnlyRead before h after k.shard ts t) names (only_read c p)))
+      inr (subst (λ m. OnlyRead before h after m touched t) (ap (λ z. z.0) same) (subst (λ ts. OnlyRead before h after k.shard ts t) names (only_read p)))
     where
       named : {us vs : List (ℕ × ℕ)} → RequestEvent t us ≡ RequestEvent t vs → us ≡ vs
       named z = cc
 
 pub acknowledged_stand : AcknowledgedStand
-acknowledged_stand splits before h after choice home e touched t o l c i k a ev out =
-    let z = where_is splits before after h t o l k in stands splits before h after t o l z choice home e touched c (is_among home e h a) ev out z.found
+acknowledged_stand splits before h after choice home e touched t o l i k a ev out =
+    let z = where_is splits before after h t o l k in stands splits before h after t o l z choice home e touched (is_among home e h a) ev out z.found
 
 pub acknowledged_at_home : AcknowledgedAtHome
 acknowledged_at_home splits before h after n e t l i a = told_at_home splits before h after (n, e) t l (is_among n e h i) a
@@ -155,11 +154,11 @@ acknowledgements_have_requests splits before h after t l k =
     let x = any_among (λ e. is_acknowledgement t (e.1).event (e.1).outcome) h k in ((x.0).0, told_at_home splits before h after x.0 t l x.1 x.2)
 
 pub acknowledged_never_fell_at_home : AcknowledgedNeverFellAtHome
-acknowledged_never_fell_at_home splits before h after home t o l c k m f = at (acknowledged_stand splits before h after (λ n. false) home m.0 m.1 t o l c i k m.2 m.3 m.4)
+acknowledged_never_fell_at_home splits before h after home t o l k m f = at (acknowledged_stand splits before h after (λ n. false) home m.0 m.1 t o l i k m.2 m.3 m.4)
   where
     i : home < shard_count splits
     i = in_a_shard splits before after h (home, m.0) l (is_among home m.0 h m.2)
 
     at : (is_left splits before h after (λ n. false) home t ≡ true) ⊎ OnlyRead before h after home m.1 t → ⊥
-    at (inl left) = members_never_fell_at_home splits before h after (λ n. false) home home t o l c i i (where_is splits before after h t o l k).run left m f
+    at (inl left) = members_never_fell_at_home splits before h after (λ n. false) home home t o l i i (where_is splits before after h t o l k).run left m f
     at (inr r) = r.unfallen f

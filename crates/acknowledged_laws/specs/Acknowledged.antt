@@ -17,7 +17,7 @@ use Rattle.clv_base.specs.Coordinator.{others}
 use Rattle.clv_base.specs.Journals.{History, final_of}
 use Rattle.clv_base.specs.History.{Legal, IsAmong, is_acknowledgement, acknowledged_in}
 use Rattle.fate_laws.specs.Decisions.{IsHome, is_left}
-use Rattle.fall_laws.specs.Falls.{Fell, OpensClear}
+use Rattle.fall_laws.specs.Falls.{Fell}
 
 -- the shard sent a vote of read on the transaction
 abbrev pub VotedRead : History → TxId → ℕ → Type 0
@@ -38,7 +38,7 @@ pub record OnlyRead (before : List (List LogRecord)) (h : History) (after : List
 abbrev pub AcknowledgedStand : Type 0
 AcknowledgedStand =
     (splits : List ℕ) (before : List (List LogRecord)) (h : History) (after : List (List LogRecord)) (choice : ℕ → Bool) (home : ℕ) (e : Entry) (touched : List (ℕ × ℕ)) (t : TxId)
-    → may_open splits before ≡ true → Legal splits before h after → OpensClear splits before → home < shard_count splits
+    → may_open splits before ≡ true → Legal splits before h after → home < shard_count splits
     → acknowledged_in h t ≡ true → IsAmong home e h → e.event ≡ RequestEvent t touched → e.outcome ≡ Asked
     → (is_left splits before h after choice home t ≡ true) ⊎ OnlyRead before h after home touched t
 
@@ -58,5 +58,5 @@ AcknowledgementsHaveRequests =
 abbrev pub AcknowledgedNeverFellAtHome : Type 0
 AcknowledgedNeverFellAtHome =
     (splits : List ℕ) (before : List (List LogRecord)) (h : History) (after : List (List LogRecord)) (home : ℕ) (t : TxId)
-    → may_open splits before ≡ true → Legal splits before h after → OpensClear splits before
+    → may_open splits before ≡ true → Legal splits before h after
     → acknowledged_in h t ≡ true → IsHome h t home → Fell before h after home t → ⊥

@@ -42,7 +42,8 @@ use Rattle.fate_laws.proofs.Prepares.{prepare_there, prepare_more, front_prepare
 use Rattle.fall_laws.specs.Falls.{OpensClear}
 use Rattle.fall_laws.proofs.Falling.{WasOut, Stands, stands_front}
 use Rattle.unfallen_laws.proofs.Going.{aborted_take}
-use Rattle.unfallen_laws.proofs.Losing.{Orderly, orderly, LostAt, all_lost}
+use Rattle.unfallen_laws.proofs.Losing.{LostAt, all_lost}
+use Rattle.unfallen_laws.proofs.StrikingFronts.{struck_front}
 use Rattle.many_shards_laws.specs.Replaying.{IsHere}
 use Rattle.many_shards_laws.proofs.Homes.{doubted}
 use Rattle.many_shards_laws.proofs.Shares.{at_somewhere}
@@ -63,7 +64,7 @@ module _ (splits : List ℕ) (before : List (List LogRecord)) (h : History) (aft
   bound_to = bindings_front splits before after h h [] o l (append-nil h)
 
   stands : Stands before after h h n (final_of before h after n)
-  stands = stands_front splits before after h h [] o l c (append-nil h) n i
+  stands = stands_front splits before after h h [] o l (append-nil h) n i
 
   -- ---- its part never was out
 
@@ -76,29 +77,23 @@ module _ (splits : List ℕ) (before : List (List LogRecord)) (h : History) (aft
       both_ways _ d.0 (subst (λ m. committed_in (final_of before h after m).local.log t ≡ true) (sym z) (left_committed splits before h after choice home t inside left))
 
   never_out : Bound (final_of before h after n) t → WasOut before after h n t → ⊥
-  never_out b w = by_lost (all_lost splits before after h h [] o l c (append-nil h) n i t b.listed run_is w prepared)
+  never_out b w = by_lost (all_lost splits before after h h [] o l (append-nil h) n i t b.listed (inl run_is) w prepared)
     where
       prepared : prepare_of (final_of before h after n).local.log t ≡ Some b.listed
       prepared = front_prepare s.durable s.local.log t b.listed b.prepare
 
       by_lost : LostAt before after h n t b.listed → ⊥
       by_lost (inl z) = both_ways _ away (eq-eqb n home (sym z ∙ home_of b.listed prepared))
-      by_lost (inr (inl (r, k, d))) = living k d
+      by_lost (inr (inl (inl (r, k, d)))) = living k d
+      by_lost (inr (inl (inr z))) = z.0 run_is
       by_lost (inr (inr (u, j, v))) = both_ways _ ((stands.barred).open_ u v) (front_committed s.durable s.local.log u (b.durable u j))
 
   -- so no ABORT of it is in the log
 
   unaborted : Bound (final_of before h after n) t → aborted_in (final_of before h after n).local.log t ≡ true → ⊥
-  unaborted b k = never_out b (h, [], append-nil h, (gone, undecided, (stands.barred).sought t (prepare_there s.local.log t b.listed (front_prepare s.durable s.local.log t b.listed b.prepare))))
-    where
-      ord : Orderly (final_of before h after n)
-      ord = orderly splits before after h h [] n o l c (append-nil h) i
-
-      gone : is_present (stage_of (final_of before h after n).local t) ≡ false
-      gone = false_from_ne_true _ (λ y. both_ways _ (ord.unaborted t y) k)
-
-      undecided : committed_in (final_of before h after n).local.log t ≡ false
-      undecided = false_from_ne_true _ (λ y. both_ways _ ((order_of s.shard s.local.log ord.follows).apart t y) k)
+  unaborted b k =
+      let z = struck_front splits before after h h [] o l (append-nil h) n i t k in
+      never_out b (h, [], append-nil h, (z.0, z.1, (stands.barred).sought t (prepare_there s.local.log t b.listed (front_prepare s.durable s.local.log t b.listed b.prepare))))
 
   -- ---- in what is left
 

@@ -69,7 +69,7 @@ members_are_found splits before h after choice n t o l c i k =
     let a = among_is home e h y.1 in
     found splits before h after choice o l c n i t home e r.0 a r.1 r.2
     (⊎_elim (λ left. inl left)
-    (λ told. acknowledged_stand splits before h after choice home e r.0 t o l c (in_a_shard splits before after h (home, e) l y.1) told a r.1 r.2)
+    (λ told. acknowledged_stand splits before h after choice home e r.0 t o l (in_a_shard splits before after h (home, e) l y.1) told a r.1 r.2)
     (or_cases (committed_in (log_of (logs_left splits before h after choice) home) t) (acknowledged_in h t) y.3))
 
 pub members_replay : MembersReplay

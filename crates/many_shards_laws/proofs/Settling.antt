@@ -86,7 +86,7 @@ module _ (splits : List ℕ) (before : List (List LogRecord)) (h : History) (aft
     where
       fallen : tx_in t (deeds_before before h after n).fell ≡ true → ⊥
       fallen f =
-          yes_voters_never_fell splits before h after choice m n k x home t o l c j i run a v left
+          yes_voters_never_fell splits before h after choice m n k x home t o l j i run a v left
           (fell_is before h after n t (((at_front splits before h after h [] n o l c (append-nil h) i).remembers).fell t f).1)
 
       at : (b d : Bool) → committed_in (final_of before h after n).local.log t ≡ b → is_present (stage_of (final_of before h after n).local t) ≡ d → committed_in (final_of before h after n).local.log t ≡ true

@@ -38,8 +38,8 @@ use Rattle.fate_laws.proofs.Prefixes.{Next, next_at, each_shard}
 use Rattle.fate_laws.proofs.Standing.{NotOwn, reads_made}
 use Rattle.fall_laws.specs.Falls.{Fell}
 use Rattle.fall_laws.proofs.Falling.{walk_on}
-use Rattle.unfallen_laws.proofs.Losing.{last_front}
-use Rattle.unfallen_laws.proofs.Sparing.{fell_out}
+use Rattle.fall_laws.proofs.Falling.{last_front}
+use Rattle.fall_laws.proofs.Finding.{fell_out}
 use Rattle.reader_laws.proofs.Staying.{doomed_was}
 use Rattle.reader_laws.proofs.Returning.{out_prepared}
 use Rattle.reader_laws.proofs.Writing.{made_updates}

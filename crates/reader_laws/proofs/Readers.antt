@@ -87,5 +87,5 @@ members_never_fell splits before h after choice n m tx o l c i j run left f = by
 
     by_home : IsHome h tx k.0 → ⊥
     by_home r =
-        let v = only_readers_may_fall splits before h after choice n m k.0 r.0 r.1 tx o l c i j r.2 r.3 r.4 (named k.0 r (fell_did splits before h after m tx o l c j f)) left f in
+        let v = only_readers_may_fall splits before h after choice n m k.0 r.0 r.1 tx o l i j r.2 r.3 r.4 (named k.0 r (fell_did splits before h after m tx o l c j f)) left f in
         readers_never_fell splits before h after m v.0 v.2 v.1 tx o l j v.3 v.4 f

@@ -50,7 +50,7 @@ use Rattle.fate_laws.proofs.Restored.{doubt_prepared}
 use Rattle.fate_laws.proofs.Standing.{NotOwn}
 use Rattle.fall_laws.proofs.BarredDue.{came}
 use Rattle.fall_laws.proofs.Falling.{Met, WasOut, walk_on}
-use Rattle.unfallen_laws.proofs.Losing.{last_front}
+use Rattle.fall_laws.proofs.Falling.{last_front}
 use Rattle.reader_laws.proofs.Staying.{present_back}
 use Rattle.reader_laws.proofs.Committing.{finish_prefix}
 
