@@ -2,7 +2,7 @@
 
 ghost use Rattle.acknowledged_laws.specs.Acknowledged.{AcknowledgedStand, AcknowledgedAtHome, AcknowledgementsHaveRequests, AcknowledgedNeverFellAtHome};
 
-/// In a legal history from logs that may be opened and leave nothing in doubt: where a transaction is acknowledged, its COMMIT is left at its
+/// In a legal history from logs that may be opened: where a transaction is acknowledged, its COMMIT is left at its
 /// home, whatever a crash keeps, or it only read.
 pub fn acknowledged_stand()
     ensures { AcknowledgedStand }

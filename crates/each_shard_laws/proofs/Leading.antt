@@ -21,7 +21,8 @@ use Rattle.clv_base.specs.Events.{Does, happen, with_entry}
 use Rattle.clv_base.specs.Restarts.{run_after}
 use Rattle.clv_base.specs.Journals.{History, event_state, after_entry}
 use Rattle.clv_base.specs.History.{Legal, request_of, state_before}
-use Rattle.shard_laws.specs.OneShard.{Leads, opens, happens, lands, revives, MayServe, MayHappen, MayDeliver, with_one, new_item, new_told, new_met, doomed_in}
+use Rattle.shard_laws.proofs.Found.{opens_clear}
+use Rattle.shard_laws.specs.OneShard.{Leads, happens, lands, revives, MayServe, MayHappen, MayDeliver, with_one, new_item, new_told, new_met, doomed_in}
 use Rattle.history_laws.proofs.Entering.{Makes, by_event, by_flush, by_failure, by_restart, makes}
 use Rattle.history_laws.proofs.Merging.{Placed}
 use Rattle.history_laws.proofs.OldRuns.{each_passes, below_next_run}
@@ -183,20 +184,20 @@ none_of : {X : Type 0} (o : Option X) → is_none o ≡ true → o ≡ None
 none_of None e = refl
 none_of (Some x) e = absurd (both_ways false refl e)
 
-may_serve : (splits : List ℕ) (before : List (List LogRecord)) (n : ℕ) → may_open splits before ≡ true → n < length before → in_doubt n (log_of before n) ≡ [] → MayServe n (run_after before) (log_of before n)
-may_serve splits before n m l i =
+may_serve : (splits : List ℕ) (before : List (List LogRecord)) (n : ℕ) → may_open splits before ≡ true → n < length before → MayServe n (run_after before) (log_of before n)
+may_serve splits before n m l =
     let p = and_parts (all_logs_from 0 (log_passes splits) before) (is_none (apart before)) m in
     let q = each_passes (log_passes splits) 0 n before p.0 l in
     let d = none_of (disorder (0 + n) (log_of before n)) (and_parts (list_all (passes_file_rules splits (0 + n)) (log_of before n)) _ q).1 in
-    (subst (λ k. disorder k (log_of before n) ≡ None) (omega arith) d, below_next_run before n, i)
+    (subst (λ k. disorder k (log_of before n) ≡ None) (omega arith) d, below_next_run before n)
 
-begins : (splits : List ℕ) (before after : List (List LogRecord)) (n : ℕ) → MayServe n (run_after before) (log_of before n) → At before after [] n
-begins splits before after n s = record { leads = opens s; remembers = record { items = tt; met = λ t p e. absurd (both_ways false refl e); fell = λ t i. absurd (both_ways false refl i) } }
+begins : (splits : List ℕ) (before after : List (List LogRecord)) (n : ℕ) → MayServe n (run_after before) (log_of before n) → in_doubt n (log_of before n) ≡ [] → At before after [] n
+begins splits before after n s clear = record { leads = opens_clear n (run_after before) (log_of before n) s clear; remembers = record { items = tt; met = λ t p e. absurd (both_ways false refl e); fell = λ t i. absurd (both_ways false refl i) } }
 
 pub at_front : (splits : List ℕ) (before : List (List LogRecord)) (h : History) (after : List (List LogRecord)) (so_far rest : History) (n : ℕ) → may_open splits before ≡ true → Legal splits before h after → OpensClear splits before → so_far ++ rest ≡ h → n < shard_count splits
     → At before after so_far n
 at_front splits before h after so_far rest n m l d q i =
-    walk splits before after h [] so_far rest n m l (all_found splits before after h m l) (drops_spared splits before after h m l) q i (begins splits before after n (may_serve splits before n m (let e = (l.each_log).0 in omega (arith, e, i)) (d n i)))
+    walk splits before after h [] so_far rest n m l (all_found splits before after h m l) (drops_spared splits before after h m l) q i (begins splits before after n (may_serve splits before n m (let e = (l.each_log).0 in omega (arith, e, i))) (d n i))
 
 pub each_shard_leads : EachShardLeads
 each_shard_leads splits before h after so_far rest n m l d q i = (at_front splits before h after so_far rest n m l d q i).leads

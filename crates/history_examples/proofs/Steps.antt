@@ -33,7 +33,7 @@ use Rattle.clv_base.specs.LogRules.{listed_in}
 use Rattle.clv_base.specs.Restarts.{opened, revived, untouched}
 use Rattle.clv_base.proofs.SameNames.{tx_true}
 use Rattle.shard_laws.specs.OneShard.{Leads, opens, happens, lands, others_ask, revives, is_member, Passes, MayChoose}
-use Rattle.history_examples.specs.Doubt.{doubtful, DoubtIsRestored, DoubtComesBack, DoubtIsCommitted, DoubtIsChosen}
+use Rattle.history_examples.specs.Doubt.{doubtful, DoubtIsRestored, DoubtComesBack, DoubtIsCommitted, DoubtIsChosen, doubt_log, DoubtIsFound}
 
 abbrev birth : Birth
 birth = record { stamp = 1; session = 1; serial = 1 }
@@ -134,7 +134,7 @@ Led asked s = Leads 1 1 [] items asked [] [] [] s
 
 led1 : Led [] s1
 led1 =
-    happens put put_answered (reply_state s0 (happen s0 put)) 2 0 (opens (refl, lit< tt, refl))
+    happens put put_answered (reply_state s0 (happen s0 put)) 2 0 (opens (refl, lit< tt))
     (record {
       of_run = refl;
       not_closed = none_closed;
@@ -203,3 +203,16 @@ chooses = record {
 
 pub doubt_is_chosen : DoubtIsChosen
 doubt_is_chosen = (items, doubtful ∷ [], [], s5, led5, omega arith, chooses, refl, refl)
+
+-- the next run opens the log, and the decision comes
+abbrev f0 : Shard
+f0 = opened 1 2 doubt_log
+
+abbrev f1 : Shard
+f1 = entered 2 decide Taken f0
+
+led_found : Leads 1 2 doubt_log items (doubtful ∷ []) [] [] [] f1
+led_found = happens decide Taken (reply_state f0 (happen f0 decide)) 2 0 (opens (refl, lit< tt)) (λ open_. (refl, refl, (λ q e. absurd (none_request q e)), refl)) refl
+
+pub doubt_is_found : DoubtIsFound
+doubt_is_found = (items, f1, led_found, refl, refl, refl, refl, refl)

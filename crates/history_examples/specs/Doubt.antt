@@ -1,6 +1,8 @@
 -- A shard of several that is restarted with a transaction in doubt, whose commit comes then.
-use Rattle.std.specs.Prelude.{◌≡◌, ◌≤◌, take, true, List, [], ◌∷◌, Some}
+use Rattle.std.specs.Prelude.{◌≡◌, ◌≤◌, take, true, List, [], ◌∷◌, Some, None}
 use Rattle.clv_base.specs.declared.names.TxId.{TxId}
+use Rattle.clv_base.specs.declared.logs.LogRecord.{LogRecord}
+use Rattle.clv_base.specs.declared.logs.LogRecord.TheVariants.{Update, Prepare, Restart}
 use Rattle.clv_base.specs.declared.ops.Op.TheVariants.{Put}
 use Rattle.clv_base.specs.declared.state.Stage.TheVariants.{Closed}
 use Rattle.std.specs.List.{filter}
@@ -9,7 +11,7 @@ use Rattle.clv_base.specs.Logs.{committed_in, in_doubt, fold_updates}
 use Rattle.clv_base.specs.State.{Shard}
 use Rattle.clv_base.specs.Undo.{stage_of}
 use Rattle.law_base.specs.Items.{Item}
-use Rattle.shard_laws.specs.OneShard.{Leads, MayChoose, members_of, ops_by}
+use Rattle.shard_laws.specs.OneShard.{Leads, MayChoose, members_of, ops_by, found_asked, map_found}
 
 abbrev pub doubtful : TxId
 doubtful = record { run = 1; session = 1; serial = 1 }
@@ -39,3 +41,15 @@ DoubtIsChosen =
     (all : List Item) × (asked : List TxId) × (met : List (TxId × TxId)) × (s : Shard)
     × Leads 1 1 [] all asked [] met [] s × (s.durable ≤ 4) × MayChoose s 4 asked [] [] (tx_same doubtful)
     × (ops_by (filter (tx_same doubtful) asked) all ≡ (Put 5 10 ∷ []) ∷ []) × (fold_updates (tx_same doubtful) (take 4 s.local.log) [] ≡ (5, 10) ∷ [])
+
+-- the log that a run left with it in doubt
+abbrev pub doubt_log : List LogRecord
+doubt_log = Restart 1 0 ∷ Update doubtful 5 None (Some 10) ∷ Prepare doubtful 0 [] ∷ []
+
+-- a shard is opened from it in the next run, and then the decision to commit comes: it is a member with what it put in the earlier run, and
+-- what later ones replay from has its value
+abbrev pub DoubtIsFound : Type 0
+DoubtIsFound =
+    (all : List Item) × (s : Shard)
+    × Leads 1 2 doubt_log all (doubtful ∷ []) [] [] [] s × (found_asked 1 doubt_log ≡ doubtful ∷ []) × (s.local.epoch ≡ 0)
+    × (members_of s 5 [] (doubtful ∷ []) ≡ doubtful ∷ []) × (ops_by (doubtful ∷ []) all ≡ (Put 5 10 ∷ []) ∷ []) × (map_found 1 doubt_log (tx_same doubtful) ≡ (5, 10) ∷ [])

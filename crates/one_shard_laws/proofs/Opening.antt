@@ -3,6 +3,7 @@ use Rattle.std.proofs.Common.{◌≡◌, inr, refl, ℕ, ◌<◌, true, false, L
 use Rattle.std.specs.List.{AllByRecursion, list_all}
 use Rattle.std.proofs.lemmas.Bool.{both_ways, and_parts, ltb-true}
 use Rattle.clv_base.specs.declared.logs.LogRecord.{LogRecord}
+use Rattle.clv_base.specs.Logs.{in_doubt}
 use Rattle.clv_base.specs.declared.logs.LogRecord.TheVariants.{Update, Clr, Prepare, Commit, Abort, End, Restart}
 use Rattle.clv_base.specs.Orders.{nat_in}
 use Rattle.clv_base.specs.LogRules.{disorder, all_logs_from, apart}
@@ -55,7 +56,10 @@ found_is before may =
     records_are (greatest_run before) (run_after (before ∷ [])) before (omega arith) p.0 o.runs o.parts
 
 pub may_serve : (before : List LogRecord) → may_open [] (before ∷ []) ≡ true → MayServe 0 (run_after (before ∷ [])) before
-may_serve before may = ((passes before may).1, omega arith, no_doubt (OfHistory (run_after (before ∷ [])) []) before 0 before [] refl (found_is before may))
+may_serve before may = ((passes before may).1, omega arith)
+
+pub leaves_none : (before : List LogRecord) → may_open [] (before ∷ []) ≡ true → in_doubt 0 before ≡ []
+leaves_none before may = no_doubt (OfHistory (run_after (before ∷ [])) []) before 0 before [] refl (found_is before may)
 
 pub knows_opened : (before : List LogRecord) → may_open [] (before ∷ []) ≡ true → Knows (run_after (before ∷ [])) [] (opened 0 (run_after (before ∷ [])) before)
 knows_opened before may =

@@ -21,7 +21,7 @@ use Rattle.clv_base.specs.LogRules.{log_of}
 use Rattle.clv_base.specs.Journals.{History, journal_of, event_state, up_to_restart}
 use Rattle.clv_base.specs.History.{Legal, WasSent, MessagesSent, is_acknowledgement, acknowledged_in, answered_op, ops_in, request_of}
 use Rattle.law_base.specs.Items.{Item}
-use Rattle.shard_laws.specs.OneShard.{items_of, with_one, new_item, new_asked, new_met, new_told, has_met, Leads, opens, happens, lands, revives, is_doomed, doomed_in, left_out}
+use Rattle.shard_laws.specs.OneShard.{items_of, with_one, new_item, new_asked, new_met, new_told, has_met, Leads, happens, lands, revives, is_doomed, doomed_in, left_out}
 use Rattle.history_laws.proofs.Stepping.{Happens}
 use Rattle.history_laws.proofs.Entering.{Makes, by_event, by_flush, by_failure, by_restart, makes}
 use Rattle.history_laws.proofs.Merging.{Placed, Before, InOrder, in_order, Among, is_among, among_left, among_right, among_all, among_append, precedes_before, front_precedes, before_then, not_before_itself}
@@ -48,7 +48,8 @@ use Rattle.history_laws.specs.Continuing.{serial_left}
 use Rattle.history_laws.proofs.Durability.{fronts_entries, opened_counted, Counted}
 use Rattle.history_laws.proofs.Worlds.{in_a_shard}
 use Rattle.one_shard_laws.proofs.Leading.{told_pair}
-use Rattle.one_shard_laws.proofs.Opening.{may_serve, knows_opened}
+use Rattle.shard_laws.proofs.Found.{opens_clear}
+use Rattle.one_shard_laws.proofs.Opening.{may_serve, leaves_none, knows_opened}
 use Rattle.shard_laws.proofs.Histories.{named_doomed}
 use Rattle.shard_laws.proofs.Leaving.{in_two}
 use Rattle.shard_laws.proofs.Dooming.{in_filter}
@@ -331,7 +332,7 @@ begins before after may =
       told = [];
       met = [];
       fell = [];
-      leads = opens (may_serve before may);
+      leads = opens_clear 0 (run_after (before ∷ [])) before (may_serve before may) (leaves_none before may);
       fits = record { items = λ t. refl; asked_are = refl; told_are = λ t. refl; met_did = λ t p e. absurd (both_ways false refl e) };
       knows = knows_opened before may;
       fell_did = λ t i. absurd (both_ways false refl i);

@@ -29,6 +29,7 @@ use Rattle.shard_laws.proofs.Asking.{holds_at, holds_by}
 use Rattle.law_base.proofs.Tables.{stage_in, is_pair}
 use Rattle.law_base.proofs.Commits.{CommitBefore, commit_durable, before_keeps, before_new, durable_keeps, durable_parts, durable_from, durable_committed, before_second, committed_append, uncommitted_append, place_some, place_less, place_keeps, place_new}
 use Rattle.shard_laws.proofs.Prepared.{IsListed, Lists, Prepared, by_prepare, prepare_here, unprepared_append, lists_more, sealed_append, prepared_more}
+use Rattle.shard_laws.proofs.AtKeys.{key_writes}
 use Rattle.shard_laws.proofs.Kept.{View, Past, Dep, Kept, Ended, Wrote, of_kept, is_alive}
 use Rattle.order_laws.specs.Order.{moves, Open_at, Tidy, is_clr_of, undone_in}
 use Rattle.std.proofs.Common.{append-nil}
@@ -82,7 +83,7 @@ keeps_records g v more k m prep = record {
   base_chain = k.base_chain;
   base_done = all_mono _ _ (λ w h. durable_keeps v.log more v.durable v.durable w.tx (omega arith) h) g.base k.base_done;
   runs = k.runs;
-  standing_is = ap (filter (of_kept (is_alive g.lost))) m.same_standing ∙ k.standing_is;
+  standing_is = λ q. ap (λ ws. key_writes q (filter (of_kept (is_alive g.lost)) ws)) m.same_standing ∙ k.standing_is q;
   rises = k.rises;
   values = λ q. k.values q ∙ ap (top_value q) (sym m.same_standing);
   logged = all_mono _ _ (λ x h q w. wrote_keeps v.log more x.tx (h q w)) g.items k.logged;

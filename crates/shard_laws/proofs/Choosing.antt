@@ -24,18 +24,20 @@ use Rattle.law_base.proofs.Tables.{is_pair}
 use Rattle.law_base.proofs.Commits.{place_there, durable_committed, before_second}
 use Rattle.order_laws.specs.Order.{Tidy, Sealed, undone_in}
 use Rattle.shard_laws.specs.OneShard.{items_of, ops_by, answers_by, MayChoose, Passes, ChosenReplay, ChosenStandBefore}
+use Rattle.shard_laws.proofs.AtKeys.{keys_top, keys_filter}
 use Rattle.shard_laws.proofs.Kept.{Past, view_of, place, Dep, Known, is_alive}
 use Rattle.shard_laws.proofs.Prepared.{Lists, sealed_later, listed_keeps}
 use Rattle.shard_laws.proofs.Changes.{undone_append, wrote_append, later_both}
 use Rattle.shard_laws.proofs.Sound.{Sound, Lost, filter_both, filter_same}
 use Rattle.shard_laws.proofs.Dooming.{list_all_at}
 use Rattle.shard_laws.proofs.Cutting.{cut_keeps, durable_cut, of_kept, tidy_later, fold_values, fold_rises}
-use Rattle.shard_laws.proofs.Serial.{placed, runs_placed, after_placed, filter_place, in_kept, Once, once_filter, groups_are, all_ops, all_answers, order_placed, below_placed}
+use Rattle.shard_laws.proofs.Serial.{filter_place, in_kept, Once, once_filter, serial_of}
 use Rattle.shard_laws.proofs.Members.{dep_cut, item_asked, cut_base, pile_keep, filter_all_kept, filter_alike, filter_within}
 use Rattle.shard_laws.proofs.Doubting.{prepared_cut, listed_cut}
 use Rattle.shard_laws.proofs.Restoring.{standing_updates, wrote_of}
 use Rattle.shard_laws.proofs.Rebuilding.{unmoved_from}
-use Rattle.shard_laws.proofs.Reviving.{doubt_of, doubt_closed, tidy_closed, sealed_closed, whole_log, Bounded, doubt_here}
+use Rattle.shard_laws.proofs.Remaking.{whole_log}
+use Rattle.shard_laws.proofs.Reviving.{doubt_of, doubt_closed, tidy_closed, sealed_closed, Bounded, doubt_here}
 use Rattle.shard_laws.proofs.Histories.{held}
 use Rattle.clv_base.specs.Undo.{stage_of}
 use Rattle.clv_base.specs.declared.state.Stage.TheVariants.{Closed}
@@ -205,17 +207,16 @@ module _ (all : List Item) (g : Past) (s : Shard) (told : List TxId) (cut : ℕ)
       (rising_all (filter (λ x. chosen x.tx) g.items) g.start h.kept.start_rises) (fold_rises chosen (take cut s.local.log) [] tt)
       (λ q. pile_value (filter (λ x. chosen x.tx) g.items) g.start g.base q kept_run (h.kept.base_value q)
       ∙ ap (λ ws. top_value q (pile (filter (λ x. chosen x.tx) g.items) ws)) (sym (filter_all_kept chosen g.base base_chosen))
-      ∙ ap (top_value q) (sym (pile_keep chosen g.items g.base) ∙ ap (filter (of_kept chosen)) (sym h.kept.standing_is) ∙ filter_within chosen (is_alive g.lost) (standing s.local.log) (λ t k. ap not (false_from_ne_true _ (λ l. not_lost t k l))))
+      ∙ ap (top_value q) (sym (pile_keep chosen g.items g.base))
+      ∙ sym (keys_top (filter (of_kept chosen) (filter (of_kept (is_alive g.lost)) (standing s.local.log))) (filter (of_kept chosen) (pile g.items g.base)) q (keys_filter (of_kept chosen) (filter (of_kept (is_alive g.lost)) (standing s.local.log)) (pile g.items g.base) h.kept.standing_is))
+      ∙ ap (top_value q) (filter_within chosen (is_alive g.lost) (standing s.local.log) (λ t k. ap not (false_from_ne_true _ (λ l. not_lost t k l))))
       ∙ sym (cut_map q))
 
   pub chosen_run : (replay_answers g.start (ops_by (filter chosen g.asked) all) ≡ answers_by (filter chosen g.asked) all) × (replay_map g.start (ops_by (filter chosen g.asked) all) ≡ fold_updates chosen (take cut s.local.log) [])
   chosen_run =
-      let ps : List Placed = map (placed ms) kept in
-      let o : Once ms = once_filter chosen g.asked once in
-      let run = is_serial_run g.start ps (length ms) h.kept.start_rises (order_placed ms kept kept_order) (runs_placed ms g.start kept kept_run) (below_placed ms kept kept_in) in
-      let ops : map ops_of (grouped_from 0 (length ms) ps) ≡ ops_by ms all = ap (map ops_of) (groups_are ms kept o) ∙ all_ops ms ms kept ∙ same_ops ms ms_chosen in
-      let answers : map answers_of (grouped_from 0 (length ms) ps) ≡ answers_by ms all = ap (map answers_of) (groups_are ms kept o) ∙ all_answers ms ms kept ∙ same_answers ms ms_chosen in
-      (ap (replay_answers g.start) (sym ops) ∙ run.0 ∙ answers, ap (replay_map g.start) (sym ops) ∙ run.1 ∙ after_placed ms g.start kept ∙ same_chosen)
+      let run = serial_of ms g.start kept (once_filter chosen g.asked once) h.kept.start_rises kept_run kept_order kept_in in
+      let ops = same_ops ms ms_chosen in
+      (ap (replay_answers g.start) (sym ops) ∙ run.0 ∙ same_answers ms ms_chosen, ap (replay_map g.start) (sym ops) ∙ run.1 ∙ same_chosen)
 
   pub chosen_before : (t p : TxId) → is_pair g.met t p ≡ true → chosen t ≡ true → (chosen p ≡ true) × (place (filter chosen g.asked) p < place (filter chosen g.asked) t)
   chosen_before t p e k =

@@ -1,5 +1,5 @@
 -- Who fell: whose part here went without a commit; and who is lost, since it fell or depends on one that is lost.
-use Rattle.std.proofs.Common.{◌≡◌, ◌⊎◌, inl, inr, ⊎_elim, refl, sym, ap, subst, ◌∙◌, ℕ, ◌<◌, ◌≤◌, zero, suc, Bool, true, false, ◌||◌, List, [], ◌∷◌, ◌++◌, Option, Some, None, arith}
+use Rattle.std.proofs.Common.{◌≡◌, ◌⊎◌, inl, inr, ⊎_elim, refl, sym, ap, subst, ◌∙◌, ℕ, ◌≤◌, zero, suc, Bool, true, false, ◌||◌, List, [], ◌∷◌, ◌++◌, Option, Some, None, arith}
 use Rattle.std.specs.Prelude.{take}
 use Rattle.std.proofs.lemmas.Bool.{cases_Bool, both_ways, or_cases, false_from_ne_true}
 use Rattle.std.specs.List.{list_any}
@@ -19,7 +19,7 @@ use Rattle.law_base.proofs.Tables.{stage_in, is_pair, without_pairs, pairs_stay}
 use Rattle.law_base.proofs.Commits.{commit_durable, durable_keeps, uncommitted_append, committed_append, committed_keeps}
 use Rattle.shard_laws.specs.OneShard.{is_doomed}
 use Rattle.shard_laws.proofs.Prepared.{prepared_append}
-use Rattle.shard_laws.proofs.Leaving.{stage_other, stage_own, gone_by, own_go, absent_go, in_first, in_more, in_two}
+use Rattle.shard_laws.proofs.Leaving.{stage_other, stage_own, gone_by, own_go, in_first, in_more, in_two}
 use Rattle.shard_laws.proofs.Ordered.{listed_same, unlisted}
 use Rattle.clv_base.specs.OneShard.{add_pairs}
 use Rattle.law_base.proofs.Tables.{add_keeps, add_has}
@@ -29,19 +29,20 @@ use Rattle.shard_laws.proofs.Performing.{add_which}
 abbrev pub Fell : List TxId → Table Held → TxId → Type 0
 Fell fell parts t = (tx_in t fell ≡ true) ⊎ (is_doomed (stage_in parts t) ≡ true)
 
-pub record Falls (run : ℕ) (fell lost over : List TxId) (parts : Table Held) (pairs : List (TxId × TxId)) (log : List LogRecord) (durable : ℕ) : Type 0 where
-  -- who fell is lost; who is lost is neither committed nor finished, and fell or has a predecessor that is lost; and whose predecessor is lost is lost
+pub record Falls (asked fell lost over : List TxId) (parts : Table Held) (pairs : List (TxId × TxId)) (log : List LogRecord) (durable : ℕ) : Type 0 where
+  -- who fell is lost; who is lost is neither committed nor finished, and fell or has a predecessor that is lost; whose predecessor is lost is
+  -- lost; and who lists one that is lost is lost, or its ABORT is durable
   pub fallen : (t : TxId) → Fell fell parts t → tx_in t lost ≡ true
   pub open_ : (t : TxId) → tx_in t lost ≡ true → committed_in log t ≡ false
   pub unfinished : (t : TxId) → tx_in t lost ≡ true → tx_in t over ≡ false
   pub why : (t : TxId) → tx_in t lost ≡ true → Fell fell parts t ⊎ ((p : TxId) × (is_pair pairs t p ≡ true) × (tx_in p lost ≡ true))
   pub up : (t p : TxId) → is_pair pairs t p ≡ true → tx_in p lost ≡ true → tx_in t lost ≡ true
-  pub lists : (t p : TxId) → (t.run < run → ⊥) → tx_in p (listed_in log t) ≡ true → tx_in p lost ≡ true → tx_in t lost ≡ true
-  -- who fell and is here is prepared; who is prepared and not here fell, or is of an earlier run, and then its ABORT is durable
+  pub lists : (t p : TxId) → tx_in p (listed_in log t) ≡ true → tx_in p lost ≡ true → (tx_in t lost ≡ true) ⊎ (aborted_in (take durable log) t ≡ true)
+  -- who fell and is here is prepared; who is prepared and not committed asked, or its ABORT is durable; and where it is not here it fell, or
+  -- its ABORT is durable
   pub back : (t : TxId) → tx_in t fell ≡ true → is_present (stage_in parts t) ≡ true → prepared_in log t ≡ true
-  pub gone : (t : TxId) → prepared_in log t ≡ true → committed_in log t ≡ false → is_present (stage_in parts t) ≡ false → Fell fell parts t ⊎ (t.run < run)
-  pub away : (t : TxId) → t.run < run → is_present (stage_in parts t) ≡ false
-  pub old : (t : TxId) → t.run < run → prepared_in log t ≡ true → committed_in log t ≡ false → aborted_in (take durable log) t ≡ true
+  pub owns : (t : TxId) → prepared_in log t ≡ true → committed_in log t ≡ false → (tx_in t asked ≡ true) ⊎ (aborted_in (take durable log) t ≡ true)
+  pub gone : (t : TxId) → prepared_in log t ≡ true → committed_in log t ≡ false → is_present (stage_in parts t) ≡ false → Fell fell parts t ⊎ (aborted_in (take durable log) t ≡ true)
   -- who is committed and not here is so durably; a PREPARE lists the predecessors that are not committed
   pub settled : (t : TxId) → committed_in log t ≡ true → is_present (stage_in parts t) ≡ false → commit_durable log durable t ≡ true
   pub paired : (t p : TxId) → is_pair pairs t p ≡ true → prepared_in log t ≡ true → (tx_in p (listed_in log t) ≡ true) ⊎ (committed_in log p ≡ true)
@@ -59,49 +60,56 @@ take_further test (suc m) zero xs l e = absurd (omega (arith, l))
 take_further test (suc m) (suc n) [] l e = absurd (both_ways false refl e)
 take_further test (suc m) (suc n) (x ∷ xs) l e = ⊎_elim (λ h. or_left _ _ h) (λ h. or_right (test x) _ (take_further test m n xs (omega (arith, l)) h)) (or_cases (test x) (list_any test (take m xs)) e)
 
+-- a durable ABORT stays durable
+aborts_more : {P : Type 0} (durable : ℕ) (log more : List LogRecord) (t : TxId) → P ⊎ (aborted_in (take durable log) t ≡ true) → P ⊎ (aborted_in (take durable (log ++ more)) t ≡ true)
+aborts_more durable log more t (inl p) = inl p
+aborts_more durable log more t (inr a) = inr (take_more (is_abort_of t) durable log more a)
+
+aborts_further : {P : Type 0} (durable n : ℕ) (log : List LogRecord) (t : TxId) → durable ≤ n → P ⊎ (aborted_in (take durable log) t ≡ true) → P ⊎ (aborted_in (take n log) t ≡ true)
+aborts_further durable n log t l (inl p) = inl p
+aborts_further durable n log t l (inr a) = inr (take_further (is_abort_of t) durable n log l a)
+
 pub none_lists : (p : TxId) (l : List TxId) → l ≡ [] → tx_in p l ≡ true → ⊥
 none_lists p l e i = both_ways false refl (subst (λ z. tx_in p z ≡ true) e i)
 
 -- records of which none is a PREPARE, and whose COMMITs are of those that are here and not lost
-module _ (run : ℕ) (fell lost over : List TxId) (parts : Table Held) (pairs : List (TxId × TxId)) (log more : List LogRecord) (durable : ℕ) (f : Falls run fell lost over parts pairs log durable) where
+module _ (asked fell lost over : List TxId) (parts : Table Held) (pairs : List (TxId × TxId)) (log more : List LogRecord) (durable : ℕ) (f : Falls asked fell lost over parts pairs log durable) where
   old_prepared : (t : TxId) → prepared_in more t ≡ false → prepared_in (log ++ more) t ≡ true → prepared_in log t ≡ true
   old_prepared t n e = ⊎_elim (λ h. h) (λ h. absurd (both_ways _ n h)) (or_cases (prepared_in log t) (prepared_in more t) (sym (prepared_append log more t) ∙ e))
 
   old_open : (t : TxId) → committed_in (log ++ more) t ≡ false → committed_in log t ≡ false
   old_open t e = false_from_ne_true _ (λ c. both_ways _ e (committed_keeps log more t c))
 
-  pub falls_more : ((t : TxId) → prepared_in more t ≡ false) → ((t : TxId) → committed_in more t ≡ true → (is_present (stage_in parts t) ≡ true) × (tx_in t lost ≡ false)) → Falls run fell lost over parts pairs (log ++ more) durable
+  pub falls_more : ((t : TxId) → prepared_in more t ≡ false) → ((t : TxId) → committed_in more t ≡ true → (is_present (stage_in parts t) ≡ true) × (tx_in t lost ≡ false)) → Falls asked fell lost over parts pairs (log ++ more) durable
   falls_more unprepared commits = record {
     fallen = f.fallen;
     open_ = λ t l. uncommitted_append log more t (f.open_ t l) (false_from_ne_true _ (λ c. both_ways _ (commits t c).1 l));
     unfinished = f.unfinished;
     why = f.why;
     up = f.up;
-    lists = λ t p r i l. f.lists t p r (ap (tx_in p) (sym (listed_same log more t (unprepared t))) ∙ i) l;
+    lists = λ t p i l. aborts_more durable log more t (f.lists t p (ap (tx_in p) (sym (listed_same log more t (unprepared t))) ∙ i) l);
     back = λ t i h. prepared_append log more t ∙ or_left _ _ (f.back t i h);
-    gone = λ t p c h. f.gone t (old_prepared t (unprepared t) p) (old_open t c) h;
-    away = f.away;
-    old = λ t r p c. take_more (is_abort_of t) durable log more (f.old t r (old_prepared t (unprepared t) p) (old_open t c));
+    owns = λ t p c. aborts_more durable log more t (f.owns t (old_prepared t (unprepared t) p) (old_open t c));
+    gone = λ t p c h. aborts_more durable log more t (f.gone t (old_prepared t (unprepared t) p) (old_open t c) h);
     settled = λ t c h. durable_keeps log more durable durable t (omega arith) (f.settled t (⊎_elim (λ k. k) (λ k. absurd (both_ways _ h (commits t k).0)) (or_cases (committed_in log t) (committed_in more t) (sym (committed_append log more t) ∙ c))) h);
     paired = λ t p e q. ⊎_elim (λ i. inl (ap (tx_in p) (listed_same log more t (unprepared t)) ∙ i)) (λ c. inr (committed_keeps log more p c)) (f.paired t p e (old_prepared t (unprepared t) q));
   }
 
 -- a PREPARE of an active part, which lists its predecessors that are not committed
-pub falls_prepare : (run : ℕ) (fell lost over : List TxId) (parts : Table Held) (pairs : List (TxId × TxId)) (log : List LogRecord) (durable : ℕ) (t : TxId) (home : ℕ) (ps : List TxId) → Falls run fell lost over parts pairs log durable → is_present (stage_in parts t) ≡ true → listed_in (log ++ Prepare t home ps ∷ []) t ≡ ps
-    → ((p : TxId) → tx_in p ps ≡ true → is_pair pairs t p ≡ true) → ((p : TxId) → is_pair pairs t p ≡ true → (committed_in log p ≡ true) ⊎ (tx_in p ps ≡ true)) → Falls run fell lost over parts pairs (log ++ Prepare t home ps ∷ []) durable
-falls_prepare run fell lost over parts pairs log durable t home ps f here listed mine all_mine = record {
+pub falls_prepare : (asked fell lost over : List TxId) (parts : Table Held) (pairs : List (TxId × TxId)) (log : List LogRecord) (durable : ℕ) (t : TxId) (home : ℕ) (ps : List TxId) → Falls asked fell lost over parts pairs log durable → is_present (stage_in parts t) ≡ true → tx_in t asked ≡ true → listed_in (log ++ Prepare t home ps ∷ []) t ≡ ps
+    → ((p : TxId) → tx_in p ps ≡ true → is_pair pairs t p ≡ true) → ((p : TxId) → is_pair pairs t p ≡ true → (committed_in log p ≡ true) ⊎ (tx_in p ps ≡ true)) → Falls asked fell lost over parts pairs (log ++ Prepare t home ps ∷ []) durable
+falls_prepare asked fell lost over parts pairs log durable t home ps f here asks listed mine all_mine = record {
   fallen = f.fallen;
   open_ = λ u l. uncommitted_append log (Prepare t home ps ∷ []) u (f.open_ u l) refl;
   unfinished = f.unfinished;
   why = f.why;
   up = f.up;
-  lists = λ u p r i l. ⊎_elim
-      (λ s. let e = tx_true u t s in subst (λ z. tx_in z lost ≡ true) (sym e) (f.up t p (mine p (ap (tx_in p) (sym listed) ∙ subst (λ z. tx_in p (listed_in (log ++ Prepare t home ps ∷ []) z) ≡ true) e i)) l))
-      (λ n. f.lists u p r (ap (tx_in p) (sym (listed_same log (Prepare t home ps ∷ []) u (ap (λ b. b || false) n))) ∙ i) l) (cases_Bool (tx_same u t));
+  lists = λ u p i l. ⊎_elim
+      (λ s. let e = tx_true u t s in inl (subst (λ z. tx_in z lost ≡ true) (sym e) (f.up t p (mine p (ap (tx_in p) (sym listed) ∙ subst (λ z. tx_in p (listed_in (log ++ Prepare t home ps ∷ []) z) ≡ true) e i)) l)))
+      (λ n. aborts_more durable log (Prepare t home ps ∷ []) u (f.lists u p (ap (tx_in p) (sym (listed_same log (Prepare t home ps ∷ []) u (ap (λ b. b || false) n))) ∙ i) l)) (cases_Bool (tx_same u t));
   back = λ u i h. prepared_append log (Prepare t home ps ∷ []) u ∙ or_left _ _ (f.back u i h);
-  gone = λ u p c h. f.gone u (other u (absent u h) p) (false_from_ne_true _ (λ k. both_ways _ c (committed_keeps log (Prepare t home ps ∷ []) u k))) h;
-  away = f.away;
-  old = λ u r p c. take_more (is_abort_of u) durable log (Prepare t home ps ∷ []) (f.old u r (other u (absent u (f.away u r)) p) (false_from_ne_true _ (λ k. both_ways _ c (committed_keeps log (Prepare t home ps ∷ []) u k))));
+  owns = λ u p c. ⊎_elim (λ s. inl (subst (λ z. tx_in z asked ≡ true) (sym (tx_true u t s)) asks)) (λ n. aborts_more durable log (Prepare t home ps ∷ []) u (f.owns u (other u n p) (was_open u c))) (cases_Bool (tx_same u t));
+  gone = λ u p c h. aborts_more durable log (Prepare t home ps ∷ []) u (f.gone u (other u (absent u h) p) (was_open u c) h);
   settled = λ u c h. durable_keeps log (Prepare t home ps ∷ []) durable durable u (omega arith) (f.settled u (⊎_elim (λ k. k) (λ k. absurd (both_ways false refl k)) (or_cases (committed_in log u) false (sym (committed_append log (Prepare t home ps ∷ []) u) ∙ c))) h);
   paired = λ u p e q. ⊎_elim
       (λ s. let same = tx_true u t s in ⊎_elim (λ c. inr (committed_keeps log (Prepare t home ps ∷ []) p c)) (λ i. inl (subst (λ z. tx_in p (listed_in (log ++ Prepare t home ps ∷ []) z) ≡ true) (sym same) (ap (tx_in p) listed ∙ i))) (all_mine p (subst (λ z. is_pair pairs z p ≡ true) same e)))
@@ -114,12 +122,31 @@ falls_prepare run fell lost over parts pairs log durable t home ps f here listed
     absent : (u : TxId) → is_present (stage_in parts u) ≡ false → tx_same u t ≡ false
     absent u h = tx_ne u t (λ s. both_ways _ h (ap is_present (ap (stage_in parts) s) ∙ here))
 
+    was_open : (u : TxId) → committed_in (log ++ Prepare t home ps ∷ []) u ≡ false → committed_in log u ≡ false
+    was_open u c = false_from_ne_true _ (λ k. both_ways _ c (committed_keeps log (Prepare t home ps ∷ []) u k))
+
+-- one more asked
+pub falls_asked : (asked fell lost over : List TxId) (parts : Table Held) (pairs : List (TxId × TxId)) (log : List LogRecord) (durable : ℕ) (t : TxId) → Falls asked fell lost over parts pairs log durable → Falls (asked ++ t ∷ []) fell lost over parts pairs log durable
+falls_asked asked fell lost over parts pairs log durable t f = record {
+  fallen = f.fallen;
+  open_ = f.open_;
+  unfinished = f.unfinished;
+  why = f.why;
+  up = f.up;
+  lists = f.lists;
+  back = f.back;
+  owns = λ u p c. ⊎_elim (λ a. inl (in_first asked (t ∷ []) u a)) (λ a. inr a) (f.owns u p c);
+  gone = f.gone;
+  settled = f.settled;
+  paired = f.paired;
+}
+
 -- ---- the parts
 
 -- whose presence and doom stay
-pub falls_parts : (run : ℕ) (fell lost over : List TxId) (parts parts2 : Table Held) (pairs : List (TxId × TxId)) (log : List LogRecord) (durable : ℕ) → ((t : TxId) → is_present (stage_in parts2 t) ≡ is_present (stage_in parts t)) → ((t : TxId) → is_doomed (stage_in parts2 t) ≡ is_doomed (stage_in parts t))
-    → Falls run fell lost over parts pairs log durable → Falls run fell lost over parts2 pairs log durable
-falls_parts run fell lost over parts parts2 pairs log durable same doom f = record {
+pub falls_parts : (asked fell lost over : List TxId) (parts parts2 : Table Held) (pairs : List (TxId × TxId)) (log : List LogRecord) (durable : ℕ) → ((t : TxId) → is_present (stage_in parts2 t) ≡ is_present (stage_in parts t)) → ((t : TxId) → is_doomed (stage_in parts2 t) ≡ is_doomed (stage_in parts t))
+    → Falls asked fell lost over parts pairs log durable → Falls asked fell lost over parts2 pairs log durable
+falls_parts asked fell lost over parts parts2 pairs log durable same doom f = record {
   fallen = λ t e. f.fallen t (⊎_elim (λ a. inl a) (λ a. inr (sym (doom t) ∙ a)) e);
   open_ = f.open_;
   unfinished = f.unfinished;
@@ -127,9 +154,8 @@ falls_parts run fell lost over parts parts2 pairs log durable same doom f = reco
   up = f.up;
   lists = f.lists;
   back = λ t i h. f.back t i (sym (same t) ∙ h);
+  owns = f.owns;
   gone = λ t p c h. ⊎_elim (λ e. inl (to t e)) (λ r. inr r) (f.gone t p c (sym (same t) ∙ h));
-  away = λ t r. same t ∙ f.away t r;
-  old = f.old;
   settled = λ t c h. f.settled t c (sym (same t) ∙ h);
   paired = f.paired;
 }
@@ -139,25 +165,24 @@ falls_parts run fell lost over parts parts2 pairs log durable same doom f = reco
     to t (inr d) = inr (doom t ∙ d)
 
 -- the durable front
-pub falls_front : (run : ℕ) (fell lost over : List TxId) (parts : Table Held) (pairs : List (TxId × TxId)) (log : List LogRecord) (durable n : ℕ) → durable ≤ n → ((t : TxId) → commit_durable log durable t ≡ true → commit_durable log n t ≡ true) → Falls run fell lost over parts pairs log durable → Falls run fell lost over parts pairs log n
-falls_front run fell lost over parts pairs log durable n l further f = record {
+pub falls_front : (asked fell lost over : List TxId) (parts : Table Held) (pairs : List (TxId × TxId)) (log : List LogRecord) (durable n : ℕ) → durable ≤ n → ((t : TxId) → commit_durable log durable t ≡ true → commit_durable log n t ≡ true) → Falls asked fell lost over parts pairs log durable → Falls asked fell lost over parts pairs log n
+falls_front asked fell lost over parts pairs log durable n l further f = record {
   fallen = f.fallen;
   open_ = f.open_;
   unfinished = f.unfinished;
   why = f.why;
   up = f.up;
-  lists = f.lists;
+  lists = λ t p i k. aborts_further durable n log t l (f.lists t p i k);
   back = f.back;
-  gone = f.gone;
-  away = f.away;
-  old = λ t r p c. take_further (is_abort_of t) durable n log l (f.old t r p c);
+  owns = λ t p c. aborts_further durable n log t l (f.owns t p c);
+  gone = λ t p c h. aborts_further durable n log t l (f.gone t p c h);
   settled = λ t c h. further t (f.settled t c h);
   paired = f.paired;
 }
 
 -- one more is told of
-pub falls_over : (run : ℕ) (fell lost over : List TxId) (parts : Table Held) (pairs : List (TxId × TxId)) (log : List LogRecord) (durable : ℕ) (t : TxId) → tx_in t lost ≡ false → Falls run fell lost over parts pairs log durable → Falls run fell lost (t ∷ over) parts pairs log durable
-falls_over run fell lost over parts pairs log durable t n f = record {
+pub falls_over : (asked fell lost over : List TxId) (parts : Table Held) (pairs : List (TxId × TxId)) (log : List LogRecord) (durable : ℕ) (t : TxId) → tx_in t lost ≡ false → Falls asked fell lost over parts pairs log durable → Falls asked fell lost (t ∷ over) parts pairs log durable
+falls_over asked fell lost over parts pairs log durable t n f = record {
   fallen = f.fallen;
   open_ = f.open_;
   unfinished = λ u l. neither (tx_same t u) (tx_in u over) (tx_ne t u (λ s. both_ways _ n (subst (λ z. tx_in z lost ≡ true) (sym s) l))) (f.unfinished u l);
@@ -165,9 +190,8 @@ falls_over run fell lost over parts pairs log durable t n f = record {
   up = f.up;
   lists = f.lists;
   back = f.back;
+  owns = f.owns;
   gone = f.gone;
-  away = f.away;
-  old = f.old;
   settled = f.settled;
   paired = f.paired;
 }
@@ -177,9 +201,9 @@ falls_over run fell lost over parts pairs log durable t n f = record {
     neither false b e f = f
 
 -- one that is not lost leaves, with a durable COMMIT or without a PREPARE
-pub falls_finish : (run : ℕ) (fell lost over : List TxId) (parts : Table Held) (pairs : List (TxId × TxId)) (log : List LogRecord) (durable : ℕ) (t : TxId) → Falls run fell lost over parts pairs log durable → tx_in t lost ≡ false
-    → (committed_in log t ≡ true → commit_durable log durable t ≡ true) → (prepared_in log t ≡ true → committed_in log t ≡ true) → Falls run fell lost over (gone_in (t ∷ []) None parts) (pairs_without (t ∷ []) pairs) log durable
-falls_finish run fell lost over parts pairs log durable t f n durably prepared = record {
+pub falls_finish : (asked fell lost over : List TxId) (parts : Table Held) (pairs : List (TxId × TxId)) (log : List LogRecord) (durable : ℕ) (t : TxId) → Falls asked fell lost over parts pairs log durable → tx_in t lost ≡ false
+    → (committed_in log t ≡ true → commit_durable log durable t ≡ true) → (prepared_in log t ≡ true → committed_in log t ≡ true) → Falls asked fell lost over (gone_in (t ∷ []) None parts) (pairs_without (t ∷ []) pairs) log durable
+falls_finish asked fell lost over parts pairs log durable t f n durably prepared = record {
   fallen = λ u e. f.fallen u (⊎_elim (λ i. inl i) (λ d. inr (undoomed u d)) e);
   open_ = f.open_;
   unfinished = f.unfinished;
@@ -187,10 +211,9 @@ falls_finish run fell lost over parts pairs log durable t f n durably prepared =
   up = λ u p e l. f.up u p (without_pairs (t ∷ []) pairs u p e).0 l;
   lists = f.lists;
   back = λ u i h. f.back u i (was u h);
+  owns = f.owns;
   gone = λ u p c h. ⊎_elim (λ i. absurd (both_ways _ c (ap (committed_in log) (one u i) ∙ prepared (ap (prepared_in log) (sym (one u i)) ∙ p))))
       (λ i. ⊎_elim (λ e. inl (⊎_elim (λ a. inl a) (λ d. inr (ap is_doomed (stage_other (t ∷ []) None u parts i) ∙ d)) e)) (λ r. inr r) (f.gone u p c (ap is_present (sym (stage_other (t ∷ []) None u parts i)) ∙ h))) (cases_Bool (tx_in u (t ∷ [])));
-  away = λ u r. absent_go (t ∷ []) None u parts (f.away u r);
-  old = f.old;
   settled = λ u c h. ⊎_elim (λ i. ap (commit_durable log durable) (one u i) ∙ durably (ap (committed_in log) (sym (one u i)) ∙ c)) (λ i. f.settled u c (ap is_present (sym (stage_other (t ∷ []) None u parts i)) ∙ h)) (cases_Bool (tx_in u (t ∷ [])));
   paired = λ u p e q. f.paired u p (without_pairs (t ∷ []) pairs u p e).0 q;
 }
@@ -213,7 +236,7 @@ falls_finish run fell lost over parts pairs log durable t f n durably prepared =
 
 -- ---- a set is taken away
 
-module _ (run : ℕ) (fell lost over : List TxId) (parts : Table Held) (pairs : List (TxId × TxId)) (log more : List LogRecord) (durable : ℕ) (set : List TxId) (d : TxId) (f : Falls run fell lost over parts pairs log durable)
+module _ (asked fell lost over : List TxId) (parts : Table Held) (pairs : List (TxId × TxId)) (log more : List LogRecord) (durable : ℕ) (set : List TxId) (d : TxId) (f : Falls asked fell lost over parts pairs log durable)
     (upward : (t p : TxId) → is_pair pairs t p ≡ true → tx_in p set ≡ true → tx_in t set ≡ true) (undecided : (t : TxId) → tx_in t set ≡ true → committed_in log t ≡ false) (here : (t : TxId) → tx_in t set ≡ true → is_present (stage_in parts t) ≡ true) (unfinished : (t : TxId) → tx_in t set ≡ true → tx_in t over ≡ false)
     (listed : (t p : TxId) → is_present (stage_in parts t) ≡ true → tx_in p (listed_in log t) ≡ true → (committed_in log p ≡ true) ⊎ (is_pair pairs t p ≡ true)) (lists_committed : (t p : TxId) → committed_in log t ≡ true → tx_in p (listed_in log t) ≡ true → committed_in log p ≡ true)
     (no_prepare : (t : TxId) → prepared_in more t ≡ false) (no_commit : (t : TxId) → committed_in more t ≡ false) where
@@ -235,14 +258,14 @@ module _ (run : ℕ) (fell lost over : List TxId) (parts : Table Held) (pairs : 
   was_here t h = let out : tx_in t set ≡ false = false_from_ne_true _ (λ i. both_ways _ (own_go set (Some d) t parts i) h) in (out, ap is_present (sym (stage_other set (Some d) t parts out)) ∙ h)
 
   -- who lists one of the set is lost
-  set_listed : (t p : TxId) → (t.run < run → ⊥) → tx_in p (listed_in log t) ≡ true → tx_in p set ≡ true → tx_in t (set ++ lost) ≡ true
-  set_listed t p r i s =
+  set_listed : (t p : TxId) → tx_in p (listed_in log t) ≡ true → tx_in p set ≡ true → (tx_in t (set ++ lost) ≡ true) ⊎ (aborted_in (take durable log) t ≡ true)
+  set_listed t p i s =
       ⊎_elim
-      (λ h. ⊎_elim (λ c. absurd (both_ways _ (undecided p s) c)) (λ e. in_first set lost t (upward t p e s)) (listed t p h i))
-      (λ h. ⊎_elim (λ c. absurd (both_ways _ (undecided p s) (lists_committed t p c i))) (λ c. ⊎_elim (λ e. in_more set lost t (f.fallen t e)) (λ o. absurd (r o)) (f.gone t (is_prepared t p i) c h)) (cases_Bool (committed_in log t)))
+      (λ h. ⊎_elim (λ c. absurd (both_ways _ (undecided p s) c)) (λ e. inl (in_first set lost t (upward t p e s))) (listed t p h i))
+      (λ h. ⊎_elim (λ c. absurd (both_ways _ (undecided p s) (lists_committed t p c i))) (λ c. ⊎_elim (λ e. inl (in_more set lost t (f.fallen t e))) (λ a. inr a) (f.gone t (is_prepared t p i) c h)) (cases_Bool (committed_in log t)))
       (cases_Bool (is_present (stage_in parts t)))
 
-  falls_set : Falls run fell (set ++ lost) over (gone_in set (Some d) parts) (pairs_without set pairs) log durable
+  falls_set : Falls asked fell (set ++ lost) over (gone_in set (Some d) parts) (pairs_without set pairs) log durable
   falls_set = record {
     fallen = λ t e. ⊎_elim (λ i. in_first set lost t i) (λ i. in_more set lost t (f.fallen t (⊎_elim (λ a. inl a) (λ a. inr (ap is_doomed (sym (stage_other set (Some d) t parts i)) ∙ a)) e))) (cases_Bool (tx_in t set));
     open_ = λ t l. ⊎_elim (λ i. undecided t i) (λ i. f.open_ t i) (in_two set lost t l);
@@ -250,22 +273,21 @@ module _ (run : ℕ) (fell lost over : List TxId) (parts : Table Held) (pairs : 
     why = λ t l. ⊎_elim (λ i. inl (inr (own_doomed t i)))
         (λ out. ⊎_elim (λ e. inl (now_fell t e)) (λ q. inr (q.0, pairs_stay set pairs t q.0 out q.1, in_more set lost q.0 q.2)) (f.why t (⊎_elim (λ i. absurd (both_ways _ out i)) (λ i. i) (in_two set lost t l)))) (cases_Bool (tx_in t set));
     up = λ t p e l. let w = without_pairs set pairs t p e in in_more set lost t (f.up t p w.0 (⊎_elim (λ i. absurd (both_ways _ w.1 (upward t p w.0 i))) (λ i. i) (in_two set lost p l)));
-    lists = λ t p r i l. ⊎_elim (λ s. set_listed t p r i s) (λ s. in_more set lost t (f.lists t p r i s)) (in_two set lost p l);
+    lists = λ t p i l. ⊎_elim (λ s. set_listed t p i s) (λ s. ⊎_elim (λ k. inl (in_more set lost t k)) (λ a. inr a) (f.lists t p i s)) (in_two set lost p l);
     back = λ t i h. f.back t i (was_here t h).1;
+    owns = f.owns;
     gone = λ t p c h. ⊎_elim (λ i. inl (inr (own_doomed t i))) (λ i. ⊎_elim (λ e. inl (now_fell t e)) (λ r. inr r) (f.gone t p c (ap is_present (sym (stage_other set (Some d) t parts i)) ∙ h))) (cases_Bool (tx_in t set));
-    away = λ t r. absent_go set (Some d) t parts (f.away t r);
-    old = f.old;
     settled = λ t c h. f.settled t c (ap is_present (sym (stage_other set (Some d) t parts (false_from_ne_true _ (λ i. both_ways _ (undecided t i) c)))) ∙ h);
     paired = λ t p e q. f.paired t p (without_pairs set pairs t p e).0 q;
   }
 
-  pub falls_taken : Falls run fell (set ++ lost) over (gone_in set (Some d) parts) (pairs_without set pairs) (log ++ more) durable
-  falls_taken = falls_more run fell (set ++ lost) over (gone_in set (Some d) parts) (pairs_without set pairs) log more durable falls_set no_prepare (λ t c. absurd (both_ways _ (no_commit t) c))
+  pub falls_taken : Falls asked fell (set ++ lost) over (gone_in set (Some d) parts) (pairs_without set pairs) (log ++ more) durable
+  falls_taken = falls_more asked fell (set ++ lost) over (gone_in set (Some d) parts) (pairs_without set pairs) log more durable falls_set no_prepare (λ t c. absurd (both_ways _ (no_commit t) c))
 
 -- ---- a granted operation of an active or a new part
 
-module _ (run : ℕ) (fell lost over : List TxId) (parts parts2 : Table Held) (pairs : List (TxId × TxId)) (log : List LogRecord) (durable : ℕ) (t : TxId) (vs : List TxId) (f : Falls run fell lost over parts pairs log durable)
-    (own : stage_in parts2 t ≡ Some Active) (same : (u : TxId) → (u ≡ t → ⊥) → stage_in parts2 u ≡ stage_in parts u) (run_is : t.run ≡ run) (unfallen : tx_in t fell ≡ false) (undoomed : is_doomed (stage_in parts t) ≡ false) (unprepared : prepared_in log t ≡ false) where
+module _ (asked fell lost over : List TxId) (parts parts2 : Table Held) (pairs : List (TxId × TxId)) (log : List LogRecord) (durable : ℕ) (t : TxId) (vs : List TxId) (f : Falls asked fell lost over parts pairs log durable)
+    (own : stage_in parts2 t ≡ Some Active) (same : (u : TxId) → (u ≡ t → ⊥) → stage_in parts2 u ≡ stage_in parts u) (unfallen : tx_in t fell ≡ false) (undoomed : is_doomed (stage_in parts t) ≡ false) (unprepared : prepared_in log t ≡ false) where
   not_absent : (u : TxId) → is_present (stage_in parts2 u) ≡ false → u ≡ t → ⊥
   not_absent u h s = both_ways _ h (ap is_present (ap (stage_in parts2) s ∙ own))
 
@@ -283,17 +305,14 @@ module _ (run : ℕ) (fell lost over : List TxId) (parts parts2 : Table Held) (p
   now_back : (u : TxId) → tx_in u fell ≡ true → is_present (stage_in parts2 u) ≡ true → prepared_in log u ≡ true
   now_back u i h = f.back u i (ap is_present (sym (same u (λ s. both_ways _ unfallen (subst (λ z. tx_in z fell ≡ true) s i)))) ∙ h)
 
-  now_gone : (u : TxId) → prepared_in log u ≡ true → committed_in log u ≡ false → is_present (stage_in parts2 u) ≡ false → Fell fell parts2 u ⊎ (u.run < run)
+  now_gone : (u : TxId) → prepared_in log u ≡ true → committed_in log u ≡ false → is_present (stage_in parts2 u) ≡ false → Fell fell parts2 u ⊎ (aborted_in (take durable log) u ≡ true)
   now_gone u p c h = ⊎_elim (λ e. inl (fell_now u e)) (λ r. inr r) (f.gone u p c (was_absent u h))
-
-  now_away : (u : TxId) → u.run < run → is_present (stage_in parts2 u) ≡ false
-  now_away u r = ap is_present (same u (λ s. let e : u.run ≡ run = ap (λ z. z.run) s ∙ run_is in omega (arith, r, e))) ∙ f.away u r
 
   now_paired : (u p : TxId) → is_pair (add_pairs t vs pairs) u p ≡ true → prepared_in log u ≡ true → (tx_in p (listed_in log u) ≡ true) ⊎ (committed_in log p ≡ true)
   now_paired u p e q = ⊎_elim (λ o. f.paired u p o q) (λ n. absurd (both_ways _ unprepared (subst (λ z. prepared_in log z ≡ true) n.0 q))) (add_which t vs pairs u p e)
 
   -- neither it nor whom it violated is lost
-  pub falls_alive : tx_in t lost ≡ false → ((p : TxId) → tx_in p vs ≡ true → tx_in p lost ≡ false) → Falls run fell lost over parts2 (add_pairs t vs pairs) log durable
+  pub falls_alive : tx_in t lost ≡ false → ((p : TxId) → tx_in p vs ≡ true → tx_in p lost ≡ false) → Falls asked fell lost over parts2 (add_pairs t vs pairs) log durable
   falls_alive alive others = record {
     fallen = λ u e. f.fallen u (fell_back u e).1;
     open_ = f.open_;
@@ -302,16 +321,15 @@ module _ (run : ℕ) (fell lost over : List TxId) (parts parts2 : Table Held) (p
     up = λ u p e l. ⊎_elim (λ o. f.up u p o l) (λ n. absurd (both_ways _ (others p n.1) l)) (add_which t vs pairs u p e);
     lists = f.lists;
     back = now_back;
+    owns = f.owns;
     gone = now_gone;
-    away = now_away;
-    old = f.old;
     settled = λ u c h. f.settled u c (was_absent u h);
     paired = now_paired;
   }
 
   -- it is lost: already, or by one that it violated
   pub falls_lost : committed_in log t ≡ false → tx_in t over ≡ false → ((u : TxId) → is_pair pairs u t ≡ true → ⊥) → ((u p : TxId) → tx_in p (listed_in log u) ≡ true → prepared_in log p ≡ true) → (tx_in t lost ≡ true) ⊎ ((p : TxId) × (tx_in p vs ≡ true) × (tx_in p lost ≡ true))
-      → Falls run fell (t ∷ lost) over parts2 (add_pairs t vs pairs) log durable
+      → Falls asked fell (t ∷ lost) over parts2 (add_pairs t vs pairs) log durable
   falls_lost open_ unfinished no_succ listed because = record {
     fallen = λ u e. or_right (tx_same t u) _ (f.fallen u (fell_back u e).1);
     open_ = λ u l. ⊎_elim (λ s. subst (λ z. committed_in log z ≡ false) (tx_true t u s) open_) (λ i. f.open_ u i) (or_cases (tx_same t u) (tx_in u lost) l);
@@ -320,11 +338,10 @@ module _ (run : ℕ) (fell lost over : List TxId) (parts parts2 : Table Held) (p
     up = λ u p e l. ⊎_elim
         (λ o. ⊎_elim (λ s. absurd (no_succ u (subst (λ z. is_pair pairs u z ≡ true) (sym (tx_true t p s)) o))) (λ i. or_right (tx_same t u) _ (f.up u p o i)) (or_cases (tx_same t p) (tx_in p lost) l))
         (λ n. or_left _ _ (tx_eq t u (sym n.0))) (add_which t vs pairs u p e);
-    lists = λ u p r i l. ⊎_elim (λ s. absurd (both_ways _ unprepared (subst (λ z. prepared_in log z ≡ true) (sym (tx_true t p s)) (listed u p i)))) (λ j. or_right (tx_same t u) _ (f.lists u p r i j)) (or_cases (tx_same t p) (tx_in p lost) l);
+    lists = λ u p i l. ⊎_elim (λ s. absurd (both_ways _ unprepared (subst (λ z. prepared_in log z ≡ true) (sym (tx_true t p s)) (listed u p i)))) (λ j. ⊎_elim (λ k. inl (or_right (tx_same t u) _ k)) (λ a. inr a) (f.lists u p i j)) (or_cases (tx_same t p) (tx_in p lost) l);
     back = now_back;
+    owns = f.owns;
     gone = now_gone;
-    away = now_away;
-    old = f.old;
     settled = λ u c h. f.settled u c (was_absent u h);
     paired = now_paired;
   }

@@ -37,6 +37,7 @@ use Rattle.shard_laws.proofs.Asking.{holds_at, holds_by}
 use Rattle.law_base.proofs.Tables.{stage_in, stage_by, is_pair}
 use Rattle.law_base.proofs.Commits.{CommitBefore, commit_durable, before_keeps, before_first, durable_committed, durable_keeps, uncommitted_append, committed_from}
 use Rattle.shard_laws.proofs.Prepared.{Prepared, prepared_item, prepared_update}
+use Rattle.shard_laws.proofs.AtKeys.{key_writes, keys_filter, keys_top, keys_on_top}
 use Rattle.shard_laws.proofs.Kept.{View, Past, place, StageFits, Belongs, Covers, Wrote, Dep, Known, Left, Ended, Kept, of_kept, is_alive}
 use Rattle.order_laws.specs.Order.{Tidy, undone_in}
 use Rattle.clv_base.specs.declared.ops.Op.{Op}
@@ -460,7 +461,7 @@ module _ (g : Past) (v : View) (tx : TxId) (birth : Birth) (op : Op) (k : Kept g
   same_values : tx_in tx g.lost ≡ false → ((p : TxId) → tx_in p (violated tx needs v.locks) ≡ true → tx_in p g.lost ≡ false) → (q : ℕ) → meets item q ≡ true → map_get q (live_pairs v.records) ≡ map_get q (after g.start g.items)
   same_values own others q met =
       live_find q v.records k.rises ∙ k.values q
-      ∙ sym (pile_value g.items g.start g.base q k.runs (k.base_value q) ∙ ap (top_value q) (sym k.standing_is)
+      ∙ sym (pile_value g.items g.start g.base q k.runs (k.base_value q) ∙ sym (keys_top (filter (of_kept (is_alive g.lost)) (standing v.log)) (pile g.items g.base) q k.standing_is)
       ∙ top_alive (is_alive g.lost) q (standing v.log) (all_mono _ _ (λ w h e. ap not (alive_at w h e)) (standing v.log) k.wrote))
     where
       alive_at : (w : StandingUpdate) → Wrote v w → w.key ≡ q → tx_in w.tx g.lost ≡ false
@@ -592,7 +593,9 @@ module _ (g : Past) (v : View) (tx : TxId) (birth : Birth) (op : Op) (k : Kept g
     base_chain = k.base_chain;
     base_done = all_mono _ _ (λ w c. durable_by change w.tx c) g.base k.base_done;
     runs = runs_push g.items item g.start k.runs (answer_now own others);
-    standing_is = ap (filter (of_kept (is_alive g.lost))) (standing_by change) ∙ top_kept change own ∙ ap (on_top tx (0 + length v.log) change) k.standing_is ∙ ap (λ w. on_top tx (0 + length v.log) w (pile g.items g.base)) (sym wrote_here) ∙ sym (pile_push g.items item g.base);
+    standing_is = λ q. ap (key_writes q) (ap (filter (of_kept (is_alive g.lost))) (standing_by change) ∙ top_kept change own)
+        ∙ keys_on_top tx (0 + length v.log) change (filter (of_kept (is_alive g.lost)) (standing v.log)) (pile g.items g.base) k.standing_is q
+        ∙ ap (key_writes q) (ap (λ w. on_top tx (0 + length v.log) w (pile g.items g.base)) (sym wrote_here) ∙ sym (pile_push g.items item g.base));
     rises = rising_by v.records change k.rises;
     values = values_now;
     logged = all_push _ g.items item (all_mono _ _ (λ x h q w. wrote_by change x.tx (h q w)) g.items k.logged) (λ q w. own_wrote change q (writes_here q w));
@@ -644,8 +647,9 @@ module _ (g : Past) (v : View) (tx : TxId) (birth : Birth) (op : Op) (k : Kept g
     base_chain = k.base_chain;
     base_done = all_mono _ _ (λ w c. durable_by change w.tx c) g.base k.base_done;
     runs = kept_runs (keeps_of (tx ∷ [])) g.items g.start g.start k.start_rises k.start_rises k.runs (later_mono _ _ keeps_own g.items k.causes) (λ q. inl refl);
-    standing_is = ap (filter (of_kept (is_alive (tx ∷ g.lost)))) (standing_by change) ∙ top_lost change ∙ filter_less (tx ∷ []) g.lost (standing v.log) ∙ ap (filter (stays_of (tx ∷ []))) k.standing_is ∙ pile_filter (tx ∷ []) g.items g.base
-        ∙ ap (pile (filter (keeps_of (tx ∷ [])) g.items)) (filter_all (tx ∷ []) g.base base_other);
+    standing_is = λ q. ap (key_writes q) (ap (filter (of_kept (is_alive (tx ∷ g.lost)))) (standing_by change) ∙ top_lost change ∙ filter_less (tx ∷ []) g.lost (standing v.log))
+        ∙ keys_filter (stays_of (tx ∷ [])) (filter (of_kept (is_alive g.lost)) (standing v.log)) (pile g.items g.base) k.standing_is q
+        ∙ ap (key_writes q) (pile_filter (tx ∷ []) g.items g.base ∙ ap (pile (filter (keeps_of (tx ∷ [])) g.items)) (filter_all (tx ∷ []) g.base base_other));
     rises = rising_by v.records change k.rises;
     values = values_now;
     logged = all_mono _ _ (λ x h q w. wrote_by change x.tx (h.0 q w)) (filter (keeps_of (tx ∷ [])) g.items) (all_filter _ (keeps_of (tx ∷ [])) g.items k.logged);

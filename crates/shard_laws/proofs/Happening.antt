@@ -69,7 +69,7 @@ use Rattle.shard_laws.proofs.Closing.{keeps_close, keeps_asked, in_push, stage_c
 use Rattle.std.proofs.Common.{append-nil}
 use Rattle.shard_laws.proofs.Granting.{keeps_performed, keeps_lost_op, MayStand, other_part, own_part, log_by}
 use Rattle.shard_laws.specs.OneShard.{is_doomed}
-use Rattle.shard_laws.proofs.Falls.{Falls, falls_more, falls_prepare, falls_parts, falls_over, falls_front, falls_alive, falls_lost}
+use Rattle.shard_laws.proofs.Falls.{Falls, falls_more, falls_prepare, falls_parts, falls_over, falls_front, falls_alive, falls_lost, falls_asked}
 use Rattle.shard_laws.proofs.Listing.{listed_prepared}
 use Rattle.shard_laws.proofs.Prepared.{by_prepare}
 use Rattle.shard_laws.proofs.Kept.{Dep}
@@ -206,7 +206,7 @@ written_wrote tx (Some w) u t e = list_any-append (is_update_of t) u.log (Update
 push_own : (x : Item) (tx : TxId) → x.tx ≡ tx → (u : TxId) → u ≡ tx → (xs : List Item) → items_of u (xs ++ x ∷ []) ≡ items_of u xs ++ x ∷ []
 push_own x tx own u e xs = filter_push (λ y. tx_same y.tx u) xs x (tx_eq x.tx u (own ∙ sym e))
 
-push_other : (x : Item) (u : TxId) → (x.tx ≡ u → ⊥) → (xs : List Item) → items_of u (xs ++ x ∷ []) ≡ items_of u xs
+pub push_other : (x : Item) (u : TxId) → (x.tx ≡ u → ⊥) → (xs : List Item) → items_of u (xs ++ x ∷ []) ≡ items_of u xs
 push_other x u ne [] = cond-false (tx_same x.tx u) (x ∷ []) [] (tx_ne x.tx u ne)
 push_other x u ne (y ∷ ys) = ap (λ l. cond (tx_same y.tx u) (y ∷ l) l) (push_other x u ne ys)
 
@@ -232,14 +232,14 @@ told_own all g s tx u e h fresh new alive o =
     none_part None e = refl
     none_part (Some h) e = absurd cc
 
-falls_by : (run : ℕ) (fell lost over : List TxId) (parts : Table Held) (pairs : List (TxId × TxId)) (log : List LogRecord) (durable : ℕ) (tx : TxId) (w : Change) → Falls run fell lost over parts pairs log durable → Falls run fell lost over parts pairs (log_by tx w log) durable
-falls_by run fell lost over parts pairs log durable tx None f = f
-falls_by run fell lost over parts pairs log durable tx (Some w) f = falls_more run fell lost over parts pairs log (Update tx w.0 w.1 w.2 ∷ []) durable f (λ t. refl) (λ t c. absurd (both_ways false refl c))
+falls_by : (asked fell lost over : List TxId) (parts : Table Held) (pairs : List (TxId × TxId)) (log : List LogRecord) (durable : ℕ) (tx : TxId) (w : Change) → Falls asked fell lost over parts pairs log durable → Falls asked fell lost over parts pairs (log_by tx w log) durable
+falls_by asked fell lost over parts pairs log durable tx None f = f
+falls_by asked fell lost over parts pairs log durable tx (Some w) f = falls_more asked fell lost over parts pairs log (Update tx w.0 w.1 w.2 ∷ []) durable f (λ t. refl) (λ t c. absurd (both_ways false refl c))
 
-falls_written : (run : ℕ) (fell lost over : List TxId) (tx : TxId) (birth : Birth) (op : Op) (l : Local) (durable : ℕ) (w : Change) → Falls run fell lost over (locked tx birth op l).parts (locked tx birth op l).pairs (log_by tx w l.log) durable
-    → Falls run fell lost over (written tx w (locked tx birth op l)).parts (written tx w (locked tx birth op l)).pairs (written tx w (locked tx birth op l)).log durable
-falls_written run fell lost over tx birth op l durable None f = f
-falls_written run fell lost over tx birth op l durable (Some w) f = f
+falls_written : (asked fell lost over : List TxId) (tx : TxId) (birth : Birth) (op : Op) (l : Local) (durable : ℕ) (w : Change) → Falls asked fell lost over (locked tx birth op l).parts (locked tx birth op l).pairs (log_by tx w l.log) durable
+    → Falls asked fell lost over (written tx w (locked tx birth op l)).parts (written tx w (locked tx birth op l)).pairs (written tx w (locked tx birth op l)).log durable
+falls_written asked fell lost over tx birth op l durable None f = f
+falls_written asked fell lost over tx birth op l durable (Some w) f = f
 
 module _ (all : List Item) (g : Past) (s : Shard) (tx : TxId) (birth : Birth) (op : Op) (h : Sound all g s) (grant : decide tx birth (needs_of op s.local.records) s.local.locks ≡ Grant) (fresh : tx_get tx s.local.parts ≡ None → Fresh all g.met g.fell s tx) (same : (h : Held) → tx_get tx s.local.parts ≡ Some h → h.birth ≡ birth)
     (new : tx_in tx g.asked ≡ false) (run_is : tx.run ≡ s.run) (o : (stage_of s.local tx ≡ None) ⊎ (stage_of s.local tx ≡ Some Active)) where
@@ -282,7 +282,7 @@ module _ (all : List Item) (g : Past) (s : Shard) (tx : TxId) (birth : Birth) (o
 
   -- whatever the past keeps of it
   performed_with : (items : List Item) (lost : List TxId) → Kept (record g { items = items; lost = lost; met = map (λ p. (tx, p)) vs ++ g.met }) (view_of (record s { local = performed tx birth op s.local }))
-      → ((v : TxId) → (tx_in v lost ≡ true) ⊎ (items_of v items ≡ items_of v (all ++ done ∷ []))) → Falls s.run g.fell lost g.over (new_part tx birth (tx_get tx s.local.parts) s.local.parts) (add_pairs tx vs s.local.pairs) s.local.log s.durable
+      → ((v : TxId) → (tx_in v lost ≡ true) ⊎ (items_of v items ≡ items_of v (all ++ done ∷ []))) → Falls g.asked g.fell lost g.over (new_part tx birth (tx_get tx s.local.parts) s.local.parts) (add_pairs tx vs s.local.pairs) s.local.log s.durable
       → Sound (all ++ done ∷ []) (record g { items = items; lost = lost; met = map (λ p. (tx, p)) vs ++ g.met }) (record s { local = performed tx birth op s.local })
   performed_with items lost kept told falls =
       let w : Change = writes_of op (value_at (key_of op) s.local.records) in
@@ -297,7 +297,7 @@ module _ (all : List Item) (g : Past) (s : Shard) (tx : TxId) (birth : Birth) (o
         read = λ t v e f. let r = h.read t v e f in
             ap (λ p. stage_in p t) (written_parts tx w u) ∙ others_now t (λ q. left (ap (stage_of s.local) (sym q) ∙ r)) ∙ r;
         asked = λ t e. ⊎_elim (λ c. h.asked t c) (λ c. absurd (both_ways _ (written_open tx w u t c) e)) (cases_Bool (committed_in s.local.log t));
-        falls = falls_written s.run g.fell lost g.over tx birth op s.local s.durable (writes_of op (value_at (key_of op) s.local.records)) (falls_by s.run g.fell lost g.over (new_part tx birth (tx_get tx s.local.parts) s.local.parts) (add_pairs tx vs s.local.pairs) s.local.log s.durable tx (writes_of op (value_at (key_of op) s.local.records)) falls);
+        falls = falls_written g.asked g.fell lost g.over tx birth op s.local s.durable (writes_of op (value_at (key_of op) s.local.records)) (falls_by g.asked g.fell lost g.over (new_part tx birth (tx_get tx s.local.parts) s.local.parts) (add_pairs tx vs s.local.pairs) s.local.log s.durable tx (writes_of op (value_at (key_of op) s.local.records)) falls);
         unfallen = λ t q e un here. ⊎_elim (λ e2. ap (λ z. tx_in z g.fell) e2 ∙ fr.unfallen) (λ ne. h.unfallen t q e un (ap is_present (sym (others_now t ne) ∙ sym (ap (λ p. stage_in p t) (written_parts tx w u))) ∙ here)) (cases_tx t tx);
         order = order_performs g.asked g s tx birth op h.kept h.order grant (stands_now g s tx birth same o) run_is fr.open_ fr.unprepared fr.unaborted fr.unwritten;
       }
@@ -335,7 +335,7 @@ module _ (all : List Item) (g : Past) (s : Shard) (tx : TxId) (birth : Birth) (o
     record g { items = filter (keeps_of (tx ∷ [])) g.items; lost = tx ∷ g.lost; met = map (λ p. (tx, p)) vs ++ g.met },
     performed_with (filter (keeps_of (tx ∷ [])) g.items) (tx ∷ g.lost)
         (keeps_lost_op g s tx birth op h.kept grant (stands_now g s tx birth same o) new fr.open_ fr.alive fr.unprepared met_active no_succ h.falls.open_) told_lost
-        (falls_lost s.run g.fell g.lost g.over s.local.parts (new_part tx birth (tx_get tx s.local.parts) s.local.parts) s.local.pairs s.local.log s.durable tx vs h.falls own_now others_now run_is fr.unfallen fr.undoomed fr.unprepared fr.open_ not_over no_succ (listed_prepared s.shard s.local.log h.order.ordered.follows) why),
+        (falls_lost g.asked g.fell g.lost g.over s.local.parts (new_part tx birth (tx_get tx s.local.parts) s.local.parts) s.local.pairs s.local.log s.durable tx vs h.falls own_now others_now fr.unfallen fr.undoomed fr.unprepared fr.open_ not_over no_succ (listed_prepared s.shard s.local.log h.order.ordered.follows) why),
     refl,
     refl,
     refl,
@@ -353,7 +353,7 @@ module _ (all : List Item) (g : Past) (s : Shard) (tx : TxId) (birth : Birth) (o
         record g { items = g.items ++ done ∷ []; met = map (λ p. (tx, p)) vs ++ g.met },
         performed_with (g.items ++ done ∷ []) g.lost
             (keeps_performed g s tx birth op h.kept grant (stands_now g s tx birth same o) new fr.open_ fr.alive fr.unprepared met_active no_succ h.falls.open_ alive (none_lost vs none)) (told_alive alive)
-            (falls_alive s.run g.fell g.lost g.over s.local.parts (new_part tx birth (tx_get tx s.local.parts) s.local.parts) s.local.pairs s.local.log s.durable tx vs h.falls own_now others_now run_is fr.unfallen fr.undoomed fr.unprepared alive (none_lost vs none)),
+            (falls_alive g.asked g.fell g.lost g.over s.local.parts (new_part tx birth (tx_get tx s.local.parts) s.local.parts) s.local.pairs s.local.log s.durable tx vs h.falls own_now others_now fr.unfallen fr.undoomed fr.unprepared alive (none_lost vs none)),
         refl,
         refl,
         refl,
@@ -407,17 +407,17 @@ met_deps all g s tx h act p e = ⊎_elim (λ o. absurd (o.1 act)) (λ d. d.0) (h
 unfallen_active : (all : List Item) (g : Past) (s : Shard) (tx : TxId) → Sound all g s → stage_of s.local tx ≡ Some Active → tx_in tx g.fell ≡ false
 unfallen_active all g s tx h act = false_from_ne_true _ (λ i. both_ways _ (h.kept.prepared.unprepared tx act) (h.falls.back tx i (ap is_present act)))
 
-closing_prepares : (all : List Item) (g : Past) (s : Shard) (tx : TxId) (home : ℕ) (ps : List TxId) → Sound all g s → stage_of s.local tx ≡ Some Active → undecided_of s.local tx ≡ ps → Falls s.run g.fell g.lost g.over s.local.parts s.local.pairs (s.local.log ++ Prepare tx home ps ∷ []) s.durable
-closing_prepares all g s tx home ps h act e = falls_prepare s.run g.fell g.lost g.over s.local.parts s.local.pairs s.local.log s.durable tx home ps h.falls (ap is_present act) (ap by_prepare (prepare_here s.local.log [] tx home ps (h.kept.prepared.unprepared tx act)))
+closing_prepares : (all : List Item) (g : Past) (s : Shard) (tx : TxId) (home : ℕ) (ps : List TxId) → Sound all g s → stage_of s.local tx ≡ Some Active → tx_in tx g.asked ≡ true → undecided_of s.local tx ≡ ps → Falls g.asked g.fell g.lost g.over s.local.parts s.local.pairs (s.local.log ++ Prepare tx home ps ∷ []) s.durable
+closing_prepares all g s tx home ps h act asks e = falls_prepare g.asked g.fell g.lost g.over s.local.parts s.local.pairs s.local.log s.durable tx home ps h.falls (ap is_present act) asks (ap by_prepare (prepare_here s.local.log [] tx home ps (h.kept.prepared.unprepared tx act)))
     (λ p i. in_pair s.local.pairs tx p (in_filter (λ q. not (committed_in s.local.log q)) p (predecessors_of s.local.pairs tx) (subst (λ l. tx_in p l ≡ true) (sym e) i)).0) (lists_all s tx ps e)
 
-closing_falls : (all : List Item) (g : Past) (s : Shard) (tx : TxId) (home : ℕ) (wrote one : Bool) (ps : List TxId) → Sound all g s → stage_of s.local tx ≡ Some Active → undecided_of s.local tx ≡ ps
-    → Falls s.run g.fell g.lost g.over s.local.parts s.local.pairs (s.local.log ++ closing wrote one tx home ps) s.durable
-closing_falls all g s tx home false one ps h act e = subst (λ l. Falls s.run g.fell g.lost g.over s.local.parts s.local.pairs l s.durable) (sym (append-nil s.local.log)) h.falls
-closing_falls all g s tx home true true [] h act e = falls_more s.run g.fell g.lost g.over s.local.parts s.local.pairs s.local.log (Commit tx [] ∷ []) s.durable h.falls (λ u. refl)
+closing_falls : (all : List Item) (g : Past) (s : Shard) (tx : TxId) (home : ℕ) (wrote one : Bool) (ps : List TxId) → Sound all g s → stage_of s.local tx ≡ Some Active → tx_in tx g.asked ≡ true → undecided_of s.local tx ≡ ps
+    → Falls g.asked g.fell g.lost g.over s.local.parts s.local.pairs (s.local.log ++ closing wrote one tx home ps) s.durable
+closing_falls all g s tx home false one ps h act asks e = subst (λ l. Falls g.asked g.fell g.lost g.over s.local.parts s.local.pairs l s.durable) (sym (append-nil s.local.log)) h.falls
+closing_falls all g s tx home true true [] h act asks e = falls_more g.asked g.fell g.lost g.over s.local.parts s.local.pairs s.local.log (Commit tx [] ∷ []) s.durable h.falls (λ u. refl)
     (λ u c. ⊎_elim (λ i. let same = tx_true u tx i in (ap is_present (ap (stage_of s.local) same ∙ act), ap (λ z. tx_in z g.lost) same ∙ here_alive all g s tx h (ap is_present act) (unfallen_active all g s tx h act) (agreed_before s tx (ap (λ l. length l == 0) e)))) (λ i. absurd (both_ways false refl i)) (or_cases (tx_same u tx) false c))
-closing_falls all g s tx home true true (p ∷ ps) h act e = closing_prepares all g s tx home (p ∷ ps) h act e
-closing_falls all g s tx home true false ps h act e = closing_prepares all g s tx home ps h act e
+closing_falls all g s tx home true true (p ∷ ps) h act asks e = closing_prepares all g s tx home (p ∷ ps) h act asks e
+closing_falls all g s tx home true false ps h act asks e = closing_prepares all g s tx home ps h act asks e
 
 -- the view after a part is closed, whatever record closes it
 closes : (all : List Item) (g : Past) (s : Shard) (tx : TxId) (home : ℕ) (wrote one : Bool) (ps : List TxId) → Sound all g s → stage_of s.local tx ≡ Some Active → tx_in tx g.asked ≡ true → undecided_of s.local tx ≡ ps
@@ -486,8 +486,8 @@ closed_sound all g s tx home one h act asks no_request no_vote = record {
   asked = λ u e. ⊎_elim (λ t. inl (ap (λ z. tx_in z g.asked) (tx_true u tx t) ∙ asks))
       (λ ne. ⊎_elim (λ c. h.asked u c) (λ c. absurd (both_ways _ (uncommitted_append s.local.log _ u c (closing_open (wrote_in s.local.log tx) one tx home (undecided_of s.local tx) u ne)) e)) (cases_Bool (committed_in s.local.log u)))
       (cases_Bool (tx_same u tx));
-  falls = falls_parts s.run g.fell g.lost g.over s.local.parts (closed_in tx s.local.parts) s.local.pairs (s.local.log ++ closing (wrote_in s.local.log tx) one tx home (undecided_of s.local tx)) s.durable
-      (λ u. same_present u) (λ u. same_doom u) (closing_falls all g s tx home (wrote_in s.local.log tx) one (undecided_of s.local tx) h act refl);
+  falls = falls_parts g.asked g.fell g.lost g.over s.local.parts (closed_in tx s.local.parts) s.local.pairs (s.local.log ++ closing (wrote_in s.local.log tx) one tx home (undecided_of s.local tx)) s.durable
+      (λ u. same_present u) (λ u. same_doom u) (closing_falls all g s tx home (wrote_in s.local.log tx) one (undecided_of s.local tx) h act asks refl);
   unfallen = λ u q e un here. h.unfallen u q e un (sym (same_present u) ∙ here);
   order = order_closes g.asked s.shard s.run s.local.locks s.local.parts s.local.pairs s.local.log s.requests h.order tx home (wrote_in s.local.log tx) one (undecided_of s.local tx) refl act asks (h.kept.uncommitted tx act) (h.kept.prepared.unprepared tx act)
       (λ p i. let f = in_filter (λ q. not (committed_in s.local.log q)) p (predecessors_of s.local.pairs tx) i in (in_pair s.local.pairs tx p f.0, not-true _ f.1)) (lists_all s tx (undecided_of s.local tx) refl) no_request;
@@ -506,7 +506,7 @@ closed_sound all g s tx home one h act asks no_request no_vote = record {
     active_gone e = absurd cc
 
 asks_sound : (all : List Item) (g : Past) (s : Shard) (tx : TxId) → Sound all g s → Sound all (record g { asked = g.asked ++ tx ∷ [] }) s
-asks_sound all g s tx h = record { kept = keeps_asked g (view_of s) tx h.kept; told = h.told; undecided = h.undecided; readers = h.readers; apart = h.apart; unvoted = h.unvoted; read = h.read; asked = λ u c. ⊎_elim (λ a. inl (in_push g.asked tx u ∙ or_left _ _ a)) (λ l. inr l) (h.asked u c); falls = h.falls; unfallen = h.unfallen; order = order_asked g.asked s.shard s.run s.local.locks s.local.parts s.local.pairs s.local.log s.requests tx h.order }
+asks_sound all g s tx h = record { kept = keeps_asked g (view_of s) tx h.kept; told = h.told; undecided = h.undecided; readers = h.readers; apart = h.apart; unvoted = h.unvoted; read = h.read; asked = λ u c. ⊎_elim (λ a. inl (in_push g.asked tx u ∙ or_left _ _ a)) (λ l. inr l) (h.asked u c); falls = falls_asked g.asked g.fell g.lost g.over s.local.parts s.local.pairs s.local.log s.durable tx h.falls; unfallen = h.unfallen; order = order_asked g.asked s.shard s.run s.local.locks s.local.parts s.local.pairs s.local.log s.requests tx h.order }
 
 pub others_asked : (all : List Item) (g : Past) (s : Shard) (tx : TxId) → Sound all g s → Sound all (record g { asked = g.asked ++ tx ∷ [] }) s
 others_asked all g s tx h = asks_sound all g s tx h
@@ -663,7 +663,7 @@ add_over all g s tx h d =
       unvoted = h.unvoted;
       read = h.read;
       asked = h.asked;
-      falls = falls_over s.run g.fell g.lost g.over s.local.parts s.local.pairs s.local.log s.durable tx (false_from_ne_true _ (λ l. both_ways _ (h.falls.open_ tx l) (durable_committed s.local.log s.durable tx d))) h.falls;
+      falls = falls_over g.asked g.fell g.lost g.over s.local.parts s.local.pairs s.local.log s.durable tx (false_from_ne_true _ (λ l. both_ways _ (h.falls.open_ tx l) (durable_committed s.local.log s.durable tx d))) h.falls;
       unfallen = h.unfallen;
       order = h.order;
     }
@@ -881,7 +881,7 @@ durable_further log d e tx le h = let m = durable_parts log d tx h in let l = m.
 
 -- and so does the end of a flush
 pub landed_sound : (all : List Item) (g : Past) (s : Shard) (n : ℕ) → Sound all g s → s.flight ≡ Some n → After all g (finish (with_durable n s))
-landed_sound all g s n h e = finish_sound all g (with_durable n s) (record { kept = keeps_front g (view_of s) n h.kept (h.kept.front n e); told = h.told; undecided = h.undecided; readers = h.readers; apart = h.apart; unvoted = h.unvoted; read = h.read; asked = h.asked; order = h.order; falls = falls_front s.run g.fell g.lost g.over s.local.parts s.local.pairs s.local.log s.durable n (h.kept.front n e) (λ t c. durable_further s.local.log s.durable n t (h.kept.front n e) c) h.falls; unfallen = h.unfallen })
+landed_sound all g s n h e = finish_sound all g (with_durable n s) (record { kept = keeps_front g (view_of s) n h.kept (h.kept.front n e); told = h.told; undecided = h.undecided; readers = h.readers; apart = h.apart; unvoted = h.unvoted; read = h.read; asked = h.asked; order = h.order; falls = falls_front g.asked g.fell g.lost g.over s.local.parts s.local.pairs s.local.log s.durable n (h.kept.front n e) (λ t c. durable_further s.local.log s.durable n t (h.kept.front n e) c) h.falls; unfallen = h.unfallen })
 
 pub failed_sound : (all : List Item) (g : Past) (s : Shard) → Sound all g s → Sound all g (put_down s)
 failed_sound all g s h = record { kept = h.kept; told = h.told; undecided = h.undecided; readers = h.readers; apart = h.apart; unvoted = h.unvoted; read = h.read; asked = h.asked; order = h.order; falls = h.falls; unfallen = h.unfallen }

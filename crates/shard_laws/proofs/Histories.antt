@@ -1,5 +1,5 @@
 -- Each history of one shard keeps what a shard keeps, so its members are a serial run.
-use Rattle.std.proofs.Common.{◌≡◌, ℕ, ◌<◌, ⊎_elim, Bool, true, false, ◌||◌, List, [], ◌∷◌, ◌++◌, Option, Some, None, refl, sym, ap, subst, ◌∙◌, inl, inr, map}
+use Rattle.std.proofs.Common.{◌≡◌, ℕ, ◌<◌, ⊎_elim, Bool, true, false, List, [], ◌∷◌, ◌++◌, Option, Some, None, refl, sym, ap, subst, ◌∙◌, inl, inr, map}
 use Rattle.std.proofs.lemmas.Bool.{both_ways, or_cases}
 use Rattle.std.proofs.lemmas.List.Folds.{list_any-append}
 use Rattle.clv_base.specs.declared.names.TxId.{TxId}
@@ -7,9 +7,10 @@ use Rattle.clv_base.specs.declared.state.Stage.{Stage}
 use Rattle.clv_base.specs.declared.state.Stage.TheVariants.{Active, Closed, Gone}
 use Rattle.clv_base.specs.Orders.{tx_same, tx_in}
 use Rattle.law_base.specs.Items.{Item}
-use Rattle.clv_base.proofs.SameNames.{tx_true, tx_eq, tx_ne}
+use Rattle.clv_base.proofs.SameNames.{tx_true}
 use Rattle.law_base.proofs.Tables.{is_pair}
 use Rattle.shard_laws.proofs.Kept.{Past, place}
+use Rattle.std.specs.List.{filter}
 use Rattle.std.specs.Prelude.{take}
 use Rattle.clv_base.specs.declared.events.Event.{Event}
 use Rattle.clv_base.specs.declared.events.Event.TheVariants.{Op as OpEvent, Request as RequestEvent, Look, Drop, Send, Deliver, Remind, FlushOut, FlushIn, Stop, Restart as RestartEvent}
@@ -17,16 +18,19 @@ use Rattle.clv_base.specs.declared.events.Outcome.{Outcome}
 use Rattle.clv_base.specs.declared.events.Outcome.TheVariants.{Up}
 use Rattle.clv_base.specs.Maps.{replay_map, replay_answers}
 use Rattle.clv_base.specs.declared.logs.LogRecord.{LogRecord}
-use Rattle.clv_base.specs.Logs.{stands, standing}
+use Rattle.clv_base.specs.Logs.{stands, standing, committed_in, in_doubt}
 use Rattle.clv_base.specs.State.{Shard}
 use Rattle.clv_base.specs.Undo.{stage_of}
 use Rattle.clv_base.specs.Events.{Reply, Does, landed, with_entry, put_down, epoch_in}
 use Rattle.clv_base.specs.OneShard.{seen_fits}
-use Rattle.clv_base.specs.Restarts.{log_after_restart, revived}
+use Rattle.clv_base.specs.Restarts.{revived}
 use Rattle.shard_laws.specs.OneShard.{with_one, asks_by_stage, new_asked, MayHappen, Leads, opens, happens, lands, others_ask, revives, new_told, members_of, ops_by, answers_by, AnswersAndMap, Recoverable, new_met}
 use Rattle.shard_laws.proofs.Sound.{Sound, After, More_over, at_once}
 use Rattle.shard_laws.proofs.Opening.{past_of, sound_opened, opened_undoomed}
 use Rattle.shard_laws.proofs.Reviving.{revived_sound}
+use Rattle.shard_laws.proofs.Cutting.{of_kept}
+use Rattle.shard_laws.proofs.Following.{from_disorder}
+use Rattle.shard_laws.proofs.Found.{order_once}
 use Rattle.shard_laws.specs.OneShard.{is_doomed, doomed_in, left_out}
 use Rattle.shard_laws.proofs.Falls.{Fell}
 use Rattle.shard_laws.proofs.Refalling.{stage_name}
@@ -35,7 +39,7 @@ use Rattle.shard_laws.proofs.Dooming.{filter_in, in_filter}
 use Rattle.clv_base.specs.State.{is_present}
 use Rattle.std.proofs.lemmas.Bool.{false_from_ne_true}
 use Rattle.shard_laws.proofs.Happening.{happen_sound, landed_sound, failed_sound, others_asked}
-use Rattle.shard_laws.proofs.Serial.{Once}
+use Rattle.shard_laws.proofs.Serial.{Once, once_push}
 use Rattle.shard_laws.proofs.Members.{serial_run, recovered}
 
 noted : (all : List Item) (g : Past) (s : Shard) (stamp walker : ℕ) (e : Event) (o : Outcome) → Sound all g s → Sound all g (with_entry stamp walker e o s)
@@ -68,27 +72,6 @@ asked_new all asked met fell s FlushOut u may e = absurd (none_tx u e)
 asked_new all asked met fell s FlushIn u may e = absurd (none_tx u e)
 asked_new all asked met fell s Stop u may e = absurd (none_tx u e)
 asked_new all asked met fell s RestartEvent u may e = absurd (none_tx u e)
-
-once_push : (as_ : List TxId) (t : TxId) → Once as_ → tx_in t as_ ≡ false → Once (as_ ++ t ∷ [])
-once_push [] t o e = (refl, tt)
-once_push (a ∷ rest) t o e =
-    (list_any-append (λ x. tx_same x a) rest (t ∷ []) ∙ both (tx_in a rest) (tx_same t a) o.0 (flip (left (tx_same a t) (tx_in t rest) e)), once_push rest t o.1 (right (tx_same a t) (tx_in t rest) e))
-  where
-    both : (p q : Bool) → p ≡ false → q ≡ false → (p || (q || false)) ≡ false
-    both true q e f = e
-    both false true e f = f
-    both false false e f = refl
-
-    left : (a b : Bool) → (a || b) ≡ false → a ≡ false
-    left true b e = e
-    left false b e = refl
-
-    right : (a b : Bool) → (a || b) ≡ false → b ≡ false
-    right true b e = absurd (both_ways true e refl)
-    right false b e = e
-
-    flip : tx_same a t ≡ false → tx_same t a ≡ false
-    flip e = tx_ne t a (λ s. both_ways _ e (tx_eq a t (sym s)))
 
 once_more : (as_ : List TxId) (o : Option TxId) → Once as_ → ((t : TxId) → o ≡ Some t → tx_in t as_ ≡ false) → Once (with_one as_ o)
 once_more as_ None h n = h
@@ -183,9 +166,8 @@ refell all g t h =
         up = f.up;
         lists = f.lists;
         back = λ u i here. ⊎_elim (λ j. f.back u j here) (λ d. absurd (absent_doomed (stage_of t.local u) d here)) (old u i);
+        owns = f.owns;
         gone = λ u p c n. ⊎_elim (λ e. inl (now u e)) (λ r. inr r) (f.gone u p c n);
-        away = f.away;
-        old = f.old;
         settled = f.settled;
         paired = f.paired;
       };
@@ -201,13 +183,13 @@ refell all g t h =
 
 abbrev pub Holds : ℕ → ℕ → List LogRecord → List Item → List TxId → List TxId → List (TxId × TxId) → List TxId → Shard → Type 0
 Holds shard run before all asked told met fell s =
-    (g : Past) × Sound all g s × (g.start ≡ stands (before ∷ [])) × (g.base ≡ standing (log_after_restart shard before run 0)) × (g.asked ≡ asked) × Once asked × Over_all told g × (g.met ≡ met) × (g.fell ≡ fell) × ((u : TxId) → is_doomed (stage_of s.local u) ≡ true → tx_in u g.fell ≡ true)
+    (g : Past) × Sound all g s × (g.start ≡ stands (before ∷ [])) × (g.base ≡ filter (of_kept (committed_in before)) (standing before)) × (g.asked ≡ asked) × Once asked × Over_all told g × (g.met ≡ met) × (g.fell ≡ fell) × ((u : TxId) → is_doomed (stage_of s.local u) ≡ true → tx_in u g.fell ≡ true)
 
 boundary : (t : Shard) (fell : List TxId) (u : TxId) → is_doomed (stage_of t.local u) ≡ true → tx_in u (doomed_in t ++ fell) ≡ true
 boundary t fell u d = in_first (doomed_in t) fell u (doomed_named t u d)
 
 pub held : (shard run : ℕ) (before : List LogRecord) (all : List Item) (asked told : List TxId) (met : List (TxId × TxId)) (fell : List TxId) (s : Shard) → Leads shard run before all asked told met fell s → Holds shard run before all asked told met fell s
-held shard run log0 _ _ _ _ _ _ (opens may) = (past_of shard run log0, sound_opened shard run log0 may, refl, refl, refl, tt, (λ t i. absurd (both_ways false refl i)), refl, refl, (λ u d. absurd (opened_undoomed shard run log0 u d)))
+held shard run log0 _ _ _ _ _ _ (opens may) = (past_of shard log0, sound_opened shard run log0 may, refl, refl, refl, order_once shard (λ t. tx_in t (in_doubt shard log0)) log0 (from_disorder shard 0 [] log0 may.0), (λ t i. absurd (both_ways false refl i)), refl, refl, (λ u d. absurd (opened_undoomed shard run log0 u d)))
 held shard run log0 _ _ _ _ _ _ (happens {all} {asked} {told} {met} {fell} {s} e o t stamp walker before may eq) =
     let b = held shard run log0 all asked told met fell s before in
     let later = happen_sound all b.0 s e o t b.1 (subst (λ l. MayHappen all l (b.0).met (b.0).fell s e) (sym b.4) (subst (λ m. MayHappen all asked m (b.0).fell s e) (sym b.7) (subst (λ m. MayHappen all asked met m s e) (sym b.8) may))) eq in (

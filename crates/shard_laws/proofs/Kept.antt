@@ -26,6 +26,7 @@ use Rattle.law_base.proofs.Undoing.{Chain}
 use Rattle.law_base.proofs.Anchors.{Rising}
 use Rattle.shard_laws.proofs.LockRows.{holds, Rows}
 use Rattle.shard_laws.proofs.Asking.{holds_at}
+use Rattle.shard_laws.proofs.AtKeys.{SameAtKeys}
 use Rattle.law_base.proofs.Tables.{stage_in, is_pair}
 use Rattle.law_base.proofs.Commits.{CommitBefore, commit_durable}
 use Rattle.shard_laws.proofs.Prepared.{Prepared}
@@ -113,7 +114,7 @@ pub record Kept (g : Past) (v : View) : Type 0 where
   pub base_done : AllByRecursion (λ w. commit_durable v.log v.durable w.tx ≡ true) g.base
   pub runs : Runs g.start g.items
   -- log and records
-  pub standing_is : filter (of_kept (is_alive g.lost)) (standing v.log) ≡ pile g.items g.base
+  pub standing_is : SameAtKeys (filter (of_kept (is_alive g.lost)) (standing v.log)) (pile g.items g.base)
   pub rises : Rising v.records
   pub values : (k : ℕ) → value_at k v.records ≡ top_value k (standing v.log)
   pub logged : AllByRecursion (λ x. (k : ℕ) → writes x k ≡ true → wrote_in v.log x.tx ≡ true) g.items

@@ -32,6 +32,7 @@ use Rattle.shard_laws.proofs.Asking.{holds_at, holds_by}
 use Rattle.law_base.proofs.Tables.{stage_in, stage_by, is_pair, get_changed, without_pairs, pairs_stay}
 use Rattle.law_base.proofs.Commits.{commit_durable, before_keeps, before_first, durable_keeps, durable_committed, before_durable, committed_append, uncommitted_append, committed_from}
 use Rattle.shard_laws.proofs.Prepared.{unprepared_append, prepared_more, prepared_parts, prepared_kept}
+use Rattle.shard_laws.proofs.AtKeys.{key_writes, keys_filter, keys_all}
 use Rattle.shard_laws.proofs.Kept.{View, Past, Belongs, Dep, Known, Kept, Ended, Wrote, Left, of_kept, is_alive}
 use Rattle.shard_laws.proofs.Restoring.{standing_updates, wrote_of}
 use Rattle.order_laws.specs.Order.{moves, Open_at, Tidy, undone_in}
@@ -351,7 +352,7 @@ item_wrote g v k =
     all_mono _ _ (λ x h out q e.
     let w = write_some (wrote x) q e in
     subst (λ z. (holds true X (At z) x.tx v.locks ≡ true) × (record_at z v.records ≡ None → ⊥)) (sym (eqb-true q w.0.0 (ap (λ o. is_write_at o q) (sym w.1) ∙ e))) (h w.0 w.1 out)) g.items
-    (pile_each (Wrote v) g.items g.base (subst (AllByRecursion (Wrote v)) k.standing_is (all_kept (Wrote v) (is_alive g.lost) (standing v.log) k.wrote)))
+    (pile_each (Wrote v) g.items g.base (keys_all (Wrote v) (filter (of_kept (is_alive g.lost)) (standing v.log)) (pile g.items g.base) k.standing_is (all_kept (Wrote v) (is_alive g.lost) (standing v.log) k.wrote)))
   where
     all_kept : (P : StandingUpdate → Type 0) (f : TxId → Bool) (ws : List StandingUpdate) → AllByRecursion P ws → AllByRecursion P (filter (of_kept f) ws)
     all_kept P f [] a = tt
@@ -502,7 +503,9 @@ module _ (g : Past) (v : View) (set : List TxId) (d : TxId) (k : Kept g v) (may 
     base_chain = k.base_chain;
     base_done = all_mono _ _ (λ w c. still_durable w.tx c) g.base k.base_done;
     runs = kept_runs (keeps_of set) g.items g.start g.start k.start_rises k.start_rises k.runs keeps_all (λ q. inl refl);
-    standing_is = ap (filter (of_kept (is_alive (set ++ g.lost)))) standing_more ∙ filter_sets set g.lost (standing v.log) ∙ ap (filter (stays_of set)) k.standing_is ∙ pile_filter set g.items g.base ∙ ap (pile (filter (keeps_of set) g.items)) (filter_all set g.base base_out);
+    standing_is = λ q. ap (key_writes q) (ap (filter (of_kept (is_alive (set ++ g.lost)))) standing_more ∙ filter_sets set g.lost (standing v.log))
+        ∙ keys_filter (stays_of set) (filter (of_kept (is_alive g.lost)) (standing v.log)) (pile g.items g.base) k.standing_is q
+        ∙ ap (key_writes q) (pile_filter set g.items g.base ∙ ap (pile (filter (keeps_of set) g.items)) (filter_all set g.base base_out));
     rises = rising_undone set (standing v.log) v.records k.rises;
     values = λ q. values_undone set (standing v.log) v.records q chain_here upward_here have_here (k.values q) ∙ ap (top_value q) (sym standing_more);
     logged = all_mono _ _ (λ x h q w. wrote_keeps v.log _ x.tx (h.0 q w)) (filter (keeps_of set) g.items) (all_filter _ (keeps_of set) g.items k.logged);

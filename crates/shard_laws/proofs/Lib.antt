@@ -2,6 +2,7 @@ pub mod LockRows
 pub mod Writers
 pub mod Asking
 pub mod Prepared
+pub mod AtKeys
 pub mod Kept
 pub mod Changes
 pub mod Following
@@ -26,11 +27,13 @@ pub mod Members
 pub mod Doubting
 pub mod Listing
 pub mod Restoring
+pub mod Found
 pub mod Rebuilding
 pub mod Relisting
 pub mod Refalling
 pub mod Rulings
 pub mod Renewing
+pub mod Remaking
 pub mod Reviving
 pub mod Opening
 pub mod Staying
@@ -38,3 +41,4 @@ pub mod Histories
 pub mod OrderKept
 pub mod Choosing
 pub mod Settled
+pub mod Splitting

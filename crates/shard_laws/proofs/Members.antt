@@ -12,6 +12,7 @@ use Rattle.law_base.proofs.Lists.{all_mono, all_filter, later_mono, later_filter
 use Rattle.law_base.proofs.Running.{top_value, Keeps, kept_runs}
 use Rattle.law_base.proofs.Tables.{is_pair}
 use Rattle.law_base.proofs.Commits.{before_second, durable_committed, before_durable}
+use Rattle.shard_laws.proofs.AtKeys.{keys_top, keys_filter}
 use Rattle.shard_laws.proofs.Kept.{Past, place, Dep, Known, Ended, is_alive}
 use Rattle.std.specs.Prelude.{take}
 use Rattle.clv_base.specs.Maps.{replay_map, replay_answers}
@@ -26,7 +27,7 @@ use Rattle.law_base.proofs.Running.{rising_all, pile_value}
 use Rattle.shard_laws.proofs.Leaving.{pile_all}
 use Rattle.shard_laws.proofs.Cutting.{durable_cut, before_cut, cut_keeps, of_kept, cut_values, fold_rises, fold_alike}
 use Rattle.shard_laws.proofs.Sound.{Sound, Lost, filter_both, filter_same}
-use Rattle.shard_laws.proofs.Serial.{placed, runs_placed, after_placed, filter_place, in_kept, Once, once_filter, groups_are, all_ops, all_answers, order_placed, below_placed}
+use Rattle.shard_laws.proofs.Serial.{filter_place, in_kept, Once, once_filter, serial_of}
 
 -- the writes of those that pass, of items over a base that all pass
 pub pile_keep : (f : TxId → Bool) (xs : List Item) (ws : List StandingUpdate) → filter (of_kept f) (pile xs ws) ≡ pile (filter (λ x. f x.tx) xs) (filter (of_kept f) ws)
@@ -216,9 +217,10 @@ module _ (all : List Item) (g : Past) (s : Shard) (told : List TxId) (cut : ℕ)
       (rising_all kept g.start h.kept.start_rises) (fold_rises (committed_in (take cut s.local.log)) (take cut s.local.log) [] tt)
       (λ q. pile_value kept g.start g.base q kept_run (h.kept.base_value q)
       ∙ ap (λ ws. top_value q (pile kept ws)) (sym (filter_all_kept (λ t. is_member s cut told t) g.base (all_mono _ _ (λ w c. or_left _ _ c) g.base cut_base)))
-      ∙ ap (top_value q) (sym (pile_keep (λ t. is_member s cut told t) g.items g.base) ∙ filter_alike (λ t. is_member s cut told t) (committed_in (take cut s.local.log)) (pile g.items g.base) writers_alike
-      ∙ ap (filter (of_kept (committed_in (take cut s.local.log)))) (sym h.kept.standing_is)
-      ∙ filter_within (committed_in (take cut s.local.log)) (is_alive g.lost) (standing s.local.log) (λ t c. ap not (false_from_ne_true _ (λ l. both_ways _ (h.falls.open_ t l) (cut_keeps cut s.local.log t c)))))
+      ∙ ap (top_value q) (sym (pile_keep (λ t. is_member s cut told t) g.items g.base) ∙ filter_alike (λ t. is_member s cut told t) (committed_in (take cut s.local.log)) (pile g.items g.base) writers_alike)
+      ∙ sym (keys_top (filter (of_kept (committed_in (take cut s.local.log))) (filter (of_kept (is_alive g.lost)) (standing s.local.log))) (filter (of_kept (committed_in (take cut s.local.log))) (pile g.items g.base)) q
+      (keys_filter (of_kept (committed_in (take cut s.local.log))) (filter (of_kept (is_alive g.lost)) (standing s.local.log)) (pile g.items g.base) h.kept.standing_is))
+      ∙ ap (top_value q) (filter_within (committed_in (take cut s.local.log)) (is_alive g.lost) (standing s.local.log) (λ t c. ap not (false_from_ne_true _ (λ l. both_ways _ (h.falls.open_ t l) (cut_keeps cut s.local.log t c)))))
       ∙ sym (cut_values g (view_of s) cut q h.kept))
       ∙ sym (fold_alike (committed_somewhere (take cut s.local.log ∷ [])) (committed_in (take cut s.local.log)) (take cut s.local.log) [] somewhere)
 
@@ -226,9 +228,6 @@ module _ (all : List Item) (g : Past) (s : Shard) (told : List TxId) (cut : ℕ)
   pub serial_run : (replay_answers g.start (ops_by (members_of s cut told g.asked) all) ≡ answers_by (members_of s cut told g.asked) all)
       × (replay_map g.start (ops_by (members_of s cut told g.asked) all) ≡ stands (take cut s.local.log ∷ []))
   serial_run =
-      let ps : List Placed = map (placed ms) kept in
-      let o : Once ms = once_filter (λ t. is_member s cut told t) g.asked once in
-      let run = is_serial_run g.start ps (length ms) h.kept.start_rises (order_placed ms kept kept_order) (runs_placed ms g.start kept kept_run) (below_placed ms kept kept_in) in
-      let ops : map ops_of (grouped_from 0 (length ms) ps) ≡ ops_by ms all = ap (map ops_of) (groups_are ms kept o) ∙ all_ops ms ms kept ∙ same_ops ms ms_members in
-      let answers : map answers_of (grouped_from 0 (length ms) ps) ≡ answers_by ms all = ap (map answers_of) (groups_are ms kept o) ∙ all_answers ms ms kept ∙ same_answers ms ms_members in
-      (ap (replay_answers g.start) (sym ops) ∙ run.0 ∙ answers, ap (replay_map g.start) (sym ops) ∙ run.1 ∙ after_placed ms g.start kept ∙ same_stands)
+      let run = serial_of ms g.start kept (once_filter (λ t. is_member s cut told t) g.asked once) h.kept.start_rises kept_run kept_order kept_in in
+      let ops = same_ops ms ms_members in
+      (ap (replay_answers g.start) (sym ops) ∙ run.0 ∙ same_answers ms ms_members, ap (replay_map g.start) (sym ops) ∙ run.1 ∙ same_stands)

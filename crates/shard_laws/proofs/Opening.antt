@@ -1,77 +1,57 @@
--- A shard that was opened keeps what a shard keeps: nothing was done yet, over the writes that the log found commits.
-use Rattle.std.proofs.Common.{◌≡◌, ℕ, ◌<◌, ◌⊎◌, inr, Bool, true, false, ◌||◌, List, [], ◌∷◌, length, Option, Some, None, refl, sym, ap, subst, ◌∙◌, arith, inl, ⊎_elim, map, not, ◌++◌, append_assoc}
+-- A shard that was opened keeps what a shard keeps: over the writes that the log found commits, those that it leaves in doubt acted.
+use Rattle.std.proofs.Common.{◌≡◌, ℕ, ◌<◌, ◌⊎◌, inl, inr, ⊎_elim, Bool, true, false, ◌||◌, List, [], ◌∷◌, ◌++◌, length, Option, Some, None, refl, sym, ap, subst, ◌∙◌, arith, map, not, append_assoc}
+use Rattle.std.specs.Prelude.{take}
 use Rattle.std.specs.List.{AllByRecursion, filter}
-use Rattle.std.proofs.lemmas.Bool.{both_ways, cond_both, cases_Bool}
+use Rattle.std.proofs.lemmas.Bool.{cases_Bool, both_ways, cond_both, or_cases, false_from_ne_true}
+use Rattle.std.proofs.lemmas.List.{take_all}
+use Rattle.std.proofs.lemmas.List.Folds.{list_any-append}
 use Rattle.clv_base.specs.declared.names.TxId.{TxId}
 use Rattle.clv_base.specs.declared.logs.LogRecord.{LogRecord}
-use Rattle.clv_base.specs.declared.logs.LogRecord.TheVariants.{Update, Clr, Prepare, Commit, Abort, End, Restart}
-use Rattle.clv_base.specs.Orders.{tx_in}
-use Rattle.clv_base.specs.declared.state.Stage.{Stage}
+use Rattle.clv_base.specs.declared.logs.LogRecord.TheVariants.{Abort, Restart}
+use Rattle.clv_base.specs.declared.causes.Vote.{Vote}
+use Rattle.clv_base.specs.declared.causes.Vote.TheVariants.{Read}
 use Rattle.clv_base.specs.declared.state.Stage.TheVariants.{Active, Closed, Gone}
 use Rattle.clv_base.specs.declared.state.Voter.{Voter}
+use Rattle.clv_base.specs.Orders.{tx_in}
 use Rattle.clv_base.specs.Maps.{map_get}
-use Rattle.clv_base.specs.Needs.{Records, value_at}
-use Rattle.clv_base.specs.Logs.{StandingUpdate, standing, committed_in, committed_somewhere, is_commit_of, is_prepare_of, prepared_in, in_doubt, is_winner, fold_updates, stands, aborted_in, is_abort_of, writers}
+use Rattle.clv_base.specs.Undo.{stage_of, clrs_of}
+use Rattle.clv_base.specs.Logs.{StandingUpdate, standing, committed_in, committed_somewhere, is_commit_of, is_prepare_of, is_abort_of, prepared_in, aborted_in, wrote_in, in_doubt, is_winner, fold_updates, stands, writers}
+use Rattle.clv_base.specs.LogRules.{listed_in}
 use Rattle.clv_base.specs.Restarts.{greatest_run, log_after_restart, records_of, with_ghosts, restored_locks, restored_parts, restored_pairs, unended_in, opened, losers}
 use Rattle.clv_base.specs.Coordinator.{restored_requests}
+use Rattle.clv_base.specs.State.{is_present}
+use Rattle.clv_base.proofs.SameNames.{or_left}
+use Rattle.law_base.specs.Items.{Item, writes, Runs, AllLater, Reaches, pile}
+use Rattle.law_base.proofs.Lists.{all_mono, later_mono}
 use Rattle.law_base.proofs.Running.{top_value}
-use Rattle.law_base.proofs.Undoing.{Chain}
+use Rattle.law_base.proofs.Undoing.{write_met}
+use Rattle.law_base.proofs.Tables.{stage_in, is_pair}
 use Rattle.law_base.proofs.Commits.{commit_durable}
 use Rattle.order_laws.proofs.Records.{own_commit, own_prepare}
 use Rattle.order_laws.proofs.Runs.{record_fits}
 use Rattle.order_laws.proofs.Writes.{chain_kept}
 use Rattle.order_laws.proofs.InOrder.{Order, in_order, undone_open}
-use Rattle.order_laws.specs.Order.{undone_in}
-use Rattle.shard_laws.specs.OneShard.{MayServe}
-use Rattle.shard_laws.proofs.Kept.{Past, is_alive}
+use Rattle.shard_laws.specs.OneShard.{MayServe, is_doomed, found_items, found_asked, found_met}
+use Rattle.shard_laws.proofs.AtKeys.{SameAtKeys, key_writes}
+use Rattle.shard_laws.proofs.Kept.{Past, is_alive, place}
 use Rattle.shard_laws.proofs.Sound.{Sound}
 use Rattle.shard_laws.proofs.Cutting.{of_kept, fold_alike, fold_values, fold_rises}
-use Rattle.shard_laws.proofs.Members.{filter_alike, filter_all_kept}
+use Rattle.shard_laws.proofs.Members.{filter_all_kept}
 use Rattle.shard_laws.proofs.Refalling.{all_durable}
 use Rattle.shard_laws.proofs.Falls.{Falls}
 use Rattle.shard_laws.proofs.Compensating.{aborted_now}
-use Rattle.shard_laws.proofs.Dooming.{filter_in}
-use Rattle.shard_laws.proofs.Restoring.{restored_closed, restored_none}
-use Rattle.shard_laws.proofs.Listing.{prepared_wrote, wrote_stands}
-use Rattle.shard_laws.specs.OneShard.{is_doomed}
-use Rattle.clv_base.specs.Undo.{stage_of, clrs_of}
-use Rattle.std.proofs.lemmas.List.{take_all}
-use Rattle.std.proofs.lemmas.List.Folds.{list_any-append}
-use Rattle.law_base.proofs.Lists.{all_mono}
-use Rattle.clv_base.proofs.SameNames.{or_left}
-use Rattle.shard_laws.proofs.Following.{from_disorder, above_later}
+use Rattle.shard_laws.proofs.Doubting.{Doubted, doubted}
+use Rattle.shard_laws.proofs.Dooming.{filter_in, list_all_at}
+use Rattle.shard_laws.proofs.Restoring.{restored_closed, restored_stage, restored_none, rows_restored, standing_updates, wrote_of}
+use Rattle.shard_laws.proofs.Listing.{prepared_wrote, wrote_stands, lie_listed, winners_lie}
+use Rattle.shard_laws.proofs.Following.{Follows, from_disorder, above_later}
 use Rattle.shard_laws.proofs.Keeping.{KeepsOrder}
-use Rattle.shard_laws.proofs.Renewing.{Renewed, renewed, ordered_restored, lying_restored, rulings_restored}
-use Rattle.shard_laws.proofs.Rebuilding.{Found, Restarted, of_whole}
-use Rattle.shard_laws.proofs.Reviving.{get_records, rising_records, filter_twice, whole_log, state_with, restored_committed, IsCommitted}
-
-or_nothing : (b : Bool) → (b || false) ≡ b
-or_nothing true = refl
-or_nothing false = refl
-
--- where nothing is in doubt those that win are the committed ones
-kept_committed : (shard : ℕ) (log : List LogRecord) (t : TxId) → in_doubt shard log ≡ [] → is_winner shard log t ≡ committed_in log t
-kept_committed shard log t e = ap (λ d. committed_in log t || tx_in t d) e ∙ or_nothing (committed_in log t)
-
-no_ghosts : (log : List LogRecord) (rs : Records) → with_ghosts [] log rs ≡ rs
-no_ghosts [] rs = refl
-no_ghosts (Update tx k b a ∷ log) rs = no_ghosts log rs
-no_ghosts (Clr tx u k a ∷ log) rs = no_ghosts log rs
-no_ghosts (Prepare tx h ps ∷ log) rs = no_ghosts log rs
-no_ghosts (Commit tx ps ∷ log) rs = no_ghosts log rs
-no_ghosts (Abort tx ∷ log) rs = no_ghosts log rs
-no_ghosts (End tx ∷ log) rs = no_ghosts log rs
-no_ghosts (Restart run e ∷ log) rs = no_ghosts log rs
-
-no_locks : (log : List LogRecord) → restored_locks [] log [] ≡ []
-no_locks [] = refl
-no_locks (Update tx k b a ∷ log) = no_locks log
-no_locks (Clr tx u k a ∷ log) = no_locks log
-no_locks (Prepare tx h ps ∷ log) = no_locks log
-no_locks (Commit tx ps ∷ log) = no_locks log
-no_locks (Abort tx ∷ log) = no_locks log
-no_locks (End tx ∷ log) = no_locks log
-no_locks (Restart run e ∷ log) = no_locks log
+use Rattle.shard_laws.proofs.Renewing.{found_self, Renewed, renewed, ordered_restored, lying_restored, rulings_restored}
+use Rattle.shard_laws.proofs.Relisting.{requests_none, unended_none, voter_is, pair_there, pair_of, pair_lists}
+use Rattle.shard_laws.proofs.Rebuilding.{Restarted, of_whole, out_left, out_right}
+use Rattle.shard_laws.proofs.Remaking.{whole_log, committed_remade, values_remade, rises_remade, wrote_remade}
+use Rattle.shard_laws.proofs.Reviving.{state_with, restored_committed, IsCommitted}
+use Rattle.shard_laws.proofs.Found.{UnderFound, all_tell, found_all, found_doubted, pile_found, keys_split, runs_found, order_has, listed_before, under_found}
 
 -- a restart aborts the losers
 undo_aborts : (shard : ℕ) (log : List LogRecord) (run : ℕ) (t : TxId) → tx_in t (losers shard log) ≡ true → aborted_in (log_after_restart shard log run 0) t ≡ true
@@ -82,192 +62,248 @@ undo_aborts shard log run t i =
     subst (λ l. aborted_in l t ≡ true) (append_assoc log (map (λ u. Abort u) ts) (cs ++ Restart run 0 ∷ []) ∙ ap (λ l. log ++ l) (sym (append_assoc (map (λ u. Abort u) ts) cs (Restart run 0 ∷ []))))
     (list_any-append (is_abort_of t) (log ++ map (λ u. Abort u) ts) (cs ++ Restart run 0 ∷ []) ∙ or_left _ _ a)
 
--- nothing was done, over what the log found commits
-abbrev pub past_of : ℕ → ℕ → List LogRecord → Past
-past_of shard run before = record { start = stands (before ∷ []); base = standing (log_after_restart shard before run 0); items = []; asked = []; over = []; met = []; fell = []; lost = [] }
-
-none_stage : (st : Stage) → ◌≡◌ {A = Option Stage} None (Some st) → ⊥
-none_stage st e = absurd cc
+-- over what the log found commits, those in doubt acted and asked
+abbrev pub past_of : ℕ → List LogRecord → Past
+past_of shard before =
+    record {
+      start = stands (before ∷ []);
+      base = filter (of_kept (committed_in before)) (standing before);
+      items = found_items shard before;
+      asked = found_asked shard before;
+      over = [];
+      met = found_met shard before;
+      fell = [];
+      lost = [];
+    }
 
 none_number : (n : ℕ) → ◌≡◌ {A = Option ℕ} None (Some n) → ⊥
 none_number n e = absurd cc
 
-none_voter : (v : Voter) → ◌≡◌ {A = Option Voter} None (Some v) → ⊥
-none_voter v e = absurd cc
+or_nothing : (b : Bool) → (b || false) ≡ b
+or_nothing true = refl
+or_nothing false = refl
+
+or_none : (a b : Bool) → a ≡ false → b ≡ false → (a || b) ≡ false
+or_none true b e f = e
+or_none false b e f = f
+
+closed_active : Active ≡ Closed → ⊥
+closed_active e = absurd cc
+
+gone_closed : (d : Option TxId) → Gone d ≡ Closed → ⊥
+gone_closed d e = absurd cc
 
 module _ (shard run : ℕ) (before : List LogRecord) (may : MayServe shard run before) where
-  order : Order shard before
+  abbrev Now : List LogRecord
+  Now = log_after_restart shard before run 0
+
+  abbrev doubt : List TxId
+  doubt = in_doubt shard before
+
+  pub follows : Follows shard [] before
+  follows = from_disorder shard 0 [] before may.0
+
+  pub order : Order shard before
   order = in_order shard before may.0
 
-  found_before : Found shard before before
-  found_before = record {
-    commits = λ t. refl;
-    doubts = refl;
-    prepares = λ t. refl;
-    lists = λ t p e l. l;
-    same_kept = refl;
-    tidy = order.tidy;
-    sealed = order.sealed;
-    dead = λ t u. kept_committed shard before t may.2 ∙ undone_open shard before t order u;
-    wrote = λ t. refl;
-    aborts = λ t e. e;
-    listed = λ t e. refl;
-  }
-
   re : Restarted shard before (log_after_restart shard before run 0)
-  re = of_whole (opened shard run []) before before 0 found_before
+  re = of_whole (opened shard run []) before before 0 (found_self shard before order)
 
-  -- those that win are the committed ones
-  only_committed : standing (log_after_restart shard before run 0) ≡ filter (of_kept (committed_in before)) (standing before)
-  only_committed = re.only_kept ∙ filter_alike (is_winner shard before) (committed_in before) (standing before) (every (standing before))
-    where
-      every : (ws : List StandingUpdate) → AllByRecursion (λ w. is_winner shard before w.tx ≡ committed_in before w.tx) ws
-      every [] = tt
-      every (w ∷ ws) = (kept_committed shard before w.tx may.2, every ws)
+  -- ---- who is in doubt
 
-  dead_now : (t : TxId) → undone_in (log_after_restart shard before run 0) t ≡ true → committed_in before t ≡ false
-  dead_now t u = sym (kept_committed shard before t may.2) ∙ re.found.dead t u
+  pub doubt_of : (t : TxId) → tx_in t doubt ≡ true → Doubted before doubt t
+  doubt_of t i = doubted shard before t order.sealed i
 
-  committed_now : (t : TxId) → committed_in before t ≡ true → commit_durable (log_after_restart shard before run 0) (length (log_after_restart shard before run 0)) t ≡ true
-  committed_now t e = all_durable (log_after_restart shard before run 0) t (re.found.commits t ∙ e)
+  pub doubt_apart : (t : TxId) → tx_in t doubt ≡ true → committed_in before t ≡ false
+  doubt_apart t i = (doubt_of t i).open_
 
-  standing_kept : filter (of_kept (committed_in before)) (standing (log_after_restart shard before run 0)) ≡ standing (log_after_restart shard before run 0)
-  standing_kept = ap (filter (of_kept (committed_in before))) only_committed ∙ filter_twice (committed_in before) (standing before) ∙ sym only_committed
+  doubt_open : (t : TxId) → tx_in t doubt ≡ true → committed_in Now t ≡ false
+  doubt_open t i = re.found.commits t ∙ doubt_apart t i
+
+  pub doubt_asked : (t : TxId) → tx_in t doubt ≡ true → tx_in t (found_asked shard before) ≡ true
+  doubt_asked t i = order_has (λ u. tx_in u doubt) before t (doubt_of t i).prepared i
+
+  no_active : (t : TxId) → stage_in (restored_parts doubt) t ≡ Some Active → ⊥
+  no_active t e = closed_active (restored_stage doubt t Active e).0
+
+  -- whom its PREPARE lists in the log as it is now
+  listed_now : (t p : TxId) → tx_in t doubt ≡ true → tx_in p (listed_in before t) ≡ true → tx_in p (listed_in Now t) ≡ true
+  listed_now t p i l = ap (tx_in p) (re.found.listed t (doubt_of t i).prepared) ∙ l
+
+  listed_pair : (t p : TxId) → tx_in t doubt ≡ true → tx_in p doubt ≡ true → tx_in p (listed_in before t) ≡ true → is_pair (restored_pairs Now doubt) t p ≡ true
+  listed_pair t p i j l = pair_there Now doubt t p i (listed_now t p i l) (doubt_open p j)
+
+  pub listed_place : (t p : TxId) → tx_in t doubt ≡ true → tx_in p doubt ≡ true → tx_in p (listed_in before t) ≡ true → place (found_asked shard before) p < place (found_asked shard before) t
+  listed_place t p i j l = listed_before shard (λ u. tx_in u doubt) before follows t p l i j
+
+  -- a pair that was found is of two in doubt
+  met_doubt : (t p : TxId) → is_pair (found_met shard before) t p ≡ true → (tx_in t doubt ≡ true) × (tx_in p doubt ≡ true) × (tx_in p (listed_in before t) ≡ true)
+  met_doubt t p e =
+      let q = pair_lists before doubt t p e in
+      let d = list_all_at (λ z. committed_in before z || tx_in z doubt) p (listed_in before t) (doubt_of t q.0).listed q.1 in
+      (q.0, ⊎_elim (λ c. absurd (both_ways _ q.2 c)) (λ i. i) (or_cases (committed_in before p) (tx_in p doubt) d), q.1)
+
+  -- ---- what it wrote
 
   map_is : stands (before ∷ []) ≡ fold_updates (committed_in before) before []
   map_is = fold_alike (committed_somewhere (before ∷ [])) (committed_in before) before [] (λ t. or_nothing (committed_in before t))
 
-  start_value : (k : ℕ) → map_get k (stands (before ∷ [])) ≡ top_value k (standing (log_after_restart shard before run 0))
-  start_value k = ap (map_get k) map_is ∙ fold_values (committed_in before) 0 before [] [] k (whole_log (committed_in before) before (λ t u. undone_open shard before t order u)) refl ∙ ap (top_value k) (sym only_committed)
+  pub start_value : (k : ℕ) → map_get k (stands (before ∷ [])) ≡ top_value k (filter (of_kept (committed_in before)) (standing before))
+  start_value k = ap (map_get k) map_is ∙ fold_values (committed_in before) 0 before [] [] k (whole_log (committed_in before) before (λ t u. undone_open shard before t order u)) refl
 
-  records_is : fold_updates (is_winner shard (log_after_restart shard before run 0)) (log_after_restart shard before run 0) [] ≡ fold_updates (committed_in before) (log_after_restart shard before run 0) []
-  records_is = fold_alike (is_winner shard (log_after_restart shard before run 0)) (committed_in before) (log_after_restart shard before run 0) []
-      (λ t. kept_committed shard (log_after_restart shard before run 0) t (re.found.doubts ∙ may.2) ∙ re.found.commits t)
-
-  values_now : (q : ℕ) → value_at q (records_of (fold_updates (is_winner shard (log_after_restart shard before run 0)) (log_after_restart shard before run 0) [])) ≡ top_value q (standing (log_after_restart shard before run 0))
-  values_now q =
-      get_records q (fold_updates (is_winner shard (log_after_restart shard before run 0)) (log_after_restart shard before run 0) []) ∙ ap (map_get q) records_is
-      ∙ fold_values (committed_in before) 0 (log_after_restart shard before run 0) [] [] q (whole_log (committed_in before) (log_after_restart shard before run 0) dead_now) refl
-      ∙ ap (top_value q) standing_kept
-
-  each_durable : (ws : List StandingUpdate) → AllByRecursion (λ w. commit_durable (log_after_restart shard before run 0) (length (log_after_restart shard before run 0)) w.tx ≡ true) (filter (of_kept (committed_in before)) ws)
-  each_durable [] = tt
-  each_durable (w ∷ ws) =
+  base_done : (ws : List StandingUpdate) → AllByRecursion (λ w. commit_durable Now (length Now) w.tx ≡ true) (filter (of_kept (committed_in before)) ws)
+  base_done [] = tt
+  base_done (w ∷ ws) =
       cond_both (committed_in before w.tx) (w ∷ filter (of_kept (committed_in before)) ws) (filter (of_kept (committed_in before)) ws)
-      (AllByRecursion (λ w. commit_durable (log_after_restart shard before run 0) (length (log_after_restart shard before run 0)) w.tx ≡ true))
-      (λ e. (committed_now w.tx e, each_durable ws)) (λ e. each_durable ws)
+      (AllByRecursion (λ w. commit_durable Now (length Now) w.tx ≡ true))
+      (λ e. (committed_remade shard before Now re w.tx e, base_done ws)) (λ e. base_done ws)
 
-  old_run : (t : TxId) → committed_in before t ≡ true → t.run < run
-  old_run t e = let l = record_fits (greatest_run before) t (is_commit_of t) (own_commit t) before order.runs e in let m = may.1 in omega (arith, l, m)
-
-  renewed_start : Renewed shard run (log_after_restart shard before run 0)
-  renewed_start = let l = may.1 in renewed shard run 0 before (from_disorder shard 0 [] before may.0) (omega (arith, l)) (above_later run 0 before l)
-
-  old_prepared : (t : TxId) → prepared_in (log_after_restart shard before run 0) t ≡ true → (tx_in t [] ≡ true) ⊎ (t.run < run)
-  old_prepared t e = let l = record_fits (greatest_run before) t (is_prepare_of t) (own_prepare t) before order.runs (sym (re.found.prepares t) ∙ e) in let m = may.1 in inr (omega (arith, l, m))
-
-  abbrev KeepsNow : List TxId → Type 0
-  KeepsNow d = KeepsOrder [] shard run (restored_locks d (log_after_restart shard before run 0) []) (restored_parts d) (restored_pairs (log_after_restart shard before run 0) d) (log_after_restart shard before run 0)
-      (restored_requests (unended_in (log_after_restart shard before run 0) (log_after_restart shard before run 0)))
-
-  order_doubt : KeepsNow (in_doubt shard (log_after_restart shard before run 0))
-  order_doubt = record {
-    ordered = ordered_restored [] shard run (log_after_restart shard before run 0) renewed_start old_prepared;
-    lying = lying_restored [] shard run (log_after_restart shard before run 0) renewed_start old_prepared;
-    rulings = rulings_restored [] shard run (log_after_restart shard before run 0) renewed_start old_prepared;
-  }
-
-  order_start : KeepsOrder [] shard run [] [] [] (log_after_restart shard before run 0) (restored_requests (unended_in (log_after_restart shard before run 0) (log_after_restart shard before run 0)))
-  order_start = subst (λ ls. KeepsOrder [] shard run ls [] [] (log_after_restart shard before run 0) (restored_requests (unended_in (log_after_restart shard before run 0) (log_after_restart shard before run 0)))) (no_locks (log_after_restart shard before run 0))
-      (subst KeepsNow (re.found.doubts ∙ may.2) order_doubt)
+  pub runs_start : Runs (stands (before ∷ [])) (found_items shard before)
+  runs_start =
+      runs_found (committed_in before) (λ t. tx_in t doubt) doubt_apart (stands (before ∷ [])) (filter (of_kept (committed_in before)) (standing before)) start_value (standing before) (all_tell shard before follows)
+      (chain_kept (is_winner shard before) (standing before) (winners_lie shard before order (standing before) order.writes.lie (lie_listed shard before follows)) order.writes.chain) order.writes.lie (λ q. inl refl)
 
   all_alive : (ws : List StandingUpdate) → AllByRecursion (λ w. is_alive [] w.tx ≡ true) ws
   all_alive [] = tt
   all_alive (w ∷ ws) = (refl, all_alive ws)
 
-  -- who is prepared and not committed is aborted by the opening at the latest
-  aborted_start : (t : TxId) → prepared_in (log_after_restart shard before run 0) t ≡ true → committed_in (log_after_restart shard before run 0) t ≡ false → aborted_in (log_after_restart shard before run 0) t ≡ true
-  aborted_start t p c =
-      let p2 = sym (re.found.prepares t) ∙ p in
-      let loses : is_winner shard before t ≡ false = kept_committed shard before t may.2 ∙ sym (re.found.commits t) ∙ c in
-      let f = from_disorder shard 0 [] before may.0 in
-      ⊎_elim
+  pub split_start : SameAtKeys (filter (of_kept (is_winner shard before)) (standing before)) (pile (found_items shard before) (filter (of_kept (committed_in before)) (standing before)))
+  split_start q =
+      keys_split (committed_in before) (λ t. tx_in t doubt) doubt_apart (standing before) order.writes.lie q
+      ∙ ap (key_writes q) (sym (pile_found (λ t. tx_in t doubt) (standing before) (filter (of_kept (committed_in before)) (standing before)) (all_tell shard before follows)))
+
+  standing_start : SameAtKeys (filter (of_kept (is_alive [])) (standing Now)) (pile (found_items shard before) (filter (of_kept (committed_in before)) (standing before)))
+  standing_start q =
+      ap (key_writes q) (filter_all_kept (is_alive []) (standing Now) (all_alive (standing Now)) ∙ re.only_kept) ∙ split_start q
+
+  logged_start : AllByRecursion (λ x. (k : ℕ) → writes x k ≡ true → wrote_in Now x.tx ≡ true) (found_items shard before)
+  logged_start = found_all (λ x. (k : ℕ) → writes x k ≡ true → wrote_in Now x.tx ≡ true) (λ t. tx_in t doubt) (standing before)
+      (all_mono _ _ (λ w u d k e. re.found.wrote w.tx ∙ wrote_of before w.tx w.key u) (standing before) (standing_updates before))
+
+  pub items_doubted : AllByRecursion (λ x. tx_in x.tx doubt ≡ true) (found_items shard before)
+  items_doubted = found_doubted (λ t. tx_in t doubt) (standing before)
+
+  pub under_start : AllLater (UnderFound before (λ t. tx_in t doubt)) (found_items shard before)
+  under_start = under_found before (λ t. tx_in t doubt) (λ t i. ((doubt_of t i).prepared, doubt_apart t i)) (standing before) (lie_listed shard before follows)
+
+  pub reached : (x y : Item) → UnderFound before (λ t. tx_in t doubt) x y → Reaches x y → (x.tx ≡ y.tx) ⊎ ((tx_in x.tx (listed_in before y.tx) ≡ true) × (tx_in x.tx doubt ≡ true) × (tx_in y.tx doubt ≡ true))
+  reached x y u r = u r.0 (write_met x r.0 r.1) r.2
+
+  -- ---- the order of the log
+
+  old_run : (t : TxId) → committed_in before t ≡ true → t.run < run
+  old_run t e = let l = record_fits (greatest_run before) t (is_commit_of t) (own_commit t) before order.runs e in let m = may.1 in omega (arith, l, m)
+
+  renewed_start : Renewed shard run Now
+  renewed_start = let l = may.1 in renewed shard run 0 before follows (omega (arith, l)) (above_later run 0 before l)
+
+  old_prepared : (t : TxId) → prepared_in Now t ≡ true → (tx_in t (found_asked shard before) ≡ true) ⊎ (t.run < run)
+  old_prepared t e = let l = record_fits (greatest_run before) t (is_prepare_of t) (own_prepare t) before order.runs (sym (re.found.prepares t) ∙ e) in let m = may.1 in inr (omega (arith, l, m))
+
+  abbrev KeepsNow : List TxId → Type 0
+  KeepsNow d = KeepsOrder (found_asked shard before) shard run (restored_locks d Now []) (restored_parts d) (restored_pairs Now d) Now (restored_requests (unended_in Now Now))
+
+  order_start : KeepsOrder (found_asked shard before) shard run (restored_locks doubt Now []) (restored_parts doubt) (restored_pairs Now doubt) Now (restored_requests (unended_in Now Now))
+  order_start = subst KeepsNow re.found.doubts (record {
+    ordered = ordered_restored (found_asked shard before) shard run Now renewed_start old_prepared;
+    lying = lying_restored (found_asked shard before) shard run Now renewed_start old_prepared;
+    rulings = rulings_restored (found_asked shard before) shard run Now renewed_start old_prepared;
+  })
+
+  -- ---- who fell
+
+  -- who is prepared, not committed and not in doubt is aborted by the opening at the latest
+  aborted_start : (t : TxId) → prepared_in Now t ≡ true → committed_in Now t ≡ false → tx_in t doubt ≡ false → aborted_in (take (length Now) Now) t ≡ true
+  aborted_start t p c n =
+      let loses : is_winner shard before t ≡ false = or_none _ _ (sym (re.found.commits t) ∙ c) n in
+      subst (λ l. aborted_in l t ≡ true) (sym (take_all (length Now) Now (omega arith)))
+      (⊎_elim
       (λ w. undo_aborts shard before run t (filter_in (λ u. not (is_winner shard before u)) t (writers (standing before)) w (ap not loses)))
       (λ u. re.found.aborts t (order.undone t u))
-      (wrote_stands shard before f t (prepared_wrote shard before f t p2))
+      (wrote_stands shard before follows t (prepared_wrote shard before follows t (sym (re.found.prepares t) ∙ p))))
 
-  falls_start : Falls run [] [] [] [] [] (log_after_restart shard before run 0) (length (log_after_restart shard before run 0))
+  absent_start : (t : TxId) → is_present (stage_in (restored_parts doubt) t) ≡ false → tx_in t doubt ≡ false
+  absent_start t h = false_from_ne_true _ (λ i. both_ways _ h (ap is_present (restored_closed doubt t i)))
+
+  not_doomed : (t : TxId) → is_doomed (stage_in (restored_parts doubt) t) ≡ true → ⊥
+  not_doomed t d = ⊎_elim (λ i. both_ways false refl (sym (ap is_doomed (restored_closed doubt t i)) ∙ d)) (λ n. both_ways false refl (sym (ap is_doomed (restored_none doubt t n)) ∙ d)) (cases_Bool (tx_in t doubt))
+
+  falls_start : Falls (found_asked shard before) [] [] [] (restored_parts doubt) (restored_pairs Now doubt) Now (length Now)
   falls_start = record {
-    fallen = λ t e. ⊎_elim (λ i. i) (λ d. absurd (both_ways false refl d)) e;
+    fallen = λ t e. ⊎_elim (λ i. i) (λ d. absurd (not_doomed t d)) e;
     open_ = λ t l. absurd (both_ways false refl l);
     unfinished = λ t l. absurd (both_ways false refl l);
     why = λ t l. absurd (both_ways false refl l);
-    up = λ t p e l. absurd (both_ways false refl e);
-    lists = λ t p r i l. absurd (both_ways false refl l);
+    up = λ t p e l. absurd (both_ways false refl l);
+    lists = λ t p i l. absurd (both_ways false refl l);
     back = λ t i h. absurd (both_ways false refl i);
-    gone = λ t p c h. ⊎_elim (λ a. absurd (both_ways false refl a)) (λ r. inr r) (old_prepared t p);
-    away = λ t r. refl;
-    old = λ t r p c. subst (λ l. aborted_in l t ≡ true) (sym (take_all (length (log_after_restart shard before run 0)) (log_after_restart shard before run 0) (omega arith))) (aborted_start t p c);
-    settled = λ t c h. all_durable (log_after_restart shard before run 0) t c;
-    paired = λ t p e q. absurd (both_ways false refl e);
+    owns = λ t p c. ⊎_elim (λ i. inl (doubt_asked t i)) (λ n. inr (aborted_start t p c n)) (cases_Bool (tx_in t doubt));
+    gone = λ t p c h. inr (aborted_start t p c (absent_start t h));
+    settled = λ t c h. all_durable Now t c;
+    paired = λ t p e q. inl (pair_lists Now doubt t p e).1;
   }
 
-  sound_start : Sound [] (past_of shard run before) (state_with (opened shard run []) 0 (log_after_restart shard before run 0) [] (records_of (fold_updates (is_winner shard (log_after_restart shard before run 0)) (log_after_restart shard before run 0) [])) [])
+  -- ---- all of it
+
+  no_read : (v : Voter) → v.vote ≡ None → v.vote ≡ Some Read → ⊥
+  no_read v e f = none_vote (sym e ∙ f)
+    where
+      none_vote : ◌≡◌ {A = Option Vote} None (Some Read) → ⊥
+      none_vote x = absurd cc
+
+  sound_start : Sound (found_items shard before) (past_of shard before) (state_with (opened shard run []) 0 Now doubt (with_ghosts doubt Now (records_of (fold_updates (is_winner shard Now) Now []))) (restored_locks doubt Now []))
   unfolding state_with
   sound_start = record {
     kept = record {
       start_rises = fold_rises (committed_somewhere (before ∷ [])) before [] tt;
       base_value = start_value;
-      base_chain = subst Chain (sym only_committed) (chain_kept (committed_in before) (standing before) order.writes.lie order.writes.chain);
-      base_done = subst (AllByRecursion (λ w. commit_durable (log_after_restart shard before run 0) (length (log_after_restart shard before run 0)) w.tx ≡ true)) (sym only_committed) (each_durable (standing before));
-      runs = tt;
-      standing_is = filter_all_kept (is_alive []) (standing (log_after_restart shard before run 0)) (all_alive (standing (log_after_restart shard before run 0)));
-      rises = rising_records (fold_updates (is_winner shard (log_after_restart shard before run 0)) (log_after_restart shard before run 0) []) (fold_rises (is_winner shard (log_after_restart shard before run 0)) (log_after_restart shard before run 0) [] tt);
-      values = values_now;
-      logged = tt;
-      rows = tt;
-      covered = tt;
-      wrote = all_mono _ _ (λ w d out. absurd (both_ways _ out d)) (standing (log_after_restart shard before run 0)) (subst (AllByRecursion (λ w. commit_durable (log_after_restart shard before run 0) (length (log_after_restart shard before run 0)) w.tx ≡ true)) (sym only_committed) (each_durable (standing before)));
-      known = tt;
-      alive = tt;
-      left = tt;
-      uncommitted = λ t e. absurd (none_stage Active e);
-      closed = λ t e. absurd (none_stage Closed e);
+      base_chain = chain_kept (committed_in before) (standing before) order.writes.lie order.writes.chain;
+      base_done = base_done (standing before);
+      runs = runs_start;
+      standing_is = standing_start;
+      rises = rises_remade shard before Now re;
+      values = values_remade shard before Now re;
+      logged = logged_start;
+      rows = rows_restored doubt Now [] tt;
+      covered = all_mono _ _ (λ x i a. absurd (no_active x.tx a)) (found_items shard before) items_doubted;
+      wrote = wrote_remade shard before Now re;
+      known = all_mono _ _ (λ x i. inr (doubt_asked x.tx i, λ a. no_active x.tx a)) (found_items shard before) items_doubted;
+      alive = all_mono _ _ (λ x i. refl) (found_items shard before) items_doubted;
+      left = all_mono _ _ (λ x i. inl (ap is_present (restored_closed doubt x.tx i))) (found_items shard before) items_doubted;
+      uncommitted = λ t e. absurd (no_active t e);
+      closed = λ t e. doubt_asked t (restored_stage doubt t Closed e).1;
       over = λ t e. absurd (both_ways false refl e);
-      dead = λ t e. (re.found.commits t ∙ dead_now t e, (λ a. none_stage Active a), (λ a. none_stage Closed a));
+      dead = λ t e. let d = re.found.dead t e in (re.found.commits t ∙ out_left (committed_in before t) (tx_in t doubt) d, (λ a. no_active t a), (λ a. both_ways _ (out_right (committed_in before t) (tx_in t doubt) d) (restored_stage doubt t Closed a).1));
       tidy = re.found.tidy;
       prepared = record {
-        unprepared = λ t a. absurd (none_stage Active a);
+        unprepared = λ t a. absurd (no_active t a);
         sealed = re.found.sealed;
-        causes = tt;
-        recover = λ t p e. absurd (both_ways false refl e);
+        causes = later_mono _ _ (λ x y u r. ⊎_elim (λ s. inl s) (λ l. inr (λ e. inl (listed_now y.tx x.tx l.2 l.0))) (reached x y u r)) (found_items shard before) under_start;
+        recover = λ t p e q. let m = met_doubt t p e in inl (listed_now t p m.0 m.2);
       };
-      doomed = λ t d e. absurd (none_stage (Gone (Some d)) e);
-      successors = λ t p e. absurd (both_ways false refl e);
-      downwards = λ t p e c. absurd (both_ways false refl e);
-      order = tt;
-      causes = tt;
-      recover = λ t p e. absurd (both_ways false refl e);
+      doomed = λ t d e. absurd (gone_closed (Some d) (restored_stage doubt t (Gone (Some d)) e).0);
+      successors = λ t p e. ap is_present (restored_closed doubt t (pair_of Now doubt t p e));
+      downwards = λ t p e c. absurd (both_ways _ (doubt_open t (pair_of Now doubt t p e)) c);
+      order = later_mono _ _ (λ x y u c. ⊎_elim (λ s. inl s) (λ l. inr (listed_place y.tx x.tx l.2 l.1 l.0)) (u c.0 c.1 c.2)) (found_items shard before) under_start;
+      causes = later_mono _ _ (λ x y u r. ⊎_elim (λ s. inl s) (λ l. inr (inr (inl (listed_pair y.tx x.tx l.2 l.1 l.0)))) (reached x y u r)) (found_items shard before) under_start;
+      recover = λ t p e. let m = met_doubt t p e in inr (inr (inl (listed_pair t p m.0 m.1 m.2)), listed_place t p m.0 m.1 m.2);
       front = λ n e. absurd (none_number n e);
     };
     told = λ t. inr refl;
-    undecided = λ t q e u. absurd ((subst IsCommitted e (restored_committed (unended_in (log_after_restart shard before run 0) (log_after_restart shard before run 0)) t)).0 u);
-    readers = λ t q e u. absurd ((subst IsCommitted e (restored_committed (unended_in (log_after_restart shard before run 0) (log_after_restart shard before run 0)) t)).1 u);
-    apart = λ t v e. absurd (none_voter v e);
-    unvoted = λ t v e. absurd (none_voter v e);
-    read = λ t v e. absurd (none_voter v e);
+    undecided = λ t q e u. absurd ((subst IsCommitted e (restored_committed (unended_in Now Now) t)).0 u);
+    readers = λ t q e u. absurd ((subst IsCommitted e (restored_committed (unended_in Now Now) t)).1 u);
+    apart = λ t v e. requests_none (unended_in Now Now) t (unended_none Now Now t (doubt_open t (voter_is Now doubt t v e).0));
+    unvoted = λ t v e w. doubt_open t (voter_is Now doubt t v e).0;
+    read = λ t v e f. absurd (no_read v (voter_is Now doubt t v e).1 f);
     asked = λ t e. inr (old_run t (sym (re.found.commits t) ∙ e));
     order = order_start;
     falls = falls_start;
     unfallen = λ t q e u here. refl;
   }
 
-  pub sound_opened : Sound [] (past_of shard run before) (opened shard run before)
+  pub sound_opened : Sound (found_items shard before) (past_of shard before) (opened shard run before)
   unfolding state_with
-  sound_opened =
-      subst (λ d. Sound [] (past_of shard run before) (state_with (opened shard run []) 0 (log_after_restart shard before run 0) d (with_ghosts d (log_after_restart shard before run 0) (records_of (fold_updates (is_winner shard (log_after_restart shard before run 0)) (log_after_restart shard before run 0) []))) (restored_locks d (log_after_restart shard before run 0) []))) (sym (re.found.doubts ∙ may.2))
-      (subst (λ rs. Sound [] (past_of shard run before) (state_with (opened shard run []) 0 (log_after_restart shard before run 0) [] rs (restored_locks [] (log_after_restart shard before run 0) []))) (sym (no_ghosts (log_after_restart shard before run 0) (records_of (fold_updates (is_winner shard (log_after_restart shard before run 0)) (log_after_restart shard before run 0) []))))
-      (subst (λ ls. Sound [] (past_of shard run before) (state_with (opened shard run []) 0 (log_after_restart shard before run 0) [] (records_of (fold_updates (is_winner shard (log_after_restart shard before run 0)) (log_after_restart shard before run 0) [])) ls)) (sym (no_locks (log_after_restart shard before run 0))) sound_start))
+  sound_opened = subst (λ d. Sound (found_items shard before) (past_of shard before) (state_with (opened shard run []) 0 Now d (with_ghosts d Now (records_of (fold_updates (is_winner shard Now) Now []))) (restored_locks d Now []))) (sym re.found.doubts) sound_start
 
 -- and nobody fell
 pub opened_undoomed : (shard run : ℕ) (before : List LogRecord) (u : TxId) → is_doomed (stage_of (opened shard run before).local u) ≡ true → ⊥

@@ -1,5 +1,5 @@
 -- Who fell, through a restart: those that were here, and are neither restored nor committed.
-use Rattle.std.proofs.Common.{◌≡◌, ◌⊎◌, inl, inr, ⊎_elim, refl, sym, ap, subst, ◌∙◌, ℕ, ◌<◌, ◌≤◌, Bool, true, false, ◌||◌, List, [], ◌∷◌, ◌++◌, length, Option, Some, None, arith, map, cond}
+use Rattle.std.proofs.Common.{◌≡◌, ◌⊎◌, inl, inr, ⊎_elim, refl, sym, ap, subst, ◌∙◌, ℕ, ◌≤◌, Bool, true, false, ◌||◌, List, [], ◌∷◌, ◌++◌, length, Option, Some, None, arith, map, cond}
 use Rattle.std.specs.Prelude.{take}
 use Rattle.std.proofs.lemmas.Bool.{cases_Bool, both_ways, or_cases, false_from_ne_true}
 use Rattle.std.proofs.lemmas.List.{take_all}
@@ -47,8 +47,8 @@ stage_name u ps st e = at (tx_get u ps) refl e
 pub all_durable : (log : List LogRecord) (t : TxId) → committed_in log t ≡ true → commit_durable log (length log) t ≡ true
 all_durable log t e = let k = place_some 0 (is_commit_of t) log e in let l = place_less 0 (is_commit_of t) log k.0 k.1 in durable_from log (length log) t k.0 k.1 (omega arith)
 
-module _ (shard run : ℕ) (fell lost over : List TxId) (parts : Table Held) (pairs : List (TxId × TxId)) (log : List LogRecord) (durable c : ℕ) (after : List LogRecord) (out : List TxId) (f : Falls run fell lost over parts pairs log durable)
-    (order : Follows shard [] after) (le : durable ≤ c) (boundary : (t : TxId) → is_doomed (stage_in parts t) ≡ true → tx_in t fell ≡ true) (successors : (t p : TxId) → is_pair pairs t p ≡ true → is_present (stage_in parts t) ≡ true) (finished : (t : TxId) → is_present (stage_in parts t) ≡ true → tx_in t over ≡ true → committed_in after t ≡ true)
+module _ (shard : ℕ) (asked fell lost over : List TxId) (parts : Table Held) (pairs : List (TxId × TxId)) (log : List LogRecord) (durable c : ℕ) (after : List LogRecord) (out : List TxId) (f : Falls asked fell lost over parts pairs log durable)
+    (order : Follows shard [] after) (le : durable ≤ c) (boundary : (t : TxId) → is_doomed (stage_in parts t) ≡ true → tx_in t fell ≡ true) (present_asked : (t : TxId) → is_present (stage_in parts t) ≡ true → prepared_in log t ≡ true → tx_in t asked ≡ true) (successors : (t p : TxId) → is_pair pairs t p ≡ true → is_present (stage_in parts t) ≡ true) (finished : (t : TxId) → is_present (stage_in parts t) ≡ true → tx_in t over ≡ true → committed_in after t ≡ true)
     (commits : (t : TxId) → committed_in after t ≡ committed_in (take c log) t) (prepares : (t : TxId) → prepared_in after t ≡ prepared_in (take c log) t) (aborts : (t : TxId) → aborted_in (take c log) t ≡ true → aborted_in after t ≡ true) (lists_same : (t : TxId) → prepared_in after t ≡ true → listed_in after t ≡ listed_in log t)
     (outs : (t : TxId) → tx_in t out ≡ true → (is_present (stage_in parts t) ≡ true) × (tx_in t (in_doubt shard after) ≡ false) × (committed_in after t ≡ false)) (all_outs : (t : TxId) → is_present (stage_in parts t) ≡ true → tx_in t (in_doubt shard after) ≡ false → committed_in after t ≡ false → tx_in t out ≡ true) where
   doubts : (t : TxId) → tx_in t (in_doubt shard after) ≡ true → Doubted after (in_doubt shard after) t
@@ -64,10 +64,16 @@ module _ (shard run : ℕ) (fell lost over : List TxId) (parts : Table Held) (pa
   absent_open : (t : TxId) → is_present (stage_in parts t) ≡ false → committed_in after t ≡ false → committed_in log t ≡ false
   absent_open t h e = false_from_ne_true _ (λ k. both_ways _ e (commits t ∙ durable_cut durable c log t le (f.settled t k h)))
 
-  not_old : (t : TxId) → tx_in t (in_doubt shard after) ≡ true → t.run < run → ⊥
-  not_old t i r =
-      let d = doubts t i in
-      both_ways _ d.unaborted (aborts t (take_further (is_abort_of t) durable c log le (f.old t r (was_prepared t d.prepared) (absent_open t (f.away t r) d.open_))))
+  -- an ABORT that was durable is here still
+  still_aborted : (t : TxId) → aborted_in (take durable log) t ≡ true → aborted_in after t ≡ true
+  still_aborted t a = aborts t (take_further (is_abort_of t) durable c log le a)
+
+  aborted_now : {P : Type 0} (t : TxId) → P ⊎ (aborted_in (take durable log) t ≡ true) → P ⊎ (aborted_in (take (length after) after) t ≡ true)
+  aborted_now t (inl p) = inl p
+  aborted_now t (inr a) = inr (subst (λ l. aborted_in l t ≡ true) (sym (take_all (length after) after (omega arith))) (still_aborted t a))
+
+  not_aborted : (t : TxId) → tx_in t (in_doubt shard after) ≡ true → aborted_in (take durable log) t ≡ true → ⊥
+  not_aborted t i a = both_ways _ (doubts t i).unaborted (still_aborted t a)
 
   restored : (t : TxId) → tx_in t (in_doubt shard after) ≡ true → is_present (stage_in (restored_parts (in_doubt shard after)) t) ≡ true
   restored t i = ap is_present (restored_closed (in_doubt shard after) t i)
@@ -96,12 +102,12 @@ module _ (shard run : ℕ) (fell lost over : List TxId) (parts : Table Held) (pa
   out_lost p o e = let q = outs p o in ⊎_elim (λ k. both_ways _ q.2 k) (λ k. both_ways _ q.1 k) (or_cases (committed_in after p) (tx_in p (in_doubt shard after)) e)
 
   -- who lists one that was left out is lost
-  out_listed : (t p : TxId) → (t.run < run → ⊥) → tx_in p (listed_in after t) ≡ true → tx_in p out ≡ true → tx_in t (out ++ lost) ≡ true
-  out_listed t p r i o =
+  out_listed : (t p : TxId) → tx_in p (listed_in after t) ≡ true → tx_in p out ≡ true → (tx_in t (out ++ lost) ≡ true) ⊎ (aborted_in (take durable log) t ≡ true)
+  out_listed t p i o =
       let open_t : committed_in after t ≡ false = false_from_ne_true _ (λ k. both_ways _ (outs p o).2 (committed_lists shard after order t p k i)) in
       ⊎_elim
-      (λ h. in_first out lost t (all_outs t h (false_from_ne_true _ (λ d. out_lost p o (doubt_lists t p d i))) open_t))
-      (λ h. ⊎_elim (λ e. in_more out lost t (f.fallen t e)) (λ o2. absurd (r o2)) (f.gone t (was_prepared t (lists_prepared t p i)) (absent_open t h open_t) h))
+      (λ h. inl (in_first out lost t (all_outs t h (false_from_ne_true _ (λ d. out_lost p o (doubt_lists t p d i))) open_t)))
+      (λ h. ⊎_elim (λ e. inl (in_more out lost t (f.fallen t e))) (λ a. inr a) (f.gone t (was_prepared t (lists_prepared t p i)) (absent_open t h open_t) h))
       (cases_Bool (is_present (stage_in parts t)))
 
   with_pair : (t p : TxId) → tx_in t lost ≡ true → is_pair pairs t p ≡ true → tx_in p lost ≡ true → Fell (out ++ fell) (restored_parts (in_doubt shard after)) t ⊎ ((q : TxId) × (is_pair (restored_pairs after (in_doubt shard after)) t q ≡ true) × (tx_in q (out ++ lost) ≡ true))
@@ -113,7 +119,7 @@ module _ (shard run : ℕ) (fell lost over : List TxId) (parts : Table Held) (pa
       (λ n. inl (inl (in_first out fell t (all_outs t (successors t p e) n (was_open t (f.open_ t l))))))
       (cases_Bool (tx_in t (in_doubt shard after)))
 
-  pub falls_restarted : Falls run (out ++ fell) (out ++ lost) over (restored_parts (in_doubt shard after)) (restored_pairs after (in_doubt shard after)) after (length after)
+  pub falls_restarted : Falls asked (out ++ fell) (out ++ lost) over (restored_parts (in_doubt shard after)) (restored_pairs after (in_doubt shard after)) after (length after)
   falls_restarted = record {
     fallen = λ t e. ⊎_elim (λ i. ⊎_elim (λ o. in_first out lost t o) (λ j. in_more out lost t (f.fallen t (inl j))) (in_two out fell t i)) (λ d. absurd (none_doomed t d)) e;
     open_ = λ t l. ⊎_elim (λ o. (outs t o).2) (λ i. was_open t (f.open_ t i)) (in_two out lost t l);
@@ -121,15 +127,14 @@ module _ (shard run : ℕ) (fell lost over : List TxId) (parts : Table Held) (pa
     why = λ t l. ⊎_elim (λ o. inl (inl (in_first out fell t o))) (λ i. ⊎_elim (λ e. inl (inl (fell_index t e))) (λ q. with_pair t q.0 i q.1 q.2) (f.why t i)) (in_two out lost t l);
     up = λ t p e l.
         let q = pair_lists after (in_doubt shard after) t p e in
-        ⊎_elim (λ o. absurd (out_lost p o (doubt_lists t p q.0 q.1))) (λ i. in_more out lost t (f.lists t p (not_old t q.0) (ap (tx_in p) (sym (lists_same t (doubts t q.0).prepared)) ∙ q.1) i)) (in_two out lost p l);
-    lists = λ t p r i l. ⊎_elim (λ o. out_listed t p r i o) (λ j. in_more out lost t (f.lists t p r (ap (tx_in p) (sym (lists_same t (lists_prepared t p i))) ∙ i) j)) (in_two out lost p l);
+        ⊎_elim (λ o. absurd (out_lost p o (doubt_lists t p q.0 q.1))) (λ i. ⊎_elim (λ k. in_more out lost t k) (λ a. absurd (not_aborted t q.0 a)) (f.lists t p (ap (tx_in p) (sym (lists_same t (doubts t q.0).prepared)) ∙ q.1) i)) (in_two out lost p l);
+    lists = λ t p i l. aborted_now t (⊎_elim (λ o. out_listed t p i o) (λ j. ⊎_elim (λ k. inl (in_more out lost t k)) (λ a. inr a) (f.lists t p (ap (tx_in p) (sym (lists_same t (lists_prepared t p i))) ∙ i) j)) (in_two out lost p l));
     back = λ t i h. (doubts t (is_restored t h)).prepared;
-    gone = λ t p k h. ⊎_elim
+    owns = λ t p k. aborted_now t (⊎_elim (λ here. inl (present_asked t here (was_prepared t p))) (λ left. f.owns t (was_prepared t p) (absent_open t left k)) (cases_Bool (is_present (stage_in parts t))));
+    gone = λ t p k h. aborted_now t (⊎_elim
         (λ here. inl (inl (in_first out fell t (all_outs t here (not_restored t h) k))))
-        (λ left. ⊎_elim (λ e. inl (inl (fell_index t e))) (λ r. inr r) (f.gone t (was_prepared t p) (absent_open t left k) left))
-        (cases_Bool (is_present (stage_in parts t)));
-    away = λ t r. ap is_present (restored_none (in_doubt shard after) t (false_from_ne_true _ (λ i. not_old t i r)));
-    old = λ t r p k. subst (λ l. aborted_in l t ≡ true) (sym (take_all (length after) after (omega arith))) (aborts t (take_further (is_abort_of t) durable c log le (f.old t r (was_prepared t p) (absent_open t (f.away t r) k))));
+        (λ left. ⊎_elim (λ e. inl (inl (fell_index t e))) (λ a. inr a) (f.gone t (was_prepared t p) (absent_open t left k) left))
+        (cases_Bool (is_present (stage_in parts t))));
     settled = λ t k h. all_durable after t k;
     paired = λ t p e q. inl (pair_lists after (in_doubt shard after) t p e).1;
   }

@@ -1,14 +1,10 @@
 -- A restart keeps what a shard keeps: of the past what the log that was found commits or leaves in doubt, and what was told.
-use Rattle.std.proofs.Common.{◌≡◌, ℕ, ◌+◌, ◌≤◌, ◌<◌, ◌⊎◌, inl, inr, ⊎_elim, Bool, true, false, cond, ◌&&◌, ◌||◌, List, [], ◌∷◌, ◌++◌, length, Option, Some, None, unwrap_or, ◌==◌, T, nat_lt, refl, sym, ap, subst, ◌∙◌, arith, eqb-true, eq-eqb, map, not}
+use Rattle.std.proofs.Common.{◌≡◌, ℕ, ◌+◌, ◌≤◌, ◌<◌, ◌⊎◌, inl, inr, ⊎_elim, Bool, true, false, cond, ◌&&◌, ◌||◌, List, [], ◌∷◌, ◌++◌, length, Option, Some, None, unwrap_or, refl, sym, ap, subst, ◌∙◌, arith, eqb-true, eq-eqb, map, not}
 use Rattle.std.specs.Prelude.{take, drop}
 use Rattle.std.specs.List.{AllByRecursion, filter}
-use Rattle.std.proofs.lemmas.Bool.{cases_Bool, both_ways, cond_both, cond-true, or_cases, and_from, false_from_ne_true, ltb-true, not-true, and_parts, cond-false}
+use Rattle.std.proofs.lemmas.Bool.{cases_Bool, both_ways, cond_both, or_cases, and_from, false_from_ne_true, not-true, and_parts, cond-false}
 use Rattle.std.proofs.lemmas.List.{take-append-drop}
 use Rattle.std.proofs.lemmas.List.Folds.{list_any-append}
-use Rattle.std.specs.declared.cmp.Ordering.TheVariants.{Less, Equal, Greater}
-use Rattle.std.specs.Ordering.{nat_cmp, is_lt}
-use Rattle.std.specs.Cmp.{unsigned_tied}
-use Rattle.std.specs.FinMap.Entries.{below_all}
 use Rattle.clv_base.specs.declared.names.TxId.{TxId}
 use Rattle.clv_base.specs.declared.causes.Vote.{Vote}
 use Rattle.clv_base.specs.declared.causes.Vote.TheVariants.{Read}
@@ -20,37 +16,34 @@ use Rattle.clv_base.specs.declared.state.Request.{Request}
 use Rattle.clv_base.specs.declared.state.RequestState.TheVariants.{Undecided, Committed, Finished}
 use Rattle.clv_base.specs.declared.state.Voter.{Voter}
 use Rattle.clv_base.specs.Orders.{Table, tx_same, tx_in, tx_get}
-use Rattle.clv_base.specs.Maps.{KeyMap, map_get}
 use Rattle.clv_base.specs.Logs.{StandingUpdate, standing, committed_in, prepared_in, wrote_in, is_update_of, is_commit_of, in_doubt, is_winner, fold_updates, is_abort_of}
 use Rattle.clv_base.specs.Locks.{Locks}
 use Rattle.clv_base.specs.State.{Shard, is_present}
 use Rattle.clv_base.specs.Undo.{stage_of}
-use Rattle.clv_base.specs.Needs.{Records, value_at}
-use Rattle.clv_base.specs.Folding.{IsRising}
+use Rattle.clv_base.specs.Needs.{Records}
 use Rattle.clv_base.specs.Participant.{restored_voters}
 use Rattle.clv_base.specs.Coordinator.{restored_request, restored_requests}
 use Rattle.clv_base.specs.Restarts.{records_of, with_ghosts, restored_locks, restored_parts, homes_of, restored_pairs, unended_in, greatest_run, log_left, revived, Restarts}
 use Rattle.clv_base.proofs.SameNames.{or_left, or_right, tx_true}
 use Rattle.law_base.specs.Items.{Item, wrote, writes, Runs, AllLater, Reaches, pile, is_write_at}
-use Rattle.law_base.proofs.Cells.{record_at, live_by}
 use Rattle.law_base.proofs.Lists.{all_mono, all_both, all_filter, later_mono, later_filter}
-use Rattle.law_base.proofs.Running.{top_value, Keeps, kept_runs}
+use Rattle.law_base.proofs.Running.{Keeps, kept_runs}
 use Rattle.law_base.proofs.Undoing.{standing_append}
-use Rattle.law_base.proofs.Anchors.{Rising, AllAbove}
 use Rattle.law_base.proofs.Tables.{stage_in}
 use Rattle.law_base.proofs.Commits.{commit_durable, committed_append, place_there, before_second}
-use Rattle.order_laws.specs.Order.{moves, Open_at, Tidy, Unprepared, Sealed, is_clr_of, undone_in}
+use Rattle.order_laws.specs.Order.{moves, Open_at, Tidy, Unprepared, Sealed, undone_in}
 use Rattle.shard_laws.specs.OneShard.{items_of, is_member, is_doomed, left_out}
+use Rattle.shard_laws.proofs.AtKeys.{SameAtKeys, key_writes, keys_filter, keys_all}
 use Rattle.shard_laws.proofs.Kept.{View, view_of, Past, Dep, Known, Left, is_alive, place}
 use Rattle.shard_laws.proofs.Prepared.{IsListed, Lists, prepared_append, sealed_later, listed_keeps}
 use Rattle.shard_laws.proofs.Changes.{undone_append, wrote_append, later_both}
 use Rattle.shard_laws.proofs.Leaving.{pile_all, pile_each, write_some, none_two, in_first, in_more}
 use Rattle.shard_laws.proofs.Sound.{Sound, filter_both, filter_same}
-use Rattle.shard_laws.proofs.Cutting.{cut_keeps, durable_cut, of_kept, KeptWhole, tidy_later, fold_alike, fold_values, fold_rises}
+use Rattle.shard_laws.proofs.Cutting.{cut_keeps, durable_cut, of_kept, tidy_later}
 use Rattle.shard_laws.proofs.Serial.{Once}
 use Rattle.shard_laws.proofs.Members.{dep_cut, item_asked, cut_base, pile_keep, filter_all_kept, filter_alike, filter_and}
 use Rattle.shard_laws.proofs.Doubting.{Doubted, doubted, prepared_cut, listed_cut, listed_wins}
-use Rattle.shard_laws.proofs.Restoring.{has_update, standing_updates, wrote_of, restored_closed, restored_stage, restored_none, locks_hold, rows_restored, ghosts_value, ghosts_rise, ghosts_there}
+use Rattle.shard_laws.proofs.Restoring.{has_update, wrote_of, restored_closed, restored_stage, restored_none, rows_restored}
 use Rattle.shard_laws.proofs.Following.{follows_take, greatest_front}
 use Rattle.shard_laws.proofs.Keeping.{KeepsOrder}
 use Rattle.shard_laws.proofs.Renewing.{found_self, Renewed, Fine, renewed_by, ordered_restored, lying_restored, rulings_restored}
@@ -59,7 +52,8 @@ use Rattle.shard_laws.proofs.Listing.{order_of, prepared_wrote}
 use Rattle.order_laws.proofs.InOrder.{Order}
 use Rattle.shard_laws.proofs.Refalling.{all_durable, falls_restarted, stage_name}
 use Rattle.shard_laws.proofs.Relisting.{requests_none, unended_none, voter_is, pair_there, pair_of}
-use Rattle.shard_laws.proofs.Rebuilding.{Found, winners, unmoved_from, out_left, out_right, Restarted, of_restarts}
+use Rattle.shard_laws.proofs.Rebuilding.{Found, unmoved_from, out_left, out_right, Restarted, of_restarts}
+use Rattle.shard_laws.proofs.Remaking.{view_remade, committed_remade, values_remade, rises_remade, all_written, wrote_remade}
 use Rattle.clv_base.specs.LogRules.{listed_in}
 use Rattle.shard_laws.proofs.Dooming.{in_filter, filter_in}
 
@@ -70,40 +64,6 @@ cut_false c log t e = false_from_ne_true _ (λ h. both_ways _ e (cut_keeps c log
 
 cut_wrote : (c : ℕ) (log : List LogRecord) (t : TxId) → wrote_in log t ≡ false → wrote_in (take c log) t ≡ false
 cut_wrote c log t e = false_from_ne_true _ (λ h. both_ways _ e (subst (λ l. wrote_in l t ≡ true) (take-append-drop c log) (wrote_append (take c log) (drop c log) t ∙ or_left _ _ h)))
-
--- ---- the records of a map
-
-pub get_records : (q : ℕ) (m : KeyMap) → value_at q (records_of m) ≡ map_get q m
-get_records q [] = refl
-get_records q (e ∷ es) = at (q == e.0) (get_records q es) ∙ ap (λ b. cond b (Some e.1) (map_get q es)) (sym (unsigned_tied q e.0))
-  where
-    at : (b : Bool) → value_at q (records_of es) ≡ map_get q es → live_by (cond b (Some (Some e.1)) (record_at q (records_of es))) ≡ cond b (Some e.1) (map_get q es)
-    at true i = refl
-    at false i = i
-
-t_first : (a b : Bool) → T (a && b) → T a
-t_first true b h = tt
-t_first false b h = h
-
-t_second : (a b : Bool) → T (a && b) → T b
-t_second true b h = h
-t_second false b h = absurd h
-
-less_from : (j k : ℕ) → T (is_lt (nat_cmp j k)) → j < k
-less_from j k h = at (nat_lt j k) (j == k) refl h
-  where
-    at : (b c : Bool) → nat_lt j k ≡ b → T (is_lt (cond b Less (cond c Equal Greater))) → j < k
-    at true c e h = ltb-true j k e
-    at false true e h = absurd h
-    at false false e h = absurd h
-
-above_records : (k : ℕ) (m : KeyMap) → T (below_all nat_cmp k m) → AllAbove k (records_of m)
-above_records k [] h = tt
-above_records k (e ∷ es) h = (less_from k e.0 (t_first _ _ h), above_records k es (t_second (is_lt (nat_cmp k e.0)) _ h))
-
-pub rising_records : (m : KeyMap) → IsRising m → Rising (records_of m)
-rising_records [] h = tt
-rising_records (e ∷ es) h = (above_records e.0 es (t_first _ _ h), rising_records es (t_second (below_all nat_cmp e.0 es) _ h))
 
 -- ---- the requests of a restarted shard are committed
 
@@ -132,18 +92,6 @@ none_stage st e = absurd cc
 
 none_number : (n : ℕ) → ◌≡◌ {A = Option ℕ} None (Some n) → ⊥
 none_number n e = absurd cc
-
-pub filter_twice : (f : TxId → Bool) (ws : List StandingUpdate) → filter (of_kept f) (filter (of_kept f) ws) ≡ filter (of_kept f) ws
-filter_twice f [] = refl
-filter_twice f (w ∷ ws) = at (f w.tx) refl (filter_twice f ws)
-  where
-    at : (b : Bool) → f w.tx ≡ b → filter (of_kept f) (filter (of_kept f) ws) ≡ filter (of_kept f) ws → filter (of_kept f) (cond b (w ∷ filter (of_kept f) ws) (filter (of_kept f) ws)) ≡ cond b (w ∷ filter (of_kept f) ws) (filter (of_kept f) ws)
-    at true e ih = cond-true (f w.tx) _ _ e ∙ ap (λ l. w ∷ l) ih
-    at false e ih = ih
-
-pub whole_log : (keep : TxId → Bool) (rs : List LogRecord) → ((t : TxId) → undone_in rs t ≡ true → keep t ≡ false) → KeptWhole keep rs
-whole_log keep [] h = tt
-whole_log keep (r ∷ rs) h = (λ t e. h t (or_left _ _ e), whole_log keep rs (λ t e. h t (or_right (is_clr_of t r) _ e)))
 
 -- the state after a restart, with what is in doubt, its records and its locks given
 unfoldable pub state_with : Shard → ℕ → List LogRecord → List TxId → Records → Locks → Shard
@@ -211,7 +159,7 @@ module _ (all : List Item) (g : Past) (s : Shard) (c : ℕ) (h : Sound all g s) 
       let d = doubt_of t i in
       let p = prepared_cut c s.local.log t d.prepared in
       let open_ : committed_in s.local.log t ≡ false = false_from_ne_true _ (λ k. both_ways _ d.open_ (durable_cut s.durable c s.local.log t le (h.falls.settled t k n))) in
-      ⊎_elim (λ e. e) (λ r. absurd (both_ways _ d.unaborted (take_further (is_abort_of t) s.durable c s.local.log le (h.falls.old t r p open_)))) (h.falls.gone t p open_ n)
+      ⊎_elim (λ e. e) (λ a. absurd (both_ways _ d.unaborted (take_further (is_abort_of t) s.durable c s.local.log le a))) (h.falls.gone t p open_ n)
 
   pub doubt_here : s.durable ≤ c → (t : TxId) → tx_in t (in_doubt s.shard (take c s.local.log)) ≡ true → (Fell g.fell s.local.parts t → ⊥) → is_present (stage_of s.local t) ≡ true
   doubt_here le t i n = at (is_present (stage_of s.local t)) refl
@@ -238,9 +186,6 @@ module _ (all : List Item) (g : Past) (s : Shard) (c epoch : ℕ) (log : List Lo
 
   found : Found s.shard (take c s.local.log) log
   found = re.found
-
-  committed_now : (t : TxId) → committed_in (take c s.local.log) t ≡ true → commit_durable log (length log) t ≡ true
-  committed_now t e = all_durable log t (found.commits t ∙ e)
 
   doubt_open : (t : TxId) → tx_in t doubt ≡ true → committed_in log t ≡ false
   doubt_open t i = found.commits t ∙ (doubt_of all g s c h t i).open_
@@ -328,28 +273,17 @@ module _ (all : List Item) (g : Past) (s : Shard) (c epoch : ℕ) (log : List Lo
   every_swap [] = tt
   every_swap (w ∷ ws) = (and_swap (is_winner s.shard (take c s.local.log) w.tx) (is_alive g.lost w.tx), every_swap ws)
 
-  standing_now : filter (of_kept (is_alive (left_out s (revived s epoch log) ++ g.lost))) (standing log) ≡ pile (filter (λ x. stays x.tx) g.items) g.base
-  standing_now =
-      ap (filter (of_kept (is_alive (left_out s (revived s epoch log) ++ g.lost)))) re.only_kept
+  standing_now : SameAtKeys (filter (of_kept (is_alive (left_out s (revived s epoch log) ++ g.lost))) (standing log)) (pile (filter (λ x. stays x.tx) g.items) g.base)
+  standing_now q =
+      ap (key_writes q) (ap (filter (of_kept (is_alive (left_out s (revived s epoch log) ++ g.lost)))) re.only_kept
       ∙ filter_and (is_alive g.lost) (is_alive (left_out s (revived s epoch log) ++ g.lost)) (λ t. is_winner s.shard (take c s.local.log) t) (standing (take c s.local.log)) same_alive
       ∙ sym standing_rest
       ∙ filter_alike (λ t. is_winner s.shard (take c s.local.log) t && is_alive g.lost t) (λ t. is_alive g.lost t && is_winner s.shard (take c s.local.log) t) (standing s.local.log) (every_swap (standing s.local.log))
-      ∙ sym (filter_and (λ t. is_winner s.shard (take c s.local.log) t) (λ t. is_winner s.shard (take c s.local.log) t) (is_alive g.lost) (standing s.local.log) (λ t e. refl))
-      ∙ ap (filter (of_kept (λ t. is_winner s.shard (take c s.local.log) t))) h.kept.standing_is
-      ∙ sym (filter_alike (λ t. is_winner s.shard (take c s.local.log) t || tx_in t g.over) (λ t. is_winner s.shard (take c s.local.log) t) (pile g.items g.base) writers_now)
+      ∙ sym (filter_and (λ t. is_winner s.shard (take c s.local.log) t) (λ t. is_winner s.shard (take c s.local.log) t) (is_alive g.lost) (standing s.local.log) (λ t e. refl)))
+      ∙ keys_filter (of_kept (λ t. is_winner s.shard (take c s.local.log) t)) (filter (of_kept (is_alive g.lost)) (standing s.local.log)) (pile g.items g.base) h.kept.standing_is q
+      ∙ ap (key_writes q) (sym (filter_alike (λ t. is_winner s.shard (take c s.local.log) t || tx_in t g.over) (λ t. is_winner s.shard (take c s.local.log) t) (pile g.items g.base) writers_now)
       ∙ pile_keep (λ t. is_winner s.shard (take c s.local.log) t || tx_in t g.over) g.items g.base
-      ∙ ap (pile (filter (λ x. stays x.tx) g.items)) (filter_all_kept (λ t. is_winner s.shard (take c s.local.log) t || tx_in t g.over) g.base (all_mono _ _ (λ w e. or_left _ _ e) g.base base_wins))
-
-  standing_kept : filter (of_kept (λ t. is_winner s.shard (take c s.local.log) t)) (standing log) ≡ standing log
-  standing_kept = ap (filter (of_kept (λ t. is_winner s.shard (take c s.local.log) t))) re.only_kept ∙ filter_twice (λ t. is_winner s.shard (take c s.local.log) t) (standing (take c s.local.log)) ∙ sym re.only_kept
-
-  values_now : (q : ℕ) → value_at q (with_ghosts doubt log (records_of (fold_updates (is_winner s.shard log) log []))) ≡ top_value q (standing log)
-  values_now q =
-      ghosts_value doubt log (records_of (fold_updates (is_winner s.shard log) log [])) q
-      ∙ get_records q (fold_updates (is_winner s.shard log) log [])
-      ∙ ap (map_get q) (fold_alike (is_winner s.shard log) (λ t. is_winner s.shard (take c s.local.log) t) log [] (λ t. winners s.shard (take c s.local.log) log t found))
-      ∙ fold_values (λ t. is_winner s.shard (take c s.local.log) t) 0 log [] [] q (whole_log (λ t. is_winner s.shard (take c s.local.log) t) log found.dead) refl
-      ∙ ap (top_value q) standing_kept
+      ∙ ap (pile (filter (λ x. stays x.tx) g.items)) (filter_all_kept (λ t. is_winner s.shard (take c s.local.log) t || tx_in t g.over) g.base (all_mono _ _ (λ w e. or_left _ _ e) g.base base_wins)))
 
   -- ---- whom one that stays met
 
@@ -369,7 +303,7 @@ module _ (all : List Item) (g : Past) (s : Shard) (c epoch : ℕ) (log : List Lo
       (stays_as t e)
 
   abbrev After_view : View
-  After_view = record { records = with_ghosts doubt log (records_of (fold_updates (is_winner s.shard log) log [])); locks = restored_locks doubt log []; parts = restored_parts doubt; pairs = restored_pairs log doubt; log = log; durable = length log; flight = None }
+  After_view = view_remade s.shard (take c s.local.log) log
 
   listed_dep : (t p : TxId) → tx_in t doubt ≡ true → IsListed log t p → Dep After_view t p
   listed_dep t p i (inl l) = ⊎_elim (λ k. inl (all_durable log p k)) (λ k. inr (inl (pair_there log doubt t p i l k))) (cases_Bool (committed_in log p))
@@ -377,7 +311,7 @@ module _ (all : List Item) (g : Past) (s : Shard) (c epoch : ℕ) (log : List Lo
 
   dep_now : (t p : TxId) → Dep (view_of s) t p → Lists s.local.log t p → stays t ≡ true → Dep After_view t p
   dep_now t p d l e =
-      ⊎_elim (λ m. inl (committed_now p (dep_cut all g s g.over c h le once (λ u i. i) t p d m)))
+      ⊎_elim (λ m. inl (committed_remade s.shard (take c s.local.log) log re p (dep_cut all g s g.over c h le once (λ u i. i) t p d m)))
       (λ i. listed_dep t p i (lists_now t p l (found.prepares t ∙ (doubt_of all g s c h t i).prepared))) (stays_as t e)
 
   keeps_now : (x y : Item) → (Reaches x y → (x.tx ≡ y.tx) ⊎ Dep (view_of s) y.tx x.tx) × (Reaches x y → (x.tx ≡ y.tx) ⊎ Lists s.local.log y.tx x.tx) → Keeps (λ z. stays z.tx) x y
@@ -393,21 +327,6 @@ module _ (all : List Item) (g : Past) (s : Shard) (c epoch : ℕ) (log : List Lo
 
   -- ---- what those that stay wrote
 
-  wins_split : (t : TxId) → wins t ≡ true → (commit_durable log (length log) t ≡ true) ⊎ (tx_in t doubt ≡ true)
-  wins_split t e = ⊎_elim (λ k. inl (committed_now t k)) (λ i. inr i) (or_cases (committed_in (take c s.local.log) t) (tx_in t doubt) e)
-
-  kept_wins : (ws : List StandingUpdate) → AllByRecursion (λ w. is_winner s.shard (take c s.local.log) w.tx ≡ true) (filter (of_kept (λ t. is_winner s.shard (take c s.local.log) t)) ws)
-  kept_wins [] = tt
-  kept_wins (w ∷ ws) = cond_both (is_winner s.shard (take c s.local.log) w.tx) (w ∷ filter (of_kept (λ t. is_winner s.shard (take c s.local.log) t)) ws) (filter (of_kept (λ t. is_winner s.shard (take c s.local.log) t)) ws)
-      (AllByRecursion (λ w. is_winner s.shard (take c s.local.log) w.tx ≡ true)) (λ e. (e, kept_wins ws)) (λ e. kept_wins ws)
-
-  abbrev Written : StandingUpdate → Type 0
-  Written w = (is_winner s.shard (take c s.local.log) w.tx ≡ true) × (has_update log w.tx w.key ≡ true)
-
-  all_written : AllByRecursion Written (standing log)
-  all_written = all_both _ _ (standing log) (subst (AllByRecursion (λ w. is_winner s.shard (take c s.local.log) w.tx ≡ true)) standing_kept (kept_wins (standing log)))
-      (standing_updates log)
-
   kept_of : (P : StandingUpdate → Type 0) (f : TxId → Bool) (ws : List StandingUpdate) → AllByRecursion P ws → AllByRecursion P (filter (of_kept f) ws)
   kept_of P f [] a = tt
   kept_of P f (w ∷ ws) a = cond_both (f w.tx) (w ∷ filter (of_kept f) ws) (filter (of_kept f) ws) (AllByRecursion P) (λ e. (a.0, kept_of P f ws a.1)) (λ e. kept_of P f ws a.1)
@@ -420,7 +339,7 @@ module _ (all : List Item) (g : Past) (s : Shard) (c epoch : ℕ) (log : List Lo
       let o = write_some (wrote x) q w in
       let r = f o.0 o.1 in
       (r.0, subst (λ k. has_update log x.tx k ≡ true) (sym (key_is (wrote x) o.0 q o.1 w)) r.1))
-      (filter (λ x. stays x.tx) g.items) (pile_each Written (filter (λ x. stays x.tx) g.items) g.base (subst (AllByRecursion Written) standing_now (kept_of Written (is_alive (left_out s (revived s epoch log) ++ g.lost)) (standing log) all_written)))
+      (filter (λ x. stays x.tx) g.items) (pile_each (λ w. (wins w.tx ≡ true) × (has_update log w.tx w.key ≡ true)) (filter (λ x. stays x.tx) g.items) g.base (keys_all (λ w. (wins w.tx ≡ true) × (has_update log w.tx w.key ≡ true)) (filter (of_kept (is_alive (left_out s (revived s epoch log) ++ g.lost))) (standing log)) (pile (filter (λ x. stays x.tx) g.items) g.base) standing_now (kept_of (λ w. (wins w.tx ≡ true) × (has_update log w.tx w.key ≡ true)) (is_alive (left_out s (revived s epoch log) ++ g.lost)) (standing log) (all_written s.shard (take c s.local.log) log re))))
 
   -- ---- the transactions
 
@@ -501,34 +420,37 @@ module _ (all : List Item) (g : Past) (s : Shard) (c epoch : ℕ) (log : List Lo
       ⊎_elim (λ w. both_ways _ (winner_in t w) i) (λ o. both_ways _ q.2 (finished_now t q.0 o)) (or_cases (is_winner s.shard (take c s.local.log) t) (tx_in t g.over) e))
 
   left_now : (t : TxId) → stays t ≡ true → (is_present (stage_in (restored_parts doubt) t) ≡ true) ⊎ ((tx_in t g.over ≡ true) ⊎ (commit_durable log (length log) t ≡ true))
-  left_now t e = ⊎_elim (λ w. ⊎_elim (λ k. inr (inr (committed_now t k))) (λ i. inl (ap is_present (restored_closed doubt t i))) (or_cases (committed_in (take c s.local.log) t) (tx_in t doubt) w)) (λ o. inr (inl o)) (or_cases (is_winner s.shard (take c s.local.log) t) (tx_in t g.over) e)
+  left_now t e = ⊎_elim (λ w. ⊎_elim (λ k. inr (inr (committed_remade s.shard (take c s.local.log) log re t k))) (λ i. inl (ap is_present (restored_closed doubt t i))) (or_cases (committed_in (take c s.local.log) t) (tx_in t doubt) w)) (λ o. inr (inl o)) (or_cases (is_winner s.shard (take c s.local.log) t) (tx_in t g.over) e)
 
   recover_now : (t p : TxId) → Dep (view_of s) t p × (place g.asked p < place g.asked t) → Lists s.local.log t p → ((tx_in t (left_out s (revived s epoch log) ++ g.lost) ≡ true) × (stage_in (restored_parts doubt) t ≡ Some Active → ⊥)) ⊎ (Dep After_view t p × (place g.asked p < place g.asked t))
   recover_now t p d l = ⊎_elim (λ st. inr (dep_now t p d.0 l st, d.1))
       (λ st. ⊎_elim (λ here. inl (in_first (left_out s (revived s epoch log)) g.lost t (here_out t st here), λ a. no_active t a))
-      (λ n. inr (inl (committed_now p (⊎_elim (λ k. durable_cut s.durable c s.local.log p le k) (λ m. ⊎_elim (λ e. absurd (both_ways _ n (h.kept.successors t p e))) (λ b. absurd (not_durable t st (h.falls.settled t (before_second s.local.log p t b) n))) m) d.0)), d.1))
+      (λ n. inr (inl (committed_remade s.shard (take c s.local.log) log re p (⊎_elim (λ k. durable_cut s.durable c s.local.log p le k) (λ m. ⊎_elim (λ e. absurd (both_ways _ n (h.kept.successors t p e))) (λ b. absurd (not_durable t st (h.falls.settled t (before_second s.local.log p t b) n))) m) d.0)), d.1))
       (cases_Bool (is_present (stage_of s.local t)))) (cases_Bool (stays t))
 
   still_asked : (t : TxId) → prepared_in log t ≡ true → (tx_in t g.asked ≡ true) ⊎ (t.run < s.run)
   still_asked t e = h.order.ordered.asks t (prepared_cut c s.local.log t (sym (found.prepares t) ∙ e))
 
-  abbrev FallsNow : List TxId → Type 0
-  FallsNow d = Falls s.run (left_out s (revived s epoch log) ++ g.fell) (left_out s (revived s epoch log) ++ g.lost) g.over (restored_parts d) (restored_pairs log d) log (length log)
+  -- who is prepared and here asked, and so did who is in doubt
+  present_asked : (t : TxId) → is_present (stage_of s.local t) ≡ true → prepared_in s.local.log t ≡ true → tx_in t g.asked ≡ true
+  present_asked t here p = ⊎_elim (λ a. absurd (both_ways _ (h.kept.prepared.unprepared t a) p)) (λ e. h.kept.closed t e) (present_is (stage_of s.local t) here)
 
-  falls_now : FallsNow doubt
-  falls_now = subst FallsNow found.doubts (falls_restarted s.shard s.run g.fell g.lost g.over s.local.parts s.local.pairs s.local.log s.durable c log (left_out s (revived s epoch log)) h.falls new.follows le bounded h.kept.successors finished_now found.commits found.prepares found.aborts
-      (λ t e. let p = sym (found.prepares t) ∙ e in found.listed t p ∙ sym (subst (λ l. listed_in l t ≡ listed_in (take c s.local.log) t) (take-append-drop c s.local.log) (listed_keeps (take c s.local.log) (drop c s.local.log) t p)))
-      (λ t i. let q = outs t i in (q.0, ap (tx_in t) found.doubts ∙ q.1, q.2)) (λ t here n k. all_outs t here (ap (tx_in t) (sym found.doubts) ∙ n) k))
-
-  -- who is in doubt asked
   doubt_asked : (t : TxId) → tx_in t doubt ≡ true → tx_in t g.asked ≡ true
   doubt_asked t i =
       let d = doubt_of all g s c h t i in
       let p = prepared_cut c s.local.log t d.prepared in
-      ⊎_elim (λ a. a)
-      (λ r. absurd (both_ways _ d.unaborted (take_further (is_abort_of t) s.durable c s.local.log le (h.falls.old t r p
-      (false_from_ne_true _ (λ k. both_ways _ d.open_ (durable_cut s.durable c s.local.log t le (h.falls.settled t k (h.falls.away t r)))))))))
-      (h.order.ordered.asks t p)
+      ⊎_elim (λ here. present_asked t here p)
+      (λ n. ⊎_elim (λ a. a) (λ a. absurd (both_ways _ d.unaborted (take_further (is_abort_of t) s.durable c s.local.log le a)))
+      (h.falls.owns t p (false_from_ne_true _ (λ k. both_ways _ d.open_ (durable_cut s.durable c s.local.log t le (h.falls.settled t k n))))))
+      (cases_Bool (is_present (stage_of s.local t)))
+
+  abbrev FallsNow : List TxId → Type 0
+  FallsNow d = Falls g.asked (left_out s (revived s epoch log) ++ g.fell) (left_out s (revived s epoch log) ++ g.lost) g.over (restored_parts d) (restored_pairs log d) log (length log)
+
+  falls_now : FallsNow doubt
+  falls_now = subst FallsNow found.doubts (falls_restarted s.shard g.asked g.fell g.lost g.over s.local.parts s.local.pairs s.local.log s.durable c log (left_out s (revived s epoch log)) h.falls new.follows le bounded present_asked h.kept.successors finished_now found.commits found.prepares found.aborts
+      (λ t e. let p = sym (found.prepares t) ∙ e in found.listed t p ∙ sym (subst (λ l. listed_in l t ≡ listed_in (take c s.local.log) t) (take-append-drop c s.local.log) (listed_keeps (take c s.local.log) (drop c s.local.log) t p)))
+      (λ t i. let q = outs t i in (q.0, ap (tx_in t) found.doubts ∙ q.1, q.2)) (λ t here n k. all_outs t here (ap (tx_in t) (sym found.doubts) ∙ n) k))
 
   abbrev KeepsNow : List TxId → Type 0
   KeepsNow d = KeepsOrder g.asked s.shard s.run (restored_locks d log []) (restored_parts d) (restored_pairs log d) log (restored_requests (unended_in log log))
@@ -547,23 +469,21 @@ module _ (all : List Item) (g : Past) (s : Shard) (c epoch : ℕ) (log : List Lo
       start_rises = h.kept.start_rises;
       base_value = h.kept.base_value;
       base_chain = h.kept.base_chain;
-      base_done = all_mono _ _ (λ w e. committed_now w.tx e) g.base (cut_base all g s g.over c h le once (λ t i. i));
+      base_done = all_mono _ _ (λ w e. committed_remade s.shard (take c s.local.log) log re w.tx e) g.base (cut_base all g s g.over c h le once (λ t i. i));
       runs = runs_now;
       standing_is = standing_now;
-      rises = ghosts_rise doubt log (records_of (fold_updates (is_winner s.shard log) log [])) (rising_records (fold_updates (is_winner s.shard log) log []) (fold_rises (is_winner s.shard log) log [] tt));
-      values = values_now;
+      rises = rises_remade s.shard (take c s.local.log) log re;
+      values = values_remade s.shard (take c s.local.log) log re;
       logged = all_mono _ _ (λ x f q w. wrote_of log x.tx q (f q w).1) (filter (λ x. stays x.tx) g.items) wrote_now;
       rows = rows_restored doubt log [] tt;
       covered = all_mono _ _ (λ x f a. absurd (no_active x.tx a)) (filter (λ x. stays x.tx) g.items) wrote_now;
-      wrote = all_mono _ _ (λ w r out.
-          ⊎_elim (λ d. absurd (both_ways _ out d)) (λ i. (locks_hold doubt log [] w.tx w.key i r.1, ghosts_there doubt log (records_of (fold_updates (is_winner s.shard log) log [])) w.tx w.key i r.1)) (wins_split w.tx r.0))
-          (standing log) all_written;
+      wrote = wrote_remade s.shard (take c s.local.log) log re;
       known = all_mono _ _ (λ x f. inr (stays_asked x.tx f.0.0 f.0.1 f.1, λ a. no_active x.tx a)) (filter (λ x. stays x.tx) g.items) known_now;
       alive = all_mono _ _ (λ x f. none_two (left_out s (revived s epoch log)) g.lost x.tx (stays_in x.tx f.1) f.0.1) (filter (λ x. stays x.tx) g.items) known_now;
       left = all_mono _ _ (λ x f. left_now x.tx f.1) (filter (λ x. stays x.tx) g.items) known_now;
       uncommitted = λ t e. absurd (no_active t e);
       closed = λ t e. doubt_asked t (restored_stage doubt t Closed e).1;
-      over = λ t i. ⊎_elim (λ d. inl (committed_now t (durable_cut s.durable c s.local.log t le d)))
+      over = λ t i. ⊎_elim (λ d. inl (committed_remade s.shard (take c s.local.log) log re t (durable_cut s.durable c s.local.log t le d)))
           (λ r. inr (found.commits t ∙ cut_false c s.local.log t r.0, found.wrote t ∙ cut_wrote c s.local.log t r.1, absent_now t (not_doubt t r.1), r.3)) (h.kept.over t i);
       dead = λ t e. let d = found.dead t e in (
         found.commits t ∙ out_left (committed_in (take c s.local.log) t) (tx_in t doubt) d,

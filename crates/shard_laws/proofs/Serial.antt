@@ -14,9 +14,10 @@ use Rattle.clv_base.specs.declared.ops.Op.{Op}
 use Rattle.clv_base.specs.declared.ops.Op.TheVariants.{Get, Put, Del, Scan}
 use Rattle.clv_base.specs.declared.ops.Answer.{Answer}
 use Rattle.clv_base.specs.declared.ops.Answer.TheVariants.{Value, Pairs}
-use Rattle.clv_base.specs.Maps.{op_after}
+use Rattle.clv_base.specs.Maps.{op_after, replay_map, replay_answers}
 use Rattle.clv_base.specs.Needs.{writes_of}
-use Rattle.clv_base.specs.Folding.{Placed, Replays, map_after, ClearOf, InOrder, AllPlacesBelow, at_place, grouped_from, ops_of, answers_of, clash, meets_written, key_written, meets_key}
+use Rattle.clv_base.proofs.Grouping.{is_serial_run}
+use Rattle.clv_base.specs.Folding.{IsRising, Placed, Replays, map_after, ClearOf, InOrder, AllPlacesBelow, at_place, grouped_from, ops_of, answers_of, clash, meets_written, key_written, meets_key}
 use Rattle.law_base.specs.Items.{told}
 use Rattle.shard_laws.specs.OneShard.{items_of, ops_by, answers_by}
 use Rattle.law_base.proofs.Undoing.{write_met}
@@ -24,15 +25,15 @@ use Rattle.shard_laws.proofs.Closing.{place_in}
 
 -- ---- items at places
 
-pub placed : List TxId → Item → Placed
+placed : List TxId → Item → Placed
 placed ms x = record { place = place ms x.tx; op = x.op; answer = x.answer }
 
-pub runs_placed : (ms : List TxId) (m : KeyMap) (xs : List Item) → Runs m xs → Replays m (map (placed ms) xs)
+runs_placed : (ms : List TxId) (m : KeyMap) (xs : List Item) → Runs m xs → Replays m (map (placed ms) xs)
 unfolding placed
 runs_placed ms m [] r = tt
 runs_placed ms m (x ∷ xs) r = (r.0, runs_placed ms (op_after x.op m) xs r.1)
 
-pub after_placed : (ms : List TxId) (m : KeyMap) (xs : List Item) → map_after m (map (placed ms) xs) ≡ after m xs
+after_placed : (ms : List TxId) (m : KeyMap) (xs : List Item) → map_after m (map (placed ms) xs) ≡ after m xs
 unfolding placed
 after_placed ms m [] = refl
 after_placed ms m (x ∷ xs) = after_placed ms (op_after x.op m) xs
@@ -112,6 +113,27 @@ out_filter keep (a ∷ rest) t e = cond_both (keep a) (a ∷ filter keep rest) (
 pub once_filter : (keep : TxId → Bool) (as_ : List TxId) → Once as_ → Once (filter keep as_)
 once_filter keep [] o = tt
 once_filter keep (a ∷ rest) o = cond_both (keep a) (a ∷ filter keep rest) (filter keep rest) Once (λ e. (out_filter keep rest a o.0, once_filter keep rest o.1)) (λ e. once_filter keep rest o.1)
+
+pub once_push : (as_ : List TxId) (t : TxId) → Once as_ → tx_in t as_ ≡ false → Once (as_ ++ t ∷ [])
+once_push [] t o e = (refl, tt)
+once_push (a ∷ rest) t o e =
+    (list_any-append (λ x. tx_same x a) rest (t ∷ []) ∙ both (tx_in a rest) (tx_same t a) o.0 (flip (left (tx_same a t) (tx_in t rest) e)), once_push rest t o.1 (right (tx_same a t) (tx_in t rest) e))
+  where
+    both : (p q : Bool) → p ≡ false → q ≡ false → (p || (q || false)) ≡ false
+    both true q e f = e
+    both false true e f = f
+    both false false e f = refl
+
+    left : (a b : Bool) → (a || b) ≡ false → a ≡ false
+    left true b e = e
+    left false b e = refl
+
+    right : (a b : Bool) → (a || b) ≡ false → b ≡ false
+    right true b e = absurd (both_ways true e refl)
+    right false b e = e
+
+    flip : tx_same a t ≡ false → tx_same t a ≡ false
+    flip e = tx_ne t a (λ s. both_ways _ e (tx_eq a t (sym s)))
 
 -- ---- the groups are the members' operations
 
@@ -208,7 +230,7 @@ none_in_nil : (ts : List TxId) → NoneIn [] ts
 none_in_nil [] = tt
 none_in_nil (t ∷ ts) = (refl, none_in_nil ts)
 
-pub groups_are : (ms : List TxId) (xs : List Item) → Once ms → grouped_from 0 (length ms) (map (placed ms) xs) ≡ map (λ t. map (placed ms) (items_of t xs)) ms
+groups_are : (ms : List TxId) (xs : List Item) → Once ms → grouped_from 0 (length ms) (map (placed ms) xs) ≡ map (λ t. map (placed ms) (items_of t xs)) ms
 groups_are ms xs o = groups_from [] ms xs (none_in_nil ms) o
 
 ops_placed : (ms : List TxId) (xs : List Item) → ops_of (map (placed ms) xs) ≡ map (λ x. x.op) xs
@@ -221,17 +243,17 @@ unfolding placed
 answers_placed ms [] = refl
 answers_placed ms (x ∷ xs) = ap (λ l. x.answer ∷ l) (answers_placed ms xs)
 
-pub all_ops : (ms ts : List TxId) (xs : List Item) → map ops_of (map (λ t. map (placed ms) (items_of t xs)) ts) ≡ ops_by ts xs
+all_ops : (ms ts : List TxId) (xs : List Item) → map ops_of (map (λ t. map (placed ms) (items_of t xs)) ts) ≡ ops_by ts xs
 all_ops ms [] xs = refl
 all_ops ms (t ∷ ts) xs = ap (λ l. l ∷ map ops_of (map (λ t. map (placed ms) (items_of t xs)) ts)) (ops_placed ms (items_of t xs)) ∙ ap (λ l. map (λ x. x.op) (items_of t xs) ∷ l) (all_ops ms ts xs)
 
-pub all_answers : (ms ts : List TxId) (xs : List Item) → map answers_of (map (λ t. map (placed ms) (items_of t xs)) ts) ≡ answers_by ts xs
+all_answers : (ms ts : List TxId) (xs : List Item) → map answers_of (map (λ t. map (placed ms) (items_of t xs)) ts) ≡ answers_by ts xs
 all_answers ms [] xs = refl
 all_answers ms (t ∷ ts) xs = ap (λ l. l ∷ map answers_of (map (λ t. map (placed ms) (items_of t xs)) ts)) (answers_placed ms (items_of t xs)) ∙ ap (λ l. map (λ x. x.answer) (items_of t xs) ∷ l) (all_answers ms ts xs)
 
 -- ---- items that are in order, and the members' among them
 
-pub order_placed : (ms : List TxId) (xs : List Item) → AllLater (λ x y. Clash x y → (x.tx ≡ y.tx) ⊎ (place ms x.tx < place ms y.tx)) xs → InOrder (map (placed ms) xs)
+order_placed : (ms : List TxId) (xs : List Item) → AllLater (λ x y. Clash x y → (x.tx ≡ y.tx) ⊎ (place ms x.tx < place ms y.tx)) xs → InOrder (map (placed ms) xs)
 unfolding placed
 order_placed ms [] o = tt
 order_placed ms (x ∷ xs) o = (clear xs o.0, order_placed ms xs o.1)
@@ -244,7 +266,18 @@ order_placed ms (x ∷ xs) o = (clear xs o.0, order_placed ms xs o.1)
       clear ys all.1,
     )
 
-pub below_placed : (ms : List TxId) (xs : List Item) → AllByRecursion (λ x. tx_in x.tx ms ≡ true) xs → AllPlacesBelow (length ms) (map (placed ms) xs)
+below_placed : (ms : List TxId) (xs : List Item) → AllByRecursion (λ x. tx_in x.tx ms ≡ true) xs → AllPlacesBelow (length ms) (map (placed ms) xs)
 unfolding placed
 below_placed ms [] all = tt
 below_placed ms (x ∷ xs) all = (place_in ms x.tx all.0, below_placed ms xs all.1)
+
+-- items in order are a serial run of their transactions
+pub serial_of :
+    (ms : List TxId) (start : KeyMap) (xs : List Item) → Once ms → IsRising start → Runs start xs → AllLater (λ x y. Clash x y → (x.tx ≡ y.tx) ⊎ (place ms x.tx < place ms y.tx)) xs → AllByRecursion (λ x. tx_in x.tx ms ≡ true) xs
+    → (replay_answers start (ops_by ms xs) ≡ answers_by ms xs) × (replay_map start (ops_by ms xs) ≡ after start xs)
+serial_of ms start xs once rises runs order within =
+    let ps : List Placed = map (placed ms) xs in
+    let run = is_serial_run start ps (length ms) rises (order_placed ms xs order) (runs_placed ms start xs runs) (below_placed ms xs within) in
+    let ops : map ops_of (grouped_from 0 (length ms) ps) ≡ ops_by ms xs = ap (map ops_of) (groups_are ms xs once) ∙ all_ops ms ms xs in
+    let answers : map answers_of (grouped_from 0 (length ms) ps) ≡ answers_by ms xs = ap (map answers_of) (groups_are ms xs once) ∙ all_answers ms ms xs in
+    (ap (replay_answers start) (sym ops) ∙ run.0 ∙ answers, ap (replay_map start) (sym ops) ∙ run.1 ∙ after_placed ms start xs)

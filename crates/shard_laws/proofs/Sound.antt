@@ -100,7 +100,7 @@ pub record Sound (all : List Item) (g : Past) (s : Shard) : Type 0 where
   -- who is committed asked, or is of an earlier run
   pub asked : (t : TxId) → committed_in s.local.log t ≡ true → AskedOrOld g s.run t
   -- who fell and who is lost; and of whose request this is the home, it did not fall
-  pub falls : Falls s.run g.fell g.lost g.over s.local.parts s.local.pairs s.local.log s.durable
+  pub falls : Falls g.asked g.fell g.lost g.over s.local.parts s.local.pairs s.local.log s.durable
   pub unfallen : (t : TxId) (q : Request) → tx_get t s.requests ≡ Some q → q.state ≡ Undecided → is_present (stage_of s.local t) ≡ true → tx_in t g.fell ≡ false
   -- what the order rules of its log rest on
   pub order : KeepsOrder g.asked s.shard s.run s.local.locks s.local.parts s.local.pairs s.local.log s.requests
@@ -232,8 +232,8 @@ finished all g s t h closed done = record {
   unvoted = h.unvoted;
   read = λ u v e f. gone_stays t u s.local.parts (h.read u v e f);
   asked = h.asked;
-  falls = falls_over s.run g.fell g.lost g.over (gone_in (t ∷ []) None s.local.parts) (pairs_without (t ∷ []) s.local.pairs) s.local.log s.durable t (done_alive all g s t h closed done)
-      (falls_finish s.run g.fell g.lost g.over s.local.parts s.local.pairs s.local.log s.durable t h.falls (done_alive all g s t h closed done)
+  falls = falls_over g.asked g.fell g.lost g.over (gone_in (t ∷ []) None s.local.parts) (pairs_without (t ∷ []) s.local.pairs) s.local.log s.durable t (done_alive all g s t h closed done)
+      (falls_finish g.asked g.fell g.lost g.over s.local.parts s.local.pairs s.local.log s.durable t h.falls (done_alive all g s t h closed done)
       (λ c. ⊎_elim (λ d. d) (λ d. absurd (both_ways _ d.0 c)) done) (λ p. wrote_done s t t refl done (prepared_wrote s.shard s.local.log h.order.ordered.follows t p)));
   unfallen = λ u q e un here. h.unfallen u q e un (was_here s t u here);
   order = order_leaves g.asked s.shard s.run s.local.locks s.local.parts s.local.pairs s.local.log s.requests h.order (t ∷ []) None (λ u i. inl (λ w. wrote_done s t u (one_in t u i) done w));
@@ -243,10 +243,10 @@ gone_closed : ◌≡◌ {A = Option Stage} (Some (Gone None)) (Some Closed) → 
 gone_closed e = absurd cc
 
 -- one that was finished is finished again
-again_falls : (all : List Item) (g : Past) (s : Shard) (t : TxId) → Sound all g s → stage_of s.local t ≡ Some (Gone None) → Falls s.run g.fell g.lost g.over (gone_in (t ∷ []) None s.local.parts) (pairs_without (t ∷ []) s.local.pairs) s.local.log s.durable
+again_falls : (all : List Item) (g : Past) (s : Shard) (t : TxId) → Sound all g s → stage_of s.local t ≡ Some (Gone None) → Falls g.asked g.fell g.lost g.over (gone_in (t ∷ []) None s.local.parts) (pairs_without (t ∷ []) s.local.pairs) s.local.log s.durable
 again_falls all g s t h gone =
-    subst (λ ps. Falls s.run g.fell g.lost g.over (gone_in (t ∷ []) None s.local.parts) ps s.local.log s.durable) (sym (pairs_none t s.local.parts s.local.pairs gone h.kept.successors))
-    (falls_parts s.run g.fell g.lost g.over s.local.parts (gone_in (t ∷ []) None s.local.parts) s.local.pairs s.local.log s.durable (λ u. ap is_present (same_again t s.local.parts gone u)) (λ u. ap is_doomed (same_again t s.local.parts gone u)) h.falls)
+    subst (λ ps. Falls g.asked g.fell g.lost g.over (gone_in (t ∷ []) None s.local.parts) ps s.local.log s.durable) (sym (pairs_none t s.local.parts s.local.pairs gone h.kept.successors))
+    (falls_parts g.asked g.fell g.lost g.over s.local.parts (gone_in (t ∷ []) None s.local.parts) s.local.pairs s.local.log s.durable (λ u. ap is_present (same_again t s.local.parts gone u)) (λ u. ap is_doomed (same_again t s.local.parts gone u)) h.falls)
 
 finished_again : (all : List Item) (g : Past) (s : Shard) (t : TxId) → Sound all g s → stage_of s.local t ≡ Some (Gone None) → Sound all g (finish_part t s)
 finished_again all g s t h gone = record {
@@ -275,7 +275,7 @@ marked_sound all g s t h = record {
   unvoted = h.unvoted;
   read = λ u v e f. stage_marked t u s.local.parts ∙ h.read u v e f;
   asked = h.asked;
-  falls = falls_parts s.run g.fell g.lost g.over s.local.parts (marked_in t s.local.parts) s.local.pairs s.local.log s.durable (λ u. ap is_present (stage_marked t u s.local.parts)) (λ u. ap is_doomed (stage_marked t u s.local.parts)) h.falls;
+  falls = falls_parts g.asked g.fell g.lost g.over s.local.parts (marked_in t s.local.parts) s.local.pairs s.local.log s.durable (λ u. ap is_present (stage_marked t u s.local.parts)) (λ u. ap is_doomed (stage_marked t u s.local.parts)) h.falls;
   unfallen = λ u q e un here. h.unfallen u q e un (ap is_present (sym (stage_marked t u s.local.parts)) ∙ here);
   order = order_marked g.asked s.shard s.run s.local.locks s.local.parts s.local.pairs s.local.log s.requests t h.order;
 }
@@ -431,8 +431,8 @@ rolled all g s tx h open_ =
         read = λ t v e f. let r = h.read t v e f in
             stage_other (doomed_here s.local tx) (Some tx) t s.local.parts (false_from_ne_true _ (λ i. both_ways false refl (sym (ap is_present r) ∙ (in_filter (λ x. is_present (stage_of s.local x)) t (doomed_by s.local tx) i).1))) ∙ r;
         asked = λ t e. rolled_asked all g s tx t h e;
-        falls = subst (λ l. Falls s.run g.fell (doomed_here s.local tx ++ g.lost) g.over (gone_in (doomed_here s.local tx) (Some tx) s.local.parts) (pairs_without (doomed_here s.local tx) s.local.pairs) l s.durable) (sym (append_assoc s.local.log (aborts_of s.local.log (doomed_here s.local tx)) (clrs_of (doomed_here s.local tx) (standing s.local.log))))
-            (falls_taken s.run g.fell g.lost g.over s.local.parts s.local.pairs s.local.log (aborts_of s.local.log (doomed_here s.local tx) ++ clrs_of (doomed_here s.local tx) (standing s.local.log)) s.durable (doomed_here s.local tx) tx h.falls go.upward go.undecided go.present
+        falls = subst (λ l. Falls g.asked g.fell (doomed_here s.local tx ++ g.lost) g.over (gone_in (doomed_here s.local tx) (Some tx) s.local.parts) (pairs_without (doomed_here s.local tx) s.local.pairs) l s.durable) (sym (append_assoc s.local.log (aborts_of s.local.log (doomed_here s.local tx)) (clrs_of (doomed_here s.local tx) (standing s.local.log))))
+            (falls_taken g.asked g.fell g.lost g.over s.local.parts s.local.pairs s.local.log (aborts_of s.local.log (doomed_here s.local tx) ++ clrs_of (doomed_here s.local tx) (standing s.local.log)) s.durable (doomed_here s.local tx) tx h.falls go.upward go.undecided go.present
             (λ u i. false_from_ne_true _ (λ o. ⊎_elim (λ d. both_ways _ (go.undecided u i) (durable_committed s.local.log s.durable u d)) (λ d. both_ways _ d.2 (go.present u i)) (h.kept.over u o)))
             (λ u p here i. lists_here all g s h u p here i) (committed_lists s.shard s.local.log h.order.ordered.follows) (λ u. no_prepares (doomed_here s.local tx) u s.local.log) (λ u. no_commits (doomed_here s.local tx) u s.local.log));
         unfallen = λ u q e un here. h.unfallen u q e un (was_present (doomed_here s.local tx) (Some tx) u s.local.parts here);
@@ -495,8 +495,8 @@ abbrev Before : Shard → TxId → Type 0
 Before s tx = (p : TxId) → is_pair s.local.pairs tx p ≡ true → committed_in s.local.log p ≡ true
 
 -- a COMMIT of one that is here and not lost
-pub commit_falls : (all : List Item) (g : Past) (s : Shard) (tx : TxId) (parts : List ℕ) → Sound all g s → stage_of s.local tx ≡ Some Closed → tx_in tx g.lost ≡ false → Falls s.run g.fell g.lost g.over s.local.parts s.local.pairs (s.local.log ++ Commit tx parts ∷ []) s.durable
-commit_falls all g s tx parts h closed alive = falls_more s.run g.fell g.lost g.over s.local.parts s.local.pairs s.local.log (Commit tx parts ∷ []) s.durable h.falls (λ u. refl)
+pub commit_falls : (all : List Item) (g : Past) (s : Shard) (tx : TxId) (parts : List ℕ) → Sound all g s → stage_of s.local tx ≡ Some Closed → tx_in tx g.lost ≡ false → Falls g.asked g.fell g.lost g.over s.local.parts s.local.pairs (s.local.log ++ Commit tx parts ∷ []) s.durable
+commit_falls all g s tx parts h closed alive = falls_more g.asked g.fell g.lost g.over s.local.parts s.local.pairs s.local.log (Commit tx parts ∷ []) s.durable h.falls (λ u. refl)
     (λ u c. ⊎_elim (λ e. let same = tx_true u tx e in (ap is_present (ap (stage_of s.local) same ∙ closed), ap (λ z. tx_in z g.lost) same ∙ alive)) (λ e. absurd (both_ways false refl e)) (or_cases (tx_same u tx) false c))
 
 -- with the home's COMMIT
@@ -674,7 +674,7 @@ end_sound all g s tx q h ne nf there p ps is open_ = record {
   unvoted = λ t v e w. uncommitted_append s.local.log (End tx ∷ []) t (h.unvoted t v e (false_from_ne_true _ (λ x. both_ways _ w (list_any-append (is_update_of t) s.local.log (End tx ∷ []) ∙ or_left _ _ x)))) refl;
   read = h.read;
   asked = λ t e. h.asked t (committed_from s.local.log (End tx ∷ []) t refl e);
-  falls = falls_more s.run g.fell g.lost g.over s.local.parts s.local.pairs s.local.log (End tx ∷ []) s.durable h.falls (λ u. refl) (λ u c. absurd (both_ways false refl c));
+  falls = falls_more g.asked g.fell g.lost g.over s.local.parts s.local.pairs s.local.log (End tx ∷ []) s.durable h.falls (λ u. refl) (λ u c. absurd (both_ways false refl c));
   unfallen = λ u w e f here. ⊎_elim (λ z. absurd (ne (ap (λ y. y.state) (sym z.1) ∙ f))) (λ z. h.unfallen u w z.1 f here) (get_set tx u (record q { is_ended = true }) w s.requests e);
   order = ended_order g.asked s tx q p ps h.order ne there is open_;
 }

@@ -7,15 +7,18 @@ use Rattle.clv_base.specs.declared.state.Stage.{Stage}
 use Rattle.clv_base.specs.declared.state.Stage.TheVariants.{Active, Closed, Gone}
 use Rattle.clv_base.specs.declared.state.Held.{Held}
 use Rattle.clv_base.specs.declared.logs.LogRecord.{LogRecord}
+use Rattle.clv_base.specs.declared.logs.LogRecord.TheVariants.{Prepare as PrepareRecord}
 use Rattle.clv_base.specs.declared.ops.Op.{Op}
+use Rattle.clv_base.specs.declared.ops.Op.TheVariants.{Put, Del}
 use Rattle.clv_base.specs.declared.ops.Answer.{Answer}
+use Rattle.clv_base.specs.declared.ops.Answer.TheVariants.{Value}
 use Rattle.clv_base.specs.declared.events.Event.{Event}
 use Rattle.clv_base.specs.declared.events.Event.TheVariants.{Op as OpEvent, Request as RequestEvent, Look, Drop, Deliver, FlushIn, Restart as RestartEvent}
 use Rattle.clv_base.specs.declared.events.Outcome.{Outcome}
 use Rattle.clv_base.specs.declared.events.Outcome.TheVariants.{Answered, Acknowledged, Up}
 use Rattle.clv_base.specs.Orders.{tx_same, tx_in, tx_get}
-use Rattle.clv_base.specs.Maps.{replay_map, replay_answers}
-use Rattle.clv_base.specs.Logs.{committed_in, prepared_in, aborted_in, wrote_in, in_doubt, fold_updates, stands}
+use Rattle.clv_base.specs.Maps.{KeyMap, replay_map, replay_answers}
+use Rattle.clv_base.specs.Logs.{StandingUpdate, standing, committed_in, prepared_in, aborted_in, wrote_in, in_doubt, fold_updates, stands}
 use Rattle.clv_base.specs.declared.messages.Message.{Message}
 use Rattle.clv_base.specs.declared.messages.Message.TheVariants.{Prepare, Vote as VoteMessage, Decide, Done, Ask}
 use Rattle.clv_base.specs.State.{Shard, Local, is_present}
@@ -30,7 +33,7 @@ use Rattle.clv_base.specs.Undo.{stage_of}
 use Rattle.clv_base.specs.Events.{Does, happen, landed, with_entry, epoch_in}
 use Rattle.clv_base.specs.OneShard.{seen_fits}
 use Rattle.clv_base.specs.LogRules.{disorder, listed_in}
-use Rattle.clv_base.specs.Restarts.{greatest_run, opened, log_left, revived, Restarts}
+use Rattle.clv_base.specs.Restarts.{greatest_run, restored_pairs, opened, log_left, revived, Restarts}
 use Rattle.law_base.specs.Items.{Item}
 
 abbrev pub items_of : TxId → List Item → List Item
@@ -133,9 +136,40 @@ is_doomed (Some Active) = false
 is_doomed (Some Closed) = false
 is_doomed None = false
 
--- a log from which a shard may be opened in this run: it keeps the order rules, it is of earlier runs, and nothing is in doubt in it
+-- ---- what a log leaves in doubt, as transactions that acted before
+
+-- an UPDATE as the operation that it logs, with its answer
+abbrev pub found_op : ℕ → Option ℕ → Op
+found_op k None = Del k
+found_op k (Some v) = Put k v
+
+abbrev pub found_item : StandingUpdate → Item
+found_item w = record { tx = w.tx; op = found_op w.key w.after; answer = Value w.before; lsn = w.lsn }
+
+-- those of writes, which come the newest first, in the order of the log
+abbrev pub items_found : (TxId → Bool) → List StandingUpdate → List Item
+items_found doubt [] = []
+items_found doubt (w ∷ ws) = cond (doubt w.tx) (items_found doubt ws ++ found_item w ∷ []) (items_found doubt ws)
+
+-- transactions in the order of their PREPAREs
+abbrev pub prepared_order : (TxId → Bool) → List LogRecord → List TxId
+prepared_order doubt [] = []
+prepared_order doubt (PrepareRecord tx home predecessors ∷ rs) = cond (doubt tx) (tx ∷ prepared_order doubt rs) (prepared_order doubt rs)
+prepared_order doubt (_ ∷ rs) = prepared_order doubt rs
+
+-- what those in doubt wrote, themselves, and with each the predecessors that its PREPARE lists and that have no COMMIT
+abbrev pub found_items : ℕ → List LogRecord → List Item
+found_items shard log = items_found (λ t. tx_in t (in_doubt shard log)) (standing log)
+
+abbrev pub found_asked : ℕ → List LogRecord → List TxId
+found_asked shard log = prepared_order (λ t. tx_in t (in_doubt shard log)) log
+
+abbrev pub found_met : ℕ → List LogRecord → List (TxId × TxId)
+found_met shard log = restored_pairs log (in_doubt shard log)
+
+-- a log from which a shard may be opened in this run: it keeps the order rules, and is of earlier runs
 abbrev pub MayServe : ℕ → ℕ → List LogRecord → Type 0
-MayServe shard run log = (disorder shard log ≡ None) × (greatest_run log < run) × (in_doubt shard log ≡ [])
+MayServe shard run log = (disorder shard log ≡ None) × (greatest_run log < run)
 
 -- who has fallen: after a step those whose parts an abort took away, and at a restart those that were here and are neither restored nor
 -- committed
@@ -146,9 +180,9 @@ abbrev pub left_out : Shard → Shard → List TxId
 left_out s t = filter (λ u. is_present (stage_of s.local u) && not (is_present (stage_of t.local u)) && not (committed_in t.local.log u)) (map (λ p. p.0) s.local.parts)
 
 -- from the shard that opened such a log: all operations that were answered, those that made a request, those that were told of success,
--- those whose writes were violated, in their orders, those that fell, and the state
+-- those whose writes were violated, in their orders, those that fell, and the state. Those in doubt in the log acted and asked before
 pub data Leads (shard run : ℕ) (before : List LogRecord) : List Item → List TxId → List TxId → List (TxId × TxId) → List TxId → Shard → Type 0 where
-  opens : MayServe shard run before → Leads shard run before [] [] [] [] [] (opened shard run before)
+  opens : MayServe shard run before → Leads shard run before (found_items shard before) (found_asked shard before) [] (found_met shard before) [] (opened shard run before)
   happens :
       {all : List Item} {asked told : List TxId} {met : List (TxId × TxId)} {fell : List TxId} {s : Shard} (e : Event) (o : Outcome) (t : Shard) (stamp walker : ℕ) → Leads shard run before all asked told met fell s → MayHappen all asked met fell s e → happen s e ≡ Does o t
       → Leads shard run before (with_one all (new_item s e o)) (with_one asked (new_asked s e)) (with_one told (new_told e o)) (new_met s e o ++ met) (doomed_in t ++ fell) (with_entry stamp walker e o t)
@@ -209,6 +243,18 @@ ChosenReplay =
     → Leads shard run before all asked told met fell s → s.durable ≤ cut → MayChoose s cut asked told fell chosen
     → (replay_answers (stands (before ∷ [])) (ops_by (filter chosen asked) all) ≡ answers_by (filter chosen asked) all)
     × (replay_map (stands (before ∷ [])) (ops_by (filter chosen asked) all) ≡ fold_updates chosen (take cut s.local.log) [])
+
+-- the map of what a log commits, and of those in doubt in it that are chosen
+abbrev pub map_found : ℕ → List LogRecord → (TxId → Bool) → KeyMap
+map_found shard log chosen = fold_updates (λ t. committed_in log t || (tx_in t (in_doubt shard log) && chosen t)) log []
+
+-- the chosen ones that asked after those that were found in doubt give their answers from that map
+abbrev pub LaterReplay : Type 0
+LaterReplay =
+    (shard run : ℕ) (before : List LogRecord) (all : List Item) (asked told : List TxId) (met : List (TxId × TxId)) (fell : List TxId) (s : Shard) (cut : ℕ) (chosen : TxId → Bool) (later : List TxId)
+    → Leads shard run before all asked told met fell s → s.durable ≤ cut → MayChoose s cut asked told fell chosen → asked ≡ found_asked shard before ++ later
+    → (replay_answers (map_found shard before chosen) (ops_by (filter chosen later) all) ≡ answers_by (filter chosen later) all)
+    × (replay_map (map_found shard before chosen) (ops_by (filter chosen later) all) ≡ fold_updates chosen (take cut s.local.log) [])
 
 -- whose writes a chosen one violated is chosen, at an earlier place
 abbrev pub ChosenStandBefore : Type 0

@@ -1,6 +1,6 @@
 // Laws over all histories of one shard.
 
-ghost use Rattle.shard_laws.specs.OneShard.{AnswersAndMap, Recoverable, QuietIsSettled, ChosenReplay, ChosenStandBefore, OrderIsKept};
+ghost use Rattle.shard_laws.specs.OneShard.{AnswersAndMap, Recoverable, QuietIsSettled, ChosenReplay, LaterReplay, ChosenStandBefore, OrderIsKept};
 
 /// In each history of one shard the members of each cut of the log at or above what is durable replay, in the order of their requests, from
 /// the map that the log found stands for: to the answers that they were given, and to the map that the cut stands for.
@@ -22,6 +22,12 @@ pub fn quiet_is_settled()
 /// answers and to the map of their UPDATEs in the cut.
 pub fn chosen_replay()
     ensures { ChosenReplay }
+{}
+
+/// The chosen ones that asked after the opening replay alone, from the map of what the log found commits and of those in doubt there that
+/// are chosen.
+pub fn later_replay()
+    ensures { LaterReplay }
 {}
 
 /// Whose writes a chosen one violated is chosen too, at an earlier place.
