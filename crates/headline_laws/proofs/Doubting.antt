@@ -1,8 +1,8 @@
 -- Who voted yes on a member has its COMMIT left, or is in doubt.
-use Rattle.std.proofs.Common.{◌≡◌, inl, inr, refl, sym, ap, subst, ◌∙◌, ℕ, ◌<◌, true, false, cond, Bool, ◌==◌, List, [], Option, Some, None, append-nil}
+use Rattle.std.proofs.Common.{◌≡◌, inl, inr, refl, sym, ap, subst, ℕ, ◌<◌, true, false, cond, Bool, ◌==◌, List, [], Option, Some, None, append-nil}
 use Rattle.std.specs.Prelude.{unwrap_or}
 use Rattle.std.specs.List.{list_all}
-use Rattle.std.proofs.lemmas.Bool.{both_ways, eq-eqb, false_from_ne_true}
+use Rattle.std.proofs.lemmas.Bool.{both_ways, false_from_ne_true}
 use Rattle.clv_base.specs.declared.names.TxId.{TxId}
 use Rattle.clv_base.specs.declared.causes.Vote.TheVariants.{Yes}
 use Rattle.clv_base.specs.declared.logs.LogRecord.{LogRecord}
@@ -14,10 +14,9 @@ use Rattle.clv_base.specs.Orders.{tx_in, nat_in}
 use Rattle.clv_base.specs.Coordinator.{others}
 use Rattle.clv_base.specs.Shards.{shard_count}
 use Rattle.clv_base.specs.FileRules.{may_open}
-use Rattle.clv_base.specs.Logs.{committed_in, aborted_in, prepared_in, prepare_of, in_doubt}
+use Rattle.clv_base.specs.Logs.{committed_in, prepared_in, prepare_of, in_doubt}
 use Rattle.clv_base.specs.LogRules.{log_of, listed_in}
-use Rattle.clv_base.specs.State.{Shard, is_present}
-use Rattle.clv_base.specs.Undo.{stage_of}
+use Rattle.clv_base.specs.State.{Shard}
 use Rattle.clv_base.specs.Restarts.{run_after, log_left}
 use Rattle.clv_base.specs.Journals.{History, final_of}
 use Rattle.clv_base.specs.History.{Legal, IsAmong, logs_left}
@@ -26,29 +25,23 @@ use Rattle.protocol_laws.specs.SessionLaws.{tx_of}
 use Rattle.history_laws.proofs.Durability.{left_front}
 use Rattle.history_laws.proofs.Merging.{is_among}
 use Rattle.history_laws.proofs.Staying.{walker_of}
-use Rattle.history_laws.proofs.TellingEvents.{front_committed}
 use Rattle.history_laws.proofs.Worlds.{in_a_shard}
-use Rattle.shard_laws.proofs.Listing.{order_of}
 use Rattle.fate_laws.specs.Binding.{HasItsPart}
 use Rattle.fate_laws.specs.Decisions.{is_left}
 use Rattle.fate_laws.proofs.Arriving.{commits_have_their_parts}
 use Rattle.fate_laws.proofs.Binding.{Bound}
 use Rattle.fate_laws.proofs.Bindings.{Bindings, bindings_front}
 use Rattle.fate_laws.proofs.Casting.{casts_front}
-use Rattle.fate_laws.proofs.Deciding.{log_now, left_committed}
-use Rattle.fate_laws.proofs.Fates.{DeadIn}
+use Rattle.fate_laws.proofs.Deciding.{log_now}
 use Rattle.fate_laws.proofs.Prefixes.{one_home}
 use Rattle.fate_laws.proofs.Prepares.{prepare_there, prepare_more, front_prepare}
-use Rattle.fall_laws.specs.Falls.{OpensClear}
-use Rattle.fall_laws.proofs.Falling.{WasOut, Stands, stands_front}
 use Rattle.unfallen_laws.proofs.Going.{aborted_take}
-use Rattle.unfallen_laws.proofs.Losing.{LostAt, all_lost}
-use Rattle.unfallen_laws.proofs.StrikingFronts.{struck_front}
+use Rattle.unfallen_laws.proofs.Sparing.{bound_unaborted}
 use Rattle.many_shards_laws.specs.Replaying.{IsHere}
 use Rattle.many_shards_laws.proofs.Homes.{doubted}
 use Rattle.many_shards_laws.proofs.Shares.{at_somewhere}
 
-module _ (splits : List ℕ) (before : List (List LogRecord)) (h : History) (after : List (List LogRecord)) (choice : ℕ → Bool) (o : may_open splits before ≡ true) (l : Legal splits before h after) (c : OpensClear splits before) (n : ℕ) (i : n < shard_count splits)
+module _ (splits : List ℕ) (before : List (List LogRecord)) (h : History) (after : List (List LogRecord)) (choice : ℕ → Bool) (o : may_open splits before ≡ true) (l : Legal splits before h after) (n : ℕ) (i : n < shard_count splits)
     (t : TxId) (home : ℕ) (e : Entry) (touched : List (ℕ × ℕ)) (a : IsAmong home e h) (ev : e.event ≡ RequestEvent t touched) (out : e.outcome ≡ Asked)
     (left : is_left splits before h after choice home t ≡ true) (away : (n == home) ≡ false) where
   abbrev s : Shard
@@ -63,37 +56,8 @@ module _ (splits : List ℕ) (before : List (List LogRecord)) (h : History) (aft
   bound_to : Bindings splits before after h h
   bound_to = bindings_front splits before after h h [] o l (append-nil h)
 
-  stands : Stands before after h h n (final_of before h after n)
-  stands = stands_front splits before after h h [] o l (append-nil h) n i
-
-  -- ---- its part never was out
-
   home_of : (p : ℕ × List TxId) → prepare_of (final_of before h after n).local.log t ≡ Some p → p.0 ≡ home
   home_of p k = let y = ((bound_to.fated).homed n i).prepares t p k run_is in one_home splits before after h t p.0 home y.0 e y.1 touched l y.2 y.3 (is_among home e h a) (ev, out)
-
-  living : (k : ℕ) → DeadIn before after h k t → ⊥
-  living k ((r, us, j, q), d) =
-      let z = one_home splits before after h t k home r e us touched l j q (is_among home e h a) (ev, out) in
-      both_ways _ d.0 (subst (λ m. committed_in (final_of before h after m).local.log t ≡ true) (sym z) (left_committed splits before h after choice home t inside left))
-
-  never_out : Bound (final_of before h after n) t → WasOut before after h n t → ⊥
-  never_out b w = by_lost (all_lost splits before after h h [] o l (append-nil h) n i t b.listed (inl run_is) w prepared)
-    where
-      prepared : prepare_of (final_of before h after n).local.log t ≡ Some b.listed
-      prepared = front_prepare s.durable s.local.log t b.listed b.prepare
-
-      by_lost : LostAt before after h n t b.listed → ⊥
-      by_lost (inl z) = both_ways _ away (eq-eqb n home (sym z ∙ home_of b.listed prepared))
-      by_lost (inr (inl (inl (r, k, d)))) = living k d
-      by_lost (inr (inl (inr z))) = z.0 run_is
-      by_lost (inr (inr (u, j, v))) = both_ways _ ((stands.barred).open_ u v) (front_committed s.durable s.local.log u (b.durable u j))
-
-  -- so no ABORT of it is in the log
-
-  unaborted : Bound (final_of before h after n) t → aborted_in (final_of before h after n).local.log t ≡ true → ⊥
-  unaborted b k =
-      let z = struck_front splits before after h h [] o l (append-nil h) n i t k in
-      never_out b (h, [], append-nil h, (z.0, z.1, (stands.barred).sought t (prepare_there s.local.log t b.listed (front_prepare s.durable s.local.log t b.listed b.prepare))))
 
   -- ---- in what is left
 
@@ -108,7 +72,7 @@ module _ (splits : List ℕ) (before : List (List LogRecord)) (h : History) (aft
       let log = log_left s (choice n) in
       let p = left_prepare b in
       doubted log n log [] t b.listed p (subst (λ m. (n == m) ≡ false) (sym (home_of b.listed (front_prepare s.durable s.local.log t b.listed b.prepare))) away) k
-      (false_from_ne_true _ (λ z. unaborted b (aborted_take (cond (choice n) (unwrap_or s.flight s.durable) s.durable) s.local.log t z)))
+      (false_from_ne_true _ (λ z. bound_unaborted splits before h after choice home n t o l inside i run_is left b (aborted_take (cond (choice n) (unwrap_or s.flight s.durable) s.durable) s.local.log t z)))
       (subst (λ (z : Option (ℕ × List TxId)). list_all (committed_in log) (elim z [ Some y ↦ y.1 | None ↦ [] ]) ≡ true) p listed)
 
   pub yes_is_here : (k : ℕ) (x : Entry) (to : ℕ) → IsAmong k x h → x.outcome ≡ Sent (VoteMessage to t n Yes) → nat_in n (others home touched) ≡ true → IsHere splits before h after choice n t

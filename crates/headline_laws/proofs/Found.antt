@@ -38,7 +38,7 @@ module _ (splits : List ℕ) (before : List (List LogRecord)) (h : History) (aft
   -- on another shard that the request names, where the COMMIT is left at home
   by_vote : is_left splits before h after choice home t ≡ true → (n == home) ≡ false → nat_in n (others home touched) ≡ true → (k : ℕ) (x : Entry) (to : ℕ) (v : Vote) → IsAmong k x h → x.outcome ≡ Sent (VoteMessage to t n v) → is_good (Some v) ≡ true
       → IsHere splits before h after choice n t
-  by_vote left away there k x to Yes m s g = yes_is_here splits before h after choice o l c n i t home e touched a ev out left away k x to m s there
+  by_vote left away there k x to Yes m s g = yes_is_here splits before h after choice o l n i t home e touched a ev out left away k x to m s there
   by_vote left away there k x to Read m s g = inr (inr (reader_passes splits before h after o l c n i t home e touched a ev out k x to m s))
   by_vote left away there k x to (No why) m s g = absurd (both_ways false refl g)
 

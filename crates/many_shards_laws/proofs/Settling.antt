@@ -28,7 +28,7 @@ use Rattle.law_base.specs.Items.{Item}
 use Rattle.law_base.proofs.Lists.{all_mono}
 use Rattle.law_base.proofs.Rows.{rows_get}
 use Rattle.law_base.proofs.Tables.{stage_by}
-use Rattle.history_laws.proofs.Merging.{Among, among_is}
+use Rattle.history_laws.proofs.Merging.{Among, among_is, is_among}
 use Rattle.shard_laws.proofs.Doubting.{prepared_cut}
 use Rattle.shard_laws.specs.OneShard.{Leads}
 use Rattle.shard_laws.proofs.Histories.{held}
@@ -49,7 +49,9 @@ use Rattle.each_shard_laws.proofs.Records.{wrote_from}
 use Rattle.each_shard_laws.proofs.Fallen.{fell_is}
 use Rattle.each_shard_laws.proofs.Leading.{at_front}
 use Rattle.each_shard_laws.proofs.Settling.{left_whole, quiet_shards_are_their_maps}
-use Rattle.unfallen_laws.proofs.Sparing.{in_others, yes_voters_never_fell}
+use Rattle.unfallen_laws.proofs.Sparing.{in_others, bound_unaborted, yes_voters_never_fell}
+use Rattle.unfallen_laws.proofs.Going.{aborted_take}
+use Rattle.fate_laws.proofs.Casting.{casts_front}
 use Rattle.unfallen_laws.proofs.Naming.{requests_name_their_shards}
 use Rattle.unfallen_laws.proofs.Voting.{members_are_voted_for}
 use Rattle.replay_by_shards.specs.Shares.{share_of, in_turn}
@@ -97,9 +99,9 @@ module _ (splits : List ℕ) (before : List (List LogRecord)) (h : History) (aft
           let d = deeds_before before h after n in
           let b = held n (run_after before) (log_of before n) d.items (requests_of h) d.told d.met d.fell s (leads splits before h after choice o l c n i) in
           let bound = votes_bind splits before h [] after k x home n t Yes o (subst (λ z. Legal splits before z after) (sym (append-nil h)) l) i a v in
-          let same : s.run ≡ run_after before = (fronts splits before h after choice o l c n i).run in
+          let bound_to = (casts_front splits before after h h [] o l (append-nil h)).cast (k, x) home n t Yes (is_among k x h a) v in
           absurd
-          (⊎_elim (λ f. fallen (subst (λ z. tx_in t z ≡ true) b.8 (⊎_elim (λ y. y) (λ y. b.9 t y) f))) (λ r. omega (arith, r, run, same))
+          (⊎_elim (λ f. fallen (subst (λ z. tx_in t z ≡ true) b.8 (⊎_elim (λ y. y) (λ y. b.9 t y) f))) (λ r. bound_unaborted splits before h after choice m n t o l j i run left bound_to.1 (aborted_take s.durable s.local.log t r))
           (b.1.falls.gone t (prepared_cut s.durable s.local.log t (bound.0).0) e p))
 
   by_vote : (n m k home : ℕ) (x : Entry) (v : Vote) (t : TxId) → n < shard_count splits → m < shard_count splits → t.run ≡ run_after before → wrote_in (final_of before h after n).local.log t ≡ true → IsAmong k x h → x.outcome ≡ Sent (VoteMessage home t n v) → is_good (Some v) ≡ true

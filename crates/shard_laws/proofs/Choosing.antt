@@ -12,8 +12,6 @@ use Rattle.clv_base.specs.Maps.{KeyMap, map_get, map_set, replay_map, replay_ans
 use Rattle.clv_base.specs.Logs.{standing, committed_in, wrote_in, is_commit_of, in_doubt, is_winner, fold_updates, stands}
 use Rattle.clv_base.specs.LogRules.{listed_in}
 use Rattle.clv_base.specs.State.{Shard}
-use Rattle.clv_base.specs.Folding.{Placed, grouped_from, ops_of, answers_of}
-use Rattle.clv_base.proofs.Grouping.{is_serial_run}
 use Rattle.clv_base.proofs.Folding.{same_map}
 use Rattle.clv_base.proofs.SameNames.{or_left, or_right, tx_true, tx_self}
 use Rattle.law_base.specs.Items.{Item, Runs, after, AllLater, Reaches, Clash, pile}

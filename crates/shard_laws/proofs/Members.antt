@@ -1,5 +1,5 @@
 -- The members of a cut of a shard's log replay to their answers and to the map that it stands for.
-use Rattle.std.proofs.Common.{◌≡◌, ℕ, ◌≤◌, ◌<◌, ◌⊎◌, inl, inr, ⊎_elim, Bool, true, false, cond, ◌&&◌, ◌||◌, List, [], ◌∷◌, map, length, Option, Some, None, refl, sym, ap, subst, ◌∙◌, eq-eqb, not}
+use Rattle.std.proofs.Common.{◌≡◌, ℕ, ◌≤◌, ◌<◌, ◌⊎◌, inl, inr, ⊎_elim, Bool, true, false, cond, ◌&&◌, ◌||◌, List, [], ◌∷◌, map, Option, Some, None, refl, sym, ap, subst, ◌∙◌, eq-eqb, not}
 use Rattle.std.specs.List.{AllByRecursion, filter}
 use Rattle.std.proofs.lemmas.Bool.{cases_Bool, both_ways, cond-true, or_cases, and_from, cond-false, false_from_ne_true}
 use Rattle.clv_base.specs.declared.names.TxId.{TxId}
@@ -18,8 +18,6 @@ use Rattle.std.specs.Prelude.{take}
 use Rattle.clv_base.specs.Maps.{replay_map, replay_answers}
 use Rattle.clv_base.specs.Logs.{stands, fold_updates, committed_somewhere}
 use Rattle.clv_base.specs.State.{Shard}
-use Rattle.clv_base.specs.Folding.{Placed, grouped_from, ops_of, answers_of}
-use Rattle.clv_base.proofs.Grouping.{is_serial_run}
 use Rattle.clv_base.proofs.Folding.{same_map}
 use Rattle.shard_laws.specs.OneShard.{is_member, members_of, items_of, ops_by, answers_by}
 use Rattle.shard_laws.proofs.Kept.{view_of}

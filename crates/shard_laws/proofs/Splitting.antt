@@ -1,11 +1,9 @@
 -- The replay of the chosen ones, split at the opening: those that the log found leaves in doubt come first.
-use Rattle.std.proofs.Common.{◌≡◌, ℕ, ◌+◌, ◌≤◌, ◌<◌, ◌⊎◌, inl, inr, ⊎_elim, Bool, true, false, cond, ◌&&◌, ◌||◌, List, [], ◌∷◌, ◌++◌, map, length, Option, Some, None, refl, sym, ap, subst, ◌∙◌}
-use Rattle.std.specs.Prelude.{take}
+use Rattle.std.proofs.Common.{◌≡◌, ℕ, ◌+◌, ◌<◌, ◌⊎◌, inl, inr, ⊎_elim, Bool, true, false, cond, ◌&&◌, ◌||◌, List, [], ◌∷◌, ◌++◌, map, length, Option, Some, None, refl, sym, ap, subst, ◌∙◌}
 use Rattle.std.specs.List.{AllByRecursion, filter}
-use Rattle.std.proofs.lemmas.Bool.{both_ways, cond_both, cond-true, and_parts, and_from, false_from_ne_true, or_cases}
+use Rattle.std.proofs.lemmas.Bool.{both_ways, cond_both, and_parts, and_from, false_from_ne_true, or_cases}
 use Rattle.std.proofs.lemmas.List.{append_cancel_left, map-append}
 use Rattle.std.proofs.lemmas.List.Elements.{filter-append}
-use Rattle.std.proofs.lemmas.List.Folds.{list_any-append}
 use Rattle.clv_base.specs.declared.names.TxId.{TxId}
 use Rattle.clv_base.specs.declared.names.Birth.{Birth}
 use Rattle.clv_base.specs.declared.logs.LogRecord.{LogRecord}
@@ -18,19 +16,18 @@ use Rattle.clv_base.specs.declared.events.Outcome.{Outcome}
 use Rattle.clv_base.specs.declared.events.Outcome.TheVariants.{Answered, Dead}
 use Rattle.clv_base.specs.Orders.{tx_same, tx_in}
 use Rattle.clv_base.specs.Folding.{IsRising}
-use Rattle.clv_base.specs.Maps.{KeyMap, map_get, replay_map, replay_answers, ops_after, ops_answers}
-use Rattle.clv_base.specs.Logs.{StandingUpdate, standing, committed_in, in_doubt, is_winner, fold_updates, stands, committed_somewhere}
+use Rattle.clv_base.specs.Maps.{KeyMap, replay_map, replay_answers, ops_after, ops_answers}
+use Rattle.clv_base.specs.Logs.{StandingUpdate, standing, committed_in, in_doubt, is_winner, stands, committed_somewhere}
 use Rattle.clv_base.specs.State.{Shard}
-use Rattle.clv_base.specs.Restarts.{restored_pairs}
 use Rattle.clv_base.specs.OneShard.{OpReply, OpWaits, OpCrowded, OpDies, OpAnswers, seen_fits, op_seen}
 use Rattle.clv_base.specs.Events.{Reply, QuietBeforeWorn, QuietAfterWorn, Does, op_event, happen_up, happen}
 use Rattle.clv_base.proofs.SameNames.{or_left, or_right, tx_true}
 use Rattle.clv_base.proofs.Folding.{same_map}
-use Rattle.law_base.specs.Items.{Item, Runs, after, AllLater, Reaches, Clash, pile}
+use Rattle.law_base.specs.Items.{Item, Runs, after, AllLater, Clash, pile}
 use Rattle.law_base.proofs.Lists.{all_mono, all_filter, later_mono, later_filter}
 use Rattle.law_base.proofs.Running.{top_value, Keeps, kept_runs, rising_all, pile_value}
 use Rattle.law_base.proofs.Tables.{is_pair}
-use Rattle.shard_laws.specs.OneShard.{items_of, with_one, new_item, new_asked, new_met, MayTouch, MayHappen, MayServe, MayChoose, Leads, opens, happens, lands, others_ask, revives, ops_by, answers_by, found_items, found_asked, found_met, map_found, LaterReplay}
+use Rattle.shard_laws.specs.OneShard.{items_of, with_one, new_item, new_asked, new_met, MayHappen, MayServe, Leads, opens, happens, lands, others_ask, revives, ops_by, answers_by, found_items, found_asked, found_met, map_found, LaterReplay}
 use Rattle.order_laws.specs.Order.{undone_in}
 use Rattle.shard_laws.proofs.Ordered.{each_in}
 use Rattle.shard_laws.proofs.AtKeys.{keys_filter, keys_top}
@@ -39,13 +36,12 @@ use Rattle.shard_laws.proofs.Cutting.{fold_values, fold_rises}
 use Rattle.shard_laws.proofs.Sound.{filter_both, filter_same}
 use Rattle.shard_laws.proofs.Leaving.{in_first}
 use Rattle.shard_laws.proofs.Members.{pile_keep, filter_all_kept, filter_within}
-use Rattle.shard_laws.proofs.Serial.{Once, once_filter, filter_place, in_kept, serial_of}
+use Rattle.shard_laws.proofs.Serial.{once_filter, filter_place, in_kept, serial_of}
 use Rattle.shard_laws.proofs.Relisting.{pair_there, pair_append}
-use Rattle.shard_laws.proofs.Rebuilding.{Found, out_left, out_right}
 use Rattle.shard_laws.proofs.Remaking.{whole_log}
 use Rattle.shard_laws.proofs.Renewing.{found_self}
 use Rattle.shard_laws.proofs.Found.{UnderFound, order_once}
-use Rattle.shard_laws.proofs.Opening.{follows, order, doubt_of, doubt_apart, doubt_asked, listed_place, start_value, runs_start, split_start, items_doubted, under_start, reached}
+use Rattle.shard_laws.proofs.Opening.{follows, order, doubt_apart, doubt_asked, listed_place, start_value, runs_start, split_start, items_doubted, under_start, reached}
 use Rattle.shard_laws.proofs.Happening.{push_other}
 use Rattle.shard_laws.proofs.Choosing.{chosen_replay, chosen_stand_before}
 

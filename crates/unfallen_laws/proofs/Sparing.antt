@@ -7,7 +7,7 @@ use Rattle.clv_base.specs.declared.logs.LogRecord.{LogRecord}
 use Rattle.clv_base.specs.Shards.{shard_count}
 use Rattle.clv_base.specs.FileRules.{may_open}
 use Rattle.clv_base.specs.Orders.{nat_in, tx_in}
-use Rattle.clv_base.specs.Logs.{committed_in, prepare_of}
+use Rattle.clv_base.specs.Logs.{committed_in, aborted_in, prepare_of}
 use Rattle.clv_base.specs.Restarts.{run_after, log_left}
 use Rattle.clv_base.specs.Journals.{History}
 use Rattle.clv_base.specs.History.{Legal}
@@ -16,10 +16,10 @@ use Rattle.history_laws.proofs.Merging.{Among, is_among, among_is}
 use Rattle.history_laws.proofs.Staying.{walker_of}
 use Rattle.history_laws.proofs.TellingEvents.{front_committed}
 use Rattle.history_laws.proofs.Worlds.{state_at, in_a_shard}
-use Rattle.fate_laws.specs.Decisions.{is_left}
+use Rattle.fate_laws.specs.Decisions.{IsHome, is_left}
 use Rattle.fate_laws.proofs.Fates.{DeadIn}
 use Rattle.fate_laws.proofs.Prefixes.{one_home}
-use Rattle.fate_laws.proofs.Prepares.{front_prepare}
+use Rattle.fate_laws.proofs.Prepares.{prepare_there, front_prepare}
 use Rattle.fate_laws.proofs.Deciding.{left_committed, commits_stand_at_home}
 use Rattle.fate_laws.proofs.Binding.{Bound, Reads}
 use Rattle.fate_laws.proofs.Bindings.{FineAt, bindings_front}
@@ -30,6 +30,7 @@ use Rattle.fall_laws.proofs.Falling.{WasOut, stands_front}
 use Rattle.fall_laws.proofs.Finding.{fell_out, members_never_fell_at_home}
 use Rattle.unfallen_laws.specs.Unfallen.{PreparedMembersNeverFell, YesVotersNeverFell}
 use Rattle.unfallen_laws.proofs.Losing.{LostAt, all_lost}
+use Rattle.unfallen_laws.proofs.StrikingFronts.{struck_front}
 
 pub in_others : (m home : ℕ) (xs : List ℕ) → nat_in m xs ≡ true → (m == home) ≡ false → nat_in m (filter (λ p. not (p == home)) xs) ≡ true
 in_others m home [] i n = absurd (both_ways false refl i)
@@ -58,10 +59,9 @@ module _ (splits : List ℕ) (before : List (List LogRecord)) (h : History) (aft
   opened u v = ((stands_front splits before after h h [] o l (append-nil h) m j).barred).open_ u v
 
   -- it is its home that its PREPARE names, or not
-  by_lost : (p : ℕ × List TxId) → prepare_of (state_at before after m h).local.log tx ≡ Some p → ((u : TxId) → tx_in u p.1 ≡ true → committed_in (log_left (state_at before after m h) false) u ≡ true) → Fell before h after m tx → LostAt before after h m tx p → ⊥
+  by_lost : (p : ℕ × List TxId) → prepare_of (state_at before after m h).local.log tx ≡ Some p → ((u : TxId) → tx_in u p.1 ≡ true → committed_in (log_left (state_at before after m h) false) u ≡ true) → (IsHome h tx m → ⊥) → LostAt before after h m tx p → ⊥
   by_lost p k g f (inl z) =
-      let y = ((bindings_front splits before after h h [] o l (append-nil h)).fated.homed m j).prepares tx p k run in
-      members_never_fell_at_home splits before h after choice n m tx o l i j run left (y.0, y.1, among_is m y.0 h (subst (λ v. Among (v, y.0) h) z y.2), (y.3).0, (y.3).1) f
+      let y = ((bindings_front splits before after h h [] o l (append-nil h)).fated.homed m j).prepares tx p k run in f (y.0, y.1, among_is m y.0 h (subst (λ v. Among (v, y.0) h) z y.2), (y.3).0, (y.3).1)
   by_lost p k g f (inr (inl (inl (r, w, z)))) = dead w z
   by_lost p k g f (inr (inl (inr z))) = z.0 run
   by_lost p k g f (inr (inr (u, y, v))) =
@@ -71,7 +71,25 @@ module _ (splits : List ℕ) (before : List (List LogRecord)) (h : History) (aft
   bound_never_fell b f =
       let s = state_at before after m h in
       let k = front_prepare s.durable s.local.log tx b.listed b.prepare in
-      by_lost b.listed k b.durable f (all_lost splits before after h h [] o l (append-nil h) m j tx b.listed (inl run) (fell_out splits before after h h [] m tx o l (append-nil h) j f) k)
+      by_lost b.listed k b.durable (λ y. members_never_fell_at_home splits before h after choice n m tx o l i j run left y f)
+      (all_lost splits before after h h [] o l (append-nil h) m j tx b.listed (inl run) (fell_out splits before after h h [] m tx o l (append-nil h) j f) k)
+
+  -- its COMMIT stands at its home
+  at_home : IsHome h tx m → committed_in (state_at before after m h).local.log tx ≡ true
+  at_home y =
+      let z = commits_stand_at_home splits before h after choice n tx o l i run left in
+      let b = z.1 in
+      let same = one_home splits before after h tx z.0 m b.0 y.0 b.1 y.1 l (is_among z.0 b.0 h b.2) (b.3, b.4) (is_among m y.0 h y.2) (y.3, y.4) in
+      left_committed splits before h after choice m tx j (subst (λ v. is_left splits before h after choice v tx ≡ true) same z.2)
+
+  -- so no ABORT of it is in the log
+  pub bound_unaborted : Bound (state_at before after m h) tx → aborted_in (state_at before after m h).local.log tx ≡ true → ⊥
+  bound_unaborted b k =
+      let s = state_at before after m h in
+      let p = front_prepare s.durable s.local.log tx b.listed b.prepare in
+      let z = struck_front splits before after h h [] o l (append-nil h) m j tx k in
+      let asked = ((stands_front splits before after h h [] o l (append-nil h) m j).barred).sought tx (prepare_there s.local.log tx b.listed p) in
+      by_lost b.listed p b.durable (λ y. both_ways _ z.1 (at_home y)) (all_lost splits before after h h [] o l (append-nil h) m j tx b.listed (inl run) (h, [], append-nil h, (z.0, z.1, asked)) p)
 
 -- ---- members, and who voted yes
 
