@@ -133,11 +133,11 @@ parts_below splits shard (Abort tx ∷ rs) t ps a e = parts_below splits shard r
 parts_below splits shard (End tx ∷ rs) t ps a e = parts_below splits shard rs t ps a e
 parts_below splits shard (Restart run epoch ∷ rs) t ps a e = parts_below splits shard rs t ps a e
 
-left_length : (finals : ℕ → Shard) (choice : ℕ → Bool) (n k : ℕ) → length (logs_left_from finals choice n k) ≡ k
+pub left_length : (finals : ℕ → Shard) (choice : ℕ → Bool) (n k : ℕ) → length (logs_left_from finals choice n k) ≡ k
 left_length finals choice n zero = refl
 left_length finals choice n (suc k) = ap suc (left_length finals choice (suc n) k)
 
-part_below : (splits : List ℕ) (before : List (List LogRecord)) (h : History) (after : List (List LogRecord)) (choice : ℕ → Bool) (n m : ℕ) (tx : TxId) (parts : List ℕ) → may_open splits before ≡ true → Legal splits before h after → n < shard_count splits
+pub part_below : (splits : List ℕ) (before : List (List LogRecord)) (h : History) (after : List (List LogRecord)) (choice : ℕ → Bool) (n m : ℕ) (tx : TxId) (parts : List ℕ) → may_open splits before ≡ true → Legal splits before h after → n < shard_count splits
     → commit_parts (log_of (logs_left splits before h after choice) n) tx ≡ Some parts → nat_in m parts ≡ true → m < shard_count splits
 part_below splits before h after choice n m tx parts o l i c k =
     let logs = logs_left splits before h after choice in

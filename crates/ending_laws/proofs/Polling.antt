@@ -56,7 +56,7 @@ use Rattle.ending_laws.proofs.Ends.{parts_back, parts_front, on_restarted}
 
 -- ---- lists of shards
 
-in_picked : (f : ℕ → Bool) (m : ℕ) (ns : List ℕ) → nat_in m (filter f ns) ≡ true → (nat_in m ns ≡ true) × (f m ≡ true)
+pub in_picked : (f : ℕ → Bool) (m : ℕ) (ns : List ℕ) → nat_in m (filter f ns) ≡ true → (nat_in m ns ≡ true) × (f m ≡ true)
 in_picked f m [] i = absurd (both_ways false refl i)
 in_picked f m (n ∷ ns) i = at (f n) refl i (λ j. let k = in_picked f m ns j in (or_right (m == n) (nat_in m ns) k.0, k.1))
   where

@@ -41,7 +41,7 @@ use Rattle.many_shards_laws.proofs.Homes.{none_of}
 -- ---- no UPDATE behind the RESTART of a run is of an earlier one
 
 -- the last RESTART is of this run or a later one
-abbrev LastFrom : ℕ → List LogRecord → Type 0
+abbrev pub LastFrom : ℕ → List LogRecord → Type 0
 LastFrom run log = (p : ℕ × ℕ) × (last_restart log ≡ Some p) × (run ≤ p.0)
 
 above_last : (run epoch : ℕ) (log : List LogRecord) (p : ℕ × ℕ) → above_restarts run epoch log ≡ true → last_restart log ≡ Some p → p.0 ≤ run
@@ -66,7 +66,7 @@ above_last run epoch (End tx ∷ rs) p a e = above_last run epoch rs p a e
 plainly_next : (run : ℕ) (log : List LogRecord) (r : LogRecord) → Plainly r → LastFrom run log → LastFrom run (log ++ r ∷ [])
 plainly_next run log r p k = (k.0, last_push log r p ∙ k.1, k.2)
 
-last_next : (shard run : ℕ) (log : List LogRecord) (r : LogRecord) → LastFrom run log → may_follow shard log r ≡ true → LastFrom run (log ++ r ∷ [])
+pub last_next : (shard run : ℕ) (log : List LogRecord) (r : LogRecord) → LastFrom run log → may_follow shard log r ≡ true → LastFrom run (log ++ r ∷ [])
 last_next shard run log (Restart own epoch) k m =
     let a = above_last own epoch log k.0 (front _ _ m) k.1 in
     let b = k.2 in
@@ -92,7 +92,7 @@ none_behind : (shard run : ℕ) (log rs : List LogRecord) (t : TxId) → t.run <
 none_behind shard run log [] t l k f = refl
 none_behind shard run log (r ∷ rs) t l k f = ap (λ b. b || wrote_in rs t) (no_update shard run log r t l k f.0) ∙ none_behind shard run (log ++ r ∷ []) rs t l (last_next shard run log r k f.0) f.1
 
-follows_behind : (shard : ℕ) (log xs ys : List LogRecord) → Follows shard log (xs ++ ys) → Follows shard (log ++ xs) ys
+pub follows_behind : (shard : ℕ) (log xs ys : List LogRecord) → Follows shard log (xs ++ ys) → Follows shard (log ++ xs) ys
 follows_behind shard log [] ys f = subst (λ l. Follows shard l ys) (sym (append-nil log)) f
 follows_behind shard log (x ∷ xs) ys f = subst (λ l. Follows shard l ys) (append_assoc log (x ∷ []) xs) (follows_behind shard (log ++ x ∷ []) xs ys f.1)
 
@@ -131,19 +131,20 @@ left_begins splits before h after kept n l i =
     chain log (log_left (final_of before h after n) false) (log_left (final_of before h after n) kept) (subst (λ z. IsPrefixOf z (log_left (final_of before h after n) false)) (take_all (length log) log (omega arith)) f.front)
     (left_front (final_of before h after n) kept f.counted)
 
-none_of_earlier : (splits : List ℕ) (before : List (List LogRecord)) (n : ℕ) (left : List LogRecord) (t : TxId) → t.run < run_after before → disorder n left ≡ None → IsPrefixOf (log_after_restart n (log_of before n) (run_after before) 0) left → wrote_in left t ≡ true
+-- what a shard opens with ends with a RESTART of this run
+pub opened_last : (before : List (List LogRecord)) (n : ℕ) → LastFrom (run_after before) (log_after_restart n (log_of before n) (run_after before) 0)
+opened_last before n =
+    let found = log_of before n in
+    ((run_after before, 0), ap last_restart (sym (append_assoc found (undo_records n found) (Restart (run_after before) 0 ∷ []))) ∙ last_new (found ++ undo_records n found) (run_after before) 0, omega arith)
+
+pub none_of_earlier : (splits : List ℕ) (before : List (List LogRecord)) (n : ℕ) (left : List LogRecord) (t : TxId) → t.run < run_after before → disorder n left ≡ None → IsPrefixOf (log_after_restart n (log_of before n) (run_after before) 0) left → wrote_in left t ≡ true
     → wrote_in (log_of before n) t ≡ true
 none_of_earlier splits before n left t o d p w =
     let found = log_of before n in
     let records = restart_records n found (run_after before) 0 in
     let opened = log_after_restart n found (run_after before) 0 in
     let whole : Follows n [] (opened ++ p.0) = subst (Follows n []) (sym p.1) (from_disorder n 0 [] left d) in
-    let last : LastFrom (run_after before) opened = (
-      (run_after before, 0),
-      ap last_restart (sym (append_assoc found (undo_records n found) (Restart (run_after before) 0 ∷ []))) ∙ last_new (found ++ undo_records n found) (run_after before) 0,
-      omega arith,
-    ) in
-    let none = none_behind n (run_after before) opened p.0 t o last (follows_behind n [] opened p.0 whole) in
+    let none = none_behind n (run_after before) opened p.0 t o (opened_last before n) (follows_behind n [] opened p.0 whole) in
     ⊎_elim (λ a. ⊎_elim (λ b. b) (λ b. absurd (both_ways _ (restart_writes_none n found (run_after before) 0 t) b)) (or_cases (wrote_in found t) (wrote_in records t) (sym (wrote_append found records t) ∙ a))) (λ a. absurd (both_ways _ none a))
     (or_cases (wrote_in opened t) (wrote_in p.0 t) (sym (wrote_append opened p.0 t) ∙ ap (λ z. wrote_in z t) p.1 ∙ w))
 

@@ -75,7 +75,7 @@ parts_committed (Abort tx ∷ rs) t ps e = parts_committed rs t ps e
 parts_committed (End tx ∷ rs) t ps e = parts_committed rs t ps e
 parts_committed (Restart run epoch ∷ rs) t ps e = parts_committed rs t ps e
 
-nat_at : (f : ℕ → Bool) (n : ℕ) (ns : List ℕ) → list_all f ns ≡ true → nat_in n ns ≡ true → f n ≡ true
+pub nat_at : (f : ℕ → Bool) (n : ℕ) (ns : List ℕ) → list_all f ns ≡ true → nat_in n ns ≡ true → f n ≡ true
 nat_at f n [] a i = absurd (both_ways false refl i)
 nat_at f n (m ∷ ms) a i =
     let p = and_parts (f m) (list_all f ms) a in ⊎_elim (λ e. subst (λ z. f z ≡ true) (sym (eqb-true n m e)) p.0) (λ h. nat_at f n ms p.1 h) (or_cases (n == m) (nat_in n ms) i)
@@ -166,13 +166,16 @@ by_home : (logs : List (List LogRecord)) (t : TxId) (h n : ℕ) (o : Option (Lis
 by_home logs t h n None l c a clear r = absurd (both_ways false refl a)
 by_home logs t h n (Some ps) l c a clear r = part_committed logs t h n ps l c a clear r
 
-pub committed_here : (splits : List ℕ) (logs : List (List LogRecord)) (n m : ℕ) (t : TxId) → may_open splits logs ≡ true → n < length logs → in_doubt n (log_of logs n) ≡ [] → list_any (is_record_of t) (log_of logs n) ≡ true → committed_in (log_of logs m) t ≡ true
-    → committed_in (log_of logs n) t ≡ true
-committed_here splits logs n m t o l clear r c =
+-- who is committed in some log has a home
+pub home_of : (splits : List ℕ) (logs : List (List LogRecord)) (m : ℕ) (t : TxId) → may_open splits logs ≡ true → committed_in (log_of logs m) t ≡ true → (h : ℕ) × (is_home_of logs t h (log_of logs h) ≡ true)
+home_of splits logs m t o c =
     let d = none_of (apart logs) (and_parts (all_logs_from 0 (log_passes splits) logs) (is_none (apart logs)) o).1 in
     let a = which_log 0 (is_home_of logs t) logs (has_home logs (committed_of_all logs) t d (in_committed_all logs m t c)) in
-    let b = subst (λ k. is_home_of logs t k (log_of logs a.0) ≡ true) (zero_plus a.0) a.1 in
-    by_home logs t a.0 n (commit_parts (log_of logs a.0) t) l refl b clear r
+    (a.0, subst (λ k. is_home_of logs t k (log_of logs a.0) ≡ true) (zero_plus a.0) a.1)
   where
     zero_plus : (m : ℕ) → 0 + m ≡ m
     zero_plus m = omega arith
+
+pub committed_here : (splits : List ℕ) (logs : List (List LogRecord)) (n m : ℕ) (t : TxId) → may_open splits logs ≡ true → n < length logs → in_doubt n (log_of logs n) ≡ [] → list_any (is_record_of t) (log_of logs n) ≡ true → committed_in (log_of logs m) t ≡ true
+    → committed_in (log_of logs n) t ≡ true
+committed_here splits logs n m t o l clear r c = let a = home_of splits logs m t o c in by_home logs t a.0 n (commit_parts (log_of logs a.0) t) l refl a.1 clear r

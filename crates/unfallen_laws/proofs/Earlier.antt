@@ -52,7 +52,7 @@ module _ (splits : List ℕ) (before after : List (List LogRecord)) (h : History
       ((bindings_front splits before after h f rest o l q).parted c.0 m).log tx there n (λ z. absurd (r z))
 
   -- whose part is prepared was never out
-  never_out : (f rest : History) → f ++ rest ≡ h → prepared_in (state_at before after n f).local.log tx ≡ true → WasOut before after f n tx → ⊥
+  pub never_out : (f rest : History) → f ++ rest ≡ h → prepared_in (state_at before after n f).local.log tx ≡ true → WasOut before after f n tx → ⊥
   never_out f rest q k v = by_fine (fine f rest q).1
     where
       open_ : (u : TxId) → WasOut before after f n u → committed_in (state_at before after n f).local.log u ≡ false

@@ -58,23 +58,28 @@ module _ (splits : List ℕ) (before : List (List LogRecord)) (h : History) (aft
   opened : (u : TxId) → WasOut before after h m u → committed_in (state_at before after m h).local.log u ≡ false
   opened u v = ((stands_front splits before after h h [] o l (append-nil h) m j).barred).open_ u v
 
-  -- it is its home that its PREPARE names, or not
-  by_lost : (p : ℕ × List TxId) → prepare_of (state_at before after m h).local.log tx ≡ Some p → ((u : TxId) → tx_in u p.1 ≡ true → committed_in (log_left (state_at before after m h) false) u ≡ true) → (IsHome h tx m → ⊥) → LostAt before after h m tx p → ⊥
-  by_lost p k g f (inl z) =
-      let y = ((bindings_front splits before after h h [] o l (append-nil h)).fated.homed m j).prepares tx p k run in f (y.0, y.1, among_is m y.0 h (subst (λ v. Among (v, y.0) h) z y.2), (y.3).0, (y.3).1)
-  by_lost p k g f (inr (inl (inl (r, w, z)))) = dead w z
-  by_lost p k g f (inr (inl (inr z))) = z.0 run
-  by_lost p k g f (inr (inr (u, y, v))) =
+  by_lost : (p : ℕ × List TxId) → ((u : TxId) → tx_in u p.1 ≡ true → committed_in (log_left (state_at before after m h) false) u ≡ true) → (p.0 ≡ m → ⊥) → LostAt before after h m tx p → ⊥
+  by_lost p g away (inl z) = away z
+  by_lost p g away (inr (inl (inl (r, w, z)))) = dead w z
+  by_lost p g away (inr (inl (inr z))) = z.0 run
+  by_lost p g away (inr (inr (u, y, v))) =
       let s = state_at before after m h in both_ways _ (opened u v) (front_committed s.durable s.local.log u (g u y))
 
-  pub bound_never_fell : Bound (state_at before after m h) tx → Fell before h after m tx → ⊥
-  bound_never_fell b f =
-      let s = state_at before after m h in
-      let k = front_prepare s.durable s.local.log tx b.listed b.prepare in
-      by_lost b.listed k b.durable (λ y. members_never_fell_at_home splits before h after choice n m tx o l i j run left y f)
-      (all_lost splits before after h h [] o l (append-nil h) m j tx b.listed (inl run) (fell_out splits before after h h [] m tx o l (append-nil h) j f) k)
+  prepared : (b : Bound (state_at before after m h) tx) → prepare_of (state_at before after m h).local.log tx ≡ Some b.listed
+  prepared b = let s = state_at before after m h in front_prepare s.durable s.local.log tx b.listed b.prepare
 
-  -- its COMMIT stands at its home
+  -- where its PREPARE names another shard as its home, it never was out
+  pub bound_never_out : (b : Bound (state_at before after m h) tx) → ((b.listed).0 ≡ m → ⊥) → WasOut before after h m tx → ⊥
+  bound_never_out b away v = by_lost b.listed b.durable away (all_lost splits before after h h [] o l (append-nil h) m j tx b.listed (inl run) v (prepared b))
+
+  -- else this is its home
+  home_here : (b : Bound (state_at before after m h) tx) → (b.listed).0 ≡ m → IsHome h tx m
+  home_here b z = let y = ((bindings_front splits before after h h [] o l (append-nil h)).fated.homed m j).prepares tx b.listed (prepared b) run in (y.0, y.1, among_is m y.0 h (subst (λ v. Among (v, y.0) h) z y.2), (y.3).0, (y.3).1)
+
+  pub bound_never_fell : Bound (state_at before after m h) tx → Fell before h after m tx → ⊥
+  bound_never_fell b f = bound_never_out b (λ z. members_never_fell_at_home splits before h after choice n m tx o l i j run left (home_here b z) f) (fell_out splits before after h h [] m tx o l (append-nil h) j f)
+
+  -- at its home its COMMIT stands
   at_home : IsHome h tx m → committed_in (state_at before after m h).local.log tx ≡ true
   at_home y =
       let z = commits_stand_at_home splits before h after choice n tx o l i run left in
@@ -85,11 +90,9 @@ module _ (splits : List ℕ) (before : List (List LogRecord)) (h : History) (aft
   -- so no ABORT of it is in the log
   pub bound_unaborted : Bound (state_at before after m h) tx → aborted_in (state_at before after m h).local.log tx ≡ true → ⊥
   bound_unaborted b k =
-      let s = state_at before after m h in
-      let p = front_prepare s.durable s.local.log tx b.listed b.prepare in
       let z = struck_front splits before after h h [] o l (append-nil h) m j tx k in
-      let asked = ((stands_front splits before after h h [] o l (append-nil h) m j).barred).sought tx (prepare_there s.local.log tx b.listed p) in
-      by_lost b.listed p b.durable (λ y. both_ways _ z.1 (at_home y)) (all_lost splits before after h h [] o l (append-nil h) m j tx b.listed (inl run) (h, [], append-nil h, (z.0, z.1, asked)) p)
+      let asked = ((stands_front splits before after h h [] o l (append-nil h) m j).barred).sought tx (prepare_there (state_at before after m h).local.log tx b.listed (prepared b)) in
+      bound_never_out b (λ y. both_ways _ z.1 (at_home (home_here b y))) (h, [], append-nil h, (z.0, z.1, asked))
 
 -- ---- members, and who voted yes
 

@@ -1,0 +1,6 @@
+pub mod Agreeing
+pub mod Keeping
+pub mod Left
+pub mod Earlier
+pub mod Here
+pub mod Reopening
