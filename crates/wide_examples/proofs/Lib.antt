@@ -3,3 +3,4 @@ pub mod Wide
 pub mod Again
 pub mod Refusing
 pub mod Restarting
+pub mod Flying

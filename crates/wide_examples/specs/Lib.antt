@@ -3,3 +3,4 @@ pub mod Committed
 pub mod Reopened
 pub mod Aborted
 pub mod Restarted
+pub mod Flight

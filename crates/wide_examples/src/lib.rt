@@ -4,5 +4,6 @@
 
 pub mod aborted;
 pub mod committed;
+pub mod flight;
 pub mod reopened;
 pub mod restarted;
