@@ -14,7 +14,7 @@ use Rattle.clv_base.specs.declared.events.Event.TheVariants.{Deliver}
 use Rattle.clv_base.specs.declared.events.Outcome.{Outcome}
 use Rattle.clv_base.specs.declared.events.Outcome.TheVariants.{Taken, Stale, Down}
 use Rattle.clv_base.specs.declared.events.Entry.{Entry}
-use Rattle.clv_base.specs.Orders.{tx_same, tx_get}
+use Rattle.clv_base.specs.Orders.{tx_same, tx_in, tx_get}
 use Rattle.clv_base.specs.Logs.{wrote_in, committed_in, is_update_of, is_commit_of}
 use Rattle.clv_base.specs.LogRules.{may_follow, some_parts}
 use Rattle.clv_base.specs.State.{Shard}
@@ -126,15 +126,15 @@ not_own splits before after h pre n x s t home here (r, ts, i, q, p) k (inl (r2,
 not_own splits before after h pre n x s t home here (r, ts, i, q, p) k (inr o) =
     let w = (walker_of splits before after h r t here.legal ((here.behind).turn r i).0 (ap tx_of q.0)).0 in omega (arith, o, w)
 
-pub may_prepare : (splits : List ℕ) (before after : List (List LogRecord)) (h pre : History) (n : ℕ) (x : Entry) (s : Shard) (all : List Item) (told : List TxId) (met : List (TxId × TxId)) (fell : List TxId) (log0 : List LogRecord) (to : ℕ) (t : TxId) (home seen : ℕ)
-    → Here splits before after h pre n x s → Leads n (run_after before) log0 all (requests_of pre) told met fell s → to ≡ s.shard → Requested pre t home → (to ≡ home → ⊥) → MayDeliver (requests_of pre) fell s (Prepare to t home seen)
-may_prepare splits before after h pre n x s all told met fell log0 to t home seen here leads z req away = (
-  request_is_in pre t req.0 req.1 req.2 req.3,
+pub may_prepare : (splits : List ℕ) (before after : List (List LogRecord)) (h pre : History) (n : ℕ) (x : Entry) (s : Shard) (all : List Item) (asked told : List TxId) (met : List (TxId × TxId)) (fell : List TxId) (log0 : List LogRecord) (to : ℕ) (t : TxId) (home seen : ℕ)
+    → Here splits before after h pre n x s → Leads n (run_after before) log0 all asked told met fell s → (tx_in t (requests_of pre) ≡ true → tx_in t asked ≡ true) → to ≡ s.shard → Requested pre t home → (to ≡ home → ⊥) → MayDeliver asked fell s (Prepare to t home seen)
+may_prepare splits before after h pre n x s all asked told met fell log0 to t home seen here leads among z req away = (
+  among (request_is_in pre t req.0 req.1 req.2 req.3),
   none_of (tx_get t s.requests) (λ q g. here_not (rows_get (λ r. RowFrom (Requested pre) (IsOld (run_after before)) n r.0 r.1) t q s.requests ((here.traced).origins).requests g).0),
   (λ w. false_from_ne_true _ (λ c.
       ⊎_elim (λ y. both_ways _ w y)
       here_not
-      (committed_wrote (DidOrOld (run_after before) pre n) (Requested pre) (IsOld (run_after before)) n s.local.log t ((here.traced).origins).log (from_disorder n 0 [] s.local.log (order_is_kept n (run_after before) log0 all (requests_of pre) told met fell s leads)) c))),
+      (committed_wrote (DidOrOld (run_after before) pre n) (Requested pre) (IsOld (run_after before)) n s.local.log t ((here.traced).origins).log (from_disorder n 0 [] s.local.log (order_is_kept n (run_after before) log0 all asked told met fell s leads)) c))),
 )
   where
     here_not : OwnRequest (Requested pre) (IsOld (run_after before)) n t → ⊥

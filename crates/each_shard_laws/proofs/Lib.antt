@@ -1,6 +1,7 @@
 pub mod Fallen
 pub mod Deeds
 pub mod Records
+pub mod Doubted
 pub mod Restored
 pub mod Touching
 pub mod Delivering

@@ -1,5 +1,5 @@
 -- The logs left are in order.
-use Rattle.std.proofs.Common.{◌≡◌, sym, ap, subst, ◌∙◌, ℕ, ◌<◌, cond, Bool, List, [], None, arith, append-nil}
+use Rattle.std.proofs.Common.{◌≡◌, sym, ap, subst, ◌∙◌, ℕ, ◌<◌, cond, Bool, List, [], ◌++◌, None, arith, append-nil}
 use Rattle.std.specs.Prelude.{unwrap_or}
 use Rattle.clv_base.specs.declared.logs.LogRecord.{LogRecord}
 use Rattle.clv_base.specs.Shards.{shard_count}
@@ -8,6 +8,7 @@ use Rattle.clv_base.specs.Restarts.{run_after, log_left}
 use Rattle.clv_base.specs.Journals.{History, final_of}
 use Rattle.clv_base.specs.History.{logs_left}
 use Rattle.order_laws.proofs.InOrder.{fronts_in_order}
+use Rattle.shard_laws.specs.OneShard.{found_items, found_asked, found_met}
 use Rattle.shard_laws.proofs.OrderKept.{order_is_kept}
 use Rattle.history_laws.proofs.Serials.{left_at}
 use Rattle.each_shard_laws.specs.Leading.{deeds_before, requests_of}
@@ -19,8 +20,9 @@ pub log_now : (splits : List ℕ) (before : List (List LogRecord)) (h : History)
 log_now splits before h after choice n l = left_at (final_of before h after) choice 0 (shard_count splits) n l ∙ ap (λ m. log_left (final_of before h after m) (choice m)) (omega arith)
 
 pub logs_left_are_in_order : LogsLeftAreInOrder
-logs_left_are_in_order splits before h after choice n m l d i =
+logs_left_are_in_order splits before h after choice n m l i =
     let s = final_of before h after n in
+    let log = log_of before n in
     let e = deeds_before before h after n in
-    let o = order_is_kept n (run_after before) (log_of before n) e.items (requests_of h) e.told e.met e.fell s (each_shard_leads splits before h after h [] n m l d (append-nil h) i) in
+    let o = order_is_kept n (run_after before) log (found_items n log ++ e.items) (found_asked n log ++ requests_of h) e.told (e.met ++ found_met n log) e.fell s (each_shard_leads splits before h after h [] n m l (append-nil h) i) in
     subst (λ z. disorder n z ≡ None) (sym (log_now splits before h after choice n i)) (fronts_in_order n (cond (choice n) (unwrap_or s.flight s.durable) s.durable) s.local.log o)

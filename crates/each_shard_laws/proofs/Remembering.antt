@@ -57,8 +57,8 @@ fell_more before after pre y n t (front, rest, q, inr (e, more, r, k, d)) =
 pub remembers_more : (before after : List (List LogRecord)) (pre : History) (y : Placed) (n : ℕ) (d : Deeds) → Remembers before after pre n d → Remembers before after (pre ++ y ∷ []) n d
 remembers_more before after pre y n d m =
     record {
-      items = all_mono (λ z. DidAny pre n z.tx) (λ z. DidAny (pre ++ y ∷ []) n z.tx) (λ z. did_more pre y n z.tx) d.items m.items;
-      met = λ t p e. did_more pre y n t (m.met t p e);
+      items = all_mono (λ z. DidOrOld (run_after before) pre n z.tx) (λ z. DidOrOld (run_after before) (pre ++ y ∷ []) n z.tx) (λ z. old_more (run_after before) pre y n z.tx) d.items m.items;
+      met = λ t p e. old_more (run_after before) pre y n t (m.met t p e);
       fell = λ t i. let f = m.fell t i in (old_more (run_after before) pre y n t f.0, fell_more before after pre y n t f.1);
     }
 
@@ -90,8 +90,8 @@ module _ (before after : List (List LogRecord)) (pre : History) (n : ℕ) (x : E
       let w = (now.epochs (n, x) tx b nth seen op a ep i refl e f).1 in
       (ep, (b, ((n, x), i, refl, record { seen = seen; answer = a; at = record { nth = nth; op = op; is = e }; outcome = f; saw = w })))
 
-  one_item : (e : Event) (o : Outcome) → x.event ≡ e → x.outcome ≡ o → (is : List Item) → AllByRecursion (λ z. DidAny (pre ++ (n, x) ∷ []) n z.tx) is → AllByRecursion (λ z. DidAny (pre ++ (n, x) ∷ []) n z.tx) (with_one is (new_item s e o))
-  one_item (OpEvent tx b nth seen op) (Answered a ep) q r is k = all_push (λ z. DidAny (pre ++ (n, x) ∷ []) n z.tx) is _ k (did_now tx b nth seen op a ep q r)
+  one_item : (e : Event) (o : Outcome) → x.event ≡ e → x.outcome ≡ o → (is : List Item) → AllByRecursion (λ z. DidOrOld (run_after before) (pre ++ (n, x) ∷ []) n z.tx) is → AllByRecursion (λ z. DidOrOld (run_after before) (pre ++ (n, x) ∷ []) n z.tx) (with_one is (new_item s e o))
+  one_item (OpEvent tx b nth seen op) (Answered a ep) q r is k = all_push (λ z. DidOrOld (run_after before) (pre ++ (n, x) ∷ []) n z.tx) is _ k (inl (did_now tx b nth seen op a ep q r))
   one_item (OpEvent tx b nth seen op) _ q r is k = k
   one_item (RequestEvent tx ts) o q r is k = k
   one_item (Look tx) o q r is k = k
@@ -138,7 +138,7 @@ module _ (before after : List (List LogRecord)) (pre : History) (n : ℕ) (x : E
       record {
         items = one_item x.event x.outcome refl refl d.items k.items;
         met = λ u p e. ⊎_elim
-            (λ a. let o = one_met s x.event x.outcome u p a in did_now u o.0 o.1 o.2 o.3 o.4 o.5 o.6 o.7)
+            (λ a. let o = one_met s x.event x.outcome u p a in inl (did_now u o.0 o.1 o.2 o.3 o.4 o.5 o.6 o.7))
             (λ a. k.met u p a)
             (or_cases (has_met (new_met s x.event x.outcome) u p) (has_met d.met u p) (sym (list_any-append (λ q. tx_same u q.0 && tx_same p q.1) (new_met s x.event x.outcome) d.met) ∙ e));
         fell = λ u i. ⊎_elim (λ j. fell_now x.event refl u j) (λ j. k.fell u j) (in_two (falling x.event s t) d.fell u i);

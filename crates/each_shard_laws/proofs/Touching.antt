@@ -1,5 +1,5 @@
 -- What a session's entry owes the shard: an operation, and a request.
-use Rattle.std.proofs.Common.{◌≡◌, inl, inr, refl, sym, ap, subst, ◌∙◌, ℕ, true, false, cond, Bool, List, [], ◌∷◌, Option, Some, None, arith, eqb-true}
+use Rattle.std.proofs.Common.{◌≡◌, inl, inr, ⊎_elim, refl, sym, ap, subst, ◌∙◌, ℕ, true, false, cond, Bool, List, [], ◌∷◌, ◌++◌, Option, Some, None, arith, eqb-true}
 use Rattle.std.specs.List.{AllByRecursion}
 use Rattle.std.proofs.lemmas.Bool.{false_from_ne_true}
 use Rattle.clv_base.specs.declared.names.TxId.{TxId}
@@ -22,6 +22,7 @@ use Rattle.law_base.specs.Items.{Item}
 use Rattle.law_base.proofs.Rows.{rows_get}
 use Rattle.protocol_laws.specs.SessionLaws.{tx_of}
 use Rattle.shard_laws.specs.OneShard.{items_of, has_met, MayTouch, MayAsk}
+use Rattle.shard_laws.proofs.Leaving.{in_two}
 use Rattle.history_laws.proofs.Staying.{walker_of}
 use Rattle.file_laws.proofs.Walking.{Behind}
 use Rattle.origin_laws.proofs.Sessions.{Requested, turn_of, same_epoch, op_no_request, request_no_request}
@@ -41,18 +42,25 @@ pub record Here (splits : List ℕ) (before after : List (List LogRecord)) (h pr
   pub behind : Behind h pre (n, x)
   pub traced : Traced (run_after before) pre n s
 
--- what the shard did was of operations that it answered
+-- what the shard did was of operations that it answered, or of transactions of earlier runs
 pub record Remembers (before after : List (List LogRecord)) (pre : History) (n : ℕ) (d : Deeds) : Type 0 where
-  pub items : AllByRecursion (λ y. DidAny pre n y.tx) d.items
-  pub met : (t p : TxId) → has_met d.met t p ≡ true → DidAny pre n t
+  pub items : AllByRecursion (λ y. DidOrOld (run_after before) pre n y.tx) d.items
+  pub met : (t p : TxId) → has_met d.met t p ≡ true → DidOrOld (run_after before) pre n t
   pub fell : (t : TxId) → tx_in t d.fell ≡ true → DidOrOld (run_after before) pre n t × FellOn before pre after n t
 
 unasked : (run : ℕ) (pre : History) (t : TxId) → t.run ≡ run → ((m : ℕ) → Requested pre t m → ⊥) → SomeRequest (Requested pre) (IsOld run) t → ⊥
 unasked run pre t r f (inl (m, q)) = f m q
 unasked run pre t r f (inr o) = omega (arith, o, r)
 
-pub not_asked : (pre : History) (t : TxId) → ((m : ℕ) → Requested pre t m → ⊥) → tx_in t (requests_of pre) ≡ false
-not_asked pre t f = false_from_ne_true _ (λ i. let y = made_request pre t i in f (y.0).0 (y.0, y.1, y.2, y.3, refl))
+-- who asked so far made a request, or is of an earlier run
+abbrev pub AskedFrom : ℕ → History → List TxId → Type 0
+AskedFrom run pre asked = (t : TxId) → tx_in t asked ≡ true → SomeRequest (Requested pre) (IsOld run) t
+
+pub asked_from : (run : ℕ) (pre : History) (found : List TxId) → ((t : TxId) → tx_in t found ≡ true → IsOld run t) → AskedFrom run pre (found ++ requests_of pre)
+asked_from run pre found old t i = ⊎_elim (λ j. inr (old t j)) (λ j. let y = made_request pre t j in inl ((y.0).0, (y.0, y.1, y.2, y.3, refl))) (in_two found (requests_of pre) t i)
+
+pub not_asked : (run : ℕ) (pre : History) (asked : List TxId) (t : TxId) → AskedFrom run pre asked → t.run ≡ run → ((m : ℕ) → Requested pre t m → ⊥) → tx_in t asked ≡ false
+not_asked run pre asked t a r f = false_from_ne_true _ (λ i. unasked run pre t r f (a t i))
 
 pub none_of : {V : Type 0} (o : Option V) → ((v : V) → o ≡ Some v → ⊥) → o ≡ None
 none_of None k = refl
@@ -60,9 +68,9 @@ none_of (Some v) k = absurd (k v refl)
 
 -- ---- a request
 
-pub may_ask : (splits : List ℕ) (before after : List (List LogRecord)) (h pre : History) (n : ℕ) (x : Entry) (s : Shard) (t : TxId) (ts : List (ℕ × ℕ)) → Here splits before after h pre n x s → x.event ≡ RequestEvent t ts → MayAsk (requests_of pre) s t
-may_ask splits before after h pre n x s t ts here e = (
-  not_asked pre t first,
+pub may_ask : (splits : List ℕ) (before after : List (List LogRecord)) (h pre : History) (n : ℕ) (x : Entry) (s : Shard) (asked : List TxId) (t : TxId) (ts : List (ℕ × ℕ)) → Here splits before after h pre n x s → AskedFrom (run_after before) pre asked → x.event ≡ RequestEvent t ts → MayAsk asked s t
+may_ask splits before after h pre n x s asked t ts here from e = (
+  not_asked (run_after before) pre asked t from of_run first,
   (λ v g. none (away_some (Requested pre) (IsOld run) n t (rows_get (λ r. AwayRequest (Requested pre) (IsOld run) n r.0) t v s.voters (k.origins).voters g))),
   none_of (tx_get t s.requests) (λ q g. none (own_some (Requested pre) (IsOld run) n t (rows_get (λ r. RowFrom (Requested pre) (IsOld run) n r.0 r.1) t q s.requests (k.origins).requests g).0)),
   of_run ∙ sym k.run_is,
@@ -85,12 +93,12 @@ may_ask splits before after h pre n x s t ts here e = (
 
 -- ---- an operation
 
-idle : (pre : History) (n : ℕ) (t : TxId) (all : List Item) → AllByRecursion (λ y. DidAny pre n y.tx) all → (DidAny pre n t → ⊥) → items_of t all ≡ []
-idle pre n t [] a k = refl
-idle pre n t (y ∷ ys) a k = at (tx_same y.tx t) refl (idle pre n t ys a.1 k)
+idle : (run : ℕ) (pre : History) (n : ℕ) (t : TxId) (all : List Item) → AllByRecursion (λ y. DidOrOld run pre n y.tx) all → (DidOrOld run pre n t → ⊥) → items_of t all ≡ []
+idle run pre n t [] a k = refl
+idle run pre n t (y ∷ ys) a k = at (tx_same y.tx t) refl (idle run pre n t ys a.1 k)
   where
     at : (b : Bool) → tx_same y.tx t ≡ b → items_of t ys ≡ [] → cond b (y ∷ items_of t ys) (items_of t ys) ≡ []
-    at true e q = absurd (k (subst (DidAny pre n) (tx_true y.tx t e) a.0))
+    at true e q = absurd (k (subst (DidOrOld run pre n) (tx_true y.tx t e) a.0))
     at false e q = q
 
 module _ (splits : List ℕ) (before after : List (List LogRecord)) (h pre : History) (n : ℕ) (x : Entry) (s : Shard) (t : TxId) (birth : Birth) (nth : ℕ) (seen : Option ℕ) (op : Op) (here : Here splits before after h pre n x s) (e : x.event ≡ OpEvent t birth nth seen op) where
@@ -122,23 +130,23 @@ module _ (splits : List ℕ) (before after : List (List LogRecord)) (h pre : His
       absurd (none (prepared_from (DidOrOld (run_after before) pre n) (Requested pre) (IsOld (run_after before)) n s.local.log ((here.traced).origins).log t (rows_get (λ y. (y.1).is_restored ≡ true → prepared_in s.local.log y.0 ≡ true) t p s.local.parts r g q)).1)
   birth_is p false q r g d = (earlier p.birth s.local.epoch d).1
 
-  pub may_touch : (d : Deeds) → Remembers before after pre n d → RestoredArePrepared s.local → MayTouch d.items (requests_of pre) d.met d.fell s t birth seen
-  may_touch d m r =
+  pub may_touch : (d : Deeds) (asked : List TxId) → AskedFrom (run_after before) pre asked → Remembers before after pre n d → RestoredArePrepared s.local → MayTouch d.items asked d.met d.fell s t birth seen
+  may_touch d asked from m r =
       record {
         of_run = of_run ∙ sym (here.traced).run_is;
         not_closed = λ c. none (part_of n s.local.epoch _ _ _ _ _ s t Closed (here.traced).origins c).3;
-        not_asked = λ f. not_asked pre t first;
+        not_asked = λ f. not_asked (run_after before) pre asked t from of_run first;
         fresh = λ f g.
-            let k = no_did f g in
+            let k = no_old (no_did f g) in
             let log = ((here.traced).origins).log in
             record {
-              unwritten = false_from_ne_true _ (λ c. no_old k (wrote_from (DidOrOld (run_after before) pre n) (Requested pre) (IsOld (run_after before)) n s.local.log log t c));
-              unprepared = false_from_ne_true _ (λ c. no_old k (prepared_from (DidOrOld (run_after before) pre n) (Requested pre) (IsOld (run_after before)) n s.local.log log t c).0);
+              unwritten = false_from_ne_true _ (λ c. k (wrote_from (DidOrOld (run_after before) pre n) (Requested pre) (IsOld (run_after before)) n s.local.log log t c));
+              unprepared = false_from_ne_true _ (λ c. k (prepared_from (DidOrOld (run_after before) pre n) (Requested pre) (IsOld (run_after before)) n s.local.log log t c).0);
               uncommitted = false_from_ne_true _ (λ c. none (committed_from (DidOrOld (run_after before) pre n) (Requested pre) (IsOld (run_after before)) n s.local.log log t c));
-              unaborted = false_from_ne_true _ (λ c. no_old k (aborted_from (DidOrOld (run_after before) pre n) (Requested pre) (IsOld (run_after before)) n s.local.log log t c));
-              idle = idle pre n t d.items m.items k;
+              unaborted = false_from_ne_true _ (λ c. k (aborted_from (DidOrOld (run_after before) pre n) (Requested pre) (IsOld (run_after before)) n s.local.log log t c));
+              idle = idle (run_after before) pre n t d.items m.items k;
               unmet = λ p z. k (m.met t p z);
-              unfallen = false_from_ne_true _ (λ c. no_old k (m.fell t c).0);
+              unfallen = false_from_ne_true _ (λ c. k (m.fell t c).0);
             };
         same_birth = λ p g.
             let q = rows_get (λ y. PartFrom (Did pre n s.local.epoch) (SomeRequest (Requested pre) (IsOld (run_after before))) y.0 y.1) t p s.local.parts ((here.traced).origins).parts g in

@@ -13,8 +13,7 @@ use Rattle.clv_base.specs.Restarts.{run_after}
 use Rattle.clv_base.specs.Journals.{History, journal_of, start_of, after_entry}
 use Rattle.clv_base.specs.History.{Legal, request_of, state_before}
 use Rattle.law_base.specs.Items.{Item}
-use Rattle.fall_laws.specs.Falls.{OpensClear}
-use Rattle.shard_laws.specs.OneShard.{Leads, with_one, new_item, new_told, new_met, doomed_in, left_out}
+use Rattle.shard_laws.specs.OneShard.{Leads, with_one, new_item, new_told, new_met, doomed_in, left_out, found_items, found_asked, found_met}
 
 -- ---- what a shard did
 
@@ -57,10 +56,10 @@ requests_of (e ∷ es) = elim (request_of (e.1).event (e.1).outcome) [ Some t �
 
 -- ---- the laws of one shard hold of each
 
--- from logs that leave nothing in doubt
+-- where whom its log left in doubt acted, asked and met before
 abbrev pub EachShardLeads : Type 0
 EachShardLeads =
     (splits : List ℕ) (before : List (List LogRecord)) (h : History) (after : List (List LogRecord)) (so_far rest : History) (n : ℕ)
-    → may_open splits before ≡ true → Legal splits before h after → OpensClear splits before → so_far ++ rest ≡ h → n < shard_count splits
-    → Leads n (run_after before) (log_of before n) (deeds_before before so_far after n).items (requests_of so_far) (deeds_before before so_far after n).told
-    (deeds_before before so_far after n).met (deeds_before before so_far after n).fell (state_before before so_far after n)
+    → may_open splits before ≡ true → Legal splits before h after → so_far ++ rest ≡ h → n < shard_count splits
+    → Leads n (run_after before) (log_of before n) (found_items n (log_of before n) ++ (deeds_before before so_far after n).items) (found_asked n (log_of before n) ++ requests_of so_far) (deeds_before before so_far after n).told
+    ((deeds_before before so_far after n).met ++ found_met n (log_of before n)) (deeds_before before so_far after n).fell (state_before before so_far after n)

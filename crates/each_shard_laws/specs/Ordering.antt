@@ -6,12 +6,11 @@ use Rattle.clv_base.specs.LogRules.{log_of, disorder}
 use Rattle.clv_base.specs.FileRules.{may_open}
 use Rattle.clv_base.specs.Journals.{History}
 use Rattle.clv_base.specs.History.{Legal, logs_left}
-use Rattle.fall_laws.specs.Falls.{OpensClear}
 
--- where nothing was in doubt at opening, whatever a crash keeps, the log left on each shard is in order
+-- whatever a crash keeps, the log left on each shard is in order
 abbrev pub LogsLeftAreInOrder : Type 0
 LogsLeftAreInOrder =
     (splits : List ℕ) (before : List (List LogRecord)) (h : History) (after : List (List LogRecord)) (choice : ℕ → Bool) (n : ℕ)
-    → may_open splits before ≡ true → Legal splits before h after → OpensClear splits before
+    → may_open splits before ≡ true → Legal splits before h after
     → n < shard_count splits
     → disorder n (log_of (logs_left splits before h after choice) n) ≡ None

@@ -5,8 +5,8 @@ ghost use Rattle.each_shard_laws.specs.Ordering.{LogsLeftAreInOrder};
 ghost use Rattle.each_shard_laws.specs.Settling.{QuietShardsAreTheirMaps};
 ghost use Rattle.each_shard_laws.specs.Telling.{DeedsAreTold};
 
-/// After each front of a legal history from logs that leave nothing in doubt, each shard is one that the laws of one shard lead there: with the
-/// operations that it answered, and in the order of all requests on any shard.
+/// After each front of a legal history each shard is one that the laws of one shard lead there: with the operations that it answered, and in
+/// the order of all requests on any shard, after those that its log left in doubt when it was opened.
 pub fn each_shard_leads()
     ensures { EachShardLeads }
 {}

@@ -34,7 +34,7 @@ use Rattle.each_shard_laws.specs.Leading.{deeds_before, requests_of}
 use Rattle.each_shard_laws.proofs.Deeds.{request_is_in}
 use Rattle.each_shard_laws.proofs.Delivering.{committed_wrote}
 use Rattle.each_shard_laws.proofs.Fallen.{fell_is}
-use Rattle.each_shard_laws.proofs.Leading.{at_front}
+use Rattle.each_shard_laws.proofs.Leading.{at_front, leads_clear}
 use Rattle.each_shard_laws.proofs.Records.{wrote_from}
 use Rattle.each_shard_laws.proofs.Remembering.{part_did, none_present}
 use Rattle.each_shard_laws.proofs.Restored.{restored_prepared}
@@ -53,7 +53,7 @@ module _ (splits : List ℕ) (before : List (List LogRecord)) (h : History) (aft
 
   -- who never fell is none of the fallen that the shard counts
   uncounted : (Fell before h after n t → ⊥) → tx_in t (deeds_before before h after n).fell ≡ false
-  uncounted k = false_from_ne_true _ (λ f. k (fell_is before h after n t (((at_front splits before h after h [] n o l c (append-nil h) i).remembers).fell t f).1))
+  uncounted k = false_from_ne_true _ (λ f. k (fell_is before h after n t (((at_front splits before h after h [] n o l (append-nil h) i).remembers).fell t f).1))
 
   -- ---- who voted read
 
@@ -97,7 +97,7 @@ module _ (splits : List ℕ) (before : List (List LogRecord)) (h : History) (aft
     s = final_of before h after n
 
     leads : Leads n (run_after before) (log_of before n) (deeds_before before h after n).items (requests_of h) (deeds_before before h after n).told (deeds_before before h after n).met (deeds_before before h after n).fell (final_of before h after n)
-    leads = (at_front splits before h after h [] n o l c (append-nil h) i).leads
+    leads = leads_clear splits before h after h [] n o l c (append-nil h) i
 
     traced : Traced (run_after before) h n (final_of before h after n)
     traced = (traced_front splits before after h h [] o l (append-nil h)).states n i
@@ -125,5 +125,5 @@ module _ (splits : List ℕ) (before : List (List LogRecord)) (h : History) (aft
           uncommitted = false_from_ne_true _ (λ k. ⊎_elim (λ w. not_there (wrote_from A Q O n s.local.log log t w)) (λ r. not_its_home r)
               (committed_wrote A Q O n s.local.log t log (from_disorder n 0 [] s.local.log (order_is_kept n (run_after before) (log_of before n) d.items (requests_of h) d.told d.met d.fell s leads)) k));
           absent = false_from_ne_true _ (λ p. not_there (part_did (run_after before) h n s t (stage_of s.local t) traced (restored_prepared n (run_after before) (log_of before n) d.items (requests_of h) d.told d.met d.fell s leads) refl (none_present (stage_of s.local t) p)));
-          unfallen = false_from_ne_true _ (λ f. not_there (((at_front splits before h after h [] n o l c (append-nil h) i).remembers).fell t f).0);
+          unfallen = false_from_ne_true _ (λ f. not_there (((at_front splits before h after h [] n o l (append-nil h) i).remembers).fell t f).0);
         }

@@ -152,7 +152,7 @@ none_of_earlier splits before n left t o d p w =
 pub wrote_at_opening : (splits : List ℕ) (before : List (List LogRecord)) (h : History) (after : List (List LogRecord)) (choice : ℕ → Bool) (n : ℕ) (t : TxId) → may_open splits before ≡ true → Legal splits before h after → OpensClear splits before → n < shard_count splits
     → t.run < run_after before → wrote_in (log_of (logs_left splits before h after choice) n) t ≡ true → wrote_in (log_of before n) t ≡ true
 wrote_at_opening splits before h after choice n t m l c i o w =
-    none_of_earlier splits before n (log_of (logs_left splits before h after choice) n) t o (logs_left_are_in_order splits before h after choice n m l c i)
+    none_of_earlier splits before n (log_of (logs_left splits before h after choice) n) t o (logs_left_are_in_order splits before h after choice n m l i)
     (subst (IsPrefixOf (log_after_restart n (log_of before n) (run_after before) 0)) (sym (log_now splits before h after choice n i)) (left_begins splits before h after (choice n) n l i)) w
 
 -- who is committed in the log found at opening is so in what is left

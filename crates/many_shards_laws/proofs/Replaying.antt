@@ -28,7 +28,7 @@ use Rattle.fate_laws.specs.Members.{is_member}
 use Rattle.fate_laws.proofs.Deciding.{commits_are_members}
 use Rattle.fall_laws.specs.Falls.{OpensClear}
 use Rattle.each_shard_laws.specs.Leading.{deeds_before, requests_of}
-use Rattle.each_shard_laws.proofs.Leading.{each_shard_leads}
+use Rattle.each_shard_laws.proofs.Leading.{leads_clear}
 use Rattle.each_shard_laws.proofs.Ordering.{log_now}
 use Rattle.each_shard_laws.proofs.Telling.{deeds_are_told}
 use Rattle.replay_by_shards.specs.Shares.{all_ops, parts_on, share_of, ReplaysTo}
@@ -58,7 +58,7 @@ module _ (splits : List ℕ) (before : List (List LogRecord)) (h : History) (aft
 
   pub leads : (n : ℕ) → n < shard_count splits
       → Leads n (run_after before) (log_of before n) (deeds_before before h after n).items (requests_of h) (deeds_before before h after n).told (deeds_before before h after n).met (deeds_before before h after n).fell (final_of before h after n)
-  leads n i = each_shard_leads splits before h after h [] n o l c (append-nil h) i
+  leads n i = leads_clear splits before h after h [] n o l c (append-nil h) i
 
   pub fronts : (n : ℕ) → n < shard_count splits → Fronts (start_of before n) (final_of before h after n)
   fronts n i = fronts_entries (log_of after n) (start_of before n) (journal_of n h) (opened_counted n (run_after before) (log_of before n)) (l.runs n i)

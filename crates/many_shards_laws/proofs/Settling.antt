@@ -28,7 +28,7 @@ use Rattle.law_base.specs.Items.{Item}
 use Rattle.law_base.proofs.Lists.{all_mono}
 use Rattle.law_base.proofs.Rows.{rows_get}
 use Rattle.law_base.proofs.Tables.{stage_by}
-use Rattle.history_laws.proofs.Merging.{Among, among_is, is_among}
+use Rattle.history_laws.proofs.Merging.{Among, among_is}
 use Rattle.shard_laws.proofs.Doubting.{prepared_cut}
 use Rattle.shard_laws.specs.OneShard.{Leads}
 use Rattle.shard_laws.proofs.Histories.{held}
@@ -49,9 +49,8 @@ use Rattle.each_shard_laws.proofs.Records.{wrote_from}
 use Rattle.each_shard_laws.proofs.Fallen.{fell_is}
 use Rattle.each_shard_laws.proofs.Leading.{at_front}
 use Rattle.each_shard_laws.proofs.Settling.{left_whole, quiet_shards_are_their_maps}
-use Rattle.unfallen_laws.proofs.Sparing.{in_others, bound_unaborted, yes_voters_never_fell}
 use Rattle.unfallen_laws.proofs.Going.{aborted_take}
-use Rattle.fate_laws.proofs.Casting.{casts_front}
+use Rattle.unfallen_laws.proofs.Sparing.{in_others, yes_voters_never_fell, yes_voters_unaborted}
 use Rattle.unfallen_laws.proofs.Naming.{requests_name_their_shards}
 use Rattle.unfallen_laws.proofs.Voting.{members_are_voted_for}
 use Rattle.replay_by_shards.specs.Shares.{share_of, in_turn}
@@ -60,7 +59,7 @@ use Rattle.many_shards_laws.specs.Settling.{ReadersWroteNothing, SettledIsTheMap
 use Rattle.many_shards_laws.proofs.Homes.{committed_here}
 use Rattle.many_shards_laws.proofs.Shares.{fold_writers, wrote_record, wrote_within, at_somewhere, somewhere_at, same_test}
 use Rattle.many_shards_laws.proofs.Earlier.{wrote_at_opening, committed_still, committed_at_opening}
-use Rattle.many_shards_laws.proofs.Replaying.{left_length, leads, fronts, left_is, within, left_run, wrote_last}
+use Rattle.many_shards_laws.proofs.Replaying.{left_length, leads, left_is, within, left_run, wrote_last}
 
 -- ---- a part that is here on a quiet shard is committed
 
@@ -89,7 +88,7 @@ module _ (splits : List ℕ) (before : List (List LogRecord)) (h : History) (aft
       fallen : tx_in t (deeds_before before h after n).fell ≡ true → ⊥
       fallen f =
           yes_voters_never_fell splits before h after choice m n k x home t o l j i run a v left
-          (fell_is before h after n t (((at_front splits before h after h [] n o l c (append-nil h) i).remembers).fell t f).1)
+          (fell_is before h after n t (((at_front splits before h after h [] n o l (append-nil h) i).remembers).fell t f).1)
 
       at : (b d : Bool) → committed_in (final_of before h after n).local.log t ≡ b → is_present (stage_of (final_of before h after n).local t) ≡ d → committed_in (final_of before h after n).local.log t ≡ true
       at true d e p = e
@@ -99,9 +98,8 @@ module _ (splits : List ℕ) (before : List (List LogRecord)) (h : History) (aft
           let d = deeds_before before h after n in
           let b = held n (run_after before) (log_of before n) d.items (requests_of h) d.told d.met d.fell s (leads splits before h after choice o l c n i) in
           let bound = votes_bind splits before h [] after k x home n t Yes o (subst (λ z. Legal splits before z after) (sym (append-nil h)) l) i a v in
-          let bound_to = (casts_front splits before after h h [] o l (append-nil h)).cast (k, x) home n t Yes (is_among k x h a) v in
           absurd
-          (⊎_elim (λ f. fallen (subst (λ z. tx_in t z ≡ true) b.8 (⊎_elim (λ y. y) (λ y. b.9 t y) f))) (λ r. bound_unaborted splits before h after choice m n t o l j i run left bound_to.1 (aborted_take s.durable s.local.log t r))
+          (⊎_elim (λ f. fallen (subst (λ z. tx_in t z ≡ true) b.8 (⊎_elim (λ y. y) (λ y. b.9 t y) f))) (λ r. yes_voters_unaborted splits before h after choice m n k x home t o l j i run a v left (aborted_take s.durable s.local.log t r))
           (b.1.falls.gone t (prepared_cut s.durable s.local.log t (bound.0).0) e p))
 
   by_vote : (n m k home : ℕ) (x : Entry) (v : Vote) (t : TxId) → n < shard_count splits → m < shard_count splits → t.run ≡ run_after before → wrote_in (final_of before h after n).local.log t ≡ true → IsAmong k x h → x.outcome ≡ Sent (VoteMessage home t n v) → is_good (Some v) ≡ true
@@ -163,7 +161,7 @@ module _ (splits : List ℕ) (before : List (List LogRecord)) (h : History) (aft
   live_is_share : (n : ℕ) → n < shard_count splits → live_pairs (final_of before h after n).local.records ≡ share_of (logs_left splits before h after choice) n
   live_is_share n i =
       let left = logs_left splits before h after choice in
-      quiet_shards_are_their_maps splits before h after choice n o l c i (quiet n i)
+      quiet_shards_are_their_maps splits before h after choice n o l i (quiet n i)
       ∙ sym (fold_writers (committed_somewhere left) (committed_somewhere (log_of left n ∷ [])) (log_of left n) [] (λ t w. writers_committed n t i w))
 
 turns_alike : (f g : ℕ → KeyMap) (count n k : ℕ) → n + k ≡ count → ((j : ℕ) → j < count → f j ≡ g j) → in_turn f n k ≡ in_turn g n k

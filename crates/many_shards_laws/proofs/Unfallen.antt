@@ -126,4 +126,4 @@ module _ (splits : List ℕ) (before : List (List LogRecord)) (h : History) (aft
       by_reason p e open_ ahead (inr (inr (inr (q, k, inr z)))) = both_ways _ z.1 (named p e q k)
 
   pub unfallen : tx_in t (deeds_before before h after n).fell ≡ false
-  unfallen = false_from_ne_true _ (λ f. never_out (fell_out splits before after h n t o l i (((at_front splits before h after h [] n o l c (append-nil h) i).remembers).fell t f).1))
+  unfallen = false_from_ne_true _ (λ f. never_out (fell_out splits before after h n t o l i (((at_front splits before h after h [] n o l (append-nil h) i).remembers).fell t f).1))

@@ -4,7 +4,6 @@ use Rattle.std.proofs.lemmas.Bool.{both_ways, false_from_ne_true}
 use Rattle.clv_base.specs.declared.names.TxId.{TxId}
 use Rattle.clv_base.specs.declared.logs.LogRecord.{LogRecord}
 use Rattle.clv_base.specs.Orders.{nat_in}
-use Rattle.clv_base.specs.LogRules.{log_of}
 use Rattle.clv_base.specs.Shards.{shard_count}
 use Rattle.clv_base.specs.FileRules.{may_open}
 use Rattle.clv_base.specs.Undo.{stage_of}
@@ -18,11 +17,10 @@ use Rattle.origin_laws.proofs.Entries.{DidOrOld, traced_front}
 use Rattle.fate_laws.specs.Decisions.{IsHome, is_left}
 use Rattle.fate_laws.proofs.Deciding.{commits_stand_at_home}
 use Rattle.fate_laws.proofs.Prefixes.{one_home}
-use Rattle.fall_laws.specs.Falls.{Fell, OpensClear}
-use Rattle.each_shard_laws.specs.Leading.{deeds_before, requests_of}
-use Rattle.each_shard_laws.proofs.Leading.{each_shard_leads}
+use Rattle.fall_laws.specs.Falls.{Fell}
+use Rattle.each_shard_laws.proofs.Leading.{restored_front}
 use Rattle.each_shard_laws.proofs.Remembering.{part_did, none_doomed, none_present}
-use Rattle.each_shard_laws.proofs.Restored.{RestoredArePrepared, restored_prepared}
+use Rattle.each_shard_laws.proofs.Restored.{RestoredArePrepared}
 use Rattle.unfallen_laws.proofs.Naming.{requests_name_their_shards}
 use Rattle.unfallen_laws.proofs.Reading.{only_readers_may_fall}
 use Rattle.reader_laws.specs.Passing.{ReadersPass}
@@ -53,11 +51,9 @@ readers_never_fell splits before h after m k to x tx o l i j q f = ((passing_fro
 
 -- ---- who fell was answered there
 
-module _ (splits : List ℕ) (before : List (List LogRecord)) (h : History) (after : List (List LogRecord)) (m : ℕ) (tx : TxId) (o : may_open splits before ≡ true) (l : Legal splits before h after) (c : OpensClear splits before) (j : m < shard_count splits) where
+module _ (splits : List ℕ) (before : List (List LogRecord)) (h : History) (after : List (List LogRecord)) (m : ℕ) (tx : TxId) (o : may_open splits before ≡ true) (l : Legal splits before h after) (j : m < shard_count splits) where
   restored : (front rest : History) → front ++ rest ≡ h → RestoredArePrepared (state_at before after m front).local
-  restored front rest q =
-      let d = deeds_before before front after m in
-      restored_prepared m (run_after before) (log_of before m) d.items (requests_of front) d.told d.met d.fell (state_at before after m front) (each_shard_leads splits before h after front rest m o l c q j)
+  restored front rest q = restored_front splits before h after front rest m o l q j
 
   did_later : (front rest : History) → front ++ rest ≡ h → DidOrOld (run_after before) front m tx → DidOrOld (run_after before) h m tx
   did_later front rest q (inl (ep, (b, (y, i, p, a)))) = inl (ep, (b, (y, subst (Among y) q (among_left y front rest i), p, a)))
@@ -75,7 +71,7 @@ module _ (splits : List ℕ) (before : List (List LogRecord)) (h : History) (aft
 -- ---- members
 
 pub members_never_fell : MembersNeverFell
-members_never_fell splits before h after choice n m tx o l c i j run left f = by_home k.1
+members_never_fell splits before h after choice n m tx o l i j run left f = by_home k.1
   where
     k : (home : ℕ) × IsHome h tx home × (is_left splits before h after choice home tx ≡ true)
     k = commits_stand_at_home splits before h after choice n tx o l i run left
@@ -87,5 +83,5 @@ members_never_fell splits before h after choice n m tx o l c i j run left f = by
 
     by_home : IsHome h tx k.0 → ⊥
     by_home r =
-        let v = only_readers_may_fall splits before h after choice n m k.0 r.0 r.1 tx o l i j r.2 r.3 r.4 (named k.0 r (fell_did splits before h after m tx o l c j f)) left f in
+        let v = only_readers_may_fall splits before h after choice n m k.0 r.0 r.1 tx o l i j r.2 r.3 r.4 (named k.0 r (fell_did splits before h after m tx o l j f)) left f in
         readers_never_fell splits before h after m v.0 v.2 v.1 tx o l j v.3 v.4 f

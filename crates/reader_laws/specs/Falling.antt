@@ -12,7 +12,7 @@ use Rattle.clv_base.specs.Restarts.{run_after}
 use Rattle.clv_base.specs.Journals.{History}
 use Rattle.clv_base.specs.History.{Legal, IsAmong}
 use Rattle.fate_laws.specs.Decisions.{is_left}
-use Rattle.fall_laws.specs.Falls.{Fell, OpensClear}
+use Rattle.fall_laws.specs.Falls.{Fell}
 
 -- where a shard voted read on a transaction, its part there never fell, before the vote or after it
 abbrev pub ReadersNeverFell : Type 0
@@ -25,5 +25,5 @@ ReadersNeverFell =
 abbrev pub MembersNeverFell : Type 0
 MembersNeverFell =
     (splits : List ℕ) (before : List (List LogRecord)) (h : History) (after : List (List LogRecord)) (choice : ℕ → Bool) (n m : ℕ) (tx : TxId)
-    → may_open splits before ≡ true → Legal splits before h after → OpensClear splits before → n < shard_count splits → m < shard_count splits → tx.run ≡ run_after before
+    → may_open splits before ≡ true → Legal splits before h after → n < shard_count splits → m < shard_count splits → tx.run ≡ run_after before
     → is_left splits before h after choice n tx ≡ true → Fell before h after m tx → ⊥

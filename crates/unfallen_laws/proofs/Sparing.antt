@@ -10,7 +10,10 @@ use Rattle.clv_base.specs.Orders.{nat_in, tx_in}
 use Rattle.clv_base.specs.Logs.{committed_in, aborted_in, prepare_of}
 use Rattle.clv_base.specs.Restarts.{run_after, log_left}
 use Rattle.clv_base.specs.Journals.{History}
-use Rattle.clv_base.specs.History.{Legal}
+use Rattle.clv_base.specs.declared.messages.Message.TheVariants.{Vote as VoteMessage}
+use Rattle.clv_base.specs.declared.events.Outcome.TheVariants.{Sent}
+use Rattle.clv_base.specs.declared.events.Entry.{Entry}
+use Rattle.clv_base.specs.History.{Legal, IsAmong}
 use Rattle.protocol_laws.specs.SessionLaws.{tx_of}
 use Rattle.history_laws.proofs.Merging.{Among, is_among, among_is}
 use Rattle.history_laws.proofs.Staying.{walker_of}
@@ -100,6 +103,12 @@ pub yes_voters_never_fell : YesVotersNeverFell
 yes_voters_never_fell splits before h after choice n m k e home tx o l i j run a sent left f =
     let b = (casts_front splits before after h h [] o l (append-nil h)).cast (k, e) home m tx Yes (is_among k e h a) sent in
     bound_never_fell splits before h after choice n m tx o l i j run left b.1 f
+
+pub yes_voters_unaborted : (splits : List ℕ) (before : List (List LogRecord)) (h : History) (after : List (List LogRecord)) (choice : ℕ → Bool) (n m k : ℕ) (e : Entry) (home : ℕ) (tx : TxId) → may_open splits before ≡ true → Legal splits before h after → n < shard_count splits → m < shard_count splits → tx.run ≡ run_after before
+    → IsAmong k e h → e.outcome ≡ Sent (VoteMessage home tx m Yes) → is_left splits before h after choice n tx ≡ true → aborted_in (state_at before after m h).local.log tx ≡ true → ⊥
+yes_voters_unaborted splits before h after choice n m k e home tx o l i j run a sent left f =
+    let b = (casts_front splits before after h h [] o l (append-nil h)).cast (k, e) home m tx Yes (is_among k e h a) sent in
+    bound_unaborted splits before h after choice n m tx o l i j run left b.1 f
 
 pub prepared_members_never_fell : PreparedMembersNeverFell
 prepared_members_never_fell splits before h after choice n m home e touched tx o l i j a ev out there left prep f = at (m == home) refl
