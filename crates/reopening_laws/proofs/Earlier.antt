@@ -30,10 +30,9 @@ use Rattle.ending_laws.proofs.Ended.{part_below, ended_are_committed}
 use Rattle.each_shard_laws.proofs.Ordering.{log_now}
 use Rattle.many_shards_laws.proofs.Homes.{home_of}
 use Rattle.many_shards_laws.proofs.Earlier.{LastFrom, last_next, opened_last, follows_behind, none_of_earlier}
-use Rattle.reopening_laws.specs.Reopening.{InOrder}
 use Rattle.reopening_laws.proofs.Agreeing.{HomeIs, HasHome, PartIs, home_from, part_here, part_from}
 use Rattle.reopening_laws.proofs.Keeping.{update_is, commit_is, wrote_or_committed, home_behind, all_committed}
-use Rattle.reopening_laws.proofs.Left.{left_length, in_length, left_opened, left_grows, left_aborted}
+use Rattle.reopening_laws.proofs.Left.{InOrder, left_length, in_length, left_opened, left_grows, left_aborted}
 
 -- ---- a COMMIT behind the RESTART of a later run is of one that is prepared
 

@@ -48,10 +48,9 @@ use Rattle.unfallen_laws.proofs.Naming.{requests_name_their_shards}
 use Rattle.unfallen_laws.proofs.Sparing.{in_others, bound_never_out}
 use Rattle.reader_laws.proofs.Committing.{committed_by}
 use Rattle.reader_laws.proofs.Readers.{readers_pass}
-use Rattle.reopening_laws.specs.Reopening.{InOrder}
 use Rattle.reopening_laws.proofs.Agreeing.{HomeIs, PartIs, part_here}
 use Rattle.reopening_laws.proofs.Keeping.{wrote_or_committed, wrote_take}
-use Rattle.reopening_laws.proofs.Left.{left_length, left_aborted}
+use Rattle.reopening_laws.proofs.Left.{InOrder, left_length, left_aborted}
 
 -- the home is none of the others
 not_home : (home : ℕ) (xs : List ℕ) → nat_in home (filter (λ p. not (p == home)) xs) ≡ true → ⊥

@@ -21,14 +21,13 @@ use Rattle.origin_laws.proofs.Origins.{SomeRequest}
 use Rattle.origin_laws.proofs.Entries.{DidOrOld, IsOld, traced_front}
 use Rattle.fate_laws.specs.Decisions.{is_left}
 use Rattle.fate_laws.proofs.Deciding.{left_committed, commits_stand_at_home}
-use Rattle.fall_laws.specs.Falls.{OpensClear}
 use Rattle.file_laws.proofs.Passing.{logs_left_pass}
 use Rattle.ending_laws.proofs.Ends.{parts_there}
 use Rattle.each_shard_laws.proofs.Ordering.{logs_left_are_in_order}
 use Rattle.each_shard_laws.proofs.Records.{committed_from}
-use Rattle.reopening_laws.specs.Reopening.{InOrder, OrderedLogsAgree, LogsLeftAgree, LogsLeftMayBeOpened}
+use Rattle.reopening_laws.specs.Reopening.{LogsLeftAgree, LogsLeftMayBeOpened}
 use Rattle.reopening_laws.proofs.Agreeing.{HasHome, agree, all_logs}
-use Rattle.reopening_laws.proofs.Left.{left_length}
+use Rattle.reopening_laws.proofs.Left.{InOrder, left_length}
 use Rattle.reopening_laws.proofs.Earlier.{earlier_home}
 use Rattle.reopening_laws.proofs.Here.{home_here}
 
@@ -55,20 +54,17 @@ module _ (splits : List ℕ) (before : List (List LogRecord)) (h : History) (aft
       by_run (inl (k, (r, ts, j, q, p))) = here n t i (walker_of splits before after h r t l j (ap tx_of q.0)).0 w
       by_run (inr old) = earlier_home splits before h after choice t o l orders old n i w
 
-pub ordered_logs_agree : OrderedLogsAgree
-ordered_logs_agree splits before h after choice o l orders =
-    agree (logs_left splits before h after choice) (λ n t i w. has_home splits before h after choice o l orders n t (let e = left_length splits before h after choice in omega (arith, i, e)) w)
-
-in_order : (splits : List ℕ) (before : List (List LogRecord)) (h : History) (after : List (List LogRecord)) (choice : ℕ → Bool) → may_open splits before ≡ true → Legal splits before h after → OpensClear splits before → InOrder splits before h after choice
-in_order splits before h after choice o l c n i = logs_left_are_in_order splits before h after choice n o l c i
+in_order : (splits : List ℕ) (before : List (List LogRecord)) (h : History) (after : List (List LogRecord)) (choice : ℕ → Bool) → may_open splits before ≡ true → Legal splits before h after → InOrder splits before h after choice
+in_order splits before h after choice o l n i = logs_left_are_in_order splits before h after choice n o l i
 
 pub logs_left_agree : LogsLeftAgree
-logs_left_agree splits before h after choice o l c = ordered_logs_agree splits before h after choice o l (in_order splits before h after choice o l c)
+logs_left_agree splits before h after choice o l =
+    agree (logs_left splits before h after choice) (λ n t i w. has_home splits before h after choice o l (in_order splits before h after choice o l) n t (let e = left_length splits before h after choice in omega (arith, i, e)) w)
 
 pub logs_left_may_be_opened : LogsLeftMayBeOpened
-logs_left_may_be_opened splits before h after choice o l c =
+logs_left_may_be_opened splits before h after choice o l =
     let left = logs_left splits before h after choice in
-    and_from (all_logs_from 0 (log_passes splits) left) _ (all_logs (log_passes splits) 0 left one) (ap is_none (logs_left_agree splits before h after choice o l c))
+    and_from (all_logs_from 0 (log_passes splits) left) _ (all_logs (log_passes splits) 0 left one) (ap is_none (logs_left_agree splits before h after choice o l))
   where
     one : (n : ℕ) → n < length (logs_left splits before h after choice) → log_passes splits (0 + n) (log_of (logs_left splits before h after choice) n) ≡ true
     one n i =
@@ -76,4 +72,4 @@ logs_left_may_be_opened splits before h after choice o l c =
         let e = left_length splits before h after choice in
         let j : n < shard_count splits = omega (arith, i, e) in
         and_from _ _ (each_passes (λ k log. list_all (passes_file_rules splits k) log) 0 n left (logs_left_pass splits before h after choice o l) i)
-        (subst (λ k. is_none (disorder k (log_of left n)) ≡ true) (omega arith) (ap is_none (in_order splits before h after choice o l c n j)))
+        (subst (λ k. is_none (disorder k (log_of left n)) ≡ true) (omega arith) (ap is_none (in_order splits before h after choice o l n j)))
