@@ -14,7 +14,7 @@ use Rattle.clv_base.specs.Orders.{tx_in, nat_in}
 use Rattle.clv_base.specs.Coordinator.{others}
 use Rattle.clv_base.specs.Shards.{shard_count}
 use Rattle.clv_base.specs.FileRules.{may_open}
-use Rattle.clv_base.specs.Logs.{committed_in, prepared_in, prepare_of, in_doubt}
+use Rattle.clv_base.specs.Logs.{committed_in, aborted_in, prepared_in, prepare_of, in_doubt}
 use Rattle.clv_base.specs.LogRules.{log_of, listed_in}
 use Rattle.clv_base.specs.State.{Shard}
 use Rattle.clv_base.specs.Restarts.{run_after, log_left}
@@ -56,8 +56,14 @@ module _ (splits : List ℕ) (before : List (List LogRecord)) (h : History) (aft
   bound_to : Bindings splits before after h h
   bound_to = bindings_front splits before after h h [] o l (append-nil h)
 
+  -- ---- its part is there still
+
   home_of : (p : ℕ × List TxId) → prepare_of (final_of before h after n).local.log t ≡ Some p → p.0 ≡ home
   home_of p k = let y = ((bound_to.fated).homed n i).prepares t p k run_is in one_home splits before after h t p.0 home y.0 e y.1 touched l y.2 y.3 (is_among home e h a) (ev, out)
+
+  -- no ABORT of it is in the log
+  unaborted : Bound (final_of before h after n) t → aborted_in (final_of before h after n).local.log t ≡ true → ⊥
+  unaborted b k = bound_unaborted splits before h after choice home n t o l inside i run_is left b k
 
   -- ---- in what is left
 
@@ -72,7 +78,7 @@ module _ (splits : List ℕ) (before : List (List LogRecord)) (h : History) (aft
       let log = log_left s (choice n) in
       let p = left_prepare b in
       doubted log n log [] t b.listed p (subst (λ m. (n == m) ≡ false) (sym (home_of b.listed (front_prepare s.durable s.local.log t b.listed b.prepare))) away) k
-      (false_from_ne_true _ (λ z. bound_unaborted splits before h after choice home n t o l inside i run_is left b (aborted_take (cond (choice n) (unwrap_or s.flight s.durable) s.durable) s.local.log t z)))
+      (false_from_ne_true _ (λ z. unaborted b (aborted_take (cond (choice n) (unwrap_or s.flight s.durable) s.durable) s.local.log t z)))
       (subst (λ (z : Option (ℕ × List TxId)). list_all (committed_in log) (elim z [ Some y ↦ y.1 | None ↦ [] ]) ≡ true) p listed)
 
   pub yes_is_here : (k : ℕ) (x : Entry) (to : ℕ) → IsAmong k x h → x.outcome ≡ Sent (VoteMessage to t n Yes) → nat_in n (others home touched) ≡ true → IsHere splits before h after choice n t

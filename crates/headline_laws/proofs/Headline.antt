@@ -9,9 +9,9 @@ use Rattle.headline_laws.specs.Settling.{SettledIsTheMap}
 use Rattle.headline_laws.proofs.Found.{members_are_found}
 
 pub predecessors_stand_before : PredecessorsStandBefore
-predecessors_stand_before splits before h after choice n t p o l c i k = predecessors_stand_before_where_here splits before h after choice n t p o l c i k (members_are_found splits before h after choice n t o l c i k)
+predecessors_stand_before splits before h after choice n t p o l i k = predecessors_stand_before_where_here splits before h after choice n t p o l i k (members_are_found splits before h after choice n t o l i k)
 
 pub settled_is_the_map : SettledIsTheMap
-settled_is_the_map splits before h after choice o l c quiet =
-    settled_is_the_map_where_readers_wrote_nothing splits before h after choice o l c
+settled_is_the_map splits before h after choice o l quiet =
+    settled_is_the_map_where_readers_wrote_nothing splits before h after choice o l
     (λ n k home e t i a v. (readers_pass splits before h [] after k e home n t o (subst (λ z. Legal splits before z after) (sym (append-nil h)) l) i a v).0) quiet

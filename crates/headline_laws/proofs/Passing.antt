@@ -1,5 +1,5 @@
 -- Who passes on a shard: who voted read there, who only read at its home, and whom its request doesn't name.
-use Rattle.std.proofs.Common.{◌≡◌, inl, inr, ⊎_elim, refl, sym, ap, subst, ◌∙◌, ℕ, ◌<◌, true, false, List, [], ◌++◌, map, arith, append-nil}
+use Rattle.std.proofs.Common.{◌≡◌, inl, inr, ⊎_elim, refl, sym, ap, subst, ◌∙◌, ℕ, ◌<◌, true, false, List, [], ◌++◌, map, None, arith, append-nil}
 use Rattle.std.proofs.lemmas.Bool.{both_ways, false_from_ne_true}
 use Rattle.clv_base.specs.declared.names.TxId.{TxId}
 use Rattle.clv_base.specs.declared.causes.Vote.TheVariants.{Read}
@@ -12,7 +12,7 @@ use Rattle.clv_base.specs.Orders.{tx_in, nat_in}
 use Rattle.clv_base.specs.Shards.{shard_count}
 use Rattle.clv_base.specs.FileRules.{may_open}
 use Rattle.clv_base.specs.Logs.{wrote_in, committed_in}
-use Rattle.clv_base.specs.LogRules.{log_of}
+use Rattle.clv_base.specs.LogRules.{log_of, disorder}
 use Rattle.clv_base.specs.State.{Shard, is_present}
 use Rattle.clv_base.specs.Undo.{stage_of}
 use Rattle.clv_base.specs.Restarts.{run_after}
@@ -21,7 +21,7 @@ use Rattle.clv_base.specs.History.{Legal, IsAmong}
 use Rattle.protocol_laws.specs.SessionLaws.{tx_of}
 use Rattle.history_laws.proofs.Merging.{Among, is_among, among_is}
 use Rattle.history_laws.proofs.Staying.{walker_of}
-use Rattle.shard_laws.specs.OneShard.{Leads, Passes}
+use Rattle.shard_laws.specs.OneShard.{Passes, found_items, found_asked, found_met}
 use Rattle.shard_laws.proofs.Following.{from_disorder}
 use Rattle.shard_laws.proofs.OrderKept.{order_is_kept}
 use Rattle.origin_laws.proofs.Sessions.{Requested}
@@ -29,21 +29,20 @@ use Rattle.origin_laws.proofs.Origins.{OwnRequest}
 use Rattle.origin_laws.proofs.Entries.{DidAny, DidOrOld, IsOld, Traced, traced_front}
 use Rattle.fate_laws.proofs.Prefixes.{one_home}
 use Rattle.fate_laws.proofs.Voting.{votes_bind}
-use Rattle.fall_laws.specs.Falls.{Fell, OpensClear}
+use Rattle.fall_laws.specs.Falls.{Fell}
 use Rattle.each_shard_laws.specs.Leading.{deeds_before, requests_of}
 use Rattle.each_shard_laws.proofs.Deeds.{request_is_in}
 use Rattle.each_shard_laws.proofs.Delivering.{committed_wrote}
 use Rattle.each_shard_laws.proofs.Fallen.{fell_is}
-use Rattle.each_shard_laws.proofs.Leading.{at_front, leads_clear}
+use Rattle.each_shard_laws.proofs.Leading.{at_front, each_shard_leads, restored_front}
 use Rattle.each_shard_laws.proofs.Records.{wrote_from}
 use Rattle.each_shard_laws.proofs.Remembering.{part_did, none_present}
-use Rattle.each_shard_laws.proofs.Restored.{restored_prepared}
 use Rattle.unfallen_laws.proofs.Naming.{requests_name_their_shards}
 use Rattle.reader_laws.proofs.Readers.{readers_pass}
 use Rattle.reader_laws.proofs.Readers.{readers_never_fell}
 use Rattle.acknowledged_laws.specs.Acknowledged.{OnlyRead}
 
-module _ (splits : List ℕ) (before : List (List LogRecord)) (h : History) (after : List (List LogRecord)) (o : may_open splits before ≡ true) (l : Legal splits before h after) (c : OpensClear splits before) (n : ℕ) (i : n < shard_count splits)
+module _ (splits : List ℕ) (before : List (List LogRecord)) (h : History) (after : List (List LogRecord)) (o : may_open splits before ≡ true) (l : Legal splits before h after) (n : ℕ) (i : n < shard_count splits)
     (t : TxId) (home : ℕ) (e : Entry) (touched : List (ℕ × ℕ)) (a : IsAmong home e h) (ev : e.event ≡ RequestEvent t touched) (out : e.outcome ≡ Asked) where
   run_is : t.run ≡ run_after before
   run_is = (walker_of splits before after h (home, e) t l (is_among home e h a) (ap tx_of ev)).0
@@ -96,8 +95,11 @@ module _ (splits : List ℕ) (before : List (List LogRecord)) (h : History) (aft
     abbrev s : Shard
     s = final_of before h after n
 
-    leads : Leads n (run_after before) (log_of before n) (deeds_before before h after n).items (requests_of h) (deeds_before before h after n).told (deeds_before before h after n).met (deeds_before before h after n).fell (final_of before h after n)
-    leads = leads_clear splits before h after h [] n o l c (append-nil h) i
+    ordered : disorder n (final_of before h after n).local.log ≡ None
+    ordered =
+        let d = deeds_before before h after n in
+        let found = log_of before n in
+        order_is_kept n (run_after before) found (found_items n found ++ d.items) (found_asked n found ++ requests_of h) d.told (d.met ++ found_met n found) d.fell s (each_shard_leads splits before h after h [] n o l (append-nil h) i)
 
     traced : Traced (run_after before) h n (final_of before h after n)
     traced = (traced_front splits before after h h [] o l (append-nil h)).states n i
@@ -117,13 +119,12 @@ module _ (splits : List ℕ) (before : List (List LogRecord)) (h : History) (aft
 
     pub unnamed_passes : Passes (requests_of h) (deeds_before before h after n).fell (final_of before h after n) t
     unnamed_passes =
-        let d = deeds_before before h after n in
         let log = (traced.origins).log in
         record {
           has_asked = asked;
           unwritten = false_from_ne_true _ (λ w. not_there (wrote_from A Q O n s.local.log log t w));
           uncommitted = false_from_ne_true _ (λ k. ⊎_elim (λ w. not_there (wrote_from A Q O n s.local.log log t w)) (λ r. not_its_home r)
-              (committed_wrote A Q O n s.local.log t log (from_disorder n 0 [] s.local.log (order_is_kept n (run_after before) (log_of before n) d.items (requests_of h) d.told d.met d.fell s leads)) k));
-          absent = false_from_ne_true _ (λ p. not_there (part_did (run_after before) h n s t (stage_of s.local t) traced (restored_prepared n (run_after before) (log_of before n) d.items (requests_of h) d.told d.met d.fell s leads) refl (none_present (stage_of s.local t) p)));
+              (committed_wrote A Q O n s.local.log t log (from_disorder n 0 [] s.local.log ordered) k));
+          absent = false_from_ne_true _ (λ p. not_there (part_did (run_after before) h n s t (stage_of s.local t) traced (restored_front splits before h after h [] n o l (append-nil h) i) refl (none_present (stage_of s.local t) p)));
           unfallen = false_from_ne_true _ (λ f. not_there (((at_front splits before h after h [] n o l (append-nil h) i).remembers).fell t f).0);
         }

@@ -15,7 +15,7 @@ pub fn members_replay()
     ensures { MembersReplay }
 {}
 
-/// Whose write a member violated, on any shard, is a member at an earlier place.
+/// Whose write a member violated, on any shard, is a member at an earlier place, or some log found has its COMMIT.
 pub fn predecessors_stand_before()
     ensures { PredecessorsStandBefore }
 {}

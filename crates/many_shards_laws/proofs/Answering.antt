@@ -1,6 +1,7 @@
 -- A shard's own operations of the members are what it did, by its deeds.
-use Rattle.std.proofs.Common.{◌≡◌, refl, sym, ap, ◌∙◌, ℕ, true, false, cond, Bool, ◌==◌, List, [], ◌∷◌, map, Option, Some, None}
-use Rattle.std.specs.List.{filter}
+use Rattle.std.proofs.Common.{◌≡◌, refl, sym, ap, subst, ◌∙◌, ℕ, true, false, cond, Bool, ◌==◌, List, [], ◌∷◌, ◌++◌, map, Option, Some, None}
+use Rattle.std.specs.List.{AllByRecursion, filter}
+use Rattle.std.proofs.lemmas.Bool.{or_left, or_right}
 use Rattle.clv_base.specs.declared.names.TxId.{TxId}
 use Rattle.clv_base.specs.declared.ops.Op.{Op}
 use Rattle.clv_base.specs.declared.ops.Answer.{Answer}
@@ -8,9 +9,10 @@ use Rattle.clv_base.specs.declared.events.Event.{Event}
 use Rattle.clv_base.specs.declared.events.Event.TheVariants.{Op as OpEvent, Request as RequestEvent, Look, Drop, Send, Deliver, Remind, FlushOut, FlushIn, Stop, Restart}
 use Rattle.clv_base.specs.declared.events.Outcome.{Outcome}
 use Rattle.clv_base.specs.declared.events.Outcome.TheVariants.{Answered}
-use Rattle.clv_base.specs.Orders.{tx_same}
+use Rattle.clv_base.specs.Orders.{tx_same, tx_in}
 use Rattle.clv_base.specs.Journals.{History}
 use Rattle.clv_base.specs.History.{Member, answered_op, ops_in}
+use Rattle.clv_base.proofs.SameNames.{tx_true, tx_self}
 use Rattle.law_base.specs.Items.{Item}
 use Rattle.shard_laws.specs.OneShard.{items_of, ops_by, answers_by}
 use Rattle.each_shard_laws.specs.Telling.{own_entries}
@@ -107,3 +109,35 @@ part_answers n h all [] k = refl
 part_answers n h all (m ∷ ms) k =
     ap (λ l. l ∷ all_answers (parts_on n (member_ops h ms))) (sym (answers_told (on_shard n (shard_ops_in m.tx h))) ∙ ap (map (λ p. p.1)) (own_told m.tx n h ∙ sym (k m.tx)) ∙ item_answers (items_of m.tx all))
     ∙ ap (λ l. map (λ x. x.answer) (items_of m.tx all) ∷ l) (part_answers n h all ms k)
+
+-- ---- who did nothing of the first operations did those that came after
+
+items_more : (t : TxId) (xs ys : List Item) → items_of t xs ≡ [] → items_of t (xs ++ ys) ≡ items_of t ys
+items_more t [] ys e = refl
+items_more t (x ∷ xs) ys e = at (tx_same x.tx t) e (items_more t xs ys)
+  where
+    at : (b : Bool) → cond b (x ∷ items_of t xs) (items_of t xs) ≡ [] → (items_of t xs ≡ [] → items_of t (xs ++ ys) ≡ items_of t ys) → cond b (x ∷ items_of t (xs ++ ys)) (items_of t (xs ++ ys)) ≡ items_of t ys
+    at true e k = absurd cc
+    at false e k = k e
+
+abbrev pub AllIdle : List TxId → List Item → Type 0
+AllIdle ts xs = (t : TxId) → tx_in t ts ≡ true → items_of t xs ≡ []
+
+pub ops_later : (ts : List TxId) (xs ys : List Item) → AllIdle ts xs → ops_by ts (xs ++ ys) ≡ ops_by ts ys
+ops_later [] xs ys k = refl
+ops_later (t ∷ ts) xs ys k =
+    ap (λ l. map (λ x. x.op) l ∷ ops_by ts (xs ++ ys)) (items_more t xs ys (k t (or_left (tx_same t t) _ (tx_self t)))) ∙ ap (λ l. map (λ x. x.op) (items_of t ys) ∷ l) (ops_later ts xs ys (λ u i. k u (or_right (tx_same t u) _ i)))
+
+pub answers_later : (ts : List TxId) (xs ys : List Item) → AllIdle ts xs → answers_by ts (xs ++ ys) ≡ answers_by ts ys
+answers_later [] xs ys k = refl
+answers_later (t ∷ ts) xs ys k =
+    ap (λ l. map (λ x. x.answer) l ∷ answers_by ts (xs ++ ys)) (items_more t xs ys (k t (or_left (tx_same t t) _ (tx_self t)))) ∙ ap (λ l. map (λ x. x.answer) (items_of t ys) ∷ l) (answers_later ts xs ys (λ u i. k u (or_right (tx_same t u) _ i)))
+
+-- whose operations are of others
+pub idle_among : (P : TxId → Type 0) (t : TxId) (xs : List Item) → AllByRecursion (λ x. P x.tx) xs → (P t → ⊥) → items_of t xs ≡ []
+idle_among P t [] a n = refl
+idle_among P t (x ∷ xs) a n = at (tx_same x.tx t) refl (idle_among P t xs a.1 n)
+  where
+    at : (b : Bool) → tx_same x.tx t ≡ b → items_of t xs ≡ [] → cond b (x ∷ items_of t xs) (items_of t xs) ≡ []
+    at true e k = absurd (n (subst P (tx_true x.tx t e) a.0))
+    at false e k = k

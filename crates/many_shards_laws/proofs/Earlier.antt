@@ -1,42 +1,33 @@
 -- Of the transactions of earlier runs: what is left of them stood in the logs at opening.
-use Rattle.std.proofs.Common.{◌≡◌, ⊎_elim, inl, refl, sym, ap, subst, ◌∙◌, ℕ, ◌≤◌, ◌<◌, ◌+◌, true, false, cond, not, Bool, ◌&&◌, ◌||◌, ◌==◌, nat_lt, List, [], ◌∷◌, ◌++◌, map, Option, Some, None, is_none, length, arith, append-nil, append_assoc, eqb-true, ltb-true}
-use Rattle.std.specs.Prelude.{unwrap_or}
-use Rattle.std.specs.List.{filter, list_all}
+use Rattle.std.proofs.Common.{◌≡◌, ⊎_elim, refl, sym, ap, subst, ◌∙◌, ℕ, ◌≤◌, ◌<◌, true, false, cond, not, Bool, ◌&&◌, ◌||◌, ◌==◌, nat_lt, List, [], ◌∷◌, ◌++◌, map, Option, Some, None, length, arith, append-nil, append_assoc, eqb-true, ltb-true}
+use Rattle.std.specs.List.{filter}
 use Rattle.std.proofs.lemmas.Bool.{both_ways, and_parts, or_cases, false_from_ne_true}
 use Rattle.std.proofs.lemmas.List.{take_all}
 use Rattle.clv_base.specs.declared.names.TxId.{TxId}
 use Rattle.clv_base.specs.declared.logs.LogRecord.{LogRecord}
 use Rattle.clv_base.specs.declared.logs.LogRecord.TheVariants.{Update, Clr, Prepare, Commit, Abort, End, Restart}
 use Rattle.clv_base.specs.Orders.{tx_in}
-use Rattle.clv_base.specs.Logs.{is_update_of, wrote_in, committed_in, aborted_in, in_doubt, standing, StandingUpdate}
-use Rattle.clv_base.specs.LogRules.{log_of, last_restart, above_restarts, in_last_run, may_follow, disorder, all_logs_from, apart}
+use Rattle.clv_base.specs.Logs.{is_update_of, wrote_in, committed_in, aborted_in, committed_somewhere, standing, StandingUpdate}
+use Rattle.clv_base.specs.LogRules.{log_of, last_restart, above_restarts, in_last_run, may_follow, disorder}
 use Rattle.clv_base.specs.Shards.{shard_count}
-use Rattle.clv_base.specs.FileRules.{may_open, log_passes, passes_file_rules}
-use Rattle.clv_base.specs.State.{is_present}
+use Rattle.clv_base.specs.FileRules.{may_open}
 use Rattle.clv_base.specs.Undo.{clrs_of, newest_lsn}
-use Rattle.clv_base.specs.Restarts.{run_after, log_left, losers, undo_records, restart_records, restored_parts, log_after_restart}
+use Rattle.clv_base.specs.Restarts.{run_after, log_left, losers, undo_records, restart_records, log_after_restart}
 use Rattle.clv_base.specs.Journals.{History, start_of, final_of, journal_of}
 use Rattle.clv_base.specs.History.{Legal, logs_left}
 use Rattle.clv_base.proofs.SameNames.{tx_true}
-use Rattle.law_base.proofs.Tables.{stage_in}
 use Rattle.law_base.proofs.Changed.{none_some, some_same}
 use Rattle.order_laws.proofs.Records.{front}
 use Rattle.protocol_laws.specs.Growth.{IsPrefixOf}
 use Rattle.protocol_laws.proofs.Growing.{chain, more}
 use Rattle.shard_laws.proofs.Following.{Follows, Plainly, from_disorder, last_push, last_new}
-use Rattle.shard_laws.proofs.Listing.{order_of}
-use Rattle.shard_laws.proofs.Rebuilding.{found_more, plain_restart}
-use Rattle.shard_laws.proofs.Renewing.{found_self}
 use Rattle.shard_laws.proofs.Changes.{wrote_append}
-use Rattle.shard_laws.proofs.Cutting.{cut_keeps}
 use Rattle.history_laws.proofs.Durability.{fronts_entries, opened_counted, left_front}
-use Rattle.history_laws.proofs.Uncommitting.{opening_adds}
-use Rattle.history_laws.proofs.OldRuns.{each_passes}
 use Rattle.history_laws.proofs.Serials.{committed_front}
-use Rattle.fall_laws.specs.Falls.{OpensClear}
-use Rattle.fall_laws.proofs.Falling.{WasOut, stands_front}
+use Rattle.fate_laws.proofs.Deciding.{left_committed}
+use Rattle.earlier_laws.proofs.Earlier.{earlier_commits_are_of_opening}
 use Rattle.each_shard_laws.proofs.Ordering.{log_now, logs_left_are_in_order}
-use Rattle.many_shards_laws.proofs.Homes.{none_of}
+use Rattle.many_shards_laws.proofs.Shares.{at_somewhere}
 
 -- ---- no UPDATE behind the RESTART of a run is of an earlier one
 
@@ -149,9 +140,9 @@ none_of_earlier splits before n left t o d p w =
     (or_cases (wrote_in opened t) (wrote_in p.0 t) (sym (wrote_append opened p.0 t) ∙ ap (λ z. wrote_in z t) p.1 ∙ w))
 
 -- who is of an earlier run and wrote in what is left on a shard wrote there in the log found at opening
-pub wrote_at_opening : (splits : List ℕ) (before : List (List LogRecord)) (h : History) (after : List (List LogRecord)) (choice : ℕ → Bool) (n : ℕ) (t : TxId) → may_open splits before ≡ true → Legal splits before h after → OpensClear splits before → n < shard_count splits
+pub wrote_at_opening : (splits : List ℕ) (before : List (List LogRecord)) (h : History) (after : List (List LogRecord)) (choice : ℕ → Bool) (n : ℕ) (t : TxId) → may_open splits before ≡ true → Legal splits before h after → n < shard_count splits
     → t.run < run_after before → wrote_in (log_of (logs_left splits before h after choice) n) t ≡ true → wrote_in (log_of before n) t ≡ true
-wrote_at_opening splits before h after choice n t m l c i o w =
+wrote_at_opening splits before h after choice n t m l i o w =
     none_of_earlier splits before n (log_of (logs_left splits before h after choice) n) t o (logs_left_are_in_order splits before h after choice n m l i)
     (subst (IsPrefixOf (log_after_restart n (log_of before n) (run_after before) 0)) (sym (log_now splits before h after choice n i)) (left_begins splits before h after (choice n) n l i)) w
 
@@ -165,39 +156,11 @@ committed_still splits before h after choice n t l i c =
 
 -- ---- no transaction of an earlier run is committed anew
 
-log_follows : (splits : List ℕ) (before : List (List LogRecord)) (n : ℕ) → may_open splits before ≡ true → n < length before → Follows n [] (log_of before n)
-log_follows splits before n m l =
-    let p = and_parts (all_logs_from 0 (log_passes splits) before) (is_none (apart before)) m in
-    let q = each_passes (log_passes splits) 0 n before p.0 l in
-    let d = none_of (disorder (0 + n) (log_of before n)) (and_parts (list_all (passes_file_rules splits (0 + n)) (log_of before n)) _ q).1 in
-    subst (λ k. Follows k [] (log_of before n)) (omega arith) (from_disorder (0 + n) 0 [] (log_of before n) d)
-
-clear_parts : (splits : List ℕ) (before : List (List LogRecord)) (n : ℕ) → may_open splits before ≡ true → n < length before → in_doubt n (log_of before n) ≡ [] → (start_of before n).local.parts ≡ []
-clear_parts splits before n m l c =
-    let log = log_of before n in
-    let f = found_more n log log (restart_records n log (run_after before) 0) (found_self n log (order_of n log (log_follows splits before n m l))) (plain_restart n log (run_after before) 0) in
-    ap restored_parts (f.doubts ∙ c)
-
-was_out : (splits : List ℕ) (before : List (List LogRecord)) (h : History) (after : List (List LogRecord)) (n : ℕ) (t : TxId) → may_open splits before ≡ true → Legal splits before h after → OpensClear splits before → n < shard_count splits → t.run < run_after before
-    → committed_in (log_of before n) t ≡ false → WasOut before after h n t
-was_out splits before h after n t m l c i o f = (
-  [],
-  h,
-  refl,
-  (
-    subst (λ ps. is_present (stage_in ps t) ≡ false) (sym (clear_parts splits before n m (let e = (l.each_log).0 in omega (arith, e, i)) (c n i))) refl,
-    false_from_ne_true _ (λ z. both_ways _ f (opening_adds n (log_of before n) (run_after before) 0 t z)),
-    inl (λ q. absurd (omega (arith, q, o))),
-  ),
-)
-
-pub committed_at_opening : (splits : List ℕ) (before : List (List LogRecord)) (h : History) (after : List (List LogRecord)) (choice : ℕ → Bool) (n : ℕ) (t : TxId) → may_open splits before ≡ true → Legal splits before h after → OpensClear splits before → n < shard_count splits
-    → t.run < run_after before → committed_in (log_of (logs_left splits before h after choice) n) t ≡ true → committed_in (log_of before n) t ≡ true
-committed_at_opening splits before h after choice n t m l c i o w = at (committed_in (log_of before n) t) refl
-  where
-    at : (b : Bool) → committed_in (log_of before n) t ≡ b → committed_in (log_of before n) t ≡ true
-    at true e = e
-    at false e =
-        let s = final_of before h after n in
-        let k = stands_front splits before after h h [] m l (append-nil h) n i in
-        absurd (both_ways _ ((k.barred).open_ t (was_out splits before h after n t m l c i o e)) (cut_keeps (cond (choice n) (unwrap_or s.flight s.durable) s.durable) s.local.log t (subst (λ z. committed_in z t ≡ true) (log_now splits before h after choice n i) w)))
+-- who is of an earlier run and is committed in what is left was so in some log at opening
+pub somewhere_at_opening : (splits : List ℕ) (before : List (List LogRecord)) (h : History) (after : List (List LogRecord)) (choice : ℕ → Bool) (n : ℕ) (t : TxId) → may_open splits before ≡ true → Legal splits before h after → n < shard_count splits
+    → t.run < run_after before → committed_in (log_of (logs_left splits before h after choice) n) t ≡ true → committed_somewhere before t ≡ true
+somewhere_at_opening splits before h after choice n t m l i o w =
+    let c =
+    earlier_commits_are_of_opening splits before h [] after n t m (subst (λ z. Legal splits before z after) (sym (append-nil h)) l) i (λ e. absurd (omega (arith, e, o)))
+    (left_committed splits before h after choice n t i w) in
+    at_somewhere before c.0 t c.1

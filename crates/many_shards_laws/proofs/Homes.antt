@@ -1,5 +1,5 @@
--- Who is committed somewhere in logs that may be opened, and has a record in a log that leaves nothing in doubt, is committed there.
-use Rattle.std.proofs.Common.{◌≡◌, ⊎_elim, refl, sym, subst, ℕ, zero, suc, ◌+◌, ◌<◌, true, false, cond, Bool, not, ◌&&◌, ◌||◌, ◌==◌, List, [], ◌∷◌, Option, Some, None, is_none, is_some, length, arith, eqb-true}
+-- Who is committed somewhere in logs that may be opened, and has a record in a log, is committed there, or in doubt.
+use Rattle.std.proofs.Common.{◌≡◌, ◌⊎◌, inl, inr, ⊎_elim, refl, sym, subst, ℕ, zero, suc, ◌+◌, ◌<◌, true, false, cond, Bool, not, ◌&&◌, ◌||◌, ◌==◌, List, [], ◌∷◌, Option, Some, None, is_none, is_some, length, arith, eqb-true}
 use Rattle.std.specs.List.{list_any, list_all}
 use Rattle.std.proofs.lemmas.Bool.{both_ways, and_parts, and_from, or_cases, or_left}
 use Rattle.clv_base.specs.declared.names.TxId.{TxId}
@@ -149,22 +149,24 @@ part_agreed logs t h n ps l a r q =
     named false true c n i v = v
     named false false c n i v = absurd (both_ways false refl i)
 
-part_committed : (logs : List (List LogRecord)) (t : TxId) (h n : ℕ) (ps : List ℕ) → n < length logs → commit_parts (log_of logs h) t ≡ Some ps → agrees_at logs t h (log_of logs h) ps ≡ true → in_doubt n (log_of logs n) ≡ []
-    → list_any (is_record_of t) (log_of logs n) ≡ true → committed_in (log_of logs n) t ≡ true
-part_committed logs t h n ps l c a clear r = at (n == h) refl
-  where
-    away : (b : Bool) → committed_in (log_of logs n) t ≡ b → (n == h) ≡ false → committed_in (log_of logs n) t ≡ true
-    away true e q = e
-    away false e q = absurd (both_ways false refl (subst (λ ts. tx_in t ts ≡ true) clear (part_doubted t h n (log_of logs n) (prepare_of (log_of logs n) t) refl q e (part_agreed logs t h n ps l a r q))))
+-- its COMMIT is there, or it is in doubt
+abbrev pub Known : List (List LogRecord) → ℕ → TxId → Type 0
+Known logs n t = (committed_in (log_of logs n) t ≡ true) ⊎ (tx_in t (in_doubt n (log_of logs n)) ≡ true)
 
-    at : (b : Bool) → (n == h) ≡ b → committed_in (log_of logs n) t ≡ true
-    at true q = subst (λ k. committed_in (log_of logs k) t ≡ true) (sym (eqb-true n h q)) (parts_committed (log_of logs h) t ps c)
+part_known : (logs : List (List LogRecord)) (t : TxId) (h n : ℕ) (ps : List ℕ) → n < length logs → commit_parts (log_of logs h) t ≡ Some ps → agrees_at logs t h (log_of logs h) ps ≡ true → list_any (is_record_of t) (log_of logs n) ≡ true → Known logs n t
+part_known logs t h n ps l c a r = at (n == h) refl
+  where
+    away : (b : Bool) → committed_in (log_of logs n) t ≡ b → (n == h) ≡ false → Known logs n t
+    away true e q = inl e
+    away false e q = inr (part_doubted t h n (log_of logs n) (prepare_of (log_of logs n) t) refl q e (part_agreed logs t h n ps l a r q))
+
+    at : (b : Bool) → (n == h) ≡ b → Known logs n t
+    at true q = inl (subst (λ k. committed_in (log_of logs k) t ≡ true) (sym (eqb-true n h q)) (parts_committed (log_of logs h) t ps c))
     at false q = away (committed_in (log_of logs n) t) refl q
 
-by_home : (logs : List (List LogRecord)) (t : TxId) (h n : ℕ) (o : Option (List ℕ)) → n < length logs → commit_parts (log_of logs h) t ≡ o → elim o [ Some ps ↦ agrees_at logs t h (log_of logs h) ps | None ↦ false ] ≡ true → in_doubt n (log_of logs n) ≡ []
-    → list_any (is_record_of t) (log_of logs n) ≡ true → committed_in (log_of logs n) t ≡ true
-by_home logs t h n None l c a clear r = absurd (both_ways false refl a)
-by_home logs t h n (Some ps) l c a clear r = part_committed logs t h n ps l c a clear r
+by_home : (logs : List (List LogRecord)) (t : TxId) (h n : ℕ) (o : Option (List ℕ)) → n < length logs → commit_parts (log_of logs h) t ≡ o → elim o [ Some ps ↦ agrees_at logs t h (log_of logs h) ps | None ↦ false ] ≡ true → list_any (is_record_of t) (log_of logs n) ≡ true → Known logs n t
+by_home logs t h n None l c a r = absurd (both_ways false refl a)
+by_home logs t h n (Some ps) l c a r = part_known logs t h n ps l c a r
 
 -- who is committed in some log has a home
 pub home_of : (splits : List ℕ) (logs : List (List LogRecord)) (m : ℕ) (t : TxId) → may_open splits logs ≡ true → committed_in (log_of logs m) t ≡ true → (h : ℕ) × (is_home_of logs t h (log_of logs h) ≡ true)
@@ -176,6 +178,5 @@ home_of splits logs m t o c =
     zero_plus : (m : ℕ) → 0 + m ≡ m
     zero_plus m = omega arith
 
-pub committed_here : (splits : List ℕ) (logs : List (List LogRecord)) (n m : ℕ) (t : TxId) → may_open splits logs ≡ true → n < length logs → in_doubt n (log_of logs n) ≡ [] → list_any (is_record_of t) (log_of logs n) ≡ true → committed_in (log_of logs m) t ≡ true
-    → committed_in (log_of logs n) t ≡ true
-committed_here splits logs n m t o l clear r c = let a = home_of splits logs m t o c in by_home logs t a.0 n (commit_parts (log_of logs a.0) t) l refl a.1 clear r
+pub known_here : (splits : List ℕ) (logs : List (List LogRecord)) (n m : ℕ) (t : TxId) → may_open splits logs ≡ true → n < length logs → list_any (is_record_of t) (log_of logs n) ≡ true → committed_in (log_of logs m) t ≡ true → Known logs n t
+known_here splits logs n m t o l r c = let a = home_of splits logs m t o c in by_home logs t a.0 n (commit_parts (log_of logs a.0) t) l refl a.1 r

@@ -1,6 +1,7 @@
 pub mod Homes
 pub mod Shares
 pub mod Earlier
+pub mod Found
 pub mod Answering
 pub mod Members
 pub mod Replaying

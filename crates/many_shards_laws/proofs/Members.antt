@@ -1,11 +1,11 @@
 -- Who the members of a legal history are, among its requests and among those that wrote on a shard.
-use Rattle.std.proofs.Common.{◌≡◌, inl, inr, ⊎_elim, refl, sym, ap, subst, ◌∙◌, ℕ, ◌<◌, true, false, cond, Bool, ◌||◌, List, [], ◌∷◌, map, Option, Some, None}
+use Rattle.std.proofs.Common.{◌≡◌, ◌⊎◌, inl, inr, ⊎_elim, refl, sym, ap, subst, ◌∙◌, ℕ, ◌<◌, true, false, cond, Bool, ◌&&◌, ◌||◌, arith, List, [], ◌∷◌, map, Option, Some, None}
 use Rattle.std.specs.List.{filter}
-use Rattle.std.proofs.lemmas.Bool.{both_ways, or_cases, or_left, or_right}
+use Rattle.std.proofs.lemmas.Bool.{both_ways, and_parts, and_from, or_cases, or_left, or_right}
 use Rattle.clv_base.specs.declared.names.TxId.{TxId}
 use Rattle.clv_base.specs.declared.logs.LogRecord.{LogRecord}
 use Rattle.clv_base.specs.Orders.{tx_same, tx_in}
-use Rattle.clv_base.specs.Logs.{committed_in}
+use Rattle.clv_base.specs.Logs.{committed_in, committed_somewhere, in_doubt}
 use Rattle.clv_base.specs.LogRules.{log_of}
 use Rattle.clv_base.specs.Shards.{shard_count}
 use Rattle.clv_base.specs.FileRules.{may_open}
@@ -20,6 +20,7 @@ use Rattle.history_laws.proofs.Staying.{walker_of, one_request, is_request}
 use Rattle.fate_laws.specs.Members.{is_member}
 use Rattle.fate_laws.proofs.Deciding.{commits_are_members}
 use Rattle.each_shard_laws.specs.Leading.{requests_of}
+use Rattle.each_shard_laws.proofs.Doubted.{doubted_is_old}
 use Rattle.many_shards_laws.proofs.Shares.{same_test}
 
 -- ---- members and requests
@@ -110,23 +111,48 @@ asked_by (e ∷ es) t i = at (request_of (e.1).event (e.1).outcome) refl i (aske
 
 -- ---- the chosen
 
--- of a shard: the members, and whose COMMIT is left in its log
+-- of a shard: the members, whose COMMIT is left in its log, and who was in doubt in the log found and is committed in some log found
 abbrev pub chosen : List ℕ → List (List LogRecord) → History → List (List LogRecord) → (ℕ → Bool) → ℕ → TxId → Bool
-chosen splits before h after choice n t = is_member splits before h after choice t || committed_in (log_of (logs_left splits before h after choice) n) t
+chosen splits before h after choice n t = is_member splits before h after choice t || committed_in (log_of (logs_left splits before h after choice) n) t || (tx_in t (in_doubt n (log_of before n)) && committed_somewhere before t)
+
+abbrev pub Chosen : List ℕ → List (List LogRecord) → History → List (List LogRecord) → (ℕ → Bool) → ℕ → TxId → Type 0
+Chosen splits before h after choice n t =
+    (is_member splits before h after choice t ≡ true)
+    ⊎ ((committed_in (log_of (logs_left splits before h after choice) n) t ≡ true)
+    ⊎ ((tx_in t (in_doubt n (log_of before n)) ≡ true) × (committed_somewhere before t ≡ true)))
+
+pub of_chosen : (splits : List ℕ) (before : List (List LogRecord)) (h : History) (after : List (List LogRecord)) (choice : ℕ → Bool) (n : ℕ) (t : TxId) → chosen splits before h after choice n t ≡ true → Chosen splits before h after choice n t
+of_chosen splits before h after choice n t c =
+    let member = is_member splits before h after choice t in
+    let left = committed_in (log_of (logs_left splits before h after choice) n) t in
+    let found = tx_in t (in_doubt n (log_of before n)) && committed_somewhere before t in
+    ⊎_elim (λ a. ⊎_elim (λ b. inl b) (λ b. inr (inl b)) (or_cases member left a)) (λ a. inr (inr (and_parts (tx_in t (in_doubt n (log_of before n))) _ a))) (or_cases (member || left) found c)
+
+pub is_chosen : (splits : List ℕ) (before : List (List LogRecord)) (h : History) (after : List (List LogRecord)) (choice : ℕ → Bool) (n : ℕ) (t : TxId) → Chosen splits before h after choice n t → chosen splits before h after choice n t ≡ true
+is_chosen splits before h after choice n t (inl a) = or_left _ _ (or_left _ _ a)
+is_chosen splits before h after choice n t (inr (inl a)) = or_left _ _ (or_right (is_member splits before h after choice t) _ a)
+is_chosen splits before h after choice n t (inr (inr a)) = or_right (is_member splits before h after choice t || committed_in (log_of (logs_left splits before h after choice) n) t) _ (and_from _ _ a.0 a.1)
 
 -- those that asked are the members
 pub chosen_are_members : (splits : List ℕ) (before : List (List LogRecord)) (h : History) (after : List (List LogRecord)) (choice : ℕ → Bool) (n : ℕ) → may_open splits before ≡ true → Legal splits before h after → n < shard_count splits
     → map (λ m. m.tx) (serial_left splits before h after choice) ≡ filter (chosen splits before h after choice n) (requests_of h)
 chosen_are_members splits before h after choice n m l i =
     picked (logs_left splits before h after choice) h h (chosen splits before h after choice n)
-    (λ x j t q. same_test (counts (logs_left splits before h after choice) h x.0 t) (chosen splits before h after choice n t) (λ c. or_left (is_member splits before h after choice t) _ (counted (logs_left splits before h after choice) h h x t j q c)) (λ c. back x j t q c))
+    (λ x j t q. same_test (counts (logs_left splits before h after choice) h x.0 t) (chosen splits before h after choice n t) (λ c. is_chosen splits before h after choice n t (inl (counted (logs_left splits before h after choice) h h x t j q c)))
+    (λ c. back x j t q (of_chosen splits before h after choice n t c)))
   where
-    back : (x : Placed) → Among x h → (t : TxId) → request_of (x.1).event (x.1).outcome ≡ Some t → chosen splits before h after choice n t ≡ true → counts (logs_left splits before h after choice) h x.0 t ≡ true
+    member : (x : Placed) → Among x h → (t : TxId) → request_of (x.1).event (x.1).outcome ≡ Some t → Chosen splits before h after choice n t → is_member splits before h after choice t ≡ true
+    member x j t q (inl a) = a
+    member x j t q (inr (inl a)) = commits_are_members splits before h after choice n t m l i (request_run splits before after h x t l j q) a
+    member x j t q (inr (inr a)) =
+        let k = request_run splits before after h x t l j q in
+        let e = (l.each_log).0 in
+        let d = doubted_is_old splits before n m (omega (arith, e, i)) t a.0 in
+        absurd (omega (arith, k, d))
+
+    back : (x : Placed) → Among x h → (t : TxId) → request_of (x.1).event (x.1).outcome ≡ Some t → Chosen splits before h after choice n t → counts (logs_left splits before h after choice) h x.0 t ≡ true
     back x j t q c =
-        let k : is_member splits before h after choice t ≡ true =
-        ⊎_elim (λ a. a) (λ a. commits_are_members splits before h after choice n t m l i (request_run splits before after h x t l j q) a)
-        (or_cases (is_member splits before h after choice t) (committed_in (log_of (logs_left splits before h after choice) n) t) c) in
-        let y = asks (logs_left splits before h after choice) h h t k in
+        let y = asks (logs_left splits before h after choice) h h t (member x j t q c) in
         let r = is_request t (x.1).event (x.1).outcome q in
         let s = is_request t ((y.0).1).event ((y.0).1).outcome y.2 in
         let e : x ≡ y.0 = one_request splits before after h x y.0 t r.0 s.0 l j y.1 (r.1, r.2) (s.1, s.2) in

@@ -1,35 +1,39 @@
--- Whose writes a member violated on a shard where it is here is a member before it.
-use Rattle.std.proofs.Common.{◌≡◌, ◌⊎◌, inl, inr, ⊎_elim, sym, subst, ℕ, ◌<◌, true, false, cond, Bool, List, [], ◌∷◌, ◌||◌, refl}
+-- Whose writes a member violated on a shard where it is here is a member before it, or was committed at opening.
+use Rattle.std.proofs.Common.{◌≡◌, ◌⊎◌, inl, inr, ⊎_elim, refl, sym, ap, subst, ◌∙◌, ℕ, ◌<◌, true, false, cond, Bool, ◌&&◌, ◌||◌, List, [], ◌∷◌, ◌++◌, arith}
 use Rattle.std.specs.Prelude.{unwrap_or}
 use Rattle.std.specs.List.{filter}
-use Rattle.std.proofs.lemmas.Bool.{both_ways, or_cases, or_left, or_right}
+use Rattle.std.proofs.lemmas.Bool.{both_ways, or_cases, or_left, or_right, false_from_ne_true}
+use Rattle.std.proofs.lemmas.List.Folds.{list_any-append}
 use Rattle.clv_base.specs.declared.names.TxId.{TxId}
 use Rattle.clv_base.specs.declared.logs.LogRecord.{LogRecord}
 use Rattle.clv_base.specs.Orders.{tx_same, tx_in}
-use Rattle.clv_base.specs.Logs.{committed_in}
+use Rattle.clv_base.specs.Logs.{committed_in, committed_somewhere}
 use Rattle.clv_base.specs.LogRules.{log_of}
 use Rattle.clv_base.specs.Shards.{shard_count}
 use Rattle.clv_base.specs.FileRules.{may_open}
+use Rattle.clv_base.specs.State.{Shard}
 use Rattle.clv_base.specs.Restarts.{run_after}
 use Rattle.clv_base.specs.Journals.{History, final_of}
 use Rattle.clv_base.specs.History.{Legal, logs_left}
 use Rattle.clv_base.proofs.SameNames.{tx_true, tx_self}
 use Rattle.protocol_laws.proofs.Sets.{in_filter}
-use Rattle.shard_laws.specs.OneShard.{MayChoose, has_met}
+use Rattle.shard_laws.specs.OneShard.{MayChoose, has_met, place, found_items, found_asked, found_met}
 use Rattle.shard_laws.proofs.Choosing.{chosen_stand_before}
+use Rattle.shard_laws.proofs.Leaving.{in_more}
 use Rattle.shard_laws.proofs.Serial.{in_kept}
 use Rattle.one_shard_laws.specs.Recovering.{transactions_of, StandsBefore}
 use Rattle.one_shard_laws.proofs.Meeting.{placed_before}
 use Rattle.one_shard_laws.proofs.Replaying.{cut_above}
 use Rattle.history_laws.specs.Continuing.{serial_left}
 use Rattle.fate_laws.specs.Members.{is_member}
-use Rattle.fall_laws.specs.Falls.{OpensClear}
-use Rattle.each_shard_laws.specs.Leading.{deeds_before, requests_of}
+use Rattle.each_shard_laws.specs.Leading.{Deeds, deeds_before, requests_of}
+use Rattle.each_shard_laws.proofs.Doubted.{asked_are_old}
 use Rattle.each_shard_laws.proofs.Telling.{deeds_are_told}
 use Rattle.many_shards_laws.specs.Replaying.{IsHere}
 use Rattle.many_shards_laws.specs.Recovering.{PredecessorsStandBeforeWhereHere}
-use Rattle.many_shards_laws.proofs.Members.{chosen, chosen_are_members}
-use Rattle.many_shards_laws.proofs.Replaying.{leads, fronts, left_is, IsHereByCut, left_here, member_here}
+use Rattle.many_shards_laws.proofs.Earlier.{somewhere_at_opening}
+use Rattle.many_shards_laws.proofs.Members.{chosen, is_chosen, chosen_are_members, member_run}
+use Rattle.many_shards_laws.proofs.Replaying.{leads, fronts, left_is, inside, left_run, IsHereByCut, left_here, member_here}
 
 -- ---- who stands before another among some stands before it among more
 
@@ -47,10 +51,28 @@ stands_more f g (x ∷ xs) p t k b = at (f x) (g x) refl refl b (stands_more f g
     at false true e q r n = inr (n r)
     at false false e q r n = n r
 
+-- who is none of the first ones stands behind them
+stands_later : (p t : TxId) (xs ys : List TxId) → tx_in p xs ≡ false → StandsBefore p t (xs ++ ys) → StandsBefore p t ys
+stands_later p t [] ys n b = b
+stands_later p t (x ∷ xs) ys n (inl (s, i)) = absurd (both_ways _ n (or_left (tx_same x p) (tx_in p xs) (subst (λ z. tx_same z p ≡ true) (sym s) (tx_self p))))
+stands_later p t (x ∷ xs) ys n (inr b) = stands_later p t xs ys (none_later (tx_same x p) (tx_in p xs) n) b
+  where
+    none_later : (a c : Bool) → (a || c) ≡ false → c ≡ false
+    none_later true c e = absurd (both_ways true e refl)
+    none_later false c e = e
+
+filter_append : (f : TxId → Bool) (xs ys : List TxId) → filter f (xs ++ ys) ≡ filter f xs ++ filter f ys
+filter_append f [] ys = refl
+filter_append f (x ∷ xs) ys = at (f x) (filter_append f xs ys)
+  where
+    at : (b : Bool) → filter f (xs ++ ys) ≡ filter f xs ++ filter f ys → cond b (x ∷ filter f (xs ++ ys)) (filter f (xs ++ ys)) ≡ cond b (x ∷ filter f xs) (filter f xs) ++ filter f ys
+    at true e = ap (λ l. x ∷ l) e
+    at false e = e
+
 -- ---- of a shard: those whose COMMITs are left there, and one more
 
-module _ (splits : List ℕ) (before : List (List LogRecord)) (h : History) (after : List (List LogRecord)) (choice : ℕ → Bool) (o : may_open splits before ≡ true) (l : Legal splits before h after) (c : OpensClear splits before)
-    (n : ℕ) (t : TxId) (i : n < shard_count splits) (k : is_member splits before h after choice t ≡ true) (here : IsHere splits before h after choice n t) where
+module _ (splits : List ℕ) (before : List (List LogRecord)) (h : History) (after : List (List LogRecord)) (choice : ℕ → Bool) (o : may_open splits before ≡ true) (l : Legal splits before h after) (n : ℕ) (t : TxId) (i : n < shard_count splits) (k : is_member splits before h after choice t ≡ true)
+    (here : IsHere splits before h after choice n t) where
   abbrev with_it : TxId → Bool
   with_it u = committed_in (log_of (logs_left splits before h after choice) n) u || tx_same t u
 
@@ -58,27 +80,63 @@ module _ (splits : List ℕ) (before : List (List LogRecord)) (h : History) (aft
   are_chosen u e = by_case (or_cases (committed_in (log_of (logs_left splits before h after choice) n) u) (tx_same t u) e)
     where
       by_case : (committed_in (log_of (logs_left splits before h after choice) n) u ≡ true) ⊎ (tx_same t u ≡ true) → chosen splits before h after choice n u ≡ true
-      by_case (inl a) = or_right (is_member splits before h after choice u) (committed_in (log_of (logs_left splits before h after choice) n) u) a
-      by_case (inr a) = or_left (is_member splits before h after choice u) (committed_in (log_of (logs_left splits before h after choice) n) u) (subst (λ z. is_member splits before h after choice z ≡ true) (tx_true t u a) k)
+      by_case (inl a) = is_chosen splits before h after choice n u (inr (inl a))
+      by_case (inr a) = is_chosen splits before h after choice n u (inl (subst (λ z. is_member splits before h after choice z ≡ true) (tx_true t u a) k))
 
-  may_choose : MayChoose (final_of before h after n) (cond (choice n) (unwrap_or (final_of before h after n).flight (final_of before h after n).durable) (final_of before h after n).durable) (requests_of h) (deeds_before before h after n).told (deeds_before before h after n).fell (λ u. committed_in (log_of (logs_left splits before h after choice) n) u || tx_same t u)
+  may_choose : MayChoose (final_of before h after n) (cond (choice n) (unwrap_or (final_of before h after n).flight (final_of before h after n).durable) (final_of before h after n).durable) (found_asked n (log_of before n) ++ requests_of h) (deeds_before before h after n).told (deeds_before before h after n).fell
+      (λ u. committed_in (log_of (logs_left splits before h after choice) n) u || tx_same t u)
   may_choose =
       record {
-        commits = λ u e. or_left _ (tx_same t u) (subst (λ z. committed_in z u ≡ true) (sym (left_is splits before h after choice o l c n i)) e);
-        are_here = λ u e. ⊎_elim (λ a. left_here splits before h after choice o l c n u i a) (λ a. subst (IsHereByCut splits before h after choice o l c n) (tx_true t u a) (member_here splits before h after choice o l c n t i k here)) (or_cases (committed_in (log_of (logs_left splits before h after choice) n) u) (tx_same t u) e);
+        commits = λ u e. or_left _ (tx_same t u) (subst (λ z. committed_in z u ≡ true) (sym (left_is splits before h after choice o l n i)) e);
+        are_here = λ u e. ⊎_elim (λ a. left_here splits before h after choice o l n u i a) (λ a. subst (IsHereByCut splits before h after choice o l n) (tx_true t u a) (member_here splits before h after choice o l n t i k here)) (or_cases (committed_in (log_of (logs_left splits before h after choice) n) u) (tx_same t u) e);
       }
 
-  stands_before : (p : TxId) → has_met (deeds_before before h after n).met t p ≡ true → StandsBefore p t (transactions_of (serial_left splits before h after choice))
-  stands_before p met =
-      let s = final_of before h after n in
-      let d = deeds_before before h after n in
-      let pick = with_it in
-      let own = or_right (committed_in (log_of (logs_left splits before h after choice) n) t) (tx_same t t) (tx_self t) in
-      let names = chosen_are_members splits before h after choice n o l i in
-      let asked = (in_filter (chosen splits before h after choice n) t (requests_of h) (subst (λ ts. tx_in t ts ≡ true) names k)).0 in
-      let r = chosen_stand_before n (run_after before) (log_of before n) d.items (requests_of h) d.told d.met d.fell s (cond (choice n) (unwrap_or s.flight s.durable) s.durable) pick t p (leads splits before h after choice o l c n i)
-      (cut_above s (choice n) (fronts splits before h after choice o l c n i).counted) may_choose met own in
-      subst (StandsBefore p t) (sym names) (stands_more pick (chosen splits before h after choice n) (requests_of h) p t are_chosen (placed_before p t (filter pick (requests_of h)) r.1 (in_kept pick (requests_of h) t asked own)))
+  -- one of this run is none of those found
+  not_found : (p : TxId) → p.run ≡ run_after before → tx_in p (filter with_it (found_asked n (log_of before n))) ≡ false
+  not_found p run =
+      false_from_ne_true _ (λ j. let old = asked_are_old splits before n o (inside splits before h after choice o l n i) p (in_filter with_it p (found_asked n (log_of before n)) j).0 in absurd (omega (arith, old, run)))
+
+  stands_before : (p : TxId) → has_met ((deeds_before before h after n).met ++ found_met n (log_of before n)) t p ≡ true → StandsBefore p t (transactions_of (serial_left splits before h after choice)) ⊎ (committed_somewhere before p ≡ true)
+  stands_before p met = by_run (runs (or_cases (committed_in (log_of (logs_left splits before h after choice) n) p) (tx_same t p) r.0))
+    where
+      s : Shard
+      s = final_of before h after n
+
+      d : Deeds
+      d = deeds_before before h after n
+
+      found : List LogRecord
+      found = log_of before n
+
+      own : with_it t ≡ true
+      own = or_right (committed_in (log_of (logs_left splits before h after choice) n) t) (tx_same t t) (tx_self t)
+
+      names : transactions_of (serial_left splits before h after choice) ≡ filter (chosen splits before h after choice n) (requests_of h)
+      names = chosen_are_members splits before h after choice n o l i
+
+      asked : tx_in t (requests_of h) ≡ true
+      asked = (in_filter (chosen splits before h after choice n) t (requests_of h) (subst (λ ts. tx_in t ts ≡ true) names k)).0
+
+      r : (with_it p ≡ true) × (place (filter with_it (found_asked n found ++ requests_of h)) p < place (filter with_it (found_asked n found ++ requests_of h)) t)
+      r =
+          chosen_stand_before n (run_after before) found (found_items n found ++ d.items) (found_asked n found ++ requests_of h) d.told (d.met ++ found_met n found) d.fell s (cond (choice n) (unwrap_or s.flight s.durable) s.durable) with_it t p (leads splits before h after choice o l n i)
+          (cut_above s (choice n) (fronts splits before h after choice o l n i).counted) may_choose met own
+
+      runs : (committed_in (log_of (logs_left splits before h after choice) n) p ≡ true) ⊎ (tx_same t p ≡ true) → (p.run ≡ run_after before) ⊎ (committed_somewhere before p ≡ true)
+      runs (inl a) = ⊎_elim (λ e. inl e) (λ old. inr (somewhere_at_opening splits before h after choice n p o l i old a)) (left_run splits before h after choice o l n p i a)
+      runs (inr a) = inl (subst (λ z. z.run ≡ run_after before) (tx_true t p a) (member_run splits before h after choice t l k))
+
+      by_run : (p.run ≡ run_after before) ⊎ (committed_somewhere before p ≡ true) → StandsBefore p t (transactions_of (serial_left splits before h after choice)) ⊎ (committed_somewhere before p ≡ true)
+      by_run (inr c) = inr c
+      by_run (inl run) =
+          let b = placed_before p t (filter with_it (found_asked n found ++ requests_of h)) r.1 (in_kept with_it (found_asked n found ++ requests_of h) t (in_more (found_asked n found) (requests_of h) t asked) own) in
+          let e = stands_later p t (filter with_it (found_asked n found)) (filter with_it (requests_of h)) (not_found p run) (subst (StandsBefore p t) (filter_append with_it (found_asked n found) (requests_of h)) b) in
+          inl (subst (StandsBefore p t) (sym names) (stands_more with_it (chosen splits before h after choice n) (requests_of h) p t are_chosen e))
+
+-- a predecessor that it met in this history is one of all
+met_among : (xs ys : List (TxId × TxId)) (t p : TxId) → has_met xs t p ≡ true → has_met (xs ++ ys) t p ≡ true
+met_among xs ys t p m = list_any-append (λ q. tx_same t q.0 && tx_same p q.1) xs ys ∙ or_left _ _ m
 
 pub predecessors_stand_before_where_here : PredecessorsStandBeforeWhereHere
-predecessors_stand_before_where_here splits before h after choice n t p o l c i k here e = stands_before splits before h after choice o l c n t i k here p ((deeds_are_told before h after n t).2 p e)
+predecessors_stand_before_where_here splits before h after choice n t p o l i k here e =
+    stands_before splits before h after choice o l n t i k here p (met_among (deeds_before before h after n).met (found_met n (log_of before n)) t p ((deeds_are_told before h after n t).2 p e))

@@ -1,14 +1,14 @@
 -- The members of a legal history of many shards replay where each of them is here on each shard.
-use Rattle.std.proofs.Common.{◌≡◌, ◌⊎◌, inl, inr, ⊎_elim, refl, sym, ap, subst, ◌∙◌, ℕ, zero, suc, ◌<◌, true, false, cond, Bool, ◌||◌, List, [], ◌∷◌, length, arith, append-nil}
+use Rattle.std.proofs.Common.{◌≡◌, ◌⊎◌, inl, inr, ⊎_elim, refl, sym, ap, subst, ◌∙◌, ℕ, zero, suc, ◌<◌, true, false, cond, Bool, ◌&&◌, ◌||◌, List, [], ◌++◌, length, arith, append-nil}
 use Rattle.std.specs.Prelude.{take, drop, unwrap_or}
-use Rattle.std.specs.List.{list_all}
-use Rattle.std.proofs.lemmas.Bool.{both_ways, or_cases, or_left, or_right}
+use Rattle.std.specs.List.{filter, list_all}
+use Rattle.std.proofs.lemmas.Bool.{both_ways, and_parts, and_from, or_cases, or_left, or_right, false_from_ne_true}
 use Rattle.std.proofs.lemmas.List.{take-append-drop}
 use Rattle.clv_base.specs.declared.names.TxId.{TxId}
 use Rattle.clv_base.specs.declared.logs.LogRecord.{LogRecord}
 use Rattle.clv_base.specs.Orders.{tx_in}
 use Rattle.clv_base.specs.Maps.{replay_map, replay_answers}
-use Rattle.clv_base.specs.Logs.{committed_in, wrote_in, committed_somewhere, in_doubt, fold_updates, stands}
+use Rattle.clv_base.specs.Logs.{committed_in, wrote_in, committed_somewhere, in_doubt, fold_updates}
 use Rattle.clv_base.specs.LogRules.{log_of, listed_in}
 use Rattle.clv_base.specs.Shards.{shard_count}
 use Rattle.clv_base.specs.FileRules.{may_open}
@@ -16,49 +16,49 @@ use Rattle.clv_base.specs.State.{Shard}
 use Rattle.clv_base.specs.Restarts.{run_after, log_left}
 use Rattle.clv_base.specs.Journals.{History, start_of, final_of, journal_of, logs_left_from}
 use Rattle.clv_base.specs.History.{Legal, logs_left}
+use Rattle.protocol_laws.specs.SessionLaws.{tx_of}
+use Rattle.protocol_laws.proofs.Sets.{in_filter}
 use Rattle.history_laws.specs.Continuing.{serial_left}
 use Rattle.history_laws.proofs.Durability.{Fronts, fronts_entries, opened_counted}
-use Rattle.shard_laws.specs.OneShard.{Leads, MayChoose, Passes, ops_by, answers_by}
+use Rattle.history_laws.proofs.Staying.{walker_of}
+use Rattle.shard_laws.specs.OneShard.{Leads, MayChoose, Passes, ops_by, answers_by, found_items, found_asked, found_met, map_found}
 use Rattle.shard_laws.proofs.Changes.{wrote_append}
-use Rattle.shard_laws.proofs.Cutting.{cut_keeps}
-use Rattle.shard_laws.proofs.Histories.{held}
-use Rattle.shard_laws.proofs.Choosing.{chosen_replay}
+use Rattle.shard_laws.proofs.Leaving.{in_more}
+use Rattle.shard_laws.proofs.Splitting.{later_replay}
 use Rattle.one_shard_laws.proofs.Replaying.{cut_above}
 use Rattle.fate_laws.specs.Members.{is_member}
-use Rattle.fate_laws.proofs.Deciding.{commits_are_members}
-use Rattle.fall_laws.specs.Falls.{OpensClear}
+use Rattle.fate_laws.proofs.Deciding.{commits_are_members, left_committed}
+use Rattle.origin_laws.proofs.Sessions.{Requested}
+use Rattle.origin_laws.proofs.Origins.{SomeRequest}
+use Rattle.origin_laws.proofs.Entries.{DidOrOld, IsOld, traced_front}
+use Rattle.fall_laws.specs.Falls.{Fell}
 use Rattle.each_shard_laws.specs.Leading.{deeds_before, requests_of}
-use Rattle.each_shard_laws.proofs.Leading.{leads_clear}
+use Rattle.each_shard_laws.proofs.Doubted.{doubted_is_old, items_are_old}
+use Rattle.each_shard_laws.proofs.Fallen.{fell_is}
+use Rattle.each_shard_laws.proofs.Leading.{at_front, each_shard_leads}
+use Rattle.each_shard_laws.proofs.Records.{committed_from}
 use Rattle.each_shard_laws.proofs.Ordering.{log_now}
 use Rattle.each_shard_laws.proofs.Telling.{deeds_are_told}
 use Rattle.replay_by_shards.specs.Shares.{all_ops, parts_on, share_of, ReplaysTo}
 use Rattle.member_parts.specs.Parts.{member_ops}
 use Rattle.member_parts.proofs.Parts.{members_replay_by_parts}
 use Rattle.many_shards_laws.specs.Replaying.{IsHere, MembersReplayWhereHere}
-use Rattle.many_shards_laws.proofs.Homes.{committed_here}
-use Rattle.many_shards_laws.proofs.Shares.{fold_writers, wrote_record, wrote_within, at_somewhere, somewhere_at, same_test, shares_are_maps}
-use Rattle.many_shards_laws.proofs.Earlier.{wrote_at_opening, committed_still, committed_at_opening}
-use Rattle.many_shards_laws.proofs.Answering.{part_ops, part_answers}
-use Rattle.many_shards_laws.proofs.Members.{request_run, asked_by, chosen, chosen_are_members, member_run}
+use Rattle.many_shards_laws.proofs.Shares.{fold_writers, writer_known, at_somewhere, somewhere_at, same_test}
+use Rattle.many_shards_laws.proofs.Earlier.{wrote_at_opening, committed_still, somewhere_at_opening}
+use Rattle.many_shards_laws.proofs.Found.{IsDoubted, still_known, never_fell}
+use Rattle.many_shards_laws.proofs.Answering.{part_ops, part_answers, AllIdle, ops_later, answers_later, idle_among}
+use Rattle.many_shards_laws.proofs.Members.{request_run, asked_by, chosen, Chosen, of_chosen, is_chosen, chosen_are_members, member_run}
 use Rattle.many_shards_laws.proofs.Unfallen.{unfallen}
 
 pub left_length : (finals : ℕ → Shard) (choice : ℕ → Bool) (n k : ℕ) → length (logs_left_from finals choice n k) ≡ k
 left_length finals choice n zero = refl
 left_length finals choice n (suc k) = ap suc (left_length finals choice (suc n) k)
 
-module _ (splits : List ℕ) (before : List (List LogRecord)) (h : History) (after : List (List LogRecord)) (choice : ℕ → Bool) (o : may_open splits before ≡ true) (l : Legal splits before h after) (c : OpensClear splits before) where
-  abbrev left : List (List LogRecord)
-  left = logs_left splits before h after choice
-
-  abbrev last : ℕ → Shard
-  last n = final_of before h after n
-
-  abbrev cut : ℕ → ℕ
-  cut n = cond (choice n) (unwrap_or (last n).flight (last n).durable) (last n).durable
-
+module _ (splits : List ℕ) (before : List (List LogRecord)) (h : History) (after : List (List LogRecord)) (choice : ℕ → Bool) (o : may_open splits before ≡ true) (l : Legal splits before h after) where
   pub leads : (n : ℕ) → n < shard_count splits
-      → Leads n (run_after before) (log_of before n) (deeds_before before h after n).items (requests_of h) (deeds_before before h after n).told (deeds_before before h after n).met (deeds_before before h after n).fell (final_of before h after n)
-  leads n i = leads_clear splits before h after h [] n o l c (append-nil h) i
+      → Leads n (run_after before) (log_of before n) (found_items n (log_of before n) ++ (deeds_before before h after n).items) (found_asked n (log_of before n) ++ requests_of h) (deeds_before before h after n).told
+      ((deeds_before before h after n).met ++ found_met n (log_of before n)) (deeds_before before h after n).fell (final_of before h after n)
+  leads n i = each_shard_leads splits before h after h [] n o l (append-nil h) i
 
   pub fronts : (n : ℕ) → n < shard_count splits → Fronts (start_of before n) (final_of before h after n)
   fronts n i = fronts_entries (log_of after n) (start_of before n) (journal_of n h) (opened_counted n (run_after before) (log_of before n)) (l.runs n i)
@@ -69,23 +69,30 @@ module _ (splits : List ℕ) (before : List (List LogRecord)) (h : History) (aft
   pub within : (m : ℕ) → m < length (logs_left splits before h after choice) → m < shard_count splits
   within m j = let e = left_length (final_of before h after) choice 0 (shard_count splits) in omega (arith, e, j)
 
+  found_within : (m : ℕ) → m < length before → m < shard_count splits
+  found_within m j = let e = (l.each_log).0 in omega (arith, e, j)
+
+  pub inside : (n : ℕ) → n < shard_count splits → n < length before
+  inside n i = let e = (l.each_log).0 in omega (arith, e, i)
+
   -- whose COMMIT is left is of this run or of an earlier one
   pub left_run : (n : ℕ) (t : TxId) → n < shard_count splits → committed_in (log_of (logs_left splits before h after choice) n) t ≡ true → (t.run ≡ run_after before) ⊎ (t.run < run_after before)
   left_run n t i k =
-      let d = deeds_before before h after n in
-      let b = held n (run_after before) (log_of before n) d.items (requests_of h) d.told d.met d.fell (final_of before h after n) (leads n i) in
-      let e : (final_of before h after n).run ≡ run_after before = (fronts n i).run in
-      let j = cut_keeps (cond (choice n) (unwrap_or (final_of before h after n).flight (final_of before h after n).durable) (final_of before h after n).durable) (final_of before h after n).local.log t (subst (λ z. committed_in z t ≡ true) (left_is n i) k) in
-      ⊎_elim (λ a. let y = asked_by h t (subst (λ as_. tx_in t as_ ≡ true) b.4 a) in inl (request_run splits before after h y.0 t l y.1 y.2)) (λ a. inr (omega (arith, a, e))) ((b.1).asked t j)
+      by_request
+      (committed_from (DidOrOld (run_after before) h n) (Requested h) (IsOld (run_after before)) n (final_of before h after n).local.log (((traced_front splits before after h h [] o l (append-nil h)).states n i).origins).log t
+      (left_committed splits before h after choice n t i k))
+    where
+      by_request : SomeRequest (Requested h) (IsOld (run_after before)) t → (t.run ≡ run_after before) ⊎ (t.run < run_after before)
+      by_request (inl (m, (r, ts, j, a, q))) = inl (walker_of splits before after h r t l j (ap tx_of a.0)).0
+      by_request (inr old) = inr old
 
   -- who wrote on a shard, and has a COMMIT left on any, is chosen there
-  somewhere_chosen : (n m : ℕ) (t : TxId) → n < shard_count splits → m < shard_count splits → wrote_in (log_of (logs_left splits before h after choice) n) t ≡ true → committed_in (log_of (logs_left splits before h after choice) m) t ≡ true → chosen splits before h after choice n t ≡ true
+  somewhere_chosen : (n m : ℕ) (t : TxId) → n < shard_count splits → m < shard_count splits → wrote_in (log_of (logs_left splits before h after choice) n) t ≡ true → committed_in (log_of (logs_left splits before h after choice) m) t ≡ true → Chosen splits before h after choice n t
   somewhere_chosen n m t i j w k =
-      ⊎_elim (λ r. or_left _ (committed_in (log_of (logs_left splits before h after choice) n) t) (commits_are_members splits before h after choice m t o l j r k))
+      ⊎_elim (λ r. inl (commits_are_members splits before h after choice m t o l j r k))
       (λ r.
-      let a = committed_at_opening splits before h after choice m t o l c j r k in
-      let b = wrote_at_opening splits before h after choice n t o l c i r w in
-      or_right (is_member splits before h after choice t) _ (committed_still splits before h after choice n t l i (committed_here splits before n m t o (wrote_within before n t b) (c n i) (wrote_record (log_of before n) t b) a)))
+      let c = somewhere_at_opening splits before h after choice m t o l j r k in
+      ⊎_elim (λ a. inr (inl (committed_still splits before h after choice n t l i a))) (λ a. inr (inr (a, c))) (writer_known splits before n t o (wrote_at_opening splits before h after choice n t o l i r w) c))
       (left_run m t j k)
 
   pub wrote_last : (n : ℕ) (t : TxId) → n < shard_count splits → wrote_in (log_of (logs_left splits before h after choice) n) t ≡ true → wrote_in (final_of before h after n).local.log t ≡ true
@@ -99,61 +106,120 @@ module _ (splits : List ℕ) (before : List (List LogRecord)) (h : History) (aft
   here_somewhere n t i w (inr (inl d)) = d.2
   here_somewhere n t i w (inr (inr p)) = absurd (both_ways _ p.unwritten (wrote_last n t i w))
 
-  -- a member that is here is so as the laws of one shard want it of a chosen one
+  -- who is committed in a log found is so in what is left
+  pub found_somewhere : (t : TxId) → committed_somewhere before t ≡ true → committed_somewhere (logs_left splits before h after choice) t ≡ true
+  found_somewhere t c = let m = somewhere_at before t c in at_somewhere (logs_left splits before h after choice) m.0 t (committed_still splits before h after choice m.0 t l (found_within m.0 m.1) m.2)
+
+  -- ---- a chosen one is here as the laws of one shard want it
+
   abbrev pub IsHereByCut : ℕ → TxId → Type 0
   IsHereByCut n t =
       ((committed_in (log_left (final_of before h after n) (choice n)) t || tx_in t (deeds_before before h after n).told) ≡ true)
       ⊎ (((tx_in t (in_doubt (final_of before h after n).shard (log_left (final_of before h after n) (choice n))) ≡ true) × (list_all (committed_in (log_left (final_of before h after n) (choice n))) (listed_in (log_left (final_of before h after n) (choice n)) t) ≡ true) × (tx_in t (deeds_before before h after n).fell ≡ false))
-      ⊎ Passes (requests_of h) (deeds_before before h after n).fell (final_of before h after n) t)
+      ⊎ Passes (found_asked n (log_of before n) ++ requests_of h) (deeds_before before h after n).fell (final_of before h after n) t)
 
   pub left_here : (n : ℕ) (t : TxId) → n < shard_count splits → committed_in (log_of (logs_left splits before h after choice) n) t ≡ true → IsHereByCut n t
   left_here n t i a = inl (or_left _ _ (subst (λ z. committed_in z t ≡ true) (left_is n i) a))
 
+  -- who is of the fallen that a shard counts fell
+  pub fell_there : (n : ℕ) (t : TxId) → n < shard_count splits → tx_in t (deeds_before before h after n).fell ≡ true → Fell before h after n t
+  fell_there n t i f = fell_is before h after n t (((at_front splits before h after h [] n o l (append-nil h) i).remembers).fell t f).1
+
+  -- who is in doubt in what is left, and did not fall
+  doubted_here : (n : ℕ) (t : TxId) → n < shard_count splits → IsDoubted n (log_left (final_of before h after n) (choice n)) t → (Fell before h after n t → ⊥) → IsHereByCut n t
+  doubted_here n t i d stands_ =
+      inr (inl (
+        subst (λ y. tx_in t (in_doubt y (log_left (final_of before h after n) (choice n))) ≡ true) (sym (fronts n i).shard) d.0,
+        d.1,
+        false_from_ne_true _ (λ f. stands_ (fell_there n t i f)),
+      ))
+
   pub member_here : (n : ℕ) (t : TxId) → n < shard_count splits → is_member splits before h after choice t ≡ true → IsHere splits before h after choice n t → IsHereByCut n t
   member_here n t i k (inl a) = left_here n t i a
   member_here n t i k (inr (inl d)) =
-      let e : (final_of before h after n).shard ≡ n = (fronts n i).shard in
       let doubt = subst (λ z. tx_in t (in_doubt n z) ≡ true) (left_is n i) d.0 in
       let listed = subst (λ z. list_all (committed_in z) (listed_in z t) ≡ true) (left_is n i) d.1 in
       let m = somewhere_at (logs_left splits before h after choice) t d.2 in
-      inr (inl (
-        subst (λ y. tx_in t (in_doubt y (log_left (final_of before h after n) (choice n))) ≡ true) (sym e) doubt,
-        listed,
-        unfallen splits before h after choice o l c n m.0 t i (within m.0 m.1) (member_run splits before h after choice t l k) doubt listed m.2,
-      ))
-  member_here n t i k (inr (inr p)) = inr (inr p)
+      doubted_here n t i (doubt, listed) (unfallen splits before h after choice n m.0 t o l i (within m.0 m.1) (member_run splits before h after choice t l k) doubt m.2)
+  member_here n t i k (inr (inr p)) =
+      inr (inr (record {
+        has_asked = in_more (found_asked n (log_of before n)) (requests_of h) t p.has_asked;
+        unwritten = p.unwritten;
+        uncommitted = p.uncommitted;
+        absent = p.absent;
+        unfallen = p.unfallen;
+      }))
+
+  pub found_here : (n : ℕ) (t : TxId) → n < shard_count splits → tx_in t (in_doubt n (log_of before n)) ≡ true → committed_somewhere before t ≡ true → IsHereByCut n t
+  found_here n t i d c =
+      ⊎_elim (λ a. inl (or_left _ _ a)) (λ a. doubted_here n t i a (never_fell splits before h after (choice n) n t o l i d c)) (still_known splits before h after (choice n) n t o l i d c)
+
+  -- ---- those found did nothing of what the members did
+
+  idle : (n : ℕ) → n < shard_count splits → AllIdle (filter (chosen splits before h after choice n) (requests_of h)) (found_items n (log_of before n))
+  idle n i t j =
+      let y = asked_by h t (in_filter (chosen splits before h after choice n) t (requests_of h) j).0 in
+      let run = request_run splits before after h y.0 t l y.1 y.2 in
+      idle_among (IsOld (run_after before)) t (found_items n (log_of before n)) (items_are_old splits before n o (inside n i)) (λ old. omega (arith, old, run))
+
+  -- the map that a shard's chosen ones begin from is its share
+  starts : (n : ℕ) → n < shard_count splits → share_of before n ≡ map_found n (log_of before n) (chosen splits before h after choice n)
+  starts n i =
+      let log = log_of before n in
+      fold_writers (committed_somewhere before) (λ t. committed_in log t || (tx_in t (in_doubt n log) && chosen splits before h after choice n t)) log []
+      (λ t w. same_test (committed_somewhere before t) (committed_in log t || (tx_in t (in_doubt n log) && chosen splits before h after choice n t))
+      (λ c. ⊎_elim (λ a. or_left (committed_in log t) _ a) (λ a. or_right (committed_in log t) _ (and_from _ _ a (is_chosen splits before h after choice n t (inr (inr (a, c)))))) (writer_known splits before n t o w c))
+      (λ c. ⊎_elim (λ a. at_somewhere before n t a) (λ a. let d = and_parts (tx_in t (in_doubt n log)) _ a in somewhere n t i d.0 (of_chosen splits before h after choice n t d.1))
+      (or_cases (committed_in log t) (tx_in t (in_doubt n log) && chosen splits before h after choice n t) c)))
+    where
+      somewhere : (m : ℕ) (t : TxId) → m < shard_count splits → tx_in t (in_doubt m (log_of before m)) ≡ true → Chosen splits before h after choice m t → committed_somewhere before t ≡ true
+      somewhere m t j d (inl a) = let k = doubted_is_old splits before m o (inside m j) t d in let r = member_run splits before h after choice t l a in absurd (omega (arith, k, r))
+      somewhere m t j d (inr (inl a)) = somewhere_at_opening splits before h after choice m t o l j (doubted_is_old splits before m o (inside m j) t d) a
+      somewhere m t j d (inr (inr a)) = a.1
 
   module _ (here : (n : ℕ) (t : TxId) → n < shard_count splits → is_member splits before h after choice t ≡ true → IsHere splits before h after choice n t) where
+    chosen_somewhere : (n : ℕ) (t : TxId) → n < shard_count splits → wrote_in (log_of (logs_left splits before h after choice) n) t ≡ true → Chosen splits before h after choice n t → committed_somewhere (logs_left splits before h after choice) t ≡ true
+    chosen_somewhere n t i w (inl a) = here_somewhere n t i w (here n t i a)
+    chosen_somewhere n t i w (inr (inl a)) = at_somewhere (logs_left splits before h after choice) n t a
+    chosen_somewhere n t i w (inr (inr a)) = found_somewhere t a.1
+
     writers_chosen : (n : ℕ) (t : TxId) → n < shard_count splits → wrote_in (log_of (logs_left splits before h after choice) n) t ≡ true → chosen splits before h after choice n t ≡ committed_somewhere (logs_left splits before h after choice) t
     writers_chosen n t i w =
         same_test (chosen splits before h after choice n t) (committed_somewhere (logs_left splits before h after choice) t)
-        (λ k. ⊎_elim (λ a. here_somewhere n t i w (here n t i a)) (λ a. at_somewhere (logs_left splits before h after choice) n t a) (or_cases (is_member splits before h after choice t) (committed_in (log_of (logs_left splits before h after choice) n) t) k))
+        (λ k. chosen_somewhere n t i w (of_chosen splits before h after choice n t k))
         (λ k. let m = somewhere_at (logs_left splits before h after choice) t k in
-        somewhere_chosen n m.0 t i (within m.0 m.1) w m.2)
+        is_chosen splits before h after choice n t (somewhere_chosen n m.0 t i (within m.0 m.1) w m.2))
+
+    chosen_here : (n : ℕ) (t : TxId) → n < shard_count splits → Chosen splits before h after choice n t → IsHereByCut n t
+    chosen_here n t i (inl a) = member_here n t i a (here n t i a)
+    chosen_here n t i (inr (inl a)) = left_here n t i a
+    chosen_here n t i (inr (inr a)) = found_here n t i a.0 a.1
 
     may_choose : (n : ℕ) → n < shard_count splits
-        → MayChoose (final_of before h after n) (cond (choice n) (unwrap_or (final_of before h after n).flight (final_of before h after n).durable) (final_of before h after n).durable) (requests_of h) (deeds_before before h after n).told (deeds_before before h after n).fell (chosen splits before h after choice n)
+        → MayChoose (final_of before h after n) (cond (choice n) (unwrap_or (final_of before h after n).flight (final_of before h after n).durable) (final_of before h after n).durable) (found_asked n (log_of before n) ++ requests_of h) (deeds_before before h after n).told (deeds_before before h after n).fell (chosen splits before h after choice n)
     may_choose n i =
         record {
-          commits = λ t k. or_right (is_member splits before h after choice t) _ (subst (λ z. committed_in z t ≡ true) (sym (left_is n i)) k);
-          are_here = λ t k. ⊎_elim (λ a. member_here n t i a (here n t i a)) (λ a. left_here n t i a) (or_cases (is_member splits before h after choice t) (committed_in (log_of (logs_left splits before h after choice) n) t) k);
+          commits = λ t k. is_chosen splits before h after choice n t (inr (inl (subst (λ z. committed_in z t ≡ true) (sym (left_is n i)) k)));
+          are_here = λ t k. chosen_here n t i (of_chosen splits before h after choice n t k);
         }
 
     pub replays_on : (n : ℕ) → n < shard_count splits → ReplaysTo (share_of before n) (parts_on n (member_ops h (serial_left splits before h after choice))) (share_of (logs_left splits before h after choice) n)
     replays_on n i =
         let s = final_of before h after n in
         let d = deeds_before before h after n in
+        let found = log_of before n in
         let ms = serial_left splits before h after choice in
         let pick = chosen splits before h after choice n in
-        let r = chosen_replay n (run_after before) (log_of before n) d.items (requests_of h) d.told d.met d.fell s (cond (choice n) (unwrap_or s.flight s.durable) s.durable) pick (leads n i) (cut_above s (choice n) (fronts n i).counted) (may_choose n i) in
-        let share = shares_are_maps splits before n o c i in
+        let r = later_replay n (run_after before) found (found_items n found ++ d.items) (found_asked n found ++ requests_of h) d.told (d.met ++ found_met n found) d.fell s (cond (choice n) (unwrap_or s.flight s.durable) s.durable) pick (requests_of h) (leads n i)
+        (cut_above s (choice n) (fronts n i).counted) (may_choose n i) refl in
+        let share = starts n i in
         let names = chosen_are_members splits before h after choice n o l i in
-        let ops = part_ops n h d.items ms (λ t. (deeds_are_told before h after n t).0) ∙ ap (λ ts. ops_by ts d.items) names in
-        let answers = part_answers n h d.items ms (λ t. (deeds_are_told before h after n t).0) ∙ ap (λ ts. answers_by ts d.items) names in
+        let ops = part_ops n h d.items ms (λ t. (deeds_are_told before h after n t).0) ∙ ap (λ ts. ops_by ts d.items) names ∙ sym (ops_later (filter pick (requests_of h)) (found_items n found) d.items (idle n i)) in
+        let answers = part_answers n h d.items ms (λ t. (deeds_are_told before h after n t).0) ∙ ap (λ ts. answers_by ts d.items) names ∙ sym (answers_later (filter pick (requests_of h)) (found_items n found) d.items (idle n i)) in
         let ends = ap (λ z. fold_updates pick z []) (sym (left_is n i)) ∙ fold_writers pick (committed_somewhere (logs_left splits before h after choice)) (log_of (logs_left splits before h after choice) n) [] (λ t w. writers_chosen n t i w) in (
-          ap (λ m. replay_answers m (all_ops (parts_on n (member_ops h ms)))) share ∙ ap (replay_answers (stands (log_of before n ∷ []))) ops ∙ r.0 ∙ sym answers,
-          ap (λ m. replay_map m (all_ops (parts_on n (member_ops h ms)))) share ∙ ap (replay_map (stands (log_of before n ∷ []))) ops ∙ r.1 ∙ ends,
+          ap (λ m. replay_answers m (all_ops (parts_on n (member_ops h ms)))) share ∙ ap (replay_answers (map_found n found pick)) ops ∙ r.0 ∙ sym answers,
+          ap (λ m. replay_map m (all_ops (parts_on n (member_ops h ms)))) share ∙ ap (replay_map (map_found n found pick)) ops ∙ r.1 ∙ ends,
         )
 
 pub members_replay_where_here : MembersReplayWhereHere
-members_replay_where_here splits before h after choice o l c here = members_replay_by_parts splits before h after choice o l (λ n i. replays_on splits before h after choice o l c here n i)
+members_replay_where_here splits before h after choice o l here = members_replay_by_parts splits before h after choice o l (λ n i. replays_on splits before h after choice o l here n i)

@@ -1,17 +1,18 @@
--- A shard's share of the map is what its own log stands for.
-use Rattle.std.proofs.Common.{◌≡◌, ⊎_elim, refl, sym, ap, ◌∙◌, ℕ, zero, suc, ◌<◌, true, false, cond, Bool, List, [], ◌∷◌, length, arith}
+-- A shard's share of the map is what its own log commits, and what it leaves in doubt that some log commits.
+use Rattle.std.proofs.Common.{◌≡◌, ⊎_elim, refl, sym, ap, ◌∙◌, ℕ, zero, suc, ◌<◌, true, false, cond, Bool, ◌&&◌, ◌||◌, List, [], ◌∷◌, length, arith}
 use Rattle.std.specs.List.{list_any}
-use Rattle.std.proofs.lemmas.Bool.{both_ways, or_cases, or_left, or_right}
+use Rattle.std.proofs.lemmas.Bool.{both_ways, and_parts, and_from, or_cases, or_left, or_right}
 use Rattle.clv_base.specs.declared.names.TxId.{TxId}
 use Rattle.clv_base.specs.declared.logs.LogRecord.{LogRecord}
 use Rattle.clv_base.specs.declared.logs.LogRecord.TheVariants.{Update, Clr, Prepare, Commit, Abort, End, Restart}
-use Rattle.clv_base.specs.Orders.{tx_same}
+use Rattle.clv_base.specs.Orders.{tx_same, tx_in}
 use Rattle.clv_base.specs.Maps.{KeyMap, map_set}
-use Rattle.clv_base.specs.Logs.{is_record_of, committed_in, wrote_in, committed_somewhere, fold_updates}
+use Rattle.clv_base.specs.Logs.{is_record_of, committed_in, wrote_in, committed_somewhere, in_doubt, fold_updates}
 use Rattle.clv_base.specs.LogRules.{log_of}
+use Rattle.clv_base.specs.FileRules.{may_open}
 use Rattle.clv_base.proofs.SameNames.{tx_self}
 use Rattle.many_shards_laws.specs.Replaying.{SharesAreMaps}
-use Rattle.many_shards_laws.proofs.Homes.{committed_here}
+use Rattle.many_shards_laws.proofs.Homes.{Known, known_here}
 
 -- of the records of a log the writers alone count
 pub fold_writers : (f k : TxId → Bool) (log : List LogRecord) (m : KeyMap) → ((t : TxId) → wrote_in log t ≡ true → f t ≡ k t) → fold_updates f log m ≡ fold_updates k log m
@@ -55,9 +56,14 @@ same_test true b f g = sym (f refl)
 same_test false true f g = g refl
 same_test false false f g = refl
 
+-- who wrote in a log that may be opened, and is committed in some log, is committed in it, or in doubt
+pub writer_known : (splits : List ℕ) (before : List (List LogRecord)) (n : ℕ) (t : TxId) → may_open splits before ≡ true → wrote_in (log_of before n) t ≡ true → committed_somewhere before t ≡ true → Known before n t
+writer_known splits before n t o w c = let m = somewhere_at before t c in known_here splits before n m.0 t o (wrote_within before n t w) (wrote_record (log_of before n) t w) m.2
+
 pub shares_are_maps : SharesAreMaps
-shares_are_maps splits before n o clear i =
-    fold_writers (committed_somewhere before) (committed_somewhere (log_of before n ∷ [])) (log_of before n) []
-    (λ t w. same_test (committed_somewhere before t) (committed_somewhere (log_of before n ∷ []) t)
-    (λ c. let m = somewhere_at before t c in or_left (committed_in (log_of before n) t) false (committed_here splits before n m.0 t o (wrote_within before n t w) (clear n i) (wrote_record (log_of before n) t w) m.2))
-    (λ c. ⊎_elim (λ h. at_somewhere before n t h) (λ h. absurd (both_ways false refl h)) (or_cases (committed_in (log_of before n) t) false c)))
+shares_are_maps splits before n o i =
+    let log = log_of before n in
+    fold_writers (committed_somewhere before) (λ t. committed_in log t || (tx_in t (in_doubt n log) && committed_somewhere before t)) log []
+    (λ t w. same_test (committed_somewhere before t) (committed_in log t || (tx_in t (in_doubt n log) && committed_somewhere before t))
+    (λ c. ⊎_elim (λ a. or_left (committed_in log t) _ a) (λ a. or_right (committed_in log t) _ (and_from _ _ a c)) (writer_known splits before n t o w c))
+    (λ c. ⊎_elim (λ a. at_somewhere before n t a) (λ a. (and_parts (tx_in t (in_doubt n log)) _ a).1) (or_cases (committed_in log t) (tx_in t (in_doubt n log) && committed_somewhere before t) c)))

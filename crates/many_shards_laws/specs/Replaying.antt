@@ -1,5 +1,5 @@
 -- Members of a legal history of many shards, and where each of them is.
-use Rattle.std.specs.Prelude.{◌≡◌, ◌⊎◌, ℕ, ◌<◌, Bool, true, List, [], ◌∷◌}
+use Rattle.std.specs.Prelude.{◌≡◌, ◌⊎◌, ℕ, ◌<◌, Bool, true, List}
 use Rattle.std.specs.List.{list_all}
 use Rattle.clv_base.specs.declared.names.TxId.{TxId}
 use Rattle.clv_base.specs.declared.logs.LogRecord.{LogRecord}
@@ -13,18 +13,17 @@ use Rattle.clv_base.specs.Journals.{History, final_of}
 use Rattle.clv_base.specs.History.{Legal, logs_left, serial_ops, serial_answers}
 use Rattle.history_laws.specs.Continuing.{serial_left}
 use Rattle.fate_laws.specs.Members.{is_member}
-use Rattle.fall_laws.specs.Falls.{OpensClear}
-use Rattle.shard_laws.specs.OneShard.{Passes}
+use Rattle.shard_laws.specs.OneShard.{Passes, map_found}
 use Rattle.each_shard_laws.specs.Leading.{deeds_before, requests_of}
 use Rattle.replay_by_shards.specs.Shares.{share_of}
 
 -- ---- what a log has of the map
 
--- from logs that may be opened and leave nothing in doubt, each shard's share of the map is the map that its own log stands for
+-- of logs that may be opened, what a shard has of the map is what its own log commits, and what it leaves in doubt that some log commits
 abbrev pub SharesAreMaps : Type 0
 SharesAreMaps =
-    (splits : List ℕ) (before : List (List LogRecord)) (n : ℕ) → may_open splits before ≡ true → OpensClear splits before → n < shard_count splits
-    → share_of before n ≡ stands (log_of before n ∷ [])
+    (splits : List ℕ) (before : List (List LogRecord)) (n : ℕ) → may_open splits before ≡ true → n < shard_count splits
+    → share_of before n ≡ map_found n (log_of before n) (committed_somewhere before)
 
 -- ---- where a member is
 
@@ -39,11 +38,11 @@ IsHere splits before h after choice n t =
     ⊎ (IsInDoubt (logs_left splits before h after choice) n t
     ⊎ Passes (requests_of h) (deeds_before before h after n).fell (final_of before h after n) t)
 
--- where nothing was in doubt at opening, and each member by what a crash leaves is here on each shard, the members replay
+-- where each member by what a crash leaves is here on each shard, the members replay
 abbrev pub MembersReplayWhereHere : Type 0
 MembersReplayWhereHere =
     (splits : List ℕ) (before : List (List LogRecord)) (h : History) (after : List (List LogRecord)) (choice : ℕ → Bool)
-    → may_open splits before ≡ true → Legal splits before h after → OpensClear splits before
+    → may_open splits before ≡ true → Legal splits before h after
     → ((n : ℕ) (t : TxId) → n < shard_count splits → is_member splits before h after choice t ≡ true → IsHere splits before h after choice n t)
     → (replay_answers (stands before) (serial_ops (serial_left splits before h after choice)) ≡ serial_answers (serial_left splits before h after choice))
     × (replay_map (stands before) (serial_ops (serial_left splits before h after choice)) ≡ stands (logs_left splits before h after choice))

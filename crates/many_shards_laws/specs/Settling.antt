@@ -1,5 +1,5 @@
 -- What the records of all shards hold where nothing is left to do.
-use Rattle.std.specs.Prelude.{◌≡◌, ℕ, ◌<◌, Bool, true, false, List}
+use Rattle.std.specs.Prelude.{◌≡◌, ℕ, ◌<◌, Bool, true, false, List, []}
 use Rattle.clv_base.specs.declared.names.TxId.{TxId}
 use Rattle.clv_base.specs.declared.causes.Vote.TheVariants.{Read}
 use Rattle.clv_base.specs.declared.logs.LogRecord.{LogRecord}
@@ -7,13 +7,13 @@ use Rattle.clv_base.specs.declared.messages.Message.TheVariants.{Vote as VoteMes
 use Rattle.clv_base.specs.declared.events.Outcome.TheVariants.{Sent}
 use Rattle.clv_base.specs.declared.events.Entry.{Entry}
 use Rattle.clv_base.specs.Maps.{KeyMap}
-use Rattle.clv_base.specs.Logs.{wrote_in, stands}
+use Rattle.clv_base.specs.Logs.{wrote_in, in_doubt, stands}
+use Rattle.clv_base.specs.LogRules.{log_of}
 use Rattle.clv_base.specs.Needs.{live_pairs}
 use Rattle.clv_base.specs.Shards.{shard_count}
 use Rattle.clv_base.specs.FileRules.{may_open}
 use Rattle.clv_base.specs.Journals.{History, final_of}
 use Rattle.clv_base.specs.History.{Legal, IsAmong, IsSettled, logs_left}
-use Rattle.fall_laws.specs.Falls.{OpensClear}
 use Rattle.replay_by_shards.specs.Shares.{in_turn}
 
 -- whom a shard voted read on wrote nothing there
@@ -25,12 +25,11 @@ ReadersWroteNothing splits before h after =
 abbrev pub live_pairs_of_all : List ℕ → List (List LogRecord) → History → List (List LogRecord) → KeyMap
 live_pairs_of_all splits before h after = in_turn (λ n. live_pairs (final_of before h after n).local.records) 0 (shard_count splits)
 
--- where nothing was in doubt at opening, the history is settled, and who voted read wrote nothing, they are the map that the logs left stand for,
--- whatever a crash would keep
+-- where the history is settled, and who voted read wrote nothing, they are the map that the logs left stand for, whatever a crash would keep
 abbrev pub SettledIsTheMapWhereReadersWroteNothing : Type 0
 SettledIsTheMapWhereReadersWroteNothing =
     (splits : List ℕ) (before : List (List LogRecord)) (h : History) (after : List (List LogRecord)) (choice : ℕ → Bool)
-    → may_open splits before ≡ true → Legal splits before h after → OpensClear splits before
+    → may_open splits before ≡ true → Legal splits before h after
     → ReadersWroteNothing splits before h after
     → IsSettled splits before h after
     → live_pairs_of_all splits before h after ≡ stands (logs_left splits before h after choice)
@@ -38,7 +37,7 @@ SettledIsTheMapWhereReadersWroteNothing =
 -- where a history is settled, nothing is in doubt in what is left, whatever a crash would keep: the next opening finds nothing in doubt again
 abbrev pub SettledOpensClear : Type 0
 SettledOpensClear =
-    (splits : List ℕ) (before : List (List LogRecord)) (h : History) (after : List (List LogRecord)) (choice : ℕ → Bool)
-    → may_open splits before ≡ true → Legal splits before h after → OpensClear splits before
-    → IsSettled splits before h after
-    → OpensClear splits (logs_left splits before h after choice)
+    (splits : List ℕ) (before : List (List LogRecord)) (h : History) (after : List (List LogRecord)) (choice : ℕ → Bool) (n : ℕ)
+    → may_open splits before ≡ true → Legal splits before h after
+    → IsSettled splits before h after → n < shard_count splits
+    → in_doubt n (log_of (logs_left splits before h after choice) n) ≡ []

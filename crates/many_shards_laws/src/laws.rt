@@ -4,19 +4,21 @@ ghost use Rattle.many_shards_laws.specs.Replaying.{SharesAreMaps, MembersReplayW
 ghost use Rattle.many_shards_laws.specs.Recovering.{PredecessorsStandBeforeWhereHere};
 ghost use Rattle.many_shards_laws.specs.Settling.{SettledIsTheMapWhereReadersWroteNothing, SettledOpensClear};
 
-/// Where logs may be opened and leave nothing in doubt, what a shard has of the map that they all stand for is what its own log stands for.
+/// Where logs may be opened, what a shard has of the map that they all stand for is what its own log commits, and what it leaves in doubt that
+/// some log commits.
 pub fn shares_are_maps()
     ensures { SharesAreMaps }
 {}
 
-/// In a legal history from such logs, whatever a crash keeps of what is in flight: where each member is here on each shard, the members replay
-/// one after another, in the order of their requests, from the map that the logs found stand for to the map that the logs left stand for, and
-/// give the answers that they were told.
+/// In a legal history, whatever the logs found leave in doubt and whatever a crash keeps of what is in flight: where each member is here on each
+/// shard, the members replay one after another, in the order of their requests, from the map that the logs found stand for to the map that the
+/// logs left stand for, and give the answers that they were told.
 pub fn members_replay_where_here()
     ensures { MembersReplayWhereHere }
 {}
 
-/// No member is left without one that it depends on: whose writes it violated on a shard where it is here is a member too, and stands before it.
+/// No member is left without one that it depends on: whose writes it violated on a shard where it is here is a member too, and stands before it,
+/// or some log found has its COMMIT.
 pub fn predecessors_stand_before_where_here()
     ensures { PredecessorsStandBeforeWhereHere }
 {}
@@ -27,7 +29,7 @@ pub fn settled_is_the_map_where_readers_wrote_nothing()
     ensures { SettledIsTheMapWhereReadersWroteNothing }
 {}
 
-/// Where a history is settled, nothing is in doubt in the logs left.
+/// Where a history is settled, nothing is in doubt in the logs left, whatever was in doubt in those found.
 pub fn settled_opens_clear()
     ensures { SettledOpensClear }
 {}
