@@ -54,7 +54,7 @@ use Rattle.order_laws.proofs.Records.{own_prepare}
 use Rattle.order_laws.proofs.Runs.{record_fits}
 use Rattle.history_laws.proofs.OldRuns.{below_next_run}
 use Rattle.law_base.proofs.Rows.{rows_get}
-use Rattle.wait_laws.specs.Waiting.{OpenedInDoubt, IsRequestOf, AskedBefore, MayDo, IsActiveAs, WaitsForYounger, WithoutRequest, WithRequest, WaitsGoDown, WaitsThrough, at_once, through, WaitsHaveNoCycle}
+use Rattle.wait_laws.specs.Waiting.{OpenedInDoubt, IsRequestOf, AskedBefore, birth_waiting, IsActiveAs, WithoutRequest, WithRequest, WaitsGoDown, WaitsThrough, at_once, through, WaitsHaveNoCycle}
 use Rattle.wait_laws.proofs.Deciding.{Older, less_or_equal, is_less, older_of_test, older_is_told, either, older_then, not_older_itself, in_way}
 use Rattle.wait_laws.proofs.Doubted.{doubt_undecided, has_stage}
 use Rattle.wait_laws.proofs.Opening.{MayHave, MayPrepare, found_in_order}
@@ -202,14 +202,14 @@ no_equal tx u birth (p ∷ ps) g n e d a = at (tx_same u p.0) refl e (no_equal t
 -- an active one in the way is younger
 younger_in_way : (splits : List ℕ) (before after : List (List LogRecord)) (h : History) (n walker nth : ℕ) (t u y : TxId) (birth : Birth) (seen : Option ℕ) (op : Op) → Depends splits before h n (final_of before h after n)
     → MayOffer splits h n (final_of before h after n) walker (OpEvent t birth nth seen op) → happen (final_of before h after n) (OpEvent t birth nth seen op) ≡ QuietAfterWorn (Wait y) → is_active_in_way t op (final_of before h after n) u ≡ true
-    → WaitsForYounger splits h (final_of before h after) t u
+    → (c : Birth) × IsActiveAs (final_of before h after) u c × (is_older birth c ≡ true)
 younger_in_way splits before after h n walker nth t u y birth seen op k m e i =
     let s = final_of before h after n in
     let w = in_way (LockOf s.local.parts) t u y birth (needs_of op s.local.records) s.local.locks (k.tied).rows (decided s t y birth nth seen op e) i in
     let r = w.row in
     let held : Held = r.0 in
     let ne = no_equal t u birth s.local.parts held (not_true (has_equal_active_birth t birth s.local.parts) m.0) r.1 w.apart r.3 in
-    (birth, w.birth_of, (n, walker, nth, seen, op, m), (n, held, r.1, r.3, r.2), told (subst (λ z. is_eq (birth_cmp birth z) ≡ false) r.2 ne) w.not_older (either birth w.birth_of))
+    (w.birth_of, (n, held, r.1, r.3, r.2), told (subst (λ z. is_eq (birth_cmp birth z) ≡ false) r.2 ne) w.not_older (either birth w.birth_of))
   where
     not_true : (b : Bool) → not b ≡ true → b ≡ false
     not_true true q = absurd (both_ways false refl q)
@@ -287,7 +287,8 @@ waits_go_down splits before h after t u m l (for_lock {younger = y} n walker nth
     (λ below k.
     let s = final_of before h after n in
     let o = of_offer splits before after h n walker s (OpEvent t birth nth seen op) (k.traced).run_is may in
-    ((λ e. inl (younger_in_way splits before after h n walker nth t u y birth seen op k may q i)), (λ e. absurd (unasked splits before after h (offered n walker s (OpEvent t birth nth seen op)) walker t birth nth seen op l o refl e))))
+    let r = younger_in_way splits before after h n walker nth t u y birth seen op k may q i in
+    ((λ e. inl (birth, r.0, refl, r.1, r.2)), (λ e. absurd (unasked splits before after h (offered n walker s (OpEvent t birth nth seen op)) walker t birth nth seen op l o refl e))))
     (λ z. absurd (both_ways false refl (subst (λ (w : Shard). is_active_in_way t op w u ≡ true) z i)))
 waits_go_down splits before h after t u m l (for_room n walker nth count birth seen op may q i) =
     nothing_outside splits before after h n m l
@@ -344,6 +345,10 @@ first_edge : (splits : List ℕ) (before after : List (List LogRecord)) (h : His
 first_edge splits before after h t u m l d (at_once w) = old_waits_not splits before after h t u m l (doubted_is_old splits before after h t m l d) w
 first_edge splits before after h t u m l d (through {u = v} w c) = old_waits_not splits before after h t v m l (doubted_is_old splits before after h t m l d) w
 
+-- an operation that the transaction's session may make now on some shard is of this birth
+abbrev MayDo : List ℕ → History → (ℕ → Shard) → TxId → Birth → Type 0
+MayDo splits h states t birth = (n : ℕ) × (walker : ℕ) × (nth : ℕ) × (seen : Option ℕ) × (op : Op) × MayOffer splits h n (states n) walker (OpEvent t birth nth seen op)
+
 -- the active part of one that may do operations is of their birth
 born_alike : (splits : List ℕ) (before after : List (List LogRecord)) (h : History) (u : TxId) (a b : Birth) → may_open splits before ≡ true → Legal splits before h after → MayDo splits h (final_of before h after) u a → IsActiveAs (final_of before h after) u b → b ≡ a
 born_alike splits before after h u a b m l (j, walker, nth, seen, op, may) (n, g, e, st, f) =
@@ -385,8 +390,24 @@ has_asked h u t (x, y, a, b, c) = let p = before_told h u x a in has_some u h x 
 
 -- ---- through any number
 
+-- the first may do operations, the other is active, and younger
+abbrev IsAbove : List ℕ → History → (ℕ → Shard) → TxId → TxId → Type 0
+IsAbove splits h states t u = (a : Birth) × (b : Birth) × MayDo splits h states t a × IsActiveAs states u b × (is_older a b ≡ true)
+
+abbrev Without : List ℕ → List (List LogRecord) → History → (ℕ → Shard) → TxId → TxId → Type 0
+Without splits before h states t u = IsAbove splits h states t u ⊎ ((has_request u h ≡ true) ⊎ OpenedInDoubt splits before u)
+
+may_do : (splits : List ℕ) (h : History) (states : ℕ → Shard) (t u : TxId) (a : Birth) (w : Waits splits h states t u) → birth_waiting w ≡ Some a → MayDo splits h states t a
+may_do splits h states t u a (for_lock n walker nth birth seen op may q i) e = subst (MayDo splits h states t) (some_same birth a e) (n, walker, nth, seen, op, may)
+may_do splits h states t u a (for_room n walker nth count birth seen op may q i) e = subst (MayDo splits h states t) (some_same birth a e) (n, walker, nth, seen, op, may)
+may_do splits h states t u a (for_commit n r w i d) e = absurd (none_some a e)
+
+without : (splits : List ℕ) (before : List (List LogRecord)) (h : History) (states : ℕ → Shard) (t u : TxId) (w : Waits splits h states t u) → WithoutRequest splits before h states (birth_waiting w) u → Without splits before h states t u
+without splits before h states t u w (inl (a, b, e, is, o)) = inl (a, b, may_do splits h states t u a w e, is, o)
+without splits before h states t u w (inr r) = inr r
+
 abbrev Downwards : List ℕ → List (List LogRecord) → List (List LogRecord) → History → TxId → TxId → Type 0
-Downwards splits before after h t u = (has_request t h ≡ false → WithoutRequest splits before h (final_of before h after) t u) × (has_request t h ≡ true → WithRequest splits before h t u)
+Downwards splits before after h t u = (has_request t h ≡ false → Without splits before h (final_of before h after) t u) × (has_request t h ≡ true → WithRequest splits before h t u)
 
 with_then : (splits : List ℕ) (before after : List (List LogRecord)) (h : History) (t u v : TxId) → may_open splits before ≡ true → Legal splits before h after → WithRequest splits before h t u → WaitsThrough splits h (final_of before h after) u v → Downwards splits before after h u v → WithRequest splits before h t v
 with_then splits before after h t u v m l (inr o) c d = absurd (first_edge splits before after h u v m l o c)
@@ -396,35 +417,35 @@ asks_on : (splits : List ℕ) (before : List (List LogRecord)) (h : History) (u 
 asks_on splits before h u v (inl a) = inl (has_asked h v u a)
 asks_on splits before h u v (inr o) = inr o
 
-younger_then : (splits : List ℕ) (before after : List (List LogRecord)) (h : History) (t u v : TxId) → may_open splits before ≡ true → Legal splits before h after → WaitsForYounger splits h (final_of before h after) t u → WithoutRequest splits before h (final_of before h after) u v
-    → WithoutRequest splits before h (final_of before h after) t v
+younger_then : (splits : List ℕ) (before after : List (List LogRecord)) (h : History) (t u v : TxId) → may_open splits before ≡ true → Legal splits before h after → IsAbove splits h (final_of before h after) t u → Without splits before h (final_of before h after) u v
+    → Without splits before h (final_of before h after) t v
 younger_then splits before after h t u v m l w (inr d) = inr d
 younger_then splits before after h t u v m l (a, b, may, is, o) (inl (c, d, may2, is2, o2)) =
     let same = born_alike splits before after h u c b m l may2 is in
     inl (a, d, may, is2, older_is_told a d (older_then a b d (older_of_test a b o) (subst (λ z. Older z d) (sym same) (older_of_test c d o2))))
 
-without_then : (splits : List ℕ) (before after : List (List LogRecord)) (h : History) (t u v : TxId) → may_open splits before ≡ true → Legal splits before h after → WithoutRequest splits before h (final_of before h after) t u → WaitsThrough splits h (final_of before h after) u v → Downwards splits before after h u v
-    → WithoutRequest splits before h (final_of before h after) t v
+without_then : (splits : List ℕ) (before after : List (List LogRecord)) (h : History) (t u v : TxId) → may_open splits before ≡ true → Legal splits before h after → Without splits before h (final_of before h after) t u → WaitsThrough splits h (final_of before h after) u v → Downwards splits before after h u v
+    → Without splits before h (final_of before h after) t v
 without_then splits before after h t u v m l (inr (inr o)) c d = absurd (first_edge splits before after h u v m l o c)
 without_then splits before after h t u v m l (inr (inl a)) c d = inr (asks_on splits before h u v (d.1 a))
 without_then splits before after h t u v m l (inl w) c d = at (has_request u h) refl
   where
-    at : (b : Bool) → has_request u h ≡ b → WithoutRequest splits before h (final_of before h after) t v
+    at : (b : Bool) → has_request u h ≡ b → Without splits before h (final_of before h after) t v
     at true e = inr (asks_on splits before h u v (d.1 e))
     at false e = younger_then splits before after h t u v m l w (d.0 e)
 
 down_through : (splits : List ℕ) (before after : List (List LogRecord)) (h : History) (t v : TxId) → may_open splits before ≡ true → Legal splits before h after → WaitsThrough splits h (final_of before h after) t v → Downwards splits before after h t v
-down_through splits before after h t v m l (at_once w) = waits_go_down splits before h after t v m l w
+down_through splits before after h t v m l (at_once w) = let a = waits_go_down splits before h after t v m l w in ((λ e. without splits before h (final_of before h after) t v w (a.0 e)), a.1)
 down_through splits before after h t v m l (through {u = u} w c) =
     let a = waits_go_down splits before h after t u m l w in
     let d = down_through splits before after h u v m l c in
-    ((λ e. without_then splits before after h t u v m l (a.0 e) c d), (λ e. with_then splits before after h t u v m l (a.1 e) c d))
+    ((λ e. without_then splits before after h t u v m l (without splits before h (final_of before h after) t u w (a.0 e)) c d), (λ e. with_then splits before after h t u v m l (a.1 e) c d))
 
 no_circle : (splits : List ℕ) (before after : List (List LogRecord)) (h : History) (t : TxId) → may_open splits before ≡ true → Legal splits before h after → WaitsThrough splits h (final_of before h after) t t → (b : Bool) → has_request t h ≡ b → Downwards splits before after h t t → ⊥
 no_circle splits before after h t m l c true e d = ⊎_elim (λ a. not_before_self splits before after h t l a) (λ o. first_edge splits before after h t t m l o c) (d.1 e)
 no_circle splits before after h t m l c false e d = at (d.0 e)
   where
-    at : WithoutRequest splits before h (final_of before h after) t t → ⊥
+    at : Without splits before h (final_of before h after) t t → ⊥
     at (inl (a, b, may, is, o)) = not_older_itself a (subst (Older a) (born_alike splits before after h t a b m l may is) (older_of_test a b o))
     at (inr (inl r)) = both_ways _ e r
     at (inr (inr o)) = first_edge splits before after h t t m l o c
