@@ -1,6 +1,8 @@
 -- An acknowledged transaction has its COMMIT at its home, or only read.
 use Rattle.std.proofs.Common.{◌≡◌, ◌⊎◌, inl, inr, sym, ap, subst, ◌∙◌, ℕ, ◌<◌, true, false, Bool, List, [], ◌∷◌, ◌++◌, append-nil}
 use Rattle.std.specs.Prelude.{⊤}
+use Rattle.std.proofs.lemmas.Bool.{or_right}
+use Rattle.clv_base.specs.Logs.{committed_in}
 use Rattle.clv_base.specs.declared.names.TxId.{TxId}
 use Rattle.clv_base.specs.declared.logs.LogRecord.{LogRecord}
 use Rattle.clv_base.specs.declared.events.Event.{Event}
@@ -14,7 +16,7 @@ use Rattle.clv_base.specs.LogRules.{log_of}
 use Rattle.clv_base.specs.State.{Shard}
 use Rattle.clv_base.specs.Restarts.{run_after}
 use Rattle.clv_base.specs.Journals.{History, final_of}
-use Rattle.clv_base.specs.History.{Legal, is_acknowledgement, acknowledged_in}
+use Rattle.clv_base.specs.History.{Legal, is_acknowledgement, acknowledged_in, logs_left}
 use Rattle.protocol_laws.specs.SessionLaws.{tx_of}
 use Rattle.history_laws.proofs.Stepping.{FindsWell, Step, looks_well, Happens, finishes, stops}
 use Rattle.history_laws.proofs.Entering.{Makes, by_event, by_flush, by_failure, by_restart, makes}
@@ -23,13 +25,13 @@ use Rattle.history_laws.proofs.Serials.{any_among}
 use Rattle.history_laws.proofs.Staying.{walker_of, one_request}
 use Rattle.history_laws.proofs.Worlds.{state_at, in_a_shard}
 use Rattle.fate_laws.specs.Decisions.{IsHome, is_left}
-use Rattle.fate_laws.proofs.Deciding.{durable_left}
+use Rattle.fate_laws.proofs.Deciding.{durable_left, is_member_by}
 use Rattle.fate_laws.proofs.Entering.{durable_front}
 use Rattle.fate_laws.proofs.Fates.{fated}
 use Rattle.fate_laws.proofs.Bindings.{bindings_front}
 use Rattle.fate_laws.proofs.Prefixes.{Next, next_at, walk, Counts, counts_next, DurableIn, durable_later, one_home}
 use Rattle.fall_laws.proofs.Finding.{members_never_fell_at_home}
-use Rattle.acknowledged_laws.specs.Acknowledged.{OnlyRead, AcknowledgedStand, AcknowledgedAtHome, AcknowledgementsHaveRequests, AcknowledgedNeverFellAtHome}
+use Rattle.acknowledged_laws.specs.Acknowledged.{OnlyRead, AcknowledgedStand, AcknowledgedAtHome, AcknowledgementsHaveRequests, AcknowledgedAreMembers, AcknowledgedNeverFellAtHome}
 use Rattle.acknowledged_laws.proofs.Quiet.{quiet_absent}
 use Rattle.acknowledged_laws.proofs.Looking.{is_look, told_at_home}
 use Rattle.acknowledged_laws.proofs.Fronts.{Finishes, knows_front}
@@ -152,6 +154,12 @@ acknowledged_at_home splits before h after n e t l i a = told_at_home splits bef
 pub acknowledgements_have_requests : AcknowledgementsHaveRequests
 acknowledgements_have_requests splits before h after t l k =
     let x = any_among (λ e. is_acknowledgement t (e.1).event (e.1).outcome) h k in ((x.0).0, told_at_home splits before h after x.0 t l x.1 x.2)
+
+pub acknowledged_are_members : AcknowledgedAreMembers
+acknowledged_are_members splits before h after choice t l k =
+    let r = acknowledgements_have_requests splits before h after t l k in
+    let b = r.1 in
+    is_member_by (logs_left splits before h after choice) h (r.0, b.0) h t b.1 (is_among r.0 b.0 h b.2) (b.3, b.4) (or_right (committed_in (log_of (logs_left splits before h after choice) r.0) t) _ k)
 
 pub acknowledged_never_fell_at_home : AcknowledgedNeverFellAtHome
 acknowledged_never_fell_at_home splits before h after home t o l k m f = at (acknowledged_stand splits before h after (λ n. false) home m.0 m.1 t o l i k m.2 m.3 m.4)

@@ -17,6 +17,7 @@ use Rattle.clv_base.specs.Coordinator.{others}
 use Rattle.clv_base.specs.Journals.{History, final_of}
 use Rattle.clv_base.specs.History.{Legal, IsAmong, is_acknowledgement, acknowledged_in}
 use Rattle.fate_laws.specs.Decisions.{IsHome, is_left}
+use Rattle.fate_laws.specs.Members.{is_member}
 use Rattle.fall_laws.specs.Falls.{Fell}
 
 -- the shard sent a vote of read on the transaction
@@ -60,3 +61,9 @@ AcknowledgedNeverFellAtHome =
     (splits : List ℕ) (before : List (List LogRecord)) (h : History) (after : List (List LogRecord)) (home : ℕ) (t : TxId)
     → may_open splits before ≡ true → Legal splits before h after
     → acknowledged_in h t ≡ true → IsHome h t home → Fell before h after home t → ⊥
+
+-- and it is a member, whatever a crash keeps
+abbrev pub AcknowledgedAreMembers : Type 0
+AcknowledgedAreMembers =
+    (splits : List ℕ) (before : List (List LogRecord)) (h : History) (after : List (List LogRecord)) (choice : ℕ → Bool) (t : TxId)
+    → Legal splits before h after → acknowledged_in h t ≡ true → is_member splits before h after choice t ≡ true

@@ -1,6 +1,6 @@
 // Acknowledged transactions.
 
-ghost use Rattle.acknowledged_laws.specs.Acknowledged.{AcknowledgedStand, AcknowledgedAtHome, AcknowledgementsHaveRequests, AcknowledgedNeverFellAtHome};
+ghost use Rattle.acknowledged_laws.specs.Acknowledged.{AcknowledgedStand, AcknowledgedAtHome, AcknowledgementsHaveRequests, AcknowledgedAreMembers, AcknowledgedNeverFellAtHome};
 
 /// In a legal history from logs that may be opened: where a transaction is acknowledged, its COMMIT is left at its
 /// home, whatever a crash keeps, or it only read.
@@ -16,6 +16,11 @@ pub fn acknowledged_at_home()
 /// So each acknowledged transaction made its request.
 pub fn acknowledgements_have_requests()
     ensures { AcknowledgementsHaveRequests }
+{}
+
+/// And it is a member, whatever a crash keeps.
+pub fn acknowledged_are_members()
+    ensures { AcknowledgedAreMembers }
 {}
 
 /// The part of an acknowledged transaction at its home never fell.

@@ -85,7 +85,7 @@ told_aborts_stay splits before h after choice n tx m l i r t =
 
 -- ---- members
 
-member_one : (logs : List (List LogRecord)) (h : History) (x : Placed) (es : History) (t : TxId) (ts : List (ℕ × ℕ)) → IsRequest t ts x → committed_in (log_of logs x.0) t ≡ true → tx_in t (map (λ (m : Member). m.tx) (members logs h (x ∷ es))) ≡ true
+member_one : (logs : List (List LogRecord)) (h : History) (x : Placed) (es : History) (t : TxId) (ts : List (ℕ × ℕ)) → IsRequest t ts x → (committed_in (log_of logs x.0) t || acknowledged_in h t) ≡ true → tx_in t (map (λ (m : Member). m.tx) (members logs h (x ∷ es))) ≡ true
 member_one logs h x es t ts r c = at (request_of (x.1).event (x.1).outcome) (ap (λ z. request_of z (x.1).outcome) r.0 ∙ ap (request_of (RequestEvent t ts)) r.1)
   where
     at : (o : Option TxId) → o ≡ Some t
@@ -97,7 +97,7 @@ member_one logs h x es t ts r c = at (request_of (x.1).event (x.1).outcome) (ap 
     at (Some u) e =
         let q : t ≡ u = cc in
         subst (λ b. tx_in t (map (λ (m : Member). m.tx) (cond b (record { tx = u; point = record { stamp = (x.1).stamp; shard = x.0 }; ops = ops_in u h } ∷ members logs h es) (members logs h es))) ≡ true)
-        (sym (or_left (committed_in (log_of logs x.0) u) (acknowledged_in h u) (subst (λ v. committed_in (log_of logs x.0) v ≡ true) q c)))
+        (sym (subst (λ v. (committed_in (log_of logs x.0) v || acknowledged_in h v) ≡ true) q c))
         (or_left (tx_same u t) _ (subst (λ v. tx_same v t ≡ true) q (tx_self t)))
 
 more_members : (logs : List (List LogRecord)) (h : History) (y : Placed) (es : History) (t : TxId) → tx_in t (map (λ (m : Member). m.tx) (members logs h es)) ≡ true → tx_in t (map (λ (m : Member). m.tx) (members logs h (y ∷ es))) ≡ true
@@ -115,7 +115,8 @@ more_members logs h y es t i = at (request_of (y.1).event (y.1).outcome)
     at None = i
     at (Some u) = with (committed_in (log_of logs y.0) u || acknowledged_in h u) _
 
-pub is_member_by : (logs : List (List LogRecord)) (h : History) (x : Placed) (es : History) (t : TxId) (ts : List (ℕ × ℕ)) → Among x es → IsRequest t ts x → committed_in (log_of logs x.0) t ≡ true → tx_in t (map (λ (m : Member). m.tx) (members logs h es)) ≡ true
+-- whose request is among the entries, and who has its COMMIT at home or is acknowledged
+pub is_member_by : (logs : List (List LogRecord)) (h : History) (x : Placed) (es : History) (t : TxId) (ts : List (ℕ × ℕ)) → Among x es → IsRequest t ts x → (committed_in (log_of logs x.0) t || acknowledged_in h t) ≡ true → tx_in t (map (λ (m : Member). m.tx) (members logs h es)) ≡ true
 is_member_by logs h x [] t ts i r c = elim i [ ]
 is_member_by logs h x (y ∷ es) t ts (inl q) r c = subst (λ z. tx_in t (map (λ (m : Member). m.tx) (members logs h (z ∷ es))) ≡ true) (sym q) (member_one logs h x es t ts r c)
 is_member_by logs h x (y ∷ es) t ts (inr i) r c = more_members logs h y es t (is_member_by logs h x es t ts i r c)
@@ -124,4 +125,4 @@ pub commits_are_members : CommitsAreMembers
 commits_are_members splits before h after choice n tx m l i r c =
     let k = commits_stand_at_home splits before h after choice n tx m l i r c in
     let b = k.1 in
-    is_member_by (logs_left splits before h after choice) h (k.0, b.0) h tx b.1 (is_among k.0 b.0 h b.2) (b.3, b.4) k.2
+    is_member_by (logs_left splits before h after choice) h (k.0, b.0) h tx b.1 (is_among k.0 b.0 h b.2) (b.3, b.4) (or_left _ (acknowledged_in h tx) k.2)
