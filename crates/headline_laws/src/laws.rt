@@ -4,7 +4,8 @@ ghost use Rattle.headline_laws.specs.Found.{MembersAreFound, MembersReplay};
 ghost use Rattle.headline_laws.specs.Recovering.{PredecessorsStandBefore};
 ghost use Rattle.headline_laws.specs.Settling.{SettledIsTheMap};
 
-/// On each shard a member has its COMMIT left, or it is in doubt there beside a COMMIT elsewhere, or it asked, wrote nothing there and is gone.
+/// On each shard a member has its COMMIT left; or it is in doubt there beside a COMMIT elsewhere, with all that its PREPARE lists committed; or it
+/// asked, wrote nothing there, and left without falling.
 pub fn members_are_found()
     ensures { MembersAreFound }
 {}

@@ -34,7 +34,7 @@ SettledIsTheMapWhereReadersWroteNothing =
     → IsSettled splits before h after
     → live_pairs_of_all splits before h after ≡ stands (logs_left splits before h after choice)
 
--- where a history is settled, nothing is in doubt in what is left, whatever a crash would keep: the next opening finds nothing in doubt again
+-- where a history is settled, nothing is in doubt in what is left, whatever a crash would keep: the next opening finds nothing in doubt
 abbrev pub SettledOpensClear : Type 0
 SettledOpensClear =
     (splits : List ℕ) (before : List (List LogRecord)) (h : History) (after : List (List LogRecord)) (choice : ℕ → Bool) (n : ℕ)

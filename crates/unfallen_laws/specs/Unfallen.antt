@@ -1,4 +1,4 @@
--- No part of a member ever fell.
+-- Parts of members that never fell: those that are prepared, and those that voted yes.
 use Rattle.std.specs.Prelude.{◌≡◌, ℕ, ◌<◌, Bool, true, List, ◌++◌, map}
 use Rattle.clv_base.specs.declared.names.TxId.{TxId}
 use Rattle.clv_base.specs.declared.logs.LogRecord.{LogRecord}

@@ -1,4 +1,4 @@
-// No part of a member ever fell.
+// Parts of members that never fell: those that are prepared, and those that voted yes.
 
 ghost use Rattle.unfallen_laws.specs.Unfallen.{PreparedMembersNeverFell, YesVotersNeverFell, EarlierMembersNeverFell};
 ghost use Rattle.unfallen_laws.specs.Readers.{OnlyReadersMayFall};
