@@ -4,3 +4,5 @@ pub mod Left
 pub mod Earlier
 pub mod Here
 pub mod Reopening
+pub mod Failed
+pub mod Ends
