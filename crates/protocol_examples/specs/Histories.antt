@@ -81,6 +81,9 @@ Legal_small =
     (is_legal_by_tests [] own_writes.world ≡ true) × (is_legal_by_tests [] flush_failed.world ≡ true) × (is_legal_by_tests [] young_dies.world ≡ true)
     × (is_legal_by_tests [] old_waits.world ≡ true)
 
+abbrev pub Legal_readers : Type 0
+Legal_readers = (is_legal_by_tests [] phantoms.world ≡ true) × (is_legal_by_tests splits_at wide_reader.world ≡ true)
+
 -- the logs that a crash leaves may be opened again
 abbrev pub Opens_again : Type 0
 Opens_again =

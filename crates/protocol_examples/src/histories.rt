@@ -1,6 +1,6 @@
 // The histories of the examples.
 
-ghost use Rattle.protocol_examples.specs.Histories.{Serial_found, Serial_lost, Legal_one, Serial_wide, Legal_wide, Legal_chain, Legal_repeats, Legal_small, Opens_again, Final_state, One_is_legal, Phantoms_replay, Wide_reader_replays};
+ghost use Rattle.protocol_examples.specs.Histories.{Serial_found, Serial_lost, Legal_one, Serial_wide, Legal_wide, Legal_chain, Legal_repeats, Legal_small, Legal_readers, Opens_again, Final_state, One_is_legal, Phantoms_replay, Wide_reader_replays};
 
 /// Where the writer is acknowledged, the serial history is the writer alone.
 pub fn found_history_replays()
@@ -40,6 +40,11 @@ pub fn repeated_messages_are_legal()
 /// So do the small ones.
 pub fn small_examples_are_legal()
     ensures { Legal_small }
+{}
+
+/// So do the history with scans and the one with a reader of two shards.
+pub fn reader_histories_are_legal()
+    ensures { Legal_readers }
 {}
 
 /// The logs that a crash leaves may be opened again, under splits that fit them and under no others.

@@ -1,8 +1,8 @@
 -- The history from the logs with a transaction in doubt is legal, entry by entry.
-use Rattle.std.proofs.Common.{◌≡◌, refl, sym, ◌∙◌, length, lit<, inl, inr, false}
+use Rattle.std.proofs.Common.{◌≡◌, refl, sym, ◌∙◌, length, inl, inr, false}
 use Rattle.clv_base.specs.LogRules.{log_of}
-use Rattle.clv_base.specs.Journals.{MayRun, MayLeave, start_of, final_of, journal_of}
-use Rattle.wide_examples.proofs.Entering.{enters, only_two}
+use Rattle.clv_base.specs.Journals.{MayRun, start_of, final_of, journal_of}
+use Rattle.wide_examples.proofs.Entering.{enters, legal, only_two}
 use Rattle.clv_base.specs.History.{IsQuiet}
 use Rattle.wide_examples.specs.Committed.{wide_logs}
 use Rattle.wide_examples.specs.Reopened.{reopened, reopened_logs, ReopenedIsLegal, ReopenedIsSettled}
@@ -14,23 +14,7 @@ part_runs : MayRun (log_of reopened_logs 1) (start_of wide_logs 1) (journal_of 1
 part_runs = (enters _ _ _ refl (refl, (_, refl)), (enters _ _ _ refl (_, refl), (enters _ _ _ refl (_, refl), (enters _ _ _ refl (_, refl), (enters _ _ _ refl (refl, refl), (enters _ _ _ refl (_, refl), (enters _ _ _ refl (_, refl), tt)))))))
 
 pub reopened_is_legal : ReopenedIsLegal
-reopened_is_legal = (
-  refl,
-  refl,
-  record {
-    splits_rise = refl;
-    ordered = refl;
-    each_log = (refl, refl);
-    in_shards = refl;
-    run_fits = lit< tt;
-    runs = only_two (λ n. MayRun (log_of reopened_logs n) (start_of wide_logs n) (journal_of n reopened)) home_runs part_runs;
-    leaves = only_two (λ n. MayLeave (final_of wide_logs reopened reopened_logs n) (log_of reopened_logs n)) (false, inl refl) (false, inl refl);
-    stamps = refl;
-    sessions = refl;
-    numbered = refl;
-    messages = (tt, (tt, (tt, (tt, ((0, _, inr (inr (inr (inl refl))), refl, refl), (tt, (tt, (tt, (tt, ((1, _, inr (inr (inr (inr (inr (inr (inr (inr (inl refl)))))))), refl, refl), (tt, (tt, tt))))))))))));
-  },
-)
+reopened_is_legal = (refl, refl, legal wide_logs reopened reopened_logs (refl, refl, refl, refl, refl, refl, refl, refl) home_runs part_runs (false, inl refl) (false, inl refl) (tt, (tt, (tt, (tt, ((0, _, inr (inr (inr (inl refl))), refl, refl), (tt, (tt, (tt, (tt, ((1, _, inr (inr (inr (inr (inr (inr (inr (inr (inl refl)))))))), refl, refl), (tt, (tt, tt)))))))))))))
 
 home_durable : (final_of wide_logs reopened reopened_logs 0).durable ≡ 6
 home_durable = refl
@@ -46,4 +30,4 @@ part_length = refl
 
 pub reopened_is_settled : ReopenedIsSettled
 reopened_is_settled =
-    (only_two (λ n. IsQuiet (final_of wide_logs reopened reopened_logs n)) (refl, home_durable ∙ sym home_length, refl, refl) (refl, part_durable ∙ sym part_length, refl, refl), refl, refl)
+    (only_two (λ n. IsQuiet (final_of wide_logs reopened reopened_logs n)) (refl, home_durable ∙ sym home_length, refl, refl) (refl, part_durable ∙ sym part_length, refl, refl), refl)

@@ -1,6 +1,10 @@
 pub mod Entering
 pub mod Wide
 pub mod Again
+pub mod Undoing
 pub mod Refusing
+pub mod Dropping
 pub mod Restarting
 pub mod Flying
+pub mod Following
+pub mod Holding

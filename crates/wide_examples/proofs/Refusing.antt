@@ -1,8 +1,8 @@
 -- The history of the refused commit is legal, entry by entry, and its causes stand.
-use Rattle.std.proofs.Common.{refl, lit<, inl, inr, false}
+use Rattle.std.proofs.Common.{refl, inl, inr, false}
 use Rattle.clv_base.specs.LogRules.{log_of}
-use Rattle.clv_base.specs.Journals.{MayRun, MayLeave, start_of, final_of, journal_of}
-use Rattle.wide_examples.proofs.Entering.{enters, only_two}
+use Rattle.clv_base.specs.Journals.{MayRun, start_of, journal_of}
+use Rattle.wide_examples.proofs.Entering.{enters, legal}
 use Rattle.clv_base.specs.Restarts.{untouched}
 use Rattle.wide_examples.specs.Noted.{new_logs}
 use Rattle.wide_examples.specs.Aborted.{refused, refused_logs, RefusedIsLegal, RefusedHasCauses}
@@ -14,22 +14,7 @@ part_runs : MayRun (log_of refused_logs 1) (start_of new_logs 1) (journal_of 1 r
 part_runs = (enters _ _ _ refl (refl, (_, refl)), (enters _ _ _ refl (refl, (_, refl)), (enters _ _ _ refl (_, refl), (enters _ _ _ refl (refl, (false, (_, untouched, refl, refl))), (enters _ _ _ refl (_, refl), (enters _ _ _ refl (_, refl), tt))))))
 
 pub refused_is_legal : RefusedIsLegal
-refused_is_legal = (
-  refl,
-  record {
-    splits_rise = refl;
-    ordered = refl;
-    each_log = (refl, refl);
-    in_shards = refl;
-    run_fits = lit< tt;
-    runs = only_two (λ n. MayRun (log_of refused_logs n) (start_of new_logs n) (journal_of n refused)) home_runs part_runs;
-    leaves = only_two (λ n. MayLeave (final_of new_logs refused refused_logs n) (log_of refused_logs n)) (false, inl refl) (false, inl refl);
-    stamps = refl;
-    sessions = refl;
-    numbered = refl;
-    messages = (tt, (tt, (tt, (tt, (tt, (tt, (tt, (tt, (tt, ((0, _, inr (inr (inr (inr (inr (inr (inr (inr (inl refl)))))))), refl, refl), (tt, ((1, _, inr (inr (inr (inr (inr (inr (inr (inr (inr (inr (inl refl)))))))))), refl, refl), (tt, (tt, tt))))))))))))));
-  },
-)
+refused_is_legal = (refl, legal new_logs refused refused_logs (refl, refl, refl, refl, refl, refl, refl, refl) home_runs part_runs (false, inl refl) (false, inl refl) (tt, (tt, (tt, (tt, (tt, (tt, (tt, (tt, (tt, ((0, _, inr (inr (inr (inr (inr (inr (inr (inr (inl refl)))))))), refl, refl), (tt, ((1, _, inr (inr (inr (inr (inr (inr (inr (inr (inr (inr (inl refl)))))))))), refl, refl), (tt, (tt, tt)))))))))))))))
 
 pub refused_has_causes : RefusedHasCauses
 refused_has_causes = (refl, (11, refl, refl), (_, inr (inr (inr (inr (inr (inr (inr (inr (inr (inr (inr (inl refl))))))))))), refl))

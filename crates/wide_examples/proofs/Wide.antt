@@ -1,8 +1,8 @@
 -- The history of the commit over two shards is legal, entry by entry.
-use Rattle.std.proofs.Common.{refl, lit<, inl, inr, false}
+use Rattle.std.proofs.Common.{refl, inl, inr, false}
 use Rattle.clv_base.specs.LogRules.{log_of}
-use Rattle.clv_base.specs.Journals.{MayRun, MayLeave, start_of, final_of, journal_of}
-use Rattle.wide_examples.proofs.Entering.{enters, only_two}
+use Rattle.clv_base.specs.Journals.{MayRun, start_of, journal_of}
+use Rattle.wide_examples.proofs.Entering.{enters, legal}
 use Rattle.wide_examples.specs.Noted.{new_logs}
 use Rattle.wide_examples.specs.Committed.{wide, wide_logs, WideIsLegal}
 
@@ -13,19 +13,4 @@ part_runs : MayRun (log_of wide_logs 1) (start_of new_logs 1) (journal_of 1 wide
 part_runs = (enters _ _ _ refl (refl, (_, refl)), (enters _ _ _ refl (_, refl), (enters _ _ _ refl (_, refl), (enters _ _ _ refl (refl, refl), (enters _ _ _ refl (_, refl), (enters _ _ _ refl (_, refl), tt))))))
 
 pub wide_is_legal : WideIsLegal
-wide_is_legal = (
-  refl,
-  record {
-    splits_rise = refl;
-    ordered = refl;
-    each_log = (refl, refl);
-    in_shards = refl;
-    run_fits = lit< tt;
-    runs = only_two (λ n. MayRun (log_of wide_logs n) (start_of new_logs n) (journal_of n wide)) home_runs part_runs;
-    leaves = only_two (λ n. MayLeave (final_of new_logs wide wide_logs n) (log_of wide_logs n)) (false, inl refl) (false, inl refl);
-    stamps = refl;
-    sessions = refl;
-    numbered = refl;
-    messages = (tt, (tt, (tt, (tt, ((0, _, inr (inr (inr (inl refl))), refl, refl), (tt, (tt, (tt, ((1, _, inr (inr (inr (inr (inr (inr (inr (inl refl))))))), refl, refl), (tt, (tt, (tt, (tt, ((0, _, inr (inr (inr (inr (inr (inr (inr (inr (inr (inr (inr (inr (inl refl)))))))))))), refl, refl), tt))))))))))))));
-  },
-)
+wide_is_legal = (refl, legal new_logs wide wide_logs (refl, refl, refl, refl, refl, refl, refl, refl) home_runs part_runs (false, inl refl) (false, inl refl) (tt, (tt, (tt, (tt, ((0, _, inr (inr (inr (inl refl))), refl, refl), (tt, (tt, (tt, ((1, _, inr (inr (inr (inr (inr (inr (inr (inl refl))))))), refl, refl), (tt, (tt, (tt, (tt, ((0, _, inr (inr (inr (inr (inr (inr (inr (inr (inr (inr (inr (inr (inl refl)))))))))))), refl, refl), tt)))))))))))))))

@@ -1,6 +1,10 @@
 pub mod Noted
 pub mod Committed
 pub mod Reopened
+pub mod Undone
 pub mod Aborted
+pub mod Dropped
 pub mod Restarted
 pub mod Flight
+pub mod Reading
+pub mod Waiting

@@ -8,12 +8,13 @@ use Rattle.clv_base.specs.declared.logs.LogRecord.{LogRecord}
 use Rattle.clv_base.specs.declared.logs.LogRecord.TheVariants.{Commit, End, Restart as RestartRecord}
 use Rattle.clv_base.specs.declared.events.Event.TheVariants.{Op as OpEvent, Request, Look, Send, Deliver, Remind, FlushOut, FlushIn}
 use Rattle.clv_base.specs.declared.events.Outcome.TheVariants.{Answered, Asked, Acknowledged, Sent, Taken, Reminded, Out, Durable}
+use Rattle.clv_base.specs.Maps.{replay_map, replay_answers}
 use Rattle.clv_base.specs.Logs.{stands, in_doubt, committed_somewhere}
 use Rattle.clv_base.specs.LogRules.{log_of}
 use Rattle.clv_base.specs.FileRules.{may_open}
 use Rattle.clv_base.specs.Needs.{live_pairs}
 use Rattle.clv_base.specs.Journals.{History, start_of, final_of, journal_of, predecessors_in}
-use Rattle.clv_base.specs.History.{Legal, Member, IsSettled}
+use Rattle.clv_base.specs.History.{Legal, Member, serial_ops, serial_answers, IsSettled}
 use Rattle.history_laws.specs.Continuing.{serial_left}
 use Rattle.wide_examples.specs.Noted.{splits, tx, born, writer, on_0, on_1}
 use Rattle.wide_examples.specs.Committed.{home_log, part_log, wide_logs}
@@ -46,15 +47,17 @@ ReopenedIsLegal = (may_open splits wide_logs ≡ true) × (in_doubt 1 (log_of wi
 abbrev pub reader_member : Member
 reader_member = record { tx = reader; point = record { stamp = 3; shard = 1 }; ops = (Get 5, Value (Some 50)) ∷ [] }
 
--- the reader is the one member; its predecessor was committed at opening
+-- the reader is the one member, and replays; its predecessor was committed at opening
 abbrev pub ReopenedHasMember : Type 0
 ReopenedHasMember =
     (serial_left splits wide_logs reopened reopened_logs (λ n. false) ≡ reader_member ∷ [])
+    × (replay_answers (stands wide_logs) (serial_ops (reader_member ∷ [])) ≡ serial_answers (reader_member ∷ []))
+    × (replay_map (stands wide_logs) (serial_ops (reader_member ∷ [])) ≡ stands reopened_logs)
     × (predecessors_in (log_of reopened_logs 1) (start_of wide_logs 1) reader (journal_of 1 reopened) ≡ writer ∷ []) × (committed_somewhere wide_logs writer ≡ true)
     × (stands wide_logs ≡ (3, 30) ∷ (5, 50) ∷ []) × (stands reopened_logs ≡ (3, 30) ∷ (5, 50) ∷ [])
 
--- nothing is left to do, and the live records of both shards are that map
+-- nothing is left to do, and the live records of both shards, one after the other, are that map
 abbrev pub ReopenedIsSettled : Type 0
 ReopenedIsSettled =
-    IsSettled splits wide_logs reopened reopened_logs × (live_pairs (final_of wide_logs reopened reopened_logs 0).local.records ≡ (3, 30) ∷ [])
-    × (live_pairs (final_of wide_logs reopened reopened_logs 1).local.records ≡ (5, 50) ∷ [])
+    IsSettled splits wide_logs reopened reopened_logs
+    × (live_pairs (final_of wide_logs reopened reopened_logs 0).local.records ++ live_pairs (final_of wide_logs reopened reopened_logs 1).local.records ≡ stands reopened_logs)

@@ -1,5 +1,5 @@
--- A shard is restarted with a prepared transaction and a loser, which read past its write: the first restart fails behind the loser's ABORT.
-use Rattle.std.specs.Prelude.{◌≡◌, true, false, List, [], ◌∷◌, Some, None}
+-- A shard is restarted with a prepared transaction and a loser, which inserted past its write: the first restart fails once all its records are written.
+use Rattle.std.specs.Prelude.{◌≡◌, true, false, List, [], ◌∷◌, ◌++◌, Some, None}
 use Rattle.clv_base.specs.declared.names.TxId.{TxId}
 use Rattle.clv_base.specs.declared.ops.Op.TheVariants.{Put}
 use Rattle.clv_base.specs.declared.ops.Answer.TheVariants.{Value}
@@ -22,8 +22,9 @@ use Rattle.wide_examples.specs.Noted.{splits, new_logs, tx, born, writer, on_0, 
 abbrev pub loser : TxId
 loser = tx 1 2
 
-abbrev pub restarted : History
-restarted =
+-- up to the stop of the shard that voted yes
+abbrev pub down : History
+down =
     on_0 2 1 (OpEvent writer (born 1 1) 1 None (Put 3 30)) (Answered (Value None) 0)
     ∷ on_1 3 1 (OpEvent writer (born 1 1) 2 None (Put 5 50)) (Answered (Value None) 0)
     ∷ on_0 4 1 (Request writer ((0, 0) ∷ (1, 0) ∷ [])) Asked
@@ -34,22 +35,34 @@ restarted =
     ∷ on_1 9 0 FlushIn (Durable 4)
     ∷ on_1 10 0 Send (Sent (VoteMessage 0 writer 1 Yes))
     ∷ on_1 11 0 Stop Stopped
-    ∷ on_1 12 0 Restart (Up 1)
+    ∷ []
+
+-- its restart, and the commit at the home
+abbrev pub restarted : History
+restarted =
+    down
+    ++ on_1 12 0 Restart (Up 2)
     ∷ on_0 13 0 (Deliver (VoteMessage 0 writer 1 Yes) 10) Taken
     ∷ on_0 14 0 FlushOut (Out 4)
     ∷ on_0 15 0 FlushIn (Durable 4)
     ∷ on_0 16 1 (Look writer) Acknowledged
     ∷ []
 
+-- what the shard has durable when it stops
+abbrev pub stopped_log : List LogRecord
+stopped_log = RestartRecord 1 0 ∷ Update writer 5 None (Some 50) ∷ PrepareRecord writer 0 [] ∷ Update loser 7 None (Some 70) ∷ []
+
+-- what the first restart leaves: all that it was to write
+abbrev pub failed_log : List LogRecord
+failed_log = stopped_log ++ Abort loser ∷ Clr loser None 7 None ∷ RestartRecord 1 1 ∷ []
+
 abbrev pub restarted_logs : List (List LogRecord)
 restarted_logs =
-    (RestartRecord 1 0 ∷ Update writer 3 None (Some 30) ∷ PrepareRecord writer 0 [] ∷ Commit writer (1 ∷ []) ∷ [])
-    ∷ (RestartRecord 1 0 ∷ Update writer 5 None (Some 50) ∷ PrepareRecord writer 0 [] ∷ Update loser 7 None (Some 70) ∷ Abort loser ∷ Clr loser None 7 None ∷ RestartRecord 1 1 ∷ [])
-    ∷ []
+    (RestartRecord 1 0 ∷ Update writer 3 None (Some 30) ∷ PrepareRecord writer 0 [] ∷ Commit writer (1 ∷ []) ∷ []) ∷ (failed_log ++ RestartRecord 1 2 ∷ []) ∷ []
 
--- what the first restart leaves
-abbrev pub failed_log : List LogRecord
-failed_log = RestartRecord 1 0 ∷ Update writer 5 None (Some 50) ∷ PrepareRecord writer 0 [] ∷ Update loser 7 None (Some 70) ∷ Abort loser ∷ []
+-- the shard is down at the end, behind a restart that failed after the loser's ABORT
+abbrev pub down_logs : List (List LogRecord)
+down_logs = (RestartRecord 1 0 ∷ []) ∷ (stopped_log ++ Abort loser ∷ []) ∷ []
 
 abbrev pub RestartedIsLegal : Type 0
 RestartedIsLegal = (may_open splits new_logs ≡ true) × Legal splits new_logs restarted restarted_logs
@@ -63,3 +76,12 @@ RestartedHasMember =
     (serial_left splits new_logs restarted restarted_logs (λ n. false) ≡ restarted_member ∷ []) × (in_doubt 1 (log_of restarted_logs 1) ≡ writer ∷ [])
     × (stage_of (final_of new_logs restarted restarted_logs 1).local writer ≡ Some Closed) × (stage_of (final_of new_logs restarted restarted_logs 1).local loser ≡ None)
     × (stands restarted_logs ≡ (3, 30) ∷ (5, 50) ∷ []) × (may_open splits (logs_left splits new_logs restarted restarted_logs (λ n. false)) ≡ true)
+
+abbrev pub DownIsLegal : Type 0
+DownIsLegal = Legal splits new_logs down down_logs
+
+-- nobody is a member; the logs, with the bare ABORT, may be opened, with the writer in doubt, and stand for nothing
+abbrev pub DownMayBeOpened : Type 0
+DownMayBeOpened =
+    (serial_left splits new_logs down down_logs (λ n. false) ≡ []) × (may_open splits down_logs ≡ true) × (in_doubt 1 (log_of down_logs 1) ≡ writer ∷ [])
+    × (stands down_logs ≡ []) × ((final_of new_logs down down_logs 1).is_up ≡ false)

@@ -1,8 +1,8 @@
 // A shard is restarted, once in vain, with a prepared transaction and a loser.
 
-ghost use Rattle.wide_examples.specs.Restarted.{RestartedIsLegal, RestartedHasMember};
+ghost use Rattle.wide_examples.specs.Restarted.{RestartedIsLegal, RestartedHasMember, DownIsLegal, DownMayBeOpened};
 
-/// The shard voted yes and stops; a restart fails behind the loser's ABORT, and the next one goes on from there; the history is legal.
+/// The shard voted yes and stops; a restart fails once its RESTART is written, and the next one has the epoch after that; the history is legal.
 pub fn restarted_is_legal()
     ensures { RestartedIsLegal }
 {}
@@ -10,4 +10,14 @@ pub fn restarted_is_legal()
 /// The prepared transaction is in doubt there, its part is restored, and it is a member; the loser is gone; what a crash leaves may be opened.
 pub fn restarted_has_member()
     ensures { RestartedHasMember }
+{}
+
+/// The history that ends while the shard is down, behind a restart that failed after the loser's ABORT, is legal.
+pub fn down_is_legal()
+    ensures { DownIsLegal }
+{}
+
+/// Its logs may be opened, with the transaction in doubt.
+pub fn down_may_be_opened()
+    ensures { DownMayBeOpened }
 {}
