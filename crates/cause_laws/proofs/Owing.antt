@@ -27,7 +27,7 @@ use Rattle.protocol_laws.specs.SessionLaws.{tx_of, ended_by}
 use Rattle.history_laws.proofs.Merging.{Placed, among_left, among_right, in_order, own_in_order, precedes_before}
 use Rattle.history_laws.proofs.Staying.{walker_of, one_request}
 use Rattle.history_laws.proofs.Worlds.{state_at}
-use Rattle.one_shard_laws.proofs.Dropping.{drop_after_request}
+use Rattle.session_laws.proofs.Dropping.{drop_after_request}
 use Rattle.file_laws.proofs.Walking.{Behind}
 use Rattle.origin_laws.proofs.Sessions.{Requested, turn_of, own_precedes, from_own, first_among, op_no_request}
 use Rattle.origin_laws.proofs.Origins.{StateFrom, AwayRequest, row_of}

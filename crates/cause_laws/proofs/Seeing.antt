@@ -12,8 +12,8 @@ use Rattle.clv_base.specs.LogRules.{same_option}
 use Rattle.clv_base.specs.Sessions.{SessionState, is_number, lies_in, session_for, op_answered, op_in_session, session_after, makes_from}
 use Rattle.law_base.proofs.Changed.{none_some, some_same}
 use Rattle.history_laws.proofs.Merging.{Placed, Among, Precedes, front_precedes}
-use Rattle.one_shard_laws.proofs.Walking.{For, nobody, the_same, a_new_one, for_by}
-use Rattle.one_shard_laws.proofs.Naming.{AnsweredAt, Traced, traced_next, named_case}
+use Rattle.session_laws.proofs.Walking.{For, nobody, the_same, a_new_one, for_by}
+use Rattle.session_laws.proofs.Naming.{AnsweredAt, Traced, traced_next, named_case}
 
 -- what holds of each row holds of one that is found
 pub lookup_row : (P : ℕ × ℕ → Type 0) (n v : ℕ) (rs : List (ℕ × ℕ)) → lookup (◌==◌ n) rs ≡ Some v → AllByRecursion P rs → P (n, v)

@@ -37,7 +37,7 @@ use Rattle.law_base.proofs.Tables.{stage_by, stage_in, is_pair, get_put}
 use Rattle.shard_laws.proofs.Closing.{stage_closed, stage_other}
 use Rattle.shard_laws.proofs.Marking.{stage_marked}
 use Rattle.history_laws.proofs.Stepping.{with_work, Step, op_dies, op_answers, request_refused, request_doomed, request_again, request_new, request_closes, looks_well, looks_ill, drops, sends, prepare_closes, prepare_again, vote_counts, decision_comes, decision_again, done_counts, asked, reminds, flushes}
-use Rattle.one_shard_laws.proofs.OwningEvents.{OpIs, dies, rolls, performs, reply_is}
+use Rattle.session_laws.proofs.Replying.{OpIs, dies, rolls, performs, reply_is}
 use Rattle.origin_laws.proofs.Events.{written_parts}
 use Rattle.cause_laws.proofs.Votes.{votes_more}
 use Rattle.cause_laws.proofs.Resting.{Unopposed}

@@ -35,8 +35,8 @@ use Rattle.history_laws.proofs.Staying.{walker_of, together}
 use Rattle.history_laws.proofs.Stepping.{FindsIll, Step, op_dies, Happens, finishes, stops}
 use Rattle.history_laws.proofs.Walkers.{nothing_follows}
 use Rattle.history_laws.proofs.Worlds.{state_at}
-use Rattle.one_shard_laws.proofs.Naming.{AnsweredAt}
-use Rattle.one_shard_laws.proofs.Requesting.{IllOf, ill, ill_happens}
+use Rattle.session_laws.proofs.Naming.{AnsweredAt}
+use Rattle.session_laws.proofs.Looking.{IllOf, ill, ill_happens}
 use Rattle.origin_laws.proofs.Sessions.{Turn, Requested, turn_of, own_precedes, from_own, first_among, named_at, op_no_request}
 use Rattle.origin_laws.proofs.Origins.{SomeRequest, part_of}
 use Rattle.origin_laws.proofs.Entries.{IsOld}

@@ -32,7 +32,7 @@ in_case : (b : Bool) (u t : TxId) (rest : List TxId) → tx_in t (cond b (u ∷ 
 in_case true u t rest e = ⊎_elim (λ s. inl (s, refl)) (λ i. inr i) (or_cases (tx_same u t) (tx_in t rest) e)
 in_case false u t rest e = inr e
 
-ordered_is : (doubt : TxId → Bool) (log : List LogRecord) (t : TxId) → tx_in t (prepared_order doubt log) ≡ true → doubt t ≡ true
+pub ordered_is : (doubt : TxId → Bool) (log : List LogRecord) (t : TxId) → tx_in t (prepared_order doubt log) ≡ true → doubt t ≡ true
 ordered_is doubt [] t e = absurd (both_ways false refl e)
 ordered_is doubt (Prepare tx home ps ∷ rs) t e =
     ⊎_elim (λ s. subst (λ u. doubt u ≡ true) (tx_true tx t s.0) s.1) (λ i. ordered_is doubt rs t i) (in_case (doubt tx) tx t (prepared_order doubt rs) e)

@@ -23,7 +23,7 @@ use Rattle.shard_laws.specs.OneShard.{predecessors_committed}
 use Rattle.history_laws.proofs.Merging.{Placed, in_order, not_before_itself, before_then, in_turn, precedes_before, own_in_order}
 use Rattle.history_laws.proofs.Staying.{walker_of, together}
 use Rattle.history_laws.proofs.TellingEvents.{front_committed}
-use Rattle.one_shard_laws.proofs.Dropping.{drop_after_request}
+use Rattle.session_laws.proofs.Dropping.{drop_after_request}
 use Rattle.origin_laws.proofs.Sessions.{from_own, first_among}
 use Rattle.fate_laws.proofs.Prefixes.{Next, next_at, AskedIn, one_home}
 use Rattle.fate_laws.proofs.Fates.{DeadIn, delivered}

@@ -30,7 +30,7 @@ use Rattle.shard_laws.proofs.Histories.{named_doomed}
 use Rattle.shard_laws.proofs.Leaving.{in_two}
 use Rattle.shard_laws.proofs.Dooming.{in_filter}
 use Rattle.history_laws.proofs.Merging.{Placed, among_left, among_right}
-use Rattle.one_shard_laws.proofs.Leading.{one_met}
+use Rattle.session_laws.proofs.Adding.{one_met}
 use Rattle.origin_laws.proofs.Sessions.{Requested}
 use Rattle.origin_laws.proofs.Origins.{SomeRequest, BirthFrom, PartFrom, stage_row}
 use Rattle.origin_laws.proofs.Entries.{Did, DidAny, IsOld, DidOrOld, Traced, any_of}

@@ -19,7 +19,7 @@ use Rattle.clv_base.specs.History.{is_acknowledgement, acknowledged_in, ops_in, 
 use Rattle.clv_base.proofs.SameNames.{tx_self, tx_flip, in_insert}
 use Rattle.shard_laws.specs.OneShard.{items_of, has_met, new_met}
 use Rattle.history_laws.proofs.Merging.{Placed}
-use Rattle.one_shard_laws.proofs.Leading.{ops_append, items_next, told_next, told_pair}
+use Rattle.session_laws.proofs.Adding.{ops_append, items_next, told_next, told_pair}
 use Rattle.each_shard_laws.specs.Leading.{Deeds, deeds_with, deeds_after, deeds_before, no_deeds}
 use Rattle.each_shard_laws.specs.Telling.{own_entries, DeedsAreTold}
 use Rattle.each_shard_laws.proofs.Deeds.{deeds_own, deeds_other}

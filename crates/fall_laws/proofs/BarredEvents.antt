@@ -43,7 +43,7 @@ use Rattle.law_base.proofs.Tables.{get_put}
 use Rattle.history_laws.proofs.Stepping.{Step, op_dies, op_answers, request_refused, request_doomed, request_again, request_new, request_closes, looks_well, looks_ill, drops, sends, prepare_closes, prepare_again, vote_counts, decision_comes, decision_again, done_counts, asked, reminds, flushes}
 use Rattle.shard_laws.proofs.LockRows.{Rows}
 use Rattle.shard_laws.proofs.Closing.{stage_closed, stage_other as closed_other}
-use Rattle.one_shard_laws.proofs.OwningEvents.{OpIs, dies, rolls, reply_is}
+use Rattle.session_laws.proofs.Replying.{OpIs, dies, rolls, reply_is}
 use Rattle.fate_laws.proofs.Inside.{inside_step}
 use Rattle.fate_laws.proofs.Calm.{calm_step}
 use Rattle.fate_laws.proofs.Closings.{Commits, alone, decided, step_prepares, step_commits}

@@ -37,7 +37,7 @@ use Rattle.shard_laws.proofs.LockRows.{Rows}
 use Rattle.shard_laws.proofs.Leaving.{active_back}
 use Rattle.shard_laws.proofs.Marking.{stage_marked}
 use Rattle.shard_laws.proofs.Granting.{other_part}
-use Rattle.one_shard_laws.proofs.OwningEvents.{OpIs, performs}
+use Rattle.session_laws.proofs.Replying.{OpIs, performs}
 use Rattle.fate_laws.proofs.Inside.{inside_step}
 use Rattle.fate_laws.proofs.Prepares.{op_answering}
 use Rattle.fate_laws.proofs.Closings.{Commits, alone, decided, step_commits}

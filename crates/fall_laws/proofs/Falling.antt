@@ -45,8 +45,8 @@ use Rattle.history_laws.proofs.TellingEvents.{front_committed}
 use Rattle.shard_laws.proofs.Dooming.{list_all_at}
 use Rattle.shard_laws.proofs.Following.{Follows, from_disorder}
 use Rattle.shard_laws.proofs.Restoring.{restored_closed}
-use Rattle.one_shard_laws.proofs.OwningEvents.{OpIs, waits, no_room, dies, rolls, performs, reply_is}
-use Rattle.one_shard_laws.proofs.Dropping.{drop_after_request}
+use Rattle.session_laws.proofs.Replying.{OpIs, waits, no_room, dies, rolls, performs, reply_is}
+use Rattle.session_laws.proofs.Dropping.{drop_after_request}
 use Rattle.file_laws.proofs.Walking.{Behind, next_entry}
 use Rattle.origin_laws.proofs.Sessions.{Requested, same_epoch, turn_of, from_own, first_among}
 use Rattle.origin_laws.proofs.Origins.{stage_row, PartFrom, StageFrom, SomeRequest}

@@ -38,7 +38,7 @@ use Rattle.shard_laws.proofs.Closing.{stage_other as closed_other}
 use Rattle.shard_laws.proofs.Leaving.{stage_own, stage_other, gone_by}
 use Rattle.shard_laws.proofs.Marking.{stage_marked}
 use Rattle.shard_laws.proofs.Restoring.{restored_none}
-use Rattle.one_shard_laws.proofs.OwningEvents.{OpIs, dies, rolls, performs, reply_is}
+use Rattle.session_laws.proofs.Replying.{OpIs, dies, rolls, performs, reply_is}
 use Rattle.origin_laws.proofs.Entries.{traced_front}
 use Rattle.fate_laws.proofs.Prefixes.{Next, next_at, stays_as_it_was, asked_later}
 use Rattle.fate_laws.proofs.Prepares.{there_prepare}

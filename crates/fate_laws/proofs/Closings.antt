@@ -32,7 +32,7 @@ use Rattle.shard_laws.proofs.Leaving.{closed_back}
 use Rattle.shard_laws.proofs.Closing.{stage_closed, stage_other as closed_other}
 use Rattle.shard_laws.proofs.Marking.{stage_marked}
 use Rattle.shard_laws.proofs.Granting.{other_part}
-use Rattle.one_shard_laws.proofs.OwningEvents.{OpIs, dies, rolls, performs, reply_is}
+use Rattle.session_laws.proofs.Replying.{OpIs, dies, rolls, performs, reply_is}
 use Rattle.history_laws.proofs.Stepping.{Step, op_dies, op_answers, request_refused, request_doomed, request_again, request_new, request_closes, looks_well, looks_ill, drops, sends, prepare_closes, prepare_again, vote_counts, decision_comes, decision_again, done_counts, asked, reminds, flushes}
 use Rattle.history_laws.proofs.Uncommitting.{with_more, rolled as rolled_commits, dropped as dropped_commits, op_dying as dying_commits, op_answering as answering_commits}
 use Rattle.fate_laws.proofs.Prepares.{plain_more, prepare_new, rolled, dropped, op_dying, op_answering}

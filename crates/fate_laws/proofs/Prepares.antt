@@ -19,7 +19,7 @@ use Rattle.clv_base.specs.OneShard.{OpDies, OpAnswers, op_reply, written, locked
 use Rattle.clv_base.specs.Restarts.{undo_records, restart_records, log_after_restart, next_epoch, losers, FailedRestarts, untouched, failed_first, Restarts}
 use Rattle.clv_base.proofs.SameNames.{tx_true}
 use Rattle.shard_laws.proofs.Prepared.{prepared_from, prepare_keeps}
-use Rattle.one_shard_laws.proofs.OwningEvents.{OpIs, dies, rolls, performs, reply_is}
+use Rattle.session_laws.proofs.Replying.{OpIs, dies, rolls, performs, reply_is}
 use Rattle.history_laws.proofs.Telling.{all_append}
 
 pub prepare_there : (log : List LogRecord) (t : TxId) (p : ℕ × List TxId) → prepare_of log t ≡ Some p → prepared_in log t ≡ true

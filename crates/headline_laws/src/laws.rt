@@ -16,7 +16,8 @@ pub fn members_replay()
     ensures { MembersReplay }
 {}
 
-/// Whose write a member violated, on any shard, is a member at an earlier place, or some log found has its COMMIT.
+/// Whose write a member violated, on any shard, is a member at an earlier place, or it was in doubt there in the log found, and some log found has
+/// its COMMIT.
 pub fn predecessors_stand_before()
     ensures { PredecessorsStandBefore }
 {}

@@ -23,7 +23,7 @@ use Rattle.history_laws.specs.Continuing.{GoesOn, serial_now, serial_left}
 use Rattle.history_laws.specs.Outcomes.{aborted_in_history}
 use Rattle.clv_base.specs.declared.names.TxId.{TxId}
 use Rattle.clv_base.specs.declared.names.Birth.{Birth}
-use Rattle.one_shard_laws.specs.Recovering.{predecessors_of_history}
+use Rattle.session_laws.specs.Places.{predecessors_on}
 
 -- a disk that was made and never used: one shard, whose log has no record
 abbrev pub new_log : List (List LogRecord)
@@ -122,7 +122,7 @@ reader_member = record { tx = reader; point = record { stamp = 5; shard = 0 }; o
 abbrev pub ViolatedHasMembers : Type 0
 ViolatedHasMembers =
     (serial_left [] new_log violated (violated_log ∷ []) (λ n. false) ≡ first_member ∷ reader_member ∷ [])
-    × (predecessors_of_history new_log violated (violated_log ∷ []) reader ≡ tx_of 1 1 ∷ [])
+    × (predecessors_on new_log violated (violated_log ∷ []) 0 reader ≡ tx_of 1 1 ∷ [])
 
 -- ---- a log with a committed transaction and a loser, which wrote over it
 

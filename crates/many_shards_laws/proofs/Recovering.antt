@@ -1,13 +1,13 @@
--- Whose writes a member violated on a shard where it is here is a member before it, or was committed at opening.
+-- Whose writes a member violated on a shard where it is here is a member before it, or was in doubt there at opening and has a COMMIT.
 use Rattle.std.proofs.Common.{◌≡◌, ◌⊎◌, inl, inr, ⊎_elim, refl, sym, ap, subst, ◌∙◌, ℕ, ◌<◌, true, false, cond, Bool, ◌&&◌, ◌||◌, List, [], ◌∷◌, ◌++◌, arith}
 use Rattle.std.specs.Prelude.{unwrap_or}
 use Rattle.std.specs.List.{filter}
-use Rattle.std.proofs.lemmas.Bool.{both_ways, or_cases, or_left, or_right, false_from_ne_true}
+use Rattle.std.proofs.lemmas.Bool.{both_ways, or_cases, or_left, or_right}
 use Rattle.std.proofs.lemmas.List.Folds.{list_any-append}
 use Rattle.clv_base.specs.declared.names.TxId.{TxId}
 use Rattle.clv_base.specs.declared.logs.LogRecord.{LogRecord}
 use Rattle.clv_base.specs.Orders.{tx_same, tx_in}
-use Rattle.clv_base.specs.Logs.{committed_in, committed_somewhere}
+use Rattle.clv_base.specs.Logs.{committed_in, committed_somewhere, in_doubt}
 use Rattle.clv_base.specs.LogRules.{log_of}
 use Rattle.clv_base.specs.Shards.{shard_count}
 use Rattle.clv_base.specs.FileRules.{may_open}
@@ -21,19 +21,20 @@ use Rattle.shard_laws.specs.OneShard.{MayChoose, has_met, place, found_items, fo
 use Rattle.shard_laws.proofs.Choosing.{chosen_stand_before}
 use Rattle.shard_laws.proofs.Leaving.{in_more}
 use Rattle.shard_laws.proofs.Serial.{in_kept}
-use Rattle.one_shard_laws.specs.Recovering.{transactions_of, StandsBefore}
-use Rattle.one_shard_laws.proofs.Meeting.{placed_before}
-use Rattle.one_shard_laws.proofs.Replaying.{cut_above}
+use Rattle.session_laws.specs.Places.{transactions_of, StandsBefore}
+use Rattle.session_laws.proofs.Placing.{placed_before}
+use Rattle.session_laws.proofs.Cutting.{cut_above}
 use Rattle.history_laws.specs.Continuing.{serial_left}
 use Rattle.fate_laws.specs.Members.{is_member}
+use Rattle.origin_laws.proofs.Entries.{IsOld}
 use Rattle.each_shard_laws.specs.Leading.{Deeds, deeds_before, requests_of}
-use Rattle.each_shard_laws.proofs.Doubted.{asked_are_old}
+use Rattle.each_shard_laws.proofs.Doubted.{ordered_is, asked_are_old}
 use Rattle.each_shard_laws.proofs.Telling.{deeds_are_told}
 use Rattle.many_shards_laws.specs.Replaying.{IsHere}
 use Rattle.many_shards_laws.specs.Recovering.{PredecessorsStandBeforeWhereHere}
 use Rattle.many_shards_laws.proofs.Earlier.{somewhere_at_opening}
 use Rattle.many_shards_laws.proofs.Members.{chosen, is_chosen, chosen_are_members, member_run}
-use Rattle.many_shards_laws.proofs.Replaying.{leads, fronts, left_is, inside, left_run, IsHereByCut, left_here, member_here}
+use Rattle.many_shards_laws.proofs.Replaying.{leads, fronts, left_is, inside, IsHereByCut, left_here, member_here}
 
 -- ---- who stands before another among some stands before it among more
 
@@ -91,13 +92,19 @@ module _ (splits : List ℕ) (before : List (List LogRecord)) (h : History) (aft
         are_here = λ u e. ⊎_elim (λ a. left_here splits before h after choice o l n u i a) (λ a. subst (IsHereByCut splits before h after choice o l n) (tx_true t u a) (member_here splits before h after choice o l n t i k here)) (or_cases (committed_in (log_of (logs_left splits before h after choice) n) u) (tx_same t u) e);
       }
 
-  -- one of this run is none of those found
-  not_found : (p : TxId) → p.run ≡ run_after before → tx_in p (filter with_it (found_asked n (log_of before n))) ≡ false
-  not_found p run =
-      false_from_ne_true _ (λ j. let old = asked_are_old splits before n o (inside splits before h after choice o l n i) p (in_filter with_it p (found_asked n (log_of before n)) j).0 in absurd (omega (arith, old, run)))
+  -- a chosen one of those found was in doubt there, and has a COMMIT
+  of_found : (p : TxId) → tx_in p (filter with_it (found_asked n (log_of before n))) ≡ true → (tx_in p (in_doubt n (log_of before n)) ≡ true) × (committed_somewhere before p ≡ true)
+  of_found p j =
+      let q = in_filter with_it p (found_asked n (log_of before n)) j in
+      (ordered_is (λ u. tx_in u (in_doubt n (log_of before n))) (log_of before n) p q.0, by_case (asked_are_old splits before n o (inside splits before h after choice o l n i) p q.0) (or_cases (committed_in (log_of (logs_left splits before h after choice) n) p) (tx_same t p) q.1))
+    where
+      by_case : IsOld (run_after before) p → (committed_in (log_of (logs_left splits before h after choice) n) p ≡ true) ⊎ (tx_same t p ≡ true) → committed_somewhere before p ≡ true
+      by_case old (inl a) = somewhere_at_opening splits before h after choice n p o l i old a
+      by_case old (inr a) = let run = subst (λ z. z.run ≡ run_after before) (tx_true t p a) (member_run splits before h after choice t l k) in absurd (omega (arith, old, run))
 
-  stands_before : (p : TxId) → has_met ((deeds_before before h after n).met ++ found_met n (log_of before n)) t p ≡ true → StandsBefore p t (transactions_of (serial_left splits before h after choice)) ⊎ (committed_somewhere before p ≡ true)
-  stands_before p met = by_run (runs (or_cases (committed_in (log_of (logs_left splits before h after choice) n) p) (tx_same t p) r.0))
+  stands_before : (p : TxId) → has_met ((deeds_before before h after n).met ++ found_met n (log_of before n)) t p ≡ true
+      → StandsBefore p t (transactions_of (serial_left splits before h after choice)) ⊎ ((tx_in p (in_doubt n (log_of before n)) ≡ true) × (committed_somewhere before p ≡ true))
+  stands_before p met = at (tx_in p (filter with_it (found_asked n (log_of before n)))) refl
     where
       s : Shard
       s = final_of before h after n
@@ -117,20 +124,16 @@ module _ (splits : List ℕ) (before : List (List LogRecord)) (h : History) (aft
       asked : tx_in t (requests_of h) ≡ true
       asked = (in_filter (chosen splits before h after choice n) t (requests_of h) (subst (λ ts. tx_in t ts ≡ true) names k)).0
 
-      r : (with_it p ≡ true) × (place (filter with_it (found_asked n found ++ requests_of h)) p < place (filter with_it (found_asked n found ++ requests_of h)) t)
-      r =
-          chosen_stand_before n (run_after before) found (found_items n found ++ d.items) (found_asked n found ++ requests_of h) d.told (d.met ++ found_met n found) d.fell s (cond (choice n) (unwrap_or s.flight s.durable) s.durable) with_it t p (leads splits before h after choice o l n i)
-          (cut_above s (choice n) (fronts splits before h after choice o l n i).counted) may_choose met own
+      earlier_place : place (filter with_it (found_asked n found ++ requests_of h)) p < place (filter with_it (found_asked n found ++ requests_of h)) t
+      earlier_place =
+          (chosen_stand_before n (run_after before) found (found_items n found ++ d.items) (found_asked n found ++ requests_of h) d.told (d.met ++ found_met n found) d.fell s (cond (choice n) (unwrap_or s.flight s.durable) s.durable) with_it t p (leads splits before h after choice o l n i)
+          (cut_above s (choice n) (fronts splits before h after choice o l n i).counted) may_choose met own).1
 
-      runs : (committed_in (log_of (logs_left splits before h after choice) n) p ≡ true) ⊎ (tx_same t p ≡ true) → (p.run ≡ run_after before) ⊎ (committed_somewhere before p ≡ true)
-      runs (inl a) = ⊎_elim (λ e. inl e) (λ old. inr (somewhere_at_opening splits before h after choice n p o l i old a)) (left_run splits before h after choice o l n p i a)
-      runs (inr a) = inl (subst (λ z. z.run ≡ run_after before) (tx_true t p a) (member_run splits before h after choice t l k))
-
-      by_run : (p.run ≡ run_after before) ⊎ (committed_somewhere before p ≡ true) → StandsBefore p t (transactions_of (serial_left splits before h after choice)) ⊎ (committed_somewhere before p ≡ true)
-      by_run (inr c) = inr c
-      by_run (inl run) =
-          let b = placed_before p t (filter with_it (found_asked n found ++ requests_of h)) r.1 (in_kept with_it (found_asked n found ++ requests_of h) t (in_more (found_asked n found) (requests_of h) t asked) own) in
-          let e = stands_later p t (filter with_it (found_asked n found)) (filter with_it (requests_of h)) (not_found p run) (subst (StandsBefore p t) (filter_append with_it (found_asked n found) (requests_of h)) b) in
+      at : (b : Bool) → tx_in p (filter with_it (found_asked n found)) ≡ b → StandsBefore p t (transactions_of (serial_left splits before h after choice)) ⊎ ((tx_in p (in_doubt n found) ≡ true) × (committed_somewhere before p ≡ true))
+      at true j = inr (of_found p j)
+      at false j =
+          let b = placed_before p t (filter with_it (found_asked n found ++ requests_of h)) earlier_place (in_kept with_it (found_asked n found ++ requests_of h) t (in_more (found_asked n found) (requests_of h) t asked) own) in
+          let e = stands_later p t (filter with_it (found_asked n found)) (filter with_it (requests_of h)) j (subst (StandsBefore p t) (filter_append with_it (found_asked n found) (requests_of h)) b) in
           inl (subst (StandsBefore p t) (sym names) (stands_more with_it (chosen splits before h after choice n) (requests_of h) p t are_chosen e))
 
 -- a predecessor that it met in this history is one of all

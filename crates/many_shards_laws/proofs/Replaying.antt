@@ -25,7 +25,7 @@ use Rattle.shard_laws.specs.OneShard.{Leads, MayChoose, Passes, ops_by, answers_
 use Rattle.shard_laws.proofs.Changes.{wrote_append}
 use Rattle.shard_laws.proofs.Leaving.{in_more}
 use Rattle.shard_laws.proofs.Splitting.{later_replay}
-use Rattle.one_shard_laws.proofs.Replaying.{cut_above}
+use Rattle.session_laws.proofs.Cutting.{cut_above}
 use Rattle.fate_laws.specs.Members.{is_member}
 use Rattle.fate_laws.proofs.Deciding.{commits_are_members, left_committed}
 use Rattle.origin_laws.proofs.Sessions.{Requested}

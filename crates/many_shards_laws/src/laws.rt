@@ -18,7 +18,7 @@ pub fn members_replay_where_here()
 {}
 
 /// No member is left without one that it depends on: whose writes it violated on a shard where it is here is a member too, and stands before it,
-/// or some log found has its COMMIT.
+/// or it was in doubt there in the log found, and some log found has its COMMIT.
 pub fn predecessors_stand_before_where_here()
     ensures { PredecessorsStandBeforeWhereHere }
 {}

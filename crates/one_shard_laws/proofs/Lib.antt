@@ -1,14 +1,2 @@
-pub mod Owning
-pub mod OwningEvents
-pub mod Walking
-pub mod Dropping
-pub mod Naming
-pub mod Requesting
-pub mod Leading
-pub mod Opening
-pub mod Following
-pub mod Knowing
-pub mod Replaying
-pub mod Meeting
-pub mod Settling
 pub mod Doubting
+pub mod Alone

@@ -1,5 +1,5 @@
-//! Laws of every legal history of one shard, with sessions, flushes, crashes and restarts. They join the laws of `shard_laws`, which suppose
-//! what sessions owe at each step, with the definition of a legal history, which says it of the sessions' entries.
+//! Laws of every legal history of one shard, with sessions, flushes, crashes and restarts: the laws over all shards of `headline_laws` and
+//! `reopening_laws`, where there is one. Nothing is in doubt there, so each predecessor of a member is a member.
 #![tactic(auto)]
 
 pub mod laws;

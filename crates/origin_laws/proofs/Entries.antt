@@ -41,8 +41,8 @@ use Rattle.history_laws.proofs.OldRuns.{each_passes, below_next_run}
 use Rattle.order_laws.proofs.InOrder.{runs_in_order}
 use Rattle.order_laws.specs.Order.{RunFits}
 use Rattle.history_laws.proofs.Worlds.{state_at}
-use Rattle.one_shard_laws.proofs.Walking.{SeenIs, AnswersAt}
-use Rattle.one_shard_laws.proofs.OwningEvents.{OpIs, performs, reply_is, answered_epoch}
+use Rattle.session_laws.proofs.Walking.{SeenIs, AnswersAt}
+use Rattle.session_laws.proofs.Replying.{OpIs, performs, reply_is, answered_epoch}
 use Rattle.file_laws.proofs.Walking.{Behind, Walked, Steps, walked_front}
 use Rattle.origin_laws.proofs.Sessions.{Requested}
 use Rattle.origin_laws.proofs.Origins.{AwayRequest, MessageFrom, Origins, AllFrom, RecordFrom, from_finish}

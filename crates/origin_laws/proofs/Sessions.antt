@@ -18,8 +18,8 @@ use Rattle.history_laws.proofs.Walkers.{nothing_follows}
 use Rattle.history_laws.proofs.Telling.{IsRequest}
 use Rattle.history_laws.proofs.Staying.{together}
 use Rattle.file_laws.proofs.Walking.{Behind}
-use Rattle.one_shard_laws.proofs.Walking.{OpAt, AnswersAt, has_seen}
-use Rattle.one_shard_laws.proofs.Naming.{AnsweredAt, Named, request_names_all}
+use Rattle.session_laws.proofs.Walking.{OpAt, AnswersAt, has_seen}
+use Rattle.session_laws.proofs.Naming.{AnsweredAt, Named, request_names_all}
 
 -- an entry of a history, and one behind it
 pub record Turn (h : History) (x y : Placed) : Type 0 where

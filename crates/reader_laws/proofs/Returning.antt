@@ -38,7 +38,7 @@ use Rattle.history_laws.proofs.Staying.{walker_of}
 use Rattle.history_laws.proofs.Stepping.{commits, votes, rules, KeptByDue, settled, op_dies, op_answers, finishes, stops}
 use Rattle.history_laws.proofs.Worlds.{state_at}
 use Rattle.file_laws.proofs.Walking.{behind_of}
-use Rattle.one_shard_laws.proofs.OwningEvents.{OpIs, dies, rolls, performs, reply_is}
+use Rattle.session_laws.proofs.Replying.{OpIs, dies, rolls, performs, reply_is}
 use Rattle.origin_laws.proofs.Sessions.{same_epoch, turn_of}
 use Rattle.origin_laws.proofs.Entries.{DidNow, traced_front}
 use Rattle.fate_laws.proofs.Bindings.{asked_not_own}

@@ -48,7 +48,7 @@ use Rattle.history_laws.proofs.Stepping.{commits, votes, rules, KeptByDue, settl
 use Rattle.history_laws.proofs.Entering.{Makes, by_event, by_flush, by_failure, by_restart, makes}
 use Rattle.history_laws.proofs.Merging.{Placed}
 use Rattle.history_laws.proofs.Worlds.{state_at}
-use Rattle.one_shard_laws.proofs.OwningEvents.{OpIs, dies, rolls, performs, reply_is}
+use Rattle.session_laws.proofs.Replying.{OpIs, dies, rolls, performs, reply_is}
 use Rattle.origin_laws.proofs.Events.{written_parts}
 use Rattle.fate_laws.proofs.Prefixes.{Next, next_at, each_shard}
 use Rattle.cause_laws.proofs.Starting.{IsCalm}

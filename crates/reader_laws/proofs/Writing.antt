@@ -31,7 +31,7 @@ use Rattle.shard_laws.proofs.Changes.{wrote_append, wrote_keeps}
 use Rattle.history_laws.proofs.Telling.{all_append}
 use Rattle.history_laws.proofs.Stepping.{Due, commits, votes, rules, settled, Step, op_dies, op_answers, request_refused, request_doomed, request_again, request_new, request_closes, looks_well, looks_ill, drops, sends, prepare_closes, prepare_again, vote_counts, decision_comes, decision_again, done_counts, asked, reminds, flushes, finishes, stops}
 use Rattle.history_laws.proofs.Entering.{Makes, by_event, by_flush, by_failure, by_restart}
-use Rattle.one_shard_laws.proofs.OwningEvents.{OpIs, dies, rolls, performs, reply_is}
+use Rattle.session_laws.proofs.Replying.{OpIs, dies, rolls, performs, reply_is}
 use Rattle.fate_laws.proofs.Standing.{NotOwn}
 
 -- ---- records that are no UPDATEs

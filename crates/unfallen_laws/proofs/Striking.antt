@@ -45,7 +45,7 @@ use Rattle.shard_laws.proofs.Leaving.{absent_go, own_go}
 use Rattle.shard_laws.proofs.Marking.{stage_marked}
 use Rattle.shard_laws.proofs.Rebuilding.{loser_out, out_left}
 use Rattle.shard_laws.proofs.Restoring.{restored_none}
-use Rattle.one_shard_laws.proofs.OwningEvents.{OpIs, dies, rolls, performs, reply_is}
+use Rattle.session_laws.proofs.Replying.{OpIs, dies, rolls, performs, reply_is}
 use Rattle.fate_laws.proofs.Homes.{still_not}
 use Rattle.fate_laws.proofs.HomesEvents.{awaits}
 use Rattle.fate_laws.proofs.Arriving.{taken_closed}

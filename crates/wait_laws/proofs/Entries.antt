@@ -36,7 +36,7 @@ use Rattle.history_laws.proofs.Merging.{Placed, Before, Among, among_append, amo
 use Rattle.history_laws.proofs.OldRuns.{below_next_run}
 use Rattle.history_laws.proofs.Telling.{IsRequest}
 use Rattle.history_laws.proofs.Worlds.{state_at}
-use Rattle.one_shard_laws.proofs.OwningEvents.{OpIs, performs, reply_is}
+use Rattle.session_laws.proofs.Replying.{OpIs, performs, reply_is}
 use Rattle.file_laws.proofs.Walking.{Behind, Walked, Steps, walked}
 use Rattle.origin_laws.proofs.Sessions.{Requested, turn_of, same_epoch, op_no_request}
 use Rattle.origin_laws.proofs.Origins.{SomeRequest, StageFrom, PartFrom, part_of}

@@ -44,7 +44,7 @@ use Rattle.law_base.proofs.Tables.{stage_by, get_changed, get_put, is_pair, in_p
 use Rattle.shard_laws.proofs.LockRows.{Rows, rows_take, rows_all, rows_split, rows_close, rows_release, violated_row}
 use Rattle.history_laws.proofs.Stepping.{commits, votes, rules, KeptByDue, settled, with_work, Step, op_dies, op_answers, request_refused, request_doomed, request_again, request_new, request_closes, looks_well, looks_ill, drops, sends, prepare_closes, prepare_again, vote_counts, decision_comes, decision_again, done_counts, asked, reminds, flushes, Happens, finishes, stops}
 use Rattle.history_laws.proofs.Telling.{all_append}
-use Rattle.one_shard_laws.proofs.OwningEvents.{OpIs, dies, rolls, performs, reply_is}
+use Rattle.session_laws.proofs.Replying.{OpIs, dies, rolls, performs, reply_is}
 
 -- ---- a lock is that of a part, with its birth, and closed as it is
 

@@ -1,4 +1,4 @@
-use Rattle.one_shard_laws.proofs.Replaying.{members_replay}
+use Rattle.one_shard_laws.proofs.Alone.{members_replay}
 use Rattle.one_shard_laws.proofs.laws.members_replay.Goals as goal
 
 pub returns : goal.returns
