@@ -2,3 +2,4 @@ pub mod Passing
 pub mod Doubting
 pub mod Found
 pub mod Headline
+pub mod Chaining

@@ -3,6 +3,7 @@
 ghost use Rattle.headline_laws.specs.Found.{MembersAreFound, MembersReplay};
 ghost use Rattle.headline_laws.specs.Recovering.{PredecessorsStandBefore};
 ghost use Rattle.headline_laws.specs.Settling.{SettledIsTheMap};
+ghost use Rattle.headline_laws.specs.Chaining.{MembersReplayToTheEnd};
 
 /// On each shard a member has its COMMIT left; or it is in doubt there beside a COMMIT elsewhere, with all that its PREPARE lists committed; or it
 /// asked, wrote nothing there, and left without falling.
@@ -25,4 +26,9 @@ pub fn predecessors_stand_before()
 /// Where nothing is left to do, the live records of all shards are the map that the logs left stand for.
 pub fn settled_is_the_map()
     ensures { SettledIsTheMap }
+{}
+
+/// The members by what the next opening finds, failed restarts among it, replay to the map that it finds: so runs follow one another.
+pub fn members_replay_to_the_end()
+    ensures { MembersReplayToTheEnd }
 {}
