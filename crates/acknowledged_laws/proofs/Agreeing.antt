@@ -2,13 +2,8 @@
 use Rattle.std.proofs.Common.{◌≡◌, ◌⊎◌, inl, inr, refl, sym, ap, subst, ◌∙◌, ℕ, true, false, cond, Bool, ◌&&◌, ◌==◌, List, [], ◌∷◌, Option, Some, None, eqb-true}
 use Rattle.std.specs.Prelude.{⊤}
 use Rattle.std.specs.List.{AllByRecursion, filter, list_all}
-use Rattle.std.specs.BTreeMap.{insert_entry}
-use Rattle.std.specs.Ordering.{nat_cmp, match_ordering, is_eq}
-use Rattle.std.specs.declared.cmp.Ordering.{Ordering}
-use Rattle.std.specs.declared.cmp.Ordering.TheVariants.{Less, Equal, Greater}
 use Rattle.std.proofs.lemmas.Bool.{both_ways, and_parts, or_cases, or_left, false_from_ne_true}
 use Rattle.clv_base.specs.declared.names.TxId.{TxId}
-use Rattle.clv_base.specs.declared.causes.AbortCause.{AbortCause}
 use Rattle.clv_base.specs.declared.causes.Vote.{Vote}
 use Rattle.clv_base.specs.declared.causes.Vote.TheVariants.{Yes, Read, No}
 use Rattle.clv_base.specs.declared.logs.LogRecord.{LogRecord}
@@ -23,44 +18,30 @@ use Rattle.clv_base.specs.Orders.{tx_same, tx_get, nat_in}
 use Rattle.clv_base.specs.Logs.{wrote_in, prepared_in, committed_in}
 use Rattle.clv_base.specs.State.{Shard, Local}
 use Rattle.clv_base.specs.Undo.{stage_of, release_parts}
-use Rattle.clv_base.specs.Facts.{facts_of, is_waiting, has_durable_predecessors}
+use Rattle.clv_base.specs.Facts.{facts_of, is_waiting}
 use Rattle.clv_base.specs.Participant.{is_yes_vote}
-use Rattle.clv_base.specs.Coordinator.{others, vote_from, is_good, yes_shards, is_agreed, agreed_ruling, refusal, refused_ruling, end_ruling, undecided_ruling, ruling_in, ruling_by, ruled_request}
+use Rattle.clv_base.specs.Coordinator.{others, vote_from, is_good, yes_shards, is_agreed, agreed_ruling, refusal, undecided_ruling, ruling_in, ruling_by, ruled_request}
 use Rattle.clv_base.specs.OneShard.{purge}
 use Rattle.clv_base.specs.Due.{with_due_done, with_ruling, do_ruling}
 use Rattle.clv_base.specs.Events.{finish}
-use Rattle.clv_base.proofs.SameNames.{nat_cmp_true, tx_self}
-use Rattle.law_base.proofs.Changed.{none_some, some_same, Set_or_old, get_set}
+use Rattle.clv_base.proofs.SameNames.{tx_self}
+use Rattle.law_base.proofs.Changed.{none_some, Set_or_old, get_set}
 use Rattle.protocol_laws.specs.Growth.{IsPrefixOf}
-use Rattle.shard_laws.proofs.Changes.{wrote_keeps}
 use Rattle.shard_laws.proofs.Leaving.{gone_by, stage_own}
+use Rattle.shard_laws.proofs.Ordered.{prepare_some}
 use Rattle.history_laws.proofs.Stepping.{Due, commits, votes, rules, KeptByDue, settled}
 use Rattle.fate_laws.proofs.Calm.{due_closed, due_prepares}
 use Rattle.fate_laws.proofs.Inside.{inside_self, inside_due}
-use Rattle.fate_laws.proofs.Prepares.{prepare_there, there_prepare}
+use Rattle.fate_laws.proofs.VotesHeld.{votes_get}
+use Rattle.fate_laws.proofs.Rulings.{ack_refused, ack_end, no_end_undecided}
+use Rattle.fate_laws.proofs.Writing.{wrote_grown}
 use Rattle.acknowledged_laws.proofs.Quiet.{Quiet, agreed_closed, quiet_due, quiet_purged}
+use Rattle.order_laws.proofs.Records.{prepared_there}
 
 -- ---- votes. V: who voted what
 
 abbrev pub Told : (ℕ → Vote → Type 0) → List (ℕ × Vote) → Type 0
 Told V vs = AllByRecursion (λ r. V r.0 r.1) vs
-
-told_case : (V : ℕ → Vote → Type 0) (p : ℕ) (v : Vote) (r : ℕ × Vote) (o : Option Vote) (b : Bool) → (p == r.0) ≡ b → V r.0 r.1 → cond b (Some r.1) o ≡ Some v → (o ≡ Some v → V p v) → V p v
-told_case V p v r o true e a g k = subst (V p) (some_same r.1 v g) (subst (λ n. V n r.1) (sym (eqb-true p r.0 e)) a)
-told_case V p v r o false e a g k = k g
-
-told_get : (V : ℕ → Vote → Type 0) (vs : List (ℕ × Vote)) (p : ℕ) (v : Vote) → Told V vs → vote_from p vs ≡ Some v → V p v
-told_get V [] p v a g = absurd (none_some v g)
-told_get V (r ∷ rs) p v a g = told_case V p v r (vote_from p rs) (p == r.0) refl a.0 g (told_get V rs p v a.1)
-
-put_case : (V : ℕ → Vote → Type 0) (o : Ordering) (p : ℕ) (v : Vote) (r : ℕ × Vote) (rs qs : List (ℕ × Vote)) → (o ≡ Equal → p ≡ r.0) → V p v → V r.0 r.1 → Told V rs → Told V qs → Told V (match_ordering o ((p, v) ∷ r ∷ rs) ((r.0, v) ∷ rs) (r ∷ qs))
-put_case V Less p v r rs qs e a b c d = (a, (b, c))
-put_case V Equal p v r rs qs e a b c d = (subst (λ n. V n v) (e refl) a, c)
-put_case V Greater p v r rs qs e a b c d = (b, d)
-
-pub told_put : (V : ℕ → Vote → Type 0) (vs : List (ℕ × Vote)) (p : ℕ) (v : Vote) → V p v → Told V vs → Told V (insert_entry nat_cmp vs p v)
-told_put V [] p v a k = (a, tt)
-told_put V (r ∷ rs) p v a k = put_case V (nat_cmp p r.0) p v r rs (insert_entry nat_cmp rs p v) (λ e. nat_cmp_true p r.0 (ap is_eq e)) a k.0 k.1 (told_put V rs p v a k.1)
 
 -- a good vote that isn't a yes is a read
 read_is : (o : Option Vote) → is_good o ≡ true → is_yes_vote o ≡ false → o ≡ Some Read
@@ -103,48 +84,18 @@ by_votes s t q false [] o a w f e =
       read = λ m i. all_read q.votes (others s.shard q.touched) m (and_parts (is_waiting (facts_of s t) && ((facts_of s t).undecided == 0)) (list_all (λ p. is_good (vote_from p q.votes)) (others s.shard q.touched)) a).1 f i;
     }
 
-never_refused : (shard : ℕ) (q : Request) (o : Option AbortCause) → refused_ruling shard q o ≡ Some Acknowledge → ⊥
-never_refused shard q None e = none_some Acknowledge e
-never_refused shard q (Some c) e = absurd cc
-
-never_ended : (q : Request) (ps : List ℕ) → end_ruling q ps ≡ Some Acknowledge → ⊥
-never_ended q [] e = none_some Acknowledge e
-never_ended q (p ∷ ps) e = at _ e
-  where
-    at : (b : Bool) → cond b (Some EndVerdict) None ≡ Some Acknowledge → ⊥
-    at true e = absurd cc
-    at false e = none_some Acknowledge e
-
 by_agreement : (s : Shard) (t : TxId) (q : Request) (b : Bool) → q.state ≡ Undecided → is_agreed s.shard q (facts_of s t) ≡ b → undecided_ruling s.shard t q (facts_of s t) b ≡ Some Acknowledge → Agreed s t q
 by_agreement s t q true o a e = by_votes s t q (wrote_in s.local.log t) (yes_shards s.shard q) o a refl refl e
-by_agreement s t q false o a e = absurd (never_refused s.shard q (refusal t q (facts_of s t)) e)
+by_agreement s t q false o a e = absurd (ack_refused s.shard q (refusal t q (facts_of s t)) e)
 
 by_state : (s : Shard) (t : TxId) (q : Request) (st : RequestState) → q.state ≡ st → ruling_in s.shard t q (facts_of s t) st ≡ Some Acknowledge → Agreed s t q
 by_state s t q Undecided o e = by_agreement s t q (is_agreed s.shard q (facts_of s t)) o refl e
-by_state s t q (Committed parts) o e = absurd (never_ended q parts e)
+by_state s t q (Committed parts) o e = absurd (ack_end q parts e)
 by_state s t q Finished o e = absurd (none_some Acknowledge e)
 by_state s t q (Refused c) o e = absurd (none_some Acknowledge e)
 
 acknowledges : (s : Shard) (t : TxId) (q : Request) → ruling_by s.shard t q (facts_of s t) ≡ Some Acknowledge → Agreed s t q
 acknowledges s t q e = by_state s t q q.state refl e
-
--- an END is of a request whose COMMIT was written
-no_end_refused : (shard : ℕ) (q : Request) (o : Option AbortCause) → refused_ruling shard q o ≡ Some EndVerdict → ⊥
-no_end_refused shard q None e = none_some EndVerdict e
-no_end_refused shard q (Some c) e = absurd cc
-
-no_end_agreed : (f : PartFacts) (u : Bool) (ys : List ℕ) → agreed_ruling f u ys ≡ Some EndVerdict → ⊥
-no_end_agreed f u (y ∷ ys) e = absurd cc
-no_end_agreed f true [] e = absurd cc
-no_end_agreed f false [] e = at (has_durable_predecessors f) e
-  where
-    at : (b : Bool) → cond b (Some Acknowledge) None ≡ Some EndVerdict → ⊥
-    at true e = absurd cc
-    at false e = none_some EndVerdict e
-
-no_end_undecided : (shard : ℕ) (t : TxId) (q : Request) (f : PartFacts) (b : Bool) → undecided_ruling shard t q f b ≡ Some EndVerdict → ⊥
-no_end_undecided shard t q f true e = no_end_agreed f f.updates (yes_shards shard q) e
-no_end_undecided shard t q f false e = no_end_refused shard q (refusal t q f) e
 
 end_in : (shard : ℕ) (t : TxId) (q : Request) (f : PartFacts) (st : RequestState) → q.state ≡ st → ruling_in shard t q f st ≡ Some EndVerdict → (parts : List ℕ) × (q.state ≡ Committed parts)
 end_in shard t q f Undecided o e = absurd (no_end_undecided shard t q f (is_agreed shard q f) e)
@@ -174,9 +125,6 @@ pub record Within (F P : TxId → Type 0) (W : TxId → List (ℕ × ℕ) → Ty
   pub wrote : (t : TxId) → prepared_in s.local.log t ≡ true → wrote_in s.local.log t ≡ true
   pub rows : (t : TxId) (q : Request) → tx_get t s.requests ≡ Some q → RowIs F P W V home s.local t q q.state
 
-pub wrote_grown : (xs ys : List LogRecord) (t : TxId) → IsPrefixOf xs ys → wrote_in xs t ≡ true → wrote_in ys t ≡ true
-wrote_grown xs ys t p w = subst (λ z. wrote_in z t ≡ true) p.1 (wrote_keeps xs p.0 t w)
-
 pub unwritten_before : (xs ys : List LogRecord) (t : TxId) → IsPrefixOf xs ys → wrote_in ys t ≡ false → wrote_in xs t ≡ false
 unwritten_before xs ys t p n = false_from_ne_true _ (λ w. both_ways _ n (wrote_grown xs ys t p w))
 
@@ -201,7 +149,7 @@ module _ (F P : TxId → Type 0) (W : TxId → List (ℕ × ℕ) → Type 0) (V 
         was = k.closed u a.closed a.unwritten;
         touched = q.touched;
         taken = row.0;
-        read = λ m i. told_get (V u) q.votes m Read row.1 (a.read m (subst (λ n. nat_in m (others n q.touched) ≡ true) (sym k.shard) i));
+        read = λ m i. votes_get (V u) q.votes m Read row.1 (a.read m (subst (λ n. nat_in m (others n q.touched) ≡ true) (sym k.shard) i));
       }
 
   ruled : (s : Shard) (u : TxId) (q : Request) (r : Ruling) → tx_get u s.requests ≡ Some q → ruling_by s.shard u q (facts_of s u) ≡ Some r → Within F P W V home s
@@ -237,7 +185,7 @@ module _ (F P : TxId → Type 0) (W : TxId → List (ℕ × ℕ) → Type 0) (V 
       record {
         shard = i.shard ∙ k.shard;
         closed = λ t h n. k.closed t (due_closed s x t d h) (unwritten_before s.local.log x.local.log t i.log n);
-        wrote = λ t h. let p = there_prepare x.local.log t h in wrote_grown s.local.log x.local.log t i.log (k.wrote t (prepare_there s.local.log t p.0 (due_prepares s x d t p.0 p.1)));
+        wrote = λ t h. let p = prepare_some x.local.log t h in wrote_grown s.local.log x.local.log t i.log (k.wrote t (prepared_there s.local.log t p.0 (due_prepares s x d t p.0 p.1)));
         rows = rows_due s x d (λ t h. quiet_due s x t d h) k;
       }
 

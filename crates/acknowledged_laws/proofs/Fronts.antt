@@ -32,15 +32,15 @@ use Rattle.history_laws.proofs.Worlds.{state_at}
 use Rattle.fate_laws.proofs.Binding.{ordered_wrote}
 use Rattle.fate_laws.proofs.Bindings.{asked_not_own, bindings_front}
 use Rattle.fate_laws.proofs.Prefixes.{Next, next_at, stays_as_it_was}
-use Rattle.fate_laws.proofs.Prepares.{prepare_there}
 use Rattle.fate_laws.proofs.Standing.{NotOwn}
 use Rattle.fall_laws.specs.Falls.{Fell}
-use Rattle.fall_laws.proofs.Falling.{stands_front, walk_on}
+use Rattle.fall_laws.proofs.Falling.{stands_front, walk_on, empty_front, same_last}
 use Rattle.fall_laws.proofs.Falling.{last_front}
 use Rattle.fall_laws.proofs.Finding.{fell_out}
 use Rattle.acknowledged_laws.proofs.Quiet.{Quiet, quiet_absent, quiet_undoomed, quiet_made}
 use Rattle.acknowledged_laws.proofs.Agreeing.{Told, Ends, RowIs}
 use Rattle.acknowledged_laws.proofs.Starting.{IsFinished, IsIdle, Begins, Owes, rows_made}
+use Rattle.order_laws.proofs.Records.{prepared_there}
 
 -- ---- what stands in a front of the history
 
@@ -77,24 +77,6 @@ told_later pre e t [] a = tt
 told_later pre e t (v ∷ vs) a = (voted_later pre e t v.0 v.1 a.0, told_later pre e t vs a.1)
 
 -- ---- who falls with the last entry of a front
-
-same_first : (x y : Placed) (xs ys : History) → x ∷ xs ≡ y ∷ ys → x ≡ y
-same_first x y xs ys e = cc
-
-same_rest : (x y : Placed) (xs ys : History) → x ∷ xs ≡ y ∷ ys → xs ≡ ys
-same_rest x y xs ys e = cc
-
-none_last : (xs : History) (y : Placed) → xs ++ y ∷ [] ≡ [] → ⊥
-none_last [] y e = absurd cc
-none_last (x ∷ xs) y e = absurd cc
-
-same_last : (xs ys : History) (x y : Placed) → xs ++ x ∷ [] ≡ ys ++ y ∷ [] → (xs ≡ ys) × (x ≡ y)
-same_last [] [] x y e = (refl, same_first x y [] [] e)
-same_last [] (w ∷ ws) x y e = absurd (none_last ws y (sym (same_rest x w [] (ws ++ y ∷ []) e)))
-same_last (w ∷ ws) [] x y e = absurd (none_last ws x (same_rest w y (ws ++ x ∷ []) [] e))
-same_last (v ∷ vs) (w ∷ ws) x y e =
-    let k = same_last vs ws x y (same_rest v w (vs ++ x ∷ []) (ws ++ y ∷ []) e) in
-    (ap (λ z. z ∷ vs) (same_first v w (vs ++ x ∷ []) (ws ++ y ∷ []) e) ∙ ap (λ z. w ∷ z) k.0, k.1)
 
 -- who is quiet after it fell before, or was here before a restart
 fell_before : (before after : List (List LogRecord)) (pre : History) (e : Placed) (n : ℕ) (t : TxId) → Quiet (state_at before after n (pre ++ e ∷ [])).local t → ((e.1).event ≡ Restart → is_present (stage_of (state_at before after n pre).local t) ≡ true → ⊥)
@@ -168,7 +150,7 @@ module _ (splits : List ℕ) (before after : List (List LogRecord)) (h pre : His
   idle_unfallen t d f =
       let b = (stands_front splits before after h pre (e ∷ post) o l q e.0 w.inside).barred in
       let x = b.here t (fell_out splits before after h pre (e ∷ post) e.0 t o l q w.inside f) d.1 in
-      both_ways _ d.2 ((b.lined).wrote t (prepare_there S.local.log t x.0 x.1))
+      both_ways _ d.2 ((b.lined).wrote t (prepared_there S.local.log t x.0 x.1))
 
   -- who is finished by this entry
   fresh : (t : TxId) → Ends (IsIdle (e.1).event S) (TakenIn New e.0) (VotedIn New) e.0 T.local t → Finishes splits before after New e.0 t
@@ -253,10 +235,6 @@ not_finished q (parts, c) e = differ (sym c ∙ e)
   where
     differ : Committed parts ≡ Finished → ⊥
     differ z = absurd cc
-
-empty_front : (front rest : History) → front ++ rest ≡ [] → front ≡ []
-empty_front [] rest e = refl
-empty_front (x ∷ xs) rest e = absurd cc
 
 knows_start : (splits : List ℕ) (before after : List (List LogRecord)) → Knows splits before after []
 knows_start splits before after =

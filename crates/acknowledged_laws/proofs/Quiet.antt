@@ -1,8 +1,8 @@
 -- Who wrote nothing on a shard and is gone there, by no abort, stays so.
-use Rattle.std.proofs.Common.{◌≡◌, ◌⊎◌, inl, inr, ⊎_elim, refl, sym, ap, subst, ◌∙◌, ℕ, true, false, not, map, Bool, ◌||◌, ◌&&◌, ◌==◌, List, [], ◌∷◌, ◌++◌, Option, Some, None, take-append-drop}
-use Rattle.std.specs.Prelude.{take, drop}
+use Rattle.std.proofs.Common.{◌≡◌, ◌⊎◌, inl, inr, ⊎_elim, refl, sym, ap, subst, ◌∙◌, ℕ, true, false, Bool, ◌&&◌, ◌==◌, List, [], ◌∷◌, ◌++◌, Option, Some, None}
+use Rattle.std.specs.Prelude.{take}
 use Rattle.std.specs.List.{filter, list_all}
-use Rattle.std.proofs.lemmas.Bool.{both_ways, and_parts, or_cases, false_from_ne_true}
+use Rattle.std.proofs.lemmas.Bool.{both_ways, and_parts, or_cases, false_from_ne_true, or_from}
 use Rattle.clv_base.specs.declared.names.TxId.{TxId}
 use Rattle.clv_base.specs.declared.names.Birth.{Birth}
 use Rattle.clv_base.specs.declared.ops.Op.{Op}
@@ -10,7 +10,7 @@ use Rattle.clv_base.specs.declared.ops.Answer.{Answer}
 use Rattle.clv_base.specs.declared.causes.AbortCause.{AbortCause}
 use Rattle.clv_base.specs.declared.causes.Vote.TheVariants.{Yes, Read, No}
 use Rattle.clv_base.specs.declared.logs.LogRecord.{LogRecord}
-use Rattle.clv_base.specs.declared.logs.LogRecord.TheVariants.{Update, Prepare as PrepareRecord, Commit, Abort, End, Restart as RestartRecord}
+use Rattle.clv_base.specs.declared.logs.LogRecord.TheVariants.{Update, Prepare as PrepareRecord, Commit, End}
 use Rattle.clv_base.specs.declared.state.Held.{Held}
 use Rattle.clv_base.specs.declared.state.Request.{Request}
 use Rattle.clv_base.specs.declared.state.Stage.{Stage}
@@ -20,7 +20,7 @@ use Rattle.clv_base.specs.declared.events.Event.{Event}
 use Rattle.clv_base.specs.declared.events.Event.TheVariants.{Op as OpEvent}
 use Rattle.clv_base.specs.declared.events.Outcome.{Outcome}
 use Rattle.clv_base.specs.Orders.{Table, tx_same, tx_in, tx_get}
-use Rattle.clv_base.specs.Logs.{wrote_in, prepared_in, committed_in, aborted_in, standing, in_doubt}
+use Rattle.clv_base.specs.Logs.{wrote_in, prepared_in, committed_in, standing, in_doubt}
 use Rattle.clv_base.specs.Needs.{writes_of, value_at, key_of}
 use Rattle.clv_base.specs.State.{Shard, Local, is_present}
 use Rattle.clv_base.specs.Undo.{stage_of, gone_in, doomed_by, doomed_here, roll_back, aborts_of, clrs_of, release_parts}
@@ -29,14 +29,14 @@ use Rattle.clv_base.specs.Coordinator.{others, is_agreed, is_good, vote_from}
 use Rattle.clv_base.specs.OneShard.{OpDies, OpAnswers, purge, written, locked, performed, rolled_back_if, closing, close_part, mark_dropped}
 use Rattle.clv_base.specs.Due.{with_due_done}
 use Rattle.clv_base.specs.Events.{is_alone, finish, with_durable}
-use Rattle.clv_base.specs.Restarts.{restart_records, undo_records, losers, next_epoch, log_left, revived, FailedRestarts, untouched, failed_first, Restarts}
+use Rattle.clv_base.specs.Restarts.{restart_records, next_epoch, log_left, revived, FailedRestarts, untouched, failed_first, Restarts}
 use Rattle.clv_base.specs.Journals.{up_to_restart}
-use Rattle.clv_base.proofs.SameNames.{tx_true}
+use Rattle.clv_base.proofs.SameNames.{tx_ne}
 use Rattle.law_base.proofs.Commits.{committed_append}
 use Rattle.law_base.proofs.Tables.{stage_by, stage_in}
 use Rattle.protocol_laws.proofs.Sets.{in_filter}
 use Rattle.shard_laws.specs.OneShard.{is_doomed}
-use Rattle.shard_laws.proofs.Changes.{wrote_append, wrote_keeps}
+use Rattle.shard_laws.proofs.Changes.{wrote_append}
 use Rattle.shard_laws.proofs.Closing.{stage_other as closed_other}
 use Rattle.shard_laws.proofs.Granting.{other_part}
 use Rattle.shard_laws.proofs.Leaving.{gone_by, stage_own, stage_other, no_write_aborts, no_write_clrs}
@@ -44,6 +44,7 @@ use Rattle.shard_laws.proofs.Marking.{stage_marked}
 use Rattle.shard_laws.proofs.Prepared.{prepared_append}
 use Rattle.shard_laws.proofs.Restoring.{restored_none}
 use Rattle.shard_laws.proofs.Sound.{waiting_here}
+use Rattle.shard_laws.proofs.Ordered.{prepare_some}
 use Rattle.session_laws.proofs.Replying.{OpIs, dies, rolls, performs, reply_is}
 use Rattle.history_laws.proofs.Stepping.{Due, commits, votes, rules, settled, Step, op_dies, op_answers, request_refused, request_doomed, request_again, request_new, request_closes, looks_well, looks_ill, drops, sends, prepare_closes, prepare_again, vote_counts, decision_comes, decision_again, done_counts, asked, reminds, flushes, finishes, stops}
 use Rattle.history_laws.proofs.Entering.{Makes, by_event, by_flush, by_failure, by_restart}
@@ -52,10 +53,12 @@ use Rattle.history_laws.proofs.Uncommitting.{rolled as rolled_commits, restarts_
 use Rattle.fate_laws.proofs.Arriving.{taken_closed}
 use Rattle.fate_laws.proofs.Homes.{still_not}
 use Rattle.fate_laws.proofs.Parts.{commit_agreed}
-use Rattle.fate_laws.proofs.Prepares.{prepare_there, there_prepare, rolled as rolled_prepares}
-use Rattle.fate_laws.proofs.Restored.{doubt_prepared}
+use Rattle.fate_laws.proofs.Prepares.{rolled as rolled_prepares}
 use Rattle.fate_laws.proofs.Returning.{revived_prepares}
 use Rattle.fate_laws.proofs.Standing.{NotOwn}
+use Rattle.fate_laws.proofs.Writing.{restart_writes_none, wrote_take}
+use Rattle.file_laws.proofs.Doubts.{doubt_prepared}
+use Rattle.order_laws.proofs.Records.{prepared_there}
 
 -- its part was never known here since the shard came up, or it is finished
 abbrev pub IsOut : Option Stage → Type 0
@@ -85,9 +88,6 @@ quiet_undoomed l t k = out_undoomed (stage_of l t) k.out
 another : (l : Local) (t u : TxId) → is_present (stage_of l u) ≡ true → Quiet l t → t ≡ u → ⊥
 another l t u h k e = both_ways _ (quiet_absent l t k) (subst (λ z. is_present (stage_of l z) ≡ true) (sym e) h)
 
-differs : (t u : TxId) → (t ≡ u → ⊥) → tx_same t u ≡ false
-differs t u k = false_from_ne_true _ (λ e. k (tx_true t u e))
-
 pub active_here : (l : Local) (u : TxId) → stage_of l u ≡ Some Active → is_present (stage_of l u) ≡ true
 active_here l u e = subst (λ o. is_present o ≡ true) (sym e) refl
 
@@ -95,10 +95,6 @@ pub closed_here : (l : Local) (u : TxId) → stage_of l u ≡ Some Closed → is
 closed_here l u e = subst (λ o. is_present o ≡ true) (sym e) refl
 
 -- ---- records of others
-
-or_false : (a b : Bool) → a ≡ false → b ≡ false → (a || b) ≡ false
-or_false true b e f = e
-or_false false b e f = f
 
 record Foreign (rs : List LogRecord) (t : TxId) : Type 0 where
   writes : wrote_in rs t ≡ false
@@ -109,22 +105,22 @@ quiet_more : (l m : Local) (more : List LogRecord) (t : TxId) → m.log ≡ l.lo
 quiet_more l m more t e f o k =
     record {
       out = o;
-      unwritten = subst (λ z. wrote_in z t ≡ false) (sym e) (wrote_append l.log more t ∙ or_false _ _ k.unwritten f.writes);
-      unprepared = subst (λ z. prepared_in z t ≡ false) (sym e) (prepared_append l.log more t ∙ or_false _ _ k.unprepared f.prepares);
-      uncommitted = subst (λ z. committed_in z t ≡ false) (sym e) (committed_append l.log more t ∙ or_false _ _ k.uncommitted f.commits);
+      unwritten = subst (λ z. wrote_in z t ≡ false) (sym e) (wrote_append l.log more t ∙ or_from _ _ k.unwritten f.writes);
+      unprepared = subst (λ z. prepared_in z t ≡ false) (sym e) (prepared_append l.log more t ∙ or_from _ _ k.unprepared f.prepares);
+      uncommitted = subst (λ z. committed_in z t ≡ false) (sym e) (committed_append l.log more t ∙ or_from _ _ k.uncommitted f.commits);
     }
 
 foreign_none : (t : TxId) → Foreign [] t
 foreign_none t = record { writes = refl; prepares = refl; commits = refl }
 
 foreign_update : (t u : TxId) (key : ℕ) (b a : Option ℕ) → tx_same t u ≡ false → Foreign (Update u key b a ∷ []) t
-foreign_update t u key b a n = record { writes = or_false _ _ n refl; prepares = refl; commits = refl }
+foreign_update t u key b a n = record { writes = or_from _ _ n refl; prepares = refl; commits = refl }
 
 foreign_prepare : (t u : TxId) (home : ℕ) (us : List TxId) → tx_same t u ≡ false → Foreign (PrepareRecord u home us ∷ []) t
-foreign_prepare t u home us n = record { writes = refl; prepares = or_false _ _ n refl; commits = refl }
+foreign_prepare t u home us n = record { writes = refl; prepares = or_from _ _ n refl; commits = refl }
 
 foreign_commit : (t u : TxId) (parts : List ℕ) → tx_same t u ≡ false → Foreign (Commit u parts ∷ []) t
-foreign_commit t u parts n = record { writes = refl; prepares = refl; commits = or_false _ _ n refl }
+foreign_commit t u parts n = record { writes = refl; prepares = refl; commits = or_from _ _ n refl }
 
 foreign_end : (t u : TxId) → Foreign (End u ∷ []) t
 foreign_end t u = record { writes = refl; prepares = refl; commits = refl }
@@ -155,16 +151,16 @@ quiet_rolled l u t k =
     record {
       out = out_gone set (Some u) t l.parts (λ i. absurd (both_ways _ (quiet_absent l t k) (in_filter (λ v. is_present (stage_of l v)) t (doomed_by l u) i).1)) k.out;
       unwritten = wrote_append (l.log ++ aborts_of l.log set) (clrs_of set (standing l.log)) t
-          ∙ or_false _ _ (wrote_append l.log (aborts_of l.log set) t ∙ or_false _ _ k.unwritten (no_write_aborts t (filter (wrote_in l.log) set))) (no_write_clrs set t (standing l.log));
-      unprepared = still_not (prepared_in l.log t) (prepared_in (roll_back u l).log t) (λ h. let p = there_prepare (roll_back u l).log t h in prepare_there l.log t p.0 (rolled_prepares u l t p.0 p.1)) k.unprepared;
+          ∙ or_from _ _ (wrote_append l.log (aborts_of l.log set) t ∙ or_from _ _ k.unwritten (no_write_aborts t (filter (wrote_in l.log) set))) (no_write_clrs set t (standing l.log));
+      unprepared = still_not (prepared_in l.log t) (prepared_in (roll_back u l).log t) (λ h. let p = prepare_some (roll_back u l).log t h in prepared_there l.log t p.0 (rolled_prepares u l t p.0 p.1)) k.unprepared;
       uncommitted = still_not (committed_in l.log t) (committed_in (roll_back u l).log t) (rolled_commits u l t) k.uncommitted;
     }
 
 quiet_closed : (l : Local) (u t : TxId) (home : ℕ) (one : Bool) → stage_of l u ≡ Some Active → Quiet l t → Quiet (close_part u home one l) t
 quiet_closed l u t home one a k =
     let n = another l t u (active_here l u a) k in
-    quiet_more l (close_part u home one l) (closing (wrote_in l.log u) one u home (undecided_of l u)) t refl (foreign_closing t u home (wrote_in l.log u) one (undecided_of l u) (differs t u n))
-    (subst IsOut (sym (closed_other l.parts u t (differs u t (λ e. n (sym e))))) k.out) k
+    quiet_more l (close_part u home one l) (closing (wrote_in l.log u) one u home (undecided_of l u)) t refl (foreign_closing t u home (wrote_in l.log u) one (undecided_of l u) (tx_ne t u n))
+    (subst IsOut (sym (closed_other l.parts u t (tx_ne u t (λ e. n (sym e))))) k.out) k
 
 quiet_written : (l : Local) (u t : TxId) (w : Option (ℕ × Option ℕ × Option ℕ)) → tx_same t u ≡ false → Quiet l t → Quiet (written u w l) t
 quiet_written l u t None n k = k
@@ -191,14 +187,14 @@ quiet_marked l u t k = record { out = subst IsOut (sym (stage_marked u t l.parts
 
 quiet_committed : (l : Local) (u t : TxId) (parts : List ℕ) → stage_of l u ≡ Some Closed → Quiet l t → Quiet (record l { log = l.log ++ Commit u parts ∷ [] }) t
 quiet_committed l u t parts c k =
-    quiet_more l (record l { log = l.log ++ Commit u parts ∷ [] }) (Commit u parts ∷ []) t refl (foreign_commit t u parts (differs t u (another l t u (closed_here l u c) k))) k.out k
+    quiet_more l (record l { log = l.log ++ Commit u parts ∷ [] }) (Commit u parts ∷ []) t refl (foreign_commit t u parts (tx_ne t u (another l t u (closed_here l u c) k))) k.out k
 
 -- ---- each step
 
 pub quiet_step : (s x : Shard) {e : Event} {o : Outcome} (t : TxId) → Step s e o x → NotOwn t e → Quiet s.local t → Quiet x.local t
 quiet_step s _ t (op_dies u birth nth seen op cause l g) n k = quiet_dies s.local l u t birth seen op cause (reply_is s.shard s.local u birth seen op _ g) k
 quiet_step s _ t (op_answers u birth nth seen op answer l g) n k =
-    quiet_answers s.local l u t birth seen op answer (reply_is s.shard s.local u birth seen op _ g) (differs t u (λ e. n birth nth seen op (ap (λ v. OpEvent v birth nth seen op) (sym e)))) k
+    quiet_answers s.local l u t birth seen op answer (reply_is s.shard s.local u birth seen op _ g) (tx_ne t u (λ e. n birth nth seen op (ap (λ v. OpEvent v birth nth seen op) (sym e)))) k
 quiet_step s _ t (request_refused u ts cause g) n k = k
 quiet_step s _ t (request_doomed u ts doom g) n k = k
 quiet_step s _ t (request_again u ts f g) n k = k
@@ -246,14 +242,6 @@ quiet_finish x t k = quiet_purged (with_due_done x).local t (settled (λ z. Quie
 
 -- ---- a restart writes no UPDATE
 
-restart_writes : (shard : ℕ) (log : List LogRecord) (run epoch : ℕ) (t : TxId) → wrote_in (restart_records shard log run epoch) t ≡ false
-restart_writes shard log run epoch t =
-    wrote_append (undo_records shard log) (RestartRecord run epoch ∷ []) t
-    ∙ or_false _ _ (wrote_append (map (λ u. Abort u) (filter (λ u. not (aborted_in log u)) (losers shard log))) (clrs_of (losers shard log) (standing log)) t ∙ or_false _ _ (no_write_aborts t (filter (λ u. not (aborted_in log u)) (losers shard log))) (no_write_clrs (losers shard log) t (standing log))) refl
-
-front_wrote : (n : ℕ) (log : List LogRecord) (t : TxId) → wrote_in (take n log) t ≡ true → wrote_in log t ≡ true
-front_wrote n log t w = subst (λ l. wrote_in l t ≡ true) (take-append-drop n log) (wrote_keeps (take n log) (drop n log) t w)
-
 wrote_first : (log more : List LogRecord) (t : TxId) → (wrote_in more t ≡ true → ⊥) → wrote_in (log ++ more) t ≡ true → wrote_in log t ≡ true
 wrote_first log more t n h = ⊎_elim (λ a. a) (λ a. absurd (n a)) (or_cases (wrote_in log t) (wrote_in more t) (sym (wrote_append log more t) ∙ h))
 
@@ -261,17 +249,17 @@ failed_writes : (s : Shard) (found left : List LogRecord) (t : TxId) → FailedR
 failed_writes s found _ t untouched h = h
 failed_writes s found left t (failed_first n f) h =
     let rs = restart_records s.shard found s.run (next_epoch s found) in
-    wrote_first found (take n rs) t (λ w. both_ways _ (restart_writes s.shard found s.run (next_epoch s found) t) (front_wrote n rs t w)) (failed_writes s (found ++ take n rs) left t f h)
+    wrote_first found (take n rs) t (λ w. both_ways _ (restart_writes_none s.shard found s.run (next_epoch s found) t) (wrote_take n rs t w)) (failed_writes s (found ++ take n rs) left t f h)
 
 restarts_write : (s : Shard) (found : List LogRecord) (epoch : ℕ) (log : List LogRecord) (t : TxId) → Restarts s found epoch log → wrote_in log t ≡ true → wrote_in found t ≡ true
 restarts_write s found epoch log t (left, f, e, a) h =
-    failed_writes s found left t f (wrote_first left (restart_records s.shard left s.run epoch) t (λ w. both_ways _ (restart_writes s.shard left s.run epoch t) w) (subst (λ z. wrote_in z t ≡ true) a h))
+    failed_writes s found left t f (wrote_first left (restart_records s.shard left s.run epoch) t (λ w. both_ways _ (restart_writes_none s.shard left s.run epoch t) w) (subst (λ z. wrote_in z t ≡ true) a h))
 
 quiet_revived : (s : Shard) (kept : Bool) (epoch : ℕ) (log : List LogRecord) (t : TxId) → Restarts s (log_left s kept) epoch log → Quiet s.local t → Quiet (revived s epoch log).local t
 quiet_revived s kept epoch log t r k =
     record {
       out = inl (restored_none (in_doubt s.shard log) t (false_from_ne_true _ (λ i. both_ways _ k.unprepared (revived_prepares s kept epoch log r t (doubt_prepared s.shard log t i)))));
-      unwritten = still_not (wrote_in s.local.log t) (wrote_in log t) (λ h. front_wrote _ s.local.log t (restarts_write s (log_left s kept) epoch log t r h)) k.unwritten;
+      unwritten = still_not (wrote_in s.local.log t) (wrote_in log t) (λ h. wrote_take _ s.local.log t (restarts_write s (log_left s kept) epoch log t r h)) k.unwritten;
       unprepared = still_not (prepared_in s.local.log t) (prepared_in log t) (revived_prepares s kept epoch log r t) k.unprepared;
       uncommitted = still_not (committed_in s.local.log t) (committed_in log t) (λ h. front_committed _ s.local.log t (restarts_add s (log_left s kept) epoch log r t h)) k.uncommitted;
     }

@@ -30,9 +30,12 @@ use Rattle.history_laws.proofs.Telling.{all_map}
 use Rattle.fate_laws.proofs.Closings.{Closes, by_request, by_prepare, step_closed, step_prepares}
 use Rattle.fate_laws.proofs.HomesEvents.{put_get, counts_undecided}
 use Rattle.fate_laws.proofs.Inside.{inside_step}
-use Rattle.fate_laws.proofs.Prepares.{prepare_there, there_prepare}
+use Rattle.fate_laws.proofs.VotesHeld.{votes_put}
+use Rattle.fate_laws.proofs.Writing.{wrote_grown}
 use Rattle.acknowledged_laws.proofs.Quiet.{active_here, closed_here}
-use Rattle.acknowledged_laws.proofs.Agreeing.{Told, told_put, RowIs, Within, wrote_grown, unwritten_before, within_finish}
+use Rattle.acknowledged_laws.proofs.Agreeing.{Told, RowIs, Within, unwritten_before, within_finish}
+use Rattle.order_laws.proofs.Records.{prepared_there}
+use Rattle.shard_laws.proofs.Ordered.{prepare_some}
 
 -- ---- what an entry begins with, and owes
 
@@ -92,7 +95,7 @@ module _ (W : TxId → List (ℕ × ℕ) → Type 0) (V : TxId → ℕ → Vote 
 
   voted_row : (P : TxId → Type 0) (s : Shard) (l : Local) (u : TxId) (q : Request) (from : ℕ) (vote : Vote) → V u from vote → q.state ≡ Undecided → tx_get u s.requests ≡ Some q → Begins W V home s → RowIs (IsFinished s) P W V home l u (with_vote_of from vote q) q.state
   voted_row P s l u q from vote v e g b =
-      let r = b.open_ u q g e in subst (RowIs (IsFinished s) P W V home l u (with_vote_of from vote q)) (sym e) (r.0, told_put (V u) q.votes from vote v r.1)
+      let r = b.open_ u q g e in subst (RowIs (IsFinished s) P W V home l u (with_vote_of from vote q)) (sym e) (r.0, votes_put (V u) q.votes from vote v r.1)
 
   done_row : (F P : TxId → Type 0) (l : Local) (u : TxId) (q : Request) (from : ℕ) (st : RequestState) → RowIs F P W V home l u q st → RowIs F P W V home l u (with_done_of from q) st
   done_row F P l u q from Undecided r = r
@@ -134,8 +137,8 @@ module _ (W : TxId → List (ℕ × ℕ) → Type 0) (V : TxId → ℕ → Vote 
         shard = i.shard ∙ b.shard;
         closed = λ t c u. (n, here s t (step_closed s x t h c), unwritten_before s.local.log x.local.log t i.log u);
         wrote = λ t c.
-            let p = there_prepare x.local.log t c in
-            wrote_grown s.local.log x.local.log t i.log (⊎_elim (λ f. b.wrote t (prepare_there s.local.log t p.0 f)) (λ f. f.wrote) (step_prepares s x t p.0 h p.1));
+            let p = prepare_some x.local.log t c in
+            wrote_grown s.local.log x.local.log t i.log (⊎_elim (λ f. b.wrote t (prepared_there s.local.log t p.0 f)) (λ f. f.wrote) (step_prepares s x t p.0 h p.1));
         rows = step_rows (IsIdle e s) s x h w b;
       }
 

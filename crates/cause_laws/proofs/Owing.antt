@@ -28,8 +28,8 @@ use Rattle.history_laws.proofs.Merging.{Placed, among_left, among_right, in_orde
 use Rattle.history_laws.proofs.Staying.{walker_of, one_request}
 use Rattle.history_laws.proofs.Worlds.{state_at}
 use Rattle.session_laws.proofs.Dropping.{drop_after_request}
-use Rattle.file_laws.proofs.Walking.{Behind}
-use Rattle.origin_laws.proofs.Sessions.{Requested, turn_of, own_precedes, from_own, first_among, op_no_request}
+use Rattle.file_laws.proofs.Walking.{Behind, from_own, first_among}
+use Rattle.origin_laws.proofs.Sessions.{Requested, turn_of, own_precedes, op_no_request}
 use Rattle.origin_laws.proofs.Origins.{StateFrom, AwayRequest, row_of}
 use Rattle.origin_laws.proofs.Entries.{IsOld, Traced, Brings}
 use Rattle.fate_laws.proofs.Homes.{open_undecided}
@@ -82,9 +82,6 @@ decide_settled splits before after h pre e t w a q g u = at a
     at (inr o) = let z = (walker_of splits before after h r.0 t w.legal ((w.behind).turn r.0 r.2).0 (ap tx_of (r.3).0)).0 in omega (arith, o, z)
 
 -- ---- what ends
-
-pub ended_asked : (run : ℕ) (pre : History) (t : TxId) (n : ℕ) → Requested pre t n → Ended run pre t
-ended_asked run pre t n r = inl (r.0, r.2, ap tx_of (r.3).0, ap (λ z. ended_by z ((r.0).1).outcome) (r.3).0)
 
 ended_now : (run : ℕ) (pre : History) (e : Placed) (t : TxId) (ev : Event) (o : Outcome) → (e.1).event ≡ ev → (e.1).outcome ≡ o → tx_of ev ≡ Some t → ended_by ev o ≡ Some t.serial → Ended run (pre ++ e ∷ []) t
 ended_now run pre e t ev o p q a b = inl (e, among_right e pre (e ∷ []) (inl refl), ap tx_of p ∙ a, ap (λ z. ended_by z (e.1).outcome) p ∙ ap (ended_by ev) q ∙ b)

@@ -32,7 +32,7 @@ use Rattle.clv_base.specs.Coordinator.{new_request, others, vote_from, counts_vo
 use Rattle.clv_base.specs.OneShard.{OpDies, OpAnswers, active_part, new_part, locked, performed, rolled_back_if, close_part, closed_in, mark_dropped}
 use Rattle.clv_base.specs.Events.{is_alone, coordinate, owe_vote, decided}
 use Rattle.clv_base.proofs.SameNames.{tx_true}
-use Rattle.law_base.proofs.Changed.{none_some, some_same, Set_or_old, get_set}
+use Rattle.law_base.proofs.Changed.{none_some, Set_or_old, get_set}
 use Rattle.law_base.proofs.Tables.{stage_by, stage_in, is_pair, get_put}
 use Rattle.shard_laws.proofs.Closing.{stage_closed, stage_other}
 use Rattle.shard_laws.proofs.Marking.{stage_marked}
@@ -42,6 +42,7 @@ use Rattle.origin_laws.proofs.Events.{written_parts}
 use Rattle.cause_laws.proofs.Votes.{votes_more}
 use Rattle.cause_laws.proofs.Resting.{Unopposed}
 use Rattle.cause_laws.proofs.Within.{RowFits, Within, Dooms, Alike, row_alike, doom_alike, within_alike, relinked, as_it_is, within_rolled, within_voter}
+use Rattle.file_laws.proofs.Rows.{put_row}
 
 -- ---- what an entry owes
 
@@ -141,13 +142,6 @@ new_stage tx t birth parts None g = at (tx_same t tx) refl
     at false e = inl (ap stage_by (got ∙ cond-false (tx_same t tx) (Some (active_part birth)) (tx_get t parts) e))
 
 -- ---- one request is another, or new
-
-pub put_row : {V : Type 0} (t tx : TxId) (w v : V) (rs : Table V) → tx_get t (tx_put tx w rs) ≡ Some v → ((t ≡ tx) × (v ≡ w)) ⊎ (tx_get t rs ≡ Some v)
-put_row t tx w v rs e = at (tx_same t tx) refl (sym (get_put tx t w rs) ∙ e)
-  where
-    at : (b : Bool) → tx_same t tx ≡ b → cond b (Some w) (tx_get t rs) ≡ Some v → ((t ≡ tx) × (v ≡ w)) ⊎ (tx_get t rs ≡ Some v)
-    at true f g = inl (tx_true t tx f, sym (some_same w v g))
-    at false f g = inr g
 
 pub set_row : {V : Type 0} (t tx : TxId) (w v : V) (rs : Table V) → tx_get t (tx_set tx w rs) ≡ Some v → ((t ≡ tx) × (v ≡ w)) ⊎ (tx_get t rs ≡ Some v)
 set_row t tx w v rs e = at (get_set tx t w v rs e)

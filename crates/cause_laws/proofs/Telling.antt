@@ -11,7 +11,7 @@ use Rattle.clv_base.specs.declared.state.Stage.TheVariants.{Closed, Gone}
 use Rattle.clv_base.specs.declared.events.Event.{Event}
 use Rattle.clv_base.specs.declared.events.Event.TheVariants.{Op as OpEvent, Request as RequestEvent, Look, Drop, Send, Deliver, Remind, FlushOut, FlushIn, Stop, Restart}
 use Rattle.clv_base.specs.declared.events.Outcome.{Outcome}
-use Rattle.clv_base.specs.declared.events.Outcome.TheVariants.{Dead, Aborted}
+use Rattle.clv_base.specs.declared.events.Outcome.TheVariants.{Dead}
 use Rattle.clv_base.specs.declared.events.Entry.{Entry}
 use Rattle.clv_base.specs.Orders.{tx_same}
 use Rattle.clv_base.specs.Shards.{shard_count}
@@ -36,17 +36,18 @@ use Rattle.history_laws.proofs.Stepping.{FindsIll, Step, op_dies, Happens, finis
 use Rattle.history_laws.proofs.Walkers.{nothing_follows}
 use Rattle.history_laws.proofs.Worlds.{state_at}
 use Rattle.session_laws.proofs.Naming.{AnsweredAt}
-use Rattle.session_laws.proofs.Looking.{IllOf, ill, ill_happens}
-use Rattle.origin_laws.proofs.Sessions.{Turn, Requested, turn_of, own_precedes, from_own, first_among, named_at, op_no_request}
+use Rattle.origin_laws.proofs.Sessions.{Turn, Requested, turn_of, own_precedes, named_at, op_no_request}
 use Rattle.origin_laws.proofs.Origins.{SomeRequest, part_of}
 use Rattle.origin_laws.proofs.Entries.{IsOld}
 use Rattle.fate_laws.proofs.Prefixes.{next_at}
+use Rattle.fate_laws.proofs.Sparing.{look_made}
 use Rattle.cause_laws.specs.Causes.{TellsCause, op_died, request_died, look_found, IsOfAnother, CausesStand}
 use Rattle.cause_laws.proofs.Seeing.{lookup_row, seen_before}
 use Rattle.cause_laws.proofs.Reasons.{OpWhy, unseen, closed, doomed, older, RequestWhy, late, fell, op_why, request_why, seen_other}
 use Rattle.cause_laws.proofs.Causing.{Ended, Fallen, GoneHow, RefusedHow, StateHow, Caused, fallen_more}
 use Rattle.cause_laws.proofs.Owing.{Before_entry}
 use Rattle.cause_laws.proofs.Fronts.{before_entry, caused_front}
+use Rattle.file_laws.proofs.Walking.{from_own, first_among}
 
 -- ---- entries that answered
 
@@ -159,15 +160,6 @@ request_stands splits before after h pre e t ts c w k p (fell d g q) =
     doomed_stands (run_after before) before after pre e t d c q (nothing_after splits before after h pre e t w (ap tx_of p) (works_request e t ts p)) (k.gone t d g)
 
 -- ---- a look
-
-look_made : (log : List LogRecord) (s t : Shard) {ev : Event} {o : Outcome} (tx : TxId) (c : AbortCause) → Makes log s ev o t → ev ≡ Look tx → o ≡ Aborted c → FindsIll s tx c
-look_made log s t tx c (by_event g h) q r = of_ill (ill_happens s t h tx c q r)
-  where
-    of_ill : IllOf s t tx c → FindsIll s tx c
-    of_ill (ill f x) = f
-look_made log s _ tx c (by_flush n u f) q r = absurd cc
-look_made log s _ tx c (by_failure n u f) q r = absurd cc
-look_made log s _ tx c (by_restart epoch kept u f) q r = absurd cc
 
 -- the request that a journal names
 record Names (shard : ℕ) (t : TxId) (es : List Entry) (n : ℕ) : Type 0 where

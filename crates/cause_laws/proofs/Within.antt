@@ -1,7 +1,7 @@
 -- Within one entry: who goes by an abort, goes by its own end or with the doomed set of the state at the beginning.
 use Rattle.std.proofs.Common.{◌≡◌, ◌⊎◌, inl, inr, ⊎_elim, refl, sym, ap, subst, ◌∙◌, ℕ, true, false, cond, Bool, List, [], ◌∷◌, Option, Some, None, ◌&&◌, ◌||◌, ◌==◌}
 use Rattle.std.specs.List.{list_all}
-use Rattle.std.proofs.lemmas.Bool.{both_ways, and_parts, or_cases, false_from_ne_true}
+use Rattle.std.proofs.lemmas.Bool.{both_ways, and_parts, false_from_ne_true}
 use Rattle.clv_base.specs.declared.names.TxId.{TxId}
 use Rattle.clv_base.specs.declared.causes.NoWhy.{NoWhy}
 use Rattle.clv_base.specs.declared.causes.AbortCause.{AbortCause}
@@ -36,6 +36,7 @@ use Rattle.shard_laws.proofs.Sound.{waiting_here}
 use Rattle.history_laws.proofs.Stepping.{commits, votes, rules, KeptByDue, settled}
 use Rattle.cause_laws.proofs.Votes.{VotesFit, no_in}
 use Rattle.cause_laws.proofs.Resting.{Unopposed}
+use Rattle.origin_laws.proofs.Origins.{in_one}
 
 -- ---- what is told: E, the transaction's work has ended; T, its home took this no of that shard; W, a transaction's abort began a set that held it
 
@@ -165,9 +166,6 @@ within_set E T W s0 s tx w f k b =
     row t q (inr c) = row_alike E T W s (record s { requests = tx_set tx w s.requests }) t q (as_it_is s (record s { requests = tx_set tx w s.requests }) refl refl refl).0 (b.rows t q c.1)
 
 -- ---- a part is finished
-
-in_one : (t u : TxId) → tx_in t (u ∷ []) ≡ true → t ≡ u
-in_one t u e = ⊎_elim (λ a. sym (tx_true u t a)) (λ a. absurd (both_ways false refl a)) (or_cases (tx_same u t) false e)
 
 -- one that was closed, or finished before
 abbrev pub MayFinish : Shard → TxId → Type 0

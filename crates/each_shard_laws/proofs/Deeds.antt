@@ -1,5 +1,5 @@
 -- What a shard did, by one entry more.
-use Rattle.std.proofs.Common.{◌≡◌, inl, inr, ⊎_elim, refl, ap, ◌∙◌, ℕ, true, false, cond, Bool, List, [], ◌∷◌, ◌++◌, Option, Some, None, ◌==◌, append-nil}
+use Rattle.std.proofs.Common.{◌≡◌, inl, inr, ⊎_elim, refl, ap, ◌∙◌, ℕ, true, false, cond, Bool, List, [], ◌∷◌, ◌++◌, Option, Some, None, ◌==◌}
 use Rattle.std.proofs.lemmas.Bool.{both_ways, or_cases, eq-eqb}
 use Rattle.clv_base.specs.declared.names.TxId.{TxId}
 use Rattle.clv_base.specs.declared.logs.LogRecord.{LogRecord}
@@ -17,6 +17,7 @@ use Rattle.history_laws.proofs.Telling.{IsRequest}
 use Rattle.history_laws.proofs.Staying.{is_request}
 use Rattle.history_laws.proofs.Worlds.{journal_append}
 use Rattle.each_shard_laws.specs.Leading.{Deeds, no_deeds, deeds_with, deeds_after, deeds_before, requests_of}
+use Rattle.file_laws.proofs.Walking.{other_journal}
 
 -- ---- a shard's own entry, and another's
 
@@ -35,13 +36,6 @@ pub deeds_own : (before after : List (List LogRecord)) (n : ℕ) (e : Entry) (pr
     → deeds_before before (pre ++ (n, e) ∷ []) after n ≡ deeds_with (deeds_before before pre after n) (state_before before pre after n) (after_entry (log_of after n) (state_before before pre after n) e) e
 deeds_own before after n e pre =
     ap (deeds_after (log_of after n) no_deeds (start_of before n)) (own_journal n e pre) ∙ deeds_push (log_of after n) no_deeds (start_of before n) (journal_of n pre) e
-
-other_journal : (n : ℕ) (y : Placed) (pre : History) → (y.0 == n) ≡ false → journal_of n (pre ++ y ∷ []) ≡ journal_of n pre
-other_journal n y pre b = journal_append n pre (y ∷ []) ∙ ap (λ l. journal_of n pre ++ l) (at (y.0 == n) b) ∙ append-nil (journal_of n pre)
-  where
-    at : (c : Bool) → c ≡ false → cond c (y.1 ∷ []) [] ≡ []
-    at true d = absurd (both_ways true d refl)
-    at false d = refl
 
 pub deeds_other : (before after : List (List LogRecord)) (n : ℕ) (y : Placed) (pre : History) → (y.0 == n) ≡ false → deeds_before before (pre ++ y ∷ []) after n ≡ deeds_before before pre after n
 deeds_other before after n y pre b = ap (deeds_after (log_of after n) no_deeds (start_of before n)) (other_journal n y pre b)

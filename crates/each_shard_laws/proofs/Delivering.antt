@@ -1,7 +1,7 @@
 -- What a message that comes owes the shard: a Prepare, and word of a commit.
-use Rattle.std.proofs.Common.{◌≡◌, ◌⊎◌, inl, inr, ⊎_elim, refl, sym, ap, subst, ◌∙◌, ℕ, true, false, cond, Bool, List, [], ◌∷◌, ◌++◌, arith, eqb-true, ◌==◌, ◌&&◌}
+use Rattle.std.proofs.Common.{◌≡◌, ◌⊎◌, inl, inr, ⊎_elim, refl, sym, ap, subst, ◌∙◌, ℕ, true, false, cond, Bool, List, [], ◌∷◌, arith, eqb-true, ◌==◌, ◌&&◌}
 use Rattle.std.specs.List.{list_any}
-use Rattle.std.proofs.lemmas.Bool.{both_ways, false_from_ne_true, or_cases, or_left, or_right, and_from}
+use Rattle.std.proofs.lemmas.Bool.{both_ways, false_from_ne_true, or_cases, and_from}
 use Rattle.clv_base.specs.declared.names.TxId.{TxId}
 use Rattle.clv_base.specs.declared.logs.LogRecord.{LogRecord}
 use Rattle.clv_base.specs.declared.logs.LogRecord.TheVariants.{Update, Clr, Prepare as PrepareRecord, Commit, Abort, End, Restart as RestartRecord}
@@ -26,7 +26,7 @@ use Rattle.clv_base.specs.Journals.{History}
 use Rattle.clv_base.proofs.SameNames.{tx_true}
 use Rattle.law_base.specs.Items.{Item}
 use Rattle.law_base.proofs.Rows.{rows_get}
-use Rattle.order_laws.proofs.Records.{last, push_cases, push_left}
+use Rattle.order_laws.proofs.Records.{last, push_cases, push_left, push_right}
 use Rattle.protocol_laws.specs.SessionLaws.{tx_of}
 use Rattle.shard_laws.specs.OneShard.{Leads, MayDeliver}
 use Rattle.shard_laws.proofs.Following.{Follows, from_disorder, through}
@@ -76,10 +76,6 @@ is_home_commit t _ = false
 abbrev WroteOrHome : List LogRecord → Type 0
 WroteOrHome log = (t : TxId) → committed_in log t ≡ true → (wrote_in log t ≡ true) ⊎ (list_any (is_home_commit t) log ≡ true)
 
-pushed : (f : LogRecord → Bool) (log : List LogRecord) (r : LogRecord) → f r ≡ true → list_any f (log ++ r ∷ []) ≡ true
-pushed f [] r e = or_left (f r) false e
-pushed f (x ∷ xs) r e = or_right (f x) _ (pushed f xs r e)
-
 new_commit : (shard : ℕ) (log : List LogRecord) (r : LogRecord) (t : TxId) → may_follow shard log r ≡ true → is_commit_of t r ≡ true → (wrote_in log t ≡ true) ⊎ (is_home_commit t r ≡ true)
 unfolding is_home_commit
 new_commit shard log (Commit u ps) t m e =
@@ -91,7 +87,7 @@ wrote_or_home shard log f =
     through WroteOrHome shard [] log tt f (λ t c. absurd (both_ways false refl c))
     (λ l r k p m t c.
     ⊎_elim (λ old. ⊎_elim (λ w. inl (push_left (is_update_of t) l r w)) (λ w. inr (push_left (is_home_commit t) l r w)) (p t old))
-    (λ new. ⊎_elim (λ w. inl (push_left (is_update_of t) l r w)) (λ w. inr (pushed (is_home_commit t) l r w)) (new_commit shard l r t m new))
+    (λ new. ⊎_elim (λ w. inl (push_left (is_update_of t) l r w)) (λ w. inr (push_right (is_home_commit t) l r w)) (new_commit shard l r t m new))
     (push_cases (is_commit_of t) l r c))
 
 home_from : (A : TxId → Type 0) (Q : TxId → ℕ → Type 0) (O : TxId → Type 0) (n : ℕ) (t : TxId) (r : LogRecord) → RecordFrom A Q O n r → is_home_commit t r ≡ true → OwnRequest Q O n t

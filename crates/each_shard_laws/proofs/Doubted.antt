@@ -1,30 +1,25 @@
 -- Whom a log leaves in doubt when it is opened is of an earlier run; what it did there stands before what the shard does.
-use Rattle.std.proofs.Common.{◌≡◌, ◌⊎◌, inl, inr, ⊎_elim, refl, sym, ap, subst, ◌∙◌, ℕ, ◌<◌, true, false, cond, Bool, List, [], ◌∷◌, ◌++◌, length, Option, Some, None, append_assoc, arith}
+use Rattle.std.proofs.Common.{◌≡◌, ◌⊎◌, inl, inr, ⊎_elim, refl, sym, ap, subst, ◌∙◌, ℕ, ◌<◌, true, false, cond, Bool, List, [], ◌∷◌, ◌++◌, length, Option, Some, None, append_assoc}
 use Rattle.std.specs.List.{AllByRecursion}
-use Rattle.std.proofs.lemmas.Bool.{both_ways, or_cases, or_left}
+use Rattle.std.proofs.lemmas.Bool.{both_ways, or_cases}
 use Rattle.clv_base.specs.declared.names.TxId.{TxId}
 use Rattle.clv_base.specs.declared.logs.LogRecord.{LogRecord}
 use Rattle.clv_base.specs.declared.logs.LogRecord.TheVariants.{Update, Clr, Prepare, Commit, Abort, End, Restart}
 use Rattle.clv_base.specs.declared.events.Entry.{Entry}
 use Rattle.clv_base.specs.Orders.{tx_same, tx_in}
-use Rattle.clv_base.specs.Logs.{StandingUpdate, is_prepare_of, in_doubt, standing}
+use Rattle.clv_base.specs.Logs.{in_doubt, standing}
 use Rattle.clv_base.specs.LogRules.{log_of}
 use Rattle.clv_base.specs.FileRules.{may_open}
 use Rattle.clv_base.specs.State.{Shard}
-use Rattle.clv_base.specs.Restarts.{greatest_run, run_after}
-use Rattle.clv_base.proofs.SameNames.{tx_true, tx_self}
+use Rattle.clv_base.specs.Restarts.{run_after}
+use Rattle.clv_base.proofs.SameNames.{tx_true}
 use Rattle.law_base.proofs.Lists.{all_mono}
-use Rattle.order_laws.proofs.InOrder.{runs_in_order}
-use Rattle.order_laws.proofs.Records.{own_prepare}
-use Rattle.order_laws.proofs.Runs.{record_fits}
-use Rattle.shard_laws.specs.OneShard.{with_one, new_item, new_met, has_met, items_found, prepared_order, found_items, found_asked, found_met}
+use Rattle.shard_laws.specs.OneShard.{with_one, new_item, new_met, has_met, prepared_order, found_items, found_asked, found_met}
 use Rattle.shard_laws.proofs.Found.{found_doubted}
 use Rattle.shard_laws.proofs.Relisting.{pair_of}
-use Rattle.history_laws.proofs.OldRuns.{below_next_run}
-use Rattle.fate_laws.proofs.Restored.{doubt_prepared}
-use Rattle.wait_laws.proofs.Opening.{found_in_order}
 use Rattle.origin_laws.proofs.Entries.{IsOld}
 use Rattle.each_shard_laws.specs.Leading.{Deeds, deeds_with}
+use Rattle.file_laws.proofs.Doubts.{doubted_is_old}
 
 -- ---- what was found is of earlier runs
 
@@ -44,21 +39,14 @@ ordered_is doubt (End tx ∷ rs) t e = ordered_is doubt rs t e
 ordered_is doubt (Restart run epoch ∷ rs) t e = ordered_is doubt rs t e
 
 module _ (splits : List ℕ) (before : List (List LogRecord)) (n : ℕ) (m : may_open splits before ≡ true) (l : n < length before) where
-  pub doubted_is_old : (t : TxId) → tx_in t (in_doubt n (log_of before n)) ≡ true → IsOld (run_after before) t
-  doubted_is_old t i =
-      let log = log_of before n in
-      let f = record_fits (greatest_run log) t (is_prepare_of t) (own_prepare t) log (runs_in_order n log (found_in_order splits before n m l)) (doubt_prepared n log t i) in
-      let g = below_next_run before n in
-      omega (arith, f, g)
-
   pub items_are_old : AllByRecursion (λ x. IsOld (run_after before) x.tx) (found_items n (log_of before n))
-  items_are_old = all_mono _ _ (λ x i. doubted_is_old x.tx i) (found_items n (log_of before n)) (found_doubted (λ t. tx_in t (in_doubt n (log_of before n))) (standing (log_of before n)))
+  items_are_old = all_mono _ _ (λ x i. doubted_is_old splits before n m l x.tx i) (found_items n (log_of before n)) (found_doubted (λ t. tx_in t (in_doubt n (log_of before n))) (standing (log_of before n)))
 
   pub asked_are_old : (t : TxId) → tx_in t (found_asked n (log_of before n)) ≡ true → IsOld (run_after before) t
-  asked_are_old t i = doubted_is_old t (ordered_is (λ u. tx_in u (in_doubt n (log_of before n))) (log_of before n) t i)
+  asked_are_old t i = doubted_is_old splits before n m l t (ordered_is (λ u. tx_in u (in_doubt n (log_of before n))) (log_of before n) t i)
 
   pub met_are_old : (t p : TxId) → has_met (found_met n (log_of before n)) t p ≡ true → IsOld (run_after before) t
-  met_are_old t p e = doubted_is_old t (pair_of (log_of before n) (in_doubt n (log_of before n)) t p e)
+  met_are_old t p e = doubted_is_old splits before n m l t (pair_of (log_of before n) (in_doubt n (log_of before n)) t p e)
 
 -- ---- it stands before what the shard did
 
@@ -74,20 +62,3 @@ found_with n log d s t e =
     let w = deeds_with d s t e in
     ap (λ z. record { items = z; told = w.told; met = new_met s e.event e.outcome ++ (d.met ++ found_met n log); fell = w.fell }) (one_after (found_items n log) d.items (new_item s e.event e.outcome))
     ∙ ap (λ z. record { items = found_items n log ++ w.items; told = w.told; met = z; fell = w.fell }) (sym (append_assoc (new_met s e.event e.outcome) d.met (found_met n log)))
-
--- ---- where nothing was in doubt
-
-no_items : (ws : List StandingUpdate) → items_found (λ t. tx_in t []) ws ≡ []
-no_items [] = refl
-no_items (w ∷ ws) = no_items ws
-
-pub none_found : (n : ℕ) (log : List LogRecord) → in_doubt n log ≡ [] → found_items n log ≡ []
-none_found n log c = ap (λ d. items_found (λ t. tx_in t d) (standing log)) c ∙ no_items (standing log)
-
--- whose names none is
-empty : (ts : List TxId) → ((t : TxId) → tx_in t ts ≡ true → ⊥) → ts ≡ []
-empty [] k = refl
-empty (t ∷ ts) k = absurd (k t (or_left (tx_same t t) (tx_in t ts) (tx_self t)))
-
-pub none_asked : (n : ℕ) (log : List LogRecord) → in_doubt n log ≡ [] → found_asked n log ≡ []
-none_asked n log c = empty (found_asked n log) (λ t i. both_ways false refl (subst (λ d. tx_in t d ≡ true) c (ordered_is (λ u. tx_in u (in_doubt n log)) log t i)))

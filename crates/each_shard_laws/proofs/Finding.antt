@@ -1,5 +1,5 @@
 -- What word of a commit finds on a shard, and a drop.
-use Rattle.std.proofs.Common.{◌≡◌, ⊎_elim, refl, ap, subst, ℕ, ◌<◌, true, false, List, ◌∷◌, ◌++◌, Some}
+use Rattle.std.proofs.Common.{◌≡◌, ap, subst, ℕ, true, false, List, ◌∷◌, ◌++◌, Some}
 use Rattle.std.proofs.lemmas.Bool.{both_ways, false_from_ne_true}
 use Rattle.clv_base.specs.declared.names.TxId.{TxId}
 use Rattle.clv_base.specs.declared.logs.LogRecord.{LogRecord}
@@ -10,27 +10,20 @@ use Rattle.clv_base.specs.declared.events.Event.TheVariants.{Drop, Deliver}
 use Rattle.clv_base.specs.declared.events.Outcome.TheVariants.{Taken}
 use Rattle.clv_base.specs.declared.events.Entry.{Entry}
 use Rattle.clv_base.specs.Orders.{tx_get}
-use Rattle.clv_base.specs.Shards.{shard_count}
 use Rattle.clv_base.specs.Logs.{committed_in, wrote_in}
 use Rattle.clv_base.specs.FileRules.{may_open}
-use Rattle.clv_base.specs.Restarts.{run_after}
-use Rattle.clv_base.specs.Sessions.{no_session}
-use Rattle.clv_base.specs.Journals.{History, own}
+use Rattle.clv_base.specs.Journals.{History}
 use Rattle.clv_base.specs.History.{Legal, WasSent, state_before}
 use Rattle.law_base.proofs.Rows.{rows_get}
 use Rattle.protocol_laws.specs.SessionLaws.{tx_of}
 use Rattle.shard_laws.specs.OneShard.{predecessors_committed}
-use Rattle.history_laws.proofs.Merging.{Placed, in_order, not_before_itself, before_then, in_turn, precedes_before, own_in_order}
-use Rattle.history_laws.proofs.Staying.{walker_of, together}
-use Rattle.history_laws.proofs.TellingEvents.{front_committed}
-use Rattle.session_laws.proofs.Dropping.{drop_after_request}
-use Rattle.origin_laws.proofs.Sessions.{from_own, first_among}
-use Rattle.fate_laws.proofs.Prefixes.{Next, next_at, AskedIn, one_home}
-use Rattle.fate_laws.proofs.Fates.{DeadIn, delivered}
+use Rattle.history_laws.proofs.Staying.{walker_of}
+use Rattle.fate_laws.proofs.Prefixes.{Next, next_at, one_home}
+use Rattle.fate_laws.proofs.Fates.{delivered, committed_asked}
 use Rattle.fate_laws.proofs.Parts.{RowIs}
 use Rattle.fate_laws.proofs.Bindings.{WasTaken, FineAt, Bindings, bindings_front}
 use Rattle.fate_laws.proofs.Arriving.{home_committed, due_at}
-use Rattle.fate_laws.proofs.Sparing.{Spared, spared_front}
+use Rattle.fate_laws.proofs.Sparing.{spared_front, dropped_dead}
 use Rattle.each_shard_laws.proofs.Fallen.{FellOn, commits_spare_the_fallen}
 
 -- at the first word of a commit its predecessors here are committed, it didn't fall here and isn't undecided, and it wrote here
@@ -75,37 +68,13 @@ all_found splits before after h m l pre n e later tx to home stamp q v o c =
 
 -- ---- a drop
 
--- who is committed on a shard asked, and is committed where it asked
-committed_home : (splits : List ℕ) (before after : List (List LogRecord)) (h pre : History) (n : ℕ) (tx : TxId) → n < shard_count splits → Bindings splits before after h pre → tx.run ≡ run_after before → committed_in (state_before before pre after n).local.log tx ≡ true
-    → (k : ℕ) × AskedIn pre tx k × (committed_in (state_before before pre after k).local.log tx ≡ true)
-committed_home splits before after h pre n tx i b r c =
-    let f = b.fated in
-    ⊎_elim (λ a. (n, subst (AskedIn pre tx) ((f.counts).shard n i) a, c)) (λ z. (z.0, z.1, front_committed (state_before before pre after z.0).durable (state_before before pre after z.0).local.log tx z.2)) ((f.homed n i).log tx c r)
-
--- a drop of one that asked comes after a look that found it aborted
-dropped_dead : (splits : List ℕ) (before after : List (List LogRecord)) (h pre : History) (e : Placed) (tx : TxId) (n : ℕ) → Next splits before after h pre e → Spared splits before after h pre → (e.1).event ≡ Drop tx → tx.run ≡ run_after before → AskedIn pre tx n
-    → (m : ℕ) × DeadIn before after pre m tx
-dropped_dead splits before after h pre e tx n w k q run (r, ts, i, a) =
-    let j = w.earlier (n, r) i in
-    let p = together splits before after h (n, r) e tx w.legal j.0 w.among (ap tx_of a.0) (ap tx_of q) in
-    let v = own r.walker h in
-    let o = own_in_order r.walker h (in_order h (w.legal).ordered) in
-    ⊎_elim (λ z. absurd (not_before_itself (n, r) e z j.1))
-    (λ z. ⊎_elim
-    (λ b.
-    let y = drop_after_request splits v (no_session (run_after before) r.walker) (n, r) e tx ts p.session b a.0 a.1 q in
-    let front = w.front y.0 (from_own r.walker y.0 h (first_among y.0 e v y.2)) (precedes_before y.0 e v o y.2) in
-    ((y.0).0, k.looks y.0 tx y.1 front y.3 y.4 run))
-    (λ b. absurd (not_before_itself (n, r) (n, r) refl (before_then (n, r) e (n, r) j.1 (precedes_before e (n, r) v o b)))) z)
-    (in_turn (n, r) e v p.first p.second)
-
 pub drops_spared : (splits : List ℕ) (before after : List (List LogRecord)) (h : History) → may_open splits before ≡ true → Legal splits before h after → DropsSpared before h after
 drops_spared splits before after h m l pre n e later tx q v =
     let w = next_at splits before after h pre (n, e) later l q in
     let k = spared_front splits before after h pre ((n, e) ∷ later) m l q in
     let r = (walker_of splits before after h (n, e) tx l w.among (ap tx_of v)).0 in
     false_from_ne_true _ (λ c.
-    let a = committed_home splits before after h pre n tx w.inside (bindings_front splits before after h pre ((n, e) ∷ later) m l q) r c in
+    let a = committed_asked splits before after h pre n tx w.inside (bindings_front splits before after h pre ((n, e) ∷ later) m l q).fated r c in
     let d = dropped_dead splits before after h pre (n, e) tx a.0 w k v r a.1 in
     let z = one_home splits before after h tx a.0 d.0 (a.1).0 ((d.1).0).0 (a.1).1 ((d.1).0).1 l (w.earlier (a.0, (a.1).0) (a.1).2).0 (a.1).3 (w.earlier (d.0, ((d.1).0).0) ((d.1).0).2).0 ((d.1).0).3 in
     both_ways _ ((d.1).1).0 (subst (λ i. committed_in (state_before before pre after i).local.log tx ≡ true) z a.2))

@@ -17,7 +17,7 @@ use Rattle.clv_base.specs.LogRules.{log_of}
 use Rattle.clv_base.specs.FileRules.{may_open}
 use Rattle.clv_base.specs.State.{Shard}
 use Rattle.clv_base.specs.Events.{Does, happen, with_entry}
-use Rattle.clv_base.specs.Restarts.{run_after, restored_pairs}
+use Rattle.clv_base.specs.Restarts.{run_after}
 use Rattle.clv_base.specs.Journals.{History, start_of, event_state, after_entry}
 use Rattle.clv_base.specs.History.{Legal, request_of, state_before}
 use Rattle.law_base.proofs.Lists.{all_mono}
@@ -28,14 +28,13 @@ use Rattle.history_laws.proofs.Merging.{Placed}
 use Rattle.history_laws.proofs.OldRuns.{below_next_run}
 use Rattle.history_laws.proofs.Staying.{is_request, walker_of}
 use Rattle.file_laws.proofs.Walking.{Behind, next_entry}
+use Rattle.file_laws.proofs.Found.{found_in_order}
 use Rattle.origin_laws.proofs.Sessions.{Requested, request_no_request}
 use Rattle.origin_laws.proofs.Entries.{IsOld, DidOrOld, Traced, Brings, brought, traced_front}
-use Rattle.wait_laws.proofs.Opening.{found_in_order}
-use Rattle.fall_laws.specs.Falls.{OpensClear}
 use Rattle.each_shard_laws.specs.Leading.{Deeds, deeds_with, deeds_before, falling, requests_of, EachShardLeads}
 use Rattle.each_shard_laws.proofs.Deeds.{deeds_own, deeds_other, state_other, requests_push}
 use Rattle.each_shard_laws.proofs.Restored.{RestoredArePrepared, restored_prepared}
-use Rattle.each_shard_laws.proofs.Doubted.{items_are_old, asked_are_old, met_are_old, with_found, one_after, found_with, none_found, none_asked}
+use Rattle.each_shard_laws.proofs.Doubted.{items_are_old, asked_are_old, met_are_old, with_found, one_after, found_with}
 use Rattle.each_shard_laws.proofs.Touching.{Here, Remembers, AskedFrom, asked_from, not_asked, may_ask, may_touch}
 use Rattle.each_shard_laws.proofs.Delivering.{when_up, comes_to, decide_taken, may_prepare}
 use Rattle.each_shard_laws.proofs.Finding.{AllFound, DropsSpared, all_found, drops_spared}
@@ -223,17 +222,3 @@ restored_front splits before h after so_far rest n m l q i =
     let log = log_of before n in
     let d = with_found n log (deeds_before before so_far after n) in
     restored_prepared n (run_after before) log d.items (found_asked n log ++ requests_of so_far) d.told d.met d.fell (state_before before so_far after n) (each_shard_leads splits before h after so_far rest n m l q i)
-
--- ---- where nothing was in doubt
-
-pub leads_clear : (splits : List ℕ) (before : List (List LogRecord)) (h : History) (after : List (List LogRecord)) (so_far rest : History) (n : ℕ) → may_open splits before ≡ true → Legal splits before h after → OpensClear splits before → so_far ++ rest ≡ h → n < shard_count splits
-    → LeadsAs n (run_after before) (log_of before n) (requests_of so_far) (deeds_before before so_far after n) (state_before before so_far after n)
-leads_clear splits before h after so_far rest n m l c q i =
-    let log = log_of before n in
-    let d = deeds_before before so_far after n in
-    let s = state_before before so_far after n in
-    let k = each_shard_leads splits before h after so_far rest n m l q i in
-    subst (λ z. Leads n (run_after before) log d.items (requests_of so_far) d.told z d.fell s) (append-nil d.met)
-    (subst (λ z. Leads n (run_after before) log d.items (requests_of so_far) d.told (d.met ++ restored_pairs log z) d.fell s) (c n i)
-    (subst (λ z. Leads n (run_after before) log d.items (z ++ requests_of so_far) d.told (d.met ++ found_met n log) d.fell s) (none_asked n log (c n i))
-    (subst (λ z. Leads n (run_after before) log (z ++ d.items) (found_asked n log ++ requests_of so_far) d.told (d.met ++ found_met n log) d.fell s) (none_found n log (c n i)) k)))

@@ -1,23 +1,16 @@
 -- The logs left are in order.
-use Rattle.std.proofs.Common.{◌≡◌, sym, ap, subst, ◌∙◌, ℕ, ◌<◌, cond, Bool, List, [], ◌++◌, None, arith, append-nil}
+use Rattle.std.proofs.Common.{◌≡◌, sym, subst, cond, [], ◌++◌, None, append-nil}
 use Rattle.std.specs.Prelude.{unwrap_or}
-use Rattle.clv_base.specs.declared.logs.LogRecord.{LogRecord}
-use Rattle.clv_base.specs.Shards.{shard_count}
 use Rattle.clv_base.specs.LogRules.{log_of, disorder}
-use Rattle.clv_base.specs.Restarts.{run_after, log_left}
-use Rattle.clv_base.specs.Journals.{History, final_of}
-use Rattle.clv_base.specs.History.{logs_left}
+use Rattle.clv_base.specs.Restarts.{run_after}
+use Rattle.clv_base.specs.Journals.{final_of}
 use Rattle.order_laws.proofs.InOrder.{fronts_in_order}
 use Rattle.shard_laws.specs.OneShard.{found_items, found_asked, found_met}
 use Rattle.shard_laws.proofs.OrderKept.{order_is_kept}
-use Rattle.history_laws.proofs.Serials.{left_at}
 use Rattle.each_shard_laws.specs.Leading.{deeds_before, requests_of}
 use Rattle.each_shard_laws.specs.Ordering.{LogsLeftAreInOrder}
 use Rattle.each_shard_laws.proofs.Leading.{each_shard_leads}
-
-pub log_now : (splits : List ℕ) (before : List (List LogRecord)) (h : History) (after : List (List LogRecord)) (choice : ℕ → Bool) (n : ℕ) → n < shard_count splits
-    → log_of (logs_left splits before h after choice) n ≡ log_left (final_of before h after n) (choice n)
-log_now splits before h after choice n l = left_at (final_of before h after) choice 0 (shard_count splits) n l ∙ ap (λ m. log_left (final_of before h after m) (choice m)) (omega arith)
+use Rattle.fate_laws.proofs.Deciding.{log_now}
 
 pub logs_left_are_in_order : LogsLeftAreInOrder
 logs_left_are_in_order splits before h after choice n m l i =

@@ -29,11 +29,11 @@ use Rattle.shard_laws.specs.OneShard.{with_one, new_item, new_met, has_met, is_d
 use Rattle.shard_laws.proofs.Histories.{named_doomed}
 use Rattle.shard_laws.proofs.Leaving.{in_two}
 use Rattle.shard_laws.proofs.Dooming.{in_filter}
-use Rattle.history_laws.proofs.Merging.{Placed, among_left, among_right}
+use Rattle.history_laws.proofs.Merging.{Placed, among_right}
 use Rattle.session_laws.proofs.Adding.{one_met}
 use Rattle.origin_laws.proofs.Sessions.{Requested}
 use Rattle.origin_laws.proofs.Origins.{SomeRequest, BirthFrom, PartFrom, stage_row}
-use Rattle.origin_laws.proofs.Entries.{Did, DidAny, IsOld, DidOrOld, Traced, any_of}
+use Rattle.origin_laws.proofs.Entries.{Did, DidAny, IsOld, DidOrOld, Traced, any_of, old_more}
 use Rattle.each_shard_laws.proofs.Fallen.{FellOn, is_left_out}
 use Rattle.each_shard_laws.specs.Leading.{Deeds, deeds_with, falling}
 use Rattle.each_shard_laws.proofs.Records.{prepared_from}
@@ -41,13 +41,6 @@ use Rattle.each_shard_laws.proofs.Restored.{RestoredArePrepared}
 use Rattle.each_shard_laws.proofs.Touching.{Remembers}
 
 -- ---- one entry more in the history
-
-did_more : (pre : History) (y : Placed) (n : ℕ) (t : TxId) → DidAny pre n t → DidAny (pre ++ y ∷ []) n t
-did_more pre y n t (ep, (b, (z, i, p, a))) = (ep, (b, (z, among_left z pre (y ∷ []) i, p, a)))
-
-old_more : (run : ℕ) (pre : History) (y : Placed) (n : ℕ) (t : TxId) → DidOrOld run pre n t → DidOrOld run (pre ++ y ∷ []) n t
-old_more run pre y n t (inl d) = inl (did_more pre y n t d)
-old_more run pre y n t (inr o) = inr o
 
 fell_more : (before after : List (List LogRecord)) (pre : History) (y : Placed) (n : ℕ) (t : TxId) → FellOn before pre after n t → FellOn before (pre ++ y ∷ []) after n t
 fell_more before after pre y n t (front, rest, q, inl d) = (front, rest ++ y ∷ [], sym (append_assoc front rest (y ∷ [])) ∙ ap (λ l. l ++ y ∷ []) q, inl d)

@@ -13,7 +13,7 @@ use Rattle.shard_laws.proofs.Settled.{quiet_is_settled}
 use Rattle.each_shard_laws.specs.Leading.{deeds_before, requests_of}
 use Rattle.each_shard_laws.specs.Settling.{QuietShardsAreTheirMaps}
 use Rattle.each_shard_laws.proofs.Leading.{each_shard_leads}
-use Rattle.each_shard_laws.proofs.Ordering.{log_now}
+use Rattle.fate_laws.proofs.Deciding.{log_now}
 
 -- a quiet shard's log is left whole
 pub left_whole : (s : Shard) (kept : Bool) → IsQuiet s → log_left s kept ≡ s.local.log

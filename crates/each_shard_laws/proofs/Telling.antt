@@ -1,5 +1,5 @@
 -- What a shard did is what its own entries tell.
-use Rattle.std.proofs.Common.{◌≡◌, ◌⊎◌, inl, inr, ⊎_elim, refl, sym, ap, subst, ◌∙◌, ℕ, true, false, cond, Bool, List, [], ◌∷◌, ◌++◌, map, ◌==◌, eq-eqb, eqb-true, append-nil, append_assoc, ◌||◌, ◌&&◌}
+use Rattle.std.proofs.Common.{◌≡◌, ⊎_elim, refl, sym, ap, subst, ◌∙◌, ℕ, true, false, cond, Bool, List, [], ◌∷◌, ◌++◌, map, ◌==◌, eq-eqb, eqb-true, append-nil, append_assoc, ◌||◌, ◌&&◌}
 use Rattle.std.proofs.lemmas.Bool.{both_ways, or_cases, or_left, or_right, and_from}
 use Rattle.std.proofs.lemmas.List.Folds.{list_any-append}
 use Rattle.clv_base.specs.declared.names.TxId.{TxId}
@@ -9,20 +9,21 @@ use Rattle.clv_base.specs.declared.events.Event.TheVariants.{Op as OpEvent}
 use Rattle.clv_base.specs.declared.events.Outcome.{Outcome}
 use Rattle.clv_base.specs.declared.events.Outcome.TheVariants.{Answered}
 use Rattle.clv_base.specs.declared.events.Entry.{Entry}
-use Rattle.clv_base.specs.Orders.{tx_same, tx_in, tx_union}
+use Rattle.clv_base.specs.Orders.{tx_same, tx_in}
 use Rattle.clv_base.specs.Locks.{violated}
 use Rattle.clv_base.specs.Needs.{needs_of}
 use Rattle.clv_base.specs.LogRules.{log_of}
 use Rattle.clv_base.specs.State.{Shard}
 use Rattle.clv_base.specs.Journals.{History, journal_of, start_of, after_entry, got_predecessors, predecessors_in}
 use Rattle.clv_base.specs.History.{is_acknowledgement, acknowledged_in, ops_in, state_before}
-use Rattle.clv_base.proofs.SameNames.{tx_self, tx_flip, in_insert}
+use Rattle.clv_base.proofs.SameNames.{tx_flip}
 use Rattle.shard_laws.specs.OneShard.{items_of, has_met, new_met}
 use Rattle.history_laws.proofs.Merging.{Placed}
 use Rattle.session_laws.proofs.Adding.{ops_append, items_next, told_next, told_pair}
 use Rattle.each_shard_laws.specs.Leading.{Deeds, deeds_with, deeds_after, deeds_before, no_deeds}
 use Rattle.each_shard_laws.specs.Telling.{own_entries, DeedsAreTold}
 use Rattle.each_shard_laws.proofs.Deeds.{deeds_own, deeds_other}
+use Rattle.wait_laws.proofs.Waiting.{in_union}
 
 -- what the front tells the shard did
 pub record Tells (before after : List (List LogRecord)) (n : ℕ) (t : TxId) (pre : History) : Type 0 where
@@ -75,13 +76,6 @@ module _ (before after : List (List LogRecord)) (n : ℕ) (t : TxId) where
   all_tell pre (y ∷ ys) k = subst (Tells before after n t) (append_assoc pre (y ∷ []) ys) (all_tell (pre ++ y ∷ []) ys (next_tells pre y k))
 
 -- ---- whose writes were violated
-
-in_union : (p : TxId) (xs ys : List TxId) → tx_in p (tx_union xs ys) ≡ true → (tx_in p xs ≡ true) ⊎ (tx_in p ys ≡ true)
-in_union p [] ys e = inr e
-in_union p (x ∷ xs) ys e =
-    ⊎_elim (λ a. inl (or_left (tx_same x p) (tx_in p xs) (subst (λ z. tx_same x z ≡ true) (sym a) (tx_self x))))
-    (λ a. ⊎_elim (λ b. inl (or_right (tx_same x p) (tx_in p xs) b)) (λ b. inr b) (in_union p xs ys a))
-    (in_insert x p (tx_union xs ys) e)
 
 met_here : (tx p : TxId) (ps : List TxId) (t : TxId) → tx_same t tx ≡ true → tx_in p ps ≡ true → has_met (map (λ q. (tx, q)) ps) t p ≡ true
 met_here tx p [] t s e = absurd (both_ways false refl e)

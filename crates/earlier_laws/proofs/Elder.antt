@@ -31,8 +31,8 @@ use Rattle.history_laws.proofs.Stepping.{commits, votes, rules, KeptByDue, settl
 use Rattle.history_laws.proofs.Telling.{all_append, all_map}
 use Rattle.history_laws.proofs.Uncommitting.{NoMoreCommits, rolled as rolled_commits, with_more}
 use Rattle.fate_laws.proofs.Prepares.{NoMorePrepares, prepare_new, plain_more, rolled as rolled_prepares}
-use Rattle.fate_laws.proofs.Closings.{new_commit}
 use Rattle.fate_laws.proofs.Parts.{commit_agreed, abort_undecided}
+use Rattle.fate_laws.proofs.Homes.{new_commit}
 
 -- ---- what is known. R: who is of this run; O: whose COMMIT was found at opening; H: on which shard
 

@@ -3,7 +3,7 @@ use Rattle.std.proofs.Common.{◌≡◌, inl, inr, ⊎_elim, refl, sym, subst, �
 use Rattle.std.specs.List.{AllByRecursion, filter}
 use Rattle.std.specs.Map.{keys_of}
 use Rattle.std.specs.Prelude.{⊤}
-use Rattle.std.proofs.lemmas.Bool.{both_ways, false_from_ne_true}
+use Rattle.std.proofs.lemmas.Bool.{both_ways}
 use Rattle.clv_base.specs.declared.names.TxId.{TxId}
 use Rattle.clv_base.specs.declared.logs.LogRecord.{LogRecord}
 use Rattle.clv_base.specs.declared.messages.Message.{Message}
@@ -17,7 +17,7 @@ use Rattle.clv_base.specs.declared.events.Event.TheVariants.{Request as RequestE
 use Rattle.clv_base.specs.declared.events.Outcome.{Outcome}
 use Rattle.clv_base.specs.declared.events.Outcome.TheVariants.{Sent}
 use Rattle.clv_base.specs.Orders.{Table, tx_in, tx_get, tx_put, nat_in}
-use Rattle.clv_base.specs.Logs.{committed_in, commit_lsn, prepared_in, prepare_of, wrote_in, is_commit_of, in_doubt}
+use Rattle.clv_base.specs.Logs.{committed_in, commit_lsn, prepared_in, prepare_of, wrote_in, in_doubt}
 use Rattle.clv_base.specs.State.{Shard, Local, with_local}
 use Rattle.clv_base.specs.Undo.{roll_back}
 use Rattle.clv_base.specs.Facts.{facts_of, has_durable_commit, undecided_of}
@@ -27,18 +27,20 @@ use Rattle.clv_base.specs.OneShard.{closing, close_part, drop_part}
 use Rattle.clv_base.specs.Events.{is_alone, coordinate, owe_vote, decided, ask_messages, with_outbox, durable_requests, waiting_voters, reminders, put_down, with_durable}
 use Rattle.clv_base.specs.Restarts.{log_left, revived, home_by, homes_of, unended_in, opened, log_after_restart, Restarts}
 use Rattle.clv_base.specs.Journals.{up_to_restart}
-use Rattle.law_base.proofs.Changed.{none_some}
 use Rattle.law_base.proofs.Rows.{rows_get, rows_put}
-use Rattle.law_base.proofs.Commits.{place_some}
+use Rattle.law_base.proofs.Lists.{all_mono}
 use Rattle.protocol_laws.proofs.Sets.{in_filter}
 use Rattle.history_laws.proofs.Stepping.{Step, op_dies, op_answers, request_refused, request_doomed, request_again, request_new, request_closes, looks_well, looks_ill, drops, sends, prepare_closes, prepare_again, vote_counts, decision_comes, decision_again, done_counts, asked, reminds, flushes, Happens, finishes, stops}
 use Rattle.history_laws.proofs.Entering.{Makes, by_event, by_flush, by_failure, by_restart}
 use Rattle.history_laws.proofs.Uncommitting.{rolled, dropped, op_dying, op_answering, restarts_add, opening_adds}
 use Rattle.history_laws.proofs.Telling.{all_append, all_map}
 use Rattle.history_laws.proofs.TellingEvents.{front_committed}
-use Rattle.fate_laws.proofs.Prepares.{there_prepare, front_prepare, opening_adds as opening_prepares, rolled as rolled_prepares, dropped as dropped_prepares, op_dying as dying_prepares, op_answering as answering_prepares, restarts_add as restarts_prepare}
-use Rattle.fate_laws.proofs.Restored.{all_in, doubt_prepared}
+use Rattle.fate_laws.proofs.Prepares.{front_prepare, opening_adds as opening_prepares, rolled as rolled_prepares, dropped as dropped_prepares, op_dying as dying_prepares, op_answering as answering_prepares, restarts_add as restarts_prepare}
+use Rattle.fate_laws.proofs.HomesEvents.{none_committed}
 use Rattle.earlier_laws.proofs.Elder.{MayHave, MayAnswer, Tells, Opens, Elder, elder_log, elder_same, elder_commit, elder_prepare, elder_send, elder_set, opens_at, elder_durable, elder_finish}
+use Rattle.file_laws.proofs.Doubts.{doubt_prepared}
+use Rattle.file_laws.proofs.Rows.{all_in, all_rows}
+use Rattle.shard_laws.proofs.Ordered.{prepare_some}
 
 -- ---- what is owed
 
@@ -46,21 +48,6 @@ abbrev pub Owes : (R O : TxId → Type 0) → (ℕ → TxId → Type 0) → Even
 Owes R O H (RequestEvent tx ts) = R tx
 Owes R O H (Deliver m stamp) = Tells R O H m
 Owes R O H _ = ⊤
-
-none_committed : (s : Shard) (tx : TxId) → is_some (commit_lsn s.local.log tx) ≡ false → committed_in s.local.log tx ≡ false
-none_committed s tx e = false_from_ne_true _ (λ c. at (commit_lsn s.local.log tx) refl c e)
-  where
-    at : (o : Option ℕ) → commit_lsn s.local.log tx ≡ o → committed_in s.local.log tx ≡ true → is_some o ≡ false → ⊥
-    at None f c g = let k = place_some 0 (is_commit_of tx) s.local.log c in none_some k.0 (sym f ∙ k.1)
-    at (Some n) f c g = both_ways _ g refl
-
-all_mono : {X : Type 0} (P Q : X → Type 0) → ((x : X) → P x → Q x) → (xs : List X) → AllByRecursion P xs → AllByRecursion Q xs
-all_mono P Q k [] a = tt
-all_mono P Q k (x ∷ xs) a = (k x a.0, all_mono P Q k xs a.1)
-
-all_rows : {X : Type 0} (P : X → Type 0) → ((x : X) → P x) → (xs : List X) → AllByRecursion P xs
-all_rows P k [] = tt
-all_rows P k (x ∷ xs) = (k x, all_rows P k xs)
 
 module _ (R O : TxId → Type 0) (H : ℕ → TxId → Type 0) where
   -- ---- closing a part
@@ -185,7 +172,7 @@ module _ (R O : TxId → Type 0) (H : ℕ → TxId → Type 0) where
   voters_prepared : (log : List LogRecord) (ts : List TxId) → ((t : TxId) (p : ℕ × List TxId) → prepare_of log t ≡ Some p → MayAnswer R O H t p.0) → AllByRecursion (λ t. prepared_in log t ≡ true) ts
       → AllByRecursion (λ r. MayAnswer R O H r.0 (r.1).home) (restored_voters (homes_of log ts))
   voters_prepared log [] k a = tt
-  voters_prepared log (t ∷ ts) k a = ((let q = there_prepare log t a.0 in subst (λ o. MayAnswer R O H t (home_by o)) (sym q.1) (k t q.0 q.1)), voters_prepared log ts k a.1)
+  voters_prepared log (t ∷ ts) k a = ((let q = prepare_some log t a.0 in subst (λ o. MayAnswer R O H t (home_by o)) (sym q.1) (k t q.0 q.1)), voters_prepared log ts k a.1)
 
   elder_revived : (s : Shard) (kept : Bool) (epoch : ℕ) (log : List LogRecord) → Restarts s (log_left s kept) epoch log → Elder R O H s → Elder R O H (revived s epoch log)
   elder_revived s kept epoch log g p =

@@ -1,5 +1,5 @@
 -- Where a transaction is ended, each of its parts is committed, along a history.
-use Rattle.std.proofs.Common.{◌≡◌, inl, inr, ⊎_elim, refl, sym, ap, subst, ℕ, zero, suc, ◌<◌, true, false, cond, Bool, nat_lt, List, [], ◌∷◌, ◌++◌, Some, length, arith}
+use Rattle.std.proofs.Common.{◌≡◌, inl, inr, ⊎_elim, refl, sym, subst, ℕ, ◌<◌, true, false, cond, Bool, nat_lt, List, [], ◌∷◌, ◌++◌, Some, arith}
 use Rattle.std.specs.List.{list_all}
 use Rattle.std.proofs.lemmas.Bool.{and_parts, ltb-true}
 use Rattle.clv_base.specs.declared.names.TxId.{TxId}
@@ -15,23 +15,23 @@ use Rattle.clv_base.specs.Shards.{shard_count}
 use Rattle.clv_base.specs.Logs.{committed_in, ended_in, commit_parts}
 use Rattle.clv_base.specs.LogRules.{log_of}
 use Rattle.clv_base.specs.FileRules.{may_open, passes_file_rules}
-use Rattle.clv_base.specs.State.{Shard}
 use Rattle.clv_base.specs.Restarts.{run_after, log_left}
-use Rattle.clv_base.specs.Journals.{History, event_state, final_of, logs_left_from}
+use Rattle.clv_base.specs.Journals.{History, event_state, final_of}
 use Rattle.clv_base.specs.History.{Legal, WasSent, logs_left}
 use Rattle.law_base.proofs.Changed.{none_some, some_same}
 use Rattle.history_laws.proofs.Entering.{makes}
 use Rattle.history_laws.proofs.Merging.{Placed, Among, among_append, is_among}
 use Rattle.history_laws.proofs.OldRuns.{each_passes}
 use Rattle.history_laws.proofs.Worlds.{state_at}
-use Rattle.file_laws.proofs.Passing.{logs_left_pass}
+use Rattle.file_laws.proofs.Passing.{logs_left_pass, left_length}
 use Rattle.fate_laws.proofs.Deciding.{log_now, durable_left}
 use Rattle.fate_laws.proofs.Entering.{durable_front}
 use Rattle.fate_laws.proofs.Fates.{fated}
 use Rattle.fate_laws.proofs.Prefixes.{Next, walk, each_shard, DurableIn, Counts, counts_start, counts_next, durable_later}
+use Rattle.fate_laws.proofs.HomesFound.{nat_at}
 use Rattle.ending_laws.specs.Ended.{EndedAreCommitted}
 use Rattle.ending_laws.proofs.Ends.{tell_front}
-use Rattle.ending_laws.proofs.Hearing.{Hears, nat_at}
+use Rattle.ending_laws.proofs.Hearing.{Hears}
 use Rattle.ending_laws.proofs.HearingEvents.{Brings, Enters, SaysOut, hears_mono, hears_opened, hears_made, hears_noted, out_made}
 use Rattle.ending_laws.proofs.Opening.{opening_tells}
 
@@ -133,15 +133,11 @@ parts_below splits shard (Abort tx ∷ rs) t ps a e = parts_below splits shard r
 parts_below splits shard (End tx ∷ rs) t ps a e = parts_below splits shard rs t ps a e
 parts_below splits shard (Restart run epoch ∷ rs) t ps a e = parts_below splits shard rs t ps a e
 
-pub left_length : (finals : ℕ → Shard) (choice : ℕ → Bool) (n k : ℕ) → length (logs_left_from finals choice n k) ≡ k
-left_length finals choice n zero = refl
-left_length finals choice n (suc k) = ap suc (left_length finals choice (suc n) k)
-
 pub part_below : (splits : List ℕ) (before : List (List LogRecord)) (h : History) (after : List (List LogRecord)) (choice : ℕ → Bool) (n m : ℕ) (tx : TxId) (parts : List ℕ) → may_open splits before ≡ true → Legal splits before h after → n < shard_count splits
     → commit_parts (log_of (logs_left splits before h after choice) n) tx ≡ Some parts → nat_in m parts ≡ true → m < shard_count splits
 part_below splits before h after choice n m tx parts o l i c k =
     let logs = logs_left splits before h after choice in
-    let e = left_length (final_of before h after) choice 0 (shard_count splits) in
+    let e = left_length splits before h after choice in
     let a = each_passes (λ s log. list_all (passes_file_rules splits s) log) 0 n logs (logs_left_pass splits before h after choice o l) (omega (arith, e, i)) in
     ltb-true m (shard_count splits) (nat_at (λ p. nat_lt p (shard_count splits)) m parts (parts_below splits _ (log_of logs n) tx parts a c) k)
 

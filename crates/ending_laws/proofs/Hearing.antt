@@ -1,12 +1,11 @@
 -- What a home heard of the parts of its commits: each that acknowledged one has its COMMIT durable. And that what is due keeps it so.
-use Rattle.std.proofs.Common.{◌≡◌, ⊎_elim, refl, sym, subst, ◌∙◌, ℕ, true, false, cond, not, ◌&&◌, ◌==◌, Bool, List, [], ◌∷◌, ◌++◌, map, Option, Some, None, eqb-true}
+use Rattle.std.proofs.Common.{◌≡◌, ⊎_elim, refl, sym, subst, ◌∙◌, ℕ, true, false, cond, not, ◌&&◌, ◌==◌, Bool, List, [], ◌∷◌, ◌++◌, map, Option, Some, None}
 use Rattle.std.specs.Prelude.{⊤}
 use Rattle.std.specs.List.{AllByRecursion, list_all}
-use Rattle.std.proofs.lemmas.Bool.{both_ways, and_parts, or_cases}
+use Rattle.std.proofs.lemmas.Bool.{and_parts}
 use Rattle.clv_base.specs.declared.names.TxId.{TxId}
 use Rattle.clv_base.specs.declared.logs.LogRecord.{LogRecord}
 use Rattle.clv_base.specs.declared.logs.LogRecord.TheVariants.{Commit}
-use Rattle.clv_base.specs.declared.causes.AbortCause.{AbortCause}
 use Rattle.clv_base.specs.declared.causes.Vote.{Vote}
 use Rattle.clv_base.specs.declared.causes.Vote.TheVariants.{Yes, Read, No}
 use Rattle.clv_base.specs.declared.messages.Message.{Message}
@@ -18,18 +17,16 @@ use Rattle.clv_base.specs.declared.state.Voter.{Voter}
 use Rattle.clv_base.specs.declared.state.Request.{Request}
 use Rattle.clv_base.specs.declared.state.RequestState.{RequestState}
 use Rattle.clv_base.specs.declared.state.RequestState.TheVariants.{Undecided, Committed, Finished, Refused}
-use Rattle.clv_base.specs.Orders.{tx_same, tx_get, tx_put, tx_set, nat_in}
+use Rattle.clv_base.specs.Orders.{tx_get, tx_put, tx_set, nat_in}
 use Rattle.clv_base.specs.Logs.{committed_in, commit_parts}
 use Rattle.clv_base.specs.State.{Shard, Local, with_local}
 use Rattle.clv_base.specs.Undo.{release_parts, roll_back}
 use Rattle.clv_base.specs.OneShard.{purge}
-use Rattle.clv_base.specs.Facts.{facts_of, has_durable_predecessors, is_waiting}
-use Rattle.clv_base.specs.Coordinator.{is_agreed, is_good, vote_from, others, agreed_ruling, refusal, refused_ruling, end_ruling, undecided_ruling, ruling_in, ruled_request, yes_shards}
+use Rattle.clv_base.specs.Facts.{facts_of, is_waiting}
+use Rattle.clv_base.specs.Coordinator.{is_agreed, is_good, vote_from, others, end_ruling, ruling_in, ruled_request}
 use Rattle.clv_base.specs.Due.{send, commit_messages, with_vote, finish_reader, with_ruling, do_ruling, with_due_done}
 use Rattle.clv_base.specs.Events.{finish}
-use Rattle.clv_base.proofs.SameNames.{tx_true}
 use Rattle.law_base.proofs.Changed.{none_some, some_same, get_set}
-use Rattle.law_base.proofs.Tables.{get_put}
 use Rattle.order_laws.proofs.Records.{committed_there}
 use Rattle.shard_laws.proofs.Rulings.{parts_new}
 use Rattle.shard_laws.proofs.Sound.{waiting_here}
@@ -38,7 +35,10 @@ use Rattle.history_laws.proofs.Telling.{all_append, all_map}
 use Rattle.fate_laws.proofs.Inside.{Inside, inside_due}
 use Rattle.fate_laws.proofs.Homes.{Starts, now_at}
 use Rattle.fate_laws.proofs.Parts.{commit_agreed}
+use Rattle.fate_laws.proofs.HomesFound.{nat_at}
+use Rattle.fate_laws.proofs.Rulings.{no_end_undecided}
 use Rattle.ending_laws.proofs.Ends.{GoesOn, on_same, on_more, on_rolled, parts_more, Tell, tell_on, tell_end}
+use Rattle.file_laws.proofs.Rows.{put_row}
 
 -- ---- what is known. K: where whose COMMIT is durable
 
@@ -87,11 +87,12 @@ hears_set K s tx w r p =
     }
 
 pub hears_put : (K : ℕ → TxId → Type 0) (s : Shard) (tx : TxId) (w : Request) → Row K s.local.log tx w → Hears K s → Hears K (record s { requests = tx_put tx w s.requests })
-hears_put K s tx w r p = record { log = p.log; rows = λ u q e. at u q (tx_same u tx) refl (sym (get_put tx u w s.requests) ∙ e); out = p.out }
-  where
-    at : (u : TxId) (q : Request) (b : Bool) → tx_same u tx ≡ b → cond b (Some w) (tx_get u s.requests) ≡ Some q → Row K s.local.log u q
-    at u q true s0 e = subst (λ v. Row K s.local.log v q) (sym (tx_true u tx s0)) (subst (Row K s.local.log tx) (some_same w q e) r)
-    at u q false s0 e = p.rows u q e
+hears_put K s tx w r p =
+    record {
+      log = p.log;
+      rows = λ u q e. ⊎_elim (λ a. subst (λ v. Row K s.local.log v q) (sym a.0) (subst (Row K s.local.log tx) (sym a.1) r)) (λ b. p.rows u q b) (put_row u tx w q s.requests e);
+      out = p.out;
+    }
 
 pub hears_send : (K : ℕ → TxId → Type 0) (s : Shard) (ms : List Message) → AllByRecursion (Says K) ms → Hears K s → Hears K (send ms s)
 hears_send K s ms a p = record { log = p.log; rows = p.rows; out = all_append (Says K) s.outbox ms p.out a }
@@ -101,23 +102,6 @@ hears_send K s ms a p = record { log = p.log; rows = p.rows; out = all_append (S
 -- an END is ruled of a committed request whose parts have all acknowledged it
 abbrev AllHeard : Request → List ℕ → Type 0
 AllHeard q parts = list_all (λ n. nat_in n q.acknowledged_by) parts ≡ true
-
-no_end_agreed : (f : PartFacts) (u : Bool) (ps : List ℕ) → agreed_ruling f u ps ≡ Some EndVerdict → ⊥
-no_end_agreed f u (p ∷ ps) e = absurd cc
-no_end_agreed f true [] e = absurd cc
-no_end_agreed f false [] e = at (has_durable_predecessors f) e
-  where
-    at : (b : Bool) → cond b (Some Acknowledge) None ≡ Some EndVerdict → ⊥
-    at true e = absurd cc
-    at false e = none_some EndVerdict e
-
-no_end_refused : (shard : ℕ) (q : Request) (o : Option AbortCause) → refused_ruling shard q o ≡ Some EndVerdict → ⊥
-no_end_refused shard q None e = none_some EndVerdict e
-no_end_refused shard q (Some c) e = absurd cc
-
-no_end_undecided : (shard : ℕ) (tx : TxId) (q : Request) (f : PartFacts) (b : Bool) → undecided_ruling shard tx q f b ≡ Some EndVerdict → ⊥
-no_end_undecided shard tx q f true e = no_end_agreed f f.updates (yes_shards shard q) e
-no_end_undecided shard tx q f false e = no_end_refused shard q (refusal tx q f) e
 
 heard_all : (q : Request) (parts : List ℕ) → end_ruling q parts ≡ Some EndVerdict → AllHeard q parts
 heard_all q [] e = absurd (none_some EndVerdict e)
@@ -132,11 +116,6 @@ end_ruled shard tx q f Undecided e h = absurd (no_end_undecided shard tx q f (is
 end_ruled shard tx q f (Committed parts) e h = (parts, e, heard_all q parts h)
 end_ruled shard tx q f Finished e h = absurd (none_some EndVerdict h)
 end_ruled shard tx q f (Refused cause) e h = absurd (none_some EndVerdict h)
-
-pub nat_at : (f : ℕ → Bool) (n : ℕ) (ns : List ℕ) → list_all f ns ≡ true → nat_in n ns ≡ true → f n ≡ true
-nat_at f n [] a i = absurd (both_ways false refl i)
-nat_at f n (m ∷ ms) a i =
-    let p = and_parts (f m) (list_all f ms) a in ⊎_elim (λ e. subst (λ z. f z ≡ true) (sym (eqb-true n m e)) p.0) (λ h. nat_at f n ms p.1 h) (or_cases (n == m) (nat_in n ms) i)
 
 -- who is agreed on has no COMMIT yet
 unruled : (s : Shard) (tx : TxId) (q : Request) → is_agreed s.shard q (facts_of s tx) ≡ true → committed_in s.local.log tx ≡ false

@@ -1,29 +1,30 @@
 -- What logs that may be opened say of their ENDs: each stands behind a COMMIT, and each part that this names is committed.
-use Rattle.std.proofs.Common.{◌≡◌, ⊎_elim, refl, sym, subst, ◌∙◌, ℕ, zero, suc, ◌+◌, ◌<◌, true, false, not, ◌&&◌, ◌||◌, ◌==◌, Bool, List, [], ◌∷◌, ◌++◌, Option, Some, None, is_none, is_some, length, arith, eqb-true}
-use Rattle.std.specs.List.{list_any, list_all}
-use Rattle.std.proofs.lemmas.Bool.{both_ways, and_parts, not-true, or_cases, or_left, or_right}
+use Rattle.std.proofs.Common.{◌≡◌, ⊎_elim, refl, sym, subst, ◌∙◌, ℕ, ◌<◌, true, false, not, ◌&&◌, ◌||◌, ◌==◌, Bool, List, [], ◌∷◌, ◌++◌, Option, Some, None, is_some, length, arith, eqb-true}
+use Rattle.std.specs.List.{list_all}
+use Rattle.std.proofs.lemmas.Bool.{both_ways, and_parts, not-true, or_cases}
 use Rattle.std.proofs.lemmas.List.{take_all}
 use Rattle.clv_base.specs.declared.names.TxId.{TxId}
 use Rattle.clv_base.specs.declared.logs.LogRecord.{LogRecord}
 use Rattle.clv_base.specs.declared.logs.LogRecord.TheVariants.{Update, Clr, Prepare, Commit, Abort, End, Restart}
-use Rattle.clv_base.specs.Orders.{tx_same, tx_in, tx_insert, tx_union, nat_in}
-use Rattle.clv_base.specs.Logs.{is_record_of, is_prepare_of, is_commit_of, is_end_of, committed_in, ended_in, aborted_in, prepare_of, commit_parts}
-use Rattle.clv_base.specs.LogRules.{may_follow, commit_by_prepare, disorder, log_of, all_logs_from, any_log_from, home_is, part_agrees, agrees_at, is_home_of, committed_of, committed_of_all, first_apart, apart, listed_in}
-use Rattle.clv_base.specs.FileRules.{may_open, log_passes, passes_file_rules}
+use Rattle.clv_base.specs.Orders.{nat_in}
+use Rattle.clv_base.specs.Logs.{is_prepare_of, is_commit_of, is_end_of, committed_in, ended_in, aborted_in, prepare_of, commit_parts}
+use Rattle.clv_base.specs.LogRules.{may_follow, commit_by_prepare, log_of, home_is, agrees_at, listed_in}
+use Rattle.clv_base.specs.FileRules.{may_open}
 use Rattle.clv_base.specs.Restarts.{run_after, log_after_restart}
-use Rattle.clv_base.proofs.SameNames.{tx_true, insert_keeps, insert_has}
+use Rattle.clv_base.proofs.SameNames.{tx_true}
 use Rattle.law_base.proofs.Changed.{none_some, some_same}
 use Rattle.law_base.proofs.Commits.{committed_keeps}
 use Rattle.order_laws.proofs.Records.{front, last, committed_there}
 use Rattle.shard_laws.proofs.Following.{Follows, from_disorder, through}
 use Rattle.shard_laws.proofs.Rulings.{parts_new}
-use Rattle.history_laws.proofs.OldRuns.{each_passes}
 use Rattle.history_laws.proofs.Uncommitting.{with_more}
-use Rattle.fate_laws.proofs.Closings.{new_commit}
 use Rattle.fate_laws.proofs.Prefixes.{DurableIn}
 use Rattle.fate_laws.proofs.Prepares.{plain_more, prepare_new}
+use Rattle.fate_laws.proofs.HomesFound.{part_agreed, home_of, nat_at}
+use Rattle.fate_laws.proofs.RecordKinds.{commit_is}
+use Rattle.fate_laws.proofs.Homes.{new_commit}
 use Rattle.ending_laws.proofs.Ends.{parts_back, EndsFrom, Tell}
-use Rattle.ending_laws.proofs.Hearing.{nat_at}
+use Rattle.file_laws.proofs.Found.{found_in_order}
 
 -- ---- a log in order
 
@@ -84,66 +85,7 @@ home_first shard t p q qs e c = absurd (none_some p e)
 at_home : (shard : ℕ) (log : List LogRecord) → Follows shard [] log → AtHome shard log
 at_home shard log f = through (AtHome shard) shard [] log tt f (home_first shard) (λ l r g h m. home_step shard l r h m)
 
--- ---- the committed have a home
-
-in_committed : (log : List LogRecord) (t : TxId) → committed_in log t ≡ true → tx_in t (committed_of log) ≡ true
-in_committed [] t c = absurd (both_ways false refl c)
-in_committed (Commit tx parts ∷ rs) t c =
-    ⊎_elim (λ e. subst (λ z. tx_in z (tx_insert tx (committed_of rs)) ≡ true) (sym (tx_true t tx e)) (insert_has tx (committed_of rs))) (λ h. insert_keeps tx t (committed_of rs) (in_committed rs t h)) (or_cases (tx_same t tx) (committed_in rs t) c)
-in_committed (Update tx a b d ∷ rs) t c = in_committed rs t c
-in_committed (Clr tx a b d ∷ rs) t c = in_committed rs t c
-in_committed (Prepare tx a b ∷ rs) t c = in_committed rs t c
-in_committed (Abort tx ∷ rs) t c = in_committed rs t c
-in_committed (End tx ∷ rs) t c = in_committed rs t c
-in_committed (Restart run epoch ∷ rs) t c = in_committed rs t c
-
-union_left : (xs ys : List TxId) (t : TxId) → tx_in t xs ≡ true → tx_in t (tx_union xs ys) ≡ true
-union_left [] ys t i = absurd (both_ways false refl i)
-union_left (x ∷ xs) ys t i =
-    ⊎_elim (λ e. subst (λ z. tx_in z (tx_insert x (tx_union xs ys)) ≡ true) (tx_true x t e) (insert_has x (tx_union xs ys))) (λ h. insert_keeps x t (tx_union xs ys) (union_left xs ys t h)) (or_cases (tx_same x t) (tx_in t xs) i)
-
-union_right : (xs ys : List TxId) (t : TxId) → tx_in t ys ≡ true → tx_in t (tx_union xs ys) ≡ true
-union_right [] ys t i = i
-union_right (x ∷ xs) ys t i = insert_keeps x t (tx_union xs ys) (union_right xs ys t i)
-
-in_committed_all : (logs : List (List LogRecord)) (n : ℕ) (t : TxId) → committed_in (log_of logs n) t ≡ true → tx_in t (committed_of_all logs) ≡ true
-in_committed_all [] n t c = absurd (both_ways false refl c)
-in_committed_all (log ∷ logs) zero t c = union_left (committed_of log) (committed_of_all logs) t (in_committed log t c)
-in_committed_all (log ∷ logs) (suc n) t c = union_right (committed_of log) (committed_of_all logs) t (in_committed_all logs n t c)
-
-has_home : (logs : List (List LogRecord)) (txs : List TxId) (t : TxId) → first_apart logs txs ≡ None → tx_in t txs ≡ true → any_log_from 0 (is_home_of logs t) logs ≡ true
-has_home logs [] t f i = absurd (both_ways false refl i)
-has_home logs (x ∷ xs) t f i = at (any_log_from 0 (is_home_of logs x) logs) refl f (has_home logs xs t)
-  where
-    at : (b : Bool) → any_log_from 0 (is_home_of logs x) logs ≡ b → ◌≡◌ {A = Option TxId} (elim b [ true ↦ first_apart logs xs | false ↦ Some x ]) None
-        → (first_apart logs xs ≡ None → tx_in t xs ≡ true → any_log_from 0 (is_home_of logs t) logs ≡ true) → any_log_from 0 (is_home_of logs t) logs ≡ true
-    at true e g k = ⊎_elim (λ q. subst (λ z. any_log_from 0 (is_home_of logs z) logs ≡ true) (tx_true x t q) e) (λ q. k g q) (or_cases (tx_same x t) (tx_in t xs) i)
-    at false e g k = absurd cc
-
-which_log : (n : ℕ) (test : ℕ → List LogRecord → Bool) (logs : List (List LogRecord)) → any_log_from n test logs ≡ true → (i : ℕ) × (test (n + i) (log_of logs i) ≡ true)
-which_log n test [] a = absurd (both_ways false refl a)
-which_log n test (log ∷ logs) a =
-    ⊎_elim (λ h. (0, subst (λ k. test k log ≡ true) (omega arith) h)) (λ h. let r = which_log (suc n) test logs h in (suc r.0, subst (λ k. test k (log_of logs r.0) ≡ true) (omega arith) r.1)) (or_cases (test n log) (any_log_from (suc n) test logs) a)
-
-zero_plus : (m : ℕ) → 0 + m ≡ m
-zero_plus m = omega arith
-
 -- ---- its home is the shard whose COMMIT has parts
-
-has_record : (log : List LogRecord) (t : TxId) → committed_in log t ≡ true → list_any (is_record_of t) log ≡ true
-has_record [] t p = absurd (both_ways false refl p)
-has_record (Commit tx a ∷ rs) t p = ⊎_elim (λ h. or_left (tx_same t tx) _ h) (λ h. or_right (tx_same t tx) _ (has_record rs t h)) (or_cases (tx_same t tx) (committed_in rs t) p)
-has_record (Update tx a b d ∷ rs) t p = or_right (tx_same t tx) _ (has_record rs t p)
-has_record (Clr tx a b d ∷ rs) t p = or_right (tx_same t tx) _ (has_record rs t p)
-has_record (Prepare tx a b ∷ rs) t p = or_right (tx_same t tx) _ (has_record rs t p)
-has_record (Abort tx ∷ rs) t p = or_right (tx_same t tx) _ (has_record rs t p)
-has_record (End tx ∷ rs) t p = or_right (tx_same t tx) _ (has_record rs t p)
-has_record (Restart run epoch ∷ rs) t p = has_record rs t p
-
-named : (a b c : Bool) → a ≡ false → b ≡ true → (a || not b || c) ≡ true → c ≡ true
-named true b c n i v = absurd (both_ways true n refl)
-named false true c n i v = v
-named false false c n i v = absurd (both_ways false refl i)
 
 prepared_home : (t : TxId) (h n : ℕ) (log : List LogRecord) (q : ℕ) (qs : List ℕ) (o : Option (ℕ × List TxId)) → prepare_of log t ≡ o → (is_some o && home_is h o) ≡ true → AtHome n log → commit_parts log t ≡ Some (q ∷ qs) → n ≡ h
 prepared_home t h n log q qs None e a k c = absurd (both_ways false refl a)
@@ -156,13 +98,7 @@ only_home logs t n h q ps qs l k c a = at (n == h) refl
     at true e = eqb-true n h e
     at false e =
         let log = log_of logs n in
-        let x = and_parts _ _ a in
-        let y = and_parts _ _ x.0 in
-        let z = and_parts _ _ y.0 in
-        let w = each_passes (λ s other. (s == h) || not (list_any (is_record_of t) other) || nat_in s ps) 0 n logs z.1 l in
-        let v = subst (λ i. ((i == h) || not (list_any (is_record_of t) log) || nat_in i ps) ≡ true) (zero_plus n) w in
-        let i = named (n == h) (list_any (is_record_of t) log) (nat_in n ps) e (has_record log t (committed_there log t (q ∷ qs) c)) v in
-        let g = nat_at (λ s. part_agrees t h (log_of logs s)) n ps y.1 i in
+        let g = part_agreed logs t h n ps l a e (commit_is log t (committed_there log t (q ∷ qs) c)) in
         let g1 = and_parts (is_some (prepare_of log t) && home_is h (prepare_of log t) && not (aborted_in log t)) (list_all (committed_in log) (listed_in log t)) g in
         let g2 = and_parts (is_some (prepare_of log t) && home_is h (prepare_of log t)) (not (aborted_in log t)) g1.0 in
         prepared_home t h n log q qs (prepare_of log t) refl g2.0 k c
@@ -177,15 +113,8 @@ agrees_here logs t n h q qs (Some ps) l k c d a =
 
 -- ---- where it is ended, its parts are committed
 
-none_of : {X : Type 0} (o : Option X) → is_none o ≡ true → o ≡ None
-none_of None e = refl
-none_of (Some x) e = absurd (both_ways false refl e)
-
 in_order : (splits : List ℕ) (logs : List (List LogRecord)) (n : ℕ) → may_open splits logs ≡ true → n < length logs → Follows n [] (log_of logs n)
-in_order splits logs n o l =
-    let q = each_passes (log_passes splits) 0 n logs (and_parts (all_logs_from 0 (log_passes splits) logs) (is_none (apart logs)) o).0 l in
-    let d = none_of (disorder (0 + n) (log_of logs n)) (and_parts (list_all (passes_file_rules splits (0 + n)) (log_of logs n)) _ q).1 in
-    subst (λ z. Follows z [] (log_of logs n)) (zero_plus n) (from_disorder (0 + n) 0 [] (log_of logs n) d)
+in_order splits logs n o l = from_disorder n 0 [] (log_of logs n) (found_in_order splits logs n o l)
 
 second_of : (b c : Bool) → b ≡ true → (not b || c) ≡ true → c ≡ true
 second_of true c e v = v
@@ -195,10 +124,8 @@ opening_ended : (splits : List ℕ) (logs : List (List LogRecord)) (n m : ℕ) (
     → committed_in (log_of logs m) t ≡ true
 opening_ended splits logs n m t [] o l e c i = absurd (both_ways false refl i)
 opening_ended splits logs n m t (q ∷ qs) o l e c i =
-    let d = none_of (apart logs) (and_parts (all_logs_from 0 (log_passes splits) logs) (is_none (apart logs)) o).1 in
-    let a = which_log 0 (is_home_of logs t) logs (has_home logs (committed_of_all logs) t d (in_committed_all logs n t (committed_there (log_of logs n) t (q ∷ qs) c))) in
-    let b = subst (λ k. is_home_of logs t k (log_of logs a.0) ≡ true) (zero_plus a.0) a.1 in
-    let g = agrees_here logs t n a.0 q qs (commit_parts (log_of logs a.0) t) l (at_home n (log_of logs n) (in_order splits logs n o l)) c refl b in
+    let a = home_of splits logs n t o (committed_there (log_of logs n) t (q ∷ qs) c) in
+    let g = agrees_here logs t n a.0 q qs (commit_parts (log_of logs a.0) t) l (at_home n (log_of logs n) (in_order splits logs n o l)) c refl a.1 in
     let k = (and_parts _ (not (ended_in (log_of logs n) t) || list_all (λ s. committed_in (log_of logs s) t) (q ∷ qs)) g).1 in
     nat_at (λ s. committed_in (log_of logs s) t) m (q ∷ qs) (second_of (ended_in (log_of logs n) t) (list_all (λ s. committed_in (log_of logs s) t) (q ∷ qs)) e k) i
 

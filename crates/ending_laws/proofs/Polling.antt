@@ -2,10 +2,6 @@
 use Rattle.std.proofs.Common.{◌≡◌, ⊎_elim, refl, sym, ap, subst, ◌∙◌, ℕ, true, false, cond, ◌&&◌, ◌==◌, Bool, List, [], ◌∷◌, ◌++◌, Option, Some, None, append-nil, eqb-true}
 use Rattle.std.specs.Prelude.{⊤}
 use Rattle.std.specs.List.{AllByRecursion, filter, list_all}
-use Rattle.std.specs.BTreeMap.{insert_entry}
-use Rattle.std.specs.Ordering.{nat_cmp, match_ordering, is_eq}
-use Rattle.std.specs.declared.cmp.Ordering.{Ordering}
-use Rattle.std.specs.declared.cmp.Ordering.TheVariants.{Less, Equal, Greater}
 use Rattle.std.proofs.lemmas.Bool.{both_ways, and_parts, or_cases, or_left, or_right, cond_both}
 use Rattle.clv_base.specs.declared.names.TxId.{TxId}
 use Rattle.clv_base.specs.declared.logs.LogRecord.{LogRecord}
@@ -23,7 +19,7 @@ use Rattle.clv_base.specs.declared.events.Event.TheVariants.{Request as RequestE
 use Rattle.clv_base.specs.declared.events.Outcome.{Outcome}
 use Rattle.clv_base.specs.declared.events.Outcome.TheVariants.{Asked, Taken}
 use Rattle.clv_base.specs.declared.events.Entry.{Entry}
-use Rattle.clv_base.specs.Orders.{tx_same, tx_get, tx_put, tx_set, nat_in}
+use Rattle.clv_base.specs.Orders.{tx_get, tx_put, tx_set, nat_in}
 use Rattle.clv_base.specs.Logs.{committed_in, commit_parts, wrote_in}
 use Rattle.clv_base.specs.State.{Shard, Local, with_local}
 use Rattle.clv_base.specs.Undo.{roll_back}
@@ -35,10 +31,8 @@ use Rattle.clv_base.specs.Due.{finish_reader, with_vote, with_ruling, do_ruling}
 use Rattle.clv_base.specs.Events.{finish, is_alone, coordinate, decided}
 use Rattle.clv_base.specs.Restarts.{log_left, revived, opened, unended_in, log_after_restart, Restarts}
 use Rattle.clv_base.specs.Journals.{event_state, after_entry, up_to_restart}
-use Rattle.clv_base.proofs.SameNames.{nat_cmp_true, tx_true}
 use Rattle.law_base.proofs.Changed.{none_some, some_same, get_set}
 use Rattle.law_base.proofs.Lists.{all_mono}
-use Rattle.law_base.proofs.Tables.{get_put}
 use Rattle.order_laws.proofs.Records.{committed_there}
 use Rattle.protocol_laws.specs.Growth.{IsPrefixOf}
 use Rattle.protocol_laws.proofs.Growing.{same, more, more_twice}
@@ -51,8 +45,10 @@ use Rattle.fate_laws.proofs.Inside.{inside_step}
 use Rattle.fate_laws.proofs.HomesEvents.{awaits}
 use Rattle.fate_laws.proofs.Parts.{commit_agreed}
 use Rattle.fate_laws.proofs.PartsEvents.{Once}
-use Rattle.fate_laws.proofs.Closings.{new_commit}
+use Rattle.fate_laws.proofs.VotesHeld.{votes_get, votes_put}
+use Rattle.fate_laws.proofs.Homes.{new_commit}
 use Rattle.ending_laws.proofs.Ends.{parts_back, parts_front, on_restarted}
+use Rattle.file_laws.proofs.Rows.{put_row}
 
 -- ---- lists of shards
 
@@ -140,31 +136,13 @@ polls_set W V s tx w k p =
 
 polls_put : (W : TxId → ℕ → List (ℕ × ℕ) → Type 0) (V : ℕ → TxId → ℕ → Vote → Type 0) (s : Shard) (tx : TxId) (w : Request) → (w.state ≡ Undecided → W tx s.shard w.touched × Votes V s.shard tx w.votes) → Polls W V s
     → Polls W V (record s { requests = tx_put tx w s.requests })
-polls_put W V s tx w k p = record { log = p.log; rows = λ u q e. at u q (tx_same u tx) refl (sym (get_put tx u w s.requests) ∙ e) }
-  where
-    at : (u : TxId) (q : Request) (b : Bool) → tx_same u tx ≡ b → cond b (Some w) (tx_get u s.requests) ≡ Some q → q.state ≡ Undecided → W u s.shard q.touched × Votes V s.shard u q.votes
-    at u q true n e = subst (λ v. q.state ≡ Undecided → W v s.shard q.touched × Votes V s.shard v q.votes) (sym (tx_true u tx n)) (subst (λ r. r.state ≡ Undecided → W tx s.shard r.touched × Votes V s.shard tx r.votes) (some_same w q e) k)
-    at u q false n e = p.rows u q e
-
--- ---- the votes of a request
-
-get_case : (P : ℕ → Vote → Type 0) (m : ℕ) (v : Vote) (r : ℕ × Vote) (o : Option Vote) (b : Bool) → (m == r.0) ≡ b → P r.0 r.1 → cond b (Some r.1) o ≡ Some v → (o ≡ Some v → P m v) → P m v
-get_case P m v r o true e a g k = subst (λ z. P m z) (some_same r.1 v g) (subst (λ n. P n r.1) (sym (eqb-true m r.0 e)) a)
-get_case P m v r o false e a g k = k g
-
-votes_get : (P : ℕ → Vote → Type 0) (vs : List (ℕ × Vote)) (m : ℕ) (v : Vote) → AllByRecursion (λ r. P r.0 r.1) vs → vote_from m vs ≡ Some v → P m v
-votes_get P [] m v a g = absurd (none_some v g)
-votes_get P (r ∷ rs) m v a g = get_case P m v r (vote_from m rs) (m == r.0) refl a.0 g (votes_get P rs m v a.1)
-
-put_case : (P : ℕ → Vote → Type 0) (o : Ordering) (m : ℕ) (v : Vote) (r : ℕ × Vote) (rs qs : List (ℕ × Vote)) → (o ≡ Equal → m ≡ r.0) → P m v → P r.0 r.1 → AllByRecursion (λ r. P r.0 r.1) rs → AllByRecursion (λ r. P r.0 r.1) qs
-    → AllByRecursion (λ r. P r.0 r.1) (match_ordering o ((m, v) ∷ r ∷ rs) ((r.0, v) ∷ rs) (r ∷ qs))
-put_case P Less m v r rs qs e a b c d = (a, (b, c))
-put_case P Equal m v r rs qs e a b c d = (subst (λ n. P n v) (e refl) a, c)
-put_case P Greater m v r rs qs e a b c d = (b, d)
-
-votes_put : (P : ℕ → Vote → Type 0) (vs : List (ℕ × Vote)) (m : ℕ) (v : Vote) → P m v → AllByRecursion (λ r. P r.0 r.1) vs → AllByRecursion (λ r. P r.0 r.1) (insert_entry nat_cmp vs m v)
-votes_put P [] m v a k = (a, tt)
-votes_put P (r ∷ rs) m v a k = put_case P (nat_cmp m r.0) m v r rs (insert_entry nat_cmp rs m v) (λ e. nat_cmp_true m r.0 (ap is_eq e)) a k.0 k.1 (votes_put P rs m v a k.1)
+polls_put W V s tx w k p =
+    record {
+      log = p.log;
+      rows = λ u q e.
+          ⊎_elim (λ a. subst (λ v. q.state ≡ Undecided → W v s.shard q.touched × Votes V s.shard v q.votes) (sym a.0) (subst (λ r. r.state ≡ Undecided → W tx s.shard r.touched × Votes V s.shard tx r.votes) (sym a.1) k)) (λ b. p.rows u q b)
+          (put_row u tx w q s.requests e);
+    }
 
 -- ---- rulings
 

@@ -3,15 +3,15 @@ use Rattle.std.proofs.Common.{◌≡◌, ◌⊎◌, inl, inr, ⊎_elim, refl, sy
 use Rattle.std.specs.Prelude.{⊤, drop}
 use Rattle.std.proofs.Common.{take-append-drop}
 use Rattle.std.specs.List.{filter, list_all}
-use Rattle.std.proofs.lemmas.Bool.{both_ways, and_parts, or_cases, or_left, or_right, not-true, false_from_ne_true}
+use Rattle.std.proofs.lemmas.Bool.{both_ways, and_parts, or_cases, or_left, or_right, not-true, false_from_ne_true, or_parts}
 use Rattle.clv_base.specs.declared.names.TxId.{TxId}
 use Rattle.clv_base.specs.declared.logs.LogRecord.{LogRecord}
 use Rattle.clv_base.specs.declared.logs.LogRecord.TheVariants.{Update, Clr, Prepare, Commit, Abort, End, Restart}
 use Rattle.clv_base.specs.Orders.{tx_same, tx_in, tx_insert}
-use Rattle.clv_base.specs.Logs.{StandingUpdate, standing, committed_in, prepared_in, aborted_in, is_prepare_of, prepare_of, doubt_by, in_doubt_from, in_doubt, wrote_in}
+use Rattle.clv_base.specs.Logs.{StandingUpdate, standing, committed_in, prepared_in, aborted_in, is_prepare_of, prepare_of, doubt_by, in_doubt_from, in_doubt}
 use Rattle.clv_base.specs.LogRules.{may_follow}
 use Rattle.clv_base.specs.State.{Shard}
-use Rattle.clv_base.specs.Undo.{clrs_of, newest_lsn, aborts_of}
+use Rattle.clv_base.specs.Undo.{clrs_of, newest_lsn}
 use Rattle.clv_base.specs.Restarts.{restart_records, undo_records, log_after_restart, losers, next_epoch, FailedRestarts, Restarts, untouched, failed_first}
 use Rattle.clv_base.proofs.SameNames.{tx_true, tx_self, in_insert, insert_has}
 use Rattle.law_base.proofs.Changed.{none_some, some_same}
@@ -60,10 +60,6 @@ clrs_ahead front set (w ∷ ws) = at (tx_in w.tx set) (clrs_ahead (front ++ Clr 
         → Ahead front (cond b (Clr w.tx (newest_lsn w.tx ws) w.key w.before ∷ clrs_of set ws) (clrs_of set ws))
     at true k l = (tt, k)
     at false k l = l
-
-pub undone_ahead : (log : List LogRecord) (set : List TxId) → Ahead [] log → Ahead [] (log ++ aborts_of log set ++ clrs_of set (standing log))
-undone_ahead log set a =
-    ahead_append [] (log ++ aborts_of log set) (clrs_of set (standing log)) (ahead_append [] log (aborts_of log set) a (aborts_ahead log (filter (wrote_in log) set))) (clrs_ahead (log ++ aborts_of log set) set (standing log))
 
 records_ahead : (shard : ℕ) (front log : List LogRecord) (run epoch : ℕ) → Ahead front (restart_records shard log run epoch)
 records_ahead shard front log run epoch =
@@ -164,10 +160,6 @@ no_doubt log shard t home ps sf d c = at (shard == home) (committed_in log t) (a
     at false false false true e f g m d = absurd (both_ways true d refl)
     at false false false false e f g m d = inr (inr (some_fails (λ p. committed_in log p || tx_in p sf) ps m))
 
-or_false : (a b : Bool) → (a || b) ≡ false → (a ≡ false) × (b ≡ false)
-or_false true b e = absurd (both_ways true e refl)
-or_false false b e = (refl, e)
-
 pub behind : (log : List LogRecord) (shard : ℕ) (front rs : List LogRecord) (sf : List TxId) (t : TxId) (p : ℕ × List TxId) → front ++ rs ≡ log → Ahead front rs → prepared_in front t ≡ false → prepare_of rs t ≡ Some p
     → tx_in t (in_doubt_from log shard rs sf) ≡ false → committed_in log t ≡ false → Why log shard (in_doubt_from log shard rs sf) t p
 behind log shard front [] sf t p e a u h n c = absurd (none_some p h)
@@ -180,7 +172,7 @@ behind log shard front (Prepare tx home ps ∷ rs) sf t p e a u h n c =
 
     listed : (q : TxId) → (tx_in q ps ≡ true) → ((committed_in log q || tx_in q sf) ≡ false) → (committed_in log q ≡ false) × (tx_in q (in_doubt_from log shard rs sf) ≡ false)
     listed q i f =
-        let g = or_false (committed_in log q) (tx_in q sf) f in (
+        let g = or_parts (committed_in log q) (tx_in q sf) f in (
           g.0,
           false_from_ne_true _ (λ j. ⊎_elim
               (λ k. both_ways _ g.1 (was_doubted log shard new rs sf q a.1 (more_prepared front (Prepare tx home ps) q k) j))

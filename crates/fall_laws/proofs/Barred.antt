@@ -1,7 +1,6 @@
 -- Who is out on a shard, gone or never restored, is never committed there: it isn't in its log any more, or never restored, or dead at its
 -- home, or its PREPARE lists one that is out as well.
-use Rattle.std.proofs.Common.{◌≡◌, ◌⊎◌, inl, inr, ⊎_elim, refl, sym, ap, subst, ◌∙◌, ℕ, ◌≤◌, true, false, Bool, List, [], ◌∷◌, take, length, Some, None, arith, length-append}
-use Rattle.std.proofs.lemmas.List.{take-append-le}
+use Rattle.std.proofs.Common.{◌≡◌, ◌⊎◌, inl, inr, ⊎_elim, refl, sym, ap, subst, ◌∙◌, ℕ, ◌≤◌, true, false, Bool, List, [], ◌∷◌, length, Some, None, arith, length-append}
 use Rattle.std.proofs.lemmas.Bool.{both_ways, or_cases, false_from_ne_true}
 use Rattle.clv_base.specs.declared.names.TxId.{TxId}
 use Rattle.clv_base.specs.declared.causes.Vote.TheVariants.{Read}
@@ -22,12 +21,15 @@ use Rattle.protocol_laws.specs.Growth.{IsPrefixOf}
 use Rattle.history_laws.proofs.Serials.{committed_front}
 use Rattle.history_laws.proofs.Uncommitting.{rolled as rolled_commits}
 use Rattle.shard_laws.proofs.Leaving.{absent_go, own_go, stage_other}
+use Rattle.shard_laws.proofs.Ordered.{prepare_some}
 use Rattle.fate_laws.proofs.Homes.{still_not}
 use Rattle.fate_laws.proofs.Inside.{Inside}
-use Rattle.fate_laws.proofs.Prepares.{there_prepare, prepare_there, prepare_more}
+use Rattle.fate_laws.proofs.Prepares.{prepare_more}
 use Rattle.fate_laws.proofs.Downwards.{Down}
+use Rattle.fate_laws.proofs.Binding.{front_same}
 use Rattle.fall_laws.proofs.Lined.{Lined}
 use Rattle.fall_laws.proofs.Doomed.{goes}
+use Rattle.order_laws.proofs.Records.{prepared_there}
 
 -- ---- what is known. K: who is dead at its home; V: who was out so far; O: who asked, or was answered here; Q: whose home is here
 
@@ -57,13 +59,9 @@ pub record Barred (K V O Q : TxId → Type 0) (s : Shard) : Type 0 where
 
 pub lost_inactive : (K V O Q : TxId → Type 0) (s : Shard) (t : TxId) → Barred K V O Q s → V t → stage_of s.local t ≡ Some Active → ⊥
 lost_inactive K V O Q s t b v a =
-    let h = b.here t v (subst (λ o. is_present o ≡ true) (sym a) refl) in both_ways _ ((b.lined).unprepared t a) (prepare_there s.local.log t h.0 h.1)
+    let h = b.here t v (subst (λ o. is_present o ≡ true) (sym a) refl) in both_ways _ ((b.lined).unprepared t a) (prepared_there s.local.log t h.0 h.1)
 
 -- ---- a change
-
-durable_same : (s x : Shard) → Inside s x → s.durable ≤ length s.local.log → log_left x false ≡ log_left s false
-durable_same s x i c =
-    ap (λ n. take n x.local.log) i.durable ∙ ap (take s.durable) (sym (i.log).1) ∙ take-append-le s.durable s.local.log (i.log).0 c
 
 pub record Change (K V O Q : TxId → Type 0) (s x : Shard) : Type 0 where
   pub inside : Inside s x
@@ -79,16 +77,13 @@ pub record Change (K V O Q : TxId → Type 0) (s x : Shard) : Type 0 where
   -- who goes is lost
   pub goes : (t : TxId) (p : ℕ × List TxId) → is_present (stage_of s.local t) ≡ true → Out O x t → prepare_of s.local.log t ≡ Some p → Lost K V O x t p
 
-absent_still : (a b : Bool) → (b ≡ true → a ≡ true) → a ≡ false → b ≡ false
-absent_still a b k e = false_from_ne_true b (λ h. both_ways _ e (k h))
-
 pub lost_next : (K V O Q : TxId → Type 0) (s x : Shard) (t : TxId) (p : ℕ × List TxId) → s.durable ≤ length s.local.log → Inside s x → ((t : TxId) → V t ⊎ Out O s t → committed_in x.local.log t ≡ false)
     → ((t : TxId) → V t ⊎ Out O s t → is_present (stage_of x.local t) ≡ true → is_present (stage_of s.local t) ≡ true) → V t ⊎ Out O s t → Lost K V O s t p → Lost K V O x t p
-lost_next K V O Q s x t p n i stay away w (inl (a, b)) = inl (subst (λ l. aborted_in l t ≡ true) (sym (durable_same s x i n)) a, absent_still _ _ (away t w) b)
-lost_next K V O Q s x t p n i stay away w (inr (inl (a, b))) = inr (inl (a ∙ sym i.shard, absent_still _ _ (away t w) b))
+lost_next K V O Q s x t p n i stay away w (inl (a, b)) = inl (subst (λ l. aborted_in l t ≡ true) (sym (front_same s x i n)) a, still_not _ _ (away t w) b)
+lost_next K V O Q s x t p n i stay away w (inr (inl (a, b))) = inr (inl (a ∙ sym i.shard, still_not _ _ (away t w) b))
 lost_next K V O Q s x t p n i stay away w (inr (inr (inl k))) = inr (inr (inl k))
 lost_next K V O Q s x t p n i stay away w (inr (inr (inr (q, m, inl v)))) = inr (inr (inr (q, m, inl v)))
-lost_next K V O Q s x t p n i stay away w (inr (inr (inr (q, m, inr o)))) = inr (inr (inr (q, m, inr (absent_still _ _ (away q (inr o)) o.0, stay q (inr o), o.2))))
+lost_next K V O Q s x t p n i stay away w (inr (inr (inr (q, m, inr o)))) = inr (inr (inr (q, m, inr (still_not _ _ (away q (inr o)) o.0, stay q (inr o), o.2))))
 
 pub barred_next : (K V O Q : TxId → Type 0) (s x : Shard) → Barred K V O Q s → Change K V O Q s x → Barred K V O Q x
 barred_next K V O Q s x b c =
@@ -96,7 +91,7 @@ barred_next K V O Q s x b c =
       lined = c.lined;
       down = c.down;
       counted = let l = grown s.local.log x.local.log (c.inside).log in let d = (c.inside).durable in omega (arith, l, d, b.counted);
-      sought = λ t h. let p = there_prepare x.local.log t h in (c.sought t p.0 p.1).0;
+      sought = λ t h. let p = prepare_some x.local.log t h in (c.sought t p.0 p.1).0;
       homes = λ t p q h. (c.sought t p h).1 q ∙ sym (c.inside).shard;
       rows = c.rows;
       readers = c.readers;
@@ -161,4 +156,4 @@ finished_goes K V O s x u e l k t p h o f = at (tx_in t (u ∷ [])) refl
     at true i =
         let q : u ≡ t = ⊎_elim (λ a. tx_true u t a) (λ a. absurd (both_ways false refl a)) (or_cases (tx_same u t) false i) in
         absurd (⊎_elim (λ c. both_ways _ (subst (λ z. committed_in z t ≡ false) l o.1) (subst (λ z. committed_in s.local.log z ≡ true) q c))
-        (λ c. both_ways _ (subst (λ z. prepared_in s.local.log z ≡ false) q c) (prepare_there s.local.log t p f)) k)
+        (λ c. both_ways _ (subst (λ z. prepared_in s.local.log z ≡ false) q c) (prepared_there s.local.log t p f)) k)

@@ -15,15 +15,14 @@ use Rattle.clv_base.specs.declared.state.RequestState.{RequestState}
 use Rattle.clv_base.specs.declared.state.RequestState.TheVariants.{Undecided, Committed, Finished, Refused}
 use Rattle.clv_base.specs.declared.state.Ruling.{Ruling}
 use Rattle.clv_base.specs.declared.state.Ruling.TheVariants.{Commit as CommitVerdict, Acknowledge, Abort as AbortVerdict, End as EndVerdict}
-use Rattle.clv_base.specs.declared.state.Stage.{Stage}
-use Rattle.clv_base.specs.declared.state.Stage.TheVariants.{Active, Closed, Gone}
+use Rattle.clv_base.specs.declared.state.Stage.TheVariants.{Active, Closed}
 use Rattle.clv_base.specs.Orders.{Table, tx_same, tx_in, tx_get, tx_set}
 use Rattle.clv_base.specs.Logs.{StandingUpdate, standing, committed_in, prepared_in, wrote_in, prepare_of}
 use Rattle.clv_base.specs.State.{Shard, Local, is_present}
 use Rattle.clv_base.specs.Undo.{newest_lsn, stage_of, doomed_here, roll_back, aborts_of, clrs_of}
 use Rattle.clv_base.specs.Facts.{facts_of, is_waiting}
 use Rattle.clv_base.specs.Participant.{vote_by, voted}
-use Rattle.clv_base.specs.Coordinator.{others, vote_from, is_good, yes_shards, agreed_ruling, is_agreed, undecided_ruling, refusal, refused_ruling, end_ruling, ruling_in, ruled_request}
+use Rattle.clv_base.specs.Coordinator.{others, vote_from, is_good, yes_shards, agreed_ruling, is_agreed, undecided_ruling, refusal, ruling_in, ruled_request}
 use Rattle.clv_base.specs.Due.{finish_reader, with_vote, do_ruling, with_ruling, with_due_done, with_commit_done}
 use Rattle.clv_base.specs.Events.{finish}
 use Rattle.clv_base.proofs.SameNames.{tx_true}
@@ -33,18 +32,20 @@ use Rattle.history_laws.proofs.Serials.{committed_front}
 use Rattle.history_laws.proofs.Stepping.{Due, commits, votes, rules, KeptByDue, settled}
 use Rattle.history_laws.proofs.Uncommitting.{rolled as rolled_commits}
 use Rattle.shard_laws.proofs.Sound.{waiting_here}
-use Rattle.fate_laws.proofs.Homes.{set_there}
+use Rattle.shard_laws.proofs.Ordered.{prepare_some}
+use Rattle.shard_laws.proofs.Leaving.{no_write_aborts, no_write_clrs}
+use Rattle.fate_laws.proofs.Homes.{set_there, new_commit}
 use Rattle.fate_laws.proofs.Inside.{inside_self, inside_due}
-use Rattle.fate_laws.proofs.Prepares.{there_prepare, prepare_there}
 use Rattle.fate_laws.proofs.Parts.{commit_agreed, abort_undecided}
 use Rattle.fate_laws.proofs.Binding.{VoteIs, kept, yes, read, no, vote_is}
-use Rattle.fate_laws.proofs.Calm.{Calm, calm_one, due_prepares}
-use Rattle.fate_laws.proofs.Closings.{new_commit}
+use Rattle.fate_laws.proofs.Calm.{calm_one, due_prepares, was_there}
 use Rattle.fate_laws.proofs.Downwards.{down_due}
+use Rattle.fate_laws.proofs.Rulings.{ack_refused, ack_end}
 use Rattle.history_laws.proofs.Uncommitting.{with_more}
 use Rattle.fall_laws.proofs.Ahead.{aborts_ahead, clrs_ahead}
 use Rattle.fall_laws.proofs.Lined.{Lined, Plainly, lined_more, lined_gone}
 use Rattle.fall_laws.proofs.Barred.{Absent, Out, Lost, Barred, Change, barred_next, rolled_goes, finished_goes}
+use Rattle.order_laws.proofs.Records.{prepared_there}
 
 -- ---- who only read rules no COMMIT
 
@@ -52,18 +53,6 @@ ack_agreed : (f : PartFacts) (u : Bool) (ys : List ℕ) → agreed_ruling f u ys
 ack_agreed f u (y ∷ ys) e = absurd cc
 ack_agreed f true [] e = absurd cc
 ack_agreed f false [] e = refl
-
-ack_refused : (shard : ℕ) (q : Request) (o : Option AbortCause) → refused_ruling shard q o ≡ Some Acknowledge → ⊥
-ack_refused shard q None e = none_some Acknowledge e
-ack_refused shard q (Some c) e = absurd cc
-
-ack_end : (q : Request) (ps : List ℕ) → end_ruling q ps ≡ Some Acknowledge → ⊥
-ack_end q [] e = none_some Acknowledge e
-ack_end q (p ∷ ps) e = at _ e
-  where
-    at : (b : Bool) → cond b (Some EndVerdict) None ≡ Some Acknowledge → ⊥
-    at true e = absurd cc
-    at false e = none_some Acknowledge e
 
 ack_undecided : (shard : ℕ) (tx : TxId) (q : Request) (f : PartFacts) (b : Bool) → undecided_ruling shard tx q f b ≡ Some Acknowledge → f.updates ≡ false
 ack_undecided shard tx q f true e = ack_agreed f f.updates (yes_shards shard q) e
@@ -74,14 +63,6 @@ ack_in shard tx q f Undecided e = ack_undecided shard tx q f (is_agreed shard q 
 ack_in shard tx q f (Committed parts) e = absurd (ack_end q parts e)
 ack_in shard tx q f Finished e = absurd (none_some Acknowledge e)
 ack_in shard tx q f (Refused c) e = absurd (none_some Acknowledge e)
-
--- ---- parts only close or go
-
-pub came : (s t : Shard) (tx : TxId) → Calm s t tx → (o : Option Stage) → stage_of t.local tx ≡ o → is_present o ≡ true → is_present (stage_of s.local tx) ≡ true
-came s t tx c None e h = absurd (both_ways false refl h)
-came s t tx c (Some Active) e h = subst (λ o. is_present o ≡ true) (sym (c.active e)) refl
-came s t tx c (Some Closed) e h = ⊎_elim (λ k. subst (λ o. is_present o ≡ true) (sym k) refl) (λ k. subst (λ o. is_present o ≡ true) (sym k) refl) (c.closed e)
-came s t tx c (Some (Gone d)) e h = absurd (both_ways false refl h)
 
 -- ---- records at the end of the log that are no PREPARE and no UPDATE
 
@@ -95,10 +76,6 @@ no_prepare_aborts : (ts : List TxId) (t : TxId) → prepared_in (map (λ u. Abor
 no_prepare_aborts [] t = refl
 no_prepare_aborts (u ∷ us) t = no_prepare_aborts us t
 
-no_write_aborts : (ts : List TxId) (t : TxId) → wrote_in (map (λ u. Abort u) ts) t ≡ false
-no_write_aborts [] t = refl
-no_write_aborts (u ∷ us) t = no_write_aborts us t
-
 no_prepare_clrs : (set : List TxId) (ws : List StandingUpdate) (t : TxId) → prepared_in (clrs_of set ws) t ≡ false
 no_prepare_clrs set [] t = refl
 no_prepare_clrs set (w ∷ ws) t = at (tx_in w.tx set) (no_prepare_clrs set ws t)
@@ -107,19 +84,11 @@ no_prepare_clrs set (w ∷ ws) t = at (tx_in w.tx set) (no_prepare_clrs set ws t
     at true k = k
     at false k = k
 
-no_write_clrs : (set : List TxId) (ws : List StandingUpdate) (t : TxId) → wrote_in (clrs_of set ws) t ≡ false
-no_write_clrs set [] t = refl
-no_write_clrs set (w ∷ ws) t = at (tx_in w.tx set) (no_write_clrs set ws t)
-  where
-    at : (b : Bool) → wrote_in (clrs_of set ws) t ≡ false → wrote_in (cond b (Clr w.tx (newest_lsn w.tx ws) w.key w.before ∷ clrs_of set ws) (clrs_of set ws)) t ≡ false
-    at true k = k
-    at false k = k
-
 plain_aborts : (log : List LogRecord) (set : List TxId) → Plainly log (aborts_of log set)
-plain_aborts log set = record { prepares = no_prepare_aborts (filter (wrote_in log) set); updates = no_write_aborts (filter (wrote_in log) set); ahead = aborts_ahead log (filter (wrote_in log) set) }
+plain_aborts log set = record { prepares = no_prepare_aborts (filter (wrote_in log) set); updates = λ t. no_write_aborts t (filter (wrote_in log) set); ahead = aborts_ahead log (filter (wrote_in log) set) }
 
 plain_clrs : (log front : List LogRecord) (set : List TxId) → Plainly front (clrs_of set (standing log))
-plain_clrs log front set = record { prepares = no_prepare_clrs set (standing log); updates = no_write_clrs set (standing log); ahead = clrs_ahead front set (standing log) }
+plain_clrs log front set = record { prepares = no_prepare_clrs set (standing log); updates = λ t. no_write_clrs set t (standing log); ahead = clrs_ahead front set (standing log) }
 
 pub lined_rolled : (u : TxId) (l : Local) → Lined l → Lined (roll_back u l)
 lined_rolled u l p =
@@ -144,13 +113,13 @@ due_change K V O Q s x d b li rw rd nc go =
       lined = li;
       down = down_due s x d b.down;
       found = λ t p h. inl (due_prepares s x d t p h);
-      sought = λ t p h. let g = due_prepares s x d t p h in (b.sought t (prepare_there s.local.log t p g), (λ q. b.homes t p q g));
+      sought = λ t p h. let g = due_prepares s x d t p h in (b.sought t (prepared_there s.local.log t p g), (λ q. b.homes t p q g));
       rows = rw;
       readers = λ t v g r.
           let k = rd t v g r in
-          (false_from_ne_true _ (λ h. let z = there_prepare x.local.log t h in both_ways _ k.0 (prepare_there s.local.log t z.0 (due_prepares s x d t z.0 z.1))), (λ a. k.1 ((calm_one s x t d).active a)));
+          (false_from_ne_true _ (λ h. let z = prepare_some x.local.log t h in both_ways _ k.0 (prepared_there s.local.log t z.0 (due_prepares s x d t z.0 z.1))), (λ a. k.1 ((calm_one s x t d).active a)));
       stay = λ t w. false_from_ne_true _ (λ c. both_ways _ (out_open K V O Q s t b w) (nc t w c));
-      away = λ t w h. came s x t (calm_one s x t d) (stage_of x.local t) refl h;
+      away = λ t w h. was_there s x t (calm_one s x t d) (stage_of x.local t) refl h;
       goes = go;
     }
 

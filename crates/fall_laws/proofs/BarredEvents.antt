@@ -23,9 +23,8 @@ use Rattle.law_base.proofs.Commits.{committed_keeps}
 use Rattle.law_base.proofs.Tables.{stage_in, is_pair}
 use Rattle.history_laws.proofs.Uncommitting.{rolled as rolled_commits}
 use Rattle.shard_laws.proofs.Leaving.{absent_go}
-use Rattle.fate_laws.proofs.Homes.{still_not}
-use Rattle.fate_laws.proofs.Prepares.{there_prepare, prepare_from, prepare_there}
-use Rattle.fate_laws.proofs.Closings.{new_commit}
+use Rattle.fate_laws.proofs.Homes.{still_not, new_commit}
+use Rattle.fate_laws.proofs.Prepares.{prepare_from}
 use Rattle.clv_base.specs.declared.names.Birth.{Birth}
 use Rattle.clv_base.specs.declared.ops.Op.{Op}
 use Rattle.clv_base.specs.declared.ops.Answer.{Answer}
@@ -43,18 +42,21 @@ use Rattle.law_base.proofs.Tables.{get_put}
 use Rattle.history_laws.proofs.Stepping.{Step, op_dies, op_answers, request_refused, request_doomed, request_again, request_new, request_closes, looks_well, looks_ill, drops, sends, prepare_closes, prepare_again, vote_counts, decision_comes, decision_again, done_counts, asked, reminds, flushes}
 use Rattle.shard_laws.proofs.LockRows.{Rows}
 use Rattle.shard_laws.proofs.Closing.{stage_closed, stage_other as closed_other}
+use Rattle.shard_laws.proofs.Ordered.{prepare_some}
 use Rattle.session_laws.proofs.Replying.{OpIs, dies, rolls, reply_is}
 use Rattle.fate_laws.proofs.Inside.{inside_step}
-use Rattle.fate_laws.proofs.Calm.{calm_step}
+use Rattle.fate_laws.proofs.Calm.{calm_step, was_there}
 use Rattle.fate_laws.proofs.Closings.{Commits, alone, decided, step_prepares, step_commits}
 use Rattle.fate_laws.proofs.Downwards.{down_step, Owes as OwesDown}
 use Rattle.fate_laws.proofs.HomesEvents.{put_get, awaits}
 use Rattle.fate_laws.proofs.Arriving.{taken_closed}
+use Rattle.fate_laws.proofs.DoomingEvents.{whose_request}
 use Rattle.clv_base.specs.Events.{with_votes, with_done}
 use Rattle.fall_laws.proofs.Lined.{Lined, lined_more, lined_closed}
 use Rattle.fall_laws.proofs.Barred.{Absent, Out, Lost, Barred, lost_inactive, barred_next}
-use Rattle.fall_laws.proofs.BarredDue.{came, plain_commit, out_open}
+use Rattle.fall_laws.proofs.BarredDue.{plain_commit, out_open}
 use Rattle.fall_laws.proofs.BarredStep.{barred_same, barred_rolled, barred_marked, barred_performed}
+use Rattle.order_laws.proofs.Records.{prepared_there}
 
 abbrev pub Owes : (TxId → Type 0) → (TxId → Type 0) → (TxId → Type 0) → (TxId → Type 0) → Shard → Event → Outcome → Type 0
 Owes K V O Q s (OpEvent tx birth nth seen op) o =
@@ -108,11 +110,11 @@ barred_closes K V O Q s x u home one h no_op e wd a sx rw rd mine b =
       rows = rw;
       readers = λ t v g r.
           let k = rd t v g r in (
-            false_from_ne_true _ (λ z. let y = there_prepare x.local.log t z in ⊎_elim (λ f. both_ways _ k.0 (prepare_there s.local.log t y.0 f)) (λ f. k.1 f.was) (step_prepares s x t y.0 h y.1)),
+            false_from_ne_true _ (λ z. let y = prepare_some x.local.log t z in ⊎_elim (λ f. both_ways _ k.0 (prepared_there s.local.log t y.0 f)) (λ f. k.1 f.was) (step_prepares s x t y.0 h y.1)),
             (λ z. k.1 ((calm_step s x t h (no_op t)).active z)),
           );
       stay = λ t w. false_from_ne_true _ (λ c. ⊎_elim (λ z. both_ways _ (out_open K V O Q s t b w) z) (λ z. was_active t w (mine t z)) (step_commits s x t h c));
-      away = λ t w k. came s x t (calm_step s x t h (no_op t)) (stage_of x.local t) refl k;
+      away = λ t w k. was_there s x t (calm_step s x t h (no_op t)) (stage_of x.local t) refl k;
       goes = λ t p k o f. absurd (by_name t (tx_same u t) refl k (subst (λ (l : Local). is_present (stage_of l t) ≡ false) e o.0));
     })
   where
@@ -123,10 +125,6 @@ barred_closes K V O Q s x u home one h no_op e wd a sx rw rd mine b =
     by_name : (t : TxId) (d : Bool) → tx_same u t ≡ d → is_present (stage_of s.local t) ≡ true → is_present (stage_in (closed_in u s.local.parts) t) ≡ false → ⊥
     by_name t true f k n = both_ways _ (subst (λ z. is_present (stage_in (closed_in u s.local.parts) z) ≡ false) (sym (tx_true u t f)) n) (subst (λ z. is_present z ≡ true) (sym (stage_closed s.local.parts u a)) refl)
     by_name t false f k n = both_ways _ n (ap is_present (closed_other s.local.parts u t f) ∙ k)
-
-asks_own : (s : Shard) {e : Event} {o : Outcome} (v u : TxId) (ts : List (ℕ × ℕ)) → Commits s v e o → e ≡ RequestEvent u ts → v ≡ u
-asks_own s v u ts (alone xs k n) z = cc
-asks_own s v u ts (decided home stamp) z = absurd cc
 
 prepares_none : (s : Shard) {e : Event} {o : Outcome} (v u : TxId) (to home seen stamp : ℕ) → Commits s v e o → e ≡ Deliver (PrepareMessage to u home seen) stamp → v ≡ u
 prepares_none s v u to home seen stamp (alone xs k n) z = absurd cc
@@ -145,11 +143,11 @@ barred_committed K V O Q s u before out b =
       lined = lined_more s.local more (plain_commit s.local.log u []) b.lined;
       down = λ a c k i. committed_keeps s.local.log more c (⊎_elim (λ z. b.down a c z i) (λ z. before c (subst (λ y. is_pair s.local.pairs y c ≡ true) z i)) (new_commit s.local.log u [] a k));
       found = λ t p h. inl (prepare_from s.local.log more t p refl h);
-      sought = λ t p h. let g = prepare_from s.local.log more t p refl h in (b.sought t (prepare_there s.local.log t p g), (λ q. b.homes t p q g));
+      sought = λ t p h. let g = prepare_from s.local.log more t p refl h in (b.sought t (prepared_there s.local.log t p g), (λ q. b.homes t p q g));
       rows = b.rows;
       readers = λ t v g r.
           let k = b.readers t v g r in
-          (false_from_ne_true _ (λ h. let z = there_prepare x.local.log t h in both_ways _ k.0 (prepare_there s.local.log t z.0 (prepare_from s.local.log more t z.0 refl z.1))), k.1);
+          (false_from_ne_true _ (λ h. let z = prepare_some x.local.log t h in both_ways _ k.0 (prepared_there s.local.log t z.0 (prepare_from s.local.log more t z.0 refl z.1))), k.1);
       stay = λ t w. false_from_ne_true _ (λ c. ⊎_elim (λ z. both_ways _ (out_open K V O Q s t b w) z) (λ z. out (subst (λ y. V y ⊎ Out O s y) z w)) (new_commit s.local.log u [] t c));
       away = λ t w h. h;
       goes = λ t p h o f. absurd (both_ways _ o.0 h);
@@ -159,7 +157,7 @@ barred_committed K V O Q s u before out b =
 
 died : (K V O Q : TxId → Type 0) (s : Shard) (u : TxId) (birth : Birth) (seen : Option ℕ) (op : Op) (c : AbortCause) (l : Local) → OpIs s.local u birth seen op (OpDies c l) → committed_in s.local.log u ≡ false → prepared_in s.local.log u ≡ false → Barred K V O Q s → Barred K V O Q (record s { local = l })
 died K V O Q s u birth seen op c _ dies o n b = barred_same K V O Q s (record s { local = s.local }) refl refl refl b.rows b.readers b
-died K V O Q s u birth seen op c _ rolls o n b = barred_rolled K V O Q s u o (λ p a f. absurd (both_ways _ n (prepare_there s.local.log u p f))) b
+died K V O Q s u birth seen op c _ rolls o n b = barred_rolled K V O Q s u o (λ p a f. absurd (both_ways _ n (prepared_there s.local.log u p f))) b
 
 dropped : (K V O Q : TxId → Type 0) (s : Shard) (u : TxId) (d : Bool) → committed_in s.local.log u ≡ false → ((p : ℕ × List TxId) → prepare_of s.local.log u ≡ Some p → K u) → Barred K V O Q s → Barred K V O Q (with_local (rolled_back_if d u) s)
 dropped K V O Q s u true o k b = barred_rolled K V O Q s u o (λ p a f. inr (inr (inl (k p f)))) b
@@ -190,7 +188,7 @@ barred_step K V O Q s _ (request_doomed u ts doom g) P rows closed wd sx w b = b
 barred_step K V O Q s _ (request_again u ts f0 g) P rows closed wd sx w b = b
 barred_step K V O Q s _ (request_new u ts f0 g) P rows closed wd sx w b = barred_same K V O Q s (coordinate u ts s) refl refl refl (put_rows Q s u ts (w refl) b.rows) b.readers b
 barred_step K V O Q s _ (request_closes u ts f0 g) P rows closed wd sx w b =
-    barred_closes K V O Q s _ u s.shard (is_alone (others s.shard ts)) (request_closes u ts f0 g) (λ t birth nth seen op z. absurd cc) refl tt g sx (put_rows Q s u ts (w refl) b.rows) b.readers (λ t z. asks_own s t u ts z refl) b
+    barred_closes K V O Q s _ u s.shard (is_alone (others s.shard ts)) (request_closes u ts f0 g) (λ t birth nth seen op z. absurd cc) refl tt g sx (put_rows Q s u ts (w refl) b.rows) b.readers (λ t z. whose_request s t u ts z refl) b
 barred_step K V O Q s _ (looks_well u g) P rows closed wd sx w b = b
 barred_step K V O Q s _ (looks_ill u cause d g) P rows closed wd sx w b = b
 barred_step K V O Q s _ (drops u stage g) P rows closed wd sx w b =

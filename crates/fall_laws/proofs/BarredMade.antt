@@ -5,7 +5,7 @@ use Rattle.clv_base.specs.Events.{finish, with_durable}
 use Rattle.clv_base.specs.Events.{put_down}
 use Rattle.clv_base.specs.Journals.{up_to_restart}
 use Rattle.clv_base.specs.Logs.{committed_in, prepared_in, wrote_in, aborted_in, prepare_of}
-use Rattle.clv_base.specs.Logs.{is_abort_of, in_doubt}
+use Rattle.clv_base.specs.Logs.{in_doubt}
 use Rattle.clv_base.specs.Orders.{tx_in}
 use Rattle.clv_base.specs.Participant.{restored_voter, restored_voters}
 use Rattle.clv_base.specs.Restarts.{log_left}
@@ -33,8 +33,7 @@ use Rattle.fate_laws.proofs.Downwards.{down_state}
 use Rattle.fate_laws.proofs.Downwards.{Owes as OwesDown}
 use Rattle.fate_laws.proofs.Inside.{Inside, inside_self, inside_due}
 use Rattle.fate_laws.proofs.Prepares.{front_prepare, restarts_add as restarts_prepare}
-use Rattle.fate_laws.proofs.Prepares.{there_prepare, prepare_more}
-use Rattle.fate_laws.proofs.Restored.{doubt_prepared, doubt_undecided}
+use Rattle.fate_laws.proofs.Prepares.{prepare_more}
 use Rattle.fate_laws.proofs.Returning.{pair_from}
 use Rattle.history_laws.proofs.Durability.{Counted, left_front, restarts_front}
 use Rattle.history_laws.proofs.Entering.{Makes, by_event, by_flush, by_failure, by_restart}
@@ -51,16 +50,15 @@ use Rattle.protocol_laws.specs.Growth.{IsPrefixOf}
 use Rattle.shard_laws.proofs.LockRows.{Rows}
 use Rattle.shard_laws.proofs.Restoring.{restored_closed, restored_stage, restored_none}
 use Rattle.shard_laws.proofs.Writers.{writers_restored}
+use Rattle.shard_laws.proofs.Ordered.{prepare_some}
 use Rattle.std.proofs.Common.{◌≡◌, ◌⊎◌, inl, inr, ⊎_elim, refl, sym, ap, subst, ◌∙◌, ℕ, ◌≤◌, true, false, Bool, List, [], ◌++◌, take, length, Some, arith}
-use Rattle.std.proofs.lemmas.Bool.{both_ways, or_left, false_from_ne_true}
-use Rattle.std.proofs.lemmas.List.Folds.{list_any-append}
+use Rattle.std.proofs.lemmas.Bool.{both_ways, false_from_ne_true}
 use Rattle.std.proofs.lemmas.List.{take-take, take_all, take-append-drop}
 use Rattle.std.specs.Prelude.{drop}
+use Rattle.file_laws.proofs.Doubts.{doubt_prepared, doubt_undecided}
+use Rattle.wait_laws.proofs.Doubted.{aborted_front}
 
 -- ---- more of the log is durable
-
-aborted_front : (xs ys : List LogRecord) (t : TxId) → IsPrefixOf xs ys → aborted_in xs t ≡ true → aborted_in ys t ≡ true
-aborted_front xs ys t (more, e) h = subst (λ l. aborted_in l t ≡ true) e (list_any-append (is_abort_of t) xs more ∙ or_left _ _ h)
 
 longer_front : (d n : ℕ) (log : List LogRecord) → d ≤ n → IsPrefixOf (take d log) (take n log)
 longer_front d n log l = (drop d (take n log), ap (λ z. z ++ drop d (take n log)) (sym (take-take d n log l)) ∙ take-append-drop d (take n log))
@@ -105,7 +103,7 @@ barred_state K V O Q shard own epoch log last journal ahead wr sx vo vd =
       };
       down = down_state shard own epoch log last journal;
       counted = omega arith;
-      sought = λ t h. let z = there_prepare log t h in (sx t z.0 z.1).0;
+      sought = λ t h. let z = prepare_some log t h in (sx t z.0 z.1).0;
       homes = λ t p q h. (sx t p h).1 q;
       rows = λ t q g e. rows_get (λ r. (r.1).state ≡ Undecided → Q r.0) t q (restored_requests (unended_in log log)) (all_map (λ (r : TxId × Request). (r.1).state ≡ Undecided → Q r.0) (λ n. (n.0, restored_request n.1)) (unended_in log log) (λ n. absurd_undecided n.0 n.1)) g e;
       readers = λ t v g e. rows_get (λ r. (r.1).vote ≡ Some Read → (prepared_in log r.0 ≡ false) × (stage_in (restored_parts ds) r.0 ≡ Some Active → ⊥)) t v (restored_voters (homes_of log ds))
@@ -126,7 +124,7 @@ barred_state K V O Q shard own epoch log last journal ahead wr sx vo vd =
 
     there : (t : TxId) (d : Bool) → tx_in t (in_doubt shard log) ≡ d → is_present (stage_in (restored_parts (in_doubt shard log)) t) ≡ true → (p : ℕ × List TxId) × (prepare_of log t ≡ Some p) × (p.0 ≡ shard → ⊥)
     there t false i h = absurd (both_ways _ (gone t i) h)
-    there t true i h = let p = there_prepare log t (doubt_prepared shard log t i) in (p.0, p.1, home_elsewhere shard log t p.0 ahead p.1 i)
+    there t true i h = let p = prepare_some log t (doubt_prepared shard log t i) in (p.0, p.1, home_elsewhere shard log t p.0 ahead p.1 i)
 
     uncommitted : (t : TxId) → V t ⊎ Out O (state_after shard own epoch log last journal) t → committed_in log t ≡ false
     uncommitted t (inl v) = vo t v
@@ -136,7 +134,7 @@ barred_state K V O Q shard own epoch log last journal ahead wr sx vo vd =
     lost t p e i (inl a) = inl (subst (λ l. aborted_in l t ≡ true) (sym (take_all (length log) log (omega arith))) a, gone t i)
     lost t p e i (inr (inl z)) = inr (inl (z, gone t i))
     lost t p e i (inr (inr (q, m, c, n))) =
-        inr (inr (inr (q, m, inr (gone q n, c, ⊎_elim (λ h. let z = there_prepare log q h in (sx q z.0 z.1).0) (λ h. absurd (both_ways _ c h)) (listed_front log [] log t q p refl ahead e m)))))
+        inr (inr (inr (q, m, inr (gone q n, c, ⊎_elim (λ h. let z = prepare_some log q h in (sx q z.0 z.1).0) (λ h. absurd (both_ways _ c h)) (listed_front log [] log t q p refl ahead e m)))))
 
     in_doubt_now : (t : TxId) (p : ℕ × List TxId) → V t ⊎ Out O (state_after shard own epoch log last journal) t → tx_in t (in_doubt shard log) ≡ true → prepare_of log t ≡ Some p → Lost K V O (state_after shard own epoch log last journal) t p
     in_doubt_now t p (inl v) i e = vd t p v i e
@@ -155,7 +153,7 @@ barred_revived K V O O' Q s kept epoch log g n now wr sx b =
   where
     moved : (t : TxId) (p : ℕ × List TxId) → tx_in t (in_doubt s.shard log) ≡ true → prepare_of log t ≡ Some p → Lost K V O s t p → Lost K V O' (revived s epoch log) t p
     moved t p i e (inl (a, c)) =
-        absurd (both_ways _ (doubt_undecided s.shard log t i).1
+        absurd (both_ways _ (doubt_undecided s.shard log t i).2
         (aborted_front (log_left s false) log t (chain (log_left s false) (log_left s kept) log (left_front s kept n) (restarts_front s (log_left s kept) epoch log g)) a))
     moved t p i e (inr (inl (z, c))) = absurd (home_elsewhere s.shard log t p (restarts_ahead s (log_left s kept) epoch log g (ahead_take _ s.local.log (b.lined).ahead)) e i z)
     moved t p i e (inr (inr (inl k))) = inr (inr (inl k))

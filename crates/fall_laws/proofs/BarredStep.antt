@@ -20,7 +20,7 @@ use Rattle.history_laws.proofs.Serials.{committed_front}
 use Rattle.history_laws.proofs.Uncommitting.{rolled as rolled_commits}
 use Rattle.shard_laws.proofs.Leaving.{absent_go}
 use Rattle.fate_laws.proofs.Homes.{still_not}
-use Rattle.fate_laws.proofs.Prepares.{there_prepare, prepare_there, rolled}
+use Rattle.fate_laws.proofs.Prepares.{rolled}
 use Rattle.fate_laws.proofs.Downwards.{Down}
 use Rattle.clv_base.specs.declared.names.Birth.{Birth}
 use Rattle.clv_base.specs.declared.ops.Op.{Op}
@@ -29,7 +29,7 @@ use Rattle.clv_base.specs.declared.events.Event.{Event}
 use Rattle.clv_base.specs.declared.events.Event.TheVariants.{Op as OpEvent}
 use Rattle.clv_base.specs.declared.events.Outcome.{Outcome}
 use Rattle.clv_base.specs.Needs.{writes_of, value_at, key_of}
-use Rattle.clv_base.specs.OneShard.{op_reply, OpAnswers, active_part, new_part, written, locked, performed, marked_in, mark_dropped}
+use Rattle.clv_base.specs.OneShard.{op_reply, OpAnswers, active_part, new_part, locked, performed, marked_in, mark_dropped}
 use Rattle.law_base.proofs.Tables.{stage_by, get_put, without_pairs}
 use Rattle.protocol_laws.proofs.Growing.{same, more_twice}
 use Rattle.history_laws.proofs.Stepping.{Step}
@@ -37,6 +37,7 @@ use Rattle.shard_laws.proofs.LockRows.{Rows}
 use Rattle.shard_laws.proofs.Leaving.{active_back}
 use Rattle.shard_laws.proofs.Marking.{stage_marked}
 use Rattle.shard_laws.proofs.Granting.{other_part}
+use Rattle.shard_laws.proofs.Ordered.{prepare_some}
 use Rattle.session_laws.proofs.Replying.{OpIs, performs}
 use Rattle.fate_laws.proofs.Inside.{inside_step}
 use Rattle.fate_laws.proofs.Prepares.{op_answering}
@@ -45,6 +46,8 @@ use Rattle.fate_laws.proofs.Downwards.{down_step}
 use Rattle.fall_laws.proofs.Lined.{Lined, lined_performed}
 use Rattle.fall_laws.proofs.Barred.{Out, Lost, Barred, barred_next, rolled_goes}
 use Rattle.fall_laws.proofs.BarredDue.{lined_rolled, out_open}
+use Rattle.order_laws.proofs.Records.{prepared_there}
+use Rattle.origin_laws.proofs.Events.{written_parts}
 
 -- ---- only requests, voters, messages and the like change
 
@@ -57,7 +60,7 @@ barred_same K V O Q s x e f d rw rd b =
       lined = subst Lined (sym e) b.lined;
       down = subst (λ (l : Local). (a c : TxId) → committed_in l.log a ≡ true → is_pair l.pairs a c ≡ true → committed_in l.log c ≡ true) (sym e) b.down;
       found = λ t p h. inl (subst (λ (l : Local). prepare_of l.log t ≡ Some p) e h);
-      sought = λ t p h. let g = subst (λ (l : Local). prepare_of l.log t ≡ Some p) e h in (b.sought t (prepare_there s.local.log t p g), (λ q. b.homes t p q g));
+      sought = λ t p h. let g = subst (λ (l : Local). prepare_of l.log t ≡ Some p) e h in (b.sought t (prepared_there s.local.log t p g), (λ q. b.homes t p q g));
       rows = rw;
       readers = λ t v g r. subst (λ (l : Local). (prepared_in l.log t ≡ false) × (stage_of l t ≡ Some Active → ⊥)) (sym e) (rd t v g r);
       stay = λ t w. subst (λ (l : Local). committed_in l.log t ≡ false) (sym e) (out_open K V O Q s t b w);
@@ -88,11 +91,11 @@ barred_rolled K V O Q s u c root b =
       lined = lined_rolled u s.local b.lined;
       down = rolled_down s u b.down;
       found = λ t p h. inl (rolled u s.local t p h);
-      sought = λ t p h. let g = rolled u s.local t p h in (b.sought t (prepare_there s.local.log t p g), (λ q. b.homes t p q g));
+      sought = λ t p h. let g = rolled u s.local t p h in (b.sought t (prepared_there s.local.log t p g), (λ q. b.homes t p q g));
       rows = b.rows;
       readers = λ t v g r.
           let k = b.readers t v g r in (
-            false_from_ne_true _ (λ h. let z = there_prepare x.local.log t h in both_ways _ k.0 (prepare_there s.local.log t z.0 (rolled u s.local t z.0 z.1))),
+            false_from_ne_true _ (λ h. let z = prepare_some x.local.log t h in both_ways _ k.0 (prepared_there s.local.log t z.0 (rolled u s.local t z.0 z.1))),
             (λ a. k.1 (active_back (doomed_here s.local u) (Some u) t s.local.parts a).1),
           );
       stay = λ t w. still_not (committed_in s.local.log t) (committed_in (roll_back u s.local).log t) (rolled_commits u s.local t) (out_open K V O Q s t b w);
@@ -123,7 +126,7 @@ barred_marked K V O Q s u b =
       lined = lined_marked s.local u b.lined;
       down = b.down;
       found = λ t p h. inl h;
-      sought = λ t p h. (b.sought t (prepare_there s.local.log t p h), (λ q. b.homes t p q h));
+      sought = λ t p h. (b.sought t (prepared_there s.local.log t p h), (λ q. b.homes t p q h));
       rows = b.rows;
       readers = λ t v g r. let k = b.readers t v g r in (k.0, (λ a. k.1 (sym (st t) ∙ a)));
       stay = λ t w. out_open K V O Q s t b w;
@@ -132,10 +135,6 @@ barred_marked K V O Q s u b =
     })
 
 -- ---- an operation
-
-written_parts : (tx : TxId) (w : Option (ℕ × Option ℕ × Option ℕ)) (l : Local) → (written tx w l).parts ≡ l.parts
-written_parts tx None l = refl
-written_parts tx (Some w) l = refl
 
 performed_own : (l : Local) (u : TxId) (birth : Birth) (op : Op) → (stage_of l u ≡ None) ⊎ (stage_of l u ≡ Some Active) → stage_of (performed u birth op l) u ≡ Some Active
 performed_own l u birth op k = ap (λ z. stage_in z u) (written_parts u (writes_of op (value_at (key_of op) l.records)) (locked u birth op l)) ∙ own (tx_get u l.parts) refl k
@@ -168,10 +167,10 @@ barred_performed K V O Q s u birth nth seen op _ _ h g (performs fits st) P rows
       lined = lined_performed s.local u birth op P rows closed st n b.lined;
       down = down_step s x h c b.down;
       found = λ t p k. inl (back t p k);
-      sought = λ t p k. let f = back t p k in (b.sought t (prepare_there s.local.log t p f), (λ q. b.homes t p q f));
+      sought = λ t p k. let f = back t p k in (b.sought t (prepared_there s.local.log t p f), (λ q. b.homes t p q f));
       rows = b.rows;
       readers = λ t v k r. (
-        false_from_ne_true _ (λ z. let y = there_prepare x.local.log t z in both_ways _ (b.readers t v k r).0 (prepare_there s.local.log t y.0 (back t y.0 y.1))),
+        false_from_ne_true _ (λ z. let y = prepare_some x.local.log t z in both_ways _ (b.readers t v k r).0 (prepared_there s.local.log t y.0 (back t y.0 y.1))),
         (λ a. (b.readers t v k r).1 (sym (other t (λ e. nv v (subst (λ z. tx_get z s.voters ≡ Some v) e k) r)) ∙ a)),
       );
       stay = λ t w. false_from_ne_true _ (λ k. ⊎_elim (λ z. both_ways _ (out_open K V O Q s t b w) z) (λ z. no_commits s t u birth nth seen op refl z) (step_commits s x t h k));

@@ -1,15 +1,16 @@
 -- Who goes with an abort: its transaction, or one that has a predecessor among them.
-use Rattle.std.proofs.Common.{◌≡◌, ◌⊎◌, inl, inr, ⊎_elim, refl, sym, subst, ℕ, zero, suc, true, false, cond, Bool, ◌&&◌, List, [], ◌∷◌, length}
-use Rattle.std.proofs.lemmas.Bool.{both_ways, or_cases, or_left, or_right, false_from_ne_true}
+use Rattle.std.proofs.Common.{◌≡◌, ◌⊎◌, inl, inr, ⊎_elim, refl, sym, subst, ℕ, zero, suc, true, false, cond, Bool, List, [], ◌∷◌, length}
+use Rattle.std.proofs.lemmas.Bool.{both_ways, or_cases, false_from_ne_true}
 use Rattle.clv_base.specs.declared.names.TxId.{TxId}
 use Rattle.clv_base.specs.Orders.{tx_same, tx_in, tx_insert}
 use Rattle.clv_base.specs.Logs.{committed_in}
 use Rattle.clv_base.specs.State.{Shard, is_present}
 use Rattle.clv_base.specs.Undo.{stage_of, with_successors, successors_through, doomed_by, doomed_here}
-use Rattle.clv_base.proofs.SameNames.{tx_true, tx_self, in_insert, insert_keeps}
-use Rattle.law_base.proofs.Tables.{row_pairs, is_pair}
+use Rattle.clv_base.proofs.SameNames.{tx_true, insert_keeps}
+use Rattle.law_base.proofs.Tables.{is_pair}
 use Rattle.protocol_laws.proofs.Sets.{in_filter}
 use Rattle.fate_laws.proofs.Downwards.{Down}
+use Rattle.fate_laws.proofs.Dooming.{with_from}
 
 with_keeps : (pairs : List (TxId × TxId)) (set so_far : List TxId) (t : TxId) → tx_in t so_far ≡ true → tx_in t (with_successors pairs set so_far) ≡ true
 with_keeps [] set so_far t i = i
@@ -22,19 +23,6 @@ with_keeps (p ∷ ps) set so_far t i = with_keeps ps set (cond (tx_in p.1 set) (
 through_keeps : (n : ℕ) (pairs : List (TxId × TxId)) (set : List TxId) (t : TxId) → tx_in t set ≡ true → tx_in t (successors_through n pairs set) ≡ true
 through_keeps zero pairs set t i = i
 through_keeps (suc n) pairs set t i = through_keeps n pairs (with_successors pairs set set) t (with_keeps pairs set set t i)
-
-with_from : (P : TxId → Type 0) (pairs : List (TxId × TxId)) (set so_far : List TxId) → ((a b : TxId) → is_pair pairs a b ≡ true → tx_in b set ≡ true → P a) → ((t : TxId) → tx_in t so_far ≡ true → P t) → (t : TxId) → tx_in t (with_successors pairs set so_far) ≡ true → P t
-with_from P [] set so_far d l t i = l t i
-with_from P (p ∷ ps) set so_far d l t i = with_from P ps set (cond (tx_in p.1 set) (tx_insert p.0 so_far) so_far) (λ a b j. d a b (or_right (row_pairs a b p) (is_pair ps a b) j)) (λ u j. at (tx_in p.1 set) refl u j) t i
-  where
-    both : (a b : Bool) → a ≡ true → b ≡ true → (a && b) ≡ true
-    both true b e f = f
-    both false b e f = e
-
-    at : (b : Bool) → tx_in p.1 set ≡ b → (u : TxId) → tx_in u (cond b (tx_insert p.0 so_far) so_far) ≡ true → P u
-    at true e u j =
-        ⊎_elim (λ q. subst P (sym q) (d p.0 p.1 (or_left (row_pairs p.0 p.1 p) (is_pair ps p.0 p.1) (both (tx_same p.0 p.0) (tx_same p.1 p.1) (tx_self p.0) (tx_self p.1))) e)) (λ q. l u q) (in_insert p.0 u so_far j)
-    at false e u j = l u j
 
 through_from : (P D : TxId → Type 0) (n : ℕ) (pairs : List (TxId × TxId)) (set : List TxId) → ((t : TxId) → tx_in t (successors_through n pairs set) ≡ true → D t) → ((a b : TxId) → is_pair pairs a b ≡ true → D b → P b → P a)
     → ((t : TxId) → tx_in t set ≡ true → P t) → (t : TxId) → tx_in t (successors_through n pairs set) ≡ true → P t

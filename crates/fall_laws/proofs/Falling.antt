@@ -1,8 +1,8 @@
 -- Along a history: who was out on a shard is never committed there.
-use Rattle.std.proofs.Common.{◌≡◌, ◌⊎◌, inl, inr, ⊎_elim, refl, sym, ap, subst, ◌∙◌, ℕ, ◌<◌, true, false, Bool, ◌==◌, List, [], ◌∷◌, ◌++◌, ◌+◌, length, Option, Some, None, append-nil, append_assoc, eqb-true, arith}
-use Rattle.std.specs.Prelude.{⊤, is_none}
-use Rattle.std.specs.List.{AllByRecursion, list_all}
-use Rattle.std.proofs.lemmas.Bool.{both_ways, false_from_ne_true, eq-eqb, and_parts}
+use Rattle.std.proofs.Common.{◌≡◌, ◌⊎◌, inl, inr, ⊎_elim, refl, sym, ap, subst, ◌∙◌, ℕ, ◌<◌, true, false, Bool, ◌==◌, List, [], ◌∷◌, ◌++◌, length, Option, Some, None, append-nil, append_assoc, eqb-true, arith}
+use Rattle.std.specs.Prelude.{⊤}
+use Rattle.std.specs.List.{AllByRecursion}
+use Rattle.std.proofs.lemmas.Bool.{both_ways, false_from_ne_true, eq-eqb}
 use Rattle.clv_base.specs.declared.names.TxId.{TxId}
 use Rattle.clv_base.specs.declared.names.Birth.{Birth}
 use Rattle.clv_base.specs.declared.ops.Op.{Op}
@@ -18,17 +18,16 @@ use Rattle.clv_base.specs.declared.events.Event.TheVariants.{Op as OpEvent, Requ
 use Rattle.clv_base.specs.declared.events.Outcome.{Outcome}
 use Rattle.clv_base.specs.declared.events.Outcome.TheVariants.{Answered, Down}
 use Rattle.clv_base.specs.Shards.{shard_count}
-use Rattle.clv_base.specs.FileRules.{may_open, log_passes, passes_file_rules}
+use Rattle.clv_base.specs.FileRules.{may_open}
 use Rattle.clv_base.specs.Orders.{tx_in, tx_get}
 use Rattle.clv_base.specs.Logs.{committed_in, prepared_in, wrote_in, prepare_of, in_doubt}
-use Rattle.clv_base.specs.LogRules.{log_of, disorder, apart, all_logs_from}
+use Rattle.clv_base.specs.LogRules.{log_of}
 use Rattle.clv_base.specs.State.{Shard, is_present}
 use Rattle.clv_base.specs.Undo.{stage_of}
 use Rattle.clv_base.specs.OneShard.{OpReply, seen_fits, op_reply}
 use Rattle.clv_base.specs.Events.{Reply, QuietBeforeWorn, Does, op_event}
 use Rattle.clv_base.specs.Restarts.{run_after, log_after_restart}
-use Rattle.clv_base.specs.Sessions.{no_session}
-use Rattle.clv_base.specs.Journals.{History, own, event_state, after_entry, up_to_restart, EventMay}
+use Rattle.clv_base.specs.Journals.{History, event_state, after_entry, up_to_restart, EventMay}
 use Rattle.clv_base.specs.History.{Legal, WasSent}
 use Rattle.law_base.proofs.Changed.{none_some}
 use Rattle.law_base.proofs.Commits.{durable_committed}
@@ -37,32 +36,31 @@ use Rattle.law_base.proofs.Tables.{stage_by, pair_in}
 use Rattle.clv_base.specs.Facts.{predecessors_of}
 use Rattle.protocol_laws.specs.SessionLaws.{tx_of}
 use Rattle.history_laws.proofs.Entering.{Makes, by_event, by_flush, by_failure, by_restart, makes}
-use Rattle.history_laws.proofs.Merging.{Placed, in_order, not_before_itself, before_then, Among, among_append, among_left, in_turn, precedes_before, own_in_order}
-use Rattle.history_laws.proofs.OldRuns.{each_passes}
+use Rattle.history_laws.proofs.Merging.{Placed, Among, among_append, among_left}
 use Rattle.history_laws.proofs.Worlds.{state_at}
-use Rattle.history_laws.proofs.Staying.{walker_of, together}
+use Rattle.history_laws.proofs.Staying.{walker_of}
 use Rattle.history_laws.proofs.TellingEvents.{front_committed}
 use Rattle.shard_laws.proofs.Dooming.{list_all_at}
 use Rattle.shard_laws.proofs.Following.{Follows, from_disorder}
 use Rattle.shard_laws.proofs.Restoring.{restored_closed}
+use Rattle.shard_laws.proofs.Ordered.{prepare_some}
 use Rattle.session_laws.proofs.Replying.{OpIs, waits, no_room, dies, rolls, performs, reply_is}
-use Rattle.session_laws.proofs.Dropping.{drop_after_request}
 use Rattle.file_laws.proofs.Walking.{Behind, next_entry}
-use Rattle.origin_laws.proofs.Sessions.{Requested, same_epoch, turn_of, from_own, first_among}
+use Rattle.file_laws.proofs.Found.{found_in_order}
+use Rattle.origin_laws.proofs.Sessions.{Requested, same_epoch, turn_of}
 use Rattle.origin_laws.proofs.Origins.{stage_row, PartFrom, StageFrom, SomeRequest}
 use Rattle.origin_laws.proofs.Events.{active_done}
 use Rattle.origin_laws.proofs.Entries.{Did, DidNow, DidAny, IsOld, Traced, traced_front}
 use Rattle.wait_laws.proofs.Tied.{Tied, LockOf, ListsAre, OpOwes, MayStand, tied_as, tied_happens, tied_flushed, tied_down, tied_revived, tied_opened}
-use Rattle.fate_laws.proofs.Prepares.{prepare_there, there_prepare}
 use Rattle.fate_laws.proofs.Prefixes.{Next, next_at, stays_as_it_was, AskedIn, asked_later, one_home, DurableIn}
-use Rattle.fate_laws.proofs.Fates.{Fated, DeadIn, delivered, dead_later}
+use Rattle.fate_laws.proofs.Fates.{Fated, DeadIn, delivered, dead_later, committed_asked}
 use Rattle.fate_laws.proofs.Parts.{VoterIs}
 use Rattle.fate_laws.proofs.Binding.{Ordered, ordered_wrote}
 use Rattle.fate_laws.proofs.Bindings.{Bindings, WasTaken, Sought, bindings_front, asked_not_own}
 use Rattle.fate_laws.proofs.Arriving.{due_at}
 use Rattle.fate_laws.proofs.Downwards.{owed as owed_down}
 use Rattle.fate_laws.proofs.Dooming.{Kept}
-use Rattle.fate_laws.proofs.Sparing.{Spared, spared_front}
+use Rattle.fate_laws.proofs.Sparing.{Spared, spared_front, same_home, dropped_dead}
 use Rattle.earlier_laws.specs.Earlier.{IsEarlier, WasCommitted}
 use Rattle.earlier_laws.proofs.Elders.{Elders, elders_front, delivered as elders_tell}
 use Rattle.fall_laws.proofs.BarredStep.{barred_same}
@@ -70,6 +68,7 @@ use Rattle.fall_laws.proofs.Ahead.{Ahead, follows_ahead, whole_ahead}
 use Rattle.fall_laws.proofs.Barred.{Absent, Out, Lost, Barred, lost_inactive}
 use Rattle.fall_laws.proofs.BarredEvents.{Owes}
 use Rattle.fall_laws.proofs.BarredMade.{Frame, barred_state, barred_made}
+use Rattle.order_laws.proofs.Records.{prepared_there}
 
 -- ---- what is told of transactions after a front of the history
 
@@ -119,7 +118,7 @@ barred_more K K' V V' O O' Q s k v w o b =
     }
   where
     out : (t : TxId) (p : ℕ × List TxId) → Out O' s t → prepare_of s.local.log t ≡ Some p → Lost K V O s t p
-    out t p x e = b.why t p (inr (x.0, x.1, b.sought t (prepare_there s.local.log t p e))) e
+    out t p x e = b.why t p (inr (x.0, x.1, b.sought t (prepared_there s.local.log t p e))) e
 
 -- ---- fronts
 
@@ -127,11 +126,23 @@ pub empty_front : (front rest : History) → front ++ rest ≡ [] → front ≡ 
 empty_front [] rest e = refl
 empty_front (x ∷ xs) rest e = absurd cc
 
-same_first : (x y : Placed) (xs ys : History) → x ∷ xs ≡ y ∷ ys → x ≡ y
+pub same_first : (x y : Placed) (xs ys : History) → x ∷ xs ≡ y ∷ ys → x ≡ y
 same_first x y xs ys e = cc
 
-same_rest : (x y : Placed) (xs ys : History) → x ∷ xs ≡ y ∷ ys → xs ≡ ys
+pub same_rest : (x y : Placed) (xs ys : History) → x ∷ xs ≡ y ∷ ys → xs ≡ ys
 same_rest x y xs ys e = cc
+
+none_last : (xs : History) (y : Placed) → xs ++ y ∷ [] ≡ [] → ⊥
+none_last [] y e = absurd cc
+none_last (x ∷ xs) y e = absurd cc
+
+pub same_last : (xs ys : History) (x y : Placed) → xs ++ x ∷ [] ≡ ys ++ y ∷ [] → (xs ≡ ys) × (x ≡ y)
+same_last [] [] x y e = (refl, same_first x y [] [] e)
+same_last [] (w ∷ ws) x y e = absurd (none_last ws y (sym (same_rest x w [] (ws ++ y ∷ []) e)))
+same_last (w ∷ ws) [] x y e = absurd (none_last ws x (same_rest w y (ws ++ x ∷ []) [] e))
+same_last (v ∷ vs) (w ∷ ws) x y e =
+    let k = same_last vs ws x y (same_rest v w (vs ++ x ∷ []) (ws ++ y ∷ []) e) in
+    (ap (λ z. z ∷ vs) (same_first v w (vs ++ x ∷ []) (ws ++ y ∷ []) e) ∙ ap (λ z. w ∷ z) k.0, k.1)
 
 pub last_front : (front rest pre : History) (e : Placed) → front ++ rest ≡ pre ++ e ∷ [] → (front ≡ pre ++ e ∷ []) ⊎ ((r : History) × (front ++ r ≡ pre))
 last_front [] rest pre e q = inr (pre, refl)
@@ -197,7 +208,7 @@ answered_fits splits before after h pre e tx birth nth seen op a ep w q o =
     let m = subst (λ z. EventMay (log_of after e.0) s z (Answered a ep)) q (subst (λ z. EventMay (log_of after e.0) s (e.1).event z) o ((w.split).enters).event) in
     from_up s m.1.0 tx birth seen op a ep s.is_up m.1.1
 
-none_held : (o : Option Held) → stage_by o ≡ None → o ≡ None
+pub none_held : (o : Option Held) → stage_by o ≡ None → o ≡ None
 none_held None e = refl
 none_held (Some x) e = absurd (none_some x.stage (sym e))
 
@@ -258,31 +269,6 @@ no_return splits before after h pre e tx birth nth seen op a ep x q r k w = by_s
 
 -- ---- what the entry owes
 
-same_home : (splits : List ℕ) (before after : List (List LogRecord)) (h pre : History) (e : Placed) (tx : TxId) (m n : ℕ) → Next splits before after h pre e → AskedIn pre tx m → AskedIn pre tx n → m ≡ n
-same_home splits before after h pre e tx m n w a b = one_home splits before after h tx m n a.0 b.0 a.1 b.1 w.legal (w.earlier (m, a.0) a.2).0 a.3 (w.earlier (n, b.0) b.2).0 b.3
-
-committed_asked : (splits : List ℕ) (before after : List (List LogRecord)) (h pre : History) (n : ℕ) (tx : TxId) → n < shard_count splits → Fated splits before after pre → tx.run ≡ run_after before → committed_in (state_at before after n pre).local.log tx ≡ true
-    → (k : ℕ) × AskedIn pre tx k × (committed_in (state_at before after k pre).local.log tx ≡ true)
-committed_asked splits before after h pre n tx i f r c =
-    ⊎_elim (λ a. (n, subst (AskedIn pre tx) ((f.counts).shard n i) a, c)) (λ z. (z.0, z.1, front_committed (state_at before after z.0 pre).durable (state_at before after z.0 pre).local.log tx z.2)) ((f.homed n i).log tx c r)
-
--- a drop of one that asked comes after a look that found it aborted
-dropped_dead : (splits : List ℕ) (before after : List (List LogRecord)) (h pre : History) (e : Placed) (tx : TxId) (n : ℕ) → At splits before after h pre e → (e.1).event ≡ Drop tx → tx.run ≡ run_after before → AskedIn pre tx n → (m : ℕ) × DeadIn before after pre m tx
-dropped_dead splits before after h pre e tx n x q run (r, ts, i, a) =
-    let w = x.next in
-    let j = w.earlier (n, r) i in
-    let p = together splits before after h (n, r) e tx w.legal j.0 w.among (ap tx_of a.0) (ap tx_of q) in
-    let v = own r.walker h in
-    let o = own_in_order r.walker h (in_order h (w.legal).ordered) in
-    ⊎_elim (λ z. absurd (not_before_itself (n, r) e z j.1))
-    (λ z. ⊎_elim
-    (λ b.
-    let y = drop_after_request splits v (no_session (run_after before) r.walker) (n, r) e tx ts p.session b a.0 a.1 q in
-    let front = w.front y.0 (from_own r.walker y.0 h (first_among y.0 e v y.2)) (precedes_before y.0 e v o y.2) in
-    ((y.0).0, (x.was).looks y.0 tx y.1 front y.3 y.4 run))
-    (λ b. absurd (not_before_itself (n, r) (n, r) refl (before_then (n, r) e (n, r) j.1 (precedes_before e (n, r) v o b)))) z)
-    (in_turn (n, r) e v p.first p.second)
-
 dead_open : (before after : List (List LogRecord)) (pre : History) (m : ℕ) (tx : TxId) → DeadIn before after pre m tx → committed_in (state_at before after m pre).local.log tx ≡ false
 dead_open before after pre m tx d = (d.1).0
 
@@ -333,7 +319,7 @@ owes splits before after h pre e (OpEvent tx birth nth seen op) o x q r sent k =
     let bs = ((x.was).lowered).bindings in (
       false_from_ne_true _ (λ c. let a = committed_asked splits before after h pre e.0 tx w.inside bs.fated run c in asked_not_own splits before after h pre e tx birth nth seen op a.0 w q a.1),
       false_from_ne_true _
-          (λ c. let p = there_prepare s.local.log tx c in asked_not_own splits before after h pre e tx birth nth seen op (p.0).0 w q (((bs.fated).homed e.0 w.inside).prepares tx p.0 p.1 run)),
+          (λ c. let p = prepare_some s.local.log tx c in asked_not_own splits before after h pre e tx birth nth seen op (p.0).0 w q (((bs.fated).homed e.0 w.inside).prepares tx p.0 p.1 run)),
       (λ a ep z v. no_return splits before after h pre e tx birth nth seen op a ep x q (r ∙ z) k v),
       (λ v g f.
           let y = rows_get (λ z. VoterIs (Sought before pre) s z.0 z.1) tx v s.voters (bs.parted e.0 w.inside).voters g in
@@ -347,10 +333,10 @@ owes splits before after h pre e (Drop tx) o x q r sent k =
     let bs = ((x.was).lowered).bindings in (
       false_from_ne_true _ (λ c.
           let a = committed_asked splits before after h pre e.0 tx w.inside bs.fated run c in
-          let d = dropped_dead splits before after h pre e tx a.0 x q run a.1 in
+          let d = dropped_dead splits before after h pre e tx a.0 x.next x.was q run a.1 in
           let m = same_home splits before after h pre e tx a.0 d.0 w a.1 (d.1).0 in
           both_ways _ (dead_open before after pre d.0 tx d.1) (subst (λ n. committed_in (state_at before after n pre).local.log tx ≡ true) m a.2)),
-      (λ p f. let d = dropped_dead splits before after h pre e tx p.0 x q run (((bs.fated).homed e.0 w.inside).prepares tx p f run) in inl (run, d.0, d.1)),
+      (λ p f. let d = dropped_dead splits before after h pre e tx p.0 x.next x.was q run (((bs.fated).homed e.0 w.inside).prepares tx p f run) in inl (run, d.0, d.1)),
     )
 owes splits before after h pre e (Deliver (Decide to tx home true) stamp) o x q r sent k = λ n c v. decision_finds splits before after h pre e tx to home stamp (Met before (pre ++ e ∷ []) pre e.0) x.next ((x.was).lowered).bindings x.elders q k n c v
 owes splits before after h pre e (Deliver (Decide to tx home false) stamp) o x q r sent k = λ n. inl (by_run (tx.run == run_after before) refl)
@@ -475,16 +461,8 @@ all_tied (Abort tx ∷ rs) = (tt, all_tied rs)
 all_tied (End tx ∷ rs) = (tt, all_tied rs)
 all_tied (RestartRecord run epoch ∷ rs) = (tt, all_tied rs)
 
-none_of : {X : Type 0} (o : Option X) → is_none o ≡ true → o ≡ None
-none_of None e = refl
-none_of (Some x) e = absurd (both_ways false refl e)
-
 pub log_follows : (splits : List ℕ) (before : List (List LogRecord)) (n : ℕ) → may_open splits before ≡ true → n < length before → Follows n [] (log_of before n)
-log_follows splits before n m l =
-    let p = and_parts (all_logs_from 0 (log_passes splits) before) (is_none (apart before)) m in
-    let q = each_passes (log_passes splits) 0 n before p.0 l in
-    let d = none_of (disorder (0 + n) (log_of before n)) (and_parts (list_all (passes_file_rules splits (0 + n)) (log_of before n)) _ q).1 in
-    subst (λ k. Follows k [] (log_of before n)) (omega arith) (from_disorder (0 + n) 0 [] (log_of before n) d)
+log_follows splits before n m l = from_disorder n 0 [] (log_of before n) (found_in_order splits before n m l)
 
 log_ahead : (splits : List ℕ) (before : List (List LogRecord)) (n : ℕ) → may_open splits before ≡ true → n < length before → Ahead [] (log_of before n)
 log_ahead splits before n m l = follows_ahead n [] (log_of before n) (log_follows splits before n m l)

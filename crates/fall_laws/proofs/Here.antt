@@ -15,7 +15,7 @@ use Rattle.fate_laws.proofs.Deciding.{commits_stand_at_home}
 use Rattle.fate_laws.proofs.Arriving.{commits_have_their_parts}
 use Rattle.fall_laws.specs.Members.{MembersAreHere}
 
-in_others : (m home : ℕ) (xs : List ℕ) → nat_in m xs ≡ true → (m == home) ≡ false → nat_in m (filter (λ p. not (p == home)) xs) ≡ true
+pub in_others : (m home : ℕ) (xs : List ℕ) → nat_in m xs ≡ true → (m == home) ≡ false → nat_in m (filter (λ p. not (p == home)) xs) ≡ true
 in_others m home [] i n = absurd (both_ways false refl i)
 in_others m home (x ∷ xs) i n = at (x == home) refl (or_cases (m == x) (nat_in m xs) i) (λ j. in_others m home xs j n)
   where

@@ -38,14 +38,14 @@ use Rattle.shard_laws.proofs.Closing.{stage_other as closed_other}
 use Rattle.shard_laws.proofs.Leaving.{stage_own, stage_other, gone_by}
 use Rattle.shard_laws.proofs.Marking.{stage_marked}
 use Rattle.shard_laws.proofs.Restoring.{restored_none}
+use Rattle.shard_laws.proofs.Ordered.{prepare_some}
 use Rattle.session_laws.proofs.Replying.{OpIs, dies, rolls, performs, reply_is}
 use Rattle.origin_laws.proofs.Entries.{traced_front}
 use Rattle.fate_laws.proofs.Prefixes.{Next, next_at, stays_as_it_was, asked_later}
-use Rattle.fate_laws.proofs.Prepares.{there_prepare}
-use Rattle.fate_laws.proofs.Restored.{doubt_prepared}
 use Rattle.fate_laws.proofs.Bindings.{bindings_front}
 use Rattle.fall_laws.proofs.BarredStep.{performed_other}
 use Rattle.fall_laws.proofs.Falling.{Met, met_front, prepared_asked, walk_on}
+use Rattle.file_laws.proofs.Doubts.{doubt_prepared}
 
 -- ---- parts that aren't there
 
@@ -153,7 +153,7 @@ met_next splits before after h pre e post o l q k n i t st c = at (e.0 == n) ref
         → stage_of (state_at before after e.0 (pre ++ e ∷ [])).local t ≡ Some st → Met before (pre ++ e ∷ []) (pre ++ e ∷ []) e.0 t
     by_entry (inl z) d = absurd (none_some st (sym z ∙ d))
     by_entry (inr (inl z)) d =
-        let p = there_prepare (state_at before after e.0 (pre ++ e ∷ [])).local.log t z in
+        let p = prepare_some (state_at before after e.0 (pre ++ e ∷ [])).local.log t z in
         inl (prepared_asked splits before after h (pre ++ e ∷ []) e.0 l (λ y j. subst (Among y) later (among_left y (pre ++ e ∷ []) post j)) (bindings_front splits before after h (pre ++ e ∷ []) post o l later).fated w.inside t p.0 p.1).0
     by_entry (inr (inr (birth, nth, seen, op, a, ep, z, y))) d =
         let tr = (traced_front splits before after h (pre ++ e ∷ []) post o l later).states e.0 w.inside in
@@ -181,7 +181,7 @@ met_start splits before after h o l n i t st c = at (tx_in t (in_doubt n (log_af
     at : (b : Bool) → tx_in t (in_doubt n (log_after_restart n (log_of before n) (run_after before) 0)) ≡ b → Met before [] [] n t
     at false j = absurd (none_some st (sym (restored_none (in_doubt n (log_after_restart n (log_of before n) (run_after before) 0)) t j) ∙ c))
     at true j =
-        let p = there_prepare (log_after_restart n (log_of before n) (run_after before) 0) t (doubt_prepared n (log_after_restart n (log_of before n) (run_after before) 0) t j) in
+        let p = prepare_some (log_after_restart n (log_of before n) (run_after before) 0) t (doubt_prepared n (log_after_restart n (log_of before n) (run_after before) 0) t j) in
         inl (prepared_asked splits before after h [] n l (λ y k. elim k [ ]) (bindings_front splits before after h [] h o l refl).fated i t p.0 p.1).0
 
 pub parts_met : (splits : List ℕ) (before after : List (List LogRecord)) (h pre post : History) → may_open splits before ≡ true → Legal splits before h after → pre ++ post ≡ h → (n : ℕ) → n < shard_count splits → (t : TxId) (st : Stage) → stage_of (state_at before after n pre).local t ≡ Some st

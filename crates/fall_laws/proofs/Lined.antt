@@ -1,5 +1,5 @@
 -- What a shard's PREPAREs list: predecessors that were prepared or committed before; and each pair of a prepared one is listed, or committed.
-use Rattle.std.proofs.Common.{◌≡◌, ◌⊎◌, inl, inr, ⊎_elim, refl, sym, ap, subst, ◌∙◌, ℕ, true, false, cond, not, Bool, ◌||◌, List, [], ◌∷◌, ◌++◌, Option, Some, None}
+use Rattle.std.proofs.Common.{◌≡◌, ◌⊎◌, inl, inr, ⊎_elim, refl, sym, ap, subst, ◌∙◌, ℕ, true, false, not, Bool, ◌||◌, List, [], ◌∷◌, ◌++◌, Option, Some, None}
 use Rattle.std.proofs.lemmas.Bool.{both_ways, and_parts, or_cases, or_left, or_right, false_from_ne_true}
 use Rattle.clv_base.specs.declared.names.TxId.{TxId}
 use Rattle.clv_base.specs.declared.names.Birth.{Birth}
@@ -20,7 +20,7 @@ use Rattle.clv_base.specs.OneShard.{written, locked, performed, add_pairs, new_p
 use Rattle.clv_base.proofs.SameNames.{tx_true, tx_self, tx_flip}
 use Rattle.law_base.proofs.Changed.{none_some, some_same}
 use Rattle.law_base.proofs.Commits.{committed_keeps, committed_append}
-use Rattle.law_base.proofs.Tables.{stage_by, stage_in, get_put, is_pair, pair_in, in_pair, without_pairs, add_from, insert_from}
+use Rattle.law_base.proofs.Tables.{stage_by, stage_in, is_pair, pair_in, in_pair, without_pairs, add_from, insert_from}
 use Rattle.protocol_laws.proofs.Sets.{in_filter, filter_in}
 use Rattle.shard_laws.proofs.LockRows.{Rows, violated_row}
 use Rattle.shard_laws.proofs.Writers.{Writers, writers_more, writers_all, writers_insert, writers_close, writers_release, needs_write, violated_wrote}
@@ -29,8 +29,10 @@ use Rattle.shard_laws.proofs.Changes.{wrote_keeps, wrote_append}
 use Rattle.shard_laws.proofs.Closing.{stage_closed, stage_other as closed_other}
 use Rattle.shard_laws.proofs.Leaving.{closed_back, active_back}
 use Rattle.shard_laws.proofs.Granting.{other_part}
-use Rattle.fate_laws.proofs.Prepares.{prepare_there, prepare_from, prepare_new}
+use Rattle.fate_laws.proofs.Prepares.{prepare_from, prepare_new}
+use Rattle.fate_laws.proofs.Closings.{new_active}
 use Rattle.fall_laws.proofs.Ahead.{Ahead, ahead_append}
+use Rattle.order_laws.proofs.Records.{prepared_there}
 
 -- prepared or committed
 abbrev pub Decided : List LogRecord → TxId → Type 0
@@ -116,15 +118,6 @@ lined_performed l tx birth op P rows closed st u p = by_write (writes_of op (val
     parts2 : Table Held
     parts2 = new_part tx birth (tx_get tx l.parts) l.parts
 
-    own : (o : Option Held) → tx_get tx l.parts ≡ o → (stage_by o ≡ None) ⊎ (stage_by o ≡ Some Active) → stage_in (new_part tx birth o l.parts) tx ≡ Some Active
-    own None e k = ap stage_by (get_put tx tx _ l.parts) ∙ at_self (tx_same tx tx) (tx_self tx)
-      where
-        at_self : (b : Bool) → b ≡ true → stage_by (cond b (Some (record { birth = birth; stage = Active; is_restored = false; is_dropped = false })) (tx_get tx l.parts)) ≡ Some Active
-        at_self true q = refl
-        at_self false q = absurd (both_ways false refl q)
-    own (Some x) e (inl k) = absurd (none_some x.stage (sym k))
-    own (Some x) e (inr k) = ap stage_by e ∙ k
-
     differ : Some Active ≡ Some Closed → ⊥
     differ z = absurd cc
 
@@ -132,7 +125,7 @@ lined_performed l tx birth op P rows closed st u p = by_write (writes_of op (val
     was_closed t c = at (tx_same t tx) refl
       where
         at : (b : Bool) → tx_same t tx ≡ b → (t ≡ tx → ⊥) × (stage_of l t ≡ Some Closed)
-        at true e = absurd (differ (sym (own (tx_get tx l.parts) refl st) ∙ subst (λ v. stage_in (new_part tx birth (tx_get tx l.parts) l.parts) v ≡ Some Closed) (tx_true t tx e) c))
+        at true e = absurd (differ (sym (new_active tx birth l.parts (tx_get tx l.parts) refl st) ∙ subst (λ v. stage_in (new_part tx birth (tx_get tx l.parts) l.parts) v ≡ Some Closed) (tx_true t tx e) c))
         at false e = ((λ q. both_ways _ e (subst (λ v. tx_same t v ≡ true) q (tx_self t))), sym (ap stage_by (other_part tx birth l.parts t (tx_get tx l.parts) e)) ∙ c)
 
     was_active : (t : TxId) → stage_in (new_part tx birth (tx_get tx l.parts) l.parts) t ≡ Some Active → prepared_in l.log t ≡ false
@@ -150,7 +143,7 @@ lined_performed l tx birth op P rows closed st u p = by_write (writes_of op (val
 
     is_met : (t q : TxId) (o : ℕ × List TxId) → is_pair (add_pairs tx (violated tx (needs_of op l.records) l.locks) l.pairs) t q ≡ true → prepare_of l.log t ≡ Some o → (tx_in q o.1 ≡ true) ⊎ (committed_in l.log q ≡ true)
     is_met t q o i e =
-        ⊎_elim (λ k. p.met t q o k e) (λ k. absurd (both_ways _ u (subst (λ z. prepared_in l.log z ≡ true) k (prepare_there l.log t o e)))) (add_from tx (violated tx (needs_of op l.records) l.locks) l.pairs t q i)
+        ⊎_elim (λ k. p.met t q o k e) (λ k. absurd (both_ways _ u (subst (λ z. prepared_in l.log z ≡ true) k (prepared_there l.log t o e)))) (add_from tx (violated tx (needs_of op l.records) l.locks) l.pairs t q i)
 
     locks_by : (log : List LogRecord) → ((t : TxId) → wrote_in l.log t ≡ true → wrote_in log t ≡ true) → ((w : ℕ × Option ℕ × Option ℕ) → writes_of op (value_at (key_of op) l.records) ≡ Some w → wrote_in log tx ≡ true)
         → Writers (λ t. wrote_in log t ≡ true) (locked tx birth op l).locks

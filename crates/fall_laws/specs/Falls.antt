@@ -10,7 +10,7 @@ use Rattle.clv_base.specs.Orders.{tx_in}
 use Rattle.clv_base.specs.declared.events.Outcome.TheVariants.{Taken}
 use Rattle.clv_base.specs.declared.events.Entry.{Entry}
 use Rattle.clv_base.specs.Shards.{shard_count}
-use Rattle.clv_base.specs.Logs.{committed_in, in_doubt}
+use Rattle.clv_base.specs.Logs.{committed_in}
 use Rattle.clv_base.specs.FileRules.{may_open}
 use Rattle.clv_base.specs.State.{Shard, is_present}
 use Rattle.clv_base.specs.Undo.{stage_of}
@@ -51,10 +51,6 @@ fallen_in log s (e ∷ es) so_far = let t = after_entry log s e in fallen_in log
 
 abbrev pub fallen_on : List (List LogRecord) → History → List (List LogRecord) → ℕ → List TxId
 fallen_on before so_far after n = fallen_in (log_of after n) (start_of before n) (journal_of n so_far) []
-
--- nothing is in doubt in the logs at opening
-abbrev pub OpensClear : List ℕ → List (List LogRecord) → Type 0
-OpensClear splits before = (n : ℕ) → n < shard_count splits → in_doubt n (log_of before n) ≡ []
 
 -- at each moment, who fell on a shard is not committed there
 abbrev pub FallenAreUncommitted : Type 0

@@ -25,6 +25,7 @@ use Rattle.clv_base.proofs.SameNames.{tx_self}
 use Rattle.law_base.proofs.Commits.{durable_committed}
 use Rattle.law_base.proofs.Tables.{in_pair}
 use Rattle.shard_laws.proofs.Sound.{waiting_here}
+use Rattle.shard_laws.proofs.Ordered.{prepare_some}
 use Rattle.history_laws.proofs.Stepping.{Step, op_dies, op_answers, request_refused, request_doomed, request_again, request_new, request_closes, looks_well, looks_ill, drops, sends, prepare_closes, prepare_again, vote_counts, decision_comes, decision_again, done_counts, asked, reminds, flushes, Happens, finishes, stops}
 use Rattle.history_laws.proofs.Entering.{Makes, by_event, by_flush, by_failure, by_restart, makes}
 use Rattle.history_laws.proofs.Durability.{left_front}
@@ -33,7 +34,7 @@ use Rattle.history_laws.proofs.Serials.{committed_front}
 use Rattle.history_laws.proofs.TellingEvents.{front_committed}
 use Rattle.history_laws.proofs.Worlds.{state_at}
 use Rattle.fate_laws.specs.Binding.{IsDue, CommitsComeDue, HasItsPart, CommitsHaveTheirParts}
-use Rattle.fate_laws.proofs.Prepares.{prepare_there, there_prepare, prepare_more, front_prepare}
+use Rattle.fate_laws.proofs.Prepares.{prepare_more, front_prepare}
 use Rattle.fate_laws.proofs.Homes.{Known}
 use Rattle.fate_laws.proofs.Prefixes.{Next, next_at, AskedIn, one_home, DurableIn}
 use Rattle.fate_laws.proofs.Fates.{Fated, delivered}
@@ -41,6 +42,7 @@ use Rattle.fate_laws.proofs.Deciding.{log_now, left_committed}
 use Rattle.fate_laws.proofs.Binding.{Bound, ordered_wrote}
 use Rattle.fate_laws.proofs.Parts.{Touched, Good, Base}
 use Rattle.fate_laws.proofs.Bindings.{WasTaken, FineAt, Bindings, bound_message, bindings_front}
+use Rattle.order_laws.proofs.Records.{prepared_there}
 
 -- ---- a commit is taken by a part that is closed, or again
 
@@ -108,7 +110,7 @@ all_from f (p ∷ ps) k = both (f p) (list_all f ps) (k p (or_left (tx_same p p)
 bound_due : (run : ℕ) (W : TxId → ℕ → List (ℕ × ℕ) → Type 0) (s : Shard) (tx : TxId) → Base run W s → Bound s tx → IsDue s tx
 bound_due run W s tx b k = (
   all_from (committed_in s.local.log) (predecessors_of s.local.pairs tx) (λ q i. k.pairs q (in_pair s.local.pairs tx q i)),
-  ordered_wrote s.local.log tx b.ordered (prepare_there s.local.log tx k.listed (front_prepare s.durable s.local.log tx k.listed k.prepare)),
+  ordered_wrote s.local.log tx b.ordered (prepared_there s.local.log tx k.listed (front_prepare s.durable s.local.log tx k.listed k.prepare)),
 )
 
 fine_due : (splits : List ℕ) (before after : List (List LogRecord)) (h pre : History) (n : ℕ) (tx : TxId) → n < shard_count splits → Bindings splits before after h pre → stage_of (state_at before after n pre).local tx ≡ Some Closed
@@ -152,13 +154,13 @@ part_left splits before after h choice m tx i f (a, inl k) =
     let p = left_front s (choice m) ((f.counts).counted m i) in
     let e : prepare_of (log_left s (choice m)) tx ≡ Some k.listed = subst (λ l. prepare_of l tx ≡ Some k.listed) p.1 (prepare_more (log_left s false) p.0 tx k.listed k.prepare) in
     inr (inl (
-      prepare_there (log_left s (choice m)) tx k.listed e,
+      prepared_there (log_left s (choice m)) tx k.listed e,
       subst (λ l. list_all (committed_in (log_left s (choice m))) l ≡ true) (sym (listed_is (log_left s (choice m)) tx k.listed e))
           (all_from (committed_in (log_left s (choice m))) (k.listed).1 (λ q j. committed_front (log_left s false) (log_left s (choice m)) q p (k.durable q j))),
     ))
 part_left splits before after h choice m tx i f (a, inr (inl k)) =
     let s = final_of before h after m in
-    inr (inr (false_from_ne_true _ (λ j. let x = there_prepare (log_left s (choice m)) tx j in both_ways _ k.unprepared (prepare_there s.local.log tx x.0 (front_prepare _ s.local.log tx x.0 x.1)))))
+    inr (inr (false_from_ne_true _ (λ j. let x = prepare_some (log_left s (choice m)) tx j in both_ways _ k.unprepared (prepared_there s.local.log tx x.0 (front_prepare _ s.local.log tx x.0 x.1)))))
 part_left splits before after h choice m tx i f (a, inr (inr d)) =
     let s = final_of before h after m in
     inl (committed_front (log_left s false) (log_left s (choice m)) tx (left_front s (choice m) ((f.counts).counted m i)) d)

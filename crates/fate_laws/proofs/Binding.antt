@@ -1,9 +1,10 @@
 -- A vote binds: who voted yes has its PREPARE and the COMMITs of all its predecessors here durable; who voted read is finished without a write.
-use Rattle.std.proofs.Common.{◌≡◌, ◌⊎◌, ⊎_elim, refl, sym, ap, subst, ◌∙◌, ℕ, ◌≤◌, ◌<◌, true, false, cond, Bool, ◌==◌, List, [], ◌∷◌, Option, Some, None, length, arith, take-append-drop}
-use Rattle.std.specs.Prelude.{take, drop}
-use Rattle.std.specs.List.{list_all}
-use Rattle.std.proofs.lemmas.Bool.{both_ways, and_parts, or_cases, false_from_ne_true, ltb-true}
-use Rattle.shard_laws.proofs.Changes.{wrote_keeps}
+use Rattle.std.proofs.Common.{◌≡◌, ◌⊎◌, ⊎_elim, refl, sym, ap, subst, ◌∙◌, ℕ, ◌≤◌, ◌<◌, true, false, cond, Bool, ◌==◌, List, Option, Some, None, length, arith}
+use Rattle.std.specs.Prelude.{take}
+use Rattle.std.proofs.lemmas.Bool.{both_ways, false_from_ne_true, ltb-true}
+use Rattle.shard_laws.proofs.Dooming.{list_all_at}
+use Rattle.shard_laws.proofs.Cutting.{taken_there}
+use Rattle.shard_laws.proofs.Ordered.{prepare_some}
 use Rattle.std.proofs.lemmas.List.{take-append-le}
 use Rattle.clv_base.specs.declared.names.TxId.{TxId}
 use Rattle.clv_base.specs.declared.logs.LogRecord.{LogRecord}
@@ -13,7 +14,7 @@ use Rattle.clv_base.specs.declared.causes.Vote.TheVariants.{Yes, Read, No}
 use Rattle.clv_base.specs.declared.state.Stage.{Stage}
 use Rattle.clv_base.specs.declared.state.Stage.TheVariants.{Active, Closed, Gone}
 use Rattle.clv_base.specs.declared.state.Voter.{Voter}
-use Rattle.clv_base.specs.Orders.{tx_same, tx_in}
+use Rattle.clv_base.specs.Orders.{tx_in}
 use Rattle.clv_base.specs.Logs.{committed_in, prepared_in, wrote_in, prepare_of, prepare_lsn, is_prepare_of, is_below}
 use Rattle.clv_base.specs.State.{Shard}
 use Rattle.clv_base.specs.Undo.{stage_of}
@@ -23,13 +24,14 @@ use Rattle.clv_base.specs.Restarts.{log_left}
 use Rattle.law_base.proofs.Changed.{none_some}
 use Rattle.law_base.proofs.Commits.{commit_durable, durable_committed, place_some}
 use Rattle.law_base.proofs.Tables.{is_pair, pair_in}
-use Rattle.clv_base.proofs.SameNames.{tx_true}
 use Rattle.protocol_laws.proofs.Facts.{predecessors_by_facts}
 use Rattle.history_laws.proofs.Serials.{committed_front}
 use Rattle.fate_laws.proofs.Inside.{Inside}
-use Rattle.fate_laws.proofs.Prepares.{prepare_there, there_prepare, front_prepare}
-use Rattle.fate_laws.proofs.Entering.{front_place, durable_front}
+use Rattle.fate_laws.proofs.Prepares.{front_prepare}
+use Rattle.fate_laws.proofs.Entering.{durable_front}
 use Rattle.fate_laws.proofs.Calm.{Calm}
+use Rattle.fate_laws.proofs.Writing.{wrote_take}
+use Rattle.order_laws.proofs.Records.{prepared_there}
 
 -- ---- what binds
 
@@ -44,7 +46,7 @@ pub record Reads (s : Shard) (tx : TxId) : Type 0 where
   pub inactive : stage_of s.local tx ≡ Some Active → ⊥
   pub unclosed : stage_of s.local tx ≡ Some Closed → ⊥
 
-front_same : (s t : Shard) → Inside s t → s.durable ≤ length s.local.log → log_left t false ≡ log_left s false
+pub front_same : (s t : Shard) → Inside s t → s.durable ≤ length s.local.log → log_left t false ≡ log_left s false
 front_same s t i l =
     ap (λ n. take n t.local.log) i.durable ∙ ap (take s.durable) (sym (i.log).1) ∙ take-append-le s.durable s.local.log (i.log).0 l
 
@@ -62,8 +64,8 @@ pub reads_calm : (s t : Shard) (tx : TxId) → Calm s t tx → Reads s tx → Re
 reads_calm s t tx c r =
     record {
       unprepared = false_from_ne_true _ (λ h.
-          let p = there_prepare t.local.log tx h in
-          ⊎_elim (λ e. both_ways _ r.unprepared (prepare_there s.local.log tx p.0 e)) (λ n. r.inactive n.0) (c.prepares p.0 p.1));
+          let p = prepare_some t.local.log tx h in
+          ⊎_elim (λ e. both_ways _ r.unprepared (prepared_there s.local.log tx p.0 e)) (λ n. r.inactive n.0) (c.prepares p.0 p.1));
       inactive = λ h. r.inactive (c.active h);
       unclosed = λ h. ⊎_elim (λ k. r.unclosed k) (λ k. r.inactive k) (c.closed h);
     }
@@ -76,21 +78,12 @@ Ordered log = (t : TxId) (k : ℕ) → prepare_lsn log t ≡ Some k → wrote_in
 pub ordered_wrote : (log : List LogRecord) (t : TxId) → Ordered log → prepared_in log t ≡ true → wrote_in log t ≡ true
 ordered_wrote log t o p =
     let k = place_some 0 (is_prepare_of t) log p in
-    wrote_front k.0 log t (o t k.0 k.1)
-  where
-    wrote_front : (n : ℕ) (log : List LogRecord) (t : TxId) → wrote_in (take n log) t ≡ true → wrote_in log t ≡ true
-    wrote_front n log t w = subst (λ l. wrote_in l t ≡ true) (take-append-drop n log) (wrote_keeps (take n log) (drop n log) t w)
+    wrote_take k.0 log t (o t k.0 k.1)
 
 -- ---- the vote that is given
 
-all_at : (f : TxId → Bool) (p : TxId) (ps : List TxId) → list_all f ps ≡ true → tx_in p ps ≡ true → f p ≡ true
-all_at f p [] a i = absurd (both_ways false refl i)
-all_at f p (x ∷ xs) a i =
-    let q = and_parts (f x) (list_all f xs) a in
-    ⊎_elim (λ e. subst (λ z. f z ≡ true) (tx_true x p e) q.0) (λ k. all_at f p xs q.1 k) (or_cases (tx_same x p) (tx_in p xs) i)
-
 pub pairs_durable : (s : Shard) (tx : TxId) → has_durable_predecessors (facts_of s tx) ≡ true → (p : TxId) → is_pair s.local.pairs tx p ≡ true → commit_durable s.local.log s.durable p ≡ true
-pairs_durable s tx d p i = all_at (λ q. commit_durable s.local.log s.durable q) p (predecessors_of s.local.pairs tx) (sym (predecessors_by_facts s.local s.durable tx) ∙ d) (pair_in s.local.pairs tx p i)
+pairs_durable s tx d p i = list_all_at (λ q. commit_durable s.local.log s.durable q) p (predecessors_of s.local.pairs tx) (sym (predecessors_by_facts s.local s.durable tx) ∙ d) (pair_in s.local.pairs tx p i)
 
 pub data VoteIs (s : Shard) (tx : TxId) (v : Voter) : Vote → Type 0 where
   kept : {vote : Vote} → v.vote ≡ Some vote → VoteIs s tx v vote
@@ -142,7 +135,7 @@ below_place (Some n) d e = (n, refl, ltb-true n d e)
 pub yes_binds : (s : Shard) (tx : TxId) → Listed s tx → stage_of s.local tx ≡ Some Closed → has_durable_predecessors (facts_of s tx) ≡ true → has_durable_prepare (facts_of s tx) ≡ true → Bound s tx
 yes_binds s tx l st d e =
     let k = below_place (prepare_lsn s.local.log tx) s.durable e in
-    let p = there_prepare (log_left s false) tx (front_place 0 s.durable (is_prepare_of tx) s.local.log k.0 k.1 (let m = k.2 in omega (arith, m))) in
+    let p = prepare_some (log_left s false) tx (taken_there 0 s.durable (is_prepare_of tx) s.local.log k.0 k.1 (let m = k.2 in omega (arith, m))) in
     record {
       listed = p.0;
       prepare = p.1;

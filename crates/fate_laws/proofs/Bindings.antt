@@ -32,6 +32,7 @@ use Rattle.clv_base.specs.Restarts.{run_after, log_left, log_after_restart}
 use Rattle.clv_base.specs.Journals.{History, own, event_state, after_entry, up_to_restart}
 use Rattle.clv_base.specs.History.{Legal, WasSent}
 use Rattle.law_base.proofs.Commits.{commit_durable, durable_parts, durable_from, committed_keeps}
+use Rattle.law_base.proofs.Lists.{all_mono}
 use Rattle.protocol_laws.specs.SessionLaws.{tx_of, works_on, ended_by}
 use Rattle.protocol_laws.proofs.InOrder.{sessions_keep_order}
 use Rattle.protocol_laws.proofs.Growing.{same as same_log, more}
@@ -46,7 +47,7 @@ use Rattle.history_laws.proofs.Uncommitting.{opening_adds}
 use Rattle.history_laws.proofs.Worlds.{state_at}
 use Rattle.history_laws.proofs.Staying.{walker_of, together, one_request}
 use Rattle.fate_laws.proofs.Inside.{Inside}
-use Rattle.fate_laws.proofs.Prepares.{prepare_there, there_prepare, prepare_more, opening_adds as opening_prepares}
+use Rattle.fate_laws.proofs.Prepares.{prepare_more, opening_adds as opening_prepares}
 use Rattle.fate_laws.proofs.Prefixes.{Next, walk_front, each_shard, stays_as_it_was, AskedIn, asked_later, DurableIn, durable_later}
 use Rattle.fate_laws.proofs.Fates.{Fated, fated_next, fated_start, delivered, none_prepared}
 use Rattle.fate_laws.proofs.Calm.{calm_same}
@@ -56,12 +57,10 @@ use Rattle.fate_laws.proofs.PartsEvents.{Owes, Once, parted_step, parted_same, p
 use Rattle.fate_laws.proofs.Returning.{parted_state, parted_revived, bound_state, reads_state, added_ordered}
 use Rattle.fate_laws.proofs.Opening.{ordered_opening, opening_settled}
 use Rattle.fate_laws.proofs.Standing.{NotOwn, bound_flushed, bound_made, reads_made}
+use Rattle.order_laws.proofs.Records.{prepared_there}
+use Rattle.shard_laws.proofs.Ordered.{prepare_some}
 
 -- ---- more is known
-
-all_mono : {X : Type 0} (P Q : X → Type 0) → ((x : X) → P x → Q x) → (xs : List X) → AllByRecursion P xs → AllByRecursion Q xs
-all_mono P Q k [] a = tt
-all_mono P Q k (x ∷ xs) a = (k x a.0, all_mono P Q k xs a.1)
 
 abbrev VotedOn : (S S' : TxId → Type 0) → Shard → Shard → Type 0
 VotedOn S S' s t = (tx : TxId) (o : Option Vote) → VotedIs S s tx o → VotedIs S' t tx o
@@ -95,7 +94,7 @@ voted_mono S S' s a tx (Some Yes) p = (a tx p.0, p.1)
 voted_mono S S' s a tx (Some Read) p = (a tx p.0, p.1)
 voted_mono S S' s a tx (Some (No why)) p = tt
 
-parted_mono : (run : ℕ) (W : TxId → ℕ → List (ℕ × ℕ) → Type 0) (S S' : TxId → Type 0) (F F' : ℕ → TxId → Type 0) (s : Shard) → ((u : TxId) → S u → S' u) → ((n : ℕ) (u : TxId) → F n u → F' n u) → Parted run W S F s → Parted run W S' F' s
+pub parted_mono : (run : ℕ) (W : TxId → ℕ → List (ℕ × ℕ) → Type 0) (S S' : TxId → Type 0) (F F' : ℕ → TxId → Type 0) (s : Shard) → ((u : TxId) → S u → S' u) → ((n : ℕ) (u : TxId) → F n u → F' n u) → Parted run W S F s → Parted run W S' F' s
 parted_mono run W S S' F F' s a f p =
     let k = voted_mono S S' s a in
     record {
@@ -145,7 +144,7 @@ parted_event : (run : ℕ) (W : TxId → ℕ → List (ℕ × ℕ) → Type 0) (
 parted_event run W S F s _ u (finishes {t = x} v h) w p = parted_finish run W S F x u (parted_step run W S F s x u h w p)
 parted_event run W S F s _ u (stops v) w p = parted_down run W S F s p
 
-parted_made : (run : ℕ) (W : TxId → ℕ → List (ℕ × ℕ) → Type 0) (S : TxId → Type 0) (F : ℕ → TxId → Type 0) (log : List LogRecord) (s t : Shard) {e : Event} {o : Outcome} → Once run W → Makes log s e o t → Owes run W S F s e o → Counted s → Parted run W S F s
+pub parted_made : (run : ℕ) (W : TxId → ℕ → List (ℕ × ℕ) → Type 0) (S : TxId → Type 0) (F : ℕ → TxId → Type 0) (log : List LogRecord) (s t : Shard) {e : Event} {o : Outcome} → Once run W → Makes log s e o t → Owes run W S F s e o → Counted s → Parted run W S F s
     → Parted run W S F t
 parted_made run W S F log s t u (by_event g h) w c p = parted_event run W S F s t u h w p
 parted_made run W S F log s _ u (by_flush n v f) w c p = let q = c.flying n f in parted_finish run W S F (with_durable n s) u (parted_flushed run W S F s n q.0 q.1 p)
@@ -232,6 +231,24 @@ asked_not_own splits before after h pre e tx birth nth seen op n w q (r, ts, i, 
     (λ b. not_before_itself (n, r) (n, r) refl (before_then (n, r) e (n, r) k.1 (precedes_before e (n, r) v o b))) z)
     (in_turn (n, r) e v p.first p.second)
 
+-- nor asks with it, and is not prepared
+pub op_asks_none : (splits : List ℕ) (before after : List (List LogRecord)) (h pre : History) (e : Placed) (tx : TxId) (birth : Birth) (nth : ℕ) (seen : Option ℕ) (op : Op) (n : ℕ) → Next splits before after h pre e → (e.1).event ≡ OpEvent tx birth nth seen op → AskedIn (pre ++ e ∷ []) tx n → ⊥
+op_asks_none splits before after h pre e tx birth nth seen op n w a z =
+    ⊎_elim (λ j. asked_not_own splits before after h pre e tx birth nth seen op n w a (z.0, z.1, j, z.3)) (λ j. not_last j) (among_append (n, z.0) pre (e ∷ []) z.2)
+  where
+    differ : OpEvent tx birth nth seen op ≡ RequestEvent tx z.1 → ⊥
+    differ y = absurd cc
+
+    not_last : Among (n, z.0) (e ∷ []) → ⊥
+    not_last (inl q) = differ (sym a ∙ ap (λ y. (y.1).event) q ∙ (z.3).0)
+    not_last (inr q) = elim q [ ]
+
+pub op_unprepared : (splits : List ℕ) (before after : List (List LogRecord)) (h pre : History) (e : Placed) (tx : TxId) (birth : Birth) (nth : ℕ) (seen : Option ℕ) (op : Op) → Next splits before after h pre e → Fated splits before after pre → tx.run ≡ run_after before
+    → (e.1).event ≡ OpEvent tx birth nth seen op → prepared_in (state_at before after e.0 pre).local.log tx ≡ false
+op_unprepared splits before after h pre e tx birth nth seen op w f r a =
+    false_from_ne_true _
+    (λ h0. let x = prepare_some (state_at before after e.0 pre).local.log tx h0 in asked_not_own splits before after h pre e tx birth nth seen op (x.0).0 w a ((f.homed e.0 w.inside).prepares tx x.0 x.1 r))
+
 pub sought_not_own : (splits : List ℕ) (before after : List (List LogRecord)) (h pre : History) (e : Placed) (tx : TxId) → Next splits before after h pre e → Sought before pre tx → NotOwn tx (e.1).event
 sought_not_own splits before after h pre e tx w a birth nth seen op q =
     let r = (walker_of splits before after h e tx w.legal w.among (ap tx_of q)).0 in
@@ -290,18 +307,7 @@ owed : (splits : List ℕ) (before after : List (List LogRecord)) (h pre : Histo
     → Owes (run_after before) (WasTaken h) (Sought before (pre ++ e ∷ [])) (FineAt before after (pre ++ e ∷ [])) (state_at before after e.0 pre) ev o
 owed splits before after h pre e (OpEvent tx birth nth seen op) o a b w k s =
     let r = (walker_of splits before after h e tx w.legal w.among (ap tx_of a)).0 in
-    let st = state_at before after e.0 pre in (
-      (λ q. let z = q r in ⊎_elim (λ j. asked_not_own splits before after h pre e tx birth nth seen op z.0 w a ((z.1).0, (z.1).1, j, (z.1).3)) (λ j. not_last tx birth nth seen op z.0 a z.1 j) (among_append (z.0, (z.1).0) pre (e ∷ []) (z.1).2)),
-      false_from_ne_true _
-          (λ h0. let x = there_prepare st.local.log tx h0 in let z = ((k.fated).homed e.0 w.inside).prepares tx x.0 x.1 r in asked_not_own splits before after h pre e tx birth nth seen op (x.0).0 w a z),
-    )
-  where
-    not_last : (tx : TxId) (birth : Birth) (nth : ℕ) (seen : Option ℕ) (op : Op) (n : ℕ) → (e.1).event ≡ OpEvent tx birth nth seen op → (z : AskedIn (pre ++ e ∷ []) tx n) → Among (n, z.0) (e ∷ []) → ⊥
-    not_last tx birth nth seen op n a z (inl q) = differ (sym a ∙ ap (λ y. (y.1).event) q ∙ (z.3).0)
-      where
-        differ : OpEvent tx birth nth seen op ≡ RequestEvent tx z.1 → ⊥
-        differ y = absurd cc
-    not_last tx birth nth seen op n a z (inr q) = elim q [ ]
+    ((λ q. let z = q r in op_asks_none splits before after h pre e tx birth nth seen op z.0 w a z.1), op_unprepared splits before after h pre e tx birth nth seen op w k.fated r a)
 owed splits before after h pre e (RequestEvent tx ts) Asked a b w k s = subst (λ n. WasTaken h tx n ts) (sym (w.split).shard) (e.1, w.among, (a, b))
 owed splits before after h pre e (Deliver (Prepare to tx home seen) stamp) o a b w k s =
     ((λ r. (home, asked_later pre e tx home (delivered splits before after pre (Prepare to tx home seen) stamp k.fated s r))), bound_message splits before after h pre (Prepare to tx home seen) stamp k s)
@@ -312,7 +318,7 @@ owed splits before after h pre e _ o a b w k s = tt
 
 -- ---- one entry more
 
-noted : (run : ℕ) (W : TxId → ℕ → List (ℕ × ℕ) → Type 0) (S : TxId → Type 0) (F : ℕ → TxId → Type 0) (log : List LogRecord) (s : Shard) (x : Entry) → Parted run W S F (event_state log s x.event x.outcome) → Parted run W S F (after_entry log s x)
+pub noted : (run : ℕ) (W : TxId → ℕ → List (ℕ × ℕ) → Type 0) (S : TxId → Type 0) (F : ℕ → TxId → Type 0) (log : List LogRecord) (s : Shard) (x : Entry) → Parted run W S F (event_state log s x.event x.outcome) → Parted run W S F (after_entry log s x)
 noted run W S F log s x p =
     let t = event_state log s x.event x.outcome in
     let u = after_entry log s x in
@@ -404,10 +410,10 @@ opening_fine splits before after n m tx o c r = ((λ q. absurd (r q)), at (prepa
         inl (bound_state m (run_after before) 0 (log_after_restart m (log_of before m) (run_after before) 0) 0 [] tx p (prepare_more (log_of before m) _ tx p e) (λ q i. listed_keeps (log_of before m) q (k q i)))
 
     at : (b : Bool) → prepared_in (log_of before m) tx ≡ b → Bound (state_at before after m []) tx ⊎ (Reads (state_at before after m []) tx ⊎ DurableIn before after [] m tx)
-    at true p = let x = there_prepare (log_of before m) tx p in settled x.0 x.1 (opening_settled splits before tx n m x.0 o c (log_beyond before m tx p) x.1)
+    at true p = let x = prepare_some (log_of before m) tx p in settled x.0 x.1 (opening_settled splits before tx n m x.0 o c (log_beyond before m tx p) x.1)
     at false p =
         inr (inl (reads_state m (run_after before) 0 (log_after_restart m (log_of before m) (run_after before) 0) 0 [] tx
-        (false_from_ne_true _ (λ h. let x = there_prepare (log_after_restart m (log_of before m) (run_after before) 0) tx h in both_ways _ p (prepare_there (log_of before m) tx x.0 (opening_prepares m (log_of before m) (run_after before) 0 tx x.0 x.1))))))
+        (false_from_ne_true _ (λ h. let x = prepare_some (log_after_restart m (log_of before m) (run_after before) 0) tx h in both_ways _ p (prepared_there (log_of before m) tx x.0 (opening_prepares m (log_of before m) (run_after before) 0 tx x.0 x.1))))))
 
 pub bindings_start : (splits : List ℕ) (before after : List (List LogRecord)) (h : History) → may_open splits before ≡ true → Legal splits before h after → Bindings splits before after h []
 bindings_start splits before after h o l =
@@ -419,7 +425,7 @@ bindings_start splits before after h o l =
           let run = run_after before in
           parted_state run (WasTaken h) (Sought before []) (FineAt before after []) n run 0 (log_after_restart n log run 0) 0 []
           (added_ordered log (log_after_restart n log run 0) (more log _) (λ t p e. opening_prepares n log run 0 t p e) (ordered_opening splits before n o k))
-          (λ tx p r. let x = there_prepare (log_after_restart n log run 0) tx p in absurd (none_prepared splits before n tx o k (prepare_there log tx x.0 (opening_prepares n log run 0 tx x.0 x.1)) r))
+          (λ tx p r. let x = prepare_some (log_after_restart n log run 0) tx p in absurd (none_prepared splits before n tx o k (prepared_there log tx x.0 (opening_prepares n log run 0 tx x.0 x.1)) r))
           (λ tx c m d. let b = opening_adds n log run 0 tx c in opening_fine splits before after n m tx o b (λ r. none_of_this_run splits before n tx o k b r));
       said = λ x i. elim i [ ];
     }

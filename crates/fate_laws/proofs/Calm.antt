@@ -61,7 +61,7 @@ there_active : (o : Option Stage) → o ≡ Some Active → is_present o ≡ tru
 there_active o e = subst (λ x. is_present x ≡ true) (sym e) refl
 
 -- who is there was there
-was_there : (s t : Shard) (tx : TxId) → Calm s t tx → (o : Option Stage) → stage_of t.local tx ≡ o → is_present o ≡ true → is_present (stage_of s.local tx) ≡ true
+pub was_there : (s t : Shard) (tx : TxId) → Calm s t tx → (o : Option Stage) → stage_of t.local tx ≡ o → is_present o ≡ true → is_present (stage_of s.local tx) ≡ true
 was_there s t tx c None e h = absurd (both_ways false refl h)
 was_there s t tx c (Some Active) e h = there_active (stage_of s.local tx) (c.active e)
 was_there s t tx c (Some Closed) e h = ⊎_elim (λ k. there_closed (stage_of s.local tx) k) (λ k. there_active (stage_of s.local tx) k) (c.closed e)

@@ -1,6 +1,6 @@
 -- How a step gives a transaction a PREPARE, a closed part or a COMMIT.
 use Rattle.std.proofs.Common.{◌≡◌, ◌⊎◌, inl, inr, ⊎_elim, refl, sym, ap, subst, ◌∙◌, ℕ, true, false, cond, Bool, List, [], ◌∷◌, ◌++◌, Option, Some, None}
-use Rattle.std.proofs.lemmas.Bool.{both_ways, or_cases}
+use Rattle.std.proofs.lemmas.Bool.{both_ways}
 use Rattle.clv_base.specs.declared.names.TxId.{TxId}
 use Rattle.clv_base.specs.declared.names.Birth.{Birth}
 use Rattle.clv_base.specs.declared.ops.Op.{Op}
@@ -14,7 +14,7 @@ use Rattle.clv_base.specs.declared.events.Event.{Event}
 use Rattle.clv_base.specs.declared.events.Event.TheVariants.{Request as RequestEvent, Deliver}
 use Rattle.clv_base.specs.declared.events.Outcome.{Outcome}
 use Rattle.clv_base.specs.declared.events.Outcome.TheVariants.{Asked, Taken}
-use Rattle.clv_base.specs.Orders.{tx_same, tx_get}
+use Rattle.clv_base.specs.Orders.{tx_same, tx_get, Table}
 use Rattle.clv_base.specs.Logs.{committed_in, prepare_of, wrote_in}
 use Rattle.clv_base.specs.Needs.{writes_of, value_at, key_of}
 use Rattle.clv_base.specs.State.{Shard, Local, is_present}
@@ -24,7 +24,6 @@ use Rattle.clv_base.specs.Coordinator.{others}
 use Rattle.clv_base.specs.OneShard.{OpDies, OpAnswers, new_part, active_part, written, locked, performed, rolled_back_if, closed_in, closing}
 use Rattle.clv_base.specs.Events.{is_alone}
 use Rattle.clv_base.proofs.SameNames.{tx_true, tx_self}
-use Rattle.law_base.proofs.Commits.{committed_append}
 use Rattle.law_base.proofs.Changed.{none_some}
 use Rattle.law_base.proofs.Tables.{stage_by, stage_in, get_put}
 use Rattle.clv_base.specs.declared.state.Held.{Held}
@@ -36,6 +35,7 @@ use Rattle.session_laws.proofs.Replying.{OpIs, dies, rolls, performs, reply_is}
 use Rattle.history_laws.proofs.Stepping.{Step, op_dies, op_answers, request_refused, request_doomed, request_again, request_new, request_closes, looks_well, looks_ill, drops, sends, prepare_closes, prepare_again, vote_counts, decision_comes, decision_again, done_counts, asked, reminds, flushes}
 use Rattle.history_laws.proofs.Uncommitting.{with_more, rolled as rolled_commits, dropped as dropped_commits, op_dying as dying_commits, op_answering as answering_commits}
 use Rattle.fate_laws.proofs.Prepares.{plain_more, prepare_new, rolled, dropped, op_dying, op_answering}
+use Rattle.fate_laws.proofs.Homes.{new_commit}
 
 -- ---- a PREPARE
 
@@ -92,6 +92,16 @@ pub data Closes (s : Shard) (tx : TxId) : Event → Outcome → Type 0 where
   by_request : (ts : List (ℕ × ℕ)) → stage_of s.local tx ≡ Some Active → Closes s tx (RequestEvent tx ts) Asked
   by_prepare : (home seen stamp : ℕ) → stage_of s.local tx ≡ Some Active → Closes s tx (Deliver (Prepare s.shard tx home seen) stamp) Taken
 
+-- who did an operation is active
+pub new_active : (u : TxId) (birth : Birth) (parts : Table Held) (o : Option Held) → tx_get u parts ≡ o → (stage_by o ≡ None) ⊎ (stage_by o ≡ Some Active) → stage_in (new_part u birth o parts) u ≡ Some Active
+new_active u birth parts None e k = ap stage_by (get_put u u (active_part birth) parts) ∙ at_self (tx_same u u) (tx_self u)
+  where
+    at_self : (b : Bool) → b ≡ true → stage_by (cond b (Some (active_part birth)) (tx_get u parts)) ≡ Some Active
+    at_self true q = refl
+    at_self false q = absurd (both_ways false refl q)
+new_active u birth parts (Some x) e (inl k) = absurd (none_some x.stage (sym k))
+new_active u birth parts (Some x) e (inr k) = ap stage_by e ∙ k
+
 performed_closed : (s : Shard) (tx u : TxId) (birth : Birth) (op : Op) → (stage_of s.local u ≡ None) ⊎ (stage_of s.local u ≡ Some Active) → stage_of (performed u birth op s.local) tx ≡ Some Closed → stage_of s.local tx ≡ Some Closed
 performed_closed s tx u birth op k h = at (tx_same tx u) refl
   where
@@ -102,22 +112,13 @@ performed_closed s tx u birth op k h = at (tx_same tx u) refl
     st : stage_in (new_part u birth (tx_get u s.local.parts) s.local.parts) tx ≡ Some Closed
     st = ap (λ l. stage_in l tx) (sym (parts_are (writes_of op (value_at (key_of op) s.local.records)) (locked u birth op s.local))) ∙ h
 
-    own : (o : Option Held) → tx_get u s.local.parts ≡ o → (stage_by o ≡ None) ⊎ (stage_by o ≡ Some Active) → stage_in (new_part u birth o s.local.parts) u ≡ Some Active
-    own None e k = ap stage_by (get_put u u (active_part birth) s.local.parts) ∙ at_self (tx_same u u) (tx_self u)
-      where
-        at_self : (b : Bool) → b ≡ true → stage_by (cond b (Some (active_part birth)) (tx_get u s.local.parts)) ≡ Some Active
-        at_self true q = refl
-        at_self false q = absurd (both_ways false refl q)
-    own (Some x) e (inl k) = absurd (none_some x.stage (sym k))
-    own (Some x) e (inr k) = ap stage_by e ∙ k
-
     differ : Some Active ≡ Some Closed → ⊥
     differ z = absurd cc
 
     at : (b : Bool) → tx_same tx u ≡ b → stage_of s.local tx ≡ Some Closed
     at true e =
         let q : tx ≡ u = tx_true tx u e in
-        absurd (differ (sym (own (tx_get u s.local.parts) refl k) ∙ subst (λ v. stage_in (new_part u birth (tx_get u s.local.parts) s.local.parts) v ≡ Some Closed) q st))
+        absurd (differ (sym (new_active u birth s.local.parts (tx_get u s.local.parts) refl k) ∙ subst (λ v. stage_in (new_part u birth (tx_get u s.local.parts) s.local.parts) v ≡ Some Closed) q st))
     at false e = sym (ap stage_by (other_part u birth s.local.parts tx (tx_get u s.local.parts) e)) ∙ st
 
 answers_closed : (s : Shard) (tx u : TxId) (birth : Birth) (seen : Option ℕ) (op : Op) (a : Answer) (l : Local) → OpIs s.local u birth seen op (OpAnswers a l) → stage_of l tx ≡ Some Closed → stage_of s.local tx ≡ Some Closed
@@ -164,11 +165,6 @@ step_closed s _ tx (flushes k g c) h = inl h
 pub data Commits (s : Shard) (tx : TxId) : Event → Outcome → Type 0 where
   alone : (ts : List (ℕ × ℕ)) → is_alone (others s.shard ts) ≡ true → undecided_of s.local tx ≡ [] → Commits s tx (RequestEvent tx ts) Asked
   decided : (home stamp : ℕ) → Commits s tx (Deliver (Decide s.shard tx home true) stamp) Taken
-
-pub new_commit : (log : List LogRecord) (tx : TxId) (parts : List ℕ) (u : TxId) → committed_in (log ++ Commit tx parts ∷ []) u ≡ true → (committed_in log u ≡ true) ⊎ (u ≡ tx)
-new_commit log tx parts u c =
-    ⊎_elim (λ a. inl a) (λ b. ⊎_elim (λ e. inr (tx_true u tx e)) (λ e. absurd (both_ways false refl e)) (or_cases (tx_same u tx) false b))
-    (or_cases (committed_in log u) (committed_in (Commit tx parts ∷ []) u) (sym (committed_append log (Commit tx parts ∷ []) u) ∙ c))
 
 closing_commits : (log : List LogRecord) (u tx : TxId) (home : ℕ) (b one : Bool) (us : List TxId) → committed_in (log ++ closing b one u home us) tx ≡ true → (committed_in log tx ≡ true) ⊎ ((tx ≡ u) × (one ≡ true) × (us ≡ []))
 closing_commits log u tx home false one us c = inl (with_more log [] tt tx c)

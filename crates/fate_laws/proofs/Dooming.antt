@@ -2,7 +2,7 @@
 use Rattle.std.proofs.Common.{◌≡◌, ⊎_elim, refl, sym, subst, ◌∙◌, ℕ, zero, suc, true, false, cond, Bool, ◌&&◌, ◌==◌, List, [], ◌∷◌, ◌++◌, Option, Some, None, length}
 use Rattle.std.specs.Prelude.{⊤}
 use Rattle.std.specs.List.{list_all}
-use Rattle.std.proofs.lemmas.Bool.{both_ways, and_parts, or_cases, or_left, or_right, false_from_ne_true}
+use Rattle.std.proofs.lemmas.Bool.{both_ways, and_parts, or_cases, or_left, or_right, false_from_ne_true, and_from}
 use Rattle.clv_base.specs.declared.names.TxId.{TxId}
 use Rattle.clv_base.specs.declared.logs.LogRecord.{LogRecord}
 use Rattle.clv_base.specs.declared.logs.LogRecord.TheVariants.{Commit, End}
@@ -31,41 +31,31 @@ use Rattle.shard_laws.proofs.Sound.{waiting_here}
 use Rattle.protocol_laws.proofs.Sets.{in_filter}
 use Rattle.history_laws.proofs.Stepping.{commits, votes, rules, KeptByDue}
 use Rattle.history_laws.proofs.Uncommitting.{rolled, with_more}
-use Rattle.fate_laws.proofs.Homes.{still_not}
-use Rattle.fate_laws.proofs.Closings.{new_commit}
+use Rattle.fate_laws.proofs.Homes.{still_not, new_commit}
 use Rattle.fate_laws.proofs.Parts.{commit_agreed}
 use Rattle.fate_laws.proofs.Downwards.{Down, down_due}
 
 -- ---- what goes with one that isn't committed isn't
 
+pub with_from : (P : TxId → Type 0) (pairs : List (TxId × TxId)) (set so_far : List TxId) → ((a b : TxId) → is_pair pairs a b ≡ true → tx_in b set ≡ true → P a) → ((t : TxId) → tx_in t so_far ≡ true → P t) → (t : TxId) → tx_in t (with_successors pairs set so_far) ≡ true → P t
+with_from P [] set so_far d l t i = l t i
+with_from P (p ∷ ps) set so_far d l t i = with_from P ps set (cond (tx_in p.1 set) (tx_insert p.0 so_far) so_far) (λ a b j. d a b (or_right (row_pairs a b p) (is_pair ps a b) j)) (λ u j. at (tx_in p.1 set) refl u j) t i
+  where
+    at : (b : Bool) → tx_in p.1 set ≡ b → (u : TxId) → tx_in u (cond b (tx_insert p.0 so_far) so_far) ≡ true → P u
+    at true e u j =
+        ⊎_elim (λ q. subst P (sym q) (d p.0 p.1 (or_left (row_pairs p.0 p.1 p) (is_pair ps p.0 p.1) (and_from (tx_same p.0 p.0) (tx_same p.1 p.1) (tx_self p.0) (tx_self p.1))) e)) (λ q. l u q) (in_insert p.0 u so_far j)
+    at false e u j = l u j
+
+pub through_all : (P : TxId → Type 0) (n : ℕ) (pairs : List (TxId × TxId)) (set : List TxId) → ((a b : TxId) → is_pair pairs a b ≡ true → P b → P a) → ((t : TxId) → tx_in t set ≡ true → P t) → (t : TxId) → tx_in t (successors_through n pairs set) ≡ true → P t
+through_all P zero pairs set d k t i = k t i
+through_all P (suc n) pairs set d k t i = through_all P n pairs (with_successors pairs set set) d (with_from P pairs set set (λ a b j i. d a b j (k b i)) k) t i
+
 abbrev Open : List LogRecord → TxId → Type 0
 Open log t = committed_in log t ≡ false
 
-successors_open : (log : List LogRecord) (pairs : List (TxId × TxId)) (set so_far : List TxId) → ((a b : TxId) → is_pair pairs a b ≡ true → Open log b → Open log a) → ((t : TxId) → tx_in t set ≡ true → Open log t) → ((t : TxId) → tx_in t so_far ≡ true → Open log t)
-    → (t : TxId) → tx_in t (with_successors pairs set so_far) ≡ true → Open log t
-successors_open log [] set so_far d k l t i = l t i
-successors_open log (p ∷ ps) set so_far d k l t i =
-    successors_open log ps set (cond (tx_in p.1 set) (tx_insert p.0 so_far) so_far) (λ a b j. d a b (or_right (row_pairs a b p) (is_pair ps a b) j)) k (λ u j. at (tx_in p.1 set) refl u j) t i
-  where
-    both : (a b : Bool) → a ≡ true → b ≡ true → (a && b) ≡ true
-    both true b e f = f
-    both false b e f = e
-
-    first : Open log p.1 → Open log p.0
-    first o = d p.0 p.1 (or_left (row_pairs p.0 p.1 p) (is_pair ps p.0 p.1) (both (tx_same p.0 p.0) (tx_same p.1 p.1) (tx_self p.0) (tx_self p.1))) o
-
-    at : (b : Bool) → tx_in p.1 set ≡ b → (u : TxId) → tx_in u (cond b (tx_insert p.0 so_far) so_far) ≡ true → Open log u
-    at true e u j = ⊎_elim (λ q. subst (Open log) (sym q) (first (k p.1 e))) (λ q. l u q) (in_insert p.0 u so_far j)
-    at false e u j = l u j
-
-through_open : (log : List LogRecord) (n : ℕ) (pairs : List (TxId × TxId)) (set : List TxId) → ((a b : TxId) → is_pair pairs a b ≡ true → Open log b → Open log a) → ((t : TxId) → tx_in t set ≡ true → Open log t)
-    → (t : TxId) → tx_in t (successors_through n pairs set) ≡ true → Open log t
-through_open log zero pairs set d k t i = k t i
-through_open log (suc n) pairs set d k t i = through_open log n pairs (with_successors pairs set set) d (successors_open log pairs set set d k k) t i
-
 pub doomed_open : (s : Shard) (u : TxId) → Down s → committed_in s.local.log u ≡ false → (t : TxId) → tx_in t (doomed_here s.local u) ≡ true → committed_in s.local.log t ≡ false
 doomed_open s u d o t i =
-    through_open s.local.log (length s.local.pairs) s.local.pairs (u ∷ []) (λ a b j n. false_from_ne_true _ (λ c. both_ways _ n (d a b c j)))
+    through_all (Open s.local.log) (length s.local.pairs) s.local.pairs (u ∷ []) (λ a b j n. false_from_ne_true _ (λ c. both_ways _ n (d a b c j)))
     (λ v j. ⊎_elim (λ e. subst (Open s.local.log) (tx_true u v e) o) (λ e. absurd (both_ways false refl e)) (or_cases (tx_same u v) false j)) t
     (in_filter (λ v. is_present (stage_of s.local v)) t (doomed_by s.local u) i).0
 

@@ -12,7 +12,6 @@ use Rattle.clv_base.specs.declared.logs.LogRecord.{LogRecord}
 use Rattle.clv_base.specs.declared.messages.Message.TheVariants.{Vote as VoteMessage, Decide}
 use Rattle.clv_base.specs.declared.state.Stage.{Stage}
 use Rattle.clv_base.specs.declared.state.Stage.TheVariants.{Active, Closed, Gone}
-use Rattle.clv_base.specs.declared.state.Held.{Held}
 use Rattle.clv_base.specs.declared.state.Request.{Request}
 use Rattle.clv_base.specs.declared.state.RequestState.{RequestState}
 use Rattle.clv_base.specs.declared.state.RequestState.TheVariants.{Undecided, Committed, Finished, Refused}
@@ -31,12 +30,12 @@ use Rattle.clv_base.specs.State.{Shard, Local, is_present}
 use Rattle.clv_base.specs.Undo.{stage_of, roll_back}
 use Rattle.clv_base.specs.Facts.{facts_of, has_durable_commit, is_waiting}
 use Rattle.clv_base.specs.Coordinator.{new_request, takes_vote, with_vote_of, with_done_of, restored_request, restored_requests}
-use Rattle.clv_base.specs.OneShard.{OpDies, OpAnswers, active_part, new_part, written, locked, performed, rolled_back_if, closed_in}
+use Rattle.clv_base.specs.OneShard.{OpDies, OpAnswers, new_part, written, locked, performed, rolled_back_if, closed_in}
 use Rattle.clv_base.specs.Events.{finish, with_durable}
 use Rattle.clv_base.specs.Restarts.{state_after, unended_in}
 use Rattle.clv_base.specs.Journals.{up_to_restart}
 use Rattle.clv_base.proofs.SameNames.{tx_true, tx_self}
-use Rattle.law_base.proofs.Changed.{none_some, some_same, get_set}
+use Rattle.law_base.proofs.Changed.{some_same, get_set}
 use Rattle.law_base.proofs.Tables.{stage_by, stage_in, get_put}
 use Rattle.shard_laws.proofs.Closing.{stage_closed, stage_other as closed_other}
 use Rattle.shard_laws.proofs.Marking.{stage_marked}
@@ -46,10 +45,11 @@ use Rattle.session_laws.proofs.Replying.{OpIs, dies, rolls, performs, reply_is}
 use Rattle.history_laws.proofs.Stepping.{settled, Step, op_dies, op_answers, request_refused, request_doomed, request_again, request_new, request_closes, looks_well, looks_ill, drops, sends, prepare_closes, prepare_again, vote_counts, decision_comes, decision_again, done_counts, asked, reminds, flushes, Happens, finishes, stops}
 use Rattle.history_laws.proofs.Entering.{Makes, by_event, by_flush, by_failure, by_restart}
 use Rattle.fate_laws.proofs.HomesEvents.{awaits, put_get, counts_undecided}
-use Rattle.fate_laws.proofs.Closings.{Commits, alone, decided, new_commit, step_commits}
+use Rattle.fate_laws.proofs.Closings.{Commits, alone, decided, step_commits, new_active}
 use Rattle.fate_laws.proofs.Downwards.{down_step, down_state, Owes as OwesDown}
 use Rattle.fate_laws.proofs.Arriving.{taken_closed}
 use Rattle.fate_laws.proofs.Dooming.{RowKeeps, Kept, row_log, gone_rolled, kept_due}
+use Rattle.fate_laws.proofs.Homes.{new_commit}
 
 -- a request that may not get a COMMIT from elsewhere
 abbrev pub NotPending : RequestState → Type 0
@@ -82,22 +82,13 @@ performed_gone s u v d birth op k h = at (tx_same v u) refl
     st : stage_in (new_part u birth (tx_get u s.local.parts) s.local.parts) v ≡ Some (Gone (Some d))
     st = ap (λ l. stage_in l v) (sym (written_parts u (writes_of op (value_at (key_of op) s.local.records)) (locked u birth op s.local))) ∙ h
 
-    own : (o : Option Held) → tx_get u s.local.parts ≡ o → (stage_by o ≡ None) ⊎ (stage_by o ≡ Some Active) → stage_in (new_part u birth o s.local.parts) u ≡ Some Active
-    own None e k = ap stage_by (get_put u u (active_part birth) s.local.parts) ∙ at_self (tx_same u u) (tx_self u)
-      where
-        at_self : (b : Bool) → b ≡ true → stage_by (cond b (Some (active_part birth)) (tx_get u s.local.parts)) ≡ Some Active
-        at_self true q = refl
-        at_self false q = absurd (both_ways false refl q)
-    own (Some x) e (inl k) = absurd (none_some x.stage (sym k))
-    own (Some x) e (inr k) = ap stage_by e ∙ k
-
     differ : Some Active ≡ Some (Gone (Some d)) → ⊥
     differ z = absurd cc
 
     at : (b : Bool) → tx_same v u ≡ b → stage_of s.local v ≡ Some (Gone (Some d))
     at true e =
         let q : v ≡ u = tx_true v u e in
-        absurd (differ (sym (own (tx_get u s.local.parts) refl k) ∙ subst (λ w. stage_in (new_part u birth (tx_get u s.local.parts) s.local.parts) w ≡ Some (Gone (Some d))) q st))
+        absurd (differ (sym (new_active u birth s.local.parts (tx_get u s.local.parts) refl k) ∙ subst (λ w. stage_in (new_part u birth (tx_get u s.local.parts) s.local.parts) w ≡ Some (Gone (Some d))) q st))
     at false e = sym (ap stage_by (other_part u birth s.local.parts v (tx_get u s.local.parts) e)) ∙ st
 
 answers_gone : (s : Shard) (u : TxId) (birth : Birth) (seen : Option ℕ) (op : Op) (a : Answer) (l : Local) → OpIs s.local u birth seen op (OpAnswers a l) → Kept s → (v d : TxId) → stage_of l v ≡ Some (Gone (Some d)) → committed_in s.local.log v ≡ false
@@ -164,7 +155,7 @@ no_commits : (s : Shard) {e : Event} {o : Outcome} → commit_kind e ≡ false �
 no_commits s f v z = both_ways _ f (kind s v z)
 
 -- whose the COMMIT is
-whose_request : (s : Shard) {e : Event} {o : Outcome} (v u : TxId) (ts : List (ℕ × ℕ)) → Commits s v e o → e ≡ RequestEvent u ts → v ≡ u
+pub whose_request : (s : Shard) {e : Event} {o : Outcome} (v u : TxId) (ts : List (ℕ × ℕ)) → Commits s v e o → e ≡ RequestEvent u ts → v ≡ u
 whose_request s v u ts (alone xs k n) z = cc
 whose_request s v u ts (decided home stamp) z = absurd cc
 

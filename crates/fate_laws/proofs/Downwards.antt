@@ -2,11 +2,10 @@
 use Rattle.std.proofs.Common.{◌≡◌, ◌⊎◌, inl, inr, ⊎_elim, refl, sym, ap, subst, ℕ, ◌<◌, true, false, Bool, ◌&&◌, ◌==◌, List, [], ◌∷◌, ◌++◌, Option, Some, length}
 use Rattle.std.specs.Prelude.{⊤}
 use Rattle.std.specs.List.{list_all}
-use Rattle.std.proofs.lemmas.Bool.{both_ways, and_parts, or_cases, false_from_ne_true}
+use Rattle.std.proofs.lemmas.Bool.{both_ways, and_parts, false_from_ne_true}
 use Rattle.clv_base.specs.declared.names.TxId.{TxId}
 use Rattle.clv_base.specs.declared.names.Birth.{Birth}
 use Rattle.clv_base.specs.declared.ops.Op.{Op}
-use Rattle.clv_base.proofs.SameNames.{tx_true}
 use Rattle.clv_base.specs.declared.logs.LogRecord.{LogRecord}
 use Rattle.clv_base.specs.declared.logs.LogRecord.TheVariants.{End}
 use Rattle.clv_base.specs.declared.causes.Vote.TheVariants.{Yes, Read, No}
@@ -18,7 +17,6 @@ use Rattle.clv_base.specs.declared.events.Outcome.{Outcome}
 use Rattle.clv_base.specs.declared.events.Entry.{Entry}
 use Rattle.clv_base.specs.Shards.{shard_count}
 use Rattle.clv_base.specs.FileRules.{may_open}
-use Rattle.clv_base.specs.Orders.{tx_same, tx_in}
 use Rattle.clv_base.specs.Logs.{committed_in, in_doubt}
 use Rattle.clv_base.specs.LogRules.{log_of}
 use Rattle.clv_base.specs.State.{Shard}
@@ -30,6 +28,8 @@ use Rattle.clv_base.specs.Journals.{History, up_to_restart}
 use Rattle.clv_base.specs.History.{Legal}
 use Rattle.law_base.proofs.Tables.{is_pair, pair_in, in_pair}
 use Rattle.shard_laws.proofs.Sound.{agreed_before}
+use Rattle.shard_laws.proofs.Dooming.{list_all_at}
+use Rattle.shard_laws.proofs.Relisting.{pair_of}
 use Rattle.history_laws.proofs.Stepping.{Due, commits, votes, rules, KeptByDue, settled, Step, Happens, finishes, stops}
 use Rattle.history_laws.proofs.Entering.{Makes, by_event, by_flush, by_failure, by_restart, makes}
 use Rattle.history_laws.proofs.Merging.{Placed}
@@ -40,13 +40,13 @@ use Rattle.history_laws.proofs.Worlds.{state_at}
 use Rattle.protocol_laws.specs.SessionLaws.{tx_of}
 use Rattle.fate_laws.specs.Downwards.{CommitsGoDownwards}
 use Rattle.fate_laws.proofs.Calm.{calm_step, calm_one}
-use Rattle.fate_laws.proofs.Closings.{Commits, alone, decided, new_commit, step_commits}
-use Rattle.fate_laws.proofs.Restored.{doubt_undecided}
+use Rattle.fate_laws.proofs.Closings.{Commits, alone, decided, step_commits}
 use Rattle.fate_laws.proofs.Prefixes.{Next, walk_front, each_shard}
 use Rattle.fate_laws.proofs.Parts.{commit_agreed}
-use Rattle.fate_laws.proofs.Returning.{pair_owner}
 use Rattle.fate_laws.proofs.Bindings.{Bindings, bindings_start, bindings_next, asked_not_own}
 use Rattle.fate_laws.proofs.Arriving.{due_at}
+use Rattle.fate_laws.proofs.Homes.{new_commit}
+use Rattle.file_laws.proofs.Doubts.{doubt_undecided}
 
 abbrev pub Down : Shard → Type 0
 Down s = (a b : TxId) → committed_in s.local.log a ≡ true → is_pair s.local.pairs a b ≡ true → committed_in s.local.log b ≡ true
@@ -111,7 +111,7 @@ down_finish : (s : Shard) → Down s → Down (finish s)
 down_finish s d = settled Down s down_due d
 
 pub down_state : (shard own epoch : ℕ) (log : List LogRecord) (last : ℕ) (journal : List Entry) → Down (state_after shard own epoch log last journal)
-down_state shard own epoch log last journal a b c i = absurd (both_ways _ (doubt_undecided shard log a (pair_owner log (in_doubt shard log) a b i)).0 c)
+down_state shard own epoch log last journal a b c i = absurd (both_ways _ (doubt_undecided shard log a (pair_of log (in_doubt shard log) a b i)).1 c)
 
 pub down_event : (s t : Shard) {e : Event} {o : Outcome} → Happens s e o t → Owes s e → Down s → Down t
 down_event s _ (finishes {t = x} u h) w d = down_finish x (down_step s x h w d)
@@ -129,12 +129,6 @@ pub record Lowered (splits : List ℕ) (before after : List (List LogRecord)) (h
   pub bindings : Bindings splits before after h pre
   pub down : (n : ℕ) → n < shard_count splits → Down (state_at before after n pre)
 
-pub all_at : (f : TxId → Bool) (p : TxId) (ps : List TxId) → list_all f ps ≡ true → tx_in p ps ≡ true → f p ≡ true
-all_at f p [] a i = absurd (both_ways false refl i)
-all_at f p (x ∷ xs) a i =
-    let q = and_parts (f x) (list_all f xs) a in
-    ⊎_elim (λ e. subst (λ z. f z ≡ true) (tx_true x p e) q.0) (λ k. all_at f p xs q.1 k) (or_cases (tx_same x p) (tx_in p xs) i)
-
 pub owed : (splits : List ℕ) (before after : List (List LogRecord)) (h pre : History) (e : Placed) (ev : Event) → (e.1).event ≡ ev → Next splits before after h pre e → Bindings splits before after h pre → Owes (state_at before after e.0 pre) ev
 owed splits before after h pre e (OpEvent tx birth nth seen op) q w b =
     let s = state_at before after e.0 pre in
@@ -142,7 +136,7 @@ owed splits before after h pre e (OpEvent tx birth nth seen op) q w b =
     false_from_ne_true _
     (λ c. ⊎_elim (λ k. asked_not_own splits before after h pre e tx birth nth seen op s.shard w q k) (λ k. asked_not_own splits before after h pre e tx birth nth seen op k.0 w q k.1) (((b.fated).homed e.0 w.inside).log tx c r))
 owed splits before after h pre e (Deliver (Decide to tx home true) stamp) q w b =
-    λ u p i. let s = state_at before after e.0 pre in all_at (committed_in s.local.log) p (predecessors_of s.local.pairs tx) (due_at splits before after h pre e tx to home stamp w b q u).0 (pair_in s.local.pairs tx p i)
+    λ u p i. let s = state_at before after e.0 pre in list_all_at (committed_in s.local.log) p (predecessors_of s.local.pairs tx) (due_at splits before after h pre e tx to home stamp w b q u).0 (pair_in s.local.pairs tx p i)
 owed splits before after h pre e _ q w b = tt
 
 pub lowered_next : (splits : List ℕ) (before after : List (List LogRecord)) (h pre : History) (e : Placed) → Next splits before after h pre e → Lowered splits before after h pre → Lowered splits before after h (pre ++ e ∷ [])

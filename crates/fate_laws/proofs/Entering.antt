@@ -1,6 +1,6 @@
 -- An entry keeps what a shard knows of homes, and what it sends tells it.
-use Rattle.std.proofs.Common.{◌≡◌, inl, inr, ⊎_elim, refl, subst, ℕ, zero, suc, ◌+◌, ◌≤◌, ◌<◌, true, false, cond, Bool, ◌||◌, List, [], ◌∷◌, Some, arith}
-use Rattle.std.specs.List.{AllByRecursion, list_any}
+use Rattle.std.proofs.Common.{◌≡◌, inl, inr, ⊎_elim, refl, subst, ℕ, true, false, List, Some, arith}
+use Rattle.std.specs.List.{AllByRecursion}
 use Rattle.std.specs.Prelude.{⊤, take}
 use Rattle.clv_base.specs.declared.names.TxId.{TxId}
 use Rattle.clv_base.specs.declared.logs.LogRecord.{LogRecord}
@@ -12,12 +12,13 @@ use Rattle.clv_base.specs.declared.state.RequestState.TheVariants.{Undecided, Co
 use Rattle.clv_base.specs.declared.events.Event.{Event}
 use Rattle.clv_base.specs.declared.events.Outcome.{Outcome}
 use Rattle.clv_base.specs.declared.events.Outcome.TheVariants.{Sent}
-use Rattle.clv_base.specs.Logs.{committed_in, is_commit_of, place_from}
+use Rattle.clv_base.specs.Logs.{committed_in, is_commit_of}
 use Rattle.clv_base.specs.State.{Shard}
 use Rattle.clv_base.specs.Events.{finish, put_down, with_durable}
 use Rattle.clv_base.specs.Restarts.{revived}
 use Rattle.clv_base.specs.Journals.{up_to_restart}
 use Rattle.law_base.proofs.Commits.{commit_durable, durable_parts, durable_keeps}
+use Rattle.law_base.proofs.Lists.{all_mono}
 use Rattle.protocol_laws.proofs.Growing.{grows_settled}
 use Rattle.history_laws.proofs.Stepping.{Step, sends, Happens, finishes, stops}
 use Rattle.history_laws.proofs.Entering.{Makes, by_event, by_flush, by_failure, by_restart}
@@ -25,12 +26,9 @@ use Rattle.history_laws.proofs.Durability.{Counted, framed_finish}
 use Rattle.fate_laws.proofs.Inside.{inside_self, inside_step}
 use Rattle.fate_laws.proofs.Homes.{Dead, Tells, Alone, Opens, Homed, words_on, Starts, homed_finish}
 use Rattle.fate_laws.proofs.HomesEvents.{Owes, homed_step, homed_revived}
+use Rattle.shard_laws.proofs.Cutting.{taken_there}
 
 -- ---- more is known
-
-all_mono : {X : Type 0} (P Q : X → Type 0) → ((x : X) → P x → Q x) → (xs : List X) → AllByRecursion P xs → AllByRecursion Q xs
-all_mono P Q k [] a = tt
-all_mono P Q k (x ∷ xs) a = (k x a.0, all_mono P Q k xs a.1)
 
 tells_mono : (run : ℕ) (A A' Z Z' : TxId → ℕ → Type 0) (K K' : ℕ → TxId → Type 0) (s : Shard) (m : Message) → ((u : TxId) (n : ℕ) → A u n → A' u n) → ((u : TxId) (n : ℕ) → Z u n → Z' u n) → ((n : ℕ) (u : TxId) → K n u → K' n u)
     → Tells run A Z K s m → Tells run A' Z' K' s m
@@ -67,29 +65,8 @@ homed_mono run A A' Z Z' K K' D D' s a z k d p =
 
 -- ---- what is durable stands in the front
 
-pub front_place : (n d : ℕ) (test : LogRecord → Bool) (log : List LogRecord) (k : ℕ) → place_from n test log ≡ Some k → k < n + d → list_any test (take d log) ≡ true
-front_place n d test [] k e l = absurd cc
-front_place n zero test (x ∷ xs) k e l = absurd (at (test x) e (below (suc n) test xs k))
-  where
-    below : (n : ℕ) (test : LogRecord → Bool) (xs : List LogRecord) (k : ℕ) → place_from n test xs ≡ Some k → n ≤ k
-    below n test [] k e = absurd cc
-    below n test (y ∷ ys) k e = by_test (test y) e (below (suc n) test ys k)
-      where
-        by_test : (b : Bool) → cond b (Some n) (place_from (suc n) test ys) ≡ Some k → (place_from (suc n) test ys ≡ Some k → suc n ≤ k) → n ≤ k
-        by_test true e ih = let q : n ≡ k = cc in omega (arith, q)
-        by_test false e ih = let m = ih e in omega (arith, m)
-
-    at : (b : Bool) → cond b (Some n) (place_from (suc n) test xs) ≡ Some k → (place_from (suc n) test xs ≡ Some k → suc n ≤ k) → ⊥
-    at true e f = let q : n ≡ k = cc in omega (arith, q, l)
-    at false e f = let m = f e in omega (arith, m, l)
-front_place n (suc d) test (x ∷ xs) k e l = at (test x) e (front_place (suc n) d test xs k)
-  where
-    at : (b : Bool) → cond b (Some n) (place_from (suc n) test xs) ≡ Some k → (place_from (suc n) test xs ≡ Some k → k < suc n + d → list_any test (take d xs) ≡ true) → (b || list_any test (take d xs)) ≡ true
-    at true e f = refl
-    at false e f = f e (omega (arith, l))
-
 pub durable_front : (log : List LogRecord) (d : ℕ) (tx : TxId) → commit_durable log d tx ≡ true → committed_in (take d log) tx ≡ true
-durable_front log d tx h = let p = durable_parts log d tx h in front_place 0 d (is_commit_of tx) log p.0 p.1 (let l = p.2 in omega (arith, l))
+durable_front log d tx h = let p = durable_parts log d tx h in taken_there 0 d (is_commit_of tx) log p.0 p.1 (let l = p.2 in omega (arith, l))
 
 -- ---- one entry
 

@@ -1,8 +1,8 @@
 -- What is known after each entry of a legal history: of homes, and of what was told.
-use Rattle.std.proofs.Common.{◌≡◌, inl, inr, ⊎_elim, refl, sym, subst, ◌∙◌, ℕ, ◌+◌, ◌<◌, true, false, Bool, List, [], ◌∷◌, ◌++◌, Option, Some, None, is_none, length, arith, ◌==◌, eqb-true}
+use Rattle.std.proofs.Common.{◌≡◌, inl, inr, ⊎_elim, refl, sym, subst, ◌∙◌, ℕ, ◌+◌, ◌<◌, true, false, Bool, List, [], ◌∷◌, ◌++◌, is_none, length, arith, ◌==◌, eqb-true}
 use Rattle.std.specs.Prelude.{⊤}
 use Rattle.std.specs.List.{list_all}
-use Rattle.std.proofs.lemmas.Bool.{both_ways, and_parts, false_from_ne_true}
+use Rattle.std.proofs.lemmas.Bool.{and_parts, false_from_ne_true}
 use Rattle.history_laws.proofs.Telling.{IsRequest}
 use Rattle.clv_base.specs.declared.names.TxId.{TxId}
 use Rattle.clv_base.specs.declared.logs.LogRecord.{LogRecord}
@@ -37,6 +37,7 @@ use Rattle.fate_laws.proofs.Homes.{Known, Dead, Tells, Alone, Homed, words_on, M
 use Rattle.fate_laws.proofs.HomesEvents.{Fresh, Owes, homed_opened}
 use Rattle.fate_laws.proofs.Entering.{Enters, ToldDead, SaysOut, homed_mono, durable_front, homed_made, says_made}
 use Rattle.fate_laws.proofs.Prefixes.{Next, walk, each_shard, stays_as_it_was, AskedIn, asked_later, one_home, first_request, DurableIn, Counts, counts_start, counts_next, durable_later}
+use Rattle.file_laws.proofs.Found.{none_of}
 
 -- ---- what a message that was sent tells
 
@@ -215,10 +216,6 @@ fated_next splits before after h pre e w f =
 
 -- ---- the whole history
 
-none_of : {X : Type 0} (o : Option X) → is_none o ≡ true → o ≡ None
-none_of None e = refl
-none_of (Some x) e = absurd (both_ways false refl e)
-
 -- no log that may be opened has a PREPARE of the run that opens it
 pub none_prepared : (splits : List ℕ) (before : List (List LogRecord)) (n : ℕ) (t : TxId) → may_open splits before ≡ true → n < length before → prepared_in (log_of before n) t ≡ true → t.run ≡ run_after before → ⊥
 none_prepared splits before n t m l c r =
@@ -241,3 +238,9 @@ fated_start splits before after h m l =
 
 pub fated : (splits : List ℕ) (before after : List (List LogRecord)) (h : History) → may_open splits before ≡ true → Legal splits before h after → Fated splits before after h
 fated splits before after h m l = walk (Fated splits before after) splits before after h [] h l refl (fated_next splits before after h) (fated_start splits before after h m l)
+
+-- who is committed on a shard asked, and is committed where it asked
+pub committed_asked : (splits : List ℕ) (before after : List (List LogRecord)) (h pre : History) (n : ℕ) (tx : TxId) → n < shard_count splits → Fated splits before after pre → tx.run ≡ run_after before → committed_in (state_at before after n pre).local.log tx ≡ true
+    → (k : ℕ) × AskedIn pre tx k × (committed_in (state_at before after k pre).local.log tx ≡ true)
+committed_asked splits before after h pre n tx i f r c =
+    ⊎_elim (λ a. (n, subst (AskedIn pre tx) ((f.counts).shard n i) a, c)) (λ z. (z.0, z.1, front_committed (state_at before after z.0 pre).durable (state_at before after z.0 pre).local.log tx z.2)) ((f.homed n i).log tx c r)

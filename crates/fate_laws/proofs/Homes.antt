@@ -139,7 +139,7 @@ homed_same run A Z K D s l e p =
     homed_log run A Z K D s l (λ t h. subst (λ x. committed_in x t ≡ true) e h) (λ t q h. subst (λ x. prepare_of x t ≡ Some q) e h) p
 
 -- a COMMIT is written: of one that has no request here that may yet come to one, and of which no abort is told
-new_commit : (log : List LogRecord) (tx : TxId) (parts : List ℕ) (u : TxId) → committed_in (log ++ Commit tx parts ∷ []) u ≡ true → (committed_in log u ≡ true) ⊎ (u ≡ tx)
+pub new_commit : (log : List LogRecord) (tx : TxId) (parts : List ℕ) (u : TxId) → committed_in (log ++ Commit tx parts ∷ []) u ≡ true → (committed_in log u ≡ true) ⊎ (u ≡ tx)
 new_commit log tx parts u c =
     ⊎_elim (λ a. inl a) (λ b. ⊎_elim (λ e. inr (tx_true u tx e)) (λ e. absurd (both_ways false refl e)) (or_cases (tx_same u tx) false b))
     (or_cases (committed_in log u) (committed_in (Commit tx parts ∷ []) u) (sym (committed_append log (Commit tx parts ∷ []) u) ∙ c))

@@ -34,15 +34,20 @@ use Rattle.law_base.proofs.Changed.{none_some, some_same}
 use Rattle.law_base.proofs.Rows.{rows_get, rows_put}
 use Rattle.law_base.proofs.Tables.{get_put}
 use Rattle.law_base.proofs.Commits.{commit_durable, place_some}
+use Rattle.law_base.proofs.Lists.{all_mono}
 use Rattle.shard_laws.proofs.Sound.{waiting_here}
+use Rattle.shard_laws.proofs.Ordered.{prepare_some}
 use Rattle.protocol_laws.proofs.Sets.{in_filter}
 use Rattle.history_laws.proofs.Stepping.{Step, op_dies, op_answers, request_refused, request_doomed, request_again, request_new, request_closes, looks_well, looks_ill, drops, sends, prepare_closes, prepare_again, vote_counts, decision_comes, decision_again, done_counts, asked, reminds, flushes}
 use Rattle.history_laws.proofs.Uncommitting.{with_more, rolled, dropped, op_dying, op_answering, restarts_add, opening_adds}
 use Rattle.history_laws.proofs.Telling.{all_append, all_map}
 use Rattle.history_laws.proofs.TellingEvents.{front_committed}
-use Rattle.fate_laws.proofs.Prepares.{prepare_new, there_prepare, prepare_there, front_prepare, opening_adds as opening_prepares, rolled as rolled_prepares, dropped as dropped_prepares, op_dying as dying_prepares, op_answering as answering_prepares, restarts_add as restarts_prepare}
-use Rattle.fate_laws.proofs.Restored.{all_in, doubt_prepared, unended_committed, restored_committed}
+use Rattle.fate_laws.proofs.Prepares.{prepare_new, front_prepare, opening_adds as opening_prepares, rolled as rolled_prepares, dropped as dropped_prepares, op_dying as dying_prepares, op_answering as answering_prepares, restarts_add as restarts_prepare}
+use Rattle.fate_laws.proofs.Restored.{unended_committed, restored_committed}
 use Rattle.fate_laws.proofs.Homes.{Known, Tells, Alone, Opens, Homed, tells_on, words_on, MayCommit, homed_log, homed_same, homed_commit, homed_send, homed_set, durable_known, alone_log, still_not, open_undecided, open_committed}
+use Rattle.file_laws.proofs.Doubts.{doubt_prepared}
+use Rattle.file_laws.proofs.Rows.{all_in, all_rows}
+use Rattle.order_laws.proofs.Records.{prepared_there}
 
 -- ---- what is owed
 
@@ -197,7 +202,7 @@ homed_decided run A Z K D s tx home stamp false za g o p = homed_log run A Z K D
 
 -- ---- questions
 
-none_committed : (s : Shard) (tx : TxId) → is_some (commit_lsn s.local.log tx) ≡ false → committed_in s.local.log tx ≡ false
+pub none_committed : (s : Shard) (tx : TxId) → is_some (commit_lsn s.local.log tx) ≡ false → committed_in s.local.log tx ≡ false
 none_committed s tx e = false_from_ne_true _ (λ c. at (commit_lsn s.local.log tx) refl c e)
   where
     at : (o : Option ℕ) → commit_lsn s.local.log tx ≡ o → committed_in s.local.log tx ≡ true → is_some o ≡ false → ⊥
@@ -216,14 +221,6 @@ answer_told run A Z K s tx from false false false e f g k z = ((λ r. (refl, z r
 each_told : (run : ℕ) (A Z : TxId → ℕ → Type 0) (K : ℕ → TxId → Type 0) (s : Shard) (f : TxId → Request → List Message) (rs : Table Request) → AllByRecursion (λ r. AllByRecursion (Tells run A Z K s) (f r.0 r.1)) rs → AllByRecursion (Tells run A Z K s) (each_request f rs)
 each_told run A Z K s f [] a = tt
 each_told run A Z K s f (r ∷ rs) a = all_append _ (f r.0 r.1) _ a.0 (each_told run A Z K s f rs a.1)
-
-all_mono : {X : Type 0} (P Q : X → Type 0) → ((x : X) → P x → Q x) → (xs : List X) → AllByRecursion P xs → AllByRecursion Q xs
-all_mono P Q k [] a = tt
-all_mono P Q k (x ∷ xs) a = (k x a.0, all_mono P Q k xs a.1)
-
-all_rows : {X : Type 0} (P : X → Type 0) → ((x : X) → P x) → (xs : List X) → AllByRecursion P xs
-all_rows P k [] = tt
-all_rows P k (x ∷ xs) = (k x, all_rows P k xs)
 
 missing_told : (run : ℕ) (A Z : TxId → ℕ → Type 0) (K : ℕ → TxId → Type 0) (s : Shard) (tx : TxId) (q : Request) (st : RequestState) → (tx.run ≡ run → Opens A s.shard tx st) → AllByRecursion (Tells run A Z K s) (missing_votes s.shard tx q st)
 missing_told run A Z K s tx q Undecided k = all_map _ (prepare_for s.shard tx) (filter (λ t. not (t.0 == s.shard) && not (is_some (vote_from t.0 q.votes))) q.touched) (λ t. k)
@@ -321,7 +318,7 @@ rows_prepared : (run : ℕ) (A : TxId → ℕ → Type 0) (log : List LogRecord)
     → AllByRecursion (λ r. (r.0).run ≡ run → A r.0 (r.1).home) (restored_voters (homes_of log ts))
 rows_prepared run A log [] k a = tt
 rows_prepared run A log (t ∷ ts) k a =
-    ((λ r. let q = there_prepare log t a.0 in subst (λ o. A t (home_by o)) (sym q.1) (k t q.0 q.1 r)), rows_prepared run A log ts k a.1)
+    ((λ r. let q = prepare_some log t a.0 in subst (λ o. A t (home_by o)) (sym q.1) (k t q.0 q.1 r)), rows_prepared run A log ts k a.1)
 
 over_restored : (log : List LogRecord) (tx : TxId) → committed_in log tx ≡ false → stands_open (tx_get tx (restored_requests (unended_in log log))) ≡ false
 over_restored log tx n = at (tx_get tx (restored_requests (unended_in log log))) refl
@@ -353,7 +350,7 @@ pub homed_opened : (run : ℕ) (A Z : TxId → ℕ → Type 0) (K : ℕ → TxId
     → Homed run A Z K (λ tx. ⊥) (opened shard run log)
 homed_opened run A Z K shard log c f =
     let after = log_after_restart shard log run 0 in
-    let g : (u : TxId) (x : ℕ × List TxId) → prepare_of after u ≡ Some x → u.run ≡ run → A u x.0 = λ u x h r. absurd (f u (prepare_there log u x (opening_prepares shard log run 0 u x h)) r) in
+    let g : (u : TxId) (x : ℕ × List TxId) → prepare_of after u ≡ Some x → u.run ≡ run → A u x.0 = λ u x h r. absurd (f u (prepared_there log u x (opening_prepares shard log run 0 u x h)) r) in
     record {
       log = λ u h r. absurd (c u (opening_adds shard log run 0 u h) r);
       prepares = g;

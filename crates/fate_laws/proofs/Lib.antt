@@ -23,3 +23,8 @@ pub mod Dooming
 pub mod DoomingEvents
 pub mod Sparing
 pub mod Voting
+pub mod HomesFound
+pub mod RecordKinds
+pub mod VotesHeld
+pub mod Rulings
+pub mod Writing

@@ -1,26 +1,28 @@
 -- What logs that may be opened say of a transaction that is committed in one of them: on each shard it is committed, or all that its PREPARE
 -- lists are committed.
-use Rattle.std.proofs.Common.{◌≡◌, ◌⊎◌, inl, inr, ⊎_elim, refl, sym, ap, subst, ◌∙◌, ℕ, zero, suc, ◌+◌, ◌<◌, true, false, cond, Bool, not, ◌||◌, ◌==◌, List, [], ◌∷◌, ◌++◌, Option, Some, None, is_none, length, arith, append_assoc, append-nil, eqb-true}
+use Rattle.std.proofs.Common.{◌≡◌, ◌⊎◌, inl, inr, ⊎_elim, refl, sym, ap, subst, ◌∙◌, ℕ, suc, ◌+◌, ◌<◌, true, false, Bool, ◌||◌, ◌==◌, List, [], ◌∷◌, ◌++◌, Option, Some, None, length, arith, append_assoc, append-nil, eqb-true}
 use Rattle.std.specs.Prelude.{take}
 use Rattle.std.specs.List.{list_any, list_all}
-use Rattle.std.proofs.lemmas.Bool.{both_ways, and_parts, not-true, or_cases, or_left, or_right}
+use Rattle.std.proofs.lemmas.Bool.{both_ways, and_parts, not-true, or_cases, or_right}
 use Rattle.std.proofs.lemmas.List.{take-append-le, take_all}
 use Rattle.clv_base.specs.declared.names.TxId.{TxId}
 use Rattle.clv_base.specs.declared.logs.LogRecord.{LogRecord}
 use Rattle.clv_base.specs.declared.logs.LogRecord.TheVariants.{Update, Clr, Prepare, Commit, Abort, End, Restart}
-use Rattle.clv_base.specs.Orders.{tx_same, tx_in, tx_insert, tx_union, nat_in}
-use Rattle.clv_base.specs.Logs.{is_record_of, committed_in, prepared_in, aborted_in, wrote_in, prepare_of, is_prepare_of, is_update_of, commit_parts}
-use Rattle.clv_base.specs.LogRules.{since_restart, may_follow, disorder_from, disorder, log_of, all_logs_from, any_log_from, home_is, part_agrees, agrees_at, is_home_of, committed_of, committed_of_all, first_apart, apart, listed_in}
-use Rattle.clv_base.specs.FileRules.{may_open, log_passes, passes_file_rules}
-use Rattle.clv_base.proofs.SameNames.{tx_true, insert_keeps, insert_has}
+use Rattle.clv_base.specs.Orders.{tx_in}
+use Rattle.clv_base.specs.Logs.{committed_in, prepared_in, aborted_in, wrote_in, prepare_of, is_prepare_of, is_update_of, commit_parts}
+use Rattle.clv_base.specs.LogRules.{since_restart, may_follow, disorder_from, log_of, home_is, part_agrees, agrees_at, listed_in}
+use Rattle.clv_base.specs.FileRules.{may_open}
+use Rattle.clv_base.proofs.SameNames.{tx_true}
 use Rattle.law_base.proofs.Commits.{place_there, place_new}
 use Rattle.law_base.proofs.Changed.{some_same}
-use Rattle.order_laws.proofs.Records.{front, last}
+use Rattle.order_laws.proofs.Records.{front, last, committed_there, prepared_there}
 use Rattle.protocol_laws.proofs.Growing.{more}
-use Rattle.history_laws.proofs.OldRuns.{each_passes}
-use Rattle.fate_laws.proofs.Prepares.{prepare_there}
 use Rattle.fate_laws.proofs.Binding.{Ordered}
 use Rattle.fate_laws.proofs.Parts.{longer_ordered}
+use Rattle.fate_laws.proofs.HomesFound.{part_agreed, home_of}
+use Rattle.fate_laws.proofs.RecordKinds.{prepare_is}
+use Rattle.file_laws.proofs.Found.{found_in_order}
+use Rattle.shard_laws.proofs.Dooming.{list_all_at}
 
 -- ---- a log in order has each PREPARE behind a write of its transaction
 
@@ -79,132 +81,26 @@ ordered_from shard n log (r ∷ rs) d o =
     let p = order_case shard n log r rs (may_follow shard log r) refl d in
     subst Ordered (append_assoc log (r ∷ []) rs) (ordered_from shard (suc n) (log ++ r ∷ []) rs p.1 (ordered_push shard log r o p.0))
 
-none_of : {X : Type 0} (o : Option X) → is_none o ≡ true → o ≡ None
-none_of None e = refl
-none_of (Some x) e = absurd (both_ways false refl e)
-
 none_there : Ordered []
 none_there t k e = absurd cc
 
 pub ordered_opening : (splits : List ℕ) (logs : List (List LogRecord)) (n : ℕ) → may_open splits logs ≡ true → n < length logs → Ordered (log_of logs n)
-ordered_opening splits logs n m l =
-    let p = and_parts (all_logs_from 0 (log_passes splits) logs) (is_none (apart logs)) m in
-    let q = each_passes (log_passes splits) 0 n logs p.0 l in
-    let d = none_of (disorder (0 + n) (log_of logs n)) (and_parts (list_all (passes_file_rules splits (0 + n)) (log_of logs n)) _ q).1 in
-    ordered_from (0 + n) 0 [] (log_of logs n) d none_there
-
--- ---- the committed have a home
-
-in_committed : (log : List LogRecord) (t : TxId) → committed_in log t ≡ true → tx_in t (committed_of log) ≡ true
-in_committed [] t c = absurd (both_ways false refl c)
-in_committed (Commit tx parts ∷ rs) t c =
-    ⊎_elim (λ e. subst (λ z. tx_in z (tx_insert tx (committed_of rs)) ≡ true) (sym (tx_true t tx e)) (insert_has tx (committed_of rs))) (λ h. insert_keeps tx t (committed_of rs) (in_committed rs t h)) (or_cases (tx_same t tx) (committed_in rs t) c)
-in_committed (Update tx a b d ∷ rs) t c = in_committed rs t c
-in_committed (Clr tx a b d ∷ rs) t c = in_committed rs t c
-in_committed (Prepare tx a b ∷ rs) t c = in_committed rs t c
-in_committed (Abort tx ∷ rs) t c = in_committed rs t c
-in_committed (End tx ∷ rs) t c = in_committed rs t c
-in_committed (Restart run epoch ∷ rs) t c = in_committed rs t c
-
-union_left : (xs ys : List TxId) (t : TxId) → tx_in t xs ≡ true → tx_in t (tx_union xs ys) ≡ true
-union_left [] ys t i = absurd (both_ways false refl i)
-union_left (x ∷ xs) ys t i =
-    ⊎_elim (λ e. subst (λ z. tx_in z (tx_insert x (tx_union xs ys)) ≡ true) (tx_true x t e) (insert_has x (tx_union xs ys))) (λ h. insert_keeps x t (tx_union xs ys) (union_left xs ys t h)) (or_cases (tx_same x t) (tx_in t xs) i)
-
-union_right : (xs ys : List TxId) (t : TxId) → tx_in t ys ≡ true → tx_in t (tx_union xs ys) ≡ true
-union_right [] ys t i = i
-union_right (x ∷ xs) ys t i = insert_keeps x t (tx_union xs ys) (union_right xs ys t i)
-
-in_committed_all : (logs : List (List LogRecord)) (n : ℕ) (t : TxId) → committed_in (log_of logs n) t ≡ true → tx_in t (committed_of_all logs) ≡ true
-in_committed_all [] n t c = absurd (both_ways false refl c)
-in_committed_all (log ∷ logs) zero t c = union_left (committed_of log) (committed_of_all logs) t (in_committed log t c)
-in_committed_all (log ∷ logs) (suc n) t c = union_right (committed_of log) (committed_of_all logs) t (in_committed_all logs n t c)
-
-has_home : (logs : List (List LogRecord)) (txs : List TxId) (t : TxId) → first_apart logs txs ≡ None → tx_in t txs ≡ true → any_log_from 0 (is_home_of logs t) logs ≡ true
-has_home logs [] t f i = absurd (both_ways false refl i)
-has_home logs (x ∷ xs) t f i = at (any_log_from 0 (is_home_of logs x) logs) refl f (has_home logs xs t)
-  where
-    at : (b : Bool) → any_log_from 0 (is_home_of logs x) logs ≡ b → ◌≡◌ {A = Option TxId} (elim b [ true ↦ first_apart logs xs | false ↦ Some x ]) None
-        → (first_apart logs xs ≡ None → tx_in t xs ≡ true → any_log_from 0 (is_home_of logs t) logs ≡ true) → any_log_from 0 (is_home_of logs t) logs ≡ true
-    at true e g k = ⊎_elim (λ q. subst (λ z. any_log_from 0 (is_home_of logs z) logs ≡ true) (tx_true x t q) e) (λ q. k g q) (or_cases (tx_same x t) (tx_in t xs) i)
-    at false e g k = absurd cc
-
-which_log : (n : ℕ) (test : ℕ → List LogRecord → Bool) (logs : List (List LogRecord)) → any_log_from n test logs ≡ true → (i : ℕ) × (test (n + i) (log_of logs i) ≡ true)
-which_log n test [] a = absurd (both_ways false refl a)
-which_log n test (log ∷ logs) a =
-    ⊎_elim (λ h. (0, subst (λ k. test k log ≡ true) (omega arith) h)) (λ h. let r = which_log (suc n) test logs h in (suc r.0, subst (λ k. test k (log_of logs r.0) ≡ true) (omega arith) r.1)) (or_cases (test n log) (any_log_from (suc n) test logs) a)
+ordered_opening splits logs n m l = ordered_from n 0 [] (log_of logs n) (found_in_order splits logs n m l) none_there
 
 -- ---- the parts of a home
-
-parts_committed : (log : List LogRecord) (t : TxId) (ps : List ℕ) → commit_parts log t ≡ Some ps → committed_in log t ≡ true
-parts_committed [] t ps e = absurd cc
-parts_committed (Commit tx qs ∷ rs) t ps e = at (tx_same t tx) e (parts_committed rs t ps)
-  where
-    at : (b : Bool) → cond b (Some qs) (commit_parts rs t) ≡ Some ps → (commit_parts rs t ≡ Some ps → committed_in rs t ≡ true) → (b || committed_in rs t) ≡ true
-    at true e k = refl
-    at false e k = k e
-parts_committed (Update tx a b d ∷ rs) t ps e = parts_committed rs t ps e
-parts_committed (Clr tx a b d ∷ rs) t ps e = parts_committed rs t ps e
-parts_committed (Prepare tx a b ∷ rs) t ps e = parts_committed rs t ps e
-parts_committed (Abort tx ∷ rs) t ps e = parts_committed rs t ps e
-parts_committed (End tx ∷ rs) t ps e = parts_committed rs t ps e
-parts_committed (Restart run epoch ∷ rs) t ps e = parts_committed rs t ps e
-
-has_record : (log : List LogRecord) (t : TxId) → prepared_in log t ≡ true → list_any (is_record_of t) log ≡ true
-has_record [] t p = absurd (both_ways false refl p)
-has_record (Prepare tx a b ∷ rs) t p = ⊎_elim (λ h. or_left (tx_same t tx) _ h) (λ h. or_right (tx_same t tx) _ (has_record rs t h)) (or_cases (tx_same t tx) (prepared_in rs t) p)
-has_record (Update tx a b d ∷ rs) t p = or_right (tx_same t tx) _ (has_record rs t p)
-has_record (Clr tx a b d ∷ rs) t p = or_right (tx_same t tx) _ (has_record rs t p)
-has_record (Commit tx a ∷ rs) t p = or_right (tx_same t tx) _ (has_record rs t p)
-has_record (Abort tx ∷ rs) t p = or_right (tx_same t tx) _ (has_record rs t p)
-has_record (End tx ∷ rs) t p = or_right (tx_same t tx) _ (has_record rs t p)
-has_record (Restart run epoch ∷ rs) t p = has_record rs t p
-
-nat_at : (f : ℕ → Bool) (n : ℕ) (ns : List ℕ) → list_all f ns ≡ true → nat_in n ns ≡ true → f n ≡ true
-nat_at f n [] a i = absurd (both_ways false refl i)
-nat_at f n (m ∷ ms) a i =
-    let p = and_parts (f m) (list_all f ms) a in ⊎_elim (λ e. subst (λ z. f z ≡ true) (sym (eqb-true n m e)) p.0) (λ h. nat_at f n ms p.1 h) (or_cases (n == m) (nat_in n ms) i)
-
-tx_at : (f : TxId → Bool) (t : TxId) (ts : List TxId) → list_all f ts ≡ true → tx_in t ts ≡ true → f t ≡ true
-tx_at f t [] a i = absurd (both_ways false refl i)
-tx_at f t (x ∷ xs) a i =
-    let p = and_parts (f x) (list_all f xs) a in ⊎_elim (λ e. subst (λ z. f z ≡ true) (tx_true x t e) p.0) (λ h. tx_at f t xs p.1 h) (or_cases (tx_same x t) (tx_in t xs) i)
 
 abbrev Settled : List LogRecord → TxId → ℕ × List TxId → Type 0
 Settled log t p = (committed_in log t ≡ true) ⊎ ((q : TxId) → tx_in q p.1 ≡ true → committed_in log q ≡ true)
 
 part_settled : (t : TxId) (h : ℕ) (log : List LogRecord) (p : ℕ × List TxId) → part_agrees t h log ≡ true → prepare_of log t ≡ Some p → Settled log t p
-part_settled t h log p a e = inr (λ q i. tx_at (committed_in log) q (listed_in log t) (and_parts _ (list_all (committed_in log) (listed_in log t)) a).1 (subst (λ o. tx_in q (elim o [ Some x ↦ x.1 | None ↦ [] ]) ≡ true) (sym e) i))
+part_settled t h log p a e = inr (λ q i. list_all_at (committed_in log) q (listed_in log t) (and_parts _ (list_all (committed_in log) (listed_in log t)) a).1 (subst (λ o. tx_in q (elim o [ Some x ↦ x.1 | None ↦ [] ]) ≡ true) (sym e) i))
 
 -- a PREPARE on another shard is of a part
 part_of_home : (logs : List (List LogRecord)) (t : TxId) (h m : ℕ) (ps : List ℕ) (p : ℕ × List TxId) → m < length logs → agrees_at logs t h (log_of logs h) ps ≡ true → prepare_of (log_of logs m) t ≡ Some p → (m == h) ≡ false
     → part_agrees t h (log_of logs m) ≡ true
-part_of_home logs t h m ps p l a e q =
-    let x = and_parts _ _ a in
-    let y = and_parts _ _ x.0 in
-    let z = and_parts _ _ y.0 in
-    let w = each_passes (λ s other. (s == h) || not (list_any (is_record_of t) other) || nat_in s ps) 0 m logs z.1 l in
-    let v = subst (λ k. ((k == h) || not (list_any (is_record_of t) (log_of logs m)) || nat_in k ps) ≡ true) (zero_plus m) w in
-    nat_at (λ s. part_agrees t h (log_of logs s)) m ps y.1 (named (m == h) (list_any (is_record_of t) (log_of logs m)) (nat_in m ps) q (has_record (log_of logs m) t (prepare_there (log_of logs m) t p e)) v)
-  where
-    zero_plus : (m : ℕ) → 0 + m ≡ m
-    zero_plus m = omega arith
-
-    named : (a b c : Bool) → a ≡ false → b ≡ true → (a || not b || c) ≡ true → c ≡ true
-    named true b c n i v = absurd (both_ways true n refl)
-    named false true c n i v = v
-    named false false c n i v = absurd (both_ways false refl i)
+part_of_home logs t h m ps p l a e q = part_agreed logs t h m ps l a q (prepare_is (log_of logs m) t (prepared_there (log_of logs m) t p e))
 
 -- ---- the home of one that is committed somewhere, and the parts with a PREPARE
-
-home_at : (splits : List ℕ) (logs : List (List LogRecord)) (t : TxId) (n : ℕ) → may_open splits logs ≡ true → committed_in (log_of logs n) t ≡ true → (h : ℕ) × (is_home_of logs t h (log_of logs h) ≡ true)
-home_at splits logs t n o c =
-    let d = none_of (apart logs) (and_parts (all_logs_from 0 (log_passes splits) logs) (is_none (apart logs)) o).1 in
-    let a = which_log 0 (is_home_of logs t) logs (has_home logs (committed_of_all logs) t d (in_committed_all logs n t c)) in
-    (a.0, subst (λ k. is_home_of logs t k (log_of logs a.0) ≡ true) (zero_plus a.0) a.1)
-  where
-    zero_plus : (m : ℕ) → 0 + m ≡ m
-    zero_plus m = omega arith
 
 named_home : (h : ℕ) (o : Option (ℕ × List TxId)) (p : ℕ × List TxId) → home_is h o ≡ true → o ≡ Some p → p.0 ≡ h
 named_home h None p a e = absurd cc
@@ -230,14 +126,14 @@ by_home logs t h m p None l c a e = absurd (both_ways false refl a)
 by_home logs t h m p (Some ps) l c a e = at (m == h) refl
   where
     there : committed_in (log_of logs h) t ≡ true
-    there = parts_committed (log_of logs h) t ps c
+    there = committed_there (log_of logs h) t ps c
 
     at : (b : Bool) → (m == h) ≡ b → PartOf logs t m p
     at true q = let z = eqb-true m h q in (h, there, home_names logs t h ps p a (subst (λ k. prepare_of (log_of logs k) t ≡ Some p) z e), inl z)
     at false q = let z = part_of_home logs t h m ps p l a e q in (h, there, part_names t h (log_of logs m) p z e, inr z)
 
 part_of : (splits : List ℕ) (logs : List (List LogRecord)) (t : TxId) (n m : ℕ) (p : ℕ × List TxId) → may_open splits logs ≡ true → committed_in (log_of logs n) t ≡ true → m < length logs → prepare_of (log_of logs m) t ≡ Some p → PartOf logs t m p
-part_of splits logs t n m p o c l e = let a = home_at splits logs t n o c in by_home logs t a.0 m p (commit_parts (log_of logs a.0) t) l refl a.1 e
+part_of splits logs t n m p o c l e = let a = home_of splits logs n t o c in by_home logs t a.0 m p (commit_parts (log_of logs a.0) t) l refl a.1 e
 
 pub opening_settled : (splits : List ℕ) (logs : List (List LogRecord)) (t : TxId) (n m : ℕ) (p : ℕ × List TxId) → may_open splits logs ≡ true → committed_in (log_of logs n) t ≡ true → m < length logs → prepare_of (log_of logs m) t ≡ Some p
     → Settled (log_of logs m) t p

@@ -2,10 +2,6 @@
 use Rattle.std.proofs.Common.{◌≡◌, ◌⊎◌, inl, inr, ⊎_elim, refl, sym, ap, subst, ◌∙◌, ℕ, ◌+◌, ◌≤◌, true, false, cond, Bool, not, ◌&&◌, ◌==◌, List, [], ◌∷◌, ◌++◌, Option, Some, None, length, arith, eqb-true, length-append}
 use Rattle.std.specs.Prelude.{⊤, take}
 use Rattle.std.specs.List.{AllByRecursion, list_all, filter}
-use Rattle.std.specs.BTreeMap.{insert_entry}
-use Rattle.std.specs.Ordering.{nat_cmp, match_ordering, is_eq}
-use Rattle.std.specs.declared.cmp.Ordering.{Ordering}
-use Rattle.std.specs.declared.cmp.Ordering.TheVariants.{Less, Equal, Greater}
 use Rattle.std.proofs.lemmas.Bool.{both_ways, and_parts, or_cases, or_left, or_right, eq-eqb, false_from_ne_true}
 use Rattle.std.proofs.lemmas.List.{take-append-le, take_all}
 use Rattle.clv_base.specs.declared.names.TxId.{TxId}
@@ -29,19 +25,21 @@ use Rattle.clv_base.specs.State.{Shard}
 use Rattle.clv_base.specs.Undo.{stage_of}
 use Rattle.clv_base.specs.Facts.{undecided_of, predecessors_of, is_waiting}
 use Rattle.clv_base.specs.Coordinator.{others, vote_from, is_good, is_agreed, refused_ruling, refusal, end_ruling, undecided_ruling, ruling_in, ruling_by}
-use Rattle.clv_base.proofs.SameNames.{nat_cmp_true}
 use Rattle.law_base.proofs.Changed.{none_some, some_same}
 use Rattle.law_base.proofs.Commits.{commit_durable, durable_keeps, place_keeps, place_some, place_less, place_there, place_new}
 use Rattle.law_base.proofs.Tables.{is_pair, in_pair}
+use Rattle.law_base.proofs.Lists.{all_mono}
 use Rattle.shard_laws.proofs.Prepared.{prepare_here}
+use Rattle.shard_laws.proofs.Ordered.{prepare_some}
 use Rattle.clv_base.proofs.SameNames.{tx_self}
 use Rattle.protocol_laws.specs.Growth.{IsPrefixOf}
 use Rattle.protocol_laws.proofs.Sets.{in_filter}
 use Rattle.fate_laws.proofs.Inside.{Inside}
-use Rattle.fate_laws.proofs.Prepares.{prepare_there, there_prepare}
 use Rattle.fate_laws.proofs.Calm.{Calm}
 use Rattle.fate_laws.proofs.Closings.{ClosedNow}
 use Rattle.fate_laws.proofs.Binding.{Bound, Reads, bound_calm, reads_calm, Ordered, Listed}
+use Rattle.fate_laws.proofs.VotesHeld.{votes_get}
+use Rattle.order_laws.proofs.Records.{prepared_there}
 
 -- ---- what is known. W: whose request was taken, where, naming which shards; S: who asked so far; F: whose part on a shard is bound, or has read
 
@@ -104,8 +102,8 @@ base_next run W s t i prep clo keep act b =
     record {
       counted = let l = grown_length s.local.log t.local.log i.log in let d = i.durable in omega (arith, l, d, b.counted);
       ordered = λ tx k h.
-          let x = there_prepare t.local.log tx (place_there 0 (is_prepare_of tx) t.local.log k h) in
-          ⊎_elim (λ e. longer_ordered s.local.log t.local.log tx k i.log b.ordered (prepare_there s.local.log tx x.0 e) h) (λ c. new_ordered s t tx k c (b.unprepared tx c.was) h) (prep tx x.0 x.1);
+          let x = prepare_some t.local.log tx (place_there 0 (is_prepare_of tx) t.local.log k h) in
+          ⊎_elim (λ e. longer_ordered s.local.log t.local.log tx k i.log b.ordered (prepared_there s.local.log tx x.0 e) h) (λ c. new_ordered s t tx k c (b.unprepared tx c.was) h) (prep tx x.0 x.1);
       listed = λ tx p q c h m.
           ⊎_elim
           (λ e. ⊎_elim
@@ -113,17 +111,17 @@ base_next run W s t i prep clo keep act b =
           (λ d. inl (grown_durable s t q i d))
           (λ r. inr (keep tx q c r))
           (b.listed tx p q st e m))
-          (λ st. absurd (both_ways _ (b.unprepared tx st.0) (prepare_there s.local.log tx p e)))
+          (λ st. absurd (both_ways _ (b.unprepared tx st.0) (prepared_there s.local.log tx p e)))
           (clo tx c))
           (λ n. inr (subst (λ l. is_pair l tx q ≡ true) (sym n.pairs)
           (in_pair s.local.pairs tx q (in_filter (λ z. not (committed_in s.local.log z)) q (predecessors_of s.local.pairs tx) (subst (λ l. tx_in q l ≡ true) (new_list s t tx p n (b.unprepared tx n.was) h) m)).0)))
           (prep tx p h);
       unprepared = λ tx a. false_from_ne_true _ (λ h.
-          let x = there_prepare t.local.log tx h in
-          ⊎_elim (λ e. both_ways _ (act tx a) (prepare_there s.local.log tx x.0 e)) (λ n. differ (sym a ∙ n.now)) (prep tx x.0 x.1));
+          let x = prepare_some t.local.log tx h in
+          ⊎_elim (λ e. both_ways _ (act tx a) (prepared_there s.local.log tx x.0 e)) (λ n. differ (sym a ∙ n.now)) (prep tx x.0 x.1));
       seen = λ tx h r.
-          let x = there_prepare t.local.log tx h in
-          ⊎_elim (λ e. moved tx (b.seen tx (prepare_there s.local.log tx x.0 e) r)) (λ n. ⊎_elim (λ st. moved tx (b.closed tx st r)) (λ st. moved tx (st.1 r)) (clo tx n.now)) (prep tx x.0 x.1);
+          let x = prepare_some t.local.log tx h in
+          ⊎_elim (λ e. moved tx (b.seen tx (prepared_there s.local.log tx x.0 e) r)) (λ n. ⊎_elim (λ st. moved tx (b.closed tx st r)) (λ st. moved tx (st.1 r)) (clo tx n.now)) (prep tx x.0 x.1);
       closed = λ tx h r. ⊎_elim (λ st. moved tx (b.closed tx st r)) (λ st. moved tx (st.1 r)) (clo tx h);
     }
   where
@@ -205,28 +203,10 @@ tells_calm run W S F s t (m ∷ ms) e c l a = (one m a.0, tells_calm run W S F s
 
 -- ---- the votes of a request
 
-get_case : (F : ℕ → TxId → Type 0) (tx : TxId) (p : ℕ) (v : Vote) (r : ℕ × Vote) (o : Option Vote) (b : Bool) → (p == r.0) ≡ b → VoteTells F r.0 tx r.1 → cond b (Some r.1) o ≡ Some v → (o ≡ Some v → VoteTells F p tx v) → VoteTells F p tx v
-get_case F tx p v r o true e a g k = subst (λ z. VoteTells F p tx z) (some_same r.1 v g) (subst (λ n. VoteTells F n tx r.1) (sym (eqb-true p r.0 e)) a)
-get_case F tx p v r o false e a g k = k g
-
-votes_get : (F : ℕ → TxId → Type 0) (tx : TxId) (vs : List (ℕ × Vote)) (p : ℕ) (v : Vote) → AllByRecursion (λ r. VoteTells F r.0 tx r.1) vs → vote_from p vs ≡ Some v → VoteTells F p tx v
-votes_get F tx [] p v a g = absurd (none_some v g)
-votes_get F tx (r ∷ rs) p v a g = get_case F tx p v r (vote_from p rs) (p == r.0) refl a.0 g (votes_get F tx rs p v a.1)
-
-put_case : (F : ℕ → TxId → Type 0) (tx : TxId) (o : Ordering) (p : ℕ) (v : Vote) (r : ℕ × Vote) (rs qs : List (ℕ × Vote)) → (o ≡ Equal → p ≡ r.0) → VoteTells F p tx v → VoteTells F r.0 tx r.1 → AllByRecursion (λ r. VoteTells F r.0 tx r.1) rs
-    → AllByRecursion (λ r. VoteTells F r.0 tx r.1) qs → AllByRecursion (λ r. VoteTells F r.0 tx r.1) (match_ordering o ((p, v) ∷ r ∷ rs) ((r.0, v) ∷ rs) (r ∷ qs))
-put_case F tx Less p v r rs qs e a b c d = (a, (b, c))
-put_case F tx Equal p v r rs qs e a b c d = (subst (λ n. VoteTells F n tx v) (e refl) a, c)
-put_case F tx Greater p v r rs qs e a b c d = (b, d)
-
-pub votes_put : (F : ℕ → TxId → Type 0) (tx : TxId) (vs : List (ℕ × Vote)) (p : ℕ) (v : Vote) → VoteTells F p tx v → AllByRecursion (λ r. VoteTells F r.0 tx r.1) vs → AllByRecursion (λ r. VoteTells F r.0 tx r.1) (insert_entry nat_cmp vs p v)
-votes_put F tx [] p v a k = (a, tt)
-votes_put F tx (r ∷ rs) p v a k = put_case F tx (nat_cmp p r.0) p v r rs (insert_entry nat_cmp rs p v) (λ e. nat_cmp_true p r.0 (ap is_eq e)) a k.0 k.1 (votes_put F tx rs p v a k.1)
-
 good_tells : (F : ℕ → TxId → Type 0) (tx : TxId) (m : ℕ) (vs : List (ℕ × Vote)) (o : Option Vote) → vote_from m vs ≡ o → is_good o ≡ true → AllByRecursion (λ r. VoteTells F r.0 tx r.1) vs → F m tx
 good_tells F tx m vs None e g a = absurd (both_ways false refl g)
-good_tells F tx m vs (Some Yes) e g a = votes_get F tx vs m Yes a e
-good_tells F tx m vs (Some Read) e g a = votes_get F tx vs m Read a e
+good_tells F tx m vs (Some Yes) e g a = votes_get (λ n w. VoteTells F n tx w) vs m Yes a e
+good_tells F tx m vs (Some Read) e g a = votes_get (λ n w. VoteTells F n tx w) vs m Read a e
 good_tells F tx m vs (Some (No why)) e g a = absurd (both_ways false refl g)
 
 all_good : (F : ℕ → TxId → Type 0) (tx : TxId) (vs : List (ℕ × Vote)) (ps : List ℕ) (m : ℕ) → list_all (λ p. is_good (vote_from p vs)) ps ≡ true → nat_in m ps ≡ true → AllByRecursion (λ r. VoteTells F r.0 tx r.1) vs → F m tx
@@ -285,10 +265,6 @@ abort_undecided shard tx q f cause to h = abort_in shard tx q f q.state cause to
 -- a touched shard that isn't the home is one of the others
 abbrev NotHere : ℕ → (ℕ × ℕ → Bool) → Type 0
 NotHere shard f = (t : ℕ × ℕ) → f t ≡ true → (t.0 == shard) ≡ false
-
-all_mono : {X : Type 0} (P Q : X → Type 0) → ((x : X) → P x → Q x) → (xs : List X) → AllByRecursion P xs → AllByRecursion Q xs
-all_mono P Q k [] a = tt
-all_mono P Q k (x ∷ xs) a = (k x a.0, all_mono P Q k xs a.1)
 
 more_others : (shard : ℕ) (t : ℕ × ℕ) (ts : List (ℕ × ℕ)) (n : ℕ) → nat_in n (others shard ts) ≡ true → nat_in n (others shard (t ∷ ts)) ≡ true
 more_others shard t ts n i = at (not (t.0 == shard))

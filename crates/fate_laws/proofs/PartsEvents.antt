@@ -36,6 +36,7 @@ use Rattle.clv_base.proofs.SameNames.{tx_self}
 use Rattle.law_base.proofs.Rows.{rows_get, rows_set, rows_put}
 use Rattle.law_base.proofs.Commits.{durable_committed}
 use Rattle.law_base.proofs.Tables.{is_pair, stage_in}
+use Rattle.law_base.proofs.Lists.{all_mono}
 use Rattle.shard_laws.proofs.Leaving.{stage_own, gone_by}
 use Rattle.protocol_laws.proofs.Sets.{in_filter}
 use Rattle.history_laws.proofs.Stepping.{Due, commits, votes, rules, KeptByDue, settled, Step, op_dies, op_answers, request_refused, request_doomed, request_again, request_new, request_closes, looks_well, looks_ill, drops, sends, prepare_closes, prepare_again, vote_counts, decision_comes, decision_again, done_counts, asked, reminds as reminds_step, flushes}
@@ -44,9 +45,12 @@ use Rattle.protocol_laws.proofs.Growing.{same as same_log}
 use Rattle.history_laws.proofs.Uncommitting.{with_more, rolled}
 use Rattle.fate_laws.proofs.Inside.{Inside, inside_self, inside_step, inside_due}
 use Rattle.fate_laws.proofs.Calm.{Calm, calm_same, calm_step, step_keeps, calm_one, due_closed, due_prepares, there_closed}
-use Rattle.fate_laws.proofs.Closings.{step_prepares, Closes, by_request, by_prepare, step_closed, Commits, alone, decided, new_commit, step_commits}
+use Rattle.fate_laws.proofs.Closings.{step_prepares, Closes, by_request, by_prepare, step_closed, Commits, alone, decided, step_commits}
 use Rattle.fate_laws.proofs.Binding.{ordered_wrote, VoteIs, kept, yes, read, no, vote_is, yes_binds}
-use Rattle.fate_laws.proofs.Parts.{Touched, HomeOr, Good, Base, base_next, VotedIs, VoterIs, VoteTells, RowIs, Tells, Parted, voted_calm, voters_calm, tells_calm, votes_put, agreed_good, commit_agreed, abort_undecided, others_all}
+use Rattle.fate_laws.proofs.Parts.{Touched, HomeOr, Good, Base, base_next, VotedIs, VoterIs, VoteTells, RowIs, Tells, Parted, voted_calm, voters_calm, tells_calm, agreed_good, commit_agreed, abort_undecided, others_all}
+use Rattle.fate_laws.proofs.VotesHeld.{votes_put}
+use Rattle.fate_laws.proofs.Homes.{new_commit}
+use Rattle.file_laws.proofs.Rows.{all_rows}
 
 -- ---- what is owed
 
@@ -135,7 +139,7 @@ step_tables s _ (flushes k g c) = same refl refl refl
 -- ---- the tables of requests and voters
 
 voted_row : (W : TxId → ℕ → List (ℕ × ℕ) → Type 0) (F : ℕ → TxId → Type 0) (shard : ℕ) (tx : TxId) (q : Request) (from : ℕ) (vote : Vote) (st : RequestState) → VoteTells F from tx vote → RowIs W F shard tx q st → RowIs W F shard tx (with_vote_of from vote q) st
-voted_row W F shard tx q from vote Undecided v p = (p.0, votes_put F tx q.votes from vote v p.1)
+voted_row W F shard tx q from vote Undecided v p = (p.0, votes_put (λ n w. VoteTells F n tx w) q.votes from vote v p.1)
 voted_row W F shard tx q from vote (Committed parts) v p = tt
 voted_row W F shard tx q from vote Finished v p = tt
 voted_row W F shard tx q from vote (Refused cause) v p = p
@@ -223,14 +227,6 @@ dones_if run W S F s tx q false k = tt
 each_told : (run : ℕ) (W : TxId → ℕ → List (ℕ × ℕ) → Type 0) (S : TxId → Type 0) (F : ℕ → TxId → Type 0) (s : Shard) (f : TxId → Request → List Message) (rs : Table Request) → AllByRecursion (λ r. AllByRecursion (Tells run W S F s) (f r.0 r.1)) rs → AllByRecursion (Tells run W S F s) (each_request f rs)
 each_told run W S F s f [] a = tt
 each_told run W S F s f (r ∷ rs) a = all_append _ (f r.0 r.1) _ a.0 (each_told run W S F s f rs a.1)
-
-all_mono : {X : Type 0} (P Q : X → Type 0) → ((x : X) → P x → Q x) → (xs : List X) → AllByRecursion P xs → AllByRecursion Q xs
-all_mono P Q k [] a = tt
-all_mono P Q k (x ∷ xs) a = (k x a.0, all_mono P Q k xs a.1)
-
-all_rows : {X : Type 0} (P : X → Type 0) → ((x : X) → P x) → (xs : List X) → AllByRecursion P xs
-all_rows P k [] = tt
-all_rows P k (x ∷ xs) = (k x, all_rows P k xs)
 
 ask_told : (run : ℕ) (W : TxId → ℕ → List (ℕ × ℕ) → Type 0) (S : TxId → Type 0) (F : ℕ → TxId → Type 0) (s : Shard) (tx : TxId) (o : Option Voter) → AllByRecursion (Tells run W S F s) (ask_by s.shard tx o)
 ask_told run W S F s tx None = tt
@@ -349,7 +345,7 @@ voter_asked : (S : TxId → Type 0) (s : Shard) (tx : TxId) (v : Voter) → (v.o
 voter_asked S s tx v e (inl p) = absurd (both_ways _ e p.0)
 voter_asked S s tx v e (inr p) = p
 
-reader_tables : (s : Shard) (tx : TxId) (v : Voter) (vote : Vote)
+pub reader_tables : (s : Shard) (tx : TxId) (v : Voter) (vote : Vote)
     → ((finish_reader tx vote (with_vote s tx v vote)).voters ≡ tx_set tx (voted vote v) s.voters) × ((finish_reader tx vote (with_vote s tx v vote)).outbox ≡ s.outbox ++ VoteMessage v.home tx s.shard vote ∷ [])
     × ((finish_reader tx vote (with_vote s tx v vote)).requests ≡ s.requests) × ((finish_reader tx vote (with_vote s tx v vote)).local.log ≡ s.local.log)
 reader_tables s tx v Yes = (refl, refl, refl, refl)

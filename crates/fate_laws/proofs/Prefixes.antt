@@ -1,6 +1,5 @@
 -- A legal history, entry by entry: what is there when the next entry is made.
-use Rattle.std.proofs.Common.{◌≡◌, inl, inr, ⊎_elim, refl, sym, ap, subst, ◌∙◌, ℕ, ◌<◌, true, false, cond, Bool, List, [], ◌∷◌, ◌++◌, ◌==◌, eqb-true, append_assoc, append-nil}
-use Rattle.std.proofs.lemmas.Bool.{both_ways}
+use Rattle.std.proofs.Common.{◌≡◌, inl, inr, ⊎_elim, refl, sym, ap, subst, ◌∙◌, ℕ, ◌<◌, true, false, Bool, List, [], ◌∷◌, ◌++◌, ◌==◌, eqb-true, append_assoc, append-nil}
 use Rattle.clv_base.specs.declared.names.TxId.{TxId}
 use Rattle.clv_base.specs.declared.logs.LogRecord.{LogRecord}
 use Rattle.clv_base.specs.declared.events.Entry.{Entry}
@@ -9,14 +8,15 @@ use Rattle.clv_base.specs.Logs.{committed_in}
 use Rattle.clv_base.specs.LogRules.{log_of}
 use Rattle.clv_base.specs.State.{Shard}
 use Rattle.clv_base.specs.Restarts.{run_after, log_left}
-use Rattle.clv_base.specs.Journals.{History, journal_of, start_of, after_entries}
+use Rattle.clv_base.specs.Journals.{History, start_of, after_entries}
 use Rattle.clv_base.specs.History.{Legal, WasSent, MessagesSent}
 use Rattle.history_laws.proofs.Durability.{Counted, Fronts, fronts_entry, opened_counted}
 use Rattle.history_laws.proofs.Merging.{Placed, Before, in_order, not_before_itself, before_then, Among, among_append, among_left, among_right, front_precedes, Precedes, precedes_before}
 use Rattle.history_laws.proofs.Serials.{committed_front}
 use Rattle.history_laws.proofs.Telling.{IsRequest}
-use Rattle.history_laws.proofs.Worlds.{journal_append, sent_at, state_at, Split, split_at, in_a_shard}
+use Rattle.history_laws.proofs.Worlds.{sent_at, state_at, Split, split_at, in_a_shard}
 use Rattle.history_laws.proofs.Staying.{one_request}
+use Rattle.file_laws.proofs.Walking.{other_journal}
 
 -- what stands before an entry is in the front
 precedes_right : {A : Type 0} (x y : A) (xs ys : List A) → Precedes x y ys → Precedes x y (xs ++ ys)
@@ -42,8 +42,8 @@ pub record Next (splits : List ℕ) (before after : List (List LogRecord)) (h pr
   pub earlier : (y : Placed) → Among y pre → Among y h × Before y e
   pub front : (y : Placed) → Among y h → Before y e → Among y pre
 
-next : (splits : List ℕ) (before after : List (List LogRecord)) (h pre : History) (e : Placed) (post : History) → Legal splits before h after → pre ++ e ∷ post ≡ h → Next splits before after h pre e
-next splits before after h pre e post l q =
+pub next_at : (splits : List ℕ) (before after : List (List LogRecord)) (h pre : History) (e : Placed) (post : History) → Legal splits before h after → pre ++ e ∷ post ≡ h → Next splits before after h pre e
+next_at splits before after h pre e post l q =
     let i : Among e h = subst (Among e) q (among_right e pre (e ∷ post) (inl refl)) in
     let n = in_a_shard splits before after h e l i in
     record {
@@ -64,15 +64,7 @@ pub walk : (P : History → Type 0) (splits : List ℕ) (before after : List (Li
     → ((pre : History) (e : Placed) → Next splits before after h pre e → P pre → P (pre ++ e ∷ [])) → P pre → P h
 walk P splits before after h pre [] l q k p = subst P (sym (append-nil pre) ∙ q) p
 walk P splits before after h pre (e ∷ post) l q k p =
-    walk P splits before after h (pre ++ e ∷ []) post l (append_assoc pre (e ∷ []) post ∙ q) k (k pre e (next splits before after h pre e post l q) p)
-
--- another shard is as it was
-other_journal : (n : ℕ) (e : Placed) (pre : History) → (e.0 == n) ≡ false → journal_of n (pre ++ e ∷ []) ≡ journal_of n pre
-other_journal n e pre b = journal_append n pre (e ∷ []) ∙ ap (λ l. journal_of n pre ++ l) (at (e.0 == n) b) ∙ append-nil (journal_of n pre)
-  where
-    at : (c : Bool) → c ≡ false → cond c (e.1 ∷ []) [] ≡ []
-    at true d = absurd (both_ways true d refl)
-    at false d = refl
+    walk P splits before after h (pre ++ e ∷ []) post l (append_assoc pre (e ∷ []) post ∙ q) k (k pre e (next_at splits before after h pre e post l q) p)
 
 pub stays_as_it_was : (before after : List (List LogRecord)) (n : ℕ) (e : Placed) (pre : History) → (e.0 == n) ≡ false → state_at before after n (pre ++ e ∷ []) ≡ state_at before after n pre
 stays_as_it_was before after n e pre b = ap (after_entries (log_of after n) (start_of before n)) (other_journal n e pre b)
@@ -144,7 +136,4 @@ walk_front P splits before after h done [] post l q k p = subst P (sym (append-n
 walk_front P splits before after h done (e ∷ pre) post l q k p =
     let a : done ++ e ∷ (pre ++ post) ≡ h = sym (append_assoc done (e ∷ pre) post) ∙ q in
     subst P (append_assoc done (e ∷ []) pre)
-    (walk_front P splits before after h (done ++ e ∷ []) pre post l (ap (λ z. z ++ post) (append_assoc done (e ∷ []) pre) ∙ q) k (k done e (next splits before after h done e (pre ++ post) l a) p))
-
-pub next_at : (splits : List ℕ) (before after : List (List LogRecord)) (h pre : History) (e : Placed) (post : History) → Legal splits before h after → pre ++ e ∷ post ≡ h → Next splits before after h pre e
-next_at splits before after h pre e post l q = next splits before after h pre e post l q
+    (walk_front P splits before after h (done ++ e ∷ []) pre post l (ap (λ z. z ++ post) (append_assoc done (e ∷ []) pre) ∙ q) k (k done e (next_at splits before after h done e (pre ++ post) l a) p))

@@ -1,8 +1,8 @@
 -- PREPAREs of a log, and what adds none.
-use Rattle.std.proofs.Common.{◌≡◌, ◌⊎◌, inl, inr, refl, sym, ap, subst, ◌∙◌, ℕ, zero, suc, true, false, cond, not, ◌||◌, Bool, List, [], ◌∷◌, ◌++◌, map, Option, Some, None, take-append-drop}
+use Rattle.std.proofs.Common.{◌≡◌, ◌⊎◌, inl, inr, refl, sym, ap, subst, ◌∙◌, ℕ, zero, suc, true, false, cond, not, Bool, List, [], ◌∷◌, ◌++◌, Option, Some, None, take-append-drop}
 use Rattle.std.specs.Prelude.{take, drop}
 use Rattle.std.specs.List.{filter, AllByRecursion}
-use Rattle.std.proofs.lemmas.Bool.{both_ways}
+use Rattle.std.proofs.lemmas.Bool.{or_from}
 use Rattle.clv_base.specs.declared.names.TxId.{TxId}
 use Rattle.clv_base.specs.declared.names.Birth.{Birth}
 use Rattle.clv_base.specs.declared.ops.Op.{Op}
@@ -20,41 +20,14 @@ use Rattle.clv_base.specs.Restarts.{undo_records, restart_records, log_after_res
 use Rattle.clv_base.proofs.SameNames.{tx_true}
 use Rattle.shard_laws.proofs.Prepared.{prepared_from, prepare_keeps}
 use Rattle.session_laws.proofs.Replying.{OpIs, dies, rolls, performs, reply_is}
-use Rattle.history_laws.proofs.Telling.{all_append}
-
-pub prepare_there : (log : List LogRecord) (t : TxId) (p : ℕ × List TxId) → prepare_of log t ≡ Some p → prepared_in log t ≡ true
-prepare_there [] t p e = absurd cc
-prepare_there (Prepare tx home ps ∷ rs) t p e = at (tx_same t tx) e (prepare_there rs t p)
-  where
-    at : (b : Bool) → cond b (Some (home, ps)) (prepare_of rs t) ≡ Some p → (prepare_of rs t ≡ Some p → prepared_in rs t ≡ true) → (b || prepared_in rs t) ≡ true
-    at true e k = refl
-    at false e k = k e
-prepare_there (Update tx key before after ∷ rs) t p e = prepare_there rs t p e
-prepare_there (Clr tx next key after ∷ rs) t p e = prepare_there rs t p e
-prepare_there (Commit tx parts ∷ rs) t p e = prepare_there rs t p e
-prepare_there (Abort tx ∷ rs) t p e = prepare_there rs t p e
-prepare_there (End tx ∷ rs) t p e = prepare_there rs t p e
-prepare_there (Restart run epoch ∷ rs) t p e = prepare_there rs t p e
-
-pub there_prepare : (log : List LogRecord) (t : TxId) → prepared_in log t ≡ true → (p : ℕ × List TxId) × (prepare_of log t ≡ Some p)
-there_prepare [] t e = absurd (both_ways false refl e)
-there_prepare (Prepare tx home ps ∷ rs) t e = at (tx_same t tx) e (there_prepare rs t)
-  where
-    at : (b : Bool) → (b || prepared_in rs t) ≡ true → (prepared_in rs t ≡ true → (p : ℕ × List TxId) × (prepare_of rs t ≡ Some p)) → (p : ℕ × List TxId) × (cond b (Some (home, ps)) (prepare_of rs t) ≡ Some p)
-    at true e k = ((home, ps), refl)
-    at false e k = k e
-there_prepare (Update tx key before after ∷ rs) t e = there_prepare rs t e
-there_prepare (Clr tx next key after ∷ rs) t e = there_prepare rs t e
-there_prepare (Commit tx parts ∷ rs) t e = there_prepare rs t e
-there_prepare (Abort tx ∷ rs) t e = there_prepare rs t e
-there_prepare (End tx ∷ rs) t e = there_prepare rs t e
-there_prepare (Restart run epoch ∷ rs) t e = there_prepare rs t e
+use Rattle.history_laws.proofs.Telling.{all_append, all_map}
+use Rattle.order_laws.proofs.Records.{prepared_there}
 
 pub prepare_more : (log more : List LogRecord) (t : TxId) (p : ℕ × List TxId) → prepare_of log t ≡ Some p → prepare_of (log ++ more) t ≡ Some p
-prepare_more log more t p e = prepare_keeps log more t (prepare_there log t p e) ∙ e
+prepare_more log more t p e = prepare_keeps log more t (prepared_there log t p e) ∙ e
 
 pub prepare_from : (log more : List LogRecord) (t : TxId) (p : ℕ × List TxId) → prepared_in more t ≡ false → prepare_of (log ++ more) t ≡ Some p → prepare_of log t ≡ Some p
-prepare_from log more t p none e = sym (prepare_keeps log more t (prepared_from log more t none (prepare_there (log ++ more) t p e))) ∙ e
+prepare_from log more t p none e = sym (prepare_keeps log more t (prepared_from log more t none (prepared_there (log ++ more) t p e))) ∙ e
 
 -- one more PREPARE
 pub prepare_new : (log : List LogRecord) (tx : TxId) (home : ℕ) (ps : List TxId) (t : TxId) (p : ℕ × List TxId) → prepare_of (log ++ Prepare tx home ps ∷ []) t ≡ Some p
@@ -88,33 +61,26 @@ NoMorePrepares xs ys = (t : TxId) (p : ℕ × List TxId) → prepare_of ys t ≡
 abbrev IsNoPrepare : LogRecord → Type 0
 IsNoPrepare r = (t : TxId) → is_prepare_of t r ≡ false
 
-or_false : (a b : Bool) → a ≡ false → b ≡ false → (a || b) ≡ false
-or_false true b e f = e
-or_false false b e f = f
-
 unprepared : (rs : List LogRecord) → AllByRecursion IsNoPrepare rs → (t : TxId) → prepared_in rs t ≡ false
 unprepared [] a t = refl
-unprepared (r ∷ rs) a t = or_false _ _ (a.0 t) (unprepared rs a.1 t)
+unprepared (r ∷ rs) a t = or_from _ _ (a.0 t) (unprepared rs a.1 t)
 
 pub plain_more : (log more : List LogRecord) → AllByRecursion IsNoPrepare more → NoMorePrepares log (log ++ more)
 plain_more log more a t p e = prepare_from log more t p (unprepared more a t) e
 
-aborts_have : (ts : List TxId) → AllByRecursion IsNoPrepare (map (λ t. Abort t) ts)
-aborts_have [] = tt
-aborts_have (t ∷ ts) = ((λ u. refl), aborts_have ts)
-
-clrs_have : (set : List TxId) (ws : List StandingUpdate) → AllByRecursion IsNoPrepare (clrs_of set ws)
-clrs_have set [] = tt
-clrs_have set (w ∷ ws) = at (tx_in w.tx set) (clrs_have set ws)
+-- what each CLR has, those of a rollback have
+pub all_clrs : (P : LogRecord → Type 0) → ((w : StandingUpdate) (n : Option ℕ) → P (Clr w.tx n w.key w.before)) → (set : List TxId) (ws : List StandingUpdate) → AllByRecursion P (clrs_of set ws)
+all_clrs P k set [] = tt
+all_clrs P k set (w ∷ ws) = at (tx_in w.tx set) (all_clrs P k set ws)
   where
-    at : (b : Bool) → AllByRecursion IsNoPrepare (clrs_of set ws) → AllByRecursion IsNoPrepare (cond b (Clr w.tx (newest_lsn w.tx ws) w.key w.before ∷ clrs_of set ws) (clrs_of set ws))
-    at true a = ((λ u. refl), a)
+    at : (b : Bool) → AllByRecursion P (clrs_of set ws) → AllByRecursion P (cond b (Clr w.tx (newest_lsn w.tx ws) w.key w.before ∷ clrs_of set ws) (clrs_of set ws))
+    at true a = (k w (newest_lsn w.tx ws), a)
     at false a = a
 
 pub rolled : (tx : TxId) (l : Local) → NoMorePrepares l.log (roll_back tx l).log
 rolled tx l t p e =
-    plain_more l.log (aborts_of l.log (doomed_here l tx)) (aborts_have (filter (wrote_in l.log) (doomed_here l tx))) t p
-    (plain_more (l.log ++ aborts_of l.log (doomed_here l tx)) (clrs_of (doomed_here l tx) (standing l.log)) (clrs_have (doomed_here l tx) (standing l.log)) t p e)
+    plain_more l.log (aborts_of l.log (doomed_here l tx)) (all_map IsNoPrepare (λ u. Abort u) (filter (wrote_in l.log) (doomed_here l tx)) (λ u t. refl)) t p
+    (plain_more (l.log ++ aborts_of l.log (doomed_here l tx)) (clrs_of (doomed_here l tx) (standing l.log)) (all_clrs IsNoPrepare (λ w n t. refl) (doomed_here l tx) (standing l.log)) t p e)
 
 rolled_if : (b : Bool) (tx : TxId) (l : Local) → NoMorePrepares l.log (rolled_back_if b tx l).log
 rolled_if true tx l = rolled tx l
@@ -153,7 +119,7 @@ closes_with log true false tx home us t p e = prepare_new log tx home us t p e
 restart_have : (shard : ℕ) (log : List LogRecord) (run epoch : ℕ) → AllByRecursion IsNoPrepare (restart_records shard log run epoch)
 restart_have shard log run epoch =
     all_append _ (undo_records shard log) (Restart run epoch ∷ [])
-    (all_append _ _ _ (aborts_have (filter (λ t. not (aborted_in log t)) (losers shard log))) (clrs_have (losers shard log) (standing log))) ((λ t. refl), tt)
+    (all_append _ _ _ (all_map IsNoPrepare (λ u. Abort u) (filter (λ t. not (aborted_in log t)) (losers shard log)) (λ u t. refl)) (all_clrs IsNoPrepare (λ w n t. refl) (losers shard log) (standing log))) ((λ t. refl), tt)
 
 take_have : (n : ℕ) (xs : List LogRecord) → AllByRecursion IsNoPrepare xs → AllByRecursion IsNoPrepare (take n xs)
 take_have zero xs a = tt

@@ -1,10 +1,9 @@
 -- What a shard knows of parts after a restart, and when it opens.
-use Rattle.std.proofs.Common.{◌≡◌, inl, inr, ⊎_elim, refl, sym, ap, subst, ◌∙◌, ℕ, zero, suc, ◌≤◌, true, false, Bool, not, ◌&&◌, ◌||◌, List, [], ◌∷◌, ◌++◌, map, Option, Some, None, length, arith, take-append-drop}
+use Rattle.std.proofs.Common.{◌≡◌, inl, inr, ⊎_elim, refl, sym, ap, subst, ◌∙◌, ℕ, zero, suc, ◌≤◌, true, false, Bool, not, ◌&&◌, List, [], ◌∷◌, map, Option, Some, None, length, arith, take-append-drop}
 use Rattle.std.specs.Prelude.{take, drop}
 use Rattle.std.specs.List.{filter}
 use Rattle.std.proofs.lemmas.Bool.{both_ways, and_parts, or_cases, or_left, or_right, cases_Bool, not-true}
 use Rattle.std.proofs.lemmas.List.{take-take, take_all}
-use Rattle.std.proofs.lemmas.List.Folds.{list_any-append}
 use Rattle.clv_base.specs.declared.names.TxId.{TxId}
 use Rattle.clv_base.specs.declared.logs.LogRecord.{LogRecord}
 use Rattle.clv_base.specs.declared.events.Entry.{Entry}
@@ -17,25 +16,25 @@ use Rattle.clv_base.specs.Coordinator.{restored_request}
 use Rattle.clv_base.specs.Restarts.{state_after, log_left, revived, pairs_of_listed, restored_pairs, homes_of, unended_in, Restarts}
 use Rattle.clv_base.proofs.SameNames.{tx_true, tx_self, tx_flip}
 use Rattle.law_base.proofs.Commits.{place_keeps, place_less, place_there}
-use Rattle.law_base.proofs.Tables.{is_pair, row_pairs}
+use Rattle.law_base.proofs.Tables.{is_pair}
 use Rattle.law_base.proofs.Changed.{some_same}
 use Rattle.protocol_laws.specs.Growth.{IsPrefixOf}
 use Rattle.protocol_laws.proofs.Sets.{in_filter, filter_in}
 use Rattle.shard_laws.proofs.Restoring.{restored_stage}
 use Rattle.shard_laws.proofs.Refalling.{all_durable}
+use Rattle.shard_laws.proofs.Ordered.{prepare_some}
+use Rattle.shard_laws.proofs.Relisting.{pair_append}
 use Rattle.history_laws.proofs.Telling.{all_map}
 use Rattle.history_laws.proofs.TellingEvents.{front_committed}
 use Rattle.history_laws.proofs.Durability.{restarts_front}
 use Rattle.history_laws.proofs.Uncommitting.{restarts_add}
-use Rattle.fate_laws.proofs.Prepares.{prepare_there, there_prepare, front_prepare, restarts_add as restarts_prepare}
-use Rattle.fate_laws.proofs.Restored.{doubt_prepared}
+use Rattle.fate_laws.proofs.Prepares.{front_prepare, restarts_add as restarts_prepare}
 use Rattle.fate_laws.proofs.Binding.{Bound, Reads, Ordered}
 use Rattle.fate_laws.proofs.Parts.{HomeOr, Good, Parted, longer_ordered}
+use Rattle.file_laws.proofs.Doubts.{doubt_prepared}
+use Rattle.order_laws.proofs.Records.{prepared_there}
 
 -- ---- pairs of those in doubt
-
-pairs_append : (xs ys : List (TxId × TxId)) (t p : TxId) → is_pair (xs ++ ys) t p ≡ (is_pair xs t p || is_pair ys t p)
-pairs_append xs ys t p = list_any-append (row_pairs t p) xs ys
 
 own_pairs : (tx t q : TxId) (qs : List TxId) → tx_same t tx ≡ true → tx_in q qs ≡ true → is_pair (map (λ x. (tx, x)) qs) t q ≡ true
 own_pairs tx t q [] e i = absurd (both_ways false refl i)
@@ -54,7 +53,7 @@ listed_pair log tx q p (Some x) e i c =
 pair_there : (log : List LogRecord) (ts : List TxId) (tx q : TxId) (p : ℕ × List TxId) → tx_in tx ts ≡ true → prepare_of log tx ≡ Some p → tx_in q p.1 ≡ true → committed_in log q ≡ false → is_pair (restored_pairs log ts) tx q ≡ true
 pair_there log [] tx q p i e m c = absurd (both_ways false refl i)
 pair_there log (x ∷ xs) tx q p i e m c =
-    pairs_append (pairs_of_listed log x (prepare_of log x)) (restored_pairs log xs) tx q
+    pair_append (pairs_of_listed log x (prepare_of log x)) (restored_pairs log xs) tx q
     ∙ ⊎_elim (λ h. or_left _ _ (subst (λ z. is_pair (pairs_of_listed log z (prepare_of log z)) tx q ≡ true) (sym (tx_true x tx h)) (listed_pair log tx q p (prepare_of log tx) e m c)))
     (λ h. or_right (is_pair (pairs_of_listed log x (prepare_of log x)) tx q) _ (pair_there log xs tx q p h e m c)) (or_cases (tx_same x tx) (tx_in tx xs) i)
 
@@ -76,7 +75,7 @@ pub pair_from : (log : List LogRecord) (ts : List TxId) (t q : TxId) → is_pair
 pair_from log [] t q i = absurd (both_ways false refl i)
 pair_from log (x ∷ xs) t q i =
     ⊎_elim (λ a. let b = from_listed log x t q (prepare_of log x) a in (b.0, subst (λ z. prepare_of log z ≡ Some b.0) (sym b.1) b.2, b.3, b.4)) (λ a. pair_from log xs t q a)
-    (or_cases (is_pair (pairs_of_listed log x (prepare_of log x)) t q) (is_pair (restored_pairs log xs) t q) (sym (pairs_append (pairs_of_listed log x (prepare_of log x)) (restored_pairs log xs) t q) ∙ i))
+    (or_cases (is_pair (pairs_of_listed log x (prepare_of log x)) t q) (is_pair (restored_pairs log xs) t q) (sym (pair_append (pairs_of_listed log x (prepare_of log x)) (restored_pairs log xs) t q) ∙ i))
 
 -- ---- the state of a shard that comes back
 
@@ -120,11 +119,11 @@ longer : (xs ys : List LogRecord) → IsPrefixOf xs ys → ((t : TxId) → prepa
 longer xs ys p k o t j e = longer_ordered xs ys t j p o (k t (place_there 0 (is_prepare_of t) ys j e)) e
 
 pub added_ordered : (xs ys : List LogRecord) → IsPrefixOf xs ys → ((t : TxId) (p : ℕ × List TxId) → prepare_of ys t ≡ Some p → prepare_of xs t ≡ Some p) → Ordered xs → Ordered ys
-added_ordered xs ys p k o = longer xs ys p (λ t h. let q = there_prepare ys t h in prepare_there xs t q.0 (k t q.0 q.1)) o
+added_ordered xs ys p k o = longer xs ys p (λ t h. let q = prepare_some ys t h in prepared_there xs t q.0 (k t q.0 q.1)) o
 
 pub revived_prepares : (s : Shard) (kept : Bool) (epoch : ℕ) (log : List LogRecord) → Restarts s (log_left s kept) epoch log → (t : TxId) → prepared_in log t ≡ true → prepared_in s.local.log t ≡ true
 revived_prepares s kept epoch log g t h =
-    let q = there_prepare log t h in prepare_there s.local.log t q.0 (front_prepare _ s.local.log t q.0 (restarts_prepare s (log_left s kept) epoch log g t q.0 q.1))
+    let q = prepare_some log t h in prepared_there s.local.log t q.0 (front_prepare _ s.local.log t q.0 (restarts_prepare s (log_left s kept) epoch log g t q.0 q.1))
 
 pub parted_revived : (run : ℕ) (W : TxId → ℕ → List (ℕ × ℕ) → Type 0) (S : TxId → Type 0) (F : ℕ → TxId → Type 0) (s : Shard) (kept : Bool) (epoch : ℕ) (log : List LogRecord) → Restarts s (log_left s kept) epoch log → Parted run W S F s
     → Parted run W S F (revived s epoch log)
@@ -158,10 +157,3 @@ reads_state shard own epoch log last journal tx u =
   where
     differ : Active ≡ Closed → ⊥
     differ z = absurd cc
-
--- a pair is of one that is in doubt
-pub pair_owner : (log : List LogRecord) (ts : List TxId) (t q : TxId) → is_pair (restored_pairs log ts) t q ≡ true → tx_in t ts ≡ true
-pair_owner log [] t q i = absurd (both_ways false refl i)
-pair_owner log (x ∷ xs) t q i =
-    ⊎_elim (λ a. let b = from_listed log x t q (prepare_of log x) a in or_left (tx_same x t) (tx_in t xs) (subst (λ z. tx_same x z ≡ true) (sym b.1) (tx_self x))) (λ a. or_right (tx_same x t) (tx_in t xs) (pair_owner log xs t q a))
-    (or_cases (is_pair (pairs_of_listed log x (prepare_of log x)) t q) (is_pair (restored_pairs log xs) t q) (sym (pairs_append (pairs_of_listed log x (prepare_of log x)) (restored_pairs log xs) t q) ∙ i))

@@ -31,7 +31,7 @@ use Rattle.protocol_laws.specs.SessionLaws.{tx_of, works_on, ended_by}
 use Rattle.history_laws.proofs.Stepping.{FindsIll}
 use Rattle.history_laws.proofs.Entering.{Makes, by_event, by_flush, by_failure, by_restart, makes}
 use Rattle.history_laws.proofs.Durability.{framed_finish, happens_steps}
-use Rattle.history_laws.proofs.Merging.{Placed, in_order, not_before_itself, before_then, Among, among_append, from_journal, Precedes, in_turn, precedes_before, own_in_order, is_among}
+use Rattle.history_laws.proofs.Merging.{Placed, in_order, not_before_itself, before_then, Among, among_append, from_journal, in_turn, precedes_before, own_in_order, is_among}
 use Rattle.history_laws.proofs.TellingEvents.{front_committed}
 use Rattle.history_laws.specs.Outcomes.{is_abort}
 use Rattle.history_laws.proofs.Walkers.{nothing_follows}
@@ -59,6 +59,7 @@ use Rattle.fate_laws.proofs.Arriving.{home_committed}
 use Rattle.fate_laws.proofs.Downwards.{Lowered, lowered_next, lowered_front, owed as owed_down}
 use Rattle.fate_laws.proofs.Dooming.{Kept, RowKeeps}
 use Rattle.fate_laws.proofs.DoomingEvents.{Owes, NotPending, kept_made, kept_state}
+use Rattle.file_laws.proofs.Walking.{other_journal, from_own, first_among}
 
 -- ---- journals
 
@@ -68,13 +69,6 @@ own_journal e pre = journal_append e.0 pre (e ∷ []) ∙ ap (λ l. journal_of e
     at : (c : Bool) → c ≡ true → cond c (e.1 ∷ []) [] ≡ e.1 ∷ []
     at true d = refl
     at false d = absurd (both_ways false refl d)
-
-other_journal : (n : ℕ) (e : Placed) (pre : History) → (e.0 == n) ≡ false → journal_of n (pre ++ e ∷ []) ≡ journal_of n pre
-other_journal n e pre b = journal_append n pre (e ∷ []) ∙ ap (λ l. journal_of n pre ++ l) (at (e.0 == n) b) ∙ append-nil (journal_of n pre)
-  where
-    at : (c : Bool) → c ≡ false → cond c (e.1 ∷ []) [] ≡ []
-    at true d = absurd (both_ways true d refl)
-    at false d = refl
 
 made_journal : (log : List LogRecord) (s t : Shard) {e : Event} {o : Outcome} → Makes log s e o t → t.journal ≡ s.journal
 made_journal log s t (by_event g h) = (happens_steps s t h).journal
@@ -97,22 +91,8 @@ committed_asked splits before after h pre n tx i k r c =
     let f = ((k.lowered).bindings).fated in
     ⊎_elim (λ a. (n, subst (AskedIn pre tx) ((f.counts).shard n i) a, c)) (λ z. (z.0, z.1, front_committed (state_at before after z.0 pre).durable (state_at before after z.0 pre).local.log tx z.2)) ((f.homed n i).log tx c r)
 
-from_own : (w : ℕ) (y : Placed) (h : History) → Among y (own w h) → Among y h
-from_own w y [] m = elim m [ ]
-from_own w y (f ∷ fs) m = at ((f.1).walker == w) m (from_own w y fs)
-  where
-    at : (b : Bool) → Among y (cond b (f ∷ own w fs) (own w fs)) → (Among y (own w fs) → Among y fs) → Among y (f ∷ fs)
-    at true (inl q) k = inl q
-    at true (inr m) k = inr (k m)
-    at false m k = inr (k m)
-
-first_among : (x y : Placed) (es : List Placed) → Precedes x y es → Among x es
-first_among x y [] p = elim p [ ]
-first_among x y (z ∷ zs) (inl p) = inl p.0
-first_among x y (z ∷ zs) (inr p) = inr (first_among x y zs p)
-
 -- a drop of one that asked comes after a look that found it aborted
-dropped_dead : (splits : List ℕ) (before after : List (List LogRecord)) (h pre : History) (e : Placed) (tx : TxId) (n : ℕ) → Next splits before after h pre e → Spared splits before after h pre → (e.1).event ≡ Drop tx → tx.run ≡ run_after before → AskedIn pre tx n
+pub dropped_dead : (splits : List ℕ) (before after : List (List LogRecord)) (h pre : History) (e : Placed) (tx : TxId) (n : ℕ) → Next splits before after h pre e → Spared splits before after h pre → (e.1).event ≡ Drop tx → tx.run ≡ run_after before → AskedIn pre tx n
     → (m : ℕ) × DeadIn before after pre m tx
 dropped_dead splits before after h pre e tx n w k q run (r, ts, i, a) =
     let j = w.earlier (n, r) i in
@@ -128,7 +108,7 @@ dropped_dead splits before after h pre e tx n w k q run (r, ts, i, a) =
     (λ b. absurd (not_before_itself (n, r) (n, r) refl (before_then (n, r) e (n, r) j.1 (precedes_before e (n, r) v o b)))) z)
     (in_turn (n, r) e v p.first p.second)
 
-same_home : (splits : List ℕ) (before after : List (List LogRecord)) (h pre : History) (e : Placed) (tx : TxId) (m n : ℕ) → Next splits before after h pre e → AskedIn pre tx m → AskedIn pre tx n → m ≡ n
+pub same_home : (splits : List ℕ) (before after : List (List LogRecord)) (h pre : History) (e : Placed) (tx : TxId) (m n : ℕ) → Next splits before after h pre e → AskedIn pre tx m → AskedIn pre tx n → m ≡ n
 same_home splits before after h pre e tx m n w a b = one_home splits before after h tx m n a.0 b.0 a.1 b.1 w.legal (w.earlier (m, a.0) a.2).0 a.3 (w.earlier (n, b.0) b.2).0 b.3
 
 none_other : (from : ℕ) (os : List ℕ) → os ≡ [] → nat_in from os ≡ true → ⊥
@@ -240,7 +220,7 @@ found_dead splits before after h pre n tx c i k r (inr (e, none, open_, epoch, d
     let z = request_entry s.shard tx s.journal e epoch in
     ((z.0, z.1, from_journal n z.0 pre (subst (Among z.0) (k.journal n i) z.2), (z.3, z.4)), (open_, subst (λ x. stands_open x ≡ false) (sym none) refl))
 
-look_made : (log : List LogRecord) (s t : Shard) {e : Event} {o : Outcome} (tx : TxId) (c : AbortCause) → Makes log s e o t → e ≡ Look tx → o ≡ Aborted c → FindsIll s tx c
+pub look_made : (log : List LogRecord) (s t : Shard) {e : Event} {o : Outcome} (tx : TxId) (c : AbortCause) → Makes log s e o t → e ≡ Look tx → o ≡ Aborted c → FindsIll s tx c
 look_made log s t tx c (by_event g h) q r = of_ill (ill_happens s t h tx c q r)
   where
     of_ill : IllOf s t tx c → FindsIll s tx c

@@ -1,7 +1,7 @@
 -- What a vote binds, and what no other's abort takes away.
-use Rattle.std.proofs.Common.{◌≡◌, ◌⊎◌, inl, inr, ⊎_elim, refl, sym, subst, ℕ, zero, suc, true, false, cond, Bool, ◌&&◌, List, [], ◌∷◌, ◌++◌, Option, Some, None, length}
+use Rattle.std.proofs.Common.{◌≡◌, ◌⊎◌, inl, inr, ⊎_elim, refl, sym, subst, ℕ, true, false, List, [], ◌∷◌, ◌++◌, Option, Some, None, length}
 use Rattle.std.specs.List.{list_all}
-use Rattle.std.proofs.lemmas.Bool.{both_ways, or_cases, or_left, or_right, false_from_ne_true}
+use Rattle.std.proofs.lemmas.Bool.{both_ways, or_cases, false_from_ne_true}
 use Rattle.clv_base.specs.declared.names.TxId.{TxId}
 use Rattle.clv_base.specs.declared.logs.LogRecord.{LogRecord}
 use Rattle.clv_base.specs.Journals.{History}
@@ -9,27 +9,29 @@ use Rattle.clv_base.specs.declared.causes.Vote.{Vote}
 use Rattle.clv_base.specs.declared.causes.Vote.TheVariants.{Yes, Read, No}
 use Rattle.clv_base.specs.declared.state.Stage.{Stage}
 use Rattle.clv_base.specs.declared.state.Stage.TheVariants.{Active, Closed, Gone}
-use Rattle.clv_base.specs.Orders.{tx_same, tx_in, tx_insert}
+use Rattle.clv_base.specs.Orders.{tx_same, tx_in}
 use Rattle.clv_base.specs.Logs.{committed_in}
 use Rattle.clv_base.specs.State.{Shard, is_present}
-use Rattle.clv_base.specs.Undo.{stage_of, with_successors, successors_through, doomed_by, doomed_here}
+use Rattle.clv_base.specs.Undo.{stage_of, doomed_by, doomed_here}
 use Rattle.clv_base.specs.Facts.{predecessors_of}
 use Rattle.clv_base.specs.Restarts.{log_left}
-use Rattle.clv_base.proofs.SameNames.{tx_true, tx_self, in_insert}
-use Rattle.law_base.proofs.Tables.{row_pairs, is_pair, pair_in, in_pair}
+use Rattle.clv_base.proofs.SameNames.{tx_true, tx_self}
+use Rattle.law_base.proofs.Tables.{is_pair, pair_in, in_pair}
 use Rattle.protocol_laws.proofs.Sets.{in_filter}
 use Rattle.history_laws.proofs.Merging.{is_among}
 use Rattle.history_laws.proofs.Worlds.{state_at}
 use Rattle.fate_laws.specs.Votes.{Keeps, VotesBind, OthersAbortsSpareIt}
-use Rattle.fate_laws.proofs.Prepares.{prepare_there}
 use Rattle.fate_laws.proofs.Arriving.{all_from, listed_is}
 use Rattle.fate_laws.proofs.Binding.{Bound}
 use Rattle.fate_laws.proofs.Casting.{Cast, casts_front}
-use Rattle.fate_laws.proofs.Downwards.{Down, lowered_front, all_at}
+use Rattle.fate_laws.proofs.Downwards.{Down, lowered_front}
+use Rattle.fate_laws.proofs.Dooming.{through_all}
+use Rattle.shard_laws.proofs.Dooming.{list_all_at}
+use Rattle.order_laws.proofs.Records.{prepared_there}
 
 -- ---- votes
 
-absent : (o : Option Stage) → (o ≡ Some Active → ⊥) → (o ≡ Some Closed → ⊥) → is_present o ≡ false
+pub absent : (o : Option Stage) → (o ≡ Some Active → ⊥) → (o ≡ Some Closed → ⊥) → is_present o ≡ false
 absent None a c = refl
 absent (Some Active) a c = absurd (a refl)
 absent (Some Closed) a c = absurd (c refl)
@@ -38,7 +40,7 @@ absent (Some (Gone d)) a c = refl
 bound_keeps : (s : Shard) (tx : TxId) → Bound s tx → Keeps s tx Yes
 bound_keeps s tx k =
     let log = log_left s false in (
-      (prepare_there log tx k.listed k.prepare, subst (λ l. list_all (committed_in log) l ≡ true) (sym (listed_is log tx k.listed k.prepare)) (all_from (committed_in log) (k.listed).1 (λ q i. k.durable q i))),
+      (prepared_there log tx k.listed k.prepare, subst (λ l. list_all (committed_in log) l ≡ true) (sym (listed_is log tx k.listed k.prepare)) (all_from (committed_in log) (k.listed).1 (λ q i. k.durable q i))),
       all_from (committed_in s.local.log) (predecessors_of s.local.pairs tx) (λ q i. k.pairs q (in_pair s.local.pairs tx q i)),
     )
 
@@ -52,25 +54,6 @@ votes_bind splits before so_far later after n e home from tx vote o l i j q =
     cast_keeps before after so_far from tx vote ((casts_front splits before after (so_far ++ later) so_far later o l refl).cast (n, e) home from tx vote (is_among n e so_far j) q)
 
 -- ---- aborts of others
-
-successors_all : (P : TxId → Type 0) (pairs : List (TxId × TxId)) (set so_far : List TxId) → ((a b : TxId) → is_pair pairs a b ≡ true → P b → P a) → ((t : TxId) → tx_in t set ≡ true → P t) → ((t : TxId) → tx_in t so_far ≡ true → P t)
-    → (t : TxId) → tx_in t (with_successors pairs set so_far) ≡ true → P t
-successors_all P [] set so_far d k l t i = l t i
-successors_all P (p ∷ ps) set so_far d k l t i =
-    successors_all P ps set (cond (tx_in p.1 set) (tx_insert p.0 so_far) so_far) (λ a b j. d a b (or_right (row_pairs a b p) (is_pair ps a b) j)) k (λ u j. at (tx_in p.1 set) refl u j) t i
-  where
-    both : (a b : Bool) → a ≡ true → b ≡ true → (a && b) ≡ true
-    both true b e f = f
-    both false b e f = e
-
-    at : (b : Bool) → tx_in p.1 set ≡ b → (u : TxId) → tx_in u (cond b (tx_insert p.0 so_far) so_far) ≡ true → P u
-    at true e u j =
-        ⊎_elim (λ q. subst P (sym q) (d p.0 p.1 (or_left (row_pairs p.0 p.1 p) (is_pair ps p.0 p.1) (both (tx_same p.0 p.0) (tx_same p.1 p.1) (tx_self p.0) (tx_self p.1))) (k p.1 e))) (λ q. l u q) (in_insert p.0 u so_far j)
-    at false e u j = l u j
-
-through_all : (P : TxId → Type 0) (n : ℕ) (pairs : List (TxId × TxId)) (set : List TxId) → ((a b : TxId) → is_pair pairs a b ≡ true → P b → P a) → ((t : TxId) → tx_in t set ≡ true → P t) → (t : TxId) → tx_in t (successors_through n pairs set) ≡ true → P t
-through_all P zero pairs set d k t i = k t i
-through_all P (suc n) pairs set d k t i = through_all P n pairs (with_successors pairs set set) d (successors_all P pairs set set d k k) t i
 
 -- it isn't committed, and it is the other itself or has a predecessor that isn't committed
 Taken : Shard → TxId → TxId → Type 0
@@ -92,4 +75,4 @@ others_aborts_spare_it splits before so_far later after n tx other o l i c ne u 
     (λ j.
     let t = taken s other tx (k.down n i) u j in
     ⊎_elim (λ e. both_ways _ ne (subst (λ z. tx_same other z ≡ true) (sym e) (tx_self other)))
-    (λ p. both_ways _ p.2 (all_at (committed_in s.local.log) p.0 (predecessors_of s.local.pairs tx) c (pair_in s.local.pairs tx p.0 p.1))) t.1)
+    (λ p. both_ways _ p.2 (list_all_at (committed_in s.local.log) p.0 (predecessors_of s.local.pairs tx) c (pair_in s.local.pairs tx p.0 p.1))) t.1)

@@ -42,6 +42,7 @@ use Rattle.history_laws.proofs.Entering.{Makes, by_event, by_flush, by_failure, 
 use Rattle.history_laws.proofs.Telling.{all_append, all_map}
 use Rattle.file_laws.proofs.Offers.{AreShards, OffersBy}
 use Rattle.file_laws.proofs.Records.{Passes, passes_more, passes_front, rolled_pass, dropped_pass, op_leaves, closed_pass, opened_pass, restarts_pass}
+use Rattle.file_laws.proofs.Rows.{all_rows}
 
 -- a Prepare names a home that there is
 abbrev pub Names : List ℕ → Message → Type 0
@@ -182,10 +183,6 @@ filed_finish splits s p = let q = settled (Filed splits) s (filed_due splits) p 
 each_names : (splits : List ℕ) (f : TxId → Request → List Message) (rs : Table Request) → AllByRecursion (λ r. AllByRecursion (Names splits) (f r.0 r.1)) rs → AllByRecursion (Names splits) (each_request f rs)
 each_names splits f [] a = tt
 each_names splits f (r ∷ rs) a = all_append _ (f r.0 r.1) _ a.0 (each_names splits f rs a.1)
-
-all_rows : {A : Type 0} (P : A → Type 0) → ((x : A) → P x) → (xs : List A) → AllByRecursion P xs
-all_rows P k [] = tt
-all_rows P k (x ∷ xs) = (k x, all_rows P k xs)
 
 missing_names : (splits : List ℕ) (shard : ℕ) (tx : TxId) (q : Request) (st : RequestState) → shard < shard_count splits → AllByRecursion (Names splits) (missing_votes shard tx q st)
 missing_names splits shard tx q Undecided l = all_map _ (prepare_for shard tx) (filter (λ t. not (t.0 == shard) && not (is_some (vote_from t.0 q.votes))) q.touched) (λ t. l)

@@ -6,9 +6,9 @@ use Rattle.clv_base.specs.declared.logs.LogRecord.{LogRecord}
 use Rattle.clv_base.specs.Shards.{shard_count}
 use Rattle.clv_base.specs.LogRules.{log_of}
 use Rattle.clv_base.specs.State.{Shard}
-use Rattle.clv_base.specs.Journals.{History, journal_of, start_of, after_entries}
+use Rattle.clv_base.specs.Journals.{History, journal_of, start_of, after_entries, own}
 use Rattle.clv_base.specs.History.{Legal, WasSent, MessagesSent}
-use Rattle.history_laws.proofs.Merging.{Placed, Before, InOrder, in_order, before_then, not_before_itself, Among, among_all, among_append, among_left, among_right, front_precedes, precedes_before}
+use Rattle.history_laws.proofs.Merging.{Placed, Before, InOrder, in_order, before_then, not_before_itself, Among, among_all, among_append, among_left, among_right, front_precedes, precedes_before, Precedes}
 use Rattle.history_laws.proofs.Worlds.{journal_append, sent_at, state_at, Split, split_at, in_a_shard}
 
 -- ---- the entry behind a front of the history
@@ -62,7 +62,7 @@ Steps S M splits before after h =
     (pre : History) (e : Placed) → Walked S M splits before after pre → Entry_next splits before after h pre e
     → S (pre ++ e ∷ []) e.0 (state_at before after e.0 (pre ++ e ∷ [])) × M e × ((n : ℕ) → n < shard_count splits → (e.0 == n) ≡ false → S pre n (state_at before after n pre) → S (pre ++ e ∷ []) n (state_at before after n pre))
 
-other_journal : (n : ℕ) (e : Placed) (pre : History) → (e.0 == n) ≡ false → journal_of n (pre ++ e ∷ []) ≡ journal_of n pre
+pub other_journal : (n : ℕ) (e : Placed) (pre : History) → (e.0 == n) ≡ false → journal_of n (pre ++ e ∷ []) ≡ journal_of n pre
 other_journal n e pre b = journal_append n pre (e ∷ []) ∙ ap (λ l. journal_of n pre ++ l) (at (e.0 == n) b) ∙ append-nil (journal_of n pre)
   where
     at : (c : Bool) → c ≡ false → cond c (e.1 ∷ []) [] ≡ []
@@ -108,3 +108,19 @@ walked_front S M splits before after h pre rest l q s k = walk S M splits before
 pub walked : (S : History → ℕ → Shard → Type 0) (M : Placed → Type 0) (splits : List ℕ) (before after : List (List LogRecord)) (h : History) → Legal splits before h after
     → ((n : ℕ) → n < shard_count splits → S [] n (start_of before n)) → Steps S M splits before after h → Walked S M splits before after h
 walked S M splits before after h l s k = walked_front S M splits before after h h [] l (append-nil h) s k
+
+-- ---- a walker's own entries
+
+own_case : (w : ℕ) (y f : Placed) (fs : History) (b : Bool) → Among y (cond b (f ∷ own w fs) (own w fs)) → (Among y (own w fs) → Among y fs) → Among y (f ∷ fs)
+own_case w y f fs true (inl q) k = inl q
+own_case w y f fs true (inr m) k = inr (k m)
+own_case w y f fs false m k = inr (k m)
+
+pub from_own : (w : ℕ) (y : Placed) (h : History) → Among y (own w h) → Among y h
+from_own w y [] m = elim m [ ]
+from_own w y (f ∷ fs) m = own_case w y f fs ((f.1).walker == w) m (from_own w y fs)
+
+pub first_among : (x y : Placed) (es : List Placed) → Precedes x y es → Among x es
+first_among x y [] p = elim p [ ]
+first_among x y (z ∷ zs) (inl p) = inl p.0
+first_among x y (z ∷ zs) (inr p) = inr (first_among x y zs p)

@@ -34,12 +34,13 @@ use Rattle.fate_laws.proofs.Bindings.{Bindings, bindings_front}
 use Rattle.fate_laws.proofs.Casting.{casts_front}
 use Rattle.fate_laws.proofs.Deciding.{log_now}
 use Rattle.fate_laws.proofs.Prefixes.{one_home}
-use Rattle.fate_laws.proofs.Prepares.{prepare_there, prepare_more, front_prepare}
+use Rattle.fate_laws.proofs.Prepares.{prepare_more, front_prepare}
 use Rattle.unfallen_laws.proofs.Going.{aborted_take}
 use Rattle.unfallen_laws.proofs.Sparing.{bound_unaborted}
 use Rattle.many_shards_laws.specs.Replaying.{IsHere}
 use Rattle.many_shards_laws.proofs.Homes.{doubted}
 use Rattle.many_shards_laws.proofs.Shares.{at_somewhere}
+use Rattle.order_laws.proofs.Records.{prepared_there}
 
 module _ (splits : List ℕ) (before : List (List LogRecord)) (h : History) (after : List (List LogRecord)) (choice : ℕ → Bool) (o : may_open splits before ≡ true) (l : Legal splits before h after) (n : ℕ) (i : n < shard_count splits)
     (t : TxId) (home : ℕ) (e : Entry) (touched : List (ℕ × ℕ)) (a : IsAmong home e h) (ev : e.event ≡ RequestEvent t touched) (out : e.outcome ≡ Asked)
@@ -107,4 +108,4 @@ module _ (splits : List ℕ) (before : List (List LogRecord)) (h : History) (aft
       by_part : HasItsPart (log_of (logs_left splits before h after choice) n) t → IsHere splits before h after choice n t
       by_part (inl f) = inl f
       by_part (inr (inl (p, g))) = at (committed_in (log_of (logs_left splits before h after choice) n) t) refl g
-      by_part (inr (inr p)) = absurd (both_ways _ p (subst (λ z. prepared_in z t ≡ true) (sym now) (prepare_there (log_left s (choice n)) t bound.listed (left_prepare bound))))
+      by_part (inr (inr p)) = absurd (both_ways _ p (subst (λ z. prepared_in z t ≡ true) (sym now) (prepared_there (log_left s (choice n)) t bound.listed (left_prepare bound))))

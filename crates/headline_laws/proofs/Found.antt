@@ -21,7 +21,6 @@ use Rattle.history_laws.proofs.Merging.{is_among, among_is}
 use Rattle.history_laws.proofs.Staying.{is_request}
 use Rattle.history_laws.proofs.Worlds.{in_a_shard}
 use Rattle.fate_laws.specs.Decisions.{is_left}
-use Rattle.unfallen_laws.proofs.Sparing.{in_others}
 use Rattle.unfallen_laws.proofs.Voting.{members_are_voted_for}
 use Rattle.many_shards_laws.specs.Replaying.{IsHere}
 use Rattle.many_shards_laws.proofs.Members.{asks}
@@ -31,6 +30,7 @@ use Rattle.acknowledged_laws.specs.Acknowledged.{OnlyRead}
 use Rattle.acknowledged_laws.proofs.Standing.{acknowledged_stand}
 use Rattle.headline_laws.proofs.Passing.{reader_passes, home_passes, unnamed_passes}
 use Rattle.headline_laws.proofs.Doubting.{yes_is_here}
+use Rattle.fall_laws.proofs.Here.{in_others}
 
 module _ (splits : List ℕ) (before : List (List LogRecord)) (h : History) (after : List (List LogRecord)) (choice : ℕ → Bool) (o : may_open splits before ≡ true) (l : Legal splits before h after) (n : ℕ) (i : n < shard_count splits)
     (t : TxId) (home : ℕ) (e : Entry) (touched : List (ℕ × ℕ)) (a : IsAmong home e h) (ev : e.event ≡ RequestEvent t touched) (out : e.outcome ≡ Asked) where

@@ -19,7 +19,7 @@ use Rattle.clv_base.specs.Restarts.{run_after}
 use Rattle.clv_base.specs.Journals.{History, final_of}
 use Rattle.clv_base.specs.History.{Legal, IsAmong}
 use Rattle.protocol_laws.specs.SessionLaws.{tx_of}
-use Rattle.history_laws.proofs.Merging.{Among, is_among, among_is}
+use Rattle.history_laws.proofs.Merging.{is_among}
 use Rattle.history_laws.proofs.Staying.{walker_of}
 use Rattle.shard_laws.specs.OneShard.{Passes, found_items, found_asked, found_met}
 use Rattle.shard_laws.proofs.Following.{from_disorder}
@@ -37,10 +37,10 @@ use Rattle.each_shard_laws.proofs.Fallen.{fell_is}
 use Rattle.each_shard_laws.proofs.Leading.{at_front, each_shard_leads, restored_front}
 use Rattle.each_shard_laws.proofs.Records.{wrote_from}
 use Rattle.each_shard_laws.proofs.Remembering.{part_did, none_present}
-use Rattle.unfallen_laws.proofs.Naming.{requests_name_their_shards}
 use Rattle.reader_laws.proofs.Readers.{readers_pass}
 use Rattle.reader_laws.proofs.Readers.{readers_never_fell}
 use Rattle.acknowledged_laws.specs.Acknowledged.{OnlyRead}
+use Rattle.unfallen_laws.proofs.Naming.{names_shard}
 
 module _ (splits : List ℕ) (before : List (List LogRecord)) (h : History) (after : List (List LogRecord)) (o : may_open splits before ≡ true) (l : Legal splits before h after) (n : ℕ) (i : n < shard_count splits)
     (t : TxId) (home : ℕ) (e : Entry) (touched : List (ℕ × ℕ)) (a : IsAmong home e h) (ev : e.event ≡ RequestEvent t touched) (out : e.outcome ≡ Asked) where
@@ -105,9 +105,7 @@ module _ (splits : List ℕ) (before : List (List LogRecord)) (h : History) (aft
     traced = (traced_front splits before after h h [] o l (append-nil h)).states n i
 
     undone : DidAny h n t → ⊥
-    undone (ep, (b, (y, j, q, p))) =
-        both_ways _ unnamed
-        (requests_name_their_shards splits before h after n home y.1 e t b (p.at).nth p.seen (p.at).op p.answer ep touched l (among_is n y.1 h (subst (λ m. Among (m, y.1) h) q j)) (p.at).is p.outcome a ev)
+    undone d = both_ways _ unnamed (names_shard splits before after h n home t (e, touched, a, ev, out) l run_is (inl d))
 
     not_there : DidOrOld (run_after before) h n t → ⊥
     not_there (inl d) = undone d

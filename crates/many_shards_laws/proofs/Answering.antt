@@ -16,8 +16,9 @@ use Rattle.clv_base.proofs.SameNames.{tx_true, tx_self}
 use Rattle.law_base.specs.Items.{Item}
 use Rattle.shard_laws.specs.OneShard.{items_of, ops_by, answers_by}
 use Rattle.each_shard_laws.specs.Telling.{own_entries}
-use Rattle.replay_by_shards.specs.Shares.{ShardOp, ops_of, answers_of, on_shard, all_ops, all_answers, parts_on}
+use Rattle.replay_by_shards.specs.Shares.{ShardOp, on_shard, all_ops, all_answers, parts_on}
 use Rattle.member_parts.specs.Parts.{op_on, shard_ops_in, member_ops}
+use Rattle.member_parts.proofs.Parts.{firsts, seconds}
 
 abbrev told : ShardOp → Op × Answer
 told x = (x.op, x.answer)
@@ -82,14 +83,6 @@ own_told t n (e ∷ es) =
 
 -- ---- operations and answers
 
-ops_told : (xs : List ShardOp) → map (λ p. p.0) (map told xs) ≡ ops_of xs
-ops_told [] = refl
-ops_told (x ∷ xs) = ap (λ l. x.op ∷ l) (ops_told xs)
-
-answers_told : (xs : List ShardOp) → map (λ p. p.1) (map told xs) ≡ answers_of xs
-answers_told [] = refl
-answers_told (x ∷ xs) = ap (λ l. x.answer ∷ l) (answers_told xs)
-
 item_ops : (xs : List Item) → map (λ p. p.0) (map item_told xs) ≡ map (λ x. x.op) xs
 item_ops [] = refl
 item_ops (x ∷ xs) = ap (λ l. x.op ∷ l) (item_ops xs)
@@ -101,13 +94,13 @@ item_answers (x ∷ xs) = ap (λ l. x.answer ∷ l) (item_answers xs)
 pub part_ops : (n : ℕ) (h : History) (all : List Item) (ms : List Member) → ((t : TxId) → map (λ x. (x.op, x.answer)) (items_of t all) ≡ ops_in t (own_entries n h)) → all_ops (parts_on n (member_ops h ms)) ≡ ops_by (map (λ m. m.tx) ms) all
 part_ops n h all [] k = refl
 part_ops n h all (m ∷ ms) k =
-    ap (λ l. l ∷ all_ops (parts_on n (member_ops h ms))) (sym (ops_told (on_shard n (shard_ops_in m.tx h))) ∙ ap (map (λ p. p.0)) (own_told m.tx n h ∙ sym (k m.tx)) ∙ item_ops (items_of m.tx all))
+    ap (λ l. l ∷ all_ops (parts_on n (member_ops h ms))) (sym (firsts (on_shard n (shard_ops_in m.tx h))) ∙ ap (map (λ p. p.0)) (own_told m.tx n h ∙ sym (k m.tx)) ∙ item_ops (items_of m.tx all))
     ∙ ap (λ l. map (λ x. x.op) (items_of m.tx all) ∷ l) (part_ops n h all ms k)
 
 pub part_answers : (n : ℕ) (h : History) (all : List Item) (ms : List Member) → ((t : TxId) → map (λ x. (x.op, x.answer)) (items_of t all) ≡ ops_in t (own_entries n h)) → all_answers (parts_on n (member_ops h ms)) ≡ answers_by (map (λ m. m.tx) ms) all
 part_answers n h all [] k = refl
 part_answers n h all (m ∷ ms) k =
-    ap (λ l. l ∷ all_answers (parts_on n (member_ops h ms))) (sym (answers_told (on_shard n (shard_ops_in m.tx h))) ∙ ap (map (λ p. p.1)) (own_told m.tx n h ∙ sym (k m.tx)) ∙ item_answers (items_of m.tx all))
+    ap (λ l. l ∷ all_answers (parts_on n (member_ops h ms))) (sym (seconds (on_shard n (shard_ops_in m.tx h))) ∙ ap (map (λ p. p.1)) (own_told m.tx n h ∙ sym (k m.tx)) ∙ item_answers (items_of m.tx all))
     ∙ ap (λ l. map (λ x. x.answer) (items_of m.tx all) ∷ l) (part_answers n h all ms k)
 
 -- ---- who did nothing of the first operations did those that came after

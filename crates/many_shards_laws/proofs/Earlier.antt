@@ -1,18 +1,15 @@
 -- Of the transactions of earlier runs: what is left of them stood in the logs at opening.
-use Rattle.std.proofs.Common.{◌≡◌, ⊎_elim, refl, sym, ap, subst, ◌∙◌, ℕ, ◌≤◌, ◌<◌, true, false, cond, not, Bool, ◌&&◌, ◌||◌, ◌==◌, nat_lt, List, [], ◌∷◌, ◌++◌, map, Option, Some, None, length, arith, append-nil, append_assoc, eqb-true, ltb-true}
-use Rattle.std.specs.List.{filter}
+use Rattle.std.proofs.Common.{◌≡◌, ⊎_elim, refl, sym, ap, subst, ◌∙◌, ℕ, ◌≤◌, ◌<◌, true, false, Bool, ◌&&◌, ◌||◌, ◌==◌, nat_lt, List, [], ◌∷◌, ◌++◌, Option, Some, None, length, arith, append-nil, append_assoc, eqb-true, ltb-true}
 use Rattle.std.proofs.lemmas.Bool.{both_ways, and_parts, or_cases, false_from_ne_true}
 use Rattle.std.proofs.lemmas.List.{take_all}
 use Rattle.clv_base.specs.declared.names.TxId.{TxId}
 use Rattle.clv_base.specs.declared.logs.LogRecord.{LogRecord}
 use Rattle.clv_base.specs.declared.logs.LogRecord.TheVariants.{Update, Clr, Prepare, Commit, Abort, End, Restart}
-use Rattle.clv_base.specs.Orders.{tx_in}
-use Rattle.clv_base.specs.Logs.{is_update_of, wrote_in, committed_in, aborted_in, committed_somewhere, standing, StandingUpdate}
+use Rattle.clv_base.specs.Logs.{is_update_of, wrote_in, committed_in, committed_somewhere}
 use Rattle.clv_base.specs.LogRules.{log_of, last_restart, above_restarts, in_last_run, may_follow, disorder}
 use Rattle.clv_base.specs.Shards.{shard_count}
 use Rattle.clv_base.specs.FileRules.{may_open}
-use Rattle.clv_base.specs.Undo.{clrs_of, newest_lsn}
-use Rattle.clv_base.specs.Restarts.{run_after, log_left, losers, undo_records, restart_records, log_after_restart}
+use Rattle.clv_base.specs.Restarts.{run_after, log_left, undo_records, restart_records, log_after_restart}
 use Rattle.clv_base.specs.Journals.{History, start_of, final_of, journal_of}
 use Rattle.clv_base.specs.History.{Legal, logs_left}
 use Rattle.clv_base.proofs.SameNames.{tx_true}
@@ -24,9 +21,10 @@ use Rattle.shard_laws.proofs.Following.{Follows, Plainly, from_disorder, last_pu
 use Rattle.shard_laws.proofs.Changes.{wrote_append}
 use Rattle.history_laws.proofs.Durability.{fronts_entries, opened_counted, left_front}
 use Rattle.history_laws.proofs.Serials.{committed_front}
-use Rattle.fate_laws.proofs.Deciding.{left_committed}
+use Rattle.fate_laws.proofs.Deciding.{left_committed, log_now}
+use Rattle.fate_laws.proofs.Writing.{restart_writes_none}
 use Rattle.earlier_laws.proofs.Earlier.{earlier_commits_are_of_opening}
-use Rattle.each_shard_laws.proofs.Ordering.{log_now, logs_left_are_in_order}
+use Rattle.each_shard_laws.proofs.Ordering.{logs_left_are_in_order}
 use Rattle.many_shards_laws.proofs.Shares.{at_somewhere}
 
 -- ---- no UPDATE behind the RESTART of a run is of an earlier one
@@ -86,31 +84,6 @@ none_behind shard run log (r ∷ rs) t l k f = ap (λ b. b || wrote_in rs t) (no
 pub follows_behind : (shard : ℕ) (log xs ys : List LogRecord) → Follows shard log (xs ++ ys) → Follows shard (log ++ xs) ys
 follows_behind shard log [] ys f = subst (λ l. Follows shard l ys) (sym (append-nil log)) f
 follows_behind shard log (x ∷ xs) ys f = subst (λ l. Follows shard l ys) (append_assoc log (x ∷ []) xs) (follows_behind shard (log ++ x ∷ []) xs ys f.1)
-
--- ---- the records of a restart write nothing
-
-aborts_write_none : (ts : List TxId) (t : TxId) → wrote_in (map (λ u. Abort u) ts) t ≡ false
-aborts_write_none [] t = refl
-aborts_write_none (u ∷ us) t = aborts_write_none us t
-
-clrs_write_none : (set : List TxId) (ws : List StandingUpdate) (t : TxId) → wrote_in (clrs_of set ws) t ≡ false
-clrs_write_none set [] t = refl
-clrs_write_none set (w ∷ ws) t = at (tx_in w.tx set) (clrs_write_none set ws t)
-  where
-    at : (b : Bool) → wrote_in (clrs_of set ws) t ≡ false → wrote_in (cond b (Clr w.tx (newest_lsn w.tx ws) w.key w.before ∷ clrs_of set ws) (clrs_of set ws)) t ≡ false
-    at true e = e
-    at false e = e
-
-both_false : (a b : Bool) → a ≡ false → b ≡ false → (a || b) ≡ false
-both_false true b e f = e
-both_false false b e f = f
-
-restart_writes_none : (shard : ℕ) (log : List LogRecord) (run epoch : ℕ) (t : TxId) → wrote_in (restart_records shard log run epoch) t ≡ false
-restart_writes_none shard log run epoch t =
-    wrote_append (undo_records shard log) (Restart run epoch ∷ []) t
-    ∙ both_false _ _
-    (wrote_append (map (λ u. Abort u) (filter (λ u. not (aborted_in log u)) (losers shard log))) (clrs_of (losers shard log) (standing log)) t
-    ∙ both_false _ _ (aborts_write_none (filter (λ u. not (aborted_in log u)) (losers shard log)) t) (clrs_write_none (losers shard log) (standing log) t)) refl
 
 -- ---- what a crash leaves begins with what the shard opened with
 

@@ -1,11 +1,11 @@
 -- Who was in doubt in a log found, and is committed in some log found, is committed in what is left, or in doubt there as before; and it never fell.
-use Rattle.std.proofs.Common.{◌≡◌, ◌⊎◌, inl, inr, ⊎_elim, refl, sym, subst, ℕ, ◌<◌, true, false, cond, Bool, ◌==◌, List, [], ◌∷◌, length, Option, Some, None, append-nil, arith, eqb-true}
+use Rattle.std.proofs.Common.{◌≡◌, ◌⊎◌, inl, inr, ⊎_elim, refl, sym, subst, ℕ, ◌<◌, true, false, cond, Bool, ◌==◌, List, [], length, Option, Some, None, append-nil, arith, eqb-true}
 use Rattle.std.specs.Prelude.{unwrap_or}
 use Rattle.std.specs.List.{list_all}
-use Rattle.std.proofs.lemmas.Bool.{both_ways, and_from, or_left, or_right, false_from_ne_true}
+use Rattle.std.proofs.lemmas.Bool.{both_ways, false_from_ne_true}
 use Rattle.clv_base.specs.declared.names.TxId.{TxId}
 use Rattle.clv_base.specs.declared.logs.LogRecord.{LogRecord}
-use Rattle.clv_base.specs.Orders.{tx_same, tx_in}
+use Rattle.clv_base.specs.Orders.{tx_in}
 use Rattle.clv_base.specs.Logs.{committed_in, aborted_in, committed_somewhere, in_doubt, prepare_of}
 use Rattle.clv_base.specs.LogRules.{log_of, listed_in}
 use Rattle.clv_base.specs.Shards.{shard_count}
@@ -13,27 +13,23 @@ use Rattle.clv_base.specs.FileRules.{may_open}
 use Rattle.clv_base.specs.Restarts.{run_after, restart_records, log_after_restart, log_left}
 use Rattle.clv_base.specs.Journals.{History, final_of}
 use Rattle.clv_base.specs.History.{Legal}
-use Rattle.clv_base.proofs.SameNames.{tx_self}
 use Rattle.protocol_laws.specs.Growth.{IsPrefixOf}
 use Rattle.protocol_laws.proofs.Growing.{chain, more}
 use Rattle.history_laws.proofs.Serials.{committed_front}
 use Rattle.fate_laws.proofs.Opening.{opening_settled, opening_home}
-use Rattle.fate_laws.proofs.Prepares.{prepare_there, there_prepare, prepare_more, front_prepare}
-use Rattle.fate_laws.proofs.Restored.{doubt_prepared, doubt_undecided}
+use Rattle.fate_laws.proofs.Prepares.{prepare_more, front_prepare}
+use Rattle.fate_laws.proofs.Arriving.{all_from}
 use Rattle.earlier_laws.specs.Earlier.{IsEarlier, WasCommitted}
 use Rattle.fall_laws.specs.Falls.{Fell}
-use Rattle.each_shard_laws.proofs.Doubted.{doubted_is_old}
 use Rattle.unfallen_laws.proofs.Going.{aborted_take}
 use Rattle.unfallen_laws.proofs.StrikingFronts.{struck_front}
 use Rattle.unfallen_laws.proofs.Earlier.{never_out, earlier_members_never_fell}
 use Rattle.many_shards_laws.proofs.Homes.{doubted}
 use Rattle.many_shards_laws.proofs.Shares.{somewhere_at}
 use Rattle.many_shards_laws.proofs.Earlier.{left_begins}
-
--- each of a list passes
-all_pass : (f : TxId → Bool) (ts : List TxId) → ((t : TxId) → tx_in t ts ≡ true → f t ≡ true) → list_all f ts ≡ true
-all_pass f [] k = refl
-all_pass f (t ∷ ts) k = and_from _ _ (k t (or_left (tx_same t t) _ (tx_self t))) (all_pass f ts (λ u i. k u (or_right (tx_same t u) _ i)))
+use Rattle.file_laws.proofs.Doubts.{doubt_prepared, doubt_undecided, doubted_is_old}
+use Rattle.order_laws.proofs.Records.{prepared_there}
+use Rattle.shard_laws.proofs.Ordered.{prepare_some}
 
 -- it is in doubt in a log that commits all that its PREPARE lists
 abbrev pub IsDoubted : ℕ → List LogRecord → TxId → Type 0
@@ -54,7 +50,7 @@ module _ (splits : List ℕ) (before : List (List LogRecord)) (h : History) (aft
   was = let m = somewhere_at before t there in (m.0, m.2)
 
   p : (q : ℕ × List TxId) × (prepare_of (log_of before n) t ≡ Some q)
-  p = there_prepare (log_of before n) t (doubt_prepared n (log_of before n) t doubt)
+  p = prepare_some (log_of before n) t (doubt_prepared n (log_of before n) t doubt)
 
   begun : IsPrefixOf (log_of before n) (log_left (final_of before h after n) kept)
   begun =
@@ -68,23 +64,23 @@ module _ (splits : List ℕ) (before : List (List LogRecord)) (h : History) (aft
   elsewhere : (n == (p.0).0) ≡ false
   elsewhere =
       false_from_ne_true _
-      (λ e. both_ways _ (doubt_undecided n (log_of before n) t doubt).0 (subst (λ k. committed_in (log_of before k) t ≡ true) (sym (eqb-true n (p.0).0 e)) (opening_home splits before t was.0 n p.0 o was.1 inside p.1)))
+      (λ e. both_ways _ (doubt_undecided n (log_of before n) t doubt).1 (subst (λ k. committed_in (log_of before k) t ≡ true) (sym (eqb-true n (p.0).0 e)) (opening_home splits before t was.0 n p.0 o was.1 inside p.1)))
 
   listed : (q : TxId) → tx_in q (p.0).1 ≡ true → committed_in (log_left (final_of before h after n) kept) q ≡ true
   listed q j =
       committed_front (log_of before n) (log_left (final_of before h after n) kept) q begun
-      (⊎_elim (λ c. absurd (both_ways _ (doubt_undecided n (log_of before n) t doubt).0 c)) (λ k. k q j) (opening_settled splits before t was.0 n p.0 o was.1 inside p.1))
+      (⊎_elim (λ c. absurd (both_ways _ (doubt_undecided n (log_of before n) t doubt).1 c)) (λ k. k q j) (opening_settled splits before t was.0 n p.0 o was.1 inside p.1))
 
   unaborted : aborted_in (log_left (final_of before h after n) kept) t ≡ true → ⊥
   unaborted a =
       let s = final_of before h after n in
       let k = cond kept (unwrap_or s.flight s.durable) s.durable in
       let b = struck_front splits before after h h [] o l (append-nil h) n i t (aborted_take k s.local.log t a) in
-      let e = prepare_there s.local.log t p.0 (front_prepare k s.local.log t p.0 prepared) in
+      let e = prepared_there s.local.log t p.0 (front_prepare k s.local.log t p.0 prepared) in
       never_out splits before after h n t o l i earlier was h [] (append-nil h) e (h, [], append-nil h, (b.0, b.1, inl (λ r. absurd (earlier r))))
 
   all_listed : list_all (committed_in (log_left (final_of before h after n) kept)) (p.0).1 ≡ true
-  all_listed = all_pass (committed_in (log_left (final_of before h after n) kept)) (p.0).1 listed
+  all_listed = all_from (committed_in (log_left (final_of before h after n) kept)) (p.0).1 listed
 
   pub still_known : (committed_in (log_left (final_of before h after n) kept) t ≡ true) ⊎ IsDoubted n (log_left (final_of before h after n) kept) t
   still_known = at (committed_in (log_left (final_of before h after n) kept) t) refl

@@ -1,5 +1,5 @@
 -- The members of a legal history of many shards replay where each of them is here on each shard.
-use Rattle.std.proofs.Common.{◌≡◌, ◌⊎◌, inl, inr, ⊎_elim, refl, sym, ap, subst, ◌∙◌, ℕ, zero, suc, ◌<◌, true, false, cond, Bool, ◌&&◌, ◌||◌, List, [], ◌++◌, length, arith, append-nil}
+use Rattle.std.proofs.Common.{◌≡◌, ◌⊎◌, inl, inr, ⊎_elim, refl, sym, ap, subst, ◌∙◌, ℕ, ◌<◌, true, false, cond, Bool, ◌&&◌, ◌||◌, List, [], ◌++◌, length, arith, append-nil}
 use Rattle.std.specs.Prelude.{take, drop, unwrap_or}
 use Rattle.std.specs.List.{filter, list_all}
 use Rattle.std.proofs.lemmas.Bool.{both_ways, and_parts, and_from, or_cases, or_left, or_right, false_from_ne_true}
@@ -12,9 +12,8 @@ use Rattle.clv_base.specs.Logs.{committed_in, wrote_in, committed_somewhere, in_
 use Rattle.clv_base.specs.LogRules.{log_of, listed_in}
 use Rattle.clv_base.specs.Shards.{shard_count}
 use Rattle.clv_base.specs.FileRules.{may_open}
-use Rattle.clv_base.specs.State.{Shard}
 use Rattle.clv_base.specs.Restarts.{run_after, log_left}
-use Rattle.clv_base.specs.Journals.{History, start_of, final_of, journal_of, logs_left_from}
+use Rattle.clv_base.specs.Journals.{History, start_of, final_of, journal_of}
 use Rattle.clv_base.specs.History.{Legal, logs_left}
 use Rattle.protocol_laws.specs.SessionLaws.{tx_of}
 use Rattle.protocol_laws.proofs.Sets.{in_filter}
@@ -27,17 +26,16 @@ use Rattle.shard_laws.proofs.Leaving.{in_more}
 use Rattle.shard_laws.proofs.Splitting.{later_replay}
 use Rattle.session_laws.proofs.Cutting.{cut_above}
 use Rattle.fate_laws.specs.Members.{is_member}
-use Rattle.fate_laws.proofs.Deciding.{commits_are_members, left_committed}
+use Rattle.fate_laws.proofs.Deciding.{commits_are_members, left_committed, log_now}
 use Rattle.origin_laws.proofs.Sessions.{Requested}
 use Rattle.origin_laws.proofs.Origins.{SomeRequest}
 use Rattle.origin_laws.proofs.Entries.{DidOrOld, IsOld, traced_front}
 use Rattle.fall_laws.specs.Falls.{Fell}
 use Rattle.each_shard_laws.specs.Leading.{deeds_before, requests_of}
-use Rattle.each_shard_laws.proofs.Doubted.{doubted_is_old, items_are_old}
+use Rattle.each_shard_laws.proofs.Doubted.{items_are_old}
 use Rattle.each_shard_laws.proofs.Fallen.{fell_is}
 use Rattle.each_shard_laws.proofs.Leading.{at_front, each_shard_leads}
 use Rattle.each_shard_laws.proofs.Records.{committed_from}
-use Rattle.each_shard_laws.proofs.Ordering.{log_now}
 use Rattle.each_shard_laws.proofs.Telling.{deeds_are_told}
 use Rattle.replay_by_shards.specs.Shares.{all_ops, parts_on, share_of, ReplaysTo}
 use Rattle.member_parts.specs.Parts.{member_ops}
@@ -49,10 +47,8 @@ use Rattle.many_shards_laws.proofs.Found.{IsDoubted, still_known, never_fell}
 use Rattle.many_shards_laws.proofs.Answering.{part_ops, part_answers, AllIdle, ops_later, answers_later, idle_among}
 use Rattle.many_shards_laws.proofs.Members.{request_run, asked_by, chosen, Chosen, of_chosen, is_chosen, chosen_are_members, member_run}
 use Rattle.many_shards_laws.proofs.Unfallen.{unfallen}
-
-pub left_length : (finals : ℕ → Shard) (choice : ℕ → Bool) (n k : ℕ) → length (logs_left_from finals choice n k) ≡ k
-left_length finals choice n zero = refl
-left_length finals choice n (suc k) = ap suc (left_length finals choice (suc n) k)
+use Rattle.file_laws.proofs.Passing.{left_length}
+use Rattle.file_laws.proofs.Doubts.{doubted_is_old}
 
 module _ (splits : List ℕ) (before : List (List LogRecord)) (h : History) (after : List (List LogRecord)) (choice : ℕ → Bool) (o : may_open splits before ≡ true) (l : Legal splits before h after) where
   pub leads : (n : ℕ) → n < shard_count splits
@@ -67,7 +63,7 @@ module _ (splits : List ℕ) (before : List (List LogRecord)) (h : History) (aft
   left_is n i = log_now splits before h after choice n i
 
   pub within : (m : ℕ) → m < length (logs_left splits before h after choice) → m < shard_count splits
-  within m j = let e = left_length (final_of before h after) choice 0 (shard_count splits) in omega (arith, e, j)
+  within m j = let e = left_length splits before h after choice in omega (arith, e, j)
 
   found_within : (m : ℕ) → m < length before → m < shard_count splits
   found_within m j = let e = (l.each_log).0 in omega (arith, e, j)

@@ -35,27 +35,28 @@ use Rattle.shard_laws.proofs.Kept.{view_of, Wrote}
 use Rattle.shard_laws.proofs.Listing.{order_of, prepared_wrote, wrote_stands}
 use Rattle.shard_laws.proofs.Renewing.{writer_wrote}
 use Rattle.shard_laws.proofs.Settled.{writer_committed}
-use Rattle.file_laws.proofs.Passing.{logs_left_pass}
+use Rattle.file_laws.proofs.Passing.{logs_left_pass, left_length}
+use Rattle.file_laws.proofs.Doubts.{doubt_prepared, doubt_undecided}
 use Rattle.origin_laws.proofs.Sessions.{Requested}
 use Rattle.origin_laws.proofs.Entries.{DidOrOld, IsOld, traced_front}
 use Rattle.fate_laws.specs.Decisions.{IsHome, is_left}
 use Rattle.fate_laws.proofs.Deciding.{commits_stand_at_home}
-use Rattle.fate_laws.proofs.Restored.{doubt_prepared, doubt_undecided}
 use Rattle.fate_laws.proofs.Voting.{votes_bind}
 use Rattle.each_shard_laws.specs.Leading.{deeds_before, requests_of}
 use Rattle.each_shard_laws.proofs.Records.{wrote_from}
 use Rattle.each_shard_laws.proofs.Settling.{left_whole, quiet_shards_are_their_maps}
 use Rattle.unfallen_laws.proofs.Going.{aborted_take}
-use Rattle.unfallen_laws.proofs.Sparing.{in_others, yes_voters_never_fell, yes_voters_unaborted}
+use Rattle.unfallen_laws.proofs.Sparing.{yes_voters_never_fell, yes_voters_unaborted}
 use Rattle.unfallen_laws.proofs.Voting.{members_are_voted_for}
+use Rattle.unfallen_laws.proofs.Naming.{names_shard}
 use Rattle.replay_by_shards.specs.Shares.{share_of, in_turn}
 use Rattle.replay_by_shards.proofs.Turns.{shares_make_the_map}
 use Rattle.many_shards_laws.specs.Settling.{ReadersWroteNothing, SettledIsTheMapWhereReadersWroteNothing, SettledOpensClear}
 use Rattle.many_shards_laws.proofs.Shares.{fold_writers, writer_known, at_somewhere, somewhere_at, same_test}
 use Rattle.many_shards_laws.proofs.Earlier.{wrote_at_opening, committed_still, somewhere_at_opening}
 use Rattle.many_shards_laws.proofs.Found.{still_known}
-use Rattle.many_shards_laws.proofs.Unfallen.{names_shard}
-use Rattle.many_shards_laws.proofs.Replaying.{left_length, leads, left_is, within, left_run, wrote_last, fell_there}
+use Rattle.many_shards_laws.proofs.Replaying.{leads, left_is, within, left_run, wrote_last, fell_there}
+use Rattle.fall_laws.proofs.Here.{in_others}
 
 -- ---- a part that is here on a quiet shard is committed
 
@@ -84,8 +85,8 @@ undoubted shard run before all asked told met fell s n t leads q i =
     let follows = (b.1).order.ordered.follows in
     let undecided = doubt_undecided n log t i in
     ⊎_elim
-    (λ w. both_ways _ undecided.0 (writer_wrote (λ u. committed_in log u ≡ true) (standing log) t (all_mono (Wrote (view_of s)) _ (λ w a. writer_committed b.0 s w (b.1).kept q a) (standing log) (b.1).kept.wrote) w))
-    (λ u. both_ways _ undecided.1 ((order_of s.shard log follows).undone t u))
+    (λ w. both_ways _ undecided.1 (writer_wrote (λ u. committed_in log u ≡ true) (standing log) t (all_mono (Wrote (view_of s)) _ (λ w a. writer_committed b.0 s w (b.1).kept q a) (standing log) (b.1).kept.wrote) w))
+    (λ u. both_ways _ undecided.2 ((order_of s.shard log follows).undone t u))
     (wrote_stands s.shard log follows t (prepared_wrote s.shard log follows t (doubt_prepared n log t i)))
 
 module _ (splits : List ℕ) (before : List (List LogRecord)) (h : History) (after : List (List LogRecord)) (choice : ℕ → Bool) (o : may_open splits before ≡ true) (l : Legal splits before h after)
@@ -191,7 +192,7 @@ pub settled_is_the_map_where_readers_wrote_nothing : SettledIsTheMapWhereReaders
 settled_is_the_map_where_readers_wrote_nothing splits before h after choice o l pass quiet =
     let left = logs_left splits before h after choice in
     turns_alike (λ n. live_pairs (final_of before h after n).local.records) (share_of left) (shard_count splits) 0 (shard_count splits) (omega arith) (live_is_share splits before h after choice o l pass quiet)
-    ∙ shares_make_the_map splits left l.splits_rise (left_length (final_of before h after) choice 0 (shard_count splits), logs_left_pass splits before h after choice o l)
+    ∙ shares_make_the_map splits left l.splits_rise (left_length splits before h after choice, logs_left_pass splits before h after choice o l)
 
 -- ---- nothing is in doubt in what a quiet shard leaves
 

@@ -1,18 +1,18 @@
 -- A shard's share of the map is what its own log commits, and what it leaves in doubt that some log commits.
 use Rattle.std.proofs.Common.{◌≡◌, ⊎_elim, refl, sym, ap, ◌∙◌, ℕ, zero, suc, ◌<◌, true, false, cond, Bool, ◌&&◌, ◌||◌, List, [], ◌∷◌, length, arith}
-use Rattle.std.specs.List.{list_any}
 use Rattle.std.proofs.lemmas.Bool.{both_ways, and_parts, and_from, or_cases, or_left, or_right}
 use Rattle.clv_base.specs.declared.names.TxId.{TxId}
 use Rattle.clv_base.specs.declared.logs.LogRecord.{LogRecord}
 use Rattle.clv_base.specs.declared.logs.LogRecord.TheVariants.{Update, Clr, Prepare, Commit, Abort, End, Restart}
 use Rattle.clv_base.specs.Orders.{tx_same, tx_in}
 use Rattle.clv_base.specs.Maps.{KeyMap, map_set}
-use Rattle.clv_base.specs.Logs.{is_record_of, committed_in, wrote_in, committed_somewhere, in_doubt, fold_updates}
+use Rattle.clv_base.specs.Logs.{committed_in, wrote_in, committed_somewhere, in_doubt, fold_updates}
 use Rattle.clv_base.specs.LogRules.{log_of}
 use Rattle.clv_base.specs.FileRules.{may_open}
 use Rattle.clv_base.proofs.SameNames.{tx_self}
 use Rattle.many_shards_laws.specs.Replaying.{SharesAreMaps}
 use Rattle.many_shards_laws.proofs.Homes.{Known, known_here}
+use Rattle.fate_laws.proofs.RecordKinds.{update_is}
 
 -- of the records of a log the writers alone count
 pub fold_writers : (f k : TxId → Bool) (log : List LogRecord) (m : KeyMap) → ((t : TxId) → wrote_in log t ≡ true → f t ≡ k t) → fold_updates f log m ≡ fold_updates k log m
@@ -25,16 +25,6 @@ fold_writers f k (Commit tx ps ∷ rs) m e = fold_writers f k rs m e
 fold_writers f k (Abort tx ∷ rs) m e = fold_writers f k rs m e
 fold_writers f k (End tx ∷ rs) m e = fold_writers f k rs m e
 fold_writers f k (Restart run epoch ∷ rs) m e = fold_writers f k rs m e
-
-pub wrote_record : (log : List LogRecord) (t : TxId) → wrote_in log t ≡ true → list_any (is_record_of t) log ≡ true
-wrote_record [] t w = absurd (both_ways false refl w)
-wrote_record (Update tx a b d ∷ rs) t w = ⊎_elim (λ h. or_left (tx_same t tx) _ h) (λ h. or_right (tx_same t tx) _ (wrote_record rs t h)) (or_cases (tx_same t tx) (wrote_in rs t) w)
-wrote_record (Prepare tx a b ∷ rs) t w = or_right (tx_same t tx) _ (wrote_record rs t w)
-wrote_record (Clr tx a b d ∷ rs) t w = or_right (tx_same t tx) _ (wrote_record rs t w)
-wrote_record (Commit tx a ∷ rs) t w = or_right (tx_same t tx) _ (wrote_record rs t w)
-wrote_record (Abort tx ∷ rs) t w = or_right (tx_same t tx) _ (wrote_record rs t w)
-wrote_record (End tx ∷ rs) t w = or_right (tx_same t tx) _ (wrote_record rs t w)
-wrote_record (Restart run epoch ∷ rs) t w = wrote_record rs t w
 
 pub wrote_within : (logs : List (List LogRecord)) (m : ℕ) (t : TxId) → wrote_in (log_of logs m) t ≡ true → m < length logs
 wrote_within [] m t p = absurd (both_ways false refl p)
@@ -58,7 +48,7 @@ same_test false false f g = refl
 
 -- who wrote in a log that may be opened, and is committed in some log, is committed in it, or in doubt
 pub writer_known : (splits : List ℕ) (before : List (List LogRecord)) (n : ℕ) (t : TxId) → may_open splits before ≡ true → wrote_in (log_of before n) t ≡ true → committed_somewhere before t ≡ true → Known before n t
-writer_known splits before n t o w c = let m = somewhere_at before t c in known_here splits before n m.0 t o (wrote_within before n t w) (wrote_record (log_of before n) t w) m.2
+writer_known splits before n t o w c = let m = somewhere_at before t c in known_here splits before n m.0 t o (wrote_within before n t w) (update_is (log_of before n) t w) m.2
 
 pub shares_are_maps : SharesAreMaps
 shares_are_maps splits before n o i =

@@ -1,8 +1,8 @@
 -- A member that is in doubt in what is left on a shard never fell there.
-use Rattle.std.proofs.Common.{◌≡◌, inl, inr, subst, ℕ, ◌<◌, true, Bool, List, [], map, append-nil, arith}
+use Rattle.std.proofs.Common.{◌≡◌, ℕ, ◌<◌, true, Bool, List, [], append-nil}
 use Rattle.clv_base.specs.declared.names.TxId.{TxId}
 use Rattle.clv_base.specs.declared.logs.LogRecord.{LogRecord}
-use Rattle.clv_base.specs.Orders.{tx_in, nat_in}
+use Rattle.clv_base.specs.Orders.{tx_in}
 use Rattle.clv_base.specs.Logs.{committed_in, in_doubt}
 use Rattle.clv_base.specs.LogRules.{log_of}
 use Rattle.clv_base.specs.Shards.{shard_count}
@@ -10,23 +10,15 @@ use Rattle.clv_base.specs.FileRules.{may_open}
 use Rattle.clv_base.specs.Restarts.{run_after, log_left}
 use Rattle.clv_base.specs.Journals.{History, final_of}
 use Rattle.clv_base.specs.History.{Legal, logs_left}
-use Rattle.history_laws.proofs.Merging.{Among, among_is}
 use Rattle.shard_laws.proofs.Doubting.{prepared_cut}
 use Rattle.origin_laws.proofs.Sessions.{Requested}
 use Rattle.origin_laws.proofs.Entries.{DidOrOld, IsOld, traced_front}
-use Rattle.fate_laws.specs.Decisions.{IsHome}
 use Rattle.fate_laws.proofs.Deciding.{commits_stand_at_home}
-use Rattle.fate_laws.proofs.Restored.{doubt_prepared}
 use Rattle.fall_laws.specs.Falls.{Fell}
 use Rattle.each_shard_laws.proofs.Records.{prepared_from}
-use Rattle.unfallen_laws.proofs.Naming.{requests_name_their_shards}
+use Rattle.unfallen_laws.proofs.Naming.{names_shard}
 use Rattle.unfallen_laws.proofs.Sparing.{prepared_members_never_fell}
-
--- a request names each shard that answered an operation of its transaction
-pub names_shard : (splits : List ℕ) (before after : List (List LogRecord)) (h : History) (n home : ℕ) (t : TxId) (r : IsHome h t home) → Legal splits before h after → t.run ≡ run_after before → DidOrOld (run_after before) h n t → nat_in n (map (λ p. p.0) r.1) ≡ true
-names_shard splits before after h n home t r l run (inl (ep, (b, (y, k, p, a)))) =
-    requests_name_their_shards splits before h after n home y.1 r.0 t b (a.at).nth a.seen (a.at).op a.answer ep r.1 l (among_is n y.1 h (subst (λ q. Among (q, y.1) h) p k)) (a.at).is a.outcome r.2 r.3
-names_shard splits before after h n home t r l run (inr old) = absurd (omega (arith, old, run))
+use Rattle.file_laws.proofs.Doubts.{doubt_prepared}
 
 pub unfallen : (splits : List ℕ) (before : List (List LogRecord)) (h : History) (after : List (List LogRecord)) (choice : ℕ → Bool) (n m : ℕ) (t : TxId) → may_open splits before ≡ true → Legal splits before h after → n < shard_count splits → m < shard_count splits → t.run ≡ run_after before
     → tx_in t (in_doubt n (log_left (final_of before h after n) (choice n))) ≡ true → committed_in (log_of (logs_left splits before h after choice) m) t ≡ true → Fell before h after n t → ⊥

@@ -1,5 +1,5 @@
 -- Members by their parts.
-use Rattle.std.proofs.Common.{◌≡◌, inl, inr, refl, sym, ap, ◌∙◌, ℕ, zero, suc, ◌<◌, true, false, cond, Bool, List, [], ◌∷◌, map, length, Option, Some, None, ◌&&◌, ◌||◌}
+use Rattle.std.proofs.Common.{◌≡◌, inl, inr, refl, sym, ap, ◌∙◌, ℕ, suc, ◌<◌, true, false, cond, Bool, List, [], ◌∷◌, map, Option, Some, None, ◌&&◌, ◌||◌}
 use Rattle.std.specs.Prelude.{is_none}
 use Rattle.std.specs.List.{AllByRecursion, list_all}
 use Rattle.std.proofs.lemmas.Bool.{and_parts}
@@ -15,8 +15,7 @@ use Rattle.clv_base.specs.Orders.{tx_same}
 use Rattle.clv_base.specs.Shards.{shard_count}
 use Rattle.clv_base.specs.LogRules.{log_of, all_logs_from, disorder, apart}
 use Rattle.clv_base.specs.FileRules.{passes_file_rules, log_passes}
-use Rattle.clv_base.specs.State.{Shard}
-use Rattle.clv_base.specs.Journals.{History, final_of, logs_left_from}
+use Rattle.clv_base.specs.Journals.{History}
 use Rattle.clv_base.specs.History.{Member, members, request_of, acknowledged_in, answered_op, ops_in, logs_left}
 use Rattle.clv_base.specs.Logs.{committed_in, stands}
 use Rattle.history_laws.specs.Continuing.{serial_left}
@@ -24,7 +23,7 @@ use Rattle.clv_base.specs.Maps.{replay_map, replay_answers}
 use Rattle.history_laws.proofs.Merging.{Placed, Among}
 use Rattle.history_laws.proofs.Worlds.{in_a_shard}
 use Rattle.file_laws.proofs.Offers.{Offers, OffersBy, offered}
-use Rattle.file_laws.proofs.Passing.{logs_left_pass}
+use Rattle.file_laws.proofs.Passing.{logs_left_pass, left_length}
 use Rattle.replay_by_shards.specs.Shares.{ShardOp, ops_of, answers_of, all_ops, all_answers, LiesIn, LieIn}
 use Rattle.replay_by_shards.proofs.Replaying.{replay_by_shards}
 use Rattle.member_parts.specs.Parts.{op_on, shard_ops_in, member_ops, MembersReplayByParts}
@@ -57,11 +56,11 @@ same_ops : (t : TxId) (h : History) → map told (shard_ops_in t h) ≡ ops_in t
 same_ops t [] = refl
 same_ops t (e ∷ es) = one_told t e.0 (e.1).event (e.1).outcome (shard_ops_in t es) (ops_in t es) (same_ops t es)
 
-firsts : (xs : List ShardOp) → map (λ p. p.0) (map told xs) ≡ ops_of xs
+pub firsts : (xs : List ShardOp) → map (λ p. p.0) (map told xs) ≡ ops_of xs
 firsts [] = refl
 firsts (x ∷ xs) = ap (λ l. x.op ∷ l) (firsts xs)
 
-seconds : (xs : List ShardOp) → map (λ p. p.1) (map told xs) ≡ answers_of xs
+pub seconds : (xs : List ShardOp) → map (λ p. p.1) (map told xs) ≡ answers_of xs
 seconds [] = refl
 seconds (x ∷ xs) = ap (λ l. x.answer ∷ l) (seconds xs)
 
@@ -129,10 +128,6 @@ all_lie splits h (m ∷ ms) k = (ops_lie splits m.tx h k, all_lie splits h ms k)
 
 -- ---- logs
 
-left_length : (finals : ℕ → Shard) (choice : ℕ → Bool) (n k : ℕ) → length (logs_left_from finals choice n k) ≡ k
-left_length finals choice n zero = refl
-left_length finals choice n (suc k) = ap suc (left_length finals choice (suc n) k)
-
 only_passes : (splits : List ℕ) (n : ℕ) (logs : List (List LogRecord)) → all_logs_from n (log_passes splits) logs ≡ true → all_logs_from n (λ m log. list_all (passes_file_rules splits m) log) logs ≡ true
 only_passes splits n [] e = refl
 only_passes splits n (log ∷ logs) e =
@@ -151,6 +146,6 @@ members_replay_by_parts splits before h after choice m l k =
     let f = from_history left h h in
     let r = replay_by_shards splits before left (member_ops h ms) l.splits_rise
     ((l.each_log).0, only_passes splits 0 before (and_parts (all_logs_from 0 (log_passes splits) before) (is_none (apart before)) m).0)
-    (left_length (final_of before h after) choice 0 (shard_count splits), logs_left_pass splits before h after choice m l)
+    (left_length splits before h after choice, logs_left_pass splits before h after choice m l)
     (all_lie splits h ms (λ e i. (in_a_shard splits before after h e l i, offered splits before after h e l i))) k in
     (ap (replay_answers (stands before)) (serial_is h ms f) ∙ r.0 ∙ sym (answers_are h ms f), ap (replay_map (stands before)) (serial_is h ms f) ∙ r.1)

@@ -15,7 +15,7 @@ use Rattle.clv_base.specs.declared.events.Event.TheVariants.{Op as OpEvent, Requ
 use Rattle.clv_base.specs.declared.events.Outcome.{Outcome}
 use Rattle.clv_base.specs.declared.events.Outcome.TheVariants.{Answered}
 use Rattle.clv_base.specs.Orders.{tx_same, tx_get}
-use Rattle.clv_base.specs.Logs.{wrote_in, prepared_in, committed_in}
+use Rattle.clv_base.specs.Logs.{prepared_in, committed_in}
 use Rattle.clv_base.specs.State.{Shard}
 use Rattle.clv_base.specs.Restarts.{run_after}
 use Rattle.clv_base.specs.Journals.{History}
@@ -27,7 +27,7 @@ use Rattle.history_laws.proofs.Merging.{Among, among_is, is_among}
 use Rattle.file_laws.proofs.Walking.{next_entry}
 use Rattle.origin_laws.specs.Origins.{answered_as, WasAnsweredAs, WasEverAnswered, WasAskedAt, WasAsked, WasAskedAway, ComesOf, AllComesOfEntries, PreparesComeOfRequests}
 use Rattle.origin_laws.proofs.Sessions.{Requested}
-use Rattle.origin_laws.proofs.Origins.{SomeRequest, OwnRequest, AwayRequest, StageFrom, PartFrom, RowFrom, CommitFrom, AllFrom, part_of, own_some}
+use Rattle.origin_laws.proofs.Origins.{SomeRequest, OwnRequest, AwayRequest, StageFrom, PartFrom, RowFrom, CommitFrom, AllFrom, part_of, own_some, wrote_all}
 use Rattle.origin_laws.proofs.Events.{active_done}
 use Rattle.origin_laws.proofs.Entries.{Did, DidOrOld, IsOld, Traced, traced_front, brought}
 
@@ -108,16 +108,6 @@ was_own run h n t (inr o) = inr o
 
 -- ---- records
 
-wrote_from : (A : TxId → Type 0) (Q : TxId → ℕ → Type 0) (O : TxId → Type 0) (n : ℕ) (rs : List LogRecord) (t : TxId) → AllFrom A Q O n rs → wrote_in rs t ≡ true → A t
-wrote_from A Q O n [] t a e = absurd (both_ways false refl e)
-wrote_from A Q O n (Update u key b x ∷ rs) t a e = ⊎_elim (λ s. subst A (sym (tx_true t u s)) a.0) (λ s. wrote_from A Q O n rs t a.1 s) (or_cases (tx_same t u) (wrote_in rs t) e)
-wrote_from A Q O n (Clr u next key x ∷ rs) t a e = wrote_from A Q O n rs t a.1 e
-wrote_from A Q O n (PrepareRecord u home ps ∷ rs) t a e = wrote_from A Q O n rs t a.1 e
-wrote_from A Q O n (Commit u ps ∷ rs) t a e = wrote_from A Q O n rs t a.1 e
-wrote_from A Q O n (Abort u ∷ rs) t a e = wrote_from A Q O n rs t a.1 e
-wrote_from A Q O n (End u ∷ rs) t a e = wrote_from A Q O n rs t a.1 e
-wrote_from A Q O n (RestartRecord r ep ∷ rs) t a e = wrote_from A Q O n rs t a.1 e
-
 prepared_from : (A : TxId → Type 0) (Q : TxId → ℕ → Type 0) (O : TxId → Type 0) (n : ℕ) (rs : List LogRecord) (t : TxId) → AllFrom A Q O n rs → prepared_in rs t ≡ true → SomeRequest Q O t
 prepared_from A Q O n [] t a e = absurd (both_ways false refl e)
 prepared_from A Q O n (PrepareRecord u home ps ∷ rs) t a e = ⊎_elim (λ s. subst (SomeRequest Q O) (sym (tx_true t u s)) (own_some Q O home u (a.0).1)) (λ s. prepared_from A Q O n rs t a.1 s) (or_cases (tx_same t u) (prepared_in rs t) e)
@@ -160,7 +150,7 @@ comes_of run h n s k =
       active = λ t p g a. active_is run h n s t p k g a;
       known = λ t b w. o.known t (b, did_of run h n s t b s.local.epoch k w);
       closed = λ t c. was_asked run h t (part_of n s.local.epoch _ _ _ _ _ s t Closed o c).3;
-      wrote = λ t e. ever run h n t (wrote_from _ (Requested h) (IsOld run) n s.local.log t o.log e);
+      wrote = λ t e. ever run h n t (wrote_all _ (Requested h) (IsOld run) n s.local.log t o.log e);
       prepared = λ t e. was_asked run h t (prepared_from _ (Requested h) (IsOld run) n s.local.log t o.log e);
       committed = λ t e. was_asked run h t (committed_from _ (Requested h) (IsOld run) n s.local.log t o.log e);
       coordinated = λ t q g. was_own run h n t (rows_get (λ x. RowFrom (Requested h) (IsOld run) n x.0 x.1) t q s.requests o.requests g).0;

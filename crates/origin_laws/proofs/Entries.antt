@@ -44,6 +44,7 @@ use Rattle.history_laws.proofs.Worlds.{state_at}
 use Rattle.session_laws.proofs.Walking.{SeenIs, AnswersAt}
 use Rattle.session_laws.proofs.Replying.{OpIs, performs, reply_is, answered_epoch}
 use Rattle.file_laws.proofs.Walking.{Behind, Walked, Steps, walked_front}
+use Rattle.file_laws.proofs.Found.{none_of}
 use Rattle.origin_laws.proofs.Sessions.{Requested}
 use Rattle.origin_laws.proofs.Origins.{AwayRequest, MessageFrom, Origins, AllFrom, RecordFrom, from_finish}
 use Rattle.protocol_laws.proofs.Reaching.{restarts_lead_to_one}
@@ -86,7 +87,7 @@ pub record Traced (run : ℕ) (pre : History) (n : ℕ) (s : Shard) : Type 0 whe
 did_more : (pre : History) (x : Placed) (n ep : ℕ) (t : TxId) (b : Birth) → Did pre n ep t b → Did (pre ++ x ∷ []) n ep t b
 did_more pre x n ep t b (y, i, p, a) = (y, among_left y pre (x ∷ []) i, p, a)
 
-old_more : (run : ℕ) (pre : History) (x : Placed) (n : ℕ) (t : TxId) → DidOrOld run pre n t → DidOrOld run (pre ++ x ∷ []) n t
+pub old_more : (run : ℕ) (pre : History) (x : Placed) (n : ℕ) (t : TxId) → DidOrOld run pre n t → DidOrOld run (pre ++ x ∷ []) n t
 old_more run pre x n t (inl (ep, (b, d))) = inl (ep, (b, did_more pre x n ep t b d))
 old_more run pre x n t (inr o) = inr o
 
@@ -381,10 +382,6 @@ old_record n run shard D Q (Commit tx (p ∷ ps)) l f = inr (omega (arith, l, f)
 old_record n run shard D Q (Abort tx) l f = inr (omega (arith, l, f))
 old_record n run shard D Q (End tx) l f = inr (omega (arith, l, f))
 old_record n run shard D Q (RestartRecord r epoch) l f = tt
-
-none_of : {X : Type 0} (o : Option X) → is_none o ≡ true → o ≡ None
-none_of None e = refl
-none_of (Some x) e = absurd (both_ways false refl e)
 
 old_log : (splits : List ℕ) (before : List (List LogRecord)) (n : ℕ) → may_open splits before ≡ true → n < length before → AllFrom (DidOrOld (run_after before) [] n) (Requested []) (IsOld (run_after before)) n (log_of before n)
 old_log splits before n m l =

@@ -2,13 +2,12 @@
 use Rattle.std.proofs.Common.{◌≡◌, inl, inr, ⊎_elim, refl, sym, ap, subst, ◌∙◌, ℕ, zero, suc, true, false, cond, not, Bool, List, [], ◌∷◌, ◌++◌, map, Option, Some, None, ◌&&◌, ◌==◌, is_some}
 use Rattle.std.specs.Prelude.{⊤, take}
 use Rattle.std.specs.List.{AllByRecursion, filter}
-use Rattle.std.proofs.lemmas.Bool.{both_ways, and_parts, or_left, or_right, eq-eqb}
+use Rattle.std.proofs.lemmas.Bool.{both_ways, and_parts, eq-eqb}
 use Rattle.clv_base.specs.declared.names.TxId.{TxId}
 use Rattle.clv_base.specs.declared.names.Birth.{Birth}
 use Rattle.clv_base.specs.declared.ops.Op.{Op}
 use Rattle.clv_base.specs.declared.ops.Answer.{Answer}
 use Rattle.clv_base.specs.declared.causes.AbortCause.{AbortCause}
-use Rattle.clv_base.specs.declared.causes.Vote.{Vote}
 use Rattle.clv_base.specs.declared.logs.LogRecord.{LogRecord}
 use Rattle.clv_base.specs.declared.logs.LogRecord.TheVariants.{Update, Clr, Prepare as PrepareRecord, Commit, Abort, End, Restart as RestartRecord}
 use Rattle.clv_base.specs.declared.messages.Message.{Message}
@@ -36,7 +35,7 @@ use Rattle.clv_base.specs.Coordinator.{new_request, others, vote_from, with_vote
 use Rattle.clv_base.specs.OneShard.{OpDies, OpAnswers, active_part, new_part, written, locked, rolled_back_if, without_part, closing, closed_part, closed_in, close_part, dropped_part, marked_in, mark_dropped, drop_part}
 use Rattle.clv_base.specs.Events.{finish, is_alone, coordinate, owe_vote, decided, ask_messages, durable_requests, waiting_voters, reminders, with_durable, put_down}
 use Rattle.clv_base.specs.Restarts.{losers, undo_records, restart_records, log_after_restart, next_epoch, home_by, homes_of, restored_part, unended_with, unended_in, log_left, opened, revived, FailedRestarts, untouched, failed_first, Restarts}
-use Rattle.clv_base.proofs.SameNames.{tx_true, tx_self, in_insert}
+use Rattle.clv_base.proofs.SameNames.{tx_true, in_insert}
 use Rattle.law_base.proofs.Changed.{none_some}
 use Rattle.law_base.proofs.Lists.{all_mono}
 use Rattle.law_base.proofs.Rows.{rows_get, rows_put}
@@ -46,6 +45,7 @@ use Rattle.history_laws.proofs.Stepping.{with_work, Step, op_dies, op_answers, r
 use Rattle.history_laws.proofs.Telling.{all_append, all_map}
 use Rattle.session_laws.proofs.Replying.{OpIs, dies, rolls, performs, reply_is}
 use Rattle.origin_laws.proofs.Origins.{SomeRequest, OwnRequest, AwayRequest, away_some, own_some, BirthFrom, StageFrom, PartFrom, CommitFrom, RecordFrom, StateFrom, RowFrom, MessageFrom, Origins, part_of, none_changed, AllFrom, push_records, clrs_all, standing_of, from_rolled, from_send, from_push, row_of, from_set, from_finish}
+use Rattle.file_laws.proofs.Rows.{all_in, all_rows}
 
 -- ---- what an entry owes: an operation that is answered, a request that is taken, a Prepare that comes
 
@@ -218,10 +218,6 @@ each_from : (Q : TxId → ℕ → Type 0) (O : TxId → Type 0) (f : TxId → Re
 each_from Q O f [] a = tt
 each_from Q O f (r ∷ rs) a = all_append (MessageFrom Q O) (f r.0 r.1) _ a.0 (each_from Q O f rs a.1)
 
-all_rows : {X : Type 0} (P : X → Type 0) → ((x : X) → P x) → (xs : List X) → AllByRecursion P xs
-all_rows P k [] = tt
-all_rows P k (x ∷ xs) = (k x, all_rows P k xs)
-
 missing_from : (Q : TxId → ℕ → Type 0) (O : TxId → Type 0) (shard : ℕ) (tx : TxId) (q : Request) (st : RequestState) → StateFrom Q shard tx st → AllByRecursion (MessageFrom Q O) (missing_votes shard tx q st)
 missing_from Q O shard tx q Undecided k = to_others Q O shard tx (λ t. not (t.0 == shard) && not (is_some (vote_from t.0 q.votes))) q.touched k (λ t. not_here_too shard t (not (is_some (vote_from t.0 q.votes))))
 missing_from Q O shard tx q (Committed parts) k = tt
@@ -258,9 +254,6 @@ reminders_from n ep D A Q O K s p =
     (asks_from Q O s.shard s.voters (waiting_voters s) (subst (λ z. AllByRecursion (λ r. AwayRequest Q O z r.0) s.voters) (sym p.shard) p.voters))
 
 -- ---- each step
-
-counted_vote : (Q : TxId → ℕ → Type 0) (n shard from : ℕ) (tx : TxId) (vote : Vote) (q : Request) → StateFrom Q n tx q.state → StateFrom Q n tx (with_vote_of from vote q).state
-counted_vote Q n shard from tx vote q k = k
 
 answer_from : (Q : TxId → ℕ → Type 0) (O : TxId → Type 0) (s : Shard) (tx : TxId) (from : ℕ) (o : Option Bool) → AwayRequest Q O from tx → AllByRecursion (MessageFrom Q O) (ask_messages s tx from o)
 answer_from Q O s tx from None a = tt
@@ -350,16 +343,12 @@ doubts_from A Q O n log shard (Abort tx ∷ rs) sf a k = doubts_from A Q O n log
 doubts_from A Q O n log shard (End tx ∷ rs) sf a k = doubts_from A Q O n log shard rs sf a.1 k
 doubts_from A Q O n log shard (RestartRecord run epoch ∷ rs) sf a k = doubts_from A Q O n log shard rs sf a.1 k
 
-all_from : (R : TxId → Type 0) (xs : List TxId) → ((t : TxId) → tx_in t xs ≡ true → R t) → AllByRecursion R xs
-all_from R [] k = tt
-all_from R (x ∷ xs) k = (k x (or_left (tx_same x x) (tx_in x xs) (tx_self x)), all_from R xs (λ t i. k t (or_right (tx_same x t) (tx_in t xs) i)))
-
 map_rows : {X : Type 0} {Y : Type 0} (P : X → Type 0) (S : Y → Type 0) (f : X → Y) (xs : List X) → ((x : X) → P x → S (f x)) → AllByRecursion P xs → AllByRecursion S (map f xs)
 map_rows P S f [] k a = tt
 map_rows P S f (x ∷ xs) k a = (k x a.0, map_rows P S f xs k a.1)
 
 doubts_all : (A : TxId → Type 0) (Q : TxId → ℕ → Type 0) (O : TxId → Type 0) (n shard : ℕ) (log : List LogRecord) → AllFrom A Q O n log → AllByRecursion (AwayRequest Q O shard) (in_doubt shard log)
-doubts_all A Q O n shard log a = all_from (AwayRequest Q O shard) (in_doubt shard log) (doubts_from A Q O n log shard log [] a (λ t i. absurd (both_ways false refl i)))
+doubts_all A Q O n shard log a = all_in (AwayRequest Q O shard) (in_doubt shard log) (doubts_from A Q O n log shard log [] a (λ t i. absurd (both_ways false refl i)))
 
 -- whose COMMIT has parts made its request here
 unended_case : (Q : TxId → ℕ → Type 0) (O : TxId → Type 0) (n : ℕ) (log : List LogRecord) (tx : TxId) (parts : List ℕ) (rest : Table (List ℕ)) → CommitFrom Q O n tx parts → AllByRecursion (λ r. OwnRequest Q O n r.0) rest
@@ -400,7 +389,7 @@ in_writers A (w ∷ ws) a t i = ⊎_elim (λ e. subst A (sym e) a.0) (λ j. in_w
 
 restart_all : (A : TxId → Type 0) (Q : TxId → ℕ → Type 0) (O : TxId → Type 0) (n shard : ℕ) (log : List LogRecord) (run epoch : ℕ) → AllFrom A Q O n log → AllFrom A Q O n (restart_records shard log run epoch)
 restart_all A Q O n shard log run epoch a =
-    let ls = filter_all_of A _ (writers (standing log)) (all_from A (writers (standing log)) (in_writers A (standing log) (standing_of A Q O n log a))) in
+    let ls = filter_all_of A _ (writers (standing log)) (all_in A (writers (standing log)) (in_writers A (standing log) (standing_of A Q O n log a))) in
     push_records A Q O n (undo_records shard log) (RestartRecord run epoch ∷ [])
     (push_records A Q O n _ (clrs_of (losers shard log) (standing log)) (map_rows A (RecordFrom A Q O n) (λ t. Abort t) (filter (λ t. not (aborted_in log t)) (losers shard log)) (λ t x. x) (filter_all_of A (λ t. not (aborted_in log t)) (losers shard log) ls))
     (clrs_all A Q O n (losers shard log) (standing log) (standing_of A Q O n log a)))

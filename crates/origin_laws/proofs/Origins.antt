@@ -185,7 +185,7 @@ clrs_all A Q O n set (w ∷ ws) a = at (tx_in w.tx set) (clrs_all A Q O n set ws
     at true k = (a.0, k)
     at false k = k
 
-wrote_all : (A : TxId → Type 0) (Q : TxId → ℕ → Type 0) (O : TxId → Type 0) (n : ℕ) (rs : List LogRecord) (t : TxId) → AllFrom A Q O n rs → wrote_in rs t ≡ true → A t
+pub wrote_all : (A : TxId → Type 0) (Q : TxId → ℕ → Type 0) (O : TxId → Type 0) (n : ℕ) (rs : List LogRecord) (t : TxId) → AllFrom A Q O n rs → wrote_in rs t ≡ true → A t
 wrote_all A Q O n [] t a e = absurd (both_ways false refl e)
 wrote_all A Q O n (Update u key before after ∷ rs) t a e = ⊎_elim (λ s. subst A (sym (tx_true t u s)) a.0) (λ s. wrote_all A Q O n rs t a.1 s) (or_cases (tx_same t u) (wrote_in rs t) e)
 wrote_all A Q O n (Clr u next key after ∷ rs) t a e = wrote_all A Q O n rs t a.1 e
@@ -224,7 +224,7 @@ from_rolled n ep D A Q O K s tx p =
       requests = p.requests;
     }
 
-in_one : (t u : TxId) → tx_in t (u ∷ []) ≡ true → t ≡ u
+pub in_one : (t u : TxId) → tx_in t (u ∷ []) ≡ true → t ≡ u
 in_one t u e = ⊎_elim (λ a. sym (tx_true u t a)) (λ a. absurd (both_ways false refl a)) (or_cases (tx_same u t) false e)
 
 pub from_finished : (n ep : ℕ) (D : TxId → Birth → Type 0) (A : TxId → Type 0) (Q : TxId → ℕ → Type 0) (O K : TxId → Type 0) (s : Shard) (tx : TxId) → SomeRequest Q O tx → Origins n ep D A Q O K s → Origins n ep D A Q O K (finish_part tx s)
@@ -311,9 +311,6 @@ ruled Q n s t q (Refused c) e k = tt
 commit_from : (Q : TxId → ℕ → Type 0) (O : TxId → Type 0) (n : ℕ) (t : TxId) (parts : List ℕ) → Q t n → CommitFrom Q O n t parts
 commit_from Q O n t [] q = inl (n, q)
 commit_from Q O n t (p ∷ ps) q = inl q
-
-ended_state : (Q : TxId → ℕ → Type 0) (n : ℕ) (t : TxId) (q : Request) → StateFrom Q n t q.state → StateFrom Q n t (record q { is_ended = true }).state
-ended_state Q n t q k = k
 
 aborts_away : (Q : TxId → ℕ → Type 0) (O : TxId → Type 0) (n shard : ℕ) (tx : TxId) (ms : List ℕ) → Q tx n → AllByRecursion (λ m. m ≡ n → ⊥) ms → AllByRecursion (MessageFrom Q O) (map (λ m. Decide m tx shard false) ms)
 aborts_away Q O n shard tx [] q a = tt

@@ -1,5 +1,5 @@
 -- Two entries of one transaction, in turn.
-use Rattle.std.proofs.Common.{◌≡◌, inl, inr, ⊎_elim, refl, sym, ap, subst, ℕ, true, false, cond, Bool, List, [], ◌∷◌, Option, Some, ◌==◌}
+use Rattle.std.proofs.Common.{◌≡◌, ⊎_elim, refl, sym, ap, subst, ℕ, true, List, [], ◌∷◌, Option, Some}
 use Rattle.std.specs.List.{AllByRecursion}
 use Rattle.std.proofs.lemmas.Bool.{both_ways, eq-eqb}
 use Rattle.clv_base.specs.declared.names.TxId.{TxId}
@@ -17,7 +17,7 @@ use Rattle.history_laws.proofs.Merging.{Placed, Before, in_order, Among, Precede
 use Rattle.history_laws.proofs.Walkers.{nothing_follows}
 use Rattle.history_laws.proofs.Telling.{IsRequest}
 use Rattle.history_laws.proofs.Staying.{together}
-use Rattle.file_laws.proofs.Walking.{Behind}
+use Rattle.file_laws.proofs.Walking.{Behind, from_own, first_among}
 use Rattle.session_laws.proofs.Walking.{OpAt, AnswersAt, has_seen}
 use Rattle.session_laws.proofs.Naming.{AnsweredAt, Named, request_names_all}
 
@@ -51,22 +51,6 @@ pub same_epoch : (splits : List ℕ) (before after : List (List LogRecord)) (h :
 same_epoch splits before after h y x t b birth e seen l c q a o =
     let p = own_precedes splits before after h y x t l c (ap tx_of (a.at).is) (ap tx_of o.is) in
     has_seen splits (own (y.1).walker h) (no_session (run_after before) (y.1).walker) y x t b birth e seen p.1 p.0 q a o
-
--- ---- a walker's own entries are the history's
-
-own_case : (w : ℕ) (y f : Placed) (fs : History) (b : Bool) → Among y (cond b (f ∷ own w fs) (own w fs)) → (Among y (own w fs) → Among y fs) → Among y (f ∷ fs)
-own_case w y f fs true (inl q) k = inl q
-own_case w y f fs true (inr m) k = inr (k m)
-own_case w y f fs false m k = inr (k m)
-
-pub from_own : (w : ℕ) (y : Placed) (h : History) → Among y (own w h) → Among y h
-from_own w y [] m = elim m [ ]
-from_own w y (f ∷ fs) m = own_case w y f fs ((f.1).walker == w) m (from_own w y fs)
-
-pub first_among : (x y : Placed) (es : List Placed) → Precedes x y es → Among x es
-first_among x y [] p = elim p [ ]
-first_among x y (z ∷ zs) (inl p) = inl p.0
-first_among x y (z ∷ zs) (inr p) = inr (first_among x y zs p)
 
 -- ---- what a request names: operations before it, on the shard and in the epoch that it says
 

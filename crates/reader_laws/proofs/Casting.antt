@@ -36,9 +36,7 @@ use Rattle.clv_base.proofs.SameNames.{tx_self}
 use Rattle.law_base.proofs.Changed.{none_some}
 use Rattle.law_base.proofs.Rows.{rows_get}
 use Rattle.law_base.proofs.Tables.{stage_in}
-use Rattle.protocol_laws.specs.Growth.{IsPrefixOf}
 use Rattle.shard_laws.specs.OneShard.{is_doomed}
-use Rattle.shard_laws.proofs.Changes.{wrote_keeps}
 use Rattle.shard_laws.proofs.Leaving.{gone_by, stage_own}
 use Rattle.history_laws.proofs.Telling.{all_append, all_map}
 use Rattle.history_laws.proofs.Stepping.{Due, commits, votes, rules, KeptByDue, settled, Step, finishes, stops}
@@ -47,10 +45,13 @@ use Rattle.fate_laws.proofs.Inside.{inside_self, inside_due, inside_step}
 use Rattle.fate_laws.proofs.Binding.{VoteIs, kept, yes, read, no, vote_is}
 use Rattle.fate_laws.proofs.Calm.{due_closed}
 use Rattle.fate_laws.proofs.Closings.{Closes, by_request, by_prepare, step_closed}
-use Rattle.fate_laws.proofs.PartsEvents.{Tables, same, coordinates, owes, counts, done, sent, again, answers, reminds, step_tables}
-use Rattle.cause_laws.proofs.Starting.{set_row, put_row}
+use Rattle.fate_laws.proofs.PartsEvents.{Tables, same, coordinates, owes, counts, done, sent, again, answers, reminds, step_tables, reader_tables}
+use Rattle.fate_laws.proofs.Homes.{still_not}
+use Rattle.fate_laws.proofs.Writing.{wrote_grown}
+use Rattle.cause_laws.proofs.Starting.{set_row}
 use Rattle.reader_laws.proofs.Staying.{Fewer, fewer_same, fewer_finished, present_back, rolled_doomed}
 use Rattle.reader_laws.proofs.Writing.{due_updates}
+use Rattle.file_laws.proofs.Rows.{put_row}
 
 -- ---- votes of read that a shard holds or is about to send. R: who was asked for its vote; P: what holds of each that voted read
 
@@ -169,17 +170,11 @@ pub record Casting (R P : TxId → Type 0) (s0 s : Shard) : Type 0 where
   pub grown : (t : TxId) → wrote_in s0.local.log t ≡ true → wrote_in s.local.log t ≡ true
   pub voters : Voters R (ReadBy R P s0 s) s
 
-still : (a b : Bool) → (b ≡ true → a ≡ true) → a ≡ false → b ≡ false
-still a b k e = false_from_ne_true b (λ h. both_ways _ e (k h))
-
-pub prefix_wrote : (xs ys : List LogRecord) (t : TxId) → IsPrefixOf xs ys → wrote_in xs t ≡ true → wrote_in ys t ≡ true
-prefix_wrote xs ys t p h = subst (λ l. wrote_in l t ≡ true) p.1 (wrote_keeps xs p.0 t h)
-
 -- ---- what is due
 
 -- who is not here and not gone by an abort stays so
 quiet_fewer : (s u : Shard) (t : TxId) → Fewer s u → is_present (stage_of s.local t) ≡ false → is_doomed (stage_of s.local t) ≡ false → (is_present (stage_of u.local t) ≡ false) × (is_doomed (stage_of u.local t) ≡ false)
-quiet_fewer s u t f a b = (still _ _ (f.present t) a, still _ _ (f.doomed t) b)
+quiet_fewer s u t f a b = (still_not _ _ (f.present t) a, still_not _ _ (f.doomed t) b)
 
 quiet_due : (s u : Shard) (t : TxId) → Due s (Some u) → is_present (stage_of s.local t) ≡ false → is_doomed (stage_of s.local t) ≡ false → (is_present (stage_of u.local t) ≡ false) × (is_doomed (stage_of u.local t) ≡ false)
 quiet_due s u t (commits tx x y) a b = quiet_fewer s u t (fewer_finished s u tx refl) a b
@@ -189,13 +184,13 @@ quiet_due s u t (votes tx v (No why) x y) a b = quiet_fewer s u t (fewer_same s 
 quiet_due s u t (rules tx q (CommitVerdict parts) x y) a b = quiet_fewer s u t (fewer_same s u refl) a b
 quiet_due s u t (rules tx q Acknowledge x y) a b = quiet_fewer s u t (fewer_finished s u tx refl) a b
 quiet_due s u t (rules tx q (AbortVerdict cause to) x y) a b =
-    (still _ _ (present_back (doomed_here s.local tx) (Some tx) s.local.parts t) a, false_from_ne_true _ (λ h. ⊎_elim (λ k. both_ways _ b k) (λ k. both_ways _ a k) (rolled_doomed s.local tx t h)))
+    (still_not _ _ (present_back (doomed_here s.local tx) (Some tx) s.local.parts t) a, false_from_ne_true _ (λ h. ⊎_elim (λ k. both_ways _ b k) (λ k. both_ways _ a k) (rolled_doomed s.local tx t h)))
 quiet_due s u t (rules tx q EndVerdict x y) a b = quiet_fewer s u t (fewer_same s u refl) a b
 
 casts_due : (R : TxId → Type 0) (s0 s u : Shard) (t : TxId) → Due s (Some u) → Casts R s0 s t → Casts R s0 u t
 casts_due R s0 s u t d c =
     let q = quiet_due s u t d c.absent c.undoomed in
-    record { asked = c.asked; here = c.here; fresh = c.fresh; unwritten = still _ _ (due_updates s u d t) c.unwritten; absent = q.0; undoomed = q.1 }
+    record { asked = c.asked; here = c.here; fresh = c.fresh; unwritten = still_not _ _ (due_updates s u d t) c.unwritten; absent = q.0; undoomed = q.1 }
 
 carry : (R P : TxId → Type 0) (s0 s u : Shard) → Due s (Some u) → (t : TxId) → ReadBy R P s0 s t → ReadBy R P s0 u t
 carry R P s0 s u d t (inl p) = inl p
@@ -205,7 +200,7 @@ casting_by : (R P : TxId → Type 0) (s0 s u : Shard) → Due s (Some u) → Vot
 casting_by R P s0 s u d w k =
     record {
       closed = λ t c. k.closed t (due_closed s u t d c);
-      grown = λ t h. prefix_wrote s.local.log u.local.log t ((inside_due s s u d (inside_self s)).log) (k.grown t h);
+      grown = λ t h. wrote_grown s.local.log u.local.log t ((inside_due s s u d (inside_self s)).log) (k.grown t h);
       voters = w;
     }
 
@@ -241,12 +236,6 @@ voters_voted R P Q s u tx v vote e f g w k r p =
     said Read k = k refl
     said (No why) k = tt
 
-reader_tables : (s : Shard) (tx : TxId) (v : Voter) (vote : Vote)
-    → ((finish_reader tx vote (with_vote s tx v vote)).voters ≡ tx_set tx (voted vote v) s.voters) × ((finish_reader tx vote (with_vote s tx v vote)).outbox ≡ s.outbox ++ VoteMessage v.home tx s.shard vote ∷ [])
-reader_tables s tx v Yes = (refl, refl)
-reader_tables s tx v Read = (refl, refl)
-reader_tables s tx v (No why) = (refl, refl)
-
 -- one that is read is cast here, or was before
 reads_now : (R P : TxId → Type 0) (s0 s : Shard) (tx : TxId) (v : Voter) (y : Vote) → tx_get tx s.voters ≡ Some v → (v.owed == 0) ≡ false → VoteIs s tx v y → Casting R P s0 s → Due s (Some (finish_reader tx y (with_vote s tx v y))) → y ≡ Read → ReadBy R P s0 (finish_reader tx y (with_vote s tx v y)) tx
 reads_now R P s0 s tx v y g w (kept e) k d q = carry R P s0 s (finish_reader tx y (with_vote s tx v y)) d tx ((k.voters).rows tx v g (e ∙ ap (λ z. Some z) q))
@@ -257,7 +246,7 @@ reads_now R P s0 s tx v _ g w (read c f) k d q =
     (record {
       asked = (k.voters).owing tx v g w;
       here = k.closed tx c;
-      fresh = still _ _ (k.grown tx) f;
+      fresh = still_not _ _ (k.grown tx) f;
       unwritten = f;
       absent = ap is_present gone;
       undoomed = ap is_doomed gone;
@@ -334,7 +323,7 @@ casting_step : (R P : TxId → Type 0) (s x : Shard) {e : Event} {o : Outcome} �
 casting_step R P s x h w p =
     record {
       closed = λ t c. ⊎_elim (λ k. there (stage_of s.local t) Closed k refl) (λ k. closes_here s t k) (step_closed s x t h c);
-      grown = λ t k. prefix_wrote s.local.log x.local.log t ((inside_step s x h).log) k;
+      grown = λ t k. wrote_grown s.local.log x.local.log t ((inside_step s x h).log) k;
       voters = voters_step R P (ReadBy R P s x) s x (step_tables s x h) w (λ t k. inl k) p;
     }
 

@@ -37,9 +37,10 @@ use Rattle.origin_laws.proofs.Origins.{RowFrom, OwnRequest}
 use Rattle.origin_laws.proofs.Sessions.{Requested}
 use Rattle.origin_laws.proofs.Entries.{IsOld, requested_more, traced_front}
 use Rattle.fate_laws.proofs.Arriving.{commits_come_due}
-use Rattle.fate_laws.proofs.Closings.{Commits, alone, decided, new_commit, step_commits}
+use Rattle.fate_laws.proofs.Closings.{Commits, alone, decided, step_commits}
 use Rattle.fate_laws.proofs.Inside.{Inside, inside_self, inside_due, inside_step}
 use Rattle.fate_laws.proofs.Prefixes.{Next, next_at, each_shard}
+use Rattle.fate_laws.proofs.Homes.{new_commit}
 use Rattle.fall_laws.proofs.Falling.{walk_on}
 
 -- ---- what is due

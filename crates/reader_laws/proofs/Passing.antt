@@ -1,5 +1,5 @@
 -- Along a history: who voted read on a shard was asked for its vote by another, wrote nothing there, isn't there any more, and never fell there.
-use Rattle.std.proofs.Common.{◌≡◌, inl, inr, ⊎_elim, refl, sym, ap, subst, ◌∙◌, ℕ, ◌<◌, true, false, List, [], ◌∷◌, ◌++◌, Option, Some, None, append-nil, append_assoc}
+use Rattle.std.proofs.Common.{◌≡◌, inl, inr, ⊎_elim, refl, sym, ap, subst, ◌∙◌, ℕ, ◌<◌, true, false, List, [], ◌∷◌, ◌++◌, append-nil, append_assoc}
 use Rattle.std.specs.Prelude.{⊤}
 use Rattle.std.specs.List.{AllByRecursion}
 use Rattle.std.proofs.lemmas.Bool.{both_ways, false_from_ne_true}
@@ -11,8 +11,6 @@ use Rattle.clv_base.specs.declared.events.Event.{Event}
 use Rattle.clv_base.specs.declared.events.Event.TheVariants.{Deliver, Restart}
 use Rattle.clv_base.specs.declared.events.Outcome.{Outcome}
 use Rattle.clv_base.specs.declared.events.Outcome.TheVariants.{Sent}
-use Rattle.clv_base.specs.declared.state.Stage.{Stage}
-use Rattle.clv_base.specs.declared.state.Stage.TheVariants.{Active, Closed, Gone}
 use Rattle.clv_base.specs.Shards.{shard_count}
 use Rattle.clv_base.specs.FileRules.{may_open}
 use Rattle.clv_base.specs.LogRules.{log_of}
@@ -36,8 +34,9 @@ use Rattle.fate_laws.proofs.Binding.{Reads, ordered_wrote}
 use Rattle.fate_laws.proofs.Bindings.{WasTaken, Sought, FineAt, SaysOut, says_made, Bindings, bindings_front, asked_not_own, noted_reads}
 use Rattle.fate_laws.proofs.Prefixes.{Next, next_at, each_shard}
 use Rattle.fate_laws.proofs.Standing.{NotOwn, reads_made}
+use Rattle.fate_laws.proofs.Voting.{absent}
 use Rattle.fall_laws.specs.Falls.{Fell}
-use Rattle.fall_laws.proofs.Falling.{walk_on}
+use Rattle.fall_laws.proofs.Falling.{walk_on, same_last}
 use Rattle.fall_laws.proofs.Falling.{last_front}
 use Rattle.fall_laws.proofs.Finding.{fell_out}
 use Rattle.reader_laws.proofs.Staying.{doomed_was}
@@ -61,22 +60,6 @@ pub record Passing (splits : List ℕ) (before after : List (List LogRecord)) (p
   pub voters : (n : ℕ) → n < shard_count splits → Voters (Away before pre n) (Passed splits before after pre n) (state_at before after n pre)
   pub sent : (x : Placed) (home from : ℕ) (t : TxId) → from < shard_count splits → Among x pre → (x.1).outcome ≡ Sent (VoteMessage home t from Read) → Passed splits before after pre from t
 
--- ---- lists
-
-snoc_same : (xs ys : History) (x y : Placed) → xs ++ x ∷ [] ≡ ys ++ y ∷ [] → (xs ≡ ys) × (x ≡ y)
-snoc_same [] [] x y e = (refl, cc)
-snoc_same [] (z ∷ []) x y e = absurd cc
-snoc_same [] (z ∷ (w ∷ ws)) x y e = absurd cc
-snoc_same (z ∷ []) [] x y e = absurd cc
-snoc_same (z ∷ (w ∷ ws)) [] x y e = absurd cc
-snoc_same (z ∷ zs) (w ∷ ws) x y e = let k = snoc_same zs ws x y (rest e) in (ap (λ v. v ∷ zs) (first e) ∙ ap (λ v. w ∷ v) k.0, k.1)
-  where
-    first : z ∷ (zs ++ x ∷ []) ≡ w ∷ (ws ++ y ∷ []) → z ≡ w
-    first q = cc
-
-    rest : z ∷ (zs ++ x ∷ []) ≡ w ∷ (ws ++ y ∷ []) → zs ++ x ∷ [] ≡ ws ++ y ∷ []
-    rest q = cc
-
 -- ---- what an entry sends stood in the outbox
 
 SaidIs : (TxId → Type 0) → Outcome → Type 0
@@ -99,12 +82,6 @@ said_made P log s _ (by_restart epoch keeps u r) a = tt
 said_read : (P : TxId → Type 0) (o : Outcome) (home from : ℕ) (t : TxId) → SaidIs P o → o ≡ Sent (VoteMessage home t from Read) → P t
 unfolding SaidIs
 said_read P o home from t a q = subst (SaidIs P) q a
-
-absent : (o : Option Stage) → (o ≡ Some Active → ⊥) → (o ≡ Some Closed → ⊥) → is_present o ≡ false
-absent None a c = refl
-absent (Some Active) a c = absurd (a refl)
-absent (Some Closed) a c = absurd (c refl)
-absent (Some (Gone d)) a c = refl
 
 -- ---- one entry more
 
@@ -154,7 +131,7 @@ module _ (splits : List ℕ) (before after : List (List LogRecord)) (h pre : His
       → (is_present (stage_of (state_at before after n pre).local t) ≡ true → (e.1).event ≡ Restart → ⊥) → Fell before (pre ++ e ∷ []) after n t → ⊥
   unfallen_by n t k d p (inr (front, rest, z, y)) =
       ⊎_elim (λ f. d (subst (λ x. is_doomed (stage_of (state_at before after n x).local t) ≡ true) f y)) (λ f. k (inr (front, f.0, f.1, y))) (last_front front rest pre e z)
-  unfallen_by n t k d p (inl (front, x, rest, z, ev, y)) = ⊎_elim (λ f. here (snoc_same front pre (n, x) e f)) (λ f. k (inl (front, x, f.0, sym (append_assoc front ((n, x) ∷ []) f.0) ∙ f.1, ev, y))) (last_front (front ++ (n, x) ∷ []) rest pre e (append_assoc front ((n, x) ∷ []) rest ∙ z))
+  unfallen_by n t k d p (inl (front, x, rest, z, ev, y)) = ⊎_elim (λ f. here (same_last front pre (n, x) e f)) (λ f. k (inl (front, x, f.0, sym (append_assoc front ((n, x) ∷ []) f.0) ∙ f.1, ev, y))) (last_front (front ++ (n, x) ∷ []) rest pre e (append_assoc front ((n, x) ∷ []) rest ∙ z))
     where
       here : (front ≡ pre) × ((n, x) ≡ e) → ⊥
       here f = p (subst (λ g. is_present (stage_of (state_at before after n g).local t) ≡ true) f.0 y.0) (ap (λ (g : Placed). (g.1).event) (sym f.1) ∙ ev)

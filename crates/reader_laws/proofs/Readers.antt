@@ -1,5 +1,5 @@
 -- Who voted read left no mark and never fell; so no part of a member ever did.
-use Rattle.std.proofs.Common.{◌≡◌, inl, inr, ⊎_elim, refl, sym, subst, ◌∙◌, ℕ, ◌<◌, true, List, [], ◌∷◌, ◌++◌, map, None, append-nil, arith}
+use Rattle.std.proofs.Common.{◌≡◌, inl, inr, ⊎_elim, refl, sym, subst, ◌∙◌, ℕ, ◌<◌, true, List, [], ◌∷◌, ◌++◌, map, None, append-nil}
 use Rattle.std.proofs.lemmas.Bool.{both_ways, false_from_ne_true}
 use Rattle.clv_base.specs.declared.names.TxId.{TxId}
 use Rattle.clv_base.specs.declared.logs.LogRecord.{LogRecord}
@@ -9,8 +9,8 @@ use Rattle.clv_base.specs.FileRules.{may_open}
 use Rattle.clv_base.specs.Undo.{stage_of}
 use Rattle.clv_base.specs.Restarts.{run_after}
 use Rattle.clv_base.specs.Journals.{History}
-use Rattle.clv_base.specs.History.{Legal, IsAmong}
-use Rattle.history_laws.proofs.Merging.{Among, among_left, is_among, among_is}
+use Rattle.clv_base.specs.History.{Legal}
+use Rattle.history_laws.proofs.Merging.{Among, among_left, is_among}
 use Rattle.history_laws.proofs.Worlds.{state_at}
 use Rattle.origin_laws.proofs.Sessions.{Requested}
 use Rattle.origin_laws.proofs.Entries.{DidOrOld, traced_front}
@@ -21,7 +21,7 @@ use Rattle.fall_laws.specs.Falls.{Fell}
 use Rattle.each_shard_laws.proofs.Leading.{restored_front}
 use Rattle.each_shard_laws.proofs.Remembering.{part_did, none_doomed, none_present}
 use Rattle.each_shard_laws.proofs.Restored.{RestoredArePrepared}
-use Rattle.unfallen_laws.proofs.Naming.{requests_name_their_shards}
+use Rattle.unfallen_laws.proofs.Naming.{names_shard}
 use Rattle.unfallen_laws.proofs.Reading.{only_readers_may_fall}
 use Rattle.reader_laws.specs.Passing.{ReadersPass}
 use Rattle.reader_laws.specs.Falling.{ReadersNeverFell, MembersNeverFell}
@@ -77,9 +77,7 @@ members_never_fell splits before h after choice n m tx o l i j run left f = by_h
     k = commits_stand_at_home splits before h after choice n tx o l i run left
 
     named : (home : ℕ) (r : IsHome h tx home) → DidOrOld (run_after before) h m tx → nat_in m (map (λ t. t.0) r.1) ≡ true
-    named home r (inl (ep, (b, (y, g, p, a)))) =
-        requests_name_their_shards splits before h after m home y.1 r.0 tx b (a.at).nth a.seen (a.at).op a.answer ep r.1 l (subst (λ v. IsAmong v y.1 h) p (among_is y.0 y.1 h g)) (a.at).is a.outcome r.2 r.3
-    named home r (inr old) = absurd (omega (arith, old, run))
+    named home r d = names_shard splits before after h m home tx r l run d
 
     by_home : IsHome h tx k.0 → ⊥
     by_home r =

@@ -11,7 +11,6 @@ use Rattle.clv_base.specs.declared.logs.LogRecord.{LogRecord}
 use Rattle.clv_base.specs.declared.events.Event.{Event}
 use Rattle.clv_base.specs.declared.events.Event.TheVariants.{Op as OpEvent, Request, Look, Drop, Send, Deliver, Remind, FlushOut, FlushIn, Stop, Restart}
 use Rattle.clv_base.specs.declared.events.Outcome.{Outcome}
-use Rattle.clv_base.specs.declared.state.Held.{Held}
 use Rattle.clv_base.specs.declared.state.Ruling.TheVariants.{Commit as CommitVerdict, Acknowledge, Abort as AbortVerdict, End as EndVerdict}
 use Rattle.clv_base.specs.Orders.{tx_same, tx_in, tx_get}
 use Rattle.clv_base.specs.Shards.{shard_count}
@@ -26,33 +25,32 @@ use Rattle.clv_base.specs.Restarts.{run_after, log_after_restart, revived}
 use Rattle.clv_base.specs.Journals.{History, event_state, up_to_restart}
 use Rattle.clv_base.specs.History.{Legal}
 use Rattle.clv_base.proofs.SameNames.{tx_true, tx_self}
-use Rattle.law_base.proofs.Changed.{none_some}
-use Rattle.law_base.proofs.Tables.{stage_by}
 use Rattle.protocol_laws.specs.Growth.{IsPrefixOf}
 use Rattle.protocol_laws.specs.SessionLaws.{tx_of}
 use Rattle.protocol_laws.proofs.Growing.{same as same_log}
 use Rattle.shard_laws.proofs.Restoring.{restored_none}
+use Rattle.shard_laws.proofs.Ordered.{prepare_some}
 use Rattle.history_laws.proofs.Entering.{Makes, by_event, by_flush, by_failure, by_restart, makes}
 use Rattle.history_laws.proofs.Merging.{Placed, Among, among_left}
 use Rattle.history_laws.proofs.Staying.{walker_of}
 use Rattle.history_laws.proofs.Stepping.{commits, votes, rules, KeptByDue, settled, op_dies, op_answers, finishes, stops}
 use Rattle.history_laws.proofs.Worlds.{state_at}
 use Rattle.file_laws.proofs.Walking.{behind_of}
+use Rattle.file_laws.proofs.Doubts.{doubt_prepared}
 use Rattle.session_laws.proofs.Replying.{OpIs, dies, rolls, performs, reply_is}
 use Rattle.origin_laws.proofs.Sessions.{same_epoch, turn_of}
 use Rattle.origin_laws.proofs.Entries.{DidNow, traced_front}
 use Rattle.fate_laws.proofs.Bindings.{asked_not_own}
-use Rattle.fate_laws.proofs.Calm.{Calm, calm_step, calm_finish, calm_self}
+use Rattle.fate_laws.proofs.Calm.{Calm, calm_step, calm_finish, calm_self, was_there}
 use Rattle.fate_laws.proofs.Inside.{inside_step}
 use Rattle.fate_laws.proofs.Prefixes.{Next, next_at, each_shard}
-use Rattle.fate_laws.proofs.Prepares.{there_prepare, prepare_there, prepare_more}
-use Rattle.fate_laws.proofs.Restored.{doubt_prepared}
+use Rattle.fate_laws.proofs.Prepares.{prepare_more}
 use Rattle.fate_laws.proofs.Standing.{NotOwn}
-use Rattle.fall_laws.proofs.BarredDue.{came}
-use Rattle.fall_laws.proofs.Falling.{Met, WasOut, walk_on}
+use Rattle.fall_laws.proofs.Falling.{Met, WasOut, walk_on, none_held}
 use Rattle.fall_laws.proofs.Falling.{last_front}
 use Rattle.reader_laws.proofs.Staying.{present_back}
 use Rattle.reader_laws.proofs.Committing.{finish_prefix}
+use Rattle.order_laws.proofs.Records.{prepared_there}
 
 -- ---- an entry
 
@@ -61,7 +59,7 @@ abbrev Stayed : Shard → Shard → TxId → Type 0
 Stayed s x t = (is_present (stage_of s.local t) ≡ true) × IsPrefixOf s.local.log x.local.log
 
 by_calm : (s x : Shard) (t : TxId) → Calm s x t → is_present (stage_of x.local t) ≡ true → Stayed s x t
-by_calm s x t c p = (came s x t c (stage_of x.local t) refl p, (c.inside).log)
+by_calm s x t c p = (was_there s x t c (stage_of x.local t) refl p, (c.inside).log)
 
 -- who is here after an entry that is none of its operations was here, or is restored from its PREPARE
 others_made : (log : List LogRecord) (s x : Shard) {e : Event} {o : Outcome} (t : TxId) → Makes log s e o x → NotOwn t e → is_present (stage_of x.local t) ≡ true → Stayed s x t ⊎ (prepared_in x.local.log t ≡ true)
@@ -137,10 +135,6 @@ Again before after pre n s = (t : TxId) → WasOut before after pre n t → is_p
 AllAgain : (splits : List ℕ) (before after : List (List LogRecord)) (pre : History) → Type 0
 AllAgain splits before after pre = (n : ℕ) → n < shard_count splits → Again before after pre n (state_at before after n pre)
 
-none_held : (o : Option Held) → stage_by o ≡ None → o ≡ None
-none_held None e = refl
-none_held (Some x) e = absurd (none_some x.stage (sym e))
-
 module _ (splits : List ℕ) (before after : List (List LogRecord)) (h pre : History) (e : Placed) (post : History) (o : may_open splits before ≡ true) (l : Legal splits before h after) (q : pre ++ e ∷ post ≡ h) where
   abbrev S : Shard
   S = state_at before after e.0 pre
@@ -173,7 +167,7 @@ module _ (splits : List ℕ) (before after : List (List LogRecord)) (h pre : His
       m = makes (log_of after e.0) S (e.1).event (e.1).outcome ((w.split).enters).event
 
       stayed : Stayed S T t → prepared_in T.local.log t ≡ true
-      stayed s = let g = there_prepare S.local.log t (k t v s.0) in prepare_there T.local.log t g.0 (subst (λ z. prepare_of z t ≡ Some g.0) (s.1).1 (prepare_more S.local.log (s.1).0 t g.0 g.1))
+      stayed s = let g = prepare_some S.local.log t (k t v s.0) in prepared_there T.local.log t g.0 (subst (λ z. prepare_of z t ≡ Some g.0) (s.1).1 (prepare_more S.local.log (s.1).0 t g.0 g.1))
 
       other : NotOwn t (e.1).event → prepared_in T.local.log t ≡ true
       other n = ⊎_elim (λ s. stayed s) (λ g. g) (others_made (log_of after e.0) S T t m n p)

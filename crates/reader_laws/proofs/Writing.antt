@@ -1,8 +1,8 @@
 -- Nothing but its own operations gives a transaction an UPDATE.
-use Rattle.std.proofs.Common.{◌≡◌, ⊎_elim, refl, sym, ap, subst, ◌∙◌, ℕ, zero, suc, true, false, cond, not, Bool, ◌||◌, List, [], ◌∷◌, ◌++◌, map, Option, Some, None, take-append-drop}
+use Rattle.std.proofs.Common.{◌≡◌, ⊎_elim, refl, sym, ap, subst, ◌∙◌, ℕ, zero, suc, true, false, not, Bool, List, [], ◌∷◌, ◌++◌, Option, Some, None, take-append-drop}
 use Rattle.std.specs.Prelude.{take, drop}
 use Rattle.std.specs.List.{AllByRecursion, filter}
-use Rattle.std.proofs.lemmas.Bool.{both_ways, or_cases}
+use Rattle.std.proofs.lemmas.Bool.{both_ways, or_cases, or_from}
 use Rattle.clv_base.specs.declared.names.TxId.{TxId}
 use Rattle.clv_base.specs.declared.names.Birth.{Birth}
 use Rattle.clv_base.specs.declared.ops.Op.{Op}
@@ -10,15 +10,15 @@ use Rattle.clv_base.specs.declared.ops.Answer.{Answer}
 use Rattle.clv_base.specs.declared.causes.AbortCause.{AbortCause}
 use Rattle.clv_base.specs.declared.causes.Vote.TheVariants.{Yes, Read, No}
 use Rattle.clv_base.specs.declared.logs.LogRecord.{LogRecord}
-use Rattle.clv_base.specs.declared.logs.LogRecord.TheVariants.{Update, Clr, Commit, Abort, End, Restart}
+use Rattle.clv_base.specs.declared.logs.LogRecord.TheVariants.{Update, Commit, Abort, End, Restart}
 use Rattle.clv_base.specs.declared.events.Event.{Event}
 use Rattle.clv_base.specs.declared.events.Event.TheVariants.{Op as OpEvent}
 use Rattle.clv_base.specs.declared.events.Outcome.{Outcome}
 use Rattle.clv_base.specs.declared.state.Ruling.TheVariants.{Commit as CommitVerdict, Acknowledge, Abort as AbortVerdict, End as EndVerdict}
-use Rattle.clv_base.specs.Orders.{tx_same, tx_in}
-use Rattle.clv_base.specs.Logs.{StandingUpdate, wrote_in, aborted_in, is_update_of, standing}
+use Rattle.clv_base.specs.Orders.{tx_same}
+use Rattle.clv_base.specs.Logs.{wrote_in, aborted_in, is_update_of, standing}
 use Rattle.clv_base.specs.State.{Shard, Local, is_present}
-use Rattle.clv_base.specs.Undo.{stage_of, newest_lsn, aborts_of, clrs_of, doomed_here, roll_back}
+use Rattle.clv_base.specs.Undo.{stage_of, aborts_of, clrs_of, doomed_here, roll_back}
 use Rattle.clv_base.specs.Facts.{undecided_of}
 use Rattle.clv_base.specs.Coordinator.{others}
 use Rattle.clv_base.specs.Needs.{writes_of, value_at, key_of}
@@ -28,24 +28,21 @@ use Rattle.clv_base.specs.Restarts.{losers, undo_records, restart_records, next_
 use Rattle.clv_base.specs.Journals.{up_to_restart}
 use Rattle.clv_base.proofs.SameNames.{tx_true}
 use Rattle.shard_laws.proofs.Changes.{wrote_append, wrote_keeps}
-use Rattle.history_laws.proofs.Telling.{all_append}
+use Rattle.history_laws.proofs.Telling.{all_append, all_map}
 use Rattle.history_laws.proofs.Stepping.{Due, commits, votes, rules, settled, Step, op_dies, op_answers, request_refused, request_doomed, request_again, request_new, request_closes, looks_well, looks_ill, drops, sends, prepare_closes, prepare_again, vote_counts, decision_comes, decision_again, done_counts, asked, reminds, flushes, finishes, stops}
 use Rattle.history_laws.proofs.Entering.{Makes, by_event, by_flush, by_failure, by_restart}
 use Rattle.session_laws.proofs.Replying.{OpIs, dies, rolls, performs, reply_is}
 use Rattle.fate_laws.proofs.Standing.{NotOwn}
+use Rattle.fate_laws.proofs.Prepares.{all_clrs}
 
 -- ---- records that are no UPDATEs
 
 abbrev IsNoUpdate : LogRecord → Type 0
 IsNoUpdate r = (t : TxId) → is_update_of t r ≡ false
 
-or_false : (a b : Bool) → a ≡ false → b ≡ false → (a || b) ≡ false
-or_false true b e f = e
-or_false false b e f = f
-
 unwritten : (rs : List LogRecord) → AllByRecursion IsNoUpdate rs → (t : TxId) → wrote_in rs t ≡ false
 unwritten [] a t = refl
-unwritten (r ∷ rs) a t = or_false _ _ (a.0 t) (unwritten rs a.1 t)
+unwritten (r ∷ rs) a t = or_from _ _ (a.0 t) (unwritten rs a.1 t)
 
 -- a log that has no UPDATEs but another's
 abbrev pub NoMoreUpdates : List LogRecord → List LogRecord → Type 0
@@ -54,22 +51,10 @@ NoMoreUpdates xs ys = (t : TxId) → wrote_in ys t ≡ true → wrote_in xs t �
 plain_more : (xs ys : List LogRecord) → AllByRecursion IsNoUpdate ys → NoMoreUpdates xs (xs ++ ys)
 plain_more xs ys a t h = ⊎_elim (λ x. x) (λ x. absurd (both_ways _ (unwritten ys a t) x)) (or_cases (wrote_in xs t) (wrote_in ys t) (sym (wrote_append xs ys t) ∙ h))
 
-aborts_have : (ts : List TxId) → AllByRecursion IsNoUpdate (map (λ t. Abort t) ts)
-aborts_have [] = tt
-aborts_have (t ∷ ts) = ((λ u. refl), aborts_have ts)
-
-clrs_have : (set : List TxId) (ws : List StandingUpdate) → AllByRecursion IsNoUpdate (clrs_of set ws)
-clrs_have set [] = tt
-clrs_have set (w ∷ ws) = at (tx_in w.tx set) (clrs_have set ws)
-  where
-    at : (b : Bool) → AllByRecursion IsNoUpdate (clrs_of set ws) → AllByRecursion IsNoUpdate (cond b (Clr w.tx (newest_lsn w.tx ws) w.key w.before ∷ clrs_of set ws) (clrs_of set ws))
-    at true a = ((λ u. refl), a)
-    at false a = a
-
 rolled : (tx : TxId) (l : Local) → NoMoreUpdates l.log (roll_back tx l).log
 rolled tx l t h =
-    plain_more l.log (aborts_of l.log (doomed_here l tx)) (aborts_have (filter (wrote_in l.log) (doomed_here l tx))) t
-    (plain_more (l.log ++ aborts_of l.log (doomed_here l tx)) (clrs_of (doomed_here l tx) (standing l.log)) (clrs_have (doomed_here l tx) (standing l.log)) t h)
+    plain_more l.log (aborts_of l.log (doomed_here l tx)) (all_map IsNoUpdate (λ u. Abort u) (filter (wrote_in l.log) (doomed_here l tx)) (λ u t. refl)) t
+    (plain_more (l.log ++ aborts_of l.log (doomed_here l tx)) (clrs_of (doomed_here l tx) (standing l.log)) (all_clrs IsNoUpdate (λ w n t. refl) (doomed_here l tx) (standing l.log)) t h)
 
 rolled_if : (b : Bool) (tx : TxId) (l : Local) → NoMoreUpdates l.log (rolled_back_if b tx l).log
 rolled_if true tx l = rolled tx l
@@ -145,7 +130,7 @@ step_updates s _ t (flushes k g c) n h = h
 restart_have : (shard : ℕ) (log : List LogRecord) (run epoch : ℕ) → AllByRecursion IsNoUpdate (restart_records shard log run epoch)
 restart_have shard log run epoch =
     all_append _ (undo_records shard log) (Restart run epoch ∷ [])
-    (all_append _ _ _ (aborts_have (filter (λ t. not (aborted_in log t)) (losers shard log))) (clrs_have (losers shard log) (standing log))) ((λ t. refl), tt)
+    (all_append _ _ _ (all_map IsNoUpdate (λ u. Abort u) (filter (λ t. not (aborted_in log t)) (losers shard log)) (λ u t. refl)) (all_clrs IsNoUpdate (λ w n t. refl) (losers shard log) (standing log))) ((λ t. refl), tt)
 
 take_have : (n : ℕ) (xs : List LogRecord) → AllByRecursion IsNoUpdate xs → AllByRecursion IsNoUpdate (take n xs)
 take_have zero xs a = tt

@@ -1,16 +1,16 @@
 -- Logs that agree: each transaction that is committed in some of them has a home there.
-use Rattle.std.proofs.Common.{◌≡◌, ◌⊎◌, inl, inr, ⊎_elim, refl, sym, ap, subst, ◌∙◌, ℕ, zero, suc, ◌+◌, ◌<◌, true, false, Bool, not, ◌&&◌, ◌||◌, ◌==◌, List, [], ◌∷◌, Option, Some, None, is_some, length, arith, eqb-true}
+use Rattle.std.proofs.Common.{◌≡◌, ⊎_elim, refl, sym, ap, subst, ◌∙◌, ℕ, zero, suc, ◌+◌, ◌<◌, true, false, Bool, not, ◌&&◌, ◌||◌, ◌==◌, List, [], ◌∷◌, Option, Some, None, is_some, length, arith, eqb-true}
 use Rattle.std.specs.List.{list_any, list_all}
 use Rattle.std.proofs.lemmas.Bool.{both_ways, and_parts, and_from, or_left, or_right, eq-eqb, not_from_false}
 use Rattle.clv_base.specs.declared.names.TxId.{TxId}
 use Rattle.clv_base.specs.declared.logs.LogRecord.{LogRecord}
 use Rattle.clv_base.specs.declared.logs.LogRecord.TheVariants.{Update, Clr, Prepare, Commit, Abort, End, Restart}
-use Rattle.clv_base.specs.Orders.{tx_same, tx_in, tx_union, nat_in}
+use Rattle.clv_base.specs.Orders.{tx_same, tx_in, nat_in}
 use Rattle.clv_base.specs.Logs.{is_record_of, committed_in, aborted_in, ended_in, prepare_of, commit_parts}
 use Rattle.clv_base.specs.LogRules.{log_of, all_logs_from, any_log_from, home_is, part_agrees, agrees_at, is_home_of, committed_of, committed_of_all, first_apart, apart}
 use Rattle.clv_base.proofs.SameNames.{tx_self, in_insert}
-use Rattle.history_laws.proofs.OldRuns.{each_passes}
-use Rattle.many_shards_laws.proofs.Homes.{nat_at}
+use Rattle.fate_laws.proofs.HomesFound.{nat_at, named_part}
+use Rattle.wait_laws.proofs.Waiting.{in_union}
 
 -- ---- a home
 
@@ -65,11 +65,6 @@ home_here logs t h ps k = subst (λ o. elim o [ Some qs ↦ agrees_at logs t h (
 pub home_from : (logs : List (List LogRecord)) (t : TxId) (h : ℕ) → is_home_of logs t h (log_of logs h) ≡ true → (ps : List ℕ) × HomeIs logs t h ps
 home_from logs t h e = at (commit_parts (log_of logs h) t) refl e
   where
-    named : (a b c : Bool) → a ≡ false → b ≡ true → (a || not b || c) ≡ true → c ≡ true
-    named true b c n i v = absurd (both_ways true n refl)
-    named false true c n i v = v
-    named false false c n i v = absurd (both_ways false refl i)
-
     then_ : (b c : Bool) → (not b || c) ≡ true → b ≡ true → c ≡ true
     then_ true c v i = v
     then_ false c v i = absurd (both_ways false refl i)
@@ -84,9 +79,7 @@ home_from logs t h e = at (commit_parts (log_of logs h) t) refl e
           record {
             commits = c;
             home = z.0;
-            named = λ n l a b.
-                named (n == h) (list_any (is_record_of t) (log_of logs n)) (nat_in n ps) a b
-                (subst (λ k. ((k == h) || not (list_any (is_record_of t) (log_of logs n)) || nat_in k ps) ≡ true) (omega arith) (each_passes (λ s other. (s == h) || not (list_any (is_record_of t) other) || nat_in s ps) 0 n logs z.1 l));
+            named = λ n l a b. named_part logs t h n ps l v a b;
             parts = λ n i. nat_at (λ s. part_agrees t h (log_of logs s)) n ps y.1 i;
             ended = λ i n j. nat_at (λ s. committed_in (log_of logs s) t) n ps (then_ (ended_in (log_of logs h) t) _ x.1 i) j;
           },
@@ -133,11 +126,6 @@ by_own (Prepare tx a b ∷ rs) t i = by_own rs t i
 by_own (Abort tx ∷ rs) t i = by_own rs t i
 by_own (End tx ∷ rs) t i = by_own rs t i
 by_own (Restart run epoch ∷ rs) t i = by_own rs t i
-
-in_union : (t : TxId) (xs ys : List TxId) → tx_in t (tx_union xs ys) ≡ true → (tx_in t xs ≡ true) ⊎ (tx_in t ys ≡ true)
-in_union t [] ys i = inr i
-in_union t (x ∷ xs) ys i =
-    ⊎_elim (λ e. inl (or_left (tx_same x t) _ (subst (λ z. tx_same z t ≡ true) e (tx_self t)))) (λ j. ⊎_elim (λ k. inl (or_right (tx_same x t) _ k)) (λ k. inr k) (in_union t xs ys j)) (in_insert x t (tx_union xs ys) i)
 
 some_log : (logs : List (List LogRecord)) (t : TxId) → tx_in t (committed_of_all logs) ≡ true → (n : ℕ) × (n < length logs) × (committed_in (log_of logs n) t ≡ true)
 some_log [] t i = absurd (both_ways false refl i)

@@ -15,24 +15,25 @@ use Rattle.clv_base.specs.Journals.{History, final_of}
 use Rattle.clv_base.specs.History.{Legal, logs_left}
 use Rattle.clv_base.proofs.SameNames.{tx_true}
 use Rattle.law_base.proofs.Commits.{committed_append}
-use Rattle.order_laws.proofs.Records.{front, last, committed_there}
+use Rattle.order_laws.proofs.Records.{front, last, committed_there, prepared_there}
 use Rattle.history_laws.proofs.Uncommitting.{opening_adds}
 use Rattle.shard_laws.proofs.Following.{Follows, from_disorder}
 use Rattle.shard_laws.proofs.Listing.{prepared_wrote}
-use Rattle.fate_laws.proofs.Deciding.{left_committed}
-use Rattle.fate_laws.proofs.Prepares.{prepare_more, prepare_there, front_prepare}
+use Rattle.fate_laws.proofs.Deciding.{left_committed, log_now}
+use Rattle.fate_laws.proofs.Prepares.{prepare_more, front_prepare}
+use Rattle.fate_laws.proofs.HomesFound.{home_of}
+use Rattle.fate_laws.proofs.RecordKinds.{update_is, commit_is}
 use Rattle.earlier_laws.specs.Earlier.{IsEarlier, WasCommitted}
 use Rattle.earlier_laws.proofs.Earlier.{earlier_commits_are_of_opening}
 use Rattle.unfallen_laws.proofs.StrikingFronts.{struck_front}
-use Rattle.unfallen_laws.proofs.Earlier.{never_out}
+use Rattle.unfallen_laws.proofs.Earlier.{never_out, committed_within}
 use Rattle.ending_laws.proofs.Ends.{parts_more}
 use Rattle.ending_laws.proofs.Ended.{part_below, ended_are_committed}
-use Rattle.each_shard_laws.proofs.Ordering.{log_now}
-use Rattle.many_shards_laws.proofs.Homes.{home_of}
 use Rattle.many_shards_laws.proofs.Earlier.{LastFrom, last_next, opened_last, follows_behind, none_of_earlier}
 use Rattle.reopening_laws.proofs.Agreeing.{HomeIs, HasHome, PartIs, home_from, part_here, part_from}
-use Rattle.reopening_laws.proofs.Keeping.{update_is, commit_is, wrote_or_committed, home_behind, all_committed}
-use Rattle.reopening_laws.proofs.Left.{InOrder, left_length, in_length, left_opened, left_grows, left_aborted}
+use Rattle.reopening_laws.proofs.Keeping.{wrote_or_committed, home_behind, all_committed}
+use Rattle.reopening_laws.proofs.Left.{InOrder, left_opened, left_grows, left_aborted}
+use Rattle.file_laws.proofs.Passing.{left_length}
 
 -- ---- a COMMIT behind the RESTART of a later run is of one that is prepared
 
@@ -40,7 +41,7 @@ commit_prepared : (shard run : ℕ) (log : List LogRecord) (r : LogRecord) (t : 
 commit_prepared shard run log (Commit tx parts) t l k m e = at (prepare_of log tx) refl (last _ _ (front _ _ m))
   where
     at : (o : Option (ℕ × List TxId)) → prepare_of log tx ≡ o → commit_by_prepare shard log tx parts o ≡ true → prepared_in log t ≡ true
-    at (Some p) q c = subst (λ z. prepared_in log z ≡ true) (sym (tx_true t tx e)) (prepare_there log tx p q)
+    at (Some p) q c = subst (λ z. prepared_in log z ≡ true) (sym (tx_true t tx e)) (prepared_there log tx p q)
     at None q c =
         let s = eqb-true tx.run (k.0).0 (subst (λ (o : Option (ℕ × ℕ)). elim o [ Some p ↦ tx.run == p.0 | None ↦ false ] ≡ true) k.1 c) in
         let f = ap (λ (z : TxId). z.run) (tx_true t tx e) in
@@ -95,7 +96,7 @@ module _ (splits : List ℕ) (before : List (List LogRecord)) (h : History) (aft
     committed_first = committed_there (log_of before k) t ps at_opening.commits
 
     inside : k < shard_count splits
-    inside = let e = (l.each_log).0 in let j = in_length before k t committed_first in omega (arith, e, j)
+    inside = let e = (l.each_log).0 in let j = committed_within before k t committed_first in omega (arith, e, j)
 
     commits_left : commit_parts (log_of left k) t ≡ Some ps
     commits_left = let g = left_grows splits before h after choice k l inside in subst (λ z. commit_parts z t ≡ Some ps) g.1 (parts_more (log_of before k) g.0 t ps at_opening.commits)
@@ -110,7 +111,7 @@ module _ (splits : List ℕ) (before : List (List LogRecord)) (h : History) (aft
     unaborted : (n : ℕ) (p : ℕ × List TxId) → n < shard_count splits → prepare_of (log_of left n) t ≡ Some p → aborted_in (log_of left n) t ≡ false
     unaborted n p i q =
         let log = (final_of before h after n).local.log in
-        let prepared = prepare_there log t p (front_prepare _ log t p (subst (λ z. prepare_of z t ≡ Some p) (log_now splits before h after choice n i) q)) in
+        let prepared = prepared_there log t p (front_prepare _ log t p (subst (λ z. prepare_of z t ≡ Some p) (log_now splits before h after choice n i) q)) in
         false_from_ne_true _ (λ x.
         let z = struck_front splits before after h h [] o l (append-nil h) n i t (left_aborted splits before h after choice n t i x) in
         never_out splits before after h n t o l i earlier (k, committed_first) h [] (append-nil h) prepared (h, [], append-nil h, (z.0, z.1, inl (λ e. absurd (earlier e)))))

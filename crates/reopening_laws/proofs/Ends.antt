@@ -33,13 +33,16 @@ use Rattle.ending_laws.proofs.Ended.{part_below}
 use Rattle.ending_laws.proofs.Ends.{parts_more}
 use Rattle.each_shard_laws.specs.Leading.{deeds_before, requests_of}
 use Rattle.each_shard_laws.proofs.Leading.{each_shard_leads}
-use Rattle.each_shard_laws.proofs.Ordering.{log_now}
+use Rattle.fate_laws.proofs.Deciding.{log_now}
 use Rattle.many_shards_laws.proofs.Earlier.{follows_behind}
-use Rattle.many_shards_laws.proofs.Homes.{home_of, doubted}
+use Rattle.fate_laws.proofs.HomesFound.{home_of}
+use Rattle.many_shards_laws.proofs.Homes.{doubted}
 use Rattle.reopening_laws.specs.Ends.{LogsAtTheEndMayBeOpened, TellTheSame, LogsAtTheEndAreWhatIsLeft}
 use Rattle.reopening_laws.proofs.Agreeing.{HomeIs, HasHome, PartIs, home_from, part_here, part_from, all_logs, agree}
-use Rattle.reopening_laws.proofs.Keeping.{update_is, commit_is, wrote_or_committed, home_behind, all_committed}
-use Rattle.reopening_laws.proofs.Left.{left_length, in_length}
+use Rattle.fate_laws.proofs.RecordKinds.{update_is, commit_is}
+use Rattle.reopening_laws.proofs.Keeping.{wrote_or_committed, home_behind, all_committed}
+use Rattle.file_laws.proofs.Passing.{left_length}
+use Rattle.unfallen_laws.proofs.Earlier.{committed_within}
 use Rattle.reopening_laws.proofs.Reopening.{logs_left_may_be_opened}
 use Rattle.reopening_laws.proofs.Failed.{Stays, stays_same, stays_failed, same_wrote, same_committed, same_ended, same_fold}
 
@@ -207,7 +210,7 @@ module _ (splits : List ℕ) (before : List (List LogRecord)) (h : History) (aft
   at_home n t i w =
       let a = home_of splits left n t (logs_left_may_be_opened splits before h after choice o l) (sym (commits n t i) ∙ w) in
       let b = home_from left t a.0 a.1 in
-      let j = in_length left a.0 t (committed_there (log_of left a.0) t b.0 (b.1).commits) in
+      let j = committed_within left a.0 t (committed_there (log_of left a.0) t b.0 (b.1).commits) in
       let e = lengths in
       (a.0, omega (arith, j, e), b.0, home_kept t a.0 b.0 (below a.0 j) b.1)
 

@@ -1,5 +1,5 @@
 -- A transaction of this run that is committed in the logs left has the home that took its request.
-use Rattle.std.proofs.Common.{◌≡◌, inl, inr, ⊎_elim, refl, sym, ap, subst, ◌∙◌, ℕ, ◌<◌, true, false, Bool, not, ◌==◌, List, [], map, Option, Some, None, append-nil, arith}
+use Rattle.std.proofs.Common.{◌≡◌, ⊎_elim, refl, sym, ap, subst, ◌∙◌, ℕ, ◌<◌, true, false, Bool, not, ◌==◌, List, [], map, Option, Some, None, append-nil, arith}
 use Rattle.std.specs.List.{list_any, filter}
 use Rattle.std.proofs.lemmas.Bool.{both_ways, false_from_ne_true, eq-eqb}
 use Rattle.clv_base.specs.declared.names.TxId.{TxId}
@@ -20,9 +20,9 @@ use Rattle.clv_base.specs.Journals.{History, final_of}
 use Rattle.clv_base.specs.History.{Legal, IsAmong, logs_left}
 use Rattle.protocol_laws.specs.Growth.{IsPrefixOf}
 use Rattle.protocol_laws.specs.SessionLaws.{tx_of}
-use Rattle.order_laws.proofs.Records.{committed_there}
+use Rattle.order_laws.proofs.Records.{committed_there, prepared_there}
 use Rattle.history_laws.proofs.Durability.{left_front}
-use Rattle.history_laws.proofs.Merging.{Placed, Among, is_among, among_is}
+use Rattle.history_laws.proofs.Merging.{Placed, Among, is_among}
 use Rattle.history_laws.proofs.Serials.{committed_front}
 use Rattle.history_laws.proofs.Staying.{walker_of, one_request}
 use Rattle.history_laws.proofs.Worlds.{in_a_shard}
@@ -34,23 +34,25 @@ use Rattle.fate_laws.proofs.Arriving.{all_from}
 use Rattle.fate_laws.proofs.Binding.{Bound}
 use Rattle.fate_laws.proofs.Bindings.{Bindings, bindings_front}
 use Rattle.fate_laws.proofs.Casting.{casts_front}
-use Rattle.fate_laws.proofs.Deciding.{left_committed}
+use Rattle.fate_laws.proofs.Deciding.{left_committed, log_now}
 use Rattle.fate_laws.proofs.Prefixes.{one_home}
-use Rattle.fate_laws.proofs.Prepares.{front_prepare, prepare_there, prepare_more}
+use Rattle.fate_laws.proofs.Prepares.{front_prepare, prepare_more}
+use Rattle.fate_laws.proofs.Writing.{wrote_take}
 use Rattle.fall_laws.proofs.Falling.{WasOut, stands_front}
+use Rattle.fall_laws.proofs.Here.{in_others}
 use Rattle.ending_laws.proofs.Ended.{part_below, ended_are_committed}
 use Rattle.ending_laws.proofs.Polling.{in_picked}
 use Rattle.ending_laws.proofs.Polled.{parts_are_the_yes_voters}
-use Rattle.each_shard_laws.proofs.Ordering.{log_now}
 use Rattle.each_shard_laws.proofs.Records.{wrote_from}
 use Rattle.unfallen_laws.proofs.StrikingFronts.{struck_front}
-use Rattle.unfallen_laws.proofs.Naming.{requests_name_their_shards}
-use Rattle.unfallen_laws.proofs.Sparing.{in_others, bound_never_out}
+use Rattle.unfallen_laws.proofs.Naming.{names_shard}
+use Rattle.unfallen_laws.proofs.Sparing.{bound_never_out}
 use Rattle.reader_laws.proofs.Committing.{committed_by}
 use Rattle.reader_laws.proofs.Readers.{readers_pass}
 use Rattle.reopening_laws.proofs.Agreeing.{HomeIs, PartIs, part_here}
-use Rattle.reopening_laws.proofs.Keeping.{wrote_or_committed, wrote_take}
-use Rattle.reopening_laws.proofs.Left.{InOrder, left_length, left_aborted}
+use Rattle.reopening_laws.proofs.Keeping.{wrote_or_committed}
+use Rattle.reopening_laws.proofs.Left.{InOrder, left_aborted}
+use Rattle.file_laws.proofs.Passing.{left_length}
 
 -- the home is none of the others
 not_home : (home : ℕ) (xs : List ℕ) → nat_in home (filter (λ p. not (p == home)) xs) ≡ true → ⊥
@@ -101,12 +103,7 @@ module _ (splits : List ℕ) (before : List (List LogRecord)) (h : History) (aft
       (wrote_or_committed n (log_of left n) (from_disorder n 0 [] (log_of left n) (orders n i)) t r)
 
   touches : (n : ℕ) → n < shard_count splits → (n == home) ≡ false → wrote_in (last n).local.log t ≡ true → nat_in n (others home touched) ≡ true
-  touches n i d w = in_others n home (map (λ r. r.0) touched) (by_operation (wrote_from (DidOrOld (run_after before) h n) (Requested h) (IsOld (run_after before)) n (last n).local.log (origins n i).log t w)) d
-    where
-      by_operation : DidOrOld (run_after before) h n t → nat_in n (map (λ (r : ℕ × ℕ). r.0) touched) ≡ true
-      by_operation (inl (ep, (b, (y, j, p, k)))) =
-          requests_name_their_shards splits before h after n home y.1 e t b (k.at).nth k.seen (k.at).op k.answer ep touched l (among_is n y.1 h (subst (λ z. Among (z, y.1) h) p j)) (k.at).is k.outcome a ev
-      by_operation (inr q) = absurd (not_old q)
+  touches n i d w = in_others n home (map (λ r. r.0) touched) (names_shard splits before after h n home t (e, touched, a, ev, out) l run (wrote_from (DidOrOld (run_after before) h n) (Requested h) (IsOld (run_after before)) n (last n).local.log (origins n i).log t w)) d
 
   -- ---- a part that voted yes
 
@@ -122,7 +119,7 @@ module _ (splits : List ℕ) (before : List (List LogRecord)) (h : History) (aft
       out_of : aborted_in (log_of left n) t ≡ true → WasOut before after h n t
       out_of x =
           let z = struck_front splits before after h h [] o l (append-nil h) n i t (left_aborted splits before h after choice n t i x) in
-          (h, [], append-nil h, (z.0, z.1, ((stands_front splits before after h h [] o l (append-nil h) n i).barred).sought t (prepare_there (last n).local.log t b.listed prepared)))
+          (h, [], append-nil h, (z.0, z.1, ((stands_front splits before after h h [] o l (append-nil h) n i).barred).sought t (prepared_there (last n).local.log t b.listed prepared)))
 
   part_is : (n : ℕ) → n < shard_count splits → (n ≡ home → ⊥) → is_left splits before h after choice home t ≡ true → Bound (last n) t → PartIs (log_of left n) t home
   part_is n i d there b =

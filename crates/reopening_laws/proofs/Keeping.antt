@@ -1,9 +1,8 @@
 -- What a log in order says of a transaction: whose record is there wrote there or is committed there; and of a committed one, what a front of
 -- the log says of its home and parts stands.
-use Rattle.std.proofs.Common.{◌≡◌, ◌⊎◌, inl, inr, ⊎_elim, refl, sym, subst, ℕ, true, false, Bool, List, [], ◌∷◌, ◌++◌, Option, Some, None, take-append-drop}
-use Rattle.std.specs.Prelude.{take, drop}
+use Rattle.std.proofs.Common.{◌≡◌, ◌⊎◌, inl, inr, ⊎_elim, refl, sym, subst, ℕ, true, false, List, [], ◌∷◌, ◌++◌, Option, Some, None}
 use Rattle.std.specs.List.{list_any, list_all}
-use Rattle.std.proofs.lemmas.Bool.{both_ways, false_from_ne_true, not-true, and_parts, and_from, or_from, or_cases, or_left, or_right}
+use Rattle.std.proofs.lemmas.Bool.{both_ways, false_from_ne_true, not-true, and_parts, and_from, or_from}
 use Rattle.clv_base.specs.declared.names.TxId.{TxId}
 use Rattle.clv_base.specs.declared.logs.LogRecord.{LogRecord}
 use Rattle.clv_base.specs.declared.logs.LogRecord.TheVariants.{Update, Clr, Prepare, Commit, Abort, End, Restart}
@@ -13,30 +12,10 @@ use Rattle.clv_base.proofs.SameNames.{tx_true}
 use Rattle.law_base.proofs.Commits.{committed_keeps}
 use Rattle.order_laws.proofs.Records.{front, last, push_cases, push_left, push_right}
 use Rattle.shard_laws.proofs.Following.{Follows, through, follows_append, since_wrote}
-use Rattle.shard_laws.proofs.Changes.{wrote_keeps}
 use Rattle.shard_laws.proofs.Listing.{ended_committed}
 use Rattle.fate_laws.proofs.Prepares.{prepare_from}
 
 -- ---- records
-
--- a record of one kind is one of the transaction
-any_more : (f g : LogRecord → Bool) (log : List LogRecord) → ((r : LogRecord) → f r ≡ true → g r ≡ true) → list_any f log ≡ true → list_any g log ≡ true
-any_more f g [] k e = e
-any_more f g (r ∷ rs) k e = ⊎_elim (λ a. or_left (g r) _ (k r a)) (λ a. or_right (g r) _ (any_more f g rs k a)) (or_cases (f r) (list_any f rs) e)
-
-pub update_is : (log : List LogRecord) (t : TxId) → wrote_in log t ≡ true → list_any (is_record_of t) log ≡ true
-update_is log t e = any_more (is_update_of t) (is_record_of t) log one e
-  where
-    one : (r : LogRecord) → is_update_of t r ≡ true → is_record_of t r ≡ true
-    one (Update tx key before after) e = e
-    one _ e = absurd (both_ways false refl e)
-
-pub commit_is : (log : List LogRecord) (t : TxId) → committed_in log t ≡ true → list_any (is_record_of t) log ≡ true
-commit_is log t e = any_more (is_commit_of t) (is_record_of t) log one e
-  where
-    one : (r : LogRecord) → is_commit_of t r ≡ true → is_record_of t r ≡ true
-    one (Commit tx parts) e = e
-    one _ e = absurd (both_ways false refl e)
 
 -- whose ABORT is there wrote there
 abort_step : (shard : ℕ) (log : List LogRecord) (r : LogRecord) (t : TxId) → may_follow shard log r ≡ true → is_abort_of t r ≡ true → wrote_in log t ≡ true
@@ -91,7 +70,3 @@ home_behind shard h log more t f c k = at (prepare_of (log ++ more) t) refl
 pub all_committed : (log more : List LogRecord) (ts : List TxId) → list_all (committed_in log) ts ≡ true → list_all (committed_in (log ++ more)) ts ≡ true
 all_committed log more [] a = refl
 all_committed log more (t ∷ ts) a = let p = and_parts (committed_in log t) _ a in and_from _ _ (committed_keeps log more t p.0) (all_committed log more ts p.1)
-
--- what a front of a log has stands in it
-pub wrote_take : (n : ℕ) (log : List LogRecord) (t : TxId) → wrote_in (take n log) t ≡ true → wrote_in log t ≡ true
-wrote_take n log t w = subst (λ l. wrote_in l t ≡ true) (take-append-drop n log) (wrote_keeps (take n log) (drop n log) t w)

@@ -1,10 +1,9 @@
 -- The logs that a crash leaves, one by one: each goes on from what its shard found at opening, and is a front of its log at the end.
-use Rattle.std.proofs.Common.{◌≡◌, refl, sym, subst, ℕ, zero, suc, ◌<◌, true, false, Bool, List, [], ◌∷◌, None, length, arith}
-use Rattle.std.proofs.lemmas.Bool.{both_ways}
+use Rattle.std.proofs.Common.{◌≡◌, sym, subst, ℕ, ◌<◌, true, Bool, List, None}
 use Rattle.clv_base.specs.declared.names.TxId.{TxId}
 use Rattle.clv_base.specs.declared.logs.LogRecord.{LogRecord}
 use Rattle.clv_base.specs.Shards.{shard_count}
-use Rattle.clv_base.specs.Logs.{committed_in, aborted_in}
+use Rattle.clv_base.specs.Logs.{aborted_in}
 use Rattle.clv_base.specs.LogRules.{log_of, disorder}
 use Rattle.clv_base.specs.Restarts.{run_after, restart_records, log_after_restart}
 use Rattle.clv_base.specs.Journals.{History, final_of}
@@ -12,22 +11,12 @@ use Rattle.clv_base.specs.History.{Legal, logs_left}
 use Rattle.protocol_laws.specs.Growth.{IsPrefixOf}
 use Rattle.protocol_laws.proofs.Growing.{chain, more}
 use Rattle.unfallen_laws.proofs.Going.{aborted_take}
-use Rattle.ending_laws.proofs.Ended.{left_length as length_from}
-use Rattle.each_shard_laws.proofs.Ordering.{log_now}
 use Rattle.many_shards_laws.proofs.Earlier.{left_begins}
+use Rattle.fate_laws.proofs.Deciding.{log_now}
 
 -- each log left is in order
 abbrev pub InOrder : List ℕ → List (List LogRecord) → History → List (List LogRecord) → (ℕ → Bool) → Type 0
 InOrder splits before h after choice = (n : ℕ) → n < shard_count splits → disorder n (log_of (logs_left splits before h after choice) n) ≡ None
-
-pub left_length : (splits : List ℕ) (before : List (List LogRecord)) (h : History) (after : List (List LogRecord)) (choice : ℕ → Bool) → length (logs_left splits before h after choice) ≡ shard_count splits
-left_length splits before h after choice = length_from (final_of before h after) choice 0 (shard_count splits)
-
--- which shard's log has the COMMIT
-pub in_length : (logs : List (List LogRecord)) (n : ℕ) (t : TxId) → committed_in (log_of logs n) t ≡ true → n < length logs
-in_length [] n t c = absurd (both_ways false refl c)
-in_length (log ∷ logs) zero t c = omega arith
-in_length (log ∷ logs) (suc n) t c = let l = in_length logs n t c in omega (arith, l)
 
 -- it goes on from what its shard opened with, and that from the log found
 pub left_opened : (splits : List ℕ) (before : List (List LogRecord)) (h : History) (after : List (List LogRecord)) (choice : ℕ → Bool) (n : ℕ) → Legal splits before h after → n < shard_count splits

@@ -17,7 +17,7 @@ use Rattle.clv_base.specs.History.{Legal}
 use Rattle.shard_laws.specs.OneShard.{is_doomed}
 use Rattle.history_laws.proofs.TellingEvents.{front_committed}
 use Rattle.history_laws.proofs.Worlds.{state_at}
-use Rattle.fate_laws.proofs.Prepares.{prepare_there, prepare_more, front_prepare}
+use Rattle.fate_laws.proofs.Prepares.{prepare_more, front_prepare}
 use Rattle.fate_laws.proofs.Prefixes.{Next, next_at, fronts_next, durable_later}
 use Rattle.fate_laws.proofs.Binding.{Bound, Reads}
 use Rattle.fate_laws.proofs.Bindings.{FineAt, bindings_front}
@@ -29,8 +29,9 @@ use Rattle.fall_laws.proofs.Finding.{fell_out}
 use Rattle.unfallen_laws.specs.Unfallen.{EarlierMembersNeverFell}
 use Rattle.unfallen_laws.proofs.Losing.{LostAt, all_lost}
 use Rattle.unfallen_laws.proofs.Holding.{holds_front}
+use Rattle.order_laws.proofs.Records.{prepared_there}
 
-committed_within : (logs : List (List LogRecord)) (m : ℕ) (t : TxId) → committed_in (log_of logs m) t ≡ true → m < length logs
+pub committed_within : (logs : List (List LogRecord)) (m : ℕ) (t : TxId) → committed_in (log_of logs m) t ≡ true → m < length logs
 committed_within [] m t c = absurd (both_ways false refl c)
 committed_within (log ∷ logs) zero t c = omega arith
 committed_within (log ∷ logs) (suc m) t c = let k = committed_within logs m t c in omega (arith, k)
@@ -88,7 +89,7 @@ module _ (splits : List ℕ) (before after : List (List LogRecord)) (h : History
       by_fine (inl b) =
           let x = state_at before after n (f ++ (n, e) ∷ []) in
           let p = (fronts_next splits before after h f (n, e) w ((elders_front splits before after h f ((n, e) ∷ rest) o l q).counts)).front in
-          prepare_there x.local.log tx b.listed (front_prepare x.durable x.local.log tx b.listed (subst (λ z. prepare_of z tx ≡ Some b.listed) p.1 (prepare_more (log_left (state_at before after n f) false) p.0 tx b.listed b.prepare)))
+          prepared_there x.local.log tx b.listed (front_prepare x.durable x.local.log tx b.listed (subst (λ z. prepare_of z tx ≡ Some b.listed) p.1 (prepare_more (log_left (state_at before after n f) false) p.0 tx b.listed b.prepare)))
       by_fine (inr (inl z)) =
           let g = present_stage (stage_of (state_at before after n f).local tx) there in
           absurd (both_ways _ z.unprepared (holds_front splits before after h f ((n, e) ∷ rest) l q n i tx g.0 r g.1))

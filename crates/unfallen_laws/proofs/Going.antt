@@ -1,10 +1,9 @@
 -- Who goes with an entry although it is prepared and has no COMMIT: an ABORT of it stood in the log, or its home is here, or its PREPARE lists
 -- one that is out after the entry.
-use Rattle.std.proofs.Common.{◌≡◌, ◌⊎◌, inl, inr, ⊎_elim, refl, sym, ap, subst, ◌∙◌, ℕ, zero, suc, ◌≤◌, true, false, Bool, List, [], ◌∷◌, ◌++◌, length, Some, append-nil, append_assoc, take-append-drop}
+use Rattle.std.proofs.Common.{◌≡◌, ◌⊎◌, inl, inr, ⊎_elim, refl, sym, ap, subst, ◌∙◌, ℕ, ◌≤◌, true, false, Bool, List, [], ◌∷◌, ◌++◌, length, Some, append-nil, append_assoc, take-append-drop}
 use Rattle.std.specs.Prelude.{take, drop}
 use Rattle.std.specs.List.{AllByRecursion}
 use Rattle.std.proofs.lemmas.Bool.{both_ways, or_left, false_from_ne_true}
-use Rattle.std.proofs.lemmas.List.{take-append-le}
 use Rattle.std.proofs.lemmas.List.Folds.{list_any-append}
 use Rattle.clv_base.specs.declared.names.TxId.{TxId}
 use Rattle.clv_base.specs.declared.logs.LogRecord.{LogRecord}
@@ -26,13 +25,17 @@ use Rattle.history_laws.proofs.Serials.{committed_front}
 use Rattle.history_laws.proofs.Uncommitting.{restarts_add as restarts_commits}
 use Rattle.shard_laws.proofs.Rebuilding.{Plain, plain_restart}
 use Rattle.shard_laws.proofs.Restoring.{restored_closed, restored_none}
+use Rattle.shard_laws.proofs.Ordered.{prepare_some}
 use Rattle.fate_laws.proofs.Homes.{still_not}
 use Rattle.fate_laws.proofs.Inside.{Inside, inside_self, inside_due, inside_step}
-use Rattle.fate_laws.proofs.Prepares.{prepare_there, there_prepare, prepare_more, front_prepare, restarts_add}
+use Rattle.fate_laws.proofs.Prepares.{prepare_more, front_prepare, restarts_add}
 use Rattle.fate_laws.proofs.Calm.{due_prepares}
 use Rattle.fate_laws.proofs.Closings.{step_prepares}
+use Rattle.fate_laws.proofs.Binding.{front_same}
 use Rattle.fall_laws.proofs.Ahead.{Ahead, Why, ahead_take, not_in_doubt, listed_front}
 use Rattle.fall_laws.proofs.Barred.{Absent}
+use Rattle.order_laws.proofs.Records.{prepared_there}
+use Rattle.origin_laws.proofs.Events.{take_all_of}
 
 -- ---- a PREPARE after an entry stood before it, or the part was active
 
@@ -57,14 +60,11 @@ prepares_made log s _ tx p (by_restart epoch kept u r) k = inl (front_prepare _ 
 pub aborted_take : (d : ℕ) (log : List LogRecord) (t : TxId) → aborted_in (take d log) t ≡ true → aborted_in log t ≡ true
 aborted_take d log t h = subst (λ l. aborted_in l t ≡ true) (take-append-drop d log) (list_any-append (is_abort_of t) (take d log) (drop d log) ∙ or_left _ _ h)
 
-durable_same : (s x : Shard) → Inside s x → s.durable ≤ length s.local.log → log_left x false ≡ log_left s false
-durable_same s x i c = ap (λ n. take n x.local.log) i.durable ∙ ap (take s.durable) (sym (i.log).1) ∙ take-append-le s.durable s.local.log (i.log).0 c
-
 pub inside_finish : (s x : Shard) → Inside s x → Inside s (finish x)
 inside_finish s x i = let k = settled (Inside s) x (inside_due s) i in record { shard = k.shard; durable = k.durable; log = k.log }
 
 aborted_before : (s x : Shard) (t : TxId) → Inside s x → s.durable ≤ length s.local.log → aborted_in (log_left x false) t ≡ true → aborted_in s.local.log t ≡ true
-aborted_before s x t i c h = aborted_take s.durable s.local.log t (subst (λ l. aborted_in l t ≡ true) (durable_same s x i c) h)
+aborted_before s x t i c h = aborted_take s.durable s.local.log t (subst (λ l. aborted_in l t ≡ true) (front_same s x i c) h)
 
 -- ---- who goes
 
@@ -75,11 +75,6 @@ same_doubts shard log now (r ∷ rs) e all =
     ap (in_doubt shard) (sym (append_assoc now (r ∷ []) rs))
     ∙ same_doubts shard log (now ++ r ∷ []) rs (doubts_more (all.0).whom now r shard (all.0).unlike (λ t i. (all.0).spares t (subst (λ l. tx_in t l ≡ true) e i)) ∙ e) all.1
 
-all_take : {I : Type 0} (P : I → Type 0) (n : ℕ) (xs : List I) → AllByRecursion P xs → AllByRecursion P (take n xs)
-all_take P zero xs all = tt
-all_take P (suc n) [] all = tt
-all_take P (suc n) (x ∷ xs) all = (all.0, all_take P n xs all.1)
-
 pub opening_doubts : (shard : ℕ) (log : List LogRecord) (run epoch : ℕ) → in_doubt shard (log_after_restart shard log run epoch) ≡ in_doubt shard log
 opening_doubts shard log run epoch = same_doubts shard log log (restart_records shard log run epoch) refl (plain_restart shard log run epoch)
 
@@ -87,7 +82,7 @@ failed_doubts : (s : Shard) (found left : List LogRecord) → FailedRestarts s f
 failed_doubts s found _ (untouched) = refl
 failed_doubts s found left (failed_first n more) =
     let rs = restart_records s.shard found s.run (next_epoch s found) in
-    failed_doubts s (found ++ take n rs) left more ∙ same_doubts s.shard found found (take n rs) refl (all_take (Plain s.shard found) n rs (plain_restart s.shard found s.run (next_epoch s found)))
+    failed_doubts s (found ++ take n rs) left more ∙ same_doubts s.shard found found (take n rs) refl (take_all_of (Plain s.shard found) n rs (plain_restart s.shard found s.run (next_epoch s found)))
 
 restarts_doubts : (s : Shard) (found : List LogRecord) (epoch : ℕ) (after : List LogRecord) → Restarts s found epoch after → in_doubt s.shard after ≡ in_doubt s.shard found
 restarts_doubts s found epoch after (left, f, e, q) =
@@ -130,9 +125,9 @@ revived_goes s n epoch log t p r a out k c = by_reason (not_in_doubt s.shard cut
 
     there : (u : TxId) → prepared_in (take n s.local.log) u ≡ true → prepared_in log u ≡ true
     there u h =
-        let z = there_prepare (take n s.local.log) u h in
+        let z = prepare_some (take n s.local.log) u h in
         let g = restarts_front s (take n s.local.log) epoch log r in
-        prepare_there log u z.0 (subst (λ l. prepare_of l u ≡ Some z.0) g.1 (prepare_more (take n s.local.log) g.0 u z.0 z.1))
+        prepared_there log u z.0 (subst (λ l. prepare_of l u ≡ Some z.0) g.1 (prepare_more (take n s.local.log) g.0 u z.0 z.1))
 
     by_reason : Why (take n s.local.log) s.shard (in_doubt s.shard (take n s.local.log)) t p → GoesBy s (revived s epoch log) t p
     by_reason (inl h) = inl (aborted_take n s.local.log t h)

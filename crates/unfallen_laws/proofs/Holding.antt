@@ -24,14 +24,16 @@ use Rattle.history_laws.proofs.Merging.{Placed}
 use Rattle.history_laws.proofs.Staying.{walker_of}
 use Rattle.history_laws.proofs.Worlds.{state_at}
 use Rattle.shard_laws.proofs.Restoring.{restored_none}
+use Rattle.shard_laws.proofs.Ordered.{prepare_some}
 use Rattle.fate_laws.proofs.Inside.{inside_self, inside_step}
-use Rattle.fate_laws.proofs.Prepares.{prepare_there, there_prepare, prepare_more}
+use Rattle.fate_laws.proofs.Prepares.{prepare_more}
 use Rattle.fate_laws.proofs.Prefixes.{Next, next_at, each_shard}
-use Rattle.fate_laws.proofs.Restored.{doubt_prepared}
 use Rattle.earlier_laws.specs.Earlier.{IsEarlier}
 use Rattle.fall_laws.proofs.Known.{DoesNow, none_made}
 use Rattle.fall_laws.proofs.Falling.{walk_on}
 use Rattle.unfallen_laws.proofs.Going.{inside_finish}
+use Rattle.file_laws.proofs.Doubts.{doubt_prepared}
+use Rattle.order_laws.proofs.Records.{prepared_there}
 
 -- a shard that came back has parts of those in doubt alone
 restored_prepared : (shard : ℕ) (log : List LogRecord) (s : Shard) (t : TxId) (st : Stage) → ((u : TxId) → tx_in u (in_doubt shard log) ≡ false → stage_of s.local u ≡ None) → stage_of s.local t ≡ Some st → prepared_in log t ≡ true
@@ -42,7 +44,7 @@ restored_prepared shard log s t st k c = at (tx_in t (in_doubt shard log)) refl
     at false i = absurd (none_some st (sym (k t i) ∙ c))
 
 longer_prepared : (xs ys : List LogRecord) (t : TxId) → IsPrefixOf xs ys → prepared_in xs t ≡ true → prepared_in ys t ≡ true
-longer_prepared xs ys t (more, e) h = let p = there_prepare xs t h in prepare_there ys t p.0 (subst (λ l. prepare_of l t ≡ Some p.0) e (prepare_more xs more t p.0 p.1))
+longer_prepared xs ys t (more, e) h = let p = prepare_some xs t h in prepared_there ys t p.0 (subst (λ l. prepare_of l t ≡ Some p.0) e (prepare_more xs more t p.0 p.1))
 
 prepared_event : (s x : Shard) {e : Event} {o : Outcome} (t : TxId) → Happens s e o x → prepared_in s.local.log t ≡ true → prepared_in x.local.log t ≡ true
 prepared_event s _ t (finishes {t = y} u h) p = longer_prepared s.local.log (finish y).local.log t (inside_finish s y (inside_step s y h)).log p

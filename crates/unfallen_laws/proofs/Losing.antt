@@ -18,7 +18,7 @@ use Rattle.history_laws.proofs.Entering.{Makes, makes}
 use Rattle.history_laws.proofs.Merging.{Placed}
 use Rattle.history_laws.proofs.Worlds.{state_at}
 use Rattle.shard_laws.proofs.Restoring.{restored_closed}
-use Rattle.fate_laws.proofs.Prepares.{prepare_there, opening_adds as opening_prepares}
+use Rattle.fate_laws.proofs.Prepares.{opening_adds as opening_prepares}
 use Rattle.fate_laws.proofs.Opening.{opening_settled, opening_home, opening_unaborted}
 use Rattle.fate_laws.proofs.Prefixes.{Next, next_at, each_shard}
 use Rattle.fate_laws.proofs.Fates.{Fated, dead_later}
@@ -29,6 +29,7 @@ use Rattle.fall_laws.proofs.Barred.{Absent, Out, Lost, lost_inactive}
 use Rattle.fall_laws.proofs.Falling.{Denied, Met, WasOut, empty_front, last_front, Stands, log_follows, stands_front, walk_on}
 use Rattle.unfallen_laws.proofs.StrikingFronts.{struck_front}
 use Rattle.unfallen_laws.proofs.Going.{opening_doubts, WasPrepared, GoesBy, prepares_made, goes_made, aborted_take}
+use Rattle.order_laws.proofs.Records.{prepared_there}
 
 -- ---- why it is lost
 
@@ -119,7 +120,7 @@ module _ (splits : List ℕ) (before after : List (List LogRecord)) (h pre : His
       out f =
           let s = state_at before after n pre in
           let k = struck_front splits before after h pre (e ∷ post) o l q n i t b in
-          (pre, [], append-nil pre, (k.0, k.1, ((old n i).barred).sought t (prepare_there s.local.log t p f)))
+          (pre, [], append-nil pre, (k.0, k.1, ((old n i).barred).sought t (prepared_there s.local.log t p f)))
 
   goes : (t : TxId) (p : ℕ × List TxId) → Absent (state_at before after n (pre ++ e ∷ [])) t → prepare_of (state_at before after n (pre ++ e ∷ [])).local.log t ≡ Some p → committed_in (state_at before after n (pre ++ e ∷ [])).local.log t ≡ false
       → aborted_in (log_left (state_at before after n (pre ++ e ∷ [])) false) t ≡ true → GoesBy (state_at before after n pre) (state_at before after n (pre ++ e ∷ [])) t p

@@ -1,5 +1,5 @@
 -- The request of a transaction names each shard that answered an operation of it.
-use Rattle.std.proofs.Common.{◌≡◌, ⊎_elim, refl, sym, ap, subst, ◌∙◌, ℕ, true, false, cond, Bool, ◌||◌, ◌==◌, List, [], ◌∷◌, map, Some}
+use Rattle.std.proofs.Common.{◌≡◌, ⊎_elim, refl, sym, ap, subst, ◌∙◌, ℕ, true, false, cond, Bool, ◌||◌, ◌==◌, List, [], ◌∷◌, map, Some, inl, inr, arith}
 use Rattle.std.specs.Prelude.{is_some}
 use Rattle.std.specs.Map.{lookup}
 use Rattle.std.proofs.lemmas.Bool.{both_ways, or_left, or_right, eq-eqb}
@@ -7,13 +7,18 @@ use Rattle.clv_base.specs.declared.events.Event.TheVariants.{Op as OpEvent, Requ
 use Rattle.clv_base.specs.Orders.{nat_in}
 use Rattle.clv_base.specs.Restarts.{run_after}
 use Rattle.clv_base.specs.Sessions.{no_session}
-use Rattle.clv_base.specs.Journals.{own}
+use Rattle.clv_base.specs.Journals.{own, History}
+use Rattle.clv_base.specs.declared.logs.LogRecord.{LogRecord}
+use Rattle.clv_base.specs.declared.names.TxId.{TxId}
+use Rattle.clv_base.specs.History.{Legal}
 use Rattle.protocol_laws.specs.SessionLaws.{tx_of, works_on, ended_by}
 use Rattle.protocol_laws.proofs.InOrder.{sessions_keep_order}
-use Rattle.history_laws.proofs.Merging.{is_among, in_turn}
+use Rattle.history_laws.proofs.Merging.{is_among, in_turn, Among, among_is}
 use Rattle.history_laws.proofs.Staying.{Together, together}
 use Rattle.history_laws.proofs.Walkers.{has, nothing_follows, request_names}
 use Rattle.unfallen_laws.specs.Named.{RequestsNameTheirShards}
+use Rattle.fate_laws.specs.Decisions.{IsHome}
+use Rattle.origin_laws.proofs.Entries.{DidOrOld}
 
 has_in : (n : ℕ) (ts : List (ℕ × ℕ)) → has n ts ≡ true → nat_in n (map (λ t. t.0) ts) ≡ true
 has_in n [] h = absurd (both_ways false refl h)
@@ -38,3 +43,9 @@ requests_name_their_shards splits before h after m home x e tx birth nth seen op
 
     differ : RequestEvent tx ts ≡ OpEvent tx birth nth seen op → ⊥
     differ z = absurd cc
+
+-- a request names each shard that answered an operation of its transaction
+pub names_shard : (splits : List ℕ) (before after : List (List LogRecord)) (h : History) (n home : ℕ) (t : TxId) (r : IsHome h t home) → Legal splits before h after → t.run ≡ run_after before → DidOrOld (run_after before) h n t → nat_in n (map (λ p. p.0) r.1) ≡ true
+names_shard splits before after h n home t r l run (inl (ep, (b, (y, k, p, a)))) =
+    requests_name_their_shards splits before h after n home y.1 r.0 t b (a.at).nth a.seen (a.at).op a.answer ep r.1 l (among_is n y.1 h (subst (λ q. Among (q, y.1) h) p k)) (a.at).is a.outcome r.2 r.3
+names_shard splits before after h n home t r l run (inr old) = absurd (omega (arith, old, run))

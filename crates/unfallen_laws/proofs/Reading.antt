@@ -15,8 +15,9 @@ use Rattle.history_laws.proofs.Merging.{is_among}
 use Rattle.history_laws.proofs.Staying.{walker_of}
 use Rattle.fall_laws.specs.Falls.{Fell}
 use Rattle.fall_laws.proofs.Finding.{members_never_fell_at_home}
+use Rattle.fall_laws.proofs.Here.{in_others}
 use Rattle.unfallen_laws.specs.Readers.{OnlyReadersMayFall}
-use Rattle.unfallen_laws.proofs.Sparing.{in_others, yes_voters_never_fell}
+use Rattle.unfallen_laws.proofs.Sparing.{yes_voters_never_fell}
 use Rattle.unfallen_laws.proofs.Voting.{members_are_voted_for}
 
 pub only_readers_may_fall : OnlyReadersMayFall

@@ -1,12 +1,11 @@
 -- No part of a member that is prepared ever fell.
-use Rattle.std.proofs.Common.{◌≡◌, ◌⊎◌, inl, inr, refl, ap, subst, ◌∙◌, ℕ, ◌<◌, true, false, Bool, cond, not, ◌==◌, List, [], ◌∷◌, map, Some, append-nil, eqb-true}
-use Rattle.std.specs.List.{filter}
-use Rattle.std.proofs.lemmas.Bool.{both_ways, or_cases, or_left, or_right, eq-eqb}
+use Rattle.std.proofs.Common.{◌≡◌, ◌⊎◌, inl, inr, refl, ap, subst, ℕ, ◌<◌, true, false, Bool, ◌==◌, List, [], map, Some, append-nil, eqb-true}
+use Rattle.std.proofs.lemmas.Bool.{both_ways}
 use Rattle.clv_base.specs.declared.names.TxId.{TxId}
 use Rattle.clv_base.specs.declared.logs.LogRecord.{LogRecord}
 use Rattle.clv_base.specs.Shards.{shard_count}
 use Rattle.clv_base.specs.FileRules.{may_open}
-use Rattle.clv_base.specs.Orders.{nat_in, tx_in}
+use Rattle.clv_base.specs.Orders.{tx_in}
 use Rattle.clv_base.specs.Logs.{committed_in, aborted_in, prepare_of}
 use Rattle.clv_base.specs.Restarts.{run_after, log_left}
 use Rattle.clv_base.specs.Journals.{History}
@@ -22,7 +21,7 @@ use Rattle.history_laws.proofs.Worlds.{state_at, in_a_shard}
 use Rattle.fate_laws.specs.Decisions.{IsHome, is_left}
 use Rattle.fate_laws.proofs.Fates.{DeadIn}
 use Rattle.fate_laws.proofs.Prefixes.{one_home}
-use Rattle.fate_laws.proofs.Prepares.{prepare_there, front_prepare}
+use Rattle.fate_laws.proofs.Prepares.{front_prepare}
 use Rattle.fate_laws.proofs.Deciding.{left_committed, commits_stand_at_home}
 use Rattle.fate_laws.proofs.Binding.{Bound, Reads}
 use Rattle.fate_laws.proofs.Bindings.{FineAt, bindings_front}
@@ -31,20 +30,11 @@ use Rattle.clv_base.specs.declared.causes.Vote.TheVariants.{Yes}
 use Rattle.fall_laws.specs.Falls.{Fell}
 use Rattle.fall_laws.proofs.Falling.{WasOut, stands_front}
 use Rattle.fall_laws.proofs.Finding.{fell_out, members_never_fell_at_home}
+use Rattle.fall_laws.proofs.Here.{in_others}
 use Rattle.unfallen_laws.specs.Unfallen.{PreparedMembersNeverFell, YesVotersNeverFell}
 use Rattle.unfallen_laws.proofs.Losing.{LostAt, all_lost}
 use Rattle.unfallen_laws.proofs.StrikingFronts.{struck_front}
-
-pub in_others : (m home : ℕ) (xs : List ℕ) → nat_in m xs ≡ true → (m == home) ≡ false → nat_in m (filter (λ p. not (p == home)) xs) ≡ true
-in_others m home [] i n = absurd (both_ways false refl i)
-in_others m home (x ∷ xs) i n = at (x == home) refl (or_cases (m == x) (nat_in m xs) i) (λ j. in_others m home xs j n)
-  where
-    at : (b : Bool) → (x == home) ≡ b → ((m == x) ≡ true) ⊎ (nat_in m xs ≡ true) → (nat_in m xs ≡ true → nat_in m (filter (λ p. not (p == home)) xs) ≡ true)
-        → nat_in m (cond (not b) (x ∷ filter (λ p. not (p == home)) xs) (filter (λ p. not (p == home)) xs)) ≡ true
-    at true e (inl f) k = absurd (both_ways _ n (eq-eqb m home (eqb-true m x f ∙ eqb-true x home e)))
-    at true e (inr f) k = k f
-    at false e (inl f) k = or_left (m == x) _ f
-    at false e (inr f) k = or_right (m == x) _ (k f)
+use Rattle.order_laws.proofs.Records.{prepared_there}
 
 -- ---- a part that is bound
 
@@ -94,7 +84,7 @@ module _ (splits : List ℕ) (before : List (List LogRecord)) (h : History) (aft
   pub bound_unaborted : Bound (state_at before after m h) tx → aborted_in (state_at before after m h).local.log tx ≡ true → ⊥
   bound_unaborted b k =
       let z = struck_front splits before after h h [] o l (append-nil h) m j tx k in
-      let asked = ((stands_front splits before after h h [] o l (append-nil h) m j).barred).sought tx (prepare_there (state_at before after m h).local.log tx b.listed (prepared b)) in
+      let asked = ((stands_front splits before after h h [] o l (append-nil h) m j).barred).sought tx (prepared_there (state_at before after m h).local.log tx b.listed (prepared b)) in
       bound_never_out b (λ y. both_ways _ z.1 (at_home (home_here b y))) (h, [], append-nil h, (z.0, z.1, asked))
 
 -- ---- members, and who voted yes

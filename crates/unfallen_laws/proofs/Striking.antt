@@ -46,18 +46,17 @@ use Rattle.shard_laws.proofs.Marking.{stage_marked}
 use Rattle.shard_laws.proofs.Rebuilding.{loser_out, out_left}
 use Rattle.shard_laws.proofs.Restoring.{restored_none}
 use Rattle.session_laws.proofs.Replying.{OpIs, dies, rolls, performs, reply_is}
-use Rattle.fate_laws.proofs.Homes.{still_not}
+use Rattle.fate_laws.proofs.Homes.{still_not, new_commit}
 use Rattle.fate_laws.proofs.HomesEvents.{awaits}
 use Rattle.fate_laws.proofs.Arriving.{taken_closed}
-use Rattle.fate_laws.proofs.Closings.{new_commit}
 use Rattle.fate_laws.proofs.Parts.{commit_agreed}
-use Rattle.fate_laws.proofs.Restored.{doubt_undecided}
 use Rattle.fate_laws.proofs.Downwards.{Down, Owes as OwesDown}
 use Rattle.fate_laws.proofs.Dooming.{Kept, doomed_open, agreed_waits, refused_open, kept_due}
 use Rattle.fate_laws.proofs.DoomingEvents.{Owes, kept_step}
 use Rattle.fall_laws.proofs.Barred.{Absent}
 use Rattle.fall_laws.proofs.BarredStep.{performed_other}
 use Rattle.unfallen_laws.proofs.Going.{aborted_take}
+use Rattle.file_laws.proofs.Doubts.{doubt_undecided}
 
 abbrev pub Struck : Shard → TxId → Type 0
 Struck s t = aborted_in s.local.log t ≡ true → Absent s t × (committed_in s.local.log t ≡ false)
@@ -243,7 +242,7 @@ apart_failed s found left t (failed_first n more) k =
     apart_failed s (found ++ take n (restart_records s.shard found s.run (next_epoch s found))) left t more (apart_part s.shard found s.run (next_epoch s found) n t k)
 
 struck_state : (shard own epoch : ℕ) (log : List LogRecord) (last : ℕ) (journal : List Entry) (t : TxId) → Apart log t → Struck (state_after shard own epoch log last journal) t
-struck_state shard own epoch log last journal t k h = (ap is_present (restored_none (in_doubt shard log) t (false_from_ne_true _ (λ i. both_ways _ (doubt_undecided shard log t i).1 h))), k h)
+struck_state shard own epoch log last journal t k h = (ap is_present (restored_none (in_doubt shard log) t (false_from_ne_true _ (λ i. both_ways _ (doubt_undecided shard log t i).2 h))), k h)
 
 pub struck_opened : (shard own : ℕ) (log : List LogRecord) (t : TxId) → ((u : TxId) → committed_in log u ≡ true → aborted_in log u ≡ false) → Struck (state_after shard own 0 (log_after_restart shard log own 0) 0 []) t
 struck_opened shard own log t k = struck_state shard own 0 (log_after_restart shard log own 0) 0 [] t (apart_whole shard log own 0 t (λ h. false_from_ne_true _ (λ c. both_ways _ (k t c) h)))

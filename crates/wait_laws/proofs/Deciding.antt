@@ -5,7 +5,7 @@ use Rattle.std.specs.Ordering.{nat_cmp, ordering_then, is_eq, is_lt}
 use Rattle.std.specs.Cmp.{nat_cmp_is}
 use Rattle.std.specs.declared.cmp.Ordering.{Ordering}
 use Rattle.std.specs.declared.cmp.Ordering.TheVariants.{Less, Equal, Greater}
-use Rattle.std.proofs.lemmas.Bool.{both_ways, and_parts, or_cases, cases_order}
+use Rattle.std.proofs.lemmas.Bool.{both_ways, and_parts, or_cases, cases_order, or_parts, not-true}
 use Rattle.clv_base.specs.declared.names.TxId.{TxId}
 use Rattle.clv_base.specs.declared.names.Birth.{Birth}
 use Rattle.clv_base.specs.declared.modes.Need.{Need}
@@ -47,10 +47,10 @@ older_of_test a b e =
     ⊎_elim (λ l. inl l) (λ p. ⊎_elim (λ l. inr (p.0, inl l)) (λ q. inr (p.0, inr (q.0, is_less a.serial b.serial q.1))) (less_or_equal a.session b.session (nat_cmp a.serial b.serial) p.1))
     (less_or_equal a.stamp b.stamp (ordering_then (nat_cmp a.session b.session) (nat_cmp a.serial b.serial)) e)
 
-less_cmp : (m n : ℕ) → m < n → nat_cmp m n ≡ Less
+pub less_cmp : (m n : ℕ) → m < n → nat_cmp m n ≡ Less
 less_cmp m n l = sym (nat_cmp_is m n Less l)
 
-equal_cmp : (m n : ℕ) → m ≡ n → nat_cmp m n ≡ Equal
+pub equal_cmp : (m n : ℕ) → m ≡ n → nat_cmp m n ≡ Equal
 equal_cmp m n e = sym (nat_cmp_is m n Equal e)
 
 pub older_is_told : (a b : Birth) → Older a b → is_older a b ≡ true
@@ -133,14 +133,6 @@ pub record InWay (tx : TxId) (birth : Birth) (P : TxId → Birth → Bool → Ty
   pub apart : tx_same tx u ≡ false
   pub not_older : is_older birth_of birth ≡ false
 
-not_true : (b : Bool) → not b ≡ true → b ≡ false
-not_true true e = absurd (both_ways false refl e)
-not_true false e = refl
-
-or_parts : (a b : Bool) → (a || b) ≡ false → (a ≡ false) × (b ≡ false)
-or_parts true b e = absurd (both_ways true e refl)
-or_parts false b e = (refl, e)
-
 and_false : (a b : Bool) → (a && b) ≡ false → a ≡ true → b ≡ false
 and_false true b e f = e
 and_false false b e f = absurd (both_ways false refl f)
@@ -155,7 +147,7 @@ found P tx birth test (r ∷ rs) u ok rows none e = at (test r) refl none e (fou
         let p = and_parts (tx_same u (r.1).tx) (not (r.1).closed) f in
         record {
           birth_of = (r.1).birth;
-          row = subst (λ z. P z (r.1).birth false) (sym (tx_true u (r.1).tx p.0)) (subst (λ c. P (r.1).tx (r.1).birth c) (not_true (r.1).closed p.1) rows.0);
+          row = subst (λ z. P z (r.1).birth false) (sym (tx_true u (r.1).tx p.0)) (subst (λ c. P (r.1).tx (r.1).birth c) (not-true (r.1).closed p.1) rows.0);
           apart = subst (λ z. tx_same tx z ≡ false) (sym (tx_true u (r.1).tx p.0)) (ok r t);
           not_older = and_false (not (r.1).closed) (is_older (r.1).birth birth) g p.1;
         }
@@ -174,4 +166,4 @@ pub in_way : (P : TxId → Birth → Bool → Type 0) (tx u younger : TxId) (bir
 in_way P tx u younger birth needs locks rows e i =
     let ways = conflicting_holders tx needs locks in
     let n = none_pass (λ h. not h.closed && is_older h.birth birth) ways (waits_none (oldest_by (λ h. not h.closed && is_older h.birth birth) ways) younger (wait_by (oldest_by (λ h. not h.closed) ways)) e) in
-    found P tx birth (λ r. not (tx_same tx (r.1).tx) && meets (λ a h. not (compatible a h)) needs r) locks u (λ r t. not_true (tx_same tx (r.1).tx) (and_parts (not (tx_same tx (r.1).tx)) (meets (λ a h. not (compatible a h)) needs r) t).0) rows n i
+    found P tx birth (λ r. not (tx_same tx (r.1).tx) && meets (λ a h. not (compatible a h)) needs r) locks u (λ r t. not-true (tx_same tx (r.1).tx) (and_parts (not (tx_same tx (r.1).tx)) (meets (λ a h. not (compatible a h)) needs r) t).0) rows n i

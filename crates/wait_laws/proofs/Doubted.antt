@@ -1,9 +1,9 @@
 -- Who is in doubt in a log that goes on from the one that a shard opened was so in the one found; and who has a part or a PREPARE on a shard,
 -- kept by each of its events.
-use Rattle.std.proofs.Common.{◌≡◌, ◌⊎◌, inl, inr, ⊎_elim, refl, sym, ap, subst, ◌∙◌, ℕ, Bool, true, false, cond, not, ◌&&◌, ◌||◌, ◌==◌, List, [], ◌∷◌, ◌++◌, map, Option, Some, None, append_assoc}
+use Rattle.std.proofs.Common.{◌≡◌, ⊎_elim, refl, sym, ap, subst, ◌∙◌, ℕ, Bool, true, false, cond, not, ◌||◌, List, [], ◌∷◌, ◌++◌, map, Option, Some, None, append_assoc}
 use Rattle.std.specs.Prelude.{⊤, take}
-use Rattle.std.specs.List.{AllByRecursion, filter, list_all}
-use Rattle.std.proofs.lemmas.Bool.{both_ways, and_parts, or_left, or_right, or_cases, not-true, false_from_ne_true}
+use Rattle.std.specs.List.{AllByRecursion, filter}
+use Rattle.std.proofs.lemmas.Bool.{both_ways, or_left, or_right, or_cases, false_from_ne_true}
 use Rattle.std.proofs.lemmas.List.Folds.{list_any-append}
 use Rattle.clv_base.specs.declared.names.TxId.{TxId}
 use Rattle.clv_base.specs.declared.names.Birth.{Birth}
@@ -13,7 +13,7 @@ use Rattle.clv_base.specs.declared.causes.AbortCause.{AbortCause}
 use Rattle.clv_base.specs.declared.causes.Vote.{Vote}
 use Rattle.clv_base.specs.declared.causes.Vote.TheVariants.{Yes, Read, No}
 use Rattle.clv_base.specs.declared.logs.LogRecord.{LogRecord}
-use Rattle.clv_base.specs.declared.logs.LogRecord.TheVariants.{Update, Clr, Prepare, Commit, Abort, End, Restart}
+use Rattle.clv_base.specs.declared.logs.LogRecord.TheVariants.{Update, Commit, Abort, End, Restart}
 use Rattle.clv_base.specs.declared.state.Stage.{Stage}
 use Rattle.clv_base.specs.declared.state.Stage.TheVariants.{Active}
 use Rattle.clv_base.specs.declared.state.Held.{Held}
@@ -23,8 +23,8 @@ use Rattle.clv_base.specs.declared.events.Event.{Event}
 use Rattle.clv_base.specs.declared.events.Event.TheVariants.{Op as OpEvent}
 use Rattle.clv_base.specs.declared.events.Outcome.{Outcome}
 use Rattle.clv_base.specs.declared.events.Outcome.TheVariants.{Answered}
-use Rattle.clv_base.specs.Orders.{Table, tx_same, tx_in, tx_get, tx_insert}
-use Rattle.clv_base.specs.Logs.{standing, writers, is_abort_of, wrote_in, committed_in, aborted_in, prepared_in, doubt_by, in_doubt_from, in_doubt, is_winner}
+use Rattle.clv_base.specs.Orders.{Table, tx_same, tx_in, tx_get}
+use Rattle.clv_base.specs.Logs.{standing, writers, is_abort_of, wrote_in, committed_in, aborted_in, prepared_in, in_doubt, is_winner}
 use Rattle.clv_base.specs.Needs.{writes_of, value_at, key_of}
 use Rattle.clv_base.specs.State.{Shard, Local, with_local, is_present}
 use Rattle.clv_base.specs.Undo.{stage_of, aborts_of, clrs_of, gone_part, doomed_here, roll_back}
@@ -34,7 +34,7 @@ use Rattle.clv_base.specs.Due.{finish_part, finish_reader, with_vote, do_ruling,
 use Rattle.clv_base.specs.Events.{finish, is_alone, decided, with_durable, put_down}
 use Rattle.clv_base.specs.Coordinator.{others}
 use Rattle.clv_base.specs.Restarts.{losers, undo_records, restart_records, log_after_restart, next_epoch, log_left, restored_parts, opened, revived, FailedRestarts, untouched, failed_first, Restarts}
-use Rattle.clv_base.proofs.SameNames.{tx_true, tx_self, tx_flip, in_insert}
+use Rattle.clv_base.proofs.SameNames.{tx_true, tx_self, tx_flip}
 use Rattle.law_base.proofs.Changed.{none_some}
 use Rattle.law_base.proofs.Rows.{rows_get, rows_put}
 use Rattle.law_base.proofs.Tables.{stage_by}
@@ -51,43 +51,14 @@ use Rattle.history_laws.proofs.Serials.{committed_front}
 use Rattle.history_laws.proofs.Stepping.{commits, votes, rules, KeptByDue, settled, with_work, Step, op_dies, op_answers, request_refused, request_doomed, request_again, request_new, request_closes, looks_well, looks_ill, drops, sends, prepare_closes, prepare_again, vote_counts, decision_comes, decision_again, done_counts, asked, reminds, flushes, Happens, finishes, stops}
 use Rattle.session_laws.proofs.Replying.{OpIs, dies, rolls, performs, reply_is}
 use Rattle.origin_laws.proofs.Events.{written_parts}
-
--- ---- who is in doubt in a log is prepared among its records, and neither committed nor aborted
-
-abbrev Undecided : List LogRecord → List LogRecord → TxId → Type 0
-Undecided log rs t = (prepared_in rs t ≡ true) × (committed_in log t ≡ false) × (aborted_in log t ≡ false)
-
-doubts_undecided : (log : List LogRecord) (shard : ℕ) (rs : List LogRecord) (sf : List TxId) (t : TxId) → tx_in t (in_doubt_from log shard rs sf) ≡ true → (tx_in t sf ≡ true) ⊎ Undecided log rs t
-doubts_undecided log shard [] sf t i = inl i
-doubts_undecided log shard (Prepare tx home ps ∷ rs) sf t i = at (doubt_by log shard tx home ps sf) refl (doubts_undecided log shard rs (cond (doubt_by log shard tx home ps sf) (tx_insert tx sf) sf) t i)
-  where
-    own : doubt_by log shard tx home ps sf ≡ true → t ≡ tx → Undecided log (Prepare tx home ps ∷ rs) t
-    own d e =
-        let a = and_parts (not (shard == home) && not (committed_in log tx) && not (aborted_in log tx)) (list_all (λ p. committed_in log p || tx_in p sf) ps) d in
-        let b = and_parts (not (shard == home) && not (committed_in log tx)) (not (aborted_in log tx)) a.0 in
-        let c = and_parts (not (shard == home)) (not (committed_in log tx)) b.0 in
-        subst (Undecided log (Prepare tx home ps ∷ rs)) (sym e) (or_left (tx_same tx tx) (prepared_in rs tx) (tx_self tx), not-true _ c.1, not-true _ b.1)
-
-    at : (b : Bool) → doubt_by log shard tx home ps sf ≡ b → (tx_in t (cond b (tx_insert tx sf) sf) ≡ true) ⊎ Undecided log rs t → (tx_in t sf ≡ true) ⊎ Undecided log (Prepare tx home ps ∷ rs) t
-    at b d (inr u) = inr (or_right (tx_same t tx) (prepared_in rs t) u.0, u.1, u.2)
-    at false d (inl j) = inl j
-    at true d (inl j) = ⊎_elim (λ e. inr (own d e)) (λ k. inl k) (in_insert tx t sf j)
-doubts_undecided log shard (Update tx k b a ∷ rs) sf t i = doubts_undecided log shard rs sf t i
-doubts_undecided log shard (Clr tx u k a ∷ rs) sf t i = doubts_undecided log shard rs sf t i
-doubts_undecided log shard (Commit tx ps ∷ rs) sf t i = doubts_undecided log shard rs sf t i
-doubts_undecided log shard (Abort tx ∷ rs) sf t i = doubts_undecided log shard rs sf t i
-doubts_undecided log shard (End tx ∷ rs) sf t i = doubts_undecided log shard rs sf t i
-doubts_undecided log shard (Restart run epoch ∷ rs) sf t i = doubts_undecided log shard rs sf t i
-
-pub doubt_undecided : (shard : ℕ) (log : List LogRecord) (t : TxId) → tx_in t (in_doubt shard log) ≡ true → Undecided log log t
-doubt_undecided shard log t i = ⊎_elim (λ j. absurd (both_ways false refl j)) (λ u. u) (doubts_undecided log shard log [] t i)
+use Rattle.file_laws.proofs.Doubts.{doubt_undecided}
 
 -- ---- who is prepared in the log found is committed or in doubt there, or aborted when the shard has opened
 
 aborted_append : (xs ys : List LogRecord) (t : TxId) → aborted_in (xs ++ ys) t ≡ (aborted_in xs t || aborted_in ys t)
 aborted_append xs ys t = list_any-append (is_abort_of t) xs ys
 
-aborted_front : (xs ys : List LogRecord) (t : TxId) → IsPrefixOf xs ys → aborted_in xs t ≡ true → aborted_in ys t ≡ true
+pub aborted_front : (xs ys : List LogRecord) (t : TxId) → IsPrefixOf xs ys → aborted_in xs t ≡ true → aborted_in ys t ≡ true
 aborted_front xs ys t (rest, e) a = subst (λ z. aborted_in z t ≡ true) e (aborted_append xs rest t ∙ or_left _ _ a)
 
 abort_there : (ts : List TxId) (t : TxId) → tx_in t ts ≡ true → aborted_in (map (λ u. Abort u) ts) t ≡ true

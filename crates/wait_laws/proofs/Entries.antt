@@ -38,6 +38,7 @@ use Rattle.history_laws.proofs.Telling.{IsRequest}
 use Rattle.history_laws.proofs.Worlds.{state_at}
 use Rattle.session_laws.proofs.Replying.{OpIs, performs, reply_is}
 use Rattle.file_laws.proofs.Walking.{Behind, Walked, Steps, walked}
+use Rattle.file_laws.proofs.Found.{found_in_order}
 use Rattle.origin_laws.proofs.Sessions.{Requested, turn_of, same_epoch, op_no_request}
 use Rattle.origin_laws.proofs.Origins.{SomeRequest, StageFrom, PartFrom, part_of}
 use Rattle.origin_laws.proofs.Events.{active_done}
@@ -45,7 +46,7 @@ use Rattle.origin_laws.proofs.Entries.{Did, IsOld, Traced, Says, traced_steps, t
 use Rattle.law_base.proofs.Lists.{all_mono}
 use Rattle.wait_laws.specs.Waiting.{OpenedInDoubt}
 use Rattle.wait_laws.proofs.Doubted.{has_stage}
-use Rattle.wait_laws.proofs.Opening.{MayHave, MayPrepare, Opened, found_in_order, opened_opens, opened_entry}
+use Rattle.wait_laws.proofs.Opening.{MayHave, MayPrepare, Opened, opened_opens, opened_entry}
 use Rattle.wait_laws.proofs.Tied.{ListsAre, Tied, MayStand, OpOwes, tied_happens, tied_flushed, tied_down, tied_revived, tied_opened, tied_mono, tied_as}
 
 -- ---- who asked before whom

@@ -1,8 +1,5 @@
 -- Along a history: whoever of an earlier run has a part on a shard was in doubt in the log that the shard opened.
-use Rattle.std.proofs.Common.{◌≡◌, refl, sym, ap, subst, ℕ, ◌<◌, ◌+◌, Bool, true, false, List, [], length, Option, Some, None, arith}
-use Rattle.std.specs.Prelude.{is_none}
-use Rattle.std.specs.List.{list_all}
-use Rattle.std.proofs.lemmas.Bool.{both_ways, and_parts}
+use Rattle.std.proofs.Common.{◌≡◌, refl, sym, ap, subst, ℕ, ◌<◌, Bool, true, false, List, [], length, arith}
 use Rattle.std.proofs.lemmas.List.{take_all}
 use Rattle.clv_base.specs.declared.names.TxId.{TxId}
 use Rattle.clv_base.specs.declared.logs.LogRecord.{LogRecord}
@@ -13,8 +10,8 @@ use Rattle.clv_base.specs.declared.events.Outcome.TheVariants.{Answered}
 use Rattle.clv_base.specs.declared.events.Entry.{Entry}
 use Rattle.clv_base.specs.Orders.{tx_in}
 use Rattle.clv_base.specs.Logs.{prepared_in, in_doubt}
-use Rattle.clv_base.specs.LogRules.{log_of, disorder, apart, all_logs_from}
-use Rattle.clv_base.specs.FileRules.{passes_file_rules, log_passes, may_open}
+use Rattle.clv_base.specs.LogRules.{log_of}
+use Rattle.clv_base.specs.FileRules.{may_open}
 use Rattle.clv_base.specs.State.{Shard}
 use Rattle.clv_base.specs.Restarts.{run_after, log_left, log_after_restart, Restarts}
 use Rattle.clv_base.specs.Journals.{History, start_of, event_state, after_entry, up_to_restart, MayEnter}
@@ -26,10 +23,11 @@ use Rattle.shard_laws.proofs.Following.{Follows, from_disorder}
 use Rattle.history_laws.proofs.Durability.{Counted, fronts_entry, left_front, restarts_front}
 use Rattle.history_laws.proofs.Entering.{Makes, by_event, by_flush, by_failure, by_restart, makes}
 use Rattle.history_laws.proofs.Merging.{Among}
-use Rattle.history_laws.proofs.OldRuns.{each_passes}
 use Rattle.history_laws.proofs.Staying.{walker_of}
 use Rattle.origin_laws.proofs.Entries.{IsOld}
-use Rattle.wait_laws.proofs.Doubted.{Has, AnswersOf, doubt_undecided, doubt_found, opening_prepares, left_prepares, has_as, has_happens, has_flushed, has_down, has_revived, has_opened}
+use Rattle.wait_laws.proofs.Doubted.{Has, AnswersOf, doubt_found, opening_prepares, left_prepares, has_as, has_happens, has_flushed, has_down, has_revived, has_opened}
+use Rattle.file_laws.proofs.Found.{found_in_order}
+use Rattle.file_laws.proofs.Doubts.{doubt_undecided}
 
 -- of this run, or in doubt in the log found; or prepared in it
 abbrev pub MayHave : List (List LogRecord) → ℕ → TxId → Type 0
@@ -48,16 +46,6 @@ pub record Opened (before : List (List LogRecord)) (n : ℕ) (s : Shard) : Type 
   pub begins : IsPrefixOf (log_opened before n) (log_left s false)
 
 -- ---- at opening
-
-none_of : {X : Type 0} (o : Option X) → is_none o ≡ true → o ≡ None
-none_of None e = refl
-none_of (Some x) e = absurd (both_ways false refl e)
-
-pub found_in_order : (splits : List ℕ) (before : List (List LogRecord)) (n : ℕ) → may_open splits before ≡ true → n < length before → disorder n (log_of before n) ≡ None
-found_in_order splits before n m l =
-    let p = and_parts (all_logs_from 0 (log_passes splits) before) (is_none (apart before)) m in
-    let q = each_passes (log_passes splits) 0 n before p.0 l in
-    subst (λ k. disorder k (log_of before n) ≡ None) (omega arith) (none_of (disorder (0 + n) (log_of before n)) (and_parts (list_all (passes_file_rules splits (0 + n)) (log_of before n)) _ q).1)
 
 found_follows : (splits : List ℕ) (before : List (List LogRecord)) (n : ℕ) → may_open splits before ≡ true → n < length before → Follows n [] (log_of before n)
 found_follows splits before n m l = from_disorder n 0 [] (log_of before n) (found_in_order splits before n m l)

@@ -1,5 +1,5 @@
 -- Whose locks a shard has, and who depends on whom: each pair's predecessor asked before its successor.
-use Rattle.std.proofs.Common.{◌≡◌, ◌⊎◌, inl, inr, ⊎_elim, refl, sym, ap, subst, ◌∙◌, ℕ, zero, suc, Bool, true, false, cond, not, ◌&&◌, ◌||◌, List, [], ◌∷◌, ◌++◌, map, Option, Some, None}
+use Rattle.std.proofs.Common.{◌≡◌, ◌⊎◌, inl, inr, ⊎_elim, refl, sym, ap, subst, ◌∙◌, ℕ, zero, suc, Bool, true, false, cond, not, ◌&&◌, List, [], ◌∷◌, ◌++◌, map, Option, Some, None}
 use Rattle.std.specs.Prelude.{take}
 use Rattle.std.specs.List.{AllByRecursion, filter}
 use Rattle.std.proofs.lemmas.Bool.{both_ways, and_parts, or_left, or_right, or_cases, cond-true}
@@ -14,7 +14,6 @@ use Rattle.clv_base.specs.declared.logs.LogRecord.{LogRecord}
 use Rattle.clv_base.specs.declared.logs.LogRecord.TheVariants.{Update, Clr, Prepare, Commit, Abort, End, Restart as RestartRecord}
 use Rattle.clv_base.specs.declared.modes.Anchor.TheVariants.{At}
 use Rattle.clv_base.specs.declared.modes.Part.TheVariants.{X}
-use Rattle.clv_base.specs.declared.modes.Holder.{Holder}
 use Rattle.clv_base.specs.declared.state.Stage.{Stage}
 use Rattle.clv_base.specs.declared.state.Stage.TheVariants.{Active, Closed}
 use Rattle.clv_base.specs.declared.state.Held.{Held}
@@ -24,24 +23,27 @@ use Rattle.clv_base.specs.declared.events.Event.{Event}
 use Rattle.clv_base.specs.declared.events.Event.TheVariants.{Op as OpEvent}
 use Rattle.clv_base.specs.declared.events.Outcome.{Outcome}
 use Rattle.clv_base.specs.declared.events.Outcome.TheVariants.{Answered}
-use Rattle.clv_base.specs.Orders.{Table, tx_same, tx_in, tx_get, pair_insert}
+use Rattle.clv_base.specs.Orders.{Table, tx_same, tx_in, tx_get}
 use Rattle.clv_base.specs.Modes.{on_key}
 use Rattle.clv_base.specs.Logs.{StandingUpdate, standing, wrote_in, committed_in, aborted_in, prepare_of, in_doubt}
 use Rattle.clv_base.specs.Locks.{Locks, take_one, take_all, split_gap, release, violated}
 use Rattle.clv_base.specs.Needs.{Records, needs_of, need, writes_of, value_at, key_of, lower_anchor}
 use Rattle.clv_base.specs.State.{Shard, Local, with_local, is_present}
-use Rattle.clv_base.specs.Undo.{stage_of, aborts_of, clrs_of, newest_lsn, gone_part, gone_in, doomed_here, roll_back}
+use Rattle.clv_base.specs.Undo.{stage_of, aborts_of, clrs_of, newest_lsn, gone_in, doomed_here, roll_back}
 use Rattle.clv_base.specs.Facts.{predecessors_of, undecided_of}
-use Rattle.clv_base.specs.OneShard.{OpDies, OpAnswers, active_part, new_part, add_pairs, inserted_locks, written, locked, performed, rolled_back_if, without_part, closing, closed_part, closed_in, close_part, dropped_part, marked_in, mark_dropped, drop_part}
+use Rattle.clv_base.specs.OneShard.{OpDies, OpAnswers, active_part, new_part, inserted_locks, written, locked, performed, rolled_back_if, without_part, closing, closed_part, closed_in, close_part, dropped_part, marked_in, mark_dropped, drop_part}
 use Rattle.clv_base.specs.Due.{finish_part, finish_reader, with_vote, do_ruling, with_ruling}
 use Rattle.clv_base.specs.Events.{finish, is_alone, decided, with_durable, put_down}
 use Rattle.clv_base.specs.Coordinator.{others}
 use Rattle.clv_base.specs.Restarts.{losers, undo_records, restart_records, log_after_restart, next_epoch, log_left, restored_part, restored_parts, restored_locks, old_birth, restored_pairs, pairs_of_listed, opened, revived, FailedRestarts, untouched, failed_first, Restarts}
-use Rattle.clv_base.proofs.SameNames.{tx_true, tx_self, tx_flip}
+use Rattle.clv_base.proofs.SameNames.{tx_true, tx_self}
 use Rattle.law_base.proofs.Changed.{some_same, none_some}
 use Rattle.law_base.proofs.Lists.{all_mono}
-use Rattle.law_base.proofs.Tables.{stage_by, get_changed, get_put, is_pair, in_pair, insert_from, without_pairs}
+use Rattle.law_base.proofs.Tables.{stage_by, get_changed, get_put, is_pair, in_pair, without_pairs}
 use Rattle.shard_laws.proofs.LockRows.{Rows, rows_take, rows_all, rows_split, rows_close, rows_release, violated_row}
+use Rattle.shard_laws.proofs.Leaving.{get_other}
+use Rattle.shard_laws.proofs.Performing.{add_which}
+use Rattle.shard_laws.proofs.Restoring.{restored_there}
 use Rattle.history_laws.proofs.Stepping.{commits, votes, rules, KeptByDue, settled, with_work, Step, op_dies, op_answers, request_refused, request_doomed, request_again, request_new, request_closes, looks_well, looks_ill, drops, sends, prepare_closes, prepare_again, vote_counts, decision_comes, decision_again, done_counts, asked, reminds, flushes, Happens, finishes, stops}
 use Rattle.history_laws.proofs.Telling.{all_append}
 use Rattle.session_laws.proofs.Replying.{OpIs, dies, rolls, performs, reply_is}
@@ -85,15 +87,8 @@ none_clrs E set (w ∷ ws) = at (tx_in w.tx set) (none_clrs E set ws)
 
 -- ---- parts that leave
 
-get_left : (set : List TxId) (d : Option TxId) (u : TxId) (parts : Table Held) → tx_in u set ≡ false → tx_get u (gone_in set d parts) ≡ tx_get u parts
-get_left set d u parts e = get_changed (λ t. tx_in t set) (gone_part d) u parts ∙ at (tx_get u parts)
-  where
-    at : (o : Option Held) → ◌≡◌ {A = Option Held} (elim o [ Some h ↦ Some (cond (tx_in u set) (gone_part d h) h) | None ↦ None ]) o
-    at None = refl
-    at (Some h) = ap (λ b. Some (cond b (gone_part d h) h)) e
-
 rows_left : (set : List TxId) (d : Option TxId) (parts : Table Held) (locks : Locks) → Rows (LockOf parts) locks → Rows (LockOf (gone_in set d parts)) (release set locks)
-rows_left set d parts locks rows = rows_release (LockOf parts) (LockOf (gone_in set d parts)) set locks (λ u b c h out. (h.0, get_left set d u parts out ∙ h.1, h.2, h.3)) rows
+rows_left set d parts locks rows = rows_release (LockOf parts) (LockOf (gone_in set d parts)) set locks (λ u b c h out. (h.0, get_other set d u parts out ∙ h.1, h.2, h.3)) rows
 
 tied_rolled : (E : TxId → TxId → Type 0) (s : Shard) (tx : TxId) → Tied E s → Tied E (with_local (roll_back tx) s)
 tied_rolled E s tx k =
@@ -181,15 +176,6 @@ written_listed : (E : TxId → TxId → Type 0) (tx : TxId) (w : Option (ℕ × 
 written_listed E tx None l a = a
 written_listed E tx (Some w) l a = all_append (ListsAre E) l.log (Update tx w.0 w.1 w.2 ∷ []) a (tt, tt)
 
--- a pair is an old one, or one of those that are added
-pair_from : (tx : TxId) (ps : List TxId) (pairs : List (TxId × TxId)) (t p : TxId) → is_pair (add_pairs tx ps pairs) t p ≡ true → (is_pair pairs t p ≡ true) ⊎ ((t ≡ tx) × (tx_in p ps ≡ true))
-pair_from tx [] pairs t p e = inl e
-pair_from tx (q ∷ qs) pairs t p e =
-    ⊎_elim (λ a. ⊎_elim (λ b. inl b) (λ b. inr b) (first a)) (λ a. inr (a.0, or_right (tx_same q p) (tx_in p qs) a.1)) (pair_from tx qs (pair_insert (tx, q) pairs) t p e)
-  where
-    first : is_pair (pair_insert (tx, q) pairs) t p ≡ true → (is_pair pairs t p ≡ true) ⊎ ((t ≡ tx) × (tx_in p (q ∷ qs) ≡ true))
-    first a = ⊎_elim (λ b. inl b) (λ b. let c = and_parts (tx_same t tx) (tx_same p q) b in inr (tx_true t tx c.0, or_left (tx_same q p) (tx_in p qs) (tx_flip p q c.1))) (insert_from pairs (tx, q) t p a)
-
 tied_performed : (E : TxId → TxId → Type 0) (s : Shard) (tx : TxId) (birth : Birth) (op : Op) → MayStand s.local.parts tx birth → ((p : TxId) → stage_of s.local p ≡ Some Closed → E tx p) → Tied E s → Tied E (with_work (performed tx birth op s.local) s)
 tied_performed E s tx birth op m closed k =
     let w = writes_of op (value_at (key_of op) s.local.records) in
@@ -204,7 +190,7 @@ tied_performed E s tx birth op m closed k =
       rows = subst (λ z. Rows (LockOf z) (written tx w l).locks) (sym r.0) (subst (λ z. Rows q z) (sym r.1) rows0);
       pairs = λ t p e. ⊎_elim (λ a. k.pairs t p a)
           (λ a. subst (λ z. E z p) (sym a.0) (closed p (closed_row p (violated_row (LockOf s.local.parts) tx p ns s.local.locks k.rows a.1))))
-          (pair_from tx (violated tx ns s.local.locks) s.local.pairs t p (subst (λ z. is_pair z t p ≡ true) r.2 e));
+          (add_which tx (violated tx ns s.local.locks) s.local.pairs t p (subst (λ z. is_pair z t p ≡ true) r.2 e));
       listed = written_listed E tx w l k.listed;
     }
   where
@@ -324,17 +310,6 @@ pub tied_down : (E : TxId → TxId → Type 0) (s : Shard) → Tied E s → Tied
 tied_down E s k = tied_as E s (put_down s) refl k
 
 -- ---- a restart
-
-restored_there : (txs : List TxId) (tx : TxId) → tx_in tx txs ≡ true → tx_get tx (restored_parts txs) ≡ Some (restored_part tx)
-restored_there [] tx i = absurd (both_ways false refl i)
-restored_there (u ∷ us) tx i = at (tx_same tx u) refl i (restored_there us tx)
-  where
-    at : (b : Bool) → tx_same tx u ≡ b → (tx_same u tx || tx_in tx us) ≡ true → (tx_in tx us ≡ true → tx_get tx (restored_parts us) ≡ Some (restored_part tx)) → cond b (Some (restored_part u)) (tx_get tx (restored_parts us)) ≡ Some (restored_part tx)
-    at true e j k = ap (λ z. Some (restored_part z)) (sym (tx_true tx u e))
-    at false e j k = ⊎_elim (λ f. absurd (both_ways _ e (tx_flip u tx f))) (λ f. k f) (or_cases (tx_same u tx) (tx_in tx us) j)
-
-restored_lock : TxId → Holder
-restored_lock tx = record { tx = tx; birth = old_birth tx; mode = on_key X; closed = true }
 
 rows_of_restored : (txs : List TxId) (log : List LogRecord) (locks : Locks) → Rows (LockOf (restored_parts txs)) locks → Rows (LockOf (restored_parts txs)) (restored_locks txs log locks)
 rows_of_restored txs [] locks h = h

@@ -2,8 +2,6 @@
 use Rattle.std.proofs.Common.{◌≡◌, ◌⊎◌, inl, inr, ⊎_elim, refl, sym, ap, subst, ◌∙◌, ℕ, zero, suc, ◌≤◌, ◌<◌, true, false, cond, not, Bool, List, [], ◌∷◌, ◌++◌, length, Option, Some, None, ◌&&◌, ◌||◌, ◌==◌, nat_lt, arith}
 use Rattle.std.specs.List.{filter, list_all}
 use Rattle.std.specs.Ordering.{nat_cmp, ordering_then, is_eq, is_lt}
-use Rattle.std.specs.Cmp.{nat_cmp_is}
-use Rattle.std.specs.declared.cmp.Ordering.TheVariants.{Less, Equal}
 use Rattle.std.proofs.lemmas.Bool.{both_ways, and_parts, or_left, or_right, or_cases, cond-false, ne_eqb, cases_lt, ltb-true, eq-eqb}
 use Rattle.clv_base.specs.declared.names.TxId.{TxId}
 use Rattle.clv_base.specs.declared.names.Birth.{Birth}
@@ -20,7 +18,7 @@ use Rattle.clv_base.specs.declared.events.Event.{Event}
 use Rattle.clv_base.specs.declared.events.Event.TheVariants.{Op as OpEvent, Request as RequestEvent}
 use Rattle.clv_base.specs.declared.events.Outcome.TheVariants.{Wait, Down}
 use Rattle.clv_base.specs.Orders.{Table, tx_same, tx_in, tx_get, tx_union, birth_cmp, is_older}
-use Rattle.clv_base.specs.Logs.{committed_in, is_prepare_of}
+use Rattle.clv_base.specs.Logs.{committed_in}
 use Rattle.clv_base.specs.Shards.{shard_count}
 use Rattle.clv_base.specs.LogRules.{log_of}
 use Rattle.clv_base.specs.FileRules.{may_open}
@@ -32,7 +30,7 @@ use Rattle.clv_base.specs.Facts.{predecessors_of}
 use Rattle.clv_base.specs.OneShard.{OpReply, OpWaits, OpCrowded, OpDies, OpAnswers, op_granted, op_decided, op_by_stage, op_seen, op_reply, seen_fits, undecided_after}
 use Rattle.clv_base.specs.Events.{QuietBeforeWorn, QuietAfterWorn, op_event, happen_up, happen}
 use Rattle.clv_base.specs.Sessions.{is_session, no_session}
-use Rattle.clv_base.specs.Restarts.{greatest_run, run_after, opened}
+use Rattle.clv_base.specs.Restarts.{run_after, opened}
 use Rattle.clv_base.specs.Journals.{History, comes_before, own, journal_of, start_of, after_entries, final_of, has_equal_active_birth}
 use Rattle.clv_base.specs.History.{Legal, request_of, has_request, offered, MayOffer, is_active_in_way, Waits, for_lock, for_room, for_commit}
 use Rattle.clv_base.proofs.SameNames.{tx_true, tx_self, in_insert}
@@ -49,18 +47,15 @@ use Rattle.origin_laws.proofs.Sessions.{Requested}
 use Rattle.origin_laws.proofs.Origins.{SomeRequest, PartFrom, StageFrom, part_of}
 use Rattle.origin_laws.proofs.Events.{active_done}
 use Rattle.origin_laws.proofs.Entries.{Did, IsOld}
-use Rattle.order_laws.proofs.InOrder.{runs_in_order}
-use Rattle.order_laws.proofs.Records.{own_prepare}
-use Rattle.order_laws.proofs.Runs.{record_fits}
-use Rattle.history_laws.proofs.OldRuns.{below_next_run}
 use Rattle.law_base.proofs.Rows.{rows_get}
 use Rattle.wait_laws.specs.Waiting.{OpenedInDoubt, IsRequestOf, AskedBefore, birth_waiting, IsActiveAs, WithoutRequest, WithRequest, WaitsGoDown, WaitsThrough, at_once, through, WaitsHaveNoCycle}
-use Rattle.wait_laws.proofs.Deciding.{Older, less_or_equal, is_less, older_of_test, older_is_told, either, older_then, not_older_itself, in_way}
-use Rattle.wait_laws.proofs.Doubted.{doubt_undecided, has_stage}
-use Rattle.wait_laws.proofs.Opening.{MayHave, MayPrepare, found_in_order}
+use Rattle.wait_laws.proofs.Deciding.{Older, less_or_equal, is_less, older_of_test, older_is_told, either, older_then, not_older_itself, in_way, less_cmp, equal_cmp}
+use Rattle.wait_laws.proofs.Doubted.{has_stage}
+use Rattle.wait_laws.proofs.Opening.{MayHave, MayPrepare}
 use Rattle.wait_laws.proofs.Tied.{LockOf}
 use Rattle.wait_laws.proofs.Births.{one_birth}
 use Rattle.wait_laws.proofs.Entries.{AskedFirst, Earlier, Depends, depends}
+use Rattle.file_laws.proofs.Doubts.{doubted_is_old}
 
 -- ---- an operation that is to wait
 
@@ -226,7 +221,7 @@ asked_or_doubted splits before h t p r (inl (q, ts, i, w, k)) = inl (has_some p 
 asked_or_doubted splits before h t p r (inr (inl o)) = absurd (omega (arith, r, o))
 asked_or_doubted splits before h t p r (inr (inr d)) = inr d
 
-in_union : (u : TxId) (xs ys : List TxId) → tx_in u (tx_union xs ys) ≡ true → (tx_in u xs ≡ true) ⊎ (tx_in u ys ≡ true)
+pub in_union : (u : TxId) (xs ys : List TxId) → tx_in u (tx_union xs ys) ≡ true → (tx_in u xs ≡ true) ⊎ (tx_in u ys ≡ true)
 in_union u [] ys e = inr e
 in_union u (x ∷ xs) ys e =
     ⊎_elim (λ q. inl (or_left (tx_same x u) (tx_in u xs) (subst (λ z. tx_same z u ≡ true) q (tx_self u)))) (λ q. ⊎_elim (λ a. inl (or_right (tx_same x u) (tx_in u xs) a)) (λ a. inr a) (in_union u xs ys q)) (in_insert x u (tx_union xs ys) e)
@@ -255,12 +250,6 @@ crowding splits before h n s t u op l r k i =
         let c = ap stage_by e ∙ ap (λ x. Some x) st in known c (part_of n s.local.epoch _ _ (Requested h) (IsOld (run_after before)) _ s u Closed (k.traced).origins c).3
 
 -- ---- entries in order, as it is tested
-
-less_cmp : (m n : ℕ) → m < n → nat_cmp m n ≡ Less
-less_cmp m n l = sym (nat_cmp_is m n Less l)
-
-equal_cmp : (m n : ℕ) → m ≡ n → nat_cmp m n ≡ Equal
-equal_cmp m n e = sym (nat_cmp_is m n Equal e)
 
 told_before : (a b : Placed) → Before a b → comes_before a b ≡ true
 told_before a b (inl l) = ap (λ o. is_lt (ordering_then o (nat_cmp a.0 b.0))) (less_cmp (a.1).stamp (b.1).stamp l)
@@ -314,14 +303,8 @@ waits_go_down splits before h after t u m l (for_commit n r w i d) =
 -- ---- no circle
 
 -- who was in doubt at opening is of an earlier run
-doubted_is_old : (splits : List ℕ) (before after : List (List LogRecord)) (h : History) (u : TxId) → may_open splits before ≡ true → Legal splits before h after → OpenedInDoubt splits before u → u.run < run_after before
-doubted_is_old splits before after h u m l (n, i, d) =
-    let log = log_of before n in
-    let c = (l.each_log).0 in
-    let fits = runs_in_order n log (found_in_order splits before n m (omega (arith, c, i))) in
-    let f = record_fits (greatest_run log) u (is_prepare_of u) (own_prepare u) log fits (doubt_undecided n log u d).0 in
-    let g = below_next_run before n in
-    omega (arith, f, g)
+doubted : (splits : List ℕ) (before after : List (List LogRecord)) (h : History) (u : TxId) → may_open splits before ≡ true → Legal splits before h after → OpenedInDoubt splits before u → u.run < run_after before
+doubted splits before after h u m l (n, i, d) = let c = (l.each_log).0 in doubted_is_old splits before n m (omega (arith, c, i)) u d
 
 -- an operation that may be done is of this run
 of_now : (splits : List ℕ) (before after : List (List LogRecord)) (h : History) (n walker : ℕ) (t : TxId) (birth : Birth) (nth : ℕ) (seen : Option ℕ) (op : Op) → may_open splits before ≡ true → Legal splits before h after → MayOffer splits h n (final_of before h after n) walker (OpEvent t birth nth seen op)
@@ -342,8 +325,8 @@ old_waits_not splits before after h t u m l o (for_room n walker nth count birth
 old_waits_not splits before after h t u m l o (for_commit n r w i d) = let p = has_one t h r in let q = (walker_of splits before after h p.0 t l p.2 (ap tx_of (p.3).0)).0 in omega (arith, o, q)
 
 first_edge : (splits : List ℕ) (before after : List (List LogRecord)) (h : History) (t u : TxId) → may_open splits before ≡ true → Legal splits before h after → OpenedInDoubt splits before t → WaitsThrough splits h (final_of before h after) t u → ⊥
-first_edge splits before after h t u m l d (at_once w) = old_waits_not splits before after h t u m l (doubted_is_old splits before after h t m l d) w
-first_edge splits before after h t u m l d (through {u = v} w c) = old_waits_not splits before after h t v m l (doubted_is_old splits before after h t m l d) w
+first_edge splits before after h t u m l d (at_once w) = old_waits_not splits before after h t u m l (doubted splits before after h t m l d) w
+first_edge splits before after h t u m l d (through {u = v} w c) = old_waits_not splits before after h t v m l (doubted splits before after h t m l d) w
 
 -- an operation that the transaction's session may make now on some shard is of this birth
 abbrev MayDo : List ℕ → History → (ℕ → Shard) → TxId → Birth → Type 0

@@ -1,0 +1,18 @@
+-- What logs that may be opened say of one of them: it is in order.
+use Rattle.std.proofs.Common.{◌≡◌, refl, subst, ℕ, ◌+◌, ◌<◌, false, List, length, Option, Some, None, is_none, arith, true}
+use Rattle.std.specs.List.{list_all}
+use Rattle.std.proofs.lemmas.Bool.{both_ways, and_parts}
+use Rattle.clv_base.specs.declared.logs.LogRecord.{LogRecord}
+use Rattle.clv_base.specs.LogRules.{log_of, disorder, apart, all_logs_from}
+use Rattle.clv_base.specs.FileRules.{passes_file_rules, log_passes, may_open}
+use Rattle.history_laws.proofs.OldRuns.{each_passes}
+
+pub none_of : {X : Type 0} (o : Option X) → is_none o ≡ true → o ≡ None
+none_of None e = refl
+none_of (Some x) e = absurd (both_ways false refl e)
+
+pub found_in_order : (splits : List ℕ) (before : List (List LogRecord)) (n : ℕ) → may_open splits before ≡ true → n < length before → disorder n (log_of before n) ≡ None
+found_in_order splits before n m l =
+    let p = and_parts (all_logs_from 0 (log_passes splits) before) (is_none (apart before)) m in
+    let q = each_passes (log_passes splits) 0 n before p.0 l in
+    subst (λ k. disorder k (log_of before n) ≡ None) (omega arith) (none_of (disorder (0 + n) (log_of before n)) (and_parts (list_all (passes_file_rules splits (0 + n)) (log_of before n)) _ q).1)
