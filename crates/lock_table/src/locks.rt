@@ -27,7 +27,8 @@ pub trait Locks {
     /// For how many locks more there is room: locks of this transaction, or copied ones, on these anchors.
     ghost room: { Self → TxId → List Anchor → ℕ };
 
-    /// Makes room for `count` locks, of `tx` or copied, on the anchors. It stands until the next `release`. `Memory` leaves the locks, and the room that there was.
+    /// Makes room for `count` locks, of `tx` or copied, on the anchors. It stands until the next `release` or `release_next`. `Memory` leaves the locks, and the room that there was.
+    /// With that room `take` and `split_gap` take no memory; `close_part`, `release` and `release_next` take none whatever the room.
     fn reserve(&mut self, tx: TxId, anchors: &[Anchor], count: usize) -> Result<(), Memory>
         ensures ok { OnOk result ((on : List Anchor) → All (Contains anchors.now) on → count ≤ room self.new tx on) }
         ensures rows { rows self.new ≡ rows self.old }
