@@ -1,5 +1,5 @@
 //! The buffer.
-ghost use Rattle.std.specs.Prelude.{◌≡◌, ◌≤◌, ◌<◌, ◌+◌, [], ◌∷◌, ◌++◌, ℕ, length, drop, slice_get, slice_range, IsNone, IfSome, IfOk, IfErr, OnOk, ◌↔◌};
+ghost use Rattle.std.specs.Prelude.{◌≡◌, ◌≤◌, ◌<◌, ◌+◌, [], ◌∷◌, ◌++◌, ℕ, length, drop, slice_get, slice_range, IsNone, IfSome, IfOk, IfErr, OnOk, OnErr, max, ◌↔◌};
 ghost use Rattle.std.specs.Option.{option_copied};
 
 use crate::batch::fitting;
@@ -46,7 +46,7 @@ impl<R: Measured> LogBuffer<R> {
 
     /// The buffer of the empty log. Takes no memory.
     pub fn new(alloc: Global) -> Self
-        ensures { (result.records ≡ []) × (result.durable ≡ 0) × (result.taken ≡ 0) }
+        ensures { (result.records ≡ []) × (result.durable ≡ 0) × (result.taken ≡ 0) × (result.room ≡ 0) }
     {
         LogBuffer {
             records: Vec::new(alloc),
@@ -60,6 +60,7 @@ impl<R: Measured> LogBuffer<R> {
     /// The buffer of a log whose records are all durable. An `Err` gives the records back.
     pub fn from_durable(alloc: Global, records: Vec<R>) -> Result<Self, AllocFailed<Vec<R>>>
         ensures ok { IfOk result (λ b. (b.records ≡ records.items) × (b.durable ≡ length records.items) × (b.taken ≡ length records.items)) }
+        ensures room { IfOk result (λ b. b.room ≡ 0) }
         ensures value_returned { IfErr result (λ e. e.value.items ≡ records.items) }
     {
         match chain_of(alloc, &records) {
@@ -84,11 +85,14 @@ impl<R: Measured> LogBuffer<R> {
         self.reserved
     }
 
-    /// Makes room for so many records more, whatever was reserved before. Room alone changes, and never shrinks.
+    /// Makes room for so many records more: afterwards there is the greater of this and of what was reserved before. Room alone changes, and never
+    /// shrinks; an `Err` changes nothing.
     pub fn reserve(&mut self, count: usize) -> Result<(), AllocError>
         ensures ok { OnOk result (count ≤ self.new.room) }
         ensures room { self.old.room ≤ self.new.room }
         ensures same { self.new ≡ record self.old { room = self.new.room } }
+        ensures reserved { OnOk result (self.new.room ≡ max self.old.room count) }
+        ensures refused { OnErr result (self.new ≡ self.old) }
     {
         self.records.reserve(count)?;
         self.chain.reserve(count)?;
@@ -96,13 +100,13 @@ impl<R: Measured> LogBuffer<R> {
         Ok(())
     }
 
-    /// Puts a record at the end, and gives its LSN. Takes no memory.
+    /// Puts a record at the end, and gives its LSN. Takes no memory, and of the room that was reserved one place.
     pub fn append_reserved(&mut self, added: R) -> u64
         requires { 0 < self.old.room }
         ensures lsn { result ≡ length self.old.records }
         ensures records { self.new.records ≡ self.old.records ++ added ∷ [] }
         ensures fronts { (self.new.durable ≡ self.old.durable) × (self.new.taken ≡ self.old.taken) }
-        ensures room { self.old.room ≤ self.new.room + 1 }
+        ensures room { self.old.room ≡ self.new.room + 1 }
     {
         let lsn = self.records.len();
         self.chain.push(added.link());
