@@ -1,6 +1,6 @@
 //! The dependencies.
 
-ghost use Rattle.std.specs.Prelude.{◌≡◌, ◌≤◌, ◌<◌, ◌+◌, [], ◌∷◌, None, Some, length, map, IfOk, OnOk, if◌then◌else◌};
+ghost use Rattle.std.specs.Prelude.{◌≡◌, ◌≤◌, ◌<◌, ◌+◌, [], ◌∷◌, None, Some, length, map, max, IfOk, OnOk, OnErr, if◌then◌else◌};
 ghost use Rattle.std.specs.List.Sorted.{IsStrictlySortedBy};
 ghost use Rattle.clv_base.specs.declared.names.TxId.{TxId as Tx};
 ghost use Rattle.clv_base.specs.Orders.{tx_cmp, tx_same, tx_in, tx_get, pair_insert};
@@ -57,6 +57,7 @@ impl Deps {
         ensures pairs { IfOk result (λ d. d.pairs ≡ []) }
         ensures commits { IfOk result (λ d. (t : Tx) → tx_get t d.commits ≡ None) }
         ensures marked { IfOk result (λ d. d.marked ≡ []) }
+        ensures room { IfOk result (λ d. d.room ≡ 0) }
     {
         let marks = with_places(alloc, 2)?;
         let queue = with_places(alloc, 2)?;
@@ -77,13 +78,16 @@ impl Deps {
         self.reserved
     }
 
-    /// Makes room for so many pairs and settled transactions more, whatever was reserved before. Room alone changes, and never shrinks.
+    /// Makes room for so many pairs and settled transactions more: afterwards there is the greater of this and of what was reserved before. Room
+    /// alone changes, and never shrinks; an `Err` changes nothing.
     pub fn reserve(&mut self, count: usize) -> Result<(), AllocError>
         ensures ok { OnOk result (count ≤ self.new.room) }
         ensures room { self.old.room ≤ self.new.room }
         ensures pairs { self.new.pairs ≡ self.old.pairs }
         ensures commits { (t : Tx) → tx_get t self.new.commits ≡ tx_get t self.old.commits }
         ensures marked { self.new.marked ≡ self.old.marked }
+        ensures reserved { OnOk result (self.new.room ≡ max self.old.room count) }
+        ensures refused { OnErr result (self.new.room ≡ self.old.room) }
     {
         self.pairs.reserve(count)?;
         self.turned.reserve(count)?;
@@ -101,7 +105,7 @@ impl Deps {
         ensures pairs { self.new.pairs ≡ pair_insert (tx, pred) self.old.pairs }
         ensures commits { self.new.commits ≡ self.old.commits }
         ensures marked { self.new.marked ≡ self.old.marked }
-        ensures room { self.old.room ≤ self.new.room + 1 }
+        ensures room { self.old.room ≡ self.new.room + 1 }
     {
         insert(&mut self.pairs, (tx, pred));
         insert(&mut self.turned, (pred, tx));
@@ -114,7 +118,7 @@ impl Deps {
         ensures commits { (t : Tx) → tx_get t self.new.commits ≡ (if tx_same pred t then Some lsn else tx_get t self.old.commits) }
         ensures pairs { self.new.pairs ≡ self.old.pairs }
         ensures marked { self.new.marked ≡ self.old.marked }
-        ensures room { self.old.room ≤ self.new.room + 1 }
+        ensures room { self.old.room ≡ self.new.room + 1 }
     {
         self.commits.set(pred, lsn);
         self.reserved -= 1;
@@ -165,7 +169,7 @@ impl Deps {
         ensures count { result ≡ length (doomed self.old.pairs tx) }
         ensures pairs { self.new.pairs ≡ self.old.pairs }
         ensures commits { self.new.commits ≡ self.old.commits }
-        ensures room { self.old.room ≤ self.new.room }
+        ensures room { self.new.room ≡ self.old.room }
     {
         mark_from(&self.turned, tx, &mut self.marks, &mut self.queue);
         self.marks.len()
@@ -191,7 +195,7 @@ impl Deps {
         ensures pairs { self.new.pairs ≡ pairs_without (tx ∷ []) self.old.pairs }
         ensures commits { self.new.commits ≡ self.old.commits }
         ensures marked { self.new.marked ≡ self.old.marked }
-        ensures room { self.old.room ≤ self.new.room }
+        ensures room { self.new.room ≡ self.old.room }
     {
         drop_firsts(&mut self.pairs, &[tx]);
         drop_seconds(&mut self.turned, &[tx]);
@@ -202,7 +206,7 @@ impl Deps {
         ensures pairs { self.new.pairs ≡ pairs_without self.old.marked self.old.pairs }
         ensures commits { self.new.commits ≡ self.old.commits }
         ensures marked { self.new.marked ≡ [] }
-        ensures room { self.old.room ≤ self.new.room }
+        ensures room { self.new.room ≡ self.old.room }
     {
         drop_firsts(&mut self.pairs, &self.marks);
         drop_seconds(&mut self.turned, &self.marks);
