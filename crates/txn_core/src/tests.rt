@@ -6,11 +6,11 @@ ghost use Rattle.lock_release.specs.Ghosts.{GhostsAreLocked};
 use crate::{Reply, ShardTx};
 use clv_base::causes::AbortCause;
 use clv_base::logs::LogRecord;
-use clv_base::modes::Found;
+use clv_base::modes::{Anchor, Found, Mode, Need, Part};
 use clv_base::names::{Birth, TxId};
 use clv_base::ops::{Answer, Op};
 use clv_base::state::Stage;
-use lock_table::ListLocks;
+use lock_table::{ListLocks, Locks};
 use log_buffer::LogBuffer;
 use ordered_store::{SortedStore, Store};
 use std::alloc::{AllocError, Global};
@@ -37,25 +37,45 @@ fn birth(session: u32) -> Birth {
     }
 }
 
-/// Shard 3 in epoch 2, with these records, of which none is a ghost.
-fn over(alloc: Global, store: SortedStore) -> Result<Shard, AllocError>
-    requires { GhostsAreLocked [] (⟦<SortedStore as Store>⟧.records store) }
+/// Shard 3 in epoch 2, with these records, of which each ghost bears one of these locks.
+fn over(alloc: Global, store: SortedStore, locks: ListLocks) -> Result<Shard, AllocError>
+    requires { GhostsAreLocked (⟦<ListLocks as Locks>⟧.rows locks) (⟦<SortedStore as Store>⟧.records store) }
 {
     let deps = Deps::new(alloc)?;
     let buffer = LogBuffer::<LogRecord>::new(alloc);
-    Ok(ShardTx::new(
-        3,
-        2,
-        store,
-        ListLocks::new(alloc),
-        BTreeMap::new(alloc),
-        deps,
-        buffer,
-    ))
+    Ok(ShardTx::new(3, 2, store, locks, BTreeMap::new(alloc), deps, buffer))
 }
 
 fn empty(alloc: Global) -> Result<Shard, AllocError> {
-    over(alloc, SortedStore::new(alloc))
+    over(alloc, SortedStore::new(alloc), ListLocks::new(alloc))
+}
+
+/// The transaction of a session takes the gap above the place below all records for writing, and its lock is closed.
+fn close_over_gap<L: Locks>(locks: &mut L, session: u32) -> Result<(), AllocError> {
+    let need = Need {
+        anchor: Anchor::Low,
+        mode: Mode {
+            key: Part::N,
+            gap: Part::X,
+        },
+    };
+    let tx = tx(session);
+    match locks.reserve(tx, &[Anchor::Low], 1) {
+        Ok(()) => {}
+        Err(_) => return Err(AllocError),
+    }
+    locks.take(tx, birth(session), &[need]);
+    locks.close_part(tx);
+    Ok(())
+}
+
+/// A shard with no records, over whose only gap so many closed transactions have a lock for writing.
+fn closed_over(alloc: Global, count: u32) -> Result<Shard, AllocError> {
+    let mut locks = ListLocks::new(alloc);
+    for session in 0..count {
+        close_over_gap(&mut locks, session)?;
+    }
+    over(alloc, SortedStore::new(alloc), locks)
 }
 
 /// Puts a value at a key, for which it makes room.
@@ -73,7 +93,7 @@ fn filled(alloc: Global) -> Result<Shard, AllocError> {
     put(&mut store, 10, 1)?;
     put(&mut store, 20, 2)?;
     put(&mut store, 30, 3)?;
-    over(alloc, store)
+    over(alloc, store, ListLocks::new(alloc))
 }
 
 /// What an operation of a session comes to, in a few words.
@@ -83,6 +103,7 @@ enum Told {
     Pairs(usize),
     Waits(u32),
     Dies(u32),
+    Crowded(usize),
     Other,
 }
 
@@ -94,6 +115,7 @@ fn in_words(reply: Reply) -> Told {
         },
         Reply::Wait { younger } => Told::Waits(younger.session),
         Reply::Dead(AbortCause::Died { older }) => Told::Dies(older.session),
+        Reply::Crowded { count } => Told::Crowded(count),
         _ => Told::Other,
     }
 }
@@ -118,6 +140,39 @@ fn an_older_one_waits_and_a_younger_one_dies(rt: HostRuntime) -> Result<(), Fail
     ];
     for (session, op, want) in rows {
         assert_eq!(rt; ask(alloc, &mut shard, session, op)?, want);
+    }
+    Ok(())
+}
+
+#[test]
+fn a_put_dies_at_a_key_that_an_older_one_holds(rt: HostRuntime) -> Result<(), Fail> {
+    let alloc = rt.alloc();
+    let mut shard = filled(alloc)?;
+    let rows = [
+        (1, Op::Get(10), Told::Value(Some(1))),
+        (3, Op::Put(20, 7), Told::Value(Some(2))),
+        (2, Op::Put(10, 9), Told::Dies(1)),
+        (4, Op::Put(20, 9), Told::Dies(3)),
+        (1, Op::Get(10), Told::Value(Some(1))),
+        (3, Op::Get(20), Told::Value(Some(7))),
+    ];
+    for (session, op, want) in rows {
+        assert_eq!(rt; ask(alloc, &mut shard, session, op)?, want);
+    }
+    Ok(())
+}
+
+#[test]
+fn an_operation_past_1024_undecided_predecessors_is_crowded(rt: HostRuntime) -> Result<(), Fail> {
+    let alloc = rt.alloc();
+    let rows = [
+        (1024, Told::Value(None), Some(Stage::Active)),
+        (1025, Told::Crowded(1025), None),
+    ];
+    for (count, want, stage) in rows {
+        let mut shard = closed_over(alloc, count)?;
+        assert_eq!(rt; ask(alloc, &mut shard, 2000, Op::Get(5))?, want);
+        assert_eq!(rt; shard.stage_of(tx(2000)), stage);
     }
     Ok(())
 }
