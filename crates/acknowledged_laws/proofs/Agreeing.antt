@@ -27,7 +27,7 @@ use Rattle.clv_base.specs.Events.{finish}
 use Rattle.clv_base.proofs.SameNames.{tx_self}
 use Rattle.law_base.proofs.Changed.{none_some, Set_or_old, get_set}
 use Rattle.protocol_laws.specs.Growth.{IsPrefixOf}
-use Rattle.shard_laws.proofs.Leaving.{gone_by, stage_own}
+use Rattle.law_base.proofs.Stages.{gone_by, stage_own}
 use Rattle.shard_laws.proofs.Ordered.{prepare_some}
 use Rattle.history_laws.proofs.Stepping.{Due, commits, votes, rules, KeptByDue, settled}
 use Rattle.fate_laws.proofs.Calm.{due_closed, due_prepares}

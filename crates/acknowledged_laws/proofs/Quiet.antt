@@ -34,13 +34,14 @@ use Rattle.clv_base.specs.Journals.{up_to_restart}
 use Rattle.clv_base.proofs.SameNames.{tx_ne}
 use Rattle.law_base.proofs.Commits.{committed_append}
 use Rattle.law_base.proofs.Tables.{stage_by, stage_in}
-use Rattle.protocol_laws.proofs.Sets.{in_filter}
+use Rattle.law_base.proofs.Sets.{in_filter}
 use Rattle.shard_laws.specs.OneShard.{is_doomed}
 use Rattle.shard_laws.proofs.Changes.{wrote_append}
-use Rattle.shard_laws.proofs.Closing.{stage_other as closed_other}
-use Rattle.shard_laws.proofs.Granting.{other_part}
-use Rattle.shard_laws.proofs.Leaving.{gone_by, stage_own, stage_other, no_write_aborts, no_write_clrs}
-use Rattle.shard_laws.proofs.Marking.{stage_marked}
+use Rattle.law_base.proofs.Stages.{closed_other}
+use Rattle.law_base.proofs.Stages.{other_part}
+use Rattle.shard_laws.proofs.Leaving.{no_write_aborts, no_write_clrs}
+use Rattle.law_base.proofs.Stages.{gone_by, stage_own, stage_other}
+use Rattle.law_base.proofs.Stages.{stage_marked}
 use Rattle.shard_laws.proofs.Prepared.{prepared_append}
 use Rattle.shard_laws.proofs.Restoring.{restored_none}
 use Rattle.shard_laws.proofs.Sound.{waiting_here}

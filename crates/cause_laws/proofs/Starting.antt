@@ -34,8 +34,8 @@ use Rattle.clv_base.specs.Events.{is_alone, coordinate, owe_vote, decided}
 use Rattle.clv_base.proofs.SameNames.{tx_true}
 use Rattle.law_base.proofs.Changed.{none_some, Set_or_old, get_set}
 use Rattle.law_base.proofs.Tables.{stage_by, stage_in, is_pair, get_put}
-use Rattle.shard_laws.proofs.Closing.{stage_closed, stage_other}
-use Rattle.shard_laws.proofs.Marking.{stage_marked}
+use Rattle.law_base.proofs.Stages.{stage_closed, closed_other as stage_other}
+use Rattle.law_base.proofs.Stages.{stage_marked}
 use Rattle.history_laws.proofs.Stepping.{with_work, Step, op_dies, op_answers, request_refused, request_doomed, request_again, request_new, request_closes, looks_well, looks_ill, drops, sends, prepare_closes, prepare_again, vote_counts, decision_comes, decision_again, done_counts, asked, reminds, flushes}
 use Rattle.session_laws.proofs.Replying.{OpIs, dies, rolls, performs, reply_is}
 use Rattle.origin_laws.proofs.Events.{written_parts}

@@ -28,10 +28,10 @@ use Rattle.clv_base.specs.Events.{finish}
 use Rattle.clv_base.proofs.SameNames.{tx_true, tx_self}
 use Rattle.law_base.proofs.Changed.{some_same, none_some, Set_or_old, get_set}
 use Rattle.law_base.proofs.Tables.{stage_in, is_pair, without_pairs}
-use Rattle.protocol_laws.proofs.Sets.{in_filter}
+use Rattle.law_base.proofs.Sets.{in_filter}
 use Rattle.protocol_laws.specs.UndoLaws.{IsClosed}
-use Rattle.protocol_laws.proofs.Dooming.{doomed_is_closure}
-use Rattle.shard_laws.proofs.Leaving.{gone_by, stage_own, stage_other}
+use Rattle.protocol_laws.proofs.Laws.{doomed_is_closure}
+use Rattle.law_base.proofs.Stages.{gone_by, stage_own, stage_other}
 use Rattle.shard_laws.proofs.Sound.{waiting_here}
 use Rattle.history_laws.proofs.Stepping.{commits, votes, rules, KeptByDue, settled}
 use Rattle.cause_laws.proofs.Votes.{VotesFit, no_in}

@@ -15,7 +15,7 @@ use Rattle.clv_base.specs.Undo.{clrs_of, newest_lsn}
 use Rattle.clv_base.specs.Restarts.{restart_records, undo_records, log_after_restart, losers, next_epoch, FailedRestarts, Restarts, untouched, failed_first}
 use Rattle.clv_base.proofs.SameNames.{tx_true, tx_self, in_insert, insert_has}
 use Rattle.law_base.proofs.Changed.{none_some, some_same}
-use Rattle.protocol_laws.proofs.Doubts.{stays_in}
+use Rattle.law_base.proofs.Doubts.{stays_in}
 use Rattle.history_laws.proofs.Serials.{committed_front}
 use Rattle.shard_laws.proofs.Prepared.{prepared_append}
 use Rattle.shard_laws.proofs.Following.{Follows}

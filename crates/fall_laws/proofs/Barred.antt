@@ -16,11 +16,11 @@ use Rattle.clv_base.specs.Undo.{stage_of, gone_in, doomed_by, doomed_here, roll_
 use Rattle.clv_base.specs.Restarts.{log_left}
 use Rattle.clv_base.proofs.SameNames.{tx_true}
 use Rattle.law_base.proofs.Tables.{stage_in, is_pair}
-use Rattle.protocol_laws.proofs.Sets.{filter_in}
+use Rattle.law_base.proofs.Sets.{filter_in}
 use Rattle.protocol_laws.specs.Growth.{IsPrefixOf}
 use Rattle.history_laws.proofs.Serials.{committed_front}
 use Rattle.history_laws.proofs.Uncommitting.{rolled as rolled_commits}
-use Rattle.shard_laws.proofs.Leaving.{absent_go, own_go, stage_other}
+use Rattle.law_base.proofs.Stages.{absent_go, own_go, stage_other}
 use Rattle.shard_laws.proofs.Ordered.{prepare_some}
 use Rattle.fate_laws.proofs.Homes.{still_not}
 use Rattle.fate_laws.proofs.Inside.{Inside}

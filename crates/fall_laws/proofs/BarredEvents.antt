@@ -22,7 +22,7 @@ use Rattle.law_base.proofs.Changed.{none_some, some_same, get_set}
 use Rattle.law_base.proofs.Commits.{committed_keeps}
 use Rattle.law_base.proofs.Tables.{stage_in, is_pair}
 use Rattle.history_laws.proofs.Uncommitting.{rolled as rolled_commits}
-use Rattle.shard_laws.proofs.Leaving.{absent_go}
+use Rattle.law_base.proofs.Stages.{absent_go}
 use Rattle.fate_laws.proofs.Homes.{still_not, new_commit}
 use Rattle.fate_laws.proofs.Prepares.{prepare_from}
 use Rattle.clv_base.specs.declared.names.Birth.{Birth}
@@ -40,8 +40,8 @@ use Rattle.clv_base.specs.OneShard.{OpDies, rolled_back_if, close_part, closed_i
 use Rattle.clv_base.specs.Events.{is_alone, coordinate, owe_vote}
 use Rattle.law_base.proofs.Tables.{get_put}
 use Rattle.history_laws.proofs.Stepping.{Step, op_dies, op_answers, request_refused, request_doomed, request_again, request_new, request_closes, looks_well, looks_ill, drops, sends, prepare_closes, prepare_again, vote_counts, decision_comes, decision_again, done_counts, asked, reminds, flushes}
-use Rattle.shard_laws.proofs.LockRows.{Rows}
-use Rattle.shard_laws.proofs.Closing.{stage_closed, stage_other as closed_other}
+use Rattle.law_base.proofs.LockRows.{Rows}
+use Rattle.law_base.proofs.Stages.{stage_closed, closed_other}
 use Rattle.shard_laws.proofs.Ordered.{prepare_some}
 use Rattle.session_laws.proofs.Replying.{OpIs, dies, rolls, reply_is}
 use Rattle.fate_laws.proofs.Inside.{inside_step}

@@ -47,7 +47,7 @@ use Rattle.law_base.proofs.Rows.{rows_get}
 use Rattle.law_base.proofs.Tables.{stage_in}
 use Rattle.protocol_laws.proofs.Growing.{chain}
 use Rattle.protocol_laws.specs.Growth.{IsPrefixOf}
-use Rattle.shard_laws.proofs.LockRows.{Rows}
+use Rattle.law_base.proofs.LockRows.{Rows}
 use Rattle.shard_laws.proofs.Restoring.{restored_closed, restored_stage, restored_none}
 use Rattle.shard_laws.proofs.Writers.{writers_restored}
 use Rattle.shard_laws.proofs.Ordered.{prepare_some}

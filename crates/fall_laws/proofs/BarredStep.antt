@@ -18,7 +18,7 @@ use Rattle.law_base.proofs.Tables.{stage_in, is_pair}
 use Rattle.protocol_laws.specs.Growth.{IsPrefixOf}
 use Rattle.history_laws.proofs.Serials.{committed_front}
 use Rattle.history_laws.proofs.Uncommitting.{rolled as rolled_commits}
-use Rattle.shard_laws.proofs.Leaving.{absent_go}
+use Rattle.law_base.proofs.Stages.{absent_go}
 use Rattle.fate_laws.proofs.Homes.{still_not}
 use Rattle.fate_laws.proofs.Prepares.{rolled}
 use Rattle.fate_laws.proofs.Downwards.{Down}
@@ -33,10 +33,10 @@ use Rattle.clv_base.specs.OneShard.{op_reply, OpAnswers, active_part, new_part, 
 use Rattle.law_base.proofs.Tables.{stage_by, get_put, without_pairs}
 use Rattle.protocol_laws.proofs.Growing.{same, more_twice}
 use Rattle.history_laws.proofs.Stepping.{Step}
-use Rattle.shard_laws.proofs.LockRows.{Rows}
-use Rattle.shard_laws.proofs.Leaving.{active_back}
-use Rattle.shard_laws.proofs.Marking.{stage_marked}
-use Rattle.shard_laws.proofs.Granting.{other_part}
+use Rattle.law_base.proofs.LockRows.{Rows}
+use Rattle.law_base.proofs.Stages.{active_back}
+use Rattle.law_base.proofs.Stages.{stage_marked}
+use Rattle.law_base.proofs.Stages.{other_part}
 use Rattle.shard_laws.proofs.Ordered.{prepare_some}
 use Rattle.session_laws.proofs.Replying.{OpIs, performs}
 use Rattle.fate_laws.proofs.Inside.{inside_step}

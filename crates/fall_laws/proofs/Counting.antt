@@ -13,7 +13,7 @@ use Rattle.clv_base.specs.Orders.{tx_same, tx_in}
 use Rattle.clv_base.specs.State.{Shard, is_present}
 use Rattle.clv_base.specs.Undo.{stage_of}
 use Rattle.clv_base.specs.Journals.{History, journal_of, start_of, after_entry, after_entries}
-use Rattle.protocol_laws.proofs.Sets.{in_filter}
+use Rattle.law_base.proofs.Sets.{in_filter}
 use Rattle.history_laws.proofs.Merging.{Placed}
 use Rattle.history_laws.proofs.Worlds.{state_at, journal_append}
 use Rattle.shard_laws.specs.OneShard.{is_doomed}

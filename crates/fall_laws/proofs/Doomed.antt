@@ -8,7 +8,7 @@ use Rattle.clv_base.specs.State.{Shard, is_present}
 use Rattle.clv_base.specs.Undo.{stage_of, with_successors, successors_through, doomed_by, doomed_here}
 use Rattle.clv_base.proofs.SameNames.{tx_true, insert_keeps}
 use Rattle.law_base.proofs.Tables.{is_pair}
-use Rattle.protocol_laws.proofs.Sets.{in_filter}
+use Rattle.law_base.proofs.Sets.{in_filter}
 use Rattle.fate_laws.proofs.Downwards.{Down}
 use Rattle.fate_laws.proofs.Dooming.{with_from}
 

@@ -34,9 +34,9 @@ use Rattle.history_laws.proofs.Stepping.{commits, votes, rules, KeptByDue, settl
 use Rattle.history_laws.proofs.Entering.{Makes, by_event, by_flush, by_failure, by_restart, makes}
 use Rattle.history_laws.proofs.Merging.{Placed, Among, among_left, among_right}
 use Rattle.history_laws.proofs.Worlds.{state_at}
-use Rattle.shard_laws.proofs.Closing.{stage_other as closed_other}
-use Rattle.shard_laws.proofs.Leaving.{stage_own, stage_other, gone_by}
-use Rattle.shard_laws.proofs.Marking.{stage_marked}
+use Rattle.law_base.proofs.Stages.{closed_other}
+use Rattle.law_base.proofs.Stages.{stage_own, stage_other, gone_by}
+use Rattle.law_base.proofs.Stages.{stage_marked}
 use Rattle.shard_laws.proofs.Restoring.{restored_none}
 use Rattle.shard_laws.proofs.Ordered.{prepare_some}
 use Rattle.session_laws.proofs.Replying.{OpIs, dies, rolls, performs, reply_is}

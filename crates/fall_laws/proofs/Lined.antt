@@ -21,14 +21,14 @@ use Rattle.clv_base.proofs.SameNames.{tx_true, tx_self, tx_flip}
 use Rattle.law_base.proofs.Changed.{none_some, some_same}
 use Rattle.law_base.proofs.Commits.{committed_keeps, committed_append}
 use Rattle.law_base.proofs.Tables.{stage_by, stage_in, is_pair, pair_in, in_pair, without_pairs, add_from, insert_from}
-use Rattle.protocol_laws.proofs.Sets.{in_filter, filter_in}
-use Rattle.shard_laws.proofs.LockRows.{Rows, violated_row}
+use Rattle.law_base.proofs.Sets.{in_filter, filter_in}
+use Rattle.law_base.proofs.LockRows.{Rows, violated_row}
 use Rattle.shard_laws.proofs.Writers.{Writers, writers_more, writers_all, writers_insert, writers_close, writers_release, needs_write, violated_wrote}
 use Rattle.shard_laws.proofs.Prepared.{prepared_append, prepare_here}
 use Rattle.shard_laws.proofs.Changes.{wrote_keeps, wrote_append}
-use Rattle.shard_laws.proofs.Closing.{stage_closed, stage_other as closed_other}
-use Rattle.shard_laws.proofs.Leaving.{closed_back, active_back}
-use Rattle.shard_laws.proofs.Granting.{other_part}
+use Rattle.law_base.proofs.Stages.{stage_closed, closed_other}
+use Rattle.law_base.proofs.Stages.{closed_back, active_back}
+use Rattle.law_base.proofs.Stages.{other_part}
 use Rattle.fate_laws.proofs.Prepares.{prepare_from, prepare_new}
 use Rattle.fate_laws.proofs.Closings.{new_active}
 use Rattle.fall_laws.proofs.Ahead.{Ahead, ahead_append}

@@ -32,10 +32,10 @@ use Rattle.clv_base.specs.Due.{finish_reader, with_vote, do_ruling, with_ruling,
 use Rattle.clv_base.specs.Events.{is_alone, finish}
 use Rattle.clv_base.proofs.SameNames.{tx_true, tx_self}
 use Rattle.law_base.proofs.Tables.{stage_by, stage_in, is_pair, add_from, add_keeps, without_pairs, pairs_stay}
-use Rattle.shard_laws.proofs.Leaving.{stage_own, active_back, closed_back, gone_by}
-use Rattle.shard_laws.proofs.Closing.{stage_closed, stage_other as closed_other}
-use Rattle.shard_laws.proofs.Marking.{stage_marked}
-use Rattle.shard_laws.proofs.Granting.{other_part}
+use Rattle.law_base.proofs.Stages.{stage_own, active_back, closed_back, gone_by}
+use Rattle.law_base.proofs.Stages.{stage_closed, closed_other}
+use Rattle.law_base.proofs.Stages.{stage_marked}
+use Rattle.law_base.proofs.Stages.{other_part}
 use Rattle.session_laws.proofs.Replying.{OpIs, dies, rolls, performs, reply_is}
 use Rattle.history_laws.proofs.Stepping.{Due, commits, votes, rules, KeptByDue, settled, Step, op_dies, op_answers, request_refused, request_doomed, request_again, request_new, request_closes, looks_well, looks_ill, drops, sends, prepare_closes, prepare_again, vote_counts, decision_comes, decision_again, done_counts, asked, reminds, flushes}
 use Rattle.protocol_laws.proofs.Growing.{same}

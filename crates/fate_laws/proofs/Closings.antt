@@ -27,10 +27,10 @@ use Rattle.clv_base.proofs.SameNames.{tx_true, tx_self}
 use Rattle.law_base.proofs.Changed.{none_some}
 use Rattle.law_base.proofs.Tables.{stage_by, stage_in, get_put}
 use Rattle.clv_base.specs.declared.state.Held.{Held}
-use Rattle.shard_laws.proofs.Leaving.{closed_back}
-use Rattle.shard_laws.proofs.Closing.{stage_closed, stage_other as closed_other}
-use Rattle.shard_laws.proofs.Marking.{stage_marked}
-use Rattle.shard_laws.proofs.Granting.{other_part}
+use Rattle.law_base.proofs.Stages.{closed_back}
+use Rattle.law_base.proofs.Stages.{stage_closed, closed_other}
+use Rattle.law_base.proofs.Stages.{stage_marked}
+use Rattle.law_base.proofs.Stages.{other_part}
 use Rattle.session_laws.proofs.Replying.{OpIs, dies, rolls, performs, reply_is}
 use Rattle.history_laws.proofs.Stepping.{Step, op_dies, op_answers, request_refused, request_doomed, request_again, request_new, request_closes, looks_well, looks_ill, drops, sends, prepare_closes, prepare_again, vote_counts, decision_comes, decision_again, done_counts, asked, reminds, flushes}
 use Rattle.history_laws.proofs.Uncommitting.{with_more, rolled as rolled_commits, dropped as dropped_commits, op_dying as dying_commits, op_answering as answering_commits}

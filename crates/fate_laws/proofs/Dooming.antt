@@ -26,9 +26,9 @@ use Rattle.clv_base.specs.Coordinator.{first_no, cause_by, refusal, refused_ruli
 use Rattle.clv_base.proofs.SameNames.{tx_true, tx_self, in_insert}
 use Rattle.law_base.proofs.Changed.{none_some, get_set}
 use Rattle.law_base.proofs.Tables.{stage_in, row_pairs, is_pair}
-use Rattle.shard_laws.proofs.Leaving.{stage_own, stage_other, gone_by}
+use Rattle.law_base.proofs.Stages.{stage_own, stage_other, gone_by}
 use Rattle.shard_laws.proofs.Sound.{waiting_here}
-use Rattle.protocol_laws.proofs.Sets.{in_filter}
+use Rattle.law_base.proofs.Sets.{in_filter}
 use Rattle.history_laws.proofs.Stepping.{commits, votes, rules, KeptByDue}
 use Rattle.history_laws.proofs.Uncommitting.{rolled, with_more}
 use Rattle.fate_laws.proofs.Homes.{still_not, new_commit}

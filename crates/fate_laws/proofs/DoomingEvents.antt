@@ -37,9 +37,9 @@ use Rattle.clv_base.specs.Journals.{up_to_restart}
 use Rattle.clv_base.proofs.SameNames.{tx_true, tx_self}
 use Rattle.law_base.proofs.Changed.{some_same, get_set}
 use Rattle.law_base.proofs.Tables.{stage_by, stage_in, get_put}
-use Rattle.shard_laws.proofs.Closing.{stage_closed, stage_other as closed_other}
-use Rattle.shard_laws.proofs.Marking.{stage_marked}
-use Rattle.shard_laws.proofs.Granting.{other_part}
+use Rattle.law_base.proofs.Stages.{stage_closed, closed_other}
+use Rattle.law_base.proofs.Stages.{stage_marked}
+use Rattle.law_base.proofs.Stages.{other_part}
 use Rattle.shard_laws.proofs.Restoring.{restored_stage}
 use Rattle.session_laws.proofs.Replying.{OpIs, dies, rolls, performs, reply_is}
 use Rattle.history_laws.proofs.Stepping.{settled, Step, op_dies, op_answers, request_refused, request_doomed, request_again, request_new, request_closes, looks_well, looks_ill, drops, sends, prepare_closes, prepare_again, vote_counts, decision_comes, decision_again, done_counts, asked, reminds, flushes, Happens, finishes, stops}

@@ -37,7 +37,7 @@ use Rattle.law_base.proofs.Commits.{commit_durable, place_some}
 use Rattle.law_base.proofs.Lists.{all_mono}
 use Rattle.shard_laws.proofs.Sound.{waiting_here}
 use Rattle.shard_laws.proofs.Ordered.{prepare_some}
-use Rattle.protocol_laws.proofs.Sets.{in_filter}
+use Rattle.law_base.proofs.Sets.{in_filter}
 use Rattle.history_laws.proofs.Stepping.{Step, op_dies, op_answers, request_refused, request_doomed, request_again, request_new, request_closes, looks_well, looks_ill, drops, sends, prepare_closes, prepare_again, vote_counts, decision_comes, decision_again, done_counts, asked, reminds, flushes}
 use Rattle.history_laws.proofs.Uncommitting.{with_more, rolled, dropped, op_dying, op_answering, restarts_add, opening_adds}
 use Rattle.history_laws.proofs.Telling.{all_append, all_map}

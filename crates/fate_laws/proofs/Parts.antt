@@ -33,7 +33,7 @@ use Rattle.shard_laws.proofs.Prepared.{prepare_here}
 use Rattle.shard_laws.proofs.Ordered.{prepare_some}
 use Rattle.clv_base.proofs.SameNames.{tx_self}
 use Rattle.protocol_laws.specs.Growth.{IsPrefixOf}
-use Rattle.protocol_laws.proofs.Sets.{in_filter}
+use Rattle.law_base.proofs.Sets.{in_filter}
 use Rattle.fate_laws.proofs.Inside.{Inside}
 use Rattle.fate_laws.proofs.Calm.{Calm}
 use Rattle.fate_laws.proofs.Closings.{ClosedNow}

@@ -37,8 +37,8 @@ use Rattle.law_base.proofs.Rows.{rows_get, rows_set, rows_put}
 use Rattle.law_base.proofs.Commits.{durable_committed}
 use Rattle.law_base.proofs.Tables.{is_pair, stage_in}
 use Rattle.law_base.proofs.Lists.{all_mono}
-use Rattle.shard_laws.proofs.Leaving.{stage_own, gone_by}
-use Rattle.protocol_laws.proofs.Sets.{in_filter}
+use Rattle.law_base.proofs.Stages.{stage_own, gone_by}
+use Rattle.law_base.proofs.Sets.{in_filter}
 use Rattle.history_laws.proofs.Stepping.{Due, commits, votes, rules, KeptByDue, settled, Step, op_dies, op_answers, request_refused, request_doomed, request_again, request_new, request_closes, looks_well, looks_ill, drops, sends, prepare_closes, prepare_again, vote_counts, decision_comes, decision_again, done_counts, asked, reminds as reminds_step, flushes}
 use Rattle.history_laws.proofs.Telling.{all_append, all_map}
 use Rattle.protocol_laws.proofs.Growing.{same as same_log}

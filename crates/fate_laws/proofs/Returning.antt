@@ -19,7 +19,7 @@ use Rattle.law_base.proofs.Commits.{place_keeps, place_less, place_there}
 use Rattle.law_base.proofs.Tables.{is_pair}
 use Rattle.law_base.proofs.Changed.{some_same}
 use Rattle.protocol_laws.specs.Growth.{IsPrefixOf}
-use Rattle.protocol_laws.proofs.Sets.{in_filter, filter_in}
+use Rattle.law_base.proofs.Sets.{in_filter, filter_in}
 use Rattle.shard_laws.proofs.Restoring.{restored_stage}
 use Rattle.shard_laws.proofs.Refalling.{all_durable}
 use Rattle.shard_laws.proofs.Ordered.{prepare_some}

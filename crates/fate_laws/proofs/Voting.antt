@@ -17,7 +17,7 @@ use Rattle.clv_base.specs.Facts.{predecessors_of}
 use Rattle.clv_base.specs.Restarts.{log_left}
 use Rattle.clv_base.proofs.SameNames.{tx_true, tx_self}
 use Rattle.law_base.proofs.Tables.{is_pair, pair_in, in_pair}
-use Rattle.protocol_laws.proofs.Sets.{in_filter}
+use Rattle.law_base.proofs.Sets.{in_filter}
 use Rattle.history_laws.proofs.Merging.{is_among}
 use Rattle.history_laws.proofs.Worlds.{state_at}
 use Rattle.fate_laws.specs.Votes.{Keeps, VotesBind, OthersAbortsSpareIt}

@@ -6,7 +6,7 @@ use Rattle.clv_base.specs.Journals.{MayRun, MayLeave, start_of, final_of, journa
 use Rattle.clv_base.specs.History.{IsQuiet}
 use Rattle.single_path.specs.Plan.{After_all}
 use Rattle.single_path.specs.Laws.{MayPlay}
-use Rattle.single_path.proofs.Legality.{runs_are_legal}
+use Rattle.single_path.proofs.Laws.{runs_are_legal}
 use Rattle.protocol_laws.specs.Growth.{IsPrefixOf}
 use Rattle.history_laws.specs.Continuing.{SameAtRestarts}
 use Rattle.history_examples.specs.Worked.{new_log, one_plan, two_plan, short_run, long_run, short_log, long_log, RunsGoOn, restarted, looked_at, restarted_log, RestartIsLegal, RestartGoesOn, violated, violated_log, ViolatedIsLegal, found_log, from_found, found_left, FoundIsLegal, opened_log, OpenedIsSettled}

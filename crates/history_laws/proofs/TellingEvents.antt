@@ -33,7 +33,7 @@ use Rattle.clv_base.specs.Events.{is_alone, coordinate, owe_vote, decided, ask_m
 use Rattle.clv_base.specs.Restarts.{log_left, revived, opened, unended_in, Restarts}
 use Rattle.clv_base.specs.Journals.{History, after_entry, event_state, up_to_restart, MayEnter}
 use Rattle.law_base.proofs.Rows.{rows_get, rows_put}
-use Rattle.protocol_laws.proofs.Sets.{in_filter}
+use Rattle.law_base.proofs.Sets.{in_filter}
 use Rattle.history_laws.proofs.Stepping.{Step, op_dies, op_answers, request_refused, request_doomed, request_again, request_new, request_closes, looks_well, looks_ill, drops, sends, prepare_closes, prepare_again, vote_counts, decision_comes, decision_again, done_counts, asked, reminds, flushes, Happens, finishes, stops, FindsWell}
 use Rattle.history_laws.proofs.Entering.{Makes, by_event, by_flush, by_failure, by_restart, makes}
 use Rattle.history_laws.proofs.Merging.{Among}

@@ -7,3 +7,7 @@ pub mod Undoing
 pub mod Anchors
 pub mod Changed
 pub mod Rows
+pub mod LockRows
+pub mod Sets
+pub mod Doubts
+pub mod Stages

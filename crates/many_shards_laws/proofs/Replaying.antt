@@ -16,7 +16,7 @@ use Rattle.clv_base.specs.Restarts.{run_after, log_left}
 use Rattle.clv_base.specs.Journals.{History, start_of, final_of, journal_of}
 use Rattle.clv_base.specs.History.{Legal, logs_left}
 use Rattle.protocol_laws.specs.SessionLaws.{tx_of}
-use Rattle.protocol_laws.proofs.Sets.{in_filter}
+use Rattle.law_base.proofs.Sets.{in_filter}
 use Rattle.history_laws.specs.Continuing.{serial_left}
 use Rattle.history_laws.proofs.Durability.{Fronts, fronts_entries, opened_counted}
 use Rattle.history_laws.proofs.Staying.{walker_of}
@@ -159,7 +159,7 @@ module _ (splits : List ℕ) (before : List (List LogRecord)) (h : History) (aft
       idle_among (IsOld (run_after before)) t (found_items n (log_of before n)) (items_are_old splits before n o (inside n i)) (λ old. omega (arith, old, run))
 
   -- the map that a shard's chosen ones begin from is its share
-  starts : (n : ℕ) → n < shard_count splits → share_of before n ≡ map_found n (log_of before n) (chosen splits before h after choice n)
+  pub starts : (n : ℕ) → n < shard_count splits → share_of before n ≡ map_found n (log_of before n) (chosen splits before h after choice n)
   starts n i =
       let log = log_of before n in
       fold_writers (committed_somewhere before) (λ t. committed_in log t || (tx_in t (in_doubt n log) && chosen splits before h after choice n t)) log []
@@ -179,7 +179,7 @@ module _ (splits : List ℕ) (before : List (List LogRecord)) (h : History) (aft
     chosen_somewhere n t i w (inr (inl a)) = at_somewhere (logs_left splits before h after choice) n t a
     chosen_somewhere n t i w (inr (inr a)) = found_somewhere t a.1
 
-    writers_chosen : (n : ℕ) (t : TxId) → n < shard_count splits → wrote_in (log_of (logs_left splits before h after choice) n) t ≡ true → chosen splits before h after choice n t ≡ committed_somewhere (logs_left splits before h after choice) t
+    pub writers_chosen : (n : ℕ) (t : TxId) → n < shard_count splits → wrote_in (log_of (logs_left splits before h after choice) n) t ≡ true → chosen splits before h after choice n t ≡ committed_somewhere (logs_left splits before h after choice) t
     writers_chosen n t i w =
         same_test (chosen splits before h after choice n t) (committed_somewhere (logs_left splits before h after choice) t)
         (λ k. chosen_somewhere n t i w (of_chosen splits before h after choice n t k))
@@ -191,7 +191,7 @@ module _ (splits : List ℕ) (before : List (List LogRecord)) (h : History) (aft
     chosen_here n t i (inr (inl a)) = left_here n t i a
     chosen_here n t i (inr (inr a)) = found_here n t i a.0 a.1
 
-    may_choose : (n : ℕ) → n < shard_count splits
+    pub may_choose : (n : ℕ) → n < shard_count splits
         → MayChoose (final_of before h after n) (cond (choice n) (unwrap_or (final_of before h after n).flight (final_of before h after n).durable) (final_of before h after n).durable) (found_asked n (log_of before n) ++ requests_of h) (deeds_before before h after n).told (deeds_before before h after n).fell (chosen splits before h after choice n)
     may_choose n i =
         record {

@@ -3,9 +3,7 @@ pub mod GrowingEvents
 pub mod Resting
 pub mod InOrder
 pub mod Facts
-pub mod Dooming
-pub mod Sets
-pub mod Doubts
+pub mod Laws
 pub mod Undone
 pub mod Reaching
 pub mod Rested

@@ -12,8 +12,8 @@ use Rattle.clv_base.specs.State.{Shard}
 use Rattle.clv_base.specs.Undo.{clrs_of, newest_lsn}
 use Rattle.clv_base.specs.Restarts.{losers, undo_records, greatest_epoch, next_epoch}
 use Rattle.clv_base.proofs.SameNames.{or_left, tx_true, tx_self, insert_keeps, insert_has}
-use Rattle.protocol_laws.proofs.Sets.{Rises, writers_rise, filter_rises, without_first, filter_alike, filter_both, in_filter, filter_in, in_passes, none_pass, none_passed, writers_without}
-use Rattle.protocol_laws.proofs.Doubts.{Unlike, is_it, nobody, abort_unlike, clr_unlike, restart_unlike, aborted_more, winners_more, standing_more}
+use Rattle.law_base.proofs.Sets.{Rises, writers_rise, filter_rises, without_first, filter_alike, filter_both, in_filter, filter_in, in_passes, none_pass, none_passed, writers_without}
+use Rattle.law_base.proofs.Doubts.{Unlike, is_it, nobody, abort_unlike, clr_unlike, restart_unlike, aborted_more, winners_more, standing_more}
 
 -- the losers that have no ABORT
 abbrev pub unaborted : ℕ → List LogRecord → List TxId

@@ -38,11 +38,11 @@ use Rattle.clv_base.specs.History.{Legal}
 use Rattle.clv_base.proofs.SameNames.{tx_true}
 use Rattle.law_base.proofs.Changed.{none_some, Set_or_old, get_set}
 use Rattle.law_base.proofs.Tables.{stage_by, stage_in, get_put}
-use Rattle.protocol_laws.proofs.Sets.{in_filter}
+use Rattle.law_base.proofs.Sets.{in_filter}
 use Rattle.shard_laws.specs.OneShard.{is_doomed}
-use Rattle.shard_laws.proofs.Closing.{stage_closed, stage_other as closed_other}
-use Rattle.shard_laws.proofs.Leaving.{gone_by, stage_own, stage_other, absent_go}
-use Rattle.shard_laws.proofs.Marking.{stage_marked}
+use Rattle.law_base.proofs.Stages.{stage_closed, closed_other}
+use Rattle.law_base.proofs.Stages.{gone_by, stage_own, stage_other, absent_go}
+use Rattle.law_base.proofs.Stages.{stage_marked}
 use Rattle.shard_laws.proofs.Restoring.{restored_closed, restored_none}
 use Rattle.history_laws.proofs.Stepping.{commits, votes, rules, KeptByDue, settled, Step, op_dies, op_answers, request_refused, request_doomed, request_again, request_new, request_closes, looks_well, looks_ill, drops, sends, prepare_closes, prepare_again, vote_counts, decision_comes, decision_again, done_counts, asked, reminds, flushes, finishes, stops}
 use Rattle.history_laws.proofs.Entering.{Makes, by_event, by_flush, by_failure, by_restart, makes}

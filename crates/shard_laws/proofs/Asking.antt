@@ -19,7 +19,7 @@ use Rattle.law_base.proofs.Cells.{record_at, live_by}
 use Rattle.law_base.specs.Items.{is_write_at}
 use Rattle.clv_base.proofs.SameNames.{or_left, or_right}
 use Rattle.law_base.proofs.Anchors.{Rising, scan_below}
-use Rattle.shard_laws.proofs.LockRows.{least, part_of, holds, asks, need_asks, anchor_self}
+use Rattle.law_base.proofs.LockRows.{least, part_of, holds, asks, need_asks, anchor_self}
 
 -- the part at the place of a key: of the record there, or of the gap in which it lies
 abbrev pub asks_by : Part → List Need → Records → ℕ → Option (Option ℕ) → Bool

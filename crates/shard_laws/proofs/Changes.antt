@@ -24,7 +24,7 @@ use Rattle.law_base.proofs.Lists.{all_mono, all_both, later_mono}
 use Rattle.law_base.proofs.Running.{top_value}
 use Rattle.law_base.proofs.Undoing.{standing_append}
 use Rattle.law_base.proofs.Anchors.{Rising, rising_filter, record_kept, record_absent, anchor_kept, absent_above}
-use Rattle.shard_laws.proofs.LockRows.{holds, held_not_free}
+use Rattle.law_base.proofs.LockRows.{holds, held_not_free}
 use Rattle.shard_laws.proofs.Asking.{holds_at, holds_by}
 use Rattle.law_base.proofs.Tables.{stage_in, is_pair}
 use Rattle.law_base.proofs.Commits.{CommitBefore, commit_durable, before_keeps, before_new, durable_keeps, durable_parts, durable_from, durable_committed, before_second, committed_append, uncommitted_append, place_some, place_less, place_keeps, place_new}

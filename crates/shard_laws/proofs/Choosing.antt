@@ -110,10 +110,10 @@ module _ (all : List Item) (g : Past) (s : Shard) (told : List TxId) (cut : ℕ)
       ⊎_elim (λ same. subst (λ t. chosen t ≡ true) (sym same) k)
       (λ d. ⊎_elim (λ same. subst (λ t. chosen t ≡ true) (sym same) k) (λ l. dep_chosen y.tx x.tx d l k) (f.1 reach)) (f.0 reach)
 
-  kept_run : Runs g.start (filter (λ x. chosen x.tx) g.items)
+  pub kept_run : Runs g.start (filter (λ x. chosen x.tx) g.items)
   kept_run = kept_runs (λ z. chosen z.tx) g.items g.start g.start h.kept.start_rises h.kept.start_rises h.kept.runs (later_mono _ _ keeps_chosen g.items (later_both _ _ g.items h.kept.causes h.kept.prepared.causes)) (λ q. inl refl)
 
-  kept_order : AllLater (λ x y. Clash x y → (x.tx ≡ y.tx) ⊎ (place ms x.tx < place ms y.tx)) (filter (λ x. chosen x.tx) g.items)
+  pub kept_order : AllLater (λ x y. Clash x y → (x.tx ≡ y.tx) ⊎ (place ms x.tx < place ms y.tx)) (filter (λ x. chosen x.tx) g.items)
   kept_order = later_mono _ _ (λ x y o c. ⊎_elim (λ same. inl same) (λ l. inr (filter_place chosen g.asked x.tx y.tx o.1 o.2 l)) (o.0 c)) (filter (λ x. chosen x.tx) g.items) (later_filter _ (λ z. chosen z.tx) g.items h.kept.order)
 
   chosen_asked : (t : TxId) → Known g (view_of s) t → chosen t ≡ true → tx_in t g.asked ≡ true
@@ -126,7 +126,7 @@ module _ (all : List Item) (g : Past) (s : Shard) (told : List TxId) (cut : ℕ)
   both_false true = refl
   both_false false = refl
 
-  own_items : (t : TxId) → chosen t ≡ true → items_of t (filter (λ x. chosen x.tx) g.items) ≡ items_of t all
+  pub own_items : (t : TxId) → chosen t ≡ true → items_of t (filter (λ x. chosen x.tx) g.items) ≡ items_of t all
   own_items t k =
       filter_both (λ x. chosen x.tx) (λ x. tx_same x.tx t) g.items
       ∙ filter_same _ _ g.items (λ x. at x (tx_same x.tx t) refl)
@@ -199,7 +199,7 @@ module _ (all : List Item) (g : Past) (s : Shard) (told : List TxId) (cut : ℕ)
       ∙ fold_values (λ t. chosen t && wrote_in s.local.log t) 0 (take cut s.local.log) [] [] q (whole_log (λ t. chosen t && wrote_in s.local.log t) (take cut s.local.log) cut_alive) refl
       ∙ ap (top_value q) (sym rest_unmoved ∙ sym (filter_alike chosen (λ t. chosen t && wrote_in s.local.log t) (standing s.local.log) writers_wrote))
 
-  same_chosen : after g.start (filter (λ x. chosen x.tx) g.items) ≡ fold_updates chosen (take cut s.local.log) []
+  pub same_chosen : after g.start (filter (λ x. chosen x.tx) g.items) ≡ fold_updates chosen (take cut s.local.log) []
   same_chosen =
       same_map (after g.start (filter (λ x. chosen x.tx) g.items)) (fold_updates chosen (take cut s.local.log) [])
       (rising_all (filter (λ x. chosen x.tx) g.items) g.start h.kept.start_rises) (fold_rises chosen (take cut s.local.log) [] tt)

@@ -18,12 +18,13 @@ use Rattle.clv_base.specs.Needs.{lower_anchor}
 use Rattle.law_base.proofs.Cells.{record_at}
 use Rattle.clv_base.proofs.SameNames.{or_left, tx_true, tx_self, tx_ne, tx_flip}
 use Rattle.law_base.proofs.Lists.{all_mono, later_mono}
-use Rattle.shard_laws.proofs.LockRows.{rows_close, close_holds}
+use Rattle.law_base.proofs.LockRows.{rows_close, close_holds}
 use Rattle.shard_laws.proofs.Asking.{holds_at, holds_by}
 use Rattle.law_base.proofs.Tables.{stage_in, stage_by, get_changed}
 use Rattle.shard_laws.proofs.Prepared.{prepared_parts}
 use Rattle.shard_laws.proofs.Kept.{View, Past, place, StageFits, Belongs, Known, Kept}
 use Rattle.clv_base.specs.Locks.{close_locks}
+use Rattle.law_base.proofs.Stages.{get_closed, get_closed_other, get_closed_own, stage_closed, closed_other as stage_other}
 
 -- ---- places
 
@@ -80,38 +81,6 @@ pub in_push : (as_ : List TxId) (n t : TxId) → tx_in t (as_ ++ n ∷ []) ≡ (
 in_push as_ n t = list_any-append (λ x. tx_same x t) as_ (n ∷ [])
 
 -- ---- the part
-
-some_inj : (a b : Stage) → Some a ≡ Some b → a ≡ b
-some_inj a b e = cc
-
-stage_of_some : (parts : Table Held) (t : TxId) (s : Stage) → stage_in parts t ≡ Some s → (h : Held) × (tx_get t parts ≡ Some h) × (h.stage ≡ s)
-stage_of_some parts t s e = at (tx_get t parts) refl e
-  where
-    at : (o : Option Held) → tx_get t parts ≡ o → stage_by o ≡ Some s → (h : Held) × (tx_get t parts ≡ Some h) × (h.stage ≡ s)
-    at None f g = absurd cc
-    at (Some h) f g = (h, f, some_inj h.stage s g)
-
-pub found : (parts : Table Held) (t : TxId) (s : Stage) → stage_in parts t ≡ Some s → (h : Held) × (tx_get t parts ≡ Some h) × (h.stage ≡ s)
-found parts t s e = stage_of_some parts t s e
-
-get_closed : (t u : TxId) (parts : Table Held) → tx_get u (closed_in t parts) ≡ elim (tx_get u parts) [ Some h ↦ Some (cond (tx_same t u) (closed_part h) h) | None ↦ None ]
-get_closed t u parts = get_changed (tx_same t) closed_part u parts
-
-same_part : (o : Option Held) → elim o [ Some h ↦ Some h | None ↦ None ] ≡ o
-same_part None = refl
-same_part (Some h) = refl
-
-get_closed_other : (t u : TxId) (parts : Table Held) → tx_same t u ≡ false → tx_get u (closed_in t parts) ≡ tx_get u parts
-get_closed_other t u parts e = get_closed t u parts ∙ ap (λ b. elim (tx_get u parts) [ Some h ↦ Some (cond b (closed_part h) h) | None ↦ None ]) e ∙ same_part (tx_get u parts)
-
-get_closed_own : (t u : TxId) (parts : Table Held) (h : Held) → tx_same t u ≡ true → tx_get u parts ≡ Some h → tx_get u (closed_in t parts) ≡ Some (closed_part h)
-get_closed_own t u parts h e f = get_closed t u parts ∙ ap (λ b. elim (tx_get u parts) [ Some h ↦ Some (cond b (closed_part h) h) | None ↦ None ]) e ∙ ap (λ o. elim o [ Some h ↦ Some (closed_part h) | None ↦ None ]) f
-
-pub stage_closed : (parts : Table Held) (t : TxId) → stage_in parts t ≡ Some Active → stage_in (closed_in t parts) t ≡ Some Closed
-stage_closed parts t e = let h = stage_of_some parts t Active e in ap stage_by (get_closed_own t t parts h.0 (tx_self t) h.1)
-
-pub stage_other : (parts : Table Held) (t u : TxId) → tx_same t u ≡ false → stage_in (closed_in t parts) u ≡ stage_in parts u
-stage_other parts t u e = ap stage_by (get_closed_other t u parts e)
 
 -- a stage after it that is not Closed was there before
 pub stage_back : (parts : Table Held) (t u : TxId) (s : Stage) → stage_in parts t ≡ Some Active → (Some Closed ≡ Some s → ⊥) → stage_in (closed_in t parts) u ≡ Some s → (tx_same t u ≡ false) × (stage_in parts u ≡ Some s)

@@ -12,7 +12,7 @@ use Rattle.clv_base.specs.State.{Local}
 use Rattle.clv_base.specs.Undo.{with_successors, successors_through, doomed_by, doomed_here}
 use Rattle.clv_base.proofs.SameNames.{tx_flip}
 use Rattle.law_base.proofs.Lists.{all_mono}
-use Rattle.protocol_laws.proofs.Sets.{tx_total}
+use Rattle.law_base.proofs.Sets.{tx_total}
 use Rattle.shard_laws.proofs.Serial.{Once, once_filter}
 
 abbrev Above : TxId → List TxId → Type 0

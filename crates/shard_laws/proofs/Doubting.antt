@@ -14,7 +14,7 @@ use Rattle.clv_base.proofs.SameNames.{or_left, or_right, tx_self, insert_keeps, 
 use Rattle.law_base.proofs.Commits.{place_some, place_keeps, place_there}
 use Rattle.order_laws.specs.Order.{Sealed}
 use Rattle.shard_laws.proofs.Cutting.{taken_there, taken_place}
-use Rattle.protocol_laws.proofs.Doubts.{stays_in}
+use Rattle.law_base.proofs.Doubts.{stays_in}
 use Rattle.shard_laws.proofs.Dooming.{list_all_at}
 use Rattle.shard_laws.proofs.Prepared.{IsListed, by_prepare, prepare_here, listed_keeps, prepared_append}
 

@@ -19,7 +19,8 @@ use Rattle.law_base.proofs.Tables.{stage_in, is_pair, without_pairs, pairs_stay}
 use Rattle.law_base.proofs.Commits.{commit_durable, durable_keeps, uncommitted_append, committed_append, committed_keeps}
 use Rattle.shard_laws.specs.OneShard.{is_doomed}
 use Rattle.shard_laws.proofs.Prepared.{prepared_append}
-use Rattle.shard_laws.proofs.Leaving.{stage_other, stage_own, gone_by, own_go, in_first, in_more, in_two}
+use Rattle.shard_laws.proofs.Leaving.{in_first, in_more, in_two}
+use Rattle.law_base.proofs.Stages.{stage_other, stage_own, gone_by, own_go}
 use Rattle.shard_laws.proofs.Ordered.{listed_same, unlisted}
 use Rattle.clv_base.specs.OneShard.{add_pairs}
 use Rattle.law_base.proofs.Tables.{add_keeps, add_has}

@@ -32,7 +32,7 @@ use Rattle.law_base.proofs.Lists.{all_mono, all_both, all_filter, all_push, late
 use Rattle.law_base.proofs.Running.{top_value}
 use Rattle.law_base.proofs.Undoing.{standing_append}
 use Rattle.law_base.proofs.Anchors.{Rising}
-use Rattle.shard_laws.proofs.LockRows.{holds, Rows}
+use Rattle.law_base.proofs.LockRows.{holds, Rows}
 use Rattle.shard_laws.proofs.Asking.{holds_at, holds_by}
 use Rattle.law_base.proofs.Tables.{stage_in, stage_by, is_pair}
 use Rattle.law_base.proofs.Commits.{CommitBefore, commit_durable, before_keeps, before_first, durable_committed, durable_keeps, uncommitted_append, committed_from}
@@ -57,13 +57,14 @@ use Rattle.law_base.proofs.Running.{after_of, same_answer, Keeps, kept_runs, run
 use Rattle.law_base.proofs.Undoing.{write_met, keeps_of, pile_filter, filter_all}
 use Rattle.shard_laws.proofs.Answering.{same_told, live_find, live_rises, t_true}
 use Rattle.law_base.proofs.Anchors.{rising_set, record_at_set, lower_insert, anchor_present}
-use Rattle.shard_laws.proofs.LockRows.{least, asks, take_keeps, take_gives, rows_take, rows_all, all_keeps, all_gives, split_keeps, split_gives, rows_split, conflict, violates, violated_row}
+use Rattle.law_base.proofs.LockRows.{least, asks, take_keeps, take_gives, rows_take, rows_all, all_keeps, all_gives, split_keeps, split_gives, rows_split, conflict, violates, violated_row}
 use Rattle.shard_laws.proofs.Asking.{asks_at, asks_by, asks_met, asks_written}
 use Rattle.law_base.proofs.Tables.{get_put, add_keeps, add_has, add_from}
 use Rattle.shard_laws.proofs.Closing.{place_in, place_out}
 use Rattle.shard_laws.proofs.Changes.{wrote_keeps, tidy_append, undone_append, wrote_append}
 use Rattle.shard_laws.proofs.Kept.{view_of}
 use Rattle.clv_base.specs.Logs.{newest_at}
+use Rattle.law_base.proofs.Stages.{other_part}
 
 abbrev pub Change : Type 0
 Change = Option (ℕ × Option ℕ × Option ℕ)
@@ -223,10 +224,6 @@ own_part tx birth parts may =
     ⊎_elim
     (λ e. (active_part birth, ap (λ o. tx_get tx (new_part tx birth o parts)) e ∙ get_put tx tx (active_part birth) parts ∙ cond-true (tx_same tx tx) _ _ (tx_self tx), refl, refl))
     (λ m. (m.0, ap (λ o. tx_get tx (new_part tx birth o parts)) m.1 ∙ m.1, m.2, m.3)) may
-
-pub other_part : (tx : TxId) (birth : Birth) (parts : Table Held) (u : TxId) (o : Option Held) → tx_same u tx ≡ false → tx_get u (new_part tx birth o parts) ≡ tx_get u parts
-other_part tx birth parts u None e = get_put tx u (active_part birth) parts ∙ cond-false (tx_same u tx) _ (tx_get u parts) e
-other_part tx birth parts u (Some x) e = refl
 
 fits_active : (s : Stage) → s ≡ Active → StageFits false s
 fits_active s e = subst (StageFits false) (sym e) tt

@@ -65,9 +65,11 @@ use Rattle.shard_laws.specs.OneShard.{with_one, new_item, asks_by_stage, new_ask
 use Rattle.clv_base.proofs.SameNames.{cases_tx}
 use Rattle.law_base.proofs.Tables.{get_put}
 use Rattle.shard_laws.proofs.Changes.{keeps_prepare, keeps_commit, keeps_front, keeps_flight}
-use Rattle.shard_laws.proofs.Closing.{keeps_close, keeps_asked, in_push, stage_closed, stage_other as stage_left}
+use Rattle.shard_laws.proofs.Closing.{keeps_close, keeps_asked, in_push}
+use Rattle.law_base.proofs.Stages.{stage_closed, closed_other as stage_left}
 use Rattle.std.proofs.Common.{append-nil}
-use Rattle.shard_laws.proofs.Granting.{keeps_performed, keeps_lost_op, MayStand, other_part, own_part, log_by}
+use Rattle.shard_laws.proofs.Granting.{keeps_performed, keeps_lost_op, MayStand, own_part, log_by}
+use Rattle.law_base.proofs.Stages.{other_part}
 use Rattle.shard_laws.specs.OneShard.{is_doomed}
 use Rattle.shard_laws.proofs.Falls.{Falls, falls_more, falls_prepare, falls_parts, falls_over, falls_front, falls_alive, falls_lost, falls_asked}
 use Rattle.shard_laws.proofs.Listing.{listed_prepared}
@@ -80,7 +82,7 @@ use Rattle.law_base.proofs.Lists.{all_mono}
 use Rattle.clv_base.specs.OneShard.{OpAnswers, new_part, add_pairs}
 use Rattle.std.specs.List.{list_any}
 use Rattle.clv_base.specs.Needs.{writes_of, key_of}
-use Rattle.shard_laws.proofs.Sound.{AskedOrOld, Sound, order_set, Open, After, More_over, at_once, rolled, marked_sound, finish_sound, get_set, set_none, commit_here, commit_other, commit_asked, waiting_here, agreed_before}
+use Rattle.shard_laws.proofs.Sound.{PartOf, part_push, part_more, part_filter, AskedOrOld, Sound, order_set, Open, After, More_over, at_once, rolled, marked_sound, finish_sound, get_set, set_none, commit_here, commit_other, commit_asked, waiting_here, agreed_before}
 use Rattle.shard_laws.proofs.Dooming.{list_all_at}
 
 -- ---- the state after it
@@ -116,7 +118,7 @@ at_cond all g s e false x y p q = q
 
 dies_if : (all : List Item) (g : Past) (s : Shard) (tx : TxId) (b : Bool) → Sound all g s → (b ≡ true → committed_in s.local.log tx ≡ false) → After all g (record s { local = rolled_back_if b tx s.local })
 dies_if all g s tx true h open_ = rolled all g s tx h (open_ refl)
-dies_if all g s tx false h open_ = at_once all g (record s { local = s.local }) (record { kept = h.kept; told = h.told; undecided = h.undecided; readers = h.readers; apart = h.apart; unvoted = h.unvoted; read = h.read; asked = h.asked; order = h.order; falls = h.falls; unfallen = h.unfallen })
+dies_if all g s tx false h open_ = at_once all g (record s { local = s.local }) (record { kept = h.kept; told = h.told; within = h.within; undecided = h.undecided; readers = h.readers; apart = h.apart; unvoted = h.unvoted; read = h.read; asked = h.asked; order = h.order; falls = h.falls; unfallen = h.unfallen })
 
 present_open : (all : List Item) (g : Past) (s : Shard) (tx : TxId) → Sound all g s → (stage_of s.local tx ≡ Some Closed → ⊥) → is_present (stage_of s.local tx) ≡ true → committed_in s.local.log tx ≡ false
 present_open all g s tx h not_closed e = at (stage_of s.local tx) refl e
@@ -282,14 +284,15 @@ module _ (all : List Item) (g : Past) (s : Shard) (tx : TxId) (birth : Birth) (o
 
   -- whatever the past keeps of it
   performed_with : (items : List Item) (lost : List TxId) → Kept (record g { items = items; lost = lost; met = map (λ p. (tx, p)) vs ++ g.met }) (view_of (record s { local = performed tx birth op s.local }))
-      → ((v : TxId) → (tx_in v lost ≡ true) ⊎ (items_of v items ≡ items_of v (all ++ done ∷ []))) → Falls g.asked g.fell lost g.over (new_part tx birth (tx_get tx s.local.parts) s.local.parts) (add_pairs tx vs s.local.pairs) s.local.log s.durable
+      → ((v : TxId) → (tx_in v lost ≡ true) ⊎ (items_of v items ≡ items_of v (all ++ done ∷ []))) → PartOf items (all ++ done ∷ []) → Falls g.asked g.fell lost g.over (new_part tx birth (tx_get tx s.local.parts) s.local.parts) (add_pairs tx vs s.local.pairs) s.local.log s.durable
       → Sound (all ++ done ∷ []) (record g { items = items; lost = lost; met = map (λ p. (tx, p)) vs ++ g.met }) (record s { local = performed tx birth op s.local })
-  performed_with items lost kept told falls =
+  performed_with items lost kept told within falls =
       let w : Change = writes_of op (value_at (key_of op) s.local.records) in
       let u : Local = locked tx birth op s.local in
       record {
         kept = kept;
         told = told;
+        within = within;
         undecided = λ t q e un. ⊎_elim (λ c. inl (written_open tx w u t c)) (λ c. inr c) (h.undecided t q e un);
         readers = h.readers;
         apart = h.apart;
@@ -335,6 +338,7 @@ module _ (all : List Item) (g : Past) (s : Shard) (tx : TxId) (birth : Birth) (o
     record g { items = filter (keeps_of (tx ∷ [])) g.items; lost = tx ∷ g.lost; met = map (λ p. (tx, p)) vs ++ g.met },
     performed_with (filter (keeps_of (tx ∷ [])) g.items) (tx ∷ g.lost)
         (keeps_lost_op g s tx birth op h.kept grant (stands_now g s tx birth same o) new fr.open_ fr.alive fr.unprepared met_active no_succ h.falls.open_) told_lost
+        (part_more done (filter (keeps_of (tx ∷ [])) g.items) all (part_filter (keeps_of (tx ∷ [])) g.items all h.within))
         (falls_lost g.asked g.fell g.lost g.over s.local.parts (new_part tx birth (tx_get tx s.local.parts) s.local.parts) s.local.pairs s.local.log s.durable tx vs h.falls own_now others_now fr.unfallen fr.undoomed fr.unprepared fr.open_ not_over no_succ (listed_prepared s.shard s.local.log h.order.ordered.follows) why),
     refl,
     refl,
@@ -352,7 +356,7 @@ module _ (all : List Item) (g : Past) (s : Shard) (tx : TxId) (birth : Birth) (o
       (λ none. (
         record g { items = g.items ++ done ∷ []; met = map (λ p. (tx, p)) vs ++ g.met },
         performed_with (g.items ++ done ∷ []) g.lost
-            (keeps_performed g s tx birth op h.kept grant (stands_now g s tx birth same o) new fr.open_ fr.alive fr.unprepared met_active no_succ h.falls.open_ alive (none_lost vs none)) (told_alive alive)
+            (keeps_performed g s tx birth op h.kept grant (stands_now g s tx birth same o) new fr.open_ fr.alive fr.unprepared met_active no_succ h.falls.open_ alive (none_lost vs none)) (told_alive alive) (part_push done g.items all h.within)
             (falls_alive g.asked g.fell g.lost g.over s.local.parts (new_part tx birth (tx_get tx s.local.parts) s.local.parts) s.local.pairs s.local.log s.durable tx vs h.falls own_now others_now fr.unfallen fr.undoomed fr.unprepared alive (none_lost vs none)),
         refl,
         refl,
@@ -386,8 +390,8 @@ by_stage : (all : List Item) (g : Past) (s : Shard) (tx : TxId) (birth : Birth) 
 by_stage all g s tx birth nth seen op None h may fit e = by_decision all g s tx birth nth seen op (decide tx birth (needs_of op s.local.records) s.local.locks) h refl may fit (inl e)
 by_stage all g s tx birth nth seen op (Some Active) h may fit e = by_decision all g s tx birth nth seen op (decide tx birth (needs_of op s.local.records) s.local.locks) h refl may fit (inr e)
 by_stage all g s tx birth nth seen op (Some Closed) h may fit e = absurd (may.not_closed e)
-by_stage all g s tx birth nth seen op (Some (Gone None)) h may fit e = ends all g s (record s { local = s.local }) (OpEvent tx birth nth seen op) _ (refl, refl, refl) refl (at_once all g _ (record { kept = h.kept; told = h.told; undecided = h.undecided; readers = h.readers; apart = h.apart; unvoted = h.unvoted; read = h.read; asked = h.asked; order = h.order; falls = h.falls; unfallen = h.unfallen }))
-by_stage all g s tx birth nth seen op (Some (Gone (Some d))) h may fit e = ends all g s (record s { local = s.local }) (OpEvent tx birth nth seen op) _ (refl, refl, refl) refl (at_once all g _ (record { kept = h.kept; told = h.told; undecided = h.undecided; readers = h.readers; apart = h.apart; unvoted = h.unvoted; read = h.read; asked = h.asked; order = h.order; falls = h.falls; unfallen = h.unfallen }))
+by_stage all g s tx birth nth seen op (Some (Gone None)) h may fit e = ends all g s (record s { local = s.local }) (OpEvent tx birth nth seen op) _ (refl, refl, refl) refl (at_once all g _ (record { kept = h.kept; told = h.told; within = h.within; undecided = h.undecided; readers = h.readers; apart = h.apart; unvoted = h.unvoted; read = h.read; asked = h.asked; order = h.order; falls = h.falls; unfallen = h.unfallen }))
+by_stage all g s tx birth nth seen op (Some (Gone (Some d))) h may fit e = ends all g s (record s { local = s.local }) (OpEvent tx birth nth seen op) _ (refl, refl, refl) refl (at_once all g _ (record { kept = h.kept; told = h.told; within = h.within; undecided = h.undecided; readers = h.readers; apart = h.apart; unvoted = h.unvoted; read = h.read; asked = h.asked; order = h.order; falls = h.falls; unfallen = h.unfallen }))
 
 operation : (all : List Item) (g : Past) (s : Shard) (tx : TxId) (birth : Birth) (nth : ℕ) (seen : Option ℕ) (op : Op) (b : Bool) → Sound all g s → MayTouch all g.asked g.met g.fell s tx birth seen → seen_fits s.local.epoch seen ≡ b → Keeps_reply all g s (OpEvent tx birth nth seen op) (op_event s (op_seen s.shard s.local tx birth seen op b))
 operation all g s tx birth nth seen op true h may fit = by_stage all g s tx birth nth seen op (stage_of s.local tx) h may fit refl
@@ -475,6 +479,7 @@ closed_sound : (all : List Item) (g : Past) (s : Shard) (tx : TxId) (home : ℕ)
 closed_sound all g s tx home one h act asks no_request no_vote = record {
   kept = closes all g s tx home (wrote_in s.local.log tx) one (undecided_of s.local tx) h act asks refl;
   told = h.told;
+  within = h.within;
   undecided = λ u q e un. ⊎_elim (λ c. inl (uncommitted_append s.local.log _ u c (closing_open (wrote_in s.local.log tx) one tx home (undecided_of s.local tx) u (no_request u q e un)))) (λ c. inr c) (h.undecided u q e un);
   readers = h.readers;
   apart = h.apart;
@@ -506,7 +511,7 @@ closed_sound all g s tx home one h act asks no_request no_vote = record {
     active_gone e = absurd cc
 
 asks_sound : (all : List Item) (g : Past) (s : Shard) (tx : TxId) → Sound all g s → Sound all (record g { asked = g.asked ++ tx ∷ [] }) s
-asks_sound all g s tx h = record { kept = keeps_asked g (view_of s) tx h.kept; told = h.told; undecided = h.undecided; readers = h.readers; apart = h.apart; unvoted = h.unvoted; read = h.read; asked = λ u c. ⊎_elim (λ a. inl (in_push g.asked tx u ∙ or_left _ _ a)) (λ l. inr l) (h.asked u c); falls = falls_asked g.asked g.fell g.lost g.over s.local.parts s.local.pairs s.local.log s.durable tx h.falls; unfallen = h.unfallen; order = order_asked g.asked s.shard s.run s.local.locks s.local.parts s.local.pairs s.local.log s.requests tx h.order }
+asks_sound all g s tx h = record { kept = keeps_asked g (view_of s) tx h.kept; told = h.told; within = h.within; undecided = h.undecided; readers = h.readers; apart = h.apart; unvoted = h.unvoted; read = h.read; asked = λ u c. ⊎_elim (λ a. inl (in_push g.asked tx u ∙ or_left _ _ a)) (λ l. inr l) (h.asked u c); falls = falls_asked g.asked g.fell g.lost g.over s.local.parts s.local.pairs s.local.log s.durable tx h.falls; unfallen = h.unfallen; order = order_asked g.asked s.shard s.run s.local.locks s.local.parts s.local.pairs s.local.log s.requests tx h.order }
 
 pub others_asked : (all : List Item) (g : Past) (s : Shard) (tx : TxId) → Sound all g s → Sound all (record g { asked = g.asked ++ tx ∷ [] }) s
 others_asked all g s tx h = asks_sound all g s tx h
@@ -535,6 +540,7 @@ coordinated : (all : List Item) (g : Past) (s : Shard) (tx : TxId) (touched : Li
 coordinated all g s tx touched h new no_vote ruled unfallen = record {
   kept = h.kept;
   told = h.told;
+  within = h.within;
   undecided = put_open s tx touched new h.undecided;
   readers = put_reader g s tx touched h.readers;
   apart = λ u v e. get_put tx u (new_request touched Undecided) s.requests ∙ cond-false (tx_same u tx) _ (tx_get u s.requests) (tx_ne u tx (λ same. no_vote v (ap (λ z. tx_get z s.voters) (sym same) ∙ e))) ∙ h.apart u v e;
@@ -657,6 +663,7 @@ add_over all g s tx h d =
         front = k.front;
       };
       told = h.told;
+      within = h.within;
       undecided = h.undecided;
       readers = λ u q e f. or_right (tx_same tx u) _ (h.readers u q e f);
       apart = h.apart;
@@ -695,7 +702,7 @@ dropped all g s tx (Some st) h n =
     let a = dies_if all g s tx (is_present (stage_of s.local tx)) h (open_ (stage_of s.local tx) refl) in
     let m = marked_sound all a.0 (record s { local = without_part tx s.local }) tx a.1 in
     ends all g s (with_local (drop_part tx) s) (Drop tx) _ (refl, refl, refl) refl
-    (a.0, record { kept = m.kept; told = m.told; undecided = m.undecided; readers = m.readers; apart = m.apart; unvoted = m.unvoted; read = m.read; asked = m.asked; order = m.order; falls = m.falls; unfallen = m.unfallen }, a.2, a.3, a.4, a.5, a.6, a.7)
+    (a.0, record { kept = m.kept; told = m.told; within = m.within; undecided = m.undecided; readers = m.readers; apart = m.apart; unvoted = m.unvoted; read = m.read; asked = m.asked; order = m.order; falls = m.falls; unfallen = m.unfallen }, a.2, a.3, a.4, a.5, a.6, a.7)
   where
     open_ : (o : Option Stage) → stage_of s.local tx ≡ o → is_present o ≡ true → committed_in s.local.log tx ≡ false
     open_ None e p = absurd (both_ways false refl p)
@@ -708,18 +715,18 @@ quietly all g s u e o same none h = ends all g s u e o same none (at_once all g 
 
 sent : (all : List Item) (g : Past) (s : Shard) (ms : List Message) → Sound all g s → Keeps_reply all g s Send (send_event s ms)
 sent all g s [] h = early
-sent all g s (m ∷ ms) h = quietly all g s (with_outbox ms s) Send _ (refl, refl, refl) refl (record { kept = h.kept; told = h.told; undecided = h.undecided; readers = h.readers; apart = h.apart; unvoted = h.unvoted; read = h.read; asked = h.asked; order = h.order; falls = h.falls; unfallen = h.unfallen })
+sent all g s (m ∷ ms) h = quietly all g s (with_outbox ms s) Send _ (refl, refl, refl) refl (record { kept = h.kept; told = h.told; within = h.within; undecided = h.undecided; readers = h.readers; apart = h.apart; unvoted = h.unvoted; read = h.read; asked = h.asked; order = h.order; falls = h.falls; unfallen = h.unfallen })
 
 reminded : (all : List Item) (g : Past) (s : Shard) (out ms : List Message) → Sound all g s → Keeps_reply all g s Remind (remind_with s out ms)
 reminded all g s [] [] h = early
-reminded all g s [] (m ∷ ms) h = quietly all g s (send (m ∷ ms) s) Remind _ (refl, refl, refl) refl (record { kept = h.kept; told = h.told; undecided = h.undecided; readers = h.readers; apart = h.apart; unvoted = h.unvoted; read = h.read; asked = h.asked; order = h.order; falls = h.falls; unfallen = h.unfallen })
+reminded all g s [] (m ∷ ms) h = quietly all g s (send (m ∷ ms) s) Remind _ (refl, refl, refl) refl (record { kept = h.kept; told = h.told; within = h.within; undecided = h.undecided; readers = h.readers; apart = h.apart; unvoted = h.unvoted; read = h.read; asked = h.asked; order = h.order; falls = h.falls; unfallen = h.unfallen })
 reminded all g s (o ∷ os) ms h = early
 
 flushed : (all : List Item) (g : Past) (s : Shard) (f : Option ℕ) (n : ℕ) → Sound all g s → Keeps_reply all g s FlushOut (out_event s f n)
 flushed all g s None zero h = early
 flushed all g s (Some m) zero h = early
 flushed all g s (Some m) (suc n) h = early
-flushed all g s None (suc n) h = quietly all g s (with_flight (s.durable + suc n) s) FlushOut _ (refl, refl, refl) refl (record { kept = keeps_flight g (view_of s) (s.durable + suc n) h.kept (omega arith); told = h.told; undecided = h.undecided; readers = h.readers; apart = h.apart; unvoted = h.unvoted; read = h.read; asked = h.asked; order = h.order; falls = h.falls; unfallen = h.unfallen })
+flushed all g s None (suc n) h = quietly all g s (with_flight (s.durable + suc n) s) FlushOut _ (refl, refl, refl) refl (record { kept = keeps_flight g (view_of s) (s.durable + suc n) h.kept (omega arith); told = h.told; within = h.within; undecided = h.undecided; readers = h.readers; apart = h.apart; unvoted = h.unvoted; read = h.read; asked = h.asked; order = h.order; falls = h.falls; unfallen = h.unfallen })
 
 -- ---- messages that come
 
@@ -727,6 +734,7 @@ owed : (all : List Item) (g : Past) (s : Shard) (tx : TxId) (home seen : ℕ) �
 owed all g s tx home seen h no_request open_ = record {
   kept = h.kept;
   told = h.told;
+  within = h.within;
   undecided = h.undecided;
   readers = h.readers;
   apart = λ u v e. at u v (tx_same u tx) refl (sym (get_put tx u (asked_voter home seen (tx_get tx s.voters)) s.voters) ∙ e);
@@ -782,6 +790,7 @@ same_ruling : (all : List Item) (g : Past) (s : Shard) (tx : TxId) (q w : Reques
 same_ruling all g s tx q w h e r n open_ = record {
   kept = h.kept;
   told = h.told;
+  within = h.within;
   undecided = λ u p f un. ⊎_elim (λ i. subst (λ z. Open s.shard s.local.log z p) (sym i.0) (subst (Open s.shard s.local.log tx) (sym i.1) (open_ (sym r ∙ ap (λ z. z.state) (sym i.1) ∙ un)))) (λ i. h.undecided u p i.1 un) (get_set tx u w p s.requests f);
   readers = λ u p f un. ⊎_elim (λ i. subst (λ z. tx_in z g.over ≡ true) (sym i.0) (h.readers tx q e (sym r ∙ ap (λ z. z.state) (sym i.1) ∙ un))) (λ i. h.readers u p i.1 un) (get_set tx u w p s.requests f);
   apart = λ u v f. set_none tx u w s.requests (h.apart u v f);
@@ -819,6 +828,7 @@ commit_sound : (all : List Item) (g : Past) (s : Shard) (tx : TxId) → Sound al
 commit_sound all g s tx h closed open_ before w none unfallen = record {
   kept = commit_here all g s tx [] h closed open_ (λ p e. list_all_at (committed_in s.local.log) p (predecessors_of s.local.pairs tx) before (pair_in s.local.pairs tx p e));
   told = h.told;
+  within = h.within;
   undecided = λ u q e un. ⊎_elim (λ c. inl (commit_other s.local.log tx u [] c (tx_ne u tx (λ same. none q (ap (λ z. tx_get z s.requests) (sym same) ∙ e) un)))) (λ c. inr c) (h.undecided u q e un);
   readers = h.readers;
   apart = h.apart;
@@ -841,7 +851,7 @@ decides all g s m stamp tx home commit h may = at (is_waiting (facts_of s tx)) (
 
     at : (b c : Bool) → is_waiting (facts_of s tx) ≡ b → Keeps_reply all g s (Deliver m stamp) (on_decide s tx home commit (taken_if b c))
     at true c w = ends all g s (decided s tx commit) (Deliver m stamp) Taken (refl, refl, refl) refl (decided_after commit refl w)
-    at false true w = quietly all g s (send (Done home tx s.shard ∷ []) s) (Deliver m stamp) Taken (refl, refl, refl) refl (record { kept = h.kept; told = h.told; undecided = h.undecided; readers = h.readers; apart = h.apart; unvoted = h.unvoted; read = h.read; asked = h.asked; order = h.order; falls = h.falls; unfallen = h.unfallen })
+    at false true w = quietly all g s (send (Done home tx s.shard ∷ []) s) (Deliver m stamp) Taken (refl, refl, refl) refl (record { kept = h.kept; told = h.told; within = h.within; undecided = h.undecided; readers = h.readers; apart = h.apart; unvoted = h.unvoted; read = h.read; asked = h.asked; order = h.order; falls = h.falls; unfallen = h.unfallen })
     at false false w = early
 
 message : (all : List Item) (g : Past) (s : Shard) (m : Message) (stamp : ℕ) → Sound all g s → MayDeliver g.asked g.fell s m → Keeps_reply all g s (Deliver m stamp) (on_message s m)
@@ -850,7 +860,7 @@ message all g s (VoteMessage to tx from vote) stamp h may = votes all g s (VoteM
 message all g s (Decide to tx home true) stamp h may = decides all g s (Decide to tx home true) stamp tx home true h (λ e. may)
 message all g s (Decide to tx home false) stamp h may = decides all g s (Decide to tx home false) stamp tx home false h (λ e. absurd (both_ways false refl e))
 message all g s (Done to tx from) stamp h may = dones all g s (Done to tx from) stamp tx from (tx_get tx s.requests) h refl
-message all g s (Ask to tx from) stamp h may = quietly all g s (send (ask_messages s tx from (ask_answer (tx_get tx s.requests) (facts_of s tx))) s) (Deliver (Ask to tx from) stamp) Taken (refl, refl, refl) refl (record { kept = h.kept; told = h.told; undecided = h.undecided; readers = h.readers; apart = h.apart; unvoted = h.unvoted; read = h.read; asked = h.asked; order = h.order; falls = h.falls; unfallen = h.unfallen })
+message all g s (Ask to tx from) stamp h may = quietly all g s (send (ask_messages s tx from (ask_answer (tx_get tx s.requests) (facts_of s tx))) s) (Deliver (Ask to tx from) stamp) Taken (refl, refl, refl) refl (record { kept = h.kept; told = h.told; within = h.within; undecided = h.undecided; readers = h.readers; apart = h.apart; unvoted = h.unvoted; read = h.read; asked = h.asked; order = h.order; falls = h.falls; unfallen = h.unfallen })
 
 up : (all : List Item) (g : Past) (s : Shard) (e : Event) → Sound all g s → MayHappen all g.asked g.met g.fell s e → Keeps_reply all g s e (happen_up s e)
 up all g s (OpEvent tx birth nth seen op) h may = operation all g s tx birth nth seen op (seen_fits s.local.epoch seen) h may refl
@@ -862,7 +872,7 @@ up all g s (Deliver m stamp) h may = at_cond all g s (Deliver m stamp) (to_of m 
 up all g s Remind h may = reminded all g s s.outbox (reminders s) h
 up all g s FlushOut h may = flushed all g s s.flight _ h
 up all g s FlushIn h may = early
-up all g s Stop h may = does (g, record { kept = h.kept; told = h.told; undecided = h.undecided; readers = h.readers; apart = h.apart; unvoted = h.unvoted; read = h.read; asked = h.asked; order = h.order; falls = h.falls; unfallen = h.unfallen }, refl, refl, refl, (λ u o. o), (λ u n. absurd (none_told u n)), refl, refl)
+up all g s Stop h may = does (g, record { kept = h.kept; told = h.told; within = h.within; undecided = h.undecided; readers = h.readers; apart = h.apart; unvoted = h.unvoted; read = h.read; asked = h.asked; order = h.order; falls = h.falls; unfallen = h.unfallen }, refl, refl, refl, (λ u o. o), (λ u n. absurd (none_told u n)), refl, refl)
 up all g s RestartEvent h may = early
 
 all_events : (all : List Item) (g : Past) (s : Shard) (e : Event) (b : Bool) → Sound all g s → MayHappen all g.asked g.met g.fell s e → Keeps_reply all g s e (elim b [ true ↦ happen_up s e | false ↦ QuietBeforeWorn Down ])
@@ -881,7 +891,7 @@ durable_further log d e tx le h = let m = durable_parts log d tx h in let l = m.
 
 -- and so does the end of a flush
 pub landed_sound : (all : List Item) (g : Past) (s : Shard) (n : ℕ) → Sound all g s → s.flight ≡ Some n → After all g (finish (with_durable n s))
-landed_sound all g s n h e = finish_sound all g (with_durable n s) (record { kept = keeps_front g (view_of s) n h.kept (h.kept.front n e); told = h.told; undecided = h.undecided; readers = h.readers; apart = h.apart; unvoted = h.unvoted; read = h.read; asked = h.asked; order = h.order; falls = falls_front g.asked g.fell g.lost g.over s.local.parts s.local.pairs s.local.log s.durable n (h.kept.front n e) (λ t c. durable_further s.local.log s.durable n t (h.kept.front n e) c) h.falls; unfallen = h.unfallen })
+landed_sound all g s n h e = finish_sound all g (with_durable n s) (record { kept = keeps_front g (view_of s) n h.kept (h.kept.front n e); told = h.told; within = h.within; undecided = h.undecided; readers = h.readers; apart = h.apart; unvoted = h.unvoted; read = h.read; asked = h.asked; order = h.order; falls = falls_front g.asked g.fell g.lost g.over s.local.parts s.local.pairs s.local.log s.durable n (h.kept.front n e) (λ t c. durable_further s.local.log s.durable n t (h.kept.front n e) c) h.falls; unfallen = h.unfallen })
 
 pub failed_sound : (all : List Item) (g : Past) (s : Shard) → Sound all g s → Sound all g (put_down s)
-failed_sound all g s h = record { kept = h.kept; told = h.told; undecided = h.undecided; readers = h.readers; apart = h.apart; unvoted = h.unvoted; read = h.read; asked = h.asked; order = h.order; falls = h.falls; unfallen = h.unfallen }
+failed_sound all g s h = record { kept = h.kept; told = h.told; within = h.within; undecided = h.undecided; readers = h.readers; apart = h.apart; unvoted = h.unvoted; read = h.read; asked = h.asked; order = h.order; falls = h.falls; unfallen = h.unfallen }

@@ -43,7 +43,7 @@ use Rattle.shard_laws.proofs.Serial.{Once, once_push}
 use Rattle.shard_laws.proofs.Members.{serial_run, recovered}
 
 noted : (all : List Item) (g : Past) (s : Shard) (stamp walker : ℕ) (e : Event) (o : Outcome) → Sound all g s → Sound all g (with_entry stamp walker e o s)
-noted all g s stamp walker e o h = record { kept = h.kept; told = h.told; undecided = h.undecided; readers = h.readers; apart = h.apart; unvoted = h.unvoted; read = h.read; asked = h.asked; order = h.order; falls = h.falls; unfallen = h.unfallen }
+noted all g s stamp walker e o h = record { kept = h.kept; told = h.told; within = h.within; undecided = h.undecided; readers = h.readers; apart = h.apart; unvoted = h.unvoted; read = h.read; asked = h.asked; order = h.order; falls = h.falls; unfallen = h.unfallen }
 
 -- ---- who asks, asks once
 
@@ -151,6 +151,7 @@ refell all g t h =
         front = k.front;
       };
       told = h.told;
+      within = h.within;
       undecided = h.undecided;
       readers = h.readers;
       apart = h.apart;

@@ -32,7 +32,7 @@ use Rattle.clv_base.specs.declared.ops.Op.{Op}
 use Rattle.clv_base.specs.declared.modes.Decision.TheVariants.{Grant}
 use Rattle.clv_base.specs.Needs.{needs_of, value_at, key_of, writes_of}
 use Rattle.shard_laws.proofs.Leaving.{no_prepares}
-use Rattle.shard_laws.proofs.Marking.{stage_marked}
+use Rattle.law_base.proofs.Stages.{stage_marked}
 use Rattle.shard_laws.proofs.Listing.{order_of, ended_committed}
 use Rattle.shard_laws.proofs.Ordered.{Lying, Ordered, Calm, prepare_none, prepare_some, unlisted, restarted, listed_same, ordered_record, ordered_parts, lying_more, this_run, commit_follows, prepare_follows}
 use Rattle.shard_laws.proofs.Shutting.{ordered_prepare, ordered_close, lying_close, ordered_leave, ordered_taken, lying_taken}

@@ -24,7 +24,7 @@ pub use Rattle.shard_laws.specs.OneShard.{place}
 use Rattle.law_base.proofs.Running.{top_value}
 use Rattle.law_base.proofs.Undoing.{Chain}
 use Rattle.law_base.proofs.Anchors.{Rising}
-use Rattle.shard_laws.proofs.LockRows.{holds, Rows}
+use Rattle.law_base.proofs.LockRows.{holds, Rows}
 use Rattle.shard_laws.proofs.Asking.{holds_at}
 use Rattle.shard_laws.proofs.AtKeys.{SameAtKeys}
 use Rattle.law_base.proofs.Tables.{stage_in, is_pair}

@@ -27,7 +27,7 @@ use Rattle.clv_base.specs.Logs.{newest_at}
 use Rattle.law_base.specs.Undone.{stays_of}
 use Rattle.law_base.proofs.Undoing.{Chain, keeps_of, standing_undone, values_undone, HaveRecords, Upward, record_undone, pile_filter, filter_all}
 use Rattle.law_base.proofs.Anchors.{rising_undone, anchor_undone}
-use Rattle.shard_laws.proofs.LockRows.{holds, Rows, rows_release, release_holds}
+use Rattle.law_base.proofs.LockRows.{holds, Rows, rows_release, release_holds}
 use Rattle.shard_laws.proofs.Asking.{holds_at, holds_by}
 use Rattle.law_base.proofs.Tables.{stage_in, stage_by, is_pair, get_changed, without_pairs, pairs_stay}
 use Rattle.law_base.proofs.Commits.{commit_durable, before_keeps, before_first, durable_keeps, durable_committed, before_durable, committed_append, uncommitted_append, committed_from}
@@ -40,70 +40,9 @@ use Rattle.clv_base.specs.Undo.{value_before}
 use Rattle.law_base.proofs.Undoing.{reset}
 use Rattle.clv_base.specs.Undo.{newest_lsn}
 use Rattle.shard_laws.proofs.Changes.{wrote_keeps, tidy_append, undone_append, wrote_append, ended_more}
+use Rattle.law_base.proofs.Stages.{active_back, closed_back, doomed_back, get_other, gone_by, gone_closed, stage_other, stage_own}
 
 -- ---- parts that are gone
-
-get_gone : (set : List TxId) (d : Option TxId) (u : TxId) (parts : Table Held) → tx_get u (gone_in set d parts) ≡ elim (tx_get u parts) [ Some h ↦ Some (cond (tx_in u set) (gone_part d h) h) | None ↦ None ]
-get_gone set d u parts = get_changed (λ x. tx_in x set) (gone_part d) u parts
-
-same_part : (o : Option Held) → elim o [ Some h ↦ Some h | None ↦ None ] ≡ o
-same_part None = refl
-same_part (Some h) = refl
-
-pub get_other : (set : List TxId) (d : Option TxId) (u : TxId) (parts : Table Held) → tx_in u set ≡ false → tx_get u (gone_in set d parts) ≡ tx_get u parts
-get_other set d u parts e = get_gone set d u parts ∙ ap (λ b. elim (tx_get u parts) [ Some h ↦ Some (cond b (gone_part d h) h) | None ↦ None ]) e ∙ same_part (tx_get u parts)
-
-pub stage_other : (set : List TxId) (d : Option TxId) (u : TxId) (parts : Table Held) → tx_in u set ≡ false → stage_in (gone_in set d parts) u ≡ stage_in parts u
-stage_other set d u parts e = ap stage_by (get_other set d u parts e)
-
-abbrev pub gone_by : Option TxId → Option Stage → Option Stage
-gone_by d None = None
-gone_by d (Some s) = Some (Gone d)
-
-pub stage_own : (set : List TxId) (d : Option TxId) (u : TxId) (parts : Table Held) → tx_in u set ≡ true → stage_in (gone_in set d parts) u ≡ gone_by d (stage_in parts u)
-stage_own set d u parts e =
-    ap stage_by (get_gone set d u parts) ∙ ap (λ b. stage_by (elim (tx_get u parts) [ Some h ↦ Some (cond b (gone_part d h) h) | None ↦ None ])) e ∙ at (tx_get u parts)
-  where
-    at : (o : Option Held) → stage_by (elim o [ Some h ↦ Some (gone_part d h) | None ↦ None ]) ≡ gone_by d (stage_by o)
-    at None = refl
-    at (Some h) = refl
-
-gone_active : (d : Option TxId) (o : Option Stage) → gone_by d o ≡ Some Active → ⊥
-gone_active d None e = absurd cc
-gone_active d (Some s) e = absurd cc
-
--- an active part was active, and is not of the set
-pub active_back : (set : List TxId) (d : Option TxId) (u : TxId) (parts : Table Held) → stage_in (gone_in set d parts) u ≡ Some Active → (tx_in u set ≡ false) × (stage_in parts u ≡ Some Active)
-active_back set d u parts e =
-    let out : tx_in u set ≡ false = false_from_ne_true _ (λ h. gone_active d (stage_in parts u) (sym (stage_own set d u parts h) ∙ e)) in
-    (out, sym (stage_other set d u parts out) ∙ e)
-
-gone_closed : (d : Option TxId) (o : Option Stage) → gone_by d o ≡ Some Closed → ⊥
-gone_closed d None e = absurd cc
-gone_closed d (Some s) e = absurd cc
-
-pub closed_back : (set : List TxId) (d : Option TxId) (u : TxId) (parts : Table Held) → stage_in (gone_in set d parts) u ≡ Some Closed → stage_in parts u ≡ Some Closed
-closed_back set d u parts e =
-    ⊎_elim (λ i. absurd (gone_closed d (stage_in parts u) (sym (stage_own set d u parts i) ∙ e))) (λ i. sym (stage_other set d u parts i) ∙ e) (cases_Bool (tx_in u set))
-
-gone_none : (d : TxId) (o : Option Stage) → gone_by None o ≡ Some (Gone (Some d)) → ⊥
-gone_none d None e = absurd cc
-gone_none d (Some s) e = absurd cc
-
-doomed_back : (set : List TxId) (u d : TxId) (parts : Table Held) → stage_in (gone_in set None parts) u ≡ Some (Gone (Some d)) → stage_in parts u ≡ Some (Gone (Some d))
-doomed_back set u d parts e =
-    ⊎_elim (λ i. absurd (gone_none d (stage_in parts u) (sym (stage_own set None u parts i) ∙ e))) (λ i. sym (stage_other set None u parts i) ∙ e) (cases_Bool (tx_in u set))
-
-gone_out : (e : Option TxId) (o : Option Stage) → is_present (gone_by e o) ≡ false
-gone_out e None = refl
-gone_out e (Some x) = refl
-
--- who is not present stays so
-pub absent_go : (set : List TxId) (d : Option TxId) (u : TxId) (parts : Table Held) → is_present (stage_in parts u) ≡ false → is_present (stage_in (gone_in set d parts) u) ≡ false
-absent_go set d u parts e = ⊎_elim (λ i. ap is_present (stage_own set d u parts i) ∙ gone_out d (stage_in parts u)) (λ i. ap is_present (stage_other set d u parts i) ∙ e) (cases_Bool (tx_in u set))
-
-pub own_go : (set : List TxId) (d : Option TxId) (u : TxId) (parts : Table Held) → tx_in u set ≡ true → is_present (stage_in (gone_in set d parts) u) ≡ false
-own_go set d u parts i = ap is_present (stage_own set d u parts i) ∙ gone_out d (stage_in parts u)
 
 rows_go : (set : List TxId) (d : Option TxId) (parts : Table Held) (locks : Locks) → Rows (Belongs parts) locks → Rows (Belongs (gone_in set d parts)) (release set locks)
 rows_go set d parts locks rows = rows_release (Belongs parts) (Belongs (gone_in set d parts)) set locks (λ u b c h out. (h.0, get_other set d u parts out ∙ h.1, h.2, h.3)) rows

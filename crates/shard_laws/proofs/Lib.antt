@@ -1,4 +1,3 @@
-pub mod LockRows
 pub mod Writers
 pub mod Asking
 pub mod Prepared
@@ -42,3 +41,4 @@ pub mod OrderKept
 pub mod Choosing
 pub mod Settled
 pub mod Splitting
+pub mod Acting

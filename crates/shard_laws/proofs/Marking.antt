@@ -13,11 +13,13 @@ use Rattle.clv_base.specs.Undo.{gone_in, pairs_without}
 use Rattle.clv_base.specs.OneShard.{dropped_part, marked_in}
 use Rattle.clv_base.proofs.SameNames.{or_left, or_right, tx_self}
 use Rattle.law_base.proofs.Lists.{all_mono}
-use Rattle.shard_laws.proofs.LockRows.{Rows}
+use Rattle.law_base.proofs.LockRows.{Rows}
 use Rattle.law_base.proofs.Tables.{stage_in, stage_by, is_pair, row_pairs, get_changed}
 use Rattle.shard_laws.proofs.Prepared.{prepared_parts}
 use Rattle.shard_laws.proofs.Kept.{View, Past, StageFits, Belongs, Kept}
-use Rattle.shard_laws.proofs.Leaving.{get_other, stage_own, stage_other, gone_by, one_in}
+use Rattle.shard_laws.proofs.Leaving.{one_in}
+use Rattle.law_base.proofs.Stages.{get_other, stage_own, stage_other, gone_by}
+use Rattle.law_base.proofs.Stages.{get_marked, stage_marked}
 
 pub keeps_parts : (g : Past) (v : View) (parts : Table Held) → ((u : TxId) → stage_in parts u ≡ stage_in v.parts u) → ((u : TxId) (b : Birth) (c : Bool) → Belongs v.parts u b c → Belongs parts u b c) → Kept g v → Kept g (record v { parts = parts })
 keeps_parts g v parts same own k = record {
@@ -52,17 +54,6 @@ keeps_parts g v parts same own k = record {
 }
 
 -- ---- marked as dropped
-
-get_marked : (t u : TxId) (parts : Table Held) → tx_get u (marked_in t parts) ≡ elim (tx_get u parts) [ Some h ↦ Some (cond (tx_same t u) (dropped_part h) h) | None ↦ None ]
-get_marked t u parts = get_changed (tx_same t) dropped_part u parts
-
-pub stage_marked : (t u : TxId) (parts : Table Held) → stage_in (marked_in t parts) u ≡ stage_in parts u
-stage_marked t u parts = ap stage_by (get_marked t u parts) ∙ at (tx_same t u) (tx_get u parts)
-  where
-    at : (b : Bool) (o : Option Held) → stage_by (elim o [ Some h ↦ Some (cond b (dropped_part h) h) | None ↦ None ]) ≡ stage_by o
-    at b None = refl
-    at true (Some h) = refl
-    at false (Some h) = refl
 
 belongs_marked : (t : TxId) (parts : Table Held) (u : TxId) (b : Birth) (c : Bool) → Belongs parts u b c → Belongs (marked_in t parts) u b c
 belongs_marked t parts u b c (h, e, f, fit) = at (tx_same t u) refl

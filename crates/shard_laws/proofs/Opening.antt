@@ -34,7 +34,7 @@ use Rattle.order_laws.proofs.InOrder.{Order, in_order, undone_open}
 use Rattle.shard_laws.specs.OneShard.{MayServe, is_doomed, found_items, found_asked, found_met}
 use Rattle.shard_laws.proofs.AtKeys.{SameAtKeys, key_writes}
 use Rattle.shard_laws.proofs.Kept.{Past, is_alive, place}
-use Rattle.shard_laws.proofs.Sound.{Sound}
+use Rattle.shard_laws.proofs.Sound.{part_same, Sound}
 use Rattle.shard_laws.proofs.Cutting.{of_kept, fold_alike, fold_values, fold_rises}
 use Rattle.shard_laws.proofs.Members.{filter_all_kept}
 use Rattle.shard_laws.proofs.Refalling.{all_durable}
@@ -290,6 +290,7 @@ module _ (shard run : ℕ) (before : List LogRecord) (may : MayServe shard run b
       front = λ n e. absurd (none_number n e);
     };
     told = λ t. inr refl;
+    within = part_same (found_items shard before);
     undecided = λ t q e u. absurd ((subst IsCommitted e (restored_committed (unended_in Now Now) t)).0 u);
     readers = λ t q e u. absurd ((subst IsCommitted e (restored_committed (unended_in Now Now) t)).1 u);
     apart = λ t v e. requests_none (unended_in Now Now) t (unended_none Now Now t (doubt_open t (voter_is Now doubt t v e).0));

@@ -33,12 +33,13 @@ use Rattle.law_base.proofs.Tables.{stage_in, stage_by, is_pair, insert_from, add
 use Rattle.law_base.proofs.Commits.{commit_durable, durable_committed, committed_keeps}
 use Rattle.order_laws.proofs.Records.{push_cases}
 use Rattle.order_laws.proofs.InOrder.{Order}
-use Rattle.shard_laws.proofs.LockRows.{conflict, violates, violated_row, holds, asks}
+use Rattle.law_base.proofs.LockRows.{conflict, violates, violated_row, holds, asks}
 use Rattle.shard_laws.proofs.Asking.{asks_by, asks_written}
 use Rattle.shard_laws.proofs.Kept.{View, Past, Belongs, Kept}
 use Rattle.shard_laws.proofs.Changes.{wrote_keeps}
 use Rattle.shard_laws.proofs.Prepared.{prepared_append}
-use Rattle.shard_laws.proofs.Granting.{Change, log_by, MayStand, own_part, other_part, not_active, is_closed, closed_row, insert_writes, writing}
+use Rattle.shard_laws.proofs.Granting.{Change, log_by, MayStand, own_part, not_active, is_closed, closed_row, insert_writes, writing}
+use Rattle.law_base.proofs.Stages.{other_part}
 use Rattle.shard_laws.proofs.Following.{follows_append, last_push, before_push, greatest_plain}
 use Rattle.shard_laws.proofs.Writers.{writers_more, writers_all, writers_insert, needs_write, violated_wrote}
 use Rattle.shard_laws.proofs.Ordered.{LiesOn, Under, Lying, Ordered, listed_same, under_more}

@@ -15,7 +15,7 @@ use Rattle.clv_base.proofs.SameNames.{or_left, or_right, tx_true, tx_self, inser
 use Rattle.law_base.proofs.Lists.{all_mono}
 use Rattle.law_base.proofs.Undoing.{standing_append, standing_aborts, standing_clrs}
 use Rattle.law_base.proofs.Commits.{committed_append}
-use Rattle.protocol_laws.proofs.Doubts.{Unlike, is_it, nobody, abort_unlike, clr_unlike, restart_unlike, doubts_more}
+use Rattle.law_base.proofs.Doubts.{Unlike, is_it, nobody, abort_unlike, clr_unlike, restart_unlike, doubts_more}
 use Rattle.order_laws.specs.Order.{moves, Open_at, Tidy, Sealed, is_clr_of, undone_in}
 use Rattle.shard_laws.proofs.Prepared.{IsListed, is_listed_more, prepared_append, sealed_more, listed_keeps}
 use Rattle.shard_laws.proofs.Changes.{undone_append, wrote_append, tidy_append}

@@ -23,7 +23,7 @@ use Rattle.law_base.proofs.Cells.{record_at, live_by}
 use Rattle.law_base.proofs.Anchors.{Rising, record_at_set, rising_set}
 use Rattle.law_base.proofs.Tables.{stage_in, stage_by}
 use Rattle.order_laws.proofs.Writes.{all_without}
-use Rattle.shard_laws.proofs.LockRows.{holds, Rows, take_keeps, take_gives, rows_take}
+use Rattle.law_base.proofs.LockRows.{holds, Rows, take_keeps, take_gives, rows_take}
 use Rattle.shard_laws.proofs.Kept.{Belongs}
 
 -- ---- the UPDATEs of a log, by transaction and key

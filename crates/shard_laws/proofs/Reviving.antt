@@ -38,7 +38,7 @@ use Rattle.shard_laws.proofs.Kept.{View, view_of, Past, Dep, Known, Left, is_ali
 use Rattle.shard_laws.proofs.Prepared.{IsListed, Lists, prepared_append, sealed_later, listed_keeps}
 use Rattle.shard_laws.proofs.Changes.{undone_append, wrote_append, later_both}
 use Rattle.shard_laws.proofs.Leaving.{pile_all, pile_each, write_some, none_two, in_first, in_more}
-use Rattle.shard_laws.proofs.Sound.{Sound, filter_both, filter_same}
+use Rattle.shard_laws.proofs.Sound.{part_filter, Sound, filter_both, filter_same}
 use Rattle.shard_laws.proofs.Cutting.{cut_keeps, durable_cut, of_kept, tidy_later}
 use Rattle.shard_laws.proofs.Serial.{Once}
 use Rattle.shard_laws.proofs.Members.{dep_cut, item_asked, cut_base, pile_keep, filter_all_kept, filter_alike, filter_and}
@@ -506,6 +506,7 @@ module _ (all : List Item) (g : Past) (s : Shard) (c epoch : ℕ) (log : List Lo
       front = λ n e. absurd (none_number n e);
     };
     told = told_now;
+    within = part_filter (λ x. stays x.tx) g.items all h.within;
     falls = falls_now;
     unfallen = λ t q e u here. absurd ((subst IsCommitted e (restored_committed (unended_in log log) t)).0 u);
     undecided = λ t q e u. absurd ((subst IsCommitted e (restored_committed (unended_in log log) t)).0 u);

@@ -20,7 +20,7 @@ use Rattle.law_base.proofs.Running.{top_value}
 use Rattle.law_base.proofs.Commits.{commit_durable, durable_committed}
 use Rattle.shard_laws.specs.OneShard.{QuietIsSettled}
 use Rattle.shard_laws.proofs.Histories.{held}
-use Rattle.shard_laws.proofs.LockRows.{holder_row}
+use Rattle.law_base.proofs.LockRows.{holder_row}
 use Rattle.shard_laws.proofs.Kept.{Past, view_of, Kept, Wrote, Belongs, StageFits}
 use Rattle.shard_laws.proofs.Answering.{t_true, live_rises, live_find}
 use Rattle.shard_laws.proofs.Cutting.{of_kept, cut_values, fold_rises, fold_alike}

@@ -27,8 +27,10 @@ use Rattle.shard_laws.proofs.Serial.{Once, once_filter}
 use Rattle.shard_laws.proofs.Changes.{wrote_keeps}
 use Rattle.shard_laws.proofs.Prepared.{prepared_append}
 use Rattle.shard_laws.proofs.Restoring.{standing_updates, wrote_of}
-use Rattle.shard_laws.proofs.Closing.{stage_back, stage_other as stage_left, closed_not_active}
-use Rattle.shard_laws.proofs.Leaving.{all_append, active_back, closed_back, stage_other, own_go}
+use Rattle.shard_laws.proofs.Closing.{stage_back, closed_not_active}
+use Rattle.law_base.proofs.Stages.{closed_other as stage_left}
+use Rattle.shard_laws.proofs.Leaving.{all_append}
+use Rattle.law_base.proofs.Stages.{active_back, closed_back, stage_other, own_go}
 use Rattle.shard_laws.proofs.Dooming.{in_filter, filter_in}
 use Rattle.shard_laws.proofs.Following.{Follows, follows_append, last_push, before_push, greatest_plain}
 use Rattle.shard_laws.proofs.Compensating.{undo_follows}

@@ -20,7 +20,8 @@ use Rattle.clv_base.specs.OneShard.{purge, mark_dropped}
 use Rattle.clv_base.specs.Due.{finish_part, or_else, with_commit_done, commit_due, with_vote, finish_reader, give_vote, vote_due, with_ruling, do_ruling, rule, request_due, due_of, first_due, known_txs, next_due, do_due, with_due_done, work}
 use Rattle.clv_base.specs.Events.{finish}
 use Rattle.protocol_laws.proofs.Facts.{predecessors_by_facts}
-use Rattle.shard_laws.proofs.Marking.{same_again, pairs_none, keeps_marked, stage_marked, gone_stays, keeps_again}
+use Rattle.shard_laws.proofs.Marking.{same_again, pairs_none, keeps_marked, gone_stays, keeps_again}
+use Rattle.law_base.proofs.Stages.{stage_marked}
 use Rattle.law_base.specs.Items.{Item}
 use Rattle.clv_base.proofs.SameNames.{or_left, or_right, tx_true, tx_self, tx_ne}
 use Rattle.law_base.proofs.Undoing.{keeps_of, standing_append}
@@ -55,7 +56,8 @@ use Rattle.shard_laws.proofs.Rulings.{Ruled, Rulings, ruled_more, ruled_other, p
 use Rattle.clv_base.specs.LogRules.{some_parts}
 use Rattle.clv_base.specs.Participant.{is_yes_vote}
 use Rattle.shard_laws.proofs.Changes.{keeps_quiet, quiet_end, keeps_commit, keeps_purge}
-use Rattle.shard_laws.proofs.Leaving.{keeps_finish, keeps_taken, MayGo, Done, no_commits, absent_go, stage_own, stage_other, gone_by, one_in}
+use Rattle.shard_laws.proofs.Leaving.{keeps_finish, keeps_taken, MayGo, Done, no_commits, one_in}
+use Rattle.law_base.proofs.Stages.{absent_go, stage_own, stage_other, gone_by}
 use Rattle.shard_laws.specs.OneShard.{items_of}
 
 -- ---- lists of items
@@ -71,6 +73,35 @@ filter_both f h (x ∷ xs) = at (f x) (filter_both f h xs)
     at : (b : Bool) → filter h (filter f xs) ≡ filter (λ x. f x && h x) xs → filter h (cond b (x ∷ filter f xs) (filter f xs)) ≡ cond (b && h x) (x ∷ filter (λ x. f x && h x) xs) (filter (λ x. f x && h x) xs)
     at true e = ap (λ l. cond (h x) (x ∷ l) l) e
     at false e = e
+
+-- a list with some items left out
+pub data PartOf : List Item → List Item → Type 0 where
+  nothing : PartOf [] []
+  also : (x : Item) {xs ys : List Item} → PartOf xs ys → PartOf (x ∷ xs) (x ∷ ys)
+  only : (y : Item) {xs ys : List Item} → PartOf xs ys → PartOf xs (y ∷ ys)
+
+pub part_same : (xs : List Item) → PartOf xs xs
+part_same [] = nothing
+part_same (x ∷ xs) = also x (part_same xs)
+
+pub part_push : (x : Item) (xs ys : List Item) → PartOf xs ys → PartOf (xs ++ x ∷ []) (ys ++ x ∷ [])
+part_push x _ _ nothing = also x nothing
+part_push x _ _ (also y {xs = xs} {ys = ys} p) = also y (part_push x xs ys p)
+part_push x xs _ (only y {ys = ys} p) = only y (part_push x xs ys p)
+
+pub part_more : (x : Item) (xs ys : List Item) → PartOf xs ys → PartOf xs (ys ++ x ∷ [])
+part_more x _ _ nothing = only x nothing
+part_more x _ _ (also y {xs = xs} {ys = ys} p) = also y (part_more x xs ys p)
+part_more x xs _ (only y {ys = ys} p) = only y (part_more x xs ys p)
+
+pub part_filter : (f : Item → Bool) (xs ys : List Item) → PartOf xs ys → PartOf (filter f xs) ys
+part_filter f _ _ nothing = nothing
+part_filter f _ _ (also y {xs = xs} {ys = ys} p) = at (f y) (part_filter f xs ys p)
+  where
+    at : (b : Bool) → PartOf (filter f xs) ys → PartOf (cond b (y ∷ filter f xs) (filter f xs)) (y ∷ ys)
+    at true q = also y q
+    at false q = only y q
+part_filter f xs _ (only y {ys = ys} p) = only y (part_filter f xs ys p)
 
 -- ---- what is true of a state and all that was answered in it
 
@@ -90,6 +121,8 @@ pub record Sound (all : List Item) (g : Past) (s : Shard) : Type 0 where
   pub kept : Kept g (view_of s)
   -- of each transaction the past has all that it was answered, or it is lost
   pub told : (t : TxId) → Lost g t ⊎ (items_of t g.items ≡ items_of t all)
+  -- in the order in which all were answered
+  pub within : PartOf g.items all
   pub undecided : (t : TxId) (q : Request) → tx_get t s.requests ≡ Some q → q.state ≡ Undecided → Open s.shard s.local.log t q
   pub readers : (t : TxId) (q : Request) → tx_get t s.requests ≡ Some q → q.state ≡ Finished → tx_in t g.over ≡ true
   -- no home is asked by another; what votes and did not write is not committed
@@ -226,6 +259,7 @@ finished : (all : List Item) (g : Past) (s : Shard) (t : TxId) → Sound all g s
 finished all g s t h closed done = record {
   kept = keeps_finish g (view_of s) t h.kept closed done;
   told = h.told;
+  within = h.within;
   undecided = h.undecided;
   readers = λ u q e f. or_right (tx_same t u) _ (h.readers u q e f);
   apart = h.apart;
@@ -252,6 +286,7 @@ finished_again : (all : List Item) (g : Past) (s : Shard) (t : TxId) → Sound a
 finished_again all g s t h gone = record {
   kept = keeps_again g (view_of s) t h.kept gone;
   told = h.told;
+  within = h.within;
   undecided = h.undecided;
   readers = h.readers;
   apart = h.apart;
@@ -269,6 +304,7 @@ pub marked_sound : (all : List Item) (g : Past) (s : Shard) (t : TxId) → Sound
 marked_sound all g s t h = record {
   kept = keeps_marked g (view_of s) t h.kept;
   told = h.told;
+  within = h.within;
   undecided = h.undecided;
   readers = h.readers;
   apart = h.apart;
@@ -296,7 +332,7 @@ commit_next all g s tx None h e = nothing
 commit_next all g s tx (Some Active) h e = nothing
 commit_next all g s tx (Some Closed) h e =
     due_cond all g (commit_durable s.local.log s.durable tx) (Some (with_commit_done s tx)) None
-    (λ d. let f = finished all g s tx h e (inl d) in step (record g { over = tx ∷ g.over }, record { kept = f.kept; told = f.told; undecided = f.undecided; readers = f.readers; apart = f.apart; unvoted = f.unvoted; read = f.read; asked = f.asked; order = f.order; falls = f.falls; unfallen = f.unfallen }, refl, refl, refl, over_more g tx, refl, refl)) (λ d. nothing)
+    (λ d. let f = finished all g s tx h e (inl d) in step (record g { over = tx ∷ g.over }, record { kept = f.kept; told = f.told; within = f.within; undecided = f.undecided; readers = f.readers; apart = f.apart; unvoted = f.unvoted; read = f.read; asked = f.asked; order = f.order; falls = f.falls; unfallen = f.unfallen }, refl, refl, refl, over_more g tx, refl, refl)) (λ d. nothing)
 commit_next all g s tx (Some (Gone d)) h e = nothing
 
 some_vote : (a b : Vote) → Some a ≡ Some b → a ≡ b
@@ -307,6 +343,7 @@ voted_sound : (all : List Item) (g : Past) (s : Shard) (tx : TxId) (v : Voter) (
 voted_sound all g s tx v vote h e left = record {
   kept = h.kept;
   told = h.told;
+  within = h.within;
   undecided = h.undecided;
   readers = h.readers;
   apart = λ u w f. ⊎_elim (λ p. subst (λ z. tx_get z s.requests ≡ None) (sym p.0) (h.apart tx v e)) (λ p. h.apart u w p.1) (get_set tx u (voted vote v) w s.voters f);
@@ -361,14 +398,14 @@ give_next all g s tx v (Some Read) h e f = ⊎_elim again first (read_by s tx v 
     again r =
         let gone = h.read tx v e r in
         let x = voted_sound all g (finish_part tx s) tx v Read (finished_again all g s tx h gone) e (λ y. gone_stays tx tx s.local.parts gone) in
-        step (at_once all g (finish_part tx (with_vote s tx v Read)) (record { kept = x.kept; told = x.told; undecided = x.undecided; readers = x.readers; apart = x.apart; unvoted = x.unvoted; read = x.read; asked = x.asked; order = x.order; falls = x.falls; unfallen = x.unfallen }))
+        step (at_once all g (finish_part tx (with_vote s tx v Read)) (record { kept = x.kept; told = x.told; within = x.within; undecided = x.undecided; readers = x.readers; apart = x.apart; unvoted = x.unvoted; read = x.read; asked = x.asked; order = x.order; falls = x.falls; unfallen = x.unfallen }))
 
     first : ReadNow s tx → Next all g (Some (finish_reader tx Read (with_vote s tx v Read)))
     first r =
         let x = voted_sound all (record g { over = tx ∷ g.over }) (finish_part tx s) tx v Read
         (finished all g s tx h r.0 (inr (h.unvoted tx v e r.2, r.2, durable_before s tx r.1))) e
         (λ y. stage_own (tx ∷ []) None tx s.local.parts (or_left _ _ (tx_self tx)) ∙ ap (gone_by None) r.0) in
-        step (record g { over = tx ∷ g.over }, record { kept = x.kept; told = x.told; undecided = x.undecided; readers = x.readers; apart = x.apart; unvoted = x.unvoted; read = x.read; asked = x.asked; order = x.order; falls = x.falls; unfallen = x.unfallen }, refl, refl, refl, over_more g tx, refl, refl)
+        step (record g { over = tx ∷ g.over }, record { kept = x.kept; told = x.told; within = x.within; undecided = x.undecided; readers = x.readers; apart = x.apart; unvoted = x.unvoted; read = x.read; asked = x.asked; order = x.order; falls = x.falls; unfallen = x.unfallen }, refl, refl, refl, over_more g tx, refl, refl)
 
 vote_next : (all : List Item) (g : Past) (s : Shard) (tx : TxId) (o : Option Voter) → Sound all g s → tx_get tx s.voters ≡ o → Next all g (vote_due s tx o)
 vote_next all g s tx None h e = nothing
@@ -424,6 +461,7 @@ rolled all g s tx h open_ =
       record {
         kept = keeps_taken g (view_of s) (doomed_here s.local tx) tx h.kept go ((order_of s.shard s.local.log h.order.ordered.follows).writes).chain (upward_under (doomed_here s.local tx) s.local.pairs (committed_in s.local.log) (standing s.local.log) go.upward (λ u c. false_from_ne_true _ (λ i. both_ways _ (go.undecided u i) c)) h.order.lying.under);
         told = λ u. ⊎_elim (λ i. inl (in_first (doomed_here s.local tx) g.lost u i)) (λ i. ⊎_elim (λ l. inl (in_more (doomed_here s.local tx) g.lost u l)) (λ e. inr (own_kept (doomed_here s.local tx) u g.items i ∙ e)) (h.told u)) (cases_Bool (tx_in u (doomed_here s.local tx)));
+        within = part_filter (keeps_of (doomed_here s.local tx)) g.items all h.within;
         undecided = λ t q e u. ⊎_elim (λ c. inl (none_rolled s tx t c)) (λ c. inr c) (h.undecided t q e u);
         readers = h.readers;
         apart = h.apart;
@@ -467,6 +505,7 @@ refused_as : (all : List Item) (g : Past) (s : Shard) (tx : TxId) (q : Request) 
 refused_as all g s tx q c to h = record {
   kept = h.kept;
   told = h.told;
+  within = h.within;
   undecided = ruled_open s tx (record q { state = Refused c }) (refused_not c) s.local.log h.undecided;
   readers = ruled_reader g s tx (record q { state = Refused c }) (λ e. absurd (refused_unfinished c e)) h.readers;
   apart = λ t v e. set_none tx t (record q { state = Refused c }) s.requests (h.apart t v e);
@@ -526,6 +565,7 @@ update_committed all g s tx q parts h there closed open_ before un home wrote = 
   record {
     kept = commit_here all g s tx parts h closed open_ before;
     told = h.told;
+    within = h.within;
     undecided = λ u r e un. ⊎_elim
         (λ p. absurd (committed_not parts (ap (λ z. z.state) (sym p.1) ∙ un)))
         (λ p. ⊎_elim (λ c. inl (commit_other s.local.log tx u parts c (tx_ne u tx p.0))) (λ c. inr c) (h.undecided u r p.1 un))
@@ -554,6 +594,7 @@ reader_sound all g s tx q h closed done =
     record {
       kept = f.kept;
       told = f.told;
+      within = f.within;
       undecided = ruled_open s tx (record q { state = Finished }) finished_not s.local.log h.undecided;
       readers = ruled_reader (record g { over = tx ∷ g.over }) s tx (record q { state = Finished }) (λ e. or_left _ _ (tx_self tx)) f.readers;
       apart = λ t v e. set_none tx t (record q { state = Finished }) s.requests (h.apart t v e);
@@ -615,7 +656,7 @@ refuse_next all g s tx q None h open_ e = nothing
 refuse_next all g s tx q (Some c) h open_ e =
     let r = rolled all g (with_ruling tx q (AbortRuling c (open_shards s.shard q)) s) tx (refused_as all g s tx q c (open_shards s.shard q) h) (refusal_open all g s tx q c h open_ e) in
     let f = r.1 in
-    step (r.0, record { kept = f.kept; told = f.told; undecided = f.undecided; readers = f.readers; apart = f.apart; unvoted = f.unvoted; read = f.read; asked = f.asked; order = f.order; falls = f.falls; unfallen = f.unfallen }, r.2, r.3, r.4, r.5, r.6, r.7)
+    step (r.0, record { kept = f.kept; told = f.told; within = f.within; undecided = f.undecided; readers = f.readers; apart = f.apart; unvoted = f.unvoted; read = f.read; asked = f.asked; order = f.order; falls = f.falls; unfallen = f.unfallen }, r.2, r.3, r.4, r.5, r.6, r.7)
 
 -- the shard itself is no part of its commit
 none_of_two : (a b : Bool) → a ≡ false → b ≡ false → (a || b) ≡ false
@@ -668,6 +709,7 @@ end_sound : (all : List Item) (g : Past) (s : Shard) (tx : TxId) (q : Request) �
 end_sound all g s tx q h ne nf there p ps is open_ = record {
   kept = keeps_quiet g (view_of s) (End tx) h.kept (standing_append 0 s.local.log (End tx ∷ []) []) (quiet_end tx);
   told = h.told;
+  within = h.within;
   undecided = ruled_open s tx (record q { is_ended = true }) ne (s.local.log ++ End tx ∷ []) (λ u r e un. ⊎_elim (λ c. inl (uncommitted_append s.local.log (End tx ∷ []) u c refl)) (λ c. inr c) (h.undecided u r e un));
   readers = ruled_reader g s tx (record q { is_ended = true }) (λ e. absurd (nf e)) h.readers;
   apart = λ t v e. set_none tx t (record q { is_ended = true }) s.requests (h.apart t v e);
@@ -723,7 +765,7 @@ settle_sound all zero g s h = at_once all g s h
 settle_sound all (suc n) g s h = settle_step all g n s (next_due s) h (first_next all g s (known_txs s) h) (settle_sound all n)
 
 purged_sound : (all : List Item) (g : Past) (s : Shard) → Sound all g s → Sound all g (with_local purge s)
-purged_sound all g s h = record { kept = keeps_purge g (view_of s) h.kept; told = h.told; undecided = h.undecided; readers = h.readers; apart = h.apart; unvoted = h.unvoted; read = h.read; asked = h.asked; order = h.order; falls = h.falls; unfallen = h.unfallen }
+purged_sound all g s h = record { kept = keeps_purge g (view_of s) h.kept; told = h.told; within = h.within; undecided = h.undecided; readers = h.readers; apart = h.apart; unvoted = h.unvoted; read = h.read; asked = h.asked; order = h.order; falls = h.falls; unfallen = h.unfallen }
 
 -- at the end of an event
 pub finish_sound : (all : List Item) (g : Past) (s : Shard) → Sound all g s → After all g (finish s)

@@ -103,13 +103,13 @@ in_with as_ None u i = i
 in_with as_ (Some t) u i = in_first as_ (t ∷ []) u i
 
 -- what was found stays as it was
-record Stays (shard run : ℕ) (before : List LogRecord) (all : List Item) (asked : List TxId) (met : List (TxId × TxId)) : Type 0 where
-  may : MayServe shard run before
-  there : (u : TxId) → tx_in u (found_asked shard before) ≡ true → tx_in u asked ≡ true
-  items : (u : TxId) → tx_in u (found_asked shard before) ≡ true → items_of u all ≡ items_of u (found_items shard before)
-  pairs : (t p : TxId) → is_pair (found_met shard before) t p ≡ true → is_pair met t p ≡ true
+pub record Stays (shard run : ℕ) (before : List LogRecord) (all : List Item) (asked : List TxId) (met : List (TxId × TxId)) : Type 0 where
+  pub may : MayServe shard run before
+  pub there : (u : TxId) → tx_in u (found_asked shard before) ≡ true → tx_in u asked ≡ true
+  pub items : (u : TxId) → tx_in u (found_asked shard before) ≡ true → items_of u all ≡ items_of u (found_items shard before)
+  pub pairs : (t p : TxId) → is_pair (found_met shard before) t p ≡ true → is_pair met t p ≡ true
 
-found_stays : (shard run : ℕ) (before : List LogRecord) (all : List Item) (asked told : List TxId) (met : List (TxId × TxId)) (fell : List TxId) (s : Shard) → Leads shard run before all asked told met fell s → Stays shard run before all asked met
+pub found_stays : (shard run : ℕ) (before : List LogRecord) (all : List Item) (asked told : List TxId) (met : List (TxId × TxId)) (fell : List TxId) (s : Shard) → Leads shard run before all asked told met fell s → Stays shard run before all asked met
 found_stays shard run before _ _ _ _ _ _ (opens may) = record { may = may; there = λ u i. i; items = λ u i. refl; pairs = λ t p e. e }
 found_stays shard run before _ _ _ _ _ _ (happens {all} {asked} {told} {met} {fell} {s} e o t stamp walker leads may eq) =
     let k = found_stays shard run before all asked told met fell s leads in
@@ -155,7 +155,7 @@ module _ (shard run : ℕ) (before : List LogRecord) (may : MayServe shard run b
       ⊎_elim (λ s. subst (λ t. chosen t ≡ true) (sym s) k)
       (λ l. closed y.tx x.tx (pair_there before doubt y.tx x.tx l.2 l.0 (doubt_apart shard run before may x.tx l.1)) k) (reached shard run before may x y u reach)
 
-  picks_run : Runs start picks
+  pub picks_run : Runs start picks
   picks_run = kept_runs (λ z. chosen z.tx) (found_items shard before) start start start_rises start_rises (runs_start shard run before may) (later_mono _ _ keeps_chosen (found_items shard before) (under_start shard run before may)) (λ q. inl refl)
 
   picks_order : AllLater (λ x y. Clash x y → (x.tx ≡ y.tx) ⊎ (place firsts x.tx < place firsts y.tx)) picks
@@ -202,7 +202,7 @@ module _ (shard run : ℕ) (before : List LogRecord) (may : MayServe shard run b
   undone_unpicked : (t : TxId) → undone_in before t ≡ true → pick t ≡ false
   undone_unpicked t u = false_from_ne_true _ (λ e. both_ways _ ((found_self shard before (order shard run before may)).dead t u) (picked_wins t e))
 
-  firsts_map : after start picks ≡ map_found shard before chosen
+  pub firsts_map : after start picks ≡ map_found shard before chosen
   firsts_map =
       same_map (after start picks) (map_found shard before chosen) (rising_all picks start start_rises) (fold_rises pick before [] tt)
       (λ q. pile_value picks start base q picks_run (start_value shard run before may q)

@@ -29,7 +29,7 @@ use Rattle.clv_base.specs.OneShard.{inserted_locks}
 use Rattle.clv_base.specs.Restarts.{restored_locks, old_birth}
 use Rattle.clv_base.proofs.SameNames.{or_left, or_right, tx_self, in_insert}
 use Rattle.law_base.proofs.Lists.{all_mono}
-use Rattle.shard_laws.proofs.LockRows.{least, row_equal}
+use Rattle.law_base.proofs.LockRows.{least, row_equal}
 
 abbrev pub Writes_by : (TxId → Type 0) → TxId → Mode → Type 0
 Writes_by W tx m = (least X m.key ≡ true → W tx) × (least X m.gap ≡ true → W tx)

@@ -34,7 +34,7 @@ use Rattle.clv_base.specs.Events.{Does, happen, landed, with_entry, epoch_in}
 use Rattle.clv_base.specs.OneShard.{seen_fits}
 use Rattle.clv_base.specs.LogRules.{disorder, listed_in}
 use Rattle.clv_base.specs.Restarts.{greatest_run, restored_pairs, opened, log_left, revived, Restarts}
-use Rattle.law_base.specs.Items.{Item}
+use Rattle.law_base.specs.Items.{Item, Runs, after, AllLater, Clash}
 
 abbrev pub items_of : TxId → List Item → List Item
 items_of t all = filter (λ x. tx_same x.tx t) all
@@ -255,6 +255,17 @@ LaterReplay =
     → Leads shard run before all asked told met fell s → s.durable ≤ cut → MayChoose s cut asked told fell chosen → asked ≡ found_asked shard before ++ later
     → (replay_answers (map_found shard before chosen) (ops_by (filter chosen later) all) ≡ answers_by (filter chosen later) all)
     × (replay_map (map_found shard before chosen) (ops_by (filter chosen later) all) ≡ fold_updates chosen (take cut s.local.log) [])
+
+-- in the order in which they were done, each operation of the chosen ones after the opening gives its answer from that map with the earlier ones'
+-- writes, and all of them come to the map of the chosen ones' UPDATEs in the cut; and where two of them meet at a key that one writes, the earlier is
+-- of the same transaction or of one that asked earlier
+abbrev pub ChosenAct : Type 0
+ChosenAct =
+    (shard run : ℕ) (before : List LogRecord) (all : List Item) (asked told : List TxId) (met : List (TxId × TxId)) (fell : List TxId) (s : Shard) (cut : ℕ) (chosen : TxId → Bool) (done : List Item)
+    → Leads shard run before all asked told met fell s → s.durable ≤ cut → MayChoose s cut asked told fell chosen → all ≡ found_items shard before ++ done
+    → Runs (map_found shard before chosen) (filter (λ x. chosen x.tx) done)
+    × (after (map_found shard before chosen) (filter (λ x. chosen x.tx) done) ≡ fold_updates chosen (take cut s.local.log) [])
+    × AllLater (λ x y. Clash x y → (x.tx ≡ y.tx) ⊎ (place (filter chosen asked) x.tx < place (filter chosen asked) y.tx)) (filter (λ x. chosen x.tx) done)
 
 -- whose writes a chosen one violated is chosen, at an earlier place
 abbrev pub ChosenStandBefore : Type 0

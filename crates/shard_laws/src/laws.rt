@@ -1,6 +1,6 @@
 // Laws over all histories of one shard.
 
-ghost use Rattle.shard_laws.specs.OneShard.{AnswersAndMap, Recoverable, QuietIsSettled, ChosenReplay, LaterReplay, ChosenStandBefore, OrderIsKept};
+ghost use Rattle.shard_laws.specs.OneShard.{AnswersAndMap, Recoverable, QuietIsSettled, ChosenReplay, LaterReplay, ChosenAct, ChosenStandBefore, OrderIsKept};
 
 /// In each history of one shard the members of each cut of the log at or above what is durable replay, in the order of their requests, from
 /// the map that the log found stands for: to the answers that they were given, and to the map that the cut stands for.
@@ -28,6 +28,12 @@ pub fn chosen_replay()
 /// are chosen.
 pub fn later_replay()
     ensures { LaterReplay }
+{}
+
+/// In the order in which they were done, the chosen ones' operations after the opening give their answers and come to their map; and of two that meet at
+/// a key that one writes, the earlier is of the same transaction or of one that asked earlier.
+pub fn chosen_act()
+    ensures { ChosenAct }
 {}
 
 /// Whose writes a chosen one violated is chosen too, at an earlier place.

@@ -20,7 +20,7 @@ use Rattle.clv_base.specs.Journals.{up_to_restart}
 use Rattle.history_laws.proofs.Stepping.{Happens, finishes, stops, settled}
 use Rattle.history_laws.proofs.Entering.{Makes, by_event, by_flush, by_failure, by_restart}
 use Rattle.history_laws.proofs.Durability.{Counted, restarts_front}
-use Rattle.protocol_laws.proofs.Doubts.{doubts_more}
+use Rattle.law_base.proofs.Doubts.{doubts_more}
 use Rattle.history_laws.proofs.Serials.{committed_front}
 use Rattle.history_laws.proofs.Uncommitting.{restarts_add as restarts_commits}
 use Rattle.shard_laws.proofs.Rebuilding.{Plain, plain_restart}

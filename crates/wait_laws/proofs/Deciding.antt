@@ -18,7 +18,7 @@ use Rattle.clv_base.specs.Modes.{compatible}
 use Rattle.clv_base.specs.Locks.{Locks, meets, conflicting_holders, older_of, oldest_by, wait_by, die_by, decide}
 use Rattle.clv_base.proofs.SameNames.{tx_true, nat_cmp_true}
 use Rattle.law_base.proofs.Anchors.{cmp_less}
-use Rattle.shard_laws.proofs.LockRows.{Rows}
+use Rattle.law_base.proofs.LockRows.{Rows}
 
 -- ---- births
 

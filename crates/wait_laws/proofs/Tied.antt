@@ -40,8 +40,8 @@ use Rattle.clv_base.proofs.SameNames.{tx_true, tx_self}
 use Rattle.law_base.proofs.Changed.{some_same, none_some}
 use Rattle.law_base.proofs.Lists.{all_mono}
 use Rattle.law_base.proofs.Tables.{stage_by, get_changed, get_put, is_pair, in_pair, without_pairs}
-use Rattle.shard_laws.proofs.LockRows.{Rows, rows_take, rows_all, rows_split, rows_close, rows_release, violated_row}
-use Rattle.shard_laws.proofs.Leaving.{get_other}
+use Rattle.law_base.proofs.LockRows.{Rows, rows_take, rows_all, rows_split, rows_close, rows_release, violated_row}
+use Rattle.law_base.proofs.Stages.{get_other}
 use Rattle.shard_laws.proofs.Performing.{add_which}
 use Rattle.shard_laws.proofs.Restoring.{restored_there}
 use Rattle.history_laws.proofs.Stepping.{commits, votes, rules, KeptByDue, settled, with_work, Step, op_dies, op_answers, request_refused, request_doomed, request_again, request_new, request_closes, looks_well, looks_ill, drops, sends, prepare_closes, prepare_again, vote_counts, decision_comes, decision_again, done_counts, asked, reminds, flushes, Happens, finishes, stops}

@@ -38,7 +38,7 @@ use Rattle.law_base.proofs.Changed.{some_same, none_some}
 use Rattle.law_base.proofs.Tables.{stage_by, in_pair}
 use Rattle.protocol_laws.specs.SessionLaws.{tx_of, works_on, ended_by}
 use Rattle.protocol_laws.proofs.InOrder.{sessions_keep_order}
-use Rattle.shard_laws.proofs.LockRows.{violated_row}
+use Rattle.law_base.proofs.LockRows.{violated_row}
 use Rattle.history_laws.proofs.Merging.{Placed, Before, before_then, not_before_itself, Among, among_is, is_among, in_own, among_right, Precedes, front_precedes}
 use Rattle.history_laws.proofs.Walkers.{of_session, nothing_follows}
 use Rattle.history_laws.proofs.Telling.{IsRequest}

@@ -1,0 +1,5 @@
+use Rattle.shard_laws.proofs.Acting.{chosen_act}
+use Rattle.shard_laws.proofs.laws.chosen_act.Goals as goal
+
+pub returns : goal.returns
+returns c = chosen_act
