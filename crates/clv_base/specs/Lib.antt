@@ -25,3 +25,4 @@ pub mod Sessions
 pub mod History
 pub mod Runs
 pub mod Invariants
+pub mod Machines

@@ -12,5 +12,7 @@ pub mod modes;
 pub mod names;
 pub mod ops;
 pub mod parts;
+mod shard_lists;
 pub mod splits;
 pub mod state;
+mod votes;

@@ -1,6 +1,6 @@
 // Lists inside other types, which contracts see as lists.
 
-ghost use Rattle.std.specs.Prelude.{◌≡◌, ℕ, List};
+ghost use Rattle.std.specs.Prelude.{◌≡◌, ℕ, List, length};
 ghost use Rattle.clv_base.specs.declared.names.TxId.{TxId};
 ghost use Rattle.clv_base.specs.declared.causes.Vote.{Vote};
 ghost use Rattle.clv_base.specs.Arrays.{present_from};
@@ -103,11 +103,13 @@ impl Touched {
 /// Votes by shard, each at its place.
 #[derive(Clone, Drop, Debug)]
 pub struct Votes {
-    given: [Option<Vote>; 16],
+    pub(crate) given: [Option<Vote>; 16],
 }
 
 impl Model for Votes {
     ghost Value = { List (ℕ × Vote) };
 
     ghost view = { λ v. present_from 0 v.given };
+
+    ghost invariant = { λ v. length v.given ≡ 16 };
 }

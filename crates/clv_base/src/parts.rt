@@ -32,8 +32,8 @@ pub struct PartFacts {
 /// The shards of a commit.
 #[derive(Clone, Drop, Debug)]
 pub struct ShardList {
-    shards: [u32; 15],
-    count: usize,
+    pub(crate) shards: [u32; 15],
+    pub(crate) count: usize,
 }
 
 impl Model for ShardList {
