@@ -2,7 +2,8 @@
 ghost use Rattle.std.specs.Prelude.{◌≡◌, ℕ, length, None, slice_index, slice_index_or, false, Bool};
 
 use crate::{Failed, FileDisk, House};
-use std::fs::{File, OpenOptions};
+use std::fs::{File, OpenFile, OpenOptions};
+use std::io;
 use std::rt::Files;
 
 const NAMES: [&str; 16] = [
@@ -25,7 +26,7 @@ const NAMES: [&str; 16] = [
 ];
 
 /// The files `shard-00.log` to `shard-15.log` of the working folder. A file is opened only when its shard's disk is
-/// asked for, and is made empty where it is absent.
+/// asked for, and is made empty where it is absent; the folder is synced then, so that the file is there after a power cut.
 #[derive(Drop)]
 pub struct FileHouse<R: Files<File = File> + Drop> {
     rt: R,
@@ -47,6 +48,21 @@ impl<R: Files<File = File> + Drop> FileHouse<R> {
     }
 }
 
+impl<R: Files<File = File> + Drop> FileHouse<R> {
+    // A file without bytes may be a new one: its name is durable only after the folder was synced.
+    fn open_file(&self, name: &str) -> io::Result<File> {
+        let file = OpenOptions::new()
+            .read(true)
+            .write(true)
+            .create(true)
+            .open(&self.rt, name)?;
+        if file.metadata()?.len() == 0 {
+            File::open(&self.rt, ".")?.sync_all()?;
+        }
+        Ok(file)
+    }
+}
+
 impl<R: Files<File = File> + Drop> House for FileHouse<R> {
     type Disk = FileDisk;
 
@@ -58,12 +74,7 @@ impl<R: Files<File = File> + Drop> House for FileHouse<R> {
 
     fn open_disk(&mut self, shard: u32) -> Result<FileDisk, Failed> {
         let shard = shard as usize;
-        let opened = OpenOptions::new()
-            .read(true)
-            .write(true)
-            .create(true)
-            .open(&self.rt, NAMES[shard]);
-        match opened {
+        match self.open_file(NAMES[shard]) {
             Ok(file) => {
                 self.out[shard] = true;
                 Ok(FileDisk::new(file))

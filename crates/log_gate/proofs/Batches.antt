@@ -3,7 +3,7 @@ use Rattle.std.proofs.Common.{◌≡◌, inl, inr, ℕ, ◌+◌, ◌-◌, ◌≤
 use Rattle.clv_base.specs.declared.logs.LogRecord.{LogRecord}
 use Rattle.clv_base.specs.Logs.{record_size}
 use Rattle.log_records.specs.Spelling.{spelling, BeginsWith}
-use Rattle.log_records.proofs.Spellings.{length-spelling}
+use Rattle.log_records.proofs.Laws.Spellings.{length-spelling}
 use Rattle.log_gate.specs.declared.error.ParseError.{ParseError}
 use Rattle.log_gate.specs.declared.error.ParseError.TheVariants.{NotLog, Memory}
 use Rattle.log_gate.specs.Opening.{TakesRecord, AddsRecords}

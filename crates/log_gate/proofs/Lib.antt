@@ -14,3 +14,4 @@ pub mod SplitLoop
 pub mod Batches
 pub mod Unchanged
 pub mod ManyLogs
+pub mod Laws

@@ -6,7 +6,7 @@ use Rattle.byteorder.specs.Endian.{little_bytes, little_number}
 use Rattle.byteorder.specs.Numbers.{length-bytes_low_first}
 use Rattle.log_records.specs.Reading.{number_at}
 use Rattle.log_records.specs.Spelling.{number}
-use Rattle.log_records.proofs.Fields.{number_takes}
+use Rattle.log_records.proofs.Laws.Fields.{number_takes}
 use Rattle.log_gate.proofs.Parsing.{IsBytes}
 
 pub bytes_drop : (n : ℕ) (bytes : List ℕ) → IsBytes bytes → IsBytes (drop n bytes)

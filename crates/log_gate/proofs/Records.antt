@@ -6,7 +6,7 @@ use Rattle.clv_base.specs.declared.logs.LogRecord.{LogRecord}
 use Rattle.clv_base.specs.FileRules.{has_spelling}
 use Rattle.log_records.specs.Spelling.{spelling, BeginsWith}
 use Rattle.log_records.specs.Reading.{record_at}
-use Rattle.log_records.proofs.Spellings.{begins_read}
+use Rattle.log_records.proofs.Laws.Spellings.{begins_read}
 use Rattle.log_gate.specs.Image.{SpellAll, with_record, records_at, record_then, records_in}
 
 -- each record passes

@@ -61,7 +61,7 @@ fn header_and_gate(alloc: Global, header: &Header) -> Result<Vec<u8>, AllocError
 }
 
 /// Writes a header and a closed gate to an empty disk, and syncs it. `Exists` comes where it isn't empty; then nothing
-/// is written.
+/// is written. Nor is anything written to a disk with bytes where a call fails.
 pub fn make<D: Disk>(alloc: Global, disk: &mut D, header: &Header) -> Result<(), MakeError>
     ensures told { Tells (D.story disk.old) (D.story disk.new) (Makes (header_bytes header.now.shard header.now.splits) result) }
     ensures cause { CountsMaking (D.faults disk.old) (D.faults disk.new) result }

@@ -1,5 +1,4 @@
-pub mod Fields
+pub mod Laws
 pub mod Loops
 pub mod Records
-pub mod Spellings
 pub mod UnknownKinds

@@ -7,18 +7,18 @@
 
 mod bounds;
 mod error;
-mod laws;
 mod lists;
 mod numbers;
 mod reading;
+mod spelling;
 mod writing;
 
 pub use bounds::{has_spelling, record_size};
 pub use error::{DecodeError, Memory};
-pub use laws::{
+pub use reading::decode;
+pub use spelling::{
     at_most_one_record, at_most_one_spelling, length_is_size, no_spelling_begins_another,
 };
-pub use reading::decode;
 pub use writing::encode;
 
 #[cfg(test)]

@@ -2,7 +2,7 @@ use Rattle.std.proofs.Common.{◌≡◌, ℕ, List, Some, sym, ap, subst, ◌∙
 use Rattle.std.proofs.lemmas.Result.{err_from_is_err_and}
 use Rattle.log_records.specs.declared.error.DecodeError.TheVariants.{Bad}
 use Rattle.log_records.specs.Spelling.{BeginsWith}
-use Rattle.log_records.proofs.Spellings.{read_begins, is_behind, only_memory, none_spelled, one_beginning}
+use Rattle.log_records.proofs.Laws.Spellings.{read_begins, is_behind, only_memory, none_spelled, one_beginning}
 use Rattle.log_records.proofs.reading.decode.Goals as goal
 
 pub returns-in_err-record-clause-bad : goal.returns-in_err-record-clause-bad

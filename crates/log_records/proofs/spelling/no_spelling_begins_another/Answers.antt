@@ -1,6 +1,6 @@
 use Rattle.std.proofs.Common.{◌∙◌, ◌++◌, ap, ℕ, List}
-use Rattle.log_records.proofs.Spellings.{one_beginning}
-use Rattle.log_records.proofs.laws.no_spelling_begins_another.Goals as goal
+use Rattle.log_records.proofs.Laws.Spellings.{one_beginning}
+use Rattle.log_records.proofs.spelling.no_spelling_begins_another.Goals as goal
 
 pub returns : goal.returns
 returns c = λ r s some others behind after a b e. one_beginning r s behind after (some ++ behind) (record { in_bounds = a.in_bounds; is = ap (λ (l : List ℕ). l ++ behind) a.is }) (record { in_bounds = b.in_bounds; is = e ∙ ap (λ (l : List ℕ). l ++ after) b.is })

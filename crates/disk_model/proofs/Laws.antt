@@ -1,0 +1,3 @@
+-- Lemmas that this crate offers to the proofs of the crates above it.
+pub mod Moments
+pub mod Told

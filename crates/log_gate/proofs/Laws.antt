@@ -1,0 +1,3 @@
+-- Lemmas that this crate offers to the proofs of the crates above it.
+pub use Rattle.log_gate.proofs.ManyLogs.{only_from}
+pub use Rattle.log_gate.proofs.Records.{all_pass}
