@@ -7,8 +7,8 @@ use Rattle.clv_base.specs.Orders.{tx_same}
 use Rattle.clv_base.specs.Logs.{StandingUpdate, newest_at}
 use Rattle.clv_base.specs.LogRules.{has_above, writes_below}
 use Rattle.clv_base.proofs.SameNames.{tx_true}
-use Rattle.log_order.proofs.Covered.{Falls}
-use Rattle.log_facts.proofs.Bools.{both, and_first, and_second, all_same, all_weaker, all_filter, all_both, all_true}
+use Rattle.log_facts.proofs.Laws.Pushes.{Falls}
+use Rattle.log_facts.proofs.Laws.Bools.{both, and_first, and_second, all_same, all_weaker, all_filter, all_both, all_true}
 
 -- of these writes, those of others at the key pass
 abbrev pub others_pass : (TxId → Bool) → ℕ → TxId → List StandingUpdate → Bool

@@ -9,8 +9,8 @@ use Rattle.clv_base.specs.Orders.{tx_same, tx_in, tx_insert}
 use Rattle.clv_base.specs.Logs.{StandingUpdate, is_prepare_of, committed_in, prepared_in, aborted_in, prepare_of, standing, newest_of, doubt_by, in_doubt_from, in_doubt, is_winner}
 use Rattle.clv_base.specs.LogRules.{listed_in}
 use Rattle.clv_base.proofs.SameNames.{tx_true, tx_self, in_insert, insert_keeps, insert_has}
-use Rattle.log_facts.proofs.Bools.{both, and_first, and_second, and_both, not_true, same_truth}
-use Rattle.log_order.proofs.Pushes.{any_push}
+use Rattle.log_facts.proofs.Laws.Bools.{both, and_first, and_second, and_both, not_true, same_truth}
+use Rattle.log_facts.proofs.Laws.Pushes.{any_push}
 use Rattle.log_disorder.specs.Rules.{is_empty}
 use Rattle.log_disorder.proofs.Laws.{EachPrepare, ListsEarlier, Sound, no_prepare}
 

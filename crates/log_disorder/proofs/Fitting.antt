@@ -8,9 +8,9 @@ use Rattle.clv_base.specs.Orders.{tx_same, tx_in}
 use Rattle.clv_base.specs.Logs.{StandingUpdate, is_update_of, is_prepare_of, is_commit_of, wrote_in, committed_in, prepared_in, aborted_in, ended_in, prepare_of, commit_parts, standing, newest_at, newest_of, without_newest, value_in}
 use Rattle.clv_base.specs.LogRules.{same_option, some_parts, last_restart, above_restarts, before_restart, since_restart, in_last_run, may_cover, may_follow, writes_below, listed_in, commit_by_prepare, compensates}
 use Rattle.log_facts.specs.Lists.{home_at, listed_at, parts_at}
-use Rattle.log_facts.proofs.Bools.{both, all_same}
-use Rattle.log_facts.proofs.Places.{is_some_place, home_in, home_is, listed_is, parts_is}
-use Rattle.log_order.proofs.Pushes.{or_false}
+use Rattle.log_facts.proofs.Laws.Bools.{both, all_same}
+use Rattle.log_facts.proofs.Laws.Places.{is_some_place, home_in, home_is, listed_is, parts_is}
+use Rattle.log_facts.proofs.Laws.Pushes.{or_false}
 use Rattle.log_disorder.specs.declared.index.Index.{Index}
 use Rattle.log_disorder.specs.Writes.{Write, write_at, top_at, newest_by}
 use Rattle.log_disorder.specs.Rules.{is_last_run, is_before, is_since, value_of, facts_in, has_commit, has_no_fate, may_be_covered, may_be_listed, all_clear, home_allows, is_at, compensates_write, restart_fits, update_fits, prepare_fits, commit_fits, abort_fits, clr_fits, end_fits, fits}

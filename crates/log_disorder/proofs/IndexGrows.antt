@@ -11,9 +11,9 @@ use Rattle.clv_base.specs.Logs.{StandingUpdate, is_commit_of, is_abort_of, commi
 use Rattle.clv_base.specs.LogRules.{last_restart, above_restarts, before_restart, since_restart, listed_in, may_follow, compensates}
 use Rattle.clv_base.proofs.SameNames.{tx_true, tx_self, tx_flip}
 use Rattle.log_facts.specs.Facts.{Knows}
-use Rattle.log_facts.proofs.Names.{tx_symmetric}
-use Rattle.log_facts.proofs.Bools.{both, and_first, and_second, not_true}
-use Rattle.log_order.proofs.Pushes.{or_false, and_true, any_push, last_restart_push, last_restart_other, above_push, standing_push}
+use Rattle.log_facts.proofs.Laws.Names.{tx_symmetric}
+use Rattle.log_facts.proofs.Laws.Bools.{both, and_first, and_second, not_true}
+use Rattle.log_facts.proofs.Laws.Pushes.{or_false, and_true, any_push, last_restart_push, last_restart_other, above_push, standing_push}
 use Rattle.log_disorder.specs.declared.index.Index.{Index}
 use Rattle.log_disorder.specs.Writes.{Write, write_at, top_at, newest_by, Pushes, Pops}
 use Rattle.log_disorder.specs.Listers.{Descends, last_of, listers_from, listers_in}

@@ -10,10 +10,10 @@ use Rattle.clv_base.specs.Orders.{tx_same}
 use Rattle.clv_base.specs.Logs.{StandingUpdate, is_update_of, is_commit_of, is_prepare_of, is_abort_of, wrote_in, committed_in, prepared_in, aborted_in, prepare_of, standing, standing_after, newest_of, without_newest}
 use Rattle.clv_base.specs.LogRules.{since_restart, may_follow}
 use Rattle.clv_base.proofs.SameNames.{tx_true, tx_self}
-use Rattle.log_facts.proofs.Names.{tx_symmetric}
-use Rattle.log_facts.proofs.Bools.{both, and_first, and_second, and_both, all_weaker}
-use Rattle.log_order.proofs.Covered.{Falls}
-use Rattle.log_order.proofs.Pushes.{or_false, any_push, standing_push}
+use Rattle.log_facts.proofs.Laws.Names.{tx_symmetric}
+use Rattle.log_facts.proofs.Laws.Bools.{both, and_first, and_second, and_both, all_weaker}
+use Rattle.log_facts.proofs.Laws.Pushes.{Falls}
+use Rattle.log_facts.proofs.Laws.Pushes.{or_false, any_push, standing_push}
 use Rattle.log_disorder.proofs.Below.{Sinks, each_passes, below_is, others_pass}
 use Rattle.log_disorder.proofs.RuleParts.{update_rule, prepare_rule, commit_rule, abort_rule, clr_rule}
 use Rattle.log_disorder.proofs.Links.{falls_weaker, falls_without, of_other}

@@ -5,10 +5,10 @@ use Rattle.clv_base.specs.declared.names.TxId.{TxId}
 use Rattle.clv_base.specs.Orders.{tx_same}
 use Rattle.clv_base.specs.Logs.{StandingUpdate, newest_at, newest_of, without_newest}
 use Rattle.clv_base.proofs.SameNames.{tx_true}
-use Rattle.log_facts.proofs.Names.{tx_symmetric}
-use Rattle.log_order.proofs.Covered.{Falls}
+use Rattle.log_facts.proofs.Laws.Names.{tx_symmetric}
+use Rattle.log_facts.proofs.Laws.Pushes.{Falls}
 use Rattle.log_disorder.specs.Writes.{Write, Writes, write_at, top_at, newest_by, foreign_below, covers_foreign, linked}
-use Rattle.log_facts.proofs.Bools.{both}
+use Rattle.log_facts.proofs.Laws.Bools.{both}
 use Rattle.log_disorder.proofs.Below.{is_others}
 
 -- the newest one at the key that isn't the transaction's

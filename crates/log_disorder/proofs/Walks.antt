@@ -7,9 +7,9 @@ use Rattle.clv_base.specs.Orders.{tx_same, tx_in}
 use Rattle.clv_base.specs.Logs.{StandingUpdate, committed_in, newest_at, newest_of}
 use Rattle.clv_base.specs.LogRules.{writes_below}
 use Rattle.clv_base.proofs.SameNames.{tx_true, tx_self}
-use Rattle.log_facts.proofs.Names.{tx_symmetric}
-use Rattle.log_facts.proofs.Bools.{both, all_same}
-use Rattle.log_order.proofs.Covered.{Falls}
+use Rattle.log_facts.proofs.Laws.Names.{tx_symmetric}
+use Rattle.log_facts.proofs.Laws.Bools.{both, all_same}
+use Rattle.log_facts.proofs.Laws.Pushes.{Falls}
 use Rattle.log_disorder.specs.declared.index.Index.{Index}
 use Rattle.log_disorder.specs.Writes.{newest_by}
 use Rattle.log_disorder.specs.Rules.{has_commit, is_own_or_one_of, is_clear, is_clear_under, all_clear_from, all_clear}

@@ -7,6 +7,7 @@ use Rattle.clv_base.specs.Orders.{tx_same}
 use Rattle.clv_base.specs.Logs.{StandingUpdate, newest_at}
 use Rattle.clv_base.specs.LogRules.{has_above, writes_below}
 use Rattle.log_order.proofs.Names.{tx_true, tx_eq}
+use Rattle.log_facts.proofs.Laws.Pushes.{Falls}
 
 pub and_first : (a b : Bool) → a && b ≡ true → a ≡ true
 and_first true b e = refl
@@ -23,11 +24,6 @@ not_true false e = refl
 and_false : (a : Bool) → a && false ≡ false
 and_false true = refl
 and_false false = refl
-
--- the places fall from the newest on, all below n
-abbrev pub Falls : ℕ → List StandingUpdate → Type 0
-Falls n [] = Unit {0}
-Falls n (w ∷ ws) = (w.lsn < n) × Falls w.lsn ws
 
 -- what stands at this key is of this transaction, or passes
 abbrev pub passes_below : (TxId → Bool) → ℕ → TxId → List StandingUpdate → Type 0

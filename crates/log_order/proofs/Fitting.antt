@@ -16,7 +16,7 @@ use Rattle.log_order.proofs.Names.{tx_true, tx_self}
 use Rattle.log_order.proofs.Covered.{and_first, and_second, not_true, below_pass}
 use Rattle.log_order.proofs.OnlyWrites.{none_prepared, none_aborted, no_prepare, no_doubt, any_writer}
 use Rattle.log_order.proofs.IndexOf.{IsIndexOf, top_of}
-use Rattle.log_order.proofs.Pushes.{or_false, and_true}
+use Rattle.log_facts.proofs.Laws.Pushes.{or_false, and_true}
 
 -- ---- RESTART
 

@@ -14,8 +14,8 @@ use Rattle.log_order.specs.Tables.{facts_in, top_in, has_member}
 use Rattle.log_order.specs.Rules.{is_above, is_before, covers, first_at, AddsRestart, AddsUpdate, AddsCommit}
 use Rattle.log_order.specs.Writes.{is_write}
 use Rattle.log_order.proofs.Names.{tx_true, tx_self, tx_symmetric}
-use Rattle.log_order.proofs.Covered.{and_first, and_second, Falls, Settled, covers_all, settled_more}
-use Rattle.log_order.proofs.Pushes.{or_false, and_true, any_push, all_push, last_restart_push, last_restart_other, above_push, before_restart_push, before_restart_other, standing_push}
+use Rattle.log_order.proofs.Covered.{and_first, and_second, Settled, covers_all, settled_more}
+use Rattle.log_facts.proofs.Laws.Pushes.{Falls, or_false, and_true, any_push, all_push, last_restart_push, last_restart_other, above_push, before_restart_push, before_restart_other, standing_push}
 
 -- what an UPDATE leaves at its key
 abbrev pub top_of : Option StandingUpdate → Option Top

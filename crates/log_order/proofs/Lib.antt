@@ -4,5 +4,4 @@ pub mod IndexOf
 pub mod Names
 pub mod OnlyWrites
 pub mod Outside
-pub mod Pushes
 pub mod Walking

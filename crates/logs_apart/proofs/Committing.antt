@@ -6,9 +6,9 @@ use Rattle.clv_base.specs.declared.logs.LogRecord.TheVariants.{Update, Clr, Prep
 use Rattle.clv_base.specs.Orders.{tx_same, tx_in, tx_insert, tx_union}
 use Rattle.clv_base.specs.Logs.{is_commit_of, committed_in, committed_somewhere}
 use Rattle.clv_base.specs.LogRules.{committed_of, committed_of_all}
-use Rattle.log_facts.proofs.Members.{in_inserted}
-use Rattle.log_facts.proofs.Names.{tx_symmetric}
-use Rattle.log_facts.proofs.Rising.{Rises, insert_rises, nothing_rises, same_list}
+use Rattle.log_facts.proofs.Laws.Members.{in_inserted}
+use Rattle.log_facts.proofs.Laws.Names.{tx_symmetric}
+use Rattle.log_facts.proofs.Laws.Rising.{Rises, insert_rises, nothing_rises, same_list}
 use Rattle.logs_apart.specs.Committed.{with_commit, with_commits, with_all_commits}
 
 or_false : (a : Bool) → a || false ≡ a

@@ -7,8 +7,8 @@ use Rattle.clv_base.specs.LogRules.{home_is, agrees_at, is_home_of}
 use Rattle.log_facts.specs.declared.facts.TxFacts.{TxFacts}
 use Rattle.log_facts.specs.Facts.{facts_of}
 use Rattle.log_facts.specs.Lists.{home_at}
-use Rattle.log_facts.proofs.Places.{home_in}
-use Rattle.log_facts.proofs.Whole.{commit_some, home_there}
+use Rattle.log_facts.proofs.Laws.Places.{home_in}
+use Rattle.log_facts.proofs.Laws.Whole.{commit_some, home_there}
 
 home_by : (logs : List (List LogRecord)) (tx : TxId) (h : ℕ) (log : List LogRecord) (o : Option (List ℕ))
     → is_some o && agrees_at logs tx h log (unwrap_or o []) ≡ elim o [ Some parts ↦ agrees_at logs tx h log parts | None ↦ false ]

@@ -7,11 +7,11 @@ use Rattle.clv_base.specs.declared.logs.LogRecord.TheVariants.{Update, Clr, Prep
 use Rattle.clv_base.specs.Orders.{tx_same, tx_in, tx_insert}
 use Rattle.clv_base.specs.Logs.{StandingUpdate, is_update_of, wrote_in, without_newest, standing_after, standing_from, standing, writers}
 use Rattle.clv_base.proofs.SameNames.{tx_true}
-use Rattle.log_facts.proofs.Bools.{both}
-use Rattle.log_facts.proofs.Members.{in_inserted}
-use Rattle.log_facts.proofs.Names.{tx_symmetric}
-use Rattle.log_facts.proofs.Rising.{Rises, insert_rises, nothing_rises, same_list}
-use Rattle.log_order.proofs.Pushes.{or_false, standing_push}
+use Rattle.log_facts.proofs.Laws.Bools.{both}
+use Rattle.log_facts.proofs.Laws.Members.{in_inserted}
+use Rattle.log_facts.proofs.Laws.Names.{tx_symmetric}
+use Rattle.log_facts.proofs.Laws.Rising.{Rises, insert_rises, nothing_rises, same_list}
+use Rattle.log_facts.proofs.Laws.Pushes.{or_false, standing_push}
 use Rattle.restart_analysis.specs.Standing.{number_of, count_after, with_writer, writers_by}
 
 -- ---- the numbers after one more record

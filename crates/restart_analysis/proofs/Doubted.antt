@@ -11,9 +11,9 @@ use Rattle.clv_base.specs.Restarts.{losers, home_by, homes_of, pairs_of_listed, 
 use Rattle.log_facts.specs.declared.facts.TxFacts.{TxFacts}
 use Rattle.log_facts.specs.Facts.{known, Knows}
 use Rattle.log_facts.specs.Lists.{home_at, listed_at}
-use Rattle.log_facts.proofs.Bools.{all_same}
-use Rattle.log_facts.proofs.Whole.{commit_there, home_there, listed_there}
-use Rattle.log_facts.proofs.Places as places
+use Rattle.log_facts.proofs.Laws.Bools.{all_same}
+use Rattle.log_facts.proofs.Laws.Whole.{commit_there, home_there, listed_there}
+use Rattle.log_facts.proofs.Laws.Places as places
 use Rattle.restart_analysis.specs.Doubt.{has_commit, settles, is_doubted, doubted_from, home_in, pairs_by, pairs_from}
 
 pub filter_same : (f g : TxId → Bool) → ((t : TxId) → f t ≡ g t) → (txs : List TxId) → filter f txs ≡ filter g txs

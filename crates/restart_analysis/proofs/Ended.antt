@@ -9,7 +9,7 @@ use Rattle.clv_base.specs.LogRules.{some_parts}
 use Rattle.clv_base.specs.Restarts.{unended_with, unended_in}
 use Rattle.log_facts.specs.declared.facts.TxFacts.{TxFacts}
 use Rattle.log_facts.specs.Facts.{known, Knows}
-use Rattle.log_facts.proofs.Bools.{both}
+use Rattle.log_facts.proofs.Laws.Bools.{both}
 use Rattle.restart_analysis.specs.Unended.{commits_by}
 
 module _ (m : Table TxFacts) (log : List LogRecord) (knows : Knows m log) where

@@ -1,5 +1,5 @@
 use Rattle.std.proofs.lemmas.Result.{on_ok_weaker}
-use Rattle.log_facts.proofs.Growing.{knows_push}
+use Rattle.log_facts.proofs.Laws.Growing.{knows_push}
 use Rattle.log_facts.proofs.table.LogFacts.add.Goals as goal
 
 pub returns-clause-added : goal.returns-clause-added

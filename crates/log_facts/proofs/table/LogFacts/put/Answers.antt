@@ -2,7 +2,7 @@ use Rattle.std.proofs.Common.{◌≡◌, ◌∙◌, Some, rules}
 use Rattle.std.proofs.lemmas.Result.{on_ok_weaker}
 use Rattle.clv_base.specs.Logs.{own_tx}
 use Rattle.log_facts.specs.Facts.{known, facts_with}
-use Rattle.log_facts.proofs.Names.{at_owner}
+use Rattle.log_facts.proofs.Laws.Names.{at_owner}
 use Rattle.log_facts.proofs.table.LogFacts.put.Goals as goal
 
 pub returns-in-Some-clause-set : goal.returns-in-Some-clause-set

@@ -1,5 +1,5 @@
 use Rattle.std.proofs.Common.{is_some, ap, ◌∙◌}
-use Rattle.log_facts.proofs.Whole.{commit_there}
+use Rattle.log_facts.proofs.Laws.Whole.{commit_there}
 use Rattle.logs_apart.proofs.indexed.IndexedLog.is_committed.Goals as goal
 
 pub returns : goal.returns

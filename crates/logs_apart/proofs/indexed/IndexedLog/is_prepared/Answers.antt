@@ -1,5 +1,5 @@
 use Rattle.std.proofs.Common.{is_some, ap, ◌∙◌}
-use Rattle.log_facts.proofs.Whole.{prepare_there}
+use Rattle.log_facts.proofs.Laws.Whole.{prepare_there}
 use Rattle.logs_apart.proofs.indexed.IndexedLog.is_prepared.Goals as goal
 
 pub returns : goal.returns

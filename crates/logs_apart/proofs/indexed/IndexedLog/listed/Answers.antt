@@ -1,7 +1,7 @@
 use Rattle.std.proofs.Common.{ap, ◌∙◌}
 use Rattle.clv_base.specs.Logs.{prepare_lsn}
 use Rattle.log_facts.specs.Lists.{listed_at}
-use Rattle.log_facts.proofs.Whole.{listed_there}
+use Rattle.log_facts.proofs.Laws.Whole.{listed_there}
 use Rattle.logs_apart.proofs.indexed.IndexedLog.listed.Goals as goal
 
 pub returns : goal.returns

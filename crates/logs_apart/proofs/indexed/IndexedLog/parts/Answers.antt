@@ -1,7 +1,7 @@
 use Rattle.std.proofs.Common.{ap, ◌∙◌}
 use Rattle.clv_base.specs.Logs.{commit_lsn}
 use Rattle.log_facts.specs.Lists.{parts_at}
-use Rattle.log_facts.proofs.Whole.{parts_there}
+use Rattle.log_facts.proofs.Laws.Whole.{parts_there}
 use Rattle.logs_apart.proofs.indexed.IndexedLog.parts.Goals as goal
 
 pub returns : goal.returns

@@ -11,7 +11,7 @@ use Rattle.clv_base.specs.declared.logs.LogRecord.TheVariants.{Prepare, Commit}
 use Rattle.clv_base.specs.Orders.{tx_same}
 use Rattle.clv_base.specs.Logs.{is_prepare_of, is_commit_of, place_from, prepare_of, prepare_lsn, commit_parts, commit_lsn}
 use Rattle.clv_base.specs.LogRules.{listed_in}
-use Rattle.log_facts.proofs.Bools.{both}
+use Rattle.log_facts.proofs.Laws.Bools.{both}
 use Rattle.log_facts.specs.Lists.{record_at, home_by, listed_by, parts_by, home_at, listed_at, parts_at}
 
 -- a place is there exactly where some record passes

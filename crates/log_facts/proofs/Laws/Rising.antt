@@ -11,7 +11,7 @@ use Rattle.std.specs.Cmp.{IsTotalOrder}
 use Rattle.clv_base.specs.declared.names.TxId.{TxId}
 use Rattle.clv_base.specs.Orders.{tx_cmp, tx_in, tx_insert}
 use Rattle.clv_base.proofs.SameNames.{tx_true}
-use Rattle.log_facts.proofs.Members.{in_flipped}
+use Rattle.log_facts.proofs.Laws.Members.{in_flipped}
 
 pub tx_total : IsTotalOrder tx_cmp
 tx_total = then_total (on_total (λ t. t.run) nat_cmp_total) (then_total (on_total (λ t. t.session) nat_cmp_total) (on_total (λ t. t.serial) nat_cmp_total))

@@ -1,5 +1,5 @@
 -- What one more record at the end of a log changes.
-use Rattle.std.proofs.Common.{◌≡◌, ℕ, suc, ◌+◌, Bool, true, false, ◌&&◌, ◌||◌, List, [], ◌∷◌, ◌++◌, length, Some, None, refl, sym, ap, ◌∙◌, append_assoc, add-zero, zero-add, nat_lt, ◌==◌, arith}
+use Rattle.std.proofs.Common.{◌≡◌, ℕ, suc, ◌<◌, ◌+◌, Bool, true, false, ◌&&◌, ◌||◌, List, [], ◌∷◌, ◌++◌, length, Some, None, refl, sym, ap, ◌∙◌, append_assoc, add-zero, zero-add, nat_lt, ◌==◌, arith}
 use Rattle.std.specs.List.{list_any, list_all}
 use Rattle.clv_base.specs.declared.logs.LogRecord.{LogRecord}
 use Rattle.clv_base.specs.declared.logs.LogRecord.TheVariants.{Restart}
@@ -69,3 +69,10 @@ standing_from_push n (h ∷ rs) r ws =
 
 pub standing_push : (log : List LogRecord) (r : LogRecord) → standing (log ++ r ∷ []) ≡ standing_after (length log) r (standing log)
 standing_push log r = standing_from_push 0 log r [] ∙ ap (λ (k : ℕ). standing_after k r (standing log)) (zero-add (length log))
+
+-- ---- falling LSNs
+
+-- the places fall from the newest on, all below n
+abbrev pub Falls : ℕ → List StandingUpdate → Type 0
+Falls n [] = Unit {0}
+Falls n (w ∷ ws) = (w.lsn < n) × Falls w.lsn ws
