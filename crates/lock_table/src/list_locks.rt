@@ -35,6 +35,10 @@ impl Locks for ListLocks {
 
     ghost room = { λ s _ _. min (vec_capacity s.rows - vec_len s.rows) (vec_capacity s.copies) };
 
+    fn empty(alloc: Global) -> Result<Self, Memory> {
+        Ok(ListLocks::new(alloc))
+    }
+
     fn reserve(&mut self, _tx: TxId, _anchors: &[Anchor], count: usize) -> Result<(), Memory> {
         if self.rows.reserve(count).is_err() {
             return Err(Memory);

@@ -20,12 +20,16 @@ pub struct Memory;
 ///
 /// `tx` is a transaction and `birth` its age. An anchor is a record's key, or `Low`, the place below the first record. A need is a mode that is asked for on
 /// an anchor. A transaction's locks are active until `close_part`, then closed; closed locks can be violated.
-pub trait Locks {
+pub trait Locks: Sized {
     /// All locks: rows of an anchor and a holder, by anchor and then transaction.
     ghost rows: { Self → Rows };
 
     /// For how many locks more there is room: locks of this transaction, or copied ones, on these anchors.
     ghost room: { Self → TxId → List Anchor → ℕ };
+
+    /// A table with no locks.
+    fn empty(alloc: Global) -> Result<Self, Memory>
+        ensures { IfOk result (λ locks. rows locks ≡ []) };
 
     /// Makes room for `count` locks, of `tx` or copied, on the anchors. It stands until the next `release` or `release_next`. `Memory` leaves the locks, and the room that there was.
     /// With that room `take` and `split_gap` take no memory; `close_part`, `release` and `release_next` take none whatever the room.

@@ -3,3 +3,4 @@ pub mod Finding
 pub mod Writing
 pub mod Ranging
 pub mod Placed
+pub mod Laws

@@ -31,6 +31,10 @@ impl Store for SortedStore {
 
     ghost room = { λ s. vec_capacity s.rows - vec_len s.rows };
 
+    fn empty(alloc: Global) -> Result<Self, AllocError> {
+        Ok(SortedStore::new(alloc))
+    }
+
     fn get(&self, key: u64) -> Found {
         get(&self.rows, key)
     }

@@ -1,5 +1,5 @@
 //! What a store promises, whatever it keeps its records in.
-ghost use Rattle.std.specs.Prelude.{◌≡◌, ◌≤◌, ◌+◌, ◌||◌, ◌==◌, ℕ, true, not, map, nat_lt, None, Some, OnOk, IfOk, IsTrue, if◌then◌else◌};
+ghost use Rattle.std.specs.Prelude.{◌≡◌, ◌≤◌, ◌+◌, ◌||◌, ◌==◌, ℕ, true, not, map, nat_lt, [], None, Some, OnOk, IfOk, IsTrue, if◌then◌else◌};
 ghost use Rattle.std.specs.List.{filter};
 ghost use Rattle.std.specs.Ordering.{nat_cmp};
 ghost use Rattle.std.specs.FinMap.{is_sorted};
@@ -9,12 +9,16 @@ use clv_base::modes::{Anchor, Found};
 use std::alloc::{AllocError, Global};
 
 /// Records by rising keys. A record is live, with a value, or a ghost.
-pub trait Store {
+pub trait Store: Sized {
     /// All records, live ones and ghosts, by rising keys.
     ghost records: { Self → Records };
 
     /// For how many records more there is room.
     ghost room: { Self → ℕ };
+
+    /// A store with no records.
+    fn empty(alloc: Global) -> Result<Self, AllocError>
+        ensures { IfOk result (λ store. records store ≡ []) };
 
     /// What stands at a key.
     fn get(&self, key: u64) -> Found

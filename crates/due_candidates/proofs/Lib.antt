@@ -1,0 +1,4 @@
+pub mod Rising
+pub mod Keeping
+pub mod Counting
+pub mod Laws
