@@ -9,7 +9,7 @@ use Rattle.clv_base.specs.Orders.{tx_same, tx_in}
 use Rattle.clv_base.specs.Logs.{StandingUpdate, standing, newest_of}
 use Rattle.clv_base.specs.Undo.{newest_lsn}
 use Rattle.clv_base.proofs.SameNames.{tx_true}
-use Rattle.violation_deps.proofs.Members.{tx_in-more}
+use Rattle.violation_deps.proofs.Laws.{tx_in-more}
 use Rattle.cascade_undo.specs.Steps.{AreBelow}
 use Rattle.cascade_undo.proofs.Bools.{both}
 use Rattle.cascade_undo.proofs.Standing.{Falls, falls, lsn_of, all_mono, newest_there}

@@ -14,7 +14,7 @@ use Rattle.clv_base.specs.Orders.{tx_in}
 use Rattle.clv_base.specs.Logs.{StandingUpdate, standing, wrote_in}
 use Rattle.clv_base.specs.Undo.{aborts_of}
 use Rattle.clv_base.specs.Needs.{Records, found_at, found_by, is_there, record_set}
-use Rattle.protocol_laws.proofs.Doubts.{standing_more}
+use Rattle.law_base.proofs.Doubts.{standing_more}
 use Rattle.cascade_undo.specs.Writes.{writes_of, HaveRecords}
 use Rattle.cascade_undo.proofs.Bools.{both}
 use Rattle.cascade_undo.proofs.Standing.{Falls, falls, all_mono}

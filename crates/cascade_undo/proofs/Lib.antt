@@ -9,3 +9,4 @@ pub mod Aborting
 pub mod Growing
 pub mod Covering
 pub mod Keeping
+pub mod Laws

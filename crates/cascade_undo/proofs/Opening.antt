@@ -11,7 +11,7 @@ use Rattle.clv_base.specs.Orders.{tx_cmp, tx_same, tx_in}
 use Rattle.clv_base.specs.Logs.{StandingUpdate, newest_of}
 use Rattle.clv_base.specs.Undo.{newest_lsn}
 use Rattle.clv_base.proofs.SameNames.{tx_true, tx_self}
-use Rattle.protocol_laws.proofs.Sets.{none_pass, none_passed}
+use Rattle.law_base.proofs.Sets.{none_pass, none_passed}
 use Rattle.cascade_undo.specs.Steps.{open_of}
 use Rattle.cascade_undo.proofs.Bools.{both}
 use Rattle.cascade_undo.proofs.Standing.{Falls, all_mono, lsn_of, newest_there}

@@ -7,8 +7,8 @@ use Rattle.std.specs.declared.cmp.Ordering.{Ordering}
 use Rattle.std.specs.declared.cmp.Ordering.TheVariants.{Less, Equal, Greater}
 use Rattle.std.specs.Ordering.{nat_cmp, match_ordering}
 use Rattle.clv_base.specs.Needs.{Records, found_at, found_by, is_there, record_set}
-use Rattle.ordered_store.proofs.Rising.{Above, Rises, above_less}
-use Rattle.ordered_store.proofs.Finding.{none_above}
+use Rattle.ordered_store.proofs.Laws.{Above, Rises, above_less}
+use Rattle.ordered_store.proofs.Laws.{none_above}
 use Rattle.cascade_undo.proofs.Bools.{both}
 
 -- the records with another value at a key that is there

@@ -11,8 +11,8 @@ use Rattle.clv_base.specs.Logs.{StandingUpdate, standing, without_newest, newest
 use Rattle.clv_base.specs.Undo.{value_before, records_without, clrs_of, newest_lsn}
 use Rattle.clv_base.specs.Needs.{Records, found_at, is_there, record_set}
 use Rattle.clv_base.proofs.SameNames.{tx_true}
-use Rattle.ordered_store.proofs.Rising.{Rises}
-use Rattle.protocol_laws.proofs.Doubts.{standing_more}
+use Rattle.ordered_store.proofs.Laws.{Rises}
+use Rattle.law_base.proofs.Doubts.{standing_more}
 use Rattle.cascade_undo.specs.declared.write.Write.{Write}
 use Rattle.cascade_undo.specs.Writes.{writes_of, HaveRecords}
 use Rattle.cascade_undo.specs.Steps.{AreBelow, open_of, IsNewestAt}

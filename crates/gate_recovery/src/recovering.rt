@@ -121,6 +121,7 @@ pub fn recover<S: Store, G: Gate>(
     ensures in_doubt { IfOk result (λ r. r.in_doubt.items ≡ homes_of r.buffer.records (in_doubt_in shard r.buffer.records)) }
     ensures pairs { IfOk result (λ r. r.pairs.items ≡ restored_pairs r.buffer.records (in_doubt_in shard r.buffer.records)) }
     ensures unended { IfOk result (λ r. r.unended.items ≡ unended_in r.buffer.records r.buffer.records) }
+    ensures spelled { IfOk result (λ r. list_all has_spelling r.buffer.records ≡ true) }
     ensures gate { IfOk result (λ r. (G.is_shut gate.new ≡ false) × Only r.buffer.records (G.logs gate.new)) }
     ensures failed { IsErrOf result RecoverError.Failed → IsBegun shard records.items run epoch (G.logs gate.new) }
     ensures down { IsErrOf result RecoverError.Failed → G.is_shut gate.new ≡ true }

@@ -1,2 +1,3 @@
 pub mod Purged
 pub mod Giving
+pub mod Laws

@@ -12,7 +12,7 @@ use Rattle.clv_base.specs.Locks.{Locks, release, is_free}
 use Rattle.clv_base.specs.Needs.{Records, found_at, found_by, is_locked_or_live, without_ghosts}
 use Rattle.clv_base.proofs.SameNames.{or_left, or_right, nat_cmp_true, nat_cmp_self}
 use Rattle.lock_table.specs.Rows.{is_lock_of, without_lock}
-use Rattle.ordered_store.proofs.Rising.{Above, Rises}
+use Rattle.ordered_store.proofs.Laws.{Above, Rises}
 use Rattle.lock_release.specs.Ghosts.{GhostsAreLocked, is_ghost, without_ghost_on}
 
 -- ---- filters

@@ -6,7 +6,7 @@ use Rattle.std.specs.Option.{option_flatten}
 use Rattle.clv_base.specs.declared.names.TxId.{TxId}
 use Rattle.clv_base.specs.Orders.{tx_same, tx_get}
 use Rattle.clv_base.proofs.SameNames.{tx_true}
-use Rattle.tx_table.proofs.Names.{tx_symmetric}
+use Rattle.tx_table.proofs.Laws.Names.{tx_symmetric}
 use Rattle.log_buffer.specs.declared.measured.Link.{Link}
 use Rattle.log_buffer.specs.declared.measured.Link.TheVariants.{Writes, Undoes, Neither}
 use Rattle.log_buffer.specs.declared.chain.Chain.{Chain}

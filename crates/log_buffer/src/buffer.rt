@@ -1,8 +1,8 @@
 //! The buffer.
-ghost use Rattle.std.specs.Prelude.{◌≡◌, ◌≤◌, ◌<◌, ◌+◌, [], ◌∷◌, ◌++◌, ℕ, length, drop, slice_get, slice_range, IsNone, IfSome, IfOk, IfErr, OnOk, OnErr, max, ◌↔◌};
+ghost use Rattle.std.specs.Prelude.{◌≡◌, ◌≤◌, ◌<◌, ◌+◌, [], ◌∷◌, ◌++◌, ℕ, length, drop, take, slice_get, slice_range, IsNone, IfSome, IfOk, IfErr, OnOk, OnErr, max, ◌↔◌};
 ghost use Rattle.std.specs.Option.{option_copied};
 
-use crate::batch::fitting;
+use crate::batch::{Extent, fitting};
 use crate::chain::Chain;
 use crate::making::chain_of;
 use crate::measured::Measured;
@@ -42,7 +42,7 @@ impl<R: Measured> Model for LogBuffer<R> {
 }
 
 impl<R: Measured> LogBuffer<R> {
-    ghost use Rattle.log_buffer.specs.Buffers.{Buffer, IsInOrder, next_count};
+    ghost use Rattle.log_buffer.specs.Buffers.{Buffer, IsInOrder, next_count, sizes};
 
     /// The buffer of the empty log. Takes no memory.
     pub fn new(alloc: Global) -> Self
@@ -115,6 +115,17 @@ impl<R: Measured> LogBuffer<R> {
         lsn as u64
     }
 
+    /// The longest run of next records that have together at most so many bytes: how many these are, and how many bytes they have. It is what
+    /// `take_batch` would take.
+    pub fn next_batch(&self, limit: usize) -> Extent
+        ensures count { result.count ≡ next_count R.size limit self.now }
+        ensures bytes { result.bytes ≡ sizes R.size (take result.count (drop self.now.taken self.now.records)) }
+        ensures light { result.bytes ≤ limit }
+        ensures inside { self.now.taken + result.count ≤ length self.now.records }
+    {
+        fitting(&self.records[self.taken..], limit)
+    }
+
     /// Takes the longest run of next records that have together at most so many bytes: none where the next one alone has more, or there is none.
     pub fn take_batch(&mut self, limit: usize) -> Option<Taken>
         ensures none { IsNone result ↔ (next_count R.size limit self.old ≡ 0) }
@@ -122,7 +133,7 @@ impl<R: Measured> LogBuffer<R> {
         ensures taken { self.new ≡ record self.old { taken = self.old.taken + next_count R.size limit self.old } }
     {
         let from = self.taken;
-        let count = fitting(&self.records[from..], limit);
+        let count = fitting(&self.records[from..], limit).count;
         if count == 0 {
             return None;
         }

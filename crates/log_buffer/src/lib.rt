@@ -14,5 +14,6 @@ mod measured;
 mod tests;
 mod undoing;
 
+pub use batch::Extent;
 pub use buffer::{LogBuffer, Taken};
 pub use measured::{Link, Measured};

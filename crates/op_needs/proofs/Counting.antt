@@ -10,9 +10,9 @@ use Rattle.clv_base.specs.declared.names.TxId.{TxId}
 use Rattle.clv_base.specs.Orders.{tx_cmp, tx_same, tx_in, tx_insert, tx_union}
 use Rattle.clv_base.specs.Facts.{predecessors_of}
 use Rattle.clv_base.proofs.SameNames.{or_left, or_right, tx_true, tx_self, tx_eq}
-use Rattle.violation_deps.proofs.Members.{tx_in-insert}
-use Rattle.violation_deps.proofs.Runs.{tx_total}
-use Rattle.violation_deps.proofs.Rising.{insert_key-rises, insert_there}
+use Rattle.violation_deps.proofs.Laws.{tx_in-insert}
+use Rattle.violation_deps.proofs.Laws.{tx_total}
+use Rattle.violation_deps.proofs.Laws.{insert_key-rises, insert_there}
 
 abbrev Rises : List TxId → Type 0
 Rises xs = IsStrictlySortedBy tx_cmp xs

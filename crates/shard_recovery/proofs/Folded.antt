@@ -20,8 +20,8 @@ use Rattle.clv_base.specs.Needs.{Records, found_at, found_by, record_set}
 use Rattle.clv_base.specs.Restarts.{records_of, with_ghosts, ghost_if_absent}
 use Rattle.log_facts.specs.declared.facts.TxFacts.{TxFacts}
 use Rattle.log_facts.specs.Facts.{Knows, known}
-use Rattle.log_facts.proofs.Places.{is_some_place}
-use Rattle.cascade_undo.proofs.Bools.{both}
+use Rattle.log_facts.proofs.Laws.Places.{is_some_place}
+use Rattle.cascade_undo.proofs.Laws.{both}
 use Rattle.shard_recovery.specs.Winning.{wins_in, records_after}
 
 -- ---- a record taken away

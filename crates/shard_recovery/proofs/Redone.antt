@@ -10,10 +10,10 @@ use Rattle.clv_base.specs.declared.logs.LogRecord.{LogRecord}
 use Rattle.clv_base.specs.declared.logs.LogRecord.TheVariants.{Update, Clr, Prepare, Commit, Abort, End, Restart}
 use Rattle.clv_base.specs.Logs.{StandingUpdate, standing_after, standing_from, standing}
 use Rattle.clv_base.specs.Needs.{Records, found_at, is_there, record_set}
-use Rattle.protocol_laws.proofs.Doubts.{standing_more}
+use Rattle.law_base.proofs.Doubts.{standing_more}
 use Rattle.cascade_undo.specs.Writes.{HaveRecords}
-use Rattle.cascade_undo.proofs.Standing.{all_mono, all_without}
-use Rattle.cascade_undo.proofs.Keeping.{there_set, set_is_there}
+use Rattle.cascade_undo.proofs.Laws.{all_mono, all_without}
+use Rattle.cascade_undo.proofs.Laws.{there_set, set_is_there}
 use Rattle.shard_recovery.specs.Redoing.{redo, redo_one, aborts}
 
 abbrev AllThere : List StandingUpdate → Records → Type 0

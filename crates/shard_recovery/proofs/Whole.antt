@@ -10,7 +10,7 @@ use Rattle.clv_base.specs.Undo.{clrs_of}
 use Rattle.clv_base.specs.Restarts.{losers, log_after_restart}
 use Rattle.log_facts.specs.declared.facts.TxFacts.{TxFacts}
 use Rattle.log_facts.specs.Facts.{Knows, known}
-use Rattle.protocol_laws.proofs.Sets.{filter_alike}
+use Rattle.law_base.proofs.Sets.{filter_alike}
 use Rattle.shard_recovery.specs.Redoing.{unaborted, aborts}
 use Rattle.shard_recovery.proofs.Redone.{standing_aborts}
 

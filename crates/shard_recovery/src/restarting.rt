@@ -10,15 +10,16 @@ use crate::winners::fill;
 use clv_base::logs::LogRecord;
 use clv_base::names::TxId;
 use log_buffer::LogBuffer;
-use ordered_store::{SortedStore, Store};
+use ordered_store::Store;
 use std::alloc::{AllocError, Global};
+use store_blocks::BlockStore;
 
 /// Restarts a shard from the log that was found, whose losers (rising) and transactions in doubt are these. The store, which is empty, gets
 /// the records of the state after a restart: the values that the UPDATEs of the committed and of those in doubt leave, and ghosts at the keys
 /// that those in doubt wrote and that have no value. The buffer that is given has the log after it: the records found, which are durable,
 /// and then what is still to be pushed: an ABORT for each loser that has none, in rising order, the CLRs of the losers' writes that stand,
 /// from the greatest LSN down, and the RESTART. An `Err` leaves the store in the middle of it. To undo the losers the whole log is done
-/// again in a store of its own, which goes at the return; time is about linear in the log, times a logarithm.
+/// again in a store of its own in blocks, which goes at the return.
 pub fn restart<S: Store>(
     alloc: Global,
     store: &mut S,
@@ -35,6 +36,6 @@ pub fn restart<S: Store>(
     ensures records { IfOk result (λ b. (shard : ℕ) → doubtful.now ≡ in_doubt shard records.items → S.records store.new ≡ (local_after shard epoch (log_after_restart shard records.items run epoch)).records) }
 {
     fill(alloc, store, &records, doubtful)?;
-    let mut scratch = SortedStore::new(alloc);
+    let mut scratch = BlockStore::new(alloc)?;
     rebuild(alloc, &mut scratch, records, losers, run, epoch)
 }

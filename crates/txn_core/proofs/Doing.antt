@@ -33,9 +33,9 @@ use Rattle.law_base.proofs.Cells.{record_at}
 use Rattle.law_base.proofs.Tables.{get_put, stage_in}
 use Rattle.law_base.proofs.Anchors.{record_at_set}
 use Rattle.law_base.proofs.Undoing.{standing_append}
-use Rattle.shard_laws.proofs.LockRows.{holds, asks, need_asks, anchor_self, all_keeps, all_gives, split_keeps}
-use Rattle.shard_laws.proofs.Granting.{other_part}
-use Rattle.cascade_undo.proofs.Standing.{IsIn, in_log}
+use Rattle.law_base.proofs.LockRows.{holds, asks, need_asks, anchor_self, all_keeps, all_gives, split_keeps}
+use Rattle.law_base.proofs.Stages.{other_part}
+use Rattle.cascade_undo.proofs.Laws.{IsIn, in_log}
 use Rattle.op_needs.specs.declared.plan.Insert.{Insert}
 use Rattle.op_needs.specs.declared.plan.Write.{Write}
 use Rattle.op_needs.specs.Planned.{insert_by, write_by, insert_of, write_of}

@@ -12,7 +12,7 @@ use Rattle.clv_base.specs.declared.state.Held.{Held}
 use Rattle.clv_base.specs.Orders.{Table, tx_cmp, tx_same, tx_in, tx_get}
 use Rattle.clv_base.specs.Undo.{gone_in, gone_part}
 use Rattle.clv_base.proofs.SameNames.{tx_true}
-use Rattle.violation_deps.proofs.Runs.{tx_total}
+use Rattle.violation_deps.proofs.Laws.{tx_total}
 
 -- ---- parts
 

@@ -6,3 +6,8 @@ pub mod Undoing
 pub mod Doing
 pub mod Locked
 pub mod Undoable
+pub mod Settling
+pub mod Closed
+pub mod Joins
+mod Batches
+mod Crowds

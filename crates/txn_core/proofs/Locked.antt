@@ -19,10 +19,10 @@ use Rattle.clv_base.specs.Undo.{value_before, records_without}
 use Rattle.clv_base.specs.OneShard.{purge}
 use Rattle.clv_base.proofs.SameNames.{or_left, or_right, tx_self, nat_cmp_true}
 use Rattle.law_base.proofs.Anchors.{record_kept}
-use Rattle.shard_laws.proofs.LockRows.{holds, held_not_free}
-use Rattle.cascade_undo.proofs.Standing.{all_mono}
+use Rattle.law_base.proofs.LockRows.{holds, held_not_free}
+use Rattle.cascade_undo.proofs.Laws.{all_mono}
 use Rattle.lock_release.specs.Ghosts.{GhostsAreLocked}
-use Rattle.lock_release.proofs.Purged.{all_pass, all_stay}
+use Rattle.lock_release.proofs.Laws.{all_pass, all_stay}
 use Rattle.op_needs.specs.declared.plan.Insert.{Insert}
 use Rattle.op_needs.specs.declared.plan.Write.{Write}
 use Rattle.op_effects.specs.Effects.{locks_after, records_after}

@@ -126,7 +126,7 @@ undo_at_most set log s =
 
 -- ---- the log after it
 
-updates-append : (test : TxId → Bool) (xs ys : List LogRecord) → updates_by test (xs ++ ys) ≡ updates_by test xs + updates_by test ys
+pub updates-append : (test : TxId → Bool) (xs ys : List LogRecord) → updates_by test (xs ++ ys) ≡ updates_by test xs + updates_by test ys
 updates-append test [] ys = omega arith
 updates-append test (x ∷ xs) ys = let a = count-first (is_update_by test) x (xs ++ ys) in let b = count-first (is_update_by test) x xs in let more = updates-append test xs ys in omega (arith, a, b, more)
 

@@ -14,9 +14,9 @@ use Rattle.clv_base.specs.Needs.{needs_of}
 use Rattle.clv_base.specs.Locks.{decide, violated}
 use Rattle.clv_base.specs.State.{Local, is_present}
 use Rattle.clv_base.specs.Undo.{stage_of}
-use Rattle.clv_base.specs.OneShard.{OpDies, OpCrowded, op_active, op_decided, op_granted, without_part, rolled_back_if, undecided_after, performed, OpAnswers}
+use Rattle.clv_base.specs.OneShard.{OpDies, OpCrowded, op_active, op_decided, op_granted, without_part, rolled_back_if, undecided_after, undecided_with, performed, OpAnswers}
 use Rattle.violation_deps.specs.Dependencies.{Dependencies}
-use Rattle.violation_deps.proofs.InLog.{AreInLog, undecided_like_log}
+use Rattle.violation_deps.proofs.Laws.{AreInLog, undecided_like_log}
 use Rattle.op_needs.specs.Met.{undecided_by_grant}
 use Rattle.txn_core.specs.declared.deciding.Decided.{Decided}
 use Rattle.txn_core.specs.declared.deciding.Decided.TheVariants.{Grant as GrantedSo, Wait as ToWait, Die as ToDie, Crowded as TooCrowded}
@@ -53,7 +53,7 @@ module _ (d : Dependencies) (l : Local) (tx : TxId) (birth : Birth) (op : Op) (p
   pub judged_is : (x : Decided) → may_work (stage_of l tx) ≡ true → IsDecided l.records l.locks d tx birth op x → IsJudged l tx birth op (op_active l tx birth op) (judged_by (stage_of l tx) x)
   judged_is (GrantedSo plan preds) m h =
       let few : length (undecided_after l tx op) ≤ 1024 = subst (λ us. length us ≤ 1024) undecided_same h.3 in
-      (granted_as false h.0 (at_most _ few) ∙ ap (λ a. OpAnswers a (performed tx birth op l)) (sym h.1.answer), h.1, h.2, m)
+      (granted_as false h.0 (at_most _ few) ∙ ap (λ a. OpAnswers a (performed tx birth op l)) (sym h.1.answer), h.1, h.2, m, subst (λ us. length (undecided_with l tx us) ≤ 1024) (sym h.2) few)
   judged_is (ToWait younger) m h = decided_as (IsToWait younger) h
   judged_is (ToDie older) m h = subst (λ r. IsJudged l tx birth op r (death_by (stage_of l tx) (Died older))) (sym (decided_as (IsToDie older) h)) (death_is l tx birth op (Died older))
   judged_is (TooCrowded count) m h =

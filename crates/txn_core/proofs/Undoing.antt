@@ -14,22 +14,24 @@ use Rattle.clv_base.specs.Logs.{StandingUpdate, standing}
 use Rattle.clv_base.specs.Locks.{Locks, release}
 use Rattle.clv_base.specs.Needs.{found_at, found_by, is_there}
 use Rattle.clv_base.specs.State.{Local, is_present}
-use Rattle.clv_base.specs.Undo.{doomed_by, doomed_here, with_successors, successors_through, value_before, records_without, take_away}
+use Rattle.clv_base.specs.Undo.{aborts_of, doomed_by, doomed_here, with_successors, successors_through, value_before, records_without, take_away}
 use Rattle.clv_base.specs.declared.state.Held.{Held}
 use Rattle.clv_base.specs.declared.logs.LogRecord.{LogRecord}
 use Rattle.clv_base.specs.Orders.{Table}
 use Rattle.clv_base.specs.OneShard.{marked_in, mark_dropped}
-use Rattle.clv_base.proofs.SameNames.{tx_true}
+use Rattle.clv_base.proofs.SameNames.{tx_true, tx_self}
+use Rattle.law_base.proofs.Sets.{in_filter}
+use Rattle.violation_deps.proofs.Laws.{filter_rises}
 use Rattle.law_base.proofs.Cells.{record_at}
 use Rattle.law_base.proofs.Undoing.{record_undone, reset, standing_undone}
 use Rattle.law_base.specs.Undone.{stays_of}
-use Rattle.shard_laws.proofs.LockRows.{holds, row_holds, release_holds}
-use Rattle.shard_laws.proofs.Leaving.{stage_other, own_go}
-use Rattle.shard_laws.proofs.Marking.{stage_marked}
-use Rattle.violation_deps.proofs.Runs.{tx_total}
-use Rattle.violation_deps.proofs.Rising.{insert_key-rises}
-use Rattle.cascade_undo.specs.Writes.{HaveRecords}
-use Rattle.cascade_undo.proofs.Standing.{all_mono}
+use Rattle.law_base.proofs.LockRows.{holds, row_holds, release_holds}
+use Rattle.law_base.proofs.Stages.{stage_other, own_go}
+use Rattle.law_base.proofs.Stages.{stage_marked}
+use Rattle.violation_deps.proofs.Laws.{tx_total}
+use Rattle.violation_deps.proofs.Laws.{insert_key-rises}
+use Rattle.cascade_undo.specs.Writes.{writes_of, HaveRecords}
+use Rattle.cascade_undo.proofs.Laws.{all_mono}
 use Rattle.txn_core.specs.State.{TxState}
 use Rattle.txn_core.proofs.Undoable.{IsUndoable}
 use Rattle.txn_core.specs.Sound.{is_here, has_lock, IsHeld, updates_by, IsSound, KeepsSpare}
@@ -107,6 +109,63 @@ undoable s tx sound here = record {
   room = let a = undo_at_most (doomed_by s.local tx) s.local.log (doomed_rise s.local s.room sound tx here) in let b = owed s.local s.room sound tx here in omega (arith, a, b);
 }
 
+-- ---- those that are here of the doomed
+
+pub doomed_here_rise : (l : Local) (tx : TxId) → Rises (doomed_here l tx)
+doomed_here_rise l tx = filter_rises (is_here l) (doomed_by l tx) (through_rises (length l.pairs) l.pairs (tx ∷ []) (one_rises tx))
+
+pub each_doomed_here : (l : Local) (tx t : TxId) → tx_in t (doomed_here l tx) ≡ true → is_here l t ≡ true
+each_doomed_here l tx t i = (in_filter (is_here l) t (doomed_by l tx) i).1
+
+have_records_here : (l : Local) (spare : ℕ) → IsSound l spare → (tx : TxId) → HaveRecords (doomed_here l tx) (standing l.log) l.records
+have_records_here l spare sound tx =
+    all_mono (IsHeld l) (λ w. tx_in w.tx (doomed_here l tx) ≡ true → is_there (found_at w.key l.records) ≡ true) (λ w h i. (h (each_doomed_here l tx w.tx i)).0) (standing l.log) sound.writes
+
+pub undoable_here : (l : Local) (spare : ℕ) → IsSound l spare → (tx : TxId)
+    → HaveRecords (doomed_here l tx) (standing l.log) l.records × (length (aborts_of l.log (doomed_here l tx)) + length (writes_of (doomed_here l tx) (standing l.log)) ≤ spare)
+undoable_here l spare sound tx = (
+  have_records_here l spare sound tx,
+  let most = undo_at_most (doomed_here l tx) l.log (doomed_here_rise l tx) in
+      let owed = count_updates_fewer (in_set (doomed_here l tx)) (is_here l) l.log (λ t e. each_doomed_here l tx t e) in let room = sound.room in omega (arith, most, owed, room),
+)
+
+-- of the doomed it alone may be away
+alike : (f g : TxId → Bool) (xs : List TxId) → AllByRecursion (λ t. f t ≡ g t) xs → filter f xs ≡ filter g xs
+alike f g [] a = refl
+alike f g (x ∷ xs) a = ap (λ l. cond (f x) (x ∷ l) l) (alike f g xs a.1) ∙ ap (λ b. cond b (x ∷ filter g xs) (filter g xs)) a.0
+
+all_names : (P Q : TxId → Type 0) → ((t : TxId) → P t → Q t) → (xs : List TxId) → AllByRecursion P xs → AllByRecursion Q xs
+all_names P Q h [] a = tt
+all_names P Q h (x ∷ xs) a = (h x a.0, all_names P Q h xs a.1)
+
+abbrev here_or_own : Local → TxId → TxId → Bool
+here_or_own l tx t = is_here l t || tx_same tx t
+
+here_unless_own : (l : Local) (tx : TxId) → is_here l tx ≡ false → (t : TxId) → here_or_own l tx t ≡ true → is_here l t ≡ not (tx_same tx t)
+here_unless_own l tx away t h = at (tx_same tx t) refl
+  where
+    at : (b : Bool) → tx_same tx t ≡ b → is_here l t ≡ not b
+    at true e = ap (is_here l) (sym (tx_true tx t e)) ∙ away
+    at false e = ⊎_elim (λ i. i) (λ s. absurd (both_ways _ e s)) (or_cases (is_here l t) (tx_same tx t) h)
+
+all_or : (l : Local) (tx : TxId) (ps : List (TxId × TxId)) → AllByRecursion (λ p. is_here l p.0 ≡ true) ps → AllByRecursion (λ p. here_or_own l tx p.0 ≡ true) ps
+all_or l tx [] a = tt
+all_or l tx (p ∷ ps) a = (ap (λ b. b || tx_same tx p.0) a.0, all_or l tx ps a.1)
+
+own_or : (b : Bool) (c : Bool) → c ≡ true → (b || c) ≡ true
+own_or true c e = refl
+own_or false c e = e
+
+pub marked_is_doomed : (l : Local) (spare : ℕ) → IsSound l spare → (tx : TxId) → cond (is_here l tx) (doomed_by l tx) (filter (λ t. not (tx_same tx t)) (doomed_by l tx)) ≡ doomed_here l tx
+marked_is_doomed l spare sound tx = at (is_here l tx) refl
+  where
+    at : (b : Bool) → is_here l tx ≡ b → cond b (doomed_by l tx) (filter (λ t. not (tx_same tx t)) (doomed_by l tx)) ≡ doomed_here l tx
+    at true e = sym (doomed_are_here l spare sound tx e)
+    at false e =
+        sym (alike (is_here l) (λ t. not (tx_same tx t)) (doomed_by l tx)
+        (all_names (λ t. here_or_own l tx t ≡ true) (λ t. is_here l t ≡ not (tx_same tx t)) (here_unless_own l tx e) (doomed_by l tx)
+        (through_all (here_or_own l tx) (length l.pairs) l.pairs (tx ∷ []) (all_or l tx l.pairs sound.successors) (own_or (is_here l tx) (tx_same tx tx) (tx_self tx), tt))))
+
 -- ---- the others keep what they have
 
 pub lock_is_held : (t : TxId) (k : ℕ) (locks : Locks) → has_lock t k locks ≡ holds true N (At k) t locks
@@ -117,7 +176,7 @@ lock_is_held t k (r ∷ rs) = ap (λ b. b || has_lock t k rs) (sym (and_true (an
     and_true true = refl
     and_true false = refl
 
-release_keeps : (set : List TxId) (t : TxId) (k : ℕ) (locks : Locks) → tx_in t set ≡ false → has_lock t k locks ≡ true → has_lock t k (release set locks) ≡ true
+pub release_keeps : (set : List TxId) (t : TxId) (k : ℕ) (locks : Locks) → tx_in t set ≡ false → has_lock t k locks ≡ true → has_lock t k (release set locks) ≡ true
 release_keeps set t k locks out h = lock_is_held t k (release set locks) ∙ release_holds set true N (At k) t locks out (sym (lock_is_held t k locks) ∙ h)
 
 reset_keeps : (b o : Option (Option ℕ)) → is_there (found_by o) ≡ true → is_there (found_by (reset b o)) ≡ true
@@ -130,11 +189,11 @@ reset_keeps (Some (Some u)) (Some v) e = refl
 undo_keeps : (set : List TxId) (ws : List StandingUpdate) (k : ℕ) (l : Local) → is_there (found_at k l.records) ≡ true → is_there (found_at k (records_without set ws l.records)) ≡ true
 undo_keeps set ws k l h = ap (λ o. is_there (found_by o)) (record_undone set ws l.records k) ∙ reset_keeps (value_before set k ws) (record_at k l.records) h
 
-all_filter : {A : Type 0} (P Q : A → Type 0) (f : A → Bool) (xs : List A) → ((x : A) → P x → f x ≡ true → Q x) → AllByRecursion P xs → AllByRecursion Q (filter f xs)
+pub all_filter : {A : Type 0} (P Q : A → Type 0) (f : A → Bool) (xs : List A) → ((x : A) → P x → f x ≡ true → Q x) → AllByRecursion P xs → AllByRecursion Q (filter f xs)
 all_filter P Q f [] h a = tt
 all_filter P Q f (x ∷ xs) h a = cond_both (f x) (x ∷ filter f xs) (filter f xs) (AllByRecursion Q) (λ e. (h x a.0 e, all_filter P Q f xs h a.1)) (λ e. all_filter P Q f xs h a.1)
 
-not_false : (b : Bool) → not b ≡ true → b ≡ false
+pub not_false : (b : Bool) → not b ≡ true → b ≡ false
 not_false true e = absurd (both_ways false refl e)
 not_false false e = refl
 

@@ -10,7 +10,7 @@ use Rattle.clv_base.specs.Needs.{Records, needs_of}
 use Rattle.clv_base.specs.Locks.{Locks, decide, violated}
 use Rattle.clv_base.specs.State.{Local, is_present}
 use Rattle.clv_base.specs.Undo.{stage_of, roll_back}
-use Rattle.clv_base.specs.OneShard.{OpReply, OpWaits, OpCrowded, OpDies, OpAnswers, performed}
+use Rattle.clv_base.specs.OneShard.{OpReply, OpWaits, OpCrowded, OpDies, OpAnswers, performed, undecided_with}
 use Rattle.clv_base.specs.declared.state.Stage.{Stage}
 use Rattle.clv_base.specs.declared.state.Stage.TheVariants.{Active, Closed, Gone}
 use Rattle.violation_deps.specs.Dependencies.{Dependencies}
@@ -63,6 +63,7 @@ judged_by stage (TooCrowded count) = Crowded count
 abbrev pub IsJudged : Local → TxId → Birth → Op → OpReply → Judged → Type 0
 IsJudged l tx birth op reply (Grant plan preds) =
     (reply ≡ OpAnswers plan.answer (performed tx birth op l)) × IsPlanOf op l.records plan × (preds.items ≡ violated tx (needs_of op l.records) l.locks) × (may_work (stage_of l tx) ≡ true)
+    × (length (undecided_with l tx preds.items) ≤ 1024)
 IsJudged l tx birth op reply (Wait younger) = reply ≡ OpWaits younger
 IsJudged l tx birth op reply (Crowded count) = reply ≡ OpCrowded count
 IsJudged l tx birth op reply (Dead cause) = reply ≡ OpDies cause l

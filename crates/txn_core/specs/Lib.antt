@@ -1,5 +1,8 @@
 pub mod State
+pub mod Closings
+pub mod Committed
 pub mod Judged
 pub mod Attempts
 pub mod Replies
 pub mod Sound
+pub mod Landed

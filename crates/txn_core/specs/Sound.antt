@@ -1,5 +1,5 @@
 -- What holds of a shard's transactions, whatever was done: what a part did can be taken away.
-use Rattle.std.specs.Prelude.{◌≡◌, ℕ, ◌+◌, ◌*◌, ◌≤◌, ◌⊎◌, Bool, true, false, ◌&&◌, List, length, Option, Some, None}
+use Rattle.std.specs.Prelude.{◌≡◌, ℕ, ◌+◌, ◌*◌, ◌≤◌, ◌⊎◌, Bool, true, false, not, ◌&&◌, List, length, Option, Some, None}
 use Rattle.std.specs.List.{AllByRecursion, filter, list_any}
 use Rattle.clv_base.specs.declared.names.TxId.{TxId}
 use Rattle.clv_base.specs.declared.logs.LogRecord.{LogRecord}
@@ -8,8 +8,10 @@ use Rattle.clv_base.specs.declared.modes.Anchor.TheVariants.{At}
 use Rattle.clv_base.specs.declared.modes.Need.{Need}
 use Rattle.clv_base.specs.declared.state.Stage.{Stage}
 use Rattle.clv_base.specs.declared.state.Stage.TheVariants.{Active, Closed, Gone}
-use Rattle.clv_base.specs.Orders.{Table, tx_same, anchor_same}
-use Rattle.clv_base.specs.Logs.{StandingUpdate, standing}
+use Rattle.clv_base.specs.declared.state.Held.{Held}
+use Rattle.clv_base.specs.Orders.{Table, tx_same, tx_get, anchor_same}
+use Rattle.clv_base.specs.Logs.{StandingUpdate, standing, committed_in}
+use Rattle.clv_base.specs.Facts.{predecessors_of}
 use Rattle.clv_base.specs.Locks.{Locks}
 use Rattle.clv_base.specs.Needs.{found_at, is_there}
 use Rattle.clv_base.specs.State.{Local, is_present}
@@ -22,6 +24,10 @@ use Rattle.txn_core.specs.State.{TxState, AreSettled}
 -- whether the transaction's part here is active or closed
 abbrev pub is_here : Local → TxId → Bool
 is_here l t = is_present (stage_of l t)
+
+-- the same, by the parts
+abbrev pub is_in : Table Held → TxId → Bool
+is_in parts t = is_present (elim (tx_get t parts) [ Some h ↦ Some h.stage | None ↦ None ])
 
 -- whether the transaction has a lock on the record at the key
 abbrev pub has_lock : TxId → ℕ → Locks → Bool
@@ -47,15 +53,28 @@ pub record IsSound (l : Local) (spare : ℕ) : Type 0 where
   -- so much room is in the log: for an ABORT and a CLR for each UPDATE of a part that is here
   pub room : 2 * updates_by (is_here l) l.log ≤ spare
 
--- that, each ghost bears a lock, and the COMMITs of the log are known to the dependencies, each at its place
+-- no transaction has more than 1,024 predecessors without a COMMIT
+abbrev pub FewUndecided : List LogRecord → List (TxId × TxId) → Type 0
+FewUndecided log pairs = (t : TxId) → length (filter (λ p. not (committed_in log p)) (predecessors_of pairs t)) ≤ 1024
+
+-- that, each ghost bears a lock, nobody has too many undecided predecessors, and the COMMITs of the log are known to the dependencies, each at its place
 pub record IsKept (commits : Table ℕ) (l : Local) (spare : ℕ) : Type 0 where
   pub settled : AreSettled commits l.log
   pub sound : IsSound l spare
   pub ghosts : GhostsAreLocked l.locks l.records
+  pub few : FewUndecided l.log l.pairs
 
 -- room beyond an ABORT and a CLR for each UPDATE of a part that is here never shrinks: what was reserved for more stays reserved
 abbrev pub KeepsSpare : TxState → TxState → Type 0
 KeepsSpare s t = s.room + 2 * updates_by (is_here t.local) (t.local).log ≤ t.room + 2 * updates_by (is_here s.local) (s.local).log
+
+-- room for so many records beyond an ABORT and a CLR for each UPDATE of a part that is here
+abbrev pub HasSpare : ℕ → TxState → Type 0
+HasSpare n s = n + 2 * updates_by (is_here s.local) (s.local).log ≤ s.room
+
+-- the same, but for so many records that were written of what was reserved
+abbrev pub SpendsSpare : ℕ → TxState → TxState → Type 0
+SpendsSpare n s t = s.room + 2 * updates_by (is_here t.local) (t.local).log ≤ n + t.room + 2 * updates_by (is_here s.local) (s.local).log
 
 -- whether a part may have operations: it is not known, or active
 abbrev pub may_work : Option Stage → Bool

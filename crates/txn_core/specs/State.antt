@@ -1,5 +1,5 @@
 -- What the transactions of a shard are seen as: the shard, the state that they work on, the fronts of its log, and room.
-use Rattle.std.specs.Prelude.{◌≡◌, ℕ, List}
+use Rattle.std.specs.Prelude.{◌≡◌, ◌≤◌, ℕ, List, length}
 use Rattle.clv_base.specs.declared.names.TxId.{TxId}
 use Rattle.clv_base.specs.declared.logs.LogRecord.{LogRecord}
 use Rattle.clv_base.specs.Orders.{Table, tx_get}
@@ -16,6 +16,11 @@ pub record TxState : Type 0 where
   pub room : ℕ
   -- for how many pairs and settled transactions more room is reserved in the dependencies
   pub pairs_room : ℕ
+
+-- the fronts of the log stand in their order
+pub record AreInOrder (s : TxState) : Type 0 where
+  pub durable_first : s.durable ≤ s.taken
+  pub end_last : s.taken ≤ length (s.local).log
 
 -- another state to work on; the fronts and the shard stay, and of room this doesn't tell
 abbrev pub IsSameBut : TxState → Local → TxState → Type 0

@@ -1,8 +1,8 @@
 //! An operation, up to the rolling back of a part that dies.
-ghost use Rattle.std.specs.Prelude.{◌≡◌, ◌≤◌, true, IfOk, OnErr};
+ghost use Rattle.std.specs.Prelude.{◌≡◌, ◌≤◌, true, length, IfOk, OnErr};
 ghost use Rattle.clv_base.specs.Needs.{needs_of};
 ghost use Rattle.clv_base.specs.Locks.{violated as violated_by};
-ghost use Rattle.clv_base.specs.OneShard.{OpAnswers, op_reply, performed};
+ghost use Rattle.clv_base.specs.OneShard.{OpAnswers, op_reply, performed, undecided_with};
 ghost use Rattle.op_needs.specs.Planned.{IsPlanOf};
 ghost use Rattle.clv_base.specs.Undo.{stage_of as stage_in};
 ghost use Rattle.txn_core.specs.Sound.{may_work, KeepsSpare};
@@ -23,8 +23,8 @@ use std::alloc::Global;
 /// What an operation comes to.
 #[derive(Drop, Debug)]
 pub(crate) enum Attempt {
-    /// It is done.
-    Answered(Answer),
+    /// It is done; the answer is there twice.
+    Answered { answer: Answer, copy: Answer },
     /// Its transaction is dead, and no part of it is here that would have to be rolled back.
     Dead(AbortCause),
     /// Its transaction dies, and its part here is still to be rolled back.
@@ -49,14 +49,21 @@ impl<S: Store + Drop, L: Locks + Drop> ShardTx<S, L> {
         requires plan { IsPlanOf op (self.old.local).records plan }
         requires work { may_work (stage_in self.old.local tx) ≡ true }
         requires violated { violated.now ≡ violated_by tx (needs_of op (self.old.local).records) (self.old.local).locks }
+        requires few { length (undecided_with self.old.local tx violated.now) ≤ 1024 }
         ensures ok { IfOk result (λ a. ComesTo (OpAnswers plan.answer (performed tx birth op self.old.local)) tx self.old a self.new) }
         ensures err { OnErr result (IsSameBut self.old self.old.local self.new) }
         ensures room { KeepsSpare self.old self.new }
         ensures pairs_room { self.old.pairs_room ≤ self.new.pairs_room }
     {
         performed_by_plan();
+        let Ok(copy) = plan.answer.clone() else {
+            return Err(Memory);
+        };
         match self.perform(alloc, tx, birth, &plan, violated) {
-            Ok(()) => Ok(Attempt::Answered(plan.answer)),
+            Ok(()) => Ok(Attempt::Answered {
+                answer: plan.answer,
+                copy,
+            }),
             Err(memory) => Err(memory),
         }
     }

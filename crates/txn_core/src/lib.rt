@@ -6,17 +6,30 @@
 //! each lock table.
 #![tactic(auto)]
 
+mod aborting;
 mod attempt;
+mod closing;
+mod committing;
 mod deciding;
 mod ending;
+mod finishing;
+mod fronts;
 mod judging;
+mod keeping;
+mod knowing;
+mod noting;
 mod op;
+mod parting;
 mod performing;
+mod plans;
 mod rolling;
 mod shard;
+mod telling;
 #[cfg(test)]
 mod tests;
 
 pub use lock_table::Memory;
 pub use op::Reply;
+pub use parting::TxParts;
+pub use plans::Closing;
 pub use shard::ShardTx;

@@ -17,14 +17,22 @@ use std::alloc::Global;
 /// What an operation is answered.
 #[derive(Drop, Debug)]
 pub enum Reply {
-    /// It is done; the shard has this epoch.
-    Answered { answer: Answer, epoch: u64 },
+    /// It is done; the shard has this epoch. The answer is there twice, once for a journal, so that no memory is asked for after what was done.
+    Answered {
+        answer: Answer,
+        copy: Answer,
+        epoch: u64,
+    },
     /// Its transaction is dead: no active part of it is left here.
     Dead(AbortCause),
     /// Nothing is done: this younger active transaction holds what it needs.
-    Wait { younger: TxId },
+    Wait {
+        younger: TxId,
+    },
     /// Nothing is done: it would have so many undecided predecessors, which are too many.
-    Crowded { count: usize },
+    Crowded {
+        count: usize,
+    },
 }
 
 impl<S: Store + Drop, L: Locks + Drop> ShardTx<S, L> {
@@ -51,7 +59,11 @@ impl<S: Store + Drop, L: Locks + Drop> ShardTx<S, L> {
         };
         let epoch = self.epoch;
         match attempt {
-            Attempt::Answered(answer) => Ok(Reply::Answered { answer, epoch }),
+            Attempt::Answered { answer, copy } => Ok(Reply::Answered {
+                answer,
+                copy,
+                epoch,
+            }),
             Attempt::Dead(cause) => Ok(Reply::Dead(cause)),
             Attempt::Dying(cause) => {
                 self.roll_back_part(tx);

@@ -1,11 +1,12 @@
 //! Doing what is granted.
-ghost use Rattle.std.specs.Prelude.{◌≡◌, true, ◌≤◌, ◌+◌, ◌*◌, ◌&&◌, is_none, OnOk, OnErr};
+ghost use Rattle.std.specs.Prelude.{◌≡◌, true, ◌≤◌, ◌+◌, ◌*◌, ◌&&◌, length, is_none, OnOk, OnErr};
 ghost use Rattle.clv_base.specs.declared.names.TxId.{TxId as Tx};
 ghost use Rattle.clv_base.specs.Orders.{tx_get};
 ghost use Rattle.op_effects.specs.Effects.{record_count, CanWrite, performed_by};
 ghost use Rattle.txn_core.specs.State.{IsSameBut};
 ghost use Rattle.clv_base.specs.Logs.{wrote_in};
 ghost use Rattle.clv_base.specs.Undo.{stage_of as stage_in};
+ghost use Rattle.clv_base.specs.OneShard.{undecided_with};
 ghost use Rattle.txn_core.specs.Sound.{may_work, IsCovered, KeepsSpare};
 
 use crate::shard::ShardTx;
@@ -48,7 +49,7 @@ fn reserve_log(buffer: &mut LogBuffer<LogRecord>, write: Option<Write>) -> Resul
 }
 
 /// Makes room for so many pairs beside what was reserved before, for COMMITs that are to be settled.
-fn reserve_pairs(deps: &mut Deps, count: usize) -> Result<(), Memory>
+pub(crate) fn reserve_pairs(deps: &mut Deps, count: usize) -> Result<(), Memory>
     ensures ok { OnOk result (deps.old.room + count ≤ deps.new.room) }
     ensures room { deps.old.room ≤ deps.new.room }
     ensures pairs { deps.new.pairs ≡ deps.old.pairs }
@@ -93,6 +94,7 @@ impl<S: Store + Drop, L: Locks + Drop> ShardTx<S, L> {
         requires write { CanWrite plan.now.write 1 (self.old.local).records }
         requires covered { IsCovered plan.now.needs.items plan.now.insert plan.now.write }
         requires work { may_work (stage_in self.old.local tx) ≡ true }
+        requires few { length (undecided_with self.old.local tx violated.now) ≤ 1024 }
         ensures ok { OnOk result (IsSameBut self.old (performed_by tx birth plan.now.needs.items plan.now.insert plan.now.write violated.now self.old.local) self.new) }
         ensures err { OnErr result (IsSameBut self.old self.old.local self.new) }
         ensures room { KeepsSpare self.old self.new }

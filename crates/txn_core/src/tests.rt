@@ -109,7 +109,7 @@ enum Told {
 
 fn in_words(reply: Reply) -> Told {
     match reply {
-        Reply::Answered { answer, epoch: _ } => match answer {
+        Reply::Answered { answer, .. } => match answer {
             Answer::Value(value) => Told::Value(value),
             Answer::Pairs(pairs) => Told::Pairs(pairs.as_slice().len()),
         },
@@ -145,24 +145,6 @@ fn an_older_one_waits_and_a_younger_one_dies(rt: HostRuntime) -> Result<(), Fail
 }
 
 #[test]
-fn a_put_dies_at_a_key_that_an_older_one_holds(rt: HostRuntime) -> Result<(), Fail> {
-    let alloc = rt.alloc();
-    let mut shard = filled(alloc)?;
-    let rows = [
-        (1, Op::Get(10), Told::Value(Some(1))),
-        (3, Op::Put(20, 7), Told::Value(Some(2))),
-        (2, Op::Put(10, 9), Told::Dies(1)),
-        (4, Op::Put(20, 9), Told::Dies(3)),
-        (1, Op::Get(10), Told::Value(Some(1))),
-        (3, Op::Get(20), Told::Value(Some(7))),
-    ];
-    for (session, op, want) in rows {
-        assert_eq!(rt; ask(alloc, &mut shard, session, op)?, want);
-    }
-    Ok(())
-}
-
-#[test]
 fn an_operation_past_1024_undecided_predecessors_is_crowded(rt: HostRuntime) -> Result<(), Fail> {
     let alloc = rt.alloc();
     let rows = [
@@ -173,23 +155,6 @@ fn an_operation_past_1024_undecided_predecessors_is_crowded(rt: HostRuntime) -> 
         let mut shard = closed_over(alloc, count)?;
         assert_eq!(rt; ask(alloc, &mut shard, 2000, Op::Get(5))?, want);
         assert_eq!(rt; shard.stage_of(tx(2000)), stage);
-    }
-    Ok(())
-}
-
-#[test]
-fn the_oldest_in_the_way_is_named(rt: HostRuntime) -> Result<(), Fail> {
-    let alloc = rt.alloc();
-    let mut shard = empty(alloc)?;
-    let rows = [
-        (3, Op::Get(7), Told::Value(None)),
-        (2, Op::Get(8), Told::Value(None)),
-        (4, Op::Put(9, 1), Told::Dies(2)),
-        (1, Op::Put(9, 1), Told::Waits(2)),
-        (2, Op::Put(9, 1), Told::Waits(3)),
-    ];
-    for (session, op, want) in rows {
-        assert_eq!(rt; ask(alloc, &mut shard, session, op)?, want);
     }
     Ok(())
 }
@@ -209,45 +174,6 @@ fn a_scanned_gap_is_closed_to_others(rt: HostRuntime) -> Result<(), Fail> {
     for (session, op, want) in rows {
         assert_eq!(rt; ask(alloc, &mut shard, session, op)?, want);
     }
-    Ok(())
-}
-
-#[test]
-fn an_insert_copies_the_locks_on_its_gap(rt: HostRuntime) -> Result<(), Fail> {
-    let alloc = rt.alloc();
-    let mut shard = empty(alloc)?;
-    let rows = [
-        (1, Op::Put(10, 1), Told::Value(None)),
-        (2, Op::Get(40), Told::Dies(1)),
-        (1, Op::Put(20, 2), Told::Value(None)),
-        (2, Op::Put(30, 3), Told::Dies(1)),
-        (2, Op::Put(15, 3), Told::Dies(1)),
-        (1, Op::Scan(0, 99), Told::Pairs(2)),
-    ];
-    for (session, op, want) in rows {
-        assert_eq!(rt; ask(alloc, &mut shard, session, op)?, want);
-    }
-    Ok(())
-}
-
-#[test]
-fn a_delete_leaves_a_ghost(rt: HostRuntime) -> Result<(), Fail> {
-    let alloc = rt.alloc();
-    let mut shard = empty(alloc)?;
-    let rows = [
-        (1, Op::Put(5, 10), Told::Value(None)),
-        (1, Op::Put(5, 11), Told::Value(Some(10))),
-        (1, Op::Get(5), Told::Value(Some(11))),
-        (1, Op::Del(5), Told::Value(Some(11))),
-        (1, Op::Get(5), Told::Value(None)),
-        (1, Op::Del(5), Told::Value(None)),
-        (1, Op::Scan(0, 9), Told::Pairs(0)),
-    ];
-    for (session, op, want) in rows {
-        assert_eq!(rt; ask(alloc, &mut shard, session, op)?, want);
-    }
-    assert_eq!(rt; shard.store.get(5), Found::Ghost);
-    assert_eq!(rt; shard.buffer.end(), 3);
     Ok(())
 }
 

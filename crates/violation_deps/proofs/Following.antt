@@ -10,7 +10,7 @@ use Rattle.clv_base.specs.State.{Local}
 use Rattle.clv_base.specs.Undo.{with_successors, successors_through}
 use Rattle.clv_base.proofs.SameNames.{or_left, or_right, tx_true, tx_self, insert_keeps, insert_has}
 use Rattle.protocol_laws.specs.UndoLaws.{is_pair, IsClosed}
-use Rattle.protocol_laws.proofs.Dooming.{doomed_is_closure}
+use Rattle.protocol_laws.proofs.Laws.{doomed_is_closure}
 use Rattle.violation_deps.specs.Dependencies.{doomed}
 use Rattle.violation_deps.specs.Pairs.{AreTurned}
 use Rattle.violation_deps.specs.Marking.{marks_with, new_marks, unmarked}

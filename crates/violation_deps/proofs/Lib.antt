@@ -5,3 +5,6 @@ pub mod Following
 pub mod Preceding
 pub mod Turning
 pub mod InLog
+pub mod Succeeding
+pub mod Fewer
+pub mod Laws

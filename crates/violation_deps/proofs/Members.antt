@@ -11,7 +11,7 @@ use Rattle.clv_base.specs.declared.names.TxId.{TxId}
 use Rattle.clv_base.specs.Orders.{tx_cmp, tx_same, tx_in, tx_insert, pair_cmp}
 use Rattle.clv_base.specs.Facts.{predecessors_of}
 use Rattle.clv_base.proofs.SameNames.{or_left, or_right, tx_true, tx_self, tx_eq, in_insert, insert_keeps, insert_has}
-use Rattle.tx_table.proofs.Names.{tx_symmetric}
+use Rattle.tx_table.proofs.Laws.Names.{tx_symmetric}
 use Rattle.protocol_laws.specs.UndoLaws.{is_pair}
 use Rattle.violation_deps.specs.Marking.{marks_with, new_marks}
 use Rattle.violation_deps.proofs.Runs.{of_tx, tx_total}

@@ -1,10 +1,12 @@
 //! The dependencies.
 
-ghost use Rattle.std.specs.Prelude.{◌≡◌, ◌≤◌, ◌<◌, ◌+◌, [], ◌∷◌, None, Some, length, map, max, IfOk, OnOk, OnErr, if◌then◌else◌};
+ghost use Rattle.std.specs.Prelude.{◌≡◌, ◌≤◌, ◌<◌, ◌+◌, [], ◌∷◌, None, Some, length, map, max, not, vec_capacity, IfOk, OnOk, OnErr, if◌then◌else◌};
+ghost use Rattle.std.specs.List.{filter};
 ghost use Rattle.std.specs.List.Sorted.{IsStrictlySortedBy};
 ghost use Rattle.clv_base.specs.declared.names.TxId.{TxId as Tx};
 ghost use Rattle.clv_base.specs.Orders.{tx_cmp, tx_same, tx_in, tx_get, pair_insert};
 ghost use Rattle.clv_base.specs.Facts.{predecessors_of};
+ghost use Rattle.protocol_laws.specs.UndoLaws.{is_pair};
 ghost use Rattle.clv_base.specs.Undo.{pairs_without};
 ghost use Rattle.violation_deps.specs.Dependencies.{doomed, undecided_by, due_of};
 
@@ -138,6 +140,13 @@ impl Deps {
         run_of(&self.pairs, tx)
     }
 
+    /// The transaction's pairs with its successors, turned round: each successor once, rising.
+    pub fn successors(&self, pred: TxId) -> &[(TxId, TxId)]
+        ensures { (t : Tx) → tx_in t (map (λ p. p.1) result.now) ≡ is_pair self.now.pairs t pred }
+    {
+        run_of(&self.turned, pred)
+    }
+
     /// Whether the second transaction is a predecessor of the first.
     pub fn is_predecessor(&self, tx: TxId, pred: TxId) -> bool
         ensures { result ≡ tx_in pred (predecessors_of self.now.pairs tx) }
@@ -173,6 +182,16 @@ impl Deps {
     {
         mark_from(&self.turned, tx, &mut self.marks, &mut self.queue);
         self.marks.len()
+    }
+
+    /// Takes the mark off a transaction. Takes no memory.
+    pub fn unmark(&mut self, tx: TxId)
+        ensures marked { self.new.marked ≡ filter (λ t. not (tx_same tx t)) self.old.marked }
+        ensures pairs { self.new.pairs ≡ self.old.pairs }
+        ensures commits { self.new.commits ≡ self.old.commits }
+        ensures room { self.new.room ≡ self.old.room }
+    {
+        drop_one(&mut self.marks, tx);
     }
 
     /// Whether the transaction is marked.
@@ -212,4 +231,19 @@ impl Deps {
         drop_seconds(&mut self.turned, &self.marks);
         self.marks.clear();
     }
+}
+
+/// Whether the second isn't the first.
+fn is_other(tx: TxId, other: TxId) -> bool
+    ensures { result ≡ not (tx_same tx other) }
+{
+    tx != other
+}
+
+/// The list without a transaction.
+fn drop_one(list: &mut Vec<TxId>, tx: TxId)
+    ensures items { list.new.items ≡ filter (λ t. not (tx_same tx t)) list.old.items }
+    ensures room { vec_capacity list.new ≡ vec_capacity list.old }
+{
+    list.retain(|other| is_other(tx, *other));
 }

@@ -1,7 +1,7 @@
 use Rattle.std.proofs.Common.{ap, ◌∙◌}
 use Rattle.clv_base.specs.declared.logs.LogRecord.TheVariants.{Abort}
 use Rattle.clv_base.specs.Logs.{standing}
-use Rattle.protocol_laws.proofs.Doubts.{standing_more}
+use Rattle.law_base.proofs.Doubts.{standing_more}
 use Rattle.cascade_undo.proofs.aborts.append_abort.Goals as goal
 
 pub returns-then-wrote-clause-standing : goal.returns-then-wrote-clause-standing

@@ -1,6 +1,6 @@
 use Rattle.std.proofs.Common.{◌+◌, cond, length, refl, sym, ap, ◌∙◌, arith}
 use Rattle.clv_base.specs.Logs.{standing}
-use Rattle.ordered_store.proofs.Rising.{rises_from}
+use Rattle.ordered_store.proofs.Laws.{rises_from}
 use Rattle.cascade_undo.specs.Steps.{open_of}
 use Rattle.cascade_undo.proofs.Stepping.{key_there, has_room, log_step, writes_step, below_step, open_step, records_step, there_step, below_less}
 use Rattle.cascade_undo.proofs.Growing.{one_longer}

@@ -1,7 +1,7 @@
 use Rattle.std.proofs.Common.{◌≡◌, ap, sym, ◌∙◌, subst, map}
 use Rattle.clv_base.specs.Logs.{in_doubt}
 use Rattle.clv_base.specs.Restarts.{losers, homes_of}
-use Rattle.log_facts.proofs.Rising.{Rises}
+use Rattle.log_facts.proofs.Laws.Rising.{Rises}
 use Rattle.gate_recovery.proofs.Spelled.{losers_rise}
 use Rattle.gate_recovery.proofs.Begun.{firsts_are}
 use Rattle.gate_recovery.proofs.recovering.begin.Goals as goal

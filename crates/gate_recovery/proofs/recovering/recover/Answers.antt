@@ -45,3 +45,10 @@ returns-in-Err-flush_all-clause-failed g c = λ is.
     let batches : ByBatches buffer.records (length found) buffer.durable =
     subst (λ (rs : List LogRecord). ByBatches rs (length found) buffer.durable) (sym c.in-Err-flush_all.ensures.records.0) from_found in
     begun c.args.shard c.args.run c.args.epoch found buffer (g.G.Gate.logs c.flush_all.new.gate) records batches flight
+
+pub returns-in-Ok-flush_all-clause-spelled : goal.returns-in-Ok-flush_all-clause-spelled
+returns-in-Ok-flush_all-clause-spelled g c =
+    let last : has_spelling (Restart c.args.run c.args.epoch) ≡ true = grind (arith, nat_tests, c.requires.run, c.ranges.run.fits, c.ranges.epoch.fits) in
+    let few : length c.args.records.items ≤ 2 ^ 64 - 1 = omega (arith, c.args.records.ok.0, c.args.records.ok.1, c.args.records.small) in
+    subst (λ (rs : List LogRecord). list_all has_spelling rs ≡ true) (sym (c.in-Ok-flush_all.ensures.records.0 ∙ c.in-Ok.ensures.log))
+    (restart_spelled c.args.shard c.args.run c.args.epoch c.args.records.items c.requires.spelled few last)

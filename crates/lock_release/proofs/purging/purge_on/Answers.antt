@@ -5,7 +5,7 @@ use Rattle.clv_base.specs.declared.modes.Anchor.TheVariants.{At}
 use Rattle.clv_base.specs.Locks.{is_free}
 use Rattle.clv_base.specs.Needs.{found_at}
 use Rattle.lock_release.specs.Ghosts.{is_ghost, without_ghost_on}
-use Rattle.ordered_store.proofs.Rising.{rises_from}
+use Rattle.ordered_store.proofs.Laws.{rises_from}
 use Rattle.lock_release.proofs.Purged.{none_low, held_stays, live_stays, ghost_goes}
 use Rattle.lock_release.proofs.purging.purge_on.Goals as goal
 use Rattle.lock_release.proofs.purging.purge_on.Goals.{else-is_ghost-via-then-is_ghost+else-free, else-is_ghost-via-else-is_ghost}

@@ -3,7 +3,7 @@ use Rattle.clv_base.specs.Logs.{standing}
 use Rattle.clv_base.specs.Undo.{records_without}
 use Rattle.log_facts.specs.Facts.{Knows, known}
 use Rattle.cascade_undo.specs.Writes.{writes_of, HaveRecords}
-use Rattle.cascade_undo.proofs.Keeping.{writes_within}
+use Rattle.cascade_undo.proofs.Laws.{writes_within}
 use Rattle.shard_recovery.specs.Redoing.{redo, aborts, unaborted}
 use Rattle.shard_recovery.proofs.Redone.{redo_has}
 use Rattle.shard_recovery.proofs.Whole.{open_is, fewer, stands, log_whole}

@@ -1,6 +1,6 @@
 use Rattle.std.proofs.Common.{Some, None, ap, ◌∙◌}
 use Rattle.clv_base.specs.Needs.{found_at, is_there, record_set}
-use Rattle.cascade_undo.proofs.Keeping.{set_is_there}
+use Rattle.cascade_undo.proofs.Laws.{set_is_there}
 use Rattle.shard_recovery.proofs.Redone.{set_twice}
 use Rattle.shard_recovery.proofs.redo.hide.Goals as goal
 

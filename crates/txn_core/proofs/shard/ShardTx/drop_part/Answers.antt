@@ -16,6 +16,7 @@ invariant_of-self g c =
       settled = c.self-2.invariant.settled;
       sound = sound_more (mark_dropped tx l) _ s.buffer.room s.buffer.room (local_same _ _ _ _ _ (mark_dropped tx l) refl refl c.mark_dropped.ensures refl refl) (omega arith) (marked_sound l tx s.buffer.room c.self-2.invariant.sound);
       ghosts = c.self-2.invariant.ghosts;
+      few = c.self-2.invariant.few;
     }
 
 pub returns-clause-room : goal.returns-clause-room

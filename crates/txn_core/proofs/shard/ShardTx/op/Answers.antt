@@ -12,7 +12,7 @@ returns-in-Answered-clause-ok g c =
     let s = c.args.self.now in let t = c.attempt.new.self in
     let come = rw c.in-Answered.is at c.in-Ok.ensures.ok in
     let locked = subst (λ (v : TxState). GhostsAreLocked (v.local).locks (v.local).records) c.self.view_is c.self.invariant.ghosts in
-    (t.local, come.0, ap (λ (v : TxState). (v.local).epoch) c.self.view_is ∙ come.1, known_purged s t come.2 locked)
+    (t.local, come.0, ap (λ (v : TxState). (v.local).epoch) c.self.view_is ∙ come.1, known_purged s t come.2 locked, come.3)
 
 pub returns-in-Dead-clause-ok : goal.returns-in-Dead-clause-ok
 returns-in-Dead-clause-ok g c =

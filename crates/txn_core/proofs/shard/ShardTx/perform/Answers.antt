@@ -1,10 +1,10 @@
 -- The log has an UPDATE more, so what is settled stays so; what was done is locked, so all can still be taken away; and its undo has room of its own.
-use Rattle.std.proofs.Common.{◌≡◌, ◌+◌, ◌*◌, ◌≤◌, true, sym, ap, subst, ◌∙◌, arith}
+use Rattle.std.proofs.Common.{◌≡◌, ◌+◌, ◌*◌, ◌≤◌, true, length, sym, ap, subst, ◌∙◌, arith}
 use Rattle.clv_base.specs.Orders.{tx_get}
 use Rattle.clv_base.specs.Logs.{commit_lsn}
 use Rattle.clv_base.specs.State.{Local}
 use Rattle.clv_base.specs.Undo.{stage_of}
-use Rattle.clv_base.specs.OneShard.{add_pairs}
+use Rattle.clv_base.specs.OneShard.{add_pairs, undecided_with}
 use Rattle.op_effects.specs.Effects.{performed_by, locks_after, records_after, log_after, record_count}
 use Rattle.txn_core.specs.State.{TxState}
 use Rattle.txn_core.specs.Sound.{may_work, KeepsSpare}
@@ -12,6 +12,7 @@ use Rattle.txn_core.proofs.Settled.{commit_lsn-log_after}
 use Rattle.txn_core.proofs.Undoing.{sound_more, local_same, spare_like}
 use Rattle.txn_core.proofs.Doing.{sound_performed, spare_performed, known_from, length-log_after}
 use Rattle.txn_core.proofs.Locked.{granted_ghosts_are_locked, ghosts_same}
+use Rattle.txn_core.proofs.Crowds.{few_same, few_written, few_add}
 use Rattle.txn_core.proofs.shard.ShardTx.perform.Goals as goal
 
 pub invariant_of-self-2 : goal.invariant_of-self-2
@@ -29,12 +30,16 @@ invariant_of-self-2 g c =
     let pairs = c.add_predecessors.ensures.pairs ∙ ap (add_pairs tx c.args.violated.now) c.reserve_rest.ensures.pairs in
     let log = c.write_down.ensures.log ∙ ap (λ b. log_after tx write b.records) c.reserve_log.ensures.same in
     let locked = granted_ghosts_are_locked tx birth needs plan.insert l.locks write l.records c.requires.covered c.self.invariant.ghosts in
+    let own : length (undecided_with l tx c.args.violated.now) ≤ 1024 = subst (λ (v : TxState). length (undecided_with v.local tx c.args.violated.now) ≤ 1024) (sym c.self.view_is) c.requires.few in
     record {
       settled = λ t.
           ap (tx_get t) c.add_predecessors.ensures.commits ∙ c.reserve_rest.ensures.commits t ∙ c.self.invariant.settled t
           ∙ sym (ap (λ m. commit_lsn m t) log ∙ commit_lsn-log_after t tx write l.log);
       sound = sound_more (performed_by tx birth needs plan.insert write c.args.violated.now l) _ left left (local_same _ _ _ _ _ (performed_by tx birth needs plan.insert write c.args.violated.now l) records locks c.in-Ok-enter_part.ensures.ok pairs log) (omega arith) after;
       ghosts = ghosts_same _ _ _ _ locks records locked;
+      few =
+          few_same (log_after tx write l.log) c.write_down.new.buffer.records (add_pairs tx c.args.violated.now l.pairs) _ log pairs
+          (few_written tx write l.log (add_pairs tx c.args.violated.now l.pairs) (few_add tx c.args.violated.now l.log l.pairs c.self.invariant.few own));
     }
 
 pub returns-clause-room : goal.returns-clause-room

@@ -13,9 +13,10 @@ use Rattle.txn_core.specs.State.{TxState}
 use Rattle.txn_core.specs.Sound.{is_here, KeepsSpare}
 use Rattle.txn_core.proofs.Settled.{commit_lsn-undone}
 use Rattle.txn_core.proofs.Undoing.{undoable, each_here, doomed_rise, doomed_are_here, sound_away, spare_away, spare_like, sound_more, local_same, state_same}
-use Rattle.lock_release.proofs.Purged.{purged_are_locked}
+use Rattle.lock_release.proofs.Laws.{purged_are_locked}
 use Rattle.txn_core.proofs.Locked.{undone_ghosts_are_locked, sound_purged, ghosts_same}
 use Rattle.txn_core.proofs.Owing.{undo_at_most}
+use Rattle.txn_core.proofs.Crowds.{few_same, few_undone, few_without}
 use Rattle.txn_core.proofs.shard.ShardTx.roll_back_part.Goals as goal
 use Rattle.std.specs.Prelude.{◌++◌}
 
@@ -64,6 +65,8 @@ invariant_of-self g c =
       sound = sound_more (purge (take_away set tx l)) _ c.roll_back.new.buffer.room c.roll_back.new.buffer.room (local_same _ _ _ _ _ (purge (take_away set tx l)) records locks parts pairs log) (omega arith)
           (sound_purged (take_away set tx l) c.roll_back.new.buffer.room left);
       ghosts = ghosts_same _ _ _ _ locks records (purged_are_locked (release set l.locks) (records_without set (standing l.log) l.records));
+      few = few_same (take_away set tx l).log c.roll_back.new.buffer.records (pairs_without set l.pairs) _ log pairs
+          (few_undone l.log (aborts_of l.log set) (clrs_of set (standing l.log)) (pairs_without set l.pairs) (few_without set l.log l.pairs c.self.invariant.few));
     }
 
 pub returns-clause-without : goal.returns-clause-without

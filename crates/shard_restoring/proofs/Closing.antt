@@ -1,0 +1,114 @@
+-- Locks that are taken open and closed at the end are those that a restart restores.
+use Rattle.std.proofs.Common.{◌≡◌, ℕ, List, [], ◌∷◌, refl, sym, ap, ◌∙◌, Bool, true, false, cond, ◌||◌}
+use Rattle.std.proofs.lemmas.Bool.{cond_both}
+use Rattle.std.specs.declared.cmp.Ordering.{Ordering}
+use Rattle.std.specs.declared.cmp.Ordering.TheVariants.{Less, Equal, Greater}
+use Rattle.std.specs.Ordering.{match_ordering}
+use Rattle.clv_base.specs.declared.names.TxId.{TxId}
+use Rattle.clv_base.specs.declared.logs.LogRecord.{LogRecord}
+use Rattle.clv_base.specs.declared.logs.LogRecord.TheVariants.{Update, Clr, Prepare, Commit, Abort, End, Restart}
+use Rattle.clv_base.specs.declared.modes.Anchor.{Anchor}
+use Rattle.clv_base.specs.declared.modes.Anchor.TheVariants.{At}
+use Rattle.clv_base.specs.declared.modes.Holder.{Holder}
+use Rattle.clv_base.specs.declared.modes.Mode.{Mode}
+use Rattle.clv_base.specs.declared.modes.Part.TheVariants.{X}
+use Rattle.clv_base.specs.Orders.{tx_same, tx_in}
+use Rattle.clv_base.specs.Modes.{on_key}
+use Rattle.clv_base.specs.Locks.{Locks, row_cmp, with_mode, take_one, close_holder, close_locks}
+use Rattle.clv_base.specs.Restarts.{old_birth, restored_locks}
+use Rattle.shard_restoring.specs.Opened.{open_lock, with_update, open_locks, close_each}
+
+-- ---- one transaction's locks are closed
+
+close_tx : (t : TxId) (h : Holder) → (close_holder t h).tx ≡ h.tx
+close_tx t h = cond_both (tx_same t h.tx) (record h { closed = true }) h (λ x. x.tx ≡ h.tx) (λ e. refl) (λ e. refl)
+
+close_mode : (t : TxId) (h : Holder) (m : Mode) → with_mode (close_holder t h) m ≡ close_holder t (with_mode h m)
+close_mode t h m = at (tx_same t h.tx)
+  where
+    at : (b : Bool) → with_mode (cond b (record h { closed = true }) h) m ≡ cond b (record (with_mode h m) { closed = true }) (with_mode h m)
+    at true = refl
+    at false = refl
+
+close_take : (t : TxId) (a : Anchor) (h : Holder) (locks : Locks) → close_locks t (take_one a h locks) ≡ take_one a (close_holder t h) (close_locks t locks)
+close_take t a h [] = refl
+close_take t a h (r ∷ rs) =
+    at (row_cmp a h.tx r) (close_take t a h rs)
+    ∙ ap (λ x. match_ordering (row_cmp a x r) ((a, close_holder t h) ∷ (r.0, close_holder t r.1) ∷ close_locks t rs) ((a, with_mode (close_holder t r.1) h.mode) ∷ close_locks t rs) ((r.0, close_holder t r.1) ∷ take_one a (close_holder t h) (close_locks t rs))) (sym (close_tx t h))
+    ∙ ap (λ x. match_ordering (row_cmp a (close_holder t h).tx (r.0, record r.1 { tx = x })) ((a, close_holder t h) ∷ (r.0, close_holder t r.1) ∷ close_locks t rs) ((a, with_mode (close_holder t r.1) h.mode) ∷ close_locks t rs) ((r.0, close_holder t r.1) ∷ take_one a (close_holder t h) (close_locks t rs))) (sym (close_tx t r.1))
+    ∙ ap (λ m. match_ordering (row_cmp a (close_holder t h).tx (r.0, close_holder t r.1)) ((a, close_holder t h) ∷ (r.0, close_holder t r.1) ∷ close_locks t rs) ((a, with_mode (close_holder t r.1) m) ∷ close_locks t rs) ((r.0, close_holder t r.1) ∷ take_one a (close_holder t h) (close_locks t rs))) (own_mode t h)
+  where
+    own_mode : (t : TxId) (h : Holder) → h.mode ≡ (close_holder t h).mode
+    own_mode t h = cond_both (tx_same t h.tx) (record h { closed = true }) h (λ x. h.mode ≡ x.mode) (λ e. refl) (λ e. refl)
+
+    at : (o : Ordering) → close_locks t (take_one a h rs) ≡ take_one a (close_holder t h) (close_locks t rs)
+        → close_locks t (match_ordering o ((a, h) ∷ r ∷ rs) ((a, with_mode r.1 h.mode) ∷ rs) (r ∷ take_one a h rs))
+        ≡ match_ordering o ((a, close_holder t h) ∷ (r.0, close_holder t r.1) ∷ close_locks t rs) ((a, with_mode (close_holder t r.1) h.mode) ∷ close_locks t rs) ((r.0, close_holder t r.1) ∷ take_one a (close_holder t h) (close_locks t rs))
+    at Less more = refl
+    at Equal more = ap (λ x. (a, x) ∷ close_locks t rs) (sym (close_mode t r.1 h.mode))
+    at Greater more = ap (λ l. (r.0, close_holder t r.1) ∷ l) more
+
+-- ---- those of several, one after another
+
+abbrev close_holder_each : List TxId → Holder → Holder
+close_holder_each [] h = h
+close_holder_each (t ∷ ts) h = close_holder_each ts (close_holder t h)
+
+each_take : (ts : List TxId) (a : Anchor) (h : Holder) (locks : Locks) → close_each ts (take_one a h locks) ≡ take_one a (close_holder_each ts h) (close_each ts locks)
+each_take [] a h locks = refl
+each_take (t ∷ ts) a h locks = ap (close_each ts) (close_take t a h locks) ∙ each_take ts a (close_holder t h) (close_locks t locks)
+
+abbrev shut_lock : TxId → Holder
+shut_lock tx = record { tx = tx; birth = old_birth tx; mode = on_key X; closed = true }
+
+shut_stays : (ts : List TxId) (tx : TxId) → close_holder_each ts (shut_lock tx) ≡ shut_lock tx
+shut_stays [] tx = refl
+shut_stays (t ∷ ts) tx = ap (close_holder_each ts) (cond_both (tx_same t tx) (shut_lock tx) (shut_lock tx) (λ x. x ≡ shut_lock tx) (λ e. refl) (λ e. refl)) ∙ shut_stays ts tx
+
+each_shuts : (ts : List TxId) (tx : TxId) → tx_in tx ts ≡ true → close_holder_each ts (open_lock tx) ≡ shut_lock tx
+each_shuts [] tx i = absurd cc
+each_shuts (t ∷ ts) tx i = at (tx_same t tx) i (each_shuts ts tx)
+  where
+    at : (b : Bool) → (b || tx_in tx ts) ≡ true → (tx_in tx ts ≡ true → close_holder_each ts (open_lock tx) ≡ shut_lock tx) → close_holder_each ts (cond b (shut_lock tx) (open_lock tx)) ≡ shut_lock tx
+    at true e more = shut_stays ts tx
+    at false e more = more e
+
+close_none : (ts : List TxId) → close_each ts [] ≡ []
+close_none [] = refl
+close_none (t ∷ ts) = close_none ts
+
+taken_shut : (ts : List TxId) (tx : TxId) (k : ℕ) (locks : Locks)
+    → close_each ts (cond (tx_in tx ts) (take_one (At k) (open_lock tx) locks) locks) ≡ cond (tx_in tx ts) (take_one (At k) (shut_lock tx) (close_each ts locks)) (close_each ts locks)
+taken_shut ts tx k locks = at (tx_in tx ts) (each_shuts ts tx)
+  where
+    at : (b : Bool) → (b ≡ true → close_holder_each ts (open_lock tx) ≡ shut_lock tx)
+        → close_each ts (cond b (take_one (At k) (open_lock tx) locks) locks) ≡ cond b (take_one (At k) (shut_lock tx) (close_each ts locks)) (close_each ts locks)
+    at true shuts = each_take ts (At k) (open_lock tx) locks ∙ ap (λ h. take_one (At k) h (close_each ts locks)) (shuts refl)
+    at false shuts = refl
+
+shut_open : (ts : List TxId) (log : List LogRecord) (locks : Locks) → close_each ts (open_locks ts log locks) ≡ restored_locks ts log (close_each ts locks)
+shut_open ts [] locks = refl
+shut_open ts (Update tx k b a ∷ log) locks = shut_open ts log (cond (tx_in tx ts) (take_one (At k) (open_lock tx) locks) locks) ∙ ap (restored_locks ts log) (taken_shut ts tx k locks)
+shut_open ts (Clr tx u k a ∷ log) locks = shut_open ts log locks
+shut_open ts (Prepare tx home ps ∷ log) locks = shut_open ts log locks
+shut_open ts (Commit tx ps ∷ log) locks = shut_open ts log locks
+shut_open ts (Abort tx ∷ log) locks = shut_open ts log locks
+shut_open ts (End tx ∷ log) locks = shut_open ts log locks
+shut_open ts (Restart run epoch ∷ log) locks = shut_open ts log locks
+
+-- sets with the same members
+update_alike : (ss ts : List TxId) → ((t : TxId) → tx_in t ss ≡ tx_in t ts) → (r : LogRecord) (locks : Locks) → with_update ss r locks ≡ with_update ts r locks
+update_alike ss ts same (Update tx k b a) locks = ap (λ c. cond c (take_one (At k) (open_lock tx) locks) locks) (same tx)
+update_alike ss ts same (Clr tx u k a) locks = refl
+update_alike ss ts same (Prepare tx home ps) locks = refl
+update_alike ss ts same (Commit tx ps) locks = refl
+update_alike ss ts same (Abort tx) locks = refl
+update_alike ss ts same (End tx) locks = refl
+update_alike ss ts same (Restart run epoch) locks = refl
+
+open_alike : (ss ts : List TxId) → ((t : TxId) → tx_in t ss ≡ tx_in t ts) → (log : List LogRecord) (locks : Locks) → open_locks ss log locks ≡ open_locks ts log locks
+open_alike ss ts same [] locks = refl
+open_alike ss ts same (r ∷ log) locks = open_alike ss ts same log (with_update ss r locks) ∙ ap (open_locks ts log) (update_alike ss ts same r locks)
+
+pub shut_restored : (ss ts : List TxId) → ((t : TxId) → tx_in t ss ≡ tx_in t ts) → (log : List LogRecord) → close_each ts (open_locks ss log []) ≡ restored_locks ts log []
+shut_restored ss ts same log = ap (close_each ts) (open_alike ss ts same log []) ∙ shut_open ts log [] ∙ ap (restored_locks ts log) (close_none ts)

@@ -1,0 +1,95 @@
+-- What holds of the state after a restart: each part in doubt can be taken away.
+use Rattle.std.proofs.Common.{◌≡◌, ◌≤◌, ◌*◌, ⊎_elim, refl, ap, ◌∙◌, ℕ, Bool, true, false, cond, ◌&&◌, ◌||◌, List, [], ◌∷◌, length, Option, Some, None, arith}
+use Rattle.std.specs.List.{AllByRecursion, filter}
+use Rattle.std.proofs.lemmas.Bool.{both_ways, cases_Bool}
+use Rattle.clv_base.specs.declared.names.TxId.{TxId}
+use Rattle.clv_base.specs.declared.logs.LogRecord.{LogRecord}
+use Rattle.clv_base.specs.declared.logs.LogRecord.TheVariants.{Update, Clr, Prepare, Commit, Abort, End, Restart}
+use Rattle.clv_base.specs.declared.modes.Anchor.TheVariants.{At}
+use Rattle.clv_base.specs.declared.modes.Part.TheVariants.{X}
+use Rattle.clv_base.specs.declared.state.Held.{Held}
+use Rattle.clv_base.specs.Orders.{tx_same, tx_in, anchor_same}
+use Rattle.clv_base.specs.Logs.{StandingUpdate, standing, in_doubt, is_winner, fold_updates}
+use Rattle.clv_base.specs.Locks.{Locks}
+use Rattle.clv_base.specs.Needs.{found_by, is_there}
+use Rattle.clv_base.specs.State.{Local, is_present}
+use Rattle.clv_base.specs.Restarts.{local_after, records_of}
+use Rattle.clv_base.proofs.SameNames.{or_left, or_right, tx_self}
+use Rattle.law_base.proofs.Cells.{record_at}
+use Rattle.law_base.proofs.LockRows.{holds, row_holds}
+use Rattle.txn_core.specs.Sound.{is_here, has_lock, IsHeld, is_update_by, updates_by, IsSound}
+use Rattle.shard_restoring.proofs.Updates.{has_update, standing_updates, restored_there, restored_away, locks_hold, ghosts_there}
+use Rattle.shard_restoring.proofs.Listed.{all_mono, restored_have}
+
+-- ---- a lock with key X is a lock
+
+first_two : (a b c : Bool) → (a && b && c) ≡ true → (a && b) ≡ true
+first_two true true c h = refl
+first_two true false c h = h
+first_two false b c h = h
+
+lock_from : (t : TxId) (k : ℕ) (locks : Locks) → holds true X (At k) t locks ≡ true → has_lock t k locks ≡ true
+lock_from t k [] h = h
+lock_from t k (r ∷ rs) h = at (row_holds true X (At k) t r) refl h (lock_from t k rs)
+  where
+    at : (b : Bool) → row_holds true X (At k) t r ≡ b → (b || holds true X (At k) t rs) ≡ true → (holds true X (At k) t rs ≡ true → has_lock t k rs ≡ true) → ((anchor_same (At k) r.0 && tx_same t (r.1).tx) || has_lock t k rs) ≡ true
+    at true e i more = or_left _ _ (first_two (anchor_same (At k) r.0) (tx_same t (r.1).tx) _ e)
+    at false e i more = or_right (anchor_same (At k) r.0 && tx_same t (r.1).tx) _ (more i)
+
+there_by : (o : Option (Option ℕ)) → (o ≡ None → ⊥) → is_there (found_by o) ≡ true
+there_by None h = absurd (h refl)
+there_by (Some None) h = refl
+there_by (Some (Some v)) h = refl
+
+-- ---- counts
+
+count_fewer : (p q : TxId → Bool) → ((t : TxId) → p t ≡ true → q t ≡ true) → (log : List LogRecord) → updates_by p log ≤ updates_by q log
+count_fewer p q h [] = omega arith
+count_fewer p q h (Update tx k b a ∷ rs) = at (p tx) (q tx) (h tx) (count_fewer p q h rs)
+  where
+    at : (x y : Bool) → (x ≡ true → y ≡ true) → updates_by p rs ≤ updates_by q rs
+        → length (cond x (Update tx k b a ∷ filter (is_update_by p) rs) (filter (is_update_by p) rs)) ≤ length (cond y (Update tx k b a ∷ filter (is_update_by q) rs) (filter (is_update_by q) rs))
+    at true true i more = omega (arith, more)
+    at true false i more = absurd (both_ways false refl (i refl))
+    at false true i more = omega (arith, more)
+    at false false i more = more
+count_fewer p q h (Clr tx u k a ∷ rs) = count_fewer p q h rs
+count_fewer p q h (Prepare tx home ps ∷ rs) = count_fewer p q h rs
+count_fewer p q h (Commit tx ps ∷ rs) = count_fewer p q h rs
+count_fewer p q h (Abort tx ∷ rs) = count_fewer p q h rs
+count_fewer p q h (End tx ∷ rs) = count_fewer p q h rs
+count_fewer p q h (Restart run epoch ∷ rs) = count_fewer p q h rs
+
+own_in : (ts : List TxId) → AllByRecursion (λ t. tx_in t ts ≡ true) ts
+own_in [] = tt
+own_in (t ∷ ts) = (or_left (tx_same t t) (tx_in t ts) (tx_self t), all_mono (λ u. tx_in u ts ≡ true) (λ u. tx_in u (t ∷ ts) ≡ true) (λ u h. or_right (tx_same t u) (tx_in u ts) h) ts (own_in ts))
+
+module _ (shard epoch : ℕ) (log : List LogRecord) where
+  abbrev l : Local
+  l = local_after shard epoch log
+
+  abbrev txs : List TxId
+  txs = in_doubt shard log
+
+  abbrev here_by : Option Held → Bool
+  here_by o = is_present (elim o [ Some h ↦ Some h.stage | None ↦ None ])
+
+  in_here : (t : TxId) → tx_in t txs ≡ true → is_here l t ≡ true
+  in_here t i = ap here_by (restored_there txs t i)
+
+  here_in : (t : TxId) → is_here l t ≡ true → tx_in t txs ≡ true
+  here_in t h = ⊎_elim (λ i. i) (λ o. absurd (both_ways _ (ap here_by (restored_away txs t o)) h)) (cases_Bool (tx_in t txs))
+
+  held : (w : StandingUpdate) → has_update log w.tx w.key ≡ true → IsHeld l w
+  held w u = λ h.
+      let i = here_in w.tx h in (
+        there_by (record_at w.key l.records) (ghosts_there txs log (records_of (fold_updates (is_winner shard log) log [])) w.tx w.key i u),
+        lock_from w.tx w.key l.locks (locks_hold txs log [] w.tx w.key i u),
+      )
+
+  pub restored_sound : (ss : List TxId) (room : ℕ) → ((t : TxId) → tx_in t ss ≡ tx_in t txs) → 2 * updates_by (λ t. tx_in t ss) log ≤ room → IsSound l room
+  restored_sound ss room same enough = record {
+    successors = restored_have (λ t. is_here l t ≡ true) log txs (all_mono (λ t. tx_in t txs ≡ true) (λ t. is_here l t ≡ true) in_here txs (own_in txs));
+    writes = all_mono (λ w. has_update log w.tx w.key ≡ true) (IsHeld l) held (standing log) (standing_updates log);
+    room = let a = count_fewer (is_here l) (λ t. tx_in t ss) (λ t h. same t ∙ here_in t h) log in omega (arith, a, enough);
+  }

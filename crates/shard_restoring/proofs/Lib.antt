@@ -1,0 +1,7 @@
+mod Doubted
+mod Updates
+mod Closing
+mod Listed
+mod Settling
+mod Kept
+mod Whole

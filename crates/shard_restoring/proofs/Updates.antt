@@ -1,0 +1,171 @@
+-- What a restart restores of those in doubt: a part, and a lock and a record at each key that they wrote.
+use Rattle.std.proofs.Common.{◌≡◌, ◌||◌, ⊎_elim, refl, sym, ap, subst, ◌∙◌, ℕ, suc, Bool, true, false, cond, ◌&&◌, ◌==◌, List, [], ◌∷◌, Option, Some, None, eqb-true, eq-eqb}
+use Rattle.std.specs.List.{AllByRecursion, list_any}
+use Rattle.std.proofs.lemmas.Bool.{both_ways, cond-true, cond_both, or_cases, and_parts, and_from}
+use Rattle.clv_base.specs.declared.names.TxId.{TxId}
+use Rattle.clv_base.specs.declared.logs.LogRecord.{LogRecord}
+use Rattle.clv_base.specs.declared.logs.LogRecord.TheVariants.{Update, Clr, Prepare, Commit, Abort, End, Restart}
+use Rattle.clv_base.specs.declared.modes.Part.TheVariants.{X}
+use Rattle.clv_base.specs.declared.modes.Anchor.TheVariants.{At}
+use Rattle.clv_base.specs.Orders.{tx_same, tx_in, tx_get}
+use Rattle.clv_base.specs.Logs.{StandingUpdate, standing, standing_from, without_newest}
+use Rattle.clv_base.specs.declared.modes.Found.{Found}
+use Rattle.clv_base.specs.declared.modes.Found.TheVariants.{Live, Ghost, Absent}
+use Rattle.clv_base.specs.declared.modes.Holder.{Holder}
+use Rattle.clv_base.specs.Locks.{Locks, take_one}
+use Rattle.clv_base.specs.Modes.{on_key}
+use Rattle.clv_base.specs.Needs.{Records, found_at, found_by}
+use Rattle.clv_base.specs.Restarts.{with_ghosts, ghost_if_absent, restored_locks, restored_parts, restored_part, old_birth}
+use Rattle.clv_base.proofs.SameNames.{or_left, or_right, tx_true, tx_self, tx_flip}
+use Rattle.law_base.proofs.Cells.{record_at}
+use Rattle.law_base.proofs.Anchors.{record_at_set}
+use Rattle.law_base.proofs.LockRows.{holds, take_keeps, take_gives}
+
+-- ---- the UPDATEs of a log, by transaction and key
+
+abbrev pub is_update_at : TxId → ℕ → LogRecord → Bool
+is_update_at t q (Update tx key before after) = tx_same t tx && (q == key)
+is_update_at t q _ = false
+
+abbrev pub has_update : List LogRecord → TxId → ℕ → Bool
+has_update log t q = list_any (is_update_at t q) log
+
+all_without : (P : StandingUpdate → Type 0) (t : TxId) (ws : List StandingUpdate) → AllByRecursion P ws → AllByRecursion P (without_newest t ws)
+all_without P t [] a = tt
+all_without P t (w ∷ ws) a = cond_both (tx_same t w.tx) ws (w ∷ without_newest t ws) (AllByRecursion P) (λ e. a.1) (λ e. (a.0, all_without P t ws a.1))
+
+standing_all : (log : List LogRecord) (n : ℕ) (rs : List LogRecord) (ws : List StandingUpdate) → ((t : TxId) (q : ℕ) → has_update rs t q ≡ true → has_update log t q ≡ true) → AllByRecursion (λ w. has_update log w.tx w.key ≡ true) ws
+    → AllByRecursion (λ w. has_update log w.tx w.key ≡ true) (standing_from n rs ws)
+standing_all log n [] ws h all = all
+standing_all log n (Update tx k b a ∷ rs) ws h all =
+    standing_all log (suc n) rs (record { lsn = n; tx = tx; key = k; before = b; after = a } ∷ ws) (λ t q e. h t q (or_right (tx_same t tx && (q == k)) _ e))
+    (h tx k (or_left _ _ (and_from _ _ (tx_self tx) (eq-eqb k k refl))), all)
+standing_all log n (Clr tx u k a ∷ rs) ws h all = standing_all log (suc n) rs (without_newest tx ws) h (all_without _ tx ws all)
+standing_all log n (Prepare tx home ps ∷ rs) ws h all = standing_all log (suc n) rs ws h all
+standing_all log n (Commit tx ps ∷ rs) ws h all = standing_all log (suc n) rs ws h all
+standing_all log n (Abort tx ∷ rs) ws h all = standing_all log (suc n) rs ws h all
+standing_all log n (End tx ∷ rs) ws h all = standing_all log (suc n) rs ws h all
+standing_all log n (Restart run epoch ∷ rs) ws h all = standing_all log (suc n) rs ws h all
+
+pub standing_updates : (log : List LogRecord) → AllByRecursion (λ w. has_update log w.tx w.key ≡ true) (standing log)
+standing_updates log = standing_all log 0 log [] (λ t q e. e) tt
+
+-- ---- parts
+
+pub restored_there : (txs : List TxId) (t : TxId) → tx_in t txs ≡ true → tx_get t (restored_parts txs) ≡ Some (restored_part t)
+restored_there [] t i = absurd (both_ways false refl i)
+restored_there (x ∷ xs) t i = at (tx_same t x) refl (restored_there xs t)
+  where
+    at : (b : Bool) → tx_same t x ≡ b → (tx_in t xs ≡ true → tx_get t (restored_parts xs) ≡ Some (restored_part t)) → cond b (Some (restored_part x)) (tx_get t (restored_parts xs)) ≡ Some (restored_part t)
+    at true e k = ap (λ z. Some (restored_part z)) (sym (tx_true t x e))
+    at false e k = k (⊎_elim (λ h. absurd (both_ways _ e (tx_flip x t h))) (λ h. h) (or_cases (tx_same x t) (tx_in t xs) i))
+
+pub restored_away : (txs : List TxId) (t : TxId) → tx_in t txs ≡ false → tx_get t (restored_parts txs) ≡ None
+restored_away [] t i = refl
+restored_away (x ∷ xs) t i = at (tx_same t x) refl (restored_away xs t)
+  where
+    rest : (a b : Bool) → (a || b) ≡ false → b ≡ false
+    rest true b h = absurd (both_ways _ h refl)
+    rest false b h = h
+
+    at : (b : Bool) → tx_same t x ≡ b → (tx_in t xs ≡ false → tx_get t (restored_parts xs) ≡ None) → cond b (Some (restored_part x)) (tx_get t (restored_parts xs)) ≡ None
+    at true e k = absurd (both_ways _ i (or_left _ _ (tx_flip t x e)))
+    at false e k = k (rest (tx_same x t) (tx_in t xs) i)
+
+-- ---- locks
+
+abbrev pub lock_of : TxId → Holder
+lock_of t = record { tx = t; birth = old_birth t; mode = on_key X; closed = true }
+
+lock_case : (txs : List TxId) (tx : TxId) (key : ℕ) (locks : Locks) (t : TxId) (q : ℕ) → holds true X (At q) t locks ≡ true → holds true X (At q) t (cond (tx_in tx txs) (take_one (At key) (lock_of tx) locks) locks) ≡ true
+lock_case txs tx key locks t q h = cond_both (tx_in tx txs) (take_one (At key) (lock_of tx) locks) locks (λ l. holds true X (At q) t l ≡ true) (λ e. take_keeps true X (At q) t (At key) (lock_of tx) locks h) (λ e. h)
+
+locks_keep : (txs : List TxId) (log : List LogRecord) (locks : Locks) (t : TxId) (q : ℕ) → holds true X (At q) t locks ≡ true → holds true X (At q) t (restored_locks txs log locks) ≡ true
+locks_keep txs [] locks t q h = h
+locks_keep txs (Update tx key b a ∷ rs) locks t q h = locks_keep txs rs (cond (tx_in tx txs) (take_one (At key) (lock_of tx) locks) locks) t q (lock_case txs tx key locks t q h)
+locks_keep txs (Clr tx u k a ∷ rs) locks t q h = locks_keep txs rs locks t q h
+locks_keep txs (Prepare tx home ps ∷ rs) locks t q h = locks_keep txs rs locks t q h
+locks_keep txs (Commit tx ps ∷ rs) locks t q h = locks_keep txs rs locks t q h
+locks_keep txs (Abort tx ∷ rs) locks t q h = locks_keep txs rs locks t q h
+locks_keep txs (End tx ∷ rs) locks t q h = locks_keep txs rs locks t q h
+locks_keep txs (Restart run epoch ∷ rs) locks t q h = locks_keep txs rs locks t q h
+
+own_lock : (txs : List TxId) (tx : TxId) (key : ℕ) (locks : Locks) (t : TxId) (q : ℕ) → tx_in t txs ≡ true → (tx_same t tx && (q == key)) ≡ true → holds true X (At q) t (cond (tx_in tx txs) (take_one (At key) (lock_of tx) locks) locks) ≡ true
+own_lock txs tx key locks t q i e =
+    let p = and_parts (tx_same t tx) (q == key) e in
+    let same : t ≡ tx = tx_true t tx p.0 in
+    let at : q ≡ key = eqb-true q key p.1 in
+    subst (λ l. holds true X (At q) t l ≡ true) (sym (cond-true (tx_in tx txs) (take_one (At key) (lock_of tx) locks) locks (subst (λ z. tx_in z txs ≡ true) same i)))
+    (subst (λ z. holds true X (At q) z (take_one (At key) (lock_of tx) locks) ≡ true) (sym same) (subst (λ k. holds true X (At k) tx (take_one (At key) (lock_of tx) locks) ≡ true) (sym at) (take_gives true X (At key) (lock_of tx) locks refl)))
+
+pub locks_hold : (txs : List TxId) (log : List LogRecord) (locks : Locks) (t : TxId) (q : ℕ) → tx_in t txs ≡ true → has_update log t q ≡ true → holds true X (At q) t (restored_locks txs log locks) ≡ true
+locks_hold txs [] locks t q i e = absurd (both_ways false refl e)
+locks_hold txs (Update tx key b a ∷ rs) locks t q i e =
+    ⊎_elim (λ h. locks_keep txs rs (cond (tx_in tx txs) (take_one (At key) (lock_of tx) locks) locks) t q (own_lock txs tx key locks t q i h))
+    (λ h. locks_hold txs rs (cond (tx_in tx txs) (take_one (At key) (lock_of tx) locks) locks) t q i h) (or_cases (tx_same t tx && (q == key)) (has_update rs t q) e)
+locks_hold txs (Clr tx u k a ∷ rs) locks t q i e = locks_hold txs rs locks t q i e
+locks_hold txs (Prepare tx home ps ∷ rs) locks t q i e = locks_hold txs rs locks t q i e
+locks_hold txs (Commit tx ps ∷ rs) locks t q i e = locks_hold txs rs locks t q i e
+locks_hold txs (Abort tx ∷ rs) locks t q i e = locks_hold txs rs locks t q i e
+locks_hold txs (End tx ∷ rs) locks t q i e = locks_hold txs rs locks t q i e
+locks_hold txs (Restart run epoch ∷ rs) locks t q i e = locks_hold txs rs locks t q i e
+
+-- ---- records
+
+-- a ghost where nothing is: the same values, a record there, and those that were there stay
+absent_is : (o : Option (Option ℕ)) → found_by o ≡ Absent → o ≡ None
+absent_is None e = refl
+absent_is (Some None) e = absurd cc
+absent_is (Some (Some v)) e = absurd cc
+
+abbrev IsThere : ℕ → Records → Type 0
+IsThere q rs = record_at q rs ≡ None → ⊥
+
+set_some : (q k : ℕ) (rs : Records) (b : Bool) (o : Option (Option ℕ)) → (b ≡ false → o ≡ None → ⊥) → cond b (Some None) o ≡ None → ⊥
+set_some q k rs true o h e = absurd cc
+set_some q k rs false o h e = h refl e
+
+ghost_keeps : (k q : ℕ) (rs : Records) (f : Found) → IsThere q rs → IsThere q (ghost_if_absent k rs f)
+ghost_keeps k q rs (Live v) h = h
+ghost_keeps k q rs Ghost h = h
+ghost_keeps k q rs Absent h = λ e. set_some q k rs (q == k) (record_at q rs) (λ t. h) (sym (record_at_set q k None rs) ∙ e)
+
+ghost_there : (k : ℕ) (rs : Records) (f : Found) → found_at k rs ≡ f → IsThere k (ghost_if_absent k rs f)
+ghost_there k rs (Live v) e = λ n. live_not (sym (ap found_by n) ∙ e)
+  where
+    live_not : found_by None ≡ Live v → ⊥
+    live_not f = absurd cc
+ghost_there k rs Ghost e = λ n. ghost_not (sym (ap found_by n) ∙ e)
+  where
+    ghost_not : found_by None ≡ Ghost → ⊥
+    ghost_not f = absurd cc
+ghost_there k rs Absent e = λ n. set_some k k rs (k == k) (record_at k rs) (λ t. absurd (both_ways _ t (eq-eqb k k refl))) (sym (record_at_set k k None rs) ∙ n)
+
+ghosts_keep : (txs : List TxId) (log : List LogRecord) (rs : Records) (q : ℕ) → IsThere q rs → IsThere q (with_ghosts txs log rs)
+ghosts_keep txs [] rs q h = h
+ghosts_keep txs (Update tx key b a ∷ log) rs q h =
+    ghosts_keep txs log (cond (tx_in tx txs) (ghost_if_absent key rs (found_at key rs)) rs) q (cond_both (tx_in tx txs) (ghost_if_absent key rs (found_at key rs)) rs (IsThere q) (λ e. ghost_keeps key q rs (found_at key rs) h) (λ e. h))
+ghosts_keep txs (Clr tx u k a ∷ log) rs q h = ghosts_keep txs log rs q h
+ghosts_keep txs (Prepare tx home ps ∷ log) rs q h = ghosts_keep txs log rs q h
+ghosts_keep txs (Commit tx ps ∷ log) rs q h = ghosts_keep txs log rs q h
+ghosts_keep txs (Abort tx ∷ log) rs q h = ghosts_keep txs log rs q h
+ghosts_keep txs (End tx ∷ log) rs q h = ghosts_keep txs log rs q h
+ghosts_keep txs (Restart run epoch ∷ log) rs q h = ghosts_keep txs log rs q h
+
+own_ghost : (txs : List TxId) (tx : TxId) (key : ℕ) (rs : Records) (t : TxId) (q : ℕ) → tx_in t txs ≡ true → (tx_same t tx && (q == key)) ≡ true → IsThere q (cond (tx_in tx txs) (ghost_if_absent key rs (found_at key rs)) rs)
+own_ghost txs tx key rs t q i e =
+    let p = and_parts (tx_same t tx) (q == key) e in
+    subst (IsThere q) (sym (cond-true (tx_in tx txs) (ghost_if_absent key rs (found_at key rs)) rs (subst (λ z. tx_in z txs ≡ true) (tx_true t tx p.0) i)))
+    (subst (λ k. IsThere k (ghost_if_absent key rs (found_at key rs))) (sym (eqb-true q key p.1)) (ghost_there key rs (found_at key rs) refl))
+
+pub ghosts_there : (txs : List TxId) (log : List LogRecord) (rs : Records) (t : TxId) (q : ℕ) → tx_in t txs ≡ true → has_update log t q ≡ true → record_at q (with_ghosts txs log rs) ≡ None → ⊥
+ghosts_there txs [] rs t q i e = absurd (both_ways false refl e)
+ghosts_there txs (Update tx key b a ∷ log) rs t q i e =
+    ⊎_elim (λ h. ghosts_keep txs log (cond (tx_in tx txs) (ghost_if_absent key rs (found_at key rs)) rs) q (own_ghost txs tx key rs t q i h))
+    (λ h. ghosts_there txs log (cond (tx_in tx txs) (ghost_if_absent key rs (found_at key rs)) rs) t q i h) (or_cases (tx_same t tx && (q == key)) (has_update log t q) e)
+ghosts_there txs (Clr tx u k a ∷ log) rs t q i e = ghosts_there txs log rs t q i e
+ghosts_there txs (Prepare tx home ps ∷ log) rs t q i e = ghosts_there txs log rs t q i e
+ghosts_there txs (Commit tx ps ∷ log) rs t q i e = ghosts_there txs log rs t q i e
+ghosts_there txs (Abort tx ∷ log) rs t q i e = ghosts_there txs log rs t q i e
+ghosts_there txs (End tx ∷ log) rs t q i e = ghosts_there txs log rs t q i e
+ghosts_there txs (Restart run epoch ∷ log) rs t q i e = ghosts_there txs log rs t q i e

@@ -1,0 +1,40 @@
+-- The locks of those in doubt, taken before they are closed; and first COMMITs.
+use Rattle.std.specs.Prelude.{ℕ, Bool, cond, List, [], ◌∷◌, Option, Some, None}
+use Rattle.clv_base.specs.declared.names.TxId.{TxId}
+use Rattle.clv_base.specs.declared.logs.LogRecord.{LogRecord}
+use Rattle.clv_base.specs.declared.logs.LogRecord.TheVariants.{Update}
+use Rattle.clv_base.specs.declared.modes.Anchor.TheVariants.{At}
+use Rattle.clv_base.specs.declared.modes.Holder.{Holder}
+use Rattle.clv_base.specs.declared.modes.Part.TheVariants.{X}
+use Rattle.clv_base.specs.Orders.{tx_in}
+use Rattle.clv_base.specs.Modes.{on_key}
+use Rattle.clv_base.specs.Locks.{Locks, take_one, close_locks, holder_of}
+use Rattle.clv_base.specs.Restarts.{old_birth}
+
+-- key X, still active
+abbrev pub open_lock : TxId → Holder
+open_lock tx = holder_of tx (old_birth tx) (on_key X)
+
+-- with the lock on the key of an UPDATE of one of the transactions
+abbrev pub with_update : List TxId → LogRecord → Locks → Locks
+with_update txs (Update tx key before after) locks = cond (tx_in tx txs) (take_one (At key) (open_lock tx) locks) locks
+with_update txs _ locks = locks
+
+-- with those on the keys of all their UPDATEs
+abbrev pub open_locks : List TxId → List LogRecord → Locks → Locks
+open_locks txs [] locks = locks
+open_locks txs (r ∷ log) locks = open_locks txs log (with_update txs r locks)
+
+-- the locks of each of the transactions are closed, one after another
+abbrev pub close_each : List TxId → Locks → Locks
+close_each [] locks = locks
+close_each (t ∷ ts) locks = close_each ts (close_locks t locks)
+
+-- the first place, if there is one, else the second
+abbrev pub first_of : Option ℕ → Option ℕ → Option ℕ
+first_of (Some a) b = Some a
+first_of None b = b
+
+-- the place where it passes
+abbrev pub place_if : Bool → ℕ → Option ℕ
+place_if b n = cond b (Some n) None

@@ -1,0 +1,70 @@
+//! The dependencies of those in doubt, and the COMMITs of the log.
+ghost use Rattle.std.specs.Prelude.{◌≡◌, ◌≤◌, ◌<◌, ◌+◌, [], None, length, IfOk};
+ghost use Rattle.std.specs.List.Sorted.{IsStrictlySortedBy};
+ghost use Rattle.clv_base.specs.declared.names.TxId.{TxId as Tx};
+ghost use Rattle.clv_base.specs.Orders.{tx_get, pair_cmp};
+ghost use Rattle.txn_core.specs.State.{AreSettled};
+ghost use Rattle.shard_restoring.specs.Opened.{first_of, place_if};
+ghost use Rattle.clv_base.specs.Logs.{is_commit_of};
+
+use clv_base::logs::LogRecord;
+use clv_base::names::TxId;
+use std::alloc::{AllocError, Global};
+use violation_deps::Deps;
+
+/// The pairs, which rise, are added where there are none. Takes no memory.
+fn add_pairs(deps: &mut Deps, pairs: &[(TxId, TxId)])
+    requires rising { IsStrictlySortedBy pair_cmp pairs.now }
+    requires empty { deps.old.pairs ≡ [] }
+    requires room { length pairs.now ≤ deps.old.room }
+    ensures pairs { deps.new.pairs ≡ pairs.now }
+    ensures commits { deps.new.commits ≡ deps.old.commits }
+    ensures room { deps.old.room ≤ deps.new.room + length pairs.now }
+{
+    for pair in pairs {
+        deps.add(pair.0, pair.1);
+    }
+}
+
+/// The transaction of a COMMIT is settled at its LSN, unless it was before. Takes no memory.
+fn note_commit(deps: &mut Deps, lsn: usize, found: &LogRecord)
+    requires { 0 < deps.old.room }
+    ensures commits { (t : Tx) → tx_get t deps.new.commits ≡ first_of (tx_get t deps.old.commits) (place_if (is_commit_of t found.now) lsn) }
+    ensures pairs { deps.new.pairs ≡ deps.old.pairs }
+    ensures room { deps.old.room ≤ deps.new.room + 1 }
+{
+    if let LogRecord::Commit { tx, .. } = found {
+        if deps.settled_at(*tx).is_none() {
+            deps.settle(*tx, lsn as u64);
+        }
+    }
+}
+
+/// Each transaction with a COMMIT in the log is settled at its first one's LSN. Takes no memory.
+fn note_commits(deps: &mut Deps, log: &[LogRecord])
+    requires none { (t : Tx) → tx_get t deps.old.commits ≡ None }
+    requires room { length log.now ≤ deps.old.room }
+    ensures settled { AreSettled deps.new.commits log.now }
+    ensures pairs { deps.new.pairs ≡ deps.old.pairs }
+{
+    for (lsn, found) in log.iter().enumerate() {
+        note_commit(deps, lsn, found);
+    }
+}
+
+/// The dependencies with these pairs, which rise, and the COMMITs of the log.
+pub(crate) fn deps_of(
+    alloc: Global,
+    pairs: &[(TxId, TxId)],
+    log: &[LogRecord],
+) -> Result<Deps, AllocError>
+    requires rising { IsStrictlySortedBy pair_cmp pairs.now }
+    ensures pairs { IfOk result (λ d. d.pairs ≡ pairs.now) }
+    ensures settled { IfOk result (λ d. AreSettled d.commits log.now) }
+{
+    let mut deps = Deps::new(alloc)?;
+    deps.reserve(pairs.len() + log.len())?;
+    add_pairs(&mut deps, pairs);
+    note_commits(&mut deps, log);
+    Ok(deps)
+}

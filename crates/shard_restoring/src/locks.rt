@@ -1,0 +1,79 @@
+//! The locks of those in doubt.
+ghost use Rattle.std.specs.Prelude.{◌≡◌, [], OnOk, IfOk};
+ghost use Rattle.clv_base.specs.declared.names.TxId.{TxId as Tx};
+ghost use Rattle.clv_base.specs.declared.modes.Anchor.TheVariants.{At};
+ghost use Rattle.clv_base.specs.Orders.{tx_in};
+ghost use Rattle.clv_base.specs.Locks.{take_one};
+ghost use Rattle.clv_base.specs.Restarts.{restored_locks};
+ghost use Rattle.shard_restoring.specs.Opened.{open_lock, with_update, open_locks, close_each};
+
+use crate::parts::old_birth;
+use clv_base::logs::LogRecord;
+use clv_base::modes::{Anchor, Mode, Need, Part};
+use clv_base::names::TxId;
+use lock_table::{Locks, Memory};
+use log_facts::TxSet;
+use std::alloc::Global;
+
+/// Takes key X on a record.
+fn take_key<L: Locks>(locks: &mut L, tx: TxId, key: u64) -> Result<(), Memory>
+    ensures { OnOk result (L.rows locks.new ≡ take_one (At key) (open_lock tx) (L.rows locks.old)) }
+{
+    let need = Need {
+        anchor: Anchor::At(key),
+        mode: Mode {
+            key: Part::X,
+            gap: Part::N,
+        },
+    };
+    locks.reserve(tx, &[Anchor::At(key)], 1)?;
+    locks.take(tx, old_birth(tx), &[need]);
+    Ok(())
+}
+
+/// Takes key X on the key of an UPDATE of one of these.
+fn take_update<L: Locks>(locks: &mut L, doubtful: &TxSet, found: &LogRecord) -> Result<(), Memory>
+    ensures { OnOk result (L.rows locks.new ≡ with_update doubtful.now found.now (L.rows locks.old)) }
+{
+    if let LogRecord::Update { tx, key, .. } = found {
+        if doubtful.contains(*tx) {
+            take_key(locks, *tx, *key)?;
+        }
+    }
+    Ok(())
+}
+
+/// Takes key X on the keys of all UPDATEs of these.
+fn take_updates<L: Locks>(locks: &mut L, doubtful: &TxSet, log: &[LogRecord]) -> Result<(), Memory>
+    ensures { OnOk result (L.rows locks.new ≡ open_locks doubtful.now log.now (L.rows locks.old)) }
+{
+    for found in log {
+        take_update(locks, doubtful, found)?;
+    }
+    Ok(())
+}
+
+/// The locks of the transactions are closed. Takes no memory.
+fn close_all<L: Locks>(locks: &mut L, txs: &[TxId])
+    ensures { L.rows locks.new ≡ close_each txs.now (L.rows locks.old) }
+{
+    for tx in txs {
+        locks.close_part(*tx);
+    }
+}
+
+/// The locks of the transactions, which are those of the set: key X, closed, on each key that they wrote.
+pub(crate) fn locks_of<L: Locks + Drop>(
+    alloc: Global,
+    txs: &[TxId],
+    doubtful: &TxSet,
+    log: &[LogRecord],
+) -> Result<L, Memory>
+    requires { (t : Tx) → tx_in t doubtful.now ≡ tx_in t txs.now }
+    ensures { IfOk result (λ locks. L.rows locks ≡ restored_locks txs.now log.now []) }
+{
+    let mut locks = L::empty(alloc)?;
+    take_updates(&mut locks, doubtful, log)?;
+    close_all(&mut locks, txs);
+    Ok(locks)
+}

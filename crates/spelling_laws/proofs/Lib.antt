@@ -1,0 +1,4 @@
+pub mod Laws
+mod Rows
+mod Lists
+mod Changes

@@ -1,0 +1,133 @@
+-- How many undecided predecessors a transaction has.
+use Rattle.std.proofs.Common.{◌≡◌, ◌≤◌, ⊎_elim, Bool, true, false, cond, not, ◌||◌, List, [], ◌∷◌, ◌++◌, length, Option, Some, None, refl, sym, ap, subst, ◌∙◌, arith}
+use Rattle.std.proofs.lemmas.Bool.{both_ways, cases_Bool, or_cases, or_left, or_right, false_from_ne_true, and_parts}
+use Rattle.std.proofs.lemmas.List.Folds.{list_any-append}
+use Rattle.std.specs.List.{filter}
+use Rattle.clv_base.specs.declared.names.TxId.{TxId}
+use Rattle.clv_base.specs.declared.logs.LogRecord.{LogRecord}
+use Rattle.clv_base.specs.declared.logs.LogRecord.TheVariants.{Update}
+use Rattle.op_needs.specs.declared.plan.Write.{Write}
+use Rattle.op_effects.specs.Effects.{log_after}
+use Rattle.clv_base.specs.Orders.{tx_same, tx_in, tx_insert, tx_union, pair_insert, pair_cmp}
+use Rattle.std.specs.declared.cmp.Ordering.{Ordering}
+use Rattle.std.specs.declared.cmp.Ordering.TheVariants.{Less, Equal, Greater}
+use Rattle.std.specs.Ordering.{match_ordering}
+use Rattle.clv_base.specs.Logs.{committed_in, is_commit_of}
+use Rattle.clv_base.specs.Facts.{predecessors_of}
+use Rattle.clv_base.specs.Undo.{pairs_without}
+use Rattle.clv_base.specs.OneShard.{add_pairs}
+use Rattle.clv_base.proofs.SameNames.{tx_true, tx_self}
+use Rattle.protocol_laws.specs.UndoLaws.{is_pair}
+use Rattle.law_base.proofs.Tables.{pair_in, in_pair, add_keeps, add_has, insert_from}
+use Rattle.violation_deps.proofs.Laws.{tx_in-insert, same_list}
+use Rattle.op_needs.proofs.Laws.{predecessors_rise, union_rises}
+use Rattle.txn_core.specs.Sound.{FewUndecided}
+use Rattle.txn_core.proofs.Owing.{count-fewer}
+
+-- ---- a longer log
+
+not_or : (b c : Bool) → not (b || c) ≡ true → not b ≡ true
+not_or true c h = h
+not_or false c h = refl
+
+pub few_grows : (log more : List LogRecord) (pairs : List (TxId × TxId)) → FewUndecided log pairs → FewUndecided (log ++ more) pairs
+few_grows log more pairs few t =
+    let a = count-fewer (λ p. not (committed_in (log ++ more) p)) (λ p. not (committed_in log p)) (predecessors_of pairs t) open_before in
+    let b = few t in omega (arith, a, b)
+  where
+    open_before : (p : TxId) → not (committed_in (log ++ more) p) ≡ true → not (committed_in log p) ≡ true
+    open_before p h = not_or (committed_in log p) (committed_in more p) (ap not (sym (list_any-append (is_commit_of p) log more)) ∙ h)
+
+-- ---- fewer pairs
+
+preds_gone : (set : List TxId) (x : TxId) (pairs : List (TxId × TxId)) → tx_in x set ≡ true → predecessors_of (pairs_without set pairs) x ≡ []
+preds_gone set x [] i = refl
+preds_gone set x (p ∷ ps) i = at (tx_in p.0 set) refl (preds_gone set x ps i)
+  where
+    at : (b : Bool) → tx_in p.0 set ≡ b → predecessors_of (pairs_without set ps) x ≡ [] → predecessors_of (cond (not b) (p ∷ pairs_without set ps) (pairs_without set ps)) x ≡ []
+    at true e more = more
+    at false e more =
+        let other : tx_same x p.0 ≡ false = false_from_ne_true _ (λ s. both_ways _ e (subst (λ z. tx_in z set ≡ true) (tx_true x p.0 s) i)) in
+        ap (λ b. elim b [ true ↦ tx_insert p.1 (predecessors_of (pairs_without set ps) x) | false ↦ predecessors_of (pairs_without set ps) x ]) other ∙ more
+
+preds_without : (set : List TxId) (x : TxId) (pairs : List (TxId × TxId)) → tx_in x set ≡ false → predecessors_of (pairs_without set pairs) x ≡ predecessors_of pairs x
+preds_without set x [] out = refl
+preds_without set x (p ∷ ps) out = at (tx_in p.0 set) refl (preds_without set x ps out)
+  where
+    at : (b : Bool) → tx_in p.0 set ≡ b → predecessors_of (pairs_without set ps) x ≡ predecessors_of ps x
+        → predecessors_of (cond (not b) (p ∷ pairs_without set ps) (pairs_without set ps)) x ≡ predecessors_of (p ∷ ps) x
+    at true i more =
+        let other : tx_same x p.0 ≡ false = false_from_ne_true _ (λ e. both_ways _ out (subst (λ z. tx_in z set ≡ true) (sym (tx_true x p.0 e)) i)) in
+        more ∙ sym (ap (λ b. elim b [ true ↦ tx_insert p.1 (predecessors_of ps x) | false ↦ predecessors_of ps x ]) other)
+    at false i more = ap (λ l. elim (tx_same x p.0) [ true ↦ tx_insert p.1 l | false ↦ l ]) more
+
+pub few_without : (set : List TxId) (log : List LogRecord) (pairs : List (TxId × TxId)) → FewUndecided log pairs → FewUndecided log (pairs_without set pairs)
+few_without set log pairs few t =
+    ⊎_elim (λ i. subst (λ (us : List TxId). length (filter (λ p. not (committed_in log p)) us) ≤ 1024) (sym (preds_gone set t pairs i)) (omega arith))
+    (λ o. subst (λ (us : List TxId). length (filter (λ p. not (committed_in log p)) us) ≤ 1024) (sym (preds_without set t pairs o)) (few t)) (cases_Bool (tx_in t set))
+
+-- ---- more pairs of one transaction
+
+preds_insert : (x tx q : TxId) (pairs : List (TxId × TxId)) → tx_same x tx ≡ false → predecessors_of (pair_insert (tx, q) pairs) x ≡ predecessors_of pairs x
+preds_insert x tx q [] other = ap (λ b. elim b [ true ↦ tx_insert q [] | false ↦ [] ]) other
+preds_insert x tx q (p ∷ ps) other = at (pair_cmp (tx, q) p) (preds_insert x tx q ps other)
+  where
+    at : (o : Ordering) → predecessors_of (pair_insert (tx, q) ps) x ≡ predecessors_of ps x → predecessors_of (match_ordering o ((tx, q) ∷ p ∷ ps) (p ∷ ps) (p ∷ pair_insert (tx, q) ps)) x ≡ predecessors_of (p ∷ ps) x
+    at Less more = ap (λ b. elim b [ true ↦ tx_insert q (predecessors_of (p ∷ ps) x) | false ↦ predecessors_of (p ∷ ps) x ]) other
+    at Equal more = refl
+    at Greater more = ap (λ l. elim (tx_same x p.0) [ true ↦ tx_insert p.1 l | false ↦ l ]) more
+
+preds_add : (x tx : TxId) (qs : List TxId) (pairs : List (TxId × TxId)) → tx_same x tx ≡ false → predecessors_of (add_pairs tx qs pairs) x ≡ predecessors_of pairs x
+preds_add x tx [] pairs other = refl
+preds_add x tx (q ∷ qs) pairs other = preds_add x tx qs (pair_insert (tx, q) pairs) other ∙ preds_insert x tx q pairs other
+
+same_bits : (b c : Bool) → (b ≡ true → c ≡ true) → (c ≡ true → b ≡ true) → b ≡ c
+same_bits true c f g = sym (f refl)
+same_bits false true f g = g refl
+same_bits false false f g = refl
+
+-- its new pairs are with these alone
+from_these : (tx : TxId) (qs : List TxId) (pairs : List (TxId × TxId)) (p : TxId) → is_pair (add_pairs tx qs pairs) tx p ≡ true → (tx_in p qs || tx_in p (predecessors_of pairs tx)) ≡ true
+from_these tx [] pairs p e = pair_in pairs tx p e
+from_these tx (q ∷ qs) pairs p e =
+    ⊎_elim (λ i. or_left _ _ (or_right (tx_same q p) (tx_in p qs) i))
+    (λ i. ⊎_elim (λ old. or_right (tx_same q p || tx_in p qs) _ (pair_in pairs tx p old)) (λ new. or_left _ _ (or_left (tx_same q p) (tx_in p qs) (flip p q (and_parts _ _ new).1))) (insert_from pairs (tx, q) tx p (in_pair (pair_insert (tx, q) pairs) tx p i)))
+    (or_cases (tx_in p qs) _ (from_these tx qs (pair_insert (tx, q) pairs) p e))
+  where
+    flip : (p q : TxId) → tx_same p q ≡ true → tx_same q p ≡ true
+    flip p q s = ap (λ z. tx_same z p) (sym (tx_true p q s)) ∙ tx_self p
+
+or_assoc : (a b c : Bool) → (a || (b || c)) ≡ ((a || b) || c)
+or_assoc true b c = refl
+or_assoc false b c = refl
+
+in_union : (t : TxId) (xs ys : List TxId) → tx_in t (tx_union xs ys) ≡ (tx_in t xs || tx_in t ys)
+in_union t [] ys = refl
+in_union t (x ∷ xs) ys = tx_in-insert x t (tx_union xs ys) ∙ ap (λ b. tx_same x t || b) (in_union t xs ys) ∙ or_assoc (tx_same x t) (tx_in t xs) (tx_in t ys)
+
+preds_own : (tx : TxId) (qs : List TxId) (pairs : List (TxId × TxId)) → predecessors_of (add_pairs tx qs pairs) tx ≡ tx_union qs (predecessors_of pairs tx)
+preds_own tx qs pairs =
+    same_list (predecessors_of (add_pairs tx qs pairs) tx) (tx_union qs (predecessors_of pairs tx)) (predecessors_rise (add_pairs tx qs pairs) tx) (union_rises qs (predecessors_of pairs tx) (predecessors_rise pairs tx))
+    (λ p. same_bits _ _ (λ i. in_union p qs (predecessors_of pairs tx) ∙ from_these tx qs pairs p (in_pair (add_pairs tx qs pairs) tx p i))
+    (λ i. pair_in (add_pairs tx qs pairs) tx p
+    (⊎_elim (λ new. add_has tx qs pairs p new) (λ old. add_keeps tx qs pairs tx p (in_pair pairs tx p old)) (or_cases (tx_in p qs) _ (sym (in_union p qs (predecessors_of pairs tx)) ∙ i)))))
+
+pub few_add : (tx : TxId) (qs : List TxId) (log : List LogRecord) (pairs : List (TxId × TxId)) → FewUndecided log pairs
+    → length (filter (λ p. not (committed_in log p)) (tx_union qs (predecessors_of pairs tx))) ≤ 1024 → FewUndecided log (add_pairs tx qs pairs)
+few_add tx qs log pairs few own t =
+    ⊎_elim
+    (λ s. subst (λ (u : TxId). length (filter (λ p. not (committed_in log p)) (predecessors_of (add_pairs tx qs pairs) u)) ≤ 1024) (sym (tx_true t tx s))
+    (subst (λ (us : List TxId). length (filter (λ p. not (committed_in log p)) us) ≤ 1024) (sym (preds_own tx qs pairs)) own))
+    (λ o. subst (λ (us : List TxId). length (filter (λ p. not (committed_in log p)) us) ≤ 1024) (sym (preds_add t tx qs pairs o)) (few t)) (cases_Bool (tx_same t tx))
+
+-- ---- an equal log and equal pairs; the log of an undo, and of a write
+
+pub few_same : (log rest : List LogRecord) (pairs left : List (TxId × TxId)) → rest ≡ log → left ≡ pairs → FewUndecided log pairs → FewUndecided rest left
+few_same log rest pairs left l p few = subst (λ (ps : List (TxId × TxId)). FewUndecided rest ps) (sym p) (subst (λ (rs : List LogRecord). FewUndecided rs pairs) (sym l) few)
+
+pub few_undone : (log aborts clrs : List LogRecord) (pairs : List (TxId × TxId)) → FewUndecided log pairs → FewUndecided (log ++ aborts ++ clrs) pairs
+few_undone log aborts clrs pairs few = few_grows (log ++ aborts) clrs pairs (few_grows log aborts pairs few)
+
+pub few_written : (tx : TxId) (write : Option Write) (log : List LogRecord) (pairs : List (TxId × TxId)) → FewUndecided log pairs → FewUndecided (log_after tx write log) pairs
+few_written tx None log pairs few = few
+few_written tx (Some w) log pairs few = few_grows log (Update tx w.key w.before w.after ∷ []) pairs few

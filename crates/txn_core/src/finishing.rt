@@ -1,0 +1,53 @@
+//! What decides a transaction here, and the end of its part.
+ghost use Rattle.std.specs.Prelude.{◌≡◌, ◌≤◌, ◌<◌, ◌+◌, [], ◌∷◌, ◌++◌, length, None};
+ghost use Rattle.clv_base.specs.declared.logs.LogRecord.TheVariants.{Commit, End};
+ghost use Rattle.clv_base.specs.Undo.{release_parts};
+ghost use Rattle.clv_base.specs.OneShard.{purge};
+ghost use Rattle.clv_base.specs.Due.{append_log};
+ghost use Rattle.txn_core.specs.State.{IsSameBut};
+ghost use Rattle.txn_core.specs.Sound.{HasSpare, KeepsSpare, SpendsSpare};
+
+use crate::committing::write_commit;
+use crate::ending::finish_in;
+use crate::shard::ShardTx;
+use clv_base::logs::LogRecord;
+use clv_base::names::TxId;
+use clv_base::parts::ShardList;
+use lock_release::release_all;
+use lock_table::Locks;
+use ordered_store::Store;
+
+impl<S: Store + Drop, L: Locks + Drop> ShardTx<S, L> {
+    /// A COMMIT of the transaction, with the shards that acknowledge it, goes to the log's end. Takes no memory.
+    pub fn commit_part(&mut self, tx: TxId, parts: ShardList) -> u64
+        requires { HasSpare 1 self.old × (0 < self.old.pairs_room) }
+        ensures lsn { result ≡ length (self.old.local).log }
+        ensures committed { IsSameBut self.old (append_log (Commit tx parts ∷ []) self.old.local) self.new }
+        ensures room { SpendsSpare 1 self.old self.new }
+        ensures pairs_room { self.old.pairs_room ≤ self.new.pairs_room + 1 }
+    {
+        write_commit(&mut self.buffer, &mut self.deps, tx, parts)
+    }
+
+    /// An END of the transaction goes to the log's end. Takes no memory.
+    pub fn end_transaction(&mut self, tx: TxId)
+        requires { HasSpare 1 self.old }
+        ensures ended { IsSameBut self.old (append_log (End tx ∷ []) self.old.local) self.new }
+        ensures room { SpendsSpare 1 self.old self.new }
+        ensures pairs_room { self.old.pairs_room ≤ self.new.pairs_room }
+    {
+        self.buffer.append_reserved(LogRecord::End { tx });
+    }
+
+    /// The transaction's part is finished: its locks are given up, with the ghosts that bear no lock then, its predecessors are forgotten, and
+    /// it is gone by no abort. Takes no memory.
+    pub fn finish_part(&mut self, tx: TxId)
+        ensures finished { IsSameBut self.old (purge (release_parts (tx ∷ []) None self.old.local)) self.new }
+        ensures room { KeepsSpare self.old self.new }
+        ensures pairs_room { self.old.pairs_room ≤ self.new.pairs_room }
+    {
+        release_all(&mut self.store, &mut self.locks, &[tx]);
+        finish_in(&mut self.parts, tx);
+        self.deps.forget(tx);
+    }
+}
