@@ -1,0 +1,12 @@
+pub mod Deciding
+pub mod Least
+pub mod Going
+pub mod Facts
+pub mod Landing
+pub mod Purging
+pub mod Touching
+pub mod Spending
+pub mod Dependents
+pub mod Keys
+pub mod Remaining
+pub mod Laws

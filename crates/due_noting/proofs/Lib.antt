@@ -1,0 +1,4 @@
+pub mod Concerned
+pub mod Noted
+pub mod Known
+pub mod Laws

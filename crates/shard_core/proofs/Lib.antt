@@ -1,0 +1,11 @@
+pub mod Seeing
+pub mod Logged
+pub mod Turned
+pub mod Changing
+pub mod Parts
+pub mod Taking
+pub mod Requested
+pub mod Flying
+pub mod Committing
+pub mod Replied
+pub mod Operated

@@ -1,0 +1,36 @@
+-- What the core of a shard is seen as: the shard of the definitions, with the transactions for which something may be due.
+use Rattle.std.specs.Prelude.{ℕ, Bool, cond, ◌==◌, List, Option, Some, None}
+use Rattle.clv_base.specs.declared.names.TxId.{TxId}
+use Rattle.clv_base.specs.State.{Shard}
+use Rattle.txn_core.specs.State.{TxState}
+use Rattle.vote_participant.specs.Voting.{Voting}
+use Rattle.commit_coordinator.specs.Coordinated.{Coordination}
+use Rattle.due_messages.specs.Sent.{Waiting}
+use Rattle.shard_journal.specs.Journaled.{Journaled}
+
+pub record Core : Type 0 where
+  pub shard : Shard
+  -- rising, and for how many there is room
+  pub candidates : List TxId
+  pub limit : ℕ
+
+-- up to where records are in flight: where more were taken than are durable
+abbrev pub flight_by : ℕ → ℕ → Option ℕ
+flight_by durable taken = cond (durable == taken) None (Some taken)
+
+-- the shard by its parts
+abbrev pub seen_as : ℕ → Bool → ℕ → Journaled → TxState → Voting → Coordination → Waiting → Shard
+seen_as run is_up last journal t p c o =
+    record {
+      shard = t.shard;
+      run = run;
+      is_up = is_up;
+      local = t.local;
+      voters = p.voters;
+      requests = c.requests;
+      durable = t.durable;
+      flight = flight_by t.durable t.taken;
+      outbox = o.messages;
+      last = last;
+      journal = journal.entries;
+    }

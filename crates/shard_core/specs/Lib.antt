@@ -1,0 +1,4 @@
+pub mod Core
+pub mod Whole
+pub mod Replying
+pub mod Operating

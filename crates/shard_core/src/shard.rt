@@ -1,0 +1,40 @@
+//! The core.
+
+use commit_coordinator::Coordinator;
+use due_candidates::Candidates;
+use due_messages::Outbox;
+use lock_table::Locks;
+use ordered_store::Store;
+use shard_journal::Journal;
+use std::marker::Model;
+use tx_table::TxTable;
+use txn_core::ShardTx;
+use vote_participant::Participant;
+
+/// The parts of one shard, in one epoch.
+#[derive(Drop)]
+pub struct ShardCore<S: Store + Drop, L: Locks + Drop> {
+    pub(crate) shard: u32,
+    pub(crate) run: u32,
+    pub(crate) is_up: bool,
+    pub(crate) last: u64,
+    pub(crate) journal: Journal,
+    pub(crate) transactions: ShardTx<S, L>,
+    pub(crate) participant: Participant,
+    pub(crate) coordinator: Coordinator,
+    /// The LSN of each PREPARE.
+    pub(crate) prepares: TxTable<u64>,
+    pub(crate) outbox: Outbox,
+    pub(crate) candidates: Candidates,
+}
+
+impl<S: Store + Drop, L: Locks + Drop> Model for ShardCore<S, L> {
+    ghost use Rattle.shard_core.specs.Core.{Core, seen_as};
+    ghost use Rattle.shard_core.specs.Whole.{IsWhole};
+
+    ghost Value = { Core };
+
+    ghost view = { λ s. record { shard = seen_as s.run s.is_up s.last s.journal s.transactions s.participant s.coordinator s.outbox; candidates = s.candidates.txs; limit = s.candidates.limit } };
+
+    ghost invariant = { λ s. IsWhole s.shard s.prepares.rows s.transactions s.participant s.coordinator s.outbox s.candidates (seen_as s.run s.is_up s.last s.journal s.transactions s.participant s.coordinator s.outbox) };
+}

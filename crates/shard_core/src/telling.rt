@@ -1,0 +1,65 @@
+//! What the core tells of itself.
+ghost use Rattle.std.specs.Prelude.{◌≡◌};
+ghost use Rattle.clv_base.specs.Facts.{facts_of};
+ghost use Rattle.clv_base.specs.Undo.{stage_of as stage_in};
+ghost use Rattle.clv_base.specs.Participant.{taken_by};
+ghost use Rattle.clv_base.specs.Coordinator.{ask_answer};
+ghost use Rattle.clv_base.specs.Orders.{tx_get};
+
+use crate::shard::ShardCore;
+use clv_base::names::TxId;
+use clv_base::parts::PartFacts;
+use clv_base::state::{Stage, Taken};
+use lock_table::Locks;
+use ordered_store::Store;
+
+impl<S: Store + Drop, L: Locks + Drop> ShardCore<S, L> {
+    /// Whether the shard is up.
+    pub fn is_up(&self) -> bool
+        ensures { result ≡ (self.now.shard).is_up }
+    {
+        self.is_up
+    }
+
+    /// The stamp of the last entry.
+    pub fn last(&self) -> u64
+        ensures { result ≡ (self.now.shard).last }
+    {
+        self.last
+    }
+
+    /// The shard's epoch.
+    pub fn epoch(&self) -> u64
+        ensures { result ≡ ((self.now.shard).local).epoch }
+    {
+        self.transactions.epoch()
+    }
+
+    /// How far the transaction's part here is, where it is known.
+    pub fn stage_of(&self, tx: TxId) -> Option<Stage>
+        ensures { result ≡ stage_in (self.now.shard).local tx }
+    {
+        self.transactions.stage_of(tx)
+    }
+
+    /// What votes and decisions on the transaction depend on.
+    pub fn facts(&self, tx: TxId) -> PartFacts
+        ensures { result ≡ facts_of self.now.shard tx }
+    {
+        self.transactions.facts(tx, self.prepares.get(tx))
+    }
+
+    /// What a decision that comes is to the transaction's part: it waited for it, or it is done already, or it is stale.
+    pub fn decision_is(&self, tx: TxId, commit: bool) -> Taken
+        ensures { result ≡ taken_by (facts_of self.now.shard tx) commit }
+    {
+        self.participant.take_decision(commit, &self.facts(tx))
+    }
+
+    /// What a question about the transaction is answered, if it is.
+    pub fn answer_for(&self, tx: TxId) -> Option<bool>
+        ensures { result ≡ ask_answer (tx_get tx (self.now.shard).requests) (facts_of self.now.shard tx) }
+    {
+        self.coordinator.on_ask(tx, &self.facts(tx))
+    }
+}

@@ -1,0 +1,5 @@
+pub mod Setting
+pub mod Restored
+pub mod Doubtful
+pub mod Waiting
+pub mod Laws
