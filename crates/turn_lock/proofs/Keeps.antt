@@ -117,7 +117,7 @@ module _ {E O : Type 0} (n : ℕ) (maker : E → ℕ) (o : O) where
   all_grown : (w : ℕ) (log d : List E) (rs : List (Record E O)) → All (λ r. r.number ≢ w) rs → All (λ e. maker e ≡ w) d → All (Fits n maker o log) rs → All (Fits n maker o (log ++ d)) rs
   all_grown w log d rs ne a f k x l = fits_grown w log d (get_or rs k x) (ne k x l) a (f k x l)
 
-module _ {T E O : Type 0} (journal : T → List E) (origin : T → O) (maker durable : E → ℕ) (n : ℕ) (o : O) where
+module _ {T E O : Type 0} (journal : T → List E) (origin : T → O) (maker durable : E → ℕ) (sound : T → Type 0) (n : ℕ) (o : O) where
   abbrev V : Type 0
   V = View E O
 
@@ -128,13 +128,13 @@ module _ {T E O : Type 0} (journal : T → List E) (origin : T → O) (maker dur
   M = Seated T E O
 
   abbrev Rule : St → Type 0
-  Rule = Kept journal origin maker durable n o
+  Rule = Kept journal origin maker durable sound n o
 
   abbrev Homes : Type 0
   Homes = List (maybe.Option (Option T))
 
   abbrev Slot : List E → Homes → List V → Type 0
-  Slot log homes views = IsHome journal origin maker durable o log homes views ⊎ IsOut journal origin maker durable homes views
+  Slot log homes views = IsHome journal origin maker durable sound o log homes views ⊎ IsOut journal origin maker durable sound homes views
 
   -- a seat that is not at the value changes its view
   set_seat : (vs : List V) (id : ℕ) (v w : V) → get_elem? vs id ≡ some v → get_elem? (set vs id w) id ≡ some w
@@ -148,6 +148,7 @@ module _ {T E O : Type 0} (journal : T → List E) (origin : T → O) (maker dur
     slot = h.slot;
     journal_is = h.journal_is;
     origin_is = h.origin_is;
+    is_sound = h.is_sound;
     none_at = seats_stay (λ _ u. is_turn u.stage ≡ false) vs id w now (λ j d _ e. h.none_at j d e);
   }
   slot_stays log homes vs id v w at was now (inr h) = let apart : h.holder ≢ id = λ e. let same : h.view ≡ v = some-injective h.view v (sym h.there ∙ (ap (get_elem? vs) e ∙ at)) in
@@ -164,6 +165,7 @@ module _ {T E O : Type 0} (journal : T → List E) (origin : T → O) (maker dur
     slot = h.slot;
     journal_is = h.journal_is;
     origin_is = h.origin_is;
+    is_sound = h.is_sound;
     none_at = λ j d e. ⊎_elim (λ (t : get_elem? vs j ≡ some d). h.none_at j d t) (λ (t : w ≡ d). subst (λ (u : V). is_turn u.stage ≡ false) t now) (at_snoc vs w d j e);
   }
   slot_longer log homes vs w now (inr h) = inr record { slot = h.slot; holder = h.holder; view = h.view; there = at_longer vs (w ∷ []) h.holder h.view h.there; turn = h.turn }
@@ -188,8 +190,8 @@ module _ {T E O : Type 0} (journal : T → List E) (origin : T → O) (maker dur
   spread_one : (h : ℕ → ℕ) (v : V) → sum_by (weight {E = E} {O = O} h) (v ∷ []) ≡ weight h v
   spread_one h v = omega (arith, sum_by-cons (weight {E = E} {O = O} h) v [])
 
-  pub starts : (x : T) → n < 2 ^ 64 → journal x ≡ [] → origin x ≡ o → Rule (opening (0 ∷ 0 ∷ 0 ∷ []) (Some x ∷ []) (first_view n o))
-  starts x few empty is = record {
+  pub starts : (x : T) → n < 2 ^ 64 → journal x ≡ [] → origin x ≡ o → sound x → Rule (opening (0 ∷ 0 ∷ 0 ∷ []) (Some x ∷ []) (first_view n o))
+  starts x few empty is so = record {
     drawn = 0;
     served = 0;
     horizon = 0;
@@ -202,7 +204,7 @@ module _ {T E O : Type 0} (journal : T → List E) (origin : T → O) (maker dur
     parts = λ h. spread_one h (first_view n o) ∙ spread h 0 n;
     each = λ i v e. first_of_one (λ (w : V). Known n maker o [] 0 0 0 (λ _. 0) i w) i v e record { stands = tt; heard = omega arith; fits = fresh_fits n maker o 0 n (omega arith) };
     strangers = λ w l. refl;
-    slot = inl record { value = x; slot = refl; journal_is = empty; origin_is = is; none_at = λ i v e. first_of_one (λ (w : V). is_turn w.stage ≡ false) i v e refl };
+    slot = inl record { value = x; slot = refl; journal_is = empty; origin_is = is; is_sound = so; none_at = λ i v e. first_of_one (λ (w : V). is_turn w.stage ≡ false) i v e refl };
   }
 
   pub draws : (slots id : ℕ) (me : M) → me.0.stage ≡ Idle → length me.0.records ≡ 1 → Allows Rule slots id me 0 (λ x. (x + 1) % 2 ^ 64) (drew (step slots 0 1 0 none) me)
@@ -240,8 +242,8 @@ module _ {T E O : Type 0} (journal : T → List E) (origin : T → O) (maker dur
   served_now s r id v k at st found = let q = subst (Standing r.log r.served r.drawn r.place id v.records) st (r.each id v at).stands in let l = q.0 in let h = q.1 in let f = r.few in let m = near s r in
       one_turn r.served k (2 ^ 64) l (omega arith) (sym (ap (λ (ws : List ℕ). get_or ws 1 0) r.words) ∙ found)
 
-  takes_it : (s : St) (r : Rule s) (id : ℕ) (v : V) (k : ℕ) → get_elem? s.views id ≡ some v → v.stage ≡ Waiting k → r.served ≡ k → (h : IsHome journal origin maker durable o r.log s.homes s.views)
-      → (w : V) × (a : Act (Option T)) × Valid s.homes [] a × Rule (stepped s 1 (get_or s.words 1 0) id [] w a) × Taken journal origin maker durable k (v, []) (w, carried_after [] a)
+  takes_it : (s : St) (r : Rule s) (id : ℕ) (v : V) (k : ℕ) → get_elem? s.views id ≡ some v → v.stage ≡ Waiting k → r.served ≡ k → (h : IsHome journal origin maker durable sound o r.log s.homes s.views)
+      → (w : V) × (a : Act (Option T)) × Valid s.homes [] a × Rule (stepped s 1 (get_or s.words 1 0) id [] w a) × Taken journal origin maker durable sound k (v, []) (w, carried_after [] a)
   takes_it s r id v k at st now h =
       let known = r.each id v at in let q = subst (Standing r.log r.served r.drawn r.place id v.records) st known.stands in
       let x : T = h.value in let one = only_one v.records q.3 in let m : Record E O = one.0 in let recs : v.records ≡ m ∷ [] = one.1 in
@@ -282,6 +284,7 @@ module _ {T E O : Type 0} (journal : T → List E) (origin : T → O) (maker dur
           rest = fit.seen.0;
           records = recs;
           origin_is = fit.origin ∙ sym h.origin_is;
+          is_sound = h.is_sound;
           grown = jl ∙ fit.seen.1;
           by_others = entries_by-rest maker m.number r.log m.seen m.own fit.seen.0 fit.seen.1 fit.own fit.known;
           safe = (let h = known.heard in let h' = r.safe in let e : durable_of durable (journal x) ≡ durable_of durable r.log = ap (durable_of durable) jl in omega arith);
@@ -290,21 +293,21 @@ module _ {T E O : Type 0} (journal : T → List E) (origin : T → O) (maker dur
         },
       )
 
-  out_to_another : (s : St) (r : Rule s) (id : ℕ) (v : V) (k : ℕ) → get_elem? s.views id ≡ some v → v.stage ≡ Waiting k → r.served ≡ k → IsOut journal origin maker durable s.homes s.views → ⊥
+  out_to_another : (s : St) (r : Rule s) (id : ℕ) (v : V) (k : ℕ) → get_elem? s.views id ≡ some v → v.stage ≡ Waiting k → r.served ≡ k → IsOut journal origin maker durable sound s.homes s.views → ⊥
   out_to_another s r id v k at st now h = let q = subst (Standing r.log r.served r.drawn r.place id v.records) st (r.each id v at).stands in
       let there = at_value r.log r.place h.holder h.view.records r.served r.drawn h.view.stage (r.each h.holder h.view h.there).stands h.turn in
       let same : h.holder ≡ id = sym there ∙ (ap r.place now ∙ q.2) in let one : h.view ≡ v = some-injective h.view v (sym h.there ∙ (ap (get_elem? s.views) same ∙ at)) in
       let t : true ≡ false = sym h.turn ∙ (ap (λ (u : V). is_turn u.stage) one ∙ ap is_turn st) in absurd cc
 
-  looks' : (slots id : ℕ) (v : V) (k : ℕ) → v.stage ≡ Waiting k → Allows Rule slots id (v, []) 1 (λ x. x) (looked journal origin maker durable (step slots 1 0 0 none) (v, []))
+  looks' : (slots id : ℕ) (v : V) (k : ℕ) → v.stage ≡ Waiting k → Allows Rule slots id (v, []) 1 (λ x. x) (looked journal origin maker durable sound (step slots 1 0 0 none) (v, []))
   looks' slots id v k st s r deep at small = dite (ℕ_discrete (get_or s.words 1 0) (k % 2 ^ 64))
       (λ hit. let now = served_now s r id v k at st hit in
-      let t = ⊎_elim (λ (h : IsHome journal origin maker durable o r.log s.homes s.views). takes_it s r id v k at st now h) (λ (h : IsOut journal origin maker durable s.homes s.views). absurd (out_to_another s r id v k at st now h)) r.slot in
-      (t.0, t.1, t.2, t.3, λ k' st'. let e : k ≡ k' = ap (ticket_or 0) (sym st ∙ st') in ((λ miss. absurd (miss (hit ∙ ap (λ (z : ℕ). z % 2 ^ 64) e))), λ _. subst (λ (z : ℕ). Taken journal origin maker durable z (v, []) (t.0, carried_after [] t.1)) e t.4)))
+      let t = ⊎_elim (λ (h : IsHome journal origin maker durable sound o r.log s.homes s.views). takes_it s r id v k at st now h) (λ (h : IsOut journal origin maker durable sound s.homes s.views). absurd (out_to_another s r id v k at st now h)) r.slot in
+      (t.0, t.1, t.2, t.3, λ k' st'. let e : k ≡ k' = ap (ticket_or 0) (sym st ∙ st') in ((λ miss. absurd (miss (hit ∙ ap (λ (z : ℕ). z % 2 ^ 64) e))), λ _. subst (λ (z : ℕ). Taken journal origin maker durable sound z (v, []) (t.0, carried_after [] t.1)) e t.4)))
       (λ miss. (v, keeps, tt, unmoved s r 1 id v at, λ k' st'. let e : k ≡ k' = ap (ticket_or 0) (sym st ∙ st') in ((λ _. refl), λ hit. absurd (miss (hit ∙ ap (λ (z : ℕ). z % 2 ^ 64) (sym e))))))
 
-  pub looks : (slots id : ℕ) (me : M) (k : ℕ) → me.1 ≡ [] → me.0.stage ≡ Waiting k → Allows Rule slots id me 1 (λ x. x) (looked journal origin maker durable (step slots 1 0 0 none) me)
-  looks slots id me k empty st = subst (λ (xs : List (ℕ × Option T)). Allows Rule slots id (me.0, xs) 1 (λ x. x) (looked journal origin maker durable (step slots 1 0 0 none) (me.0, xs))) (sym empty) (looks' slots id me.0 k st)
+  pub looks : (slots id : ℕ) (me : M) (k : ℕ) → me.1 ≡ [] → me.0.stage ≡ Waiting k → Allows Rule slots id me 1 (λ x. x) (looked journal origin maker durable sound (step slots 1 0 0 none) me)
+  looks slots id me k empty st = subst (λ (xs : List (ℕ × Option T)). Allows Rule slots id (me.0, xs) 1 (λ x. x) (looked journal origin maker durable sound (step slots 1 0 0 none) (me.0, xs))) (sym empty) (looks' slots id me.0 k st)
 
   abbrev made : V → T → Record E O → M
   made v x m = (record { stage = Idle; records = after_turn m (journal x) ∷ []; known = v.known }, [])
@@ -314,9 +317,9 @@ module _ {T E O : Type 0} (journal : T → List E) (origin : T → O) (maker dur
       let ex : x ≡ x' = ap (λ l. some_or x (held_or None l)) (sym is ∙ carried) in let em : m ≡ m' = ap (rec_or m) (sym recs ∙ recs') in λ i. made v (ex i) (em i)
 
   -- what a turn of the number w leaves: its own record, the others' and the rule
-  releases' : (slots id : ℕ) (v : V) (x : T) (m : Record E O) (d : List E) → is_turn v.stage ≡ true → v.records ≡ m ∷ [] → m.origin ≡ origin x → journal x ≡ m.seen ++ d → All (λ e. maker e ≡ m.number) d
+  releases' : (slots id : ℕ) (v : V) (x : T) (m : Record E O) (d : List E) → is_turn v.stage ≡ true → v.records ≡ m ∷ [] → m.origin ≡ origin x → sound x → journal x ≡ m.seen ++ d → All (λ e. maker e ≡ m.number) d
       → Allows Rule slots id (v, (0, Some x) ∷ []) 1 (λ y. (y + 1) % 2 ^ 64) (released journal (step slots 1 1 0 none) (v, (0, Some x) ∷ []))
-  releases' slots id v x m d turn recs oi grown mine s r deep at small =
+  releases' slots id v x m d turn recs oi so grown mine s r deep at small =
       let known = r.each id v at in let t = turn_is v.stage turn in let k : ℕ = t.0 in let st : v.stage ≡ Turn k = t.1 in
       let q = subst (Standing r.log r.served r.drawn r.place id v.records) st known.stands in
       let fit : Fits n maker o r.log m = All-head (Fits n maker o r.log) m [] (subst (All (Fits n maker o r.log)) recs known.fits) in
@@ -357,22 +360,23 @@ module _ {T E O : Type 0} (journal : T → List E) (origin : T → O) (maker dur
                 fits = subst (λ (ys : List E). All (Fits n maker o ys) u.records) (sym is') (all_grown n maker o m.number r.log d u.records free mine p.fits);
               });
           strangers = λ y l. ap (entries_by maker y) is' ∙ (entries_by-append maker y r.log d ∙ (ap (λ ys. ys ++ entries_by maker y d) (r.strangers y l) ∙ entries_by-none maker m.number y d (λ e. let h = fit.small in omega arith) mine));
-          slot = ⊎_elim (λ (h : IsHome journal origin maker durable o r.log s.homes s.views). let no : false ≡ true = sym (h.none_at id v at) ∙ turn in absurd cc)
-              (λ (h : IsOut journal origin maker durable s.homes s.views). inl record {
+          slot = ⊎_elim (λ (h : IsHome journal origin maker durable sound o r.log s.homes s.views). let no : false ≡ true = sym (h.none_at id v at) ∙ turn in absurd cc)
+              (λ (h : IsOut journal origin maker durable sound s.homes s.views). inl record {
                 value = x;
                 slot = ap (λ (hs : Homes). set hs 0 (some (Some x))) h.slot;
                 journal_is = refl;
                 origin_is = sym oi ∙ fit.origin;
+                is_sound = so;
                 none_at = seats_stay (λ _ u. is_turn u.stage ≡ false) s.views id w refl (λ j u other e. let p = r.each j u e in not_elsewhere r.log r.place j u.records r.served r.drawn u.stage p.stands (λ h'. other (sym h' ∙ here)));
               }) r.slot;
         },
         λ x' m' carried recs'. same_turn v x m x' m' recs ((0, Some x) ∷ []) refl carried recs',
       )
 
-  pub releases : (slots id : ℕ) (me : M) (x : T) (m : Record E O) (d : List E) → me.1 ≡ (0, Some x) ∷ [] → is_turn me.0.stage ≡ true → me.0.records ≡ m ∷ [] → m.origin ≡ origin x → journal x ≡ m.seen ++ d
+  pub releases : (slots id : ℕ) (me : M) (x : T) (m : Record E O) (d : List E) → me.1 ≡ (0, Some x) ∷ [] → is_turn me.0.stage ≡ true → me.0.records ≡ m ∷ [] → m.origin ≡ origin x → sound x → journal x ≡ m.seen ++ d
       → All (λ e. maker e ≡ m.number) d → Allows Rule slots id me 1 (λ y. (y + 1) % 2 ^ 64) (released journal (step slots 1 1 0 none) me)
-  releases slots id me x m d carried turn recs oi grown mine = subst (λ (xs : List (ℕ × Option T)). Allows Rule slots id (me.0, xs) 1 (λ y. (y + 1) % 2 ^ 64) (released journal (step slots 1 1 0 none) (me.0, xs))) (sym carried)
-      (releases' slots id me.0 x m d turn recs oi grown mine)
+  releases slots id me x m d carried turn recs oi so grown mine = subst (λ (xs : List (ℕ × Option T)). Allows Rule slots id (me.0, xs) 1 (λ y. (y + 1) % 2 ^ 64) (released journal (step slots 1 1 0 none) (me.0, xs))) (sym carried)
+      (releases' slots id me.0 x m d turn recs oi so grown mine)
 
   -- the horizon becomes y, and one view that is not in line knows of k
   hears : (s : St) (r : Rule s) (id : ℕ) (v : V) (y k : ℕ) → get_elem? s.views id ≡ some v → v.stage ≡ Idle → k ≤ y → r.horizon ≤ y → y ≤ durable_of durable r.log
@@ -458,24 +462,26 @@ module _ {T E O : Type 0} (journal : T → List E) (origin : T → O) (maker dur
   -- what is left at the end, with a view that has all records
   pub record Ended (v : V) (x : T) : Type 0 where
     pub origin_is : origin x ≡ o
+    pub is_sound : sound x
     pub fits : All (Fits n maker o (journal x)) v.records
     pub others : (w : ℕ) → All (λ r. r.number ≢ w) v.records → entries_by maker w (journal x) ≡ []
 
   ends' : (s : St) (r : Rule s) (id : ℕ) (v : V) → get_elem? s.views id ≡ some v → v.stage ≡ Idle → length v.records ≡ n → 0 < n → (x : T) × (s.homes ≡ some (Some x) ∷ []) × Ended v x
   ends' s r id v at idle all some_left = let known = r.each id v at in let ones : sum_by (weight (λ _. 1)) s.views ≡ n = r.parts (λ _. 1) ∙ span_ones 0 n in
       let here : weight {E = E} {O = O} (λ _. 1) v ≡ n = sum_one v.records ∙ all in
-      ⊎_elim (λ (h : IsHome journal origin maker durable o r.log s.homes s.views). let jl : r.log ≡ journal h.value = sym h.journal_is in (
+      ⊎_elim (λ (h : IsHome journal origin maker durable sound o r.log s.homes s.views). let jl : r.log ≡ journal h.value = sym h.journal_is in (
         h.value,
         h.slot,
         record {
           origin_is = h.origin_is;
+          is_sound = h.is_sound;
           fits = subst (λ (ys : List E). All (Fits n maker o ys) v.records) jl known.fits;
           others = λ w no. ap (entries_by maker w) (sym jl) ∙ dite (dec_lt w n)
               (λ low. let a = alone (weight {E = E} {O = O} (λ _. 1)) (weight (is_at w)) s.views id v at (λ z e. ap (sum_by (λ (y : Record E O). is_at w y.number)) (no_one z.records (sym (sum_one z.records) ∙ e))) (ones ∙ sym here) in
               let b = r.parts (is_at w) in let c = span_one w 0 n (omega arith) (omega arith) in let e = sum_none (λ (y : Record E O). y.number) w v.records no in absurd (omega arith))
               (λ high. r.strangers w (omega arith));
         },
-      )) (λ (h : IsOut journal origin maker durable s.homes s.views). let apart : h.holder ≢ id = λ e. let same : h.view ≡ v = some-injective h.view v (sym h.there ∙ (ap (get_elem? s.views) e ∙ at)) in
+      )) (λ (h : IsOut journal origin maker durable sound s.homes s.views). let apart : h.holder ≢ id = λ e. let same : h.view ≡ v = some-injective h.view v (sym h.there ∙ (ap (get_elem? s.views) e ∙ at)) in
       let t : true ≡ false = sym h.turn ∙ (ap (λ (u : V). is_turn u.stage) same ∙ ap is_turn idle) in absurd cc in
       let t = turn_is h.view.stage h.turn in let q = subst (Standing r.log r.served r.drawn r.place h.holder h.view.records) t.1 (r.each h.holder h.view h.there).stands in
       let two = two_le (weight {E = E} {O = O} (λ _. 1)) s.views h.holder id h.view v apart h.there at in let one = sum_one h.view.records in let l = q.3 in absurd (omega arith)) r.slot

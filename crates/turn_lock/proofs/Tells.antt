@@ -16,7 +16,7 @@ use Rattle.turn_lock.specs.declared.pass.Pass.{Pass}
 use Rattle.turn_lock.proofs.Sums.{only_one}
 use Rattle.turn_lock.proofs.Keeps.{some_or, held_or, Ended}
 
-module _ {T E O : Type 0} (journal : T → List E) (origin : T → O) (maker durable : E → ℕ) where
+module _ {T E O : Type 0} (journal : T → List E) (origin : T → O) (maker durable : E → ℕ) (sound : T → Type 0) where
   abbrev V : Type 0
   V = View E O
 
@@ -34,10 +34,11 @@ module _ {T E O : Type 0} (journal : T → List E) (origin : T → O) (maker dur
     pub own_kept : own_in m.0.records ≡ own_in p.records
     pub seen_all : seen_in m.0.records ≡ journal x
     pub origin_is : origin_in p.records ≡ Some (origin x)
+    pub is_sound : sound x
     pub grown : GrownByOthers maker (number_in p.records) (seen_in p.records) (journal x)
     pub safe : p.known ≤ durable_of durable (journal x)
 
-  pub entered : (p : V) (m m' m3 : M) (k : ℕ) (y : Option T) (x : T) → m.0 ≡ record { stage = Waiting k; records = p.records; known = p.known } → Taken journal origin maker durable k m m' → m'.1 ≡ (0, y) ∷ rest m'.1 → y ≡ Some x
+  pub entered : (p : V) (m m' m3 : M) (k : ℕ) (y : Option T) (x : T) → m.0 ≡ record { stage = Waiting k; records = p.records; known = p.known } → Taken journal origin maker durable sound k m m' → m'.1 ≡ (0, y) ∷ rest m'.1 → y ≡ Some x
       → m3 ≡ (m'.0, (0, None) ∷ rest m'.1) → Got p x m3
   entered p m m' m3 k y x is t read got now =
       let xs : y ≡ Some t.value = ap (held_or None) (sym read ∙ t.slot) in
@@ -56,6 +57,7 @@ module _ {T E O : Type 0} (journal : T → List E) (origin : T → O) (maker dur
         own_kept = ap (λ (z : V). own_in z.records) view ∙ ap own_in (sym recs);
         seen_all = ap (λ (z : V). seen_in z.records) view ∙ ap journal ex;
         origin_is = ap origin_in recs ∙ ap (λ (z : O). Some z) (t.origin_is ∙ ap origin ex);
+        is_sound = subst sound ex t.is_sound;
         safe = (let h = t.safe in let h' = ap (λ (z : V). z.known) is in let h'' = ap (λ (z : T). durable_of durable (journal z)) ex in omega arith);
         grown = (t.rest, ap journal (sym ex) ∙ (t.grown ∙ ap (λ (ys : List E). ys ++ t.rest) saw), ap (λ (w : ℕ). entries_by maker w t.rest) (sym num) ∙ t.by_others);
       }
@@ -124,7 +126,7 @@ module _ {T E O : Type 0} where
   all_records items rest first v is recs = let h = first.rests in let one = h.2 in
       omega (arith, ap length recs, length-append first.seat.me.0.records (held rest), held-length rest, ap length is, length-append rest (first ∷ []))
 
-module _ {T E O : Type 0} (journal : T → List E) (origin : T → O) (maker durable : E → ℕ) where
+module _ {T E O : Type 0} (journal : T → List E) (origin : T → O) (maker durable : E → ℕ) (sound : T → Type 0) where
   fits_one : (n : ℕ) (o : O) (log : List E) (p : Pass T E O) → All (Fits n maker o log) p.seat.me.0.records → (pass_origin p ≡ Some o) × StartsWith log (seen p) × (entries_by maker (number p) log ≡ own p)
   fits_one n o log p a = let q = only_one p.seat.me.0.records p.rests.2 in let F : Record E O → Type 0 = Fits n maker o log in let f : F q.0 = All-head F q.0 [] (subst (All F) q.1 a) in
       let R : List (Record E O) → Type 0 = λ rs. (origin_in rs ≡ Some o) × StartsWith log (seen_in rs) × (entries_by maker (number_in rs) log ≡ own_in rs) in subst R (sym q.1) (ap (λ (y : O). Some y) f.origin, f.seen, f.own)
@@ -132,11 +134,12 @@ module _ {T E O : Type 0} (journal : T → List E) (origin : T → O) (maker dur
   -- what is said of all passes at the end
   pub record AllTold (x : T) (ps : List (Pass T E O)) : Type 0 where
     pub origin_is : All (λ p. pass_origin p ≡ Some (origin x)) ps
+    pub is_sound : sound x
     pub seen_is : All (λ p. StartsWith (journal x) (seen p)) ps
     pub own_is : All (λ p. entries_by maker (number p) (journal x) ≡ own p) ps
     pub others : (w : ℕ) → All (λ p. number p ≢ w) ps → entries_by maker w (journal x) ≡ []
 
-  pub tells : (n : ℕ) (o : O) (x : T) (items rest : List (Pass T E O)) (first : Pass T E O) (v : View E O) → items ≡ rest ++ first ∷ [] → v.records ≡ first.seat.me.0.records ++ held rest → Ended journal origin maker durable n o v x → AllTold x items
+  pub tells : (n : ℕ) (o : O) (x : T) (items rest : List (Pass T E O)) (first : Pass T E O) (v : View E O) → items ≡ rest ++ first ∷ [] → v.records ≡ first.seat.me.0.records ++ held rest → Ended journal origin maker durable sound n o v x → AllTold x items
   tells n o x items rest first v is recs e =
       let F : Record E O → Type 0 = Fits n maker o (journal x) in let fits : All F (first.seat.me.0.records ++ held rest) = subst (All F) recs e.fits in
       let Q : Pass T E O → Type 0 = λ p. All F p.seat.me.0.records in
@@ -144,6 +147,7 @@ module _ {T E O : Type 0} (journal : T → List E) (origin : T → O) (maker dur
       (All-cons Q first [] (All-front F first.seat.me.0.records (held rest) fits) (All-nil Q))) in
       record {
         origin_is = λ k d l. (fits_one n o (journal x) (get_or items k d) (all k d l)).0 ∙ ap (λ (y : O). Some y) (sym e.origin_is);
+        is_sound = e.is_sound;
         seen_is = λ k d l. (fits_one n o (journal x) (get_or items k d) (all k d l)).1;
         own_is = λ k d l. (fits_one n o (journal x) (get_or items k d) (all k d l)).2;
         others = λ w no. let N : Pass T E O → Type 0 = λ p. number p ≢ w in let no' : All N (rest ++ first ∷ []) = subst (All N) is no in let R : Record E O → Type 0 = λ r. r.number ≢ w in

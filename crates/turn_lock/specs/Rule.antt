@@ -62,13 +62,14 @@ module _ {E O : Type 0} where
     pub heard : v.known ≤ horizon
     pub fits : All (Fits n maker o log) v.records
 
-module _ {T E O : Type 0} (journal : T → List E) (origin : T → O) (maker durable : E → ℕ) where
+module _ {T E O : Type 0} (journal : T → List E) (origin : T → O) (maker durable : E → ℕ) (sound : T → Type 0) where
   -- the value is at home, and no seat is at it
   pub record IsHome (o : O) (log : List E) (homes : List (maybe.Option (Option T))) (views : List (View E O)) : Type 0 where
     pub value : T
     pub slot : homes ≡ some (Some value) ∷ []
     pub journal_is : journal value ≡ log
     pub origin_is : origin value ≡ o
+    pub is_sound : sound value
     pub none_at : (i : ℕ) (v : View E O) → get_elem? views i ≡ some v → is_turn v.stage ≡ false
 
   -- the seat `holder` has it
@@ -110,20 +111,21 @@ module _ {T E O : Type 0} where
   drew st m n m' = (k : ℕ) × (m' ≡ (record m.0 { stage = Waiting k }, m.1)) × (k % 2 ^ 64 ≡ n)
 
   -- the value x was taken: what it has beyond what was seen is of others
-  pub record Taken (journal : T → List E) (origin : T → O) (maker durable : E → ℕ) (k : ℕ) (m m' : Seated T E O) : Type 0 where
+  pub record Taken (journal : T → List E) (origin : T → O) (maker durable : E → ℕ) (sound : T → Type 0) (k : ℕ) (m m' : Seated T E O) : Type 0 where
     pub value : T
     pub mine : Record E O
     pub rest : List E
     pub records : m.0.records ≡ mine ∷ []
     pub origin_is : mine.origin ≡ origin value
+    pub is_sound : sound value
     pub grown : journal value ≡ mine.seen ++ rest
     pub by_others : entries_by maker mine.number rest ≡ []
     pub safe : m.0.known ≤ durable_of durable (journal value)
     pub view : m'.0 ≡ record { stage = Turn k; records = having_seen mine (journal value) ∷ []; known = m.0.known }
     pub slot : m'.1 ≡ (0, Some value) ∷ []
 
-  abbrev pub looked : (T → List E) → (T → O) → (E → ℕ) → (E → ℕ) → Step (Option T) → Seated T E O → ℕ → Seated T E O → Type 0
-  looked journal origin maker durable st m n m' = (k : ℕ) → m.0.stage ≡ Waiting k → (n ≢ k % 2 ^ 64 → m' ≡ m) × (n ≡ k % 2 ^ 64 → Taken journal origin maker durable k m m')
+  abbrev pub looked : (T → List E) → (T → O) → (E → ℕ) → (E → ℕ) → (T → Type 0) → Step (Option T) → Seated T E O → ℕ → Seated T E O → Type 0
+  looked journal origin maker durable sound st m n m' = (k : ℕ) → m.0.stage ≡ Waiting k → (n ≢ k % 2 ^ 64 → m' ≡ m) × (n ≡ k % 2 ^ 64 → Taken journal origin maker durable sound k m m')
 
   abbrev pub released : (T → List E) → Step (Option T) → Seated T E O → ℕ → Seated T E O → Type 0
   released journal st m n m' = (x : T) (r : Record E O) → m.1 ≡ (0, Some x) ∷ [] → m.0.records ≡ r ∷ [] → m' ≡ (record { stage = Idle; records = after_turn r (journal x) ∷ []; known = m.0.known }, [])

@@ -21,6 +21,9 @@ pub trait Journaled {
     /// The number of the pass that made an entry.
     ghost maker: { Self.Entry → ℕ };
 
+    /// What holds of a value whenever it is at home. It may tell more than a fact: what a ghost field can't hold.
+    ghost sound: { Self → Type 0 };
+
     /// How much an entry says to be durable, 0 where it says nothing of it.
     ghost durable: { Self.Entry → ℕ };
 }

@@ -28,6 +28,7 @@ impl<T: Journaled> TurnLock<T> {
     ) -> Result<(TurnLock<T>, Vec<PassOf<T>>), (Memory, T)>
         requires some { 0 < passes }
         requires empty { T.journal value ≡ [] }
+        requires sound { T.sound value }
         ensures lock { IfOk result (λ r. passes_of r.0 ≡ passes) }
         ensures passes { IfOk result (λ r. (vec_len r.1 ≡ passes) × ((k : ℕ) (d : _) → k < passes → IsNewPass r.0 (T.origin value) k (slice_index_or r.1.items k d))) }
         ensures err { IfErr result (λ e. e.1 ≡ value) }
@@ -86,6 +87,7 @@ impl<T: Journaled> TurnLock<T> {
         ensures origin { pass_origin pass ≡ Some (T.origin result.1) }
         ensures grown { GrownByOthers T.maker (number pass) (seen pass) (T.journal result.1) }
         ensures durable { known pass ≤ durable_of T.durable (T.journal result.1) }
+        ensures sound { T.sound result.1 }
     {
         let Pass { mut seat } = pass;
         let shared = &self.table.shared;
@@ -107,6 +109,7 @@ impl<T: Journaled> TurnLock<T> {
         requires turn { IsTurnOf self.now turn }
         requires origin { turn_origin turn ≡ Some (T.origin value) }
         requires grown { GrownBy T.maker (turn_number turn) (turn_seen turn) (T.journal value) }
+        requires sound { T.sound value }
         ensures pass { IsPassOf self.now result × (number result ≡ turn_number turn) × (known result ≡ turn_known turn) × (pass_origin result ≡ turn_origin turn) }
         ensures seen { seen result ≡ T.journal value }
         ensures own { own result ≡ turn_own turn ++ drop (length (turn_seen turn)) (T.journal value) }
@@ -148,6 +151,7 @@ impl<T: Journaled> TurnLock<T> {
         ensures seen { All (λ p. StartsWith (T.journal result) (seen p)) passes.items }
         ensures own { All (λ p. entries_by T.maker (number p) (T.journal result) ≡ own p) passes.items }
         ensures others { (w : ℕ) → All (λ p. number p ≢ w) passes.items → entries_by T.maker w (T.journal result) ≡ [] }
+        ensures sound { T.sound result }
     {
         let TurnLock { table } = self;
         let Some(Pass { mut seat }) = passes.pop() else {

@@ -16,7 +16,7 @@ impl<T, E, O> Play<Option<T>, View<E, O>> for DrawTicket {
 pub(crate) struct LookForTurn;
 
 impl<T: Journaled> Play<Option<T>, View<T::Entry, T::Origin>> for LookForTurn {
-    ghost then = { looked T.journal T.origin T.maker T.durable };
+    ghost then = { looked T.journal T.origin T.maker T.durable T.sound };
 }
 
 /// Puts the value back and serves the next ticket: one is added to word 1.

@@ -43,7 +43,7 @@ pub struct TurnRule<T> {
 impl<T: Journaled> TableRule<Option<T>, View<T::Entry, T::Origin>, Opening<T>> for TurnRule<T> {
     ghost use Rattle.turn_lock.specs.Rule.{Kept, first_view};
 
-    ghost holds = { λ key. Kept T.journal T.origin T.maker T.durable key.passes (T.origin key.value.value) };
+    ghost holds = { λ key. Kept T.journal T.origin T.maker T.durable T.sound key.passes (T.origin key.value.value) };
 
     ghost first = { λ key. first_view key.passes (T.origin key.value.value) };
 }

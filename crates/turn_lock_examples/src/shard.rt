@@ -29,6 +29,8 @@ impl<D> Journaled for Shard<D> {
 
     ghost origin = { λ s. s.shard };
 
+    ghost sound = { λ s. Unit {0} };
+
     ghost maker = { maker_of };
 
     ghost durable = { durable_in };

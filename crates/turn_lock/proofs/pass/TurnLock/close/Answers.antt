@@ -26,7 +26,7 @@ join_seat-requires g c = let first = c.in-Some.field-0 in let rest = c.pop.new.s
       this,
       p.rests.0,
       omega arith,
-      joins g.T.Journaled.journal g.T.Journaled.origin g.T.Journaled.maker g.T.Journaled.durable _ _ _ _ _ _ c.loop-other.invariant.idle p.rests.1,
+      joins g.T.Journaled.journal g.T.Journaled.origin g.T.Journaled.maker g.T.Journaled.durable g.T.Journaled.sound _ _ _ _ _ _ c.loop-other.invariant.idle p.rests.1,
     )
 
 pub loop-other-preserved : goal.loop-other-preserved
@@ -47,7 +47,7 @@ unreachable-requires-in_default-take g c = let first = c.in-Some.field-0 in let 
     let recs : c.loop-other.seat.me.0.records ≡ first.seat.me.0.records ++ held rest = inv.records ∙ ap (λ l. first.seat.me.0.records ++ held l) all in
     let count = all_records items rest first c.loop-other.seat.me.0 c.in-Some.ensures.items recs in let ok = c.args.passes.ok in let total = c.requires.all in
     let full : length c.loop-other.seat.me.0.records ≡ c.args.self.table.shared.key.passes = omega arith in
-    let e = ends g.T.Journaled.journal g.T.Journaled.origin g.T.Journaled.maker g.T.Journaled.durable _ _ _ _ c.loop-other.seat.id c.loop-other.seat.me.0 c.close_with-closed.ensures.values.2 inv.idle full c.args.self.sized.2 in
+    let e = ends g.T.Journaled.journal g.T.Journaled.origin g.T.Journaled.maker g.T.Journaled.durable g.T.Journaled.sound _ _ _ _ c.loop-other.seat.id c.loop-other.seat.me.0 c.close_with-closed.ensures.values.2 inv.idle full c.args.self.sized.2 in
     let is : c.take.result ≡ Some e.0 = some-injective c.take.result (Some e.0) (sym c.take.ensures.value ∙ e.1) in
     c.in_default-take.not-Some e.0 is
 
@@ -59,8 +59,8 @@ returns g c = let first = c.in-Some.field-0 in let rest = c.pop.new.self.items i
     let recs : c.loop-other.seat.me.0.records ≡ first.seat.me.0.records ++ held rest = inv.records ∙ ap (λ l. first.seat.me.0.records ++ held l) all in
     let count = all_records items rest first c.loop-other.seat.me.0 c.in-Some.ensures.items recs in let ok = c.args.passes.ok in let total = c.requires.all in
     let full : length c.loop-other.seat.me.0.records ≡ c.args.self.table.shared.key.passes = omega arith in
-    let e = ends g.T.Journaled.journal g.T.Journaled.origin g.T.Journaled.maker g.T.Journaled.durable _ _ _ _ c.loop-other.seat.id c.loop-other.seat.me.0 c.close_with-closed.ensures.values.2 inv.idle full c.args.self.sized.2 in
+    let e = ends g.T.Journaled.journal g.T.Journaled.origin g.T.Journaled.maker g.T.Journaled.durable g.T.Journaled.sound _ _ _ _ c.loop-other.seat.id c.loop-other.seat.me.0 c.close_with-closed.ensures.values.2 inv.idle full c.args.self.sized.2 in
     let is : c.take.result ≡ Some e.0 = some-injective c.take.result (Some e.0) (sym c.take.ensures.value ∙ e.1) in
     let same : c.in-Some-take.value ≡ e.0 = ap (some_or e.0) (sym c.in-Some-take.is ∙ is) in
-    let told = tells g.T.Journaled.journal g.T.Journaled.origin g.T.Journaled.maker g.T.Journaled.durable _ _ c.in-Some-take.value items rest first c.loop-other.seat.me.0 c.in-Some.ensures.items recs (subst (λ x. Rattle.turn_lock.proofs.Keeps.Ended g.T.Journaled.journal g.T.Journaled.origin g.T.Journaled.maker g.T.Journaled.durable c.args.self.table.shared.key.passes (g.T.Journaled.origin c.args.self.table.shared.key.value.value) c.loop-other.seat.me.0 x) (sym same) e.2) in
-    record { origin = told.origin_is; seen = told.seen_is; own = told.own_is; others = told.others }
+    let told = tells g.T.Journaled.journal g.T.Journaled.origin g.T.Journaled.maker g.T.Journaled.durable g.T.Journaled.sound _ _ c.in-Some-take.value items rest first c.loop-other.seat.me.0 c.in-Some.ensures.items recs (subst (λ x. Rattle.turn_lock.proofs.Keeps.Ended g.T.Journaled.journal g.T.Journaled.origin g.T.Journaled.maker g.T.Journaled.durable g.T.Journaled.sound c.args.self.table.shared.key.passes (g.T.Journaled.origin c.args.self.table.shared.key.value.value) c.loop-other.seat.me.0 x) (sym same) e.2) in
+    record { origin = told.origin_is; seen = told.seen_is; own = told.own_is; others = told.others; sound = told.is_sound }

@@ -6,7 +6,7 @@ use Rattle.turn_lock.proofs.Tells.{dealt_more, cut_off}
 use Rattle.turn_lock.proofs.pass.TurnLock.deal.Goals as goal
 
 pub split_seat-first-requires : goal.split_seat-first-requires
-split_seat-first-requires g c = let z = c.args.self.now.sized in (c.loop-given.invariant.table, omega arith, splits g.T.Journaled.journal g.T.Journaled.origin g.T.Journaled.maker g.T.Journaled.durable _ _ _ _ c.loop-given.invariant.idle)
+split_seat-first-requires g c = let z = c.args.self.now.sized in (c.loop-given.invariant.table, omega arith, splits g.T.Journaled.journal g.T.Journaled.origin g.T.Journaled.maker g.T.Journaled.durable g.T.Journaled.sound _ _ _ _ c.loop-given.invariant.idle)
 
 pub loop-given-preserved : goal.loop-given-preserved
 loop-given-preserved g c = let o = g.T.Journaled.origin c.args.self.now.table.shared.key.value.value in let inv = c.loop-given.invariant in let now = c.split_seat-first.ensures.2 in let k : ℕ = c.args.passes - (c.loop-given.given + 1) in

@@ -6,13 +6,13 @@ use Rattle.turn_lock.proofs.pass.TurnLock.enter.Goals as goal
 
 pub fetch_add-ticket-requires : goal.fetch_add-ticket-requires
 fetch_add-ticket-requires g c = let p = c.args.pass.rests in let z = c.args.self.now.sized in
-    (c.requires, omega arith, draws g.T.Journaled.journal g.T.Journaled.origin g.T.Journaled.maker g.T.Journaled.durable _ _ _ _ _ p.1 p.2)
+    (c.requires, omega arith, draws g.T.Journaled.journal g.T.Journaled.origin g.T.Journaled.maker g.T.Journaled.durable g.T.Journaled.sound _ _ _ _ _ p.1 p.2)
 
 pub load-served-requires : goal.load-served-requires
 load-served-requires g c = let z = c.args.self.now.sized in let t = c.fetch_add-ticket.ensures.2 in let inv = c.loop.invariant.2 ∙ t.1 in (
   c.loop.invariant.0 ∙ (c.fetch_add-ticket.ensures.0 ∙ c.requires),
   omega arith,
-  looks g.T.Journaled.journal g.T.Journaled.origin g.T.Journaled.maker g.T.Journaled.durable _ _ _ _ _ t.0 (ap (λ m. m.1) inv ∙ c.args.pass.rests.0) (ap (λ m. m.0.stage) inv),
+  looks g.T.Journaled.journal g.T.Journaled.origin g.T.Journaled.maker g.T.Journaled.durable g.T.Journaled.sound _ _ _ _ _ t.0 (ap (λ m. m.1) inv ∙ c.args.pass.rests.0) (ap (λ m. m.0.stage) inv),
 )
 
 pub exchange-requires : goal.exchange-requires
@@ -31,14 +31,14 @@ pub invariant_of-result : goal.invariant_of-result
 invariant_of-result g c = let t = c.fetch_add-ticket.ensures.2 in let inv = c.loop.invariant.2 ∙ t.1 in
     let hit : c.load-served.result ≡ t.0 % 2 ^ 64 = c.if-served-ticket.true ∙ sym t.2 in
     let got = (c.load-served.ensures.2 t.0 (ap (λ m. m.0.stage) inv)).1 hit in
-    let e = entered g.T.Journaled.journal g.T.Journaled.origin g.T.Journaled.maker g.T.Journaled.durable c.args.pass.seat.me.0 _ _ _ t.0 _ _ (ap (λ m. m.0) inv) got c.exchange.ensures.2 c.unwrap-value.ensures c.exchange.ensures.3 in
+    let e = entered g.T.Journaled.journal g.T.Journaled.origin g.T.Journaled.maker g.T.Journaled.durable g.T.Journaled.sound c.args.pass.seat.me.0 _ _ _ t.0 _ _ (ap (λ m. m.0) inv) got c.exchange.ensures.2 c.unwrap-value.ensures c.exchange.ensures.3 in
     record { served = (e.carried, e.turn, e.one) }
 
 pub returns-then-served-ticket-clause-turn : goal.returns-then-served-ticket-clause-turn
 returns-then-served-ticket-clause-turn g c = let t = c.fetch_add-ticket.ensures.2 in let inv = c.loop.invariant.2 ∙ t.1 in
     let hit : c.load-served.result ≡ t.0 % 2 ^ 64 = c.if-served-ticket.true ∙ sym t.2 in
     let got = (c.load-served.ensures.2 t.0 (ap (λ m. m.0.stage) inv)).1 hit in
-    let e = entered g.T.Journaled.journal g.T.Journaled.origin g.T.Journaled.maker g.T.Journaled.durable c.args.pass.seat.me.0 _ _ _ t.0 _ _ (ap (λ m. m.0) inv) got c.exchange.ensures.2 c.unwrap-value.ensures c.exchange.ensures.3 in
+    let e = entered g.T.Journaled.journal g.T.Journaled.origin g.T.Journaled.maker g.T.Journaled.durable g.T.Journaled.sound c.args.pass.seat.me.0 _ _ _ t.0 _ _ (ap (λ m. m.0) inv) got c.exchange.ensures.2 c.unwrap-value.ensures c.exchange.ensures.3 in
     let table = c.exchange.ensures.0 ∙ (c.load-served.ensures.0 ∙ (c.loop.invariant.0 ∙ (c.fetch_add-ticket.ensures.0 ∙ c.requires))) in
     (table, e.number_kept, e.own_kept, e.seen_all, e.known_kept, e.origin_kept)
 
@@ -46,7 +46,7 @@ pub returns-then-served-ticket-clause-origin : goal.returns-then-served-ticket-c
 returns-then-served-ticket-clause-origin g c = let t = c.fetch_add-ticket.ensures.2 in let inv = c.loop.invariant.2 ∙ t.1 in
     let hit : c.load-served.result ≡ t.0 % 2 ^ 64 = c.if-served-ticket.true ∙ sym t.2 in
     let got = (c.load-served.ensures.2 t.0 (ap (λ m. m.0.stage) inv)).1 hit in
-    let e = entered g.T.Journaled.journal g.T.Journaled.origin g.T.Journaled.maker g.T.Journaled.durable c.args.pass.seat.me.0 _ _ _ t.0 _ _ (ap (λ m. m.0) inv) got c.exchange.ensures.2 c.unwrap-value.ensures c.exchange.ensures.3 in
+    let e = entered g.T.Journaled.journal g.T.Journaled.origin g.T.Journaled.maker g.T.Journaled.durable g.T.Journaled.sound c.args.pass.seat.me.0 _ _ _ t.0 _ _ (ap (λ m. m.0) inv) got c.exchange.ensures.2 c.unwrap-value.ensures c.exchange.ensures.3 in
     e.origin_is
 
 pub loop-preserved : goal.loop-preserved
@@ -58,10 +58,17 @@ pub returns-then-served-ticket-clause-durable : goal.returns-then-served-ticket-
 returns-then-served-ticket-clause-durable g c = let t = c.fetch_add-ticket.ensures.2 in let inv = c.loop.invariant.2 ∙ t.1 in
     let hit : c.load-served.result ≡ t.0 % 2 ^ 64 = c.if-served-ticket.true ∙ sym t.2 in
     let got = (c.load-served.ensures.2 t.0 (ap (λ m. m.0.stage) inv)).1 hit in
-    (entered g.T.Journaled.journal g.T.Journaled.origin g.T.Journaled.maker g.T.Journaled.durable c.args.pass.seat.me.0 _ _ _ t.0 _ _ (ap (λ m. m.0) inv) got c.exchange.ensures.2 c.unwrap-value.ensures c.exchange.ensures.3).safe
+    (entered g.T.Journaled.journal g.T.Journaled.origin g.T.Journaled.maker g.T.Journaled.durable g.T.Journaled.sound c.args.pass.seat.me.0 _ _ _ t.0 _ _ (ap (λ m. m.0) inv) got c.exchange.ensures.2 c.unwrap-value.ensures c.exchange.ensures.3).safe
 
 pub returns-then-served-ticket-clause-grown : goal.returns-then-served-ticket-clause-grown
 returns-then-served-ticket-clause-grown g c = let t = c.fetch_add-ticket.ensures.2 in let inv = c.loop.invariant.2 ∙ t.1 in
     let hit : c.load-served.result ≡ t.0 % 2 ^ 64 = c.if-served-ticket.true ∙ sym t.2 in
     let got = (c.load-served.ensures.2 t.0 (ap (λ m. m.0.stage) inv)).1 hit in
-    (entered g.T.Journaled.journal g.T.Journaled.origin g.T.Journaled.maker g.T.Journaled.durable c.args.pass.seat.me.0 _ _ _ t.0 _ _ (ap (λ m. m.0) inv) got c.exchange.ensures.2 c.unwrap-value.ensures c.exchange.ensures.3).grown
+    (entered g.T.Journaled.journal g.T.Journaled.origin g.T.Journaled.maker g.T.Journaled.durable g.T.Journaled.sound c.args.pass.seat.me.0 _ _ _ t.0 _ _ (ap (λ m. m.0) inv) got c.exchange.ensures.2 c.unwrap-value.ensures c.exchange.ensures.3).grown
+
+pub returns-then-served-ticket-clause-sound : goal.returns-then-served-ticket-clause-sound
+returns-then-served-ticket-clause-sound g c = let t = c.fetch_add-ticket.ensures.2 in let inv = c.loop.invariant.2 ∙ t.1 in
+    let hit : c.load-served.result ≡ t.0 % 2 ^ 64 = c.if-served-ticket.true ∙ sym t.2 in
+    let got = (c.load-served.ensures.2 t.0 (ap (λ m. m.0.stage) inv)).1 hit in
+    let e = entered g.T.Journaled.journal g.T.Journaled.origin g.T.Journaled.maker g.T.Journaled.durable g.T.Journaled.sound c.args.pass.seat.me.0 _ _ _ t.0 _ _ (ap (λ m. m.0) inv) got c.exchange.ensures.2 c.unwrap-value.ensures c.exchange.ensures.3 in
+    e.is_sound

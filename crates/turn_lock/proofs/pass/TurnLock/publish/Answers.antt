@@ -9,5 +9,5 @@ pub fetch_max-requires : goal.fetch_max-requires
 fetch_max-requires g c = let z = c.args.self.now.sized in let p = c.args.pass.now in let one = only_one p.seat.me.0.records p.rests.2 in (
   c.requires.pass,
   omega arith,
-  publishes g.T.Journaled.journal g.T.Journaled.origin g.T.Journaled.maker g.T.Journaled.durable _ _ _ _ _ c.args.count one.0 p.rests.1 one.1 (subst (λ l. c.args.count ≤ durable_of g.T.Journaled.durable (seen_in l)) one.1 c.requires.found),
+  publishes g.T.Journaled.journal g.T.Journaled.origin g.T.Journaled.maker g.T.Journaled.durable g.T.Journaled.sound _ _ _ _ _ c.args.count one.0 p.rests.1 one.1 (subst (λ l. c.args.count ≤ durable_of g.T.Journaled.durable (seen_in l)) one.1 c.requires.found),
 )

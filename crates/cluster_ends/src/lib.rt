@@ -1,0 +1,7 @@
+//! The end of a cluster: with all its walkers each lock gives its shard back, and what the shards kept is a legal history.
+#![tactic(auto)]
+
+mod closing;
+mod ending;
+
+pub use closing::close;

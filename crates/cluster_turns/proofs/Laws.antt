@@ -1,0 +1,2 @@
+-- What the crates above may use.
+pub use Rattle.cluster_turns.proofs.Walking.{Adds, none, one, walks, still_pass, looks, event_adds, event_rises, other_goes_on, made_adds, some_inj, the}

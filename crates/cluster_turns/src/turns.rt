@@ -1,0 +1,39 @@
+// One turn of one lock.
+ghost use Rattle.std.specs.Prelude.{◌≡◌, true, Some, IfOk};
+ghost use Rattle.turn_lock.specs.Passes.{number, seen, pass_origin, IsPassOf};
+ghost use Rattle.machine_calls.specs.Events.{event_fits, sends_fit};
+ghost use Rattle.turn_laws.specs.declared.notes.Origin.{Origin as OriginIs};
+ghost use Rattle.turn_laws.specs.Homes.{is_single, is_named, IsFree, state_of};
+ghost use Rattle.cluster_turns.specs.Turns.{Turned, EventTold};
+
+use crate::home::Home;
+use clv_base::events::{Event, Outcome};
+use machine_calls::{Machine, StepError};
+use std::alloc::Global;
+use std::sync::Wait;
+use turn_laws::{Note, Origin};
+use turn_lock::{Pass, TurnLock};
+
+// One event in a turn, with the walker's clock after it.
+pub(crate) fn turn<M: Machine, R: Wait>(
+    rt: &R,
+    alloc: Global,
+    lock: &TurnLock<Home<M>>,
+    pass: Pass<Home<M>, Note, Origin>,
+    clock: u64,
+    walker: u32,
+    event: Event,
+) -> (Pass<Home<M>, Note, Origin>, u64, Result<Outcome, StepError>)
+    requires pass { IsPassOf lock.now pass × (number pass ≡ walker) }
+    requires single { is_single event ≡ true }
+    requires fits { (o : OriginIs) → pass_origin pass ≡ Some o → event_fits o.shard event ≡ true }
+    requires named { is_named walker event ≡ true }
+    requires free { (o : OriginIs) → pass_origin pass ≡ Some o → IsFree (state_of o (seen pass)) event }
+    ensures pass { IsPassOf lock.now result.0 }
+    ensures turned { Turned (EventTold clock walker event result.2 result.1) walker pass result.0 }
+    ensures sends { IfOk result.2 (λ o. sends_fit o ≡ true) }
+{
+    let (turn, mut home) = lock.enter(rt, pass);
+    let (clock, answer) = home.event(alloc, clock, walker, event);
+    (lock.leave(turn, home), clock, answer)
+}

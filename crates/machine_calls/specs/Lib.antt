@@ -1,0 +1,4 @@
+pub mod Events
+pub mod Steps
+pub mod Flights
+pub mod Restored

@@ -1,0 +1,13 @@
+//! The calls of a shard's machine, as those above it see them: events, flushes, restarts, and the parts at its end. Each tells what it does by the
+//! state of the definitions, with its journal, and by the gate that the machine has, if it has it. Whoever puts a machine to use knows these traits alone.
+#![tactic(auto)]
+
+mod flights;
+mod machine;
+mod making;
+mod restarts;
+
+pub use flights::{Flier, Flight};
+pub use machine::{Machine, Parts, StepError};
+pub use making::Maker;
+pub use restarts::Restarter;

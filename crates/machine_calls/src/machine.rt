@@ -1,0 +1,75 @@
+// One event, and what a machine tells of itself.
+ghost use Rattle.std.specs.Prelude.{◌≡◌, ℕ, Option, true, not, IfOk};
+ghost use Rattle.clv_base.specs.declared.events.Entry.{Entry as Made};
+ghost use Rattle.clv_base.specs.State.{Shard};
+ghost use Rattle.clv_base.specs.Events.{step};
+ghost use Rattle.clv_base.specs.Journals.{has_no_equal_active_birth};
+ghost use Rattle.machine_calls.specs.Events.{is_stepped, event_fits, sends_fit};
+ghost use Rattle.machine_calls.specs.Steps.{Tells};
+
+use clv_base::events::{Entry, Event, Outcome};
+use log_gate::Gate;
+use ordered_store::Store;
+use std::alloc::Global;
+
+/// Why no event was made. The machine is as before.
+#[derive(Clone, Copy, Debug, PartialEq, Eq)]
+pub enum StepError {
+    Memory,
+    /// The entry's stamp would be `at` or more, and stamps end below it.
+    Worn { at: u64 },
+}
+
+/// What a machine is made of, at its end.
+pub struct Parts<S, G> {
+    /// None where it was taken.
+    pub gate: Option<G>,
+    pub store: S,
+    pub journal: Vec<Entry>,
+}
+
+/// The machine of a shard. Its meaning is the state of the definitions, with its journal, and the gate of its log, while it has it.
+pub trait Machine {
+    type Store: Store + Drop;
+
+    type Gate: Gate;
+
+    ghost shard: { Self → Shard };
+
+    /// None while the gate is away: for a flush, or because it was taken from a shard that is down.
+    ghost gate: { Self → Option Self.Gate };
+
+    /// The stamp of the last entry, 0 before the first.
+    fn last(&self) -> u64
+        ensures { result ≡ (shard self.now).last };
+
+    fn is_down(&self) -> bool
+        ensures { result ≡ not (shard self.now).is_up };
+
+    fn epoch(&self) -> u64
+        ensures { result ≡ (shard self.now).local.epoch };
+
+    /// One event, or a quiet answer: any event but those of a flush and a restart. While the shard is up, an operation's birth is that of no other active
+    /// part here.
+    fn step(
+        &mut self,
+        alloc: Global,
+        clock: u64,
+        walker: u32,
+        event: Event,
+    ) -> Result<Outcome, StepError>
+        requires stepped { is_stepped event ≡ true }
+        requires fits { event_fits (shard self.old).shard event ≡ true }
+        requires birth { (shard self.old).is_up ≡ true → has_no_equal_active_birth (shard self.old) event ≡ true }
+        ensures told { (made : Option Made) × Tells (step (shard self.old) clock walker event) (shard self.old) clock walker event result (shard self.new) made }
+        ensures gate { gate self.new ≡ gate self.old }
+
+        // What it sends may be delivered.
+        ensures sends { IfOk result (λ o. sends_fit o ≡ true) };
+
+    /// The gate, where the machine has it, the records and the journal, by move.
+    fn into_parts(self) -> Parts<Self::Store, Self::Gate>
+        ensures gate { result.gate ≡ gate self }
+        ensures store { Self.Store.records result.store ≡ (shard self).local.records }
+        ensures journal { result.journal.items ≡ (shard self).journal };
+}

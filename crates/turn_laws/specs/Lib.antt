@@ -1,0 +1,5 @@
+pub mod Notes
+pub mod Homes
+pub mod Gates
+pub mod Sound
+pub mod Laws

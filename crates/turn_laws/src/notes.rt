@@ -1,0 +1,42 @@
+// What a shard's lock takes for an entry.
+use clv_base::events::Entry;
+use clv_base::logs::LogRecord;
+use std::collections::LinkedList;
+use std::snapshot::Snapshot;
+
+/// What never changes of a shard: its number, the run, and the log that opening found.
+#[derive(Drop)]
+pub struct Origin {
+    pub shard: u32,
+    pub run: u32,
+    pub found: Vec<LogRecord>,
+}
+
+/// What is noted of a shard, one after another, for contracts alone: no value of it is made.
+#[derive(Drop)]
+pub enum Note {
+    /// The entry, of a restart with the log that it left.
+    Made {
+        entry: Entry,
+        log: LinkedList<LogRecord>,
+    },
+    /// The walker took the disk.
+    Fetched {
+        walker: u32,
+    },
+}
+
+/// What is kept beside the journal, so that both tell the notes. `at` is the number of entries before it.
+#[derive(Drop)]
+pub enum Mark {
+    /// The next entry is a restart's, and this is the log that it left.
+    Left {
+        at: usize,
+        log: Snapshot<Vec<LogRecord>>,
+    },
+    /// The walker took the disk.
+    Fetched {
+        at: usize,
+        walker: u32,
+    },
+}
