@@ -3,3 +3,4 @@ pub mod Doubting
 pub mod Found
 pub mod Headline
 pub mod Chaining
+pub mod Promising

@@ -4,6 +4,7 @@ ghost use Rattle.headline_laws.specs.Found.{MembersAreFound, MembersReplay};
 ghost use Rattle.headline_laws.specs.Recovering.{PredecessorsStandBefore};
 ghost use Rattle.headline_laws.specs.Settling.{SettledIsTheMap};
 ghost use Rattle.headline_laws.specs.Chaining.{MembersReplayToTheEnd};
+ghost use Rattle.headline_laws.specs.Promise.{Promise};
 
 /// On each shard a member has its COMMIT left; or it is in doubt there beside a COMMIT elsewhere, with all that its PREPARE lists committed; or it
 /// asked, wrote nothing there, and left without falling.
@@ -31,4 +32,10 @@ pub fn settled_is_the_map()
 /// The members by what the next opening finds, failed restarts among it, replay to the map that it finds: so runs follow one another.
 pub fn members_replay_to_the_end()
     ensures { MembersReplayToTheEnd }
+{}
+
+/// The whole promise in one place: answers and map, nothing acknowledged is lost, never taken back, predecessors, sessions, causes and one outcome,
+/// waits, settled, opened again. It needs nothing but that the logs found may be opened and that the history is legal.
+pub fn promise()
+    ensures { Promise }
 {}

@@ -4,6 +4,7 @@
 //! the committed transactions' updates. Both are exactly the definitions of `clv_base`. It stands on these and on the maps of `key_map`.
 #![tactic(auto)]
 
+mod all_entries;
 mod history;
 mod laws;
 mod replays;
@@ -12,6 +13,7 @@ mod standing;
 mod tests;
 mod transactions;
 
+pub use all_entries::entries;
 pub use history::History;
 pub use laws::{one_journal, one_shard};
 pub use replays::replay;

@@ -1,6 +1,7 @@
 // The calls, with memory at hand. Expected values are worked out by hand.
 
-use crate::{History, replay, stands};
+use crate::{History, entries, replay, stands};
+use clv_base::events::{Entry, Event, Outcome};
 use clv_base::logs::LogRecord;
 use clv_base::names::TxId;
 use clv_base::ops::{Answer, Op};
@@ -94,5 +95,36 @@ fn a_history_keeps_journals_and_logs(rt: HostRuntime) -> Result<(), Fail> {
     assert_eq!(rt; history.journals().len(), 2);
     assert_eq!(rt; history.found().len(), 2);
     assert_eq!(rt; history.found()[0].len(), 6);
+    Ok(())
+}
+
+// A Look of a walker, at this stamp.
+fn looked_at(walker: u32, stamp: u64) -> Entry {
+    Entry {
+        stamp,
+        walker,
+        event: Event::Look {
+            tx: named(walker, 1),
+        },
+        outcome: Outcome::Acknowledged,
+    }
+}
+
+#[test]
+fn entries_go_by_stamp_then_shard(rt: HostRuntime) -> Result<(), Fail> {
+    let alloc = rt.alloc();
+    let journals = vec![in alloc;
+        vec![in alloc; looked_at(1, 2), looked_at(2, 5)]?,
+        Vec::new(alloc),
+        vec![in alloc; looked_at(3, 1), looked_at(4, 2), looked_at(5, 9)]?,
+    ]?;
+    let history = History::new(journals, Vec::new(alloc));
+    assert_eq!(rt; history.journals().len(), 3);
+    let wanted = [(2, 3), (0, 1), (2, 4), (0, 2), (2, 5)];
+    let all = entries(alloc, &history)?;
+    assert_eq!(rt; all.len(), 5);
+    for (one, want) in all.iter().zip(wanted.iter()) {
+        assert!(rt; one.0 == want.0 && one.1.walker == want.1);
+    }
     Ok(())
 }
