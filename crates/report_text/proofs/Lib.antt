@@ -1,3 +1,2 @@
 pub mod NoFloats
-pub mod OneJournal
 pub mod Telling

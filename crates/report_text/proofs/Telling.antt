@@ -1,5 +1,5 @@
 -- What one more entry tells.
-use Rattle.std.proofs.Common.{◌≡◌, ⊎_elim, Bool, true, false, cond, List, [], ◌∷◌, ◌++◌, Option, Some, None, refl, sym, ap, ap₂, ◌∙◌, append-nil}
+use Rattle.std.proofs.Common.{◌≡◌, ℕ, ⊎_elim, Bool, true, false, cond, List, [], ◌∷◌, ◌++◌, Option, Some, None, refl, sym, ap, ap₂, ◌∙◌, append-nil}
 use Rattle.std.proofs.lemmas.Bool.{cases_Bool}
 use Rattle.std.proofs.lemmas.List.{map-append}
 use Rattle.clv_base.specs.declared.names.TxId.{TxId}
@@ -7,7 +7,8 @@ use Rattle.clv_base.specs.declared.events.Entry.{Entry}
 use Rattle.clv_base.specs.Orders.{tx_same}
 use Rattle.clv_base.specs.Journals.{History}
 use Rattle.clv_base.proofs.SameNames.{tx_true}
-use Rattle.history_replay.specs.Entries.{on_shard}
+use Rattle.history_replay.specs.Located.{located, located_all}
+use Rattle.std.specs.Borrow.{Bor}
 use Rattle.report_text.specs.declared.told.Told.{Told}
 use Rattle.report_text.specs.Told.{told_by, with_told, told_in}
 
@@ -31,6 +32,6 @@ grown t tx told old h e =
     (λ s. ap (λ b. cond b (old tx ++ told ∷ []) (old t)) s ∙ e ∙ sym (append-nil h) ∙ ap (λ b. h ++ cond b (told ∷ []) []) (sym s))
     (cases_Bool (tx_same tx t))
 
-pub told_more : (t : TxId) (before after : List Entry) (x : Entry) → after ≡ before ++ x ∷ [] → told_in t (on_shard 0 after) ≡ told_in t (on_shard 0 before) ++ with_told t (told_by x.event x.outcome) []
+pub told_more : (t : TxId) (before after : List (ℕ × Bor Entry)) (x : ℕ × Bor Entry) → after ≡ before ++ x ∷ [] → told_in t (located_all after) ≡ told_in t (located_all before) ++ with_told t (told_by (x.1.now).event (x.1.now).outcome) []
 told_more t before after x e =
-    ap (λ j. told_in t (on_shard 0 j)) e ∙ ap (told_in t) (map-append (λ (y : Entry). (0, y)) before (x ∷ [])) ∙ told-append t (on_shard 0 before) ((0, x) ∷ [])
+    ap (λ j. told_in t (located_all j)) e ∙ ap (told_in t) (map-append located before (x ∷ [])) ∙ told-append t (located_all before) (located x ∷ [])

@@ -4,3 +4,4 @@ pub mod Counts
 pub mod Report
 pub mod Sets
 pub mod Sinks
+pub mod Loads

@@ -4,7 +4,7 @@ ghost use Rattle.std.specs.Prelude.{◌≡◌, ◌<◌, ◌^◌, ◌-◌, IfOk, 
 ghost use Rattle.clv_base.specs.declared.names.Birth.{Birth as Age};
 ghost use Rattle.clv_base.specs.declared.names.TxId.{TxId as Tx};
 ghost use Rattle.clv_base.specs.History.{acknowledged_in};
-ghost use Rattle.history_replay.specs.Entries.{on_shard};
+ghost use Rattle.history_replay.specs.Located.{located_all};
 ghost use Rattle.serde_json.specs.View.{view};
 ghost use Rattle.report_text.specs.Told.{has_birth};
 ghost use Rattle.report_text.specs.Counts.{counted as counted_one, counts_in, has_acknowledged_try, summary as summary_value};
@@ -29,13 +29,14 @@ pub struct Counts {
 fn acknowledged_births(
     alloc: Global,
     acknowledged: &TxSet,
-    journal: &[Entry],
+    list: &[(u32, &Entry)],
 ) -> Result<BirthSet, Memory>
-    requires { (t : Tx) → has_tx acknowledged.now t ≡ acknowledged_in (on_shard 0 journal.now) t }
-    ensures { IfOk result (λ set. (b : Age) → has_birth_in set b ≡ has_acknowledged_try (on_shard 0 journal.now) b (on_shard 0 journal.now)) }
+    requires { (t : Tx) → has_tx acknowledged.now t ≡ acknowledged_in (located_all list.now) t }
+    ensures { IfOk result (λ set. (b : Age) → has_birth_in set b ≡ has_acknowledged_try (located_all list.now) b (located_all list.now)) }
 {
     let mut set = BirthSet::new(alloc);
-    for entry in journal {
+    for one in list {
+        let entry = one.1;
         if let Some((tx, birth)) = try_of(entry) {
             if acknowledged.contains(tx) {
                 set.insert(birth)?;
@@ -64,23 +65,23 @@ fn counted(acknowledged: bool, unanswered: bool, so_far: Counts) -> Counts
 }
 
 // The counts of a journal whose acknowledged transactions are these.
-pub fn tally(alloc: Global, acknowledged: &TxSet, journal: &[Entry]) -> Result<Counts, Memory>
-    requires { (t : Tx) → has_tx acknowledged.now t ≡ acknowledged_in (on_shard 0 journal.now) t }
-    ensures { IfOk result (λ counts. counts ≡ counts_in (on_shard 0 journal.now) (on_shard 0 journal.now)) }
+pub fn tally(alloc: Global, acknowledged: &TxSet, list: &[(u32, &Entry)]) -> Result<Counts, Memory>
+    requires { (t : Tx) → has_tx acknowledged.now t ≡ acknowledged_in (located_all list.now) t }
+    ensures { IfOk result (λ counts. counts ≡ counts_in (located_all list.now) (located_all list.now)) }
 {
-    let births = acknowledged_births(alloc, acknowledged, journal)?;
-    let requests = requested(alloc, journal)?;
-    let looks = looked(alloc, journal)?;
+    let births = acknowledged_births(alloc, acknowledged, list)?;
+    let requests = requested(alloc, list)?;
+    let looks = looked(alloc, list)?;
     let mut later = BirthSet::new(alloc);
     let mut so_far = Counts {
         acknowledged: 0,
         unsettled: 0,
         aborted: 0,
     };
-    let mut place = journal.len();
+    let mut place = list.len();
     while place > 0 {
         place -= 1;
-        if let Some((tx, birth)) = try_of(&journal[place]) {
+        if let Some((tx, birth)) = try_of(list[place].1) {
             if !later.contains(birth) {
                 let unanswered = requests.contains(tx) && !looks.contains(tx);
                 so_far = counted(births.contains(birth), unanswered, so_far);

@@ -6,6 +6,7 @@
 
 mod counts;
 mod lines;
+mod loads;
 mod pairs;
 mod sets;
 #[cfg(test)]
@@ -13,6 +14,7 @@ mod tests;
 mod texts;
 mod told;
 
+pub use loads::load_text;
 pub use pairs::pairs_text;
 pub use texts::{ReportError, report, report_into};
 

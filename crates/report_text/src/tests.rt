@@ -2,7 +2,7 @@
 
 ghost use Rattle.std.specs.Prelude.{◌≡◌, IfOk, length};
 
-use crate::{ReportError, pairs_text, report, report_into};
+use crate::{ReportError, load_text, pairs_text, report, report_into};
 use clv_base::causes::AbortCause;
 use clv_base::events::{Entry, Event, Outcome};
 use clv_base::lists::{Pairs, Touched};
@@ -161,6 +161,76 @@ fn transactions_are_counted_by_their_births(rt: HostRuntime) -> Result<(), Fail>
     let want =
         b"{\"ops\":[[\"get\",1,null]],\"serial\":2,\"session\":1}\n{\"aborted\":1,\"acknowledged\":1,\"unsettled\":1}\n";
     assert!(rt; text.as_slice() == want.as_slice());
+    Ok(())
+}
+
+// An entry with this stamp.
+fn at(stamp: u64, given: Entry) -> Entry {
+    let Entry {
+        stamp: _,
+        walker,
+        event,
+        outcome,
+    } = given;
+    Entry {
+        stamp,
+        walker,
+        event,
+        outcome,
+    }
+}
+
+// Session 1 scans over both shards, and asks at shard 0; session 2 puts on shard 1, and asks there earlier.
+#[test]
+fn the_shards_are_reported_together(rt: HostRuntime) -> Result<(), Fail> {
+    let alloc = rt.alloc();
+    let first = vec![in alloc;
+        at(
+            5,
+            done(
+                1,
+                1,
+                1,
+                1,
+                Op::Scan(0, 9),
+                Answer::Pairs(Pairs::new(vec![in alloc; (1, 7)]?))
+            )
+        ),
+        at(7, asked(alloc, 1, 1)),
+        at(8, looked(1, 1, Outcome::Acknowledged)),
+    ]?;
+    let second = vec![in alloc;
+        at(2, done(2, 1, 1, 1, Op::Put(11, 3), Answer::Value(None))),
+        at(3, asked(alloc, 2, 1)),
+        at(4, looked(2, 1, Outcome::Acknowledged)),
+        at(
+            6,
+            done(
+                1,
+                1,
+                1,
+                1,
+                Op::Scan(10, 20),
+                Answer::Pairs(Pairs::new(vec![in alloc; (11, 3)]?))
+            )
+        ),
+    ]?;
+    let journals = vec![in alloc; first, second]?;
+    let history = History::new(journals, Vec::new(alloc));
+    assert!(rt; history.journals().len() < 16);
+    let text = report(alloc, &history)?;
+    let want =
+        b"{\"ops\":[[\"put\",11,3,null]],\"serial\":1,\"session\":2}\n{\"ops\":[[\"scan\",0,20,[[1,7],[11,3]]]],\"serial\":1,\"session\":1}\n{\"aborted\":0,\"acknowledged\":2,\"unsettled\":0}\n";
+    assert!(rt; text.as_slice() == want.as_slice());
+    Ok(())
+}
+
+#[test]
+fn a_workload_has_one_line(rt: HostRuntime) -> Result<(), Fail> {
+    let text = load_text(rt.alloc(), 2, 1, 2000)?;
+    assert!(rt;
+        text.as_slice() == b"{\"accounts\":2,\"acknowledged\":1,\"sum\":2000}\n".as_slice()
+    );
     Ok(())
 }
 

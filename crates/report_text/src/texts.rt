@@ -1,9 +1,10 @@
 // The report of a history.
 
-ghost use Rattle.std.specs.Prelude.{◌≡◌, ◌++◌, [], ◌∷◌, IfOk, length, ℕ};
+ghost use Rattle.std.specs.Prelude.{◌≡◌, ◌++◌, [], ◌∷◌, ◌<◌, ◌^◌, IfOk, length, ℕ};
 ghost use Rattle.clv_base.specs.declared.names.TxId.{TxId as Tx};
 ghost use Rattle.clv_base.specs.History.{acknowledged_in};
-ghost use Rattle.history_replay.specs.Entries.{on_shard, entries_of};
+ghost use Rattle.history_replay.specs.Entries.{entries_of};
+ghost use Rattle.history_replay.specs.Located.{located_all};
 ghost use Rattle.report_text.specs.Told.{told_in};
 ghost use Rattle.report_text.specs.Report.{report as report_bytes, lines_in};
 ghost use Rattle.report_text.specs.Sets.{has_tx, told_at};
@@ -16,7 +17,7 @@ use crate::sets::TxSet;
 use crate::told::{ToldTable, acknowledged, all_told, requested_by};
 use clv_base::events::Entry;
 use disk_model::Failed;
-use history_replay::{History, one_shard};
+use history_replay::{History, entries};
 use io_edge::{Sink, write_all};
 use std::alloc::Global;
 
@@ -34,14 +35,15 @@ fn lines(
     alloc: Global,
     acknowledged: &TxSet,
     table: &ToldTable,
-    journal: &[Entry],
+    list: &[(u32, &Entry)],
 ) -> Result<Vec<u8>, Memory>
-    requires acknowledged { (t : Tx) → has_tx acknowledged.now t ≡ acknowledged_in (on_shard 0 journal.now) t }
-    requires told { (t : Tx) → told_at table.now t ≡ told_in t (on_shard 0 journal.now) }
-    ensures { IfOk result (λ text. text.items ≡ lines_in (on_shard 0 journal.now) (on_shard 0 journal.now)) }
+    requires acknowledged { (t : Tx) → has_tx acknowledged.now t ≡ acknowledged_in (located_all list.now) t }
+    requires told { (t : Tx) → told_at table.now t ≡ told_in t (located_all list.now) }
+    ensures { IfOk result (λ text. text.items ≡ lines_in (located_all list.now) (located_all list.now)) }
 {
     let mut text = Vec::new(alloc);
-    for entry in journal {
+    for one in list {
+        let entry = one.1;
         if let Some(tx) = requested_by(entry) {
             if acknowledged.contains(tx) {
                 let next = line(alloc, &transaction(alloc, tx, table.get(tx))?)?;
@@ -52,44 +54,36 @@ fn lines(
     Ok(text)
 }
 
-// The report of one shard's journal.
-fn report_of(alloc: Global, journal: &[Entry]) -> Result<Vec<u8>, Memory>
-    ensures { IfOk result (λ text. text.items ≡ report_bytes (on_shard 0 journal.now)) }
+// The report of these entries.
+fn report_of(alloc: Global, list: &[(u32, &Entry)]) -> Result<Vec<u8>, Memory>
+    ensures { IfOk result (λ text. text.items ≡ report_bytes (located_all list.now)) }
 {
-    let set = acknowledged(alloc, journal)?;
-    let table = all_told(alloc, journal)?;
-    let mut text = lines(alloc, &set, &table, journal)?;
-    let last = line(alloc, &summary(alloc, tally(alloc, &set, journal)?)?)?;
+    let set = acknowledged(alloc, list)?;
+    let table = all_told(alloc, list)?;
+    let mut text = lines(alloc, &set, &table, list)?;
+    let last = line(alloc, &summary(alloc, tally(alloc, &set, list)?)?)?;
     text.extend_from_slice(last.as_bytes())?;
     Ok(text)
 }
 
-// The journal of the one shard.
-fn only_journal(history: &History) -> &[Entry]
-    requires { length history.now.journals ≡ 1 }
-    ensures { entries_of history.now.journals ≡ on_shard 0 result.now }
-{
-    one_shard();
-    &history.journals()[0]
-}
-
-/// The report of a history of one shard, as bytes: a line for each acknowledged transaction, in the order of their requests, then the
-/// counts. Takes time linear in the history times a logarithm.
+/// The report of a history, as bytes: a line for each acknowledged transaction, in the order of their requests by stamp, then shard, and then the
+/// counts. Takes time linear in the history times a logarithm, and times its shards at most.
 pub fn report(alloc: Global, history: &History) -> Result<Vec<u8>, Memory>
-    requires { length history.now.journals ≡ 1 }
+    requires { length history.now.journals < 2 ^ 32 }
     ensures { IfOk result (λ text. text.items ≡ report_bytes (entries_of history.now.journals)) }
 {
-    report_of(alloc, only_journal(history))
+    let list = entries(alloc, history)?;
+    report_of(alloc, &list)
 }
 
-/// Writes the report of a history of one shard. The text is made whole before the first write. After `Failed` the sink took some of it, the
+/// Writes the report of a history. The text is made whole before the first write. After `Failed` the sink took some of it, the
 /// first bytes first.
 pub fn report_into<K: Sink>(
     alloc: Global,
     history: &History,
     sink: &mut K,
 ) -> Result<(), ReportError>
-    requires { length history.now.journals ≡ 1 }
+    requires { length history.now.journals < 2 ^ 32 }
     ensures took { TakesText (K.taken sink.old) (K.taken sink.new) (report_bytes (entries_of history.now.journals)) result }
     ensures cause { Causes (K.faults sink.old) (K.faults sink.new) result }
 {

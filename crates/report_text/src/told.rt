@@ -3,7 +3,7 @@
 ghost use Rattle.std.specs.Prelude.{◌≡◌, IfOk, map};
 ghost use Rattle.clv_base.specs.declared.names.TxId.{TxId as Tx};
 ghost use Rattle.clv_base.specs.History.{acknowledged_in, request_of, has_request};
-ghost use Rattle.history_replay.specs.Entries.{on_shard};
+ghost use Rattle.history_replay.specs.Located.{located_all};
 ghost use Rattle.report_text.specs.Told.{told_by, told_in, acknowledged_by as who_is_acknowledged, looked_by as who_is_looked_for, has_look, try_of as which_try};
 ghost use Rattle.report_text.specs.Sets.{has_tx, told_at};
 
@@ -130,11 +130,12 @@ pub fn try_of(entry: &Entry) -> Option<(TxId, Birth)>
 }
 
 // The answered operations of all transactions.
-pub fn all_told(alloc: Global, journal: &[Entry]) -> Result<ToldTable, Memory>
-    ensures { IfOk result (λ table. (t : Tx) → told_at table t ≡ told_in t (on_shard 0 journal.now)) }
+pub fn all_told(alloc: Global, list: &[(u32, &Entry)]) -> Result<ToldTable, Memory>
+    ensures { IfOk result (λ table. (t : Tx) → told_at table t ≡ told_in t (located_all list.now)) }
 {
     let mut table = ToldTable::new(alloc);
-    for entry in journal {
+    for one in list {
+        let entry = one.1;
         if let Some((tx, told)) = told_of(alloc, entry)? {
             table.add(alloc, tx, told)?;
         }
@@ -143,11 +144,12 @@ pub fn all_told(alloc: Global, journal: &[Entry]) -> Result<ToldTable, Memory>
 }
 
 // The transactions that are acknowledged.
-pub fn acknowledged(alloc: Global, journal: &[Entry]) -> Result<TxSet, Memory>
-    ensures { IfOk result (λ set. (t : Tx) → has_tx set t ≡ acknowledged_in (on_shard 0 journal.now) t) }
+pub fn acknowledged(alloc: Global, list: &[(u32, &Entry)]) -> Result<TxSet, Memory>
+    ensures { IfOk result (λ set. (t : Tx) → has_tx set t ≡ acknowledged_in (located_all list.now) t) }
 {
     let mut set = TxSet::new(alloc);
-    for entry in journal {
+    for one in list {
+        let entry = one.1;
         if let Some(tx) = acknowledged_by(entry) {
             set.insert(tx)?;
         }
@@ -156,11 +158,12 @@ pub fn acknowledged(alloc: Global, journal: &[Entry]) -> Result<TxSet, Memory>
 }
 
 // Those that made their request.
-pub fn requested(alloc: Global, journal: &[Entry]) -> Result<TxSet, Memory>
-    ensures { IfOk result (λ set. (t : Tx) → has_tx set t ≡ has_request t (on_shard 0 journal.now)) }
+pub fn requested(alloc: Global, list: &[(u32, &Entry)]) -> Result<TxSet, Memory>
+    ensures { IfOk result (λ set. (t : Tx) → has_tx set t ≡ has_request t (located_all list.now)) }
 {
     let mut set = TxSet::new(alloc);
-    for entry in journal {
+    for one in list {
+        let entry = one.1;
         if let Some(tx) = requested_by(entry) {
             set.insert(tx)?;
         }
@@ -169,11 +172,12 @@ pub fn requested(alloc: Global, journal: &[Entry]) -> Result<TxSet, Memory>
 }
 
 // Those of which a Look was answered.
-pub fn looked(alloc: Global, journal: &[Entry]) -> Result<TxSet, Memory>
-    ensures { IfOk result (λ set. (t : Tx) → has_tx set t ≡ has_look t (on_shard 0 journal.now)) }
+pub fn looked(alloc: Global, list: &[(u32, &Entry)]) -> Result<TxSet, Memory>
+    ensures { IfOk result (λ set. (t : Tx) → has_tx set t ≡ has_look t (located_all list.now)) }
 {
     let mut set = TxSet::new(alloc);
-    for entry in journal {
+    for one in list {
+        let entry = one.1;
         if let Some(tx) = looked_by(entry) {
             set.insert(tx)?;
         }

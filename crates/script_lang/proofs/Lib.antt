@@ -1,4 +1,7 @@
 pub mod Words
+pub mod Verbs
 pub mod Meanings
 pub mod Steps
-pub mod Scripts
+pub mod Unique
+pub mod Sizes
+pub mod Progress

@@ -1,68 +1,59 @@
 -- A line has one meaning.
-use Rattle.std.proofs.Common.{◌≡◌, ◌≢◌, ◌⊎◌, inl, inr, ℕ, List, slice_index, ap, subst, refl, sym, ◌∙◌, arith}
+use Rattle.std.proofs.Common.{◌≡◌, ◌≢◌, ◌⊎◌, inl, inr, ℕ, ◌+◌, ◌<◌, ◌≤◌, List, [], slice_index, codes, ap, refl, ◌∙◌, arith}
 use Rattle.clv_base.specs.declared.ops.Op.TheVariants.{Get, Put, Del, Scan}
-use Rattle.script_lang.specs.Grammar.{Line, Blank, Session, Begin, Operation, Commit, IsLine, IsNumber, AreNumbers}
-use Rattle.script_lang.proofs.Words.{numbers_by_words, number_has_no_space}
+use Rattle.script_lang.specs.Bodies.{Action, Ending}
+use Rattle.script_lang.specs.Grammar.{Line, Blank, Session, Begin, Act, End, Do, Move, Commit, Abort, IsLine, IsComment, IsEnding, IsAction}
+use Rattle.script_lang.proofs.Verbs.{one_action}
 
--- the first byte of a line by what it says; 0 for a blank line
+-- the first two bytes of a line, together; 0 for a blank line
 kind : Line → ℕ
 kind Blank = 0
-kind Session = 115
-kind Begin = 98
-kind (Operation (Get k)) = 103
-kind (Operation (Put k v)) = 112
-kind (Operation (Del k)) = 1
-kind (Operation (Scan lo hi)) = 1
-kind Commit = 99
+kind Session = 216
+kind Begin = 199
+kind (Act (Do (Get k))) = 204
+kind (Act (Do (Put k v))) = 229
+kind (Act (Do (Del k))) = 201
+kind (Act (Do (Scan lo hi))) = 214
+kind (Act (Move from to amount)) = 220
+kind (End Commit) = 210
+kind (End Abort) = 195
 
 first : List ℕ → ℕ
 first bytes = slice_index bytes 0
 
-begins_with : (bytes : List ℕ) (line : Line) → IsLine bytes line → (first bytes ≡ kind line) ⊎ ((kind line ≡ 0) × (first bytes ≡ 35))
-unfolding kind first
-begins_with bytes Blank (inl none) = inl (ap (λ (b : List ℕ). slice_index b 0) none)
-begins_with bytes Blank (inr (text, is, ascii)) = inr (refl, ap (λ (b : List ℕ). slice_index b 0) is)
-begins_with bytes Session is = inl (ap (λ (b : List ℕ). slice_index b 0) is)
-begins_with bytes Begin is = inl (ap (λ (b : List ℕ). slice_index b 0) is)
-begins_with bytes (Operation (Get k)) (key, is, number) = inl (ap (λ (b : List ℕ). slice_index b 0) is)
-begins_with bytes (Operation (Put k v)) (words, is, numbers) = inl (ap (λ (b : List ℕ). slice_index b 0) is)
-begins_with bytes (Operation (Del k)) none = absurd none
-begins_with bytes (Operation (Scan lo hi)) none = absurd none
-begins_with bytes Commit is = inl (ap (λ (b : List ℕ). slice_index b 0) is)
+two : List ℕ → ℕ
+two bytes = slice_index bytes 0 + slice_index bytes 1
 
-no_kind_is_comment : (line : Line) → kind line ≢ 35
-unfolding kind
-no_kind_is_comment Blank = omega arith
-no_kind_is_comment Session = omega arith
-no_kind_is_comment Begin = omega arith
-no_kind_is_comment (Operation (Get k)) = omega arith
-no_kind_is_comment (Operation (Put k v)) = omega arith
-no_kind_is_comment (Operation (Del k)) = omega arith
-no_kind_is_comment (Operation (Scan lo hi)) = omega arith
-no_kind_is_comment Commit = omega arith
+Shows : List ℕ → ℕ → Type 0
+Shows bytes n = ((two bytes ≡ n) × (97 ≤ first bytes)) ⊎ ((n ≡ 0) × (first bytes < 97))
 
-kinds_agree_by : (f m n : ℕ) → m ≢ 35 → n ≢ 35 → (f ≡ m) ⊎ ((m ≡ 0) × (f ≡ 35)) → (f ≡ n) ⊎ ((n ≡ 0) × (f ≡ 35)) → m ≡ n
-kinds_agree_by f m n ma nb (inl a) (inl b) = omega arith
-kinds_agree_by f m n ma nb (inl a) (inr (z, b)) = absurd (ma (omega arith))
-kinds_agree_by f m n ma nb (inr (z, a)) (inl b) = absurd (nb (omega arith))
-kinds_agree_by f m n ma nb (inr (z, a)) (inr (y, b)) = omega arith
+shows_word : (bytes text : List ℕ) (n : ℕ) → bytes ≡ text → two text ≡ n → 97 ≤ first text → Shows bytes n
+unfolding Shows
+shows_word bytes text n is t f = let e = ap two is in let g = ap first is in inl (e ∙ t, omega arith)
+
+begins_with : (bytes : List ℕ) (line : Line) → IsLine bytes line → Shows bytes (kind line)
+unfolding kind first two Shows
+begins_with bytes Blank (inl none) = let g : slice_index bytes 0 ≡ 0 = ap (λ (b : List ℕ). slice_index b 0) none in inr (refl, omega arith)
+begins_with bytes Blank (inr (text, is, ascii)) = let g : slice_index bytes 0 ≡ 35 = ap (λ (b : List ℕ). slice_index b 0) is in inr (refl, omega arith)
+begins_with bytes Session is = shows_word bytes _ 216 is refl (omega arith)
+begins_with bytes Begin is = shows_word bytes _ 199 is refl (omega arith)
+begins_with bytes (Act (Do (Get k))) (words, is, number) = shows_word bytes _ 204 is refl (omega arith)
+begins_with bytes (Act (Do (Put k v))) (words, is, numbers) = shows_word bytes _ 229 is refl (omega arith)
+begins_with bytes (Act (Do (Del k))) (words, is, number) = shows_word bytes _ 201 is refl (omega arith)
+begins_with bytes (Act (Do (Scan lo hi))) (words, is, numbers) = shows_word bytes _ 214 is refl (omega arith)
+begins_with bytes (Act (Move from to amount)) (words, is, numbers) = shows_word bytes _ 220 is refl (omega arith)
+begins_with bytes (End Commit) is = shows_word bytes _ 210 is refl (omega arith)
+begins_with bytes (End Abort) is = shows_word bytes _ 195 is refl (omega arith)
+
+kinds_agree_by : (bytes : List ℕ) (m n : ℕ) → Shows bytes m → Shows bytes n → m ≡ n
+unfolding Shows
+kinds_agree_by bytes m n (inl a) (inl b) = omega arith
+kinds_agree_by bytes m n (inl a) (inr b) = absurd (omega arith)
+kinds_agree_by bytes m n (inr a) (inl b) = absurd (omega arith)
+kinds_agree_by bytes m n (inr a) (inr b) = omega arith
 
 kinds_agree : (bytes : List ℕ) (a b : Line) → IsLine bytes a → IsLine bytes b → kind a ≡ kind b
-kinds_agree bytes a b isa isb = kinds_agree_by (first bytes) (kind a) (kind b) (no_kind_is_comment a) (no_kind_is_comment b) (begins_with bytes a isa) (begins_with bytes b isb)
-
-number_once : (word : List ℕ) (m n : ℕ) → IsNumber word m → IsNumber word n → m ≡ n
-number_once word m n a b = sym a.value ∙ b.value
-
-numbers_once : (words : List ℕ) (k v m n : ℕ) → AreNumbers words k v → AreNumbers words m n → (k ≡ m) × (v ≡ n)
-numbers_once words k v m n (a, b, is, one, two) other =
-    let parts = numbers_by_words words a b is (number_has_no_space a k one) m n other in
-    (number_once a k m one parts.0, number_once b v n two parts.1)
-
-number_along : (a b : List ℕ) (n : ℕ) → a ≡ b → IsNumber a n → IsNumber b n
-number_along a b n e is = subst (λ (w : List ℕ). IsNumber w n) e is
-
-numbers_along : (a b : List ℕ) (m n : ℕ) → a ≡ b → AreNumbers a m n → AreNumbers b m n
-numbers_along a b m n e is = subst (λ (w : List ℕ). AreNumbers w m n) e is
+kinds_agree bytes a b isa isb = kinds_agree_by bytes (kind a) (kind b) (begins_with bytes a isa) (begins_with bytes b isb)
 
 -- of one kind, lines say the same
 same_of_kind : (bytes : List ℕ) (a b : Line) → kind a ≡ kind b → IsLine bytes a → IsLine bytes b → a ≡ b
@@ -70,19 +61,89 @@ unfolding kind
 same_of_kind bytes Blank Blank e isa isb = refl
 same_of_kind bytes Session Session e isa isb = refl
 same_of_kind bytes Begin Begin e isa isb = refl
-same_of_kind bytes Commit Commit e isa isb = refl
-same_of_kind bytes (Operation (Get k)) (Operation (Get m)) e (key, is, number) (other, also, second) =
-    let words : other ≡ key = cc in
-    let same : k ≡ m = number_once key k m number (number_along other key m words second) in cc
-same_of_kind bytes (Operation (Put k v)) (Operation (Put m n)) e (words, is, numbers) (others, also, seconds) =
-    let w : others ≡ words = cc in
-    let same = numbers_once words k v m n numbers (numbers_along others words m n w seconds) in
-    let keys : k ≡ m = same.0 in let values : v ≡ n = same.1 in cc
-same_of_kind bytes (Operation (Del k)) b e isa isb = absurd isa
-same_of_kind bytes (Operation (Scan lo hi)) b e isa isb = absurd isa
-same_of_kind bytes a (Operation (Del k)) e isa isb = absurd isb
-same_of_kind bytes a (Operation (Scan lo hi)) e isa isb = absurd isb
-same_of_kind bytes a b e isa isb = absurd (let no : ⊥ = omega arith in no)
+same_of_kind bytes (End Commit) (End Commit) e isa isb = refl
+same_of_kind bytes (End Abort) (End Abort) e isa isb = refl
+same_of_kind bytes (Act a) (Act b) e isa isb = ap (λ (x : Action). Act x) (one_action bytes a b isa isb)
+same_of_kind bytes Blank Session e isa isb = absurd (let no : ⊥ = omega arith in no)
+same_of_kind bytes Blank Begin e isa isb = absurd (let no : ⊥ = omega arith in no)
+same_of_kind bytes Blank (Act (Do (Get m))) e isa isb = absurd (let no : ⊥ = omega arith in no)
+same_of_kind bytes Blank (Act (Do (Put m n))) e isa isb = absurd (let no : ⊥ = omega arith in no)
+same_of_kind bytes Blank (Act (Do (Del m))) e isa isb = absurd (let no : ⊥ = omega arith in no)
+same_of_kind bytes Blank (Act (Do (Scan m n))) e isa isb = absurd (let no : ⊥ = omega arith in no)
+same_of_kind bytes Blank (Act (Move l m n)) e isa isb = absurd (let no : ⊥ = omega arith in no)
+same_of_kind bytes Blank (End Commit) e isa isb = absurd (let no : ⊥ = omega arith in no)
+same_of_kind bytes Blank (End Abort) e isa isb = absurd (let no : ⊥ = omega arith in no)
+same_of_kind bytes Session Blank e isa isb = absurd (let no : ⊥ = omega arith in no)
+same_of_kind bytes Session Begin e isa isb = absurd (let no : ⊥ = omega arith in no)
+same_of_kind bytes Session (Act (Do (Get m))) e isa isb = absurd (let no : ⊥ = omega arith in no)
+same_of_kind bytes Session (Act (Do (Put m n))) e isa isb = absurd (let no : ⊥ = omega arith in no)
+same_of_kind bytes Session (Act (Do (Del m))) e isa isb = absurd (let no : ⊥ = omega arith in no)
+same_of_kind bytes Session (Act (Do (Scan m n))) e isa isb = absurd (let no : ⊥ = omega arith in no)
+same_of_kind bytes Session (Act (Move l m n)) e isa isb = absurd (let no : ⊥ = omega arith in no)
+same_of_kind bytes Session (End Commit) e isa isb = absurd (let no : ⊥ = omega arith in no)
+same_of_kind bytes Session (End Abort) e isa isb = absurd (let no : ⊥ = omega arith in no)
+same_of_kind bytes Begin Blank e isa isb = absurd (let no : ⊥ = omega arith in no)
+same_of_kind bytes Begin Session e isa isb = absurd (let no : ⊥ = omega arith in no)
+same_of_kind bytes Begin (Act (Do (Get m))) e isa isb = absurd (let no : ⊥ = omega arith in no)
+same_of_kind bytes Begin (Act (Do (Put m n))) e isa isb = absurd (let no : ⊥ = omega arith in no)
+same_of_kind bytes Begin (Act (Do (Del m))) e isa isb = absurd (let no : ⊥ = omega arith in no)
+same_of_kind bytes Begin (Act (Do (Scan m n))) e isa isb = absurd (let no : ⊥ = omega arith in no)
+same_of_kind bytes Begin (Act (Move l m n)) e isa isb = absurd (let no : ⊥ = omega arith in no)
+same_of_kind bytes Begin (End Commit) e isa isb = absurd (let no : ⊥ = omega arith in no)
+same_of_kind bytes Begin (End Abort) e isa isb = absurd (let no : ⊥ = omega arith in no)
+same_of_kind bytes (Act (Do (Get k))) Blank e isa isb = absurd (let no : ⊥ = omega arith in no)
+same_of_kind bytes (Act (Do (Get k))) Session e isa isb = absurd (let no : ⊥ = omega arith in no)
+same_of_kind bytes (Act (Do (Get k))) Begin e isa isb = absurd (let no : ⊥ = omega arith in no)
+same_of_kind bytes (Act (Do (Get k))) (End Commit) e isa isb = absurd (let no : ⊥ = omega arith in no)
+same_of_kind bytes (Act (Do (Get k))) (End Abort) e isa isb = absurd (let no : ⊥ = omega arith in no)
+same_of_kind bytes (Act (Do (Put k v))) Blank e isa isb = absurd (let no : ⊥ = omega arith in no)
+same_of_kind bytes (Act (Do (Put k v))) Session e isa isb = absurd (let no : ⊥ = omega arith in no)
+same_of_kind bytes (Act (Do (Put k v))) Begin e isa isb = absurd (let no : ⊥ = omega arith in no)
+same_of_kind bytes (Act (Do (Put k v))) (End Commit) e isa isb = absurd (let no : ⊥ = omega arith in no)
+same_of_kind bytes (Act (Do (Put k v))) (End Abort) e isa isb = absurd (let no : ⊥ = omega arith in no)
+same_of_kind bytes (Act (Do (Del k))) Blank e isa isb = absurd (let no : ⊥ = omega arith in no)
+same_of_kind bytes (Act (Do (Del k))) Session e isa isb = absurd (let no : ⊥ = omega arith in no)
+same_of_kind bytes (Act (Do (Del k))) Begin e isa isb = absurd (let no : ⊥ = omega arith in no)
+same_of_kind bytes (Act (Do (Del k))) (End Commit) e isa isb = absurd (let no : ⊥ = omega arith in no)
+same_of_kind bytes (Act (Do (Del k))) (End Abort) e isa isb = absurd (let no : ⊥ = omega arith in no)
+same_of_kind bytes (Act (Do (Scan k v))) Blank e isa isb = absurd (let no : ⊥ = omega arith in no)
+same_of_kind bytes (Act (Do (Scan k v))) Session e isa isb = absurd (let no : ⊥ = omega arith in no)
+same_of_kind bytes (Act (Do (Scan k v))) Begin e isa isb = absurd (let no : ⊥ = omega arith in no)
+same_of_kind bytes (Act (Do (Scan k v))) (End Commit) e isa isb = absurd (let no : ⊥ = omega arith in no)
+same_of_kind bytes (Act (Do (Scan k v))) (End Abort) e isa isb = absurd (let no : ⊥ = omega arith in no)
+same_of_kind bytes (Act (Move i j k)) Blank e isa isb = absurd (let no : ⊥ = omega arith in no)
+same_of_kind bytes (Act (Move i j k)) Session e isa isb = absurd (let no : ⊥ = omega arith in no)
+same_of_kind bytes (Act (Move i j k)) Begin e isa isb = absurd (let no : ⊥ = omega arith in no)
+same_of_kind bytes (Act (Move i j k)) (End Commit) e isa isb = absurd (let no : ⊥ = omega arith in no)
+same_of_kind bytes (Act (Move i j k)) (End Abort) e isa isb = absurd (let no : ⊥ = omega arith in no)
+same_of_kind bytes (End Commit) Blank e isa isb = absurd (let no : ⊥ = omega arith in no)
+same_of_kind bytes (End Commit) Session e isa isb = absurd (let no : ⊥ = omega arith in no)
+same_of_kind bytes (End Commit) Begin e isa isb = absurd (let no : ⊥ = omega arith in no)
+same_of_kind bytes (End Commit) (Act (Do (Get m))) e isa isb = absurd (let no : ⊥ = omega arith in no)
+same_of_kind bytes (End Commit) (Act (Do (Put m n))) e isa isb = absurd (let no : ⊥ = omega arith in no)
+same_of_kind bytes (End Commit) (Act (Do (Del m))) e isa isb = absurd (let no : ⊥ = omega arith in no)
+same_of_kind bytes (End Commit) (Act (Do (Scan m n))) e isa isb = absurd (let no : ⊥ = omega arith in no)
+same_of_kind bytes (End Commit) (Act (Move l m n)) e isa isb = absurd (let no : ⊥ = omega arith in no)
+same_of_kind bytes (End Commit) (End Abort) e isa isb = absurd (let no : ⊥ = omega arith in no)
+same_of_kind bytes (End Abort) Blank e isa isb = absurd (let no : ⊥ = omega arith in no)
+same_of_kind bytes (End Abort) Session e isa isb = absurd (let no : ⊥ = omega arith in no)
+same_of_kind bytes (End Abort) Begin e isa isb = absurd (let no : ⊥ = omega arith in no)
+same_of_kind bytes (End Abort) (Act (Do (Get m))) e isa isb = absurd (let no : ⊥ = omega arith in no)
+same_of_kind bytes (End Abort) (Act (Do (Put m n))) e isa isb = absurd (let no : ⊥ = omega arith in no)
+same_of_kind bytes (End Abort) (Act (Do (Del m))) e isa isb = absurd (let no : ⊥ = omega arith in no)
+same_of_kind bytes (End Abort) (Act (Do (Scan m n))) e isa isb = absurd (let no : ⊥ = omega arith in no)
+same_of_kind bytes (End Abort) (Act (Move l m n)) e isa isb = absurd (let no : ⊥ = omega arith in no)
+same_of_kind bytes (End Abort) (End Commit) e isa isb = absurd (let no : ⊥ = omega arith in no)
 
 pub one_meaning : (bytes : List ℕ) (a b : Line) → IsLine bytes a → IsLine bytes b → a ≡ b
 one_meaning bytes a b isa isb = same_of_kind bytes a b (kinds_agree bytes a b isa isb) isa isb
+
+-- a line that is none of these is none
+pub no_line :
+    (bytes : List ℕ) → (((bytes ≡ []) ⊎ IsComment bytes) → ⊥) → bytes ≢ codes "session" → bytes ≢ codes "begin"
+    → ((ending : Ending) → IsEnding bytes ending → ⊥) → ((action : Action) → IsAction bytes action → ⊥) → (line : Line) → IsLine bytes line → ⊥
+no_line bytes blank session begins ends acts Blank is = blank is
+no_line bytes blank session begins ends acts Session is = session is
+no_line bytes blank session begins ends acts Begin is = begins is
+no_line bytes blank session begins ends acts (Act action) is = acts action is
+no_line bytes blank session begins ends acts (End ending) is = ends ending is

@@ -1,11 +1,9 @@
--- Where a text of two words is parted.
-use Rattle.std.proofs.Common.{◌≡◌, ℕ, suc, ◌<◌, List, [], ◌∷◌, ◌++◌, length, slice_index, codes, subst, ap, refl, sym, ◌∙◌, arith, ◌==◌, false}
+-- Where a text of words is parted.
+use Rattle.std.proofs.Common.{◌≡◌, ℕ, suc, ◌<◌, List, [], ◌∷◌, ◌++◌, length, slice_index, subst, refl, sym, ◌∙◌, arith, ◌==◌, false}
 use Rattle.std.proofs.lemmas.Bool.{ne_eqb}
 use Rattle.std.proofs.lemmas.Str.Parse.{digit_at}
-use Rattle.clv_base.specs.declared.ops.Op.{Op}
-use Rattle.clv_base.specs.declared.ops.Op.TheVariants.{Get, Put, Del, Scan}
 use Rattle.script_lang.specs.Reading.{Lacks}
-use Rattle.script_lang.specs.Grammar.{IsNumber, AreNumbers, IsOperation, lines_of}
+use Rattle.script_lang.specs.Grammar.{IsNumber, AreTwo, AreThree, lines_of}
 
 -- a number has no space
 pub number_has_no_space : (word : List ℕ) (n : ℕ) → IsNumber word n → Lacks 32 word
@@ -26,31 +24,27 @@ space_stands : (a b : List ℕ) → (length a < length (a ++ 32 ∷ b)) × (slic
 space_stands [] b = (omega arith, refl)
 space_stands (x ∷ a) b = let deeper = space_stands a b in (omega arith, deeper.1)
 
--- a text without a space is no two numbers
-pub no_numbers_without_space : (text : List ℕ) → Lacks 32 text → (m n : ℕ) → AreNumbers text m n → ⊥
-no_numbers_without_space text none m n (a, b, is, first, second) =
+-- a text without a space is not parted by one
+pub not_parted : (text a b : List ℕ) → Lacks 32 text → text ≡ a ++ 32 ∷ b → ⊥
+not_parted text a b none is =
     let at = space_stands a b in
     let lies : length a < length text = rw is at.0 in
     none (length a) lies (rw is at.1)
 
--- a text that is parted is two numbers only where its words are
-pub numbers_by_words : (text a b : List ℕ) → text ≡ a ++ 32 ∷ b → Lacks 32 a → (m n : ℕ) → AreNumbers text m n → IsNumber a m × IsNumber b n
-numbers_by_words text a b is none m n (c, d, same, first, second) =
+-- a text that is parted is numbers only where its words are
+pub two_by_words : (text a b : List ℕ) → text ≡ a ++ 32 ∷ b → Lacks 32 a → (m n : ℕ) → AreTwo text m n → IsNumber a m × IsNumber b n
+two_by_words text a b is none m n (c, d, same, first, second) =
     let e = parted_alike a b c d none (number_has_no_space c m first) (sym is ∙ same) in
     let P : List ℕ → Type 0 = λ w. IsNumber w m in
     let Q : List ℕ → Type 0 = λ w. IsNumber w n in
     (subst P (sym e.0) first, subst Q (sym e.1) second)
 
--- what begins with these bytes goes on in one way
-pub rest_after_put : (bytes words : List ℕ) → bytes ≡ codes "put " ++ words → (op : Op) → IsOperation bytes op → (k v : ℕ) × AreNumbers words k v
-rest_after_put bytes words is (Get k) (key, same, number) =
-    let put : slice_index bytes 0 ≡ 112 = ap (λ (b : List ℕ). slice_index b 0) is in
-    let get : slice_index bytes 0 ≡ 103 = ap (λ (b : List ℕ). slice_index b 0) same in absurd (let no : ⊥ = omega arith in no)
-rest_after_put bytes words is (Put k v) (others, same, numbers) =
-    let e : others ≡ words = cc in
-    let P : List ℕ → Type 0 = λ w. AreNumbers w k v in (k, v, subst P e numbers)
-rest_after_put bytes words is (Del k) h = absurd h
-rest_after_put bytes words is (Scan lo hi) h = absurd h
+pub three_by_words : (text a b : List ℕ) → text ≡ a ++ 32 ∷ b → Lacks 32 a → (k m n : ℕ) → AreThree text k m n → IsNumber a k × AreTwo b m n
+three_by_words text a b is none k m n (c, d, same, first, others) =
+    let e = parted_alike a b c d none (number_has_no_space c k first) (sym is ∙ same) in
+    let P : List ℕ → Type 0 = λ w. IsNumber w k in
+    let Q : List ℕ → Type 0 = λ w. AreTwo w m n in
+    (subst P (sym e.0) first, subst Q (sym e.1) others)
 
 -- a line ends at the first line feed, or with the text
 pub line_cut : (a b : List ℕ) → Lacks 10 a → lines_of (a ++ 10 ∷ b) ≡ a ∷ lines_of b
@@ -68,3 +62,19 @@ last_line x (y ∷ a) none =
 pub last_line_of : (a : List ℕ) → 0 < length a → Lacks 10 a → lines_of a ≡ a ∷ []
 last_line_of [] some none = absurd (let no : ⊥ = omega arith in no)
 last_line_of (x ∷ a) some none = last_line x a none
+
+-- ---- words with one meaning
+
+pub number_once : (word : List ℕ) (m n : ℕ) → IsNumber word m → IsNumber word n → m ≡ n
+number_once word m n a b = sym a.value ∙ b.value
+
+pub two_once : (words : List ℕ) (k v m n : ℕ) → AreTwo words k v → AreTwo words m n → (k ≡ m) × (v ≡ n)
+two_once words k v m n (a, b, is, one, two) other =
+    let parts = two_by_words words a b is (number_has_no_space a k one) m n other in
+    (number_once a k m one parts.0, number_once b v n two parts.1)
+
+pub three_once : (words : List ℕ) (i j k l m n : ℕ) → AreThree words i j k → AreThree words l m n → (i ≡ l) × (j ≡ m) × (k ≡ n)
+three_once words i j k l m n (a, b, is, one, two) other =
+    let parts = three_by_words words a b is (number_has_no_space a i one) l m n other in
+    let last = two_once b j k m n two parts.1 in
+    (number_once a i l one parts.0, last.0, last.1)

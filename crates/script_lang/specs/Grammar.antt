@@ -1,11 +1,13 @@
 -- The grammar of scripts: lines, what each means, and where it may stand.
-use Rattle.std.specs.Prelude.{◌≡◌, ◌≢◌, ◌⊎◌, ℕ, suc, ◌<◌, ◌^◌, Bool, true, false, ◌==◌, nat_lt, cond, List, [], ◌∷◌, ◌++◌, length, codes, slice_index, Option, Some, None}
+use Rattle.std.specs.Prelude.{◌≡◌, ◌≢◌, ◌⊎◌, ℕ, suc, ◌<◌, ◌≤◌, ◌^◌, Bool, true, ◌==◌, nat_lt, cond, List, [], ◌∷◌, ◌++◌, length, codes, slice_index, Option, Some, None}
 use Rattle.std.specs.List.{list_all}
 use Rattle.std.specs.Str.Parse.{IsNumeral, digits_value}
-use Rattle.clv_base.specs.declared.ops.Op.{Op}
 use Rattle.clv_base.specs.declared.ops.Op.TheVariants.{Get, Put, Del, Scan}
+use Rattle.script_lang.specs.Bodies.{Action, Ending, Body}
+pub use Rattle.script_lang.specs.declared.actions.Action.TheVariants.{Do, Move}
+pub use Rattle.script_lang.specs.declared.actions.Ending.TheVariants.{Commit, Abort}
 pub use Rattle.script_lang.specs.declared.lines.Line.{Line}
-pub use Rattle.script_lang.specs.declared.lines.Line.TheVariants.{Blank, Session, Begin, Operation, Commit}
+pub use Rattle.script_lang.specs.declared.lines.Line.TheVariants.{Blank, Session, Begin, Act, End}
 
 -- ---- lines: what stands between line feeds; the last line feed may be missing
 
@@ -33,81 +35,113 @@ is_ascii bytes = list_all (λ b. nat_lt b 128) bytes
 abbrev pub IsComment : List ℕ → Type 0
 IsComment bytes = (text : List ℕ) × (bytes ≡ 35 ∷ text) × (is_ascii text ≡ true)
 
--- two words, parted by one space, are these numbers
-abbrev pub AreNumbers : List ℕ → ℕ → ℕ → Type 0
-AreNumbers text m n = (first second : List ℕ) × (text ≡ first ++ 32 ∷ second) × IsNumber first m × IsNumber second n
+-- words, parted by one space each, are these numbers
+abbrev pub AreTwo : List ℕ → ℕ → ℕ → Type 0
+AreTwo text m n = (first second : List ℕ) × (text ≡ first ++ 32 ∷ second) × IsNumber first m × IsNumber second n
 
-abbrev pub IsOperation : List ℕ → Op → Type 0
-IsOperation bytes (Get k) = (key : List ℕ) × (bytes ≡ codes "get " ++ key) × IsNumber key k
-IsOperation bytes (Put k v) = (words : List ℕ) × (bytes ≡ codes "put " ++ words) × AreNumbers words k v
-IsOperation bytes (Del k) = ⊥
-IsOperation bytes (Scan lo hi) = ⊥
+abbrev pub AreThree : List ℕ → ℕ → ℕ → ℕ → Type 0
+AreThree text k m n = (first others : List ℕ) × (text ≡ first ++ 32 ∷ others) × IsNumber first k × AreTwo others m n
+
+-- the word that an action begins with
+abbrev pub name_of : Action → List ℕ
+name_of (Do (Get k)) = codes "get"
+name_of (Do (Put k v)) = codes "put"
+name_of (Do (Del k)) = codes "del"
+name_of (Do (Scan lo hi)) = codes "scan"
+name_of (Move from to amount) = codes "move"
+
+-- the numbers that follow it: a scan's bounds don't fall, and a move's keys differ
+abbrev pub HasOperands : List ℕ → Action → Type 0
+HasOperands words (Do (Get k)) = IsNumber words k
+HasOperands words (Do (Put k v)) = AreTwo words k v
+HasOperands words (Do (Del k)) = IsNumber words k
+HasOperands words (Do (Scan lo hi)) = AreTwo words lo hi × (lo ≤ hi)
+HasOperands words (Move from to amount) = AreThree words from to amount × (from ≢ to)
+
+abbrev pub IsAction : List ℕ → Action → Type 0
+IsAction bytes action = (words : List ℕ) × (bytes ≡ name_of action ++ 32 ∷ words) × HasOperands words action
+
+abbrev pub IsEnding : List ℕ → Ending → Type 0
+IsEnding bytes Commit = bytes ≡ codes "commit"
+IsEnding bytes Abort = bytes ≡ codes "abort"
 
 abbrev pub IsLine : List ℕ → Line → Type 0
 IsLine bytes Blank = (bytes ≡ []) ⊎ IsComment bytes
 IsLine bytes Session = bytes ≡ codes "session"
 IsLine bytes Begin = bytes ≡ codes "begin"
-IsLine bytes (Operation op) = IsOperation bytes op
-IsLine bytes Commit = bytes ≡ codes "commit"
+IsLine bytes (Act action) = IsAction bytes action
+IsLine bytes (End ending) = IsEnding bytes ending
 
 -- ---- where a line may stand
 
--- what the lines so far come to: the sessions with their transactions, of which each is its operations; and the open transaction, if any
+-- what the lines so far come to: the sessions that others follow, the last session, if any, and the lines of the open transaction, if any
 pub record Reading : Type 0 where
-  pub sessions : List (List (List Op))
-  pub current : Option (List Op)
+  pub finished : List (List Body)
+  pub session : Option (List Body)
+  pub current : Option (List Action)
+
+abbrev pub reading : List (List Body) → Option (List Body) → Option (List Action) → Reading
+reading finished session current = record { finished = finished; session = session; current = current }
 
 abbrev pub nothing_read : Reading
-nothing_read = record { sessions = []; current = None }
+nothing_read = reading [] None None
 
--- a transaction ends in the last session
-abbrev pub with_transaction : List Op → List (List (List Op)) → List (List (List Op))
-with_transaction ops [] = []
-with_transaction ops (s ∷ []) = (s ++ ops ∷ []) ∷ []
-with_transaction ops (s ∷ t ∷ ss) = s ∷ with_transaction ops (t ∷ ss)
+-- all sessions so far
+abbrev pub with_last : List (List Body) → Option (List Body) → List (List Body)
+with_last finished None = finished
+with_last finished (Some bodies) = finished ++ bodies ∷ []
 
--- the reading after a line, if the line may stand there: a session outside a transaction, and only one of them; a transaction in a session; at
--- most a thousand operations in a transaction
-abbrev pub after_operation : Op → List (List (List Op)) → List Op → Bool → Option Reading
-after_operation op sessions ops true = Some (record { sessions = sessions; current = Some (ops ++ op ∷ []) })
-after_operation op sessions ops false = None
+abbrev pub body : List Action → Ending → Body
+body actions ending = record { actions = actions; ending = ending }
 
-abbrev pub read_line : List (List (List Op)) → Option (List Op) → Line → Option Reading
-read_line sessions current Blank = Some (record { sessions = sessions; current = current })
-read_line [] None Session = Some (record { sessions = [] ∷ []; current = None })
-read_line (s ∷ ss) None Session = None
-read_line sessions (Some ops) Session = None
-read_line [] None Begin = None
-read_line (s ∷ ss) None Begin = Some (record { sessions = s ∷ ss; current = Some [] })
-read_line sessions (Some ops) Begin = None
-read_line sessions None (Operation op) = None
-read_line sessions (Some ops) (Operation op) = after_operation op sessions ops (nat_lt (length ops) 1000)
-read_line sessions None Commit = None
-read_line sessions (Some ops) Commit = Some (record { sessions = with_transaction ops sessions; current = None })
+-- the reading after a line, if the line may stand there: a session outside a transaction, and at most 64 of them; a transaction in a
+-- session, and not in another; an action, or an ending, in a transaction
+abbrev pub read_line : List (List Body) → Option (List Body) → Option (List Action) → Line → Option Reading
+read_line finished session current Blank = Some (reading finished session current)
+read_line finished session None Session = cond (nat_lt (length (with_last finished session)) 64) (Some (reading (with_last finished session) (Some []) None)) None
+read_line finished session (Some actions) Session = None
+read_line finished None None Begin = None
+read_line finished (Some bodies) None Begin = Some (reading finished (Some bodies) (Some []))
+read_line finished session (Some actions) Begin = None
+read_line finished session None (Act action) = None
+read_line finished session (Some actions) (Act action) = Some (reading finished session (Some (actions ++ action ∷ [])))
+read_line finished session None (End ending) = None
+read_line finished None (Some actions) (End ending) = None
+read_line finished (Some bodies) (Some actions) (End ending) = Some (reading finished (Some (bodies ++ body actions ending ∷ [])) None)
 
 abbrev pub after_line : Reading → Line → Option Reading
-after_line r line = read_line r.sessions r.current line
+after_line r line = read_line r.finished r.session r.current line
 
--- lines, each in the grammar at its place, come to a reading
-pub data Reads : List (List ℕ) → Reading → Type 0 where
-  at_first : Reads [] nothing_read
-  one_more : {lines : List (List ℕ)} {before after : Reading} (bytes : List ℕ) (line : Line) → Reads lines before → IsLine bytes line → after_line before line ≡ Some after → Reads (lines ++ bytes ∷ []) after
+-- lines, each in the grammar at its place, lead from a reading to another
+abbrev pub Leads : Reading → List (List ℕ) → Reading → Type 0
+Leads before [] after = before ≡ after
+Leads before (bytes ∷ lines) after = (line : Line) × (next : Reading) × IsLine bytes line × (after_line before line ≡ Some next) × Leads next lines after
 
 -- ---- scripts
 
+-- a script has at most so many bytes
+abbrev pub most_bytes : ℕ
+most_bytes = 16777216
+
 -- the bytes are a script of these sessions
-abbrev pub IsScript : List ℕ → List (List (List Op)) → Type 0
-IsScript bytes sessions = Reads (lines_of bytes) (record { sessions = sessions; current = None })
+abbrev pub IsScript : List ℕ → List (List Body) → Type 0
+IsScript bytes sessions =
+    (finished : List (List Body)) × (session : Option (List Body))
+    × (length bytes ≤ most_bytes) × (sessions ≡ with_last finished session) × Leads nothing_read (lines_of bytes) (reading finished session None)
 
 -- a line that is in the grammar in no way at its place
 abbrev pub HasNoPlace : Reading → List ℕ → Type 0
 HasNoPlace before bytes = (line : Line) → IsLine bytes line → after_line before line ≡ None
 
--- the first line outside the grammar at its place, counted from 1; where the lines end in a transaction, it is the line after the last
+-- the first line outside the grammar at its place, counted from 1; where the lines end in a transaction, it is the line after the last; 0 where
+-- there are too many bytes
 pub data IsRefused (bytes : List ℕ) : ℕ → Type 0 where
   at_line :
-      {front : List (List ℕ)} {before : Reading} (line : List ℕ) (behind : List (List ℕ))
-      → lines_of bytes ≡ front ++ line ∷ behind → Reads front before → HasNoPlace before line → IsRefused bytes (suc (length front))
+      (front : List (List ℕ)) (before : Reading) (line : List ℕ) (behind : List (List ℕ))
+      → length bytes ≤ most_bytes → lines_of bytes ≡ front ++ line ∷ behind → Leads nothing_read front before → HasNoPlace before line
+      → IsRefused bytes (suc (length front))
   at_end :
-      {sessions : List (List (List Op))} {ops : List Op}
-      → Reads (lines_of bytes) (record { sessions = sessions; current = Some ops }) → IsRefused bytes (suc (length (lines_of bytes)))
+      (before : Reading) (actions : List Action)
+      → length bytes ≤ most_bytes → Leads nothing_read (lines_of bytes) before → before.current ≡ Some actions
+      → IsRefused bytes (suc (length (lines_of bytes)))
+  too_long : most_bytes < length bytes → IsRefused bytes 0

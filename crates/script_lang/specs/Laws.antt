@@ -1,35 +1,58 @@
 -- What holds of every script.
-use Rattle.std.specs.Prelude.{◌≡◌, ◌≤◌, ℕ, suc, ◌+◌, ◌^◌, Bool, true, false, nat_lt, nat_le, ◌&&◌, List, [], ◌∷◌, length}
+use Rattle.std.specs.Prelude.{◌≡◌, ◌≤◌, ℕ, suc, ◌+◌, ◌^◌, Bool, true, not, nat_lt, nat_le, ◌==◌, ◌&&◌, List, [], ◌∷◌, length}
 use Rattle.std.specs.List.{list_all}
 use Rattle.clv_base.specs.declared.ops.Op.{Op}
 use Rattle.clv_base.specs.declared.ops.Op.TheVariants.{Get, Put, Del, Scan}
-use Rattle.script_lang.specs.Grammar.{IsScript}
+use Rattle.script_lang.specs.Bodies.{Action, Body}
+use Rattle.script_lang.specs.Grammar.{Do, Move, IsScript, IsRefused}
 
--- a Get or a Put, of numbers below 2^64; and at most a thousand of them
-abbrev pub is_narrow : Op → Bool
-is_narrow (Get k) = nat_lt k (2 ^ 64)
-is_narrow (Put k v) = nat_lt k (2 ^ 64) && nat_lt v (2 ^ 64)
-is_narrow (Del k) = false
-is_narrow (Scan lo hi) = false
+-- ---- one meaning
 
-abbrev pub is_narrow_transaction : List Op → Bool
-is_narrow_transaction ops = nat_le (length ops) 1000 && list_all is_narrow ops
+-- a text is the script of one list of sessions alone
+abbrev pub ScriptsHaveOneMeaning : Type 0
+ScriptsHaveOneMeaning = (bytes : List ℕ) (sessions others : List (List Body)) → IsScript bytes sessions → IsScript bytes others → sessions ≡ others
 
--- how many transactions and operations there are
-abbrev pub session_size : List (List Op) → ℕ
+-- no script is refused, and what is refused is refused at one line
+abbrev pub ScriptsAreNotRefused : Type 0
+ScriptsAreNotRefused = (bytes : List ℕ) (sessions : List (List Body)) (line : ℕ) → IsScript bytes sessions → IsRefused bytes line → ⊥
+
+abbrev pub RefusalsHaveOneLine : Type 0
+RefusalsHaveOneLine = (bytes : List ℕ) (line other : ℕ) → IsRefused bytes line → IsRefused bytes other → line ≡ other
+
+-- ---- bounds
+
+-- numbers below 2^64; a scan's bounds don't fall, and a move's keys differ
+abbrev pub is_word : ℕ → Bool
+is_word n = nat_lt n (2 ^ 64)
+
+abbrev pub is_narrow_op : Op → Bool
+is_narrow_op (Get k) = is_word k
+is_narrow_op (Put k v) = is_word k && is_word v
+is_narrow_op (Del k) = is_word k
+is_narrow_op (Scan lo hi) = nat_le lo hi && is_word hi
+
+abbrev pub is_narrow : Action → Bool
+is_narrow (Do op) = is_narrow_op op
+is_narrow (Move from to amount) = (is_word from && is_word to) && (is_word amount && not (from == to))
+
+abbrev pub is_narrow_body : Body → Bool
+is_narrow_body b = list_all is_narrow b.actions
+
+-- how many transactions and lines of transactions there are
+abbrev pub session_size : List Body → ℕ
 session_size [] = 0
-session_size (ops ∷ transactions) = suc (length ops) + session_size transactions
+session_size (b ∷ bodies) = suc (length b.actions) + session_size bodies
 
-abbrev pub script_size : List (List (List Op)) → ℕ
+abbrev pub script_size : List (List Body) → ℕ
 script_size [] = 0
-script_size (transactions ∷ sessions) = session_size transactions + script_size sessions
+script_size (bodies ∷ sessions) = session_size bodies + script_size sessions
 
 abbrev pub ScriptsAreNarrow : Type 0
-ScriptsAreNarrow = (bytes : List ℕ) (sessions : List (List (List Op))) → IsScript bytes sessions → list_all (list_all is_narrow_transaction) sessions ≡ true
+ScriptsAreNarrow = (bytes : List ℕ) (sessions : List (List Body)) → IsScript bytes sessions → list_all (list_all is_narrow_body) sessions ≡ true
 
 -- each of them stands on a line of its own
 abbrev pub ScriptsAreShort : Type 0
-ScriptsAreShort = (bytes : List ℕ) (sessions : List (List (List Op))) → IsScript bytes sessions → script_size sessions ≤ suc (length bytes)
+ScriptsAreShort = (bytes : List ℕ) (sessions : List (List Body)) → IsScript bytes sessions → script_size sessions ≤ suc (length bytes)
 
-abbrev pub ScriptsHaveOneSession : Type 0
-ScriptsHaveOneSession = (bytes : List ℕ) (sessions : List (List (List Op))) → IsScript bytes sessions → length sessions ≤ 1
+abbrev pub ScriptsHaveFewSessions : Type 0
+ScriptsHaveFewSessions = (bytes : List ℕ) (sessions : List (List Body)) → IsScript bytes sessions → length sessions ≤ 64

@@ -1,3 +1,6 @@
+pub mod Bodies
 pub mod Grammar
-pub mod Laws
 pub mod Reading
+pub mod Laws
+pub mod Following
+pub mod Places

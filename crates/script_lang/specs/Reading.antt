@@ -1,11 +1,8 @@
 -- Words of the parser's own clauses.
-use Rattle.std.specs.Prelude.{◌≡◌, ◌≢◌, ◌<◌, ℕ, length, slice_index, Bool, true, false, List, [], ◌∷◌, Option, Some, None}
-use Rattle.clv_base.specs.declared.ops.Op.{Op}
+use Rattle.std.specs.Prelude.{◌≡◌, ◌≢◌, ◌<◌, ℕ, length, slice_index, Bool, true, false, List, Option, Some, None, codes}
 use Rattle.script_lang.specs.Grammar.{Reading}
-
-abbrev pub sessions_of : Option (List (List Op)) → List (List (List Op))
-sessions_of None = []
-sessions_of (Some transactions) = transactions ∷ []
+use Rattle.script_lang.specs.declared.lines.Verb.{Verb}
+use Rattle.script_lang.specs.declared.lines.Verb.TheVariants.{Get, Put, Del, Scan, Move}
 
 -- the line was taken, and led to this; or it has no place
 abbrev pub Goes : Bool → Option Reading → Reading → Type 0
@@ -15,3 +12,11 @@ Goes false next now = next ≡ None
 -- no byte is this one
 abbrev pub Lacks : ℕ → List ℕ → Type 0
 Lacks byte bytes = (k : ℕ) → k < length bytes → slice_index bytes k ≢ byte
+
+-- the word of a verb
+abbrev pub verb_text : Verb → List ℕ
+verb_text Get = codes "get"
+verb_text Put = codes "put"
+verb_text Del = codes "del"
+verb_text Scan = codes "scan"
+verb_text Move = codes "move"

@@ -8,10 +8,13 @@ use crate::reader::Reader;
 use crate::script::Script;
 use std::alloc::Global;
 
+/// The bytes of the longest script.
+pub const MOST_BYTES: usize = 16_777_216;
+
 /// Why a text is no script.
 #[derive(Clone, Copy, PartialEq, Eq, Debug)]
 pub enum ScriptError {
-    /// This line, counted from 1, is the first outside the grammar at its place.
+    /// This line, counted from 1, is the first outside the grammar at its place; 0 where there are too many bytes.
     Refused { line: u64 },
     /// There was no memory.
     Memory,
@@ -34,7 +37,10 @@ pub fn parse(alloc: Global, bytes: &[u8]) -> Result<Script, ScriptError>
     ensures script { IfOk result (λ script. IsScript bytes.now script) }
     ensures refused { IfErr result (λ error. (line : ℕ) → error ≡ ScriptError.Refused line → IsRefused bytes.now line) }
 {
-    let mut reader = Reader::new();
+    if bytes.len() > MOST_BYTES {
+        return Err(ScriptError::Refused { line: 0 });
+    }
+    let mut reader = Reader::new(alloc);
     let mut rest = bytes;
     let mut number: u64 = 0;
     while !rest.is_empty() {
@@ -51,7 +57,7 @@ pub fn parse(alloc: Global, bytes: &[u8]) -> Result<Script, ScriptError>
         }
         rest = behind;
     }
-    match reader.into_script(alloc) {
+    match reader.into_script() {
         Ok(Some(script)) => Ok(script),
         Ok(None) => Err(ScriptError::Refused { line: number + 1 }),
         Err(_) => Err(ScriptError::Memory),

@@ -1,45 +1,47 @@
 // What a script says.
 
 ghost use Rattle.std.specs.Prelude.{◌≡◌, ◌++◌, ◌∷◌, [], List, OnOk};
-ghost use Rattle.clv_base.specs.declared.ops.Op.{Op};
+ghost use Rattle.script_lang.specs.Bodies.{Body};
 
-use clv_base::ops::Op;
+use crate::actions::{Action, Ending};
 use std::alloc::AllocError;
 use std::marker::Model;
 
-/// The operations of a transaction, in order.
+/// The lines of a transaction, in order, and how it is to end.
 #[derive(Drop, Debug)]
 pub struct Transaction {
-    operations: Vec<Op>,
+    actions: Vec<Action>,
+    ending: Ending,
 }
 
 impl Model for Transaction {
-    ghost Value = { List Op };
+    ghost use Rattle.script_lang.specs.Bodies.{Body};
 
-    ghost view = { λ t. t.operations.items };
+    ghost Value = { Body };
+
+    ghost view = { λ t. record { actions = t.actions.items; ending = t.ending } };
 }
 
 impl Transaction {
-    /// The transaction of these operations.
-    pub fn new(operations: Vec<Op>) -> Self
-        ensures { result ≡ operations.items }
+    /// The transaction of these lines.
+    pub fn new(actions: Vec<Action>, ending: Ending) -> Self
+        ensures { result ≡ record { actions = actions.items; ending = ending } }
     {
-        Transaction { operations }
+        Transaction { actions, ending }
     }
 
-    // Adds an operation.
-    pub(crate) fn add(&mut self, op: Op) -> Result<(), AllocError>
-        ensures { OnOk result (self.new ≡ self.old ++ op ∷ []) }
+    /// Its lines, in order.
+    pub fn actions(&self) -> &[Action]
+        ensures { result.now ≡ self.now.actions }
     {
-        self.operations.push(op)?;
-        Ok(())
+        self.actions.as_slice()
     }
 
-    /// Its operations, in order.
-    pub fn operations(&self) -> &[Op]
-        ensures { result.now ≡ self.now }
+    /// How it is to end.
+    pub fn ending(&self) -> Ending
+        ensures { result ≡ self.now.ending }
     {
-        self.operations.as_slice()
+        self.ending
     }
 }
 
@@ -50,7 +52,10 @@ pub struct Session {
 }
 
 impl Model for Session {
-    ghost Value = { List (List Op) };
+    ghost use Rattle.std.specs.Prelude.{List};
+    ghost use Rattle.script_lang.specs.Bodies.{Body};
+
+    ghost Value = { List Body };
 
     ghost view = { λ s. s.transactions.items };
 }
@@ -86,7 +91,10 @@ pub struct Script {
 }
 
 impl Model for Script {
-    ghost Value = { List (List (List Op)) };
+    ghost use Rattle.std.specs.Prelude.{List};
+    ghost use Rattle.script_lang.specs.Bodies.{Body};
+
+    ghost Value = { List (List Body) };
 
     ghost view = { λ s. s.sessions.items };
 }

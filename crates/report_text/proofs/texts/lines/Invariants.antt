@@ -1,7 +1,7 @@
 use Rattle.std.proofs.Common.{◌≡◌, ◌++◌, drop}
-use Rattle.history_replay.specs.Entries.{on_shard}
+use Rattle.history_replay.specs.Located.{located_all}
 use Rattle.report_text.specs.Report.{lines_in}
 use Rattle.report_text.proofs.texts.lines.Given as goal
 
-abbrev pub invariant-loop-entry : goal.invariant-loop-entry
-invariant-loop-entry l = l.text.items ++ lines_in (on_shard 0 l.journal) (on_shard 0 (drop l.entry-index l.journal)) ≡ lines_in (on_shard 0 l.journal) (on_shard 0 l.journal)
+abbrev pub invariant-loop-one : goal.invariant-loop-one
+invariant-loop-one l = l.text.items ++ lines_in (located_all l.list) (located_all (drop l.one-index l.list)) ≡ lines_in (located_all l.list) (located_all l.list)

@@ -1,4 +1,4 @@
-use Rattle.script_lang.proofs.Scripts.{narrow_scripts}
+use Rattle.script_lang.proofs.Sizes.{narrow_scripts}
 use Rattle.script_lang.proofs.laws.scripts_are_narrow.Goals as goal
 
 pub returns : goal.returns

@@ -1,4 +1,4 @@
-use Rattle.script_lang.proofs.Scripts.{short_scripts}
+use Rattle.script_lang.proofs.Sizes.{short_scripts}
 use Rattle.script_lang.proofs.laws.scripts_are_short.Goals as goal
 
 pub returns : goal.returns

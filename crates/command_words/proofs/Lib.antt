@@ -1,0 +1,5 @@
+pub mod Found
+pub mod Numbers
+pub mod Lists
+pub mod Programs
+pub mod Sayings

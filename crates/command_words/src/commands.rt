@@ -1,0 +1,34 @@
+// What the words may be.
+
+use clv_base::splits::Splits;
+
+/// A command.
+#[derive(Clone, Debug, Drop)]
+pub enum Command {
+    /// Makes the empty logs of the shards that these splits part.
+    Make {
+        splits: Splits,
+    },
+    /// Runs a script, each transaction in at most so many tries.
+    Run {
+        tries: u64,
+    },
+    /// Shows all pairs.
+    Show,
+    /// Runs a workload.
+    Load {
+        seed: u64,
+        sessions: u64,
+        accounts: u64,
+        transfers: u64,
+    },
+}
+
+/// Why words are no command.
+#[derive(Clone, Copy, PartialEq, Eq, Debug)]
+pub enum WordsError {
+    /// They aren't one.
+    Usage,
+    /// There was no memory.
+    Memory,
+}

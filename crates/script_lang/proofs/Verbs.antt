@@ -1,0 +1,139 @@
+-- The word that an action begins with, and what follows it.
+use Rattle.std.proofs.Common.{◌≡◌, ◌≢◌, ℕ, zero, suc, ◌≤◌, List, [], ◌∷◌, ◌++◌, slice_index, codes, subst, ap, refl, sym, ◌∙◌, arith, Option, Some, None, MatchOption}
+use Rattle.clv_base.specs.declared.ops.Op.TheVariants.{Get, Put, Del, Scan}
+use Rattle.script_lang.specs.Bodies.{Action}
+use Rattle.script_lang.specs.Reading.{Lacks, verb_text}
+use Rattle.script_lang.specs.Grammar.{Do, Move, IsNumber, AreTwo, AreThree, name_of, HasOperands, IsAction}
+use Rattle.script_lang.specs.declared.lines.Verb.{Verb}
+use Rattle.script_lang.specs.declared.lines.Verb.TheVariants as verbs
+use Rattle.script_lang.proofs.Words.{parted_alike, number_once, two_once, three_once}
+
+lacks_none : Lacks 32 []
+lacks_none k h e = omega arith
+
+lacks_more : (x : ℕ) (bs : List ℕ) → x ≢ 32 → Lacks 32 bs → Lacks 32 (x ∷ bs)
+lacks_more x bs ne rest zero h = ne
+lacks_more x bs ne rest (suc k) h = rest k (omega arith)
+
+lacks_three : (x y z : ℕ) → x ≢ 32 → y ≢ 32 → z ≢ 32 → Lacks 32 (x ∷ y ∷ z ∷ [])
+lacks_three x y z a b c = lacks_more x (y ∷ z ∷ []) a (lacks_more y (z ∷ []) b (lacks_more z [] c lacks_none))
+
+lacks_four : (w x y z : ℕ) → w ≢ 32 → x ≢ 32 → y ≢ 32 → z ≢ 32 → Lacks 32 (w ∷ x ∷ y ∷ z ∷ [])
+lacks_four w x y z n a b c = lacks_more w (x ∷ y ∷ z ∷ []) n (lacks_three x y z a b c)
+
+pub names_lack_space : (action : Action) → Lacks 32 (name_of action)
+names_lack_space (Do (Get k)) = lacks_three 103 101 116 (omega arith) (omega arith) (omega arith)
+names_lack_space (Do (Put k v)) = lacks_three 112 117 116 (omega arith) (omega arith) (omega arith)
+names_lack_space (Do (Del k)) = lacks_three 100 101 108 (omega arith) (omega arith) (omega arith)
+names_lack_space (Do (Scan lo hi)) = lacks_four 115 99 97 110 (omega arith) (omega arith) (omega arith) (omega arith)
+names_lack_space (Move from to amount) = lacks_four 109 111 118 101 (omega arith) (omega arith) (omega arith) (omega arith)
+
+pub verb_for : (action : Action) → (verb : Verb) × (name_of action ≡ verb_text verb)
+verb_for (Do (Get k)) = (verbs.Get, refl)
+verb_for (Do (Put k v)) = (verbs.Put, refl)
+verb_for (Do (Del k)) = (verbs.Del, refl)
+verb_for (Do (Scan lo hi)) = (verbs.Scan, refl)
+verb_for (Move from to amount) = (verbs.Move, refl)
+
+-- an action's words, where the line is parted
+pub action_by_words : (bytes word words : List ℕ) → bytes ≡ word ++ 32 ∷ words → Lacks 32 word → (action : Action) → IsAction bytes action → (name_of action ≡ word) × HasOperands words action
+action_by_words bytes word words is none action (others, same, operands) =
+    let e = parted_alike word words (name_of action) others none (names_lack_space action) (sym is ∙ same) in
+    (sym e.0, subst (λ (w : List ℕ). HasOperands w action) (sym e.1) operands)
+
+-- ---- by the verb
+
+unequal : (a b : List ℕ) → slice_index a 0 ≢ slice_index b 0 → a ≡ b → ⊥
+unequal a b differ e = differ (ap (λ (w : List ℕ). slice_index w 0) e)
+
+pub get_operands : (words : List ℕ) (action : Action) → name_of action ≡ codes "get" → HasOperands words action → (k : ℕ) × IsNumber words k
+get_operands words (Do (Get k)) e h = (k, h)
+get_operands words (Do (Put k v)) e h = absurd (unequal (codes "put") (codes "get") (omega arith) e)
+get_operands words (Do (Del k)) e h = absurd (unequal (codes "del") (codes "get") (omega arith) e)
+get_operands words (Do (Scan lo hi)) e h = absurd (unequal (codes "scan") (codes "get") (omega arith) e)
+get_operands words (Move from to amount) e h = absurd (unequal (codes "move") (codes "get") (omega arith) e)
+
+pub put_operands : (words : List ℕ) (action : Action) → name_of action ≡ codes "put" → HasOperands words action → (k v : ℕ) × AreTwo words k v
+put_operands words (Do (Get k)) e h = absurd (unequal (codes "get") (codes "put") (omega arith) e)
+put_operands words (Do (Put k v)) e h = (k, v, h)
+put_operands words (Do (Del k)) e h = absurd (unequal (codes "del") (codes "put") (omega arith) e)
+put_operands words (Do (Scan lo hi)) e h = absurd (unequal (codes "scan") (codes "put") (omega arith) e)
+put_operands words (Move from to amount) e h = absurd (unequal (codes "move") (codes "put") (omega arith) e)
+
+pub del_operands : (words : List ℕ) (action : Action) → name_of action ≡ codes "del" → HasOperands words action → (k : ℕ) × IsNumber words k
+del_operands words (Do (Get k)) e h = absurd (unequal (codes "get") (codes "del") (omega arith) e)
+del_operands words (Do (Put k v)) e h = absurd (unequal (codes "put") (codes "del") (omega arith) e)
+del_operands words (Do (Del k)) e h = (k, h)
+del_operands words (Do (Scan lo hi)) e h = absurd (unequal (codes "scan") (codes "del") (omega arith) e)
+del_operands words (Move from to amount) e h = absurd (unequal (codes "move") (codes "del") (omega arith) e)
+
+pub scan_operands : (words : List ℕ) (action : Action) → name_of action ≡ codes "scan" → HasOperands words action → (lo hi : ℕ) × AreTwo words lo hi × (lo ≤ hi)
+scan_operands words (Do (Get k)) e h = absurd (unequal (codes "get") (codes "scan") (omega arith) e)
+scan_operands words (Do (Put k v)) e h = absurd (unequal (codes "put") (codes "scan") (omega arith) e)
+scan_operands words (Do (Del k)) e h = absurd (unequal (codes "del") (codes "scan") (omega arith) e)
+scan_operands words (Do (Scan lo hi)) e h = (lo, hi, h.0, h.1)
+scan_operands words (Move from to amount) e h = absurd (unequal (codes "move") (codes "scan") (omega arith) e)
+
+pub move_operands : (words : List ℕ) (action : Action) → name_of action ≡ codes "move" → HasOperands words action → (from to amount : ℕ) × AreThree words from to amount × (from ≢ to)
+move_operands words (Do (Get k)) e h = absurd (unequal (codes "get") (codes "move") (omega arith) e)
+move_operands words (Do (Put k v)) e h = absurd (unequal (codes "put") (codes "move") (omega arith) e)
+move_operands words (Do (Del k)) e h = absurd (unequal (codes "del") (codes "move") (omega arith) e)
+move_operands words (Do (Scan lo hi)) e h = absurd (unequal (codes "scan") (codes "move") (omega arith) e)
+move_operands words (Move from to amount) e h = (from, to, amount, h.0, h.1)
+
+-- ---- an action has one meaning
+
+same_get : (words : List ℕ) (k : ℕ) (b : Action) → name_of b ≡ codes "get" → IsNumber words k → HasOperands words b → Do (Get k) ≡ b
+same_get words k (Do (Get m)) e ha hb = ap (λ (x : ℕ). Do (Get x)) (number_once words k m ha hb)
+same_get words k (Do (Put m n)) e ha hb = absurd (unequal (codes "put") (codes "get") (omega arith) e)
+same_get words k (Do (Del m)) e ha hb = absurd (unequal (codes "del") (codes "get") (omega arith) e)
+same_get words k (Do (Scan m n)) e ha hb = absurd (unequal (codes "scan") (codes "get") (omega arith) e)
+same_get words k (Move l m n) e ha hb = absurd (unequal (codes "move") (codes "get") (omega arith) e)
+
+same_put : (words : List ℕ) (k v : ℕ) (b : Action) → name_of b ≡ codes "put" → AreTwo words k v → HasOperands words b → Do (Put k v) ≡ b
+same_put words k v (Do (Get m)) e ha hb = absurd (unequal (codes "get") (codes "put") (omega arith) e)
+same_put words k v (Do (Put m n)) e ha hb = let same = two_once words k v m n ha hb in let one : k ≡ m = same.0 in let two : v ≡ n = same.1 in cc
+same_put words k v (Do (Del m)) e ha hb = absurd (unequal (codes "del") (codes "put") (omega arith) e)
+same_put words k v (Do (Scan m n)) e ha hb = absurd (unequal (codes "scan") (codes "put") (omega arith) e)
+same_put words k v (Move l m n) e ha hb = absurd (unequal (codes "move") (codes "put") (omega arith) e)
+
+same_del : (words : List ℕ) (k : ℕ) (b : Action) → name_of b ≡ codes "del" → IsNumber words k → HasOperands words b → Do (Del k) ≡ b
+same_del words k (Do (Get m)) e ha hb = absurd (unequal (codes "get") (codes "del") (omega arith) e)
+same_del words k (Do (Put m n)) e ha hb = absurd (unequal (codes "put") (codes "del") (omega arith) e)
+same_del words k (Do (Del m)) e ha hb = ap (λ (x : ℕ). Do (Del x)) (number_once words k m ha hb)
+same_del words k (Do (Scan m n)) e ha hb = absurd (unequal (codes "scan") (codes "del") (omega arith) e)
+same_del words k (Move l m n) e ha hb = absurd (unequal (codes "move") (codes "del") (omega arith) e)
+
+same_scan : (words : List ℕ) (k v : ℕ) (b : Action) → name_of b ≡ codes "scan" → AreTwo words k v × (k ≤ v) → HasOperands words b → Do (Scan k v) ≡ b
+same_scan words k v (Do (Get m)) e ha hb = absurd (unequal (codes "get") (codes "scan") (omega arith) e)
+same_scan words k v (Do (Put m n)) e ha hb = absurd (unequal (codes "put") (codes "scan") (omega arith) e)
+same_scan words k v (Do (Del m)) e ha hb = absurd (unequal (codes "del") (codes "scan") (omega arith) e)
+same_scan words k v (Do (Scan m n)) e ha hb = let same = two_once words k v m n ha.0 hb.0 in let one : k ≡ m = same.0 in let two : v ≡ n = same.1 in cc
+same_scan words k v (Move l m n) e ha hb = absurd (unequal (codes "move") (codes "scan") (omega arith) e)
+
+same_move : (words : List ℕ) (i j k : ℕ) (b : Action) → name_of b ≡ codes "move" → AreThree words i j k × (i ≢ j) → HasOperands words b → Move i j k ≡ b
+same_move words i j k (Do (Get m)) e ha hb = absurd (unequal (codes "get") (codes "move") (omega arith) e)
+same_move words i j k (Do (Put m n)) e ha hb = absurd (unequal (codes "put") (codes "move") (omega arith) e)
+same_move words i j k (Do (Del m)) e ha hb = absurd (unequal (codes "del") (codes "move") (omega arith) e)
+same_move words i j k (Do (Scan m n)) e ha hb = absurd (unequal (codes "scan") (codes "move") (omega arith) e)
+same_move words i j k (Move l m n) e ha hb = let same = three_once words i j k l m n ha.0 hb.0 in let one : i ≡ l = same.0 in let two : j ≡ m = same.1 in let three : k ≡ n = same.2 in cc
+
+same_operands : (words : List ℕ) (a b : Action) → name_of a ≡ name_of b → HasOperands words a → HasOperands words b → a ≡ b
+same_operands words (Do (Get k)) b e ha hb = same_get words k b (sym e) ha hb
+same_operands words (Do (Put k v)) b e ha hb = same_put words k v b (sym e) ha hb
+same_operands words (Do (Del k)) b e ha hb = same_del words k b (sym e) ha hb
+same_operands words (Do (Scan lo hi)) b e ha hb = same_scan words lo hi b (sym e) ha hb
+same_operands words (Move from to amount) b e ha hb = same_move words from to amount b (sym e) ha hb
+
+pub one_action : (bytes : List ℕ) (a b : Action) → IsAction bytes a → IsAction bytes b → a ≡ b
+one_action bytes a b (words, is, operands) other =
+    let e = action_by_words bytes (name_of a) words is (names_lack_space a) b other in
+    same_operands words a b (sym e.0) operands e.1
+
+-- what was found as a move is what was asked for
+pub moved : (words text : List ℕ) (found : Option Action) → text ≡ codes "move"
+    → MatchOption found ((from to amount : ℕ) → AreThree words from to amount → from ≢ to → ⊥) (λ action. (from to amount : ℕ) × (action ≡ Move from to amount) × AreThree words from to amount × (from ≢ to))
+    → MatchOption found ((action : Action) → name_of action ≡ text → HasOperands words action → ⊥) (λ action. (name_of action ≡ text) × HasOperands words action)
+moved words text None e h = λ action names has. let is = move_operands words action (names ∙ e) has in h is.0 is.1 is.2 is.3 is.4
+moved words text (Some action) e (from, to, amount, is, three, differ) =
+    (ap name_of is ∙ sym e, subst (λ (a : Action). HasOperands words a) (sym is) (three, differ))
