@@ -3,8 +3,8 @@ use Rattle.std.proofs.Common.{◌≡◌, refl, ℕ, ◌≤◌, ◌<◌, ◌^◌,
 use Rattle.std.specs.List.{list_all}
 use Rattle.clv_base.specs.declared.ops.Op.{Op}
 use Rattle.clv_base.specs.declared.ops.Op.TheVariants.{Get, Put, Del, Scan}
-use Rattle.script_lang.specs.Grammar.{IsScript}
-use Rattle.script_lang.specs.Laws.{is_narrow, is_narrow_transaction, session_size, script_size, ScriptsAreNarrow, ScriptsAreShort}
+use Rattle.single_script.specs.Grammar.{IsScript}
+use Rattle.single_script.specs.Laws.{is_narrow, is_narrow_transaction, session_size, script_size, ScriptsAreNarrow, ScriptsAreShort}
 use Rattle.single_path.specs.Plan.{may_do, may_run}
 use Rattle.clv_shell.specs.Ends.{first_session}
 

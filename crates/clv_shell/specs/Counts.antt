@@ -1,8 +1,12 @@
 -- What the counts of faults say of a status, and which statuses a command has.
-use Rattle.std.specs.Prelude.{◌≡◌, ◌≢◌, ◌^◌, ℕ, List, length, Option, None, IfSome}
+use Rattle.std.specs.Prelude.{◌≡◌, ◌≢◌, ◌^◌, ℕ, true, List, length, Option, None, IfSome}
 use Rattle.disk_model.specs.Story.{Story, reads}
 use Rattle.disk_model.specs.Disk.{Rose}
 use Rattle.history_replay.specs.Entries.{Kept}
+use Rattle.run_promises.specs.Histories.{entries}
+use Rattle.single_run.specs.Scripts.{has_failure}
+use Rattle.clv_shell.specs.declared.command.Command.{Command}
+use Rattle.clv_shell.specs.declared.command.Command.TheVariants.{Make, Run, Show}
 use Rattle.clv_shell.specs.declared.status.Status.{Status}
 use Rattle.clv_shell.specs.declared.status.Status.TheVariants.{Fine, Usage, Script, ReadFault, WriteFault, DiskFault, NotLog, Memory, Worn, Exists}
 use Rattle.clv_shell.specs.Ends.{BreaksAt, IsWornOut, IsRefusedScript}
@@ -38,6 +42,16 @@ IsOfShow (Exists shard len) = ⊥
 IsOfShow (Script line) = ⊥
 IsOfShow ReadFault = ⊥
 IsOfShow status = Unit {0}
+
+-- the statuses that a command may end with
+abbrev pub IsOfCommand : Command → Status → Type 0
+IsOfCommand Make status = IsOfMake status
+IsOfCommand Run status = IsOfRun status
+IsOfCommand Show status = IsOfShow status
+
+-- a flush failed only where the first shard's disk has counted it
+abbrev pub FailsOnly : ℕ → ℕ → Kept → Type 0
+FailsOnly before now kept = has_failure (entries kept) ≡ true → Rose before now
 
 -- the first shard's disk has so many bytes, and not none
 abbrev pub HasLength : Status → Option Story → Type 0

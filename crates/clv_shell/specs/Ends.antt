@@ -1,5 +1,5 @@
 -- What the program promises where it ends, by its status and its history.
-use Rattle.std.specs.Prelude.{◌≡◌, ◌⊎◌, true, ◌<◌, ◌^◌, ◌++◌, ℕ, List, [], ◌∷◌, length, take, Option, Some, None, IfSome}
+use Rattle.std.specs.Prelude.{◌≡◌, ◌⊎◌, true, ◌<◌, ◌≤◌, ◌^◌, ◌++◌, ℕ, List, [], ◌∷◌, length, take, Option, Some, None, IfSome}
 use Rattle.clv_base.specs.declared.ops.Op.{Op}
 use Rattle.clv_base.specs.declared.logs.LogRecord.{LogRecord}
 use Rattle.clv_base.specs.Logs.{stands}
@@ -12,7 +12,7 @@ use Rattle.log_gate.specs.Gate.{EachNow}
 use Rattle.log_gate.specs.Opening.{IsUnchanged}
 use Rattle.history_replay.specs.Entries.{Kept}
 use Rattle.report_text.specs.Report.{report, pairs_text}
-use Rattle.script_lang.specs.Grammar.{IsScript, IsRefused}
+use Rattle.single_script.specs.Grammar.{IsScript, IsRefused}
 use Rattle.single_path.specs.Plan.{Stop, After_all}
 use Rattle.single_path.specs.Steps.{stops_at_failure}
 use Rattle.single_opening.specs.declared.error.At.{At}
@@ -21,7 +21,7 @@ use Rattle.single_opening.specs.Opening.{Refuses}
 use Rattle.single_opening.specs.declared.error.OpeningError.TheVariants as opening
 use Rattle.run_promises.specs.Disks.{StaysClosed}
 use Rattle.run_promises.specs.Histories.{entries}
-use Rattle.run_promises.specs.Scripts.{FollowsScript, HasNoStop, has_failure, HasAll}
+use Rattle.single_run.specs.Scripts.{FollowsScript, HasNoStop, has_failure, HasAll}
 use Rattle.clv_shell.specs.declared.command.Command.{Command}
 use Rattle.clv_shell.specs.declared.command.Command.TheVariants.{Make, Run, Show}
 use Rattle.clv_shell.specs.declared.status.Status.{Status}
@@ -38,8 +38,19 @@ IsUntouched status before now = Tells before now IsUnchanged
 
 -- where a shard's disk failed before it was opened, its log stands for the same map as before
 abbrev pub IsClosed : Status → Option Story → Option Story → Type 0
-IsClosed (DiskFault shard) before now = Tells before now StaysClosed
+IsClosed (DiskFault shard) before now = Tells before now (StaysClosed [] 0)
 IsClosed status before now = Unit {0}
+
+-- a log may have been begun on a disk that was empty; any other was not written
+abbrev pub MayBegin : Story → Story → Type 0
+MayBegin s t = (reads s ≡ []) ⊎ IsUnchanged s t
+
+-- where the disk failed and no shard was opened: `make` wrote to an empty disk alone, and what `run` and `show` left stands for the same map
+abbrev pub IsClosedBy : Command → Status → Option Story → Option Story → Type 0
+IsClosedBy Make (DiskFault shard) before now = Tells before now MayBegin
+IsClosedBy Make status before now = Unit {0}
+IsClosedBy Run status before now = IsClosed status before now
+IsClosedBy Show status before now = IsClosed status before now
 
 -- an empty disk has a header and a closed gate now, as read and in each image that a crash may leave
 abbrev pub IsMade : Story → Story → Type 0
@@ -55,9 +66,10 @@ abbrev pub first_session : List (List (List Op)) → List (List Op)
 first_session [] = []
 first_session (session ∷ sessions) = session
 
--- the transactions of the script that the source's bytes are, where it tells them
+-- the transactions of the script that the source's bytes are, where it tells them; a script has 16,777,216 bytes at most
 abbrev pub HasScript : Option (List ℕ) → List (List Op) → Type 0
-HasScript left transactions = (sessions : List (List (List Op))) × IfSome left (λ bytes. IsScript bytes sessions) × (transactions ≡ first_session sessions)
+HasScript left transactions =
+    (sessions : List (List (List Op))) × IfSome left (λ bytes. IsScript bytes sessions × (length bytes ≤ 16777216)) × (transactions ≡ first_session sessions)
 
 -- a run stops by its status: after all transactions, or at a flush that failed
 abbrev pub EndsBy : Status → Stop → Type 0

@@ -1,7 +1,8 @@
 // The command `make`.
 
 ghost use Rattle.std.specs.Prelude.{◌≡◌, ◌≢◌, ℕ, [], true, false};
-ghost use Rattle.clv_shell.specs.Ends.{Makes, IsUntouched};
+ghost use Rattle.clv_shell.specs.Ends.{Makes, IsUntouched, IsClosedBy};
+ghost use Rattle.clv_shell.specs.declared.command.Command.TheVariants as commands;
 ghost use Rattle.clv_shell.specs.Steps.{IsMakeRefusal};
 ghost use Rattle.clv_shell.specs.Counts.{CountsDisk, CountsMake, IsOfMake, HasLength};
 
@@ -36,6 +37,7 @@ fn make_on<D: Disk>(alloc: Global, disk: &mut D) -> Status
     ensures kind { IsOfMake result }
     ensures made { Makes result (D.story disk.old) (D.story disk.new) }
     ensures untouched { IsUntouched result (D.story disk.old) (D.story disk.new) }
+    ensures closed { IsClosedBy commands.Make result (D.story disk.old) (D.story disk.new) }
     ensures exists { HasLength result (D.story disk.old) }
     ensures counts { CountsMake (D.faults disk.old) (D.faults disk.new) result }
 {
@@ -51,6 +53,7 @@ pub fn make_log<H: House>(alloc: Global, house: &mut H) -> Status
     ensures kind { IsOfMake result }
     ensures made { Makes result (H.story house.old 0) (H.story house.new 0) }
     ensures untouched { IsUntouched result (H.story house.old 0) (H.story house.new 0) }
+    ensures closed { IsClosedBy commands.Make result (H.story house.old 0) (H.story house.new 0) }
     ensures exists { HasLength result (H.story house.old 0) }
     ensures counts { CountsDisk (H.faults house.old 0) (H.faults house.new 0) result }
     ensures back { H.is_out house.new 0 ≡ false }

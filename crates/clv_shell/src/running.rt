@@ -3,13 +3,13 @@
 ghost use Rattle.std.specs.Prelude.{◌≡◌, ◌≢◌, ◌≤◌, ◌<◌, ◌^◌, ℕ, List, [], Option, Some, None, length, true, false, IfSome, IfErr, IfOk};
 ghost use Rattle.std.specs.List.{list_all};
 ghost use Rattle.disk_model.specs.Disk.{Tells};
-ghost use Rattle.script_lang.specs.Laws.{session_size};
+ghost use Rattle.single_script.specs.Laws.{session_size};
 ghost use Rattle.single_path.specs.Plan.{may_run};
 ghost use Rattle.run_promises.specs.Histories.{Keeps};
 ghost use Rattle.clv_shell.specs.declared.command.Command.TheVariants as commands;
 ghost use Rattle.clv_shell.specs.Ends.{IsUntouched, IsClosed, HasScript, FollowsCommand, Took, first_session, IsRefusedScript};
-ghost use Rattle.clv_shell.specs.Counts.{CountsDisk, IsOfRun, IsOfShow, BreaksLog, BreaksScript, CountsSource, CountsSink, Opened};
-ghost use Rattle.script_lang.specs.Grammar.{IsScript};
+ghost use Rattle.clv_shell.specs.Counts.{CountsDisk, FailsOnly, IsOfRun, IsOfShow, BreaksLog, BreaksScript, CountsSource, CountsSink, Opened};
+ghost use Rattle.single_script.specs.Grammar.{IsScript};
 ghost use Rattle.single_run.specs.Runs.{AcknowledgesAll};
 ghost use Rattle.clv_base.specs.Logs.{stands};
 ghost use Rattle.clv_shell.specs.Steps.{IsRefusal, ScriptFault, CountsScript, IsEnd, IsAfterFault, WritesPairs};
@@ -21,10 +21,10 @@ use history_replay::History;
 use io_edge::{Pace, ReadError, Sink, Source, read_all, write_all};
 use key_map::KeyMap;
 use report_text::{ReportError, pairs_text, report_into};
-use script_lang::laws::{scripts_are_narrow, scripts_are_short};
-use script_lang::{Script, ScriptError, Transaction, parse};
 use single_opening::OpeningError;
 use single_run::{Ran, run_session};
+use single_script::laws::{scripts_are_narrow, scripts_are_short};
+use single_script::{Script, ScriptError, Transaction, parse};
 use single_store::CommitError;
 use std::alloc::Global;
 
@@ -44,7 +44,7 @@ fn status_of(error: OpeningError) -> Status
 
 // Reads the script to its end.
 fn read_script<S: Source>(alloc: Global, source: &mut S) -> Result<Script, Status>
-    ensures script { IfOk result (λ script. IfSome (S.left source.old) (λ bytes. IsScript bytes script)) }
+    ensures script { IfOk result (λ script. IfSome (S.left source.old) (λ bytes. IsScript bytes script × (length bytes ≤ 16777216))) }
     ensures narrow { IfOk result (λ script. (list_all may_run (first_session script) ≡ true) × (session_size (first_session script) < 2 ^ 40)) }
     ensures refused { IfErr result (λ status. ScriptFault status (S.left source.old)) }
     ensures cause { CountsScript (S.faults source.old) (S.faults source.new) result }
@@ -176,6 +176,7 @@ pub fn run_script<S: Source, K: Sink, H: House, P: Pace>(
     ensures source { CountsSource (S.faults source.old) (S.faults source.new) result.status }
     ensures sink { CountsSink (K.faults sink.old) (K.faults sink.new) result.status }
     ensures disk { CountsDisk (H.faults house.old 0) (H.faults house.new 0) result.status }
+    ensures failure { IfSome result.history (FailsOnly (H.faults house.old 0) (H.faults house.new 0)) }
     ensures back { H.is_out house.new 0 ≡ false }
     ensures others { (other : ℕ) → other ≢ 0 → (H.faults house.new other ≡ H.faults house.old other) × (H.is_out house.new other ≡ H.is_out house.old other) × (H.story house.new other ≡ H.story house.old other) }
 {
@@ -215,6 +216,7 @@ pub fn show<K: Sink, H: House, P: Pace>(
     ensures log { BreaksLog result.status (H.story house.old 0) }
     ensures sink { CountsSink (K.faults sink.old) (K.faults sink.new) result.status }
     ensures disk { CountsDisk (H.faults house.old 0) (H.faults house.new 0) result.status }
+    ensures failure { IfSome result.history (FailsOnly (H.faults house.old 0) (H.faults house.new 0)) }
     ensures back { H.is_out house.new 0 ≡ false }
     ensures others { (other : ℕ) → other ≢ 0 → (H.faults house.new other ≡ H.faults house.old other) × (H.is_out house.new other ≡ H.is_out house.old other) × (H.story house.new other ≡ H.story house.old other) }
 {

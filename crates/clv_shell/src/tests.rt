@@ -5,10 +5,11 @@ ghost use Rattle.std.specs.Prelude.{◌≡◌, ℕ, false, IfOk};
 use crate::{Status, run};
 use disk_memory::{Choice, MemoryDisk, MemoryHouse};
 use disk_model::House;
-use io_edge::{MemorySink, MemorySource, NoPace};
+use io_edge::{MemorySink, MemorySource, NoPace, Pace, Step};
 use single_opening::At;
 use std::alloc::{AllocError, Global};
 use std::sync::Wait;
+use std::sync::atomic::{AtomicU64, Ordering};
 use std::test::Fail;
 use std::thread::Threads;
 
@@ -105,6 +106,48 @@ fn a_put_is_run_and_shown(rt: HostRuntime) -> Result<(), Fail> {
     assert_eq!(rt; shown, Status::Fine);
     assert_eq!(rt; pairs.as_slice(), b"[5,10]\n".as_slice());
     assert_eq!(rt; bytes_of(alloc, &house)?.len(), 118);
+    Ok(())
+}
+
+// Writes down each step as a digit, the first one first: 1 is `Begun`, 2 is `Answered`, 3 is `FlushOut`.
+#[derive(Drop)]
+struct Recorder {
+    steps: AtomicU64,
+}
+
+impl Pace for Recorder {
+    fn pass(&self, point: Step) {
+        let digit = match point {
+            Step::Begun { .. } => 1,
+            Step::Answered { .. } => 2,
+            Step::FlushOut { .. } => 3,
+        };
+        let so_far = self.steps.load(Ordering::SeqCst);
+        let steps = so_far.wrapping_mul(10).wrapping_add(digit);
+        self.steps.store(steps, Ordering::SeqCst);
+    }
+}
+
+#[test]
+fn each_step_is_told_in_order(rt: HostRuntime) -> Result<(), Fail> {
+    let alloc = rt.alloc();
+    let mut house = house_of(alloc, EMPTY, &[])?;
+    let mut source = MemorySource::new(alloc, PUT, 7, &[])?;
+    let mut sink = MemorySink::new(alloc, 65536, 5, &[])?;
+    let pace = Recorder {
+        steps: AtomicU64::new(0),
+    };
+    let ended = run(
+        &rt,
+        alloc,
+        &["run"],
+        &mut source,
+        &mut sink,
+        &mut house,
+        &pace,
+    );
+    assert_eq!(rt; ended.status, Status::Fine);
+    assert_eq!(rt; pace.steps.load(Ordering::SeqCst), 123);
     Ok(())
 }
 

@@ -6,8 +6,8 @@ ghost use Rattle.run_promises.specs.Histories.{Keeps};
 ghost use Rattle.clv_shell.specs.declared.command.Command.{Command as Named};
 ghost use Rattle.clv_shell.specs.declared.command.Command.TheVariants as commands;
 ghost use Rattle.clv_shell.specs.Words.{IsCommand};
-ghost use Rattle.clv_shell.specs.Ends.{IsUntouched, IsClosed, Makes, FollowsCommand, Took};
-ghost use Rattle.clv_shell.specs.Counts.{CountsDisk, HasLength, BreaksLog, BreaksScript, CountsSource, CountsSink, Opened};
+ghost use Rattle.clv_shell.specs.Ends.{IsUntouched, IsClosedBy, Makes, FollowsCommand, Took};
+ghost use Rattle.clv_shell.specs.Counts.{CountsDisk, FailsOnly, HasLength, IsOfCommand, BreaksLog, BreaksScript, CountsSource, CountsSink};
 ghost use Rattle.clv_shell.specs.Top.{IsRefusedWords, HasCommand, OpensByCommand};
 
 use crate::command::{Command, command_of};
@@ -41,6 +41,9 @@ where
     // Usage comes exactly where the words are no command.
     ensures usage { IsRefusedWords (map (λ w. w.now) words.now) result.status }
 
+    // Each command ends with one of its own statuses.
+    ensures kind { HasCommand (map (λ w. w.now) words.now) (λ command. IsOfCommand command result.status) }
+
     // Where a shard was opened: the history is legal, each disk holds it in each image that a crash may leave, and whatever a crash leaves
     // stands for a serial history, with all answers, in each session's order, and may be opened again.
     ensures keeps { IfSome result.history (λ h. Keeps [] (H.story house.old) (H.story house.new) h) }
@@ -55,9 +58,10 @@ where
     // A shard was opened where `run` or `show` was fine, and by no other command.
     ensures opened { HasCommand (map (λ w. w.now) words.now) (λ command. OpensByCommand command result.status result.history) }
 
-    // Where none was: no disk was written, or where the disk failed its log stands for the same map as before. What `make` makes.
+    // Where none was: no disk was written, or where the disk failed its log stands for the same map as before, and `make` wrote to an empty disk
+    // alone. What `make` makes.
     ensures untouched { result.history ≡ None → IsUntouched result.status (H.story house.old 0) (H.story house.new 0) }
-    ensures closed { HasCommand (map (λ w. w.now) words.now) (λ command. command ≢ commands.Make → result.history ≡ None → IsClosed result.status (H.story house.old 0) (H.story house.new 0)) }
+    ensures closed { HasCommand (map (λ w. w.now) words.now) (λ command. result.history ≡ None → IsClosedBy command result.status (H.story house.old 0) (H.story house.new 0)) }
     ensures made { HasCommand (map (λ w. w.now) words.now) (λ command. command ≡ commands.Make → Makes result.status (H.story house.old 0) (H.story house.new 0)) }
 
     // Each refusal comes only where its cause stands.
@@ -67,6 +71,7 @@ where
     ensures source { CountsSource (S.faults source.old) (S.faults source.new) result.status }
     ensures sink { CountsSink (K.faults sink.old) (K.faults sink.new) result.status }
     ensures disk { CountsDisk (H.faults house.old 0) (H.faults house.new 0) result.status }
+    ensures failure { IfSome result.history (FailsOnly (H.faults house.old 0) (H.faults house.new 0)) }
 
     // Every disk is back, and no other shard's disk was touched.
     ensures back { (shard : ℕ) → H.is_out house.new shard ≡ false }

@@ -1,12 +1,12 @@
 -- What an opening may add to a log leaves what it stands for.
-use Rattle.std.proofs.Common.{◌≡◌, refl, ap, ◌∙◌, Bool, true, false, cond, ◌||◌, List, [], ◌∷◌, ◌++◌}
+use Rattle.std.proofs.Common.{◌≡◌, refl, ap, sym, ◌∙◌, Bool, true, false, cond, ◌||◌, List, [], ◌∷◌, ◌++◌}
 use Rattle.std.specs.List.{list_all}
 use Rattle.std.proofs.lemmas.List.Folds.{list_any-append}
 use Rattle.clv_base.specs.declared.names.TxId.{TxId}
 use Rattle.clv_base.specs.declared.logs.LogRecord.{LogRecord}
 use Rattle.clv_base.specs.declared.logs.LogRecord.TheVariants.{Update, Clr, Prepare, Commit, Abort, End, Restart}
 use Rattle.clv_base.specs.Maps.{KeyMap, map_set}
-use Rattle.clv_base.specs.Logs.{committed_in, is_commit_of, fold_updates, committed_somewhere}
+use Rattle.clv_base.specs.Logs.{committed_in, is_commit_of, fold_updates, committed_somewhere, stands_from}
 use Rattle.run_promises.specs.Disks.{is_undo}
 use Rattle.run_promises.specs.Laws.{UndoStands}
 
@@ -42,12 +42,37 @@ commits_none t (Prepare tx home ps ∷ more) all = absurd cc
 commits_none t (Commit tx ps ∷ more) all = absurd cc
 commits_none t (End tx ∷ more) all = absurd cc
 
+append_nil : {X : Type 0} (xs : List X) → xs ++ [] ≡ xs
+append_nil [] = refl
+append_nil (x ∷ xs) = ap (λ ys. x ∷ ys) (append_nil xs)
+
 pub or_false : (b : Bool) → (b || false) ≡ b
 or_false true = refl
 or_false false = refl
 
+-- each transaction is committed in these logs as without them
+same_commits : (front behind : List (List LogRecord)) (log more : List LogRecord) → list_all is_undo more ≡ true → (t : TxId)
+    → committed_somewhere (front ++ (log ++ more) ∷ behind) t ≡ committed_somewhere (front ++ log ∷ behind) t
+same_commits [] behind log more all t =
+    ap (λ b. b || committed_somewhere behind t) (list_any-append (is_commit_of t) log more ∙ ap (λ b. committed_in log t || b) (commits_none t more all) ∙ or_false (committed_in log t))
+same_commits (l ∷ front) behind log more all t = ap (λ b. committed_in l t || b) (same_commits front behind log more all t)
+
+-- logs in which the same ones count stand for the same
+same_stands : (keep keep' : TxId → Bool) → ((t : TxId) → keep t ≡ keep' t) → (logs : List (List LogRecord)) (m : KeyMap) → stands_from keep logs m ≡ stands_from keep' logs m
+same_stands keep keep' same [] m = refl
+same_stands keep keep' same (l ∷ logs) m =
+    ap (λ rs. stands_from keep logs (fold_updates keep rs m)) (sym (append_nil l)) ∙ ap (stands_from keep logs) (fold_undo keep keep' same l [] m refl) ∙ same_stands keep keep' same logs (fold_updates keep' l m)
+
+stands_with : (keep keep' : TxId → Bool) → ((t : TxId) → keep t ≡ keep' t) → (front behind : List (List LogRecord)) (log more : List LogRecord) (m : KeyMap) → list_all is_undo more ≡ true
+    → stands_from keep (front ++ (log ++ more) ∷ behind) m ≡ stands_from keep' (front ++ log ∷ behind) m
+stands_with keep keep' same [] behind log more m all =
+    ap (stands_from keep behind) (fold_undo keep keep' same log more m all) ∙ same_stands keep keep' same behind (fold_updates keep' log m)
+stands_with keep keep' same (l ∷ front) behind log more m all =
+    stands_with keep keep' same front behind log more (fold_updates keep l m) all ∙ ap (λ x. stands_from keep' (front ++ log ∷ behind) x) (one l)
+  where
+    one : (l : List LogRecord) → fold_updates keep l m ≡ fold_updates keep' l m
+    one l = ap (λ rs. fold_updates keep rs m) (sym (append_nil l)) ∙ fold_undo keep keep' same l [] m refl
+
 pub undo_stands_for_it : UndoStands
-undo_stands_for_it log more all =
-    fold_undo (committed_somewhere ((log ++ more) ∷ [])) (committed_somewhere (log ∷ []))
-    (λ t. ap (λ b. b || false) (list_any-append (is_commit_of t) log more ∙ ap (λ b. committed_in log t || b) (commits_none t more all) ∙ or_false (committed_in log t)))
-    log more [] all
+undo_stands_for_it front behind log more all =
+    stands_with (committed_somewhere (front ++ (log ++ more) ∷ behind)) (committed_somewhere (front ++ log ∷ behind)) (same_commits front behind log more all) front behind log more [] all

@@ -66,10 +66,11 @@ is_undo (Prepare tx home predecessors) = false
 is_undo (Commit tx parts) = false
 is_undo (End tx) = false
 
--- the one disk was not written; or its log is in order, and all that a crash may leave of it, at each moment, is what one before could
--- leave, or that log with no more than a batch of such records, by which it stands for the same map
-pub data StaysClosed (s t : Story) : Type 0 where
-  unwritten : IsUnchanged s t → StaysClosed s t
+-- shard n's disk was not written; or its log is in order, and all that a crash may leave of it, at each moment, is what one before could
+-- leave, or that log with no more than a batch of such records, by which the logs of all shards stand for the same map, whatever the others are
+pub data StaysClosed (splits : List ℕ) (n : ℕ) (s t : Story) : Type 0 where
+  unwritten : IsUnchanged s t → StaysClosed splits n s t
   begun :
-      (found more : List LogRecord) → checked_log 0 (Some []) (reads s) ≡ Ok ([], found) → disorder 0 found ≡ None → list_all is_undo more ≡ true → stands ((found ++ more) ∷ []) ≡ stands (found ∷ [])
-      → HasLogOrMore 0 found more (reads t) → AtEachMoment s t (λ image. IsImage s image ⊎ HasLogOrMore 0 found more image) → StaysClosed s t
+      (found more : List LogRecord) → checked_log n (Some splits) (reads s) ≡ Ok (splits, found) → disorder n found ≡ None → list_all is_undo more ≡ true
+      → ((front behind : List (List LogRecord)) → stands (front ++ (found ++ more) ∷ behind) ≡ stands (front ++ found ∷ behind))
+      → HasLogOrMore n found more (reads t) → AtEachMoment s t (λ image. IsImage s image ⊎ HasLogOrMore n found more image) → StaysClosed splits n s t

@@ -1,4 +1,3 @@
 pub mod Disks
 pub mod Histories
-pub mod Scripts
 pub mod Laws

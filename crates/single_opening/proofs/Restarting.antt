@@ -8,13 +8,13 @@ use Rattle.clv_base.specs.LogRules.{disorder}
 use Rattle.disk_model.specs.Story.{Story, reads, IsImage}
 use Rattle.disk_model.specs.Disk.{Tells}
 use Rattle.disk_model.specs.Crash.{AtEachMoment}
-use Rattle.disk_model.proofs.Moments.{moments_weaker, moments_then, moments_now}
-use Rattle.disk_model.proofs.Told.{Then, tells_then, tells_weaker}
+use Rattle.disk_model.proofs.Laws.Moments.{moments_weaker, moments_then, moments_now}
+use Rattle.disk_model.proofs.Laws.Told.{Then, tells_then, tells_weaker}
 use Rattle.log_gate.specs.Image.{HasLog, HasLogOrMore, HasHeader}
 use Rattle.log_gate.specs.Gate.{EachNow}
 use Rattle.log_gate.specs.Opening.{IsUnchanged}
 use Rattle.log_gate.specs.View.{View, IsLogOf, IsHeaderOf, logs_of}
-use Rattle.log_gate.proofs.ManyLogs.{only_from}
+use Rattle.log_gate.proofs.Laws.{only_from}
 use Rattle.single_path.specs.Plan.{Play, is_plain, opening, log_opened}
 use Rattle.single_path.specs.Steps.{OpeningsStand}
 use Rattle.single_walk.specs.View as walks

@@ -12,7 +12,7 @@ use Rattle.clv_base.specs.LogRules.{may_follow, disorder_from, disorder}
 use Rattle.clv_base.specs.FileRules.{passes_file_rules}
 use Rattle.log_order.specs.Writes.{is_write, disorder_of_writes_from, disorder_of_writes, is_uncommitted, first_uncommitted}
 use Rattle.single_path.specs.Plan.{is_plain_record, is_plain}
-use Rattle.single_path.proofs.Plain.{IsPlain, AllPlain, plain_kinds, all_true, true_all}
+use Rattle.single_path.proofs.Laws.{IsPlain, AllPlain, plain_kinds, all_true, true_all}
 use Rattle.single_opening.specs.Opening.{first_refused}
 
 -- ---- in order

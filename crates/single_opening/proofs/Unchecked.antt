@@ -8,7 +8,7 @@ use Rattle.log_gate.specs.Payloads.{holds_batch}
 use Rattle.log_gate.specs.Records.{both, records_from, record_log}
 use Rattle.log_gate.specs.Header.{header_size, header_of, behind_field, has_number, has_count, splits_from, same_bytes, magic}
 use Rattle.log_gate.specs.Image.{with_record, record_then, records_at, records_in, with_header, behind_header, checked_log, records_of, HasLog}
-use Rattle.log_gate.proofs.Records.{all_pass}
+use Rattle.log_gate.proofs.Laws.{all_pass}
 use Rattle.single_opening.proofs.Single.{four_fields, last_holds, single_header}
 
 -- ---- records

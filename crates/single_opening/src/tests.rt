@@ -117,16 +117,6 @@ fn commit_record() -> LogRecord {
 }
 
 #[test]
-fn logs_are_made_and_pushed_to(rt: HostRuntime) -> Result<(), Fail> {
-    let alloc = rt.alloc();
-    let disk = disk_of(alloc, &[])?;
-    assert!(rt; disk.bytes() == EMPTY_LOG.as_slice());
-    let disk = disk_of(alloc, &[restart(1)])?;
-    assert!(rt; disk.bytes() == ONE_RESTART.as_slice());
-    Ok(())
-}
-
-#[test]
 fn an_empty_log_opens(rt: HostRuntime) -> Result<(), Fail> {
     let alloc = rt.alloc();
     let Opened { gate, walk, found } = opened(alloc, disk_of(alloc, &[])?)?;
@@ -136,31 +126,6 @@ fn an_empty_log_opens(rt: HostRuntime) -> Result<(), Fail> {
     assert_eq!(rt; entries.len(), 0);
     assert_eq!(rt; content.between(alloc, 0, u64::MAX)?.len(), 0);
     assert!(rt; gate.into_disk().bytes() == ONE_RESTART.as_slice());
-    Ok(())
-}
-
-#[test]
-fn a_log_is_gone_on_from(rt: HostRuntime) -> Result<(), Fail> {
-    let alloc = rt.alloc();
-    let disk = disk_of(alloc, &[restart(1), update(5, None, 10), commit_record()])?;
-    let mut shard = opened(alloc, disk)?;
-    assert_eq!(rt; (shard.found, shard.walk.transaction().run), (3, 2));
-    assert_eq!(rt; shard.walk.content().get(5), Some(10));
-    commit(
-        alloc,
-        &mut shard.walk,
-        &mut shard.gate,
-        &NoPace,
-        &[Op::Put(5, 11)],
-    )?;
-
-    // A RESTART, an UPDATE and a COMMIT more.
-    let again = opened(alloc, shard.gate.into_disk())?;
-    assert_eq!(rt; (again.found, again.walk.transaction().run), (6, 3));
-    let (log, _entries, content) = again.walk.into_parts();
-    assert!(rt; matches!(log.last(), Some(LogRecord::Restart { run: 3, epoch: 0 })));
-    let pairs = content.between(alloc, 0, u64::MAX)?;
-    assert!(rt; pairs.as_slice() == [(5, 11)].as_slice());
     Ok(())
 }
 
@@ -183,22 +148,6 @@ fn logs_are_refused_at_the_first_fault(rt: HostRuntime) -> Result<(), Fail> {
     assert_eq!(rt;
         refusal(alloc, disk)?,
         Some(OpeningError::NotLog(At::Byte(0)))
-    );
-    Ok(())
-}
-
-#[test]
-fn a_log_of_two_shards_is_refused(rt: HostRuntime) -> Result<(), Fail> {
-    let alloc = rt.alloc();
-    let header = Header {
-        shard: 0,
-        splits: Splits::new(&[10])?,
-    };
-    let mut disk = empty(alloc)?;
-    make(alloc, &mut disk, &header)?;
-    assert_eq!(rt;
-        refusal(alloc, disk)?,
-        Some(OpeningError::NotLog(At::Byte(16)))
     );
     Ok(())
 }

@@ -24,3 +24,4 @@ pub mod Serials
 pub mod Going
 pub mod Worked
 pub mod Opened
+pub mod Laws

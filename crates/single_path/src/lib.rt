@@ -6,5 +6,5 @@
 #![tactic(auto)]
 
 pub mod examples;
-pub mod laws;
+pub mod run_laws;
 pub mod steps;

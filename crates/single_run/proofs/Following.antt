@@ -15,7 +15,7 @@ use Rattle.single_path.specs.Script.{StepsAreThePlan, BirthsAreOfTransactions, H
 use Rattle.single_path.specs.Serial.{CrashesLeave, MembersAreThePlan, members_left, with_operations, kept_last}
 use Rattle.single_path.specs.Steps.{RunsFailWhereTheyStop, is_path_event, is_failure, stops_at_failure}
 use Rattle.single_store.specs.declared.commits.CommitError.{CommitError}
-use Rattle.run_promises.specs.Scripts.{StopsIn, HasNoStop, has_failure}
+use Rattle.single_run.specs.Scripts.{StopsIn, HasNoStop, has_failure}
 use Rattle.single_run.specs.Plays.{PlaysKeep}
 use Rattle.single_run.specs.Runs.{IsRun, FollowsTo, AcknowledgesAll, RunsKeep}
 use Rattle.single_run.proofs.Keeping.{own_entries, members_are}

@@ -13,32 +13,17 @@ use Rattle.clv_base.specs.History.{Legal, Member, serial, serial_ops, serial_ans
 use Rattle.disk_model.specs.Story.{Story, reads}
 use Rattle.log_gate.specs.Image.{HasLog}
 use Rattle.log_gate.specs.Gate.{EachNow}
-use Rattle.history_laws.specs.Continuing.{NeverTakenBack}
+use Rattle.headline_laws.specs.Promise.{Promised, Promise}
 use Rattle.history_replay.specs.Entries.{Kept, entries_of}
 use Rattle.history_replay.specs.Laws.{OneShardsEntries}
 use Rattle.single_path.specs.Plan.{Stop, play, log_left_by, run_all, opening}
 use Rattle.single_path.specs.Laws.{history, RunsAreLegal, RunsHaveTheirLog}
-use Rattle.single_path.specs.Serial.{CrashesLeave, RunsReplay, InOrder, MembersAreInOrder, PlainLogsMayBeOpened, RunsMayBeOpened, members_left}
+use Rattle.single_path.specs.Serial.{CrashesLeave, PlainLogsMayBeOpened, members_left}
 use Rattle.single_path.specs.Steps.{stops_at_failure}
 use Rattle.clv_base.specs.Restarts.{run_after}
 use Rattle.run_promises.specs.Disks.{HoldsLog, flush_failed, DisksHold}
-use Rattle.run_promises.specs.Histories.{IsAfter, SessionsInOrder, IsSerial, MembersStay}
 use Rattle.single_run.specs.Plays.{PlayHolds, IsPlayed, PlaysKeep}
 use Rattle.single_run.proofs.Disks.{if_some, each_now, only_one, same_history, same_journal, failure_is_last, same_log, holds_too, Chosen, chosen}
-
--- ---- the order of members
-
-after_all : (n : ℕ) (m : Member) (ms : List Member) → (m.tx).serial ≡ n → InOrder n ms → AllByRecursion (IsAfter m) ms
-after_all n m [] e h = tt
-after_all n m (o ∷ ms) e h = ((λ same. subst (λ k. k < (o.tx).serial) (sym e) h.1), after_all n m ms e (below n (o.tx).serial ms h.1 h.2))
-  where
-    below : (a b : ℕ) (ms : List Member) → a < b → InOrder b ms → InOrder a ms
-    below a b [] lt h = tt
-    below a b (o ∷ ms) lt h = (h.0, omega (arith, lt, h.1), h.2)
-
-pub in_order : (n : ℕ) (ms : List Member) → InOrder n ms → SessionsInOrder ms
-in_order n [] h = tt
-in_order n (m ∷ ms) h = (after_all (m.tx).serial m ms refl h.2, in_order (m.tx).serial ms h.2)
 
 -- ---- the parts
 
@@ -98,33 +83,14 @@ module _
     members_are law =
         ap (λ logs. serial logs (entries_of kept.journals)) (logs_are law) ∙ ap (serial (log_left_by (choice 0) (play found plan stop) ∷ [])) (own_entries one)
 
-    pub is_serial : CrashesLeave → RunsReplay → MembersAreInOrder → RunsMayBeOpened → IsSerial [] kept left choice
-    is_serial crashes replays orders opens =
-        let ms : serial (logs_left [] kept.found (entries_of kept.journals) left choice) (entries_of kept.journals) ≡ members_left found plan stop (choice 0) = members_are crashes in
-        let logs : logs_left [] kept.found (entries_of kept.journals) left choice ≡ log_left_by (choice 0) (play found plan stop) ∷ [] = logs_are crashes in
-        let base : stands kept.found ≡ stands (found ∷ []) = ap stands played.found_is in
-        record {
-          answers =
-              ap (λ m. replay_answers m (serial_ops (serial (logs_left [] kept.found (entries_of kept.journals) left choice) (entries_of kept.journals)))) base
-              ∙ ap (λ xs. replay_answers (stands (found ∷ [])) (serial_ops xs)) ms ∙ (replays found plan stop (choice 0) played.may).0 ∙ ap serial_answers (sym ms);
-          map =
-              ap (λ m. replay_map m (serial_ops (serial (logs_left [] kept.found (entries_of kept.journals) left choice) (entries_of kept.journals)))) base
-              ∙ ap (λ xs. replay_map (stands (found ∷ [])) (serial_ops xs)) ms ∙ (replays found plan stop (choice 0) played.may).1 ∙ ap stands (sym logs);
-          order = subst SessionsInOrder (sym ms) (in_order 0 (members_left found plan stop (choice 0)) (orders found plan stop (choice 0) played.may));
-          opens = ap (may_open []) logs ∙ opens found plan stop (choice 0) played.may played.fits;
-        }
-
-  -- whatever goes on from its history
+  -- the log found may be opened, so the history keeps the promise
   module _ (one : OneShardsEntries) (left : List (List LogRecord)) (legal : Legal [] kept.found (entries_of kept.journals) left) where
-    found_opens : PlainLogsMayBeOpened → may_open [] kept.found ≡ true
-    found_opens law = ap (may_open []) played.found_is ∙ law found (played.may).plain (played.may).in_order played.fits
+    pub promised : PlainLogsMayBeOpened → Promise → (choice : ℕ → Bool) → Promised [] kept.found (entries_of kept.journals) left choice
+    promised plain law choice =
+        law [] kept.found (entries_of kept.journals) left choice (ap (may_open []) played.found_is ∙ plain found (played.may).plain (played.may).in_order played.fits) legal
 
-    pub members_stay : PlainLogsMayBeOpened → NeverTakenBack → MembersStay [] kept left
-    members_stay plain stay later after choice legal_later goes_on =
-        stay [] kept.found (entries_of kept.journals) left later after choice (found_opens plain) legal legal_later goes_on
-
-pub plays_keep : OneShardsEntries → RunsAreLegal → RunsHaveTheirLog → CrashesLeave → RunsReplay → MembersAreInOrder → RunsMayBeOpened → PlainLogsMayBeOpened → NeverTakenBack → PlaysKeep
-plays_keep one legal has crashes replays orders opens plain stay found plan stop before now kept played =
+pub plays_keep : OneShardsEntries → RunsAreLegal → RunsHaveTheirLog → PlainLogsMayBeOpened → Promise → PlaysKeep
+plays_keep one legal has plain law found plan stop before now kept played =
     let pick : Chosen (play found plan stop) (now 0) = chosen (stops_at_failure stop) (play found plan stop) (now 0) played.holds in
     let left : List (List LogRecord) = log_left_by pick.choice (play found plan stop) ∷ [] in
     record {
@@ -141,6 +107,5 @@ plays_keep one legal has crashes replays orders opens plain stay found plan stop
             legal = legal_run found plan stop before now kept played one pick.choice legal;
           };
       disks = disks_hold found plan stop before now kept played one left has;
-      serial = λ choice. is_serial found plan stop before now kept played one left choice crashes replays orders opens;
-      for_good = members_stay found plan stop before now kept played one left (legal_run found plan stop before now kept played one pick.choice legal) plain stay;
+      promised = promised found plan stop before now kept played one left (legal_run found plan stop before now kept played one pick.choice legal) plain law;
     }

@@ -6,7 +6,7 @@ use Rattle.clv_base.specs.declared.logs.LogRecord.{LogRecord}
 use Rattle.disk_model.specs.Story.{Story}
 use Rattle.log_gate.specs.View.{logs_told}
 use Rattle.history_replay.specs.Entries.{Kept}
-use Rattle.script_lang.specs.Laws.{session_size}
+use Rattle.single_script.specs.Laws.{session_size}
 use Rattle.single_path.specs.Plan.{Play, may_run, run_all}
 use Rattle.single_path.specs.Steps.{ClocksAreBounded}
 use Rattle.single_store.specs.declared.commits.CommitError.{CommitError}

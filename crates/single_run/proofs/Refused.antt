@@ -14,7 +14,7 @@ stays law (NotLog at) s t h = h
 stays law Worn s t h = h
 stays law Memory s t h = h
 stays law Failed s t (inl h) = unwritten h
-stays law Failed s t (inr h) = begun h.found (restart_of h.found) h.here (h.may).in_order refl (law h.found (restart_of h.found) refl) h.read h.moments
+stays law Failed s t (inr h) = begun h.found (restart_of h.found) h.here (h.may).in_order refl (λ front behind. law front behind h.found (restart_of h.found) refl) h.read h.moments
 
 pub stays_closed : UndoStands → (e : OpeningError) (o n : Option Story) → Tells o n (Leaves e) → Tells o n (Stays e)
 stays_closed law e None n h = h

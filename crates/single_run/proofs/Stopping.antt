@@ -14,7 +14,7 @@ use Rattle.log_gate.specs.Image.{HasLog}
 use Rattle.log_gate.specs.Gate.{EachNow}
 use Rattle.log_gate.specs.View.{Only, OnlyOrMore, logs_told}
 use Rattle.history_replay.specs.Entries.{Kept}
-use Rattle.script_lang.specs.Laws.{session_size}
+use Rattle.single_script.specs.Laws.{session_size}
 use Rattle.single_path.specs.Plan.{Play, is_plain, may_do, may_run, run_all, opening, Stop, After_all, In_operations, At_failure, may_stop, play, log_left_by}
 use Rattle.single_path.specs.Laws.{MayPlay}
 use Rattle.single_path.specs.Steps.{ClocksAreBounded, operations, stop_operations}

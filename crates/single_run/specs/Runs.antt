@@ -13,7 +13,7 @@ use Rattle.single_opening.specs.declared.error.OpeningError.{OpeningError}
 use Rattle.single_opening.specs.declared.error.OpeningError.TheVariants as opening
 use Rattle.run_promises.specs.Disks.{StaysClosed}
 use Rattle.run_promises.specs.Histories.{entries, Keeps}
-use Rattle.run_promises.specs.Scripts.{StopsIn, FollowsScript, HasNoStop, has_failure, HasAll}
+use Rattle.single_run.specs.Scripts.{StopsIn, FollowsScript, HasNoStop, has_failure, HasAll}
 use Rattle.single_run.specs.Plays.{IsPlayed}
 
 -- where a run stops: after all transactions, or at a flush that failed, or for want of memory before a request
@@ -56,4 +56,4 @@ abbrev pub Stays : OpeningError → Story → Story → Type 0
 Stays (opening.NotLog at) s t = IsUnchanged s t
 Stays opening.Worn s t = IsUnchanged s t
 Stays opening.Memory s t = IsUnchanged s t
-Stays opening.Failed s t = StaysClosed s t
+Stays opening.Failed s t = StaysClosed [] 0 s t

@@ -3,12 +3,11 @@
 ghost use Rattle.single_run.specs.Plays.{PlaysKeep};
 ghost use Rattle.single_run.specs.Runs.{RunsKeep};
 
-use history_laws::members::never_taken_back;
+use headline_laws::laws::promise;
 use history_replay::one_shard;
-use single_path::laws::{
-    births_are_of_transactions, crashes_leave, members_are_in_order, members_are_the_plan,
-    plain_logs_may_be_opened, runs_are_legal, runs_have_their_log, runs_may_be_opened, runs_replay,
-    steps_are_the_plan,
+use single_path::run_laws::{
+    births_are_of_transactions, crashes_leave, members_are_the_plan, plain_logs_may_be_opened,
+    runs_are_legal, runs_have_their_log, steps_are_the_plan,
 };
 use single_path::steps::runs_fail_where_they_stop;
 
@@ -19,12 +18,8 @@ pub fn plays_keep()
     one_shard();
     runs_are_legal();
     runs_have_their_log();
-    crashes_leave();
-    runs_replay();
-    members_are_in_order();
-    runs_may_be_opened();
     plain_logs_may_be_opened();
-    never_taken_back();
+    promise();
 }
 
 /// A run of a session's transactions, however it ended, keeps what the program promises, follows its script, and at its end has

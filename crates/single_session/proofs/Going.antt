@@ -8,7 +8,7 @@ use Rattle.clv_base.specs.declared.logs.LogRecord.{LogRecord}
 use Rattle.clv_base.specs.Restarts.{run_after}
 use Rattle.single_path.specs.Plan.{Play, begun, ops_done, op_done, requested, flushed, run_one, run_all, opening, After_all, writes}
 use Rattle.single_path.specs.Steps.{RunsGoOn, ClocksAreBounded, operations}
-use Rattle.script_lang.specs.Laws.{session_size}
+use Rattle.single_script.specs.Laws.{session_size}
 use Rattle.single_store.specs.Steady.{HasFailed, HasStopped}
 use Rattle.single_session.specs.Stops.{FailsIn, StopsIn}
 

@@ -5,14 +5,14 @@ ghost use Rattle.std.specs.List.{list_all};
 ghost use Rattle.clv_base.specs.declared.logs.LogRecord.{LogRecord};
 ghost use Rattle.clv_base.specs.Restarts.{run_after};
 ghost use Rattle.single_path.specs.Plan.{may_run, run_all, opening};
-ghost use Rattle.script_lang.specs.Laws.{session_size};
+ghost use Rattle.single_script.specs.Laws.{session_size};
 ghost use Rattle.single_store.specs.Steady.{IsKept, CountsCommit};
 ghost use Rattle.single_session.specs.Stops.{FailsIn, StopsIn};
 
 use io_edge::Pace;
 use log_gate::Gate;
-use script_lang::Transaction;
 use single_path::steps::{clocks_are_bounded, runs_go_on};
+use single_script::Transaction;
 use single_store::{CommitError, commit};
 use single_walk::Walk;
 use std::alloc::Global;

@@ -1,4 +1,4 @@
-use Rattle.single_path.proofs.Going.{openings_stand}
+use Rattle.single_path.proofs.Laws.{openings_stand}
 use Rattle.single_opening.proofs.Restarting.{map_stays}
 use Rattle.single_opening.proofs.laws.maps_stay.Goals as goal
 
