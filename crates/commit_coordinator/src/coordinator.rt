@@ -7,7 +7,7 @@ ghost use Rattle.std.specs.Ordering.{nat_cmp};
 ghost use Rattle.clv_base.specs.declared.state.RequestState.TheVariants.{Undecided};
 ghost use Rattle.clv_base.specs.Orders.{nat_in, tx_cmp, tx_get, tx_put};
 ghost use Rattle.clv_base.specs.Coordinator.{new_request, restored_request as request_restored, restored_requests, home_reminders, ask_answer, ruling_by, takes_vote, with_vote_of, takes_done, with_done_of};
-ghost use Rattle.commit_coordinator.specs.Coordinated.{IsFit, ruling_of, requests_by, counts_by, requests_with, done_by, requests_done, ruled, undecided, parts_of, told_by};
+ghost use Rattle.commit_coordinator.specs.Coordinated.{IsFit, ruling_of, requests_by, counts_by, requests_with, done_by, requests_done, ruled, undecided, parts_of, told_by, state_by};
 
 use crate::memory::Memory;
 use crate::reminding::{contains, remind_dones, remind_votes};
@@ -173,6 +173,16 @@ impl Coordinator {
         answer(self.requests.get(&tx), facts)
     }
 
+    /// How far the transaction's request is, where it has one here. Takes no memory.
+    pub fn state_of(&self, tx: TxId) -> Option<RequestState>
+        ensures { result ≡ state_by (tx_get tx self.now.requests) }
+    {
+        match self.requests.get(&tx) {
+            Some(request) => Some(copied(&request.state)),
+            None => None,
+        }
+    }
+
     /// The shards that are told of a commit of the transaction: none where it has no request here, and no shard where that isn't committed.
     pub fn told(&self, tx: TxId) -> Option<ShardList>
         ensures { result ≡ told_by (tx_get tx self.now.requests) }
@@ -279,6 +289,7 @@ impl Coordinator {
         requires own { nat_in self.old.shard (map (λ t. t.0) touched) ≡ true }
         ensures ok { OnOk result (self.new ≡ record self.old { requests = tx_put tx (new_request touched Undecided) self.old.requests }) }
         ensures err { OnErr result (self.new ≡ self.old) }
+        ensures keys { OnOk result (IsStrictlySortedBy tx_cmp (keys_of self.new.requests)) }
     {
         let request = Request {
             touched,
@@ -306,6 +317,20 @@ fn restored_request(alloc: Global, parts: &ShardList) -> Request
         },
         acknowledged_by: ShardList::new(),
         is_ended: false,
+    }
+}
+
+/// The same state. Takes no memory.
+fn copied(state: &RequestState) -> RequestState
+    ensures { result ≡ state.now }
+{
+    match state {
+        RequestState::Undecided => RequestState::Undecided,
+        RequestState::Committed { parts } => RequestState::Committed {
+            parts: parts.copied(),
+        },
+        RequestState::Finished => RequestState::Finished,
+        RequestState::Refused { cause } => RequestState::Refused { cause: *cause },
     }
 }
 

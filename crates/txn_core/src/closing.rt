@@ -1,6 +1,9 @@
 //! Closing a part.
 ghost use Rattle.std.specs.Prelude.{◌≡◌, ◌≤◌, ◌<◌, ◌+◌, ℕ, Some, IfOk, OnOk, OnErr};
+ghost use Rattle.std.specs.List.Sorted.{IsStrictlySortedBy};
+ghost use Rattle.std.specs.Map.{keys_of};
 ghost use Rattle.clv_base.specs.declared.state.Stage.TheVariants.{Active};
+ghost use Rattle.clv_base.specs.Orders.{tx_cmp};
 ghost use Rattle.clv_base.specs.Logs.{wrote_in};
 ghost use Rattle.clv_base.specs.Undo.{stage_of as stage_in};
 ghost use Rattle.clv_base.specs.Facts.{undecided_of};
@@ -69,14 +72,19 @@ impl<S: Store + Drop, L: Locks + Drop> ShardTx<S, L> {
     }
 
     /// The record that is to close the transaction's part.
-    fn plan_closing(&self, alloc: Global, tx: TxId, one_shard: bool) -> Result<ClosingPlan, Memory>
+    pub fn plan_closing(
+        &self,
+        alloc: Global,
+        tx: TxId,
+        one_shard: bool,
+    ) -> Result<ClosingPlan, Memory>
         ensures { IfOk result (λ plan. (home : ℕ) → planned tx home plan ≡ closing (wrote_in (self.now.local).log tx) one_shard tx home (undecided_of self.now.local tx)) }
     {
         closing_plan(alloc, &self.buffer, &self.deps, tx, one_shard)
     }
 
-    /// The transaction's part is closed by this record. Takes no memory.
-    fn close_as(&mut self, tx: TxId, home: u32, one_shard: bool, plan: ClosingPlan) -> Closing
+    /// The transaction's part, which is active, is closed by this record, for which there is room. Takes no memory.
+    pub fn close_as(&mut self, tx: TxId, home: u32, one_shard: bool, plan: ClosingPlan) -> Closing
         requires active { stage_in self.old.local tx ≡ Some Active }
         requires room { HasSpare 1 self.old × (0 < self.old.pairs_room) }
         requires plan { planned tx home plan ≡ closing (wrote_in (self.old.local).log tx) one_shard tx home (undecided_of self.old.local tx) }
@@ -84,7 +92,9 @@ impl<S: Store + Drop, L: Locks + Drop> ShardTx<S, L> {
         ensures written { IsClosing (self.old.local).log tx home (closing (wrote_in (self.old.local).log tx) one_shard tx home (undecided_of self.old.local tx)) result }
         ensures room { SpendsSpare 1 self.old self.new }
         ensures pairs_room { self.old.pairs_room ≤ self.new.pairs_room + 1 }
+        ensures rising { IsStrictlySortedBy tx_cmp (keys_of (self.old.local).parts) }
     {
+        let _known = self.parts.len();
         self.locks.close_part(tx);
         close_in(&mut self.parts, tx);
         write_closing(&mut self.buffer, &mut self.deps, tx, home, plan)

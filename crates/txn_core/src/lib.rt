@@ -31,5 +31,5 @@ mod tests;
 pub use lock_table::Memory;
 pub use op::Reply;
 pub use parting::TxParts;
-pub use plans::Closing;
+pub use plans::{Closing, ClosingPlan};
 pub use shard::ShardTx;

@@ -32,9 +32,12 @@ pub enum Closing {
 
 /// The record that is to close a part.
 #[derive(Drop, Debug)]
-pub(crate) enum ClosingPlan {
+pub enum ClosingPlan {
+    /// A COMMIT.
     Commit,
+    /// A PREPARE, with the predecessors without a COMMIT.
     Prepare { predecessors: TxList },
+    /// None, as the part only read.
     Silent,
 }
 
