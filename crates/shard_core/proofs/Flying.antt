@@ -31,6 +31,13 @@ upto_is d t n e = at (d == t) e
     at true e = absurd cc
     at false e = cc
 
+pub taken_is : (d t : ℕ) → unwrap_or (flight_by d t) d ≡ t
+taken_is d t = at (d == t) refl
+  where
+    at : (b : Bool) → (d == t) ≡ b → unwrap_or (cond b None (Some t)) d ≡ t
+    at true s = eqb-true d t s
+    at false s = refl
+
 -- the batch that is taken flies
 pub batch_flies : (d t : ℕ) (k : ℕ → ℕ) → flight_by d t ≡ None → 0 < k (unwrap_or (flight_by d t) d) → flight_by d (t + k t) ≡ Some (d + k (unwrap_or (flight_by d t) d))
 batch_flies d t k none some =

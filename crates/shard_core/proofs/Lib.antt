@@ -9,3 +9,10 @@ pub mod Flying
 pub mod Committing
 pub mod Replied
 pub mod Operated
+pub mod Putting
+pub mod Placing
+pub mod Grown
+pub mod Asking
+pub mod Looked
+pub mod Heard
+pub mod Made

@@ -1,5 +1,5 @@
 -- The parts of a shard's core, and what holds after a change of them at rest.
-use Rattle.std.proofs.Common.{ap, refl, ◌≡◌, sym, subst, ◌∙◌, ℕ, ◌≤◌, Bool, true, false, List, [], length, drop}
+use Rattle.std.proofs.Common.{ap, refl, ◌≡◌, sym, subst, ◌∙◌, ℕ, ◌≤◌, true, false, List, [], length, drop}
 use Rattle.std.proofs.lemmas.Bool.{both_ways}
 use Rattle.std.specs.List.Sorted.{IsStrictlySortedBy}
 use Rattle.std.specs.Map.{keys_of}
@@ -23,7 +23,6 @@ use Rattle.txn_core.specs.State.{TxState}
 use Rattle.txn_core.specs.Sound.{IsSound}
 use Rattle.vote_participant.specs.Voting.{Voting}
 use Rattle.commit_coordinator.specs.Coordinated.{Coordination}
-use Rattle.shard_journal.specs.Journaled.{Journaled}
 use Rattle.shard_core.specs.Core.{Core, seen_as}
 use Rattle.shard_core.specs.Whole.{HasRoom, AreKnown, IsWhole, IsAtRest}
 use Rattle.due_noting.specs.Noting.{known_keys}
@@ -34,9 +33,6 @@ use Rattle.shard_core.proofs.Changing.{covers, ready_after, finish_same}
 pub record Parts : Type 0 where
   pub shard : ℕ
   pub run : ℕ
-  pub is_up : Bool
-  pub last : ℕ
-  pub journal : Journaled
   pub transactions : TxState
   pub participant : Voting
   pub coordinator : Coordination
@@ -45,7 +41,7 @@ pub record Parts : Type 0 where
   pub candidates : Candidates
 
 abbrev pub seen : Parts → Shard
-seen a = seen_as a.run a.is_up a.last a.journal a.transactions a.participant a.coordinator a.outbox
+seen a = seen_as a.run a.transactions a.participant a.coordinator a.outbox
 
 abbrev pub viewed : Parts → Core
 viewed a = record { shard = seen a; candidates = a.candidates.txs; limit = a.candidates.limit }

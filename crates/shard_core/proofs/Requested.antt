@@ -55,7 +55,7 @@ room_known s tx d k own = (known_keys s, k.known, λ x e. ⊎_elim (λ h. subst 
 pub known_own : (s : Shard) (tx : TxId) (d f : Candidates) → AreKnown s d → tx_in tx (known_keys s) ≡ true → f ≡ record d { txs = tx_insert tx d.txs } → AreKnown s f
 known_own s tx d f k own same = subst (AreKnown s) (sym same) (record { known = λ x e. ⊎_elim (λ h. subst (λ z. tx_in z (known_keys s) ≡ true) (sym h) own) (λ h. k.known x h) (in_insert tx x d.txs e); places = k.places })
 
-own_within : (tx : TxId) (d f : Candidates) → f ≡ record d { txs = tx_insert tx d.txs } → (x : TxId) → tx_in x (tx ∷ []) ≡ true → tx_in x f.txs ≡ true
+pub own_within : (tx : TxId) (d f : Candidates) → f ≡ record d { txs = tx_insert tx d.txs } → (x : TxId) → tx_in x (tx ∷ []) ≡ true → tx_in x f.txs ≡ true
 own_within tx d f same x e = ⊎_elim (λ h. subst (λ z. tx_in z f.txs ≡ true) (tx_true tx x h) (ap (λ (c : Candidates). tx_in tx c.txs) same ∙ insert_has tx d.txs)) (λ h. absurd (both_ways false refl h)) (or_cases (tx_same tx x) false e)
 
 abbrev pub with_request : TxId → Request → Shard → Shard

@@ -1,5 +1,5 @@
 -- The shard by its parts, and what do_one tells of them.
-use Rattle.std.proofs.Common.{◌≡◌, refl, sym, ap, subst, ◌∙◌, ⊎_elim, ℕ, ◌+◌, Bool, true, false, ◌||◌, List, [], ◌∷◌, ◌++◌, length, Option, Some, None, append_assoc, arith}
+use Rattle.std.proofs.Common.{◌≡◌, refl, sym, ap, subst, ◌∙◌, ⊎_elim, ℕ, ◌+◌, true, false, ◌||◌, List, [], ◌∷◌, ◌++◌, length, Option, Some, None, append_assoc, arith}
 use Rattle.std.proofs.lemmas.Bool.{both_ways, or_cases, and_parts}
 use Rattle.std.specs.List.{AllByRecursion}
 use Rattle.std.specs.Map.{keys_of}
@@ -36,7 +36,6 @@ use Rattle.txn_core.specs.State.{TxState}
 use Rattle.txn_core.specs.Sound.{IsHeld, IsSound}
 use Rattle.vote_participant.specs.Voting.{Voting}
 use Rattle.commit_coordinator.specs.Coordinated.{Coordination}
-use Rattle.shard_journal.specs.Journaled.{Journaled}
 use Rattle.shard_core.specs.Core.{flight_by, seen_as}
 
 -- ---- seen
@@ -79,22 +78,22 @@ carried_rests s tx (DueRuling Acknowledge) = record { run = refl; is_up = refl; 
 carried_rests s tx (DueRuling (AbortVerdict cause to)) = record { run = refl; is_up = refl; flight = refl; last = refl; journal = refl; durable = refl }
 carried_rests s tx (DueRuling EndVerdict) = record { run = refl; is_up = refl; flight = refl; last = refl; journal = refl; durable = refl }
 
-module _ (run : ℕ) (is_up : Bool) (last : ℕ) (j : Journaled) where
-  pub seen_now : (t : TxState) (p : Voting) (c : Coordination) (o : Waiting) → c.shard ≡ t.shard → IsSeen (seen_as run is_up last j t p c o) t p c o
+module _ (run : ℕ) where
+  pub seen_now : (t : TxState) (p : Voting) (c : Coordination) (o : Waiting) → c.shard ≡ t.shard → IsSeen (seen_as run t p c o) t p c o
   seen_now t p c o home = record { shard = refl; home = sym home; local = refl; durable = refl; voters = refl; requests = refl; outbox = refl }
 
   -- after nothing was due
-  pub seen_same : (t u : TxState) (p q : Voting) (c d : Coordination) (o w : Waiting) → u.taken ≡ t.taken → IsSeen (seen_as run is_up last j t p c o) u q d w → seen_as run is_up last j u q d w ≡ seen_as run is_up last j t p c o
+  pub seen_same : (t u : TxState) (p q : Voting) (c d : Coordination) (o w : Waiting) → u.taken ≡ t.taken → IsSeen (seen_as run t p c o) u q d w → seen_as run u q d w ≡ seen_as run t p c o
   seen_same t u p q c d o w taken seen =
-      same_shard (seen_as run is_up last j u q d w) (seen_as run is_up last j t p c o) (sym seen.shard) refl refl (sym seen.local) (sym seen.voters) (sym seen.requests) (sym seen.durable)
+      same_shard (seen_as run u q d w) (seen_as run t p c o) (sym seen.shard) refl refl (sym seen.local) (sym seen.voters) (sym seen.requests) (sym seen.durable)
       (ap (flight_by u.durable) taken ∙ ap (λ n. flight_by n t.taken) (sym seen.durable)) (sym seen.outbox) refl refl
 
   -- after what was due was done
-  pub seen_done : (t u : TxState) (p q : Voting) (c d : Coordination) (o w : Waiting) (tx : TxId) (due : Due) → u.taken ≡ t.taken → IsSeen (with_local purge (carried (seen_as run is_up last j t p c o) tx due)) u q d w
-      → seen_as run is_up last j u q d w ≡ with_local purge (carried (seen_as run is_up last j t p c o) tx due)
+  pub seen_done : (t u : TxState) (p q : Voting) (c d : Coordination) (o w : Waiting) (tx : TxId) (due : Due) → u.taken ≡ t.taken → IsSeen (with_local purge (carried (seen_as run t p c o) tx due)) u q d w
+      → seen_as run u q d w ≡ with_local purge (carried (seen_as run t p c o) tx due)
   seen_done t u p q c d o w tx due taken seen =
-      let s : Shard = seen_as run is_up last j t p c o in let r = carried_rests s tx due in
-      same_shard (seen_as run is_up last j u q d w) (with_local purge (carried s tx due)) (sym seen.shard) (sym r.run) (sym r.is_up) (sym seen.local) (sym seen.voters) (sym seen.requests) (sym seen.durable)
+      let s : Shard = seen_as run t p c o in let r = carried_rests s tx due in
+      same_shard (seen_as run u q d w) (with_local purge (carried s tx due)) (sym seen.shard) (sym r.run) (sym r.is_up) (sym seen.local) (sym seen.voters) (sym seen.requests) (sym seen.durable)
       (ap (flight_by u.durable) taken ∙ ap (λ n. flight_by n t.taken) (sym seen.durable ∙ r.durable) ∙ sym r.flight) (sym seen.outbox) (sym r.last) (sym r.journal)
 
 -- ---- who is known

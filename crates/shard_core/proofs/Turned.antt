@@ -1,5 +1,5 @@
 -- One turn over the parts: what is due for the least candidate is done, and all holds again.
-use Rattle.std.proofs.Common.{◌≡◌, refl, sym, ap, subst, ◌∙◌, ℕ, ◌+◌, ◌*◌, ◌<◌, ◌≤◌, Bool, true, false, List, [], ◌∷◌, length, Option, Some, None, is_some, drop, arith}
+use Rattle.std.proofs.Common.{◌≡◌, refl, sym, ap, subst, ◌∙◌, ℕ, ◌+◌, ◌*◌, ◌<◌, ◌≤◌, true, false, List, [], ◌∷◌, length, Option, Some, None, is_some, drop, arith}
 use Rattle.std.proofs.lemmas.Bool.{both_ways}
 use Rattle.std.specs.List.{AllByRecursion}
 use Rattle.std.specs.List.Sorted.{IsStrictlySortedBy}
@@ -27,7 +27,6 @@ use Rattle.txn_core.specs.State.{TxState}
 use Rattle.txn_core.specs.Sound.{is_here, updates_by, IsSound, SpendsSpare}
 use Rattle.vote_participant.specs.Voting.{Voting}
 use Rattle.commit_coordinator.specs.Coordinated.{Coordination}
-use Rattle.shard_journal.specs.Journaled.{Journaled}
 use Rattle.shard_core.specs.Core.{seen_as}
 use Rattle.shard_core.specs.Whole.{HasRoom, AreKnown, IsOfKnown, IsWhole}
 use Rattle.shard_core.proofs.Logged.{logged_carried}
@@ -58,12 +57,12 @@ room_after s v t u o w less spends pairs messages r =
     mail : (n m x y : ℕ) → m < n → 15 * (n + 1) ≤ x → x ≤ y + 15 → 15 * (m + 1) ≤ y
     mail n m x y h k l = omega arith
 
-module _ (run : ℕ) (is_up : Bool) (last : ℕ) (j : Journaled) (shard : ℕ) (places : Table ℕ) (t u : TxState) (p q : Voting) (c d : Coordination) (o w : Waiting) (e f : Candidates) (tx : TxId) where
+module _ (run : ℕ) (shard : ℕ) (places : Table ℕ) (t u : TxState) (p q : Voting) (c d : Coordination) (o w : Waiting) (e f : Candidates) (tx : TxId) where
   abbrev S : Shard
-  S = seen_as run is_up last j t p c o
+  S = seen_as run t p c o
 
   abbrev U : Shard
-  U = seen_as run is_up last j u q d w
+  U = seen_as run u q d w
 
   pub record Turned (due : Option Due) : Type 0 where
     pub whole : IsWhole shard places u q d w f U
@@ -75,7 +74,7 @@ module _ (run : ℕ) (is_up : Bool) (last : ℕ) (j : Journaled) (shard : ℕ) (
   pub turned : (due : Option Due) → IsWhole shard places t p c o e S → IsReady S e.txs e.limit → least e.txs ≡ Some tx → Steps S tx due u q d w → (due ≡ None → (u ≡ t) × (w ≡ o)) → u.taken ≡ t.taken → q.shard ≡ p.shard
       → Notes t.local tx due e f → SpendsSpare 1 t u → t.pairs_room ≤ u.pairs_room + 1 → o.room ≤ w.room + 15 → IsSound u.local u.room → purge u.local ≡ u.local → IsStrictlySortedBy tx_cmp f.txs → length f.txs ≤ f.limit → Turned due
   turned None whole ready first steps idle taken voters noted spends pairs messages sound purged rise few =
-      let seen = steps.1 in let same = seen_same run is_up last j t u p q c d o w taken seen in let i = idle refl in
+      let seen = steps.1 in let same = seen_same run t u p q c d o w taken seen in let i = idle refl in
       let txs : f.txs ≡ e.txs = ap (λ (x : Candidates). x.txs) noted in let limit : f.limit ≡ e.limit = ap (λ (x : Candidates). x.limit) noted in
       record {
         whole = record {
@@ -95,7 +94,7 @@ module _ (run : ℕ) (is_up : Bool) (last : ℕ) (j : Journaled) (shard : ℕ) (
       }
   turned (Some due) whole ready first steps idle taken voters noted spends pairs messages sound purged rise few =
       let X : Shard = carried S tx due in let is = steps.0 in let seen = steps.1 in
-      let same = seen_done run is_up last j t u p q c d o w tx due taken seen in
+      let same = seen_done run t u p q c d o w tx due taken seen in
       let less = left_falls S X (next_is S X e.txs e.limit tx ready first is) in
       let known = whole.candidates.known in let own = known tx (least_in e.txs tx first) in
       let sized = places_same S X tx is in let places_were = whole.candidates.places in let limit = noted.1 in

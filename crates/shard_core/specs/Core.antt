@@ -1,12 +1,11 @@
 -- What the core of a shard is seen as: the shard of the definitions, with the transactions for which something may be due.
-use Rattle.std.specs.Prelude.{ℕ, Bool, cond, ◌==◌, List, Option, Some, None}
+use Rattle.std.specs.Prelude.{ℕ, cond, true, ◌==◌, List, [], Option, Some, None}
 use Rattle.clv_base.specs.declared.names.TxId.{TxId}
 use Rattle.clv_base.specs.State.{Shard}
 use Rattle.txn_core.specs.State.{TxState}
 use Rattle.vote_participant.specs.Voting.{Voting}
 use Rattle.commit_coordinator.specs.Coordinated.{Coordination}
 use Rattle.due_messages.specs.Sent.{Waiting}
-use Rattle.shard_journal.specs.Journaled.{Journaled}
 
 pub record Core : Type 0 where
   pub shard : Shard
@@ -18,19 +17,19 @@ pub record Core : Type 0 where
 abbrev pub flight_by : ℕ → ℕ → Option ℕ
 flight_by durable taken = cond (durable == taken) None (Some taken)
 
--- the shard by its parts
-abbrev pub seen_as : ℕ → Bool → ℕ → Journaled → TxState → Voting → Coordination → Waiting → Shard
-seen_as run is_up last journal t p c o =
+-- the shard by its parts, seen as one that is up and has no entry yet
+abbrev pub seen_as : ℕ → TxState → Voting → Coordination → Waiting → Shard
+seen_as run t p c o =
     record {
       shard = t.shard;
       run = run;
-      is_up = is_up;
+      is_up = true;
       local = t.local;
       voters = p.voters;
       requests = c.requests;
       durable = t.durable;
       flight = flight_by t.durable t.taken;
       outbox = o.messages;
-      last = last;
-      journal = journal.entries;
+      last = 0;
+      journal = [];
     }

@@ -2,3 +2,5 @@ pub mod Core
 pub mod Whole
 pub mod Replying
 pub mod Operating
+pub mod Requesting
+pub mod Hearing

@@ -20,7 +20,7 @@ use ordered_store::Store;
 use txn_core::ShardTx;
 
 /// The greatest batch, in bytes.
-const BATCH_BYTES: usize = 1_048_576;
+pub(crate) const BATCH_BYTES: usize = 1_048_576;
 
 /// The records that were taken are durable, and those whom they concern are candidates besides.
 fn land_noted<S: Store + Drop, L: Locks + Drop>(

@@ -5,7 +5,6 @@ use due_candidates::Candidates;
 use due_messages::Outbox;
 use lock_table::Locks;
 use ordered_store::Store;
-use shard_journal::Journal;
 use std::marker::Model;
 use tx_table::TxTable;
 use txn_core::ShardTx;
@@ -16,9 +15,6 @@ use vote_participant::Participant;
 pub struct ShardCore<S: Store + Drop, L: Locks + Drop> {
     pub(crate) shard: u32,
     pub(crate) run: u32,
-    pub(crate) is_up: bool,
-    pub(crate) last: u64,
-    pub(crate) journal: Journal,
     pub(crate) transactions: ShardTx<S, L>,
     pub(crate) participant: Participant,
     pub(crate) coordinator: Coordinator,
@@ -34,7 +30,7 @@ impl<S: Store + Drop, L: Locks + Drop> Model for ShardCore<S, L> {
 
     ghost Value = { Core };
 
-    ghost view = { λ s. record { shard = seen_as s.run s.is_up s.last s.journal s.transactions s.participant s.coordinator s.outbox; candidates = s.candidates.txs; limit = s.candidates.limit } };
+    ghost view = { λ s. record { shard = seen_as s.run s.transactions s.participant s.coordinator s.outbox; candidates = s.candidates.txs; limit = s.candidates.limit } };
 
-    ghost invariant = { λ s. IsWhole s.shard s.prepares.rows s.transactions s.participant s.coordinator s.outbox s.candidates (seen_as s.run s.is_up s.last s.journal s.transactions s.participant s.coordinator s.outbox) };
+    ghost invariant = { λ s. IsWhole s.shard s.prepares.rows s.transactions s.participant s.coordinator s.outbox s.candidates (seen_as s.run s.transactions s.participant s.coordinator s.outbox) };
 }

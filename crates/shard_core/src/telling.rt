@@ -14,20 +14,6 @@ use lock_table::Locks;
 use ordered_store::Store;
 
 impl<S: Store + Drop, L: Locks + Drop> ShardCore<S, L> {
-    /// Whether the shard is up.
-    pub fn is_up(&self) -> bool
-        ensures { result ≡ (self.now.shard).is_up }
-    {
-        self.is_up
-    }
-
-    /// The stamp of the last entry.
-    pub fn last(&self) -> u64
-        ensures { result ≡ (self.now.shard).last }
-    {
-        self.last
-    }
-
     /// The shard's epoch.
     pub fn epoch(&self) -> u64
         ensures { result ≡ ((self.now.shard).local).epoch }

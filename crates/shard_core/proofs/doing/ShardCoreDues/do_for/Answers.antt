@@ -11,17 +11,17 @@ use Rattle.shard_core.proofs.doing.ShardCoreDues.do_for.Goals as goal
 pub do_one-due-requires-clause-candidates : goal.do_one-due-requires-clause-candidates
 do_one-due-requires-clause-candidates g c =
     let i = c.self.inside in
-    doomed_room (seen_as i.run i.is_up i.last i.journal i.transactions i.participant i.coordinator i.outbox) c.args.tx i.candidates c.self.invariant.candidates c.self.invariant.dependents
+    doomed_room (seen_as i.run i.transactions i.participant i.coordinator i.outbox) c.args.tx i.candidates c.self.invariant.candidates c.self.invariant.dependents
     (subst (λ (v : Core). least v.candidates ≡ Some c.args.tx) (sym c.self.view_is) c.requires.first)
 
 the_turn : (g : given.Over) (c : goal.After-is_some g)
-    → Turned c.self.inside.run c.self.inside.is_up c.self.inside.last c.self.inside.journal c.self.inside.shard c.self.inside.prepares.rows c.self.inside.transactions c.do_one-due.new.transactions c.self.inside.participant c.do_one-due.new.participant
+    → Turned c.self.inside.run c.self.inside.shard c.self.inside.prepares.rows c.self.inside.transactions c.do_one-due.new.transactions c.self.inside.participant c.do_one-due.new.participant
     c.self.inside.coordinator c.do_one-due.new.coordinator c.self.inside.outbox c.do_one-due.new.outbox c.self.inside.candidates c.do_one-due.new.candidates c.args.tx c.do_one-due.result
 the_turn g c =
     let i = c.self.inside in let n = c.do_one-due.new in let e = c.do_one-due.ensures in
-    turned i.run i.is_up i.last i.journal i.shard i.prepares.rows i.transactions n.transactions i.participant n.participant i.coordinator n.coordinator i.outbox n.outbox i.candidates n.candidates c.args.tx c.do_one-due.result
+    turned i.run i.shard i.prepares.rows i.transactions n.transactions i.participant n.participant i.coordinator n.coordinator i.outbox n.outbox i.candidates n.candidates c.args.tx c.do_one-due.result
     c.self.invariant (subst (λ (v : Core). IsReady v.shard v.candidates v.limit) (sym c.self.view_is) c.requires.ready) (subst (λ (v : Core). least v.candidates ≡ Some c.args.tx) (sym c.self.view_is) c.requires.first)
-    (e.steps (seen_as i.run i.is_up i.last i.journal i.transactions i.participant i.coordinator i.outbox) (seen_now i.run i.is_up i.last i.journal i.transactions i.participant i.coordinator i.outbox (c.self.invariant.home)))
+    (e.steps (seen_as i.run i.transactions i.participant i.coordinator i.outbox) (seen_now i.run i.transactions i.participant i.coordinator i.outbox (c.self.invariant.home)))
     e.idle e.taken e.shard e.noted e.room e.pairs_room e.messages_room c.kept.ensures.sound c.kept.ensures.purged c.first-least.ensures.rise c.first-least.ensures.few
 
 pub invariant_of-self : goal.invariant_of-self
@@ -29,7 +29,7 @@ invariant_of-self g c = (the_turn g c).whole
 
 pub returns-clause-done : goal.returns-clause-done
 returns-clause-done g c = λ b. let n = c.do_one-due.new in let i = c.self.inside in
-    subst (λ (v : Core). IsDone (due_of v.shard c.args.tx) (seen_as i.run i.is_up i.last i.journal n.transactions n.participant n.coordinator n.outbox)) c.self.view_is ((the_turn g c).done (sym c.is_some.ensures ∙ b))
+    subst (λ (v : Core). IsDone (due_of v.shard c.args.tx) (seen_as i.run n.transactions n.participant n.coordinator n.outbox)) c.self.view_is ((the_turn g c).done (sym c.is_some.ensures ∙ b))
 
 pub returns-clause-nothing : goal.returns-clause-nothing
 returns-clause-nothing g c = λ b. let n = (the_turn g c).nothing (sym c.is_some.ensures ∙ b) in

@@ -23,9 +23,6 @@ unfoldable before : (g : given.Over) (c : goal.After-abort_noted g) → Parts
 before g c = let i = c.self.inside in record {
   shard = i.shard;
   run = i.run;
-  is_up = i.is_up;
-  last = i.last;
-  journal = i.journal;
   transactions = i.transactions;
   participant = i.participant;
   coordinator = i.coordinator;
@@ -36,7 +33,7 @@ before g c = let i = c.self.inside in record {
 
 pub abort_noted-requires : goal.abort_noted-requires
 abort_noted-requires g c =
-    let i = c.self.inside in let s : Shard = seen_as i.run i.is_up i.last i.journal i.transactions i.participant i.coordinator i.outbox in
+    let i = c.self.inside in let s : Shard = seen_as i.run i.transactions i.participant i.coordinator i.outbox in
     known_have_room s c.args.tx i.candidates c.self.invariant.dependents c.self.invariant.candidates.known (subst (λ (v : Core). tx_in c.args.tx (known_keys v.shard) ≡ true) (sym c.self.view_is) c.requires.known) c.self.invariant.candidates.places
 
 the_change : (g : given.Over) (c : goal.After-abort_noted g) → Changed (record (before g c) { transactions = c.abort_noted.new.transactions; candidates = c.abort_noted.new.candidates }) (decided (seen (before g c)) c.args.tx false)

@@ -13,7 +13,7 @@ use Rattle.shard_core.proofs.shard.ShardCore.done_here.Goals as goal
 pub note-requires : goal.note-requires
 note-requires g c =
     let i = c.self.inside in
-    let a : Parts = record { shard = i.shard; run = i.run; is_up = i.is_up; last = i.last; journal = i.journal; transactions = i.transactions; participant = i.participant; coordinator = i.coordinator; prepares = i.prepares; outbox = i.outbox; candidates = i.candidates } in
+    let a : Parts = record { shard = i.shard; run = i.run; transactions = i.transactions; participant = i.participant; coordinator = i.coordinator; prepares = i.prepares; outbox = i.outbox; candidates = i.candidates } in
     let counts = subst (λ (v : Core). done_by c.args.from (tx_get c.args.tx v.shard.requests) ≡ true) (sym c.self.view_is) c.requires.counts in
     let q = there c.args.tx i.coordinator.requests (done_by c.args.from) refl counts in
     room_known (seen a) c.args.tx i.candidates c.self.invariant.candidates (request_known (seen a) c.args.tx q.0 q.1)
@@ -22,9 +22,6 @@ unfoldable before : (g : given.Over) (c : goal.After-note g) → Parts
 before g c = let i = c.self.inside in record {
   shard = i.shard;
   run = i.run;
-  is_up = i.is_up;
-  last = i.last;
-  journal = i.journal;
   transactions = i.transactions;
   participant = i.participant;
   coordinator = i.coordinator;

@@ -24,9 +24,6 @@ unfoldable before : (g : given.Over) (c : goal.After-drop_noted g) → Parts
 before g c = let i = c.self.inside in record {
   shard = i.shard;
   run = i.run;
-  is_up = i.is_up;
-  last = i.last;
-  journal = i.journal;
   transactions = i.transactions;
   participant = i.participant;
   coordinator = i.coordinator;
@@ -37,7 +34,7 @@ before g c = let i = c.self.inside in record {
 
 pub drop_noted-requires-clause-room : goal.drop_noted-requires-clause-room
 drop_noted-requires-clause-room g c =
-    let i = c.self.inside in let s : Shard = seen_as i.run i.is_up i.last i.journal i.transactions i.participant i.coordinator i.outbox in
+    let i = c.self.inside in let s : Shard = seen_as i.run i.transactions i.participant i.coordinator i.outbox in
     known_have_room s c.args.tx i.candidates c.self.invariant.dependents c.self.invariant.candidates.known (stage_known s c.args.tx (subst (λ (v : Core). is_some (stage_of v.shard.local c.args.tx) ≡ true) (sym c.self.view_is) c.requires.known)) c.self.invariant.candidates.places
 
 the_change : (g : given.Over) (c : goal.After-drop_noted g) → Changed (record (before g c) { transactions = c.drop_noted.new.transactions; candidates = c.drop_noted.new.candidates }) (with_local (drop_part c.args.tx) (seen (before g c)))

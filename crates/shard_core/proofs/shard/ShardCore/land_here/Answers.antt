@@ -19,16 +19,13 @@ use Rattle.shard_core.proofs.shard.ShardCore.land_here.Goals as goal
 
 pub land_noted-requires : goal.land_noted-requires
 land_noted-requires g c = let i = c.self.inside in
-    let a : Parts = record { shard = i.shard; run = i.run; is_up = i.is_up; last = i.last; journal = i.journal; transactions = i.transactions; participant = i.participant; coordinator = i.coordinator; prepares = i.prepares; outbox = i.outbox; candidates = i.candidates } in
+    let a : Parts = record { shard = i.shard; run = i.run; transactions = i.transactions; participant = i.participant; coordinator = i.coordinator; prepares = i.prepares; outbox = i.outbox; candidates = i.candidates } in
     room_landed (seen a) i.transactions.durable i.transactions.taken i.candidates c.self.invariant.candidates c.self.invariant.dependents c.self.invariant.logged
 
 unfoldable before : (g : given.Over) (c : goal.After-land_noted g) → Parts
 before g c = let i = c.self.inside in record {
   shard = i.shard;
   run = i.run;
-  is_up = i.is_up;
-  last = i.last;
-  journal = i.journal;
   transactions = i.transactions;
   participant = i.participant;
   coordinator = i.coordinator;

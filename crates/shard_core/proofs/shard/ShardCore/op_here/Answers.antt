@@ -12,17 +12,17 @@ use Rattle.shard_core.proofs.shard.ShardCore.op_here.Goals as goal
 
 pub op_noted-requires-clause-room : goal.op_noted-requires-clause-room
 op_noted-requires-clause-room g c = λ here.
-    let i = c.self.inside in let a : Parts = record { shard = i.shard; run = i.run; is_up = i.is_up; last = i.last; journal = i.journal; transactions = i.transactions; participant = i.participant; coordinator = i.coordinator; prepares = i.prepares; outbox = i.outbox; candidates = i.candidates } in
+    let i = c.self.inside in let a : Parts = record { shard = i.shard; run = i.run; transactions = i.transactions; participant = i.participant; coordinator = i.coordinator; prepares = i.prepares; outbox = i.outbox; candidates = i.candidates } in
     known_have_room (seen a) c.args.tx i.candidates c.self.invariant.dependents c.self.invariant.candidates.known (stage_known (seen a) c.args.tx here) c.self.invariant.candidates.places
 
 pub invariant_of-self : goal.invariant_of-self
 invariant_of-self g c =
-    let i = c.self.inside in let a : Parts = record { shard = i.shard; run = i.run; is_up = i.is_up; last = i.last; journal = i.journal; transactions = i.transactions; participant = i.participant; coordinator = i.coordinator; prepares = i.prepares; outbox = i.outbox; candidates = i.candidates } in
+    let i = c.self.inside in let a : Parts = record { shard = i.shard; run = i.run; transactions = i.transactions; participant = i.participant; coordinator = i.coordinator; prepares = i.prepares; outbox = i.outbox; candidates = i.candidates } in
     let e = c.in-Err.ensures in idle_holds a c.op_noted.new.transactions c.op_noted.new.candidates c.self.invariant e.err e.clear e.places e.room e.pairs_room
 
 pub invariant_of-self-2 : goal.invariant_of-self-2
 invariant_of-self-2 g c =
-    let i = c.self.inside in let a : Parts = record { shard = i.shard; run = i.run; is_up = i.is_up; last = i.last; journal = i.journal; transactions = i.transactions; participant = i.participant; coordinator = i.coordinator; prepares = i.prepares; outbox = i.outbox; candidates = i.candidates } in
+    let i = c.self.inside in let a : Parts = record { shard = i.shard; run = i.run; transactions = i.transactions; participant = i.participant; coordinator = i.coordinator; prepares = i.prepares; outbox = i.outbox; candidates = i.candidates } in
     let e = c.in-Ok.ensures in
     let o = operated a c.args.tx c.args.birth c.args.seen c.args.op c.op_noted.new.transactions c.op_noted.new.candidates (rest_of a c.args.self.now c.self.view_is c.requires) c.self.invariant e.limit e.places e.room e.pairs_room
     (record { sound = e.sound; purged = e.purged; rise = e.rise; few = e.few }) c.in-Ok.reply e.ok e.stay in
@@ -30,7 +30,7 @@ invariant_of-self-2 g c =
 
 pub returns-clause-ready : goal.returns-clause-ready
 returns-clause-ready g c =
-    let i = c.self.inside in let a : Parts = record { shard = i.shard; run = i.run; is_up = i.is_up; last = i.last; journal = i.journal; transactions = i.transactions; participant = i.participant; coordinator = i.coordinator; prepares = i.prepares; outbox = i.outbox; candidates = i.candidates } in
+    let i = c.self.inside in let a : Parts = record { shard = i.shard; run = i.run; transactions = i.transactions; participant = i.participant; coordinator = i.coordinator; prepares = i.prepares; outbox = i.outbox; candidates = i.candidates } in
     let e = c.in-Ok.ensures in
     let o = operated a c.args.tx c.args.birth c.args.seen c.args.op c.op_noted.new.transactions c.op_noted.new.candidates (rest_of a c.args.self.now c.self.view_is c.requires) c.self.invariant e.limit e.places e.room e.pairs_room
     (record { sound = e.sound; purged = e.purged; rise = e.rise; few = e.few }) c.in-Ok.reply e.ok e.stay in
@@ -38,7 +38,7 @@ returns-clause-ready g c =
 
 pub returns-clause-ok : goal.returns-clause-ok
 returns-clause-ok g c =
-    let i = c.self.inside in let a : Parts = record { shard = i.shard; run = i.run; is_up = i.is_up; last = i.last; journal = i.journal; transactions = i.transactions; participant = i.participant; coordinator = i.coordinator; prepares = i.prepares; outbox = i.outbox; candidates = i.candidates } in
+    let i = c.self.inside in let a : Parts = record { shard = i.shard; run = i.run; transactions = i.transactions; participant = i.participant; coordinator = i.coordinator; prepares = i.prepares; outbox = i.outbox; candidates = i.candidates } in
     let e = c.in-Ok.ensures in
     let o = operated a c.args.tx c.args.birth c.args.seen c.args.op c.op_noted.new.transactions c.op_noted.new.candidates (rest_of a c.args.self.now c.self.view_is c.requires) c.self.invariant e.limit e.places e.room e.pairs_room
     (record { sound = e.sound; purged = e.purged; rise = e.rise; few = e.few }) c.in-Ok.reply e.ok e.stay in

@@ -18,9 +18,6 @@ unfoldable before : (g : given.Over) (c : goal.After-kept g) → Parts
 before g c = let i = c.self.inside in record {
   shard = i.shard;
   run = i.run;
-  is_up = i.is_up;
-  last = i.last;
-  journal = i.journal;
   transactions = i.transactions;
   participant = i.participant;
   coordinator = i.coordinator;

@@ -8,7 +8,7 @@ use Rattle.shard_core.proofs.shard.ShardCore.tell_here.Goals as goal
 
 pub returns-clause-ready : goal.returns-clause-ready
 returns-clause-ready g c =
-    let i = c.self.inside in let a : Parts = record { shard = i.shard; run = i.run; is_up = i.is_up; last = i.last; journal = i.journal; transactions = i.transactions; participant = i.participant; coordinator = i.coordinator; prepares = i.prepares; outbox = i.outbox; candidates = i.candidates } in
+    let i = c.self.inside in let a : Parts = record { shard = i.shard; run = i.run; transactions = i.transactions; participant = i.participant; coordinator = i.coordinator; prepares = i.prepares; outbox = i.outbox; candidates = i.candidates } in
     let s : Shard = seen a in let r = c.self.invariant.room in let mail = r.messages in let more = c.tell_one.ensures.room in let b : Parts = record a { outbox = c.tell_one.new.outbox } in
     let rest = rest_of a c.args.self.now c.self.view_is c.requires in
     (same_left a b (send (c.args.message ∷ []) s) rest c.self.invariant (ap (λ ms. record s { outbox = ms }) c.in-Ok.ensures.ok) (nobody_is_touched.0 s (c.args.message ∷ []))

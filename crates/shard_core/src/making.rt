@@ -1,0 +1,147 @@
+//! The core of a shard after a restart.
+ghost use Rattle.std.specs.Prelude.{◌≡◌, ◌≤◌, ◌+◌, ◌*◌, [], IfOk, IfSome};
+ghost use Rattle.std.specs.List.Sorted.{IsStrictlySortedBy};
+ghost use Rattle.std.specs.Map.{keys_of};
+ghost use Rattle.clv_base.specs.Orders.{tx_cmp};
+ghost use Rattle.clv_base.specs.Coordinator.{restored_requests};
+ghost use Rattle.clv_base.specs.Participant.{restored_voters};
+ghost use Rattle.clv_base.specs.Restarts.{state_after};
+ghost use Rattle.machine_calls.specs.Restored.{IsRestored};
+ghost use Rattle.shard_core.specs.Whole.{IsAtRest};
+
+use crate::shard::ShardCore;
+use clv_base::names::TxId;
+use clv_base::parts::ShardList;
+use commit_coordinator::Coordinator;
+use commit_coordinator::laws::unended_rise;
+use due_candidates::Candidates;
+use due_laws::depending::restarts_have_parts;
+use due_messages::Outbox;
+use gate_recovery::Recovered;
+use lock_table::Locks;
+use ordered_store::Store;
+use protocol_laws::events::restarts_end_at_rest;
+use shard_making::prepares_of;
+use shard_restoring::restored;
+use std::alloc::Global;
+use txn_core::Memory;
+use vote_participant::Participant;
+use vote_participant::doubts::doubtful_rise;
+
+/// How much may be left to do where so many are in doubt and so many commits without an END, and one thing more.
+fn room_for(in_doubt: usize, unended: usize) -> Option<usize>
+    ensures { IfSome result (λ count. count ≡ in_doubt + unended + 1) }
+{
+    match in_doubt.checked_add(unended) {
+        Some(count) => count.checked_add(1),
+        None => None,
+    }
+}
+
+/// A home with the commits that have no END.
+fn home_of(alloc: Global, shard: u32, unended: &[(TxId, ShardList)]) -> Result<Coordinator, Memory>
+    requires { IsStrictlySortedBy tx_cmp (keys_of unended.now) }
+    ensures shard { IfOk result (λ c. c.shard ≡ shard) }
+    ensures requests { IfOk result (λ c. c.requests ≡ restored_requests unended.now) }
+{
+    let mut coordinator = Coordinator::new(alloc, shard);
+    match coordinator.restored(alloc, unended) {
+        Ok(()) => Ok(coordinator),
+        Err(_) => Err(Memory),
+    }
+}
+
+/// No message, and room for 15 for each of so many things that may be done.
+fn outbox_for(alloc: Global, count: usize) -> Result<Outbox, Memory>
+    ensures messages { IfOk result (λ o. o.messages ≡ []) }
+    ensures room { IfOk result (λ o. 15 * count ≤ o.room) }
+{
+    let Some(messages) = count.checked_mul(15) else {
+        return Err(Memory);
+    };
+    let mut outbox = Outbox::new(alloc);
+    match outbox.reserve(messages) {
+        Ok(()) => Ok(outbox),
+        Err(_) => Err(Memory),
+    }
+}
+
+/// No candidate, and room for twice so many.
+fn candidates_for(alloc: Global, count: usize) -> Result<Candidates, Memory>
+    ensures none { IfOk result (λ c. c.txs ≡ []) }
+    ensures places { IfOk result (λ c. 2 * count ≤ c.limit) }
+{
+    let Some(places) = count.checked_mul(2) else {
+        return Err(Memory);
+    };
+    let mut candidates = Candidates::new(alloc);
+    match candidates.reserve(places) {
+        Ok(()) => Ok(candidates),
+        Err(_) => Err(Memory),
+    }
+}
+
+impl<S: Store + Drop, L: Locks + Drop> ShardCore<S, L> {
+    /// The core of a shard that was restarted, from what recovery found: exactly the protocol's state after the restart, with nothing due. Where
+    /// there is no memory nothing is made.
+    pub fn restored(
+        alloc: Global,
+        store: S,
+        recovered: Recovered,
+        shard: u32,
+        run: u32,
+        epoch: u64,
+    ) -> Result<Self, Memory>
+        requires { IsRestored shard run epoch (S.records store) recovered }
+        ensures shard { IfOk result (λ c. c.shard ≡ state_after shard run epoch recovered.buffer.records 0 []) }
+        ensures rest { IfOk result (λ c. IsAtRest c) }
+    {
+        doubtful_rise();
+        unended_rise();
+        restarts_have_parts();
+        restarts_end_at_rest();
+        let Some(count) = room_for(recovered.in_doubt.len(), recovered.unended.len()) else {
+            return Err(Memory);
+        };
+        let Ok(prepares) = prepares_of(alloc, recovered.buffer.records(0, recovered.buffer.end()))
+        else {
+            return Err(Memory);
+        };
+        let Ok(participant) = Participant::new(alloc, shard, &recovered.in_doubt) else {
+            return Err(Memory);
+        };
+        let Ok(coordinator) = home_of(alloc, shard, &recovered.unended) else {
+            return Err(Memory);
+        };
+        let Ok(outbox) = outbox_for(alloc, count) else {
+            return Err(Memory);
+        };
+        let Ok(candidates) = candidates_for(alloc, count) else {
+            return Err(Memory);
+        };
+        let Ok(mut transactions) = restored(
+            alloc,
+            shard,
+            epoch,
+            store,
+            recovered.buffer,
+            &recovered.in_doubt,
+            &recovered.pairs,
+        ) else {
+            return Err(Memory);
+        };
+        let Ok(()) = transactions.reserve(count) else {
+            return Err(Memory);
+        };
+        Ok(ShardCore {
+            shard,
+            run,
+            transactions,
+            participant,
+            coordinator,
+            prepares,
+            outbox,
+            candidates,
+        })
+    }
+}
