@@ -1,4 +1,5 @@
-pub mod Laws
+pub mod Undoing
 mod Rows
 mod Lists
-mod Changes
+pub mod Changes
+pub mod Laws

@@ -24,7 +24,7 @@ use Rattle.clv_base.specs.OneShard.{closing_record, closing}
 use Rattle.clv_base.specs.Restarts.{records_of, ghost_if_absent, with_ghosts, pairs_of_listed, restored_pairs}
 use Rattle.clv_base.proofs.SameNames.{tx_true}
 use Rattle.log_facts.proofs.Laws.Rising.{Rises, nothing_rises, insert_rises}
-use Rattle.spelling_laws.proofs.Laws.{all_filter, Named, named_insert}
+use Rattle.spelling_laws.proofs.Undoing.{all_filter, Named, named_insert}
 use Rattle.spelling_laws.proofs.Rows.{Seconds, Values, set_value}
 
 -- ---- the record that closes a part

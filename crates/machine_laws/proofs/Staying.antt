@@ -1,0 +1,243 @@
+-- The shard's number and what is in flight, through what is due and through each event.
+use Rattle.std.proofs.Common.{◌≡◌, refl, ◌∙◌, subst, ℕ, zero, suc, Bool, true, false, cond, ◌==◌, List, [], ◌∷◌, Option, Some, None}
+use Rattle.std.proofs.lemmas.Bool.{both_ways}
+use Rattle.clv_base.specs.declared.names.TxId.{TxId}
+use Rattle.clv_base.specs.declared.causes.Vote.{Vote}
+use Rattle.clv_base.specs.declared.causes.Vote.TheVariants.{Yes, Read, No}
+use Rattle.clv_base.specs.declared.messages.Message.{Message}
+use Rattle.clv_base.specs.declared.messages.Message.TheVariants.{Prepare, Vote as VoteMessage, Decide, Done, Ask}
+use Rattle.clv_base.specs.declared.events.Event.{Event}
+use Rattle.clv_base.specs.declared.events.Event.TheVariants.{Op as OpEvent, Request as RequestEvent, Look, Drop, Send, Deliver, Remind, FlushOut, FlushIn, Stop, Restart}
+use Rattle.clv_base.specs.declared.state.Ruling.TheVariants.{Commit as CommitVerdict, Acknowledge, Abort as AbortVerdict, End as EndVerdict}
+use Rattle.clv_base.specs.declared.state.Stage.{Stage}
+use Rattle.clv_base.specs.declared.state.Stage.TheVariants.{Active, Closed, Gone}
+use Rattle.clv_base.specs.declared.state.Voter.{Voter}
+use Rattle.clv_base.specs.declared.state.RequestState.{RequestState}
+use Rattle.clv_base.specs.declared.state.RequestState.TheVariants.{Undecided, Committed, Finished, Refused}
+use Rattle.clv_base.specs.declared.state.Request.{Request}
+use Rattle.clv_base.specs.declared.state.Ruling.{Ruling}
+use Rattle.clv_base.specs.declared.state.Taken.{Taken as DecisionTaken}
+use Rattle.clv_base.specs.declared.state.Taken.TheVariants.{Done as IsDone, Waiting as IsAwaited, Stale as IsStale}
+use Rattle.clv_base.specs.Orders.{tx_get}
+use Rattle.clv_base.specs.Logs.{committed_in}
+use Rattle.clv_base.specs.State.{Shard, with_local}
+use Rattle.clv_base.specs.Undo.{stage_of}
+use Rattle.clv_base.specs.Facts.{facts_of, has_durable_commit}
+use Rattle.clv_base.specs.Participant.{vote_by, taken_by}
+use Rattle.clv_base.specs.Coordinator.{takes_vote, takes_done, ruling_by}
+use Rattle.clv_base.specs.OneShard.{OpReply, OpWaits, OpCrowded, OpDies, OpAnswers, seen_fits, op_reply, drop_part}
+use Rattle.clv_base.specs.Due.{or_else, with_commit_done, commit_due, give_vote, vote_due, rule, request_due, due_of, first_due, known_txs, next_due, do_due, work}
+use Rattle.clv_base.specs.Events.{Reply, QuietBeforeWorn, QuietAfterWorn, Does, finish, op_event, epoch_in, request_by_stage, request_event, look_lost, look_state, look_known, request_epoch, drop_event, on_prepare, on_vote, decided, on_decide, on_done, on_message, to_of, send_event, reminders, remind_with, happen_up}
+use Rattle.clv_base.specs.Coordinator.{others, ask_answer}
+use Rattle.clv_base.specs.OneShard.{close_part}
+use Rattle.clv_base.specs.Due.{send}
+use Rattle.clv_base.specs.Events.{is_alone, coordinate, owe_vote, with_votes, with_done, with_outbox, ask_messages}
+use Rattle.machine_laws.specs.Frame.{FinishesStay, EventsStay, is_grounded}
+
+-- the same number, and the same in flight
+record Stays (s t : Shard) : Type 0 where
+  number : t.shard ≡ s.shard
+  flight : t.flight ≡ s.flight
+
+stays : (s : Shard) → Stays s s
+stays s = record { number = refl; flight = refl }
+
+chain : (s t u : Shard) → Stays s t → Stays t u → Stays s u
+chain s t u p q = record { number = q.number ∙ p.number; flight = q.flight ∙ p.flight }
+
+-- ---- what is due
+
+StaysBy : Shard → Option Shard → Type 0
+StaysBy s None = Unit {0}
+StaysBy s (Some t) = Stays s t
+
+stays_if : (s t : Shard) (b : Bool) → Stays s t → StaysBy s (cond b (Some t) None)
+unfolding StaysBy
+stays_if s t true h = h
+stays_if s t false h = tt
+
+stays_or : (s : Shard) (x y : Option Shard) → StaysBy s x → StaysBy s y → StaysBy s (or_else x y)
+unfolding StaysBy
+stays_or s None y p q = q
+stays_or s (Some t) y p q = p
+
+commit_stays : (s : Shard) (tx : TxId) (st : Option Stage) → StaysBy s (commit_due s tx st)
+unfolding StaysBy
+commit_stays s tx None = tt
+commit_stays s tx (Some Active) = tt
+commit_stays s tx (Some Closed) = stays_if s (with_commit_done s tx) (has_durable_commit (facts_of s tx)) (record { number = refl; flight = refl })
+commit_stays s tx (Some (Gone d)) = tt
+
+give_stays : (s : Shard) (tx : TxId) (v : Voter) (o : Option Vote) → StaysBy s (give_vote s tx v o)
+unfolding StaysBy
+give_stays s tx v None = tt
+give_stays s tx v (Some Yes) = record { number = refl; flight = refl }
+give_stays s tx v (Some Read) = record { number = refl; flight = refl }
+give_stays s tx v (Some (No why)) = record { number = refl; flight = refl }
+
+vote_stays : (s : Shard) (tx : TxId) (o : Option Voter) → StaysBy s (vote_due s tx o)
+unfolding StaysBy
+vote_stays s tx None = tt
+vote_stays s tx (Some v) = give_stays s tx v (vote_by (facts_of s tx) v)
+
+rule_stays : (s : Shard) (tx : TxId) (q : Request) (o : Option Ruling) → StaysBy s (rule s tx q o)
+unfolding StaysBy
+rule_stays s tx q None = tt
+rule_stays s tx q (Some (CommitVerdict parts)) = record { number = refl; flight = refl }
+rule_stays s tx q (Some Acknowledge) = record { number = refl; flight = refl }
+rule_stays s tx q (Some (AbortVerdict cause to)) = record { number = refl; flight = refl }
+rule_stays s tx q (Some EndVerdict) = record { number = refl; flight = refl }
+
+request_stays : (s : Shard) (tx : TxId) (o : Option Request) → StaysBy s (request_due s tx o)
+unfolding StaysBy
+request_stays s tx None = tt
+request_stays s tx (Some q) = rule_stays s tx q (ruling_by s.shard tx q (facts_of s tx))
+
+due_stays : (s : Shard) (tx : TxId) → StaysBy s (due_of s tx)
+due_stays s tx =
+    stays_or s (commit_due s tx (stage_of s.local tx)) (or_else (vote_due s tx (tx_get tx s.voters)) (request_due s tx (tx_get tx s.requests))) (commit_stays s tx (stage_of s.local tx))
+    (stays_or s (vote_due s tx (tx_get tx s.voters)) (request_due s tx (tx_get tx s.requests)) (vote_stays s tx (tx_get tx s.voters)) (request_stays s tx (tx_get tx s.requests)))
+
+first_stays : (s : Shard) (txs : List TxId) → StaysBy s (first_due s txs)
+unfolding StaysBy
+first_stays s [] = tt
+first_stays s (tx ∷ txs) = at (due_of s tx) (due_stays s tx) (first_stays s txs)
+  where
+    at : (o : Option Shard) → StaysBy s o → StaysBy s (first_due s txs) → StaysBy s (elim o [ Some t ↦ Some t | None ↦ first_due s txs ])
+    at (Some t) k more = k
+    at None k more = more
+
+do_stays : (n : ℕ) (s : Shard) → Stays s (do_due n s)
+unfolding StaysBy
+do_stays zero s = stays s
+do_stays (suc n) s = at (next_due s) (first_stays s (known_txs s)) (do_stays n)
+  where
+    at : (o : Option Shard) → StaysBy s o → ((t : Shard) → Stays t (do_due n t)) → Stays s (elim o [ Some t ↦ do_due n t | None ↦ s ])
+    at (Some t) k more = chain s t (do_due n t) k (more t)
+    at None k more = stays s
+
+finish_stays : (s t : Shard) → Stays s t → Stays s (finish t)
+finish_stays s t p = let q = do_stays (work t) t in record { number = q.number ∙ p.number; flight = q.flight ∙ p.flight }
+
+pub finishes_stay : FinishesStay
+finishes_stay s = let q = do_stays (work s) s in (q.number, q.flight)
+
+-- ---- events
+
+StaysAfter : Shard → Reply → Type 0
+StaysAfter s (QuietBeforeWorn o) = Unit {0}
+StaysAfter s (QuietAfterWorn o) = Unit {0}
+StaysAfter s (Does o t) = Stays s t
+
+after_both : (s : Shard) (b : Bool) (x y : Reply) → StaysAfter s x → StaysAfter s y → StaysAfter s (cond b x y)
+after_both s true x y p q = p
+after_both s false x y p q = q
+
+same : (s t : Shard) → t.shard ≡ s.shard → t.flight ≡ s.flight → Stays s (finish t)
+same s t a b = finish_stays s t (record { number = a; flight = b })
+
+op_stays : (s : Shard) (r : OpReply) → StaysAfter s (op_event s r)
+unfolding StaysAfter
+op_stays s (OpWaits t) = tt
+op_stays s (OpCrowded m) = tt
+op_stays s (OpDies c l) = same s (record s { local = l }) refl refl
+op_stays s (OpAnswers a l) = same s (record s { local = l }) refl refl
+
+asked_stays : (s : Shard) (tx : TxId) (touched : List (ℕ × ℕ)) (st : Option Stage) → StaysAfter s (request_by_stage s tx touched st)
+unfolding StaysAfter
+asked_stays s tx touched (Some (Gone (Some x))) = same s s refl refl
+asked_stays s tx touched (Some (Gone None)) = same s s refl refl
+asked_stays s tx touched (Some Closed) = same s s refl refl
+asked_stays s tx touched (Some Active) = same s (coordinate tx touched (with_local (close_part tx s.shard (is_alone (others s.shard touched))) s)) refl refl
+asked_stays s tx touched None = same s (coordinate tx touched s) refl refl
+
+request_event_stays : (s : Shard) (tx : TxId) (touched : List (ℕ × ℕ)) (b : Bool) → StaysAfter s (request_event s tx touched b)
+unfolding StaysAfter
+request_event_stays s tx touched false = same s s refl refl
+request_event_stays s tx touched true = asked_stays s tx touched (stage_of s.local tx)
+
+state_stays : (s : Shard) (st : RequestState) → StaysAfter s (look_state s st)
+unfolding StaysAfter
+state_stays s Undecided = tt
+state_stays s (Committed parts) = tt
+state_stays s Finished = same s s refl refl
+state_stays s (Refused cause) = same s s refl refl
+
+lost_stays : (s : Shard) (tx : TxId) (o : Option ℕ) → StaysAfter s (look_lost s tx o)
+unfolding StaysAfter
+lost_stays s tx None = tt
+lost_stays s tx (Some e) = after_both s (e == s.local.epoch) _ _ tt (same s s refl refl)
+
+known_stays : (s : Shard) (tx : TxId) (o : Option Request) → StaysAfter s (look_known s tx o)
+unfolding StaysAfter
+known_stays s tx (Some q) = state_stays s q.state
+known_stays s tx None = after_both s (committed_in s.local.log tx) _ _ tt (lost_stays s tx (request_epoch s.shard tx s.journal))
+
+drop_stays : (s : Shard) (tx : TxId) (st : Option Stage) → StaysAfter s (drop_event s tx st)
+unfolding StaysAfter
+drop_stays s tx None = tt
+drop_stays s tx (Some st) = same s (with_local (drop_part tx) s) refl refl
+
+prepare_stays : (s : Shard) (tx : TxId) (home seen : ℕ) (st : Option Stage) → StaysAfter s (on_prepare s tx home seen st)
+unfolding StaysAfter
+prepare_stays s tx home seen (Some Active) = same s (owe_vote tx home seen (with_local (close_part tx home false) s)) refl refl
+prepare_stays s tx home seen (Some Closed) = same s (owe_vote tx home seen s) refl refl
+prepare_stays s tx home seen (Some (Gone x)) = same s (owe_vote tx home seen s) refl refl
+prepare_stays s tx home seen None = after_both s (seen == s.local.epoch) _ _ tt (same s (owe_vote tx home seen s) refl refl)
+
+on_vote_stays : (s : Shard) (tx : TxId) (from : ℕ) (vote : Vote) (o : Option Request) → StaysAfter s (on_vote s tx from vote o)
+unfolding StaysAfter
+on_vote_stays s tx from vote None = tt
+on_vote_stays s tx from vote (Some q) = after_both s (takes_vote s.shard from q) _ _ (same s (with_votes tx from vote q s) refl refl) tt
+
+decided_stays : (s : Shard) (tx : TxId) (commit : Bool) → Stays s (decided s tx commit)
+decided_stays s tx true = record { number = refl; flight = refl }
+decided_stays s tx false = record { number = refl; flight = refl }
+
+decide_stays : (s : Shard) (tx : TxId) (home : ℕ) (commit : Bool) (t : DecisionTaken) → StaysAfter s (on_decide s tx home commit t)
+unfolding StaysAfter
+decide_stays s tx home commit IsAwaited = finish_stays s (decided s tx commit) (decided_stays s tx commit)
+decide_stays s tx home commit IsDone = same s (send (Done home tx s.shard ∷ []) s) refl refl
+decide_stays s tx home commit IsStale = tt
+
+on_done_stays : (s : Shard) (tx : TxId) (from : ℕ) (o : Option Request) → StaysAfter s (on_done s tx from o)
+unfolding StaysAfter
+on_done_stays s tx from None = tt
+on_done_stays s tx from (Some q) = after_both s (takes_done from q) _ _ (same s (with_done tx from q s) refl refl) tt
+
+message_stays : (s : Shard) (m : Message) → StaysAfter s (on_message s m)
+unfolding StaysAfter
+message_stays s (Prepare to tx home seen) = prepare_stays s tx home seen (stage_of s.local tx)
+message_stays s (VoteMessage to tx from vote) = on_vote_stays s tx from vote (tx_get tx s.requests)
+message_stays s (Decide to tx home commit) = decide_stays s tx home commit (taken_by (facts_of s tx) commit)
+message_stays s (Done to tx from) = on_done_stays s tx from (tx_get tx s.requests)
+message_stays s (Ask to tx from) = same s (send (ask_messages s tx from (ask_answer (tx_get tx s.requests) (facts_of s tx))) s) refl refl
+
+send_stays : (s : Shard) (ms : List Message) → StaysAfter s (send_event s ms)
+unfolding StaysAfter
+send_stays s [] = tt
+send_stays s (m ∷ ms) = same s (with_outbox ms s) refl refl
+
+remind_stays : (s : Shard) (os ms : List Message) → StaysAfter s (remind_with s os ms)
+unfolding StaysAfter
+remind_stays s [] (m ∷ ms) = same s (send (m ∷ ms) s) refl refl
+remind_stays s [] [] = tt
+remind_stays s (o ∷ os) ms = tt
+
+up_stays : (s : Shard) (e : Event) → is_grounded e ≡ true → StaysAfter s (happen_up s e)
+unfolding StaysAfter
+up_stays s (OpEvent tx birth nth seen op) g = op_stays s (op_reply s.shard s.local tx birth seen op)
+up_stays s (RequestEvent tx touched) g = request_event_stays s tx touched (seen_fits s.local.epoch (epoch_in s.shard touched))
+up_stays s (Look tx) g = after_both s (has_durable_commit (facts_of s tx)) _ _ (same s s refl refl) (known_stays s tx (tx_get tx s.requests))
+up_stays s (Drop tx) g = drop_stays s tx (stage_of s.local tx)
+up_stays s Send g = send_stays s s.outbox
+up_stays s (Deliver message stamp) g = after_both s (to_of message == s.shard) _ _ (message_stays s message) tt
+up_stays s Remind g = remind_stays s s.outbox (reminders s)
+up_stays s FlushOut g = absurd (both_ways false refl g)
+up_stays s FlushIn g = tt
+up_stays s Stop g = record { number = refl; flight = refl }
+up_stays s Restart g = tt
+
+pub events_stay : EventsStay
+unfolding StaysAfter
+events_stay s t e o q g = let h = subst (StaysAfter s) q (up_stays s e g) in (h.number, h.flight)

@@ -1,0 +1,114 @@
+-- What undoes a set's writes has spellings, where the log's records have.
+use Rattle.std.proofs.Common.{◌≡◌, refl, ◌∙◌, subst, ℕ, suc, ◌+◌, ◌-◌, ◌^◌, ◌≤◌, ◌<◌, Bool, true, false, cond, List, [], ◌∷◌, ◌++◌, map, length, Some, None, arith}
+use Rattle.std.proofs.lemmas.Bool.{and_parts, and_from}
+use Rattle.std.proofs.lemmas.Bool.Decides.{nat_tests}
+use Rattle.std.proofs.lemmas.List.Folds.{list_all-append}
+use Rattle.std.specs.List.{list_all, AllByRecursion, filter}
+use Rattle.std.specs.declared.cmp.Ordering.{Ordering}
+use Rattle.std.specs.declared.cmp.Ordering.TheVariants.{Less, Equal, Greater}
+use Rattle.std.specs.Ordering.{match_ordering}
+use Rattle.clv_base.specs.declared.names.TxId.{TxId}
+use Rattle.clv_base.specs.declared.logs.LogRecord.{LogRecord}
+use Rattle.clv_base.specs.declared.logs.LogRecord.TheVariants.{Update, Clr, Prepare, Commit, Abort, End, Restart}
+use Rattle.clv_base.specs.Orders.{tx_cmp, tx_same, tx_in, tx_insert}
+use Rattle.clv_base.specs.Logs.{StandingUpdate, standing_after, standing_from, standing, without_newest, newest_of, writers}
+use Rattle.clv_base.specs.FileRules.{has_spelling, tx_has_spelling, is_64_bits, is_value, is_undo_next}
+use Rattle.clv_base.specs.Undo.{clrs_of, newest_lsn}
+
+-- ---- lists
+
+pub all_mono : {X : Type 0} (P Q : X → Type 0) → ((x : X) → P x → Q x) → (xs : List X) → AllByRecursion P xs → AllByRecursion Q xs
+all_mono P Q f [] h = tt
+all_mono P Q f (x ∷ xs) h = (f x h.0, all_mono P Q f xs h.1)
+
+pub both : (P : Bool → Type 0) → P true → P false → (b : Bool) → P b
+both P t f true = t
+both P t f false = f
+
+pub all_filter : {X : Type 0} (P : X → Type 0) (p : X → Bool) (xs : List X) → AllByRecursion P xs → AllByRecursion P (filter p xs)
+all_filter P p [] h = tt
+all_filter P p (x ∷ xs) h =
+    both (λ (b : Bool). AllByRecursion P (cond b (x ∷ filter p xs) (filter p xs))) (h.0, all_filter P p xs h.1) (all_filter P p xs h.1) (p x)
+
+-- ---- the writes that stand
+
+-- a write at an LSN below n whose fields are in bounds
+abbrev pub IsFit : ℕ → StandingUpdate → Type 0
+IsFit n w = (w.lsn < n) × (tx_has_spelling w.tx ≡ true) × (is_64_bits w.key ≡ true) × (is_value w.before ≡ true)
+
+abbrev pub AreFit : ℕ → List StandingUpdate → Type 0
+AreFit n ws = AllByRecursion (IsFit n) ws
+
+fit_more : (n : ℕ) (ws : List StandingUpdate) → AreFit n ws → AreFit (suc n) ws
+fit_more n ws h = all_mono (IsFit n) (IsFit (suc n)) (λ w f. (omega (arith, f.0), f.1, f.2, f.3)) ws h
+
+fit_without : (n : ℕ) (t : TxId) (ws : List StandingUpdate) → AreFit n ws → AreFit n (without_newest t ws)
+fit_without n t [] h = h
+fit_without n t (w ∷ ws) h = both (λ (b : Bool). AllByRecursion (IsFit n) (cond b ws (w ∷ without_newest t ws))) h.1 (h.0, fit_without n t ws h.1) (tx_same t w.tx)
+
+fit_after : (n : ℕ) (r : LogRecord) (ws : List StandingUpdate) → has_spelling r ≡ true → AreFit n ws → AreFit (suc n) (standing_after n r ws)
+fit_after n (Update tx key before after) ws h f =
+    let values = and_parts _ _ h in
+    let keys = and_parts _ _ values.0 in
+    let txs = and_parts _ _ keys.0 in
+    ((omega arith, txs.0, txs.1, keys.1), fit_more n ws f)
+fit_after n (Clr tx undo_next key after) ws h f = fit_more n (without_newest tx ws) (fit_without n tx ws f)
+fit_after n (Prepare tx home predecessors) ws h f = fit_more n ws f
+fit_after n (Commit tx parts) ws h f = fit_more n ws f
+fit_after n (Abort tx) ws h f = fit_more n ws f
+fit_after n (End tx) ws h f = fit_more n ws f
+fit_after n (Restart run epoch) ws h f = fit_more n ws f
+
+fit_from : (n : ℕ) (rs : List LogRecord) (ws : List StandingUpdate) → list_all has_spelling rs ≡ true → AreFit n ws → AreFit (n + length rs) (standing_from n rs ws)
+fit_from n [] ws h f = subst (λ (m : ℕ). AreFit m ws) (omega arith) f
+fit_from n (r ∷ rs) ws h f =
+    let parts = and_parts (has_spelling r) (list_all has_spelling rs) h in
+    subst (λ (m : ℕ). AreFit m (standing_from (suc n) rs (standing_after n r ws))) (omega arith) (fit_from (suc n) rs (standing_after n r ws) parts.1 (fit_after n r ws parts.0 f))
+
+pub fit_standing : (log : List LogRecord) → list_all has_spelling log ≡ true → AreFit (length log) (standing log)
+fit_standing log h = subst (λ (n : ℕ). AreFit n (standing log)) (omega arith) (fit_from 0 log [] h tt)
+
+-- ---- the CLRs of a set's writes
+
+fits_newest : (n : ℕ) (t : TxId) (ws : List StandingUpdate) → n ≤ 2 ^ 64 - 1 → AreFit n ws → is_undo_next (newest_lsn t ws) ≡ true
+fits_newest n t [] few f = refl
+fits_newest n t (w ∷ ws) few f =
+    both (λ (b : Bool). is_undo_next (elim (cond b (Some w) (newest_of t ws)) [ Some v ↦ Some v.lsn | None ↦ None ]) ≡ true)
+    (let below : w.lsn < n = f.0.0 in grind (arith, nat_tests, below, few)) (fits_newest n t ws few f.1) (tx_same t w.tx)
+
+clr_spelled : (n : ℕ) (w : StandingUpdate) (ws : List StandingUpdate) → n ≤ 2 ^ 64 - 1 → IsFit n w → AreFit n ws → has_spelling (Clr w.tx (newest_lsn w.tx ws) w.key w.before) ≡ true
+clr_spelled n w ws few f fs = and_from _ _ (and_from _ _ (and_from _ _ f.1 (fits_newest n w.tx ws few fs)) f.2) f.3
+
+pub clrs_spelled : (n : ℕ) (set : List TxId) (ws : List StandingUpdate) → n ≤ 2 ^ 64 - 1 → AreFit n ws → list_all has_spelling (clrs_of set ws) ≡ true
+clrs_spelled n set [] few f = refl
+clrs_spelled n set (w ∷ ws) few f =
+    let rest = clrs_spelled n set ws few f.1 in
+    both (λ (b : Bool). list_all has_spelling (cond b (Clr w.tx (newest_lsn w.tx ws) w.key w.before ∷ clrs_of set ws) (clrs_of set ws)) ≡ true)
+    (and_from _ _ (clr_spelled n w ws few f.0 f.1) rest) rest (tx_in w.tx set)
+
+-- ---- the ABORTs
+
+abbrev pub Named : List TxId → Type 0
+Named txs = AllByRecursion (λ t. tx_has_spelling t ≡ true) txs
+
+pub named_insert : (t : TxId) (xs : List TxId) → tx_has_spelling t ≡ true → Named xs → Named (tx_insert t xs)
+named_insert t [] h all = (h, tt)
+named_insert t (x ∷ xs) h all = at (tx_cmp t x) (named_insert t xs h all.1)
+  where
+    at : (o : Ordering) → AllByRecursion (λ t. tx_has_spelling t ≡ true) (tx_insert t xs) → AllByRecursion (λ t. tx_has_spelling t ≡ true) (match_ordering o (t ∷ x ∷ xs) (x ∷ xs) (x ∷ tx_insert t xs))
+    at Less more = (h, all)
+    at Equal more = all
+    at Greater more = (all.0, more)
+
+pub writers_named : (n : ℕ) (ws : List StandingUpdate) → AreFit n ws → Named (writers ws)
+writers_named n [] f = tt
+writers_named n (w ∷ ws) f = named_insert w.tx (writers ws) f.0.1 (writers_named n ws f.1)
+
+pub aborts_spelled : (txs : List TxId) → Named txs → list_all has_spelling (map (λ t. Abort t) txs) ≡ true
+aborts_spelled [] h = refl
+aborts_spelled (t ∷ ts) h = and_from _ _ h.0 (aborts_spelled ts h.1)
+
+-- ---- both
+
+pub all_append : (xs ys : List LogRecord) → list_all has_spelling xs ≡ true → list_all has_spelling ys ≡ true → list_all has_spelling (xs ++ ys) ≡ true
+all_append xs ys f g = list_all-append has_spelling xs ys ∙ and_from _ _ f g
