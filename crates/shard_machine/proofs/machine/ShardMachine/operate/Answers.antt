@@ -1,0 +1,48 @@
+-- An operation, and its entry.
+use Rattle.std.proofs.Common.{◌≡◌, refl, ◌∙◌, ap, subst, ◌++◌, ◌∷◌, [], ◌+◌, ◌≤◌, is_some, arith}
+use Rattle.clv_base.specs.declared.events.Event.{Event}
+use Rattle.clv_base.specs.declared.events.Event.TheVariants.{Op as OpEvent}
+use Rattle.clv_base.specs.State.{Shard}
+use Rattle.clv_base.specs.Events.{happen_up}
+use Rattle.shard_journal.specs.Journaled.{Journaled}
+use Rattle.shard_events.specs.declared.happening.Happened.{Happened}
+use Rattle.shard_events.specs.declared.happening.Happened.TheVariants.{Done, Quiet}
+use Rattle.shard_events.specs.Happening.{Happens}
+use Rattle.machine_calls.specs.Steps.{entry}
+use Rattle.machine_laws.specs.Frame.{stamped_as}
+use Rattle.machine_laws.specs.Undropped.{new_parts}
+use Rattle.machine_laws.proofs.Laws.{events_alike}
+use Rattle.shard_machine.specs.Machined.{Machined}
+use Rattle.shard_machine.proofs.Running.{kept_more}
+use Rattle.shard_machine.proofs.Answering.{Told, entered, quieted, on_up}
+use Rattle.shard_machine.proofs.machine.ShardMachine.operate.Goals as goal
+
+pub invariant_of-self-in-Ok-Done : goal.invariant_of-self-in-Ok-Done
+invariant_of-self-in-Ok-Done g c =
+    let i = c.self.inside in let s : Shard = i.core.shard in let e : Event = OpEvent c.args.tx c.args.birth c.args.nth c.args.seen c.args.op in let d = c.operate.new.core in let w = c.in-Ok-Done in
+    let k = c.enter.new.journal in let made = c.new_parts-made.result in
+    let happens : Happens (happen_up s e) s (Done w.outcome w.copy) d.shard = subst (λ (h : Happened). Happens (happen_up s e) s h d.shard) w.field-0-is w.ensures.ok in
+    let parts : made ≡ new_parts s.local e = c.new_parts-made.ensures.parts in let added : i.owed + new_parts s.local e ≤ i.owed + made = omega (arith, parts) in
+    let has = c.in-Ok.ensures.room in let less = c.enter.ensures.room in let room : i.owed + made ≤ k.room = omega (arith, has, less) in
+    kept_more i.core d i.is_up i.journal k i.owed (i.owed + made) (is_some i.gate) e w.outcome refl refl added happens.0 c.operate.ensures.rest c.requires c.fits.ensures c.few_undecided.ensures
+    c.log_end-before.ensures.short c.log_end-after.ensures.short (c.enter.ensures.shard ∙ ap (λ (x : Journaled). x.shard) c.place.ensures.same) room c.self.invariant
+
+pub returns-in-Ok-Quiet-clause-told : goal.returns-in-Ok-Quiet-clause-told
+returns-in-Ok-Quiet-clause-told g c =
+    let i = c.self.inside in let s : Shard = i.core.shard in let e : Event = OpEvent c.args.tx c.args.birth c.args.nth c.args.seen c.args.op in let d : Shard = c.operate.new.core.shard in
+    let w = c.in-Ok-Quiet in let j = i.journal.entries in let k = c.place.new.journal.entries in
+    let happens : Happens (happen_up s e) s (Quiet w.outcome) d = subst (λ (h : Happened). Happens (happen_up s e) s h d) w.field-0-is w.ensures.ok in
+    let same : k ≡ j = ap (λ (x : Journaled). x.entries) c.place.ensures.same in
+    subst (λ (v : Machined _). Told v.shard c.args.clock c.args.walker e w.outcome (stamped_as i.is_up i.last k d)) c.self.view_is
+    (on_up i.is_up (λ b. Told (stamped_as b i.last j s) c.args.clock c.args.walker e w.outcome (stamped_as b i.last k d)) c.if-not-self.false
+    (quieted i.last j k s d c.args.clock c.args.walker e (happen_up s e) w.outcome c.in-Ok.stamp (events_alike i.last j s e refl) happens c.in-Ok.ensures.ok same))
+
+pub returns-in-Ok-Done-clause-told : goal.returns-in-Ok-Done-clause-told
+returns-in-Ok-Done-clause-told g c =
+    let i = c.self.inside in let s : Shard = i.core.shard in let e : Event = OpEvent c.args.tx c.args.birth c.args.nth c.args.seen c.args.op in let d : Shard = c.operate.new.core.shard in
+    let w = c.in-Ok-Done in let j = i.journal.entries in let k = c.enter.new.journal.entries in let n = c.in-Ok.stamp in
+    let happens : Happens (happen_up s e) s (Done w.outcome w.copy) d = subst (λ (h : Happened). Happens (happen_up s e) s h d) w.field-0-is w.ensures.ok in
+    let grown : k ≡ j ++ entry n c.args.walker e w.copy ∷ [] = c.enter.ensures.entries ∙ ap (λ (x : Journaled). x.entries ++ entry n c.args.walker e w.copy ∷ []) c.place.ensures.same in
+    subst (λ (v : Machined _). Told v.shard c.args.clock c.args.walker e w.outcome (stamped_as i.is_up n k d)) c.self.view_is
+    (on_up i.is_up (λ b. Told (stamped_as b i.last j s) c.args.clock c.args.walker e w.outcome (stamped_as b n k d)) c.if-not-self.false
+    (entered i.last j k s d c.args.clock c.args.walker e (happen_up s e) w.outcome w.copy n (events_alike i.last j s e refl) happens c.in-Ok.ensures.ok grown))

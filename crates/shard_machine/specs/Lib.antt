@@ -1,0 +1,3 @@
+pub mod Machined
+pub mod Stamps
+pub mod Answers

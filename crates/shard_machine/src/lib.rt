@@ -1,0 +1,18 @@
+//! A shard's machine: the core with its journal, the stamp of its last entry, and the gate of its log.
+//! It promises that each of its calls is the protocol's event, with its entry; and that where a first drop of a part or the end of a flush is to come
+//! there is room for their entries.
+//! Stands on `shard_core`, `shard_journal` and the laws of `machine_laws`.
+#![tactic(auto)]
+
+mod asking;
+mod delivering;
+mod gates;
+mod hearing;
+mod looking;
+mod machine;
+mod operating;
+mod sending;
+mod stamps;
+mod stopping;
+
+pub use machine::ShardMachine;

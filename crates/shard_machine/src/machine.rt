@@ -1,0 +1,83 @@
+//! The machine.
+ghost use Rattle.std.specs.Prelude.{◌≡◌, not, length};
+
+use lock_table::Locks;
+use log_gate::Gate;
+use machine_calls::Parts;
+use ordered_store::Store;
+use shard_core::ShardCore;
+use shard_journal::Journal;
+use std::marker::Model;
+
+/// The machine of a shard. It has its gate unless that is away: for a flush, or because it was taken from a shard that is down.
+pub struct ShardMachine<S: Store + Drop, L: Locks + Drop, G: Gate> {
+    pub(crate) core: ShardCore<S, L>,
+    pub(crate) is_up: bool,
+    /// The stamp of the last entry.
+    pub(crate) last: u64,
+    pub(crate) journal: Journal,
+    /// For so many entries there must be room: of first drops, and of the end of a flush.
+    pub(crate) owed: usize,
+    pub(crate) gate: Option<G>,
+}
+
+impl<S: Store + Drop, L: Locks + Drop, G: Gate> Model for ShardMachine<S, L, G> {
+    ghost use Rattle.std.specs.Prelude.{is_some};
+    ghost use Rattle.machine_laws.specs.Frame.{stamped_as};
+    ghost use Rattle.shard_machine.specs.Machined.{Machined, IsRunning};
+
+    ghost Value = { Machined G };
+
+    ghost view = { λ m. record { shard = stamped_as m.is_up m.last m.journal.entries m.core.shard; gate = m.gate } };
+
+    ghost invariant = { λ m. IsRunning m.core m.is_up m.journal m.owed (is_some m.gate) };
+}
+
+impl<S: Store + Drop, L: Locks + Drop, G: Gate> ShardMachine<S, L, G> {
+    /// The stamp of the last entry, 0 before the first.
+    pub fn last(&self) -> u64
+        ensures { result ≡ (self.now.shard).last }
+    {
+        self.last
+    }
+
+    /// How many entries were made.
+    pub fn entries(&self) -> usize
+        ensures { result ≡ length (self.now.shard).journal }
+    {
+        self.journal.entries().len()
+    }
+
+    pub fn is_down(&self) -> bool
+        ensures { result ≡ not (self.now.shard).is_up }
+    {
+        !self.is_up
+    }
+
+    pub fn epoch(&self) -> u64
+        ensures { result ≡ ((self.now.shard).local).epoch }
+    {
+        self.core.epoch()
+    }
+
+    /// The gate, where the machine has it, the records and the journal, by move.
+    pub fn into_parts(self) -> Parts<S, G>
+        ensures gate { result.gate ≡ self.gate }
+        ensures store { S.records result.store ≡ ((self.shard).local).records }
+        ensures journal { result.journal.items ≡ (self.shard).journal }
+    {
+        let ShardMachine {
+            core,
+            is_up: _,
+            last: _,
+            journal,
+            owed: _,
+            gate,
+        } = self;
+        Parts {
+            gate,
+            store: core.into_store(),
+            journal: journal.into_entries(),
+        }
+    }
+}

@@ -1,0 +1,95 @@
+//! Operations.
+ghost use Rattle.std.specs.Prelude.{◌≡◌, ◌≤◌, true, Option};
+ghost use Rattle.clv_base.specs.declared.events.Entry.{Entry};
+ghost use Rattle.clv_base.specs.declared.events.Event.TheVariants.{Op as OpEvent};
+ghost use Rattle.clv_base.specs.Events.{step};
+ghost use Rattle.clv_base.specs.FileRules.{tx_has_spelling};
+ghost use Rattle.clv_base.specs.Undo.{stage_of};
+ghost use Rattle.machine_calls.specs.Steps.{Tells};
+ghost use Rattle.machine_laws.specs.Undropped.{new_part_by};
+ghost use Rattle.spelling_laws.specs.Spelled.{fits_op};
+
+use crate::machine::ShardMachine;
+use crate::stamps::{enter, place};
+use clv_base::events::{Event, Outcome};
+use clv_base::names::{Birth, TxId};
+use clv_base::ops::Op;
+use lock_table::Locks;
+use log_gate::Gate;
+use machine_calls::StepError;
+use ordered_store::Store;
+use shard_core::ShardCore;
+use shard_events::{Happened, operate};
+use std::alloc::Global;
+
+/// How many parts an operation of the transaction would make.
+fn new_parts<S: Store + Drop, L: Locks + Drop>(core: &ShardCore<S, L>, tx: TxId) -> usize
+    ensures parts { result ≡ new_part_by (stage_of (core.now.shard).local tx) }
+    ensures few { result ≤ 1 }
+{
+    match core.stage_of(tx) {
+        None => 1,
+        Some(_) => 0,
+    }
+}
+
+/// A law: the operation's keys and values have 64 bits.
+fn fits(op: Op)
+    ensures { fits_op op ≡ true }
+{
+    match op {
+        Op::Get(_) => {}
+        Op::Put(_key, _value) => {}
+        Op::Del(_key) => {}
+        Op::Scan(_, _) => {}
+    }
+}
+
+impl<S: Store + Drop, L: Locks + Drop, G: Gate> ShardMachine<S, L, G> {
+    /// An operation. Where it may make a part, a place in the journal is kept for the part's first drop too.
+    pub fn operate(
+        &mut self,
+        alloc: Global,
+        clock: u64,
+        walker: u32,
+        tx: TxId,
+        birth: Birth,
+        nth: u64,
+        seen: Option<u64>,
+        op: Op,
+    ) -> Result<Outcome, StepError>
+        requires { tx_has_spelling tx ≡ true }
+        ensures told { (made : Option Entry) × Tells (step self.old.shard clock walker (OpEvent tx birth nth seen op)) self.old.shard clock walker (OpEvent tx birth nth seen op) result self.new.shard made }
+        ensures gate { self.new.gate ≡ self.old.gate }
+    {
+        if !self.is_up {
+            return Ok(Outcome::Down);
+        }
+        let made = new_parts(&self.core, tx);
+        let stamp = match place(&mut self.journal, self.last, clock, 0, self.owed, made + 1) {
+            Ok(stamp) => stamp,
+            Err(error) => return Err(error),
+        };
+        fits(op);
+        self.core.few_undecided();
+        let _before = self.core.log_end();
+        match operate(&mut self.core, alloc, tx, birth, nth, seen, op) {
+            Ok(Happened::Quiet(outcome)) => Ok(outcome),
+            Ok(Happened::Done { outcome, copy }) => {
+                let _after = self.core.log_end();
+                let event = Event::Op {
+                    tx,
+                    birth,
+                    nth,
+                    seen,
+                    op,
+                };
+                enter(&mut self.journal, stamp, walker, event, copy);
+                self.last = stamp;
+                self.owed += made;
+                Ok(outcome)
+            }
+            Err(_) => Err(StepError::Memory),
+        }
+    }
+}

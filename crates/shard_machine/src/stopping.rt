@@ -1,0 +1,42 @@
+//! A shard stops.
+ghost use Rattle.std.specs.Prelude.{◌≡◌, Option};
+ghost use Rattle.clv_base.specs.declared.events.Entry.{Entry};
+ghost use Rattle.clv_base.specs.declared.events.Event.TheVariants.{Stop};
+ghost use Rattle.clv_base.specs.Events.{step};
+ghost use Rattle.machine_calls.specs.Steps.{Tells};
+
+use crate::machine::ShardMachine;
+use crate::stamps::{STAMPS, enter, has_room, next_stamp};
+use clv_base::events::{Event, Outcome};
+use lock_table::Locks;
+use log_gate::Gate;
+use machine_calls::StepError;
+use ordered_store::Store;
+
+impl<S: Store + Drop, L: Locks + Drop, G: Gate> ShardMachine<S, L, G> {
+    /// The shard stops: it is down, and the core stays as it is.
+    pub fn stop(&mut self, clock: u64, walker: u32) -> Result<Outcome, StepError>
+        ensures told { (made : Option Entry) × Tells (step self.old.shard clock walker Stop) self.old.shard clock walker Stop result self.new.shard made }
+        ensures gate { self.new.gate ≡ self.old.gate }
+    {
+        if !self.is_up {
+            return Ok(Outcome::Down);
+        }
+        let Some(stamp) = next_stamp(self.last, clock, 0) else {
+            return Err(StepError::Worn { at: STAMPS });
+        };
+        if !has_room(&mut self.journal, self.owed, 1) {
+            return Err(StepError::Memory);
+        }
+        enter(
+            &mut self.journal,
+            stamp,
+            walker,
+            Event::Stop,
+            Outcome::Stopped,
+        );
+        self.last = stamp;
+        self.is_up = false;
+        Ok(Outcome::Stopped)
+    }
+}
