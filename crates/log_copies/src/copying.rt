@@ -1,0 +1,88 @@
+// A log, copied.
+
+ghost use Rattle.std.specs.Prelude.{◌≡◌, IfOk};
+
+use clv_base::lists::TxList;
+use clv_base::logs::LogRecord;
+use clv_base::names::TxId;
+use clv_base::parts::ShardList;
+use std::alloc::{AllocError, Global};
+
+fn copy_txs(alloc: Global, list: &[TxId]) -> Result<Vec<TxId>, AllocError>
+    ensures { IfOk result (λ v. v.items ≡ list.now) }
+{
+    let mut txs = Vec::new(alloc);
+    for tx in list {
+        txs.push(*tx)?;
+    }
+    Ok(txs)
+}
+
+fn copy_shards(list: &ShardList) -> ShardList
+    ensures { result ≡ list.now }
+{
+    let mut shards = ShardList::new();
+    for shard in list.as_slice() {
+        shards.push(*shard);
+    }
+    shards
+}
+
+fn copy_record(alloc: Global, found: &LogRecord) -> Result<LogRecord, AllocError>
+    ensures { IfOk result (λ r. r ≡ found.now) }
+{
+    Ok(match found {
+        LogRecord::Update {
+            tx,
+            key,
+            before,
+            after,
+        } => LogRecord::Update {
+            tx: *tx,
+            key: *key,
+            before: *before,
+            after: *after,
+        },
+        LogRecord::Clr {
+            tx,
+            undo_next,
+            key,
+            after,
+        } => LogRecord::Clr {
+            tx: *tx,
+            undo_next: *undo_next,
+            key: *key,
+            after: *after,
+        },
+        LogRecord::Prepare {
+            tx,
+            home,
+            predecessors,
+        } => LogRecord::Prepare {
+            tx: *tx,
+            home: *home,
+            predecessors: TxList::new(copy_txs(alloc, predecessors.as_slice())?),
+        },
+        LogRecord::Commit { tx, parts } => LogRecord::Commit {
+            tx: *tx,
+            parts: copy_shards(parts),
+        },
+        LogRecord::Abort { tx } => LogRecord::Abort { tx: *tx },
+        LogRecord::End { tx } => LogRecord::End { tx: *tx },
+        LogRecord::Restart { run, epoch } => LogRecord::Restart {
+            run: *run,
+            epoch: *epoch,
+        },
+    })
+}
+
+/// The same records again.
+pub fn copy_log(alloc: Global, log: &[LogRecord]) -> Result<Vec<LogRecord>, AllocError>
+    ensures { IfOk result (λ v. v.items ≡ log.now) }
+{
+    let mut copied = Vec::with_capacity(alloc, log.len())?;
+    for found in log {
+        copied.push(copy_record(alloc, found)?)?;
+    }
+    Ok(copied)
+}
