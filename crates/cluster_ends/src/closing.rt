@@ -36,7 +36,7 @@ fn close_all<M: Machine>(
     requires homes { (vec_len homes ≡ 0) × (vec_len shards.locks ≤ vec_capacity homes) }
     ensures len { vec_len result ≡ vec_len shards.locks }
     ensures closed { (n : ℕ) (d : _) → n < vec_len result → ClosedAt walkers.items n (slice_index_or result.items n d).origin (notes_of (M.shard (slice_index_or result.items n d).machine).journal (slice_index_or result.items n d).marks.items) }
-    ensures sound { (n : ℕ) (d : _) → n < vec_len result → IsSound M.Gate.is_shut M.Gate.faults M.Gate.logs (slice_index_or result.items n d).origin (slice_index_or result.items n d).marks.items (vec_capacity (slice_index_or result.items n d).marks) (M.shard (slice_index_or result.items n d).machine) (M.gate (slice_index_or result.items n d).machine) }
+    ensures sound { (n : ℕ) (d : _) → n < vec_len result → IsSound M.Gate.is_shut M.Gate.faults M.Gate.shard M.Gate.logs (slice_index_or result.items n d).origin (slice_index_or result.items n d).marks.items (vec_capacity (slice_index_or result.items n d).marks) (M.shard (slice_index_or result.items n d).machine) (M.gate (slice_index_or result.items n d).machine) }
 {
     let Shards {
         mut locks,
@@ -71,7 +71,7 @@ pub fn close<M: Machine>(
     requires homes { (vec_len homes ≡ 0) × (vec_len shards.locks ≤ vec_capacity homes) }
     ensures len { vec_len result ≡ vec_len shards.locks }
     ensures closed { (n : ℕ) (d : _) → n < vec_len result → ClosedAt walkers.items n (slice_index_or result.items n d).origin (notes_of (M.shard (slice_index_or result.items n d).machine).journal (slice_index_or result.items n d).marks.items) }
-    ensures sound { (n : ℕ) (d : _) → n < vec_len result → IsSound M.Gate.is_shut M.Gate.faults M.Gate.logs (slice_index_or result.items n d).origin (slice_index_or result.items n d).marks.items (vec_capacity (slice_index_or result.items n d).marks) (M.shard (slice_index_or result.items n d).machine) (M.gate (slice_index_or result.items n d).machine) }
+    ensures sound { (n : ℕ) (d : _) → n < vec_len result → IsSound M.Gate.is_shut M.Gate.faults M.Gate.shard M.Gate.logs (slice_index_or result.items n d).origin (slice_index_or result.items n d).marks.items (vec_capacity (slice_index_or result.items n d).marks) (M.shard (slice_index_or result.items n d).machine) (M.gate (slice_index_or result.items n d).machine) }
     // Of a gate that is home each log that it may have is one that its shard may leave; its disk has failed exactly where a flush has.
     ensures leaves { (n : ℕ) (d : _) (gate : _) (log : List LogRecord) → n < vec_len result → M.gate (slice_index_or result.items n d).machine ≡ Some gate → M.Gate.logs gate (Some log) → MayLeave (M.shard (slice_index_or result.items n d).machine) log }
     ensures counted { (n : ℕ) (d : _) (gate : _) → n < vec_len result → M.gate (slice_index_or result.items n d).machine ≡ Some gate → IsCounted (M.shard (slice_index_or result.items n d).machine).journal (M.Gate.faults gate) }

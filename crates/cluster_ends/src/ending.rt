@@ -55,7 +55,7 @@ pub(crate) fn close_last<M: Machine>(
     requires room { (vec_len room ≡ 0) × (vec_len walkers.old ≤ vec_capacity room) }
     ensures locks { locks.new.items ≡ take (vec_len locks.old - 1) locks.old.items }
     ensures closed { (n : ℕ) → n + 1 ≡ vec_len locks.old → ClosedAt walkers.old.items n result.origin (notes_of (M.shard result.machine).journal result.marks.items) }
-    ensures sound { IsSound M.Gate.is_shut M.Gate.faults M.Gate.logs result.origin result.marks.items (vec_capacity result.marks) (M.shard result.machine) (M.gate result.machine) }
+    ensures sound { IsSound M.Gate.is_shut M.Gate.faults M.Gate.shard M.Gate.logs result.origin result.marks.items (vec_capacity result.marks) (M.shard result.machine) (M.gate result.machine) }
     ensures len { vec_len walkers.new ≡ vec_len walkers.old }
     ensures number { (k : ℕ) (d : _) → k < vec_len walkers.old → (slice_index_or walkers.new.items k d).number ≡ (slice_index_or walkers.old.items k d).number }
     ensures rest { (n : ℕ) (k : ℕ) (d : _) → n + 1 ≡ vec_len locks.old → k < vec_len walkers.old → (slice_index_or walkers.new.items k d).passes.items ≡ slice_set (slice_index_or walkers.old.items k d).passes.items n None }

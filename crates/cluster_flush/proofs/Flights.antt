@@ -23,18 +23,18 @@ use Rattle.turn_laws.specs.Sound.{IsSound}
 use Rattle.turn_laws.proofs.Laws.{gone, landing}
 use Rattle.cluster_flush.specs.Flights.{landed_as, FlightTold, FlightTaken}
 
-module _ {T G : Type 0} (shut : G → Bool) (faults : G → ℕ) (logs : G → Option (List LogRecord) → Type 0) where
+module _ {T G : Type 0} (shut : G → Bool) (faults whose : G → ℕ) (logs : G → Option (List LogRecord) → Type 0) where
   pub flight_told : (o : Origin) (marks : List Mark) (capacity : ℕ) (s : Shard) (gate after : Option G) (clock w clock' : ℕ) (t : Shard) (x : Option Entry) (q : Pass T Note Origin) (r : Result (Outcome × Option (Flight G)) StepError)
-      → IsSound shut faults logs o marks capacity s gate → Tells (step s clock w FlushOut) s clock w FlushOut (outcome_in r) t x → Departs t gate after r → clock' ≡ clock_after clock (outcome_in r) x
-      → IsSound shut faults logs o marks capacity t after → pass_origin q ≡ Some o → seen q ≡ notes_of t.journal marks → FlightTold shut faults logs w clock' q r
+      → IsSound shut faults whose logs o marks capacity s gate → Tells (step s clock w FlushOut) s clock w FlushOut (outcome_in r) t x → Departs t gate after r → clock' ≡ clock_after clock (outcome_in r) x
+      → IsSound shut faults whose logs o marks capacity t after → pass_origin q ≡ Some o → seen q ≡ notes_of t.journal marks → FlightTold shut faults whose logs w clock' q r
   flight_told o marks capacity s gate after clock w clock' t x q (Ok (out, Some f)) l h d is k from sees =
-      let v = gone shut faults logs o marks capacity s gate after clock w clock' out f t x l h d is k in
+      let v = gone shut faults whose logs o marks capacity s gate after clock w clock' out f t x l h d is k in
       (d.outcome, v.clock_early, record { origin = o; has_origin = from; s = t; s_is = subst (λ ns. IsLegal o ns t) (sym sees) k.legal; early = v.early; taken = v.taken_by; holds = v.in_air })
   flight_told o marks capacity s gate after clock w clock' t x q (Ok (out, None)) l h d is k from sees = d.0
   flight_told o marks capacity s gate after clock w clock' t x q (Err e) l h d is k from sees = tt
 
-  pub flight_taken : (n w clock : ℕ) (ps : List (Option (Pass T Note Origin))) (q : Pass T Note Origin) (r : Result (Outcome × Option (Flight G)) StepError) → ((d : Option (Pass T Note Origin)) → get_or ps n d ≡ Some q) → FlightTold shut faults logs w clock q r
-      → FlightTaken shut faults logs n w clock ps r
+  pub flight_taken : (n w clock : ℕ) (ps : List (Option (Pass T Note Origin))) (q : Pass T Note Origin) (r : Result (Outcome × Option (Flight G)) StepError) → ((d : Option (Pass T Note Origin)) → get_or ps n d ≡ Some q) → FlightTold shut faults whose logs w clock q r
+      → FlightTaken shut faults whose logs n w clock ps r
   flight_taken n w clock ps q (Ok (out, Some f)) had h = (h.0, h.1, (q, had, h.2))
   flight_taken n w clock ps q (Ok (out, None)) had h = h
   flight_taken n w clock ps q (Err e) had h = h

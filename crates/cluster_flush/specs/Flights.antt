@@ -30,10 +30,10 @@ pub record LandTold (clock w : ℕ) (pushed : Bool) (upto clock' : ℕ) (s t : S
   pub made_is : Made (land s clock w pushed) s clock w FlushIn (landed_as pushed upto) t made
   pub clock_is : clock' ≡ made.stamp
 
-module _ {G : Type 0} (shut : G → Bool) (faults : G → ℕ) (logs : G → Option (List LogRecord) → Type 0) where
+module _ {G : Type 0} (shut : G → Bool) (faults whose : G → ℕ) (logs : G → Option (List LogRecord) → Type 0) where
   -- the flight is in the air in this state
   abbrev pub InAirOf : Flight G → Shard → Type 0
-  InAirOf f s = InAir s f.upto f.payload.items (shut f.gate) (faults f.gate) (logs f.gate)
+  InAirOf f s = InAir s f.upto f.payload.items (faults f.as_taken.value) (shut f.gate) (faults f.gate) (whose f.gate) (logs f.gate)
 
 module _ {T : Type 0} where
   -- as the pass has seen the shard, the walker w has the gate, and P holds of the state
@@ -53,14 +53,14 @@ module _ {T : Type 0} where
   abbrev pub KnownAt : ℕ → ℕ → List (Option (Pass T Note Origin)) → Type 0
   KnownAt n count passes = (p : Pass T Note Origin) × ((d : Option (Pass T Note Origin)) → slice_index_or passes n d ≡ Some p) × (count ≤ known p)
 
-  module _ {G : Type 0} (shut : G → Bool) (faults : G → ℕ) (logs : G → Option (List LogRecord) → Type 0) where
+  module _ {G : Type 0} (shut : G → Bool) (faults whose : G → ℕ) (logs : G → Option (List LogRecord) → Type 0) where
     -- what the turn of the pass that began a flush tells: a flight exactly at Out
     abbrev pub FlightTold : ℕ → ℕ → Pass T Note Origin → Result (Outcome × Option (Flight G)) StepError → Type 0
-    FlightTold w clock p (Ok (o, Some f)) = (o ≡ Out f.upto) × (clock < 2 ^ 48) × Away w (InAirOf shut faults logs f) p
+    FlightTold w clock p (Ok (o, Some f)) = (o ≡ Out f.upto) × (clock < 2 ^ 48) × Away w (InAirOf shut faults whose logs f) p
     FlightTold w clock p (Ok (o, None)) = is_out o ≡ false
     FlightTold w clock p (Err e) = ⊤
 
     abbrev pub FlightTaken : ℕ → ℕ → ℕ → List (Option (Pass T Note Origin)) → Result (Outcome × Option (Flight G)) StepError → Type 0
-    FlightTaken n w clock passes (Ok (o, Some f)) = (o ≡ Out f.upto) × (clock < 2 ^ 48) × AwayAt n w (InAirOf shut faults logs f) passes
+    FlightTaken n w clock passes (Ok (o, Some f)) = (o ≡ Out f.upto) × (clock < 2 ^ 48) × AwayAt n w (InAirOf shut faults whose logs f) passes
     FlightTaken n w clock passes (Ok (o, None)) = is_out o ≡ false
     FlightTaken n w clock passes (Err e) = ⊤

@@ -53,7 +53,7 @@ pub(crate) fn take_off<M: Flier, R: Wait>(
     requires { IsPassOf lock.now pass × (number pass ≡ walker) }
     ensures pass { IsPassOf lock.now result.0 }
     ensures turned { Turned (EventTold clock walker FlushOut (outcome_in result.2) result.1) walker pass result.0 }
-    ensures flight { FlightTold M.Gate.is_shut M.Gate.faults M.Gate.logs walker result.1 result.0 result.2 }
+    ensures flight { FlightTold M.Gate.is_shut M.Gate.faults M.Gate.shard M.Gate.logs walker result.1 result.0 result.2 }
 {
     let (turn, mut home) = lock.enter(rt, pass);
     let before = home.machine.last();
@@ -93,7 +93,7 @@ pub(crate) fn touch_down<M: Flier, R: Wait>(
     pushed: bool,
 ) -> (Pass<Home<M>, Note, Origin>, u64)
     requires pass { IsPassOf lock.now pass × (number pass ≡ walker) }
-    requires away { Away walker (λ s. Landable pushed s flight.upto (M.Gate.is_shut flight.gate) (M.Gate.faults flight.gate) (M.Gate.logs flight.gate)) pass }
+    requires away { Away walker (λ s. Landable pushed s flight.upto (M.Gate.faults flight.as_taken.value) (M.Gate.is_shut flight.gate) (M.Gate.faults flight.gate) (M.Gate.shard flight.gate) (M.Gate.logs flight.gate)) pass }
     requires clock { clock < 2 ^ 48 + 15 }
     ensures pass { IsPassOf lock.now result.0 }
     ensures turned { Turned (LandTold clock walker pushed flight.upto result.1) walker pass result.0 }

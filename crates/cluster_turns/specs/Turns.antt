@@ -1,5 +1,5 @@
 -- What one turn of a walker on one shard's lock tells.
-use Rattle.std.specs.Prelude.{◌≡◌, ◌≤◌, ℕ, List, ◌++◌, map, Option, Some, Result}
+use Rattle.std.specs.Prelude.{◌≡◌, ◌≤◌, ℕ, Bool, List, [], ◌++◌, map, Option, Some, Result}
 use Rattle.clv_base.specs.declared.events.Event.{Event}
 use Rattle.clv_base.specs.declared.events.Outcome.{Outcome}
 use Rattle.clv_base.specs.declared.events.Entry.{Entry}
@@ -10,6 +10,7 @@ use Rattle.turn_lock.specs.declared.pass.Pass.{Pass}
 use Rattle.turn_lock.specs.Passes.{number, pass_origin, seen, own, known}
 use Rattle.machine_calls.specs.declared.machine.StepError.{StepError}
 use Rattle.machine_calls.specs.Steps.{Tells, clock_after, listed}
+use Rattle.machine_calls.specs.Settled.{is_settled}
 use Rattle.turn_laws.specs.declared.notes.Note.{Note}
 use Rattle.turn_laws.specs.declared.notes.Origin.{Origin}
 use Rattle.turn_laws.specs.Notes.{noter, plain}
@@ -21,6 +22,12 @@ pub record EventTold (clock w : ℕ) (e : Event) (r : Result Outcome StepError) 
   pub added_is : added ≡ map plain (listed made)
   pub tells : Tells (step s clock w e) s clock w e r t made
   pub clock_is : clock' ≡ clock_after clock r made
+
+-- a look at the state, which makes no entry
+pub record SettledTold (answer : Bool) (s t : Shard) (added : List Note) : Type 0 where
+  pub added_is : added ≡ []
+  pub same : t ≡ s
+  pub answer_is : answer ≡ is_settled s
 
 module _ {T : Type 0} where
   -- from the pass p to q, by a turn of the walker w that told this; s and t are the shard's states before and after it. Both are the states of their notes,

@@ -88,7 +88,7 @@ module _ {T : Type 0} where
     pub after_is : after ≡ slice_set before n (Some q)
     pub kept_is : kept after ≡ kept before ++ on_shard n (entries_in turned.added)
 
-  -- an operation's birth bears the walker's number; as its pass has seen the shard, this is down, or no other part of the birth is active there
+  -- an operation's birth, or the transaction of a drop, bears the walker's number; as its pass has seen the shard, this is down, or no other part of the birth is active there
   pub record MayBeFree (n w : ℕ) (e : Event) (passes : List (Option (Pass T Note Origin))) : Type 0 where
     pub named : is_named w e ≡ true
     pub free : (p : Pass T Note Origin) (o : Origin) → ((d : Option (Pass T Note Origin)) → slice_index_or passes n d ≡ Some p) → pass_origin p ≡ Some o → IsFree (state_of o (seen p)) e

@@ -39,7 +39,7 @@ impl<M: Machine> Journaled for Home<M> {
 
     ghost maker = { noter };
 
-    ghost sound = { λ h. IsSound M.Gate.is_shut M.Gate.faults M.Gate.logs h.origin h.marks.items (vec_capacity h.marks) (M.shard h.machine) (M.gate h.machine) };
+    ghost sound = { λ h. IsSound M.Gate.is_shut M.Gate.faults M.Gate.shard M.Gate.logs h.origin h.marks.items (vec_capacity h.marks) (M.shard h.machine) (M.gate h.machine) };
 
     ghost durable = { noted_durable };
 }
@@ -66,14 +66,14 @@ impl<M: Machine> Home<M> {
         walker: u32,
         event: Event,
     ) -> (u64, Result<Outcome, StepError>)
-        requires sound { IsSound M.Gate.is_shut M.Gate.faults M.Gate.logs self.old.origin self.old.marks.items (vec_capacity self.old.marks) (M.shard self.old.machine) (M.gate self.old.machine) }
+        requires sound { IsSound M.Gate.is_shut M.Gate.faults M.Gate.shard M.Gate.logs self.old.origin self.old.marks.items (vec_capacity self.old.marks) (M.shard self.old.machine) (M.gate self.old.machine) }
         requires single { is_single event ≡ true }
         requires fits { event_fits self.old.origin.shard event ≡ true }
         requires named { is_named walker event ≡ true }
         requires free { IsFree (M.shard self.old.machine) event }
         ensures event { (made : Option MadeEntry) × Tells (step (M.shard self.old.machine) clock walker event) (M.shard self.old.machine) clock walker event result.1 (M.shard self.new.machine) made × (result.0 ≡ clock_after clock result.1 made) }
         ensures sends { IfOk result.1 (λ o. sends_fit o ≡ true) }
-        ensures sound { IsSound M.Gate.is_shut M.Gate.faults M.Gate.logs self.new.origin self.new.marks.items (vec_capacity self.new.marks) (M.shard self.new.machine) (M.gate self.new.machine) }
+        ensures sound { IsSound M.Gate.is_shut M.Gate.faults M.Gate.shard M.Gate.logs self.new.origin self.new.marks.items (vec_capacity self.new.marks) (M.shard self.new.machine) (M.gate self.new.machine) }
         ensures rest { (self.new.origin ≡ self.old.origin) × (self.new.marks ≡ self.old.marks) }
     {
         let before = self.machine.last();

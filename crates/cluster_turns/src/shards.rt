@@ -6,11 +6,11 @@ ghost use Rattle.clv_base.specs.Sessions.{is_of_session, is_session_number};
 ghost use Rattle.journal_laws.specs.Offers.{may_make};
 ghost use Rattle.machine_calls.specs.Events.{event_fits, sends_fit};
 ghost use Rattle.turn_laws.specs.Homes.{is_single};
-ghost use Rattle.cluster_turns.specs.Turns.{EventTold};
+ghost use Rattle.cluster_turns.specs.Turns.{EventTold, SettledTold};
 ghost use Rattle.cluster_turns.specs.Walkers.{IsWalker, IsSameWalker, Walked, GoesOn, MayBeFree, kept, TellsNext, Looked, AreNewPasses, founds_of};
 
 use crate::home::Home;
-use crate::turns::turn;
+use crate::turns::{survey, turn};
 use clv_base::events::{Event, Outcome};
 use clv_base::logs::LogRecord;
 use clv_base::names::{Birth, TxId};
@@ -128,6 +128,20 @@ impl<M: Machine> Shards<M> {
         ensures event { Walked (EventTold walker.old.clock walker.old.number event result walker.new.clock) shard walker.old.number walker.old.passes.items walker.new.passes.items }
     {
         self.event(rt, alloc, walker, shard, event)
+    }
+
+    /// Whether nothing is left to do on a shard but for active parts, in a turn that makes no entry.
+    pub fn is_settled<R: Wait>(&self, rt: &R, walker: &mut Walker<M>, shard: u32) -> bool
+        requires walker { IsWalker self.now walker.old }
+        requires shard { shard < length self.now.locks.items }
+        ensures walker { IsWalker self.now walker.new × IsSameWalker walker.old walker.new × (walker.new.clock ≡ walker.old.clock) }
+        ensures settled { Walked (SettledTold result) shard walker.old.number walker.old.passes.items walker.new.passes.items }
+    {
+        let place = shard as usize;
+        let pass = walker.passes[place].take().unwrap();
+        let (pass, settled) = survey(rt, &self.locks[place], pass, walker.number);
+        walker.passes[place] = Some(pass);
+        settled
     }
 
     /// The name and the birth of the walker's next transaction; its clock is raised by one. `WornClock` comes exactly where the clock is at its end.

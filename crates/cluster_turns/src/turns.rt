@@ -4,7 +4,7 @@ ghost use Rattle.turn_lock.specs.Passes.{number, seen, pass_origin, IsPassOf};
 ghost use Rattle.machine_calls.specs.Events.{event_fits, sends_fit};
 ghost use Rattle.turn_laws.specs.declared.notes.Origin.{Origin as OriginIs};
 ghost use Rattle.turn_laws.specs.Homes.{is_single, is_named, IsFree, state_of};
-ghost use Rattle.cluster_turns.specs.Turns.{Turned, EventTold};
+ghost use Rattle.cluster_turns.specs.Turns.{Turned, EventTold, SettledTold};
 
 use crate::home::Home;
 use clv_base::events::{Event, Outcome};
@@ -36,4 +36,20 @@ pub(crate) fn turn<M: Machine, R: Wait>(
     let (turn, mut home) = lock.enter(rt, pass);
     let (clock, answer) = home.event(alloc, clock, walker, event);
     (lock.leave(turn, home), clock, answer)
+}
+
+// Whether the shard is settled, by a turn that makes no entry.
+pub(crate) fn survey<M: Machine, R: Wait>(
+    rt: &R,
+    lock: &TurnLock<Home<M>>,
+    pass: Pass<Home<M>, Note, Origin>,
+    walker: u32,
+) -> (Pass<Home<M>, Note, Origin>, bool)
+    requires pass { IsPassOf lock.now pass × (number pass ≡ walker) }
+    ensures pass { IsPassOf lock.now result.0 }
+    ensures turned { Turned (SettledTold result.1) walker pass result.0 }
+{
+    let (turn, home) = lock.enter(rt, pass);
+    let settled = home.machine.is_settled();
+    (lock.leave(turn, home), settled)
 }

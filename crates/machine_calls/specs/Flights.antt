@@ -1,9 +1,10 @@
 -- What a flush takes out of a machine.
-use Rattle.std.specs.Prelude.{◌≡◌, ℕ, Bool, true, false, List, take, drop, Option, Some, None, Result, Ok, Err}
+use Rattle.std.specs.Prelude.{◌≡◌, ℕ, ◌≤◌, Bool, true, false, List, take, drop, Option, Some, None, Result, Ok, Err}
 use Rattle.clv_base.specs.declared.logs.LogRecord.{LogRecord}
 use Rattle.clv_base.specs.declared.events.Outcome.{Outcome}
 use Rattle.clv_base.specs.declared.events.Outcome.TheVariants.{Out}
 use Rattle.clv_base.specs.State.{Shard}
+use Rattle.disk_model.specs.Disk.{Rose}
 use Rattle.log_gate.specs.Image.{SpellAll, IsBatch}
 use Rattle.machine_calls.specs.declared.machine.StepError.{StepError}
 use Rattle.machine_calls.specs.declared.flights.Flight.{Flight}
@@ -27,6 +28,7 @@ pub record Leaves {G : Type 0} (t : Shard) (before after : Option G) (o : Outcom
   pub batch : IsBatch f.payload.items
   pub spelled : SpellAll (flying t f.upto) f.payload.items
   pub had : before ≡ Some f.gate
+  pub as_taken : f.as_taken.value ≡ f.gate
   pub has : after ≡ None
 
 -- t is the state after the call; before and after are the gates that the machine has
@@ -34,3 +36,8 @@ abbrev pub Departs : {G : Type 0} → Shard → Option G → Option G → Result
 Departs t before after (Ok (o, Some f)) = Leaves t before after o f
 Departs t before after (Ok (o, None)) = (is_out o ≡ false) × (after ≡ before)
 Departs t before after (Err e) = after ≡ before
+
+-- what the count of the disk says of a push, from the gate's departure on: it stands where all was pushed, and rose where not
+abbrev pub CountsPush : Bool → ℕ → ℕ → Type 0
+CountsPush true before now = now ≡ before
+CountsPush false before now = Rose before now × (before ≤ now)

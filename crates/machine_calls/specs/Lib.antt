@@ -2,3 +2,4 @@ pub mod Events
 pub mod Steps
 pub mod Flights
 pub mod Restored
+pub mod Settled

@@ -1,8 +1,13 @@
 -- What a call of the machine tells of its state before and after it.
-use Rattle.std.specs.Prelude.{◌≡◌, ⊤, ℕ, ◌^◌, ◌-◌, ◌==◌, max, cond, List, [], ◌∷◌, ◌++◌, Option, Some, None, Result, Ok, Err}
+use Rattle.std.specs.Prelude.{◌≡◌, ℕ, ◌^◌, ◌-◌, ◌==◌, max, cond, Bool, true, false, not, List, [], ◌∷◌, ◌++◌, Option, Some, None, Result, Ok, Err}
+use Rattle.clv_base.specs.declared.messages.Message.{Message}
 use Rattle.clv_base.specs.declared.events.Event.{Event}
+use Rattle.clv_base.specs.declared.events.Event.TheVariants.{Drop, Remind}
 use Rattle.clv_base.specs.declared.events.Outcome.{Outcome}
+use Rattle.clv_base.specs.declared.events.Outcome.TheVariants.{Wait, Crowded, Nothing}
 use Rattle.clv_base.specs.declared.events.Entry.{Entry}
+use Rattle.clv_base.specs.Orders.{tx_get}
+use Rattle.clv_base.specs.declared.state.Held.{Held}
 use Rattle.clv_base.specs.State.{Shard}
 use Rattle.clv_base.specs.Events.{CallAnswer, Quiet, Worn as IsWorn, Enters, next_stamp}
 use Rattle.machine_calls.specs.declared.machine.StepError.{StepError}
@@ -17,16 +22,39 @@ pub record Made (answer : CallAnswer) (s : Shard) (clock w : ℕ) (e : Event) (o
   pub entry_is : x ≡ entry (next_stamp s clock e) w e o
   pub journal : t.journal ≡ s.journal ++ x ∷ []
 
+-- the drop of a part that is known and wasn't dropped: the room for its entry was made at the part's first operation
+abbrev pub is_undropped : Option Held → Bool
+is_undropped None = false
+is_undropped (Some h) = not h.is_dropped
+
+abbrev pub is_first_drop : Shard → Event → Bool
+is_first_drop s (Drop tx) = is_undropped (tx_get tx s.local.parts)
+is_first_drop s _ = false
+
+abbrev pub sends_nothing : List Message → Bool
+sends_nothing [] = true
+sends_nothing (m ∷ ms) = false
+
+-- want of memory may stand where an entry is made, but for a first drop's; where an operation waits or is crowded, as that is found with memory; and where a
+-- shard with an empty outbox is to remind, as what is due is listed first. It stands for no other quiet answer, and not where the clock is worn
+abbrev pub may_want_memory : Shard → Event → CallAnswer → Bool
+may_want_memory s e (Enters o t) = not (is_first_drop s e)
+may_want_memory s e (Quiet (Wait younger)) = true
+may_want_memory s e (Quiet (Crowded count)) = true
+may_want_memory s Remind (Quiet Nothing) = sends_nothing s.outbox
+may_want_memory s Remind IsWorn = true
+may_want_memory s e _ = false
+
 -- no entry was made, since the answer is quiet, the clock is worn, or there was no memory
-abbrev pub NoEntry : CallAnswer → Result Outcome StepError → Type 0
-NoEntry answer (Ok o) = answer ≡ Quiet o
-NoEntry answer (Err Memory) = ⊤
-NoEntry answer (Err (Worn at)) = (answer ≡ IsWorn) × (at ≡ 2 ^ 48)
+abbrev pub NoEntry : CallAnswer → Shard → Event → Result Outcome StepError → Type 0
+NoEntry answer s e (Ok o) = answer ≡ Quiet o
+NoEntry answer s e (Err Memory) = may_want_memory s e answer ≡ true
+NoEntry answer s e (Err (Worn at)) = (answer ≡ IsWorn) × (at ≡ 2 ^ 48)
 
 -- what one call tells, where this is the definitions' answer, with the entry that it made, if any
 abbrev pub Tells : CallAnswer → Shard → ℕ → ℕ → Event → Result Outcome StepError → Shard → Option Entry → Type 0
 Tells answer s clock w e r t (Some x) = (o : Outcome) × (r ≡ Ok o) × Made answer s clock w e o t x
-Tells answer s clock w e r t None = NoEntry answer r × (t ≡ s)
+Tells answer s clock w e r t None = NoEntry answer s e r × (t ≡ s)
 
 -- the walker's clock after a call that made no entry: worn for good where the clock is worn
 abbrev pub idle_clock : ℕ → Result Outcome StepError → ℕ

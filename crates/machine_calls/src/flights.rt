@@ -4,15 +4,19 @@ ghost use Rattle.clv_base.specs.declared.events.Entry.{Entry};
 ghost use Rattle.clv_base.specs.declared.events.Event.TheVariants.{FlushOut, FlushIn};
 ghost use Rattle.clv_base.specs.Events.{step, land as lands};
 ghost use Rattle.machine_calls.specs.Steps.{Tells, Made};
-ghost use Rattle.machine_calls.specs.Flights.{outcome_in, Departs};
+ghost use Rattle.machine_calls.specs.Flights.{outcome_in, Departs, CountsPush};
 
 use crate::machine::{Machine, StepError};
 use clv_base::events::Outcome;
+use log_gate::Gate;
 use std::alloc::Global;
+use std::snapshot::Snapshot;
 
 /// A gate on its way, with the bytes of the batch that it is to push: the records up to and without `upto`. It can't be dropped.
 pub struct Flight<G> {
     pub gate: G,
+    /// The gate as it left, for contracts alone.
+    pub as_taken: Snapshot<G>,
     pub payload: Vec<u8>,
     pub upto: u64,
 }
@@ -35,6 +39,9 @@ pub trait Flier: Machine {
         requires flies { (Self.shard self.old).flight ≡ Some flight.upto }
         requires last { (Self.shard self.old).last < 2 ^ 48 }
         requires clock { clock < 2 ^ 48 + 15 }
+
+        // It fails only where the disk did.
+        requires counts { CountsPush pushed (Self.Gate.faults flight.as_taken.value) (Self.Gate.faults flight.gate) }
         ensures told { (made : Entry) × Made (lands (Self.shard self.old) clock walker pushed) (Self.shard self.old) clock walker FlushIn result (Self.shard self.new) made }
         ensures gate { Self.gate self.new ≡ Some flight.gate };
 }

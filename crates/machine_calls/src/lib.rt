@@ -2,11 +2,13 @@
 //! state of the definitions, with its journal, and by the gate that the machine has, if it has it. Whoever puts a machine to use knows these traits alone.
 #![tactic(auto)]
 
+mod disks;
 mod flights;
 mod machine;
 mod making;
 mod restarts;
 
+pub use disks::Reopener;
 pub use flights::{Flier, Flight};
 pub use machine::{Machine, Parts, StepError};
 pub use making::Maker;

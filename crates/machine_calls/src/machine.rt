@@ -1,11 +1,12 @@
 // One event, and what a machine tells of itself.
-ghost use Rattle.std.specs.Prelude.{◌≡◌, ℕ, Option, true, not, IfOk};
+ghost use Rattle.std.specs.Prelude.{◌≡◌, ℕ, Option, true, not, length, IfOk};
 ghost use Rattle.clv_base.specs.declared.events.Entry.{Entry as Made};
 ghost use Rattle.clv_base.specs.State.{Shard};
 ghost use Rattle.clv_base.specs.Events.{step};
 ghost use Rattle.clv_base.specs.Journals.{has_no_equal_active_birth};
 ghost use Rattle.machine_calls.specs.Events.{is_stepped, event_fits, sends_fit};
 ghost use Rattle.machine_calls.specs.Steps.{Tells};
+ghost use Rattle.machine_calls.specs.Settled.{is_settled as is_settled_in};
 
 use clv_base::events::{Entry, Event, Outcome};
 use log_gate::Gate;
@@ -43,14 +44,23 @@ pub trait Machine {
     fn last(&self) -> u64
         ensures { result ≡ (shard self.now).last };
 
+    /// How many entries were made.
+    fn entries(&self) -> usize
+        ensures { result ≡ length (shard self.now).journal };
+
     fn is_down(&self) -> bool
         ensures { result ≡ not (shard self.now).is_up };
 
     fn epoch(&self) -> u64
         ensures { result ≡ (shard self.now).local.epoch };
 
+    /// Whether nothing is left to do here but for active parts: the shard is up, nothing is buffered or in flight, no message is to be sent, no closed part
+    /// is undecided, and each request is decided and acknowledged.
+    fn is_settled(&self) -> bool
+        ensures { result ≡ is_settled_in (shard self.now) };
+
     /// One event, or a quiet answer: any event but those of a flush and a restart. While the shard is up, an operation's birth is that of no other active
-    /// part here.
+    /// part here. The first drop of a part takes no memory.
     fn step(
         &mut self,
         alloc: Global,

@@ -9,9 +9,9 @@ use Rattle.turn_laws.specs.declared.notes.Origin.{Origin}
 use Rattle.turn_laws.specs.Homes.{start}
 use Rattle.turn_laws.specs.Sound.{IsSound}
 
-module _ {G : Type 0} (shut : G → Bool) (faults : G → ℕ) (logs : G → Option (List LogRecord) → Type 0) where
-  pub sound_opened : (o : Origin) (capacity : ℕ) (g : G) → 0 < capacity → shut g ≡ false → faults g ≡ 0 → Only (log_after_restart o.shard o.found.items o.run 0) (logs g) → IsSound shut faults logs o [] capacity (start o) (Some g)
-  sound_opened o capacity g room isnt_shut fine only =
+module _ {G : Type 0} (shut : G → Bool) (faults whose : G → ℕ) (logs : G → Option (List LogRecord) → Type 0) where
+  pub sound_opened : (o : Origin) (capacity : ℕ) (g : G) → 0 < capacity → shut g ≡ false → faults g ≡ 0 → whose g ≡ o.shard → Only (log_after_restart o.shard o.found.items o.run 0) (logs g) → IsSound shut faults whose logs o [] capacity (start o) (Some g)
+  sound_opened o capacity g room isnt_shut fine own only =
       let log = log_after_restart o.shard o.found.items o.run 0 in
       record {
         marked = tt;
@@ -19,6 +19,7 @@ module _ {G : Type 0} (shut : G → Bool) (faults : G → ℕ) (logs : G → Opt
         gated = (
           refl,
           record {
+            own = own;
             counted = record { some = λ h. absurd (both_ways false refl h); none = λ h. fine };
             is_open = λ u. isnt_shut;
             durable = λ u. subst (λ rs. Only rs (logs g)) (sym (take_all (length log) log (omega arith))) only;

@@ -64,12 +64,13 @@ happens_calm s _ (stops u) f k = absurd (both_ways false refl k)
 
 -- what stays of the log, and of what is durable
 pub record Keeps (s t : Shard) : Type 0 where
+  pub shard : t.shard ≡ s.shard
   pub durable : t.durable ≡ s.durable
   pub journal : t.journal ≡ s.journal
   pub grown : IsPrefixOf s.local.log t.local.log
 
 pub does_keep : (s t : Shard) (e : Event) (o : Outcome) → happen s e ≡ Does o t → Keeps s t
-does_keep s t e o h = let p = happens_steps s t (happened s t e o h) in record { durable = p.durable; journal = p.journal; grown = log_only_grows s t e o h }
+does_keep s t e o h = let p = happens_steps s t (happened s t e o h) in record { shard = p.shard; durable = p.durable; journal = p.journal; grown = log_only_grows s t e o h }
 
 pub does_calm : (s t : Shard) (e : Event) (o : Outcome) → happen s e ≡ Does o t → is_flush_out e ≡ false → is_turned e ≡ true → Calm e o s t
 does_calm s t e o h f k = happens_calm s t (happened s t e o h) f k

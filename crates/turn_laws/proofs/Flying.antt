@@ -53,6 +53,7 @@ still_flies w upto s t e m up f own d =
     let p = becomes_calm w upto e.walker s m.state e.event e.outcome m.becomes up f own d in
     let is = m.entered in (
       record {
+        shard = ap (λ u. u.shard) is ∙ p.keeps.shard;
         is_up = ap (λ u. u.is_up) is ∙ p.calm.is_up ∙ up;
         flight = ap (λ u. u.flight) is ∙ p.calm.flight ∙ f;
         durable = ap (λ u. u.durable) is ∙ p.keeps.durable;
@@ -70,7 +71,7 @@ still_flies w upto s t e m up f own d =
 -- what a walker's flush finds as it ends: others had their turns
 pub flight_stays : (s : Shard) (held : Option ℕ) (w upto : ℕ) (later : List Note) → s.is_up ≡ true → s.flight ≡ Some upto → s.last < 2 ^ 48 → MayNotes s held (map told later) → ends_own (Some w) (entries_in later) ≡ true
     → entries_by noter w later ≡ [] → StillFlies upto s (after_notes s (map told later)) × (taker (Some w) (entries_in later) ≡ Some w)
-flight_stays s held w upto [] up f early may own none = (record { is_up = up; flight = f; durable = refl; log = same s.local.log; failed = refl; early = early }, refl)
+flight_stays s held w upto [] up f early may own none = (record { shard = refl; is_up = up; flight = f; durable = refl; log = same s.local.log; failed = refl; early = early }, refl)
 flight_stays s held w upto (Fetched v ∷ ns) up f early may own none = absurd (both_ways s.is_up (may.0).0 up)
 flight_stays s held w upto (Made e log ∷ ns) up f early may own none =
     let first = other_first w (Made e log) ns (e.walker == w) refl none in
@@ -78,7 +79,7 @@ flight_stays s held w upto (Made e log ∷ ns) up f early may own none =
     let p = still_flies w upto s (after_entry log s e) e (may.0).0 up f q.0 first.0 in
     let own2 : ends_own (Some w) (entries_in ns) ≡ true = subst (λ t. ends_own t (entries_in ns) ≡ true) p.1 q.1 in
     let r = flight_stays (after_entry log s e) _ w upto ns p.0.is_up p.0.flight p.0.early may.1 own2 first.1 in (
-      record { is_up = r.0.is_up; flight = r.0.flight; durable = r.0.durable ∙ p.0.durable; log = chain _ _ _ p.0.log r.0.log; failed = r.0.failed ∙ p.0.failed; early = r.0.early },
+      record { shard = r.0.shard ∙ p.0.shard; is_up = r.0.is_up; flight = r.0.flight; durable = r.0.durable ∙ p.0.durable; log = chain _ _ _ p.0.log r.0.log; failed = r.0.failed ∙ p.0.failed; early = r.0.early },
       ap (λ t. taker t (entries_in ns)) p.1 ∙ r.1,
     )
 

@@ -1,5 +1,5 @@
 -- The gate of a shard through each call.
-use Rattle.std.proofs.Common.{◌≡◌, ℕ, ◌<◌, ◌^◌, Bool, true, false, ◌||◌, List, [], ◌∷◌, ◌++◌, take, sym, ap, refl, ◌∙◌, subst, Option, Some, None, Result}
+use Rattle.std.proofs.Common.{◌≡◌, ℕ, ◌<◌, ◌^◌, Bool, true, false, ◌||◌, List, [], ◌∷◌, ◌++◌, take, sym, ap, refl, ◌∙◌, subst, arith, Option, Some, None, Result}
 use Rattle.std.specs.Prelude.{is_some, unwrap_or}
 use Rattle.std.proofs.lemmas.Bool.{both_ways}
 use Rattle.clv_base.specs.declared.logs.LogRecord.{LogRecord}
@@ -47,6 +47,7 @@ away_same s t held u f = ap (λ b. elim b [ true ↦ is_some t.flight | false �
 
 -- the entry that an event of one turn made
 pub record Turning (s t : Shard) (o : Outcome) (x : Entry) : Type 0 where
+  pub shard : t.shard ≡ s.shard
   pub durable : t.durable ≡ s.durable
   pub grown : IsPrefixOf s.local.log t.local.log
   pub up : s.is_up ≡ true
@@ -59,6 +60,7 @@ turning s clock w e o t x h turned free =
     let d = (plainly e turned).does s a.after o a.becomes in
     let k = does_keep s a.after e o d in
     record {
+      shard = ap (λ u. u.shard) a.is ∙ k.shard;
       durable = ap (λ u. u.durable) a.is ∙ k.durable;
       grown = (k.grown.0, k.grown.1 ∙ ap (λ u. u.local.log) (sym a.is));
       up = made_up s clock w e o t h.enters;
@@ -97,9 +99,10 @@ landing s clock w upto pushed o t h up f =
     from_does (next_stamp s clock FlushIn) w FlushIn true (landed s upto pushed) o t
     (sym (ap (λ b. elim b [ true ↦ land_up s clock w pushed s.flight | false ↦ Quiet Down ]) up ∙ ap (land_up s clock w pushed) f) ∙ h)
 
-module _ {G : Type 0} (shut : G → Bool) (faults : G → ℕ) (logs : G → Option (List LogRecord) → Type 0) where
-  fits_still : (s t : Shard) (o : Outcome) (x : Entry) (g : G) → Counted s → Turning s t o x → t.is_up ≡ s.is_up → is_failed o ≡ false → GateFits s (shut g) (faults g) (logs g) → GateFits t (shut g) (faults g) (logs g)
+module _ {G : Type 0} (shut : G → Bool) (faults whose : G → ℕ) (logs : G → Option (List LogRecord) → Type 0) where
+  fits_still : (s t : Shard) (o : Outcome) (x : Entry) (g : G) → Counted s → Turning s t o x → t.is_up ≡ s.is_up → is_failed o ≡ false → GateFits s (shut g) (faults g) (whose g) (logs g) → GateFits t (shut g) (faults g) (whose g) (logs g)
   fits_still s t o x g c k u fine f = record {
+    own = f.own ∙ sym k.shard;
     counted = counted_same s.journal t.journal (faults g) (no_failure s.journal t.journal x o k.journal k.outcome fine) f.counted;
     is_open = λ h. f.is_open k.up;
     durable = λ h. subst (λ z. Only z (logs g)) (sym (durable_stays s t c k.durable k.grown)) (f.durable k.up);
@@ -108,31 +111,31 @@ module _ {G : Type 0} (shut : G → Bool) (faults : G → ℕ) (logs : G → Opt
 
   -- an event that isn't of a flush
   pub gate_step : (o : Origin) (notes : List Note) (s : Shard) (clock w : ℕ) (e : Event) (r : Result Outcome StepError) (t : Shard) (x : Option Entry) (held : Option ℕ) (gate : Option G) → IsLegal o notes s
-      → Tells (step s clock w e) s clock w e r t x → is_turned e ≡ true → is_flush_out e ≡ false → IsFree s e → GateStands shut faults logs s held gate → GateStands shut faults logs t held gate
-  gate_step o notes s clock w e r t None held gate l h turned out free g = subst (λ u. GateStands shut faults logs u held gate) (sym h.1) g
+      → Tells (step s clock w e) s clock w e r t x → is_turned e ≡ true → is_flush_out e ≡ false → IsFree s e → GateStands shut faults whose logs s held gate → GateStands shut faults whose logs t held gate
+  gate_step o notes s clock w e r t None held gate l h turned out free g = subst (λ u. GateStands shut faults whose logs u held gate) (sym h.1) g
   gate_step o notes s clock w e r t (Some x) held None l h turned out free g = let q = quietly s clock w e h.0 t x h.2 turned out free in away_same s t held q.is_up q.flight ∙ g
   gate_step o notes s clock w e r t (Some x) held (Some gate) l h turned out free g =
       let q = quietly s clock w e h.0 t x h.2 turned out free in
       (away_same s t held q.is_up q.flight ∙ g.0, fits_still s t h.0 x gate (legal_counted o notes s l) (turning s clock w e h.0 t x h.2 turned free) q.is_up q.fine g.1)
 
   -- the start of a flush
-  pub gate_leaves : (s : Shard) (clock w : ℕ) (o : Outcome) (t : Shard) (x : Entry) (held : Option ℕ) → IsMade (step s clock w FlushOut) s clock w FlushOut o t x → GateStands shut faults logs t held None
+  pub gate_leaves : (s : Shard) (clock w : ℕ) (o : Outcome) (t : Shard) (x : Entry) (held : Option ℕ) → IsMade (step s clock w FlushOut) s clock w FlushOut o t x → GateStands shut faults whose logs t held None
   gate_leaves s clock w o t x held h =
       let f = departing s clock w o t x h in ap (λ b. elim b [ true ↦ is_some t.flight | false ↦ is_some held ]) f.is_up ∙ ap is_some f.flight
 
   -- the gate of a shard that is up, with nothing in flight
-  pub gate_home : (s : Shard) (held : Option ℕ) (g : G) → s.is_up ≡ true → s.flight ≡ None → GateFits s (shut g) (faults g) (logs g) → GateStands shut faults logs s held (Some g)
+  pub gate_home : (s : Shard) (held : Option ℕ) (g : G) → s.is_up ≡ true → s.flight ≡ None → GateFits s (shut g) (faults g) (whose g) (logs g) → GateStands shut faults whose logs s held (Some g)
   gate_home s held g u f k = (ap (λ b. elim b [ true ↦ is_some s.flight | false ↦ is_some held ]) u ∙ ap is_some f, k)
 
   -- of one that is down, whose disk no walker has
-  pub gate_kept : (s : Shard) (g : G) → s.is_up ≡ false → GateFits s (shut g) (faults g) (logs g) → GateStands shut faults logs s None (Some g)
+  pub gate_kept : (s : Shard) (g : G) → s.is_up ≡ false → GateFits s (shut g) (faults g) (whose g) (logs g) → GateStands shut faults whose logs s None (Some g)
   gate_kept s g d k = (ap (λ b. elim b [ true ↦ is_some s.flight | false ↦ false ]) d, k)
 
   -- ---- the end of a flush
 
-  pub gate_lands : (o : Origin) (notes : List Note) (s : Shard) (clock w upto : ℕ) (pushed : Bool) (out : Outcome) (t : Shard) (x : Entry) (g : G) → IsLegal o notes s
-      → IsMade (land s clock w pushed) s clock w FlushIn out t x → Landable pushed s upto (shut g) (faults g) (logs g) → GateStands shut faults logs t None (Some g)
-  gate_lands o notes s clock w upto true out t x g l h f =
+  pub gate_lands : (o : Origin) (notes : List Note) (s : Shard) (clock w upto at_departure : ℕ) (pushed : Bool) (out : Outcome) (t : Shard) (x : Entry) (g : G) → IsLegal o notes s
+      → IsMade (land s clock w pushed) s clock w FlushIn out t x → Landable pushed s upto at_departure (shut g) (faults g) (whose g) (logs g) → GateStands shut faults whose logs t None (Some g)
+  gate_lands o notes s clock w upto at_departure true out t x g l h f =
       let n = landing s clock w upto true out t h.enters f.up f.flies in
       let is : t ≡ with_entry (next_stamp s clock FlushIn) w FlushIn out (finish (with_durable upto s)) = n.is ∙ ap (with_entry (next_stamp s clock FlushIn) w FlushIn out) (sym (does_after n.does)) in
       let p = framed_finish (with_durable upto s) in
@@ -141,6 +144,7 @@ module _ {G : Type 0} (shut : G → Bool) (faults : G → ℕ) (logs : G → Opt
       let up : t.is_up ≡ true = ap (λ u. u.is_up) is ∙ p.is_up ∙ f.up in
       gate_home t None g up (ap (λ u. u.flight) is ∙ p.flight)
       (record {
+        own = f.own ∙ sym (ap (λ u. u.shard) is ∙ p.shard);
         counted = counted_same s.journal t.journal (faults g) (no_failure s.journal t.journal x (Durable upto) h.journal (ap (λ y. y.outcome) h.entry_is ∙ sym (does_outcome n.does)) refl) f.as_pushed.1;
         is_open = λ u. f.as_pushed.0;
         durable = λ u. subst (λ z. Only z (logs g))
@@ -148,7 +152,7 @@ module _ {G : Type 0} (shut : G → Bool) (faults : G → ℕ) (logs : G → Opt
             ∙ sym (ap durable_records is ∙ take_grown upto (finish (with_durable upto s)).durable s.local.log (finish (with_durable upto s)).local.log k.1 p.durable grown)) f.as_pushed.2;
         either = λ d. absurd (both_ways t.is_up d up);
       })
-  gate_lands o notes s clock w upto false out t x g l h f =
+  gate_lands o notes s clock w upto at_departure false out t x g l h f =
       let n = landing s clock w upto false out t h.enters f.up f.flies in
       let is : t ≡ with_entry (next_stamp s clock FlushIn) w FlushIn out (put_down s) = n.is ∙ ap (with_entry (next_stamp s clock FlushIn) w FlushIn out) (sym (does_after n.does)) in
       let down : t.is_up ≡ false = ap (λ u. u.is_up) is in
@@ -156,10 +160,11 @@ module _ {G : Type 0} (shut : G → Bool) (faults : G → ℕ) (logs : G → Opt
       let failed : has_failed t.journal ≡ true = ap has_failed h.journal ∙ failed_append s.journal x ∙ or_last (has_failed s.journal) (is_failed x.outcome) fails in
       gate_kept t g down
       (record {
-        counted = record { some = λ e. f.as_pushed.0; none = λ e. absurd (both_ways (has_failed t.journal) e failed) };
+        own = f.own ∙ sym (ap (λ u. u.shard) is);
+        counted = record { some = λ e. (let k = f.counts.0 in omega arith); none = λ e. absurd (both_ways (has_failed t.journal) e failed) };
         is_open = λ u. absurd (both_ways t.is_up down u);
         durable = λ u. absurd (both_ways t.is_up down u);
-        either = λ d. subst (λ u. OnlyOrMore (durable_records u) (flying_records u) (logs g)) (sym is) f.as_pushed.1;
+        either = λ d. subst (λ u. OnlyOrMore (durable_records u) (flying_records u) (logs g)) (sym is) f.as_pushed;
       })
 
 -- the shard and the run stay

@@ -73,10 +73,10 @@ pub holder_step : (notes : List Note) (s t : Shard) (answer : _) (clock w : ℕ)
 holder_step notes s t answer clock w e r None h turned = ap holder_of (append-nil notes)
 holder_step notes s t answer clock w e r (Some y) h turned = holder_plain notes y (ap ends_holding (made_event answer s t clock w e r (Some y) h y refl) ∙ no_restart e turned)
 
-module _ {G : Type 0} (shut : G → Bool) (faults : G → ℕ) (logs : G → Option (List LogRecord) → Type 0) where
+module _ {G : Type 0} (shut : G → Bool) (faults whose : G → ℕ) (logs : G → Option (List LogRecord) → Type 0) where
   -- an event of one call
-  pub sound_step : (o : Origin) (marks : List Mark) (capacity : ℕ) (s : Shard) (gate : Option G) (clock w : ℕ) (e : Event) (r : Result Outcome StepError) (t : Shard) (x : Option Entry) → IsSound shut faults logs o marks capacity s gate
-      → Tells (step s clock w e) s clock w e r t x → is_single e ≡ true → IsFree s e → is_named w e ≡ true → IsSound shut faults logs o marks capacity t gate
+  pub sound_step : (o : Origin) (marks : List Mark) (capacity : ℕ) (s : Shard) (gate : Option G) (clock w : ℕ) (e : Event) (r : Result Outcome StepError) (t : Shard) (x : Option Entry) → IsSound shut faults whose logs o marks capacity s gate
+      → Tells (step s clock w e) s clock w e r t x → is_single e ≡ true → IsFree s e → is_named w e ≡ true → IsSound shut faults whose logs o marks capacity t gate
   sound_step o marks capacity s gate clock w e r t x l h single free named =
       let k = singly e single in
       let notes = notes_of s.journal marks in
@@ -85,6 +85,6 @@ module _ {G : Type 0} (shut : G → Bool) (faults : G → ℕ) (logs : G → Opt
       record {
         marked = n.1;
         legal = subst (λ ns. IsLegal o ns t) (sym n.0) (legal_step o notes s clock w e r t x l.legal h k.turned free named);
-        gated = subst (λ y. GateStands shut faults logs t y gate) (sym held) (gate_step shut faults logs o notes s clock w e r t x (holder_of notes) gate l.legal h k.turned k.no_flush free l.gated);
+        gated = subst (λ y. GateStands shut faults whose logs t y gate) (sym held) (gate_step shut faults whose logs o notes s clock w e r t x (holder_of notes) gate l.legal h k.turned k.no_flush free l.gated);
         room = λ y. l.room (sym held ∙ y);
       }

@@ -3,6 +3,8 @@ pub use Rattle.journal_laws.proofs.Viewing.{own_entries_go_on, views_are_legal}
 pub use Rattle.journal_laws.proofs.Noting.{notes_are_runs}
 pub use Rattle.journal_laws.proofs.Walking.{walkers_go_on, others_keep_sessions, walkers_begin}
 pub use Rattle.journal_laws.proofs.Offering.{each_outcome_goes_on}
+pub use Rattle.history_laws.proofs.Durability.{framed_finish}
+pub use Rattle.turn_laws.proofs.Calm.{does_calm, failed_append}
 pub use Rattle.turn_laws.proofs.Marking.{entry_last, fetch_last, left_last}
 pub use Rattle.turn_laws.proofs.Legal.{entries_append, legal_land, legal_step, legal_fetched, legal_restart, land_makes, from_does}
 pub use Rattle.turn_laws.proofs.Gating.{legal_counted, legal_shard, legal_run, legal_early, gate_lands, gate_leaves, gate_home, gate_kept, departing, turning, durable_stays, landing, counted_same}
@@ -15,3 +17,4 @@ pub use Rattle.turn_laws.proofs.Turning.{still_free, still_flying, clock_is, abo
 pub use Rattle.turn_laws.proofs.Pushing.{pushes, both_records}
 pub use Rattle.turn_laws.proofs.Leaving.{fits_leaves, none_stops, gate_at_home}
 pub use Rattle.turn_laws.proofs.Beginning.{sound_opened}
+pub use Rattle.turn_laws.proofs.Fetching.{down_failed, held_rests, gate_of_down, sound_fetched, down_disk}

@@ -29,8 +29,8 @@ whole s c =
     let m = unwrap_or s.flight s.durable in
     ap (λ z. z ++ flying_records s) (sym (take-take s.durable m s.local.log (at_least s s.flight c refl))) ∙ take-append-drop s.durable (take m s.local.log)
 
-pub fits_leaves : (o : Origin) (notes : List Note) (s : Shard) (shut : Bool) (faults : ℕ) (logs : Option (List LogRecord) → Type 0) → IsLegal o notes s → GateFits s shut faults logs → (log : List LogRecord) → logs (Some log) → MayLeave s log
-fits_leaves o notes s shut faults logs l f log is = at s.is_up refl
+pub fits_leaves : (o : Origin) (notes : List Note) (s : Shard) (shut : Bool) (faults whose : ℕ) (logs : Option (List LogRecord) → Type 0) → IsLegal o notes s → GateFits s shut faults whose logs → (log : List LogRecord) → logs (Some log) → MayLeave s log
+fits_leaves o notes s shut faults whose logs l f log is = at s.is_up refl
   where
     at : (b : Bool) → s.is_up ≡ b → MayLeave s log
     at true u = (false, inl (some_same (f.durable u (Some log) is)))
@@ -58,6 +58,6 @@ none_stops t (e ∷ es) h =
     and_from (not (is_stop e.event)) (never_stops es) (no_stop t e.walker e.event p.0) (none_stops (taker_after t e.walker e.event) es p.1)
 
 -- a gate that is at home in a value of a lock
-pub gate_at_home : {G : Type 0} (shut : G → Bool) (faults : G → ℕ) (logs : G → Option (List LogRecord) → Type 0) (s : Shard) (held : Option ℕ) (gate : Option G) (g : G) → GateStands shut faults logs s held gate → gate ≡ Some g
-    → GateFits s (shut g) (faults g) (logs g)
-gate_at_home shut faults logs s held gate g h is = (subst (GateStands shut faults logs s held) is h).1
+pub gate_at_home : {G : Type 0} (shut : G → Bool) (faults whose : G → ℕ) (logs : G → Option (List LogRecord) → Type 0) (s : Shard) (held : Option ℕ) (gate : Option G) (g : G) → GateStands shut faults whose logs s held gate → gate ≡ Some g
+    → GateFits s (shut g) (faults g) (whose g) (logs g)
+gate_at_home shut faults whose logs s held gate g h is = (subst (GateStands shut faults whose logs s held) is h).1

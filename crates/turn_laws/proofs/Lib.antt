@@ -12,4 +12,5 @@ pub mod Departing
 pub mod Pushing
 pub mod Leaving
 pub mod Beginning
+pub mod Fetching
 pub mod Laws

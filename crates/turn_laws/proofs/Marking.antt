@@ -21,10 +21,10 @@ left_more log (x ∷ xs) e l = ap (λ z. Made x log ∷ z) (plain_last xs e)
 entry_on : (es : List Entry) (ms : List Mark) (e : Entry) → stands_in es ms → noted (es ++ e ∷ []) ms ≡ noted es ms ++ plain e ∷ []
 entry_on es [] e l = plain_last es e
 entry_on es (Left at log ∷ ms) e l =
-    ap (λ z. noted z ms ++ with_left log.value.items (drop at (es ++ e ∷ []))) (take-append-le at es (e ∷ []) (omega arith))
-    ∙ ap (λ z. noted (take at es) ms ++ with_left log.value.items z) (drop-append-le at es (e ∷ []) (omega arith))
-    ∙ ap (λ z. noted (take at es) ms ++ z) (left_more log.value.items (drop at es) e (let k = length-drop at es in omega arith))
-    ∙ sym (append_assoc (noted (take at es) ms) (with_left log.value.items (drop at es)) (plain e ∷ []))
+    ap (λ z. noted z ms ++ with_left log.value.records (drop at (es ++ e ∷ []))) (take-append-le at es (e ∷ []) (omega arith))
+    ∙ ap (λ z. noted (take at es) ms ++ with_left log.value.records z) (drop-append-le at es (e ∷ []) (omega arith))
+    ∙ ap (λ z. noted (take at es) ms ++ z) (left_more log.value.records (drop at es) e (let k = length-drop at es in omega arith))
+    ∙ sym (append_assoc (noted (take at es) ms) (with_left log.value.records (drop at es)) (plain e ∷ []))
 entry_on es (FetchedAt at w ∷ ms) e l =
     ap (λ z. noted z ms ++ Fetched w ∷ map plain (drop at (es ++ e ∷ []))) (take-append-le at es (e ∷ []) l)
     ∙ ap (λ z. noted (take at es) ms ++ Fetched w ∷ map plain z) (drop-append-le at es (e ∷ []) l)
@@ -61,8 +61,8 @@ pub left_last : (es : List Entry) (marks : List Mark) (e : Entry) (m : Mark) (lo
 left_last es marks e (FetchedAt at w) log h = absurd h
 left_last es marks e (Left at l) log h = (
   ap (noted (es ++ e ∷ [])) (newest marks (Left at l))
-      ∙ ap (λ z. noted z (reverse marks) ++ with_left l.value.items (drop at (es ++ e ∷ []))) (take_at es (e ∷ []) at (sym h.0))
-      ∙ ap (λ z. noted es (reverse marks) ++ with_left l.value.items z) (drop_at es (e ∷ []) at (sym h.0))
+      ∙ ap (λ z. noted z (reverse marks) ++ with_left l.value.records (drop at (es ++ e ∷ []))) (take_at es (e ∷ []) at (sym h.0))
+      ∙ ap (λ z. noted es (reverse marks) ++ with_left l.value.records z) (drop_at es (e ∷ []) at (sym h.0))
       ∙ ap (λ z. noted es (reverse marks) ++ Made e z ∷ []) h.1,
   subst (stands_in (es ++ e ∷ [])) (sym (newest marks (Left at l))) (let k = length-append es (e ∷ []) in let a = h.0 in omega arith),
 )

@@ -2,7 +2,7 @@
 use Rattle.std.specs.Prelude.{◌≡◌, ℕ, Bool, true, false, not, ◌&&◌, ◌==◌, List, [], ◌∷◌, map, Option, Some, None}
 use Rattle.std.specs.List.{list_all, list_any}
 use Rattle.clv_base.specs.declared.events.Event.{Event}
-use Rattle.clv_base.specs.declared.events.Event.TheVariants.{Op, FlushOut, FlushIn, Stop, Restart}
+use Rattle.clv_base.specs.declared.events.Event.TheVariants.{Op, Drop, FlushOut, FlushIn, Stop, Restart}
 use Rattle.clv_base.specs.declared.events.Outcome.{Outcome}
 use Rattle.clv_base.specs.declared.events.Outcome.TheVariants.{Failed}
 use Rattle.clv_base.specs.declared.events.Entry.{Entry}
@@ -71,9 +71,10 @@ is_turned _ = true
 
 -- ---- births
 
--- an operation's birth bears its walker's number
+-- an operation's birth bears its walker's number, and so does the transaction of a drop
 abbrev pub is_named : ℕ → Event → Bool
 is_named w (Op tx birth nth seen op) = birth.session == w
+is_named w (Drop tx) = tx.session == w
 is_named w _ = true
 
 abbrev pub all_named : List Entry → Bool
@@ -105,7 +106,7 @@ never_stops es = list_all (λ e. not (is_stop e.event)) es
 -- ---- what holds
 
 -- s is the state that the notes of a shard of this origin tell, and its journal has their entries. They may be made one after another; each flush is ended by
--- who took the gate, nothing stops the shard, and each operation's birth bears its walker's number
+-- who took the gate, nothing stops the shard, and each operation's birth and each transaction that is dropped bears its walker's number
 pub record IsLegal (o : Origin) (notes : List Note) (s : Shard) : Type 0 where
   pub may : MayNotes (start o) None (map told notes)
   pub is : s ≡ state_of o notes

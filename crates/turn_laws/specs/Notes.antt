@@ -33,7 +33,7 @@ with_left log (e ∷ es) = Made e log ∷ map plain es
 -- the newest mark first
 abbrev pub noted : List Entry → List Mark → List Note
 noted es [] = map plain es
-noted es (Left at log ∷ ms) = noted (take at es) ms ++ with_left log.value.items (drop at es)
+noted es (Left at log ∷ ms) = noted (take at es) ms ++ with_left log.value.records (drop at es)
 noted es (FetchedAt at w ∷ ms) = noted (take at es) ms ++ Fetched w ∷ map plain (drop at es)
 
 abbrev pub notes_of : List Entry → List Mark → List Note
@@ -50,5 +50,5 @@ AreMarksOf es marks = stands_in es (reverse marks)
 
 -- it tells that the next entry's restart left this log
 abbrev pub IsLeft : ℕ → List LogRecord → Mark → Type 0
-IsLeft count log (Left at left) = (at ≡ count) × (left.value.items ≡ log)
+IsLeft count log (Left at left) = (at ≡ count) × (left.value.records ≡ log)
 IsLeft count log (FetchedAt at w) = ⊥

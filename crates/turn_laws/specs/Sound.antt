@@ -8,10 +8,10 @@ use Rattle.turn_laws.specs.Notes.{notes_of, AreMarksOf}
 use Rattle.turn_laws.specs.Homes.{holder_of, IsLegal}
 use Rattle.turn_laws.specs.Gates.{GateStands}
 
-module _ {G : Type 0} (shut : G → Bool) (faults : G → ℕ) (logs : G → Option (List LogRecord) → Type 0) where
+module _ {G : Type 0} (shut : G → Bool) (faults whose : G → ℕ) (logs : G → Option (List LogRecord) → Type 0) where
   -- its state is the one that its notes tell, its gate is as it should be, and there is room for the mark of a walker that takes the disk
   pub record IsSound (o : Origin) (marks : List Mark) (capacity : ℕ) (s : Shard) (gate : Option G) : Type 0 where
     pub marked : AreMarksOf s.journal marks
     pub legal : IsLegal o (notes_of s.journal marks) s
-    pub gated : GateStands shut faults logs s (holder_of (notes_of s.journal marks)) gate
+    pub gated : GateStands shut faults whose logs s (holder_of (notes_of s.journal marks)) gate
     pub room : holder_of (notes_of s.journal marks) ≡ None → length marks < capacity

@@ -1,6 +1,7 @@
 // What a shard's lock takes for an entry.
 use clv_base::events::Entry;
 use clv_base::logs::LogRecord;
+use log_buffer::LogBuffer;
 use std::collections::LinkedList;
 use std::snapshot::Snapshot;
 
@@ -32,7 +33,7 @@ pub enum Mark {
     /// The next entry is a restart's, and this is the log that it left.
     Left {
         at: usize,
-        log: Snapshot<Vec<LogRecord>>,
+        log: Snapshot<LogBuffer<LogRecord>>,
     },
     /// The walker took the disk.
     Fetched {

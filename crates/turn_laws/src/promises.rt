@@ -5,17 +5,17 @@ use log_gate::Gate;
 
 /// What holds of a value in a lock (its state is the one that its notes tell, and its gate stands as it should) holds where a shard was opened.
 pub fn openings_are_sound<G: Gate>()
-    ensures { OpeningsAreSound G.is_shut G.faults G.logs }
+    ensures { OpeningsAreSound G.is_shut G.faults G.shard G.logs }
 {}
 
 /// An event of one call keeps it.
 pub fn events_are_sound<G: Gate>()
-    ensures { EventsAreSound G.is_shut G.faults G.logs }
+    ensures { EventsAreSound G.is_shut G.faults G.shard G.logs }
 {}
 
 /// So does the end of a flush, by whoever took the gate.
 pub fn landings_are_sound<G: Gate>()
-    ensures { LandingsAreSound G.is_shut G.faults G.logs }
+    ensures { LandingsAreSound G.is_shut G.faults G.shard G.logs }
 {}
 
 /// A walker that takes the disk of a shard that is down goes on what was noted.
@@ -40,5 +40,5 @@ pub fn births_stay_free()
 
 /// Each log that a gate at home may have is one that the shard may leave.
 pub fn gates_may_be_left<G: Gate>()
-    ensures { GatesMayBeLeft G.is_shut G.faults G.logs }
+    ensures { GatesMayBeLeft G.is_shut G.faults G.shard G.logs }
 {}

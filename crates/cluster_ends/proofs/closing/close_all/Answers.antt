@@ -46,6 +46,6 @@ loop-i-preserved g c = let inv = c.loop-i.invariant in let low = c.loop-i-test.t
           (pushed_each (λ a z. (m : _) → a + m + 1 ≡ c.len-count.result → ClosedAt W.items m z.origin (notes_of (g.M.Machine.shard z.machine).journal z.marks.items)) c.loop-i.homes.items c.close_last.result i (omega arith) inv.done
           (λ m at. closed_same c.loop-i.walkers.items W.items m c.close_last.result.origin (notes_of (g.M.Machine.shard c.close_last.result.machine).journal c.close_last.result.marks.items) (omega arith) (λ k d l. inv.numbers k d (omega arith))
           (λ k d l. inv.passes k d m None (omega arith) (omega arith)) (ends.closed m (omega arith))) j d l);
-      sound = λ j d l. subst (λ z. IsSound g.M.Gate.Gate.is_shut g.M.Gate.Gate.faults g.M.Gate.Gate.logs (get_or z j d).origin (get_or z j d).marks.items (vec_capacity (get_or z j d).marks) (g.M.Machine.shard (get_or z j d).machine) (g.M.Machine.gate (get_or z j d).machine)) (sym c.push_reserved.ensures.items)
-          (pushed_each (λ a z. IsSound g.M.Gate.Gate.is_shut g.M.Gate.Gate.faults g.M.Gate.Gate.logs z.origin z.marks.items (vec_capacity z.marks) (g.M.Machine.shard z.machine) (g.M.Machine.gate z.machine)) c.loop-i.homes.items c.close_last.result i (omega arith) inv.sound ends.sound j d l);
+      sound = λ j d l. subst (λ z. IsSound g.M.Gate.Gate.is_shut g.M.Gate.Gate.faults g.M.Gate.Gate.shard g.M.Gate.Gate.logs (get_or z j d).origin (get_or z j d).marks.items (vec_capacity (get_or z j d).marks) (g.M.Machine.shard (get_or z j d).machine) (g.M.Machine.gate (get_or z j d).machine)) (sym c.push_reserved.ensures.items)
+          (pushed_each (λ a z. IsSound g.M.Gate.Gate.is_shut g.M.Gate.Gate.faults g.M.Gate.Gate.shard g.M.Gate.Gate.logs z.origin z.marks.items (vec_capacity z.marks) (g.M.Machine.shard z.machine) (g.M.Machine.gate z.machine)) c.loop-i.homes.items c.close_last.result i (omega arith) inv.sound ends.sound j d l);
     }

@@ -16,5 +16,5 @@ invariant-loop-i g l = record {
   numbers : (k : ℕ) (d : _) → k < vec_len l.walkers → (get_or l.walkers.items k d).number ≡ (get_or l.initial.walkers.items k d).number;
   passes : (k : ℕ) (d : _) (m : ℕ) (o : _) → k < vec_len l.walkers → m + l._i < l.count → get_or (get_or l.walkers.items k d).passes.items m o ≡ get_or (get_or l.initial.walkers.items k d).passes.items m o;
   done : (j : ℕ) (d : _) → j < l._i → (m : ℕ) → j + m + 1 ≡ l.count → ClosedAt l.initial.walkers.items m (get_or l.homes.items j d).origin (notes_of (g.M.Machine.shard (get_or l.homes.items j d).machine).journal (get_or l.homes.items j d).marks.items);
-  sound : (j : ℕ) (d : _) → j < l._i → IsSound g.M.Gate.Gate.is_shut g.M.Gate.Gate.faults g.M.Gate.Gate.logs (get_or l.homes.items j d).origin (get_or l.homes.items j d).marks.items (vec_capacity (get_or l.homes.items j d).marks) (g.M.Machine.shard (get_or l.homes.items j d).machine) (g.M.Machine.gate (get_or l.homes.items j d).machine);
+  sound : (j : ℕ) (d : _) → j < l._i → IsSound g.M.Gate.Gate.is_shut g.M.Gate.Gate.faults g.M.Gate.Gate.shard g.M.Gate.Gate.logs (get_or l.homes.items j d).origin (get_or l.homes.items j d).marks.items (vec_capacity (get_or l.homes.items j d).marks) (g.M.Machine.shard (get_or l.homes.items j d).machine) (g.M.Machine.gate (get_or l.homes.items j d).machine);
 }

@@ -24,7 +24,7 @@ touch_down-pass-requires-clause-pass g c = let t = c.requires.walker.walks.are_p
 pub touch_down-pass-requires-clause-away : goal.touch_down-pass-requires-clause-away
 touch_down-pass-requires-clause-away g c = let a = c.requires.away in let is : c.take.result ≡ Some a.0 = c.take.ensures.value ∙ (c.index_mut.ensures.value ∙ a.1 c.index_mut.result.now) in
     let same : a.0 ≡ c.unwrap-pass.result = ap (the a.0) (sym is ∙ c.unwrap-pass.ensures) in
-    subst (λ p. Away c.args.walker.now.number (λ s. Landable c.args.pushed s c.args.flight.upto (g.M.Gate.Gate.is_shut c.args.flight.gate) (g.M.Gate.Gate.faults c.args.flight.gate) (g.M.Gate.Gate.logs c.args.flight.gate)) p) same a.2
+    subst (λ p. Away c.args.walker.now.number (λ s. Landable c.args.pushed s c.args.flight.upto (g.M.Gate.Gate.faults c.args.flight.as_taken.value) (g.M.Gate.Gate.is_shut c.args.flight.gate) (g.M.Gate.Gate.faults c.args.flight.gate) (g.M.Gate.Gate.shard c.args.flight.gate) (g.M.Gate.Gate.logs c.args.flight.gate)) p) same a.2
 
 pub returns : goal.returns
 returns g c = let w = c.args.walker.now in let sh = c.args.shards.now in let locks = sh.locks.items in let n = c.args.shard in let low = c.requires.shard in let is_walker = c.requires.walker in let r = c.touch_down-pass.result in

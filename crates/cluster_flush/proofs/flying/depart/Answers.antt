@@ -40,5 +40,5 @@ returns g c = let w = c.args.walker.now in let sh = c.args.shards.now in let loc
         (refl, refl),
       );
       walked = subst (λ ps. Walked told n w.number w.passes.items ps) twice h.1;
-      flight = flight_taken g.M.Gate.Gate.is_shut g.M.Gate.Gate.faults g.M.Gate.Gate.logs n w.number r.1 _ r.0 r.2 (λ d. subst (λ ps. get_or ps n d ≡ Some r.0) twice (get_or-set_same w.passes.items n (Some r.0) d long)) c.take_off-pass.ensures.flight;
+      flight = flight_taken g.M.Gate.Gate.is_shut g.M.Gate.Gate.faults g.M.Gate.Gate.shard g.M.Gate.Gate.logs n w.number r.1 _ r.0 r.2 (λ d. subst (λ ps. get_or ps n d ≡ Some r.0) twice (get_or-set_same w.passes.items n (Some r.0) d long)) c.take_off-pass.ensures.flight;
     }

@@ -41,9 +41,9 @@ leave-pass-requires-clause-sound g c = let a = c.requires.away in let home = c.e
     let legal = subst (λ o. IsLegal o (seen c.args.pass) a.s) (some_inj a.origin home.origin (sym a.has_origin ∙ c.enter-turn.ensures.origin)) a.s_is in
     let f = still_flying home.origin a.s s c.args.walker flight.upto (seen c.args.pass) (notes_of s.journal home.marks.items) legal c.enter-turn.ensures.sound.legal
     (subst (λ w. GrownByOthers noter w (seen c.args.pass) (notes_of s.journal home.marks.items)) c.requires.pass.1 c.enter-turn.ensures.grown) a.holds.up a.holds.flies a.early a.taken in
-    let ready = still_landable g.M.Gate.Gate.is_shut g.M.Gate.Gate.faults g.M.Gate.Gate.logs home.origin (seen c.args.pass) c.args.pushed a.s s flight.upto flight.gate legal f.0 a.holds in
-    subst (λ y. IsSound g.M.Gate.Gate.is_shut g.M.Gate.Gate.faults g.M.Gate.Gate.logs home.origin home.marks.items (vec_capacity home.marks) u y) (sym c.land.ensures.gate)
-    (sound_lands g.M.Gate.Gate.is_shut g.M.Gate.Gate.faults g.M.Gate.Gate.logs home.origin home.marks.items (vec_capacity home.marks) s (g.M.Machine.gate home.machine) c.args.clock c.args.walker flight.upto c.args.pushed c.land.result u
+    let ready = still_landable g.M.Gate.Gate.is_shut g.M.Gate.Gate.faults g.M.Gate.Gate.shard g.M.Gate.Gate.logs home.origin (seen c.args.pass) c.args.pushed a.s s flight.upto (g.M.Gate.Gate.faults flight.as_taken.value) flight.gate legal f.0 a.holds in
+    subst (λ y. IsSound g.M.Gate.Gate.is_shut g.M.Gate.Gate.faults g.M.Gate.Gate.shard g.M.Gate.Gate.logs home.origin home.marks.items (vec_capacity home.marks) u y) (sym c.land.ensures.gate)
+    (sound_lands g.M.Gate.Gate.is_shut g.M.Gate.Gate.faults g.M.Gate.Gate.shard g.M.Gate.Gate.logs home.origin home.marks.items (vec_capacity home.marks) s (g.M.Machine.gate home.machine) c.args.clock c.args.walker flight.upto (g.M.Gate.Gate.faults flight.as_taken.value) c.args.pushed c.land.result u
     c.land.ensures.told.0 flight.gate c.enter-turn.ensures.sound c.land.ensures.told.1 ready f.0.early c.requires.clock f.1)
 
 pub tell-requires-clause-found : goal.tell-requires-clause-found
@@ -65,8 +65,8 @@ returns-clause-turned g c = let t = c.enter-turn.ensures.turn in let h = c.land.
     let others = subst (λ w. GrownByOthers noter w (seen c.args.pass) before) c.requires.pass.1 c.enter-turn.ensures.grown in
     let f = still_flying home.origin a.s s c.args.walker flight.upto (seen c.args.pass) before legal c.enter-turn.ensures.sound.legal others a.holds.up a.holds.flies a.early a.taken in
     let m = land_is s c.args.clock c.args.walker flight.upto c.args.pushed c.land.result u h.0 h.1 f.0.is_up f.0.flight in
-    let ready = still_landable g.M.Gate.Gate.is_shut g.M.Gate.Gate.faults g.M.Gate.Gate.logs home.origin (seen c.args.pass) c.args.pushed a.s s flight.upto flight.gate legal f.0 a.holds in
-    let k = sound_lands g.M.Gate.Gate.is_shut g.M.Gate.Gate.faults g.M.Gate.Gate.logs home.origin home.marks.items (vec_capacity home.marks) s (g.M.Machine.gate home.machine) c.args.clock c.args.walker flight.upto c.args.pushed c.land.result u
+    let ready = still_landable g.M.Gate.Gate.is_shut g.M.Gate.Gate.faults g.M.Gate.Gate.shard g.M.Gate.Gate.logs home.origin (seen c.args.pass) c.args.pushed a.s s flight.upto (g.M.Gate.Gate.faults flight.as_taken.value) flight.gate legal f.0 a.holds in
+    let k = sound_lands g.M.Gate.Gate.is_shut g.M.Gate.Gate.faults g.M.Gate.Gate.shard g.M.Gate.Gate.logs home.origin home.marks.items (vec_capacity home.marks) s (g.M.Machine.gate home.machine) c.args.clock c.args.walker flight.upto (g.M.Gate.Gate.faults flight.as_taken.value) c.args.pushed c.land.result u
     h.0 flight.gate c.enter-turn.ensures.sound h.1 ready f.0.early c.requires.clock f.1 in
     let n = notes_step s u home.marks.items (Some h.0) h.1.journal c.enter-turn.ensures.sound.marked in
     let e = c.tell.ensures in

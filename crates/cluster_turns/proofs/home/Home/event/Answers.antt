@@ -23,6 +23,6 @@ returns-clause-event g c = let h = c.step-answer.ensures.told in let s = g.M.Mac
 
 pub returns-clause-sound : goal.returns-clause-sound
 returns-clause-sound g c = let h = c.step-answer.ensures.told in let v = c.args.self.now in let s = g.M.Machine.shard v.machine in let t = g.M.Machine.shard c.step-answer.new.self in
-    subst (λ gate. IsSound g.M.Gate.Gate.is_shut g.M.Gate.Gate.faults g.M.Gate.Gate.logs v.origin v.marks.items (vec_capacity v.marks) t gate) (sym c.step-answer.ensures.gate)
-    (sound_step g.M.Gate.Gate.is_shut g.M.Gate.Gate.faults g.M.Gate.Gate.logs v.origin v.marks.items (vec_capacity v.marks) s (g.M.Machine.gate v.machine) c.args.clock c.args.walker c.args.event c.step-answer.result t h.0
+    subst (λ gate. IsSound g.M.Gate.Gate.is_shut g.M.Gate.Gate.faults g.M.Gate.Gate.shard g.M.Gate.Gate.logs v.origin v.marks.items (vec_capacity v.marks) t gate) (sym c.step-answer.ensures.gate)
+    (sound_step g.M.Gate.Gate.is_shut g.M.Gate.Gate.faults g.M.Gate.Gate.shard g.M.Gate.Gate.logs v.origin v.marks.items (vec_capacity v.marks) s (g.M.Machine.gate v.machine) c.args.clock c.args.walker c.args.event c.step-answer.result t h.0
     c.requires.sound h.1 c.requires.single c.requires.free c.requires.named)
