@@ -5,11 +5,18 @@ use Rattle.clv_base.specs.Restarts.{log_after_restart}
 use Rattle.log_gate.specs.View.{Only}
 use Rattle.turn_laws.specs.declared.notes.Origin.{Origin}
 
-module _ {G : Type 0} (shut : G → Bool) (faults : G → ℕ) (logs : G → Option (List LogRecord) → Type 0) where
-  -- the machine has its gate, which isn't shut and whose disk has not failed; each log that it may have is the one found with what a restart adds
+module _ {G : Type 0} (shut : G → Bool) (faults whose : G → ℕ) (logs : G → Option (List LogRecord) → Type 0) where
+  -- the machine has its gate, which is the shard's and isn't shut, and whose disk has not failed; each log that it may have is the one found with what a restart adds
   pub record HasOpenGate (o : Origin) (gate : Option G) : Type 0 where
     pub home : G
     pub has : gate ≡ Some home
     pub is_open : shut home ≡ false
     pub fine : faults home ≡ 0
+    pub own : whose home ≡ o.shard
     pub log : Only (log_after_restart o.shard o.found.items o.run 0) (logs home)
+
+-- what never changes of a shard of this number that found this log for this run
+pub record IsOriginOf (n run : ℕ) (found : List LogRecord) (o : Origin) : Type 0 where
+  pub shard_is : o.shard ≡ n
+  pub run_is : o.run ≡ run
+  pub found_is : o.found.items ≡ found

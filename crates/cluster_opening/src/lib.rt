@@ -1,6 +1,11 @@
-//! The beginning of a cluster: a shard that was opened goes into its lock, with a pass for each walker.
+//! The beginning of a cluster: a shard is recovered from its log and goes into its lock, with a pass for each walker; and a lock that nobody entered is ended
+//! again, and gives the disk back. It stands on `machines_opening` for the recovery and on `turn_lock`.
 #![tactic(auto)]
 
+mod closing;
 mod locking;
+mod opening;
 
+pub use closing::close_unused;
 pub use locking::lock_shard;
+pub use opening::open_shard;

@@ -21,7 +21,7 @@ pub fn lock_shard<M: Machine>(
 ) -> Result<(TurnLock<Home<M>>, Vec<Pass<Home<M>, Note, Origin>>), M>
     requires some { 0 < walkers }
     requires opened { M.shard machine ≡ start origin }
-    requires gate { HasOpenGate M.Gate.is_shut M.Gate.faults M.Gate.logs origin (M.gate machine) }
+    requires gate { HasOpenGate M.Gate.is_shut M.Gate.faults M.Gate.shard M.Gate.logs origin (M.gate machine) }
     ensures lock { IfOk result (λ r. passes_of r.0 ≡ walkers) }
     ensures passes { IfOk result (λ r. (vec_len r.1 ≡ walkers) × ((k : ℕ) (d : _) → k < walkers → IsNewPass r.0 origin k (slice_index_or r.1.items k d))) }
     ensures back { IfErr result (λ m. m ≡ machine) }

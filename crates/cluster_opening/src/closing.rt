@@ -1,0 +1,33 @@
+// The end of a lock that served nobody.
+ghost use Rattle.std.specs.Prelude.{◌≡◌, ◌<◌, ℕ, List, Option, vec_len, slice_index_or};
+ghost use Rattle.clv_base.specs.declared.logs.LogRecord.{LogRecord};
+ghost use Rattle.disk_model.specs.Story.{Story};
+ghost use Rattle.turn_lock.specs.Passes.{passes_of, IsNewPass};
+ghost use Rattle.turn_laws.specs.declared.notes.Origin.{Origin as OriginIs};
+ghost use Rattle.machines_opening.specs.Recovered.{IsLeft};
+ghost use Rattle.cluster_opening.specs.Opened.{IsOriginOf};
+
+use cluster_turns::Home;
+use disk_model::Disk;
+use machines_opening::{OverDisks, take_apart};
+use turn_laws::{Note, Origin};
+use turn_lock::{Pass, TurnLock};
+
+/// Ends the lock of a shard that nobody has entered, with all its passes, and gives the disk. Takes no memory.
+pub fn close_unused<D: Disk, M: OverDisks<D>>(
+    lock: TurnLock<Home<M>>,
+    passes: Vec<Pass<Home<M>, Note, Origin>>,
+) -> D
+    requires some { 0 < vec_len passes }
+    requires all { vec_len passes ≡ passes_of lock }
+    requires unused { (o : OriginIs) × ((k : ℕ) (d : _) → k < vec_len passes → IsNewPass lock o k (slice_index_or passes.items k d)) }
+    ensures left { (o : OriginIs) (n run : ℕ) (found : List LogRecord) (before : Option Story) → ((k : ℕ) (d : _) → k < vec_len passes → IsNewPass lock o k (slice_index_or passes.items k d)) → IsOriginOf n run found o → IsLeft n found run before (D.story result) }
+    ensures fine { D.faults result ≡ 0 }
+{
+    let Home {
+        machine,
+        origin: _,
+        marks: _,
+    } = lock.close(passes);
+    take_apart(machine)
+}

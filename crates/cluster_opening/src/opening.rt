@@ -1,0 +1,58 @@
+// One shard, from its log to its lock.
+ghost use Rattle.std.specs.Prelude.{◌≡◌, ◌<◌, ◌≤◌, ℕ, false, true, None, IfOk, IfErr, vec_len, slice_index_or};
+ghost use Rattle.std.specs.List.{list_all};
+ghost use Rattle.clv_base.specs.FileRules.{has_spelling};
+ghost use Rattle.clv_base.specs.LogRules.{disorder};
+ghost use Rattle.log_gate.specs.View.{IsLogOf};
+ghost use Rattle.turn_lock.specs.Passes.{passes_of, IsNewPass};
+ghost use Rattle.turn_laws.specs.declared.notes.Origin.{Origin as OriginIs};
+ghost use Rattle.machines_opening.specs.Recovered.{IsLeft, CountsLeft};
+ghost use Rattle.cluster_opening.specs.Opened.{IsOriginOf};
+
+use crate::locking::lock_shard;
+use cluster_turns::Home;
+use clv_base::logs::LogRecord;
+use disk_model::Disk;
+use gate_recovery::RecoverError;
+use log_copies::copy_log;
+use log_gate::LogGate;
+use machines_opening::{OverDisks, recover_shard, take_apart};
+use std::alloc::Global;
+use turn_laws::{Note, Origin};
+use turn_lock::{Pass, TurnLock};
+
+/// Recovers a shard from its log, which is in order, and puts its machine into a lock with so many passes, numbered from 0. What a restart adds to the log is
+/// durable at `Ok`. An `Err` gives the disk back.
+pub fn open_shard<D: Disk, M: OverDisks<D>>(
+    alloc: Global,
+    gate: LogGate<D>,
+    log: Vec<LogRecord>,
+    shard: u32,
+    run: u32,
+    walkers: usize,
+) -> Result<(TurnLock<Home<M>>, Vec<Pass<Home<M>, Note, Origin>>), (RecoverError, D)>
+    requires some { 0 < walkers }
+    requires shard { (shard < 16) × (gate.shard ≡ shard) }
+    requires run { 1 ≤ run }
+    requires open { (gate.is_shut ≡ false) × (gate.faults ≡ 0) }
+    requires log { IsLogOf gate log.items }
+    requires spelled { list_all has_spelling log.items ≡ true }
+    requires in_order { disorder shard log.items ≡ None }
+    ensures lock { IfOk result (λ r. passes_of r.0 ≡ walkers) }
+    ensures passes { IfOk result (λ r. (o : OriginIs) × IsOriginOf shard run log.items o × (vec_len r.1 ≡ walkers) × ((k : ℕ) (d : _) → k < walkers → IsNewPass r.0 o k (slice_index_or r.1.items k d))) }
+    ensures left { IfErr result (λ e. IsLeft shard log.items run gate.story (D.story e.1)) }
+    ensures cause { IfErr result (λ e. CountsLeft 0 (D.faults e.1) e.0) }
+{
+    let Ok(found) = copy_log(alloc, &log) else {
+        return Err((RecoverError::Memory, gate.into_disk()));
+    };
+    let machine: M = match recover_shard(alloc, gate, log, shard, run) {
+        Ok(machine) => machine,
+        Err(error) => return Err(error),
+    };
+    let origin = Origin { shard, run, found };
+    match lock_shard(alloc, machine, origin, walkers) {
+        Ok(made) => Ok(made),
+        Err(machine) => Err((RecoverError::Memory, take_apart(machine))),
+    }
+}

@@ -1,0 +1,4 @@
+pub mod Headers
+pub mod Growing
+pub mod Stopping
+pub mod OneDisk

@@ -1,0 +1,4 @@
+pub mod Logs
+pub mod Opening
+pub mod Judging
+pub mod Houses
