@@ -1,0 +1,3 @@
+pub mod Keeping
+pub mod Freely
+pub mod Laws

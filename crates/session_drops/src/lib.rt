@@ -1,0 +1,10 @@
+//! Drops of a session's transaction: on one shard in one turn, and on all that it touched.
+//!
+//! The walker's entries stay a session's whatever is answered; the place follows them. A drop takes no memory.
+#![tactic(auto)]
+
+mod dropping;
+mod leaving;
+
+pub use dropping::drop_part;
+pub use leaving::drop_parts;

@@ -1,0 +1,3 @@
+pub mod Offered
+pub mod Trying
+pub mod Passing

@@ -1,0 +1,315 @@
+-- What an operation's answer makes of a session.
+use Rattle.std.proofs.Common.{◌≡◌, ◌∙◌, refl, sym, ap, subst, ℕ, suc, ◌≤◌, ◌<◌, ◌^◌, ◌==◌, nat_lt, Bool, true, false, not, cond, ◌&&◌, ◌||◌, List, [], ◌∷◌, ◌++◌, append-nil, Option, Some, None, Result, Ok, Err, arith, inl, eq-eqb, eqb-true, ltb-true}
+use Rattle.std.specs.Prelude.{is_some, IfOk}
+use Rattle.std.specs.Map.{lookup}
+use Rattle.std.specs.Ordering.{is_eq}
+use Rattle.std.proofs.lemmas.Bool.{both_ways, and_from}
+use Rattle.clv_base.specs.declared.names.TxId.{TxId}
+use Rattle.clv_base.specs.declared.names.Birth.{Birth}
+use Rattle.clv_base.specs.declared.ops.Op.{Op as Operation}
+use Rattle.clv_base.specs.declared.ops.Answer.TheVariants.{Value}
+use Rattle.clv_base.specs.declared.events.Event.{Event}
+use Rattle.clv_base.specs.declared.events.Event.TheVariants.{Op}
+use Rattle.clv_base.specs.declared.events.Outcome.{Outcome}
+use Rattle.clv_base.specs.declared.events.Outcome.TheVariants.{Answered, Dead, Down}
+use Rattle.clv_base.specs.declared.events.Entry.{Entry}
+use Rattle.clv_base.specs.LogRules.{same_option}
+use Rattle.clv_base.specs.Orders.{birth_cmp}
+use Rattle.clv_base.specs.State.{Shard}
+use Rattle.clv_base.specs.OneShard.{OpReply, OpWaits, OpCrowded, OpDies, OpAnswers, op_reply}
+use Rattle.clv_base.specs.Events.{Reply, QuietBeforeWorn, QuietAfterWorn, Does, Quiet, Enters, stamped, happen, happen_up, step, next_stamp, op_event}
+use Rattle.clv_base.specs.Sessions.{SessionState, is_number, goes_on_scan, scan_shard, lies_in, op_answered, op_in_session, is_touching, session_after}
+use Rattle.clv_base.proofs.SameNames.{tx_self}
+use Rattle.journal_laws.specs.Offers.{may_make}
+use Rattle.machine_calls.specs.declared.machine.StepError.{StepError}
+use Rattle.machine_calls.specs.Steps.{Tells, clock_after}
+use Rattle.turn_laws.proofs.Laws.{from_does, above}
+use Rattle.cluster_turns.specs.declared.shards.Shards.{Shards}
+use Rattle.cluster_turns.specs.declared.shards.Walker.{Walker}
+use Rattle.cluster_turns.specs.Turns.{EventTold}
+use Rattle.cluster_turns.specs.Walkers.{IsWalker, IsSameWalker, Walked, kept}
+use Rattle.cluster_turns.proofs.Laws.{event_rises}
+use Rattle.session_progress.specs.States.{session_of}
+use Rattle.session_progress.proofs.Laws.{states_go_on, states_tell_may_make, ops_go_on}
+use Rattle.walker_turns.specs.Turns.{Turn, Took, no_turn, event_turn, entry_on}
+use Rattle.walker_turns.proofs.Laws.{kept_grows}
+use Rattle.session_births.specs.Births.{AllSeeFree, AreInformed}
+use Rattle.session_births.proofs.Laws.{informed_stay, free_stays}
+use Rattle.session_ops.specs.Standing.{IsOld, is_op_outcome, place_after, AskTold, IsReady, HasBirth, IsActive, StandsAfter}
+
+-- ---- an entry is made exactly where the operation was answered or died
+
+abbrev pub is_told : Outcome → Bool
+is_told (Answered answer epoch) = true
+is_told (Dead cause) = true
+is_told _ = false
+
+abbrev is_done : Reply → Bool
+is_done (QuietBeforeWorn o) = false
+is_done (QuietAfterWorn o) = false
+is_done (Does o t) = true
+
+abbrev outcome_in : Reply → Outcome
+outcome_in (QuietBeforeWorn o) = o
+outcome_in (QuietAfterWorn o) = o
+outcome_in (Does o t) = o
+
+op_done : (s : Shard) (r : OpReply) → is_told (outcome_in (op_event s r)) ≡ is_done (op_event s r)
+op_done s (OpWaits younger) = refl
+op_done s (OpCrowded count) = refl
+op_done s (OpDies cause l) = refl
+op_done s (OpAnswers answer l) = refl
+
+op_happens : (s : Shard) (tx : TxId) (birth : Birth) (nth : ℕ) (seen : Option ℕ) (op : Operation) → is_told (outcome_in (happen s (Op tx birth nth seen op))) ≡ is_done (happen s (Op tx birth nth seen op))
+op_happens s tx birth nth seen op = at s.is_up
+  where
+    at : (u : Bool) → is_told (outcome_in (elim u [ true ↦ happen_up s (Op tx birth nth seen op) | false ↦ QuietBeforeWorn Down ])) ≡ is_done (elim u [ true ↦ happen_up s (Op tx birth nth seen op) | false ↦ QuietBeforeWorn Down ])
+    at true = op_done s (op_reply s.shard s.local tx birth seen op)
+    at false = refl
+
+quiet_so : (stamp w : ℕ) (e : Event) (room : Bool) (r : Reply) (o : Outcome) → stamped stamp w e room r ≡ Quiet o → (outcome_in r ≡ o) × (is_done r ≡ false)
+quiet_so stamp w e room (QuietBeforeWorn p) o h = (cc, refl)
+quiet_so stamp w e true (QuietAfterWorn p) o h = (cc, refl)
+quiet_so stamp w e false (QuietAfterWorn p) o h = absurd cc
+quiet_so stamp w e true (Does p t) o h = absurd cc
+quiet_so stamp w e false (Does p t) o h = absurd cc
+
+enters_so : (stamp w : ℕ) (e : Event) (room : Bool) (r : Reply) (o : Outcome) (t : Shard) → stamped stamp w e room r ≡ Enters o t → (outcome_in r ≡ o) × (is_done r ≡ true)
+enters_so stamp w e room (QuietBeforeWorn p) o t h = absurd cc
+enters_so stamp w e true (QuietAfterWorn p) o t h = absurd cc
+enters_so stamp w e false (QuietAfterWorn p) o t h = absurd cc
+enters_so stamp w e true (Does p u) o t h = (cc, refl)
+enters_so stamp w e false (Does p u) o t h = absurd cc
+
+ok_same : (o p : Outcome) → ◌≡◌ {A = Result Outcome StepError} (Ok o) (Ok p) → o ≡ p
+ok_same o p h = cc
+
+-- the entry that an answered operation made, with its stamp
+pub record IsEntered (clock w : ℕ) (e : Event) (o : Outcome) (clock' : ℕ) (made : Option Entry) : Type 0 where
+  pub entry : Entry
+  pub is : made ≡ Some entry
+  pub event_is : entry.event ≡ e
+  pub outcome_is : entry.outcome ≡ o
+  pub after : clock < entry.stamp
+  pub early : entry.stamp < 2 ^ 48
+  pub clock_is : clock' ≡ entry.stamp
+
+module _ (tx : TxId) (birth : Birth) (nth : ℕ) (seen : Option ℕ) (op : Operation) where
+  told_enters : (s t : Shard) (clock w clock' : ℕ) (o : Outcome) (made : Option Entry) → Tells (step s clock w (Op tx birth nth seen op)) s clock w (Op tx birth nth seen op) (Ok o) t made → clock' ≡ clock_after clock (Ok o) made
+      → is_told o ≡ true → IsEntered clock w (Op tx birth nth seen op) o clock' made
+  told_enters s t clock w clock' o None h c k =
+      let e = Op tx birth nth seen op in
+      let q = quiet_so (next_stamp s clock e) w e (nat_lt (next_stamp s clock e) (2 ^ 48)) (happen s e) o h.0 in
+      absurd (both_ways (is_done (happen s e)) q.1 (sym (op_happens s tx birth nth seen op) ∙ ap is_told q.0 ∙ k))
+  told_enters s t clock w clock' o (Some x) (p, is, m) c k =
+      let e = Op tx birth nth seen op in
+      let same = ok_same o p is in
+      let d = from_does (next_stamp s clock e) w e (nat_lt (next_stamp s clock e) (2 ^ 48)) (happen s e) p t m.enters in
+      record {
+        entry = x;
+        is = refl;
+        event_is = ap (λ y. y.event) m.entry_is;
+        outcome_is = ap (λ y. y.outcome) m.entry_is ∙ sym same;
+        after = above (step s clock w e) s clock w e p t x m;
+        early = (let l = ltb-true (next_stamp s clock e) (2 ^ 48) d.has_room in let stamp_is = ap (λ y. y.stamp) m.entry_is in omega arith);
+        clock_is = c;
+      }
+
+  quiet_none : (s t : Shard) (clock w clock' : ℕ) (o : Outcome) (made : Option Entry) → Tells (step s clock w (Op tx birth nth seen op)) s clock w (Op tx birth nth seen op) (Ok o) t made → is_told o ≡ false → made ≡ None
+  quiet_none s t clock w clock' o None h k = refl
+  quiet_none s t clock w clock' o (Some x) (p, is, m) k =
+      let e = Op tx birth nth seen op in
+      let q = enters_so (next_stamp s clock e) w e (nat_lt (next_stamp s clock e) (2 ^ 48)) (happen s e) p t m.enters in
+      absurd (both_ways (is_done (happen s e)) (sym (op_happens s tx birth nth seen op) ∙ ap is_told (q.0 ∙ sym (ok_same o p is)) ∙ k) q.1)
+
+  error_none : (s t : Shard) (clock w : ℕ) (x : StepError) (made : Option Entry) → Tells (step s clock w (Op tx birth nth seen op)) s clock w (Op tx birth nth seen op) (Err x) t made → made ≡ None
+  error_none s t clock w x None h = refl
+  error_none s t clock w x (Some y) (p, is, m) = absurd cc
+
+-- what an operation may come to
+op_fits : (s : Shard) (r : OpReply) → is_op_outcome (outcome_in (op_event s r)) ≡ true
+op_fits s (OpWaits younger) = refl
+op_fits s (OpCrowded count) = refl
+op_fits s (OpDies cause l) = refl
+op_fits s (OpAnswers answer l) = refl
+
+happens_fits : (s : Shard) (tx : TxId) (birth : Birth) (nth : ℕ) (seen : Option ℕ) (op : Operation) → is_op_outcome (outcome_in (happen s (Op tx birth nth seen op))) ≡ true
+happens_fits s tx birth nth seen op = at s.is_up
+  where
+    at : (u : Bool) → is_op_outcome (outcome_in (elim u [ true ↦ happen_up s (Op tx birth nth seen op) | false ↦ QuietBeforeWorn Down ])) ≡ true
+    at true = op_fits s (op_reply s.shard s.local tx birth seen op)
+    at false = refl
+
+told_fits : (tx : TxId) (birth : Birth) (nth : ℕ) (seen : Option ℕ) (op : Operation) (s t : Shard) (clock w : ℕ) (r : Result Outcome StepError) (made : Option Entry) → Tells (step s clock w (Op tx birth nth seen op)) s clock w (Op tx birth nth seen op) r t made
+    → IfOk r (λ o. is_op_outcome o ≡ true)
+told_fits tx birth nth seen op s t clock w (Err e) made h = tt
+told_fits tx birth nth seen op s t clock w (Ok o) None h =
+    let e = Op tx birth nth seen op in
+    let q = quiet_so (next_stamp s clock e) w e (nat_lt (next_stamp s clock e) (2 ^ 48)) (happen s e) o h.0 in
+    ap is_op_outcome (sym q.0) ∙ happens_fits s tx birth nth seen op
+told_fits tx birth nth seen op s t clock w (Ok o) (Some x) (p, is, m) =
+    let e = Op tx birth nth seen op in
+    let q = enters_so (next_stamp s clock e) w e (nat_lt (next_stamp s clock e) (2 ^ 48)) (happen s e) p t m.enters in
+    ap is_op_outcome (ok_same o p is ∙ sym q.0) ∙ happens_fits s tx birth nth seen op
+
+-- ---- the session's state
+
+option_self : (a : Option ℕ) → same_option a a ≡ true
+option_self None = refl
+option_self (Some a) = eq-eqb a a refl
+
+op_in : (splits : List ℕ) (n nth : ℕ) (op : Operation) (o : Outcome) (p : SessionState) → is_number p n nth op ≡ true → lies_in splits n op ≡ true → op_in_session splits n nth (lookup (◌==◌ n) p.touched) op o (Some p) ≡ op_answered n nth op p o
+op_in splits n nth op o p a b =
+    ap (λ c. cond c (op_answered n nth op p o) None)
+    (and_from (is_number p n nth op && lies_in splits n op) (same_option (lookup (◌==◌ n) p.touched) (lookup (◌==◌ n) p.touched)) (and_from (is_number p n nth op) (lies_in splits n op) a b) (option_self (lookup (◌==◌ n) p.touched)))
+
+pub number_low : (p : SessionState) (n nth : ℕ) (op : Operation) → is_number p n nth op ≡ true → nth ≤ suc p.nth
+number_low p n nth op h = at (nth == suc p.nth) (nth == p.nth) (goes_on_scan p.scanned (scan_shard n op)) refl refl h
+  where
+    at : (a b c : Bool) → (nth == suc p.nth) ≡ a → (nth == p.nth) ≡ b → (a || (b && c)) ≡ true → nth ≤ suc p.nth
+    at true b c e f h = let k = eqb-true nth (suc p.nth) e in omega arith
+    at false true c e f h = let k = eqb-true nth p.nth f in omega arith
+    at false false c e f h = absurd (both_ways false refl h)
+
+module _ {M S G : Type 0} where
+  pub goes_to : (sh : Shards M S G) (w : Walker M S G) (p : SessionState) (a : IsActive sh w p) (n nth : ℕ) (op : Operation) (o : Outcome) → is_number p n nth op ≡ true → lies_in sh.splits n op ≡ true
+      → session_after sh.splits n a.state (Op p.tx a.born.birth nth (lookup (◌==◌ n) p.touched) op) o ≡ op_answered n nth op p o
+  goes_to sh w p a n nth op o number lies =
+      ops_go_on sh.splits a.state p a.born.birth n nth (lookup (◌==◌ n) p.touched) op o a.goes a.touching a.born.is ∙ op_in sh.splits n nth op o p number lies
+
+  pub may_ask : (sh : Shards M S G) (w : Walker M S G) (p : SessionState) (a : IsActive sh w p) (n nth : ℕ) (op : Operation) → is_number p n nth op ≡ true → lies_in sh.splits n op ≡ true
+      → may_make sh.splits sh.run w.number (kept w.passes.items) n (Op p.tx a.born.birth nth (lookup (◌==◌ n) p.touched) op) ≡ true
+  may_ask sh w p a n nth op number lies =
+      states_tell_may_make sh.splits sh.run w.number (kept w.passes.items) a.state n (Op p.tx a.born.birth nth (lookup (◌==◌ n) p.touched) op) a.ready.state ∙ ap is_some (goes_to sh w p a n nth op (Answered (Value None) 0) number lies)
+
+-- ---- after one turn
+
+module _ {M S G : Type 0} (sh : Shards M S G) (w v : Walker M S G) (p : SessionState) (a : IsActive sh w p) (n nth : ℕ) (op : Operation) (r : Result Outcome StepError) where
+  abbrev asked_event : Event
+  asked_event = Op p.tx a.born.birth nth (lookup (◌==◌ n) p.touched) op
+
+  abbrev IsAsked : Type 0
+  IsAsked = Walked (EventTold w.clock w.number asked_event r v.clock) n w.number w.passes.items v.passes.items
+
+  abbrev turn_of : IsAsked → Turn
+  turn_of walked = record { shard = n; event = asked_event; answer = r; made = walked.turned.told.made }
+
+  took_turn : (walked : IsAsked) → Took w.number w.clock w.passes.items (turn_of walked ∷ []) v.clock v.passes.items
+  took_turn walked = event_turn w.clock v.clock v.clock w.passes.items v.passes.items v.passes.items (turn_of walked) [] walked refl (no_turn v.clock v.passes.items)
+
+  pub ask_told : IsAsked → AskTold w.number w.clock w.passes.items n asked_event r v.clock v.passes.items
+  ask_told walked = record { turn = turn_of walked; took = took_turn walked; shard_is = refl; event_is = refl; answer_is = refl }
+
+  pub ask_fits : IsAsked → IfOk r (λ o. is_op_outcome o ≡ true)
+  ask_fits walked = told_fits p.tx a.born.birth nth (lookup (◌==◌ n) p.touched) op walked.turned.s walked.turned.t w.clock w.number r walked.turned.told.made walked.turned.told.tells
+
+  rises : IsAsked → w.clock ≤ v.clock
+  rises walked = event_rises w.clock w.number asked_event r v.clock walked.turned.s walked.turned.t walked.turned.added walked.turned.told
+
+  informed_after : (walked : IsAsked) → v.number ≡ w.number → AreInformed v.number v.clock v.passes.items
+  informed_after walked same =
+      subst (λ k. AreInformed k v.clock v.passes.items) (sym same)
+      (informed_stay w.number w.clock v.clock w.passes.items v.passes.items (turn_of walked ∷ []) (took_turn walked) (a.born.old, tt) a.ready.informed)
+
+  free_after : (walked : IsAsked) → AllSeeFree p.tx a.born.birth v.passes.items
+  free_after walked =
+      free_stays w.number w.clock v.clock w.passes.items v.passes.items (turn_of walked ∷ []) p.tx a.born.birth (took_turn walked) a.born.bears
+      (ap (λ b. not b && is_eq (birth_cmp a.born.birth a.born.birth)) (tx_self p.tx), tt) a.born.free
+
+  kept_after : (walked : IsAsked) → kept v.passes.items ≡ kept w.passes.items ++ (entry_on n walked.turned.told.made ++ [])
+  kept_after walked = kept_grows w.number w.clock v.clock w.passes.items v.passes.items (turn_of walked ∷ []) (took_turn walked)
+
+  old_after : w.clock ≤ v.clock → (b : Option Birth) → IsOld w.clock b → IsOld v.clock b
+  old_after l None h = tt
+  old_after l (Some b) h = omega arith
+
+  born_after : (walked : IsAsked) → v.number ≡ w.number → HasBirth v p
+  born_after walked same = record { birth = a.born.birth; is = a.born.is; bears = a.born.bears ∙ sym same; old = (let l = rises walked in let o = a.born.old in omega arith); free = free_after walked }
+
+  -- no entry was made
+  active_still : (walked : IsAsked) → IsWalker sh v → IsSameWalker w v → walked.turned.told.made ≡ None → IsActive sh v p
+  active_still walked is_walker same none =
+      let l = rises walked in
+      let kept_same : kept v.passes.items ≡ kept w.passes.items = kept_after walked ∙ ap (λ m. kept w.passes.items ++ (entry_on n m ++ [])) none ∙ append-nil (kept w.passes.items) in
+      record {
+        state = a.state;
+        ready = record {
+          walker = is_walker;
+          number = subst (λ k. Rattle.clv_base.specs.Sessions.is_session_number k ≡ true) (sym same.0) a.ready.number;
+          state = subst (λ k. session_of sh.splits sh.run k (kept v.passes.items) ≡ Some a.state) (sym same.0) (ap (session_of sh.splits sh.run w.number) kept_same ∙ a.ready.state);
+          serial = (let s = same.1 in let h = a.ready.serial in omega arith);
+          old = old_after l (a.state).birth a.ready.old;
+          informed = informed_after walked same.0;
+        };
+        goes = a.goes;
+        touching = a.touching;
+        born = born_after walked same.0;
+        serial = (let s = same.1 in let h = a.serial in omega arith);
+        spelled = a.spelled;
+        counted = (let h = a.counted in omega arith);
+        few = a.few;
+      }
+
+  -- one was
+  state_after : (walked : IsAsked) (o : Outcome) (q : SessionState) → v.number ≡ w.number → is_number p n nth op ≡ true → lies_in sh.splits n op ≡ true → IsEntered w.clock w.number asked_event o v.clock walked.turned.told.made → op_answered n nth op p o ≡ Some q
+      → session_of sh.splits sh.run v.number (kept v.passes.items) ≡ Some q
+  state_after walked o q same number lies x goes =
+      subst (λ k. session_of sh.splits sh.run k (kept v.passes.items) ≡ Some q) (sym same)
+      (ap (session_of sh.splits sh.run w.number) (kept_after walked ∙ ap (λ m. kept w.passes.items ++ (entry_on n m ++ [])) x.is)
+      ∙ states_go_on sh.splits sh.run w.number (kept w.passes.items) a.state (n, x.entry) a.ready.state
+      ∙ ap (λ e. session_after sh.splits n a.state e (x.entry).outcome) x.event_is ∙ ap (session_after sh.splits n a.state asked_event) x.outcome_is
+      ∙ goes_to sh w p a n nth op o number lies ∙ goes)
+
+  ready_then : (walked : IsAsked) (o : Outcome) (q : SessionState) → IsWalker sh v → IsSameWalker w v → is_number p n nth op ≡ true → lies_in sh.splits n op ≡ true → IsEntered w.clock w.number asked_event o v.clock walked.turned.told.made → op_answered n nth op p o ≡ Some q
+      → (q.tx ≡ p.tx) → (q.birth ≡ p.birth) → IsReady sh v q
+  ready_then walked o q is_walker same number lies x goes name birth = record {
+    walker = is_walker;
+    number = subst (λ k. Rattle.clv_base.specs.Sessions.is_session_number k ≡ true) (sym same.0) a.ready.number;
+    state = state_after walked o q same.0 number lies x goes;
+    serial = (let s = same.1 in let h = a.serial in let k = ap (λ t. t.serial) name in omega arith);
+    old = subst (IsOld v.clock) (sym (birth ∙ a.born.is)) (let l = rises walked in let h = a.born.old in omega arith);
+    informed = informed_after walked same.0;
+  }
+
+  pub stands_after : (walked : IsAsked) → IsWalker sh v → IsSameWalker w v → is_number p n nth op ≡ true → lies_in sh.splits n op ≡ true → (x : Result Outcome StepError) → r ≡ x → StandsAfter sh v (place_after n nth op p x) x
+  stands_after walked is_walker same number lies (Err e) is =
+      active_still walked is_walker same (error_none p.tx a.born.birth nth (lookup (◌==◌ n) p.touched) op walked.turned.s walked.turned.t w.clock w.number e walked.turned.told.made
+      (subst (λ y. Tells (step walked.turned.s w.clock w.number asked_event) walked.turned.s w.clock w.number asked_event y walked.turned.t walked.turned.told.made) is walked.turned.told.tells))
+  stands_after walked is_walker same number lies (Ok o) is = at o refl
+    where
+      tells : Tells (step walked.turned.s w.clock w.number asked_event) walked.turned.s w.clock w.number asked_event (Ok o) walked.turned.t walked.turned.told.made
+      tells = subst (λ y. Tells (step walked.turned.s w.clock w.number asked_event) walked.turned.s w.clock w.number asked_event y walked.turned.t walked.turned.told.made) is walked.turned.told.tells
+
+      clock_is : v.clock ≡ clock_after w.clock (Ok o) walked.turned.told.made
+      clock_is = walked.turned.told.clock_is ∙ ap (λ y. clock_after w.clock y walked.turned.told.made) is
+
+      quiet : is_told o ≡ false → IsActive sh v p
+      quiet k = active_still walked is_walker same (quiet_none p.tx a.born.birth nth (lookup (◌==◌ n) p.touched) op walked.turned.s walked.turned.t w.clock w.number v.clock o walked.turned.told.made tells k)
+
+      entered : is_told o ≡ true → IsEntered w.clock w.number asked_event o v.clock walked.turned.told.made
+      entered k = told_enters p.tx a.born.birth nth (lookup (◌==◌ n) p.touched) op walked.turned.s walked.turned.t w.clock w.number v.clock o walked.turned.told.made tells clock_is k
+
+      at : (z : Outcome) → o ≡ z → StandsAfter sh v (place_after n nth op p (Ok z)) (Ok z)
+      at (Answered answer epoch) q =
+          let x = entered (ap is_told q) in
+          let b = born_after walked same.0 in
+          record {
+            state = place_after n nth op p (Ok (Answered answer epoch));
+            ready = ready_then walked o (place_after n nth op p (Ok (Answered answer epoch))) is_walker same number lies x (ap (op_answered n nth op p) q) refl refl;
+            goes = inl refl;
+            touching = a.touching;
+            born = record { birth = b.birth; is = b.is; bears = b.bears; old = b.old; free = b.free };
+            serial = (let s = same.1 in let h = a.serial in omega arith);
+            spelled = a.spelled;
+            counted = (let l = number_low p n nth op number in let h = a.counted in let after = x.after in let c = x.clock_is in omega arith);
+            few = (let l = number_low p n nth op number in let h = a.counted in let after = x.after in let early = x.early in omega arith);
+          }
+      at (Dead cause) q =
+          let x = entered (ap is_told q) in
+          let b = born_after walked same.0 in
+          record {
+            ready = ready_then walked o (place_after n nth op p (Ok (Dead cause))) is_walker same number lies x (ap (op_answered n nth op p) q) refl refl;
+            born = record { birth = b.birth; is = b.is; bears = b.bears; old = b.old; free = b.free };
+            spelled = a.spelled;
+          }
+      at z q = quiet (ap is_told q)

@@ -1,0 +1,56 @@
+// One event on one shard.
+ghost use Rattle.std.specs.Prelude.{◌≡◌, ◌<◌, ◌==◌, true, length, IfOk};
+ghost use Rattle.std.specs.Map.{lookup};
+ghost use Rattle.clv_base.specs.declared.names.Birth.{Birth as BirthIs};
+ghost use Rattle.clv_base.specs.declared.events.Event.TheVariants.{Op as OpEvent};
+ghost use Rattle.clv_base.specs.Sessions.{is_number, lies_in};
+ghost use Rattle.cluster_turns.specs.Walkers.{IsSameWalker};
+ghost use Rattle.session_ops.specs.Standing.{IsActive, AskTold, StandsAfter, place_after, is_op_outcome};
+
+use cluster_turns::{Shards, Walker};
+use clv_base::events::Outcome;
+use clv_base::ops::Op;
+use machine_calls::{Machine, StepError};
+use session_progress::Place;
+use std::alloc::Global;
+use std::sync::Wait;
+
+// The place follows what was answered.
+fn follow(place: &mut Place, shard: u32, nth: u64, op: Op, answer: &Result<Outcome, StepError>)
+    requires { shard < 16 }
+    ensures { place.new ≡ place_after shard nth op place.old answer.now }
+{
+    match answer {
+        Ok(Outcome::Answered { epoch, .. }) => place.answered(shard, nth, op, *epoch),
+        Ok(Outcome::Dead(_)) => place.died(shard, nth, op),
+        _ => {}
+    }
+}
+
+/// One operation, or part scan, of the active transaction on one shard, in one turn. Its entry, if it makes one, goes on the session's; the place is the
+/// definitions' after it. After `Dead` the transaction is over, after every other answer it is active.
+pub fn ask<M: Machine, R: Wait>(
+    rt: &R,
+    alloc: Global,
+    shards: &Shards<M>,
+    walker: &mut Walker<M>,
+    place: &mut Place,
+    shard: u32,
+    nth: u64,
+    op: Op,
+) -> Result<Outcome, StepError>
+    requires active { IsActive shards.now walker.old place.old }
+    requires shard { (shard < length shards.now.locks.items) × (shard < 16) }
+    requires number { is_number place.old shard nth op ≡ true }
+    requires lies { lies_in shards.now.splits shard op ≡ true }
+    ensures walker { IsSameWalker walker.old walker.new }
+    ensures turn { (birth : BirthIs) → place.old.birth ≡ Some birth → AskTold walker.old.number walker.old.clock walker.old.passes.items shard (OpEvent place.old.tx birth nth (lookup (◌==◌ shard) place.old.touched) op) result walker.new.clock walker.new.passes.items }
+    ensures outcome { IfOk result (λ o. is_op_outcome o ≡ true) }
+    ensures place { place.new ≡ place_after shard nth op place.old result }
+    ensures stands { StandsAfter shards.now walker.new place.new result }
+{
+    let event = place.op(shard, nth, op);
+    let answer = shards.session_event(rt, alloc, walker, shard, event);
+    follow(place, shard, nth, op, &answer);
+    answer
+}

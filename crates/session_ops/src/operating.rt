@@ -1,0 +1,170 @@
+// An operation on one shard, until it is answered.
+ghost use Rattle.std.specs.Prelude.{◌≡◌, ◌<◌, ◌==◌, true, length};
+ghost use Rattle.std.specs.Map.{lookup};
+ghost use Rattle.clv_base.specs.declared.names.Birth.{Birth as BirthIs};
+ghost use Rattle.clv_base.specs.declared.events.Event.TheVariants.{Op as OpEvent};
+ghost use Rattle.clv_base.specs.Sessions.{is_number, lies_in};
+ghost use Rattle.cluster_turns.specs.Walkers.{IsSameWalker};
+ghost use Rattle.session_rounds.specs.Rounds.{Rounded};
+ghost use Rattle.session_ops.specs.Standing.{IsActive};
+ghost use Rattle.session_ops.specs.Operated.{Operated, PlacedBy, StandsBy, answered_in, tried, refusal_of};
+
+use crate::asking::ask;
+use cluster_turns::{Shards, Walker};
+use clv_base::causes::AbortCause;
+use clv_base::events::Outcome;
+use clv_base::ops::{Answer, Op};
+use crossbeam_utils::Backoff;
+use io_edge::Pace;
+use machine_calls::{Flier, Machine, StepError};
+use session_progress::Place;
+use session_rounds::{RoundError, round};
+use std::alloc::Global;
+use std::sync::Wait;
+
+/// Why an operation wasn't answered.
+#[derive(Clone, Copy, Debug, PartialEq, Eq)]
+pub enum OpError {
+    /// The transaction died of it.
+    Aborted(AbortCause),
+    /// The shard was found down: the operation's own, or after a wait any. The transaction stays active.
+    Down { shard: u32 },
+    Worn { at: u64 },
+    Memory,
+}
+
+// What one try answers: none where it has to wait.
+fn tried_by(shard: u32, answer: Result<Outcome, StepError>) -> Result<Option<Answer>, OpError>
+    ensures { result ≡ tried shard answer }
+{
+    match answer {
+        Ok(outcome) => match outcome {
+            Outcome::Answered { answer, .. } => Ok(Some(answer)),
+            Outcome::Dead(cause) => Err(OpError::Aborted(cause)),
+            Outcome::Wait { .. } => Ok(None),
+            Outcome::Crowded { .. } => Ok(None),
+            _ => Err(OpError::Down { shard }),
+        },
+        Err(StepError::Memory) => Err(OpError::Memory),
+        Err(StepError::Worn { at }) => Err(OpError::Worn { at }),
+    }
+}
+
+// One try.
+fn try_once<M: Machine, R: Wait>(
+    rt: &R,
+    alloc: Global,
+    shards: &Shards<M>,
+    walker: &mut Walker<M>,
+    place: &mut Place,
+    shard: u32,
+    nth: u64,
+    op: Op,
+) -> Result<Option<Answer>, OpError>
+    requires active { IsActive shards.now walker.old place.old }
+    requires shard { (shard < length shards.now.locks.items) × (shard < 16) }
+    requires number { is_number place.old shard nth op ≡ true }
+    requires lies { lies_in shards.now.splits shard op ≡ true }
+    ensures walker { IsSameWalker walker.old walker.new }
+    ensures turns { (birth : BirthIs) → place.old.birth ≡ Some birth → Operated walker.old.number walker.old.clock walker.old.passes.items shard (OpEvent place.old.tx birth nth (lookup (◌==◌ shard) place.old.touched) op) result walker.new.clock walker.new.passes.items }
+    ensures place { PlacedBy shard nth op place.old result place.new }
+    ensures stands { StandsBy shards.now walker.new place.new result }
+{
+    let answer = ask(rt, alloc, shards, walker, place, shard, nth, op);
+    tried_by(shard, answer)
+}
+
+fn refused(error: RoundError) -> OpError
+    ensures { result ≡ refusal_of error }
+{
+    match error {
+        RoundError::Down { shard } => OpError::Down { shard },
+        RoundError::Worn { at } => OpError::Worn { at },
+        RoundError::Memory => OpError::Memory,
+    }
+}
+
+// A round of a session whose transaction is active.
+fn pass_round<M: Flier, P: Pace, R: Wait>(
+    rt: &R,
+    alloc: Global,
+    shards: &Shards<M>,
+    walker: &mut Walker<M>,
+    place: &Place,
+    pace: &P,
+) -> Result<(), RoundError>
+    requires active { IsActive shards.now walker.old place.now }
+    ensures walker { IsSameWalker walker.old walker.new }
+    ensures round { Rounded walker.old.number walker.old.clock walker.old.passes.items result walker.new.clock walker.new.passes.items }
+    ensures stands { IsActive shards.now walker.new place.now }
+{
+    let _place = place;
+    round(rt, alloc, shards, walker, pace)
+}
+
+// One try, and a round where it has to wait.
+fn try_and_pass<M: Flier, P: Pace, R: Wait>(
+    rt: &R,
+    alloc: Global,
+    shards: &Shards<M>,
+    walker: &mut Walker<M>,
+    place: &mut Place,
+    shard: u32,
+    nth: u64,
+    op: Op,
+    pace: &P,
+) -> Result<Option<Answer>, OpError>
+    requires active { IsActive shards.now walker.old place.old }
+    requires shard { (shard < length shards.now.locks.items) × (shard < 16) }
+    requires number { is_number place.old shard nth op ≡ true }
+    requires lies { lies_in shards.now.splits shard op ≡ true }
+    ensures walker { IsSameWalker walker.old walker.new }
+    ensures turns { (birth : BirthIs) → place.old.birth ≡ Some birth → Operated walker.old.number walker.old.clock walker.old.passes.items shard (OpEvent place.old.tx birth nth (lookup (◌==◌ shard) place.old.touched) op) result walker.new.clock walker.new.passes.items }
+    ensures place { PlacedBy shard nth op place.old result place.new }
+    ensures stands { StandsBy shards.now walker.new place.new result }
+{
+    match try_once(rt, alloc, shards, walker, place, shard, nth, op) {
+        Ok(None) => match pass_round(rt, alloc, shards, walker, place, pace) {
+            Ok(()) => Ok(None),
+            Err(error) => Err(refused(error)),
+        },
+        Ok(Some(answer)) => Ok(Some(answer)),
+        Err(error) => Err(error),
+    }
+}
+
+/// One operation, or part scan, of the active transaction on one shard, with a round after each wait, until it is answered. Of a session's turns it takes
+/// only those of this operation. `Aborted` comes only where one of them died of that cause, and the transaction is over then; `Down` only where a turn of
+/// the call found that shard down, which is the operation's own or comes after a wait; `Worn` only where a turn would have had a stamp past the last.
+/// After these and `Memory` the transaction is active, and its place is as before.
+pub fn operate<M: Flier, P: Pace, R: Wait>(
+    rt: &R,
+    alloc: Global,
+    shards: &Shards<M>,
+    walker: &mut Walker<M>,
+    place: &mut Place,
+    shard: u32,
+    nth: u64,
+    op: Op,
+    pace: &P,
+) -> Result<Answer, OpError>
+    requires active { IsActive shards.now walker.old place.old }
+    requires shard { (shard < length shards.now.locks.items) × (shard < 16) }
+    requires number { is_number place.old shard nth op ≡ true }
+    requires lies { lies_in shards.now.splits shard op ≡ true }
+    ensures walker { IsSameWalker walker.old walker.new }
+    ensures turns { (birth : BirthIs) → place.old.birth ≡ Some birth → Operated walker.old.number walker.old.clock walker.old.passes.items shard (OpEvent place.old.tx birth nth (lookup (◌==◌ shard) place.old.touched) op) (answered_in result) walker.new.clock walker.new.passes.items }
+    ensures place { PlacedBy shard nth op place.old (answered_in result) place.new }
+    ensures stands { StandsBy shards.now walker.new place.new (answered_in result) }
+{
+    let backoff = Backoff::new();
+    for _ in rt.forever() {
+        match try_and_pass(rt, alloc, shards, walker, place, shard, nth, op, pace) {
+            Ok(Some(answer)) => return Ok(answer),
+            Ok(None) => {}
+            Err(error) => return Err(error),
+        }
+        backoff.snooze();
+    }
+    unreachable!()
+}

@@ -1,0 +1,4 @@
+pub mod States
+pub mod Touching
+pub mod Going
+pub mod Laws

@@ -1,0 +1,115 @@
+// The parts of a round on one shard.
+ghost use Rattle.std.specs.Prelude.{◌≡◌, ◌<◌, length};
+ghost use Rattle.cluster_turns.specs.Walkers.{IsWalker, IsSameWalker};
+ghost use Rattle.session_rounds.specs.Rounds.{Rounded, refusal_of};
+
+use cluster_carry::{Carry, CarryError, carry_once, remind_once};
+use cluster_flush::{FlushError, flush_once};
+use cluster_turns::{Shards, Walker};
+use io_edge::Pace;
+use machine_calls::{Flier, Machine};
+use std::alloc::Global;
+use std::sync::Wait;
+
+/// Why a round ended early.
+#[derive(Clone, Copy, Debug, PartialEq, Eq)]
+pub enum RoundError {
+    /// A turn found the shard down, or its flush failed.
+    Down { shard: u32 },
+    Worn { at: u64 },
+    Memory,
+}
+
+// Flushes a shard once.
+pub(crate) fn flush<M: Flier, P: Pace, R: Wait>(
+    rt: &R,
+    alloc: Global,
+    shards: &Shards<M>,
+    walker: &mut Walker<M>,
+    shard: u32,
+    pace: &P,
+) -> Result<(), RoundError>
+    requires walker { IsWalker shards.now walker.old }
+    requires shard { shard < length shards.now.locks.items }
+    ensures walker { IsWalker shards.now walker.new × IsSameWalker walker.old walker.new }
+    ensures flush { Rounded walker.old.number walker.old.clock walker.old.passes.items result walker.new.clock walker.new.passes.items }
+{
+    match flush_once(rt, alloc, shards, walker, shard, pace) {
+        Ok(_) => Ok(()),
+        Err(FlushError::Failed) => Err(RoundError::Down { shard }),
+        Err(FlushError::Down) => Err(RoundError::Down { shard }),
+        Err(FlushError::Worn { at }) => Err(RoundError::Worn { at }),
+        Err(FlushError::Memory) => Err(RoundError::Memory),
+    }
+}
+
+fn refused(error: CarryError) -> RoundError
+    ensures { result ≡ refusal_of error }
+{
+    match error {
+        CarryError::Down { shard } => RoundError::Down { shard },
+        CarryError::Worn { at } => RoundError::Worn { at },
+        CarryError::Memory => RoundError::Memory,
+    }
+}
+
+// Carries one message; tells whether there was none.
+fn carry<M: Machine, R: Wait>(
+    rt: &R,
+    alloc: Global,
+    shards: &Shards<M>,
+    walker: &mut Walker<M>,
+    shard: u32,
+) -> Result<bool, RoundError>
+    requires walker { IsWalker shards.now walker.old }
+    requires shard { shard < length shards.now.locks.items }
+    ensures walker { IsWalker shards.now walker.new × IsSameWalker walker.old walker.new }
+    ensures carried { Rounded walker.old.number walker.old.clock walker.old.passes.items result walker.new.clock walker.new.passes.items }
+{
+    match carry_once(rt, alloc, shards, walker, shard) {
+        Ok(carry) => Ok(carry == Carry::Nothing),
+        Err(error) => Err(refused(error)),
+    }
+}
+
+// Carries the messages of a shard until none is left.
+pub(crate) fn carry_all<M: Machine, R: Wait>(
+    rt: &R,
+    alloc: Global,
+    shards: &Shards<M>,
+    walker: &mut Walker<M>,
+    shard: u32,
+) -> Result<(), RoundError>
+    requires walker { IsWalker shards.now walker.old }
+    requires shard { shard < length shards.now.locks.items }
+    ensures walker { IsWalker shards.now walker.new × IsSameWalker walker.old walker.new }
+    ensures carried { Rounded walker.old.number walker.old.clock walker.old.passes.items result walker.new.clock walker.new.passes.items }
+{
+    for _ in rt.forever() {
+        match carry(rt, alloc, shards, walker, shard) {
+            Ok(true) => return Ok(()),
+            Ok(false) => {}
+            Err(error) => return Err(error),
+        }
+    }
+    unreachable!()
+}
+
+// Asks once for what a shard misses.
+pub(crate) fn remind<M: Machine, R: Wait>(
+    rt: &R,
+    alloc: Global,
+    shards: &Shards<M>,
+    walker: &mut Walker<M>,
+    shard: u32,
+) -> Result<(), RoundError>
+    requires walker { IsWalker shards.now walker.old }
+    requires shard { shard < length shards.now.locks.items }
+    ensures walker { IsWalker shards.now walker.new × IsSameWalker walker.old walker.new }
+    ensures reminded { Rounded walker.old.number walker.old.clock walker.old.passes.items result walker.new.clock walker.new.passes.items }
+{
+    match remind_once(rt, alloc, shards, walker, shard) {
+        Ok(_) => Ok(()),
+        Err(error) => Err(refused(error)),
+    }
+}
