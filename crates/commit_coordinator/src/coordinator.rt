@@ -21,6 +21,7 @@ use clv_base::parts::{PartFacts, ShardList};
 use clv_base::state::{Request, RequestState, Ruling};
 use std::alloc::Global;
 use std::collections::BTreeMap;
+use std::collections::btree_map::Iter;
 use std::marker::Model;
 
 /// The requests that a shard coordinates as their home.
@@ -191,6 +192,13 @@ impl Coordinator {
             Some(request) => Some(told_parts(&request.state)),
             None => None,
         }
+    }
+
+    /// The requests, by rising transactions.
+    pub fn requests(&self) -> Iter<'_, TxId, Request>
+        ensures { result ≡ self.now.requests }
+    {
+        self.requests.iter()
     }
 
     /// The transactions with a request here, which rise.

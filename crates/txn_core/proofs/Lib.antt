@@ -11,3 +11,4 @@ pub mod Closed
 pub mod Joins
 mod Batches
 mod Crowds
+mod Places

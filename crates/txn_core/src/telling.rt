@@ -1,9 +1,12 @@
 //! What is told of a transaction here.
-ghost use Rattle.std.specs.Prelude.{◌≡◌};
+ghost use Rattle.std.specs.Prelude.{◌≡◌, ◌||◌, not};
+ghost use Rattle.std.specs.List.{list_all};
 ghost use Rattle.clv_base.specs.Facts.{facts_in};
 ghost use Rattle.clv_base.specs.Facts.{state_by, doom_by, is_restored_by};
 ghost use Rattle.clv_base.specs.Undo.{stage_of as stage_in};
+ghost use Rattle.clv_base.specs.Logs.{committed_in};
 ghost use Rattle.clv_base.specs.Orders.{tx_get};
+ghost use Rattle.clv_base.specs.State.{is_closed_stage};
 
 use crate::shard::ShardTx;
 use clv_base::names::TxId;
@@ -62,5 +65,34 @@ impl<S: Store + Drop, L: Locks + Drop> ShardTx<S, L> {
             due_lsn: self.deps.due_lsn(tx),
             durable: self.buffer.durable(),
         }
+    }
+    /// The transaction's part here, where it is known.
+    pub fn part(&self, tx: TxId) -> Option<Held>
+        ensures { result ≡ tx_get tx (self.now.local).parts }
+    {
+        self.parts.get(&tx).copied()
+    }
+
+    /// Whether a COMMIT of the transaction is in the log, durable or not.
+    pub fn is_committed(&self, tx: TxId) -> bool
+        ensures { result ≡ committed_in (self.now.local).log tx }
+    {
+        self.deps.settled_at(tx).is_some()
+    }
+
+    /// Whether a part that is closed has its COMMIT in the log.
+    fn is_decided(&self, tx: TxId, part: Held) -> bool
+        ensures { result ≡ (not (is_closed_stage part.stage) || committed_in (self.now.local).log tx) }
+    {
+        part.stage != Stage::Closed || self.is_committed(tx)
+    }
+
+    /// Whether no closed part is undecided: the COMMIT of each is in the log. It goes through all parts of the epoch.
+    pub fn are_decided(&self) -> bool
+        ensures { result ≡ list_all (λ p. not (is_closed_stage p.1.stage) || committed_in (self.now.local).log p.0) (self.now.local).parts }
+    {
+        self.parts
+            .iter()
+            .all(|(tx, part)| self.is_decided(*tx, *part))
     }
 }
