@@ -11,15 +11,6 @@ use Rattle.due_laws.proofs.Laws.{none_is_nothing, nothing_to_do}
 use Rattle.shard_core.specs.Core.{Core, flight_by}
 use Rattle.shard_core.specs.Whole.{IsAtRest}
 
--- a record that passes is in the log exactly where there is a place of one
-pub place_is : (n : ℕ) (test : LogRecord → Bool) (log : List LogRecord) → is_some (place_from n test log) ≡ list_any test log
-place_is n test [] = refl
-place_is n test (r ∷ rs) = at (test r) (place_is (suc n) test rs)
-  where
-    at : (b : Bool) → is_some (place_from (suc n) test rs) ≡ list_any test rs → is_some (cond b (Some n) (place_from (suc n) test rs)) ≡ (b || list_any test rs)
-    at true e = refl
-    at false e = e
-
 -- at rest nothing is left to do, and no ghost to let go
 pub rest_is : (c : Core) → IsAtRest c → finish c.shard ≡ c.shard
 rest_is c r = ap (with_local purge) (nothing_to_do c.shard (none_is_nothing c.shard r.ready.cover)) ∙ r.ready.purged

@@ -21,6 +21,7 @@ mod preparing;
 mod reminding;
 mod requesting;
 mod sending;
+mod settling;
 mod shard;
 mod telling;
 #[cfg(test)]

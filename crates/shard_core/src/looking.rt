@@ -3,7 +3,7 @@ ghost use Rattle.std.specs.Prelude.{◌≡◌, ◌≤◌, drop, length, slice_ra
 ghost use Rattle.clv_base.specs.Facts.{facts_of, has_durable_commit as is_durably_committed};
 ghost use Rattle.clv_base.specs.Logs.{committed_in, fitting, is_below as below};
 ghost use Rattle.clv_base.specs.Orders.{tx_get};
-ghost use Rattle.clv_base.specs.Events.{finish, taken};
+ghost use Rattle.clv_base.specs.Events.{finish, taken as taken_upto};
 ghost use Rattle.commit_coordinator.specs.Coordinated.{state_by};
 ghost use Rattle.shard_core.specs.Core.{flight_by as flies_by};
 ghost use Rattle.shard_core.specs.Whole.{IsAtRest};
@@ -12,7 +12,7 @@ use crate::flushing::BATCH_BYTES;
 use crate::shard::ShardCore;
 use clv_base::logs::LogRecord;
 use clv_base::names::TxId;
-use clv_base::state::RequestState;
+use clv_base::state::{Held, RequestState};
 use lock_table::Locks;
 use ordered_store::Store;
 
@@ -41,6 +41,13 @@ impl<S: Store + Drop, L: Locks + Drop> ShardCore<S, L> {
         self.shard
     }
 
+    /// The run that the shard was opened in.
+    pub fn run(&self) -> u32
+        ensures { result ≡ (self.now.shard).run }
+    {
+        self.run
+    }
+
     /// How far the transaction's request is, where this shard is its home and knows it.
     pub fn request_state(&self, tx: TxId) -> Option<RequestState>
         ensures { result ≡ state_by (tx_get tx (self.now.shard).requests) }
@@ -60,7 +67,14 @@ impl<S: Store + Drop, L: Locks + Drop> ShardCore<S, L> {
     pub fn is_committed(&self, tx: TxId) -> bool
         ensures { result ≡ committed_in ((self.now.shard).local).log tx }
     {
-        self.facts(tx).commit.is_some()
+        self.transactions.is_committed(tx)
+    }
+
+    /// The transaction's part here, where it is known.
+    pub fn part(&self, tx: TxId) -> Option<Held>
+        ensures { result ≡ tx_get tx ((self.now.shard).local).parts }
+    {
+        self.transactions.part(tx)
     }
 
     /// The records below this LSN are durable.
@@ -77,9 +91,18 @@ impl<S: Store + Drop, L: Locks + Drop> ShardCore<S, L> {
         flight_by(self.transactions.durable(), self.transactions.taken())
     }
 
+    /// The records below this LSN are durable or in flight.
+    pub fn taken(&self) -> u64
+        ensures taken { result ≡ taken_upto self.now.shard }
+        ensures behind { (self.now.shard).durable ≤ result }
+        ensures within { result ≤ length ((self.now.shard).local).log }
+    {
+        self.transactions.taken()
+    }
+
     /// How many records the next batch would have.
     pub fn next_count(&self) -> usize
-        ensures { result ≡ fitting 1048576 (drop (taken self.now.shard) ((self.now.shard).local).log) }
+        ensures { result ≡ fitting 1048576 (drop (taken_upto self.now.shard) ((self.now.shard).local).log) }
     {
         self.transactions.next_batch(BATCH_BYTES).count
     }

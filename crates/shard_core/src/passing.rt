@@ -4,13 +4,11 @@ ghost use Rattle.clv_base.specs.Logs.{fitting};
 ghost use Rattle.clv_base.specs.Events.{taken as taken_upto};
 ghost use Rattle.txn_core.specs.Sound.{FewUndecided};
 
+use crate::flushing::BATCH_BYTES;
 use crate::shard::ShardCore;
 use clv_base::logs::LogRecord;
 use lock_table::Locks;
 use ordered_store::Store;
-
-/// The greatest batch, in bytes.
-const BATCH_BYTES: usize = 1_048_576;
 
 impl<S: Store + Drop, L: Locks + Drop> ShardCore<S, L> {
     /// A law: no transaction has more than 1,024 predecessors without a COMMIT.

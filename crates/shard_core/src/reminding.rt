@@ -7,10 +7,9 @@ ghost use Rattle.clv_base.specs.Orders.{tx_cmp, tx_get};
 ghost use Rattle.clv_base.specs.Coordinator.{home_reminders as reminders_of_home};
 ghost use Rattle.clv_base.specs.Participant.{asks};
 ghost use Rattle.clv_base.specs.Due.{send};
-ghost use Rattle.clv_base.specs.Events.{finish, durable_requests, waiting_voters, reminders as reminders_of, remind_with};
+ghost use Rattle.clv_base.specs.Events.{finish, durable_requests, waiting_voters, reminders as reminders_of};
 ghost use Rattle.vote_participant.specs.Voting.{asks_by};
 ghost use Rattle.due_loop.specs.Ready.{IsReady};
-ghost use Rattle.shard_core.specs.Hearing.{Reminds};
 ghost use Rattle.shard_core.specs.Whole.{IsAtRest};
 
 use crate::shard::ShardCore;
@@ -126,8 +125,9 @@ impl<S: Store + Drop, L: Locks + Drop> ShardCore<S, L> {
         }
     }
 
-    /// What a reminder sends again: first what this shard sends as a home, then what its parts ask.
-    fn reminders(&self, alloc: Global) -> Result<Vec<Message>, Memory>
+    /// What a reminder sends again: a Prepare for each vote that is missing, a Decide for each acknowledgement of a durable commit that is missing,
+    /// and then a question of each part that may be in doubt.
+    pub fn reminders(&self, alloc: Global) -> Result<Vec<Message>, Memory>
         ensures { IfOk result (λ list. list.items ≡ reminders_of self.now.shard) }
     {
         let mut messages = match self.home_reminders(alloc) {
@@ -160,7 +160,7 @@ impl<S: Store + Drop, L: Locks + Drop> ShardCore<S, L> {
     }
 
     /// These messages wait besides, and all is done that is due then. Where there is no memory all stays.
-    fn tell_all(&mut self, messages: &[Message]) -> Result<(), Memory>
+    pub fn send_again(&mut self, messages: &[Message]) -> Result<(), Memory>
         requires { IsAtRest self.old }
         ensures told { OnOk result (self.new.shard ≡ finish (send messages.now self.old.shard)) }
         ensures err { OnErr result (self.new ≡ self.old) }
@@ -172,30 +172,5 @@ impl<S: Store + Drop, L: Locks + Drop> ShardCore<S, L> {
         }
         settle_due(self);
         Ok(())
-    }
-
-    /// What was sent and not answered is sent again: a Prepare for each vote that is missing, a Decide for each acknowledgement of a durable commit
-    /// that is missing, and a question of each part that may be in doubt. It says how many messages wait then. It says none, and all stays, where
-    /// messages wait already or there is nothing to send again. Where there is no memory all stays.
-    pub fn remind(&mut self, alloc: Global) -> Result<Option<usize>, Memory>
-        requires { IsAtRest self.old }
-        ensures ok { IfOk result (λ count. Reminds (remind_with self.old.shard (self.old.shard).outbox (reminders_of self.old.shard)) self.old.shard count self.new.shard) }
-        ensures err { OnErr result (self.new ≡ self.old) }
-        ensures rest { IsAtRest self.new }
-    {
-        if self.first_message().is_some() {
-            return Ok(None);
-        }
-        let messages = match self.reminders(alloc) {
-            Ok(messages) => messages,
-            Err(memory) => return Err(memory),
-        };
-        if messages.is_empty() {
-            return Ok(None);
-        }
-        match self.tell_all(&messages) {
-            Ok(()) => Ok(Some(messages.len())),
-            Err(memory) => Err(memory),
-        }
     }
 }

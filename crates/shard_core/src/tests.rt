@@ -192,7 +192,11 @@ fn one_in_doubt_is_committed(rt: HostRuntime) -> Result<(), Fail> {
 fn a_commit_without_an_end_is_told_again(rt: HostRuntime) -> Result<(), Fail> {
     let alloc = rt.alloc();
     let mut core = open(alloc, with_commit(alloc)?)?;
-    assert!(rt; matches!(core.remind(alloc), Ok(Some(1))));
+    let Ok(missing) = core.reminders(alloc) else {
+        return Err(AllocError.into());
+    };
+    assert_eq!(rt; missing.len(), 1);
+    assert!(rt; core.send_again(&missing).is_ok());
     core.leave_message();
     assert!(rt; core.take_question(by(1), 1).is_ok());
     let told = Message::Decide {

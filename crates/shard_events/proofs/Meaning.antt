@@ -48,38 +48,6 @@ waits reply s t younger (is, same) = quiet_late (op_event s reply) s t (Wait you
 pub crowded : (reply : OpReply) (s t : Shard) (count : ℕ) → Ends reply s (CoreCrowded count) t → Happens (op_event s reply) s (Quiet (Crowded count)) t
 crowded reply s t count (is, same) = quiet_late (op_event s reply) s t (Crowded count) (ap (op_event s) is) same
 
--- ---- drops
-
-pub dropped : (s t : Shard) (tx : TxId) → is_some (stage_of s.local tx) ≡ true → t ≡ finish (with_local (drop_part tx) s) → Happens (happen_up s (DropEvent tx)) s (Done Dropped Dropped) t
-dropped s t tx known ends = (at (stage_of s.local tx) known, refl)
-  where
-    at : (st : Option Stage) → is_some st ≡ true → drop_event s tx st ≡ Does Dropped t
-    at None k = absurd cc
-    at (Some st) k = ap (λ u. Does Dropped u) (sym ends)
-
-pub absent : (s t : Shard) (tx : TxId) → is_some (stage_of s.local tx) ≡ false → t ≡ s → Happens (happen_up s (DropEvent tx)) s (Quiet Absent) t
-absent s t tx unknown same = quiet (happen_up s (DropEvent tx)) s t Absent (at (stage_of s.local tx) unknown) same
-  where
-    at : (st : Option Stage) → is_some st ≡ false → drop_event s tx st ≡ QuietBeforeWorn Absent
-    at None k = refl
-    at (Some st) k = absurd cc
-
--- ---- messages that leave
-
-pub sent : (s t : Shard) (m : Message) → first_of s.outbox ≡ Some m → t ≡ finish (with_outbox (drop 1 s.outbox) s) → Happens (happen_up s Send) s (Done (Sent m) (Sent m)) t
-sent s t m first ends = (ap (λ u. u) (at s.outbox first) ∙ ap (λ u. Does (Sent m) u) (sym ends), refl)
-  where
-    at : (ms : List Message) → first_of ms ≡ Some m → send_event s ms ≡ Does (Sent m) (finish (with_outbox (drop 1 ms) s))
-    at [] e = absurd cc
-    at (n ∷ ns) e = let same : n ≡ m = cc in ap (λ x. Does (Sent x) (finish (with_outbox ns s))) same
-
-pub nothing_waits : (s t : Shard) → first_of s.outbox ≡ None → t ≡ s → Happens (happen_up s Send) s (Quiet Nothing) t
-nothing_waits s t none same = quiet (happen_up s Send) s t Nothing (at s.outbox none) same
-  where
-    at : (ms : List Message) → first_of ms ≡ None → send_event s ms ≡ QuietBeforeWorn Nothing
-    at [] e = refl
-    at (n ∷ ns) e = absurd cc
-
 -- ---- messages that come
 
 pub heard : (r : Reply) (s t : Shard) → r ≡ Does Taken t → Happens r s (Done Taken Taken) t

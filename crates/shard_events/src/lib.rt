@@ -8,12 +8,10 @@ mod answers;
 mod happening;
 mod looking;
 mod operations;
-mod outgoing;
 mod staleness;
 
 pub use answers::{answer_question, take_decision, take_done, take_vote};
 pub use happening::Happened;
 pub use looking::look;
-pub use operations::{drop_part, operate};
-pub use outgoing::{remind, send};
+pub use operations::operate;
 pub use staleness::is_stale;

@@ -1,6 +1,6 @@
 //! What a session asks of one shard.
 ghost use Rattle.std.specs.Prelude.{◌≡◌, IfOk, OnErr};
-ghost use Rattle.clv_base.specs.declared.events.Event.TheVariants.{Op as OpEvent, Drop as DropEvent};
+ghost use Rattle.clv_base.specs.declared.events.Event.TheVariants.{Op as OpEvent};
 ghost use Rattle.clv_base.specs.Events.{happen_up};
 ghost use Rattle.shard_core.specs.Whole.{IsAtRest};
 ghost use Rattle.shard_events.specs.Happening.{Happens};
@@ -51,21 +51,5 @@ pub fn operate<S: Store + Drop, L: Locks + Drop>(
         Ok(Reply::Wait { younger }) => Ok(Happened::Quiet(Outcome::Wait { younger })),
         Ok(Reply::Crowded { count }) => Ok(Happened::Quiet(Outcome::Crowded { count })),
         Err(memory) => Err(memory),
-    }
-}
-
-/// A part is dropped. Takes no memory.
-pub fn drop_part<S: Store + Drop, L: Locks + Drop>(core: &mut ShardCore<S, L>, tx: TxId) -> Happened
-    requires { IsAtRest core.old }
-    ensures happens { Happens (happen_up core.old.shard (DropEvent tx)) core.old.shard result core.new.shard }
-    ensures rest { IsAtRest core.new }
-{
-    if core.drop_part(tx) {
-        Happened::Done {
-            outcome: Outcome::Dropped,
-            copy: Outcome::Dropped,
-        }
-    } else {
-        Happened::Quiet(Outcome::Absent)
     }
 }
