@@ -1,0 +1,3 @@
+mod Sizes
+mod Fitting
+pub mod Laws
