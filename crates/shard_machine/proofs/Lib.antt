@@ -3,3 +3,9 @@ pub mod Running
 pub mod Answering
 pub mod Replying
 pub mod Touching
+pub mod Outcomes
+pub mod Dropped
+pub mod Starting
+pub mod Restarting
+pub mod Departing
+pub mod Homing

@@ -43,12 +43,12 @@ kept c d is_up j k owed has e o plain grounded none does rest fits ops few short
     let goes : happen s e ≡ Does o t = goes_as 0 [] c.shard d.shard e o plain does in
     let parts : undropped d.shard ≤ undropped c.shard + new_parts c.shard.local e = events_add_parts s t e o goes in
     let stay = events_stay c.shard d.shard e o does grounded in
-    let flight : flights d.shard.flight ≡ flights c.shard.flight = ap flights stay.1 in let places = r.places in
+    let flight : flights d.shard.flight ≡ flights c.shard.flight = ap flights stay.1 in
     record {
       rest = rest;
       named = bare 0 [] d.shard (events_keep_names s t e o goes fits ops few short after (dressed 0 [] c.shard r.named));
       index = same ∙ r.index ∙ sym stay.0;
-      places = omega (arith, parts, none, flight, places);
+      places = λ up. let places = r.places up in omega (arith, parts, none, flight, places);
       room = room;
       gate = λ up. r.gate up ∙ ap is_none (sym stay.1);
     }
@@ -77,7 +77,7 @@ kept_same c d is_up j k owed has same rest index room r = record {
   rest = rest;
   named = subst (λ (s : Shard). IsNamed s) (sym same) r.named;
   index = index ∙ r.index ∙ ap (λ (s : Shard). s.shard) (sym same);
-  places = subst (λ (s : Shard). undropped s + flights s.flight ≤ owed) (sym same) r.places;
+  places = subst (λ (s : Shard). is_up ≡ true → undropped s + flights s.flight ≤ owed) (sym same) r.places;
   room = room;
   gate = subst (λ (s : Shard). is_up ≡ true → has ≡ is_none s.flight) (sym same) r.gate;
 }
@@ -91,12 +91,12 @@ kept_more c d is_up j k owed more has e o plain grounded added does rest fits op
     let goes : happen s e ≡ Does o t = goes_as 0 [] c.shard d.shard e o plain does in
     let parts : undropped d.shard ≤ undropped c.shard + new_parts c.shard.local e = events_add_parts s t e o goes in
     let stay = events_stay c.shard d.shard e o does grounded in
-    let flight : flights d.shard.flight ≡ flights c.shard.flight = ap flights stay.1 in let places = r.places in
+    let flight : flights d.shard.flight ≡ flights c.shard.flight = ap flights stay.1 in
     record {
       rest = rest;
       named = bare 0 [] d.shard (events_keep_names s t e o goes fits ops few short after (dressed 0 [] c.shard r.named));
       index = same ∙ r.index ∙ sym stay.0;
-      places = omega (arith, parts, added, flight, places);
+      places = λ up. let places = r.places up in omega (arith, parts, added, flight, places);
       room = room;
       gate = λ up. r.gate up ∙ ap is_none (sym stay.1);
     }

@@ -21,8 +21,8 @@ pub record IsRunning (c : Core) (is_up : Bool) (j : Journaled) (owed : ℕ) (has
   pub rest : IsAtRest c
   pub named : IsNamed c.shard
   pub index : j.shard ≡ c.shard.shard
-  -- a first drop and the end of a flush find room in the journal
-  pub places : undropped c.shard + flights c.shard.flight ≤ owed
+  -- while the shard is up, a first drop and the end of a flush find room in the journal
+  pub places : is_up ≡ true → undropped c.shard + flights c.shard.flight ≤ owed
   pub room : owed ≤ j.room
   -- the gate is here unless it flies
   pub gate : is_up ≡ true → has_gate ≡ is_none c.shard.flight

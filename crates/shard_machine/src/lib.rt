@@ -5,14 +5,23 @@
 #![tactic(auto)]
 
 mod asking;
+mod calls;
 mod delivering;
+mod dropping;
+mod flights;
+mod flying;
 mod gates;
 mod hearing;
+mod landing;
 mod looking;
 mod machine;
+mod making;
 mod operating;
+mod reminding;
+mod reviving;
 mod sending;
 mod stamps;
+mod stepping;
 mod stopping;
 
 pub use machine::ShardMachine;

@@ -1,5 +1,6 @@
 //! The machine.
 ghost use Rattle.std.specs.Prelude.{◌≡◌, not, length};
+ghost use Rattle.machine_calls.specs.Settled.{is_settled as is_settled_in};
 
 use lock_table::Locks;
 use log_gate::Gate;
@@ -58,6 +59,13 @@ impl<S: Store + Drop, L: Locks + Drop, G: Gate> ShardMachine<S, L, G> {
         ensures { result ≡ ((self.now.shard).local).epoch }
     {
         self.core.epoch()
+    }
+
+    /// Whether nothing is left to do here but for active parts. It goes through all parts and requests of the epoch.
+    pub fn is_settled(&self) -> bool
+        ensures { result ≡ is_settled_in self.now.shard }
+    {
+        self.is_up && self.core.is_settled()
     }
 
     /// The gate, where the machine has it, the records and the journal, by move.

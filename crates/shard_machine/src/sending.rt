@@ -1,8 +1,9 @@
 //! Messages leave.
-ghost use Rattle.std.specs.Prelude.{◌≡◌, Option};
+ghost use Rattle.std.specs.Prelude.{◌≡◌, true, Option, IfOk};
 ghost use Rattle.clv_base.specs.declared.events.Entry.{Entry};
 ghost use Rattle.clv_base.specs.declared.events.Event.TheVariants.{Send};
 ghost use Rattle.clv_base.specs.Events.{step};
+ghost use Rattle.machine_calls.specs.Events.{sends_fit};
 ghost use Rattle.machine_calls.specs.Steps.{Tells};
 
 use crate::machine::ShardMachine;
@@ -18,6 +19,9 @@ impl<S: Store + Drop, L: Locks + Drop, G: Gate> ShardMachine<S, L, G> {
     pub fn send(&mut self, clock: u64, walker: u32) -> Result<Outcome, StepError>
         ensures told { (made : Option Entry) × Tells (step self.old.shard clock walker Send) self.old.shard clock walker Send result self.new.shard made }
         ensures gate { self.new.gate ≡ self.old.gate }
+
+        // What it sends may be delivered.
+        ensures sends { IfOk result (λ o. sends_fit o ≡ true) }
     {
         if !self.is_up {
             return Ok(Outcome::Down);

@@ -11,6 +11,7 @@ use Rattle.machine_laws.specs.Frame.{stamped_as}
 use Rattle.shard_machine.specs.Machined.{Machined}
 use Rattle.shard_machine.proofs.Telling.{told_done}
 use Rattle.shard_machine.proofs.Running.{kept, goes_as, sent}
+use Rattle.shard_machine.proofs.Outcomes.{first_fits}
 use Rattle.shard_machine.proofs.machine.ShardMachine.send.Goals as goal
 
 pub invariant_of-self-2 : goal.invariant_of-self-2
@@ -35,3 +36,6 @@ returns-clause-told g c =
       subst (λ b. Tells (step (stamped_as b i.last i.journal.entries i.core.shard) c.args.clock w Send) (stamped_as b i.last i.journal.entries i.core.shard) c.args.clock w Send (Ok (Sent m)) (stamped_as b n c.enter.new.journal.entries d.shard) (Some (entry n w Send (Sent m)))) (sym up)
           (subst (λ j. Tells (step s c.args.clock w Send) s c.args.clock w Send (Ok (Sent m)) (stamped_as true n j d.shard) (Some (entry n w Send (Sent m)))) (sym journal) told),
     )
+
+pub returns-clause-sends : goal.returns-clause-sends
+returns-clause-sends g c = first_fits c.self.inside.core.shard.outbox c.in-Some.message c.self.invariant.named.fitting.outbox (sym c.in-Some.ensures)
