@@ -1,5 +1,5 @@
 -- A gate that is taken out of a machine that is down.
-use Rattle.std.proofs.Common.{◌≡◌, ℕ, Bool, true, false, List, [], ◌∷◌, ◌++◌, length, sym, ap, refl, ◌∙◌, subst, append-nil, Option, Some, None, Result, Ok, Err}
+use Rattle.std.proofs.Common.{◌≡◌, ℕ, Bool, true, false, List, [], ◌∷◌, ◌++◌, length, get_or, sym, ap, refl, ◌∙◌, subst, append-nil, Option, Some, None, Result, Ok, Err}
 use Rattle.std.specs.Prelude.{not, is_some, IfOk}
 use Rattle.std.specs.List.{All}
 use Rattle.std.proofs.lemmas.Bool.{both_ways}
@@ -8,6 +8,7 @@ use Rattle.clv_base.specs.declared.logs.LogRecord.{LogRecord}
 use Rattle.clv_base.specs.State.{Shard}
 use Rattle.disk_model.specs.Story.{Story}
 use Rattle.turn_lock.specs.Journals.{GrownBy}
+use Rattle.turn_lock.specs.declared.pass.TurnLock.{TurnLock}
 use Rattle.turn_lock.specs.declared.pass.Pass.{Pass}
 use Rattle.turn_lock.specs.Passes.{pass_origin, seen}
 use Rattle.machine_calls.specs.Restored.{down_gate_of, gate_left}
@@ -19,11 +20,13 @@ use Rattle.turn_laws.specs.declared.notes.Mark.TheVariants.{Fetched as FetchedAt
 use Rattle.turn_laws.specs.Notes.{noter, notes_of}
 use Rattle.turn_laws.specs.Homes.{entries_in, holder_of, IsLegal}
 use Rattle.turn_laws.specs.Sound.{IsSound}
-use Rattle.turn_laws.proofs.Laws.{sound_fetched, holder_more}
+use Rattle.turn_laws.proofs.Laws.{sound_fetched, holder_more, legal_shard}
 use Rattle.cluster_restart.specs.declared.fetching.Fetched.{Fetched as Taken}
 use Rattle.cluster_restart.specs.declared.fetching.FetchError.{FetchError}
 use Rattle.cluster_restart.specs.declared.fetching.FetchError.TheVariants.{Up, Away}
-use Rattle.cluster_restart.specs.Held.{FetchTold, DiskFits, PassTaken}
+use Rattle.cluster_turns.specs.Walkers.{IsPassAt}
+use Rattle.cluster_turns.proofs.Laws.{some_inj}
+use Rattle.cluster_restart.specs.Held.{FetchTold, DiskFits, Holds, HoldsAt, IsDiskOf, PassTaken}
 
 pub is_down : (b : Bool) → not b ≡ true → b ≡ false
 is_down true h = absurd (both_ways false refl h)
@@ -81,3 +84,31 @@ module _ {T D : Type 0} (story : D → Option Story) (faults : D → ℕ) where
   }
   pass_taken w q o s t before after added (Err Up) told is l sees from disk away = tt
   pass_taken w q o s t before after added (Err Away) told is l sees from disk away = ap (λ ns. is_some (holder_of ns)) (sees ∙ is ∙ ap (λ a. before ++ a) told.2 ∙ append-nil before) ∙ away refl
+
+-- the shard whose disk it is
+module _ {T D : Type 0} (story : D → Option Story) (faults : D → ℕ) (founds : List (List LogRecord)) (locks : List (TurnLock T Note Origin)) (w n : ℕ) (q : Pass T Note Origin) (at : IsPassAt founds locks w n q) where
+  taken_of : (f : Taken D) → PassTaken story faults w q (Ok f) → (f.shard ≡ n) × Holds w (IsDiskOf faults f) q
+  taken_of f h =
+      let same : h.origin ≡ at.origin = some_inj h.origin at.origin (sym h.has_origin ∙ at.has_origin) in (
+        (h.holds).0 ∙ legal_shard h.origin (seen q) h.s h.s_is ∙ ap (λ o. o.shard) same ∙ at.origin_is.shard,
+        record {
+          origin = h.origin;
+          has_origin = h.has_origin;
+          s = h.s;
+          s_is = h.s_is;
+          down = h.down;
+          held = h.held;
+          holds = record { shard = (h.holds).0; failed = (h.holds).1.failed; epoch = (h.holds).2 };
+        },
+      )
+
+  pub shard_taken : (r : Result (Taken D) FetchError) → PassTaken story faults w q r → IfOk r (λ f. f.shard ≡ n)
+  shard_taken (Ok f) h = (taken_of f h).0
+  shard_taken (Err Up) h = tt
+  shard_taken (Err Away) h = tt
+
+  pub disk_held : (passes : List (Option (Pass T Note Origin))) → ((d : Option (Pass T Note Origin)) → get_or passes n d ≡ Some q) → (r : Result (Taken D) FetchError) → PassTaken story faults w q r
+      → IfOk r (λ f. HoldsAt f.shard w (IsDiskOf faults f) passes)
+  disk_held passes has (Ok f) h = let t = taken_of f h in (q, (λ d. ap (λ (k : ℕ). get_or passes k d) t.0 ∙ has d), t.1)
+  disk_held passes has (Err Up) h = tt
+  disk_held passes has (Err Away) h = tt

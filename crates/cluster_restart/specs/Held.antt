@@ -20,6 +20,12 @@ pub record DiskFits (s : Shard) (story : Option Story) (faults : ℕ) : Type 0 w
   pub failed : 1 ≤ faults
   pub leaves : (log : List LogRecord) → logs_told story s.shard (Some log) → MayLeave s log
 
+-- a disk of the shard in this state: it has failed, and was taken in the shard's epoch
+pub record IsDiskOf {D : Type 0} (faults : D → ℕ) (f : Fetched D) (s : Shard) : Type 0 where
+  pub shard : f.shard ≡ s.shard
+  pub failed : 1 ≤ faults f.disk
+  pub epoch : s.local.epoch ≡ f.epoch
+
 -- what a turn that fetches the disk of the walker w tells: the state stays, and where the disk was given it is noted
 abbrev pub FetchTold : {D : Type 0} → ℕ → Result D FetchError → Shard → Shard → List Note → Type 0
 FetchTold w (Ok disk) s t added = (s.is_up ≡ false) × (t ≡ s) × (added ≡ FetchedBy w ∷ [])

@@ -1,7 +1,7 @@
 // A walker takes the disk.
-ghost use Rattle.std.specs.Prelude.{◌≡◌, ◌<◌, length};
+ghost use Rattle.std.specs.Prelude.{◌≡◌, ◌<◌, length, IfOk};
 ghost use Rattle.cluster_turns.specs.Walkers.{IsWalker, IsSameWalker, Walked};
-ghost use Rattle.cluster_restart.specs.Held.{FetchTold, DiskTaken};
+ghost use Rattle.cluster_restart.specs.Held.{FetchTold, DiskTaken, HoldsAt, IsDiskOf};
 
 use crate::taking::take_disk;
 use cluster_turns::{Shards, Walker};
@@ -37,6 +37,8 @@ pub fn fetch<M: Reopener, R: Wait>(
     ensures walker { IsWalker shards.now walker.new × IsSameWalker walker.old walker.new × (walker.new.clock ≡ walker.old.clock) }
     ensures fetch { Walked (FetchTold walker.old.number result) shard walker.old.number walker.old.passes.items walker.new.passes.items }
     ensures disk { DiskTaken M.Disk.story M.Disk.faults shard walker.old.number walker.new.passes.items result }
+    ensures held { IfOk result (λ f. HoldsAt f.shard walker.old.number (IsDiskOf M.Disk.faults f) walker.new.passes.items) }
+    ensures shard { IfOk result (λ f. f.shard ≡ shard) }
 {
     let place = shard as usize;
     let pass = walker.passes[place].take().unwrap();

@@ -1,0 +1,2 @@
+-- What the crates above may use.
+pub use Rattle.cluster_restart.proofs.Restarting.{restarted_is, sound_restarted}

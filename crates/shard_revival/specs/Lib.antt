@@ -1,0 +1,2 @@
+pub mod Revived
+pub mod Restarted
