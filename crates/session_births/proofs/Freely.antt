@@ -35,9 +35,10 @@ use Rattle.turn_laws.proofs.Turning.{since}
 use Rattle.journal_laws.specs.Notes.{after_notes}
 use Rattle.turn_laws.proofs.Freeing.{all_bear, nothing_happens}
 use Rattle.cluster_turns.specs.Turns.{Turned, EventTold}
+use Rattle.cluster_turns.specs.Walkers.{Walked}
 use Rattle.cluster_flush.specs.Flights.{LandTold, landed_as}
-use Rattle.walker_turns.specs.Turns.{no_turn, event_turn, landing_turn, horizon_look}
-use Rattle.session_births.specs.Births.{IsFreeFor, IsBornBy, SeesFree}
+use Rattle.walker_turns.specs.Turns.{Turn, no_turn, event_turn, flush_turns, horizon_look}
+use Rattle.session_births.specs.Births.{IsFreeFor, IsBornBy, SeesFree, AllSeeFree}
 use Rattle.session_births.specs.Laws.{FreeStays, NewIsFree}
 use Rattle.session_births.proofs.Keeping.{one_changes, changed, by_notes, some_same}
 
@@ -92,20 +93,29 @@ module _ {T : Type 0} where
       subst (λ x. IsFreeFor tx birth (state_of x (seen q))) same
       (subst (λ ns. IsFreeFor tx birth (state_of t.origin ns)) (sym t.seen_is) (subst (IsFreeFor tx birth) t.t_is.is (step found)))
 
+  event_leaves :
+      (w clock c : ℕ) (tx : TxId) (birth : Birth) (t : Turn) (ps qs : List (Option (Pass T Note Origin))) → Walked (EventTold clock w t.event t.answer c) t.shard w ps qs → birth.session ≡ w → LeavesBirth tx birth t.event
+      → AllSeeFree tx birth ps → AllSeeFree tx birth qs
+  event_leaves w clock c tx birth t ps qs walked own k f =
+      let u = walked.turned in
+      changed (SeesFree tx birth) t.shard ps qs walked.q walked.after_is
+      (one_changes (SeesFree tx birth) (SeesFree tx birth) t.shard ps walked.p walked.q walked.had (λ x g. g)
+      (turn_frees _ w tx birth walked.p walked.q u own (event_frees tx birth clock w c t.event t.answer u.s u.t u.added u.told k)) f)
+
+  landing_leaves :
+      (w clock c upto n : ℕ) (tx : TxId) (birth : Birth) (pushed : Bool) (ps qs : List (Option (Pass T Note Origin))) → Walked (LandTold clock w pushed upto c) n w ps qs → birth.session ≡ w → AllSeeFree tx birth ps → AllSeeFree tx birth qs
+  landing_leaves w clock c upto n tx birth pushed ps qs walked own f =
+      let u = walked.turned in
+      changed (SeesFree tx birth) n ps qs walked.q walked.after_is
+      (one_changes (SeesFree tx birth) (SeesFree tx birth) n ps walked.p walked.q walked.had (λ x g. g)
+      (turn_frees _ w tx birth walked.p walked.q u own (landing_frees tx birth u.origin u.before u.added clock w c upto pushed u.s u.t u.s_is u.t_is u.told)) f)
+
   pub free_stays : FreeStays T
   free_stays w _ _ _ _ _ tx birth (no_turn clock ps) own k f = f
-  free_stays w _ _ _ _ _ tx birth (event_turn clock c clock' ps qs rs t ts walked made h) own k f =
-      let u = walked.turned in
-      free_stays w c clock' qs rs ts tx birth h own k.1
-      (changed (SeesFree tx birth) t.shard ps qs walked.q walked.after_is
-      (one_changes (SeesFree tx birth) (SeesFree tx birth) t.shard ps walked.p walked.q walked.had (λ x g. g)
-      (turn_frees _ w tx birth walked.p walked.q u own (event_frees tx birth clock w c t.event t.answer u.s u.t u.added u.told k.0)) f))
-  free_stays w _ _ _ _ _ tx birth (landing_turn clock c clock' upto pushed ps qs rs t ts walked is answer made h) own k f =
-      let u = walked.turned in
-      free_stays w c clock' qs rs ts tx birth h own k.1
-      (changed (SeesFree tx birth) t.shard ps qs walked.q walked.after_is
-      (one_changes (SeesFree tx birth) (SeesFree tx birth) t.shard ps walked.p walked.q walked.had (λ x g. g)
-      (turn_frees _ w tx birth walked.p walked.q u own (landing_frees tx birth u.origin u.before u.added clock w c upto pushed u.s u.t u.s_is u.t_is u.told)) f))
+  free_stays w _ _ _ _ _ tx birth (event_turn clock c clock' ps qs rs t ts walked made stays h) own k f =
+      free_stays w c clock' qs rs ts tx birth h own k.1 (event_leaves w clock c tx birth t ps qs walked own k.0 f)
+  free_stays w _ _ _ _ _ tx birth (flush_turns clock c d clock' upto pushed ps ms qs rs t u ts out back is answer made same lands landed entered known h) own k f =
+      free_stays w d clock' qs rs ts tx birth h own k.1.1 (landing_leaves w c d upto t.shard tx birth pushed ms qs back own (event_leaves w clock c tx birth t ps ms out own k.0 f))
   free_stays w _ _ _ _ _ tx birth (horizon_look clock clock' n horizon ps qs rs ts looked h) own k f =
       free_stays w clock clock' qs rs ts tx birth h own k
       (changed (SeesFree tx birth) n ps qs looked.q looked.after_is

@@ -24,10 +24,11 @@ use Rattle.turn_laws.specs.Notes.{noter, plain}
 use Rattle.turn_laws.specs.Homes.{entries_in, state_of, IsLegal}
 use Rattle.turn_laws.proofs.Laws.{entries_append, above}
 use Rattle.cluster_turns.specs.Turns.{Turned, EventTold}
+use Rattle.cluster_turns.specs.Walkers.{Walked}
 use Rattle.cluster_turns.proofs.Laws.{event_rises}
 use Rattle.cluster_flush.specs.Flights.{LandTold, landed_as}
-use Rattle.walker_turns.specs.Turns.{Turn, no_turn, event_turn, landing_turn, horizon_look}
-use Rattle.session_births.specs.Births.{IsBornBy, EachPass, IsInformed}
+use Rattle.walker_turns.specs.Turns.{Turn, no_turn, event_turn, flush_turns, horizon_look}
+use Rattle.session_births.specs.Births.{IsBornBy, EachPass, IsInformed, AreInformed}
 use Rattle.session_births.specs.Laws.{InformedStay, InformedLater, NewAreInformed}
 
 -- ---- one pass of many
@@ -157,22 +158,36 @@ born_turns c d l (t ∷ ts) h = (later t.event h.0, born_turns c d l ts h.1)
     later Restart k = tt
 
 module _ {T : Type 0} where
-  pub informed_stay : InformedStay T
-  informed_stay w _ _ _ _ _ (no_turn clock ps) b i = i
-  informed_stay w _ _ _ _ _ (event_turn clock c clock' ps qs rs t ts walked made h) b i =
+  event_informs :
+      (w clock c : ℕ) (t : Turn) (ps qs : List (Option (Pass T Note Origin))) → Walked (EventTold clock w t.event t.answer c) t.shard w ps qs → IsBornBy clock t.event → AreInformed w clock ps → AreInformed w c qs
+  event_informs w clock c t ps qs walked b i =
       let l = event_rises clock w t.event t.answer c walked.turned.s walked.turned.t walked.turned.added walked.turned.told in
-      let a = event_adds_own w clock c t.event t.answer walked.turned.s walked.turned.t walked.turned.added walked.turned.told b.0 in
-      informed_stay w c clock' qs rs ts h (born_turns clock c l ts b.1)
-      (changed (IsInformed w c) t.shard ps qs walked.q walked.after_is
-      (one_changes (IsInformed w clock) (IsInformed w c) t.shard ps walked.p walked.q walked.had (λ x k. later_pass w clock c l x k) (informed_by _ w clock c walked.p walked.q l walked.turned a) i))
-  informed_stay w _ _ _ _ _ (landing_turn clock c clock' upto pushed ps qs rs t ts walked is answer made h) b i =
+      let a = event_adds_own w clock c t.event t.answer walked.turned.s walked.turned.t walked.turned.added walked.turned.told b in
+      changed (IsInformed w c) t.shard ps qs walked.q walked.after_is
+      (one_changes (IsInformed w clock) (IsInformed w c) t.shard ps walked.p walked.q walked.had (λ x k. later_pass w clock c l x k) (informed_by _ w clock c walked.p walked.q l walked.turned a) i)
+
+  lands_later : (w clock c upto n : ℕ) (pushed : Bool) (ps qs : List (Option (Pass T Note Origin))) → Walked (LandTold clock w pushed upto c) n w ps qs → clock ≤ c
+  lands_later w clock c upto n pushed ps qs walked =
       let m = walked.turned.told in
       let up = above (land walked.turned.s clock w pushed) walked.turned.s clock w FlushIn (landed_as pushed upto) walked.turned.t m.made m.made_is in
-      let l : clock ≤ c = (let e = m.clock_is in omega arith) in
+      let e = m.clock_is in omega arith
+
+  landing_informs : (w clock c upto n : ℕ) (pushed : Bool) (ps qs : List (Option (Pass T Note Origin))) → Walked (LandTold clock w pushed upto c) n w ps qs → AreInformed w clock ps → AreInformed w c qs
+  landing_informs w clock c upto n pushed ps qs walked i =
+      let l = lands_later w clock c upto n pushed ps qs walked in
       let a = landing_adds_own w clock c upto pushed walked.turned.s walked.turned.t walked.turned.added walked.turned.told in
-      informed_stay w c clock' qs rs ts h (born_turns clock c l ts b.1)
-      (changed (IsInformed w c) t.shard ps qs walked.q walked.after_is
-      (one_changes (IsInformed w clock) (IsInformed w c) t.shard ps walked.p walked.q walked.had (λ x k. later_pass w clock c l x k) (informed_by _ w clock c walked.p walked.q l walked.turned a) i))
+      changed (IsInformed w c) n ps qs walked.q walked.after_is
+      (one_changes (IsInformed w clock) (IsInformed w c) n ps walked.p walked.q walked.had (λ x k. later_pass w clock c l x k) (informed_by _ w clock c walked.p walked.q l walked.turned a) i)
+
+  pub informed_stay : InformedStay T
+  informed_stay w _ _ _ _ _ (no_turn clock ps) b i = i
+  informed_stay w _ _ _ _ _ (event_turn clock c clock' ps qs rs t ts walked made stays h) b i =
+      let l = event_rises clock w t.event t.answer c walked.turned.s walked.turned.t walked.turned.added walked.turned.told in
+      informed_stay w c clock' qs rs ts h (born_turns clock c l ts b.1) (event_informs w clock c t ps qs walked b.0 i)
+  informed_stay w _ _ _ _ _ (flush_turns clock c d clock' upto pushed ps ms qs rs t u ts out back is answer made same lands landed entered known h) b i =
+      let one = event_rises clock w t.event t.answer c out.turned.s out.turned.t out.turned.added out.turned.told in
+      let l : clock ≤ d = (let two = lands_later w c d upto t.shard pushed ms qs back in omega arith) in
+      informed_stay w d clock' qs rs ts h (born_turns clock d l ts b.1.1) (landing_informs w c d upto t.shard pushed ms qs back (event_informs w clock c t ps ms out b.0 i))
   informed_stay w _ _ _ _ _ (horizon_look clock clock' n horizon ps qs rs ts looked h) b i =
       informed_stay w clock clock' qs rs ts h b
       (changed (IsInformed w clock) n ps qs looked.q looked.after_is

@@ -172,7 +172,7 @@ module _ {M S G : Type 0} (sh : Shards M S G) (w v : Walker M S G) (p : SessionS
   turn_of walked = record { shard = n; event = Request p.tx p.touched; answer = r; made = walked.turned.told.made }
 
   took_turn : (walked : IsAsked) → Took w.number w.clock w.passes.items (turn_of walked ∷ []) v.clock v.passes.items
-  took_turn walked = event_turn w.clock v.clock v.clock w.passes.items v.passes.items v.passes.items (turn_of walked) [] walked refl (no_turn v.clock v.passes.items)
+  took_turn walked = event_turn w.clock v.clock v.clock w.passes.items v.passes.items v.passes.items (turn_of walked) [] walked refl refl (no_turn v.clock v.passes.items)
 
   pub request_told : IsAsked → RequestTold w.number w.clock w.passes.items n (Request p.tx p.touched) r v.clock v.passes.items
   request_told walked = record { turns = turn_of walked ∷ []; took = took_turn walked; is = inr (turn_of walked, refl, refl, refl, refl) }

@@ -135,7 +135,7 @@ module _ {M S G : Type 0} (sh : Shards M S G) (w v : Walker M S G) (p : SessionS
   turn_of walked = record { shard = n; event = Look p.tx; answer = r; made = walked.turned.told.made }
 
   took_turn : (walked : IsAsked) → Took w.number w.clock w.passes.items (turn_of walked ∷ []) v.clock v.passes.items
-  took_turn walked = event_turn w.clock v.clock v.clock w.passes.items v.passes.items v.passes.items (turn_of walked) [] walked refl (no_turn v.clock v.passes.items)
+  took_turn walked = event_turn w.clock v.clock v.clock w.passes.items v.passes.items v.passes.items (turn_of walked) [] walked refl refl (no_turn v.clock v.passes.items)
 
   pub look_told : IsAsked → AskTold w.number w.clock w.passes.items n (Look p.tx) r v.clock v.passes.items
   look_told walked = record { turn = turn_of walked; took = took_turn walked; shard_is = refl; event_is = refl; answer_is = refl }

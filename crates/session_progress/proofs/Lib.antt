@@ -1,4 +1,5 @@
 pub mod States
 pub mod Touching
 pub mod Going
+pub mod Within
 pub mod Laws

@@ -1,5 +1,6 @@
 -- The state of a session by the entries of its walker, and how its next transaction goes on from there.
-use Rattle.std.specs.Prelude.{◌≡◌, ◌≢◌, ◌⊎◌, ℕ, true, false, List, [], ◌∷◌, ◌++◌, Option, Some, None, is_some}
+use Rattle.std.specs.Prelude.{◌≡◌, ◌≢◌, ◌⊎◌, ℕ, ◌<◌, true, false, List, [], ◌∷◌, ◌++◌, Option, Some, None, is_some}
+use Rattle.std.specs.List.{AllByRecursion}
 use Rattle.clv_base.specs.declared.names.Birth.{Birth}
 use Rattle.clv_base.specs.declared.ops.Op.{Op}
 use Rattle.clv_base.specs.declared.events.Event.{Event}
@@ -8,7 +9,8 @@ use Rattle.clv_base.specs.declared.events.Outcome.{Outcome}
 use Rattle.clv_base.specs.declared.events.Entry.{Entry}
 use Rattle.clv_base.specs.Orders.{tx_same}
 use Rattle.clv_base.specs.Journals.{History}
-use Rattle.clv_base.specs.Sessions.{SessionState, no_session, begins, begun, is_touching, op_in_session, session_after, is_session, is_of_session}
+use Rattle.clv_base.specs.Shards.{shard_count}
+use Rattle.clv_base.specs.Sessions.{SessionState, Standing, no_session, begins, begun, is_touching, op_in_session, session_after, is_session, is_of_session}
 use Rattle.journal_laws.specs.Offers.{hoped_for, may_make}
 
 -- the session after these entries, from v; none where it does not make them
@@ -65,3 +67,13 @@ OpsGoOn =
 -- what was touched, or isn't going on by operations any more, is the last transaction
 abbrev pub TouchedAreLast : Type 0
 TouchedAreLast = (t p : SessionState) → GoesOnBy t p → (p.touched ≢ []) ⊎ (is_touching p.phase ≡ false) → p ≡ t
+
+-- each touched shard is one that there is
+abbrev pub TouchedAreShards : Type 0
+TouchedAreShards =
+    (splits : List ℕ) (run walker : ℕ) (es : History) (t : SessionState) → session_of splits run walker es ≡ Some t → AllByRecursion (λ x. x.0 < shard_count splits) t.touched
+
+-- and so is the home of a request that stands
+abbrev pub HomesAreShards : Type 0
+HomesAreShards =
+    (splits : List ℕ) (run walker : ℕ) (es : History) (t : SessionState) (home : ℕ) → session_of splits run walker es ≡ Some t → t.phase ≡ Standing home → home < shard_count splits

@@ -1,5 +1,5 @@
 // What a walker's entries tell of its session.
-ghost use Rattle.session_progress.specs.States.{SessionsHaveStates, StatesGoOn, StatesTellMayMake, OthersLeaveStates, StatesBearWalkers, OpsGoOn, TouchedAreLast};
+ghost use Rattle.session_progress.specs.States.{SessionsHaveStates, StatesGoOn, StatesTellMayMake, OthersLeaveStates, StatesBearWalkers, OpsGoOn, TouchedAreLast, TouchedAreShards, HomesAreShards};
 
 /// A walker's entries are a session's exactly where they lead to a state.
 pub fn sessions_have_states()
@@ -34,4 +34,14 @@ pub fn ops_go_on()
 /// What was touched, or isn't going on by operations any more, is the last transaction.
 pub fn touched_are_last()
     ensures { TouchedAreLast }
+{}
+
+/// Each touched shard is one that there is.
+pub fn touched_are_shards()
+    ensures { TouchedAreShards }
+{}
+
+/// So is the home of a request that stands.
+pub fn homes_are_shards()
+    ensures { HomesAreShards }
 {}

@@ -18,14 +18,14 @@ use Rattle.cluster_turns.specs.Walkers.{Walked}
 use Rattle.cluster_flush.specs.declared.flushing.Flushed.{Flushed}
 use Rattle.cluster_flush.specs.declared.flushing.FlushError.{FlushError}
 use Rattle.cluster_flush.specs.declared.flushing.FlushError.TheVariants.{Failed as FlushFailed, Down as FlushDown, Worn as FlushWorn, Memory as FlushMemory}
-use Rattle.cluster_flush.specs.Flights.{LandTold, landed_as}
+use Rattle.cluster_flush.specs.Flights.{LandTold, KnownAt, landed_as}
 use Rattle.cluster_flush.specs.Told.{FlushTold, one_turn, two_turns, stayed, has_no_flight, flown}
 use Rattle.cluster_carry.specs.declared.carrying.Carry.{Carry}
 use Rattle.cluster_carry.specs.declared.carrying.CarryError.{CarryError}
 use Rattle.cluster_carry.specs.declared.reminding.Reminding.{Reminding}
 use Rattle.cluster_carry.specs.Carried.{message_of, not_taken, brought_by, BringTold, is_lost, is_brought, CarryTold, none_sent, one_sent}
 use Rattle.cluster_carry.specs.Reminded.{reminded_by}
-use Rattle.walker_turns.specs.Turns.{Turn, no_turn, event_turn, landing_turn, AreOthers, AnyTurn}
+use Rattle.walker_turns.specs.Turns.{Turn, no_turn, event_turn, flush_turns, takes_no_flight, AreOthers, AnyTurn}
 use Rattle.walker_turns.proofs.Laws.{turns_follow}
 use Rattle.session_rounds.specs.declared.parts.RoundError.{RoundError}
 use Rattle.session_rounds.specs.declared.parts.RoundError.TheVariants.{Down as RoundDown, Worn as RoundWorn, Memory as RoundMemory}
@@ -65,13 +65,13 @@ module _ {T A : Type 0} where
   pub told_as : {B : Type 0} (w c d : ℕ) (ps qs : List (Option (Pass T Note Origin))) (r : Result A RoundError) (q : Result B RoundError) → ((ts : List Turn) → EndedBy r ts → EndedBy q ts) → Rounded w c ps r d qs → Rounded w c ps q d qs
   told_as w c d ps qs r q f h = record { turns = h.turns; took = h.took; others = h.others; ended = f h.turns h.ended }
 
-  one : (n w c d : ℕ) (e : Event) (x : Result Outcome StepError) (ps qs : List (Option (Pass T Note Origin))) (r : Result A RoundError) → is_of_session e ≡ false → (walked : Walked (EventTold c w e x d) n w ps qs)
+  one : (n w c d : ℕ) (e : Event) (x : Result Outcome StepError) (ps qs : List (Option (Pass T Note Origin))) (r : Result A RoundError) → is_of_session e ≡ false → takes_no_flight e x ≡ true → (walked : Walked (EventTold c w e x d) n w ps qs)
       → ((t : Turn) → t.shard ≡ n → t.answer ≡ x → EndedBy r (t ∷ [])) → Rounded w c ps r d qs
-  one n w c d e x ps qs r other walked ended =
+  one n w c d e x ps qs r other stays walked ended =
       let t : Turn = record { shard = n; event = e; answer = x; made = walked.turned.told.made } in
       record {
         turns = t ∷ [];
-        took = event_turn c d d ps qs qs t [] walked refl (no_turn d qs);
+        took = event_turn c d d ps qs qs t [] walked refl stays (no_turn d qs);
         others = (other, tt);
         ended = ended t refl refl;
       }
@@ -95,14 +95,14 @@ stayed_ended a n (Err NoMemory) t f fits s h = tt
 stayed_ended a n (Err (IsWorn at)) t f fits s h = inl h
 
 module _ {T A : Type 0} where
-  flown_so : (a : A) (n w c d upto c1 : ℕ) (pushed : Bool) (ps qs rs : List (Option (Pass T Note Origin))) → Walked (EventTold c w FlushOut (Ok (Out upto)) c1) n w ps qs → Walked (LandTold c1 w pushed upto d) n w qs rs
+  flown_so : (a : A) (n w c d upto c1 : ℕ) (pushed : Bool) (ps qs rs : List (Option (Pass T Note Origin))) → Walked (EventTold c w FlushOut (Ok (Out upto)) c1) n w ps qs → Walked (LandTold c1 w pushed upto d) n w qs rs → (pushed ≡ true → KnownAt n upto rs)
       → Rounded w c ps (after_flush a n (flown pushed upto)) d rs
-  flown_so a n w c d upto c1 pushed ps qs rs out land =
+  flown_so a n w c d upto c1 pushed ps qs rs out land known =
       let t : Turn = record { shard = n; event = FlushOut; answer = Ok (Out upto); made = out.turned.told.made } in
       let u : Turn = record { shard = n; event = FlushIn; answer = Ok (landed_as pushed upto); made = Some land.turned.told.made } in
       record {
         turns = t ∷ u ∷ [];
-        took = event_turn c c1 d ps qs rs t (u ∷ []) out refl (landing_turn c1 d d upto pushed qs rs rs u [] land refl refl refl (no_turn d rs));
+        took = flush_turns c c1 d d upto pushed ps qs rs rs t u [] out land refl refl refl refl refl refl refl known (no_turn d rs);
         others = (refl, (refl, tt));
         ended = at pushed;
       }
@@ -113,9 +113,9 @@ module _ {T A : Type 0} where
 
   pub flush_rounds : (a : A) (n w c d : ℕ) (ps qs : List (Option (Pass T Note Origin))) (r : Result Flushed FlushError) → FlushTold n w c ps r d qs → Rounded w c ps (after_flush a n r) d qs
   flush_rounds a n w c _ ps _ _ (one_turn x d qs none walked) =
-      one n w c d FlushOut x ps qs (after_flush a n (stayed x)) refl walked
+      one n w c d FlushOut x ps qs (after_flush a n (stayed x)) refl none walked
       (λ t s h. stayed_ended a n x t none (fits_by fits_flush FlushOut flush_fits walked.turned.s walked.turned.t c w x walked.turned.told.made walked.turned.told.tells) s h)
-  flush_rounds a n w c _ ps _ _ (two_turns upto c1 d pushed qs rs out land known) = flown_so a n w c d upto c1 pushed ps qs rs out land
+  flush_rounds a n w c _ ps _ _ (two_turns upto c1 d pushed qs rs out land known) = flown_so a n w c d upto c1 pushed ps qs rs out land known
 
   pub flush_fails : (a : A) (n w c d : ℕ) (ps qs : List (Option (Pass T Note Origin))) (e f : FlushError) → FlushTold n w c ps (Err e) d qs → e ≡ f → Rounded w c ps (after_flush a n (Err f)) d qs
   flush_fails a n w c d ps qs e f told is = subst (λ x. Rounded w c ps (after_flush a n (Err x)) d qs) is (flush_rounds a n w c d ps qs (Err e) told)
@@ -144,14 +144,14 @@ brought_ended a n (Err (IsWorn at)) t s h = inl h
 module _ {T A : Type 0} where
   bring_rounds : (a : A) (count w c d : ℕ) (m : Message) (ps qs : List (Option (Pass T Note Origin))) (r : Result Carry CarryError) → BringTold count m w c ps r d qs → Rounded w c ps (after_carry a r) d qs
   bring_rounds a count w c _ m ps _ _ (is_lost past) = no_round w c ps a
-  bring_rounds a count w c _ m ps _ _ (is_brought x d qs low walked) = one (to_of m) w c d (Deliver m c) x ps qs (after_carry a (brought_by (to_of m) x)) refl walked (λ t s h. brought_ended a (to_of m) x t s h)
+  bring_rounds a count w c _ m ps _ _ (is_brought x d qs low walked) = one (to_of m) w c d (Deliver m c) x ps qs (after_carry a (brought_by (to_of m) x)) refl refl walked (λ t s h. brought_ended a (to_of m) x t s h)
 
   pub carry_rounds : (a : A) (count n w c d : ℕ) (ps qs : List (Option (Pass T Note Origin))) (r : Result Carry CarryError) → CarryTold count n w c ps r d qs → Rounded w c ps (after_carry a r) d qs
   carry_rounds a count n w c _ ps _ _ (none_sent x d qs none walked) =
-      one n w c d Send x ps qs (after_carry a (not_taken (message_of n x))) refl walked
+      one n w c d Send x ps qs (after_carry a (not_taken (message_of n x))) refl refl walked
       (λ t s h. not_sent a n x t none (fits_by fits_send Send send_fits walked.turned.s walked.turned.t c w x walked.turned.told.made walked.turned.told.tells) s h)
   carry_rounds a count n w c _ ps _ _ (one_sent m c1 qs r d rs walked brought) =
-      rounds_follow {A = A} {B = A} w c c1 d ps qs rs (Ok a) (after_carry a r) (one n w c c1 Send (Ok (Sent m)) ps qs (Ok a) refl walked (λ t s h. tt)) (bring_rounds a count w c1 d m qs rs r brought)
+      rounds_follow {A = A} {B = A} w c c1 d ps qs rs (Ok a) (after_carry a r) (one n w c c1 Send (Ok (Sent m)) ps qs (Ok a) refl refl walked (λ t s h. tt)) (bring_rounds a count w c1 d m qs rs r brought)
 
 -- ---- a reminder
 
@@ -170,7 +170,7 @@ remind_ended a n (Err (IsWorn at)) t fits s h = inl h
 module _ {T A : Type 0} where
   pub remind_rounds : (a : A) (n w c d : ℕ) (ps qs : List (Option (Pass T Note Origin))) (x : Result Outcome StepError) → Walked (EventTold c w Remind x d) n w ps qs → Rounded w c ps (after_remind a (reminded_by n x)) d qs
   remind_rounds a n w c d ps qs x walked =
-      one n w c d Remind x ps qs (after_remind a (reminded_by n x)) refl walked
+      one n w c d Remind x ps qs (after_remind a (reminded_by n x)) refl refl walked
       (λ t s h. remind_ended a n x t (fits_by fits_remind Remind remind_fits walked.turned.s walked.turned.t c w x walked.turned.told.made walked.turned.told.tells) s h)
 
 -- ---- a part after others

@@ -3,7 +3,7 @@ use Rattle.std.proofs.Common.{◌≡◌, ◌∙◌, refl, sym, ap, subst, ℕ, �
 use Rattle.std.proofs.lemmas.Bool.{both_ways}
 use Rattle.clv_base.specs.declared.names.TxId.{TxId}
 use Rattle.clv_base.specs.declared.events.Event.{Event}
-use Rattle.clv_base.specs.declared.events.Event.TheVariants.{Look, FlushIn}
+use Rattle.clv_base.specs.declared.events.Event.TheVariants.{Look}
 use Rattle.clv_base.specs.declared.events.Outcome.{Outcome}
 use Rattle.clv_base.specs.declared.events.Outcome.TheVariants.{Acknowledged, Aborted, NotYet, Down}
 use Rattle.clv_base.specs.declared.events.Entry.{Entry}
@@ -21,7 +21,7 @@ use Rattle.machine_calls.specs.declared.machine.StepError.{StepError}
 use Rattle.machine_calls.specs.Steps.{Tells, clock_after}
 use Rattle.turn_laws.specs.declared.notes.Note.{Note}
 use Rattle.turn_laws.specs.declared.notes.Origin.{Origin}
-use Rattle.walker_turns.specs.Turns.{Turn, Took, no_turn, event_turn, landing_turn, horizon_look}
+use Rattle.walker_turns.specs.Turns.{Turn, Took, no_turn, event_turn, flush_turns, horizon_look}
 use Rattle.session_commit.specs.Looked.{is_look_outcome}
 
 abbrev is_told : Outcome → Bool
@@ -108,16 +108,15 @@ module _ (tx : TxId) where
   module _ {T : Type 0} where
     no_turn_left : (w c d : ℕ) (ps qs : List (Option (Pass T Note Origin))) (ts : List Turn) → Took w c ps ts d qs → ts ≡ [] → d ≡ c
     no_turn_left w _ _ _ _ _ (no_turn clock ps) is = refl
-    no_turn_left w _ _ _ _ _ (event_turn clock c clock' ps qs rs t ts walked made h) is = absurd cc
-    no_turn_left w _ _ _ _ _ (landing_turn clock c clock' upto pushed ps qs rs t ts walked e answer made h) is = absurd cc
+    no_turn_left w _ _ _ _ _ (event_turn clock c clock' ps qs rs t ts walked made stays h) is = absurd cc
+    no_turn_left w _ _ _ _ _ (flush_turns clock c d clock' upto pushed ps ms qs rs t u ts out back e answer made same lands landed entered known h) is = absurd cc
     no_turn_left w _ _ _ _ _ (horizon_look clock clock' n horizon ps qs rs ts looked h) is = no_turn_left w clock clock' qs rs ts h is
 
     pub stamp_told : (w c d : ℕ) (ps qs : List (Option (Pass T Note Origin))) (ts : List Turn) → Took w c ps ts d qs → (u : Turn) → ts ≡ u ∷ [] → u.event ≡ Look tx → u.answer ≡ Ok Acknowledged → (x : Entry) × (u.made ≡ Some x) × (d ≡ x.stamp)
     stamp_told w _ _ _ _ _ (no_turn clock ps) u is event answer = absurd cc
-    stamp_told w _ _ _ _ _ (event_turn clock c clock' ps qs rs t ts walked made h) u is event answer =
+    stamp_told w _ _ _ _ _ (event_turn clock c clock' ps qs rs t ts walked made stays h) u is event answer =
         let same = head_same t u ts [] is in
         let found = entry_there walked.turned.s walked.turned.t clock w t.event t.answer walked.turned.told.made c walked.turned.told.tells (ap (λ z. z.event) same ∙ event) (ap (λ z. z.answer) same ∙ answer) walked.turned.told.clock_is in
         (found.0, sym (ap (λ z. z.made) same) ∙ made ∙ found.1, no_turn_left w c clock' qs rs ts h (tail_same t u ts [] is) ∙ found.2)
-    stamp_told w _ _ _ _ _ (landing_turn clock c clock' upto pushed ps qs rs t ts walked e ans made h) u is event answer =
-        let wrong : FlushIn ≡ Look tx = sym e ∙ ap (λ z. z.event) (head_same t u ts [] is) ∙ event in absurd cc
+    stamp_told w _ _ _ _ _ (flush_turns clock c d clock' upto pushed ps ms qs rs t v ts out back e ans made same lands landed entered known h) u is event answer = let wrong : v ∷ ts ≡ [] = tail_same t u (v ∷ ts) [] is in absurd cc
     stamp_told w _ _ _ _ _ (horizon_look clock clock' n horizon ps qs rs ts looked h) u is event answer = stamp_told w clock clock' qs rs ts h u is event answer

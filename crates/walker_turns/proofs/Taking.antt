@@ -7,6 +7,7 @@ use Rattle.clv_base.specs.declared.events.Outcome.{Outcome}
 use Rattle.clv_base.specs.declared.events.Entry.{Entry}
 use Rattle.clv_base.specs.Events.{step, land}
 use Rattle.clv_base.specs.State.{Shard}
+use Rattle.clv_base.specs.Journals.{History}
 use Rattle.history_replay.specs.Entries.{on_shard, entries_of}
 use Rattle.turn_lock.specs.declared.pass.Pass.{Pass}
 use Rattle.turn_lock.specs.Passes.{own}
@@ -21,13 +22,14 @@ use Rattle.cluster_turns.specs.Turns.{EventTold}
 use Rattle.cluster_turns.specs.Walkers.{Walked, Looked, kept, own_of, own_lists}
 use Rattle.cluster_turns.proofs.Laws.{event_rises}
 use Rattle.cluster_flush.specs.Flights.{LandTold, landed_as}
-use Rattle.walker_turns.specs.Turns.{Turn, Took, no_turn, event_turn, landing_turn, horizon_look, IsMadeBy, entry_on, entries_made}
+use Rattle.walker_turns.specs.Turns.{Turn, Took, no_turn, event_turn, flush_turns, horizon_look, IsMadeBy, entry_on, entries_made}
 
 module _ {T : Type 0} where
   pub turns_follow : (w c d e : ℕ) (ps qs rs : List (Option (Pass T Note Origin))) (ts us : List Turn) → Took w c ps ts d qs → Took w d qs us e rs → Took w c ps (ts ++ us) e rs
   turns_follow w _ _ e _ _ rs _ us (no_turn clock ps) k = k
-  turns_follow w _ _ e _ _ rs _ us (event_turn clock c clock' ps qs qs' t ts walked made h) k = event_turn clock c e ps qs rs t (ts ++ us) walked made (turns_follow w c clock' e qs qs' rs ts us h k)
-  turns_follow w _ _ e _ _ rs _ us (landing_turn clock c clock' upto pushed ps qs qs' t ts walked is answer made h) k = landing_turn clock c e upto pushed ps qs rs t (ts ++ us) walked is answer made (turns_follow w c clock' e qs qs' rs ts us h k)
+  turns_follow w _ _ e _ _ rs _ us (event_turn clock c clock' ps qs qs' t ts walked made stays h) k = event_turn clock c e ps qs rs t (ts ++ us) walked made stays (turns_follow w c clock' e qs qs' rs ts us h k)
+  turns_follow w _ _ e _ _ rs _ us (flush_turns clock c d clock' upto pushed ps ms qs qs' t u ts out back is answer made same lands landed entered known h) k =
+      flush_turns clock c d e upto pushed ps ms qs rs t u (ts ++ us) out back is answer made same lands landed entered known (turns_follow w d clock' e qs qs' rs ts us h k)
   turns_follow w _ _ e _ _ rs _ us (horizon_look clock clock' n horizon ps qs qs' ts looked h) k = horizon_look clock e n horizon ps qs rs (ts ++ us) looked (turns_follow w clock clock' e qs qs' rs ts us h k)
 
 -- ---- what is kept
@@ -52,14 +54,19 @@ module _ {T : Type 0} where
   looked_kept : (n horizon : ℕ) (ps qs : List (Option (Pass T Note Origin))) → Looked n ps horizon qs → kept qs ≡ kept ps
   looked_kept n horizon ps qs l = ap kept l.after_is ∙ ap entries_of (own_same n ps l.p l.q l.had l.same.3)
 
+  one_more : (ps qs rs : List (Option (Pass T Note Origin))) (xs ys : History) → kept rs ≡ kept qs ++ ys → kept qs ≡ kept ps ++ xs → kept rs ≡ kept ps ++ (xs ++ ys)
+  one_more ps qs rs xs ys h k = h ∙ ap (λ l. l ++ ys) k ∙ append_assoc (kept ps) xs ys
+
   pub kept_grows : (w c d : ℕ) (ps qs : List (Option (Pass T Note Origin))) (ts : List Turn) → Took w c ps ts d qs → kept qs ≡ kept ps ++ entries_made ts
   kept_grows w _ _ _ _ _ (no_turn clock ps) = sym (append-nil (kept ps))
-  kept_grows w _ _ _ _ _ (event_turn clock c clock' ps qs rs t ts walked made h) =
-      kept_grows w c clock' qs rs ts h ∙ ap (λ l. l ++ entries_made ts) (event_kept t.shard w clock c t.event t.answer ps qs walked ∙ ap (λ m. kept ps ++ entry_on t.shard m) (sym made))
-      ∙ append_assoc (kept ps) (entry_on t.shard t.made) (entries_made ts)
-  kept_grows w _ _ _ _ _ (landing_turn clock c clock' upto pushed ps qs rs t ts walked is answer made h) =
-      kept_grows w c clock' qs rs ts h ∙ ap (λ l. l ++ entries_made ts) (landing_kept t.shard w clock c upto pushed ps qs walked ∙ ap (λ m. kept ps ++ entry_on t.shard m) (sym made))
-      ∙ append_assoc (kept ps) (entry_on t.shard t.made) (entries_made ts)
+  kept_grows w _ _ _ _ _ (event_turn clock c clock' ps qs rs t ts walked made stays h) =
+      one_more ps qs rs (entry_on t.shard t.made) (entries_made ts) (kept_grows w c clock' qs rs ts h) (event_kept t.shard w clock c t.event t.answer ps qs walked ∙ ap (λ m. kept ps ++ entry_on t.shard m) (sym made))
+  kept_grows w _ _ _ _ _ (flush_turns clock c d clock' upto pushed ps ms qs rs t u ts out back is answer made same lands landed entered known h) =
+      let last : kept qs ≡ kept ms ++ entry_on u.shard u.made =
+      landing_kept t.shard w c d upto pushed ms qs back ∙ ap (λ n. kept ms ++ (n, back.turned.told.made) ∷ []) (sym same) ∙ ap (λ m. kept ms ++ entry_on u.shard m) (sym entered) in
+      one_more ps ms rs (entry_on t.shard t.made) (entry_on u.shard u.made ++ entries_made ts)
+      (one_more ms qs rs (entry_on u.shard u.made) (entries_made ts) (kept_grows w d clock' qs rs ts h) last)
+      (event_kept t.shard w clock c t.event t.answer ps ms out ∙ ap (λ m. kept ps ++ entry_on t.shard m) (sym made))
   kept_grows w _ _ _ _ _ (horizon_look clock clock' n horizon ps qs rs ts looked h) = kept_grows w clock clock' qs rs ts h ∙ ap (λ l. l ++ entries_made ts) (looked_kept n horizon ps qs looked)
 
 -- ---- whose entries
@@ -81,18 +88,21 @@ landed_so s u clock w upto pushed t y m event answer x is =
 module _ {T : Type 0} where
   pub entries_are_made : (w c d : ℕ) (ps qs : List (Option (Pass T Note Origin))) (ts : List Turn) → Took w c ps ts d qs → AllByRecursion (IsMadeBy w) ts
   entries_are_made w _ _ _ _ _ (no_turn clock ps) = tt
-  entries_are_made w _ _ _ _ _ (event_turn clock c clock' ps qs rs t ts walked made h) =
+  entries_are_made w _ _ _ _ _ (event_turn clock c clock' ps qs rs t ts walked made stays h) =
       (λ x is. made_so walked.turned.s walked.turned.t clock w t.event t.answer walked.turned.told.made walked.turned.told.tells x (sym made ∙ is), entries_are_made w c clock' qs rs ts h)
-  entries_are_made w _ _ _ _ _ (landing_turn clock c clock' upto pushed ps qs rs t ts walked event_is answer made h) =
-      (λ x is. landed_so walked.turned.s walked.turned.t clock w upto pushed t walked.turned.told.made walked.turned.told.made_is event_is answer x (sym made ∙ is), entries_are_made w c clock' qs rs ts h)
+  entries_are_made w _ _ _ _ _ (flush_turns clock c d clock' upto pushed ps ms qs rs t u ts out back is answer made same lands landed entered known h) = (
+    λ x one. made_so out.turned.s out.turned.t clock w t.event t.answer out.turned.told.made out.turned.told.tells x (sym made ∙ one),
+    (λ x one. landed_so back.turned.s back.turned.t c w upto pushed u back.turned.told.made back.turned.told.made_is lands landed x (sym entered ∙ one), entries_are_made w d clock' qs rs ts h),
+  )
   entries_are_made w _ _ _ _ _ (horizon_look clock clock' n horizon ps qs rs ts looked h) = entries_are_made w clock clock' qs rs ts h
 
   pub clock_rises : (w c d : ℕ) (ps qs : List (Option (Pass T Note Origin))) (ts : List Turn) → Took w c ps ts d qs → c ≤ d
   clock_rises w _ _ _ _ _ (no_turn clock ps) = omega arith
-  clock_rises w _ _ _ _ _ (event_turn clock c clock' ps qs rs t ts walked made h) =
+  clock_rises w _ _ _ _ _ (event_turn clock c clock' ps qs rs t ts walked made stays h) =
       let a = event_rises clock w t.event t.answer c walked.turned.s walked.turned.t walked.turned.added walked.turned.told in let b = clock_rises w c clock' qs rs ts h in omega arith
-  clock_rises w _ _ _ _ _ (landing_turn clock c clock' upto pushed ps qs rs t ts walked is answer made h) =
-      let m = walked.turned.told in
-      let a = above (land walked.turned.s clock w pushed) walked.turned.s clock w FlushIn (landed_as pushed upto) walked.turned.t m.made m.made_is in
-      let e = m.clock_is in let b = clock_rises w c clock' qs rs ts h in omega arith
+  clock_rises w _ _ _ _ _ (flush_turns clock c d clock' upto pushed ps ms qs rs t u ts out back is answer made same lands landed entered known h) =
+      let first = event_rises clock w t.event t.answer c out.turned.s out.turned.t out.turned.added out.turned.told in
+      let m = back.turned.told in
+      let a = above (land back.turned.s c w pushed) back.turned.s c w FlushIn (landed_as pushed upto) back.turned.t m.made m.made_is in
+      let e = m.clock_is in let b = clock_rises w d clock' qs rs ts h in omega arith
   clock_rises w _ _ _ _ _ (horizon_look clock clock' n horizon ps qs rs ts looked h) = clock_rises w clock clock' qs rs ts h

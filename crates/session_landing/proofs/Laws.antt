@@ -1,0 +1,2 @@
+-- What the crates above may use.
+pub use Rattle.session_landing.proofs.Landing.{turns_land, looks_land}
