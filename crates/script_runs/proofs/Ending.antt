@@ -1,0 +1,156 @@
+-- The end of a try.
+use Rattle.std.proofs.Common.{◌≡◌, refl, sym, ap, subst, ◌∙◌, inl, inr, ℕ, suc, Bool, true, List, [], ◌∷◌, ◌++◌, length, append-nil, Option, Some, None, Result, Ok, Err, arith}
+use Rattle.clv_base.specs.declared.names.TxId.{TxId}
+use Rattle.clv_base.specs.declared.names.Birth.{Birth}
+use Rattle.clv_base.specs.declared.ops.Op.{Op}
+use Rattle.clv_base.specs.declared.ops.Answer.{Answer}
+use Rattle.clv_base.specs.Journals.{History}
+use Rattle.script_lang.specs.declared.actions.Ending.{Ending}
+use Rattle.script_lang.specs.declared.actions.Ending.TheVariants.{Commit, Abort}
+use Rattle.script_lang.specs.Bodies.{Body}
+use Rattle.script_lang.specs.Following.{next_op}
+use Rattle.script_tries.specs.declared.ends.StopCause.{StopCause}
+use Rattle.script_tries.specs.declared.ends.StopCause.TheVariants.{Down, Unsettled, Worn, Memory}
+use Rattle.script_tries.specs.declared.ends.TryEnd.{TryEnd}
+use Rattle.script_tries.specs.declared.ends.TryEnd.TheVariants.{Acknowledged, Empty, Asked, Aborted, Stopped}
+use Rattle.script_tries.specs.Operations.{IsBegun, IsDeath}
+use Rattle.script_tries.specs.Tries.{IsDone, EndsBy, AreDrops, is_touched, operation_begun, request_next, acknowledged, nothing, by_line, in_operation, at_request, at_look, down, unsettled, wanting_before, wanting_behind, worn_at_line}
+use Rattle.script_runs.specs.Seen.{Active, Seen, Grows}
+use Rattle.script_runs.specs.Told.{AreDropsOf, OperateTold, CommitTold, AbortTold, GivenUp, IsActiveWhereDown, LineAborts, EndTold}
+use Rattle.script_runs.specs.Lines.{HasDone}
+use Rattle.script_runs.specs.Tried.{LeftBy, Tried}
+use Rattle.script_runs.proofs.Doing.{grows_on, touches_on}
+
+-- ---- a shard that was down
+
+gives_up : (tx : TxId) (birth : Birth) (touched : ℕ → Bool) (answer : Result (Unit {0}) StopCause) (u v : Seen) → AbortTold tx birth touched answer u v → (drops : History) × AreDropsOf tx touched None drops × Grows drops u v
+gives_up tx birth touched (Ok a) u v (drops, are, grows, is) = (drops, are, grows)
+gives_up tx birth touched (Err (Worn at)) u v t = t
+gives_up tx birth touched (Err Memory) u v t = absurd t
+gives_up tx birth touched (Err (Down n)) u v t = absurd t
+gives_up tx birth touched (Err (Unsettled n)) u v t = absurd t
+
+pub given_up : (cause : StopCause) (n : ℕ) (answer : Result (Unit {0}) StopCause) (u v : Seen) → cause ≡ Down n
+    → ((tx : TxId) (birth : Birth) (nth : ℕ) (touched : ℕ → Bool) → u.standing ≡ Active tx birth nth touched → AbortTold tx birth touched answer u v) → GivenUp (Stopped cause) u v
+given_up cause n answer u v is t =
+    subst (λ x. GivenUp (Stopped x) u v) (sym is) (λ tx birth nth touched active. gives_up tx birth touched answer u v (t tx birth nth touched active))
+
+pub active_where_down : (tx : TxId) (birth : Birth) (nth : ℕ) (touched : ℕ → Bool) (end : TryEnd) (u v : Seen) → CommitTold tx birth nth touched end u v → IsActiveWhereDown end v
+active_where_down tx birth nth touched (Stopped (Down n)) u v t = (tx, birth, t.1.0, touched, t.1.1)
+active_where_down tx birth nth touched (Stopped (Unsettled n)) u v t = tt
+active_where_down tx birth nth touched (Stopped (Worn at)) u v t = tt
+active_where_down tx birth nth touched (Stopped Memory) u v t = tt
+active_where_down tx birth nth touched Acknowledged u v t = tt
+active_where_down tx birth nth touched Empty u v t = tt
+active_where_down tx birth nth touched Asked u v t = tt
+active_where_down tx birth nth touched (Aborted cause) u v t = tt
+
+pub active_after_lines : (tx : TxId) (birth : Birth) (nth : ℕ) (touched : ℕ → Bool) (op : Op) (end : TryEnd) (u v : Seen) → OperateTold tx birth nth touched op (Err end) u v → IsActiveWhereDown end v
+active_after_lines tx birth nth touched op (Stopped (Down n)) u v t = (tx, birth, t.5.0, t.1, t.5.1)
+active_after_lines tx birth nth touched op (Stopped (Unsettled n)) u v t = tt
+active_after_lines tx birth nth touched op (Stopped (Worn at)) u v t = tt
+active_after_lines tx birth nth touched op (Stopped Memory) u v t = tt
+active_after_lines tx birth nth touched op Acknowledged u v t = tt
+active_after_lines tx birth nth touched op Empty u v t = tt
+active_after_lines tx birth nth touched op Asked u v t = tt
+active_after_lines tx birth nth touched op (Aborted cause) u v t = tt
+
+-- ---- the tries that they make
+
+drops_as : (tx : TxId) (touched : ℕ → Bool) (es : History) (left_out : Option ℕ) (drops : History) → ((n : ℕ) → touched n ≡ true → is_touched es n ≡ true) → AreDropsOf tx touched left_out drops → AreDrops tx es left_out drops
+drops_as tx touched es left_out [] only d = tt
+drops_as tx touched es left_out (e ∷ drops) only d =
+    (record { event = (d.0).event; outcome = (d.0).outcome; touched = only e.0 (d.0).on_touched; other = (d.0).other }, drops_as tx touched es left_out drops only d.1)
+
+-- with what stands behind its operations the transaction's entries are a try
+tried : (body : Body) (tx : TxId) (birth : Birth) (end : TryEnd) (u w v : Seen) (d : HasDone tx birth body.actions u w) (behind : History) → EndsBy u.splits body tx birth d.answers d.entries end behind → Grows behind w v
+    → LeftBy birth end v.standing → Tried body tx birth end u v
+tried body tx birth end u w v d behind ends grows left =
+    record {
+      answers = d.answers;
+      entries = d.entries ++ behind;
+      is_try = record { before = d.entries; behind = behind; entries_are = refl; operations = d.operations; ends = ends };
+      grows = grows_on d.entries behind u w v d.grows grows;
+      left = left;
+    }
+
+no_answers : (answers : List Answer) → length answers ≡ 0 → answers ≡ []
+no_answers [] h = refl
+no_answers (a ∷ answers) h = absurd (let no : ⊥ = omega arith in no)
+
+more_touched : (touched : ℕ → Bool) (es : History) → ((n : ℕ) → touched n ≡ true → is_touched es n ≡ true) → (n : ℕ) → touched n ≡ true → is_touched (es ++ []) n ≡ true
+more_touched touched es only n h = ap (λ l. is_touched l n) (append-nil es) ∙ only n h
+
+done_as : (body : Body) (ending : Ending) (answers : List Answer) → next_op body.actions answers ≡ None → body.ending ≡ ending → IsDone body ending answers
+done_as body ending answers all is = record { all = all; ending_is = is }
+
+committed : (body : Body) (tx : TxId) (birth : Birth) (end : TryEnd) (u w x v : Seen) (d : HasDone tx birth body.actions u w) → IsDone body Commit d.answers → CommitTold tx birth (length d.answers) d.touched end w x → GivenUp end x v
+    → Tried body tx birth end u v
+committed body tx birth Acknowledged u w x v d all (home, asked, told, a, l, grows, idle) g =
+    tried body tx birth Acknowledged u w v d (asked ∷ told ∷ []) (acknowledged home asked told all a l) (subst (Grows (asked ∷ told ∷ []) w) (sym g) grows) (ap (λ s. s.standing) g ∙ idle)
+committed body tx birth Empty u w x v d all (zero_nth, grows, idle) g =
+    tried body tx birth Empty u w v d [] (nothing all (no_answers d.answers zero_nth)) (subst (Grows [] w) (sym g) grows) (ap (λ s. s.standing) g ∙ idle)
+committed body tx birth Asked u w x v d all t g = absurd t
+committed body tx birth (Aborted cause) u w x v d all (inl (home, asked, drops, a, are, grows), idle) g =
+    tried body tx birth (Aborted cause) u w v d (asked ∷ drops) (at_request home cause asked drops all a (drops_as tx d.touched d.entries (Some home) drops d.only are)) (subst (Grows (asked ∷ drops) w) (sym g) grows)
+    (ap (λ s. s.standing) g ∙ idle)
+committed body tx birth (Aborted cause) u w x v d all (inr (home, asked, told, drops, a, l, are, grows), idle) g =
+    tried body tx birth (Aborted cause) u w v d (asked ∷ told ∷ drops) (at_look home cause asked told drops all a l (drops_as tx d.touched d.entries (Some home) drops d.only are))
+    (subst (Grows (asked ∷ told ∷ drops) w) (sym g) grows) (ap (λ s. s.standing) g ∙ idle)
+committed body tx birth (Stopped (Down n)) u w x v d all (grows, (nth, active)) g =
+    let h = g tx birth nth d.touched active in
+    tried body tx birth (Stopped (Down n)) u w v d h.0 (down n [] h.0 (request_next all) (drops_as tx d.touched (d.entries ++ []) None h.0 (more_touched d.touched d.entries d.only) h.1)) (grows_on [] h.0 w x v grows h.2) tt
+committed body tx birth (Stopped (Unsettled n)) u w x v d all (home, asked, a, grows) g =
+    tried body tx birth (Stopped (Unsettled n)) u w v d (asked ∷ []) (unsettled n home asked all a) (subst (Grows (asked ∷ []) w) (sym g) grows) tt
+committed body tx birth (Stopped (Worn at)) u w x v d all (inl grows) g = tried body tx birth (Stopped (Worn at)) u w v d [] (wanting_before (Worn at) [] refl (request_next all)) (subst (Grows [] w) (sym g) grows) tt
+committed body tx birth (Stopped (Worn at)) u w x v d all (inr (home, asked, a, grows)) g =
+    tried body tx birth (Stopped (Worn at)) u w v d (asked ∷ []) (wanting_behind (Worn at) home asked refl all a) (subst (Grows (asked ∷ []) w) (sym g) grows) tt
+committed body tx birth (Stopped Memory) u w x v d all (inl grows) g = tried body tx birth (Stopped Memory) u w v d [] (wanting_before Memory [] refl (request_next all)) (subst (Grows [] w) (sym g) grows) tt
+committed body tx birth (Stopped Memory) u w x v d all (inr (home, asked, a, grows)) g =
+    tried body tx birth (Stopped Memory) u w v d (asked ∷ []) (wanting_behind Memory home asked refl all a) (subst (Grows (asked ∷ []) w) (sym g) grows) tt
+
+line_aborted : (body : Body) (tx : TxId) (birth : Birth) (end : TryEnd) (u w v : Seen) (d : HasDone tx birth body.actions u w) → IsDone body Abort d.answers → LineAborts tx birth d.touched end w v → Tried body tx birth end u v
+line_aborted body tx birth Asked u w v d all (drops, are, grows, idle) = tried body tx birth Asked u w v d drops (by_line drops all (drops_as tx d.touched d.entries None drops d.only are)) grows idle
+line_aborted body tx birth (Stopped (Worn at)) u w v d all (drops, are, grows) =
+    tried body tx birth (Stopped (Worn at)) u w v d drops (worn_at_line at drops all (drops_as tx d.touched d.entries None drops d.only are)) grows tt
+line_aborted body tx birth (Stopped (Down n)) u w v d all t = absurd t
+line_aborted body tx birth (Stopped (Unsettled n)) u w v d all t = absurd t
+line_aborted body tx birth (Stopped Memory) u w v d all t = absurd t
+line_aborted body tx birth Acknowledged u w v d all t = absurd t
+line_aborted body tx birth Empty u w v d all t = absurd t
+line_aborted body tx birth (Aborted cause) u w v d all t = absurd t
+
+ended : (body : Body) (tx : TxId) (birth : Birth) (ending : Ending) (end : TryEnd) (u w v : Seen) (d : HasDone tx birth body.actions u w) → next_op body.actions d.answers ≡ None → body.ending ≡ ending
+    → EndTold tx birth (length d.answers) d.touched ending end w v → Tried body tx birth end u v
+ended body tx birth Commit end u w v d all is (x, t, g) = committed body tx birth end u w x v d (done_as body Commit d.answers all is) t g
+ended body tx birth Abort end u w v d all is t = line_aborted body tx birth end u w v d (done_as body Abort d.answers all is) t
+
+-- each line was done, and then the end that was asked for
+pub tried_whole : (body : Body) (tx : TxId) (birth : Birth) (ending : Ending) (end : TryEnd) (u w v : Seen) (d : HasDone tx birth body.actions u w) → next_op body.actions d.answers ≡ None → ending ≡ body.ending
+    → ((tx : TxId) (birth : Birth) (nth : ℕ) (touched : ℕ → Bool) → w.standing ≡ Active tx birth nth touched → EndTold tx birth nth touched ending end w v) → Tried body tx birth end u v
+tried_whole body tx birth ending end u w v d all is t = ended body tx birth ending end u w v d all (sym is) (t tx birth (length d.answers) d.touched d.standing_is)
+
+-- an operation wasn't answered
+pub tried_part : (body : Body) (tx : TxId) (birth : Birth) (end : TryEnd) (u w x v : Seen) (d : HasDone tx birth body.actions u w) (op : Op) → next_op body.actions d.answers ≡ Some op
+    → OperateTold tx birth (length d.answers) d.touched op (Err end) w x → GivenUp end x v → Tried body tx birth end u v
+tried_part body tx birth (Aborted cause) u w x v d op next (here, drops, n, after, died, by, are, grows, idle) g =
+    tried body tx birth (Aborted cause) u w v d (here ++ drops)
+    (in_operation op cause n here drops next (subst (λ s. IsDeath s tx birth (suc (length d.answers)) op cause n here) (d.grows).splits_are died)
+    (drops_as tx after (d.entries ++ here) (Some n) drops (touches_on d.touched after d.entries here d.only by) are))
+    (subst (Grows (here ++ drops) w) (sym g) grows) (ap (λ s. s.standing) g ∙ idle)
+tried_part body tx birth (Stopped (Down n)) u w x v d op next (here, after, begun, by, grows, (nth, active)) g =
+    let h = g tx birth nth after active in
+    tried body tx birth (Stopped (Down n)) u w v d (here ++ h.0)
+    (down n here h.0 (operation_begun op here next (subst (λ s. IsBegun s tx birth (suc (length d.answers)) op here) (d.grows).splits_are begun))
+    (drops_as tx after (d.entries ++ here) None h.0 (touches_on d.touched after d.entries here d.only by) h.1))
+    (grows_on here h.0 w x v grows h.2) tt
+tried_part body tx birth (Stopped (Worn at)) u w x v d op next (here, begun, grows) g =
+    tried body tx birth (Stopped (Worn at)) u w v d here
+    (wanting_before (Worn at) here refl (operation_begun op here next (subst (λ s. IsBegun s tx birth (suc (length d.answers)) op here) (d.grows).splits_are begun))) (subst (Grows here w) (sym g) grows) tt
+tried_part body tx birth (Stopped Memory) u w x v d op next (here, begun, grows) g =
+    tried body tx birth (Stopped Memory) u w v d here
+    (wanting_before Memory here refl (operation_begun op here next (subst (λ s. IsBegun s tx birth (suc (length d.answers)) op here) (d.grows).splits_are begun))) (subst (Grows here w) (sym g) grows) tt
+tried_part body tx birth (Stopped (Unsettled n)) u w x v d op next t g = absurd t
+tried_part body tx birth Acknowledged u w x v d op next t g = absurd t
+tried_part body tx birth Empty u w x v d op next t g = absurd t
+tried_part body tx birth Asked u w x v d op next t g = absurd t

@@ -1,0 +1,4 @@
+mod Doing
+mod Ending
+mod Tries
+mod Sessions

@@ -1,0 +1,12 @@
+use Rattle.std.proofs.Common.{take}
+use Rattle.script_runs.specs.Ran.{IsIdle}
+use Rattle.script_runs.proofs.Sessions.{Running}
+use Rattle.script_runs.proofs.running.run_session.Given as goal
+
+-- the transactions so far were done
+abbrev pub invariant-loop-transaction : goal.invariant-loop-transaction
+invariant-loop-transaction g l =
+    record {
+      idle : IsIdle (g.C.SessionCalls.seen l.session);
+      done : Running (take l.transaction-index l.transactions) l.most (g.C.SessionCalls.seen l.fn.session) (g.C.SessionCalls.seen l.session);
+    }

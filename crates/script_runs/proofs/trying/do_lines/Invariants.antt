@@ -1,0 +1,11 @@
+use Rattle.std.proofs.Common.{◌≡◌}
+use Rattle.clv_base.specs.declared.names.TxId.{TxId}
+use Rattle.clv_base.specs.declared.names.Birth.{Birth as BirthIs}
+use Rattle.script_runs.specs.Seen.{Active, untouched}
+use Rattle.script_runs.proofs.Doing.{Doing}
+use Rattle.script_runs.proofs.trying.do_lines.Given as goal
+
+abbrev pub invariant-loop : goal.invariant-loop
+invariant-loop g l =
+    (tx : TxId) (birth : BirthIs) → (g.C.SessionCalls.seen l.fn.session).standing ≡ Active tx birth 0 untouched
+    → Doing tx birth l.lines (g.C.SessionCalls.seen l.fn.session) (g.C.SessionCalls.seen l.session) l.following

@@ -1,0 +1,35 @@
+-- What whoever runs a script knows of a session.
+use Rattle.std.specs.Prelude.{◌≡◌, ℕ, ◌≤◌, Bool, false, List, ◌++◌, Option}
+use Rattle.clv_base.specs.declared.names.TxId.{TxId}
+use Rattle.clv_base.specs.declared.names.Birth.{Birth}
+use Rattle.clv_base.specs.Journals.{History}
+
+-- how its last transaction stands: none is active, and the last one may be tried again with its birth, if it ended by an abort; or it is active: its
+-- name, its birth, the number of its last operation, and which shards it touched; or its request stands
+pub data Standing : Type 0 where
+  Idle : (again : Option Birth) → Standing
+  Active : (tx : TxId) (birth : Birth) (nth : ℕ) (touched : ℕ → Bool) → Standing
+  Asked : Standing
+
+abbrev pub untouched : ℕ → Bool
+untouched n = false
+
+-- a session: the splits, its run and its walker's number, the entries that it made, a clock that none of its births is past, the serial of its last
+-- transaction, and how that stands
+pub record Seen : Type 0 where
+  pub splits : List ℕ
+  pub run : ℕ
+  pub walker : ℕ
+  pub entries : History
+  pub clock : ℕ
+  pub serial : ℕ
+  pub standing : Standing
+
+-- the same session, with these entries more
+pub record Grows (es : History) (u v : Seen) : Type 0 where
+  pub splits_are : v.splits ≡ u.splits
+  pub run_is : v.run ≡ u.run
+  pub walker_is : v.walker ≡ u.walker
+  pub entries_are : v.entries ≡ u.entries ++ es
+  pub clock_rises : u.clock ≤ v.clock
+  pub serial_rises : u.serial ≤ v.serial

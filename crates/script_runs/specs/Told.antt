@@ -1,0 +1,172 @@
+-- What a session's calls tell.
+use Rattle.std.specs.Prelude.{◌≡◌, ◌⊎◌, ⊤, ℕ, suc, ◌<◌, ◌≤◌, Bool, true, nat_le, [], ◌∷◌, ◌++◌, Option, Some, None, Result, Ok, Err}
+use Rattle.std.specs.List.{AllByRecursion}
+use Rattle.clv_base.specs.declared.names.TxId.{TxId}
+use Rattle.clv_base.specs.declared.names.Birth.{Birth}
+use Rattle.clv_base.specs.declared.causes.AbortCause.{AbortCause}
+use Rattle.clv_base.specs.declared.ops.Op.{Op}
+use Rattle.clv_base.specs.declared.ops.Op.TheVariants.{Get, Put, Del, Scan}
+use Rattle.clv_base.specs.declared.ops.Answer.{Answer}
+use Rattle.clv_base.specs.declared.events.Event.TheVariants.{Drop}
+use Rattle.clv_base.specs.declared.events.Outcome.TheVariants.{Dead, Asked as AskedOut, Acknowledged as AcknowledgedOut, Aborted as AbortedOut, Dropped}
+use Rattle.clv_base.specs.declared.events.Entry.{Entry}
+use Rattle.clv_base.specs.Journals.{History}
+use Rattle.script_lang.specs.declared.actions.Ending.{Ending}
+use Rattle.script_lang.specs.declared.actions.Ending.TheVariants.{Commit, Abort}
+use Rattle.script_tries.specs.declared.ends.StopCause.{StopCause}
+use Rattle.script_tries.specs.declared.ends.StopCause.TheVariants.{Down, Unsettled, Worn, Memory}
+use Rattle.script_tries.specs.declared.ends.TryEnd.{TryEnd}
+use Rattle.script_tries.specs.declared.ends.TryEnd.TheVariants.{Acknowledged, Empty, Asked, Aborted, Stopped}
+use Rattle.script_tries.specs.Operations.{IsOperation, IsBegun, IsDeath}
+use Rattle.script_tries.specs.Tries.{IsRequest, IsLook, is_touched}
+use Rattle.script_runs.specs.Seen.{Idle, Active, Seen, Grows, untouched}
+
+-- ---- beginnings
+
+-- the transaction is a new one, with this birth
+pub record Begins (birth : Birth) (u v : Seen) : Type 0 where
+  pub tx : TxId
+  pub run_is : tx.run ≡ u.run
+  pub session_is : tx.session ≡ u.walker
+  pub serial_is : tx.serial ≡ v.serial
+  pub rises : u.serial < v.serial
+  pub grows : Grows [] u v
+  pub active : v.standing ≡ Active tx birth 0 untouched
+
+-- what was refused made nothing
+abbrev pub BeginTold : {A : Type 0} → Result A StopCause → Seen → Seen → Type 0
+BeginTold (Ok a) u v = (birth : Birth) × (birth.session ≡ u.walker) × (u.clock < birth.stamp) × (birth.stamp ≤ v.clock) × Begins birth u v
+BeginTold (Err (Worn at)) u v = Grows [] u v
+BeginTold (Err Memory) u v = ⊥
+BeginTold (Err (Down n)) u v = ⊥
+BeginTold (Err (Unsettled n)) u v = ⊥
+
+abbrev pub RetryTold : {A : Type 0} → Birth → Result A StopCause → Seen → Seen → Type 0
+RetryTold birth (Ok a) u v = Begins birth u v
+RetryTold birth (Err (Worn at)) u v = Grows [] u v
+RetryTold birth (Err Memory) u v = ⊥
+RetryTold birth (Err (Down n)) u v = ⊥
+RetryTold birth (Err (Unsettled n)) u v = ⊥
+
+-- ---- drops
+
+-- an entry drops the transaction on a shard that it touched, but not on the one where it is gone already
+pub record IsDropOf (tx : TxId) (touched : ℕ → Bool) (left_out : Option ℕ) (e : ℕ × Entry) : Type 0 where
+  pub event : (e.1).event ≡ Drop tx
+  pub outcome : (e.1).outcome ≡ Dropped
+  pub on_touched : touched e.0 ≡ true
+  pub other : left_out ≡ Some e.0 → ⊥
+
+abbrev pub AreDropsOf : TxId → (ℕ → Bool) → Option ℕ → History → Type 0
+AreDropsOf tx touched left_out es = AllByRecursion (IsDropOf tx touched left_out) es
+
+-- each shard that is touched was touched before, or is one of these entries'
+abbrev pub TouchesBy : (ℕ → Bool) → History → (ℕ → Bool) → Type 0
+TouchesBy before es after = (n : ℕ) → after n ≡ true → (before n ≡ true) ⊎ (is_touched es n ≡ true)
+
+-- ---- operations
+
+-- the bounds of a scan don't fall
+abbrev pub has_range : Op → Bool
+has_range (Get k) = true
+has_range (Put k v) = true
+has_range (Del k) = true
+has_range (Scan lo hi) = nat_le lo hi
+
+-- active still, with these shards touched
+abbrev pub StaysActive : TxId → Birth → (ℕ → Bool) → Seen → Type 0
+StaysActive tx birth touched v = (nth : ℕ) × (v.standing ≡ Active tx birth nth touched)
+
+-- of the active transaction's operation: the shards touched after it, and its entries
+abbrev pub OperateTold : TxId → Birth → ℕ → (ℕ → Bool) → Op → Result Answer TryEnd → Seen → Seen → Type 0
+OperateTold tx birth nth touched op (Ok answer) u v =
+    (here : History) × (after : ℕ → Bool) × IsOperation u.splits tx birth (suc nth) op answer here × TouchesBy touched here after × Grows here u v
+    × (v.standing ≡ Active tx birth (suc nth) after)
+OperateTold tx birth nth touched op (Err (Aborted cause)) u v =
+    (here drops : History) × (n : ℕ) × (after : ℕ → Bool) × IsDeath u.splits tx birth (suc nth) op cause n here × TouchesBy touched here after
+    × AreDropsOf tx after (Some n) drops × Grows (here ++ drops) u v × (v.standing ≡ Idle (Some birth))
+OperateTold tx birth nth touched op (Err (Stopped (Down n))) u v =
+    (here : History) × (after : ℕ → Bool) × IsBegun u.splits tx birth (suc nth) op here × TouchesBy touched here after × Grows here u v × StaysActive tx birth after v
+OperateTold tx birth nth touched op (Err (Stopped (Worn at))) u v = (here : History) × IsBegun u.splits tx birth (suc nth) op here × Grows here u v
+OperateTold tx birth nth touched op (Err (Stopped Memory)) u v = (here : History) × IsBegun u.splits tx birth (suc nth) op here × Grows here u v
+OperateTold tx birth nth touched op (Err (Stopped (Unsettled n))) u v = ⊥
+OperateTold tx birth nth touched op (Err Acknowledged) u v = ⊥
+OperateTold tx birth nth touched op (Err Empty) u v = ⊥
+OperateTold tx birth nth touched op (Err Asked) u v = ⊥
+
+-- ---- ends
+
+-- its request stands at its home, and nothing else was made
+abbrev pub RequestStands : TxId → Seen → Seen → Type 0
+RequestStands tx u v = (home : ℕ) × (asked : ℕ × Entry) × IsRequest tx home AskedOut asked × Grows (asked ∷ []) u v
+
+-- it died of its request; it was told of its abort by a look
+abbrev pub DiesAtRequest : TxId → (ℕ → Bool) → AbortCause → Seen → Seen → Type 0
+DiesAtRequest tx touched cause u v =
+    (home : ℕ) × (asked : ℕ × Entry) × (drops : History) × IsRequest tx home (Dead cause) asked × AreDropsOf tx touched (Some home) drops × Grows (asked ∷ drops) u v
+
+abbrev pub AbortsAtLook : TxId → (ℕ → Bool) → AbortCause → Seen → Seen → Type 0
+AbortsAtLook tx touched cause u v =
+    (home : ℕ) × (asked told : ℕ × Entry) × (drops : History) × IsRequest tx home AskedOut asked × IsLook tx home (AbortedOut cause) told
+    × AreDropsOf tx touched (Some home) drops × Grows (asked ∷ told ∷ drops) u v
+
+-- of the active transaction's commit: there is nothing to commit only where it had no operation
+abbrev pub CommitTold : TxId → Birth → ℕ → (ℕ → Bool) → TryEnd → Seen → Seen → Type 0
+CommitTold tx birth nth touched Acknowledged u v =
+    (home : ℕ) × (asked told : ℕ × Entry) × IsRequest tx home AskedOut asked × IsLook tx home AcknowledgedOut told × Grows (asked ∷ told ∷ []) u v
+    × (v.standing ≡ Idle None)
+CommitTold tx birth nth touched Empty u v = (nth ≡ 0) × Grows [] u v × (v.standing ≡ Idle None)
+CommitTold tx birth nth touched (Aborted cause) u v = (DiesAtRequest tx touched cause u v ⊎ AbortsAtLook tx touched cause u v) × (v.standing ≡ Idle (Some birth))
+CommitTold tx birth nth touched (Stopped (Down n)) u v = Grows [] u v × StaysActive tx birth touched v
+CommitTold tx birth nth touched (Stopped (Unsettled n)) u v = RequestStands tx u v
+CommitTold tx birth nth touched (Stopped (Worn at)) u v = Grows [] u v ⊎ RequestStands tx u v
+CommitTold tx birth nth touched (Stopped Memory) u v = Grows [] u v ⊎ RequestStands tx u v
+CommitTold tx birth nth touched Asked u v = ⊥
+
+-- of its abort
+abbrev pub AbortTold : {A : Type 0} → TxId → Birth → (ℕ → Bool) → Result A StopCause → Seen → Seen → Type 0
+AbortTold tx birth touched (Ok a) u v = (drops : History) × AreDropsOf tx touched None drops × Grows drops u v × (v.standing ≡ Idle (Some birth))
+AbortTold tx birth touched (Err (Worn at)) u v = (drops : History) × AreDropsOf tx touched None drops × Grows drops u v
+AbortTold tx birth touched (Err Memory) u v = ⊥
+AbortTold tx birth touched (Err (Down n)) u v = ⊥
+AbortTold tx birth touched (Err (Unsettled n)) u v = ⊥
+
+-- where a shard was down the active transaction is dropped, whatever its abort was answered; else nothing more is done
+abbrev pub GivenUp : TryEnd → Seen → Seen → Type 0
+GivenUp (Stopped (Down n)) u v =
+    (tx : TxId) (birth : Birth) (nth : ℕ) (touched : ℕ → Bool) → u.standing ≡ Active tx birth nth touched
+    → (drops : History) × AreDropsOf tx touched None drops × Grows drops u v
+GivenUp (Stopped (Unsettled n)) u v = v ≡ u
+GivenUp (Stopped (Worn at)) u v = v ≡ u
+GivenUp (Stopped Memory) u v = v ≡ u
+GivenUp Acknowledged u v = v ≡ u
+GivenUp Empty u v = v ≡ u
+GivenUp Asked u v = v ≡ u
+GivenUp (Aborted cause) u v = v ≡ u
+
+-- the transaction is active where a shard was down
+abbrev pub IsActiveWhereDown : TryEnd → Seen → Type 0
+IsActiveWhereDown (Stopped (Down n)) u = (tx : TxId) × (birth : Birth) × (nth : ℕ) × (touched : ℕ → Bool) × (u.standing ≡ Active tx birth nth touched)
+IsActiveWhereDown (Stopped (Unsettled n)) u = ⊤
+IsActiveWhereDown (Stopped (Worn at)) u = ⊤
+IsActiveWhereDown (Stopped Memory) u = ⊤
+IsActiveWhereDown Acknowledged u = ⊤
+IsActiveWhereDown Empty u = ⊤
+IsActiveWhereDown Asked u = ⊤
+IsActiveWhereDown (Aborted cause) u = ⊤
+
+-- at the line `abort`: asked for, or worn
+abbrev pub LineAborts : TxId → Birth → (ℕ → Bool) → TryEnd → Seen → Seen → Type 0
+LineAborts tx birth touched Asked u v = (drops : History) × AreDropsOf tx touched None drops × Grows drops u v × (v.standing ≡ Idle (Some birth))
+LineAborts tx birth touched (Stopped (Worn at)) u v = (drops : History) × AreDropsOf tx touched None drops × Grows drops u v
+LineAborts tx birth touched (Stopped (Down n)) u v = ⊥
+LineAborts tx birth touched (Stopped (Unsettled n)) u v = ⊥
+LineAborts tx birth touched (Stopped Memory) u v = ⊥
+LineAborts tx birth touched Acknowledged u v = ⊥
+LineAborts tx birth touched Empty u v = ⊥
+LineAborts tx birth touched (Aborted cause) u v = ⊥
+
+-- the end that its lines ask for
+abbrev pub EndTold : TxId → Birth → ℕ → (ℕ → Bool) → Ending → TryEnd → Seen → Seen → Type 0
+EndTold tx birth nth touched Commit end u v = (w : Seen) × CommitTold tx birth nth touched end u w × GivenUp end w v
+EndTold tx birth nth touched Abort end u v = LineAborts tx birth touched end u v

@@ -1,0 +1,122 @@
+// A transaction in its tries.
+ghost use Rattle.std.specs.Prelude.{◌≡◌, ◌⊎◌, ℕ, suc, true, Some, IfErr};
+ghost use Rattle.std.specs.List.{list_all};
+ghost use Rattle.clv_base.specs.declared.names.TxId.{TxId};
+ghost use Rattle.clv_base.specs.declared.names.Birth.{Birth as BirthIs};
+ghost use Rattle.script_lang.specs.Laws.{is_narrow};
+ghost use Rattle.script_tries.specs.Sessions.{has_left};
+ghost use Rattle.script_runs.specs.Seen.{Active, untouched};
+ghost use Rattle.script_runs.specs.Ran.{NextIs, stop_in, IsIdle, IdleAfter, InTriesTold, Ran, NotBegun};
+
+use crate::calls::SessionCalls;
+use crate::trying::run_try;
+use clv_base::causes::AbortCause;
+use script_lang::Transaction;
+use script_tries::{StopCause, TryEnd};
+use std::alloc::Global;
+use std::sync::Wait;
+
+/// What follows a try.
+#[derive(Clone, Copy, Debug)]
+pub enum Next {
+    Again,
+    Done,
+    Stop(StopCause),
+}
+
+// Whether a further try may follow the one of this number.
+fn has_more(most: Option<u32>, tried: u32) -> bool
+    ensures { result ≡ has_left most tried }
+{
+    match most {
+        None => true,
+        Some(most) => tried < most,
+    }
+}
+
+// The number of the next try, where it is bounded.
+fn next_number(most: Option<u32>, tried: u32) -> u32
+    requires { has_left most tried ≡ true }
+    ensures { (n : ℕ) → most ≡ Some n → result ≡ suc tried }
+{
+    match most {
+        None => tried,
+        Some(_) => tried + 1,
+    }
+}
+
+// An abort for another cause than that the session asked for it calls for a further try.
+fn after_abort(cause: AbortCause, most: Option<u32>, tried: u32) -> Next
+    ensures { NextIs (TryEnd.Aborted cause) most tried result }
+{
+    match cause {
+        AbortCause::Asked => Next::Done,
+        _ => {
+            if has_more(most, tried) {
+                Next::Again
+            } else {
+                Next::Done
+            }
+        }
+    }
+}
+
+fn next_after(end: TryEnd, most: Option<u32>, tried: u32) -> Next
+    ensures { NextIs end most tried result }
+{
+    match end {
+        TryEnd::Stopped(cause) => Next::Stop(cause),
+        TryEnd::Aborted(cause) => after_abort(cause, most, tried),
+        _ => Next::Done,
+    }
+}
+
+// The tries of the active transaction, which made nothing so far.
+fn run_tries<R: Wait, C: SessionCalls>(
+    rt: &R,
+    alloc: Global,
+    session: &mut C,
+    transaction: &Transaction,
+    most: Option<u32>,
+) -> Result<(), StopCause>
+    requires begun { (tx : TxId) × (birth : BirthIs) × ((C.seen session.old).standing ≡ Active tx birth 0 untouched) × (tx.serial ≡ (C.seen session.old).serial) × (tx.run ≡ (C.seen session.old).run) × (tx.session ≡ (C.seen session.old).walker) }
+    requires narrow { list_all is_narrow transaction.now.actions ≡ true }
+    ensures told { (tx : TxId) (birth : BirthIs) → (C.seen session.old).standing ≡ Active tx birth 0 untouched → tx.serial ≡ (C.seen session.old).serial → tx.run ≡ (C.seen session.old).run → tx.session ≡ (C.seen session.old).walker → InTriesTold transaction.now tx birth most (stop_in result) (C.seen session.old) (C.seen session.new) }
+    ensures idle { IdleAfter result (C.seen session.new) }
+    ensures grounds { IfErr result (C.grounds session.new) }
+{
+    let mut tried = 1;
+    for _ in rt.forever() {
+        let end = run_try(rt, alloc, session, transaction);
+        match next_after(end, most, tried) {
+            Next::Again => match session.retry() {
+                Ok(()) => tried = next_number(most, tried),
+                Err(cause) => return Err(cause),
+            },
+            Next::Done => return Ok(()),
+            Next::Stop(cause) => return Err(cause),
+        }
+    }
+    unreachable!()
+}
+
+/// Runs a transaction in its tries: it is tried again, with its birth, exactly where it was aborted for another cause than that the session asked for it, as
+/// long as tries are left, which without a number they always are.
+pub(crate) fn run_transaction<R: Wait, C: SessionCalls>(
+    rt: &R,
+    alloc: Global,
+    session: &mut C,
+    transaction: &Transaction,
+    most: Option<u32>,
+) -> Result<(), StopCause>
+    requires idle { IsIdle (C.seen session.old) }
+    requires narrow { list_all is_narrow transaction.now.actions ≡ true }
+    ensures ran { Ran transaction.now most (stop_in result) (C.seen session.old) (C.seen session.new) ⊎ NotBegun (stop_in result) (C.seen session.old) (C.seen session.new) }
+    ensures idle { IdleAfter result (C.seen session.new) }
+    ensures grounds { IfErr result (C.grounds session.new) }
+{
+    match session.begin() {
+        Ok(()) => run_tries(rt, alloc, session, transaction, most),
+        Err(cause) => Err(cause),
+    }
+}

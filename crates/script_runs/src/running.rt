@@ -1,0 +1,35 @@
+// A session's transactions, one after another.
+ghost use Rattle.std.specs.Prelude.{◌≡◌, true, IfErr};
+ghost use Rattle.std.specs.List.{list_all};
+ghost use Rattle.script_lang.specs.Laws.{is_narrow_body};
+ghost use Rattle.script_runs.specs.Ran.{stop_in, IsIdle, Follows};
+
+use crate::calls::SessionCalls;
+use crate::retrying::run_transaction;
+use script_lang::Transaction;
+use script_tries::StopCause;
+use std::alloc::Global;
+use std::sync::Wait;
+
+/// Runs the transactions in order, each in its tries, at most so many, or without a number until it is done; an `Err` is what stopped the session, and no
+/// transaction after that is begun. The entries that it adds to the session's are exactly those, and what stopped it has its grounds.
+pub fn run_session<R: Wait, C: SessionCalls>(
+    rt: &R,
+    alloc: Global,
+    session: &mut C,
+    transactions: &[Transaction],
+    most: Option<u32>,
+) -> Result<(), StopCause>
+    requires idle { IsIdle (C.seen session.old) }
+    requires narrow { list_all is_narrow_body transactions.now ≡ true }
+    ensures follows { Follows transactions.now most (stop_in result) (C.seen session.old) (C.seen session.new) }
+    ensures grounds { IfErr result (C.grounds session.new) }
+{
+    for transaction in transactions {
+        match run_transaction(rt, alloc, session, transaction, most) {
+            Ok(()) => {}
+            Err(cause) => return Err(cause),
+        }
+    }
+    Ok(())
+}

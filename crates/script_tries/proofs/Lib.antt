@@ -1,0 +1,3 @@
+mod Retried
+mod Tries
+mod Sessions

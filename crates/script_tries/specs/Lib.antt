@@ -1,0 +1,5 @@
+pub mod Operations
+pub mod Tries
+pub mod Sessions
+pub mod Laws
+pub mod Examples
