@@ -16,11 +16,12 @@ use Rattle.cluster_turns.specs.declared.shards.Walker.{Walker}
 use Rattle.cluster_turns.specs.Walkers.{IsWalker, kept}
 use Rattle.session_progress.specs.States.{session_of}
 use Rattle.session_progress.proofs.Laws.{states_bear_walkers}
-use Rattle.session_births.proofs.Laws.{informed_later, new_is_free}
+use Rattle.session_births.specs.Unborn.{UnbornUnless}
+use Rattle.session_births.proofs.Laws.{informed_later, new_is_free, new_is_unborn, unborn_unless_any}
 use Rattle.session_ops.specs.Standing.{IsOld, IsReady, IsActive}
 use Rattle.session_begins.specs.Beginnings.{Begun}
 
-runs_count : (founds : List (List LogRecord)) → 0 < run_after founds
+pub runs_count : (founds : List (List LogRecord)) → 0 < run_after founds
 runs_count [] = omega arith
 runs_count (log ∷ logs) = let h = runs_count logs in omega arith
 
@@ -31,7 +32,7 @@ follows_so : (clock : ℕ) (old : Option Birth) (new : Birth) (phase : Phase) �
 follows_so clock None new phase h l = refl
 follows_so clock (Some old) new phase h l = or_left (is_older old new) (is_eq (birth_cmp old new) && may_drop phase) (older_so old new (omega arith))
 
-other_name : (tx : TxId) (t : SessionState) → (t.tx).serial < tx.serial → tx_same tx t.tx ≡ false
+pub other_name : (tx : TxId) (t : SessionState) → (t.tx).serial < tx.serial → tx_same tx t.tx ≡ false
 other_name tx t l = false_from_ne_true (tx_same tx t.tx) (λ h. let same = ap (λ x. x.serial) (tx_true tx t.tx h) in omega arith)
 
 begins_so : (t : SessionState) (tx : TxId) (birth : Birth) (clock : ℕ) → tx.run ≡ (t.tx).run → tx.session ≡ (t.tx).session → (t.tx).serial < tx.serial → birth.session ≡ tx.session → IsOld clock t.birth → clock < birth.stamp → begins t tx birth ≡ true
@@ -39,7 +40,7 @@ begins_so t tx birth clock a b l s o c =
     and_from _ _ (and_from _ _ (and_from _ _ (and_from _ _ (eq-eqb tx.run (t.tx).run a) (eq-eqb tx.session (t.tx).session b)) (lt-ltb (t.tx).serial tx.serial l)) (eq-eqb birth.session tx.session s))
     (follows_so clock t.birth birth t.phase o c)
 
-spelled_so : (tx : TxId) → 0 < tx.run → tx.run < 2 ^ 32 → is_session_number tx.session ≡ true → 0 < tx.serial → tx.serial < 2 ^ 64 → tx_has_spelling tx ≡ true
+pub spelled_so : (tx : TxId) → 0 < tx.run → tx.run < 2 ^ 32 → is_session_number tx.session ≡ true → 0 < tx.serial → tx.serial < 2 ^ 64 → tx_has_spelling tx ≡ true
 spelled_so tx a b s c d =
     let p = and_parts _ _ s in
     and_from _ _ (and_from _ _ (and_from _ _ (and_from _ _ (and_from _ _ (lt-ltb 0 tx.run a) (lt-ltb tx.run (2 ^ 32) b)) p.0) p.1) (lt-ltb 0 tx.serial c)) (lt-ltb tx.serial (2 ^ 64) d)
@@ -71,6 +72,7 @@ module _ {M S G : Type 0} (sh : Shards M S G) (w v : Walker M S G) (t : SessionS
           bears = born_is ∙ sym number_is;
           old = omega arith;
           free = subst (λ x. Rattle.session_births.specs.Births.AllSeeFree tx birth x.passes.items) (sym v_is) (new_is_free w.number w.clock w.passes.items tx birth ready.informed born_is (omega arith));
+          parts = λ n. subst (λ x. UnbornUnless n None birth x.passes.items) (sym v_is) (unborn_unless_any n None birth w.passes.items (new_is_unborn w.number w.clock w.passes.items birth ready.informed born_is (omega arith) n));
         };
         serial = omega arith;
         spelled = spelled_so tx (omega arith) low32 (ap is_session_number session_is ∙ ready.number) (omega arith) low64;

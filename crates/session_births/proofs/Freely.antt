@@ -42,7 +42,7 @@ use Rattle.session_births.specs.Births.{IsFreeFor, IsBornBy, SeesFree, AllSeeFre
 use Rattle.session_births.specs.Laws.{FreeStays, NewIsFree}
 use Rattle.session_births.proofs.Keeping.{one_changes, changed, by_notes, some_same}
 
-not_true : (b : Bool) → not b ≡ true → b ≡ false
+pub not_true : (b : Bool) → not b ≡ true → b ≡ false
 not_true true h = absurd (both_ways false refl h)
 not_true false h = refl
 
@@ -53,7 +53,7 @@ stays_by_event tx birth s e o t false down h k free = nothing_happens s e o t do
 stays_by_event tx birth s e o t true up h k free =
     λ _. ap not (has_none tx birth t.local.parts (free_event tx birth s t e o h k (free_rows tx birth s.local.parts (not_true (has_equal_active_birth tx birth s.local.parts) (free up)))))
 
-event_frees : (tx : TxId) (birth : Birth) (clock w c : ℕ) (e : Event) (r : Result Outcome StepError) (s t : Shard) (added : List Note) → EventTold clock w e r c s t added → LeavesBirth tx birth e → IsFreeFor tx birth s → IsFreeFor tx birth t
+pub event_frees : (tx : TxId) (birth : Birth) (clock w c : ℕ) (e : Event) (r : Result Outcome StepError) (s t : Shard) (added : List Note) → EventTold clock w e r c s t added → LeavesBirth tx birth e → IsFreeFor tx birth s → IsFreeFor tx birth t
 event_frees tx birth clock w c e r s t added h k free = at h.made h.tells
   where
     at : (made : Option Entry) → Tells (step s clock w e) s clock w e r t made → IsFreeFor tx birth t
@@ -68,7 +68,7 @@ not_down : (s : Shard) (clock w : ℕ) (pushed : Bool) (o : Outcome) (t : Shard)
 not_down s clock w pushed o t true up h d = absurd (both_ways true d refl)
 not_down s clock w pushed o t false up h d = absurd cc
 
-landing_frees : (tx : TxId) (birth : Birth) (g : Origin) (before added : List Note) (clock w c upto : ℕ) (pushed : Bool) (s t : Shard) → IsLegal g before s → IsLegal g (before ++ added) t → LandTold clock w pushed upto c s t added → IsFreeFor tx birth s → IsFreeFor tx birth t
+pub landing_frees : (tx : TxId) (birth : Birth) (g : Origin) (before added : List Note) (clock w c upto : ℕ) (pushed : Bool) (s t : Shard) → IsLegal g before s → IsLegal g (before ++ added) t → LandTold clock w pushed upto c s t added → IsFreeFor tx birth s → IsFreeFor tx birth t
 landing_frees tx birth g before added clock w c upto pushed s t k l h free = at s.is_up refl
   where
     leaves : AllByRecursion (λ e. LeavesBirth tx birth e.event) (entries_in added)
@@ -86,29 +86,31 @@ landing_frees tx birth g before added clock w c upto pushed s t k l h free = at 
 -- ---- a turn
 
 module _ {T : Type 0} where
-  turn_frees : (Told : Shard → Shard → List Note → Type 0) (w : ℕ) (tx : TxId) (birth : Birth) (p q : Pass T Note Origin) (t : Turned Told w p q) → birth.session ≡ w → (IsFreeFor tx birth t.s → IsFreeFor tx birth t.t) → SeesFree tx birth p → SeesFree tx birth q
-  turn_frees Told w tx birth p q t own step free o has =
+  -- what a turn makes of a birth that is free for tx: free for v
+  pub turn_frees :
+      (Told : Shard → Shard → List Note → Type 0) (w : ℕ) (tx v : TxId) (birth : Birth) (p q : Pass T Note Origin) (t : Turned Told w p q) → birth.session ≡ w → (IsFreeFor tx birth t.s → IsFreeFor v birth t.t) → SeesFree tx birth p → SeesFree v birth q
+  turn_frees Told w tx v birth p q t own step free o has =
       let same : t.origin ≡ o = some_same t.origin o (sym (t.origin_is ∙ t.has_origin) ∙ has) in
       let found : IsFreeFor tx birth t.s = still_free t.origin t.s w (Op tx birth 0 None (Get 0)) (seen p) t.before t.s_is t.found (eq-eqb birth.session w own) (free t.origin t.has_origin) in
-      subst (λ x. IsFreeFor tx birth (state_of x (seen q))) same
-      (subst (λ ns. IsFreeFor tx birth (state_of t.origin ns)) (sym t.seen_is) (subst (IsFreeFor tx birth) t.t_is.is (step found)))
+      subst (λ x. IsFreeFor v birth (state_of x (seen q))) same
+      (subst (λ ns. IsFreeFor v birth (state_of t.origin ns)) (sym t.seen_is) (subst (IsFreeFor v birth) t.t_is.is (step found)))
 
-  event_leaves :
+  pub event_leaves :
       (w clock c : ℕ) (tx : TxId) (birth : Birth) (t : Turn) (ps qs : List (Option (Pass T Note Origin))) → Walked (EventTold clock w t.event t.answer c) t.shard w ps qs → birth.session ≡ w → LeavesBirth tx birth t.event
       → AllSeeFree tx birth ps → AllSeeFree tx birth qs
   event_leaves w clock c tx birth t ps qs walked own k f =
       let u = walked.turned in
       changed (SeesFree tx birth) t.shard ps qs walked.q walked.after_is
       (one_changes (SeesFree tx birth) (SeesFree tx birth) t.shard ps walked.p walked.q walked.had (λ x g. g)
-      (turn_frees _ w tx birth walked.p walked.q u own (event_frees tx birth clock w c t.event t.answer u.s u.t u.added u.told k)) f)
+      (turn_frees _ w tx tx birth walked.p walked.q u own (event_frees tx birth clock w c t.event t.answer u.s u.t u.added u.told k)) f)
 
-  landing_leaves :
+  pub landing_leaves :
       (w clock c upto n : ℕ) (tx : TxId) (birth : Birth) (pushed : Bool) (ps qs : List (Option (Pass T Note Origin))) → Walked (LandTold clock w pushed upto c) n w ps qs → birth.session ≡ w → AllSeeFree tx birth ps → AllSeeFree tx birth qs
   landing_leaves w clock c upto n tx birth pushed ps qs walked own f =
       let u = walked.turned in
       changed (SeesFree tx birth) n ps qs walked.q walked.after_is
       (one_changes (SeesFree tx birth) (SeesFree tx birth) n ps walked.p walked.q walked.had (λ x g. g)
-      (turn_frees _ w tx birth walked.p walked.q u own (landing_frees tx birth u.origin u.before u.added clock w c upto pushed u.s u.t u.s_is u.t_is u.told)) f)
+      (turn_frees _ w tx tx birth walked.p walked.q u own (landing_frees tx birth u.origin u.before u.added clock w c upto pushed u.s u.t u.s_is u.t_is u.told)) f)
 
   pub free_stays : FreeStays T
   free_stays w _ _ _ _ _ tx birth (no_turn clock ps) own k f = f

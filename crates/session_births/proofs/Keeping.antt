@@ -33,7 +33,7 @@ use Rattle.session_births.specs.Laws.{InformedStay, InformedLater, NewAreInforme
 
 -- ---- one pass of many
 
-past : {A : Type 0} (xs : List (Option A)) (n : ℕ) (p : A) → ((d : Option A) → get_or xs n d ≡ Some p) → n < length xs
+pub past : {A : Type 0} (xs : List (Option A)) (n : ℕ) (p : A) → ((d : Option A) → get_or xs n d ≡ Some p) → n < length xs
 past [] n p had = absurd (let h : None ≡ Some p = had None in cc)
 past (x ∷ xs) zero p had = omega arith
 past (x ∷ xs) (suc n) p had = let l = past xs n p had in omega arith

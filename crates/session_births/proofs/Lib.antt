@@ -1,3 +1,6 @@
 pub mod Keeping
 pub mod Freely
+pub mod Epochs
+pub mod Dropping
+pub mod Unbearing
 pub mod Laws

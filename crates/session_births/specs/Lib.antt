@@ -1,2 +1,3 @@
 pub mod Births
+pub mod Unborn
 pub mod Laws

@@ -1,4 +1,5 @@
-//! What a walker knows of the birth of its transaction on each shard: that no other transaction has an active part of it, whatever turns come.
+//! What a walker knows of the birth of its transaction on each shard, whatever turns come: that no other transaction has an active part of it, and where
+//! not even this one has.
 #![tactic(auto)]
 
 pub mod promises;

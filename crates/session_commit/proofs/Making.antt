@@ -1,10 +1,12 @@
 -- What a request's answer makes of a session.
-use Rattle.std.proofs.Common.{◌≡◌, ◌∙◌, refl, sym, ap, subst, ℕ, ◌≤◌, ◌^◌, ◌==◌, nat_lt, Bool, true, false, cond, ◌&&◌, ◌||◌, map, List, [], ◌∷◌, ◌++◌, append-nil, Option, Some, None, Result, Ok, Err, arith, inl, inr, eq-eqb, eqb-true}
+use Rattle.std.proofs.Common.{◌≡◌, ◌∙◌, refl, sym, ap, subst, ℕ, zero, suc, ◌<◌, ◌≤◌, ◌^◌, ◌==◌, nat_lt, Bool, true, false, cond, ◌&&◌, ◌||◌, map, length, get_or, List, [], ◌∷◌, ◌++◌, append-nil, Option, Some, None, Result, Ok, Err, arith, inl, inr, eq-eqb, eqb-true}
 use Rattle.std.specs.Prelude.{is_some, IfOk}
 use Rattle.std.specs.List.{list_all, list_any}
+use Rattle.std.specs.Map.{lookup}
 use Rattle.std.proofs.lemmas.Bool.{both_ways, and_from}
 use Rattle.clv_base.specs.declared.names.TxId.{TxId}
 use Rattle.clv_base.specs.declared.names.Birth.{Birth}
+use Rattle.clv_base.specs.declared.causes.AbortCause.{AbortCause}
 use Rattle.clv_base.specs.declared.events.Event.{Event}
 use Rattle.clv_base.specs.declared.events.Event.TheVariants.{Request}
 use Rattle.clv_base.specs.declared.events.Outcome.{Outcome}
@@ -28,6 +30,7 @@ use Rattle.machine_calls.specs.Steps.{Tells}
 use Rattle.cluster_turns.specs.declared.shards.Shards.{Shards}
 use Rattle.cluster_turns.specs.declared.shards.Walker.{Walker}
 use Rattle.cluster_turns.specs.Turns.{EventTold}
+use Rattle.turn_lock.specs.Passes.{pass_origin}
 use Rattle.cluster_turns.specs.Walkers.{IsWalker, IsSameWalker, Walked, kept}
 use Rattle.cluster_turns.proofs.Laws.{event_rises}
 use Rattle.session_progress.specs.States.{session_of}
@@ -35,8 +38,9 @@ use Rattle.session_progress.proofs.Laws.{states_go_on, states_tell_may_make, tou
 use Rattle.walker_turns.specs.Turns.{Turn, Took, no_turn, event_turn, entry_on}
 use Rattle.walker_turns.proofs.Laws.{kept_grows}
 use Rattle.session_births.specs.Births.{AreInformed}
-use Rattle.session_births.proofs.Laws.{informed_stay, free_stays}
-use Rattle.session_ops.specs.Standing.{IsOld, IsReady, HasBirth, IsActive}
+use Rattle.session_births.specs.Unborn.{UnbornAt, HasShard, EndsPart}
+use Rattle.session_births.proofs.Laws.{informed_stay, free_stays, unless_stays, ends_unbear, dies_at_request}
+use Rattle.session_ops.specs.Standing.{IsOld, IsReady, HasBirth, IsActive, IsGoneAt}
 use Rattle.session_commit.specs.Requested.{is_request_outcome, place_requested, RequestTold, RequestStands}
 
 -- ---- an entry is made exactly where the request stands or died
@@ -131,6 +135,27 @@ module _ (tx : TxId) (ts : List (ℕ × ℕ)) where
       let e = Request tx ts in
       let q = enters_so (next_stamp s clock e) w e (nat_lt (next_stamp s clock e) (2 ^ 48)) (happen s e) p t m.enters in ap is_request_outcome (ok_same o p is ∙ sym q.0) ∙ (happens_fits s tx ts).1
 
+-- ---- passes
+
+pub birth_same : (x y : Birth) → ◌≡◌ {A = Option Birth} (Some x) (Some y) → x ≡ y
+birth_same x y h = cc
+
+past : {A : Type 0} (xs : List (Option A)) (n : ℕ) (p : A) → ((d : Option A) → get_or xs n d ≡ Some p) → n < length xs
+past [] n p had = absurd (let h : None ≡ Some p = had None in cc)
+past (x ∷ xs) zero p had = omega arith
+past (x ∷ xs) (suc n) p had = let l = past xs n p had in omega arith
+
+some_same : {A : Type 0} (a b : A) → Some a ≡ Some b → a ≡ b
+some_same a b h = cc
+
+-- each is of its shard
+has_shard : {M S G : Type 0} (sh : Shards M S G) (w : Walker M S G) → IsWalker sh w → (n : ℕ) → HasShard n w.passes.items
+has_shard sh w is n p had o has =
+    let each = is.walks.are_passes.each n None (let l = past w.passes.items n p had in let c = is.walks.are_passes.count in omega arith) in
+    let same : each.0 ≡ p = some_same each.0 p (sym each.1 ∙ had None) in
+    let origin : each.2.origin ≡ o = some_same each.2.origin o (sym each.2.has_origin ∙ ap pass_origin same ∙ has) in
+    ap (λ x. x.shard) (sym origin) ∙ each.2.origin_is.shard
+
 -- ---- the session's state
 
 touched_self : (ts : List (ℕ × ℕ)) → same_touched ts ts ≡ true
@@ -202,7 +227,20 @@ module _ {M S G : Type 0} (sh : Shards M S G) (w v : Walker M S G) (p : SessionS
     bears = a.born.bears ∙ sym same;
     old = (let l = rises walked in let o = a.born.old in omega arith);
     free = free_stays w.number w.clock v.clock w.passes.items v.passes.items (turn_of walked ∷ []) p.tx a.born.birth (took_turn walked) a.born.bears (tt, tt) a.born.free;
+    parts = λ m. unless_stays m w.number w.clock v.clock w.passes.items v.passes.items (turn_of walked ∷ []) (lookup (◌==◌ m) p.touched) a.born.birth (took_turn walked) a.born.bears ((λ here. inr (λ u. tt)), tt) (a.born.parts m);
   }
+
+  -- where it stands or died, it has no active part at its home
+  gone_asked : (walked : IsAsked) → r ≡ Ok Asked → IsGoneAt n v p
+  gone_asked walked is birth had =
+      subst (λ b. UnbornAt n b v.passes.items) (birth_same a.born.birth birth (sym a.born.is ∙ had))
+      (ends_unbear n w.number w.clock v.clock w.passes.items v.passes.items (turn_of walked ∷ []) p.tx a.born.birth (took_turn walked) a.born.bears (tt, tt) a.born.free
+      (inl (refl, subst (EndsPart p.tx (Request p.tx p.touched)) (sym is) refl, tt)))
+
+  gone_dead : (walked : IsAsked) (cause : AbortCause) → r ≡ Ok (Dead cause) → IsGoneAt n v p
+  gone_dead walked cause is birth had =
+      subst (λ b. UnbornAt n b v.passes.items) (birth_same a.born.birth birth (sym a.born.is ∙ had))
+      (dies_at_request n w.number w.clock v.clock w.passes.items v.passes.items (turn_of walked) p.tx a.born.birth p.touched cause (took_turn walked) a.born.bears refl refl is (has_shard sh w a.ready.walker n) a.born.free (a.born.parts n))
 
   -- no entry was made
   active_still : (walked : IsAsked) → IsWalker sh v → IsSameWalker w v → walked.turned.told.made ≡ None → IsActive sh v p
@@ -265,16 +303,19 @@ module _ {M S G : Type 0} (sh : Shards M S G) (w v : Walker M S G) (p : SessionS
           record {
             ready = ready_then walked o (place_requested n p (Ok Asked)) is_walker same lowest (entered (ap is_told q)) (ap (requested n p) q) refl refl;
             stands = refl;
-            born = record { birth = b.birth; is = b.is; bears = b.bears; old = b.old; free = b.free };
+            born = record { birth = b.birth; is = b.is; bears = b.bears; old = b.old; free = b.free; parts = b.parts };
             spelled = a.spelled;
+            gone = gone_asked walked (is ∙ ap (λ y. Ok y) q);
           }
       at (Dead cause) q =
-          let b = born_after walked same.0 in
-          record {
-            ready = ready_then walked o (place_requested n p (Ok (Dead cause))) is_walker same lowest (entered (ap is_told q)) (ap (requested n p) q) refl refl;
-            born = record { birth = b.birth; is = b.is; bears = b.bears; old = b.old; free = b.free };
-            spelled = a.spelled;
-          }
+          let b = born_after walked same.0 in (
+            record {
+              ready = ready_then walked o (place_requested n p (Ok (Dead cause))) is_walker same lowest (entered (ap is_told q)) (ap (requested n p) q) refl refl;
+              born = record { birth = b.birth; is = b.is; bears = b.bears; old = b.old; free = b.free; parts = b.parts };
+              spelled = a.spelled;
+            },
+            gone_dead walked cause (is ∙ ap (λ y. Ok y) q),
+          )
       at z q = quiet (ap is_told q)
 
 module _ {M S G : Type 0} where

@@ -1,6 +1,7 @@
 -- What a look's answer makes of a session.
-use Rattle.std.proofs.Common.{◌≡◌, ◌∙◌, refl, sym, ap, subst, ℕ, ◌≤◌, ◌^◌, ◌==◌, nat_lt, Bool, true, false, cond, [], ◌∷◌, ◌++◌, append-nil, Option, Some, None, Result, Ok, Err, arith, eq-eqb}
+use Rattle.std.proofs.Common.{◌≡◌, ◌∙◌, refl, sym, ap, subst, ℕ, ◌≤◌, ◌^◌, ◌==◌, nat_lt, Bool, true, false, cond, [], ◌∷◌, ◌++◌, append-nil, Option, Some, None, Result, Ok, Err, arith, inr, eq-eqb}
 use Rattle.std.specs.Prelude.{is_some, IfOk}
+use Rattle.std.specs.Map.{lookup}
 use Rattle.std.proofs.lemmas.Bool.{both_ways, and_from}
 use Rattle.clv_base.specs.declared.names.TxId.{TxId}
 use Rattle.clv_base.specs.declared.names.Birth.{Birth}
@@ -33,11 +34,11 @@ use Rattle.session_progress.proofs.Laws.{states_go_on, states_tell_may_make}
 use Rattle.walker_turns.specs.Turns.{Turn, Took, no_turn, event_turn, entry_on}
 use Rattle.walker_turns.proofs.Laws.{kept_grows}
 use Rattle.session_births.specs.Births.{AreInformed}
-use Rattle.session_births.proofs.Laws.{informed_stay, free_stays}
-use Rattle.session_ops.specs.Standing.{IsOld, IsReady, HasBirth, AskTold}
+use Rattle.session_births.proofs.Laws.{informed_stay, free_stays, unless_stays, unborn_stays}
+use Rattle.session_ops.specs.Standing.{IsOld, IsReady, HasBirth, AskTold, IsGoneAt}
 use Rattle.session_commit.specs.Requested.{IsStanding}
 use Rattle.session_commit.specs.Looked.{is_look_outcome, place_looked, LookStands}
-use Rattle.session_commit.proofs.Making.{is_done, outcome_in, quiet_so, enters_so, ok_same, IsEntered}
+use Rattle.session_commit.proofs.Making.{is_done, outcome_in, quiet_so, enters_so, ok_same, IsEntered, birth_same}
 
 abbrev is_told : Outcome → Bool
 is_told Acknowledged = true
@@ -165,7 +166,13 @@ module _ {M S G : Type 0} (sh : Shards M S G) (w v : Walker M S G) (p : SessionS
     bears = a.born.bears ∙ sym same;
     old = (let l = rises walked in let o = a.born.old in omega arith);
     free = free_stays w.number w.clock v.clock w.passes.items v.passes.items (turn_of walked ∷ []) p.tx a.born.birth (took_turn walked) a.born.bears (tt, tt) a.born.free;
+    parts = λ m. unless_stays m w.number w.clock v.clock w.passes.items v.passes.items (turn_of walked ∷ []) (lookup (◌==◌ m) p.touched) a.born.birth (took_turn walked) a.born.bears ((λ here. inr (λ u. tt)), tt) (a.born.parts m);
   }
+
+  gone_after : (walked : IsAsked) → IsGoneAt n v p
+  gone_after walked birth had =
+      unborn_stays n w.number w.clock v.clock w.passes.items v.passes.items (turn_of walked ∷ []) birth (took_turn walked) (ap (λ x. x.session) (birth_same birth a.born.birth (sym had ∙ a.born.is)) ∙ a.born.bears) ((λ here. inr (λ u. tt)), tt)
+      (a.gone birth had)
 
   -- no entry was made
   stands_still : (walked : IsAsked) → IsWalker sh v → IsSameWalker w v → walked.turned.told.made ≡ None → IsStanding sh v p n
@@ -184,6 +191,7 @@ module _ {M S G : Type 0} (sh : Shards M S G) (w v : Walker M S G) (p : SessionS
         stands = a.stands;
         born = born_after walked same.0;
         spelled = a.spelled;
+        gone = gone_after walked;
       }
 
   -- one was
@@ -220,10 +228,12 @@ module _ {M S G : Type 0} (sh : Shards M S G) (w v : Walker M S G) (p : SessionS
       at : (z : Outcome) → o ≡ z → LookStands sh v (place_looked p (Ok z)) n (Ok z)
       at Acknowledged q = ready_then walked o (place_looked p (Ok Acknowledged)) is_walker same (entered (ap is_told q)) (ap (looked p) q) refl refl
       at (Aborted cause) q =
-          let b = born_after walked same.0 in
-          record {
-            ready = ready_then walked o (place_looked p (Ok (Aborted cause))) is_walker same (entered (ap is_told q)) (ap (looked p) q) refl refl;
-            born = record { birth = b.birth; is = b.is; bears = b.bears; old = b.old; free = b.free };
-            spelled = a.spelled;
-          }
+          let b = born_after walked same.0 in (
+            record {
+              ready = ready_then walked o (place_looked p (Ok (Aborted cause))) is_walker same (entered (ap is_told q)) (ap (looked p) q) refl refl;
+              born = record { birth = b.birth; is = b.is; bears = b.bears; old = b.old; free = b.free; parts = b.parts };
+              spelled = a.spelled;
+            },
+            gone_after walked,
+          )
       at z q = quiet (ap is_told q)

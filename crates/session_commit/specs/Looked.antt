@@ -6,7 +6,7 @@ use Rattle.clv_base.specs.Sessions.{SessionState, Told, Refused}
 use Rattle.machine_calls.specs.declared.machine.StepError.{StepError}
 use Rattle.cluster_turns.specs.declared.shards.Shards.{Shards}
 use Rattle.cluster_turns.specs.declared.shards.Walker.{Walker}
-use Rattle.session_ops.specs.Standing.{IsReady, IsOver}
+use Rattle.session_ops.specs.Standing.{IsReady, IsOver, IsGoneAt}
 use Rattle.session_commit.specs.Requested.{IsStanding}
 
 -- what a look may come to
@@ -24,8 +24,8 @@ place_looked p (Ok (Aborted cause)) = record p { phase = Refused }
 place_looked p _ = p
 
 module _ {M S G : Type 0} where
-  -- after an answer: the transaction is committed, or aborted, or its request stands as before
+  -- after an answer: the transaction is committed, or aborted, and gone at its home, or its request stands as before
   abbrev pub LookStands : Shards M S G → Walker M S G → SessionState → ℕ → Result Outcome StepError → Type 0
   LookStands sh w p home (Ok Acknowledged) = IsReady sh w p
-  LookStands sh w p home (Ok (Aborted cause)) = IsOver sh w p
+  LookStands sh w p home (Ok (Aborted cause)) = IsOver sh w p × IsGoneAt home w p
   LookStands sh w p home _ = IsStanding sh w p home

@@ -13,7 +13,7 @@ use Rattle.turn_laws.specs.declared.notes.Origin.{Origin}
 use Rattle.cluster_turns.specs.declared.shards.Shards.{Shards}
 use Rattle.cluster_turns.specs.declared.shards.Walker.{Walker}
 use Rattle.walker_turns.specs.Turns.{Turn, Took}
-use Rattle.session_ops.specs.Standing.{IsReady, HasBirth, IsActive, IsOver}
+use Rattle.session_ops.specs.Standing.{IsReady, HasBirth, IsActive, IsOver, IsGoneAt}
 
 -- what a request may come to
 abbrev pub is_request_outcome : Outcome → Bool
@@ -38,15 +38,16 @@ pub record RequestTold {T : Type 0} (w clock : ℕ) (before : List (Option (Pass
   pub is : IsTurnOf n e r turns
 
 module _ {M S G : Type 0} where
-  -- the request of the transaction p stands at its home
+  -- the request of the transaction p stands at its home, where it has no active part any more
   pub record IsStanding (sh : Shards M S G) (w : Walker M S G) (p : SessionState) (home : ℕ) : Type 0 where
     pub ready : IsReady sh w p
     pub stands : p.phase ≡ Standing home
     pub born : HasBirth w p
     pub spelled : tx_has_spelling p.tx ≡ true
+    pub gone : IsGoneAt home w p
 
-  -- after an answer: the request stands, the transaction is over, or it is active as before
+  -- after an answer: the request stands, the transaction is over, and gone at its home, or it is active as before
   abbrev pub RequestStands : Shards M S G → Walker M S G → SessionState → ℕ → Result Outcome StepError → Type 0
   RequestStands sh w p home (Ok Asked) = IsStanding sh w p home
-  RequestStands sh w p home (Ok (Dead cause)) = IsOver sh w p
+  RequestStands sh w p home (Ok (Dead cause)) = IsOver sh w p × IsGoneAt home w p
   RequestStands sh w p home _ = IsActive sh w p

@@ -1,6 +1,7 @@
 -- What a drop's answer makes of a session.
-use Rattle.std.proofs.Common.{◌≡◌, ◌∙◌, refl, sym, ap, subst, ℕ, ◌≤◌, ◌^◌, ◌==◌, nat_lt, Bool, true, false, cond, not, ◌&&◌, [], ◌∷◌, ◌++◌, append-nil, Option, Some, None, Result, Ok, Err, arith, eq-eqb}
+use Rattle.std.proofs.Common.{◌≡◌, ◌∙◌, refl, sym, ap, subst, ℕ, ◌≤◌, ◌^◌, ◌==◌, nat_lt, Bool, true, false, cond, not, ◌&&◌, [], ◌∷◌, ◌++◌, append-nil, Option, Some, None, Result, Ok, Err, arith, inr, eq-eqb}
 use Rattle.std.specs.Prelude.{is_some, IfOk}
+use Rattle.std.specs.Map.{lookup}
 use Rattle.std.proofs.lemmas.Bool.{both_ways, and_from, and_parts, ne_eqb}
 use Rattle.clv_base.specs.declared.names.TxId.{TxId}
 use Rattle.clv_base.specs.declared.names.Birth.{Birth}
@@ -31,7 +32,7 @@ use Rattle.session_progress.proofs.Laws.{states_go_on, states_tell_may_make, sta
 use Rattle.walker_turns.specs.Turns.{Turn, Took, no_turn, event_turn, entry_on}
 use Rattle.walker_turns.proofs.Laws.{kept_grows}
 use Rattle.session_births.specs.Births.{AreInformed}
-use Rattle.session_births.proofs.Laws.{informed_stay, free_stays}
+use Rattle.session_births.proofs.Laws.{informed_stay, free_stays, unless_stays}
 use Rattle.session_ops.specs.Standing.{IsOld, HasBirth, AskTold}
 use Rattle.session_drops.specs.Dropped.{is_drop_outcome, place_dropped, IsEnding}
 
@@ -186,6 +187,7 @@ module _ {M S G : Type 0} (sh : Shards M S G) (w v : Walker M S G) (p : SessionS
     bears = a.over.born.bears ∙ sym same;
     old = (let l = rises walked in let o = a.over.born.old in omega arith);
     free = free_stays w.number w.clock v.clock w.passes.items v.passes.items (turn_of walked ∷ []) p.tx a.over.born.birth (took_turn walked) a.over.born.bears (tt, tt) a.over.born.free;
+    parts = λ m. unless_stays m w.number w.clock v.clock w.passes.items v.passes.items (turn_of walked ∷ []) (lookup (◌==◌ m) p.touched) a.over.born.birth (took_turn walked) a.over.born.bears ((λ here. inr (λ u. tt)), tt) (a.over.born.parts m);
   }
 
   -- no entry was made
@@ -226,7 +228,7 @@ module _ {M S G : Type 0} (sh : Shards M S G) (w v : Walker M S G) (p : SessionS
             old = old_after (rises walked) p.birth a.over.ready.old;
             informed = informed_after walked same.0;
           };
-          born = record { birth = b.birth; is = b.is; bears = b.bears; old = b.old; free = b.free };
+          born = record { birth = b.birth; is = b.is; bears = b.bears; old = b.old; free = b.free; parts = b.parts };
           spelled = a.over.spelled;
         };
         may = drops_again p.phase a.may;

@@ -1,3 +1,4 @@
 pub mod Going
 pub mod Parting
+pub mod Unbearing
 pub mod Laws

@@ -75,7 +75,7 @@ module _ {M S G : Type 0} (sh : Shards M S G) where
 
   pub answers : (w : Walker M S G) (p q : SessionState) (n : ℕ) (x : Result Outcome StepError) → IfOk x (λ o. is_request_outcome o ≡ true) → q ≡ place_requested n p x → RequestStands sh w q n x → Answering sh w q n (next_as n x)
   answers w p q n (Ok Asked) fits place h = h
-  answers w p q n (Ok (Dead cause)) fits place h = let phase : q.phase ≡ Ended = ap (λ z. z.phase) place in (record { over = h; may = ap may_drop phase }, phase)
+  answers w p q n (Ok (Dead cause)) fits place h = let phase : q.phase ≡ Ended = ap (λ z. z.phase) place in (record { over = h.0; may = ap may_drop phase }, phase, h.1)
   answers w p q n (Ok DownOut) fits place h = h
   answers w p q n (Ok o) fits place h = absurd (both_ways false refl fits)
   answers w p q n (Err NoMemory) fits place h = h

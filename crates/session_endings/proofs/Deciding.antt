@@ -21,7 +21,10 @@ use Rattle.session_commit.specs.Requested.{IsStanding}
 use Rattle.session_settling.specs.declared.looking.SettleError.{SettleError}
 use Rattle.session_settling.specs.declared.looking.SettleError.TheVariants.{Aborted, Unsettled, Worn, Memory}
 use Rattle.session_settling.specs.Settled.{OnlyLooks, PlacedBy, Settling, StandsBy, settled_in}
-use Rattle.session_drops.specs.Dropped.{is_to_drop, Drops, Dropping, IsLeft}
+use Rattle.session_ops.specs.Standing.{HasBirth, IsGoneAt}
+use Rattle.session_drops.specs.Dropped.{is_to_drop, Drops, Dropping, IsLeft, IsEnding}
+use Rattle.session_drops.specs.Unbearing.{IsEnded, UnbornOrWorn}
+use Rattle.session_drops.proofs.Laws.{are_drops, dropped_unborn}
 use Rattle.session_endings.specs.Standings.{StandsAt, StandsAs}
 use Rattle.session_endings.specs.Decided.{Leaving, IsLeftOver, LeavesIf, is_aborted, IsLookOrDrop, DecidedBy, Deciding}
 
@@ -87,6 +90,14 @@ module _ {T : Type 0} where
   pub only_drops : (count w c d : ℕ) (ps qs : List (Option (Pass T Note Origin))) (tx : TxId) (touched : List (ℕ × ℕ)) (n : ℕ) (l : Leaving count w c ps tx touched n d qs) → AllByRecursion (IsLookOrDrop tx touched n) l.turns
   only_drops count w c d ps qs tx touched n l = drops_only tx touched n l.turns l.only
 
+some_number : (a b : ℕ) → ◌≡◌ {A = Option ℕ} (Some a) (Some b) → a ≡ b
+some_number a b h = cc
+
+any_shard : (tx : TxId) (n : ℕ) (ts : List Turn) → AnyTurn (λ t. (t.shard ≡ n) × (t.event ≡ Drop tx)) ts → AnyTurn (λ t. t.shard ≡ n) ts
+any_shard tx n [] h = absurd h
+any_shard tx n (t ∷ ts) (inl h) = inl h.0
+any_shard tx n (t ∷ ts) (inr h) = inr (any_shard tx n ts h)
+
 -- ---- the home is a shard
 
 module _ {M S G : Type 0} (sh : Shards M S G) where
@@ -97,12 +108,21 @@ module _ {M S G : Type 0} (sh : Shards M S G) where
   pub stands_in : (w : Walker M S G) (q : SessionState) (x : Phase) → q.phase ≡ x → StandsAt x sh w q → StandsAs sh w q
   stands_in w q x is h = subst (λ y. StandsAt y sh w q) (sym is) h
 
+  -- ---- drops of the other parts leave none
+
+  pub left_ended : (u v : Walker M S G) (m q : SessionState) (n : ℕ) → HasBirth u m → IsGoneAt n u m → Leaving (length sh.locks.items) u.number u.clock u.passes.items m.tx m.touched n v.clock v.passes.items → q ≡ m → IsEnding sh v q → IsEnded sh v q
+  left_ended u v m q n born gone l same e = record {
+    ending = e;
+    unborn = subst (UnbornOrWorn v) (sym same)
+        (dropped_unborn sh u v m (Some n) l.turns e.over.ready.walker born (λ k is. subst (λ i. IsGoneAt i u m) (some_number n k is) gone) l.took (are_drops m.tx m.touched (Some n) l.turns l.only) (λ k low is. any_shard m.tx k l.turns (l.each k low is)));
+  }
+
   -- ---- a decision
 
   pub left_over : (w : Walker M S G) (p q : SessionState) (n : ℕ) (r : Result Point SettleError) → PlacedBy p (settled_in r) q → StandsBy sh w q n (settled_in r) → IsLeftOver (is_aborted r) sh w q
   left_over w p q n (Ok point) place h = tt
   left_over w p q n (Err (Aborted cause)) place h =
-      let phase : q.phase ≡ Refused = ap (λ z. z.phase) place in (record { over = h; may = ap may_drop phase }, ap after_drop phase ∙ sym phase)
+      let phase : q.phase ≡ Refused = ap (λ z. z.phase) place in (record { over = h.0; may = ap may_drop phase }, ap after_drop phase ∙ sym phase)
   left_over w p q n (Err (Unsettled m)) place h = tt
   left_over w p q n (Err (Worn at)) place h = tt
   left_over w p q n (Err Memory) place h = tt
@@ -153,4 +173,4 @@ module _ {M S G : Type 0} (sh : Shards M S G) where
       subst (λ z. StandsAs sh z q) (sym l.0) (subst (StandsAs sh u) (sym l.1) (stands_in u m (Standing n) (ap (λ z. z.phase) place ∙ stands) h))
   decided_stands w u v n p m q (Err Memory) stands place h l =
       subst (λ z. StandsAs sh z q) (sym l.0) (subst (StandsAs sh u) (sym l.1) (stands_in u m (Standing n) (ap (λ z. z.phase) place ∙ stands) h))
-  decided_stands w u v n p m q (Err (Aborted cause)) stands place h l = stands_in v q Refused (ap (λ z. z.phase) (l.1 ∙ place)) l.2
+  decided_stands w u v n p m q (Err (Aborted cause)) stands place h l = stands_in v q Refused (ap (λ z. z.phase) (l.1 ∙ place)) (left_ended u v m q n h.0.born h.1 l.0 l.1 l.2)

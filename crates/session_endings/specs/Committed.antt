@@ -14,7 +14,7 @@ use Rattle.turn_laws.specs.declared.notes.Origin.{Origin}
 use Rattle.cluster_turns.specs.declared.shards.Shards.{Shards}
 use Rattle.cluster_turns.specs.declared.shards.Walker.{Walker}
 use Rattle.walker_turns.specs.Turns.{Turn, Took}
-use Rattle.session_ops.specs.Standing.{IsActive}
+use Rattle.session_ops.specs.Standing.{IsActive, IsGoneAt}
 use Rattle.session_commit.specs.Requested.{IsStanding, IsTurnOf}
 use Rattle.session_drops.specs.Dropped.{IsEnding}
 use Rattle.session_settling.specs.declared.looking.SettleError.{SettleError}
@@ -71,7 +71,7 @@ module _ {M S G : Type 0} where
   -- how the transaction stands then
   abbrev pub Answering : Shards M S G → Walker M S G → SessionState → ℕ → Next → Type 0
   Answering sh w p home Looks = IsStanding sh w p home
-  Answering sh w p home (Leaves cause) = IsEnding sh w p × (p.phase ≡ Ended)
+  Answering sh w p home (Leaves cause) = IsEnding sh w p × (p.phase ≡ Ended) × IsGoneAt home w p
   Answering sh w p home (Refuses e) = IsActive sh w p
 
   -- where nothing was touched nothing is done; else the request is made at the lowest touched shard

@@ -1,3 +1,4 @@
+pub mod Touched
 pub mod Offered
 pub mod Trying
 pub mod Passing

@@ -1,13 +1,17 @@
 -- What an operation's answer makes of a session.
-use Rattle.std.proofs.Common.{◌≡◌, ◌∙◌, refl, sym, ap, subst, ℕ, suc, ◌≤◌, ◌<◌, ◌^◌, ◌==◌, nat_lt, Bool, true, false, not, cond, ◌&&◌, ◌||◌, List, [], ◌∷◌, ◌++◌, append-nil, Option, Some, None, Result, Ok, Err, arith, inl, eq-eqb, eqb-true, ltb-true}
+use Rattle.std.proofs.Common.{◌≡◌, ◌∙◌, refl, sym, ap, subst, ℕ, suc, ◌≤◌, ◌<◌, ◌^◌, ◌==◌, nat_lt, Bool, true, false, not, cond, ◌&&◌, ◌||◌, List, [], ◌∷◌, ◌++◌, append-nil, Option, Some, None, Result, Ok, Err, arith, inl, inr, eq-eqb, eqb-true, ltb-true}
 use Rattle.std.specs.Prelude.{is_some, IfOk}
 use Rattle.std.specs.Map.{lookup}
 use Rattle.std.specs.Ordering.{is_eq}
 use Rattle.std.proofs.lemmas.Bool.{both_ways, and_from}
+use mathlib.Core.Logic.{dite}
+use native.Mathlib.Decide.{ℕ_discrete}
 use Rattle.clv_base.specs.declared.names.TxId.{TxId}
 use Rattle.clv_base.specs.declared.names.Birth.{Birth}
 use Rattle.clv_base.specs.declared.ops.Op.{Op as Operation}
+use Rattle.clv_base.specs.declared.ops.Answer.{Answer}
 use Rattle.clv_base.specs.declared.ops.Answer.TheVariants.{Value}
+use Rattle.clv_base.specs.declared.causes.AbortCause.{AbortCause}
 use Rattle.clv_base.specs.declared.events.Event.{Event}
 use Rattle.clv_base.specs.declared.events.Event.TheVariants.{Op}
 use Rattle.clv_base.specs.declared.events.Outcome.{Outcome}
@@ -18,7 +22,7 @@ use Rattle.clv_base.specs.Orders.{birth_cmp}
 use Rattle.clv_base.specs.State.{Shard}
 use Rattle.clv_base.specs.OneShard.{OpReply, OpWaits, OpCrowded, OpDies, OpAnswers, op_reply}
 use Rattle.clv_base.specs.Events.{Reply, QuietBeforeWorn, QuietAfterWorn, Does, Quiet, Enters, stamped, happen, happen_up, step, next_stamp, op_event}
-use Rattle.clv_base.specs.Sessions.{SessionState, is_number, goes_on_scan, scan_shard, lies_in, op_answered, op_in_session, is_touching, session_after}
+use Rattle.clv_base.specs.Sessions.{SessionState, is_number, goes_on_scan, scan_shard, lies_in, op_answered, op_in_session, is_touching, touch, session_after}
 use Rattle.clv_base.proofs.SameNames.{tx_self}
 use Rattle.journal_laws.specs.Offers.{may_make}
 use Rattle.machine_calls.specs.declared.machine.StepError.{StepError}
@@ -34,7 +38,9 @@ use Rattle.session_progress.proofs.Laws.{states_go_on, states_tell_may_make, ops
 use Rattle.walker_turns.specs.Turns.{Turn, Took, no_turn, event_turn, entry_on}
 use Rattle.walker_turns.proofs.Laws.{kept_grows}
 use Rattle.session_births.specs.Births.{AllSeeFree, AreInformed}
-use Rattle.session_births.proofs.Laws.{informed_stay, free_stays}
+use Rattle.session_births.specs.Unborn.{UnbornAt, UnbornUnless, LeavesUnborn, EndsPart}
+use Rattle.session_births.proofs.Laws.{informed_stay, free_stays, unless_stays, answered_is_in_epoch, ends_unbear, unborn_unless_any}
+use Rattle.session_ops.proofs.Touched.{touch_here, touch_else}
 use Rattle.session_ops.specs.Standing.{IsOld, is_op_outcome, place_after, AskTold, IsReady, HasBirth, IsActive, StandsAfter}
 
 -- ---- an entry is made exactly where the operation was answered or died
@@ -182,6 +188,9 @@ module _ {M S G : Type 0} where
   may_ask sh w p a n nth op number lies =
       states_tell_may_make sh.splits sh.run w.number (kept w.passes.items) a.state n (Op p.tx a.born.birth nth (lookup (◌==◌ n) p.touched) op) a.ready.state ∙ ap is_some (goes_to sh w p a n nth op (Answered (Value None) 0) number lies)
 
+birth_same : (x y : Birth) → ◌≡◌ {A = Option Birth} (Some x) (Some y) → x ≡ y
+birth_same x y h = cc
+
 -- ---- after one turn
 
 module _ {M S G : Type 0} (sh : Shards M S G) (w v : Walker M S G) (p : SessionState) (a : IsActive sh w p) (n nth : ℕ) (op : Operation) (r : Result Outcome StepError) where
@@ -223,8 +232,41 @@ module _ {M S G : Type 0} (sh : Shards M S G) (w v : Walker M S G) (p : SessionS
   old_after l None h = tt
   old_after l (Some b) h = omega arith
 
-  born_after : (walked : IsAsked) → v.number ≡ w.number → HasBirth v p
-  born_after walked same = record { birth = a.born.birth; is = a.born.is; bears = a.born.bears ∙ sym same; old = (let l = rises walked in let o = a.born.old in omega arith); free = free_after walked }
+  -- the birth, with what is known of its parts at another place
+  born_after : (walked : IsAsked) → v.number ≡ w.number → (q : SessionState) → (q.tx ≡ p.tx) → (q.birth ≡ p.birth) → ((m : ℕ) → UnbornUnless m (lookup (◌==◌ m) q.touched) a.born.birth v.passes.items) → HasBirth v q
+  born_after walked same q name birth parts = record {
+    birth = a.born.birth;
+    is = birth ∙ a.born.is;
+    bears = a.born.bears ∙ sym same;
+    old = (let l = rises walked in let o = a.born.old in omega arith);
+    free = subst (λ x. AllSeeFree x a.born.birth v.passes.items) (sym name) (free_after walked);
+    parts = parts;
+  }
+
+  -- parts on other shards, and where no entry was made
+  parts_stay : (walked : IsAsked) (m : ℕ) → ((n ≡ m) → LeavesUnborn a.born.birth (turn_of walked)) → (part : Option ℕ) → UnbornUnless m part a.born.birth w.passes.items → UnbornUnless m part a.born.birth v.passes.items
+  parts_stay walked m leaves part h = unless_stays m w.number w.clock v.clock w.passes.items v.passes.items (turn_of walked ∷ []) part a.born.birth (took_turn walked) a.born.bears (leaves, tt) h
+
+  parts_quiet : (walked : IsAsked) → walked.turned.told.made ≡ None → (m : ℕ) → UnbornUnless m (lookup (◌==◌ m) p.touched) a.born.birth v.passes.items
+  parts_quiet walked none m = parts_stay walked m (λ here. inl none) (lookup (◌==◌ m) p.touched) (a.born.parts m)
+
+  -- on the shard of the operation it is the part of the answer's epoch
+  parts_answered : (walked : IsAsked) (answer : Answer) (epoch : ℕ) → r ≡ Ok (Answered answer epoch) → (m : ℕ) → UnbornUnless m (lookup (◌==◌ m) (touch n epoch p.touched)) a.born.birth v.passes.items
+  parts_answered walked answer epoch is m = dite (ℕ_discrete m n)
+      (λ same. subst (λ part. UnbornUnless m part a.born.birth v.passes.items) (sym (ap (λ k. lookup (◌==◌ k) (touch n epoch p.touched)) same ∙ touch_here n epoch p.touched))
+      (answered_is_in_epoch m w.number w.clock v.clock w.passes.items v.passes.items (turn_of walked) p.tx a.born.birth a.born.birth nth (lookup (◌==◌ n) p.touched) op answer epoch (took_turn walked) a.born.bears (sym same) refl is))
+      (λ other. subst (λ part. UnbornUnless m part a.born.birth v.passes.items) (sym (touch_else m n epoch p.touched other)) (parts_stay walked m (λ here. absurd (other (sym here))) (lookup (◌==◌ m) p.touched) (a.born.parts m)))
+
+  -- and where the transaction died of it there is none
+  gone_after : (walked : IsAsked) (cause : AbortCause) → r ≡ Ok (Dead cause) → UnbornAt n a.born.birth v.passes.items
+  gone_after walked cause is =
+      ends_unbear n w.number w.clock v.clock w.passes.items v.passes.items (turn_of walked ∷ []) p.tx a.born.birth (took_turn walked) a.born.bears
+      (ap (λ b. not b && is_eq (birth_cmp a.born.birth a.born.birth)) (tx_self p.tx), tt) a.born.free (inl (refl, subst (EndsPart p.tx asked_event) (sym is) refl, tt))
+
+  parts_died : (walked : IsAsked) (cause : AbortCause) → r ≡ Ok (Dead cause) → (m : ℕ) → UnbornUnless m (lookup (◌==◌ m) p.touched) a.born.birth v.passes.items
+  parts_died walked cause is m = dite (ℕ_discrete m n)
+      (λ same. subst (λ k. UnbornUnless k (lookup (◌==◌ m) p.touched) a.born.birth v.passes.items) (sym same) (unborn_unless_any n (lookup (◌==◌ m) p.touched) a.born.birth v.passes.items (gone_after walked cause is)))
+      (λ other. parts_stay walked m (λ here. absurd (other (sym here))) (lookup (◌==◌ m) p.touched) (a.born.parts m))
 
   -- no entry was made
   active_still : (walked : IsAsked) → IsWalker sh v → IsSameWalker w v → walked.turned.told.made ≡ None → IsActive sh v p
@@ -243,7 +285,7 @@ module _ {M S G : Type 0} (sh : Shards M S G) (w v : Walker M S G) (p : SessionS
         };
         goes = a.goes;
         touching = a.touching;
-        born = born_after walked same.0;
+        born = born_after walked same.0 p refl refl (parts_quiet walked none);
         serial = (let s = same.1 in let h = a.serial in omega arith);
         spelled = a.spelled;
         counted = (let h = a.counted in omega arith);
@@ -271,7 +313,7 @@ module _ {M S G : Type 0} (sh : Shards M S G) (w v : Walker M S G) (p : SessionS
     informed = informed_after walked same.0;
   }
 
-  pub stands_after : (walked : IsAsked) → IsWalker sh v → IsSameWalker w v → is_number p n nth op ≡ true → lies_in sh.splits n op ≡ true → (x : Result Outcome StepError) → r ≡ x → StandsAfter sh v (place_after n nth op p x) x
+  pub stands_after : (walked : IsAsked) → IsWalker sh v → IsSameWalker w v → is_number p n nth op ≡ true → lies_in sh.splits n op ≡ true → (x : Result Outcome StepError) → r ≡ x → StandsAfter n sh v (place_after n nth op p x) x
   stands_after walked is_walker same number lies (Err e) is =
       active_still walked is_walker same (error_none p.tx a.born.birth nth (lookup (◌==◌ n) p.touched) op walked.turned.s walked.turned.t w.clock w.number e walked.turned.told.made
       (subst (λ y. Tells (step walked.turned.s w.clock w.number asked_event) walked.turned.s w.clock w.number asked_event y walked.turned.t walked.turned.told.made) is walked.turned.told.tells))
@@ -289,16 +331,15 @@ module _ {M S G : Type 0} (sh : Shards M S G) (w v : Walker M S G) (p : SessionS
       entered : is_told o ≡ true → IsEntered w.clock w.number asked_event o v.clock walked.turned.told.made
       entered k = told_enters p.tx a.born.birth nth (lookup (◌==◌ n) p.touched) op walked.turned.s walked.turned.t w.clock w.number v.clock o walked.turned.told.made tells clock_is k
 
-      at : (z : Outcome) → o ≡ z → StandsAfter sh v (place_after n nth op p (Ok z)) (Ok z)
+      at : (z : Outcome) → o ≡ z → StandsAfter n sh v (place_after n nth op p (Ok z)) (Ok z)
       at (Answered answer epoch) q =
           let x = entered (ap is_told q) in
-          let b = born_after walked same.0 in
           record {
             state = place_after n nth op p (Ok (Answered answer epoch));
             ready = ready_then walked o (place_after n nth op p (Ok (Answered answer epoch))) is_walker same number lies x (ap (op_answered n nth op p) q) refl refl;
             goes = inl refl;
             touching = a.touching;
-            born = record { birth = b.birth; is = b.is; bears = b.bears; old = b.old; free = b.free };
+            born = born_after walked same.0 (place_after n nth op p (Ok (Answered answer epoch))) refl refl (parts_answered walked answer epoch (is ∙ ap (λ y. Ok y) q));
             serial = (let s = same.1 in let h = a.serial in omega arith);
             spelled = a.spelled;
             counted = (let l = number_low p n nth op number in let h = a.counted in let after = x.after in let c = x.clock_is in omega arith);
@@ -306,10 +347,12 @@ module _ {M S G : Type 0} (sh : Shards M S G) (w v : Walker M S G) (p : SessionS
           }
       at (Dead cause) q =
           let x = entered (ap is_told q) in
-          let b = born_after walked same.0 in
-          record {
-            ready = ready_then walked o (place_after n nth op p (Ok (Dead cause))) is_walker same number lies x (ap (op_answered n nth op p) q) refl refl;
-            born = record { birth = b.birth; is = b.is; bears = b.bears; old = b.old; free = b.free };
-            spelled = a.spelled;
-          }
+          let dead : r ≡ Ok (Dead cause) = is ∙ ap (λ y. Ok y) q in (
+            record {
+              ready = ready_then walked o (place_after n nth op p (Ok (Dead cause))) is_walker same number lies x (ap (op_answered n nth op p) q) refl refl;
+              born = born_after walked same.0 (place_after n nth op p (Ok (Dead cause))) refl refl (parts_died walked cause dead);
+              spelled = a.spelled;
+            },
+            λ birth had. subst (λ b. UnbornAt n b v.passes.items) (birth_same a.born.birth birth (sym a.born.is ∙ had)) (gone_after walked cause dead),
+          )
       at z q = quiet (ap is_told q)

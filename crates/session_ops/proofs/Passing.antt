@@ -1,6 +1,7 @@
 -- What a round leaves of a session.
-use Rattle.std.proofs.Common.{◌≡◌, ◌∙◌, refl, sym, ap, subst, ℕ, ◌≤◌, true, false, List, [], ◌∷◌, ◌++◌, append_assoc, append-nil, Option, Some, None, arith}
+use Rattle.std.proofs.Common.{◌≡◌, ◌∙◌, refl, sym, ap, subst, ℕ, ◌≤◌, ◌==◌, true, false, inr, List, [], ◌∷◌, ◌++◌, append_assoc, append-nil, Option, Some, None, arith}
 use Rattle.std.specs.List.{AllByRecursion}
+use Rattle.std.specs.Map.{lookup}
 use Rattle.std.proofs.lemmas.Bool.{both_ways}
 use Rattle.clv_base.specs.declared.names.TxId.{TxId}
 use Rattle.clv_base.specs.declared.names.Birth.{Birth}
@@ -18,7 +19,8 @@ use Rattle.session_progress.proofs.Laws.{states_go_on, others_leave_states}
 use Rattle.walker_turns.specs.Turns.{Turn, Took, IsMadeBy, entry_on, entries_made, AreOthers}
 use Rattle.walker_turns.proofs.Laws.{kept_grows, entries_are_made, clock_rises}
 use Rattle.session_births.specs.Births.{IsBornBy}
-use Rattle.session_births.proofs.Laws.{informed_stay, free_stays}
+use Rattle.session_births.specs.Unborn.{AllLeaveUnborn}
+use Rattle.session_births.proofs.Laws.{informed_stay, free_stays, unless_stays}
 use Rattle.session_ops.specs.Standing.{IsOld, IsReady, HasBirth, IsActive}
 
 other_leaves : (tx : TxId) (birth : Birth) (e : Event) → is_of_session e ≡ false → LeavesBirth tx birth e
@@ -50,6 +52,10 @@ other_born clock Restart h = tt
 all_leave : (tx : TxId) (birth : Birth) (ts : List Turn) → AreOthers ts → AllByRecursion (λ t. LeavesBirth tx birth t.event) ts
 all_leave tx birth [] h = tt
 all_leave tx birth (t ∷ ts) h = (other_leaves tx birth t.event h.0, all_leave tx birth ts h.1)
+
+all_unborn : (m : ℕ) (birth : Birth) (ts : List Turn) → AreOthers ts → AllLeaveUnborn m birth ts
+all_unborn m birth [] h = tt
+all_unborn m birth (t ∷ ts) h = ((λ here. inr (λ tx. other_leaves tx birth t.event h.0)), all_unborn m birth ts h.1)
 
 all_born : (clock : ℕ) (ts : List Turn) → AreOthers ts → AllByRecursion (λ t. IsBornBy clock t.event) ts
 all_born clock [] h = tt
@@ -95,6 +101,7 @@ module _ {M S G : Type 0} (sh : Shards M S G) (w v : Walker M S G) where
         bears = b.bears ∙ sym same.0;
         old = (let o = b.old in omega arith);
         free = free_stays w.number w.clock v.clock w.passes.items v.passes.items ts p.tx b.birth took b.bears (all_leave p.tx b.birth ts others) b.free;
+        parts = λ m. unless_stays m w.number w.clock v.clock w.passes.items v.passes.items ts (lookup (◌==◌ m) p.touched) b.birth took b.bears (all_unborn m b.birth ts others) (b.parts m);
       }
 
   pub still_active : (p : SessionState) (ts : List Turn) → Took w.number w.clock w.passes.items ts v.clock v.passes.items → AreOthers ts → IsWalker sh v → IsSameWalker w v → IsActive sh w p → IsActive sh v p

@@ -47,7 +47,7 @@ tried_placed n nth op p (Err NoMemory) = refl
 tried_placed n nth op p (Err (IsWorn at)) = refl
 
 module _ {M S G : Type 0} where
-  pub tried_stands : (sh : Rattle.cluster_turns.specs.declared.shards.Shards.Shards M S G) (w : Rattle.cluster_turns.specs.declared.shards.Walker.Walker M S G) (n : ℕ) (q : SessionState) (r : Result Outcome StepError) → StandsAfter sh w q r → StandsBy sh w q (tried n r)
+  pub tried_stands : (sh : Rattle.cluster_turns.specs.declared.shards.Shards.Shards M S G) (w : Rattle.cluster_turns.specs.declared.shards.Walker.Walker M S G) (n : ℕ) (q : SessionState) (r : Result Outcome StepError) → StandsAfter n sh w q r → StandsBy n sh w q (tried n r)
   tried_stands sh w n q (Ok (Answered answer epoch)) h = h
   tried_stands sh w n q (Ok (Dead cause)) h = h
   tried_stands sh w n q (Ok (Wait younger)) h = h
@@ -136,10 +136,10 @@ refused_placed n nth op p q (RoundWorn at) h = h
 refused_placed n nth op p q RoundMemory h = h
 
 module _ {M S G : Type 0} where
-  pub refused_stands : (sh : Rattle.cluster_turns.specs.declared.shards.Shards.Shards M S G) (w : Rattle.cluster_turns.specs.declared.shards.Walker.Walker M S G) (q : SessionState) (x : RoundError) → IsActive sh w q → StandsBy sh w q (Err (refusal_of x))
-  refused_stands sh w q (RoundDown m) h = h
-  refused_stands sh w q (RoundWorn at) h = h
-  refused_stands sh w q RoundMemory h = h
+  pub refused_stands : (sh : Rattle.cluster_turns.specs.declared.shards.Shards.Shards M S G) (w : Rattle.cluster_turns.specs.declared.shards.Walker.Walker M S G) (n : ℕ) (q : SessionState) (x : RoundError) → IsActive sh w q → StandsBy n sh w q (Err (refusal_of x))
+  refused_stands sh w n q (RoundDown m) h = h
+  refused_stands sh w n q (RoundWorn at) h = h
+  refused_stands sh w n q RoundMemory h = h
 
 -- ---- the loop
 

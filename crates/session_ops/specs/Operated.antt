@@ -21,7 +21,7 @@ use Rattle.session_rounds.specs.declared.parts.RoundError.{RoundError}
 use Rattle.session_rounds.specs.declared.parts.RoundError.TheVariants.{Down as RoundDown, Worn as RoundWorn, Memory as RoundMemory}
 use Rattle.session_ops.specs.declared.operating.OpError.{OpError}
 use Rattle.session_ops.specs.declared.operating.OpError.TheVariants.{Aborted, Down, Worn, Memory}
-use Rattle.session_ops.specs.Standing.{place_after, IsActive, IsOver}
+use Rattle.session_ops.specs.Standing.{place_after, IsActive, IsOver, IsGoneAt}
 
 -- what one try answers: none where it has to wait
 abbrev pub tried : ℕ → Result Outcome StepError → Result (Option Answer) OpError
@@ -83,10 +83,10 @@ answered_in (Ok answer) = Ok (Some answer)
 answered_in (Err e) = Err e
 
 module _ {M S G : Type 0} where
-  -- over where the transaction died, else active
-  abbrev pub StandsBy : Shards M S G → Walker M S G → SessionState → Result (Option Answer) OpError → Type 0
-  StandsBy sh w p (Err (Aborted cause)) = IsOver sh w p
-  StandsBy sh w p (Err (Down m)) = IsActive sh w p
-  StandsBy sh w p (Err (Worn at)) = IsActive sh w p
-  StandsBy sh w p (Err Memory) = IsActive sh w p
-  StandsBy sh w p (Ok answer) = IsActive sh w p
+  -- over, and gone on this shard, where the transaction died, else active
+  abbrev pub StandsBy : ℕ → Shards M S G → Walker M S G → SessionState → Result (Option Answer) OpError → Type 0
+  StandsBy n sh w p (Err (Aborted cause)) = IsOver sh w p × IsGoneAt n w p
+  StandsBy n sh w p (Err (Down m)) = IsActive sh w p
+  StandsBy n sh w p (Err (Worn at)) = IsActive sh w p
+  StandsBy n sh w p (Err Memory) = IsActive sh w p
+  StandsBy n sh w p (Ok answer) = IsActive sh w p

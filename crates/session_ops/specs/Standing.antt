@@ -1,5 +1,6 @@
 -- What holds of a walker while a session goes on by it.
-use Rattle.std.specs.Prelude.{◌≡◌, ⊤, ℕ, ◌<◌, ◌≤◌, ◌^◌, Bool, true, false, List, [], ◌∷◌, Option, Some, None, Result, Ok}
+use Rattle.std.specs.Prelude.{◌≡◌, ⊤, ℕ, ◌<◌, ◌≤◌, ◌^◌, ◌==◌, Bool, true, false, List, [], ◌∷◌, Option, Some, None, Result, Ok}
+use Rattle.std.specs.Map.{lookup}
 use Rattle.clv_base.specs.declared.names.Birth.{Birth}
 use Rattle.clv_base.specs.declared.ops.Op.{Op}
 use Rattle.clv_base.specs.declared.events.Event.{Event}
@@ -17,6 +18,7 @@ use Rattle.cluster_turns.specs.Walkers.{IsWalker, kept}
 use Rattle.session_progress.specs.States.{session_of, GoesOnBy}
 use Rattle.walker_turns.specs.Turns.{Turn, Took}
 use Rattle.session_births.specs.Births.{AllSeeFree, AreInformed}
+use Rattle.session_births.specs.Unborn.{UnbornAt, UnbornUnless}
 
 -- a birth, if any, with a stamp up to the clock
 abbrev pub IsOld : ℕ → Option Birth → Type 0
@@ -56,13 +58,14 @@ module _ {M S G : Type 0} where
     pub old : IsOld w.clock t.birth
     pub informed : AreInformed w.number w.clock w.passes.items
 
-  -- the transaction has this birth, which is free for it on each shard
+  -- the transaction has this birth, which is free for it on each shard; where it may have a part, that is of the epoch of its first touch
   pub record HasBirth (w : Walker M S G) (p : SessionState) : Type 0 where
     pub birth : Birth
     pub is : p.birth ≡ Some birth
     pub bears : birth.session ≡ w.number
     pub old : birth.stamp ≤ w.clock
     pub free : AllSeeFree p.tx birth w.passes.items
+    pub parts : (n : ℕ) → UnbornUnless n (lookup (◌==◌ n) p.touched) birth w.passes.items
 
   -- the session goes on by the transaction p, which may have operations
   pub record IsActive (sh : Shards M S G) (w : Walker M S G) (p : SessionState) : Type 0 where
@@ -82,7 +85,11 @@ module _ {M S G : Type 0} where
     pub born : HasBirth w p
     pub spelled : tx_has_spelling p.tx ≡ true
 
-  -- after an answer: over where it died of it, else as active as before
-  abbrev pub StandsAfter : Shards M S G → Walker M S G → SessionState → Result Outcome StepError → Type 0
-  StandsAfter sh w p (Ok (Dead cause)) = IsOver sh w p
-  StandsAfter sh w p _ = IsActive sh w p
+  -- on shard n it has no active part any more, and no transaction of its birth has one
+  abbrev pub IsGoneAt : ℕ → Walker M S G → SessionState → Type 0
+  IsGoneAt n w p = (birth : Birth) → p.birth ≡ Some birth → UnbornAt n birth w.passes.items
+
+  -- after an answer on shard n: over, and gone there, where it died of it, else as active as before
+  abbrev pub StandsAfter : ℕ → Shards M S G → Walker M S G → SessionState → Result Outcome StepError → Type 0
+  StandsAfter n sh w p (Ok (Dead cause)) = IsOver sh w p × IsGoneAt n w p
+  StandsAfter n sh w p _ = IsActive sh w p

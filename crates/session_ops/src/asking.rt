@@ -47,7 +47,7 @@ pub fn ask<M: Machine, R: Wait>(
     ensures turn { (birth : BirthIs) → place.old.birth ≡ Some birth → AskTold walker.old.number walker.old.clock walker.old.passes.items shard (OpEvent place.old.tx birth nth (lookup (◌==◌ shard) place.old.touched) op) result walker.new.clock walker.new.passes.items }
     ensures outcome { IfOk result (λ o. is_op_outcome o ≡ true) }
     ensures place { place.new ≡ place_after shard nth op place.old result }
-    ensures stands { StandsAfter shards.now walker.new place.new result }
+    ensures stands { StandsAfter shard shards.now walker.new place.new result }
 {
     let event = place.op(shard, nth, op);
     let answer = shards.session_event(rt, alloc, walker, shard, event);

@@ -68,7 +68,7 @@ fn try_once<M: Machine, R: Wait>(
     ensures walker { IsSameWalker walker.old walker.new }
     ensures turns { (birth : BirthIs) → place.old.birth ≡ Some birth → Operated walker.old.number walker.old.clock walker.old.passes.items shard (OpEvent place.old.tx birth nth (lookup (◌==◌ shard) place.old.touched) op) result walker.new.clock walker.new.passes.items }
     ensures place { PlacedBy shard nth op place.old result place.new }
-    ensures stands { StandsBy shards.now walker.new place.new result }
+    ensures stands { StandsBy shard shards.now walker.new place.new result }
 {
     let answer = ask(rt, alloc, shards, walker, place, shard, nth, op);
     tried_by(shard, answer)
@@ -121,7 +121,7 @@ fn try_and_pass<M: Flier, P: Pace, R: Wait>(
     ensures walker { IsSameWalker walker.old walker.new }
     ensures turns { (birth : BirthIs) → place.old.birth ≡ Some birth → Operated walker.old.number walker.old.clock walker.old.passes.items shard (OpEvent place.old.tx birth nth (lookup (◌==◌ shard) place.old.touched) op) result walker.new.clock walker.new.passes.items }
     ensures place { PlacedBy shard nth op place.old result place.new }
-    ensures stands { StandsBy shards.now walker.new place.new result }
+    ensures stands { StandsBy shard shards.now walker.new place.new result }
 {
     match try_once(rt, alloc, shards, walker, place, shard, nth, op) {
         Ok(None) => match pass_round(rt, alloc, shards, walker, place, pace) {
@@ -155,7 +155,7 @@ pub fn operate<M: Flier, P: Pace, R: Wait>(
     ensures walker { IsSameWalker walker.old walker.new }
     ensures turns { (birth : BirthIs) → place.old.birth ≡ Some birth → Operated walker.old.number walker.old.clock walker.old.passes.items shard (OpEvent place.old.tx birth nth (lookup (◌==◌ shard) place.old.touched) op) (answered_in result) walker.new.clock walker.new.passes.items }
     ensures place { PlacedBy shard nth op place.old (answered_in result) place.new }
-    ensures stands { StandsBy shards.now walker.new place.new (answered_in result) }
+    ensures stands { StandsBy shard shards.now walker.new place.new (answered_in result) }
 {
     let backoff = Backoff::new();
     for _ in rt.forever() {

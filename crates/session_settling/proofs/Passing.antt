@@ -1,6 +1,7 @@
 -- What a round leaves of a session.
-use Rattle.std.proofs.Common.{◌≡◌, ◌∙◌, refl, sym, ap, subst, ℕ, ◌≤◌, true, false, List, [], ◌∷◌, ◌++◌, append_assoc, append-nil, Option, Some, None, arith}
+use Rattle.std.proofs.Common.{◌≡◌, ◌∙◌, refl, sym, ap, subst, ℕ, ◌≤◌, ◌==◌, true, false, inr, List, [], ◌∷◌, ◌++◌, append_assoc, append-nil, Option, Some, None, arith}
 use Rattle.std.specs.List.{AllByRecursion}
+use Rattle.std.specs.Map.{lookup}
 use Rattle.std.proofs.lemmas.Bool.{both_ways}
 use Rattle.clv_base.specs.declared.names.TxId.{TxId}
 use Rattle.clv_base.specs.declared.names.Birth.{Birth}
@@ -18,7 +19,8 @@ use Rattle.session_progress.proofs.Laws.{states_go_on, others_leave_states}
 use Rattle.walker_turns.specs.Turns.{Turn, Took, IsMadeBy, entry_on, entries_made, AreOthers}
 use Rattle.walker_turns.proofs.Laws.{kept_grows, entries_are_made, clock_rises}
 use Rattle.session_births.specs.Births.{IsBornBy}
-use Rattle.session_births.proofs.Laws.{informed_stay, free_stays}
+use Rattle.session_births.specs.Unborn.{AllLeaveUnborn}
+use Rattle.session_births.proofs.Laws.{informed_stay, free_stays, unless_stays, unborn_stays}
 use Rattle.session_ops.specs.Standing.{IsOld, IsReady, HasBirth}
 use Rattle.session_commit.specs.Requested.{IsStanding}
 
@@ -52,6 +54,10 @@ all_leave : (tx : TxId) (birth : Birth) (ts : List Turn) → AreOthers ts → Al
 all_leave tx birth [] h = tt
 all_leave tx birth (t ∷ ts) h = (other_leaves tx birth t.event h.0, all_leave tx birth ts h.1)
 
+all_unborn : (m : ℕ) (birth : Birth) (ts : List Turn) → AreOthers ts → AllLeaveUnborn m birth ts
+all_unborn m birth [] h = tt
+all_unborn m birth (t ∷ ts) h = ((λ here. inr (λ tx. other_leaves tx birth t.event h.0)), all_unborn m birth ts h.1)
+
 all_born : (clock : ℕ) (ts : List Turn) → AreOthers ts → AllByRecursion (λ t. IsBornBy clock t.event) ts
 all_born clock [] h = tt
 all_born clock (t ∷ ts) h = (other_born clock t.event h.0, all_born clock ts h.1)
@@ -66,6 +72,9 @@ state_stays splits run w es s (t ∷ ts) o m h = at t.made refl (λ fs k. state_
     at (Some x) is rest =
         let one = states_go_on splits run w es s (t.shard, x) h ∙ others_leave_states splits t.shard s x.event x.outcome (ap is_of_session (m.0 x is).1 ∙ o.0) in
         ap (session_of splits run w) (sym (append_assoc es ((t.shard, x) ∷ []) (entries_made ts))) ∙ rest (es ++ (t.shard, x) ∷ []) one
+
+birth_same : (x y : Birth) → ◌≡◌ {A = Option Birth} (Some x) (Some y) → x ≡ y
+birth_same x y h = cc
 
 module _ {M S G : Type 0} (sh : Shards M S G) (w v : Walker M S G) where
   still_ready : (t : SessionState) (ts : List Turn) → Took w.number w.clock w.passes.items ts v.clock v.passes.items → AreOthers ts → IsWalker sh v → IsSameWalker w v → IsReady sh w t → IsReady sh v t
@@ -96,7 +105,11 @@ module _ {M S G : Type 0} (sh : Shards M S G) (w v : Walker M S G) where
         bears = b.bears ∙ sym same.0;
         old = (let o = b.old in omega arith);
         free = free_stays w.number w.clock v.clock w.passes.items v.passes.items ts p.tx b.birth took b.bears (all_leave p.tx b.birth ts others) b.free;
+        parts = λ m. unless_stays m w.number w.clock v.clock w.passes.items v.passes.items ts (lookup (◌==◌ m) p.touched) b.birth took b.bears (all_unborn m b.birth ts others) (b.parts m);
       }
+
+  bears_same : (p : SessionState) (birth : Birth) (b : HasBirth w p) → p.birth ≡ Some birth → birth.session ≡ w.number
+  bears_same p birth b had = ap (λ x. x.session) (birth_same birth b.birth (sym had ∙ b.is)) ∙ b.bears
 
   pub still_standing : (p : SessionState) (n : ℕ) (ts : List Turn) → Took w.number w.clock w.passes.items ts v.clock v.passes.items → AreOthers ts → IsWalker sh v → IsSameWalker w v → IsStanding sh w p n → IsStanding sh v p n
   still_standing p n ts took others is_walker same a = record {
@@ -104,4 +117,5 @@ module _ {M S G : Type 0} (sh : Shards M S G) (w v : Walker M S G) where
     stands = a.stands;
     born = still_born p ts took others same a.born;
     spelled = a.spelled;
+    gone = λ birth had. unborn_stays n w.number w.clock v.clock w.passes.items v.passes.items ts birth took (bears_same p birth a.born had) (all_unborn n birth ts others) (a.gone birth had);
   }

@@ -18,7 +18,7 @@ use Rattle.cluster_turns.specs.declared.shards.Walker.{Walker}
 use Rattle.walker_turns.specs.Turns.{Turn, Took, AnyTurn, FoundDown, FoundWorn}
 use Rattle.session_rounds.specs.declared.parts.RoundError.{RoundError}
 use Rattle.session_rounds.specs.declared.parts.RoundError.TheVariants.{Down as RoundDown, Worn as RoundWorn, Memory as RoundMemory}
-use Rattle.session_ops.specs.Standing.{IsReady, IsOver}
+use Rattle.session_ops.specs.Standing.{IsReady, IsOver, IsGoneAt}
 use Rattle.session_commit.specs.Requested.{IsStanding}
 use Rattle.session_settling.specs.declared.looking.SettleError.{SettleError}
 use Rattle.session_settling.specs.declared.looking.SettleError.TheVariants.{Aborted, Unsettled, Worn, Memory}
@@ -80,11 +80,11 @@ settled_in (Ok point) = Ok (Some point)
 settled_in (Err e) = Err e
 
 module _ {M S G : Type 0} where
-  -- committed, or over where it was aborted, else the request stands
+  -- committed, or over where it was aborted, and gone at its home, else the request stands
   abbrev pub StandsBy : Shards M S G → Walker M S G → SessionState → ℕ → Result (Option Point) SettleError → Type 0
   StandsBy sh w p n (Ok (Some point)) = IsReady sh w p
   StandsBy sh w p n (Ok None) = IsStanding sh w p n
-  StandsBy sh w p n (Err (Aborted cause)) = IsOver sh w p
+  StandsBy sh w p n (Err (Aborted cause)) = IsOver sh w p × IsGoneAt n w p
   StandsBy sh w p n (Err (Unsettled m)) = IsStanding sh w p n
   StandsBy sh w p n (Err (Worn at)) = IsStanding sh w p n
   StandsBy sh w p n (Err Memory) = IsStanding sh w p n

@@ -1,2 +1,4 @@
 pub mod Taking
+pub mod Replying
+pub mod Answering
 pub mod Laws

@@ -29,7 +29,7 @@ returns-clause-turn g c birth is = let w = c.args.walker.now in let v = c.sessio
 
 pub returns-clause-stands : goal.returns-clause-stands
 returns-clause-stands g c = let w = c.args.walker.now in let v = c.session_event-answer.new.walker in let sh = c.args.shards.now in let a = c.requires.active in let p = c.args.place.now in
-    subst (λ q. StandsAfter sh v q c.session_event-answer.result) (sym c.follow.ensures)
+    subst (λ q. StandsAfter c.args.shard sh v q c.session_event-answer.result) (sym c.follow.ensures)
     (stands_after sh w v p a c.args.shard c.args.nth c.args.op c.session_event-answer.result (subst (λ e. Walked (EventTold w.clock w.number e c.session_event-answer.result v.clock) c.args.shard w.number w.passes.items v.passes.items) (c.op-event.ensures a.born.birth a.born.is) c.session_event-answer.ensures.event)
     c.session_event-answer.ensures.walker.0 c.session_event-answer.ensures.walker.1 c.requires.number c.requires.lies c.session_event-answer.result refl)
 

@@ -19,4 +19,4 @@ returns-clause-place g c = let n = c.args.shard in let p = c.args.place.now in l
 
 pub returns-clause-stands : goal.returns-clause-stands
 returns-clause-stands g c = let v = c.ask-answer.new.walker in let q = c.ask-answer.new.place in let r = c.ask-answer.result in
-    subst (λ x. StandsBy c.args.shards.now v q x) (sym c.tried_by.ensures) (tried_stands c.args.shards.now v c.args.shard q r c.ask-answer.ensures.stands)
+    subst (λ x. StandsBy c.args.shard c.args.shards.now v q x) (sym c.tried_by.ensures) (tried_stands c.args.shards.now v c.args.shard q r c.ask-answer.ensures.stands)
