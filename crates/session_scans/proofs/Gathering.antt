@@ -11,7 +11,7 @@ use Rattle.clv_base.specs.declared.ops.Answer.{Answer}
 use Rattle.clv_base.specs.declared.events.Event.{Event}
 use Rattle.clv_base.specs.declared.events.Event.TheVariants.{Op as OpEvent}
 use Rattle.clv_base.specs.Shards.{span, lies_within}
-use Rattle.clv_base.specs.Sessions.{SessionState, is_number, goes_on_scan, lies_in}
+use Rattle.clv_base.specs.Sessions.{SessionState, is_number, goes_on_scan, is_of_session, lies_in}
 use Rattle.turn_lock.specs.declared.pass.Pass.{Pass}
 use Rattle.turn_laws.specs.declared.notes.Note.{Note}
 use Rattle.turn_laws.specs.declared.notes.Origin.{Origin}
@@ -19,10 +19,11 @@ use Rattle.walker_turns.specs.Turns.{Turn, no_turn, AnyTurn}
 use Rattle.walker_turns.proofs.Laws.{turns_follow}
 use Rattle.session_ops.specs.declared.operating.OpError.{OpError}
 use Rattle.session_ops.specs.declared.operating.OpError.TheVariants.{Aborted, Down, Worn, Memory}
-use Rattle.session_ops.specs.Operated.{IsAnswered, Died, Waits, ToldBy, PlacedBy, answered_in}
+use Rattle.session_ops.specs.Operated.{IsAnswered, Died, Waits, OnlyOf, ToldBy, PlacedBy, answered_in}
+use Rattle.session_drops.specs.Dropped.{Drops}
 use Rattle.session_endings.specs.Decided.{DropsOthers}
 use Rattle.session_endings.proofs.Laws.{any_before, any_after}
-use Rattle.session_scans.specs.Parts.{has_died, IsOpOrDrop, LeftBy, Performing}
+use Rattle.session_scans.specs.Parts.{has_died, LeftBy, Performing}
 use Rattle.session_scans.specs.Scanned.{part_within, part_on, Range, IsPartScan, IsScanWait, pairs_in, GivesPairs, DiesOfScan, PartGiven, Gathered, IsOfScan, ScanFailed, Scanning, StepTold, Stepping, IsBelow, IsUnder, IsSameTx, TakesPairs}
 
 -- ---- parts of a range
@@ -91,24 +92,34 @@ module _ (splits : List ℕ) (x : Range) (n : ℕ) (seen : Option ℕ) (part : �
   is_scan : (t : Turn) → t.event ≡ scan_event → IsPartScan splits x n t
   is_scan t e = record { seen = seen; part = part; meets = is; event = e }
 
-  pub of_scan : (touched : List (ℕ × ℕ)) (t : Turn) → IsOpOrDrop scan_event x.tx touched n t → IsOfScan splits x t
-  of_scan touched t (inl (inl h)) = inl h
-  of_scan touched t (inl (inr h)) = inr (inl (n, is_scan t h))
-  of_scan touched t (inr h) = inr (inr h.event)
+  of_scan : (t : Turn) → (is_of_session t.event ≡ false) ⊎ (t.event ≡ scan_event) → IsOfScan splits x t
+  of_scan t (inl h) = inl h
+  of_scan t (inr h) = inr (inl (n, is_scan t h))
+
+  of_drop : (touched : List (ℕ × ℕ)) (t : Turn) → Drops x.tx touched (Some n) t → IsOfScan splits x t
+  of_drop touched t h = inr (inr h.event)
+
+  pub all_of_scan : (touched : List (ℕ × ℕ)) (ts us : List Turn) → OnlyOf scan_event ts → AllByRecursion (Drops x.tx touched (Some n)) us → AllByRecursion (IsOfScan splits x) (ts ++ us)
+  all_of_scan touched ts us a b = all_append (IsOfScan splits x) ts us (all_map _ (IsOfScan splits x) of_scan ts a) (all_map _ (IsOfScan splits x) (of_drop touched) us b)
 
   pub given : (answer : Answer) (ts : List Turn) → AnyTurn (IsAnswered n scan_event answer) ts → AnyTurn (GivesPairs splits x n (pairs_in answer)) ts
   given answer ts h = any_map (IsAnswered n scan_event answer) (GivesPairs splits x n (pairs_in answer)) (λ t a. record { shard = a.0; scan = is_scan t a.1; answer = answer; epoch = a.2.0; answered = a.2.1; pairs = refl }) ts h
 
-  pub failed : (count : ℕ) (touched : List (ℕ × ℕ)) (e : OpError) (ts : List Turn) → ToldBy n scan_event (Err e) ts → LeftBy count n x.tx touched (has_died {A = Answer} (Err e)) ts → ScanFailed splits count x touched e ts
-  failed count touched (Aborted cause) ts h left =
-      (n, (any_map (Died n scan_event cause) (DiesOfScan splits x n cause) (λ t a. record { shard = a.0; scan = is_scan t a.1; died = a.2 }) ts h, left))
-  failed count touched (Down m) ts h left = (h.0, by h.1)
+  pub failed : (count : ℕ) (touched : List (ℕ × ℕ)) (e : OpError) (ts us : List Turn) → ToldBy n scan_event (Err e) ts → LeftBy count n x.tx touched (has_died {A = Answer} (Err e)) us → ScanFailed splits count x touched e (ts ++ us)
+  failed count touched (Aborted cause) ts us h left = (
+    n,
+    (
+      any_before _ ts us (any_map (Died n scan_event cause) (DiesOfScan splits x n cause) (λ t a. record { shard = a.0; scan = is_scan t a.1; died = a.2 }) ts h),
+      λ k low to. any_after _ ts us (left k low to),
+    ),
+  )
+  failed count touched (Down m) ts us h left = (any_before _ ts us h.0, by h.1)
     where
-      by : (m ≡ n) ⊎ AnyTurn (Waits n scan_event) ts → (is_some (part_on splits m x.lo x.hi) ≡ true) ⊎ AnyTurn (IsScanWait splits x) ts
+      by : (m ≡ n) ⊎ AnyTurn (Waits n scan_event) ts → (is_some (part_on splits m x.lo x.hi) ≡ true) ⊎ AnyTurn (IsScanWait splits x) (ts ++ us)
       by (inl same) = inl (ap (λ k. is_some (part_on splits k x.lo x.hi)) same ∙ ap is_some is)
-      by (inr w) = inr (any_map (Waits n scan_event) (IsScanWait splits x) (λ t a. record { at = n; scan = is_scan t a.1; waits = a.2 }) ts w)
-  failed count touched (Worn at) ts h left = h
-  failed count touched Memory ts h left = tt
+      by (inr w) = inr (any_before _ ts us (any_map (Waits n scan_event) (IsScanWait splits x) (λ t a. record { at = n; scan = is_scan t a.1; waits = a.2 }) ts w))
+  failed count touched (Worn at) ts us h left = any_before _ ts us h
+  failed count touched Memory ts us h left = tt
 
 -- ---- one shard
 
@@ -141,30 +152,30 @@ taken_died (Err Memory) r ps qs t = sym (ap has_died t)
 -- the touched shards when a transaction died
 died_touched : (count n nth : ℕ) (op : Op) (p q : SessionState) (e : OpError) (tx : TxId) (ts : List Turn) → PlacedBy n nth op p (Err e) q → LeftBy count n tx p.touched (has_died {A = Answer} (Err e)) ts → LeftBy count n tx q.touched (has_died {A = Answer} (Err e)) ts
 died_touched count n nth op p q (Aborted cause) tx ts h l = subst (λ z. DropsOthers count tx z n ts) (sym (ap (λ z. z.touched) h)) l
-died_touched count n nth op p q (Down m) tx ts h l = tt
-died_touched count n nth op p q (Worn at) tx ts h l = tt
-died_touched count n nth op p q Memory tx ts h l = tt
+died_touched count n nth op p q (Down m) tx ts h l = l
+died_touched count n nth op p q (Worn at) tx ts h l = l
+died_touched count n nth op p q Memory tx ts h l = l
 
 module _ {T : Type 0} where
   pub stepped : (splits : List ℕ) (count w c d n : ℕ) (before after : List (Option (Pass T Note Origin))) (x : Range) (seen : Option ℕ) (part : ℕ × ℕ) (p q : SessionState) (answer : Result Answer OpError) (r : Result Unit OpError)
       (ps qs : List (ℕ × ℕ)) → part_on splits n x.lo x.hi ≡ Some part → p.tx ≡ x.tx → Performing count w c before n p (OpEvent x.tx x.birth x.nth seen (Scan part.0 part.1)) answer d after → PlacedBy n x.nth (Scan part.0 part.1) p (answered_in answer) q
       → TakesPairs ps answer r qs → Stepping splits count w c before x n q.touched ps qs r d after
   stepped splits count w c d n before after x seen part p q answer r ps qs is name h place t = record {
-    turns = h.turns;
+    turns = h.asking ++ h.leaving;
     took = h.took;
-    only = all_map _ (IsOfScan splits x) (of_scan splits x n seen part is p.touched) h.turns (subst (λ z. AllByRecursion (IsOpOrDrop (OpEvent x.tx x.birth x.nth seen (Scan part.0 part.1)) z p.touched n) h.turns) name h.only);
+    only = all_of_scan splits x n seen part is p.touched h.asking h.leaving h.only (subst (λ z. AllByRecursion (Drops z p.touched (Some n)) h.leaving) name h.drops);
     told = at answer r h.told h.left place t;
   }
     where
-      at : (answer : Result Answer OpError) (r : Result Unit OpError) → ToldBy n (OpEvent x.tx x.birth x.nth seen (Scan part.0 part.1)) (answered_in answer) h.turns → LeftBy count n p.tx p.touched (has_died answer) h.turns
-          → PlacedBy n x.nth (Scan part.0 part.1) p (answered_in answer) q → TakesPairs ps answer r qs → StepTold splits count x n q.touched ps qs r h.turns
+      at : (answer : Result Answer OpError) (r : Result Unit OpError) → ToldBy n (OpEvent x.tx x.birth x.nth seen (Scan part.0 part.1)) (answered_in answer) h.asking → LeftBy count n p.tx p.touched (has_died answer) h.leaving
+          → PlacedBy n x.nth (Scan part.0 part.1) p (answered_in answer) q → TakesPairs ps answer r qs → StepTold splits count x n q.touched ps qs r (h.asking ++ h.leaving)
       at (Ok answer) (Ok u) told left place t =
-          (pairs_in answer, t, subst (λ o. PartGiven splits x n o (pairs_in answer) h.turns) (sym is) (given splits x n seen part is answer h.turns told))
-      at (Ok answer) (Err e) told left place t = subst (λ z. ScanFailed splits count x q.touched z h.turns) (sym t) tt
+          (pairs_in answer, t, subst (λ o. PartGiven splits x n o (pairs_in answer) (h.asking ++ h.leaving)) (sym is) (any_before _ h.asking h.leaving (given splits x n seen part is answer h.asking told)))
+      at (Ok answer) (Err e) told left place t = subst (λ z. ScanFailed splits count x q.touched z (h.asking ++ h.leaving)) (sym t) tt
       at (Err e) r told left place t =
-          subst (λ z. StepTold splits count x n q.touched ps qs z h.turns) (sym t)
-          (failed splits x n seen part is count q.touched e h.turns told
-          (subst (λ z. LeftBy count n z q.touched (has_died {A = Answer} (Err e)) h.turns) name (died_touched count n x.nth (Scan part.0 part.1) p q e p.tx h.turns place left)))
+          subst (λ z. StepTold splits count x n q.touched ps qs z (h.asking ++ h.leaving)) (sym t)
+          (failed splits x n seen part is count q.touched e h.asking h.leaving told
+          (subst (λ z. LeftBy count n z q.touched (has_died {A = Answer} (Err e)) h.leaving) name (died_touched count n x.nth (Scan part.0 part.1) p q e p.tx h.leaving place left)))
 
   -- a shard that the range doesn't meet
   pub passed : (splits : List ℕ) (count w c n : ℕ) (ps : List (Option (Pass T Note Origin))) (x : Range) (touched qs : List (ℕ × ℕ)) (u : Unit) → part_on splits n x.lo x.hi ≡ None → Stepping splits count w c ps x n touched qs qs (Ok u) c ps

@@ -1,41 +1,26 @@
 -- An operation on one shard, and the drops after it.
-use Rattle.std.proofs.Common.{◌≡◌, ◌∙◌, sym, ap, subst, ℕ, List, [], ◌∷◌, ◌++◌, length, Some, Result, Ok, Err, inl, inr}
-use Rattle.std.specs.List.{AllByRecursion}
-use Rattle.clv_base.specs.declared.names.TxId.{TxId}
+use Rattle.std.proofs.Common.{◌≡◌, ◌∙◌, refl, sym, ap, subst, ℕ, false, [], append-nil, length, Result, Ok, Err}
 use Rattle.clv_base.specs.declared.ops.Op.{Op}
 use Rattle.clv_base.specs.declared.ops.Answer.{Answer}
 use Rattle.clv_base.specs.declared.events.Event.{Event}
 use Rattle.clv_base.specs.Sessions.{SessionState, Ended, may_drop, after_drop}
 use Rattle.cluster_turns.specs.declared.shards.Shards.{Shards}
 use Rattle.cluster_turns.specs.declared.shards.Walker.{Walker}
-use Rattle.walker_turns.specs.Turns.{Turn}
+use Rattle.walker_turns.specs.Turns.{Took}
 use Rattle.walker_turns.proofs.Laws.{turns_follow}
 use Rattle.session_ops.specs.declared.operating.OpError.{OpError}
 use Rattle.session_ops.specs.declared.operating.OpError.TheVariants.{Aborted, Down, Worn, Memory}
 use Rattle.session_ops.specs.Standing.{IsActive}
-use Rattle.session_ops.specs.Operated.{OnlyOf, Operated, PlacedBy, StandsBy, answered_in}
-use Rattle.session_drops.specs.Dropped.{Drops}
+use Rattle.session_ops.specs.Operated.{Operated, PlacedBy, StandsBy, answered_in}
 use Rattle.session_endings.specs.Decided.{Leaving, IsLeftOver, LeavesIf}
-use Rattle.session_endings.proofs.Laws.{any_before, any_after}
-use Rattle.session_scans.specs.Parts.{has_died, IsOpOrDrop, Performing, StandsUnless}
-
-ops_only : (e : Event) (tx : TxId) (touched : List (ℕ × ℕ)) (n : ℕ) (ts : List Turn) → OnlyOf e ts → AllByRecursion (IsOpOrDrop e tx touched n) ts
-ops_only e tx touched n [] h = tt
-ops_only e tx touched n (t ∷ ts) h = (inl h.0, ops_only e tx touched n ts h.1)
-
-drops_only : (e : Event) (tx : TxId) (touched : List (ℕ × ℕ)) (n : ℕ) (ts : List Turn) → AllByRecursion (Drops tx touched (Some n)) ts → AllByRecursion (IsOpOrDrop e tx touched n) ts
-drops_only e tx touched n [] h = tt
-drops_only e tx touched n (t ∷ ts) h = (inr h.0, drops_only e tx touched n ts h.1)
-
-all_append : (P : Turn → Type 0) (xs ys : List Turn) → AllByRecursion P xs → AllByRecursion P ys → AllByRecursion P (xs ++ ys)
-all_append P [] ys a b = b
-all_append P (x ∷ xs) ys a b = (a.0, all_append P xs ys a.1 b)
+use Rattle.session_endings.proofs.Laws.{left_ended}
+use Rattle.session_scans.specs.Parts.{has_died, LeftBy, Performing, StandsUnless}
 
 module _ {M S G : Type 0} (sh : Shards M S G) where
-  pub left_over : (w : Walker M S G) (n nth : ℕ) (op : Op) (p q : SessionState) (r : Result Answer OpError) → PlacedBy n nth op p (answered_in r) q → StandsBy sh w q (answered_in r) → IsLeftOver (has_died r) sh w q
+  pub left_over : (w : Walker M S G) (n nth : ℕ) (op : Op) (p q : SessionState) (r : Result Answer OpError) → PlacedBy n nth op p (answered_in r) q → StandsBy n sh w q (answered_in r) → IsLeftOver (has_died r) sh w q
   left_over w n nth op p q (Ok answer) place h = tt
   left_over w n nth op p q (Err (Aborted cause)) place h =
-      let phase : q.phase ≡ Ended = ap (λ z. z.phase) place in (record { over = h; may = ap may_drop phase }, ap after_drop phase ∙ sym phase)
+      let phase : q.phase ≡ Ended = ap (λ z. z.phase) place in (record { over = h.0; may = ap may_drop phase }, ap after_drop phase ∙ sym phase)
   left_over w n nth op p q (Err (Down m)) place h = tt
   left_over w n nth op p q (Err (Worn at)) place h = tt
   left_over w n nth op p q (Err Memory) place h = tt
@@ -46,23 +31,37 @@ module _ {M S G : Type 0} (sh : Shards M S G) where
   abbrev Performs : Walker M S G → Walker M S G → ℕ → SessionState → Event → Result Answer OpError → Type 0
   Performs w v n p e r = Performing (length sh.locks.items) w.number w.clock w.passes.items n p e r v.clock v.passes.items
 
+  -- without drops
+  asked : (w u : Walker M S G) (n : ℕ) (p : SessionState) (e : Event) (r : Result Answer OpError) → Operates w u n e r → has_died r ≡ false → Performs w u n p e r
+  asked w u n p e r o not_so = record {
+    asking = o.turns;
+    leaving = [];
+    took = subst (λ ts. Took w.number w.clock w.passes.items ts u.clock u.passes.items) (sym (append-nil o.turns)) o.took;
+    only = o.only;
+    told = o.told;
+    drops = tt;
+    left = subst (λ b. LeftBy (length sh.locks.items) n p.tx p.touched b []) (sym not_so) refl;
+  }
+
   pub performed : (w u v : Walker M S G) (n nth : ℕ) (op : Op) (p m q : SessionState) (e : Event) (r : Result Answer OpError) → u.number ≡ w.number → Operates w u n e r → PlacedBy n nth op p (answered_in r) m
       → LeavesIf (has_died r) sh u m n v q → Performs w v n p e r
-  performed w u v n nth op p m q e (Ok answer) number o place l = subst (λ z. Performs w z n p e (Ok answer)) (sym l.0) (record { turns = o.turns; took = o.took; only = ops_only e p.tx p.touched n o.turns o.only; told = o.told; left = tt })
-  performed w u v n nth op p m q e (Err (Down k)) number o place l = subst (λ z. Performs w z n p e (Err (Down k))) (sym l.0) (record { turns = o.turns; took = o.took; only = ops_only e p.tx p.touched n o.turns o.only; told = o.told; left = tt })
-  performed w u v n nth op p m q e (Err (Worn at)) number o place l = subst (λ z. Performs w z n p e (Err (Worn at))) (sym l.0) (record { turns = o.turns; took = o.took; only = ops_only e p.tx p.touched n o.turns o.only; told = o.told; left = tt })
-  performed w u v n nth op p m q e (Err Memory) number o place l = subst (λ z. Performs w z n p e (Err Memory)) (sym l.0) (record { turns = o.turns; took = o.took; only = ops_only e p.tx p.touched n o.turns o.only; told = o.told; left = tt })
+  performed w u v n nth op p m q e (Ok answer) number o place l = subst (λ z. Performs w z n p e (Ok answer)) (sym l.0) (asked w u n p e (Ok answer) o refl)
+  performed w u v n nth op p m q e (Err (Down k)) number o place l = subst (λ z. Performs w z n p e (Err (Down k))) (sym l.0) (asked w u n p e (Err (Down k)) o refl)
+  performed w u v n nth op p m q e (Err (Worn at)) number o place l = subst (λ z. Performs w z n p e (Err (Worn at))) (sym l.0) (asked w u n p e (Err (Worn at)) o refl)
+  performed w u v n nth op p m q e (Err Memory) number o place l = subst (λ z. Performs w z n p e (Err Memory)) (sym l.0) (asked w u n p e (Err Memory) o refl)
   performed w u v n nth op p m q e (Err (Aborted cause)) number o place l =
       let count = length sh.locks.items in
       let drops : Leaving count w.number u.clock u.passes.items p.tx p.touched n v.clock v.passes.items =
       subst (λ (k : ℕ). Leaving count k u.clock u.passes.items p.tx p.touched n v.clock v.passes.items) number
       (subst (λ (z : SessionState). Leaving count u.number u.clock u.passes.items z.tx z.touched n v.clock v.passes.items) place l.0) in
       record {
-        turns = o.turns ++ drops.turns;
+        asking = o.turns;
+        leaving = drops.turns;
         took = turns_follow w.number w.clock u.clock v.clock w.passes.items u.passes.items v.passes.items o.turns drops.turns o.took drops.took;
-        only = all_append _ o.turns drops.turns (ops_only e p.tx p.touched n o.turns o.only) (drops_only e p.tx p.touched n drops.turns drops.only);
-        told = any_before _ o.turns drops.turns o.told;
-        left = λ k low is. any_after _ o.turns drops.turns (drops.each k low is);
+        only = o.only;
+        told = o.told;
+        drops = drops.only;
+        left = drops.each;
       }
 
   -- drops leave the place
@@ -79,9 +78,9 @@ module _ {M S G : Type 0} (sh : Shards M S G) where
   still : (u v : Walker M S G) (m q : SessionState) → IsActive sh u m → (v ≡ u) × (q ≡ m) → IsActive sh v q
   still u v m q a l = subst (λ z. IsActive sh z q) (sym l.0) (subst (IsActive sh u) (sym l.1) a)
 
-  pub performed_stands : (u v : Walker M S G) (n : ℕ) (m q : SessionState) (r : Result Answer OpError) → StandsBy sh u m (answered_in r) → LeavesIf (has_died r) sh u m n v q → StandsUnless (has_died r) sh v q
+  pub performed_stands : (u v : Walker M S G) (n : ℕ) (m q : SessionState) (r : Result Answer OpError) → StandsBy n sh u m (answered_in r) → LeavesIf (has_died r) sh u m n v q → StandsUnless (has_died r) sh v q
   performed_stands u v n m q (Ok answer) h l = still u v m q h l
   performed_stands u v n m q (Err (Down k)) h l = still u v m q h l
   performed_stands u v n m q (Err (Worn at)) h l = still u v m q h l
   performed_stands u v n m q (Err Memory) h l = still u v m q h l
-  performed_stands u v n m q (Err (Aborted cause)) h l = l.2
+  performed_stands u v n m q (Err (Aborted cause)) h l = left_ended sh u v m q n h.0.born h.1 l.0 l.1 l.2

@@ -7,5 +7,5 @@ mod parts;
 mod points;
 mod scanning;
 
-pub use points::{del, get, put};
+pub use points::{at_key, del, get, put};
 pub use scanning::scan;

@@ -41,8 +41,9 @@ fn value_of(answer: Result<Answer, OpError>) -> Result<Option<u64>, OpError>
     }
 }
 
-// One operation at a key, under the next number.
-fn at_key<M: Flier, P: Pace, R: Wait>(
+/// One operation at a key, on the shard of that, under the transaction's next number, with a round after each wait; answers the value before. `Aborted` comes
+/// only where the transaction died of that cause, and its other parts are dropped then; `Down`, `Worn` and `Memory` leave it active, as before.
+pub fn at_key<M: Flier, P: Pace, R: Wait>(
     rt: &R,
     alloc: Global,
     shards: &Shards<M>,

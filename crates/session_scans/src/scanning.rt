@@ -5,6 +5,7 @@ ghost use Rattle.cluster_turns.specs.Walkers.{IsSameWalker};
 ghost use Rattle.session_ops.specs.Standing.{IsActive};
 ghost use Rattle.session_scans.specs.Parts.{StandsUnless, has_died};
 ghost use Rattle.session_scans.specs.Scanned.{part_on, IsUnder, IsSameTx, TakesPairs, Stepping, Scanning};
+ghost use Rattle.session_scans.specs.Stepped.{PartTold, PartsTold};
 
 use crate::parts::perform;
 use cluster_turns::{Shards, Walker};
@@ -65,6 +66,7 @@ fn scan_part<M: Flier, P: Pace, R: Wait>(
     requires under { IsUnder shard nth place.old }
     ensures walker { IsSameWalker walker.old walker.new }
     ensures turns { (birth : BirthIs) → place.old.birth ≡ Some birth → Stepping shards.now.splits (length shards.now.locks.items) walker.old.number walker.old.clock walker.old.passes.items (record { tx = place.old.tx; birth = birth; nth = nth; lo = lo; hi = hi }) shard place.new.touched pairs.old.items pairs.new.items result walker.new.clock walker.new.passes.items }
+    ensures part { (birth : BirthIs) → place.old.birth ≡ Some birth → PartTold (part_on shards.now.splits shard lo hi) shards.now birth nth shard walker.old place.old pairs.old.items result walker.new place.new pairs.new.items }
     ensures same { IsSameTx place.old place.new }
     ensures under { IfOk result (λ u. IsUnder (shard + 1) nth place.new) }
     ensures stands { StandsUnless (has_died result) shards.now walker.new place.new }
@@ -96,6 +98,7 @@ pub fn scan<M: Flier, P: Pace, R: Wait>(
     requires active { IsActive shards.now walker.old place.old }
     ensures walker { IsSameWalker walker.old walker.new }
     ensures turns { (birth : BirthIs) → place.old.birth ≡ Some birth → Scanning shards.now.splits (length shards.now.locks.items) walker.old.number walker.old.clock walker.old.passes.items (record { tx = place.old.tx; birth = birth; nth = place.old.nth + 1; lo = lo; hi = hi }) place.new.touched result walker.new.clock walker.new.passes.items }
+    ensures parts { (birth : BirthIs) → place.old.birth ≡ Some birth → PartsTold shards.now birth (place.old.nth + 1) lo hi walker.old place.old result walker.new place.new }
     ensures same { IsSameTx place.old place.new }
     ensures stands { StandsUnless (has_died result) shards.now walker.new place.new }
 {

@@ -1,0 +1,135 @@
+-- What a session's calls leave.
+use Rattle.std.proofs.Common.{sym, subst, ℕ, Bool, true, false, List, ◌++◌, length, Option, None, Result, Ok, Err, inl, inr}
+use Rattle.clv_base.specs.declared.names.Point.{Point}
+use Rattle.clv_base.specs.declared.ops.Op.{Op}
+use Rattle.clv_base.specs.Sessions.{SessionState, Phase, Touching, Ended as HasEnded, Standing, Told, Refused}
+use Rattle.cluster_turns.specs.declared.shards.Shards.{Shards}
+use Rattle.cluster_turns.specs.declared.shards.Walker.{Walker}
+use Rattle.cluster_turns.specs.declared.shards.WornClock.{WornClock}
+use Rattle.cluster_turns.specs.Walkers.{IsSameWalker}
+use Rattle.cluster_landing.specs.Landed.{HasLanded}
+use Rattle.walker_turns.specs.Turns.{Turn, Took}
+use Rattle.walker_turns.proofs.Laws.{worn_is_last}
+use Rattle.session_landing.proofs.Laws.{turns_land}
+use Rattle.session_ops.specs.declared.operating.OpError.{OpError as Failure}
+use Rattle.session_begins.specs.Beginnings.{IsIdle, Begun}
+use Rattle.session_drops.specs.Dropped.{Dropping}
+use Rattle.session_settling.specs.declared.looking.SettleError.{SettleError}
+use Rattle.session_drops.specs.Dropped.{IsLeft}
+use Rattle.session_ops.specs.Standing.{HasBirth}
+use Rattle.session_retries.specs.Retried.{Retried}
+use Rattle.session_retries.proofs.Laws.{ended_are_retriable, aborts_are_retriable}
+use Rattle.session_scans.specs.Parts.{PointTold, StandsUnless, has_died}
+use Rattle.session_endings.specs.declared.committing.Settled.{Settled}
+use Rattle.session_endings.specs.declared.committing.CommitError.{CommitError as CommitFailure}
+use Rattle.session_endings.specs.Standings.{StandsAt, StandsAs, IsUnasked, IsAborted}
+use Rattle.session_endings.specs.Decided.{Deciding}
+use Rattle.session_endings.specs.Committed.{CommitTold}
+use Rattle.session_api.specs.declared.progress.Progress.{Progress}
+use Rattle.session_api.specs.declared.progress.Progress.TheVariants.{Idle, Active, Worn, Asked, Ended}
+use Rattle.session_api.specs.Progresses.{after_op, after_commit, progress_committed, progress_aborted, is_nothing}
+use Rattle.session_api.specs.Sessions.{StandsIn, IsSession}
+
+module _ {M S G : Type 0} (sh : Shards M S G) where
+  -- ---- gates
+
+  pub landed_after : (w v : Walker M S G) (ts : List Turn) → IsSameWalker w v → Took w.number w.clock w.passes.items ts v.clock v.passes.items → HasLanded w.number w.passes.items → HasLanded v.number v.passes.items
+  landed_after w v ts same took h = subst (λ k. HasLanded k v.passes.items) (sym same.0) (turns_land w.number w.clock v.clock w.passes.items v.passes.items ts took h)
+
+  -- ---- idle
+
+  unasked_idle : (w : Walker M S G) (p : SessionState) → IsUnasked sh w p → IsIdle sh w
+  unasked_idle w p (inl active) = (active.state, active.ready)
+  unasked_idle w p (inr ending) = (p, ending.over.ready)
+
+  -- whatever became of the last transaction
+  pub is_idle : (w : Walker M S G) (s : Progress) → StandsIn sh w s → IsIdle sh w
+  is_idle w Idle h = h
+  is_idle w (Active p) h = (h.state, h.ready)
+  is_idle w (Worn p) h = unasked_idle w p h.0
+  is_idle w (Asked p home) h = (p, h.ready)
+  is_idle w (Ended p) h = (h.state, h.ready)
+
+  at_idle : (w : Walker M S G) (p : SessionState) (x : Phase) → StandsAt x sh w p → IsIdle sh w
+  at_idle w p Touching h = (h.state, h.ready)
+  at_idle w p HasEnded h = (p, h.ending.over.ready)
+  at_idle w p (Standing home) h = (p, h.ready)
+  at_idle w p Told h = (p, h)
+  at_idle w p Refused h = (p, h.ending.over.ready)
+
+  -- ---- beginnings
+
+  pub begun_session : (w v : Walker M S G) (s : Progress) (p : SessionState) → IsSession sh w s → Begun sh w v p → IsSession sh v (Active p)
+  begun_session w v s p h b = record {
+    stands = b.active;
+    landed = subst (λ z. HasLanded z.number z.passes.items) (sym b.walker_is) h.landed;
+  }
+
+  pub retried_session : (w v : Walker M S G) (last p : SessionState) → IsSession sh w (Ended last) → Retried sh w v last p → IsSession sh v (Active p)
+  retried_session w v last p h b = record {
+    stands = b.active;
+    landed = subst (λ z. HasLanded z.number z.passes.items) (sym b.walker_is) h.landed;
+  }
+
+  -- ---- operations
+
+  op_stands : (v : Walker M S G) (q : SessionState) (died : Bool) → StandsUnless died sh v q → StandsIn sh v (after_op q died)
+  op_stands v q true h = ended_are_retriable M S G sh v q h
+  op_stands v q false h = h
+
+  pub point_session : (w v : Walker M S G) (p q : SessionState) (op : Op) (key : ℕ) (r : Result (Option ℕ) Failure) → IsSession sh w (Active p) → IsSameWalker w v → PointTold sh w p op key r v q → StandsUnless (has_died r) sh v q
+      → IsSession sh v (after_op q (has_died r))
+  point_session w v p q op key r h same told stands =
+      let b = h.stands.born in
+      let t = told.turns b.birth b.is in
+      record { stands = op_stands v q (has_died r) stands; landed = landed_after w v _ same t.took h.landed }
+
+  pub scan_session : {A : Type 0} (w v : Walker M S G) (p q : SessionState) (ts : List Turn) (r : Result A Failure) → IsSession sh w (Active p) → IsSameWalker w v → Took w.number w.clock w.passes.items ts v.clock v.passes.items
+      → StandsUnless (has_died r) sh v q → IsSession sh v (after_op q (has_died r))
+  scan_session w v p q ts r h same took stands = record { stands = op_stands v q (has_died r) stands; landed = landed_after w v ts same took h.landed }
+
+  -- ---- commits
+
+  pub at_stands : (v : Walker M S G) (q : SessionState) (x : Phase) → StandsAt x sh v q → StandsIn sh v (after_commit q x)
+  at_stands v q Touching h = h
+  at_stands v q HasEnded h = ended_are_retriable M S G sh v q h
+  at_stands v q (Standing home) h = h
+  at_stands v q Told h = (q, h)
+  at_stands v q Refused h = ended_are_retriable M S G sh v q h
+
+  committed_stands : (v : Walker M S G) (q : SessionState) (empty : Bool) → StandsAs sh v q → StandsIn sh v (progress_committed q empty)
+  committed_stands v q true h = at_idle v q q.phase h
+  committed_stands v q false h = at_stands v q q.phase h
+
+  commit_lands : (w v : Walker M S G) (p q : SessionState) (r : Result Settled CommitFailure) → IsSameWalker w v → CommitTold (length sh.locks.items) w p r v q → HasLanded w.number w.passes.items → HasLanded v.number v.passes.items
+  commit_lands w v p q r same (inl (none, is, stays, place)) h = subst (λ z. HasLanded z.number z.passes.items) (sym stays) h
+  commit_lands w v p q r same (inr (home, low, c)) h = landed_after w v (c.asking ++ c.rest) same c.took h
+
+  pub commit_session : (w v : Walker M S G) (p q : SessionState) (r : Result Settled CommitFailure) → IsSession sh w (Active p) → IsSameWalker w v → CommitTold (length sh.locks.items) w p r v q → StandsAs sh v q
+      → IsSession sh v (progress_committed q (is_nothing r))
+  commit_session w v p q r h same told stands = record { stands = committed_stands v q (is_nothing r) stands; landed = commit_lands w v p q r same told h.landed }
+
+  pub looks_session : (w v : Walker M S G) (p q : SessionState) (home : ℕ) (r : Result Point SettleError) → IsSession sh w (Asked p home) → IsSameWalker w v
+      → Deciding (length sh.locks.items) w.number w.clock w.passes.items home p r v.clock v.passes.items q → StandsAs sh v q → IsSession sh v (after_commit q q.phase)
+  looks_session w v p q home r h same d stands = record { stands = at_stands v q q.phase stands; landed = landed_after w v d.turns same d.took h.landed }
+
+  -- ---- aborts
+
+  aborted_unasked : (v : Walker M S G) (q : SessionState) → IsAborted sh v q → IsUnasked sh v q
+  aborted_unasked v q (inl (none, active)) = inl active
+  aborted_unasked v q (inr ending) = inr ending
+
+  unasked_born : (w : Walker M S G) (p : SessionState) → IsUnasked sh w p → HasBirth w p
+  unasked_born w p (inl active) = active.born
+  unasked_born w p (inr ending) = ending.over.born
+
+  pub abort_session : (w v : Walker M S G) (p q : SessionState) (r : Result Unit WornClock) → HasLanded w.number w.passes.items → IsUnasked sh w p → IsSameWalker w v
+      → Dropping w.number w.clock w.passes.items p.tx p.touched None 0 (length sh.locks.items) r v.clock v.passes.items → IsLeft p q → IsAborted sh v q → IsSession sh v (progress_aborted q r)
+  abort_session w v p q (Ok a) h unasked same d left stands = record {
+    stands = aborts_are_retriable M S G sh w v p q (Ok a) (unasked_born w p unasked) d left (aborted_unasked v q stands);
+    landed = landed_after w v d.turns same d.took h;
+  }
+  abort_session w v p q (Err worn) h unasked same d left stands = record {
+    stands = (aborted_unasked v q stands, (worn_is_last worn.at w.number w.clock v.clock w.passes.items v.passes.items d.turns d.took d.told).1);
+    landed = landed_after w v d.turns same d.took h;
+  }

@@ -1,0 +1,119 @@
+-- How a session's last transaction stands after an answer, and which calls that refuses.
+use Rattle.std.specs.Prelude.{◌^◌, Bool, true, false, Option, Some, None, Result, Ok, Err}
+use Rattle.clv_base.specs.declared.names.TxId.{TxId}
+use Rattle.clv_base.specs.declared.names.Point.{Point}
+use Rattle.clv_base.specs.Sessions.{SessionState, Phase, Touching, Ended as HasEnded, Standing, Told, Refused}
+use Rattle.cluster_turns.specs.declared.shards.WornClock.{WornClock}
+use Rattle.session_ops.specs.declared.operating.OpError.{OpError as Failure}
+use Rattle.session_ops.specs.declared.operating.OpError.TheVariants as failed
+use Rattle.session_settling.specs.declared.looking.SettleError.{SettleError}
+use Rattle.session_settling.specs.declared.looking.SettleError.TheVariants as settle
+use Rattle.session_endings.specs.declared.committing.Settled.{Settled}
+use Rattle.session_endings.specs.declared.committing.Settled.TheVariants.{Committed, Empty}
+use Rattle.session_endings.specs.declared.committing.CommitError.{CommitError as CommitFailure}
+use Rattle.session_endings.specs.declared.committing.CommitError.TheVariants as unmade
+use Rattle.session_api.specs.declared.progress.Progress.{Progress}
+use Rattle.session_api.specs.declared.progress.Progress.TheVariants.{Idle, Active, Worn, Asked, Ended}
+use Rattle.session_api.specs.declared.retrying.RetryError.{RetryError}
+use Rattle.session_api.specs.declared.retrying.RetryError.TheVariants as retry
+use Rattle.session_api.specs.declared.operating.OpError.{OpError}
+use Rattle.session_api.specs.declared.operating.OpError.TheVariants as op
+use Rattle.session_api.specs.declared.ending.CommitError.{CommitError}
+use Rattle.session_api.specs.declared.ending.CommitError.TheVariants as commit
+use Rattle.session_api.specs.declared.ending.AbortError.{AbortError}
+use Rattle.session_api.specs.declared.ending.AbortError.TheVariants as abort
+
+-- the active transaction
+abbrev pub active_tx : Progress → Option TxId
+active_tx Idle = None
+active_tx (Active p) = Some p.tx
+active_tx (Worn p) = Some p.tx
+active_tx (Asked p home) = None
+active_tx (Ended p) = None
+
+-- ---- other tries
+
+-- one is active, or the last one didn't end by an abort
+abbrev pub retry_refusal : Progress → RetryError
+retry_refusal Idle = retry.NoRetry
+retry_refusal (Active p) = retry.Active p.tx
+retry_refusal (Worn p) = retry.Active p.tx
+retry_refusal (Asked p home) = retry.NoRetry
+retry_refusal (Ended p) = retry.NoRetry
+
+-- ---- operations
+
+abbrev pub failure_told : Failure → OpError
+failure_told (failed.Aborted cause) = op.Aborted cause
+failure_told (failed.Down n) = op.Down n
+failure_told (failed.Worn at) = op.Worn at
+failure_told failed.Memory = op.Memory
+
+abbrev pub answer_told : {A : Type 0} → Result A Failure → Result A OpError
+answer_told (Ok a) = Ok a
+answer_told (Err e) = Err (failure_told e)
+
+-- without a transaction that may have operations
+abbrev pub refusal_of : Progress → OpError
+refusal_of Idle = op.NoTx
+refusal_of (Active p) = op.NoTx
+refusal_of (Worn p) = op.Worn (2 ^ 48)
+refusal_of (Asked p home) = op.NoTx
+refusal_of (Ended p) = op.NoTx
+
+-- after an operation, of which the transaction died or didn't
+abbrev pub after_op : SessionState → Bool → Progress
+after_op p true = Ended p
+after_op p false = Active p
+
+-- ---- commits
+
+abbrev pub commit_told : Result Settled CommitFailure → Result Settled CommitError
+commit_told (Ok s) = Ok s
+commit_told (Err (unmade.Aborted cause)) = Err (commit.Aborted cause)
+commit_told (Err (unmade.Down n)) = Err (commit.Down n)
+commit_told (Err (unmade.Unsettled n)) = Err (commit.Unsettled n)
+commit_told (Err (unmade.Worn at)) = Err (commit.Worn at)
+commit_told (Err unmade.Memory) = Err commit.Memory
+
+abbrev pub settle_told : Result Point SettleError → Result Settled CommitError
+settle_told (Ok point) = Ok (Committed point)
+settle_told (Err (settle.Aborted cause)) = Err (commit.Aborted cause)
+settle_told (Err (settle.Unsettled n)) = Err (commit.Unsettled n)
+settle_told (Err (settle.Worn at)) = Err (commit.Worn at)
+settle_told (Err settle.Memory) = Err commit.Memory
+
+-- without a transaction to commit
+abbrev pub commit_refusal : Progress → CommitError
+commit_refusal Idle = commit.NoTx
+commit_refusal (Active p) = commit.NoTx
+commit_refusal (Worn p) = commit.Worn (2 ^ 48)
+commit_refusal (Asked p home) = commit.NoTx
+commit_refusal (Ended p) = commit.NoTx
+
+abbrev pub is_nothing : Result Settled CommitFailure → Bool
+is_nothing (Ok (Committed point)) = false
+is_nothing (Ok Empty) = true
+is_nothing (Err e) = false
+
+-- where the transaction is so far
+abbrev pub after_commit : SessionState → Phase → Progress
+after_commit p Touching = Active p
+after_commit p (Standing home) = Asked p home
+after_commit p Told = Idle
+after_commit p HasEnded = Ended p
+after_commit p Refused = Ended p
+
+abbrev pub progress_committed : SessionState → Bool → Progress
+progress_committed p true = Idle
+progress_committed p false = after_commit p p.phase
+
+-- ---- aborts
+
+abbrev pub abort_told : {A : Type 0} → Result A WornClock → Result A AbortError
+abort_told (Ok a) = Ok a
+abort_told (Err worn) = Err (abort.Worn worn.at)
+
+abbrev pub progress_aborted : {A : Type 0} → SessionState → Result A WornClock → Progress
+progress_aborted p (Ok a) = Ended p
+progress_aborted p (Err worn) = Worn p

@@ -1,0 +1,184 @@
+-- A session, and what its calls tell.
+use Rattle.std.specs.Prelude.{◌≡◌, ℕ, ◌<◌, ◌≤◌, ◌+◌, ◌-◌, ◌^◌, Bool, true, false, nat_lt, length, List, Option, Some, None, Result, Ok, Err}
+use Rattle.clv_base.specs.declared.names.TxId.{TxId}
+use Rattle.clv_base.specs.declared.names.Birth.{Birth}
+use Rattle.clv_base.specs.declared.names.Point.{Point}
+use Rattle.clv_base.specs.declared.ops.Op.{Op}
+use Rattle.clv_base.specs.Sessions.{SessionState}
+use Rattle.cluster_turns.specs.declared.shards.Shards.{Shards}
+use Rattle.cluster_turns.specs.declared.shards.Walker.{Walker}
+use Rattle.cluster_turns.specs.declared.shards.WornClock.{WornClock}
+use Rattle.cluster_landing.specs.Landed.{HasLanded}
+use Rattle.session_ops.specs.declared.operating.OpError.{OpError as Failure}
+use Rattle.session_ops.specs.Standing.{IsActive}
+use Rattle.session_begins.specs.Beginnings.{IsIdle, Begun}
+use Rattle.session_commit.specs.Requested.{IsStanding}
+use Rattle.session_drops.specs.Dropped.{Dropping, IsLeft}
+use Rattle.session_settling.specs.declared.looking.SettleError.{SettleError}
+use Rattle.session_retries.specs.Retried.{IsRetriable, Retried}
+use Rattle.session_scans.specs.Parts.{PointTold, has_died}
+use Rattle.session_scans.specs.Scanned.{Scanning, IsSameTx}
+use Rattle.session_scans.specs.Stepped.{PartsTold}
+use Rattle.session_endings.specs.declared.committing.Settled.{Settled}
+use Rattle.session_endings.specs.declared.committing.CommitError.{CommitError as CommitFailure}
+use Rattle.session_endings.specs.Standings.{IsUnasked}
+use Rattle.session_endings.specs.Decided.{Deciding}
+use Rattle.session_endings.specs.Committed.{CommitTold}
+use Rattle.session_api.specs.declared.progress.Progress.{Progress}
+use Rattle.session_api.specs.declared.progress.Progress.TheVariants.{Idle, Active, Worn, Asked, Ended}
+use Rattle.session_api.specs.declared.beginning.BeginError.{BeginError}
+use Rattle.session_api.specs.declared.beginning.BeginError.TheVariants as begin
+use Rattle.session_api.specs.declared.retrying.RetryError.{RetryError}
+use Rattle.session_api.specs.declared.retrying.RetryError.TheVariants as retry
+use Rattle.session_api.specs.declared.operating.OpError.{OpError}
+use Rattle.session_api.specs.declared.operating.OpError.TheVariants.{BadRange}
+use Rattle.session_api.specs.declared.ending.CommitError.{CommitError}
+use Rattle.session_api.specs.declared.ending.AbortError.{AbortError}
+use Rattle.session_api.specs.declared.ending.AbortError.TheVariants.{NoTx}
+use Rattle.session_api.specs.Progresses.{active_tx, retry_refusal, answer_told, refusal_of, after_op, commit_told, settle_told, commit_refusal, is_nothing, after_commit, progress_committed, abort_told, progress_aborted}
+
+module _ {M S G : Type 0} where
+  -- how its last transaction stands
+  abbrev pub StandsIn : Shards M S G → Walker M S G → Progress → Type 0
+  StandsIn sh w Idle = IsIdle sh w
+  StandsIn sh w (Active p) = IsActive sh w p
+  StandsIn sh w (Worn p) = IsUnasked sh w p × (2 ^ 48 - 1 ≤ w.clock)
+  StandsIn sh w (Asked p home) = IsStanding sh w p home
+  StandsIn sh w (Ended p) = IsRetriable sh w p
+
+  -- and the walker has the gate of no shard
+  pub record IsSession (sh : Shards M S G) (w : Walker M S G) (s : Progress) : Type 0 where
+    pub stands : StandsIn sh w s
+    pub landed : HasLanded w.number w.passes.items
+
+  -- ---- beginnings
+
+  -- where none is active
+  abbrev pub BegunNext : Shards M S G → Walker M S G → Progress → Result TxId BeginError → Walker M S G → Progress → Type 0
+  BegunNext sh w s (Ok tx) v t = (w.clock < 2 ^ 48 - 1) × ((p : SessionState) × Begun sh w v p × (tx ≡ p.tx) × (t ≡ Active p))
+  BegunNext sh w s (Err (begin.Worn at)) v t = (at ≡ 2 ^ 48) × (2 ^ 48 - 1 ≤ w.clock) × (v ≡ w) × (t ≡ s)
+  BegunNext sh w s (Err (begin.Active tx)) v t = ⊥
+
+  abbrev BegunBeside : Option TxId → Shards M S G → Walker M S G → Progress → Result TxId BeginError → Walker M S G → Progress → Type 0
+  BegunBeside (Some tx) sh w s r v t = (r ≡ Err (begin.Active tx)) × (v ≡ w) × (t ≡ s)
+  BegunBeside None sh w s r v t = BegunNext sh w s r v t
+
+  abbrev pub BeginCalled : Shards M S G → Walker M S G → Progress → Result TxId BeginError → Walker M S G → Progress → Type 0
+  BeginCalled sh w s r v t = BegunBeside (active_tx s) sh w s r v t
+
+  -- ---- other tries
+
+  -- of the last transaction, which ended by an abort
+  abbrev pub RetriedNext : Shards M S G → Walker M S G → SessionState → Result TxId RetryError → Walker M S G → Progress → Type 0
+  RetriedNext sh w last (Ok tx) v t = (w.clock < 2 ^ 48 - 1) × ((p : SessionState) × Retried sh w v last p × (tx ≡ p.tx) × (t ≡ Active p))
+  RetriedNext sh w last (Err (retry.Worn at)) v t = (at ≡ 2 ^ 48) × (2 ^ 48 - 1 ≤ w.clock) × (v ≡ w) × (t ≡ Ended last)
+  RetriedNext sh w last (Err (retry.Active tx)) v t = ⊥
+  RetriedNext sh w last (Err retry.NoRetry) v t = ⊥
+
+  abbrev pub RetryRefused : Walker M S G → Progress → Result TxId RetryError → Walker M S G → Progress → Type 0
+  RetryRefused w s r v t = (r ≡ Err (retry_refusal s)) × (v ≡ w) × (t ≡ s)
+
+  abbrev pub RetryCalled : Shards M S G → Walker M S G → Progress → Result TxId RetryError → Walker M S G → Progress → Type 0
+  RetryCalled sh w (Ended p) r v t = RetriedNext sh w p r v t
+  RetryCalled sh w Idle r v t = RetryRefused w Idle r v t
+  RetryCalled sh w (Active p) r v t = RetryRefused w (Active p) r v t
+  RetryCalled sh w (Worn p) r v t = RetryRefused w (Worn p) r v t
+  RetryCalled sh w (Asked p home) r v t = RetryRefused w (Asked p home) r v t
+
+  -- ---- operations
+
+  -- refused, and all is as before
+  abbrev pub OpRefused : {A : Type 0} → Walker M S G → Progress → Result A OpError → Walker M S G → Progress → Type 0
+  OpRefused w s r v t = (r ≡ Err (refusal_of s)) × (v ≡ w) × (t ≡ s)
+
+  -- one operation at a key, of the active transaction p
+  pub record PointMade (sh : Shards M S G) (w : Walker M S G) (p : SessionState) (op : Op) (key : ℕ) (r : Result (Option ℕ) OpError) (v : Walker M S G) (t : Progress) : Type 0 where
+    pub answer : Result (Option ℕ) Failure
+    pub place : SessionState
+    pub told : PointTold sh w p op key answer v place
+    pub is : r ≡ answer_told answer
+    pub then : t ≡ after_op place (has_died answer)
+
+  abbrev pub PointCalled : Shards M S G → Walker M S G → Progress → Op → ℕ → Result (Option ℕ) OpError → Walker M S G → Progress → Type 0
+  PointCalled sh w (Active p) op key r v t = PointMade sh w p op key r v t
+  PointCalled sh w Idle op key r v t = OpRefused w Idle r v t
+  PointCalled sh w (Worn p) op key r v t = OpRefused w (Worn p) r v t
+  PointCalled sh w (Asked p home) op key r v t = OpRefused w (Asked p home) r v t
+  PointCalled sh w (Ended p) op key r v t = OpRefused w (Ended p) r v t
+
+  -- a scan of the active transaction p
+  pub record ScanMade (sh : Shards M S G) (w : Walker M S G) (p : SessionState) (lo hi : ℕ) (r : Result (List (ℕ × ℕ)) OpError) (v : Walker M S G) (t : Progress) : Type 0 where
+    pub answer : Result (List (ℕ × ℕ)) Failure
+    pub place : SessionState
+    pub turns :
+        (birth : Birth) → p.birth ≡ Some birth
+        → Scanning sh.splits (length sh.locks.items) w.number w.clock w.passes.items (record { tx = p.tx; birth = birth; nth = p.nth + 1; lo = lo; hi = hi }) place.touched answer v.clock v.passes.items
+    pub parts : (birth : Birth) → p.birth ≡ Some birth → PartsTold sh birth (p.nth + 1) lo hi w p answer v place
+    pub same : IsSameTx p place
+    pub is : r ≡ answer_told answer
+    pub then : t ≡ after_op place (has_died answer)
+
+  abbrev pub RangeCalled : Shards M S G → Walker M S G → Progress → ℕ → ℕ → Result (List (ℕ × ℕ)) OpError → Walker M S G → Progress → Type 0
+  RangeCalled sh w (Active p) lo hi r v t = ScanMade sh w p lo hi r v t
+  RangeCalled sh w Idle lo hi r v t = OpRefused w Idle r v t
+  RangeCalled sh w (Worn p) lo hi r v t = OpRefused w (Worn p) r v t
+  RangeCalled sh w (Asked p home) lo hi r v t = OpRefused w (Asked p home) r v t
+  RangeCalled sh w (Ended p) lo hi r v t = OpRefused w (Ended p) r v t
+
+  -- where one is active and the bounds fall, the range is bad
+  abbrev RangeBeside : Option TxId → Bool → Shards M S G → Walker M S G → Progress → ℕ → ℕ → Result (List (ℕ × ℕ)) OpError → Walker M S G → Progress → Type 0
+  RangeBeside (Some tx) true sh w s lo hi r v t = (r ≡ Err (BadRange lo hi)) × (v ≡ w) × (t ≡ s)
+  RangeBeside (Some tx) false sh w s lo hi r v t = RangeCalled sh w s lo hi r v t
+  RangeBeside None falls sh w s lo hi r v t = RangeCalled sh w s lo hi r v t
+
+  abbrev pub ScanCalled : Shards M S G → Walker M S G → Progress → ℕ → ℕ → Result (List (ℕ × ℕ)) OpError → Walker M S G → Progress → Type 0
+  ScanCalled sh w s lo hi r v t = RangeBeside (active_tx s) (nat_lt hi lo) sh w s lo hi r v t
+
+  -- ---- commits
+
+  -- of the active transaction p
+  pub record CommitMade (sh : Shards M S G) (w : Walker M S G) (p : SessionState) (r : Result Settled CommitError) (v : Walker M S G) (t : Progress) : Type 0 where
+    pub answer : Result Settled CommitFailure
+    pub place : SessionState
+    pub told : CommitTold (length sh.locks.items) w p answer v place
+    pub is : r ≡ commit_told answer
+    pub then : t ≡ progress_committed place (is_nothing answer)
+
+  -- of p, whose request stands at this home
+  pub record LooksMade (sh : Shards M S G) (w : Walker M S G) (p : SessionState) (home : ℕ) (r : Result Settled CommitError) (v : Walker M S G) (t : Progress) : Type 0 where
+    pub answer : Result Point SettleError
+    pub place : SessionState
+    pub turns : Deciding (length sh.locks.items) w.number w.clock w.passes.items home p answer v.clock v.passes.items place
+    pub is : r ≡ settle_told answer
+    pub then : t ≡ after_commit place place.phase
+
+  abbrev pub CommitRefused : Walker M S G → Progress → Result Settled CommitError → Walker M S G → Progress → Type 0
+  CommitRefused w s r v t = (r ≡ Err (commit_refusal s)) × (v ≡ w) × (t ≡ s)
+
+  abbrev pub CommitCalled : Shards M S G → Walker M S G → Progress → Result Settled CommitError → Walker M S G → Progress → Type 0
+  CommitCalled sh w (Active p) r v t = CommitMade sh w p r v t
+  CommitCalled sh w (Asked p home) r v t = LooksMade sh w p home r v t
+  CommitCalled sh w Idle r v t = CommitRefused w Idle r v t
+  CommitCalled sh w (Worn p) r v t = CommitRefused w (Worn p) r v t
+  CommitCalled sh w (Ended p) r v t = CommitRefused w (Ended p) r v t
+
+  -- ---- aborts
+
+  -- of the active transaction p
+  pub record AbortMade {A : Type 0} (sh : Shards M S G) (w : Walker M S G) (p : SessionState) (r : Result A AbortError) (v : Walker M S G) (t : Progress) : Type 0 where
+    pub answer : Result A WornClock
+    pub place : SessionState
+    pub drops : Dropping w.number w.clock w.passes.items p.tx p.touched None 0 (length sh.locks.items) answer v.clock v.passes.items
+    pub left : IsLeft p place
+    pub is : r ≡ abort_told answer
+    pub then : t ≡ progress_aborted place answer
+
+  abbrev pub AbortRefused : {A : Type 0} → Walker M S G → Progress → Result A AbortError → Walker M S G → Progress → Type 0
+  AbortRefused w s r v t = (r ≡ Err NoTx) × (v ≡ w) × (t ≡ s)
+
+  abbrev pub AbortCalled : {A : Type 0} → Shards M S G → Walker M S G → Progress → Result A AbortError → Walker M S G → Progress → Type 0
+  AbortCalled sh w (Active p) r v t = AbortMade sh w p r v t
+  AbortCalled sh w (Worn p) r v t = AbortMade sh w p r v t
+  AbortCalled sh w Idle r v t = AbortRefused w Idle r v t
+  AbortCalled sh w (Asked p home) r v t = AbortRefused w (Asked p home) r v t
+  AbortCalled sh w (Ended p) r v t = AbortRefused w (Ended p) r v t

@@ -1,0 +1,216 @@
+// How the active transaction ends.
+ghost use Rattle.std.specs.Prelude.{◌≡◌};
+ghost use Rattle.cluster_landing.specs.Landed.{HasLanded};
+ghost use Rattle.session_endings.specs.Standings.{IsUnasked};
+ghost use Rattle.session_api.specs.declared.progress.Progress.TheVariants.{Active, Asked};
+ghost use Rattle.session_api.specs.Progresses.{commit_refusal, commit_told, settle_told, abort_told, progress_committed, progress_aborted, is_nothing};
+ghost use Rattle.session_api.specs.Sessions.{IsSession, CommitCalled, CommitMade, LooksMade, AbortCalled, AbortMade};
+
+use crate::progress::{Progress, after_request};
+use crate::session::Session;
+use cluster_turns::WornClock;
+use clv_base::causes::AbortCause;
+use clv_base::names::Point;
+use io_edge::Pace;
+use machine_calls::Flier;
+use session_endings::{CommitError as Failure, Settled, abort, commit, finish};
+use session_progress::Place;
+use session_settling::SettleError;
+use std::alloc::Global;
+use std::mem;
+use std::sync::Wait;
+
+/// Why a commit didn't go well.
+#[derive(Clone, Copy, Debug, PartialEq, Eq)]
+pub enum CommitError {
+    /// No transaction is active, and no request stands.
+    NoTx,
+    /// The transaction died of its request, or was told that it is aborted.
+    Aborted(AbortCause),
+    /// The home was found down before the request was made. The transaction stays active.
+    Down { shard: u32 },
+    /// A turn after the request found the shard down: the home, or after a wait any. The request stands, and a commit called again looks
+    /// again.
+    Unsettled { shard: u32 },
+    Worn { at: u64 },
+    Memory,
+}
+
+/// Why an abort didn't go well.
+#[derive(Clone, Copy, Debug, PartialEq, Eq)]
+pub enum AbortError {
+    /// No transaction is active.
+    NoTx,
+    /// A drop needed a stamp past the last. The transaction stays active.
+    Worn { at: u64 },
+}
+
+// The last stamp is below it.
+const WORN: u64 = 1 << 48;
+
+fn told(answer: Result<Settled, Failure>) -> Result<Settled, CommitError>
+    ensures { result ≡ commit_told answer }
+{
+    match answer {
+        Ok(settled) => Ok(settled),
+        Err(Failure::Aborted(cause)) => Err(CommitError::Aborted(cause)),
+        Err(Failure::Down { shard }) => Err(CommitError::Down { shard }),
+        Err(Failure::Unsettled { shard }) => Err(CommitError::Unsettled { shard }),
+        Err(Failure::Worn { at }) => Err(CommitError::Worn { at }),
+        Err(Failure::Memory) => Err(CommitError::Memory),
+    }
+}
+
+fn settled(answer: Result<Point, SettleError>) -> Result<Settled, CommitError>
+    ensures { result ≡ settle_told answer }
+{
+    match answer {
+        Ok(point) => Ok(Settled::Committed { point }),
+        Err(SettleError::Aborted(cause)) => Err(CommitError::Aborted(cause)),
+        Err(SettleError::Unsettled { shard }) => Err(CommitError::Unsettled { shard }),
+        Err(SettleError::Worn { at }) => Err(CommitError::Worn { at }),
+        Err(SettleError::Memory) => Err(CommitError::Memory),
+    }
+}
+
+fn is_empty(answer: &Result<Settled, Failure>) -> bool
+    ensures { result ≡ is_nothing answer.now }
+{
+    match answer {
+        Ok(Settled::Empty) => true,
+        _ => false,
+    }
+}
+
+// Why a session that stands so has nothing to commit.
+fn refusal(progress: &Progress) -> CommitError
+    ensures { result ≡ commit_refusal progress.now }
+{
+    match progress {
+        Progress::Worn(_) => CommitError::Worn { at: WORN },
+        _ => CommitError::NoTx,
+    }
+}
+
+// After a commit; there is nothing left of a transaction that touched nothing.
+fn after_commit(place: Place, empty: bool) -> Progress
+    ensures { result ≡ progress_committed place empty }
+{
+    if empty {
+        Progress::Idle
+    } else {
+        after_request(place)
+    }
+}
+
+fn after_abort(place: Place, answer: Result<(), WornClock>) -> Progress
+    ensures { result ≡ progress_aborted place answer }
+{
+    match answer {
+        Ok(()) => Progress::Ended(place),
+        Err(_) => Progress::Worn(place),
+    }
+}
+
+fn aborted(answer: Result<(), WornClock>) -> Result<(), AbortError>
+    ensures { result ≡ abort_told answer }
+{
+    match answer {
+        Ok(()) => Ok(()),
+        Err(worn) => Err(AbortError::Worn { at: worn.at }),
+    }
+}
+
+impl<'a, M: Flier, P: Pace, R: Wait> Session<'a, M, P, R> {
+    fn commit_active(&mut self, alloc: Global, place: Place) -> Result<Settled, CommitError>
+        requires session { IsSession self.old.shards.now self.old.walker (Active place) }
+        ensures session { IsSession self.new.shards.now self.new.walker self.new.progress }
+        ensures shards { self.new.shards ≡ self.old.shards }
+        ensures told { CommitMade self.old.shards.now self.old.walker place result self.new.walker self.new.progress }
+    {
+        let mut place = place;
+        let answer = commit(
+            self.rt,
+            alloc,
+            self.shards,
+            &mut self.walker,
+            &mut place,
+            self.pace,
+        );
+        let empty = is_empty(&answer);
+        self.progress = after_commit(place, empty);
+        told(answer)
+    }
+
+    // The request stands at this home.
+    fn look_again(&mut self, alloc: Global, place: Place, home: u32) -> Result<Settled, CommitError>
+        requires session { IsSession self.old.shards.now self.old.walker (Asked place home) }
+        ensures session { IsSession self.new.shards.now self.new.walker self.new.progress }
+        ensures shards { self.new.shards ≡ self.old.shards }
+        ensures told { LooksMade self.old.shards.now self.old.walker place home result self.new.walker self.new.progress }
+    {
+        let mut place = place;
+        let answer = finish(
+            self.rt,
+            alloc,
+            self.shards,
+            &mut self.walker,
+            &mut place,
+            home,
+            self.pace,
+        );
+        self.progress = after_request(place);
+        settled(answer)
+    }
+
+    /// Commits the active transaction, or looks again where its request stands. `NoTx` comes exactly where neither is so, `Empty` only
+    /// where it touched nothing; every other answer is told by the turns of the call. After `Down` the transaction is active, after
+    /// `Unsettled` its request stands; after `Worn` and `Memory` it stands where it was made, else the transaction is active.
+    pub fn commit(&mut self, alloc: Global) -> Result<Settled, CommitError>
+        requires session { IsSession self.old.shards.now self.old.walker self.old.progress }
+        ensures session { IsSession self.new.shards.now self.new.walker self.new.progress }
+        ensures shards { self.new.shards ≡ self.old.shards }
+        ensures told { CommitCalled self.old.shards.now self.old.walker self.old.progress result self.new.walker self.new.progress }
+    {
+        match mem::replace(&mut self.progress, Progress::Idle) {
+            Progress::Active(place) => self.commit_active(alloc, place),
+            Progress::Asked { place, home } => self.look_again(alloc, place, home),
+            other => {
+                let refusal = refusal(&other);
+                self.progress = other;
+                Err(refusal)
+            }
+        }
+    }
+
+    fn abort_active(&mut self, alloc: Global, place: Place) -> Result<(), AbortError>
+        requires unasked { IsUnasked self.old.shards.now self.old.walker place }
+        requires landed { HasLanded self.old.walker.number self.old.walker.passes.items }
+        ensures session { IsSession self.new.shards.now self.new.walker self.new.progress }
+        ensures shards { self.new.shards ≡ self.old.shards }
+        ensures told { AbortMade self.old.shards.now self.old.walker place result self.new.walker self.new.progress }
+    {
+        let mut place = place;
+        let answer = abort(self.rt, alloc, self.shards, &mut self.walker, &mut place);
+        self.progress = after_abort(place, answer);
+        aborted(answer)
+    }
+
+    /// Aborts the active transaction: drops it on each shard that it touched and that isn't down. `NoTx` comes exactly where none is
+    /// active; after `Worn` it may only be aborted again.
+    pub fn abort(&mut self, alloc: Global) -> Result<(), AbortError>
+        requires session { IsSession self.old.shards.now self.old.walker self.old.progress }
+        ensures session { IsSession self.new.shards.now self.new.walker self.new.progress }
+        ensures shards { self.new.shards ≡ self.old.shards }
+        ensures told { AbortCalled self.old.shards.now self.old.walker self.old.progress result self.new.walker self.new.progress }
+    {
+        match mem::replace(&mut self.progress, Progress::Idle) {
+            Progress::Active(place) => self.abort_active(alloc, place),
+            Progress::Worn(place) => self.abort_active(alloc, place),
+            other => {
+                self.progress = other;
+                Err(AbortError::NoTx)
+            }
+        }
+    }
+}

@@ -1,0 +1,58 @@
+// How a session's last transaction stands.
+ghost use Rattle.std.specs.Prelude.{◌≡◌};
+ghost use Rattle.session_api.specs.Progresses.{after_op, after_commit, active_tx};
+
+use clv_base::names::TxId;
+use session_progress::{Place, Stage};
+
+/// How a session's last transaction stands.
+#[derive(Drop, Debug)]
+pub enum Progress {
+    /// There is none, or it was acknowledged, or touched nothing when it was committed.
+    Idle,
+    /// It may have operations.
+    Active(Place),
+    /// It is active, but stamps were wanting at its abort: it may only be aborted again.
+    Worn(Place),
+    /// Its request stands at its home.
+    Asked { place: Place, home: u32 },
+    /// It ended by an abort.
+    Ended(Place),
+}
+
+impl Progress {
+    /// The active transaction, if there is one.
+    pub fn active(&self) -> Option<TxId>
+        ensures { result ≡ active_tx self.now }
+    {
+        match self {
+            Progress::Active(place) => Some(place.tx()),
+            Progress::Worn(place) => Some(place.tx()),
+            _ => None,
+        }
+    }
+}
+
+// After an operation, which the transaction may have died of.
+pub(crate) fn after_operation(place: Place, died: bool) -> Progress
+    ensures { result ≡ after_op place died }
+{
+    if died {
+        Progress::Ended(place)
+    } else {
+        Progress::Active(place)
+    }
+}
+
+// After a commit, where there was something to commit.
+pub(crate) fn after_request(place: Place) -> Progress
+    ensures { result ≡ after_commit place place.phase }
+{
+    match place.stage() {
+        Stage::Touching => Progress::Active(place),
+        Stage::Standing(home) => Progress::Asked { place, home },
+        Stage::Told => Progress::Idle,
+        Stage::Ended => Progress::Ended(place),
+        Stage::Refused => Progress::Ended(place),
+    }
+}

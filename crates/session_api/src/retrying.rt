@@ -1,0 +1,79 @@
+// Trying the last transaction again.
+ghost use Rattle.std.specs.Prelude.{◌≡◌};
+ghost use Rattle.session_api.specs.declared.progress.Progress.TheVariants.{Ended};
+ghost use Rattle.session_api.specs.Progresses.{retry_refusal};
+ghost use Rattle.session_api.specs.Sessions.{IsSession, RetriedNext, RetryCalled};
+
+use crate::progress::Progress;
+use crate::session::Session;
+use clv_base::names::TxId;
+use io_edge::{Pace, Step};
+use machine_calls::Flier;
+use session_progress::Place;
+use session_retries::retry;
+use std::mem;
+use std::sync::Wait;
+
+/// Why the last transaction wasn't tried again. All is as before.
+#[derive(Clone, Copy, Debug, PartialEq, Eq)]
+pub enum RetryError {
+    /// This one is active.
+    Active { tx: TxId },
+    /// There is no last one, or it didn't end by an abort.
+    NoRetry,
+    /// The walker's clock is at its end.
+    Worn { at: u64 },
+}
+
+// Why a session that stands so has none to try again.
+fn refusal(progress: &Progress) -> RetryError
+    ensures { result ≡ retry_refusal progress.now }
+{
+    match progress {
+        Progress::Active(place) => RetryError::Active { tx: place.tx() },
+        Progress::Worn(place) => RetryError::Active { tx: place.tx() },
+        _ => RetryError::NoRetry,
+    }
+}
+
+impl<'a, M: Flier, P: Pace, R: Wait> Session<'a, M, P, R> {
+    // The last transaction ended by an abort.
+    fn retry_ended(&mut self, last: Place) -> Result<TxId, RetryError>
+        requires session { IsSession self.old.shards.now self.old.walker (Ended last) }
+        ensures session { IsSession self.new.shards.now self.new.walker self.new.progress }
+        ensures shards { self.new.shards ≡ self.old.shards }
+        ensures told { RetriedNext self.old.shards.now self.old.walker last result self.new.walker self.new.progress }
+    {
+        match retry(self.shards, &mut self.walker, &last) {
+            Ok(place) => {
+                let session = self.walker.number;
+                self.pace.pass(Step::Begun { session });
+                let tx = place.tx();
+                self.progress = Progress::Active(place);
+                Ok(tx)
+            }
+            Err(worn) => {
+                self.progress = Progress::Ended(last);
+                Err(RetryError::Worn { at: worn.at })
+            }
+        }
+    }
+
+    /// Begins the session's next transaction with the birth of its last one. `Active` comes exactly where one is active, else `NoRetry`
+    /// exactly where the last one, if any, didn't end by an abort, else `Worn` exactly where the walker's clock is at its end.
+    pub fn retry(&mut self) -> Result<TxId, RetryError>
+        requires session { IsSession self.old.shards.now self.old.walker self.old.progress }
+        ensures session { IsSession self.new.shards.now self.new.walker self.new.progress }
+        ensures shards { self.new.shards ≡ self.old.shards }
+        ensures told { RetryCalled self.old.shards.now self.old.walker self.old.progress result self.new.walker self.new.progress }
+    {
+        match mem::replace(&mut self.progress, Progress::Idle) {
+            Progress::Ended(place) => self.retry_ended(place),
+            other => {
+                let refusal = refusal(&other);
+                self.progress = other;
+                Err(refusal)
+            }
+        }
+    }
+}
