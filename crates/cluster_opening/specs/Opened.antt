@@ -1,9 +1,14 @@
 -- A shard as opening leaves it.
-use Rattle.std.specs.Prelude.{◌≡◌, ℕ, Bool, false, List, Option, Some}
+use Rattle.std.specs.Prelude.{◌≡◌, ℕ, Bool, false, List, [], Option, Some}
 use Rattle.clv_base.specs.declared.logs.LogRecord.{LogRecord}
+use Rattle.clv_base.specs.State.{Shard}
 use Rattle.clv_base.specs.Restarts.{log_after_restart}
 use Rattle.log_gate.specs.View.{Only}
 use Rattle.turn_laws.specs.declared.notes.Origin.{Origin}
+use Rattle.turn_laws.specs.declared.notes.Mark.{Mark}
+use Rattle.turn_laws.specs.Notes.{notes_of}
+use Rattle.turn_laws.specs.Sound.{IsSound}
+use Rattle.machines_opening.specs.Recovered.{IsMachineAt}
 
 module _ {G : Type 0} (shut : G → Bool) (faults whose : G → ℕ) (logs : G → Option (List LogRecord) → Type 0) where
   -- the machine has its gate, which is the shard's and isn't shut, and whose disk has not failed; each log that it may have is the one found with what a restart adds
@@ -20,3 +25,9 @@ pub record IsOriginOf (n run : ℕ) (found : List LogRecord) (o : Origin) : Type
   pub shard_is : o.shard ≡ n
   pub run_is : o.run ≡ run
   pub found_is : o.found.items ≡ found
+
+-- before a shard's first note its machine is as recovery made it, with its gate: each log that this may have is the one found with all that a restart adds
+abbrev pub RestartsAreDurable : {G : Type 0} → (G → Bool) → (G → ℕ) → (G → ℕ) → (G → Option (List LogRecord) → Type 0) → Type 0
+RestartsAreDurable {G} shut faults whose logs =
+    (o : Origin) (marks : List Mark) (capacity : ℕ) (s : Shard) (gate : Option G) → IsSound shut faults whose logs o marks capacity s gate → notes_of s.journal marks ≡ []
+    → IsMachineAt shut faults whose logs o.shard o.found.items o.run s gate

@@ -3,9 +3,11 @@
 #![tactic(auto)]
 
 mod closing;
+mod durable;
 mod locking;
 mod opening;
 
 pub use closing::close_unused;
+pub use durable::restarts_are_durable;
 pub use locking::lock_shard;
 pub use opening::open_shard;

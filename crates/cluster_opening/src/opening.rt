@@ -3,7 +3,7 @@ ghost use Rattle.std.specs.Prelude.{◌≡◌, ◌<◌, ◌≤◌, ℕ, false, t
 ghost use Rattle.std.specs.List.{list_all};
 ghost use Rattle.clv_base.specs.FileRules.{has_spelling};
 ghost use Rattle.clv_base.specs.LogRules.{disorder};
-ghost use Rattle.log_gate.specs.View.{IsLogOf};
+ghost use Rattle.log_gate.specs.View.{Only};
 ghost use Rattle.turn_lock.specs.Passes.{passes_of, IsNewPass};
 ghost use Rattle.turn_laws.specs.declared.notes.Origin.{Origin as OriginIs};
 ghost use Rattle.machines_opening.specs.Recovered.{IsLeft, CountsLeft};
@@ -15,7 +15,7 @@ use clv_base::logs::LogRecord;
 use disk_model::Disk;
 use gate_recovery::RecoverError;
 use log_copies::copy_log;
-use log_gate::LogGate;
+use log_gate::Gate;
 use machines_opening::{OverDisks, recover_shard, take_apart};
 use std::alloc::Global;
 use turn_laws::{Note, Origin};
@@ -25,26 +25,26 @@ use turn_lock::{Pass, TurnLock};
 /// durable at `Ok`. An `Err` gives the disk back.
 pub fn open_shard<D: Disk, M: OverDisks<D>>(
     alloc: Global,
-    gate: LogGate<D>,
+    gate: M::Gate,
     log: Vec<LogRecord>,
     shard: u32,
     run: u32,
     walkers: usize,
 ) -> Result<(TurnLock<Home<M>>, Vec<Pass<Home<M>, Note, Origin>>), (RecoverError, D)>
     requires some { 0 < walkers }
-    requires shard { (shard < 16) × (gate.shard ≡ shard) }
+    requires shard { (shard < 16) × (M.Gate.shard gate ≡ shard) }
     requires run { 1 ≤ run }
-    requires open { (gate.is_shut ≡ false) × (gate.faults ≡ 0) }
-    requires log { IsLogOf gate log.items }
+    requires open { (M.Gate.is_shut gate ≡ false) × (M.Gate.faults gate ≡ 0) }
+    requires log { Only log.items (M.Gate.logs gate) }
     requires spelled { list_all has_spelling log.items ≡ true }
     requires in_order { disorder shard log.items ≡ None }
     ensures lock { IfOk result (λ r. passes_of r.0 ≡ walkers) }
     ensures passes { IfOk result (λ r. (o : OriginIs) × IsOriginOf shard run log.items o × (vec_len r.1 ≡ walkers) × ((k : ℕ) (d : _) → k < walkers → IsNewPass r.0 o k (slice_index_or r.1.items k d))) }
-    ensures left { IfErr result (λ e. IsLeft shard log.items run gate.story (D.story e.1)) }
+    ensures left { IfErr result (λ e. IsLeft shard log.items run (M.story gate) (D.story e.1)) }
     ensures cause { IfErr result (λ e. CountsLeft 0 (D.faults e.1) e.0) }
 {
     let Ok(found) = copy_log(alloc, &log) else {
-        return Err((RecoverError::Memory, gate.into_disk()));
+        return Err((RecoverError::Memory, M::disk_under(gate)));
     };
     let machine: M = match recover_shard(alloc, gate, log, shard, run) {
         Ok(machine) => machine,

@@ -4,24 +4,23 @@ use Rattle.clv_base.specs.declared.logs.LogRecord.{LogRecord}
 use Rattle.clv_base.specs.LogRules.{log_of}
 use Rattle.disk_model.specs.Story.{Story}
 use Rattle.disk_model.specs.Disk.{Adds, Rose}
-use Rattle.log_gate.specs.View.{View}
 use Rattle.turn_lock.specs.declared.pass.TurnLock.{TurnLock}
 use Rattle.turn_lock.specs.declared.pass.Pass.{Pass}
 use Rattle.turn_laws.specs.declared.notes.Note.{Note}
 use Rattle.turn_laws.specs.declared.notes.Origin.{Origin}
-use Rattle.disks_opening.specs.Houses.{CameBack}
 use Rattle.shards_opening.specs.Opened.{IsOpenedAt}
-use Rattle.cluster_undoing.specs.Undone.{AreOpened}
+use Rattle.cluster_undoing.specs.Undone.{AreOpened, CameBack}
 
-pub came_back : (g : View) (f f1 f2 count : ℕ) (o : Bool) (s : Option Story) → Adds f1 count f2 → count ≡ g.faults → f1 ≡ f → o ≡ false → s ≡ g.story → CameBack g f f2 o s
-came_back g f f1 f2 count o s adds same before is_in story = record {
-  adds = subst (λ (n : ℕ). Adds n g.faults f2) before (subst (λ (n : ℕ). Adds f1 n f2) same adds);
-  is_in = is_in;
-  story_is = story;
-}
+module _ {G : Type 0} (told : G → Option Story) (faults : G → ℕ) where
+  pub came_back : (g : G) (f f1 f2 count : ℕ) (o : Bool) (s : Option Story) → Adds f1 count f2 → count ≡ faults g → f1 ≡ f → o ≡ false → s ≡ told g → CameBack told faults g f f2 o s
+  came_back g f f1 f2 count o s adds same before is_in story = record {
+    adds = subst (λ (n : ℕ). Adds n (faults g) f2) before (subst (λ (n : ℕ). Adds f1 n f2) same adds);
+    is_in = is_in;
+    story_is = story;
+  }
 
-pub still_back : (g : View) (f f1 f2 : ℕ) (o1 o2 : Bool) (s1 s2 : Option Story) → CameBack g f f1 o1 s1 → f2 ≡ f1 → o2 ≡ o1 → s2 ≡ s1 → CameBack g f f2 o2 s2
-still_back g f f1 f2 o1 o2 s1 s2 b a c d = record { adds = subst (λ (n : ℕ). Adds f g.faults n) (sym a) b.adds; is_in = c ∙ b.is_in; story_is = d ∙ b.story_is }
+  pub still_back : (g : G) (f f1 f2 : ℕ) (o1 o2 : Bool) (s1 s2 : Option Story) → CameBack told faults g f f1 o1 s1 → f2 ≡ f1 → o2 ≡ o1 → s2 ≡ s1 → CameBack told faults g f f2 o2 s2
+  still_back g f f1 f2 o1 o2 s1 s2 b a c d = record { adds = subst (λ (n : ℕ). Adds f (faults g) n) (sym a) b.adds; is_in = c ∙ b.is_in; story_is = d ∙ b.story_is }
 
 pub some_same : {A : Type 0} (x y : A) (o : Option A) → o ≡ Some x → o ≡ Some y → x ≡ y
 some_same {A} x y o a b = let k : ◌≡◌ {A = Option A} (Some x) (Some y) = sym a ∙ b in cc

@@ -4,10 +4,9 @@ use Rattle.std.specs.Global.{Global}
 use Rattle.clv_base.specs.declared.logs.LogRecord.{LogRecord}
 use Rattle.clv_base.specs.LogRules.{log_of}
 use Rattle.disk_model.specs.Story.{Story}
-use Rattle.disk_model.specs.Disk.{Rose}
+use Rattle.disk_model.specs.Disk.{Rose, Adds}
 use Rattle.gate_recovery.specs.declared.recovering.RecoverError.{RecoverError}
 use Rattle.gate_recovery.specs.declared.recovering.RecoverError.TheVariants.{Failed, Memory}
-use Rattle.log_gate.specs.View.{View}
 use Rattle.turn_lock.specs.declared.pass.TurnLock.{TurnLock}
 use Rattle.turn_lock.specs.declared.pass.Pass.{Pass}
 use Rattle.turn_laws.specs.declared.notes.Note.{Note}
@@ -21,14 +20,23 @@ module _ {T : Type 0} where
   AreOpened run walkers logs locks passes =
       (n : ℕ) (d : TurnLock T Note Origin) (e : Vec (Pass T Note Origin) Global) → n < length locks → IsOpenedAt run walkers n (log_of logs n) (slice_index_or locks n d) (slice_index_or passes n e).items
 
--- the disks of the gates had not failed
-abbrev pub AreFine : List View → Type 0
-AreFine gates = (n : ℕ) (d : View) → n < length gates → (slice_index_or gates n d).faults ≡ 0
+module _ {G : Type 0} (faults : G → ℕ) where
+  -- the disks of the gates had not failed
+  abbrev pub AreFine : List G → Type 0
+  AreFine gates = (n : ℕ) (d : G) → n < length gates → faults (slice_index_or gates n d) ≡ 0
 
--- all disks of the gates are in again: none was written but by what a restart adds to its log
-pub record AreBack (run : ℕ) (logs : List (List LogRecord)) (gates : List View) (out' : ℕ → Bool) (stories' : ℕ → Option Story) : Type 0 where
-  pub are_in : (n : ℕ) → n < length gates → out' n ≡ false
-  pub left : (n : ℕ) (d : View) → n < length gates → IsLeft n (log_of logs n) run (slice_index_or gates n d).story (stories' n)
+module _ {G : Type 0} (told : G → Option Story) where
+  -- all disks of the gates are in again: none was written but by what a restart adds to its log
+  pub record AreBack (run : ℕ) (logs : List (List LogRecord)) (gates : List G) (out' : ℕ → Bool) (stories' : ℕ → Option Story) : Type 0 where
+    pub are_in : (n : ℕ) → n < length gates → out' n ≡ false
+    pub left : (n : ℕ) (d : G) → n < length gates → IsLeft n (log_of logs n) run (told (slice_index_or gates n d)) (stories' n)
+
+module _ {G : Type 0} (told : G → Option Story) (faults : G → ℕ) where
+  -- the disk under a gate came back
+  pub record CameBack (g : G) (before now : ℕ) (out' : Bool) (story' : Option Story) : Type 0 where
+    pub adds : Adds before (faults g) now
+    pub is_in : out' ≡ false
+    pub story_is : story' ≡ told g
 
 -- the house's counts: that of the shard rose where its disk failed, and all others stand
 abbrev pub CountsBack : ℕ → (ℕ → ℕ) → (ℕ → ℕ) → RecoverError → Type 0

@@ -3,14 +3,13 @@ ghost use Rattle.std.specs.Prelude.{◌≡◌, ◌<◌, ◌≤◌, ◌+◌, ℕ,
 ghost use Rattle.clv_base.specs.declared.logs.LogRecord.{LogRecord};
 ghost use Rattle.clv_base.specs.LogRules.{log_of};
 ghost use Rattle.disk_model.specs.Story.{Story};
-ghost use Rattle.disks_opening.specs.Houses.{CameBack};
 ghost use Rattle.machines_opening.specs.Recovered.{IsLeft};
-ghost use Rattle.cluster_undoing.specs.Undone.{AreOpened};
+ghost use Rattle.cluster_undoing.specs.Undone.{AreOpened, CameBack};
 
 use cluster_opening::close_unused;
 use cluster_turns::Home;
 use disk_model::House;
-use log_gate::LogGate;
+use log_gate::Gate;
 use machines_opening::OverDisks;
 use turn_laws::{Note, Origin};
 use turn_lock::{Pass, TurnLock};
@@ -41,10 +40,14 @@ pub fn give_back_locks<H: House, M: OverDisks<H::Disk>>(
 }
 
 // Gives the disks of the shards from the first on back, out of their gates, of which the last one comes first.
-pub(crate) fn give_back_above<H: House>(house: &mut H, rest: Vec<LogGate<H::Disk>>, first: u32)
+pub(crate) fn give_back_above<H: House, M: OverDisks<H::Disk>>(
+    house: &mut H,
+    rest: Vec<M::Gate>,
+    first: u32,
+)
     requires few { first + vec_len rest ≤ 16 }
     requires out { (n : ℕ) → first ≤ n → n < first + vec_len rest → H.is_out house.old n ≡ true }
-    ensures back { (n j : ℕ) (d : _) → n + suc j ≡ first + vec_len rest → j < vec_len rest → CameBack (slice_index_or rest.items j d) (H.faults house.old n) (H.faults house.new n) (H.is_out house.new n) (H.story house.new n) }
+    ensures back { (n j : ℕ) (d : _) → n + suc j ≡ first + vec_len rest → j < vec_len rest → CameBack M.story M.Gate.faults (slice_index_or rest.items j d) (H.faults house.old n) (H.faults house.new n) (H.is_out house.new n) (H.story house.new n) }
     ensures below { (n : ℕ) → n < first → (H.faults house.new n ≡ H.faults house.old n) × (H.is_out house.new n ≡ H.is_out house.old n) × (H.story house.new n ≡ H.story house.old n) }
     ensures above { (n : ℕ) → first + vec_len rest ≤ n → (H.faults house.new n ≡ H.faults house.old n) × (H.is_out house.new n ≡ H.is_out house.old n) × (H.story house.new n ≡ H.story house.old n) }
 {
@@ -52,7 +55,7 @@ pub(crate) fn give_back_above<H: House>(house: &mut H, rest: Vec<LogGate<H::Disk
     let end = first + rest.len() as u32;
     while let Some(gate) = rest.pop() {
         let shard = end - 1 - rest.len() as u32;
-        house.give_back(shard, gate.into_disk());
+        house.give_back(shard, M::disk_under(gate));
     }
     rest.destroy_empty();
 }

@@ -1,7 +1,6 @@
 // An opening that stopped.
 ghost use Rattle.std.specs.Prelude.{◌≡◌, ◌<◌, ◌≤◌, ◌+◌, ℕ, suc, true, List, vec_len};
 ghost use Rattle.clv_base.specs.declared.logs.LogRecord.{LogRecord};
-ghost use Rattle.log_gate.specs.View.{View};
 ghost use Rattle.shards_opening.specs.Opened.{StoppedAt};
 ghost use Rattle.cluster_undoing.specs.Undone.{AreOpened, AreFine, AreBack, CountsBack};
 
@@ -9,6 +8,7 @@ use crate::giving::{give_back_above, give_back_locks};
 use cluster_turns::Home;
 use disk_model::House;
 use gate_recovery::RecoverError;
+use log_gate::Gate;
 use machines_opening::OverDisks;
 use shards_opening::Stopped;
 use turn_laws::{Note, Origin};
@@ -20,7 +20,7 @@ pub fn undo<H: House, M: OverDisks<H::Disk>>(
     house: &mut H,
     locks: Vec<TurnLock<Home<M>>>,
     passes: Vec<Vec<Pass<Home<M>, Note, Origin>>>,
-    stopped: Stopped<H::Disk>,
+    stopped: Stopped<H::Disk, M::Gate>,
 ) -> RecoverError
     requires few { stopped.shard + vec_len stopped.rest < 16 }
     requires locks { vec_len locks ≡ stopped.shard }
@@ -30,8 +30,8 @@ pub fn undo<H: House, M: OverDisks<H::Disk>>(
     ensures error { result ≡ stopped.error }
 
     // Whatever the logs and gates were that stopped so; the counts where no disk of a gate had failed.
-    ensures back { (run walkers : ℕ) (logs : List (List LogRecord)) (gates : List View) → AreOpened run walkers logs locks.items passes.items → StoppedAt run logs gates stopped.shard stopped.error (H.Disk.story stopped.disk) (H.Disk.faults stopped.disk) stopped.rest.items → AreBack run logs gates (H.is_out house.new) (H.story house.new) }
-    ensures counts { (run : ℕ) (logs : List (List LogRecord)) (gates : List View) → AreFine gates → StoppedAt run logs gates stopped.shard stopped.error (H.Disk.story stopped.disk) (H.Disk.faults stopped.disk) stopped.rest.items → CountsBack stopped.shard (H.faults house.old) (H.faults house.new) stopped.error }
+    ensures back { (run walkers : ℕ) (logs : List (List LogRecord)) (gates : List _) → AreOpened run walkers logs locks.items passes.items → StoppedAt M.story run logs gates stopped.shard stopped.error (H.Disk.story stopped.disk) (H.Disk.faults stopped.disk) stopped.rest.items → AreBack M.story run logs gates (H.is_out house.new) (H.story house.new) }
+    ensures counts { (run : ℕ) (logs : List (List LogRecord)) (gates : List _) → AreFine M.Gate.faults gates → StoppedAt M.story run logs gates stopped.shard stopped.error (H.Disk.story stopped.disk) (H.Disk.faults stopped.disk) stopped.rest.items → CountsBack stopped.shard (H.faults house.old) (H.faults house.new) stopped.error }
     ensures others { (n : ℕ) → stopped.shard + suc (vec_len stopped.rest) ≤ n → (H.faults house.new n ≡ H.faults house.old n) × (H.is_out house.new n ≡ H.is_out house.old n) × (H.story house.new n ≡ H.story house.old n) }
 {
     let Stopped {
@@ -42,6 +42,6 @@ pub fn undo<H: House, M: OverDisks<H::Disk>>(
     } = stopped;
     give_back_locks::<H, M>(house, locks, passes);
     house.give_back(shard, disk);
-    give_back_above(house, rest, shard + 1);
+    give_back_above::<H, M>(house, rest, shard + 1);
     error
 }

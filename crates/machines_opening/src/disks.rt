@@ -3,24 +3,15 @@
 ghost use Rattle.std.specs.Prelude.{◌≡◌, List, Option};
 ghost use Rattle.clv_base.specs.declared.logs.LogRecord.{LogRecord};
 ghost use Rattle.disk_model.specs.Story.{Story};
-ghost use Rattle.log_gate.specs.View.{logs_of, logs_told};
+ghost use Rattle.log_gate.specs.View.{logs_told};
 
 use disk_model::Disk;
-use log_gate::LogGate;
 use machine_calls::Maker;
 
-/// A machine whose gates are those of logs on such disks.
+/// A machine whose gates lie on such disks.
 pub trait OverDisks<D: Disk>: Maker {
     /// What the disk of a gate tells.
     ghost story: { Self.Gate → Option Story };
-
-    /// The gate, as the machine takes it. Takes no memory.
-    fn gate_over(gate: LogGate<D>) -> Self::Gate
-        ensures shut { Self.Gate.is_shut result ≡ gate.is_shut }
-        ensures faults { Self.Gate.faults result ≡ gate.faults }
-        ensures shard { Self.Gate.shard result ≡ gate.shard }
-        ensures story { story result ≡ gate.story }
-        ensures logs { (log : Option (List LogRecord)) → Self.Gate.logs result log → logs_of gate log };
 
     /// The disk of a gate, as it stands: its logs are the gate's. Takes no memory.
     fn disk_under(gate: Self::Gate) -> D

@@ -6,14 +6,14 @@ ghost use Rattle.clv_base.specs.declared.logs.LogRecord.{LogRecord as Rec};
 ghost use Rattle.clv_base.specs.FileRules.{has_spelling};
 ghost use Rattle.clv_base.specs.LogRules.{disorder};
 ghost use Rattle.disk_model.specs.Story.{Story};
-ghost use Rattle.log_gate.specs.View.{IsLogOf};
+ghost use Rattle.log_gate.specs.View.{Only};
 ghost use Rattle.machines_opening.specs.Recovered.{IsLeft, CountsLeft, IsMachineAt};
 
 use crate::disks::OverDisks;
 use clv_base::logs::LogRecord;
 use disk_model::Disk;
 use gate_recovery::{RecoverError, recover};
-use log_gate::{Gate, LogGate};
+use log_gate::Gate;
 use machine_calls::{Machine, Maker, Parts};
 use ordered_store::Store;
 use std::alloc::Global;
@@ -21,22 +21,21 @@ use std::alloc::Global;
 /// Recovers a shard from its log, which is in order, and makes its machine. What a restart adds to the log is durable at `Ok`. An `Err` gives the disk back.
 pub fn recover_shard<D: Disk, M: OverDisks<D>>(
     alloc: Global,
-    gate: LogGate<D>,
+    mut gate: M::Gate,
     log: Vec<LogRecord>,
     shard: u32,
     run: u32,
 ) -> Result<M, (RecoverError, D)>
-    requires shard { (shard < 16) × (gate.shard ≡ shard) }
+    requires shard { (shard < 16) × (M.Gate.shard gate ≡ shard) }
     requires run { 1 ≤ run }
-    requires open { (gate.is_shut ≡ false) × (gate.faults ≡ 0) }
-    requires log { IsLogOf gate log.items }
+    requires open { (M.Gate.is_shut gate ≡ false) × (M.Gate.faults gate ≡ 0) }
+    requires log { Only log.items (M.Gate.logs gate) }
     requires spelled { list_all has_spelling log.items ≡ true }
     requires in_order { disorder shard log.items ≡ None }
     ensures machine { IfOk result (λ m. IsMachineAt M.Gate.is_shut M.Gate.faults M.Gate.shard M.Gate.logs shard log.items run (M.shard m) (M.gate m)) }
-    ensures left { IfErr result (λ e. IsLeft shard log.items run gate.story (D.story e.1)) }
-    ensures cause { IfErr result (λ e. CountsLeft gate.faults (D.faults e.1) e.0) }
+    ensures left { IfErr result (λ e. IsLeft shard log.items run (M.story gate) (D.story e.1)) }
+    ensures cause { IfErr result (λ e. CountsLeft (M.Gate.faults gate) (D.faults e.1) e.0) }
 {
-    let mut gate = M::gate_over(gate);
     let Ok(mut store) = M::Store::empty(alloc) else {
         return Err((RecoverError::Memory, M::disk_under(gate)));
     };

@@ -7,6 +7,7 @@
 mod asking;
 mod calls;
 mod delivering;
+mod disks;
 mod dropping;
 mod flights;
 mod flying;
@@ -18,6 +19,7 @@ mod machine;
 mod making;
 mod operating;
 mod reminding;
+mod reopening;
 mod reviving;
 mod sending;
 mod stamps;

@@ -5,11 +5,6 @@ use mathlib.Core.Logic.{dite}
 use native.Mathlib.Decide.{ℕ_discrete}
 use Rattle.clv_base.specs.declared.logs.LogRecord.{LogRecord}
 use Rattle.clv_base.specs.LogRules.{log_of}
-use Rattle.clv_base.specs.Restarts.{run_after}
-
-pub least_run : (logs : List (List LogRecord)) → 1 ≤ run_after logs
-least_run [] = omega arith
-least_run (log ∷ logs) = let k = least_run logs in omega arith
 
 pub some_same : {A : Type 0} (x y : A) (o : Option A) → o ≡ Some x → o ≡ Some y → x ≡ y
 some_same {A} x y o a b = let k : ◌≡◌ {A = Option A} (Some x) (Some y) = sym a ∙ b in cc

@@ -1,41 +1,40 @@
 // All shards, one after another.
-ghost use Rattle.std.specs.Prelude.{◌≡◌, ◌<◌, ◌≤◌, ℕ, [], map, length, vec_len, vec_capacity, slice_index_or, OnOk, IfErr, List, Option};
+ghost use Rattle.std.specs.Prelude.{◌≡◌, ◌<◌, ◌≤◌, ℕ, [], map, length, vec_len, vec_capacity, slice_index_or, OnOk, IfErr};
 ghost use Rattle.clv_base.specs.LogRules.{log_of};
-ghost use Rattle.disk_model.specs.Story.{Story};
-ghost use Rattle.disks_opening.specs.Logs.{IsFound};
-ghost use Rattle.shards_opening.specs.Opened.{IsOpenedAt, StoppedAt};
+ghost use Rattle.shards_opening.specs.Opened.{IsOpenedAt, AreOpenGates, StoppedAt};
 
 use cluster_opening::open_shard;
 use cluster_turns::Home;
 use clv_base::logs::LogRecord;
 use disk_model::Disk;
 use gate_recovery::RecoverError;
-use log_gate::LogGate;
+use log_gate::Gate;
 use machines_opening::OverDisks;
 use std::alloc::Global;
 use turn_laws::{Note, Origin};
 use turn_lock::{Pass, TurnLock};
 
 /// Where opening stopped: the shard, with its disk, and the gates of those above it, the last one first.
-pub struct Stopped<D: Disk> {
+pub struct Stopped<D: Disk, G: Gate> {
     pub shard: u32,
     pub error: RecoverError,
     pub disk: D,
-    pub rest: Vec<LogGate<D>>,
+    pub rest: Vec<G>,
 }
 
 /// Takes all shards from the logs found into their locks, in rising order, and puts locks and passes into what has room for them. At `Ok` what a restart adds to
 /// each log is durable. At `Err` the shards below have their locks.
 pub fn open_shards<D: Disk, M: OverDisks<D>>(
     alloc: Global,
-    gates: Vec<LogGate<D>>,
+    gates: Vec<M::Gate>,
     logs: Vec<Vec<LogRecord>>,
     run: u32,
     walkers: usize,
     locks: &mut Vec<TurnLock<Home<M>>>,
     passes: &mut Vec<Vec<Pass<Home<M>, Note, Origin>>>,
-) -> Result<(), Stopped<D>>
-    requires found { (splits : List ℕ) × (stories : ℕ → Option Story) × IsFound splits (map (λ l. l.items) logs.items) run gates.items stories }
+) -> Result<(), Stopped<D, M::Gate>>
+    requires gates { AreOpenGates M.Gate.is_shut M.Gate.faults M.Gate.shard M.Gate.logs (map (λ l. l.items) logs.items) gates.items }
+    requires run { 1 ≤ run }
     requires few { vec_len gates ≤ 16 }
     requires some { 0 < walkers }
     requires empty { (locks.old.items ≡ []) × (passes.old.items ≡ []) }
@@ -43,7 +42,7 @@ pub fn open_shards<D: Disk, M: OverDisks<D>>(
     ensures all { OnOk result (length locks.new.items ≡ vec_len gates) }
     ensures len { length passes.new.items ≡ length locks.new.items }
     ensures opened { (n : ℕ) (d : _) (e : _) → n < length locks.new.items → IsOpenedAt run walkers n (log_of (map (λ l. l.items) logs.items) n) (slice_index_or locks.new.items n d) (slice_index_or passes.new.items n e).items }
-    ensures stopped { IfErr result (λ s. (length locks.new.items ≡ s.shard) × StoppedAt run (map (λ l. l.items) logs.items) gates.items s.shard s.error (D.story s.disk) (D.faults s.disk) s.rest.items) }
+    ensures stopped { IfErr result (λ s. (length locks.new.items ≡ s.shard) × StoppedAt M.story run (map (λ l. l.items) logs.items) gates.items s.shard s.error (D.story s.disk) (D.faults s.disk) s.rest.items) }
 {
     let count = gates.len() as u32;
     let mut rest = gates;

@@ -10,5 +10,5 @@ returns-in-Ok-lock_shard-clause-passes g c =
 pub returns-in-Err-lock_shard-clause-left : goal.returns-in-Err-lock_shard-clause-left
 returns-in-Err-lock_shard-clause-left g c =
     let G = g.M.Gate.Gate in
-    c.take_apart.ensures.left c.args.shard c.args.log.items c.args.run c.args.gate.story
+    c.take_apart.ensures.left c.args.shard c.args.log.items c.args.run (g.M.OverDisks.story c.args.gate)
     (subst (λ z. IsMachineAt G.is_shut G.faults G.shard G.logs c.args.shard c.args.log.items c.args.run (g.M.Machine.shard z) (g.M.Machine.gate z)) (sym c.in-Err-lock_shard.ensures.back) c.in-Ok-recover_shard.ensures.machine)

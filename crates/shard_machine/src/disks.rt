@@ -1,0 +1,23 @@
+//! A machine whose gates are those of logs on disks.
+ghost use Rattle.std.specs.Prelude.{◌≡◌, List, Option};
+ghost use Rattle.clv_base.specs.declared.logs.LogRecord.{LogRecord};
+ghost use Rattle.log_gate.specs.View.{logs_of, logs_told};
+
+use crate::machine::ShardMachine;
+use disk_model::Disk;
+use lock_table::Locks;
+use log_gate::LogGate;
+use machines_opening::OverDisks;
+use ordered_store::Store;
+
+impl<S: Store + Drop, L: Locks + Drop, D: Disk> OverDisks<D> for ShardMachine<S, L, LogGate<D>> {
+    ghost story = { λ g. g.story };
+
+    fn disk_under(gate: LogGate<D>) -> D
+        ensures story { D.story result ≡ gate.story }
+        ensures faults { D.faults result ≡ gate.faults }
+        ensures logs { (log : Option (List LogRecord)) → logs_told (D.story result) gate.shard log → logs_of gate log }
+    {
+        gate.into_disk()
+    }
+}
