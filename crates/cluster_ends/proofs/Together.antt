@@ -93,7 +93,7 @@ module _ {M S G : Type 0} where
       at false q rest = rest
 
   -- what never changes of a shard, by the first walker's pass
-  origin_is : (sh : Shards M S G) (vs : List (Walker M S G)) (n : ℕ) (o : Origin) (notes : List Note) → 0 < length vs → n < length sh.locks.items → ((k : ℕ) (d : Walker M S G) → k < length vs → IsWalker sh (get_or vs k d)) → ClosedAt vs n o notes
+  pub origin_is : (sh : Shards M S G) (vs : List (Walker M S G)) (n : ℕ) (o : Origin) (notes : List Note) → 0 < length vs → n < length sh.locks.items → ((k : ℕ) (d : Walker M S G) → k < length vs → IsWalker sh (get_or vs k d)) → ClosedAt vs n o notes
       → IsOriginAt (founds_of sh) n o
   origin_is sh vs n o notes some low each c =
       let v = some_elem vs 0 some in

@@ -12,7 +12,7 @@ ghost use Rattle.turn_laws.specs.Notes.{notes_of};
 ghost use Rattle.turn_laws.specs.Homes.{never_stops};
 ghost use Rattle.turn_laws.specs.Gates.{IsCounted};
 ghost use Rattle.turn_laws.specs.Sound.{IsSound};
-ghost use Rattle.cluster_turns.specs.Walkers.{IsWalker, founds_of};
+ghost use Rattle.cluster_turns.specs.Walkers.{IsWalker, IsOriginAt, founds_of};
 ghost use Rattle.cluster_ends.specs.Ending.{ClosedAt};
 ghost use Rattle.cluster_ends.specs.Legal.{AreShards, state_at, views_of};
 
@@ -75,6 +75,8 @@ pub fn close<M: Machine>(
     // Of a gate that is home each log that it may have is one that its shard may leave; its disk has failed exactly where a flush has.
     ensures leaves { (n : ℕ) (d : _) (gate : _) (log : List LogRecord) → n < vec_len result → M.gate (slice_index_or result.items n d).machine ≡ Some gate → M.Gate.logs gate (Some log) → MayLeave (M.shard (slice_index_or result.items n d).machine) log }
     ensures counted { (n : ℕ) (d : _) (gate : _) → n < vec_len result → M.gate (slice_index_or result.items n d).machine ≡ Some gate → IsCounted (M.shard (slice_index_or result.items n d).machine).journal (M.Gate.faults gate) }
+    ensures origin { (n : ℕ) (d : _) → n < vec_len result → IsOriginAt (founds_of shards) n (slice_index_or result.items n d).origin }
+    ensures shard { (n : ℕ) (d : _) → n < vec_len result → (M.shard (slice_index_or result.items n d).machine).shard ≡ n }
     ensures no_stop { (n : ℕ) (d : _) → n < vec_len result → never_stops (M.shard (slice_index_or result.items n d).machine).journal ≡ true }
     ensures legal { (after : List (List LogRecord)) → length after ≡ shard_count shards.splits → ((n : ℕ) → n < shard_count shards.splits → MayLeave (state_at (λ h. M.shard h.machine) (founds_of shards) result.items n) (log_of after n))
         → MakesHistory shards.splits (founds_of shards) after (map (λ h. (M.shard h.machine).journal) result.items) (state_at (λ h. M.shard h.machine) (founds_of shards) result.items) (λ w. entries_of (views_of walkers.items w)) }

@@ -3,5 +3,7 @@
 
 mod closing;
 mod ending;
+mod memory;
 
 pub use closing::close;
+pub use memory::Room;

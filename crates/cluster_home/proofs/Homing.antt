@@ -81,15 +81,15 @@ not_taken : (t : Option ℕ) → ((w : ℕ) → is_taker t w ≡ false) → t �
 not_taken None h = refl
 not_taken (Some v) h = absurd (both_ways (v == v) (h v) (eq-eqb v v refl))
 
-rest_none : (xs ys : List Note) → xs ++ ys ≡ xs → ys ≡ []
+pub rest_none : (xs ys : List Note) → xs ++ ys ≡ xs → ys ≡ []
 rest_none [] ys h = h
 rest_none (x ∷ xs) ys h = rest_none xs ys (let k : x ∷ (xs ++ ys) ≡ x ∷ xs = h in cc)
 
 module _ {M S G : Type 0} where
-  abbrev Has : List (Walker M S G) → ℕ → Type 0
+  abbrev pub Has : List (Walker M S G) → ℕ → Type 0
   Has vs w = (k : ℕ) × (k < length vs) × ((d : Walker M S G) → (get_or vs k d).number ≡ w)
 
-  find : (vs : List (Walker M S G)) (w : ℕ) → Has vs w ⊎ ((k : ℕ) (d : Walker M S G) → k < length vs → (get_or vs k d).number ≢ w)
+  pub find : (vs : List (Walker M S G)) (w : ℕ) → Has vs w ⊎ ((k : ℕ) (d : Walker M S G) → k < length vs → (get_or vs k d).number ≢ w)
   find [] w = inr (λ k d l. absurd (omega arith))
   find (v ∷ vs) w = dite (ℕ_discrete v.number w)
       (λ same. inl (0, omega arith, λ d. same))
@@ -99,7 +99,7 @@ module _ {M S G : Type 0} where
       at zero d l none other = other
       at (suc k) d l none other = none k d (omega arith)
 
-  first_of : (vs : List (Walker M S G)) (k : ℕ) → k < length vs → Walker M S G
+  pub first_of : (vs : List (Walker M S G)) (k : ℕ) → k < length vs → Walker M S G
   first_of [] k l = absurd (omega arith)
   first_of (v ∷ vs) k l = v
 

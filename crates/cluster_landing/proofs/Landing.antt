@@ -25,7 +25,7 @@ use Rattle.turn_laws.specs.Notes.{noter, plain}
 use Rattle.turn_laws.specs.Homes.{entries_in, taker_after, taker, is_taker, is_single}
 use Rattle.turn_laws.proofs.Laws.{entries_append, taker_append, departing}
 use Rattle.cluster_turns.specs.Turns.{Turned, EventTold, SettledTold}
-use Rattle.cluster_turns.specs.Walkers.{Walked, AreNewPasses}
+use Rattle.cluster_turns.specs.Walkers.{Walked, Looked, AreNewPasses}
 use Rattle.cluster_flush.specs.declared.flushing.Flushed.{Flushed}
 use Rattle.cluster_flush.specs.declared.flushing.FlushError.{FlushError}
 use Rattle.cluster_flush.specs.Told.{has_no_flight, FlushTold, one_turn, two_turns}
@@ -47,7 +47,7 @@ by_append w (x ∷ xs) ys = at (noter x == w) (by_append w xs ys)
     at true h = ap (λ l. x ∷ l) h
     at false h = h
 
-first_other : (w : ℕ) (n : Note) (ns : List Note) (b : Bool) → (noter n == w) ≡ b → entries_by noter w (n ∷ ns) ≡ [] → ((noter n == w) ≡ false) × (entries_by noter w ns ≡ [])
+pub first_other : (w : ℕ) (n : Note) (ns : List Note) (b : Bool) → (noter n == w) ≡ b → entries_by noter w (n ∷ ns) ≡ [] → ((noter n == w) ≡ false) × (entries_by noter w ns ≡ [])
 first_other w n ns true is h = absurd (let k : n ∷ entries_by noter w ns ≡ [] = rw is at h in cc)
 first_other w n ns false is h = (is, rw is at h)
 
@@ -114,17 +114,17 @@ some_elem (x ∷ xs) k l = x
 module _ {T : Type 0} where
   -- ---- one turn
 
-  turned_own : {Told : Shard → Shard → List Note → Type 0} {w : ℕ} {p q : Pass T Note Origin} (t : Turned Told w p q) → entries_by noter w t.added ≡ t.added → HasOwn w p → HasOwn w q
+  pub turned_own : {Told : Shard → Shard → List Note → Type 0} {w : ℕ} {p q : Pass T Note Origin} (t : Turned Told w p q) → entries_by noter w t.added ≡ t.added → HasOwn w p → HasOwn w q
   turned_own {Told} {w} {p} {q} t by h =
       let others = t.found in
       let before : entries_by noter w t.before ≡ entries_by noter w (seen p) = ap (entries_by noter w) others.1 ∙ by_append w (seen p) others.0 ∙ ap (λ l. entries_by noter w (seen p) ++ l) others.2 ∙ append-nil (entries_by noter w (seen p)) in
       t.own_is ∙ ap (λ l. l ++ t.added) (h ∙ sym before) ∙ ap (λ l. entries_by noter w t.before ++ l) (sym by) ∙ sym (by_append w t.before t.added) ∙ ap (entries_by noter w) (sym t.seen_is)
 
   -- who has the gate after it
-  taker_now : {Told : Shard → Shard → List Note → Type 0} {w : ℕ} {p q : Pass T Note Origin} (t : Turned Told w p q) → taker None (entries_in (seen q)) ≡ taker (taker None (entries_in t.before)) (entries_in t.added)
+  pub taker_now : {Told : Shard → Shard → List Note → Type 0} {w : ℕ} {p q : Pass T Note Origin} (t : Turned Told w p q) → taker None (entries_in (seen q)) ≡ taker (taker None (entries_in t.before)) (entries_in t.added)
   taker_now t = ap (λ l. taker None (entries_in l)) t.seen_is ∙ ap (taker None) (entries_append t.before t.added) ∙ taker_append None (entries_in t.before) (entries_in t.added)
 
-  home_before : {Told : Shard → Shard → List Note → Type 0} {w : ℕ} {p q : Pass T Note Origin} (t : Turned Told w p q) → IsHome w p → is_taker (taker None (entries_in t.before)) w ≡ false
+  pub home_before : {Told : Shard → Shard → List Note → Type 0} {w : ℕ} {p q : Pass T Note Origin} (t : Turned Told w p q) → IsHome w p → is_taker (taker None (entries_in t.before)) w ≡ false
   home_before {Told} {w} {p} t h =
       let others = t.found in
       ap (λ k. is_taker k w) (ap (λ l. taker None (entries_in l)) others.1 ∙ ap (taker None) (entries_append (seen p) others.0) ∙ taker_append None (entries_in (seen p)) (entries_in others.0))
@@ -132,10 +132,10 @@ module _ {T : Type 0} where
 
   -- ---- one place of all
 
-  some_inj : (p q : Pass T Note Origin) → Some p ≡ Some q → p ≡ q
+  pub some_inj : (p q : Pass T Note Origin) → Some p ≡ Some q → p ≡ q
   some_inj p q h = cc
 
-  inside : (xs : List (Option (Pass T Note Origin))) (n : ℕ) (p : Pass T Note Origin) → ((d : Option (Pass T Note Origin)) → get_or xs n d ≡ Some p) → Rattle.std.specs.Prelude.◌<◌ n (length xs)
+  pub inside : (xs : List (Option (Pass T Note Origin))) (n : ℕ) (p : Pass T Note Origin) → ((d : Option (Pass T Note Origin)) → get_or xs n d ≡ Some p) → Rattle.std.specs.Prelude.◌<◌ n (length xs)
   inside [] n p h = absurd (let k : None ≡ Some p = h None in cc)
   inside (x ∷ xs) Rattle.std.proofs.Common.zero p h = omega arith
   inside (x ∷ xs) (Rattle.std.proofs.Common.suc n) p h = let k = inside xs n p h in omega arith
@@ -147,24 +147,30 @@ module _ {T : Type 0} where
       (subst (P n) (some_inj q x (sym (get_or-set_same before n (Some q) None (inside before n p had)) ∙ ap (λ (j : ℕ). get_or (set before n (Some q)) j None) (sym same) ∙ is None)) new))
       (λ other. others k x other (λ d. sym (get_or-set_other before n k (Some q) d other) ∙ is d))
 
-  walked_each : {Told : Shard → Shard → List Note → Type 0} {n w : ℕ} {before after : List (Option (Pass T Note Origin))} (P : ℕ → Pass T Note Origin → Type 0) (h : Walked Told n w before after)
+  pub walked_each : {Told : Shard → Shard → List Note → Type 0} {n w : ℕ} {before after : List (Option (Pass T Note Origin))} (P : ℕ → Pass T Note Origin → Type 0) (h : Walked Told n w before after)
       → ((k : ℕ) (x : Pass T Note Origin) → k ≢ n → ((d : Option (Pass T Note Origin)) → get_or before k d ≡ Some x) → P k x) → P n h.q → EachPass P after
   walked_each {Told} {n} {w} {before} P h others new = subst (EachPass P) (sym h.after_is) (placed P before n h.p h.q h.had others new)
+
+  pub looked_each : {n horizon : ℕ} {before after : List (Option (Pass T Note Origin))} (P : ℕ → Pass T Note Origin → Type 0) (h : Looked n before horizon after)
+      → ((k : ℕ) (x : Pass T Note Origin) → k ≢ n → ((d : Option (Pass T Note Origin)) → get_or before k d ≡ Some x) → P k x) → P n h.q → EachPass P after
+  looked_each {n} {horizon} {before} P h others new = subst (EachPass P) (sym h.after_is) (placed P before n h.p h.q h.had others new)
+
+  -- a new pass has seen nothing
+  pub new_pass : (founds : List (List LogRecord)) (locks : List (TurnLock T Note Origin)) (w : ℕ) (passes : List (Option (Pass T Note Origin))) → AreNewPasses founds locks w passes
+      → (k : ℕ) (p : Pass T Note Origin) → ((d : Option (Pass T Note Origin)) → get_or passes k d ≡ Some p) → (seen p ≡ []) × (own p ≡ [])
+  new_pass founds locks w passes a k p is =
+      let low : Rattle.std.specs.Prelude.◌<◌ k (length locks) = (let l = inside passes k p is in let c = a.count in omega arith) in
+      let t = a.each k None low in
+      let same : t.0 ≡ p = some_inj t.0 p (sym t.2 ∙ is None) in
+      let v = t.3 (some_elem locks k low) in (subst (λ x. seen x ≡ []) same v.3, subst (λ x. own x ≡ []) same v.4)
 
   -- ---- the laws
 
   pub new_have_landed : (founds : List (List LogRecord)) (locks : List (TurnLock T Note Origin)) (w : ℕ) (passes : List (Option (Pass T Note Origin))) → AreNewPasses founds locks w passes → HasLanded w passes
   new_have_landed founds locks w passes a = record {
-    own = λ k p is. (let t = new k p is in t.1 ∙ ap (entries_by noter w) (sym t.0));
-    home = λ k p is. ap (λ l. is_taker (taker None (entries_in l)) w) (new k p is).0;
+    own = λ k p is. (let t = new_pass founds locks w passes a k p is in t.1 ∙ ap (entries_by noter w) (sym t.0));
+    home = λ k p is. ap (λ l. is_taker (taker None (entries_in l)) w) (new_pass founds locks w passes a k p is).0;
   }
-    where
-      new : (k : ℕ) (p : Pass T Note Origin) → ((d : Option (Pass T Note Origin)) → get_or passes k d ≡ Some p) → (seen p ≡ []) × (own p ≡ [])
-      new k p is =
-          let low : Rattle.std.specs.Prelude.◌<◌ k (length locks) = (let l = inside passes k p is in let c = a.count in omega arith) in
-          let t = a.each k None low in
-          let same : t.0 ≡ p = some_inj t.0 p (sym t.2 ∙ is None) in
-          let v = t.3 (some_elem locks k low) in (subst (λ x. seen x ≡ []) same v.3, subst (λ x. own x ≡ []) same v.4)
 
   pub events_land : (clock w n : ℕ) (e : Event) (r : Result Outcome StepError) (clock' : ℕ) (before after : List (Option (Pass T Note Origin))) → Walked (EventTold clock w e r clock') n w before after → is_single e ≡ true → HasLanded w before → HasLanded w after
   events_land clock w n e r clock' before after h single l =

@@ -1,0 +1,27 @@
+// Disks that walkers had.
+ghost use Rattle.std.specs.Prelude.{◌≡◌, ◌<◌, ◌≢◌, ℕ, true, vec_len, slice_index_or};
+ghost use Rattle.cluster_holding.specs.Ends.{shard_at, IsNotAmong};
+ghost use Rattle.cluster_closing.specs.Closing.{Returned};
+
+use cluster_restart::Fetched;
+use disk_model::House;
+
+// Gives the disks back that were fetched, each of another shard.
+pub(crate) fn give_back_held<H: House>(house: &mut H, fetched: Vec<Fetched<H::Disk>>)
+    requires few { (j : ℕ) (f : _) → j < vec_len fetched → shard_at fetched.items j f < 16 }
+    requires apart { (i j : ℕ) (f : _) → i < j → j < vec_len fetched → shard_at fetched.items i f ≢ shard_at fetched.items j f }
+    requires out { (j : ℕ) (f : _) → j < vec_len fetched → H.is_out house.old (shard_at fetched.items j f) ≡ true }
+    ensures back { (j : ℕ) (f : _) → j < vec_len fetched → Returned H.Disk.story H.Disk.faults (slice_index_or fetched.items j f).disk (H.faults house.old (shard_at fetched.items j f)) (H.faults house.new (shard_at fetched.items j f)) (H.is_out house.new (shard_at fetched.items j f)) (H.story house.new (shard_at fetched.items j f)) }
+    ensures others { (n : ℕ) → IsNotAmong n fetched.items → (H.faults house.new n ≡ H.faults house.old n) × (H.is_out house.new n ≡ H.is_out house.old n) × (H.story house.new n ≡ H.story house.old n) }
+{
+    let mut fetched = fetched;
+    while let Some(held) = fetched.pop() {
+        let Fetched {
+            shard,
+            epoch: _,
+            disk,
+        } = held;
+        house.give_back(shard, disk);
+    }
+    fetched.destroy_empty();
+}

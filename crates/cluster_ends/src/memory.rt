@@ -1,0 +1,18 @@
+// The memory of a cluster's end.
+
+use cluster_turns::Home;
+use clv_base::events::Entry;
+use clv_base::logs::LogRecord;
+use machine_calls::Machine;
+use turn_laws::{Note, Origin};
+use turn_lock::Pass;
+
+/// All memory that the end of a cluster takes, made when the cluster began.
+pub struct Room<M: Machine> {
+    /// For each shard an empty list, with room for the passes of all walkers.
+    pub passes: Vec<Vec<Pass<Home<M>, Note, Origin>>>,
+    pub homes: Vec<Home<M>>,
+    pub journals: Vec<Vec<Entry>>,
+    pub maps: Vec<M::Store>,
+    pub found: Vec<Vec<LogRecord>>,
+}

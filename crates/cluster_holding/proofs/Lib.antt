@@ -1,0 +1,5 @@
+pub mod Holding
+pub mod Staying
+pub mod Homing
+pub mod Restarting
+pub mod Laws

@@ -1,0 +1,5 @@
+pub mod Adding
+pub mod Landing
+pub mod Informing
+pub mod Ending
+pub mod Laws
