@@ -1,0 +1,13 @@
+//! What threads may hand to each other.
+use disk_model::Disk;
+use lock_table::ListLocks;
+use log_gate::LogGate;
+use shard_machine::ShardMachine;
+use store_blocks::BlockStore;
+
+fn may_be_sent<T: Send>() {}
+
+/// A machine over blocks, a list of locks and a log on such a disk may be handed to another thread.
+pub fn machines_may_be_sent<D: Disk + Send>() {
+    may_be_sent::<ShardMachine<BlockStore, ListLocks, LogGate<D>>>();
+}
