@@ -13,8 +13,8 @@ use Rattle.script_tries.specs.declared.ends.StopCause.{StopCause}
 use Rattle.script_tries.specs.declared.ends.StopCause.TheVariants.{Down, Unsettled, Worn, Memory}
 use Rattle.script_tries.specs.declared.ends.TryEnd.{TryEnd}
 use Rattle.script_tries.specs.declared.ends.TryEnd.TheVariants.{Acknowledged, Empty, Asked, Aborted, Stopped}
-use Rattle.script_tries.specs.Operations.{IsBegun, IsDeath}
-use Rattle.script_tries.specs.Tries.{IsDone, EndsBy, AreDrops, is_touched, operation_begun, request_next, acknowledged, nothing, by_line, in_operation, at_request, at_look, down, unsettled, wanting_before, wanting_behind, worn_at_line}
+use Rattle.script_tries.specs.Operations.{ArePartsAnswered, IsBegun, IsDeath, parts_of}
+use Rattle.script_tries.specs.Tries.{IsDone, EndsBy, AreDrops, is_touched, operation_begun, request_next, acknowledged, nothing, by_line, in_operation, at_request, at_look, down, unsettled, wanting_before, wanting_behind, unanswered, worn_at_line}
 use Rattle.script_runs.specs.Seen.{Active, Seen, Grows}
 use Rattle.script_runs.specs.Told.{AreDropsOf, OperateTold, CommitTold, AbortTold, GivenUp, IsActiveWhereDown, LineAborts, EndTold}
 use Rattle.script_runs.specs.Lines.{HasDone}
@@ -147,9 +147,12 @@ tried_part body tx birth (Stopped (Down n)) u w x v d op next (here, after, begu
 tried_part body tx birth (Stopped (Worn at)) u w x v d op next (here, begun, grows) g =
     tried body tx birth (Stopped (Worn at)) u w v d here
     (wanting_before (Worn at) here refl (operation_begun op here next (subst (λ s. IsBegun s tx birth (suc (length d.answers)) op here) (d.grows).splits_are begun))) (subst (Grows here w) (sym g) grows) tt
-tried_part body tx birth (Stopped Memory) u w x v d op next (here, begun, grows) g =
+tried_part body tx birth (Stopped Memory) u w x v d op next (here, inl begun, grows) g =
     tried body tx birth (Stopped Memory) u w v d here
     (wanting_before Memory here refl (operation_begun op here next (subst (λ s. IsBegun s tx birth (suc (length d.answers)) op here) (d.grows).splits_are begun))) (subst (Grows here w) (sym g) grows) tt
+tried_part body tx birth (Stopped Memory) u w x v d op next (here, inr (parts, are), grows) g =
+    tried body tx birth (Stopped Memory) u w v d here
+    (unanswered op parts here next (subst (λ s. ArePartsAnswered tx birth (suc (length d.answers)) (parts_of s op) parts here) (d.grows).splits_are are)) (subst (Grows here w) (sym g) grows) tt
 tried_part body tx birth (Stopped (Unsettled n)) u w x v d op next t g = absurd t
 tried_part body tx birth Acknowledged u w x v d op next t g = absurd t
 tried_part body tx birth Empty u w x v d op next t g = absurd t

@@ -1,5 +1,5 @@
 -- What a session's calls tell.
-use Rattle.std.specs.Prelude.{◌≡◌, ◌⊎◌, ⊤, ℕ, suc, ◌<◌, ◌≤◌, Bool, true, nat_le, [], ◌∷◌, ◌++◌, Option, Some, None, Result, Ok, Err}
+use Rattle.std.specs.Prelude.{◌≡◌, ◌⊎◌, ⊤, ℕ, suc, ◌<◌, ◌≤◌, Bool, true, nat_le, List, [], ◌∷◌, ◌++◌, Option, Some, None, Result, Ok, Err}
 use Rattle.std.specs.List.{AllByRecursion}
 use Rattle.clv_base.specs.declared.names.TxId.{TxId}
 use Rattle.clv_base.specs.declared.names.Birth.{Birth}
@@ -17,7 +17,7 @@ use Rattle.script_tries.specs.declared.ends.StopCause.{StopCause}
 use Rattle.script_tries.specs.declared.ends.StopCause.TheVariants.{Down, Unsettled, Worn, Memory}
 use Rattle.script_tries.specs.declared.ends.TryEnd.{TryEnd}
 use Rattle.script_tries.specs.declared.ends.TryEnd.TheVariants.{Acknowledged, Empty, Asked, Aborted, Stopped}
-use Rattle.script_tries.specs.Operations.{IsOperation, IsBegun, IsDeath}
+use Rattle.script_tries.specs.Operations.{IsOperation, ArePartsAnswered, IsBegun, IsDeath, parts_of}
 use Rattle.script_tries.specs.Tries.{IsRequest, IsLook, is_touched}
 use Rattle.script_runs.specs.Seen.{Idle, Active, Seen, Grows, untouched}
 
@@ -77,6 +77,10 @@ has_range (Scan lo hi) = nat_le lo hi
 abbrev pub StaysActive : TxId → Birth → (ℕ → Bool) → Seen → Type 0
 StaysActive tx birth touched v = (nth : ℕ) × (v.standing ≡ Active tx birth nth touched)
 
+-- each part was answered, but memory was wanting for the operation's answer
+abbrev pub IsUnanswered : List ℕ → TxId → Birth → ℕ → Op → History → Type 0
+IsUnanswered splits tx birth nth op es = (parts : List Answer) × ArePartsAnswered tx birth nth (parts_of splits op) parts es
+
 -- of the active transaction's operation: the shards touched after it, and its entries
 abbrev pub OperateTold : TxId → Birth → ℕ → (ℕ → Bool) → Op → Result Answer TryEnd → Seen → Seen → Type 0
 OperateTold tx birth nth touched op (Ok answer) u v =
@@ -88,7 +92,8 @@ OperateTold tx birth nth touched op (Err (Aborted cause)) u v =
 OperateTold tx birth nth touched op (Err (Stopped (Down n))) u v =
     (here : History) × (after : ℕ → Bool) × IsBegun u.splits tx birth (suc nth) op here × TouchesBy touched here after × Grows here u v × StaysActive tx birth after v
 OperateTold tx birth nth touched op (Err (Stopped (Worn at))) u v = (here : History) × IsBegun u.splits tx birth (suc nth) op here × Grows here u v
-OperateTold tx birth nth touched op (Err (Stopped Memory)) u v = (here : History) × IsBegun u.splits tx birth (suc nth) op here × Grows here u v
+OperateTold tx birth nth touched op (Err (Stopped Memory)) u v =
+    (here : History) × (IsBegun u.splits tx birth (suc nth) op here ⊎ IsUnanswered u.splits tx birth (suc nth) op here) × Grows here u v
 OperateTold tx birth nth touched op (Err (Stopped (Unsettled n))) u v = ⊥
 OperateTold tx birth nth touched op (Err Acknowledged) u v = ⊥
 OperateTold tx birth nth touched op (Err Empty) u v = ⊥

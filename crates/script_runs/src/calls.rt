@@ -15,37 +15,50 @@ use std::alloc::Global;
 pub trait SessionCalls {
     ghost seen: { Self → SeenIs };
 
+    /// What holds of a session between its calls.
+    ghost holds: { Self → Type 0 };
+
     /// What tells that this may stop the session: for a shard that is down, that it was found so; for a worn clock, that it is at its end.
     ghost grounds: { Self → CauseIs → Type 0 };
 
     /// Begins a transaction; the stamp of its birth is past all earlier ones.
     fn begin(&mut self) -> Result<(), StopCause>
-        requires { (again : Option BirthIs) × ((seen self.old).standing ≡ Idle again) }
+        requires session { holds self.old }
+        requires idle { (again : Option BirthIs) × ((seen self.old).standing ≡ Idle again) }
+        ensures session { holds self.new }
         ensures told { BeginTold result (seen self.old) (seen self.new) }
         ensures grounds { IfErr result (grounds self.new) };
 
     /// Tries the last transaction again, which ended by an abort: with its birth, and a name of its own.
     fn retry(&mut self) -> Result<(), StopCause>
-        requires { (birth : BirthIs) × ((seen self.old).standing ≡ Idle (Some birth)) }
+        requires session { holds self.old }
+        requires ended { (birth : BirthIs) × ((seen self.old).standing ≡ Idle (Some birth)) }
+        ensures session { holds self.new }
         ensures told { (birth : BirthIs) → (seen self.old).standing ≡ Idle (Some birth) → RetryTold birth result (seen self.old) (seen self.new) }
         ensures grounds { IfErr result (grounds self.new) };
 
     /// The next operation of the active transaction, on all shards that it meets. Where it died of it, its other parts are dropped.
     fn operate(&mut self, alloc: Global, op: Op) -> Result<Answer, TryEnd>
+        requires session { holds self.old }
         requires active { (tx : TxId) × (birth : BirthIs) × (nth : ℕ) × (touched : ℕ → Bool) × ((seen self.old).standing ≡ Active tx birth nth touched) }
         requires range { has_range op ≡ true }
+        ensures session { holds self.new }
         ensures told { (tx : TxId) (birth : BirthIs) (nth : ℕ) (touched : ℕ → Bool) → (seen self.old).standing ≡ Active tx birth nth touched → OperateTold tx birth nth touched op result (seen self.old) (seen self.new) }
         ensures grounds { OnRefusal (grounds self.new) result };
 
     /// Commits the active transaction. Where it died or was aborted, its other parts are dropped.
     fn commit(&mut self, alloc: Global) -> TryEnd
+        requires session { holds self.old }
         requires active { (tx : TxId) × (birth : BirthIs) × (nth : ℕ) × (touched : ℕ → Bool) × ((seen self.old).standing ≡ Active tx birth nth touched) }
+        ensures session { holds self.new }
         ensures told { (tx : TxId) (birth : BirthIs) (nth : ℕ) (touched : ℕ → Bool) → (seen self.old).standing ≡ Active tx birth nth touched → CommitTold tx birth nth touched result (seen self.old) (seen self.new) }
         ensures grounds { OnStop (grounds self.new) result };
 
     /// Aborts the active transaction: drops its parts.
     fn abort(&mut self, alloc: Global) -> Result<(), StopCause>
+        requires session { holds self.old }
         requires active { (tx : TxId) × (birth : BirthIs) × (nth : ℕ) × (touched : ℕ → Bool) × ((seen self.old).standing ≡ Active tx birth nth touched) }
+        ensures session { holds self.new }
         ensures told { (tx : TxId) (birth : BirthIs) (nth : ℕ) (touched : ℕ → Bool) → (seen self.old).standing ≡ Active tx birth nth touched → AbortTold tx birth touched result (seen self.old) (seen self.new) }
         ensures grounds { IfErr result (grounds self.new) }
         ensures keeps { (cause : CauseIs) → grounds self.old cause → grounds self.new cause };

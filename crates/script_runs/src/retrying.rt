@@ -79,8 +79,10 @@ fn run_tries<R: Wait, C: SessionCalls>(
     transaction: &Transaction,
     most: Option<u32>,
 ) -> Result<(), StopCause>
+    requires session { C.holds session.old }
     requires begun { (tx : TxId) × (birth : BirthIs) × ((C.seen session.old).standing ≡ Active tx birth 0 untouched) × (tx.serial ≡ (C.seen session.old).serial) × (tx.run ≡ (C.seen session.old).run) × (tx.session ≡ (C.seen session.old).walker) }
     requires narrow { list_all is_narrow transaction.now.actions ≡ true }
+    ensures session { C.holds session.new }
     ensures told { (tx : TxId) (birth : BirthIs) → (C.seen session.old).standing ≡ Active tx birth 0 untouched → tx.serial ≡ (C.seen session.old).serial → tx.run ≡ (C.seen session.old).run → tx.session ≡ (C.seen session.old).walker → InTriesTold transaction.now tx birth most (stop_in result) (C.seen session.old) (C.seen session.new) }
     ensures idle { IdleAfter result (C.seen session.new) }
     ensures grounds { IfErr result (C.grounds session.new) }
@@ -109,8 +111,10 @@ pub(crate) fn run_transaction<R: Wait, C: SessionCalls>(
     transaction: &Transaction,
     most: Option<u32>,
 ) -> Result<(), StopCause>
+    requires session { C.holds session.old }
     requires idle { IsIdle (C.seen session.old) }
     requires narrow { list_all is_narrow transaction.now.actions ≡ true }
+    ensures session { C.holds session.new }
     ensures ran { Ran transaction.now most (stop_in result) (C.seen session.old) (C.seen session.new) ⊎ NotBegun (stop_in result) (C.seen session.old) (C.seen session.new) }
     ensures idle { IdleAfter result (C.seen session.new) }
     ensures grounds { IfErr result (C.grounds session.new) }

@@ -20,8 +20,10 @@ pub fn run_session<R: Wait, C: SessionCalls>(
     transactions: &[Transaction],
     most: Option<u32>,
 ) -> Result<(), StopCause>
+    requires session { C.holds session.old }
     requires idle { IsIdle (C.seen session.old) }
     requires narrow { list_all is_narrow_body transactions.now ≡ true }
+    ensures session { C.holds session.new }
     ensures follows { Follows transactions.now most (stop_in result) (C.seen session.old) (C.seen session.new) }
     ensures grounds { IfErr result (C.grounds session.new) }
 {

@@ -22,8 +22,10 @@ fn do_lines<R: Wait, C: SessionCalls>(
     session: &mut C,
     lines: &[Action],
 ) -> Result<(), TryEnd>
+    requires session { C.holds session.old }
     requires begun { (tx : TxId) × (birth : BirthIs) × ((C.seen session.old).standing ≡ Active tx birth 0 untouched) }
     requires narrow { list_all is_narrow lines.now ≡ true }
+    ensures session { C.holds session.new }
     ensures told { (tx : TxId) (birth : BirthIs) → (C.seen session.old).standing ≡ Active tx birth 0 untouched → LinesTold tx birth lines.now result (C.seen session.old) (C.seen session.new) }
     ensures grounds { OnRefusal (C.grounds session.new) result }
 {
@@ -42,8 +44,10 @@ fn do_lines<R: Wait, C: SessionCalls>(
 
 // Where a shard was down the transaction is dropped; whatever that is answered, it was the shard that stopped the session.
 fn drop_where_down<C: SessionCalls>(alloc: Global, session: &mut C, cause: StopCause)
+    requires session { C.holds session.old }
     requires active { IsActiveWhereDown (TryEnd.Stopped cause) (C.seen session.old) }
     requires grounds { C.grounds session.old cause }
+    ensures session { C.holds session.new }
     ensures told { GivenUp (TryEnd.Stopped cause) (C.seen session.old) (C.seen session.new) }
     ensures grounds { C.grounds session.new cause }
 {
@@ -56,8 +60,10 @@ fn drop_where_down<C: SessionCalls>(alloc: Global, session: &mut C, cause: StopC
 }
 
 fn give_up<C: SessionCalls>(alloc: Global, session: &mut C, end: TryEnd)
+    requires session { C.holds session.old }
     requires active { IsActiveWhereDown end (C.seen session.old) }
     requires grounds { OnStop (C.grounds session.old) end }
+    ensures session { C.holds session.new }
     ensures told { GivenUp end (C.seen session.old) (C.seen session.new) }
     ensures grounds { OnStop (C.grounds session.new) end }
 {
@@ -68,7 +74,9 @@ fn give_up<C: SessionCalls>(alloc: Global, session: &mut C, end: TryEnd)
 }
 
 fn commit<C: SessionCalls>(alloc: Global, session: &mut C) -> TryEnd
+    requires session { C.holds session.old }
     requires active { (tx : TxId) × (birth : BirthIs) × (nth : ℕ) × (touched : ℕ → Bool) × ((C.seen session.old).standing ≡ Active tx birth nth touched) }
+    ensures session { C.holds session.new }
     ensures told { (tx : TxId) (birth : BirthIs) (nth : ℕ) (touched : ℕ → Bool) → (C.seen session.old).standing ≡ Active tx birth nth touched → EndTold tx birth nth touched Ending.Commit result (C.seen session.old) (C.seen session.new) }
     ensures grounds { OnStop (C.grounds session.new) result }
 {
@@ -78,7 +86,9 @@ fn commit<C: SessionCalls>(alloc: Global, session: &mut C) -> TryEnd
 }
 
 fn abort<C: SessionCalls>(alloc: Global, session: &mut C) -> TryEnd
+    requires session { C.holds session.old }
     requires active { (tx : TxId) × (birth : BirthIs) × (nth : ℕ) × (touched : ℕ → Bool) × ((C.seen session.old).standing ≡ Active tx birth nth touched) }
+    ensures session { C.holds session.new }
     ensures told { (tx : TxId) (birth : BirthIs) (nth : ℕ) (touched : ℕ → Bool) → (C.seen session.old).standing ≡ Active tx birth nth touched → EndTold tx birth nth touched Ending.Abort result (C.seen session.old) (C.seen session.new) }
     ensures grounds { OnStop (C.grounds session.new) result }
 {
@@ -90,7 +100,9 @@ fn abort<C: SessionCalls>(alloc: Global, session: &mut C) -> TryEnd
 
 // The end that its lines ask for.
 fn end_as<C: SessionCalls>(alloc: Global, session: &mut C, ending: Ending) -> TryEnd
+    requires session { C.holds session.old }
     requires active { (tx : TxId) × (birth : BirthIs) × (nth : ℕ) × (touched : ℕ → Bool) × ((C.seen session.old).standing ≡ Active tx birth nth touched) }
+    ensures session { C.holds session.new }
     ensures told { (tx : TxId) (birth : BirthIs) (nth : ℕ) (touched : ℕ → Bool) → (C.seen session.old).standing ≡ Active tx birth nth touched → EndTold tx birth nth touched ending result (C.seen session.old) (C.seen session.new) }
     ensures grounds { OnStop (C.grounds session.new) result }
 {
@@ -108,8 +120,10 @@ pub(crate) fn run_try<R: Wait, C: SessionCalls>(
     session: &mut C,
     transaction: &Transaction,
 ) -> TryEnd
+    requires session { C.holds session.old }
     requires begun { (tx : TxId) × (birth : BirthIs) × ((C.seen session.old).standing ≡ Active tx birth 0 untouched) }
     requires narrow { list_all is_narrow transaction.now.actions ≡ true }
+    ensures session { C.holds session.new }
     ensures tried { (tx : TxId) (birth : BirthIs) → (C.seen session.old).standing ≡ Active tx birth 0 untouched → Tried transaction.now tx birth result (C.seen session.old) (C.seen session.new) }
     ensures grounds { OnStop (C.grounds session.new) result }
 {

@@ -1,3 +1,3 @@
 mod Retried
-mod Tries
-mod Sessions
+pub mod Tries
+pub mod Sessions

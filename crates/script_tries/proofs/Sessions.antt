@@ -16,7 +16,7 @@ use Rattle.script_lang.specs.Bodies.{Body}
 use Rattle.script_tries.specs.declared.ends.StopCause.{StopCause}
 use Rattle.script_tries.specs.declared.ends.TryEnd.{TryEnd}
 use Rattle.script_tries.specs.declared.ends.TryEnd.TheVariants as end
-use Rattle.script_tries.specs.Tries.{Try, IsTry, EndsBy, acknowledged, nothing, by_line, in_operation, at_request, at_look, down, unsettled, wanting_before, wanting_behind, worn_at_line}
+use Rattle.script_tries.specs.Tries.{Try, IsTry, EndsBy, acknowledged, nothing, by_line, in_operation, at_request, at_look, down, unsettled, wanting_before, wanting_behind, unanswered, worn_at_line}
 use Rattle.script_tries.specs.Sessions.{Transaction, IsTransaction, InTries, last, none_left, worn, further, is_to_retry, stopped_by, has_left, AreTransactions, all_done, not_begun, stopped, done, entries_of, tries_of}
 use Rattle.script_tries.specs.Laws.{TriesAreFew, IsBornSo, TriesHaveOneBirth, TransactionsHaveOwnBirths, Completes, IsComplete, SessionsGoThrough, SessionsTellTheirTries}
 use Rattle.script_tries.specs.Laws as laws
@@ -87,6 +87,7 @@ ended most count splits body tx birth answers before _ _ (at_look home cause ask
 ended most count splits body tx birth answers before _ _ (down n here drops u d) r s = absurd cc
 ended most count splits body tx birth answers before _ _ (unsettled n home asked all a) r s = absurd cc
 ended most count splits body tx birth answers before _ _ (wanting_before cause here w u) r s = absurd cc
+ended most count splits body tx birth answers before _ _ (unanswered op parts here next are) r s = absurd cc
 ended most count splits body tx birth answers before _ _ (wanting_behind cause home asked w all a) r s = absurd cc
 ended most count splits body tx birth answers before _ _ (worn_at_line at drops all d) r s = absurd cc
 

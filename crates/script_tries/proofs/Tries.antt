@@ -26,7 +26,7 @@ use Rattle.script_tries.specs.declared.ends.StopCause.{StopCause}
 use Rattle.script_tries.specs.declared.ends.TryEnd.{TryEnd}
 use Rattle.script_tries.specs.declared.ends.TryEnd.TheVariants as end
 use Rattle.script_tries.specs.Operations.{parts_of, IsPart, ArePartsAnswered, no_part, part, AreOperations, no_operation, operation, IsDeath}
-use Rattle.script_tries.specs.Tries.{Try, IsTry, IsDone, IsRequest, IsLook, AreDrops, IsUnderWay, operation_begun, request_next, EndsBy, acknowledged, nothing, by_line, in_operation, at_request, at_look, down, unsettled, wanting_before, wanting_behind, worn_at_line, is_want, ops_so_far}
+use Rattle.script_tries.specs.Tries.{Try, IsTry, IsDone, IsRequest, IsLook, AreDrops, IsUnderWay, operation_begun, request_next, EndsBy, acknowledged, nothing, by_line, in_operation, at_request, at_look, down, unsettled, wanting_before, wanting_behind, unanswered, worn_at_line, is_want, ops_so_far}
 use Rattle.script_tries.specs.Laws.{AcknowledgedDidTheirLines, all_parts, EntriesTellTheirLines, EntriesTellOfNoOther, is_drop, MayDrop, DropsHaveReasons, IsBornSo}
 
 -- ---- an acknowledged try
@@ -59,6 +59,7 @@ settled splits body tx birth answers before _ _ (at_look home cause asked told d
 settled splits body tx birth answers before _ _ (down n here drops u d) h = absurd cc
 settled splits body tx birth answers before _ _ (unsettled n home asked all a) h = absurd cc
 settled splits body tx birth answers before _ _ (wanting_before cause here w u) h = absurd cc
+settled splits body tx birth answers before _ _ (unanswered op parts here next are) h = absurd cc
 settled splits body tx birth answers before _ _ (wanting_behind cause home asked w all a) h = absurd cc
 settled splits body tx birth answers before _ _ (worn_at_line at drops all d) h = absurd cc
 
@@ -165,6 +166,7 @@ reasons splits body tx birth answers before _ _ (at_look home cause asked told d
 reasons splits body tx birth answers before _ _ (down n here drops u d) h = tt
 reasons splits body tx birth answers before _ _ (unsettled n home asked all a) h = absurd (both_ways (drops_in (asked ∷ [])) (one_more asked (Request tx a.touched) [] a.event refl refl) h)
 reasons splits body tx birth answers before _ _ (wanting_before cause here w u) h = wanted body cause here w (way_drops splits body tx birth answers here u) h
+reasons splits body tx birth answers before _ _ (unanswered op parts here next are) h = absurd (both_ways (drops_in here) (parts_drop tx birth (suc (length answers)) (parts_of splits op) parts here are) h)
 reasons splits body tx birth answers before _ _ (wanting_behind cause home asked w all a) h = wanted body cause (asked ∷ []) w (one_more asked (Request tx a.touched) [] a.event refl refl) h
 reasons splits body tx birth answers before _ _ (worn_at_line at drops all d) h = all.ending_is
 
@@ -229,6 +231,7 @@ behind_born splits body tx birth answers before _ _ (down n here drops u d) =
     all_append (λ e. IsBornSo birth (e.1).event) here drops (way_born splits body tx birth answers here u) (drops_born birth tx (before ++ here) _ drops d)
 behind_born splits body tx birth answers before _ _ (unsettled n home asked all a) = (asked_born birth tx home _ asked a, tt)
 behind_born splits body tx birth answers before _ _ (wanting_before cause here w u) = way_born splits body tx birth answers here u
+behind_born splits body tx birth answers before _ _ (unanswered op parts here next are) = parts_born tx birth (suc (length answers)) (parts_of splits op) parts here are
 behind_born splits body tx birth answers before _ _ (wanting_behind cause home asked w all a) = (asked_born birth tx home _ asked a, tt)
 behind_born splits body tx birth answers before _ _ (worn_at_line at drops all d) = drops_born birth tx before _ drops d
 
@@ -294,6 +297,7 @@ module _ (tx other : TxId) (apart : tx_same tx other ≡ false) where
   behind_silent splits body birth answers before _ _ (down n here drops u d) = both_silent tx here drops (way_silent splits body birth answers here u) (drops_silent (before ++ here) _ drops d)
   behind_silent splits body birth answers before _ _ (unsettled n home asked all a) = (asked_silent home _ asked a, tt)
   behind_silent splits body birth answers before _ _ (wanting_before cause here w u) = way_silent splits body birth answers here u
+  behind_silent splits body birth answers before _ _ (unanswered op parts here next are) = parts_silent birth (suc (length answers)) (parts_of splits op) parts here are
   behind_silent splits body birth answers before _ _ (wanting_behind cause home asked w all a) = (asked_silent home _ asked a, tt)
   behind_silent splits body birth answers before _ _ (worn_at_line at drops all d) = drops_silent before _ drops d
 

@@ -16,7 +16,7 @@ use Rattle.script_lang.specs.declared.actions.Ending.{Ending}
 use Rattle.script_lang.specs.declared.actions.Ending.TheVariants.{Commit, Abort}
 use Rattle.script_lang.specs.Bodies.{Body}
 use Rattle.script_lang.specs.Following.{all_ops, next_op}
-use Rattle.script_tries.specs.Operations.{AreOperations, IsBegun, IsDeath}
+use Rattle.script_tries.specs.Operations.{AreOperations, ArePartsAnswered, IsBegun, IsDeath, parts_of}
 use Rattle.script_tries.specs.declared.ends.StopCause.{StopCause}
 use Rattle.script_tries.specs.declared.ends.StopCause.TheVariants as stop
 use Rattle.script_tries.specs.declared.ends.TryEnd.{TryEnd}
@@ -117,6 +117,10 @@ pub data EndsBy (splits : List ℕ) (body : Body) (tx : TxId) (birth : Birth) (a
   wanting_behind :
       (cause : StopCause) (home : ℕ) (asked : ℕ × Entry) → is_want cause ≡ true → IsDone body Commit answers → IsRequest tx home Asked asked
       → EndsBy splits body tx birth answers before (end.Stopped cause) (asked ∷ [])
+  -- each part of the next operation was answered, but memory was wanting for its answer
+  unanswered :
+      (op : Op) (parts : List Answer) (here : History) → next_op body.actions answers ≡ Some op
+      → ArePartsAnswered tx birth (suc (length answers)) (parts_of splits op) parts here → EndsBy splits body tx birth answers before (end.Stopped stop.Memory) here
   -- stamps were wanting at the line `abort`
   worn_at_line :
       (at : ℕ) (drops : History) → IsDone body Abort answers → AreDrops tx before None drops

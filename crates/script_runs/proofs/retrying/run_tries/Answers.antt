@@ -4,39 +4,45 @@ use Rattle.script_runs.specs.Ran.{NextIs}
 use Rattle.script_runs.proofs.retrying.run_tries.Goals as goal
 
 pub loop-init : goal.loop-init
-loop-init g c tx birth active serial run session = no_try c.args.transaction.now tx birth c.args.most (g.C.SessionCalls.seen c.args.session.now) active serial run session
+loop-init g c = record {
+  session = c.requires.session;
+  trying = λ tx birth active serial run session. no_try c.args.transaction.now tx birth c.args.most (g.C.SessionCalls.seen c.args.session.now) active serial run session;
+}
 
 pub run_try-end-requires-clause-begun : goal.run_try-end-requires-clause-begun
 run_try-end-requires-clause-begun g c =
     let b = c.requires.begun in
-    let d = c.loop.invariant b.0 b.1 b.2 b.3 b.4 b.5 in
+    let d = c.loop.invariant.trying b.0 b.1 b.2 b.3 b.4 b.5 in
     (d.tx, b.1, d.active)
 
-pub retry-requires : goal.retry-requires
-retry-requires g c =
+pub retry-requires-clause-ended : goal.retry-requires-clause-ended
+retry-requires-clause-ended g c =
     let b = c.requires.begun in
-    let d = c.loop.invariant b.0 b.1 b.2 b.3 b.4 b.5 in
+    let d = c.loop.invariant.trying b.0 b.1 b.2 b.3 b.4 b.5 in
     let t = c.run_try-end.ensures.tried d.tx b.1 d.active in
     let p = subst (NextIs c.run_try-end.result c.args.most c.loop.tried) c.in-Again.is c.next_after.ensures in
     (b.1, can_retry b.1 c.run_try-end.result (g.C.SessionCalls.seen c.run_try-end.new.session).standing t.left p.0)
 
 pub loop-preserved : goal.loop-preserved
-loop-preserved g c tx birth active serial run session =
-    let d = c.loop.invariant tx birth active serial run session in
-    let t = c.run_try-end.ensures.tried d.tx birth d.active in
-    tries_go_on c.args.transaction.now tx birth c.args.most c.loop.tried c.next_number-tried.result c.run_try-end.result c.next_after.result (g.C.SessionCalls.seen c.args.session.now) (g.C.SessionCalls.seen c.loop.session)
-    (g.C.SessionCalls.seen c.run_try-end.new.session) (g.C.SessionCalls.seen c.retry.new.self) d t c.in-Again.is c.next_after.ensures c.in-Ok.ensures.told c.next_number-tried.ensures
+loop-preserved g c = record {
+  session = c.in-Ok.ensures.session;
+  trying = λ tx birth active serial run session.
+      let d = c.loop.invariant.trying tx birth active serial run session in
+      let t = c.run_try-end.ensures.tried d.tx birth d.active in
+      tries_go_on c.args.transaction.now tx birth c.args.most c.loop.tried c.next_number-tried.result c.run_try-end.result c.next_after.result (g.C.SessionCalls.seen c.args.session.now) (g.C.SessionCalls.seen c.loop.session)
+      (g.C.SessionCalls.seen c.run_try-end.new.session) (g.C.SessionCalls.seen c.retry.new.self) d t c.in-Again.is c.next_after.ensures c.in-Ok.ensures.told c.next_number-tried.ensures;
+}
 
 pub returns-in-Err-clause-told : goal.returns-in-Err-clause-told
 returns-in-Err-clause-told g c tx birth active serial run session =
-    let d = c.loop.invariant tx birth active serial run session in
+    let d = c.loop.invariant.trying tx birth active serial run session in
     let t = c.run_try-end.ensures.tried d.tx birth d.active in
     tries_worn c.args.transaction.now tx birth c.args.most c.loop.tried c.run_try-end.result c.next_after.result c.in-Err.cause (g.C.SessionCalls.seen c.args.session.now) (g.C.SessionCalls.seen c.loop.session)
     (g.C.SessionCalls.seen c.run_try-end.new.session) (g.C.SessionCalls.seen c.retry.new.self) d t c.in-Again.is c.next_after.ensures c.in-Err.ensures.told
 
 pub returns-in-Done-clause-told : goal.returns-in-Done-clause-told
 returns-in-Done-clause-told g c tx birth active serial run session =
-    let d = c.loop.invariant tx birth active serial run session in
+    let d = c.loop.invariant.trying tx birth active serial run session in
     let t = c.run_try-end.ensures.tried d.tx birth d.active in
     tries_done c.args.transaction.now tx birth c.args.most c.loop.tried c.run_try-end.result c.next_after.result (g.C.SessionCalls.seen c.args.session.now) (g.C.SessionCalls.seen c.loop.session)
     (g.C.SessionCalls.seen c.run_try-end.new.session) d t c.in-Done.is c.next_after.ensures
@@ -44,13 +50,13 @@ returns-in-Done-clause-told g c tx birth active serial run session =
 pub returns-in-Done-clause-idle : goal.returns-in-Done-clause-idle
 returns-in-Done-clause-idle g c =
     let b = c.requires.begun in
-    let d = c.loop.invariant b.0 b.1 b.2 b.3 b.4 b.5 in
+    let d = c.loop.invariant.trying b.0 b.1 b.2 b.3 b.4 b.5 in
     let t = c.run_try-end.ensures.tried d.tx b.1 d.active in
     idle_when_done b.1 c.run_try-end.result c.args.most c.loop.tried c.next_after.result (g.C.SessionCalls.seen c.run_try-end.new.session) t.left c.in-Done.is c.next_after.ensures
 
 pub returns-in-Stop-clause-told : goal.returns-in-Stop-clause-told
 returns-in-Stop-clause-told g c tx birth active serial run session =
-    let d = c.loop.invariant tx birth active serial run session in
+    let d = c.loop.invariant.trying tx birth active serial run session in
     let t = c.run_try-end.ensures.tried d.tx birth d.active in
     tries_stopped c.args.transaction.now tx birth c.args.most c.loop.tried c.run_try-end.result c.next_after.result c.in-Stop.cause (g.C.SessionCalls.seen c.args.session.now) (g.C.SessionCalls.seen c.loop.session)
     (g.C.SessionCalls.seen c.run_try-end.new.session) d t c.in-Stop.is c.next_after.ensures

@@ -8,5 +8,9 @@ use Rattle.script_runs.proofs.retrying.run_tries.Given as goal
 abbrev pub invariant-loop : goal.invariant-loop
 invariant-loop g l =
     let u = g.C.SessionCalls.seen l.fn.session in
-    (tx : TxId) (birth : BirthIs) → u.standing ≡ Active tx birth 0 untouched → tx.serial ≡ u.serial → tx.run ≡ u.run → tx.session ≡ u.walker
-    → Trying l.transaction tx birth l.most l.tried u (g.C.SessionCalls.seen l.session)
+    record {
+      session : g.C.SessionCalls.holds l.session;
+      trying :
+          (tx : TxId) (birth : BirthIs) → u.standing ≡ Active tx birth 0 untouched → tx.serial ≡ u.serial → tx.run ≡ u.run → tx.session ≡ u.walker
+          → Trying l.transaction tx birth l.most l.tried u (g.C.SessionCalls.seen l.session);
+    }

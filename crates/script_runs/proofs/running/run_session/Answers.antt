@@ -10,6 +10,7 @@ returns-in-Err-clause-follows g c =
 pub loop-transaction-preserved : goal.loop-transaction-preserved
 loop-transaction-preserved g c =
     record {
+      session = c.in-Ok.ensures.session;
       idle = c.in-Ok.ensures.idle;
       done =
           goes_on_at c.args.transactions.now c.loop-transaction.transaction-index c.transaction-item.result c.args.most (g.C.SessionCalls.seen c.args.session.now) (g.C.SessionCalls.seen c.loop-transaction.session)

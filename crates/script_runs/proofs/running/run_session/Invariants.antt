@@ -7,6 +7,7 @@ use Rattle.script_runs.proofs.running.run_session.Given as goal
 abbrev pub invariant-loop-transaction : goal.invariant-loop-transaction
 invariant-loop-transaction g l =
     record {
+      session : g.C.SessionCalls.holds l.session;
       idle : IsIdle (g.C.SessionCalls.seen l.session);
       done : Running (take l.transaction-index l.transactions) l.most (g.C.SessionCalls.seen l.fn.session) (g.C.SessionCalls.seen l.session);
     }

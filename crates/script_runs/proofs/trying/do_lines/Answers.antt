@@ -5,46 +5,55 @@ use Rattle.script_runs.proofs.Doing.{nothing_done, one_done, next_has_range}
 use Rattle.script_runs.proofs.trying.do_lines.Goals as goal
 
 pub loop-init : goal.loop-init
-loop-init g c tx birth is = nothing_done tx birth c.args.lines.now (g.C.SessionCalls.seen c.args.session.now) c.new-following.result is c.new-following.ensures
+loop-init g c = record {
+  session = c.requires.session;
+  doing = λ tx birth is. nothing_done tx birth c.args.lines.now (g.C.SessionCalls.seen c.args.session.now) c.new-following.result is c.new-following.ensures;
+}
 
 pub returns-in_default-clause-told : goal.returns-in_default-clause-told
 returns-in_default-clause-told g c tx birth is =
-    let d = c.loop.invariant tx birth is in
+    let d = c.loop.invariant.doing tx birth is in
     (d.done, sym (c.next-in-loop.ensures c.args.lines.now d.done.answers d.place) ∙ c.in_default.is)
 
 pub operate-requires-clause-active : goal.operate-requires-clause-active
 operate-requires-clause-active g c =
     let b = c.requires.begun in
-    let d = c.loop.invariant b.0 b.1 b.2 in
+    let d = c.loop.invariant.doing b.0 b.1 b.2 in
     (b.0, b.1, length d.done.answers, d.done.touched, d.done.standing_is)
 
 pub operate-requires-clause-range : goal.operate-requires-clause-range
 operate-requires-clause-range g c =
     let b = c.requires.begun in
-    let d = c.loop.invariant b.0 b.1 b.2 in
+    let d = c.loop.invariant.doing b.0 b.1 b.2 in
     next_has_range c.args.lines.now d.done.answers c.in-Some-next.op c.requires.narrow (sym (c.next-in-loop.ensures c.args.lines.now d.done.answers d.place) ∙ c.in-Some-next.is)
 
 pub loop-preserved-in-Ok : goal.loop-preserved-in-Ok
-loop-preserved-in-Ok g c tx birth is =
-    let d = c.loop.invariant tx birth is in
-    let next = sym (c.next-in-loop.ensures c.args.lines.now d.done.answers d.place) ∙ c.in-Some-next.is in
-    let t = c.in-Ok.ensures.told tx birth (length d.done.answers) d.done.touched d.done.standing_is in
-    let place = c.answered.ensures c.args.lines.now d.done.answers d.place (slice_get_within (all_ops c.args.lines.now d.done.answers) (length d.done.answers) c.in-Some-next.op next) in
-    one_done tx birth c.args.lines.now (g.C.SessionCalls.seen c.args.session.now) (g.C.SessionCalls.seen c.loop.session) (g.C.SessionCalls.seen c.operate.new.self) c.loop.following c.answered.new.self
-    c.in-Some-next.op c.in-Ok.answer d next t.0 t.1 t.2 t.3 t.4 t.5 place
+loop-preserved-in-Ok g c = record {
+  session = c.in-Ok.ensures.session;
+  doing = λ tx birth is.
+      let d = c.loop.invariant.doing tx birth is in
+      let next = sym (c.next-in-loop.ensures c.args.lines.now d.done.answers d.place) ∙ c.in-Some-next.is in
+      let t = c.in-Ok.ensures.told tx birth (length d.done.answers) d.done.touched d.done.standing_is in
+      let place = c.answered.ensures c.args.lines.now d.done.answers d.place (slice_get_within (all_ops c.args.lines.now d.done.answers) (length d.done.answers) c.in-Some-next.op next) in
+      one_done tx birth c.args.lines.now (g.C.SessionCalls.seen c.args.session.now) (g.C.SessionCalls.seen c.loop.session) (g.C.SessionCalls.seen c.operate.new.self) c.loop.following c.answered.new.self
+      c.in-Some-next.op c.in-Ok.answer d next t.0 t.1 t.2 t.3 t.4 t.5 place;
+}
 
 pub loop-preserved : goal.loop-preserved
-loop-preserved g c tx birth is =
-    let d = c.loop.invariant tx birth is in
-    let next = sym (c.next-in-loop.ensures c.args.lines.now d.done.answers d.place) ∙ c.in-Some-next.is in
-    let t = c.in-Ok.ensures.told tx birth (length d.done.answers) d.done.touched d.done.standing_is in
-    let place = c.answered.ensures c.args.lines.now d.done.answers d.place (slice_get_within (all_ops c.args.lines.now d.done.answers) (length d.done.answers) c.in-Some-next.op next) in
-    one_done tx birth c.args.lines.now (g.C.SessionCalls.seen c.args.session.now) (g.C.SessionCalls.seen c.loop.session) (g.C.SessionCalls.seen c.operate.new.self) c.loop.following c.answered.new.self
-    c.in-Some-next.op c.in-Ok.answer d next t.0 t.1 t.2 t.3 t.4 t.5 place
+loop-preserved g c = record {
+  session = c.in-Ok.ensures.session;
+  doing = λ tx birth is.
+      let d = c.loop.invariant.doing tx birth is in
+      let next = sym (c.next-in-loop.ensures c.args.lines.now d.done.answers d.place) ∙ c.in-Some-next.is in
+      let t = c.in-Ok.ensures.told tx birth (length d.done.answers) d.done.touched d.done.standing_is in
+      let place = c.answered.ensures c.args.lines.now d.done.answers d.place (slice_get_within (all_ops c.args.lines.now d.done.answers) (length d.done.answers) c.in-Some-next.op next) in
+      one_done tx birth c.args.lines.now (g.C.SessionCalls.seen c.args.session.now) (g.C.SessionCalls.seen c.loop.session) (g.C.SessionCalls.seen c.operate.new.self) c.loop.following c.answered.new.self
+      c.in-Some-next.op c.in-Ok.answer d next t.0 t.1 t.2 t.3 t.4 t.5 place;
+}
 
 pub returns-in-Err-clause-told : goal.returns-in-Err-clause-told
 returns-in-Err-clause-told g c tx birth is =
-    let d = c.loop.invariant tx birth is in (
+    let d = c.loop.invariant.doing tx birth is in (
       g.C.SessionCalls.seen c.loop.session,
       d.done,
       c.in-Some-next.op,

@@ -7,5 +7,9 @@ use Rattle.script_runs.proofs.trying.do_lines.Given as goal
 
 abbrev pub invariant-loop : goal.invariant-loop
 invariant-loop g l =
-    (tx : TxId) (birth : BirthIs) → (g.C.SessionCalls.seen l.fn.session).standing ≡ Active tx birth 0 untouched
-    → Doing tx birth l.lines (g.C.SessionCalls.seen l.fn.session) (g.C.SessionCalls.seen l.session) l.following
+    record {
+      session : g.C.SessionCalls.holds l.session;
+      doing :
+          (tx : TxId) (birth : BirthIs) → (g.C.SessionCalls.seen l.fn.session).standing ≡ Active tx birth 0 untouched
+          → Doing tx birth l.lines (g.C.SessionCalls.seen l.fn.session) (g.C.SessionCalls.seen l.session) l.following;
+    }

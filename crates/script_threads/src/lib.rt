@@ -1,0 +1,11 @@
+//! Runs the sessions of a script beside each other, each on a thread of its own.
+//!
+//! Of each it says what `script_runs` says of one session: what it adds to its entries are its transactions in order, each in its
+//! tries, until all are done or it is stopped. It stands on that crate and on std's calls of a closure at each element of a slice.
+#![tactic(auto)]
+
+mod seats;
+#[cfg(test)]
+mod tests;
+
+pub use seats::{Seat, run_all};

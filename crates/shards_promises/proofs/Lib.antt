@@ -1,0 +1,5 @@
+mod Down
+mod Choosing
+mod Promising
+mod Entries
+mod Completing

@@ -1,0 +1,5 @@
+pub mod Ended
+pub mod Sessions
+pub mod Promises
+pub mod Completing
+pub mod Down
