@@ -13,6 +13,11 @@ use std::alloc::Global;
 
 /// A session of a store. What its calls add to its entries is told by their answers, in the words of tries.
 pub trait SessionCalls {
+    /// What a session stands on, which none of its calls changes.
+    type Base;
+
+    ghost base: { Self → Self.Base };
+
     ghost seen: { Self → SeenIs };
 
     /// What holds of a session between its calls.
@@ -26,6 +31,7 @@ pub trait SessionCalls {
         requires session { holds self.old }
         requires idle { (again : Option BirthIs) × ((seen self.old).standing ≡ Idle again) }
         ensures session { holds self.new }
+        ensures base { base self.new ≡ base self.old }
         ensures told { BeginTold result (seen self.old) (seen self.new) }
         ensures grounds { IfErr result (grounds self.new) };
 
@@ -34,6 +40,7 @@ pub trait SessionCalls {
         requires session { holds self.old }
         requires ended { (birth : BirthIs) × ((seen self.old).standing ≡ Idle (Some birth)) }
         ensures session { holds self.new }
+        ensures base { base self.new ≡ base self.old }
         ensures told { (birth : BirthIs) → (seen self.old).standing ≡ Idle (Some birth) → RetryTold birth result (seen self.old) (seen self.new) }
         ensures grounds { IfErr result (grounds self.new) };
 
@@ -43,6 +50,7 @@ pub trait SessionCalls {
         requires active { (tx : TxId) × (birth : BirthIs) × (nth : ℕ) × (touched : ℕ → Bool) × ((seen self.old).standing ≡ Active tx birth nth touched) }
         requires range { has_range op ≡ true }
         ensures session { holds self.new }
+        ensures base { base self.new ≡ base self.old }
         ensures told { (tx : TxId) (birth : BirthIs) (nth : ℕ) (touched : ℕ → Bool) → (seen self.old).standing ≡ Active tx birth nth touched → OperateTold tx birth nth touched op result (seen self.old) (seen self.new) }
         ensures grounds { OnRefusal (grounds self.new) result };
 
@@ -51,6 +59,7 @@ pub trait SessionCalls {
         requires session { holds self.old }
         requires active { (tx : TxId) × (birth : BirthIs) × (nth : ℕ) × (touched : ℕ → Bool) × ((seen self.old).standing ≡ Active tx birth nth touched) }
         ensures session { holds self.new }
+        ensures base { base self.new ≡ base self.old }
         ensures told { (tx : TxId) (birth : BirthIs) (nth : ℕ) (touched : ℕ → Bool) → (seen self.old).standing ≡ Active tx birth nth touched → CommitTold tx birth nth touched result (seen self.old) (seen self.new) }
         ensures grounds { OnStop (grounds self.new) result };
 
@@ -59,6 +68,7 @@ pub trait SessionCalls {
         requires session { holds self.old }
         requires active { (tx : TxId) × (birth : BirthIs) × (nth : ℕ) × (touched : ℕ → Bool) × ((seen self.old).standing ≡ Active tx birth nth touched) }
         ensures session { holds self.new }
+        ensures base { base self.new ≡ base self.old }
         ensures told { (tx : TxId) (birth : BirthIs) (nth : ℕ) (touched : ℕ → Bool) → (seen self.old).standing ≡ Active tx birth nth touched → AbortTold tx birth touched result (seen self.old) (seen self.new) }
         ensures grounds { IfErr result (grounds self.new) }
         ensures keeps { (cause : CauseIs) → grounds self.old cause → grounds self.new cause };

@@ -83,6 +83,7 @@ fn run_tries<R: Wait, C: SessionCalls>(
     requires begun { (tx : TxId) × (birth : BirthIs) × ((C.seen session.old).standing ≡ Active tx birth 0 untouched) × (tx.serial ≡ (C.seen session.old).serial) × (tx.run ≡ (C.seen session.old).run) × (tx.session ≡ (C.seen session.old).walker) }
     requires narrow { list_all is_narrow transaction.now.actions ≡ true }
     ensures session { C.holds session.new }
+    ensures base { C.base session.new ≡ C.base session.old }
     ensures told { (tx : TxId) (birth : BirthIs) → (C.seen session.old).standing ≡ Active tx birth 0 untouched → tx.serial ≡ (C.seen session.old).serial → tx.run ≡ (C.seen session.old).run → tx.session ≡ (C.seen session.old).walker → InTriesTold transaction.now tx birth most (stop_in result) (C.seen session.old) (C.seen session.new) }
     ensures idle { IdleAfter result (C.seen session.new) }
     ensures grounds { IfErr result (C.grounds session.new) }
@@ -115,6 +116,7 @@ pub(crate) fn run_transaction<R: Wait, C: SessionCalls>(
     requires idle { IsIdle (C.seen session.old) }
     requires narrow { list_all is_narrow transaction.now.actions ≡ true }
     ensures session { C.holds session.new }
+    ensures base { C.base session.new ≡ C.base session.old }
     ensures ran { Ran transaction.now most (stop_in result) (C.seen session.old) (C.seen session.new) ⊎ NotBegun (stop_in result) (C.seen session.old) (C.seen session.new) }
     ensures idle { IdleAfter result (C.seen session.new) }
     ensures grounds { IfErr result (C.grounds session.new) }

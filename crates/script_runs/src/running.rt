@@ -24,6 +24,7 @@ pub fn run_session<R: Wait, C: SessionCalls>(
     requires idle { IsIdle (C.seen session.old) }
     requires narrow { list_all is_narrow_body transactions.now ≡ true }
     ensures session { C.holds session.new }
+    ensures base { C.base session.new ≡ C.base session.old }
     ensures follows { Follows transactions.now most (stop_in result) (C.seen session.old) (C.seen session.new) }
     ensures grounds { IfErr result (C.grounds session.new) }
 {

@@ -26,6 +26,7 @@ fn do_lines<R: Wait, C: SessionCalls>(
     requires begun { (tx : TxId) × (birth : BirthIs) × ((C.seen session.old).standing ≡ Active tx birth 0 untouched) }
     requires narrow { list_all is_narrow lines.now ≡ true }
     ensures session { C.holds session.new }
+    ensures base { C.base session.new ≡ C.base session.old }
     ensures told { (tx : TxId) (birth : BirthIs) → (C.seen session.old).standing ≡ Active tx birth 0 untouched → LinesTold tx birth lines.now result (C.seen session.old) (C.seen session.new) }
     ensures grounds { OnRefusal (C.grounds session.new) result }
 {
@@ -48,6 +49,7 @@ fn drop_where_down<C: SessionCalls>(alloc: Global, session: &mut C, cause: StopC
     requires active { IsActiveWhereDown (TryEnd.Stopped cause) (C.seen session.old) }
     requires grounds { C.grounds session.old cause }
     ensures session { C.holds session.new }
+    ensures base { C.base session.new ≡ C.base session.old }
     ensures told { GivenUp (TryEnd.Stopped cause) (C.seen session.old) (C.seen session.new) }
     ensures grounds { C.grounds session.new cause }
 {
@@ -64,6 +66,7 @@ fn give_up<C: SessionCalls>(alloc: Global, session: &mut C, end: TryEnd)
     requires active { IsActiveWhereDown end (C.seen session.old) }
     requires grounds { OnStop (C.grounds session.old) end }
     ensures session { C.holds session.new }
+    ensures base { C.base session.new ≡ C.base session.old }
     ensures told { GivenUp end (C.seen session.old) (C.seen session.new) }
     ensures grounds { OnStop (C.grounds session.new) end }
 {
@@ -77,6 +80,7 @@ fn commit<C: SessionCalls>(alloc: Global, session: &mut C) -> TryEnd
     requires session { C.holds session.old }
     requires active { (tx : TxId) × (birth : BirthIs) × (nth : ℕ) × (touched : ℕ → Bool) × ((C.seen session.old).standing ≡ Active tx birth nth touched) }
     ensures session { C.holds session.new }
+    ensures base { C.base session.new ≡ C.base session.old }
     ensures told { (tx : TxId) (birth : BirthIs) (nth : ℕ) (touched : ℕ → Bool) → (C.seen session.old).standing ≡ Active tx birth nth touched → EndTold tx birth nth touched Ending.Commit result (C.seen session.old) (C.seen session.new) }
     ensures grounds { OnStop (C.grounds session.new) result }
 {
@@ -89,6 +93,7 @@ fn abort<C: SessionCalls>(alloc: Global, session: &mut C) -> TryEnd
     requires session { C.holds session.old }
     requires active { (tx : TxId) × (birth : BirthIs) × (nth : ℕ) × (touched : ℕ → Bool) × ((C.seen session.old).standing ≡ Active tx birth nth touched) }
     ensures session { C.holds session.new }
+    ensures base { C.base session.new ≡ C.base session.old }
     ensures told { (tx : TxId) (birth : BirthIs) (nth : ℕ) (touched : ℕ → Bool) → (C.seen session.old).standing ≡ Active tx birth nth touched → EndTold tx birth nth touched Ending.Abort result (C.seen session.old) (C.seen session.new) }
     ensures grounds { OnStop (C.grounds session.new) result }
 {
@@ -103,6 +108,7 @@ fn end_as<C: SessionCalls>(alloc: Global, session: &mut C, ending: Ending) -> Tr
     requires session { C.holds session.old }
     requires active { (tx : TxId) × (birth : BirthIs) × (nth : ℕ) × (touched : ℕ → Bool) × ((C.seen session.old).standing ≡ Active tx birth nth touched) }
     ensures session { C.holds session.new }
+    ensures base { C.base session.new ≡ C.base session.old }
     ensures told { (tx : TxId) (birth : BirthIs) (nth : ℕ) (touched : ℕ → Bool) → (C.seen session.old).standing ≡ Active tx birth nth touched → EndTold tx birth nth touched ending result (C.seen session.old) (C.seen session.new) }
     ensures grounds { OnStop (C.grounds session.new) result }
 {
@@ -124,6 +130,7 @@ pub(crate) fn run_try<R: Wait, C: SessionCalls>(
     requires begun { (tx : TxId) × (birth : BirthIs) × ((C.seen session.old).standing ≡ Active tx birth 0 untouched) }
     requires narrow { list_all is_narrow transaction.now.actions ≡ true }
     ensures session { C.holds session.new }
+    ensures base { C.base session.new ≡ C.base session.old }
     ensures tried { (tx : TxId) (birth : BirthIs) → (C.seen session.old).standing ≡ Active tx birth 0 untouched → Tried transaction.now tx birth result (C.seen session.old) (C.seen session.new) }
     ensures grounds { OnStop (C.grounds session.new) result }
 {

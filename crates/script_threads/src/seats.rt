@@ -31,6 +31,7 @@ fn run_one<R: Wait, C: SessionCalls>(
     requires idle { IsIdle (C.seen seat.old.session) }
     requires narrow { list_all is_narrow_body seat.old.transactions.now ≡ true }
     ensures session { C.holds seat.new.session }
+    ensures base { C.base seat.new.session ≡ C.base seat.old.session }
     ensures transactions { seat.new.transactions.now ≡ seat.old.transactions.now }
     ensures follows { Follows seat.old.transactions.now most (stop_in seat.new.ended) (C.seen seat.old.session) (C.seen seat.new.session) }
     ensures grounds { IfErr seat.new.ended (C.grounds seat.new.session) }
@@ -51,6 +52,7 @@ pub fn run_all<R: Threads + Wait + Sync, C: SessionCalls + Send>(
     requires idle { (k : ℕ) (d : _) → k < length seats.old → IsIdle (C.seen (slice_index_or seats.old k d).session) }
     requires narrow { (k : ℕ) (d : _) → k < length seats.old → list_all is_narrow_body (slice_index_or seats.old k d).transactions.now ≡ true }
     ensures session { (k : ℕ) (d : _) → k < length seats.old → C.holds (slice_index_or seats.new k d).session }
+    ensures base { (k : ℕ) (d : _) → k < length seats.old → C.base (slice_index_or seats.new k d).session ≡ C.base (slice_index_or seats.old k d).session }
     ensures transactions { (k : ℕ) (d : _) → k < length seats.old → (slice_index_or seats.new k d).transactions.now ≡ (slice_index_or seats.old k d).transactions.now }
     ensures follows { (k : ℕ) (d : _) → k < length seats.old → Follows (slice_index_or seats.old k d).transactions.now most (stop_in (slice_index_or seats.new k d).ended) (C.seen (slice_index_or seats.old k d).session) (C.seen (slice_index_or seats.new k d).session) }
     ensures grounds { (k : ℕ) (d : _) → k < length seats.old → IfErr (slice_index_or seats.new k d).ended (C.grounds (slice_index_or seats.new k d).session) }
@@ -64,6 +66,7 @@ pub fn run_all<R: Threads + Wait + Sync, C: SessionCalls + Send>(
         requires idle { IsIdle (C.seen seat.now.session) }
         requires narrow { list_all is_narrow_body seat.now.transactions.now ≡ true }
         ensures session { C.holds seat.exit.now.session }
+        ensures base { C.base seat.exit.now.session ≡ C.base seat.entry.now.session }
         ensures transactions { seat.exit.now.transactions.now ≡ seat.entry.now.transactions.now }
         ensures follows { Follows seat.entry.now.transactions.now most (stop_in seat.exit.now.ended) (C.seen seat.entry.now.session) (C.seen seat.exit.now.session) }
         ensures grounds { IfErr seat.exit.now.ended (C.grounds seat.exit.now.session) }

@@ -1,4 +1,4 @@
-use Rattle.std.proofs.Common.{subst}
+use Rattle.std.proofs.Common.{◌∙◌, refl, subst}
 use Rattle.script_runs.proofs.Tries.{no_try, tries_done, tries_stopped, tries_worn, tries_go_on, can_retry, idle_when_done}
 use Rattle.script_runs.specs.Ran.{NextIs}
 use Rattle.script_runs.proofs.retrying.run_tries.Goals as goal
@@ -6,6 +6,7 @@ use Rattle.script_runs.proofs.retrying.run_tries.Goals as goal
 pub loop-init : goal.loop-init
 loop-init g c = record {
   session = c.requires.session;
+  base = refl;
   trying = λ tx birth active serial run session. no_try c.args.transaction.now tx birth c.args.most (g.C.SessionCalls.seen c.args.session.now) active serial run session;
 }
 
@@ -26,6 +27,7 @@ retry-requires-clause-ended g c =
 pub loop-preserved : goal.loop-preserved
 loop-preserved g c = record {
   session = c.in-Ok.ensures.session;
+  base = c.in-Ok.ensures.base ∙ (c.run_try-end.ensures.base ∙ c.loop.invariant.base);
   trying = λ tx birth active serial run session.
       let d = c.loop.invariant.trying tx birth active serial run session in
       let t = c.run_try-end.ensures.tried d.tx birth d.active in

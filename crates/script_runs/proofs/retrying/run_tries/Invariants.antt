@@ -10,6 +10,7 @@ invariant-loop g l =
     let u = g.C.SessionCalls.seen l.fn.session in
     record {
       session : g.C.SessionCalls.holds l.session;
+      base : g.C.SessionCalls.base l.session ≡ g.C.SessionCalls.base l.fn.session;
       trying :
           (tx : TxId) (birth : BirthIs) → u.standing ≡ Active tx birth 0 untouched → tx.serial ≡ u.serial → tx.run ≡ u.run → tx.session ≡ u.walker
           → Trying l.transaction tx birth l.most l.tried u (g.C.SessionCalls.seen l.session);

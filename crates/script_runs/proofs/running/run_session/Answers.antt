@@ -1,4 +1,4 @@
-use Rattle.std.proofs.Common.{arith}
+use Rattle.std.proofs.Common.{◌∙◌, arith}
 use Rattle.script_runs.proofs.Sessions.{goes_on_at, stops_at, ends_at}
 use Rattle.script_runs.proofs.running.run_session.Goals as goal
 
@@ -11,6 +11,7 @@ pub loop-transaction-preserved : goal.loop-transaction-preserved
 loop-transaction-preserved g c =
     record {
       session = c.in-Ok.ensures.session;
+      base = c.in-Ok.ensures.base ∙ c.loop-transaction.invariant.base;
       idle = c.in-Ok.ensures.idle;
       done =
           goes_on_at c.args.transactions.now c.loop-transaction.transaction-index c.transaction-item.result c.args.most (g.C.SessionCalls.seen c.args.session.now) (g.C.SessionCalls.seen c.loop-transaction.session)

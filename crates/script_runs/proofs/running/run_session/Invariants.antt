@@ -1,4 +1,4 @@
-use Rattle.std.proofs.Common.{take}
+use Rattle.std.proofs.Common.{◌≡◌, take}
 use Rattle.script_runs.specs.Ran.{IsIdle}
 use Rattle.script_runs.proofs.Sessions.{Running}
 use Rattle.script_runs.proofs.running.run_session.Given as goal
@@ -8,6 +8,7 @@ abbrev pub invariant-loop-transaction : goal.invariant-loop-transaction
 invariant-loop-transaction g l =
     record {
       session : g.C.SessionCalls.holds l.session;
+      base : g.C.SessionCalls.base l.session ≡ g.C.SessionCalls.base l.fn.session;
       idle : IsIdle (g.C.SessionCalls.seen l.session);
       done : Running (take l.transaction-index l.transactions) l.most (g.C.SessionCalls.seen l.fn.session) (g.C.SessionCalls.seen l.session);
     }

@@ -1,4 +1,4 @@
-use Rattle.std.proofs.Common.{◌∙◌, sym, length}
+use Rattle.std.proofs.Common.{◌∙◌, refl, sym, length}
 use Rattle.std.proofs.lemmas.Option.{slice_get_within}
 use Rattle.script_lang.specs.Following.{all_ops}
 use Rattle.script_runs.proofs.Doing.{nothing_done, one_done, next_has_range}
@@ -7,6 +7,7 @@ use Rattle.script_runs.proofs.trying.do_lines.Goals as goal
 pub loop-init : goal.loop-init
 loop-init g c = record {
   session = c.requires.session;
+  base = refl;
   doing = λ tx birth is. nothing_done tx birth c.args.lines.now (g.C.SessionCalls.seen c.args.session.now) c.new-following.result is c.new-following.ensures;
 }
 
@@ -30,6 +31,7 @@ operate-requires-clause-range g c =
 pub loop-preserved-in-Ok : goal.loop-preserved-in-Ok
 loop-preserved-in-Ok g c = record {
   session = c.in-Ok.ensures.session;
+  base = c.in-Ok.ensures.base ∙ c.loop.invariant.base;
   doing = λ tx birth is.
       let d = c.loop.invariant.doing tx birth is in
       let next = sym (c.next-in-loop.ensures c.args.lines.now d.done.answers d.place) ∙ c.in-Some-next.is in
@@ -42,6 +44,7 @@ loop-preserved-in-Ok g c = record {
 pub loop-preserved : goal.loop-preserved
 loop-preserved g c = record {
   session = c.in-Ok.ensures.session;
+  base = c.in-Ok.ensures.base ∙ c.loop.invariant.base;
   doing = λ tx birth is.
       let d = c.loop.invariant.doing tx birth is in
       let next = sym (c.next-in-loop.ensures c.args.lines.now d.done.answers d.place) ∙ c.in-Some-next.is in

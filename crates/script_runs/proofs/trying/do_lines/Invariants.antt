@@ -9,6 +9,7 @@ abbrev pub invariant-loop : goal.invariant-loop
 invariant-loop g l =
     record {
       session : g.C.SessionCalls.holds l.session;
+      base : g.C.SessionCalls.base l.session ≡ g.C.SessionCalls.base l.fn.session;
       doing :
           (tx : TxId) (birth : BirthIs) → (g.C.SessionCalls.seen l.fn.session).standing ≡ Active tx birth 0 untouched
           → Doing tx birth l.lines (g.C.SessionCalls.seen l.fn.session) (g.C.SessionCalls.seen l.session) l.following;

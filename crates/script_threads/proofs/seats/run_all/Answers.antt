@@ -22,4 +22,12 @@ returns-clause-follows g c =
     let seen = g.C.SessionCalls.seen in
     let e = (c.for_each_mut.ensures k d l).1 in
     subst (λ y. Follows (slice_index_or c.args.seats.now k d).transactions.now c.args.most (stop_in y.ended) (seen (slice_index_or c.args.seats.now k d).session) (seen y.session)) e.left
-    (subst (λ x. Follows x.transactions.now c.args.most (stop_in e.after_call.now.ended) (seen x.session) (seen e.after_call.now.session)) e.argument_is e.call.1.1.0)
+    (subst (λ x. Follows x.transactions.now c.args.most (stop_in e.after_call.now.ended) (seen x.session) (seen e.after_call.now.session)) e.argument_is e.call.1.1.1.0)
+
+pub returns-clause-base : goal.returns-clause-base
+returns-clause-base g c =
+    λ k d l.
+    let base = g.C.SessionCalls.base in
+    let e = (c.for_each_mut.ensures k d l).1 in
+    subst (λ y. base y.session ≡ base (slice_index_or c.args.seats.now k d).session) e.left
+    (subst (λ x. base e.after_call.now.session ≡ base x.session) e.argument_is e.call.1.0)
