@@ -8,6 +8,7 @@ use Rattle.clv_base.specs.Sessions.{SessionState}
 use Rattle.cluster_turns.specs.declared.shards.Shards.{Shards}
 use Rattle.cluster_turns.specs.declared.shards.Walker.{Walker}
 use Rattle.cluster_turns.specs.declared.shards.WornClock.{WornClock}
+use Rattle.cluster_turns.specs.Walkers.{IsSameWalker}
 use Rattle.cluster_landing.specs.Landed.{HasLanded}
 use Rattle.session_ops.specs.declared.operating.OpError.{OpError as Failure}
 use Rattle.session_ops.specs.Standing.{IsActive}
@@ -16,12 +17,12 @@ use Rattle.session_commit.specs.Requested.{IsStanding}
 use Rattle.session_drops.specs.Dropped.{Dropping, IsLeft}
 use Rattle.session_settling.specs.declared.looking.SettleError.{SettleError}
 use Rattle.session_retries.specs.Retried.{IsRetriable, Retried}
-use Rattle.session_scans.specs.Parts.{PointTold, has_died}
+use Rattle.session_scans.specs.Parts.{PointTold, StandsUnless, has_died}
 use Rattle.session_scans.specs.Scanned.{Scanning, IsSameTx}
 use Rattle.session_scans.specs.Stepped.{PartsTold}
 use Rattle.session_endings.specs.declared.committing.Settled.{Settled}
 use Rattle.session_endings.specs.declared.committing.CommitError.{CommitError as CommitFailure}
-use Rattle.session_endings.specs.Standings.{IsUnasked}
+use Rattle.session_endings.specs.Standings.{StandsAs, IsUnasked}
 use Rattle.session_endings.specs.Decided.{Deciding}
 use Rattle.session_endings.specs.Committed.{CommitTold}
 use Rattle.session_api.specs.declared.progress.Progress.{Progress}
@@ -91,11 +92,13 @@ module _ {M S G : Type 0} where
   abbrev pub OpRefused : {A : Type 0} → Walker M S G → Progress → Result A OpError → Walker M S G → Progress → Type 0
   OpRefused w s r v t = (r ≡ Err (refusal_of s)) × (v ≡ w) × (t ≡ s)
 
-  -- one operation at a key, of the active transaction p
+  -- one operation at a key, of the active transaction p: the walker keeps its number and its serial, and the place after it stands as it tells
   pub record PointMade (sh : Shards M S G) (w : Walker M S G) (p : SessionState) (op : Op) (key : ℕ) (r : Result (Option ℕ) OpError) (v : Walker M S G) (t : Progress) : Type 0 where
     pub answer : Result (Option ℕ) Failure
     pub place : SessionState
     pub told : PointTold sh w p op key answer v place
+    pub walker : IsSameWalker w v
+    pub stands : StandsUnless (has_died answer) sh v place
     pub is : r ≡ answer_told answer
     pub then : t ≡ after_op place (has_died answer)
 
@@ -115,6 +118,8 @@ module _ {M S G : Type 0} where
         → Scanning sh.splits (length sh.locks.items) w.number w.clock w.passes.items (record { tx = p.tx; birth = birth; nth = p.nth + 1; lo = lo; hi = hi }) place.touched answer v.clock v.passes.items
     pub parts : (birth : Birth) → p.birth ≡ Some birth → PartsTold sh birth (p.nth + 1) lo hi w p answer v place
     pub same : IsSameTx p place
+    pub walker : IsSameWalker w v
+    pub stands : StandsUnless (has_died answer) sh v place
     pub is : r ≡ answer_told answer
     pub then : t ≡ after_op place (has_died answer)
 
@@ -126,7 +131,7 @@ module _ {M S G : Type 0} where
   RangeCalled sh w (Ended p) lo hi r v t = OpRefused w (Ended p) r v t
 
   -- where one is active and the bounds fall, the range is bad
-  abbrev RangeBeside : Option TxId → Bool → Shards M S G → Walker M S G → Progress → ℕ → ℕ → Result (List (ℕ × ℕ)) OpError → Walker M S G → Progress → Type 0
+  abbrev pub RangeBeside : Option TxId → Bool → Shards M S G → Walker M S G → Progress → ℕ → ℕ → Result (List (ℕ × ℕ)) OpError → Walker M S G → Progress → Type 0
   RangeBeside (Some tx) true sh w s lo hi r v t = (r ≡ Err (BadRange lo hi)) × (v ≡ w) × (t ≡ s)
   RangeBeside (Some tx) false sh w s lo hi r v t = RangeCalled sh w s lo hi r v t
   RangeBeside None falls sh w s lo hi r v t = RangeCalled sh w s lo hi r v t
@@ -141,6 +146,8 @@ module _ {M S G : Type 0} where
     pub answer : Result Settled CommitFailure
     pub place : SessionState
     pub told : CommitTold (length sh.locks.items) w p answer v place
+    pub walker : IsSameWalker w v
+    pub stands : StandsAs sh v place
     pub is : r ≡ commit_told answer
     pub then : t ≡ progress_committed place (is_nothing answer)
 
@@ -149,6 +156,8 @@ module _ {M S G : Type 0} where
     pub answer : Result Point SettleError
     pub place : SessionState
     pub turns : Deciding (length sh.locks.items) w.number w.clock w.passes.items home p answer v.clock v.passes.items place
+    pub walker : IsSameWalker w v
+    pub stands : StandsAs sh v place
     pub is : r ≡ settle_told answer
     pub then : t ≡ after_commit place place.phase
 
@@ -170,6 +179,7 @@ module _ {M S G : Type 0} where
     pub place : SessionState
     pub drops : Dropping w.number w.clock w.passes.items p.tx p.touched None 0 (length sh.locks.items) answer v.clock v.passes.items
     pub left : IsLeft p place
+    pub walker : IsSameWalker w v
     pub is : r ≡ abort_told answer
     pub then : t ≡ progress_aborted place answer
 

@@ -19,6 +19,8 @@ returns-clause-told g c = let sh = c.args.self.now.shards.now in let w = c.args.
       turns = e.turns;
       parts = e.parts;
       same = e.same;
+      walker = e.walker;
+      stands = e.stands;
       is = c.answered.ensures;
       then = ap (after_op q) c.is_dead-died.ensures;
     })
