@@ -1,0 +1,4 @@
+pub mod Standing
+pub mod Grounds
+pub mod Ends
+pub mod Laws
