@@ -3,3 +3,4 @@ mod Choosing
 mod Promising
 mod Entries
 mod Completing
+pub mod Laws
