@@ -43,7 +43,8 @@ use Rattle.shards_promises.specs.Ended.{ClusterEnded, runs_on}
 use Rattle.shards_promises.specs.Sessions.{Went, Begun, SessionWent, SessionsWent}
 use Rattle.shards_promises.specs.Promises.{RunPromised}
 use Rattle.shards_promises.specs.Down.{IsLowestDown, IsLowestFault}
-use Rattle.shards_promises.proofs.Laws.{runs_are_promised, lowest_down_is_fault}
+use Rattle.shards_promises.proofs.Promising.{runs_are_promised}
+use Rattle.shards_promises.proofs.Down.{lowest_down_is_fault}
 use Rattle.run_status.specs.Running.{End, IsOk, status_by}
 use Rattle.run_ends.specs.Ends.{end_of, walked_by, IsClosedRun}
 use Rattle.run_ends.specs.Statuses.{CountsStand, StatusTold}

@@ -1,6 +1,5 @@
-mod Down
+pub mod Down
 mod Choosing
-mod Promising
+pub mod Promising
 mod Entries
 mod Completing
-pub mod Laws
