@@ -57,6 +57,15 @@ RunningTold down ends (NotLog shard at) = ⊥
 RunningTold down ends (Exists shard len) = ⊥
 RunningTold down ends (Apart tx) = ⊥
 
+-- the status by the lowest shard that is down and the gravest end
+abbrev pub status_by : Option ℕ → End → Status
+status_by (Some shard) end = DiskFault shard
+status_by None (Ok a) = Fine
+status_by None (Err (stop.Worn at)) = Worn at
+status_by None (Err stop.Memory) = Memory
+status_by None (Err (stop.Down n)) = Memory
+status_by None (Err (stop.Unsettled n)) = Memory
+
 -- a fine status becomes a write fault; any other stays
 abbrev pub after_fault : Status → Status
 after_fault Fine = WriteFault

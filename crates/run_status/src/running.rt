@@ -1,8 +1,8 @@
 // The status of a run that opened its shards.
 
-ghost use Rattle.std.specs.Prelude.{◌≡◌, ◌++◌, ◌∷◌, [], List, Result};
+ghost use Rattle.std.specs.Prelude.{◌≡◌, ◌⊎◌, ◌++◌, ◌∷◌, [], List, Result};
 ghost use Rattle.script_tries.specs.declared.ends.StopCause.{StopCause as CauseIs};
-ghost use Rattle.run_status.specs.Running.{grave, IsGravest, AreFound, RunningTold, with_text};
+ghost use Rattle.run_status.specs.Running.{grave, IsGravest, AreFound, IsOk, RunningTold, status_by, with_text};
 
 use crate::status::Status;
 use report_text::ReportError;
@@ -21,9 +21,11 @@ fn rank(end: Result<(), StopCause>) -> u8
 }
 
 /// The graver of two ends: that a shard was down says more than that stamps were worn, and this more than that memory was wanting.
-/// Beginning with `Ok`, the gravest of the ends of all drains and sessions.
+/// Beginning with `Ok`, the gravest of the ends of all drains and sessions; where it is `Ok` they all are.
 pub fn graver(so_far: Result<(), StopCause>, next: Result<(), StopCause>) -> Result<(), StopCause>
-    ensures { (ends : List (Result (Unit {0}) CauseIs)) → IsGravest ends so_far → IsGravest (ends ++ next ∷ []) result }
+    ensures gravest { (ends : List (Result (Unit {0}) CauseIs)) → IsGravest ends so_far → IsGravest (ends ++ next ∷ []) result }
+    ensures one { (result ≡ so_far) ⊎ (result ≡ next) }
+    ensures fine { IsOk result → IsOk so_far × IsOk next }
 {
     if rank(so_far) < rank(next) {
         next
@@ -35,7 +37,8 @@ pub fn graver(so_far: Result<(), StopCause>, next: Result<(), StopCause>) -> Res
 /// The status of a run by the gravest end of its drains and sessions, and by the lowest shard that is down at its end, which is that of
 /// the lowest disk that failed. An end by a shard that was down says that there is one.
 pub fn running_status(down: Option<u32>, end: Result<(), StopCause>) -> Status
-    ensures { (ends : List (Result (Unit {0}) CauseIs)) → IsGravest ends end → AreFound down ends → RunningTold down ends result }
+    ensures told { (ends : List (Result (Unit {0}) CauseIs)) → IsGravest ends end → AreFound down ends → RunningTold down ends result }
+    ensures is { result ≡ status_by down end }
 {
     match (down, end) {
         (Some(shard), _) => Status::DiskFault { shard },

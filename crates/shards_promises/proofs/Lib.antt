@@ -1,5 +1,5 @@
-mod Down
+pub mod Down
 mod Choosing
-mod Promising
+pub mod Promising
 mod Entries
 mod Completing

@@ -1,0 +1,5 @@
+use Rattle.run_ends.proofs.Ending.{clusters_end}
+use Rattle.run_ends.proofs.promises.clusters_end.Goals as goal
+
+pub returns : goal.returns
+returns c = clusters_end

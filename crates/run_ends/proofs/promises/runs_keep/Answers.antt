@@ -1,0 +1,5 @@
+use Rattle.run_ends.proofs.Ending.{runs_keep}
+use Rattle.run_ends.proofs.promises.runs_keep.Goals as goal
+
+pub returns : goal.returns
+returns c = runs_keep

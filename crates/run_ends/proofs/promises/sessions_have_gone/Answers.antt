@@ -1,0 +1,5 @@
+use Rattle.run_ends.proofs.Ending.{sessions_have_gone}
+use Rattle.run_ends.proofs.promises.sessions_have_gone.Goals as goal
+
+pub returns : goal.returns
+returns c = sessions_have_gone
