@@ -1,0 +1,36 @@
+// The end of a run's cluster.
+ghost use Rattle.std.specs.Prelude.{◌≡◌, ◌<◌, ℕ, true, length, slice_index_or, vec_len};
+ghost use Rattle.std.specs.List.{All};
+ghost use Rattle.turn_lock.specs.Passes.{passes_of};
+ghost use Rattle.cluster_ends.specs.Legal.{AreShards};
+ghost use Rattle.cluster_ends.specs.Room.{HasRoom};
+ghost use Rattle.cluster_closing.specs.Closing.{lists};
+ghost use Rattle.session_scripts.specs.Standing.{IsAtRest};
+ghost use Rattle.run_ends.specs.Ends.{IsClosed};
+
+use cluster_closing::{Closed, close};
+use cluster_ends::Room;
+use cluster_turns::{Shards, Walker};
+use disk_model::House;
+use machines_opening::OverDisks;
+use std::alloc::Global;
+
+// Closes the cluster of walkers that have no gate and never took a disk.
+pub(crate) fn close_run<H: House, M: OverDisks<H::Disk>>(
+    alloc: Global,
+    house: &mut H,
+    shards: Shards<M>,
+    walkers: Vec<Walker<M>>,
+    room: Room<M>,
+) -> Closed<M>
+    requires shards { AreShards shards }
+    requires some { 0 < vec_len walkers }
+    requires rest { (k : ℕ) (d : _) → k < length walkers.items → IsAtRest shards k (slice_index_or walkers.items k d) }
+    requires all { All (λ l. passes_of l ≡ vec_len walkers) shards.locks.items }
+    requires room { HasRoom (vec_len shards.locks) (vec_len walkers) room }
+    requires out { (n : ℕ) → n < vec_len shards.locks → H.is_out house.old n ≡ true }
+    ensures closed { IsClosed H.Disk (λ m. M.shard m) shards walkers.items result.ends.value.items (record { journals = lists result.journals.items; found = lists result.found.items }) result.down (H.faults house.old) (H.faults house.new) (H.is_out house.old) (H.is_out house.new) (H.story house.old) (H.story house.new) }
+    ensures len { (vec_len result.journals ≡ vec_len shards.locks) × (vec_len result.maps ≡ vec_len shards.locks) }
+{
+    close(house, shards, walkers, Vec::new(alloc), room)
+}

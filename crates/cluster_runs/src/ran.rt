@@ -1,0 +1,14 @@
+// What a run leaves.
+
+use history_replay::History;
+use run_status::Status;
+
+/// A run that opened its shards, and closed them.
+#[derive(Drop)]
+pub struct Ran<S> {
+    /// What all shards did, from the logs that were found.
+    pub history: History,
+    /// The store of each shard, as it was last.
+    pub maps: Vec<S>,
+    pub status: Status,
+}

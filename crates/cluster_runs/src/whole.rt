@@ -1,0 +1,77 @@
+// A run, from the disks to the disks.
+ghost use Rattle.std.specs.Prelude.{◌≡◌, ◌<◌, ◌≤◌, ℕ, true, false, length, IfOk, IfErr};
+ghost use Rattle.std.specs.List.{list_all};
+ghost use Rattle.script_lang.specs.Laws.{is_narrow_body};
+ghost use Rattle.disks_opening.specs.Opening.{Refuses, CountsOpen};
+ghost use Rattle.cluster_beginning.specs.Begun.{LeavesDisks};
+ghost use Rattle.cluster_runs.specs.Ran.{RanAll};
+
+use crate::closing::close_run;
+use crate::ran::Ran;
+use cluster_beginning::{Opened, open_all};
+use cluster_closing::Closed;
+use cluster_sessions::run_over;
+use disk_model::House;
+use disks_opening::OpenError;
+use history_replay::History;
+use io_edge::Pace;
+use lock_table::Locks;
+use log_gate::LogGate;
+use ordered_store::Store;
+use run_status::running_status;
+use script_lang::Session;
+use shard_machine::ShardMachine;
+use std::alloc::Global;
+use std::sync::Wait;
+use std::thread::Threads;
+
+/// Runs the sessions of a script, each on a thread of its own, over all shards of a house: opens, drains, runs them, drains, and closes. Each transaction is
+/// tried at most so many times, or without a number until it is done. Every disk is in the house again after it.
+///
+/// What all shards did is a legal history that keeps the promise of a run, and the status says how it ended: fine where no disk has failed and each session
+/// went through; the fault of the lowest disk that has failed; else worn stamps, or want of memory. An `Err` is the first refusal of the opening, as
+/// `open_all` tells it, and then no session was begun.
+pub fn run_script<S: Store + Drop + Send, L: Locks + Drop + Send, R: Threads + Wait + Sync, H: House, P: Pace + Sync>(
+    rt: &R,
+    alloc: Global,
+    house: &mut H,
+    pace: &P,
+    sessions: &[Session],
+    most: Option<u32>,
+) -> Result<Ran<S>, OpenError>
+where
+    H::Disk: Send,
+    requires inside { (n : ℕ) → n < 16 → H.is_out house.old n ≡ false }
+    requires few { length sessions.now ≤ 64 }
+    requires narrow { list_all (list_all is_narrow_body) sessions.now ≡ true }
+    ensures ran { IfOk result (λ r. RanAll (H.story house.old) (H.story house.new) (H.faults house.old) (H.faults house.new) most sessions.now r.history r.status) }
+    ensures back { (n : ℕ) → n < 16 → H.is_out house.new n ≡ false }
+    ensures refused { IfErr result (Refuses (H.story house.old)) }
+    ensures counts { IfErr result (CountsOpen (H.faults house.old) (H.faults house.new)) }
+    ensures left { IfErr result (LeavesDisks (H.story house.old) (H.story house.new)) }
+{
+    let opened = match open_all::<S, L, H>(alloc, house, sessions.len(), 0) {
+        Ok(opened) => opened,
+        Err(error) => return Err(error),
+    };
+    let Opened {
+        shards,
+        mut walkers,
+        room,
+    } = opened;
+    let end = run_over(rt, alloc, &shards, pace, &mut walkers, sessions, most);
+    let closed =
+        close_run::<H, ShardMachine<S, L, LogGate<H::Disk>>>(alloc, house, shards, walkers, room);
+    let Closed {
+        journals,
+        maps,
+        found,
+        down,
+        ends: _,
+    } = closed;
+    Ok(Ran {
+        history: History::new(journals, found),
+        maps,
+        status: running_status(down, end),
+    })
+}
