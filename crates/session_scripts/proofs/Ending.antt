@@ -1,6 +1,6 @@
 -- Commits and aborts, as whoever runs a script is told of them.
-use Rattle.std.proofs.Common.{◌≡◌, ◌∙◌, refl, sym, ap, subst, ℕ, ◌^◌, Bool, true, false, List, [], ◌++◌, length, Option, Some, None, Result, Ok, Err, inl, inr}
-use Rattle.std.specs.Prelude.{◌⊎◌, IfErr}
+use Rattle.std.proofs.Common.{◌≡◌, ◌∙◌, refl, sym, ap, subst, ℕ, ◌^◌, Bool, true, false, List, ◌++◌, length, Some, None, Result, Ok, Err, inl, inr}
+use Rattle.std.specs.Prelude.{⊤, IfErr}
 use Rattle.std.proofs.lemmas.Bool.{both_ways}
 use Rattle.clv_base.specs.declared.names.TxId.{TxId}
 use Rattle.clv_base.specs.declared.names.Birth.{Birth}
@@ -23,7 +23,7 @@ use Rattle.session_drops.specs.Dropped.{Dropping, IsLeft}
 use Rattle.session_settling.specs.declared.looking.SettleError.{SettleError}
 use Rattle.session_settling.specs.declared.looking.SettleError.TheVariants as settle
 use Rattle.session_endings.specs.declared.committing.Settled.{Settled}
-use Rattle.session_endings.specs.declared.committing.Settled.TheVariants.{Committed, Empty}
+use Rattle.session_endings.specs.declared.committing.Settled.TheVariants.{Committed}
 use Rattle.session_endings.specs.declared.committing.CommitError.{CommitError as CommitFailure}
 use Rattle.session_endings.specs.declared.committing.CommitError.TheVariants as unmade
 use Rattle.session_endings.specs.Decided.{DecidedBy, committed_as}
@@ -32,7 +32,7 @@ use Rattle.script_tries.specs.declared.ends.StopCause.{StopCause}
 use Rattle.script_tries.specs.declared.ends.StopCause.TheVariants as stop
 use Rattle.script_tries.specs.declared.ends.TryEnd.{TryEnd}
 use Rattle.script_tries.specs.declared.ends.TryEnd.TheVariants as end
-use Rattle.script_runs.specs.Seen.{Standing, Idle, Active}
+use Rattle.script_runs.specs.Seen.{Idle, Active}
 use Rattle.script_runs.specs.Told.{CommitTold, AbortTold}
 use Rattle.script_runs.specs.Tried.{OnStop}
 use Rattle.session_api.specs.declared.progress.Progress.{Progress}
@@ -45,7 +45,7 @@ use Rattle.session_told.specs.Seeing.{seen_as, touched_in, is_active, by_phase, 
 use Rattle.session_told.proofs.Laws.{commits_tell, aborts_tell}
 use Rattle.session_scripts.specs.Standing.{Holds, active_as, standing_of, seen_in}
 use Rattle.session_scripts.specs.Grounds.{Grounds}
-use Rattle.session_scripts.proofs.Standings.{IsOf, read_active, of_this, idle_active, asked_active, stays_grown, worn_still}
+use Rattle.session_scripts.proofs.Standings.{read_active, of_this, idle_active, asked_active, stays_grown, worn_still}
 use Rattle.session_scripts.proofs.Taking.{any_before, any_behind, found_down, grounds_stay, held_after, held_so}
 use Rattle.session_scripts.proofs.Operating.{IsUnderWay}
 
@@ -153,13 +153,13 @@ module _ {M S G : Type 0} where
 module _ {M S G : Type 0} (sh : Shards M S G) where
   -- ---- commits
 
-  pub record EndsSo (w : Walker M S G) (s : Progress) (e : TryEnd) (v : Walker M S G) (t : Progress) : Type 0 where
-    pub holds : Holds sh v t
-    pub told : (tx : TxId) (birth : Birth) (nth : ℕ) (touched : ℕ → Bool) → standing_of s ≡ Active tx birth nth touched → CommitTold tx birth nth touched e (seen_in sh w s) (seen_in sh v t)
+  pub record EndsSo (w : Walker M S G) (s : Progress) (e : TryEnd) (after : Shards M S G) (v : Walker M S G) (t : Progress) : Type 0 where
+    pub holds : Holds after v t
+    pub told : (tx : TxId) (birth : Birth) (nth : ℕ) (touched : ℕ → Bool) → standing_of s ≡ Active tx birth nth touched → CommitTold tx birth nth touched e (seen_in sh w s) (seen_in after v t)
     pub grounds : OnStop (Grounds v) e
 
   abbrev pub CommitDone : Walker M S G → Progress → Result Settled CommitError → Walker M S G → Progress → Type 0
-  CommitDone w s r v t = (e : Result Settled CommitFailure) × (r ≡ commit_told e) × EndsSo w s (commit_end e) v t
+  CommitDone w s r v t = (e : Result Settled CommitFailure) × (r ≡ commit_told e) × EndsSo w s (commit_end e) sh v t
 
   commit_holds : (w v : Walker M S G) (s t : Progress) (p q : SessionState) (r : Result Settled CommitFailure) → Holds sh w s → IsSession sh v t → IsSameWalker w v → Commits (length sh.locks.items) w p r v q → Holds sh v t
   commit_holds w v s t p q r h session same (inl c) = held_so sh w v s t h session (ap (λ z. z.number) c.2) (ap (λ z. z.passes.items) c.2)
@@ -206,14 +206,14 @@ module _ {M S G : Type 0} (sh : Shards M S G) where
 
   -- ---- aborts
 
-  pub record Aborts (w : Walker M S G) (s : Progress) (e : Result Unit StopCause) (v : Walker M S G) (t : Progress) : Type 0 where
-    pub holds : Holds sh v t
-    pub told : (tx : TxId) (birth : Birth) (nth : ℕ) (touched : ℕ → Bool) → standing_of s ≡ Active tx birth nth touched → AbortTold tx birth touched e (seen_in sh w s) (seen_in sh v t)
+  pub record Aborts (w : Walker M S G) (s : Progress) (e : Result Unit StopCause) (after : Shards M S G) (v : Walker M S G) (t : Progress) : Type 0 where
+    pub holds : Holds after v t
+    pub told : (tx : TxId) (birth : Birth) (nth : ℕ) (touched : ℕ → Bool) → standing_of s ≡ Active tx birth nth touched → AbortTold tx birth touched e (seen_in sh w s) (seen_in after v t)
     pub grounds : IfErr e (Grounds v)
     pub keeps : (cause : StopCause) → Grounds w cause → Grounds v cause
 
   abbrev pub AbortDone : Walker M S G → Progress → Result Unit AbortError → Walker M S G → Progress → Type 0
-  AbortDone w s r v t = (e : Result Unit WornClock) × (r ≡ abort_told e) × Aborts w s (abort_end e) v t
+  AbortDone w s r v t = (e : Result Unit WornClock) × (r ≡ abort_told e) × Aborts w s (abort_end e) sh v t
 
   -- the last one ended, or is active still, but worn
   abort_leaves_so : (q : SessionState) (birth : Birth) (r : Result Unit WornClock) → q.birth ≡ Some birth → standing_of (progress_aborted q r) ≡ abort_leaves birth r (active_as q q.birth)
@@ -254,3 +254,25 @@ module _ {M S G : Type 0} (sh : Shards M S G) where
   abort_done w v (progress.Worn p) t r h way c session = abort_made w v (progress.Worn p) p t r refl h session c
   abort_done w v (progress.Asked p home) t r h way c session = asked_active way.0 way.1 way.2 way.3 way.4
   abort_done w v (progress.Ended p) t r h way c session = idle_active p.birth way.0 way.1 way.2 way.3 way.4
+
+  -- ---- the calls, as the session makes them
+
+  pub commit_answers : (after : Shards M S G) (w v : Walker M S G) (s t : Progress) (r : Result Settled CommitError) → after ≡ sh → Holds sh w s → IsUnderWay sh s → CommitCalled sh w s r v t → IsSession after v t
+      → (e : Result Settled CommitFailure) × (r ≡ commit_told e)
+  commit_answers after w v s t r same h way c session = let k = commit_done w v s t r h way c (subst (λ x. IsSession x v t) same session) in (k.0, k.1)
+
+  pub commit_call : (after : Shards M S G) (w v : Walker M S G) (s t : Progress) (r : Result Settled CommitError) (result : TryEnd) → after ≡ sh → Holds sh w s → IsUnderWay sh s → CommitCalled sh w s r v t → IsSession after v t
+      → ((e : Result Settled CommitFailure) → r ≡ commit_told e → result ≡ commit_end e) → EndsSo w s result after v t
+  commit_call after w v s t r result same h way c session told =
+      let k = commit_done w v s t r h way c (subst (λ x. IsSession x v t) same session) in
+      subst (λ x. EndsSo w s x after v t) (sym (told k.0 k.1)) (subst (λ x. EndsSo w s (commit_end k.0) x v t) (sym same) k.2)
+
+  pub abort_answers : (after : Shards M S G) (w v : Walker M S G) (s t : Progress) (r : Result Unit AbortError) → after ≡ sh → Holds sh w s → IsUnderWay sh s → AbortCalled sh w s r v t → IsSession after v t
+      → (e : Result Unit WornClock) × (r ≡ abort_told e)
+  abort_answers after w v s t r same h way c session = let k = abort_done w v s t r h way c (subst (λ x. IsSession x v t) same session) in (k.0, k.1)
+
+  pub abort_call : (after : Shards M S G) (w v : Walker M S G) (s t : Progress) (r : Result Unit AbortError) (result : Result Unit StopCause) → after ≡ sh → Holds sh w s → IsUnderWay sh s → AbortCalled sh w s r v t → IsSession after v t
+      → ((e : Result Unit WornClock) → r ≡ abort_told e → result ≡ abort_end e) → Aborts w s result after v t
+  abort_call after w v s t r result same h way c session told =
+      let k = abort_done w v s t r h way c (subst (λ x. IsSession x v t) same session) in
+      subst (λ x. Aborts w s x after v t) (sym (told k.0 k.1)) (subst (λ x. Aborts w s (abort_end k.0) x v t) (sym same) k.2)

@@ -1,6 +1,5 @@
 -- Operations, as whoever runs a script is told of them.
-use Rattle.std.proofs.Common.{◌≡◌, ◌∙◌, refl, sym, ap, subst, ℕ, suc, ◌<◌, ◌≤◌, ◌^◌, Bool, true, false, nat_le, nat_lt, List, [], length, Option, Some, None, Result, Ok, Err, arith}
-use Rattle.std.specs.Prelude.{IsTrue}
+use Rattle.std.proofs.Common.{◌≡◌, ◌∙◌, refl, sym, ap, subst, ℕ, suc, ◌<◌, ◌≤◌, ◌^◌, Bool, true, false, List, [], length, Option, Some, None, Result, Ok, Err}
 use Rattle.std.proofs.lemmas.Bool.{leb-true, le-ltb}
 use Rattle.clv_base.specs.declared.names.TxId.{TxId}
 use Rattle.clv_base.specs.declared.names.Birth.{Birth}
@@ -16,7 +15,6 @@ use Rattle.walker_turns.specs.Turns.{FindsDown, FindsWorn}
 use Rattle.walker_turns.proofs.Laws.{worn_is_last}
 use Rattle.session_ops.specs.declared.operating.OpError.{OpError as Failure}
 use Rattle.session_ops.specs.declared.operating.OpError.TheVariants as failed
-use Rattle.session_ops.specs.Standing.{place_after}
 use Rattle.session_ops.specs.Operated.{PlacedBy, answered_in}
 use Rattle.session_scans.specs.Parts.{has_died, Performing, value_in}
 use Rattle.session_scans.specs.Scanned.{Range, Scanning}
@@ -31,7 +29,7 @@ use Rattle.session_api.specs.declared.progress.Progress.{Progress}
 use Rattle.session_api.specs.declared.progress.Progress.TheVariants as progress
 use Rattle.session_api.specs.declared.operating.OpError.{OpError}
 use Rattle.session_api.specs.Progresses.{active_tx, answer_told, after_op}
-use Rattle.session_api.specs.Sessions.{IsSession, OpRefused, PointMade, PointCalled, ScanMade, RangeCalled, RangeBeside, ScanCalled}
+use Rattle.session_api.specs.Sessions.{IsSession, PointMade, PointCalled, ScanMade, RangeCalled, RangeBeside, ScanCalled}
 use Rattle.session_told.specs.Seeing.{seen_as, touched_in, is_active, unless_dead, value_end, pairs_end}
 use Rattle.session_told.specs.Laws.{IsAt}
 use Rattle.session_told.proofs.Laws.{points_tell, scans_tell}
@@ -57,9 +55,9 @@ stands_after q birth is false = ap (active_as q) is
 module _ {M S G : Type 0} (sh : Shards M S G) where
   -- ---- what an operation leaves, tells, and is stopped by
 
-  pub record Done (w : Walker M S G) (s : Progress) (op : Op) (end : Result Answer TryEnd) (v : Walker M S G) (t : Progress) : Type 0 where
-    pub holds : Holds sh v t
-    pub told : (tx : TxId) (birth : Birth) (nth : ℕ) (touched : ℕ → Bool) → standing_of s ≡ Active tx birth nth touched → OperateTold tx birth nth touched op end (seen_in sh w s) (seen_in sh v t)
+  pub record Done (w : Walker M S G) (s : Progress) (op : Op) (end : Result Answer TryEnd) (after : Shards M S G) (v : Walker M S G) (t : Progress) : Type 0 where
+    pub holds : Holds after v t
+    pub told : (tx : TxId) (birth : Birth) (nth : ℕ) (touched : ℕ → Bool) → standing_of s ≡ Active tx birth nth touched → OperateTold tx birth nth touched op end (seen_in sh w s) (seen_in after v t)
     pub grounds : OnRefusal (Grounds v) end
 
   -- the active transaction may have operations, or is worn; no other has a standing like it
@@ -76,7 +74,7 @@ module _ {M S G : Type 0} (sh : Shards M S G) where
   -- ---- where the last abort was worn
 
   worn_done : (w v : Walker M S G) (p : SessionState) (t : Progress) (op : Op) → Holds sh w (progress.Worn p) → IsSession sh v t → HasPart (parts_of sh.splits op) → v ≡ w → t ≡ progress.Worn p
-      → Done w (progress.Worn p) op (Err (Stopped (Worn (2 ^ 48)))) v t
+      → Done w (progress.Worn p) op (Err (Stopped (Worn (2 ^ 48)))) sh v t
   worn_done w v p t op h session part is same = record {
     holds = held_so sh w v (progress.Worn p) t h session (ap (λ z. z.number) is) (ap (λ z. z.passes.items) is);
     told = λ tx birth nth touched st. ([], begun_with_none sh.splits tx birth (suc nth) op part, stays_grown sh w v (progress.Worn p) t is same);
@@ -86,7 +84,7 @@ module _ {M S G : Type 0} (sh : Shards M S G) where
   -- ---- at a key
 
   abbrev pub PointDone : Walker M S G → Progress → Op → Result (Option ℕ) OpError → Walker M S G → Progress → Type 0
-  PointDone w s op r v t = (e : Result (Option ℕ) Failure) × (r ≡ answer_told e) × Done w s op (value_end e) v t
+  PointDone w s op r v t = (e : Result (Option ℕ) Failure) × (r ≡ answer_told e) × Done w s op (value_end e) sh v t
 
   point_grounds : (w v : Walker M S G) (n : ℕ) (p : SessionState) (e : Event) (answer : Result Answer Failure) → Performing (length sh.locks.items) w.number w.clock w.passes.items n p e answer v.clock v.passes.items
       → OnRefusal (Grounds v) (value_end (value_in answer))
@@ -126,7 +124,7 @@ module _ {M S G : Type 0} (sh : Shards M S G) where
   -- ---- scans
 
   abbrev pub ScanDone : Walker M S G → Progress → ℕ → ℕ → Result (List (ℕ × ℕ)) OpError → Walker M S G → Progress → Type 0
-  ScanDone w s lo hi r v t = (e : Result (List (ℕ × ℕ)) Failure) × (r ≡ answer_told e) × Done w s (Scan lo hi) (pairs_end e) v t
+  ScanDone w s lo hi r v t = (e : Result (List (ℕ × ℕ)) Failure) × (r ≡ answer_told e) × Done w s (Scan lo hi) (pairs_end e) sh v t
 
   scan_grounds : (w v : Walker M S G) (x : Range) (touched : List (ℕ × ℕ)) (answer : Result (List (ℕ × ℕ)) Failure) → Scanning sh.splits (length sh.locks.items) w.number w.clock w.passes.items x touched answer v.clock v.passes.items
       → OnRefusal (Grounds v) (pairs_end answer)
@@ -173,3 +171,32 @@ module _ {M S G : Type 0} (sh : Shards M S G) where
       let falls = leb-true lo hi range in
       range_done w v s t lo hi r h way falls small
       (beside w v s t lo hi r (active_tx s) (subst (λ b. RangeBeside (active_tx s) b sh w s lo hi r v t) (le-ltb hi lo falls) c)) session
+
+  -- ---- the calls, as the session makes them
+
+  -- each answer is one of an operation that was made
+  pub point_answers : (after : Shards M S G) (w v : Walker M S G) (s t : Progress) (key : ℕ) (op : Op) (r : Result (Option ℕ) OpError) → after ≡ sh → Holds sh w s → IsUnderWay s → IsAt key op → PointCalled sh w s op key r v t → IsSession after v t
+      → (e : Result (Option ℕ) Failure) × (r ≡ answer_told e)
+  point_answers after w v s t key op r same h way is_at c session = let k = point_done w v s t key op r h way is_at c (subst (λ x. IsSession x v t) same session) in (k.0, k.1)
+
+  pub point_call : (after : Shards M S G) (w v : Walker M S G) (s t : Progress) (key : ℕ) (asked op : Op) (r : Result (Option ℕ) OpError) (result : Result Answer TryEnd) → after ≡ sh → asked ≡ op → Holds sh w s → IsUnderWay s → IsAt key op
+      → PointCalled sh w s op key r v t → IsSession after v t → ((e : Result (Option ℕ) Failure) → r ≡ answer_told e → result ≡ value_end e) → Done w s asked result after v t
+  point_call after w v s t key asked op r result same is h way is_at c session told =
+      let k = point_done w v s t key op r h way is_at c (subst (λ x. IsSession x v t) same session) in
+      subst (λ x. Done w s x result after v t) (sym is) (subst (λ x. Done w s op x after v t) (sym (told k.0 k.1)) (subst (λ x. Done w s op (value_end k.0) x v t) (sym same) k.2))
+
+  -- of a scan up to hi, which is small
+  scan_so : (after : Shards M S G) (w v : Walker M S G) (s t : Progress) (lo hi upto : ℕ) (asked : Op) (r : Result (List (ℕ × ℕ)) OpError) → after ≡ sh → asked ≡ Scan lo hi → upto ≡ hi → Holds sh w s → IsUnderWay s → has_range asked ≡ true → hi < 2 ^ 64
+      → ScanCalled sh w s lo upto r v t → IsSession after v t → ScanDone w s lo hi r v t
+  scan_so after w v s t lo hi upto asked r same is end h way range small c session =
+      scan_done w v s t lo hi r h way (ap has_range (sym is) ∙ range) small (subst (λ x. ScanCalled sh w s lo x r v t) end c) (subst (λ x. IsSession x v t) same session)
+
+  pub scan_answers : (after : Shards M S G) (w v : Walker M S G) (s t : Progress) (lo hi upto : ℕ) (asked : Op) (r : Result (List (ℕ × ℕ)) OpError) → after ≡ sh → asked ≡ Scan lo hi → upto ≡ hi → Holds sh w s → IsUnderWay s → has_range asked ≡ true → hi < 2 ^ 64
+      → ScanCalled sh w s lo upto r v t → IsSession after v t → (e : Result (List (ℕ × ℕ)) Failure) × (r ≡ answer_told e)
+  scan_answers after w v s t lo hi upto asked r same is end h way range small c session = let k = scan_so after w v s t lo hi upto asked r same is end h way range small c session in (k.0, k.1)
+
+  pub scan_call : (after : Shards M S G) (w v : Walker M S G) (s t : Progress) (lo hi upto : ℕ) (asked : Op) (r : Result (List (ℕ × ℕ)) OpError) (result : Result Answer TryEnd) → after ≡ sh → asked ≡ Scan lo hi → upto ≡ hi → Holds sh w s → IsUnderWay s
+      → has_range asked ≡ true → hi < 2 ^ 64 → ScanCalled sh w s lo upto r v t → IsSession after v t → ((e : Result (List (ℕ × ℕ)) Failure) → r ≡ answer_told e → result ≡ pairs_end e) → Done w s asked result after v t
+  scan_call after w v s t lo hi upto asked r result same is end h way range small c session told =
+      let k = scan_so after w v s t lo hi upto asked r same is end h way range small c session in
+      subst (λ x. Done w s x result after v t) (sym is) (subst (λ x. Done w s (Scan lo hi) x after v t) (sym (told k.0 k.1)) (subst (λ x. Done w s (Scan lo hi) (pairs_end k.0) x v t) (sym same) k.2))

@@ -1,5 +1,5 @@
 -- An operation has a part on some shard.
-use Rattle.std.proofs.Common.{◌≡◌, ◌∙◌, refl, sym, ap, subst, ℕ, zero, suc, ◌+◌, ◌<◌, ◌≤◌, ◌^◌, Bool, true, false, cond, max, min, nat_le, List, [], ◌∷◌, ◌++◌, Option, Some, None, arith, eq-eqb}
+use Rattle.std.proofs.Common.{◌≡◌, ◌∙◌, refl, sym, ap, ℕ, zero, suc, ◌+◌, ◌<◌, ◌≤◌, ◌^◌, true, false, cond, max, min, nat_le, List, [], ◌∷◌, ◌++◌, Option, Some, None, arith, eq-eqb}
 use Rattle.std.specs.Prelude.{IsTrue}
 use Rattle.std.proofs.lemmas.Bool.{both_ways, and_parts, leb-true, le-leb}
 use Rattle.std.proofs.lemmas.List.Sums.{count_by-le-length}
@@ -35,17 +35,14 @@ is_shard splits k = let h = count_by-le-length (λ s. nat_le s k) splits in omeg
 
 -- if one of so many shards is met there is a first one
 some_part : (splits : List ℕ) (lo hi n a k : ℕ) (op : Op) → scan_within lo hi (span splits n) ≡ Some op → a ≤ n → n < a + k → HasPart (scan_parts splits lo hi a k)
-some_part splits lo hi n a zero op is low high = omega arith
-some_part splits lo hi n a (suc k) op is low high = at (scan_within lo hi (span splits a)) refl
+some_part splits lo hi n a zero op is low high = absurd (omega arith)
+some_part splits lo hi n a (suc k) op is low high = at (scan_within lo hi (span splits a)) refl (λ l h. some_part splits lo hi n (suc a) k op is l h)
   where
-    later : scan_within lo hi (span splits a) ≡ None → HasPart (scan_parts splits lo hi (suc a) k)
-    later none = dite (ℕ_discrete a n)
-        (λ here. (let wrong : None ≡ Some op = sym none ∙ ap (λ (m : ℕ). scan_within lo hi (span splits m)) here ∙ is in absurd cc))
-        (λ other. some_part splits lo hi n (suc a) k op is (omega arith) (omega arith))
-
-    at : (o : Option Op) → scan_within lo hi (span splits a) ≡ o → HasPart (part_at a o ++ scan_parts splits lo hi (suc a) k)
-    at (Some x) there = ((a, x), scan_parts splits lo hi (suc a) k, refl)
-    at None there = later there
+    at : (o : Option Op) → scan_within lo hi (span splits a) ≡ o → (suc a ≤ n → n < suc a + k → HasPart (scan_parts splits lo hi (suc a) k)) → HasPart (part_at a o ++ scan_parts splits lo hi (suc a) k)
+    at (Some x) there later = ((a, x), scan_parts splits lo hi (suc a) k, refl)
+    at None there later = dite (ℕ_discrete a n)
+        (λ here. (let wrong : None ≡ Some op = sym there ∙ ap (λ (m : ℕ). scan_within lo hi (span splits m)) here ∙ is in absurd cc))
+        (λ other. later (omega arith) (omega arith))
 
 pub scan_has_part : (splits : List ℕ) (lo hi : ℕ) → IsTrue (are_splits splits) → lo ≤ hi → hi < 2 ^ 64 → HasPart (parts_of splits (Scan lo hi))
 scan_has_part splits lo hi rise falls small =

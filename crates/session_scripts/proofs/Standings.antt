@@ -1,5 +1,5 @@
 -- How a session's last transaction stands, as whoever runs a script reads it.
-use Rattle.std.proofs.Common.{◌≡◌, ◌∙◌, refl, sym, ap, subst, ℕ, ◌≤◌, ◌^◌, ◌-◌, Bool, [], append-nil, Option, Some, None, inl, inr, arith}
+use Rattle.std.proofs.Common.{◌≡◌, refl, sym, ap, subst, ℕ, ◌≤◌, ◌^◌, ◌-◌, Bool, [], append-nil, Option, Some, None, inl, inr, arith}
 use Rattle.clv_base.specs.declared.names.TxId.{TxId}
 use Rattle.clv_base.specs.declared.names.Birth.{Birth}
 use Rattle.clv_base.specs.Sessions.{SessionState}
@@ -7,10 +7,10 @@ use Rattle.cluster_turns.specs.declared.shards.Shards.{Shards}
 use Rattle.cluster_turns.specs.declared.shards.Walker.{Walker}
 use Rattle.session_ops.specs.Standing.{HasBirth}
 use Rattle.session_endings.specs.Standings.{IsUnasked}
-use Rattle.script_runs.specs.Seen.{Standing, Idle, Active, Asked, Seen, Grows}
+use Rattle.script_runs.specs.Seen.{Idle, Active, Asked, Seen, Grows}
 use Rattle.session_api.specs.declared.progress.Progress.{Progress}
-use Rattle.session_told.specs.Seeing.{seen_as, touched_in, is_active}
-use Rattle.session_scripts.specs.Standing.{active_as, standing_of, seen_in}
+use Rattle.session_told.specs.Seeing.{touched_in}
+use Rattle.session_scripts.specs.Standing.{active_as, seen_in}
 
 -- ---- what is read
 

@@ -1,4 +1,5 @@
 // What the session's calls promise to whoever runs a script.
+ghost use Rattle.std.specs.Prelude.{◌≡◌, ◌<◌, ◌^◌};
 ghost use Rattle.session_scripts.specs.Standing.{Holds, seen_in};
 ghost use Rattle.session_scripts.specs.Grounds.{Grounds};
 
@@ -12,6 +13,14 @@ use script_runs::SessionCalls;
 use script_tries::{StopCause, TryEnd};
 use std::alloc::Global;
 use std::sync::Wait;
+
+// The upper end of a range is a number of 64 bits.
+fn bound(key: u64) -> u64
+    ensures same { result ≡ key }
+    ensures small { key < 2 ^ 64 }
+{
+    key
+}
 
 impl<'a, M: Flier, P: Pace, R: Wait> SessionCalls for ScriptSession<'a, M, P, R> {
     type Base = Shards<M>;
@@ -37,7 +46,7 @@ impl<'a, M: Flier, P: Pace, R: Wait> SessionCalls for ScriptSession<'a, M, P, R>
             Op::Get(key) => value_told(self.session.get(alloc, key)),
             Op::Put(key, value) => value_told(self.session.put(alloc, key, value)),
             Op::Del(key) => value_told(self.session.del(alloc, key)),
-            Op::Scan(lo, hi) => pairs_told(self.session.scan(alloc, lo, hi)),
+            Op::Scan(lo, hi) => pairs_told(self.session.scan(alloc, lo, bound(hi))),
         }
     }
 
