@@ -1,5 +1,5 @@
 -- What a cluster that was opened and closed leaves.
-use Rattle.std.proofs.Common.{◌≡◌, ◌≢◌, refl, sym, ap, ◌∙◌, subst, ℕ, zero, suc, ◌<◌, ◌≤◌, ◌^◌, ◌==◌, Bool, true, false, not, ◌&&◌, cond, nat_lt, List, [], ◌∷◌, length, map, get_or, Option, Some, None, Ok, Err, IfSome, arith}
+use Rattle.std.proofs.Common.{◌≡◌, ◌≢◌, refl, sym, ap, ◌∙◌, subst, inl, ℕ, zero, suc, ◌+◌, ◌<◌, ◌≤◌, ◌^◌, ◌==◌, Bool, true, false, not, ◌&&◌, cond, nat_lt, List, [], ◌∷◌, length, map, get_or, Option, Some, None, Ok, Err, IfSome, arith}
 use Rattle.std.specs.Prelude.{slice_get}
 use Rattle.std.specs.List.{list_all}
 use Rattle.std.proofs.lemmas.Bool.{both_ways, and_parts, and_from, ltb-true, ltb-false, eq-eqb, ne_eqb}
@@ -156,7 +156,7 @@ module _
   durable = logs_left_from states (λ n. false) 0 count
 
   durable_is : (n : ℕ) → n < count → log_of durable n ≡ log_left (states n) false
-  durable_is n l = left_at states (λ m. false) 0 count n l
+  durable_is n l = left_at states (λ m. false) 0 count n l ∙ ap (λ m. log_left (states m) false) (let e : 0 + n ≡ n = omega arith in e)
 
   history : MakesHistory sh.splits (founds_of sh) durable kept.journals states (walked_by walkers)
   history = r.closed.legal durable (length_left states (λ n. false) 0 count) (λ n l. (false, inl (durable_is n l)))
