@@ -12,7 +12,7 @@ use Rattle.clv_base.specs.LogRules.{log_of}
 use Rattle.clv_base.specs.FileRules.{may_open}
 use Rattle.clv_base.specs.State.{Shard}
 use Rattle.clv_base.specs.Restarts.{run_after, log_left}
-use Rattle.clv_base.specs.Journals.{History, start_of, logs_left_from}
+use Rattle.clv_base.specs.Journals.{History, journal_of, start_of, logs_left_from}
 use Rattle.clv_base.specs.Machines.{Runs}
 use Rattle.disk_model.specs.Story.{Story, reads}
 use Rattle.disk_model.specs.Disk.{Rose}
@@ -163,9 +163,10 @@ module _
 
   runs_at : (n : ℕ) → n < count → Runs (start_of kept.found n) (journal_at kept.journals n) (states n)
   runs_at n l =
+      let es = journal_of n (entries_of kept.journals) in
+      let begins = start_of (founds_of sh) n in
       subst (λ f. Runs (start_of f n) (journal_at kept.journals n) (states n)) (sym r.closed.founds_are)
-      (subst (λ j. Runs (start_of (founds_of sh) n) j (states n)) (history.same_journals n l)
-      (subst (λ t. Runs (start_of (founds_of sh) n) _ t) (history.same_states n l) (run_made (log_of durable n) (start_of (founds_of sh) n) _ (history.legal.runs n l))))
+      (subst (λ j. Runs begins j (states n)) (history.same_journals n l) (subst (λ t. Runs begins es t) (history.same_states n l) (run_made (log_of durable n) begins es (history.legal.runs n l))))
 
   pub ended : ClusterEnded sh.splits before now counts counts_now kept states (walked_by walkers)
   ended = record {
