@@ -1,8 +1,7 @@
 -- What a cluster that was opened and closed leaves.
-use Rattle.std.proofs.Common.{◌≡◌, ◌≢◌, refl, sym, ap, ◌∙◌, subst, inl, ℕ, zero, suc, ◌+◌, ◌<◌, ◌≤◌, ◌^◌, ◌==◌, Bool, true, false, not, ◌&&◌, cond, nat_lt, List, [], ◌∷◌, length, map, get_or, Option, Some, None, Ok, Err, IfSome, arith}
+use Rattle.std.proofs.Common.{◌≡◌, ◌≢◌, refl, sym, ap, ◌∙◌, subst, inl, ℕ, zero, suc, ◌+◌, ◌<◌, ◌≤◌, ◌^◌, Bool, true, false, not, ◌&&◌, cond, nat_lt, List, [], ◌∷◌, length, map, get_or, Option, Some, None, Ok, Err, IfSome, arith}
 use Rattle.std.specs.Prelude.{slice_get}
-use Rattle.std.specs.List.{list_all}
-use Rattle.std.proofs.lemmas.Bool.{both_ways, and_parts, and_from, ltb-true, ltb-false, eq-eqb, ne_eqb}
+use Rattle.std.proofs.lemmas.Bool.{and_parts, and_from, ltb-true, ltb-false, eq-eqb, ne_eqb}
 use Rattle.clv_base.specs.declared.logs.LogRecord.{LogRecord}
 use Rattle.clv_base.specs.declared.events.Event.{Event}
 use Rattle.clv_base.specs.declared.events.Event.TheVariants.{Op, Request, Look, Drop, Send, Deliver, Remind, FlushOut, FlushIn, Stop, Restart}
@@ -12,7 +11,7 @@ use Rattle.clv_base.specs.LogRules.{log_of}
 use Rattle.clv_base.specs.FileRules.{may_open}
 use Rattle.clv_base.specs.State.{Shard}
 use Rattle.clv_base.specs.Restarts.{run_after, log_left}
-use Rattle.clv_base.specs.Journals.{History, journal_of, start_of, logs_left_from}
+use Rattle.clv_base.specs.Journals.{journal_of, start_of, logs_left_from}
 use Rattle.clv_base.specs.Machines.{Runs}
 use Rattle.disk_model.specs.Story.{Story, reads}
 use Rattle.disk_model.specs.Disk.{Rose}
@@ -41,13 +40,12 @@ use Rattle.script_tries.specs.declared.ends.StopCause.TheVariants as stop
 use Rattle.script_tries.specs.Sessions.{session_entries}
 use Rattle.shards_promises.specs.Ended.{ClusterEnded, runs_on}
 use Rattle.shards_promises.specs.Sessions.{Went, Begun, SessionWent, SessionsWent}
-use Rattle.shards_promises.specs.Promises.{RunPromised}
 use Rattle.shards_promises.specs.Down.{IsLowestDown, IsLowestFault}
 use Rattle.shards_promises.proofs.Promising.{runs_are_promised}
 use Rattle.shards_promises.proofs.Down.{lowest_down_is_fault}
 use Rattle.run_status.specs.Running.{End, IsOk, status_by}
 use Rattle.run_ends.specs.Ends.{end_of, walked_by, IsClosedRun}
-use Rattle.run_ends.specs.Statuses.{CountsStand, StatusTold}
+use Rattle.run_ends.specs.Statuses.{StatusTold}
 use Rattle.run_ends.specs.Laws.{ClustersEnd, OthersStand, AllAreIn, RunsKeep, SessionsHaveGone, StatusesTell}
 
 -- ---- lists
