@@ -1,8 +1,7 @@
 -- What a cluster that was opened and closed leaves.
-use Rattle.std.proofs.Common.{◌≡◌, ◌≢◌, refl, sym, ap, ◌∙◌, subst, ℕ, zero, suc, ◌<◌, ◌≤◌, ◌^◌, ◌==◌, Bool, true, false, not, ◌&&◌, cond, nat_lt, List, [], ◌∷◌, length, map, get_or, Option, Some, None, Ok, Err, IfSome, arith}
+use Rattle.std.proofs.Common.{◌≡◌, ◌≢◌, refl, sym, ap, ◌∙◌, subst, inl, ℕ, zero, suc, ◌+◌, ◌<◌, ◌≤◌, ◌^◌, Bool, true, false, not, ◌&&◌, cond, nat_lt, List, [], ◌∷◌, length, map, get_or, Option, Some, None, Ok, Err, IfSome, arith}
 use Rattle.std.specs.Prelude.{slice_get}
-use Rattle.std.specs.List.{list_all}
-use Rattle.std.proofs.lemmas.Bool.{both_ways, and_parts, and_from, ltb-true, ltb-false, eq-eqb, ne_eqb}
+use Rattle.std.proofs.lemmas.Bool.{and_parts, and_from, ltb-true, ltb-false, eq-eqb, ne_eqb}
 use Rattle.clv_base.specs.declared.logs.LogRecord.{LogRecord}
 use Rattle.clv_base.specs.declared.events.Event.{Event}
 use Rattle.clv_base.specs.declared.events.Event.TheVariants.{Op, Request, Look, Drop, Send, Deliver, Remind, FlushOut, FlushIn, Stop, Restart}
@@ -12,7 +11,7 @@ use Rattle.clv_base.specs.LogRules.{log_of}
 use Rattle.clv_base.specs.FileRules.{may_open}
 use Rattle.clv_base.specs.State.{Shard}
 use Rattle.clv_base.specs.Restarts.{run_after, log_left}
-use Rattle.clv_base.specs.Journals.{History, start_of, logs_left_from}
+use Rattle.clv_base.specs.Journals.{journal_of, start_of, logs_left_from}
 use Rattle.clv_base.specs.Machines.{Runs}
 use Rattle.disk_model.specs.Story.{Story, reads}
 use Rattle.disk_model.specs.Disk.{Rose}
@@ -41,13 +40,12 @@ use Rattle.script_tries.specs.declared.ends.StopCause.TheVariants as stop
 use Rattle.script_tries.specs.Sessions.{session_entries}
 use Rattle.shards_promises.specs.Ended.{ClusterEnded, runs_on}
 use Rattle.shards_promises.specs.Sessions.{Went, Begun, SessionWent, SessionsWent}
-use Rattle.shards_promises.specs.Promises.{RunPromised}
 use Rattle.shards_promises.specs.Down.{IsLowestDown, IsLowestFault}
 use Rattle.shards_promises.proofs.Promising.{runs_are_promised}
 use Rattle.shards_promises.proofs.Down.{lowest_down_is_fault}
 use Rattle.run_status.specs.Running.{End, IsOk, status_by}
 use Rattle.run_ends.specs.Ends.{end_of, walked_by, IsClosedRun}
-use Rattle.run_ends.specs.Statuses.{CountsStand, StatusTold}
+use Rattle.run_ends.specs.Statuses.{StatusTold}
 use Rattle.run_ends.specs.Laws.{ClustersEnd, OthersStand, AllAreIn, RunsKeep, SessionsHaveGone, StatusesTell}
 
 -- ---- lists
@@ -156,16 +154,17 @@ module _
   durable = logs_left_from states (λ n. false) 0 count
 
   durable_is : (n : ℕ) → n < count → log_of durable n ≡ log_left (states n) false
-  durable_is n l = left_at states (λ m. false) 0 count n l
+  durable_is n l = left_at states (λ m. false) 0 count n l ∙ ap (λ m. log_left (states m) false) (let e : 0 + n ≡ n = omega arith in e)
 
   history : MakesHistory sh.splits (founds_of sh) durable kept.journals states (walked_by walkers)
   history = r.closed.legal durable (length_left states (λ n. false) 0 count) (λ n l. (false, inl (durable_is n l)))
 
   runs_at : (n : ℕ) → n < count → Runs (start_of kept.found n) (journal_at kept.journals n) (states n)
   runs_at n l =
+      let es = journal_of n (entries_of kept.journals) in
+      let begins = start_of (founds_of sh) n in
       subst (λ f. Runs (start_of f n) (journal_at kept.journals n) (states n)) (sym r.closed.founds_are)
-      (subst (λ j. Runs (start_of (founds_of sh) n) j (states n)) (history.same_journals n l)
-      (subst (λ t. Runs (start_of (founds_of sh) n) _ t) (history.same_states n l) (run_made (log_of durable n) (start_of (founds_of sh) n) _ (history.legal.runs n l))))
+      (subst (λ j. Runs begins j (states n)) (history.same_journals n l) (subst (λ t. Runs begins es t) (history.same_states n l) (run_made (log_of durable n) begins es (history.legal.runs n l))))
 
   pub ended : ClusterEnded sh.splits before now counts counts_now kept states (walked_by walkers)
   ended = record {

@@ -2,4 +2,4 @@ use Rattle.run_ends.proofs.Ending.{others_stand}
 use Rattle.run_ends.proofs.promises.others_stand.Goals as goal
 
 pub returns : goal.returns
-returns c = others_stand
+returns g c = others_stand

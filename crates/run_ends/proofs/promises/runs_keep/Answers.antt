@@ -2,4 +2,4 @@ use Rattle.run_ends.proofs.Ending.{runs_keep}
 use Rattle.run_ends.proofs.promises.runs_keep.Goals as goal
 
 pub returns : goal.returns
-returns c = runs_keep
+returns g c = runs_keep

@@ -2,4 +2,4 @@ use Rattle.run_ends.proofs.Ending.{sessions_have_gone}
 use Rattle.run_ends.proofs.promises.sessions_have_gone.Goals as goal
 
 pub returns : goal.returns
-returns c = sessions_have_gone
+returns g c = sessions_have_gone

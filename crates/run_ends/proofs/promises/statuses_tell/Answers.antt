@@ -2,4 +2,4 @@ use Rattle.run_ends.proofs.Ending.{statuses_tell}
 use Rattle.run_ends.proofs.promises.statuses_tell.Goals as goal
 
 pub returns : goal.returns
-returns c = statuses_tell
+returns g c = statuses_tell
