@@ -54,9 +54,9 @@ pub(crate) fn leave_seats<M: Flier, P: Pace, R: Wait>(
 )
     requires room { vec_len walkers.old + vec_len seats ≤ vec_capacity walkers.old }
     requires one { vec_len walkers.old ≡ 1 }
-    ensures len { vec_len walkers.new ≡ vec_len seats + 1 }
+    ensures len { vec_len walkers.new ≡ vec_len seats.entry + 1 }
     ensures first { (d : _) → slice_index_or walkers.new.items 0 d ≡ slice_index_or walkers.old.items 0 d }
-    ensures walkers { (k : ℕ) (d e : _) → k < vec_len seats → slice_index_or walkers.new.items (suc k) d ≡ (slice_index_or seats.items k e).session.session.walker }
+    ensures walkers { (k : ℕ) (d e : _) → k < vec_len seats.entry → slice_index_or walkers.new.items (suc k) d ≡ (slice_index_or seats.entry.items k e).session.session.walker }
 {
     for seat in seats {
         let Seat { session, .. } = seat;
