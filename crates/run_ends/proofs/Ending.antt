@@ -29,6 +29,7 @@ use Rattle.cluster_turns.specs.declared.home.Home.{Home}
 use Rattle.cluster_turns.specs.declared.shards.Shards.{Shards}
 use Rattle.cluster_turns.specs.declared.shards.Walker.{Walker}
 use Rattle.cluster_turns.specs.Walkers.{own_lists, founds_of}
+use Rattle.cluster_restart.specs.declared.fetching.Fetched.{Fetched}
 use Rattle.cluster_holding.specs.Held.{never_restarts}
 use Rattle.cluster_ends.specs.Legal.{state_at, views_of}
 use Rattle.cluster_closing.specs.Closing.{IsBack}
@@ -75,6 +76,11 @@ state_here state founds homes n d l = ap (λ o. elim o [ Some h ↦ state h | No
 length_left : (states : ℕ → Shard) (choice : ℕ → Bool) (n k : ℕ) → length (logs_left_from states choice n k) ≡ k
 length_left states choice n zero = refl
 length_left states choice n (suc k) = ap suc (length_left states choice (suc n) k)
+
+-- a disk that came back where none was fetched
+pub none_fetched : {D : Type 0} (s : Shard) (n : ℕ) (fetched : List (Fetched D)) (before now : ℕ) (out : Bool) (story : Option Story) → length fetched ≡ 0 → IsBack s n fetched before now out story → IsBack {D = D} s n [] before now out story
+none_fetched s n [] before now out story none back = back
+none_fetched s n (f ∷ fs) before now out story none back = absurd (omega arith)
 
 -- ---- no stop and no restart
 
