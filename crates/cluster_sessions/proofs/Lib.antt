@@ -1,2 +1,4 @@
+mod Drained
 mod Sending
+mod Sitting
 mod Steps

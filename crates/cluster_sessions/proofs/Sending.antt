@@ -23,6 +23,7 @@ use Rattle.turn_lock.specs.contracts.pass.TurnLock as Lock
 use Rattle.cluster_turns.specs.contracts.shards.Shards as shards
 use Rattle.session_api.specs.contracts.session.Session as session
 use Rattle.session_api.proofs.progress.Progress.TheSendSync as progress
+use Rattle.session_scripts.specs.contracts.session.ScriptSession as script
 
 pub home_send : (M S G : RattleType) → IsSend M → IsSend (home.the_field M S G).row
 home_send M S G m = search (origin.the_field_send, sendable, crosses) depth 30 fits 20000
@@ -62,3 +63,9 @@ session_send l M P R S G a b c m p r =
 
 pub session_row_send : (l : NamedLft) (M P R S G : RattleType) (a : _) (b : _) (c : _) → IsSend M → IsSync P → IsSync R → IsSend (session.the_row l M P R S G a b c)
 session_row_send l M P R S G a b c m p r = let W = session.the_type l M P R S G a b c in recorded_send (Struct (shape W)) W.D W.to W.to_one (session_send l M P R S G a b c m p r)
+
+pub script_send : (l : NamedLft) (M P R S G : RattleType) (a : _) (b : _) (c : _) → IsSend M → IsSync P → IsSync R → IsSend (script.the_field l M P R S G a b c).row
+script_send l M P R S G a b c m p r = struct_send (shape (script.the_type l M P R S G a b c)) (session_send l M P R S G a b c m p r, tt)
+
+pub script_row_send : (l : NamedLft) (M P R S G : RattleType) (a : _) (b : _) (c : _) → IsSend M → IsSync P → IsSync R → IsSend (script.the_row l M P R S G a b c)
+script_row_send l M P R S G a b c m p r = let W = script.the_type l M P R S G a b c in recorded_send (Struct (shape W)) W.D W.to W.to_one (script_send l M P R S G a b c m p r)

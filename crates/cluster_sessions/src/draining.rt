@@ -5,7 +5,8 @@ ghost use Rattle.session_scripts.specs.Standing.{IsAtRest};
 ghost use Rattle.cluster_sessions.specs.Sessions.{HasWornLast};
 
 use cluster_drain::{DrainError, drain};
-use cluster_turns::{Shards, Walker};
+use cluster_landing::promises::drains_land;
+use cluster_turns::{Home, Shards, Walker};
 use io_edge::Pace;
 use machine_calls::Flier;
 use script_tries::StopCause;
@@ -38,6 +39,7 @@ pub(crate) fn drain_all<M: Flier, P: Pace, R: Wait>(
     ensures rest { IsAtRest shards.now 0 walker.new }
     ensures worn { HasWornLast result }
 {
+    drains_land::<Home<M>>();
     match drain(rt, alloc, shards, walker, pace) {
         Ok(()) => Ok(()),
         Err(error) => Err(stop_of(error)),

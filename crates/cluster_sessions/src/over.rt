@@ -33,6 +33,7 @@ pub fn run_over<M: Flier + Send, P: Pace + Sync, R: Threads + Wait + Sync>(
     most: Option<u32>,
 ) -> Result<(), StopCause>
 where
+    M::Store: Send,
     M::Gate: Send,
     requires count { vec_len walkers.old ≡ length sessions.now + 1 }
     requires few { length sessions.now ≤ 64 }

@@ -30,6 +30,7 @@ fn run_seats<M: Flier + Send, P: Pace + Sync, R: Threads + Wait + Sync>(
     most: Option<u32>,
 )
 where
+    M::Store: Send,
     M::Gate: Send,
     requires count { vec_len seats.old ≡ length sessions.now }
     requires narrow { list_all (list_all is_narrow_body) sessions.now ≡ true }
@@ -51,6 +52,7 @@ pub(crate) fn run_sessions<M: Flier + Send, P: Pace + Sync, R: Threads + Wait + 
     most: Option<u32>,
 ) -> Result<(), StopCause>
 where
+    M::Store: Send,
     M::Gate: Send,
     requires count { vec_len walkers.old ≡ length sessions.now + 1 }
     requires few { length sessions.now ≤ 64 }

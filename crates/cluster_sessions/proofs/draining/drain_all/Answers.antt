@@ -1,0 +1,8 @@
+use Rattle.cluster_sessions.proofs.Drained.{drained}
+use Rattle.cluster_sessions.proofs.draining.drain_all.Goals as goal
+
+pub returns-in-Ok-clause-rest : goal.returns-in-Ok-clause-rest
+returns-in-Ok-clause-rest g c = drained c.drains_land.ensures c.args.shards.now c.args.walker.now c.drain.new.walker _ c.requires.rest c.in-Ok.ensures.walker c.in-Ok.ensures.drained
+
+pub returns-in-Err-clause-rest : goal.returns-in-Err-clause-rest
+returns-in-Err-clause-rest g c = drained c.drains_land.ensures c.args.shards.now c.args.walker.now c.drain.new.walker _ c.requires.rest c.in-Err.ensures.walker c.in-Err.ensures.drained
