@@ -1,5 +1,5 @@
 -- What a drain leaves.
-use Rattle.std.proofs.Common.{◌≡◌, ◌∙◌, sym, subst, length, None, Result}
+use Rattle.std.proofs.Common.{◌∙◌, sym, subst, length, None, Result}
 use Rattle.cluster_turns.specs.declared.home.Home.{Home}
 use Rattle.cluster_turns.specs.declared.shards.Shards.{Shards}
 use Rattle.cluster_turns.specs.declared.shards.Walker.{Walker}
@@ -9,15 +9,15 @@ use Rattle.cluster_drain.specs.Rounds.{DrainTold}
 use Rattle.cluster_landing.specs.Landed.{HasLanded}
 use Rattle.cluster_landing.specs.Laws.{DrainsLand}
 use Rattle.cluster_holding.specs.Held.{HoldsNone}
-use Rattle.cluster_holding.proofs.Laws.{drains_hold_none, drains_fetch_none}
+use Rattle.cluster_holding.specs.Laws.{DrainsHoldNone, DrainsFetchNone}
 use Rattle.session_scripts.specs.Standing.{IsAtRest}
 
-pub drained : {M S G : Type 0} → DrainsLand (Home M S G) → (sh : Shards M S G) (w v : Walker M S G) (r : Result Unit DrainError) → IsAtRest sh 0 w → IsWalker sh v × IsSameWalker w v
-    → DrainTold (length sh.locks.items) w.number w.clock w.passes.items r v.clock v.passes.items → IsAtRest sh 0 v
-drained land sh w v r rest walks told = record {
+pub drained : {M S G : Type 0} → DrainsLand (Home M S G) → DrainsHoldNone (Home M S G) → DrainsFetchNone (Home M S G) → (sh : Shards M S G) (w v : Walker M S G) (r : Result Unit DrainError)
+    → IsAtRest sh 0 w → IsWalker sh v × IsSameWalker w v → DrainTold (length sh.locks.items) w.number w.clock w.passes.items r v.clock v.passes.items → IsAtRest sh 0 v
+drained lands holds fetches sh w v r rest walks told = record {
   walker = walks.0;
   number_is = walks.1.0 ∙ rest.number_is;
-  landed = subst (λ n. HasLanded n v.passes.items) (sym walks.1.0) (land (length sh.locks.items) w.number w.clock w.passes.items r v.clock v.passes.items told rest.landed);
-  fetched = drains_fetch_none _ (length sh.locks.items) w.number w.clock w.passes.items r v.clock v.passes.items told rest.fetched;
-  disks = subst (λ n. HoldsNone n v.passes.items) (sym walks.1.0) (drains_hold_none _ None (length sh.locks.items) w.number w.clock w.passes.items r v.clock v.passes.items told rest.disks);
+  landed = subst (λ n. HasLanded n v.passes.items) (sym walks.1.0) (lands (length sh.locks.items) w.number w.clock w.passes.items r v.clock v.passes.items told rest.landed);
+  fetched = fetches (length sh.locks.items) w.number w.clock w.passes.items r v.clock v.passes.items told rest.fetched;
+  disks = subst (λ n. HoldsNone n v.passes.items) (sym walks.1.0) (holds None (length sh.locks.items) w.number w.clock w.passes.items r v.clock v.passes.items told rest.disks);
 }

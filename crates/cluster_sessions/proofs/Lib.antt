@@ -1,4 +1,5 @@
 mod Drained
+mod Gone
 mod Sending
 mod Sitting
 mod Steps

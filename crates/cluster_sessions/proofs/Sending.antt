@@ -1,15 +1,12 @@
 use denote.RattleType.{RattleType}
 use denote.Ref.{NamedLft}
-use denote.Param.{param}
 use denote.Param.Send.{IsSend, IsSync, sendable, recorded_send, struct_send}
 use denote.Struct.Struct.{Struct}
-use denote.Struct.Declared.{shape, row}
+use denote.Struct.Declared.{shape}
 use Rattle.std.proofs.Crossing.{crosses, Vec-send}
 use Rattle.turn_laws.proofs.notes.Origin.TheSendSync as origin
-use Rattle.turn_laws.proofs.notes.Note.TheSendSync as note
 use Rattle.turn_lock.proofs.pass.Pass.TheSendSync as pass
 use Rattle.turn_lock.proofs.pass.TurnLock.TheSendSync as lock
-use Rattle.clv_base.proofs.logs.LogRecord.TheSendSync as logs
 use Rattle.std.specs.contracts.option.Option as option
 use Rattle.turn_laws.specs.contracts.notes.Origin as Origin
 use Rattle.turn_laws.specs.contracts.notes.Note as Note
@@ -19,7 +16,6 @@ use Rattle.cluster_turns.specs.contracts.shards.Walker as walker
 use denote.Param.Send.{struct_sync, recorded_sync}
 use Rattle.std.proofs.Crossing.{Vec-sync}
 use Rattle.clv_base.proofs.splits.Splits.TheSendSync as splits
-use Rattle.turn_lock.specs.contracts.pass.TurnLock as Lock
 use Rattle.cluster_turns.specs.contracts.shards.Shards as shards
 use Rattle.session_api.specs.contracts.session.Session as session
 use Rattle.session_api.proofs.progress.Progress.TheSendSync as progress

@@ -1,16 +1,15 @@
 -- What a session of a seat leaves.
-use Rattle.std.proofs.Common.{◌≡◌, refl, ◌∙◌, sym, ap, subst, arith, Bool, true, false, ◌&&◌, ℕ, zero, suc, ◌+◌, ◌<◌, List, [], ◌∷◌, ◌++◌, length, take, get_or, Option, Some, Err, IfErr, slice_get}
+use Rattle.std.proofs.Common.{◌≡◌, refl, ◌∙◌, sym, subst, arith, Bool, true, false, ◌&&◌, ℕ, zero, suc, ◌<◌, List, [], ◌∷◌, ◌++◌, length, take, get_or, Option, Some, IfErr, slice_get}
 use Rattle.std.specs.List.{list_all}
 use Rattle.std.proofs.lemmas.List.{get_or_append_left, get_or-take}
 use Rattle.cluster_turns.specs.declared.shards.Shards.{Shards}
 use Rattle.cluster_turns.specs.declared.shards.Walker.{Walker}
 use Rattle.script_lang.specs.Bodies.{Body}
 use Rattle.script_lang.specs.Laws.{is_narrow_body}
-use Rattle.script_tries.specs.declared.ends.StopCause.TheVariants.{Worn}
 use Rattle.script_runs.specs.Ran.{stop_in, Follows}
 use Rattle.run_status.specs.Running.{End}
 use Rattle.session_api.specs.declared.progress.Progress.{Progress}
-use Rattle.session_scripts.specs.Standing.{Holds, IsAtRest, seen_in, standing_of}
+use Rattle.session_scripts.specs.Standing.{Holds, seen_in, standing_of}
 use Rattle.session_scripts.specs.Grounds.{Grounds}
 use Rattle.session_scripts.proofs.Laws.{sessions_rest, scripts_follow}
 use Rattle.cluster_sessions.specs.Sessions.{IsSeated, HasSat, HasWornLast}

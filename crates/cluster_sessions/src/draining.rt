@@ -5,6 +5,7 @@ ghost use Rattle.session_scripts.specs.Standing.{IsAtRest};
 ghost use Rattle.cluster_sessions.specs.Sessions.{HasWornLast};
 
 use cluster_drain::{DrainError, drain};
+use cluster_holding::promises::{drains_fetch_none, drains_hold_none};
 use cluster_landing::promises::drains_land;
 use cluster_turns::{Home, Shards, Walker};
 use io_edge::Pace;
@@ -40,6 +41,8 @@ pub(crate) fn drain_all<M: Flier, P: Pace, R: Wait>(
     ensures worn { HasWornLast result }
 {
     drains_land::<Home<M>>();
+    drains_hold_none::<Home<M>>();
+    drains_fetch_none::<Home<M>>();
     match drain(rt, alloc, shards, walker, pace) {
         Ok(()) => Ok(()),
         Err(error) => Err(stop_of(error)),

@@ -70,7 +70,7 @@ where
     };
     let mut seats = take_seats(rt, shards, pace, walkers, sessions, room);
     run_seats(rt, alloc, shards, sessions, &mut seats, most);
-    let end = gravest(&seats);
+    let end = gravest(seats.as_slice());
     leave_seats(walkers, seats);
     end
 }

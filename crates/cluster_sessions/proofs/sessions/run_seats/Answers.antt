@@ -2,7 +2,7 @@ use mir.Syntax.{named}
 use denote.Ref.{NamedLft}
 use denote.Param.{param}
 use denote.Param.Send.{param_send}
-use Rattle.std.proofs.Common.{arith, ◌≡◌, ◌∙◌, ◌<◌, ℕ, true, sym, ap, subst, length, get_or, Some, slice_get}
+use Rattle.std.proofs.Common.{arith, ◌≡◌, ◌<◌, true, sym, subst, length, get_or}
 use Rattle.std.specs.List.{list_all}
 use Rattle.script_lang.specs.Laws.{is_narrow_body}
 use Rattle.cluster_sessions.specs.Sessions.{IsSeated, HasSat}
