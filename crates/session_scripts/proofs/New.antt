@@ -1,5 +1,5 @@
 -- Sessions of new walkers.
-use Rattle.std.proofs.Common.{◌≡◌, ◌∙◌, refl, sym, ap, subst, ℕ, suc, ◌<◌, ◌≤◌, true, ◌&&◌, nat_le, List, [], ◌∷◌, ◌++◌, length, get_or, Option, Some, inl, inr, arith}
+use Rattle.std.proofs.Common.{◌≡◌, ◌∙◌, refl, sym, ap, subst, ℕ, suc, ◌<◌, ◌≤◌, true, ◌&&◌, nat_le, List, [], ◌∷◌, ◌++◌, length, get_or, Option, Some, None, inl, inr, arith}
 use Rattle.std.proofs.lemmas.Bool.{lt-ltb, le-leb}
 use Rattle.history_replay.specs.Entries.{on_shard, merged, merged_from}
 use Rattle.clv_base.specs.Sessions.{no_session, is_session_number}
@@ -8,15 +8,19 @@ use Rattle.turn_lock.specs.declared.pass.Pass.{Pass}
 use Rattle.turn_lock.specs.Passes.{own}
 use Rattle.turn_laws.specs.declared.notes.Note.{Note}
 use Rattle.turn_laws.specs.declared.notes.Origin.{Origin}
-use Rattle.turn_laws.specs.Homes.{entries_in}
+use Rattle.turn_laws.specs.Homes.{entries_in, taker, is_taker}
 use Rattle.cluster_turns.specs.declared.shards.Shards.{Shards}
 use Rattle.cluster_turns.specs.declared.shards.Walker.{Walker}
 use Rattle.cluster_turns.specs.Walkers.{IsWalker, AreNewPasses, founds_of, own_of, own_lists, kept}
 use Rattle.cluster_landing.specs.Landed.{HasLanded}
-use Rattle.cluster_landing.proofs.Landing.{new_have_landed}
+use Rattle.turn_lock.specs.Journals.{entries_by}
+use Rattle.turn_laws.specs.Notes.{noter}
+use Rattle.cluster_landing.proofs.Laws.{new_pass}
 use Rattle.cluster_holding.specs.Held.{HoldsNone}
 use Rattle.cluster_holding.proofs.Laws.{new_walkers_hold_none, new_walkers_fetched_none}
-use Rattle.session_begins.proofs.New.{new_walkers_are_ready}
+use Rattle.session_progress.specs.States.{session_of}
+use Rattle.session_births.proofs.Laws.{new_are_informed}
+use Rattle.session_ops.specs.Standing.{IsReady}
 use Rattle.session_endings.specs.Standings.{IsUnasked}
 use Rattle.session_api.specs.declared.progress.Progress.{Progress}
 use Rattle.session_api.specs.declared.progress.Progress.TheVariants as progress
@@ -43,8 +47,24 @@ module _ {M S G : Type 0} where
       nothing_kept 0 w.passes.items
       (λ k d l. let low : k < length sh.locks.items = (let c = new.count in omega arith) in let t = new.each k d low in none_own t.0 (get_or w.passes.items k d) t.2 (t.3 (a_lock sh.locks.items (omega arith))).4)
 
+  new_landed : (sh : Shards M S G) (number : ℕ) (w : Walker M S G) → AreNewPasses (founds_of sh) sh.locks.items number w.passes.items → HasLanded number w.passes.items
+  new_landed sh number w new = record {
+    own = λ k p is. (let t = new_pass (founds_of sh) sh.locks.items number w.passes.items new k p is in t.1 ∙ ap (entries_by noter number) (sym t.0));
+    home = λ k p is. ap (λ l. is_taker (taker None (entries_in l)) number) (new_pass (founds_of sh) sh.locks.items number w.passes.items new k p is).0;
+  }
+
+  ready_new : (sh : Shards M S G) (w : Walker M S G) → IsWalker sh w → AreNewPasses (founds_of sh) sh.locks.items w.number w.passes.items → is_session_number w.number ≡ true → IsReady sh w (no_session sh.run w.number)
+  ready_new sh w is_walker new number = record {
+    walker = is_walker;
+    number = number;
+    state = ap (session_of sh.splits sh.run w.number) (keeps_nothing sh w.number w new);
+    serial = omega arith;
+    old = tt;
+    informed = new_are_informed (founds_of sh) sh.locks.items w.number w.clock w.passes.items new;
+  }
+
   landed_new : (sh : Shards M S G) (number : ℕ) (w : Walker M S G) → w.number ≡ number → AreNewPasses (founds_of sh) sh.locks.items number w.passes.items → HasLanded w.number w.passes.items
-  landed_new sh number w is new = subst (λ k. HasLanded k w.passes.items) (sym is) (new_have_landed (founds_of sh) sh.locks.items number w.passes.items new)
+  landed_new sh number w is new = subst (λ k. HasLanded k w.passes.items) (sym is) (new_landed sh number w new)
 
   none_new : (sh : Shards M S G) (number : ℕ) (w : Walker M S G) → w.number ≡ number → AreNewPasses (founds_of sh) sh.locks.items number w.passes.items → HoldsNone w.number w.passes.items
   none_new sh number w is new = subst (λ k. HoldsNone k w.passes.items) (sym is) (new_walkers_hold_none (founds_of sh) sh.locks.items number w.passes.items new)
@@ -60,7 +80,7 @@ new_walkers_are_sessions M S G sh number first w new splits low high = record {
       record {
         stands = (
           no_session sh.run w.number,
-          new_walkers_are_ready M S G sh w new.walker (subst (λ k. AreNewPasses (founds_of sh) sh.locks.items k w.passes.items) (sym new.number_is) new.new) (ap is_session_number new.number_is ∙ numbers_sessions number low high),
+          ready_new sh w new.walker (subst (λ k. AreNewPasses (founds_of sh) sh.locks.items k w.passes.items) (sym new.number_is) new.new) (ap is_session_number new.number_is ∙ numbers_sessions number low high),
         );
         landed = landed_new sh number w new.number_is new.new;
       };
