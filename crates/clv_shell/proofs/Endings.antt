@@ -1,69 +1,138 @@
--- How a run ends, as the program's status.
-use Rattle.std.proofs.Common.{◌≡◌, sym, subst, ℕ, List, [], Option, Some, Result, Ok, Err}
-use Rattle.clv_base.specs.declared.ops.Op.{Op}
+-- How a command ends that opened the shards, and one that did not.
+use Rattle.std.proofs.Common.{◌≡◌, refl, sym, subst, ⊎_elim, ℕ, ◌<◌, ◌≤◌, ◌^◌, true, nat_le, List, length, Option, Some, None, Result, Ok, Err, arith}
+use Rattle.std.specs.Prelude.{is_none}
+use Rattle.std.proofs.lemmas.Bool.{and_parts, leb-true}
+use Rattle.std.proofs.lemmas.Bool.{cases_lt}
+use Rattle.clv_base.specs.Shards.{shard_count, are_splits, not_rising}
+use Rattle.disk_model.specs.Story.{Story}
+use Rattle.cluster_beginning.specs.Begun.{LeavesDisks}
+use Rattle.cluster_runs.specs.Ran.{RanAll}
+use Rattle.disks_opening.specs.Opening.{Refuses, CountsOpen}
+use Rattle.disks_opening.specs.declared.error.OpenError.{OpenError}
+use Rattle.disks_opening.specs.declared.error.OpenError.TheVariants as opening
 use Rattle.history_replay.specs.Entries.{Kept}
-use Rattle.single_path.specs.Plan.{Stop}
-use Rattle.single_store.specs.declared.commits.CommitError.{CommitError}
-use Rattle.single_store.specs.declared.commits.CommitError.TheVariants as commits
-use Rattle.single_run.specs.Runs.{EndsAt, FollowsTo, AcknowledgesAll}
-use Rattle.clv_shell.specs.declared.command.Command.TheVariants.{Run, Show}
-use Rattle.clv_shell.specs.declared.status.Status.{Status}
-use Rattle.clv_shell.specs.declared.status.Status.TheVariants.{Fine, Usage, Script, ReadFault, WriteFault, DiskFault, NotLog, Memory, Worn, Exists}
-use Rattle.clv_shell.specs.Ends.{EndsBy, Follows, HasAllAt, HasScript, FollowsCommand}
-use Rattle.clv_shell.specs.Steps.{IsEnd}
+use Rattle.report_text.specs.declared.texts.ReportError.{ReportError}
+use Rattle.report_text.specs.declared.texts.ReportError.TheVariants as text
+use Rattle.run_ends.specs.Statuses.{StatusTold}
+use Rattle.run_status.specs.Refusals.{of_opening}
+use Rattle.run_status.specs.Running.{with_text}
+use Rattle.shards_promises.specs.Sessions.{Went}
+use Rattle.script_lang.specs.Bodies.{Body}
+use Rattle.run_status.specs.declared.status.Status.{Status}
+use Rattle.run_status.specs.declared.status.Status.TheVariants.{Fine, Usage, Script, ReadFault, WriteFault, DiskFault, NotLog, Memory, Worn, Exists, Apart}
+use Rattle.clv_shell.specs.Kinds.{IsOfRun, IsOfShow, IsOfShards}
+use Rattle.clv_shell.specs.Disks.{Closes}
+use Rattle.clv_shell.specs.Sinks.{TookPairs}
+use Rattle.clv_shell.specs.Causes.{BreaksLogs, BreaksScript, CountsSource, CountsSink, CountsDisks, Stand}
+use Rattle.clv_shell.specs.Runs.{EndsAs, Opened}
 
-ends_by : (ended : Result (Unit {0}) CommitError) (status : Status) (stop : Stop) → IsEnd ended status → EndsAt ended stop → EndsBy status stop
-ends_by ended Memory stop h e = tt
-ends_by (Ok a) Fine stop h e = e
-ends_by (Ok a) WriteFault stop h e = e
-ends_by (Err commits.Failed) (DiskFault shard) stop h e = e
-ends_by (Ok a) Usage stop h e = h
-ends_by (Ok a) (Script line) stop h e = h
-ends_by (Ok a) ReadFault stop h e = h
-ends_by (Ok a) (DiskFault shard) stop h e = absurd h
-ends_by (Ok a) (NotLog shard at) stop h e = h
-ends_by (Ok a) (Worn at) stop h e = h
-ends_by (Ok a) (Exists shard len) stop h e = h
-ends_by (Err commits.Failed) Fine stop h e = absurd h
-ends_by (Err commits.Failed) WriteFault stop h e = absurd h
-ends_by (Err commits.Failed) Usage stop h e = h
-ends_by (Err commits.Failed) (Script line) stop h e = h
-ends_by (Err commits.Failed) ReadFault stop h e = h
-ends_by (Err commits.Failed) (NotLog shard at) stop h e = h
-ends_by (Err commits.Failed) (Worn at) stop h e = h
-ends_by (Err commits.Failed) (Exists shard len) stop h e = h
-ends_by (Err commits.Memory) Fine stop h e = absurd h
-ends_by (Err commits.Memory) WriteFault stop h e = absurd h
-ends_by (Err commits.Memory) (DiskFault shard) stop h e = absurd h
-ends_by (Err commits.Memory) Usage stop h e = h
-ends_by (Err commits.Memory) (Script line) stop h e = h
-ends_by (Err commits.Memory) ReadFault stop h e = h
-ends_by (Err commits.Memory) (NotLog shard at) stop h e = h
-ends_by (Err commits.Memory) (Worn at) stop h e = h
-ends_by (Err commits.Memory) (Exists shard len) stop h e = h
+-- ---- the shards were opened
 
-follows_by : (transactions : List (List Op)) (ended : Result (Unit {0}) CommitError) (status : Status) (kept : Kept) → IsEnd ended status → FollowsTo transactions ended kept → Follows transactions status kept
-follows_by transactions ended status kept h f = record { stop = f.stop; ends = ends_by ended status f.stop h f.ends; follows = f.follows; no_stop = f.no_stop; failure = f.failure }
+told_of : (shards : ℕ) (counts counts_now : ℕ → ℕ) (sessions : ℕ) (went : ℕ → Went) (status : Status) → StatusTold shards counts counts_now sessions went status → IsOfShards status
+told_of shards counts counts_now sessions went Fine h = tt
+told_of shards counts counts_now sessions went Usage h = h
+told_of shards counts counts_now sessions went (Script line) h = h
+told_of shards counts counts_now sessions went ReadFault h = h
+told_of shards counts counts_now sessions went WriteFault h = h
+told_of shards counts counts_now sessions went (DiskFault shard) h = tt
+told_of shards counts counts_now sessions went (NotLog shard at) h = h
+told_of shards counts counts_now sessions went Memory h = tt
+told_of shards counts counts_now sessions went (Worn at) h = tt
+told_of shards counts counts_now sessions went (Exists shard len) h = h
+told_of shards counts counts_now sessions went (Apart tx) h = h
 
-has_all : (transactions : List (List Op)) (ended : Result (Unit {0}) CommitError) (status : Status) (kept : Kept) → IsEnd ended status → AcknowledgesAll transactions ended kept → HasAllAt status transactions kept
-has_all transactions (Ok a) Fine kept h all = all
-has_all transactions (Err commits.Failed) Fine kept h all = absurd h
-has_all transactions (Err commits.Memory) Fine kept h all = absurd h
-has_all transactions ended Usage kept h all = tt
-has_all transactions ended (Script line) kept h all = tt
-has_all transactions ended ReadFault kept h all = tt
-has_all transactions ended WriteFault kept h all = tt
-has_all transactions ended (DiskFault shard) kept h all = tt
-has_all transactions ended (NotLog shard at) kept h all = tt
-has_all transactions ended Memory kept h all = tt
-has_all transactions ended (Worn at) kept h all = tt
-has_all transactions ended (Exists shard len) kept h all = tt
+pub of_shards : (before now : ℕ → Option Story) (counts counts_now : ℕ → ℕ) (most : Option ℕ) (script : List (List Body)) (kept : Kept) (running : Status)
+    → RanAll before now counts counts_now most script kept running → IsOfShards running
+of_shards before now counts counts_now most script kept running r = told_of _ counts counts_now _ r.went running r.told
 
-pub follows_run : (left : Option (List ℕ)) (transactions : List (List Op)) (ended : Result (Unit {0}) CommitError) (status : Status) (kept : Kept) (history : Option Kept)
-    → history ≡ Some kept → HasScript left transactions → IsEnd ended status → FollowsTo transactions ended kept → AcknowledgesAll transactions ended kept → FollowsCommand Run left status history
-follows_run left transactions ended status kept history e script h f all =
-    subst (FollowsCommand Run left status) (sym e) (transactions, script, follows_by transactions ended status kept h f, has_all transactions ended status kept h all)
+few_splits : (splits : List ℕ) → are_splits splits ≡ true → length splits ≤ 15
+few_splits splits h = let p = and_parts (nat_le (length splits) 15) (is_none (not_rising splits)) h in leb-true (length splits) 15 p.0
 
-pub follows_show : (left : Option (List ℕ)) (ended : Result (Unit {0}) CommitError) (status : Status) (kept : Kept) (history : Option Kept)
-    → history ≡ Some kept → IsEnd ended status → FollowsTo [] ended kept → FollowsCommand Show left status history
-follows_show left ended status kept history e h f = subst (FollowsCommand Show left status) (sym e) (follows_by [] ended status kept h f)
+pub few_journals : (before now : ℕ → Option Story) (counts counts_now : ℕ → ℕ) (most : Option ℕ) (script : List (List Body)) (kept : Kept) (running : Status)
+    → RanAll before now counts counts_now most script kept running → length kept.journals < 2 ^ 32
+few_journals before now counts counts_now most script kept running r = omega (arith, r.shards, few_splits r.splits r.promised.keeps.legal.legal.splits_rise)
+
+-- what an ended command's status tells by itself
+pub record Tells (counts counts_now : ℕ → ℕ) (stories : ℕ → Option Story) (kept : Kept) (left : Option (List ℕ)) (faults faults' : ℕ) (status : Status) : Type 0 where
+  pub runs : IsOfRun status
+  pub shows : IsOfShow status
+  pub logs : BreaksLogs status (Some kept) stories
+  pub script : BreaksScript status left
+  pub source : CountsSource faults faults' status
+  pub disks : CountsDisks counts counts_now status
+
+stand : (shards : ℕ) (counts counts_now : ℕ → ℕ) → ((n : ℕ) → n < shards → counts_now n ≡ counts n) → ((n : ℕ) → shards ≤ n → counts_now n ≡ counts n) → Stand counts counts_now
+stand shards counts counts_now below above n = ⊎_elim (λ l. below n l) (λ l. above n l) (cases_lt n shards)
+
+module _ (counts counts_now : ℕ → ℕ) (stories : ℕ → Option Story) (kept : Kept) (left : Option (List ℕ)) (faults faults' : ℕ) (shards sessions : ℕ) (went : ℕ → Went) where
+  tells : (running : Status) (written : Result (Unit {0}) ReportError) → StatusTold shards counts counts_now sessions went running → ((n : ℕ) → shards ≤ n → counts_now n ≡ counts n) → faults' ≡ faults
+      → Tells counts counts_now stories kept left faults faults' (with_text running written)
+  tells Fine (Ok a) told above e = record { runs = tt; shows = tt; logs = tt; script = tt; source = e; disks = stand shards counts counts_now told.0 above }
+  tells Fine (Err text.Memory) told above e = record { runs = tt; shows = tt; logs = tt; script = tt; source = e; disks = tt }
+  tells Fine (Err text.Failed) told above e = record { runs = tt; shows = tt; logs = tt; script = tt; source = e; disks = stand shards counts counts_now told.0 above }
+  tells Usage written told above e = absurd told
+  tells (Script line) written told above e = absurd told
+  tells ReadFault written told above e = absurd told
+  tells WriteFault written told above e = absurd told
+  tells (DiskFault shard) (Ok a) told above e = record { runs = tt; shows = tt; logs = tt; script = tt; source = e; disks = (told.1, told.2) }
+  tells (DiskFault shard) (Err text.Memory) told above e = record { runs = tt; shows = tt; logs = tt; script = tt; source = e; disks = tt }
+  tells (DiskFault shard) (Err text.Failed) told above e = record { runs = tt; shows = tt; logs = tt; script = tt; source = e; disks = (told.1, told.2) }
+  tells (NotLog shard at) written told above e = absurd told
+  tells Memory (Ok a) told above e = record { runs = tt; shows = tt; logs = tt; script = tt; source = e; disks = tt }
+  tells Memory (Err text.Memory) told above e = record { runs = tt; shows = tt; logs = tt; script = tt; source = e; disks = tt }
+  tells Memory (Err text.Failed) told above e = record { runs = tt; shows = tt; logs = tt; script = tt; source = e; disks = tt }
+  tells (Worn at) (Ok a) told above e = record { runs = tt; shows = tt; logs = tt; script = tt; source = e; disks = stand shards counts counts_now told.1 above }
+  tells (Worn at) (Err text.Memory) told above e = record { runs = tt; shows = tt; logs = tt; script = tt; source = e; disks = tt }
+  tells (Worn at) (Err text.Failed) told above e = record { runs = tt; shows = tt; logs = tt; script = tt; source = e; disks = stand shards counts counts_now told.1 above }
+  tells (Exists shard len) written told above e = absurd told
+  tells (Apart tx) written told above e = absurd told
+
+pub ended_so : (before now : ℕ → Option Story) (counts counts_now : ℕ → ℕ) (most : Option ℕ) (script : List (List Body)) (kept : Kept) (left : Option (List ℕ)) (faults faults' : ℕ) (running status : Status)
+    → RanAll before now counts counts_now most script kept running → EndsAs running status → faults' ≡ faults → Tells counts counts_now before kept left faults faults' status
+ended_so before now counts counts_now most script kept left faults faults' running status r (written, is) e =
+    subst (Tells counts counts_now before kept left faults faults') (sym is)
+    (tells counts counts_now before kept left faults faults' (shard_count r.splits) (length script) r.went running written r.told (λ n l. (r.others n l).1) e)
+
+-- ---- they were not
+
+below : (n shard : ℕ) → n < shard → n ≡ shard → ⊥
+below n shard l e = omega (arith, l, e)
+
+pub record Refused (counts counts_now : ℕ → ℕ) (stories stories' : ℕ → Option Story) (left : Option (List ℕ)) (faults faults' taken : ℕ) (status : Status) : Type 0 where
+  pub runs : IsOfRun status
+  pub shows : IsOfShow status
+  pub opened : Opened None status
+  pub closed : Closes status stories stories'
+  pub logs : BreaksLogs status None stories
+  pub script : BreaksScript status left
+  pub source : CountsSource faults faults' status
+  pub sink : CountsSink taken taken status
+  pub disks : CountsDisks counts counts_now status
+
+module _ (counts counts_now : ℕ → ℕ) (stories stories' : ℕ → Option Story) (left : Option (List ℕ)) (faults faults' taken : ℕ) where
+  refused : (e : OpenError) → Refuses stories e → CountsOpen counts counts_now e → LeavesDisks stories stories' e → faults' ≡ faults
+      → Refused counts counts_now stories stories' left faults faults' taken (of_opening e)
+  refused (opening.Failed shard) r c l s = record { runs = tt; shows = tt; opened = tt; closed = l; logs = tt; script = tt; source = s; sink = tt; disks = (c.0, (λ n l. c.2 n (below n shard l))) }
+  refused (opening.NotLog shard at) r c l s = record { runs = tt; shows = tt; opened = tt; closed = l; logs = r; script = tt; source = s; sink = tt; disks = c }
+  refused (opening.Apart tx) r c l s = record { runs = tt; shows = tt; opened = tt; closed = l; logs = r; script = tt; source = s; sink = tt; disks = c }
+  refused (opening.Worn at) r c l s = record { runs = tt; shows = tt; opened = tt; closed = l; logs = r; script = tt; source = s; sink = tt; disks = c }
+  refused opening.Memory r c l s = record { runs = tt; shows = tt; opened = tt; closed = l; logs = tt; script = tt; source = s; sink = tt; disks = tt }
+
+  pub refused_so : (e : OpenError) (status : Status) → status ≡ of_opening e → Refuses stories e → CountsOpen counts counts_now e → LeavesDisks stories stories' e → faults' ≡ faults
+      → Refused counts counts_now stories stories' left faults faults' taken status
+  refused_so e status is r c l s = subst (Refused counts counts_now stories stories' left faults faults' taken) (sym is) (refused e r c l s)
+
+-- ---- pairs that aren't written
+
+pub unshown : (running : Status) (pairs : List ℕ) (faults : ℕ) (old : Option (List ℕ)) → (running ≡ Fine → ⊥) → IsOfShards running → TookPairs pairs running old old × CountsSink faults faults running
+unshown Fine pairs faults old other of = absurd (other refl)
+unshown Usage pairs faults old other of = absurd of
+unshown (Script line) pairs faults old other of = absurd of
+unshown ReadFault pairs faults old other of = absurd of
+unshown WriteFault pairs faults old other of = absurd of
+unshown (DiskFault shard) pairs faults old other of = (refl, tt)
+unshown (NotLog shard at) pairs faults old other of = absurd of
+unshown Memory pairs faults old other of = (refl, tt)
+unshown (Worn at) pairs faults old other of = (refl, tt)
+unshown (Exists shard len) pairs faults old other of = absurd of
+unshown (Apart tx) pairs faults old other of = absurd of

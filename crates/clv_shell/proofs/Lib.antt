@@ -1,4 +1,4 @@
-pub mod Narrow
+pub mod Words
+pub mod Refused
+pub mod Unread
 pub mod Endings
-pub mod Lengths
-pub mod Shown

@@ -1,6 +1,6 @@
-pub mod Words
-pub mod Statuses
-pub mod Ends
-pub mod Counts
-pub mod Steps
+pub mod Kinds
+pub mod Disks
+pub mod Sinks
+pub mod Causes
+pub mod Runs
 pub mod Top

@@ -1,24 +1,27 @@
 -- What the top call promises by its words.
-use Rattle.std.specs.Prelude.{◌≡◌, ℕ, List, Option, None}
-use Rattle.history_replay.specs.Entries.{Kept}
-use Rattle.clv_shell.specs.declared.command.Command.{Command}
-use Rattle.clv_shell.specs.declared.command.Command.TheVariants.{Make, Run, Show}
-use Rattle.clv_shell.specs.declared.status.Status.{Status}
-use Rattle.clv_shell.specs.declared.status.Status.TheVariants.{Usage}
-use Rattle.clv_shell.specs.Words.{IsCommand}
-use Rattle.clv_shell.specs.Counts.{Opened}
+use Rattle.std.specs.Prelude.{◌≤◌, ℕ, List}
+use Rattle.command_words.specs.Commands.{IsCommand}
+use Rattle.command_words.specs.declared.commands.Command.{Command}
+use Rattle.command_words.specs.declared.commands.Command.TheVariants.{Run, Load}
+use Rattle.run_status.specs.declared.status.Status.{Status}
+use Rattle.run_status.specs.declared.status.Status.TheVariants.{Usage, Memory}
 
 -- whatever command the words are, it has P
 abbrev pub HasCommand : List (List ℕ) → (Command → Type 0) → Type 0
 HasCommand words P = (command : Command) → IsCommand words command → P command
 
--- the words are no command exactly where the status is Usage
-abbrev pub IsRefusedWords : List (List ℕ) → Status → Type 0
-IsRefusedWords words Usage = (command : Command) → IsCommand words command → ⊥
-IsRefusedWords words status = (command : Command) × IsCommand words command
+-- a command that is done; `load` is refused as yet
+abbrev pub IsDone : Command → Type 0
+IsDone (Load seed sessions accounts transfers) = ⊥
+IsDone command = Unit {0}
 
--- a shard was opened where `run` or `show` was fine; `make` opens none
-abbrev pub OpensByCommand : Command → Status → Option Kept → Type 0
-OpensByCommand Make status history = history ≡ None
-OpensByCommand Run status history = Opened status history
-OpensByCommand Show status history = Opened status history
+-- Usage exactly where the words are no command that is done, but that memory may be wanting before they are read
+abbrev pub IsRefusedWords : List (List ℕ) → Status → Type 0
+IsRefusedWords words Usage = (command : Command) → IsCommand words command → IsDone command → ⊥
+IsRefusedWords words Memory = Unit {0}
+IsRefusedWords words status = (command : Command) × IsCommand words command × IsDone command
+
+-- the tries of a run are so few
+abbrev pub HasFewTries : Command → Type 0
+HasFewTries (Run tries) = tries ≤ 1000
+HasFewTries command = Unit {0}

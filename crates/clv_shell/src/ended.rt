@@ -1,9 +1,9 @@
 // How a run of the program ended.
 
-use crate::status::Status;
 use history_replay::History;
+use run_status::Status;
 
-/// How a run of the program ended: its status, and the history where a shard was opened.
+/// How a run of the program ended: its status, and the history where the shards were opened.
 #[derive(Drop)]
 pub struct Ended {
     pub status: Status,

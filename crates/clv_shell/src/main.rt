@@ -1,24 +1,22 @@
-//! The program `clv_shell`: makes the log of a shard, runs a script over it, or shows what it holds.
+//! The program `clv_shell`: makes the logs of shards, runs the sessions of a script beside each other over them, or shows what they hold.
 //!
 //! `run` is the top call, over any source, sink and house of disks; its contract is the promise of the program. `main` makes the real ones:
-//! standard input, standard output, and the files of the working folder. It stands on `single_run` for a run, and on `run_promises` for
-//! what is promised of one.
+//! standard input, standard output, and the files of the working folder. It stands on `command_words` and `script_lang` for what it reads, on
+//! `disks_making` and `cluster_runs` for the disks, and on `report_text` and `run_status` for what it answers.
 #![tactic(auto)]
 
-mod command;
 mod ended;
 mod making;
 mod running;
-mod status;
+mod showing;
 #[cfg(test)]
 mod tests;
 mod top;
 
-pub use command::{Command, command_of};
 use disk_model::FileHouse;
 pub use ended::Ended;
 use io_edge::{NoPace, ReadSource, WriteSink};
-pub use status::Status;
+use run_status::Status;
 use std::alloc::Global;
 use std::env;
 use std::io::ErrorKind;

@@ -1,8 +1,48 @@
-use Rattle.std.proofs.Common.{map}
-use Rattle.clv_shell.proofs.Shown.{follows_shown}
+use Rattle.std.proofs.Common.{map, IfSome}
+use Rattle.clv_shell.specs.Kinds.{IsOfCommand}
+use Rattle.clv_shell.specs.Disks.{ClosedBy, Makes}
+use Rattle.clv_shell.specs.Sinks.{Took}
+use Rattle.clv_shell.specs.Causes.{HasBytes}
+use Rattle.clv_shell.specs.Runs.{PromisedBy, OpensByCommand}
+use Rattle.clv_shell.proofs.Words.{shown}
+use Rattle.clv_shell.proofs.Refused.{refused, kind, closed, taken, nothing}
 use Rattle.clv_shell.proofs.top.run.Goals as goal
 
-pub returns-in-Some-Show-clause-follows : goal.returns-in-Some-Show-clause-follows
-returns-in-Some-Show-clause-follows g c =
-    follows_shown (map (λ w. w.now) c.args.words.now) (g.S.Source.left c.args.source.now) c.show.result.status c.show.result.history
-    (rw c.in-Some-Show.field-0-is at c.in-Some-Show.ensures) (c.show.ensures.follows (g.S.Source.left c.args.source.now))
+pub returns-in-Ok-clause-kind : goal.returns-in-Ok-clause-kind
+returns-in-Ok-clause-kind g c = shown (map (λ w. w.now) c.args.words.now) c.in-Ok.command (λ d. IsOfCommand d c.obey.result.status) c.in-Ok.ensures.command c.obey.ensures.kind
+
+pub returns-in-Ok-clause-promised : goal.returns-in-Ok-clause-promised
+returns-in-Ok-clause-promised g c = shown (map (λ w. w.now) c.args.words.now) c.in-Ok.command (λ d. IfSome c.obey.result.history (PromisedBy d (g.S.Source.left c.args.source.now) (g.H.House.story c.args.house.now) (g.H.House.story c.obey.new.house) (g.H.House.faults c.args.house.now) (g.H.House.faults c.obey.new.house) c.obey.result.status)) c.in-Ok.ensures.command c.obey.ensures.promised
+
+pub returns-in-Ok-clause-opened : goal.returns-in-Ok-clause-opened
+returns-in-Ok-clause-opened g c = shown (map (λ w. w.now) c.args.words.now) c.in-Ok.command (λ d. OpensByCommand d c.obey.result.status c.obey.result.history) c.in-Ok.ensures.command c.obey.ensures.opened
+
+pub returns-in-Ok-clause-took : goal.returns-in-Ok-clause-took
+returns-in-Ok-clause-took g c = shown (map (λ w. w.now) c.args.words.now) c.in-Ok.command (λ d. Took d c.obey.result.status c.obey.result.history (g.K.Sink.faults c.args.sink.now) (g.K.Sink.faults c.obey.new.sink) (g.K.Sink.taken c.args.sink.now) (g.K.Sink.taken c.obey.new.sink)) c.in-Ok.ensures.command c.obey.ensures.took
+
+pub returns-in-Ok-clause-closed : goal.returns-in-Ok-clause-closed
+returns-in-Ok-clause-closed g c = shown (map (λ w. w.now) c.args.words.now) c.in-Ok.command (λ d. ClosedBy d c.obey.result.status c.obey.result.history (g.H.House.story c.args.house.now) (g.H.House.story c.obey.new.house)) c.in-Ok.ensures.command c.obey.ensures.closed
+
+pub returns-in-Ok-clause-made : goal.returns-in-Ok-clause-made
+returns-in-Ok-clause-made g c = shown (map (λ w. w.now) c.args.words.now) c.in-Ok.command (λ d. Makes d c.obey.result.status (g.H.House.story c.args.house.now) (g.H.House.story c.obey.new.house)) c.in-Ok.ensures.command c.obey.ensures.made
+
+pub returns-in-Ok-clause-exists : goal.returns-in-Ok-clause-exists
+returns-in-Ok-clause-exists g c = shown (map (λ w. w.now) c.args.words.now) c.in-Ok.command (λ d. HasBytes d c.obey.result.status (g.H.House.story c.args.house.now) (g.H.House.story c.obey.new.house)) c.in-Ok.ensures.command c.obey.ensures.exists
+
+pub returns-in-Ok-clause-usage : goal.returns-in-Ok-clause-usage
+returns-in-Ok-clause-usage g c =
+    taken (map (λ w. w.now) c.args.words.now) c.in-Ok.command c.obey.result.status c.in-Ok.ensures.command
+    (shown (map (λ w. w.now) c.args.words.now) c.in-Ok.command (λ d. IsOfCommand d c.obey.result.status) c.in-Ok.ensures.command c.obey.ensures.kind)
+
+pub returns-in-Ok-clause-nothing : goal.returns-in-Ok-clause-nothing
+returns-in-Ok-clause-nothing g c =
+    nothing c.in-Ok.command c.obey.result.status c.obey.result.history (g.K.Sink.faults c.args.sink.now) (g.K.Sink.faults c.obey.new.sink) (g.K.Sink.taken c.args.sink.now) (g.K.Sink.taken c.obey.new.sink) (g.H.House.story c.args.house.now) (g.H.House.story c.obey.new.house) c.obey.ensures.kind c.obey.ensures.took c.obey.ensures.closed
+
+pub returns-in-Err-clause-usage : goal.returns-in-Err-clause-usage
+returns-in-Err-clause-usage g c = refused (map (λ w. w.now) c.args.words.now) c.in-Err.error c.into.result c.into.ensures c.in-Err.ensures.usage
+
+pub returns-in-Err-clause-kind : goal.returns-in-Err-clause-kind
+returns-in-Err-clause-kind g c = kind (map (λ w. w.now) c.args.words.now) c.in-Err.error c.into.result c.into.ensures c.in-Err.ensures.usage
+
+pub returns-in-Err-clause-closed : goal.returns-in-Err-clause-closed
+returns-in-Err-clause-closed g c = closed (map (λ w. w.now) c.args.words.now) c.in-Err.error c.into.result (g.H.House.story c.args.house.now) c.into.ensures c.in-Err.ensures.usage

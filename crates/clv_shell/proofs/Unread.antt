@@ -1,0 +1,18 @@
+-- A script that isn't read.
+use Rattle.std.proofs.Common.{◌≡◌, refl, sym, subst, ℕ, ◌<◌, List, length, Option, Some, None, IfSome, Result, Err, Vec, Global}
+use Rattle.io_edge.specs.declared.whole.ReadError.{ReadError}
+use Rattle.io_edge.specs.declared.whole.ReadError.TheVariants as reading
+use Rattle.script_lang.specs.Grammar.{too_long}
+use Rattle.run_status.specs.Refusals.{of_source}
+use Rattle.run_status.specs.declared.status.Status.{Status}
+use Rattle.run_status.specs.declared.status.Status.TheVariants.{Script}
+use Rattle.clv_shell.specs.Causes.{ScriptFault}
+
+too_many : (left : Option (List ℕ)) → IfSome left (λ bytes. 16777216 < length bytes) → ScriptFault left (Script 0)
+too_many None h = tt
+too_many (Some bytes) h = too_long h
+
+pub unread : (e : ReadError) (status : Status) (left : Option (List ℕ)) → status ≡ of_source e → (◌≡◌ {A = Result (Vec ℕ Global) ReadError} (Err e) (Err reading.TooLong) → IfSome left (λ bytes. 16777216 < length bytes)) → ScriptFault left status
+unread reading.Failed status left is long = subst (ScriptFault left) (sym is) tt
+unread reading.TooLong status left is long = subst (ScriptFault left) (sym is) (too_many left (long refl))
+unread reading.Memory status left is long = subst (ScriptFault left) (sym is) tt

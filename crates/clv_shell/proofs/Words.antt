@@ -1,0 +1,83 @@
+-- Words are one command.
+use Rattle.std.proofs.Common.{◌≡◌, refl, sym, ap, subst, ◌∙◌, ℕ, ◌<◌, ◌≤◌, List, [], ◌∷◌, Option, Some, None, arith}
+use Rattle.clap.specs.Words.{Row, Text}
+use Rattle.script_lang.specs.Grammar.{IsNumber}
+use Rattle.command_words.specs.Commands.{IsGiven, AreTries, AreNumbers, Says, IsCommand}
+use Rattle.command_words.specs.declared.commands.Command.{Command}
+use Rattle.command_words.specs.declared.commands.Command.TheVariants.{Make, Run, Show, Load}
+use Rattle.clv_shell.specs.Top.{HasCommand, HasFewTries}
+
+number_once : (word : List ℕ) (m n : ℕ) → IsNumber word m → IsNumber word n → m ≡ n
+number_once word m n p q = sym p.value ∙ q.value
+
+given_once : (o : Option Text) (m n : ℕ) → IsGiven o m → IsGiven o n → m ≡ n
+given_once None m n p q = absurd p
+given_once (Some word) m n p q = number_once word m n p q
+
+tries_once : (o : Option Text) (m n : ℕ) → AreTries o m → AreTries o n → m ≡ n
+tries_once None m n p q = p ∙ sym q
+tries_once (Some word) m n p q = number_once word m n p.0 q.0
+
+numbers_once : (words : List Text) (ms ns : List ℕ) → AreNumbers words ms → AreNumbers words ns → ms ≡ ns
+numbers_once [] [] [] p q = refl
+numbers_once [] [] (n ∷ ns) p q = absurd q
+numbers_once [] (m ∷ ms) ns p q = absurd p
+numbers_once (word ∷ words) [] ns p q = absurd p
+numbers_once (word ∷ words) (m ∷ ms) [] p q = absurd q
+numbers_once (word ∷ words) (m ∷ ms) (n ∷ ns) p q =
+    let e : m ≡ n = number_once word m n p.0 q.0 in
+    let f : ms ≡ ns = numbers_once words ms ns p.1 q.1 in
+    cc
+
+-- the first letter of each command's name differs
+abbrev first_letter : List ℕ → ℕ
+first_letter [] = 0
+first_letter (letter ∷ letters) = letter
+
+less : (m n : ℕ) → m < n → m ≡ n → ⊥
+less m n l e = omega (arith, l, e)
+
+says_once : (name : Text) (rows : List Row) (c d : Command) → Says name rows c → Says name rows d → c ≡ d
+says_once name rows (Make a) (Make b) p q = ap Make (numbers_once _ a b p.1 q.1)
+says_once name rows (Run a) (Run b) p q = ap Run (tries_once _ a b p.1 q.1)
+says_once name rows Show Show p q = refl
+says_once name rows (Load s n a t) (Load s' n' a' t') p q =
+    let es : s ≡ s' = given_once _ s s' p.1 q.1 in
+    let en : n ≡ n' = given_once _ n n' p.2 q.2 in
+    let ea : a ≡ a' = given_once _ a a' p.3 q.3 in
+    let et : t ≡ t' = given_once _ t t' p.4 q.4 in
+    cc
+says_once name rows (Make a) (Run b2) p q = absurd (less 109 114 (omega arith) (ap first_letter (sym p.0 ∙ q.0)))
+says_once name rows (Make a) Show p q = absurd (less 109 115 (omega arith) (ap first_letter (sym p.0 ∙ q)))
+says_once name rows (Make a) (Load s2 n2 k2 t2) p q = absurd (less 108 109 (omega arith) (ap first_letter (sym q.0 ∙ p.0)))
+says_once name rows (Run b) (Make a2) p q = absurd (less 109 114 (omega arith) (ap first_letter (sym q.0 ∙ p.0)))
+says_once name rows (Run b) Show p q = absurd (less 114 115 (omega arith) (ap first_letter (sym p.0 ∙ q)))
+says_once name rows (Run b) (Load s2 n2 k2 t2) p q = absurd (less 108 114 (omega arith) (ap first_letter (sym q.0 ∙ p.0)))
+says_once name rows Show (Make a2) p q = absurd (less 109 115 (omega arith) (ap first_letter (sym q.0 ∙ p)))
+says_once name rows Show (Run b2) p q = absurd (less 114 115 (omega arith) (ap first_letter (sym q.0 ∙ p)))
+says_once name rows Show (Load s2 n2 k2 t2) p q = absurd (less 108 115 (omega arith) (ap first_letter (sym q.0 ∙ p)))
+says_once name rows (Load s n k t) (Make a2) p q = absurd (less 108 109 (omega arith) (ap first_letter (sym p.0 ∙ q.0)))
+says_once name rows (Load s n k t) (Run b2) p q = absurd (less 108 114 (omega arith) (ap first_letter (sym p.0 ∙ q.0)))
+says_once name rows (Load s n k t) Show p q = absurd (less 108 115 (omega arith) (ap first_letter (sym p.0 ∙ q)))
+
+abbrev says : Option (Text × List Row) → Command → Type 0
+says None c = ⊥
+says (Some x) c = Says x.0 x.1 c
+
+pub one_command : (words : List (List ℕ)) (c d : Command) → IsCommand words c → IsCommand words d → c ≡ d
+one_command words c d (fine, name, rows, sub, p) (fine', name', rows', sub', q) =
+    says_once name rows c d p (subst (λ (o : Option (Text × List Row)). says o d) sub (subst (λ (o : Option (Text × List Row)). says o d) (sym sub') q))
+
+-- what holds of one command that the words are holds of each
+pub shown : (words : List (List ℕ)) (c : Command) (P : Command → Type 0) → IsCommand words c → P c → HasCommand words P
+shown words c P is p d also = subst P (one_command words c d is also) p
+
+few : (o : Option Text) (n : ℕ) → AreTries o n → n ≤ 1000
+few None n p = omega (arith, p)
+few (Some word) n p = p.2
+
+pub few_tries : (words : List (List ℕ)) (c : Command) → IsCommand words c → HasFewTries c
+few_tries words (Make splits) is = tt
+few_tries words (Run tries) (fine, name, rows, sub, p) = few _ tries p.1
+few_tries words Show is = tt
+few_tries words (Load s n a t) is = tt

@@ -1,0 +1,66 @@
+-- Why each status comes.
+use Rattle.std.specs.Prelude.{◌≡◌, ℕ, ◌<◌, List, Option, None, IfSome, Result, Ok, Err}
+use Rattle.clv_base.specs.Shards.{shard_count}
+use Rattle.command_words.specs.declared.commands.Command.{Command}
+use Rattle.command_words.specs.declared.commands.Command.TheVariants.{Make}
+use Rattle.disk_model.specs.Story.{Story}
+use Rattle.disk_model.specs.Disk.{Rose}
+use Rattle.disks_making.specs.Making.{ExistsAt}
+use Rattle.disks_opening.specs.Opening.{Refuses}
+use Rattle.disks_opening.specs.declared.error.OpenError.TheVariants as opening
+use Rattle.history_replay.specs.Entries.{Kept}
+use Rattle.script_lang.specs.Grammar.{IsRefused}
+use Rattle.run_status.specs.declared.status.Status.{Status}
+use Rattle.run_status.specs.declared.status.Status.TheVariants.{Fine, Script, ReadFault, WriteFault, DiskFault, NotLog, Memory, Worn, Exists, Apart}
+
+-- the shard's disk is the lowest that isn't empty, and no disk was written
+abbrev pub HasBytes : Command → Status → (ℕ → Option Story) → (ℕ → Option Story) → Type 0
+HasBytes (Make splits) (Exists shard len) before now = ExistsAt (shard_count splits) shard len before now
+HasBytes command status before now = Unit {0}
+
+-- the logs of the disks are refused so, and this is the first refusal; worn by it are only runs, before the shards were opened
+abbrev pub BreaksLogs : Status → Option Kept → (ℕ → Option Story) → Type 0
+BreaksLogs (NotLog shard at) history before = Refuses before (opening.NotLog shard at)
+BreaksLogs (Apart tx) history before = Refuses before (opening.Apart tx)
+BreaksLogs (Worn at) None before = Refuses before (opening.Worn at)
+BreaksLogs status history before = Unit {0}
+
+-- this line is the first outside the grammar at its place; 0 where there are more than 16,777,216 bytes
+abbrev pub BreaksScript : Status → Option (List ℕ) → Type 0
+BreaksScript (Script line) left = IfSome left (λ bytes. IsRefused bytes line)
+BreaksScript status left = Unit {0}
+
+-- a read fault is told exactly where the source's count rose
+abbrev pub CountsSource : ℕ → ℕ → Status → Type 0
+CountsSource before now ReadFault = Rose before now
+CountsSource before now status = now ≡ before
+
+-- a write fault is told only where the sink's count rose, which stands where all was fine
+abbrev pub CountsSink : ℕ → ℕ → Status → Type 0
+CountsSink before now WriteFault = Rose before now
+CountsSink before now Fine = now ≡ before
+CountsSink before now status = Unit {0}
+
+-- the counts of all disks stand
+abbrev pub Stand : (ℕ → ℕ) → (ℕ → ℕ) → Type 0
+Stand before now = (n : ℕ) → now n ≡ before n
+
+-- a disk fault is told only where the count of the shard's disk rose, and those of the disks below it stand; where memory was wanting for the text a disk may
+-- have failed before; else all counts stand
+abbrev pub CountsDisks : (ℕ → ℕ) → (ℕ → ℕ) → Status → Type 0
+CountsDisks before now (DiskFault shard) = Rose (before shard) (now shard) × ((n : ℕ) → n < shard → now n ≡ before n)
+CountsDisks before now Memory = Unit {0}
+CountsDisks before now status = Stand before now
+
+-- ---- reading the script
+
+-- why a script wasn't read
+abbrev pub ScriptFault : Option (List ℕ) → Status → Type 0
+ScriptFault left (Script line) = IfSome left (λ bytes. IsRefused bytes line)
+ScriptFault left ReadFault = Unit {0}
+ScriptFault left Memory = Unit {0}
+ScriptFault left status = ⊥
+
+abbrev pub CountsScript : {A : Type 0} → ℕ → ℕ → Result A Status → Type 0
+CountsScript before now (Ok script) = now ≡ before
+CountsScript before now (Err status) = CountsSource before now status

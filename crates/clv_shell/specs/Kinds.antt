@@ -1,0 +1,45 @@
+-- The statuses that each command may end with.
+use Rattle.command_words.specs.declared.commands.Command.{Command}
+use Rattle.command_words.specs.declared.commands.Command.TheVariants.{Make, Run, Show, Load}
+use Rattle.run_status.specs.declared.status.Status.{Status}
+use Rattle.run_status.specs.declared.status.Status.TheVariants.{Fine, Usage, Script, ReadFault, DiskFault, Memory, Worn, Exists}
+
+abbrev pub IsOfMake : Status → Type 0
+IsOfMake Fine = Unit {0}
+IsOfMake (Exists shard len) = Unit {0}
+IsOfMake (DiskFault shard) = Unit {0}
+IsOfMake Memory = Unit {0}
+IsOfMake status = ⊥
+
+abbrev pub IsOfRun : Status → Type 0
+IsOfRun Usage = ⊥
+IsOfRun (Exists shard len) = ⊥
+IsOfRun status = Unit {0}
+
+-- `show` reads no script
+abbrev pub IsOfShow : Status → Type 0
+IsOfShow Usage = ⊥
+IsOfShow (Exists shard len) = ⊥
+IsOfShow (Script line) = ⊥
+IsOfShow ReadFault = ⊥
+IsOfShow status = Unit {0}
+
+-- `load` is refused as yet
+abbrev pub IsOfLoad : Status → Type 0
+IsOfLoad Usage = Unit {0}
+IsOfLoad Memory = Unit {0}
+IsOfLoad status = ⊥
+
+abbrev pub IsOfCommand : Command → Status → Type 0
+IsOfCommand (Make splits) status = IsOfMake status
+IsOfCommand (Run tries) status = IsOfRun status
+IsOfCommand Show status = IsOfShow status
+IsOfCommand (Load seed sessions accounts transfers) status = IsOfLoad status
+
+-- the statuses of shards that were opened, before any text is written
+abbrev pub IsOfShards : Status → Type 0
+IsOfShards Fine = Unit {0}
+IsOfShards (DiskFault shard) = Unit {0}
+IsOfShards (Worn at) = Unit {0}
+IsOfShards Memory = Unit {0}
+IsOfShards status = ⊥

@@ -1,0 +1,45 @@
+-- What a history promises that a command leaves.
+use Rattle.std.specs.Prelude.{◌≡◌, ℕ, List, [], Option, Some, None, IfSome, Result}
+use Rattle.cluster_runs.specs.Ran.{RanAll}
+use Rattle.command_words.specs.declared.commands.Command.{Command}
+use Rattle.command_words.specs.declared.commands.Command.TheVariants.{Run, Show}
+use Rattle.disk_model.specs.Story.{Story}
+use Rattle.history_replay.specs.Entries.{Kept}
+use Rattle.report_text.specs.declared.texts.ReportError.{ReportError}
+use Rattle.script_lang.specs.Bodies.{Body}
+use Rattle.script_lang.specs.Grammar.{IsScript}
+use Rattle.run_status.specs.Running.{with_text}
+use Rattle.run_status.specs.declared.status.Status.{Status}
+use Rattle.run_status.specs.declared.status.Status.TheVariants.{Fine, WriteFault}
+
+-- the script that the source's bytes are, where it tells them
+abbrev pub HasScript : Option (List ℕ) → List (List Body) → Type 0
+HasScript left script = IfSome left (λ bytes. IsScript bytes script)
+
+-- a run's status, by what became of its text
+abbrev pub EndsAs : Status → Status → Type 0
+EndsAs running status = (written : Result (Unit {0}) ReportError) × (status ≡ with_text running written)
+
+-- the history keeps the promise of a run of the script, and the status is the one that this run came to
+abbrev pub HasRun : Option ℕ → List (List Body) → (ℕ → Option Story) → (ℕ → Option Story) → (ℕ → ℕ) → (ℕ → ℕ) → Kept → Status → Type 0
+HasRun most script before now counts counts_now kept status =
+    (running : Status) × RanAll before now counts counts_now most script kept running × EndsAs running status
+
+-- of `run` the script is the source's; `show` runs none
+abbrev pub PromisedBy : Command → Option (List ℕ) → (ℕ → Option Story) → (ℕ → Option Story) → (ℕ → ℕ) → (ℕ → ℕ) → Status → Kept → Type 0
+PromisedBy (Run tries) left before now counts counts_now status kept =
+    (script : List (List Body)) × HasScript left script × HasRun (Some tries) script before now counts counts_now kept status
+PromisedBy Show left before now counts counts_now status kept = HasRun None [] before now counts counts_now kept status
+PromisedBy command left before now counts counts_now status kept = ⊥
+
+-- shards were opened where `run` or `show` was fine but for the sink; no other command opens them
+abbrev pub Opened : Option Kept → Status → Type 0
+Opened (Some kept) status = Unit {0}
+Opened None Fine = ⊥
+Opened None WriteFault = ⊥
+Opened None status = Unit {0}
+
+abbrev pub OpensByCommand : Command → Status → Option Kept → Type 0
+OpensByCommand (Run tries) status history = Opened history status
+OpensByCommand Show status history = Opened history status
+OpensByCommand command status history = history ≡ None

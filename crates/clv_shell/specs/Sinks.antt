@@ -1,0 +1,35 @@
+-- What the sink took.
+use Rattle.std.specs.Prelude.{◌≡◌, ◌⊎◌, ℕ, List, take, Option, Some}
+use Rattle.clv_base.specs.Logs.{stands}
+use Rattle.command_words.specs.declared.commands.Command.{Command}
+use Rattle.command_words.specs.declared.commands.Command.TheVariants.{Run, Show}
+use Rattle.disk_model.specs.Disk.{Rose}
+use Rattle.history_replay.specs.Entries.{Kept}
+use Rattle.io_edge.specs.Streams.{Grows}
+use Rattle.report_text.specs.Report.{report, pairs_text}
+use Rattle.run_promises.specs.Histories.{entries}
+use Rattle.run_status.specs.declared.status.Status.{Status}
+use Rattle.run_status.specs.declared.status.Status.TheVariants.{Fine, WriteFault, DiskFault, Worn}
+
+-- all of the text; or a front of it where the sink failed
+abbrev pub TookText : List ℕ → ℕ → ℕ → Option (List ℕ) → Option (List ℕ) → Type 0
+TookText text before now old new = Grows old new text ⊎ (Rose before now × ((n : ℕ) × Grows old new (take n text)))
+
+-- a run writes its report where all was fine, where a disk failed, and where stamps were worn
+abbrev pub TookReport : List ℕ → Status → ℕ → ℕ → Option (List ℕ) → Option (List ℕ) → Type 0
+TookReport text Fine before now old new = Grows old new text
+TookReport text WriteFault before now old new = (n : ℕ) × Grows old new (take n text)
+TookReport text (DiskFault shard) before now old new = TookText text before now old new
+TookReport text (Worn at) before now old new = TookText text before now old new
+TookReport text status before now old new = new ≡ old
+
+-- pairs are written only where all was fine
+abbrev pub TookPairs : List ℕ → Status → Option (List ℕ) → Option (List ℕ) → Type 0
+TookPairs text Fine old new = Grows old new text
+TookPairs text WriteFault old new = (n : ℕ) × Grows old new (take n text)
+TookPairs text status old new = new ≡ old
+
+abbrev pub Took : Command → Status → Option Kept → ℕ → ℕ → Option (List ℕ) → Option (List ℕ) → Type 0
+Took (Run tries) status (Some kept) before now old new = TookReport (report (entries kept)) status before now old new
+Took Show status (Some kept) before now old new = TookPairs (pairs_text (stands kept.found)) status old new
+Took command status history before now old new = new ≡ old

@@ -1,0 +1,102 @@
+// The command `show`.
+
+ghost use Rattle.std.specs.Prelude.{◌≡◌, ◌<◌, ℕ, [], None, false, IfSome, IfOk};
+ghost use Rattle.clv_base.specs.Logs.{stands as stands_for};
+ghost use Rattle.command_words.specs.declared.commands.Command.TheVariants as commands;
+ghost use Rattle.report_text.specs.Report.{pairs_text as text_of_pairs};
+ghost use Rattle.report_text.specs.Sinks.{TakesText, Causes};
+ghost use Rattle.clv_shell.specs.Kinds.{IsOfShow, IsOfShards};
+ghost use Rattle.clv_shell.specs.Disks.{Closes};
+ghost use Rattle.clv_shell.specs.Sinks.{Took, TookPairs};
+ghost use Rattle.clv_shell.specs.Causes.{BreaksLogs, CountsSink, CountsDisks};
+ghost use Rattle.clv_shell.specs.Runs.{EndsAs, HasRun, Opened};
+
+use crate::ended::Ended;
+use cluster_runs::{Ran, run_script};
+use disk_model::House;
+use disks_opening::OpenError;
+use history_replay::{History, Memory, stands};
+use io_edge::{Pace, Sink, write_all};
+use lock_index::HashedLocks;
+use report_text::{ReportError, pairs_text};
+use run_status::{Status, after_text};
+use std::alloc::Global;
+use std::sync::Wait;
+use std::thread::Threads;
+use store_blocks::BlockStore;
+
+// The pairs that the logs found stand for, as bytes.
+fn text_of(alloc: Global, history: &History) -> Result<Vec<u8>, Memory>
+    ensures { IfOk result (λ text. text.items ≡ text_of_pairs (stands_for history.now.found)) }
+{
+    let pairs = stands(alloc, history.found())?;
+    pairs_text(alloc, &pairs)
+}
+
+// Writes them.
+fn pairs_into<K: Sink>(alloc: Global, history: &History, sink: &mut K) -> Result<(), ReportError>
+    ensures took { TakesText (K.taken sink.old) (K.taken sink.new) (text_of_pairs (stands_for history.now.found)) result }
+    ensures cause { Causes (K.faults sink.old) (K.faults sink.new) result }
+{
+    let Ok(text) = text_of(alloc, history) else {
+        return Err(ReportError::Memory);
+    };
+    match write_all(sink, &text) {
+        Ok(()) => Ok(()),
+        Err(_) => Err(ReportError::Failed),
+    }
+}
+
+// Writes them where all was fine so far, and tells how the program ends.
+fn write_pairs<K: Sink>(alloc: Global, history: &History, running: Status, sink: &mut K) -> Status
+    requires running { IsOfShards running }
+    ensures ends { EndsAs running result }
+    ensures took { TookPairs (text_of_pairs (stands_for history.now.found)) result (K.taken sink.old) (K.taken sink.new) }
+    ensures cause { CountsSink (K.faults sink.old) (K.faults sink.new) result }
+{
+    match running {
+        Status::Fine => after_text(running, pairs_into(alloc, history, sink)),
+        other => other,
+    }
+}
+
+/// Shows all pairs.
+pub fn show<R: Threads + Wait + Sync, K: Sink, H: House, P: Pace + Sync>(
+    rt: &R,
+    alloc: Global,
+    sink: &mut K,
+    house: &mut H,
+    pace: &P,
+) -> Ended
+where
+    H::Disk: Send,
+    requires inside { (n : ℕ) → n < 16 → H.is_out house.old n ≡ false }
+    ensures kind { IsOfShow result.status }
+    ensures promised { IfSome result.history (λ kept. HasRun None [] (H.story house.old) (H.story house.new) (H.faults house.old) (H.faults house.new) kept result.status) }
+    ensures opened { Opened result.history result.status }
+    ensures took { Took commands.Show result.status result.history (K.faults sink.old) (K.faults sink.new) (K.taken sink.old) (K.taken sink.new) }
+    ensures closed { result.history ≡ None → Closes result.status (H.story house.old) (H.story house.new) }
+    ensures logs { BreaksLogs result.status result.history (H.story house.old) }
+    ensures sink { CountsSink (K.faults sink.old) (K.faults sink.new) result.status }
+    ensures disks { CountsDisks (H.faults house.old) (H.faults house.new) result.status }
+    ensures back { (n : ℕ) → n < 16 → H.is_out house.new n ≡ false }
+{
+    let ran: Result<Ran<BlockStore>, OpenError> = run_script::<BlockStore, HashedLocks, R, H, P>(
+        rt,
+        alloc,
+        house,
+        pace,
+        &[],
+        None,
+    );
+    match ran {
+        Ok(ran) => Ended {
+            status: write_pairs(alloc, &ran.history, ran.status, sink),
+            history: Some(ran.history),
+        },
+        Err(error) => Ended {
+            status: error.into(),
+            history: None,
+        },
+    }
+}
