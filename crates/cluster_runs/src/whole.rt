@@ -31,7 +31,13 @@ use std::thread::Threads;
 /// What all shards did is a legal history that keeps the promise of a run, and the status says how it ended: fine where no disk has failed and each session
 /// went through; the fault of the lowest disk that has failed; else worn stamps, or want of memory. An `Err` is the first refusal of the opening, as
 /// `open_all` tells it, and then no session was begun.
-pub fn run_script<S: Store + Drop + Send, L: Locks + Drop + Send, R: Threads + Wait + Sync, H: House, P: Pace + Sync>(
+pub fn run_script<
+    S: Store + Drop + Send,
+    L: Locks + Drop + Send,
+    R: Threads + Wait + Sync,
+    H: House,
+    P: Pace + Sync,
+>(
     rt: &R,
     alloc: Global,
     house: &mut H,
@@ -60,8 +66,9 @@ where
         room,
     } = opened;
     let end = run_over(rt, alloc, &shards, pace, &mut walkers, sessions, most);
-    let closed =
-        close_run::<H, ShardMachine<S, L, LogGate<H::Disk>>>(alloc, house, shards, walkers, room);
+    let closed = close_run::<H, ShardMachine<S, L, LogGate<H::Disk>>>(
+        alloc, house, shards, walkers, room,
+    );
     let Closed {
         journals,
         maps,

@@ -4,34 +4,14 @@ use Rattle.clv_base.specs.LogRules.{log_of}
 use Rattle.clv_base.specs.Restarts.{untouched}
 use Rattle.clv_base.specs.Journals.{MayRun, MayLeave, start_of, final_of, journal_of}
 use Rattle.clv_base.specs.History.{IsQuiet}
-use Rattle.single_path.specs.Plan.{After_all}
-use Rattle.single_path.specs.Laws.{MayPlay}
-use Rattle.single_path.proofs.Laws.{runs_are_legal}
 use Rattle.protocol_laws.specs.Growth.{IsPrefixOf}
 use Rattle.history_laws.specs.Continuing.{SameAtRestarts}
-use Rattle.history_examples.specs.Worked.{new_log, one_plan, two_plan, short_run, long_run, short_log, long_log, RunsGoOn, restarted, looked_at, restarted_log, RestartIsLegal, RestartGoesOn, violated, violated_log, ViolatedIsLegal, found_log, from_found, found_left, FoundIsLegal, opened_log, OpenedIsSettled}
+use Rattle.history_examples.specs.Worked.{new_log, restarted, looked_at, restarted_log, RestartIsLegal, RestartGoesOn, violated, violated_log, ViolatedIsLegal, found_log, from_found, found_left, FoundIsLegal, opened_log, OpenedIsSettled}
 
 -- what holds of shard 0 holds of each shard below 1
 only_one : (P : ℕ → Type 0) → P 0 → (n : ℕ) → n < 1 → P n
 only_one P p zero h = p
 only_one P p (suc n) h = absurd (omega arith)
-
-one_plays : MayPlay [] one_plan After_all
-one_plays = record { plain = refl; in_order = refl; run_fits = lit< tt; may_run_all = refl; may_stop_there = refl; stamps_fit = lit< tt }
-
-two_plays : MayPlay [] two_plan After_all
-two_plays = record { plain = refl; in_order = refl; run_fits = lit< tt; may_run_all = refl; may_stop_there = refl; stamps_fit = lit< tt }
-
-pub runs_go_on : RunsGoOn
-runs_go_on = (
-  refl,
-  runs_are_legal [] one_plan After_all false one_plays,
-  runs_are_legal [] two_plan After_all false two_plays,
-  record {
-    journals = only_one (λ n. IsPrefixOf (journal_of n short_run) (journal_of n long_run)) (_, refl);
-    restarts = only_one (λ n. SameAtRestarts 1 (log_of short_log n) (log_of long_log n) (journal_of n short_run)) (tt, (tt, (tt, (tt, (tt, tt)))));
-  },
-)
 
 restart_runs : MayRun restarted_log (start_of new_log 0) (journal_of 0 restarted)
 restart_runs = (

@@ -1,6 +1,5 @@
 -- Legal histories, worked out by hand.
 use Rattle.std.specs.Prelude.{◌≡◌, ℕ, true, false, List, [], ◌∷◌, ◌++◌, Some, None}
-use Rattle.clv_base.specs.declared.ops.Op.{Op}
 use Rattle.clv_base.specs.declared.ops.Op.TheVariants.{Get, Put}
 use Rattle.clv_base.specs.declared.ops.Answer.TheVariants.{Value}
 use Rattle.clv_base.specs.declared.causes.AbortCause.TheVariants.{Restarted}
@@ -16,9 +15,7 @@ use Rattle.clv_base.specs.Journals.{History}
 use Rattle.clv_base.specs.FileRules.{may_open}
 use Rattle.clv_base.specs.Needs.{live_pairs}
 use Rattle.clv_base.specs.Journals.{final_of}
-use Rattle.clv_base.specs.History.{Legal, Member, IsSettled, acknowledged_in}
-use Rattle.single_path.specs.Plan.{tx_of, birth_of, After_all, play, log_left_by}
-use Rattle.single_path.specs.Laws.{history}
+use Rattle.clv_base.specs.History.{Legal, Member, IsSettled}
 use Rattle.history_laws.specs.Continuing.{GoesOn, serial_now, serial_left}
 use Rattle.history_laws.specs.Outcomes.{aborted_in_history}
 use Rattle.clv_base.specs.declared.names.TxId.{TxId}
@@ -29,43 +26,15 @@ use Rattle.session_laws.specs.Places.{predecessors_on}
 abbrev pub new_log : List (List LogRecord)
 new_log = [] ∷ []
 
--- ---- two transactions of a session, each committed and durable before the next
+-- the names and births of session 1
+abbrev pub tx_of : ℕ → ℕ → TxId
+tx_of run serial = record { run = run; session = 1; serial = serial }
 
-abbrev pub one_plan : List (List Op)
-one_plan = (Put 5 10 ∷ []) ∷ []
-
-abbrev pub two_plan : List (List Op)
-two_plan = (Put 5 10 ∷ []) ∷ (Get 5 ∷ Put 5 11 ∷ []) ∷ []
-
-abbrev pub short_run : History
-short_run = history [] one_plan After_all
-
-abbrev pub long_run : History
-long_run = history [] two_plan After_all
-
-abbrev pub short_log : List (List LogRecord)
-short_log = log_left_by false (play [] one_plan After_all) ∷ []
-
-abbrev pub long_log : List (List LogRecord)
-long_log = log_left_by false (play [] two_plan After_all) ∷ []
-
-abbrev pub RunsGoOn : Type 0
-RunsGoOn =
-    (may_open [] new_log ≡ true) × Legal [] new_log short_run short_log × Legal [] new_log long_run long_log
-    × GoesOn [] new_log short_run short_log long_run long_log
+abbrev pub birth_of : ℕ → ℕ → Birth
+birth_of stamp serial = record { stamp = stamp; session = 1; serial = serial }
 
 abbrev pub first_member : Member
 first_member = record { tx = tx_of 1 1; point = record { stamp = 3; shard = 0 }; ops = (Put 5 10, Value None) ∷ [] }
-
-abbrev pub second_member : Member
-second_member =
-    record { tx = tx_of 1 2; point = record { stamp = 10; shard = 0 }; ops = (Get 5, Value (Some 10)) ∷ (Put 5 11, Value (Some 10)) ∷ [] }
-
-abbrev pub RunsHaveMembers : Type 0
-RunsHaveMembers =
-    (serial_now [] new_log short_run short_log ≡ first_member ∷ [])
-    × (serial_left [] new_log long_run long_log (λ n. true) ≡ first_member ∷ second_member ∷ [])
-    × (acknowledged_in long_run (tx_of 1 1) ≡ true) × (acknowledged_in long_run (tx_of 1 2) ≡ true)
 
 -- ---- a shard that stops with nothing flushed, and is restarted
 

@@ -1,16 +1,6 @@
 // Histories worked out by hand, and what the laws say of them.
 
-ghost use Rattle.history_examples.specs.Worked.{RunsGoOn, RunsHaveMembers, RestartIsLegal, RestartGoesOn, RestartHasNoMember, ViolatedIsLegal, ViolatedHasMembers, FoundIsLegal, FoundHasMembers, OpenedIsSettled};
-
-/// A run of one transaction goes on to one of two, all that the law of what is never taken back supposes is there.
-pub fn runs_go_on()
-    ensures { RunsGoOn }
-{}
-
-/// The first is a member of both, the second of the longer; they stand in the order of their serials, and both are acknowledged.
-pub fn runs_have_members()
-    ensures { RunsHaveMembers }
-{}
+ghost use Rattle.history_examples.specs.Worked.{RestartIsLegal, RestartGoesOn, RestartHasNoMember, ViolatedIsLegal, ViolatedHasMembers, FoundIsLegal, FoundHasMembers, OpenedIsSettled};
 
 /// A shard that stops before a flush and is restarted: the history up to the restart is legal, and so is the one with a look after it.
 pub fn restart_is_legal()

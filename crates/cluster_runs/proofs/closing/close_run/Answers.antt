@@ -1,0 +1,27 @@
+use Rattle.std.proofs.Common.{sym, subst, ap, length, arith}
+use Rattle.cluster_holding.specs.Ends.{HaveDisks}
+use Rattle.cluster_holding.proofs.Laws.{no_disks_are_held}
+use Rattle.run_ends.proofs.Laws.{none_fetched}
+use Rattle.cluster_runs.proofs.closing.close_run.Goals as goal
+
+pub close-requires-clause-fetched : goal.close-requires-clause-fetched
+close-requires-clause-fetched g c =
+    subst (λ fs. HaveDisks g.H.Disk.Disk.story g.H.Disk.Disk.faults c.args.walkers.items fs) (sym c.new.ensures.items)
+    (no_disks_are_held _ _ _ g.H.Disk.Disk.story g.H.Disk.Disk.faults c.args.walkers.items (λ k d l. (c.requires.rest k d l).disks))
+
+pub returns-clause-closed : goal.returns-clause-closed
+returns-clause-closed g c =
+    let e = c.close.ensures in
+    record {
+      len = (let k = c.close.result.ends.value.ok.0 in let l = e.len.0 in omega arith);
+      shard_is = e.shard;
+      noted = e.noted;
+      journals_are = e.journals;
+      founds_are = e.founds;
+      lowest_down = e.down;
+      no_stop = e.no_stop;
+      no_restart = e.no_restart (λ k d l. (c.requires.rest k d l).fetched);
+      legal = e.legal;
+      disks = λ n d l. none_fetched _ n c.new.result.items _ _ _ _ (ap length c.new.ensures.items) (e.disks n d l);
+      others = e.others;
+    }

@@ -1,4 +1,0 @@
-pub mod Facts
-pub mod Tables
-pub mod Rules
-pub mod Writes

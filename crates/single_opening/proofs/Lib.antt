@@ -1,4 +1,0 @@
-pub mod Taken
-pub mod Single
-pub mod Restarting
-pub mod Unchecked

@@ -1,3 +1,0 @@
-pub mod Opening
-pub mod Finding
-pub mod Laws

@@ -1,5 +1,0 @@
-use Rattle.single_path.proofs.Serials.{members_are_the_plan}
-use Rattle.single_path.proofs.run_laws.members_are_the_plan.Goals as goal
-
-pub returns : goal.returns
-returns c = members_are_the_plan

@@ -1,3 +1,0 @@
-pub mod Plays
-pub mod Runs
-pub mod Scripts

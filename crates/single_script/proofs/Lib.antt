@@ -1,4 +1,0 @@
-pub mod Words
-pub mod Meanings
-pub mod Steps
-pub mod Scripts

@@ -1,7 +1,0 @@
--- Digits are ASCII, so what is no text is no number.
-use Rattle.std.proofs.lemmas.Fmt.{IsAscii-from_digits}
-use Rattle.std.proofs.lemmas.Str.{IsUtf8-from_ascii}
-use Rattle.single_script.proofs.lines.number_of.Goals as goal
-
-pub returns-in_default : goal.returns-in_default
-returns-in_default c = λ n is. absurd (c.in_default.ensures.cases.0 (IsUtf8-from_ascii _ (IsAscii-from_digits _ (is.digits).1)))

@@ -1,4 +1,0 @@
-pub mod Flushing
-pub mod Asking
-pub mod Requests
-pub mod Acknowledging
