@@ -1,5 +1,5 @@
 //! The coordinator.
-ghost use Rattle.std.specs.Prelude.{◌≡◌, ◌≤◌, ◌<◌, [], true, length, map, cond, IfOk, OnOk, OnErr};
+ghost use Rattle.std.specs.Prelude.{◌≡◌, ◌≤◌, ◌<◌, ◌++◌, [], true, length, map, cond, IfOk, OnOk, OnErr};
 ghost use Rattle.std.specs.List.{AllByRecursion};
 ghost use Rattle.std.specs.List.Sorted.{IsStrictlySortedBy};
 ghost use Rattle.std.specs.Map.{keys_of};
@@ -8,11 +8,14 @@ ghost use Rattle.clv_base.specs.declared.state.RequestState.TheVariants.{Undecid
 ghost use Rattle.clv_base.specs.Orders.{nat_in, tx_cmp, tx_get, tx_put};
 ghost use Rattle.clv_base.specs.Coordinator.{new_request, restored_request as request_restored, restored_requests, home_reminders, ask_answer, ruling_by, takes_vote, with_vote_of, takes_done, with_done_of};
 ghost use Rattle.commit_coordinator.specs.Coordinated.{IsFit, ruling_of, requests_by, counts_by, requests_with, done_by, requests_done, ruled, undecided, parts_of, told_by, state_by};
+ghost use Rattle.commit_coordinator.specs.Reminding.{each_at, of_one, votes_of, dones_of};
+ghost use Rattle.commit_coordinator.specs.Waiting.{waiting_in};
 
 use crate::memory::Memory;
 use crate::reminding::{contains, remind_dones, remind_votes};
 use crate::ruling::{answer, due_ruling};
 use crate::votes::is_other;
+use crate::waiting::{put_request, waits};
 use clv_base::causes::Vote;
 use clv_base::lists::{Touched, Votes};
 use clv_base::messages::Message;
@@ -23,22 +26,28 @@ use std::alloc::Global;
 use std::collections::BTreeMap;
 use std::collections::btree_map::Iter;
 use std::marker::Model;
+use tx_index::TxIndex;
 
 /// The requests that a shard coordinates as their home.
 #[derive(Drop)]
 pub struct Coordinator {
     shard: u32,
     requests: BTreeMap<TxId, Request>,
+    /// Those that wait for a vote or an acknowledgement.
+    waiting: TxIndex,
 }
 
 impl Model for Coordinator {
+    ghost use Rattle.std.specs.Prelude.{◌≡◌};
     ghost use Rattle.commit_coordinator.specs.Coordinated.{Coordination, AreFit};
+    ghost use Rattle.commit_coordinator.specs.Waiting.{waits};
+    ghost use Rattle.tx_index.specs.Index.{IsIndex};
 
     ghost Value = { Coordination };
 
     ghost view = { λ c. record { shard = c.shard; requests = c.requests.entries } };
 
-    ghost invariant = { λ c. AreFit c.shard c.requests.entries };
+    ghost invariant = { λ c. AreFit c.shard c.requests.entries × IsIndex (waits c.shard) c.requests.entries c.waiting };
 }
 
 /// Whether a vote counts: it is the first of another part of an undecided request.
@@ -145,6 +154,7 @@ impl Coordinator {
         Coordinator {
             shard,
             requests: BTreeMap::new(alloc),
+            waiting: TxIndex::new(alloc),
         }
     }
 
@@ -155,14 +165,18 @@ impl Coordinator {
         ensures ok { OnOk result (self.new ≡ record self.old { requests = restored_requests unended.now }) }
         ensures err { OnErr result (self.new ≡ self.old) }
     {
+        let shard = self.shard;
         let mut requests = BTreeMap::new(alloc);
+        let mut waiting = TxIndex::new(alloc);
         for commit in unended {
-            match requests.insert(commit.0, restored_request(alloc, &commit.1)) {
-                Ok(_) => {}
-                Err(_) => return Err(Memory),
+            let request = restored_request(alloc, &commit.1);
+            match put_request(&mut requests, &mut waiting, shard, commit.0, request) {
+                Ok(()) => {}
+                Err(memory) => return Err(memory),
             }
         }
         self.requests = requests;
+        self.waiting = waiting;
         Ok(())
     }
 
@@ -216,21 +230,72 @@ impl Coordinator {
         Ok(txs)
     }
 
+    /// The transactions whose requests wait for a vote or an acknowledgement, which rise. Those that are over cost nothing.
+    pub fn waiting(&self, alloc: Global) -> Result<Vec<TxId>, Memory>
+        ensures txs { IfOk result (λ txs. txs.items ≡ waiting_in self.now.shard self.now.requests) }
+        ensures rising { IsStrictlySortedBy tx_cmp (waiting_in self.now.shard self.now.requests) }
+    {
+        let _all = self.requests.len();
+        match self.waiting.to_vec(alloc) {
+            Ok(txs) => Ok(txs),
+            Err(_) => Err(Memory),
+        }
+    }
+
+    /// A Prepare for each vote that the transaction's request misses, if it has one.
+    fn ask_of(&self, tx: TxId, list: &mut Vec<Message>) -> Result<(), Memory>
+        ensures { OnOk result (list.new.items ≡ list.old.items ++ of_one (votes_of self.now.shard) tx (tx_get tx self.now.requests)) }
+    {
+        match self.requests.get(&tx) {
+            Some(request) => remind_votes(self.shard, tx, request, list),
+            None => Ok(()),
+        }
+    }
+
+    /// A Prepare for each vote that the request of one of these transactions misses.
+    fn ask_for_votes(&self, txs: &[TxId], list: &mut Vec<Message>) -> Result<(), Memory>
+        ensures { OnOk result (list.new.items ≡ list.old.items ++ each_at (votes_of self.now.shard) self.now.requests txs.now) }
+    {
+        for tx in txs {
+            self.ask_of(*tx, list)?;
+        }
+        Ok(())
+    }
+
+    /// A Decide for each acknowledgement that the request of one of these transactions misses, where its COMMIT is durable.
+    fn tell_commits(
+        &self,
+        txs: &[TxId],
+        durable: &[TxId],
+        list: &mut Vec<Message>,
+    ) -> Result<(), Memory>
+        requires rising { IsStrictlySortedBy tx_cmp durable.now }
+        ensures { OnOk result (list.new.items ≡ list.old.items ++ each_at (dones_of self.now.shard durable.now) self.now.requests txs.now) }
+    {
+        for tx in txs {
+            if contains(durable, tx) {
+                if let Some(request) = self.requests.get(tx) {
+                    remind_dones(self.shard, *tx, request, list)?;
+                }
+            }
+        }
+        Ok(())
+    }
+
     /// What the home reminds of: a Prepare for each missing vote of an undecided request, then a Decide for each missing acknowledgement of
-    /// these transactions, whose COMMITs are durable.
+    /// these transactions, whose COMMITs are durable. It goes over the requests that wait.
     pub fn reminders(&self, alloc: Global, durable: &[TxId]) -> Result<Vec<Message>, Memory>
         requires rising { IsStrictlySortedBy tx_cmp durable.now }
         ensures { IfOk result (λ list. list.items ≡ home_reminders self.now.shard self.now.requests durable.now) }
     {
+        let _all = self.requests.len();
+        let waiting = match self.waiting(alloc) {
+            Ok(waiting) => waiting,
+            Err(memory) => return Err(memory),
+        };
         let mut list = Vec::new(alloc);
-        for (tx, request) in self.requests.iter() {
-            remind_votes(self.shard, *tx, request, &mut list)?;
-        }
-        for (tx, request) in self.requests.iter() {
-            if contains(durable, tx) {
-                remind_dones(self.shard, *tx, request, &mut list)?;
-            }
-        }
+        self.ask_for_votes(&waiting, &mut list)?;
+        self.tell_commits(&waiting, durable, &mut list)?;
         Ok(list)
     }
 
@@ -275,7 +340,10 @@ impl Coordinator {
         let Some(request) = self.requests.get_mut(&tx) else {
             return false;
         };
-        take_done(shard, request, from)
+        let taken = take_done(shard, request, from);
+        let stays = waits(shard, request);
+        self.waiting.keep_if(tx, stays);
+        taken
     }
 
     /// What is due of a transaction at its home; each ruling is given once and kept. Takes no memory.
@@ -287,7 +355,10 @@ impl Coordinator {
         let Some(request) = self.requests.get_mut(&tx) else {
             return None;
         };
-        rule(shard, tx, request, facts)
+        let ruling = rule(shard, tx, request, facts);
+        let stays = waits(shard, request);
+        self.waiting.keep_if(tx, stays);
+        ruling
     }
 
     /// A request is kept, undecided, with the shards that it touched and their epochs. Where there is no memory all stays.
@@ -306,10 +377,13 @@ impl Coordinator {
             acknowledged_by: ShardList::new(),
             is_ended: false,
         };
-        match self.requests.insert(tx, request) {
-            Ok(_) => Ok(()),
-            Err(_) => Err(Memory),
-        }
+        put_request(
+            &mut self.requests,
+            &mut self.waiting,
+            self.shard,
+            tx,
+            request,
+        )
     }
 }
 

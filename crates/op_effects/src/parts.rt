@@ -6,15 +6,14 @@ ghost use Rattle.clv_base.specs.OneShard.{new_part};
 use clv_base::names::{Birth, TxId};
 use clv_base::state::{Held, Stage};
 use lock_table::Memory;
-use std::alloc::Global;
-use std::collections::BTreeMap;
+use part_table::PartTable;
 
 /// The transaction has a part here from its first operation on. An `Err` changes nothing.
-pub fn enter_part(parts: &mut BTreeMap<TxId, Held>, tx: TxId, birth: Birth) -> Result<(), Memory>
+pub fn enter_part(parts: &mut PartTable, tx: TxId, birth: Birth) -> Result<(), Memory>
     ensures ok { OnOk result (parts.new.entries ≡ new_part tx birth (tx_get tx parts.old.entries) parts.old.entries) }
     ensures err { OnErr result (parts.new.entries ≡ parts.old.entries) }
 {
-    match parts.get(&tx) {
+    match parts.get(tx) {
         Some(_) => return Ok(()),
         None => {}
     }
@@ -24,8 +23,8 @@ pub fn enter_part(parts: &mut BTreeMap<TxId, Held>, tx: TxId, birth: Birth) -> R
         is_restored: false,
         is_dropped: false,
     };
-    match parts.insert(tx, part) {
-        Ok(_) => Ok(()),
+    match parts.enter(tx, part) {
+        Ok(()) => Ok(()),
         Err(_) => Err(Memory),
     }
 }

@@ -16,3 +16,4 @@ pub mod Asking
 pub mod Looked
 pub mod Heard
 pub mod Made
+pub mod Here

@@ -15,13 +15,14 @@ ghost use Rattle.shard_core.specs.Whole.{IsAtRest};
 use crate::shard::ShardCore;
 use clv_base::messages::Message;
 use clv_base::names::TxId;
+use commit_coordinator::laws::reminders_by_waiting;
 use due_loop::settle_due;
 use due_messages::Outbox;
 use lock_table::Locks;
 use ordered_store::Store;
 use std::alloc::Global;
 use txn_core::Memory;
-use vote_participant::doubts::waiting_by_keys;
+use vote_participant::doubts::waiting_among;
 
 /// These messages go behind the others.
 fn tell_these(outbox: &mut Outbox, messages: &[Message]) -> Result<(), Memory>
@@ -88,11 +89,12 @@ impl<S: Store + Drop, L: Locks + Drop> ShardCore<S, L> {
         Ok(list)
     }
 
-    /// What this shard as a home sends again.
+    /// What this shard as a home sends again. It goes over the requests that wait.
     fn home_reminders(&self, alloc: Global) -> Result<Vec<Message>, Memory>
         ensures { IfOk result (λ list. list.items ≡ reminders_of_home (self.now.shard).shard (self.now.shard).requests (durable_requests self.now.shard)) }
     {
-        let txs = match self.coordinator.transactions(alloc) {
+        reminders_by_waiting();
+        let txs = match self.coordinator.waiting(alloc) {
             Ok(txs) => txs,
             Err(_) => return Err(Memory),
         };
@@ -106,14 +108,15 @@ impl<S: Store + Drop, L: Locks + Drop> ShardCore<S, L> {
         }
     }
 
-    /// What the parts on this shard ask their homes.
+    /// What the parts on this shard ask their homes. It goes over the parts that are here.
     fn questions(&self, alloc: Global) -> Result<Vec<Message>, Memory>
         ensures { IfOk result (λ list. list.items ≡ asks (self.now.shard).shard (self.now.shard).voters (waiting_voters self.now.shard)) }
     {
-        waiting_by_keys();
-        let txs = match self.participant.transactions(alloc) {
+        waiting_among();
+        self.participant.rising();
+        let txs = match self.transactions.here(alloc) {
             Ok(txs) => txs,
-            Err(_) => return Err(Memory),
+            Err(memory) => return Err(memory),
         };
         let asking = match self.asking_of(alloc, &txs) {
             Ok(asking) => asking,

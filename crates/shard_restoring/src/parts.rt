@@ -6,8 +6,8 @@ ghost use Rattle.clv_base.specs.Restarts.{old_birth as birth_of_old, restored_pa
 
 use clv_base::names::{Birth, TxId};
 use clv_base::state::{Held, Stage};
+use part_table::PartTable;
 use std::alloc::{AllocError, Global};
-use std::collections::BTreeMap;
 
 /// The age of a restored part.
 pub(crate) fn old_birth(tx: TxId) -> Birth
@@ -32,13 +32,13 @@ fn restored_part(tx: TxId) -> Held
 }
 
 /// The parts of the transactions, which rise: closed, and restored.
-pub(crate) fn parts_of(alloc: Global, txs: &[TxId]) -> Result<BTreeMap<TxId, Held>, AllocError>
+pub(crate) fn parts_of(alloc: Global, txs: &[TxId]) -> Result<PartTable, AllocError>
     requires rising { IsStrictlySortedBy tx_cmp txs.now }
     ensures { IfOk result (λ parts. parts.entries ≡ restored_parts txs.now) }
 {
-    let mut parts = BTreeMap::new(alloc);
+    let mut parts = PartTable::new(alloc);
     for tx in txs {
-        parts.insert(*tx, restored_part(*tx))?;
+        parts.enter(*tx, restored_part(*tx))?;
     }
     Ok(parts)
 }

@@ -12,6 +12,7 @@ use Rattle.clv_base.specs.declared.state.Held.{Held}
 use Rattle.clv_base.specs.Orders.{Table, tx_cmp, tx_same, tx_in, tx_get}
 use Rattle.clv_base.specs.Undo.{gone_in, gone_part}
 use Rattle.clv_base.proofs.SameNames.{tx_true}
+use Rattle.part_table.specs.Parts.{IsNoReturn, is_here as part_is_here}
 use Rattle.violation_deps.proofs.Laws.{tx_total}
 
 -- ---- parts
@@ -27,6 +28,10 @@ gone_in-one_more doom t ts (p ∷ ps) = at (tx_same t p.0) (tx_in p.0 ts) (gone_
     at true false more = ap (λ l. (p.0, gone_part doom p.1) ∷ l) more
     at false true more = ap (λ l. (p.0, gone_part doom p.1) ∷ l) more
     at false false more = ap (λ l. (p.0, p.1) ∷ l) more
+
+-- a part that is there is changed to one that is here only if it was
+pub no_return : (o : Option Held) (old new : Held) → o ≡ Some old → (part_is_here new ≡ true → part_is_here old ≡ true) → IsNoReturn o new
+no_return o old new e h = subst (λ p. IsNoReturn p new) (sym e) h
 
 -- the table with another value for one transaction
 abbrev pub changed : TxId → (Held → Held) → Table Held → Table Held

@@ -16,14 +16,14 @@ use clv_base::state::{Held, Stage};
 use lock_release::release_all;
 use lock_table::Locks;
 use ordered_store::Store;
-use std::collections::BTreeMap;
+use part_table::PartTable;
 use violation_deps::Deps;
 
 /// Whether the transaction's part is active or closed.
-fn is_here(parts: &BTreeMap<TxId, Held>, tx: TxId) -> bool
+fn is_here(parts: &PartTable, tx: TxId) -> bool
     ensures { result ≡ is_in parts.now.entries tx }
 {
-    match parts.get(&tx) {
+    match parts.get(tx) {
         Some(part) => match part.stage {
             Stage::Active | Stage::Closed => true,
             Stage::Gone { .. } => false,
@@ -33,7 +33,7 @@ fn is_here(parts: &BTreeMap<TxId, Held>, tx: TxId) -> bool
 }
 
 /// Marks those that the abort of the transaction takes away: it and all that depend on it, but it alone where its part isn't here.
-fn mark_doomed(deps: &mut Deps, parts: &BTreeMap<TxId, Held>, tx: TxId)
+fn mark_doomed(deps: &mut Deps, parts: &PartTable, tx: TxId)
     ensures marked { deps.new.marked ≡ cond (is_in parts.now.entries tx) (doomed deps.old.pairs tx) (filter (λ t. not (tx_same tx t)) (doomed deps.old.pairs tx)) }
     ensures pairs { deps.new.pairs ≡ deps.old.pairs }
     ensures commits { deps.new.commits ≡ deps.old.commits }

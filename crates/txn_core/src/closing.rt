@@ -94,7 +94,7 @@ impl<S: Store + Drop, L: Locks + Drop> ShardTx<S, L> {
         ensures pairs_room { self.old.pairs_room ≤ self.new.pairs_room + 1 }
         ensures rising { IsStrictlySortedBy tx_cmp (keys_of (self.old.local).parts) }
     {
-        let _known = self.parts.len();
+        self.parts.rising();
         self.locks.close_part(tx);
         close_in(&mut self.parts, tx);
         write_closing(&mut self.buffer, &mut self.deps, tx, home, plan)

@@ -9,7 +9,7 @@ use clv_base::state::Held;
 use lock_table::Locks;
 use log_buffer::LogBuffer;
 use ordered_store::Store;
-use std::collections::BTreeMap;
+use part_table::PartTable;
 use violation_deps::Deps;
 
 /// What the transactions of a shard work on.
@@ -17,7 +17,7 @@ use violation_deps::Deps;
 pub struct TxParts<S: Store + Drop, L: Locks + Drop> {
     pub store: S,
     pub locks: L,
-    pub parts: BTreeMap<TxId, Held>,
+    pub parts: PartTable,
     pub deps: Deps,
     pub buffer: LogBuffer<LogRecord>,
 }

@@ -18,16 +18,16 @@ use log_buffer::LogBuffer;
 use op_effects::{add_predecessors, enter_part, reserve_locks, take_locks, write_down};
 use op_needs::{Plan, Write};
 use ordered_store::Store;
+use part_table::PartTable;
 use std::alloc::Global;
-use std::collections::BTreeMap;
 use violation_deps::Deps;
 
 /// Whether a transaction has no part here, and yet an UPDATE in the log, from before a restart. Its session is told of the restart before it
 /// may come again, so what is made of it doesn't matter.
-fn was_before(parts: &BTreeMap<TxId, Held>, buffer: &LogBuffer<LogRecord>, tx: TxId) -> bool
+fn was_before(parts: &PartTable, buffer: &LogBuffer<LogRecord>, tx: TxId) -> bool
     ensures { result ≡ (is_none (tx_get tx parts.now.entries) && wrote_in buffer.now.records tx) }
 {
-    parts.get(&tx).is_none() && buffer.wrote(tx)
+    parts.get(tx).is_none() && buffer.wrote(tx)
 }
 
 /// Makes room for an UPDATE, and for the CLR and the ABORT that it may want.

@@ -8,7 +8,7 @@ use clv_base::state::{Held, Stage};
 use lock_table::Locks;
 use log_buffer::LogBuffer;
 use ordered_store::Store;
-use std::collections::BTreeMap;
+use part_table::PartTable;
 use std::marker::Model;
 use violation_deps::Deps;
 
@@ -19,7 +19,7 @@ pub struct ShardTx<S: Store + Drop, L: Locks + Drop> {
     pub(crate) epoch: u64,
     pub(crate) store: S,
     pub(crate) locks: L,
-    pub(crate) parts: BTreeMap<TxId, Held>,
+    pub(crate) parts: PartTable,
     pub(crate) deps: Deps,
     pub(crate) buffer: LogBuffer<LogRecord>,
 }
@@ -53,7 +53,7 @@ impl<S: Store + Drop, L: Locks + Drop> ShardTx<S, L> {
         epoch: u64,
         store: S,
         locks: L,
-        parts: BTreeMap<TxId, Held>,
+        parts: PartTable,
         deps: Deps,
         buffer: LogBuffer<LogRecord>,
     ) -> Self
@@ -78,7 +78,7 @@ impl<S: Store + Drop, L: Locks + Drop> ShardTx<S, L> {
     pub fn stage_of(&self, tx: TxId) -> Option<Stage>
         ensures { result ≡ stage_in self.now.local tx }
     {
-        match self.parts.get(&tx) {
+        match self.parts.get(tx) {
             Some(part) => Some(part.stage),
             None => None,
         }

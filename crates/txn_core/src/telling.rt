@@ -1,19 +1,22 @@
 //! What is told of a transaction here.
-ghost use Rattle.std.specs.Prelude.{◌≡◌, ◌||◌, not};
+ghost use Rattle.std.specs.Prelude.{◌≡◌, ◌||◌, not, IfOk};
 ghost use Rattle.std.specs.List.{list_all};
+ghost use Rattle.std.specs.List.Sorted.{IsStrictlySortedBy};
 ghost use Rattle.clv_base.specs.Facts.{facts_in};
 ghost use Rattle.clv_base.specs.Facts.{state_by, doom_by, is_restored_by};
 ghost use Rattle.clv_base.specs.Undo.{stage_of as stage_in};
 ghost use Rattle.clv_base.specs.Logs.{committed_in};
-ghost use Rattle.clv_base.specs.Orders.{tx_get};
+ghost use Rattle.clv_base.specs.Orders.{tx_cmp, tx_get};
+ghost use Rattle.part_table.specs.Parts.{parts_here};
 ghost use Rattle.clv_base.specs.State.{is_closed_stage};
 
 use crate::shard::ShardTx;
 use clv_base::names::TxId;
 use clv_base::parts::{PartFacts, PartState};
 use clv_base::state::{Held, Stage};
-use lock_table::Locks;
+use lock_table::{Locks, Memory};
 use ordered_store::Store;
+use std::alloc::Global;
 
 /// How far a part is, by its stage.
 fn state_of(stage: Option<Stage>) -> PartState
@@ -57,7 +60,7 @@ impl<S: Store + Drop, L: Locks + Drop> ShardTx<S, L> {
             state: state_of(stage),
             now: self.epoch,
             updates: self.buffer.wrote(tx),
-            restored: is_restored(self.parts.get(&tx).copied()),
+            restored: is_restored(self.parts.get(tx)),
             doom: doom_of(stage),
             prepare,
             commit: self.deps.settled_at(tx),
@@ -66,11 +69,23 @@ impl<S: Store + Drop, L: Locks + Drop> ShardTx<S, L> {
             durable: self.buffer.durable(),
         }
     }
+
     /// The transaction's part here, where it is known.
     pub fn part(&self, tx: TxId) -> Option<Held>
         ensures { result ≡ tx_get tx (self.now.local).parts }
     {
-        self.parts.get(&tx).copied()
+        self.parts.get(tx)
+    }
+
+    /// The transactions whose parts here are active or closed, which rise. Those that are gone cost nothing.
+    pub fn here(&self, alloc: Global) -> Result<Vec<TxId>, Memory>
+        ensures txs { IfOk result (λ txs. txs.items ≡ parts_here (self.now.local).parts) }
+        ensures rising { IsStrictlySortedBy tx_cmp (parts_here (self.now.local).parts) }
+    {
+        match self.parts.here(alloc) {
+            Ok(txs) => Ok(txs),
+            Err(_) => Err(Memory),
+        }
     }
 
     /// Whether a COMMIT of the transaction is in the log, durable or not.

@@ -13,8 +13,8 @@ use clv_base::state::Stage;
 use lock_table::{ListLocks, Locks};
 use log_buffer::LogBuffer;
 use ordered_store::{SortedStore, Store};
+use part_table::PartTable;
 use std::alloc::{AllocError, Global};
-use std::collections::BTreeMap;
 use std::test::Fail;
 use violation_deps::Deps;
 
@@ -43,7 +43,7 @@ fn over(alloc: Global, store: SortedStore, locks: ListLocks) -> Result<Shard, Al
 {
     let deps = Deps::new(alloc)?;
     let buffer = LogBuffer::<LogRecord>::new(alloc);
-    Ok(ShardTx::new(3, 2, store, locks, BTreeMap::new(alloc), deps, buffer))
+    Ok(ShardTx::new(3, 2, store, locks, PartTable::new(alloc), deps, buffer))
 }
 
 fn empty(alloc: Global) -> Result<Shard, AllocError> {

@@ -1,18 +1,24 @@
 -- A part that is there is closed by its new value; where there is none, all stays.
-use Rattle.std.proofs.Common.{◌≡◌, Some, None, sym, ap, ◌∙◌}
+use Rattle.std.proofs.Common.{◌≡◌, true, subst, Some, None, sym, ap, ◌∙◌}
 use Rattle.clv_base.specs.Orders.{tx_cmp, tx_get}
 use Rattle.clv_base.specs.OneShard.{closed_part}
 use Rattle.std.specs.BTreeMap.{insert_entry}
-use Rattle.txn_core.proofs.Ends.{changed-none, changed-found}
+use Rattle.clv_base.specs.State.{is_present}
+use Rattle.txn_core.proofs.Ends.{no_return, changed-none, changed-found}
 use Rattle.txn_core.proofs.ending.close_in.Goals as goal
 
 pub returns-in-None : goal.returns-in-None
 returns-in-None c =
-    let none : tx_get c.args.tx c.args.parts.now.entries ≡ None = sym c.get.ensures.value ∙ sym c.copied.ensures ∙ c.in-None.is in
+    let none : tx_get c.args.tx c.args.parts.now.entries ≡ None = sym c.get.ensures ∙ c.in-None.is in
     sym (changed-none c.args.tx closed_part c.args.parts.now.entries none)
 
 pub returns : goal.returns
 returns c =
-    let parts = c.args.parts.now.entries in let there : tx_get c.args.tx parts ≡ Some c.in-Some.part = sym c.get.ensures.value ∙ sym c.copied.ensures ∙ c.in-Some.is in
-    c.in-Ok.ensures.entries ∙ ap (insert_entry tx_cmp parts c.args.tx) c.closed.ensures
-    ∙ changed-found c.args.tx closed_part c.in-Some.part parts c.in-Ok.ensures.was_ordered there
+    let parts = c.args.parts.now.entries in let there : tx_get c.args.tx parts ≡ Some c.in-Some.part = sym c.get.ensures ∙ c.in-Some.is in
+    c.change.ensures.entries ∙ ap (insert_entry tx_cmp parts c.args.tx) c.closed.ensures
+    ∙ changed-found c.args.tx closed_part c.in-Some.part parts c.change.ensures.rising there
+
+pub change-requires : goal.change-requires
+change-requires c =
+    let there : tx_get c.args.tx c.args.parts.now.entries ≡ Some c.in-Some.part = sym c.get.ensures ∙ c.in-Some.is in
+    no_return _ c.in-Some.part c.closed.result there (λ e. subst (λ o. is_present (elim o [ Some h ↦ Some h.stage | None ↦ None ]) ≡ true) there c.requires)

@@ -3,7 +3,7 @@ use Rattle.std.proofs.Common.{◌≡◌, ◌++◌, List, refl, sym, ap, subst, �
 use Rattle.clv_base.specs.declared.logs.LogRecord.{LogRecord}
 use Rattle.clv_base.specs.declared.state.Stage.TheVariants.{Active}
 use Rattle.clv_base.specs.Logs.{wrote_in}
-use Rattle.clv_base.specs.State.{Local}
+use Rattle.clv_base.specs.State.{Local, is_present}
 use Rattle.clv_base.specs.Undo.{stage_of}
 use Rattle.clv_base.specs.Facts.{undecided_of}
 use Rattle.clv_base.specs.OneShard.{closing, close_part}
@@ -15,6 +15,9 @@ use Rattle.txn_core.proofs.Locked.{ghosts_same}
 use Rattle.txn_core.proofs.Closed.{closed_sound, closed_fewer, closed_ghosts, spends_like}
 use Rattle.txn_core.proofs.Crowds.{few_same, few_grows}
 use Rattle.txn_core.proofs.shard.ShardTx.close_as.Goals as goal
+
+pub close_in-requires : goal.close_in-requires
+close_in-requires g c = ap is_present (subst (λ (v : TxState). stage_of v.local c.args.tx ≡ Some Active) (sym c.self.view_is) c.requires.active)
 
 pub invariant_of-self : goal.invariant_of-self
 invariant_of-self g c =

@@ -24,5 +24,5 @@ returns g c =
     let found : PartFacts = record { state = c.state_of.result; now = s.epoch; updates = c.wrote.result; restored = c.is_restored.result; doom = c.doom_of.result; prepare = c.args.prepare; commit = c.settled_at.result; undecided = c.undecided.result; due_lsn = c.due_lsn.result; durable = c.durable.result } in
     subst (λ (v : TxState). ◌≡◌ {A = PartFacts} found (record (facts_in v.local v.durable tx) { prepare = c.args.prepare })) c.self.view_is
     (same_facts _ _ s.epoch _ _ _ _ _ _ c.args.prepare _ _ _ _ _ _ _ _
-    (c.state_of.ensures ∙ ap state_by stage) c.wrote.ensures (c.is_restored.ensures ∙ ap is_restored_by (c.copied.ensures ∙ c.get.ensures.value)) (c.doom_of.ensures ∙ ap doom_by stage)
+    (c.state_of.ensures ∙ ap state_by stage) c.wrote.ensures (c.is_restored.ensures ∙ ap is_restored_by c.get.ensures) (c.doom_of.ensures ∙ ap doom_by stage)
     (c.settled_at.ensures ∙ c.self.invariant.settled tx) (c.undecided.ensures ∙ ap length (undecided_by-log s.deps l refl c.self.invariant.settled tx)) (c.due_lsn.ensures ∙ due_of-log s.deps l refl c.self.invariant.settled tx) c.durable.ensures.durable)

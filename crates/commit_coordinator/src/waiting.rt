@@ -1,0 +1,65 @@
+// Which requests wait, and the table of requests with its index of those.
+ghost use Rattle.std.specs.Prelude.{◌≡◌, ◌==◌, not, OnOk, OnErr};
+ghost use Rattle.std.specs.List.{list_any};
+ghost use Rattle.std.specs.List.Sorted.{IsStrictlySortedBy};
+ghost use Rattle.std.specs.Map.{keys_of};
+ghost use Rattle.clv_base.specs.Orders.{tx_cmp, tx_put};
+ghost use Rattle.commit_coordinator.specs.Waiting.{waits as request_waits};
+ghost use Rattle.tx_index.specs.Index.{IsIndex};
+
+use crate::memory::Memory;
+use crate::ruling::are_in;
+use clv_base::names::TxId;
+use clv_base::state::{Request, RequestState};
+use std::collections::BTreeMap;
+use tx_index::TxIndex;
+
+/// Whether one of these shards is another than this.
+fn touches_others(shard: u32, touched: &[(u32, u64)]) -> bool
+    ensures { result ≡ list_any (λ t. not (t.0 == shard)) touched.now }
+{
+    touched.iter().any(|part| part.0 != shard)
+}
+
+/// Whether a request waits: for votes of other shards, or for the acknowledgement of a part.
+pub(crate) fn waits(shard: u32, request: &Request) -> bool
+    ensures { result ≡ request_waits shard request.now }
+{
+    match &request.state {
+        RequestState::Undecided => touches_others(shard, request.touched.as_slice()),
+        RequestState::Committed { parts } => !are_in(parts, &request.acknowledged_by),
+        RequestState::Finished | RequestState::Refused { .. } => false,
+    }
+}
+
+/// Puts a request into the table, and into the index if it waits. Where there is no memory all stays.
+pub(crate) fn put_request(
+    requests: &mut BTreeMap<TxId, Request>,
+    waiting: &mut TxIndex,
+    shard: u32,
+    tx: TxId,
+    request: Request,
+) -> Result<(), Memory>
+    requires { IsIndex (request_waits shard) requests.old.entries waiting.old }
+    ensures ok { OnOk result (requests.new.entries ≡ tx_put tx request requests.old.entries) }
+    ensures err { OnErr result (requests.new.entries ≡ requests.old.entries) }
+    ensures index { IsIndex (request_waits shard) requests.new.entries waiting.new }
+    ensures keys { IsStrictlySortedBy tx_cmp (keys_of requests.new.entries) }
+{
+    let waits = waits(shard, &request);
+    let _all = requests.len();
+    match waiting.insert_if(tx, waits) {
+        Ok(()) => {}
+        Err(_) => return Err(Memory),
+    }
+    match requests.insert(tx, request) {
+        Ok(_) => {
+            waiting.keep_if(tx, waits);
+            Ok(())
+        }
+        Err(_) => {
+            waiting.keep_if(tx, false);
+            Err(Memory)
+        }
+    }
+}
