@@ -19,6 +19,7 @@ use machines_opening::OverDisks;
 use shards_opening::open_shards;
 use std::alloc::Global;
 use std::snapshot::Snapshot;
+use std::sync::Mutex;
 use turn_laws::{Note, Origin};
 use turn_lock::{Pass, TurnLock};
 
@@ -37,6 +38,28 @@ fn told_as(shard: u32, error: RecoverError) -> OpenError
         RecoverError::Failed => OpenError::Failed { shard },
         RecoverError::Memory => OpenError::Memory,
     }
+}
+
+// Nobody writes a batch yet.
+fn no_writers() -> [Mutex<()>; 16] {
+    [
+        Mutex::new(()),
+        Mutex::new(()),
+        Mutex::new(()),
+        Mutex::new(()),
+        Mutex::new(()),
+        Mutex::new(()),
+        Mutex::new(()),
+        Mutex::new(()),
+        Mutex::new(()),
+        Mutex::new(()),
+        Mutex::new(()),
+        Mutex::new(()),
+        Mutex::new(()),
+        Mutex::new(()),
+        Mutex::new(()),
+        Mutex::new(()),
+    ]
 }
 
 // Takes all shards from the logs found into their locks, with so many passes each; there is room for both. An `Err` gives every disk back.
@@ -72,6 +95,7 @@ pub(crate) fn lock_all<H: House, M: OverDisks<H::Disk>>(
                 locks,
                 splits,
                 run,
+                writing: no_writers(),
                 found,
             };
             Ok((shards, passes))

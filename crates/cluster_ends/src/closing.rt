@@ -42,6 +42,7 @@ fn close_all<M: Machine>(
         mut locks,
         splits: _,
         run: _,
+        writing: _,
         found: _,
     } = shards;
     let count = locks.len();

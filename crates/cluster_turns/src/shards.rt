@@ -18,7 +18,7 @@ use clv_base::splits::Splits;
 use machine_calls::{Machine, StepError};
 use std::alloc::Global;
 use std::snapshot::Snapshot;
-use std::sync::Wait;
+use std::sync::{Mutex, Wait};
 use turn_laws::{Note, Origin};
 use turn_lock::{Pass, TurnLock};
 
@@ -30,6 +30,8 @@ pub struct Shards<M: Machine> {
     pub locks: Vec<TurnLock<Home<M>>>,
     pub splits: Splits,
     pub run: u32,
+    /// By shard: held by whoever writes a batch, so that others who want it written sleep until then. It guards nothing.
+    pub writing: [Mutex<()>; 16],
     /// Each shard's log as opening found it.
     pub found: Snapshot<Vec<Vec<LogRecord>>>,
 }

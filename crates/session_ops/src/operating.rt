@@ -84,7 +84,7 @@ fn refused(error: RoundError) -> OpError
     }
 }
 
-// A round of a session whose transaction is active.
+// A round of a session whose transaction is active, once it is time for one.
 fn pass_round<M: Flier, P: Pace, R: Wait>(
     rt: &R,
     alloc: Global,
@@ -92,6 +92,7 @@ fn pass_round<M: Flier, P: Pace, R: Wait>(
     walker: &mut Walker<M>,
     place: &Place,
     pace: &P,
+    is_time: bool,
 ) -> Result<(), RoundError>
     requires active { IsActive shards.now walker.old place.now }
     ensures walker { IsSameWalker walker.old walker.new }
@@ -99,10 +100,13 @@ fn pass_round<M: Flier, P: Pace, R: Wait>(
     ensures stands { IsActive shards.now walker.new place.now }
 {
     let _place = place;
-    round(rt, alloc, shards, walker, pace)
+    if is_time {
+        return round(rt, alloc, shards, walker, pace);
+    }
+    Ok(())
 }
 
-// One try, and a round where it has to wait.
+// One try, and where it has to wait a round, once it is time for one.
 fn try_and_pass<M: Flier, P: Pace, R: Wait>(
     rt: &R,
     alloc: Global,
@@ -113,6 +117,7 @@ fn try_and_pass<M: Flier, P: Pace, R: Wait>(
     nth: u64,
     op: Op,
     pace: &P,
+    is_time: bool,
 ) -> Result<Option<Answer>, OpError>
     requires active { IsActive shards.now walker.old place.old }
     requires shard { (shard < length shards.now.locks.items) × (shard < 16) }
@@ -124,7 +129,7 @@ fn try_and_pass<M: Flier, P: Pace, R: Wait>(
     ensures stands { StandsBy shard shards.now walker.new place.new result }
 {
     match try_once(rt, alloc, shards, walker, place, shard, nth, op) {
-        Ok(None) => match pass_round(rt, alloc, shards, walker, place, pace) {
+        Ok(None) => match pass_round(rt, alloc, shards, walker, place, pace, is_time) {
             Ok(()) => Ok(None),
             Err(error) => Err(refused(error)),
         },
@@ -133,10 +138,13 @@ fn try_and_pass<M: Flier, P: Pace, R: Wait>(
     }
 }
 
-/// One operation, or part scan, of the active transaction on one shard, with a round after each wait, until it is answered. Of a session's turns it takes
-/// only those of this operation. `Aborted` comes only where one of them died of that cause, and the transaction is over then; `Down` only where a turn of
-/// the call found that shard down, which is the operation's own or comes after a wait; `Worn` only where a turn would have had a stamp past the last.
-/// After these and `Memory` the transaction is active, and its place is as before.
+// Of so many waits one makes a round.
+const WAITS_PER_ROUND: u64 = 8;
+
+/// One operation, or part scan, of the active transaction on one shard, until it is answered: while it has to wait it gives way, and makes a round after each
+/// eighth try. Of a session's turns it takes only those of this operation. `Aborted` comes only where one of them died of that cause, and the transaction is
+/// over then; `Down` only where a turn of the call found that shard down, which is the operation's own or comes after a wait; `Worn` only where a turn would
+/// have had a stamp past the last. After these and `Memory` the transaction is active, and its place is as before.
 pub fn operate<M: Flier, P: Pace, R: Wait>(
     rt: &R,
     alloc: Global,
@@ -158,8 +166,13 @@ pub fn operate<M: Flier, P: Pace, R: Wait>(
     ensures stands { StandsBy shard shards.now walker.new place.new (answered_in result) }
 {
     let backoff = Backoff::new();
+    let mut waits: u64 = 0;
     for _ in rt.forever() {
-        match try_and_pass(rt, alloc, shards, walker, place, shard, nth, op, pace) {
+        waits = waits.wrapping_add(1);
+        let is_time = waits % WAITS_PER_ROUND == 0;
+        match try_and_pass(
+            rt, alloc, shards, walker, place, shard, nth, op, pace, is_time,
+        ) {
             Ok(Some(answer)) => return Ok(answer),
             Ok(None) => {}
             Err(error) => return Err(error),

@@ -7,6 +7,7 @@ use cluster_turns::{Shards, Walker, WornClock};
 use clv_base::names::{Birth, TxId};
 use machine_calls::Machine;
 use session_progress::Place;
+use std::thread::yield_now;
 
 // The place of a transaction of this run, whose number is one of 32 bits.
 fn place_of(run: u32, tx: TxId, birth: Birth) -> Place
@@ -17,8 +18,19 @@ fn place_of(run: u32, tx: TxId, birth: Birth) -> Place
     Place::begun(tx, birth)
 }
 
-/// Begins the next transaction of a session with the birth of its last one, which ended by an abort. `WornClock` comes exactly where the
-/// walker's clock is at its end.
+// After so many tries the time between two tries is longest.
+const MOST: u64 = 64;
+
+// Gives way, ever longer after each try, so that those that hold the locks get on.
+fn give_way(tries: u64) {
+    let tries = tries.min(MOST);
+    for _ in 0..8 * tries * tries {
+        yield_now();
+    }
+}
+
+/// Begins the next transaction of a session with the birth of its last one, which ended by an abort. It gives way before, longer
+/// after each try, so that an older one that holds its locks gets on. `WornClock` comes exactly where the walker's clock is at its end.
 pub fn retry<M: Machine>(
     shards: &Shards<M>,
     walker: &mut Walker<M>,
@@ -29,7 +41,10 @@ pub fn retry<M: Machine>(
 {
     let birth = last.birth();
     match shards.next_tx(walker) {
-        Ok((tx, _)) => Ok(place_of(tx.run, tx, birth)),
+        Ok((tx, _)) => {
+            give_way(tx.serial.saturating_sub(birth.serial));
+            Ok(place_of(tx.run, tx, birth))
+        }
         Err(worn) => Err(worn),
     }
 }

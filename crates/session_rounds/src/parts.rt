@@ -4,7 +4,7 @@ ghost use Rattle.cluster_turns.specs.Walkers.{IsWalker, IsSameWalker};
 ghost use Rattle.session_rounds.specs.Rounds.{Rounded, refusal_of};
 
 use cluster_carry::{Carry, CarryError, carry_once, remind_once};
-use cluster_flush::{FlushError, flush_once};
+use cluster_flush::{FlushError, Flushed, flush_once};
 use cluster_turns::{Shards, Walker};
 use io_edge::Pace;
 use machine_calls::{Flier, Machine};
@@ -20,14 +20,39 @@ pub enum RoundError {
     Memory,
 }
 
+// What a round has met so far.
+#[derive(Clone, Copy)]
+pub(crate) struct Met {
+    // A batch was written, or a message carried.
+    pub(crate) moves: bool,
+    // A shard of which another walker writes a batch.
+    pub(crate) away: Option<u32>,
+}
+
+impl Met {
+    pub(crate) fn new() -> Self {
+        Met {
+            moves: false,
+            away: None,
+        }
+    }
+
+    fn note(&mut self, flushed: Flushed) {
+        if let Flushed::Durable(_) = flushed {
+            self.moves = true;
+        }
+    }
+}
+
 // Flushes a shard once.
-pub(crate) fn flush<M: Flier, P: Pace, R: Wait>(
+fn flush_now<M: Flier, P: Pace, R: Wait>(
     rt: &R,
     alloc: Global,
     shards: &Shards<M>,
     walker: &mut Walker<M>,
     shard: u32,
     pace: &P,
+    met: &mut Met,
 ) -> Result<(), RoundError>
     requires walker { IsWalker shards.now walker.old }
     requires shard { shard < length shards.now.locks.items }
@@ -35,11 +60,48 @@ pub(crate) fn flush<M: Flier, P: Pace, R: Wait>(
     ensures flush { Rounded walker.old.number walker.old.clock walker.old.passes.items result walker.new.clock walker.new.passes.items }
 {
     match flush_once(rt, alloc, shards, walker, shard, pace) {
-        Ok(_) => Ok(()),
+        Ok(flushed) => {
+            met.note(flushed);
+            Ok(())
+        }
         Err(FlushError::Failed) => Err(RoundError::Down { shard }),
         Err(FlushError::Down) => Err(RoundError::Down { shard }),
         Err(FlushError::Worn { at }) => Err(RoundError::Worn { at }),
         Err(FlushError::Memory) => Err(RoundError::Memory),
+    }
+}
+
+// Flushes a shard once, unless another walker writes a batch of it.
+pub(crate) fn flush<M: Flier, P: Pace, R: Wait>(
+    rt: &R,
+    alloc: Global,
+    shards: &Shards<M>,
+    walker: &mut Walker<M>,
+    shard: u32,
+    pace: &P,
+    met: &mut Met,
+) -> Result<(), RoundError>
+    requires walker { IsWalker shards.now walker.old }
+    requires shard { shard < length shards.now.locks.items }
+    ensures walker { IsWalker shards.now walker.new × IsSameWalker walker.old walker.new }
+    ensures flush { Rounded walker.old.number walker.old.clock walker.old.passes.items result walker.new.clock walker.new.passes.items }
+{
+    match shards.writing.get(shard as usize) {
+        Some(writing) => match writing.try_lock() {
+            Some(_writer) => flush_now(rt, alloc, shards, walker, shard, pace, met),
+            None => {
+                met.away = Some(shard);
+                Ok(())
+            }
+        },
+        None => flush_now(rt, alloc, shards, walker, shard, pace, met),
+    }
+}
+
+// Sleeps until whoever writes a batch of the shard has it written.
+pub(crate) fn await_writer<M: Machine, R: Wait>(rt: &R, shards: &Shards<M>, shard: u32) {
+    if let Some(writing) = shards.writing.get(shard as usize) {
+        let _writer = writing.lock(rt);
     }
 }
 
@@ -79,6 +141,7 @@ pub(crate) fn carry_all<M: Machine, R: Wait>(
     shards: &Shards<M>,
     walker: &mut Walker<M>,
     shard: u32,
+    met: &mut Met,
 ) -> Result<(), RoundError>
     requires walker { IsWalker shards.now walker.old }
     requires shard { shard < length shards.now.locks.items }
@@ -88,7 +151,7 @@ pub(crate) fn carry_all<M: Machine, R: Wait>(
     for _ in rt.forever() {
         match carry(rt, alloc, shards, walker, shard) {
             Ok(true) => return Ok(()),
-            Ok(false) => {}
+            Ok(false) => met.moves = true,
             Err(error) => return Err(error),
         }
     }

@@ -3,53 +3,102 @@ ghost use Rattle.std.specs.Prelude.{◌<◌, length};
 ghost use Rattle.cluster_turns.specs.Walkers.{IsWalker, IsSameWalker};
 ghost use Rattle.session_rounds.specs.Rounds.{Rounded};
 
-use crate::parts::{RoundError, carry_all, flush, remind};
+use crate::parts::{Met, RoundError, await_writer, carry_all, flush, remind};
 use cluster_turns::{Shards, Walker};
 use io_edge::Pace;
-use machine_calls::Flier;
+use machine_calls::{Flier, Machine};
 use std::alloc::Global;
 use std::sync::Wait;
 
-// Carries a shard's messages, and then asks for what it misses.
-fn carry_and_remind<M: Flier, R: Wait>(
-    rt: &R,
-    alloc: Global,
-    shards: &Shards<M>,
-    walker: &mut Walker<M>,
-    shard: u32,
-) -> Result<(), RoundError>
-    requires walker { IsWalker shards.now walker.old }
-    requires shard { shard < length shards.now.locks.items }
-    ensures walker { IsWalker shards.now walker.new × IsSameWalker walker.old walker.new }
-    ensures round { Rounded walker.old.number walker.old.clock walker.old.passes.items result walker.new.clock walker.new.passes.items }
-{
-    match carry_all(rt, alloc, shards, walker, shard) {
-        Ok(()) => remind(rt, alloc, shards, walker, shard),
-        Err(error) => Err(error),
-    }
-}
-
-// A round's part on one shard.
-fn round_on<M: Flier, P: Pace, R: Wait>(
+// Flushes a shard and carries its messages.
+fn move_one<M: Flier, P: Pace, R: Wait>(
     rt: &R,
     alloc: Global,
     shards: &Shards<M>,
     walker: &mut Walker<M>,
     shard: u32,
     pace: &P,
+    met: &mut Met,
 ) -> Result<(), RoundError>
     requires walker { IsWalker shards.now walker.old }
     requires shard { shard < length shards.now.locks.items }
     ensures walker { IsWalker shards.now walker.new × IsSameWalker walker.old walker.new }
     ensures round { Rounded walker.old.number walker.old.clock walker.old.passes.items result walker.new.clock walker.new.passes.items }
 {
-    match flush(rt, alloc, shards, walker, shard, pace) {
-        Ok(()) => carry_and_remind(rt, alloc, shards, walker, shard),
+    match flush(rt, alloc, shards, walker, shard, pace, met) {
+        Ok(()) => carry_all(rt, alloc, shards, walker, shard, met),
         Err(error) => Err(error),
     }
 }
 
-/// Goes through all shards, in rising order: flushes once, carries messages until none is left, asks once for what is missing. `Down` comes only where a
+// Flushes all shards and carries their messages.
+fn move_all<M: Flier, P: Pace, R: Wait>(
+    rt: &R,
+    alloc: Global,
+    shards: &Shards<M>,
+    walker: &mut Walker<M>,
+    pace: &P,
+    met: &mut Met,
+) -> Result<(), RoundError>
+    requires walker { IsWalker shards.now walker.old }
+    ensures walker { IsWalker shards.now walker.new × IsSameWalker walker.old walker.new }
+    ensures round { Rounded walker.old.number walker.old.clock walker.old.passes.items result walker.new.clock walker.new.passes.items }
+{
+    for shard in 0..shards.splits().shards() {
+        match move_one(rt, alloc, shards, walker, shard, pace, met) {
+            Ok(()) => {}
+            Err(error) => return Err(error),
+        }
+    }
+    Ok(())
+}
+
+// Asks for what is missing at all shards.
+fn ask_all<M: Machine, R: Wait>(
+    rt: &R,
+    alloc: Global,
+    shards: &Shards<M>,
+    walker: &mut Walker<M>,
+) -> Result<(), RoundError>
+    requires walker { IsWalker shards.now walker.old }
+    ensures walker { IsWalker shards.now walker.new × IsSameWalker walker.old walker.new }
+    ensures round { Rounded walker.old.number walker.old.clock walker.old.passes.items result walker.new.clock walker.new.passes.items }
+{
+    for shard in 0..shards.splits().shards() {
+        match remind(rt, alloc, shards, walker, shard) {
+            Ok(()) => {}
+            Err(error) => return Err(error),
+        }
+    }
+    Ok(())
+}
+
+// Where nothing moved: sleeps until a batch is written that another walker writes, or else asks for what is missing.
+fn stand_by<M: Machine, R: Wait>(
+    rt: &R,
+    alloc: Global,
+    shards: &Shards<M>,
+    walker: &mut Walker<M>,
+    met: Met,
+) -> Result<(), RoundError>
+    requires walker { IsWalker shards.now walker.old }
+    ensures walker { IsWalker shards.now walker.new × IsSameWalker walker.old walker.new }
+    ensures round { Rounded walker.old.number walker.old.clock walker.old.passes.items result walker.new.clock walker.new.passes.items }
+{
+    if met.moves {
+        return Ok(());
+    }
+    match met.away {
+        Some(shard) => {
+            await_writer(rt, shards, shard);
+            Ok(())
+        }
+        None => ask_all(rt, alloc, shards, walker),
+    }
+}
+
+/// Goes through all shards, in rising order: flushes once, unless another walker writes a batch, and carries messages until none is left. Where nothing
+/// moved it sleeps until the other's batch is written, or, where nobody writes, asks once for what is missing. `Down` comes only where a
 /// turn of the round found that shard down, and `Worn` only where one would have had a stamp past the last; the round ends there.
 pub fn round<M: Flier, P: Pace, R: Wait>(
     rt: &R,
@@ -62,11 +111,9 @@ pub fn round<M: Flier, P: Pace, R: Wait>(
     ensures walker { IsWalker shards.now walker.new × IsSameWalker walker.old walker.new }
     ensures round { Rounded walker.old.number walker.old.clock walker.old.passes.items result walker.new.clock walker.new.passes.items }
 {
-    for shard in 0..shards.splits().shards() {
-        match round_on(rt, alloc, shards, walker, shard, pace) {
-            Ok(()) => {}
-            Err(error) => return Err(error),
-        }
+    let mut met = Met::new();
+    match move_all(rt, alloc, shards, walker, pace, &mut met) {
+        Ok(()) => stand_by(rt, alloc, shards, walker, met),
+        Err(error) => Err(error),
     }
-    Ok(())
 }

@@ -31,7 +31,7 @@ pub(crate) fn horizon_at<M: Machine>(
 }
 
 // How often the horizon is read while it stands still.
-const READS: u32 = 64;
+const READS: u32 = 4;
 
 // Gives way while no more is durable at the home than before.
 pub(crate) fn give_way<M: Machine>(
