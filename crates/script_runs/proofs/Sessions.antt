@@ -1,5 +1,5 @@
 -- A session's transactions, one after another.
-use Rattle.std.proofs.Common.{◌≡◌, refl, sym, ap, subst, ◌∙◌, ◌⊎◌, inl, inr, ℕ, ◌+◌, ◌<◌, ◌≤◌, true, ◌&&◌, List, [], ◌∷◌, ◌++◌, take, drop, length, map, get_or, append_assoc, append-nil, Option, Some, None, arith}
+use Rattle.std.proofs.Common.{◌≡◌, refl, sym, ap, subst, ◌∙◌, ◌⊎◌, inl, inr, ℕ, ◌+◌, ◌<◌, ◌≤◌, true, ◌&&◌, List, [], ◌∷◌, ◌++◌, take, drop, length, get_or, append_assoc, append-nil, Option, Some, None, arith}
 use Rattle.std.proofs.lemmas.Bool.{lt-ltb}
 use Rattle.std.proofs.lemmas.List.{map-append, take-append-drop, take_more, take_all}
 use Rattle.clv_base.specs.FileRules.{numbers_rise}
@@ -8,12 +8,10 @@ use Rattle.script_tries.specs.declared.ends.StopCause.{StopCause}
 use Rattle.script_tries.specs.declared.ends.StopCause.TheVariants.{Worn}
 use Rattle.script_tries.specs.Sessions.{Transaction, IsTransaction, AreTransactions, all_done, not_begun, stopped, done, entries_of, tries_of}
 use Rattle.script_runs.specs.Seen.{Seen, Grows}
-use Rattle.script_runs.specs.Ran.{Rise, serials, Ran, NotBegun, Follows}
+use Rattle.script_runs.specs.Ran.{Rise, serials, stamps, Ran, NotBegun, Follows}
+use Rattle.script_runs.specs.Laws.{SessionsGoOn, SessionsStop}
 use Rattle.script_runs.proofs.Doing.{grows_on, grows_none}
 use Rattle.script_runs.proofs.Tries.{rise_later, rise_on, entries_more}
-
-abbrev stamps : List Transaction → List ℕ
-stamps trs = map (λ tr. (tr.birth).stamp) trs
 
 risen : (lo : ℕ) (ns : List ℕ) (hi : ℕ) → Rise lo ns hi → numbers_rise ns ≡ true
 risen lo [] hi r = refl
@@ -79,6 +77,8 @@ follows_so bodies most cause u w trs h are = (
     serials_rise = risen u.serial (serials (tries_of trs)) w.serial h.serials_rise;
   },
   h.grows,
+  h.births_rise,
+  h.serials_rise,
 )
 
 -- it is done
@@ -149,3 +149,53 @@ stops_at bodies i body most cause u v w within is d r =
 
 pub ends_at : (bodies : List Body) (i : ℕ) (most : Option ℕ) (u v : Seen) → length bodies ≤ i → Running (take i bodies) most u v → Follows bodies most None u v
 ends_at bodies i most u v past d = all_follow bodies most u v (subst (λ bs. Running bs most u v) (take_all i bodies past) d)
+
+-- ---- one part after another
+
+are_more : (s : List ℕ) (r k : ℕ) (most : Option ℕ) (xs ys : List Body) (ts us : List Transaction) (c cause : Option StopCause) → AreTransactions s r k most xs ts c → c ≡ None → AreTransactions s r k most ys us cause
+    → AreTransactions s r k most (xs ++ ys) (ts ++ us) cause
+are_more s r k most _ ys _ us _ cause all_done none more = more
+are_more s r k most _ ys _ us _ cause (not_begun body bodies at) none more = absurd cc
+are_more s r k most _ ys _ us _ cause (stopped tr bodies why is) none more = absurd cc
+are_more s r k most _ ys _ us _ cause (done tr bodies trs c is are) none more = done tr (bodies ++ ys) (trs ++ us) cause is (are_more s r k most bodies ys trs us c cause are none more)
+
+are_stopped : (s : List ℕ) (r k : ℕ) (most : Option ℕ) (xs ys : List Body) (ts : List Transaction) (c : Option StopCause) (cause : StopCause) → AreTransactions s r k most xs ts c → c ≡ Some cause
+    → AreTransactions s r k most (xs ++ ys) ts c
+are_stopped s r k most _ ys _ _ cause all_done some = absurd cc
+are_stopped s r k most _ ys _ _ cause (not_begun body bodies at) some = not_begun body (bodies ++ ys) at
+are_stopped s r k most _ ys _ _ cause (stopped tr bodies why is) some = stopped tr (bodies ++ ys) why is
+are_stopped s r k most _ ys _ _ cause (done tr bodies trs c is are) some = done tr (bodies ++ ys) trs c is (are_stopped s r k most bodies ys trs c cause are some)
+
+both_run : (u v w : Seen) (ts us : List Transaction) → HasRun u v ts → HasRun v w us → HasRun u w (ts ++ us)
+both_run u v w ts us h g =
+    record {
+      grows =
+          subst (λ es. Grows es u w) (sym (ap entries_of (tries_more ts us) ∙ entries_more (tries_of ts) (tries_of us)))
+          (grows_on (entries_of (tries_of ts)) (entries_of (tries_of us)) u v w h.grows g.grows);
+      births_rise =
+          subst (λ ns. Rise u.clock ns w.clock) (sym (map-append (λ x. (x.birth).stamp) ts us)) (rise_on u.clock v.clock w.clock (stamps ts) (stamps us) h.births_rise g.births_rise);
+      serials_rise =
+          subst (λ ns. Rise u.serial ns w.serial) (sym (ap serials (tries_more ts us) ∙ map-append (λ x. (x.tx).serial) (tries_of ts) (tries_of us)))
+          (rise_on u.serial v.serial w.serial (serials (tries_of ts)) (serials (tries_of us)) h.serials_rise g.serials_rise);
+    }
+
+abbrev transactions_in : (bodies : List Body) (most : Option ℕ) (cause : Option StopCause) (u v : Seen) → Follows bodies most cause u v → List Transaction
+transactions_in bodies most cause u v f = (f.1).transactions
+
+as_has_run : (bodies : List Body) (most : Option ℕ) (cause : Option StopCause) (u v : Seen) (f : Follows bodies most cause u v) → HasRun u v (transactions_in bodies most cause u v f)
+as_has_run bodies most cause u v f = record { grows = subst (λ es. Grows es u v) (f.1).entries_are f.2; births_rise = f.3; serials_rise = f.4 }
+
+pub sessions_go_on : SessionsGoOn
+sessions_go_on front behind most cause u v w f g =
+    let are : AreTransactions u.splits u.run u.walker most behind (g.1).transactions cause =
+    subst (λ s. AreTransactions s u.run u.walker most behind (g.1).transactions cause) (f.2).splits_are
+    (subst (λ n. AreTransactions v.splits n u.walker most behind (g.1).transactions cause) (f.2).run_is
+    (subst (λ n. AreTransactions v.splits v.run n most behind (g.1).transactions cause) (f.2).walker_is (g.1).in_order)) in
+    follows_so (front ++ behind) most cause u w ((f.1).transactions ++ (g.1).transactions)
+    (both_run u v w (f.1).transactions (g.1).transactions (as_has_run front most None u v f) (as_has_run behind most cause v w g))
+    (are_more u.splits u.run u.walker most front behind (f.1).transactions (g.1).transactions None cause (f.1).in_order refl are)
+
+pub sessions_stop : SessionsStop
+sessions_stop front behind most cause u v f =
+    follows_so (front ++ behind) most (Some cause) u v (f.1).transactions (as_has_run front most (Some cause) u v f)
+    (are_stopped u.splits u.run u.walker most front behind (f.1).transactions (Some cause) cause (f.1).in_order refl)

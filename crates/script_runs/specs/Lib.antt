@@ -3,3 +3,4 @@ pub mod Told
 pub mod Lines
 pub mod Tried
 pub mod Ran
+pub mod Laws

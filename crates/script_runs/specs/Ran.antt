@@ -10,7 +10,7 @@ use Rattle.script_tries.specs.declared.ends.StopCause.TheVariants.{Worn}
 use Rattle.script_tries.specs.declared.ends.TryEnd.{TryEnd}
 use Rattle.script_tries.specs.declared.ends.TryEnd.TheVariants.{Stopped}
 use Rattle.script_tries.specs.Tries.{Try, IsTry}
-use Rattle.script_tries.specs.Sessions.{InTries, IsNamed, IsTransaction, FollowsScript, is_to_retry, stopped_by, has_left, entries_of}
+use Rattle.script_tries.specs.Sessions.{Transaction, InTries, IsNamed, IsTransaction, FollowsScript, is_to_retry, stopped_by, has_left, tries_of, entries_of}
 use Rattle.script_runs.specs.declared.retrying.Next.{Next}
 use Rattle.script_runs.specs.declared.retrying.Next.TheVariants.{Again, Done, Stop}
 use Rattle.script_runs.specs.Seen.{Idle, Seen, Grows}
@@ -22,6 +22,9 @@ Rise lo (n ∷ ns) hi = (lo < n) × Rise n ns hi
 
 abbrev pub serials : List Try → List ℕ
 serials ts = map (λ t. (t.tx).serial) ts
+
+abbrev pub stamps : List Transaction → List ℕ
+stamps trs = map (λ tr. (tr.birth).stamp) trs
 
 -- what follows a try, the n-th of at most so many
 abbrev pub NextIs : TryEnd → Option ℕ → ℕ → Next → Type 0
@@ -65,6 +68,8 @@ pub record Ran (body : Body) (most : Option ℕ) (cause : Option StopCause) (u v
 abbrev pub NotBegun : Option StopCause → Seen → Seen → Type 0
 NotBegun cause u v = (at : ℕ) × (cause ≡ Some (Worn at)) × Grows [] u v
 
--- the entries that were added are those of the session's transactions, in order, each in its tries
+-- the entries that were added are those of the session's transactions, in order, each in its tries, with births and serials past all earlier ones
 abbrev pub Follows : List Body → Option ℕ → Option StopCause → Seen → Seen → Type 0
-Follows bodies most cause u v = (es : History) × FollowsScript u.splits u.run u.walker most bodies cause es × Grows es u v
+Follows bodies most cause u v =
+    (es : History) × (f : FollowsScript u.splits u.run u.walker most bodies cause es) × Grows es u v
+    × Rise u.clock (stamps f.transactions) v.clock × Rise u.serial (serials (tries_of f.transactions)) v.serial

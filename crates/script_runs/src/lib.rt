@@ -5,6 +5,7 @@
 #![tactic(auto)]
 
 mod calls;
+pub mod laws;
 mod retrying;
 mod running;
 mod trying;

@@ -2,7 +2,7 @@
 ghost use Rattle.std.specs.Prelude.{◌≡◌, true, IfErr};
 ghost use Rattle.std.specs.List.{list_all};
 ghost use Rattle.script_lang.specs.Laws.{is_narrow_body};
-ghost use Rattle.script_runs.specs.Ran.{stop_in, IsIdle, Follows};
+ghost use Rattle.script_runs.specs.Ran.{stop_in, IsIdle, IdleAfter, Follows};
 
 use crate::calls::SessionCalls;
 use crate::retrying::run_transaction;
@@ -26,6 +26,7 @@ pub fn run_session<R: Wait, C: SessionCalls>(
     ensures session { C.holds session.new }
     ensures base { C.base session.new ≡ C.base session.old }
     ensures follows { Follows transactions.now most (stop_in result) (C.seen session.old) (C.seen session.new) }
+    ensures idle { IdleAfter result (C.seen session.new) }
     ensures grounds { IfErr result (C.grounds session.new) }
 {
     for transaction in transactions {

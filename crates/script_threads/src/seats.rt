@@ -39,10 +39,8 @@ fn run_one<R: Wait, C: SessionCalls>(
     seat.ended = run_session(rt, alloc, &mut seat.session, seat.transactions, most);
 }
 
-/// Runs the session of each seat on a thread of its own, each transaction in at most so many tries, or without a number until it is
-/// done. What a session adds to its entries is as if it ran alone, and what stopped it has its grounds. Where no thread can be made a
-/// session runs behind another one.
-pub fn run_all<R: Threads + Wait + Sync, C: SessionCalls + Send>(
+// Runs the session of each seat on a thread of its own.
+pub(crate) fn run_together<R: Threads + Wait + Sync, C: SessionCalls + Send>(
     rt: &R,
     alloc: Global,
     seats: &mut [Seat<'_, C>],

@@ -1,6 +1,6 @@
 // Laws of workloads.
 
-ghost use Rattle.workload.specs.Laws.{TheFirstTransfer, TransfersKeepToAccounts};
+ghost use Rattle.workload.specs.Laws.{TheFirstTransfer, TransfersKeepToAccounts, LoadsHaveTheirSessions, LoadsAreNarrow};
 
 /// A transfer is between two different accounts, of 1 to 10.
 pub fn transfers_keep_to_accounts()
@@ -10,4 +10,14 @@ pub fn transfers_keep_to_accounts()
 /// Of seed 0, the first session's first transfer among 100 accounts goes from account 74.
 pub fn the_first_transfer()
     ensures { TheFirstTransfer }
+{}
+
+/// A workload has as many sessions as it is made for.
+pub fn loads_have_their_sessions()
+    ensures { LoadsHaveTheirSessions }
+{}
+
+/// Its numbers are within the bounds of scripts.
+pub fn loads_are_narrow()
+    ensures { LoadsAreNarrow }
 {}

@@ -2,7 +2,7 @@ use Rattle.std.proofs.Common.{◌≡◌, true, sym, subst, slice_index_or}
 use Rattle.std.specs.List.{list_all}
 use Rattle.script_lang.specs.Laws.{is_narrow_body}
 use Rattle.script_runs.specs.Ran.{stop_in, IsIdle, Follows}
-use Rattle.script_threads.proofs.seats.run_all.Goals as goal
+use Rattle.script_threads.proofs.seats.run_together.Goals as goal
 
 -- each seat may be run
 pub for_each_mut-requires-clause-accepts : goal.for_each_mut-requires-clause-accepts

@@ -1,0 +1,13 @@
+// Laws of sessions.
+
+ghost use Rattle.script_runs.specs.Laws.{SessionsGoOn, SessionsStop};
+
+/// A session that ran some transactions and then others ran all of them.
+pub fn sessions_go_on()
+    ensures { SessionsGoOn }
+{}
+
+/// One that was stopped in some transactions was stopped before all that was to follow.
+pub fn sessions_stop()
+    ensures { SessionsStop }
+{}
