@@ -1,34 +1,93 @@
 -- The promise of a run, from what its cluster's beginning, its sessions and its end told.
-use Rattle.std.proofs.Common.{◌≡◌, ◌∙◌, sym, ap, subst, arith, ℕ, suc, ◌<◌, Bool, List, length, get_or, Option}
+use Rattle.std.proofs.Common.{◌≡◌, ◌∙◌, sym, ap, subst, arith, ℕ, suc, ◌<◌, Bool, true, false, List, [], ◌∷◌, ◌++◌, length, get_or, Option, Some, None}
 use Rattle.std.proofs.lemmas.List.{length-map}
+use Rattle.std.proofs.lemmas.Option.{slice_get_within}
 use Rattle.clv_base.specs.State.{Shard}
 use Rattle.clv_base.specs.Shards.{shard_count}
+use Rattle.clv_base.specs.FileRules.{may_open}
+use Rattle.clv_base.specs.Journals.{journal_of}
 use Rattle.disk_model.specs.Story.{Story}
+use Rattle.disks_opening.specs.Logs.{LogsOfAll}
 use Rattle.history_replay.specs.Entries.{Kept}
+use Rattle.turn_lock.specs.declared.pass.Pass.{Pass}
+use Rattle.turn_lock.specs.Passes.{seen, pass_origin}
+use Rattle.turn_laws.specs.declared.notes.Note.{Note}
+use Rattle.turn_laws.specs.declared.notes.Origin.{Origin}
+use Rattle.turn_laws.specs.Homes.{state_of, has_failed}
 use Rattle.cluster_turns.specs.declared.home.Home.{Home}
 use Rattle.cluster_turns.specs.declared.shards.Shards.{Shards}
 use Rattle.cluster_turns.specs.declared.shards.Walker.{Walker}
 use Rattle.script_lang.specs.Bodies.{Body}
-use Rattle.shards_promises.specs.Sessions.{Went, SessionsWent}
+use Rattle.script_tries.specs.declared.ends.StopCause.TheVariants as stop
+use Rattle.shards_promises.specs.Completing.{SessionsHaveEnded}
+use Rattle.shards_promises.specs.Promises.{RunPromised}
+use Rattle.session_scripts.specs.Grounds.{WasDown}
+use Rattle.shards_promises.specs.Sessions.{Went, NotBegun, Begun, SessionsWent}
+use Rattle.run_promises.specs.Histories.{entries}
 use Rattle.run_status.specs.declared.status.Status.{Status}
+use Rattle.run_status.specs.declared.status.Status.TheVariants.{Fine, Usage, Script, ReadFault, WriteFault, DiskFault, NotLog, Memory, Worn, Exists, Apart}
 use Rattle.run_status.specs.Running.{End, status_by}
 use Rattle.run_ends.specs.Ends.{walked_by, IsClosedRun}
-use Rattle.run_ends.specs.Statuses.{StatusTold}
-use Rattle.run_ends.proofs.Laws.{others_stand, runs_keep, sessions_have_gone, statuses_tell}
-use Rattle.cluster_sessions.specs.Sessions.{SessionsGone, HasWornLast}
-use Rattle.cluster_runs.specs.Ran.{RanAll}
+use Rattle.run_ends.specs.Statuses.{StatusTold, FlushesTold}
+use Rattle.run_ends.proofs.Laws.{others_stand, runs_keep, sessions_have_gone, statuses_tell, flushes_tell, downs_tell}
+use Rattle.cluster_sessions.specs.Sessions.{HasGrounds, SessionsGone, HasWornLast}
+use Rattle.cluster_runs.specs.Ran.{AllEnded, StopTold, RanAll}
 
-pub ran_all : {M S G : Type 0} (D : Type 0) (shard : M → Shard) (sh : Shards M S G) (walkers : List (Walker M S G)) (homes : List (Home M S G)) (kept : Kept) (down : Option ℕ) (counts counts_now : ℕ → ℕ) (out out_now : ℕ → Bool)
+-- where all was fine each transaction has ended
+module _ (ends : SessionsHaveEnded) (splits : List ℕ) (before now : ℕ → Option Story) (counts counts_now : ℕ → ℕ) (most : Option ℕ) (script : List (List Body)) (went : ℕ → Went) (kept : Kept)
+    (promised : RunPromised splits before now counts counts_now most script went kept) where
+  all_ended : (shards : ℕ) (status : Status) → StatusTold shards counts counts_now (length script) went status → AllEnded splits most script kept status
+  all_ended shards Fine told = λ wanted k bodies at. ends splits before now counts counts_now most script went kept k bodies wanted promised at (told.1 k (slice_get_within script k bodies at))
+  all_ended shards Usage told = tt
+  all_ended shards (Script line) told = tt
+  all_ended shards ReadFault told = tt
+  all_ended shards WriteFault told = tt
+  all_ended shards (DiskFault shard) told = tt
+  all_ended shards (NotLog shard at) told = tt
+  all_ended shards Memory told = tt
+  all_ended shards (Worn at) told = tt
+  all_ended shards (Exists shard len) told = tt
+  all_ended shards (Apart tx) told = tt
+
+-- what stopped a session has its grounds
+module _ {M S G : Type 0} (shards : ℕ) (failed : ℕ → Bool) (w : Walker M S G)
+    (seen_down : (n : ℕ) (p : Pass (Home M S G) Note Origin) (o : Origin) (first later : List Note) → get_or w.passes.items n None ≡ Some p → pass_origin p ≡ Some o → seen p ≡ first ++ later
+    → (state_of o first).is_up ≡ false → (n < shards) × (failed n ≡ true)) where
+  was_down : (n : ℕ) → WasDown n w.passes.items → (n < shards) × (failed n ≡ true)
+  was_down n (p, has, h) = seen_down n p h.origin h.first h.later (has None) h.has_origin h.seen_is h.down
+
+  stop_told : (went : Went) → HasGrounds went w → StopTold shards failed went
+  stop_told NotBegun h = tt
+  stop_told (Begun None) h = tt
+  stop_told (Begun (Some (stop.Down n))) h = was_down n h
+  stop_told (Begun (Some (stop.Unsettled n))) h = was_down n h
+  stop_told (Begun (Some (stop.Worn at))) h = h.0
+  stop_told (Begun (Some stop.Memory)) h = tt
+
+some_elem : {X : Type 0} (xs : List X) (k : ℕ) → k < length xs → X
+some_elem [] k l = absurd (omega arith)
+some_elem (x ∷ xs) k l = x
+
+pub ran_all : {M S G : Type 0} → SessionsHaveEnded → (D : Type 0) (shard : M → Shard) (sh : Shards M S G) (walkers : List (Walker M S G)) (homes : List (Home M S G)) (kept : Kept) (down : Option ℕ) (counts counts_now : ℕ → ℕ) (out out_now : ℕ → Bool)
     (before now : ℕ → Option Story) (most : Option ℕ) (script : List (List Body)) (went : ℕ → Went) (end : End) (status : Status)
     → IsClosedRun D shard sh walkers homes kept down counts counts_now out out_now before now → ((k : ℕ) (d : Walker M S G) → k < length walkers → (get_or walkers k d).number ≡ k) → length walkers ≡ suc (length script)
     → SessionsGone sh most script walkers went end → HasWornLast end → status ≡ status_by down end → RanAll before now counts counts_now most script kept status
-ran_all D shard sh walkers homes kept down counts counts_now out out_now before now most script went end status ended numbers many gone worn is =
+ran_all ends D shard sh walkers homes kept down counts counts_now out out_now before now most script went end status ended numbers many gone worn is =
     let each = subst (λ r. SessionsWent sh.splits r most script went (walked_by walkers)) ended.begun.run (sessions_have_gone sh.splits sh.run most script went walkers numbers many gone.each) in
+    let promised = runs_keep {D = D} shard sh walkers homes kept down counts counts_now out out_now before now most script went ended each in
+    let told = subst (λ z. StatusTold (shard_count sh.splits) counts counts_now (length script) went z) (sym is) (statuses_tell {D = D} shard sh walkers homes kept down counts counts_now out out_now before now (length script) went end ended gone.fine worn) in
     record {
       splits = sh.splits;
       went = went;
-      promised = runs_keep {D = D} shard sh walkers homes kept down counts counts_now out out_now before now most script went ended each;
-      told = subst (λ z. StatusTold (shard_count sh.splits) counts counts_now (length script) went z) (sym is) (statuses_tell {D = D} shard sh walkers homes kept down counts counts_now out out_now before now (length script) went end ended gone.fine worn);
+      held = subst (λ f. LogsOfAll sh.splits f before) (sym ended.closed.founds_are) ended.begun.held;
+      promised = promised;
+      opens = ap (may_open sh.splits) ended.closed.founds_are ∙ ended.begun.may;
+      told = told;
+      flushes = subst (λ z. FlushesTold (shard_count sh.splits) (λ n. has_failed (journal_of n (entries kept))) z) (sym is) (flushes_tell {D = D} shard sh walkers homes kept down counts counts_now out out_now before now end ended);
+      stops = λ k l. (let few : suc k < length walkers = omega arith in let w = some_elem walkers (suc k) few in
+          stop_told (shard_count sh.splits) (λ n. has_failed (journal_of n (entries kept))) (get_or walkers (suc k) w)
+          (λ n p o first later has origin is fell. downs_tell {D = D} shard sh walkers homes kept down counts counts_now out out_now before now (suc k) n w p o first later ended few has origin is fell) (went k) (gone.grounds k w l));
+      ended = all_ended ends sh.splits before now counts counts_now most script went kept promised (shard_count sh.splits) status told;
       shards = ap length ended.closed.journals_are ∙ (length-map homes (λ h. (shard h.machine).journal) ∙ (ended.closed.len ∙ (let ok = sh.locks.ok in let count = ended.begun.count in omega arith)));
       others = others_stand {D = D} shard sh walkers homes kept down counts counts_now out out_now before now ended;
     }

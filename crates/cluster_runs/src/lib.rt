@@ -10,4 +10,5 @@ mod ran;
 mod whole;
 
 pub use ran::Ran;
+pub use script_threads::Start;
 pub use whole::run_script;

@@ -20,7 +20,9 @@ use log_gate::LogGate;
 use ordered_store::Store;
 use run_status::running_status;
 use script_lang::Session;
+use script_threads::Start;
 use shard_machine::ShardMachine;
+use shards_promises::laws::sessions_have_ended;
 use std::alloc::Global;
 use std::sync::Wait;
 use std::thread::Threads;
@@ -28,9 +30,9 @@ use std::thread::Threads;
 /// Runs the sessions of a script, each on a thread of its own, over all shards of a house: opens, drains, runs them, drains, and closes. Each transaction is
 /// tried at most so many times, or without a number until it is done. Every disk is in the house again after it.
 ///
-/// What all shards did is a legal history that keeps the promise of a run, and the status says how it ended: fine where no disk has failed and each session
-/// went through; the fault of the lowest disk that has failed; else worn stamps, or want of memory. An `Err` is the first refusal of the opening, as
-/// `open_all` tells it, and then no session was begun.
+/// What all shards did is a legal history that keeps the promise of a run. The status is fine only where no shard's flush failed and each session went
+/// through, and then each transaction has ended; a disk's fault is of the lowest shard whose flush failed; at worn stamps and at want of memory none failed.
+/// An `Err` is the first refusal of the opening, as `open_all` tells it; then there is no history.
 pub fn run_script<
     S: Store + Drop + Send,
     L: Locks + Drop + Send,
@@ -44,6 +46,7 @@ pub fn run_script<
     pace: &P,
     sessions: &[Session],
     most: Option<u32>,
+    start: Start,
 ) -> Result<Ran<S>, OpenError>
 where
     H::Disk: Send,
@@ -56,6 +59,7 @@ where
     ensures counts { IfErr result (CountsOpen (H.faults house.old) (H.faults house.new)) }
     ensures left { IfErr result (LeavesDisks (H.story house.old) (H.story house.new)) }
 {
+    sessions_have_ended();
     let opened = match open_all::<S, L, H>(alloc, house, sessions.len(), 0) {
         Ok(opened) => opened,
         Err(error) => return Err(error),
@@ -65,7 +69,16 @@ where
         mut walkers,
         room,
     } = opened;
-    let end = run_over(rt, alloc, &shards, pace, &mut walkers, sessions, most);
+    let end = run_over(
+        rt,
+        alloc,
+        &shards,
+        pace,
+        &mut walkers,
+        sessions,
+        most,
+        start,
+    );
     let closed = close_run::<H, ShardMachine<S, L, LogGate<H::Disk>>>(
         alloc, house, shards, walkers, room,
     );

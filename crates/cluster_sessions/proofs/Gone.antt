@@ -1,5 +1,5 @@
 -- How the sessions of a script went, all together.
-use Rattle.std.proofs.Common.{◌≡◌, refl, ◌∙◌, sym, ap, subst, arith, ℕ, zero, suc, ◌+◌, ◌<◌, List, [], ◌∷◌, length, get_or, set, slice_get, Option, Some, None, Ok, Err}
+use Rattle.std.proofs.Common.{◌≡◌, refl, ◌∙◌, sym, ap, subst, arith, ℕ, zero, suc, ◌+◌, ◌<◌, List, [], ◌∷◌, length, get_or, set, slice_get, Option, Some, None, Ok, Err, IfErr}
 use Rattle.std.proofs.lemmas.Option.{slice_get_within}
 use Rattle.cluster_turns.specs.declared.shards.Shards.{Shards}
 use Rattle.cluster_turns.specs.declared.shards.Walker.{Walker}
@@ -10,9 +10,10 @@ use Rattle.script_tries.specs.declared.ends.StopCause.{StopCause}
 use Rattle.script_tries.specs.Sessions.{session_entries}
 use Rattle.run_status.specs.Running.{End, IsOk}
 use Rattle.session_scripts.specs.Standing.{IsAtRest}
+use Rattle.session_scripts.specs.Grounds.{Grounds}
 use Rattle.session_scripts.proofs.Laws.{new_walkers_rest, new_walkers_keep_none}
 use Rattle.shards_promises.specs.Sessions.{Went, NotBegun, Begun, SessionWent}
-use Rattle.cluster_sessions.specs.Sessions.{HasSat, SessionsGone, went_to, went_by}
+use Rattle.cluster_sessions.specs.Sessions.{HasSat, HasGrounds, SessionsGone, went_to, went_by}
 
 pub some_elem : {X : Type 0} (xs : List X) (k : ℕ) → k < length xs → X
 some_elem [] k l = absurd (omega arith)
@@ -27,6 +28,10 @@ fine_went : (end : End) → IsOk end → went_to (Some end) ≡ Begun None
 fine_went (Ok u) ok = refl
 fine_went (Err cause) ok = absurd ok
 
+stopped : {M S G : Type 0} (w : Walker M S G) (end : End) → IfErr end (Grounds w) → HasGrounds (went_to (Some end)) w
+stopped w (Ok u) grounds = tt
+stopped w (Err cause) grounds = grounds
+
 module _ {M S G : Type 0} (sh : Shards M S G) (most : Option ℕ) (script : List (List Body)) where
   pub gone : (walkers : List (Walker M S G)) (ends : List End) (end : End) → length ends ≡ length script
       → ((k : ℕ) (d : Walker M S G) (e : End) → k < length script → HasSat sh most script k (get_or walkers (suc k) d) (get_or ends k e)) → (IsOk end → (k : ℕ) (e : End) → k < length script → IsOk (get_or ends k e))
@@ -34,6 +39,8 @@ module _ {M S G : Type 0} (sh : Shards M S G) (most : Option ℕ) (script : List
   gone walkers ends end many sat fine = record {
     each = λ k bodies d at. (let low = slice_get_within script k bodies at in let e : End = Ok tt in
         subst (λ x. SessionWent sh.splits sh.run (suc k) most bodies (went_to x) (kept (get_or walkers (suc k) d).passes.items)) (sym (at_slice ends k e (omega arith))) ((sat k d e low).went bodies at));
+    grounds = λ k d low. (let e : End = Ok tt in
+        subst (λ x. HasGrounds (went_to x) (get_or walkers (suc k) d)) (sym (at_slice ends k e (omega arith))) (stopped (get_or walkers (suc k) d) (get_or ends k e) (sat k d e low).grounds));
     fine = λ ok k low. (let e : End = Ok tt in ap went_to (at_slice ends k e (omega arith)) ∙ fine_went (get_or ends k e) (fine ok k e low));
   }
 
@@ -42,6 +49,7 @@ module _ {M S G : Type 0} (sh : Shards M S G) (most : Option ℕ) (script : List
       → SessionsGone sh most script walkers (λ k. NotBegun) (Err cause)
   none_gone walkers cause new = record {
     each = λ k bodies d at. ap session_entries (new_walkers_keep_none _ _ _ sh (suc k) 0 (get_or walkers (suc k) d) (new k d (slice_get_within script k bodies at)));
+    grounds = λ k d low. tt;
     fine = λ ok. absurd ok;
   }
 
@@ -62,5 +70,6 @@ module _ {M S G : Type 0} (sh : Shards M S G) (most : Option ℕ) (script : List
   pub goes_on : (walkers : List (Walker M S G)) (w : Walker M S G) (went : ℕ → Went) (end last : End) → (IsOk last → IsOk end) → SessionsGone sh most script walkers went end → SessionsGone sh most script (set walkers 0 w) went last
   goes_on walkers w went end last ok gone = record {
     each = λ k bodies d at. subst (λ v. SessionWent sh.splits sh.run (suc k) most bodies (went k) (kept v.passes.items)) (sym (behind walkers w d k)) (gone.each k bodies d at);
+    grounds = λ k d low. subst (λ v. HasGrounds (went k) v) (sym (behind walkers w d k)) (gone.grounds k d low);
     fine = λ is. gone.fine (ok is);
   }

@@ -37,6 +37,7 @@ module _ {M S G : Type 0} where
         rest = record { walker = r.walker; number_is = told.0; landed = r.landed; fetched = r.fetched; disks = r.disks };
         went = λ wanted at. (scripts_follow M S G sh (suc k) 0 w v (standing_of s) (standing_of t) wanted most (stop_in end) seat.new (subst (λ z. Follows z most (stop_in end) (seen_in sh w s) (seen_in sh v t)) (seat.bodies wanted at) f)).1;
         worn = worn_last v end grounds;
+        grounds = grounds;
       }
 
 -- each session of a script that has it is narrow

@@ -1,5 +1,5 @@
 -- The walkers of a run, and how its sessions went.
-use Rattle.std.specs.Prelude.{◌≡◌, ℕ, suc, ◌<◌, ◌^◌, List, length, slice_get, slice_index_or, Option, Some, None, Err}
+use Rattle.std.specs.Prelude.{◌≡◌, ⊤, ℕ, suc, ◌<◌, ◌^◌, List, length, slice_get, slice_index_or, Option, Some, None, Err, IfErr}
 use Rattle.cluster_turns.specs.declared.shards.Shards.{Shards}
 use Rattle.cluster_turns.specs.declared.shards.Walker.{Walker}
 use Rattle.cluster_turns.specs.Walkers.{kept}
@@ -10,8 +10,8 @@ use Rattle.script_runs.specs.Ran.{stop_in}
 use Rattle.run_status.specs.Running.{End, IsOk}
 use Rattle.session_api.specs.declared.progress.Progress.{Progress}
 use Rattle.session_api.specs.declared.progress.Progress.TheVariants.{Idle}
-use Rattle.session_scripts.specs.Standing.{Holds}
-use Rattle.session_scripts.specs.Standing.{IsAtRest}
+use Rattle.session_scripts.specs.Standing.{Holds, IsAtRest}
+use Rattle.session_scripts.specs.Grounds.{Grounds}
 use Rattle.shards_promises.specs.Sessions.{Went, NotBegun, Begun, SessionWent}
 
 -- stamps are wanting only past the last one
@@ -40,8 +40,16 @@ module _ {M S G : Type 0} where
     pub rest : IsAtRest sh (suc k) w
     pub went : (bodies : List Body) → slice_get script k ≡ Some bodies → SessionWent sh.splits sh.run (suc k) most bodies (Begun (stop_in end)) (kept w.passes.items)
     pub worn : HasWornLast end
+    pub grounds : IfErr end (Grounds w)
 
-  -- each session of the script went so; where the end is fine each went through
+  -- what stopped it, if anything did, has its grounds
+  abbrev pub HasGrounds : Went → Walker M S G → Type 0
+  HasGrounds NotBegun w = ⊤
+  HasGrounds (Begun None) w = ⊤
+  HasGrounds (Begun (Some cause)) w = Grounds w cause
+
+  -- each session of the script went so, and what stopped it has its grounds; where the end is fine each went through
   pub record SessionsGone (sh : Shards M S G) (most : Option ℕ) (script : List (List Body)) (walkers : List (Walker M S G)) (went : ℕ → Went) (end : End) : Type 0 where
     pub each : (k : ℕ) (bodies : List Body) (d : Walker M S G) → slice_get script k ≡ Some bodies → SessionWent sh.splits sh.run (suc k) most bodies (went k) (kept (slice_index_or walkers (suc k) d).passes.items)
+    pub grounds : (k : ℕ) (d : Walker M S G) → k < length script → HasGrounds (went k) (slice_index_or walkers (suc k) d)
     pub fine : IsOk end → (k : ℕ) → k < length script → went k ≡ Begun None

@@ -15,14 +15,17 @@ use io_edge::Pace;
 use machine_calls::Flier;
 use run_status::graver;
 use script_lang::Session;
+use script_threads::Start;
 use script_tries::StopCause;
 use std::alloc::Global;
 use std::sync::Wait;
 use std::thread::Threads;
 
-/// Runs the sessions of a script beside each other, each with a new walker of its own and each transaction in at most so many tries, between two drains by
-/// walker 0. Where the first drain isn't well, or there is no memory for the sessions' seats, none is begun. The end is the gravest of all: where it is fine,
-/// both drains were well and each session went through.
+/// Runs the sessions of a script, each with a new walker of its own and each transaction in at most so many tries, between two drains by walker 0.
+///
+/// What its walker kept of a session is its transactions in order, each in its tries, or nothing where it wasn't begun. The end is fine only where each session
+/// went through, and worn only past the last stamp. No clause says that sessions run beside each other, that the drains do anything, or that none is begun
+/// where the first one isn't well.
 pub fn run_over<M: Flier + Send, P: Pace + Sync, R: Threads + Wait + Sync>(
     rt: &R,
     alloc: Global,
@@ -31,6 +34,7 @@ pub fn run_over<M: Flier + Send, P: Pace + Sync, R: Threads + Wait + Sync>(
     walkers: &mut Vec<Walker<M>>,
     sessions: &[Session],
     most: Option<u32>,
+    start: Start,
 ) -> Result<(), StopCause>
 where
     M::Store: Send,
@@ -49,7 +53,7 @@ where
     if first.is_err() {
         return first;
     }
-    let ran = run_sessions(rt, alloc, shards, pace, walkers, sessions, most);
+    let ran = run_sessions(rt, alloc, shards, pace, walkers, sessions, most, start);
     let last = drain_all(rt, alloc, shards, &mut walkers[0], pace);
     graver(ran, last)
 }

@@ -13,7 +13,7 @@ use cluster_turns::{Shards, Walker};
 use io_edge::Pace;
 use machine_calls::Flier;
 use script_lang::Session;
-use script_threads::{Seat, run_all};
+use script_threads::{Seat, Start, run_all};
 use script_tries::StopCause;
 use session_scripts::ScriptSession;
 use std::alloc::Global;
@@ -28,6 +28,7 @@ fn run_seats<M: Flier + Send, P: Pace + Sync, R: Threads + Wait + Sync>(
     sessions: &[Session],
     seats: &mut Vec<Seat<'_, ScriptSession<'_, M, P, R>>>,
     most: Option<u32>,
+    start: Start,
 )
 where
     M::Store: Send,
@@ -38,7 +39,7 @@ where
     ensures len { vec_len seats.new ≡ vec_len seats.old }
     ensures sat { (k : ℕ) (d : _) → k < length sessions.now → HasSat shards.now most sessions.now k (slice_index_or seats.new.items k d).session.session.walker (slice_index_or seats.new.items k d).ended }
 {
-    run_all(rt, alloc, seats.as_mut_slice(), most);
+    run_all(rt, alloc, seats.as_mut_slice(), most, start);
 }
 
 // Runs each session with a walker of its own on a thread of its own, behind walker 0. Where there is no memory for their seats none is begun.
@@ -50,6 +51,7 @@ pub(crate) fn run_sessions<M: Flier + Send, P: Pace + Sync, R: Threads + Wait + 
     walkers: &mut Vec<Walker<M>>,
     sessions: &[Session],
     most: Option<u32>,
+    start: Start,
 ) -> Result<(), StopCause>
 where
     M::Store: Send,
@@ -69,7 +71,7 @@ where
         return Err(StopCause::Memory);
     };
     let mut seats = take_seats(rt, shards, pace, walkers, sessions, room);
-    run_seats(rt, alloc, shards, sessions, &mut seats, most);
+    run_seats(rt, alloc, shards, sessions, &mut seats, most, start);
     let end = gravest(seats.as_slice());
     leave_seats(walkers, seats);
     end

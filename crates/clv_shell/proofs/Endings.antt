@@ -24,6 +24,7 @@ use Rattle.clv_shell.specs.Kinds.{IsOfRun, IsOfShow, IsOfShards}
 use Rattle.clv_shell.specs.Disks.{Closes}
 use Rattle.clv_shell.specs.Sinks.{TookPairs}
 use Rattle.clv_shell.specs.Causes.{BreaksLogs, BreaksScript, CountsSource, CountsSink, CountsDisks, Stand}
+use Rattle.clv_shell.specs.Reading.{IsRead, ReadsScript}
 use Rattle.clv_shell.specs.Runs.{EndsAs, Opened}
 
 -- ---- the shards were opened
@@ -59,7 +60,7 @@ pub record Tells (counts counts_now : ℕ → ℕ) (stories : ℕ → Option Sto
   pub logs : BreaksLogs status (Some kept) stories
   pub script : BreaksScript status left
   pub source : CountsSource faults faults' status
-  pub disks : CountsDisks counts counts_now status
+  pub disks : CountsDisks (Some kept) counts counts_now status
 
 stand : (shards : ℕ) (counts counts_now : ℕ → ℕ) → ((n : ℕ) → n < shards → counts_now n ≡ counts n) → ((n : ℕ) → shards ≤ n → counts_now n ≡ counts n) → Stand counts counts_now
 stand shards counts counts_now below above n = ⊎_elim (λ l. below n l) (λ l. above n l) (cases_lt n shards)
@@ -106,33 +107,42 @@ pub record Refused (counts counts_now : ℕ → ℕ) (stories stories' : ℕ →
   pub logs : BreaksLogs status None stories
   pub script : BreaksScript status left
   pub source : CountsSource faults faults' status
-  pub sink : CountsSink taken taken status
-  pub disks : CountsDisks counts counts_now status
+  pub sink : CountsSink None taken taken status
+  pub disks : CountsDisks None counts counts_now status
 
 module _ (counts counts_now : ℕ → ℕ) (stories stories' : ℕ → Option Story) (left : Option (List ℕ)) (faults faults' taken : ℕ) where
   refused : (e : OpenError) → Refuses stories e → CountsOpen counts counts_now e → LeavesDisks stories stories' e → faults' ≡ faults
       → Refused counts counts_now stories stories' left faults faults' taken (of_opening e)
-  refused (opening.Failed shard) r c l s = record { runs = tt; shows = tt; opened = tt; closed = l; logs = tt; script = tt; source = s; sink = tt; disks = (c.0, (λ n l. c.2 n (below n shard l))) }
-  refused (opening.NotLog shard at) r c l s = record { runs = tt; shows = tt; opened = tt; closed = l; logs = r; script = tt; source = s; sink = tt; disks = c }
-  refused (opening.Apart tx) r c l s = record { runs = tt; shows = tt; opened = tt; closed = l; logs = r; script = tt; source = s; sink = tt; disks = c }
-  refused (opening.Worn at) r c l s = record { runs = tt; shows = tt; opened = tt; closed = l; logs = r; script = tt; source = s; sink = tt; disks = c }
-  refused opening.Memory r c l s = record { runs = tt; shows = tt; opened = tt; closed = l; logs = tt; script = tt; source = s; sink = tt; disks = tt }
+  refused (opening.Failed shard) r c l s = record { runs = tt; shows = tt; opened = tt; closed = l; logs = r; script = tt; source = s; sink = refl; disks = (c.0, (λ n l. c.2 n (below n shard l))) }
+  refused (opening.NotLog shard at) r c l s = record { runs = tt; shows = tt; opened = tt; closed = l; logs = r; script = tt; source = s; sink = refl; disks = c }
+  refused (opening.Apart tx) r c l s = record { runs = tt; shows = tt; opened = tt; closed = l; logs = r; script = tt; source = s; sink = refl; disks = c }
+  refused (opening.Worn at) r c l s = record { runs = tt; shows = tt; opened = tt; closed = l; logs = r; script = tt; source = s; sink = refl; disks = c }
+  refused opening.Memory r c l s = record { runs = tt; shows = tt; opened = tt; closed = l; logs = tt; script = tt; source = s; sink = refl; disks = c }
 
   pub refused_so : (e : OpenError) (status : Status) → status ≡ of_opening e → Refuses stories e → CountsOpen counts counts_now e → LeavesDisks stories stories' e → faults' ≡ faults
       → Refused counts counts_now stories stories' left faults faults' taken status
   refused_so e status is r c l s = subst (Refused counts counts_now stories stories' left faults faults' taken) (sym is) (refused e r c l s)
 
+-- ---- the script was read
+
+pub read_so : (e : OpenError) (status : Status) (left left' : Option (List ℕ)) → status ≡ of_opening e → IsRead left left' → ReadsScript None status left left'
+read_so (opening.Failed shard) status left left' is read = subst (λ (s : Status). ReadsScript None s left left') (sym is) read
+read_so (opening.NotLog shard at) status left left' is read = subst (λ (s : Status). ReadsScript None s left left') (sym is) read
+read_so (opening.Apart tx) status left left' is read = subst (λ (s : Status). ReadsScript None s left left') (sym is) read
+read_so (opening.Worn at) status left left' is read = subst (λ (s : Status). ReadsScript None s left left') (sym is) read
+read_so opening.Memory status left left' is read = subst (λ (s : Status). ReadsScript None s left left') (sym is) tt
+
 -- ---- pairs that aren't written
 
-pub unshown : (running : Status) (pairs : List ℕ) (faults : ℕ) (old : Option (List ℕ)) → (running ≡ Fine → ⊥) → IsOfShards running → TookPairs pairs running old old × CountsSink faults faults running
-unshown Fine pairs faults old other of = absurd (other refl)
-unshown Usage pairs faults old other of = absurd of
-unshown (Script line) pairs faults old other of = absurd of
-unshown ReadFault pairs faults old other of = absurd of
-unshown WriteFault pairs faults old other of = absurd of
-unshown (DiskFault shard) pairs faults old other of = (refl, tt)
-unshown (NotLog shard at) pairs faults old other of = absurd of
-unshown Memory pairs faults old other of = (refl, tt)
-unshown (Worn at) pairs faults old other of = (refl, tt)
-unshown (Exists shard len) pairs faults old other of = absurd of
-unshown (Apart tx) pairs faults old other of = absurd of
+pub unshown : (running : Status) (kept : Kept) (pairs : List ℕ) (faults : ℕ) (old : Option (List ℕ)) → (running ≡ Fine → ⊥) → IsOfShards running → TookPairs pairs running old old × CountsSink (Some kept) faults faults running
+unshown Fine kept pairs faults old other of = absurd (other refl)
+unshown Usage kept pairs faults old other of = absurd of
+unshown (Script line) kept pairs faults old other of = absurd of
+unshown ReadFault kept pairs faults old other of = absurd of
+unshown WriteFault kept pairs faults old other of = absurd of
+unshown (DiskFault shard) kept pairs faults old other of = (refl, tt)
+unshown (NotLog shard at) kept pairs faults old other of = absurd of
+unshown Memory kept pairs faults old other of = (refl, refl)
+unshown (Worn at) kept pairs faults old other of = (refl, tt)
+unshown (Exists shard len) kept pairs faults old other of = absurd of
+unshown (Apart tx) kept pairs faults old other of = absurd of

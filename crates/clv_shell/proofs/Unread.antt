@@ -5,8 +5,9 @@ use Rattle.io_edge.specs.declared.whole.ReadError.TheVariants as reading
 use Rattle.script_lang.specs.Grammar.{too_long}
 use Rattle.run_status.specs.Refusals.{of_source}
 use Rattle.run_status.specs.declared.status.Status.{Status}
-use Rattle.run_status.specs.declared.status.Status.TheVariants.{Script}
-use Rattle.clv_shell.specs.Causes.{ScriptFault}
+use Rattle.run_status.specs.declared.status.Status.TheVariants.{Fine, Usage, Script, ReadFault, WriteFault, DiskFault, NotLog, Memory, Worn, Exists, Apart}
+use Rattle.clv_shell.specs.Causes.{ScriptFault, CountsSink, CountsDisks}
+use Rattle.clv_shell.specs.Reading.{ReadsScript}
 
 too_many : (left : Option (List ℕ)) → IfSome left (λ bytes. 16777216 < length bytes) → ScriptFault left (Script 0)
 too_many None h = tt
@@ -16,3 +17,22 @@ pub unread : (e : ReadError) (status : Status) (left : Option (List ℕ)) → st
 unread reading.Failed status left is long = subst (ScriptFault left) (sym is) tt
 unread reading.TooLong status left is long = subst (ScriptFault left) (sym is) (too_many left (long refl))
 unread reading.Memory status left is long = subst (ScriptFault left) (sym is) tt
+
+-- no shards are opened then, nothing is written, and no disk is called
+pub record Unopened (left left' : Option (List ℕ)) (faults : ℕ) (counts : ℕ → ℕ) (status : Status) : Type 0 where
+  pub read : ReadsScript None status left left'
+  pub sink : CountsSink None faults faults status
+  pub disks : CountsDisks None counts counts status
+
+pub unopened : (status : Status) (left left' : Option (List ℕ)) (faults : ℕ) (counts : ℕ → ℕ) → ScriptFault left status → Unopened left left' faults counts status
+unopened (Script line) left left' faults counts h = record { read = tt; sink = refl; disks = λ n. refl }
+unopened ReadFault left left' faults counts h = record { read = tt; sink = refl; disks = λ n. refl }
+unopened Memory left left' faults counts h = record { read = tt; sink = refl; disks = λ n. refl }
+unopened Fine left left' faults counts h = absurd h
+unopened Usage left left' faults counts h = absurd h
+unopened WriteFault left left' faults counts h = absurd h
+unopened (DiskFault shard) left left' faults counts h = absurd h
+unopened (NotLog shard at) left left' faults counts h = absurd h
+unopened (Worn at) left left' faults counts h = absurd h
+unopened (Exists shard len) left left' faults counts h = absurd h
+unopened (Apart tx) left left' faults counts h = absurd h

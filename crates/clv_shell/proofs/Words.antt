@@ -5,7 +5,7 @@ use Rattle.script_lang.specs.Grammar.{IsNumber}
 use Rattle.command_words.specs.Commands.{IsGiven, AreTries, AreNumbers, Says, IsCommand}
 use Rattle.command_words.specs.declared.commands.Command.{Command}
 use Rattle.command_words.specs.declared.commands.Command.TheVariants.{Make, Run, Show, Load}
-use Rattle.clv_shell.specs.Top.{HasCommand, HasFewTries}
+use Rattle.clv_shell.specs.Top.{HasCommand, IsWithinBounds}
 
 number_once : (word : List ℕ) (m n : ℕ) → IsNumber word m → IsNumber word n → m ≡ n
 number_once word m n p q = sym p.value ∙ q.value
@@ -76,8 +76,8 @@ few : (o : Option Text) (n : ℕ) → AreTries o n → n ≤ 1000
 few None n p = omega (arith, p)
 few (Some word) n p = p.2
 
-pub few_tries : (words : List (List ℕ)) (c : Command) → IsCommand words c → HasFewTries c
-few_tries words (Make splits) is = tt
-few_tries words (Run tries) (fine, name, rows, sub, p) = few _ tries p.1
-few_tries words Show is = tt
-few_tries words (Load s n a t) is = tt
+pub within_bounds : (words : List (List ℕ)) (c : Command) → IsCommand words c → IsWithinBounds c
+within_bounds words (Make splits) is = tt
+within_bounds words (Run tries) (fine, name, rows, sub, p) = few _ tries p.1
+within_bounds words Show is = tt
+within_bounds words (Load s n a t) (fine, name, rows, sub, p) = (p.5, p.6, p.7, p.8, p.9)

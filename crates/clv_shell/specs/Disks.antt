@@ -26,7 +26,7 @@ abbrev pub ClosedBy : Command → Status → Option Kept → (ℕ → Option Sto
 ClosedBy (Make splits) status history before now = SparesDisks splits before now
 ClosedBy (Run tries) status history before now = history ≡ None → Closes status before now
 ClosedBy Show status history before now = history ≡ None → Closes status before now
-ClosedBy (Load seed sessions accounts transfers) status history before now = AreUnchanged before now
+ClosedBy (Load seed sessions accounts transfers) status history before now = history ≡ None → Closes status before now
 
 -- where all was fine with `make`, each shard's disk, which was empty, has its header and a closed gate
 abbrev pub Makes : Command → Status → (ℕ → Option Story) → (ℕ → Option Story) → Type 0

@@ -16,7 +16,7 @@ IsOfRun Usage = ⊥
 IsOfRun (Exists shard len) = ⊥
 IsOfRun status = Unit {0}
 
--- `show` reads no script
+-- `show` and `load` read no script
 abbrev pub IsOfShow : Status → Type 0
 IsOfShow Usage = ⊥
 IsOfShow (Exists shard len) = ⊥
@@ -24,17 +24,11 @@ IsOfShow (Script line) = ⊥
 IsOfShow ReadFault = ⊥
 IsOfShow status = Unit {0}
 
--- `load` is refused as yet
-abbrev pub IsOfLoad : Status → Type 0
-IsOfLoad Usage = Unit {0}
-IsOfLoad Memory = Unit {0}
-IsOfLoad status = ⊥
-
 abbrev pub IsOfCommand : Command → Status → Type 0
 IsOfCommand (Make splits) status = IsOfMake status
 IsOfCommand (Run tries) status = IsOfRun status
 IsOfCommand Show status = IsOfShow status
-IsOfCommand (Load seed sessions accounts transfers) status = IsOfLoad status
+IsOfCommand (Load seed sessions accounts transfers) status = IsOfShow status
 
 -- the statuses of shards that were opened, before any text is written
 abbrev pub IsOfShards : Status → Type 0

@@ -2,12 +2,14 @@
 use Rattle.std.specs.Prelude.{◌≡◌, ℕ, List, [], Option, Some, None, IfSome, Result}
 use Rattle.cluster_runs.specs.Ran.{RanAll}
 use Rattle.command_words.specs.declared.commands.Command.{Command}
-use Rattle.command_words.specs.declared.commands.Command.TheVariants.{Run, Show}
+use Rattle.command_words.specs.declared.commands.Command.TheVariants.{Make, Run, Show, Load}
 use Rattle.disk_model.specs.Story.{Story}
 use Rattle.history_replay.specs.Entries.{Kept}
+use Rattle.replay_laws.specs.Replays.{LeavesReplayed}
 use Rattle.report_text.specs.declared.texts.ReportError.{ReportError}
 use Rattle.script_lang.specs.Bodies.{Body}
 use Rattle.script_lang.specs.Grammar.{IsScript}
+use Rattle.workload.specs.Loads.{load}
 use Rattle.run_status.specs.Running.{with_text}
 use Rattle.run_status.specs.declared.status.Status.{Status}
 use Rattle.run_status.specs.declared.status.Status.TheVariants.{Fine, WriteFault}
@@ -25,14 +27,22 @@ abbrev pub HasRun : Option ℕ → List (List Body) → (ℕ → Option Story) �
 HasRun most script before now counts counts_now kept status =
     (running : Status) × RanAll before now counts counts_now most script kept running × EndsAs running status
 
--- of `run` the script is the source's; `show` runs none
+-- so does a workload's, each transaction tried without limit; and where all was fine, what stands is the map after the acknowledged transactions
+abbrev pub HasLoaded : List (List Body) → (ℕ → Option Story) → (ℕ → Option Story) → (ℕ → ℕ) → (ℕ → ℕ) → Kept → Status → Type 0
+HasLoaded script before now counts counts_now kept status =
+    (running : Status) × (r : RanAll before now counts counts_now None script kept running) × EndsAs running status
+    × (running ≡ Fine → LeavesReplayed r.splits kept ((r.promised).keeps).left)
+
+-- of `run` the script is the source's; `show` runs none; of `load` it is the workload's
 abbrev pub PromisedBy : Command → Option (List ℕ) → (ℕ → Option Story) → (ℕ → Option Story) → (ℕ → ℕ) → (ℕ → ℕ) → Status → Kept → Type 0
 PromisedBy (Run tries) left before now counts counts_now status kept =
     (script : List (List Body)) × HasScript left script × HasRun (Some tries) script before now counts counts_now kept status
 PromisedBy Show left before now counts counts_now status kept = HasRun None [] before now counts counts_now kept status
-PromisedBy command left before now counts counts_now status kept = ⊥
+PromisedBy (Load seed sessions accounts transfers) left before now counts counts_now status kept =
+    HasLoaded (load seed sessions accounts transfers) before now counts counts_now kept status
+PromisedBy (Make splits) left before now counts counts_now status kept = ⊥
 
--- shards were opened where `run` or `show` was fine but for the sink; no other command opens them
+-- shards were opened where `run`, `show` or `load` was fine but for the sink; `make` opens none
 abbrev pub Opened : Option Kept → Status → Type 0
 Opened (Some kept) status = Unit {0}
 Opened None Fine = ⊥
@@ -42,4 +52,5 @@ Opened None status = Unit {0}
 abbrev pub OpensByCommand : Command → Status → Option Kept → Type 0
 OpensByCommand (Run tries) status history = Opened history status
 OpensByCommand Show status history = Opened history status
-OpensByCommand command status history = history ≡ None
+OpensByCommand (Load seed sessions accounts transfers) status history = Opened history status
+OpensByCommand (Make splits) status history = history ≡ None

@@ -10,18 +10,18 @@ use Rattle.run_status.specs.declared.status.Status.TheVariants.{Usage, Memory}
 abbrev pub HasCommand : List (List ℕ) → (Command → Type 0) → Type 0
 HasCommand words P = (command : Command) → IsCommand words command → P command
 
--- a command that is done; `load` is refused as yet
-abbrev pub IsDone : Command → Type 0
-IsDone (Load seed sessions accounts transfers) = ⊥
-IsDone command = Unit {0}
+-- the words are no command
+abbrev pub AreRefused : List (List ℕ) → Type 0
+AreRefused words = (command : Command) → IsCommand words command → ⊥
 
--- Usage exactly where the words are no command that is done, but that memory may be wanting before they are read
+-- Usage exactly where they are none, but that memory may be wanting before they are read
 abbrev pub IsRefusedWords : List (List ℕ) → Status → Type 0
-IsRefusedWords words Usage = (command : Command) → IsCommand words command → IsDone command → ⊥
+IsRefusedWords words Usage = AreRefused words
 IsRefusedWords words Memory = Unit {0}
-IsRefusedWords words status = (command : Command) × IsCommand words command × IsDone command
+IsRefusedWords words status = (command : Command) × IsCommand words command
 
--- the tries of a run are so few
-abbrev pub HasFewTries : Command → Type 0
-HasFewTries (Run tries) = tries ≤ 1000
-HasFewTries command = Unit {0}
+-- the numbers of a command are within their bounds
+abbrev pub IsWithinBounds : Command → Type 0
+IsWithinBounds (Run tries) = tries ≤ 1000
+IsWithinBounds (Load seed sessions accounts transfers) = (1 ≤ sessions) × (sessions ≤ 64) × (2 ≤ accounts) × (accounts ≤ 10000) × (transfers ≤ 1000)
+IsWithinBounds command = Unit {0}

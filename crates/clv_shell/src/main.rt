@@ -1,4 +1,5 @@
-//! The program `clv_shell`: makes the logs of shards, runs the sessions of a script beside each other over them, or shows what they hold.
+//! The program `clv_shell`: makes the logs of shards, runs the sessions of a script or of a workload beside each other
+//! over them, or shows what they hold.
 //!
 //! `run` is the top call, over any source, sink and house of disks; its contract is the promise of the program. `main` makes the real ones:
 //! standard input, standard output, and the files of the working folder. It stands on `command_words` and `script_lang` for what it reads, on
@@ -6,6 +7,7 @@
 #![tactic(auto)]
 
 mod ended;
+mod loading;
 mod making;
 mod running;
 mod showing;

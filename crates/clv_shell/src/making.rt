@@ -19,7 +19,7 @@ pub fn make_logs<H: House>(alloc: Global, house: &mut H, splits: Splits) -> Stat
     ensures made { Makes (commands.Make splits) result (H.story house.old) (H.story house.new) }
     ensures spares { SparesDisks splits (H.story house.old) (H.story house.new) }
     ensures exists { HasBytes (commands.Make splits) result (H.story house.old) (H.story house.new) }
-    ensures disks { CountsDisks (H.faults house.old) (H.faults house.new) result }
+    ensures disks { CountsDisks None (H.faults house.old) (H.faults house.new) result }
     ensures back { (n : ℕ) → n < 16 → H.is_out house.new n ≡ false }
 {
     match make_all(alloc, house, splits) {

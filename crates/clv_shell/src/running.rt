@@ -1,6 +1,6 @@
 // The command `run`.
 
-ghost use Rattle.std.specs.Prelude.{◌≡◌, ◌<◌, ◌≤◌, ◌^◌, ℕ, Some, None, length, true, false, IfSome, IfErr, IfOk};
+ghost use Rattle.std.specs.Prelude.{◌≡◌, ◌<◌, ◌≤◌, ◌^◌, ℕ, Some, None, length, true, false, IfSome, IfErr, IfOk, OnOk};
 ghost use Rattle.std.specs.List.{list_all};
 ghost use Rattle.command_words.specs.declared.commands.Command.TheVariants as commands;
 ghost use Rattle.run_promises.specs.Histories.{entries};
@@ -10,10 +10,11 @@ ghost use Rattle.clv_shell.specs.Kinds.{IsOfRun, IsOfShards};
 ghost use Rattle.clv_shell.specs.Disks.{Closes};
 ghost use Rattle.clv_shell.specs.Sinks.{Took, TookReport};
 ghost use Rattle.clv_shell.specs.Causes.{BreaksLogs, BreaksScript, CountsSource, CountsSink, CountsDisks, CountsScript, ScriptFault};
+ghost use Rattle.clv_shell.specs.Reading.{IsRead, ReadsScript};
 ghost use Rattle.clv_shell.specs.Runs.{HasScript, EndsAs, PromisedBy, Opened};
 
 use crate::ended::Ended;
-use cluster_runs::{Ran, run_script};
+use cluster_runs::{Ran, Start, run_script};
 use disk_model::House;
 use disks_opening::OpenError;
 use history_replay::History;
@@ -31,6 +32,7 @@ use store_blocks::BlockStore;
 // Reads the script to its end.
 fn read_script<S: Source>(alloc: Global, source: &mut S) -> Result<Script, Status>
     ensures script { IfOk result (HasScript (S.left source.old)) }
+    ensures read { OnOk result (IsRead (S.left source.old) (S.left source.new)) }
     ensures narrow { IfOk result (λ script. list_all (list_all is_narrow_body) script ≡ true) }
     ensures few { IfOk result (λ script. length script ≤ 64) }
     ensures refused { IfErr result (ScriptFault (S.left source.old)) }
@@ -54,7 +56,7 @@ fn write_report<K: Sink>(alloc: Global, history: &History, running: Status, sink
     requires running { IsOfShards running }
     ensures ends { EndsAs running result }
     ensures took { TookReport (report (entries history.now)) result (K.faults sink.old) (K.faults sink.new) (K.taken sink.old) (K.taken sink.new) }
-    ensures cause { CountsSink (K.faults sink.old) (K.faults sink.new) result }
+    ensures cause { CountsSink (Some history.now) (K.faults sink.old) (K.faults sink.new) result }
 {
     if running.writes_report() {
         after_text(running, report_into(alloc, history, sink))
@@ -82,11 +84,12 @@ where
     ensures opened { Opened result.history result.status }
     ensures took { Took (commands.Run tries) result.status result.history (K.faults sink.old) (K.faults sink.new) (K.taken sink.old) (K.taken sink.new) }
     ensures closed { result.history ≡ None → Closes result.status (H.story house.old) (H.story house.new) }
+    ensures read { ReadsScript result.history result.status (S.left source.old) (S.left source.new) }
     ensures logs { BreaksLogs result.status result.history (H.story house.old) }
     ensures script { BreaksScript result.status (S.left source.old) }
     ensures source { CountsSource (S.faults source.old) (S.faults source.new) result.status }
-    ensures sink { CountsSink (K.faults sink.old) (K.faults sink.new) result.status }
-    ensures disks { CountsDisks (H.faults house.old) (H.faults house.new) result.status }
+    ensures sink { CountsSink result.history (K.faults sink.old) (K.faults sink.new) result.status }
+    ensures disks { CountsDisks result.history (H.faults house.old) (H.faults house.new) result.status }
     ensures back { (n : ℕ) → n < 16 → H.is_out house.new n ≡ false }
 {
     let script = match read_script(alloc, source) {
@@ -106,6 +109,7 @@ where
         pace,
         script.sessions(),
         Some(most),
+        Start::Together,
     );
     match ran {
         Ok(ran) => Ended {

@@ -1,6 +1,6 @@
 // The command `show`.
 
-ghost use Rattle.std.specs.Prelude.{◌≡◌, ◌<◌, ℕ, [], None, false, IfSome, IfOk};
+ghost use Rattle.std.specs.Prelude.{◌≡◌, ◌<◌, ℕ, [], Some, None, false, IfSome, IfOk};
 ghost use Rattle.clv_base.specs.Logs.{stands as stands_for};
 ghost use Rattle.command_words.specs.declared.commands.Command.TheVariants as commands;
 ghost use Rattle.report_text.specs.Report.{pairs_text as text_of_pairs};
@@ -12,7 +12,7 @@ ghost use Rattle.clv_shell.specs.Causes.{BreaksLogs, CountsSink, CountsDisks};
 ghost use Rattle.clv_shell.specs.Runs.{EndsAs, HasRun, Opened};
 
 use crate::ended::Ended;
-use cluster_runs::{Ran, run_script};
+use cluster_runs::{Ran, Start, run_script};
 use disk_model::House;
 use disks_opening::OpenError;
 use history_replay::{History, Memory, stands};
@@ -52,7 +52,7 @@ fn write_pairs<K: Sink>(alloc: Global, history: &History, running: Status, sink:
     requires running { IsOfShards running }
     ensures ends { EndsAs running result }
     ensures took { TookPairs (text_of_pairs (stands_for history.now.found)) result (K.taken sink.old) (K.taken sink.new) }
-    ensures cause { CountsSink (K.faults sink.old) (K.faults sink.new) result }
+    ensures cause { CountsSink (Some history.now) (K.faults sink.old) (K.faults sink.new) result }
 {
     match running {
         Status::Fine => after_text(running, pairs_into(alloc, history, sink)),
@@ -77,8 +77,8 @@ where
     ensures took { Took commands.Show result.status result.history (K.faults sink.old) (K.faults sink.new) (K.taken sink.old) (K.taken sink.new) }
     ensures closed { result.history ≡ None → Closes result.status (H.story house.old) (H.story house.new) }
     ensures logs { BreaksLogs result.status result.history (H.story house.old) }
-    ensures sink { CountsSink (K.faults sink.old) (K.faults sink.new) result.status }
-    ensures disks { CountsDisks (H.faults house.old) (H.faults house.new) result.status }
+    ensures sink { CountsSink result.history (K.faults sink.old) (K.faults sink.new) result.status }
+    ensures disks { CountsDisks result.history (H.faults house.old) (H.faults house.new) result.status }
     ensures back { (n : ℕ) → n < 16 → H.is_out house.new n ≡ false }
 {
     let ran: Result<Ran<BlockStore>, OpenError> = run_script::<BlockStore, HashedLocks, R, H, P>(
@@ -88,6 +88,7 @@ where
         pace,
         &[],
         None,
+        Start::Together,
     );
     match ran {
         Ok(ran) => Ended {

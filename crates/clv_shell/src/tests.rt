@@ -355,3 +355,52 @@ fn faults_of_the_source_and_the_sink(rt: HostRuntime) -> Result<(), Fail> {
     assert_eq!(rt; sink.taken(), b"{\"ops".as_slice());
     Ok(())
 }
+
+// What a workload writes over two shards with the split 2, and what they hold after it.
+fn loaded<R: Threads + Wait + Sync>(
+    rt: &R,
+    alloc: Global,
+    words: &[&str],
+) -> Result<(Vec<u8>, Vec<u8>), Fail> {
+    let mut house = house_of(alloc, &[], &[])?;
+    house.put(1, disk(alloc, &[], &[])?);
+    call(rt, alloc, &["make", "2"], b"", &mut house, &NoPace)?;
+    let (_, line) = call(rt, alloc, words, b"", &mut house, &NoPace)?;
+    let (_, pairs) = call(rt, alloc, &["show"], b"", &mut house, &NoPace)?;
+    Ok((line, pairs))
+}
+
+#[test]
+fn a_workload_is_filled_and_run(rt: HostRuntime) -> Result<(), Fail> {
+    let alloc = rt.alloc();
+    let filling = [
+        "load",
+        "--seed",
+        "0",
+        "--sessions",
+        "1",
+        "--accounts",
+        "2",
+        "--transfers",
+        "0",
+    ];
+    let (line, pairs) = loaded(&rt, alloc, &filling)?;
+    let wanted = b"{\"accounts\":2,\"acknowledged\":1,\"sum\":2000}\n";
+    assert_eq!(rt; line.as_slice(), wanted.as_slice());
+    assert_eq!(rt; pairs.as_slice(), b"[0,1000]\n[1,1000]\n".as_slice());
+    let transfers = [
+        "load",
+        "--seed",
+        "7",
+        "--sessions",
+        "3",
+        "--accounts",
+        "4",
+        "--transfers",
+        "2",
+    ];
+    let (line, _) = loaded(&rt, alloc, &transfers)?;
+    let wanted = b"{\"accounts\":4,\"acknowledged\":7,\"sum\":4000}\n";
+    assert_eq!(rt; line.as_slice(), wanted.as_slice());
+    Ok(())
+}

@@ -1,7 +1,8 @@
 -- What a cluster that was opened and closed leaves.
-use Rattle.std.proofs.Common.{◌≡◌, ◌≢◌, refl, sym, ap, ◌∙◌, subst, inl, ℕ, zero, suc, ◌+◌, ◌<◌, ◌≤◌, ◌^◌, Bool, true, false, not, ◌&&◌, cond, nat_lt, List, [], ◌∷◌, length, map, get_or, Option, Some, None, Ok, Err, IfSome, arith}
+use Rattle.std.proofs.Common.{◌≡◌, ◌≢◌, refl, sym, ap, ◌∙◌, subst, inl, ℕ, zero, suc, ◌+◌, ◌<◌, ◌≤◌, ◌^◌, Bool, true, false, not, ◌&&◌, cond, nat_lt, List, [], ◌∷◌, ◌++◌, append_assoc, length, map, get_or, Option, Some, None, Ok, Err, IfSome, arith}
 use Rattle.std.specs.Prelude.{slice_get}
 use Rattle.std.proofs.lemmas.Bool.{and_parts, and_from, ltb-true, ltb-false, eq-eqb, ne_eqb}
+use Rattle.std.proofs.lemmas.List.{map-append}
 use Rattle.clv_base.specs.declared.logs.LogRecord.{LogRecord}
 use Rattle.clv_base.specs.declared.events.Event.{Event}
 use Rattle.clv_base.specs.declared.events.Event.TheVariants.{Op, Request, Look, Drop, Send, Deliver, Remind, FlushOut, FlushIn, Stop, Restart}
@@ -21,10 +22,17 @@ use Rattle.history_laws.proofs.Serials.{left_at}
 use Rattle.cut_laws.proofs.Made.{run_made}
 use Rattle.history_replay.specs.Entries.{Kept, entries_of}
 use Rattle.protocol_laws.specs.Growth.{is_restart}
-use Rattle.journal_laws.specs.Notes.{ends_holding}
+use Rattle.journal_laws.specs.Notes.{ends_holding, MayNotes, after_notes, holder}
 use Rattle.journal_laws.specs.Gathered.{MakesHistory, journal_at}
-use Rattle.turn_laws.specs.Notes.{notes_of}
-use Rattle.turn_laws.specs.Homes.{is_stop, never_stops, has_failed}
+use Rattle.turn_lock.specs.declared.pass.Pass.{Pass}
+use Rattle.turn_lock.specs.Passes.{seen, pass_origin}
+use Rattle.turn_lock.specs.Journals.{StartsWith}
+use Rattle.turn_laws.specs.declared.notes.Note.{Note}
+use Rattle.turn_laws.specs.declared.notes.Origin.{Origin}
+use Rattle.turn_laws.specs.Notes.{notes_of, told}
+use Rattle.turn_laws.specs.Homes.{is_stop, never_stops, has_failed, start, state_of, entries_in, IsLegal}
+use Rattle.turn_laws.proofs.Laws.{entries_append, notes_are_runs}
+use Rattle.journal_laws.proofs.Noting.{notes_are_seen}
 use Rattle.cluster_turns.specs.declared.home.Home.{Home}
 use Rattle.cluster_turns.specs.declared.shards.Shards.{Shards}
 use Rattle.cluster_turns.specs.declared.shards.Walker.{Walker}
@@ -32,6 +40,7 @@ use Rattle.cluster_turns.specs.Walkers.{own_lists, founds_of}
 use Rattle.cluster_restart.specs.declared.fetching.Fetched.{Fetched}
 use Rattle.cluster_holding.specs.Held.{never_restarts}
 use Rattle.cluster_ends.specs.Legal.{state_at, views_of}
+use Rattle.cluster_ends.specs.Ending.{seen_of, origin_of}
 use Rattle.cluster_closing.specs.Closing.{IsBack}
 use Rattle.cluster_closing.specs.Closing as closing
 use Rattle.run_promises.specs.Disks.{HoldsLog, flush_failed}
@@ -43,11 +52,11 @@ use Rattle.shards_promises.specs.Ended.{ClusterEnded, runs_on}
 use Rattle.shards_promises.specs.Sessions.{Went, Begun, SessionWent, SessionsWent}
 use Rattle.shards_promises.specs.Down.{IsLowestDown, IsLowestFault}
 use Rattle.shards_promises.proofs.Promising.{runs_are_promised}
-use Rattle.shards_promises.proofs.Down.{lowest_down_is_fault}
+use Rattle.shards_promises.proofs.Down.{failed_are_down, down_stays, lowest_down_is_fault}
 use Rattle.run_status.specs.Running.{End, IsOk, status_by}
 use Rattle.run_ends.specs.Ends.{end_of, walked_by, IsClosedRun}
-use Rattle.run_ends.specs.Statuses.{StatusTold}
-use Rattle.run_ends.specs.Laws.{ClustersEnd, OthersStand, AllAreIn, RunsKeep, SessionsHaveGone, StatusesTell}
+use Rattle.run_ends.specs.Statuses.{StatusTold, FlushesTold}
+use Rattle.run_ends.specs.Laws.{ClustersEnd, OthersStand, AllAreIn, RunsKeep, SessionsHaveGone, StatusesTell, FlushesTell, DownsTell}
 
 -- ---- lists
 
@@ -103,6 +112,18 @@ goes_on (e ∷ es) a b =
     let p = and_parts (not (is_stop e.event)) (never_stops es) a in
     let q = and_parts (not (ends_holding e.event)) (never_restarts es) b in
     and_from (not (is_stop e.event) && not (is_restart e.event)) (runs_on es) (and_from (not (is_stop e.event)) (not (is_restart e.event)) p.0 (ap not (sym (same_restart e.event)) ∙ q.0)) (goes_on es p.1 q.1)
+
+on_behind : (xs ys : List Entry) → runs_on (xs ++ ys) ≡ true → runs_on ys ≡ true
+on_behind [] ys on = on
+on_behind (x ∷ xs) ys on = on_behind xs ys (and_parts (not (is_stop x.event) && not (is_restart x.event)) (runs_on (xs ++ ys)) on).1
+
+within : {X : Type 0} (xs : List (Option X)) (n : ℕ) (x : X) → get_or xs n None ≡ Some x → n < length xs
+within [] n x is = absurd cc
+within (y ∷ xs) zero x is = omega arith
+within (y ∷ xs) (suc n) x is = let l = within xs n x is in omega arith
+
+same_origin : {o p : Origin} → ◌≡◌ {A = Option Origin} (Some o) (Some p) → o ≡ p
+same_origin is = cc
 
 -- ---- the end of a cluster
 
@@ -212,6 +233,51 @@ module _
   pub fault : IsLowestFault counts counts_now count down
   fault = lowest_down_is_fault sh.splits before now counts counts_now kept states (walked_by walkers) down ended (lowest down r.closed.lowest_down)
 
+  -- a shard's flush failed exactly where it is down
+  failed_at : (n : ℕ) → n < count → has_failed (journal_of n (entries_of kept.journals)) ≡ not (states n).is_up
+  failed_at n l = ap has_failed (history.same_journals n l) ∙ (failed_are_down n (run_after kept.found) (log_of kept.found n) (journal_at kept.journals n) (states n) (ended.runs n l) (ended.on n l)).0
+
+  abbrev failed : ℕ → Bool
+  failed n = has_failed (journal_of n (entries_of kept.journals))
+
+  flushes_by : (d : Option ℕ) (end : End) → IsLowestDown states count d → FlushesTold count failed (status_by d end)
+  flushes_by (Some m) end (l, down, below) = (failed_at m l ∙ ap not down, λ n k. failed_at n (omega arith) ∙ ap not (below n k))
+  flushes_by None (Ok a) all = λ n l. failed_at n l ∙ ap not (all n l)
+  flushes_by None (Err (stop.Worn at)) all = λ n l. failed_at n l ∙ ap not (all n l)
+  flushes_by None (Err stop.Memory) all = λ n l. failed_at n l ∙ ap not (all n l)
+  flushes_by None (Err (stop.Down m)) all = λ n l. failed_at n l ∙ ap not (all n l)
+  flushes_by None (Err (stop.Unsettled m)) all = λ n l. failed_at n l ∙ ap not (all n l)
+
+  pub flushes : (end : End) → FlushesTold count failed (status_by down end)
+  flushes end = flushes_by down end (lowest down r.closed.lowest_down)
+
+  -- ---- a shard that a pass has seen down
+
+  -- it stays down
+  down_at : (n : ℕ) → n < count → (o : Origin) (first more notes : List Note) (s : Shard) → IsLegal o notes s → runs_on s.journal ≡ true → notes ≡ first ++ more → (state_of o first).is_up ≡ false → s.is_up ≡ false
+  down_at n l o first more notes s legal on is down =
+      let may : MayNotes (start o) None (map told first ++ map told more) = subst (MayNotes (start o) None) (ap (map told) is ∙ map-append told first more) legal.may in
+      let parts = notes_are_seen (start o) None (map told first) (map told more) may in
+      let runs = notes_are_runs (state_of o first) (holder None (map told first)) (map told more) parts.1 in
+      let whole : s.journal ≡ entries_in first ++ entries_in more = legal.entries ∙ ap entries_in is ∙ entries_append first more in
+      let rest = on_behind (entries_in first) (entries_in more) (sym (ap runs_on whole) ∙ on) in
+      let ends : s ≡ after_notes (state_of o first) (map told more) = legal.is ∙ ap (state_of o) is ∙ ap (after_notes (start o)) (map-append told first more) ∙ parts.2 in
+      ap (λ t. t.is_up) ends ∙ down_stays (state_of o first) (after_notes (state_of o first) (map told more)) (entries_in more) runs rest down
+
+  pub seen_down : (k n : ℕ) (d : Walker M S G) (p : Pass (Home M S G) Note Origin) (o : Origin) (first later : List Note) → k < length walkers → get_or (get_or walkers k d).passes.items n None ≡ Some p
+      → pass_origin p ≡ Some o → seen p ≡ first ++ later → (state_of o first).is_up ≡ false → (n < count) × (failed n ≡ true)
+  seen_down k n d p o first later few has origin is down =
+      let l : n < count = (let a = within (get_or walkers k d).passes.items n p has in let b = r.closed.passes k d few in let c = r.begun.count in omega arith) in
+      let h = get_or homes n (home n l) in
+      let s = made h in
+      let closed = r.closed.seen n (home n l) (low n l) in
+      let same : h.origin ≡ o = same_origin (sym (closed.origin_is k d few) ∙ (ap origin_of has ∙ origin)) in
+      let begins = subst (λ q. StartsWith (notes_of s.journal h.marks.items) (seen_of q)) has (closed.seen_is k d few) in
+      let whole : notes_of s.journal h.marks.items ≡ first ++ (later ++ begins.0) = begins.1 ∙ ap (λ x. x ++ begins.0) is ∙ append_assoc first later begins.0 in
+      let fell : s.is_up ≡ false = down_at n l h.origin first (later ++ begins.0) (notes_of s.journal h.marks.items) s (r.closed.noted n (home n l) (low n l)) (sym (ap runs_on (journal_is n (home n l) l)) ∙ on_at n l (home n l)) whole
+      (subst (λ x. (state_of x first).is_up ≡ false) (sym same) down) in
+      (l, failed_at n l ∙ ap not (ap (λ t. t.is_up) (state_is n (home n l) l) ∙ fell))
+
 pub clusters_end : {M S G D : Type 0} → ClustersEnd M S G D
 clusters_end shard sh walkers homes kept down counts counts_now out out_now before now r = ended shard sh walkers homes kept down counts counts_now out out_now before now r
 
@@ -241,6 +307,13 @@ tells shards counts counts_now sessions went None (Err (stop.Unsettled n)) fault
 pub statuses_tell : {M S G D : Type 0} → StatusesTell M S G D
 statuses_tell shard sh walkers homes kept down counts counts_now out out_now before now sessions went end r fine worn =
     tells (shard_count sh.splits) counts counts_now sessions went down end (fault shard sh walkers homes kept down counts counts_now out out_now before now r) fine worn
+
+pub flushes_tell : {M S G D : Type 0} → FlushesTell M S G D
+flushes_tell shard sh walkers homes kept down counts counts_now out out_now before now end r = flushes shard sh walkers homes kept down counts counts_now out out_now before now r end
+
+pub downs_tell : {M S G D : Type 0} → DownsTell M S G D
+downs_tell shard sh walkers homes kept down counts counts_now out out_now before now k n d p origin first later r few has has_origin is fell =
+    seen_down shard sh walkers homes kept down counts counts_now out out_now before now r k n d p origin first later few has has_origin is fell
 
 -- ---- sessions
 

@@ -16,6 +16,7 @@ use Rattle.cluster_turns.specs.declared.shards.Walker.{Walker}
 use Rattle.cluster_turns.specs.Walkers.{founds_of}
 use Rattle.cluster_holding.specs.Held.{never_restarts}
 use Rattle.cluster_ends.specs.Legal.{state_at, views_of}
+use Rattle.cluster_ends.specs.Ending.{ClosedAt}
 use Rattle.disks_opening.specs.Houses.{WentOut}
 use Rattle.cluster_beginning.specs.Begun.{AreLocked}
 use Rattle.cluster_closing.specs.Closing.{IsLowestDown, IsBack}
@@ -36,6 +37,10 @@ module _ {M S G : Type 0} (D : Type 0) (shard : M → Shard) where
     pub noted :
         (n : ℕ) (d : Home M S G) → n < vec_len sh.locks
         → IsLegal (slice_index_or homes n d).origin (notes_of (shard (slice_index_or homes n d).machine).journal (slice_index_or homes n d).marks.items) (shard (slice_index_or homes n d).machine)
+    pub passes : (k : ℕ) (d : Walker M S G) → k < length walkers → length (slice_index_or walkers k d).passes.items ≡ length sh.locks.items
+    pub seen :
+        (n : ℕ) (d : Home M S G) → n < vec_len sh.locks
+        → ClosedAt walkers n (slice_index_or homes n d).origin (notes_of (shard (slice_index_or homes n d).machine).journal (slice_index_or homes n d).marks.items)
     pub journals_are : kept.journals ≡ map (λ h. (shard h.machine).journal) homes
     pub founds_are : kept.found ≡ founds_of sh
     pub lowest_down : IsLowestDown (λ h. (shard h.machine).is_up) homes down

@@ -1,10 +1,16 @@
 -- What the end of a run is, by what opening and closing its cluster told.
-use Rattle.std.specs.Prelude.{◌≡◌, ℕ, suc, ◌<◌, ◌≤◌, ◌^◌, Bool, false, List, length, slice_index_or, Option, None, Some, Err, slice_get}
+use Rattle.std.specs.Prelude.{◌≡◌, ℕ, suc, ◌<◌, ◌≤◌, ◌^◌, Bool, true, false, List, ◌++◌, length, slice_index_or, Option, None, Some, Err, slice_get}
 use Rattle.clv_base.specs.Shards.{shard_count}
 use Rattle.clv_base.specs.State.{Shard}
 use Rattle.clv_base.specs.Restarts.{run_after}
+use Rattle.clv_base.specs.Journals.{journal_of}
 use Rattle.disk_model.specs.Story.{Story}
-use Rattle.history_replay.specs.Entries.{Kept}
+use Rattle.history_replay.specs.Entries.{Kept, entries_of}
+use Rattle.turn_lock.specs.declared.pass.Pass.{Pass}
+use Rattle.turn_lock.specs.Passes.{seen, pass_origin}
+use Rattle.turn_laws.specs.declared.notes.Note.{Note}
+use Rattle.turn_laws.specs.declared.notes.Origin.{Origin}
+use Rattle.turn_laws.specs.Homes.{state_of, has_failed}
 use Rattle.cluster_turns.specs.declared.home.Home.{Home}
 use Rattle.cluster_turns.specs.declared.shards.Shards.{Shards}
 use Rattle.cluster_turns.specs.declared.shards.Walker.{Walker}
@@ -16,7 +22,7 @@ use Rattle.shards_promises.specs.Sessions.{Went, Begun, SessionWent, SessionsWen
 use Rattle.shards_promises.specs.Promises.{RunPromised}
 use Rattle.run_status.specs.Running.{End, IsOk, status_by}
 use Rattle.run_ends.specs.Ends.{end_of, walked_by, IsClosedRun}
-use Rattle.run_ends.specs.Statuses.{StatusTold}
+use Rattle.run_ends.specs.Statuses.{StatusTold, FlushesTold}
 
 module _ (M S G D : Type 0) where
   -- what such a run leaves is the end of a cluster
@@ -54,6 +60,22 @@ module _ (M S G D : Type 0) where
       (sessions : ℕ) (went : ℕ → Went) (end : End)
       → IsClosedRun D shard sh walkers homes kept down counts counts_now out out_now before now → (IsOk end → (k : ℕ) → k < sessions → went k ≡ Begun None) → ((at : ℕ) → end ≡ Err (Worn at) → at ≡ 2 ^ 48)
       → StatusTold (shard_count sh.splits) counts counts_now sessions went (status_by down end)
+
+  -- and which shards' flushes failed
+  abbrev pub FlushesTell : Type 0
+  FlushesTell =
+      (shard : M → Shard) (sh : Shards M S G) (walkers : List (Walker M S G)) (homes : List (Home M S G)) (kept : Kept) (down : Option ℕ) (counts counts_now : ℕ → ℕ) (out out_now : ℕ → Bool) (before now : ℕ → Option Story) (end : End)
+      → IsClosedRun D shard sh walkers homes kept down counts counts_now out out_now before now
+      → FlushesTold (shard_count sh.splits) (λ n. has_failed (journal_of n (entries_of kept.journals))) (status_by down end)
+
+  -- a shard that a walker's pass has seen down is one that there is, and its flush failed
+  abbrev pub DownsTell : Type 0
+  DownsTell =
+      (shard : M → Shard) (sh : Shards M S G) (walkers : List (Walker M S G)) (homes : List (Home M S G)) (kept : Kept) (down : Option ℕ) (counts counts_now : ℕ → ℕ) (out out_now : ℕ → Bool) (before now : ℕ → Option Story)
+      (k n : ℕ) (d : Walker M S G) (p : Pass (Home M S G) Note Origin) (origin : Origin) (first later : List Note)
+      → IsClosedRun D shard sh walkers homes kept down counts counts_now out out_now before now → k < length walkers → slice_index_or (slice_index_or walkers k d).passes.items n None ≡ Some p
+      → pass_origin p ≡ Some origin → seen p ≡ first ++ later → (state_of origin first).is_up ≡ false
+      → (n < shard_count sh.splits) × (has_failed (journal_of n (entries_of kept.journals)) ≡ true)
 
 -- walkers whose numbers are their places, walker 0 and one for each session of the script, made the entries of these sessions
 abbrev pub SessionsHaveGone : (M S G : Type 0) → Type 0

@@ -1,5 +1,5 @@
 -- What the status of a run that opened its shards tells of its disks and sessions.
-use Rattle.std.specs.Prelude.{◌≡◌, ℕ, ◌<◌, ◌^◌, None}
+use Rattle.std.specs.Prelude.{◌≡◌, ℕ, ◌<◌, ◌^◌, Bool, true, false, None}
 use Rattle.disk_model.specs.Disk.{Rose}
 use Rattle.shards_promises.specs.Sessions.{Went, Begun}
 use Rattle.run_status.specs.declared.status.Status.{Status}
@@ -23,3 +23,8 @@ StatusTold shards counts counts_now sessions went WriteFault = ⊥
 StatusTold shards counts counts_now sessions went (NotLog shard at) = ⊥
 StatusTold shards counts counts_now sessions went (Exists shard len) = ⊥
 StatusTold shards counts counts_now sessions went (Apart tx) = ⊥
+
+-- which shards' flushes failed: a disk's fault is of the lowest one, and at any other status none did
+abbrev pub FlushesTold : ℕ → (ℕ → Bool) → Status → Type 0
+FlushesTold shards failed (DiskFault shard) = (failed shard ≡ true) × ((n : ℕ) → n < shard → failed n ≡ false)
+FlushesTold shards failed status = (n : ℕ) → n < shards → failed n ≡ false

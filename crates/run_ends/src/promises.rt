@@ -1,5 +1,5 @@
 // A cluster that was opened and closed. `M`, `S` and `G` are a machine, its store and its gate, `D` is a disk.
-ghost use Rattle.run_ends.specs.Laws.{ClustersEnd, OthersStand, AllAreIn, RunsKeep, SessionsHaveGone, StatusesTell};
+ghost use Rattle.run_ends.specs.Laws.{ClustersEnd, OthersStand, AllAreIn, RunsKeep, SessionsHaveGone, StatusesTell, FlushesTell, DownsTell};
 
 /// What it leaves is the end of a cluster: a legal history, and disks that hold what its shards' states say.
 pub fn clusters_end<M, S, G, D>()
@@ -29,4 +29,14 @@ pub fn sessions_have_gone<M, S, G>()
 /// Its status tells which disk failed first, or that none did, and where it is fine that all sessions went through.
 pub fn statuses_tell<M, S, G, D>()
     ensures { StatusesTell M S G D }
+{}
+
+/// And whether a shard's flush failed, and which one's.
+pub fn flushes_tell<M, S, G, D>()
+    ensures { FlushesTell M S G D }
+{}
+
+/// A shard that a walker has seen down is one whose flush failed.
+pub fn downs_tell<M, S, G, D>()
+    ensures { DownsTell M S G D }
 {}

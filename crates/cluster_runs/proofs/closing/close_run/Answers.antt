@@ -16,6 +16,8 @@ returns-clause-closed g c =
       len = (let k = c.close.result.ends.value.ok.0 in let l = e.len.0 in omega arith);
       shard_is = e.shard;
       noted = e.noted;
+      passes = λ k d l. (c.requires.rest k d l).walker.walks.are_passes.count;
+      seen = e.closed;
       journals_are = e.journals;
       founds_are = e.founds;
       lowest_down = e.down;

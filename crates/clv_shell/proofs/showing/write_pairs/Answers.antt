@@ -6,5 +6,5 @@ use Rattle.clv_shell.proofs.showing.write_pairs.Goals as goal
 
 pub returns-in_default : goal.returns-in_default
 returns-in_default g c =
-    let so = unshown c.args.running (text_of_pairs (stands_for c.args.history.now.found)) (g.K.Sink.faults c.args.sink.now) (g.K.Sink.taken c.args.sink.now) c.in_default.not-Fine c.requires.running in
+    let so = unshown c.args.running c.args.history.now (text_of_pairs (stands_for c.args.history.now.found)) (g.K.Sink.faults c.args.sink.now) (g.K.Sink.taken c.args.sink.now) c.in_default.not-Fine c.requires.running in
     record { ends = (Ok tt, refl); took = so.0; cause = so.1 }

@@ -2,10 +2,13 @@ use Rattle.std.proofs.Common.{map, IfSome}
 use Rattle.clv_shell.specs.Kinds.{IsOfCommand}
 use Rattle.clv_shell.specs.Disks.{ClosedBy, Makes}
 use Rattle.clv_shell.specs.Sinks.{Took}
-use Rattle.clv_shell.specs.Causes.{HasBytes}
+use Rattle.clv_shell.specs.Causes.{HasBytes, BreaksBy}
+use Rattle.clv_shell.specs.Reading.{ReadsBy}
+use Rattle.clv_shell.specs.Completing.{IsAccepted, NoneRose, IsCompleted}
 use Rattle.clv_shell.specs.Runs.{PromisedBy, OpensByCommand}
 use Rattle.clv_shell.proofs.Words.{shown}
-use Rattle.clv_shell.proofs.Refused.{refused, kind, closed, taken, nothing}
+use Rattle.clv_shell.proofs.Refused.{refused, kind, closed, taken, unread, completed_not}
+use Rattle.clv_shell.proofs.Completing.{completed}
 use Rattle.clv_shell.proofs.top.run.Goals as goal
 
 pub returns-in-Ok-clause-kind : goal.returns-in-Ok-clause-kind
@@ -35,8 +38,22 @@ returns-in-Ok-clause-usage g c =
     (shown (map (λ w. w.now) c.args.words.now) c.in-Ok.command (λ d. IsOfCommand d c.obey.result.status) c.in-Ok.ensures.command c.obey.ensures.kind)
 
 pub returns-in-Ok-clause-nothing : goal.returns-in-Ok-clause-nothing
-returns-in-Ok-clause-nothing g c =
-    nothing c.in-Ok.command c.obey.result.status c.obey.result.history (g.K.Sink.faults c.args.sink.now) (g.K.Sink.faults c.obey.new.sink) (g.K.Sink.taken c.args.sink.now) (g.K.Sink.taken c.obey.new.sink) (g.H.House.story c.args.house.now) (g.H.House.story c.obey.new.house) c.obey.ensures.kind c.obey.ensures.took c.obey.ensures.closed
+returns-in-Ok-clause-nothing g c = λ none. absurd (none c.in-Ok.command c.in-Ok.ensures.command)
+
+pub returns-in-Ok-clause-read : goal.returns-in-Ok-clause-read
+returns-in-Ok-clause-read g c = shown (map (λ w. w.now) c.args.words.now) c.in-Ok.command (λ d. ReadsBy d c.obey.result.history c.obey.result.status (g.S.Source.left c.args.source.now) (g.S.Source.left c.obey.new.source)) c.in-Ok.ensures.command c.obey.ensures.read
+
+pub returns-in-Ok-clause-logs : goal.returns-in-Ok-clause-logs
+returns-in-Ok-clause-logs g c = shown (map (λ w. w.now) c.args.words.now) c.in-Ok.command (λ d. BreaksBy d c.obey.result.status c.obey.result.history (g.H.House.story c.args.house.now)) c.in-Ok.ensures.command c.obey.ensures.logs
+
+pub returns-in-Ok-clause-completes : goal.returns-in-Ok-clause-completes
+returns-in-Ok-clause-completes g c =
+    let e = c.obey.ensures in
+    shown (map (λ w. w.now) c.args.words.now) c.in-Ok.command
+    (λ d. IsAccepted d (g.S.Source.left c.args.source.now) (g.H.House.story c.args.house.now) → NoneRose (g.S.Source.faults c.args.source.now) (g.S.Source.faults c.obey.new.source) (g.K.Sink.faults c.args.sink.now) (g.K.Sink.faults c.obey.new.sink) (g.H.House.faults c.args.house.now) (g.H.House.faults c.obey.new.house) → IsCompleted d c.obey.result.status)
+    c.in-Ok.ensures.command
+    (λ ok none. completed c.scripts_are_not_refused.ensures c.good_logs_are_not_refused.ensures c.obey.result.history (g.S.Source.left c.args.source.now) (g.H.House.story c.args.house.now) (g.H.House.story c.obey.new.house) (g.S.Source.faults c.args.source.now) (g.S.Source.faults c.obey.new.source) (g.K.Sink.faults c.args.sink.now) (g.K.Sink.faults c.obey.new.sink) (g.H.House.faults c.args.house.now) (g.H.House.faults c.obey.new.house) none
+    c.in-Ok.command c.obey.result.status e.kind e.exists e.logs e.script e.source e.sink e.disks ok)
 
 pub returns-in-Err-clause-usage : goal.returns-in-Err-clause-usage
 returns-in-Err-clause-usage g c = refused (map (λ w. w.now) c.args.words.now) c.in-Err.error c.into.result c.into.ensures c.in-Err.ensures.usage
@@ -46,3 +63,9 @@ returns-in-Err-clause-kind g c = kind (map (λ w. w.now) c.args.words.now) c.in-
 
 pub returns-in-Err-clause-closed : goal.returns-in-Err-clause-closed
 returns-in-Err-clause-closed g c = closed (map (λ w. w.now) c.args.words.now) c.in-Err.error c.into.result (g.H.House.story c.args.house.now) c.into.ensures c.in-Err.ensures.usage
+
+pub returns-in-Err-clause-read : goal.returns-in-Err-clause-read
+returns-in-Err-clause-read g c = unread (map (λ w. w.now) c.args.words.now) c.in-Err.error c.into.result (g.S.Source.left c.args.source.now) c.into.ensures c.in-Err.ensures.usage
+
+pub returns-in-Err-clause-completes : goal.returns-in-Err-clause-completes
+returns-in-Err-clause-completes g c = λ d is ok none. completed_not (map (λ w. w.now) c.args.words.now) c.in-Err.error c.into.result c.into.ensures c.in-Err.ensures.usage d is

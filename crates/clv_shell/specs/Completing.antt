@@ -1,0 +1,40 @@
+-- When a command is completed.
+use Rattle.std.specs.Prelude.{◌≡◌, ℕ, ◌<◌, List, [], Option, Some, IsSomeAnd}
+use Rattle.clv_base.specs.Shards.{shard_count}
+use Rattle.command_words.specs.declared.commands.Command.{Command}
+use Rattle.command_words.specs.declared.commands.Command.TheVariants.{Make, Run, Show, Load}
+use Rattle.disk_model.specs.Story.{Story, reads}
+use Rattle.disk_model.specs.Disk.{Rose}
+use Rattle.opening_laws.specs.Accepted.{AreGoodLogs}
+use Rattle.script_lang.specs.Bodies.{Body}
+use Rattle.script_lang.specs.Grammar.{IsScript}
+use Rattle.run_status.specs.declared.status.Status.{Status}
+use Rattle.run_status.specs.declared.status.Status.TheVariants.{Fine, Memory, Worn}
+
+-- the source tells a script; the first disks tell that they have no bytes
+abbrev pub TellsScript : Option (List ℕ) → Type 0
+TellsScript left = (bytes : List ℕ) × (script : List (List Body)) × (left ≡ Some bytes) × IsScript bytes script
+
+abbrev pub AreEmpty : ℕ → (ℕ → Option Story) → Type 0
+AreEmpty count stories = (n : ℕ) → n < count → IsSomeAnd (stories n) (λ s. reads s ≡ [])
+
+-- what a command is done over
+abbrev pub IsAccepted : Command → Option (List ℕ) → (ℕ → Option Story) → Type 0
+IsAccepted (Make splits) left stories = AreEmpty (shard_count splits) stories
+IsAccepted (Run tries) left stories = TellsScript left × AreGoodLogs stories
+IsAccepted Show left stories = AreGoodLogs stories
+IsAccepted (Load seed sessions accounts transfers) left stories = AreGoodLogs stories
+
+-- no count of a fault rose, nor stands at its end: the source's, the sink's, and the disks'
+pub record NoneRose (source source' sink sink' : ℕ) (disks disks' : ℕ → ℕ) : Type 0 where
+  pub of_source : Rose source source' → ⊥
+  pub of_sink : Rose sink sink' → ⊥
+  pub of_disks : (n : ℕ) → Rose (disks n) (disks' n) → ⊥
+
+-- all was done, or memory was wanting, or stamps or runs were worn, which `make` has none of
+abbrev pub IsCompleted : Command → Status → Type 0
+IsCompleted command Fine = Unit {0}
+IsCompleted command Memory = Unit {0}
+IsCompleted (Make splits) (Worn at) = ⊥
+IsCompleted command (Worn at) = Unit {0}
+IsCompleted command status = ⊥

@@ -1,0 +1,26 @@
+-- What was read of the source.
+use Rattle.std.specs.Prelude.{◌≡◌, ℕ, List, Option, None}
+use Rattle.command_words.specs.declared.commands.Command.{Command}
+use Rattle.command_words.specs.declared.commands.Command.TheVariants.{Run}
+use Rattle.history_replay.specs.Entries.{Kept}
+use Rattle.io_edge.specs.Streams.{Ends}
+use Rattle.script_lang.specs.Bodies.{Body}
+use Rattle.script_lang.specs.Grammar.{IsScript}
+use Rattle.run_status.specs.declared.status.Status.{Status}
+use Rattle.run_status.specs.declared.status.Status.TheVariants.{Script, ReadFault, Memory}
+
+-- all of the source was read, and it is a script
+abbrev pub IsRead : Option (List ℕ) → Option (List ℕ) → Type 0
+IsRead left now = (bytes : List ℕ) × (script : List (List Body)) × Ends left now bytes × IsScript bytes script
+
+-- so it is before shards are opened: they aren't where it is no script, where the source failed, or where memory was wanting
+abbrev pub ReadsScript : Option Kept → Status → Option (List ℕ) → Option (List ℕ) → Type 0
+ReadsScript None (Script line) left now = Unit {0}
+ReadsScript None ReadFault left now = Unit {0}
+ReadsScript None Memory left now = Unit {0}
+ReadsScript history status left now = IsRead left now
+
+-- only `run` reads
+abbrev pub ReadsBy : Command → Option Kept → Status → Option (List ℕ) → Option (List ℕ) → Type 0
+ReadsBy (Run tries) history status left now = ReadsScript history status left now
+ReadsBy command history status left now = now ≡ left

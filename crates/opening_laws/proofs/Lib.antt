@@ -1,0 +1,2 @@
+pub mod Unagreed
+pub mod Accepting
