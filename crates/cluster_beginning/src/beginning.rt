@@ -77,7 +77,7 @@ fn begin<H: House, M: OverDisks<H::Disk>>(
                 locks,
                 splits: _,
                 run: _,
-                writing: _,
+                batches: _,
                 found: _,
             } = shards;
             give_back_locks::<H, M>(house, locks, passes);

@@ -7,6 +7,7 @@ ghost use Rattle.disks_opening.specs.Houses.{WentOut};
 ghost use Rattle.cluster_undoing.specs.Undone.{AreOpened};
 ghost use Rattle.cluster_beginning.specs.Begun.{AreFound, AreLocked, IsTakenBack, told_as as telling};
 
+use batch_gate::BatchGate;
 use cluster_turns::{Home, Shards};
 use cluster_undoing::undo;
 use clv_base::logs::LogRecord;
@@ -18,8 +19,8 @@ use log_gate::Gate;
 use machines_opening::OverDisks;
 use shards_opening::open_shards;
 use std::alloc::Global;
+use std::array;
 use std::snapshot::Snapshot;
-use std::sync::Mutex;
 use turn_laws::{Note, Origin};
 use turn_lock::{Pass, TurnLock};
 
@@ -41,25 +42,8 @@ fn told_as(shard: u32, error: RecoverError) -> OpenError
 }
 
 // Nobody writes a batch yet.
-fn no_writers() -> [Mutex<()>; 16] {
-    [
-        Mutex::new(()),
-        Mutex::new(()),
-        Mutex::new(()),
-        Mutex::new(()),
-        Mutex::new(()),
-        Mutex::new(()),
-        Mutex::new(()),
-        Mutex::new(()),
-        Mutex::new(()),
-        Mutex::new(()),
-        Mutex::new(()),
-        Mutex::new(()),
-        Mutex::new(()),
-        Mutex::new(()),
-        Mutex::new(()),
-        Mutex::new(()),
-    ]
+fn new_gates() -> [BatchGate; 16] {
+    array::from_fn(|_| BatchGate::new())
 }
 
 // Takes all shards from the logs found into their locks, with so many passes each; there is room for both. An `Err` gives every disk back.
@@ -95,7 +79,7 @@ pub(crate) fn lock_all<H: House, M: OverDisks<H::Disk>>(
                 locks,
                 splits,
                 run,
-                writing: no_writers(),
+                batches: new_gates(),
                 found,
             };
             Ok((shards, passes))

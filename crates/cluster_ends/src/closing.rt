@@ -42,7 +42,7 @@ fn close_all<M: Machine>(
         mut locks,
         splits: _,
         run: _,
-        writing: _,
+        batches: _,
         found: _,
     } = shards;
     let count = locks.len();

@@ -11,6 +11,7 @@ ghost use Rattle.cluster_turns.specs.Walkers.{IsWalker, IsSameWalker, Walked, Go
 
 use crate::home::Home;
 use crate::turns::{survey, turn};
+use batch_gate::BatchGate;
 use clv_base::events::{Event, Outcome};
 use clv_base::logs::LogRecord;
 use clv_base::names::{Birth, TxId};
@@ -18,7 +19,7 @@ use clv_base::splits::Splits;
 use machine_calls::{Machine, StepError};
 use std::alloc::Global;
 use std::snapshot::Snapshot;
-use std::sync::{Mutex, Wait};
+use std::sync::Wait;
 use turn_laws::{Note, Origin};
 use turn_lock::{Pass, TurnLock};
 
@@ -30,8 +31,8 @@ pub struct Shards<M: Machine> {
     pub locks: Vec<TurnLock<Home<M>>>,
     pub splits: Splits,
     pub run: u32,
-    /// By shard: held by whoever writes a batch, so that others who want it written sleep until then. It guards nothing.
-    pub writing: [Mutex<()>; 16],
+    /// By shard: who writes a batch, and who sleeps until it is written.
+    pub batches: [BatchGate; 16],
     /// Each shard's log as opening found it.
     pub found: Snapshot<Vec<Vec<LogRecord>>>,
 }

@@ -139,7 +139,7 @@ fn try_and_pass<M: Flier, P: Pace, R: Wait>(
 }
 
 // Of so many waits one makes a round.
-const WAITS_PER_ROUND: u64 = 8;
+const WAITS_PER_ROUND: u64 = 64;
 
 /// One operation, or part scan, of the active transaction on one shard, until it is answered: while it has to wait it gives way, and makes a round after each
 /// eighth try. Of a session's turns it takes only those of this operation. `Aborted` comes only where one of them died of that cause, and the transaction is

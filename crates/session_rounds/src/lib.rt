@@ -8,4 +8,4 @@ mod parts;
 mod rounds;
 
 pub use parts::RoundError;
-pub use rounds::round;
+pub use rounds::{round, round_for};

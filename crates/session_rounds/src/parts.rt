@@ -3,6 +3,7 @@ ghost use Rattle.std.specs.Prelude.{◌≡◌, ◌<◌, length};
 ghost use Rattle.cluster_turns.specs.Walkers.{IsWalker, IsSameWalker};
 ghost use Rattle.session_rounds.specs.Rounds.{Rounded, refusal_of};
 
+use batch_gate::Batch;
 use cluster_carry::{Carry, CarryError, carry_once, remind_once};
 use cluster_flush::{FlushError, Flushed, flush_once};
 use cluster_turns::{Shards, Walker};
@@ -25,8 +26,8 @@ pub enum RoundError {
 pub(crate) struct Met {
     // A batch was written, or a message carried.
     pub(crate) moves: bool,
-    // A shard of which another walker writes a batch.
-    pub(crate) away: Option<u32>,
+    // A shard of which another walker writes this batch.
+    pub(crate) away: Option<(u32, Batch)>,
 }
 
 impl Met {
@@ -71,13 +72,14 @@ fn flush_now<M: Flier, P: Pace, R: Wait>(
     }
 }
 
-// Flushes a shard once, unless another walker writes a batch of it.
+// Flushes a shard once, unless another walker writes a batch of it. Where it is the home of a request, those who slept on the last batch get into this one.
 pub(crate) fn flush<M: Flier, P: Pace, R: Wait>(
     rt: &R,
     alloc: Global,
     shards: &Shards<M>,
     walker: &mut Walker<M>,
     shard: u32,
+    is_home: bool,
     pace: &P,
     met: &mut Met,
 ) -> Result<(), RoundError>
@@ -86,22 +88,32 @@ pub(crate) fn flush<M: Flier, P: Pace, R: Wait>(
     ensures walker { IsWalker shards.now walker.new × IsSameWalker walker.old walker.new }
     ensures flush { Rounded walker.old.number walker.old.clock walker.old.passes.items result walker.new.clock walker.new.passes.items }
 {
-    match shards.writing.get(shard as usize) {
-        Some(writing) => match writing.try_lock() {
-            Some(_writer) => flush_now(rt, alloc, shards, walker, shard, pace, met),
-            None => {
-                met.away = Some(shard);
-                Ok(())
+    let Some(gate) = shards.batches.get(shard as usize) else {
+        return flush_now(rt, alloc, shards, walker, shard, pace, met);
+    };
+    match gate.try_write() {
+        Ok(writer) => {
+            if is_home {
+                writer.let_others_in(rt);
             }
-        },
-        None => flush_now(rt, alloc, shards, walker, shard, pace, met),
+            flush_now(rt, alloc, shards, walker, shard, pace, met)
+        }
+        Err(batch) => {
+            met.away = Some((shard, batch));
+            Ok(())
+        }
     }
 }
 
 // Sleeps until whoever writes a batch of the shard has it written.
-pub(crate) fn await_writer<M: Machine, R: Wait>(rt: &R, shards: &Shards<M>, shard: u32) {
-    if let Some(writing) = shards.writing.get(shard as usize) {
-        let _writer = writing.lock(rt);
+pub(crate) fn await_writer<M: Machine, R: Wait>(
+    rt: &R,
+    shards: &Shards<M>,
+    shard: u32,
+    batch: Batch,
+) {
+    if let Some(gate) = shards.batches.get(shard as usize) {
+        gate.sleep(rt, batch);
     }
 }
 

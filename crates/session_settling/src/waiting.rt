@@ -9,8 +9,9 @@ use crossbeam_utils::Backoff;
 use io_edge::Pace;
 use machine_calls::{Flier, Machine};
 use session_progress::Place;
-use session_rounds::{RoundError, round};
+use session_rounds::{RoundError, round_for};
 use std::alloc::Global;
+use std::array;
 use std::sync::Wait;
 
 // What the walker knows to be durable at the home.
@@ -71,7 +72,6 @@ pub(crate) fn pass_round<M: Flier, P: Pace, R: Wait>(
     ensures round { Rounded walker.old.number walker.old.clock walker.old.passes.items result walker.new.clock walker.new.passes.items }
     ensures stands { IsStanding shards.now walker.new place.now home }
 {
-    let _place = place;
-    let _home = home;
-    round(rt, alloc, shards, walker, pace)
+    let own = array::from_fn(|shard| place.seen(shard as u32).is_some());
+    round_for(rt, alloc, shards, walker, home, &own, pace)
 }

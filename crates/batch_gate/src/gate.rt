@@ -1,0 +1,98 @@
+// The gate before a log's batches.
+use std::sync::atomic::{AtomicU64, Ordering};
+use std::sync::{Mutex, MutexGuard, Wait};
+use std::time::Duration;
+
+// How often a writer naps at most until others sleep, and how many microseconds each time.
+const NAPS: u32 = 4;
+
+const NAP: u64 = 100;
+
+/// The gate before a log's batches. Threads share it.
+#[derive(Drop)]
+pub struct BatchGate {
+    // Held by who writes.
+    writing: Mutex<()>,
+    // How many batches were written.
+    written: AtomicU64,
+    // How many have begun to sleep since the last one was.
+    asleep: AtomicU64,
+    // How many slept on that one.
+    slept: AtomicU64,
+}
+
+/// The right to write the next batch, until it is dropped; then all that sleep go on.
+pub struct Writer<'a> {
+    gate: &'a BatchGate,
+    guard: MutexGuard<'a, ()>,
+}
+
+/// A batch that another writes.
+#[derive(Clone, Copy, Debug)]
+pub struct Batch {
+    written: u64,
+}
+
+// The half of a word that a sleeper tells, so that it doesn't sleep where the word has changed.
+fn low(word: u64) -> u32 {
+    (word % (1 << 32)) as u32
+}
+
+impl BatchGate {
+    /// A gate of a log of which nobody writes a batch.
+    pub const fn new() -> BatchGate {
+        BatchGate {
+            writing: Mutex::new(()),
+            written: AtomicU64::new(0),
+            asleep: AtomicU64::new(0),
+            slept: AtomicU64::new(0),
+        }
+    }
+
+    /// The right to write the next batch, or the batch that another writes.
+    pub fn try_write(&self) -> Result<Writer<'_>, Batch> {
+        let written = self.written.load(Ordering::SeqCst);
+        match self.writing.try_lock() {
+            Some(guard) => Ok(Writer { gate: self, guard }),
+            None => Err(Batch { written }),
+        }
+    }
+
+    /// Sleeps until a batch that another writes is written. It may also return for no reason.
+    pub fn sleep<R: Wait>(&self, rt: &R, batch: Batch) {
+        if self.written.load(Ordering::SeqCst) != batch.written {
+            return;
+        }
+        let before = self.asleep.fetch_add(1, Ordering::SeqCst);
+        if self.slept.load(Ordering::SeqCst) <= before.saturating_add(1) {
+            self.asleep.wake_all();
+        }
+        self.written.park(rt, low(batch.written));
+    }
+}
+
+impl Writer<'_> {
+    /// Naps until as many sleep as slept on the batch before, for some 400 microseconds at most.
+    pub fn let_others_in<R: Wait>(&self, rt: &R) {
+        let nap = Duration::from_micros(NAP);
+        for _ in 0..NAPS {
+            let asleep = self.gate.asleep.load(Ordering::SeqCst);
+            if self.gate.slept.load(Ordering::SeqCst) <= asleep {
+                return;
+            }
+            self.gate.asleep.park_timeout(rt, low(asleep), nap);
+        }
+    }
+}
+
+impl Drop for Writer<'_> {
+    fn drop(self) {
+        let Writer { gate, guard } = self;
+        let asleep = gate.asleep.swap(0, Ordering::SeqCst);
+        gate.slept.store(asleep, Ordering::SeqCst);
+        // Who finds the guard taken has read the count before: it must not rise while the guard is held, or nobody would wake that one.
+        drop(guard);
+        gate.written.fetch_add(1, Ordering::SeqCst);
+        gate.written.wake_all();
+    }
+}
