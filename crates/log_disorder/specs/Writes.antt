@@ -1,23 +1,26 @@
 -- Tables of UPDATEs, read as functions.
-use Rattle.std.specs.Prelude.{◌≡◌, ℕ, Bool, false, not, Option, Some, None, if◌then◌else◌, ◌==◌}
-use Rattle.std.specs.Ordering.{nat_cmp}
-use Rattle.std.specs.BTreeMap as tree
+use Rattle.std.specs.Prelude.{◌≡◌, ℕ, Bool, false, not, List, Option, Some, None, unwrap_or, slice_index_or, if◌then◌else◌, ◌==◌}
+use Rattle.std.specs.HashMap as hash
 use Rattle.clv_base.specs.declared.names.TxId.{TxId}
-use Rattle.clv_base.specs.Orders.{tx_cmp, tx_same}
+use Rattle.clv_base.specs.Orders.{tx_same, tx_get}
 pub use Rattle.log_disorder.specs.declared.writes.Write.{Write}
 pub use Rattle.log_disorder.specs.declared.writes.Writes.{Writes}
+
+-- the row at a place, if there is one
+abbrev pub row_in : List (Option Write) → ℕ → Option Write
+row_in rows n = slice_index_or rows n None
 
 -- the UPDATE at an LSN, if one is known there
 abbrev pub write_at : Writes → Option ℕ → Option Write
 write_at m None = None
-write_at m (Some n) = tree.get nat_cmp m.rows n
+write_at m (Some n) = row_in m.rows.items n
 
 -- the LSN of the newest that stands at a key, and of a transaction
 abbrev pub top_at : Writes → ℕ → Option ℕ
-top_at m key = tree.get nat_cmp m.tops key
+top_at m key = hash.get (◌==◌) m.tops key
 
 abbrev pub newest_by : Writes → TxId → Option ℕ
-newest_by m tx = tree.get tx_cmp m.newest tx
+newest_by m tx = unwrap_or (tx_get tx m.newest.rows) None
 
 -- the first one down that isn't the transaction's, from the one below its write; and whether it is that one
 abbrev pub foreign_below : TxId → Option Write → Option ℕ

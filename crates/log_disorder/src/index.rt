@@ -1,5 +1,6 @@
 // What is known of the records of a log so far.
 
+use crate::Memory;
 use crate::listers::Listers;
 use crate::writes::Writes;
 use log_facts::{LogFacts, TxSet};
@@ -20,33 +21,33 @@ pub struct Index {
 }
 
 impl Index {
-    ghost use Rattle.std.specs.Prelude.{◌≡◌, ℕ, None, Some, []};
+    ghost use Rattle.std.specs.Prelude.{◌≡◌, ℕ, None, Some, [], IfOk};
     ghost use Rattle.clv_base.specs.declared.names.TxId.{TxId as Tx};
     ghost use Rattle.log_facts.specs.Facts.{Knows};
     ghost use Rattle.log_disorder.specs.Writes.{write_at, top_at, newest_by};
     ghost use Rattle.log_disorder.specs.Listers.{last_of};
 
-    // Of no record.
-    pub fn new(alloc: Global, shard: u32) -> Self
-        ensures shard { result.shard ≡ shard }
-        ensures last { result.last ≡ None }
-        ensures restart_at { result.restart_at ≡ 0 }
-        ensures facts { Knows result.facts [] }
-        ensures rows { (k : ℕ) → write_at result.writes (Some k) ≡ None }
-        ensures tops { (k : ℕ) → top_at result.writes k ≡ None }
-        ensures newest { (t : Tx) → newest_by result.writes t ≡ None }
-        ensures all { result.listers.all.items ≡ [] }
-        ensures listers { (t : Tx) → last_of result.listers t ≡ None }
-        ensures barring { result.barring ≡ [] }
+    // Of no record, with room for the UPDATEs of a log of so many.
+    pub fn new(alloc: Global, shard: u32, count: usize) -> Result<Self, Memory>
+        ensures shard { IfOk result (λ x. x.shard ≡ shard) }
+        ensures last { IfOk result (λ x. x.last ≡ None) }
+        ensures restart_at { IfOk result (λ x. x.restart_at ≡ 0) }
+        ensures facts { IfOk result (λ x. Knows x.facts []) }
+        ensures rows { IfOk result (λ x. (k : ℕ) → write_at x.writes (Some k) ≡ None) }
+        ensures tops { IfOk result (λ x. (k : ℕ) → top_at x.writes k ≡ None) }
+        ensures newest { IfOk result (λ x. (t : Tx) → newest_by x.writes t ≡ None) }
+        ensures all { IfOk result (λ x. x.listers.all.items ≡ []) }
+        ensures listers { IfOk result (λ x. (t : Tx) → last_of x.listers t ≡ None) }
+        ensures barring { IfOk result (λ x. x.barring ≡ []) }
     {
-        Index {
+        Ok(Index {
             shard,
             last: None,
             restart_at: 0,
             facts: LogFacts::new(alloc),
-            writes: Writes::new(alloc),
+            writes: Writes::new(alloc, count)?,
             listers: Listers::new(alloc),
             barring: TxSet::new(alloc),
-        }
+        })
     }
 }

@@ -1,11 +1,12 @@
 // The UPDATEs that stand, linked by key and by transaction.
 
-ghost use Rattle.std.specs.Prelude.{◌≡◌};
-ghost use Rattle.log_disorder.specs.Writes.{foreign_below, covers_foreign};
+ghost use Rattle.std.specs.Prelude.{◌≡◌, ℕ, Some, OnOk, if◌then◌else◌, ◌==◌};
+ghost use Rattle.log_disorder.specs.Writes.{foreign_below, covers_foreign, row_in};
 
 use clv_base::names::TxId;
 use std::alloc::{AllocError, Global};
-use std::collections::BTreeMap;
+use std::collections::HashMap;
+use tx_table::TxTable;
 
 // An UPDATE, and where others of its key and of its transaction stand when it is written.
 #[derive(Clone, Copy, Debug)]
@@ -23,12 +24,12 @@ pub struct Write {
     pub earlier: Option<u64>,
 }
 
-// The UPDATEs by LSN, and the newest that stands of each key and of each transaction.
+// The UPDATEs, each at the place that is its LSN, and the newest that stands of each key and of each transaction.
 #[derive(Drop)]
 pub struct Writes {
-    pub rows: BTreeMap<u64, Write>,
-    pub tops: BTreeMap<u64, u64>,
-    pub newest: BTreeMap<TxId, u64>,
+    pub rows: Vec<Option<Write>>,
+    pub tops: HashMap<u64, u64>,
+    pub newest: TxTable<Option<u64>>,
 }
 
 // The first one down that isn't this transaction's.
@@ -50,28 +51,50 @@ fn is_foreign(tx: TxId, below: Option<Write>) -> bool
     }
 }
 
+// The UPDATE at a place, if there is one.
+fn row_at(rows: &[Option<Write>], at: usize) -> Option<Write>
+    ensures { result ≡ row_in rows.now at }
+{
+    if at < rows.len() { rows[at] } else { None }
+}
+
+// An UPDATE at a place, with none at those before it that weren't there yet.
+fn put_row(rows: &mut Vec<Option<Write>>, at: usize, write: Write) -> Result<(), AllocError>
+    ensures { OnOk result ((k : ℕ) → row_in rows.new.items k ≡ (if at == k then Some write else row_in rows.old.items k)) }
+{
+    let Some(end) = at.checked_add(1) else {
+        return Err(AllocError);
+    };
+    if rows.len() < end {
+        rows.resize(end, None)?;
+    }
+    rows[at] = Some(write);
+    Ok(())
+}
+
 impl Writes {
-    ghost use Rattle.std.specs.Prelude.{◌≡◌, ℕ, None, Some, OnOk, if◌then◌else◌, ◌==◌};
+    ghost use Rattle.std.specs.Prelude.{◌≡◌, ℕ, None, Some, IfOk, OnOk, if◌then◌else◌, ◌==◌};
     ghost use Rattle.clv_base.specs.declared.names.TxId.{TxId as Tx};
     ghost use Rattle.clv_base.specs.Orders.{tx_same};
     ghost use Rattle.log_disorder.specs.Writes.{write_at, top_at, newest_by, linked, Pushes, Pops};
 
-    pub fn new(alloc: Global) -> Self
-        ensures rows { (k : ℕ) → write_at result (Some k) ≡ None }
-        ensures tops { (k : ℕ) → top_at result k ≡ None }
-        ensures newest { (t : Tx) → newest_by result t ≡ None }
+    // Of no UPDATE, with room for those of a log of so many records.
+    pub fn new(alloc: Global, count: usize) -> Result<Self, AllocError>
+        ensures rows { IfOk result (λ w. (k : ℕ) → write_at w (Some k) ≡ None) }
+        ensures tops { IfOk result (λ w. (k : ℕ) → top_at w k ≡ None) }
+        ensures newest { IfOk result (λ w. (t : Tx) → newest_by w t ≡ None) }
     {
-        Writes {
-            rows: BTreeMap::new(alloc),
-            tops: BTreeMap::new(alloc),
-            newest: BTreeMap::new(alloc),
-        }
+        Ok(Writes {
+            rows: Vec::with_capacity(alloc, count)?,
+            tops: HashMap::new(alloc),
+            newest: TxTable::new(alloc),
+        })
     }
 
     pub fn at(&self, lsn: Option<u64>) -> Option<Write>
         ensures { result ≡ write_at self.now lsn }
     {
-        self.rows.get(&lsn?).copied()
+        row_at(&self.rows, lsn? as usize)
     }
 
     // The LSN of the newest UPDATE that stands at a key, and of a transaction.
@@ -84,7 +107,7 @@ impl Writes {
     pub fn newest_of(&self, tx: TxId) -> Option<u64>
         ensures { result ≡ newest_by self.now tx }
     {
-        self.newest.get(&tx).copied()
+        self.newest.get(tx).unwrap_or(None)
     }
 
     fn set_row(&mut self, write: Write) -> Result<(), AllocError>
@@ -92,8 +115,7 @@ impl Writes {
         ensures tops { self.new.tops ≡ self.old.tops }
         ensures newest { self.new.newest ≡ self.old.newest }
     {
-        self.rows.insert(write.lsn, write)?;
-        Ok(())
+        put_row(&mut self.rows, write.lsn as usize, write)
     }
 
     fn set_top(&mut self, key: u64, at: Option<u64>) -> Result<(), AllocError>
@@ -117,14 +139,10 @@ impl Writes {
         ensures rows { self.new.rows ≡ self.old.rows }
         ensures tops { self.new.tops ≡ self.old.tops }
     {
-        match at {
-            None => {
-                self.newest.remove(&tx);
-            }
-            Some(lsn) => {
-                self.newest.insert(tx, lsn)?;
-            }
+        if self.newest.room() == 0 {
+            self.newest.reserve(1)?;
         }
+        self.newest.set(tx, at);
         Ok(())
     }
 

@@ -1,6 +1,6 @@
 // What a log says of all transactions.
 
-ghost use Rattle.std.specs.Prelude.{◌≡◌, List, ◌∷◌, ◌++◌, [], length, IfOk, OnOk, OnErr, if◌then◌else◌};
+ghost use Rattle.std.specs.Prelude.{◌≡◌, ◌<◌, List, ◌∷◌, ◌++◌, [], length, IfOk, OnOk, OnErr, if◌then◌else◌};
 ghost use Rattle.clv_base.specs.declared.names.TxId.{TxId as Tx};
 ghost use Rattle.clv_base.specs.declared.logs.LogRecord.{LogRecord as Record};
 ghost use Rattle.clv_base.specs.Orders.{tx_same, tx_get, tx_put};
@@ -11,27 +11,39 @@ use crate::facts::{TxFacts, owner};
 use clv_base::logs::LogRecord;
 use clv_base::names::TxId;
 use std::alloc::{AllocError, Global};
-use std::collections::BTreeMap;
 use std::marker::Model;
+use tx_table::TxTable;
 
-fn row_of(rows: &BTreeMap<TxId, TxFacts>, tx: TxId) -> TxFacts
-    ensures { result ≡ known rows.now.entries tx }
+fn row_of(rows: &TxTable<TxFacts>, tx: TxId) -> TxFacts
+    ensures { result ≡ known rows.now.rows tx }
 {
-    rows.get(&tx).copied().unwrap_or(TxFacts::unnamed())
+    rows.get(tx).unwrap_or(TxFacts::unnamed())
 }
 
-fn set_row(rows: &mut BTreeMap<TxId, TxFacts>, tx: TxId, facts: TxFacts) -> Result<(), AllocError>
-    ensures set { OnOk result ((t : Tx) → known rows.new.entries t ≡ (if tx_same tx t then facts else known rows.old.entries t)) }
-    ensures err { OnErr result (rows.new.entries ≡ rows.old.entries) }
+fn make_room(rows: &mut TxTable<TxFacts>) -> Result<(), AllocError>
+    ensures room { OnOk result (0 < rows.new.room) }
+    ensures same { (t : Tx) → tx_get t rows.new.rows ≡ tx_get t rows.old.rows }
+    ensures err { OnErr result (rows.new.rows ≡ rows.old.rows) }
 {
-    rows.insert(tx, facts)?;
+    if rows.room() == 0 {
+        rows.reserve(1)?;
+    }
+    Ok(())
+}
+
+fn set_row(rows: &mut TxTable<TxFacts>, tx: TxId, facts: TxFacts) -> Result<(), AllocError>
+    ensures set { OnOk result ((t : Tx) → known rows.new.rows t ≡ (if tx_same tx t then facts else known rows.old.rows t)) }
+    ensures err { OnErr result (rows.new.rows ≡ rows.old.rows) }
+{
+    make_room(rows)?;
+    rows.set(tx, facts);
     Ok(())
 }
 
 /// What a log says of each transaction.
 #[derive(Drop)]
 pub struct LogFacts {
-    rows: BTreeMap<TxId, TxFacts>,
+    rows: TxTable<TxFacts>,
 }
 
 impl Model for LogFacts {
@@ -40,7 +52,7 @@ impl Model for LogFacts {
 
     ghost Value = { Table Facts };
 
-    ghost view = { λ f. f.rows.entries };
+    ghost view = { λ f. f.rows.rows };
 }
 
 impl LogFacts {
@@ -49,7 +61,7 @@ impl LogFacts {
         ensures { Knows result [] }
     {
         LogFacts {
-            rows: BTreeMap::new(alloc),
+            rows: TxTable::new(alloc),
         }
     }
 

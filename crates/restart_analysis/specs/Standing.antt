@@ -1,10 +1,9 @@
 -- How many UPDATEs of a transaction stand, and who has some.
 use Rattle.std.specs.Prelude.{ℕ, ◌+◌, ◌-◌, nat_lt, List, [], ◌∷◌, unwrap_or, if◌then◌else◌}
-use Rattle.std.specs.BTreeMap as tree
 use Rattle.clv_base.specs.declared.names.TxId.{TxId}
 use Rattle.clv_base.specs.declared.logs.LogRecord.{LogRecord}
 use Rattle.clv_base.specs.declared.logs.LogRecord.TheVariants.{Update, Clr}
-use Rattle.clv_base.specs.Orders.{tx_cmp, tx_same, tx_insert}
+use Rattle.clv_base.specs.Orders.{tx_same, tx_get, tx_insert}
 use Rattle.clv_base.specs.Logs.{StandingUpdate}
 pub use Rattle.restart_analysis.specs.declared.standing.Counts.{Counts}
 
@@ -15,7 +14,7 @@ number_of t (w ∷ ws) = if tx_same t w.tx then number_of t ws + 1 else number_o
 
 -- what a table has for a transaction
 abbrev pub count_in : Counts → TxId → ℕ
-count_in c t = unwrap_or (tree.get tx_cmp c.rows t) 0
+count_in c t = unwrap_or (tx_get t c.rows.rows) 0
 
 -- the numbers after one more record
 abbrev pub count_after : LogRecord → (TxId → ℕ) → TxId → ℕ

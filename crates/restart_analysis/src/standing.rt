@@ -9,12 +9,12 @@ use clv_base::logs::LogRecord;
 use clv_base::names::TxId;
 use log_facts::TxSet;
 use std::alloc::Global;
-use std::collections::BTreeMap;
+use tx_table::TxTable;
 
 // How many UPDATEs of each transaction stand: a CLR compensates one of its transaction.
 #[derive(Drop)]
 pub struct Counts {
-    pub rows: BTreeMap<TxId, usize>,
+    pub rows: TxTable<usize>,
 }
 
 impl Counts {
@@ -27,13 +27,16 @@ impl Counts {
     fn of(&self, tx: TxId) -> usize
         ensures { result ≡ count_in self.now tx }
     {
-        self.rows.get(&tx).copied().unwrap_or(0)
+        self.rows.get(tx).unwrap_or(0)
     }
 
     fn set(&mut self, tx: TxId, count: usize) -> Result<(), Memory>
         ensures { OnOk result ((t : Tx) → count_in self.new t ≡ (if tx_same tx t then count else count_in self.old t)) }
     {
-        self.rows.insert(tx, count)?;
+        if self.rows.room() == 0 {
+            self.rows.reserve(1)?;
+        }
+        self.rows.set(tx, count);
         Ok(())
     }
 
@@ -60,7 +63,7 @@ impl Counts {
         ensures { IfOk result (λ c. (t : Tx) → count_in c t ≡ number_of t (standing records.now)) }
     {
         let mut counts = Counts {
-            rows: BTreeMap::new(alloc),
+            rows: TxTable::new(alloc),
         };
         for (lsn, r) in records.iter().enumerate() {
             counts.add(lsn, r)?;

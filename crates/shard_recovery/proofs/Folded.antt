@@ -127,6 +127,17 @@ ghosts_alike ts us h (Abort tx ∷ xs) rs = ghosts_alike ts us h xs rs
 ghosts_alike ts us h (End tx ∷ xs) rs = ghosts_alike ts us h xs rs
 ghosts_alike ts us h (Restart run epoch ∷ xs) rs = ghosts_alike ts us h xs rs
 
+pub ghosts_of_nobody : (txs : List TxId) (xs : List LogRecord) (rs : Records) → txs ≡ [] → rs ≡ with_ghosts txs xs rs
+ghosts_of_nobody txs [] rs none = refl
+ghosts_of_nobody txs (Update tx key before after ∷ xs) rs none =
+    ghosts_of_nobody txs xs rs none ∙ ap (λ b. with_ghosts txs xs (cond b (ghost_if_absent key rs (found_at key rs)) rs)) (sym (ap (tx_in tx) none))
+ghosts_of_nobody txs (Clr tx undo_next key after ∷ xs) rs none = ghosts_of_nobody txs xs rs none
+ghosts_of_nobody txs (Prepare tx home predecessors ∷ xs) rs none = ghosts_of_nobody txs xs rs none
+ghosts_of_nobody txs (Commit tx parts ∷ xs) rs none = ghosts_of_nobody txs xs rs none
+ghosts_of_nobody txs (Abort tx ∷ xs) rs none = ghosts_of_nobody txs xs rs none
+ghosts_of_nobody txs (End tx ∷ xs) rs none = ghosts_of_nobody txs xs rs none
+ghosts_of_nobody txs (Restart run epoch ∷ xs) rs none = ghosts_of_nobody txs xs rs none
+
 -- ---- who wins
 
 pub wins_known : (m : Table TxFacts) (log : List LogRecord) (doubtful : List TxId) (t : TxId) → Knows m log → (is_some (known m t).commit || tx_in t doubtful) ≡ wins_in log doubtful t

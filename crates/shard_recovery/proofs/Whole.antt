@@ -1,11 +1,11 @@
 -- The whole log of a restart.
-use Rattle.std.proofs.Common.{◌≡◌, ℕ, ◌≤◌, Bool, true, false, cond, not, List, [], ◌∷◌, ◌++◌, length, sym, ap, ◌∙◌, append_assoc, arith}
+use Rattle.std.proofs.Common.{◌≡◌, ℕ, ◌≤◌, Bool, true, false, cond, not, List, [], ◌∷◌, ◌++◌, length, refl, sym, ap, ◌∙◌, append-nil, append_assoc, arith}
 use Rattle.std.specs.List.{filter}
 use Rattle.clv_base.specs.declared.names.TxId.{TxId}
 use Rattle.clv_base.specs.declared.logs.LogRecord.{LogRecord}
 use Rattle.clv_base.specs.declared.logs.LogRecord.TheVariants.{Restart}
 use Rattle.clv_base.specs.Orders.{Table}
-use Rattle.clv_base.specs.Logs.{standing, aborted_in}
+use Rattle.clv_base.specs.Logs.{StandingUpdate, standing, aborted_in}
 use Rattle.clv_base.specs.Undo.{clrs_of}
 use Rattle.clv_base.specs.Restarts.{losers, log_after_restart}
 use Rattle.log_facts.specs.declared.facts.TxFacts.{TxFacts}
@@ -38,3 +38,16 @@ module _ (log mid : List LogRecord) (txs fresh : List TxId) (e : mid ≡ log ++ 
       ∙ ap (λ l. log ++ l) (sym (append_assoc (aborts fresh) (clrs_of txs (standing log)) (Restart run epoch ∷ [])))
       ∙ ap (λ ts. log ++ ((aborts ts ++ clrs_of txs (standing log)) ++ Restart run epoch ∷ [])) some
       ∙ ap (λ ts. log ++ ((aborts (unaborted log ts) ++ clrs_of ts (standing log)) ++ Restart run epoch ∷ [])) all
+
+-- a restart that undoes nobody adds its RESTART alone
+no_clrs : (ws : List StandingUpdate) → clrs_of [] ws ≡ []
+no_clrs [] = refl
+no_clrs (w ∷ ws) = no_clrs ws
+
+nobody : (txs : List TxId) → length txs ≡ 0 → txs ≡ []
+nobody [] none = refl
+nobody (t ∷ ts) none = absurd (omega arith)
+
+pub log_whole_of_nobody : (log : List LogRecord) (losers_found : List TxId) (shard run epoch : ℕ) (after : List LogRecord) → length losers_found ≡ 0 → losers_found ≡ losers shard log → after ≡ log ++ Restart run epoch ∷ [] → after ≡ log_after_restart shard log run epoch
+log_whole_of_nobody log losers_found shard run epoch after none all a =
+    log_whole log log [] [] (sym (append-nil log)) shard run epoch log after (sym (nobody losers_found none) ∙ all) refl (sym (append-nil log) ∙ ap (λ cs. log ++ cs) (sym (no_clrs (standing log)))) a

@@ -36,6 +36,28 @@ fn buffer_of(
     Ok(buffer)
 }
 
+/// The buffer of a log after a restart that undoes nobody: the records found, which are durable, and the RESTART.
+pub(crate) fn add_restart(
+    alloc: Global,
+    records: Vec<LogRecord>,
+    losers: &[TxId],
+    run: u32,
+    epoch: u64,
+) -> Result<LogBuffer<LogRecord>, AllocError>
+    requires nobody { length losers.now ≡ 0 }
+    ensures log { IfOk result (λ b. (shard : ℕ) → losers.now ≡ losers_of shard records.items → b.records ≡ log_after_restart shard records.items run epoch) }
+    ensures fronts { IfOk result (λ b. (b.durable ≡ length records.items) × (b.taken ≡ length records.items)) }
+{
+    let mut buffer = match LogBuffer::from_durable(alloc, records) {
+        Ok(buffer) => buffer,
+        Err(_) => return Err(AllocError),
+    };
+    let last = LogRecord::Restart { run, epoch };
+    buffer.reserve(1)?;
+    buffer.append_reserved(last);
+    Ok(buffer)
+}
+
 /// Does all of a log again in an empty store, undoes the losers, which rise, and gives the buffer of the log: the records found, which are
 /// durable, an ABORT for each loser that has none, the CLRs of their writes that stand, from the greatest LSN down, and the RESTART.
 /// The keys of losers whose writes were the first stay as ghosts. An `Err` leaves the store in the middle of it.

@@ -5,7 +5,7 @@ ghost use Rattle.clv_base.specs.Orders.{tx_cmp};
 ghost use Rattle.clv_base.specs.Logs.{in_doubt};
 ghost use Rattle.clv_base.specs.Restarts.{losers as losers_of, log_after_restart, local_after};
 
-use crate::rebuilding::rebuild;
+use crate::rebuilding::{add_restart, rebuild};
 use crate::winners::fill;
 use clv_base::logs::LogRecord;
 use clv_base::names::TxId;
@@ -14,12 +14,31 @@ use ordered_store::Store;
 use std::alloc::{AllocError, Global};
 use store_blocks::BlockStore;
 
+/// The buffer of the log after a restart. Only to undo losers is the whole log done again, in a store of its own.
+fn rewrite(
+    alloc: Global,
+    records: Vec<LogRecord>,
+    losers: &[TxId],
+    run: u32,
+    epoch: u64,
+) -> Result<LogBuffer<LogRecord>, AllocError>
+    requires rising { IsStrictlySortedBy tx_cmp losers.now }
+    ensures log { IfOk result (λ b. (shard : ℕ) → losers.now ≡ losers_of shard records.items → b.records ≡ log_after_restart shard records.items run epoch) }
+    ensures fronts { IfOk result (λ b. (b.durable ≡ length records.items) × (b.taken ≡ length records.items)) }
+{
+    if losers.is_empty() {
+        return add_restart(alloc, records, losers, run, epoch);
+    }
+    let mut scratch = BlockStore::new(alloc)?;
+    rebuild(alloc, &mut scratch, records, losers, run, epoch)
+}
+
 /// Restarts a shard from the log that was found, whose losers (rising) and transactions in doubt are these. The store, which is empty, gets
 /// the records of the state after a restart: the values that the UPDATEs of the committed and of those in doubt leave, and ghosts at the keys
 /// that those in doubt wrote and that have no value. The buffer that is given has the log after it: the records found, which are durable,
 /// and then what is still to be pushed: an ABORT for each loser that has none, in rising order, the CLRs of the losers' writes that stand,
-/// from the greatest LSN down, and the RESTART. An `Err` leaves the store in the middle of it. To undo the losers the whole log is done
-/// again in a store of its own in blocks, which goes at the return.
+/// from the greatest LSN down, and the RESTART. An `Err` leaves the store in the middle of it. To undo losers, where there are any, the whole
+/// log is done again in a store of its own in blocks, which goes at the return.
 pub fn restart<S: Store>(
     alloc: Global,
     store: &mut S,
@@ -36,6 +55,5 @@ pub fn restart<S: Store>(
     ensures records { IfOk result (λ b. (shard : ℕ) → doubtful.now ≡ in_doubt shard records.items → S.records store.new ≡ (local_after shard epoch (log_after_restart shard records.items run epoch)).records) }
 {
     fill(alloc, store, &records, doubtful)?;
-    let mut scratch = BlockStore::new(alloc)?;
-    rebuild(alloc, &mut scratch, records, losers, run, epoch)
+    rewrite(alloc, records, losers, run, epoch)
 }

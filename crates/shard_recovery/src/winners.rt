@@ -103,7 +103,7 @@ fn haunt_one<S: Store>(store: &mut S, doubtful: &TxSet, found: &LogRecord)
 }
 
 /// Makes a ghost at each key that these wrote and that has no record.
-fn haunt<S: Store>(store: &mut S, doubtful: &TxSet, log: &[LogRecord]) -> Result<(), AllocError>
+fn haunt_all<S: Store>(store: &mut S, doubtful: &TxSet, log: &[LogRecord]) -> Result<(), AllocError>
     ensures ok { OnOk result (S.records store.new ≡ with_ghosts doubtful.now log.now (S.records store.old)) }
 {
     store.reserve(log.len())?;
@@ -111,6 +111,17 @@ fn haunt<S: Store>(store: &mut S, doubtful: &TxSet, log: &[LogRecord]) -> Result
         haunt_one(store, doubtful, found);
     }
     Ok(())
+}
+
+/// The same, and nothing at all where these are none.
+#[tactic(auto, using(crate::proofs::Folded::ghosts_of_nobody))]
+fn haunt<S: Store>(store: &mut S, doubtful: &TxSet, log: &[LogRecord]) -> Result<(), AllocError>
+    ensures ok { OnOk result (S.records store.new ≡ with_ghosts doubtful.now log.now (S.records store.old)) }
+{
+    if doubtful.is_empty() {
+        return Ok(());
+    }
+    haunt_all(store, doubtful, log)
 }
 
 /// Puts the records of a shard whose log is this into an empty store, as a restart leaves them: the values that the UPDATEs of the committed

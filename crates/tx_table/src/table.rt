@@ -23,7 +23,7 @@ impl<V: Copy> Model for TxTable<V> {
 }
 
 impl<V: Copy> TxTable<V> {
-    ghost use Rattle.std.specs.Prelude.{◌≡◌, ◌≤◌, ◌<◌, ◌+◌, None, Some, OnOk, if◌then◌else◌};
+    ghost use Rattle.std.specs.Prelude.{◌≡◌, ◌≤◌, ◌<◌, ◌+◌, None, Some, OnOk, OnErr, if◌then◌else◌};
     ghost use Rattle.clv_base.specs.declared.names.TxId.{TxId as Tx};
     ghost use Rattle.clv_base.specs.Orders.{tx_same, tx_get};
 
@@ -53,6 +53,7 @@ impl<V: Copy> TxTable<V> {
     /// Makes room for the values of so many transactions more. An `Err` leaves all as it was.
     pub fn reserve(&mut self, count: usize) -> Result<(), AllocError>
         ensures ok { OnOk result (count ≤ self.new.room) }
+        ensures err { OnErr result (self.new.rows ≡ self.old.rows) }
         ensures room { self.old.room ≤ self.new.room }
         ensures rows { (t : Tx) → tx_get t self.new.rows ≡ tx_get t self.old.rows }
     {

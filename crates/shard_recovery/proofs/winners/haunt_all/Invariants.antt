@@ -1,6 +1,6 @@
 use Rattle.std.proofs.Common.{◌≡◌, ◌≤◌, ◌+◌, length, drop}
 use Rattle.clv_base.specs.Restarts.{with_ghosts}
-use Rattle.shard_recovery.proofs.winners.haunt.Given as goal
+use Rattle.shard_recovery.proofs.winners.haunt_all.Given as goal
 
 abbrev pub invariant-loop-found : goal.invariant-loop-found
 invariant-loop-found g l = record {
