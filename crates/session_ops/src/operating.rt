@@ -142,7 +142,7 @@ fn try_and_pass<M: Flier, P: Pace, R: Wait>(
 const WAITS_PER_ROUND: u64 = 64;
 
 /// One operation, or part scan, of the active transaction on one shard, until it is answered: while it has to wait it gives way, and makes a round after each
-/// eighth try. Of a session's turns it takes only those of this operation. `Aborted` comes only where one of them died of that cause, and the transaction is
+/// 64th try. Of a session's turns it takes only those of this operation. `Aborted` comes only where one of them died of that cause, and the transaction is
 /// over then; `Down` only where a turn of the call found that shard down, which is the operation's own or comes after a wait; `Worn` only where a turn would
 /// have had a stamp past the last. After these and `Memory` the transaction is active, and its place is as before.
 pub fn operate<M: Flier, P: Pace, R: Wait>(
