@@ -13,7 +13,7 @@ use atomic_table::{Refused, Seat, Table};
 use crossbeam_utils::Backoff;
 use std::alloc::Global;
 use std::snapshot::Snapshot;
-use std::sync::{Mutex, Wait};
+use std::sync::Wait;
 
 /// There was no memory for it.
 #[derive(Drop, Debug)]
@@ -46,10 +46,7 @@ impl<T: Journaled> TurnLock<T> {
         slots.push_reserved(Some(value));
         match Table::new(alloc, &[0, 0, 0], slots, &about) {
             Ok((table, seat)) => {
-                let lock = TurnLock {
-                    table,
-                    door: Mutex::new(()),
-                };
+                let lock = TurnLock { table };
                 let all = lock.deal(seat, passes, all);
                 Ok((lock, all))
             }
@@ -94,7 +91,6 @@ impl<T: Journaled> TurnLock<T> {
     {
         let Pass { mut seat } = pass;
         let shared = &self.table.shared;
-        let _door = self.door.lock(rt);
         let ticket = shared.fetch_add::<DrawTicket>(&mut seat, 0, 1);
         let backoff = Backoff::new();
         for _ in rt.forever() {
@@ -157,7 +153,7 @@ impl<T: Journaled> TurnLock<T> {
         ensures others { (w : ℕ) → All (λ p. number p ≢ w) passes.items → entries_by T.maker w (T.journal result) ≡ [] }
         ensures sound { T.sound result }
     {
-        let TurnLock { table, door: _ } = self;
+        let TurnLock { table } = self;
         let Some(Pass { mut seat }) = passes.pop() else {
             unreachable!()
         };

@@ -7,13 +7,10 @@ use crate::journaled::Journaled;
 use crate::view::{Opening, TurnRule, View};
 use atomic_table::{Seat, Table};
 use std::alloc::Global;
-use std::sync::Mutex;
 
 /// A value that is handed out in turns, one at a time, to the passes that were made with it.
 pub struct TurnLock<T: Journaled> {
     pub(crate) table: Table<Option<T>, View<T::Entry, T::Origin>, Opening<T>, TurnRule<T>, Global>,
-    // Whoever has it waits for the next turn; others that want one sleep on it. No proof rests on it.
-    pub(crate) door: Mutex<()>,
     ghost sized: { (table.shared.table_id.words ≡ 3) × (table.shared.table_id.slots ≡ 1) × (0 < table.shared.key.passes) },
 }
 
