@@ -4,6 +4,7 @@
 //! It stands on `atomic_table`, the proof base for words and slots that threads share.
 #![tactic(auto)]
 
+mod door;
 mod journaled;
 mod lock;
 mod pass;

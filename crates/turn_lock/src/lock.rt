@@ -5,6 +5,7 @@ ghost use Rattle.turn_lock.specs.Journals.{StartsWith, entries_by, durable_of, G
 ghost use Rattle.turn_lock.specs.Rule.{first_view};
 ghost use Rattle.turn_lock.specs.Passes.{number, seen, own, known, turn_known, IsSamePass, turn_number, turn_seen, turn_own, pass_origin, turn_origin, passes_of, IsPassOf, IsTurnOf, IsNewPass};
 
+use crate::door::Door;
 use crate::journaled::Journaled;
 use crate::pass::{Pass, PassOf, Turn, TurnLock, TurnOf};
 use crate::steps::{DrawTicket, JoinAll, LookForTurn, Publish, ReadHorizon, Release, SplitFirst};
@@ -46,7 +47,10 @@ impl<T: Journaled> TurnLock<T> {
         slots.push_reserved(Some(value));
         match Table::new(alloc, &[0, 0, 0], slots, &about) {
             Ok((table, seat)) => {
-                let lock = TurnLock { table };
+                let lock = TurnLock {
+                    table,
+                    door: Door::new(),
+                };
                 let all = lock.deal(seat, passes, all);
                 Ok((lock, all))
             }
@@ -89,6 +93,7 @@ impl<T: Journaled> TurnLock<T> {
         ensures durable { known pass ≤ durable_of T.durable (T.journal result.1) }
         ensures sound { T.sound result.1 }
     {
+        self.door.come_in(rt);
         let Pass { mut seat } = pass;
         let shared = &self.table.shared;
         let ticket = shared.fetch_add::<DrawTicket>(&mut seat, 0, 1);
@@ -119,6 +124,7 @@ impl<T: Journaled> TurnLock<T> {
         let empty = shared.exchange(&mut seat, 0, Some(value));
         let None = empty else { unreachable!() };
         shared.fetch_add::<Release>(&mut seat, 1, 1);
+        self.door.go_out();
         Pass { seat }
     }
 
@@ -153,7 +159,7 @@ impl<T: Journaled> TurnLock<T> {
         ensures others { (w : ℕ) → All (λ p. number p ≢ w) passes.items → entries_by T.maker w (T.journal result) ≡ [] }
         ensures sound { T.sound result }
     {
-        let TurnLock { table } = self;
+        let TurnLock { table, door: _ } = self;
         let Some(Pass { mut seat }) = passes.pop() else {
             unreachable!()
         };

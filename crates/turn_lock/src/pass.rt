@@ -3,6 +3,7 @@ ghost use Rattle.std.specs.Prelude.{◌≡◌, ◌<◌, [], ◌∷◌, true, len
 ghost use Rattle.turn_lock.specs.declared.view.Stage.TheVariants.{Idle};
 ghost use Rattle.turn_lock.specs.Rule.{is_turn};
 
+use crate::door::Door;
 use crate::journaled::Journaled;
 use crate::view::{Opening, TurnRule, View};
 use atomic_table::{Seat, Table};
@@ -11,6 +12,7 @@ use std::alloc::Global;
 /// A value that is handed out in turns, one at a time, to the passes that were made with it.
 pub struct TurnLock<T: Journaled> {
     pub(crate) table: Table<Option<T>, View<T::Entry, T::Origin>, Opening<T>, TurnRule<T>, Global>,
+    pub(crate) door: Door,
     ghost sized: { (table.shared.table_id.words ≡ 3) × (table.shared.table_id.slots ≡ 1) × (0 < table.shared.key.passes) },
 }
 
