@@ -1,7 +1,9 @@
 // The program over disks, sources and sinks in memory. Expected values are worked out by hand.
+mod held;
 
 ghost use Rattle.std.specs.Prelude.{◌≡◌, ◌<◌, ◌≤◌, ℕ, length, false, IfOk};
 
+use self::held::HeldHouse;
 use crate::run;
 use clv_base::names::TxId;
 use disk_memory::{Choice, MemoryDisk, MemoryHouse};
@@ -42,6 +44,12 @@ const UNSETTLED: &[u8; 45] = b"{\"aborted\":0,\"acknowledged\":0,\"unsettled\":1
 // The second of two shards with the split 10, as it is made.
 const SECOND: &[u8; 29] = b"CLVLOG01\x01\0\0\0\x01\0\0\0\x02\0\0\0\x0a\0\0\0\0\0\0\0\0";
 
+// One session puts, and another one reads what it put.
+const MEETING: &[u8; 57] = b"session\nbegin\nput 5 10\ncommit\nsession\nbegin\nget 5\ncommit\n";
+
+const MET: &[u8; 142] =
+    b"{\"ops\":[[\"put\",5,10,null]],\"serial\":1,\"session\":1}\n{\"ops\":[[\"get\",5,10]],\"serial\":1,\"session\":2}\n{\"aborted\":0,\"acknowledged\":2,\"unsettled\":0}\n";
+
 // A disk of these bytes; its calls whose numbers are in `failing` fail.
 fn disk(alloc: Global, bytes: &[u8], failing: &[u64]) -> Result<MemoryDisk, Fail> {
     if bytes.len() > 65536 {
@@ -60,16 +68,18 @@ fn house_of(alloc: Global, bytes: &[u8], failing: &[u64]) -> Result<MemoryHouse,
 }
 
 // Runs the program with these words: its status, and what it wrote.
-fn call<R: Threads + Wait + Sync, P: Pace + Sync>(
+fn call<R: Threads + Wait + Sync, H: House, P: Pace + Sync>(
     rt: &R,
     alloc: Global,
     words: &[&str],
     script: &[u8],
-    house: &mut MemoryHouse,
+    house: &mut H,
     pace: &P,
 ) -> Result<(Status, Vec<u8>), AllocError>
-    requires { (n : ℕ) → n < 16 → ⟦<MemoryHouse as House>⟧.is_out house.old n ≡ false }
-    ensures { (n : ℕ) → n < 16 → ⟦<MemoryHouse as House>⟧.is_out house.new n ≡ false }
+where
+    H::Disk: Send,
+    requires { (n : ℕ) → n < 16 → H.is_out house.old n ≡ false }
+    ensures { (n : ℕ) → n < 16 → H.is_out house.new n ≡ false }
 {
     let mut source = MemorySource::new(alloc, script, 7, &[])?;
     let mut sink = MemorySink::new(alloc, 65536, 5, &[])?;
@@ -198,16 +208,36 @@ fn logs_that_disagree_are_refused(rt: HostRuntime) -> Result<(), Fail> {
     Ok(())
 }
 
-// Holds session 2 before its first operation until a flush of session 1 is out, and that flush until session 2 is answered; writes down as digits, the
-// first one first: 1 the flush is out, 2 session 2 is answered, 3 the flush goes on.
+// Holds session 2 before its first operation until a batch of session 1 is out, and that batch until session 2 is answered; writes down as digits, the
+// first one first: 1 the batch is out, 2 session 2 is answered, 3 the batch goes on. A disk may hold the batch in the pace's place.
 #[derive(Drop)]
 struct Meeting {
+    is_held_by_disk: bool,
     order: AtomicU64,
     is_out: AtomicU64,
     is_answered: AtomicU64,
 }
 
 impl Meeting {
+    fn new(is_held_by_disk: bool) -> Meeting {
+        Meeting {
+            is_held_by_disk,
+            order: AtomicU64::new(0),
+            is_out: AtomicU64::new(0),
+            is_answered: AtomicU64::new(0),
+        }
+    }
+
+    // The first batch waits until session 2 is answered.
+    fn hold(&self) {
+        if self.is_out.load(Ordering::SeqCst) == 0 {
+            self.note(1);
+            self.is_out.store(1, Ordering::SeqCst);
+            await_flag(&self.is_answered);
+            self.note(3);
+        }
+    }
+
     fn note(&self, digit: u64) {
         let so_far = self.order.load(Ordering::SeqCst);
         self.order.store(
@@ -230,14 +260,7 @@ impl Pace for Meeting {
     fn pass(&self, point: Step) {
         match point {
             Step::Begun { session: 2 } => await_flag(&self.is_out),
-            Step::FlushOut { .. } => {
-                if self.is_out.load(Ordering::SeqCst) == 0 {
-                    self.note(1);
-                    self.is_out.store(1, Ordering::SeqCst);
-                    await_flag(&self.is_answered);
-                    self.note(3);
-                }
-            }
+            Step::FlushOut { .. } if !self.is_held_by_disk => self.hold(),
             Step::Answered { session: 2 } => {
                 self.note(2);
                 self.is_answered.store(1, Ordering::SeqCst);
@@ -251,18 +274,26 @@ impl Pace for Meeting {
 fn sessions_run_beside_each_other_while_a_batch_is_written(rt: HostRuntime) -> Result<(), Fail> {
     let alloc = rt.alloc();
     let mut house = house_of(alloc, EMPTY, &[])?;
-    let pace = Meeting {
-        order: AtomicU64::new(0),
-        is_out: AtomicU64::new(0),
-        is_answered: AtomicU64::new(0),
-    };
-    let script = b"session\nbegin\nput 5 10\ncommit\nsession\nbegin\nget 5\ncommit\n";
-    let (status, text) = call(&rt, alloc, &["run"], script, &mut house, &pace)?;
+    let pace = Meeting::new(false);
+    let (status, text) = call(&rt, alloc, &["run"], MEETING, &mut house, &pace)?;
     assert_eq!(rt; status, Status::Fine);
     assert_eq!(rt; pace.order.load(Ordering::SeqCst), 123);
-    let wanted =
-        b"{\"ops\":[[\"put\",5,10,null]],\"serial\":1,\"session\":1}\n{\"ops\":[[\"get\",5,10]],\"serial\":1,\"session\":2}\n{\"aborted\":0,\"acknowledged\":2,\"unsettled\":0}\n";
-    assert_eq!(rt; text.as_slice(), wanted.as_slice());
+    assert_eq!(rt; text.as_slice(), MET.as_slice());
+    Ok(())
+}
+
+#[test]
+fn sessions_run_beside_each_other_while_a_disk_writes(rt: HostRuntime) -> Result<(), Fail> {
+    let alloc = rt.alloc();
+    let pace = Meeting::new(true);
+    let mut house = HeldHouse {
+        house: house_of(alloc, EMPTY, &[])?,
+        pace: &pace,
+    };
+    let (status, text) = call(&rt, alloc, &["run"], MEETING, &mut house, &pace)?;
+    assert_eq!(rt; status, Status::Fine);
+    assert_eq!(rt; pace.order.load(Ordering::SeqCst), 123);
+    assert_eq!(rt; text.as_slice(), MET.as_slice());
     Ok(())
 }
 
