@@ -8,5 +8,7 @@ pub mod Touching
 pub mod Spending
 pub mod Dependents
 pub mod Keys
+pub mod Finished
+pub mod Counting
 pub mod Remaining
 pub mod Laws
