@@ -1,4 +1,4 @@
--- What one voter and one request count: less where their part is finished, and less once what is due of them is done.
+-- What one voter and one request count: less where nothing comes of their part any more, and less once what is due of them is done.
 use Rattle.std.proofs.Common.{◌≡◌, refl, sym, ◌∙◌, ap, subst, ℕ, zero, suc, pred, ◌<◌, ◌≤◌, true, false, cond, Bool, List, [], ◌∷◌, Option, Some, None, not, ◌&&◌, ◌==◌, arith}
 use Rattle.std.proofs.lemmas.Bool.{both_ways}
 use Rattle.std.specs.List.{list_all}
@@ -21,23 +21,23 @@ use Rattle.clv_base.specs.Participant.{vote_by, vote_owed, vote_in_state, gone_v
 use Rattle.clv_base.specs.Coordinator.{others, first_no, is_good, vote_from, cause_by, ruling_in, undecided_ruling, agreed_ruling, refused_ruling, refusal, end_ruling, ruled_request, is_agreed, yes_shards}
 use Rattle.due_laws.specs.Candidates.{is_ruling_due}
 use Rattle.due_laws.specs.Candidates.{is_vote_due}
-use Rattle.due_laws.specs.Left.{is_finished, left_voter, is_lone, left_by, left_request, count_of}
-use Rattle.due_laws.proofs.Finished.{FallsFinished, finished_stage}
+use Rattle.due_laws.specs.Left.{is_finished, is_idle, left_voter, is_lone, left_by, left_request, count_of}
+use Rattle.due_laws.proofs.Finished.{FallsBy, finished_stage, idle_stage}
 use Rattle.due_laws.proofs.Spending.{open_end}
 use Rattle.std.proofs.lemmas.Bool.{and_parts}
-use Rattle.std.proofs.Common.{is_none, is_some}
+use Rattle.std.proofs.Common.{is_none, is_some, ⊎_elim}
 use Rattle.clv_base.specs.Facts.{is_closed_state}
 
--- ---- where a part is finished
+-- ---- where nothing comes of a part any more
 
-pub voter_falls : FallsFinished left_voter
+pub voter_falls : FallsBy left_voter
 voter_falls v = at (is_none v.vote)
   where
     at : (b : Bool) → cond b 0 v.owed ≤ v.owed
     at true = omega arith
     at false = omega arith
 
-pub request_falls : (shard : ℕ) → FallsFinished (left_request shard)
+pub request_falls : (shard : ℕ) → FallsBy (left_request shard)
 request_falls shard q = at q.state (is_lone shard q)
   where
     at : (st : RequestState) (b : Bool) → left_by b st q.is_ended ≤ left_by false st q.is_ended
@@ -84,6 +84,13 @@ given_before f v vote state doom e = owed (v.owed == 0) e
 abbrev pub FactsFinished : Bool → PartFacts → Type 0
 FactsFinished finished f = finished ≡ true → (f.state ≡ GoneState) × (f.doom ≡ None)
 
+-- and of one that is idle: it isn't closed, and no abort took it away
+abbrev pub FactsIdle : Bool → PartFacts → Type 0
+FactsIdle idle f = idle ≡ true → (is_closed_state f.state ≡ false) × (f.doom ≡ None)
+
+pub idle_facts : (s : Shard) (tx : TxId) → FactsIdle (is_idle s.local.parts tx) (facts_of s tx)
+idle_facts s tx e = ⊎_elim (λ h. (ap (λ o. is_closed_state (state_by o)) h, ap doom_by h)) (λ h. (ap (λ o. is_closed_state (state_by o)) h, ap doom_by h)) (idle_stage s.local tx e)
+
 pub finished_facts : (s : Shard) (tx : TxId) → FactsFinished (is_finished s.local.parts tx) (facts_of s tx)
 finished_facts s tx e = let stage = finished_stage s.local tx e in (ap state_by stage, ap doom_by stage)
 
@@ -98,25 +105,25 @@ voted_counts false v vote = refl
 
 -- ---- rulings
 
--- nothing is ruled of a lone request whose part is finished
+-- nothing is ruled of a lone request whose part is idle
 none_of : {X : Type 0} (o : Option X) → is_none o ≡ true → o ≡ None
 none_of None e = refl
 none_of (Some x) e = absurd (both_ways false refl e)
 
-over_none : (shard : ℕ) (tx : TxId) (q : Request) (f : PartFacts) → f.state ≡ GoneState → f.doom ≡ None → is_lone shard q ≡ true → undecided_ruling shard tx q f (is_agreed shard q f) ≡ None
-over_none shard tx q f state doom lone = ap (undecided_ruling shard tx q f) disagreed ∙ ap (refused_ruling shard q) (ap (λ c. cause_by tx c f.doom) no ∙ ap (cause_by tx None) doom)
+over_none : (shard : ℕ) (tx : TxId) (q : Request) (f : PartFacts) → is_closed_state f.state ≡ false → f.doom ≡ None → is_lone shard q ≡ true → undecided_ruling shard tx q f (is_agreed shard q f) ≡ None
+over_none shard tx q f apart doom lone = ap (undecided_ruling shard tx q f) disagreed ∙ ap (refused_ruling shard q) (ap (λ c. cause_by tx c f.doom) no ∙ ap (cause_by tx None) doom)
   where
     no : first_no q.votes ≡ None
     no = none_of (first_no q.votes) (and_parts (is_alone (others shard q.touched)) (is_none (first_no q.votes)) lone).1
 
     disagreed : is_agreed shard q f ≡ false
-    disagreed = ap (λ st. (is_closed_state st && is_none f.commit) && (f.undecided == 0) && list_all (λ p. is_good (vote_from p q.votes)) (others shard q.touched)) state
+    disagreed = ap (λ b. (b && is_none f.commit) && (f.undecided == 0) && list_all (λ p. is_good (vote_from p q.votes)) (others shard q.touched)) apart
 
 -- an undecided request that isn't over and is ruled
-less_undecided : (shard : ℕ) (finished : Bool) (q : Request) (r : RequestState) → q.state ≡ Undecided → (finished && is_lone shard q) ≡ false → ((b : Bool) → left_by b r q.is_ended ≤ 1) → left_request shard finished (record q { state = r }) < left_request shard finished q
-less_undecided shard finished q r u going z =
-    let two : left_by (finished && is_lone shard q) q.state q.is_ended ≡ 2 = ap (λ st. left_by (finished && is_lone shard q) st q.is_ended) u ∙ ap (λ b. left_by b Undecided q.is_ended) going in
-    let one = z (finished && is_lone shard q) in
+less_undecided : (shard : ℕ) (idle : Bool) (q : Request) (r : RequestState) → q.state ≡ Undecided → (idle && is_lone shard q) ≡ false → ((b : Bool) → left_by b r q.is_ended ≤ 1) → left_request shard idle (record q { state = r }) < left_request shard idle q
+less_undecided shard idle q r u going z =
+    let two : left_by (idle && is_lone shard q) q.state q.is_ended ≡ 2 = ap (λ st. left_by (idle && is_lone shard q) st q.is_ended) u ∙ ap (λ b. left_by b Undecided q.is_ended) going in
+    let one = z (idle && is_lone shard q) in
     omega (arith, two, one)
 
 one_most : (b : Bool) → ◌≤◌ (cond b 0 1) 1
@@ -125,56 +132,56 @@ one_most false = omega arith
 
 -- a ruling leaves less to do of the request
 unfoldable pub RulingLess : ℕ → Bool → Request → Option Ruling → Type 0
-RulingLess shard finished q None = Unit {0}
-RulingLess shard finished q (Some r) = left_request shard finished (ruled_request r q) < left_request shard finished q
+RulingLess shard idle q None = Unit {0}
+RulingLess shard idle q (Some r) = left_request shard idle (ruled_request r q) < left_request shard idle q
 
-module _ (shard : ℕ) (finished : Bool) (q : Request) where
-  module _ (u : q.state ≡ Undecided) (going : (finished && is_lone shard q) ≡ false) where
-    less_reader : (b : Bool) → RulingLess shard finished q (cond b (Some Acknowledge) None)
+module _ (shard : ℕ) (idle : Bool) (q : Request) where
+  module _ (u : q.state ≡ Undecided) (going : (idle && is_lone shard q) ≡ false) where
+    less_reader : (b : Bool) → RulingLess shard idle q (cond b (Some Acknowledge) None)
     unfolding RulingLess
-    less_reader true = less_undecided shard finished q Finished u going (λ b. omega arith)
+    less_reader true = less_undecided shard idle q Finished u going (λ b. omega arith)
     less_reader false = tt
 
-    less_agreed : (f : PartFacts) (b : Bool) (ps : List ℕ) → RulingLess shard finished q (agreed_ruling f b ps)
+    less_agreed : (f : PartFacts) (b : Bool) (ps : List ℕ) → RulingLess shard idle q (agreed_ruling f b ps)
     unfolding RulingLess
-    less_agreed f b (p ∷ ps) = less_undecided shard finished q (Committed (p ∷ ps)) u going (λ b. one_most q.is_ended)
-    less_agreed f true [] = less_undecided shard finished q (Committed []) u going (λ b. omega arith)
+    less_agreed f b (p ∷ ps) = less_undecided shard idle q (Committed (p ∷ ps)) u going (λ b. one_most q.is_ended)
+    less_agreed f true [] = less_undecided shard idle q (Committed []) u going (λ b. omega arith)
     less_agreed f false [] = less_reader (has_durable_predecessors f)
 
-    less_refused : (c : Option AbortCause) → RulingLess shard finished q (refused_ruling shard q c)
+    less_refused : (c : Option AbortCause) → RulingLess shard idle q (refused_ruling shard q c)
     unfolding RulingLess
     less_refused None = tt
-    less_refused (Some c) = less_undecided shard finished q (Refused c) u going (λ b. omega arith)
+    less_refused (Some c) = less_undecided shard idle q (Refused c) u going (λ b. omega arith)
 
-    less_by : (tx : TxId) (f : PartFacts) (b : Bool) → RulingLess shard finished q (undecided_ruling shard tx q f b)
+    less_by : (tx : TxId) (f : PartFacts) (b : Bool) → RulingLess shard idle q (undecided_ruling shard tx q f b)
     less_by tx f true = less_agreed f f.updates (yes_shards shard q)
     less_by tx f false = less_refused (refusal tx q f)
 
-  open_one : (p : ℕ) (ps : List ℕ) → q.state ≡ Committed (p ∷ ps) → q.is_ended ≡ false → left_request shard finished q ≡ 1
-  open_one p ps u e = ap (λ st. left_by (finished && is_lone shard q) st q.is_ended) u ∙ ap (λ b. left_by (finished && is_lone shard q) (Committed (p ∷ ps)) b) e
+  open_one : (p : ℕ) (ps : List ℕ) → q.state ≡ Committed (p ∷ ps) → q.is_ended ≡ false → left_request shard idle q ≡ 1
+  open_one p ps u e = ap (λ st. left_by (idle && is_lone shard q) st q.is_ended) u ∙ ap (λ b. left_by (idle && is_lone shard q) (Committed (p ∷ ps)) b) e
 
-  ended_zero : (p : ℕ) (ps : List ℕ) → q.state ≡ Committed (p ∷ ps) → left_by (finished && is_lone shard q) q.state true ≡ 0
-  ended_zero p ps u = ap (λ st. left_by (finished && is_lone shard q) st true) u
+  ended_zero : (p : ℕ) (ps : List ℕ) → q.state ≡ Committed (p ∷ ps) → left_by (idle && is_lone shard q) q.state true ≡ 0
+  ended_zero p ps u = ap (λ st. left_by (idle && is_lone shard q) st true) u
 
-  less_end : (p : ℕ) (ps : List ℕ) (b c : Bool) → q.state ≡ Committed (p ∷ ps) → q.is_ended ≡ b → RulingLess shard finished q (cond (not b && c) (Some EndVerdict) None)
+  less_end : (p : ℕ) (ps : List ℕ) (b c : Bool) → q.state ≡ Committed (p ∷ ps) → q.is_ended ≡ b → RulingLess shard idle q (cond (not b && c) (Some EndVerdict) None)
   unfolding RulingLess
   less_end p ps true c u e = tt
   less_end p ps false true u e = let one = open_one p ps u e in let none = ended_zero p ps u in omega (arith, one, none)
   less_end p ps false false u e = tt
 
-  less_ended : (ps : List ℕ) → q.state ≡ Committed ps → RulingLess shard finished q (end_ruling q ps)
+  less_ended : (ps : List ℕ) → q.state ≡ Committed ps → RulingLess shard idle q (end_ruling q ps)
   unfolding RulingLess
   less_ended [] u = tt
   less_ended (p ∷ ps) u = less_end p ps q.is_ended (list_all (λ n. nat_in n q.acknowledged_by) (p ∷ ps)) u refl
 
-  pub less_in : (tx : TxId) (f : PartFacts) (r : RequestState) → FactsFinished finished f → q.state ≡ r → RulingLess shard finished q (ruling_in shard tx q f r)
+  pub less_in : (tx : TxId) (f : PartFacts) (r : RequestState) → FactsIdle idle f → q.state ≡ r → RulingLess shard idle q (ruling_in shard tx q f r)
   unfolding RulingLess
-  less_in tx f Undecided facts u = at (finished && is_lone shard q) refl
+  less_in tx f Undecided facts u = at (idle && is_lone shard q) refl
     where
-      at : (b : Bool) → (finished && is_lone shard q) ≡ b → RulingLess shard finished q (undecided_ruling shard tx q f (is_agreed shard q f))
+      at : (b : Bool) → (idle && is_lone shard q) ≡ b → RulingLess shard idle q (undecided_ruling shard tx q f (is_agreed shard q f))
       at true e =
-          let both = and_parts finished (is_lone shard q) e in let h = facts both.0 in
-          subst (RulingLess shard finished q) (sym (over_none shard tx q f h.0 h.1 both.1)) tt
+          let both = and_parts idle (is_lone shard q) e in let h = facts both.0 in
+          subst (RulingLess shard idle q) (sym (over_none shard tx q f h.0 h.1 both.1)) tt
       at false e = less_by u e tx f (is_agreed shard q f)
   less_in tx f (Committed ps) facts u = less_ended ps u
   less_in tx f Finished facts u = tt
@@ -182,24 +189,24 @@ module _ (shard : ℕ) (finished : Bool) (q : Request) where
 
 -- ---- who has something due counts
 
-ruled_left : (n : ℕ) (finished : Bool) (tx : TxId) (q : Request) (f : PartFacts) (st : RequestState) → FactsFinished finished f → q.state ≡ st → is_some (ruling_in n tx q f st) ≡ true → 0 < left_request n finished q
-ruled_left n finished tx q f Undecided facts e h = at (finished && is_lone n q) refl
+ruled_left : (n : ℕ) (idle : Bool) (tx : TxId) (q : Request) (f : PartFacts) (st : RequestState) → FactsIdle idle f → q.state ≡ st → is_some (ruling_in n tx q f st) ≡ true → 0 < left_request n idle q
+ruled_left n idle tx q f Undecided facts e h = at (idle && is_lone n q) refl
   where
-    at : (b : Bool) → (finished && is_lone n q) ≡ b → 0 < left_request n finished q
-    at true o = let both = and_parts finished (is_lone n q) o in let g = facts both.0 in absurd (both_ways _ (ap is_some (over_none n tx q f g.0 g.1 both.1)) h)
+    at : (b : Bool) → (idle && is_lone n q) ≡ b → 0 < left_request n idle q
+    at true o = let both = and_parts idle (is_lone n q) o in let g = facts both.0 in absurd (both_ways _ (ap is_some (over_none n tx q f g.0 g.1 both.1)) h)
     at false o =
-        let two : left_request n finished q ≡ 2 = ap (λ st. left_by (finished && is_lone n q) st q.is_ended) e ∙ ap (λ b. left_by b Undecided q.is_ended) o in
+        let two : left_request n idle q ≡ 2 = ap (λ st. left_by (idle && is_lone n q) st q.is_ended) e ∙ ap (λ b. left_by b Undecided q.is_ended) o in
         omega (arith, two)
-ruled_left n finished tx q f (Committed []) facts e h = absurd (both_ways false refl h)
-ruled_left n finished tx q f (Committed (p ∷ ps)) facts e h =
+ruled_left n idle tx q f (Committed []) facts e h = absurd (both_ways false refl h)
+ruled_left n idle tx q f (Committed (p ∷ ps)) facts e h =
     let one = open_end q q.is_ended (list_all (λ k. nat_in k q.acknowledged_by) (p ∷ ps)) refl h in
-    let same : left_request n finished q ≡ cond q.is_ended 0 1 = ap (λ st. left_by (finished && is_lone n q) st q.is_ended) e in omega (arith, one, same)
-ruled_left n finished tx q f Finished facts e h = absurd (both_ways false refl h)
-ruled_left n finished tx q f (Refused c) facts e h = absurd (both_ways false refl h)
+    let same : left_request n idle q ≡ cond q.is_ended 0 1 = ap (λ st. left_by (idle && is_lone n q) st q.is_ended) e in omega (arith, one, same)
+ruled_left n idle tx q f Finished facts e h = absurd (both_ways false refl h)
+ruled_left n idle tx q f (Refused c) facts e h = absurd (both_ways false refl h)
 
-pub request_left : (n : ℕ) (finished : Bool) (tx : TxId) (f : PartFacts) (o : Option Request) → FactsFinished finished f → is_ruling_due n tx f o ≡ true → 0 < count_of (left_request n) finished o
-request_left n finished tx f None facts e = absurd (both_ways false refl e)
-request_left n finished tx f (Some q) facts e = ruled_left n finished tx q f q.state facts refl e
+pub request_left : (n : ℕ) (idle : Bool) (tx : TxId) (f : PartFacts) (o : Option Request) → FactsIdle idle f → is_ruling_due n tx f o ≡ true → 0 < count_of (left_request n) idle o
+request_left n idle tx f None facts e = absurd (both_ways false refl e)
+request_left n idle tx f (Some q) facts e = ruled_left n idle tx q f q.state facts refl e
 
 pub voter_left : (finished : Bool) (f : PartFacts) (o : Option Voter) → FactsFinished finished f → is_vote_due f o ≡ true → 0 < count_of left_voter finished o
 voter_left finished f None facts e = absurd (both_ways false refl e)

@@ -10,5 +10,7 @@ pub mod Dependents
 pub mod Keys
 pub mod Finished
 pub mod Counting
+pub mod Naming
 pub mod Remaining
+pub mod Open
 pub mod Laws

@@ -20,10 +20,10 @@ use Rattle.clv_base.specs.Due.{total, stage_work, part_work, or_else, finish_par
 use Rattle.due_laws.specs.Candidates.{is_ruling_due}
 use Rattle.due_laws.specs.Candidates.{is_commit_due, is_vote_due}
 use Rattle.due_laws.specs.Rooms.{decisions}
-use Rattle.due_laws.specs.Left.{is_finished, left_voter, left_request, left, LeftFalls, OnlyLeftIsDue, MessagesByLeft, RecordsByLeft}
-use Rattle.due_laws.proofs.Finished.{total_by_at, FinishedStay, stay_total, finish_stay, rolled_stay}
+use Rattle.due_laws.specs.Left.{is_finished, is_idle, left_voter, left_request, left, LeftFalls, OnlyLeftIsDue, MessagesByLeft, RecordsByLeft}
+use Rattle.due_laws.proofs.Finished.{total_by_at, PartsStay, stay_total, finish_stay, rolled_stay}
 use Rattle.due_laws.proofs.Deciding.{due_by_facts}
-use Rattle.due_laws.proofs.Counting.{voter_falls, request_falls, owes, finished_facts, vote_counts, voted_counts, RulingLess, less_in, request_left, voter_left}
+use Rattle.due_laws.proofs.Counting.{voter_falls, request_falls, owes, finished_facts, idle_facts, vote_counts, voted_counts, RulingLess, less_in, request_left, voter_left}
 use Rattle.due_laws.proofs.Spending.{closed_work, Sends, sends_first, Writes, writes_first}
 use Rattle.std.proofs.lemmas.Bool.{or_cases, and_parts}
 use Rattle.std.proofs.Common.{length, ⊎_elim}
@@ -74,14 +74,14 @@ gone_closed l tx e = subst (λ o. GoneLess l.parts (gone_in (tx ∷ []) None l.p
 
 -- ---- voters and requests whose parts change
 
--- what is left where parts changed, no more of them are closed, and those stay finished that are
-pub parts_more : (k : ℕ) (s : Shard) (m : Local) → total part_work m.parts ≤ total part_work s.local.parts + k → FinishedStay s.local.parts m.parts → left (record s { local = m }) ≤ left s + k
+-- what is left where parts changed, no more of them are closed, those stay finished that are, and those idle
+pub parts_more : (k : ℕ) (s : Shard) (m : Local) → total part_work m.parts ≤ total part_work s.local.parts + k → PartsStay s.local.parts m.parts → left (record s { local = m }) ≤ left s + k
 parts_more k s m parts stay =
-    let voters = stay_total left_voter s.local.parts m.parts s.voters voter_falls stay in
-    let requests = stay_total (left_request s.shard) s.local.parts m.parts s.requests (request_falls s.shard) stay in
+    let voters = stay_total left_voter (is_finished s.local.parts) (is_finished m.parts) s.voters voter_falls stay.finished in
+    let requests = stay_total (left_request s.shard) (is_idle s.local.parts) (is_idle m.parts) s.requests (request_falls s.shard) stay.idle in
     omega (arith, parts, voters, requests)
 
-pub parts_le : (s : Shard) (m : Local) → total part_work m.parts ≤ total part_work s.local.parts → FinishedStay s.local.parts m.parts → left (record s { local = m }) ≤ left s
+pub parts_le : (s : Shard) (m : Local) → total part_work m.parts ≤ total part_work s.local.parts → PartsStay s.local.parts m.parts → left (record s { local = m }) ≤ left s
 parts_le s m parts stay = let more = parts_more 0 s m (omega (arith, parts)) stay in omega (arith, more)
 
 -- ---- the rules
@@ -97,8 +97,8 @@ at_or_else s (Some t) y p q = p
 commit_less : (s : Shard) (tx : TxId) → stage_of s.local tx ≡ Some Closed → left (with_commit_done s tx) < left s
 commit_less s tx e =
     let stay = finish_stay (tx ∷ []) s.local.parts in let m = gone_in (tx ∷ []) None s.local.parts in
-    let voters = stay_total left_voter s.local.parts m s.voters voter_falls stay in
-    let requests = stay_total (left_request s.shard) s.local.parts m s.requests (request_falls s.shard) stay in
+    let voters = stay_total left_voter (is_finished s.local.parts) (is_finished m) s.voters voter_falls stay.finished in
+    let requests = stay_total (left_request s.shard) (is_idle s.local.parts) (is_idle m) s.requests (request_falls s.shard) stay.idle in
     omega (arith, gone_closed s.local tx e, voters, requests)
 
 commit : (s : Shard) (tx : TxId) (st : Option Stage) → stage_of s.local tx ≡ st → LessLeft s (commit_due s tx st)
@@ -117,7 +117,7 @@ vote_less : (s : Shard) (tx : TxId) (v : Voter) (vote : Vote) → tx_get tx s.vo
 vote_less s tx v vote e a =
     let parts = s.local.parts in let finished = is_finished parts tx in
     let was = vote_counts finished (facts_of s tx) v vote (finished_facts s tx) a in let is = voted_counts finished v vote in
-    omega (arith, total_by_at left_voter parts tx s.voters v (voted vote v) e, was, is, lowered v.owed (owes (facts_of s tx) v (v.owed == 0) vote refl a))
+    omega (arith, total_by_at left_voter (is_finished parts) tx s.voters v (voted vote v) e, was, is, lowered v.owed (owes (facts_of s tx) v (v.owed == 0) vote refl a))
   where
     lowered : (n : ℕ) → 0 < n → pred n + 1 ≡ n
     lowered zero h = absurd (omega arith)
@@ -142,14 +142,14 @@ done_le s tx Acknowledge = finish_le s tx
 done_le s tx (AbortVerdict c to) = rolled_le s tx
 done_le s tx EndVerdict = omega arith
 
-rules : (s : Shard) (tx : TxId) (q : Request) (o : Option Ruling) → tx_get tx s.requests ≡ Some q → RulingLess s.shard (is_finished s.local.parts tx) q o → LessLeft s (rule s tx q o)
+rules : (s : Shard) (tx : TxId) (q : Request) (o : Option Ruling) → tx_get tx s.requests ≡ Some q → RulingLess s.shard (is_idle s.local.parts tx) q o → LessLeft s (rule s tx q o)
 unfolding RulingLess
 rules s tx q None e l = nothing
-rules s tx q (Some r) e l = less (omega (arith, total_by_at (left_request s.shard) s.local.parts tx s.requests q (ruled_request r q) e, l, done_le (with_ruling tx q r s) tx r))
+rules s tx q (Some r) e l = less (omega (arith, total_by_at (left_request s.shard) (is_idle s.local.parts) tx s.requests q (ruled_request r q) e, l, done_le (with_ruling tx q r s) tx r))
 
 request : (s : Shard) (tx : TxId) (o : Option Request) → tx_get tx s.requests ≡ o → LessLeft s (request_due s tx o)
 request s tx None e = nothing
-request s tx (Some q) e = rules s tx q (ruling_by s.shard tx q (facts_of s tx)) e (less_in s.shard (is_finished s.local.parts tx) q tx (facts_of s tx) q.state (finished_facts s tx) refl)
+request s tx (Some q) e = rules s tx q (ruling_by s.shard tx q (facts_of s tx)) e (less_in s.shard (is_idle s.local.parts tx) q tx (facts_of s tx) q.state (idle_facts s tx) refl)
 
 due : (s : Shard) (tx : TxId) → LessLeft s (due_of s tx)
 due s tx =
@@ -183,7 +183,7 @@ only_left_is_due s tx e =
     (λ h. let a = closed_work (stage_of s.local tx) (and_parts (is_closed_state f.state) (has_durable_commit f) h).0 in omega (arith, a))
     (λ h. ⊎_elim
     (λ v. let a = voter_left (is_finished s.local.parts tx) f (tx_get tx s.voters) (finished_facts s tx) v in omega (arith, a))
-    (λ r. let a = request_left s.shard (is_finished s.local.parts tx) tx f (tx_get tx s.requests) (finished_facts s tx) r in omega (arith, a))
+    (λ r. let a = request_left s.shard (is_idle s.local.parts tx) tx f (tx_get tx s.requests) (idle_facts s tx) r in omega (arith, a))
     (or_cases (is_vote_due f (tx_get tx s.voters)) (is_ruling_due s.shard tx f (tx_get tx s.requests)) h))
     (or_cases (is_commit_due f) (is_vote_due f (tx_get tx s.voters) || is_ruling_due s.shard tx f (tx_get tx s.requests)) (sym (due_by_facts s tx) ∙ e))
 

@@ -37,6 +37,7 @@ use Rattle.shard_core.specs.Whole.{IsAtRest}
 use Rattle.shard_core.proofs.Seeing.{single, part_known, doomed_known}
 use Rattle.shard_core.proofs.Logged.{All, logged_more, logged_known, logged_without}
 use Rattle.shard_core.proofs.Changing.{room_kept, without_le, cover_purged}
+use Rattle.due_laws.proofs.Laws.{parts_le, performed_stay}
 use Rattle.shard_core.proofs.Taking.{here_in, without_keys, without_prepares, stage_known, known_doomed}
 use Rattle.shard_core.proofs.Committing.{idle_holds, idle_ready}
 use Rattle.shard_core.proofs.Replied.{Leaves, reply_leaves}
@@ -116,7 +117,7 @@ pub granted_changed : (a : Parts) (tx : TxId) (birth : Birth) (op : Op) (u : TxS
     → Changed (record a { transactions = u; candidates = f }) (record (seen a) { local = performed tx birth op a.transactions.local })
 granted_changed a tx birth op u f rest whole e put limit room pairs kept =
     let s : Shard = seen a in let t = a.transactions in let l = t.local in let V : Shard = record s { local = performed tx birth op l } in let b : Parts = record a { transactions = u; candidates = f } in
-    let new = performed_new tx birth op l in let work = new.work in let count = new.count in let places = whole.candidates.places in
+    let new = performed_new tx birth op l in let count = new.count in let places = whole.candidates.places in
     let w = writes_of op (value_at (key_of op) l.records) in
     let stay = λ (x : TxId) (i : tx_in x (known_keys s) ≡ true). in_more x (keys_of l.parts) (keys_of V.local.parts) (keys_of s.voters ++ keys_of s.requests) new.stay i in
     changed a b V (tx ∷ []) rest whole
@@ -131,7 +132,7 @@ granted_changed a tx birth op u f rest whole e put limit room pairs kept =
       known = λ x i. part_known V x (subst (HasPart V.local.parts) (tx_true tx x (⊎_elim (λ h. h) (λ h. absurd (both_ways false refl h)) (or_cases (tx_same tx x) false (sym (ap (tx_in x) put) ∙ i)))) new.own);
       places = omega (arith, count, places, limit);
     })
-    (room_kept s V t u a.outbox a.outbox (omega (arith, work)) room pairs (omega arith) whole.room)
+    (room_kept s V t u a.outbox a.outbox (parts_le s V.local new.work (performed_stay tx birth op l)) room pairs (omega arith) whole.room)
     rest.ready.requests
     kept
 
@@ -149,7 +150,7 @@ pub dying_changed : (a : Parts) (tx : TxId) (u : TxState) (f : Candidates) → I
     → AreKept (record a { transactions = u; candidates = f }) → Changed (record a { transactions = u; candidates = f }) (record (seen a) { local = without_part tx a.transactions.local })
 dying_changed a tx u f rest whole here e put limit room pairs kept =
     let s : Shard = seen a in let t = a.transactions in let l = t.local in let V : Shard = record s { local = without_part tx l } in let b : Parts = record a { transactions = u; candidates = f } in
-    let own = stage_known s tx here in let work = without_le tx l in
+    let own = stage_known s tx here in
     let noted : (x : TxId) → tx_in x f.txs ≡ tx_in x (doomed_by l tx) = λ x. put x ∙ ap (λ b. cond b (tx_in x (doomed_by l tx)) false) here in
     let places : f.limit ≡ a.candidates.limit = limit ∙ ap (λ b. a.candidates.limit + cond b 0 1) here ∙ omega arith in
     changed a b V (doomed_here l tx) rest whole
@@ -162,7 +163,7 @@ dying_changed a tx u f rest whole here e put limit room pairs kept =
     (subst (λ (x : TxState). All (known_keys V) (drop x.durable (x.local).log)) (sym e)
     (subst (λ ks. All (ks ++ (keys_of s.voters ++ keys_of s.requests)) (drop t.durable (without_part tx l).log)) (sym (without_keys tx l)) (logged_without (known_keys s) tx t.durable l whole.logged)))
     (known_doomed s V tx a.candidates f whole.dependents whole.candidates own (without_keys tx l) refl refl (λ x. noted x ∙ sym (ap (λ b. tx_in x (doomed_by l tx) || b) (ap (tx_in x) rest.none) ∙ or_none (tx_in x (doomed_by l tx)))) places)
-    (room_kept s V t u a.outbox a.outbox (omega (arith, work)) room pairs (omega arith) whole.room)
+    (room_kept s V t u a.outbox a.outbox (without_le s tx) room pairs (omega arith) whole.room)
     rest.ready.requests
     kept
 
