@@ -1,5 +1,5 @@
 -- Each thing that is done leaves less that may still be done: what is over counts for nothing.
-use Rattle.std.proofs.Common.{◌≡◌, refl, sym, ◌∙◌, subst, ℕ, zero, suc, pred, ◌+◌, ◌<◌, ◌≤◌, true, false, cond, Bool, List, [], ◌∷◌, Option, Some, None, ◌||◌, ◌==◌, arith}
+use Rattle.std.proofs.Common.{◌≡◌, refl, sym, ap, ◌∙◌, subst, ℕ, zero, suc, pred, ◌+◌, ◌<◌, ◌≤◌, true, false, cond, Bool, List, [], ◌∷◌, Option, Some, None, ◌||◌, ◌==◌, arith, is_some}
 use Rattle.clv_base.specs.declared.names.TxId.{TxId}
 use Rattle.clv_base.specs.declared.causes.Vote.{Vote}
 use Rattle.clv_base.specs.declared.causes.Vote.TheVariants.{Yes, Read, No}
@@ -20,13 +20,22 @@ use Rattle.clv_base.specs.Due.{total, stage_work, part_work, or_else, finish_par
 use Rattle.due_laws.specs.Candidates.{is_ruling_due}
 use Rattle.due_laws.specs.Candidates.{is_commit_due, is_vote_due}
 use Rattle.due_laws.specs.Rooms.{decisions}
-use Rattle.due_laws.specs.Left.{is_finished, is_idle, left_voter, left_request, left, LeftFalls, OnlyLeftIsDue, MessagesByLeft, RecordsByLeft}
-use Rattle.due_laws.proofs.Finished.{total_by_at, PartsStay, stay_total, finish_stay, rolled_stay}
+use Rattle.std.specs.List.Sorted.{IsStrictlySortedBy}
+use Rattle.std.specs.Map.{keys_of}
+use Rattle.clv_base.specs.declared.names.Birth.{Birth}
+use Rattle.clv_base.specs.declared.ops.Op.{Op}
+use Rattle.clv_base.specs.Orders.{tx_same, tx_cmp}
+use Rattle.clv_base.specs.OneShard.{performed}
+use Rattle.clv_base.proofs.SameNames.{tx_true}
+use Rattle.due_laws.proofs.Naming.{other_total}
+use Rattle.due_laws.specs.Left.{is_over, total_by, is_finished, is_idle, left_voter, left_request, left, LeftFalls, OnlyLeftIsDue, MessagesByLeft, RecordsByLeft}
+use Rattle.due_laws.proofs.Finished.{Stay, finished_stage, performed_known, performed_other, total_by_at, PartsStay, stay_total, finish_stay, rolled_stay}
 use Rattle.due_laws.proofs.Deciding.{due_by_facts}
 use Rattle.due_laws.proofs.Counting.{voter_falls, request_falls, owes, finished_facts, idle_facts, vote_counts, voted_counts, RulingLess, less_in, request_left, voter_left}
 use Rattle.due_laws.proofs.Spending.{closed_work, Sends, sends_first, Writes, writes_first}
 use Rattle.std.proofs.lemmas.Bool.{or_cases, and_parts}
-use Rattle.std.proofs.Common.{length, ⊎_elim}
+use Rattle.std.proofs.Common.{length, ⊎_elim, is_some}
+use Rattle.std.proofs.lemmas.Bool.{both_ways}
 use Rattle.clv_base.specs.Facts.{is_closed_state}
 
 -- where there is a next state, less is left in it
@@ -83,6 +92,37 @@ parts_more k s m parts stay =
 
 pub parts_le : (s : Shard) (m : Local) → total part_work m.parts ≤ total part_work s.local.parts → PartsStay s.local.parts m.parts → left (record s { local = m }) ≤ left s
 parts_le s m parts stay = let more = parts_more 0 s m (omega (arith, parts)) stay in omega (arith, more)
+
+-- a granted operation, unless its part is new and its transaction has a request
+performed_finished : (tx : TxId) (birth : Birth) (op : Op) (l : Local) → Stay (is_finished l.parts) (is_finished (performed tx birth op l).parts)
+performed_finished tx birth op l x e = at (is_some (stage_of l tx)) refl (tx_same x tx) refl
+  where
+    apart : is_some (stage_of l tx) ≡ false → tx_same x tx ≡ true → ⊥
+    apart none s = both_ways _ none (ap is_some (sym (ap (stage_of l) (tx_true x tx s)) ∙ finished_stage l x e))
+
+    at : (b : Bool) → is_some (stage_of l tx) ≡ b → (c : Bool) → tx_same x tx ≡ c → is_finished (performed tx birth op l).parts x ≡ true
+    at true some c s = ap (λ ps. is_finished ps x) (performed_known tx birth op l some) ∙ e
+    at false none true s = absurd (apart none s)
+    at false none false s = ap (is_over false) (performed_other tx birth op l x s) ∙ e
+
+pub performed_le : (s : Shard) (tx : TxId) (birth : Birth) (op : Op) → IsStrictlySortedBy tx_cmp (keys_of s.requests) → total part_work (performed tx birth op s.local).parts ≤ total part_work s.local.parts
+    → (is_some (stage_of s.local tx) ≡ false → tx_get tx s.requests ≡ None) → left (record s { local = performed tx birth op s.local }) ≤ left s
+performed_le s tx birth op rising parts none = omega (arith, parts, voters, requests)
+  where
+    voters : total_by left_voter (is_finished (performed tx birth op s.local).parts) s.voters ≤ total_by left_voter (is_finished s.local.parts) s.voters
+    voters = stay_total left_voter (is_finished s.local.parts) (is_finished (performed tx birth op s.local).parts) s.voters voter_falls (performed_finished tx birth op s.local)
+
+    at : (b : Bool) → is_some (stage_of s.local tx) ≡ b → total_by (left_request s.shard) (is_idle (performed tx birth op s.local).parts) s.requests ≤ total_by (left_request s.shard) (is_idle s.local.parts) s.requests
+    at true some = let same = ap (λ ps. total_by (left_request s.shard) (is_idle ps) s.requests) (performed_known tx birth op s.local some) in omega (arith, same)
+    at false new =
+        other_total (left_request s.shard) (is_idle s.local.parts) (is_idle (performed tx birth op s.local).parts) tx s.requests rising (λ x e. ap (is_over true) (performed_other tx birth op s.local x e))
+        (λ q e. absurd (apart (sym (none new) ∙ e)))
+      where
+        apart : {q : Request} → None ≡ Some q → ⊥
+        apart e = cc
+
+    requests : total_by (left_request s.shard) (is_idle (performed tx birth op s.local).parts) s.requests ≤ total_by (left_request s.shard) (is_idle s.local.parts) s.requests
+    requests = at (is_some (stage_of s.local tx)) refl
 
 -- ---- the rules
 

@@ -24,8 +24,8 @@ use Rattle.clv_base.proofs.SameNames.{or_left, or_right, in_insert, tx_true}
 use Rattle.protocol_laws.specs.UndoLaws.{is_pair}
 use Rattle.due_laws.specs.Changes.{ChangesDue, successors_of}
 use Rattle.due_laws.specs.Depending.{DependentsHaveParts}
-use Rattle.due_laws.specs.Left.{is_finished, is_lone, left_by, left_request, left}
-use Rattle.due_laws.proofs.Laws.{keys_stay, close_keeps, parts_more, put_total_by, FinishedStay, stay_same, closed_stay}
+use Rattle.due_laws.specs.Left.{is_finished, is_idle, is_lone, left_by, left_request, left}
+use Rattle.due_laws.proofs.Laws.{keys_stay, close_keeps, parts_more, put_total_by, PartsStay, stay_same, closed_stay}
 use Rattle.due_loop.specs.Ready.{IsReady}
 use Rattle.due_candidates.specs.Held.{Candidates, HasRoomFor, HasRoomBy}
 use Rattle.due_messages.specs.Sent.{Waiting}
@@ -88,7 +88,7 @@ active_known a tx active = stage_known (seen a) tx (ap is_some active)
 pub record IsLike (k : ℕ) (keys : List TxId) (durable : ℕ) (l m : Local) : Type 0 where
   pub parts : keys_of m.parts ≡ keys_of l.parts
   pub work : total part_work m.parts ≤ total part_work l.parts + k
-  pub stay : FinishedStay l.parts m.parts
+  pub stay : PartsStay l.parts m.parts
   pub dependents : DependentsHaveParts m
   pub logged : All keys (drop durable m.log)
 
@@ -116,8 +116,8 @@ like_closed a tx home one whole active rising =
 -- ---- the parts with it
 
 -- two things more may be done of a new request
-new_most : (shard : ℕ) (finished : Bool) (touched : List (ℕ × ℕ)) → left_request shard finished (new_request touched Undecided) ≤ 2
-new_most shard finished touched = at (finished && is_lone shard (new_request touched Undecided))
+new_most : (shard : ℕ) (idle : Bool) (touched : List (ℕ × ℕ)) → left_request shard idle (new_request touched Undecided) ≤ 2
+new_most shard idle touched = at (idle && is_lone shard (new_request touched Undecided))
   where
     at : (b : Bool) → left_by b Undecided false ≤ 2
     at true = omega arith
@@ -174,7 +174,7 @@ module _ (k : ℕ) (a : Parts) (tx : TxId) (m : Local) (u : TxState) (q : TxRows
       (right_more x (keys_of s.local.parts) (keys_of s.voters ++ keys_of rs) (keys_of s.voters ++ keys_of (tx_put tx new rs))
       (λ i. right_more x (keys_of s.voters) (keys_of rs) (keys_of (tx_put tx new rs)) (put_in tx new x rs) i) e) in
       let own = in_right tx (keys_of m.parts) (keys_of s.voters ++ keys_of (tx_put tx new rs)) (in_right tx (keys_of s.voters) (keys_of (tx_put tx new rs)) (put_own tx new rs)) in
-      let work = parts_more k s m like.work like.stay in let more = put_total_by (left_request s.shard) m.parts tx new rs in let most = new_most s.shard (is_finished m.parts tx) touched in
+      let work = parts_more k s m like.work like.stay in let more = put_total_by (left_request s.shard) (is_idle m.parts) tx new rs in let most = new_most s.shard (is_idle m.parts tx) touched in
       let lefts : left V ≤ left s + (k + 2) = omega (arith, work, more, most) in
       let count = put_most tx new rs in let places = whole.candidates.places in let limit = turns.limit in
       let parts = sym (keys_length m.parts) ∙ ap length like.parts ∙ keys_length s.local.parts in
@@ -206,7 +206,7 @@ module _ (k : ℕ) (a : Parts) (tx : TxId) (m : Local) (u : TxState) (q : TxRows
       (right_more x (keys_of s.local.parts) (keys_of vs ++ keys_of s.requests) (keys_of (tx_put tx new vs) ++ keys_of s.requests)
       (λ i. left_more x (keys_of vs) (keys_of (tx_put tx new vs)) (keys_of s.requests) (put_in tx new x vs) i) e) in
       let own = in_right tx (keys_of m.parts) (keys_of (tx_put tx new vs) ++ keys_of s.requests) (in_left tx (keys_of (tx_put tx new vs)) (keys_of s.requests) (put_own tx new vs)) in
-      let work = parts_more k s m like.work like.stay in let more = asked_total m.parts tx home epoch vs rising in
+      let work = parts_more k s m like.work like.stay in let more = asked_total (is_finished m.parts) tx home epoch vs rising in
       let lefts : left V ≤ left s + (k + 1) = omega (arith, work, more) in
       let most = put_most tx new vs in let places = whole.candidates.places in let limit = turns.limit in
       let parts = sym (keys_length m.parts) ∙ ap length like.parts ∙ keys_length s.local.parts in

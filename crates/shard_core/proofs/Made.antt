@@ -17,7 +17,7 @@ use Rattle.clv_base.specs.Participant.{restored_voter, restored_voters}
 use Rattle.clv_base.specs.Restarts.{restored_part, restored_parts, homes_of, unended_in, local_after, state_after}
 use Rattle.commit_coordinator.specs.Unended.{UnendedRise}
 use Rattle.due_laws.specs.Depending.{DependentsHaveParts, RestartsHaveParts}
-use Rattle.due_laws.specs.Left.{is_finished, left_voter, left_request, total_by, left}
+use Rattle.due_laws.specs.Left.{is_finished, is_idle, left_voter, left_request, total_by, left}
 use Rattle.due_laws.proofs.Laws.{at_rest_none}
 use Rattle.due_loop.specs.Ready.{IsReady}
 use Rattle.due_noting.specs.Noting.{known_keys}
@@ -43,21 +43,21 @@ parts_left : (txs : List TxId) → total part_work (restored_parts txs) ≤ leng
 parts_left [] = omega arith
 parts_left (t ∷ ts) = let h = parts_left ts in omega (arith, h)
 
-voters_left : (parts : Table Held) (homes : List (TxId × ℕ)) → total_by left_voter parts (restored_voters homes) ≤ 0
-voters_left parts [] = omega arith
-voters_left parts (h ∷ hs) = let one = at (is_finished parts h.0) in let more = voters_left parts hs in omega (arith, one, more)
+voters_left : (test : TxId → Bool) (homes : List (TxId × ℕ)) → total_by left_voter test (restored_voters homes) ≤ 0
+voters_left test [] = omega arith
+voters_left test (h ∷ hs) = let one = at (test h.0) in let more = voters_left test hs in omega (arith, one, more)
   where
     at : (b : Bool) → left_voter b (restored_voter h.1) ≤ 0
     at true = omega arith
     at false = omega arith
 
-one_left : (shard : ℕ) (finished : Bool) (parts : List ℕ) → left_request shard finished (restored_request parts) ≤ 1
-one_left shard finished [] = omega arith
-one_left shard finished (p ∷ ps) = omega arith
+one_left : (shard : ℕ) (idle : Bool) (parts : List ℕ) → left_request shard idle (restored_request parts) ≤ 1
+one_left shard idle [] = omega arith
+one_left shard idle (p ∷ ps) = omega arith
 
-requests_left : (shard : ℕ) (parts : Table Held) (unended : Table (List ℕ)) → total_by (left_request shard) parts (restored_requests unended) ≤ length unended
-requests_left shard parts [] = omega arith
-requests_left shard parts (u ∷ us) = let one = one_left shard (is_finished parts u.0) u.1 in let more = requests_left shard parts us in omega (arith, one, more)
+requests_left : (shard : ℕ) (test : TxId → Bool) (unended : Table (List ℕ)) → total_by (left_request shard) test (restored_requests unended) ≤ length unended
+requests_left shard test [] = omega arith
+requests_left shard test (u ∷ us) = let one = one_left shard (test u.0) u.1 in let more = requests_left shard test us in omega (arith, one, more)
 
 request_keys : (unended : Table (List ℕ)) → keys_of (restored_requests unended) ≡ keys_of unended
 request_keys [] = refl
@@ -111,7 +111,7 @@ module _ (shard epoch count : ℕ) (log : List LogRecord) (a : Parts) (m : AreMa
   made_holds depend =
       let s : Shard = state_after shard a.run epoch log 0 [] in
       let txs = in_doubt shard log in
-      let p = parts_left txs in let v = voters_left s.local.parts (homes_of log txs) in let q = requests_left s.shard s.local.parts (unended_in log log) in
+      let p = parts_left txs in let v = voters_left (is_finished s.local.parts) (homes_of log txs) in let q = requests_left s.shard (is_idle s.local.parts) (unended_in log log) in
       let homes : length (homes_of log txs) ≡ length txs = length-map txs _ in
       let lp : length s.local.parts ≡ length txs = length-map txs _ in
       let lv : length s.voters ≡ length (homes_of log txs) = length-map (homes_of log txs) _ in

@@ -14,7 +14,7 @@ use Rattle.clv_base.specs.Orders.{Table, tx_cmp, tx_same, tx_in, tx_get, tx_put}
 use Rattle.clv_base.specs.Participant.{asked_voter, voters_asked}
 use Rattle.clv_base.specs.OneShard.{closed_part, closed_in}
 use Rattle.clv_base.specs.Due.{total, part_work}
-use Rattle.due_laws.specs.Left.{is_finished, left_voter, total_by}
+use Rattle.due_laws.specs.Left.{left_voter, total_by}
 use Rattle.clv_base.proofs.SameNames.{or_left, or_right, tx_true, tx_self, tx_eq}
 use Rattle.law_base.proofs.Sets.{tx_total}
 use Rattle.due_laws.proofs.Laws.{in_append}
@@ -90,19 +90,19 @@ asked_first false home seen = omega arith
 abbrev asked_at : TxId → ℕ → ℕ → TxId × Voter → Table Voter → Ordering → Voter
 asked_at tx home seen r rs o = asked_voter home seen (cond (is_eq o) (Some r.1) (tx_get tx rs))
 
-pub asked_total : (parts : Table Held) (tx : TxId) (home seen : ℕ) (vs : Table Voter) → IsStrictlySortedBy tx_cmp (keys_of vs) → total_by left_voter parts (voters_asked tx home seen vs) ≤ total_by left_voter parts vs + 1
+pub asked_total : (test : TxId → Bool) (tx : TxId) (home seen : ℕ) (vs : Table Voter) → IsStrictlySortedBy tx_cmp (keys_of vs) → total_by left_voter test (voters_asked tx home seen vs) ≤ total_by left_voter test vs + 1
 unfolding IsStrictlySortedBy
-asked_total parts tx home seen [] s = asked_first (is_finished parts tx) home seen
-asked_total parts tx home seen (r ∷ rs) s = at (tx_cmp tx r.0) refl (asked_total parts tx home seen rs s.1)
+asked_total test tx home seen [] s = asked_first (test tx) home seen
+asked_total test tx home seen (r ∷ rs) s = at (tx_cmp tx r.0) refl (asked_total test tx home seen rs s.1)
   where
-    at : (o : Ordering) → tx_cmp tx r.0 ≡ o → total_by left_voter parts (voters_asked tx home seen rs) ≤ total_by left_voter parts rs + 1
-        → total_by left_voter parts (match_ordering o ((tx, asked_at tx home seen r rs o) ∷ r ∷ rs) ((r.0, asked_at tx home seen r rs o) ∷ rs) (r ∷ tx_put tx (asked_at tx home seen r rs o) rs)) ≤ left_voter (is_finished parts r.0) r.1 + total_by left_voter parts rs + 1
+    at : (o : Ordering) → tx_cmp tx r.0 ≡ o → total_by left_voter test (voters_asked tx home seen rs) ≤ total_by left_voter test rs + 1
+        → total_by left_voter test (match_ordering o ((tx, asked_at tx home seen r rs o) ∷ r ∷ rs) ((r.0, asked_at tx home seen r rs o) ∷ rs) (r ∷ tx_put tx (asked_at tx home seen r rs o) rs)) ≤ left_voter (test r.0) r.1 + total_by left_voter test rs + 1
     at Less e more =
         let none = above_none tx rs (above_all tx r.0 (keys_of rs) e s.0 (λ x. tx_total.trans tx r.0 x)) in
-        let first = asked_first (is_finished parts tx) home seen in
-        let same = ap (λ o. left_voter (is_finished parts tx) (asked_voter home seen o)) none in
+        let first = asked_first (test tx) home seen in
+        let same = ap (λ o. left_voter (test tx) (asked_voter home seen o)) none in
         omega (arith, first, same)
-    at Equal e more = let one = asked_more (is_finished parts r.0) home seen r.1 in omega (arith, one)
+    at Equal e more = let one = asked_more (test r.0) home seen r.1 in omega (arith, one)
     at Greater e more = omega (arith, more)
 
 -- a part that closes

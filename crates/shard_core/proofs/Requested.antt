@@ -15,7 +15,7 @@ use Rattle.clv_base.specs.Events.{is_alone}
 use Rattle.clv_base.specs.Coordinator.{others, first_no, counts_vote, takes_vote, with_vote_of, takes_done, with_done_of}
 use Rattle.clv_base.proofs.SameNames.{or_left, or_right, tx_true, tx_flip, in_insert, insert_has}
 use Rattle.due_laws.specs.Changes.{ChangesDue}
-use Rattle.due_laws.specs.Left.{is_finished, left_by, left_request, left}
+use Rattle.due_laws.specs.Left.{is_idle, left_by, left_request, left}
 use Rattle.due_laws.proofs.Laws.{total_by_at, set_keys, answers_touch}
 use Rattle.shard_core.proofs.Changing.{room_kept}
 use Rattle.due_candidates.specs.Held.{Candidates, HasRoomFor}
@@ -66,13 +66,13 @@ own_within tx d f same x e = ⊎_elim (λ h. subst (λ z. tx_in z f.txs ≡ true
 abbrev pub with_request : TxId → Request → Shard → Shard
 with_request tx r s = record s { requests = tx_set tx r s.requests }
 
-pub set_changed : (a : Parts) (tx : TxId) (q r : Request) (c : Coordination) (f : Candidates) → IsAtRest (viewed a) → Holds a → tx_get tx a.coordinator.requests ≡ Some q → ((finished : Bool) → left_request (seen a).shard finished r ≤ left_request (seen a).shard finished q)
+pub set_changed : (a : Parts) (tx : TxId) (q r : Request) (c : Coordination) (f : Candidates) → IsAtRest (viewed a) → Holds a → tx_get tx a.coordinator.requests ≡ Some q → ((idle : Bool) → left_request (seen a).shard idle r ≤ left_request (seen a).shard idle q)
     → c ≡ record a.coordinator { requests = tx_set tx r a.coordinator.requests } → f ≡ record a.candidates { txs = tx_insert tx a.candidates.txs } → ChangesDue (tx ∷ []) (seen a) (with_request tx r (seen a))
     → AreKept (record a { coordinator = c; candidates = f }) → Changed (record a { coordinator = c; candidates = f }) (with_request tx r (seen a))
 set_changed a tx q r c f rest whole there fewer taken put touch kept =
     let s : Shard = seen a in let V : Shard = with_request tx r s in let b : Parts = record a { coordinator = c; candidates = f } in
     let own = request_known s tx q there in
-    let sum = total_by_at (left_request s.shard) s.local.parts tx s.requests q r there in let one = fewer (is_finished s.local.parts tx) in
+    let sum = total_by_at (left_request s.shard) (is_idle s.local.parts) tx s.requests q r there in let one = fewer (is_idle s.local.parts tx) in
     let lefts : left V ≤ left s = omega (arith, sum, one) in
     let keys = set_keys tx r s.requests in
     let k = known_own s tx a.candidates f whole.candidates own put in
@@ -103,13 +103,13 @@ vote_counted shard from q (Committed parts) e = absurd (both_ways false refl e)
 vote_counted shard from q Finished e = absurd (both_ways false refl e)
 vote_counted shard from q (Refused cause) e = absurd (both_ways false refl e)
 
-vote_left : (shard from : ℕ) (vote : Vote) (q : Request) → takes_vote shard from q ≡ true → (finished : Bool) → left_request shard finished (with_vote_of from vote q) ≤ left_request shard finished q
-vote_left shard from vote q e finished = omega (arith, same)
+vote_left : (shard from : ℕ) (vote : Vote) (q : Request) → takes_vote shard from q ≡ true → (idle : Bool) → left_request shard idle (with_vote_of from vote q) ≤ left_request shard idle q
+vote_left shard from vote q e idle = omega (arith, same)
   where
     by : List (ℕ × Vote) → Bool → ℕ
-    by votes alone = left_by (finished && (alone && is_none (first_no votes))) q.state q.is_ended
+    by votes alone = left_by (idle && (alone && is_none (first_no votes))) q.state q.is_ended
 
-    same : left_request shard finished (with_vote_of from vote q) ≡ left_request shard finished q
+    same : left_request shard idle (with_vote_of from vote q) ≡ left_request shard idle q
     same = let apart = vote_counted shard from q q.state e in ap (by (with_vote_of from vote q).votes) apart ∙ sym (ap (by q.votes) apart)
 
 -- the request that is there
@@ -141,7 +141,7 @@ done_changed a tx from c f rest whole counts taken put kept =
     let rs = a.coordinator.requests in let q = there tx rs (done_by from) refl counts in
     let b : Parts = record a { coordinator = c; candidates = f } in
     subst (λ o. Changed b (done_taken tx from o (seen a))) (sym q.1)
-    (set_changed a tx q.0 (with_done_of from q.0) c f rest whole q.1 (λ finished. omega arith)
+    (set_changed a tx q.0 (with_done_of from q.0) c f rest whole q.1 (λ idle. omega arith)
     (taken ∙ ap (λ o. record a.coordinator { requests = requests_done tx from o rs }) q.1
     ∙ ap (λ (t : Table Request). record a.coordinator { requests = t }) (cond-true (takes_done from q.0) (tx_set tx (with_done_of from q.0) rs) rs q.2))
     put (answers_touch.1 (seen a) tx from q.0) kept)
