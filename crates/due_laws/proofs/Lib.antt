@@ -8,5 +8,9 @@ pub mod Touching
 pub mod Spending
 pub mod Dependents
 pub mod Keys
+pub mod Finished
+pub mod Counting
+pub mod Naming
 pub mod Remaining
+pub mod Open
 pub mod Laws

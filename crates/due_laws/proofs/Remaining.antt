@@ -1,13 +1,9 @@
--- Each thing that is done leaves less that may still be done: requests that are finished, refused, ended or committed without parts count for nothing.
-use Rattle.std.proofs.Common.{◌≡◌, refl, sym, ◌∙◌, ap, subst, ℕ, zero, suc, pred, ◌+◌, ◌<◌, ◌≤◌, true, false, cond, Bool, List, [], ◌∷◌, Option, Some, None, not, ◌&&◌, ◌||◌, ◌==◌, arith}
-use Rattle.std.proofs.lemmas.Bool.{both_ways}
-use Rattle.std.specs.List.{list_all}
-use Rattle.std.specs.Map.{lookup, set_value}
+-- Each thing that is done leaves less that may still be done: what is over counts for nothing.
+use Rattle.std.proofs.Common.{◌≡◌, refl, sym, ap, ◌∙◌, subst, ℕ, zero, suc, pred, ◌+◌, ◌<◌, ◌≤◌, true, false, cond, Bool, List, [], ◌∷◌, Option, Some, None, ◌||◌, ◌==◌, arith, is_some}
 use Rattle.clv_base.specs.declared.names.TxId.{TxId}
 use Rattle.clv_base.specs.declared.causes.Vote.{Vote}
 use Rattle.clv_base.specs.declared.causes.Vote.TheVariants.{Yes, Read, No}
-use Rattle.clv_base.specs.declared.causes.AbortCause.{AbortCause}
-use Rattle.clv_base.specs.Orders.{Table, tx_same, tx_in, tx_get, tx_set, nat_in}
+use Rattle.clv_base.specs.Orders.{Table, tx_same, tx_in, tx_get}
 use Rattle.clv_base.specs.declared.state.Ruling.TheVariants.{Commit as CommitVerdict, Acknowledge, Abort as AbortVerdict, End as EndVerdict}
 use Rattle.clv_base.specs.State.{Shard, Local, with_local}
 use Rattle.clv_base.specs.declared.state.Stage.{Stage}
@@ -15,56 +11,37 @@ use Rattle.clv_base.specs.declared.state.Stage.TheVariants.{Active, Closed, Gone
 use Rattle.clv_base.specs.declared.state.Held.{Held}
 use Rattle.clv_base.specs.declared.state.Voter.{Voter}
 use Rattle.clv_base.specs.declared.state.Request.{Request}
-use Rattle.clv_base.specs.declared.state.RequestState.{RequestState}
-use Rattle.clv_base.specs.declared.state.RequestState.TheVariants.{Undecided, Committed, Finished, Refused}
 use Rattle.clv_base.specs.declared.state.Ruling.{Ruling}
 use Rattle.clv_base.specs.Undo.{stage_of, roll_back, doomed_here, gone_in, gone_part}
-use Rattle.clv_base.specs.Facts.{facts_of, has_durable_commit, has_durable_predecessors}
-use Rattle.clv_base.specs.declared.parts.PartFacts.{PartFacts}
-use Rattle.clv_base.specs.Participant.{vote_by, vote_owed, voted}
-use Rattle.clv_base.specs.Coordinator.{ruling_by, ruling_in, undecided_ruling, agreed_ruling, refused_ruling, refusal, end_ruling, ruled_request, is_agreed, yes_shards}
-use Rattle.clv_base.specs.Due.{total, stage_work, part_work, voter_work, or_else, finish_part, with_commit_done, commit_due, vote_due, give_vote, with_vote, finish_reader, with_ruling, do_ruling, rule, request_due, due_of, first_due, known_txs, next_due}
+use Rattle.clv_base.specs.Facts.{facts_of, has_durable_commit}
+use Rattle.clv_base.specs.Participant.{vote_by, voted}
+use Rattle.clv_base.specs.Coordinator.{ruling_by, ruled_request}
+use Rattle.clv_base.specs.Due.{total, stage_work, part_work, or_else, finish_part, with_commit_done, commit_due, vote_due, give_vote, with_vote, finish_reader, with_ruling, do_ruling, rule, request_due, due_of, first_due, known_txs, next_due}
 use Rattle.due_laws.specs.Candidates.{is_ruling_due}
 use Rattle.due_laws.specs.Candidates.{is_commit_due, is_vote_due}
 use Rattle.due_laws.specs.Rooms.{decisions}
-use Rattle.due_laws.specs.Left.{left_by, left_request, left, left_of, LeftFalls, OnlyLeftIsDue, MessagesByLeft, RecordsByLeft}
+use Rattle.std.specs.List.Sorted.{IsStrictlySortedBy}
+use Rattle.std.specs.Map.{keys_of}
+use Rattle.clv_base.specs.declared.names.Birth.{Birth}
+use Rattle.clv_base.specs.declared.ops.Op.{Op}
+use Rattle.clv_base.specs.Orders.{tx_same, tx_cmp}
+use Rattle.clv_base.specs.OneShard.{performed}
+use Rattle.clv_base.proofs.SameNames.{tx_true}
+use Rattle.due_laws.proofs.Naming.{other_total}
+use Rattle.due_laws.specs.Left.{is_over, total_by, is_finished, is_idle, left_voter, left_request, left, LeftFalls, OnlyLeftIsDue, MessagesByLeft, RecordsByLeft}
+use Rattle.due_laws.proofs.Finished.{Stay, finished_stage, performed_known, performed_other, total_by_at, PartsStay, stay_total, finish_stay, rolled_stay}
 use Rattle.due_laws.proofs.Deciding.{due_by_facts}
-use Rattle.due_laws.proofs.Spending.{closed_work, voter_has, open_end, Sends, sends_first, Writes, writes_first}
+use Rattle.due_laws.proofs.Counting.{voter_falls, request_falls, owes, finished_facts, idle_facts, vote_counts, voted_counts, RulingLess, less_in, request_left, voter_left}
+use Rattle.due_laws.proofs.Spending.{closed_work, Sends, sends_first, Writes, writes_first}
 use Rattle.std.proofs.lemmas.Bool.{or_cases, and_parts}
-use Rattle.std.proofs.Common.{is_some, length, ⊎_elim}
+use Rattle.std.proofs.Common.{length, ⊎_elim, is_some}
+use Rattle.std.proofs.lemmas.Bool.{both_ways}
 use Rattle.clv_base.specs.Facts.{is_closed_state}
 
 -- where there is a next state, less is left in it
 data LessLeft (s : Shard) : Option Shard → Type 0 where
   nothing : LessLeft s None
   less : {t : Shard} → left t < left s → LessLeft s (Some t)
-
--- ---- sums over a table
-
--- what a changed value does to the sum, by the value that was there
-pub SetTotal : {X : Type 0} → (X → ℕ) → Table X → Table X → X → Option X → Type 0
-SetTotal f t u w None = total f u ≡ total f t
-SetTotal f t u w (Some x) = total f u + f x ≡ total f t + f w
-
-set_later : {X : Type 0} (f : X → ℕ) (e : TxId × X) (t u : Table X) (w : X) (o : Option X) → SetTotal f t u w o → SetTotal f (e ∷ t) (e ∷ u) w o
-unfolding SetTotal
-set_later f e t u w None h = ap (λ n. f e.1 + n) h
-set_later f e t u w (Some x) h = omega arith
-
-set_here : {X : Type 0} (f : X → ℕ) (e : TxId × X) (t u : Table X) (w : X) (b : Bool) (o : Option X) → SetTotal f t u w o → SetTotal f (e ∷ t) (cond b ((e.0, w) ∷ t) (e ∷ u)) w (cond b (Some e.1) o)
-unfolding SetTotal
-set_here f e t u w true o h = omega arith
-set_here f e t u w false o h = set_later f e t u w o h
-
-total_set : {X : Type 0} (f : X → ℕ) (test : TxId → Bool) (t : Table X) (w : X) → SetTotal f t (set_value test t w) w (lookup test t)
-unfolding SetTotal
-total_set f test [] w = refl
-total_set f test (e ∷ es) w = set_here f e es (set_value test es w) w (test e.0) (lookup test es) (total_set f test es w)
-
--- the sum where the transaction's value is known
-pub total_at : {X : Type 0} (f : X → ℕ) (tx : TxId) (t : Table X) (x w : X) → tx_get tx t ≡ Some x → total f (tx_set tx w t) + f x ≡ total f t + f w
-unfolding SetTotal
-total_at f tx t x w e = subst (λ o. SetTotal f t (tx_set tx w t) w o) e (total_set f (tx_same tx) t w)
 
 -- ---- parts that go
 
@@ -104,6 +81,49 @@ gone_closed : (l : Local) (tx : TxId) → stage_of l tx ≡ Some Closed → tota
 unfolding GoneLess stage_in
 gone_closed l tx e = subst (λ o. GoneLess l.parts (gone_in (tx ∷ []) None l.parts) o) e (gone_less tx None l.parts)
 
+-- ---- voters and requests whose parts change
+
+-- what is left where parts changed, no more of them are closed, those stay finished that are, and those idle
+pub parts_more : (k : ℕ) (s : Shard) (m : Local) → total part_work m.parts ≤ total part_work s.local.parts + k → PartsStay s.local.parts m.parts → left (record s { local = m }) ≤ left s + k
+parts_more k s m parts stay =
+    let voters = stay_total left_voter (is_finished s.local.parts) (is_finished m.parts) s.voters voter_falls stay.finished in
+    let requests = stay_total (left_request s.shard) (is_idle s.local.parts) (is_idle m.parts) s.requests (request_falls s.shard) stay.idle in
+    omega (arith, parts, voters, requests)
+
+pub parts_le : (s : Shard) (m : Local) → total part_work m.parts ≤ total part_work s.local.parts → PartsStay s.local.parts m.parts → left (record s { local = m }) ≤ left s
+parts_le s m parts stay = let more = parts_more 0 s m (omega (arith, parts)) stay in omega (arith, more)
+
+-- a granted operation, unless its part is new and its transaction has a request
+performed_finished : (tx : TxId) (birth : Birth) (op : Op) (l : Local) → Stay (is_finished l.parts) (is_finished (performed tx birth op l).parts)
+performed_finished tx birth op l x e = at (is_some (stage_of l tx)) refl (tx_same x tx) refl
+  where
+    apart : is_some (stage_of l tx) ≡ false → tx_same x tx ≡ true → ⊥
+    apart none s = both_ways _ none (ap is_some (sym (ap (stage_of l) (tx_true x tx s)) ∙ finished_stage l x e))
+
+    at : (b : Bool) → is_some (stage_of l tx) ≡ b → (c : Bool) → tx_same x tx ≡ c → is_finished (performed tx birth op l).parts x ≡ true
+    at true some c s = ap (λ ps. is_finished ps x) (performed_known tx birth op l some) ∙ e
+    at false none true s = absurd (apart none s)
+    at false none false s = ap (is_over false) (performed_other tx birth op l x s) ∙ e
+
+pub performed_le : (s : Shard) (tx : TxId) (birth : Birth) (op : Op) → IsStrictlySortedBy tx_cmp (keys_of s.requests) → total part_work (performed tx birth op s.local).parts ≤ total part_work s.local.parts
+    → (is_some (stage_of s.local tx) ≡ false → tx_get tx s.requests ≡ None) → left (record s { local = performed tx birth op s.local }) ≤ left s
+performed_le s tx birth op rising parts none = omega (arith, parts, voters, requests)
+  where
+    voters : total_by left_voter (is_finished (performed tx birth op s.local).parts) s.voters ≤ total_by left_voter (is_finished s.local.parts) s.voters
+    voters = stay_total left_voter (is_finished s.local.parts) (is_finished (performed tx birth op s.local).parts) s.voters voter_falls (performed_finished tx birth op s.local)
+
+    at : (b : Bool) → is_some (stage_of s.local tx) ≡ b → total_by (left_request s.shard) (is_idle (performed tx birth op s.local).parts) s.requests ≤ total_by (left_request s.shard) (is_idle s.local.parts) s.requests
+    at true some = let same = ap (λ ps. total_by (left_request s.shard) (is_idle ps) s.requests) (performed_known tx birth op s.local some) in omega (arith, same)
+    at false new =
+        other_total (left_request s.shard) (is_idle s.local.parts) (is_idle (performed tx birth op s.local).parts) tx s.requests rising (λ x e. ap (is_over true) (performed_other tx birth op s.local x e))
+        (λ q e. absurd (apart (sym (none new) ∙ e)))
+      where
+        apart : {q : Request} → None ≡ Some q → ⊥
+        apart e = cc
+
+    requests : total_by (left_request s.shard) (is_idle (performed tx birth op s.local).parts) s.requests ≤ total_by (left_request s.shard) (is_idle s.local.parts) s.requests
+    requests = at (is_some (stage_of s.local tx)) refl
+
 -- ---- the rules
 
 at_test : (s : Shard) (b : Bool) (x y : Option Shard) → LessLeft s x → LessLeft s y → LessLeft s (cond b x y)
@@ -114,34 +134,30 @@ at_or_else : (s : Shard) (x y : Option Shard) → LessLeft s x → LessLeft s y 
 at_or_else s None y p q = q
 at_or_else s (Some t) y p q = p
 
+commit_less : (s : Shard) (tx : TxId) → stage_of s.local tx ≡ Some Closed → left (with_commit_done s tx) < left s
+commit_less s tx e =
+    let stay = finish_stay (tx ∷ []) s.local.parts in let m = gone_in (tx ∷ []) None s.local.parts in
+    let voters = stay_total left_voter (is_finished s.local.parts) (is_finished m) s.voters voter_falls stay.finished in
+    let requests = stay_total (left_request s.shard) (is_idle s.local.parts) (is_idle m) s.requests (request_falls s.shard) stay.idle in
+    omega (arith, gone_closed s.local tx e, voters, requests)
+
 commit : (s : Shard) (tx : TxId) (st : Option Stage) → stage_of s.local tx ≡ st → LessLeft s (commit_due s tx st)
 commit s tx None e = nothing
 commit s tx (Some Active) e = nothing
-commit s tx (Some Closed) e = at_test s (has_durable_commit (facts_of s tx)) (Some (with_commit_done s tx)) None (less (omega (arith, gone_closed s.local tx e))) nothing
+commit s tx (Some Closed) e = at_test s (has_durable_commit (facts_of s tx)) (Some (with_commit_done s tx)) None (less (commit_less s tx e)) nothing
 commit s tx (Some (Gone d)) e = nothing
 
 finish_le : (s : Shard) (tx : TxId) → left (finish_part tx s) ≤ left s
-finish_le s tx = omega (arith, gone_le (tx ∷ []) None s.local.parts)
+finish_le s tx = parts_le s (finish_part tx s).local (gone_le (tx ∷ []) None s.local.parts) (finish_stay (tx ∷ []) s.local.parts)
 
 rolled_le : (s : Shard) (tx : TxId) → left (with_local (roll_back tx) s) ≤ left s
-rolled_le s tx = omega (arith, gone_le (doomed_here s.local tx) (Some tx) s.local.parts)
+rolled_le s tx = parts_le s (roll_back tx s.local) (gone_le (doomed_here s.local tx) (Some tx) s.local.parts) (rolled_stay tx s.local)
 
--- a vote that is due was owed
-IsVote : Option Vote → Type 0
-IsVote None = ⊥
-IsVote (Some x) = Unit {0}
-
-owed_some : (n : ℕ) (b : Bool) → (n == 0) ≡ b → b ≡ false → 0 < n
-owed_some zero b e h = absurd (both_ways (zero == 0) (e ∙ h) refl)
-owed_some (suc n) b e h = omega arith
-
-owes : (f : PartFacts) (v : Voter) (b : Bool) (vote : Vote) → (v.owed == 0) ≡ b → vote_owed f v b ≡ Some vote → 0 < v.owed
-unfolding IsVote
-owes f v true vote t e = absurd (subst IsVote (sym e) tt)
-owes f v false vote t e = owed_some v.owed false t refl
-
-vote_less : (s : Shard) (tx : TxId) (v : Voter) (vote : Vote) → tx_get tx s.voters ≡ Some v → 0 < v.owed → left (with_vote s tx v vote) < left s
-vote_less s tx v vote e h = omega (arith, total_at voter_work tx s.voters v (voted vote v) e, lowered v.owed h)
+vote_less : (s : Shard) (tx : TxId) (v : Voter) (vote : Vote) → tx_get tx s.voters ≡ Some v → vote_by (facts_of s tx) v ≡ Some vote → left (with_vote s tx v vote) < left s
+vote_less s tx v vote e a =
+    let parts = s.local.parts in let finished = is_finished parts tx in
+    let was = vote_counts finished (facts_of s tx) v vote (finished_facts s tx) a in let is = voted_counts finished v vote in
+    omega (arith, total_by_at left_voter (is_finished parts) tx s.voters v (voted vote v) e, was, is, lowered v.owed (owes (facts_of s tx) v (v.owed == 0) vote refl a))
   where
     lowered : (n : ℕ) → 0 < n → pred n + 1 ≡ n
     lowered zero h = absurd (omega arith)
@@ -154,70 +170,11 @@ reader s tx (No why) = omega arith
 
 give : (s : Shard) (tx : TxId) (v : Voter) (o : Option Vote) → tx_get tx s.voters ≡ Some v → vote_by (facts_of s tx) v ≡ o → LessLeft s (give_vote s tx v o)
 give s tx v None e a = nothing
-give s tx v (Some vote) e a = less (omega (arith, vote_less s tx v vote e (owes (facts_of s tx) v (v.owed == 0) vote refl a), reader (with_vote s tx v vote) tx vote))
+give s tx v (Some vote) e a = less (omega (arith, vote_less s tx v vote e a, reader (with_vote s tx v vote) tx vote))
 
 vote : (s : Shard) (tx : TxId) (o : Option Voter) → tx_get tx s.voters ≡ o → LessLeft s (vote_due s tx o)
 vote s tx None e = nothing
 vote s tx (Some v) e = give s tx v (vote_by (facts_of s tx) v) e refl
-
--- an undecided request that is ruled
-less_undecided : (q : Request) (r : RequestState) → q.state ≡ Undecided → left_by r q.is_ended ≤ 1 → left_request (record q { state = r }) < left_request q
-less_undecided q r u z =
-    let two : left_by q.state q.is_ended ≡ 2 = ap (λ st. left_by st q.is_ended) u in
-    omega (arith, two, z)
-
-one_most : (b : Bool) → ◌≤◌ (cond b 0 1) 1
-one_most true = omega arith
-one_most false = omega arith
-
--- a ruling leaves less to do of the request
-RulingLess : Request → Option Ruling → Type 0
-RulingLess q None = Unit {0}
-RulingLess q (Some r) = left_request (ruled_request r q) < left_request q
-
-less_reader : (q : Request) (b : Bool) → q.state ≡ Undecided → RulingLess q (cond b (Some Acknowledge) None)
-unfolding RulingLess
-less_reader q true u = less_undecided q Finished u (omega arith)
-less_reader q false u = tt
-
-less_agreed : (q : Request) (f : PartFacts) (b : Bool) (ps : List ℕ) → q.state ≡ Undecided → RulingLess q (agreed_ruling f b ps)
-unfolding RulingLess
-less_agreed q f b (p ∷ ps) u = less_undecided q (Committed (p ∷ ps)) u (one_most q.is_ended)
-less_agreed q f true [] u = less_undecided q (Committed []) u (omega arith)
-less_agreed q f false [] u = less_reader q (has_durable_predecessors f) u
-
-less_refused : (shard : ℕ) (q : Request) (c : Option AbortCause) → q.state ≡ Undecided → RulingLess q (refused_ruling shard q c)
-unfolding RulingLess
-less_refused shard q None u = tt
-less_refused shard q (Some c) u = less_undecided q (Refused c) u (omega arith)
-
-less_by : (shard : ℕ) (tx : TxId) (q : Request) (f : PartFacts) (b : Bool) → q.state ≡ Undecided → RulingLess q (undecided_ruling shard tx q f b)
-less_by shard tx q f true u = less_agreed q f f.updates (yes_shards shard q) u
-less_by shard tx q f false u = less_refused shard q (refusal tx q f) u
-
-open_one : (q : Request) (p : ℕ) (ps : List ℕ) → q.state ≡ Committed (p ∷ ps) → q.is_ended ≡ false → left_by q.state q.is_ended ≡ 1
-open_one q p ps u e = ap (λ st. left_by st q.is_ended) u ∙ ap (λ b. left_by (Committed (p ∷ ps)) b) e
-
-ended_zero : (q : Request) (p : ℕ) (ps : List ℕ) → q.state ≡ Committed (p ∷ ps) → left_by q.state true ≡ 0
-ended_zero q p ps u = ap (λ st. left_by st true) u
-
-less_end : (q : Request) (p : ℕ) (ps : List ℕ) (b c : Bool) → q.state ≡ Committed (p ∷ ps) → q.is_ended ≡ b → RulingLess q (cond (not b && c) (Some EndVerdict) None)
-unfolding RulingLess
-less_end q p ps true c u e = tt
-less_end q p ps false true u e = let one = open_one q p ps u e in let none = ended_zero q p ps u in omega (arith, one, none)
-less_end q p ps false false u e = tt
-
-less_ended : (q : Request) (ps : List ℕ) → q.state ≡ Committed ps → RulingLess q (end_ruling q ps)
-unfolding RulingLess
-less_ended q [] u = tt
-less_ended q (p ∷ ps) u = less_end q p ps q.is_ended (list_all (λ n. nat_in n q.acknowledged_by) (p ∷ ps)) u refl
-
-less_in : (shard : ℕ) (tx : TxId) (q : Request) (f : PartFacts) (r : RequestState) → q.state ≡ r → RulingLess q (ruling_in shard tx q f r)
-unfolding RulingLess
-less_in shard tx q f Undecided u = less_by shard tx q f (is_agreed shard q f) u
-less_in shard tx q f (Committed ps) u = less_ended q ps u
-less_in shard tx q f Finished u = tt
-less_in shard tx q f (Refused c) u = tt
 
 done_le : (s : Shard) (tx : TxId) (r : Ruling) → left (do_ruling tx r s) ≤ left s
 done_le s tx (CommitVerdict ps) = omega arith
@@ -225,14 +182,14 @@ done_le s tx Acknowledge = finish_le s tx
 done_le s tx (AbortVerdict c to) = rolled_le s tx
 done_le s tx EndVerdict = omega arith
 
-rules : (s : Shard) (tx : TxId) (q : Request) (o : Option Ruling) → tx_get tx s.requests ≡ Some q → RulingLess q o → LessLeft s (rule s tx q o)
+rules : (s : Shard) (tx : TxId) (q : Request) (o : Option Ruling) → tx_get tx s.requests ≡ Some q → RulingLess s.shard (is_idle s.local.parts tx) q o → LessLeft s (rule s tx q o)
 unfolding RulingLess
 rules s tx q None e l = nothing
-rules s tx q (Some r) e l = less (omega (arith, total_at left_request tx s.requests q (ruled_request r q) e, l, done_le (with_ruling tx q r s) tx r))
+rules s tx q (Some r) e l = less (omega (arith, total_by_at (left_request s.shard) (is_idle s.local.parts) tx s.requests q (ruled_request r q) e, l, done_le (with_ruling tx q r s) tx r))
 
 request : (s : Shard) (tx : TxId) (o : Option Request) → tx_get tx s.requests ≡ o → LessLeft s (request_due s tx o)
 request s tx None e = nothing
-request s tx (Some q) e = rules s tx q (ruling_by s.shard tx q (facts_of s tx)) e (less_in s.shard tx q (facts_of s tx) q.state refl)
+request s tx (Some q) e = rules s tx q (ruling_by s.shard tx q (facts_of s tx)) e (less_in s.shard (is_idle s.local.parts tx) q tx (facts_of s tx) q.state (idle_facts s tx) refl)
 
 due : (s : Shard) (tx : TxId) → LessLeft s (due_of s tx)
 due s tx =
@@ -259,27 +216,14 @@ left_falls s t e = from_less s t (subst (λ o. LessLeft s o) e (next s))
 
 -- ---- who has something due has something left
 
-ruled_left : (n : ℕ) (tx : TxId) (q : Request) (f : PartFacts) (st : RequestState) → q.state ≡ st → is_some (ruling_in n tx q f st) ≡ true → 0 < left_by q.state q.is_ended
-ruled_left n tx q f Undecided e h = let two : left_by q.state q.is_ended ≡ 2 = ap (λ st. left_by st q.is_ended) e in omega (arith, two)
-ruled_left n tx q f (Committed []) e h = absurd (both_ways false refl h)
-ruled_left n tx q f (Committed (p ∷ ps)) e h =
-    let one = open_end q q.is_ended (list_all (λ k. nat_in k q.acknowledged_by) (p ∷ ps)) refl h in
-    let same : left_by q.state q.is_ended ≡ cond q.is_ended 0 1 = ap (λ st. left_by st q.is_ended) e in omega (arith, one, same)
-ruled_left n tx q f Finished e h = absurd (both_ways false refl h)
-ruled_left n tx q f (Refused c) e h = absurd (both_ways false refl h)
-
-request_left : (n : ℕ) (tx : TxId) (f : PartFacts) (o : Option Request) → is_ruling_due n tx f o ≡ true → 0 < left_of o
-request_left n tx f None e = absurd (both_ways false refl e)
-request_left n tx f (Some q) e = ruled_left n tx q f q.state refl e
-
 pub only_left_is_due : OnlyLeftIsDue
 only_left_is_due s tx e =
     let f = facts_of s tx in
     ⊎_elim
     (λ h. let a = closed_work (stage_of s.local tx) (and_parts (is_closed_state f.state) (has_durable_commit f) h).0 in omega (arith, a))
     (λ h. ⊎_elim
-    (λ v. let a = voter_has f (tx_get tx s.voters) v in omega (arith, a))
-    (λ r. let a = request_left s.shard tx f (tx_get tx s.requests) r in omega (arith, a))
+    (λ v. let a = voter_left (is_finished s.local.parts tx) f (tx_get tx s.voters) (finished_facts s tx) v in omega (arith, a))
+    (λ r. let a = request_left s.shard (is_idle s.local.parts tx) tx f (tx_get tx s.requests) (idle_facts s tx) r in omega (arith, a))
     (or_cases (is_vote_due f (tx_get tx s.voters)) (is_ruling_due s.shard tx f (tx_get tx s.requests)) h))
     (or_cases (is_commit_due f) (is_vote_due f (tx_get tx s.voters) || is_ruling_due s.shard tx f (tx_get tx s.requests)) (sym (due_by_facts s tx) ∙ e))
 

@@ -1,16 +1,21 @@
 -- What contracts say of the locks beside the protocol's definitions.
-use Rattle.std.specs.Prelude.{◌≡◌, ℕ, Bool, true, not, ◌&&◌, List, [], ◌∷◌, length, map, Option, Some, None}
+use Rattle.std.specs.Prelude.{◌≡◌, ◌≤◌, ◌+◌, ℕ, Bool, true, not, ◌&&◌, List, [], ◌∷◌, length, map, Option, Some, None}
 use Rattle.std.specs.List.{filter, list_any}
 use Rattle.clv_base.specs.declared.names.TxId.{TxId}
+use Rattle.clv_base.specs.declared.names.Birth.{Birth}
 use Rattle.clv_base.specs.declared.modes.Anchor.{Anchor}
 use Rattle.clv_base.specs.declared.modes.Need.{Need}
 use Rattle.clv_base.specs.declared.modes.Holder.{Holder}
-use Rattle.clv_base.specs.Locks.{Locks, holds_gap, release}
+use Rattle.clv_base.specs.Locks.{Locks, holds_gap, take_all, release}
 use Rattle.clv_base.specs.Orders.{tx_same, anchor_same}
 
 -- how many hold the anchor's gap
 abbrev pub gaps_held : Anchor → Locks → ℕ
 gaps_held a rows = length (filter (holds_gap a) rows)
+
+-- on no anchor do the gap parts grow by more than the needs that are taken
+abbrev pub TakesFewGaps : Type 0
+TakesFewGaps = (a : Anchor) (tx : TxId) (birth : Birth) (needs : List Need) (rows : Locks) → gaps_held a (take_all tx birth needs rows) ≤ gaps_held a rows + length needs
 
 -- who holds a lock on the anchor
 abbrev pub holders_on : Anchor → Locks → List Holder

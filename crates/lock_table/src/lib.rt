@@ -6,6 +6,7 @@
 
 mod gaps;
 mod holding;
+mod laws;
 mod list_locks;
 mod locks;
 mod meeting;
@@ -13,5 +14,6 @@ mod rows;
 #[cfg(test)]
 mod tests;
 
+pub use laws::takes_few_gaps;
 pub use list_locks::ListLocks;
 pub use locks::{Locks, Memory};

@@ -51,11 +51,10 @@ pub trait Locks: Sized {
         ensures ok { IfOk result (λ txs. txs.items ≡ violated_by_grant tx needs.now (rows self.now)) }
         ensures rising { IfOk result (λ txs. IsStrictlySortedBy tx_cmp txs.items) };
 
-    /// Takes the locks that are needed. Where the transaction has a lock on an anchor, the modes are joined. On no anchor do the gap parts grow by more than there are needs.
+    /// Takes the locks that are needed. Where the transaction has a lock on an anchor, the modes are joined. By how much the gap parts grow, `takes_few_gaps` tells.
     fn take(&mut self, tx: TxId, birth: Birth, needs: &[Need])
         requires { length needs.now ≤ room self.old tx (anchors_of needs.now) }
         ensures rows { rows self.new ≡ take_all tx birth needs.now (rows self.old) }
-        ensures gaps { (a : Anchor) → gaps_held a (rows self.new) ≤ gaps_held a (rows self.old) + length needs.now }
         ensures room { (t : TxId) (on : List Anchor) → room self.old t on ≤ room self.new t on + length needs.now };
 
     /// Copies all gap parts that are held on `lower` to `new`, a record that splits the gap of `lower`. All other locks stay.

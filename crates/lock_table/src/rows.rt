@@ -1,8 +1,6 @@
 //! The rows of a table in a list.
 ghost use Rattle.std.specs.Prelude.{◌≡◌, ◌≤◌, ◌<◌, ◌+◌, length, not, position, vec_len, vec_capacity};
 ghost use Rattle.std.specs.Ordering.{is_gt};
-ghost use Rattle.clv_base.specs.declared.modes.Anchor.{Anchor};
-ghost use Rattle.lock_table.specs.Rows.{gaps_held};
 ghost use Rattle.clv_base.specs.Locks.{row_cmp, take_one as with_lock, take_all as with_locks};
 
 use clv_base::modes::{Anchor, Holder, Need};
@@ -53,7 +51,6 @@ pub(crate) fn take_one(rows: &mut Vec<Row>, anchor: Anchor, holder: Holder)
 pub(crate) fn take_all(rows: &mut Vec<Row>, tx: TxId, birth: Birth, needs: &[Need])
     requires { vec_len rows.old + length needs.now ≤ vec_capacity rows.old }
     ensures rows { rows.new.items ≡ with_locks tx birth needs.now rows.old.items }
-    ensures gaps { (a : Anchor) → gaps_held a rows.new.items ≤ gaps_held a rows.old.items + length needs.now }
     ensures room { (vec_capacity rows.new ≡ vec_capacity rows.old) × (vec_len rows.new ≤ vec_len rows.old + length needs.now) }
 {
     for need in needs {

@@ -9,7 +9,7 @@ ghost use Rattle.op_effects.specs.Effects.{locks_after, HasLockRoom, new_key};
 
 use clv_base::modes::{Anchor, Mode, Need, Part};
 use clv_base::names::{Birth, TxId};
-use lock_table::{Locks, Memory};
+use lock_table::{Locks, Memory, takes_few_gaps};
 use op_needs::Insert;
 use std::alloc::{AllocError, Global};
 
@@ -124,6 +124,7 @@ pub fn take_locks<L: Locks>(
 {
     locks.take(tx, birth, needs);
     if let Some(insert) = insert {
+        takes_few_gaps();
         split(locks, tx, birth, insert);
     }
 }

@@ -14,7 +14,7 @@ use Rattle.due_laws.specs.Candidates.{Cover}
 use Rattle.due_laws.specs.Changes.{ChangesDue}
 use Rattle.due_laws.specs.Purging.{WritesAreLocked}
 use Rattle.due_laws.specs.Left.{left}
-use Rattle.due_laws.proofs.Laws.{cover_grows, purges_dont_matter, gone_le}
+use Rattle.due_laws.proofs.Laws.{cover_grows, purges_dont_matter, gone_le, parts_le, rolled_stay, without_stay, dropped_stay}
 use Rattle.due_loop.specs.Ready.{IsReady}
 use Rattle.due_messages.specs.Sent.{Waiting}
 use Rattle.txn_core.specs.State.{TxState}
@@ -74,19 +74,28 @@ mapped_le : (f : TxId × Held → Held) → ((p : TxId × Held) → part_work (f
 mapped_le f h [] = omega arith
 mapped_le f h (p ∷ ps) = let a = h p in let b = mapped_le f h ps in omega (arith, a, b)
 
-pub rolled_le : (tx : TxId) (l : Local) → total part_work (roll_back tx l).parts ≤ total part_work l.parts
-rolled_le tx l = gone_le (doomed_here l tx) (Some tx) l.parts
+rolled_work : (tx : TxId) (l : Local) → total part_work (roll_back tx l).parts ≤ total part_work l.parts
+rolled_work tx l = gone_le (doomed_here l tx) (Some tx) l.parts
 
-pub without_le : (tx : TxId) (l : Local) → total part_work (without_part tx l).parts ≤ total part_work l.parts
-without_le tx l = at (is_present (stage_of l tx))
+without_work : (tx : TxId) (l : Local) → total part_work (without_part tx l).parts ≤ total part_work l.parts
+without_work tx l = at (is_present (stage_of l tx))
   where
     at : (b : Bool) → total part_work (rolled_back_if b tx l).parts ≤ total part_work l.parts
-    at true = rolled_le tx l
+    at true = rolled_work tx l
     at false = omega arith
 
 mark_same : (b : Bool) (h : Held) → part_work (cond b (dropped_part h) h) ≤ part_work h
 mark_same true h = omega arith
 mark_same false h = omega arith
 
-pub dropped_le : (tx : TxId) (l : Local) → total part_work (drop_part tx l).parts ≤ total part_work l.parts
-dropped_le tx l = let a = mapped_le (λ p. cond (tx_same tx p.0) (dropped_part p.1) p.1) (λ p. mark_same (tx_same tx p.0) p.1) (without_part tx l).parts in let b = without_le tx l in omega (arith, a, b)
+dropped_work : (tx : TxId) (l : Local) → total part_work (drop_part tx l).parts ≤ total part_work l.parts
+dropped_work tx l = let a = mapped_le (λ p. cond (tx_same tx p.0) (dropped_part p.1) p.1) (λ p. mark_same (tx_same tx p.0) p.1) (without_part tx l).parts in let b = without_work tx l in omega (arith, a, b)
+
+pub rolled_le : (s : Shard) (tx : TxId) → left (record s { local = roll_back tx s.local }) ≤ left s
+rolled_le s tx = parts_le s (roll_back tx s.local) (rolled_work tx s.local) (rolled_stay tx s.local)
+
+pub without_le : (s : Shard) (tx : TxId) → left (record s { local = without_part tx s.local }) ≤ left s
+without_le s tx = parts_le s (without_part tx s.local) (without_work tx s.local) (without_stay tx s.local)
+
+pub dropped_le : (s : Shard) (tx : TxId) → left (record s { local = drop_part tx s.local }) ≤ left s
+dropped_le s tx = parts_le s (drop_part tx s.local) (dropped_work tx s.local) (dropped_stay tx s.local)

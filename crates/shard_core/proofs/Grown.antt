@@ -1,5 +1,5 @@
 -- The parts after a request or a Prepare: one more may be known, and more may be left to do, for which there is room.
-use Rattle.std.proofs.Common.{◌≡◌, refl, sym, ap, subst, ◌∙◌, ◌⊎◌, inl, inr, ⊎_elim, ℕ, ◌+◌, ◌*◌, ◌≤◌, Bool, true, false, ◌||◌, List, [], ◌∷◌, ◌++◌, length, drop, Some, is_some, arith}
+use Rattle.std.proofs.Common.{◌≡◌, refl, sym, ap, subst, ◌∙◌, ◌⊎◌, inl, inr, ⊎_elim, ℕ, ◌+◌, ◌*◌, ◌≤◌, Bool, true, false, ◌&&◌, ◌||◌, List, [], ◌∷◌, ◌++◌, length, drop, Some, is_some, arith}
 use Rattle.std.proofs.lemmas.Bool.{both_ways, or_cases}
 use Rattle.std.specs.List.Sorted.{IsStrictlySortedBy}
 use Rattle.std.specs.Map.{keys_of}
@@ -24,8 +24,8 @@ use Rattle.clv_base.proofs.SameNames.{or_left, or_right, in_insert, tx_true}
 use Rattle.protocol_laws.specs.UndoLaws.{is_pair}
 use Rattle.due_laws.specs.Changes.{ChangesDue, successors_of}
 use Rattle.due_laws.specs.Depending.{DependentsHaveParts}
-use Rattle.due_laws.specs.Left.{left, left_request}
-use Rattle.due_laws.proofs.Laws.{keys_stay, close_keeps}
+use Rattle.due_laws.specs.Left.{is_finished, is_idle, is_lone, left_by, left_request, left}
+use Rattle.due_laws.proofs.Laws.{keys_stay, close_keeps, parts_more, put_total_by, PartsStay, stay_same, closed_stay}
 use Rattle.due_loop.specs.Ready.{IsReady}
 use Rattle.due_candidates.specs.Held.{Candidates, HasRoomFor, HasRoomBy}
 use Rattle.due_messages.specs.Sent.{Waiting}
@@ -42,7 +42,7 @@ use Rattle.shard_core.proofs.Seeing.{part_known, pair_has}
 use Rattle.shard_core.proofs.Logged.{All, logged_more, logged_known}
 use Rattle.shard_core.proofs.Changing.{room_kept}
 use Rattle.shard_core.proofs.Taking.{stage_known}
-use Rattle.shard_core.proofs.Putting.{put_in, put_own, put_most, put_total, asked_total, closed_total, in_left, in_right, left_more, right_more}
+use Rattle.shard_core.proofs.Putting.{put_in, put_own, put_most, asked_total, closed_total, in_left, in_right, left_more, right_more}
 use Rattle.shard_core.proofs.Parts.{Parts, seen, viewed, Holds, Changed, changed, AreKept}
 
 -- ---- only more room was made, and nobody is a candidate
@@ -82,14 +82,18 @@ module _ (a : Parts) (u : TxState) (q : TxRows ℕ) (w : Waiting) (f : Candidate
 
 -- ---- what becomes of the part: it is closed, or all stays
 
+pub active_known : (a : Parts) (tx : TxId) → stage_of a.transactions.local tx ≡ Some Active → tx_in tx (known_keys (seen a)) ≡ true
+active_known a tx active = stage_known (seen a) tx (ap is_some active)
+
 pub record IsLike (k : ℕ) (keys : List TxId) (durable : ℕ) (l m : Local) : Type 0 where
   pub parts : keys_of m.parts ≡ keys_of l.parts
   pub work : total part_work m.parts ≤ total part_work l.parts + k
+  pub stay : PartsStay l.parts m.parts
   pub dependents : DependentsHaveParts m
   pub logged : All keys (drop durable m.log)
 
 pub like_same : (a : Parts) → Holds a → IsLike 0 (known_keys (seen a)) a.transactions.durable a.transactions.local a.transactions.local
-like_same a whole = record { parts = refl; work = omega arith; dependents = whole.dependents; logged = whole.logged }
+like_same a whole = record { parts = refl; work = omega arith; stay = stay_same (a.transactions.local).parts; dependents = whole.dependents; logged = whole.logged }
 
 closing_known : (keys : List TxId) (b one : Bool) (tx : TxId) (home : ℕ) (us : List TxId) → tx_in tx keys ≡ true → All keys (closing b one tx home us)
 closing_known keys true true tx home [] own = (own, tt)
@@ -97,18 +101,27 @@ closing_known keys true true tx home (u ∷ us) own = (own, tt)
 closing_known keys true false tx home us own = (own, tt)
 closing_known keys false one tx home us own = tt
 
-pub like_closed : (a : Parts) (tx : TxId) (home : ℕ) (one : Bool) → Holds a → tx_in tx (known_keys (seen a)) ≡ true → IsStrictlySortedBy tx_cmp (keys_of (a.transactions.local).parts)
+pub like_closed : (a : Parts) (tx : TxId) (home : ℕ) (one : Bool) → Holds a → stage_of a.transactions.local tx ≡ Some Active → IsStrictlySortedBy tx_cmp (keys_of (a.transactions.local).parts)
     → IsLike 1 (known_keys (seen a)) a.transactions.durable a.transactions.local (close_part tx home one a.transactions.local)
-like_closed a tx home one whole own rising =
-    let l = a.transactions.local in
+like_closed a tx home one whole active rising =
+    let l = a.transactions.local in let own = active_known a tx active in
     record {
       parts = keys_stay _ l.parts;
       work = closed_total tx l.parts rising;
+      stay = closed_stay tx l active;
       dependents = close_keeps tx home one l whole.dependents;
       logged = logged_more (known_keys (seen a)) a.transactions.durable l.log (closing (wrote_in l.log tx) one tx home (undecided_of l tx)) whole.logged (closing_known (known_keys (seen a)) (wrote_in l.log tx) one tx home (undecided_of l tx) own);
     }
 
 -- ---- the parts with it
+
+-- two things more may be done of a new request
+new_most : (shard : ℕ) (idle : Bool) (touched : List (ℕ × ℕ)) → left_request shard idle (new_request touched Undecided) ≤ 2
+new_most shard idle touched = at (idle && is_lone shard (new_request touched Undecided))
+  where
+    at : (b : Bool) → left_by b Undecided false ≤ 2
+    at true = omega arith
+    at false = omega arith
 
 -- what was done to the transactions and the candidates, with room for n things more
 pub record Turns (n : ℕ) (tx : TxId) (m : Local) (t u : TxState) (q : TxRows ℕ) (o w : Waiting) (c f : Candidates) : Type 0 where
@@ -161,9 +174,9 @@ module _ (k : ℕ) (a : Parts) (tx : TxId) (m : Local) (u : TxState) (q : TxRows
       (right_more x (keys_of s.local.parts) (keys_of s.voters ++ keys_of rs) (keys_of s.voters ++ keys_of (tx_put tx new rs))
       (λ i. right_more x (keys_of s.voters) (keys_of rs) (keys_of (tx_put tx new rs)) (put_in tx new x rs) i) e) in
       let own = in_right tx (keys_of m.parts) (keys_of s.voters ++ keys_of (tx_put tx new rs)) (in_right tx (keys_of s.voters) (keys_of (tx_put tx new rs)) (put_own tx new rs)) in
-      let work = like.work in let more = put_total left_request tx new rs in
-      let lefts : left V ≤ left s + (k + 2) = omega (arith, work, more) in
-      let most = put_most tx new rs in let places = whole.candidates.places in let limit = turns.limit in
+      let work = parts_more k s m like.work like.stay in let more = put_total_by (left_request s.shard) (is_idle m.parts) tx new rs in let most = new_most s.shard (is_idle m.parts tx) touched in
+      let lefts : left V ≤ left s + (k + 2) = omega (arith, work, more, most) in
+      let count = put_most tx new rs in let places = whole.candidates.places in let limit = turns.limit in
       let parts = sym (keys_length m.parts) ∙ ap length like.parts ∙ keys_length s.local.parts in
       let e = turns.same in
       changed a b V set rest whole
@@ -175,7 +188,7 @@ module _ (k : ℕ) (a : Parts) (tx : TxId) (m : Local) (u : TxState) (q : TxRows
       (record { shard = refl; transactions = ap (λ (x : TxState). x.shard) e; participant = refl; coordinator = ap (λ (x : Coordination). x.shard) put })
       turns.places like.dependents
       (subst (λ (x : TxState). All (known_keys V) (drop x.durable (x.local).log)) (sym e) (logged_known (known_keys s) (known_keys V) stay (drop t.durable m.log) like.logged))
-      (record { known = noted_known a tx V f whole stay own turns.noted; places = omega (arith, parts, most, places, limit) })
+      (record { known = noted_known a tx V f whole stay own turns.noted; places = omega (arith, parts, count, places, limit) })
       (room_more (k + 2) s V t u a.outbox w lefts turns.spare turns.pairs turns.outbox whole.room)
       (subst (λ (x : Coordination). IsStrictlySortedBy tx_cmp (keys_of x.requests)) put rising)
       kept
@@ -193,7 +206,7 @@ module _ (k : ℕ) (a : Parts) (tx : TxId) (m : Local) (u : TxState) (q : TxRows
       (right_more x (keys_of s.local.parts) (keys_of vs ++ keys_of s.requests) (keys_of (tx_put tx new vs) ++ keys_of s.requests)
       (λ i. left_more x (keys_of vs) (keys_of (tx_put tx new vs)) (keys_of s.requests) (put_in tx new x vs) i) e) in
       let own = in_right tx (keys_of m.parts) (keys_of (tx_put tx new vs) ++ keys_of s.requests) (in_left tx (keys_of (tx_put tx new vs)) (keys_of s.requests) (put_own tx new vs)) in
-      let work = like.work in let more = asked_total tx home epoch vs rising in
+      let work = parts_more k s m like.work like.stay in let more = asked_total (is_finished m.parts) tx home epoch vs rising in
       let lefts : left V ≤ left s + (k + 1) = omega (arith, work, more) in
       let most = put_most tx new vs in let places = whole.candidates.places in let limit = turns.limit in
       let parts = sym (keys_length m.parts) ∙ ap length like.parts ∙ keys_length s.local.parts in
@@ -250,9 +263,6 @@ turns_same n ms tx t x p y o v w c d f stay made places put none left =
 
 pub room_own : (tx : TxId) (c d : Candidates) → c.txs ≡ [] → d.txs ≡ c.txs → c.limit + 1 ≤ d.limit → HasRoomFor (tx ∷ []) d
 room_own tx c d none same more = (tx ∷ [], λ x e. absurd (both_ways _ (ap (tx_in x) (same ∙ none)) e), λ x e. e, omega (arith, more))
-
-pub active_known : (a : Parts) (tx : TxId) → stage_of a.transactions.local tx ≡ Some Active → tx_in tx (known_keys (seen a)) ≡ true
-active_known a tx active = stage_known (seen a) tx (ap is_some active)
 
 pub room_doomed : (a : Parts) (tx : TxId) (u : TxState) (d : Candidates) → Holds a → stage_of a.transactions.local tx ≡ Some Active → IsSameBut a.transactions a.transactions.local u → d.txs ≡ a.candidates.txs → a.candidates.limit ≤ d.limit
     → HasRoomBy (λ t. tx_in t (doomed_by u.local tx)) d

@@ -1,5 +1,5 @@
 -- The parts that a restart leaves are the protocol's state after it, at rest, and hold together.
-use Rattle.std.proofs.Common.{◌≡◌, refl, sym, ap, subst, ◌∙◌, ℕ, ◌+◌, ◌*◌, ◌≤◌, ◌==◌, ◌-◌, Some, None, List, [], ◌∷◌, length, take, drop, slice_range, eq-eqb, arith}
+use Rattle.std.proofs.Common.{◌≡◌, refl, sym, ap, subst, ◌∙◌, ℕ, ◌+◌, ◌*◌, ◌≤◌, ◌==◌, ◌-◌, Bool, true, false, Some, None, List, [], ◌∷◌, length, take, drop, slice_range, eq-eqb, arith}
 use Rattle.std.proofs.Math.Seq.{drop-length, take-length}
 use Rattle.std.proofs.lemmas.Bool.{both_ways, cond-true}
 use Rattle.std.proofs.lemmas.List.{length-map}
@@ -10,13 +10,14 @@ use Rattle.clv_base.specs.declared.logs.LogRecord.{LogRecord}
 use Rattle.clv_base.specs.Orders.{Table, tx_cmp, tx_in}
 use Rattle.clv_base.specs.Logs.{in_doubt, prepare_lsn}
 use Rattle.clv_base.specs.State.{Shard, Local, with_local}
-use Rattle.clv_base.specs.Due.{total, part_work, voter_work}
+use Rattle.clv_base.specs.Due.{total, part_work}
+use Rattle.clv_base.specs.declared.state.Held.{Held}
 use Rattle.clv_base.specs.Coordinator.{restored_request, restored_requests}
 use Rattle.clv_base.specs.Participant.{restored_voter, restored_voters}
 use Rattle.clv_base.specs.Restarts.{restored_part, restored_parts, homes_of, unended_in, local_after, state_after}
 use Rattle.commit_coordinator.specs.Unended.{UnendedRise}
 use Rattle.due_laws.specs.Depending.{DependentsHaveParts, RestartsHaveParts}
-use Rattle.due_laws.specs.Left.{left_request, left}
+use Rattle.due_laws.specs.Left.{is_finished, is_idle, left_voter, left_request, total_by, left}
 use Rattle.due_laws.proofs.Laws.{at_rest_none}
 use Rattle.due_loop.specs.Ready.{IsReady}
 use Rattle.due_noting.specs.Noting.{known_keys}
@@ -42,17 +43,21 @@ parts_left : (txs : List TxId) → total part_work (restored_parts txs) ≤ leng
 parts_left [] = omega arith
 parts_left (t ∷ ts) = let h = parts_left ts in omega (arith, h)
 
-voters_left : (homes : List (TxId × ℕ)) → total voter_work (restored_voters homes) ≤ 0
-voters_left [] = omega arith
-voters_left (h ∷ hs) = let more = voters_left hs in omega (arith, more)
+voters_left : (test : TxId → Bool) (homes : List (TxId × ℕ)) → total_by left_voter test (restored_voters homes) ≤ 0
+voters_left test [] = omega arith
+voters_left test (h ∷ hs) = let one = at (test h.0) in let more = voters_left test hs in omega (arith, one, more)
+  where
+    at : (b : Bool) → left_voter b (restored_voter h.1) ≤ 0
+    at true = omega arith
+    at false = omega arith
 
-one_left : (parts : List ℕ) → left_request (restored_request parts) ≤ 1
-one_left [] = omega arith
-one_left (p ∷ ps) = omega arith
+one_left : (shard : ℕ) (idle : Bool) (parts : List ℕ) → left_request shard idle (restored_request parts) ≤ 1
+one_left shard idle [] = omega arith
+one_left shard idle (p ∷ ps) = omega arith
 
-requests_left : (unended : Table (List ℕ)) → total left_request (restored_requests unended) ≤ length unended
-requests_left [] = omega arith
-requests_left (u ∷ us) = let one = one_left u.1 in let more = requests_left us in omega (arith, one, more)
+requests_left : (shard : ℕ) (test : TxId → Bool) (unended : Table (List ℕ)) → total_by (left_request shard) test (restored_requests unended) ≤ length unended
+requests_left shard test [] = omega arith
+requests_left shard test (u ∷ us) = let one = one_left shard (test u.0) u.1 in let more = requests_left shard test us in omega (arith, one, more)
 
 request_keys : (unended : Table (List ℕ)) → keys_of (restored_requests unended) ≡ keys_of unended
 request_keys [] = refl
@@ -106,7 +111,7 @@ module _ (shard epoch count : ℕ) (log : List LogRecord) (a : Parts) (m : AreMa
   made_holds depend =
       let s : Shard = state_after shard a.run epoch log 0 [] in
       let txs = in_doubt shard log in
-      let p = parts_left txs in let v = voters_left (homes_of log txs) in let q = requests_left (unended_in log log) in
+      let p = parts_left txs in let v = voters_left (is_finished s.local.parts) (homes_of log txs) in let q = requests_left s.shard (is_idle s.local.parts) (unended_in log log) in
       let homes : length (homes_of log txs) ≡ length txs = length-map txs _ in
       let lp : length s.local.parts ≡ length txs = length-map txs _ in
       let lv : length s.voters ≡ length (homes_of log txs) = length-map (homes_of log txs) _ in

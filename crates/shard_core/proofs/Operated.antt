@@ -37,6 +37,7 @@ use Rattle.shard_core.specs.Whole.{IsAtRest}
 use Rattle.shard_core.proofs.Seeing.{single, part_known, doomed_known}
 use Rattle.shard_core.proofs.Logged.{All, logged_more, logged_known, logged_without}
 use Rattle.shard_core.proofs.Changing.{room_kept, without_le, cover_purged}
+use Rattle.due_laws.proofs.Laws.{performed_le}
 use Rattle.shard_core.proofs.Taking.{here_in, without_keys, without_prepares, stage_known, known_doomed}
 use Rattle.shard_core.proofs.Committing.{idle_holds, idle_ready}
 use Rattle.shard_core.proofs.Replied.{Leaves, reply_leaves}
@@ -111,12 +112,12 @@ in_more x ks ms rest h e = ⊎_elim (λ i. first ms (h x i)) (λ i. second ms i)
 
 -- ---- a grant
 
-pub granted_changed : (a : Parts) (tx : TxId) (birth : Birth) (op : Op) (u : TxState) (f : Candidates) → IsAtRest (viewed a) → Holds a → IsSameBut a.transactions (purge (performed tx birth op a.transactions.local)) u → f.txs ≡ tx ∷ []
+pub granted_changed : (a : Parts) (tx : TxId) (birth : Birth) (op : Op) (u : TxState) (f : Candidates) → IsAtRest (viewed a) → Holds a → (is_some (stage_of a.transactions.local tx) ≡ false → tx_get tx a.coordinator.requests ≡ None) → IsSameBut a.transactions (purge (performed tx birth op a.transactions.local)) u → f.txs ≡ tx ∷ []
     → f.limit ≡ a.candidates.limit + cond (is_some (stage_of a.transactions.local tx)) 0 1 → KeepsSpare a.transactions u → a.transactions.pairs_room ≤ u.pairs_room → AreKept (record a { transactions = u; candidates = f })
     → Changed (record a { transactions = u; candidates = f }) (record (seen a) { local = performed tx birth op a.transactions.local })
-granted_changed a tx birth op u f rest whole e put limit room pairs kept =
+granted_changed a tx birth op u f rest whole fresh e put limit room pairs kept =
     let s : Shard = seen a in let t = a.transactions in let l = t.local in let V : Shard = record s { local = performed tx birth op l } in let b : Parts = record a { transactions = u; candidates = f } in
-    let new = performed_new tx birth op l in let work = new.work in let count = new.count in let places = whole.candidates.places in
+    let new = performed_new tx birth op l in let count = new.count in let places = whole.candidates.places in
     let w = writes_of op (value_at (key_of op) l.records) in
     let stay = λ (x : TxId) (i : tx_in x (known_keys s) ≡ true). in_more x (keys_of l.parts) (keys_of V.local.parts) (keys_of s.voters ++ keys_of s.requests) new.stay i in
     changed a b V (tx ∷ []) rest whole
@@ -131,7 +132,7 @@ granted_changed a tx birth op u f rest whole e put limit room pairs kept =
       known = λ x i. part_known V x (subst (HasPart V.local.parts) (tx_true tx x (⊎_elim (λ h. h) (λ h. absurd (both_ways false refl h)) (or_cases (tx_same tx x) false (sym (ap (tx_in x) put) ∙ i)))) new.own);
       places = omega (arith, count, places, limit);
     })
-    (room_kept s V t u a.outbox a.outbox (omega (arith, work)) room pairs (omega arith) whole.room)
+    (room_kept s V t u a.outbox a.outbox (performed_le s tx birth op rest.ready.requests new.work fresh) room pairs (omega arith) whole.room)
     rest.ready.requests
     kept
 
@@ -149,7 +150,7 @@ pub dying_changed : (a : Parts) (tx : TxId) (u : TxState) (f : Candidates) → I
     → AreKept (record a { transactions = u; candidates = f }) → Changed (record a { transactions = u; candidates = f }) (record (seen a) { local = without_part tx a.transactions.local })
 dying_changed a tx u f rest whole here e put limit room pairs kept =
     let s : Shard = seen a in let t = a.transactions in let l = t.local in let V : Shard = record s { local = without_part tx l } in let b : Parts = record a { transactions = u; candidates = f } in
-    let own = stage_known s tx here in let work = without_le tx l in
+    let own = stage_known s tx here in
     let noted : (x : TxId) → tx_in x f.txs ≡ tx_in x (doomed_by l tx) = λ x. put x ∙ ap (λ b. cond b (tx_in x (doomed_by l tx)) false) here in
     let places : f.limit ≡ a.candidates.limit = limit ∙ ap (λ b. a.candidates.limit + cond b 0 1) here ∙ omega arith in
     changed a b V (doomed_here l tx) rest whole
@@ -162,7 +163,7 @@ dying_changed a tx u f rest whole here e put limit room pairs kept =
     (subst (λ (x : TxState). All (known_keys V) (drop x.durable (x.local).log)) (sym e)
     (subst (λ ks. All (ks ++ (keys_of s.voters ++ keys_of s.requests)) (drop t.durable (without_part tx l).log)) (sym (without_keys tx l)) (logged_without (known_keys s) tx t.durable l whole.logged)))
     (known_doomed s V tx a.candidates f whole.dependents whole.candidates own (without_keys tx l) refl refl (λ x. noted x ∙ sym (ap (λ b. tx_in x (doomed_by l tx) || b) (ap (tx_in x) rest.none) ∙ or_none (tx_in x (doomed_by l tx)))) places)
-    (room_kept s V t u a.outbox a.outbox (omega (arith, work)) room pairs (omega arith) whole.room)
+    (room_kept s V t u a.outbox a.outbox (without_le s tx) room pairs (omega arith) whole.room)
     rest.ready.requests
     kept
 
@@ -202,6 +203,7 @@ nothing_there tx l e = at (stage_of l tx) e
     at (Some st) e = absurd (both_ways true e refl)
 
 module _ (a : Parts) (tx : TxId) (birth : Birth) (seen_epoch : Option ℕ) (op : Op) (u : TxState) (f : Candidates) (rest : IsAtRest (viewed a)) (whole : Holds a)
+    (fresh : is_some (stage_of a.transactions.local tx) ≡ false → tx_get tx a.coordinator.requests ≡ None)
     (limit : f.limit ≡ a.candidates.limit + cond (is_some (stage_of a.transactions.local tx)) 0 1) (places : a.candidates.limit ≤ f.limit) (room : KeepsSpare a.transactions u) (pairs : a.transactions.pairs_room ≤ u.pairs_room)
     (kept : AreKept (record a { transactions = u; candidates = f })) where
   abbrev reply : OpReply
@@ -229,7 +231,7 @@ module _ (a : Parts) (tx : TxId) (birth : Birth) (seen_epoch : Option ℕ) (op :
   pub operated : (r : Reply) → Replies reply a.transactions r u → (noted : Candidates) × ((x : TxId) → tx_in x noted.txs ≡ noted_by a.transactions.local tx x) × StayBy tx r noted.txs f.txs → Operated a after reply r
   operated (Answered answer copy epoch) x n =
       let is = leaves (OpAnswers answer x.0) x.1 in
-      let c = granted_changed a tx birth op u f rest whole (subst (λ (l : Local). IsSameBut a.transactions (purge l) u) is x.3) n.2 limit room pairs kept in
+      let c = granted_changed a tx birth op u f rest whole fresh (subst (λ (l : Local). IsSameBut a.transactions (purge l) u) is x.3) n.2 limit room pairs kept in
       record { whole = c.whole; ready = c.ready; comes = (x.0, x.1, x.2, c.finished ∙ ap (λ (l : Local). finish (record (seen a) { local = l })) (sym is), x.4) }
   operated (Dead cause) x n =
       let c = dead cause x.0 x.1 x.2 (λ y. ap (tx_in y) n.2 ∙ n.1 y) in

@@ -110,8 +110,8 @@ pub same_left : (a b : Parts) (V : Shard) → IsAtRest (viewed a) → Holds a �
 same_left a b V rest whole same touch one prepares candidates local voters requests logged room kept =
     let s : Shard = seen a in
     let purged : V ≡ with_local purge V = ap (λ (l : Local). record V { local = l }) (ap (λ (x : Shard). x.local) (sym same) ∙ sym kept.purged ∙ ap (λ (x : Shard). purge x.local) same) in
-    let was : Shard = record V { local = s.local; voters = s.voters; requests = s.requests } in
-    let is : was ≡ V = ap (λ (l : Local). record V { local = l; voters = s.voters; requests = s.requests }) (sym local) ∙ ap (λ (x : Table Voter). record V { voters = x; requests = s.requests }) (sym voters) ∙ ap (λ (x : Table Request). record V { requests = x }) (sym requests) in
+    let was : Shard = record V { shard = s.shard; local = s.local; voters = s.voters; requests = s.requests } in
+    let is : was ≡ V = ap (λ (n : ℕ). record V { shard = n; local = s.local; voters = s.voters; requests = s.requests }) (sym touch.shard) ∙ ap (λ (l : Local). record V { local = l; voters = s.voters; requests = s.requests }) (sym local) ∙ ap (λ (x : Table Voter). record V { voters = x; requests = s.requests }) (sym voters) ∙ ap (λ (x : Table Request). record V { requests = x }) (sym requests) in
     changed a b V [] rest whole (same ∙ purged) touch (λ x e. absurd (both_ways false refl e)) one
     (λ x. ap (λ (r : TxRows ℕ). tx_get x r.rows) prepares ∙ whole.prepares x ∙ ap (λ (l : Local). prepare_lsn l.log x) (sym local ∙ ap (λ (x : Shard). x.local) (sym same)))
     (subst (λ (x : Shard). DependentsHaveParts x.local) is whole.dependents)

@@ -1,5 +1,5 @@
 -- A table with one entry more, and what it counts.
-use Rattle.std.proofs.Common.{◌≡◌, refl, sym, ap, subst, ◌∙◌, ⊎_elim, ℕ, ◌+◌, ◌≤◌, Bool, true, false, cond, List, [], ◌∷◌, ◌++◌, length, Some, None, arith}
+use Rattle.std.proofs.Common.{◌≡◌, refl, sym, ap, subst, ◌∙◌, ⊎_elim, ℕ, suc, ◌+◌, ◌≤◌, Bool, true, false, cond, ◌&&◌, is_none, List, [], ◌∷◌, ◌++◌, length, Some, None, arith}
 use Rattle.std.proofs.lemmas.Bool.{both_ways, or_cases}
 use Rattle.std.specs.List.{AllByRecursion}
 use Rattle.std.specs.List.Sorted.{IsStrictlySortedBy}
@@ -13,7 +13,8 @@ use Rattle.clv_base.specs.declared.state.Voter.{Voter}
 use Rattle.clv_base.specs.Orders.{Table, tx_cmp, tx_same, tx_in, tx_get, tx_put}
 use Rattle.clv_base.specs.Participant.{asked_voter, voters_asked}
 use Rattle.clv_base.specs.OneShard.{closed_part, closed_in}
-use Rattle.clv_base.specs.Due.{total, part_work, voter_work}
+use Rattle.clv_base.specs.Due.{total, part_work}
+use Rattle.due_laws.specs.Left.{left_voter, total_by}
 use Rattle.clv_base.proofs.SameNames.{or_left, or_right, tx_true, tx_self, tx_eq}
 use Rattle.law_base.proofs.Sets.{tx_total}
 use Rattle.due_laws.proofs.Laws.{in_append}
@@ -63,15 +64,6 @@ right_more x xs ys more h e = ⊎_elim (λ i. in_left x xs more i) (λ i. in_rig
 
 -- ---- what is left to do by it
 
-pub put_total : {V : Type 0} (f : V → ℕ) (t : TxId) (v : V) (rs : Table V) → total f (tx_put t v rs) ≤ total f rs + f v
-put_total f t v [] = omega arith
-put_total f t v (r ∷ rs) = at (tx_cmp t r.0) (put_total f t v rs)
-  where
-    at : (o : Ordering) → total f (tx_put t v rs) ≤ total f rs + f v → total f (match_ordering o ((t, v) ∷ r ∷ rs) ((r.0, v) ∷ rs) (r ∷ tx_put t v rs)) ≤ f r.1 + total f rs + f v
-    at Less more = omega arith
-    at Equal more = omega arith
-    at Greater more = omega arith
-
 abbrev Above : TxId → List TxId → Type 0
 Above t ts = AllByRecursion (λ u. tx_cmp t u ≡ Less) ts
 
@@ -84,22 +76,34 @@ above_none t [] a = refl
 above_none t (r ∷ rs) a = ap (λ c. cond (is_eq c) (Some r.1) (tx_get t rs)) a.0 ∙ above_none t rs a.1
 
 -- one vote more is owed
+asked_more : (finished : Bool) (home seen : ℕ) (v : Voter) → left_voter finished (asked_voter home seen (Some v)) ≤ left_voter finished v + 1
+asked_more finished home seen v = at (finished && is_none v.vote)
+  where
+    at : (b : Bool) → cond b 0 (suc v.owed) ≤ cond b 0 v.owed + 1
+    at true = omega arith
+    at false = omega arith
+
+asked_first : (finished : Bool) (home seen : ℕ) → left_voter finished (asked_voter home seen None) ≤ 1
+asked_first true home seen = omega arith
+asked_first false home seen = omega arith
+
 abbrev asked_at : TxId → ℕ → ℕ → TxId × Voter → Table Voter → Ordering → Voter
 asked_at tx home seen r rs o = asked_voter home seen (cond (is_eq o) (Some r.1) (tx_get tx rs))
 
-pub asked_total : (tx : TxId) (home seen : ℕ) (vs : Table Voter) → IsStrictlySortedBy tx_cmp (keys_of vs) → total voter_work (voters_asked tx home seen vs) ≤ total voter_work vs + 1
+pub asked_total : (test : TxId → Bool) (tx : TxId) (home seen : ℕ) (vs : Table Voter) → IsStrictlySortedBy tx_cmp (keys_of vs) → total_by left_voter test (voters_asked tx home seen vs) ≤ total_by left_voter test vs + 1
 unfolding IsStrictlySortedBy
-asked_total tx home seen [] s = omega arith
-asked_total tx home seen (r ∷ rs) s = at (tx_cmp tx r.0) refl (asked_total tx home seen rs s.1)
+asked_total test tx home seen [] s = asked_first (test tx) home seen
+asked_total test tx home seen (r ∷ rs) s = at (tx_cmp tx r.0) refl (asked_total test tx home seen rs s.1)
   where
-    at : (o : Ordering) → tx_cmp tx r.0 ≡ o → total voter_work (voters_asked tx home seen rs) ≤ total voter_work rs + 1
-        → total voter_work (match_ordering o ((tx, asked_at tx home seen r rs o) ∷ r ∷ rs) ((r.0, asked_at tx home seen r rs o) ∷ rs) (r ∷ tx_put tx (asked_at tx home seen r rs o) rs)) ≤ voter_work r.1 + total voter_work rs + 1
+    at : (o : Ordering) → tx_cmp tx r.0 ≡ o → total_by left_voter test (voters_asked tx home seen rs) ≤ total_by left_voter test rs + 1
+        → total_by left_voter test (match_ordering o ((tx, asked_at tx home seen r rs o) ∷ r ∷ rs) ((r.0, asked_at tx home seen r rs o) ∷ rs) (r ∷ tx_put tx (asked_at tx home seen r rs o) rs)) ≤ left_voter (test r.0) r.1 + total_by left_voter test rs + 1
     at Less e more =
         let none = above_none tx rs (above_all tx r.0 (keys_of rs) e s.0 (λ x. tx_total.trans tx r.0 x)) in
-        let one : voter_work (asked_voter home seen (tx_get tx rs)) ≡ 1 = ap (λ o. voter_work (asked_voter home seen o)) none in
-        omega (arith, one)
-    at Equal e more = omega arith
-    at Greater e more = omega arith
+        let first = asked_first (test tx) home seen in
+        let same = ap (λ o. left_voter (test tx) (asked_voter home seen o)) none in
+        omega (arith, first, same)
+    at Equal e more = let one = asked_more (test r.0) home seen r.1 in omega (arith, one)
+    at Greater e more = omega (arith, more)
 
 -- a part that closes
 closed_above : (tx : TxId) (rs : Table Held) → Above tx (keys_of rs) → total part_work (closed_in tx rs) ≤ total part_work rs

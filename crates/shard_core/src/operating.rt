@@ -1,10 +1,11 @@
 //! Operations.
-ghost use Rattle.std.specs.Prelude.{◌≡◌, ◌≤◌, ◌<◌, ◌+◌, [], true, false, cond, length, is_some, IfOk, OnOk, OnErr};
+ghost use Rattle.std.specs.Prelude.{◌≡◌, ◌≤◌, ◌<◌, ◌+◌, ◌||◌, [], true, false, cond, length, is_none, is_some, IfOk, OnOk, OnErr};
 ghost use Rattle.std.specs.List.Sorted.{IsStrictlySortedBy};
 ghost use Rattle.clv_base.specs.declared.names.TxId.{TxId as Tx};
-ghost use Rattle.clv_base.specs.Orders.{tx_cmp, tx_in};
+ghost use Rattle.clv_base.specs.Orders.{tx_cmp, tx_get, tx_in};
 ghost use Rattle.clv_base.specs.Undo.{stage_of as stage_in, doomed_by};
 ghost use Rattle.clv_base.specs.OneShard.{op_reply, purge};
+ghost use Rattle.commit_coordinator.specs.Coordinated.{state_by};
 ghost use Rattle.due_candidates.specs.Held.{Candidates as Held, HasRoomBy};
 ghost use Rattle.due_loop.specs.Ready.{IsReady};
 ghost use Rattle.txn_core.specs.State.{IsSameBut};
@@ -112,6 +113,13 @@ fn op_noted<S: Store + Drop, L: Locks + Drop>(
 }
 
 impl<S: Store + Drop, L: Locks + Drop> ShardCore<S, L> {
+    /// Whether the transaction's part is known here, or no request of it stands. There is no room for a request whose part begins after it.
+    fn may_begin(&self, tx: TxId) -> bool
+        ensures { result ≡ (is_some (stage_in (self.now.shard).local tx) || is_none (state_by (tx_get tx (self.now.shard).requests))) }
+    {
+        self.transactions.stage_of(tx).is_some() || self.coordinator.state_of(tx).is_none()
+    }
+
     /// An operation, before what is due then is done. A quiet answer leaves the shard as it was, and so does want of memory.
     fn op_here(
         &mut self,
@@ -126,6 +134,9 @@ impl<S: Store + Drop, L: Locks + Drop> ShardCore<S, L> {
         ensures ok { IfOk result (λ r. Comes (op_reply (self.old.shard).shard (self.old.shard).local tx birth seen op) self.old.shard r self.new.shard) }
         ensures err { OnErr result (self.new.shard ≡ self.old.shard) }
     {
+        if !self.may_begin(tx) {
+            return Err(Memory);
+        }
         let reply = match op_noted(
             alloc,
             tx,
@@ -142,6 +153,7 @@ impl<S: Store + Drop, L: Locks + Drop> ShardCore<S, L> {
     }
 
     /// An operation of a transaction with this birth, and then all that is due. A quiet answer leaves the shard as it was, and so does want of memory.
+    /// `Memory` is also answered to a transaction that has no part here and yet a request, as none has whose session asks only once it is done.
     pub fn operate(
         &mut self,
         alloc: Global,

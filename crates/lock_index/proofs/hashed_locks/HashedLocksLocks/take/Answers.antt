@@ -1,12 +1,8 @@
 use Rattle.std.proofs.Common.{◌≤◌, ◌+◌, ◌/◌, sym, subst, min, length, vec_capacity}
 use Rattle.indexmap.specs.IndexMap.{spare}
-use Rattle.clv_base.specs.Locks.{Locks}
-use Rattle.lock_table.specs.Rows.{gaps_held, anchors_of}
-use Rattle.lock_index.specs.Groups.{rows_of}
-use Rattle.lock_index.specs.Rows.{groups}
+use Rattle.lock_table.specs.Rows.{anchors_of}
 use Rattle.lock_index.specs.Kept.{Table, spares, room_at}
 use Rattle.lock_index.proofs.Rooms.{room_for, room_falls, most_falls, of_most}
-use Rattle.lock_index.proofs.Counts.{gaps_held-take_all}
 use Rattle.lock_index.proofs.hashed_locks.HashedLocksLocks.take.Goals as goal
 
 pub take_all-requires-clause-room_on : goal.take_all-requires-clause-room_on
@@ -18,11 +14,6 @@ pub take_all-requires-clause-room : goal.take_all-requires-clause-room
 take_all-requires-clause-room c = let s = c.self.inside in let needs = c.args.needs.now in let most = min (spare s.links / 2) (vec_capacity s.copies) in
     let made = room_for (length needs) most s.groups.entries needs (subst (λ (v : Table). length needs ≤ room_at v.most v.spared (anchors_of needs)) (sym c.self.view_is) c.requires) in
     (of_most (length needs) (spare s.links) (vec_capacity s.copies) made.1).0
-
-pub returns-clause-gaps : goal.returns-clause-gaps
-returns-clause-gaps c = λ a. let needs = c.args.needs.now in
-    subst (λ (v : Table). gaps_held a (rows_of (groups c.take_all.new.groups.entries)) ≤ gaps_held a v.rows + length needs) c.self.view_is
-    (subst (λ (rows : Locks). gaps_held a rows ≤ gaps_held a (rows_of (groups c.self.inside.groups.entries)) + length needs) (sym c.take_all.ensures.rows) (gaps_held-take_all a c.args.tx c.args.birth needs (rows_of (groups c.self.inside.groups.entries))))
 
 pub returns-clause-room : goal.returns-clause-room
 returns-clause-room c = λ t on. let s = c.self.inside in let n = length c.args.needs.now in let fs = c.take_all.new.groups.entries in let now = spare c.take_all.new.links in

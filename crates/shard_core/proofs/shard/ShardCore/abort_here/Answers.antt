@@ -44,7 +44,6 @@ the_change g c =
     let V : Shard = decided s tx false in
     let rest = rest_of a c.args.self.now c.self.view_is c.requires.rest in
     let known = (subst (λ (v : Core). tx_in c.args.tx (known_keys v.shard) ≡ true) (sym c.self.view_is) c.requires.known) in
-    let shrinks = rolled_le tx l in
     changed a b V (doomed_here l tx) rest c.self.invariant
     (ap (λ (x : TxState). seen (record a { transactions = x })) e.aborted)
     (decisions_touch.1 s tx)
@@ -55,7 +54,7 @@ the_change g c =
     (subst (λ (x : TxState). All (known_keys V) (drop x.durable (x.local).log)) (sym e.aborted)
     (subst (λ ks. All (ks ++ (keys_of s.voters ++ keys_of s.requests)) (drop i.transactions.durable (roll_back tx l).log)) (sym (rolled_keys tx l)) (logged_undone (known_keys s) (doomed_here l tx) i.transactions.durable l c.self.invariant.logged)))
     (known_doomed s V tx i.candidates c.abort_noted.new.candidates c.self.invariant.dependents c.self.invariant.candidates known (rolled_keys tx l) refl refl e.txs e.limit)
-    (room_kept s V i.transactions c.abort_noted.new.transactions i.outbox i.outbox (omega (arith, shrinks)) e.room e.pairs_room (omega arith) c.self.invariant.room)
+    (room_kept s V i.transactions c.abort_noted.new.transactions i.outbox i.outbox (rolled_le s tx) e.room e.pairs_room (omega arith) c.self.invariant.room)
     rest.ready.requests
     (record { sound = e.sound; purged = e.purged; rise = e.rise; few = e.few })
 

@@ -45,7 +45,6 @@ the_change g c =
     let V : Shard = with_local (drop_part tx) s in
     let rest = rest_of a c.args.self.now c.self.view_is c.requires.rest in
     let known = stage_known s tx (subst (λ (v : Core). is_some (stage_of v.shard.local c.args.tx) ≡ true) (sym c.self.view_is) c.requires.known) in
-    let shrinks = dropped_le tx l in
     changed a b V (doomed_here l tx) rest c.self.invariant
     (ap (λ (x : TxState). seen (record a { transactions = x })) e.dropped)
     (drops_touch s tx)
@@ -56,7 +55,7 @@ the_change g c =
     (subst (λ (x : TxState). All (known_keys V) (drop x.durable (x.local).log)) (sym e.dropped)
     (subst (λ ks. All (ks ++ (keys_of s.voters ++ keys_of s.requests)) (drop i.transactions.durable (drop_part tx l).log)) (sym (dropped_keys tx l)) (logged_without (known_keys s) tx i.transactions.durable l c.self.invariant.logged)))
     (known_doomed s V tx i.candidates c.drop_noted.new.candidates c.self.invariant.dependents c.self.invariant.candidates known (dropped_keys tx l) refl refl e.txs e.limit)
-    (room_kept s V i.transactions c.drop_noted.new.transactions i.outbox i.outbox (omega (arith, shrinks)) e.room e.pairs_room (omega arith) c.self.invariant.room)
+    (room_kept s V i.transactions c.drop_noted.new.transactions i.outbox i.outbox (dropped_le s tx) e.room e.pairs_room (omega arith) c.self.invariant.room)
     rest.ready.requests
     (record { sound = e.sound; purged = e.purged; rise = e.rise; few = e.few })
 

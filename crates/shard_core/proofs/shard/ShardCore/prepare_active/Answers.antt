@@ -9,7 +9,7 @@ use Rattle.due_laws.specs.Changes.{successors_of}
 use Rattle.due_laws.proofs.Laws.{prepares_touch}
 use Rattle.shard_core.specs.Core.{Core}
 use Rattle.shard_core.proofs.Parts.{Parts, seen, Changed, rest_of}
-use Rattle.shard_core.proofs.Grown.{like_closed, turns_closed, owed_changed, active_known, room_doomed, within_closed, rising_before}
+use Rattle.shard_core.proofs.Grown.{like_closed, turns_closed, owed_changed, room_doomed, within_closed, rising_before}
 use Rattle.shard_core.proofs.shard.ShardCore.prepare_active.Given as given
 use Rattle.shard_core.proofs.shard.ShardCore.prepare_active.Goals as goal
 
@@ -42,7 +42,7 @@ the_change g c =
     let active : stage_of t.local tx ≡ Some Active = subst (λ (v : Core). stage_of v.shard.local tx ≡ Some Active) (sym c.self.view_is) c.requires.active in
     let left : n.outbox.room ≡ n.outbox.room + 0 = omega arith in
     owed_changed 1 a tx (close_part tx home false t.local) u q f (tx ∷ successors_of t.local.pairs tx) rest c.self.invariant
-    (like_closed a tx home false c.self.invariant (active_known a tx active) (rising_before t n.transactions stay.transactions e.rising)) home c.args.seen c.on_prepare.new.self n.outbox
+    (like_closed a tx home false c.self.invariant active (rising_before t n.transactions stay.transactions e.rising)) home c.args.seen c.on_prepare.new.self n.outbox
     (turns_closed 2 0 tx home false t n.transactions u a.prepares n.prepares q a.outbox n.outbox n.outbox a.candidates n.candidates f stay made e.closed e.room e.pairs_room e.places e.txs e.limit rest.none left)
     c.in-Ok-on_prepare.ensures.ok c.in-Ok-on_prepare.ensures.rising stay.messages (prepares_touch.0 s tx home c.args.seen) (within_closed tx n.transactions t n.candidates f stay.transactions e.txs)
     (record { sound = e.sound; purged = e.purged; rise = e.rise; few = e.few })

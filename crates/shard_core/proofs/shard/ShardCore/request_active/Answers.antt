@@ -11,7 +11,7 @@ use Rattle.due_laws.specs.Changes.{ChangesDue, successors_of}
 use Rattle.due_laws.proofs.Laws.{requests_touch}
 use Rattle.shard_core.specs.Core.{Core}
 use Rattle.shard_core.proofs.Parts.{Parts, seen, Changed, rest_of}
-use Rattle.shard_core.proofs.Grown.{like_closed, turns_closed, asked_changed, active_known, room_doomed, within_closed, rising_before}
+use Rattle.shard_core.proofs.Grown.{like_closed, turns_closed, asked_changed, room_doomed, within_closed, rising_before}
 use Rattle.shard_core.proofs.shard.ShardCore.request_active.Given as given
 use Rattle.shard_core.proofs.shard.ShardCore.request_active.Goals as goal
 
@@ -53,7 +53,7 @@ the_change g c =
     subst (λ o. Changed b (coordinate tx touched (record s { local = close_part tx t.shard o t.local }))) same
     (subst (λ k. Changed b (coordinate tx touched (record s { local = close_part tx k alone t.local }))) c.self.invariant.transactions
     (asked_changed 1 a tx (close_part tx home alone t.local) u q f (tx ∷ successors_of t.local.pairs tx) rest c.self.invariant
-    (like_closed a tx home alone c.self.invariant (active_known a tx active) (rising_before t n.transactions stay.transactions e.rising)) touched c.ask_commit.new.self w
+    (like_closed a tx home alone c.self.invariant active (rising_before t n.transactions stay.transactions e.rising)) touched c.ask_commit.new.self w
     (turns_closed 3 c.len.result tx home alone t n.transactions u a.prepares n.prepares q a.outbox n.outbox w a.candidates n.candidates f stay made e.closed e.room e.pairs_room e.places e.txs e.limit rest.none left)
     c.in-Ok-ask_commit.ensures.ok c.in-Ok-ask_commit.ensures.keys sent touch (within_closed tx n.transactions t n.candidates f stay.transactions e.txs)
     (record { sound = e.sound; purged = e.purged; rise = e.rise; few = e.few })))
