@@ -40,6 +40,11 @@ nothing_known = record { first_update = None; last_update = None; prepare = None
 abbrev pub known : Table TxFacts → TxId → TxFacts
 known m tx = unwrap_or (tx_get tx m) nothing_known
 
+-- a table in which what is known of one transaction stands before the rows
+abbrev pub with_newest : Option (TxId × TxFacts) → Table TxFacts → Table TxFacts
+with_newest None rows = rows
+with_newest (Some newest) rows = newest ∷ rows
+
 -- the table has what the log says of each transaction
 abbrev pub Knows : Table TxFacts → List LogRecord → Type 0
 Knows m log = (tx : TxId) → known m tx ≡ facts_of log tx

@@ -1,11 +1,11 @@
 // What a log says of all transactions.
 
-ghost use Rattle.std.specs.Prelude.{◌≡◌, ◌<◌, List, ◌∷◌, ◌++◌, [], length, IfOk, OnOk, OnErr, if◌then◌else◌};
+ghost use Rattle.std.specs.Prelude.{◌≡◌, ◌<◌, false, List, ◌∷◌, ◌++◌, [], length, IfOk, OnOk, OnErr, if◌then◌else◌};
 ghost use Rattle.clv_base.specs.declared.names.TxId.{TxId as Tx};
 ghost use Rattle.clv_base.specs.declared.logs.LogRecord.{LogRecord as Record};
 ghost use Rattle.clv_base.specs.Orders.{tx_same, tx_get, tx_put};
 ghost use Rattle.clv_base.specs.Logs.{is_record_of};
-ghost use Rattle.log_facts.specs.Facts.{Knows, known, facts_of, facts_with};
+ghost use Rattle.log_facts.specs.Facts.{Knows, known, facts_of, facts_with, with_newest};
 
 use crate::facts::{TxFacts, owner};
 use clv_base::logs::LogRecord;
@@ -40,19 +40,40 @@ fn set_row(rows: &mut TxTable<TxFacts>, tx: TxId, facts: TxFacts) -> Result<(), 
     Ok(())
 }
 
+// The newest facts go into the rows, where they are of another transaction than this one.
+fn leave_newest(
+    rows: &mut TxTable<TxFacts>,
+    newest: Option<(TxId, TxFacts)>,
+    tx: TxId,
+) -> Result<(), AllocError>
+    ensures set { OnOk result ((t : Tx) → tx_same tx t ≡ false → known rows.new.rows t ≡ known (with_newest newest rows.old.rows) t) }
+    ensures err { OnErr result (rows.new.rows ≡ rows.old.rows) }
+{
+    let Some((other, facts)) = newest else {
+        return Ok(());
+    };
+    if other == tx {
+        return Ok(());
+    }
+    set_row(rows, other, facts)
+}
+
 /// What a log says of each transaction.
 #[derive(Drop)]
 pub struct LogFacts {
     rows: TxTable<TxFacts>,
+    // Of the transaction of the newest record, in the place of what the rows have of it: records of one transaction often stand together, and then
+    // none but the first is looked up.
+    newest: Option<(TxId, TxFacts)>,
 }
 
 impl Model for LogFacts {
     ghost use Rattle.clv_base.specs.Orders.{Table};
-    ghost use Rattle.log_facts.specs.Facts.{TxFacts as Facts};
+    ghost use Rattle.log_facts.specs.Facts.{TxFacts as Facts, with_newest};
 
     ghost Value = { Table Facts };
 
-    ghost view = { λ f. f.rows.rows };
+    ghost view = { λ f. with_newest f.newest f.rows.rows };
 }
 
 impl LogFacts {
@@ -62,6 +83,7 @@ impl LogFacts {
     {
         LogFacts {
             rows: TxTable::new(alloc),
+            newest: None,
         }
     }
 
@@ -69,7 +91,20 @@ impl LogFacts {
     pub fn get(&self, tx: TxId) -> TxFacts
         ensures { result ≡ known self.now tx }
     {
-        row_of(&self.rows, tx)
+        match &self.newest {
+            Some((newest, facts)) if tx == *newest => *facts,
+            Some(_) | None => row_of(&self.rows, tx),
+        }
+    }
+
+    // The transaction has these facts from now on, and is that of the newest record.
+    fn hold(&mut self, tx: TxId, facts: TxFacts) -> Result<(), AllocError>
+        ensures set { OnOk result ((t : Tx) → known self.new t ≡ (if tx_same tx t then facts else known self.old t)) }
+        ensures err { OnErr result (self.new ≡ self.old) }
+    {
+        leave_newest(&mut self.rows, self.newest, tx)?;
+        self.newest = Some((tx, facts));
+        Ok(())
     }
 
     fn put(&mut self, lsn: usize, r: &LogRecord) -> Result<(), AllocError>
@@ -79,8 +114,8 @@ impl LogFacts {
         match owner(r) {
             None => Ok(()),
             Some(tx) => {
-                let facts = row_of(&self.rows, tx).with(lsn, r);
-                set_row(&mut self.rows, tx, facts)
+                let facts = self.get(tx).with(lsn, r);
+                self.hold(tx, facts)
             }
         }
     }

@@ -8,9 +8,7 @@ use Rattle.log_facts.proofs.table.LogFacts.put.Goals as goal
 pub returns-in-Some-clause-set : goal.returns-in-Some-clause-set
 returns-in-Some-clause-set c =
     let whose : own_tx c.args.r.now ≡ Some c.in-Some.tx = search rules in
-    let row : c.with-facts.result ≡ facts_with c.args.lsn c.args.r.now (known c.self.inside.rows.rows c.in-Some.tx) = search rules in
-    rw (← c.self.view_is) (
-    on_ok_weaker c.set_row.result
-    (λ set t. set t ∙ at_owner (known c.self.inside.rows.rows) (λ u. facts_with c.args.lsn c.args.r.now (known c.self.inside.rows.rows u)) c.args.r.now t c.in-Some.tx c.with-facts.result whose row)
-    c.set_row.ensures.set
-    )
+    let row : c.with-facts.result ≡ facts_with c.args.lsn c.args.r.now (known c.args.self.now c.in-Some.tx) = search rules in
+    on_ok_weaker c.hold.result
+    (λ set t. set t ∙ at_owner (known c.args.self.now) (λ u. facts_with c.args.lsn c.args.r.now (known c.args.self.now u)) c.args.r.now t c.in-Some.tx c.with-facts.result whose row)
+    c.hold.ensures.set
