@@ -9,9 +9,11 @@ use Rattle.clv_base.specs.declared.logs.LogRecord.TheVariants.{Update, Clr, Prep
 use Rattle.clv_base.specs.declared.state.Held.{Held}
 use Rattle.clv_base.specs.Orders.{Table, tx_cmp, tx_same, tx_in}
 use Rattle.clv_base.specs.Logs.{standing}
-use Rattle.clv_base.specs.State.{Local}
+use Rattle.clv_base.specs.State.{Local, is_present}
 use Rattle.clv_base.specs.Undo.{take_away, release_parts}
+use Rattle.clv_base.specs.OneShard.{marked_in, mark_dropped}
 use Rattle.clv_base.proofs.SameNames.{tx_true}
+use Rattle.law_base.proofs.Stages.{stage_marked}
 use Rattle.log_buffer.specs.Buffers.{Buffer}
 use Rattle.txn_core.specs.State.{TxState}
 use Rattle.txn_core.specs.Sound.{is_here, is_in, is_update_by, updates_by, IsKept, KeepsSpare}
@@ -106,3 +108,9 @@ pub back_like : (s t : TxState) (m : Local) → (t.local).parts ≡ m.parts → 
 back_like s t m parts log h =
     subst (λ (ps : Table Held). t.room + 2 * updates_by (is_here s.local) (s.local).log ≤ s.room + 2 * updates_by (is_here (record m { parts = ps })) (t.local).log) (sym parts)
     (subst (λ (lg : List LogRecord). t.room + 2 * updates_by (is_here s.local) (s.local).log ≤ s.room + 2 * updates_by (is_here m) lg) (sym log) h)
+
+-- a mark changes no stage
+pub back_marked : (s t : TxState) (tx : TxId) → (t.local).parts ≡ marked_in tx (s.local).parts → (t.local).log ≡ (s.local).log → t.room ≤ s.room → KeepsSpare t s
+back_marked s t tx parts log less =
+    let a = count_updates_fewer (is_here s.local) (is_here (mark_dropped tx s.local)) (s.local).log (λ u h. ap is_present (stage_marked tx u (s.local).parts) ∙ h) in
+    back_like s t (mark_dropped tx s.local) parts log (omega (arith, a, less))
