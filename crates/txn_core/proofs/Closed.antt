@@ -124,12 +124,12 @@ closed_sound l tx home one spare left active sound room =
 -- ---- a part that is finished
 
 module _ (tx : TxId) (l : Local) where
-  finished_here : (t : TxId) → is_here (release_parts (tx ∷ []) None l) t ≡ true → (tx_in t (tx ∷ []) ≡ false) × (is_here l t ≡ true)
+  pub finished_here : (t : TxId) → is_here (release_parts (tx ∷ []) None l) t ≡ true → (tx_in t (tx ∷ []) ≡ false) × (is_here l t ≡ true)
   finished_here t h =
       let out : tx_in t (tx ∷ []) ≡ false = false_from_ne_true _ (λ i. both_ways _ (own_go (tx ∷ []) None t l.parts i) h) in
       (out, ap is_present (sym (other_stays (tx ∷ []) None t l.parts out)) ∙ h)
 
-  still_here : (t : TxId) → tx_in t (tx ∷ []) ≡ false → is_here l t ≡ true → is_here (release_parts (tx ∷ []) None l) t ≡ true
+  pub still_here : (t : TxId) → tx_in t (tx ∷ []) ≡ false → is_here l t ≡ true → is_here (release_parts (tx ∷ []) None l) t ≡ true
   still_here t out h = ap is_present (other_stays (tx ∷ []) None t l.parts out) ∙ h
 
   pub spare_finished : updates_by (is_here (release_parts (tx ∷ []) None l)) l.log ≤ updates_by (is_here l) l.log

@@ -13,3 +13,4 @@ mod Batches
 mod Crowds
 mod Places
 pub mod Totals
+pub mod Returning

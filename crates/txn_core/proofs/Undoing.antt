@@ -203,7 +203,7 @@ module _ (set : List TxId) (tx : TxId) (l : Local) where
       let out : tx_in t set ≡ false = false_from_ne_true _ (λ i. both_ways _ (own_go set (Some tx) t l.parts i) h) in
       (out, ap is_present (sym (stage_other set (Some tx) t l.parts out)) ∙ h)
 
-  still_here : (t : TxId) → tx_in t set ≡ false → is_here l t ≡ true → is_here (take_away set tx l) t ≡ true
+  pub still_here : (t : TxId) → tx_in t set ≡ false → is_here l t ≡ true → is_here (take_away set tx l) t ≡ true
   still_here t out h = ap is_present (stage_other set (Some tx) t l.parts out) ∙ h
 
   -- what the set's undo may write was reserved for it

@@ -64,7 +64,8 @@ pub record IsKept (commits : Table ℕ) (l : Local) (spare : ℕ) : Type 0 where
   pub ghosts : GhostsAreLocked l.locks l.records
   pub few : FewUndecided l.log l.pairs
 
--- room beyond an ABORT and a CLR for each UPDATE of a part that is here never shrinks: what was reserved for more stays reserved
+-- room beyond an ABORT and a CLR for each UPDATE of a part that is here never shrinks: what was reserved for more stays reserved. The other way
+-- round it never grows: what was reserved for an undo that isn't wanted any more is given back
 abbrev pub KeepsSpare : TxState → TxState → Type 0
 KeepsSpare s t = s.room + 2 * updates_by (is_here t.local) (t.local).log ≤ t.room + 2 * updates_by (is_here s.local) (s.local).log
 

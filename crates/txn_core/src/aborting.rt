@@ -10,6 +10,7 @@ ghost use Rattle.txn_core.specs.Sound.{is_in, KeepsSpare};
 
 use crate::ending::end_parts;
 use crate::shard::ShardTx;
+use crate::trimming::room_beyond;
 use cascade_undo::roll_back;
 use clv_base::names::TxId;
 use clv_base::state::{Held, Stage};
@@ -20,7 +21,7 @@ use part_table::PartTable;
 use violation_deps::Deps;
 
 /// Whether the transaction's part is active or closed.
-fn is_here(parts: &PartTable, tx: TxId) -> bool
+pub(crate) fn is_here(parts: &PartTable, tx: TxId) -> bool
     ensures { result ≡ is_in parts.now.entries tx }
 {
     match parts.get(tx) {
@@ -47,16 +48,20 @@ fn mark_doomed(deps: &mut Deps, parts: &PartTable, tx: TxId)
 
 impl<S: Store + Drop, L: Locks + Drop> ShardTx<S, L> {
     /// The transaction, where its part is here, and all that depend on it are rolled back: the log gets their ABORTs and CLRs, their keys the values
-    /// before, their locks are given up, with the ghosts that bear no lock then, and their parts are gone. Takes no memory.
+    /// before, their locks are given up, with the ghosts that bear no lock then, and their parts are gone. The room for their undo is given back,
+    /// as far as it wasn't used. Takes no memory.
     pub fn abort(&mut self, tx: TxId)
         ensures without { IsSameBut self.old (purge (without tx self.old.local)) self.new }
         ensures room { KeepsSpare self.old self.new }
+        ensures given_back { KeepsSpare self.new self.old }
         ensures pairs_room { self.old.pairs_room ≤ self.new.pairs_room }
     {
         mark_doomed(&mut self.deps, &self.parts, tx);
+        let kept = room_beyond(&self.buffer, self.deps.marks());
         roll_back(&mut self.store, &mut self.buffer, &self.deps);
         release_all(&mut self.store, &mut self.locks, self.deps.marks());
         end_parts(&mut self.parts, self.deps.marks(), tx);
         self.deps.forget_marked();
+        self.buffer.trim(kept);
     }
 }

@@ -10,6 +10,7 @@ ghost use Rattle.txn_core.specs.Sound.{HasSpare, KeepsSpare, SpendsSpare};
 use crate::committing::write_commit;
 use crate::ending::finish_in;
 use crate::shard::ShardTx;
+use crate::trimming::room_without;
 use clv_base::logs::LogRecord;
 use clv_base::names::TxId;
 use clv_base::parts::ShardList;
@@ -40,14 +41,17 @@ impl<S: Store + Drop, L: Locks + Drop> ShardTx<S, L> {
     }
 
     /// The transaction's part is finished: its locks are given up, with the ghosts that bear no lock then, its predecessors are forgotten, and
-    /// it is gone by no abort. Takes no memory.
+    /// it is gone by no abort. The room for its undo is given back. Takes no memory.
     pub fn finish_part(&mut self, tx: TxId)
         ensures finished { IsSameBut self.old (purge (release_parts (tx ∷ []) None self.old.local)) self.new }
         ensures room { KeepsSpare self.old self.new }
+        ensures given_back { KeepsSpare self.new self.old }
         ensures pairs_room { self.old.pairs_room ≤ self.new.pairs_room }
     {
+        let kept = room_without(&self.buffer, &self.parts, tx);
         release_all(&mut self.store, &mut self.locks, &[tx]);
         finish_in(&mut self.parts, tx);
         self.deps.forget(tx);
+        self.buffer.trim(kept);
     }
 }

@@ -7,6 +7,7 @@ ghost use Rattle.txn_core.specs.Sound.{is_here, KeepsSpare};
 
 use crate::ending::{end_parts, mark_dropped};
 use crate::shard::ShardTx;
+use crate::trimming::room_beyond;
 use cascade_undo::roll_back;
 use clv_base::names::TxId;
 use clv_base::state::Stage;
@@ -16,27 +17,33 @@ use ordered_store::Store;
 
 impl<S: Store + Drop, L: Locks + Drop> ShardTx<S, L> {
     /// The transaction and all that depend on it are rolled back: the log gets their ABORTs and CLRs, their keys the values before, their locks
-    /// are given up, with the ghosts that bear no lock then, and their parts are gone. Takes no memory.
+    /// are given up, with the ghosts that bear no lock then, and their parts are gone. The room for their undo is given back, as far as it wasn't
+    /// used. Takes no memory.
     pub(crate) fn roll_back_part(&mut self, tx: TxId)
         requires { is_here self.old.local tx ≡ true }
         ensures without { IsSameBut self.old (purge (without tx self.old.local)) self.new }
         ensures room { KeepsSpare self.old self.new }
+        ensures given_back { KeepsSpare self.new self.old }
         ensures pairs_room { self.old.pairs_room ≤ self.new.pairs_room }
     {
         self.deps.mark_dependents(tx);
+        let kept = room_beyond(&self.buffer, self.deps.marks());
         roll_back(&mut self.store, &mut self.buffer, &self.deps);
         release_all(&mut self.store, &mut self.locks, self.deps.marks());
         end_parts(&mut self.parts, self.deps.marks(), tx);
         self.deps.forget_marked();
+        self.buffer.trim(kept);
     }
 
     /// The transaction's part is rolled back with all that depend on it, where it is there, and marked as dropped; ghosts that bear no lock then
-    /// go. It is false exactly where no part of it is known, and then all is as before. Takes no memory.
+    /// go. The room for their undo is given back, as far as it wasn't used. It is false exactly where no part of it is known, and then all is as
+    /// before. Takes no memory.
     pub fn drop_part(&mut self, tx: TxId) -> bool
         ensures known { result ≡ is_some (stage_in self.old.local tx) }
         ensures dropped { IsTrue result → IsSameBut self.old (purge (dropped_from tx self.old.local)) self.new }
         ensures absent { result ≡ false → self.new ≡ self.old }
         ensures room { KeepsSpare self.old self.new }
+        ensures given_back { KeepsSpare self.new self.old }
         ensures pairs_room { self.old.pairs_room ≤ self.new.pairs_room }
     {
         match self.stage_of(tx) {

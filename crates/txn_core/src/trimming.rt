@@ -1,15 +1,17 @@
 //! Giving back the room that nothing open wants.
-ghost use Rattle.std.specs.Prelude.{◌≡◌, OnOk, OnErr};
+ghost use Rattle.std.specs.Prelude.{◌≡◌, ◌+◌, ◌*◌, ◌≤◌, [], ◌∷◌, cond, OnOk, OnErr};
 ghost use Rattle.std.specs.List.Sorted.{IsStrictlySortedBy};
 ghost use Rattle.clv_base.specs.Orders.{tx_cmp, tx_in};
-ghost use Rattle.txn_core.specs.Sound.{trimmed, updates_by};
+ghost use Rattle.txn_core.specs.Sound.{is_in, trimmed, updates_by};
 
+use crate::aborting::is_here;
 use crate::shard::ShardTx;
 use clv_base::logs::LogRecord;
 use clv_base::names::TxId;
 use lock_table::{Locks, Memory};
 use log_buffer::LogBuffer;
 use ordered_store::Store;
+use part_table::PartTable;
 use std::alloc::Global;
 
 /// How many UPDATEs of these transactions, each of which is named once, the log has.
@@ -23,6 +25,28 @@ fn updates_of(buffer: &LogBuffer<LogRecord>, txs: &[TxId]) -> usize
         count += buffer.updates(*tx);
     }
     count
+}
+
+/// The room that isn't for the undo of these.
+pub(crate) fn room_beyond(buffer: &LogBuffer<LogRecord>, txs: &[TxId]) -> usize
+    requires rising { IsStrictlySortedBy tx_cmp txs.now }
+    requires room { 2 * updates_by (λ t. tx_in t txs.now) buffer.now.records ≤ buffer.now.room }
+    ensures { result + 2 * updates_by (λ t. tx_in t txs.now) buffer.now.records ≡ buffer.now.room }
+{
+    let room = buffer.room();
+    room - 2 * updates_of(buffer, txs)
+}
+
+/// The room that isn't for the undo of the transaction's part, where it is here.
+pub(crate) fn room_without(buffer: &LogBuffer<LogRecord>, parts: &PartTable, tx: TxId) -> usize
+    requires { 2 * updates_by (is_in parts.now.entries) buffer.now.records ≤ buffer.now.room }
+    ensures { result + 2 * cond (is_in parts.now.entries tx) (updates_by (λ t. tx_in t (tx ∷ [])) buffer.now.records) 0 ≡ buffer.now.room }
+{
+    if is_here(parts, tx) {
+        room_beyond(buffer, &[tx])
+    } else {
+        buffer.room()
+    }
 }
 
 impl<S: Store + Drop, L: Locks + Drop> ShardTx<S, L> {

@@ -1,6 +1,8 @@
 -- What the part did can be taken away; the records of an undo hold no COMMIT, and the others keep what they have.
-use Rattle.std.proofs.Common.{◌≡◌, ◌+◌, ◌≤◌, true, List, length, sym, ap, subst, ◌∙◌, refl, arith, Some}
+use Rattle.std.proofs.Common.{◌≡◌, ◌+◌, ◌*◌, ◌≤◌, true, List, length, sym, ap, subst, ◌∙◌, refl, arith, Some}
+use Rattle.std.proofs.Math.Nat.{min-eq_right}
 use Rattle.clv_base.specs.declared.names.TxId.{TxId}
+use Rattle.clv_base.specs.declared.logs.LogRecord.{LogRecord}
 use Rattle.clv_base.specs.Orders.{tx_get}
 use Rattle.clv_base.specs.Logs.{standing, commit_lsn}
 use Rattle.clv_base.specs.Locks.{Locks, release}
@@ -9,16 +11,27 @@ use Rattle.clv_base.specs.OneShard.{purge}
 use Rattle.clv_base.specs.State.{Local}
 use Rattle.clv_base.specs.Undo.{doomed_by, take_away, roll_back, records_without, aborts_of, clrs_of, gone_in, pairs_without}
 use Rattle.cascade_undo.specs.Writes.{writes_of, HaveRecords}
+use Rattle.log_buffer.specs.Buffers.{Buffer}
 use Rattle.txn_core.specs.State.{TxState}
-use Rattle.txn_core.specs.Sound.{is_here, KeepsSpare}
+use Rattle.txn_core.specs.Sound.{is_here, updates_by, KeepsSpare}
 use Rattle.txn_core.proofs.Settled.{commit_lsn-undone}
 use Rattle.txn_core.proofs.Undoing.{undoable, each_here, doomed_rise, doomed_are_here, sound_away, spare_away, spare_like, sound_more, local_same, state_same}
 use Rattle.lock_release.proofs.Laws.{purged_are_locked}
 use Rattle.txn_core.proofs.Locked.{undone_ghosts_are_locked, sound_purged, ghosts_same}
-use Rattle.txn_core.proofs.Owing.{undo_at_most}
+use Rattle.txn_core.proofs.Owing.{in_set, count_updates_fewer, undo_at_most}
+use Rattle.txn_core.proofs.Returning.{Kept, spare_back, back_like}
 use Rattle.txn_core.proofs.Crowds.{few_same, few_undone, few_without}
 use Rattle.txn_core.proofs.shard.ShardTx.roll_back_part.Goals as goal
 use Rattle.std.specs.Prelude.{◌++◌}
+
+pub room_beyond-kept-requires-clause-room : goal.room_beyond-kept-requires-clause-room
+room_beyond-kept-requires-clause-room g c =
+    let s = c.self.inside in let tx = c.args.tx in let sound = c.self.invariant.sound in
+    let l : Local = record { records = g.S.Store.records s.store; locks = g.L.Locks.rows s.locks; parts = s.parts.entries; pairs = s.deps.pairs; log = s.buffer.records; epoch = s.epoch } in
+    let here : is_here l tx ≡ true = subst (λ (v : TxState). is_here v.local tx ≡ true) (sym c.self.view_is) c.requires in
+    let set = doomed_by l tx in let marked : c.mark_dependents.new.self.marked ≡ set = c.mark_dependents.ensures.marked in
+    let fits = count_updates_fewer (in_set set) (is_here l) l.log (each_here l s.buffer.room sound tx here) in
+    subst (λ (m : List TxId). 2 * updates_by (in_set m) l.log ≤ s.buffer.room) (sym (c.marks.ensures.marked ∙ marked)) (omega (arith, fits, sound.room))
 
 pub roll_back-requires : goal.roll_back-requires
 roll_back-requires g c =
@@ -49,25 +62,31 @@ invariant_of-self g c =
     let sound = c.self.invariant.sound in
     let most = undo_at_most set l.log (doomed_rise l s.buffer.room sound tx here) in
     let spent = subst (λ (m : List TxId). s.buffer.room ≤ c.roll_back.new.buffer.room + (length (aborts_of l.log m) + length (writes_of m (standing l.log)))) marked c.roll_back.ensures.room in
-    let left = sound_away set tx l s.buffer.room c.roll_back.new.buffer.room sound (each_here l s.buffer.room sound tx here) (omega (arith, most, spent)) in
+    let kept = c.room_beyond-kept.result in
+    let told = subst (λ (m : List TxId). kept + 2 * updates_by (in_set m) l.log ≡ s.buffer.room) (c.marks.ensures.marked ∙ marked) c.room_beyond-kept.ensures in
+    let back : c.trim.new.self ≡ record c.roll_back.new.buffer { room = kept } = c.trim.ensures ∙ ap (λ n. record c.roll_back.new.buffer { room = n }) (min-eq_right (omega (arith, told, most, spent))) in
+    let left = sound_away set tx l s.buffer.room kept sound (each_here l s.buffer.room sound tx here) (omega (arith, told)) in
     let undone = c.roll_back.ensures.records ∙ ap (λ (m : List TxId). records_without m (standing l.log) l.records) marked in
-    let locks = c.release_all.ensures.rows ∙ ap (λ (m : List TxId). release m l.locks) (c.marks.ensures.marked ∙ marked) in
+    let locks = c.release_all.ensures.rows ∙ ap (λ (m : List TxId). release m l.locks) (c.marks-2.ensures.marked ∙ marked) in
     let records =
     c.release_all.ensures.records ∙ ap (λ (k : Locks). without_ghosts k (g.S.Store.records c.roll_back.new.store)) locks
     ∙ ap (without_ghosts (release (doomed_by l tx) l.locks)) undone in
-    let parts = c.end_parts.ensures ∙ ap (λ (m : List TxId). gone_in m (Some tx) l.parts) (c.marks-2.ensures.marked ∙ marked) in
+    let parts = c.end_parts.ensures ∙ ap (λ (m : List TxId). gone_in m (Some tx) l.parts) (c.marks-3.ensures.marked ∙ marked) in
     let pairs = c.forget_marked.ensures.pairs ∙ ap (pairs_without c.mark_dependents.new.self.marked) c.mark_dependents.ensures.pairs ∙ ap (λ (m : List TxId). pairs_without m l.pairs) marked in
     let log = c.roll_back.ensures.log ∙ ap (λ (m : List TxId). l.log ++ aborts_of l.log m ++ clrs_of m (standing l.log)) marked in
+    let m : Local = record { records = g.S.Store.records c.release_all.new.store; locks = g.L.Locks.rows c.release_all.new.locks; parts = c.end_parts.new.parts.entries; pairs = c.forget_marked.new.self.pairs; log = c.roll_back.new.buffer.records; epoch = s.epoch } in
+    let base : Kept c.forget_marked.new.self.commits m (record c.roll_back.new.buffer { room = kept }) =
     record {
       settled = λ t.
           ap (tx_get t) (c.forget_marked.ensures.commits ∙ c.mark_dependents.ensures.commits) ∙ c.self.invariant.settled t
           ∙ sym (ap (λ m. commit_lsn m t) c.roll_back.ensures.log ∙ commit_lsn-undone t c.mark_dependents.new.self.marked (standing l.log) l.log);
-      sound = sound_more (purge (take_away set tx l)) _ c.roll_back.new.buffer.room c.roll_back.new.buffer.room (local_same _ _ _ _ _ (purge (take_away set tx l)) records locks parts pairs log) (omega arith)
-          (sound_purged (take_away set tx l) c.roll_back.new.buffer.room left);
+      sound = sound_more (purge (take_away set tx l)) _ kept kept (local_same _ _ _ _ _ (purge (take_away set tx l)) records locks parts pairs log) (omega arith)
+          (sound_purged (take_away set tx l) kept left);
       ghosts = ghosts_same _ _ _ _ locks records (purged_are_locked (release set l.locks) (records_without set (standing l.log) l.records));
       few = few_same (take_away set tx l).log c.roll_back.new.buffer.records (pairs_without set l.pairs) _ log pairs
           (few_undone l.log (aborts_of l.log set) (clrs_of set (standing l.log)) (pairs_without set l.pairs) (few_without set l.log l.pairs c.self.invariant.few));
     }
+    in subst (λ (b : Buffer LogRecord). Kept c.forget_marked.new.self.commits m b) (sym back) base
 
 pub returns-clause-without : goal.returns-clause-without
 returns-clause-without g c =
@@ -75,19 +94,28 @@ returns-clause-without g c =
     let l : Local = record { records = g.S.Store.records s.store; locks = g.L.Locks.rows s.locks; parts = s.parts.entries; pairs = s.deps.pairs; log = s.buffer.records; epoch = s.epoch } in
     let here : is_here l tx ≡ true = subst (λ (v : TxState). is_here v.local tx ≡ true) (sym c.self.view_is) c.requires in
     let marked = c.mark_dependents.ensures.marked in
+    let sound = c.self.invariant.sound in let set = doomed_by l tx in
+    let most = undo_at_most set l.log (doomed_rise l s.buffer.room sound tx here) in
+    let spent = subst (λ (m : List TxId). s.buffer.room ≤ now.room + (length (aborts_of l.log m) + length (writes_of m (standing l.log)))) marked c.roll_back.ensures.room in
+    let kept = c.room_beyond-kept.result in
+    let told = subst (λ (m : List TxId). kept + 2 * updates_by (in_set m) l.log ≡ s.buffer.room) (c.marks.ensures.marked ∙ marked) c.room_beyond-kept.ensures in
+    let back : c.trim.new.self ≡ record c.roll_back.new.buffer { room = kept } = c.trim.ensures ∙ ap (λ n. record c.roll_back.new.buffer { room = n }) (min-eq_right (omega (arith, told, most, spent))) in
     let undone = c.roll_back.ensures.records ∙ ap (λ (m : List TxId). records_without m (standing l.log) l.records) marked in
-    let locks = c.release_all.ensures.rows ∙ ap (λ (m : List TxId). release m l.locks) (c.marks.ensures.marked ∙ marked) in
+    let locks = c.release_all.ensures.rows ∙ ap (λ (m : List TxId). release m l.locks) (c.marks-2.ensures.marked ∙ marked) in
     let records =
     c.release_all.ensures.records ∙ ap (λ (k : Locks). without_ghosts k (g.S.Store.records c.roll_back.new.store)) locks
     ∙ ap (without_ghosts (release (doomed_by l tx) l.locks)) undone in
-    let parts = c.end_parts.ensures ∙ ap (λ (m : List TxId). gone_in m (Some tx) l.parts) (c.marks-2.ensures.marked ∙ marked) in
+    let parts = c.end_parts.ensures ∙ ap (λ (m : List TxId). gone_in m (Some tx) l.parts) (c.marks-3.ensures.marked ∙ marked) in
     let pairs = c.forget_marked.ensures.pairs ∙ ap (pairs_without c.mark_dependents.new.self.marked) c.mark_dependents.ensures.pairs ∙ ap (λ (m : List TxId). pairs_without m l.pairs) marked in
     let log = c.roll_back.ensures.log ∙ ap (λ (m : List TxId). l.log ++ aborts_of l.log m ++ clrs_of m (standing l.log)) marked in
     let away = local_same _ _ _ _ _ (purge (take_away (doomed_by l tx) tx l)) records locks parts pairs log ∙ ap (λ (m : List TxId). purge (take_away m tx l)) (sym (doomed_are_here l s.buffer.room c.self.invariant.sound tx here)) in
-    let inside = state_same s.shard _ (purge (roll_back tx l)) now.durable s.buffer.durable now.taken s.buffer.taken now.room c.forget_marked.new.self.room away c.roll_back.ensures.fronts.0 c.roll_back.ensures.fronts.1 in
-    let m : Local = record { records = g.S.Store.records c.release_all.new.store; locks = g.L.Locks.rows c.release_all.new.locks; parts = c.end_parts.new.parts.entries; pairs = c.forget_marked.new.self.pairs; log = now.records; epoch = s.epoch } in
-    let left : TxState = record { shard = s.shard; local = m; durable = now.durable; taken = now.taken; room = now.room; pairs_room = c.forget_marked.new.self.room } in
-    subst (λ (v : TxState). ◌≡◌ {A = TxState} left (record { shard = v.shard; local = purge (roll_back tx v.local); durable = v.durable; taken = v.taken; room = now.room; pairs_room = c.forget_marked.new.self.room })) c.self.view_is inside
+    let view : TxState = record { shard = s.shard; local = l; durable = s.buffer.durable; taken = s.buffer.taken; room = s.buffer.room; pairs_room = s.deps.room } in
+    let m : Local = record { records = g.S.Store.records c.release_all.new.store; locks = g.L.Locks.rows c.release_all.new.locks; parts = c.end_parts.new.parts.entries; pairs = c.forget_marked.new.self.pairs; log = c.roll_back.new.buffer.records; epoch = s.epoch } in
+    let left : Buffer LogRecord → TxState = λ b. record { shard = s.shard; local = record m { log = b.records }; durable = b.durable; taken = b.taken; room = b.room; pairs_room = c.forget_marked.new.self.room } in
+    let ends : TxState → Buffer LogRecord → Type 0 = λ v b. left b ≡ record v { local = purge (roll_back tx v.local); room = b.room; pairs_room = c.forget_marked.new.self.room } in
+    let inside : ends view (record now { room = kept }) =
+    state_same s.shard m (purge (roll_back tx l)) now.durable s.buffer.durable now.taken s.buffer.taken kept c.forget_marked.new.self.room away c.roll_back.ensures.fronts.0 c.roll_back.ensures.fronts.1 in
+    subst (λ (v : TxState). ends v c.trim.new.self) c.self.view_is (subst (λ (b : Buffer LogRecord). ends view b) (sym back) inside)
 
 pub returns-clause-room : goal.returns-clause-room
 returns-clause-room g c =
@@ -97,11 +125,34 @@ returns-clause-room g c =
     let set = doomed_by l tx in let marked = c.mark_dependents.ensures.marked in let sound = c.self.invariant.sound in
     let most = undo_at_most set l.log (doomed_rise l s.buffer.room sound tx here) in
     let spent = subst (λ (m : List TxId). s.buffer.room ≤ now.room + (length (aborts_of l.log m) + length (writes_of m (standing l.log)))) marked c.roll_back.ensures.room in
-    let spare = spare_away set tx l s.buffer.room now.room (each_here l s.buffer.room sound tx here) (omega (arith, most, spent)) in
-    let parts = c.end_parts.ensures ∙ ap (λ (m : List TxId). gone_in m (Some tx) l.parts) (c.marks-2.ensures.marked ∙ marked) in
+    let kept = c.room_beyond-kept.result in
+    let told = subst (λ (m : List TxId). kept + 2 * updates_by (in_set m) l.log ≡ s.buffer.room) (c.marks.ensures.marked ∙ marked) c.room_beyond-kept.ensures in
+    let back : c.trim.new.self ≡ record c.roll_back.new.buffer { room = kept } = c.trim.ensures ∙ ap (λ n. record c.roll_back.new.buffer { room = n }) (min-eq_right (omega (arith, told, most, spent))) in
+    let spare = spare_away set tx l s.buffer.room kept (each_here l s.buffer.room sound tx here) (omega (arith, told)) in
+    let parts = c.end_parts.ensures ∙ ap (λ (m : List TxId). gone_in m (Some tx) l.parts) (c.marks-3.ensures.marked ∙ marked) in
     let log = c.roll_back.ensures.log ∙ ap (λ (m : List TxId). l.log ++ aborts_of l.log m ++ clrs_of m (standing l.log)) marked in
     let view : TxState = record { shard = s.shard; local = l; durable = s.buffer.durable; taken = s.buffer.taken; room = s.buffer.room; pairs_room = s.deps.room } in
-    let m : Local = record { records = g.S.Store.records c.release_all.new.store; locks = g.L.Locks.rows c.release_all.new.locks; parts = c.end_parts.new.parts.entries; pairs = c.forget_marked.new.self.pairs; log = now.records; epoch = s.epoch } in
-    let left : TxState = record { shard = s.shard; local = m; durable = now.durable; taken = now.taken; room = now.room; pairs_room = c.forget_marked.new.self.room } in
-    let inside : KeepsSpare view left = spare_like view left (take_away set tx l) parts log spare in
-    subst (λ (v : TxState). KeepsSpare v left) c.self.view_is inside
+    let m : Local = record { records = g.S.Store.records c.release_all.new.store; locks = g.L.Locks.rows c.release_all.new.locks; parts = c.end_parts.new.parts.entries; pairs = c.forget_marked.new.self.pairs; log = c.roll_back.new.buffer.records; epoch = s.epoch } in
+    let left : Buffer LogRecord → TxState = λ b. record { shard = s.shard; local = record m { log = b.records }; durable = b.durable; taken = b.taken; room = b.room; pairs_room = c.forget_marked.new.self.room } in
+    let inside : KeepsSpare view (left (record now { room = kept })) = spare_like view (left (record now { room = kept })) (take_away set tx l) parts log spare in
+    subst (λ (v : TxState). KeepsSpare v (left c.trim.new.self)) c.self.view_is (subst (λ (b : Buffer LogRecord). KeepsSpare view (left b)) (sym back) inside)
+
+pub returns-clause-given_back : goal.returns-clause-given_back
+returns-clause-given_back g c =
+    let s = c.self.inside in let tx = c.args.tx in let now = c.roll_back.new.buffer in
+    let l : Local = record { records = g.S.Store.records s.store; locks = g.L.Locks.rows s.locks; parts = s.parts.entries; pairs = s.deps.pairs; log = s.buffer.records; epoch = s.epoch } in
+    let here : is_here l tx ≡ true = subst (λ (v : TxState). is_here v.local tx ≡ true) (sym c.self.view_is) c.requires in
+    let set = doomed_by l tx in let marked = c.mark_dependents.ensures.marked in let sound = c.self.invariant.sound in
+    let most = undo_at_most set l.log (doomed_rise l s.buffer.room sound tx here) in
+    let spent = subst (λ (m : List TxId). s.buffer.room ≤ now.room + (length (aborts_of l.log m) + length (writes_of m (standing l.log)))) marked c.roll_back.ensures.room in
+    let kept = c.room_beyond-kept.result in
+    let told = subst (λ (m : List TxId). kept + 2 * updates_by (in_set m) l.log ≡ s.buffer.room) (c.marks.ensures.marked ∙ marked) c.room_beyond-kept.ensures in
+    let back : c.trim.new.self ≡ record c.roll_back.new.buffer { room = kept } = c.trim.ensures ∙ ap (λ n. record c.roll_back.new.buffer { room = n }) (min-eq_right (omega (arith, told, most, spent))) in
+    let spare = spare_back set tx l s.buffer.room kept (omega (arith, told)) in
+    let parts = c.end_parts.ensures ∙ ap (λ (m : List TxId). gone_in m (Some tx) l.parts) (c.marks-3.ensures.marked ∙ marked) in
+    let log = c.roll_back.ensures.log ∙ ap (λ (m : List TxId). l.log ++ aborts_of l.log m ++ clrs_of m (standing l.log)) marked in
+    let view : TxState = record { shard = s.shard; local = l; durable = s.buffer.durable; taken = s.buffer.taken; room = s.buffer.room; pairs_room = s.deps.room } in
+    let m : Local = record { records = g.S.Store.records c.release_all.new.store; locks = g.L.Locks.rows c.release_all.new.locks; parts = c.end_parts.new.parts.entries; pairs = c.forget_marked.new.self.pairs; log = c.roll_back.new.buffer.records; epoch = s.epoch } in
+    let left : Buffer LogRecord → TxState = λ b. record { shard = s.shard; local = record m { log = b.records }; durable = b.durable; taken = b.taken; room = b.room; pairs_room = c.forget_marked.new.self.room } in
+    let inside : KeepsSpare (left (record now { room = kept })) view = back_like view (left (record now { room = kept })) (take_away set tx l) parts log spare in
+    subst (λ (v : TxState). KeepsSpare (left c.trim.new.self) v) c.self.view_is (subst (λ (b : Buffer LogRecord). KeepsSpare (left b) view) (sym back) inside)
