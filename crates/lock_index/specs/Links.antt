@@ -1,5 +1,5 @@
 -- Each transaction's anchors as a thread: from its first anchor to the next one, and on to the last.
-use Rattle.std.specs.Prelude.{◌≡◌, ◌⊎◌, Bool, true, false, cond, not, ◌&&◌, ◌||◌, List, [], ◌∷◌, Option, Some, None, is_some}
+use Rattle.std.specs.Prelude.{◌≡◌, ℕ, ◌+◌, ◌*◌, ◌^◌, ◌%◌, ◌⊎◌, Bool, true, false, cond, not, ◌&&◌, ◌||◌, List, [], ◌∷◌, Option, Some, None, is_some}
 use Rattle.std.specs.Option.{option_flatten}
 use Rattle.std.specs.Map.{lookup}
 use Rattle.clv_base.specs.declared.names.TxId.{TxId}
@@ -26,6 +26,17 @@ place_of (At k) = Some (AtAnchor k)
 
 abbrev pub link_of : TxId → Option Anchor → Link
 link_of t p = record { run = t.run; session = t.session; serial = t.serial; spot = spot_of p }
+
+-- a spot as one number, and a link as one, which tell them apart but for few
+abbrev pub number : Spot → ℕ
+number First = 0
+number Low = 1
+number (At k) = (k + 2) % 2 ^ 64
+
+abbrev pub mixed : Link → ℕ
+mixed l =
+    ((((l.serial * 64) % 2 ^ 64 + l.session) % 2 ^ 64 + (l.run * 11400714819323198485) % 2 ^ 64) % 2 ^ 64
+    + (number l.spot * 14029467366897019727) % 2 ^ 64) % 2 ^ 64
 
 abbrev pub tx_of : Link → TxId
 tx_of l = record { run = l.run; session = l.session; serial = l.serial }

@@ -1,27 +1,73 @@
 //! The anchors of each transaction, as a thread from one to the next, so that none of the others is looked at.
 ghost use Rattle.std.specs.Prelude.{◌≡◌, ◌≤◌, ◌<◌, ◌+◌, Some, None};
 ghost use Rattle.indexmap.specs.IndexMap.{spare};
-ghost use Rattle.lock_index.specs.Links.{link_of, next_of, nexts, first as first_in, Threaded, Changes, PutsIn, TakesOut};
+ghost use Rattle.lock_index.specs.Links.{number, mixed, link_of, next_of, nexts, first as first_in, Threaded, Changes, PutsIn, TakesOut};
 
 use clv_base::modes::Anchor;
 use clv_base::names::TxId;
 use indexmap::IndexMap;
+use std::hash::{Hash, Hasher};
 
 /// A place in a thread: before its first anchor, or an anchor.
-#[derive(Clone, Copy, PartialEq, Eq, Hash)]
+#[derive(Clone, Copy, PartialEq, Eq)]
 pub(crate) enum Spot {
     First,
     Low,
     At(u64),
 }
 
+impl Spot {
+    /// The spot as one number.
+    fn number(self) -> u64
+        ensures { result ≡ number self }
+    {
+        match self {
+            Spot::First => 0,
+            Spot::Low => 1,
+            Spot::At(key) => key.wrapping_add(2),
+        }
+    }
+}
+
 /// A place in a transaction's thread. The map has the anchor that follows it.
-#[derive(Clone, Copy, PartialEq, Eq, Hash)]
+#[derive(Clone, Copy, PartialEq, Eq)]
 pub(crate) struct Link {
     run: u32,
     session: u32,
     serial: u64,
     spot: Spot,
+}
+
+// Numbers of runs and of spots are spread by these.
+const RUNS: u64 = 0x9e37_79b9_7f4a_7c15;
+
+const SPOTS: u64 = 0xc2b2_ae3d_27d4_eb4f;
+
+impl Link {
+    // The four numbers as one. Links with the same one are told apart by comparing them, so it need only be so in few cases.
+    fn mixed(self) -> u64
+        ensures { result ≡ mixed self }
+    {
+        let name = (self.serial.wrapping_mul(64))
+            .wrapping_add(self.session as u64)
+            .wrapping_add((self.run as u64).wrapping_mul(RUNS));
+        name.wrapping_add(self.spot.number().wrapping_mul(SPOTS))
+    }
+}
+
+// One write for all four.
+impl Hash for Link {
+    ghost use Rattle.std.specs.Hash as fed;
+    ghost use Rattle.std.proofs.Common.{rules};
+    ghost use Rattle.lock_index.specs.Links.{mixed};
+
+    ghost hash_input = { λ l. fed.u64 (mixed l) };
+
+    ghost respects_eq = { Prim.search rules };
+
+    fn hash<H: Hasher>(&self, state: &mut H) {
+        state.write_u64(self.mixed());
+    }
 }
 
 /// A place in a transaction's thread.
