@@ -4,7 +4,7 @@ use std::sync::Wait;
 use std::sync::atomic::{AtomicU64, Ordering};
 
 // How many are inside at most. Who stands in line keeps a processor busy, and who is to be served next must not be asleep.
-const PLACES: u64 = 4;
+const PLACES: u64 = 8;
 
 /// The door before a line. No proof rests on it: who is inside is served in the order of tickets all the same.
 #[derive(Drop)]
@@ -30,13 +30,13 @@ impl Door {
         }
     }
 
+    // Who finds no place leaves again at once. Another one may find none for that while, and doesn't sleep before it has looked once more.
     fn try_come_in(&self) -> bool {
-        let inside = self.inside.load(Ordering::SeqCst);
-        inside < PLACES
-            && self
-                .inside
-                .compare_exchange(inside, inside + 1, Ordering::SeqCst, Ordering::SeqCst)
-                .is_ok()
+        if self.inside.fetch_add(1, Ordering::SeqCst) < PLACES {
+            return true;
+        }
+        self.inside.fetch_sub(1, Ordering::SeqCst);
+        false
     }
 
     /// Waits until there is a place inside.
