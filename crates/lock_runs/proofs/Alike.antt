@@ -1,5 +1,5 @@
 -- Calls that leave no choice have one answer over the same rows.
-use Rattle.std.proofs.Common.{◌≡◌, sym, ap, ◌∙◌, subst, cond, true, false, Bool, ◌||◌, List, [], ◌∷◌}
+use Rattle.std.proofs.Common.{◌≡◌, sym, ap, ◌∙◌, subst, true, false, Bool, ◌||◌, [], ◌∷◌}
 use Rattle.std.specs.List.{list_any}
 use Rattle.clv_base.specs.Locks.{Locks}
 use Rattle.lock_runs.specs.declared.calls.LockCall.{LockCall}

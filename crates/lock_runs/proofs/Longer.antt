@@ -1,5 +1,5 @@
 -- One call more behind those that were made.
-use Rattle.std.proofs.Common.{◌≡◌, refl, ap, subst, List, [], ◌∷◌, ◌++◌}
+use Rattle.std.proofs.Common.{refl, ap, subst, List, [], ◌∷◌, ◌++◌}
 use Rattle.clv_base.specs.Locks.{Locks}
 use Rattle.lock_runs.specs.declared.calls.LockCall.{LockCall}
 use Rattle.lock_runs.specs.declared.answers.LockAnswer.{LockAnswer}

@@ -54,8 +54,8 @@ fn holder(session: u32, mode: Mode, closed: bool) -> Holder {
     }
 }
 
-fn need(anchor: Anchor, mode: Mode) -> [Need; 1] {
-    [Need { anchor, mode }]
+fn need(anchor: Anchor, mode: Mode) -> Need {
+    Need { anchor, mode }
 }
 
 fn take(session: u32, needs: &[Need]) -> LockCall<'_> {
@@ -74,44 +74,51 @@ fn decide(session: u32, needs: &[Need]) -> LockCall<'_> {
     }
 }
 
-fn split(session: u32, lower: Anchor, new: Anchor) -> LockCall<'static> {
-    LockCall::SplitGap {
-        tx: tx(session),
-        lower,
-        new,
-    }
-}
-
 /// Session 2 inserts at 5 over the gap of all, closes, and is violated by session 3, which inserts at 7; then both give up.
-fn insert_twice<L: Locks>(alloc: Global, locks: &mut L) -> Result<Vec<LockAnswer>, Memory> {
-    let (gap_low, key_five) = (need(Anchor::Low, GAP_X), need(FIVE, KEY_X));
-    let (gap_five, key_seven) = (need(FIVE, GAP_X), need(SEVEN, KEY_X));
-    let calls = [
-        take(2, &gap_low),
-        split(2, Anchor::Low, FIVE),
-        take(2, &key_five),
+fn two_inserts(needs: &[Need; 4]) -> [LockCall<'_>; 20] {
+    [
+        take(2, &needs[0..1]),
+        LockCall::SplitGap {
+            tx: tx(2),
+            lower: Anchor::Low,
+            new: FIVE,
+        },
+        take(2, &needs[1..2]),
         LockCall::Holders(FIVE),
-        decide(3, &gap_five),
+        decide(3, &needs[2..3]),
         LockCall::ClosePart(tx(2)),
-        decide(3, &gap_five),
+        decide(3, &needs[2..3]),
         LockCall::Violated {
             tx: tx(3),
-            needs: &gap_five,
+            needs: &needs[2..3],
         },
-        take(3, &gap_five),
+        take(3, &needs[2..3]),
         LockCall::GapCount(FIVE),
-        split(3, FIVE, SEVEN),
-        take(3, &key_seven),
+        LockCall::SplitGap {
+            tx: tx(3),
+            lower: FIVE,
+            new: SEVEN,
+        },
+        take(3, &needs[3..4]),
         LockCall::Holders(SEVEN),
-        decide(1, &key_seven),
+        decide(1, &needs[3..4]),
         LockCall::Release(tx(2)),
         LockCall::IsFree(Anchor::Low),
         LockCall::ReleaseNext(tx(3)),
         LockCall::ReleaseNext(tx(3)),
         LockCall::ReleaseNext(tx(3)),
         LockCall::IsFree(SEVEN),
+    ]
+}
+
+fn insert_twice<L: Locks>(alloc: Global, locks: &mut L) -> Result<Vec<LockAnswer>, Memory> {
+    let needs = [
+        need(Anchor::Low, GAP_X),
+        need(FIVE, KEY_X),
+        need(FIVE, GAP_X),
+        need(SEVEN, KEY_X),
     ];
-    run_calls(alloc, locks, &calls)
+    run_calls(alloc, locks, &two_inserts(&needs))
 }
 
 fn is_decided(answers: &[LockAnswer], at: usize, want: Decision) -> bool {

@@ -1,4 +1,4 @@
-use Rattle.std.proofs.Common.{◌≡◌, ◌+◌, List, [], ◌∷◌, ◌++◌, take, subst, sym, arith}
+use Rattle.std.proofs.Common.{◌+◌, List, [], ◌∷◌, ◌++◌, take, subst, sym, arith}
 use Rattle.std.proofs.lemmas.List.{take_more}
 use Rattle.lock_runs.specs.declared.calls.LockCall.{LockCall}
 use Rattle.lock_runs.specs.declared.answers.LockAnswer.{LockAnswer}

@@ -1,6 +1,5 @@
 use Rattle.std.proofs.Common.{◌≡◌, ◌≤◌, [], ◌∷◌, sym, ◌∙◌, ap, subst}
 use Rattle.std.proofs.lemmas.List.Elements.{All-contains_itself}
-use Rattle.clv_base.specs.Locks.{Locks}
 use Rattle.lock_table.specs.Rows.{gaps_held}
 use Rattle.lock_runs.proofs.taking.split_gap.Goals as goal
 
