@@ -1,7 +1,7 @@
 -- The places of a transaction's writes, with one more record.
-use Rattle.std.proofs.Common.{◌≡◌, ℕ, suc, ◌+◌, Bool, true, false, cond, ◌||◌, List, [], ◌∷◌, ◌++◌, length, refl, ap, ◌∙◌, arith}
+use Rattle.std.proofs.Common.{◌≡◌, ℕ, suc, ◌+◌, ◌≤◌, Bool, true, false, cond, ◌||◌, List, [], ◌∷◌, ◌++◌, length, refl, ap, ◌∙◌, arith}
 use Rattle.std.proofs.lemmas.Bool.{or_parts}
-use Rattle.std.specs.List.{list_any}
+use Rattle.std.specs.List.{list_any, filter}
 use Rattle.clv_base.specs.declared.names.TxId.{TxId}
 use Rattle.clv_base.specs.Orders.{tx_same}
 use Rattle.log_buffer.specs.declared.measured.Link.{Link}
@@ -44,3 +44,30 @@ none_from t n (l ∷ ls) e = let p = or_parts (is_write_of t l) (list_any (is_wr
 -- a transaction that never wrote has no write that stands
 pub none_written : (t : TxId) (ls : List Link) → list_any (is_write_of t) ls ≡ false → places t ls ≡ []
 none_written t ls e = none_from t 0 ls e
+
+-- ---- how many pass
+
+pub count-snoc : {A : Type 0} (f : A → Bool) (xs : List A) (x : A) → length (filter f (xs ++ x ∷ [])) ≡ length (filter f xs) + cond (f x) 1 0
+count-snoc f [] x = one (f x)
+  where
+    one : (b : Bool) → length (cond b (x ∷ []) []) ≡ 0 + cond b 1 0
+    one true = refl
+    one false = refl
+count-snoc f (y ∷ ys) x = more (f y) (count-snoc f ys x)
+  where
+    more : (b : Bool) → length (filter f (ys ++ x ∷ [])) ≡ length (filter f ys) + cond (f x) 1 0
+        → length (cond b (y ∷ filter f (ys ++ x ∷ [])) (filter f (ys ++ x ∷ []))) ≡ length (cond b (y ∷ filter f ys) (filter f ys)) + cond (f x) 1 0
+    more true h = omega (arith, h)
+    more false h = h
+
+pub none_counted : {A : Type 0} (f : A → Bool) (xs : List A) → list_any f xs ≡ false → length (filter f xs) ≡ 0
+none_counted f [] e = refl
+none_counted f (x ∷ xs) e = let p = or_parts (f x) (list_any f xs) e in ap (λ b. length (cond b (x ∷ filter f xs) (filter f xs))) p.0 ∙ none_counted f xs p.1
+
+pub filter-few : {A : Type 0} (f : A → Bool) (xs : List A) → length (filter f xs) ≤ length xs
+filter-few f [] = omega arith
+filter-few f (x ∷ xs) = more (f x) (filter-few f xs)
+  where
+    more : (b : Bool) → length (filter f xs) ≤ length xs → length (cond b (x ∷ filter f xs) (filter f xs)) ≤ length (x ∷ xs)
+    more true h = omega (arith, h)
+    more false h = omega (arith, h)

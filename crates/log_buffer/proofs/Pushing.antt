@@ -1,8 +1,7 @@
 -- A chain with one more record.
-use Rattle.std.proofs.Common.{◌≡◌, ℕ, zero, suc, ◌+◌, ◌<◌, Bool, true, false, cond, ◌||◌, List, [], ◌∷◌, ◌++◌, length, get_or, Option, Some, None, is_some, refl, sym, ap, subst, ◌∙◌, length-append, arith}
+use Rattle.std.proofs.Common.{◌≡◌, ℕ, zero, suc, ◌+◌, ◌<◌, ◌≤◌, Bool, true, false, cond, ◌||◌, List, [], ◌∷◌, ◌++◌, length, get_or, Option, Some, None, is_some, refl, sym, ap, subst, ◌∙◌, length-append, arith}
 use Rattle.std.proofs.lemmas.Bool.{both_ways}
 use Rattle.std.specs.List.{list_any}
-use Rattle.std.specs.Option.{option_flatten}
 use Rattle.clv_base.specs.declared.names.TxId.{TxId}
 use Rattle.clv_base.specs.Orders.{tx_same, tx_get}
 use Rattle.clv_base.proofs.SameNames.{tx_true}
@@ -10,10 +9,11 @@ use Rattle.tx_table.proofs.Laws.Names.{tx_symmetric}
 use Rattle.log_buffer.specs.declared.measured.Link.{Link}
 use Rattle.log_buffer.specs.declared.measured.Link.TheVariants.{Writes, Undoes, Neither}
 use Rattle.log_buffer.specs.declared.chain.Chain.{Chain}
+use Rattle.log_buffer.specs.declared.chain.Written.{Written}
 use Rattle.log_buffer.specs.Links.{is_write_of}
-use Rattle.log_buffer.specs.Chains.{first, others, places_after, places}
-use Rattle.log_buffer.specs.Chained.{IsChainOf, Linked, newest_in}
-use Rattle.log_buffer.proofs.Places.{places-snoc, any-snoc, none_written}
+use Rattle.log_buffer.specs.Chains.{first, others, places_after, places, write_count}
+use Rattle.log_buffer.specs.Chained.{IsChainOf, Linked, written_in, newest_by, count_by}
+use Rattle.log_buffer.proofs.Places.{places-snoc, any-snoc, count-snoc, filter-few, none_written, none_counted}
 
 get_left : (xs : List (Option ℕ)) (y : Option ℕ) (k : ℕ) → k < length xs → get_or (xs ++ y ∷ []) k None ≡ get_or xs k None
 get_left [] y k l = absurd (omega arith)
@@ -54,95 +54,132 @@ linked_after below b t (Undoes u) ps h e = at (tx_same t u)
     at false = Linked-more below b ps h
 linked_after below b t Neither ps h e = Linked-more below b ps h
 
--- a record is pushed: its place tells the write below it, and the newest writes are told
+-- a record is pushed: its place tells the write below it, and what each has written is told
 pub pushed : (c d : Chain) (links : List Link) (l : Link) (b : Option ℕ) → IsChainOf c links → d.below.items ≡ c.below.items ++ b ∷ []
-    → ((t : TxId) → tx_get t d.newest.rows ≡ newest_in t (links ++ l ∷ [])) → ((t : TxId) → is_write_of t l ≡ true → b ≡ first (places t links)) → IsChainOf d (links ++ l ∷ [])
-pushed c d links l b h e newest told = record {
+    → ((t : TxId) → tx_get t d.written.rows ≡ written_in t (links ++ l ∷ [])) → ((t : TxId) → is_write_of t l ≡ true → b ≡ first (places t links)) → IsChainOf d (links ++ l ∷ [])
+pushed c d links l b h e written told = record {
   count = ap length e ∙ (length-append c.below.items (b ∷ []) ∙ (ap (λ n. n + 1) h.count ∙ sym (length-append links (l ∷ []))));
-  newest = newest;
+  written = written;
   below = λ t. subst (λ x. Linked x (places t (links ++ l ∷ []))) (sym e) (subst (Linked (c.below.items ++ b ∷ [])) (sym (places-snoc t links l))
       (subst (λ n. Linked (c.below.items ++ b ∷ []) (places_after t n l (places t links))) h.count (linked_after c.below.items b t l (places t links) (h.below t) (told t))));
 }
 
-abbrev told_newest : Bool → List ℕ → Option (Option ℕ)
-told_newest any ps = cond any (Some (first ps)) None
+abbrev pub row_of : Option ℕ → ℕ → Written
+row_of newest count = record { newest = newest; count = count }
 
-newest_in-snoc : (t : TxId) (links : List Link) (l : Link) → newest_in t (links ++ l ∷ []) ≡ told_newest (list_any (is_write_of t) links || is_write_of t l) (places_after t (length links) l (places t links))
-newest_in-snoc t links l = ap (λ b. told_newest b (places t (links ++ l ∷ []))) (any-snoc (is_write_of t) links l) ∙ ap (told_newest (list_any (is_write_of t) links || is_write_of t l)) (places-snoc t links l)
+abbrev told_row : Bool → List ℕ → ℕ → Option Written
+told_row any ps n = cond any (Some (row_of (first ps) n)) None
+
+written_in-snoc : (t : TxId) (links : List Link) (l : Link)
+    → written_in t (links ++ l ∷ []) ≡ told_row (list_any (is_write_of t) links || is_write_of t l) (places_after t (length links) l (places t links)) (write_count t links + cond (is_write_of t l) 1 0)
+written_in-snoc t links l =
+    ap (λ b. told_row b (places t (links ++ l ∷ [])) (write_count t (links ++ l ∷ []))) (any-snoc (is_write_of t) links l)
+    ∙ (ap (λ ps. told_row (list_any (is_write_of t) links || is_write_of t l) ps (write_count t (links ++ l ∷ []))) (places-snoc t links l)
+    ∙ ap (told_row (list_any (is_write_of t) links || is_write_of t l) (places_after t (length links) l (places t links))) (count-snoc (is_write_of t) links l))
 
 or_none : (b : Bool) → (b || false) ≡ b
 or_none true = refl
 or_none false = refl
 
--- the newest writes after a write
-pub newest_written : (u t : TxId) (links : List Link) → newest_in t (links ++ Writes u ∷ []) ≡ cond (tx_same u t) (Some (Some (length links))) (newest_in t links)
-newest_written u t links = newest_in-snoc t links (Writes u) ∙ (at (list_any (is_write_of t) links) (tx_same t u) ∙ ap (λ b. cond b (Some (Some (length links))) (newest_in t links)) (tx_symmetric t u))
+no_more : (n : ℕ) → n + 0 ≡ n
+no_more n = omega arith
+
+row_same : (any : Bool) (ps : List ℕ) (n : ℕ) → told_row (any || false) ps (n + 0) ≡ told_row any ps n
+row_same any ps n = ap (λ b. told_row b ps (n + 0)) (or_none any) ∙ ap (told_row any ps) (no_more n)
+
+-- what is written after a write
+pub row_written : (u t : TxId) (links : List Link) → written_in t (links ++ Writes u ∷ []) ≡ cond (tx_same u t) (Some (row_of (Some (length links)) (write_count u links + 1))) (written_in t links)
+row_written u t links =
+    written_in-snoc t links (Writes u)
+    ∙ (at (list_any (is_write_of t) links) (tx_same t u) (tx_true t u) ∙ ap (λ b. cond b (Some (row_of (Some (length links)) (write_count u links + 1))) (written_in t links)) (tx_symmetric t u))
   where
-    at : (any s : Bool) → told_newest (any || s) (cond s (length links ∷ places t links) (places t links)) ≡ cond s (Some (Some (length links))) (told_newest any (places t links))
-    at true true = refl
-    at false true = refl
-    at any false = ap (λ b. told_newest b (places t links)) (or_none any)
+    at : (any s : Bool) → (s ≡ true → t ≡ u) → told_row (any || s) (cond s (length links ∷ places t links) (places t links)) (write_count t links + cond s 1 0)
+        ≡ cond s (Some (row_of (Some (length links)) (write_count u links + 1))) (told_row any (places t links) (write_count t links))
+    at true true same = ap (λ x. Some (row_of (Some (length links)) (write_count x links + 1))) (same refl)
+    at false true same = ap (λ x. Some (row_of (Some (length links)) (write_count x links + 1))) (same refl)
+    at any false same = row_same any (places t links) (write_count t links)
 
 -- after a compensation, of a transaction that wrote
-pub newest_undone : (u t : TxId) (links : List Link) → list_any (is_write_of u) links ≡ true → newest_in t (links ++ Undoes u ∷ []) ≡ cond (tx_same u t) (Some (first (others (places u links)))) (newest_in t links)
-newest_undone u t links any = newest_in-snoc t links (Undoes u) ∙ (at (tx_same t u) (tx_true t u) ∙ ap (λ b. cond b (Some (first (others (places u links)))) (newest_in t links)) (tx_symmetric t u))
+pub row_undone : (u t : TxId) (links : List Link) → list_any (is_write_of u) links ≡ true
+    → written_in t (links ++ Undoes u ∷ []) ≡ cond (tx_same u t) (Some (row_of (first (others (places u links))) (write_count u links))) (written_in t links)
+row_undone u t links any = written_in-snoc t links (Undoes u) ∙ (at (tx_same t u) (tx_true t u) ∙ ap (λ b. cond b (Some (row_of (first (others (places u links))) (write_count u links))) (written_in t links)) (tx_symmetric t u))
   where
-    at : (s : Bool) → (s ≡ true → t ≡ u) → told_newest (list_any (is_write_of t) links || false) (cond s (others (places t links)) (places t links)) ≡ cond s (Some (first (others (places u links)))) (newest_in t links)
-    at true same = ap (λ x. told_newest (list_any (is_write_of x) links || false) (others (places x links))) (same refl) ∙ ap (λ b. told_newest (b || false) (others (places u links))) any
-    at false same = ap (λ b. told_newest b (places t links)) (or_none (list_any (is_write_of t) links))
+    at : (s : Bool) → (s ≡ true → t ≡ u) → told_row (list_any (is_write_of t) links || false) (cond s (others (places t links)) (places t links)) (write_count t links + 0)
+        ≡ cond s (Some (row_of (first (others (places u links))) (write_count u links))) (told_row (list_any (is_write_of t) links) (places t links) (write_count t links))
+    at true same =
+        ap (λ x. told_row (list_any (is_write_of x) links || false) (others (places x links)) (write_count x links + 0)) (same refl)
+        ∙ (row_same (list_any (is_write_of u) links) (others (places u links)) (write_count u links) ∙ ap (λ b. told_row b (others (places u links)) (write_count u links)) any)
+    at false same = row_same (list_any (is_write_of t) links) (places t links) (write_count t links)
 
 -- of one that didn't
-pub newest_kept : (u t : TxId) (links : List Link) → list_any (is_write_of u) links ≡ false → newest_in t (links ++ Undoes u ∷ []) ≡ newest_in t links
-newest_kept u t links none = newest_in-snoc t links (Undoes u) ∙ at (tx_same t u) (tx_true t u)
+pub row_kept : (u t : TxId) (links : List Link) → list_any (is_write_of u) links ≡ false → written_in t (links ++ Undoes u ∷ []) ≡ written_in t links
+row_kept u t links none = written_in-snoc t links (Undoes u) ∙ at (tx_same t u) (tx_true t u)
   where
-    at : (s : Bool) → (s ≡ true → t ≡ u) → told_newest (list_any (is_write_of t) links || false) (cond s (others (places t links)) (places t links)) ≡ newest_in t links
-    at true same = ap (λ x. told_newest (list_any (is_write_of x) links || false) (others (places x links))) (same refl) ∙ (ap (λ b. told_newest (b || false) (others (places u links))) none ∙ (sym (ap (λ b. told_newest b (places u links)) none) ∙ ap (λ x. newest_in x links) (sym (same refl))))
-    at false same = ap (λ b. told_newest b (places t links)) (or_none (list_any (is_write_of t) links))
+    at : (s : Bool) → (s ≡ true → t ≡ u) → told_row (list_any (is_write_of t) links || false) (cond s (others (places t links)) (places t links)) (write_count t links + 0) ≡ written_in t links
+    at true same =
+        ap (λ x. told_row (list_any (is_write_of x) links || false) (others (places x links)) (write_count x links + 0)) (same refl)
+        ∙ (ap (λ b. told_row (b || false) (others (places u links)) (write_count u links + 0)) none ∙ (sym (ap (λ b. told_row b (places u links) (write_count u links)) none) ∙ ap (λ x. written_in x links) (sym (same refl))))
+    at false same = row_same (list_any (is_write_of t) links) (places t links) (write_count t links)
 
-pub newest_other : (t : TxId) (links : List Link) → newest_in t (links ++ Neither ∷ []) ≡ newest_in t links
-newest_other t links = newest_in-snoc t links Neither ∙ ap (λ b. told_newest b (places t links)) (or_none (list_any (is_write_of t) links))
+pub row_other : (t : TxId) (links : List Link) → written_in t (links ++ Neither ∷ []) ≡ written_in t links
+row_other t links = written_in-snoc t links Neither ∙ row_same (list_any (is_write_of t) links) (places t links) (write_count t links)
+
+-- ---- what a chain tells
+
+any_by : (any : Bool) (ps : List ℕ) (n : ℕ) → is_some (told_row any ps n) ≡ any
+any_by true ps n = refl
+any_by false ps n = refl
+
+newest_of_row : (any : Bool) (ps : List ℕ) (n : ℕ) → (any ≡ false → ps ≡ []) → newest_by (told_row any ps n) ≡ first ps
+newest_of_row true ps n e = refl
+newest_of_row false ps n e = ap first (sym (e refl))
+
+count_of_row : (any : Bool) (ps : List ℕ) (n : ℕ) → (any ≡ false → n ≡ 0) → count_by (told_row any ps n) ≡ n
+count_of_row true ps n e = refl
+count_of_row false ps n e = sym (e refl)
+
+pub any_told : (c : Chain) (links : List Link) (u : TxId) → IsChainOf c links → is_some (tx_get u c.written.rows) ≡ list_any (is_write_of u) links
+any_told c links u h = ap is_some (h.written u) ∙ any_by (list_any (is_write_of u) links) (places u links) (write_count u links)
+
+-- the newest write of a transaction, and how many it has
+pub newest_told : (c : Chain) (links : List Link) (u : TxId) → IsChainOf c links → newest_by (tx_get u c.written.rows) ≡ first (places u links)
+newest_told c links u h = ap newest_by (h.written u) ∙ newest_of_row (list_any (is_write_of u) links) (places u links) (write_count u links) (none_written u links)
+
+pub count_told : (c : Chain) (links : List Link) (u : TxId) → IsChainOf c links → count_by (tx_get u c.written.rows) ≡ write_count u links
+count_told c links u h = ap count_by (h.written u) ∙ count_of_row (list_any (is_write_of u) links) (places u links) (write_count u links) (none_counted (is_write_of u) links)
+
+-- it isn't more than the records
+pub count_few : (c : Chain) (links : List Link) (u : TxId) → IsChainOf c links → count_by (tx_get u c.written.rows) ≤ length c.below.items
+count_few c links u h = let a = count_told c links u h in let b = filter-few (is_write_of u) links in let d = h.count in omega (arith, a, b, d)
 
 -- ---- the four cases
 
-any_by : (any : Bool) (ps : List ℕ) → is_some (told_newest any ps) ≡ any
-any_by true ps = refl
-any_by false ps = refl
-
-flat : (any : Bool) (ps : List ℕ) → (any ≡ false → ps ≡ []) → option_flatten (told_newest any ps) ≡ first ps
-flat true ps e = refl
-flat false ps e = ap first (sym (e refl))
-
-pub flat_newest : (u : TxId) (links : List Link) → option_flatten (newest_in u links) ≡ first (places u links)
-flat_newest u links = flat (list_any (is_write_of u) links) (places u links) (none_written u links)
-
-pub some_newest : (u : TxId) (links : List Link) → is_some (newest_in u links) ≡ list_any (is_write_of u) links
-some_newest u links = any_by (list_any (is_write_of u) links) (places u links)
-
-any_told : (c : Chain) (links : List Link) (u : TxId) → IsChainOf c links → is_some (tx_get u c.newest.rows) ≡ list_any (is_write_of u) links
-any_told c links u h = ap is_some (h.newest u) ∙ some_newest u links
-
--- the newest write of a transaction, as a chain tells it
-pub flattened : (c : Chain) (links : List Link) (u : TxId) → IsChainOf c links → option_flatten (tx_get u c.newest.rows) ≡ first (places u links)
-flattened c links u h = ap option_flatten (h.newest u) ∙ flat_newest u links
-
 module _ (c d : Chain) (links : List Link) (b : Option ℕ) (h : IsChainOf c links) (e : d.below.items ≡ c.below.items ++ b ∷ []) where
-  pub pushed_write : (u : TxId) → ((t : TxId) → tx_get t d.newest.rows ≡ cond (tx_same u t) (Some (Some (length c.below.items))) (tx_get t c.newest.rows)) → b ≡ option_flatten (tx_get u c.newest.rows) → IsChainOf d (links ++ Writes u ∷ [])
-  pushed_write u newest told = pushed c d links (Writes u) b h e
-      (λ t. newest t ∙ (ap (λ n. cond (tx_same u t) (Some (Some n)) (tx_get t c.newest.rows)) h.count ∙ (ap (cond (tx_same u t) (Some (Some (length links)))) (h.newest t) ∙ sym (newest_written u t links))))
-      (λ t s. told ∙ (flattened c links u h ∙ ap (λ x. first (places x links)) (sym (tx_true t u s))))
+  pub pushed_write : (u : TxId) → ((t : TxId) → tx_get t d.written.rows ≡ cond (tx_same u t) (Some (row_of (Some (length c.below.items)) (count_by (tx_get u c.written.rows) + 1))) (tx_get t c.written.rows))
+      → b ≡ newest_by (tx_get u c.written.rows) → IsChainOf d (links ++ Writes u ∷ [])
+  pushed_write u written told = pushed c d links (Writes u) b h e
+      (λ t. written t
+      ∙ (ap (λ n. cond (tx_same u t) (Some (row_of (Some n) (count_by (tx_get u c.written.rows) + 1))) (tx_get t c.written.rows)) h.count
+      ∙ (ap (λ n. cond (tx_same u t) (Some (row_of (Some (length links)) (n + 1))) (tx_get t c.written.rows)) (count_told c links u h)
+      ∙ (ap (cond (tx_same u t) (Some (row_of (Some (length links)) (write_count u links + 1)))) (h.written t) ∙ sym (row_written u t links)))))
+      (λ t s. told ∙ (newest_told c links u h ∙ ap (λ x. first (places x links)) (sym (tx_true t u s))))
 
-  pub pushed_undo : (u : TxId) (second : Option ℕ) → ((t : TxId) → tx_get t d.newest.rows ≡ cond (tx_same u t) (Some second) (tx_get t c.newest.rows)) → is_some (tx_get u c.newest.rows) ≡ true → second ≡ first (others (places u links)) → IsChainOf d (links ++ Undoes u ∷ [])
-  pushed_undo u second newest some told = pushed c d links (Undoes u) b h e
-      (λ t. newest t ∙ (ap (λ n. cond (tx_same u t) (Some n) (tx_get t c.newest.rows)) told ∙ (ap (cond (tx_same u t) (Some (first (others (places u links))))) (h.newest t) ∙ sym (newest_undone u t links (sym (any_told c links u h) ∙ some)))))
+  pub pushed_undo : (u : TxId) (w : Written) (second : Option ℕ) → tx_get u c.written.rows ≡ Some w
+      → ((t : TxId) → tx_get t d.written.rows ≡ cond (tx_same u t) (Some (row_of second w.count)) (tx_get t c.written.rows)) → second ≡ first (others (places u links)) → IsChainOf d (links ++ Undoes u ∷ [])
+  pushed_undo u w second some written told = pushed c d links (Undoes u) b h e
+      (λ t. written t
+      ∙ (ap (λ n. cond (tx_same u t) (Some (row_of n w.count)) (tx_get t c.written.rows)) told
+      ∙ (ap (λ n. cond (tx_same u t) (Some (row_of (first (others (places u links))) n)) (tx_get t c.written.rows)) (ap count_by (sym some) ∙ count_told c links u h)
+      ∙ (ap (cond (tx_same u t) (Some (row_of (first (others (places u links))) (write_count u links)))) (h.written t) ∙ sym (row_undone u t links (sym (any_told c links u h) ∙ ap is_some some))))))
       (λ t s. absurd (both_ways false refl s))
 
-  pub pushed_undo_of_none : (u : TxId) → ((t : TxId) → tx_get t d.newest.rows ≡ tx_get t c.newest.rows) → is_some (tx_get u c.newest.rows) ≡ false → IsChainOf d (links ++ Undoes u ∷ [])
-  pushed_undo_of_none u newest none = pushed c d links (Undoes u) b h e
-      (λ t. newest t ∙ (h.newest t ∙ sym (newest_kept u t links (sym (any_told c links u h) ∙ none))))
+  pub pushed_undo_of_none : (u : TxId) → ((t : TxId) → tx_get t d.written.rows ≡ tx_get t c.written.rows) → tx_get u c.written.rows ≡ None → IsChainOf d (links ++ Undoes u ∷ [])
+  pushed_undo_of_none u written none = pushed c d links (Undoes u) b h e
+      (λ t. written t ∙ (h.written t ∙ sym (row_kept u t links (sym (any_told c links u h) ∙ ap is_some none))))
       (λ t s. absurd (both_ways false refl s))
 
-  pub pushed_other : ((t : TxId) → tx_get t d.newest.rows ≡ tx_get t c.newest.rows) → IsChainOf d (links ++ Neither ∷ [])
-  pushed_other newest = pushed c d links Neither b h e (λ t. newest t ∙ (h.newest t ∙ sym (newest_other t links))) (λ t s. absurd (both_ways false refl s))
+  pub pushed_other : ((t : TxId) → tx_get t d.written.rows ≡ tx_get t c.written.rows) → IsChainOf d (links ++ Neither ∷ [])
+  pushed_other written = pushed c d links Neither b h e (λ t. written t ∙ (h.written t ∙ sym (row_other t links))) (λ t s. absurd (both_ways false refl s))
 
 -- ---- the second newest write
 
@@ -150,8 +187,8 @@ second_of_none : (ps : List ℕ) → first ps ≡ None → None ≡ first (other
 second_of_none [] e = refl
 second_of_none (p ∷ ps) e = absurd cc
 
-pub no_second : (c : Chain) (links : List Link) (u : TxId) → IsChainOf c links → option_flatten (tx_get u c.newest.rows) ≡ None → None ≡ first (others (places u links))
-no_second c links u h e = second_of_none (places u links) (sym (flattened c links u h) ∙ e)
+pub no_second : (links : List Link) (u : TxId) → first (places u links) ≡ None → None ≡ first (others (places u links))
+no_second links u e = second_of_none (places u links) e
 
-pub second_found : (c : Chain) (links : List Link) (u : TxId) (p : ℕ) → IsChainOf c links → option_flatten (tx_get u c.newest.rows) ≡ Some p → get_or c.below.items p None ≡ first (others (places u links))
-second_found c links u p h e = (second_told c.below.items (places u links) p (h.below u) (sym (flattened c links u h) ∙ e)).1
+pub second_found : (c : Chain) (links : List Link) (u : TxId) (p : ℕ) → IsChainOf c links → first (places u links) ≡ Some p → get_or c.below.items p None ≡ first (others (places u links))
+second_found c links u p h e = (second_told c.below.items (places u links) p (h.below u) e).1

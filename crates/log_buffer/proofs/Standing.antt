@@ -1,7 +1,7 @@
 -- A transaction's writes that stand are those of its chain.
-use Rattle.std.proofs.Common.{◌≡◌, ℕ, suc, Bool, true, false, cond, ◌||◌, List, [], ◌∷◌, map, Some, None, refl, sym, ap, ◌∙◌}
+use Rattle.std.proofs.Common.{◌≡◌, ℕ, suc, Bool, true, false, cond, ◌||◌, List, [], ◌∷◌, map, length, Some, None, refl, sym, ap, ◌∙◌, arith}
 use Rattle.std.proofs.lemmas.Bool.{cond-true, both_ways}
-use Rattle.std.specs.List.{list_any}
+use Rattle.std.specs.List.{list_any, filter}
 use Rattle.clv_base.specs.declared.names.TxId.{TxId}
 use Rattle.clv_base.specs.declared.logs.LogRecord.{LogRecord}
 use Rattle.clv_base.specs.declared.logs.LogRecord.TheVariants.{Update, Clr, Prepare, Commit, Abort, End, Restart}
@@ -10,7 +10,7 @@ use Rattle.clv_base.specs.Logs.{StandingUpdate, is_update_of, wrote_in, without_
 use Rattle.clv_base.specs.Undo.{newest_lsn}
 use Rattle.clv_base.proofs.SameNames.{tx_true, tx_self}
 use Rattle.log_buffer.specs.Links.{link_of, is_write_of}
-use Rattle.log_buffer.specs.Chains.{first, others, places_after, places_from, places}
+use Rattle.log_buffer.specs.Chains.{first, others, places_after, places_from, places, write_count}
 
 -- the places of a transaction's writes among some
 lsns : TxId → List StandingUpdate → List ℕ
@@ -87,3 +87,13 @@ write_of t (Restart run epoch) = refl
 pub wrote_told : (t : TxId) (log : List LogRecord) → list_any (is_write_of t) (map link_of log) ≡ wrote_in log t
 wrote_told t [] = refl
 wrote_told t (r ∷ rs) = ap (λ b. is_write_of t (link_of r) || b) (wrote_told t rs) ∙ ap (λ b. b || wrote_in rs t) (sym (write_of t r))
+
+-- how often it wrote
+pub count_told : (t : TxId) (log : List LogRecord) → write_count t (map link_of log) ≡ length (filter (is_update_of t) log)
+count_told t [] = refl
+count_told t (r ∷ rs) = more (is_write_of t (link_of r)) (count_told t rs) ∙ ap (λ b. length (cond b (r ∷ filter (is_update_of t) rs) (filter (is_update_of t) rs))) (sym (write_of t r))
+  where
+    more : (b : Bool) → write_count t (map link_of rs) ≡ length (filter (is_update_of t) rs)
+        → length (cond b (link_of r ∷ filter (is_write_of t) (map link_of rs)) (filter (is_write_of t) (map link_of rs))) ≡ length (cond b (r ∷ filter (is_update_of t) rs) (filter (is_update_of t) rs))
+    more true h = omega (arith, h)
+    more false h = h

@@ -1,9 +1,11 @@
 -- The writes of a transaction that stand, as a stack of places.
-use Rattle.std.specs.Prelude.{ℕ, suc, cond, List, [], ◌∷◌, Option, Some, None}
+use Rattle.std.specs.Prelude.{ℕ, suc, cond, List, [], ◌∷◌, length, Option, Some, None}
+use Rattle.std.specs.List.{filter}
 use Rattle.clv_base.specs.declared.names.TxId.{TxId}
 use Rattle.clv_base.specs.Orders.{tx_same}
 use Rattle.log_buffer.specs.declared.measured.Link.{Link}
 use Rattle.log_buffer.specs.declared.measured.Link.TheVariants.{Writes, Undoes, Neither}
+use Rattle.log_buffer.specs.Links.{is_write_of}
 
 abbrev pub first : List ℕ → Option ℕ
 first [] = None
@@ -26,3 +28,7 @@ places_from t n (l ∷ ls) ps = places_from t (suc n) ls (places_after t n l ps)
 -- the places of the transaction's writes that stand, the newest first
 abbrev pub places : TxId → List Link → List ℕ
 places t ls = places_from t 0 ls []
+
+-- how many writes the transaction has, those that were compensated too
+abbrev pub write_count : TxId → List Link → ℕ
+write_count t ls = length (filter (is_write_of t) ls)

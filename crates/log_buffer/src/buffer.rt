@@ -1,5 +1,5 @@
 //! The buffer.
-ghost use Rattle.std.specs.Prelude.{◌≡◌, ◌≤◌, ◌<◌, ◌+◌, [], ◌∷◌, ◌++◌, ℕ, length, drop, take, slice_get, slice_range, IsNone, IfSome, IfOk, IfErr, OnOk, OnErr, max, ◌↔◌};
+ghost use Rattle.std.specs.Prelude.{◌≡◌, ◌≤◌, ◌<◌, ◌+◌, [], ◌∷◌, ◌++◌, ℕ, length, drop, take, slice_get, slice_range, IsNone, IfSome, IfOk, IfErr, OnOk, OnErr, max, min, ◌↔◌};
 ghost use Rattle.std.specs.Option.{option_copied};
 
 use crate::batch::{Extent, fitting};
@@ -98,6 +98,13 @@ impl<R: Measured> LogBuffer<R> {
         self.chain.reserve(count)?;
         self.reserved = self.reserved.max(count);
         Ok(())
+    }
+
+    /// Gives back the room that is beyond so many records. Takes no memory; what was given back is there for whoever reserves next.
+    pub fn trim(&mut self, keep: usize)
+        ensures { self.new ≡ record self.old { room = min self.old.room keep } }
+    {
+        self.reserved = self.reserved.min(keep);
     }
 
     /// Puts a record at the end, and gives its LSN. Takes no memory, and of the room that was reserved one place.

@@ -100,6 +100,7 @@ fn writes_that_stand_are_told(rt: HostRuntime) -> Result<(), Fail> {
     );
     assert_eq!(rt; (buffer.newest(tx(2)), buffer.newest(tx(3))), (None, None));
     assert!(rt; buffer.wrote(tx(2)) && !buffer.wrote(tx(3)));
+    assert_eq!(rt; (buffer.updates(tx(1)), buffer.updates(tx(3))), (2, 0));
     Ok(())
 }
 
@@ -115,5 +116,7 @@ fn a_log_that_was_found_is_durable(rt: HostRuntime) -> Result<(), Fail> {
     );
     assert_eq!(rt; put(&mut buffer, write(3, 40))?, 3);
     assert!(rt; buffer.reserve(5).is_ok() && buffer.room() == 5);
+    buffer.trim(2);
+    assert_eq!(rt; buffer.room(), 2);
     Ok(())
 }

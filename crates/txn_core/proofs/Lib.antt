@@ -12,3 +12,4 @@ pub mod Joins
 mod Batches
 mod Crowds
 mod Places
+pub mod Totals

@@ -56,7 +56,7 @@ module _ {A : Type 0} where
 
 -- ---- ABORTs
 
-above_not_in : (x : TxId) (xs : List TxId) → AllByRecursion (λ y. tx_cmp x y ≡ Less) xs → tx_in x xs ≡ false
+pub above_not_in : (x : TxId) (xs : List TxId) → AllByRecursion (λ y. tx_cmp x y ≡ Less) xs → tx_in x xs ≡ false
 above_not_in x [] a = refl
 above_not_in x (y ∷ ys) a =
     false_from_ne_true _ (λ e. ⊎_elim (λ s. both_ways _ (ap is_eq a.0) (ap is_eq (ap (tx_cmp x) (tx_true y x s)) ∙ tx_self x)) (λ m. both_ways _ (above_not_in x ys a.1) m) (or_cases (tx_same y x) (tx_in x ys) e))

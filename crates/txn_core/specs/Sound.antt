@@ -1,5 +1,5 @@
 -- What holds of a shard's transactions, whatever was done: what a part did can be taken away.
-use Rattle.std.specs.Prelude.{◌≡◌, ℕ, ◌+◌, ◌*◌, ◌≤◌, ◌⊎◌, Bool, true, false, not, ◌&&◌, List, length, Option, Some, None}
+use Rattle.std.specs.Prelude.{◌≡◌, ℕ, ◌+◌, ◌*◌, ◌≤◌, ◌⊎◌, min, Bool, true, false, not, ◌&&◌, List, length, Option, Some, None}
 use Rattle.std.specs.List.{AllByRecursion, filter, list_any}
 use Rattle.clv_base.specs.declared.names.TxId.{TxId}
 use Rattle.clv_base.specs.declared.logs.LogRecord.{LogRecord}
@@ -75,6 +75,10 @@ HasSpare n s = n + 2 * updates_by (is_here s.local) (s.local).log ≤ s.room
 -- the same, but for so many records that were written of what was reserved
 abbrev pub SpendsSpare : ℕ → TxState → TxState → Type 0
 SpendsSpare n s t = s.room + 2 * updates_by (is_here t.local) (t.local).log ≤ n + t.room + 2 * updates_by (is_here s.local) (s.local).log
+
+-- without the room that is beyond so many records, beside an ABORT and a CLR for each UPDATE of a part that is here, and beyond so many pairs
+abbrev pub trimmed : ℕ → TxState → TxState
+trimmed n s = record s { room = min s.room (n + 2 * updates_by (is_here s.local) (s.local).log); pairs_room = min s.pairs_room n }
 
 -- whether a part may have operations: it is not known, or active
 abbrev pub may_work : Option Stage → Bool

@@ -27,6 +27,7 @@ mod shard;
 mod telling;
 #[cfg(test)]
 mod tests;
+mod trimming;
 
 pub use lock_table::Memory;
 pub use op::Reply;

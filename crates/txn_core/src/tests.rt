@@ -257,3 +257,18 @@ fn many_writes_find_room(rt: HostRuntime) -> Result<(), Fail> {
     assert_eq!(rt; (shard.buffer.end(), shard.buffer.room()), (100, 200));
     Ok(())
 }
+
+#[test]
+fn room_is_given_back(rt: HostRuntime) -> Result<(), Fail> {
+    let alloc = rt.alloc();
+    let mut shard = filled(alloc)?;
+    assert_eq!(rt;
+        ask(alloc, &mut shard, 1, Op::Del(10))?,
+        Told::Value(Some(1))
+    );
+    assert!(rt; shard.reserve(5).is_ok());
+    assert_eq!(rt; (shard.buffer.room(), shard.deps.room()), (7, 5));
+    assert!(rt; shard.trim(alloc, 3).is_ok());
+    assert_eq!(rt; (shard.buffer.room(), shard.deps.room()), (5, 3));
+    Ok(())
+}

@@ -1,6 +1,6 @@
 //! The dependencies.
 
-ghost use Rattle.std.specs.Prelude.{◌≡◌, ◌≤◌, ◌<◌, ◌+◌, [], ◌∷◌, None, Some, length, map, max, not, vec_capacity, IfOk, OnOk, OnErr, if◌then◌else◌};
+ghost use Rattle.std.specs.Prelude.{◌≡◌, ◌≤◌, ◌<◌, ◌+◌, [], ◌∷◌, None, Some, length, map, max, min, not, vec_capacity, IfOk, OnOk, OnErr, if◌then◌else◌};
 ghost use Rattle.std.specs.List.{filter};
 ghost use Rattle.std.specs.List.Sorted.{IsStrictlySortedBy};
 ghost use Rattle.clv_base.specs.declared.names.TxId.{TxId as Tx};
@@ -99,6 +99,14 @@ impl Deps {
         hold(&mut self.queue, places)?;
         self.reserved = self.reserved.max(count);
         Ok(())
+    }
+
+    /// Gives back the room that is beyond so many pairs and settled transactions. Takes no memory; what was given back is there for whoever
+    /// reserves next.
+    pub fn trim(&mut self, keep: usize)
+        ensures { self.new ≡ record self.old { room = min self.old.room keep } }
+    {
+        self.reserved = self.reserved.min(keep);
     }
 
     /// The transaction is a successor of the other one. Takes no memory.

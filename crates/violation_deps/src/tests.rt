@@ -91,5 +91,7 @@ fn what_is_reserved_is_told(rt: HostRuntime) -> Result<(), Fail> {
     assert_eq!(rt; deps.room(), 2);
     deps.settle(tx(1), 5);
     assert_eq!(rt; deps.room(), 1);
+    deps.trim(0);
+    assert_eq!(rt; deps.room(), 0);
     Ok(())
 }

@@ -1,4 +1,4 @@
-use Rattle.std.proofs.Common.{◌≡◌, ◌≤◌, ◌<◌, ◌+◌, ◌∙◌, ℕ, length, drop, get_or, ap, sym, arith, ◌-◌}
+use Rattle.std.proofs.Common.{◌≡◌, ◌≤◌, ◌<◌, ◌+◌, ◌∙◌, ℕ, length, drop, get_or, ap, arith, ◌-◌}
 use Rattle.log_buffer.specs.Buffers.{fitting_by}
 use Rattle.log_buffer.proofs.Fitting.{sizes_next, fitting_next}
 use Rattle.log_buffer.proofs.batch.fitting.Goals as goal

@@ -1,4 +1,4 @@
-use Rattle.std.proofs.Common.{◌≡◌, ◌≤◌, ◌+◌, drop, take}
+use Rattle.std.proofs.Common.{◌≡◌, ◌+◌, drop, take}
 use Rattle.log_buffer.specs.Buffers.{fitting_by, sizes}
 use Rattle.log_buffer.proofs.batch.fitting.Given as goal
 
