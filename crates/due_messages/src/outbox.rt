@@ -1,5 +1,5 @@
 //! Messages that wait.
-ghost use Rattle.std.specs.Prelude.{◌≡◌, ◌<◌, ◌+◌, ◌++◌, ◌∷◌, [], drop, OnOk, OnErr};
+ghost use Rattle.std.specs.Prelude.{◌≡◌, ◌<◌, ◌+◌, ◌++◌, ◌∷◌, [], drop, min, OnOk, OnErr};
 ghost use Rattle.due_messages.specs.Sent.{first_of};
 
 use clv_base::messages::Message;
@@ -48,6 +48,20 @@ impl Outbox {
         self.messages.reserve(all)?;
         self.reserved = all;
         Ok(())
+    }
+
+    /// For how many messages more room is reserved.
+    pub fn room(&self) -> usize
+        ensures { result ≡ self.now.room }
+    {
+        self.reserved
+    }
+
+    /// Gives back the room that is beyond so many messages. Takes no memory; what was given back is there for whoever reserves next.
+    pub fn trim(&mut self, keep: usize)
+        ensures { self.new ≡ record self.old { room = min self.old.room keep } }
+    {
+        self.reserved = self.reserved.min(keep);
     }
 
     /// Puts a message behind the others. Takes no memory.
