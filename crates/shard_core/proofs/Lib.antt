@@ -12,6 +12,7 @@ pub mod Operated
 pub mod Putting
 pub mod Placing
 pub mod Grown
+pub mod Trimmed
 pub mod Asking
 pub mod Looked
 pub mod Heard

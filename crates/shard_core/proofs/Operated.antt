@@ -1,5 +1,5 @@
 -- The parts after an operation.
-use Rattle.std.proofs.Common.{◌≡◌, refl, sym, ap, subst, ◌∙◌, ◌⊎◌, inl, inr, ⊎_elim, ℕ, ◌+◌, ◌≤◌, Bool, true, false, cond, ◌||◌, List, [], ◌∷◌, ◌++◌, length, drop, Option, Some, None, is_some, arith}
+use Rattle.std.proofs.Common.{◌≡◌, refl, sym, ap, subst, ◌∙◌, ◌⊎◌, inl, inr, ⊎_elim, ℕ, ◌+◌, ◌≤◌, Bool, true, false, cond, ◌&&◌, ◌||◌, List, [], ◌∷◌, ◌++◌, length, drop, Option, Some, None, is_some, arith, is_none}
 use Rattle.std.proofs.lemmas.Bool.{both_ways, or_cases}
 use Rattle.std.specs.Map.{keys_of}
 use Rattle.std.specs.declared.cmp.Ordering.{Ordering}
@@ -37,6 +37,8 @@ use Rattle.shard_core.specs.Whole.{IsAtRest}
 use Rattle.shard_core.proofs.Seeing.{single, part_known, doomed_known}
 use Rattle.shard_core.proofs.Logged.{All, logged_more, logged_known, logged_without}
 use Rattle.shard_core.proofs.Changing.{room_kept, without_le, cover_purged}
+use Rattle.clv_base.specs.declared.state.Request.{Request}
+use Rattle.commit_coordinator.specs.Coordinated.{state_by}
 use Rattle.due_laws.proofs.Laws.{performed_le}
 use Rattle.shard_core.proofs.Taking.{here_in, without_keys, without_prepares, stage_known, known_doomed}
 use Rattle.shard_core.proofs.Committing.{idle_holds, idle_ready}
@@ -187,6 +189,18 @@ dead_changed a tx u f rest whole e put places room pairs kept =
     by : (x : TxId) (b : Bool) → is_some (stage_of a.transactions.local tx) ≡ b → cond b (tx_in x (doomed_by a.transactions.local tx)) false ≡ true → tx_in x (known_keys (seen a)) ≡ true
     by x true here i = doomed_known (seen a) tx x whole.dependents (stage_known (seen a) tx here) i
     by x false here i = absurd (both_ways false refl i)
+
+-- ---- who may begin a part here
+
+-- whose part isn't known has no request, where not both hold
+pub fresh_by : (a : Parts) (tx : TxId) (b : Bool) → b ≡ (is_none (stage_of a.transactions.local tx) && is_some (state_by (tx_get tx a.coordinator.requests))) → b ≡ false
+    → is_some (stage_of a.transactions.local tx) ≡ false → tx_get tx a.coordinator.requests ≡ None
+fresh_by a tx b is holds new = by (stage_of a.transactions.local tx) (tx_get tx a.coordinator.requests) (sym is ∙ holds) new
+  where
+    by : (st : Option Stage) (o : Option Request) → (is_none st && is_some (state_by o)) ≡ false → is_some st ≡ false → o ≡ None
+    by st None e new = refl
+    by None (Some q) e new = absurd (both_ways _ e refl)
+    by (Some st) (Some q) e new = absurd (both_ways _ new refl)
 
 -- ---- the reply
 

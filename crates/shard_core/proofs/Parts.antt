@@ -44,7 +44,7 @@ abbrev pub seen : Parts → Shard
 seen a = seen_as a.run a.transactions a.participant a.coordinator a.outbox
 
 abbrev pub viewed : Parts → Core
-viewed a = record { shard = seen a; candidates = a.candidates.txs; limit = a.candidates.limit }
+viewed a = record { shard = seen a; candidates = a.candidates.txs; limit = a.candidates.limit; room = a.outbox.room }
 
 abbrev pub Holds : Parts → Type 0
 Holds a = IsWhole a.shard a.prepares.rows a.transactions a.participant a.coordinator a.outbox a.candidates (seen a)

@@ -92,7 +92,7 @@ asked_at tx home seen r rs o = asked_voter home seen (cond (is_eq o) (Some r.1) 
 
 pub asked_total : (test : TxId → Bool) (tx : TxId) (home seen : ℕ) (vs : Table Voter) → IsStrictlySortedBy tx_cmp (keys_of vs) → total_by left_voter test (voters_asked tx home seen vs) ≤ total_by left_voter test vs + 1
 unfolding IsStrictlySortedBy
-asked_total test tx home seen [] s = asked_first (test tx) home seen
+asked_total test tx home seen [] s = let first = asked_first (test tx) home seen in omega (arith, first)
 asked_total test tx home seen (r ∷ rs) s = at (tx_cmp tx r.0) refl (asked_total test tx home seen rs s.1)
   where
     at : (o : Ordering) → tx_cmp tx r.0 ≡ o → total_by left_voter test (voters_asked tx home seen rs) ≤ total_by left_voter test rs + 1

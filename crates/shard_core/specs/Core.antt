@@ -1,4 +1,5 @@
--- What the core of a shard is seen as: the shard of the definitions, with the transactions for which something may be due.
+-- What the core of a shard is seen as: the shard of the definitions, with the transactions for which something may be due, and for how many messages
+-- more there is room.
 use Rattle.std.specs.Prelude.{ℕ, cond, true, ◌==◌, List, [], Option, Some, None}
 use Rattle.clv_base.specs.declared.names.TxId.{TxId}
 use Rattle.clv_base.specs.State.{Shard}
@@ -12,6 +13,7 @@ pub record Core : Type 0 where
   -- rising, and for how many there is room
   pub candidates : List TxId
   pub limit : ℕ
+  pub room : ℕ
 
 -- up to where records are in flight: where more were taken than are durable
 abbrev pub flight_by : ℕ → ℕ → Option ℕ

@@ -94,7 +94,7 @@ fn abort_noted<S: Store + Drop, L: Locks + Drop>(
 /// A message goes behind the others.
 fn tell_one(outbox: &mut Outbox, message: Message) -> Result<(), Memory>
     ensures ok { OnOk result (outbox.new.messages ≡ outbox.old.messages ++ message ∷ []) }
-    ensures err { OnErr result (outbox.new.messages ≡ outbox.old.messages) }
+    ensures err { OnErr result (outbox.new ≡ outbox.old) }
     ensures room { outbox.old.room ≤ outbox.new.room }
 {
     match outbox.reserve(1) {

@@ -12,6 +12,7 @@ mod deciding;
 mod doing;
 mod dropping;
 mod flushing;
+mod giving;
 mod hearing;
 mod looking;
 mod making;

@@ -142,6 +142,7 @@ impl<S: Store + Drop, L: Locks + Drop> ShardCore<S, L> {
             prepares,
             outbox,
             candidates,
+            needed: 0,
         })
     }
 }

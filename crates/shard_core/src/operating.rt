@@ -1,5 +1,5 @@
 //! Operations.
-ghost use Rattle.std.specs.Prelude.{◌≡◌, ◌≤◌, ◌<◌, ◌+◌, ◌||◌, [], true, false, cond, length, is_none, is_some, IfOk, OnOk, OnErr};
+ghost use Rattle.std.specs.Prelude.{◌≡◌, ◌≤◌, ◌<◌, ◌+◌, ◌&&◌, [], true, false, cond, length, is_none, is_some, IfOk, OnOk, OnErr};
 ghost use Rattle.std.specs.List.Sorted.{IsStrictlySortedBy};
 ghost use Rattle.clv_base.specs.declared.names.TxId.{TxId as Tx};
 ghost use Rattle.clv_base.specs.Orders.{tx_cmp, tx_get, tx_in};
@@ -113,11 +113,11 @@ fn op_noted<S: Store + Drop, L: Locks + Drop>(
 }
 
 impl<S: Store + Drop, L: Locks + Drop> ShardCore<S, L> {
-    /// Whether the transaction's part is known here, or no request of it stands. There is no room for a request whose part begins after it.
-    fn may_begin(&self, tx: TxId) -> bool
-        ensures { result ≡ (is_some (stage_in (self.now.shard).local tx) || is_none (state_by (tx_get tx (self.now.shard).requests))) }
+    /// Whether a request of the transaction stands and no part of it is known here. For a part that begins after its request there is no room.
+    fn is_late(&self, tx: TxId) -> bool
+        ensures { result ≡ (is_none (stage_in (self.now.shard).local tx) && is_some (state_by (tx_get tx (self.now.shard).requests))) }
     {
-        self.transactions.stage_of(tx).is_some() || self.coordinator.state_of(tx).is_none()
+        self.transactions.stage_of(tx).is_none() && self.coordinator.state_of(tx).is_some()
     }
 
     /// An operation, before what is due then is done. A quiet answer leaves the shard as it was, and so does want of memory.
@@ -134,7 +134,7 @@ impl<S: Store + Drop, L: Locks + Drop> ShardCore<S, L> {
         ensures ok { IfOk result (λ r. Comes (op_reply (self.old.shard).shard (self.old.shard).local tx birth seen op) self.old.shard r self.new.shard) }
         ensures err { OnErr result (self.new.shard ≡ self.old.shard) }
     {
-        if !self.may_begin(tx) {
+        if self.is_late(tx) {
             return Err(Memory);
         }
         let reply = match op_noted(

@@ -111,6 +111,7 @@ impl<S: Store + Drop, L: Locks + Drop> ShardCore<S, L> {
                     Err(memory) => return Err(memory),
                 }
                 settle_due(self);
+                self.give_back_much(alloc);
                 Ok(true)
             }
             None | Some(Stage::Closed | Stage::Gone { .. }) => {
@@ -119,6 +120,7 @@ impl<S: Store + Drop, L: Locks + Drop> ShardCore<S, L> {
                     Err(memory) => return Err(memory),
                 }
                 settle_due(self);
+                self.give_back_much(alloc);
                 Ok(true)
             }
         }

@@ -27,7 +27,7 @@ use vote_participant::doubts::waiting_among;
 /// These messages go behind the others.
 fn tell_these(outbox: &mut Outbox, messages: &[Message]) -> Result<(), Memory>
     ensures ok { OnOk result (outbox.new.messages ≡ outbox.old.messages ++ messages.now) }
-    ensures err { OnErr result (outbox.new.messages ≡ outbox.old.messages) }
+    ensures err { OnErr result (outbox.new ≡ outbox.old) }
     ensures room { outbox.old.room ≤ outbox.new.room }
 {
     match outbox.reserve(messages.len()) {

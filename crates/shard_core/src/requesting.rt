@@ -217,6 +217,7 @@ impl<S: Store + Drop, L: Locks + Drop> ShardCore<S, L> {
                     Err(memory) => return Err(memory),
                 }
                 settle_due(self);
+                self.give_back_much(alloc);
                 Ok(RequestAnswer::Stands)
             }
             None => {
@@ -225,6 +226,7 @@ impl<S: Store + Drop, L: Locks + Drop> ShardCore<S, L> {
                     Err(memory) => return Err(memory),
                 }
                 settle_due(self);
+                self.give_back_much(alloc);
                 Ok(RequestAnswer::Stands)
             }
         }

@@ -22,6 +22,8 @@ pub struct ShardCore<S: Store + Drop, L: Locks + Drop> {
     pub(crate) prepares: TxTable<u64>,
     pub(crate) outbox: Outbox,
     pub(crate) candidates: Candidates,
+    /// For how many things there was to be room when room was given back last.
+    pub(crate) needed: usize,
 }
 
 impl<S: Store + Drop, L: Locks + Drop> Model for ShardCore<S, L> {
@@ -30,7 +32,7 @@ impl<S: Store + Drop, L: Locks + Drop> Model for ShardCore<S, L> {
 
     ghost Value = { Core };
 
-    ghost view = { λ s. record { shard = seen_as s.run s.transactions s.participant s.coordinator s.outbox; candidates = s.candidates.txs; limit = s.candidates.limit } };
+    ghost view = { λ s. record { shard = seen_as s.run s.transactions s.participant s.coordinator s.outbox; candidates = s.candidates.txs; limit = s.candidates.limit; room = s.outbox.room } };
 
     ghost invariant = { λ s. IsWhole s.shard s.prepares.rows s.transactions s.participant s.coordinator s.outbox s.candidates (seen_as s.run s.transactions s.participant s.coordinator s.outbox) };
 }

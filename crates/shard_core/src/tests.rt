@@ -208,3 +208,13 @@ fn a_commit_without_an_end_is_told_again(rt: HostRuntime) -> Result<(), Fail> {
     assert_eq!(rt; core.first_message(), Some(told));
     Ok(())
 }
+
+// One part is closed, so room for one thing or more stays.
+#[test]
+fn room_beyond_what_is_open_is_given_back(rt: HostRuntime) -> Result<(), Fail> {
+    let alloc = rt.alloc();
+    let mut core = open(alloc, with_doubt(alloc)?)?;
+    assert!(rt; core.give_back(alloc).is_ok());
+    assert_eq!(rt; core.stage_of(by(1)), Some(Stage::Closed));
+    Ok(())
+}
