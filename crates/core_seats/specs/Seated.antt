@@ -1,5 +1,5 @@
 -- A machine's gate, and the batch in flight, beside the shard's state.
-use Rattle.std.specs.Prelude.{◌≡◌, ◌≤◌, ℕ, true, false, List, ◌++◌, length, Option, Some, None}
+use Rattle.std.specs.Prelude.{◌≡◌, ℕ, true, false, List, ◌++◌, Option, Some, None}
 use Rattle.std.specs.List.{list_all}
 use Rattle.clv_base.specs.declared.logs.LogRecord.{LogRecord}
 use Rattle.clv_base.specs.FileRules.{has_spelling}
@@ -11,11 +11,6 @@ use Rattle.list_gate.specs.Listed.{Listed}
 use Rattle.machine_calls.specs.declared.flights.Flight.{Flight}
 use Rattle.core_seats.specs.declared.seat.Air.{Air}
 use Rattle.core_seats.specs.declared.seat.Air.TheVariants.{Home, Away, Lost}
-
--- what is durable and what is in flight is in the log
-pub record FrontsFit (s : Shard) : Type 0 where
-  pub within : s.durable ≤ length s.local.log
-  pub flying : (n : ℕ) → s.flight ≡ Some n → (s.durable ≤ n) × (n ≤ length s.local.log)
 
 -- a gate that isn't shut, whose log are these records
 pub record HasLog (g : Listed) (log : List LogRecord) : Type 0 where

@@ -1,10 +1,11 @@
 // The two events of a flush.
-ghost use Rattle.std.specs.Prelude.{◌≡◌, ◌<◌, ◌+◌, ◌^◌, true, false, Option, Some, None, IfOk};
+ghost use Rattle.std.specs.Prelude.{◌≡◌, ◌<◌, ◌+◌, ◌^◌, true, false, Option, Some, None, IfOk, IfSome};
 ghost use Rattle.clv_base.specs.declared.events.Event.TheVariants.{FlushOut};
 ghost use Rattle.clv_base.specs.Events.{step as step_of, land as land_of};
-ghost use Rattle.journal_laws.specs.Worlds.{LandsInTime};
-ghost use Rattle.core_seats.specs.Moves.{Moves};
-ghost use Rattle.core_seats.specs.Seated.{FrontsFit, IsSeated, IsAway};
+ghost use Rattle.machine_calls.specs.Events.{sends_fit};
+ghost use Rattle.world_laws.specs.Moves.{Moves};
+ghost use Rattle.world_laws.specs.Fronts.{FrontsFit, LandsBy};
+ghost use Rattle.core_seats.specs.Seated.{IsSeated, IsAway};
 ghost use Rattle.core_seats.specs.declared.seat.Air.TheVariants.{Home, Lost};
 
 use crate::seat::{Air, Seat};
@@ -23,6 +24,7 @@ pub fn flush_out<M: Flier + Machine<Gate = ListGate>>(
 ) -> Result<Option<Outcome>, AllocError>
     requires seated { IsSeated (M.shard seat.old.machine) (M.gate seat.old.machine) seat.old.air }
     requires fronts { FrontsFit (M.shard seat.old.machine) }
+    ensures sends { IfOk result (λ made. IfSome made (λ outcome. sends_fit outcome ≡ true)) }
     ensures moves { IfOk result (λ made. Moves (step_of (M.shard seat.old.machine) clock walker FlushOut) (M.shard seat.old.machine) made (M.shard seat.new.machine)) }
     ensures seated { IfOk result (λ made. IsSeated (M.shard seat.new.machine) (M.gate seat.new.machine) seat.new.air) }
 {
@@ -51,6 +53,7 @@ fn arrive<M: Flier + Machine<Gate = ListGate>>(
     requires fronts { FrontsFit (M.shard machine.old) }
     requires lands { (M.shard machine.old).last < 2 ^ 48 }
     requires clock { clock < 2 ^ 48 + 15 }
+    ensures sends { IfOk result (λ made. sends_fit made ≡ true) }
     ensures moves { IfOk result (λ made. Moves (land_of (M.shard machine.old) clock walker true) (M.shard machine.old) (Some made) (M.shard machine.new)) }
     ensures seated { IfOk result (λ made. IsSeated (M.shard machine.new) (M.gate machine.new) Home) }
 {
@@ -84,6 +87,7 @@ fn fail<M: Flier + Machine<Gate = ListGate>>(
     requires away { IsAway (M.shard machine.old) flight }
     requires lands { (M.shard machine.old).last < 2 ^ 48 }
     requires clock { clock < 2 ^ 48 + 15 }
+    ensures sends { sends_fit result.0 ≡ true }
     ensures moves { Moves (land_of (M.shard machine.old) clock walker false) (M.shard machine.old) (Some result.0) (M.shard machine.new) }
     ensures seated { IsSeated (M.shard machine.new) (M.gate machine.new) (Lost result.1) }
 {
@@ -114,8 +118,8 @@ pub fn flush_in<M: Flier + Machine<Gate = ListGate>>(
 ) -> Result<Option<Outcome>, AllocError>
     requires seated { IsSeated (M.shard seat.old.machine) (M.gate seat.old.machine) seat.old.air }
     requires fronts { FrontsFit (M.shard seat.old.machine) }
-    requires lands { LandsInTime (M.shard seat.old.machine) }
-    requires clock { clock < 2 ^ 48 + 15 }
+    requires lands { LandsBy clock (M.shard seat.old.machine) }
+    ensures sends { IfOk result (λ made. IfSome made (λ outcome. sends_fit outcome ≡ true)) }
     ensures moves { IfOk result (λ made. Moves (land_of (M.shard seat.old.machine) clock walker kept) (M.shard seat.old.machine) made (M.shard seat.new.machine)) }
     ensures seated { IfOk result (λ made. IsSeated (M.shard seat.new.machine) (M.gate seat.new.machine) seat.new.air) }
 {

@@ -1,5 +1,5 @@
 // Restarts.
-ghost use Rattle.std.specs.Prelude.{◌≡◌, ◌<◌, ◌^◌, suc, max, true, false, List, ◌∷◌, None, Some, IfOk, IsSome};
+ghost use Rattle.std.specs.Prelude.{◌≡◌, ◌<◌, ◌^◌, suc, max, true, false, List, ◌∷◌, None, Some, IfOk, IfSome, IsSome};
 ghost use Rattle.std.specs.List.{list_all};
 ghost use Rattle.clv_base.specs.declared.logs.LogRecord.{LogRecord as RecordIs};
 ghost use Rattle.clv_base.specs.declared.events.Outcome.TheVariants.{Up};
@@ -8,7 +8,8 @@ ghost use Rattle.clv_base.specs.Events.{next_stamp};
 ghost use Rattle.clv_base.specs.FileRules.{has_spelling};
 ghost use Rattle.clv_base.specs.LogRules.{disorder};
 ghost use Rattle.clv_base.specs.Restarts.{greatest_epoch, log_left, next_epoch, revive};
-ghost use Rattle.core_seats.specs.Moves.{Moves};
+ghost use Rattle.machine_calls.specs.Events.{sends_fit};
+ghost use Rattle.world_laws.specs.Moves.{Moves};
 ghost use Rattle.core_seats.specs.Seated.{IsSeated, HasLog};
 ghost use Rattle.core_seats.specs.declared.seat.Air.TheVariants.{Home};
 
@@ -108,6 +109,7 @@ fn revive_from<M: Restarter + Machine<Gate = ListGate>>(
     requires log { (kept : _) × HasLog gate (log_left (M.shard machine.old) kept) }
     requires in_order { disorder shard gate.records ≡ None }
     requires room { next_stamp (M.shard machine.old) clock Restart < 2 ^ 48 }
+    ensures sends { IfOk result (λ outcome. sends_fit outcome ≡ true) }
     ensures moves { IfOk result (λ outcome. (kept : _) → gate.records ≡ log_left (M.shard machine.old) kept → Moves (revive (M.shard machine.old) clock walker kept) (M.shard machine.old) (Some outcome) (M.shard machine.new)) }
     ensures seated { IfOk result (λ outcome. IsSeated (M.shard machine.new) (M.gate machine.new) Home) }
 {
@@ -140,6 +142,7 @@ pub fn restart<M: Restarter + Machine<Gate = ListGate>>(
     requires seated { IsSeated (M.shard seat.old.machine) (M.gate seat.old.machine) seat.old.air }
     requires shard { ((M.shard seat.old.machine).shard ≡ shard) × ((M.shard seat.old.machine).run ≡ 1) }
     requires in_order { disorder shard (log_left (M.shard seat.old.machine) kept) ≡ None }
+    ensures sends { IfOk result (λ made. IfSome made (λ outcome. sends_fit outcome ≡ true)) }
     ensures moves { IfOk result (λ made. Moves (revive (M.shard seat.old.machine) clock walker kept) (M.shard seat.old.machine) made (M.shard seat.new.machine)) }
     ensures seated { IfOk result (λ made. IsSeated (M.shard seat.new.machine) (M.gate seat.new.machine) seat.new.air) }
 {

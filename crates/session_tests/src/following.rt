@@ -15,7 +15,11 @@ impl Session {
     fn follow_birth(&mut self, tx: TxId, birth: Birth)
         ensures { (t : SessionState) → session_for self.old tx birth ≡ Some t → (self.new ≡ t) × (0 < t.tx.serial) }
     {
-        if !self.is_last(tx) && tx.run == 1 && tx.session == self.walker && tx.serial != 0 {
+        let _walker = self.walker;
+        if self.is_last(tx) {
+            return;
+        }
+        if self.begins(tx, birth) {
             self.begin(tx, birth);
         }
     }
@@ -85,6 +89,8 @@ impl Session {
         requires { shard < 16 }
         ensures { (splits : List ℕ) (t : SessionState) → session_after splits shard self.old event.now outcome.now ≡ Some t → self.new ≡ t }
     {
+        let _walker = self.walker;
+        let last = self.tx();
         match event {
             Event::Op {
                 tx,
@@ -93,8 +99,8 @@ impl Session {
                 seen: _,
                 op,
             } => self.follow_op(shard, *tx, *birth, *nth, *op, outcome),
-            Event::Request { .. } if self.tx().serial != 0 => self.follow_request(shard, outcome),
-            Event::Look { .. } if self.tx().serial != 0 => self.follow_look(outcome),
+            Event::Request { .. } if last.serial != 0 => self.follow_request(shard, outcome),
+            Event::Look { .. } if last.serial != 0 => self.follow_look(outcome),
             Event::Drop { .. } => self.follow_drop(),
             _ => {}
         }

@@ -1,15 +1,17 @@
 // Whether a session may make an event.
-ghost use Rattle.std.specs.Prelude.{◌≡◌, ◌<◌, ◌≤◌, ◌==◌, ◌&&◌, not, true, false, is_some, IfOk};
+ghost use Rattle.std.specs.Prelude.{◌≡◌, ◌<◌, ◌≤◌, ◌==◌, ◌&&◌, not, true, false, map, nat_lt, is_some, IfOk};
+ghost use Rattle.std.specs.List.{list_all};
 ghost use Rattle.std.specs.Map.{lookup};
 ghost use Rattle.clv_base.specs.declared.ops.Answer.TheVariants.{Value};
+ghost use Rattle.clv_base.specs.declared.events.Event.TheVariants.{Request};
 ghost use Rattle.clv_base.specs.declared.events.Outcome.TheVariants.{Answered};
-ghost use Rattle.clv_base.specs.FileRules.{tx_has_spelling};
+ghost use Rattle.clv_base.specs.FileRules.{tx_has_spelling, numbers_rise};
 ghost use Rattle.clv_base.specs.LogRules.{same_option};
 ghost use Rattle.clv_base.specs.Orders.{tx_same};
 ghost use Rattle.clv_base.specs.Sessions.{lies_in as lies, begins as begins_in, is_number as numbers, session_for, op_in_session, same_touched as same_touched_in, is_lowest as lowest, session_after, is_touching as touches, stands_at as stands, may_drop as drops, is_of_session, is_session_number};
 ghost use Rattle.clv_base.specs.Shards.{in_span as in_span_of};
 ghost use Rattle.journal_laws.specs.Offers.{hoped_for};
-ghost use Rattle.machine_calls.specs.Events.{event_fits, touched_fit};
+ghost use Rattle.session_tests.specs.Naming.{shards_fit, names_fit};
 
 use crate::sessions::Session;
 use clv_base::events::Event;
@@ -40,12 +42,17 @@ fn lies_in(splits: &Splits, shard: u32, op: Op) -> bool
 fn same_touched(touched: &[(u32, u64)], other: &[(u32, u64)]) -> bool
     ensures { result ≡ same_touched_in touched.now other.now }
 {
-    match (touched, other) {
-        ([], []) => true,
-        ([part, parts @ ..], [second, others @ ..]) => {
-            part.0 == second.0 && part.1 == second.1 && same_touched(parts, others)
-        }
-        _ => false,
+    match touched {
+        [] => match other {
+            [] => true,
+            [_, ..] => false,
+        },
+        [part, parts @ ..] => match other {
+            [] => false,
+            [second, others @ ..] => {
+                part.0 == second.0 && part.1 == second.1 && same_touched(parts, others)
+            }
+        },
     }
 }
 
@@ -59,9 +66,12 @@ fn is_lowest(shard: u32, touched: &[(u32, u64)]) -> bool
 }
 
 impl Session {
-    fn begins(&self, tx: TxId, birth: Birth) -> bool
-        ensures { result ≡ begins_in self.now tx birth }
+    pub(crate) fn begins(&self, tx: TxId, birth: Birth) -> bool
+        ensures begins { result ≡ begins_in self.now tx birth }
+        ensures named { result ≡ true → (tx.run ≡ 1) × (tx.session ≡ self.now.tx.session) × (0 < tx.serial) }
+        ensures spelled { result ≡ true → is_session_number self.now.tx.session ≡ true → tx_has_spelling tx ≡ true }
     {
+        let _walker = self.walker;
         let last = self.tx();
         tx.run == last.run
             && tx.session == last.session
@@ -89,7 +99,8 @@ impl Session {
         op: Op,
     ) -> bool
         requires { tx_same tx self.now.tx ≡ false }
-        ensures { result ≡ is_some (op_in_session splits.now shard nth seen op (Answered (Value None) 0) (session_for self.now tx birth)) }
+        ensures may { result ≡ is_some (op_in_session splits.now shard nth seen op (Answered (Value None) 0) (session_for self.now tx birth)) }
+        ensures spelled { result ≡ true → is_session_number self.now.tx.session ≡ true → tx_has_spelling tx ≡ true }
     {
         self.begins(tx, birth) && nth == 1 && lies_in(splits, shard, op) && seen.is_none()
     }
@@ -104,13 +115,32 @@ impl Session {
         seen: Option<u64>,
         op: Op,
     ) -> bool
-        ensures { result ≡ is_some (op_in_session splits.now shard nth seen op (Answered (Value None) 0) (session_for self.now tx birth)) }
+        ensures may { result ≡ is_some (op_in_session splits.now shard nth seen op (Answered (Value None) 0) (session_for self.now tx birth)) }
+        ensures spelled { result ≡ true → is_session_number self.now.tx.session ≡ true → tx_has_spelling tx ≡ true }
     {
         if self.is_last(tx) {
             self.is_touching() && self.has_birth(birth) && self.fits(splits, shard, nth, seen, op)
         } else {
             self.may_begin(splits, shard, tx, birth, nth, seen, op)
         }
+    }
+
+    // Whether these are the touched shards, and this one is the lowest of them.
+    fn asks(&self, shard: u32, tx: TxId, touched: &[(u32, u64)], own: &[(u32, u64)]) -> bool
+        requires own { own.now ≡ self.now.touched }
+        requires rise { numbers_rise (map (λ t. t.0) own.now) ≡ true }
+        requires low { list_all (λ t. nat_lt t.0 16) own.now ≡ true }
+        ensures may { result ≡ (tx_same tx self.now.tx && touches self.now.phase && same_touched_in touched.now self.now.touched && lowest shard touched.now) }
+        ensures fits { result ≡ true → shards_fit shard touched.now ≡ true }
+        ensures spelled { result ≡ true → is_session_number self.now.tx.session ≡ true → tx_has_spelling tx ≡ true }
+    {
+        if !self.is_last(tx) || !self.is_touching() {
+            return false;
+        }
+        if !same_touched(touched, own) {
+            return false;
+        }
+        is_lowest(shard, touched)
     }
 
     fn may_request(
@@ -120,31 +150,31 @@ impl Session {
         tx: TxId,
         touched: &Touched,
     ) -> Result<bool, AllocError>
+        requires { is_session_number self.now.tx.session ≡ true }
         ensures may { IfOk result (λ may. may ≡ (tx_same tx self.now.tx && touches self.now.phase && same_touched_in touched.now self.now.touched && lowest shard touched.now)) }
-        ensures fits { IfOk result (λ may. may ≡ true → touched_fit shard touched.now ≡ true) }
+        ensures fits { IfOk result (λ may. may ≡ true → names_fit shard (Request tx touched.now) ≡ true) }
     {
         let own = self.touched(alloc)?;
-        let touched = touched.as_slice();
-        Ok(self.is_last(tx)
-            && self.is_touching()
-            && same_touched(touched, own.as_slice())
-            && is_lowest(shard, touched))
+        let may = self.asks(shard, tx, touched.as_slice(), own.as_slice());
+        Ok(may)
     }
 
     fn may_look(&self, shard: u32, tx: TxId) -> bool
-        ensures { result ≡ (tx_same tx self.now.tx && stands shard self.now.phase) }
+        ensures spelled { result ≡ true → is_session_number self.now.tx.session ≡ true → tx_has_spelling tx ≡ true }
+        ensures may { result ≡ (tx_same tx self.now.tx && stands shard self.now.phase) }
     {
         self.is_last(tx) && self.stands_at(shard)
     }
 
     fn may_be_dropped(&self, tx: TxId) -> bool
-        ensures { result ≡ (tx_same tx self.now.tx && drops self.now.phase && not (self.now.tx.serial == 0)) }
+        ensures spelled { result ≡ true → is_session_number self.now.tx.session ≡ true → tx_has_spelling tx ≡ true }
+        ensures may { result ≡ (tx_same tx self.now.tx && drops self.now.phase && not (self.now.tx.serial == 0)) }
     {
         self.is_last(tx) && self.may_drop() && self.tx().serial != 0
     }
 
-    /// Whether the session may make the event on a shard, whatever its outcome. Then the event's transaction and shards are within the bounds of a
-    /// machine's calls. An `Err` is want of memory.
+    /// Whether the session may make the event on a shard, whatever its outcome. Then the event's transaction and shards are such as a log
+    /// may name. An `Err` is want of memory.
     pub fn may_make(
         &self,
         alloc: Global,
@@ -154,7 +184,7 @@ impl Session {
     ) -> Result<bool, AllocError>
         requires { is_session_number self.now.tx.session ≡ true }
         ensures may { IfOk result (λ may. may ≡ is_some (session_after splits.now shard self.now event.now (hoped_for event.now))) }
-        ensures fits { IfOk result (λ may. may ≡ true → is_of_session event.now ≡ true → event_fits shard event.now ≡ true) }
+        ensures fits { IfOk result (λ may. may ≡ true → names_fit shard event.now ≡ true) }
     {
         match event {
             Event::Op {

@@ -2,9 +2,9 @@
 ghost use Rattle.std.specs.Prelude.{◌≡◌, ◌==◌, ◌&&◌, ◌<◌, true, map, nat_lt, IfOk};
 ghost use Rattle.std.specs.List.{list_all};
 ghost use Rattle.std.specs.Map.{lookup};
-ghost use Rattle.clv_base.specs.FileRules.{numbers_rise};
+ghost use Rattle.clv_base.specs.FileRules.{numbers_rise, tx_has_spelling};
 ghost use Rattle.clv_base.specs.Orders.{tx_same};
-ghost use Rattle.clv_base.specs.Sessions.{no_session, begun, touch, scan_shard, is_touching as touches, same_birth, may_drop as drops, stands_at as stands, is_number as numbers, goes_on_scan, follows_birth as follows, Ended, Standing, Told, Refused};
+ghost use Rattle.clv_base.specs.Sessions.{no_session, begun, touch, scan_shard, is_touching as touches, same_birth, may_drop as drops, stands_at as stands, is_number as numbers, goes_on_scan, follows_birth as follows, is_session_number, Ended, Standing, Told, Refused};
 ghost use Rattle.session_progress.specs.Stages.{phase_of};
 
 use clv_base::lists::Touched;
@@ -97,13 +97,16 @@ impl Session {
 
     /// Whether this is the last transaction.
     pub(crate) fn is_last(&self, tx: TxId) -> bool
-        ensures { result ≡ tx_same tx self.now.tx }
+        ensures last { result ≡ tx_same tx self.now.tx }
+        ensures spelled { result ≡ true → 0 < self.now.tx.serial → is_session_number self.now.tx.session ≡ true → tx_has_spelling tx ≡ true }
     {
+        let _walker = self.walker;
         tx == self.tx()
     }
 
     pub(crate) fn is_touching(&self) -> bool
-        ensures { result ≡ touches self.now.phase }
+        ensures touching { result ≡ touches self.now.phase }
+        ensures begun { result ≡ true → 0 < self.now.tx.serial }
     {
         match &self.place {
             Some(place) => is_touching(place.stage()),
@@ -121,7 +124,8 @@ impl Session {
     }
 
     pub(crate) fn stands_at(&self, shard: u32) -> bool
-        ensures { result ≡ stands shard self.now.phase }
+        ensures stands { result ≡ stands shard self.now.phase }
+        ensures begun { result ≡ true → 0 < self.now.tx.serial }
     {
         match &self.place {
             Some(place) => stands_at(shard, place.stage()),
