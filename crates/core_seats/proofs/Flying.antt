@@ -19,13 +19,14 @@ use Rattle.log_gate.specs.Image.{SpellAll}
 use Rattle.list_gate.specs.Listed.{Listed}
 use Rattle.machine_calls.specs.declared.machine.StepError.{StepError}
 use Rattle.machine_calls.specs.declared.flights.Flight.{Flight}
-use Rattle.machine_calls.specs.Flights.{Leaves, flying}
+use Rattle.machine_calls.specs.Flights.{Leaves, flying, is_out}
 use Rattle.machine_calls.specs.Steps.{Tells}
 use Rattle.world_laws.specs.Fronts.{FrontsFit}
+use Rattle.world_laws.specs.Moves.{is_idle}
 use Rattle.core_seats.specs.declared.seat.Air.{Air}
 use Rattle.core_seats.specs.declared.seat.Air.TheVariants.{Home, Away, Lost}
 use Rattle.core_seats.specs.Seated.{HasLog, IsInFlight, IsHome, IsAway, IsLost, IsSeated}
-use Rattle.world_laws.proofs.Laws.{Framed, framed_finish, grows_settled, same_after, take_grown}
+use Rattle.world_laws.proofs.Laws.{Framed, framed_finish, grows_settled, same_outcome, same_after, take_grown}
 
 -- ---- the start of a flush
 
@@ -72,6 +73,23 @@ pub departed : {G : Type 0} (s t : Shard) (clock w : ℕ) (before after : Option
 departed s t clock w before after o f None h d =
     absurd (up_or_down s (next_stamp s clock FlushOut) w (nat_lt (next_stamp s clock FlushOut) (2 ^ 48)) f.upto s.is_up (h.0 ∙ ap (λ p. Quiet p) d.outcome))
 departed s t clock w before after o f (Some x) h d = h.2.enters ∙ ap (λ p. Enters p t) (sym (same_ok h.1))
+
+-- every entry of it is Out
+outs_in : (s : Shard) (stamp w : ℕ) (room : Bool) (f : Option ℕ) (k : ℕ) (o : Outcome) (t : Shard) → stamped stamp w FlushOut room (out_event s f k) ≡ Enters o t → is_out o ≡ true
+outs_in s stamp w room f zero o t h = absurd cc
+outs_in s stamp w room (Some m) (suc k) o t h = absurd cc
+outs_in s stamp w false None (suc k) o t h = absurd cc
+outs_in s stamp w true None (suc k) o t h = sym (ap is_out (same_outcome h))
+
+outs_up : (s : Shard) (stamp w : ℕ) (room : Bool) (o : Outcome) (t : Shard) (b : Bool) → stamped stamp w FlushOut room (elim b [ true ↦ happen_up s FlushOut | false ↦ QuietBeforeWorn Down ]) ≡ Enters o t → is_out o ≡ true
+outs_up s stamp w room o t true h = outs_in s stamp w room s.flight (fitting 1048576 (drop (taken s) s.local.log)) o t h
+outs_up s stamp w room o t false h = absurd cc
+
+-- where there is no flight, no entry was made
+pub stayed : (s t : Shard) (clock w : ℕ) (o : Outcome) (x : Option Entry) → Tells (step s clock w FlushOut) s clock w FlushOut (Ok o) t x → is_out o ≡ false → (is_idle (step s clock w FlushOut) ≡ true) × (t ≡ s)
+stayed s t clock w o None h d = (ap is_idle h.0, h.1)
+stayed s t clock w o (Some x) h d =
+    absurd (both_ways (is_out o) d (ap is_out (same_ok h.1) ∙ outs_up s (next_stamp s clock FlushOut) w (nat_lt (next_stamp s clock FlushOut) (2 ^ 48)) h.0 t s.is_up h.2.enters))
 
 kept_front : (m n : ℕ) (xs : List LogRecord) → m ≤ n → take n xs ≡ take m xs ++ drop m (take n xs)
 kept_front m n xs l = sym (ap (λ z. z ++ drop m (take n xs)) (sym (take-take m n xs l)) ∙ take-append-drop m (take n xs))
@@ -123,10 +141,10 @@ lands s clock w n kept up f = ap (λ b. elim b [ true ↦ land_up s clock w kept
 -- it is durable, and the gate that took it comes home
 pub seated_home : (s t : Shard) (clock w : ℕ) (o : Outcome) (f : Flight Listed) (g : Listed) → FrontsFit s → s.is_up ≡ true → IsAway s f → land s clock w true ≡ Enters o t
     → ((more : List LogRecord) → SpellAll more f.payload.items → g.records ≡ f.gate.records ++ more) → g.is_shut ≡ false → IsHome t g
-seated_home s t clock w o f g fits up a e added open =
+seated_home s t clock w o f g fits up a e added unshut =
     record {
       none = ap (λ u. u.flight) is ∙ p.flight;
-      log = record { is = records ∙ sym left; is_open = open; spelled = ap (list_all has_spelling) (added b.records b.spelled) ∙ all_spelled f.gate.records b.records a.log.spelled b.spelled.in_bounds };
+      log = record { is = records ∙ sym left; is_open = unshut; spelled = ap (list_all has_spelling) (added b.records b.spelled) ∙ all_spelled f.gate.records b.records a.log.spelled b.spelled.in_bounds };
     }
   where
     b : IsInFlight s f.payload.items

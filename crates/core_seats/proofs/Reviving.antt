@@ -60,12 +60,12 @@ revived_sends s t clock w epoch log o l h = sym (ap sends_fit (same_outcome (sym
 -- the gate has the log that the shard has
 pub seated_revived : (s t : Shard) (clock w epoch : ℕ) (log : List LogRecord) (o : Outcome) (g : Listed) → next_stamp s clock Restart < 2 ^ 48 → revives s clock w epoch log ≡ Enters o t → Some g.records ≡ Some log → g.is_shut ≡ false
     → list_all has_spelling log ≡ true → IsHome t g
-seated_revived s t clock w epoch log o g l h same open spelled =
+seated_revived s t clock w epoch log o g l h same unshut spelled =
     let is = revived_is s t clock w epoch log o l h in
     let records = same_records same in
     record {
       none = ap (λ u. u.flight) is;
-      log = record { is = records ∙ sym (ap (λ u. log_left u false) is ∙ take_all (length log) log (omega arith)); is_open = open; spelled = ap (list_all has_spelling) records ∙ spelled };
+      log = record { is = records ∙ sym (ap (λ u. log_left u false) is ∙ take_all (length log) log (omega arith)); is_open = unshut; spelled = ap (list_all has_spelling) records ∙ spelled };
     }
   where
     same_records : {xs ys : List LogRecord} → Some xs ≡ Some ys → xs ≡ ys

@@ -8,7 +8,7 @@ ghost use Rattle.world_laws.specs.Fronts.{FrontsFit, LandsBy};
 ghost use Rattle.core_seats.specs.Seated.{IsSeated, IsAway};
 ghost use Rattle.core_seats.specs.declared.seat.Air.TheVariants.{Home, Lost};
 
-use crate::seat::{Air, Seat};
+use crate::seat::{Air, Seat, let_go};
 use clv_base::events::Outcome;
 use list_gate::ListGate;
 use machine_calls::{Flier, Flight, Machine, StepError};
@@ -29,14 +29,17 @@ pub fn flush_out<M: Flier + Machine<Gate = ListGate>>(
     ensures seated { IfOk result (λ made. IsSeated (M.shard seat.new.machine) (M.gate seat.new.machine) seat.new.air) }
 {
     match seat.machine.take_flight(alloc, clock, walker) {
-        Ok((outcome, Some(flight))) => {
-            match replace(&mut seat.air, Air::Away(flight)) {
-                Air::Home | Air::Lost(_) => {}
-                Air::Away(_) => unreachable!(),
+        Ok(taken) => {
+            let (outcome, flight) = taken;
+            match flight {
+                Some(flight) => {
+                    let_go(replace(&mut seat.air, Air::Away(flight)));
+                    Ok(Some(outcome))
+                }
+                None => Ok(None),
             }
-            Ok(Some(outcome))
         }
-        Ok((_, None)) | Err(StepError::Worn { .. }) => Ok(None),
+        Err(StepError::Worn { .. }) => Ok(None),
         Err(StepError::Memory) => Err(AllocError),
     }
 }
@@ -63,9 +66,9 @@ fn arrive<M: Flier + Machine<Gate = ListGate>>(
         payload,
         upto,
     } = flight;
-    if gate.push(payload.as_slice()).is_err() {
+    let Ok(()) = gate.push(payload.as_slice()) else {
         return Err(AllocError);
-    }
+    };
     let flight = Flight {
         gate,
         as_taken,
@@ -134,7 +137,7 @@ pub fn flush_in<M: Flier + Machine<Gate = ListGate>>(
         }
         Air::Away(flight) => {
             let (outcome, payload) = fail(&mut seat.machine, alloc, flight, clock, walker);
-            seat.air = Air::Lost(payload);
+            let_go(replace(&mut seat.air, Air::Lost(payload)));
             Ok(Some(outcome))
         }
         Air::Lost(_) => unreachable!(),

@@ -1,27 +1,17 @@
 // The end of a seat.
 ghost use Rattle.std.specs.Prelude.{◌≡◌};
 
-use crate::seat::{Air, Seat};
+use crate::seat::{Seat, let_go};
 use clv_base::events::Entry;
 use list_gate::ListGate;
-use machine_calls::{Flight, Machine, Parts};
+use machine_calls::{Machine, Parts};
 
 /// Takes a seat apart, and gives the journal. Takes no memory.
 pub fn leave<M: Machine<Gate = ListGate>>(seat: Seat<M>) -> Vec<Entry>
     ensures { result.items ≡ (M.shard seat.machine).journal }
 {
     let Seat { machine, air } = seat;
-    match air {
-        Air::Home | Air::Lost(_) => {}
-        Air::Away(flight) => {
-            let Flight {
-                gate: _,
-                as_taken: _,
-                payload: _,
-                upto: _,
-            } = flight;
-        }
-    }
+    let_go(air);
     let Parts {
         gate: _,
         store: _,

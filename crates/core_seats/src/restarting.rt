@@ -94,7 +94,14 @@ fn found_log<M: Restarter + Machine<Gate = ListGate>>(
     Ok(gate)
 }
 
-// The shard, whose gate was taken, goes on from the gate's log.
+// The epoch of the next restart, where there is one.
+fn next(own: u64, log: &[LogRecord]) -> Option<u64>
+    ensures { IfSome result (λ epoch. epoch ≡ suc (greatest_epoch 1 own log.now)) }
+{
+    greatest(own, log).checked_add(1)
+}
+
+// The shard, whose gate was taken, goes on from the log found, which is the gate's.
 fn revive_from<M: Restarter + Machine<Gate = ListGate>>(
     machine: &mut M,
     alloc: Global,
@@ -102,21 +109,21 @@ fn revive_from<M: Restarter + Machine<Gate = ListGate>>(
     walker: u32,
     shard: u32,
     mut gate: ListGate,
+    found: Vec<LogRecord>,
+    epoch: u64,
 ) -> Result<Outcome, AllocError>
     requires shard { ((M.shard machine.old).shard ≡ shard) × ((M.shard machine.old).run ≡ 1) }
     requires down { (M.shard machine.old).is_up ≡ false }
     requires away { M.gate machine.old ≡ None }
-    requires log { (kept : _) × HasLog gate (log_left (M.shard machine.old) kept) }
-    requires in_order { disorder shard gate.records ≡ None }
+    requires log { (kept : _) × (found.items ≡ log_left (M.shard machine.old) kept) }
+    requires gate { HasLog gate found.items }
+    requires in_order { disorder shard found.items ≡ None }
+    requires epoch { epoch ≡ suc (greatest_epoch 1 (M.shard machine.old).local.epoch found.items) }
     requires room { next_stamp (M.shard machine.old) clock Restart < 2 ^ 48 }
     ensures sends { IfOk result (λ outcome. sends_fit outcome ≡ true) }
-    ensures moves { IfOk result (λ outcome. (kept : _) → gate.records ≡ log_left (M.shard machine.old) kept → Moves (revive (M.shard machine.old) clock walker kept) (M.shard machine.old) (Some outcome) (M.shard machine.new)) }
+    ensures moves { IfOk result (λ outcome. (kept : _) → found.items ≡ log_left (M.shard machine.old) kept → Moves (revive (M.shard machine.old) clock walker kept) (M.shard machine.old) (Some outcome) (M.shard machine.new)) }
     ensures seated { IfOk result (λ outcome. IsSeated (M.shard machine.new) (M.gate machine.new) Home) }
 {
-    let found = copy_log(alloc, gate.records())?;
-    let Some(epoch) = greatest(machine.epoch(), &found).checked_add(1) else {
-        return Err(AllocError);
-    };
     let Ok(mut store) = M::Store::empty(alloc) else {
         return Err(AllocError);
     };
@@ -146,11 +153,18 @@ pub fn restart<M: Restarter + Machine<Gate = ListGate>>(
     ensures moves { IfOk result (λ made. Moves (revive (M.shard seat.old.machine) clock walker kept) (M.shard seat.old.machine) made (M.shard seat.new.machine)) }
     ensures seated { IfOk result (λ made. IsSeated (M.shard seat.new.machine) (M.gate seat.new.machine) seat.new.air) }
 {
-    if !seat.machine.is_down() || seat.machine.last().max(clock) >= STAMPS - 1 {
+    if !seat.machine.is_down() {
+        return Ok(None);
+    }
+    if seat.machine.last().max(clock) >= STAMPS - 1 {
         return Ok(None);
     }
     let air = replace(&mut seat.air, Air::Home);
     let gate = found_log(&mut seat.machine, air, kept)?;
-    let outcome = revive_from(&mut seat.machine, alloc, clock, walker, shard, gate)?;
+    let found = copy_log(alloc, gate.records())?;
+    let Some(epoch) = next(seat.machine.epoch(), &found) else {
+        return Err(AllocError);
+    };
+    let outcome = revive_from(&mut seat.machine, alloc, clock, walker, shard, gate, found, epoch)?;
     Ok(Some(outcome))
 }

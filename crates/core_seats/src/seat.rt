@@ -18,3 +18,18 @@ pub struct Seat<M> {
     pub machine: M,
     pub air: Air,
 }
+
+/// What is left of where a gate was. Takes no memory.
+pub(crate) fn let_go(air: Air) {
+    match air {
+        Air::Home | Air::Lost(_) => {}
+        Air::Away(flight) => {
+            let Flight {
+                gate: _,
+                as_taken: _,
+                payload: _,
+                upto: _,
+            } = flight;
+        }
+    }
+}

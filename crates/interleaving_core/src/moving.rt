@@ -8,15 +8,16 @@ ghost use Rattle.machine_calls.specs.Events.{event_fits, sends_fit};
 ghost use Rattle.core_seats.specs.Seated.{IsSeated};
 ghost use Rattle.world_laws.specs.Fronts.{FrontsFit, LandsBy};
 ghost use Rattle.world_laws.specs.Moves.{Moves};
+ghost use Rattle.interleaving_core.specs.Making.{MakesEntry};
 
-use clv_base::events::{CoreStep, Event, Outcome};
+use clv_base::events::{CoreStep, Entry, Event, Outcome};
 use core_seats::{Seat, flush_in, flush_out, restart, step};
 use list_gate::ListGate;
 use machine_calls::{Flier, Machine, Restarter};
 use std::alloc::{AllocError, Global};
 
-/// The step on its shard, by a walker with this clock: the outcome of its entry, or none where none is made. An `Err` is want of memory.
-pub(crate) fn move_seat<M: Flier + Restarter + Machine<Gate = ListGate>>(
+// The step on its shard: the outcome of its entry, or none where none is made.
+fn move_seat<M: Flier + Restarter + Machine<Gate = ListGate>>(
     seat: &mut Seat<M>,
     alloc: Global,
     clock: u64,
@@ -41,5 +42,34 @@ pub(crate) fn move_seat<M: Flier + Restarter + Machine<Gate = ListGate>>(
             let event = event.clone()?;
             step(seat, alloc, clock, made.walker, event)
         }
+    }
+}
+
+/// The step on its shard, by a walker with this clock: its entry, or none where none is made. An `Err` is want of memory.
+pub(crate) fn make_entry<M: Flier + Restarter + Machine<Gate = ListGate>>(
+    seat: &mut Seat<M>,
+    alloc: Global,
+    clock: u64,
+    made: &CoreStep,
+) -> Result<Option<Entry>, AllocError>
+    requires seated { IsSeated (M.shard seat.old.machine) (M.gate seat.old.machine) seat.old.air }
+    requires shard { ((M.shard seat.old.machine).shard ≡ made.now.shard) × ((M.shard seat.old.machine).run ≡ 1) }
+    requires fronts { FrontsFit (M.shard seat.old.machine) }
+    requires lands { LandsBy clock (M.shard seat.old.machine) }
+    requires fits { event_fits made.now.shard made.now.event ≡ true }
+    requires birth { has_no_equal_active_birth (M.shard seat.old.machine) made.now.event ≡ true }
+    requires in_order { disorder made.now.shard (log_left (M.shard seat.old.machine) made.now.kept) ≡ None }
+    ensures makes { IfOk result (λ entry. MakesEntry (answer_by clock made.now (M.shard seat.old.machine) made.now.event) made.now (M.shard seat.old.machine) entry (M.shard seat.new.machine)) }
+    ensures seated { IfOk result (λ entry. IsSeated (M.shard seat.new.machine) (M.gate seat.new.machine) seat.new.air) }
+{
+    let event = made.event.clone()?;
+    match move_seat(seat, alloc, clock, made)? {
+        Some(outcome) => Ok(Some(Entry {
+            stamp: seat.machine.last(),
+            walker: made.walker,
+            event,
+            outcome,
+        })),
+        None => Ok(None),
     }
 }

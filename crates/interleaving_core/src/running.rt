@@ -9,11 +9,11 @@ ghost use Rattle.headline_laws.specs.Promise.{Promised};
 ghost use Rattle.world_laws.specs.Running.{run_step, world_after};
 ghost use Rattle.interleaving_core.specs.Sound.{as_world, IsSeat, IsSound};
 
-use crate::moving::move_seat;
+use crate::moving::make_entry;
 use crate::offering::is_offered;
 use crate::placing::put_entry;
 use crate::world::World;
-use clv_base::events::{CoreStep, Entry};
+use clv_base::events::CoreStep;
 use clv_base::splits::Splits;
 use core_seats::{Seat, open};
 use history_tests::clock_of;
@@ -70,18 +70,12 @@ fn advance<M: Flier + Restarter + Machine<Gate = ListGate>>(
         return Ok(());
     }
     let clock = clock_of(made.walker, world.history.as_slice());
-    if !is_offered(alloc, splits, world.history.as_slice(), made.walker, made.shard, &made.event)? {
+    let history = world.history.as_slice();
+    if !is_offered(alloc, splits, history, made.walker, made.shard, &made.event)? {
         return Ok(());
     }
-    let event = made.event.clone()?;
-    let Some(outcome) = move_seat(&mut world.seats[place], alloc, clock, made)? else {
+    let Some(entry) = make_entry(&mut world.seats[place], alloc, clock, made)? else {
         return Ok(());
-    };
-    let entry = Entry {
-        stamp: world.seats[place].machine.last(),
-        walker: made.walker,
-        event,
-        outcome,
     };
     put_entry(&mut world.history, (made.shard, entry))
 }
