@@ -165,6 +165,15 @@ pub fn restart<M: Restarter + Machine<Gate = ListGate>>(
     let Some(epoch) = next(seat.machine.epoch(), &found) else {
         return Err(AllocError);
     };
-    let outcome = revive_from(&mut seat.machine, alloc, clock, walker, shard, gate, found, epoch)?;
+    let outcome = revive_from(
+        &mut seat.machine,
+        alloc,
+        clock,
+        walker,
+        shard,
+        gate,
+        found,
+        epoch,
+    )?;
     Ok(Some(outcome))
 }

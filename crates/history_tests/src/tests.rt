@@ -56,7 +56,11 @@ fn finds_what_stands_in_a_history(rt: HostRuntime) -> Result<(), Fail> {
     };
     let history = vec![in rt.alloc(); (0, operation), (1, sending)]?;
     assert_eq!(rt;
-        (clock_of(1, &history), clock_of(0, &history), clock_of(2, &history)),
+        (
+            clock_of(1, &history),
+            clock_of(0, &history),
+            clock_of(2, &history)
+        ),
         (4, 9, 0)
     );
     assert!(rt; was_sent(MESSAGE, 9, &history) && !was_sent(MESSAGE, 4, &history));

@@ -1,5 +1,5 @@
 -- One step of a world, by what its shard made of it.
-use Rattle.std.proofs.Common.{◌≡◌, refl, sym, ap, subst, ◌∙◌, ℕ, zero, suc, ◌<◌, true, false, Bool, List, [], ◌∷◌, length, get_or, arith, Option, Some, None}
+use Rattle.std.proofs.Common.{◌≡◌, refl, sym, ap, subst, ◌∙◌, ℕ, zero, suc, ◌<◌, max, true, false, Bool, List, [], ◌∷◌, length, get_or, arith, Option, Some, None}
 use Rattle.std.specs.Prelude.{slice_get, slice_set, map}
 use Rattle.std.specs.List.{AllByRecursion, list_all}
 use Rattle.clv_base.specs.declared.events.CoreStep.{CoreStep}
@@ -8,7 +8,9 @@ use Rattle.clv_base.specs.Shards.{shard_count, are_splits}
 use Rattle.clv_base.specs.State.{Shard}
 use Rattle.clv_base.specs.Events.{Enters}
 use Rattle.clv_base.specs.Core.{World, clock_of, answer_by, after_answer, entry_of, put_entry}
-use Rattle.clv_base.specs.Journals.{History}
+use Rattle.clv_base.specs.Journals.{History, own}
+use Rattle.clv_base.specs.Restarts.{run_after}
+use Rattle.clv_base.specs.Sessions.{is_session}
 use Rattle.journal_laws.specs.Worlds.{Steady, empty_logs}
 use Rattle.list_gate.specs.Listed.{Listed}
 use Rattle.machine_calls.specs.Events.{sends_fit}
@@ -17,6 +19,10 @@ use Rattle.world_laws.specs.Moves.{Moves}
 use Rattle.world_laws.specs.Running.{repeats_birth, run_step, is_offered}
 use Rattle.world_laws.proofs.Laws.{is_free, refused_step, idle_step, no_shard, taken_step, steady_step, put_tests, Stands, stands}
 use Rattle.interleaving_core.specs.Sound.{AllFit, shards_of, world_by, IsSeat, AreSound}
+
+empty_run : (k : ℕ) → run_after (empty_logs k) ≡ 1
+empty_run zero = refl
+empty_run (suc k) = ap (max 1) (empty_run k)
 
 same_set : (xs : List Shard) (n : ℕ) (s : Shard) → slice_get xs n ≡ Some s → slice_set xs n s ≡ xs
 same_set [] n s g = refl
@@ -57,6 +63,10 @@ module _ {M : Type 0} (shard : M → Shard) (gate : M → Option Listed) where
     pub step : world_by shard seats' h' ≡ run_step splits (world_by shard seats h) c
     pub sound : AreSound shard gate splits seats' h'
 
+  -- each walker's entries are a session's of run 1
+  pub session_one : (splits : List ℕ) (seats : List (Seat M)) (h : History) (walker : ℕ) → AreSound shard gate splits seats h → is_session splits 1 walker (own walker h) ≡ true
+  session_one splits seats h walker k = subst (λ r. is_session splits r walker (own walker h) ≡ true) (empty_run (shard_count splits)) (k.steady.sessions walker)
+
   -- there is no such shard, or the step isn't offered
   pub passed_over : (splits : List ℕ) (seats : List (Seat M)) (h : History) (c : CoreStep) → AreSound shard gate splits seats h → (c.shard < length seats → ⊥) → Advanced splits seats h c seats h
   passed_over splits seats h c k l = record { step = sym (no_shard splits (world_by shard seats h) c (no_shard_there seats c.shard l)); sound = k }
@@ -66,7 +76,7 @@ module _ {M : Type 0} (shard : M → Shard) (gate : M → Option Listed) where
   refused splits seats h c x k l e o =
       let w = world_by shard seats h in
       let g = shard_there seats c.shard x l e in
-      record { step = sym (refused_step splits w c (shard x.machine) g (stands splits (shard_count splits) w c.shard (shard x.machine) k.steady g).run (k.steady.sessions c.walker) o); sound = k }
+      record { step = sym (refused_step splits w c (shard x.machine) g (stands splits (shard_count splits) w c.shard (shard x.machine) k.steady g).run (session_one splits seats h c.walker k) o); sound = k }
 
   -- it made no entry
   pub idle : (splits : List ℕ) (seats : List (Seat M)) (h : History) (c : CoreStep) (x y : Seat M) → AreSound shard gate splits seats h → c.shard < length seats → x ≡ get_or seats c.shard x
@@ -75,7 +85,7 @@ module _ {M : Type 0} (shard : M → Shard) (gate : M → Option Listed) where
       let w = world_by shard seats h in
       let g = shard_there seats c.shard x l e in
       let same : world_by shard (slice_set seats c.shard y) h ≡ world_by shard seats h =
-          ap (λ ss. record { shards = ss; history = h }) (shards_set seats c.shard y ∙ ap (slice_set (shards_of shard seats) c.shard) m.1 ∙ same_set (shards_of shard seats) c.shard (shard x.machine) g) in
+      ap (λ ss. record { shards = ss; history = h }) (shards_set seats c.shard y ∙ ap (slice_set (shards_of shard seats) c.shard) m.1 ∙ same_set (shards_of shard seats) c.shard (shard x.machine) g) in
       record {
         step = same ∙ sym (idle_step splits w c (shard x.machine) g m.0);
         sound = record { steady = subst (Steady splits (empty_logs (shard_count splits))) (sym same) k.steady; each_seat = seats_set seats c.shard y k.each_seat seated; sent = k.sent };
@@ -93,7 +103,7 @@ module _ {M : Type 0} (shard : M → Shard) (gate : M → Option Listed) where
       let free = is_free splits (empty_logs (shard_count splits)) w c.shard (shard x.machine) c.event k.steady g fresh in
       let after = put_entry (c.shard, entry_of c o (shard y.machine)) h in
       let same : world_by shard (slice_set seats c.shard y) after ≡ run_step splits w c =
-          ap (λ ss. record { shards = ss; history = after }) (shards_set seats c.shard y) ∙ sym (taken_step splits w c (shard x.machine) o (shard y.machine) g st.run free offered m) in
+      ap (λ ss. record { shards = ss; history = after }) (shards_set seats c.shard y) ∙ sym (taken_step splits w c (shard x.machine) o (shard y.machine) g st.run free offered m) in
       record {
         step = same;
         sound = record {

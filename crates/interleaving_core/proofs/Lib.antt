@@ -1,2 +1,6 @@
 mod Advancing
 mod Fitting
+mod Puts
+mod Sessioning
+mod Answering
+mod Beginning

@@ -3,7 +3,7 @@ ghost use Rattle.std.specs.Prelude.{◌≡◌, ◌<◌, true, IfOk};
 ghost use Rattle.std.specs.List.{AllByRecursion};
 ghost use Rattle.clv_base.specs.Journals.{own};
 ghost use Rattle.clv_base.specs.Runs.{was_sent as was_sent_in};
-ghost use Rattle.clv_base.specs.Sessions.{is_session, is_of_session as of_session};
+ghost use Rattle.clv_base.specs.Sessions.{is_session, is_of_session as of_session, is_session_number as number_of};
 ghost use Rattle.machine_calls.specs.Events.{event_fits};
 ghost use Rattle.session_tests.specs.Naming.{names_fit};
 ghost use Rattle.world_laws.specs.Running.{repeats_birth as repeats, session_may as session_may_in, is_offered as offered};
@@ -42,6 +42,12 @@ fn is_of_session(event: &Event) -> bool
     }
 }
 
+fn is_session_number(walker: u32) -> bool
+    ensures { result ≡ number_of walker }
+{
+    0 < walker && walker <= 64
+}
+
 // Whether the walker's session may make the event, or it is none of a session.
 fn session_may(
     alloc: Global,
@@ -59,7 +65,7 @@ fn session_may(
     if !is_of_session(event) {
         return Ok(true);
     }
-    if walker < 1 || 64 < walker {
+    if !is_session_number(walker) {
         return Ok(false);
     }
     let session = session_of(walker, history);

@@ -19,9 +19,9 @@ use core_seats::{Seat, open};
 use history_tests::clock_of;
 use list_gate::ListGate;
 use machine_calls::{Flier, Machine, Maker, Restarter};
+use promise_laws::promises::{logs_stay_in_order, worlds_keep_promise};
 use std::alloc::{AllocError, Global};
 use world_laws::promises::worlds_are_legal;
-use promise_laws::promises::{logs_stay_in_order, worlds_keep_promise};
 
 // All shards as they open empty logs. An `Err` is want of memory.
 fn begin<M: Maker + Machine<Gate = ListGate>>(

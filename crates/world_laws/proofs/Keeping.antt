@@ -109,4 +109,3 @@ left_same s t true f k =
     at : (x : Option ℕ) → ((n : ℕ) → x ≡ Some n → (s.durable ≤ n) × (n ≤ length s.local.log)) → take (unwrap_or x t.durable) t.local.log ≡ take (unwrap_or x s.durable) s.local.log
     at None g = take_grown s.durable t.durable s.local.log t.local.log f.within k.durable k.grown
     at (Some n) g = take_grown n n s.local.log t.local.log (g n refl).1 refl k.grown
-
