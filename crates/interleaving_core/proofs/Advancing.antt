@@ -1,8 +1,11 @@
 -- One step of a world, by what its shard made of it.
-use Rattle.std.proofs.Common.{◌≡◌, refl, sym, ap, subst, ◌∙◌, ℕ, zero, suc, ◌<◌, max, true, false, Bool, List, [], ◌∷◌, length, get_or, arith, Option, Some, None}
+use Rattle.std.proofs.Common.{◌≡◌, refl, sym, ap, subst, ◌∙◌, ℕ, zero, suc, ◌<◌, max, true, false, not, ◌&&◌, Bool, List, [], ◌∷◌, length, get_or, arith, Option, Some, None}
 use Rattle.std.specs.Prelude.{slice_get, slice_set, map}
 use Rattle.std.specs.List.{AllByRecursion, list_all}
+use Rattle.std.proofs.lemmas.Bool.{both_ways, and_parts}
 use Rattle.clv_base.specs.declared.events.CoreStep.{CoreStep}
+use Rattle.clv_base.specs.declared.events.Event.{Event}
+use Rattle.clv_base.specs.Runs.{was_sent}
 use Rattle.clv_base.specs.declared.events.Outcome.{Outcome}
 use Rattle.clv_base.specs.Shards.{shard_count, are_splits}
 use Rattle.clv_base.specs.State.{Shard}
@@ -16,7 +19,7 @@ use Rattle.list_gate.specs.Listed.{Listed}
 use Rattle.machine_calls.specs.Events.{sends_fit}
 use Rattle.core_seats.specs.declared.seat.Seat.{Seat}
 use Rattle.world_laws.specs.Moves.{Moves}
-use Rattle.world_laws.specs.Running.{repeats_birth, run_step, is_offered}
+use Rattle.world_laws.specs.Running.{repeats_birth, session_may, run_step, is_offered}
 use Rattle.world_laws.proofs.Laws.{is_free, refused_step, idle_step, no_shard, taken_step, steady_step, put_tests, Stands, stands}
 use Rattle.interleaving_core.specs.Sound.{AllFit, shards_of, world_by, IsSeat, AreSound}
 
@@ -31,6 +34,20 @@ same_set (x ∷ xs) zero s g = ap (λ z. z ∷ xs) (same g)
     same : {a b : Shard} → Some a ≡ Some b → b ≡ a
     same e = cc
 same_set (x ∷ xs) (suc n) s g = ap (λ l. x ∷ l) (same_set xs n s g)
+
+-- what is offered repeats no birth
+pub offered_fresh : (splits : List ℕ) (h : History) (w n : ℕ) (e : Event) → is_offered splits h w n e ≡ true → repeats_birth h n e ≡ false
+offered_fresh splits h w n e o =
+    flip (repeats_birth h n e) (and_parts (not (repeats_birth h n e)) (session_may splits h w n e) (and_parts (not (repeats_birth h n e) && session_may splits h w n e) (was_sent h e) o).0).0
+  where
+    flip : (b : Bool) → not b ≡ true → b ≡ false
+    flip true k = absurd (both_ways false refl k)
+    flip false k = refl
+
+pub seat_at : {A : Type 0} (xs : List A) (n : ℕ) → n < length xs → (x : A) × (x ≡ get_or xs n x)
+seat_at [] n l = absurd (omega (arith, l))
+seat_at (y ∷ ys) zero l = (y, refl)
+seat_at (y ∷ ys) (suc n) l = seat_at ys n (omega (arith, l))
 
 module _ {M : Type 0} (shard : M → Shard) (gate : M → Option Listed) where
   shards_set : (seats : List (Seat M)) (n : ℕ) (x : Seat M) → shards_of shard (slice_set seats n x) ≡ slice_set (shards_of shard seats) n (shard x.machine)
