@@ -1,13 +1,14 @@
 -- One step of a world, by what its shard made of it.
-use Rattle.std.proofs.Common.{◌≡◌, refl, sym, ap, subst, ◌∙◌, ℕ, zero, suc, ◌<◌, max, true, false, not, ◌&&◌, Bool, List, [], ◌∷◌, length, get_or, arith, Option, Some, None}
-use Rattle.std.specs.Prelude.{slice_get, slice_set, map}
+use Rattle.std.proofs.Common.{◌≡◌, refl, sym, ap, subst, ◌∙◌, ℕ, zero, suc, ◌<◌, ◌≤◌, max, true, false, not, ◌&&◌, Bool, List, [], ◌∷◌, length, get_or, arith, nat_lt, nat_le, Option, Some, None, Result, Ok, Err}
+use Rattle.std.specs.Prelude.{slice_get, slice_set, map, OnOk, is_none}
 use Rattle.std.specs.List.{AllByRecursion, list_all}
-use Rattle.std.proofs.lemmas.Bool.{both_ways, and_parts}
+use Rattle.std.proofs.lemmas.Bool.{both_ways, and_parts, leb-true, ltb-true}
 use Rattle.clv_base.specs.declared.events.CoreStep.{CoreStep}
 use Rattle.clv_base.specs.declared.events.Event.{Event}
 use Rattle.clv_base.specs.Runs.{was_sent}
 use Rattle.clv_base.specs.declared.events.Outcome.{Outcome}
-use Rattle.clv_base.specs.Shards.{shard_count, are_splits}
+use Rattle.clv_base.specs.declared.events.Entry.{Entry}
+use Rattle.clv_base.specs.Shards.{shard_count, are_splits, not_rising}
 use Rattle.clv_base.specs.State.{Shard}
 use Rattle.clv_base.specs.Events.{Enters}
 use Rattle.clv_base.specs.Core.{World, clock_of, answer_by, after_answer, entry_of, put_entry}
@@ -21,6 +22,7 @@ use Rattle.core_seats.specs.declared.seat.Seat.{Seat}
 use Rattle.world_laws.specs.Moves.{Moves}
 use Rattle.world_laws.specs.Running.{repeats_birth, session_may, run_step, is_offered}
 use Rattle.world_laws.proofs.Laws.{is_free, refused_step, idle_step, no_shard, taken_step, steady_step, put_tests, Stands, stands}
+use Rattle.interleaving_core.specs.Making.{MakesEntry}
 use Rattle.interleaving_core.specs.Sound.{AllFit, shards_of, world_by, IsSeat, AreSound}
 
 empty_run : (k : ℕ) → run_after (empty_logs k) ≡ 1
@@ -43,6 +45,20 @@ offered_fresh splits h w n e o =
     flip : (b : Bool) → not b ≡ true → b ≡ false
     flip true k = absurd (both_ways false refl k)
     flip false k = refl
+
+-- no more than sixteen shards, so each entry's is below
+low_shards : (k : ℕ) (h : History) → k ≤ 16 → list_all (λ e. nat_lt e.0 k) h ≡ true → AllByRecursion (λ e. e.0 < 16) h
+low_shards k [] few a = tt
+low_shards k (e ∷ es) few a = let p = and_parts (nat_lt e.0 k) (list_all (λ f. nat_lt f.0 k) es) a in let low = ltb-true e.0 k p.0 in (omega (arith, low, few), low_shards k es few p.1)
+
+pub few_shards : (splits : List ℕ) (h : History) → are_splits splits ≡ true → list_all (λ e. nat_lt e.0 (shard_count splits)) h ≡ true → AllByRecursion (λ e. e.0 < 16) h
+few_shards splits h few a =
+    let short = leb-true (length splits) 15 (and_parts (nat_le (length splits) 15) (is_none (not_rising splits)) few).0 in low_shards (shard_count splits) h (omega (arith, short)) a
+
+-- what holds where a call succeeds, by what does
+pub on_success : {A E : Type 0} (r : Result A E) (P Q : Type 0) → (P → Q) → OnOk r P → OnOk r Q
+on_success (Ok a) P Q f p = f p
+on_success (Err e) P Q f p = p
 
 pub seat_at : {A : Type 0} (xs : List A) (n : ℕ) → n < length xs → (x : A) × (x ≡ get_or xs n x)
 seat_at [] n l = absurd (omega (arith, l))
@@ -129,3 +145,19 @@ module _ {M : Type 0} (shard : M → Shard) (gate : M → Option Listed) where
           sent = put_tests (λ z. sends_fit (z.1).outcome) (c.shard, entry_of c o (shard y.machine)) h fits k.sent;
         };
       }
+
+  -- by what its shard made
+  pub made_none : (splits : List ℕ) (seats : List (Seat M)) (h : History) (c : CoreStep) (x y : Seat M) (clock : ℕ) (made : Option Entry) → AreSound shard gate splits seats h → c.shard < length seats → x ≡ get_or seats c.shard x
+      → clock ≡ clock_of c.walker h → made ≡ None → MakesEntry (answer_by clock c (shard x.machine) c.event) c (shard x.machine) made (shard y.machine) → IsSeat shard gate y → Advanced splits seats h c (slice_set seats c.shard y) h
+  made_none splits seats h c x y clock made k l e time none m seated =
+      let n : MakesEntry (answer_by clock c (shard x.machine) c.event) c (shard x.machine) None (shard y.machine) = subst (λ z. MakesEntry (answer_by clock c (shard x.machine) c.event) c (shard x.machine) z (shard y.machine)) none m in
+      idle splits seats h c x y k l e (subst (λ z. Moves (answer_by z c (shard x.machine) c.event) (shard x.machine) None (shard y.machine)) time n) seated
+
+  pub made_some : (splits : List ℕ) (seats : List (Seat M)) (h after : History) (c : CoreStep) (x y : Seat M) (clock : ℕ) (entry : Option Entry) (f : Entry)
+      → are_splits splits ≡ true → AreSound shard gate splits seats h → c.shard < length seats → x ≡ get_or seats c.shard x → is_offered splits h c.walker c.shard c.event ≡ true
+      → clock ≡ clock_of c.walker h → entry ≡ Some f → MakesEntry (answer_by clock c (shard x.machine) c.event) c (shard x.machine) entry (shard y.machine) → IsSeat shard gate y
+      → after ≡ put_entry (c.shard, f) h → Advanced splits seats h c (slice_set seats c.shard y) after
+  made_some splits seats h after c x y clock entry f few k l e offered time is m seated put =
+      let n : MakesEntry (answer_by clock c (shard x.machine) c.event) c (shard x.machine) (Some f) (shard y.machine) = subst (λ z. MakesEntry (answer_by clock c (shard x.machine) c.event) c (shard x.machine) z (shard y.machine)) is m in
+      subst (Advanced splits seats h c (slice_set seats c.shard y)) (sym (put ∙ ap (λ z. put_entry (c.shard, z) h) n.1))
+      (made splits seats h c x y f.outcome few k l e (offered_fresh splits h c.walker c.shard c.event offered) offered (subst (λ z. Moves (answer_by z c (shard x.machine) c.event) (shard x.machine) (Some f.outcome) (shard y.machine)) time n.0) n.2 seated)
