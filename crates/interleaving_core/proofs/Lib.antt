@@ -4,3 +4,4 @@ mod Puts
 mod Sessioning
 mod Answering
 mod Beginning
+mod Stepping
