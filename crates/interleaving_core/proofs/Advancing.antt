@@ -1,6 +1,6 @@
 -- One step of a world, by what its shard made of it.
 use Rattle.std.proofs.Common.{◌≡◌, refl, sym, ap, subst, ◌∙◌, ℕ, zero, suc, ◌<◌, ◌≤◌, max, true, false, not, ◌&&◌, Bool, List, [], ◌∷◌, length, get_or, arith, nat_lt, nat_le, Option, Some, None, Result, Ok, Err}
-use Rattle.std.specs.Prelude.{slice_get, slice_set, map, OnOk, is_none}
+use Rattle.std.specs.Prelude.{slice_get, slice_set, OnOk, is_none}
 use Rattle.std.specs.List.{AllByRecursion, list_all}
 use Rattle.std.proofs.lemmas.Bool.{both_ways, and_parts, leb-true, ltb-true}
 use Rattle.clv_base.specs.declared.events.CoreStep.{CoreStep}
@@ -10,8 +10,7 @@ use Rattle.clv_base.specs.declared.events.Outcome.{Outcome}
 use Rattle.clv_base.specs.declared.events.Entry.{Entry}
 use Rattle.clv_base.specs.Shards.{shard_count, are_splits, not_rising}
 use Rattle.clv_base.specs.State.{Shard}
-use Rattle.clv_base.specs.Events.{Enters}
-use Rattle.clv_base.specs.Core.{World, clock_of, answer_by, after_answer, entry_of, put_entry}
+use Rattle.clv_base.specs.Core.{clock_of, answer_by, entry_of, put_entry}
 use Rattle.clv_base.specs.Journals.{History, own}
 use Rattle.clv_base.specs.Restarts.{run_after}
 use Rattle.clv_base.specs.Sessions.{is_session}
@@ -21,9 +20,9 @@ use Rattle.machine_calls.specs.Events.{sends_fit}
 use Rattle.core_seats.specs.declared.seat.Seat.{Seat}
 use Rattle.world_laws.specs.Moves.{Moves}
 use Rattle.world_laws.specs.Running.{repeats_birth, session_may, run_step, is_offered}
-use Rattle.world_laws.proofs.Laws.{is_free, refused_step, idle_step, no_shard, taken_step, steady_step, put_tests, Stands, stands}
+use Rattle.world_laws.proofs.Laws.{is_free, refused_step, idle_step, no_shard, taken_step, steady_step, put_tests, stands}
 use Rattle.interleaving_core.specs.Making.{MakesEntry}
-use Rattle.interleaving_core.specs.Sound.{AllFit, shards_of, world_by, IsSeat, AreSound}
+use Rattle.interleaving_core.specs.Sound.{shards_of, world_by, IsSeat, AreSound}
 
 empty_run : (k : ℕ) → run_after (empty_logs k) ≡ 1
 empty_run zero = refl

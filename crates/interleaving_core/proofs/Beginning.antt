@@ -1,14 +1,15 @@
 -- A world of shards that open empty logs, one after another.
-use Rattle.std.proofs.Common.{◌≡◌, refl, sym, ap, subst, ◌∙◌, ℕ, zero, suc, ◌+◌, ◌-◌, ◌<◌, List, [], ◌∷◌, ◌++◌, append_assoc, arith, Option}
-use Rattle.std.specs.List.{AllByRecursion}
+use Rattle.std.proofs.Common.{◌≡◌, refl, sym, ap, subst, ◌∙◌, ℕ, suc, ◌+◌, ◌-◌, ◌<◌, List, [], ◌∷◌, ◌++◌, append_assoc, arith, Option}
+use Rattle.std.specs.List.{AllByRecursion, list_all}
 use Rattle.std.proofs.lemmas.List.{append-nil}
 use Rattle.clv_base.specs.Shards.{shard_count}
 use Rattle.clv_base.specs.State.{Shard}
 use Rattle.clv_base.specs.Restarts.{opened}
-use Rattle.clv_base.specs.Core.{World, new_world, opened_from}
+use Rattle.clv_base.specs.Core.{new_world, opened_from}
 use Rattle.clv_base.specs.Journals.{History}
 use Rattle.journal_laws.specs.Worlds.{Steady, empty_logs}
 use Rattle.list_gate.specs.Listed.{Listed}
+use Rattle.machine_calls.specs.Events.{sends_fit}
 use Rattle.core_seats.specs.declared.seat.Seat.{Seat}
 use Rattle.world_laws.proofs.Laws.{new_steady}
 use Rattle.interleaving_core.specs.Sound.{shards_of, world_by, IsSeat, AreSound}
@@ -54,5 +55,5 @@ module _ {M : Type 0} (shard : M → Shard) (gate : M → Option Listed) where
       record {
         steady = subst (Steady splits (empty_logs (shard_count splits))) (sym e) (new_steady splits);
         each_seat = a;
-        sent = ap (λ w. Rattle.std.specs.List.list_all (λ z. Rattle.machine_calls.specs.Events.sends_fit (z.1).outcome) w.history) e;
+        sent = ap (λ w. list_all (λ z. sends_fit (z.1).outcome) w.history) e;
       }

@@ -3,7 +3,6 @@ use Rattle.std.specs.Prelude.{is_some, IfOk}
 use Rattle.clv_base.specs.Journals.{own}
 use Rattle.clv_base.specs.Sessions.{session_after, is_session_number}
 use Rattle.journal_laws.specs.Offers.{hoped_for}
-use Rattle.world_laws.specs.Running.{session_may}
 use Rattle.interleaving_core.proofs.Sessioning.{state_there, may_is}
 use Rattle.interleaving_core.proofs.offering.session_may.Goals as goal
 

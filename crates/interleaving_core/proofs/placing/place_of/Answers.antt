@@ -1,4 +1,4 @@
-use Rattle.std.proofs.Common.{◌≡◌, ◌<◌, length, sym, ◌∙◌, arith}
+use Rattle.std.proofs.Common.{◌<◌, length, sym, arith}
 use Rattle.interleaving_core.proofs.Puts.{puts_next, puts_here}
 use Rattle.interleaving_core.proofs.placing.place_of.Goals as goal
 

@@ -1,4 +1,4 @@
-use Rattle.std.proofs.Common.{rules, ◌≡◌, ◌<◌, length, true, false, sym, ap, subst, ◌∙◌}
+use Rattle.std.proofs.Common.{rules, ◌≡◌, ◌<◌, length, sym, ap, subst, ◌∙◌}
 use Rattle.std.specs.Prelude.{slice_set}
 use Rattle.std.specs.List.{AllByRecursion}
 use Rattle.clv_base.specs.Shards.{shard_count}
@@ -35,7 +35,7 @@ make_entry-requires-clause-shard g c =
     let sh = g.M.Machine.shard in let w = c.args.world.now in let n = c.args.made.now.shard in let x = c.index_mut.result.now in
     let low : n < length w.seats.items = search rules in
     let st = stands c.args.splits.now (shard_count c.args.splits.now) (world_by sh w.seats.items w.history.items) n (sh x.machine) c.requires.sound.steady
-        (shard_there sh (g.M.Machine.gate) w.seats.items n x low c.index_mut.ensures.value) in
+    (shard_there sh (g.M.Machine.gate) w.seats.items n x low c.index_mut.ensures.value) in
     (st.shard, st.run)
 
 pub make_entry-requires-clause-fronts : goal.make_entry-requires-clause-fronts

@@ -16,10 +16,9 @@ loop-made-init g c =
 pub loop-made-preserved : goal.loop-made-preserved
 loop-made-preserved g c =
     let sh = g.M.Machine.shard in let gt = g.M.Machine.gate in let splits = c.args.splits.now in let cs = c.args.list.now in
-    let w = c.loop-made.world in let v = c.advance.new.world in let made = c.made-item.result in
-    (
+    let w = c.loop-made.world in let v = c.advance.new.world in let made = c.made-item.result in (
       steps_more splits cs c.loop-made.made-index made (as_world sh w) (as_world sh v) (world_after splits cs) c.loop-made-test.true c.made-item.is
-      (when_ok c.advance.result (as_world sh v ≡ run_step splits (as_world sh w) made) c.if-is_err.ensures.value c.advance.ensures.step) c.loop-made.invariant.0,
+          (when_ok c.advance.result (as_world sh v ≡ run_step splits (as_world sh w) made) c.if-is_err.ensures.value c.advance.ensures.step) c.loop-made.invariant.0,
       when_ok c.advance.result (AreSound sh gt splits v.seats.items v.history.items) c.if-is_err.ensures.value c.advance.ensures.sound,
     )
 
