@@ -1,5 +1,5 @@
 -- The two events of a flush, by what the machine tells of them.
-use Rattle.std.proofs.Common.{◌≡◌, refl, sym, ap, subst, ◌∙◌, ℕ, zero, suc, ◌+◌, ◌≤◌, true, false, Bool, List, [], ◌∷◌, ◌++◌, length, take, arith, nat_lt, Option, Some, None, Result, Ok}
+use Rattle.std.proofs.Common.{◌≡◌, refl, sym, ap, subst, ◌∙◌, ℕ, zero, suc, ◌+◌, ◌≤◌, true, false, Bool, List, [], ◌∷◌, ◌++◌, take, arith, nat_lt, Option, Some, None, Result, Ok}
 use Rattle.std.specs.Prelude.{drop, ◌^◌, unwrap_or}
 use Rattle.std.proofs.lemmas.Bool.{both_ways, and_from, and_parts}
 use Rattle.std.proofs.lemmas.List.{take-append-drop, take-take}

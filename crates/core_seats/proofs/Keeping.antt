@@ -11,7 +11,7 @@ use Rattle.world_laws.specs.Fronts.{FrontsFit}
 use Rattle.world_laws.proofs.Laws.{Keeps, Stepped, left_same}
 use Rattle.core_seats.specs.declared.seat.Air.{Air}
 use Rattle.core_seats.specs.declared.seat.Air.TheVariants.{Home, Away, Lost}
-use Rattle.core_seats.specs.Seated.{HasLog, IsInFlight, IsHome, IsAway, IsLost, IsSeated}
+use Rattle.core_seats.specs.Seated.{HasLog, IsInFlight, IsSeated}
 
 pub no_flush : (e : Event) → is_stepped e ≡ true → e ≡ FlushOut → ⊥
 no_flush e h q = both_ways (is_stepped e) (ap is_stepped q) h

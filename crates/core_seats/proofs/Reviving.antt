@@ -1,5 +1,5 @@
 -- A restart, by what the machine tells of it.
-use Rattle.std.proofs.Common.{◌≡◌, refl, sym, ap, subst, ◌∙◌, ℕ, ◌<◌, true, false, Bool, List, length, take, arith, nat_lt, Option, Some, None, Result, Ok}
+use Rattle.std.proofs.Common.{◌≡◌, refl, sym, ap, subst, ◌∙◌, ℕ, ◌<◌, true, false, Bool, List, length, arith, Option, Some, None, Result, Ok}
 use Rattle.std.specs.Prelude.{◌^◌}
 use Rattle.std.specs.List.{list_all}
 use Rattle.std.proofs.lemmas.Bool.{lt-ltb}
@@ -11,14 +11,14 @@ use Rattle.clv_base.specs.declared.events.Outcome.TheVariants.{Up}
 use Rattle.clv_base.specs.declared.events.Entry.{Entry}
 use Rattle.clv_base.specs.FileRules.{has_spelling}
 use Rattle.clv_base.specs.State.{Shard}
-use Rattle.clv_base.specs.Events.{CallAnswer, Does, Quiet, Enters, next_stamp, stamped, with_entry}
+use Rattle.clv_base.specs.Events.{Does, Quiet, Enters, next_stamp, stamped, with_entry}
 use Rattle.clv_base.specs.Restarts.{log_left, log_after_restart, next_epoch, revived, revive, revive_down, Restarts, untouched, misfit}
 use Rattle.list_gate.specs.Listed.{Listed}
 use Rattle.machine_calls.specs.declared.machine.StepError.{StepError}
 use Rattle.machine_calls.specs.Events.{sends_fit}
 use Rattle.machine_calls.specs.Steps.{Tells}
 use Rattle.machine_calls.specs.Restored.{revives}
-use Rattle.core_seats.specs.Seated.{HasLog, IsHome}
+use Rattle.core_seats.specs.Seated.{IsHome}
 use Rattle.world_laws.proofs.Laws.{misfit_is_exact, same_after, same_outcome}
 
 pub no_misfit : (s : Shard) (found : List LogRecord) (kept : Bool) (epoch : ℕ) → found ≡ log_left s kept → epoch ≡ next_epoch s found → misfit s (log_after_restart s.shard found s.run epoch) epoch ≡ None

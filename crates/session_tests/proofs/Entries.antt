@@ -1,5 +1,5 @@
 -- What an entry makes of a session that it goes on.
-use Rattle.std.proofs.Common.{◌≡◌, refl, sym, ap, subst, ◌∙◌, ℕ, true, false, cond, not, ◌&&◌, Bool, List, [], ◌∷◌, Option, Some, None, ◌==◌, map, nat_lt, eqb-true, suc, ◌+◌, ◌<◌, length, drop, get_or, drop-cons, arith}
+use Rattle.std.proofs.Common.{◌≡◌, refl, sym, ap, subst, ◌∙◌, ℕ, true, false, cond, ◌&&◌, Bool, List, [], ◌∷◌, Option, Some, None, ◌==◌, map, nat_lt, eqb-true, suc, ◌+◌, ◌<◌, length, drop, get_or, drop-cons, arith}
 use Rattle.std.specs.List.{list_all, list_any}
 use Rattle.std.specs.Map.{lookup}
 use Rattle.std.proofs.lemmas.Bool.{both_ways, and_parts, and_from, or_left, eq-eqb, ne_eqb}

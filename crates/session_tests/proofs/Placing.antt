@@ -1,10 +1,7 @@
 -- A session before its first transaction, and from it on.
-use Rattle.std.proofs.Common.{◌≡◌, refl, sym, ap, subst, ◌∙◌, ℕ, zero, suc, ◌<◌, ◌≤◌, true, false, Bool, arith, Option, Some, None}
-use Rattle.std.specs.Prelude.{nat_lt, nat_le, ◌&&◌, ◌^◌}
-use Rattle.std.proofs.lemmas.Bool.{both_ways, and_from, and_parts, lt-ltb}
-use Rattle.clv_base.specs.declared.names.TxId.{TxId}
-use Rattle.clv_base.specs.FileRules.{tx_has_spelling, is_32_bits, is_64_bits}
-use Rattle.clv_base.specs.Sessions.{SessionState, Phase, Ended, is_touching}
+use Rattle.std.proofs.Common.{◌≡◌, refl, ℕ, ◌<◌, true, false, arith, Option, Some, None}
+use Rattle.std.proofs.lemmas.Bool.{both_ways}
+use Rattle.clv_base.specs.Sessions.{SessionState, Ended, is_touching}
 use Rattle.session_tests.specs.Placed.{place_or, IsPlaced}
 
 pub session_is : (walker : ℕ) (scanned : Option ℕ) (place : Option SessionState) → IsPlaced walker scanned place → ((place_or walker place).tx).session ≡ walker

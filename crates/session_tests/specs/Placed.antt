@@ -1,5 +1,5 @@
 -- A session's place in its last transaction, which it has from its first one on.
-use Rattle.std.specs.Prelude.{◌≡◌, ⊤, ℕ, ◌<◌, Option, Some, None, IfSome}
+use Rattle.std.specs.Prelude.{◌≡◌, ℕ, ◌<◌, Option, Some, None, IfSome}
 use Rattle.clv_base.specs.Sessions.{SessionState, no_session}
 
 -- the state of a walker's session of run 1

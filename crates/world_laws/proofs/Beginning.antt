@@ -10,7 +10,7 @@ use Rattle.clv_base.specs.State.{Shard}
 use Rattle.clv_base.specs.Restarts.{opened, run_after}
 use Rattle.clv_base.specs.Core.{World, new_world, opened_from, clock_of}
 use Rattle.clv_base.specs.Journals.{History, journal_of, start_of}
-use Rattle.history_laws.proofs.Durability.{Counted, Fronts, opened_counted}
+use Rattle.history_laws.proofs.Durability.{opened_counted}
 use Rattle.journal_laws.specs.Worlds.{LandsInTime, Steady, count_past, empty_logs}
 use Rattle.journal_laws.proofs.Running.{fronts_run}
 use Rattle.world_laws.specs.Fronts.{FrontsFit, LandsBy}

@@ -1,14 +1,13 @@
 -- What an event that isn't of a flush or a restart leaves of a shard.
 use Rattle.std.proofs.Common.{◌≡◌, refl, sym, ap, ◌∙◌, ℕ, ◌≤◌, true, false, Bool, List, length, take, nat_lt, Option, Some, None}
 use Rattle.std.specs.Prelude.{◌^◌, unwrap_or}
-use Rattle.std.proofs.lemmas.Bool.{both_ways}
 use Rattle.std.proofs.lemmas.List.{take-append-le}
 use Rattle.clv_base.specs.declared.logs.LogRecord.{LogRecord}
 use Rattle.clv_base.specs.declared.events.Event.{Event}
 use Rattle.clv_base.specs.declared.events.Event.TheVariants.{FlushOut}
 use Rattle.clv_base.specs.declared.events.Outcome.{Outcome}
 use Rattle.clv_base.specs.State.{Shard}
-use Rattle.clv_base.specs.Events.{Reply, QuietBeforeWorn, QuietAfterWorn, Does, CallAnswer, Quiet, Worn, Enters, stamped, with_entry, happen, step, next_stamp}
+use Rattle.clv_base.specs.Events.{Reply, QuietBeforeWorn, QuietAfterWorn, Does, Quiet, Worn, Enters, stamped, with_entry, happen, step, next_stamp}
 use Rattle.clv_base.specs.Restarts.{log_left}
 use Rattle.protocol_laws.specs.Growth.{IsPrefixOf}
 use Rattle.protocol_laws.proofs.GrowingEvents.{log_only_grows}

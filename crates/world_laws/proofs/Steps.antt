@@ -1,7 +1,7 @@
 -- What one step makes of a world.
-use Rattle.std.proofs.Common.{◌≡◌, refl, sym, ap, subst, ◌∙◌, ℕ, true, false, cond, not, ◌&&◌, ◌||◌, Bool, List, [], ◌∷◌, Option, Some, None, ◌==◌}
+use Rattle.std.proofs.Common.{◌≡◌, refl, sym, ap, subst, ◌∙◌, ℕ, true, false, cond, not, ◌&&◌, ◌||◌, Bool, List, [], ◌∷◌, Some, None, ◌==◌}
 use Rattle.std.specs.Prelude.{slice_get}
-use Rattle.std.specs.List.{AllByRecursion, list_any}
+use Rattle.std.specs.List.{AllByRecursion}
 use Rattle.std.proofs.lemmas.Bool.{both_ways, and_from, and_parts}
 use Rattle.clv_base.specs.declared.events.CoreStep.{CoreStep}
 use Rattle.clv_base.specs.declared.names.TxId.{TxId}
@@ -10,7 +10,6 @@ use Rattle.clv_base.specs.declared.logs.LogRecord.{LogRecord}
 use Rattle.clv_base.specs.declared.events.Event.{Event}
 use Rattle.clv_base.specs.declared.events.Event.TheVariants.{Op, Request, Look, Drop, Send, Deliver, Remind, FlushOut, FlushIn, Stop, Restart}
 use Rattle.clv_base.specs.declared.events.Outcome.{Outcome}
-use Rattle.clv_base.specs.declared.events.Entry.{Entry}
 use Rattle.clv_base.specs.LogRules.{log_of}
 use Rattle.clv_base.specs.Shards.{are_splits}
 use Rattle.clv_base.specs.State.{Shard}
@@ -18,8 +17,8 @@ use Rattle.clv_base.specs.Restarts.{run_after}
 use Rattle.clv_base.specs.Events.{CallAnswer, Quiet, Worn, Enters, Does, happen}
 use Rattle.clv_base.specs.Machines.{BecomesBy}
 use Rattle.clv_base.specs.Core.{World, clock_of, step_answer, after_answer, entry_of}
-use Rattle.clv_base.specs.Journals.{History, journal_of, own, has_equal_active_birth, has_no_equal_active_birth}
-use Rattle.clv_base.specs.Runs.{was_sent, goes_on_session, is_allowed, allows_answer, run_answered, run_on}
+use Rattle.clv_base.specs.Journals.{History, journal_of, own, has_no_equal_active_birth}
+use Rattle.clv_base.specs.Runs.{was_sent, goes_on_session, is_allowed, run_answered, run_on}
 use Rattle.clv_base.specs.Sessions.{is_session, is_of_session}
 use Rattle.journal_laws.specs.Births.{LeavesBirth}
 use Rattle.journal_laws.specs.Worlds.{Steady}

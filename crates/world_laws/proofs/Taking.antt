@@ -1,31 +1,29 @@
 -- Which steps are taken, by what is known before their outcome.
-use Rattle.std.proofs.Common.{◌≡◌, refl, sym, ap, subst, ◌∙◌, ℕ, true, false, cond, not, ◌&&◌, ◌||◌, Bool, List, [], ◌∷◌, ◌++◌, Option, Some, None, ◌==◌}
-use Rattle.std.specs.Prelude.{is_some, slice_get, slice_set}
+use Rattle.std.proofs.Common.{◌≡◌, refl, sym, ap, ◌∙◌, ℕ, true, false, cond, not, ◌&&◌, ◌||◌, Bool, List, [], ◌∷◌, ◌++◌, Option, Some, None, ◌==◌}
+use Rattle.std.specs.Prelude.{is_some}
 use Rattle.std.specs.Map.{lookup}
-use Rattle.std.proofs.lemmas.Bool.{both_ways, and_from, and_parts, or_left, or_right, eq-eqb}
-use Rattle.clv_base.specs.declared.events.CoreStep.{CoreStep}
+use Rattle.std.proofs.lemmas.Bool.{both_ways, eq-eqb}
 use Rattle.clv_base.specs.declared.ops.Op.{Op as Operation}
 use Rattle.clv_base.specs.declared.ops.Answer.TheVariants.{Value}
 use Rattle.clv_base.specs.declared.events.Event.{Event}
 use Rattle.clv_base.specs.declared.events.Event.TheVariants.{Op, Request, Look, Drop, Send, Deliver, Remind, FlushOut, FlushIn, Stop, Restart}
 use Rattle.clv_base.specs.declared.events.Outcome.{Outcome}
-use Rattle.clv_base.specs.declared.events.Outcome.TheVariants.{Answered, Asked, Acknowledged}
+use Rattle.clv_base.specs.declared.events.Outcome.TheVariants.{Answered}
 use Rattle.clv_base.specs.declared.events.Entry.{Entry}
 use Rattle.clv_base.specs.Orders.{tx_same}
 use Rattle.clv_base.specs.LogRules.{same_option}
 use Rattle.clv_base.specs.State.{Shard}
-use Rattle.clv_base.specs.Events.{CallAnswer, Quiet, Worn, Enters, Does, happen}
-use Rattle.clv_base.specs.Core.{World, step_answer, after_answer, entry_of, put_entry}
-use Rattle.clv_base.specs.Journals.{History, own, has_no_equal_active_birth}
-use Rattle.clv_base.specs.Runs.{was_sent, goes_on_session, is_allowed, allows_answer, run_answered, run_on}
+use Rattle.clv_base.specs.Events.{Does, happen}
+use Rattle.clv_base.specs.Core.{World}
+use Rattle.clv_base.specs.Journals.{History, own}
+use Rattle.clv_base.specs.Runs.{goes_on_session}
 use Rattle.clv_base.specs.Sessions.{SessionState, is_number, lies_in, session_for, op_answered, op_in_session, is_touching, same_touched, is_lowest, requested, stands_at, looked, may_drop, after_drop, session_after, is_session, is_of_session, is_session_number}
 use Rattle.journal_laws.specs.Offers.{hoped_for, may_make}
 use Rattle.journal_laws.proofs.Offering.{each_outcome_goes_on}
 use Rattle.journal_laws.proofs.Owning.{own_append, own_mine}
 use Rattle.session_progress.specs.States.{session_of}
 use Rattle.session_progress.proofs.Laws.{sessions_have_states, states_go_on, states_tell_may_make}
-use Rattle.world_laws.specs.Moves.{is_idle, Moves}
-use Rattle.world_laws.specs.Running.{repeats_birth, run_step, session_may, is_offered}
+use Rattle.world_laws.specs.Running.{session_may}
 
 -- ---- an event that a session may not make is refused with every outcome
 

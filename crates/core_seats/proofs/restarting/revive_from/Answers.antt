@@ -1,8 +1,8 @@
 use Rattle.std.proofs.Common.{◌≡◌, suc, refl, sym, ap, subst, ◌∙◌, Some}
-use Rattle.clv_base.specs.Restarts.{greatest_epoch, log_after_restart, next_epoch, log_left, misfit}
+use Rattle.clv_base.specs.Restarts.{greatest_epoch, log_after_restart, next_epoch, misfit}
 use Rattle.core_seats.specs.Seated.{IsSeated}
 use Rattle.core_seats.specs.declared.seat.Air.TheVariants.{Home}
-use Rattle.core_seats.proofs.Reviving.{no_misfit, revives_is, revived_enters, revived_sends, seated_revived}
+use Rattle.core_seats.proofs.Reviving.{no_misfit, revives_is, revived_enters, seated_revived}
 use Rattle.core_seats.proofs.restarting.revive_from.Goals as goal
 
 pub revive-requires-clause-fits : goal.revive-requires-clause-fits

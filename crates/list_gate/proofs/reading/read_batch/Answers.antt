@@ -1,7 +1,5 @@
 use Rattle.std.proofs.Common.{◌≡◌, ◌<◌, ◌∙◌, List, [], ◌∷◌, ◌++◌, length, drop, sym, ap, subst, arith, length-drop}
 use Rattle.std.proofs.lemmas.Bool.Decides.{nat_tests}
-use Rattle.clv_base.specs.declared.logs.LogRecord.{LogRecord}
-use Rattle.log_gate.specs.Image.{SpellAll}
 use Rattle.list_gate.proofs.Spelled.{Unread, unread_all, next, none_unread, read_next, begins_inside}
 use Rattle.list_gate.proofs.reading.read_batch.Goals as goal
 

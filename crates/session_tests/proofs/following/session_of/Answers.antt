@@ -1,4 +1,4 @@
-use Rattle.std.proofs.Common.{◌≡◌, ◌+◌, ◌<◌, ◌∷◌, length, drop, get_or, Some, sym, ap, subst, ◌∙◌}
+use Rattle.std.proofs.Common.{◌+◌, drop, Some, sym, ap, ◌∙◌}
 use Rattle.clv_base.specs.Journals.{own}
 use Rattle.session_progress.specs.States.{after_from}
 use Rattle.session_tests.proofs.Entries.{after_first, own_first, own_other, cut}
