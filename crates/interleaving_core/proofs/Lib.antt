@@ -1,0 +1,7 @@
+mod Advancing
+mod Fitting
+mod Puts
+mod Sessioning
+mod Answering
+mod Beginning
+mod Stepping

@@ -1,0 +1,2 @@
+mod Worlds
+pub mod Laws

@@ -1,0 +1,123 @@
+-- A world of shards that were just made, and what a steady world from empty logs is.
+use Rattle.std.proofs.Common.{◌≡◌, refl, sym, ap, subst, ◌∙◌, ℕ, zero, suc, ◌+◌, ◌<◌, ◌≤◌, max, true, false, cond, Bool, ◌==◌, nat_le, List, [], ◌∷◌, length, arith, Option, Some, None}
+use Rattle.std.specs.Prelude.{◌^◌, slice_get, is_none}
+use Rattle.std.specs.List.{AllByRecursion}
+use Rattle.std.proofs.lemmas.Bool.{and_parts, leb-true}
+use Rattle.clv_base.specs.declared.logs.LogRecord.{LogRecord}
+use Rattle.clv_base.specs.Shards.{shard_count, are_splits, not_rising}
+use Rattle.clv_base.specs.LogRules.{log_of}
+use Rattle.clv_base.specs.State.{Shard}
+use Rattle.clv_base.specs.Restarts.{opened, run_after}
+use Rattle.clv_base.specs.Core.{World, new_world, opened_from, clock_of}
+use Rattle.clv_base.specs.Journals.{History, journal_of, start_of}
+use Rattle.history_laws.proofs.Durability.{opened_counted}
+use Rattle.journal_laws.specs.Worlds.{LandsInTime, Steady, count_past, empty_logs}
+use Rattle.journal_laws.proofs.Running.{fronts_run}
+use Rattle.world_laws.specs.Fronts.{FrontsFit, LandsBy}
+
+empty_run : (k : ℕ) → run_after (empty_logs k) ≡ 1
+empty_run zero = refl
+empty_run (suc k) = ap (max 1) (empty_run k)
+
+empty_log : (k n : ℕ) → log_of (empty_logs k) n ≡ []
+empty_log zero n = refl
+empty_log (suc k) zero = refl
+empty_log (suc k) (suc n) = empty_log k n
+
+pub empty_count : (k : ℕ) → length (empty_logs k) ≡ k
+empty_count zero = refl
+empty_count (suc k) = let e = empty_count k in omega (arith, e)
+
+pub empty_fits : (k : ℕ) → run_after (empty_logs k) < 2 ^ 32
+empty_fits k = subst (λ r. r < 2 ^ 32) (sym (empty_run k)) (omega arith)
+
+new_length : (n k : ℕ) → length (opened_from n k) ≡ k
+new_length n zero = refl
+new_length n (suc k) = let e = new_length (suc n) k in omega (arith, e)
+
+none_some : {A : Type 0} {a : A} {X : Type 0} → ◌≡◌ {A = Option A} None (Some a) → X
+none_some k = absurd cc
+
+same_shard : {a b : Shard} → Some a ≡ Some b → a ≡ b
+same_shard h = cc
+
+new_is : (n k i : ℕ) (s : Shard) → slice_get (opened_from n k) i ≡ Some s → opened (n + i) 1 [] ≡ s
+new_is n zero i s h = none_some h
+new_is n (suc k) zero s h = (let e : n + 0 ≡ n = omega arith in ap (λ m. opened m 1 []) e) ∙ same_shard h
+new_is n (suc k) (suc i) s h = (let e : n + suc i ≡ suc n + i = omega arith in ap (λ m. opened m 1 []) e) ∙ new_is (suc n) k i s h
+
+pub start_is : (k n : ℕ) → start_of (empty_logs k) n ≡ opened n 1 []
+start_is k n = ap (λ r. opened n r (log_of (empty_logs k) n)) (empty_run k) ∙ ap (opened n 1) (empty_log k n)
+
+pub new_steady : (splits : List ℕ) → Steady splits (empty_logs (shard_count splits)) (new_world (shard_count splits))
+new_steady splits =
+    record {
+      shards = new_length 0 (shard_count splits);
+      runs = λ n s e. start_is (shard_count splits) n ∙ (let e : n ≡ 0 + n = omega arith in ap (λ m. opened m 1 []) e) ∙ new_is 0 (shard_count splits) n s e;
+      lands = λ n s e. subst LandsInTime (new_is 0 (shard_count splits) n s e) (λ u m f. none_some f);
+      stamped = tt;
+      ordered = refl;
+      in_shards = refl;
+      stamps = λ v. tt;
+      sessions = λ v. refl;
+      numbered = λ v. refl;
+      messages = tt;
+    }
+
+-- a shard of a steady world has its number, is of run 1, and its fronts are in its log
+pub record Stands (n : ℕ) (s : Shard) : Type 0 where
+  pub shard : s.shard ≡ n
+  pub run : s.run ≡ 1
+  pub fronts : FrontsFit s
+
+pub stands : (splits : List ℕ) (k : ℕ) (w : World) (n : ℕ) (s : Shard) → Steady splits (empty_logs k) w → slice_get w.shards n ≡ Some s → Stands n s
+stands splits k w n s h g =
+    let f = fronts_run (start_of (empty_logs k) n) (journal_of n w.history) s (opened_counted n (run_after (empty_logs k)) (log_of (empty_logs k) n)) (h.runs n s g) in
+    record { shard = f.shard; run = f.run ∙ empty_run k; fronts = record { within = f.counted.within; flying = f.counted.flying } }
+
+-- ---- when the end of a flush may come
+
+past_few : (xs : List Shard) → count_past xs ≤ length xs
+past_few [] = omega arith
+past_few (s ∷ ss) = at (nat_le (2 ^ 48) s.last) (past_few ss)
+  where
+    at : (b : Bool) → count_past ss ≤ length ss → cond b 1 0 + count_past ss ≤ suc (length ss)
+    at true l = omega (arith, l)
+    at false l = omega (arith, l)
+
+below_bound : (n : ℕ) → n < 2 ^ 48 → nat_le (2 ^ 48) n ≡ false
+below_bound n l = at (nat_le (2 ^ 48) n) refl
+  where
+    at : (b : Bool) → nat_le (2 ^ 48) n ≡ b → b ≡ false
+    at true h = absurd (let k = leb-true (2 ^ 48) n h in omega (arith, k, l))
+    at false h = refl
+
+past_not_all : (xs : List Shard) (i : ℕ) (s : Shard) → slice_get xs i ≡ Some s → s.last < 2 ^ 48 → count_past xs < length xs
+past_not_all [] i s h l = none_some h
+past_not_all (z ∷ zs) zero s h l =
+    let e : nat_le (2 ^ 48) z.last ≡ false = below_bound z.last (subst (λ x. x.last < 2 ^ 48) (sym (same_shard h)) l) in
+    let f : count_past (z ∷ zs) ≡ 0 + count_past zs = ap (λ b. cond b 1 0 + count_past zs) e in
+    let g = past_few zs in
+    omega (arith, f, g)
+past_not_all (z ∷ zs) (suc i) s h l = at (nat_le (2 ^ 48) z.last) (past_not_all zs i s h l)
+  where
+    at : (b : Bool) → count_past zs < length zs → cond b 1 0 + count_past zs < suc (length zs)
+    at true l = omega (arith, l)
+    at false l = omega (arith, l)
+
+clock_below : (w b : ℕ) (h : History) → 0 < b → AllByRecursion (λ f. (f.1).stamp < b) h → clock_of w h < b
+clock_below w b [] l a = l
+clock_below w b (e ∷ es) l a = at ((e.1).walker == w) (clock_below w b es l a.1)
+  where
+    at : (c : Bool) → clock_of w es < b → max (cond c (e.1).stamp 0) (clock_of w es) < b
+    at true k = let m = a.0 in omega (arith, k, m)
+    at false k = omega (arith, k, l)
+
+pub lands_by : (splits : List ℕ) (before : List (List LogRecord)) (w : World) (n walker : ℕ) (s : Shard) → are_splits splits ≡ true → Steady splits before w → slice_get w.shards n ≡ Some s → LandsBy (clock_of walker w.history) s
+lands_by splits before w n walker s few k g up m f =
+    let low = k.lands n s g up m f in
+    let most = past_not_all w.shards n s g low in
+    let all = k.shards in
+    let sixteen = leb-true (length splits) 15 (and_parts (nat_le (length splits) 15) (is_none (not_rising splits)) few).0 in
+    let clock = clock_below walker (2 ^ 48 + count_past w.shards) w.history (omega arith) k.stamped in
+    (low, omega (arith, most, all, sixteen, clock))

@@ -1,0 +1,6 @@
+mod Taking
+mod Steps
+mod Beginning
+mod Worlds
+mod Keeping
+pub mod Laws

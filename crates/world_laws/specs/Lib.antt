@@ -1,0 +1,4 @@
+pub mod Moves
+pub mod Fronts
+pub mod Running
+pub mod Laws
