@@ -1,6 +1,6 @@
 // The tests over two entries.
 
-use crate::{clock_of, was_born, was_sent};
+use crate::{clock_of, was_sent};
 use clv_base::events::{Entry, Event, Outcome};
 use clv_base::messages::Message;
 use clv_base::names::{Birth, TxId};
@@ -64,7 +64,5 @@ fn finds_what_stands_in_a_history(rt: HostRuntime) -> Result<(), Fail> {
         (4, 9, 0)
     );
     assert!(rt; was_sent(MESSAGE, 9, &history) && !was_sent(MESSAGE, 4, &history));
-    assert!(rt; was_born(by(2), BIRTH, 0, &history));
-    assert!(rt; !was_born(by(1), BIRTH, 0, &history) && !was_born(by(2), BIRTH, 1, &history));
     Ok(())
 }

@@ -11,22 +11,17 @@ use Rattle.clv_base.specs.declared.events.Entry.{Entry}
 use Rattle.clv_base.specs.Shards.{shard_count, are_splits, not_rising}
 use Rattle.clv_base.specs.State.{Shard}
 use Rattle.clv_base.specs.Core.{clock_of, answer_by, entry_of, put_entry}
-use Rattle.clv_base.specs.Journals.{History, own}
-use Rattle.clv_base.specs.Restarts.{run_after}
+use Rattle.clv_base.specs.Journals.{History, own, has_no_equal_active_birth}
 use Rattle.clv_base.specs.Sessions.{is_session}
 use Rattle.journal_laws.specs.Worlds.{Steady, empty_logs}
 use Rattle.list_gate.specs.Listed.{Listed}
 use Rattle.machine_calls.specs.Events.{sends_fit}
 use Rattle.core_seats.specs.declared.seat.Seat.{Seat}
 use Rattle.world_laws.specs.Moves.{Moves}
-use Rattle.world_laws.specs.Running.{repeats_birth, session_may, run_step, is_offered}
-use Rattle.world_laws.proofs.Laws.{is_free, refused_step, idle_step, no_shard, taken_step, steady_step, put_tests, stands}
+use Rattle.world_laws.specs.Running.{run_step, is_offered}
+use Rattle.world_laws.proofs.Laws.{empty_run, refused_step, rival_step, idle_step, no_shard, taken_step, steady_step, put_tests, stands}
 use Rattle.interleaving_core.specs.Making.{MakesEntry}
 use Rattle.interleaving_core.specs.Sound.{shards_of, world_by, IsSeat, AreSound}
-
-empty_run : (k : ℕ) → run_after (empty_logs k) ≡ 1
-empty_run zero = refl
-empty_run (suc k) = ap (max 1) (empty_run k)
 
 same_set : (xs : List Shard) (n : ℕ) (s : Shard) → slice_get xs n ≡ Some s → slice_set xs n s ≡ xs
 same_set [] n s g = refl
@@ -35,15 +30,6 @@ same_set (x ∷ xs) zero s g = ap (λ z. z ∷ xs) (same g)
     same : {a b : Shard} → Some a ≡ Some b → b ≡ a
     same e = cc
 same_set (x ∷ xs) (suc n) s g = ap (λ l. x ∷ l) (same_set xs n s g)
-
--- what is offered repeats no birth
-pub offered_fresh : (splits : List ℕ) (h : History) (w n : ℕ) (e : Event) → is_offered splits h w n e ≡ true → repeats_birth h n e ≡ false
-offered_fresh splits h w n e o =
-    flip (repeats_birth h n e) (and_parts (not (repeats_birth h n e)) (session_may splits h w n e) (and_parts (not (repeats_birth h n e) && session_may splits h w n e) (was_sent h e) o).0).0
-  where
-    flip : (b : Bool) → not b ≡ true → b ≡ false
-    flip true k = absurd (both_ways false refl k)
-    flip false k = refl
 
 -- no more than sixteen shards, so each entry's is below
 low_shards : (k : ℕ) (h : History) → k ≤ 16 → list_all (λ e. nat_lt e.0 k) h ≡ true → AllByRecursion (λ e. e.0 < 16) h
@@ -110,6 +96,11 @@ module _ {M : Type 0} (shard : M → Shard) (gate : M → Option Listed) where
       let g = shard_there seats c.shard x l e in
       record { step = sym (refused_step splits w c (shard x.machine) g (stands splits (shard_count splits) w c.shard (shard x.machine) k.steady g).run (session_one splits seats h c.walker k) o); sound = k }
 
+  -- its birth is that of another one's active part there
+  pub rival : (splits : List ℕ) (seats : List (Seat M)) (h : History) (c : CoreStep) (x : Seat M) → AreSound shard gate splits seats h → c.shard < length seats → x ≡ get_or seats c.shard x
+      → has_no_equal_active_birth (shard x.machine) c.event ≡ false → Advanced splits seats h c seats h
+  rival splits seats h c x k l e b = record { step = sym (rival_step splits (world_by shard seats h) c (shard x.machine) (shard_there seats c.shard x l e) b); sound = k }
+
   -- it made no entry
   pub idle : (splits : List ℕ) (seats : List (Seat M)) (h : History) (c : CoreStep) (x y : Seat M) → AreSound shard gate splits seats h → c.shard < length seats → x ≡ get_or seats c.shard x
       → Moves (answer_by (clock_of c.walker h) c (shard x.machine) c.event) (shard x.machine) None (shard y.machine) → IsSeat shard gate y → Advanced splits seats h c (slice_set seats c.shard y) h
@@ -125,14 +116,13 @@ module _ {M : Type 0} (shard : M → Shard) (gate : M → Option Listed) where
 
   -- it made its entry
   pub made : (splits : List ℕ) (seats : List (Seat M)) (h : History) (c : CoreStep) (x y : Seat M) (o : Outcome) → are_splits splits ≡ true → AreSound shard gate splits seats h → c.shard < length seats → x ≡ get_or seats c.shard x
-      → repeats_birth h c.shard c.event ≡ false → is_offered splits h c.walker c.shard c.event ≡ true
+      → has_no_equal_active_birth (shard x.machine) c.event ≡ true → is_offered splits h c.walker c.shard c.event ≡ true
       → Moves (answer_by (clock_of c.walker h) c (shard x.machine) c.event) (shard x.machine) (Some o) (shard y.machine) → sends_fit o ≡ true → IsSeat shard gate y
       → Advanced splits seats h c (slice_set seats c.shard y) (put_entry (c.shard, entry_of c o (shard y.machine)) h)
-  made splits seats h c x y o few k l e fresh offered m fits seated =
+  made splits seats h c x y o few k l e free offered m fits seated =
       let w = world_by shard seats h in
       let g = shard_there seats c.shard x l e in
       let st = stands splits (shard_count splits) w c.shard (shard x.machine) k.steady g in
-      let free = is_free splits (empty_logs (shard_count splits)) w c.shard (shard x.machine) c.event k.steady g fresh in
       let after = put_entry (c.shard, entry_of c o (shard y.machine)) h in
       let same : world_by shard (slice_set seats c.shard y) after ≡ run_step splits w c =
       ap (λ ss. record { shards = ss; history = after }) (shards_set seats c.shard y) ∙ sym (taken_step splits w c (shard x.machine) o (shard y.machine) g st.run free offered m) in
@@ -153,10 +143,10 @@ module _ {M : Type 0} (shard : M → Shard) (gate : M → Option Listed) where
       idle splits seats h c x y k l e (subst (λ z. Moves (answer_by z c (shard x.machine) c.event) (shard x.machine) None (shard y.machine)) time n) seated
 
   pub made_some : (splits : List ℕ) (seats : List (Seat M)) (h after : History) (c : CoreStep) (x y : Seat M) (clock : ℕ) (entry : Option Entry) (f : Entry)
-      → are_splits splits ≡ true → AreSound shard gate splits seats h → c.shard < length seats → x ≡ get_or seats c.shard x → is_offered splits h c.walker c.shard c.event ≡ true
+      → are_splits splits ≡ true → AreSound shard gate splits seats h → c.shard < length seats → x ≡ get_or seats c.shard x → has_no_equal_active_birth (shard x.machine) c.event ≡ true → is_offered splits h c.walker c.shard c.event ≡ true
       → clock ≡ clock_of c.walker h → entry ≡ Some f → MakesEntry (answer_by clock c (shard x.machine) c.event) c (shard x.machine) entry (shard y.machine) → IsSeat shard gate y
       → after ≡ put_entry (c.shard, f) h → Advanced splits seats h c (slice_set seats c.shard y) after
-  made_some splits seats h after c x y clock entry f few k l e offered time is m seated put =
+  made_some splits seats h after c x y clock entry f few k l e free offered time is m seated put =
       let n : MakesEntry (answer_by clock c (shard x.machine) c.event) c (shard x.machine) (Some f) (shard y.machine) = subst (λ z. MakesEntry (answer_by clock c (shard x.machine) c.event) c (shard x.machine) z (shard y.machine)) is m in
       subst (Advanced splits seats h c (slice_set seats c.shard y)) (sym (put ∙ ap (λ z. put_entry (c.shard, z) h) n.1))
-      (made splits seats h c x y f.outcome few k l e (offered_fresh splits h c.walker c.shard c.event offered) offered (subst (λ z. Moves (answer_by z c (shard x.machine) c.event) (shard x.machine) (Some f.outcome) (shard y.machine)) time n.0) n.2 seated)
+      (made splits seats h c x y f.outcome few k l e free offered (subst (λ z. Moves (answer_by z c (shard x.machine) c.event) (shard x.machine) (Some f.outcome) (shard y.machine)) time n.0) n.2 seated)

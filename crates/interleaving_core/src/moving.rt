@@ -1,5 +1,5 @@
 // One event on one shard.
-ghost use Rattle.std.specs.Prelude.{◌≡◌, true, None, IfOk, IfSome};
+ghost use Rattle.std.specs.Prelude.{◌≡◌, true, not, None, IfOk, IfSome};
 ghost use Rattle.clv_base.specs.Core.{answer_by};
 ghost use Rattle.clv_base.specs.Journals.{has_no_equal_active_birth};
 ghost use Rattle.clv_base.specs.LogRules.{disorder};
@@ -50,6 +50,16 @@ fn copy_event(event: &Event) -> Result<Event, AllocError>
         Event::Stop => Event::Stop,
         Event::Restart => Event::Restart,
     })
+}
+
+/// Whether the event is an operation with the birth of another transaction whose part here is active.
+pub(crate) fn has_rival<M: Machine>(machine: &M, event: &Event) -> bool
+    ensures { result ≡ not (has_no_equal_active_birth (M.shard machine.now) event.now) }
+{
+    match event {
+        Event::Op { tx, birth, .. } => machine.has_equal_active_birth(*tx, *birth),
+        _ => false,
+    }
 }
 
 // A step that is one call of the machine.

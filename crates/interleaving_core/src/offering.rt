@@ -6,23 +6,14 @@ ghost use Rattle.clv_base.specs.Runs.{was_sent as was_sent_in};
 ghost use Rattle.clv_base.specs.Sessions.{is_session, is_of_session as of_session, is_session_number as number_of};
 ghost use Rattle.machine_calls.specs.Events.{event_fits};
 ghost use Rattle.session_tests.specs.Naming.{names_fit};
-ghost use Rattle.world_laws.specs.Running.{repeats_birth as repeats, session_may as session_may_in, is_offered as offered};
+ghost use Rattle.world_laws.specs.Running.{session_may as session_may_in, is_offered as offered};
 ghost use Rattle.interleaving_core.specs.Sound.{AllFit};
 
 use clv_base::events::{Entry, Event};
 use clv_base::splits::Splits;
-use history_tests::{was_born, was_sent};
+use history_tests::was_sent;
 use session_tests::session_of;
 use std::alloc::{AllocError, Global};
-
-fn repeats_birth(history: &[(u32, Entry)], shard: u32, event: &Event) -> bool
-    ensures { result ≡ repeats history.now shard event.now }
-{
-    match event {
-        Event::Op { tx, birth, .. } => was_born(*tx, *birth, shard, history),
-        _ => false,
-    }
-}
 
 fn comes_after_sending(history: &[(u32, Entry)], event: &Event) -> bool
     ensures { result ≡ was_sent_in history.now event.now }
@@ -72,7 +63,7 @@ fn session_may(
     session.may_make(alloc, splits, shard, event)
 }
 
-/// Whether the step may be made, by what is known before its outcome. An `Err` is want of memory.
+/// Whether the step may be made, by its walker's session and the messages that were sent. An `Err` is want of memory.
 pub(crate) fn is_offered(
     alloc: Global,
     splits: &Splits,
@@ -87,7 +78,7 @@ pub(crate) fn is_offered(
     ensures offered { IfOk result (λ may. may ≡ offered splits.now history.now walker shard event.now) }
     ensures fits { IfOk result (λ may. may ≡ true → event_fits shard event.now ≡ true) }
 {
-    if repeats_birth(history, shard, event) || !comes_after_sending(history, event) {
+    if !comes_after_sending(history, event) {
         return Ok(false);
     }
     session_may(alloc, splits, history, walker, shard, event)

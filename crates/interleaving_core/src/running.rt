@@ -6,10 +6,11 @@ ghost use Rattle.clv_base.specs.History.{Legal};
 ghost use Rattle.clv_base.specs.Shards.{shard_count, are_splits};
 ghost use Rattle.journal_laws.specs.Worlds.{empty_logs, logs_now};
 ghost use Rattle.headline_laws.specs.Promise.{Promised};
-ghost use Rattle.world_laws.specs.Running.{run_step, world_after};
+ghost use Rattle.clv_base.specs.Runs.{run_events as world_after};
+ghost use Rattle.world_laws.specs.Running.{run_step};
 ghost use Rattle.interleaving_core.specs.Sound.{as_world, IsSeat, IsSound};
 
-use crate::moving::make_entry;
+use crate::moving::{has_rival, make_entry};
 use crate::offering::is_offered;
 use crate::placing::put_entry;
 use crate::world::World;
@@ -17,11 +18,11 @@ use clv_base::events::CoreStep;
 use clv_base::splits::Splits;
 use core_seats::{Seat, open};
 use history_tests::clock_of;
+use journal_laws::laws::run_events_is_legal;
 use list_gate::ListGate;
 use machine_calls::{Flier, Machine, Maker, Restarter};
 use promise_laws::promises::{logs_stay_in_order, worlds_keep_promise};
 use std::alloc::{AllocError, Global};
-use world_laws::promises::worlds_are_legal;
 
 // All shards as they open empty logs. An `Err` is want of memory.
 fn begin<M: Maker + Machine<Gate = ListGate>>(
@@ -74,6 +75,9 @@ fn advance<M: Flier + Restarter + Machine<Gate = ListGate>>(
     if !is_offered(alloc, splits, history, made.walker, made.shard, &made.event)? {
         return Ok(());
     }
+    if has_rival(&world.seats[place].machine, &made.event) {
+        return Ok(());
+    }
     let Some(entry) = make_entry(&mut world.seats[place], alloc, clock, made)? else {
         return Ok(());
     };
@@ -84,8 +88,8 @@ fn advance<M: Flier + Restarter + Machine<Gate = ListGate>>(
 /// whether it finds the batch in flight. Takes time in the steps times the entries: each step looks through those so far.
 ///
 /// A step makes exactly what the definitions answer, where they allow it: the event is possible in the shard's state, a message was sent before, the walker's
-/// session may make it. Else, and where the answer is quiet or the clock is worn, it leaves the world as it was; so does an operation with the birth of
-/// another transaction that had one on the same shard. An `Err` is want of memory, which may come at any moment.
+/// session may make it, and no part of another transaction with an operation's birth is active there. Else, and where the answer is quiet or the clock is worn,
+/// it leaves the world as it was. An `Err` is want of memory, which may come at any moment.
 pub fn run_events<M: Maker + Flier + Restarter + Machine<Gate = ListGate>>(
     alloc: Global,
     splits: &Splits,
@@ -99,7 +103,7 @@ pub fn run_events<M: Maker + Flier + Restarter + Machine<Gate = ListGate>>(
     // And it has the whole promise, whatever a crash keeps of what is in flight.
     ensures promise { IfOk result (λ world. (left choice : ℕ → Bool) → Promised splits.now (empty_logs (shard_count splits.now)) world.history.items (logs_now splits.now (as_world M.shard world) left) choice) }
 {
-    worlds_are_legal();
+    run_events_is_legal();
     worlds_keep_promise();
     let _keys = splits.as_slice();
     let mut world = begin(alloc, splits)?;

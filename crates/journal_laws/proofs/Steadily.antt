@@ -429,13 +429,16 @@ steady_is_legal splits before w choice few count run k =
 
 -- ---- from empty logs
 
-empty_count : (k : ℕ) → length (empty_logs k) ≡ k
+pub empty_count : (k : ℕ) → length (empty_logs k) ≡ k
 empty_count zero = refl
 empty_count (suc k) = let e = empty_count k in omega (arith, e)
 
-empty_run : (k : ℕ) → run_after (empty_logs k) ≡ 1
+pub empty_run : (k : ℕ) → run_after (empty_logs k) ≡ 1
 empty_run zero = refl
 empty_run (suc k) = ap (max 1) (empty_run k)
+
+pub empty_fits : (k : ℕ) → run_after (empty_logs k) < 2 ^ 32
+empty_fits k = subst (λ r. r < 2 ^ 32) (sym (empty_run k)) (omega arith)
 
 empty_log : (k n : ℕ) → log_of (empty_logs k) n ≡ []
 empty_log zero n = refl
@@ -460,7 +463,7 @@ new_is n (suc k) (suc i) s h = ap (λ m. opened m 1 []) (next n i) ∙ new_is (s
     next : (a b : ℕ) → a + suc b ≡ suc a + b
     next a b = omega arith
 
-new_steady : (splits : List ℕ) → Steady splits (empty_logs (shard_count splits)) (new_world (shard_count splits))
+pub new_steady : (splits : List ℕ) → Steady splits (empty_logs (shard_count splits)) (new_world (shard_count splits))
 new_steady splits =
     record {
       shards = new_length 0 (shard_count splits);
@@ -484,15 +487,14 @@ new_steady splits =
     start_is : (n : ℕ) → start_of (empty_logs (shard_count splits)) n ≡ opened n 1 []
     start_is n = ap (λ r. opened n r (log_of (empty_logs (shard_count splits)) n)) (empty_run (shard_count splits)) ∙ ap (opened n 1) (empty_log (shard_count splits) n)
 
-runs_steadily : (splits : List ℕ) (before : List (List LogRecord)) (cs : List CoreStep) (w : World) → are_splits splits ≡ true → Steady splits before w → Steady splits before (run_from splits cs w)
+pub runs_steadily : (splits : List ℕ) (before : List (List LogRecord)) (cs : List CoreStep) (w : World) → are_splits splits ≡ true → Steady splits before w → Steady splits before (run_from splits cs w)
 runs_steadily splits before [] w few k = k
 runs_steadily splits before (c ∷ cs) w few k =
     runs_steadily splits before cs (run_on splits w c (slice_get w.shards c.shard)) few (steps_keep_steady splits before w c few k)
 
 pub run_events_is_legal : RunEventsIsLegal
 run_events_is_legal splits cs choice few =
-    steady_is_legal splits (empty_logs (shard_count splits)) (run_events splits cs) choice few (empty_count (shard_count splits))
-    (subst (λ r. r < 2 ^ 32) (sym (empty_run (shard_count splits))) (omega arith))
+    steady_is_legal splits (empty_logs (shard_count splits)) (run_events splits cs) choice few (empty_count (shard_count splits)) (empty_fits (shard_count splits))
     (runs_steadily splits (empty_logs (shard_count splits)) cs (new_world (shard_count splits)) few (new_steady splits))
 
 empty_pass : (splits : List ℕ) (n k : ℕ) → all_logs_from n (log_passes splits) (empty_logs k) ≡ true

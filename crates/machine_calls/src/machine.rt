@@ -3,12 +3,13 @@ ghost use Rattle.std.specs.Prelude.{◌≡◌, ℕ, Option, true, not, length, I
 ghost use Rattle.clv_base.specs.declared.events.Entry.{Entry as Made};
 ghost use Rattle.clv_base.specs.State.{Shard};
 ghost use Rattle.clv_base.specs.Events.{step};
-ghost use Rattle.clv_base.specs.Journals.{has_no_equal_active_birth};
+ghost use Rattle.clv_base.specs.Journals.{has_equal_active_birth as has_equal_birth_in, has_no_equal_active_birth};
 ghost use Rattle.machine_calls.specs.Events.{is_stepped, event_fits, sends_fit};
 ghost use Rattle.machine_calls.specs.Steps.{Tells};
 ghost use Rattle.machine_calls.specs.Settled.{is_settled as is_settled_in};
 
 use clv_base::events::{Entry, Event, Outcome};
+use clv_base::names::{Birth, TxId};
 use log_gate::Gate;
 use ordered_store::Store;
 use std::alloc::Global;
@@ -58,6 +59,10 @@ pub trait Machine {
     /// is undecided, and each request is decided and acknowledged.
     fn is_settled(&self) -> bool
         ensures { result ≡ is_settled_in (shard self.now) };
+
+    /// Whether another transaction's part here is active and has this birth. It goes through all parts of the epoch.
+    fn has_equal_active_birth(&self, tx: TxId, birth: Birth) -> bool
+        ensures { result ≡ has_equal_birth_in tx birth (shard self.now).local.parts };
 
     /// One event, or a quiet answer: any event but those of a flush and a restart. While the shard is up, an operation's birth is that of no other active
     /// part here. The first drop of a part takes no memory.

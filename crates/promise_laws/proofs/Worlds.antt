@@ -14,9 +14,8 @@ use Rattle.each_shard_laws.proofs.Ordering.{logs_left_are_in_order}
 use Rattle.headline_laws.proofs.Promising.{promise}
 use Rattle.journal_laws.specs.Worlds.{Steady, empty_logs, shard_at, logs_now}
 use Rattle.journal_laws.proofs.Running.{runs_fit}
-use Rattle.journal_laws.proofs.Steadily.{steady_is_legal, empty_logs_may_be_opened}
-use Rattle.world_laws.specs.Running.{world_after}
-use Rattle.world_laws.proofs.Laws.{empty_count, empty_fits, worlds_are_legal}
+use Rattle.journal_laws.proofs.Steadily.{steady_is_legal, empty_count, empty_fits, empty_logs_may_be_opened, run_events_is_legal}
+use Rattle.clv_base.specs.Runs.{run_events}
 use Rattle.promise_laws.specs.Laws.{LogsStayInOrder, WorldsKeepPromise}
 
 within : (xs : List Shard) (i : ℕ) (x : Shard) → slice_get xs i ≡ Some x → i < length xs
@@ -62,5 +61,5 @@ logs_stay_in_order splits w n s kept few k g = ap (disorder n) (sym log_is) ∙ 
 
 pub worlds_keep_promise : WorldsKeepPromise
 worlds_keep_promise splits cs left choice few =
-    promise splits (empty_logs (shard_count splits)) (world_after splits cs).history (logs_now splits (world_after splits cs) left) choice
-    (empty_logs_may_be_opened splits (shard_count splits)).0 (worlds_are_legal splits cs left few)
+    promise splits (empty_logs (shard_count splits)) (run_events splits cs).history (logs_now splits (run_events splits cs) left) choice
+    (empty_logs_may_be_opened splits (shard_count splits)).0 (run_events_is_legal splits cs left few)

@@ -8,7 +8,7 @@ use Rattle.clv_base.specs.Restarts.{log_left}
 use Rattle.clv_base.specs.Core.{World}
 use Rattle.journal_laws.specs.Worlds.{Steady, empty_logs, logs_now}
 use Rattle.headline_laws.specs.Promise.{Promised}
-use Rattle.world_laws.specs.Running.{world_after}
+use Rattle.clv_base.specs.Runs.{run_events}
 
 -- whatever a crash of a shard keeps now, the log that it leaves is in order
 abbrev pub LogsStayInOrder : Type 0
@@ -20,4 +20,4 @@ LogsStayInOrder =
 abbrev pub WorldsKeepPromise : Type 0
 WorldsKeepPromise =
     (splits : List ℕ) (cs : List CoreStep) (left choice : ℕ → Bool) → are_splits splits ≡ true
-    → Promised splits (empty_logs (shard_count splits)) (world_after splits cs).history (logs_now splits (world_after splits cs) left) choice
+    → Promised splits (empty_logs (shard_count splits)) (run_events splits cs).history (logs_now splits (run_events splits cs) left) choice

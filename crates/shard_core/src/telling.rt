@@ -5,9 +5,10 @@ ghost use Rattle.clv_base.specs.Undo.{stage_of as stage_in};
 ghost use Rattle.clv_base.specs.Participant.{taken_by};
 ghost use Rattle.clv_base.specs.Coordinator.{ask_answer};
 ghost use Rattle.clv_base.specs.Orders.{tx_get};
+ghost use Rattle.clv_base.specs.Journals.{has_equal_active_birth as has_equal_birth_in};
 
 use crate::shard::ShardCore;
-use clv_base::names::TxId;
+use clv_base::names::{Birth, TxId};
 use clv_base::parts::PartFacts;
 use clv_base::state::{Stage, Taken};
 use lock_table::Locks;
@@ -26,6 +27,13 @@ impl<S: Store + Drop, L: Locks + Drop> ShardCore<S, L> {
         ensures { result ≡ stage_in (self.now.shard).local tx }
     {
         self.transactions.stage_of(tx)
+    }
+
+    /// Whether another transaction's part here is active and has this birth. It goes through all parts of the epoch.
+    pub fn has_equal_active_birth(&self, tx: TxId, birth: Birth) -> bool
+        ensures { result ≡ has_equal_birth_in tx birth ((self.now.shard).local).parts }
+    {
+        self.transactions.has_equal_active_birth(tx, birth)
     }
 
     /// What votes and decisions on the transaction depend on.

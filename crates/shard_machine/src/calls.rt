@@ -2,6 +2,7 @@
 
 use crate::machine::ShardMachine;
 use clv_base::events::{Event, Outcome};
+use clv_base::names::{Birth, TxId};
 use lock_table::Locks;
 use log_gate::Gate;
 use machine_calls::{Machine, Parts, StepError};
@@ -35,6 +36,10 @@ impl<S: Store + Drop, L: Locks + Drop, G: Gate> Machine for ShardMachine<S, L, G
 
     fn is_settled(&self) -> bool {
         ShardMachine::is_settled(self)
+    }
+
+    fn has_equal_active_birth(&self, tx: TxId, birth: Birth) -> bool {
+        ShardMachine::has_equal_active_birth(self, tx, birth)
     }
 
     fn step(

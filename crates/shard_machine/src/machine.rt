@@ -1,7 +1,9 @@
 //! The machine.
 ghost use Rattle.std.specs.Prelude.{◌≡◌, not, length};
+ghost use Rattle.clv_base.specs.Journals.{has_equal_active_birth as has_equal_birth_in};
 ghost use Rattle.machine_calls.specs.Settled.{is_settled as is_settled_in};
 
+use clv_base::names::{Birth, TxId};
 use lock_table::Locks;
 use log_gate::Gate;
 use machine_calls::Parts;
@@ -66,6 +68,13 @@ impl<S: Store + Drop, L: Locks + Drop, G: Gate> ShardMachine<S, L, G> {
         ensures { result ≡ is_settled_in self.now.shard }
     {
         self.is_up && self.core.is_settled()
+    }
+
+    /// Whether another transaction's part here is active and has this birth. It goes through all parts of the epoch.
+    pub fn has_equal_active_birth(&self, tx: TxId, birth: Birth) -> bool
+        ensures { result ≡ has_equal_birth_in tx birth ((self.now.shard).local).parts }
+    {
+        self.core.has_equal_active_birth(tx, birth)
     }
 
     /// The gate, where the machine has it, the records and the journal, by move.

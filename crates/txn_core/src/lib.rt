@@ -25,8 +25,6 @@ mod plans;
 mod rolling;
 mod shard;
 mod telling;
-#[cfg(test)]
-mod tests;
 mod trimming;
 
 pub use lock_table::Memory;

@@ -1,17 +1,19 @@
 //! What is told of a transaction here.
-ghost use Rattle.std.specs.Prelude.{◌≡◌, ◌||◌, not, IfOk};
+ghost use Rattle.std.specs.Prelude.{◌≡◌, ◌||◌, ◌&&◌, not, IfOk};
+ghost use Rattle.std.specs.Ordering.{is_eq};
 ghost use Rattle.std.specs.List.{list_all};
 ghost use Rattle.std.specs.List.Sorted.{IsStrictlySortedBy};
 ghost use Rattle.clv_base.specs.Facts.{facts_in};
 ghost use Rattle.clv_base.specs.Facts.{state_by, doom_by, is_restored_by};
 ghost use Rattle.clv_base.specs.Undo.{stage_of as stage_in};
 ghost use Rattle.clv_base.specs.Logs.{committed_in};
-ghost use Rattle.clv_base.specs.Orders.{tx_cmp, tx_get};
+ghost use Rattle.clv_base.specs.Orders.{tx_cmp, tx_get, tx_same, birth_cmp};
 ghost use Rattle.part_table.specs.Parts.{parts_here};
-ghost use Rattle.clv_base.specs.State.{is_closed_stage};
+ghost use Rattle.clv_base.specs.State.{is_closed_stage, is_active_stage};
+ghost use Rattle.clv_base.specs.Journals.{has_equal_active_birth as has_equal_birth_in};
 
 use crate::shard::ShardTx;
-use clv_base::names::TxId;
+use clv_base::names::{Birth, TxId};
 use clv_base::parts::{PartFacts, PartState};
 use clv_base::state::{Held, Stage};
 use lock_table::{Locks, Memory};
@@ -50,6 +52,13 @@ fn is_restored(part: Option<Held>) -> bool
     }
 }
 
+/// Whether this is the active part of another transaction with this birth.
+fn is_rival(tx: TxId, birth: Birth, other: TxId, part: Held) -> bool
+    ensures { result ≡ (not (tx_same tx other) && is_active_stage part.stage && is_eq (birth_cmp birth part.birth)) }
+{
+    tx != other && part.stage == Stage::Active && birth == part.birth
+}
+
 impl<S: Store + Drop, L: Locks + Drop> ShardTx<S, L> {
     /// What votes and decisions on the transaction depend on; the LSN of its PREPARE comes from the caller.
     pub fn facts(&self, tx: TxId, prepare: Option<u64>) -> PartFacts
@@ -75,6 +84,15 @@ impl<S: Store + Drop, L: Locks + Drop> ShardTx<S, L> {
         ensures { result ≡ tx_get tx (self.now.local).parts }
     {
         self.parts.get(tx)
+    }
+
+    /// Whether another transaction's part here is active and has this birth. It goes through all parts of the epoch.
+    pub fn has_equal_active_birth(&self, tx: TxId, birth: Birth) -> bool
+        ensures { result ≡ has_equal_birth_in tx birth (self.now.local).parts }
+    {
+        self.parts
+            .iter()
+            .any(|(other, part)| is_rival(tx, birth, *other, *part))
     }
 
     /// The transactions whose parts here are active or closed, which rise. Those that are gone cost nothing.

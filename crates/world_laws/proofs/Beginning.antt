@@ -1,4 +1,4 @@
--- A world of shards that were just made, and what a steady world from empty logs is.
+-- What a steady world from empty logs is.
 use Rattle.std.proofs.Common.{◌≡◌, refl, sym, ap, subst, ◌∙◌, ℕ, zero, suc, ◌+◌, ◌<◌, ◌≤◌, max, true, false, cond, Bool, ◌==◌, nat_le, List, [], ◌∷◌, length, arith, Option, Some, None}
 use Rattle.std.specs.Prelude.{◌^◌, slice_get, is_none}
 use Rattle.std.specs.List.{AllByRecursion}
@@ -7,62 +7,20 @@ use Rattle.clv_base.specs.declared.logs.LogRecord.{LogRecord}
 use Rattle.clv_base.specs.Shards.{shard_count, are_splits, not_rising}
 use Rattle.clv_base.specs.LogRules.{log_of}
 use Rattle.clv_base.specs.State.{Shard}
-use Rattle.clv_base.specs.Restarts.{opened, run_after}
-use Rattle.clv_base.specs.Core.{World, new_world, opened_from, clock_of}
+use Rattle.clv_base.specs.Restarts.{run_after}
+use Rattle.clv_base.specs.Core.{World, clock_of}
 use Rattle.clv_base.specs.Journals.{History, journal_of, start_of}
 use Rattle.history_laws.proofs.Durability.{opened_counted}
-use Rattle.journal_laws.specs.Worlds.{LandsInTime, Steady, count_past, empty_logs}
+use Rattle.journal_laws.specs.Worlds.{Steady, count_past, empty_logs}
 use Rattle.journal_laws.proofs.Running.{fronts_run}
+use Rattle.journal_laws.proofs.Steadily.{empty_run}
 use Rattle.world_laws.specs.Fronts.{FrontsFit, LandsBy}
-
-empty_run : (k : ℕ) → run_after (empty_logs k) ≡ 1
-empty_run zero = refl
-empty_run (suc k) = ap (max 1) (empty_run k)
-
-empty_log : (k n : ℕ) → log_of (empty_logs k) n ≡ []
-empty_log zero n = refl
-empty_log (suc k) zero = refl
-empty_log (suc k) (suc n) = empty_log k n
-
-pub empty_count : (k : ℕ) → length (empty_logs k) ≡ k
-empty_count zero = refl
-empty_count (suc k) = let e = empty_count k in omega (arith, e)
-
-pub empty_fits : (k : ℕ) → run_after (empty_logs k) < 2 ^ 32
-empty_fits k = subst (λ r. r < 2 ^ 32) (sym (empty_run k)) (omega arith)
-
-new_length : (n k : ℕ) → length (opened_from n k) ≡ k
-new_length n zero = refl
-new_length n (suc k) = let e = new_length (suc n) k in omega (arith, e)
 
 none_some : {A : Type 0} {a : A} {X : Type 0} → ◌≡◌ {A = Option A} None (Some a) → X
 none_some k = absurd cc
 
 same_shard : {a b : Shard} → Some a ≡ Some b → a ≡ b
 same_shard h = cc
-
-new_is : (n k i : ℕ) (s : Shard) → slice_get (opened_from n k) i ≡ Some s → opened (n + i) 1 [] ≡ s
-new_is n zero i s h = none_some h
-new_is n (suc k) zero s h = (let e : n + 0 ≡ n = omega arith in ap (λ m. opened m 1 []) e) ∙ same_shard h
-new_is n (suc k) (suc i) s h = (let e : n + suc i ≡ suc n + i = omega arith in ap (λ m. opened m 1 []) e) ∙ new_is (suc n) k i s h
-
-pub start_is : (k n : ℕ) → start_of (empty_logs k) n ≡ opened n 1 []
-start_is k n = ap (λ r. opened n r (log_of (empty_logs k) n)) (empty_run k) ∙ ap (opened n 1) (empty_log k n)
-
-pub new_steady : (splits : List ℕ) → Steady splits (empty_logs (shard_count splits)) (new_world (shard_count splits))
-new_steady splits =
-    record {
-      shards = new_length 0 (shard_count splits);
-      runs = λ n s e. start_is (shard_count splits) n ∙ (let e : n ≡ 0 + n = omega arith in ap (λ m. opened m 1 []) e) ∙ new_is 0 (shard_count splits) n s e;
-      lands = λ n s e. subst LandsInTime (new_is 0 (shard_count splits) n s e) (λ u m f. none_some f);
-      stamped = tt;
-      ordered = refl;
-      in_shards = refl;
-      stamps = λ v. tt;
-      sessions = λ v. refl;
-      numbered = λ v. refl;
-      messages = tt;
-    }
 
 -- a shard of a steady world has its number, is of run 1, and its fronts are in its log
 pub record Stands (n : ℕ) (s : Shard) : Type 0 where

@@ -4,7 +4,8 @@ pub use Rattle.protocol_laws.proofs.Reaching.{misfit_is_exact}
 pub use Rattle.history_laws.proofs.Durability.{Framed, framed_finish}
 pub use Rattle.journal_laws.proofs.Placing.{put_tests}
 pub use Rattle.journal_laws.proofs.Sending.{was_sent_before}
-pub use Rattle.world_laws.proofs.Steps.{is_free, refused_step, idle_step, no_shard, taken_step, steady_step}
-pub use Rattle.world_laws.proofs.Beginning.{empty_count, empty_fits, new_steady, Stands, stands, lands_by}
+pub use Rattle.world_laws.proofs.Steps.{refused_step, rival_step, idle_step, no_shard, taken_step, steady_step}
+pub use Rattle.journal_laws.proofs.Steadily.{empty_run, new_steady}
+pub use Rattle.world_laws.proofs.Beginning.{Stands, stands, lands_by}
 pub use Rattle.world_laws.proofs.Keeping.{same_outcome, same_after, Keeps, Stepped, step_keeps, take_grown, left_same}
-pub use Rattle.world_laws.proofs.Worlds.{worlds_are_steady, worlds_are_legal}
+pub use Rattle.world_laws.proofs.Worlds.{worlds_are_steady}

@@ -1,80 +1,28 @@
 -- What one step makes of a world.
 use Rattle.std.proofs.Common.{◌≡◌, refl, sym, ap, subst, ◌∙◌, ℕ, true, false, cond, not, ◌&&◌, ◌||◌, Bool, List, [], ◌∷◌, Some, None, ◌==◌}
 use Rattle.std.specs.Prelude.{slice_get}
-use Rattle.std.specs.List.{AllByRecursion}
 use Rattle.std.proofs.lemmas.Bool.{both_ways, and_from, and_parts}
 use Rattle.clv_base.specs.declared.events.CoreStep.{CoreStep}
-use Rattle.clv_base.specs.declared.names.TxId.{TxId}
-use Rattle.clv_base.specs.declared.names.Birth.{Birth}
 use Rattle.clv_base.specs.declared.logs.LogRecord.{LogRecord}
 use Rattle.clv_base.specs.declared.events.Event.{Event}
 use Rattle.clv_base.specs.declared.events.Event.TheVariants.{Op, Request, Look, Drop, Send, Deliver, Remind, FlushOut, FlushIn, Stop, Restart}
 use Rattle.clv_base.specs.declared.events.Outcome.{Outcome}
-use Rattle.clv_base.specs.LogRules.{log_of}
 use Rattle.clv_base.specs.Shards.{are_splits}
 use Rattle.clv_base.specs.State.{Shard}
-use Rattle.clv_base.specs.Restarts.{run_after}
 use Rattle.clv_base.specs.Events.{CallAnswer, Quiet, Worn, Enters, Does, happen}
 use Rattle.clv_base.specs.Machines.{BecomesBy}
 use Rattle.clv_base.specs.Core.{World, clock_of, step_answer, after_answer, entry_of}
-use Rattle.clv_base.specs.Journals.{History, journal_of, own, has_no_equal_active_birth}
+use Rattle.clv_base.specs.Journals.{History, own, has_no_equal_active_birth}
 use Rattle.clv_base.specs.Runs.{was_sent, goes_on_session, is_allowed, run_answered, run_on}
 use Rattle.clv_base.specs.Sessions.{is_session, is_of_session}
-use Rattle.journal_laws.specs.Births.{LeavesBirth}
 use Rattle.journal_laws.specs.Worlds.{Steady}
-use Rattle.journal_laws.proofs.Bearing.{free_births_stay, opened_has_none}
 use Rattle.journal_laws.proofs.Steadily.{steps_keep_steady}
 use Rattle.journal_laws.proofs.Stepping.{answers}
-use Rattle.history_tests.specs.Born.{bears_birth, was_born}
 use Rattle.world_laws.specs.Moves.{is_idle}
-use Rattle.world_laws.specs.Running.{repeats_birth, run_step, session_may, is_offered}
+use Rattle.world_laws.specs.Running.{run_step, session_may, is_offered}
 use Rattle.world_laws.proofs.Taking.{refuses, allows}
 
--- ---- births
-
-leaves : (tx : TxId) (birth : Birth) (e : Event) → bears_birth tx birth e ≡ false → LeavesBirth tx birth e
-leaves tx birth (Op u b nth seen op) h = h
-leaves tx birth (Request u ts) h = tt
-leaves tx birth (Look u) h = tt
-leaves tx birth (Drop u) h = tt
-leaves tx birth Send h = tt
-leaves tx birth (Deliver m stamp) h = tt
-leaves tx birth Remind h = tt
-leaves tx birth FlushOut h = tt
-leaves tx birth FlushIn h = tt
-leaves tx birth Stop h = tt
-leaves tx birth Restart h = tt
-
-neither : (a b : Bool) → (a || b) ≡ false → (a ≡ false) × (b ≡ false)
-neither true b h = absurd (both_ways true h refl)
-neither false b h = (refl, h)
-
-all_leave : (tx : TxId) (birth : Birth) (n : ℕ) (h : History) → was_born tx birth n h ≡ false → AllByRecursion (λ e. LeavesBirth tx birth e.event) (journal_of n h)
-all_leave tx birth n [] k = tt
-all_leave tx birth n (e ∷ es) k =
-    let p = neither ((e.0 == n) && bears_birth tx birth (e.1).event) (was_born tx birth n es) k in at (e.0 == n) p.0 (all_leave tx birth n es p.1)
-  where
-    at : (b : Bool) → (b && bears_birth tx birth (e.1).event) ≡ false → AllByRecursion (λ x. LeavesBirth tx birth x.event) (journal_of n es)
-        → AllByRecursion (λ x. LeavesBirth tx birth x.event) (cond b (e.1 ∷ journal_of n es) (journal_of n es))
-    at true q a = (leaves tx birth (e.1).event q, a)
-    at false q a = a
-
-pub is_free : (splits : List ℕ) (before : List (List LogRecord)) (w : World) (n : ℕ) (s : Shard) (e : Event) → Steady splits before w → slice_get w.shards n ≡ Some s → repeats_birth w.history n e ≡ false → has_no_equal_active_birth s e ≡ true
-is_free splits before w n s (Op tx birth nth seen op) k g r =
-    ap (λ b. not b)
-    (free_births_stay _ s (journal_of n w.history) tx birth (k.runs n s g) (all_leave tx birth n w.history r) (opened_has_none n (run_after before) (log_of before n) tx birth))
-is_free splits before w n s (Request u ts) k g r = refl
-is_free splits before w n s (Look u) k g r = refl
-is_free splits before w n s (Drop u) k g r = refl
-is_free splits before w n s Send k g r = refl
-is_free splits before w n s (Deliver m stamp) k g r = refl
-is_free splits before w n s Remind k g r = refl
-is_free splits before w n s FlushOut k g r = refl
-is_free splits before w n s FlushIn k g r = refl
-is_free splits before w n s Stop k g r = refl
-is_free splits before w n s Restart k g r = refl
-
--- ---- the three ways of a step
+-- ---- the ways of a step
 
 by_shard : (splits : List ℕ) (w : World) (c : CoreStep) (s : Shard) (v : World) → slice_get w.shards c.shard ≡ Some s → run_answered splits w c s (step_answer w c s) ≡ v → run_on splits w c (slice_get w.shards c.shard) ≡ v
 by_shard splits w c s v g h = ap (run_on splits w c) g ∙ h
@@ -98,19 +46,27 @@ second_false false b c h = refl
 -- it isn't offered, so nothing is made of it
 pub refused_step : (splits : List ℕ) (w : World) (c : CoreStep) (s : Shard) → slice_get w.shards c.shard ≡ Some s → s.run ≡ 1 → is_session splits 1 c.walker (own c.walker w.history) ≡ true
     → is_offered splits w.history c.walker c.shard c.event ≡ false → run_step splits w c ≡ w
-refused_step splits w c s g one k h = at (repeats_birth w.history c.shard c.event) (session_may splits w.history c.walker c.shard c.event) (was_sent w.history c.event) refl refl refl h
+refused_step splits w c s g one k h = at (session_may splits w.history c.walker c.shard c.event) (was_sent w.history c.event) refl refl h
   where
-    at : (a b d : Bool) → repeats_birth w.history c.shard c.event ≡ a → session_may splits w.history c.walker c.shard c.event ≡ b → was_sent w.history c.event ≡ d → ((not a && b) && d) ≡ false
-        → elim a [ true ↦ w | false ↦ run_on splits w c (slice_get w.shards c.shard) ] ≡ w
-    at true b d p q r m = refl
-    at false true true p q r m = absurd (both_ways true m refl)
-    at false true false p q r m =
+    at : (b d : Bool) → session_may splits w.history c.walker c.shard c.event ≡ b → was_sent w.history c.event ≡ d → (b && d) ≡ false → run_on splits w c (slice_get w.shards c.shard) ≡ w
+    at true true q r m = absurd (both_ways true m refl)
+    at true false q r m =
         by_shard splits w c s w g (none_allowed splits w c s (step_answer w c s)
         (λ o t e. last_false (has_no_equal_active_birth s c.event) (goes_on_session splits w s.run (c.shard, entry_of c o t)) (was_sent w.history c.event) r))
-    at false false d p q r m =
+    at false d q r m =
         by_shard splits w c s w g (none_allowed splits w c s (step_answer w c s)
         (λ o t e. second_false (has_no_equal_active_birth s c.event) (goes_on_session splits w s.run (c.shard, entry_of c o t)) (was_sent w.history c.event)
         (subst (λ r. goes_on_session splits w r (c.shard, entry_of c o t) ≡ false) (sym one) (refuses splits w c.shard (entry_of c o t) k q))))
+
+-- another transaction's part of its birth is active there
+first_false : (a b c : Bool) → a ≡ false → ((a && b) && c) ≡ false
+first_false true b c h = absurd (both_ways true refl h)
+first_false false b c h = refl
+
+pub rival_step : (splits : List ℕ) (w : World) (c : CoreStep) (s : Shard) → slice_get w.shards c.shard ≡ Some s → has_no_equal_active_birth s c.event ≡ false → run_step splits w c ≡ w
+rival_step splits w c s g h =
+    by_shard splits w c s w g (none_allowed splits w c s (step_answer w c s)
+    (λ o t e. first_false (has_no_equal_active_birth s c.event) (goes_on_session splits w s.run (c.shard, entry_of c o t)) (was_sent w.history c.event) h))
 
 -- it makes no entry
 idle_answer : (splits : List ℕ) (w : World) (c : CoreStep) (s : Shard) (a : CallAnswer) → is_idle a ≡ true → run_answered splits w c s a ≡ w
@@ -119,19 +75,11 @@ idle_answer splits w c s Worn h = refl
 idle_answer splits w c s (Enters o t) h = absurd (both_ways false refl h)
 
 pub idle_step : (splits : List ℕ) (w : World) (c : CoreStep) (s : Shard) → slice_get w.shards c.shard ≡ Some s → is_idle (step_answer w c s) ≡ true → run_step splits w c ≡ w
-idle_step splits w c s g h = at (repeats_birth w.history c.shard c.event)
-  where
-    at : (a : Bool) → elim a [ true ↦ w | false ↦ run_on splits w c (slice_get w.shards c.shard) ] ≡ w
-    at true = refl
-    at false = by_shard splits w c s w g (idle_answer splits w c s (step_answer w c s) h)
+idle_step splits w c s g h = by_shard splits w c s w g (idle_answer splits w c s (step_answer w c s) h)
 
 -- there is no such shard
 pub no_shard : (splits : List ℕ) (w : World) (c : CoreStep) → slice_get w.shards c.shard ≡ None → run_step splits w c ≡ w
-no_shard splits w c g = at (repeats_birth w.history c.shard c.event)
-  where
-    at : (a : Bool) → elim a [ true ↦ w | false ↦ run_on splits w c (slice_get w.shards c.shard) ] ≡ w
-    at true = refl
-    at false = ap (run_on splits w c) g
+no_shard splits w c g = ap (run_on splits w c) g
 
 -- it makes its entry
 does_of : (s t : Shard) (e : Event) (o : Outcome) → BecomesBy s e o t → is_of_session e ≡ true → happen s e ≡ Does o t
@@ -149,29 +97,21 @@ does_of s t Restart o b h = absurd (both_ways false refl h)
 
 pub taken_step : (splits : List ℕ) (w : World) (c : CoreStep) (s : Shard) (o : Outcome) (t : Shard) → slice_get w.shards c.shard ≡ Some s → s.run ≡ 1 → has_no_equal_active_birth s c.event ≡ true
     → is_offered splits w.history c.walker c.shard c.event ≡ true → step_answer w c s ≡ Enters o t → run_step splits w c ≡ after_answer w c (Enters o t)
-taken_step splits w c s o t g one free h a = at (repeats_birth w.history c.shard c.event) refl h
+taken_step splits w c s o t g one free h a =
+    by_shard splits w c s (after_answer w c (Enters o t)) g
+    (ap (run_answered splits w c s) a
+    ∙ ap (λ b. elim b [ true ↦ after_answer w c (Enters o t) | false ↦ w ])
+    (and_from (has_no_equal_active_birth s c.event && goes_on_session splits w s.run (c.shard, entry_of c o t)) (was_sent w.history c.event)
+    (and_from (has_no_equal_active_birth s c.event) (goes_on_session splits w s.run (c.shard, entry_of c o t)) free (goes q.0)) q.1))
   where
+    q = and_parts (session_may splits w.history c.walker c.shard c.event) (was_sent w.history c.event) h
+
     goes : session_may splits w.history c.walker c.shard c.event ≡ true → goes_on_session splits w s.run (c.shard, entry_of c o t) ≡ true
     goes m =
         let x = answers s (clock_of c.walker w.history) c c.event o t a free in
         subst (λ r. goes_on_session splits w r (c.shard, entry_of c o t) ≡ true) (sym one)
         (allows splits w c.shard (entry_of c o t) s x.after m (λ q. does_of s x.after c.event o x.becomes q))
 
-    at : (b : Bool) → repeats_birth w.history c.shard c.event ≡ b → ((not b && session_may splits w.history c.walker c.shard c.event) && was_sent w.history c.event) ≡ true
-        → elim b [ true ↦ w | false ↦ run_on splits w c (slice_get w.shards c.shard) ] ≡ after_answer w c (Enters o t)
-    at true p m = absurd (both_ways false refl m)
-    at false p m =
-        let q = and_parts (session_may splits w.history c.walker c.shard c.event) (was_sent w.history c.event) m in
-        by_shard splits w c s (after_answer w c (Enters o t)) g
-        (ap (run_answered splits w c s) a
-        ∙ ap (λ b. elim b [ true ↦ after_answer w c (Enters o t) | false ↦ w ])
-        (and_from (has_no_equal_active_birth s c.event && goes_on_session splits w s.run (c.shard, entry_of c o t)) (was_sent w.history c.event)
-        (and_from (has_no_equal_active_birth s c.event) (goes_on_session splits w s.run (c.shard, entry_of c o t)) free (goes q.0)) q.1))
-
 -- the rules are kept
 pub steady_step : (splits : List ℕ) (before : List (List LogRecord)) (w : World) (c : CoreStep) → are_splits splits ≡ true → Steady splits before w → Steady splits before (run_step splits w c)
-steady_step splits before w c few k = at (repeats_birth w.history c.shard c.event)
-  where
-    at : (b : Bool) → Steady splits before (elim b [ true ↦ w | false ↦ run_on splits w c (slice_get w.shards c.shard) ])
-    at true = k
-    at false = steps_keep_steady splits before w c few k
+steady_step splits before w c few k = steps_keep_steady splits before w c few k

@@ -3,7 +3,6 @@ ghost use Rattle.std.specs.Prelude.{◌≡◌, [], Some, OnOk};
 ghost use Rattle.clv_base.specs.Needs.{record_set};
 ghost use Rattle.lock_release.specs.Ghosts.{GhostsAreLocked};
 
-use crate::{Reply, ShardTx};
 use clv_base::causes::AbortCause;
 use clv_base::logs::LogRecord;
 use clv_base::modes::{Anchor, Found, Mode, Need, Part};
@@ -16,6 +15,7 @@ use ordered_store::{SortedStore, Store};
 use part_table::PartTable;
 use std::alloc::{AllocError, Global};
 use std::test::Fail;
+use txn_core::{Reply, ShardTx};
 use violation_deps::Deps;
 
 type Shard = ShardTx<SortedStore, ListLocks>;

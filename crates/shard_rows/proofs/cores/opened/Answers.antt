@@ -2,7 +2,7 @@
 use Rattle.std.proofs.Common.{sym, ap, ◌∙◌, List}
 use Rattle.clv_base.specs.declared.logs.LogRecord.{LogRecord}
 use Rattle.clv_base.specs.Restarts.{local_after}
-use Rattle.shard_core.proofs.tests.opened.Goals as goal
+use Rattle.shard_rows.proofs.cores.opened.Goals as goal
 
 pub restored-requires : goal.restored-requires
 restored-requires c =

@@ -6,7 +6,6 @@ ghost use Rattle.clv_base.specs.FileRules.{has_spelling as is_spelled};
 ghost use Rattle.clv_base.specs.LogRules.{disorder as first_disorder};
 ghost use Rattle.shard_core.specs.Whole.{IsAtRest};
 
-use crate::ShardCore;
 use clv_base::lists::TxList;
 use clv_base::logs::LogRecord;
 use clv_base::messages::Message;
@@ -20,6 +19,7 @@ use log_disorder::disorder;
 use log_gate::{Gate, PushError};
 use log_records::has_spelling;
 use ordered_store::SortedStore;
+use shard_core::ShardCore;
 use std::alloc::{AllocError, Global};
 use std::test::Fail;
 use txn_core::Reply;
