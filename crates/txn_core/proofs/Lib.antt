@@ -14,3 +14,4 @@ mod Crowds
 mod Places
 pub mod Totals
 pub mod Returning
+mod Births

@@ -1,7 +1,7 @@
 //! What is told of a transaction here.
 ghost use Rattle.std.specs.Prelude.{◌≡◌, ◌||◌, ◌&&◌, not, IfOk};
 ghost use Rattle.std.specs.Ordering.{is_eq};
-ghost use Rattle.std.specs.List.{list_all};
+ghost use Rattle.std.specs.List.{list_all, list_any};
 ghost use Rattle.std.specs.List.Sorted.{IsStrictlySortedBy};
 ghost use Rattle.clv_base.specs.Facts.{facts_in};
 ghost use Rattle.clv_base.specs.Facts.{state_by, doom_by, is_restored_by};
@@ -86,13 +86,20 @@ impl<S: Store + Drop, L: Locks + Drop> ShardTx<S, L> {
         self.parts.get(tx)
     }
 
-    /// Whether another transaction's part here is active and has this birth. It goes through all parts of the epoch.
-    pub fn has_equal_active_birth(&self, tx: TxId, birth: Birth) -> bool
-        ensures { result ≡ has_equal_birth_in tx birth (self.now.local).parts }
+    // Whether a part is a rival's.
+    fn has_rival(&self, tx: TxId, birth: Birth) -> bool
+        ensures { result ≡ list_any (λ p. not (tx_same tx p.0) && is_active_stage p.1.stage && is_eq (birth_cmp birth p.1.birth)) (self.now.local).parts }
     {
         self.parts
             .iter()
             .any(|(other, part)| is_rival(tx, birth, *other, *part))
+    }
+
+    /// Whether another transaction's part here is active and has this birth. It goes through all parts of the epoch.
+    pub fn has_equal_active_birth(&self, tx: TxId, birth: Birth) -> bool
+        ensures { result ≡ has_equal_birth_in tx birth (self.now.local).parts }
+    {
+        self.has_rival(tx, birth)
     }
 
     /// The transactions whose parts here are active or closed, which rise. Those that are gone cost nothing.
