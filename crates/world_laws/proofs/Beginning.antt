@@ -4,7 +4,7 @@ use Rattle.std.specs.Prelude.{◌^◌, slice_get, is_none}
 use Rattle.std.specs.List.{AllByRecursion}
 use Rattle.std.proofs.lemmas.Bool.{and_parts, leb-true}
 use Rattle.clv_base.specs.declared.logs.LogRecord.{LogRecord}
-use Rattle.clv_base.specs.Shards.{shard_count, are_splits, not_rising}
+use Rattle.clv_base.specs.Shards.{are_splits, not_rising}
 use Rattle.clv_base.specs.LogRules.{log_of}
 use Rattle.clv_base.specs.State.{Shard}
 use Rattle.clv_base.specs.Restarts.{run_after}

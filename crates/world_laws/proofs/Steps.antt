@@ -1,5 +1,5 @@
 -- What one step makes of a world.
-use Rattle.std.proofs.Common.{◌≡◌, refl, sym, ap, subst, ◌∙◌, ℕ, true, false, cond, not, ◌&&◌, ◌||◌, Bool, List, [], ◌∷◌, Some, None, ◌==◌}
+use Rattle.std.proofs.Common.{◌≡◌, refl, sym, ap, subst, ◌∙◌, ℕ, true, false, ◌&&◌, Bool, List, Some, None}
 use Rattle.std.specs.Prelude.{slice_get}
 use Rattle.std.proofs.lemmas.Bool.{both_ways, and_from, and_parts}
 use Rattle.clv_base.specs.declared.events.CoreStep.{CoreStep}
@@ -12,7 +12,7 @@ use Rattle.clv_base.specs.State.{Shard}
 use Rattle.clv_base.specs.Events.{CallAnswer, Quiet, Worn, Enters, Does, happen}
 use Rattle.clv_base.specs.Machines.{BecomesBy}
 use Rattle.clv_base.specs.Core.{World, clock_of, step_answer, after_answer, entry_of}
-use Rattle.clv_base.specs.Journals.{History, own, has_no_equal_active_birth}
+use Rattle.clv_base.specs.Journals.{own, has_no_equal_active_birth}
 use Rattle.clv_base.specs.Runs.{was_sent, goes_on_session, is_allowed, run_answered, run_on}
 use Rattle.clv_base.specs.Sessions.{is_session, is_of_session}
 use Rattle.journal_laws.specs.Worlds.{Steady}
@@ -60,7 +60,7 @@ refused_step splits w c s g one k h = at (session_may splits w.history c.walker 
 
 -- another transaction's part of its birth is active there
 first_false : (a b c : Bool) → a ≡ false → ((a && b) && c) ≡ false
-first_false true b c h = absurd (both_ways true refl h)
+first_false true b c h = absurd (both_ways true h refl)
 first_false false b c h = refl
 
 pub rival_step : (splits : List ℕ) (w : World) (c : CoreStep) (s : Shard) → slice_get w.shards c.shard ≡ Some s → has_no_equal_active_birth s c.event ≡ false → run_step splits w c ≡ w
@@ -98,14 +98,13 @@ does_of s t Restart o b h = absurd (both_ways false refl h)
 pub taken_step : (splits : List ℕ) (w : World) (c : CoreStep) (s : Shard) (o : Outcome) (t : Shard) → slice_get w.shards c.shard ≡ Some s → s.run ≡ 1 → has_no_equal_active_birth s c.event ≡ true
     → is_offered splits w.history c.walker c.shard c.event ≡ true → step_answer w c s ≡ Enters o t → run_step splits w c ≡ after_answer w c (Enters o t)
 taken_step splits w c s o t g one free h a =
+    let q = and_parts (session_may splits w.history c.walker c.shard c.event) (was_sent w.history c.event) h in
     by_shard splits w c s (after_answer w c (Enters o t)) g
     (ap (run_answered splits w c s) a
     ∙ ap (λ b. elim b [ true ↦ after_answer w c (Enters o t) | false ↦ w ])
     (and_from (has_no_equal_active_birth s c.event && goes_on_session splits w s.run (c.shard, entry_of c o t)) (was_sent w.history c.event)
     (and_from (has_no_equal_active_birth s c.event) (goes_on_session splits w s.run (c.shard, entry_of c o t)) free (goes q.0)) q.1))
   where
-    q = and_parts (session_may splits w.history c.walker c.shard c.event) (was_sent w.history c.event) h
-
     goes : session_may splits w.history c.walker c.shard c.event ≡ true → goes_on_session splits w s.run (c.shard, entry_of c o t) ≡ true
     goes m =
         let x = answers s (clock_of c.walker w.history) c c.event o t a free in
