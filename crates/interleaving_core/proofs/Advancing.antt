@@ -1,11 +1,9 @@
 -- One step of a world, by what its shard made of it.
-use Rattle.std.proofs.Common.{◌≡◌, refl, sym, ap, subst, ◌∙◌, ℕ, zero, suc, ◌<◌, ◌≤◌, max, true, false, not, ◌&&◌, Bool, List, [], ◌∷◌, length, get_or, arith, nat_lt, nat_le, Option, Some, None, Result, Ok, Err}
+use Rattle.std.proofs.Common.{◌≡◌, refl, sym, ap, subst, ◌∙◌, ℕ, zero, suc, ◌<◌, ◌≤◌, true, false, not, Bool, List, [], ◌∷◌, length, get_or, arith, nat_lt, nat_le, Option, Some, None, Result, Ok, Err}
 use Rattle.std.specs.Prelude.{slice_get, slice_set, OnOk, is_none}
 use Rattle.std.specs.List.{AllByRecursion, list_all}
 use Rattle.std.proofs.lemmas.Bool.{both_ways, and_parts, leb-true, ltb-true}
 use Rattle.clv_base.specs.declared.events.CoreStep.{CoreStep}
-use Rattle.clv_base.specs.declared.events.Event.{Event}
-use Rattle.clv_base.specs.Runs.{was_sent}
 use Rattle.clv_base.specs.declared.events.Outcome.{Outcome}
 use Rattle.clv_base.specs.declared.events.Entry.{Entry}
 use Rattle.clv_base.specs.Shards.{shard_count, are_splits, not_rising}
@@ -49,6 +47,25 @@ pub seat_at : {A : Type 0} (xs : List A) (n : ℕ) → n < length xs → (x : A)
 seat_at [] n l = absurd (omega (arith, l))
 seat_at (y ∷ ys) zero l = (y, refl)
 seat_at (y ∷ ys) (suc n) l = seat_at ys n (omega (arith, l))
+
+same_seat : {A : Type 0} (xs : List A) (n : ℕ) (x y : A) → n < length xs → x ≡ get_or xs n x → y ≡ get_or xs n y → x ≡ y
+same_seat [] n x y l p q = absurd (omega (arith, l))
+same_seat (z ∷ zs) zero x y l p q = p ∙ sym q
+same_seat (z ∷ zs) (suc n) x y l p q = same_seat zs n x y (omega (arith, l)) p q
+
+un_not : (b c : Bool) → b ≡ not c → b ≡ false → c ≡ true
+un_not b true p q = refl
+un_not b false p q = absurd (both_ways b q p)
+
+pub one_not : (b c : Bool) → b ≡ not c → b ≡ true → c ≡ false
+one_not b true p q = absurd (both_ways b p q)
+one_not b false p q = refl
+
+-- no part with the operation's birth is active where the machine tells of none
+pub free_there : {M : Type 0} (shard : M → Shard) (seats : List (Seat M)) (c : CoreStep) (x y : Seat M) (told : Bool) → c.shard < length seats → x ≡ get_or seats c.shard x → y ≡ get_or seats c.shard y
+    → told ≡ not (has_no_equal_active_birth (shard y.machine) c.event) → told ≡ false → has_no_equal_active_birth (shard x.machine) c.event ≡ true
+free_there shard seats c x y told l p q t f =
+    subst (λ z. has_no_equal_active_birth (shard z.machine) c.event ≡ true) (same_seat seats c.shard y x l q p) (un_not told (has_no_equal_active_birth (shard y.machine) c.event) t f)
 
 module _ {M : Type 0} (shard : M → Shard) (gate : M → Option Listed) where
   shards_set : (seats : List (Seat M)) (n : ℕ) (x : Seat M) → shards_of shard (slice_set seats n x) ≡ slice_set (shards_of shard seats) n (shard x.machine)

@@ -1,16 +1,16 @@
-use Rattle.std.proofs.Common.{rules, ◌≡◌, ◌<◌, length, sym, ap, subst, ◌∙◌}
+use Rattle.std.proofs.Common.{rules, ◌≡◌, ◌<◌, false, length, sym, ap, subst, ◌∙◌}
 use Rattle.std.specs.Prelude.{slice_set}
 use Rattle.std.specs.List.{AllByRecursion}
 use Rattle.clv_base.specs.Shards.{shard_count}
 use Rattle.clv_base.specs.Core.{clock_of, put_entry}
-use Rattle.clv_base.specs.Journals.{own}
+use Rattle.clv_base.specs.Journals.{own, has_no_equal_active_birth}
 use Rattle.clv_base.specs.Sessions.{is_session}
 use Rattle.journal_laws.specs.Worlds.{empty_logs}
 use Rattle.world_laws.specs.Fronts.{LandsBy}
-use Rattle.world_laws.proofs.Laws.{is_free, stands, lands_by}
+use Rattle.world_laws.proofs.Laws.{stands, lands_by}
 use Rattle.world_laws.specs.Running.{is_offered, run_step}
 use Rattle.interleaving_core.specs.Sound.{world_by, AreSound}
-use Rattle.interleaving_core.proofs.Advancing.{shard_there, seat_at, session_one, offered_fresh, refused, few_shards, on_success, made_none, made_some}
+use Rattle.interleaving_core.proofs.Advancing.{shard_there, seat_at, session_one, refused, rival, few_shards, on_success, free_there, one_not, made_none, made_some}
 use Rattle.interleaving_core.proofs.running.advance.Goals as goal
 
 pub is_offered-requires-clause-shards : goal.is_offered-requires-clause-shards
@@ -29,6 +29,13 @@ returns-then-not-branch-clause-step g c =
     let x = seat_at w.seats.items n low in
     let offered = sym (ap (λ h. is_offered splits h made.walker n made.event) c.as_slice-history.ensures.value) ∙ sym c.in_ok-is_offered.ensures.offered ∙ c.if-not-branch.true in
     (refused (g.M.Machine.shard) (g.M.Machine.gate) splits w.seats.items w.history.items made x.0 c.requires.sound low x.1 offered).step
+
+pub returns-then-has_rival-clause-step : goal.returns-then-has_rival-clause-step
+returns-then-has_rival-clause-step g c =
+    let sh = g.M.Machine.shard in let w = c.args.world.now in let made = c.args.made.now in let x = c.index.result.now in
+    let low : made.shard < length w.seats.items = search rules in
+    let rivals : has_no_equal_active_birth (sh x.machine) made.event ≡ false = one_not c.has_rival.result (has_no_equal_active_birth (sh x.machine) made.event) c.has_rival.ensures c.if-has_rival.true in
+    (rival sh (g.M.Machine.gate) c.args.splits.now w.seats.items w.history.items made x c.requires.sound low c.index.ensures rivals).step
 
 pub make_entry-requires-clause-shard : goal.make_entry-requires-clause-shard
 make_entry-requires-clause-shard g c =
@@ -55,11 +62,9 @@ make_entry-requires-clause-lands g c =
 
 pub make_entry-requires-clause-birth : goal.make_entry-requires-clause-birth
 make_entry-requires-clause-birth g c =
-    let sh = g.M.Machine.shard in let w = c.args.world.now in let made = c.args.made.now in let n = made.shard in let x = c.index_mut.result.now in let splits = c.args.splits.now in
-    let low : n < length w.seats.items = search rules in
-    let offered = sym (ap (λ h. is_offered splits h made.walker n made.event) c.as_slice-history.ensures.value) ∙ sym c.in_ok-is_offered.ensures.offered ∙ c.if-not-branch.false in
-    is_free splits (empty_logs (shard_count splits)) (world_by sh w.seats.items w.history.items) n (sh x.machine) made.event c.requires.sound.steady
-    (shard_there sh (g.M.Machine.gate) w.seats.items n x low c.index_mut.ensures.value) (offered_fresh splits w.history.items made.walker n made.event offered)
+    let sh = g.M.Machine.shard in let seats = c.args.world.now.seats.items in let made = c.args.made.now in let x = c.index_mut.result.now in
+    let low : made.shard < length seats = search rules in
+    free_there sh seats made x c.index.result.now c.has_rival.result low c.index_mut.ensures.value c.index.ensures c.has_rival.ensures c.if-has_rival.false
 
 pub make_entry-requires-clause-in_order : goal.make_entry-requires-clause-in_order
 make_entry-requires-clause-in_order g c =
@@ -87,10 +92,11 @@ returns-clause-step g c =
     let sh = g.M.Machine.shard in let gt = g.M.Machine.gate in let splits = c.args.splits.now in
     let w = c.args.world.now in let made = c.args.made.now in let x = c.index_mut.result.now in let y = c.make_entry.new.seat in
     let low : made.shard < length w.seats.items = search rules in
+    let free = free_there sh w.seats.items made x c.index.result.now c.has_rival.result low c.index_mut.ensures.value c.index.ensures c.has_rival.ensures c.if-has_rival.false in
     let offered = sym (ap (λ h. is_offered splits h made.walker made.shard made.event) c.as_slice-history.ensures.value) ∙ sym c.in_ok-is_offered.ensures.offered ∙ c.if-not-branch.false in
     let after = c.put_entry.new.history.items in
     on_success c.put_entry.result (after ≡ put_entry (made.shard, c.in-Some.entry) w.history.items) (world_by sh (slice_set w.seats.items made.shard y) after ≡ run_step splits (world_by sh w.seats.items w.history.items) made)
-    (λ put. (made_some sh gt splits w.seats.items w.history.items after made x y c.clock_of-clock.result c.in_ok-entry.field-0 c.in-Some.entry c.requires.splits c.requires.sound low c.index_mut.ensures.value offered
+    (λ put. (made_some sh gt splits w.seats.items w.history.items after made x y c.clock_of-clock.result c.in_ok-entry.field-0 c.in-Some.entry c.requires.splits c.requires.sound low c.index_mut.ensures.value free offered
     (c.clock_of-clock.ensures ∙ ap (clock_of made.walker) c.as_slice.ensures.value) c.in-Some.is c.in_ok-entry.ensures.makes c.in_ok-entry.ensures.seated put).step)
     c.put_entry.ensures
 
@@ -99,9 +105,10 @@ returns-clause-sound g c =
     let sh = g.M.Machine.shard in let gt = g.M.Machine.gate in let splits = c.args.splits.now in
     let w = c.args.world.now in let made = c.args.made.now in let x = c.index_mut.result.now in let y = c.make_entry.new.seat in
     let low : made.shard < length w.seats.items = search rules in
+    let free = free_there sh w.seats.items made x c.index.result.now c.has_rival.result low c.index_mut.ensures.value c.index.ensures c.has_rival.ensures c.if-has_rival.false in
     let offered = sym (ap (λ h. is_offered splits h made.walker made.shard made.event) c.as_slice-history.ensures.value) ∙ sym c.in_ok-is_offered.ensures.offered ∙ c.if-not-branch.false in
     let after = c.put_entry.new.history.items in
     on_success c.put_entry.result (after ≡ put_entry (made.shard, c.in-Some.entry) w.history.items) (AreSound sh gt splits (slice_set w.seats.items made.shard y) after)
-    (λ put. (made_some sh gt splits w.seats.items w.history.items after made x y c.clock_of-clock.result c.in_ok-entry.field-0 c.in-Some.entry c.requires.splits c.requires.sound low c.index_mut.ensures.value offered
+    (λ put. (made_some sh gt splits w.seats.items w.history.items after made x y c.clock_of-clock.result c.in_ok-entry.field-0 c.in-Some.entry c.requires.splits c.requires.sound low c.index_mut.ensures.value free offered
     (c.clock_of-clock.ensures ∙ ap (clock_of made.walker) c.as_slice.ensures.value) c.in-Some.is c.in_ok-entry.ensures.makes c.in_ok-entry.ensures.seated put).sound)
     c.put_entry.ensures
