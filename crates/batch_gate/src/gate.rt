@@ -4,7 +4,7 @@ use std::sync::{Mutex, MutexGuard, Wait};
 use std::time::Duration;
 
 // How often a writer naps at most until others sleep, and how many microseconds each time.
-const NAPS: u32 = 4;
+const NAPS: u32 = 10;
 
 const NAP: u64 = 100;
 
@@ -72,7 +72,7 @@ impl BatchGate {
 }
 
 impl Writer<'_> {
-    /// Naps until as many sleep as slept on the batch before, for some 400 microseconds at most.
+    /// Naps until as many sleep as slept on the batch before, for some 1,000 microseconds at most.
     pub fn let_others_in<R: Wait>(&self, rt: &R) {
         let nap = Duration::from_micros(NAP);
         for _ in 0..NAPS {

@@ -4,7 +4,7 @@ use std::sync::Wait;
 use std::sync::atomic::{AtomicU64, Ordering};
 
 // How many are inside at most. Who stands in line keeps a processor busy, and who is to be served next must not be asleep.
-const PLACES: u64 = 8;
+const PLACES: u64 = 3;
 
 /// The door before a line. No proof rests on it: who is inside is served in the order of tickets all the same.
 #[derive(Drop)]
