@@ -220,7 +220,20 @@ fn a_part_that_dies_is_rolled_back(rt: HostRuntime) -> Result<(), Fail> {
         shard.stage_of(tx(2)),
         Some(Stage::Gone { doom: Some(tx(2)) })
     );
-    assert_eq!(rt; shard.buffer.end(), 4);
+    assert_eq!(rt; shard.end(), 4);
+    Ok(())
+}
+
+#[test]
+fn a_key_that_is_deleted_is_a_ghost(rt: HostRuntime) -> Result<(), Fail> {
+    let alloc = rt.alloc();
+    let mut shard = filled(alloc)?;
+    assert_eq!(rt;
+        ask(alloc, &mut shard, 1, Op::Del(10))?,
+        Told::Value(Some(1))
+    );
+    let parts = shard.into_parts();
+    assert_eq!(rt; parts.store.get(10), Found::Ghost);
     Ok(())
 }
 
@@ -236,11 +249,11 @@ fn a_drop_undoes_and_ghosts_go_with_their_locks(rt: HostRuntime) -> Result<(), F
         ask(alloc, &mut shard, 1, Op::Put(25, 5))?,
         Told::Value(None)
     );
-    assert_eq!(rt; shard.store.get(10), Found::Ghost);
     assert!(rt; shard.drop_part(tx(1)));
     assert!(rt; !shard.drop_part(tx(2)));
-    assert_eq!(rt; shard.store.get(10), Found::Live(1));
-    assert_eq!(rt; shard.store.get(25), Found::Absent);
+    let parts = shard.into_parts();
+    assert_eq!(rt; parts.store.get(10), Found::Live(1));
+    assert_eq!(rt; parts.store.get(25), Found::Absent);
     Ok(())
 }
 
@@ -254,21 +267,32 @@ fn many_writes_find_room(rt: HostRuntime) -> Result<(), Fail> {
             Told::Value(None)
         );
     }
-    assert_eq!(rt; (shard.buffer.end(), shard.buffer.room()), (100, 200));
+    let parts = shard.into_parts();
+    assert_eq!(rt; (parts.buffer.end(), parts.buffer.room()), (100, 200));
     Ok(())
+}
+
+/// A shard with one write, and room for five records and pairs more than that wants.
+fn with_room(alloc: Global) -> Result<Shard, AllocError> {
+    let mut shard = filled(alloc)?;
+    match ask(alloc, &mut shard, 1, Op::Del(10)) {
+        Ok(_) => {}
+        Err(_) => return Err(AllocError),
+    }
+    match shard.reserve(5) {
+        Ok(()) => Ok(shard),
+        Err(_) => Err(AllocError),
+    }
 }
 
 #[test]
 fn room_is_given_back(rt: HostRuntime) -> Result<(), Fail> {
     let alloc = rt.alloc();
-    let mut shard = filled(alloc)?;
-    assert_eq!(rt;
-        ask(alloc, &mut shard, 1, Op::Del(10))?,
-        Told::Value(Some(1))
-    );
-    assert!(rt; shard.reserve(5).is_ok());
-    assert_eq!(rt; (shard.buffer.room(), shard.deps.room()), (7, 5));
+    let parts = with_room(alloc)?.into_parts();
+    assert_eq!(rt; (parts.buffer.room(), parts.deps.room()), (7, 5));
+    let mut shard = with_room(alloc)?;
     assert!(rt; shard.trim(alloc, 3).is_ok());
-    assert_eq!(rt; (shard.buffer.room(), shard.deps.room()), (5, 3));
+    let parts = shard.into_parts();
+    assert_eq!(rt; (parts.buffer.room(), parts.deps.room()), (5, 3));
     Ok(())
 }
