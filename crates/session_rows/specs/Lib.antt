@@ -1,3 +1,4 @@
 pub mod Later
+pub mod Calls
 pub mod Ends
 pub mod Moves
