@@ -1,6 +1,6 @@
 //! The program `world_runner`: tries seeds, one after another, and prints what was met.
 //!
-//! With no words it tries the seeds 1 to 20, with `FIRST COUNT` so many from that one on. Status 1 where a seed shows a difference from the serial run, 2 where
+//! With no words it tries the seeds 1 to 8, with `FIRST COUNT` so many from that one on. Status 1 where a seed shows a difference from the serial run, 2 where
 //! the words aren't such, 8 for want of memory. It stands on `world_steps` and `world_machines`.
 #![tactic(auto)]
 
@@ -39,7 +39,7 @@ fn seeds_of(words: &[String]) -> Option<Seeds> {
     match words {
         [] => Some(Seeds {
             first: 1,
-            count: 20,
+            count: 8,
         }),
         [first, count] => Some(Seeds {
             first: number(first.as_str())?,
