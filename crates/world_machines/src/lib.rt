@@ -1,0 +1,15 @@
+//! Worlds of the machine of a shard itself, over logs in memory: who runs lists of steps over it, in each form of its stores and lock tables. Its tests are worked
+//! examples as such lists.
+//!
+//! It promises nothing beside the runs of `world_runs`, on which it stands beside `shard_machine`.
+#![tactic(auto)]
+
+#[cfg(test)]
+mod examples;
+mod machines;
+#[cfg(test)]
+mod playing;
+#[cfg(test)]
+mod steps;
+
+pub use machines::{Blocks, Lists};
