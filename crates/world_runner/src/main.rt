@@ -5,7 +5,7 @@
 #![tactic(auto)]
 
 #[cfg(test)]
-mod seeds;
+mod trials;
 
 use std::alloc::{AllocError, Global};
 use std::process::ExitCode;
