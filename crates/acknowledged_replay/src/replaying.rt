@@ -2,6 +2,7 @@
 
 ghost use Rattle.std.specs.Prelude.{◌≡◌, ◌<◌, ◌^◌, length, IfOk, OnOk};
 ghost use Rattle.clv_base.specs.declared.names.TxId.{TxId as Tx};
+ghost use Rattle.clv_base.specs.Logs.{stands};
 ghost use Rattle.clv_base.specs.Maps.{ops_after, replay_map};
 ghost use Rattle.clv_base.specs.History.{acknowledged_in};
 ghost use Rattle.history_replay.specs.Located.{located_all};
@@ -13,7 +14,7 @@ use crate::tables::{OpTable, TxSet};
 use crate::told::{acknowledged, all_operations, requested_by};
 use clv_base::events::Entry;
 use clv_base::ops::Op;
-use history_replay::{History, entries, stands};
+use history_replay::{History, entries};
 use key_map::KeyMap;
 use std::alloc::Global;
 
@@ -50,15 +51,16 @@ fn run_acknowledged(
 }
 
 /// The map after the acknowledged transactions of a history, one after another in the order of their requests by stamp, then shard, from the map that the
-/// logs found stand for. Takes time linear in the history and the logs times a logarithm, and times the shards at most.
-pub fn replayed(alloc: Global, history: &History) -> Result<KeyMap, Memory>
-    requires { length history.now.journals < 2 ^ 32 }
+/// logs found stand for, which is given. Takes time linear in the history times a logarithm, and times the shards at most.
+pub fn replayed(alloc: Global, history: &History, found: KeyMap) -> Result<KeyMap, Memory>
+    requires shards { length history.now.journals < 2 ^ 32 }
+    requires found { found ≡ stands history.now.found }
     ensures { IfOk result (λ pairs. pairs ≡ after_all history.now) }
 {
     let list = entries(alloc, history)?;
     let set = acknowledged(alloc, &list)?;
     let table = all_operations(alloc, &list)?;
-    let mut pairs = stands(alloc, history.found())?;
+    let mut pairs = found;
     run_acknowledged(alloc, &mut pairs, &set, &table, &list)?;
     Ok(pairs)
 }

@@ -1,6 +1,6 @@
 // A history over two shards. Expected values are worked out by hand.
 
-ghost use Rattle.std.specs.Prelude.{◌≡◌, IfOk, length};
+ghost use Rattle.std.specs.Prelude.{◌≡◌, IfOk, length, map};
 
 use crate::replayed;
 use clv_base::events::{Entry, Event, Outcome};
@@ -9,8 +9,9 @@ use clv_base::logs::LogRecord;
 use clv_base::names::{Birth, TxId};
 use clv_base::ops::{Answer, Op};
 use clv_base::parts::ShardList;
-use history_replay::History;
+use history_replay::{History, stands};
 use std::alloc::{AllocError, Global};
+use std::snapshot::Snapshot;
 use std::test::Fail;
 
 fn named(session: u32, serial: u64) -> TxId {
@@ -90,8 +91,9 @@ fn found(alloc: Global) -> Result<Vec<LogRecord>, AllocError> {
 }
 
 // Session 2 asks first, so session 1's value stays; session 3's transaction is never acknowledged.
-fn two_of_three(alloc: Global) -> Result<History, AllocError>
-    ensures { IfOk result (λ h. length h.journals ≡ 2) }
+fn two_of_three(alloc: Global, logs: &Vec<Vec<LogRecord>>) -> Result<History, AllocError>
+    ensures few { IfOk result (λ h. length h.journals ≡ 2) }
+    ensures found { IfOk result (λ h. h.found ≡ map (λ l. l.items) logs.now.items) }
 {
     let first = vec![in alloc;
         put(2, 1, 5, 10),
@@ -107,14 +109,16 @@ fn two_of_three(alloc: Global) -> Result<History, AllocError>
         looked(10, 2),
     ]?;
     let journals = vec![in alloc; first, second]?;
-    let logs = vec![in alloc; found(alloc)?, Vec::new(alloc)]?;
-    Ok(History::new(journals, logs))
+    Ok(History::new(journals, Snapshot::of(logs)))
 }
 
 #[test]
 fn the_acknowledged_are_run_in_order(rt: HostRuntime) -> Result<(), Fail> {
     let alloc = rt.alloc();
-    let pairs = replayed(alloc, &two_of_three(alloc)?)?.pairs(alloc)?;
+    let logs = vec![in alloc; found(alloc)?, Vec::new(alloc)]?;
+    let history = two_of_three(alloc, &logs)?;
+    let before = stands(alloc, &logs)?;
+    let pairs = replayed(alloc, &history, before)?.pairs(alloc)?;
     assert!(rt; pairs.as_slice() == [(5, 10), (6, 60), (7, 70)].as_slice());
     Ok(())
 }

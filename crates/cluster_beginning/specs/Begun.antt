@@ -41,7 +41,6 @@ module _ {M S G : Type 0} where
     pub homes : (vec_len room.homes ≡ 0) × (shards ≤ vec_capacity room.homes)
     pub journals : (vec_len room.journals ≡ 0) × (shards ≤ vec_capacity room.journals)
     pub maps : (vec_len room.maps ≡ 0) × (shards ≤ vec_capacity room.maps)
-    pub found : (vec_len room.found ≡ 0) × (shards ≤ vec_capacity room.found)
 
 -- what an error of a recovery is here
 abbrev pub told_as : ℕ → RecoverError → OpenError

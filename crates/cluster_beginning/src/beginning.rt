@@ -2,6 +2,8 @@
 ghost use Rattle.std.specs.Prelude.{◌≡◌, ◌<◌, ◌≤◌, ◌+◌, ℕ, Bool, false, List, Option, map, vec_len, vec_capacity, slice_index_or, IfOk, IfErr, OnErr};
 ghost use Rattle.std.specs.List.{All};
 ghost use Rattle.clv_base.specs.Shards.{shard_count};
+ghost use Rattle.clv_base.specs.Logs.{stands};
+ghost use Rattle.cluster_turns.specs.Walkers.{founds_of};
 ghost use Rattle.disk_model.specs.Story.{Story};
 ghost use Rattle.disks_opening.specs.Houses.{WentOut};
 ghost use Rattle.disks_opening.specs.Opening.{Refuses, CountsOpen};
@@ -14,8 +16,10 @@ use crate::rooms::take_rooms;
 use cluster_ends::Room;
 use cluster_turns::{Home, Shards, Walker};
 use cluster_undoing::give_back_locks;
+use clv_base::logs::LogRecord;
 use disk_model::House;
 use disks_opening::{Found, OpenError, open_disks};
+use key_map::KeyMap;
 use lock_table::Locks;
 use log_gate::LogGate;
 use machine_calls::Machine;
@@ -23,16 +27,21 @@ use machines_opening::OverDisks;
 use ordered_store::Store;
 use shard_machine::ShardMachine;
 use std::alloc::Global;
+use std::snapshot::Snapshot;
 use turn_laws::{Note, Origin};
 use turn_lock::{Pass, TurnLock};
 use walkers_making::make_walkers;
 
-/// A cluster that has begun: its shards, its walkers, and all memory that its end takes.
+/// A cluster that has begun: its shards, its walkers, all memory that its end takes, and what the logs stand for.
 pub struct Opened<M: Machine> {
     pub shards: Shards<M>,
     /// Walker k stands at k.
     pub walkers: Vec<Walker<M>>,
     pub room: Room<M>,
+    /// The log of each shard as it was found, for contracts alone.
+    pub found: Snapshot<Vec<Vec<LogRecord>>>,
+    /// The map that these stand for.
+    pub pairs: KeyMap,
 }
 
 /// A cluster without its room.
@@ -57,6 +66,7 @@ fn begin<H: House, M: OverDisks<H::Disk>>(
     requires empty { (vec_len locks ≡ 0) × (vec_len passes ≡ 0) }
     requires room { (16 ≤ vec_capacity locks) × (16 ≤ vec_capacity passes) }
     ensures locked { IfOk result (λ b. (c : ℕ → ℕ) (o : ℕ → Bool) (s : ℕ → Option Story) → AreFound M.Gate.is_shut M.Gate.faults M.Gate.shard M.Gate.logs M.story found.splits (map (λ l. l.items) found.logs.items) found.run found.gates.items c (H.faults house.old) o (H.is_out house.old) s (H.story house.old) → AreLocked walkers s b.shards) }
+    ensures founds { IfOk result (λ b. founds_of b.shards ≡ map (λ l. l.items) found.logs.items) }
     ensures walkers { IfOk result (λ b. (vec_len b.walkers ≡ walkers) × ((k : ℕ) (d : _) → k < walkers → IsNewWalker b.shards k first (slice_index_or b.walkers.items k d))) }
     ensures passes { IfOk result (λ b. (vec_len b.passes ≡ vec_len b.shards.locks) × All (λ r. (vec_len r ≡ 0) × (walkers ≤ vec_capacity r)) b.passes.items) }
     ensures out { IfOk result (λ b. (b.shards.splits ≡ found.splits) × ((n : ℕ) → (H.faults house.new n ≡ H.faults house.old n) × (H.is_out house.new n ≡ H.is_out house.old n) × (H.story house.new n ≡ H.story house.old n))) }
@@ -86,6 +96,13 @@ fn begin<H: House, M: OverDisks<H::Disk>>(
     }
 }
 
+// What was found, and the cluster that has begun over it, without its room.
+struct Began<M: Machine> {
+    begun: Begun<M>,
+    found: Snapshot<Vec<Vec<LogRecord>>>,
+    pairs: KeyMap,
+}
+
 // Opens the disks, takes all shards into their locks, and makes so many walkers. An `Err` gives every disk back.
 fn open_and_begin<S: Store + Drop, L: Locks + Drop, H: House>(
     alloc: Global,
@@ -94,19 +111,21 @@ fn open_and_begin<S: Store + Drop, L: Locks + Drop, H: House>(
     first: u64,
     locks: Vec<TurnLock<Home<ShardMachine<S, L, LogGate<H::Disk>>>>>,
     passes: Vec<Vec<Pass<Home<ShardMachine<S, L, LogGate<H::Disk>>>, Note, Origin>>>,
-) -> Result<Begun<ShardMachine<S, L, LogGate<H::Disk>>>, OpenError>
+) -> Result<Began<ShardMachine<S, L, LogGate<H::Disk>>>, OpenError>
     requires inside { (n : ℕ) → n < 16 → H.is_out house.old n ≡ false }
     requires some { (0 < walkers) × (walkers ≤ 65) }
     requires empty { (vec_len locks ≡ 0) × (vec_len passes ≡ 0) }
     requires room { (16 ≤ vec_capacity locks) × (16 ≤ vec_capacity passes) }
-    ensures locked { IfOk result (λ b. AreLocked walkers (H.story house.old) b.shards) }
-    ensures walkers { IfOk result (λ b. (vec_len b.walkers ≡ walkers) × ((k : ℕ) (d : _) → k < walkers → IsNewWalker b.shards k first (slice_index_or b.walkers.items k d))) }
-    ensures passes { IfOk result (λ b. (vec_len b.passes ≡ vec_len b.shards.locks) × All (λ r. (vec_len r ≡ 0) × (walkers ≤ vec_capacity r)) b.passes.items) }
-    ensures out { IfOk result (λ b. WentOut (shard_count b.shards.splits) (H.faults house.old) (H.faults house.new) (H.is_out house.old) (H.is_out house.new) (H.story house.old) (H.story house.new)) }
+    ensures locked { IfOk result (λ b. AreLocked walkers (H.story house.old) b.begun.shards) }
+    ensures founds { IfOk result (λ b. map (λ l. l.items) b.found.value.items ≡ founds_of b.begun.shards) }
+    ensures pairs { IfOk result (λ b. b.pairs ≡ stands (founds_of b.begun.shards)) }
+    ensures walkers { IfOk result (λ b. (vec_len b.begun.walkers ≡ walkers) × ((k : ℕ) (d : _) → k < walkers → IsNewWalker b.begun.shards k first (slice_index_or b.begun.walkers.items k d))) }
+    ensures passes { IfOk result (λ b. (vec_len b.begun.passes ≡ vec_len b.begun.shards.locks) × All (λ r. (vec_len r ≡ 0) × (walkers ≤ vec_capacity r)) b.begun.passes.items) }
+    ensures out { IfOk result (λ b. WentOut (shard_count b.begun.shards.splits) (H.faults house.old) (H.faults house.new) (H.is_out house.old) (H.is_out house.new) (H.story house.old) (H.story house.new)) }
     ensures taken_back { IfErr result (IsTakenBack (H.faults house.old) (H.faults house.new) (H.is_out house.new) (H.story house.old) (H.story house.new)) }
 {
-    let found = match open_disks(alloc, house) {
-        Ok(found) => found,
+    let opened = match open_disks(alloc, house) {
+        Ok(opened) => opened,
         Err(error) => {
             locks.destroy_empty();
             return Err(error);
@@ -117,16 +136,25 @@ fn open_and_begin<S: Store + Drop, L: Locks + Drop, H: House>(
         gates,
         logs,
         run,
-    } = found;
-    let found = Logs {
+        pairs,
+    } = opened;
+    let found = Snapshot::of(&logs);
+    let logs = Logs {
         splits,
         gates,
         logs,
         run,
     };
-    begin::<H, ShardMachine<S, L, LogGate<H::Disk>>>(
-        alloc, house, found, walkers, first, locks, passes,
-    )
+    match begin::<H, ShardMachine<S, L, LogGate<H::Disk>>>(
+        alloc, house, logs, walkers, first, locks, passes,
+    ) {
+        Ok(begun) => Ok(Began {
+            begun,
+            found,
+            pairs,
+        }),
+        Err(error) => Err(error),
+    }
 }
 
 /// Opens a cluster over the disks of a house, with so many walkers beside walker 0, whose clocks begin with `first`: disk by disk in rising
@@ -147,6 +175,8 @@ pub fn open_all<S: Store + Drop, L: Locks + Drop, H: House>(
     // The shards are in their locks, over the logs that the disks held.
     ensures shards { IfOk result (λ o. AreLocked (walkers + 1) (H.story house.old) o.shards) }
     ensures walkers { IfOk result (λ o. (vec_len o.walkers ≡ walkers + 1) × ((k : ℕ) (d : _) → k < walkers + 1 → IsNewWalker o.shards k first (slice_index_or o.walkers.items k d))) }
+    ensures founds { IfOk result (λ o. map (λ l. l.items) o.found.value.items ≡ founds_of o.shards) }
+    ensures pairs { IfOk result (λ o. o.pairs ≡ stands (founds_of o.shards)) }
     ensures room { IfOk result (λ o. HasRoom (vec_len o.shards.locks) (walkers + 1) o.room) }
 
     // The disks of the shards are out, and else the house is as it was.
@@ -166,10 +196,14 @@ pub fn open_all<S: Store + Drop, L: Locks + Drop, H: House>(
         homes,
         journals,
         maps,
-        found,
     } = room;
     match open_and_begin::<S, L, H>(alloc, house, walkers + 1, first, locks, passes) {
-        Ok(begun) => {
+        Ok(began) => {
+            let Began {
+                begun,
+                found,
+                pairs,
+            } = began;
             let Begun {
                 shards,
                 walkers,
@@ -180,12 +214,13 @@ pub fn open_all<S: Store + Drop, L: Locks + Drop, H: House>(
                 homes,
                 journals,
                 maps,
-                found,
             };
             Ok(Opened {
                 shards,
                 walkers,
                 room,
+                found,
+                pairs,
             })
         }
         Err(error) => {

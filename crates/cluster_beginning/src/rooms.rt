@@ -21,7 +21,6 @@ pub(crate) fn take_rooms<M: Machine>(
     let passes = Vec::with_capacity(alloc, SHARDS)?;
     let journals = Vec::with_capacity(alloc, SHARDS)?;
     let maps = Vec::with_capacity(alloc, SHARDS)?;
-    let found = Vec::with_capacity(alloc, SHARDS)?;
     let homes = Vec::with_capacity(alloc, SHARDS)?;
     match Vec::with_capacity(alloc, SHARDS) {
         Ok(locks) => {
@@ -30,7 +29,6 @@ pub(crate) fn take_rooms<M: Machine>(
                 homes,
                 journals,
                 maps,
-                found,
             };
             Ok((room, locks))
         }

@@ -141,12 +141,6 @@ lists_are (x ∷ xs) [] f len same = absurd (omega arith)
 lists_are (x ∷ xs) (y ∷ ys) f len same = ap (λ l. x.items ∷ l) (lists_are xs ys f (omega arith) (λ n d e l. same (suc n) d e (omega arith))) ∙ ap (λ l. l ∷ map f ys) (same 0 x y (omega arith))
 
 -- the logs found, one of each shard
-pub logs_are : (xs : List (Vec LogRecord Global)) (logs : List (List LogRecord)) → length xs ≡ length logs → ((n : ℕ) (d : Vec LogRecord Global) → n < length xs → (get_or xs n d).items ≡ log_of logs n) → lists xs ≡ logs
-logs_are [] [] len same = refl
-logs_are [] (y ∷ ys) len same = absurd (omega arith)
-logs_are (x ∷ xs) [] len same = absurd (omega arith)
-logs_are (x ∷ xs) (y ∷ ys) len same = ap (λ l. x.items ∷ l) (logs_are xs ys (omega arith) (λ n d l. same (suc n) d (omega arith))) ∙ ap (λ l. l ∷ ys) (same 0 x (omega arith))
-
 module _ {X : Type 0} (P : ℕ → X → Type 0) where
   pub pushed_each : (xs : List X) (x : X) (n : ℕ) → length xs ≡ n → ((j : ℕ) (e : X) → j < n → P j (get_or xs j e)) → P n x → (j : ℕ) (e : X) → j < n + 1 → P j (get_or (xs ++ x ∷ []) j e)
   pushed_each xs x n len old new j e l = dite (ℕ_discrete j n)

@@ -52,13 +52,12 @@ pub fn close<H: House, M: OverDisks<H::Disk>>(
     requires fetched { HaveDisks H.Disk.story H.Disk.faults walkers.items fetched.items }
     requires room { HasRoom (vec_len shards.locks) (vec_len walkers) room }
     requires out { (n : ℕ) → n < vec_len shards.locks → H.is_out house.old n ≡ true }
-    ensures len { (vec_len result.ends.value ≡ vec_len shards.locks) × (vec_len result.journals ≡ vec_len shards.locks) × (vec_len result.maps ≡ vec_len shards.locks) × (vec_len result.found ≡ vec_len shards.locks) }
+    ensures len { (vec_len result.ends.value ≡ vec_len shards.locks) × (vec_len result.journals ≡ vec_len shards.locks) × (vec_len result.maps ≡ vec_len shards.locks) }
     ensures shard { (n : ℕ) (d : _) → n < vec_len shards.locks → (M.shard (slice_index_or result.ends.value.items n d).machine).shard ≡ n }
     ensures closed { (n : ℕ) (d : _) → n < vec_len shards.locks → ClosedAt walkers.items n (slice_index_or result.ends.value.items n d).origin (notes_of (M.shard (slice_index_or result.ends.value.items n d).machine).journal (slice_index_or result.ends.value.items n d).marks.items) }
     ensures noted { (n : ℕ) (d : _) → n < vec_len shards.locks → IsLegal (slice_index_or result.ends.value.items n d).origin (notes_of (M.shard (slice_index_or result.ends.value.items n d).machine).journal (slice_index_or result.ends.value.items n d).marks.items) (M.shard (slice_index_or result.ends.value.items n d).machine) }
     ensures journals { lists result.journals.items ≡ map (λ h. (M.shard h.machine).journal) result.ends.value.items }
     ensures maps { (n : ℕ) (d : _) (e : _) → n < vec_len shards.locks → M.Store.records (slice_index_or result.maps.items n d) ≡ (M.shard (slice_index_or result.ends.value.items n e).machine).local.records }
-    ensures founds { lists result.found.items ≡ founds_of shards }
     ensures down { IsLowestDown (λ h. (M.shard h.machine).is_up) result.ends.value.items result.down }
     ensures no_stop { (n : ℕ) (d : _) → n < vec_len shards.locks → never_stops (M.shard (slice_index_or result.ends.value.items n d).machine).journal ≡ true }
 
@@ -76,26 +75,16 @@ pub fn close<H: House, M: OverDisks<H::Disk>>(
         homes,
         journals,
         maps,
-        found,
     } = room;
-    let room = Lists {
-        journals,
-        maps,
-        found,
-    };
+    let room = Lists { journals, maps };
     let homes = cluster_ends::close(shards, walkers, passes, homes);
     let ends = Snapshot::of(&homes);
     let down = lowest_down(homes.as_slice());
-    let Lists {
-        journals,
-        maps,
-        found,
-    } = part_all::<H, M>(house, homes, room);
+    let Lists { journals, maps } = part_all::<H, M>(house, homes, room);
     give_back_held(house, fetched);
     Closed {
         journals,
         maps,
-        found,
         down,
         ends,
     }

@@ -4,13 +4,11 @@ ghost use Rattle.cluster_closing.specs.Closing.{CameFrom, IsLowestDown};
 
 use cluster_turns::Home;
 use clv_base::events::Entry;
-use clv_base::logs::LogRecord;
 use disk_model::House;
 use log_gate::Gate;
 use machine_calls::{Machine, Parts};
 use machines_opening::OverDisks;
 use ordered_store::Store;
-use turn_laws::Origin;
 
 // The lowest shard that is down.
 pub(crate) fn lowest_down<M: Machine>(homes: &[Home<M>]) -> Option<u32>
@@ -25,18 +23,16 @@ pub(crate) fn lowest_down<M: Machine>(homes: &[Home<M>]) -> Option<u32>
     None
 }
 
-// What one shard leaves: its journal, its records, and the log that opening found.
+// What one shard leaves: its journal and its records.
 pub(crate) struct Parted<S> {
     pub(crate) journal: Vec<Entry>,
     pub(crate) map: S,
-    pub(crate) found: Vec<LogRecord>,
 }
 
 // What all shards leave, each in the place of its number.
 pub(crate) struct Lists<S> {
     pub(crate) journals: Vec<Vec<Entry>>,
     pub(crate) maps: Vec<S>,
-    pub(crate) found: Vec<Vec<LogRecord>>,
 }
 
 // Gives the disk of one shard back, out of its gate, where the shard has it.
@@ -52,18 +48,12 @@ fn part_home<H: House, M: OverDisks<H::Disk>>(
     ensures others { (other : ℕ) → other ≢ shard → (H.faults house.new other ≡ H.faults house.old other) × (H.is_out house.new other ≡ H.is_out house.old other) × (H.story house.new other ≡ H.story house.old other) }
     ensures journal { result.journal.items ≡ (M.shard home.machine).journal }
     ensures map { M.Store.records result.map ≡ (M.shard home.machine).local.records }
-    ensures found { result.found ≡ home.origin.found }
 {
     let Home {
         machine,
-        origin,
+        origin: _,
         marks: _,
     } = home;
-    let Origin {
-        shard: _,
-        run: _,
-        found,
-    } = origin;
     let Parts {
         gate,
         store,
@@ -75,7 +65,6 @@ fn part_home<H: House, M: OverDisks<H::Disk>>(
     Parted {
         journal,
         map: store,
-        found,
     }
 }
 
@@ -89,41 +78,28 @@ pub(crate) fn part_all<H: House, M: OverDisks<H::Disk>>(
     requires out { (n : ℕ) → n < vec_len homes → H.is_out house.old n ≡ true }
     requires journals { (vec_len room.journals ≡ 0) × (vec_len homes ≤ vec_capacity room.journals) }
     requires maps { (vec_len room.maps ≡ 0) × (vec_len homes ≤ vec_capacity room.maps) }
-    requires found { (vec_len room.found ≡ 0) × (vec_len homes ≤ vec_capacity room.found) }
     ensures back { (n : ℕ) (d : _) (gate : _) → n < vec_len homes → M.gate (slice_index_or homes.items n d).machine ≡ Some gate → CameFrom (M.Gate.faults gate) (M.Gate.shard gate) (M.Gate.logs gate) (H.faults house.old n) (H.faults house.new n) (H.is_out house.new n) (H.story house.new n) }
     ensures away { (n : ℕ) (d : _) → n < vec_len homes → M.gate (slice_index_or homes.items n d).machine ≡ None → (H.faults house.new n ≡ H.faults house.old n) × (H.is_out house.new n ≡ true) }
     ensures others { (n : ℕ) → vec_len homes ≤ n → (H.faults house.new n ≡ H.faults house.old n) × (H.is_out house.new n ≡ H.is_out house.old n) × (H.story house.new n ≡ H.story house.old n) }
-    ensures len { (vec_len result.journals ≡ vec_len homes) × (vec_len result.maps ≡ vec_len homes) × (vec_len result.found ≡ vec_len homes) }
+    ensures len { (vec_len result.journals ≡ vec_len homes) × (vec_len result.maps ≡ vec_len homes) }
     ensures journals { (n : ℕ) (d : _) (e : _) → n < vec_len homes → (slice_index_or result.journals.items n d).items ≡ (M.shard (slice_index_or homes.items n e).machine).journal }
     ensures maps { (n : ℕ) (d : _) (e : _) → n < vec_len homes → M.Store.records (slice_index_or result.maps.items n d) ≡ (M.shard (slice_index_or homes.items n e).machine).local.records }
-    ensures found { (n : ℕ) (d : _) (e : _) → n < vec_len homes → slice_index_or result.found.items n d ≡ (slice_index_or homes.items n e).origin.found }
 {
     let Lists {
         mut journals,
         mut maps,
-        mut found,
     } = room;
     let mut homes = homes;
     let count = homes.len();
     for i in 0..count {
         let home = homes.pop().unwrap();
         let shard = (count - 1 - i) as u32;
-        let Parted {
-            journal,
-            map,
-            found: log,
-        } = part_home::<H, M>(house, home, shard);
+        let Parted { journal, map } = part_home::<H, M>(house, home, shard);
         journals.push_reserved(journal);
         maps.push_reserved(map);
-        found.push_reserved(log);
     }
     homes.destroy_empty();
     journals.reverse();
     maps.reverse();
-    found.reverse();
-    Lists {
-        journals,
-        maps,
-        found,
-    }
+    Lists { journals, maps }
 }

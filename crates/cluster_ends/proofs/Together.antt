@@ -126,7 +126,7 @@ module _ {M S G : Type 0} where
             let h = get_or homes n d in
             let k = legal n d low in
             let o = origin_is sh vs n (origin h) (notes h) some (omega arith) each (closed n d low) in
-            let begins : start (origin h) ≡ start_of (founds_of sh) n = ap (λ m. opened m (origin h).run (origin h).found.items) o.shard ∙ ap (λ r. opened n r (origin h).found.items) o.run ∙ ap (opened n (run_after (founds_of sh))) o.found in
+            let begins : start (origin h) ≡ start_of (founds_of sh) n = ap (λ m. opened m (origin h).run (origin h).found.value.items) o.shard ∙ ap (λ r. opened n r (origin h).found.value.items) o.run ∙ ap (opened n (run_after (founds_of sh))) o.found in
             let r = notes_are_runs (start (origin h)) None (map told (notes h)) k.may in
             let es : entries_in (notes h) ≡ journal_at (map (λ x. (state x).journal) homes) n = sym k.entries ∙ sym (map_at (λ x. (state x).journal) homes n d low) in
             let st : state_of (origin h) (notes h) ≡ state_at state (founds_of sh) homes n = sym k.is ∙ sym (state_here state (founds_of sh) homes n d low) in

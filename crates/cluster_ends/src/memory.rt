@@ -2,7 +2,6 @@
 
 use cluster_turns::Home;
 use clv_base::events::Entry;
-use clv_base::logs::LogRecord;
 use machine_calls::Machine;
 use turn_laws::{Note, Origin};
 use turn_lock::Pass;
@@ -14,5 +13,4 @@ pub struct Room<M: Machine> {
     pub homes: Vec<Home<M>>,
     pub journals: Vec<Vec<Entry>>,
     pub maps: Vec<M::Store>,
-    pub found: Vec<Vec<LogRecord>>,
 }

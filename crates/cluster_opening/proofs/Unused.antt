@@ -43,10 +43,10 @@ module _ {T : Type 0} (lock : TurnLock T Note Origin) (o : Origin) (passes : Lis
       by w (inr h) = others w (λ k d l is. absurd (let n = new k d l in let e = n.2 in omega arith))
 
 module _ {G : Type 0} (shut : G → Bool) (faults whose : G → ℕ) (logs : G → Option (List LogRecord) → Type 0) where
-  by_gate : (o : Origin) (s : Shard) → s ≡ start o → (gate : Option G) → GateStands shut faults whose logs (start o) None gate → IsMachineAt shut faults whose logs o.shard o.found.items o.run s gate
+  by_gate : (o : Origin) (s : Shard) → s ≡ start o → (gate : Option G) → GateStands shut faults whose logs (start o) None gate → IsMachineAt shut faults whose logs o.shard o.found.value.items o.run s gate
   by_gate o s same None h = absurd (let k : false ≡ true = h in cc)
   by_gate o s same (Some g) h =
-      let log = log_after_restart o.shard o.found.items o.run 0 in
+      let log = log_after_restart o.shard o.found.value.items o.run 0 in
       record {
         state = same;
         home = g;
@@ -58,7 +58,7 @@ module _ {G : Type 0} (shut : G → Bool) (faults whose : G → ℕ) (logs : G �
       }
 
   -- its machine is as recovery made it
-  pub unused : (o : Origin) (marks : List Mark) (capacity : ℕ) (s : Shard) (gate : Option G) → IsSound shut faults whose logs o marks capacity s gate → notes_of s.journal marks ≡ [] → IsMachineAt shut faults whose logs o.shard o.found.items o.run s gate
+  pub unused : (o : Origin) (marks : List Mark) (capacity : ℕ) (s : Shard) (gate : Option G) → IsSound shut faults whose logs o marks capacity s gate → notes_of s.journal marks ≡ [] → IsMachineAt shut faults whose logs o.shard o.found.value.items o.run s gate
   unused o marks capacity s gate sound none =
       let same : s ≡ start o = (sound.legal).is ∙ ap (state_of o) none in
       by_gate o s same gate
@@ -69,12 +69,12 @@ pub same_origin : (o p : Origin) (v : Option Origin) → v ≡ Some o → v ≡ 
 same_origin o p v a b = let k : ◌≡◌ {A = Option Origin} (Some p) (Some o) = sym b ∙ a in cc
 
 module _ {G : Type 0} (shut : G → Bool) (faults whose : G → ℕ) (logs : G → Option (List LogRecord) → Type 0) where
-  pub by_origin : (o p : Origin) (n run : ℕ) (found : List LogRecord) (s : Shard) (gate : Option G) → p ≡ o → o.shard ≡ n → o.run ≡ run → o.found.items ≡ found → IsMachineAt shut faults whose logs p.shard p.found.items p.run s gate
+  pub by_origin : (o p : Origin) (n run : ℕ) (found : List LogRecord) (s : Shard) (gate : Option G) → p ≡ o → o.shard ≡ n → o.run ≡ run → o.found.value.items ≡ found → IsMachineAt shut faults whose logs p.shard p.found.value.items p.run s gate
       → IsMachineAt shut faults whose logs n found run s gate
   by_origin o p n run found s gate same a b c m =
       subst (λ z. IsMachineAt shut faults whose logs z found run s gate) a
       (subst (λ z. IsMachineAt shut faults whose logs o.shard found z s gate) b
-      (subst (λ z. IsMachineAt shut faults whose logs o.shard z o.run s gate) c (subst (λ (z : Origin). IsMachineAt shut faults whose logs z.shard z.found.items z.run s gate) same m)))
+      (subst (λ z. IsMachineAt shut faults whose logs o.shard z o.run s gate) c (subst (λ (z : Origin). IsMachineAt shut faults whose logs z.shard z.found.value.items z.run s gate) same m)))
 
 pub gate_there : {G : Type 0} (gate : Option G) (g : G) → gate ≡ Some g → IsSome gate
 gate_there gate g is = ap is_some is

@@ -18,16 +18,16 @@ module _ {G : Type 0} (shut : G → Bool) (faults whose : G → ℕ) (logs : G �
     pub is_open : shut home ≡ false
     pub fine : faults home ≡ 0
     pub own : whose home ≡ o.shard
-    pub log : Only (log_after_restart o.shard o.found.items o.run 0) (logs home)
+    pub log : Only (log_after_restart o.shard o.found.value.items o.run 0) (logs home)
 
 -- what never changes of a shard of this number that found this log for this run
 pub record IsOriginOf (n run : ℕ) (found : List LogRecord) (o : Origin) : Type 0 where
   pub shard_is : o.shard ≡ n
   pub run_is : o.run ≡ run
-  pub found_is : o.found.items ≡ found
+  pub found_is : o.found.value.items ≡ found
 
 -- before a shard's first note its machine is as recovery made it, with its gate: each log that this may have is the one found with all that a restart adds
 abbrev pub RestartsAreDurable : {G : Type 0} → (G → Bool) → (G → ℕ) → (G → ℕ) → (G → Option (List LogRecord) → Type 0) → Type 0
 RestartsAreDurable {G} shut faults whose logs =
     (o : Origin) (marks : List Mark) (capacity : ℕ) (s : Shard) (gate : Option G) → IsSound shut faults whose logs o marks capacity s gate → notes_of s.journal marks ≡ []
-    → IsMachineAt shut faults whose logs o.shard o.found.items o.run s gate
+    → IsMachineAt shut faults whose logs o.shard o.found.value.items o.run s gate

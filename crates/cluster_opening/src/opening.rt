@@ -14,10 +14,10 @@ use cluster_turns::Home;
 use clv_base::logs::LogRecord;
 use disk_model::Disk;
 use gate_recovery::RecoverError;
-use log_copies::copy_log;
 use log_gate::Gate;
 use machines_opening::{OverDisks, recover_shard, take_apart};
 use std::alloc::Global;
+use std::snapshot::Snapshot;
 use turn_laws::{Note, Origin};
 use turn_lock::{Pass, TurnLock};
 
@@ -43,9 +43,7 @@ pub fn open_shard<D: Disk, M: OverDisks<D>>(
     ensures left { IfErr result (λ e. IsLeft shard log.items run (M.story gate) (D.story e.1)) }
     ensures cause { IfErr result (λ e. CountsLeft 0 (D.faults e.1) e.0) }
 {
-    let Ok(found) = copy_log(alloc, &log) else {
-        return Err((RecoverError::Memory, M::disk_under(gate)));
-    };
+    let found = Snapshot::of(&log);
     let machine: M = match recover_shard(alloc, gate, log, shard, run) {
         Ok(machine) => machine,
         Err(error) => return Err(error),

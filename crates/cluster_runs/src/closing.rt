@@ -2,6 +2,7 @@
 ghost use Rattle.std.specs.Prelude.{◌≡◌, ◌<◌, ℕ, true, length, slice_index_or, vec_len};
 ghost use Rattle.std.specs.List.{All};
 ghost use Rattle.turn_lock.specs.Passes.{passes_of};
+ghost use Rattle.cluster_turns.specs.Walkers.{founds_of};
 ghost use Rattle.cluster_ends.specs.Legal.{AreShards};
 ghost use Rattle.cluster_ends.specs.Room.{HasRoom};
 ghost use Rattle.cluster_closing.specs.Closing.{lists};
@@ -29,7 +30,7 @@ pub(crate) fn close_run<H: House, M: OverDisks<H::Disk>>(
     requires all { All (λ l. passes_of l ≡ vec_len walkers) shards.locks.items }
     requires room { HasRoom (vec_len shards.locks) (vec_len walkers) room }
     requires out { (n : ℕ) → n < vec_len shards.locks → H.is_out house.old n ≡ true }
-    ensures closed { IsClosed H.Disk (λ m. M.shard m) shards walkers.items result.ends.value.items (record { journals = lists result.journals.items; found = lists result.found.items }) result.down (H.faults house.old) (H.faults house.new) (H.is_out house.old) (H.is_out house.new) (H.story house.old) (H.story house.new) }
+    ensures closed { IsClosed H.Disk (λ m. M.shard m) shards walkers.items result.ends.value.items (record { journals = lists result.journals.items; found = founds_of shards }) result.down (H.faults house.old) (H.faults house.new) (H.is_out house.old) (H.is_out house.new) (H.story house.old) (H.story house.new) }
     ensures len { (vec_len result.journals ≡ vec_len shards.locks) × (vec_len result.maps ≡ vec_len shards.locks) }
 {
     close(house, shards, walkers, Vec::new(alloc), room)

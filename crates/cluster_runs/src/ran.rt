@@ -1,6 +1,7 @@
 // What a run leaves.
 
 use history_replay::History;
+use key_map::KeyMap;
 use run_status::Status;
 
 /// A run that opened its shards, and closed them.
@@ -8,6 +9,8 @@ use run_status::Status;
 pub struct Ran<S> {
     /// What all shards did, from the logs that were found.
     pub history: History,
+    /// What the logs that were found stand for.
+    pub pairs: KeyMap,
     /// The store of each shard, as it was last.
     pub maps: Vec<S>,
     pub status: Status,

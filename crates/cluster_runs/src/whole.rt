@@ -1,6 +1,7 @@
 // A run, from the disks to the disks.
 ghost use Rattle.std.specs.Prelude.{◌≡◌, ◌<◌, ◌≤◌, ℕ, true, false, length, IfOk, IfErr};
 ghost use Rattle.std.specs.List.{list_all};
+ghost use Rattle.clv_base.specs.Logs.{stands};
 ghost use Rattle.script_lang.specs.Laws.{is_narrow_body};
 ghost use Rattle.disks_opening.specs.Opening.{Refuses, CountsOpen};
 ghost use Rattle.cluster_beginning.specs.Begun.{LeavesDisks};
@@ -54,6 +55,7 @@ where
     requires few { length sessions.now ≤ 64 }
     requires narrow { list_all (list_all is_narrow_body) sessions.now ≡ true }
     ensures ran { IfOk result (λ r. RanAll (H.story house.old) (H.story house.new) (H.faults house.old) (H.faults house.new) most sessions.now r.history r.status) }
+    ensures pairs { IfOk result (λ r. r.pairs ≡ stands r.history.found) }
     ensures back { (n : ℕ) → n < 16 → H.is_out house.new n ≡ false }
     ensures refused { IfErr result (Refuses (H.story house.old)) }
     ensures counts { IfErr result (CountsOpen (H.faults house.old) (H.faults house.new)) }
@@ -68,6 +70,8 @@ where
         shards,
         mut walkers,
         room,
+        found,
+        pairs,
     } = opened;
     let end = run_over(
         rt,
@@ -85,12 +89,12 @@ where
     let Closed {
         journals,
         maps,
-        found,
         down,
         ends: _,
     } = closed;
     Ok(Ran {
         history: History::new(journals, found),
+        pairs,
         maps,
         status: running_status(down, end),
     })

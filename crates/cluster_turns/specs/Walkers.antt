@@ -33,7 +33,7 @@ use Rattle.cluster_turns.specs.Turns.{Turned}
 pub record IsOriginAt (founds : List (List LogRecord)) (n : ℕ) (o : Origin) : Type 0 where
   pub shard : o.shard ≡ n
   pub run : o.run ≡ run_after founds
-  pub found : o.found.items ≡ log_of founds n
+  pub found : o.found.value.items ≡ log_of founds n
 
 -- after the walker's entries its session goes on by the event, whatever comes of it; the walker may make it, and what it delivers it sent
 pub record GoesOn (splits : List ℕ) (run w : ℕ) (es : History) (n : ℕ) (e : Event) : Type 0 where

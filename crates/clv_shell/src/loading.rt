@@ -3,6 +3,7 @@
 ghost use Rattle.std.specs.Prelude.{◌≡◌, ◌<◌, ◌≤◌, ◌+◌, ◌*◌, ◌^◌, ℕ, Some, None, false, true, length, IfSome, IfOk, IfErr};
 ghost use Rattle.std.specs.List.{list_all};
 ghost use Rattle.acknowledged_replay.specs.Replayed.{replayed as after_all};
+ghost use Rattle.clv_base.specs.Logs.{stands};
 ghost use Rattle.command_words.specs.declared.commands.Command.TheVariants as commands;
 ghost use Rattle.report_text.specs.Loads.{values_sum};
 ghost use Rattle.report_text.specs.Sinks.{TakesText, Causes};
@@ -21,6 +22,7 @@ use disk_model::House;
 use disks_opening::OpenError;
 use history_replay::{History, Memory};
 use io_edge::{Pace, Sink, write_all};
+use key_map::KeyMap;
 use lock_index::HashedLocks;
 use replay_laws::laws::runs_replay;
 use report_text::{ReportError, load_text};
@@ -78,12 +80,18 @@ fn total(pairs: &[(u64, u64)]) -> Option<u64>
 
 // What the accounts hold after the acknowledged transactions, in all. Transfers leave it at 1000 for each account, but no clause says so: a sum that has no
 // room in 64 bits is told as want of memory.
-fn accounts_sum(alloc: Global, history: &History, accounts: u64) -> Result<u64, Memory>
+fn accounts_sum(
+    alloc: Global,
+    history: &History,
+    found: KeyMap,
+    accounts: u64,
+) -> Result<u64, Memory>
+    requires found { found ≡ stands history.now.found }
     requires few { length history.now.journals < 2 ^ 32 }
     requires some { 1 ≤ accounts }
     ensures { IfOk result (λ sum. sum ≡ sum_of accounts (after_all history.now)) }
 {
-    let pairs = replayed(alloc, history)?.between(alloc, 0, accounts - 1)?;
+    let pairs = replayed(alloc, history, found)?.between(alloc, 0, accounts - 1)?;
     match total(&pairs) {
         Some(sum) => Ok(sum),
         None => Err(AllocError),
@@ -91,14 +99,15 @@ fn accounts_sum(alloc: Global, history: &History, accounts: u64) -> Result<u64, 
 }
 
 // The line of a workload whose transactions were all acknowledged, as bytes.
-fn text_of(alloc: Global, history: &History, work: Work) -> Result<Vec<u8>, Memory>
+fn text_of(alloc: Global, history: &History, found: KeyMap, work: Work) -> Result<Vec<u8>, Memory>
+    requires found { found ≡ stands history.now.found }
     requires few { length history.now.journals < 2 ^ 32 }
     requires sessions { work.sessions ≤ 64 }
     requires accounts { 2 ≤ work.accounts }
     requires transfers { work.transfers ≤ 1000 }
     ensures { IfOk result (λ text. text.items ≡ line_of work.sessions work.accounts work.transfers history.now) }
 {
-    let sum = accounts_sum(alloc, history, work.accounts)?;
+    let sum = accounts_sum(alloc, history, found, work.accounts)?;
     let acknowledged = 1 + work.sessions * work.transfers;
     load_text(alloc, work.accounts, acknowledged, sum)
 }
@@ -107,9 +116,11 @@ fn text_of(alloc: Global, history: &History, work: Work) -> Result<Vec<u8>, Memo
 fn line_into<K: Sink>(
     alloc: Global,
     history: &History,
+    found: KeyMap,
     work: Work,
     sink: &mut K,
 ) -> Result<(), ReportError>
+    requires found { found ≡ stands history.now.found }
     requires few { length history.now.journals < 2 ^ 32 }
     requires sessions { work.sessions ≤ 64 }
     requires accounts { 2 ≤ work.accounts }
@@ -117,7 +128,7 @@ fn line_into<K: Sink>(
     ensures took { TakesText (K.taken sink.old) (K.taken sink.new) (line_of work.sessions work.accounts work.transfers history.now) result }
     ensures cause { Causes (K.faults sink.old) (K.faults sink.new) result }
 {
-    let Ok(text) = text_of(alloc, history, work) else {
+    let Ok(text) = text_of(alloc, history, found, work) else {
         return Err(ReportError::Memory);
     };
     match write_all(sink, &text) {
@@ -130,10 +141,12 @@ fn line_into<K: Sink>(
 fn write_line<K: Sink>(
     alloc: Global,
     history: &History,
+    found: KeyMap,
     work: Work,
     running: Status,
     sink: &mut K,
 ) -> Status
+    requires found { found ≡ stands history.now.found }
     requires few { length history.now.journals < 2 ^ 32 }
     requires sessions { work.sessions ≤ 64 }
     requires accounts { 2 ≤ work.accounts }
@@ -144,7 +157,7 @@ fn write_line<K: Sink>(
     ensures cause { CountsSink (Some history.now) (K.faults sink.old) (K.faults sink.new) result }
 {
     match running {
-        Status::Fine => after_text(running, line_into(alloc, history, work, sink)),
+        Status::Fine => after_text(running, line_into(alloc, history, found, work, sink)),
         other => other,
     }
 }
@@ -193,7 +206,7 @@ where
     );
     match ran {
         Ok(ran) => Ended {
-            status: write_line(alloc, &ran.history, work, ran.status, sink),
+            status: write_line(alloc, &ran.history, ran.pairs, work, ran.status, sink),
             history: Some(ran.history),
         },
         Err(error) => Ended {

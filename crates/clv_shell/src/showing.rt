@@ -15,8 +15,9 @@ use crate::ended::Ended;
 use cluster_runs::{Ran, Start, run_script};
 use disk_model::House;
 use disks_opening::OpenError;
-use history_replay::{History, Memory, stands};
+use history_replay::History;
 use io_edge::{Pace, Sink, write_all};
+use key_map::KeyMap;
 use lock_index::HashedLocks;
 use report_text::{ReportError, pairs_text};
 use run_status::{Status, after_text};
@@ -25,20 +26,12 @@ use std::sync::Wait;
 use std::thread::Threads;
 use store_blocks::BlockStore;
 
-// The pairs that the logs found stand for, as bytes.
-fn text_of(alloc: Global, history: &History) -> Result<Vec<u8>, Memory>
-    ensures { IfOk result (λ text. text.items ≡ text_of_pairs (stands_for history.now.found)) }
-{
-    let pairs = stands(alloc, history.found())?;
-    pairs_text(alloc, &pairs)
-}
-
-// Writes them.
-fn pairs_into<K: Sink>(alloc: Global, history: &History, sink: &mut K) -> Result<(), ReportError>
-    ensures took { TakesText (K.taken sink.old) (K.taken sink.new) (text_of_pairs (stands_for history.now.found)) result }
+// Writes the pairs.
+fn pairs_into<K: Sink>(alloc: Global, pairs: &KeyMap, sink: &mut K) -> Result<(), ReportError>
+    ensures took { TakesText (K.taken sink.old) (K.taken sink.new) (text_of_pairs pairs.now) result }
     ensures cause { Causes (K.faults sink.old) (K.faults sink.new) result }
 {
-    let Ok(text) = text_of(alloc, history) else {
+    let Ok(text) = pairs_text(alloc, pairs) else {
         return Err(ReportError::Memory);
     };
     match write_all(sink, &text) {
@@ -47,15 +40,22 @@ fn pairs_into<K: Sink>(alloc: Global, history: &History, sink: &mut K) -> Result
     }
 }
 
-// Writes them where all was fine so far, and tells how the program ends.
-fn write_pairs<K: Sink>(alloc: Global, history: &History, running: Status, sink: &mut K) -> Status
+// Writes the pairs that the logs found stand for, where all was fine so far, and tells how the program ends.
+fn write_pairs<K: Sink>(
+    alloc: Global,
+    history: &History,
+    pairs: &KeyMap,
+    running: Status,
+    sink: &mut K,
+) -> Status
+    requires found { pairs.now ≡ stands_for history.now.found }
     requires running { IsOfShards running }
     ensures ends { EndsAs running result }
     ensures took { TookPairs (text_of_pairs (stands_for history.now.found)) result (K.taken sink.old) (K.taken sink.new) }
     ensures cause { CountsSink (Some history.now) (K.faults sink.old) (K.faults sink.new) result }
 {
     match running {
-        Status::Fine => after_text(running, pairs_into(alloc, history, sink)),
+        Status::Fine => after_text(running, pairs_into(alloc, pairs, sink)),
         other => other,
     }
 }
@@ -92,7 +92,7 @@ where
     );
     match ran {
         Ok(ran) => Ended {
-            status: write_pairs(alloc, &ran.history, ran.status, sink),
+            status: write_pairs(alloc, &ran.history, &ran.pairs, ran.status, sink),
             history: Some(ran.history),
         },
         Err(error) => Ended {

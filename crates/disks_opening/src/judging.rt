@@ -2,11 +2,14 @@
 
 ghost use Rattle.std.specs.Prelude.{◌≡◌, ◌<◌, ◌^◌, None, map, IfOk, IfErr, MatchOption};
 ghost use Rattle.clv_base.specs.LogRules.{apart as first_apart};
+ghost use Rattle.clv_base.specs.Logs.{stands as stands_for};
 ghost use Rattle.clv_base.specs.Restarts.{greatest_run, run_after};
 ghost use Rattle.disks_opening.specs.Judging.{FaultsOfAll};
 
 use crate::error::OpenError;
 use clv_base::logs::LogRecord;
+use history_replay::stands;
+use key_map::KeyMap;
 use logs_apart::apart;
 use std::alloc::Global;
 
@@ -37,17 +40,21 @@ fn next_run(logs: &[Vec<LogRecord>]) -> Option<u32>
     most.checked_add(1)
 }
 
-// The next run, where the logs agree; or why there is none.
-pub(crate) fn judge_all(alloc: Global, logs: &[Vec<LogRecord>]) -> Result<u32, OpenError>
-    ensures run { IfOk result (λ run. (run ≡ run_after (map (λ l. l.items) logs.now)) × (run < 2 ^ 32)) }
-    ensures agree { IfOk result (λ run. first_apart (map (λ l. l.items) logs.now) ≡ None) }
+// The next run and what the logs stand for, where they agree; or why there is none.
+pub(crate) fn judge_all(alloc: Global, logs: &[Vec<LogRecord>]) -> Result<(u32, KeyMap), OpenError>
+    ensures run { IfOk result (λ r. (r.0 ≡ run_after (map (λ l. l.items) logs.now)) × (r.0 < 2 ^ 32)) }
+    ensures agree { IfOk result (λ r. first_apart (map (λ l. l.items) logs.now) ≡ None) }
+    ensures pairs { IfOk result (λ r. r.1 ≡ stands_for (map (λ l. l.items) logs.now)) }
     ensures fault { IfErr result (FaultsOfAll (map (λ l. l.items) logs.now)) }
 {
     if let Some(tx) = apart(alloc, logs)? {
         return Err(OpenError::Apart { tx });
     }
     match next_run(logs) {
-        Some(run) => Ok(run),
+        Some(run) => {
+            let pairs = stands(alloc, logs)?;
+            Ok((run, pairs))
+        }
         None => Err(OpenError::Worn { at: RUNS_END }),
     }
 }

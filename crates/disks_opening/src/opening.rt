@@ -2,6 +2,7 @@
 
 ghost use Rattle.std.specs.Prelude.{◌≡◌, ◌<◌, ◌≤◌, ℕ, false, [], map, length, vec_capacity, IfOk, IfErr, OnErr};
 ghost use Rattle.clv_base.specs.Shards.{shard_count};
+ghost use Rattle.clv_base.specs.Logs.{stands as stands_for};
 ghost use Rattle.disk_model.specs.Disk.{Tells};
 ghost use Rattle.log_gate.specs.Opening.{IsUnchanged};
 ghost use Rattle.disks_opening.specs.Logs.{IsFound};
@@ -15,6 +16,7 @@ use crate::judging::judge_all;
 use clv_base::logs::LogRecord;
 use clv_base::splits::Splits;
 use disk_model::{Disk, House};
+use key_map::KeyMap;
 use log_gate::{Header, LogGate};
 use std::alloc::Global;
 
@@ -32,6 +34,8 @@ pub struct Found<D: Disk> {
     pub logs: Vec<Vec<LogRecord>>,
     /// The run that goes on from all logs.
     pub run: u32,
+    /// The map that the logs stand for.
+    pub pairs: KeyMap,
 }
 
 // Opens disk by disk, and puts the gates and logs into what has room for them. After an `Err` the disks of the gates are still out.
@@ -73,11 +77,12 @@ fn open_and_judge<H: House>(
     house: &mut H,
     gates: &mut Vec<LogGate<H::Disk>>,
     logs: &mut Vec<Vec<LogRecord>>,
-) -> Result<(Splits, u32), OpenError>
+) -> Result<(Splits, u32, KeyMap), OpenError>
     requires inside { (n : ℕ) → n < 16 → H.is_out house.old n ≡ false }
     requires empty { (gates.old.items ≡ []) × (logs.old.items ≡ []) }
     requires room { (16 ≤ vec_capacity gates.old) × (16 ≤ vec_capacity logs.old) }
     ensures found { IfOk result (λ r. IsFound r.0 (map (λ l. l.items) logs.new.items) r.1 gates.new.items (H.story house.old)) }
+    ensures pairs { IfOk result (λ r. r.2 ≡ stands_for (map (λ l. l.items) logs.new.items)) }
     ensures out { IfOk result (λ r. WentOut (shard_count r.0) (H.faults house.old) (H.faults house.new) (H.is_out house.old) (H.is_out house.new) (H.story house.old) (H.story house.new)) }
     ensures stopped { IfErr result (IsStopped gates.new.items (H.faults house.old) (H.faults house.new) (H.is_out house.new) (H.story house.old) (H.story house.new)) }
 {
@@ -86,9 +91,9 @@ fn open_and_judge<H: House>(
         Err(error) => return Err(error),
     };
     match judge_all(alloc, logs) {
-        Ok(run) => {
+        Ok((run, pairs)) => {
             let Header { shard: _, splits } = header;
-            Ok((splits, run))
+            Ok((splits, run, pairs))
         }
         Err(error) => Err(error),
     }
@@ -103,6 +108,7 @@ pub fn open_disks<H: House>(alloc: Global, house: &mut H) -> Result<Found<H::Dis
 
     // The gate of each shard is open over its disk, whose log is the one found; the logs may be opened together.
     ensures found { IfOk result (λ f. IsFound f.splits (map (λ l. l.items) f.logs.items) f.run f.gates.items (H.story house.old)) }
+    ensures pairs { IfOk result (λ f. f.pairs ≡ stands_for (map (λ l. l.items) f.logs.items)) }
     ensures out { IfOk result (λ f. WentOut (shard_count f.splits) (H.faults house.old) (H.faults house.new) (H.is_out house.old) (H.is_out house.new) (H.story house.old) (H.story house.new)) }
 
     // Where the disks are refused.
@@ -118,11 +124,12 @@ pub fn open_disks<H: House>(alloc: Global, house: &mut H) -> Result<Found<H::Dis
         return Err(OpenError::Memory);
     };
     match open_and_judge(alloc, house, &mut gates, &mut logs) {
-        Ok((splits, run)) => Ok(Found {
+        Ok((splits, run, pairs)) => Ok(Found {
             splits,
             gates,
             logs,
             run,
+            pairs,
         }),
         Err(error) => {
             give_back_all(house, gates);

@@ -5,12 +5,13 @@ ghost use Rattle.std.specs.Prelude.{◌≡◌, map};
 use clv_base::events::Entry;
 use clv_base::logs::LogRecord;
 use std::marker::Model;
+use std::snapshot::Snapshot;
 
-/// The journal of each shard, and each shard's log as opening found it.
+/// The journal of each shard, and, for contracts alone, each shard's log as opening found it.
 #[derive(Drop)]
 pub struct History {
     journals: Vec<Vec<Entry>>,
-    found: Vec<Vec<LogRecord>>,
+    found: Snapshot<Vec<Vec<LogRecord>>>,
 }
 
 impl Model for History {
@@ -19,14 +20,14 @@ impl Model for History {
 
     ghost Value = { Kept };
 
-    ghost view = { λ h. record { journals = map (λ j. j.items) h.journals.items; found = map (λ l. l.items) h.found.items } };
+    ghost view = { λ h. record { journals = map (λ j. j.items) h.journals.items; found = map (λ l. l.items) h.found.value.items } };
 }
 
 impl History {
     /// The history of these journals and logs, one of each for each shard, from shard 0. Takes no memory.
-    pub fn new(journals: Vec<Vec<Entry>>, found: Vec<Vec<LogRecord>>) -> Self
+    pub fn new(journals: Vec<Vec<Entry>>, found: Snapshot<Vec<Vec<LogRecord>>>) -> Self
         ensures journals { result.journals ≡ map (λ j. j.items) journals.items }
-        ensures found { result.found ≡ map (λ l. l.items) found.items }
+        ensures found { result.found ≡ map (λ l. l.items) found.value.items }
     {
         History { journals, found }
     }
@@ -36,12 +37,5 @@ impl History {
         ensures { map (λ j. j.items) result.now ≡ self.now.journals }
     {
         self.journals.as_slice()
-    }
-
-    /// The logs of the shards as opening found them, from shard 0.
-    pub fn found(&self) -> &[Vec<LogRecord>]
-        ensures { map (λ l. l.items) result.now ≡ self.now.found }
-    {
-        self.found.as_slice()
     }
 }

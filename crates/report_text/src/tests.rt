@@ -12,6 +12,7 @@ use history_replay::History;
 use io_edge::MemorySink;
 use key_map::KeyMap;
 use std::alloc::{AllocError, Global};
+use std::snapshot::Snapshot;
 use std::test::Fail;
 
 fn named(session: u32, serial: u64) -> TxId {
@@ -75,7 +76,7 @@ fn history_of(alloc: Global, journal: Vec<Entry>) -> Result<History, AllocError>
 {
     let journals = vec![in alloc; journal]?;
     let found = vec![in alloc; Vec::new(alloc)]?;
-    Ok(History::new(journals, found))
+    Ok(History::new(journals, Snapshot::of(&found)))
 }
 
 fn one_put(alloc: Global) -> Result<History, AllocError>
@@ -216,7 +217,7 @@ fn the_shards_are_reported_together(rt: HostRuntime) -> Result<(), Fail> {
         ),
     ]?;
     let journals = vec![in alloc; first, second]?;
-    let history = History::new(journals, Vec::new(alloc));
+    let history = History::new(journals, Snapshot::of(&Vec::new(alloc)));
     assert!(rt; history.journals().len() < 16);
     let text = report(alloc, &history)?;
     let want =

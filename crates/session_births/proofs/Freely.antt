@@ -159,5 +159,5 @@ module _ {T : Type 0} where
       let run = notes_are_runs (start o) None (map told (seen p)) legal.may in
       let named : all_named (entries_in (seen p)) ≡ true = ap all_named (sym legal.entries) ∙ legal.named in
       let mine : by_walker birth.session (entries_in (seen p)) ≡ entries_in (Rattle.turn_lock.specs.Passes.own p) = ap (λ v. by_walker v (entries_in (seen p))) own ∙ by_notes w (seen p) ∙ ap entries_in (sym i.own_seen) in
-      ap not (new_births_are_free o.shard o.run o.found.items (entries_in (seen p)) (state_of o (seen p)) tx birth run (all_bear (entries_in (seen p)) named)
+      ap not (new_births_are_free o.shard o.run o.found.value.items (entries_in (seen p)) (state_of o (seen p)) tx birth run (all_bear (entries_in (seen p)) named)
       (subst (λ es. AllByRecursion (λ e. LeavesBirth tx birth e.event) es) (sym mine) (old_leaves tx birth clock l (entries_in (Rattle.turn_lock.specs.Passes.own p)) i.born)))

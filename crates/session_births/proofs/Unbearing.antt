@@ -144,8 +144,8 @@ known_in : (g : Origin) (notes : List Note) (s : Shard) → IsLegal g notes s �
 known_in g notes s l =
     let run = notes_are_runs (start g) None (map told notes) l.may in
     subst Known (sym l.is) (record {
-      found = runs_find_active g.shard g.run g.found.items (entries_in notes) (state_of g notes) run;
-      dropped = λ tx h is d. dropped_inactive g.shard g.run g.found.items (entries_in notes) (state_of g notes) tx h run is d;
+      found = runs_find_active g.shard g.run g.found.value.items (entries_in notes) (state_of g notes) run;
+      dropped = λ tx h is d. dropped_inactive g.shard g.run g.found.value.items (entries_in notes) (state_of g notes) tx h run is d;
     })
 
 none_active : {x : Option Stage} → x ≡ None → x ≢ Some Active

@@ -10,9 +10,9 @@ use Rattle.turn_laws.specs.Homes.{start}
 use Rattle.turn_laws.specs.Sound.{IsSound}
 
 module _ {G : Type 0} (shut : G → Bool) (faults whose : G → ℕ) (logs : G → Option (List LogRecord) → Type 0) where
-  pub sound_opened : (o : Origin) (capacity : ℕ) (g : G) → 0 < capacity → shut g ≡ false → faults g ≡ 0 → whose g ≡ o.shard → Only (log_after_restart o.shard o.found.items o.run 0) (logs g) → IsSound shut faults whose logs o [] capacity (start o) (Some g)
+  pub sound_opened : (o : Origin) (capacity : ℕ) (g : G) → 0 < capacity → shut g ≡ false → faults g ≡ 0 → whose g ≡ o.shard → Only (log_after_restart o.shard o.found.value.items o.run 0) (logs g) → IsSound shut faults whose logs o [] capacity (start o) (Some g)
   sound_opened o capacity g room isnt_shut fine own only =
-      let log = log_after_restart o.shard o.found.items o.run 0 in
+      let log = log_after_restart o.shard o.found.value.items o.run 0 in
       record {
         marked = tt;
         legal = record { may = tt; is = refl; entries = refl; own_ends = refl; named = refl };

@@ -29,7 +29,7 @@ use Rattle.turn_laws.proofs.Calm.{is_flush_out, Calm, does_calm, does_keep, Flie
 -- what is durable and what flies is in the log
 pub legal_counted : (o : Origin) (notes : List Note) (s : Shard) → IsLegal o notes s → Counted s
 legal_counted o notes s l =
-    subst Counted (sym l.is) (fronts_run (start o) _ (state_of o notes) (opened_counted o.shard o.run o.found.items) (notes_are_runs (start o) None _ l.may)).counted
+    subst Counted (sym l.is) (fronts_run (start o) _ (state_of o notes) (opened_counted o.shard o.run o.found.value.items) (notes_are_runs (start o) None _ l.may)).counted
 
 pub counted_same : (xs ys : List Entry) (faults : ℕ) → has_failed ys ≡ has_failed xs → IsCounted xs faults → IsCounted ys faults
 counted_same xs ys faults e c = record { some = λ h. c.some (sym e ∙ h); none = λ h. c.none (sym e ∙ h) }
@@ -169,12 +169,12 @@ module _ {G : Type 0} (shut : G → Bool) (faults whose : G → ℕ) (logs : G �
 
 -- the shard and the run stay
 pub legal_shard : (o : Origin) (notes : List Note) (s : Shard) → IsLegal o notes s → s.shard ≡ o.shard
-legal_shard o notes s l = ap (λ u. u.shard) l.is ∙ (fronts_run (start o) _ (state_of o notes) (opened_counted o.shard o.run o.found.items) (notes_are_runs (start o) None _ l.may)).shard
+legal_shard o notes s l = ap (λ u. u.shard) l.is ∙ (fronts_run (start o) _ (state_of o notes) (opened_counted o.shard o.run o.found.value.items) (notes_are_runs (start o) None _ l.may)).shard
 
 pub legal_run : (o : Origin) (notes : List Note) (s : Shard) → IsLegal o notes s → s.run ≡ o.run
-legal_run o notes s l = ap (λ u. u.run) l.is ∙ (fronts_run (start o) _ (state_of o notes) (opened_counted o.shard o.run o.found.items) (notes_are_runs (start o) None _ l.may)).run
+legal_run o notes s l = ap (λ u. u.run) l.is ∙ (fronts_run (start o) _ (state_of o notes) (opened_counted o.shard o.run o.found.value.items) (notes_are_runs (start o) None _ l.may)).run
 
 -- while records fly on a shard that is up, stamps are below the bound
 pub legal_early : (o : Origin) (notes : List Note) (s : Shard) → IsLegal o notes s → s.is_up ≡ true → (n : ℕ) → s.flight ≡ Some n → s.last < 2 ^ 48
 legal_early o notes s l up n f =
-    subst (λ u. u.is_up ≡ true → (m : ℕ) → u.flight ≡ Some m → u.last < 2 ^ 48) (sym l.is) (flying_is_in_time o.shard o.run o.found.items _ (state_of o notes) (notes_are_runs (start o) None _ l.may)) up n f
+    subst (λ u. u.is_up ≡ true → (m : ℕ) → u.flight ≡ Some m → u.last < 2 ^ 48) (sym l.is) (flying_is_in_time o.shard o.run o.found.value.items _ (state_of o notes) (notes_are_runs (start o) None _ l.may)) up n f

@@ -16,7 +16,7 @@ use Rattle.turn_laws.specs.Notes.{told}
 
 -- the shard as it opens the log found
 abbrev pub start : Origin → Shard
-start o = opened o.shard o.run o.found.items
+start o = opened o.shard o.run o.found.value.items
 
 -- the state that notes lead to, and who has the disk then
 abbrev pub state_of : Origin → List Note → Shard

@@ -26,7 +26,7 @@ use Rattle.turn_laws.specs.Sound.{IsSound}
 -- a shard as it was opened, with its gate, holds it
 abbrev pub OpeningsAreSound : {G : Type 0} → (G → Bool) → (G → ℕ) → (G → ℕ) → (G → Option (List LogRecord) → Type 0) → Type 0
 OpeningsAreSound {G} shut faults whose logs =
-    (o : Origin) (capacity : ℕ) (g : G) → 0 < capacity → shut g ≡ false → faults g ≡ 0 → whose g ≡ o.shard → Only (log_after_restart o.shard o.found.items o.run 0) (logs g) → IsSound shut faults whose logs o [] capacity (start o) (Some g)
+    (o : Origin) (capacity : ℕ) (g : G) → 0 < capacity → shut g ≡ false → faults g ≡ 0 → whose g ≡ o.shard → Only (log_after_restart o.shard o.found.value.items o.run 0) (logs g) → IsSound shut faults whose logs o [] capacity (start o) (Some g)
 
 -- an event of one call keeps what holds of a value in a lock
 abbrev pub EventsAreSound : {G : Type 0} → (G → Bool) → (G → ℕ) → (G → ℕ) → (G → Option (List LogRecord) → Type 0) → Type 0

@@ -5,12 +5,12 @@ use log_buffer::LogBuffer;
 use std::collections::LinkedList;
 use std::snapshot::Snapshot;
 
-/// What never changes of a shard: its number, the run, and the log that opening found.
+/// What never changes of a shard: its number, the run, and, for contracts alone, the log that opening found.
 #[derive(Drop)]
 pub struct Origin {
     pub shard: u32,
     pub run: u32,
-    pub found: Vec<LogRecord>,
+    pub found: Snapshot<Vec<LogRecord>>,
 }
 
 /// What is noted of a shard, one after another, for contracts alone: no value of it is made.

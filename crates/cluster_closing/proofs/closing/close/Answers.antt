@@ -13,7 +13,7 @@ use Rattle.cluster_holding.specs.Held.{never_restarts}
 use Rattle.cluster_holding.specs.Ends.{shard_at, IsNotAmong}
 use Rattle.cluster_holding.proofs.Laws.{disks_are_found, unfetched_never_restart}
 use Rattle.cluster_closing.specs.Closing.{IsBack, IsLowestDown, lists, Returned}
-use Rattle.cluster_closing.proofs.ComingBack.{few_shards, no_gate_away, of_shards, some_elem, lists_are, logs_are, is_back, gate_is_away}
+use Rattle.cluster_closing.proofs.ComingBack.{few_shards, no_gate_away, of_shards, some_elem, lists_are, is_back, gate_is_away}
 use Rattle.cluster_closing.proofs.closing.close.Goals as goal
 
 pub returns-clause-disks : goal.returns-clause-disks
@@ -53,12 +53,6 @@ pub returns-clause-journals : goal.returns-clause-journals
 returns-clause-journals g c = let long = c.close-homes.ensures.len in let kept = c.part_all-journals.ensures.len in let okH = c.close-homes.result.ok in let okJ = c.part_all-journals.result.journals.ok in
     subst (λ v. lists c.part_all-journals.result.journals.items ≡ map (λ h. (g.M.Machine.shard h.machine).journal) v.items) (sym c.of-ends.ensures)
     (lists_are c.part_all-journals.result.journals.items c.close-homes.result.items (λ h. (g.M.Machine.shard h.machine).journal) (let k = kept.0 in omega arith) (λ n d e l. c.part_all-journals.ensures.journals n d e (omega arith)))
-
-pub returns-clause-founds : goal.returns-clause-founds
-returns-clause-founds g c = let sh = c.args.shards in let W = c.args.walkers in let okW = W.ok in let okL = sh.locks.ok in let okH = c.close-homes.result.ok in let okF = c.part_all-journals.result.found.ok in let long = c.close-homes.ensures.len in let kept = c.part_all-journals.ensures.len in let some = c.requires.some in
-    let count = (c.requires.walkers 0 (some_elem W.items 0 (omega arith)) (omega arith)).count in let each = c.requires.shards.each_log in
-    logs_are c.part_all-journals.result.found.items (founds_of sh) (let k = kept.2 in omega arith)
-    (λ n d l. (let low : n < vec_len c.close-homes.result = (let k = kept.2 in omega arith) in let e = some_elem c.close-homes.result.items n (omega arith) in ap (λ v. v.items) (c.part_all-journals.ensures.found n d e low) ∙ (c.close-homes.ensures.origin n e low).found))
 
 pub returns-clause-no_restart : goal.returns-clause-no_restart
 returns-clause-no_restart g c = let sh = c.args.shards in let W = c.args.walkers in let okW = W.ok in let okL = sh.locks.ok in let okH = c.close-homes.result.ok in let long = c.close-homes.ensures.len in

@@ -25,7 +25,6 @@ loop-i-preserved g c =
       same = λ j d l. ap (λ z. get_or z j d) c.pop.ensures.rest ∙ get_or-take (vec_len c.loop-i.homes - 1) c.loop-i.homes.items j d (omega arith) ∙ inv.same j d (omega arith);
       journals = (let a = inv.journals.0 in let b = c.push_reserved.ensures.len in omega arith, let a = inv.journals.1 in let b = c.push_reserved.ensures.capacity in omega arith);
       maps = (let a = inv.maps.0 in let b = c.push_reserved-in-loop-i.ensures.len in omega arith, let a = inv.maps.1 in let b = c.push_reserved-in-loop-i.ensures.capacity in omega arith);
-      found = (let a = inv.found.0 in let b = c.push_reserved-in-loop-i-2.ensures.len in omega arith, let a = inv.found.1 in let b = c.push_reserved-in-loop-i-2.ensures.capacity in omega arith);
       todo = λ n l. (let t = own.others n (λ e. absurd (omega (arith, e))) in let w = inv.todo n (omega arith) in (t.1 ∙ w.0, t.0 ∙ w.1));
       back = λ n d gate l h is. dite (ℕ_discrete n k)
           (λ here. (let same = whole_from n d here in
@@ -43,7 +42,4 @@ loop-i-preserved g c =
       stored = λ j d l. subst (λ z. (m : _) (e : _) → j + m + 1 ≡ c.len-count.result → g.M.Store.Store.records (get_or z j d) ≡ (g.M.Machine.shard (get_or V.items m e).machine).local.records) (sym c.push_reserved-in-loop-i.ensures.items)
           (pushed_each (λ a z. (m : _) (e : _) → a + m + 1 ≡ c.len-count.result → g.M.Store.Store.records z ≡ (g.M.Machine.shard (get_or V.items m e).machine).local.records) c.loop-i.maps.items c.part_home-journal.result.map i (let h = inv.maps.0 in omega arith) inv.stored
           (λ m e at. own.map ∙ ap (λ z. (g.M.Machine.shard z.machine).local.records) (whole_from m e (omega arith))) j d l);
-      logs = λ j d l. subst (λ z. (m : _) (e : _) → j + m + 1 ≡ c.len-count.result → get_or z j d ≡ (get_or V.items m e).origin.found) (sym c.push_reserved-in-loop-i-2.ensures.items)
-          (pushed_each (λ a z. (m : _) (e : _) → a + m + 1 ≡ c.len-count.result → z ≡ (get_or V.items m e).origin.found) c.loop-i.found.items c.part_home-journal.result.found i (let h = inv.found.0 in omega arith) inv.logs
-          (λ m e at. own.found ∙ ap (λ z. z.origin.found) (whole_from m e (omega arith))) j d l);
     }

@@ -8,7 +8,6 @@ invariant-loop-i g l = record {
   same : (j : ℕ) (d : _) → j + l.i < l.count → get_or l.homes.items j d ≡ get_or l.initial.homes.items j d;
   journals : (vec_len l.journals ≡ l.i) × (l.count ≤ vec_capacity l.journals);
   maps : (vec_len l.maps ≡ l.i) × (l.count ≤ vec_capacity l.maps);
-  found : (vec_len l.found ≡ l.i) × (l.count ≤ vec_capacity l.found);
   todo : (n : ℕ) → n + l.i < l.count → (g.H.House.is_out l.house n ≡ true) × (g.H.House.faults l.house n ≡ g.H.House.faults l.initial.house n);
   back : (n : ℕ) (d : _) (gate : _) → n < l.count → l.count ≤ n + l.i → g.M.Machine.gate (get_or l.initial.homes.items n d).machine ≡ Some gate
       → CameFrom (g.M.Gate.Gate.faults gate) (g.M.Gate.Gate.shard gate) (g.M.Gate.Gate.logs gate) (g.H.House.faults l.initial.house n) (g.H.House.faults l.house n) (g.H.House.is_out l.house n) (g.H.House.story l.house n);
@@ -16,5 +15,4 @@ invariant-loop-i g l = record {
   others : (n : ℕ) → l.count ≤ n → (g.H.House.faults l.house n ≡ g.H.House.faults l.initial.house n) × (g.H.House.is_out l.house n ≡ g.H.House.is_out l.initial.house n) × (g.H.House.story l.house n ≡ g.H.House.story l.initial.house n);
   kept : (j : ℕ) (d : _) → j < l.i → (m : ℕ) (e : _) → j + m + 1 ≡ l.count → (get_or l.journals.items j d).items ≡ (g.M.Machine.shard (get_or l.initial.homes.items m e).machine).journal;
   stored : (j : ℕ) (d : _) → j < l.i → (m : ℕ) (e : _) → j + m + 1 ≡ l.count → g.M.Store.Store.records (get_or l.maps.items j d) ≡ (g.M.Machine.shard (get_or l.initial.homes.items m e).machine).local.records;
-  logs : (j : ℕ) (d : _) → j < l.i → (m : ℕ) (e : _) → j + m + 1 ≡ l.count → get_or l.found.items j d ≡ (get_or l.initial.homes.items m e).origin.found;
 }

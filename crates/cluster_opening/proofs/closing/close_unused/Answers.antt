@@ -26,4 +26,4 @@ returns-clause-fine g c =
     let P = c.args.passes in let ok = P.ok in let G = g.M.Gate.Gate in let home = c.close-machine.result in let end = c.close-machine.ensures in let new = c.requires.unused in
     let none = all_empty c.args.lock new.0 P.items (λ k d l. new.1 k d (omega arith)) (notes_of (g.M.Machine.shard home.machine).journal home.marks.items) end.own end.others in
     let m = unused G.is_shut G.faults G.shard G.logs home.origin home.marks.items (vec_capacity home.marks) (g.M.Machine.shard home.machine) (g.M.Machine.gate home.machine) end.sound none in
-    c.take_apart.ensures.fine home.origin.shard home.origin.found.items home.origin.run m
+    c.take_apart.ensures.fine home.origin.shard home.origin.found.value.items home.origin.run m

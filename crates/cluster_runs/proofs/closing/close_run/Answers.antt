@@ -1,4 +1,4 @@
-use Rattle.std.proofs.Common.{sym, subst, ap, length, arith}
+use Rattle.std.proofs.Common.{refl, sym, subst, ap, length, arith}
 use Rattle.cluster_holding.specs.Ends.{HaveDisks}
 use Rattle.cluster_holding.proofs.Laws.{no_disks_are_held}
 use Rattle.run_ends.proofs.Laws.{none_fetched}
@@ -19,7 +19,7 @@ returns-clause-closed g c =
       passes = λ k d l. (c.requires.rest k d l).walker.walks.are_passes.count;
       seen = e.closed;
       journals_are = e.journals;
-      founds_are = e.founds;
+      founds_are = refl;
       lowest_down = e.down;
       no_stop = e.no_stop;
       no_restart = e.no_restart (λ k d l. (c.requires.rest k d l).fetched);

@@ -1,6 +1,7 @@
-use Rattle.std.proofs.Common.{arith, ◌+◌, length, sym, subst}
+use Rattle.std.proofs.Common.{arith, ◌∙◌, ◌+◌, length, sym, subst}
 use Rattle.run_ends.specs.Ends.{IsClosedRun}
 use Rattle.run_ends.proofs.Laws.{all_are_in}
+use Rattle.cluster_turns.specs.Walkers.{founds_of}
 use Rattle.cluster_closing.specs.Closing.{lists}
 use Rattle.cluster_runs.specs.Ran.{RanAll}
 use Rattle.cluster_runs.proofs.Promised.{ran_all}
@@ -11,7 +12,7 @@ returns-clause-ran g c =
     let sh = c.in-Ok.opened.shards in let W = c.run_over-end.new.walkers in let r = c.close_run-closed.result in let went = c.run_over-end.ensures.went in
     let story = g.H.House.story in let faults = g.H.House.faults in let out = g.H.House.is_out in let h0 = c.args.house.now in let h1 = c.close_run-closed.new.house in
     let many = c.run_over-end.ensures.len in let made = c.in-Ok.ensures.walkers.0 in let ok = W.ok in
-    let ended : IsClosedRun _ _ sh W.items r.ends.value.items (record { journals = lists r.journals.items; found = lists r.found.items }) r.down (faults h0) (faults h1) (out h0) (out h1) (story h0) (story h1) = record {
+    let ended : IsClosedRun _ _ sh W.items r.ends.value.items (record { journals = lists r.journals.items; found = founds_of sh }) r.down (faults h0) (faults h1) (out h0) (out h1) (story h0) (story h1) = record {
       passes = length c.args.sessions.now + 1;
       counts_open = faults c.open_all.new.house;
       out_open = out c.open_all.new.house;
@@ -20,9 +21,9 @@ returns-clause-ran g c =
       went_out = c.in-Ok.ensures.out;
       closed = c.close_run-closed.ensures.closed;
     } in
-    subst (λ f. RanAll (story h0) (story h1) (faults h0) (faults h1) c.args.most c.args.sessions.now (record { journals = c.new.result.journals; found = f }) c.running_status.result) (sym c.new.ensures.found)
-    (subst (λ j. RanAll (story h0) (story h1) (faults h0) (faults h1) c.args.most c.args.sessions.now (record { journals = j; found = lists r.found.items }) c.running_status.result) (sym c.new.ensures.journals)
-    (ran_all c.sessions_have_ended.ensures _ _ sh W.items r.ends.value.items (record { journals = lists r.journals.items; found = lists r.found.items }) r.down (faults h0) (faults h1) (out h0) (out h1) (story h0) (story h1) c.args.most c.args.sessions.now went.0 c.run_over-end.result c.running_status.result ended
+    subst (λ f. RanAll (story h0) (story h1) (faults h0) (faults h1) c.args.most c.args.sessions.now (record { journals = c.new.result.journals; found = f }) c.running_status.result) (sym (c.new.ensures.found ∙ c.in-Ok.ensures.founds))
+    (subst (λ j. RanAll (story h0) (story h1) (faults h0) (faults h1) c.args.most c.args.sessions.now (record { journals = j; found = founds_of sh }) c.running_status.result) (sym c.new.ensures.journals)
+    (ran_all c.sessions_have_ended.ensures _ _ sh W.items r.ends.value.items (record { journals = lists r.journals.items; found = founds_of sh }) r.down (faults h0) (faults h1) (out h0) (out h1) (story h0) (story h1) c.args.most c.args.sessions.now went.0 c.run_over-end.result c.running_status.result ended
     (λ k d l. (c.run_over-end.ensures.rest k d (omega arith)).number_is) (omega arith) went.1 c.run_over-end.ensures.worn c.running_status.ensures.is))
 
 pub returns-clause-back : goal.returns-clause-back
@@ -30,7 +31,7 @@ returns-clause-back g c =
     let sh = c.in-Ok.opened.shards in let W = c.run_over-end.new.walkers in let r = c.close_run-closed.result in let went = c.run_over-end.ensures.went in
     let story = g.H.House.story in let faults = g.H.House.faults in let out = g.H.House.is_out in let h0 = c.args.house.now in let h1 = c.close_run-closed.new.house in
     let many = c.run_over-end.ensures.len in let made = c.in-Ok.ensures.walkers.0 in let ok = W.ok in
-    let ended : IsClosedRun _ _ sh W.items r.ends.value.items (record { journals = lists r.journals.items; found = lists r.found.items }) r.down (faults h0) (faults h1) (out h0) (out h1) (story h0) (story h1) = record {
+    let ended : IsClosedRun _ _ sh W.items r.ends.value.items (record { journals = lists r.journals.items; found = founds_of sh }) r.down (faults h0) (faults h1) (out h0) (out h1) (story h0) (story h1) = record {
       passes = length c.args.sessions.now + 1;
       counts_open = faults c.open_all.new.house;
       out_open = out c.open_all.new.house;
@@ -39,4 +40,4 @@ returns-clause-back g c =
       went_out = c.in-Ok.ensures.out;
       closed = c.close_run-closed.ensures.closed;
     } in
-    all_are_in {D = _} _ sh W.items r.ends.value.items (record { journals = lists r.journals.items; found = lists r.found.items }) r.down (faults h0) (faults h1) (out h0) (out h1) (story h0) (story h1) ended c.requires.inside
+    all_are_in {D = _} _ sh W.items r.ends.value.items (record { journals = lists r.journals.items; found = founds_of sh }) r.down (faults h0) (faults h1) (out h0) (out h1) (story h0) (story h1) ended c.requires.inside
