@@ -70,6 +70,7 @@ impl<V: Copy> TxTable<V> {
             unreachable!()
         };
     }
+
     /// Sets the value of a transaction that has one. Takes no memory.
     pub fn replace(&mut self, tx: TxId, value: V)
         requires { IsSome (tx_get tx self.old.rows) }
