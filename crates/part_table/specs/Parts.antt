@@ -2,7 +2,7 @@
 use Rattle.std.specs.Prelude.{◌≡◌, Bool, true, List, Option, Some, None}
 use Rattle.clv_base.specs.declared.names.TxId.{TxId}
 use Rattle.clv_base.specs.declared.state.Held.{Held}
-use Rattle.clv_base.specs.Orders.{Table}
+use Rattle.clv_base.specs.Orders.{Table, tx_get}
 use Rattle.clv_base.specs.State.{is_present}
 use Rattle.tx_index.specs.Index.{index_of}
 
@@ -16,6 +16,10 @@ is_here h = is_present (Some h.stage)
 -- the transactions whose parts are here
 abbrev pub parts_here : Table Held → List TxId
 parts_here parts = index_of is_here parts
+
+-- each transaction has the same part in both
+abbrev pub AreAlike : Table Held → Table Held → Type 0
+AreAlike found parts = (t : TxId) → tx_get t found ≡ tx_get t parts
 
 -- there is a part, and where the new one is here, it was
 abbrev pub IsNoReturn : Option Held → Held → Type 0

@@ -23,7 +23,7 @@ impl<V: Copy> Model for TxTable<V> {
 }
 
 impl<V: Copy> TxTable<V> {
-    ghost use Rattle.std.specs.Prelude.{◌≡◌, ◌≤◌, ◌<◌, ◌+◌, None, Some, OnOk, OnErr, if◌then◌else◌};
+    ghost use Rattle.std.specs.Prelude.{◌≡◌, ◌≤◌, ◌<◌, ◌+◌, None, Some, IsSome, OnOk, OnErr, if◌then◌else◌};
     ghost use Rattle.clv_base.specs.declared.names.TxId.{TxId as Tx};
     ghost use Rattle.clv_base.specs.Orders.{tx_same, tx_get};
 
@@ -69,5 +69,17 @@ impl<V: Copy> TxTable<V> {
         let Ok(_) = self.rows.insert(Key::new(tx), value) else {
             unreachable!()
         };
+    }
+
+    /// Sets the value of a transaction that has one. Takes no memory.
+    pub fn replace(&mut self, tx: TxId, value: V)
+        requires { IsSome (tx_get tx self.old.rows) }
+        ensures rows { (t : Tx) → tx_get t self.new.rows ≡ (if tx_same tx t then Some value else tx_get t self.old.rows) }
+        ensures room { self.new.room ≡ self.old.room }
+    {
+        let Some(row) = self.rows.get_mut(&Key::new(tx)) else {
+            unreachable!()
+        };
+        *row = value;
     }
 }

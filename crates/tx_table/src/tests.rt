@@ -4,6 +4,13 @@ use crate::TxTable;
 use clv_base::names::TxId;
 use std::test::Fail;
 
+/// The value of a transaction that has one.
+fn replace(table: &mut TxTable<u64>, tx: TxId, value: u64) {
+    if table.get(tx).is_some() {
+        table.replace(tx, value);
+    }
+}
+
 #[test]
 fn a_table_answers(rt: HostRuntime) -> Result<(), Fail> {
     let first = TxId {
@@ -21,5 +28,7 @@ fn a_table_answers(rt: HostRuntime) -> Result<(), Fail> {
     table.set(first, 10);
     assert_eq!(rt; table.get(first), Some(10));
     assert_eq!(rt; table.get(second), None);
+    replace(&mut table, first, 20);
+    assert_eq!(rt; table.get(first), Some(20));
     Ok(())
 }

@@ -1,7 +1,9 @@
 -- What the transactions of a shard are seen as: the shard, the state that they work on, the fronts of its log, and room.
-use Rattle.std.specs.Prelude.{◌≡◌, ◌≤◌, ℕ, List, length}
+use Rattle.std.specs.Prelude.{◌≡◌, ◌≤◌, ℕ, List, length, Option, Some, None}
 use Rattle.clv_base.specs.declared.names.TxId.{TxId}
 use Rattle.clv_base.specs.declared.logs.LogRecord.{LogRecord}
+use Rattle.clv_base.specs.declared.state.Held.{Held}
+use Rattle.clv_base.specs.declared.state.Stage.{Stage}
 use Rattle.clv_base.specs.Orders.{Table, tx_get}
 use Rattle.clv_base.specs.Logs.{commit_lsn}
 use Rattle.clv_base.specs.State.{Local}
@@ -29,3 +31,7 @@ IsSameBut s l t = t ≡ record s { local = l; room = t.room; pairs_room = t.pair
 -- the transactions with a COMMIT in the log are known to be settled, each at its COMMIT's place, and no other
 abbrev pub AreSettled : Table ℕ → List LogRecord → Type 0
 AreSettled commits log = (t : TxId) → tx_get t commits ≡ commit_lsn log t
+
+-- how far a part is, if it is known
+abbrev pub stage_by : Option Held → Option Stage
+stage_by part = elim part [ Some h ↦ Some h.stage | None ↦ None ]

@@ -5,7 +5,7 @@ ghost use Rattle.std.specs.List.{list_all, list_any};
 ghost use Rattle.std.specs.List.Sorted.{IsStrictlySortedBy};
 ghost use Rattle.clv_base.specs.Facts.{facts_in};
 ghost use Rattle.clv_base.specs.Facts.{state_by, doom_by, is_restored_by};
-ghost use Rattle.clv_base.specs.Undo.{stage_of as stage_in};
+ghost use Rattle.txn_core.specs.State.{stage_by};
 ghost use Rattle.clv_base.specs.Logs.{committed_in};
 ghost use Rattle.clv_base.specs.Orders.{tx_cmp, tx_get, tx_same, birth_cmp};
 ghost use Rattle.part_table.specs.Parts.{parts_here};
@@ -19,6 +19,16 @@ use clv_base::state::{Held, Stage};
 use lock_table::{Locks, Memory};
 use ordered_store::Store;
 use std::alloc::Global;
+
+/// The stage of a part, where it is known.
+fn stage_of(part: Option<Held>) -> Option<Stage>
+    ensures { result ≡ stage_by part }
+{
+    match part {
+        Some(part) => Some(part.stage),
+        None => None,
+    }
+}
 
 /// How far a part is, by its stage.
 fn state_of(stage: Option<Stage>) -> PartState
@@ -64,12 +74,13 @@ impl<S: Store + Drop, L: Locks + Drop> ShardTx<S, L> {
     pub fn facts(&self, tx: TxId, prepare: Option<u64>) -> PartFacts
         ensures { result ≡ record (facts_in self.now.local self.now.durable tx) { prepare = prepare } }
     {
-        let stage = self.stage_of(tx);
+        let part = self.parts.get(tx);
+        let stage = stage_of(part);
         PartFacts {
             state: state_of(stage),
             now: self.epoch,
             updates: self.buffer.wrote(tx),
-            restored: is_restored(self.parts.get(tx)),
+            restored: is_restored(part),
             doom: doom_of(stage),
             prepare,
             commit: self.deps.settled_at(tx),

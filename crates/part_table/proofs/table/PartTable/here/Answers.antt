@@ -17,4 +17,4 @@ pub returns-clause-txs : goal.returns-clause-txs
 returns-clause-txs c =
     let rows = c.self.inside.parts.entries in
     let rise : IsStrictlySortedBy tx_cmp (keys_of rows) = subst (λ (v : PartRows). IsStrictlySortedBy tx_cmp (keys_of v.entries)) (sym c.self.view_is) c.rising.ensures in
-    c.in_ok-txs.ensures.txs ∙ in_order is_here rows c.self.inside.here rise c.in_ok-txs.ensures.rising c.self.invariant ∙ ap (λ (v : PartRows). parts_here v.entries) c.self.view_is
+    c.in_ok-txs.ensures.txs ∙ in_order is_here rows c.self.inside.here rise c.in_ok-txs.ensures.rising c.self.invariant.0 ∙ ap (λ (v : PartRows). parts_here v.entries) c.self.view_is

@@ -7,7 +7,7 @@ use Rattle.clv_base.specs.State.{Local}
 use Rattle.clv_base.specs.Undo.{stage_of}
 use Rattle.clv_base.specs.Facts.{facts_in, state_by, doom_by, is_restored_by}
 use Rattle.violation_deps.proofs.Laws.{undecided_by-log, due_of-log}
-use Rattle.txn_core.specs.State.{TxState}
+use Rattle.txn_core.specs.State.{TxState, stage_by}
 use Rattle.txn_core.proofs.shard.ShardTx.facts.Goals as goal
 
 same_facts : (a b : PartState) (n : ℕ) (u v r q : Bool) (d e : Option TxId) (p c k : Option ℕ) (i j : ℕ) (g h : Option ℕ) (w z : ℕ) → a ≡ b → u ≡ v → r ≡ q → d ≡ e → c ≡ k → i ≡ j → g ≡ h → w ≡ z
@@ -20,9 +20,9 @@ pub returns : goal.returns
 returns g c =
     let s = c.self.inside in let tx = c.args.tx in
     let l : Local = record { records = g.S.Store.records s.store; locks = g.L.Locks.rows s.locks; parts = s.parts.entries; pairs = s.deps.pairs; log = s.buffer.records; epoch = s.epoch } in
-    let stage : c.stage_of-stage.result ≡ stage_of l tx = c.stage_of-stage.ensures ∙ ap (λ (v : TxState). stage_of v.local tx) (sym c.self.view_is) in
+    let stage : c.stage_of-stage.result ≡ stage_of l tx = c.stage_of-stage.ensures ∙ ap stage_by c.get-part.ensures in
     let found : PartFacts = record { state = c.state_of.result; now = s.epoch; updates = c.wrote.result; restored = c.is_restored.result; doom = c.doom_of.result; prepare = c.args.prepare; commit = c.settled_at.result; undecided = c.undecided.result; due_lsn = c.due_lsn.result; durable = c.durable.result } in
     subst (λ (v : TxState). ◌≡◌ {A = PartFacts} found (record (facts_in v.local v.durable tx) { prepare = c.args.prepare })) c.self.view_is
     (same_facts _ _ s.epoch _ _ _ _ _ _ c.args.prepare _ _ _ _ _ _ _ _
-    (c.state_of.ensures ∙ ap state_by stage) c.wrote.ensures (c.is_restored.ensures ∙ ap is_restored_by c.get.ensures) (c.doom_of.ensures ∙ ap doom_by stage)
+    (c.state_of.ensures ∙ ap state_by stage) c.wrote.ensures (c.is_restored.ensures ∙ ap is_restored_by c.get-part.ensures) (c.doom_of.ensures ∙ ap doom_by stage)
     (c.settled_at.ensures ∙ c.self.invariant.settled tx) (c.undecided.ensures ∙ ap length (undecided_by-log s.deps l refl c.self.invariant.settled tx)) (c.due_lsn.ensures ∙ due_of-log s.deps l refl c.self.invariant.settled tx) c.durable.ensures.durable)
