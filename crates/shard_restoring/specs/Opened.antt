@@ -1,8 +1,9 @@
 -- The locks of those in doubt, taken before they are closed; and first COMMITs.
-use Rattle.std.specs.Prelude.{ℕ, Bool, cond, List, [], ◌∷◌, Option, Some, None}
+use Rattle.std.specs.Prelude.{ℕ, Bool, true, false, cond, length, List, [], ◌∷◌, Option, Some, None}
+use Rattle.std.specs.List.{filter}
 use Rattle.clv_base.specs.declared.names.TxId.{TxId}
 use Rattle.clv_base.specs.declared.logs.LogRecord.{LogRecord}
-use Rattle.clv_base.specs.declared.logs.LogRecord.TheVariants.{Update}
+use Rattle.clv_base.specs.declared.logs.LogRecord.TheVariants.{Update, Commit}
 use Rattle.clv_base.specs.declared.modes.Anchor.TheVariants.{At}
 use Rattle.clv_base.specs.declared.modes.Holder.{Holder}
 use Rattle.clv_base.specs.declared.modes.Part.TheVariants.{X}
@@ -38,3 +39,11 @@ first_of None b = b
 -- the place where it passes
 abbrev pub place_if : Bool → ℕ → Option ℕ
 place_if b n = cond b (Some n) None
+
+-- how many COMMITs a log has
+abbrev pub is_commit : LogRecord → Bool
+is_commit (Commit tx parts) = true
+is_commit _ = false
+
+abbrev pub commits_in : List LogRecord → ℕ
+commits_in log = length (filter is_commit log)

@@ -1,10 +1,10 @@
 //! The dependencies of those in doubt, and the COMMITs of the log.
-ghost use Rattle.std.specs.Prelude.{◌≡◌, ◌≤◌, ◌<◌, ◌+◌, [], None, length, IfOk};
+ghost use Rattle.std.specs.Prelude.{◌≡◌, ◌≤◌, ◌<◌, ◌+◌, [], None, true, length, IfOk, if◌then◌else◌};
 ghost use Rattle.std.specs.List.Sorted.{IsStrictlySortedBy};
 ghost use Rattle.clv_base.specs.declared.names.TxId.{TxId as Tx};
 ghost use Rattle.clv_base.specs.Orders.{tx_get, pair_cmp};
 ghost use Rattle.txn_core.specs.State.{AreSettled};
-ghost use Rattle.shard_restoring.specs.Opened.{first_of, place_if};
+ghost use Rattle.shard_restoring.specs.Opened.{first_of, place_if, is_commit as commits, commits_in};
 ghost use Rattle.clv_base.specs.Logs.{is_commit_of};
 
 use clv_base::logs::LogRecord;
@@ -26,12 +26,28 @@ fn add_pairs(deps: &mut Deps, pairs: &[(TxId, TxId)])
     }
 }
 
+fn is_commit(found: &LogRecord) -> bool
+    ensures { result ≡ commits found.now }
+{
+    match found {
+        LogRecord::Commit { .. } => true,
+        _ => false,
+    }
+}
+
+/// How many COMMITs the log has.
+fn count_commits(log: &[LogRecord]) -> usize
+    ensures { result ≡ commits_in log.now }
+{
+    log.iter().filter(|found| is_commit(found)).count()
+}
+
 /// The transaction of a COMMIT is settled at its LSN, unless it was before. Takes no memory.
 fn note_commit(deps: &mut Deps, lsn: usize, found: &LogRecord)
-    requires { 0 < deps.old.room }
+    requires { commits found.now ≡ true → 0 < deps.old.room }
     ensures commits { (t : Tx) → tx_get t deps.new.commits ≡ first_of (tx_get t deps.old.commits) (place_if (is_commit_of t found.now) lsn) }
     ensures pairs { deps.new.pairs ≡ deps.old.pairs }
-    ensures room { deps.old.room ≤ deps.new.room + 1 }
+    ensures room { deps.old.room ≤ deps.new.room + (if commits found.now then 1 else 0) }
 {
     if let LogRecord::Commit { tx, .. } = found {
         if deps.settled_at(*tx).is_none() {
@@ -43,7 +59,7 @@ fn note_commit(deps: &mut Deps, lsn: usize, found: &LogRecord)
 /// Each transaction with a COMMIT in the log is settled at its first one's LSN. Takes no memory.
 fn note_commits(deps: &mut Deps, log: &[LogRecord])
     requires none { (t : Tx) → tx_get t deps.old.commits ≡ None }
-    requires room { length log.now ≤ deps.old.room }
+    requires room { commits_in log.now ≤ deps.old.room }
     ensures settled { AreSettled deps.new.commits log.now }
     ensures pairs { deps.new.pairs ≡ deps.old.pairs }
 {
@@ -63,7 +79,10 @@ pub(crate) fn deps_of(
     ensures settled { IfOk result (λ d. AreSettled d.commits log.now) }
 {
     let mut deps = Deps::new(alloc)?;
-    deps.reserve(pairs.len() + log.len())?;
+    let Some(room) = pairs.len().checked_add(count_commits(log)) else {
+        return Err(AllocError);
+    };
+    deps.reserve(room)?;
     add_pairs(&mut deps, pairs);
     note_commits(&mut deps, log);
     Ok(deps)
