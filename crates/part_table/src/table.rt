@@ -18,7 +18,7 @@ use tx_table::TxTable;
 #[derive(Drop)]
 pub struct PartTable {
     parts: BTreeMap<TxId, Held>,
-    /// The same parts, to be looked up: in a hash map that costs a fifth of what it does in the tree.
+    /// The same parts, to be looked up: a look into a hash map is faster than one down the tree.
     found: TxTable<Held>,
     /// Those that are active or closed.
     here: TxIndex,

@@ -1,5 +1,5 @@
 //! What is known by transaction: a value for each of some transactions, in a hash map.
-//! It promises that a transaction has the value that was set last, and that `set` takes no memory where room was reserved.
+//! It promises that a transaction has the value that was set last, and that neither `set`, where room was reserved, nor `replace` takes memory.
 //! It stands on the names of `clv_base` and on std's `HashMap`.
 #![tactic(auto)]
 

@@ -1,5 +1,5 @@
 -- The dependencies know of the COMMITs of the log.
-use Rattle.std.proofs.Common.{◌≡◌, ℕ, Bool, length, Option, refl, sym, ap, subst, ◌∙◌}
+use Rattle.std.proofs.Common.{◌≡◌, ℕ, Bool, length, Option, refl, ap, subst, ◌∙◌}
 use Rattle.clv_base.specs.declared.names.TxId.{TxId}
 use Rattle.clv_base.specs.declared.parts.PartState.{PartState}
 use Rattle.clv_base.specs.declared.parts.PartFacts.{PartFacts}
