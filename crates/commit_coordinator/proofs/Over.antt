@@ -12,7 +12,7 @@ use Rattle.clv_base.specs.declared.parts.PartFacts.{PartFacts}
 use Rattle.clv_base.specs.declared.state.Request.{Request}
 use Rattle.clv_base.specs.declared.state.RequestState.{RequestState}
 use Rattle.clv_base.specs.declared.state.RequestState.TheVariants.{Undecided, Committed, Finished, Refused}
-use Rattle.clv_base.specs.declared.state.Ruling.TheVariants.{Commit, Acknowledge, Abort, End}
+use Rattle.clv_base.specs.declared.state.Ruling.TheVariants.{Acknowledge, End}
 use Rattle.clv_base.specs.Orders.{Table, nat_in, nat_insert, tx_get, tx_in, tx_same, tx_set}
 use Rattle.clv_base.specs.Facts.{has_durable_predecessors}
 use Rattle.clv_base.specs.Coordinator.{others, is_agreed, agreed_ruling, end_ruling, refusal, refused_ruling, undecided_ruling, ruling_in, ruling_by, with_vote_of, with_done_of}

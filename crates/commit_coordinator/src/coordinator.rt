@@ -11,6 +11,7 @@ ghost use Rattle.commit_coordinator.specs.Coordinated.{IsFit, ruling_of, request
 ghost use Rattle.commit_coordinator.specs.Reminding.{each_at, of_one, votes_of, dones_of};
 ghost use Rattle.commit_coordinator.specs.Waiting.{waiting_in};
 
+use crate::kept::Kept;
 use crate::memory::Memory;
 use crate::reminding::{contains, remind_dones, remind_votes};
 use crate::ruling::{answer, due_ruling};
@@ -31,8 +32,9 @@ use tx_index::TxIndex;
 /// The requests that a shard coordinates as their home.
 #[derive(Drop)]
 pub struct Coordinator {
+    alloc: Global,
     shard: u32,
-    requests: BTreeMap<TxId, Request>,
+    requests: BTreeMap<TxId, Kept>,
     /// Those that wait for a vote or an acknowledgement.
     waiting: TxIndex,
 }
@@ -152,6 +154,7 @@ impl Coordinator {
         ensures requests { result.requests ≡ [] }
     {
         Coordinator {
+            alloc,
             shard,
             requests: BTreeMap::new(alloc),
             waiting: TxIndex::new(alloc),
@@ -170,7 +173,7 @@ impl Coordinator {
         let mut waiting = TxIndex::new(alloc);
         for commit in unended {
             let request = restored_request(alloc, &commit.1);
-            match put_request(&mut requests, &mut waiting, shard, commit.0, request) {
+            match put_request(alloc, &mut requests, &mut waiting, shard, commit.0, request) {
                 Ok(()) => {}
                 Err(memory) => return Err(memory),
             }
@@ -209,7 +212,7 @@ impl Coordinator {
     }
 
     /// The requests, by rising transactions.
-    pub fn requests(&self) -> Iter<'_, TxId, Request>
+    pub fn requests(&self) -> Iter<'_, TxId, Kept>
         ensures { result ≡ self.now.requests }
     {
         self.requests.iter()
@@ -328,7 +331,7 @@ impl Coordinator {
         let Some(request) = self.requests.get_mut(&tx) else {
             return false;
         };
-        take_vote(shard, request, from, vote)
+        take_vote(shard, request.as_mut(), from, vote)
     }
 
     /// An acknowledgement came: whether it counts. Takes no memory.
@@ -340,7 +343,7 @@ impl Coordinator {
         let Some(request) = self.requests.get_mut(&tx) else {
             return false;
         };
-        let taken = take_done(shard, request, from);
+        let taken = take_done(shard, request.as_mut(), from);
         let stays = waits(shard, request);
         self.waiting.keep_if(tx, stays);
         taken
@@ -355,7 +358,7 @@ impl Coordinator {
         let Some(request) = self.requests.get_mut(&tx) else {
             return None;
         };
-        let ruling = rule(shard, tx, request, facts);
+        let ruling = rule(shard, tx, request.as_mut(), facts);
         let stays = waits(shard, request);
         self.waiting.keep_if(tx, stays);
         ruling
@@ -378,6 +381,7 @@ impl Coordinator {
             is_ended: false,
         };
         put_request(
+            self.alloc,
             &mut self.requests,
             &mut self.waiting,
             self.shard,

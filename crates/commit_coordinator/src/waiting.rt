@@ -7,10 +7,12 @@ ghost use Rattle.clv_base.specs.Orders.{tx_cmp, tx_put};
 ghost use Rattle.commit_coordinator.specs.Waiting.{waits as request_waits};
 ghost use Rattle.tx_index.specs.Index.{IsIndex};
 
+use crate::kept::Kept;
 use crate::memory::Memory;
 use crate::ruling::are_in;
 use clv_base::names::TxId;
 use clv_base::state::{Request, RequestState};
+use std::alloc::Global;
 use std::collections::BTreeMap;
 use tx_index::TxIndex;
 
@@ -34,7 +36,8 @@ pub(crate) fn waits(shard: u32, request: &Request) -> bool
 
 /// Puts a request into the table, and into the index if it waits. Where there is no memory all stays.
 pub(crate) fn put_request(
-    requests: &mut BTreeMap<TxId, Request>,
+    alloc: Global,
+    requests: &mut BTreeMap<TxId, Kept>,
     waiting: &mut TxIndex,
     shard: u32,
     tx: TxId,
@@ -48,11 +51,15 @@ pub(crate) fn put_request(
 {
     let waits = waits(shard, &request);
     let _all = requests.len();
+    let kept = match Kept::new(alloc, request) {
+        Ok(kept) => kept,
+        Err(memory) => return Err(memory),
+    };
     match waiting.insert_if(tx, waits) {
         Ok(()) => {}
         Err(_) => return Err(Memory),
     }
-    match requests.insert(tx, request) {
+    match requests.insert(tx, kept) {
         Ok(_) => {
             waiting.keep_if(tx, waits);
             Ok(())
