@@ -43,6 +43,10 @@ module _ {T : Type 0} where
   tended_ok (Ok u) fine h = h
   tended_ok (Err e) fine h = absurd (fine e refl)
 
+  pub then_tended : {count w c0 c1 : ℕ} {b0 b1 : List (Option (Pass T Note Origin))} (r : Result Unit DrainError) (c2 : ℕ) (b2 : List (Option (Pass T Note Origin))) → Rounds count w c0 b0 c1 b1 → Tended count w c1 b1 r c2 b2 → Tended count w c0 b0 r c2 b2
+  then_tended (Ok u) c2 b2 a h = then_rounds a h
+  then_tended (Err e) c2 b2 a h = then_refused a h
+
   -- ---- what the walker keeps only grows
 
   abbrev pub Grows : List (Option (Pass T Note Origin)) → List (Option (Pass T Note Origin)) → Type 0

@@ -13,8 +13,9 @@ use machine_calls::Flier;
 use std::alloc::Global;
 use std::sync::Wait;
 
-/// Goes in rounds over all shards: each is flushed once, its messages are carried until there is none, and what it misses is asked for once. `Ok` comes
-/// where each shard, in the state that its pass has then seen, is up and has nothing buffered or in flight, no message to send, no closed part
+/// Goes in rounds over all shards: each is flushed once, unless another walker writes a batch, and its messages are carried until there is none. Where a
+/// round moved nothing, it sleeps until the other's batch is written, or, where nobody writes, asks once for what stayed due. `Ok` comes where
+/// each shard, in the state that its pass has then seen, is up and has nothing buffered or in flight, no message to send, no closed part
 /// undecided and no request that isn't decided and acknowledged; parts may be active. Between two rounds other threads have their turn.
 ///
 /// `Down` comes where a turn of this call found the shard down or put it down, `Worn` where one needed a stamp past the last.

@@ -1,5 +1,5 @@
-//! The drain of a cluster: one walker goes in rounds over all shards, flushes each, carries its messages and asks again for what is missing, until each
-//! shard is settled but for active parts.
+//! The drain of a cluster: one walker goes in rounds over all shards, flushes each and carries its messages, and where nothing moved asks again for what
+//! stayed due, until each shard is settled but for active parts.
 #![tactic(auto)]
 
 mod draining;

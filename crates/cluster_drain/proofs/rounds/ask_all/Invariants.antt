@@ -1,7 +1,7 @@
 use Rattle.std.proofs.Common.{length}
 use Rattle.cluster_turns.specs.Walkers.{IsWalker, IsSameWalker}
 use Rattle.cluster_drain.specs.Rounds.{Rounds}
-use Rattle.cluster_drain.proofs.rounds.go_round.Given as goal
+use Rattle.cluster_drain.proofs.rounds.ask_all.Given as goal
 
 abbrev pub invariant-loop-shard : goal.invariant-loop-shard
 invariant-loop-shard g l = record {
