@@ -9,8 +9,6 @@ mod memory;
 mod noted;
 mod replay;
 mod tape;
-#[cfg(test)]
-mod tests;
 
 pub use house::MemoryHouse;
 pub use memory::MemoryDisk;

@@ -11,8 +11,6 @@ mod list_locks;
 mod locks;
 mod meeting;
 mod rows;
-#[cfg(test)]
-mod tests;
 
 pub use laws::takes_few_gaps;
 pub use list_locks::ListLocks;

@@ -11,8 +11,6 @@ mod buffer;
 mod chain;
 mod making;
 mod measured;
-#[cfg(test)]
-mod tests;
 mod undoing;
 
 pub use batch::Extent;

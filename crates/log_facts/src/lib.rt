@@ -13,6 +13,3 @@ mod table;
 
 pub use set::TxSet;
 pub use table::LogFacts;
-
-#[cfg(test)]
-mod tests;

@@ -12,6 +12,3 @@ pub use agreement::apart;
 
 /// Want of memory.
 pub type Memory = std::alloc::AllocError;
-
-#[cfg(test)]
-mod tests;

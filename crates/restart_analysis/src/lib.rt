@@ -15,6 +15,3 @@ pub use analysis::{Analysis, analyse};
 
 /// Want of memory.
 pub type Memory = std::alloc::AllocError;
-
-#[cfg(test)]
-mod tests;

@@ -1,6 +1,6 @@
-use crate::{ListLocks, Locks, Memory};
 use clv_base::modes::{Anchor, Decision, Holder, Mode, Need, Part};
 use clv_base::names::{Birth, TxId};
+use lock_table::{ListLocks, Locks, Memory};
 use std::test::Fail;
 
 const KEY_S: Mode = Mode {
@@ -147,10 +147,15 @@ fn the_oldest_in_the_way_is_named(rt: HostRuntime) -> Result<(), Fail> {
     for session in [6, 2, 5, 4, 1] {
         hold(&mut table, session, nine, KEY_S)?;
     }
-    assert!(rt; asks(&table, 3, nine, KEY_S) == Decision::Grant);
-    assert!(rt; asks(&table, 3, nine, GAP_X) == Decision::Grant);
-    assert!(rt; asks(&table, 3, Anchor::At(8), KEY_X) == Decision::Grant);
-    assert!(rt; asks(&table, 3, nine, KEY_X) == Decision::Die { older: tx(1) });
+    let rows = [
+        (nine, KEY_S, Decision::Grant),
+        (nine, GAP_X, Decision::Grant),
+        (Anchor::At(8), KEY_X, Decision::Grant),
+        (nine, KEY_X, Decision::Die { older: tx(1) }),
+    ];
+    for (anchor, mode, want) in rows {
+        assert!(rt; asks(&table, 3, anchor, mode) == want);
+    }
     table.close_part(tx(1));
     assert!(rt; asks(&table, 3, nine, KEY_X) == Decision::Die { older: tx(2) });
     table.release(tx(2));
@@ -163,11 +168,16 @@ fn the_oldest_in_the_way_is_named(rt: HostRuntime) -> Result<(), Fail> {
 fn writes_alone_are_violated_and_each_writer_is_told_once(rt: HostRuntime) -> Result<(), Fail> {
     let (one, two) = (Anchor::At(1), Anchor::At(2));
     let mut table = ListLocks::new(rt.alloc());
-    hold(&mut table, 3, one, KEY_X)?;
-    hold(&mut table, 3, two, KEY_X)?;
-    hold(&mut table, 1, two, GAP_X)?;
-    hold(&mut table, 2, one, GAP_S)?;
-    hold(&mut table, 4, Anchor::Low, KEY_X)?;
+    let held = [
+        (3, one, KEY_X),
+        (3, two, KEY_X),
+        (1, two, GAP_X),
+        (2, one, GAP_S),
+        (4, Anchor::Low, KEY_X),
+    ];
+    for (session, anchor, mode) in held {
+        hold(&mut table, session, anchor, mode)?;
+    }
     for session in [1, 2, 3, 4] {
         table.close_part(tx(session));
     }
@@ -194,9 +204,9 @@ fn writes_alone_are_violated_and_each_writer_is_told_once(rt: HostRuntime) -> Re
 fn locks_are_given_up_one_by_one(rt: HostRuntime) -> Result<(), Fail> {
     let (one, two) = (Anchor::At(1), Anchor::At(2));
     let mut table = ListLocks::new(rt.alloc());
-    hold(&mut table, 1, two, KEY_X)?;
-    hold(&mut table, 1, one, KEY_S)?;
-    hold(&mut table, 2, one, KEY_S)?;
+    for (session, anchor, mode) in [(1, two, KEY_X), (1, one, KEY_S), (2, one, KEY_S)] {
+        hold(&mut table, session, anchor, mode)?;
+    }
     assert!(rt; table.release_next(tx(1)) == Some(one));
     assert!(rt; table.holders(rt.alloc(), one)?.as_slice() == [holder(2, KEY_S, false)].as_slice());
     assert!(rt; table.release_next(tx(1)) == Some(two));
