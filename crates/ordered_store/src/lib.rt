@@ -7,8 +7,6 @@
 mod rows;
 mod sorted_store;
 mod store;
-#[cfg(test)]
-mod tests;
 
 pub use sorted_store::SortedStore;
 pub use store::Store;

@@ -1,7 +1,7 @@
 // The calls of a store, with memory at hand.
 
-use crate::{SortedStore, Store};
 use clv_base::modes::{Anchor, Found};
+use ordered_store::{SortedStore, Store};
 use std::alloc::{AllocError, Global};
 use std::test::Fail;
 
@@ -46,16 +46,17 @@ fn keys_are_live_ghosts_or_absent(rt: HostRuntime) -> Result<(), Fail> {
         (u64::MAX, Found::Absent),
     ];
     for (key, want) in rows {
-        assert_eq!(rt; store.get(key), want, "key {key}");
+        assert!(rt; store.get(key) == want, "key {key}");
     }
-    assert_eq!(rt; put(&mut store, 10, 7)?, Some(1));
-    assert_eq!(rt; put(&mut store, 20, 8)?, None);
-    assert_eq!(rt; put(&mut store, 25, 9)?, None);
-    assert_eq!(rt; store.get(10), Found::Live(7));
-    assert_eq!(rt; store.get(20), Found::Live(8));
+    assert!(rt; put(&mut store, 10, 7)? == Some(1));
+    assert!(rt; put(&mut store, 20, 8)? == None);
+    assert!(rt; put(&mut store, 25, 9)? == None);
+    for (key, want) in [(10, 7), (20, 8), (25, 9)] {
+        assert!(rt; store.get(key) == Found::Live(want), "key {key}");
+    }
     hide(&mut store, 10);
     purge(&mut store, 10);
-    assert_eq!(rt; store.get(10), Found::Absent);
+    assert!(rt; store.get(10) == Found::Absent);
     Ok(())
 }
 
@@ -71,7 +72,7 @@ fn anchors_are_the_records_below(rt: HostRuntime) -> Result<(), Fail> {
         (u64::MAX, Anchor::At(30)),
     ];
     for (key, want) in rows {
-        assert_eq!(rt; store.anchor_of(key), want, "key {key}");
+        assert!(rt; store.anchor_of(key) == want, "key {key}");
     }
     Ok(())
 }
@@ -88,7 +89,7 @@ fn ranges_have_all_records_in_bounds(rt: HostRuntime) -> Result<(), Fail> {
     assert!(rt; store.range(alloc, 0, u64::MAX)?.as_slice() == all.as_slice());
     assert!(rt; store.range(alloc, 10, 20)?.as_slice() == [all[0], all[1]].as_slice());
     assert!(rt; store.range(alloc, 11, 29)?.as_slice() == [all[1]].as_slice());
-    assert_eq!(rt; store.range(alloc, 30, 10)?.len(), 0);
-    assert_eq!(rt; store.range(alloc, 31, 40)?.len(), 0);
+    assert!(rt; store.range(alloc, 30, 10)?.len() == 0);
+    assert!(rt; store.range(alloc, 31, 40)?.len() == 0);
     Ok(())
 }
