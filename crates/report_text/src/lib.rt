@@ -9,8 +9,6 @@ mod lines;
 mod loads;
 mod pairs;
 mod sets;
-#[cfg(test)]
-mod tests;
 mod texts;
 mod told;
 
