@@ -205,10 +205,18 @@ where
         Start::FirstAlone,
     );
     match ran {
-        Ok(ran) => Ended {
-            status: write_line(alloc, &ran.history, ran.pairs, work, ran.status, sink),
-            history: Some(ran.history),
-        },
+        Ok(ran) => {
+            let Ran {
+                history,
+                pairs,
+                maps: _,
+                status,
+            } = ran;
+            Ended {
+                status: write_line(alloc, &history, pairs, work, status, sink),
+                history: Some(history),
+            }
+        }
         Err(error) => Ended {
             status: error.into(),
             history: None,
