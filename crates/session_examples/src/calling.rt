@@ -1,0 +1,97 @@
+// Calls of a session, from the disks to the disks.
+use crate::closing::{Left, close_all};
+use crate::sitting::{leave, sit};
+use cluster_beginning::{Opened, open_all};
+use cluster_carry::{Carry, CarryError, Reminding, carry_once, remind_once};
+use cluster_flush::{FlushError, Flushed, flush_once};
+use cluster_turns::{Shards, Walker};
+use disk_model::House;
+use disks_opening::OpenError;
+use io_edge::Pace;
+use lock_table::Locks;
+use log_gate::LogGate;
+use machine_calls::Flier;
+use ordered_store::Store;
+use session_api::Session;
+use session_rows::{Call, Said, make_call};
+use shard_machine::ShardMachine;
+use std::alloc::Global;
+use std::sync::Wait;
+
+/// What the first shard answers a walker that has nothing to do there.
+#[derive(Drop, Clone, Copy, Debug, PartialEq, Eq)]
+pub struct Quiet {
+    /// How many records are durable at least.
+    pub horizon: u64,
+    pub flushed: Result<Flushed, FlushError>,
+    pub carried: Result<Carry, CarryError>,
+    pub reminded: Result<Reminding, CarryError>,
+}
+
+// Makes the calls one after another.
+pub(crate) fn call_all<M: Flier, P: Pace, R: Wait>(
+    alloc: Global,
+    session: &mut Session<'_, M, P, R>,
+    calls: &[Call],
+    mut answers: Vec<Said>,
+) -> Vec<Said>
+{
+    for call in calls {
+        let one = *call;
+        answers.push_reserved(make_call(alloc, session, one));
+    }
+    answers
+}
+
+// Asks the first shard for its horizon, and for whatever is to be done.
+fn look_around<M: Flier, P: Pace, R: Wait>(
+    rt: &R,
+    alloc: Global,
+    shards: &Shards<M>,
+    walker: &mut Walker<M>,
+    pace: &P,
+) -> Quiet
+{
+    let horizon = shards.horizon_of(walker, 0);
+    let flushed = flush_once(rt, alloc, shards, walker, 0, pace);
+    let carried = carry_once(rt, alloc, shards, walker, 0);
+    let reminded = remind_once(rt, alloc, shards, walker, 0);
+    Quiet {
+        horizon,
+        flushed,
+        carried,
+        reminded,
+    }
+}
+
+/// Opens a cluster over the disks of a house with a clock that begins with `first`, makes these calls of one session, looks around on the first
+/// shard with the session's walker, and closes.
+pub fn open_call_close<S: Store + Drop, L: Locks + Drop, R: Wait, H: House, P: Pace>(
+    rt: &R,
+    alloc: Global,
+    house: &mut H,
+    pace: &P,
+    first: u64,
+    calls: &[Call],
+) -> Result<(Vec<Said>, Quiet, Left<S>), OpenError>
+{
+    let Ok(answers) = Vec::with_capacity(alloc, calls.len()) else {
+        return Err(OpenError::Memory);
+    };
+    let Opened {
+        shards,
+        mut walkers,
+        room,
+    } = match open_all::<S, L, H>(alloc, house, 1, first) {
+        Ok(opened) => opened,
+        Err(error) => return Err(error),
+    };
+    let mut session = sit(rt, &shards, pace, &mut walkers);
+    let answers = call_all(alloc, &mut session, calls, answers);
+    leave(&mut walkers, session);
+    let quiet = look_around(rt, alloc, &shards, &mut walkers[1], pace);
+    let left = close_all::<H, ShardMachine<S, L, LogGate<H::Disk>>>(
+        alloc, house, shards, walkers, room,
+    );
+    Ok((answers, quiet, left))
+}
