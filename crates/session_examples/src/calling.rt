@@ -1,4 +1,9 @@
 // Calls of a session, from the disks to the disks.
+ghost use Rattle.std.specs.Prelude.{◌≡◌, ◌<◌, ◌≤◌, ◌+◌, ℕ, false, length, vec_len, vec_capacity, IfOk, IfErr};
+ghost use Rattle.disks_opening.specs.Opening.{Refuses, CountsOpen};
+ghost use Rattle.session_scripts.specs.Standing.{Holds, IsAtRest};
+ghost use Rattle.session_examples.specs.Programs.{HasRun, AnyMade};
+
 use crate::closing::{Left, close_all};
 use crate::sitting::{leave, sit};
 use cluster_beginning::{Opened, open_all};
@@ -35,6 +40,12 @@ pub(crate) fn call_all<M: Flier, P: Pace, R: Wait>(
     calls: &[Call],
     mut answers: Vec<Said>,
 ) -> Vec<Said>
+    requires session { Holds session.old.shards.now session.old.walker session.old.progress }
+    requires room { vec_len answers + length calls.now ≤ vec_capacity answers }
+    ensures session { Holds session.new.shards.now session.new.walker session.new.progress }
+    ensures shards { session.new.shards ≡ session.old.shards }
+    ensures number { session.new.walker.number ≡ session.old.walker.number }
+    ensures len { vec_len result ≡ vec_len answers + length calls.now }
 {
     for call in calls {
         let one = *call;
@@ -51,6 +62,8 @@ fn look_around<M: Flier, P: Pace, R: Wait>(
     walker: &mut Walker<M>,
     pace: &P,
 ) -> Quiet
+    requires rest { IsAtRest shards.now walker.old.number walker.old }
+    ensures rest { IsAtRest shards.now walker.old.number walker.new }
 {
     let horizon = shards.horizon_of(walker, 0);
     let flushed = flush_once(rt, alloc, shards, walker, 0, pace);
@@ -65,7 +78,7 @@ fn look_around<M: Flier, P: Pace, R: Wait>(
 }
 
 /// Opens a cluster over the disks of a house with a clock that begins with `first`, makes these calls of one session, looks around on the first
-/// shard with the session's walker, and closes.
+/// shard with the session's walker, and closes. Each call is answered once. An `Err` is the first refusal of the opening.
 pub fn open_call_close<S: Store + Drop, L: Locks + Drop, R: Wait, H: House, P: Pace>(
     rt: &R,
     alloc: Global,
@@ -74,6 +87,12 @@ pub fn open_call_close<S: Store + Drop, L: Locks + Drop, R: Wait, H: House, P: P
     first: u64,
     calls: &[Call],
 ) -> Result<(Vec<Said>, Quiet, Left<S>), OpenError>
+    requires inside { (n : ℕ) → n < 16 → H.is_out house.old n ≡ false }
+    ensures each { IfOk result (λ r. vec_len r.0 ≡ length calls.now) }
+    ensures ran { IfOk result (λ r. HasRun (H.story house.old) (H.story house.new) (H.faults house.old) (H.faults house.new) r.2.history AnyMade) }
+    ensures back { (n : ℕ) → n < 16 → H.is_out house.new n ≡ false }
+    ensures refused { IfErr result (Refuses (H.story house.old)) }
+    ensures counts { IfErr result (CountsOpen (H.faults house.old) (H.faults house.new)) }
 {
     let Ok(answers) = Vec::with_capacity(alloc, calls.len()) else {
         return Err(OpenError::Memory);

@@ -1,4 +1,9 @@
 // A shard that falls and comes back, from the disks to the disks.
+ghost use Rattle.std.specs.Prelude.{◌≡◌, ◌<◌, ℕ, false, length, vec_len, IfOk, IfErr};
+ghost use Rattle.disks_opening.specs.Opening.{Refuses};
+ghost use Rattle.session_scripts.specs.Standing.{IsAtRest};
+ghost use Rattle.session_examples.specs.Walkers.{IsAtHome};
+
 use crate::calling::call_all;
 use crate::closing::{Left, close_all};
 use crate::sitting::{leave, sit};
@@ -36,8 +41,13 @@ fn revive<M: Reopener, R: Wait>(
     shards: &Shards<M>,
     walker: &mut Walker<M>,
 ) -> Revival
+    requires rest { IsAtRest shards.now 0 walker.old }
+    ensures home { IsAtHome shards.now 0 walker.new }
 {
-    let mut fetched = fetch(rt, shards, walker, 0)?;
+    let mut fetched = match fetch(rt, shards, walker, 0) {
+        Ok(fetched) => fetched,
+        Err(error) => return Err(error),
+    };
     for _try in rt.forever() {
         match restart(rt, alloc, shards, walker, fetched) {
             Ok(epoch) => return Ok(epoch),
@@ -47,8 +57,8 @@ fn revive<M: Reopener, R: Wait>(
     unreachable!()
 }
 
-/// Opens a cluster over the disks of a house, makes calls of a session, restarts the first shard where that is down, makes calls of another session of the
-/// same walker, and closes.
+/// Opens a cluster over the disks of a house, makes calls of a session, restarts the first shard by another walker where that is down, makes more calls of the
+/// session, and closes.
 pub fn open_revive_close<S: Store + Drop, L: Locks + Drop, R: Wait, H: House, P: Pace>(
     rt: &R,
     alloc: Global,
@@ -57,6 +67,10 @@ pub fn open_revive_close<S: Store + Drop, L: Locks + Drop, R: Wait, H: House, P:
     calls: &[Call],
     more: &[Call],
 ) -> Result<(Revived, Left<S>), OpenError>
+    requires inside { (n : ℕ) → n < 16 → H.is_out house.old n ≡ false }
+    ensures each { IfOk result (λ r. (vec_len r.0.before ≡ length calls.now) × (vec_len r.0.after ≡ length more.now)) }
+    ensures back { (n : ℕ) → n < 16 → H.is_out house.new n ≡ false }
+    ensures refused { IfErr result (Refuses (H.story house.old)) }
 {
     let Ok(before) = Vec::with_capacity(alloc, calls.len()) else {
         return Err(OpenError::Memory);
@@ -74,9 +88,7 @@ pub fn open_revive_close<S: Store + Drop, L: Locks + Drop, R: Wait, H: House, P:
     };
     let mut session = sit(rt, &shards, pace, &mut walkers);
     let before = call_all(alloc, &mut session, calls, before);
-    leave(&mut walkers, session);
     let revival = revive(rt, alloc, &shards, &mut walkers[0]);
-    let mut session = sit(rt, &shards, pace, &mut walkers);
     let after = call_all(alloc, &mut session, more, after);
     leave(&mut walkers, session);
     let left = close_all::<H, ShardMachine<S, L, LogGate<H::Disk>>>(

@@ -180,13 +180,13 @@ fn a_shard_whose_flush_failed_comes_back(rt: HostRuntime) -> Result<(), Fail> {
     let alloc = rt.alloc();
     let put = Call::Put { key: 5, value: 10 };
     let get = Call::Get { key: 5 };
-    let calls = [Call::Begin, put, Call::Commit, get, Call::Abort, Call::Commit, Call::Begin, get, Call::Commit];
-    let more = [Call::Begin, get, put, Call::Commit];
+    let calls = [Call::Begin, put, Call::Commit, get, Call::Abort, Call::Commit];
+    let more = [Call::Commit, Call::Begin, get, put, Call::Commit];
     // The ninth call is the sync of the batch behind a closed gate, the eleventh that of the gate: a read then finds the batch.
     let rows = [
-        (0, Err(FetchError::Up), "begun 1;none;committed;none active;none active;none active;begun 2;10;committed;", "begun 3;10;10;committed;"),
-        (9, Ok(1), "begun 1;none;unsettled 0;none active;none active;unsettled 0;begun 2;down 0;empty;", "begun 3;none;none;committed;"),
-        (11, Ok(1), "begun 1;none;unsettled 0;none active;none active;unsettled 0;begun 2;down 0;empty;", "begun 3;10;10;committed;"),
+        (0, Err(FetchError::Up), "begun 1;none;committed;none active;none active;none active;", "none active;begun 2;10;10;committed;"),
+        (9, Ok(1), "begun 1;none;unsettled 0;none active;none active;unsettled 0;", "Restarted { shard: 0, seen: 0, now: 1 };begun 2;none;none;committed;"),
+        (11, Ok(1), "begun 1;none;unsettled 0;none active;none active;unsettled 0;", "committed;begun 2;10;10;committed;"),
     ];
     for (call, epoch, before, after) in rows {
         let mut house = failing_house(alloc, call)?;

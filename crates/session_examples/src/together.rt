@@ -1,4 +1,13 @@
 // Sessions that transfer beside each other, from the disks to the disks.
+ghost use Rattle.std.specs.Prelude.{◌≡◌, ◌≢◌, ◌<◌, ◌≤◌, ◌+◌, ℕ, suc, true, false, length, slice_index_or, vec_len, vec_capacity, IfOk, IfErr};
+ghost use Rattle.clv_base.specs.Shards.{are_splits};
+ghost use Rattle.walkers_making.specs.Made.{IsNewWalker};
+ghost use Rattle.disks_opening.specs.Opening.{Refuses, CountsOpen};
+ghost use Rattle.session_scripts.specs.Standing.{Holds, IsAtRest};
+ghost use Rattle.session_api.specs.Progresses.{active_tx};
+ghost use Rattle.session_examples.specs.Walkers.{IsSeated, AreAtRest};
+ghost use Rattle.session_examples.specs.Programs.{HasRun, AnyMade};
+
 use crate::closing::{Left, close_all};
 use crate::sitting::{leave, sit};
 use cluster_beginning::{Opened, open_all};
@@ -34,6 +43,13 @@ fn take_seats<'a, M: Flier, P: Pace, R: Wait>(
     walkers: &mut Vec<Walker<M>>,
     mut seats: Vec<Seat<'a, M, P, R>>,
 ) -> Vec<Seat<'a, M, P, R>>
+    requires some { (0 < vec_len walkers.old) × (vec_len walkers.old ≤ 65) }
+    requires splits { are_splits shards.now.splits ≡ true }
+    requires new { (k : ℕ) (d : _) → k < vec_len walkers.old → IsNewWalker shards.now k 0 (slice_index_or walkers.old.items k d) }
+    requires room { (vec_len seats ≡ 0) × (vec_len walkers.old ≤ vec_capacity seats + 1) }
+    ensures len { (vec_len walkers.new ≡ 1) × (vec_capacity walkers.new ≡ vec_capacity walkers.old) × (vec_len result + 1 ≡ vec_len walkers.old) }
+    ensures first { (d : _) → slice_index_or walkers.new.items 0 d ≡ slice_index_or walkers.old.items 0 d }
+    ensures seated { (k : ℕ) (d : _) → k < vec_len result → IsSeated shards.now (suc k) (slice_index_or result.items k d).session.shards.now (slice_index_or result.items k d).session.walker (slice_index_or result.items k d).session.progress }
 {
     for _taken in 1..walkers.len() {
         let session = sit(rt, shards, pace, walkers);
@@ -48,14 +64,19 @@ fn leave_seats<M: Flier, P: Pace, R: Wait>(
     walkers: &mut Vec<Walker<M>>,
     seats: Vec<Seat<'_, M, P, R>>,
 ) -> u64
+    requires room { vec_len walkers.old + vec_len seats ≤ vec_capacity walkers.old }
+    requires one { vec_len walkers.old ≡ 1 }
+    ensures len { vec_len walkers.new ≡ vec_len seats.entry + 1 }
+    ensures first { (d : _) → slice_index_or walkers.new.items 0 d ≡ slice_index_or walkers.old.items 0 d }
+    ensures walkers { (k : ℕ) (d e : _) → k < vec_len seats.entry → slice_index_or walkers.new.items (suc k) d ≡ (slice_index_or seats.entry.items k e).session.walker }
 {
-    let mut moved = 0;
+    let mut moved = 0u64;
     for seat in seats {
         let Seat {
             session,
             moved: more,
         } = seat;
-        moved += more as u64;
+        moved = moved.saturating_add(more as u64);
         leave(walkers, session);
     }
     moved
@@ -63,6 +84,7 @@ fn leave_seats<M: Flier, P: Pace, R: Wait>(
 
 // From which key to which: round four keys.
 fn way(step: u32) -> (u64, u64)
+    ensures apart { result.0 ≢ result.1 }
 {
     match step % 4 {
         0 => (1, 11),
@@ -72,23 +94,45 @@ fn way(step: u32) -> (u64, u64)
     }
 }
 
-// Moves one so often, each time a step further round.
+// Moves one so often, each time a step further round, until the session is stopped.
 fn transfer_often<M: Flier, P: Pace, R: Wait>(
     alloc: Global,
     session: &mut Session<'_, M, P, R>,
     often: u32,
     tries: u32,
 ) -> u32
+    requires session { Holds session.old.shards.now session.old.walker session.old.progress }
+    requires idle { active_tx session.old.progress ≡ None }
+    ensures session { Holds session.new.shards.now session.new.walker session.new.progress }
+    ensures shards { session.new.shards ≡ session.old.shards }
+    ensures number { session.new.walker.number ≡ session.old.walker.number }
 {
     let mut moved = 0;
     for step in 0..often {
         let (from, to) = way(step);
-        let answer = transfer(alloc, session, from, to, 1, tries);
-        if let Ok(Transferred::Moved) = answer {
-            moved += 1;
+        match transfer(alloc, session, from, to, 1, tries) {
+            Ok(Transferred::Moved) => moved += 1,
+            Ok(_) => {}
+            Err(_) => return moved,
         }
     }
     moved
+}
+
+// The session of a seat makes its transfers.
+fn make_transfers<M: Flier, P: Pace, R: Wait>(
+    alloc: Global,
+    seat: &mut Seat<'_, M, P, R>,
+    often: u32,
+    tries: u32,
+)
+    requires session { Holds seat.old.session.shards.now seat.old.session.walker seat.old.session.progress }
+    requires idle { active_tx seat.old.session.progress ≡ None }
+    ensures session { Holds seat.new.session.shards.now seat.new.session.walker seat.new.session.progress }
+    ensures shards { seat.new.session.shards.now ≡ seat.old.session.shards.now }
+    ensures number { seat.new.session.walker.number ≡ seat.old.session.walker.number }
+{
+    seat.moved = transfer_often(alloc, &mut seat.session, often, tries);
 }
 
 // The session of each seat makes its transfers on a thread of its own.
@@ -102,12 +146,35 @@ fn run_together<M: Flier + Send, P: Pace + Sync, R: Threads + Wait + Sync>(
 where
     M::Store: Send,
     M::Gate: Send,
+    requires session { (k : ℕ) (d : _) → k < length seats.old → Holds (slice_index_or seats.old k d).session.shards.now (slice_index_or seats.old k d).session.walker (slice_index_or seats.old k d).session.progress }
+    requires idle { (k : ℕ) (d : _) → k < length seats.old → active_tx (slice_index_or seats.old k d).session.progress ≡ None }
+    ensures session { (k : ℕ) (d : _) → k < length seats.old → Holds (slice_index_or seats.new k d).session.shards.now (slice_index_or seats.new k d).session.walker (slice_index_or seats.new k d).session.progress }
+    ensures shards { (k : ℕ) (d : _) → k < length seats.old → (slice_index_or seats.new k d).session.shards.now ≡ (slice_index_or seats.old k d).session.shards.now }
+    ensures number { (k : ℕ) (d : _) → k < length seats.old → (slice_index_or seats.new k d).session.walker.number ≡ (slice_index_or seats.old k d).session.walker.number }
 {
     let count = seats.len();
-    let body = |_: usize, seat: &mut Seat<'_, M, P, R>| {
-        seat.moved = transfer_often(alloc, &mut seat.session, often, tries);
-    };
+    let body = |_: usize, seat: &mut Seat<'_, M, P, R>|
+        requires session { Holds seat.now.session.shards.now seat.now.session.walker seat.now.session.progress }
+        requires idle { active_tx seat.now.session.progress ≡ None }
+        ensures session { Holds seat.exit.now.session.shards.now seat.exit.now.session.walker seat.exit.now.session.progress }
+        ensures shards { seat.exit.now.session.shards.now ≡ seat.entry.now.session.shards.now }
+        ensures number { seat.exit.now.session.walker.number ≡ seat.entry.now.session.walker.number }
+    { make_transfers(alloc, seat, often, tries) };
     thread::for_each_mut(rt, seats, count, &body);
+}
+
+// Drains all shards by one walker, as far as that goes.
+fn drain_by<M: Flier, P: Pace, R: Wait>(
+    rt: &R,
+    alloc: Global,
+    shards: &Shards<M>,
+    walker: &mut Walker<M>,
+    pace: &P,
+)
+    requires rest { IsAtRest shards.now walker.old.number walker.old }
+    ensures rest { IsAtRest shards.now walker.old.number walker.new }
+{
+    let _drained = drain(rt, alloc, shards, walker, pace);
 }
 
 // All walkers drain all shards at once, each on a thread of its own.
@@ -121,16 +188,19 @@ fn drain_together<M: Flier + Send, P: Pace + Sync, R: Threads + Wait + Sync>(
 where
     M::Store: Send,
     M::Gate: Send,
+    requires rest { AreAtRest shards.now walkers.old }
+    ensures rest { (k : ℕ) (d : _) → k < length walkers.old → IsAtRest shards.now k (slice_index_or walkers.new k d) }
 {
     let count = walkers.len();
-    let body = |_: usize, walker: &mut Walker<M>| {
-        let _drained = drain(rt, alloc, shards, walker, pace);
-    };
+    let body = |_: usize, walker: &mut Walker<M>|
+        requires rest { IsAtRest shards.now walker.now.number walker.now }
+        ensures rest { IsAtRest shards.entry.now walker.entry.now.number walker.exit.now }
+    { drain_by(rt, alloc, shards, walker, pace) };
     thread::for_each_mut(rt, walkers, count, &body);
 }
 
 /// Opens a cluster over the disks of a house, lets so many sessions move one between four keys so often, all beside each other on threads, drains it by
-/// all walkers at once, and closes. It gives how many transfers were acknowledged.
+/// all walkers at once, and closes. It gives how many transfers were acknowledged. An `Err` is the first refusal of the opening.
 pub fn open_transfer_together_close<
     S: Store + Drop + Send,
     L: Locks + Drop + Send,
@@ -148,6 +218,12 @@ pub fn open_transfer_together_close<
 ) -> Result<(u64, Left<S>), OpenError>
 where
     H::Disk: Send,
+    requires inside { (n : ℕ) → n < 16 → H.is_out house.old n ≡ false }
+    requires few { sessions ≤ 64 }
+    ensures ran { IfOk result (λ r. HasRun (H.story house.old) (H.story house.new) (H.faults house.old) (H.faults house.new) r.1.history AnyMade) }
+    ensures back { (n : ℕ) → n < 16 → H.is_out house.new n ≡ false }
+    ensures refused { IfErr result (Refuses (H.story house.old)) }
+    ensures counts { IfErr result (CountsOpen (H.faults house.old) (H.faults house.new)) }
 {
     let Ok(room_for_seats) = Vec::with_capacity(alloc, sessions) else {
         return Err(OpenError::Memory);
