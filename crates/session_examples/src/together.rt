@@ -51,7 +51,8 @@ fn take_seats<'a, M: Flier, P: Pace, R: Wait>(
     ensures first { (d : _) → slice_index_or walkers.new.items 0 d ≡ slice_index_or walkers.old.items 0 d }
     ensures seated { (k : ℕ) (d : _) → k < vec_len result → IsSeated shards.now (suc k) (slice_index_or result.items k d).session.shards.now (slice_index_or result.items k d).session.walker (slice_index_or result.items k d).session.progress }
 {
-    for _taken in 1..walkers.len() {
+    let count = walkers.len();
+    for _taken in 1..count {
         let session = sit(rt, shards, pace, walkers);
         seats.push_reserved(Seat { session, moved: 0 });
     }
