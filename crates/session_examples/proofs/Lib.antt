@@ -1,4 +1,5 @@
 mod Ending
 mod Lists
+mod Reviving
 mod Turning
 mod Walking

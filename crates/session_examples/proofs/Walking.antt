@@ -1,16 +1,25 @@
 -- Walkers between the calls of their sessions.
-use Rattle.std.proofs.Common.{◌≡◌, ◌∙◌, sym, subst, ℕ, ◌<◌, List, length, get_or}
+use Rattle.std.proofs.Common.{◌≡◌, ◌∙◌, sym, subst, ℕ, ◌<◌, ◌≤◌, ◌-◌, true, List, [], ◌∷◌, ◌++◌, take, length, get_or, None, Result}
+use Rattle.clv_base.specs.Shards.{are_splits}
+use Rattle.cluster_turns.specs.declared.home.Home.{Home}
 use Rattle.cluster_turns.specs.declared.shards.Shards.{Shards}
 use Rattle.cluster_turns.specs.declared.shards.Walker.{Walker}
-use Rattle.cluster_turns.specs.Walkers.{IsWalker}
+use Rattle.cluster_turns.specs.Walkers.{IsWalker, IsSameWalker}
+use Rattle.cluster_drain.specs.declared.tending.DrainError.{DrainError}
+use Rattle.cluster_drain.specs.Rounds.{DrainTold}
 use Rattle.cluster_landing.specs.Landed.{HasLanded}
+use Rattle.cluster_landing.specs.Laws.{DrainsLand}
 use Rattle.cluster_holding.specs.Held.{HoldsNone}
+use Rattle.cluster_holding.proofs.Laws.{drains_hold_none, drains_fetch_none}
+use Rattle.walkers_making.specs.Made.{IsNewWalker}
 use Rattle.session_api.specs.declared.progress.Progress.{Progress}
+use Rattle.session_api.specs.declared.progress.Progress.TheVariants.{Idle}
 use Rattle.session_api.specs.Sessions.{IsSession}
 use Rattle.session_scripts.specs.Standing.{Holds, IsAtRest}
-use Rattle.session_scripts.proofs.Laws.{sessions_rest}
+use Rattle.session_scripts.proofs.Laws.{sessions_rest, new_walkers_are_sessions, new_walkers_rest}
 use Rattle.session_rows.specs.Later.{IsLater}
-use Rattle.session_examples.specs.Walkers.{IsAtHome, AreAtHome, AreAtRest}
+use Rattle.session_examples.specs.Walkers.{AreNew, IsAtHome, AreAtHome, AreAtRest}
+use Rattle.session_examples.proofs.Lists.{each_back}
 
 module _ {M S G : Type 0} (sh : Shards M S G) where
   -- a session's walker after its calls
@@ -25,3 +34,34 @@ module _ {M S G : Type 0} (sh : Shards M S G) where
 
   pub all_home : (walkers : List (Walker M S G)) → AreAtRest sh walkers → AreAtHome sh walkers
   all_home walkers rest = λ k d l. home_of k (get_or walkers k d) (rest k d l)
+
+  pub renumbered : (k : ℕ) (w v : Walker M S G) → IsAtRest sh w.number v → w.number ≡ k → IsAtRest sh k v
+  renumbered k w v rest is = subst (λ n. IsAtRest sh n v) is rest
+
+  pub own_rest : (k : ℕ) (w : Walker M S G) → IsAtRest sh k w → IsAtRest sh w.number w
+  own_rest k w rest = subst (λ n. IsAtRest sh n w) (sym rest.number_is) rest
+
+  -- a new walker behind walker 0 may have a session
+  pub holds_new : (number first n : ℕ) (w : Walker M S G) → IsNewWalker sh n first w → n ≡ number → are_splits sh.splits ≡ true → 1 ≤ number → number ≤ 64 → Holds sh w Idle
+  holds_new number first n w new is splits low high = new_walkers_are_sessions M S G sh number first w (subst (λ k. IsNewWalker sh k first w) is new) splits low high
+
+  pub rest_new : (k first : ℕ) (w : Walker M S G) → IsNewWalker sh k first w → IsAtRest sh k w
+  rest_new k first w new = new_walkers_rest M S G sh k first w new
+
+  -- after a drain
+  pub drained : DrainsLand (Home M S G) → (number : ℕ) (w v : Walker M S G) (r : Result Unit DrainError) → IsAtRest sh number w → IsWalker sh v × IsSameWalker w v → DrainTold (length sh.locks.items) w.number w.clock w.passes.items r v.clock v.passes.items
+      → IsAtRest sh number v
+  drained lands number w v r rest walks told = record {
+    walker = walks.0;
+    number_is = walks.1.0 ∙ rest.number_is;
+    landed = subst (λ n. HasLanded n v.passes.items) (sym walks.1.0) (lands (length sh.locks.items) w.number w.clock w.passes.items r v.clock v.passes.items told rest.landed);
+    fetched = drains_fetch_none (length sh.locks.items) w.number w.clock w.passes.items r v.clock v.passes.items told rest.fetched;
+    disks = subst (λ n. HoldsNone n v.passes.items) (sym walks.1.0) (drains_hold_none None (length sh.locks.items) w.number w.clock w.passes.items r v.clock v.passes.items told rest.disks);
+  }
+
+  -- all are at rest: new ones, and where the last one has left and come again
+  pub all_new : (first : ℕ) (ws : List (Walker M S G)) → AreNew sh first ws → AreAtRest sh ws
+  all_new first ws new = λ k d l. rest_new k first (get_or ws k d) (new k d l)
+
+  pub all_rest : (ws us vs : List (Walker M S G)) (n : ℕ) (v : Walker M S G) → n ≡ length ws → 1 ≤ n → us ≡ take (n - 1) ws → vs ≡ us ++ v ∷ [] → AreAtRest sh ws → IsAtRest sh (n - 1) v → AreAtRest sh vs
+  all_rest ws us vs n v many some left came rest back = each_back (λ k w. IsAtRest sh k w) ws us vs n v many some left came rest back

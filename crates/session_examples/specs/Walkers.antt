@@ -5,11 +5,16 @@ use Rattle.cluster_turns.specs.declared.shards.Walker.{Walker}
 use Rattle.cluster_turns.specs.Walkers.{IsWalker}
 use Rattle.cluster_landing.specs.Landed.{HasLanded}
 use Rattle.cluster_holding.specs.Held.{HoldsNone}
+use Rattle.walkers_making.specs.Made.{IsNewWalker}
 use Rattle.session_api.specs.declared.progress.Progress.{Progress}
 use Rattle.session_api.specs.Progresses.{active_tx}
 use Rattle.session_scripts.specs.Standing.{Holds, IsAtRest}
 
 module _ {M S G : Type 0} where
+  -- each is new, and its number is its place
+  abbrev pub AreNew : Shards M S G → ℕ → List (Walker M S G) → Type 0
+  AreNew sh first walkers = (k : ℕ) (d : Walker M S G) → k < length walkers → IsNewWalker sh k first (slice_index_or walkers k d)
+
   -- a walker of this number that has the gate and the disk of no shard
   pub record IsAtHome (sh : Shards M S G) (number : ℕ) (w : Walker M S G) : Type 0 where
     pub walker : IsWalker sh w

@@ -1,7 +1,9 @@
 // Calls of a session, from the disks to the disks.
-ghost use Rattle.std.specs.Prelude.{◌≡◌, ◌<◌, ◌≤◌, ◌+◌, ℕ, false, length, vec_len, vec_capacity, IfOk, IfErr};
+ghost use Rattle.std.specs.Prelude.{◌≡◌, ◌<◌, ◌≤◌, ◌+◌, ℕ, true, false, length, vec_len, vec_capacity, IfOk, IfErr};
+ghost use Rattle.clv_base.specs.Shards.{are_splits};
 ghost use Rattle.disks_opening.specs.Opening.{Refuses, CountsOpen};
 ghost use Rattle.session_scripts.specs.Standing.{Holds, IsAtRest};
+ghost use Rattle.session_examples.specs.Walkers.{AreNew, AreAtRest};
 ghost use Rattle.session_examples.specs.Programs.{HasRun, AnyMade};
 
 use crate::closing::{Left, close_all};
@@ -77,6 +79,31 @@ fn look_around<M: Flier, P: Pace, R: Wait>(
     }
 }
 
+// Makes the calls of a session of the second of two new walkers, and looks around by that walker.
+fn call_and_look<M: Flier, P: Pace, R: Wait>(
+    rt: &R,
+    alloc: Global,
+    shards: &Shards<M>,
+    pace: &P,
+    walkers: &mut Vec<Walker<M>>,
+    calls: &[Call],
+    answers: Vec<Said>,
+) -> (Vec<Said>, Quiet)
+    requires splits { are_splits shards.now.splits ≡ true }
+    requires two { vec_len walkers.old ≡ 2 }
+    requires new { (first : ℕ) × AreNew shards.now first walkers.old.items }
+    requires room { vec_len answers + length calls.now ≤ vec_capacity answers }
+    ensures two { vec_len walkers.new ≡ 2 }
+    ensures rest { AreAtRest shards.now walkers.new.items }
+    ensures len { vec_len result.0 ≡ vec_len answers + length calls.now }
+{
+    let mut session = sit(rt, shards, pace, walkers);
+    let answers = call_all(alloc, &mut session, calls, answers);
+    leave(walkers, session);
+    let quiet = look_around(rt, alloc, shards, &mut walkers[1], pace);
+    (answers, quiet)
+}
+
 /// Opens a cluster over the disks of a house with a clock that begins with `first`, makes these calls of one session, looks around on the first
 /// shard with the session's walker, and closes. Each call is answered once. An `Err` is the first refusal of the opening.
 pub fn open_call_close<S: Store + Drop, L: Locks + Drop, R: Wait, H: House, P: Pace>(
@@ -97,18 +124,16 @@ pub fn open_call_close<S: Store + Drop, L: Locks + Drop, R: Wait, H: House, P: P
     let Ok(answers) = Vec::with_capacity(alloc, calls.len()) else {
         return Err(OpenError::Memory);
     };
+    let opened = match open_all::<S, L, H>(alloc, house, 1, first) {
+        Ok(opened) => opened,
+        Err(error) => return Err(error),
+    };
     let Opened {
         shards,
         mut walkers,
         room,
-    } = match open_all::<S, L, H>(alloc, house, 1, first) {
-        Ok(opened) => opened,
-        Err(error) => return Err(error),
-    };
-    let mut session = sit(rt, &shards, pace, &mut walkers);
-    let answers = call_all(alloc, &mut session, calls, answers);
-    leave(&mut walkers, session);
-    let quiet = look_around(rt, alloc, &shards, &mut walkers[1], pace);
+    } = opened;
+    let (answers, quiet) = call_and_look(rt, alloc, &shards, pace, &mut walkers, calls, answers);
     let left = close_all::<H, ShardMachine<S, L, LogGate<H::Disk>>>(
         alloc, house, shards, walkers, room,
     );

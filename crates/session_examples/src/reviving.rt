@@ -1,8 +1,9 @@
 // A shard that falls and comes back, from the disks to the disks.
-ghost use Rattle.std.specs.Prelude.{◌≡◌, ◌<◌, ℕ, false, length, vec_len, IfOk, IfErr};
+ghost use Rattle.std.specs.Prelude.{◌≡◌, ◌<◌, ◌≤◌, ◌+◌, ℕ, true, false, length, vec_len, vec_capacity, IfOk, IfErr};
+ghost use Rattle.clv_base.specs.Shards.{are_splits};
 ghost use Rattle.disks_opening.specs.Opening.{Refuses};
 ghost use Rattle.session_scripts.specs.Standing.{IsAtRest};
-ghost use Rattle.session_examples.specs.Walkers.{IsAtHome};
+ghost use Rattle.session_examples.specs.Walkers.{AreNew, IsAtHome, AreAtHome};
 
 use crate::calling::call_all;
 use crate::closing::{Left, close_all};
@@ -57,6 +58,36 @@ fn revive<M: Reopener, R: Wait>(
     unreachable!()
 }
 
+// Makes calls of a session of the second of two new walkers, before and after the first one brings the first shard back.
+fn revive_between<M: Reopener, P: Pace, R: Wait>(
+    rt: &R,
+    alloc: Global,
+    shards: &Shards<M>,
+    pace: &P,
+    walkers: &mut Vec<Walker<M>>,
+    first: (&[Call], Vec<Said>),
+    then: (&[Call], Vec<Said>),
+) -> Revived
+    requires splits { are_splits shards.now.splits ≡ true }
+    requires two { vec_len walkers.old ≡ 2 }
+    requires new { AreNew shards.now 0 walkers.old.items }
+    requires room { (vec_len first.1 + length first.0.now ≤ vec_capacity first.1) × (vec_len then.1 + length then.0.now ≤ vec_capacity then.1) }
+    ensures two { vec_len walkers.new ≡ 2 }
+    ensures home { AreAtHome shards.now walkers.new.items }
+    ensures len { (vec_len result.before ≡ vec_len first.entry.1 + length first.entry.0.now) × (vec_len result.after ≡ vec_len then.entry.1 + length then.entry.0.now) }
+{
+    let mut session = sit(rt, shards, pace, walkers);
+    let before = call_all(alloc, &mut session, first.0, first.1);
+    let revival = revive(rt, alloc, shards, &mut walkers[0]);
+    let after = call_all(alloc, &mut session, then.0, then.1);
+    leave(walkers, session);
+    Revived {
+        before,
+        revival,
+        after,
+    }
+}
+
 /// Opens a cluster over the disks of a house, makes calls of a session, restarts the first shard by another walker where that is down, makes more calls of the
 /// session, and closes.
 pub fn open_revive_close<S: Store + Drop, L: Locks + Drop, R: Wait, H: House, P: Pace>(
@@ -78,26 +109,26 @@ pub fn open_revive_close<S: Store + Drop, L: Locks + Drop, R: Wait, H: House, P:
     let Ok(after) = Vec::with_capacity(alloc, more.len()) else {
         return Err(OpenError::Memory);
     };
+    let opened = match open_all::<S, L, H>(alloc, house, 1, 0) {
+        Ok(opened) => opened,
+        Err(error) => return Err(error),
+    };
     let Opened {
         shards,
         mut walkers,
         room,
-    } = match open_all::<S, L, H>(alloc, house, 1, 0) {
-        Ok(opened) => opened,
-        Err(error) => return Err(error),
-    };
-    let mut session = sit(rt, &shards, pace, &mut walkers);
-    let before = call_all(alloc, &mut session, calls, before);
-    let revival = revive(rt, alloc, &shards, &mut walkers[0]);
-    let after = call_all(alloc, &mut session, more, after);
-    leave(&mut walkers, session);
+    } = opened;
+    let revived = revive_between(
+        rt,
+        alloc,
+        &shards,
+        pace,
+        &mut walkers,
+        (calls, before),
+        (more, after),
+    );
     let left = close_all::<H, ShardMachine<S, L, LogGate<H::Disk>>>(
         alloc, house, shards, walkers, room,
     );
-    let revived = Revived {
-        before,
-        revival,
-        after,
-    };
     Ok((revived, left))
 }

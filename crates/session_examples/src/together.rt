@@ -1,18 +1,18 @@
 // Sessions that transfer beside each other, from the disks to the disks.
 ghost use Rattle.std.specs.Prelude.{◌≡◌, ◌≢◌, ◌<◌, ◌≤◌, ◌+◌, ℕ, suc, true, false, length, slice_index_or, vec_len, vec_capacity, IfOk, IfErr};
 ghost use Rattle.clv_base.specs.Shards.{are_splits};
-ghost use Rattle.walkers_making.specs.Made.{IsNewWalker};
 ghost use Rattle.disks_opening.specs.Opening.{Refuses, CountsOpen};
 ghost use Rattle.session_scripts.specs.Standing.{Holds, IsAtRest};
 ghost use Rattle.session_api.specs.Progresses.{active_tx};
-ghost use Rattle.session_examples.specs.Walkers.{IsSeated, AreAtRest};
+ghost use Rattle.session_examples.specs.Walkers.{AreNew, AreAtRest, IsSeated};
 ghost use Rattle.session_examples.specs.Programs.{HasRun, AnyMade};
 
 use crate::closing::{Left, close_all};
 use crate::sitting::{leave, sit};
 use cluster_beginning::{Opened, open_all};
 use cluster_drain::drain;
-use cluster_turns::{Shards, Walker};
+use cluster_landing::promises::drains_land;
+use cluster_turns::{Home, Shards, Walker};
 use disk_model::House;
 use disks_opening::OpenError;
 use io_edge::Pace;
@@ -45,7 +45,7 @@ fn take_seats<'a, M: Flier, P: Pace, R: Wait>(
 ) -> Vec<Seat<'a, M, P, R>>
     requires some { (0 < vec_len walkers.old) × (vec_len walkers.old ≤ 65) }
     requires splits { are_splits shards.now.splits ≡ true }
-    requires new { (k : ℕ) (d : _) → k < vec_len walkers.old → IsNewWalker shards.now k 0 (slice_index_or walkers.old.items k d) }
+    requires new { AreNew shards.now 0 walkers.old.items }
     requires room { (vec_len seats ≡ 0) × (vec_len walkers.old ≤ vec_capacity seats + 1) }
     ensures len { (vec_len walkers.new ≡ 1) × (vec_capacity walkers.new ≡ vec_capacity walkers.old) × (vec_len result + 1 ≡ vec_len walkers.old) }
     ensures first { (d : _) → slice_index_or walkers.new.items 0 d ≡ slice_index_or walkers.old.items 0 d }
@@ -175,6 +175,7 @@ fn drain_by<M: Flier, P: Pace, R: Wait>(
     requires rest { IsAtRest shards.now walker.old.number walker.old }
     ensures rest { IsAtRest shards.now walker.old.number walker.new }
 {
+    drains_land::<Home<M>>();
     let _drained = drain(rt, alloc, shards, walker, pace);
 }
 
@@ -198,6 +199,34 @@ where
         ensures rest { IsAtRest shards.entry.now walker.entry.now.number walker.exit.now }
     { drain_by(rt, alloc, shards, walker, pace) };
     thread::for_each_mut(rt, walkers, count, &body);
+}
+
+// Sessions of all new walkers but walker 0 transfer beside each other, and then all walkers drain.
+fn transfer_and_drain<'a, M: Flier + Send, P: Pace + Sync, R: Threads + Wait + Sync>(
+    rt: &'a R,
+    alloc: Global,
+    shards: &'a Shards<M>,
+    pace: &'a P,
+    walkers: &mut Vec<Walker<M>>,
+    room: Vec<Seat<'a, M, P, R>>,
+    often: u32,
+    tries: u32,
+) -> u64
+where
+    M::Store: Send,
+    M::Gate: Send,
+    requires some { (0 < vec_len walkers.old) × (vec_len walkers.old ≤ 65) }
+    requires splits { are_splits shards.now.splits ≡ true }
+    requires new { AreNew shards.now 0 walkers.old.items }
+    requires room { (vec_len room ≡ 0) × (vec_len walkers.old ≤ vec_capacity room + 1) }
+    ensures len { vec_len walkers.new ≡ vec_len walkers.old }
+    ensures rest { AreAtRest shards.now walkers.new.items }
+{
+    let mut seats = take_seats(rt, shards, pace, walkers, room);
+    run_together(rt, alloc, seats.as_mut_slice(), often, tries);
+    let moved = leave_seats(walkers, seats);
+    drain_together(rt, alloc, shards, walkers.as_mut_slice(), pace);
+    moved
 }
 
 /// Opens a cluster over the disks of a house, lets so many sessions move one between four keys so often, all beside each other on threads, drains it by
@@ -229,18 +258,25 @@ where
     let Ok(room_for_seats) = Vec::with_capacity(alloc, sessions) else {
         return Err(OpenError::Memory);
     };
+    let opened = match open_all::<S, L, H>(alloc, house, sessions, 0) {
+        Ok(opened) => opened,
+        Err(error) => return Err(error),
+    };
     let Opened {
         shards,
         mut walkers,
         room,
-    } = match open_all::<S, L, H>(alloc, house, sessions, 0) {
-        Ok(opened) => opened,
-        Err(error) => return Err(error),
-    };
-    let mut seats = take_seats(rt, &shards, pace, &mut walkers, room_for_seats);
-    run_together(rt, alloc, seats.as_mut_slice(), often, tries);
-    let moved = leave_seats(&mut walkers, seats);
-    drain_together(rt, alloc, &shards, walkers.as_mut_slice(), pace);
+    } = opened;
+    let moved = transfer_and_drain(
+        rt,
+        alloc,
+        &shards,
+        pace,
+        &mut walkers,
+        room_for_seats,
+        often,
+        tries,
+    );
     let left = close_all::<H, ShardMachine<S, L, LogGate<H::Disk>>>(
         alloc, house, shards, walkers, room,
     );
