@@ -1,5 +1,6 @@
 mod Ending
 mod Lists
 mod Reviving
+mod Sending
 mod Turning
 mod Walking

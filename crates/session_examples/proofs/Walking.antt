@@ -1,5 +1,5 @@
 -- Walkers between the calls of their sessions.
-use Rattle.std.proofs.Common.{◌≡◌, ◌∙◌, sym, subst, ℕ, ◌<◌, ◌≤◌, ◌-◌, true, List, [], ◌∷◌, ◌++◌, take, length, get_or, None, Result}
+use Rattle.std.proofs.Common.{arith, ◌≡◌, ◌∙◌, sym, ap, subst, ℕ, zero, suc, ◌<◌, ◌≤◌, ◌+◌, ◌-◌, true, List, [], ◌∷◌, ◌++◌, take, length, get_or, set, None, Result}
 use Rattle.clv_base.specs.Shards.{are_splits}
 use Rattle.cluster_turns.specs.declared.home.Home.{Home}
 use Rattle.cluster_turns.specs.declared.shards.Shards.{Shards}
@@ -19,7 +19,7 @@ use Rattle.session_scripts.specs.Standing.{Holds, IsAtRest}
 use Rattle.session_scripts.proofs.Laws.{sessions_rest, new_walkers_are_sessions, new_walkers_rest}
 use Rattle.session_rows.specs.Later.{IsLater}
 use Rattle.session_examples.specs.Walkers.{AreNew, IsAtHome, AreAtHome, AreAtRest}
-use Rattle.session_examples.proofs.Lists.{each_back}
+use Rattle.session_examples.proofs.Lists.{each_back, each_at}
 
 module _ {M S G : Type 0} (sh : Shards M S G) where
   -- a session's walker after its calls
@@ -65,3 +65,25 @@ module _ {M S G : Type 0} (sh : Shards M S G) where
 
   pub all_rest : (ws us vs : List (Walker M S G)) (n : ℕ) (v : Walker M S G) → n ≡ length ws → 1 ≤ n → us ≡ take (n - 1) ws → vs ≡ us ++ v ∷ [] → AreAtRest sh ws → IsAtRest sh (n - 1) v → AreAtRest sh vs
   all_rest ws us vs n v many some left came rest back = each_back (λ k w. IsAtRest sh k w) ws us vs n v many some left came rest back
+
+  -- one that is at rest still stands in its place
+  pub rest_at : (ws : List (Walker M S G)) (n : ℕ) (v : Walker M S G) → AreAtRest sh ws → IsAtRest sh n v → AreAtRest sh (set ws n v)
+  rest_at ws n v rest new = each_at (λ k w. IsAtRest sh k w) ws n v rest new
+
+  pub sat_number : (ws : List (Walker M S G)) (m first : ℕ) (o v : Walker M S G) → AreNew sh first ws → m < length ws → o ≡ get_or ws m o → v.number ≡ o.number → v.number ≡ m
+  sat_number ws m first o v new low is same = same ∙ (ap (λ w. w.number) is ∙ (new m o low).number_is)
+
+  -- of two the second one has left and come again, and the first one has gone on
+  pub two_home : (ws us vs : List (Walker M S G)) (n : ℕ) (w v : Walker M S G) → n ≡ length ws → n ≡ 2 → us ≡ take (n - 1) ws → vs ≡ set us 0 w ++ v ∷ [] → IsAtHome sh 0 w → IsAtHome sh 1 v → AreAtHome sh vs
+  two_home [] us vs n w v many two left came first second = absurd (omega arith)
+  two_home (x ∷ ws) us vs n w v many two left came first second = subst (λ l. AreAtHome sh l) (sym (came ∙ ap (λ l. set l 0 w ++ v ∷ []) (left ∙ ap (λ m. take (m - 1) (x ∷ ws)) two))) both
+    where
+      both : AreAtHome sh (w ∷ v ∷ [])
+      both zero d l = first
+      both (suc zero) d l = second
+      both (suc (suc k)) d l = absurd (omega arith)
+
+  -- walker 0 and those of seats
+  pub all_behind : (ws : List (Walker M S G)) (n : ℕ) → length ws ≡ n + 1 → ((d : Walker M S G) → IsAtRest sh 0 (get_or ws 0 d)) → ((k : ℕ) (d : Walker M S G) → k < n → IsAtRest sh (suc k) (get_or ws (suc k) d)) → AreAtRest sh ws
+  all_behind ws n many first others zero d l = first d
+  all_behind ws n many first others (suc k) d l = others k d (omega arith)

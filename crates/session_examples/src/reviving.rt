@@ -16,7 +16,7 @@ use disks_opening::OpenError;
 use io_edge::Pace;
 use lock_table::Locks;
 use log_gate::LogGate;
-use machine_calls::Reopener;
+use machine_calls::{Flier, Reopener};
 use ordered_store::Store;
 use session_rows::{Call, Said};
 use shard_machine::ShardMachine;
@@ -59,7 +59,7 @@ fn revive<M: Reopener, R: Wait>(
 }
 
 // Makes calls of a session of the second of two new walkers, before and after the first one brings the first shard back.
-fn revive_between<M: Reopener, P: Pace, R: Wait>(
+fn revive_between<M: Reopener + Flier, P: Pace, R: Wait>(
     rt: &R,
     alloc: Global,
     shards: &Shards<M>,
