@@ -30,7 +30,7 @@ use Rattle.session_scripts.specs.Standing.{IsAtRest}
 
 module _ {T : Type 0} where
   -- the walker w took some turns
-  pub abbrev TookSome : ℕ → ℕ → List (Option (Pass T Note Origin)) → ℕ → List (Option (Pass T Note Origin)) → Type 0
+  abbrev pub TookSome : ℕ → ℕ → List (Option (Pass T Note Origin)) → ℕ → List (Option (Pass T Note Origin)) → Type 0
   TookSome w c ps d qs = (ts : List Turn) × Took w c ps ts d qs
 
   pub look_took : (w c n horizon : ℕ) (ps qs : List (Option (Pass T Note Origin))) → Looked n ps horizon qs → TookSome w c ps c qs

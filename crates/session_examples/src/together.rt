@@ -153,6 +153,9 @@ where
     ensures shards { (k : ℕ) (d : _) → k < length seats.old → (slice_index_or seats.new k d).session.shards.now ≡ (slice_index_or seats.old k d).session.shards.now }
     ensures number { (k : ℕ) (d : _) → k < length seats.old → (slice_index_or seats.new k d).session.walker.number ≡ (slice_index_or seats.old k d).session.walker.number }
 {
+    if seats.is_empty() {
+        return;
+    }
     let count = seats.len();
     let body = |_: usize, seat: &mut Seat<'_, M, P, R>|
         requires session { Holds seat.now.session.shards.now seat.now.session.walker seat.now.session.progress }
@@ -164,44 +167,42 @@ where
     thread::for_each_mut(rt, seats, count, &body);
 }
 
-// Drains all shards by one walker, as far as that goes.
-fn drain_by<M: Flier, P: Pace, R: Wait>(
-    rt: &R,
-    alloc: Global,
-    shards: &Shards<M>,
-    walker: &mut Walker<M>,
-    pace: &P,
-)
-    requires rest { IsAtRest shards.now walker.old.number walker.old }
-    ensures rest { IsAtRest shards.now walker.old.number walker.new }
+// Drains all shards by the walker of a seat, as far as that goes. Its session is over.
+fn drain_seat<M: Flier, P: Pace, R: Wait>(alloc: Global, seat: &mut Seat<'_, M, P, R>)
+    requires rest { IsAtRest seat.old.session.shards.now seat.old.session.walker.number seat.old.session.walker }
+    ensures rest { IsAtRest seat.old.session.shards.now seat.old.session.walker.number seat.new.session.walker }
 {
     drains_land::<Home<M>>();
-    let _drained = drain(rt, alloc, shards, walker, pace);
+    let rt = seat.session.rt;
+    let shards = seat.session.shards;
+    let pace = seat.session.pace;
+    let _drained = drain(rt, alloc, shards, &mut seat.session.walker, pace);
 }
 
-// All walkers drain all shards at once, each on a thread of its own.
+// The walkers of all seats drain all shards at once, each on a thread of its own.
 fn drain_together<M: Flier + Send, P: Pace + Sync, R: Threads + Wait + Sync>(
     rt: &R,
     alloc: Global,
-    shards: &Shards<M>,
-    walkers: &mut [Walker<M>],
-    pace: &P,
+    seats: &mut [Seat<'_, M, P, R>],
 )
 where
     M::Store: Send,
     M::Gate: Send,
-    requires rest { AreAtRest shards.now walkers.old }
-    ensures rest { (k : ℕ) (d : _) → k < length walkers.old → IsAtRest shards.now k (slice_index_or walkers.new k d) }
+    requires rest { (k : ℕ) (d : _) → k < length seats.old → IsAtRest (slice_index_or seats.old k d).session.shards.now (slice_index_or seats.old k d).session.walker.number (slice_index_or seats.old k d).session.walker }
+    ensures rest { (k : ℕ) (d : _) → k < length seats.old → IsAtRest (slice_index_or seats.old k d).session.shards.now (slice_index_or seats.old k d).session.walker.number (slice_index_or seats.new k d).session.walker }
 {
-    let count = walkers.len();
-    let body = |_: usize, walker: &mut Walker<M>|
-        requires rest { IsAtRest shards.now walker.now.number walker.now }
-        ensures rest { IsAtRest shards.entry.now walker.entry.now.number walker.exit.now }
-    { drain_by(rt, alloc, shards, walker, pace) };
-    thread::for_each_mut(rt, walkers, count, &body);
+    if seats.is_empty() {
+        return;
+    }
+    let count = seats.len();
+    let body = |_: usize, seat: &mut Seat<'_, M, P, R>|
+        requires rest { IsAtRest seat.now.session.shards.now seat.now.session.walker.number seat.now.session.walker }
+        ensures rest { IsAtRest seat.entry.now.session.shards.now seat.entry.now.session.walker.number seat.exit.now.session.walker }
+    { drain_seat(alloc, seat) };
+    thread::for_each_mut(rt, seats, count, &body);
 }
 
-// Sessions of all new walkers but walker 0 transfer beside each other, and then all walkers drain.
+// Sessions of all new walkers but walker 0 transfer beside each other, and then these walkers drain.
 fn transfer_and_drain<'a, M: Flier + Send, P: Pace + Sync, R: Threads + Wait + Sync>(
     rt: &'a R,
     alloc: Global,
@@ -224,13 +225,12 @@ where
 {
     let mut seats = take_seats(rt, shards, pace, walkers, room);
     run_together(rt, alloc, seats.as_mut_slice(), often, tries);
-    let moved = leave_seats(walkers, seats);
-    drain_together(rt, alloc, shards, walkers.as_mut_slice(), pace);
-    moved
+    drain_together(rt, alloc, seats.as_mut_slice());
+    leave_seats(walkers, seats)
 }
 
 /// Opens a cluster over the disks of a house, lets so many sessions move one between four keys so often, all beside each other on threads, drains it by
-/// all walkers at once, and closes. It gives how many transfers were acknowledged. An `Err` is the first refusal of the opening.
+/// their walkers at once, and closes. It gives how many transfers were acknowledged. An `Err` is the first refusal of the opening.
 pub fn open_transfer_together_close<
     S: Store + Drop + Send,
     L: Locks + Drop + Send,
