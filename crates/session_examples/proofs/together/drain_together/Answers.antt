@@ -4,7 +4,16 @@ use denote.Param.{param}
 use denote.Param.Send.{param_send}
 use Rattle.std.proofs.Common.{sym, subst, slice_index_or}
 use Rattle.session_scripts.specs.Standing.{IsAtRest}
+use Rattle.session_examples.proofs.Sending.{seat_row_send}
 use Rattle.session_examples.proofs.together.drain_together.Goals as goal
+
+-- a seat may be sent to a thread
+pub for_each_mut-requires-send-T : goal.for_each_mut-requires-send-T
+for_each_mut-requires-send-T g c κs within =
+    let l : NamedLft = record { mir = named 2; lft = κs.1.1.0 } in
+    let b = c.type_bounds in
+    let s = seat_row_send l (param 0 g.row.M) (param 1 g.row.P) (param 2 g.row.R) (param 3 g.row.M-Store) (param 4 g.row.M-Gate) g.M.Machine g.M.Store.Store g.M.Gate.Gate b.send-M b.sync-P b.sync-R in
+    record { owned = s.owned; leaving = (param_send 1 _ s).leaving }
 
 -- each walker may drain
 pub for_each_mut-requires-clause-accepts : goal.for_each_mut-requires-clause-accepts
