@@ -8,7 +8,9 @@ ghost use Rattle.std.specs.Prelude.{◌≡◌, ◌<◌, ℕ, false};
 use self::houses::{failing_house, house_of};
 use self::model::{calls_of, expected};
 use self::texts::text_of;
-use crate::{Quiet, open_call_close, open_revive_close, open_transfer_close, open_transfer_together_close};
+use crate::{
+    Quiet, open_call_close, open_revive_close, open_transfer_close, open_transfer_together_close,
+};
 use cluster_carry::{Carry, Reminding};
 use cluster_flush::Flushed;
 use cluster_restart::FetchError;
@@ -56,14 +58,54 @@ fn calls_out_of_turn_are_refused(rt: HostRuntime) -> Result<(), Fail> {
     let put = Call::Put { key: 1, value: 10 };
     let bad = Call::Scan { lo: 9, hi: 3 };
     let rows: [(&[Call], u64, &str); 8] = [
-        (&[Call::Begin, Call::Commit, Call::Retry], 0, "begun 1;empty;no retry;"),
-        (&[Call::Begin, bad, put, Call::Commit], 0, "begun 1;bad range 9 3;none;committed;"),
-        (&[Call::Begin, Call::Begin, Call::Retry], 0, "begun 1;active 1;active 1;"),
-        (&[Call::Commit, Call::Abort, get, bad], 0, "none active;none active;none active;none active;"),
-        (&[Call::Begin, put, Call::Commit, Call::Retry, get], 0, "begun 1;none;committed;no retry;none active;"),
-        (&[Call::Begin, put, Call::Abort, Call::Abort, Call::Commit, Call::Retry, get], 0, "begun 1;none;aborted;none active;none active;begun 2;none;"),
-        (&[Call::Begin, get, Call::Abort, Call::Begin], LAST, "begun 1;worn 281474976710656;aborted;worn 281474976710656;"),
-        (&[Call::Begin, Call::Commit, Call::Begin, Call::Retry], LAST, "begun 1;empty;worn 281474976710656;no retry;"),
+        (
+            &[Call::Begin, Call::Commit, Call::Retry],
+            0,
+            "begun 1;empty;no retry;",
+        ),
+        (
+            &[Call::Begin, bad, put, Call::Commit],
+            0,
+            "begun 1;bad range 9 3;none;committed;",
+        ),
+        (
+            &[Call::Begin, Call::Begin, Call::Retry],
+            0,
+            "begun 1;active 1;active 1;",
+        ),
+        (
+            &[Call::Commit, Call::Abort, get, bad],
+            0,
+            "none active;none active;none active;none active;",
+        ),
+        (
+            &[Call::Begin, put, Call::Commit, Call::Retry, get],
+            0,
+            "begun 1;none;committed;no retry;none active;",
+        ),
+        (
+            &[
+                Call::Begin,
+                put,
+                Call::Abort,
+                Call::Abort,
+                Call::Commit,
+                Call::Retry,
+                get,
+            ],
+            0,
+            "begun 1;none;aborted;none active;none active;begun 2;none;",
+        ),
+        (
+            &[Call::Begin, get, Call::Abort, Call::Begin],
+            LAST,
+            "begun 1;worn 281474976710656;aborted;worn 281474976710656;",
+        ),
+        (
+            &[Call::Begin, Call::Commit, Call::Begin, Call::Retry],
+            LAST,
+            "begun 1;empty;worn 281474976710656;no retry;",
+        ),
     ];
     for (calls, first, wanted) in rows {
         let mut house = house_of(alloc, &[])?;
@@ -107,18 +149,51 @@ fn nothing_is_left_to_do_after_a_commit(rt: HostRuntime) -> Result<(), Fail> {
 fn a_transfer_moves_or_says_why_not(rt: HostRuntime) -> Result<(), Fail> {
     let alloc = rt.alloc();
     let rows: [(u64, u64, u64, Transferred, &str); 4] = [
-        (1, 11, 30, Transferred::Moved, "begun 1;[(1, 70), (11, 30)];committed;"),
-        (1, 11, 101, Transferred::Refused(Refusal::Overdrawn { holds: 100 }), "begun 1;[(1, 100), (11, 0)];committed;"),
-        (1, 9, 1, Transferred::Refused(Refusal::Missing { key: 9 }), "begun 1;[(1, 100), (11, 0)];committed;"),
-        (11, 1, 0, Transferred::Moved, "begun 1;[(1, 100), (11, 0)];committed;"),
+        (
+            1,
+            11,
+            30,
+            Transferred::Moved,
+            "begun 1;[(1, 70), (11, 30)];committed;",
+        ),
+        (
+            1,
+            11,
+            101,
+            Transferred::Refused(Refusal::Overdrawn { holds: 100 }),
+            "begun 1;[(1, 100), (11, 0)];committed;",
+        ),
+        (
+            1,
+            9,
+            1,
+            Transferred::Refused(Refusal::Missing { key: 9 }),
+            "begun 1;[(1, 100), (11, 0)];committed;",
+        ),
+        (
+            11,
+            1,
+            0,
+            Transferred::Moved,
+            "begun 1;[(1, 100), (11, 0)];committed;",
+        ),
     ];
-    let fill = [Call::Begin, Call::Put { key: 1, value: 100 }, Call::Put { key: 11, value: 0 }, Call::Commit];
+    let fill = [
+        Call::Begin,
+        Call::Put { key: 1, value: 100 },
+        Call::Put { key: 11, value: 0 },
+        Call::Commit,
+    ];
     for (from, to, amount, wanted, text) in rows {
         let mut house = house_of(alloc, &[10])?;
         ask(&rt, alloc, &mut house, 0, &fill)?;
-        let answer = open_transfer_close::<BlockStore, HashedLocks, HostRuntime, MemoryHouse, NoPace>(
-            &rt, alloc, &mut house, &NoPace, from, to, amount, 3,
-        );
+        let answer = open_transfer_close::<
+            BlockStore,
+            HashedLocks,
+            HostRuntime,
+            MemoryHouse,
+            NoPace,
+        >(&rt, alloc, &mut house, &NoPace, from, to, amount, 3);
         let Ok((transferred, _)) = answer else {
             return Err(Fail::new("opening"));
         };
@@ -149,23 +224,41 @@ fn sessions_beside_each_other_keep_the_sum(rt: HostRuntime) -> Result<(), Fail> 
     let fill = [
         Call::Begin,
         Call::Put { key: 1, value: 100 },
-        Call::Put { key: 11, value: 100 },
-        Call::Put { key: 21, value: 100 },
-        Call::Put { key: 31, value: 100 },
+        Call::Put {
+            key: 11,
+            value: 100,
+        },
+        Call::Put {
+            key: 21,
+            value: 100,
+        },
+        Call::Put {
+            key: 31,
+            value: 100,
+        },
         Call::Commit,
     ];
     for (splits, sessions) in rows {
         let mut house = house_of(alloc, splits)?;
         ask(&rt, alloc, &mut house, 0, &fill)?;
-        let answer = open_transfer_together_close::<BlockStore, HashedLocks, HostRuntime, MemoryHouse, NoPace>(
-            &rt, alloc, &mut house, &NoPace, sessions, 3, 1000,
-        );
+        let answer = open_transfer_together_close::<
+            BlockStore,
+            HashedLocks,
+            HostRuntime,
+            MemoryHouse,
+            NoPace,
+        >(&rt, alloc, &mut house, &NoPace, sessions, 3, 1000);
         let Ok((moved, _)) = answer else {
             return Err(Fail::new("opening"));
         };
         assert_eq!(rt; moved as usize, sessions * 3);
         let again = open_call_close::<BlockStore, HashedLocks, HostRuntime, MemoryHouse, NoPace>(
-            &rt, alloc, &mut house, &NoPace, 0, &[Call::Begin, ALL, Call::Commit],
+            &rt,
+            alloc,
+            &mut house,
+            &NoPace,
+            0,
+            &[Call::Begin, ALL, Call::Commit],
         );
         let Ok((answers, _, _)) = again else {
             return Err(Fail::new("opening"));
@@ -180,13 +273,35 @@ fn a_shard_whose_flush_failed_comes_back(rt: HostRuntime) -> Result<(), Fail> {
     let alloc = rt.alloc();
     let put = Call::Put { key: 5, value: 10 };
     let get = Call::Get { key: 5 };
-    let calls = [Call::Begin, put, Call::Commit, get, Call::Abort, Call::Commit];
+    let calls = [
+        Call::Begin,
+        put,
+        Call::Commit,
+        get,
+        Call::Abort,
+        Call::Commit,
+    ];
     let more = [Call::Commit, Call::Begin, get, put, Call::Commit];
     // The ninth call is the sync of the batch behind a closed gate, the eleventh that of the gate: a read then finds the batch.
     let rows = [
-        (0, Err(FetchError::Up), "begun 1;none;committed;none active;none active;none active;", "none active;begun 2;10;10;committed;"),
-        (9, Ok(1), "begun 1;none;unsettled 0;none active;none active;unsettled 0;", "Restarted { shard: 0, seen: 0, now: 1 };begun 2;none;none;committed;"),
-        (11, Ok(1), "begun 1;none;unsettled 0;none active;none active;unsettled 0;", "committed;begun 2;10;10;committed;"),
+        (
+            0,
+            Err(FetchError::Up),
+            "begun 1;none;committed;none active;none active;none active;",
+            "none active;begun 2;10;10;committed;",
+        ),
+        (
+            9,
+            Ok(1),
+            "begun 1;none;unsettled 0;none active;none active;unsettled 0;",
+            "Restarted { shard: 0, seen: 0, now: 1 };begun 2;none;none;committed;",
+        ),
+        (
+            11,
+            Ok(1),
+            "begun 1;none;unsettled 0;none active;none active;unsettled 0;",
+            "committed;begun 2;10;10;committed;",
+        ),
     ];
     for (call, epoch, before, after) in rows {
         let mut house = failing_house(alloc, call)?;
