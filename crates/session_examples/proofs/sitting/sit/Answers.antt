@@ -7,11 +7,10 @@ abbrev the : {A : Type 0} → A → Option A → A
 the d None = d
 the d (Some x) = x
 
-pub new-requires-clause-session : goal.new-requires-clause-session
-new-requires-clause-session g c =
-    let w = c.unwrap-walker.result in let ws = c.args.walkers.now in let some = c.requires.some in
+pub new-requires : goal.new-requires
+new-requires g c = record { session = (let w = c.unwrap-walker.result in let ws = c.args.walkers.now in let some = c.requires.some in
     let is = ap (the w) (sym c.unwrap-walker.ensures ∙ c.pop.ensures.value w (omega arith)) in
-    (subst (λ x. Holds c.args.shards.now x Idle) (sym is) (c.requires.session w)).session
+    (subst (λ x. Holds c.args.shards.now x Idle) (sym is) (c.requires.session w)).session) }
 
 pub returns-clause-session : goal.returns-clause-session
 returns-clause-session g c =

@@ -11,7 +11,7 @@ use Rattle.session_examples.proofs.together.run_together.Goals as goal
 -- a seat may be sent to a thread
 pub for_each_mut-requires-send-T : goal.for_each_mut-requires-send-T
 for_each_mut-requires-send-T g c κs within =
-    let l : NamedLft = record { mir = named 2; lft = κs.1.1.0 } in
+    let l : NamedLft = record { mir = named 4; lft = κs.1.1.1.1.0 } in
     let b = c.type_bounds in
     let s = seat_row_send l (param 0 g.row.M) (param 1 g.row.P) (param 2 g.row.R) (param 3 g.row.M-Store) (param 4 g.row.M-Gate) g.M.Machine g.M.Store.Store g.M.Gate.Gate b.send-M b.sync-P b.sync-R in
     record { owned = s.owned; leaving = (param_send 1 _ s).leaving }
