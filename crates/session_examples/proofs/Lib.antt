@@ -1,0 +1,7 @@
+mod Ending
+mod Lists
+mod Reviving
+mod Sending
+mod Transferring
+mod Turning
+mod Walking
