@@ -4,7 +4,6 @@ use denote.Param.Send.{IsSend, IsSync, sendable, recorded_send, struct_send}
 use denote.Struct.Struct.{Struct}
 use denote.Struct.Declared.{shape}
 use Rattle.std.proofs.Crossing.{crosses, Vec-send}
-use Rattle.turn_laws.proofs.notes.Origin.TheSendSync as origin
 use Rattle.turn_lock.proofs.pass.Pass.TheSendSync as pass
 use Rattle.turn_lock.proofs.pass.TurnLock.TheSendSync as lock
 use Rattle.batch_gate.proofs.gate.BatchGate.TheSendSync as gate
@@ -22,11 +21,14 @@ use Rattle.session_api.specs.contracts.session.Session as session
 use Rattle.session_api.proofs.progress.Progress.TheSendSync as progress
 use Rattle.session_scripts.specs.contracts.session.ScriptSession as script
 
+pub origin_send : IsSend Origin.the_field.row
+origin_send = struct_send (shape Origin.the_type) (search sendable, (search sendable, (search (sendable, crosses) depth 20, tt)))
+
 pub home_send : (M S G : RattleType) → IsSend M → IsSend (home.the_field M S G).row
-home_send M S G m = search (origin.the_field_send, sendable, crosses) depth 30 fits 20000
+home_send M S G m = search (origin_send, sendable, crosses) depth 30 fits 20000
 
 pub home_row_send : (M S G : RattleType) → IsSend M → IsSend (home.the_row M S G)
-home_row_send M S G m = search (origin.the_field_send, sendable, crosses) depth 30 fits 20000
+home_row_send M S G m = search (origin_send, sendable, crosses) depth 30 fits 20000
 
 pub pass_send : (M S G : RattleType) → IsSend M → IsSend (Pass.the_row (home.the_row M S G) Note.the_row Origin.the_row)
 pass_send M S G m = pass.the_send (home.the_row M S G) Note.the_row Origin.the_row (home_row_send M S G m)
