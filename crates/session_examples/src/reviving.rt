@@ -117,6 +117,8 @@ pub fn open_revive_close<S: Store + Drop, L: Locks + Drop, R: Wait, H: House, P:
         shards,
         mut walkers,
         room,
+        found,
+        pairs: _,
     } = opened;
     let revived = revive_between(
         rt,
@@ -128,7 +130,7 @@ pub fn open_revive_close<S: Store + Drop, L: Locks + Drop, R: Wait, H: House, P:
         (more, after),
     );
     let left = close_all::<H, ShardMachine<S, L, LogGate<H::Disk>>>(
-        alloc, house, shards, walkers, room,
+        alloc, house, shards, walkers, room, found,
     );
     Ok((revived, left))
 }

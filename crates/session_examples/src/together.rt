@@ -266,6 +266,8 @@ where
         shards,
         mut walkers,
         room,
+        found,
+        pairs: _,
     } = opened;
     let moved = transfer_and_drain(
         rt,
@@ -278,7 +280,7 @@ where
         tries,
     );
     let left = close_all::<H, ShardMachine<S, L, LogGate<H::Disk>>>(
-        alloc, house, shards, walkers, room,
+        alloc, house, shards, walkers, room, found,
     );
     Ok((moved, left))
 }

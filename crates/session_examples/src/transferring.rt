@@ -81,6 +81,8 @@ pub fn open_transfer_close<S: Store + Drop, L: Locks + Drop, R: Wait, H: House, 
         shards,
         mut walkers,
         room,
+        found,
+        pairs: _,
     } = opened;
     let transferred = transfer_once(
         rt,
@@ -94,7 +96,7 @@ pub fn open_transfer_close<S: Store + Drop, L: Locks + Drop, R: Wait, H: House, 
         tries,
     );
     let left = close_all::<H, ShardMachine<S, L, LogGate<H::Disk>>>(
-        alloc, house, shards, walkers, room,
+        alloc, house, shards, walkers, room, found,
     );
     Ok((transferred, left))
 }

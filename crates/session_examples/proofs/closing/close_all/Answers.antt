@@ -1,9 +1,9 @@
-use Rattle.std.proofs.Common.{◌≡◌, sym, subst, ap, length, arith}
+use Rattle.std.proofs.Common.{◌≡◌, ◌∙◌, refl, sym, subst, ap, length, arith}
 use Rattle.cluster_holding.specs.Ends.{HaveDisks}
 use Rattle.cluster_holding.proofs.Laws.{no_disks_are_held}
 use Rattle.run_ends.specs.Ends.{IsClosed}
 use Rattle.run_ends.proofs.Laws.{none_fetched}
-use Rattle.cluster_closing.specs.Closing.{lists}
+use Rattle.cluster_turns.specs.Walkers.{founds_of}
 use Rattle.session_examples.proofs.closing.close_all.Goals as goal
 
 pub close-requires-clause-fetched : goal.close-requires-clause-fetched
@@ -16,8 +16,8 @@ returns-clause-closed g c =
     λ rest.
     let e = c.close.ensures in let h0 = c.args.house.now in let h1 = c.close.new.house in let H = g.H.House in (
       c.close.result.ends.value.items,
-      subst (λ f. IsClosed _ _ c.args.shards c.args.walkers.items c.close.result.ends.value.items (record { journals = c.new-2.result.journals; found = f }) c.close.result.down (H.faults h0) (H.faults h1) (H.is_out h0) (H.is_out h1) (H.story h0) (H.story h1)) (sym c.new-2.ensures.found)
-          (subst (λ j. IsClosed _ _ c.args.shards c.args.walkers.items c.close.result.ends.value.items (record { journals = j; found = lists c.close.result.found.items }) c.close.result.down (H.faults h0) (H.faults h1) (H.is_out h0) (H.is_out h1) (H.story h0) (H.story h1)) (sym c.new-2.ensures.journals)
+      subst (λ f. IsClosed _ _ c.args.shards c.args.walkers.items c.close.result.ends.value.items (record { journals = c.new-2.result.journals; found = f }) c.close.result.down (H.faults h0) (H.faults h1) (H.is_out h0) (H.is_out h1) (H.story h0) (H.story h1)) (sym (c.new-2.ensures.found ∙ c.requires.found))
+          (subst (λ j. IsClosed _ _ c.args.shards c.args.walkers.items c.close.result.ends.value.items (record { journals = j; found = founds_of c.args.shards }) c.close.result.down (H.faults h0) (H.faults h1) (H.is_out h0) (H.is_out h1) (H.story h0) (H.story h1)) (sym c.new-2.ensures.journals)
           (record {
             len = (let k = c.close.result.ends.value.ok.0 in let l = e.len.0 in omega arith);
             shard_is = e.shard;
@@ -25,7 +25,7 @@ returns-clause-closed g c =
             passes = λ k d l. (c.requires.home k d l).walker.walks.are_passes.count;
             seen = e.closed;
             journals_are = e.journals;
-            founds_are = e.founds;
+            founds_are = refl;
             lowest_down = e.down;
             no_stop = e.no_stop;
             no_restart = e.no_restart (λ k d l. (rest k d l).fetched);
