@@ -61,6 +61,7 @@ fn stand_by<M: Machine, R: Wait>(
     requires walker { IsWalker shards.now walker.old }
     ensures walker { IsWalker shards.now walker.new × IsSameWalker walker.old walker.new }
     ensures tended { Tended (length shards.now.locks.items) walker.old.number walker.old.clock walker.old.passes.items result walker.new.clock walker.new.passes.items }
+    ensures rests { IsTrue met.moves → walker.new ≡ walker.old }
 {
     if met.moves {
         return Ok(());
