@@ -1,7 +1,5 @@
 mod Ending
+mod Idling
 mod Lists
-mod Reviving
-mod Sending
-mod Transferring
 mod Turning
 mod Walking
