@@ -1,5 +1,4 @@
 mod Ending
-mod Idling
 mod Lists
 mod Turning
 mod Walking

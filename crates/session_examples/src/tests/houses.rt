@@ -13,10 +13,7 @@ fn add_empty(alloc: Global, house: &mut MemoryHouse, shard: u32) -> Result<(), A
     requires inside { (n : ℕ) → ⟦<MemoryHouse as House>⟧.is_out house.old n ≡ false }
     ensures inside { (n : ℕ) → ⟦<MemoryHouse as House>⟧.is_out house.new n ≡ false }
 {
-    house.put(
-        shard,
-        MemoryDisk::new(alloc, &[], &[], u64::MAX, 65536)?,
-    );
+    house.put(shard, MemoryDisk::new(alloc, &[], &[], u64::MAX, 65536)?);
     Ok(())
 }
 
