@@ -2,6 +2,9 @@
 //!
 //! Each call may be made at any time, and is refused exactly where the session's last transaction doesn't stand so. What it answers is
 //! read from the turns that it took; after each answer the session is one again.
+//!
+//! A whole program that opens a cluster, transfers by a session in as many tries as it may have, and closes is
+//! `session_examples::open_transfer_close`.
 #![tactic(auto)]
 
 mod beginning;

@@ -1,0 +1,4 @@
+mod Ending
+mod Lists
+mod Turning
+mod Walking

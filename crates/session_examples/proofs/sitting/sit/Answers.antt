@@ -1,0 +1,27 @@
+use Rattle.std.proofs.Common.{◌∙◌, sym, ap, subst, arith, Option, Some, None}
+use Rattle.session_api.specs.declared.progress.Progress.TheVariants.{Idle}
+use Rattle.session_scripts.specs.Standing.{Holds}
+use Rattle.session_examples.proofs.sitting.sit.Goals as goal
+
+abbrev the : {A : Type 0} → A → Option A → A
+the d None = d
+the d (Some x) = x
+
+pub new-requires : goal.new-requires
+new-requires g c = record {
+  session = (let w = c.unwrap-walker.result in let ws = c.args.walkers.now in let some = c.requires.some in
+      let is = ap (the w) (sym c.unwrap-walker.ensures ∙ c.pop.ensures.value w (omega arith)) in
+      (subst (λ x. Holds c.args.shards.now x Idle) (sym is) (c.requires.session w)).session);
+}
+
+pub returns-clause-session : goal.returns-clause-session
+returns-clause-session g c =
+    let w = c.unwrap-walker.result in let ws = c.args.walkers.now in let some = c.requires.some in let r = c.new.result in
+    let is = ap (the w) (sym c.unwrap-walker.ensures ∙ c.pop.ensures.value w (omega arith)) in
+    subst (λ s. Holds r.shards.now r.walker s) (sym c.new.ensures.begins.1)
+    (subst (λ x. Holds r.shards.now x Idle) (sym c.new.ensures.begins.0)
+    (subst (λ sh. Holds sh w Idle) (sym c.new.ensures.shards) (subst (λ x. Holds c.args.shards.now x Idle) (sym is) (c.requires.session w))))
+
+pub returns-clause-walker : goal.returns-clause-walker
+returns-clause-walker g c =
+    λ d. let w = c.unwrap-walker.result in let some = c.requires.some in c.new.ensures.begins.0 ∙ ap (the w) (sym c.unwrap-walker.ensures ∙ c.pop.ensures.value d (omega arith))

@@ -1,0 +1,2 @@
+pub mod Walkers
+pub mod Programs

@@ -1,0 +1,36 @@
+// Houses of disks in memory.
+ghost use Rattle.std.specs.Prelude.{◌≡◌, ◌<◌, ℕ, false, IfOk};
+
+use clv_base::splits::Splits;
+use disk_memory::{MemoryDisk, MemoryHouse};
+use disk_model::House;
+use disks_making::make_all;
+use std::alloc::{AllocError, Global};
+use std::test::Fail;
+
+fn add_empty(alloc: Global, house: &mut MemoryHouse, shard: u32) -> Result<(), AllocError>
+    requires few { shard < 16 }
+    requires inside { (n : ℕ) → ⟦<MemoryHouse as House>⟧.is_out house.old n ≡ false }
+    ensures inside { (n : ℕ) → ⟦<MemoryHouse as House>⟧.is_out house.new n ≡ false }
+{
+    house.put(shard, MemoryDisk::new(alloc, &[], &[], u64::MAX, 65536)?);
+    Ok(())
+}
+
+/// The logs of the shards that these splits part, up to three, as they are made.
+pub fn house_of(alloc: Global, splits: &[u64]) -> Result<MemoryHouse, Fail>
+    ensures { IfOk result (λ h. (n : ℕ) → n < 16 → ⟦<MemoryHouse as House>⟧.is_out h n ≡ false) }
+{
+    let Ok(splits) = Splits::new(splits) else {
+        return Err(Fail::new("splits"));
+    };
+    let mut house = MemoryHouse::new(alloc)?;
+    add_empty(alloc, &mut house, 0)?;
+    add_empty(alloc, &mut house, 1)?;
+    add_empty(alloc, &mut house, 2)?;
+    add_empty(alloc, &mut house, 3)?;
+    match make_all(alloc, &mut house, splits) {
+        Ok(()) => Ok(house),
+        Err(_) => Err(Fail::new("logs")),
+    }
+}
