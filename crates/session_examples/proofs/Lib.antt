@@ -2,6 +2,7 @@ mod Ending
 mod Fetching
 mod Idling
 mod Lists
+mod Seats
 mod Sending
 mod Turning
 mod Walking

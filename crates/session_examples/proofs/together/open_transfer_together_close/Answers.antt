@@ -9,7 +9,7 @@ use Rattle.session_examples.proofs.Ending.{all_back, has_run}
 use Rattle.session_examples.proofs.together.open_transfer_together_close.Goals as goal
 
 pub transfer_and_drain-moved-requires-clause-new : goal.transfer_and_drain-moved-requires-clause-new
-transfer_and_drain-moved-requires-clause-new g c = let made = c.in-Ok-open_all.ensures.walkers in let ok = c.in-Ok-open_all.opened.walkers.ok in λ k d l. made.1 k d (omega arith)
+transfer_and_drain-moved-requires-clause-new g c κs within = let made = c.in-Ok-open_all.ensures.walkers in let ok = c.in-Ok-open_all.opened.walkers.ok in λ k d l. made.1 k d (omega arith)
 
 pub close_all-left-requires-clause-home : goal.close_all-left-requires-clause-home
 close_all-left-requires-clause-home g c = all_home c.in-Ok-open_all.opened.shards c.transfer_and_drain-moved.new.walkers.items c.transfer_and_drain-moved.ensures.rest
