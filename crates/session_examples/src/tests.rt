@@ -9,7 +9,8 @@ use self::houses::{failing_house, house_of};
 use self::model::{calls_of, expected};
 use self::texts::text_of;
 use crate::{
-    Quiet, open_call_close, open_revive_close, open_transfer_close, open_transfer_together_close,
+    Quiet, Revival, open_call_close, open_revive_close, open_transfer_close,
+    open_transfer_together_close,
 };
 use cluster_carry::{Carry, Reminding};
 use cluster_flush::Flushed;
@@ -273,7 +274,7 @@ fn a_shard_whose_flush_failed_comes_back(rt: HostRuntime) -> Result<(), Fail> {
     let alloc = rt.alloc();
     let put = Call::Put { key: 5, value: 10 };
     let get = Call::Get { key: 5 };
-    let calls = [
+    let asked = [
         Call::Begin,
         put,
         Call::Commit,
@@ -281,32 +282,52 @@ fn a_shard_whose_flush_failed_comes_back(rt: HostRuntime) -> Result<(), Fail> {
         Call::Abort,
         Call::Commit,
     ];
+    // The next transaction finds the shard down, and so touches nothing.
+    let goes_on = [
+        Call::Begin,
+        put,
+        Call::Commit,
+        Call::Begin,
+        get,
+        put,
+        Call::Commit,
+    ];
     let more = [Call::Commit, Call::Begin, get, put, Call::Commit];
     // The ninth call is the sync of the batch behind a closed gate, the eleventh that of the gate: a read then finds the batch.
-    let rows = [
+    let rows: [(u64, &[Call], Revival, &str, &str); 4] = [
         (
             0,
+            &asked,
             Err(FetchError::Up),
             "begun 1;none;committed;none active;none active;none active;",
             "none active;begun 2;10;10;committed;",
         ),
         (
             9,
+            &asked,
             Ok(1),
             "begun 1;none;unsettled 0;none active;none active;unsettled 0;",
             "Restarted { shard: 0, seen: 0, now: 1 };begun 2;none;none;committed;",
         ),
         (
             11,
+            &asked,
             Ok(1),
             "begun 1;none;unsettled 0;none active;none active;unsettled 0;",
             "committed;begun 2;10;10;committed;",
         ),
+        (
+            9,
+            &goes_on,
+            Ok(1),
+            "begun 1;none;unsettled 0;begun 2;down 0;down 0;empty;",
+            "none active;begun 3;none;none;committed;",
+        ),
     ];
-    for (call, epoch, before, after) in rows {
+    for (call, calls, epoch, before, after) in rows {
         let mut house = failing_house(alloc, call)?;
         let answer = open_revive_close::<BlockStore, HashedLocks, HostRuntime, MemoryHouse, NoPace>(
-            &rt, alloc, &mut house, &NoPace, &calls, &more,
+            &rt, alloc, &mut house, &NoPace, calls, &more,
         );
         let Ok((revived, _)) = answer else {
             return Err(Fail::new("opening"));

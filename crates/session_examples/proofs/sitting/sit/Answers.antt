@@ -8,9 +8,11 @@ the d None = d
 the d (Some x) = x
 
 pub new-requires : goal.new-requires
-new-requires g c = record { session = (let w = c.unwrap-walker.result in let ws = c.args.walkers.now in let some = c.requires.some in
-    let is = ap (the w) (sym c.unwrap-walker.ensures ∙ c.pop.ensures.value w (omega arith)) in
-    (subst (λ x. Holds c.args.shards.now x Idle) (sym is) (c.requires.session w)).session) }
+new-requires g c = record {
+  session = (let w = c.unwrap-walker.result in let ws = c.args.walkers.now in let some = c.requires.some in
+      let is = ap (the w) (sym c.unwrap-walker.ensures ∙ c.pop.ensures.value w (omega arith)) in
+      (subst (λ x. Holds c.args.shards.now x Idle) (sym is) (c.requires.session w)).session);
+}
 
 pub returns-clause-session : goal.returns-clause-session
 returns-clause-session g c =
