@@ -1,12 +1,15 @@
 -- What a program leaves, from what its cluster's beginning and end told.
 use Rattle.std.proofs.Common.{◌≡◌, refl, ◌∙◌, sym, ap, subst, ℕ, ◌<◌, ◌≤◌, Bool, true, false, nat_lt, ◌==◌, cond, List, [], ◌∷◌, ◌++◌, take, length, get_or, Option, Some, None, Result, Ok, Err, arith}
 use Rattle.std.proofs.lemmas.Bool.{ltb-true, ltb-false}
+use Rattle.clv_base.specs.declared.logs.LogRecord.{LogRecord}
+use Rattle.clv_base.specs.declared.events.Entry.{Entry}
 use Rattle.clv_base.specs.State.{Shard}
 use Rattle.clv_base.specs.Shards.{shard_count}
 use Rattle.clv_base.specs.Journals.{History}
 use Rattle.disk_model.specs.Story.{Story}
 use Rattle.disks_opening.specs.Houses.{WentOut}
 use Rattle.history_replay.specs.Entries.{Kept, entries_of}
+use Rattle.journal_laws.specs.Gathered.{MakesHistory}
 use Rattle.script_tries.specs.Sessions.{session_entries}
 use Rattle.cluster_turns.specs.declared.home.Home.{Home}
 use Rattle.cluster_turns.specs.declared.shards.Shards.{Shards}
@@ -20,6 +23,16 @@ use Rattle.session_rows.specs.declared.transfers.Transferred.{Transferred}
 use Rattle.session_rows.specs.declared.transfers.Stop.{Stop}
 use Rattle.session_rows.specs.Moves.{MovesAs}
 use Rattle.session_examples.specs.Programs.{HasRun, HasMade}
+
+-- what is so whichever element is named is so where a list has one
+pub by_any : {A : Type 0} (P : Type 0) (xs : List A) (n : ℕ) → n < length xs → (A → P) → P
+by_any P [] n low so = absurd (omega arith)
+by_any P (x ∷ xs) n low so = so x
+
+-- a history stays legal under another name of its journals
+pub legal_by : (splits : List ℕ) (before after : List (List LogRecord)) (js ks : List (List Entry)) (states : ℕ → Shard) (own_of : ℕ → History) → ks ≡ js → MakesHistory splits before after js states own_of
+    → MakesHistory splits before after ks states own_of
+legal_by splits before after js ks states own_of same made = subst (λ l. MakesHistory splits before after l states own_of) (sym same) made
 
 -- the disks of a house that were all in are in again
 pub all_back : (count locks : ℕ) (faults faults' : ℕ → ℕ) (out out' out_now : ℕ → Bool) (stories stories' : ℕ → Option Story) → WentOut count faults faults' out out' stories stories' → locks ≡ count → ((n : ℕ) → n < locks → out_now n ≡ false)

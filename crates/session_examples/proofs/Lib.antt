@@ -1,7 +1,7 @@
 mod Ending
+mod Idling
 mod Lists
 mod Reviving
 mod Sending
-mod Transferring
 mod Turning
 mod Walking

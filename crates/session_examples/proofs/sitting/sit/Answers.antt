@@ -1,4 +1,4 @@
-use Rattle.std.proofs.Common.{◌≡◌, ◌∙◌, sym, ap, subst, arith, ◌-◌, get_or, vec_len, Option, Some, None}
+use Rattle.std.proofs.Common.{◌∙◌, sym, ap, subst, arith, Option, Some, None}
 use Rattle.session_api.specs.declared.progress.Progress.TheVariants.{Idle}
 use Rattle.session_scripts.specs.Standing.{Holds}
 use Rattle.session_examples.proofs.sitting.sit.Goals as goal
@@ -8,9 +8,11 @@ the d None = d
 the d (Some x) = x
 
 pub new-requires : goal.new-requires
-new-requires g c = record { session = (let w = c.unwrap-walker.result in let ws = c.args.walkers.now in let some = c.requires.some in
-    let is = ap (the w) (sym c.unwrap-walker.ensures ∙ c.pop.ensures.value w (omega arith)) in
-    (subst (λ x. Holds c.args.shards.now x Idle) (sym is) (c.requires.session w)).session) }
+new-requires g c = record {
+  session = (let w = c.unwrap-walker.result in let ws = c.args.walkers.now in let some = c.requires.some in
+      let is = ap (the w) (sym c.unwrap-walker.ensures ∙ c.pop.ensures.value w (omega arith)) in
+      (subst (λ x. Holds c.args.shards.now x Idle) (sym is) (c.requires.session w)).session);
+}
 
 pub returns-clause-session : goal.returns-clause-session
 returns-clause-session g c =

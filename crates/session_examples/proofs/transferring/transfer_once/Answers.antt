@@ -1,4 +1,4 @@
-use Rattle.std.proofs.Common.{◌≡◌, ◌∙◌, sym, ap, subst, arith, ◌-◌, [], length, length-take, get_or, vec_len}
+use Rattle.std.proofs.Common.{◌≡◌, ◌∙◌, sym, ap, subst, arith, ◌-◌, [], get_or, vec_len}
 use Rattle.cluster_turns.specs.Walkers.{kept}
 use Rattle.run_ends.specs.Ends.{walked_by}
 use Rattle.session_scripts.specs.Standing.{Holds}
@@ -9,15 +9,10 @@ use Rattle.session_examples.proofs.Walking.{holds_new, holds_later, rests_as, sa
 use Rattle.session_examples.proofs.Ending.{walked_second, has_made}
 use Rattle.session_examples.proofs.transferring.transfer_once.Goals as goal
 
-pub sit-requires-clause-session : goal.sit-requires-clause-session
-sit-requires-clause-session g c =
+pub sit-session-requires-clause-session : goal.sit-session-requires-clause-session
+sit-session-requires-clause-session g c =
     λ d. let sh = c.args.shards.now in let ws = c.args.walkers.now in let two = c.requires.two in let ok = ws.ok in
     holds_new sh 1 0 (vec_len ws - 1) (get_or ws.items (vec_len ws - 1) d) (c.requires.new (vec_len ws - 1) d (omega arith)) (omega arith) c.requires.splits (omega arith) (omega arith)
-
-pub leave-requires-clause-room : goal.leave-requires-clause-room
-leave-requires-clause-room g c =
-    let ws = c.args.walkers.now in let us = c.sit-session.new.walkers in let two = c.requires.two in let ok = ws.ok in let okU = us.ok in
-    let fewer = ap length c.sit-session.ensures.rest in let most = length-take (vec_len ws - 1) ws.items in let cap = c.sit-session.ensures.capacity in omega arith
 
 pub returns-clause-two : goal.returns-clause-two
 returns-clause-two g c =
