@@ -1,7 +1,8 @@
 mod Ending
+mod Fetching
 mod Idling
 mod Lists
-mod Reviving
+mod Seats
 mod Sending
 mod Turning
 mod Walking

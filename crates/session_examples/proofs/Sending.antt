@@ -65,7 +65,7 @@ pub session_row_send : (l : NamedLft) (M P R S G : RattleType) (a : _) (b : _) (
 session_row_send l M P R S G a b c m p r = let W = session.the_type l M P R S G a b c in recorded_send (Struct (shape W)) W.D W.to W.to_one (session_send l M P R S G a b c m p r)
 
 pub seat_send : (l : NamedLft) (M P R S G : RattleType) (a : _) (b : _) (c : _) → IsSend M → IsSync P → IsSync R → IsSend (seat.the_field l M P R S G a b c).row
-seat_send l M P R S G a b c m p r = struct_send (shape (seat.the_type l M P R S G a b c)) (session_row_send l M P R S G a b c m p r, (search sendable, tt))
+seat_send l M P R S G a b c m p r = struct_send (shape (seat.the_type l M P R S G a b c)) (session_send l M P R S G a b c m p r, (search sendable, tt))
 
 pub seat_row_send : (l : NamedLft) (M P R S G : RattleType) (a : _) (b : _) (c : _) → IsSend M → IsSync P → IsSync R → IsSend (seat.the_row l M P R S G a b c)
 seat_row_send l M P R S G a b c m p r = let W = seat.the_type l M P R S G a b c in recorded_send (Struct (shape W)) W.D W.to W.to_one (seat_send l M P R S G a b c m p r)

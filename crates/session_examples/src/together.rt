@@ -95,6 +95,16 @@ fn way(step: u32) -> (u64, u64)
     }
 }
 
+// One where it was moved.
+fn moves(transferred: Transferred) -> u32
+    ensures one { result ≤ 1 }
+{
+    match transferred {
+        Transferred::Moved => 1,
+        _ => 0,
+    }
+}
+
 // Moves one so often, each time a step further round, until the session is stopped.
 fn transfer_often<M: Flier, P: Pace, R: Wait>(
     alloc: Global,
@@ -112,8 +122,7 @@ fn transfer_often<M: Flier, P: Pace, R: Wait>(
     for step in 0..often {
         let (from, to) = way(step);
         match transfer(alloc, session, from, to, 1, tries) {
-            Ok(Transferred::Moved) => moved += 1,
-            Ok(_) => {}
+            Ok(transferred) => moved += moves(transferred),
             Err(_) => return moved,
         }
     }
@@ -224,8 +233,9 @@ where
     ensures rest { AreAtRest shards.now walkers.new.items }
 {
     let mut seats = take_seats(rt, shards, pace, walkers, room);
-    run_together(rt, alloc, seats.as_mut_slice(), often, tries);
-    drain_together(rt, alloc, seats.as_mut_slice());
+    let all = seats.as_mut_slice();
+    run_together(rt, alloc, all, often, tries);
+    drain_together(rt, alloc, all);
     leave_seats(walkers, seats)
 }
 

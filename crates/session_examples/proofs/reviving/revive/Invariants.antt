@@ -1,6 +1,6 @@
 use Rattle.std.proofs.Common.{◌≡◌}
 use Rattle.cluster_restart.specs.Held.{HoldsAt, IsDiskOf}
-use Rattle.session_examples.proofs.Reviving.{HasOneDisk}
+use Rattle.session_examples.proofs.Fetching.{HasOneDisk}
 use Rattle.session_examples.proofs.reviving.revive.Given as goal
 
 abbrev pub invariant-loop-try : goal.invariant-loop-try

@@ -4,8 +4,8 @@ use Rattle.std.proofs.lemmas.List.{get_or-take}
 use Rattle.session_examples.proofs.Walking.{holds_new, rest_new, rests_as, home_of, sat_number, two_home}
 use Rattle.session_examples.proofs.reviving.revive_between.Goals as goal
 
-pub sit-requires-clause-session : goal.sit-requires-clause-session
-sit-requires-clause-session g c =
+pub sit-session-requires-clause-session : goal.sit-session-requires-clause-session
+sit-session-requires-clause-session g c =
     λ d. let sh = c.args.shards.now in let ws = c.args.walkers.now in let two = c.requires.two in let ok = ws.ok in
     holds_new sh 1 0 (vec_len ws - 1) (get_or ws.items (vec_len ws - 1) d) (c.requires.new (vec_len ws - 1) d (omega arith)) (omega arith) c.requires.splits (omega arith) (omega arith)
 

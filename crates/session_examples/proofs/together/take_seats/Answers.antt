@@ -33,7 +33,7 @@ loop-taken-preserved g c =
             number_is = ap (λ x. x.number) (s.walker o.walker ∙ inv.same (vec_len ws - 1) o.walker (omega arith)) ∙ ((c.requires.new (vec_len ws - 1) o.walker (omega arith)).number_is ∙ (omega arith));
             holds = s.session;
             idle = ap active_tx s.idle;
-          }) j d l);
+          }) j d (omega arith));
     }
 
 pub returns-clause-seated : goal.returns-clause-seated

@@ -16,7 +16,7 @@ use Rattle.shard_revival.specs.Restarted.{RestartTold}
 use Rattle.revival_laws.proofs.Laws.{fetches_land, restarts_land, restarts_end_holding}
 use Rattle.session_examples.specs.Walkers.{IsAtHome}
 
-module _ {M S G D : Type 0} (sh : Shards M S G) where
+module _ {M S G : Type 0} (sh : Shards M S G) where
   -- it has the disk of shard n at most
   pub record HasOneDisk (n number : ℕ) (w : Walker M S G) : Type 0 where
     pub walker : IsWalker sh w
@@ -24,7 +24,7 @@ module _ {M S G D : Type 0} (sh : Shards M S G) where
     pub landed : HasLanded w.number w.passes.items
     pub others : HoldsNoneBut (Some n) w.number w.passes.items
 
-  pub one_fetched : (n number : ℕ) (w v : Walker M S G) (r : Result (Fetched D) FetchError) → IsAtHome sh number w → IsWalker sh v × IsSameWalker w v → Walked (FetchTold w.number r) n w.number w.passes.items v.passes.items → HasOneDisk n number v
+  pub one_fetched : {D : Type 0} (n number : ℕ) (w v : Walker M S G) (r : Result (Fetched D) FetchError) → IsAtHome sh number w → IsWalker sh v × IsSameWalker w v → Walked (FetchTold w.number r) n w.number w.passes.items v.passes.items → HasOneDisk n number v
   one_fetched n number w v r home walks told = record {
     walker = walks.0;
     number_is = walks.1.0 ∙ home.number_is;
@@ -32,15 +32,18 @@ module _ {M S G D : Type 0} (sh : Shards M S G) where
     others = subst (λ k. HoldsNoneBut (Some n) k v.passes.items) (sym walks.1.0) (fetches_hold_one w.number n r w.passes.items v.passes.items told home.disks);
   }
 
-  pub none_fetched : (n number : ℕ) (w v : Walker M S G) (e : FetchError) → IsAtHome sh number w → IsWalker sh v × IsSameWalker w v → Walked (FetchTold {D = Fetched D} w.number (Err e)) n w.number w.passes.items v.passes.items → IsAtHome sh number v
-  none_fetched n number w v e home walks told = record {
+  pub none_fetched : {D : Type 0} (n number : ℕ) (w v : Walker M S G) (r : Result (Fetched D) FetchError) (e : FetchError) → r ≡ Err e → IsAtHome sh number w → IsWalker sh v × IsSameWalker w v → Walked (FetchTold w.number r) n w.number w.passes.items v.passes.items
+      → IsAtHome sh number v
+  none_fetched {D = D} n number w v r e is home walks told = record {
     walker = walks.0;
     number_is = walks.1.0 ∙ home.number_is;
-    landed = subst (λ k. HasLanded k v.passes.items) (sym walks.1.0) (fetches_land w.clock w.number n (Err e) w.passes.items v.passes.items told home.landed);
-    disks = subst (λ k. HoldsNone k v.passes.items) (sym walks.1.0) (refused_fetches_hold_none (Fetched D) None w.number n e w.passes.items v.passes.items told home.disks);
+    landed = subst (λ k. HasLanded k v.passes.items) (sym walks.1.0) (fetches_land w.clock w.number n r w.passes.items v.passes.items told home.landed);
+    disks =
+        subst (λ k. HoldsNone k v.passes.items) (sym walks.1.0)
+        (refused_fetches_hold_none (Fetched D) None w.number n e w.passes.items v.passes.items (subst (λ x. Walked (FetchTold {D = Fetched D} w.number x) n w.number w.passes.items v.passes.items) is told) home.disks);
   }
 
-  module _ (story : D → Option Story) (f : Fetched D) (n number : ℕ) (w v : Walker M S G) (one : HasOneDisk n number w) (at : f.shard ≡ n) (walks : IsWalker sh v × IsSameWalker w v) where
+  module _ {D : Type 0} (story : D → Option Story) (f : Fetched D) (n number : ℕ) (w v : Walker M S G) (one : HasOneDisk n number w) (at : f.shard ≡ n) (walks : IsWalker sh v × IsSameWalker w v) where
     held_at : HoldsNoneBut (Some f.shard) w.number w.passes.items
     held_at = subst (λ k. HoldsNoneBut (Some k) w.number w.passes.items) (sym at) one.others
 
