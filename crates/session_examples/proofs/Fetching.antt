@@ -1,8 +1,7 @@
 -- A walker that fetches the disk of a shard and restarts it.
-use Rattle.std.proofs.Common.{◌≡◌, ◌∙◌, sym, subst, ℕ, List, Option, Some, None, Result, Ok, Err}
+use Rattle.std.proofs.Common.{◌≡◌, ◌∙◌, sym, subst, ℕ, Option, Some, None, Result, Ok, Err}
 use Rattle.disk_model.specs.Story.{Story}
 use Rattle.disk_recovering.specs.declared.error.RestartError.{RestartError}
-use Rattle.cluster_turns.specs.declared.home.Home.{Home}
 use Rattle.cluster_turns.specs.declared.shards.Shards.{Shards}
 use Rattle.cluster_turns.specs.declared.shards.Walker.{Walker}
 use Rattle.cluster_turns.specs.Walkers.{IsWalker, IsSameWalker, Walked}

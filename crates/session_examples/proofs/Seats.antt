@@ -1,5 +1,5 @@
 -- Sessions that transfer, each in its seat.
-use Rattle.std.proofs.Common.{arith, ◌≡◌, ◌∙◌, refl, ap, subst, ℕ, suc, ◌<◌, true, false, List, [], ◌∷◌, ◌++◌, take, length, get_or, None, Ok}
+use Rattle.std.proofs.Common.{arith, ◌≡◌, ◌∙◌, refl, ap, subst, ℕ, ◌<◌, true, false, List, [], ◌∷◌, ◌++◌, take, length, get_or, None, Ok}
 use Rattle.std.proofs.lemmas.List.{get_or-take, get_or_append_left}
 use Rattle.cluster_turns.specs.declared.shards.Shards.{Shards}
 use Rattle.cluster_turns.specs.declared.shards.Walker.{Walker}

@@ -1,4 +1,4 @@
-use Rattle.std.proofs.Common.{◌∙◌, sym, subst, arith, Ok, Err}
+use Rattle.std.proofs.Common.{◌∙◌, sym, subst, Ok}
 use Rattle.cluster_restart.specs.Held.{HoldsAt, IsDiskOf}
 use Rattle.session_examples.proofs.Walking.{home_of}
 use Rattle.session_examples.proofs.Fetching.{one_fetched, none_fetched, refused_again, restarted}

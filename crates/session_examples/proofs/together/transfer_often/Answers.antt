@@ -1,4 +1,4 @@
-use Rattle.std.proofs.Common.{◌≡◌, ◌∙◌, sym, subst, arith}
+use Rattle.std.proofs.Common.{◌∙◌, sym, subst, arith}
 use Rattle.session_scripts.specs.Standing.{Holds}
 use Rattle.session_examples.proofs.Walking.{holds_later}
 use Rattle.session_examples.proofs.Seats.{none_active}
