@@ -5,8 +5,10 @@ use Rattle.session_examples.proofs.Fetching.{one_fetched, none_fetched, refused_
 use Rattle.session_examples.proofs.reviving.revive.Goals as goal
 
 pub returns-in-Err : goal.returns-in-Err
-returns-in-Err g c = record { home = (let sh = c.args.shards.now in let w = c.args.walker.now in let e = c.fetch.ensures in
-    none_fetched sh 0 0 w c.fetch.new.walker c.fetch.result c.in-Err.error c.in-Err.is (home_of sh 0 w c.requires.rest) (e.walker.0, e.walker.1) e.fetch) }
+returns-in-Err g c = record {
+  home = (let sh = c.args.shards.now in let w = c.args.walker.now in let e = c.fetch.ensures in
+      none_fetched sh 0 0 w c.fetch.new.walker c.fetch.result c.in-Err.error c.in-Err.is (home_of sh 0 w c.requires.rest) (e.walker.0, e.walker.1) e.fetch);
+}
 
 pub loop-try-init : goal.loop-try-init
 loop-try-init g c =
@@ -18,8 +20,10 @@ loop-try-init g c =
     }
 
 pub returns-in-Ok-restart : goal.returns-in-Ok-restart
-returns-in-Ok-restart g c = record { home = (let sh = c.args.shards.now in let u = c.loop-try.walker in let v = c.restart.new.walker in let inv = c.loop-try.invariant in
-    restarted sh g.M.Disk.Disk.story c.loop-try.fetched 0 0 u v inv.one inv.shard c.restart.ensures.walker c.in-Ok-restart.epoch c.in-Ok-restart.ensures.restart) }
+returns-in-Ok-restart g c = record {
+  home = (let sh = c.args.shards.now in let u = c.loop-try.walker in let v = c.restart.new.walker in let inv = c.loop-try.invariant in
+      restarted sh g.M.Disk.Disk.story c.loop-try.fetched 0 0 u v inv.one inv.shard c.restart.ensures.walker c.in-Ok-restart.epoch c.in-Ok-restart.ensures.restart);
+}
 
 pub loop-try-preserved : goal.loop-try-preserved
 loop-try-preserved g c =

@@ -10,10 +10,12 @@ sit-session-requires-clause-session g c =
     holds_new sh 1 0 (vec_len ws - 1) (get_or ws.items (vec_len ws - 1) d) (c.requires.new (vec_len ws - 1) d (omega arith)) (omega arith) c.requires.splits (omega arith) (omega arith)
 
 pub revive-revival-requires : goal.revive-revival-requires
-revive-revival-requires g c = record { rest = (let sh = c.args.shards.now in let ws = c.args.walkers.now in let two = c.requires.two in let ok = ws.ok in let okU = c.sit-session.new.walkers.ok in
-    subst (λ w. IsAtRest sh 0 w) (sym c.index_mut.ensures.value)
-    (subst (λ l. IsAtRest sh 0 (get_or l 0 c.index_mut.result.now)) (sym c.sit-session.ensures.rest)
-    (subst (λ w. IsAtRest sh 0 w) (sym (get_or-take (vec_len ws - 1) ws.items 0 c.index_mut.result.now (omega arith))) (rest_new sh 0 0 _ (c.requires.new 0 c.index_mut.result.now (omega arith)))))) }
+revive-revival-requires g c = record {
+  rest = (let sh = c.args.shards.now in let ws = c.args.walkers.now in let two = c.requires.two in let ok = ws.ok in let okU = c.sit-session.new.walkers.ok in
+      subst (λ w. IsAtRest sh 0 w) (sym c.index_mut.ensures.value)
+      (subst (λ l. IsAtRest sh 0 (get_or l 0 c.index_mut.result.now)) (sym c.sit-session.ensures.rest)
+      (subst (λ w. IsAtRest sh 0 w) (sym (get_or-take (vec_len ws - 1) ws.items 0 c.index_mut.result.now (omega arith))) (rest_new sh 0 0 _ (c.requires.new 0 c.index_mut.result.now (omega arith))))));
+}
 
 pub returns-clause-home : goal.returns-clause-home
 returns-clause-home g c =

@@ -21,5 +21,7 @@ for_each_mut-requires-clause-accepts g c κs within =
     λ i p l same. subst (λ s. IsAtRest s.session.shards.now s.session.walker.number s.session.walker) (sym same) (c.requires.rest i p.now l)
 
 pub returns : goal.returns
-returns g c = record { rest = (λ k d l. let e = (c.for_each_mut.ensures k d l).1 in let o = (slice_index_or c.args.seats.now k d).session in
-    subst (λ y. IsAtRest o.shards.now o.walker.number y.session.walker) e.left (subst (λ x. IsAtRest x.session.shards.now x.session.walker.number e.after_call.now.session.walker) e.argument_is e.call)) }
+returns g c = record {
+  rest = (λ k d l. let e = (c.for_each_mut.ensures k d l).1 in let o = (slice_index_or c.args.seats.now k d).session in
+      subst (λ y. IsAtRest o.shards.now o.walker.number y.session.walker) e.left (subst (λ x. IsAtRest x.session.shards.now x.session.walker.number e.after_call.now.session.walker) e.argument_is e.call));
+}
