@@ -1,7 +1,7 @@
 -- A walker after turns that are no session's.
-use Rattle.std.proofs.Common.{◌≡◌, refl, ◌∙◌, sym, subst, ℕ, true, List, [], ◌∷◌, Option, Some, None, Result, Ok, Err}
+use Rattle.std.proofs.Common.{◌≡◌, refl, ◌∙◌, sym, subst, ℕ, true, List, [], ◌∷◌, Option, Some, None, Result, Ok}
 use Rattle.clv_base.specs.declared.events.Event.{Event}
-use Rattle.clv_base.specs.declared.events.Event.TheVariants.{Send, Deliver, Remind, FlushOut, FlushIn}
+use Rattle.clv_base.specs.declared.events.Event.TheVariants.{Send, Deliver, FlushOut, FlushIn}
 use Rattle.clv_base.specs.declared.events.Outcome.{Outcome}
 use Rattle.clv_base.specs.declared.events.Outcome.TheVariants.{Out, Sent}
 use Rattle.clv_base.specs.declared.messages.Message.{Message}
@@ -13,7 +13,7 @@ use Rattle.turn_laws.specs.declared.notes.Origin.{Origin}
 use Rattle.cluster_turns.specs.declared.shards.Shards.{Shards}
 use Rattle.cluster_turns.specs.declared.shards.Walker.{Walker}
 use Rattle.cluster_turns.specs.Turns.{EventTold}
-use Rattle.cluster_turns.specs.Walkers.{IsWalker, IsSameWalker, Walked, Looked}
+use Rattle.cluster_turns.specs.Walkers.{IsWalker, Walked, Looked}
 use Rattle.cluster_flush.specs.declared.flushing.Flushed.{Flushed}
 use Rattle.cluster_flush.specs.declared.flushing.FlushError.{FlushError}
 use Rattle.cluster_flush.specs.Flights.{landed_as}

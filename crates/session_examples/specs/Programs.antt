@@ -1,5 +1,5 @@
 -- What a program of a user of sessions leaves.
-use Rattle.std.specs.Prelude.{◌≡◌, ⊤, ℕ, Bool, List, ◌++◌, Option, Result, Ok, Err}
+use Rattle.std.specs.Prelude.{◌≡◌, ⊤, ℕ, List, ◌++◌, Option, Result, Ok, Err}
 use Rattle.clv_base.specs.State.{Shard}
 use Rattle.clv_base.specs.Journals.{History}
 use Rattle.disk_model.specs.Story.{Story}

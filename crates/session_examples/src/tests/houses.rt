@@ -11,8 +11,13 @@ use std::test::Fail;
 // 20 bytes of header, and a closed gate.
 const EMPTY: &[u8; 21] = b"CLVLOG01\x01\0\0\0\0\0\0\0\x01\0\0\0\0";
 
-fn empty_disk(alloc: Global) -> Result<MemoryDisk, AllocError> {
-    MemoryDisk::new(alloc, &[], &[], u64::MAX, 65536)
+fn add_empty(alloc: Global, house: &mut MemoryHouse, shard: u32) -> Result<(), AllocError>
+    requires few { shard < 16 }
+    requires inside { (n : ℕ) → ⟦<MemoryHouse as House>⟧.is_out house.old n ≡ false }
+    ensures inside { (n : ℕ) → ⟦<MemoryHouse as House>⟧.is_out house.new n ≡ false }
+{
+    house.put(shard, MemoryDisk::new(alloc, &[], &[], u64::MAX, 65536)?);
+    Ok(())
 }
 
 /// The logs of the shards that these splits part, up to three, as they are made.
@@ -23,10 +28,10 @@ pub fn house_of(alloc: Global, splits: &[u64]) -> Result<MemoryHouse, Fail>
         return Err(Fail::new("splits"));
     };
     let mut house = MemoryHouse::new(alloc)?;
-    house.put(0, empty_disk(alloc)?);
-    house.put(1, empty_disk(alloc)?);
-    house.put(2, empty_disk(alloc)?);
-    house.put(3, empty_disk(alloc)?);
+    add_empty(alloc, &mut house, 0)?;
+    add_empty(alloc, &mut house, 1)?;
+    add_empty(alloc, &mut house, 2)?;
+    add_empty(alloc, &mut house, 3)?;
     match make_all(alloc, &mut house, splits) {
         Ok(()) => Ok(house),
         Err(_) => Err(Fail::new("logs")),

@@ -1,4 +1,4 @@
-use Rattle.std.proofs.Common.{◌≡◌, ◌∙◌, sym, ap, subst, arith, ◌-◌, length, length-take, get_or, vec_len}
+use Rattle.std.proofs.Common.{◌∙◌, sym, ap, subst, arith, ◌-◌, get_or, vec_len}
 use Rattle.session_scripts.specs.Standing.{Holds, IsAtRest}
 use Rattle.session_examples.proofs.Lists.{length_back}
 use Rattle.session_examples.proofs.Walking.{holds_new, rests_as, sat_number, all_new, all_rest, rest_at, own_rest, renumbered}

@@ -1,4 +1,4 @@
-use Rattle.std.proofs.Common.{◌≡◌, sym, subst, arith, vec_len}
+use Rattle.std.proofs.Common.{◌≡◌, subst, arith, vec_len}
 use Rattle.std.specs.List.{All}
 use Rattle.clv_base.specs.Shards.{shard_count}
 use Rattle.turn_lock.specs.Passes.{passes_of}

@@ -1,4 +1,4 @@
-use Rattle.std.proofs.Common.{◌≡◌, ◌∙◌, refl, sym, subst, ap, length, arith}
+use Rattle.std.proofs.Common.{◌∙◌, sym, subst, ap, length, arith}
 use Rattle.cluster_holding.specs.Ends.{HaveDisks}
 use Rattle.cluster_holding.proofs.Laws.{no_disks_are_held}
 use Rattle.run_ends.proofs.Laws.{none_fetched}

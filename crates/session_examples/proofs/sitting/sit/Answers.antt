@@ -1,4 +1,4 @@
-use Rattle.std.proofs.Common.{◌≡◌, ◌∙◌, sym, ap, subst, arith, ◌-◌, get_or, vec_len, Option, Some, None}
+use Rattle.std.proofs.Common.{◌∙◌, sym, ap, subst, arith, Option, Some, None}
 use Rattle.session_api.specs.declared.progress.Progress.TheVariants.{Idle}
 use Rattle.session_scripts.specs.Standing.{Holds}
 use Rattle.session_examples.proofs.sitting.sit.Goals as goal

@@ -1,4 +1,4 @@
-use Rattle.std.proofs.Common.{◌≡◌, ◌∙◌, sym, ap, subst, arith, ◌-◌, [], length, length-take, get_or, vec_len}
+use Rattle.std.proofs.Common.{◌≡◌, ◌∙◌, sym, ap, subst, arith, ◌-◌, [], get_or, vec_len}
 use Rattle.cluster_turns.specs.Walkers.{kept}
 use Rattle.run_ends.specs.Ends.{walked_by}
 use Rattle.session_scripts.specs.Standing.{Holds}
