@@ -1,4 +1,8 @@
 mod Ending
+mod Fetching
+mod Idling
 mod Lists
+mod Seats
+mod Sending
 mod Turning
 mod Walking

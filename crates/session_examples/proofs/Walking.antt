@@ -1,8 +1,16 @@
 -- Walkers between the calls of their sessions.
-use Rattle.std.proofs.Common.{◌≡◌, ◌∙◌, sym, ap, subst, ℕ, ◌<◌, ◌≤◌, ◌-◌, true, List, [], ◌∷◌, ◌++◌, take, length, get_or, set}
+use Rattle.std.proofs.Common.{arith, ◌≡◌, ◌∙◌, sym, ap, subst, ℕ, zero, suc, ◌<◌, ◌≤◌, ◌+◌, ◌-◌, true, List, [], ◌∷◌, ◌++◌, take, length, get_or, set, None, Result}
 use Rattle.clv_base.specs.Shards.{are_splits}
+use Rattle.cluster_turns.specs.declared.home.Home.{Home}
 use Rattle.cluster_turns.specs.declared.shards.Shards.{Shards}
 use Rattle.cluster_turns.specs.declared.shards.Walker.{Walker}
+use Rattle.cluster_turns.specs.Walkers.{IsWalker, IsSameWalker}
+use Rattle.cluster_drain.specs.declared.tending.DrainError.{DrainError}
+use Rattle.cluster_drain.specs.Rounds.{DrainTold}
+use Rattle.cluster_landing.specs.Landed.{HasLanded}
+use Rattle.cluster_landing.specs.Laws.{DrainsLand}
+use Rattle.cluster_holding.specs.Held.{HoldsNone}
+use Rattle.cluster_holding.proofs.Laws.{drains_hold_none, drains_fetch_none}
 use Rattle.walkers_making.specs.Made.{IsNewWalker}
 use Rattle.session_api.specs.declared.progress.Progress.{Progress}
 use Rattle.session_api.specs.declared.progress.Progress.TheVariants.{Idle}
@@ -40,6 +48,17 @@ module _ {M S G : Type 0} (sh : Shards M S G) where
   pub rest_new : (k first : ℕ) (w : Walker M S G) → IsNewWalker sh k first w → IsAtRest sh k w
   rest_new k first w new = new_walkers_rest M S G sh k first w new
 
+  -- after a drain
+  pub drained : DrainsLand (Home M S G) → (number : ℕ) (w v : Walker M S G) (r : Result Unit DrainError) → IsAtRest sh number w → IsWalker sh v × IsSameWalker w v → DrainTold (length sh.locks.items) w.number w.clock w.passes.items r v.clock v.passes.items
+      → IsAtRest sh number v
+  drained lands number w v r rest walks told = record {
+    walker = walks.0;
+    number_is = walks.1.0 ∙ rest.number_is;
+    landed = subst (λ n. HasLanded n v.passes.items) (sym walks.1.0) (lands (length sh.locks.items) w.number w.clock w.passes.items r v.clock v.passes.items told rest.landed);
+    fetched = drains_fetch_none (length sh.locks.items) w.number w.clock w.passes.items r v.clock v.passes.items told rest.fetched;
+    disks = subst (λ n. HoldsNone n v.passes.items) (sym walks.1.0) (drains_hold_none None (length sh.locks.items) w.number w.clock w.passes.items r v.clock v.passes.items told rest.disks);
+  }
+
   -- all are at rest: new ones, and where the last one has left and come again
   pub all_new : (first : ℕ) (ws : List (Walker M S G)) → AreNew sh first ws → AreAtRest sh ws
   all_new first ws new = λ k d l. rest_new k first (get_or ws k d) (new k d l)
@@ -53,3 +72,18 @@ module _ {M S G : Type 0} (sh : Shards M S G) where
 
   pub sat_number : (ws : List (Walker M S G)) (m first : ℕ) (o v : Walker M S G) → AreNew sh first ws → m < length ws → o ≡ get_or ws m o → v.number ≡ o.number → v.number ≡ m
   sat_number ws m first o v new low is same = same ∙ (ap (λ w. w.number) is ∙ (new m o low).number_is)
+
+  -- of two the second one has left and come again, and the first one has gone on
+  pub two_home : (ws us vs : List (Walker M S G)) (n : ℕ) (w v : Walker M S G) → n ≡ length ws → n ≡ 2 → us ≡ take (n - 1) ws → vs ≡ set us 0 w ++ v ∷ [] → IsAtHome sh 0 w → IsAtHome sh 1 v → AreAtHome sh vs
+  two_home [] us vs n w v many two left came first second = absurd (omega arith)
+  two_home (x ∷ ws) us vs n w v many two left came first second = subst (λ l. AreAtHome sh l) (sym (came ∙ ap (λ l. set l 0 w ++ v ∷ []) (left ∙ ap (λ m. take (m - 1) (x ∷ ws)) two))) both
+    where
+      both : AreAtHome sh (w ∷ v ∷ [])
+      both zero d l = first
+      both (suc zero) d l = second
+      both (suc (suc k)) d l = absurd (omega arith)
+
+  -- walker 0 and those of seats
+  pub all_behind : (ws : List (Walker M S G)) (n : ℕ) → length ws ≡ n + 1 → ((d : Walker M S G) → IsAtRest sh 0 (get_or ws 0 d)) → ((k : ℕ) (d : Walker M S G) → k < n → IsAtRest sh (suc k) (get_or ws (suc k) d)) → AreAtRest sh ws
+  all_behind ws n many first others zero d l = first d
+  all_behind ws n many first others (suc k) d l = others k d (omega arith)

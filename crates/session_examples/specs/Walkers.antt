@@ -1,12 +1,14 @@
 -- The walkers of a cluster between the calls of their sessions.
-use Rattle.std.specs.Prelude.{◌≡◌, ℕ, ◌<◌, List, length, slice_index_or}
+use Rattle.std.specs.Prelude.{◌≡◌, ℕ, ◌<◌, List, length, slice_index_or, None}
 use Rattle.cluster_turns.specs.declared.shards.Shards.{Shards}
 use Rattle.cluster_turns.specs.declared.shards.Walker.{Walker}
 use Rattle.cluster_turns.specs.Walkers.{IsWalker}
 use Rattle.cluster_landing.specs.Landed.{HasLanded}
 use Rattle.cluster_holding.specs.Held.{HoldsNone}
 use Rattle.walkers_making.specs.Made.{IsNewWalker}
-use Rattle.session_scripts.specs.Standing.{IsAtRest}
+use Rattle.session_api.specs.declared.progress.Progress.{Progress}
+use Rattle.session_api.specs.Progresses.{active_tx}
+use Rattle.session_scripts.specs.Standing.{Holds, IsAtRest}
 
 module _ {M S G : Type 0} where
   -- each is new, and its number is its place
@@ -27,3 +29,10 @@ module _ {M S G : Type 0} where
   -- and none ever took a disk
   abbrev pub AreAtRest : Shards M S G → List (Walker M S G) → Type 0
   AreAtRest sh walkers = (k : ℕ) (d : Walker M S G) → k < length walkers → IsAtRest sh k (slice_index_or walkers k d)
+
+  -- a session on these shards of the walker of this number, none of whose transactions is active
+  pub record IsSeated (sh : Shards M S G) (number : ℕ) (shards : Shards M S G) (w : Walker M S G) (s : Progress) : Type 0 where
+    pub on : shards ≡ sh
+    pub number_is : w.number ≡ number
+    pub holds : Holds shards w s
+    pub idle : active_tx s ≡ None

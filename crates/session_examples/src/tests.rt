@@ -5,12 +5,16 @@ mod texts;
 
 ghost use Rattle.std.specs.Prelude.{◌≡◌, ◌<◌, ℕ, false};
 
-use self::houses::house_of;
+use self::houses::{failing_house, house_of};
 use self::model::{calls_of, expected};
 use self::texts::text_of;
-use crate::{Quiet, open_call_close, open_transfer_close};
+use crate::{
+    Quiet, Revival, open_call_close, open_revive_close, open_transfer_close,
+    open_transfer_together_close,
+};
 use cluster_carry::{Carry, Reminding};
 use cluster_flush::Flushed;
+use cluster_restart::FetchError;
 use disk_memory::MemoryHouse;
 use disk_model::House;
 use io_edge::NoPace;
@@ -197,6 +201,142 @@ fn a_transfer_moves_or_says_why_not(rt: HostRuntime) -> Result<(), Fail> {
         assert_eq!(rt; transferred, Ok(wanted));
         let (left, _) = ask(&rt, alloc, &mut house, 0, &[Call::Begin, ALL, Call::Commit])?;
         assert_eq!(rt; left.as_str(), text);
+    }
+    Ok(())
+}
+
+// The sum of all values that a scan was answered.
+fn sum_of(answers: &[Said]) -> u64 {
+    let mut sum = 0u64;
+    for said in answers {
+        if let Said::Pairs(Ok(pairs)) = said {
+            for (_key, value) in pairs.as_slice() {
+                sum = sum.wrapping_add(*value);
+            }
+        }
+    }
+    sum
+}
+
+#[test]
+fn sessions_beside_each_other_keep_the_sum(rt: HostRuntime) -> Result<(), Fail> {
+    let alloc = rt.alloc();
+    let rows: [(&[u64], usize); 4] = [(&[], 1), (&[], 3), (&[10, 20, 30], 1), (&[10, 20, 30], 3)];
+    let fill = [
+        Call::Begin,
+        Call::Put { key: 1, value: 100 },
+        Call::Put {
+            key: 11,
+            value: 100,
+        },
+        Call::Put {
+            key: 21,
+            value: 100,
+        },
+        Call::Put {
+            key: 31,
+            value: 100,
+        },
+        Call::Commit,
+    ];
+    for (splits, sessions) in rows {
+        let mut house = house_of(alloc, splits)?;
+        ask(&rt, alloc, &mut house, 0, &fill)?;
+        let answer = open_transfer_together_close::<
+            BlockStore,
+            HashedLocks,
+            HostRuntime,
+            MemoryHouse,
+            NoPace,
+        >(&rt, alloc, &mut house, &NoPace, sessions, 3, 1000);
+        let Ok((moved, _)) = answer else {
+            return Err(Fail::new("opening"));
+        };
+        assert_eq!(rt; moved as usize, sessions * 3);
+        let again = open_call_close::<BlockStore, HashedLocks, HostRuntime, MemoryHouse, NoPace>(
+            &rt,
+            alloc,
+            &mut house,
+            &NoPace,
+            0,
+            &[Call::Begin, ALL, Call::Commit],
+        );
+        let Ok((answers, _, _)) = again else {
+            return Err(Fail::new("opening"));
+        };
+        assert_eq!(rt; sum_of(&answers), 400);
+    }
+    Ok(())
+}
+
+#[test]
+fn a_shard_whose_flush_failed_comes_back(rt: HostRuntime) -> Result<(), Fail> {
+    let alloc = rt.alloc();
+    let put = Call::Put { key: 5, value: 10 };
+    let get = Call::Get { key: 5 };
+    let asked = [
+        Call::Begin,
+        put,
+        Call::Commit,
+        get,
+        Call::Abort,
+        Call::Commit,
+    ];
+    // The next transaction finds the shard down, and so touches nothing.
+    let goes_on = [
+        Call::Begin,
+        put,
+        Call::Commit,
+        Call::Begin,
+        get,
+        put,
+        Call::Commit,
+    ];
+    let more = [Call::Commit, Call::Begin, get, put, Call::Commit];
+    // The ninth call is the sync of the batch behind a closed gate, the eleventh that of the gate: a read then finds the batch.
+    let rows: [(u64, &[Call], Revival, &str, &str); 4] = [
+        (
+            0,
+            &asked,
+            Err(FetchError::Up),
+            "begun 1;none;committed;none active;none active;none active;",
+            "none active;begun 2;10;10;committed;",
+        ),
+        (
+            9,
+            &asked,
+            Ok(1),
+            "begun 1;none;unsettled 0;none active;none active;unsettled 0;",
+            "Restarted { shard: 0, seen: 0, now: 1 };begun 2;none;none;committed;",
+        ),
+        (
+            11,
+            &asked,
+            Ok(1),
+            "begun 1;none;unsettled 0;none active;none active;unsettled 0;",
+            "committed;begun 2;10;10;committed;",
+        ),
+        (
+            9,
+            &goes_on,
+            Ok(1),
+            "begun 1;none;unsettled 0;begun 2;down 0;down 0;empty;",
+            "none active;begun 3;none;none;committed;",
+        ),
+    ];
+    for (call, calls, epoch, before, after) in rows {
+        let mut house = failing_house(alloc, call)?;
+        let answer = open_revive_close::<BlockStore, HashedLocks, HostRuntime, MemoryHouse, NoPace>(
+            &rt, alloc, &mut house, &NoPace, calls, &more,
+        );
+        let Ok((revived, _)) = answer else {
+            return Err(Fail::new("opening"));
+        };
+        assert_eq!(rt; text_of(alloc, &revived.before)?.as_str(), before);
+        assert_eq!(rt; revived.revival, epoch);
+        assert_eq!(rt; text_of(alloc, &revived.after)?.as_str(), after);
+        let (left, _) = ask(&rt, alloc, &mut house, 0, &[Call::Begin, ALL, Call::Commit])?;
+        assert_eq!(rt; left.as_str(), "begun 1;[(5, 10)];committed;");
     }
     Ok(())
 }

@@ -8,6 +8,9 @@ use disks_making::make_all;
 use std::alloc::{AllocError, Global};
 use std::test::Fail;
 
+// 20 bytes of header, and a closed gate.
+const EMPTY: &[u8; 21] = b"CLVLOG01\x01\0\0\0\0\0\0\0\x01\0\0\0\0";
+
 fn add_empty(alloc: Global, house: &mut MemoryHouse, shard: u32) -> Result<(), AllocError>
     requires few { shard < 16 }
     requires inside { (n : ℕ) → ⟦<MemoryHouse as House>⟧.is_out house.old n ≡ false }
@@ -33,4 +36,13 @@ pub fn house_of(alloc: Global, splits: &[u64]) -> Result<MemoryHouse, Fail>
         Ok(()) => Ok(house),
         Err(_) => Err(Fail::new("logs")),
     }
+}
+
+/// The log of one shard, whose disk fails at the call of this number.
+pub fn failing_house(alloc: Global, call: u64) -> Result<MemoryHouse, Fail>
+    ensures { IfOk result (λ h. (n : ℕ) → n < 16 → ⟦<MemoryHouse as House>⟧.is_out h n ≡ false) }
+{
+    let mut house = MemoryHouse::new(alloc)?;
+    house.put(0, MemoryDisk::new(alloc, EMPTY, &[call], u64::MAX, 65536)?);
+    Ok(house)
 }

@@ -1,0 +1,11 @@
+use Rattle.std.proofs.Common.{◌≡◌}
+use Rattle.cluster_restart.specs.Held.{HoldsAt, IsDiskOf}
+use Rattle.session_examples.proofs.Fetching.{HasOneDisk}
+use Rattle.session_examples.proofs.reviving.revive.Given as goal
+
+abbrev pub invariant-loop-try : goal.invariant-loop-try
+invariant-loop-try g l = record {
+  one : HasOneDisk l.shards 0 0 l.walker;
+  shard : l.fetched.shard ≡ 0;
+  held : HoldsAt l.fetched.shard l.walker.number (IsDiskOf g.M.Disk.Disk.faults l.fetched) l.walker.passes.items;
+}
