@@ -288,14 +288,14 @@ module _ (shard : ℕ) (x y : Index) (log : List LogRecord) (s : Sound log) (i :
       ap (λ b. b && not (committed_in (log ++ r ∷ []) tx) && not (is_held shard (log ++ r ∷ []) tx)) stands ∙ ap (λ b. true && not b && not (is_held shard (log ++ r ∷ []) tx)) uncommitted
       ∙ ap (λ b. true && true && not b) unheld
 
-  after_update : (tx : TxId) (key : ℕ) (before after : Option ℕ) → may_follow shard log (Update tx key before after) ≡ true → (z : Index) → AddsUpdate x z (length log) tx key before after
-      → Knows y.facts (log ++ Update tx key before after ∷ []) → IsIndexOf shard (record z { facts = y.facts }) (log ++ Update tx key before after ∷ [])
-  after_update tx key before after may z a knows =
+  after_update : (tx : TxId) (key : ℕ) (before after : Option ℕ) → slice_get x.writes.records.now (length log) ≡ Some (Update tx key before after)
+      → may_follow shard log (Update tx key before after) ≡ true → (z : Index) → AddsUpdate x z (length log) tx key → Knows y.facts (log ++ Update tx key before after ∷ []) → IsIndexOf shard (record z { facts = y.facts }) (log ++ Update tx key before after ∷ [])
+  after_update tx key before after at may z a knows =
       let r : LogRecord = Update tx key before after in
       let w : StandingUpdate = record { lsn = length log; tx = tx; key = key; before = before; after = after } in
       let ws : standing (log ++ r ∷ []) ≡ w ∷ standing log = standing_push log r in
       let rule = update_rule shard log tx key before after may in
-      let pushed : Pushes x.writes z.writes (link_of w (standing log)) = subst (Pushes x.writes z.writes) (linked_is x.writes (standing log) w i.linked (i.tops key) (i.newest tx)) a.writes in
+      let pushed : Pushes x.writes z.writes (link_of w (standing log)) = subst (Pushes x.writes z.writes) (linked_is x.writes (standing log) w i.linked (i.tops key) (i.newest tx)) (a.writes before after at) in
       let below : (k : ℕ) → k < length log → write_at z.writes (Some k) ≡ write_at x.writes (Some k) =
       λ k lt. pushed.rows k ∙ ap (λ b. cond b (Some (link_of w (standing log))) (write_at x.writes (Some k))) (ne_eqb (length log) k (λ e. absurd (omega arith))) in
       let own : write_at z.writes (Some (length log)) ≡ Some (link_of w (standing log)) =
@@ -410,15 +410,15 @@ module _ (shard : ℕ) (x y : Index) (log : List LogRecord) (s : Sound log) (i :
 
 -- ---- each kind
 
-grows_between : (shard : ℕ) (x y z : Index) (log : List LogRecord) (r : LogRecord) → Sound log → IsIndexOf shard x log → may_follow shard log r ≡ true → ((run epoch : ℕ) → r ≡ Restart run epoch → is_above run epoch x.last ≡ true)
+grows_between : (shard : ℕ) (x y z : Index) (log : List LogRecord) (r : LogRecord) → Sound log → IsIndexOf shard x log → slice_get x.writes.records.now (length log) ≡ Some r → may_follow shard log r ≡ true → ((run epoch : ℕ) → r ≡ Restart run epoch → is_above run epoch x.last ≡ true)
     → Places x z (length log) r → Knows y.facts (log ++ r ∷ []) → IsIndexOf shard (record z { facts = y.facts }) (log ++ r ∷ [])
-grows_between shard x y z log (Restart run epoch) s i may above a knows = after_restart shard x y log s i run epoch (above run epoch refl) z a knows
-grows_between shard x y z log (Update tx key before after) s i may above a knows = after_update shard x y log s i tx key before after may z a knows
-grows_between shard x y z log (Clr tx undo_next key after) s i may above a knows = after_clr shard x y log s i tx undo_next key after may z a knows
-grows_between shard x y z log (Prepare tx home listed) s i may above a knows = after_prepare shard x y log s i tx home listed may z a knows
-grows_between shard x y z log (Commit tx parts) s i may above a knows = after_commit shard x y log s i tx parts z a knows
-grows_between shard x y z log (Abort tx) s i may above a knows = after_abort shard x y log s i tx may z a knows
-grows_between shard x y z log (End tx) s i may above a knows = after_end shard x y log s i tx z a knows
+grows_between shard x y z log (Restart run epoch) s i at may above a knows = after_restart shard x y log s i run epoch (above run epoch refl) z a knows
+grows_between shard x y z log (Update tx key before after) s i at may above a knows = after_update shard x y log s i tx key before after at may z a knows
+grows_between shard x y z log (Clr tx undo_next key after) s i at may above a knows = after_clr shard x y log s i tx undo_next key after may z a knows
+grows_between shard x y z log (Prepare tx home listed) s i at may above a knows = after_prepare shard x y log s i tx home listed may z a knows
+grows_between shard x y z log (Commit tx parts) s i at may above a knows = after_commit shard x y log s i tx parts z a knows
+grows_between shard x y z log (Abort tx) s i at may above a knows = after_abort shard x y log s i tx may z a knows
+grows_between shard x y z log (End tx) s i at may above a knows = after_end shard x y log s i tx z a knows
 
 same_facts : (x z : Index) (n : ℕ) (r : LogRecord) → Places x z n r → z.facts ≡ x.facts
 same_facts x z n (Restart run epoch) a = a.facts
@@ -429,15 +429,27 @@ same_facts x z n (Commit tx parts) a = a.keeps.facts
 same_facts x z n (Abort tx) a = a.keeps.facts
 same_facts x z n (End tx) a = a.keeps.facts
 
+same_records : (x z : Index) (n : ℕ) (r : LogRecord) → Places x z n r → z.writes.records ≡ x.writes.records
+same_records x z n (Restart run epoch) a = ap (λ w. w.records) a.writes
+same_records x z n (Update tx key before after) a = a.records
+same_records x z n (Clr tx undo_next key after) a = a.records
+same_records x z n (Prepare tx home listed) a = ap (λ w. w.records) a.writes
+same_records x z n (Commit tx parts) a = ap (λ w. w.records) a.writes
+same_records x z n (Abort tx) a = ap (λ w. w.records) a.writes
+same_records x z n (End tx) a = ap (λ w. w.records) a.writes
+
+pub keeps_records : (x y : Index) (n : ℕ) (r : LogRecord) → Adds x y n r → y.writes.records ≡ x.writes.records
+keeps_records x y n r a = ap (λ v. v.writes.records) a.rest ∙ same_records x a.between n r a.places
+
 above_last : (shard : ℕ) (x : Index) (log : List LogRecord) (r : LogRecord) → IsIndexOf shard x log → may_follow shard log r ≡ true → (run epoch : ℕ) → r ≡ Restart run epoch → is_above run epoch x.last ≡ true
 above_last shard x log r i may run epoch is =
     let restart : may_follow shard log (Restart run epoch) ≡ true = ap (may_follow shard log) (sym is) ∙ may in
     sym (i.above run epoch) ∙ and_first _ _ restart
 
-pub grows : (shard : ℕ) (x y : Index) (log : List LogRecord) (r : LogRecord) → Sound log → IsIndexOf shard x log → may_follow shard log r ≡ true → Adds x y (length log) r → IsIndexOf shard y (log ++ r ∷ [])
-grows shard x y log r s i may a =
+pub grows : (shard : ℕ) (x y : Index) (log : List LogRecord) (r : LogRecord) → Sound log → IsIndexOf shard x log → slice_get x.writes.records.now (length log) ≡ Some r → may_follow shard log r ≡ true → Adds x y (length log) r → IsIndexOf shard y (log ++ r ∷ [])
+grows shard x y log r s i at may a =
     let knows : Knows y.facts (log ++ r ∷ []) = a.facts log refl (subst (λ f. Knows f log) (sym (same_facts x a.between (length log) r a.places)) i.facts) in
-    subst (λ v. IsIndexOf shard v (log ++ r ∷ [])) (sym a.rest) (grows_between shard x y a.between log r s i may (above_last shard x log r i may) a.places knows)
+    subst (λ v. IsIndexOf shard v (log ++ r ∷ [])) (sym a.rest) (grows_between shard x y a.between log r s i at may (above_last shard x log r i may) a.places knows)
 
 -- ---- of no record
 

@@ -1,13 +1,14 @@
 -- Reading a log record by record, as the loop does.
-use Rattle.std.proofs.Common.{◌≡◌, ℕ, suc, ◌+◌, ◌<◌, ◌≤◌, Bool, true, false, List, [], ◌∷◌, ◌++◌, length, take, drop, get_or, Option, Some, None, sym, ap, subst, ◌∙◌, add-one, drop-cons, arith}
+use Rattle.std.proofs.Common.{◌≡◌, ℕ, suc, ◌+◌, ◌<◌, ◌≤◌, Bool, true, false, List, [], ◌∷◌, ◌++◌, length, take, drop, get_or, Option, Some, None, slice_get, refl, sym, ap, subst, ◌∙◌, add-one, drop-cons, arith}
 use Rattle.std.proofs.lemmas.List.{take_more, drop_all, length-take}
+use Rattle.std.proofs.lemmas.Option.{slice_get_read}
 use Rattle.clv_base.specs.declared.logs.LogRecord.{LogRecord}
 use Rattle.clv_base.specs.LogRules.{may_follow, disorder_from, disorder}
 use Rattle.log_disorder.specs.declared.index.Index.{Index}
 use Rattle.log_disorder.specs.Rules.{fits}
 use Rattle.log_disorder.specs.Adding.{Adds}
 use Rattle.log_disorder.proofs.Fitting.{fits_is}
-use Rattle.log_disorder.proofs.IndexGrows.{grows}
+use Rattle.log_disorder.proofs.IndexGrows.{grows, keeps_records}
 use Rattle.log_disorder.proofs.IndexOf.{IsIndexOf}
 use Rattle.log_disorder.proofs.Laws.{Sound, sound_push}
 
@@ -18,6 +19,7 @@ by_rule shard n before r rs b is = ap (λ (v : Bool). elim v [ true ↦ disorder
 -- the index is that of the records so far, which are in order, and what is left has the whole log's answer
 pub record SoFar (shard : ℕ) (records : List LogRecord) (x : Index) (lsn : ℕ) : Type 0 where
   pub within : lsn ≤ length records
+  pub reads : x.writes.records.now ≡ records
   pub sound : Sound (take lsn records)
   pub index : IsIndexOf shard x (take lsn records)
   pub same : disorder_from shard lsn (take lsn records) (drop lsn records) ≡ disorder shard records
@@ -28,6 +30,11 @@ module _ (shard : ℕ) (records : List LogRecord) (x : Index) (lsn : ℕ) (so_fa
 
   long : length (take lsn records) ≡ lsn
   long = omega (arith, length-take lsn records)
+
+  there : slice_get x.writes.records.now (length (take lsn records)) ≡ Some r
+  there =
+      ap (λ (l : List LogRecord). slice_get l (length (take lsn records))) so_far.reads ∙ ap (slice_get records) long
+      ∙ slice_get_read records (length records) lsn r refl lt is
 
   rule : (b : Bool) → fits x records lsn r ≡ b → may_follow shard (take lsn records) r ≡ b
   rule b fit = sym (fits_is shard x records lsn so_far.sound so_far.index r) ∙ ap (λ n. fits x records n r) long ∙ fit
@@ -42,9 +49,10 @@ module _ (shard : ℕ) (records : List LogRecord) (x : Index) (lsn : ℕ) (so_fa
   goes_on y fit a =
       let may = rule true fit in
       let next : take lsn records ++ r ∷ [] ≡ take (lsn + 1) records = ap (λ (s : LogRecord). take lsn records ++ s ∷ []) is ∙ sym (take_more records lsn r lt) in
-      let grown = grows shard x y (take lsn records) r so_far.sound so_far.index may (subst (λ (n : ℕ). Adds x y n r) (sym long) a) in
+      let grown = grows shard x y (take lsn records) r so_far.sound so_far.index there may (subst (λ (n : ℕ). Adds x y n r) (sym long) a) in
       record {
         within = omega arith;
+        reads = ap (λ l. l.now) (keeps_records x y lsn r a) ∙ so_far.reads;
         sound = subst Sound next (sound_push shard (take lsn records) so_far.sound r may);
         index = subst (IsIndexOf shard y) next grown;
         same = rw add-one (ap (λ (l : List LogRecord). disorder_from shard (suc lsn) l (drop (suc lsn) records)) (sym (next ∙ ap (λ (n : ℕ). take n records) (add-one lsn))) ∙ here true fit);

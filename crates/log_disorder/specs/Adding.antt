@@ -1,12 +1,12 @@
 -- An index after one more record.
-use Rattle.std.specs.Prelude.{◌≡◌, ℕ, Bool, true, false, not, ◌&&◌, ◌||◌, ◌==◌, List, [], ◌∷◌, ◌++◌, length, Option, Some, is_some, if◌then◌else◌}
+use Rattle.std.specs.Prelude.{◌≡◌, ℕ, Bool, true, false, not, ◌&&◌, ◌||◌, ◌==◌, List, [], ◌∷◌, ◌++◌, length, Some, is_some, if◌then◌else◌}
 use Rattle.clv_base.specs.declared.names.TxId.{TxId}
 use Rattle.clv_base.specs.declared.logs.LogRecord.{LogRecord}
 use Rattle.clv_base.specs.declared.logs.LogRecord.TheVariants.{Update, Clr, Prepare, Commit, Abort, End, Restart}
 use Rattle.clv_base.specs.Orders.{tx_same, tx_in}
 use Rattle.log_facts.specs.Facts.{Knows}
 use Rattle.log_disorder.specs.declared.index.Index.{Index}
-use Rattle.log_disorder.specs.Writes.{write_at, newest_by, linked, Pushes, Pops}
+use Rattle.log_disorder.specs.Writes.{write_at, newest_by, PushesAt, Pops}
 use Rattle.log_disorder.specs.Listers.{listers_in, ListsAll}
 use Rattle.log_disorder.specs.Rules.{has_commit}
 
@@ -26,14 +26,16 @@ pub record AddsRestart (old new : Index) (n run epoch : ℕ) : Type 0 where
   pub listers : new.listers ≡ old.listers
   pub barring : new.barring ≡ old.barring
 
-pub record AddsUpdate (old new : Index) (n : ℕ) (tx : TxId) (key : ℕ) (before after : Option ℕ) : Type 0 where
+pub record AddsUpdate (old new : Index) (n : ℕ) (tx : TxId) (key : ℕ) : Type 0 where
   pub keeps : KeepsRestart old new
-  pub writes : Pushes old.writes new.writes (linked old.writes n tx key before after)
+  pub records : new.writes.records ≡ old.writes.records
+  pub writes : PushesAt old.writes new.writes n tx key
   pub listers : new.listers ≡ old.listers
   pub barring : (t : TxId) → tx_in t new.barring ≡ (if tx_same tx t then true else tx_in t old.barring)
 
 pub record AddsClr (old new : Index) (tx : TxId) : Type 0 where
   pub keeps : KeepsRestart old new
+  pub records : new.writes.records ≡ old.writes.records
   pub writes : Pops old.writes new.writes tx (write_at old.writes (newest_by old.writes tx))
   pub listers : new.listers ≡ old.listers
   pub barring : (t : TxId) → tx_in t new.barring ≡ (if tx_same tx t then is_some (newest_by new.writes tx) && tx_in t old.barring else tx_in t old.barring)
@@ -81,7 +83,7 @@ pub record AddsEnd (old new : Index) : Type 0 where
 -- what is known beside the facts
 abbrev pub Places : Index → Index → ℕ → LogRecord → Type 0
 Places old new n (Restart run epoch) = AddsRestart old new n run epoch
-Places old new n (Update tx key before after) = AddsUpdate old new n tx key before after
+Places old new n (Update tx key before after) = AddsUpdate old new n tx key
 Places old new n (Clr tx undo_next key after) = AddsClr old new tx
 Places old new n (Prepare tx home predecessors) = AddsPrepare old new tx home predecessors
 Places old new n (Commit tx parts) = AddsCommit old new tx

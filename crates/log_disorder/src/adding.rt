@@ -6,7 +6,7 @@ use clv_base::logs::LogRecord;
 use clv_base::names::TxId;
 use std::alloc::Global;
 
-impl Index {
+impl<'a> Index<'a> {
     ghost use Rattle.std.specs.Prelude.{◌≡◌, OnOk};
     ghost use Rattle.clv_base.specs.declared.names.TxId.{TxId as Tx};
     ghost use Rattle.log_disorder.specs.Adding.{bars_after_abort, Adds, AddsRestart, AddsUpdate, AddsClr, AddsPrepare, AddsCommit, AddsAbort, AddsEnd, Places, BarsOne, BarsAll};
@@ -19,17 +19,10 @@ impl Index {
     }
 
     // Its transaction is neither committed nor prepared.
-    fn add_update(
-        &mut self,
-        lsn: usize,
-        tx: TxId,
-        key: u64,
-        before: Option<u64>,
-        after: Option<u64>,
-    ) -> Result<(), Memory>
-        ensures { OnOk result (AddsUpdate self.old self.new lsn tx key before after) }
+    fn add_update(&mut self, lsn: usize, tx: TxId, key: u64) -> Result<(), Memory>
+        ensures { OnOk result (AddsUpdate self.old self.new lsn tx key) }
     {
-        self.writes.push(lsn as u64, tx, key, before, after)?;
+        self.writes.push(lsn as u64, tx, key)?;
         self.barring.insert(tx)
     }
 
@@ -98,12 +91,7 @@ impl Index {
     {
         match r {
             LogRecord::Restart { run, epoch } => self.add_restart(lsn, *run, *epoch),
-            LogRecord::Update {
-                tx,
-                key,
-                before,
-                after,
-            } => self.add_update(lsn, *tx, *key, *before, *after)?,
+            LogRecord::Update { tx, key, .. } => self.add_update(lsn, *tx, *key)?,
             LogRecord::Clr { tx, .. } => self.add_clr(*tx)?,
             LogRecord::Prepare {
                 tx,

@@ -17,7 +17,7 @@ use std::alloc::Global;
 pub fn disorder(alloc: Global, records: &[LogRecord], shard: u32) -> Result<Option<u64>, Memory>
     ensures { IfOk result (λ lsn. lsn ≡ first_disorder shard records.now) }
 {
-    let mut index = Index::new(alloc, shard, records.len())?;
+    let mut index = Index::new(alloc, shard, records)?;
     for lsn in 0..records.len() {
         let r = &records[lsn];
         if !index.takes(alloc, records, lsn, r)? {

@@ -73,7 +73,7 @@ fn is_own_or_listed(tx: TxId, listed: &TxSet, writer: TxId) -> bool
     writer == tx || listed.contains(writer)
 }
 
-impl Index {
+impl<'a> Index<'a> {
     ghost use Rattle.std.specs.Prelude.{◌≡◌, IfOk};
     ghost use Rattle.std.specs.List.{list_all};
     ghost use Rattle.clv_base.specs.Orders.{tx_in};
