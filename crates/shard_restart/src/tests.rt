@@ -8,11 +8,12 @@ ghost use Rattle.log_gate.specs.View.{Only, logs_of};
 use crate::{RecoverError, Restarted, restart};
 use clv_base::lists::TxList;
 use clv_base::logs::LogRecord;
+use clv_base::modes::Anchor;
 use clv_base::names::TxId;
 use clv_base::splits::Splits;
 use clv_base::state::Stage;
 use disk_memory::MemoryDisk;
-use lock_table::ListLocks;
+use lock_table::{ListLocks, Locks, Memory};
 use log_gate::{Header, LogGate, make, open_log};
 use log_records::{encode, has_spelling};
 use ordered_store::SortedStore;
@@ -28,26 +29,33 @@ fn by(session: u32) -> TxId {
     }
 }
 
-fn update(tx: TxId, key: u64, after: u64) -> LogRecord {
+fn update(tx: TxId, key: u64, before: Option<u64>, after: u64) -> LogRecord {
     LogRecord::Update {
         tx,
         key,
-        before: None,
+        before,
         after: Some(after),
     }
 }
 
-// A log in which session 1 wrote 7 at key 5 and is prepared for the home 1, and session 2 wrote 9 at key 6.
+// A log in which session 1 wrote 7 at key 5 and is prepared for the home 1, session 2 wrote 9 at key 6, and session 3 wrote 8 over the 7 and is
+// prepared for the same home.
 fn log(alloc: Global) -> Result<Vec<LogRecord>, AllocError> {
     let mut log = Vec::new(alloc);
     log.push(LogRecord::Restart { run: 1, epoch: 0 })?;
-    log.push(update(by(1), 5, 7))?;
+    log.push(update(by(1), 5, None, 7))?;
     log.push(LogRecord::Prepare {
         tx: by(1),
         home: 1,
         predecessors: TxList::new(Vec::new(alloc)),
     })?;
-    log.push(update(by(2), 6, 9))?;
+    log.push(update(by(2), 6, None, 9))?;
+    log.push(update(by(3), 5, Some(7), 8))?;
+    log.push(LogRecord::Prepare {
+        tx: by(3),
+        home: 1,
+        predecessors: TxList::new(vec![in alloc; by(1)]?),
+    })?;
     Ok(log)
 }
 
@@ -118,10 +126,10 @@ fn restarted(
     }
 }
 
-// Session 1 is in doubt, for the home 1; session 2 is a loser: an ABORT, a CLR and the RESTART make the log one of 7 records.
+// Sessions 1 and 3 are in doubt, for the home 1; session 2 is a loser: an ABORT, a CLR and the RESTART make the log one of 9 records.
 fn is_as_told(shard: &Restarted<SortedStore, ListLocks>) -> bool {
     let doubtful = match shard.in_doubt.as_slice() {
-        [one] => one.0 == by(1) && one.1 == 1,
+        [one, other] => *one == (by(1), 1) && *other == (by(3), 1),
         _ => false,
     };
     let stages = (
@@ -131,7 +139,19 @@ fn is_as_told(shard: &Restarted<SortedStore, ListLocks>) -> bool {
     doubtful
         && shard.unended.is_empty()
         && stages == (Some(Stage::Closed), None)
-        && (shard.transactions.durable(), shard.transactions.end()) == (7, 7)
+        && (shard.transactions.durable(), shard.transactions.end()) == (9, 9)
+}
+
+// Both have their lock on the record at key 5, and session 3 depends on session 1.
+fn hold_as_told(alloc: Global, shard: Restarted<SortedStore, ListLocks>) -> Result<bool, Memory> {
+    let Restarted {
+        transactions,
+        in_doubt: _,
+        unended: _,
+    } = shard;
+    let parts = transactions.into_parts();
+    let holders = parts.locks.holders(alloc, Anchor::At(5))?;
+    Ok(holders.len() == 2 && parts.deps.is_predecessor(by(3), by(1)))
 }
 
 #[test]
@@ -142,9 +162,9 @@ fn those_in_doubt_are_restored(rt: HostRuntime) -> Result<(), Fail> {
         return Err(Fail::new("not restarted"));
     };
     assert!(rt; is_as_told(&shard));
-    // Its abort undoes its write: an ABORT and a CLR.
+    // The abort of session 1 takes both away: two ABORTs and two CLRs.
     shard.transactions.abort(by(1));
-    assert_eq!(rt; shard.transactions.end(), 9);
+    assert_eq!(rt; shard.transactions.end(), 13);
     Ok(())
 }
 
@@ -160,5 +180,6 @@ fn a_restart_that_failed_is_tried_again(rt: HostRuntime) -> Result<(), Fail> {
         return Err(Fail::new("not restarted"));
     };
     assert!(rt; is_as_told(&shard));
+    assert!(rt; matches!(hold_as_told(alloc, shard), Ok(true)));
     Ok(())
 }
