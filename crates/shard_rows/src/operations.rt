@@ -257,18 +257,38 @@ fn a_drop_undoes_and_ghosts_go_with_their_locks(rt: HostRuntime) -> Result<(), F
     Ok(())
 }
 
+/// So many sessions, one after another, put a value at the same key, commit and are over.
+fn pass_by(alloc: Global, shard: &mut Shard, count: u32) -> Result<(), AllocError> {
+    for session in 0..count {
+        let session = session.saturating_add(1000);
+        ask(alloc, shard, session, Op::Put(5000, 1))?;
+        if shard.stage_of(tx(session)) != Some(Stage::Active) {
+            return Err(AllocError);
+        }
+        match shard.close_part(alloc, tx(session), 3, true) {
+            Ok(_) => shard.finish_part(tx(session)),
+            Err(_) => return Err(AllocError),
+        }
+    }
+    Ok(())
+}
+
+// A hundred UPDATEs of one open part want a CLR each, and the part an ABORT, however many were over before.
 #[test]
 fn many_writes_find_room(rt: HostRuntime) -> Result<(), Fail> {
     let alloc = rt.alloc();
-    let mut shard = empty(alloc)?;
+    let mut store = SortedStore::new(alloc);
+    put(&mut store, 5000, 1)?;
+    let mut shard = over(alloc, store, ListLocks::new(alloc))?;
     for key in 0..100 {
         assert_eq!(rt;
             ask(alloc, &mut shard, 1, Op::Put(key, key))?,
             Told::Value(None)
         );
     }
+    pass_by(alloc, &mut shard, 2_000)?;
     let parts = shard.into_parts();
-    assert_eq!(rt; (parts.buffer.end(), parts.buffer.room()), (100, 200));
+    assert_eq!(rt; (parts.buffer.end(), parts.buffer.room()), (4_100, 101));
     Ok(())
 }
 
