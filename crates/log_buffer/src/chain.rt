@@ -51,7 +51,7 @@ fn entry_at(entries: &[Option<usize>], at: usize) -> Option<usize>
 }
 
 impl Chain {
-    ghost use Rattle.std.specs.Prelude.{◌≡◌, ◌≤◌, ◌<◌, ◌+◌, [], ◌∷◌, ◌++◌, OnOk, List};
+    ghost use Rattle.std.specs.Prelude.{◌≡◌, ◌≤◌, ◌<◌, ◌+◌, [], ◌∷◌, ◌++◌, IfOk, OnOk, List, vec_capacity};
     ghost use Rattle.std.specs.List.{list_any};
     ghost use Rattle.clv_base.specs.declared.names.TxId.{TxId as Tx};
     ghost use Rattle.log_buffer.specs.declared.measured.Link.{Link as LinkTo};
@@ -67,6 +67,17 @@ impl Chain {
             below: Vec::new(alloc),
             written: TxTable::new(alloc),
         }
+    }
+
+    /// The chain of no records, with places for so many of them, but none for writers.
+    pub(crate) fn with_places(alloc: Global, count: usize) -> Result<Chain, AllocError>
+        ensures chain { IfOk result (λ c. IsChainOf c []) }
+        ensures room { IfOk result (λ c. count ≤ vec_capacity c.below) }
+    {
+        Ok(Chain {
+            below: Vec::with_capacity(alloc, count)?,
+            written: TxTable::new(alloc),
+        })
     }
 
     /// Makes room for so many records more.
@@ -142,5 +153,15 @@ impl Chain {
             Link::Neither => None,
         };
         self.below.push_reserved(below);
+    }
+
+    /// One more record, for which room is made where there is none.
+    pub(crate) fn add(&mut self, link: Link) -> Result<(), AllocError>
+        requires { (links : List LinkTo) × IsChainOf self.old links }
+        ensures { OnOk result ((links : List LinkTo) → IsChainOf self.old links → IsChainOf self.new (links ++ link ∷ [])) }
+    {
+        self.reserve(1)?;
+        self.push(link);
+        Ok(())
     }
 }

@@ -2,3 +2,4 @@ pub mod Redone
 pub mod Whole
 pub mod Folded
 pub mod Lasting
+pub mod Rooms

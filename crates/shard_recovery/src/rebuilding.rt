@@ -5,6 +5,7 @@ ghost use Rattle.clv_base.specs.Orders.{tx_cmp};
 ghost use Rattle.clv_base.specs.Logs.{standing};
 ghost use Rattle.clv_base.specs.Undo.{records_without};
 ghost use Rattle.clv_base.specs.Restarts.{losers as losers_of, log_after_restart};
+ghost use Rattle.cascade_undo.specs.Writes.{writes_of};
 ghost use Rattle.shard_recovery.specs.Redoing.{redo as redone};
 
 use crate::aborts::{append_aborts, unaborted};
@@ -17,7 +18,20 @@ use log_facts::LogFacts;
 use ordered_store::Store;
 use std::alloc::{AllocError, Global};
 
-/// The buffer of a log whose records are durable, with room for the records of a restart.
+/// How many UPDATEs these transactions have together. No more of their writes stand.
+fn updates_of(buffer: &LogBuffer<LogRecord>, txs: &[TxId]) -> usize
+    ensures { length (writes_of txs.now (standing buffer.now.records)) ≤ result }
+{
+    let _no_more_than_all = buffer.end();
+    let mut count: usize = 0;
+    for tx in txs {
+        count = count.saturating_add(buffer.updates(*tx));
+    }
+    count
+}
+
+/// The buffer of a log whose records are durable, with room for the records of a restart: an ABORT for each loser, a CLR for each of its writes
+/// that stand, and the RESTART.
 fn buffer_of(
     alloc: Global,
     records: Vec<LogRecord>,
@@ -25,14 +39,14 @@ fn buffer_of(
 ) -> Result<LogBuffer<LogRecord>, AllocError>
     ensures records { IfOk result (λ b. b.records ≡ records.items) }
     ensures fronts { IfOk result (λ b. (b.durable ≡ length records.items) × (b.taken ≡ length records.items)) }
-    ensures room { IfOk result (λ b. length losers.now + length records.items + 1 ≤ b.room) }
+    ensures room { IfOk result (λ b. length losers.now + length (writes_of losers.now (standing records.items)) + 1 ≤ b.room) }
 {
-    let count = records.len();
     let mut buffer = match LogBuffer::from_durable(alloc, records) {
         Ok(buffer) => buffer,
         Err(_) => return Err(AllocError),
     };
-    buffer.reserve(losers.len() + count + 1)?;
+    let count = updates_of(&buffer, losers).saturating_add(losers.len());
+    buffer.reserve(count.saturating_add(1))?;
     Ok(buffer)
 }
 

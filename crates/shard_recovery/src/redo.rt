@@ -1,5 +1,5 @@
 //! Doing the records of a log again.
-ghost use Rattle.std.specs.Prelude.{◌≡◌, ◌≤◌, ◌<◌, ◌+◌, None, OnOk, OnErr};
+ghost use Rattle.std.specs.Prelude.{◌≡◌, ◌≤◌, ◌<◌, ◌+◌, None, OnOk};
 ghost use Rattle.clv_base.specs.Needs.{record_set};
 ghost use Rattle.shard_recovery.specs.Redoing.{redo as redone, redo_one as redone_one};
 
@@ -52,13 +52,13 @@ fn redo_one<S: Store>(store: &mut S, done: &LogRecord)
     }
 }
 
-/// Does all records of a log again, in order. An `Err` leaves the store as it was.
+/// Does all records of a log again, in order. It makes room record by record, as there may be far fewer keys. An `Err` leaves the store in the
+/// middle of it.
 pub(crate) fn redo<S: Store>(store: &mut S, log: &[LogRecord]) -> Result<(), AllocError>
-    ensures ok { OnOk result (S.records store.new ≡ redone log.now (S.records store.old)) }
-    ensures err { OnErr result (S.records store.new ≡ S.records store.old) }
+    ensures { OnOk result (S.records store.new ≡ redone log.now (S.records store.old)) }
 {
-    store.reserve(log.len())?;
     for done in log {
+        store.reserve(1)?;
         redo_one(store, done);
     }
     Ok(())

@@ -68,7 +68,7 @@ fn fold_one<S: Store>(store: &mut S, facts: &LogFacts, doubtful: &TxSet, found: 
     }
 }
 
-/// Does the UPDATEs of the winners again, in order, in an empty store.
+/// Does the UPDATEs of the winners again, in order, in an empty store. It makes room record by record, as there may be far fewer keys.
 fn fold<S: Store>(
     store: &mut S,
     facts: &LogFacts,
@@ -79,8 +79,8 @@ fn fold<S: Store>(
     requires empty { S.records store.old ≡ [] }
     ensures ok { OnOk result (S.records store.new ≡ records_of (fold_updates (wins_in log.now doubtful.now) log.now [])) }
 {
-    store.reserve(log.len())?;
     for found in log {
+        store.reserve(1)?;
         fold_one(store, facts, doubtful, found);
     }
     Ok(())
@@ -106,8 +106,8 @@ fn haunt_one<S: Store>(store: &mut S, doubtful: &TxSet, found: &LogRecord)
 fn haunt_all<S: Store>(store: &mut S, doubtful: &TxSet, log: &[LogRecord]) -> Result<(), AllocError>
     ensures ok { OnOk result (S.records store.new ≡ with_ghosts doubtful.now log.now (S.records store.old)) }
 {
-    store.reserve(log.len())?;
     for found in log {
+        store.reserve(1)?;
         haunt_one(store, doubtful, found);
     }
     Ok(())
