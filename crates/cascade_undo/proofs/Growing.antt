@@ -1,6 +1,6 @@
 -- A log that grows by one record, and what is left to undo at the end.
-use Rattle.std.proofs.Common.{◌≡◌, ℕ, zero, suc, ◌+◌, ◌<◌, ◌≤◌, cond, List, [], ◌∷◌, ◌++◌, length, None, unwrap_or, refl, sym, ap, ◌∙◌, append-nil, length-append, arith}
-use Rattle.std.proofs.lemmas.Bool.{cond-false, false_from_ne_true}
+use Rattle.std.proofs.Common.{◌≡◌, ℕ, ◌+◌, ◌≤◌, cond, List, [], ◌∷◌, ◌++◌, length, None, unwrap_or, refl, sym, ap, ◌∙◌, append-nil, length-append, arith}
+use Rattle.std.proofs.lemmas.Bool.{cond-false}
 use Rattle.clv_base.specs.declared.names.TxId.{TxId}
 use Rattle.clv_base.specs.declared.logs.LogRecord.{LogRecord}
 use Rattle.clv_base.specs.declared.logs.LogRecord.TheVariants.{Clr}
@@ -10,11 +10,9 @@ use Rattle.clv_base.specs.Undo.{value_before, records_without, clrs_of, newest_l
 use Rattle.clv_base.specs.Needs.{Records}
 use Rattle.log_buffer.specs.Buffers.{Buffer}
 use Rattle.cascade_undo.specs.Writes.{writes_of}
-use Rattle.cascade_undo.specs.Steps.{AreBelow, Advances, open_of}
+use Rattle.cascade_undo.specs.Steps.{newest_in, Advances}
 use Rattle.cascade_undo.proofs.Bools.{both}
-use Rattle.cascade_undo.proofs.Standing.{falls, all_mono}
-use Rattle.cascade_undo.proofs.Splitting.{NoneOf, before_above}
-use Rattle.cascade_undo.proofs.Opening.{none_open, open_none}
+use Rattle.cascade_undo.proofs.Splitting.{NoneOf, none_of, before_above}
 
 pub one_longer : (log after : List LogRecord) (r : LogRecord) (room left : ℕ) → after ≡ log ++ r ∷ [] → room ≤ left + 1 → room + length log ≤ left + length after
 one_longer log after r room left e less = let grown = ap length e ∙ length-append log (r ∷ []) in omega arith
@@ -33,13 +31,6 @@ advances_more set b c d ps qs rs first next = record {
   fronts = (next.fronts.0 ∙ first.fronts.0, next.fronts.1 ∙ first.fronts.1);
   room = let f = first.room in let n = next.room in omega arith;
 }
-
--- where someone has a write, the writes are below an LSN above 0
-pub still_some : (set : List TxId) (lsn : ℕ) (log : List LogRecord) → AreBelow set lsn (standing log) → 0 < length (open_of set (standing log)) → 1 ≤ lsn
-still_some set zero log below some =
-    let none = none_open set (standing log) (all_mono _ _ (λ v h. false_from_ne_true _ (λ i. let l : v.lsn < 0 = h i in absurd (omega arith))) (standing log) below) in
-    absurd (omega arith)
-still_some set (suc n) log below some = omega arith
 
 -- ---- at last
 
@@ -60,9 +51,9 @@ length-clrs set (w ∷ ws) =
     both (λ b. length (cond b (Clr w.tx (newest_lsn w.tx ws) w.key w.before ∷ clrs_of set ws) (clrs_of set ws)) ≡ length (cond b (w ∷ writes_of set ws) (writes_of set ws))) (tx_in w.tx set)
     (λ _. let e = length-clrs set ws in omega arith) (λ _. length-clrs set ws)
 
-module _ (set : List TxId) (b c : Buffer LogRecord) (rs qs : Records) (all : Advances set b c rs qs) (done : length (open_of set (standing c.records)) ≡ 0) where
+module _ (set : List TxId) (b c : Buffer LogRecord) (rs qs : Records) (all : Advances set b c rs qs) (done : newest_in set (standing c.records) ≡ None) where
   nobody : NoneOf set (standing c.records)
-  nobody = open_none set (length c.records) (standing c.records) (falls c.records) done
+  nobody = none_of set (standing c.records) done
 
   pub log_at_last : c.records ≡ b.records ++ clrs_of set (standing b.records)
   log_at_last = sym (append-nil c.records) ∙ ap (λ l. c.records ++ l) (sym (clrs_none set (standing c.records) nobody)) ∙ all.log

@@ -1,12 +1,10 @@
 pub mod Bools
 pub mod Standing
 pub mod Splitting
+pub mod Newest
 pub mod Restoring
-pub mod Opening
 pub mod Stepping
-pub mod Placing
 pub mod Aborting
 pub mod Growing
-pub mod Covering
 pub mod Keeping
 pub mod Laws

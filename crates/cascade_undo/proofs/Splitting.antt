@@ -1,5 +1,5 @@
 -- The newest write of a set, among the writes that stand: those above it are others', and it goes.
-use Rattle.std.proofs.Common.{◌≡◌, ℕ, suc, ◌+◌, ◌<◌, Bool, true, false, cond, ◌&&◌, ◌==◌, List, [], ◌∷◌, ◌++◌, length, Option, Some, None, unwrap_or, refl, sym, ap, subst, ◌∙◌, arith}
+use Rattle.std.proofs.Common.{◌≡◌, ℕ, suc, Bool, true, false, cond, ◌&&◌, ◌==◌, List, [], ◌∷◌, ◌++◌, length, Option, Some, None, unwrap_or, refl, sym, ap, subst, ◌∙◌}
 use Rattle.std.specs.List.{AllByRecursion}
 use Rattle.std.proofs.lemmas.Bool.{both_ways, cond-true, cond-false, false_from_ne_true}
 use Rattle.clv_base.specs.declared.names.TxId.{TxId}
@@ -9,35 +9,34 @@ use Rattle.clv_base.specs.Logs.{StandingUpdate, without_newest, newest_of}
 use Rattle.clv_base.specs.Undo.{value_before, clrs_of, newest_lsn}
 use Rattle.clv_base.proofs.SameNames.{tx_true, tx_self}
 use Rattle.cascade_undo.specs.Writes.{writes_of}
-use Rattle.cascade_undo.specs.Steps.{AreBelow}
+use Rattle.cascade_undo.specs.Steps.{newest_in, lsn_of}
 use Rattle.cascade_undo.proofs.Bools.{both}
-use Rattle.cascade_undo.proofs.Standing.{Falls, all_mono, lsn_of, newest_under, all_below}
 
 -- none of the writes is of the set
 abbrev pub NoneOf : List TxId → List StandingUpdate → Type 0
 NoneOf set ws = AllByRecursion (λ w. tx_in w.tx set ≡ false) ws
 
+-- it is its transaction's newest, and those above it are others'
 pub record SplitAt (set : List TxId) (w : StandingUpdate) (ws : List StandingUpdate) : Type 0 where
   pub above : List StandingUpdate
   pub rest : List StandingUpdate
   pub is : ws ≡ above ++ w ∷ rest
   pub others : NoneOf set above
+  pub own : tx_in w.tx set ≡ true
 
--- a transaction's newest write, where no write of the set is above it
-pub split_at : (set : List TxId) (n : ℕ) (ws : List StandingUpdate) (t : TxId) (w : StandingUpdate) → Falls n ws → newest_of t ws ≡ Some w → AreBelow set (w.lsn + 1) ws → SplitAt set w ws
-split_at set n [] t w falls newest below = absurd cc
-split_at set n (v ∷ vs) t w falls newest below =
-    both (λ b. cond b (Some v) (newest_of t vs) ≡ Some w → SplitAt set w (v ∷ vs)) (tx_same t v.tx)
-    (λ _ e. let same : v ≡ w = cc in record { above = []; rest = vs; is = ap (λ u. u ∷ vs) same; others = tt })
-    (λ _ e.
-    let more = split_at set v.lsn vs t w falls.1 e below.1 in
-    let under : w.lsn < v.lsn = newest_under v.lsn vs t w falls.1 e in
-    record {
-      above = v ∷ more.above;
-      rest = more.rest;
-      is = ap (λ l. v ∷ l) more.is;
-      others = (false_from_ne_true _ (λ i. let l : v.lsn < w.lsn + 1 = below.0 i in absurd (omega arith)), more.others);
-    }) newest
+pub split_at : (set : List TxId) (ws : List StandingUpdate) (w : StandingUpdate) → newest_in set ws ≡ Some w → SplitAt set w ws
+split_at set [] w newest = absurd cc
+split_at set (v ∷ vs) w newest =
+    both (λ b. tx_in v.tx set ≡ b → cond b (Some v) (newest_in set vs) ≡ Some w → SplitAt set w (v ∷ vs)) (tx_in v.tx set)
+    (λ _ own e. let same : v ≡ w = cc in record { above = []; rest = vs; is = ap (λ u. u ∷ vs) same; others = tt; own = subst (λ u. tx_in u.tx set ≡ true) same own })
+    (λ _ other e. let more = split_at set vs w e in record { above = v ∷ more.above; rest = more.rest; is = ap (λ l. v ∷ l) more.is; others = (other, more.others); own = more.own }) refl newest
+
+-- where there is none
+pub none_of : (set : List TxId) (ws : List StandingUpdate) → newest_in set ws ≡ None → NoneOf set ws
+none_of set [] e = tt
+none_of set (v ∷ vs) e =
+    both (λ b. tx_in v.tx set ≡ b → cond b (Some v) (newest_in set vs) ≡ None → NoneOf set (v ∷ vs)) (tx_in v.tx set)
+    (λ _ own is. absurd cc) (λ _ other is. (other, none_of set vs is)) refl e
 
 pub other_name : (set : List TxId) (t u : TxId) → tx_in t set ≡ true → tx_in u set ≡ false → tx_same t u ≡ false
 other_name set t u i o = false_from_ne_true _ (λ e. both_ways _ o (subst (λ x. tx_in x set ≡ true) (tx_true t u e) i))
@@ -68,6 +67,10 @@ module _ (set : List TxId) where
   newest_above t [] ws i h = refl
   newest_above t (v ∷ vs) ws i h = cond-false _ _ _ (other_name set t v.tx i h.0) ∙ newest_above t vs ws i h.1
 
+  pub newest_past : (above ws : List StandingUpdate) → NoneOf set above → newest_in set (above ++ ws) ≡ newest_in set ws
+  newest_past [] ws h = refl
+  newest_past (v ∷ vs) ws h = cond-false _ _ _ h.0 ∙ newest_past vs ws h.1
+
   pub without_above : (t : TxId) (above ws : List StandingUpdate) → tx_in t set ≡ true → NoneOf set above → without_newest t (above ++ ws) ≡ above ++ without_newest t ws
   without_above t [] ws i h = refl
   without_above t (v ∷ vs) ws i h = cond-false _ _ _ (other_name set t v.tx i h.0) ∙ ap (λ l. v ∷ l) (without_above t vs ws i h.1)
@@ -79,10 +82,6 @@ module _ (set : List TxId) where
   pub with_above : (P : StandingUpdate → Type 0) (above ws : List StandingUpdate) → NoneOf set above → AllByRecursion (λ v. tx_in v.tx set ≡ true → P v) ws → AllByRecursion (λ v. tx_in v.tx set ≡ true → P v) (above ++ ws)
   with_above P [] ws h a = a
   with_above P (v ∷ vs) ws h a = (λ i. absurd (both_ways _ h.0 i), with_above P vs ws h.1 a)
-
-  falls_under : (n : ℕ) (above : List StandingUpdate) (w : StandingUpdate) (rest : List StandingUpdate) → Falls n (above ++ w ∷ rest) → Falls w.lsn rest
-  falls_under n [] w rest f = f.1
-  falls_under n (v ∷ vs) w rest f = falls_under v.lsn vs w rest f.1
 
   -- ---- it goes
 
@@ -111,9 +110,6 @@ module _ (set : List TxId) where
         at (Some x) b = refl
         at None true = refl
         at None false = refl
-
-    pub below_it : (n : ℕ) → Falls n (above ++ w ∷ rest) → AreBelow set w.lsn (above ++ rest)
-    below_it n f = with_above (λ v. v.lsn < w.lsn) above rest h (all_mono _ _ (λ v l _. l) rest (all_below w.lsn rest (falls_under n above w rest f)))
 
     pub others_stay : (P : StandingUpdate → Type 0) → AllByRecursion (λ v. tx_in v.tx set ≡ true → P v) (above ++ w ∷ rest) → AllByRecursion (λ v. tx_in v.tx set ≡ true → P v) (above ++ rest)
     others_stay P a = with_above P above rest h (all_above (λ v. tx_in v.tx set ≡ true → P v) above (w ∷ rest) a).1

@@ -1,5 +1,5 @@
 -- The UPDATEs that stand are records of the log, and their LSNs fall.
-use Rattle.std.proofs.Common.{◌≡◌, ℕ, suc, ◌+◌, ◌<◌, ◌≤◌, cond, List, [], ◌∷◌, ◌++◌, length, Option, Some, None, refl, sym, ap, subst, ◌∙◌, append_assoc, length-append, arith}
+use Rattle.std.proofs.Common.{◌≡◌, ℕ, suc, ◌+◌, ◌<◌, ◌≤◌, cond, List, [], ◌∷◌, ◌++◌, length, Some, refl, sym, ap, subst, ◌∙◌, append_assoc, length-append, arith}
 use Rattle.std.specs.Prelude.{slice_get}
 use Rattle.std.specs.List.{AllByRecursion}
 use Rattle.std.proofs.Math.Seq.{get_or-append_seam}
@@ -9,9 +9,7 @@ use Rattle.clv_base.specs.declared.names.TxId.{TxId}
 use Rattle.clv_base.specs.declared.logs.LogRecord.{LogRecord}
 use Rattle.clv_base.specs.declared.logs.LogRecord.TheVariants.{Update, Clr, Prepare, Commit, Abort, End, Restart}
 use Rattle.clv_base.specs.Orders.{tx_same}
-use Rattle.clv_base.specs.Logs.{StandingUpdate, without_newest, standing_after, standing_from, standing, newest_of}
-use Rattle.clv_base.specs.Undo.{newest_lsn}
-use Rattle.clv_base.proofs.SameNames.{tx_self}
+use Rattle.clv_base.specs.Logs.{StandingUpdate, without_newest, standing_after, standing_from, standing}
 use Rattle.cascade_undo.proofs.Bools.{both}
 
 -- ---- LSNs fall
@@ -47,10 +45,6 @@ falls_from n (r ∷ rs) ws falls =
 pub falls : (log : List LogRecord) → Falls (length log) (standing log)
 falls log = subst (λ m. Falls m (standing log)) (omega arith) (falls_from 0 log [] tt)
 
-pub all_below : (n : ℕ) (ws : List StandingUpdate) → Falls n ws → AllByRecursion (λ w. w.lsn < n) ws
-all_below n [] h = tt
-all_below n (w ∷ ws) h = (h.0, all_below n ws (falls_weaker w.lsn n ws (omega (arith, h.0)) h.1))
-
 -- ---- they are records of the log
 
 abbrev pub IsIn : List LogRecord → StandingUpdate → Type 0
@@ -84,25 +78,3 @@ in_from (r ∷ rs) front all n ws at is a =
 
 pub in_log : (log : List LogRecord) → AllByRecursion (IsIn log) (standing log)
 in_log log = in_from log [] log 0 [] refl refl tt
-
--- ---- the newest of a transaction
-
-abbrev pub lsn_of : Option StandingUpdate → Option ℕ
-lsn_of o = elim o [ Some w ↦ Some w.lsn | None ↦ None ]
-
--- each write's transaction has a newest one, no older than it
-pub newest_there : (n : ℕ) (ws : List StandingUpdate) → Falls n ws → AllByRecursion (λ v. (q : ℕ) × (newest_lsn v.tx ws ≡ Some q) × (v.lsn ≤ q) × (q < n)) ws
-newest_there n [] h = tt
-newest_there n (w ∷ ws) h = (
-  (w.lsn, ap (λ b. lsn_of (cond b (Some w) (newest_of w.tx ws))) (tx_self w.tx), omega arith, h.0),
-  all_mono _ _
-      (λ v e.
-      both (λ b. (q : ℕ) × (lsn_of (cond b (Some w) (newest_of v.tx ws)) ≡ Some q) × (v.lsn ≤ q) × (q < n)) (tx_same v.tx w.tx)
-      (λ _. (w.lsn, refl, omega (arith, e.2, e.3), h.0)) (λ _. (e.0, e.1, e.2, omega (arith, e.3, h.0)))) ws (newest_there w.lsn ws h.1),
-)
-
-pub newest_under : (n : ℕ) (ws : List StandingUpdate) (t : TxId) (w : StandingUpdate) → Falls n ws → newest_of t ws ≡ Some w → w.lsn < n
-newest_under n [] t w h e = absurd cc
-newest_under n (v ∷ vs) t w h e =
-    both (λ b. cond b (Some v) (newest_of t vs) ≡ Some w → w.lsn < n) (tx_same t v.tx) (λ _ is. let same : v ≡ w = cc in subst (λ u. u.lsn < n) same h.0)
-    (λ _ is. let under : w.lsn < v.lsn = newest_under v.lsn vs t w h.1 is in omega (arith, under, h.0)) e

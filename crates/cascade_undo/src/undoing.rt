@@ -1,5 +1,5 @@
 //! Undoing the writes of a set of transactions, from the newest one down.
-ghost use Rattle.std.specs.Prelude.{◌≡◌, ◌≤◌, ◌<◌, ◌+◌, ◌++◌, [], ◌∷◌, true, length, is_none, IsTrue, if◌then◌else◌};
+ghost use Rattle.std.specs.Prelude.{◌≡◌, ◌≤◌, ◌<◌, ◌+◌, ◌++◌, [], ◌∷◌, length, IsTrue};
 ghost use Rattle.std.specs.List.Sorted.{IsStrictlySortedBy};
 ghost use Rattle.clv_base.specs.declared.logs.LogRecord.TheVariants.{Clr};
 ghost use Rattle.clv_base.specs.Orders.{tx_cmp};
@@ -7,10 +7,8 @@ ghost use Rattle.clv_base.specs.Logs.{standing, without_newest};
 ghost use Rattle.clv_base.specs.Undo.{records_without, clrs_of, newest_lsn};
 ghost use Rattle.clv_base.specs.Needs.{found_at, is_there, record_set};
 ghost use Rattle.cascade_undo.specs.Writes.{writes_of, HaveRecords};
-ghost use Rattle.cascade_undo.specs.Steps.{AreBelow, Advances, open_of};
 
-use crate::marks::{count_open, greatest_lsn};
-use crate::write::{Write, newest_at};
+use crate::write::{Write, newest_write};
 use clv_base::logs::LogRecord;
 use clv_base::names::TxId;
 use log_buffer::LogBuffer;
@@ -30,8 +28,8 @@ fn restore<S: Store>(store: &mut S, key: u64, before: Option<u64>)
     }
 }
 
-/// Takes back a transaction's newest write that stands, and says whether it has no more.
-fn undo_write<S: Store>(store: &mut S, buffer: &mut LogBuffer<LogRecord>, write: Write) -> bool
+/// Takes back a transaction's newest write that stands.
+fn undo_write<S: Store>(store: &mut S, buffer: &mut LogBuffer<LogRecord>, write: Write)
     requires there { IsTrue (is_there (found_at write.key (S.records store.old))) }
     requires room { 0 < buffer.old.room }
     ensures records { S.records store.new ≡ record_set write.key write.before (S.records store.old) }
@@ -39,7 +37,6 @@ fn undo_write<S: Store>(store: &mut S, buffer: &mut LogBuffer<LogRecord>, write:
     ensures fronts { (buffer.new.durable ≡ buffer.old.durable) × (buffer.new.taken ≡ buffer.old.taken) }
     ensures room { buffer.old.room ≤ buffer.new.room + 1 }
     ensures store_room { S.room store.old ≤ S.room store.new }
-    ensures last { result ≡ is_none (newest_lsn write.tx (without_newest write.tx (standing buffer.old.records))) }
 {
     let undo_next = buffer.second_newest(write.tx);
     restore(store, write.key, write.before);
@@ -49,37 +46,12 @@ fn undo_write<S: Store>(store: &mut S, buffer: &mut LogBuffer<LogRecord>, write:
         key: write.key,
         after: write.before,
     });
-    undo_next.is_none()
 }
 
-/// Takes back the write at an LSN, where it is one of the set that stands, and all above it are taken back. Says whether its transaction has
-/// no more.
-fn undo_at<S: Store>(
-    store: &mut S,
-    buffer: &mut LogBuffer<LogRecord>,
-    set: &[TxId],
-    lsn: u64,
-) -> bool
-    requires rising { IsStrictlySortedBy tx_cmp set.now }
-    requires below { AreBelow set.now (lsn + 1) (standing buffer.old.records) }
-    requires there { HaveRecords set.now (standing buffer.old.records) (S.records store.old) }
-    requires room { length (writes_of set.now (standing buffer.old.records)) ≤ buffer.old.room }
-    ensures advances { Advances set.now buffer.old buffer.new (S.records store.old) (S.records store.new) }
-    ensures below { AreBelow set.now lsn (standing buffer.new.records) }
-    ensures there { HaveRecords set.now (standing buffer.new.records) (S.records store.new) }
-    ensures room { length (writes_of set.now (standing buffer.new.records)) ≤ buffer.new.room }
-    ensures store_room { S.room store.old ≤ S.room store.new }
-    ensures open { length (open_of set.now (standing buffer.old.records)) ≡ length (open_of set.now (standing buffer.new.records)) + (if result then 1 else 0) }
-{
-    match newest_at(buffer, set, lsn) {
-        Some(write) => undo_write(store, buffer, write),
-        None => false,
-    }
-}
-
-/// Takes back all writes of the transactions, which rise, that stand in the log: a CLR for each, from the greatest LSN down, which names its
-/// transaction's write before it; the key goes back to the value before, and to a ghost where there was none. Gives how many these are.
-/// The log is walked back from the newest of these writes to the oldest, with two look-ups at each UPDATE. Takes no memory.
+/// Takes back all writes of the transactions, which rise, that stand in the log: a CLR for each, from the greatest LSN down, which names
+/// its transaction's write before it; the key goes back to the value before, and to a ghost where there was none. Gives how many these
+/// are. Takes no memory. The next of these writes is found by a look at each record down to it or at each of the transactions, whichever
+/// are fewer, but for a factor of two: so the undo of one transaction takes time in its own writes, however many others wrote between.
 pub fn undo_writes<S: Store>(
     store: &mut S,
     buffer: &mut LogBuffer<LogRecord>,
@@ -96,13 +68,10 @@ pub fn undo_writes<S: Store>(
     ensures count { result ≡ length (writes_of set.now (standing buffer.old.records)) }
 {
     let end = buffer.end();
-    let mut open = count_open(buffer, set);
-    let mut lsn = greatest_lsn(buffer, set) + 1;
-    while open > 0 {
-        lsn -= 1;
-        if undo_at(store, buffer, set, lsn) {
-            open -= 1;
-        }
+    let mut below = end;
+    while let Some(write) = newest_write(buffer, set, below) {
+        undo_write(store, buffer, write);
+        below = write.lsn;
     }
     (buffer.end() - end) as usize
 }

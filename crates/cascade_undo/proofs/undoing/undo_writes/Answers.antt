@@ -1,75 +1,79 @@
-use Rattle.std.proofs.Common.{◌≡◌, ◌≤◌, ◌<◌, ◌+◌, ◌-◌, length, subst, arith}
+use Rattle.std.proofs.Common.{◌≡◌, None, refl, sym, subst, arith}
 use Rattle.clv_base.specs.Logs.{standing}
-use Rattle.cascade_undo.specs.Steps.{AreBelow, open_of}
-use Rattle.cascade_undo.proofs.Growing.{advances_none, still_some, log_at_last, records_at_last, length_at_last}
+use Rattle.ordered_store.proofs.Laws.{rises_from}
+use Rattle.cascade_undo.specs.Steps.{newest_in, AreBelow}
+use Rattle.cascade_undo.proofs.Newest.{below_end}
+use Rattle.cascade_undo.proofs.Stepping.{key_there, has_room, log_step, writes_step, records_step, there_step, below_step}
+use Rattle.cascade_undo.proofs.Growing.{one_longer, advances_none, advances_more, log_at_last, records_at_last, length_at_last}
 use Rattle.cascade_undo.proofs.undoing.undo_writes.Goals as goal
 
-pub loop-open-init : goal.loop-open-init
-loop-open-init g c = record {
+pub loop-write-init : goal.loop-write-init
+loop-write-init g c = record {
   advances = advances_none c.args.set.now c.args.buffer.now (g.S.Store.records c.args.store.now);
-  below = c.greatest_lsn-lsn.ensures.below;
+  below = subst (λ n. AreBelow c.args.set.now n (standing c.args.buffer.now.records)) (sym c.end-end.ensures.end) (below_end c.args.set.now c.args.buffer.now.records);
   there = c.requires.there;
   room = c.requires.room;
   store_room = omega arith;
-  still_open = c.count_open-open.ensures;
 }
 
-pub overflow_sub-lsn : goal.overflow_sub-lsn
-overflow_sub-lsn g c =
-    let some : 0 < length (open_of c.args.set.now (standing c.loop-open.buffer.records)) = subst (λ n. 0 < n) c.loop-open.invariant.still_open c.loop-open-test.true in
-    still_some c.args.set.now c.loop-open.lsn c.loop-open.buffer.records c.loop-open.invariant.below some
+pub undo_write-requires-clause-there : goal.undo_write-requires-clause-there
+undo_write-requires-clause-there g c =
+    key_there c.args.set.now c.loop-write.buffer.records c.in-Some.write c.in-Some.ensures.newest (g.S.Store.records c.loop-write.store) c.loop-write.invariant.there
 
-pub undo_at-requires-clause-below : goal.undo_at-requires-clause-below
-undo_at-requires-clause-below g c =
-    let some : 0 < length (open_of c.args.set.now (standing c.loop-open.buffer.records)) = subst (λ n. 0 < n) c.loop-open.invariant.still_open c.loop-open-test.true in
-    let up : 1 ≤ c.loop-open.lsn = still_some c.args.set.now c.loop-open.lsn c.loop-open.buffer.records c.loop-open.invariant.below some in
-    let same : c.loop-open.lsn ≡ c.loop-open.lsn - 1 + 1 = omega arith in
-    subst (λ n. AreBelow c.args.set.now n (standing c.loop-open.buffer.records)) same c.loop-open.invariant.below
+pub undo_write-requires-clause-room : goal.undo_write-requires-clause-room
+undo_write-requires-clause-room g c =
+    let some = has_room c.args.set.now c.loop-write.buffer.records c.in-Some.write c.in-Some.ensures.newest in
+    let most = c.loop-write.invariant.room in
+    omega (arith, some, most)
 
-pub loop-open-smaller-then-undo_at : goal.loop-open-smaller-then-undo_at
-loop-open-smaller-then-undo_at g c =
-    let some : 0 < length (open_of c.args.set.now (standing c.loop-open.buffer.records)) = subst (λ n. 0 < n) c.loop-open.invariant.still_open c.loop-open-test.true in
-    let up : 1 ≤ c.loop-open.lsn = still_some c.args.set.now c.loop-open.lsn c.loop-open.buffer.records c.loop-open.invariant.below some in
-    omega (arith, up)
+pub loop-write-smaller : goal.loop-write-smaller
+loop-write-smaller g c =
+    let one = writes_step c.args.set.now c.loop-write.buffer.records c.in-Some.write c.in-Some.ensures.newest c.undo_write.new.buffer.records c.undo_write.ensures.log in
+    omega (arith, one)
 
-pub loop-open-smaller : goal.loop-open-smaller
-loop-open-smaller g c =
-    let some : 0 < length (open_of c.args.set.now (standing c.loop-open.buffer.records)) = subst (λ n. 0 < n) c.loop-open.invariant.still_open c.loop-open-test.true in
-    let up : 1 ≤ c.loop-open.lsn = still_some c.args.set.now c.loop-open.lsn c.loop-open.buffer.records c.loop-open.invariant.below some in
-    omega (arith, up)
+pub loop-write-preserved : goal.loop-write-preserved
+loop-write-preserved g c =
+    let set = c.args.set.now in let w = c.in-Some.write in let newest = c.in-Some.ensures.newest in
+    let b = c.loop-write.buffer in let d = c.undo_write.new.buffer in let grown = c.undo_write.ensures.log in
+    let rs = g.S.Store.records c.loop-write.store in let qs = g.S.Store.records c.undo_write.new.store in
+    let rises = rises_from rs (g.met.S.Store.rising c.loop-write.store) in let have = c.loop-write.invariant.there in
+    let one = writes_step set b.records w newest d.records grown in let most = c.loop-write.invariant.room in let less = c.undo_write.ensures.room in
+    record {
+      advances = advances_more set c.args.buffer.now b d (g.S.Store.records c.args.store.now) rs qs c.loop-write.invariant.advances (record {
+        log = log_step set b.records w newest d.records grown;
+        records = records_step set b.records w newest d.records grown rs qs rises have c.undo_write.ensures.records;
+        fronts = c.undo_write.ensures.fronts;
+        room = one_longer b.records d.records _ b.room d.room grown less;
+      });
+      below = below_step set b.records w newest d.records grown;
+      there = there_step set b.records w newest d.records grown rs qs rises have c.undo_write.ensures.records;
+      room = omega (arith, one, most, less);
+      store_room = let first = c.loop-write.invariant.store_room in let next = c.undo_write.ensures.store_room in omega (arith, first, next);
+    }
 
 pub overflow_sub-result : goal.overflow_sub-result
 overflow_sub-result g c =
-    let set = c.args.set.now in let b = c.args.buffer.now in let d = c.loop-open.buffer in
-    let none : length (open_of set (standing d.records)) ≡ 0 = let e = c.loop-open.invariant.still_open in let f = c.loop-open-test.false in omega (arith, e, f) in
-    let grown = length_at_last set b d (g.S.Store.records c.args.store.now) (g.S.Store.records c.loop-open.store) c.loop-open.invariant.advances none in
+    let done : newest_in c.args.set.now (standing c.loop-write.buffer.records) ≡ None = c.in_default.ensures.none refl in
+    let grown = length_at_last c.args.set.now c.args.buffer.now c.loop-write.buffer (g.S.Store.records c.args.store.now) (g.S.Store.records c.loop-write.store) c.loop-write.invariant.advances done in
     let first = c.end-end.ensures.end in let last = c.end.ensures.end in
     omega (arith, grown, first, last)
 
 pub returns-clause-records : goal.returns-clause-records
 returns-clause-records g c =
-    let set = c.args.set.now in let b = c.args.buffer.now in let d = c.loop-open.buffer in
-    let none : length (open_of set (standing d.records)) ≡ 0 = let e = c.loop-open.invariant.still_open in let f = c.loop-open-test.false in omega (arith, e, f) in
-    records_at_last set b d (g.S.Store.records c.args.store.now) (g.S.Store.records c.loop-open.store) c.loop-open.invariant.advances none
+    records_at_last c.args.set.now c.args.buffer.now c.loop-write.buffer (g.S.Store.records c.args.store.now) (g.S.Store.records c.loop-write.store) c.loop-write.invariant.advances (c.in_default.ensures.none refl)
 
 pub returns-clause-log : goal.returns-clause-log
 returns-clause-log g c =
-    let set = c.args.set.now in let b = c.args.buffer.now in let d = c.loop-open.buffer in
-    let none : length (open_of set (standing d.records)) ≡ 0 = let e = c.loop-open.invariant.still_open in let f = c.loop-open-test.false in omega (arith, e, f) in
-    log_at_last set b d (g.S.Store.records c.args.store.now) (g.S.Store.records c.loop-open.store) c.loop-open.invariant.advances none
+    log_at_last c.args.set.now c.args.buffer.now c.loop-write.buffer (g.S.Store.records c.args.store.now) (g.S.Store.records c.loop-write.store) c.loop-write.invariant.advances (c.in_default.ensures.none refl)
 
 pub returns-clause-room : goal.returns-clause-room
 returns-clause-room g c =
-    let set = c.args.set.now in let b = c.args.buffer.now in let d = c.loop-open.buffer in
-    let none : length (open_of set (standing d.records)) ≡ 0 = let e = c.loop-open.invariant.still_open in let f = c.loop-open-test.false in omega (arith, e, f) in
-    let grown = length_at_last set b d (g.S.Store.records c.args.store.now) (g.S.Store.records c.loop-open.store) c.loop-open.invariant.advances none in
-    let room = c.loop-open.invariant.advances.room in
+    let grown = length_at_last c.args.set.now c.args.buffer.now c.loop-write.buffer (g.S.Store.records c.args.store.now) (g.S.Store.records c.loop-write.store) c.loop-write.invariant.advances (c.in_default.ensures.none refl) in
+    let room = c.loop-write.invariant.advances.room in
     omega (arith, grown, room)
 
 pub returns-clause-count : goal.returns-clause-count
 returns-clause-count g c =
-    let set = c.args.set.now in let b = c.args.buffer.now in let d = c.loop-open.buffer in
-    let none : length (open_of set (standing d.records)) ≡ 0 = let e = c.loop-open.invariant.still_open in let f = c.loop-open-test.false in omega (arith, e, f) in
-    let grown = length_at_last set b d (g.S.Store.records c.args.store.now) (g.S.Store.records c.loop-open.store) c.loop-open.invariant.advances none in
+    let grown = length_at_last c.args.set.now c.args.buffer.now c.loop-write.buffer (g.S.Store.records c.args.store.now) (g.S.Store.records c.loop-write.store) c.loop-write.invariant.advances (c.in_default.ensures.none refl) in
     let first = c.end-end.ensures.end in let last = c.end.ensures.end in
     omega (arith, grown, first, last)
