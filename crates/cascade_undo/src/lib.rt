@@ -7,8 +7,6 @@
 mod aborts;
 mod marks;
 mod rolling;
-#[cfg(test)]
-mod tests;
 mod undoing;
 mod write;
 

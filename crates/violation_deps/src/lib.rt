@@ -11,7 +11,5 @@ mod pairs;
 mod room;
 mod settled;
 mod sorted;
-#[cfg(test)]
-mod tests;
 
 pub use deps::Deps;

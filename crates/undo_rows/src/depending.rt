@@ -1,9 +1,9 @@
 // The calls, with memory at hand.
 
-use crate::Deps;
 use clv_base::names::TxId;
 use std::alloc::{AllocError, Global};
 use std::test::Fail;
+use violation_deps::Deps;
 
 fn tx(session: u32) -> TxId {
     TxId {

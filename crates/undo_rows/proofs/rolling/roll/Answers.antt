@@ -3,8 +3,8 @@ use Rattle.clv_base.specs.Logs.{standing}
 use Rattle.log_buffer.specs.Buffers.{Buffer}
 use Rattle.clv_base.specs.declared.logs.LogRecord.{LogRecord}
 use Rattle.cascade_undo.specs.Writes.{HaveRecords}
-use Rattle.cascade_undo.proofs.Keeping.{room_enough}
-use Rattle.cascade_undo.proofs.tests.roll.Goals as goal
+use Rattle.cascade_undo.proofs.Laws.{room_enough}
+use Rattle.undo_rows.proofs.rolling.roll.Goals as goal
 
 pub roll_back-requires-clause-there : goal.roll_back-requires-clause-there
 roll_back-requires-clause-there c =

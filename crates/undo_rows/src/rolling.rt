@@ -4,7 +4,7 @@ ghost use Rattle.clv_base.specs.declared.names.TxId.{TxId as Tx};
 ghost use Rattle.clv_base.specs.Logs.{standing};
 ghost use Rattle.cascade_undo.specs.Writes.{HaveRecords};
 
-use crate::roll_back;
+use cascade_undo::roll_back;
 use clv_base::logs::LogRecord;
 use clv_base::modes::Found;
 use clv_base::names::TxId;

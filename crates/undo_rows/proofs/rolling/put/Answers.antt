@@ -3,8 +3,8 @@ use Rattle.clv_base.specs.Logs.{standing}
 use Rattle.log_buffer.specs.Buffers.{Buffer}
 use Rattle.clv_base.specs.declared.logs.LogRecord.{LogRecord}
 use Rattle.cascade_undo.specs.Writes.{HaveRecords}
-use Rattle.cascade_undo.proofs.Keeping.{have_more}
-use Rattle.cascade_undo.proofs.tests.put.Goals as goal
+use Rattle.cascade_undo.proofs.Laws.{have_more}
+use Rattle.undo_rows.proofs.rolling.put.Goals as goal
 
 pub returns-in_err-reserve : goal.returns-in_err-reserve
 returns-in_err-reserve c = λ set. subst (λ l. HaveRecords set (standing c.args.buffer.now.records) l) (sym c.reserve.ensures.records) (c.requires set)
