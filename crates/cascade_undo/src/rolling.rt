@@ -14,8 +14,9 @@ use violation_deps::Deps;
 /// Takes away the effects of the marked transactions, and gives how many of their UPDATEs it undid. The log gets an ABORT for each that
 /// has an UPDATE, in rising order, and then a CLR for each of their UPDATEs that stand, from the greatest LSN down. Each of their keys gets
 /// the value before the first of these UPDATEs; where there was none, a ghost stays. Nobody is released or unmarked. The room for these
-/// records must have been reserved. Takes no memory. For each of these UPDATEs, and once more, it takes at most time in the number of marks
-/// times its logarithm, however many of others stand between them, and in all no more than a walk over the log back to the oldest of them.
+/// records must have been reserved. Takes no memory. To find the next of these UPDATEs takes a look at each record down to it or at each
+/// mark, whichever are fewer, and to find that none is left one at each mark, but for a factor of two. A look takes time in the logarithm
+/// of the number of marks.
 pub fn roll_back<S: Store>(store: &mut S, buffer: &mut LogBuffer<LogRecord>, deps: &Deps) -> usize
     requires there { HaveRecords deps.now.marked (standing buffer.old.records) (S.records store.old) }
     requires room { length (aborts_of buffer.old.records deps.now.marked) + length (writes_of deps.now.marked (standing buffer.old.records)) ≤ buffer.old.room }
