@@ -28,7 +28,8 @@ none_of_nobody [] = refl
 none_of_nobody (w ∷ ws) = none_of_nobody ws
 
 -- the writes of one and of the others
-first_and_others : (t : TxId) (ts : List TxId) (ws : List StandingUpdate) → length (writes_of (t ∷ ts) ws) ≤ length (writes_of (t ∷ []) ws) + length (writes_of ts ws)
+first_and_others : (t : TxId) (ts : List TxId) (ws : List StandingUpdate)
+    → length (writes_of (t ∷ ts) ws) ≤ length (writes_of (t ∷ []) ws) + length (writes_of ts ws)
 first_and_others t ts [] = omega arith
 first_and_others t ts (w ∷ ws) =
     let a = count-first (among (t ∷ ts)) w ws in let b = count-first (among (t ∷ [])) w ws in let c = count-first (among ts) w ws in
@@ -39,14 +40,17 @@ first_and_others t ts (w ∷ ws) =
     at false true = omega arith
     at false false = omega arith
 
-fewer_without : (txs : List TxId) (t : TxId) (ws : List StandingUpdate) → length (writes_of txs (without_newest t ws)) ≤ length (writes_of txs ws)
+fewer_without : (txs : List TxId) (t : TxId) (ws : List StandingUpdate)
+    → length (writes_of txs (without_newest t ws)) ≤ length (writes_of txs ws)
 fewer_without txs t [] = omega arith
 fewer_without txs t (w ∷ ws) =
     let b = count-first (among txs) w ws in
-    cond_both (tx_same t w.tx) ws (w ∷ without_newest t ws) (λ l. length (writes_of txs l) ≤ length (writes_of txs (w ∷ ws))) (λ e. omega (arith, b))
+    cond_both (tx_same t w.tx) ws (w ∷ without_newest t ws) (λ l. length (writes_of txs l) ≤ length (writes_of txs (w ∷ ws)))
+    (λ e. omega (arith, b))
     (λ e. let a = count-first (among txs) w (without_newest t ws) in let more = fewer_without txs t ws in omega (arith, a, b, more))
 
-one_from : (t : TxId) (n : ℕ) (log : List LogRecord) (ws : List StandingUpdate) → length (writes_of (t ∷ []) (standing_from n log ws)) ≤ length (filter (is_update_of t) log) + length (writes_of (t ∷ []) ws)
+one_from : (t : TxId) (n : ℕ) (log : List LogRecord) (ws : List StandingUpdate)
+    → length (writes_of (t ∷ []) (standing_from n log ws)) ≤ length (filter (is_update_of t) log) + length (writes_of (t ∷ []) ws)
 one_from t n [] ws = omega arith
 one_from t n (Update tx key before after ∷ rs) ws =
     let w : StandingUpdate = record { lsn = n; tx = tx; key = key; before = before; after = after } in
@@ -56,7 +60,8 @@ one_from t n (Update tx key before after ∷ rs) ws =
     at : (a : Bool) → one_if (a || false) ≡ one_if a
     at true = refl
     at false = refl
-one_from t n (Clr tx undo_next key after ∷ rs) ws = let more = one_from t (suc n) rs (without_newest tx ws) in let less = fewer_without (t ∷ []) tx ws in omega (arith, more, less)
+one_from t n (Clr tx undo_next key after ∷ rs) ws =
+    let more = one_from t (suc n) rs (without_newest tx ws) in let less = fewer_without (t ∷ []) tx ws in omega (arith, more, less)
 one_from t n (Prepare tx home predecessors ∷ rs) ws = one_from t (suc n) rs ws
 one_from t n (Commit tx parts ∷ rs) ws = one_from t (suc n) rs ws
 one_from t n (Abort tx ∷ rs) ws = one_from t (suc n) rs ws
@@ -64,11 +69,13 @@ one_from t n (End tx ∷ rs) ws = one_from t (suc n) rs ws
 one_from t n (Restart run epoch ∷ rs) ws = one_from t (suc n) rs ws
 
 -- of the next transaction no more writes stand than it has UPDATEs, and the others' are left
-pub next_at_most : (txs : List TxId) (i n : ℕ) (d : TxId) (log : List LogRecord) → i < length txs → n ≡ length (filter (is_update_of (get_or txs i d)) log)
+pub next_at_most : (txs : List TxId) (i n : ℕ) (d : TxId) (log : List LogRecord) → i < length txs
+    → n ≡ length (filter (is_update_of (get_or txs i d)) log)
     → length (writes_of (drop i txs) (standing log)) ≤ n + length (writes_of (drop (i + 1) txs) (standing log))
 next_at_most txs i n d log within told =
     let here = at_drop_more (λ ts. length (writes_of ts (standing log))) txs i d within in
-    let apart = first_and_others (get_or txs i d) (drop (i + 1) txs) (standing log) in let one = one_from (get_or txs i d) 0 log [] in omega (arith, here, apart, one, told)
+    let apart = first_and_others (get_or txs i d) (drop (i + 1) txs) (standing log) in let one = one_from (get_or txs i d) 0 log [] in
+    omega (arith, here, apart, one, told)
 
 -- past the end none is left
 pub none_left : (txs : List TxId) (i : ℕ) (log : List LogRecord) → length txs ≤ i → length (writes_of (drop i txs) (standing log)) ≡ 0

@@ -30,8 +30,8 @@ fn updates_of(buffer: &LogBuffer<LogRecord>, txs: &[TxId]) -> usize
     count
 }
 
-/// The buffer of a log whose records are durable, with room for the records of a restart: an ABORT for each loser, a CLR for each of its writes
-/// that stand, and the RESTART.
+/// The buffer of a log whose records are durable, with room for the records of a restart: an ABORT for each loser, a CLR for each of its
+/// writes that stand, and the RESTART.
 fn buffer_of(
     alloc: Global,
     records: Vec<LogRecord>,

@@ -52,8 +52,8 @@ fn redo_one<S: Store>(store: &mut S, done: &LogRecord)
     }
 }
 
-/// Does all records of a log again, in order. It makes room record by record, as there may be far fewer keys. An `Err` leaves the store in the
-/// middle of it.
+/// Does all records of a log again, in order. It makes room record by record, as there may be far fewer keys. An `Err` leaves the store
+/// in the middle of it.
 pub(crate) fn redo<S: Store>(store: &mut S, log: &[LogRecord]) -> Result<(), AllocError>
     ensures { OnOk result (S.records store.new ≡ redone log.now (S.records store.old)) }
 {

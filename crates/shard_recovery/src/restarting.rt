@@ -38,8 +38,8 @@ fn rewrite(
 /// that those in doubt wrote and that have no value. The buffer that is given has the log after it: the records found, which are durable,
 /// and then what is still to be pushed: an ABORT for each loser that has none, in rising order, the CLRs of the losers' writes that stand,
 /// from the greatest LSN down, and the RESTART. An `Err` leaves the store in the middle of it. To undo losers, where there are any, the whole
-/// log is done again in a store of its own in blocks, which goes at the return. Room is made in the stores as records come to need it, and in
-/// the buffer for what is still to be pushed: an ABORT for each loser, a CLR for each of its UPDATEs, and the RESTART.
+/// log is done again in a store of its own in blocks, which goes at the return. Room is made in the stores as records come to need it, and
+/// in the buffer for what is still to be pushed: an ABORT for each loser, a CLR for each of its UPDATEs, and the RESTART.
 pub fn restart<S: Store>(
     alloc: Global,
     store: &mut S,

@@ -4,4 +4,5 @@ use Rattle.cascade_undo.specs.Writes.{writes_of}
 use Rattle.shard_recovery.proofs.rebuilding.updates_of.Given as goal
 
 abbrev pub invariant-loop-tx : goal.invariant-loop-tx
-invariant-loop-tx l = length (writes_of l.txs (standing l.buffer.records)) ≤ l.count + length (writes_of (drop l.tx-index l.txs) (standing l.buffer.records))
+invariant-loop-tx l =
+    length (writes_of l.txs (standing l.buffer.records)) ≤ l.count + length (writes_of (drop l.tx-index l.txs) (standing l.buffer.records))
