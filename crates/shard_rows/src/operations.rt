@@ -268,7 +268,7 @@ fn many_writes_find_room(rt: HostRuntime) -> Result<(), Fail> {
         );
     }
     let parts = shard.into_parts();
-    assert_eq!(rt; (parts.buffer.end(), parts.buffer.room()), (100, 200));
+    assert_eq!(rt; (parts.buffer.end(), parts.buffer.room()), (100, 101));
     Ok(())
 }
 
