@@ -18,7 +18,7 @@ use Rattle.due_laws.proofs.Laws.{cover_grows, purges_dont_matter, gone_le, parts
 use Rattle.due_loop.specs.Ready.{IsReady}
 use Rattle.due_messages.specs.Sent.{Waiting}
 use Rattle.txn_core.specs.State.{TxState}
-use Rattle.txn_core.specs.Sound.{is_here, updates_by, KeepsSpare}
+use Rattle.txn_core.specs.Sound.{is_here, owed_by, KeepsSpare}
 use Rattle.shard_core.specs.Whole.{HasRoom}
 
 -- those that a change touched are among the candidates, which cover then
@@ -60,9 +60,9 @@ finish_same V U same locked = ap finish same ∙ purges_dont_matter V (subst (λ
 pub room_kept : (S U : Shard) (t u : TxState) (o w : Waiting) → left U ≤ left S → KeepsSpare t u → t.pairs_room ≤ u.pairs_room → o.room ≤ w.room → HasRoom S t o → HasRoom U u w
 room_kept S U t u o w less keeps pairs messages r =
     let a = r.records in let b = r.pairs in let c = r.messages in
-    record { records = spare (left S) (left U) (updates_by (is_here t.local) (t.local).log) (updates_by (is_here u.local) (u.local).log) t.room u.room less a keeps; pairs = omega (arith, less, b, pairs); messages = mail (left S) (left U) o.room w.room less c messages }
+    record { records = spare (left S) (left U) (owed_by (is_here t.local) (t.local).log) (owed_by (is_here u.local) (u.local).log) t.room u.room less a keeps; pairs = omega (arith, less, b, pairs); messages = mail (left S) (left U) o.room w.room less c messages }
   where
-    spare : (n m a b x y : ℕ) → m ≤ n → n + 1 + 2 * a ≤ x → x + 2 * b ≤ y + 2 * a → m + 1 + 2 * b ≤ y
+    spare : (n m a b x y : ℕ) → m ≤ n → n + 1 + a ≤ x → x + b ≤ y + a → m + 1 + b ≤ y
     spare n m a b x y h k l = omega arith
 
     mail : (n m x y : ℕ) → m ≤ n → 15 * (n + 1) ≤ x → x ≤ y → 15 * (m + 1) ≤ y

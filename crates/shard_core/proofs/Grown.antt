@@ -33,7 +33,7 @@ use Rattle.due_noting.specs.Noting.{known_keys}
 use Rattle.due_noting.proofs.Laws.{keys_length, known_have_room, pair_of}
 use Rattle.due_step.specs.Steps.{ArePrepares}
 use Rattle.txn_core.specs.State.{TxState, IsSameBut}
-use Rattle.txn_core.specs.Sound.{is_here, updates_by, KeepsSpare, SpendsSpare}
+use Rattle.txn_core.specs.Sound.{is_here, owed_by, KeepsSpare, SpendsSpare}
 use Rattle.vote_participant.specs.Voting.{Voting}
 use Rattle.commit_coordinator.specs.Coordinated.{Coordination}
 use Rattle.shard_core.specs.Requesting.{HasStayed, HasMade}
@@ -70,7 +70,7 @@ module _ (a : Parts) (u : TxState) (q : TxRows ℕ) (w : Waiting) (f : Candidate
       }
     where
       keeps : IsSameBut a.transactions a.transactions.local u → a.transactions.room ≤ u.room → KeepsSpare a.transactions u
-      keeps e records = let n = ap (λ (x : TxState). updates_by (is_here x.local) (x.local).log) e in omega (arith, n, records)
+      keeps e records = let n = ap (λ (x : TxState). owed_by (is_here x.local) (x.local).log) e in omega (arith, n, records)
 
   pub stayed_rest : IsAtRest (viewed roomy)
   stayed_rest =
@@ -126,24 +126,24 @@ new_most shard idle touched = at (idle && is_lone shard (new_request touched Und
 -- what was done to the transactions and the candidates, with room for n things more
 pub record Turns (n : ℕ) (tx : TxId) (m : Local) (t u : TxState) (q : TxRows ℕ) (o w : Waiting) (c f : Candidates) : Type 0 where
   pub same : IsSameBut t m u
-  pub spare : t.room + n + 2 * updates_by (is_here u.local) (u.local).log ≤ u.room + 2 * updates_by (is_here t.local) (t.local).log
+  pub spare : t.room + n + owed_by (is_here u.local) (u.local).log ≤ u.room + owed_by (is_here t.local) (t.local).log
   pub pairs : t.pairs_room + n ≤ u.pairs_room
   pub outbox : o.room + 15 * n ≤ w.room
   pub places : ArePrepares q.rows (u.local).log
   pub noted : (x : TxId) → tx_in x f.txs ≡ true → (is_pair (t.local).pairs x tx ≡ true) ⊎ (tx ≡ x)
   pub limit : c.limit + 1 ≤ f.limit
 
-room_more : (n : ℕ) (S V : Shard) (t u : TxState) (o w : Waiting) → left V ≤ left S + n → t.room + n + 2 * updates_by (is_here u.local) (u.local).log ≤ u.room + 2 * updates_by (is_here t.local) (t.local).log
+room_more : (n : ℕ) (S V : Shard) (t u : TxState) (o w : Waiting) → left V ≤ left S + n → t.room + n + owed_by (is_here u.local) (u.local).log ≤ u.room + owed_by (is_here t.local) (t.local).log
     → t.pairs_room + n ≤ u.pairs_room → o.room + 15 * n ≤ w.room → HasRoom S t o → HasRoom V u w
 room_more n S V t u o w more spare pairs messages r =
     let b = r.pairs in
     record {
-      records = records (left S) (left V) n (updates_by (is_here t.local) (t.local).log) (updates_by (is_here u.local) (u.local).log) t.room u.room more r.records spare;
+      records = records (left S) (left V) n (owed_by (is_here t.local) (t.local).log) (owed_by (is_here u.local) (u.local).log) t.room u.room more r.records spare;
       pairs = omega (arith, more, b, pairs);
       messages = mail (left S) (left V) n o.room w.room more r.messages messages;
     }
   where
-    records : (s v n a b x y : ℕ) → v ≤ s + n → s + 1 + 2 * a ≤ x → x + n + 2 * b ≤ y + 2 * a → v + 1 + 2 * b ≤ y
+    records : (s v n a b x y : ℕ) → v ≤ s + n → s + 1 + a ≤ x → x + n + b ≤ y + a → v + 1 + b ≤ y
     records s v n a b x y h k l = omega arith
 
     mail : (s v n x y : ℕ) → v ≤ s + n → 15 * (s + 1) ≤ x → x + 15 * n ≤ y → 15 * (v + 1) ≤ y
@@ -231,7 +231,7 @@ pub turns_closed : (n ms : ℕ) (tx : TxId) (home : ℕ) (one : Bool) (t x u : T
     → IsSameBut x (close_part tx home one x.local) u → SpendsSpare 1 x u → x.pairs_room ≤ u.pairs_room + 1 → ArePrepares q.rows (u.local).log
     → ((z : TxId) → tx_in z f.txs ≡ ((is_pair (x.local).pairs z tx || tx_same tx z) || tx_in z d.txs)) → f.limit ≡ d.limit → c.txs ≡ [] → v.room ≡ w.room + ms → Turns n tx (close_part tx home one t.local) t u q o w c f
 turns_closed n ms tx home one t x u p y q o v w c d f stay made closed spends pairs places put limit none left =
-    let e = stay.transactions in let h = ap (λ (z : TxState). updates_by (is_here z.local) (z.local).log) e in
+    let e = stay.transactions in let h = ap (λ (z : TxState). owed_by (is_here z.local) (z.local).log) e in
     let r = made.records in let pr = made.pairs in let ob = made.outbox in let lm = made.limit in
     record {
       same = closed ∙ ap (λ (z : TxState). record z { local = close_part tx home one z.local; room = u.room; pairs_room = u.pairs_room }) e;
@@ -247,7 +247,7 @@ turns_closed n ms tx home one t x u p y q o v w c d f stay made closed spends pa
 pub turns_same : (n ms : ℕ) (tx : TxId) (t x : TxState) (p y : TxRows ℕ) (o v w : Waiting) (c d f : Candidates) → HasStayed t x p y o v c d → HasMade n ms t x y o v c d
     → ArePrepares p.rows (t.local).log → f ≡ record d { txs = tx_insert tx d.txs } → c.txs ≡ [] → v.room ≡ w.room + ms → Turns n tx t.local t x y o w c f
 turns_same n ms tx t x p y o v w c d f stay made places put none left =
-    let e = stay.transactions in let h = ap (λ (z : TxState). updates_by (is_here z.local) (z.local).log) e in
+    let e = stay.transactions in let h = ap (λ (z : TxState). owed_by (is_here z.local) (z.local).log) e in
     let r = made.records in let pr = made.pairs in let ob = made.outbox in let lm = made.limit in let limit = ap (λ (k : Candidates). k.limit) put in
     record {
       same = e;

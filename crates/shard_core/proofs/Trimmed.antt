@@ -21,7 +21,7 @@ use Rattle.due_laws.specs.Open.{txs_here, votes_owed, waits_in, count_waiting, o
 use Rattle.due_laws.proofs.Laws.{none_is_nothing, left_by_open}
 use Rattle.due_messages.specs.Sent.{Waiting}
 use Rattle.txn_core.specs.State.{TxState}
-use Rattle.txn_core.specs.Sound.{is_here, updates_by, trimmed}
+use Rattle.txn_core.specs.Sound.{is_here, owed_by as undo_owed_by, trimmed}
 use Rattle.shard_core.specs.Core.{Core}
 use Rattle.shard_core.specs.Whole.{HasRoom, IsAtRest}
 use Rattle.shard_core.proofs.Parts.{Parts, seen, viewed, Holds}
@@ -75,9 +75,9 @@ least n x y a b = omega (arith, a, b)
 
 pub room_stays : (s : Shard) (t : TxState) (o : Waiting) (n : ℕ) → left s + 1 ≤ n → HasRoom s t o → HasRoom s (trimmed n t) (record o { room = min o.room (15 * n) })
 room_stays s t o n enough r =
-    let a = r.records in let u = updates_by (is_here t.local) (t.local).log in
+    let a = r.records in let u = undo_owed_by (is_here t.local) (t.local).log in
     record {
-      records = least (left s + 1 + 2 * u) t.room (n + 2 * u) a (omega (arith, enough));
+      records = least (left s + 1 + u) t.room (n + u) a (omega (arith, enough));
       pairs = least (left s + 1) t.pairs_room n r.pairs enough;
       messages = least (15 * (left s + 1)) o.room (15 * n) r.messages (omega (arith, enough));
     }

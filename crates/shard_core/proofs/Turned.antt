@@ -24,7 +24,7 @@ use Rattle.due_noting.proofs.Laws.{noted_covers, known_have_room}
 use Rattle.due_step.specs.Steps.{Steps, Notes}
 use Rattle.due_step.proofs.Laws.{kept}
 use Rattle.txn_core.specs.State.{TxState}
-use Rattle.txn_core.specs.Sound.{is_here, updates_by, IsSound, SpendsSpare}
+use Rattle.txn_core.specs.Sound.{is_here, owed_by, IsSound, SpendsSpare}
 use Rattle.vote_participant.specs.Voting.{Voting}
 use Rattle.commit_coordinator.specs.Coordinated.{Coordination}
 use Rattle.shard_core.specs.Core.{seen_as}
@@ -49,9 +49,9 @@ doomed_room s tx e k d first = known_have_room s tx e d k.known (k.known tx (lea
 room_after : (s v : Shard) (t u : TxState) (o w : Waiting) → left v < left s → SpendsSpare 1 t u → t.pairs_room ≤ u.pairs_room + 1 → o.room ≤ w.room + 15 → HasRoom s t o → HasRoom v u w
 room_after s v t u o w less spends pairs messages r =
     let a = r.records in let b = r.pairs in let c = r.messages in
-    record { records = spare (left s) (left v) (updates_by (is_here t.local) (t.local).log) (updates_by (is_here u.local) (u.local).log) t.room u.room less a spends; pairs = omega (arith, less, b, pairs); messages = mail (left s) (left v) o.room w.room less c messages }
+    record { records = spare (left s) (left v) (owed_by (is_here t.local) (t.local).log) (owed_by (is_here u.local) (u.local).log) t.room u.room less a spends; pairs = omega (arith, less, b, pairs); messages = mail (left s) (left v) o.room w.room less c messages }
   where
-    spare : (n m a b x y : ℕ) → m < n → n + 1 + 2 * a ≤ x → x + 2 * b ≤ 1 + y + 2 * a → m + 1 + 2 * b ≤ y
+    spare : (n m a b x y : ℕ) → m < n → n + 1 + a ≤ x → x + b ≤ 1 + y + a → m + 1 + b ≤ y
     spare n m a b x y h k l = omega arith
 
     mail : (n m x y : ℕ) → m < n → 15 * (n + 1) ≤ x → x ≤ y + 15 → 15 * (m + 1) ≤ y

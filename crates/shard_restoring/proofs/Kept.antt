@@ -1,10 +1,9 @@
 -- What holds of the state after a restart: each part in doubt can be taken away.
-use Rattle.std.proofs.Common.{◌≡◌, ◌≤◌, ◌*◌, ⊎_elim, refl, ap, ◌∙◌, ℕ, Bool, true, false, cond, ◌&&◌, ◌||◌, List, [], ◌∷◌, length, Option, Some, None, arith}
-use Rattle.std.specs.List.{AllByRecursion, filter}
+use Rattle.std.proofs.Common.{◌≡◌, ◌≤◌, ⊎_elim, refl, ap, ◌∙◌, ℕ, Bool, true, false, ◌&&◌, ◌||◌, List, [], ◌∷◌, Option, Some, None, arith}
+use Rattle.std.specs.List.{AllByRecursion}
 use Rattle.std.proofs.lemmas.Bool.{both_ways, cases_Bool}
 use Rattle.clv_base.specs.declared.names.TxId.{TxId}
 use Rattle.clv_base.specs.declared.logs.LogRecord.{LogRecord}
-use Rattle.clv_base.specs.declared.logs.LogRecord.TheVariants.{Update, Clr, Prepare, Commit, Abort, End, Restart}
 use Rattle.clv_base.specs.declared.modes.Anchor.TheVariants.{At}
 use Rattle.clv_base.specs.declared.modes.Part.TheVariants.{X}
 use Rattle.clv_base.specs.declared.state.Held.{Held}
@@ -17,7 +16,8 @@ use Rattle.clv_base.specs.Restarts.{local_after, records_of}
 use Rattle.clv_base.proofs.SameNames.{or_left, or_right, tx_self}
 use Rattle.law_base.proofs.Cells.{record_at}
 use Rattle.law_base.proofs.LockRows.{holds, row_holds}
-use Rattle.txn_core.specs.Sound.{is_here, has_lock, IsHeld, is_update_by, updates_by, IsSound}
+use Rattle.txn_core.specs.Sound.{is_here, has_lock, IsHeld, owed_by, IsSound}
+use Rattle.txn_core.proofs.Laws.{count_owed_fewer}
 use Rattle.shard_restoring.proofs.Updates.{has_update, standing_updates, restored_there, restored_away, locks_hold, ghosts_there}
 use Rattle.shard_restoring.proofs.Listed.{all_mono, restored_have}
 
@@ -41,24 +41,7 @@ there_by None h = absurd (h refl)
 there_by (Some None) h = refl
 there_by (Some (Some v)) h = refl
 
--- ---- counts
-
-count_fewer : (p q : TxId → Bool) → ((t : TxId) → p t ≡ true → q t ≡ true) → (log : List LogRecord) → updates_by p log ≤ updates_by q log
-count_fewer p q h [] = omega arith
-count_fewer p q h (Update tx k b a ∷ rs) = at (p tx) (q tx) (h tx) (count_fewer p q h rs)
-  where
-    at : (x y : Bool) → (x ≡ true → y ≡ true) → updates_by p rs ≤ updates_by q rs
-        → length (cond x (Update tx k b a ∷ filter (is_update_by p) rs) (filter (is_update_by p) rs)) ≤ length (cond y (Update tx k b a ∷ filter (is_update_by q) rs) (filter (is_update_by q) rs))
-    at true true i more = omega (arith, more)
-    at true false i more = absurd (both_ways false refl (i refl))
-    at false true i more = omega (arith, more)
-    at false false i more = more
-count_fewer p q h (Clr tx u k a ∷ rs) = count_fewer p q h rs
-count_fewer p q h (Prepare tx home ps ∷ rs) = count_fewer p q h rs
-count_fewer p q h (Commit tx ps ∷ rs) = count_fewer p q h rs
-count_fewer p q h (Abort tx ∷ rs) = count_fewer p q h rs
-count_fewer p q h (End tx ∷ rs) = count_fewer p q h rs
-count_fewer p q h (Restart run epoch ∷ rs) = count_fewer p q h rs
+-- ---- those in doubt
 
 own_in : (ts : List TxId) → AllByRecursion (λ t. tx_in t ts ≡ true) ts
 own_in [] = tt
@@ -87,9 +70,9 @@ module _ (shard epoch : ℕ) (log : List LogRecord) where
         lock_from w.tx w.key l.locks (locks_hold txs log [] w.tx w.key i u),
       )
 
-  pub restored_sound : (ss : List TxId) (room : ℕ) → ((t : TxId) → tx_in t ss ≡ tx_in t txs) → 2 * updates_by (λ t. tx_in t ss) log ≤ room → IsSound l room
+  pub restored_sound : (ss : List TxId) (room : ℕ) → ((t : TxId) → tx_in t ss ≡ tx_in t txs) → owed_by (λ t. tx_in t ss) log ≤ room → IsSound l room
   restored_sound ss room same enough = record {
     successors = restored_have (λ t. is_here l t ≡ true) log txs (all_mono (λ t. tx_in t txs ≡ true) (λ t. is_here l t ≡ true) in_here txs (own_in txs));
     writes = all_mono (λ w. has_update log w.tx w.key ≡ true) (IsHeld l) held (standing log) (standing_updates log);
-    room = let a = count_fewer (is_here l) (λ t. tx_in t ss) (λ t h. same t ∙ here_in t h) log in omega (arith, a, enough);
+    room = let a = count_owed_fewer (is_here l) (λ t. tx_in t ss) log (λ t h. same t ∙ here_in t h) in omega (arith, a, enough);
   }

@@ -1,5 +1,5 @@
 -- The state after a restart, of its parts.
-use Rattle.std.proofs.Common.{◌≡◌, ◌≤◌, ◌*◌, ◌∙◌, ap, ℕ, true, List, [], length, take, slice_range, ◌-◌, arith}
+use Rattle.std.proofs.Common.{◌≡◌, ◌≤◌, ◌∙◌, ap, ℕ, true, List, [], length, take, slice_range, ◌-◌, arith}
 use Rattle.std.proofs.Math.Seq.{take-length}
 use Rattle.std.specs.List.{list_all}
 use Rattle.clv_base.specs.declared.names.TxId.{TxId}
@@ -13,7 +13,7 @@ use Rattle.clv_base.specs.Needs.{Records}
 use Rattle.clv_base.specs.State.{Local}
 use Rattle.clv_base.specs.Restarts.{local_after}
 use Rattle.protocol_laws.specs.Resting.{RestartsEndAtRest}
-use Rattle.txn_core.specs.Sound.{updates_by, IsKept}
+use Rattle.txn_core.specs.Sound.{owed_by, IsKept}
 use Rattle.txn_core.specs.State.{AreSettled}
 use Rattle.shard_restoring.proofs.Doubted.{doubt_rises}
 use Rattle.shard_restoring.proofs.Listed.{few_restored}
@@ -39,7 +39,7 @@ module _ (shard epoch : ℕ) (log : List LogRecord) where
       ap (λ (x : Records). state x locks parts pairs rest) r ∙ ap (λ (x : Locks). state l.records x parts pairs rest) k ∙ ap (λ (x : Table Held). state l.records l.locks x pairs rest) h
       ∙ ap (λ (x : List (TxId × TxId)). state l.records l.locks l.parts x rest) p ∙ ap (λ (x : List LogRecord). state l.records l.locks l.parts l.pairs x) g
 
-  pub kept_is : RestartsEndAtRest → list_all has_spelling log ≡ true → (ss : List TxId) (commits : Table ℕ) (room : ℕ) → ((t : TxId) → tx_in t ss ≡ tx_in t (in_doubt shard log)) → 2 * updates_by (λ t. tx_in t ss) log ≤ room
+  pub kept_is : RestartsEndAtRest → list_all has_spelling log ≡ true → (ss : List TxId) (commits : Table ℕ) (room : ℕ) → ((t : TxId) → tx_in t ss ≡ tx_in t (in_doubt shard log)) → owed_by (λ t. tx_in t ss) log ≤ room
       → AreSettled commits log → IsKept commits l room
   kept_is rest spelled ss commits room same enough settled = record {
     settled = settled;

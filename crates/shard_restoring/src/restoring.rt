@@ -1,11 +1,12 @@
 //! The transactions of a shard after a restart.
-ghost use Rattle.std.specs.Prelude.{◌≡◌, ◌≤◌, ◌+◌, ◌*◌, true, length, OnOk, IfOk};
-ghost use Rattle.std.specs.List.{list_all};
+ghost use Rattle.std.specs.Prelude.{◌≡◌, ◌≤◌, ◌+◌, true, length, OnOk, IfOk};
+ghost use Rattle.std.specs.List.{filter, list_all};
+ghost use Rattle.clv_base.specs.declared.names.TxId.{TxId as Tx};
 ghost use Rattle.clv_base.specs.FileRules.{has_spelling};
-ghost use Rattle.clv_base.specs.Logs.{in_doubt as in_doubt_in};
+ghost use Rattle.clv_base.specs.Logs.{in_doubt as in_doubt_in, wrote_in};
 ghost use Rattle.clv_base.specs.Orders.{tx_in};
 ghost use Rattle.clv_base.specs.Restarts.{homes_of, local_after, restored_pairs};
-ghost use Rattle.txn_core.specs.Sound.{is_update_by, updates_by};
+ghost use Rattle.txn_core.specs.Sound.{is_update_by, owed_by, updates_by};
 
 use crate::deps::deps_of;
 use crate::locks::locks_of;
@@ -39,14 +40,27 @@ fn count_updates(doubtful: &TxSet, log: &[LogRecord]) -> usize
         .count()
 }
 
-/// Makes room for an ABORT and a CLR for each UPDATE of these.
-fn reserve_undo(buffer: &mut LogBuffer<LogRecord>, doubtful: &TxSet) -> Result<(), AllocError>
-    ensures ok { OnOk result (2 * updates_by (λ t. tx_in t doubtful.now) buffer.old.records ≤ buffer.new.room) }
+/// How many of these transactions have an UPDATE.
+fn count_writers(buffer: &LogBuffer<LogRecord>, txs: &[TxId]) -> usize
+    ensures { result ≡ length (filter (wrote_in buffer.now.records) txs.now) }
+{
+    txs.iter().filter(|tx| buffer.wrote(**tx)).count()
+}
+
+/// Makes room for a CLR for each UPDATE of these, and an ABORT for each that wrote. They are given as a list and as a set.
+fn reserve_undo(
+    buffer: &mut LogBuffer<LogRecord>,
+    txs: &[TxId],
+    doubtful: &TxSet,
+) -> Result<(), AllocError>
+    requires { (t : Tx) → tx_in t doubtful.now ≡ tx_in t txs.now }
+    ensures ok { OnOk result (owed_by (λ t. tx_in t doubtful.now) buffer.old.records ≤ buffer.new.room) }
     ensures records { buffer.new.records ≡ buffer.old.records }
     ensures fronts { (buffer.new.durable ≡ buffer.old.durable) × (buffer.new.taken ≡ buffer.old.taken) }
 {
-    let count = count_updates(doubtful, buffer.records(0, buffer.end()));
-    let Some(room) = count.checked_mul(2) else {
+    let clrs = count_updates(doubtful, buffer.records(0, buffer.end()));
+    let aborts = count_writers(buffer, txs);
+    let Some(room) = clrs.checked_add(aborts) else {
         return Err(AllocError);
     };
     buffer.reserve(room)
@@ -79,7 +93,7 @@ pub fn restored<S: Store + Drop, L: Locks + Drop>(
     let Ok(doubtful) = TxSet::of(alloc, &txs) else {
         return Err(Memory);
     };
-    let Ok(()) = reserve_undo(&mut buffer, &doubtful) else {
+    let Ok(()) = reserve_undo(&mut buffer, &txs, &doubtful) else {
         return Err(Memory);
     };
     let Ok(parts) = parts_of(alloc, &txs) else {

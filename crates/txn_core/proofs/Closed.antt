@@ -1,5 +1,5 @@
 -- What can be taken away after a part was closed, committed or finished.
-use Rattle.std.proofs.Common.{◌≡◌, ℕ, ◌+◌, ◌*◌, ◌≤◌, ⊎_elim, Bool, true, false, cond, not, ◌||◌, List, [], ◌∷◌, ◌++◌, length, Option, Some, None, refl, sym, ap, subst, ◌∙◌, arith}
+use Rattle.std.proofs.Common.{◌≡◌, ℕ, ◌+◌, ◌≤◌, ⊎_elim, Bool, true, false, cond, not, ◌||◌, List, [], ◌∷◌, ◌++◌, length, Option, Some, None, refl, sym, ap, subst, ◌∙◌, arith}
 use Rattle.std.proofs.lemmas.Bool.{both_ways, cases_Bool, false_from_ne_true}
 use Rattle.std.specs.List.{AllByRecursion, list_any}
 use Rattle.clv_base.specs.declared.names.TxId.{TxId}
@@ -26,15 +26,16 @@ use Rattle.law_base.proofs.Stages.{own_go, stage_other as other_stays}
 use Rattle.cascade_undo.proofs.Laws.{all_mono}
 use Rattle.lock_release.specs.Ghosts.{GhostsAreLocked}
 use Rattle.txn_core.specs.State.{TxState}
-use Rattle.txn_core.specs.Sound.{is_here, has_lock, IsHeld, updates_by, IsSound, SpendsSpare}
-use Rattle.txn_core.proofs.Owing.{updates-append, count_updates_fewer}
+use Rattle.txn_core.specs.Sound.{is_here, has_lock, IsHeld, owed_by, IsSound, SpendsSpare}
+use Rattle.txn_core.proofs.Writers.{NoUpdate}
+use Rattle.txn_core.proofs.Owing.{owed-still, count_owed_fewer}
 use Rattle.txn_core.proofs.Undoing.{lock_is_held, release_keeps, all_filter, not_false}
 
 -- ---- records that neither write nor undo
 
 pub record Plain (more : List LogRecord) : Type 0 where
   pub standing : (n : ℕ) (ws : List StandingUpdate) → standing_from n more ws ≡ ws
-  pub updates : (test : TxId → Bool) → updates_by test more ≡ 0
+  pub updates : NoUpdate more
 
 pub plain_commit : (tx : TxId) (parts : List ℕ) → Plain (Commit tx parts ∷ [])
 plain_commit tx parts = record { standing = λ n ws. refl; updates = λ test. refl }
@@ -57,24 +58,21 @@ plain_closing false one tx home us = plain_none
 standing_plain : (log more : List LogRecord) → Plain more → standing (log ++ more) ≡ standing log
 standing_plain log more p = standing_append 0 log more [] ∙ p.standing (0 + length log) (standing_from 0 log [])
 
-updates_plain : (test : TxId → Bool) (log more : List LogRecord) → Plain more → updates_by test (log ++ more) ≡ updates_by test log
-updates_plain test log more p = let a = updates-append test log more in let b = p.updates test in omega (arith, a, b)
-
 -- such records, other parts that are here where these were, and other locks that hold what these held
 abbrev changed : Local → Locks → Table Held → List LogRecord → Local
 changed l locks parts more = record { records = l.records; locks = locks; parts = parts; pairs = l.pairs; log = l.log ++ more; epoch = l.epoch }
 
 module _ (l : Local) (locks : Locks) (parts : Table Held) (more : List LogRecord) (plain : Plain more) (here : (t : TxId) → is_here (changed l locks parts more) t ≡ is_here l t) where
-  pub spare_plain : updates_by (is_here (changed l locks parts more)) (l.log ++ more) ≤ updates_by (is_here l) l.log
+  pub spare_plain : owed_by (is_here (changed l locks parts more)) (l.log ++ more) ≤ owed_by (is_here l) l.log
   spare_plain =
-      let a = updates_plain (is_here (changed l locks parts more)) l.log more plain in
-      let b = count_updates_fewer (is_here (changed l locks parts more)) (is_here l) l.log (λ t h. sym (here t) ∙ h) in omega (arith, a, b)
+      let a = owed-still (is_here (changed l locks parts more)) l.log more plain.updates in
+      let b = count_owed_fewer (is_here (changed l locks parts more)) (is_here l) l.log (λ t h. sym (here t) ∙ h) in omega (arith, a, b)
 
   pairs_again : (ps : List (TxId × TxId)) → AllByRecursion (λ p. is_here l p.0 ≡ true) ps → AllByRecursion (λ p. is_here (changed l locks parts more) p.0 ≡ true) ps
   pairs_again [] a = tt
   pairs_again (p ∷ ps) a = (here p.0 ∙ a.0, pairs_again ps a.1)
 
-  pub sound_plain : (spare left : ℕ) → ((t : TxId) (k : ℕ) → has_lock t k l.locks ≡ true → has_lock t k locks ≡ true) → IsSound l spare → 2 * updates_by (is_here l) l.log ≤ left → IsSound (changed l locks parts more) left
+  pub sound_plain : (spare left : ℕ) → ((t : TxId) (k : ℕ) → has_lock t k l.locks ≡ true → has_lock t k locks ≡ true) → IsSound l spare → owed_by (is_here l) l.log ≤ left → IsSound (changed l locks parts more) left
   sound_plain spare left keep sound room = record {
     successors = pairs_again l.pairs sound.successors;
     writes =
@@ -112,11 +110,11 @@ ghosts_alike tx locks (r ∷ rs) =
 pub closed_ghosts : (tx : TxId) (locks : Locks) (rs : Records) → GhostsAreLocked locks rs → GhostsAreLocked (close_locks tx locks) rs
 closed_ghosts tx locks rs h = ghosts_alike tx locks rs ∙ h
 
-pub closed_fewer : (l : Local) (tx : TxId) (home : ℕ) (one : Bool) → stage_of l tx ≡ Some Active → updates_by (is_here (close_part tx home one l)) (close_part tx home one l).log ≤ updates_by (is_here l) l.log
+pub closed_fewer : (l : Local) (tx : TxId) (home : ℕ) (one : Bool) → stage_of l tx ≡ Some Active → owed_by (is_here (close_part tx home one l)) (close_part tx home one l).log ≤ owed_by (is_here l) l.log
 closed_fewer l tx home one active =
     spare_plain l (close_locks tx l.locks) (closed_in tx l.parts) (closing (wrote_in l.log tx) one tx home (undecided_of l tx)) (plain_closing (wrote_in l.log tx) one tx home (undecided_of l tx)) (closed_here l tx active)
 
-pub closed_sound : (l : Local) (tx : TxId) (home : ℕ) (one : Bool) (spare left : ℕ) → stage_of l tx ≡ Some Active → IsSound l spare → 2 * updates_by (is_here l) l.log ≤ left → IsSound (close_part tx home one l) left
+pub closed_sound : (l : Local) (tx : TxId) (home : ℕ) (one : Bool) (spare left : ℕ) → stage_of l tx ≡ Some Active → IsSound l spare → owed_by (is_here l) l.log ≤ left → IsSound (close_part tx home one l) left
 closed_sound l tx home one spare left active sound room =
     sound_plain l (close_locks tx l.locks) (closed_in tx l.parts) (closing (wrote_in l.log tx) one tx home (undecided_of l tx)) (plain_closing (wrote_in l.log tx) one tx home (undecided_of l tx)) (closed_here l tx active)
     spare left (λ t k h. closed_locks_keep tx t k l.locks h) sound room
@@ -132,8 +130,8 @@ module _ (tx : TxId) (l : Local) where
   pub still_here : (t : TxId) → tx_in t (tx ∷ []) ≡ false → is_here l t ≡ true → is_here (release_parts (tx ∷ []) None l) t ≡ true
   still_here t out h = ap is_present (other_stays (tx ∷ []) None t l.parts out) ∙ h
 
-  pub spare_finished : updates_by (is_here (release_parts (tx ∷ []) None l)) l.log ≤ updates_by (is_here l) l.log
-  spare_finished = count_updates_fewer (is_here (release_parts (tx ∷ []) None l)) (is_here l) l.log (λ t h. (finished_here t h).1)
+  pub spare_finished : owed_by (is_here (release_parts (tx ∷ []) None l)) l.log ≤ owed_by (is_here l) l.log
+  spare_finished = count_owed_fewer (is_here (release_parts (tx ∷ []) None l)) (is_here l) l.log (λ t h. (finished_here t h).1)
 
   pub sound_finished : (spare : ℕ) → IsSound l spare → IsSound (release_parts (tx ∷ []) None l) spare
   sound_finished spare sound = record {
@@ -145,12 +143,15 @@ module _ (tx : TxId) (l : Local) where
   }
 
 -- of a state the parts and the log alone count
-pub spends_like : (n : ℕ) (s t : TxState) (m : Local) → (t.local).parts ≡ m.parts → (t.local).log ≡ m.log → s.room + 2 * updates_by (is_here m) m.log ≤ n + t.room + 2 * updates_by (is_here s.local) (s.local).log → SpendsSpare n s t
+pub spends_like : (n : ℕ) (s t : TxState) (m : Local) → (t.local).parts ≡ m.parts → (t.local).log ≡ m.log → s.room + owed_by (is_here m) m.log ≤ n + t.room + owed_by (is_here s.local) (s.local).log → SpendsSpare n s t
 spends_like n s t m parts log h =
-    subst (λ (ps : Table Held). s.room + 2 * updates_by (is_here (record m { parts = ps })) (t.local).log ≤ n + t.room + 2 * updates_by (is_here s.local) (s.local).log) (sym parts)
-    (subst (λ (lg : List LogRecord). s.room + 2 * updates_by (is_here m) lg ≤ n + t.room + 2 * updates_by (is_here s.local) (s.local).log) (sym log) h)
+    subst (λ (ps : Table Held). s.room + owed_by (is_here (record m { parts = ps })) (t.local).log ≤ n + t.room + owed_by (is_here s.local) (s.local).log) (sym parts)
+    (subst (λ (lg : List LogRecord). s.room + owed_by (is_here m) lg ≤ n + t.room + owed_by (is_here s.local) (s.local).log) (sym log) h)
 
 -- ---- a record more
 
-pub more_sound : (l : Local) (more : List LogRecord) (spare left : ℕ) → Plain more → IsSound l spare → 2 * updates_by (is_here l) l.log ≤ left → IsSound (record l { log = l.log ++ more }) left
+pub more_owed : (l : Local) (more : List LogRecord) → Plain more → owed_by (is_here (record l { log = l.log ++ more })) (l.log ++ more) ≡ owed_by (is_here l) l.log
+more_owed l more plain = owed-still (is_here l) l.log more plain.updates
+
+pub more_sound : (l : Local) (more : List LogRecord) (spare left : ℕ) → Plain more → IsSound l spare → owed_by (is_here l) l.log ≤ left → IsSound (record l { log = l.log ++ more }) left
 more_sound l more spare left plain sound room = sound_plain l l.locks l.parts more plain (λ t. refl) spare left (λ t k h. h) sound room

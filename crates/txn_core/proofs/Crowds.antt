@@ -22,7 +22,7 @@ use Rattle.law_base.proofs.Tables.{pair_in, in_pair, add_keeps, add_has, insert_
 use Rattle.violation_deps.proofs.Laws.{tx_in-insert, same_list}
 use Rattle.op_needs.proofs.Laws.{predecessors_rise, union_rises}
 use Rattle.txn_core.specs.Sound.{FewUndecided}
-use Rattle.txn_core.proofs.Owing.{count-fewer}
+use Rattle.txn_core.proofs.Counting.{count-fewer}
 
 -- ---- a longer log
 

@@ -1,5 +1,5 @@
 -- What is granted leaves a state of which all can still be taken away.
-use Rattle.std.proofs.Common.{◌≡◌, ℕ, suc, ◌+◌, ◌*◌, ◌≤◌, ◌⊎◌, inl, inr, ⊎_elim, Bool, true, false, cond, ◌&&◌, ◌||◌, ◌==◌, List, [], ◌∷◌, length, zero, Option, Some, None, is_none, refl, sym, ap, subst, ◌∙◌, eq-eqb, length-append, arith}
+use Rattle.std.proofs.Common.{◌≡◌, ℕ, suc, ◌+◌, ◌≤◌, ◌⊎◌, inl, inr, ⊎_elim, Bool, true, false, cond, ◌&&◌, ◌||◌, ◌==◌, List, [], ◌∷◌, length, zero, Option, Some, None, is_none, refl, sym, ap, subst, ◌∙◌, eq-eqb, arith}
 use Rattle.std.specs.Prelude.{slice_get}
 use Rattle.std.proofs.lemmas.Bool.{both_ways, cases_Bool, cond-true, false_from_ne_true}
 use Rattle.std.specs.List.{AllByRecursion, list_any}
@@ -12,7 +12,7 @@ use Rattle.clv_base.specs.declared.names.Birth.{Birth}
 use Rattle.clv_base.specs.declared.ops.Op.{Op}
 use Rattle.clv_base.specs.declared.ops.Op.TheVariants.{Get, Put, Del, Scan}
 use Rattle.clv_base.specs.declared.logs.LogRecord.{LogRecord}
-use Rattle.clv_base.specs.declared.logs.LogRecord.TheVariants.{Update, Clr, Prepare, Commit, Abort, End, Restart}
+use Rattle.clv_base.specs.declared.logs.LogRecord.TheVariants.{Update}
 use Rattle.clv_base.specs.declared.modes.Anchor.TheVariants.{At}
 use Rattle.clv_base.specs.declared.modes.Part.TheVariants.{N}
 use Rattle.clv_base.specs.declared.modes.Need.{Need}
@@ -39,9 +39,9 @@ use Rattle.cascade_undo.proofs.Laws.{IsIn, in_log}
 use Rattle.op_needs.specs.declared.plan.Insert.{Insert}
 use Rattle.op_needs.specs.declared.plan.Write.{Write}
 use Rattle.op_needs.specs.Planned.{insert_by, write_by, insert_of, write_of}
-use Rattle.op_effects.specs.Effects.{performed_by, locks_after, records_after, log_after, new_key, record_count}
-use Rattle.txn_core.specs.Sound.{is_here, has_lock, IsHeld, is_update_by, updates_by, IsSound, may_work, has_need, IsCovered}
-use Rattle.txn_core.proofs.Owing.{one_if, count-first, updates-one, count_updates_fewer}
+use Rattle.op_effects.specs.Effects.{performed_by, locks_after, records_after, log_after, new_key}
+use Rattle.txn_core.specs.Sound.{is_here, has_lock, IsHeld, owed_by, owed_more, IsSound, may_work, has_need, IsCovered}
+use Rattle.txn_core.proofs.Owing.{owed-one, owed_of_others, count_owed_fewer}
 use Rattle.txn_core.proofs.Undoing.{lock_is_held}
 
 -- ---- what a plan writes is locked
@@ -94,29 +94,6 @@ any_at f (x ∷ xs) (suc n) r e h = or_right (f x) _ (any_at f xs n r e h)
 
 wrote_by : (log : List LogRecord) (w : StandingUpdate) → IsIn log w → wrote_in log w.tx ≡ true
 wrote_by log w i = any_at (is_update_of w.tx) log w.lsn (Update w.tx w.key w.before w.after) i (tx_self w.tx)
-
-none_or : (a b : Bool) → (a || b) ≡ false → (a ≡ false) × (b ≡ false)
-none_or true b e = absurd (both_ways true e refl)
-none_or false b e = (refl, e)
-
-updates_of_others : (tx : TxId) (p q : TxId → Bool) (log : List LogRecord) → wrote_in log tx ≡ false → ((t : TxId) → tx_same tx t ≡ false → p t ≡ true → q t ≡ true) → updates_by p log ≤ updates_by q log
-updates_of_others tx p q [] e h = omega arith
-updates_of_others tx p q (Update t key before after ∷ rs) e h =
-    let parts = none_or (tx_same tx t) (wrote_in rs tx) e in let more = updates_of_others tx p q rs parts.1 h in
-    let a = count-first (is_update_by p) (Update t key before after) rs in let b = count-first (is_update_by q) (Update t key before after) rs in
-    let c = fewer (p t) (q t) (h t parts.0) in omega (arith, a, b, c, more)
-  where
-    fewer : (a b : Bool) → (a ≡ true → b ≡ true) → one_if a ≤ one_if b
-    fewer true true h = omega arith
-    fewer true false h = absurd (both_ways false refl (h refl))
-    fewer false true h = omega arith
-    fewer false false h = omega arith
-updates_of_others tx p q (Clr t undo_next key after ∷ rs) e h = updates_of_others tx p q rs e h
-updates_of_others tx p q (Prepare t home predecessors ∷ rs) e h = updates_of_others tx p q rs e h
-updates_of_others tx p q (Commit t parts ∷ rs) e h = updates_of_others tx p q rs e h
-updates_of_others tx p q (Abort t ∷ rs) e h = updates_of_others tx p q rs e h
-updates_of_others tx p q (End t ∷ rs) e h = updates_of_others tx p q rs e h
-updates_of_others tx p q (Restart run epoch ∷ rs) e h = updates_of_others tx p q rs e h
 
 -- ---- records and locks stay
 
@@ -218,12 +195,12 @@ module _ (tx : TxId) (birth : Birth) (needs : List Need) (insert : Option Insert
   standing_still : Known → AllByRecursion (IsHeld l) (standing l.log) → AllByRecursion (IsHeld after) (standing l.log)
   standing_still known a = all_weaker (λ w. IsHeld l w × IsIn l.log w) (IsHeld after) (held_still known) (standing l.log) (all_both (IsHeld l) (IsIn l.log) (standing l.log) a (in_log l.log))
 
-  updates_still : Known → may_work (stage_of l tx) ≡ true → updates_by (is_here after) l.log ≤ updates_by (is_here l) l.log
-  updates_still known m =
+  owed_before : Known → owed_by (is_here after) l.log ≤ owed_by (is_here l) l.log
+  owed_before known =
       ⊎_elim
-      (λ k. count_updates_fewer (is_here after) (is_here l) l.log
+      (λ k. count_owed_fewer (is_here after) (is_here l) l.log
       (λ t h. ⊎_elim (λ s. subst (λ x. is_here l x ≡ true) (sym (tx_true t tx s)) k) (λ n. sym (others t n) ∙ h) (cases_Bool (tx_same t tx))))
-      (λ n. updates_of_others tx (is_here after) (is_here l) l.log n (λ t e h. sym (others t (flipped t e)) ∙ h)) known
+      (λ n. owed_of_others tx (is_here after) (is_here l) l.log n (λ t e h. sym (others t (flipped t e)) ∙ h)) known
     where
       flipped : (t : TxId) → tx_same tx t ≡ false → tx_same t tx ≡ false
       flipped t e = false_from_ne_true _ (λ s. both_ways _ e (tx_flip t tx s))
@@ -234,22 +211,21 @@ written_all P tx None log a new = a
 written_all P tx (Some w) log a new =
     subst (AllByRecursion P) (sym (standing_append 0 log (Update tx w.key w.before w.after ∷ []) [])) (new w refl (0 + length log), a)
 
-updates_written : (test : TxId → Bool) (tx : TxId) (write : Option Write) (log : List LogRecord) → updates_by test (log_after tx write log) + length log ≤ updates_by test log + length (log_after tx write log)
-updates_written test tx None log = omega arith
-updates_written test tx (Some w) log =
-    let a = updates-one test log tx w.key w.before w.after in let b = length-append log (Update tx w.key w.before w.after ∷ []) in omega (arith, a, b)
+owed_written : (test : TxId → Bool) (tx : TxId) (write : Option Write) (log : List LogRecord) → owed_by test (log_after tx write log) ≤ owed_by test log + owed_more (wrote_in log tx) write
+owed_written test tx None log = omega arith
+owed_written test tx (Some w) log = owed-one test log tx w.key w.before w.after
 
 -- what is reserved beyond the undo of the parts that are here stays so
 pub spare_performed : (tx : TxId) (birth : Birth) (needs : List Need) (insert : Option Insert) (write : Option Write) (preds : List TxId) (l : Local) (spare left : ℕ)
-    → may_work (stage_of l tx) ≡ true → (is_here l tx ≡ true) ⊎ (wrote_in l.log tx ≡ false) → spare + 2 * length (log_after tx write l.log) ≤ left + 2 * length l.log
-    → spare + 2 * updates_by (is_here (performed_by tx birth needs insert write preds l)) (log_after tx write l.log) ≤ left + 2 * updates_by (is_here l) l.log
-spare_performed tx birth needs insert write preds l spare left work known room =
-    let a = updates_still tx birth needs insert write preds l known work in let b = updates_written (is_here (performed_by tx birth needs insert write preds l)) tx write l.log in omega (arith, a, b, room)
+    → (is_here l tx ≡ true) ⊎ (wrote_in l.log tx ≡ false) → spare + owed_more (wrote_in l.log tx) write ≤ left
+    → spare + owed_by (is_here (performed_by tx birth needs insert write preds l)) (log_after tx write l.log) ≤ left + owed_by (is_here l) l.log
+spare_performed tx birth needs insert write preds l spare left known room =
+    let a = owed_before tx birth needs insert write preds l known in let b = owed_written (is_here (performed_by tx birth needs insert write preds l)) tx write l.log in omega (arith, a, b, room)
 
 -- what is done by a plan that locks what it writes
 pub sound_performed : (tx : TxId) (birth : Birth) (needs : List Need) (insert : Option Insert) (write : Option Write) (preds : List TxId) (l : Local) (spare left : ℕ)
     → IsSound l spare → may_work (stage_of l tx) ≡ true → (is_here l tx ≡ true) ⊎ (wrote_in l.log tx ≡ false) → IsCovered needs insert write
-    → spare + 2 * length (log_after tx write l.log) ≤ left + 2 * length l.log → IsSound (performed_by tx birth needs insert write preds l) left
+    → spare + owed_more (wrote_in l.log tx) write ≤ left → IsSound (performed_by tx birth needs insert write preds l) left
 sound_performed tx birth needs insert write preds l spare left sound work known covered room = record {
   successors =
       all_add (λ p. is_here (performed_by tx birth needs insert write preds l) p.0 ≡ true) tx preds l.pairs (λ p. own_here tx birth needs insert write preds l work)
@@ -260,7 +236,7 @@ sound_performed tx birth needs insert write preds l spare left sound work known 
         subst (λ o. is_there (found_at w.key (records_after o l.records)) ≡ true) (sym e) (set_has w.key w.after l.records),
         covered_lock tx birth needs l.locks insert w (subst (IsCovered needs insert) e covered),
       ));
-  room = let a = spare_performed tx birth needs insert write preds l spare left work known room in omega (arith, a, sound.room);
+  room = let a = spare_performed tx birth needs insert write preds l spare left known room in omega (arith, a, sound.room);
 }
 
 -- ---- what is known of a transaction that may work
@@ -271,7 +247,3 @@ known_from l tx m e = at (tx_get tx l.parts) m e
     at : (o : Option Held) → may_work (stage_at o) ≡ true → (is_none o && wrote_in l.log tx) ≡ false → (is_present (stage_at o) ≡ true) ⊎ (wrote_in l.log tx ≡ false)
     at None m e = inr e
     at (Some h) m e = inl (work_here h.stage m)
-
-pub length-log_after : (tx : TxId) (write : Option Write) (log : List LogRecord) → length (log_after tx write log) ≡ length log + record_count write
-length-log_after tx None log = omega arith
-length-log_after tx (Some w) log = length-append log (Update tx w.key w.before w.after ∷ [])

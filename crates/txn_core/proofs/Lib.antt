@@ -1,6 +1,9 @@
+pub mod Laws
 pub mod Replies
 pub mod Settled
 pub mod Ends
+pub mod Counting
+pub mod Writers
 pub mod Owing
 pub mod Undoing
 pub mod Doing

@@ -1,100 +1,19 @@
 -- How many records an undo writes.
-use Rattle.std.proofs.Common.{◌≡◌, ℕ, Option, suc, ◌+◌, ◌*◌, ◌≤◌, ⊎_elim, Bool, true, false, cond, ◌||◌, List, [], ◌∷◌, ◌++◌, map, length, refl, sym, ap, ◌∙◌, arith}
-use Rattle.std.proofs.lemmas.Bool.{both_ways, or_cases, cond_both, false_from_ne_true}
+use Rattle.std.proofs.Common.{◌≡◌, ℕ, Option, suc, ◌+◌, ◌≤◌, Bool, true, false, cond, not, ◌&&◌, List, [], ◌∷◌, ◌++◌, map, length, refl, arith}
+use Rattle.std.proofs.lemmas.Bool.{both_ways, cond_both}
 use Rattle.std.proofs.lemmas.List.{length-map}
-use Rattle.std.specs.List.{AllByRecursion, filter}
+use Rattle.std.specs.List.{filter}
 use Rattle.std.specs.List.Sorted.{IsStrictlySortedBy}
-use Rattle.std.specs.declared.cmp.Ordering.TheVariants.{Less}
-use Rattle.std.specs.Ordering.{is_eq}
 use Rattle.clv_base.specs.declared.names.TxId.{TxId}
 use Rattle.clv_base.specs.declared.logs.LogRecord.{LogRecord}
 use Rattle.clv_base.specs.declared.logs.LogRecord.TheVariants.{Update, Clr, Prepare, Commit, Abort, End, Restart}
 use Rattle.clv_base.specs.Orders.{tx_cmp, tx_same, tx_in}
 use Rattle.clv_base.specs.Logs.{StandingUpdate, wrote_in, without_newest, standing_from, standing}
 use Rattle.clv_base.specs.Undo.{aborts_of, clrs_of}
-use Rattle.clv_base.proofs.SameNames.{tx_true, tx_self}
 use Rattle.cascade_undo.specs.Writes.{writes_of}
-use Rattle.txn_core.specs.Sound.{is_update_by, updates_by}
-
-abbrev pub one_if : Bool → ℕ
-one_if b = cond b 1 0
-
-module _ {A : Type 0} where
-  pub count-first : (q : A → Bool) (x : A) (xs : List A) → length (filter q (x ∷ xs)) ≡ one_if (q x) + length (filter q xs)
-  count-first q x xs = at (q x)
-    where
-      at : (b : Bool) → length (cond b (x ∷ filter q xs) (filter q xs)) ≡ one_if b + length (filter q xs)
-      at true = omega arith
-      at false = omega arith
-
-  -- a stricter test passes no more
-  pub count-fewer : (p q : A → Bool) (xs : List A) → ((x : A) → p x ≡ true → q x ≡ true) → length (filter p xs) ≤ length (filter q xs)
-  count-fewer p q [] h = omega arith
-  count-fewer p q (x ∷ xs) h = let a = count-first p x xs in let b = count-first q x xs in let more = count-fewer p q xs h in let one = at (p x) (q x) (h x) in omega (arith, a, b, more, one)
-    where
-      at : (a b : Bool) → (a ≡ true → b ≡ true) → one_if a ≤ one_if b
-      at true true h = omega arith
-      at true false h = absurd (both_ways false refl (h refl))
-      at false true h = omega arith
-      at false false h = omega arith
-
-  -- two tests that exclude each other pass together no more than a wider one
-  pub count-apart : (p q r : A → Bool) (xs : List A) → ((x : A) → p x ≡ true → r x ≡ true) → ((x : A) → q x ≡ true → r x ≡ true) → ((x : A) → p x ≡ true → q x ≡ false)
-      → length (filter p xs) + length (filter q xs) ≤ length (filter r xs)
-  count-apart p q r [] f g h = omega arith
-  count-apart p q r (x ∷ xs) f g h =
-      let a = count-first p x xs in let b = count-first q x xs in let c = count-first r x xs in let more = count-apart p q r xs f g h in let one = at (p x) (q x) (r x) (f x) (g x) (h x) in omega (arith, a, b, c, more, one)
-    where
-      at : (a b c : Bool) → (a ≡ true → c ≡ true) → (b ≡ true → c ≡ true) → (a ≡ true → b ≡ false) → one_if a + one_if b ≤ one_if c
-      at true true c f g h = absurd (both_ways true (h refl) refl)
-      at true false true f g h = omega arith
-      at true false false f g h = absurd (both_ways false refl (f refl))
-      at false true true f g h = omega arith
-      at false true false f g h = absurd (both_ways false refl (g refl))
-      at false false true f g h = omega arith
-      at false false false f g h = omega arith
-
--- ---- ABORTs
-
-pub above_not_in : (x : TxId) (xs : List TxId) → AllByRecursion (λ y. tx_cmp x y ≡ Less) xs → tx_in x xs ≡ false
-above_not_in x [] a = refl
-above_not_in x (y ∷ ys) a =
-    false_from_ne_true _ (λ e. ⊎_elim (λ s. both_ways _ (ap is_eq a.0) (ap is_eq (ap (tx_cmp x) (tx_true y x s)) ∙ tx_self x)) (λ m. both_ways _ (above_not_in x ys a.1) m) (or_cases (tx_same y x) (tx_in x ys) e))
-
--- one more name passes at most once
-one_more : (t : TxId) (g : TxId → Bool) (xs : List TxId) → IsStrictlySortedBy tx_cmp xs → length (filter (λ x. tx_same x t || g x) xs) ≤ one_if (tx_in t xs) + length (filter g xs)
-unfolding IsStrictlySortedBy
-one_more t g [] s = omega arith
-one_more t g (x ∷ xs) s =
-    let a = count-first (λ y. tx_same y t || g y) x xs in let b = count-first g x xs in let more = one_more t g xs s.1 in let one = at (tx_same x t) (g x) (tx_in t xs) (λ e. ap (λ y. tx_in y xs) (sym (tx_true x t e)) ∙ above_not_in x xs s.0) in
-    omega (arith, a, b, more, one)
-  where
-    at : (a b c : Bool) → (a ≡ true → c ≡ false) → one_if (a || b) + one_if c ≤ one_if (a || c) + one_if b
-    at true b true h = absurd (both_ways true (h refl) refl)
-    at true true false h = omega arith
-    at true false false h = omega arith
-    at false true true h = omega arith
-    at false true false h = omega arith
-    at false false true h = omega arith
-    at false false false h = omega arith
-
-abbrev pub in_set : List TxId → TxId → Bool
-in_set set t = tx_in t set
-
-wrote_at_most : (set : List TxId) (log : List LogRecord) → IsStrictlySortedBy tx_cmp set → length (filter (wrote_in log) set) ≤ updates_by (in_set set) log
-wrote_at_most set [] s = let e = none set in omega (arith, e)
-  where
-    none : (xs : List TxId) → length (filter (wrote_in []) xs) ≡ 0
-    none [] = refl
-    none (x ∷ xs) = none xs
-wrote_at_most set (Update tx key before after ∷ rs) s =
-    let a = count-first (is_update_by (in_set set)) (Update tx key before after) rs in let b = one_more tx (wrote_in rs) set s in let more = wrote_at_most set rs s in omega (arith, a, b, more)
-wrote_at_most set (Clr tx undo_next key after ∷ rs) s = wrote_at_most set rs s
-wrote_at_most set (Prepare tx home predecessors ∷ rs) s = wrote_at_most set rs s
-wrote_at_most set (Commit tx parts ∷ rs) s = wrote_at_most set rs s
-wrote_at_most set (Abort tx ∷ rs) s = wrote_at_most set rs s
-wrote_at_most set (End tx ∷ rs) s = wrote_at_most set rs s
-wrote_at_most set (Restart run epoch ∷ rs) s = wrote_at_most set rs s
+use Rattle.txn_core.specs.Sound.{is_update_by, updates_by, writers, owed_by}
+use Rattle.txn_core.proofs.Counting.{one_if, one_at_most, count-first, count-fewer, count-apart, count-covered, in_set}
+use Rattle.txn_core.proofs.Writers.{NoUpdate, none_or, wrote_at_most, writers-still, writers-one, writers_of_others}
 
 -- ---- CLRs
 
@@ -118,24 +37,32 @@ stand_at_most set n (Abort tx ∷ rs) ws = stand_at_most set (suc n) rs ws
 stand_at_most set n (End tx ∷ rs) ws = stand_at_most set (suc n) rs ws
 stand_at_most set n (Restart run epoch ∷ rs) ws = stand_at_most set (suc n) rs ws
 
--- an undo of a set writes at most two records for each of the set's UPDATEs
+-- an undo of a set writes at most a CLR for each of the set's UPDATEs, and an ABORT for each of the set that wrote
 pub undo_at_most : (set : List TxId) (log : List LogRecord) → IsStrictlySortedBy tx_cmp set
-    → length (aborts_of log set) + length (writes_of set (standing log)) ≤ 2 * updates_by (in_set set) log
+    → length (aborts_of log set) + length (writes_of set (standing log)) ≤ owed_by (in_set set) log
 undo_at_most set log s =
     let a = wrote_at_most set log s in let b = stand_at_most set 0 log [] in let c = length-map (filter (wrote_in log) set) (λ t. Abort t) in omega (arith, a, b, c)
 
 -- ---- the log after it
 
-pub updates-append : (test : TxId → Bool) (xs ys : List LogRecord) → updates_by test (xs ++ ys) ≡ updates_by test xs + updates_by test ys
+updates-append : (test : TxId → Bool) (xs ys : List LogRecord) → updates_by test (xs ++ ys) ≡ updates_by test xs + updates_by test ys
 updates-append test [] ys = omega arith
 updates-append test (x ∷ xs) ys = let a = count-first (is_update_by test) x (xs ++ ys) in let b = count-first (is_update_by test) x xs in let more = updates-append test xs ys in omega (arith, a, b, more)
 
-pub updates-one : (test : TxId → Bool) (log : List LogRecord) (tx : TxId) (k : ℕ) (before after : Option ℕ) → updates_by test (log ++ Update tx k before after ∷ []) ≤ updates_by test log + 1
-updates-one test log tx k before after = let a = updates-append test log (Update tx k before after ∷ []) in let b = count-first (is_update_by test) (Update tx k before after) [] in let c = at (test tx) in omega (arith, a, b, c)
+-- no more by records that are no UPDATEs
+pub owed-still : (test : TxId → Bool) (log more : List LogRecord) → NoUpdate more → owed_by test (log ++ more) ≡ owed_by test log
+owed-still test log more h = let a = updates-append test log more in let b = h test in let c = writers-still test log more h in omega (arith, a, b, c)
+
+-- two more by the first UPDATE of a transaction, one by each later one
+pub owed-one : (test : TxId → Bool) (log : List LogRecord) (tx : TxId) (k : ℕ) (before after : Option ℕ)
+    → owed_by test (log ++ Update tx k before after ∷ []) ≤ owed_by test log + cond (wrote_in log tx) 1 2
+owed-one test log tx k before after =
+    let a = updates-append test log (Update tx k before after ∷ []) in let b = count-first (is_update_by test) (Update tx k before after) [] in let c = one_at_most (test tx) in
+    let d = writers-one test tx k before after log in let e = at (wrote_in log tx) (test tx) in omega (arith, a, b, c, d, e)
   where
-    at : (b : Bool) → one_if b ≤ 1
-    at true = omega arith
-    at false = omega arith
+    at : (b t : Bool) → one_if (not b && t) + 1 ≤ cond b 1 2
+    at true t = omega arith
+    at false t = let one = one_at_most t in omega (arith, one)
 
 none_aborts : (test : TxId → Bool) (ts : List TxId) → updates_by test (map (λ t. Abort t) ts) ≡ 0
 none_aborts test [] = refl
@@ -145,10 +72,10 @@ none_clrs : (test : TxId → Bool) (set : List TxId) (ws : List StandingUpdate) 
 none_clrs test set [] = refl
 none_clrs test set (w ∷ ws) = cond_both (tx_in w.tx set) _ (clrs_of set ws) (λ l. updates_by test l ≡ 0) (λ e. none_clrs test set ws) (λ e. none_clrs test set ws)
 
-pub updates-undone : (test : TxId → Bool) (set : List TxId) (ws : List StandingUpdate) (log : List LogRecord) → updates_by test (log ++ aborts_of log set ++ clrs_of set ws) ≡ updates_by test log
-updates-undone test set ws log =
-    let a = updates-append test (log ++ aborts_of log set) (clrs_of set ws) in let b = updates-append test log (aborts_of log set) in
-    let c = none_aborts test (filter (wrote_in log) set) in let d = none_clrs test set ws in omega (arith, a, b, c, d)
+pub owed-undone : (test : TxId → Bool) (set : List TxId) (ws : List StandingUpdate) (log : List LogRecord) → owed_by test (log ++ aborts_of log set ++ clrs_of set ws) ≡ owed_by test log
+owed-undone test set ws log =
+    let a = owed-still test (log ++ aborts_of log set) (clrs_of set ws) (λ t. none_clrs t set ws) in
+    let b = owed-still test log (aborts_of log set) (λ t. none_aborts t (filter (wrote_in log) set)) in omega (arith, a, b)
 
 -- ---- UPDATEs by tests of their transactions
 
@@ -170,9 +97,51 @@ by_other p q h (Abort tx) e = refl
 by_other p q h (End tx) e = refl
 by_other p q h (Restart run epoch) e = refl
 
-pub count_updates_fewer : (p q : TxId → Bool) (log : List LogRecord) → ((t : TxId) → p t ≡ true → q t ≡ true) → updates_by p log ≤ updates_by q log
-count_updates_fewer p q log h = count-fewer (is_update_by p) (is_update_by q) log (by_test p q h)
+by_either : (p q r : TxId → Bool) → ((t : TxId) → r t ≡ true → p t ≡ false → q t ≡ true) → (e : LogRecord) → is_update_by r e ≡ true → is_update_by p e ≡ false → is_update_by q e ≡ true
+by_either p q r h (Update tx key before after) a b = h tx a b
+by_either p q r h (Clr tx undo_next key after) a b = a
+by_either p q r h (Prepare tx home predecessors) a b = a
+by_either p q r h (Commit tx parts) a b = a
+by_either p q r h (Abort tx) a b = a
+by_either p q r h (End tx) a b = a
+by_either p q r h (Restart run epoch) a b = a
 
-pub count_updates_apart : (p q r : TxId → Bool) (log : List LogRecord) → ((t : TxId) → p t ≡ true → r t ≡ true) → ((t : TxId) → q t ≡ true → r t ≡ true) → ((t : TxId) → p t ≡ true → q t ≡ false)
-    → updates_by p log + updates_by q log ≤ updates_by r log
-count_updates_apart p q r log f g h = count-apart (is_update_by p) (is_update_by q) (is_update_by r) log (by_test p r f) (by_test q r g) (by_other p q h)
+-- by a stricter test no more is owed
+pub count_owed_fewer : (p q : TxId → Bool) (log : List LogRecord) → ((t : TxId) → p t ≡ true → q t ≡ true) → owed_by p log ≤ owed_by q log
+count_owed_fewer p q log h =
+    let a = count-fewer (is_update_by p) (is_update_by q) log (by_test p q h) in let b = count-fewer p q (writers log) h in omega (arith, a, b)
+
+-- by two tests that exclude each other no more than by a wider one
+pub count_owed_apart : (p q r : TxId → Bool) (log : List LogRecord) → ((t : TxId) → p t ≡ true → r t ≡ true) → ((t : TxId) → q t ≡ true → r t ≡ true) → ((t : TxId) → p t ≡ true → q t ≡ false)
+    → owed_by p log + owed_by q log ≤ owed_by r log
+count_owed_apart p q r log f g h =
+    let a = count-apart (is_update_by p) (is_update_by q) (is_update_by r) log (by_test p r f) (by_test q r g) (by_other p q h) in
+    let b = count-apart p q r (writers log) f g h in omega (arith, a, b)
+
+-- by two tests of which one passes wherever a third does, no less than by that
+pub count_owed_covered : (p q r : TxId → Bool) (log : List LogRecord) → ((t : TxId) → r t ≡ true → p t ≡ false → q t ≡ true) → owed_by r log ≤ owed_by p log + owed_by q log
+count_owed_covered p q r log h =
+    let a = count-covered (is_update_by p) (is_update_by q) (is_update_by r) log (by_either p q r h) in let b = count-covered p q r (writers log) h in omega (arith, a, b)
+
+updates_of_others : (tx : TxId) (p q : TxId → Bool) (log : List LogRecord) → wrote_in log tx ≡ false → ((t : TxId) → tx_same tx t ≡ false → p t ≡ true → q t ≡ true) → updates_by p log ≤ updates_by q log
+updates_of_others tx p q [] e h = omega arith
+updates_of_others tx p q (Update t key before after ∷ rs) e h =
+    let parts = none_or (tx_same tx t) (wrote_in rs tx) e in let more = updates_of_others tx p q rs parts.1 h in
+    let a = count-first (is_update_by p) (Update t key before after) rs in let b = count-first (is_update_by q) (Update t key before after) rs in
+    let c = fewer (p t) (q t) (h t parts.0) in omega (arith, a, b, c, more)
+  where
+    fewer : (a b : Bool) → (a ≡ true → b ≡ true) → one_if a ≤ one_if b
+    fewer true true h = omega arith
+    fewer true false h = absurd (both_ways false refl (h refl))
+    fewer false true h = omega arith
+    fewer false false h = omega arith
+updates_of_others tx p q (Clr t undo_next key after ∷ rs) e h = updates_of_others tx p q rs e h
+updates_of_others tx p q (Prepare t home predecessors ∷ rs) e h = updates_of_others tx p q rs e h
+updates_of_others tx p q (Commit t parts ∷ rs) e h = updates_of_others tx p q rs e h
+updates_of_others tx p q (Abort t ∷ rs) e h = updates_of_others tx p q rs e h
+updates_of_others tx p q (End t ∷ rs) e h = updates_of_others tx p q rs e h
+updates_of_others tx p q (Restart run epoch ∷ rs) e h = updates_of_others tx p q rs e h
+
+-- to one that has no UPDATE nothing is owed
+pub owed_of_others : (tx : TxId) (p q : TxId → Bool) (log : List LogRecord) → wrote_in log tx ≡ false → ((t : TxId) → tx_same tx t ≡ false → p t ≡ true → q t ≡ true) → owed_by p log ≤ owed_by q log
+owed_of_others tx p q log e h = let a = updates_of_others tx p q log e h in let b = writers_of_others tx p q log e h in omega (arith, a, b)

@@ -1,11 +1,9 @@
 -- What was reserved for an undo that isn't wanted any more.
-use Rattle.std.proofs.Common.{◌≡◌, ℕ, ◌+◌, ◌*◌, ◌≤◌, ⊎_elim, Bool, true, false, cond, ◌||◌, List, [], ◌∷◌, length, None, refl, sym, ap, subst, ◌∙◌, arith}
+use Rattle.std.proofs.Common.{◌≡◌, ℕ, ◌+◌, ◌≤◌, ⊎_elim, true, false, cond, List, [], ◌∷◌, None, refl, sym, ap, subst, ◌∙◌, arith}
 use Rattle.std.proofs.lemmas.Bool.{both_ways, cases_Bool, or_cases}
-use Rattle.std.specs.List.{filter}
 use Rattle.std.specs.List.Sorted.{IsStrictlySortedBy}
 use Rattle.clv_base.specs.declared.names.TxId.{TxId}
 use Rattle.clv_base.specs.declared.logs.LogRecord.{LogRecord}
-use Rattle.clv_base.specs.declared.logs.LogRecord.TheVariants.{Update, Clr, Prepare, Commit, Abort, End, Restart}
 use Rattle.clv_base.specs.declared.state.Held.{Held}
 use Rattle.clv_base.specs.Orders.{Table, tx_cmp, tx_same, tx_in}
 use Rattle.clv_base.specs.Logs.{standing}
@@ -16,34 +14,11 @@ use Rattle.clv_base.proofs.SameNames.{tx_true}
 use Rattle.law_base.proofs.Stages.{stage_marked}
 use Rattle.log_buffer.specs.Buffers.{Buffer}
 use Rattle.txn_core.specs.State.{TxState}
-use Rattle.txn_core.specs.Sound.{is_here, is_in, is_update_by, updates_by, IsKept, KeepsSpare}
-use Rattle.txn_core.proofs.Owing.{one_if, count-first, in_set, count_updates_fewer, count_updates_apart, updates-undone}
+use Rattle.txn_core.specs.Sound.{is_here, is_in, owed_by, IsKept, KeepsSpare}
+use Rattle.txn_core.proofs.Counting.{in_set}
+use Rattle.txn_core.proofs.Owing.{count_owed_fewer, count_owed_apart, count_owed_covered, owed-undone}
 use Rattle.txn_core.proofs.Undoing.{still_here}
 use Rattle.txn_core.proofs.Closed.{finished_here, still_here as others_here, spare_finished}
-
--- two tests of which one passes wherever a third does pass together no less than that
-count-covered : {A : Type 0} (p q r : A → Bool) (xs : List A) → ((x : A) → r x ≡ true → p x ≡ false → q x ≡ true) → length (filter r xs) ≤ length (filter p xs) + length (filter q xs)
-count-covered p q r [] h = omega arith
-count-covered p q r (x ∷ xs) h =
-    let a = count-first p x xs in let b = count-first q x xs in let c = count-first r x xs in let more = count-covered p q r xs h in let one = at (p x) (q x) (r x) (h x) in omega (arith, a, b, c, more, one)
-  where
-    at : (a b c : Bool) → (c ≡ true → a ≡ false → b ≡ true) → one_if c ≤ one_if a + one_if b
-    at a b false h = omega arith
-    at true b true h = omega arith
-    at false true true h = omega arith
-    at false false true h = absurd (both_ways false refl (h refl refl))
-
-by_either : (p q r : TxId → Bool) → ((t : TxId) → r t ≡ true → p t ≡ false → q t ≡ true) → (e : LogRecord) → is_update_by r e ≡ true → is_update_by p e ≡ false → is_update_by q e ≡ true
-by_either p q r h (Update tx key before after) a b = h tx a b
-by_either p q r h (Clr tx undo_next key after) a b = a
-by_either p q r h (Prepare tx home predecessors) a b = a
-by_either p q r h (Commit tx parts) a b = a
-by_either p q r h (Abort tx) a b = a
-by_either p q r h (End tx) a b = a
-by_either p q r h (Restart run epoch) a b = a
-
-updates_covered : (p q r : TxId → Bool) (log : List LogRecord) → ((t : TxId) → r t ≡ true → p t ≡ false → q t ≡ true) → updates_by r log ≤ updates_by p log + updates_by q log
-updates_covered p q r log h = count-covered (is_update_by p) (is_update_by q) (is_update_by r) log (by_either p q r h)
 
 -- ---- an undo of a set
 
@@ -51,11 +26,11 @@ module _ (set : List TxId) (tx : TxId) (l : Local) where
   gone_or_here : (t : TxId) → is_here l t ≡ true → is_here (take_away set tx l) t ≡ false → tx_in t set ≡ true
   gone_or_here t here gone = ⊎_elim (λ i. i) (λ out. absurd (both_ways _ gone (still_here set tx l t out here))) (cases_Bool (tx_in t set))
 
-  pub spare_back : (spare left : ℕ) → left + 2 * updates_by (in_set set) l.log ≤ spare
-      → left + 2 * updates_by (is_here l) l.log ≤ spare + 2 * updates_by (is_here (take_away set tx l)) (take_away set tx l).log
+  pub spare_back : (spare left : ℕ) → left + owed_by (in_set set) l.log ≤ spare
+      → left + owed_by (is_here l) l.log ≤ spare + owed_by (is_here (take_away set tx l)) (take_away set tx l).log
   spare_back spare left room =
-      let same = updates-undone (is_here (take_away set tx l)) set (standing l.log) l.log in
-      let cover = updates_covered (is_here (take_away set tx l)) (in_set set) (is_here l) l.log gone_or_here in omega (arith, same, cover, room)
+      let same = owed-undone (is_here (take_away set tx l)) set (standing l.log) l.log in
+      let cover = count_owed_covered (is_here (take_away set tx l)) (in_set set) (is_here l) l.log gone_or_here in omega (arith, same, cover, room)
 
 -- ---- a part that is finished
 
@@ -63,36 +38,36 @@ pub one_rises : (tx : TxId) → IsStrictlySortedBy tx_cmp (tx ∷ [])
 unfolding IsStrictlySortedBy
 one_rises tx = (tt, tt)
 
-pub own_fits : (parts : Table Held) (tx : TxId) (log : List LogRecord) → is_in parts tx ≡ true → updates_by (in_set (tx ∷ [])) log ≤ updates_by (is_in parts) log
-own_fits parts tx log e = count_updates_fewer (in_set (tx ∷ [])) (is_in parts) log (λ t i. subst (λ u. is_in parts u ≡ true) (own t i) e)
+pub own_fits : (parts : Table Held) (tx : TxId) (log : List LogRecord) → is_in parts tx ≡ true → owed_by (in_set (tx ∷ [])) log ≤ owed_by (is_in parts) log
+own_fits parts tx log e = count_owed_fewer (in_set (tx ∷ [])) (is_in parts) log (λ t i. subst (λ u. is_in parts u ≡ true) (own t i) e)
   where
     own : (t : TxId) → tx_in t (tx ∷ []) ≡ true → tx ≡ t
     own t i = ⊎_elim (λ s. tx_true tx t s) (λ no. absurd (both_ways false refl no)) (or_cases (tx_same tx t) false i)
 
--- the UPDATEs of its part, where it is here
-abbrev pub own_updates : TxId → Local → ℕ
-own_updates tx l = cond (is_here l tx) (updates_by (in_set (tx ∷ [])) l.log) 0
+-- what is owed to its part, where it is here
+abbrev pub own_owed : TxId → Local → ℕ
+own_owed tx l = cond (is_here l tx) (owed_by (in_set (tx ∷ [])) l.log) 0
 
 module _ (tx : TxId) (l : Local) where
   own : (t : TxId) → tx_in t (tx ∷ []) ≡ true → tx ≡ t
   own t i = ⊎_elim (λ s. tx_true tx t s) (λ no. absurd (both_ways false refl no)) (or_cases (tx_same tx t) false i)
 
-  pub finished_own : updates_by (is_here (release_parts (tx ∷ []) None l)) l.log + own_updates tx l ≡ updates_by (is_here l) l.log
+  pub finished_own : owed_by (is_here (release_parts (tx ∷ []) None l)) l.log + own_owed tx l ≡ owed_by (is_here l) l.log
   finished_own = ⊎_elim here away (cases_Bool (is_here l tx))
     where
-      here : is_here l tx ≡ true → updates_by (is_here (release_parts (tx ∷ []) None l)) l.log + own_updates tx l ≡ updates_by (is_here l) l.log
+      here : is_here l tx ≡ true → owed_by (is_here (release_parts (tx ∷ []) None l)) l.log + own_owed tx l ≡ owed_by (is_here l) l.log
       here e =
-          let mine = ap (λ b. cond b (updates_by (in_set (tx ∷ [])) l.log) 0) e in
-          let apart = count_updates_apart (is_here (release_parts (tx ∷ []) None l)) (in_set (tx ∷ [])) (is_here l) l.log (λ t h. (finished_here tx l t h).1) (λ t i. subst (λ u. is_here l u ≡ true) (own t i) e) (λ t h. (finished_here tx l t h).0) in
-          let cover = updates_covered (is_here (release_parts (tx ∷ []) None l)) (in_set (tx ∷ [])) (is_here l) l.log
+          let mine = ap (λ b. cond b (owed_by (in_set (tx ∷ [])) l.log) 0) e in
+          let apart = count_owed_apart (is_here (release_parts (tx ∷ []) None l)) (in_set (tx ∷ [])) (is_here l) l.log (λ t h. (finished_here tx l t h).1) (λ t i. subst (λ u. is_here l u ≡ true) (own t i) e) (λ t h. (finished_here tx l t h).0) in
+          let cover = count_owed_covered (is_here (release_parts (tx ∷ []) None l)) (in_set (tx ∷ [])) (is_here l) l.log
           (λ t h gone. ⊎_elim (λ i. i) (λ out. absurd (both_ways _ gone (others_here tx l t out h))) (cases_Bool (tx_in t (tx ∷ [])))) in
           omega (arith, mine, apart, cover)
 
-      away : is_here l tx ≡ false → updates_by (is_here (release_parts (tx ∷ []) None l)) l.log + own_updates tx l ≡ updates_by (is_here l) l.log
+      away : is_here l tx ≡ false → owed_by (is_here (release_parts (tx ∷ []) None l)) l.log + own_owed tx l ≡ owed_by (is_here l) l.log
       away e =
-          let none = ap (λ b. cond b (updates_by (in_set (tx ∷ [])) l.log) 0) e in
+          let none = ap (λ b. cond b (owed_by (in_set (tx ∷ [])) l.log) 0) e in
           let fewer = spare_finished tx l in
-          let more = count_updates_fewer (is_here l) (is_here (release_parts (tx ∷ []) None l)) l.log
+          let more = count_owed_fewer (is_here l) (is_here (release_parts (tx ∷ []) None l)) l.log
           (λ t h. ⊎_elim (λ i. absurd (both_ways _ e (subst (λ u. is_here l u ≡ true) (sym (own t i)) h))) (λ out. others_here tx l t out h) (cases_Bool (tx_in t (tx ∷ [])))) in
           omega (arith, none, fewer, more)
 
@@ -104,13 +79,13 @@ Kept commits l b = IsKept commits (record l { log = b.records }) b.room
 
 -- of a state the parts and the log alone count
 pub back_like : (s t : TxState) (m : Local) → (t.local).parts ≡ m.parts → (t.local).log ≡ m.log
-    → t.room + 2 * updates_by (is_here s.local) (s.local).log ≤ s.room + 2 * updates_by (is_here m) m.log → KeepsSpare t s
+    → t.room + owed_by (is_here s.local) (s.local).log ≤ s.room + owed_by (is_here m) m.log → KeepsSpare t s
 back_like s t m parts log h =
-    subst (λ (ps : Table Held). t.room + 2 * updates_by (is_here s.local) (s.local).log ≤ s.room + 2 * updates_by (is_here (record m { parts = ps })) (t.local).log) (sym parts)
-    (subst (λ (lg : List LogRecord). t.room + 2 * updates_by (is_here s.local) (s.local).log ≤ s.room + 2 * updates_by (is_here m) lg) (sym log) h)
+    subst (λ (ps : Table Held). t.room + owed_by (is_here s.local) (s.local).log ≤ s.room + owed_by (is_here (record m { parts = ps })) (t.local).log) (sym parts)
+    (subst (λ (lg : List LogRecord). t.room + owed_by (is_here s.local) (s.local).log ≤ s.room + owed_by (is_here m) lg) (sym log) h)
 
 -- a mark changes no stage
 pub back_marked : (s t : TxState) (tx : TxId) → (t.local).parts ≡ marked_in tx (s.local).parts → (t.local).log ≡ (s.local).log → t.room ≤ s.room → KeepsSpare t s
 back_marked s t tx parts log less =
-    let a = count_updates_fewer (is_here s.local) (is_here (mark_dropped tx s.local)) (s.local).log (λ u h. ap is_present (stage_marked tx u (s.local).parts) ∙ h) in
+    let a = count_owed_fewer (is_here s.local) (is_here (mark_dropped tx s.local)) (s.local).log (λ u h. ap is_present (stage_marked tx u (s.local).parts) ∙ h) in
     back_like s t (mark_dropped tx s.local) parts log (omega (arith, a, less))

@@ -1,34 +1,39 @@
--- How many UPDATEs the log has of transactions, added up one by one.
-use Rattle.std.proofs.Common.{◌≡◌, ℕ, zero, suc, ◌+◌, ◌-◌, ◌*◌, ◌<◌, ◌≤◌, ⊎_elim, min, Bool, true, false, ◌||◌, List, [], ◌∷◌, length, take, get_or, Option, Some, None, refl, sym, ap, subst, ◌∙◌, arith}
+-- What is owed to transactions, added up one by one.
+use Rattle.std.proofs.Common.{◌≡◌, ℕ, zero, suc, ◌+◌, ◌-◌, ◌<◌, ◌≤◌, ⊎_elim, min, Bool, true, false, not, ◌&&◌, ◌||◌, List, [], ◌∷◌, length, take, get_or, Option, Some, None, refl, sym, ap, ◌∙◌, arith}
 use Rattle.std.proofs.Math.Nat.{min-eq_left, min-eq_right}
 use Rattle.std.proofs.lemmas.Bool.{both_ways, cases_lt}
-use Rattle.std.specs.List.{AllByRecursion, filter}
+use Rattle.std.specs.List.{filter}
 use Rattle.std.specs.List.Sorted.{IsStrictlySortedBy}
 use Rattle.std.specs.Map.{keys_of}
 use Rattle.clv_base.specs.declared.names.TxId.{TxId}
 use Rattle.clv_base.specs.declared.logs.LogRecord.{LogRecord}
 use Rattle.clv_base.specs.declared.logs.LogRecord.TheVariants.{Update, Clr, Prepare, Commit, Abort, End, Restart}
 use Rattle.clv_base.specs.declared.state.Held.{Held}
-use Rattle.clv_base.specs.Logs.{is_update_of}
-use Rattle.clv_base.specs.Orders.{Table, tx_cmp, tx_same, tx_in, tx_get}
+use Rattle.clv_base.specs.Logs.{wrote_in, is_update_of}
+use Rattle.clv_base.specs.Orders.{tx_cmp, tx_same, tx_in, tx_get}
 use Rattle.clv_base.specs.State.{Local, is_present}
 use Rattle.clv_base.proofs.SameNames.{tx_true}
 use Rattle.part_table.specs.Parts.{is_here as here_by, parts_here}
 use Rattle.tx_index.specs.Index.{passes}
 use Rattle.tx_index.proofs.Laws.{index_has}
-use Rattle.txn_core.specs.Sound.{is_here, is_update_by, updates_by, IsSound}
-use Rattle.txn_core.proofs.Owing.{one_if, count-first, in_set, above_not_in, count_updates_fewer}
+use Rattle.txn_core.specs.Sound.{is_here, is_update_by, updates_by, writers, writers_by, owed_by, IsSound}
+use Rattle.txn_core.proofs.Counting.{one_if, count-first, count-unless, in_set, above_not_in}
+use Rattle.txn_core.proofs.Owing.{count_owed_fewer}
 
 -- UPDATEs of one
 abbrev pub updates_of : List LogRecord → TxId → ℕ
 updates_of log t = length (filter (is_update_of t) log)
 
--- of each of these
+-- what is owed to one
+abbrev pub owed_of : List LogRecord → TxId → ℕ
+owed_of log t = updates_of log t + one_if (wrote_in log t)
+
+-- to each of these
 abbrev pub total_of : List LogRecord → List TxId → ℕ
 total_of log [] = 0
-total_of log (t ∷ ts) = updates_of log t + total_of log ts
+total_of log (t ∷ ts) = owed_of log t + total_of log ts
 
-pub total_next : (log : List LogRecord) (ts : List TxId) (i : ℕ) (d : TxId) → i < length ts → total_of log (take (suc i) ts) ≡ total_of log (take i ts) + updates_of log (get_or ts i d)
+pub total_next : (log : List LogRecord) (ts : List TxId) (i : ℕ) (d : TxId) → i < length ts → total_of log (take (suc i) ts) ≡ total_of log (take i ts) + owed_of log (get_or ts i d)
 total_next log [] i d h = absurd (omega arith)
 total_next log (t ∷ ts) zero d h = omega arith
 total_next log (t ∷ ts) (suc i) d h = let more = total_next log ts i d (omega (arith, h)) in omega (arith, more)
@@ -39,7 +44,7 @@ total_front log [] (suc i) = omega arith
 total_front log (t ∷ ts) zero = omega arith
 total_front log (t ∷ ts) (suc i) = let more = total_front log ts i in omega (arith, more)
 
--- one that isn't among the others counts for itself
+-- one that isn't among the others counts for itself, by its UPDATEs
 one_apart : (t : TxId) (ts : List TxId) (log : List LogRecord) → tx_in t ts ≡ false → updates_by (in_set (t ∷ ts)) log ≡ updates_of log t + updates_by (in_set ts) log
 one_apart t ts [] out = refl
 one_apart t ts (Update tx key before after ∷ rs) out =
@@ -59,33 +64,52 @@ one_apart t ts (Abort tx ∷ rs) out = one_apart t ts rs out
 one_apart t ts (End tx ∷ rs) out = one_apart t ts rs out
 one_apart t ts (Restart run epoch ∷ rs) out = one_apart t ts rs out
 
-none_in : (log : List LogRecord) → updates_by (in_set []) log ≡ 0
-none_in [] = refl
-none_in (Update tx key before after ∷ rs) = none_in rs
-none_in (Clr tx undo_next key after ∷ rs) = none_in rs
-none_in (Prepare tx home predecessors ∷ rs) = none_in rs
-none_in (Commit tx parts ∷ rs) = none_in rs
-none_in (Abort tx ∷ rs) = none_in rs
-none_in (End tx ∷ rs) = none_in rs
-none_in (Restart run epoch ∷ rs) = none_in rs
+-- and as a writer
+one_writes : (t : TxId) (ts : List TxId) (log : List LogRecord) → tx_in t ts ≡ false → writers_by (in_set (t ∷ ts)) log ≡ one_if (wrote_in log t) + writers_by (in_set ts) log
+one_writes t ts [] out = refl
+one_writes t ts (Update tx key before after ∷ rs) out =
+    let a = count-unless (in_set (t ∷ ts)) (wrote_in rs tx) tx (writers rs) in let b = count-unless (in_set ts) (wrote_in rs tx) tx (writers rs) in let more = one_writes t ts rs out in
+    let one = at (wrote_in rs tx) (wrote_in rs t) (tx_same t tx) (tx_in tx ts) (λ e. ap (wrote_in rs) (sym (tx_true t tx e))) (λ e. ap (λ x. tx_in x ts) (sym (tx_true t tx e)) ∙ out) in
+    omega (arith, a, b, more, one)
+  where
+    at : (w v s i : Bool) → (s ≡ true → w ≡ v) → (s ≡ true → i ≡ false) → one_if (not w && (s || i)) + one_if v ≡ one_if (s || v) + one_if (not w && i)
+    at true true true i g h = omega arith
+    at true false true i g h = absurd (both_ways true (g refl) refl)
+    at false true true i g h = absurd (both_ways false refl (g refl))
+    at false false true true g h = absurd (both_ways true (h refl) refl)
+    at false false true false g h = omega arith
+    at true v false i g h = omega arith
+    at false v false i g h = omega arith
+one_writes t ts (Clr tx undo_next key after ∷ rs) out = one_writes t ts rs out
+one_writes t ts (Prepare tx home predecessors ∷ rs) out = one_writes t ts rs out
+one_writes t ts (Commit tx parts ∷ rs) out = one_writes t ts rs out
+one_writes t ts (Abort tx ∷ rs) out = one_writes t ts rs out
+one_writes t ts (End tx ∷ rs) out = one_writes t ts rs out
+one_writes t ts (Restart run epoch ∷ rs) out = one_writes t ts rs out
+
+none_pass : {A : Type 0} (f : A → Bool) → ((x : A) → f x ≡ false) → (xs : List A) → length (filter f xs) ≡ 0
+none_pass f h [] = refl
+none_pass f h (x ∷ xs) = let a = count-first f x xs in let b = ap one_if (h x) in let more = none_pass f h xs in omega (arith, a, b, more)
+
+no_update : (r : LogRecord) → is_update_by (in_set []) r ≡ false
+no_update (Update tx key before after) = refl
+no_update (Clr tx undo_next key after) = refl
+no_update (Prepare tx home predecessors) = refl
+no_update (Commit tx parts) = refl
+no_update (Abort tx) = refl
+no_update (End tx) = refl
+no_update (Restart run epoch) = refl
 
 -- each of some that rise counts once
-pub total_told : (log : List LogRecord) (ts : List TxId) → IsStrictlySortedBy tx_cmp ts → total_of log ts ≡ updates_by (in_set ts) log
+pub total_told : (log : List LogRecord) (ts : List TxId) → IsStrictlySortedBy tx_cmp ts → total_of log ts ≡ owed_by (in_set ts) log
 unfolding IsStrictlySortedBy
-total_told log [] s = sym (none_in log)
-total_told log (t ∷ ts) s = let more = total_told log ts s.1 in let one = one_apart t ts log (above_not_in t ts s.0) in omega (arith, more, one)
+total_told log [] s = let a = none_pass (is_update_by (in_set [])) no_update log in let b = none_pass (in_set []) (λ t. refl) (writers log) in omega (arith, a, b)
+total_told log (t ∷ ts) s =
+    let more = total_told log ts s.1 in let out = above_not_in t ts s.0 in let a = one_apart t ts log out in let b = one_writes t ts log out in omega (arith, more, a, b)
 
-few_pass : {A : Type 0} (f : A → Bool) (xs : List A) → length (filter f xs) ≤ length xs
-few_pass f [] = omega arith
-few_pass f (x ∷ xs) = let a = count-first f x xs in let more = few_pass f xs in let one = at (f x) in omega (arith, a, more, one)
-  where
-    at : (b : Bool) → one_if b ≤ 1
-    at true = omega arith
-    at false = omega arith
-
--- no more than the log has records, at each step of the sum
-pub total_fits : (log : List LogRecord) (ts : List TxId) (i : ℕ) → IsStrictlySortedBy tx_cmp ts → total_of log (take i ts) ≤ length log
-total_fits log ts i s = let a = total_front log ts i in let b = total_told log ts s in let d = few_pass (is_update_by (in_set ts)) log in omega (arith, a, b, d)
+-- no more than is owed to all, at each step of the sum
+pub total_fits : (log : List LogRecord) (ts : List TxId) (i : ℕ) → IsStrictlySortedBy tx_cmp ts → total_of log (take i ts) ≤ owed_by (in_set ts) log
+total_fits log ts i s = let a = total_front log ts i in let b = total_told log ts s in omega (arith, a, b)
 
 -- ---- those that are here
 
@@ -93,11 +117,11 @@ listed : (o : Option Held) → passes here_by o ≡ is_present (elim o [ Some h 
 listed None = refl
 listed (Some h) = refl
 
-pub updates_here : (l : Local) → IsStrictlySortedBy tx_cmp (keys_of l.parts) → updates_by (in_set (parts_here l.parts)) l.log ≡ updates_by (is_here l) l.log
-updates_here l s =
+pub owed_here : (l : Local) → IsStrictlySortedBy tx_cmp (keys_of l.parts) → owed_by (in_set (parts_here l.parts)) l.log ≡ owed_by (is_here l) l.log
+owed_here l s =
     let there : (t : TxId) → tx_in t (parts_here l.parts) ≡ is_here l t = λ t. index_has here_by l.parts s t ∙ listed (tx_get t l.parts) in
-    let a = count_updates_fewer (in_set (parts_here l.parts)) (is_here l) l.log (λ t h. sym (there t) ∙ h) in
-    let b = count_updates_fewer (is_here l) (in_set (parts_here l.parts)) l.log (λ t h. there t ∙ h) in omega (arith, a, b)
+    let a = count_owed_fewer (in_set (parts_here l.parts)) (is_here l) l.log (λ t h. sym (there t) ∙ h) in
+    let b = count_owed_fewer (is_here l) (in_set (parts_here l.parts)) l.log (λ t h. there t ∙ h) in omega (arith, a, b)
 
 -- ---- what is kept
 
@@ -108,5 +132,5 @@ kept_room room undo count h =
     (λ more. ap (λ n. min room (undo + n)) (min-eq_left more) ∙ min-eq_left (omega (arith, h)) ∙ sym (min-eq_left (omega (arith, h, more))))
     (cases_lt count (room - undo))
 
-pub still_sound : (l : Local) (spare left : ℕ) → IsSound l spare → 2 * updates_by (is_here l) l.log ≤ left → IsSound l left
+pub still_sound : (l : Local) (spare left : ℕ) → IsSound l spare → owed_by (is_here l) l.log ≤ left → IsSound l left
 still_sound l spare left sound room = record { successors = sound.successors; writes = sound.writes; room = room }

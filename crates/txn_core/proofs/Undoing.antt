@@ -1,5 +1,5 @@
 -- What a part did, with all that depend on it, can be taken away, and that leaves the same of the others.
-use Rattle.std.proofs.Common.{◌≡◌, ℕ, zero, suc, ◌+◌, ◌*◌, ◌≤◌, ⊎_elim, Bool, true, false, cond, not, ◌&&◌, ◌||◌, List, [], ◌∷◌, length, Option, Some, None, refl, sym, ap, subst, ◌∙◌, arith}
+use Rattle.std.proofs.Common.{◌≡◌, ℕ, zero, suc, ◌+◌, ◌≤◌, ⊎_elim, Bool, true, false, cond, not, ◌&&◌, ◌||◌, List, [], ◌∷◌, length, Option, Some, None, refl, sym, ap, subst, ◌∙◌, arith}
 use Rattle.std.proofs.lemmas.Bool.{both_ways, or_cases, cond_both, cond-true, false_from_ne_true}
 use Rattle.std.specs.List.{AllByRecursion, filter}
 use Rattle.std.specs.List.Sorted.{IsStrictlySortedBy}
@@ -34,8 +34,9 @@ use Rattle.cascade_undo.specs.Writes.{writes_of, HaveRecords}
 use Rattle.cascade_undo.proofs.Laws.{all_mono}
 use Rattle.txn_core.specs.State.{TxState}
 use Rattle.txn_core.proofs.Undoable.{IsUndoable}
-use Rattle.txn_core.specs.Sound.{is_here, has_lock, IsHeld, updates_by, IsSound, KeepsSpare}
-use Rattle.txn_core.proofs.Owing.{undo_at_most, in_set, count_updates_fewer, count_updates_apart, updates-undone}
+use Rattle.txn_core.specs.Sound.{is_here, has_lock, IsHeld, owed_by, IsSound, KeepsSpare}
+use Rattle.txn_core.proofs.Counting.{in_set}
+use Rattle.txn_core.proofs.Owing.{undo_at_most, count_owed_fewer, count_owed_apart, owed-undone}
 
 -- ---- the doomed are here
 
@@ -99,8 +100,8 @@ module _ (l : Local) (spare : ℕ) (sound : IsSound l spare) (tx : TxId) (here :
   have_records : HaveRecords set (standing l.log) l.records
   have_records = all_mono (IsHeld l) (λ w. tx_in w.tx set ≡ true → is_there (found_at w.key l.records) ≡ true) (λ w h i. (h (one_passes (is_here l) w.tx set all_here i)).0) (standing l.log) sound.writes
 
-  pub owed : 2 * updates_by (in_set set) l.log ≤ spare
-  owed = let a = count_updates_fewer (in_set set) (is_here l) l.log (λ t e. one_passes (is_here l) t set all_here e) in omega (arith, a, sound.room)
+  pub owed : owed_by (in_set set) l.log ≤ spare
+  owed = let a = count_owed_fewer (in_set set) (is_here l) l.log (λ t e. one_passes (is_here l) t set all_here e) in omega (arith, a, sound.room)
 
 pub undoable : (s : TxState) (tx : TxId) → IsSound s.local s.room → is_here s.local tx ≡ true → IsUndoable s tx
 undoable s tx sound here = record {
@@ -126,7 +127,7 @@ pub undoable_here : (l : Local) (spare : ℕ) → IsSound l spare → (tx : TxId
 undoable_here l spare sound tx = (
   have_records_here l spare sound tx,
   let most = undo_at_most (doomed_here l tx) l.log (doomed_here_rise l tx) in
-      let owed = count_updates_fewer (in_set (doomed_here l tx)) (is_here l) l.log (λ t e. each_doomed_here l tx t e) in let room = sound.room in omega (arith, most, owed, room),
+      let owed = count_owed_fewer (in_set (doomed_here l tx)) (is_here l) l.log (λ t e. each_doomed_here l tx t e) in let room = sound.room in omega (arith, most, owed, room),
 )
 
 -- of the doomed it alone may be away
@@ -207,14 +208,14 @@ module _ (set : List TxId) (tx : TxId) (l : Local) where
   still_here t out h = ap is_present (stage_other set (Some tx) t l.parts out) ∙ h
 
   -- what the set's undo may write was reserved for it
-  pub spare_away : (spare left : ℕ) → ((t : TxId) → tx_in t set ≡ true → is_here l t ≡ true) → spare ≤ left + 2 * updates_by (in_set set) l.log
-      → spare + 2 * updates_by (is_here (take_away set tx l)) (take_away set tx l).log ≤ left + 2 * updates_by (is_here l) l.log
+  pub spare_away : (spare left : ℕ) → ((t : TxId) → tx_in t set ≡ true → is_here l t ≡ true) → spare ≤ left + owed_by (in_set set) l.log
+      → spare + owed_by (is_here (take_away set tx l)) (take_away set tx l).log ≤ left + owed_by (is_here l) l.log
   spare_away spare left all room =
-      let same = updates-undone (is_here (take_away set tx l)) set (standing l.log) l.log in
-      let apart = count_updates_apart (is_here (take_away set tx l)) (in_set set) (is_here l) l.log (λ t h. (gone_here t h).1) all (λ t h. (gone_here t h).0) in omega (arith, same, apart, room)
+      let same = owed-undone (is_here (take_away set tx l)) set (standing l.log) l.log in
+      let apart = count_owed_apart (is_here (take_away set tx l)) (in_set set) (is_here l) l.log (λ t h. (gone_here t h).1) all (λ t h. (gone_here t h).0) in omega (arith, same, apart, room)
 
   -- a set whose members were all here leaves a sound state
-  pub sound_away : (spare left : ℕ) → IsSound l spare → ((t : TxId) → tx_in t set ≡ true → is_here l t ≡ true) → spare ≤ left + 2 * updates_by (in_set set) l.log → IsSound (take_away set tx l) left
+  pub sound_away : (spare left : ℕ) → IsSound l spare → ((t : TxId) → tx_in t set ≡ true → is_here l t ≡ true) → spare ≤ left + owed_by (in_set set) l.log → IsSound (take_away set tx l) left
   sound_away spare left sound all room = record {
     successors = all_filter (λ p. is_here l p.0 ≡ true) (λ p. is_here (take_away set tx l) p.0 ≡ true) (λ p. not (tx_in p.0 set)) l.pairs (λ p h e. still_here p.0 (not_false _ e) h) sound.successors;
     writes =
@@ -230,7 +231,7 @@ pub sound_parts : (l : Local) (parts : Table Held) (spare : ℕ) → ((t : TxId)
 sound_parts l parts spare same sound = record {
   successors = pairs_again l.pairs sound.successors;
   writes = all_mono (IsHeld l) (IsHeld (record l { parts = parts })) (λ w h here. h (sym (same w.tx) ∙ here)) (standing l.log) sound.writes;
-  room = let a = count_updates_fewer (is_here (record l { parts = parts })) (is_here l) l.log (λ t h. sym (same t) ∙ h) in omega (arith, a, sound.room);
+  room = let a = count_owed_fewer (is_here (record l { parts = parts })) (is_here l) l.log (λ t h. sym (same t) ∙ h) in omega (arith, a, sound.room);
 }
   where
     pairs_again : (ps : List (TxId × TxId)) → AllByRecursion (λ p. is_here l p.0 ≡ true) ps → AllByRecursion (λ p. is_here (record l { parts = parts }) p.0 ≡ true) ps
@@ -267,10 +268,10 @@ each_here l spare sound tx here t i = one_passes (is_here l) t (doomed_by l tx) 
 
 -- of a state the parts and the log alone count
 pub spare_like : (s t : TxState) (m : Local) → (t.local).parts ≡ m.parts → (t.local).log ≡ m.log
-    → s.room + 2 * updates_by (is_here m) m.log ≤ t.room + 2 * updates_by (is_here s.local) (s.local).log → KeepsSpare s t
+    → s.room + owed_by (is_here m) m.log ≤ t.room + owed_by (is_here s.local) (s.local).log → KeepsSpare s t
 spare_like s t m parts log h =
-    subst (λ (ps : Table Held). s.room + 2 * updates_by (is_here (record m { parts = ps })) (t.local).log ≤ t.room + 2 * updates_by (is_here s.local) (s.local).log) (sym parts)
-    (subst (λ (lg : List LogRecord). s.room + 2 * updates_by (is_here m) lg ≤ t.room + 2 * updates_by (is_here s.local) (s.local).log) (sym log) h)
+    subst (λ (ps : Table Held). s.room + owed_by (is_here (record m { parts = ps })) (t.local).log ≤ t.room + owed_by (is_here s.local) (s.local).log) (sym parts)
+    (subst (λ (lg : List LogRecord). s.room + owed_by (is_here m) lg ≤ t.room + owed_by (is_here s.local) (s.local).log) (sym log) h)
 
 pub spare_through : (s m t : TxState) → KeepsSpare s m → KeepsSpare m t → KeepsSpare s t
 spare_through s m t a b = omega (arith, a, b)
@@ -278,5 +279,5 @@ spare_through s m t a b = omega (arith, a, b)
 -- a mark changes no stage
 pub spare_marked : (s t : TxState) (tx : TxId) → (t.local).parts ≡ marked_in tx (s.local).parts → (t.local).log ≡ (s.local).log → s.room ≤ t.room → KeepsSpare s t
 spare_marked s t tx parts log more =
-    let a = count_updates_fewer (is_here (mark_dropped tx s.local)) (is_here s.local) (s.local).log (λ u h. sym (ap is_present (stage_marked tx u (s.local).parts)) ∙ h) in
+    let a = count_owed_fewer (is_here (mark_dropped tx s.local)) (is_here s.local) (s.local).log (λ u h. sym (ap is_present (stage_marked tx u (s.local).parts)) ∙ h) in
     spare_like s t (mark_dropped tx s.local) parts log (omega (arith, a, more))

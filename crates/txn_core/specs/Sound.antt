@@ -1,5 +1,5 @@
 -- What holds of a shard's transactions, whatever was done: what a part did can be taken away.
-use Rattle.std.specs.Prelude.{◌≡◌, ℕ, ◌+◌, ◌*◌, ◌≤◌, ◌⊎◌, min, Bool, true, false, not, ◌&&◌, List, length, Option, Some, None}
+use Rattle.std.specs.Prelude.{◌≡◌, ℕ, ◌+◌, ◌≤◌, ◌⊎◌, min, Bool, true, false, cond, not, ◌&&◌, List, [], ◌∷◌, length, Option, Some, None}
 use Rattle.std.specs.List.{AllByRecursion, filter, list_any}
 use Rattle.clv_base.specs.declared.names.TxId.{TxId}
 use Rattle.clv_base.specs.declared.logs.LogRecord.{LogRecord}
@@ -10,7 +10,7 @@ use Rattle.clv_base.specs.declared.state.Stage.{Stage}
 use Rattle.clv_base.specs.declared.state.Stage.TheVariants.{Active, Closed, Gone}
 use Rattle.clv_base.specs.declared.state.Held.{Held}
 use Rattle.clv_base.specs.Orders.{Table, tx_same, tx_get, anchor_same}
-use Rattle.clv_base.specs.Logs.{StandingUpdate, standing, committed_in}
+use Rattle.clv_base.specs.Logs.{StandingUpdate, standing, wrote_in, committed_in}
 use Rattle.clv_base.specs.Facts.{predecessors_of}
 use Rattle.clv_base.specs.Locks.{Locks}
 use Rattle.clv_base.specs.Needs.{found_at, is_there}
@@ -46,12 +46,31 @@ is_update_by test _ = false
 abbrev pub updates_by : (TxId → Bool) → List LogRecord → ℕ
 updates_by test log = length (filter (is_update_by test) log)
 
+-- the transactions that have an UPDATE in the log, each once
+abbrev pub writers : List LogRecord → List TxId
+writers [] = []
+writers (Update tx key before after ∷ rs) = cond (wrote_in rs tx) (writers rs) (tx ∷ writers rs)
+writers (_ ∷ rs) = writers rs
+
+-- how many such transactions have an UPDATE in the log
+abbrev pub writers_by : (TxId → Bool) → List LogRecord → ℕ
+writers_by test log = length (filter test (writers log))
+
+-- how many records the undo of such transactions may write: a CLR for each of their UPDATEs, and an ABORT for each that wrote
+abbrev pub owed_by : (TxId → Bool) → List LogRecord → ℕ
+owed_by test log = updates_by test log + writers_by test log
+
+-- how many more that are after one more write: a CLR, and an ABORT unless its transaction wrote before
+abbrev pub owed_more : Bool → Option Write → ℕ
+owed_more wrote None = 0
+owed_more wrote (Some w) = cond wrote 1 2
+
 pub record IsSound (l : Local) (spare : ℕ) : Type 0 where
   -- each that depends on another has its part here
   pub successors : AllByRecursion (λ p. is_here l p.0 ≡ true) l.pairs
   pub writes : AllByRecursion (IsHeld l) (standing l.log)
-  -- so much room is in the log: for an ABORT and a CLR for each UPDATE of a part that is here
-  pub room : 2 * updates_by (is_here l) l.log ≤ spare
+  -- so much room is in the log: for a CLR for each UPDATE of a part that is here, and an ABORT for each that wrote
+  pub room : owed_by (is_here l) l.log ≤ spare
 
 -- no transaction has more than 1,024 predecessors without a COMMIT
 abbrev pub FewUndecided : List LogRecord → List (TxId × TxId) → Type 0
@@ -64,22 +83,23 @@ pub record IsKept (commits : Table ℕ) (l : Local) (spare : ℕ) : Type 0 where
   pub ghosts : GhostsAreLocked l.locks l.records
   pub few : FewUndecided l.log l.pairs
 
--- room beyond an ABORT and a CLR for each UPDATE of a part that is here never shrinks: what was reserved for more stays reserved. The other way
--- round it never grows: what was reserved for an undo that isn't wanted any more is given back
+-- room beyond a CLR for each UPDATE of a part that is here, and an ABORT for each that wrote, never shrinks: what was reserved for more stays
+-- reserved. The other way round it never grows: what was reserved for an undo that isn't wanted any more is given back
 abbrev pub KeepsSpare : TxState → TxState → Type 0
-KeepsSpare s t = s.room + 2 * updates_by (is_here t.local) (t.local).log ≤ t.room + 2 * updates_by (is_here s.local) (s.local).log
+KeepsSpare s t = s.room + owed_by (is_here t.local) (t.local).log ≤ t.room + owed_by (is_here s.local) (s.local).log
 
--- room for so many records beyond an ABORT and a CLR for each UPDATE of a part that is here
+-- room for so many records beyond a CLR for each UPDATE of a part that is here, and an ABORT for each that wrote
 abbrev pub HasSpare : ℕ → TxState → Type 0
-HasSpare n s = n + 2 * updates_by (is_here s.local) (s.local).log ≤ s.room
+HasSpare n s = n + owed_by (is_here s.local) (s.local).log ≤ s.room
 
 -- the same, but for so many records that were written of what was reserved
 abbrev pub SpendsSpare : ℕ → TxState → TxState → Type 0
-SpendsSpare n s t = s.room + 2 * updates_by (is_here t.local) (t.local).log ≤ n + t.room + 2 * updates_by (is_here s.local) (s.local).log
+SpendsSpare n s t = s.room + owed_by (is_here t.local) (t.local).log ≤ n + t.room + owed_by (is_here s.local) (s.local).log
 
--- without the room that is beyond so many records, beside an ABORT and a CLR for each UPDATE of a part that is here, and beyond so many pairs
+-- without the room that is beyond so many records, beside a CLR for each UPDATE of a part that is here and an ABORT for each that wrote, and
+-- beyond so many pairs
 abbrev pub trimmed : ℕ → TxState → TxState
-trimmed n s = record s { room = min s.room (n + 2 * updates_by (is_here s.local) (s.local).log); pairs_room = min s.pairs_room n }
+trimmed n s = record s { room = min s.room (n + owed_by (is_here s.local) (s.local).log); pairs_room = min s.pairs_room n }
 
 -- whether a part may have operations: it is not known, or active
 abbrev pub may_work : Option Stage → Bool

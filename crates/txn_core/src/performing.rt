@@ -1,5 +1,5 @@
 //! Doing what is granted.
-ghost use Rattle.std.specs.Prelude.{◌≡◌, true, ◌≤◌, ◌+◌, ◌*◌, ◌&&◌, length, is_none, OnOk, OnErr};
+ghost use Rattle.std.specs.Prelude.{◌≡◌, true, ◌≤◌, ◌+◌, ◌&&◌, length, is_none, OnOk, OnErr};
 ghost use Rattle.clv_base.specs.declared.names.TxId.{TxId as Tx};
 ghost use Rattle.clv_base.specs.Orders.{tx_get};
 ghost use Rattle.op_effects.specs.Effects.{record_count, CanWrite, performed_by};
@@ -7,7 +7,7 @@ ghost use Rattle.txn_core.specs.State.{IsSameBut};
 ghost use Rattle.clv_base.specs.Logs.{wrote_in};
 ghost use Rattle.clv_base.specs.Undo.{stage_of as stage_in};
 ghost use Rattle.clv_base.specs.OneShard.{undecided_with};
-ghost use Rattle.txn_core.specs.Sound.{may_work, IsCovered, KeepsSpare};
+ghost use Rattle.txn_core.specs.Sound.{may_work, owed_more, IsCovered, KeepsSpare};
 
 use crate::shard::ShardTx;
 use clv_base::logs::LogRecord;
@@ -30,16 +30,21 @@ fn was_before(parts: &PartTable, buffer: &LogBuffer<LogRecord>, tx: TxId) -> boo
     parts.get(tx).is_none() && buffer.wrote(tx)
 }
 
-/// Makes room for an UPDATE, and for the CLR and the ABORT that it may want.
-fn reserve_log(buffer: &mut LogBuffer<LogRecord>, write: Option<Write>) -> Result<(), Memory>
-    ensures ok { OnOk result (buffer.old.room + 3 * record_count write ≤ buffer.new.room) }
+/// Makes room for an UPDATE and the CLR that it may want, and for an ABORT where it is the first of the transaction.
+fn reserve_log(
+    buffer: &mut LogBuffer<LogRecord>,
+    tx: TxId,
+    write: Option<Write>,
+) -> Result<(), Memory>
+    ensures ok { OnOk result (buffer.old.room + record_count write + owed_more (wrote_in buffer.old.records tx) write ≤ buffer.new.room) }
     ensures room { buffer.old.room ≤ buffer.new.room }
     ensures same { buffer.new ≡ record buffer.old { room = buffer.new.room } }
 {
     if write.is_none() {
         return Ok(());
     }
-    let Some(count) = buffer.room().checked_add(3) else {
+    let places = if buffer.wrote(tx) { 2 } else { 3 };
+    let Some(count) = buffer.room().checked_add(places) else {
         return Err(Memory);
     };
     match buffer.reserve(count) {
@@ -111,7 +116,7 @@ impl<S: Store + Drop, L: Locks + Drop> ShardTx<S, L> {
             Ok(()) => {}
             Err(memory) => return Err(memory),
         }
-        match reserve_log(&mut self.buffer, plan.write) {
+        match reserve_log(&mut self.buffer, tx, plan.write) {
             Ok(()) => {}
             Err(memory) => return Err(memory),
         }

@@ -1,8 +1,8 @@
 //! Giving back the room that nothing open wants.
-ghost use Rattle.std.specs.Prelude.{◌≡◌, ◌+◌, ◌*◌, ◌≤◌, [], ◌∷◌, cond, OnOk, OnErr};
+ghost use Rattle.std.specs.Prelude.{◌≡◌, ◌+◌, ◌≤◌, [], ◌∷◌, cond, OnOk, OnErr};
 ghost use Rattle.std.specs.List.Sorted.{IsStrictlySortedBy};
 ghost use Rattle.clv_base.specs.Orders.{tx_cmp, tx_in};
-ghost use Rattle.txn_core.specs.Sound.{is_in, trimmed, updates_by};
+ghost use Rattle.txn_core.specs.Sound.{is_in, owed_by, trimmed};
 
 use crate::aborting::is_here;
 use crate::shard::ShardTx;
@@ -14,15 +14,17 @@ use ordered_store::Store;
 use part_table::PartTable;
 use std::alloc::Global;
 
-/// How many UPDATEs of these transactions, each of which is named once, the log has.
-fn updates_of(buffer: &LogBuffer<LogRecord>, txs: &[TxId]) -> usize
-    requires { IsStrictlySortedBy tx_cmp txs.now }
-    ensures { result ≡ updates_by (λ t. tx_in t txs.now) buffer.now.records }
+/// How many records the undo of these transactions, each of which is named once, may write: a CLR for each of their UPDATEs, and an ABORT for
+/// each that wrote.
+fn owed_to(buffer: &LogBuffer<LogRecord>, txs: &[TxId]) -> usize
+    requires rising { IsStrictlySortedBy tx_cmp txs.now }
+    requires room { owed_by (λ t. tx_in t txs.now) buffer.now.records ≤ buffer.now.room }
+    ensures { result ≡ owed_by (λ t. tx_in t txs.now) buffer.now.records }
 {
-    let _no_more_than_all = buffer.end();
+    let _no_more_than_reserved = buffer.room();
     let mut count = 0;
     for tx in txs {
-        count += buffer.updates(*tx);
+        count += buffer.updates(*tx) + usize::from(buffer.wrote(*tx));
     }
     count
 }
@@ -30,17 +32,17 @@ fn updates_of(buffer: &LogBuffer<LogRecord>, txs: &[TxId]) -> usize
 /// The room that isn't for the undo of these.
 pub(crate) fn room_beyond(buffer: &LogBuffer<LogRecord>, txs: &[TxId]) -> usize
     requires rising { IsStrictlySortedBy tx_cmp txs.now }
-    requires room { 2 * updates_by (λ t. tx_in t txs.now) buffer.now.records ≤ buffer.now.room }
-    ensures { result + 2 * updates_by (λ t. tx_in t txs.now) buffer.now.records ≡ buffer.now.room }
+    requires room { owed_by (λ t. tx_in t txs.now) buffer.now.records ≤ buffer.now.room }
+    ensures { result + owed_by (λ t. tx_in t txs.now) buffer.now.records ≡ buffer.now.room }
 {
     let room = buffer.room();
-    room - 2 * updates_of(buffer, txs)
+    room - owed_to(buffer, txs)
 }
 
 /// The room that isn't for the undo of the transaction's part, where it is here.
 pub(crate) fn room_without(buffer: &LogBuffer<LogRecord>, parts: &PartTable, tx: TxId) -> usize
-    requires { 2 * updates_by (is_in parts.now.entries) buffer.now.records ≤ buffer.now.room }
-    ensures { result + 2 * cond (is_in parts.now.entries tx) (updates_by (λ t. tx_in t (tx ∷ [])) buffer.now.records) 0 ≡ buffer.now.room }
+    requires { owed_by (is_in parts.now.entries) buffer.now.records ≤ buffer.now.room }
+    ensures { result + cond (is_in parts.now.entries tx) (owed_by (λ t. tx_in t (tx ∷ [])) buffer.now.records) 0 ≡ buffer.now.room }
 {
     if is_here(parts, tx) {
         room_beyond(buffer, &[tx])
@@ -50,8 +52,8 @@ pub(crate) fn room_without(buffer: &LogBuffer<LogRecord>, parts: &PartTable, tx:
 }
 
 impl<S: Store + Drop, L: Locks + Drop> ShardTx<S, L> {
-    /// Gives back the room that is beyond so many records, beside an ABORT and a CLR for each UPDATE of a part that is here, and beyond so many
-    /// pairs and settled transactions. It costs what is here. Where there is no memory to list that, all is as before.
+    /// Gives back the room that is beyond so many records, beside a CLR for each UPDATE of a part that is here and an ABORT for each that wrote,
+    /// and beyond so many pairs and settled transactions. It costs what is here. Where there is no memory to list that, all is as before.
     pub fn trim(&mut self, alloc: Global, count: usize) -> Result<(), Memory>
         ensures ok { OnOk result (self.new ≡ trimmed count self.old) }
         ensures err { OnErr result (self.new ≡ self.old) }
@@ -62,7 +64,7 @@ impl<S: Store + Drop, L: Locks + Drop> ShardTx<S, L> {
             Err(memory) => return Err(memory),
         };
         let room = self.buffer.room();
-        let undo = 2 * updates_of(&self.buffer, &here);
+        let undo = owed_to(&self.buffer, &here);
         let spare = room - undo;
         self.buffer.trim(undo + spare.min(count));
         self.deps.trim(count);

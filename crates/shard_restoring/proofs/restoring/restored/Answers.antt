@@ -19,7 +19,7 @@ pub parts_of-requires : goal.parts_of-requires
 parts_of-requires g c =
     let log = c.args.buffer.records in let shard = c.args.shard in
     let names : c.in-Ok.txs.items ≡ in_doubt shard log = c.in-Ok.ensures ∙ ap (map (λ d. d.0)) c.requires.in_doubt ∙ firsts_are log (in_doubt shard log) in
-    record { rising = subst Rises (sym (c.deref-2.ensures.value ∙ names)) (doubt_rises shard log) }
+    record { rising = subst Rises (sym (c.deref-3.ensures.value ∙ names)) (doubt_rises shard log) }
 
 pub deps_of-requires : goal.deps_of-requires
 deps_of-requires g c =
@@ -33,8 +33,8 @@ new-requires g c =
     let kept : c.reserve_undo.new.buffer.records ≡ log = c.in-Ok-reserve_undo.ensures.records in
     let seen : c.records-log.result.now ≡ log = whole_range _ _ _ c.records-log.ensures c.end.ensures.end ∙ kept in
     let locks : g.L.Locks.rows c.in_ok-locks.locks ≡ restored_locks txs log [] =
-    c.in_ok-locks.ensures ∙ ap (λ (ts : List TxId). restored_locks ts c.records-log.result.now []) (c.deref-3.ensures.value ∙ names) ∙ ap (λ (rs : List LogRecord). restored_locks txs rs []) seen in
-    let parts : c.in-Ok-parts_of.parts.entries ≡ restored_parts txs = c.in-Ok-parts_of.ensures ∙ ap restored_parts (c.deref-2.ensures.value ∙ names) in
+    c.in_ok-locks.ensures ∙ ap (λ (ts : List TxId). restored_locks ts c.records-log.result.now []) (c.deref-4.ensures.value ∙ names) ∙ ap (λ (rs : List LogRecord). restored_locks txs rs []) seen in
+    let parts : c.in-Ok-parts_of.parts.entries ≡ restored_parts txs = c.in-Ok-parts_of.ensures ∙ ap restored_parts (c.deref-3.ensures.value ∙ names) in
     let pairs = c.in-Ok-deps_of.ensures.pairs ∙ c.requires.pairs in
     let same : (t : TxId) → tx_in t c.in-Ok-of.doubtful ≡ tx_in t txs = λ t. c.in-Ok-of.ensures t ∙ ap (tx_in t) (c.deref.ensures.value ∙ names) in
     let settled = subst (AreSettled c.in-Ok-deps_of.deps.commits) seen c.in-Ok-deps_of.ensures.settled in
@@ -49,7 +49,7 @@ returns-clause-local g c =
     let kept : c.reserve_undo.new.buffer.records ≡ log = c.in-Ok-reserve_undo.ensures.records in
     let seen : c.records-log.result.now ≡ log = whole_range _ _ _ c.records-log.ensures c.end.ensures.end ∙ kept in
     let locks : g.L.Locks.rows c.in_ok-locks.locks ≡ restored_locks txs log [] =
-    c.in_ok-locks.ensures ∙ ap (λ (ts : List TxId). restored_locks ts c.records-log.result.now []) (c.deref-3.ensures.value ∙ names) ∙ ap (λ (rs : List LogRecord). restored_locks txs rs []) seen in
-    let parts : c.in-Ok-parts_of.parts.entries ≡ restored_parts txs = c.in-Ok-parts_of.ensures ∙ ap restored_parts (c.deref-2.ensures.value ∙ names) in
+    c.in_ok-locks.ensures ∙ ap (λ (ts : List TxId). restored_locks ts c.records-log.result.now []) (c.deref-4.ensures.value ∙ names) ∙ ap (λ (rs : List LogRecord). restored_locks txs rs []) seen in
+    let parts : c.in-Ok-parts_of.parts.entries ≡ restored_parts txs = c.in-Ok-parts_of.ensures ∙ ap restored_parts (c.deref-3.ensures.value ∙ names) in
     c.new.ensures.local
     ∙ local_is shard c.args.epoch log (g.S.Store.records c.args.store) (g.L.Locks.rows c.in_ok-locks.locks) c.in-Ok-parts_of.parts.entries c.in-Ok-deps_of.deps.pairs c.reserve_undo.new.buffer.records c.requires.records locks parts (c.in-Ok-deps_of.ensures.pairs ∙ c.requires.pairs) kept

@@ -1,4 +1,4 @@
-use Rattle.std.proofs.Common.{ap, sym, ◌∙◌, arith}
+use Rattle.std.proofs.Common.{sym, ◌∙◌, arith}
 use Rattle.txn_core.proofs.Returning.{one_rises, own_fits}
 use Rattle.txn_core.proofs.trimming.room_without.Goals as goal
 

@@ -1,5 +1,5 @@
 -- What the doomed that are here did can be taken away; the records of an undo hold no COMMIT, and the others keep what they have.
-use Rattle.std.proofs.Common.{◌≡◌, ◌+◌, ◌*◌, ◌≤◌, List, length, sym, ap, subst, ◌∙◌, refl, arith, Some}
+use Rattle.std.proofs.Common.{◌≡◌, ◌+◌, ◌≤◌, List, length, sym, ap, subst, ◌∙◌, refl, arith, Some}
 use Rattle.std.proofs.Math.Nat.{min-eq_right}
 use Rattle.clv_base.specs.declared.names.TxId.{TxId}
 use Rattle.clv_base.specs.declared.logs.LogRecord.{LogRecord}
@@ -13,12 +13,13 @@ use Rattle.clv_base.specs.Undo.{doomed_here, take_away, roll_back, records_witho
 use Rattle.cascade_undo.specs.Writes.{writes_of, HaveRecords}
 use Rattle.log_buffer.specs.Buffers.{Buffer}
 use Rattle.txn_core.specs.State.{TxState}
-use Rattle.txn_core.specs.Sound.{is_here, updates_by, KeepsSpare}
+use Rattle.txn_core.specs.Sound.{is_here, owed_by, KeepsSpare}
 use Rattle.txn_core.proofs.Settled.{commit_lsn-undone}
 use Rattle.txn_core.proofs.Undoing.{undoable_here, each_doomed_here, doomed_here_rise, marked_is_doomed, sound_away, spare_away, spare_like, sound_more, local_same, state_same}
 use Rattle.lock_release.proofs.Laws.{purged_are_locked}
 use Rattle.txn_core.proofs.Locked.{undone_ghosts_are_locked, sound_purged, ghosts_same}
-use Rattle.txn_core.proofs.Owing.{in_set, count_updates_fewer, undo_at_most}
+use Rattle.txn_core.proofs.Counting.{in_set}
+use Rattle.txn_core.proofs.Owing.{count_owed_fewer, undo_at_most}
 use Rattle.txn_core.proofs.Returning.{Kept, spare_back, back_like}
 use Rattle.txn_core.proofs.Crowds.{few_same, few_undone, few_without}
 use Rattle.txn_core.proofs.shard.ShardTx.abort.Goals as goal
@@ -29,8 +30,8 @@ room_beyond-kept-requires-clause-room g c =
     let s = c.self.inside in let tx = c.args.tx in let sound = c.self.invariant.sound in
     let l : Local = record { records = g.S.Store.records s.store; locks = g.L.Locks.rows s.locks; parts = s.parts.entries; pairs = s.deps.pairs; log = s.buffer.records; epoch = s.epoch } in
     let set = doomed_here l tx in let marked : c.mark_doomed.new.deps.marked ≡ set = c.mark_doomed.ensures.marked ∙ marked_is_doomed l s.buffer.room sound tx in
-    let fits = count_updates_fewer (in_set set) (is_here l) l.log (each_doomed_here l tx) in
-    subst (λ (m : List TxId). 2 * updates_by (in_set m) l.log ≤ s.buffer.room) (sym (c.marks.ensures.marked ∙ marked)) (omega (arith, fits, sound.room))
+    let fits = count_owed_fewer (in_set set) (is_here l) l.log (each_doomed_here l tx) in
+    subst (λ (m : List TxId). owed_by (in_set m) l.log ≤ s.buffer.room) (sym (c.marks.ensures.marked ∙ marked)) (omega (arith, fits, sound.room))
 
 pub roll_back-requires : goal.roll_back-requires
 roll_back-requires g c =
@@ -60,7 +61,7 @@ invariant_of-self g c =
     let most = undo_at_most set l.log (doomed_here_rise l tx) in
     let spent = subst (λ (m : List TxId). s.buffer.room ≤ c.roll_back.new.buffer.room + (length (aborts_of l.log m) + length (writes_of m (standing l.log)))) marked c.roll_back.ensures.room in
     let kept = c.room_beyond-kept.result in
-    let told = subst (λ (m : List TxId). kept + 2 * updates_by (in_set m) l.log ≡ s.buffer.room) (c.marks.ensures.marked ∙ marked) c.room_beyond-kept.ensures in
+    let told = subst (λ (m : List TxId). kept + owed_by (in_set m) l.log ≡ s.buffer.room) (c.marks.ensures.marked ∙ marked) c.room_beyond-kept.ensures in
     let back : c.trim.new.self ≡ record c.roll_back.new.buffer { room = kept } = c.trim.ensures ∙ ap (λ n. record c.roll_back.new.buffer { room = n }) (min-eq_right (omega (arith, told, most, spent))) in
     let left = sound_away set tx l s.buffer.room kept sound (each_doomed_here l tx) (omega (arith, told)) in
     let undone = c.roll_back.ensures.records ∙ ap (λ (m : List TxId). records_without m (standing l.log) l.records) marked in
@@ -94,7 +95,7 @@ returns-clause-without g c =
     let most = undo_at_most set l.log (doomed_here_rise l tx) in
     let spent = subst (λ (m : List TxId). s.buffer.room ≤ now.room + (length (aborts_of l.log m) + length (writes_of m (standing l.log)))) marked c.roll_back.ensures.room in
     let kept = c.room_beyond-kept.result in
-    let told = subst (λ (m : List TxId). kept + 2 * updates_by (in_set m) l.log ≡ s.buffer.room) (c.marks.ensures.marked ∙ marked) c.room_beyond-kept.ensures in
+    let told = subst (λ (m : List TxId). kept + owed_by (in_set m) l.log ≡ s.buffer.room) (c.marks.ensures.marked ∙ marked) c.room_beyond-kept.ensures in
     let back : c.trim.new.self ≡ record c.roll_back.new.buffer { room = kept } = c.trim.ensures ∙ ap (λ n. record c.roll_back.new.buffer { room = n }) (min-eq_right (omega (arith, told, most, spent))) in
     let undone = c.roll_back.ensures.records ∙ ap (λ (m : List TxId). records_without m (standing l.log) l.records) marked in
     let locks = c.release_all.ensures.rows ∙ ap (λ (m : List TxId). release m l.locks) (c.marks-2.ensures.marked ∙ marked) in
@@ -121,7 +122,7 @@ returns-clause-room g c =
     let most = undo_at_most set l.log (doomed_here_rise l tx) in
     let spent = subst (λ (m : List TxId). s.buffer.room ≤ now.room + (length (aborts_of l.log m) + length (writes_of m (standing l.log)))) marked c.roll_back.ensures.room in
     let kept = c.room_beyond-kept.result in
-    let told = subst (λ (m : List TxId). kept + 2 * updates_by (in_set m) l.log ≡ s.buffer.room) (c.marks.ensures.marked ∙ marked) c.room_beyond-kept.ensures in
+    let told = subst (λ (m : List TxId). kept + owed_by (in_set m) l.log ≡ s.buffer.room) (c.marks.ensures.marked ∙ marked) c.room_beyond-kept.ensures in
     let back : c.trim.new.self ≡ record c.roll_back.new.buffer { room = kept } = c.trim.ensures ∙ ap (λ n. record c.roll_back.new.buffer { room = n }) (min-eq_right (omega (arith, told, most, spent))) in
     let spare = spare_away set tx l s.buffer.room kept (each_doomed_here l tx) (omega (arith, told)) in
     let parts = c.end_parts.ensures ∙ ap (λ (m : List TxId). gone_in m (Some tx) l.parts) (c.marks-3.ensures.marked ∙ marked) in
@@ -140,7 +141,7 @@ returns-clause-given_back g c =
     let most = undo_at_most set l.log (doomed_here_rise l tx) in
     let spent = subst (λ (m : List TxId). s.buffer.room ≤ now.room + (length (aborts_of l.log m) + length (writes_of m (standing l.log)))) marked c.roll_back.ensures.room in
     let kept = c.room_beyond-kept.result in
-    let told = subst (λ (m : List TxId). kept + 2 * updates_by (in_set m) l.log ≡ s.buffer.room) (c.marks.ensures.marked ∙ marked) c.room_beyond-kept.ensures in
+    let told = subst (λ (m : List TxId). kept + owed_by (in_set m) l.log ≡ s.buffer.room) (c.marks.ensures.marked ∙ marked) c.room_beyond-kept.ensures in
     let back : c.trim.new.self ≡ record c.roll_back.new.buffer { room = kept } = c.trim.ensures ∙ ap (λ n. record c.roll_back.new.buffer { room = n }) (min-eq_right (omega (arith, told, most, spent))) in
     let spare = spare_back set tx l s.buffer.room kept (omega (arith, told)) in
     let parts = c.end_parts.ensures ∙ ap (λ (m : List TxId). gone_in m (Some tx) l.parts) (c.marks-3.ensures.marked ∙ marked) in

@@ -1,16 +1,16 @@
 -- The log has an UPDATE more, so what is settled stays so; what was done is locked, so all can still be taken away; and its undo has room of its own.
-use Rattle.std.proofs.Common.{◌≡◌, ◌+◌, ◌*◌, ◌≤◌, true, length, sym, ap, subst, ◌∙◌, arith}
+use Rattle.std.proofs.Common.{◌≡◌, ◌+◌, ◌≤◌, true, length, sym, ap, subst, ◌∙◌, arith}
 use Rattle.clv_base.specs.Orders.{tx_get}
-use Rattle.clv_base.specs.Logs.{commit_lsn}
+use Rattle.clv_base.specs.Logs.{commit_lsn, wrote_in}
 use Rattle.clv_base.specs.State.{Local}
 use Rattle.clv_base.specs.Undo.{stage_of}
 use Rattle.clv_base.specs.OneShard.{add_pairs, undecided_with}
 use Rattle.op_effects.specs.Effects.{performed_by, locks_after, records_after, log_after, record_count}
 use Rattle.txn_core.specs.State.{TxState}
-use Rattle.txn_core.specs.Sound.{may_work, KeepsSpare}
+use Rattle.txn_core.specs.Sound.{may_work, owed_more, KeepsSpare}
 use Rattle.txn_core.proofs.Settled.{commit_lsn-log_after}
 use Rattle.txn_core.proofs.Undoing.{sound_more, local_same, spare_like}
-use Rattle.txn_core.proofs.Doing.{sound_performed, spare_performed, known_from, length-log_after}
+use Rattle.txn_core.proofs.Doing.{sound_performed, spare_performed, known_from}
 use Rattle.txn_core.proofs.Locked.{granted_ghosts_are_locked, ghosts_same}
 use Rattle.txn_core.proofs.Crowds.{few_same, few_written, few_add}
 use Rattle.txn_core.proofs.shard.ShardTx.perform.Goals as goal
@@ -22,9 +22,8 @@ invariant_of-self-2 g c =
     let write = plan.write in let needs = plan.needs.items in let left = c.write_down.new.buffer.room in
     let work : may_work (stage_of l tx) ≡ true = subst (λ (v : TxState). may_work (stage_of v.local tx) ≡ true) (sym c.self.view_is) c.requires.work in
     let known = known_from l tx work (sym c.was_before.ensures ∙ c.if-was_before.false) in
-    let grown = length-log_after tx write l.log in
-    let reserved : s.buffer.room + 3 * record_count write ≤ c.reserve_log.new.buffer.room = c.in-Ok-reserve_log.ensures.ok in
-    let after = sound_performed tx birth needs plan.insert write c.args.violated.now l s.buffer.room left c.self.invariant.sound work known c.requires.covered (omega (arith, grown, reserved, c.write_down.ensures.room)) in
+    let reserved : s.buffer.room + record_count write + owed_more (wrote_in s.buffer.records tx) write ≤ c.reserve_log.new.buffer.room = c.in-Ok-reserve_log.ensures.ok in
+    let after = sound_performed tx birth needs plan.insert write c.args.violated.now l s.buffer.room left c.self.invariant.sound work known c.requires.covered (omega (arith, reserved, c.write_down.ensures.room)) in
     let records = c.write_down.ensures.records ∙ ap (records_after write) c.reserve_rest.ensures.records in
     let locks = c.take_locks.ensures ∙ ap (λ n. locks_after tx birth n plan.insert (g.L.Locks.rows c.reserve_locks.new.locks)) c.deref-2.ensures.value ∙ ap (locks_after tx birth needs plan.insert) c.reserve_locks.ensures.rows in
     let pairs = c.add_predecessors.ensures.pairs ∙ ap (add_pairs tx c.args.violated.now) c.reserve_rest.ensures.pairs in
@@ -49,9 +48,8 @@ returns-clause-room g c =
     let write = plan.write in let needs = plan.needs.items in let violated = c.args.violated.now in let now = c.write_down.new.buffer in
     let work : may_work (stage_of l tx) ≡ true = subst (λ (v : TxState). may_work (stage_of v.local tx) ≡ true) (sym c.self.view_is) c.requires.work in
     let known = known_from l tx work (sym c.was_before.ensures ∙ c.if-was_before.false) in
-    let grown = length-log_after tx write l.log in
-    let reserved : s.buffer.room + 3 * record_count write ≤ c.reserve_log.new.buffer.room = c.in-Ok-reserve_log.ensures.ok in
-    let spare = spare_performed tx birth needs plan.insert write violated l s.buffer.room now.room work known (omega (arith, grown, reserved, c.write_down.ensures.room)) in
+    let reserved : s.buffer.room + record_count write + owed_more (wrote_in s.buffer.records tx) write ≤ c.reserve_log.new.buffer.room = c.in-Ok-reserve_log.ensures.ok in
+    let spare = spare_performed tx birth needs plan.insert write violated l s.buffer.room now.room known (omega (arith, reserved, c.write_down.ensures.room)) in
     let log = c.write_down.ensures.log ∙ ap (λ b. log_after tx write b.records) c.reserve_log.ensures.same in
     let view : TxState = record { shard = s.shard; local = l; durable = s.buffer.durable; taken = s.buffer.taken; room = s.buffer.room; pairs_room = s.deps.room } in
     let m : Local = record { records = g.S.Store.records c.write_down.new.store; locks = g.L.Locks.rows c.take_locks.new.locks; parts = c.enter_part.new.parts.entries; pairs = c.add_predecessors.new.deps.pairs; log = now.records; epoch = s.epoch } in
