@@ -5,31 +5,35 @@ use Rattle.clv_base.specs.declared.names.TxId.{TxId}
 use Rattle.clv_base.specs.declared.logs.LogRecord.{LogRecord}
 use Rattle.clv_base.specs.declared.logs.LogRecord.TheVariants.{Clr}
 use Rattle.clv_base.specs.Orders.{tx_in}
-use Rattle.clv_base.specs.Logs.{StandingUpdate, standing}
+use Rattle.clv_base.specs.Logs.{StandingUpdate, standing, without_newest}
 use Rattle.clv_base.specs.Undo.{value_before, records_without, clrs_of, newest_lsn}
 use Rattle.clv_base.specs.Needs.{Records}
 use Rattle.log_buffer.specs.Buffers.{Buffer}
+use Rattle.cascade_undo.specs.declared.write.Write.{Write}
 use Rattle.cascade_undo.specs.Writes.{writes_of}
-use Rattle.cascade_undo.specs.Steps.{newest_in, Advances}
+use Rattle.cascade_undo.specs.Steps.{newest_in, IsNewestIn, Advances}
 use Rattle.cascade_undo.proofs.Bools.{both}
 use Rattle.cascade_undo.proofs.Splitting.{NoneOf, none_of, before_above}
+use Rattle.cascade_undo.proofs.Stepping.{log_step}
 
-pub one_longer : (log after : List LogRecord) (r : LogRecord) (room left : ℕ) → after ≡ log ++ r ∷ [] → room ≤ left + 1 → room + length log ≤ left + length after
+one_longer : (log after : List LogRecord) (r : LogRecord) (room left : ℕ) → after ≡ log ++ r ∷ [] → room ≤ left + 1 → room + length log ≤ left + length after
 one_longer log after r room left e less = let grown = ap length e ∙ length-append log (r ∷ []) in omega arith
 
 -- ---- at first
 
-pub advances_none : (set : List TxId) (b : Buffer LogRecord) (rs : Records) → Advances set b b rs rs
-advances_none set b rs = record { log = refl; records = refl; fronts = (refl, refl); room = omega arith }
+pub advances_none : (set : List TxId) (b : Buffer LogRecord) → Advances set b b
+advances_none set b = record { log = refl; fronts = (refl, refl); room = omega arith }
 
 -- ---- in between
 
-pub advances_more : (set : List TxId) (b c d : Buffer LogRecord) (ps qs rs : Records) → Advances set b c ps qs → Advances set c d qs rs → Advances set b d ps rs
-advances_more set b c d ps qs rs first next = record {
-  log = next.log ∙ first.log;
-  records = next.records ∙ first.records;
-  fronts = (next.fronts.0 ∙ first.fronts.0, next.fronts.1 ∙ first.fronts.1);
-  room = let f = first.room in let n = next.room in omega arith;
+-- by the CLR of the newest write
+pub advances_more : (set : List TxId) (b c d : Buffer LogRecord) (w : Write) → IsNewestIn set (standing c.records) w → Advances set b c
+    → d.records ≡ c.records ++ Clr w.tx (newest_lsn w.tx (without_newest w.tx (standing c.records))) w.key w.before ∷ []
+    → (d.durable ≡ c.durable) × (d.taken ≡ c.taken) → c.room ≤ d.room + 1 → Advances set b d
+advances_more set b c d w newest first grown fronts less = record {
+  log = log_step set c.records w newest d.records grown ∙ first.log;
+  fronts = (fronts.0 ∙ first.fronts.0, fronts.1 ∙ first.fronts.1);
+  room = let f = first.room in let n = one_longer c.records d.records _ c.room d.room grown less in omega arith;
 }
 
 -- ---- at last
@@ -51,15 +55,18 @@ length-clrs set (w ∷ ws) =
     both (λ b. length (cond b (Clr w.tx (newest_lsn w.tx ws) w.key w.before ∷ clrs_of set ws) (clrs_of set ws)) ≡ length (cond b (w ∷ writes_of set ws) (writes_of set ws))) (tx_in w.tx set)
     (λ _. let e = length-clrs set ws in omega arith) (λ _. length-clrs set ws)
 
-module _ (set : List TxId) (b c : Buffer LogRecord) (rs qs : Records) (all : Advances set b c rs qs) (done : newest_in set (standing c.records) ≡ None) where
+module _ (set : List TxId) (b c : Buffer LogRecord) (all : Advances set b c) (done : newest_in set (standing c.records) ≡ None) where
   nobody : NoneOf set (standing c.records)
   nobody = none_of set (standing c.records) done
 
   pub log_at_last : c.records ≡ b.records ++ clrs_of set (standing b.records)
   log_at_last = sym (append-nil c.records) ∙ ap (λ l. c.records ++ l) (sym (clrs_none set (standing c.records) nobody)) ∙ all.log
 
-  pub records_at_last : qs ≡ records_without set (standing b.records) rs
-  records_at_last = sym (records_none set (standing c.records) qs nobody) ∙ all.records
+  pub records_at_last : (rs qs : Records) → records_without set (standing c.records) qs ≡ records_without set (standing b.records) rs → qs ≡ records_without set (standing b.records) rs
+  records_at_last rs qs back = sym (records_none set (standing c.records) qs nobody) ∙ back
 
   pub length_at_last : length c.records ≡ length b.records + length (writes_of set (standing b.records))
   length_at_last = ap length log_at_last ∙ length-append b.records (clrs_of set (standing b.records)) ∙ ap (λ n. length b.records + n) (length-clrs set (standing b.records))
+
+  pub room_at_last : b.room ≤ c.room + length (writes_of set (standing b.records))
+  room_at_last = let grown = length_at_last in let room = all.room in omega arith

@@ -69,8 +69,9 @@ module _ (set : List TxId) (log : List LogRecord) (w : Write) (newest : IsNewest
           ap (λ v. (p.0, v) ∷ records_without set left (set_back w.key w.before ps)) (before_with_it set it parts.own parts.above parts.rest parts.others p.0 p.1)
           ∙ ap (λ l. (p.0, unwrap_or (value_before set p.0 (parts.above ++ it ∷ parts.rest)) p.1) ∷ l) (each ps)
 
-      pub records_step : records_without set (standing after) qs ≡ records_without set (standing log) rs
-      records_step = ap (λ l. records_without set l qs) stands ∙ ap (records_without set left) back ∙ each rs ∙ ap (λ l. records_without set l rs) (sym parts.is)
+      pub records_step : (end : Records) → records_without set (standing log) rs ≡ end → records_without set (standing after) qs ≡ end
+      records_step end so_far =
+          ap (λ l. records_without set l qs) stands ∙ ap (records_without set left) back ∙ each rs ∙ ap (λ l. records_without set l rs) (sym parts.is) ∙ so_far
 
       pub there_step : HaveRecords set (standing after) qs
       there_step =

@@ -5,8 +5,7 @@ use Rattle.clv_base.specs.declared.logs.LogRecord.{LogRecord}
 use Rattle.clv_base.specs.declared.logs.LogRecord.TheVariants.{Update}
 use Rattle.clv_base.specs.Orders.{tx_in}
 use Rattle.clv_base.specs.Logs.{StandingUpdate, standing}
-use Rattle.clv_base.specs.Undo.{records_without, clrs_of}
-use Rattle.clv_base.specs.Needs.{Records}
+use Rattle.clv_base.specs.Undo.{clrs_of}
 use Rattle.log_buffer.specs.Buffers.{Buffer}
 use Rattle.cascade_undo.specs.declared.write.Write.{Write}
 
@@ -33,9 +32,8 @@ abbrev pub IsNewestIn : List TxId → List StandingUpdate → Write → Type 0
 IsNewestIn set ws w =
     (after : Option ℕ) × (newest_in set ws ≡ Some (record { lsn = w.lsn; tx = w.tx; key = w.key; before = w.before; after = after }))
 
--- what is undone here is what was still to be undone there
-pub record Advances (set : List TxId) (b c : Buffer LogRecord) (rs qs : Records) : Type 0 where
+-- the CLRs appended here are those that were still to be appended there
+pub record Advances (set : List TxId) (b c : Buffer LogRecord) : Type 0 where
   pub log : c.records ++ clrs_of set (standing c.records) ≡ b.records ++ clrs_of set (standing b.records)
-  pub records : records_without set (standing c.records) qs ≡ records_without set (standing b.records) rs
   pub fronts : (c.durable ≡ b.durable) × (c.taken ≡ b.taken)
   pub room : b.room + length b.records ≤ c.room + length c.records

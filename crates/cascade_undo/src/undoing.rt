@@ -8,6 +8,7 @@ ghost use Rattle.clv_base.specs.Undo.{records_without, clrs_of, newest_lsn};
 ghost use Rattle.clv_base.specs.Needs.{found_at, is_there, record_set};
 ghost use Rattle.cascade_undo.specs.Writes.{writes_of, HaveRecords};
 
+use crate::compensating::append_clr;
 use crate::write::{Write, newest_write};
 use clv_base::logs::LogRecord;
 use clv_base::names::TxId;
@@ -38,14 +39,8 @@ fn undo_write<S: Store>(store: &mut S, buffer: &mut LogBuffer<LogRecord>, write:
     ensures room { buffer.old.room ≤ buffer.new.room + 1 }
     ensures store_room { S.room store.old ≤ S.room store.new }
 {
-    let undo_next = buffer.second_newest(write.tx);
     restore(store, write.key, write.before);
-    buffer.append_reserved(LogRecord::Clr {
-        tx: write.tx,
-        undo_next,
-        key: write.key,
-        after: write.before,
-    });
+    append_clr(buffer, write);
 }
 
 /// Takes back all writes of the transactions, which rise, that stand in the log: a CLR for each, from the greatest LSN down, which names

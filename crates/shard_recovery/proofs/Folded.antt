@@ -66,6 +66,20 @@ set_gone k v (r ∷ rs) = at (nat_cmp k r.0) refl (set_gone k v rs)
         ap (λ b. cond (not b) ((r.0, v) ∷ filter (is_other k) rs) (filter (is_other k) rs)) is ∙ sym (ap (λ b. cond (not b) (r ∷ filter (is_other k) rs) (filter (is_other k) rs)) is)
     at Greater e more = ap (λ l. cond (not (r.0 == k)) (r ∷ l) l) more
 
+-- ---- a record that is set twice
+
+self : (k : ℕ) → nat_cmp k k ≡ Equal
+self k = grind (arith, nat_tests)
+
+pub set_twice : (k : ℕ) (v w : Option ℕ) (rs : Records) → record_set k v (record_set k w rs) ≡ record_set k v rs
+set_twice k v w [] = ap (λ o. set_by o k v (k, w) []) (self k)
+set_twice k v w (r ∷ rs) = at (nat_cmp k r.0) refl (set_twice k v w rs)
+  where
+    at : (o : Ordering) → nat_cmp k r.0 ≡ o → record_set k v (record_set k w rs) ≡ record_set k v rs → record_set k v (set_by o k w r rs) ≡ set_by o k v r rs
+    at Less e more = ap (λ o. set_by o k v (k, w) (r ∷ rs)) (self k)
+    at Equal e more = ap (λ o. set_by o k v (r.0, w) rs) e
+    at Greater e more = ap (λ o. set_by o k v r (record_set k w rs)) e ∙ ap (λ l. r ∷ l) more
+
 -- ---- records of a map
 
 pub records_set : (k v : ℕ) (m : KeyMap) → record_set k (Some v) (records_of m) ≡ records_of (put nat_cmp k v m)

@@ -14,7 +14,7 @@ use Rattle.clv_base.proofs.SameNames.{or_left, or_right, tx_true, tx_self}
 use Rattle.law_base.proofs.Doubts.{Unlike, is_it, nobody, abort_unlike, clr_unlike, restart_unlike, doubts_more, winners_more}
 use Rattle.law_base.proofs.Sets.{in_filter}
 use Rattle.cascade_undo.proofs.Laws.{both}
-use Rattle.shard_recovery.specs.Redoing.{aborts, unaborted}
+use Rattle.shard_recovery.specs.Aborting.{aborts, unaborted}
 use Rattle.shard_recovery.specs.Winning.{records_after}
 use Rattle.shard_recovery.proofs.Folded.{fold_more, fold_alike}
 

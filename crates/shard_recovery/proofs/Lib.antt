@@ -1,4 +1,3 @@
-pub mod Redone
 pub mod Whole
 pub mod Folded
 pub mod Lasting

@@ -3,16 +3,16 @@ use Rattle.std.proofs.Common.{◌≡◌, ℕ, ◌≤◌, Bool, true, false, cond
 use Rattle.std.specs.List.{filter}
 use Rattle.clv_base.specs.declared.names.TxId.{TxId}
 use Rattle.clv_base.specs.declared.logs.LogRecord.{LogRecord}
-use Rattle.clv_base.specs.declared.logs.LogRecord.TheVariants.{Restart}
+use Rattle.clv_base.specs.declared.logs.LogRecord.TheVariants.{Abort, Restart}
 use Rattle.clv_base.specs.Orders.{Table}
 use Rattle.clv_base.specs.Logs.{StandingUpdate, standing, aborted_in}
 use Rattle.clv_base.specs.Undo.{clrs_of}
 use Rattle.clv_base.specs.Restarts.{losers, log_after_restart}
 use Rattle.log_facts.specs.declared.facts.TxFacts.{TxFacts}
 use Rattle.log_facts.specs.Facts.{Knows, known}
+use Rattle.law_base.proofs.Doubts.{standing_more}
 use Rattle.law_base.proofs.Sets.{filter_alike}
-use Rattle.shard_recovery.specs.Redoing.{unaborted, aborts}
-use Rattle.shard_recovery.proofs.Redone.{standing_aborts}
+use Rattle.shard_recovery.specs.Aborting.{unaborted, aborts}
 
 pub open_is : (m : Table TxFacts) (log : List LogRecord) (txs fresh : List TxId) → Knows m log → fresh ≡ filter (λ t. not (known m t).is_aborted) txs → fresh ≡ unaborted log txs
 open_is m log txs fresh knows e = e ∙ filter_alike (λ t. not (known m t).is_aborted) (λ t. not (aborted_in log t)) txs (λ t. ap (λ (f : TxFacts). not f.is_aborted) (knows t))
@@ -24,6 +24,11 @@ fewer f (t ∷ ts) = at (f t) (fewer f ts)
     at : (b : Bool) → length (filter f ts) ≤ length ts → length (cond b (t ∷ filter f ts) (filter f ts)) ≤ length (t ∷ ts)
     at true h = omega arith
     at false h = omega arith
+
+-- ABORTs leave what stands
+standing_aborts : (log : List LogRecord) (txs : List TxId) → standing (log ++ aborts txs) ≡ standing log
+standing_aborts log [] = ap standing (append-nil log)
+standing_aborts log (t ∷ ts) = ap standing (sym (append_assoc log (Abort t ∷ []) (aborts ts))) ∙ standing_aborts (log ++ Abort t ∷ []) ts ∙ standing_more log (Abort t)
 
 module _ (log mid : List LogRecord) (txs fresh : List TxId) (e : mid ≡ log ++ aborts fresh) where
   pub stands : standing mid ≡ standing log

@@ -1,2 +1,2 @@
-pub mod Redoing
+pub mod Aborting
 pub mod Winning

@@ -2,7 +2,7 @@
 ghost use Rattle.std.specs.Prelude.{◌≡◌, ◌≤◌, ◌+◌, ◌++◌, length, not, IfOk};
 ghost use Rattle.std.specs.List.{filter};
 ghost use Rattle.log_facts.specs.Facts.{known};
-ghost use Rattle.shard_recovery.specs.Redoing.{aborts};
+ghost use Rattle.shard_recovery.specs.Aborting.{aborts};
 
 use clv_base::logs::LogRecord;
 use clv_base::names::TxId;

@@ -1,21 +1,17 @@
 //! What a restart makes of a log.
-ghost use Rattle.std.specs.Prelude.{◌≡◌, ◌≤◌, ◌+◌, ℕ, [], length, IfOk};
+ghost use Rattle.std.specs.Prelude.{◌≡◌, ◌≤◌, ◌+◌, ℕ, length, IfOk};
 ghost use Rattle.std.specs.List.Sorted.{IsStrictlySortedBy};
 ghost use Rattle.clv_base.specs.Orders.{tx_cmp};
 ghost use Rattle.clv_base.specs.Logs.{standing};
-ghost use Rattle.clv_base.specs.Undo.{records_without};
 ghost use Rattle.clv_base.specs.Restarts.{losers as losers_of, log_after_restart};
 ghost use Rattle.cascade_undo.specs.Writes.{writes_of};
-ghost use Rattle.shard_recovery.specs.Redoing.{redo as redone};
 
 use crate::aborts::{append_aborts, unaborted};
-use crate::redo::redo;
-use cascade_undo::undo_writes;
+use cascade_undo::compensate;
 use clv_base::logs::LogRecord;
 use clv_base::names::TxId;
 use log_buffer::LogBuffer;
 use log_facts::LogFacts;
-use ordered_store::Store;
 use std::alloc::{AllocError, Global};
 
 /// How many UPDATEs these transactions have together. No more of their writes stand.
@@ -72,29 +68,24 @@ pub(crate) fn add_restart(
     Ok(buffer)
 }
 
-/// Does all of a log again in an empty store, undoes the losers, which rise, and gives the buffer of the log: the records found, which are
-/// durable, an ABORT for each loser that has none, the CLRs of their writes that stand, from the greatest LSN down, and the RESTART.
-/// The keys of losers whose writes were the first stay as ghosts. An `Err` leaves the store in the middle of it.
-pub(crate) fn rebuild<S: Store>(
+/// The buffer of a log after a restart that undoes the losers, which rise: the records found, which are durable, an ABORT for each loser
+/// that has none, the CLRs of their writes that stand, from the greatest LSN down, and the RESTART.
+pub(crate) fn rebuild(
     alloc: Global,
-    store: &mut S,
     records: Vec<LogRecord>,
     losers: &[TxId],
     run: u32,
     epoch: u64,
 ) -> Result<LogBuffer<LogRecord>, AllocError>
-    requires empty { S.records store.old ≡ [] }
     requires rising { IsStrictlySortedBy tx_cmp losers.now }
     ensures log { IfOk result (λ b. (shard : ℕ) → losers.now ≡ losers_of shard records.items → b.records ≡ log_after_restart shard records.items run epoch) }
     ensures fronts { IfOk result (λ b. (b.durable ≡ length records.items) × (b.taken ≡ length records.items)) }
-    ensures records { IfOk result (λ b. S.records store.new ≡ records_without losers.now (standing records.items) (redone records.items [])) }
 {
-    redo(store, &records)?;
     let facts = LogFacts::of_log(alloc, &records)?;
     let fresh = unaborted(alloc, &facts, losers)?;
     let mut buffer = buffer_of(alloc, records, losers)?;
     append_aborts(&mut buffer, &fresh);
-    undo_writes(store, &mut buffer, losers);
+    compensate(&mut buffer, losers);
     buffer.append_reserved(LogRecord::Restart { run, epoch });
     Ok(buffer)
 }

@@ -12,9 +12,8 @@ use clv_base::names::TxId;
 use log_buffer::LogBuffer;
 use ordered_store::Store;
 use std::alloc::{AllocError, Global};
-use store_blocks::BlockStore;
 
-/// The buffer of the log after a restart. Only to undo losers is the whole log done again, in a store of its own.
+/// The buffer of the log after a restart. Who has an ABORT is asked of the log only where somebody loses.
 fn rewrite(
     alloc: Global,
     records: Vec<LogRecord>,
@@ -29,17 +28,16 @@ fn rewrite(
     if losers.is_empty() {
         return add_restart(alloc, records, losers, run, epoch);
     }
-    let mut scratch = BlockStore::new(alloc)?;
-    rebuild(alloc, &mut scratch, records, losers, run, epoch)
+    rebuild(alloc, records, losers, run, epoch)
 }
 
 /// Restarts a shard from the log that was found, whose losers (rising) and transactions in doubt are these. The store, which is empty, gets
 /// the records of the state after a restart: the values that the UPDATEs of the committed and of those in doubt leave, and ghosts at the keys
 /// that those in doubt wrote and that have no value. The buffer that is given has the log after it: the records found, which are durable,
 /// and then what is still to be pushed: an ABORT for each loser that has none, in rising order, the CLRs of the losers' writes that stand,
-/// from the greatest LSN down, and the RESTART. An `Err` leaves the store in the middle of it. To undo losers, where there are any, the whole
-/// log is done again in a store of its own in blocks, which goes at the return. Room is made in the stores as records come to need it, and
-/// in the buffer for what is still to be pushed: an ABORT for each loser, a CLR for each of its UPDATEs, and the RESTART.
+/// from the greatest LSN down, and the RESTART. An `Err` leaves the store in the middle of it. The CLRs follow from the log: no loser's
+/// UPDATE is done in a store. Room is made in the store as records come to need it, and in the buffer for what is still to be pushed: an
+/// ABORT for each loser, a CLR for each of its UPDATEs, and the RESTART.
 pub fn restart<S: Store>(
     alloc: Global,
     store: &mut S,

@@ -1,14 +1,14 @@
 //! The records that a log leaves of those that win in it.
-ghost use Rattle.std.specs.Prelude.{◌≡◌, ◌≤◌, ◌<◌, ◌+◌, ◌==◌, ℕ, [], ◌∷◌, List, not, OnOk};
+ghost use Rattle.std.specs.Prelude.{◌≡◌, ◌≤◌, ◌<◌, ◌+◌, ◌==◌, ℕ, [], ◌∷◌, List, None, not, OnOk};
 ghost use Rattle.std.specs.List.{filter};
 ghost use Rattle.clv_base.specs.Maps.{KeyMap, map_set};
 ghost use Rattle.clv_base.specs.Logs.{fold_updates, in_doubt};
+ghost use Rattle.clv_base.specs.Needs.{record_set};
 ghost use Rattle.clv_base.specs.Restarts.{records_of, with_ghosts};
 ghost use Rattle.clv_base.specs.declared.logs.LogRecord.{LogRecord as Record};
 ghost use Rattle.log_facts.specs.Facts.{Knows};
 ghost use Rattle.shard_recovery.specs.Winning.{wins_in, records_after};
 
-use crate::redo::hide;
 use clv_base::logs::LogRecord;
 use clv_base::modes::Found;
 use clv_base::names::TxId;
@@ -84,6 +84,16 @@ fn fold<S: Store>(
         fold_one(store, facts, doubtful, found);
     }
     Ok(())
+}
+
+/// Makes the record at a key a ghost, whether there is one or not.
+fn hide<S: Store>(store: &mut S, key: u64)
+    requires { 0 < S.room store.old }
+    ensures records { S.records store.new ≡ record_set key None (S.records store.old) }
+    ensures room { S.room store.old ≤ S.room store.new + 1 }
+{
+    store.set(key, 0);
+    store.hide(key);
 }
 
 /// Makes a ghost at the key of an UPDATE of one of these, where there is no record.

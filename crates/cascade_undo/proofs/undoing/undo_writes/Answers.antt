@@ -1,15 +1,17 @@
 use Rattle.std.proofs.Common.{◌≡◌, None, refl, sym, subst, arith}
 use Rattle.clv_base.specs.Logs.{standing}
+use Rattle.clv_base.specs.Undo.{records_without}
 use Rattle.ordered_store.proofs.Laws.{rises_from}
 use Rattle.cascade_undo.specs.Steps.{newest_in, AreBelow}
 use Rattle.cascade_undo.proofs.Newest.{below_end}
-use Rattle.cascade_undo.proofs.Stepping.{key_there, has_room, log_step, writes_step, records_step, there_step, below_step}
-use Rattle.cascade_undo.proofs.Growing.{one_longer, advances_none, advances_more, log_at_last, records_at_last, length_at_last}
+use Rattle.cascade_undo.proofs.Stepping.{key_there, has_room, writes_step, records_step, there_step, below_step}
+use Rattle.cascade_undo.proofs.Growing.{advances_none, advances_more, log_at_last, records_at_last, length_at_last, room_at_last}
 use Rattle.cascade_undo.proofs.undoing.undo_writes.Goals as goal
 
 pub loop-write-init : goal.loop-write-init
 loop-write-init g c = record {
-  advances = advances_none c.args.set.now c.args.buffer.now (g.S.Store.records c.args.store.now);
+  advances = advances_none c.args.set.now c.args.buffer.now;
+  records = refl;
   below = subst (λ n. AreBelow c.args.set.now n (standing c.args.buffer.now.records)) (sym c.end-end.ensures.end) (below_end c.args.set.now c.args.buffer.now.records);
   there = c.requires.there;
   room = c.requires.room;
@@ -39,12 +41,9 @@ loop-write-preserved g c =
     let rises = rises_from rs (g.met.S.Store.rising c.loop-write.store) in let have = c.loop-write.invariant.there in
     let one = writes_step set b.records w newest d.records grown in let most = c.loop-write.invariant.room in let less = c.undo_write.ensures.room in
     record {
-      advances = advances_more set c.args.buffer.now b d (g.S.Store.records c.args.store.now) rs qs c.loop-write.invariant.advances (record {
-        log = log_step set b.records w newest d.records grown;
-        records = records_step set b.records w newest d.records grown rs qs rises have c.undo_write.ensures.records;
-        fronts = c.undo_write.ensures.fronts;
-        room = one_longer b.records d.records _ b.room d.room grown less;
-      });
+      advances = advances_more set c.args.buffer.now b d w newest c.loop-write.invariant.advances grown c.undo_write.ensures.fronts less;
+      records = records_step set b.records w newest d.records grown rs qs rises have c.undo_write.ensures.records
+          (records_without c.args.set.now (standing c.args.buffer.now.records) (g.S.Store.records c.args.store.now)) c.loop-write.invariant.records;
       below = below_step set b.records w newest d.records grown;
       there = there_step set b.records w newest d.records grown rs qs rises have c.undo_write.ensures.records;
       room = omega (arith, one, most, less);
@@ -54,26 +53,24 @@ loop-write-preserved g c =
 pub overflow_sub-result : goal.overflow_sub-result
 overflow_sub-result g c =
     let done : newest_in c.args.set.now (standing c.loop-write.buffer.records) ≡ None = c.in_default.ensures.none refl in
-    let grown = length_at_last c.args.set.now c.args.buffer.now c.loop-write.buffer (g.S.Store.records c.args.store.now) (g.S.Store.records c.loop-write.store) c.loop-write.invariant.advances done in
+    let grown = length_at_last c.args.set.now c.args.buffer.now c.loop-write.buffer c.loop-write.invariant.advances done in
     let first = c.end-end.ensures.end in let last = c.end.ensures.end in
     omega (arith, grown, first, last)
 
 pub returns-clause-records : goal.returns-clause-records
 returns-clause-records g c =
-    records_at_last c.args.set.now c.args.buffer.now c.loop-write.buffer (g.S.Store.records c.args.store.now) (g.S.Store.records c.loop-write.store) c.loop-write.invariant.advances (c.in_default.ensures.none refl)
+    records_at_last c.args.set.now c.args.buffer.now c.loop-write.buffer c.loop-write.invariant.advances (c.in_default.ensures.none refl)
+    (g.S.Store.records c.args.store.now) (g.S.Store.records c.loop-write.store) c.loop-write.invariant.records
 
 pub returns-clause-log : goal.returns-clause-log
 returns-clause-log g c =
-    log_at_last c.args.set.now c.args.buffer.now c.loop-write.buffer (g.S.Store.records c.args.store.now) (g.S.Store.records c.loop-write.store) c.loop-write.invariant.advances (c.in_default.ensures.none refl)
+    log_at_last c.args.set.now c.args.buffer.now c.loop-write.buffer c.loop-write.invariant.advances (c.in_default.ensures.none refl)
 
 pub returns-clause-room : goal.returns-clause-room
-returns-clause-room g c =
-    let grown = length_at_last c.args.set.now c.args.buffer.now c.loop-write.buffer (g.S.Store.records c.args.store.now) (g.S.Store.records c.loop-write.store) c.loop-write.invariant.advances (c.in_default.ensures.none refl) in
-    let room = c.loop-write.invariant.advances.room in
-    omega (arith, grown, room)
+returns-clause-room g c = room_at_last c.args.set.now c.args.buffer.now c.loop-write.buffer c.loop-write.invariant.advances (c.in_default.ensures.none refl)
 
 pub returns-clause-count : goal.returns-clause-count
 returns-clause-count g c =
-    let grown = length_at_last c.args.set.now c.args.buffer.now c.loop-write.buffer (g.S.Store.records c.args.store.now) (g.S.Store.records c.loop-write.store) c.loop-write.invariant.advances (c.in_default.ensures.none refl) in
+    let grown = length_at_last c.args.set.now c.args.buffer.now c.loop-write.buffer c.loop-write.invariant.advances (c.in_default.ensures.none refl) in
     let first = c.end-end.ensures.end in let last = c.end.ensures.end in
     omega (arith, grown, first, last)

@@ -1,5 +1,5 @@
 use Rattle.std.proofs.Common.{◌≡◌, ◌≤◌, ◌+◌, ◌++◌, take}
-use Rattle.shard_recovery.specs.Redoing.{aborts}
+use Rattle.shard_recovery.specs.Aborting.{aborts}
 use Rattle.shard_recovery.proofs.aborts.append_aborts.Given as goal
 
 abbrev pub invariant-loop-tx : goal.invariant-loop-tx
