@@ -1,3 +1,4 @@
+mod Sorted
 pub mod Redone
 pub mod Whole
 pub mod Folded

@@ -10,5 +10,6 @@ mod restarting;
 #[cfg(test)]
 mod tests;
 mod winners;
+mod writes;
 
 pub use restarting::restart;
