@@ -1,3 +1,4 @@
+mod Sorted
 pub mod Whole
 pub mod Folded
 pub mod Lasting

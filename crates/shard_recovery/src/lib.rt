@@ -9,5 +9,6 @@ mod restarting;
 #[cfg(test)]
 mod tests;
 mod winners;
+mod writes;
 
 pub use restarting::restart;

@@ -5,10 +5,10 @@ ghost use Rattle.clv_base.specs.Maps.{KeyMap, map_set};
 ghost use Rattle.clv_base.specs.Logs.{fold_updates, in_doubt};
 ghost use Rattle.clv_base.specs.Needs.{record_set};
 ghost use Rattle.clv_base.specs.Restarts.{records_of, with_ghosts};
-ghost use Rattle.clv_base.specs.declared.logs.LogRecord.{LogRecord as Record};
 ghost use Rattle.log_facts.specs.Facts.{Knows};
-ghost use Rattle.shard_recovery.specs.Winning.{wins_in, records_after};
+ghost use Rattle.shard_recovery.specs.Winning.{wins_in, writes_after, records_after};
 
+use crate::writes::{Write, by_key};
 use clv_base::logs::LogRecord;
 use clv_base::modes::Found;
 use clv_base::names::TxId;
@@ -45,31 +45,21 @@ fn set<S: Store>(store: &mut S, key: u64, value: Option<u64>)
     }
 }
 
-/// Whether the transaction is committed in the log that is known, or one of those in doubt.
-fn wins(facts: &LogFacts, doubtful: &TxSet, tx: TxId) -> bool
-    ensures { (log : List Record) → Knows facts.now log → result ≡ wins_in log doubtful.now tx }
+/// Puts these writes into an empty store, in order. It makes room write by write, as there may be far fewer keys.
+fn put_all<S: Store>(store: &mut S, writes: &[Write]) -> Result<(), AllocError>
+    requires empty { S.records store.old ≡ [] }
+    ensures ok { OnOk result (S.records store.new ≡ records_of (writes_after writes.now [])) }
 {
-    facts.get(tx).commit.is_some() || doubtful.contains(tx)
-}
-
-/// Does an UPDATE of a winner again, and no other record.
-fn fold_one<S: Store>(store: &mut S, facts: &LogFacts, doubtful: &TxSet, found: &LogRecord)
-    requires { 0 < S.room store.old }
-    ensures records { (log : List Record) → Knows facts.now log → (m : KeyMap) → S.records store.old ≡ records_of m → S.records store.new ≡ records_of (fold_updates (wins_in log doubtful.now) (found.now ∷ []) m) }
-    ensures room { S.room store.old ≤ S.room store.new + 1 }
-{
-    match found {
-        LogRecord::Update { tx, key, after, .. } => {
-            if wins(facts, doubtful, *tx) {
-                set(store, *key, *after);
-            }
-        }
-        _ => {}
+    for write in writes {
+        store.reserve(1)?;
+        set(store, write.key, write.after);
     }
+    Ok(())
 }
 
-/// Does the UPDATEs of the winners again, in order, in an empty store. It makes room record by record, as there may be far fewer keys.
+/// Does the UPDATEs of the winners again in an empty store.
 fn fold<S: Store>(
+    alloc: Global,
     store: &mut S,
     facts: &LogFacts,
     doubtful: &TxSet,
@@ -79,11 +69,8 @@ fn fold<S: Store>(
     requires empty { S.records store.old ≡ [] }
     ensures ok { OnOk result (S.records store.new ≡ records_of (fold_updates (wins_in log.now doubtful.now) log.now [])) }
 {
-    for found in log {
-        store.reserve(1)?;
-        fold_one(store, facts, doubtful, found);
-    }
-    Ok(())
+    let writes = by_key(alloc, facts, doubtful, log)?;
+    put_all(store, &writes)
 }
 
 /// Makes the record at a key a ghost, whether there is one or not.
@@ -148,6 +135,6 @@ pub(crate) fn fill<S: Store>(
 {
     let facts = LogFacts::of_log(alloc, log)?;
     let names = TxSet::of(alloc, doubtful)?;
-    fold(store, &facts, &names, log)?;
+    fold(alloc, store, &facts, &names, log)?;
     haunt(store, &names, log)
 }

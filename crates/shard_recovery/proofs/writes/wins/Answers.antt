@@ -2,7 +2,7 @@ use Rattle.std.proofs.Common.{rules, ◌≡◌, true, false, ◌||◌, is_some, 
 use Rattle.clv_base.specs.Orders.{tx_in}
 use Rattle.log_facts.specs.Facts.{known}
 use Rattle.shard_recovery.proofs.Folded.{wins_known}
-use Rattle.shard_recovery.proofs.winners.wins.Goals as goal
+use Rattle.shard_recovery.proofs.writes.wins.Goals as goal
 
 pub returns-then-is_some : goal.returns-then-is_some
 returns-then-is_some c = λ log knows.

@@ -1,0 +1,14 @@
+use Rattle.std.proofs.Common.{[], take, get_or, sym, ap, ◌∙◌}
+use Rattle.std.proofs.lemmas.List.{take_more}
+use Rattle.clv_base.specs.Maps.{KeyMap}
+use Rattle.clv_base.specs.Restarts.{records_of}
+use Rattle.shard_recovery.specs.Winning.{writes_after}
+use Rattle.shard_recovery.proofs.Sorted.{writes_more}
+use Rattle.shard_recovery.proofs.winners.put_all.Goals as goal
+
+pub loop-write-preserved : goal.loop-write-preserved
+loop-write-preserved g c =
+    let writes = c.args.writes.now in let i = c.loop-write.write-index in
+    let m : KeyMap = writes_after (take i writes) [] in
+    c.set.ensures.records m (c.reserve.ensures.records ∙ c.loop-write.invariant)
+    ∙ ap records_of (sym (writes_more (take i writes) (get_or writes i _) []) ∙ ap (λ l. writes_after l []) (sym (take_more writes i _ c.loop-write-test.true)))

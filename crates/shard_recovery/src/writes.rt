@@ -1,0 +1,80 @@
+//! What those that win in a log wrote.
+ghost use Rattle.std.specs.Prelude.{◌≡◌, List, [], IfOk};
+ghost use Rattle.std.specs.List.Sorted.{IsNonDecreasingBy};
+ghost use Rattle.clv_base.specs.Logs.{fold_updates};
+ghost use Rattle.clv_base.specs.declared.logs.LogRecord.{LogRecord as Record};
+ghost use Rattle.log_facts.specs.Facts.{Knows};
+ghost use Rattle.shard_recovery.specs.Winning.{wins_in, kept_write, kept_writes, writes_after};
+
+use clv_base::logs::LogRecord;
+use clv_base::names::TxId;
+use log_facts::{LogFacts, TxSet};
+use std::alloc::{AllocError, Global};
+
+/// The value that an UPDATE leaves at its key, if it leaves one.
+#[derive(Clone, Copy)]
+pub(crate) struct Write {
+    pub key: u64,
+    pub after: Option<u64>,
+}
+
+/// Whether the transaction is committed in the log that is known, or one of those in doubt.
+fn wins(facts: &LogFacts, doubtful: &TxSet, tx: TxId) -> bool
+    ensures { (log : List Record) → Knows facts.now log → result ≡ wins_in log doubtful.now tx }
+{
+    facts.get(tx).commit.is_some() || doubtful.contains(tx)
+}
+
+/// What an UPDATE of a winner wrote.
+fn written(facts: &LogFacts, doubtful: &TxSet, found: &LogRecord) -> Option<Write>
+    ensures { (log : List Record) → Knows facts.now log → result ≡ kept_write (wins_in log doubtful.now) found.now }
+{
+    match found {
+        LogRecord::Update { tx, key, after, .. } => {
+            if wins(facts, doubtful, *tx) {
+                return Some(Write {
+                    key: *key,
+                    after: *after,
+                });
+            }
+            None
+        }
+        _ => None,
+    }
+}
+
+/// What the winners wrote, in the log's order.
+fn gather(
+    alloc: Global,
+    facts: &LogFacts,
+    doubtful: &TxSet,
+    log: &[LogRecord],
+) -> Result<Vec<Write>, AllocError>
+    requires knows { Knows facts.now log.now }
+    ensures { IfOk result (λ ws. ws.items ≡ kept_writes (wins_in log.now doubtful.now) log.now) }
+{
+    let mut writes = Vec::new(alloc);
+    for found in log {
+        if let Some(write) = written(facts, doubtful, found) {
+            writes.push(write)?;
+        }
+    }
+    Ok(writes)
+}
+
+/// What the winners wrote, by rising keys, as a store takes it fastest, and in the log's order at each key: it leaves the same map. A log
+/// whose keys rise is in this order already, and costs one look at each.
+pub(crate) fn by_key(
+    alloc: Global,
+    facts: &LogFacts,
+    doubtful: &TxSet,
+    log: &[LogRecord],
+) -> Result<Vec<Write>, AllocError>
+    requires knows { Knows facts.now log.now }
+    ensures rising { IfOk result (λ ws. IsNonDecreasingBy (λ w. w.key) ws.items) }
+    ensures map { IfOk result (λ ws. writes_after ws.items [] ≡ fold_updates (wins_in log.now doubtful.now) log.now []) }
+{
+    let mut writes = gather(alloc, facts, doubtful, log)?;
+    writes.sort_by_key(|write| write.key)?;
+    Ok(writes)
+}
