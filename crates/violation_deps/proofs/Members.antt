@@ -134,7 +134,7 @@ same_list (x ∷ xs) (y ∷ ys) s r same =
 
 -- ---- a pair, and the predecessors
 
-then_tied : (a b : Ordering) → is_eq (ordering_then a b) ≡ (is_eq a && is_eq b)
+pub then_tied : (a b : Ordering) → is_eq (ordering_then a b) ≡ (is_eq a && is_eq b)
 then_tied Less b = refl
 then_tied Equal b = refl
 then_tied Greater b = refl

@@ -1,5 +1,5 @@
 -- The pairs of one first transaction stand together in a list of pairs that rises.
-use Rattle.std.proofs.Common.{◌≡◌, ℕ, zero, suc, ◌<◌, ◌≤◌, Bool, true, false, cond, not, List, [], ◌∷◌, length, get_or, take, drop, refl, sym, ap, ◌∙◌, arith}
+use Rattle.std.proofs.Common.{◌≡◌, ℕ, zero, suc, ◌+◌, ◌<◌, ◌≤◌, Bool, true, false, cond, not, ◌||◌, List, [], ◌∷◌, ◌++◌, length, get_or, take, drop, drop-cons, refl, sym, ap, ◌∙◌, arith}
 use Rattle.std.proofs.lemmas.Bool.{both_ways, not-true, not_from_false, false_from_ne_true}
 use Rattle.std.proofs.lemmas.Cmp.{then_total, on_total, nat_cmp_total, tied_itself, upto}
 use Rattle.std.specs.List.{AllByRecursion, filter}
@@ -9,7 +9,8 @@ use Rattle.std.specs.declared.cmp.Ordering.TheVariants.{Less, Equal, Greater}
 use Rattle.std.specs.Ordering.{is_eq, is_lt, is_gt, ordering_then, ordering_reverse}
 use Rattle.std.specs.Cmp.{IsTotalOrder}
 use Rattle.clv_base.specs.declared.names.TxId.{TxId}
-use Rattle.clv_base.specs.Orders.{tx_cmp, tx_same, pair_cmp}
+use Rattle.clv_base.specs.Orders.{tx_cmp, tx_same, tx_in, pair_cmp}
+use Rattle.clv_base.specs.Undo.{pairs_without}
 use Rattle.clv_base.proofs.SameNames.{tx_true}
 
 pub tx_total : IsTotalOrder tx_cmp
@@ -86,11 +87,6 @@ pub upto_partitioned : (t : TxId) (ps : List (TxId × TxId)) → FirstsRise ps �
 upto_partitioned t ps h i j d l m e =
     not_from_false _ (upto tx_total (get_or ps i d).0 (get_or ps j d).0 t (rise_at ps i j d h l m) (not-true _ e))
 
-pub firsts_rise-drop : (n : ℕ) (ps : List (TxId × TxId)) → FirstsRise ps → FirstsRise (drop n ps)
-firsts_rise-drop zero ps h = h
-firsts_rise-drop (suc n) [] h = h
-firsts_rise-drop (suc n) (p ∷ ps) h = firsts_rise-drop n ps h.1
-
 -- ---- the run of a transaction
 
 abbrev pub of_tx : TxId → List (TxId × TxId) → List (TxId × TxId)
@@ -137,3 +133,79 @@ run_is t (p ∷ ps) h = at (tx_cmp p.0 t) refl (run_is t ps h.1)
     at Less w more = more ∙ ap (λ b. cond b (p ∷ of_tx t ps) (of_tx t ps)) (sym (turned_eq p.0 t Less w))
     at Equal w more = sym (run_here t (p ∷ ps) h (ap is_lt w))
     at Greater w more = sym (run_here t (p ∷ ps) h (ap is_lt w))
+
+-- ---- a list without the run of a transaction
+
+abbrev pub others : TxId → List (TxId × TxId) → List (TxId × TxId)
+others t ps = filter (λ p. not (tx_same t p.0)) ps
+
+-- those at most the transaction are those before it, and its own
+pub lead_rest : (t : TxId) (ps : List (TxId × TxId))
+    → lead (λ p. not (is_gt (tx_cmp p.0 t))) ps ≡ lead (λ p. is_lt (tx_cmp p.0 t)) ps + lead (λ p. not (is_gt (tx_cmp p.0 t))) (drop (lead (λ p. is_lt (tx_cmp p.0 t)) ps) ps)
+lead_rest t [] = refl
+lead_rest t (p ∷ ps) = at (tx_cmp p.0 t) refl (lead_rest t ps)
+  where
+    at : (o : Ordering) → tx_cmp p.0 t ≡ o → lead (λ p. not (is_gt (tx_cmp p.0 t))) ps ≡ lead (λ p. is_lt (tx_cmp p.0 t)) ps + lead (λ p. not (is_gt (tx_cmp p.0 t))) (drop (lead (λ p. is_lt (tx_cmp p.0 t)) ps) ps)
+        → cond (not (is_gt o)) (suc (lead (λ p. not (is_gt (tx_cmp p.0 t))) ps)) zero
+        ≡ cond (is_lt o) (suc (lead (λ p. is_lt (tx_cmp p.0 t)) ps)) zero + lead (λ p. not (is_gt (tx_cmp p.0 t))) (drop (cond (is_lt o) (suc (lead (λ p. is_lt (tx_cmp p.0 t)) ps)) zero) (p ∷ ps))
+    at Less w more = omega (arith, more)
+    at Equal w more = let here = ap (λ c. cond (not (is_gt c)) (suc (lead (λ p. not (is_gt (tx_cmp p.0 t))) ps)) zero) w in omega (arith, here)
+    at Greater w more = let here = ap (λ c. cond (not (is_gt c)) (suc (lead (λ p. not (is_gt (tx_cmp p.0 t))) ps)) zero) w in omega (arith, here)
+
+all_others : (t : TxId) (p : TxId × TxId) (ps : List (TxId × TxId)) → tx_cmp p.0 t ≡ Greater → NoneBefore p.0 ps → others t ps ≡ ps
+all_others t p [] g h = refl
+all_others t p (q ∷ qs) g h =
+    let other : tx_same t q.0 ≡ false = false_from_ne_true _ (λ e. both_ways _ h.0 (ap (λ x. is_gt (tx_cmp p.0 x)) (sym (tx_true t q.0 e)) ∙ ap is_gt g)) in
+    ap (λ b. cond (not b) (q ∷ others t qs) (others t qs)) other ∙ ap (λ l. q ∷ l) (all_others t p qs g h.1)
+
+after_run : (t : TxId) (ps : List (TxId × TxId)) → FirstsRise ps → NotLess t ps → drop (lead (λ p. not (is_gt (tx_cmp p.0 t))) ps) ps ≡ others t ps
+after_run t [] h e = refl
+after_run t (p ∷ ps) h e = at (tx_cmp p.0 t) refl e (after_run t ps h.1 (next_not_less t p ps e h.0))
+  where
+    at : (o : Ordering) → tx_cmp p.0 t ≡ o → is_lt o ≡ false → drop (lead (λ p. not (is_gt (tx_cmp p.0 t))) ps) ps ≡ others t ps
+        → drop (cond (not (is_gt o)) (suc (lead (λ p. not (is_gt (tx_cmp p.0 t))) ps)) zero) (p ∷ ps) ≡ others t (p ∷ ps)
+    at Less w l more = absurd (both_ways true l refl)
+    at Equal w l more = more ∙ ap (λ b. cond (not b) (p ∷ others t ps) (others t ps)) (sym (turned_eq p.0 t Equal w))
+    at Greater w l more = sym (ap (λ b. cond (not b) (p ∷ others t ps) (others t ps)) (turned_eq p.0 t Greater w) ∙ ap (λ l. p ∷ l) (all_others t p ps w h.0))
+
+-- the others stand before and behind them
+pub others_are : (t : TxId) (ps : List (TxId × TxId)) → FirstsRise ps
+    → take (lead (λ p. is_lt (tx_cmp p.0 t)) ps) ps ++ drop (lead (λ p. not (is_gt (tx_cmp p.0 t))) ps) ps ≡ others t ps
+others_are t [] h = refl
+others_are t (p ∷ ps) h = at (tx_cmp p.0 t) refl (others_are t ps h.1)
+  where
+    at : (o : Ordering) → tx_cmp p.0 t ≡ o → take (lead (λ p. is_lt (tx_cmp p.0 t)) ps) ps ++ drop (lead (λ p. not (is_gt (tx_cmp p.0 t))) ps) ps ≡ others t ps
+        → take (cond (is_lt o) (suc (lead (λ p. is_lt (tx_cmp p.0 t)) ps)) zero) (p ∷ ps) ++ drop (cond (not (is_gt o)) (suc (lead (λ p. not (is_gt (tx_cmp p.0 t))) ps)) zero) (p ∷ ps)
+        ≡ others t (p ∷ ps)
+    at Less w more = ap (λ l. p ∷ l) more ∙ ap (λ b. cond (not b) (p ∷ others t ps) (others t ps)) (sym (turned_eq p.0 t Less w))
+    at Equal w more = after_run t ps h.1 (next_not_less t p ps (ap is_lt w) h.0) ∙ ap (λ b. cond (not b) (p ∷ others t ps) (others t ps)) (sym (turned_eq p.0 t Equal w))
+    at Greater w more = sym (ap (λ b. cond (not b) (p ∷ others t ps) (others t ps)) (turned_eq p.0 t Greater w) ∙ ap (λ l. p ∷ l) (all_others t p ps w h.0))
+
+-- the same, with the transaction as a set of one
+pub others-set : (t : TxId) (ps : List (TxId × TxId)) → others t ps ≡ pairs_without (t ∷ []) ps
+others-set t [] = refl
+others-set t (p ∷ ps) = at (tx_same t p.0) (others-set t ps)
+  where
+    at : (b : Bool) → others t ps ≡ pairs_without (t ∷ []) ps → cond (not b) (p ∷ others t ps) (others t ps) ≡ cond (not (b || false)) (p ∷ pairs_without (t ∷ []) ps) (pairs_without (t ∷ []) ps)
+    at true more = more
+    at false more = ap (λ l. p ∷ l) more
+
+pub without_more : (t : TxId) (set : List TxId) (ps : List (TxId × TxId)) → pairs_without set (pairs_without (t ∷ []) ps) ≡ pairs_without (t ∷ set) ps
+without_more t set [] = refl
+without_more t set (p ∷ ps) = at (tx_same t p.0) (without_more t set ps)
+  where
+    at : (b : Bool) → pairs_without set (pairs_without (t ∷ []) ps) ≡ pairs_without (t ∷ set) ps
+        → pairs_without set (cond (not (b || false)) (p ∷ pairs_without (t ∷ []) ps) (pairs_without (t ∷ []) ps)) ≡ cond (not (b || tx_in p.0 set)) (p ∷ pairs_without (t ∷ set) ps) (pairs_without (t ∷ set) ps)
+    at true more = more
+    at false more = ap (λ l. cond (not (tx_in p.0 set)) (p ∷ l) l) more
+
+pub without_none : (ps : List (TxId × TxId)) → pairs_without [] ps ≡ ps
+without_none [] = refl
+without_none (p ∷ ps) = ap (λ l. p ∷ l) (without_none ps)
+
+pub without_next : (set : List TxId) (i : ℕ) (d : TxId) → i < length set → (ps now : List (TxId × TxId)) → now ≡ pairs_without (get_or set i d ∷ []) ps
+    → pairs_without (drop (i + 1) set) now ≡ pairs_without (drop i set) ps
+without_next set i d l ps now e =
+    let next : suc i ≡ i + 1 = omega arith in
+    ap (pairs_without (drop (i + 1) set)) e ∙ without_more (get_or set i d) (drop (i + 1) set) ps
+    ∙ sym (ap (λ xs. pairs_without xs ps) (drop-cons set i d l ∙ ap (λ n. get_or set i d ∷ drop n set) next))

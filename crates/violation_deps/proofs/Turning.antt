@@ -1,5 +1,5 @@
 -- Pairs and the same pairs turned round, with more and with fewer.
-use Rattle.std.proofs.Common.{◌≡◌, ℕ, ◌+◌, ◌<◌, ◌≤◌, Bool, true, false, cond, not, ◌&&◌, ◌||◌, List, [], ◌∷◌, length, refl, sym, ap, subst, ◌∙◌, arith}
+use Rattle.std.proofs.Common.{◌≡◌, ℕ, suc, ◌+◌, ◌<◌, ◌≤◌, Bool, true, false, cond, not, ◌&&◌, ◌||◌, List, [], ◌∷◌, length, map, get_or, drop, drop-cons, refl, sym, ap, subst, ◌∙◌, arith}
 use Rattle.std.proofs.lemmas.Bool.{both_ways}
 use Rattle.std.proofs.lemmas.List.Kept.{IsStrictlySortedBy-filter}
 use Rattle.std.specs.List.{filter}
@@ -9,12 +9,16 @@ use Rattle.std.specs.declared.cmp.Ordering.TheVariants.{Less, Equal, Greater}
 use Rattle.std.specs.Ordering.{is_eq, ordering_then, match_ordering}
 use Rattle.clv_base.specs.declared.names.TxId.{TxId}
 use Rattle.clv_base.specs.Orders.{tx_cmp, tx_same, tx_in, pair_cmp, pair_insert}
+use Rattle.clv_base.specs.Undo.{pairs_without}
+use Rattle.tx_table.proofs.Laws.Names.{tx_symmetric}
 use Rattle.clv_base.proofs.SameNames.{tx_true}
 use Rattle.protocol_laws.specs.UndoLaws.{is_pair}
 use Rattle.violation_deps.specs.Pairs.{AreTurned}
 use Rattle.violation_deps.specs.Kept.{AreKept}
 use Rattle.violation_deps.proofs.Rising.{insert_key-rises}
-use Rattle.violation_deps.proofs.Runs.{pair_total}
+use Rattle.violation_deps.proofs.Runs.{pair_total, of_tx}
+use Rattle.violation_deps.proofs.Members.{then_tied}
+use Rattle.violation_deps.proofs.Succeeding.{in_run}
 
 is_row : TxId → TxId → TxId × TxId → Bool
 is_row t p q = tx_same t q.0 && tx_same p q.1
@@ -65,10 +69,6 @@ turned_more tx pred pairs turned h t p =
 
 -- ---- fewer
 
-row_in : (f : TxId → Bool) (t u : TxId) (b : Bool) → tx_same t u ≡ b → (b && not (f u)) ≡ (b && not (f t))
-row_in f t u true e = ap (λ x. not (f x)) (sym (tx_true t u e))
-row_in f t u false e = refl
-
 drop_row : (keep row rest keeps : Bool) → (row && keep) ≡ (row && keeps) → (b : Bool) → b ≡ (rest && keeps) → cond keep (row || b) b ≡ ((row || rest) && keeps)
 drop_row true true rest true h b e = refl
 drop_row true true rest false h b e = absurd (both_ways false refl (sym h))
@@ -81,43 +81,87 @@ drop_row false true rest false h b e = e ∙ none rest
     none false = refl
 drop_row false false rest keeps h b e = e
 
-without_firsts : (f : TxId → Bool) (ps : List (TxId × TxId)) (t p : TxId) → is_pair (filter (λ q. not (f q.0)) ps) t p ≡ (is_pair ps t p && not (f t))
+-- a pair is one of those that pass where it is one and passes
+is_pair-filter : (f : TxId × TxId → Bool) (ps : List (TxId × TxId)) (t p : TxId) → is_pair (filter f ps) t p ≡ (is_pair ps t p && f (t, p))
 unfolding is_row
-without_firsts f [] t p = refl
-without_firsts f (q ∷ qs) t p =
-    pushed (not (f q.0)) ∙ drop_row (not (f q.0)) (is_row t p q) (is_pair qs t p) (not (f t)) same (is_pair (filter (λ q. not (f q.0)) qs) t p) (without_firsts f qs t p)
+is_pair-filter f [] t p = refl
+is_pair-filter f (q ∷ qs) t p = pushed (f q) ∙ drop_row (f q) (is_row t p q) (is_pair qs t p) (f (t, p)) (same (tx_same t q.0) (tx_same p q.1) refl refl) (is_pair (filter f qs) t p) (is_pair-filter f qs t p)
   where
-    pushed : (b : Bool) → is_pair (cond b (q ∷ filter (λ q. not (f q.0)) qs) (filter (λ q. not (f q.0)) qs)) t p ≡ cond b (is_row t p q || is_pair (filter (λ q. not (f q.0)) qs) t p) (is_pair (filter (λ q. not (f q.0)) qs) t p)
+    pushed : (b : Bool) → is_pair (cond b (q ∷ filter f qs) (filter f qs)) t p ≡ cond b (is_row t p q || is_pair (filter f qs) t p) (is_pair (filter f qs) t p)
     pushed true = refl
     pushed false = refl
 
-    same : (is_row t p q && not (f q.0)) ≡ (is_row t p q && not (f t))
-    same = at (tx_same t q.0) (tx_same p q.1) (row_in f t q.0 (tx_same t q.0) refl)
-      where
-        at : (a b : Bool) → (a && not (f q.0)) ≡ (a && not (f t)) → ((a && b) && not (f q.0)) ≡ ((a && b) && not (f t))
-        at true true h = h
-        at true false h = refl
-        at false b h = refl
+    same : (b c : Bool) → tx_same t q.0 ≡ b → tx_same p q.1 ≡ c → ((b && c) && f q) ≡ ((b && c) && f (t, p))
+    same true true e h = ap (λ x. f (x, q.1)) (sym (tx_true t q.0 e)) ∙ ap (λ x. f (t, x)) (sym (tx_true p q.1 h))
+    same true false e h = refl
+    same false c e h = refl
 
-without_seconds : (f : TxId → Bool) (ps : List (TxId × TxId)) (t p : TxId) → is_pair (filter (λ q. not (f q.1)) ps) t p ≡ (is_pair ps t p && not (f p))
-unfolding is_row
-without_seconds f [] t p = refl
-without_seconds f (q ∷ qs) t p =
-    pushed (not (f q.1)) ∙ drop_row (not (f q.1)) (is_row t p q) (is_pair qs t p) (not (f p)) same (is_pair (filter (λ q. not (f q.1)) qs) t p) (without_seconds f qs t p)
+-- ---- without the pairs of one successor
+
+-- the pairs of predecessors and successors without those of the successor with the predecessors of these pairs, one after another
+abbrev pub turned_without : TxId → List (TxId × TxId) → List (TxId × TxId) → List (TxId × TxId)
+turned_without tx [] turned = turned
+turned_without tx (p ∷ ps) turned = turned_without tx ps (filter (λ q. not (is_eq (pair_cmp q (p.1, tx)))) turned)
+
+-- the same at once
+abbrev pub own_gone : TxId → List (TxId × TxId) → List (TxId × TxId) → List (TxId × TxId)
+own_gone tx ps turned = filter (λ q. not (tx_same tx q.1 && tx_in q.0 (map (λ p. p.1) ps))) turned
+
+none_gone : (tx : TxId) (turned : List (TxId × TxId)) → turned ≡ own_gone tx [] turned
+none_gone tx [] = refl
+none_gone tx (q ∷ qs) = at (tx_same tx q.1) (none_gone tx qs)
   where
-    pushed : (b : Bool) → is_pair (cond b (q ∷ filter (λ q. not (f q.1)) qs) (filter (λ q. not (f q.1)) qs)) t p ≡ cond b (is_row t p q || is_pair (filter (λ q. not (f q.1)) qs) t p) (is_pair (filter (λ q. not (f q.1)) qs) t p)
-    pushed true = refl
-    pushed false = refl
+    at : (b : Bool) → qs ≡ own_gone tx [] qs → q ∷ qs ≡ cond (not (b && false)) (q ∷ own_gone tx [] qs) (own_gone tx [] qs)
+    at true more = ap (λ l. q ∷ l) more
+    at false more = ap (λ l. q ∷ l) more
 
-    same : (is_row t p q && not (f q.1)) ≡ (is_row t p q && not (f p))
-    same = at (tx_same t q.0) (tx_same p q.1) (row_in f p q.1 (tx_same p q.1) refl)
-      where
-        at : (a b : Bool) → (b && not (f q.1)) ≡ (b && not (f p)) → ((a && b) && not (f q.1)) ≡ ((a && b) && not (f p))
-        at true b h = h
-        at false b h = refl
+abbrev one_gone : TxId × TxId → List (TxId × TxId) → List (TxId × TxId)
+one_gone a qs = filter (λ q. not (is_eq (pair_cmp q a))) qs
 
-turned_fewer : (f : TxId → Bool) (pairs turned : List (TxId × TxId)) → AreTurned pairs turned → AreTurned (filter (λ p. not (f p.0)) pairs) (filter (λ p. not (f p.1)) turned)
-turned_fewer f pairs turned h t p = without_seconds f turned p t ∙ ap (λ b. b && not (f t)) (h t p) ∙ sym (without_firsts f pairs t p)
+one_more_gone : (tx : TxId) (p : TxId × TxId) (ps turned : List (TxId × TxId)) → own_gone tx ps (filter (λ q. not (is_eq (pair_cmp q (p.1, tx)))) turned) ≡ own_gone tx (p ∷ ps) turned
+one_more_gone tx p ps [] = refl
+one_more_gone tx p ps (q ∷ qs) =
+    ap (λ b. own_gone tx ps (cond (not b) (q ∷ one_gone (p.1, tx) qs) (one_gone (p.1, tx) qs))) (then_tied (tx_cmp q.0 p.1) (tx_cmp q.1 tx) ∙ ap (λ b. b && tx_same q.1 tx) (tx_symmetric q.0 p.1) ∙ ap (λ b. tx_same p.1 q.0 && b) (tx_symmetric q.1 tx))
+    ∙ at (tx_same p.1 q.0) (tx_same tx q.1) refl (one_more_gone tx p ps qs)
+  where
+    at : (d c : Bool) → tx_same tx q.1 ≡ c → own_gone tx ps (one_gone (p.1, tx) qs) ≡ own_gone tx (p ∷ ps) qs
+        → own_gone tx ps (cond (not (d && c)) (q ∷ one_gone (p.1, tx) qs) (one_gone (p.1, tx) qs)) ≡ cond (not (c && (d || tx_in q.0 (map (λ r. r.1) ps)))) (q ∷ own_gone tx (p ∷ ps) qs) (own_gone tx (p ∷ ps) qs)
+    at true true e more = more
+    at true false e more = ap (λ b. cond (not (b && tx_in q.0 (map (λ r. r.1) ps))) (q ∷ own_gone tx ps (one_gone (p.1, tx) qs)) (own_gone tx ps (one_gone (p.1, tx) qs))) e ∙ ap (λ l. q ∷ l) more
+    at false c e more = ap (λ b. cond (not (b && tx_in q.0 (map (λ r. r.1) ps))) (q ∷ own_gone tx ps (one_gone (p.1, tx) qs)) (own_gone tx ps (one_gone (p.1, tx) qs))) e ∙ ap (λ l. cond (not (c && tx_in q.0 (map (λ r. r.1) ps))) (q ∷ l) l) more
+
+pub each_gone : (tx : TxId) (ps turned : List (TxId × TxId)) → turned_without tx ps turned ≡ own_gone tx ps turned
+each_gone tx [] turned = none_gone tx turned
+each_gone tx (p ∷ ps) turned = each_gone tx ps (filter (λ q. not (is_eq (pair_cmp q (p.1, tx)))) turned) ∙ one_more_gone tx p ps turned
+
+pub turned_next : (tx : TxId) (ps : List (TxId × TxId)) (i : ℕ) (d : TxId × TxId) → i < length ps → (turned now : List (TxId × TxId))
+    → now ≡ filter (λ q. not (is_eq (pair_cmp q ((get_or ps i d).1, tx)))) turned → turned_without tx (drop (i + 1) ps) now ≡ turned_without tx (drop i ps) turned
+turned_next tx ps i d l turned now e =
+    let next : suc i ≡ i + 1 = omega arith in
+    ap (turned_without tx (drop (i + 1) ps)) e ∙ sym (ap (λ xs. turned_without tx xs turned) (drop-cons ps i d l ∙ ap (λ n. get_or ps i d ∷ drop n ps) next))
+
+pub own_gone-rises : (tx : TxId) (ps turned : List (TxId × TxId)) → IsStrictlySortedBy pair_cmp turned → IsStrictlySortedBy pair_cmp (own_gone tx ps turned)
+own_gone-rises tx ps turned s = IsStrictlySortedBy-filter pair_cmp (λ q. not (tx_same tx q.1 && tx_in q.0 (map (λ p. p.1) ps))) turned s
+
+pub without_rises : (set : List TxId) (pairs : List (TxId × TxId)) → IsStrictlySortedBy pair_cmp pairs → IsStrictlySortedBy pair_cmp (pairs_without set pairs)
+without_rises set pairs s = IsStrictlySortedBy-filter pair_cmp (λ p. not (tx_in p.0 set)) pairs s
+
+-- the lists without a transaction's pairs are turned round still
+pub turned_own : (tx : TxId) (pairs turned : List (TxId × TxId)) → AreTurned pairs turned → AreTurned (pairs_without (tx ∷ []) pairs) (own_gone tx (of_tx tx pairs) turned)
+turned_own tx pairs turned h t p =
+    is_pair-filter (λ q. not (tx_same tx q.1 && tx_in q.0 (map (λ r. r.1) (of_tx tx pairs)))) turned p t
+    ∙ ap (λ b. b && not (tx_same tx t && tx_in p (map (λ q. q.1) (of_tx tx pairs)))) (h t p)
+    ∙ ap (λ b. is_pair pairs t p && not (tx_same tx t && b)) (in_run tx p pairs)
+    ∙ at (tx_same tx t) refl
+    ∙ sym (is_pair-filter (λ q. not (tx_in q.0 (tx ∷ []))) pairs t p)
+  where
+    gone : (x : Bool) → (x && not x) ≡ (x && false)
+    gone true = refl
+    gone false = refl
+
+    at : (b : Bool) → tx_same tx t ≡ b → (is_pair pairs t p && not (b && is_pair pairs tx p)) ≡ (is_pair pairs t p && not (b || false))
+    at true e = ap (λ u. is_pair pairs t p && not (is_pair pairs u p)) (tx_true tx t e) ∙ gone (is_pair pairs t p)
+    at false e = refl
 
 -- ---- what is kept
 
@@ -139,21 +183,6 @@ module _ (pairs turned : List (TxId × TxId)) (marks : List TxId) (m q : ℕ) (h
     marks_room = l;
     queue_room = k;
   }
-
-  pub kept_fewer : (set : List TxId) → pairs_now ≡ filter (λ p. not (tx_in p.0 set)) pairs → turned_now ≡ filter (λ p. not (tx_in p.1 set)) turned → (after : List TxId) (m_now q_now : ℕ) → IsStrictlySortedBy tx_cmp after
-      → length turned_now + 1 < m_now → length turned_now + 1 < q_now → AreKept pairs_now turned_now after m_now q_now
-  kept_fewer set e f after m_now q_now s l k = record {
-    pairs_rise = subst (IsStrictlySortedBy pair_cmp) (sym e) (IsStrictlySortedBy-filter pair_cmp (λ p. not (tx_in p.0 set)) pairs h.pairs_rise);
-    turned_rise = subst (IsStrictlySortedBy pair_cmp) (sym f) (IsStrictlySortedBy-filter pair_cmp (λ p. not (tx_in p.1 set)) turned h.turned_rise);
-    turned_round = subst (λ x. AreTurned x turned_now) (sym e) (subst (AreTurned (filter (λ p. not (tx_in p.0 set)) pairs)) (sym f) (turned_fewer (λ t. tx_in t set) pairs turned h.turned_round));
-    marks_rise = s;
-    marks_room = l;
-    queue_room = k;
-  }
-
-pub one_rises : (t : TxId) → IsStrictlySortedBy tx_cmp (t ∷ [])
-unfolding IsStrictlySortedBy
-one_rises t = (tt, tt)
 
 pub none_rise : IsStrictlySortedBy tx_cmp []
 unfolding IsStrictlySortedBy

@@ -11,7 +11,7 @@ ghost use Rattle.clv_base.specs.Undo.{pairs_without};
 ghost use Rattle.violation_deps.specs.Dependencies.{doomed, undecided_by, due_of};
 
 use crate::marking::mark_from;
-use crate::pairs::{Pair, drop_firsts, drop_seconds, run_of};
+use crate::pairs::{Pair, drop_all, drop_own, run_of};
 use crate::room::{hold, with_places};
 use crate::settled::{count_open, greatest};
 use crate::sorted::{contains, insert};
@@ -21,7 +21,7 @@ use std::marker::Model;
 use tx_table::TxTable;
 
 /// Who depends on whom on a shard. A transaction is a successor of those that it violated. The pairs stand in two sorted lists, by successor and
-/// by predecessor, so a look-up is a binary search; a new pair moves what lies above it.
+/// by predecessor, so a look-up is a binary search. In both lists a new pair, and one that goes, moves what lies above it.
 #[derive(Drop)]
 pub struct Deps {
     pairs: Vec<Pair>,
@@ -217,26 +217,26 @@ impl Deps {
         &self.marks
     }
 
-    /// The transaction's pairs with its predecessors go. Marks stay. Takes no memory.
+    /// The transaction's pairs with its predecessors go. Marks stay. They are found by binary search. What lies above them moves: in the
+    /// list by successor once, in the one by predecessor once for each of them. Takes no memory.
     pub fn forget(&mut self, tx: TxId)
         ensures pairs { self.new.pairs ≡ pairs_without (tx ∷ []) self.old.pairs }
         ensures commits { self.new.commits ≡ self.old.commits }
         ensures marked { self.new.marked ≡ self.old.marked }
         ensures room { self.new.room ≡ self.old.room }
     {
-        drop_firsts(&mut self.pairs, &[tx]);
-        drop_seconds(&mut self.turned, &[tx]);
+        drop_own(&mut self.pairs, &mut self.turned, tx);
     }
 
-    /// The pairs of all marked transactions with their predecessors go, and then the marks. Takes no memory.
+    /// The pairs of all marked transactions with their predecessors go, one transaction after another, and then the marks. What lies above
+    /// them moves, as where one is forgotten. Takes no memory.
     pub fn forget_marked(&mut self)
         ensures pairs { self.new.pairs ≡ pairs_without self.old.marked self.old.pairs }
         ensures commits { self.new.commits ≡ self.old.commits }
         ensures marked { self.new.marked ≡ [] }
         ensures room { self.new.room ≡ self.old.room }
     {
-        drop_firsts(&mut self.pairs, &self.marks);
-        drop_seconds(&mut self.turned, &self.marks);
+        drop_all(&mut self.pairs, &mut self.turned, &self.marks);
         self.marks.clear();
     }
 }
