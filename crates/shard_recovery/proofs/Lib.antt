@@ -3,3 +3,4 @@ pub mod Whole
 pub mod Folded
 pub mod Lasting
 pub mod Rooms
+mod Sorted

@@ -6,6 +6,7 @@
 mod aborts;
 mod rebuilding;
 mod restarting;
+mod room;
 #[cfg(test)]
 mod tests;
 mod winners;

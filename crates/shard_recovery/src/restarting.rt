@@ -6,6 +6,7 @@ ghost use Rattle.clv_base.specs.Logs.{in_doubt};
 ghost use Rattle.clv_base.specs.Restarts.{losers as losers_of, log_after_restart, local_after};
 
 use crate::rebuilding::{add_restart, rebuild};
+use crate::room::with_room;
 use crate::winners::fill;
 use clv_base::logs::LogRecord;
 use clv_base::names::TxId;
@@ -53,6 +54,7 @@ pub fn restart<S: Store>(
     ensures fronts { IfOk result (λ b. (b.durable ≡ length records.items) × (b.taken ≡ length records.items)) }
     ensures records { IfOk result (λ b. (shard : ℕ) → doubtful.now ≡ in_doubt shard records.items → S.records store.new ≡ (local_after shard epoch (log_after_restart shard records.items run epoch)).records) }
 {
+    let records = with_room(records, losers)?;
     fill(alloc, store, &records, doubtful)?;
     rewrite(alloc, records, losers, run, epoch)
 }

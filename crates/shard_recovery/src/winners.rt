@@ -1,5 +1,5 @@
 //! The records that a log leaves of those that win in it.
-ghost use Rattle.std.specs.Prelude.{◌≡◌, ◌≤◌, ◌<◌, ◌+◌, ◌==◌, ℕ, [], ◌∷◌, List, None, not, OnOk};
+ghost use Rattle.std.specs.Prelude.{◌≡◌, ◌≤◌, ◌<◌, ◌+◌, ◌==◌, ℕ, [], ◌∷◌, None, not, OnOk};
 ghost use Rattle.std.specs.List.{filter};
 ghost use Rattle.clv_base.specs.Maps.{KeyMap, map_set};
 ghost use Rattle.clv_base.specs.Logs.{fold_updates, in_doubt};
@@ -123,7 +123,7 @@ fn haunt<S: Store>(store: &mut S, doubtful: &TxSet, log: &[LogRecord]) -> Result
 
 /// Puts the records of a shard whose log is this into an empty store, as a restart leaves them: the values that the UPDATEs of the committed
 /// and of those in doubt leave, in the log's order, and ghosts at the keys that those in doubt wrote and that have no value. An `Err` leaves
-/// the store in the middle of it.
+/// the store in the middle of it. Besides the store it takes a list of what those write, which goes at the return.
 pub(crate) fn fill<S: Store>(
     alloc: Global,
     store: &mut S,

@@ -1,4 +1,4 @@
-//! What those that win in a log wrote.
+//! What those that win in a log wrote, in the order that a store takes it in.
 ghost use Rattle.std.specs.Prelude.{◌≡◌, List, [], IfOk};
 ghost use Rattle.std.specs.List.Sorted.{IsNonDecreasingBy};
 ghost use Rattle.clv_base.specs.Logs.{fold_updates};

@@ -17,6 +17,7 @@ returns-clause-records g c =
     let log = c.args.records.items in let filled = g.S.Store.records c.fill.new.store in
     always ((shard : ℕ) → c.args.doubtful.now ≡ in_doubt shard log → filled ≡ records_after shard (log_after_restart shard log c.args.run c.args.epoch)) c.rewrite.result
     (λ shard is.
-    c.in_ok-fill.ensures.ok shard (is ∙ ap (in_doubt shard) (sym c.deref.ensures.value))
-    ∙ ap (records_after shard) c.deref.ensures.value
+    let found = c.deref.ensures.value ∙ c.in_ok-records.ensures in
+    c.in_ok-fill.ensures.ok shard (is ∙ ap (in_doubt shard) (sym found))
+    ∙ ap (records_after shard) found
     ∙ sym (restart_leaves shard log c.args.run c.args.epoch))
