@@ -1,5 +1,5 @@
 -- Where two operations of members meet, the earlier is of the same member or of one at an earlier place.
-use Rattle.std.proofs.Common.{◌≡◌, ◌⊎◌, inl, inr, ⊎_elim, refl, sym, subst, ℕ, ◌<◌, true, false, Bool, ◌||◌, List, [], ◌∷◌, ◌++◌, ◌==◌, eq-eqb, eqb-true, Some, None, arith}
+use Rattle.std.proofs.Common.{◌≡◌, ◌⊎◌, inl, inr, ⊎_elim, sym, subst, ℕ, ◌<◌, true, false, Bool, List, [], ◌∷◌, ◌++◌, ◌==◌, eq-eqb, eqb-true, Some, None, arith}
 use Rattle.std.specs.List.{filter}
 use Rattle.std.proofs.lemmas.Bool.{both_ways, and_parts, or_left, false_from_ne_true}
 use Rattle.std.proofs.lemmas.List.Elements.{filter-append}
@@ -21,6 +21,8 @@ use Rattle.clv_base.specs.Journals.{History}
 use Rattle.clv_base.specs.History.{Legal}
 use Rattle.clv_base.proofs.SameNames.{tx_self}
 use Rattle.law_base.proofs.Sets.{in_filter}
+use Rattle.law_base.proofs.Lists.{all_mono, all_filter}
+use Rattle.law_base.proofs.Bools.{or_false_right}
 use Rattle.history_laws.specs.Continuing.{serial_left}
 use Rattle.law_base.specs.Items.{Item, AllLater, Clash, told as value_told, is_write_at}
 use Rattle.shard_laws.specs.OneShard.{found_asked, place}
@@ -35,7 +37,7 @@ use Rattle.replay_by_shards.proofs.Spans.{one_shard, between}
 use Rattle.many_shards_laws.proofs.Members.{chosen, chosen_are_members}
 use Rattle.many_shards_laws.proofs.Replaying.{inside}
 use Rattle.act_laws.specs.Acts.{Act, Meet, member_acts, MeetingsFollowPlaces}
-use Rattle.act_laws.proofs.Lists.{all_kept, all_weaker, later_told, later_by_shard}
+use Rattle.act_laws.proofs.Lists.{later_told, later_by_shard}
 use Rattle.act_laws.proofs.Telling.{told}
 use Rattle.act_laws.proofs.Shards.{IsFine, members_are_fine, chosen_member, deeds_run, chosen_acts, acted}
 
@@ -70,11 +72,7 @@ meet_apart splits a b s p q n (k, x, y, w) =
 stands_later : (p t : TxId) (xs ys : List TxId) → tx_in p xs ≡ false → StandsBefore p t (xs ++ ys) → StandsBefore p t ys
 stands_later p t [] ys n b = b
 stands_later p t (x ∷ xs) ys n (inl (s, i)) = absurd (both_ways _ n (or_left (tx_same x p) (tx_in p xs) (subst (λ z. tx_same z p ≡ true) (sym s) (tx_self p))))
-stands_later p t (x ∷ xs) ys n (inr b) = stands_later p t xs ys (none_later (tx_same x p) (tx_in p xs) n) b
-  where
-    none_later : (a c : Bool) → (a || c) ≡ false → c ≡ false
-    none_later true c e = absurd (both_ways true e refl)
-    none_later false c e = e
+stands_later p t (x ∷ xs) ys n (inr b) = stands_later p t xs ys (or_false_right (tx_same x p) (tx_in p xs) n) b
 
 module _ (splits : List ℕ) (before : List (List LogRecord)) (h : History) (after : List (List LogRecord)) (choice : ℕ → Bool) (o : may_open splits before ≡ true) (l : Legal splits before h after) where
   abbrev Follows : Act → Act → Type 0
@@ -102,8 +100,8 @@ module _ (splits : List ℕ) (before : List (List LogRecord)) (h : History) (aft
       (later_told (λ x. ((x.tx).run ≡ run_after before) × (tx_in x.tx (transactions_of (serial_left splits before h after choice)) ≡ true)) _ Follows (told n)
       (λ x y p q r m. ⊎_elim (λ e. inl e) (λ less. inr (by_place n i x.tx y.tx p.0 q.0 q.1 less)) (r (clash_of n x y m)))
       (filter (λ x. chosen splits before h after choice n x.tx) (deeds_before before h after n).items)
-      (all_weaker _ _ (λ x p. (p.0, subst (λ b. b ≡ true) (chosen_member splits before h after choice o l n i x.tx p.0) p.1)) (filter (λ x. chosen splits before h after choice n x.tx) (deeds_before before h after n).items)
-      (all_kept (λ x. (x.tx).run ≡ run_after before) (λ x. chosen splits before h after choice n x.tx) (deeds_before before h after n).items (deeds_run splits before h after choice o l n i)))
+      (all_mono _ _ (λ x p. (p.0, subst (λ b. b ≡ true) (chosen_member splits before h after choice o l n i x.tx p.0) p.1)) (filter (λ x. chosen splits before h after choice n x.tx) (deeds_before before h after n).items)
+      (all_filter (λ x. (x.tx).run ≡ run_after before) (λ x. chosen splits before h after choice n x.tx) (deeds_before before h after n).items (deeds_run splits before h after choice o l n i)))
       (acted splits before h after choice o l n i).2)
 
   -- ---- on all
@@ -111,7 +109,7 @@ module _ (splits : List ℕ) (before : List (List LogRecord)) (h : History) (aft
   on_all : AllLater Follows (member_acts splits before h after choice)
   on_all =
       later_by_shard (λ a. (a.done).shard) (λ a. LiesIn splits a.done) Follows (λ a b p q n m. absurd (meet_apart splits a b l.splits_rise p q n m)) (shard_count splits) (member_acts splits before h after choice)
-      (all_weaker (IsFine splits before) _ (λ a p. (p.1, (p.1).0)) (member_acts splits before h after choice) (members_are_fine splits before h after choice l)) on_one
+      (all_mono (IsFine splits before) _ (λ a p. (p.1, (p.1).0)) (member_acts splits before h after choice) (members_are_fine splits before h after choice l)) on_one
 
 pub meetings_follow_places : MeetingsFollowPlaces
 meetings_follow_places splits before h after choice o l = on_all splits before h after choice o l

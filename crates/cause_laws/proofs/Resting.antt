@@ -15,16 +15,13 @@ use Rattle.clv_base.specs.Undo.{stage_of}
 use Rattle.clv_base.specs.Facts.{doom_by, facts_of, is_waiting}
 use Rattle.clv_base.specs.Coordinator.{others, vote_from, is_good, is_agreed, first_no, cause_by, refusal, refused_ruling, undecided_ruling, ruling_in, ruling_by}
 use Rattle.clv_base.specs.Due.{or_else, rule, request_due, due_of, first_due, known_txs, next_due}
-use Rattle.clv_base.proofs.SameNames.{tx_true, tx_self, insert_keeps}
+use Rattle.clv_base.proofs.SameNames.{tx_true, tx_self}
 use Rattle.law_base.proofs.Changed.{none_some}
+use Rattle.law_base.proofs.Sets.{union_right}
 use Rattle.shard_laws.proofs.Sound.{waiting_here}
 use Rattle.cause_laws.proofs.Votes.{VotesFit, all_good}
 
 -- ---- what is known is looked at
-
-union_right : (t : TxId) (xs ys : List TxId) → tx_in t ys ≡ true → tx_in t (tx_union xs ys) ≡ true
-union_right t [] ys e = e
-union_right t (x ∷ xs) ys e = insert_keeps x t (tx_union xs ys) (union_right t xs ys e)
 
 has_key : {V : Type 0} (t : TxId) (v : V) (rs : Table V) → tx_get t rs ≡ Some v → tx_in t (keys_of rs) ≡ true
 has_key t v [] e = absurd (none_some v e)

@@ -34,11 +34,10 @@ use Rattle.clv_base.specs.Events.{is_alone, coordinate, owe_vote, decided}
 use Rattle.clv_base.proofs.SameNames.{tx_true}
 use Rattle.law_base.proofs.Changed.{none_some, Set_or_old, get_set}
 use Rattle.law_base.proofs.Tables.{stage_by, stage_in, is_pair, get_put}
-use Rattle.law_base.proofs.Stages.{stage_closed, closed_other as stage_other}
+use Rattle.law_base.proofs.Stages.{stage_closed, closed_other as stage_other, written_parts}
 use Rattle.law_base.proofs.Stages.{stage_marked}
 use Rattle.history_laws.proofs.Stepping.{with_work, Step, op_dies, op_answers, request_refused, request_doomed, request_again, request_new, request_closes, looks_well, looks_ill, drops, sends, prepare_closes, prepare_again, vote_counts, decision_comes, decision_again, done_counts, asked, reminds, flushes}
 use Rattle.session_laws.proofs.Replying.{OpIs, dies, rolls, performs, reply_is}
-use Rattle.origin_laws.proofs.Events.{written_parts}
 use Rattle.cause_laws.proofs.Votes.{votes_more}
 use Rattle.cause_laws.proofs.Resting.{Unopposed}
 use Rattle.cause_laws.proofs.Within.{RowFits, Within, Dooms, Alike, row_alike, doom_alike, within_alike, relinked, as_it_is, within_rolled, within_voter}

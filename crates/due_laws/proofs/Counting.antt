@@ -27,6 +27,7 @@ use Rattle.due_laws.proofs.Spending.{open_end}
 use Rattle.std.proofs.lemmas.Bool.{and_parts}
 use Rattle.std.proofs.Common.{is_none, is_some, ⊎_elim}
 use Rattle.clv_base.specs.Facts.{is_closed_state}
+use Rattle.law_base.proofs.Options.{none_of}
 
 -- ---- where nothing comes of a part any more
 
@@ -106,10 +107,6 @@ voted_counts false v vote = refl
 -- ---- rulings
 
 -- nothing is ruled of a lone request whose part is idle
-none_of : {X : Type 0} (o : Option X) → is_none o ≡ true → o ≡ None
-none_of None e = refl
-none_of (Some x) e = absurd (both_ways false refl e)
-
 over_none : (shard : ℕ) (tx : TxId) (q : Request) (f : PartFacts) → is_closed_state f.state ≡ false → f.doom ≡ None → is_lone shard q ≡ true → undecided_ruling shard tx q f (is_agreed shard q f) ≡ None
 over_none shard tx q f apart doom lone = ap (undecided_ruling shard tx q f) disagreed ∙ ap (refused_ruling shard q) (ap (λ c. cause_by tx c f.doom) no ∙ ap (cause_by tx None) doom)
   where

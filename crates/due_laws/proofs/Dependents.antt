@@ -1,6 +1,6 @@
 -- Each that depends on another has a part here: pairs come with a granted operation or a restart, which make the part too, and no part leaves the table.
-use Rattle.std.proofs.Common.{◌≡◌, refl, sym, ap, subst, ℕ, zero, suc, ⊎_elim, Bool, true, false, cond, not, ◌==◌, List, [], ◌∷◌, ◌++◌, map, drop, Option, Some, None}
-use Rattle.std.proofs.lemmas.Bool.{both_ways, or_cases, cond_both}
+use Rattle.std.proofs.Common.{◌≡◌, refl, sym, ap, subst, ℕ, zero, suc, ⊎_elim, Bool, true, false, cond, not, ◌==◌, List, [], ◌∷◌, map, drop, Option, Some, None}
+use Rattle.std.proofs.lemmas.Bool.{both_ways, or_cases}
 use Rattle.std.specs.List.{AllByRecursion, filter}
 use Rattle.std.specs.Map.{keys_of}
 use Rattle.std.specs.declared.cmp.Ordering.{Ordering}
@@ -44,21 +44,8 @@ use Rattle.clv_base.specs.Due.{or_else, with_commit_done, commit_due, give_vote,
 use Rattle.clv_base.specs.Events.{Reply, QuietBeforeWorn, QuietAfterWorn, Does, finish, op_event, is_alone, epoch_in, coordinate, request_by_stage, request_event, look_lost, look_state, look_known, request_epoch, drop_event, owe_vote, on_prepare, with_votes, on_vote, decided, on_decide, with_done, on_done, on_message, to_of, with_outbox, send_event, reminders, remind_with, with_durable, out_event, taken, landed, happen_up, happen, CallAnswer, Quiet, Worn, Enters, next_stamp, stamped, step, land_up, land}
 use Rattle.clv_base.specs.Restarts.{pairs_of_listed, restored_pairs, restored_parts, log_left, next_epoch, log_after_restart, revived, revive_down, revive}
 use Rattle.clv_base.proofs.SameNames.{or_left, or_right, tx_true, tx_self, tx_eq}
+use Rattle.law_base.proofs.Lists.{all_mono, all_append, all_kept}
 use Rattle.due_laws.specs.Depending.{HasPart, DependentsHaveParts, RestartsHaveParts, DueKeepsParts, EventsKeepParts, LandingKeepsParts}
-
--- ---- lists
-
-pub all_mono : {I : Type 0} (P Q : I → Type 0) → ((x : I) → P x → Q x) → (xs : List I) → AllByRecursion P xs → AllByRecursion Q xs
-all_mono P Q h [] a = tt
-all_mono P Q h (x ∷ xs) a = (h x a.0, all_mono P Q h xs a.1)
-
-all_filter : {I : Type 0} (P : I → Type 0) (p : I → Bool) (xs : List I) → AllByRecursion P xs → AllByRecursion P (filter p xs)
-all_filter P p [] a = tt
-all_filter P p (x ∷ xs) a = cond_both (p x) (x ∷ filter p xs) (filter p xs) (AllByRecursion P) (λ e. (a.0, all_filter P p xs a.1)) (λ e. all_filter P p xs a.1)
-
-all_append : {I : Type 0} (P : I → Type 0) (xs ys : List I) → AllByRecursion P xs → AllByRecursion P ys → AllByRecursion P (xs ++ ys)
-all_append P [] ys a b = b
-all_append P (x ∷ xs) ys a b = (a.0, all_append P xs ys a.1 b)
 
 -- ---- parts stay in the table
 
@@ -127,7 +114,7 @@ performed_keeps tx birth op l d =
     (entered tx birth (violated tx (needs_of op l.records) l.locks) l.parts l.pairs (tx_get tx l.parts) refl d)
 
 released_keeps : (set : List TxId) (doom : Option TxId) (l : Local) → DependentsHaveParts l → DependentsHaveParts (release_parts set doom l)
-released_keeps set doom l d = changed _ l.parts (pairs_without set l.pairs) (all_filter (λ p. HasPart l.parts p.0) (λ p. not (tx_in p.0 set)) l.pairs d)
+released_keeps set doom l d = changed _ l.parts (pairs_without set l.pairs) (all_kept (λ p. HasPart l.parts p.0) (λ p. not (tx_in p.0 set)) l.pairs d)
 
 pub rolled_keeps : (tx : TxId) (l : Local) → DependentsHaveParts l → DependentsHaveParts (roll_back tx l)
 rolled_keeps tx l d = released_keeps (doomed_here l tx) (Some tx) (undo (doomed_here l tx) l) d

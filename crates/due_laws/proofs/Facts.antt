@@ -3,6 +3,7 @@ use Rattle.std.proofs.Common.{◌≡◌, refl, sym, ap, subst, ◌∙◌, ℕ, s
 use Rattle.std.specs.List.{filter, list_any}
 use Rattle.std.proofs.lemmas.Bool.{both_ways, or_cases, or_parts, or_from, and_parts, cond-false, false_from_ne_true}
 use Rattle.std.proofs.lemmas.List.Folds.{list_any-append}
+use Rattle.std.proofs.Math.Bool.{or-false}
 use Rattle.std.specs.declared.cmp.Ordering.{Ordering}
 use Rattle.std.specs.declared.cmp.Ordering.TheVariants.{Less, Equal, Greater}
 use Rattle.std.specs.Ordering.{match_ordering}
@@ -11,7 +12,6 @@ use Rattle.clv_base.specs.declared.names.Birth.{Birth}
 use Rattle.clv_base.specs.declared.logs.LogRecord.{LogRecord}
 use Rattle.clv_base.specs.declared.logs.LogRecord.TheVariants.{Update, Clr, Commit, Abort, End}
 use Rattle.clv_base.specs.declared.parts.PartState.{PartState}
-use Rattle.clv_base.specs.declared.state.Stage.{Stage}
 use Rattle.clv_base.specs.declared.state.Held.{Held}
 use Rattle.clv_base.specs.Orders.{Table, pair_cmp, pair_insert, tx_same, tx_in, tx_insert, tx_get}
 use Rattle.clv_base.specs.Logs.{StandingUpdate, standing, is_update_of, is_commit_of, is_prepare_of, wrote_in, committed_in, prepared_in, place_from, commit_lsn, prepare_lsn}
@@ -23,7 +23,10 @@ use Rattle.clv_base.specs.declared.parts.PartFacts.{PartFacts}
 use Rattle.clv_base.specs.Facts.{predecessors_of, undecided_of, greater_place, greatest_commit, due_by, due_lsn_of, state_by, doom_by, is_restored_by, facts_in}
 use Rattle.clv_base.specs.OneShard.{active_part, new_part, add_pairs, closing, closed_part, closed_in, dropped_part, mark_dropped, written, locked}
 use Rattle.clv_base.proofs.SameNames.{or_left, or_right, tx_true, tx_self, tx_flip}
-use Rattle.law_base.proofs.Tables.{get_put, get_changed, is_pair, in_pair}
+use Rattle.law_base.proofs.Tables.{get_put, get_changed, is_pair, in_pair, stage_by}
+use Rattle.law_base.proofs.Stages.{same_part}
+use Rattle.law_base.proofs.Commits.{no_place_from, closing_commits}
+use Rattle.law_base.proofs.Sets.{flip_apart}
 use Rattle.due_laws.specs.Changes.{ChangesOnly, successors_of, ReleasesChange, RollBacksChange, CommitsChange, EndsChange, ClosesChange, OperationsChange, MarksChange, PurgesChange}
 
 -- ---- predecessors whose COMMITs stay
@@ -87,15 +90,8 @@ facts_same l m x durable s =
 
 -- ---- parts
 
-same_part : (o : Option Held) → elim o [ Some h ↦ Some h | None ↦ None ] ≡ o
-same_part None = refl
-same_part (Some h) = refl
-
 get_same : (test : TxId → Bool) (f : Held → Held) (x : TxId) (parts : Table Held) → test x ≡ false → tx_get x (map (λ p. (p.0, cond (test p.0) (f p.1) p.1)) parts) ≡ tx_get x parts
 get_same test f x parts out = get_changed test f x parts ∙ ap (λ b. elim (tx_get x parts) [ Some h ↦ Some (cond b (f h) h) | None ↦ None ]) out ∙ same_part (tx_get x parts)
-
-abbrev stage_by : Option Held → Option Stage
-stage_by o = elim o [ Some h ↦ Some h.stage | None ↦ None ]
 
 -- ---- pairs
 
@@ -135,19 +131,11 @@ successor_in x p (q ∷ qs) e = at (tx_same p q.1) refl e (successor_in x p qs)
 
 -- ---- records more
 
-or_none : (b : Bool) → (b || false) ≡ b
-or_none true = refl
-or_none false = refl
-
 wrote_more : (log more : List LogRecord) (x : TxId) → wrote_in more x ≡ false → wrote_in (log ++ more) x ≡ wrote_in log x
-wrote_more log more x e = list_any-append (is_update_of x) log more ∙ ap (λ b. wrote_in log x || b) e ∙ or_none (wrote_in log x)
-
-none_from : (n : ℕ) (f : LogRecord → Bool) (rs : List LogRecord) → list_any f rs ≡ false → place_from n f rs ≡ None
-none_from n f [] e = refl
-none_from n f (r ∷ rs) e = let p = or_parts (f r) (list_any f rs) e in cond-false (f r) (Some n) (place_from (suc n) f rs) p.0 ∙ none_from (suc n) f rs p.1
+wrote_more log more x e = list_any-append (is_update_of x) log more ∙ ap (λ b. wrote_in log x || b) e ∙ or-false (wrote_in log x)
 
 pub place_more : (n : ℕ) (f : LogRecord → Bool) (log more : List LogRecord) → list_any f more ≡ false → place_from n f (log ++ more) ≡ place_from n f log
-place_more n f [] more e = none_from n f more e
+place_more n f [] more e = no_place_from n f more e
 place_more n f (r ∷ rs) more e = ap (λ p. cond (f r) (Some n) p) (place_more (suc n) f rs more e)
 
 -- nothing of the transaction that its facts depend on
@@ -264,15 +252,6 @@ closing_prepares true true tx home [] x o = refl
 closing_prepares true true tx home (u ∷ us) x o = or_from _ _ o refl
 closing_prepares true false tx home us x o = or_from _ _ o refl
 closing_prepares false one tx home us x o = refl
-
-closing_commits : (b one : Bool) (tx : TxId) (home : ℕ) (us : List TxId) (x : TxId) → tx_same x tx ≡ false → committed_in (closing b one tx home us) x ≡ false
-closing_commits true true tx home [] x o = or_from _ _ o refl
-closing_commits true true tx home (u ∷ us) x o = refl
-closing_commits true false tx home us x o = refl
-closing_commits false one tx home us x o = refl
-
-flip_apart : (x tx : TxId) → tx_same x tx ≡ false → tx_same tx x ≡ false
-flip_apart x tx o = false_from_ne_true _ (λ e. both_ways _ o (tx_flip tx x e))
 
 pub closes_change : ClosesChange
 closes_change l tx home one x out durable =

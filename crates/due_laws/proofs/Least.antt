@@ -1,12 +1,11 @@
 -- The least candidate for which something is due is the least transaction for which something is due.
 use Rattle.std.proofs.Common.{◌≡◌, ◌⊎◌, inl, inr, ⊎_elim, refl, sym, ap, subst, ◌∙◌, ℕ, true, false, cond, Bool, ◌||◌, List, [], ◌∷◌, Option, Some, None, is_some}
 use Rattle.std.proofs.lemmas.Bool.{both_ways, or_cases, and_parts}
-use Rattle.std.specs.List.{AllByRecursion}
 use Rattle.std.specs.List.Sorted.{IsStrictlySortedBy}
 use Rattle.std.specs.Map.{keys_of}
 use Rattle.std.specs.declared.cmp.Ordering.{Ordering}
 use Rattle.std.specs.declared.cmp.Ordering.TheVariants.{Less, Equal, Greater}
-use Rattle.std.specs.Ordering.{is_eq, match_ordering, ordering_reverse}
+use Rattle.std.specs.Ordering.{is_eq, match_ordering}
 use Rattle.clv_base.specs.declared.names.TxId.{TxId}
 use Rattle.clv_base.specs.declared.state.Held.{Held}
 use Rattle.clv_base.specs.declared.state.Voter.{Voter}
@@ -17,14 +16,11 @@ use Rattle.clv_base.specs.declared.parts.PartFacts.{PartFacts}
 use Rattle.clv_base.specs.Facts.{state_by, facts_of, is_closed_state}
 use Rattle.clv_base.specs.Due.{due_of, first_due, known_txs}
 use Rattle.clv_base.proofs.SameNames.{or_left, or_right, tx_true, tx_self, tx_flip, insert_keeps, insert_has}
-use Rattle.law_base.proofs.Sets.{tx_total}
+use Rattle.law_base.proofs.Sets.{tx_total, less_from_greater, above_more, above_insert, AllAbove, union_right}
 use Rattle.due_laws.specs.Candidates.{is_commit_due, is_vote_due, is_ruling_due, is_due, Cover, LeastIsNext, OthersCover, NoneIsNothing, AtRestNone}
 use Rattle.due_laws.proofs.Deciding.{due_by_facts}
 
 -- ---- lists that rise
-
-abbrev Above : TxId → List TxId → Type 0
-Above t ts = AllByRecursion (λ u. tx_cmp t u ≡ Less) ts
 
 abbrev Rise : List TxId → Type 0
 Rise ts = IsStrictlySortedBy tx_cmp ts
@@ -32,27 +28,11 @@ Rise ts = IsStrictlySortedBy tx_cmp ts
 pub not_less : (t : TxId) → tx_cmp t t ≡ Less → ⊥
 not_less t e = both_ways _ (ap is_eq e) (tx_self t)
 
-pub above_in : (t x : TxId) (ts : List TxId) → Above t ts → tx_in x ts ≡ true → tx_cmp t x ≡ Less
+pub above_in : (t x : TxId) (ts : List TxId) → AllAbove t ts → tx_in x ts ≡ true → tx_cmp t x ≡ Less
 above_in t x [] a i = absurd (both_ways false refl i)
 above_in t x (u ∷ us) a i = ⊎_elim (λ h. subst (λ z. tx_cmp t z ≡ Less) (tx_true u x h) a.0) (λ h. above_in t x us a.1 h) (or_cases (tx_same u x) (tx_in x us) i)
 
-above_more : (a b : TxId) (xs : List TxId) → tx_cmp a b ≡ Less → Above b xs → Above a xs
-above_more a b [] l h = tt
-above_more a b (x ∷ xs) l h = (tx_total.trans a b x l h.0, above_more a b xs l h.1)
-
-above_case : (o : Ordering) (a t y : TxId) (xs ys : List TxId) → tx_cmp a t ≡ Less → Above a (y ∷ xs) → Above a ys → Above a (match_ordering o (t ∷ y ∷ xs) (y ∷ xs) (y ∷ ys))
-above_case Less a t y xs ys l h k = (l, h)
-above_case Equal a t y xs ys l h k = h
-above_case Greater a t y xs ys l h k = (h.0, k)
-
-above_insert : (a t : TxId) (xs : List TxId) → tx_cmp a t ≡ Less → Above a xs → Above a (tx_insert t xs)
-above_insert a t [] l h = (l, tt)
-above_insert a t (y ∷ ys) l h = above_case (tx_cmp t y) a t y ys (tx_insert t ys) l h (above_insert a t ys l h.1)
-
-less_from_greater : (a b : TxId) → tx_cmp a b ≡ Greater → tx_cmp b a ≡ Less
-less_from_greater a b e = tx_total.antisymm b a ∙ ap ordering_reverse e
-
-rise_case : (o : Ordering) (t y : TxId) (xs ys : List TxId) → tx_cmp t y ≡ o → Rise (y ∷ xs) → (o ≡ Greater → Above y ys) → Rise ys → Rise (match_ordering o (t ∷ y ∷ xs) (y ∷ xs) (y ∷ ys))
+rise_case : (o : Ordering) (t y : TxId) (xs ys : List TxId) → tx_cmp t y ≡ o → Rise (y ∷ xs) → (o ≡ Greater → AllAbove y ys) → Rise ys → Rise (match_ordering o (t ∷ y ∷ xs) (y ∷ xs) (y ∷ ys))
 unfolding IsStrictlySortedBy
 rise_case Less t y xs ys e h k r = ((e, above_more t y xs e h.0), h)
 rise_case Equal t y xs ys e h k r = h
@@ -74,10 +54,6 @@ union_left x (u ∷ us) ys i =
     (λ h. subst (λ z. tx_in z (tx_insert u (tx_union us ys)) ≡ true) (tx_true u x h) (insert_has u (tx_union us ys)))
     (λ h. insert_keeps u x (tx_union us ys) (union_left x us ys h))
     (or_cases (tx_same u x) (tx_in x us) i)
-
-union_right : (x : TxId) (xs ys : List TxId) → tx_in x ys ≡ true → tx_in x (tx_union xs ys) ≡ true
-union_right x [] ys i = i
-union_right x (u ∷ us) ys i = insert_keeps u x (tx_union us ys) (union_right x us ys i)
 
 -- ---- who has something due is known
 

@@ -30,6 +30,8 @@ use Rattle.law_base.proofs.Sets.{in_filter}
 use Rattle.law_base.specs.Undone.{stays_of}
 use Rattle.law_base.proofs.Undoing.{standing_append, standing_undone}
 use Rattle.law_base.proofs.Stages.{stage_other, own_go}
+use Rattle.law_base.proofs.Lists.{all_mono, all_kept}
+use Rattle.law_base.proofs.Due.{do_due_at}
 use Rattle.due_laws.specs.Purging.{has_lock, IsLocked, WritesAreLocked, PurgesDontMatter}
 
 -- ---- locks
@@ -143,14 +145,6 @@ alike_undone set locks ws rs qs a h = sym (undo_purged set locks ws a rs) ∙ ap
 
 -- ---- writes stay locked
 
-all_mono : {I : Type 0} (P Q : I → Type 0) → ((x : I) → P x → Q x) → (xs : List I) → AllByRecursion P xs → AllByRecursion Q xs
-all_mono P Q h [] a = tt
-all_mono P Q h (x ∷ xs) a = (h x a.0, all_mono P Q h xs a.1)
-
-all_filter : {I : Type 0} (P : I → Type 0) (p : I → Bool) (xs : List I) → AllByRecursion P xs → AllByRecursion P (filter p xs)
-all_filter P p [] a = tt
-all_filter P p (x ∷ xs) a = cond_both (p x) (x ∷ filter p xs) (filter p xs) (AllByRecursion P) (λ e. (a.0, all_filter P p xs a.1)) (λ e. all_filter P p xs a.1)
-
 locked_released : (set : List TxId) (d : Option TxId) (l : Local) (w : StandingUpdate) → IsLocked l w → IsLocked (release_parts set d l) w
 locked_released set d l w h here =
     let out : tx_in w.tx set ≡ false = false_from_ne_true _ (λ i. both_ways _ (own_go set d w.tx l.parts i) here) in
@@ -163,7 +157,7 @@ rolled_locked : (tx : TxId) (l : Local) → WritesAreLocked l → WritesAreLocke
 rolled_locked tx l a =
     let set = doomed_here l tx in
     subst (AllByRecursion (IsLocked (roll_back tx l))) (sym (standing_undone set l.log))
-    (all_mono (IsLocked l) (IsLocked (roll_back tx l)) (locked_released set (Some tx) l) (filter (stays_of set) (standing l.log)) (all_filter (IsLocked l) (stays_of set) (standing l.log) a))
+    (all_mono (IsLocked l) (IsLocked (roll_back tx l)) (locked_released set (Some tx) l) (filter (stays_of set) (standing l.log)) (all_kept (IsLocked l) (stays_of set) (standing l.log) a))
 
 doomed_held : (tx : TxId) (l : Local) → WritesAreLocked l → AreHeld (doomed_here l tx) l.locks (standing l.log)
 doomed_held tx l a = all_mono (IsLocked l) (λ (w : StandingUpdate). tx_in w.tx (doomed_here l tx) ≡ true → is_held_at w.key l.locks ≡ true)
@@ -247,10 +241,7 @@ module _ (s : Shard) (rs : Records) (same : Alike s.local.locks rs s.local.recor
   both_first [] = tt
   both_first (tx ∷ txs) = both_found (due_of s tx) (due_of (recs rs s) tx) (first_due s txs) (first_due (recs rs s) txs) (both_due tx) (both_first txs)
 
-abbrev do_at : ℕ → Shard → Option Shard → Shard
-do_at n s o = elim o [ Some t ↦ do_due n t | None ↦ s ]
-
-same_at : (n : ℕ) (s u : Shard) (o p : Option Shard) → SameBut s u → Both o p → ((t v : Shard) → SameBut t v → WritesAreLocked t.local → SameBut (do_due n t) (do_due n v)) → SameBut (do_at n s o) (do_at n u p)
+same_at : (n : ℕ) (s u : Shard) (o p : Option Shard) → SameBut s u → Both o p → ((t v : Shard) → SameBut t v → WritesAreLocked t.local → SameBut (do_due n t) (do_due n v)) → SameBut (do_due_at n s o) (do_due_at n u p)
 same_at n s u None None same b more = same
 same_at n s u (Some t) (Some v) same b more = more t v b.0 b.1
 same_at n s u None (Some v) same b more = absurd b

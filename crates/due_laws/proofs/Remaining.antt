@@ -37,6 +37,7 @@ use Rattle.std.proofs.lemmas.Bool.{or_cases, and_parts}
 use Rattle.std.proofs.Common.{length, ⊎_elim, is_some}
 use Rattle.std.proofs.lemmas.Bool.{both_ways}
 use Rattle.clv_base.specs.Facts.{is_closed_state}
+use Rattle.law_base.proofs.Tables.{stage_by as stage_in}
 
 -- where there is a next state, less is left in it
 data LessLeft (s : Shard) : Option Shard → Type 0 where
@@ -58,27 +59,24 @@ GoneLess : Table Held → Table Held → Option Stage → Type 0
 GoneLess parts gone None = Unit {0}
 GoneLess parts gone (Some st) = total part_work gone + stage_work st ≤ total part_work parts
 
-stage_in : Option Held → Option Stage
-stage_in o = elim o [ Some h ↦ Some h.stage | None ↦ None ]
-
 gone_later : (h : TxId × Held) (ps gs : Table Held) (o : Option Held) → GoneLess ps gs (stage_in o) → GoneLess (h ∷ ps) (h ∷ gs) (stage_in o)
-unfolding GoneLess stage_in
+unfolding GoneLess
 gone_later h ps gs None g = tt
 gone_later h ps gs (Some x) g = omega arith
 
 gone_here : (p : TxId × Held) (ps gs : Table Held) (d : Option TxId) (b : Bool) (o : Option Held) → total part_work gs ≤ total part_work ps → GoneLess ps gs (stage_in o)
     → GoneLess (p ∷ ps) ((p.0, cond (b || false) (gone_part d p.1) p.1) ∷ gs) (stage_in (cond b (Some p.1) o))
-unfolding GoneLess stage_in
+unfolding GoneLess
 gone_here p ps gs d true o h g = omega arith
 gone_here p ps gs d false o h g = gone_later p ps gs o g
 
 gone_less : (tx : TxId) (d : Option TxId) (parts : Table Held) → GoneLess parts (gone_in (tx ∷ []) d parts) (stage_in (tx_get tx parts))
-unfolding GoneLess stage_in
+unfolding GoneLess
 gone_less tx d [] = tt
 gone_less tx d (p ∷ ps) = gone_here p ps (gone_in (tx ∷ []) d ps) d (tx_same tx p.0) (tx_get tx ps) (gone_le (tx ∷ []) d ps) (gone_less tx d ps)
 
 gone_closed : (l : Local) (tx : TxId) → stage_of l tx ≡ Some Closed → total part_work (gone_in (tx ∷ []) None l.parts) + 1 ≤ total part_work l.parts
-unfolding GoneLess stage_in
+unfolding GoneLess
 gone_closed l tx e = subst (λ o. GoneLess l.parts (gone_in (tx ∷ []) None l.parts) o) e (gone_less tx None l.parts)
 
 -- ---- voters and requests whose parts change

@@ -25,14 +25,15 @@ use Rattle.clv_base.specs.History.{state_before}
 use Rattle.law_base.specs.Items.{Item}
 use Rattle.law_base.proofs.Lists.{all_mono, all_push}
 use Rattle.law_base.proofs.Rows.{rows_get}
+use Rattle.law_base.proofs.Sets.{in_filter}
+use Rattle.law_base.proofs.Stages.{stage_of_some}
 use Rattle.shard_laws.specs.OneShard.{with_one, new_item, new_met, has_met, is_doomed, doomed_in, left_out}
 use Rattle.shard_laws.proofs.Histories.{named_doomed}
 use Rattle.shard_laws.proofs.Leaving.{in_two}
-use Rattle.shard_laws.proofs.Dooming.{in_filter}
 use Rattle.history_laws.proofs.Merging.{Placed, among_right}
 use Rattle.session_laws.proofs.Adding.{one_met}
 use Rattle.origin_laws.proofs.Sessions.{Requested}
-use Rattle.origin_laws.proofs.Origins.{SomeRequest, BirthFrom, PartFrom, stage_row}
+use Rattle.origin_laws.proofs.Origins.{SomeRequest, BirthFrom, PartFrom}
 use Rattle.origin_laws.proofs.Entries.{Did, DidAny, IsOld, DidOrOld, Traced, any_of, old_more}
 use Rattle.each_shard_laws.proofs.Fallen.{FellOn, is_left_out}
 use Rattle.each_shard_laws.specs.Leading.{Deeds, deeds_with, falling}
@@ -64,7 +65,7 @@ held_did run pre n s t p false q k r g d = any_of run pre n s.local.epoch t p.bi
 pub part_did : (run : ℕ) (pre : History) (n : ℕ) (s : Shard) (t : TxId) (o : Option Stage) → Traced run pre n s → RestoredArePrepared s.local → stage_of s.local t ≡ o → (o ≡ None → ⊥) → DidOrOld run pre n t
 part_did run pre n s t None k r e n0 = absurd (n0 refl)
 part_did run pre n s t (Some st) k r e n0 =
-    let h = stage_row s.local.parts t st e in
+    let h = stage_of_some s.local.parts t st e in
     held_did run pre n s t h.0 (h.0).is_restored refl k r h.1 (rows_get (λ y. PartFrom (Did pre n s.local.epoch) (SomeRequest (Requested pre) (IsOld run)) y.0 y.1) t h.0 s.local.parts (k.origins).parts h.1).0
 
 pub none_doomed : (o : Option Stage) → is_doomed o ≡ true → o ≡ None → ⊥

@@ -28,18 +28,18 @@ use Rattle.clv_base.specs.Events.{is_alone, coordinate, owe_vote, decided, ask_m
 use Rattle.clv_base.specs.Restarts.{log_left, revived, home_by, homes_of, unended_in, opened, log_after_restart, Restarts}
 use Rattle.clv_base.specs.Journals.{up_to_restart}
 use Rattle.law_base.proofs.Rows.{rows_get, rows_put}
-use Rattle.law_base.proofs.Lists.{all_mono}
+use Rattle.law_base.proofs.Lists.{all_mono, all_append, all_of}
 use Rattle.law_base.proofs.Sets.{in_filter}
 use Rattle.history_laws.proofs.Stepping.{Step, op_dies, op_answers, request_refused, request_doomed, request_again, request_new, request_closes, looks_well, looks_ill, drops, sends, prepare_closes, prepare_again, vote_counts, decision_comes, decision_again, done_counts, asked, reminds, flushes, Happens, finishes, stops}
 use Rattle.history_laws.proofs.Entering.{Makes, by_event, by_flush, by_failure, by_restart}
 use Rattle.history_laws.proofs.Uncommitting.{rolled, dropped, op_dying, op_answering, restarts_add, opening_adds}
-use Rattle.history_laws.proofs.Telling.{all_append, all_map}
+use Rattle.history_laws.proofs.Telling.{all_map}
 use Rattle.history_laws.proofs.TellingEvents.{front_committed}
 use Rattle.fate_laws.proofs.Prepares.{front_prepare, opening_adds as opening_prepares, rolled as rolled_prepares, dropped as dropped_prepares, op_dying as dying_prepares, op_answering as answering_prepares, restarts_add as restarts_prepare}
 use Rattle.fate_laws.proofs.HomesEvents.{none_committed}
 use Rattle.earlier_laws.proofs.Elder.{MayHave, MayAnswer, Tells, Opens, Elder, elder_log, elder_same, elder_commit, elder_prepare, elder_send, elder_set, opens_at, elder_durable, elder_finish}
 use Rattle.file_laws.proofs.Doubts.{doubt_prepared}
-use Rattle.file_laws.proofs.Rows.{all_in, all_rows}
+use Rattle.file_laws.proofs.Rows.{all_in}
 use Rattle.shard_laws.proofs.Ordered.{prepare_some}
 
 -- ---- what is owed
@@ -132,7 +132,7 @@ module _ (R O : TxId → Type 0) (H : ℕ → TxId → Type 0) where
       (all_append (Tells R O H) (each_request (λ tx q. missing_votes s.shard tx q q.state) s.requests) _
       (each_told (λ tx q. missing_votes s.shard tx q q.state) s.requests (all_mono (λ r. Opens R r.0 (r.1).state) _ (λ r. missing_told s.shard r.0 r.1 (r.1).state) s.requests p.rows))
       (each_told (λ tx q. elim (tx_in tx (durable_requests s)) [ true ↦ missing_dones s.shard tx q q.state | false ↦ [] ]) s.requests
-      (all_rows _
+      (all_of _
       (λ r. dones_if s.shard r.0 r.1 (tx_in r.0 (durable_requests s)) (λ i. elder_durable R O H s r.0 (in_filter (λ tx. has_durable_commit (facts_of s tx)) r.0 (keys_of s.requests) i).1 p))
       s.requests)))
       (asks_told s (waiting_voters s) p)

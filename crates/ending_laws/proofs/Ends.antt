@@ -25,27 +25,13 @@ use Rattle.clv_base.specs.OneShard.{OpDies, OpAnswers, written, locked, rolled_b
 use Rattle.clv_base.specs.Events.{is_alone}
 use Rattle.clv_base.specs.Restarts.{undo_records, restart_records, log_after_restart, next_epoch, losers, FailedRestarts, untouched, failed_first, Restarts}
 use Rattle.clv_base.proofs.SameNames.{tx_true}
-use Rattle.law_base.proofs.Changed.{none_some, some_same}
-use Rattle.law_base.proofs.Commits.{committed_keeps}
+use Rattle.law_base.proofs.Changed.{some_same}
+use Rattle.law_base.proofs.Commits.{committed_keeps, parts_keep}
+use Rattle.law_base.proofs.Lists.{all_append}
 use Rattle.session_laws.proofs.Replying.{OpIs, dies, rolls, performs, reply_is}
-use Rattle.history_laws.proofs.Telling.{all_append}
 use Rattle.history_laws.proofs.Stepping.{Step, op_dies, op_answers, request_refused, request_doomed, request_again, request_new, request_closes, looks_well, looks_ill, drops, sends, prepare_closes, prepare_again, vote_counts, decision_comes, decision_again, done_counts, asked, reminds, flushes}
 
 -- ---- the parts that a COMMIT names: those of the first one, in a longer log too
-
-parts_case : (b : Bool) (x ps : List ℕ) (o p : Option (List ℕ)) → cond b (Some x) o ≡ Some ps → (o ≡ Some ps → p ≡ Some ps) → cond b (Some x) p ≡ Some ps
-parts_case true x ps o p e k = e
-parts_case false x ps o p e k = k e
-
-pub parts_more : (log more : List LogRecord) (t : TxId) (ps : List ℕ) → commit_parts log t ≡ Some ps → commit_parts (log ++ more) t ≡ Some ps
-parts_more [] more t ps e = absurd (none_some ps e)
-parts_more (Commit tx parts ∷ rs) more t ps e = parts_case (tx_same t tx) parts ps (commit_parts rs t) (commit_parts (rs ++ more) t) e (parts_more rs more t ps)
-parts_more (Update tx k b a ∷ rs) more t ps e = parts_more rs more t ps e
-parts_more (Clr tx u k a ∷ rs) more t ps e = parts_more rs more t ps e
-parts_more (Prepare tx home qs ∷ rs) more t ps e = parts_more rs more t ps e
-parts_more (Abort tx ∷ rs) more t ps e = parts_more rs more t ps e
-parts_more (End tx ∷ rs) more t ps e = parts_more rs more t ps e
-parts_more (Restart run epoch ∷ rs) more t ps e = parts_more rs more t ps e
 
 there_case : (b : Bool) (x : List ℕ) (c : Bool) (o : Option (List ℕ)) → (b || c) ≡ true → (c ≡ true → (ps : List ℕ) × (o ≡ Some ps)) → (ps : List ℕ) × (cond b (Some x) o ≡ Some ps)
 there_case true x c o e k = (x, refl)
@@ -65,11 +51,11 @@ parts_there (Restart run epoch ∷ rs) t e = parts_there rs t e
 pub parts_back : (log more : List LogRecord) (t : TxId) (ps : List ℕ) → committed_in log t ≡ true → commit_parts (log ++ more) t ≡ Some ps → commit_parts log t ≡ Some ps
 parts_back log more t ps c e =
     let k = parts_there log t c in
-    let q : k.0 ≡ ps = some_same k.0 ps (sym (parts_more log more t k.0 k.1) ∙ e) in
+    let q : k.0 ≡ ps = some_same k.0 ps (sym (parts_keep log more t k.0 k.1) ∙ e) in
     subst (λ z. commit_parts log t ≡ Some z) q k.1
 
 pub parts_front : (n : ℕ) (log : List LogRecord) (t : TxId) (ps : List ℕ) → commit_parts (take n log) t ≡ Some ps → commit_parts log t ≡ Some ps
-parts_front n log t ps e = subst (λ z. commit_parts z t ≡ Some ps) (take-append-drop n log) (parts_more (take n log) (drop n log) t ps e)
+parts_front n log t ps e = subst (λ z. commit_parts z t ≡ Some ps) (take-append-drop n log) (parts_keep (take n log) (drop n log) t ps e)
 
 pub ended_front : (n : ℕ) (log : List LogRecord) (t : TxId) → ended_in (take n log) t ≡ true → ended_in log t ≡ true
 ended_front n log t e = subst (λ z. ended_in z t ≡ true) (take-append-drop n log) (list_any-append (is_end_of t) (take n log) (drop n log) ∙ or_left _ _ e)

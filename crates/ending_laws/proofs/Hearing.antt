@@ -27,17 +27,19 @@ use Rattle.clv_base.specs.Coordinator.{is_agreed, is_good, vote_from, others, en
 use Rattle.clv_base.specs.Due.{send, commit_messages, with_vote, finish_reader, with_ruling, do_ruling, with_due_done}
 use Rattle.clv_base.specs.Events.{finish}
 use Rattle.law_base.proofs.Changed.{none_some, some_same, get_set}
+use Rattle.law_base.proofs.Lists.{all_append}
+use Rattle.law_base.proofs.Commits.{parts_keep}
 use Rattle.order_laws.proofs.Records.{committed_there}
 use Rattle.shard_laws.proofs.Rulings.{parts_new}
 use Rattle.shard_laws.proofs.Sound.{waiting_here}
 use Rattle.history_laws.proofs.Stepping.{Due, commits, votes, rules, KeptByDue, settled}
-use Rattle.history_laws.proofs.Telling.{all_append, all_map}
+use Rattle.history_laws.proofs.Telling.{all_map}
 use Rattle.fate_laws.proofs.Inside.{Inside, inside_due}
 use Rattle.fate_laws.proofs.Homes.{Starts, now_at}
 use Rattle.fate_laws.proofs.Parts.{commit_agreed}
 use Rattle.fate_laws.proofs.HomesFound.{nat_at}
 use Rattle.fate_laws.proofs.Rulings.{no_end_undecided}
-use Rattle.ending_laws.proofs.Ends.{GoesOn, on_same, on_more, on_rolled, parts_more, Tell, tell_on, tell_end}
+use Rattle.ending_laws.proofs.Ends.{GoesOn, on_same, on_more, on_rolled, Tell, tell_on, tell_end}
 use Rattle.file_laws.proofs.Rows.{put_row}
 
 -- ---- what is known. K: where whose COMMIT is durable
@@ -69,7 +71,7 @@ pub record Hears (K : ℕ → TxId → Type 0) (s : Shard) : Type 0 where
 -- ---- changes
 
 awaits_on : (log new : List LogRecord) (tx : TxId) (st : RequestState) → GoesOn log new → Awaits log tx st → Awaits new tx st
-awaits_on log new tx (Committed parts) g (ps, e, k) = (ps, subst (λ z. commit_parts z tx ≡ Some ps) g.1 (parts_more log g.0 tx ps e), k)
+awaits_on log new tx (Committed parts) g (ps, e, k) = (ps, subst (λ z. commit_parts z tx ≡ Some ps) g.1 (parts_keep log g.0 tx ps e), k)
 awaits_on log new tx Undecided g a = tt
 awaits_on log new tx Finished g a = tt
 awaits_on log new tx (Refused cause) g a = tt
@@ -152,7 +154,7 @@ hears_ruling K s tx q EndVerdict g e p =
     }
   where
     awaits_end : (u : TxId) (st : RequestState) → Awaits s.local.log u st → Awaits (do_ruling tx EndVerdict (with_ruling tx q EndVerdict s)).local.log u st
-    awaits_end u (Committed parts) (ps, c, k) = (ps, parts_more s.local.log _ u ps c, k)
+    awaits_end u (Committed parts) (ps, c, k) = (ps, parts_keep s.local.log _ u ps c, k)
     awaits_end u Undecided a = tt
     awaits_end u Finished a = tt
     awaits_end u (Refused cause) a = tt

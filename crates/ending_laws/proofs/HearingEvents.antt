@@ -32,14 +32,14 @@ use Rattle.clv_base.specs.Events.{finish, is_alone, coordinate, decided, ask_mes
 use Rattle.clv_base.specs.Restarts.{log_left, revived, opened, unended_in, log_after_restart, Restarts}
 use Rattle.clv_base.specs.Journals.{event_state, after_entry, up_to_restart}
 use Rattle.clv_base.proofs.SameNames.{nat_cmp_true}
-use Rattle.law_base.proofs.Lists.{all_mono}
+use Rattle.law_base.proofs.Lists.{all_mono, all_append}
 use Rattle.law_base.proofs.Commits.{commit_durable, durable_keeps}
 use Rattle.protocol_laws.proofs.Growing.{grows_settled}
 use Rattle.shard_laws.proofs.Relisting.{request_from}
 use Rattle.history_laws.proofs.Stepping.{Step, op_dies, op_answers, request_refused, request_doomed, request_again, request_new, request_closes, looks_well, looks_ill, drops, sends, prepare_closes, prepare_again, vote_counts, decision_comes, decision_again, done_counts, asked, reminds, flushes, Happens, finishes, stops}
 use Rattle.history_laws.proofs.Entering.{Makes, by_event, by_flush, by_failure, by_restart}
 use Rattle.history_laws.proofs.Durability.{Counted, framed_finish}
-use Rattle.history_laws.proofs.Telling.{all_append, all_map}
+use Rattle.history_laws.proofs.Telling.{all_map}
 use Rattle.fate_laws.proofs.Inside.{inside_self, inside_step}
 use Rattle.ending_laws.proofs.Ends.{on_more, on_rolled, on_dropped, on_closed, on_opened, on_restarted, step_on, Tell, tell_on, tell_front, tell_mono}
 use Rattle.ending_laws.proofs.Unended.{unended}

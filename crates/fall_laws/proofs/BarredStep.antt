@@ -8,17 +8,17 @@ use Rattle.clv_base.specs.declared.state.Voter.{Voter}
 use Rattle.clv_base.specs.declared.state.Request.{Request}
 use Rattle.clv_base.specs.declared.state.RequestState.TheVariants.{Undecided}
 use Rattle.clv_base.specs.declared.state.Stage.TheVariants.{Active, Closed}
-use Rattle.clv_base.specs.Orders.{Table, tx_same, tx_get}
+use Rattle.clv_base.specs.Orders.{tx_same, tx_get}
 use Rattle.clv_base.specs.Logs.{committed_in, prepared_in, prepare_of}
 use Rattle.clv_base.specs.State.{Shard, Local, is_present, with_local}
-use Rattle.clv_base.specs.Undo.{stage_of, gone_in, doomed_here, roll_back}
+use Rattle.clv_base.specs.Undo.{stage_of, doomed_here, roll_back}
 use Rattle.clv_base.proofs.SameNames.{tx_true, tx_self}
 use Rattle.law_base.proofs.Changed.{none_some}
 use Rattle.law_base.proofs.Tables.{stage_in, is_pair}
 use Rattle.protocol_laws.specs.Growth.{IsPrefixOf}
 use Rattle.history_laws.proofs.Serials.{committed_front}
 use Rattle.history_laws.proofs.Uncommitting.{rolled as rolled_commits}
-use Rattle.law_base.proofs.Stages.{absent_go}
+use Rattle.law_base.proofs.Stages.{was_present, written_parts}
 use Rattle.fate_laws.proofs.Homes.{still_not}
 use Rattle.fate_laws.proofs.Prepares.{rolled}
 use Rattle.fate_laws.proofs.Downwards.{Down}
@@ -47,7 +47,6 @@ use Rattle.fall_laws.proofs.Lined.{Lined, lined_performed}
 use Rattle.fall_laws.proofs.Barred.{Out, Lost, Barred, barred_next, rolled_goes}
 use Rattle.fall_laws.proofs.BarredDue.{lined_rolled, out_open}
 use Rattle.order_laws.proofs.Records.{prepared_there}
-use Rattle.origin_laws.proofs.Events.{written_parts}
 
 -- ---- only requests, voters, messages and the like change
 
@@ -74,13 +73,6 @@ rolled_down : (s : Shard) (u : TxId) → Down s → Down (with_local (roll_back 
 rolled_down s u d a c k i =
     committed_front s.local.log (roll_back u s.local).log c (more_twice s.local.log _ _) (d a c (rolled_commits u s.local a k) (without_pairs (doomed_here s.local u) s.local.pairs a c i).0)
 
-absent_back : (set : List TxId) (d : Option TxId) (t : TxId) (parts : Table Held) → is_present (stage_in (gone_in set d parts) t) ≡ true → is_present (stage_in parts t) ≡ true
-absent_back set d t parts h = at (is_present (stage_in parts t)) refl
-  where
-    at : (b : Bool) → is_present (stage_in parts t) ≡ b → is_present (stage_in parts t) ≡ true
-    at true e = e
-    at false e = absurd (both_ways _ (absent_go set d t parts e) h)
-
 pub barred_rolled : (K V O Q : TxId → Type 0) (s : Shard) (u : TxId) → committed_in s.local.log u ≡ false
     → ((p : ℕ × List TxId) → is_present (stage_of (roll_back u s.local) u) ≡ false → prepare_of s.local.log u ≡ Some p → Lost K V O (with_local (roll_back u) s) u p) → Barred K V O Q s → Barred K V O Q (with_local (roll_back u) s)
 barred_rolled K V O Q s u c root b =
@@ -99,7 +91,7 @@ barred_rolled K V O Q s u c root b =
             (λ a. k.1 (active_back (doomed_here s.local u) (Some u) t s.local.parts a).1),
           );
       stay = λ t w. still_not (committed_in s.local.log t) (committed_in (roll_back u s.local).log t) (rolled_commits u s.local t) (out_open K V O Q s t b w);
-      away = λ t w h. absent_back (doomed_here s.local u) (Some u) t s.local.parts h;
+      away = λ t w h. was_present (doomed_here s.local u) (Some u) t s.local.parts h;
       goes = λ t p h o f. rolled_goes K V O Q s x u refl b c root t p h o.0 f;
     })
 

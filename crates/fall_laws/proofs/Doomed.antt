@@ -1,35 +1,23 @@
 -- Who goes with an abort: its transaction, or one that has a predecessor among them.
-use Rattle.std.proofs.Common.{◌≡◌, ◌⊎◌, inl, inr, ⊎_elim, refl, sym, subst, ℕ, zero, suc, true, false, cond, Bool, List, [], ◌∷◌, length}
+use Rattle.std.proofs.Common.{◌≡◌, ◌⊎◌, inl, inr, ⊎_elim, refl, sym, subst, ℕ, zero, suc, true, false, List, [], ◌∷◌, length}
 use Rattle.std.proofs.lemmas.Bool.{both_ways, or_cases, false_from_ne_true}
 use Rattle.clv_base.specs.declared.names.TxId.{TxId}
-use Rattle.clv_base.specs.Orders.{tx_same, tx_in, tx_insert}
+use Rattle.clv_base.specs.Orders.{tx_same, tx_in}
 use Rattle.clv_base.specs.Logs.{committed_in}
 use Rattle.clv_base.specs.State.{Shard, is_present}
 use Rattle.clv_base.specs.Undo.{stage_of, with_successors, successors_through, doomed_by, doomed_here}
-use Rattle.clv_base.proofs.SameNames.{tx_true, insert_keeps}
+use Rattle.clv_base.proofs.SameNames.{tx_true}
 use Rattle.law_base.proofs.Tables.{is_pair}
 use Rattle.law_base.proofs.Sets.{in_filter}
+use Rattle.law_base.proofs.Successors.{keeps_through, round_keeps, with_from}
 use Rattle.fate_laws.proofs.Downwards.{Down}
-use Rattle.fate_laws.proofs.Dooming.{with_from}
-
-with_keeps : (pairs : List (TxId × TxId)) (set so_far : List TxId) (t : TxId) → tx_in t so_far ≡ true → tx_in t (with_successors pairs set so_far) ≡ true
-with_keeps [] set so_far t i = i
-with_keeps (p ∷ ps) set so_far t i = with_keeps ps set (cond (tx_in p.1 set) (tx_insert p.0 so_far) so_far) t (at (tx_in p.1 set))
-  where
-    at : (b : Bool) → tx_in t (cond b (tx_insert p.0 so_far) so_far) ≡ true
-    at true = insert_keeps p.0 t so_far i
-    at false = i
-
-through_keeps : (n : ℕ) (pairs : List (TxId × TxId)) (set : List TxId) (t : TxId) → tx_in t set ≡ true → tx_in t (successors_through n pairs set) ≡ true
-through_keeps zero pairs set t i = i
-through_keeps (suc n) pairs set t i = through_keeps n pairs (with_successors pairs set set) t (with_keeps pairs set set t i)
 
 through_from : (P D : TxId → Type 0) (n : ℕ) (pairs : List (TxId × TxId)) (set : List TxId) → ((t : TxId) → tx_in t (successors_through n pairs set) ≡ true → D t) → ((a b : TxId) → is_pair pairs a b ≡ true → D b → P b → P a)
     → ((t : TxId) → tx_in t set ≡ true → P t) → (t : TxId) → tx_in t (successors_through n pairs set) ≡ true → P t
 through_from P D zero pairs set d s k t i = k t i
 through_from P D (suc n) pairs set d s k t i =
     through_from P D n pairs (with_successors pairs set set) d s
-    (with_from P pairs set set (λ a b j m. s a b j (d b (through_keeps n pairs (with_successors pairs set set) b (with_keeps pairs set set b m))) (k b m)) k) t i
+    (with_from P pairs set set (λ a b j m. s a b j (d b (keeps_through n pairs (with_successors pairs set set) b (round_keeps pairs set set b m))) (k b m)) k) t i
 
 -- one that goes has no COMMIT; it is the aborted one, or a predecessor of it goes too, where it is here
 pub record Goes (s : Shard) (u t : TxId) : Type 0 where

@@ -33,6 +33,8 @@ use Rattle.law_base.proofs.Changed.{none_some}
 use Rattle.law_base.proofs.Commits.{durable_committed}
 use Rattle.law_base.proofs.Rows.{rows_get}
 use Rattle.law_base.proofs.Tables.{stage_by, pair_in}
+use Rattle.law_base.proofs.Sets.{list_all_at}
+use Rattle.law_base.proofs.Stages.{stage_of_some}
 use Rattle.clv_base.specs.Facts.{predecessors_of}
 use Rattle.protocol_laws.specs.SessionLaws.{tx_of}
 use Rattle.history_laws.proofs.Entering.{Makes, by_event, by_flush, by_failure, by_restart, makes}
@@ -40,7 +42,6 @@ use Rattle.history_laws.proofs.Merging.{Placed, Among, among_append, among_left}
 use Rattle.history_laws.proofs.Worlds.{state_at}
 use Rattle.history_laws.proofs.Staying.{walker_of}
 use Rattle.history_laws.proofs.TellingEvents.{front_committed}
-use Rattle.shard_laws.proofs.Dooming.{list_all_at}
 use Rattle.shard_laws.proofs.Following.{Follows, from_disorder}
 use Rattle.shard_laws.proofs.Restoring.{restored_closed}
 use Rattle.shard_laws.proofs.Ordered.{prepare_some}
@@ -48,7 +49,7 @@ use Rattle.session_laws.proofs.Replying.{OpIs, waits, no_room, dies, rolls, perf
 use Rattle.file_laws.proofs.Walking.{Behind, next_entry}
 use Rattle.file_laws.proofs.Found.{found_in_order}
 use Rattle.origin_laws.proofs.Sessions.{Requested, same_epoch, turn_of}
-use Rattle.origin_laws.proofs.Origins.{stage_row, PartFrom, StageFrom, SomeRequest}
+use Rattle.origin_laws.proofs.Origins.{PartFrom, StageFrom, SomeRequest}
 use Rattle.origin_laws.proofs.Events.{active_done}
 use Rattle.origin_laws.proofs.Entries.{Did, DidNow, DidAny, IsOld, Traced, traced_front}
 use Rattle.wait_laws.proofs.Tied.{Tied, LockOf, ListsAre, OpOwes, MayStand, tied_as, tied_happens, tied_flushed, tied_down, tied_revived, tied_opened}
@@ -217,7 +218,7 @@ may_stand : (splits : List ℕ) (before after : List (List LogRecord)) (h pre : 
 may_stand splits before after h pre e tx birth nth seen op x q (inl n) = inl (none_held (tx_get tx (state_at before after e.0 pre).local.parts) n)
 may_stand splits before after h pre e tx birth nth seen op x q (inr a) =
     let s = state_at before after e.0 pre in
-    let r = stage_row s.local.parts tx Active a in
+    let r = stage_of_some s.local.parts tx Active a in
     let o = (x.traced).origins in
     let f = rows_get (λ z. PartFrom (Did pre e.0 s.local.epoch) (SomeRequest (Requested pre) (IsOld (run_after before))) z.0 z.1) tx r.0 s.local.parts o.parts r.1 in
     let d = active_done (Did pre e.0 s.local.epoch) (r.0).is_restored tx (r.0).birth f.0 (subst (StageFrom (SomeRequest (Requested pre) (IsOld (run_after before))) (r.0).is_restored tx) r.2 f.1) in

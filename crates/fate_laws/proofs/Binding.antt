@@ -1,11 +1,11 @@
 -- A vote binds: who voted yes has its PREPARE and the COMMITs of all its predecessors here durable; who voted read is finished without a write.
-use Rattle.std.proofs.Common.{◌≡◌, ◌⊎◌, ⊎_elim, refl, sym, ap, subst, ◌∙◌, ℕ, ◌≤◌, ◌<◌, true, false, cond, Bool, ◌==◌, List, Option, Some, None, length, arith}
+use Rattle.std.proofs.Common.{◌≡◌, ◌⊎◌, ⊎_elim, refl, sym, ap, subst, ◌∙◌, ℕ, ◌≤◌, true, false, cond, Bool, ◌==◌, List, Option, Some, None, length, arith}
 use Rattle.std.specs.Prelude.{take}
-use Rattle.std.proofs.lemmas.Bool.{both_ways, false_from_ne_true, ltb-true}
-use Rattle.shard_laws.proofs.Dooming.{list_all_at}
+use Rattle.std.proofs.lemmas.Bool.{both_ways, false_from_ne_true}
 use Rattle.shard_laws.proofs.Cutting.{taken_there}
 use Rattle.shard_laws.proofs.Ordered.{prepare_some}
 use Rattle.std.proofs.lemmas.List.{take-append-le}
+use Rattle.std.proofs.lemmas.Option.{same_Some}
 use Rattle.clv_base.specs.declared.names.TxId.{TxId}
 use Rattle.clv_base.specs.declared.logs.LogRecord.{LogRecord}
 use Rattle.clv_base.specs.declared.causes.NoWhy.TheVariants.{Doomed, Restarted}
@@ -15,16 +15,16 @@ use Rattle.clv_base.specs.declared.state.Stage.{Stage}
 use Rattle.clv_base.specs.declared.state.Stage.TheVariants.{Active, Closed, Gone}
 use Rattle.clv_base.specs.declared.state.Voter.{Voter}
 use Rattle.clv_base.specs.Orders.{tx_in}
-use Rattle.clv_base.specs.Logs.{committed_in, prepared_in, wrote_in, prepare_of, prepare_lsn, is_prepare_of, is_below}
+use Rattle.clv_base.specs.Logs.{committed_in, prepared_in, wrote_in, prepare_of, prepare_lsn, is_prepare_of}
 use Rattle.clv_base.specs.State.{Shard}
 use Rattle.clv_base.specs.Undo.{stage_of}
-use Rattle.clv_base.specs.Facts.{predecessors_of, facts_of, state_by, doom_by, has_durable_predecessors, has_durable_prepare}
+use Rattle.clv_base.specs.Facts.{facts_of, state_by, doom_by, has_durable_predecessors, has_durable_prepare}
 use Rattle.clv_base.specs.Participant.{gone_vote, vote_in_state, first_vote, vote_owed, vote_by}
 use Rattle.clv_base.specs.Restarts.{log_left}
 use Rattle.law_base.proofs.Changed.{none_some}
-use Rattle.law_base.proofs.Commits.{commit_durable, durable_committed, place_some}
-use Rattle.law_base.proofs.Tables.{is_pair, pair_in}
-use Rattle.protocol_laws.proofs.Facts.{predecessors_by_facts}
+use Rattle.law_base.proofs.Commits.{commit_durable, durable_committed, place_some, below_some}
+use Rattle.law_base.proofs.Tables.{is_pair}
+use Rattle.protocol_laws.proofs.Facts.{durable_before}
 use Rattle.history_laws.proofs.Serials.{committed_front}
 use Rattle.fate_laws.proofs.Inside.{Inside}
 use Rattle.fate_laws.proofs.Prepares.{front_prepare}
@@ -82,31 +82,25 @@ ordered_wrote log t o p =
 
 -- ---- the vote that is given
 
-pub pairs_durable : (s : Shard) (tx : TxId) → has_durable_predecessors (facts_of s tx) ≡ true → (p : TxId) → is_pair s.local.pairs tx p ≡ true → commit_durable s.local.log s.durable p ≡ true
-pairs_durable s tx d p i = list_all_at (λ q. commit_durable s.local.log s.durable q) p (predecessors_of s.local.pairs tx) (sym (predecessors_by_facts s.local s.durable tx) ∙ d) (pair_in s.local.pairs tx p i)
-
 pub data VoteIs (s : Shard) (tx : TxId) (v : Voter) : Vote → Type 0 where
   kept : {vote : Vote} → v.vote ≡ Some vote → VoteIs s tx v vote
   yes : stage_of s.local tx ≡ Some Closed → has_durable_predecessors (facts_of s tx) ≡ true → has_durable_prepare (facts_of s tx) ≡ true → VoteIs s tx v Yes
   read : stage_of s.local tx ≡ Some Closed → wrote_in s.local.log tx ≡ false → VoteIs s tx v Read
   no : {vote : Vote} → ((vote ≡ Yes) → ⊥) → ((vote ≡ Read) → ⊥) → VoteIs s tx v vote
 
-one_vote : (a b : Vote) → Some a ≡ Some b → a ≡ b
-one_vote a b e = cc
-
 closed_is : (s : Shard) (tx : TxId) (v : Voter) (a b c : Bool) (vote : Vote) → stage_of s.local tx ≡ Some Closed → has_durable_predecessors (facts_of s tx) ≡ a → wrote_in s.local.log tx ≡ b → has_durable_prepare (facts_of s tx) ≡ c
     → cond a (cond b (cond c (Some Yes) None) (Some Read)) None ≡ Some vote → VoteIs s tx v vote
 closed_is s tx v false b c vote st e f g h = absurd (none_some vote h)
 closed_is s tx v true true false vote st e f g h = absurd (none_some vote h)
-closed_is s tx v true true true vote st e f g h = subst (VoteIs s tx v) (one_vote Yes vote h) (yes st e g)
-closed_is s tx v true false c vote st e f g h = subst (VoteIs s tx v) (one_vote Read vote h) (read st f)
+closed_is s tx v true true true vote st e f g h = subst (VoteIs s tx v) (same_Some Yes vote h) (yes st e g)
+closed_is s tx v true false c vote st e f g h = subst (VoteIs s tx v) (same_Some Read vote h) (read st f)
 
 gone_is : (s : Shard) (tx : TxId) (v : Voter) (d : Option TxId) (vote : Vote) → gone_vote d ≡ Some vote → VoteIs s tx v vote
 gone_is s tx v None vote h = absurd (none_some vote h)
-gone_is s tx v (Some d) vote h = subst (VoteIs s tx v) (one_vote (No (Doomed d)) vote h) (no (λ e. absurd cc) (λ e. absurd cc))
+gone_is s tx v (Some d) vote h = subst (VoteIs s tx v) (same_Some (No (Doomed d)) vote h) (no (λ e. absurd cc) (λ e. absurd cc))
 
 new_is : (s : Shard) (tx : TxId) (v : Voter) (st : Option Stage) (vote : Vote) → stage_of s.local tx ≡ st → vote_in_state (facts_of s tx) v.seen (state_by st) ≡ Some vote → VoteIs s tx v vote
-new_is s tx v None vote e h = subst (VoteIs s tx v) (one_vote (No (Restarted v.seen s.local.epoch)) vote h) (no (λ z. absurd cc) (λ z. absurd cc))
+new_is s tx v None vote e h = subst (VoteIs s tx v) (same_Some (No (Restarted v.seen s.local.epoch)) vote h) (no (λ z. absurd cc) (λ z. absurd cc))
 new_is s tx v (Some Active) vote e h = absurd (none_some vote h)
 new_is s tx v (Some Closed) vote e h = closed_is s tx v (has_durable_predecessors (facts_of s tx)) (wrote_in s.local.log tx) (has_durable_prepare (facts_of s tx)) vote e refl refl refl h
 new_is s tx v (Some (Gone d)) vote e h = gone_is s tx v (doom_by (stage_of s.local tx)) vote h
@@ -128,17 +122,13 @@ vote_is s tx v vote h = owed_is s tx v (v.owed == 0) vote refl h
 abbrev pub Listed : Shard → TxId → Type 0
 Listed s tx = (p : ℕ × List TxId) (q : TxId) → stage_of s.local tx ≡ Some Closed → prepare_of s.local.log tx ≡ Some p → tx_in q p.1 ≡ true → (commit_durable s.local.log s.durable q ≡ true) ⊎ (is_pair s.local.pairs tx q ≡ true)
 
-below_place : (o : Option ℕ) (d : ℕ) → is_below o d ≡ true → (n : ℕ) × (o ≡ Some n) × (n < d)
-below_place None d e = absurd (both_ways false refl e)
-below_place (Some n) d e = (n, refl, ltb-true n d e)
-
 pub yes_binds : (s : Shard) (tx : TxId) → Listed s tx → stage_of s.local tx ≡ Some Closed → has_durable_predecessors (facts_of s tx) ≡ true → has_durable_prepare (facts_of s tx) ≡ true → Bound s tx
 yes_binds s tx l st d e =
-    let k = below_place (prepare_lsn s.local.log tx) s.durable e in
+    let k = below_some (prepare_lsn s.local.log tx) s.durable e in
     let p = prepare_some (log_left s false) tx (taken_there 0 s.durable (is_prepare_of tx) s.local.log k.0 k.1 (let m = k.2 in omega (arith, m))) in
     record {
       listed = p.0;
       prepare = p.1;
-      durable = λ q i. durable_front s.local.log s.durable q (⊎_elim (λ x. x) (λ x. pairs_durable s tx d q x) (l p.0 q st (front_prepare s.durable s.local.log tx p.0 p.1) i));
-      pairs = λ q i. durable_committed s.local.log s.durable q (pairs_durable s tx d q i);
+      durable = λ q i. durable_front s.local.log s.durable q (⊎_elim (λ x. x) (λ x. durable_before s tx d q x) (l p.0 q st (front_prepare s.durable s.local.log tx p.0 p.1) i));
+      pairs = λ q i. durable_committed s.local.log s.durable q (durable_before s tx d q i);
     }

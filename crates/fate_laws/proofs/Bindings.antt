@@ -31,7 +31,7 @@ use Rattle.clv_base.specs.Events.{put_down, with_durable}
 use Rattle.clv_base.specs.Restarts.{run_after, log_left, log_after_restart}
 use Rattle.clv_base.specs.Journals.{History, own, event_state, after_entry, up_to_restart}
 use Rattle.clv_base.specs.History.{Legal, WasSent}
-use Rattle.law_base.proofs.Commits.{commit_durable, durable_parts, durable_from, committed_keeps}
+use Rattle.law_base.proofs.Commits.{committed_keeps, durable_further}
 use Rattle.law_base.proofs.Lists.{all_mono}
 use Rattle.protocol_laws.specs.SessionLaws.{tx_of, works_on, ended_by}
 use Rattle.protocol_laws.proofs.InOrder.{sessions_keep_order}
@@ -107,9 +107,6 @@ parted_mono run W S S' F F' s a f p =
 
 -- ---- one entry
 
-longer_durable : (log : List LogRecord) (d n : ℕ) (q : TxId) → d ≤ n → commit_durable log d q ≡ true → commit_durable log n q ≡ true
-longer_durable log d n q l h = let k = durable_parts log d q h in durable_from log n q k.0 k.1 (let m = k.2 in omega (arith, m, l))
-
 voted_flushed : (S : TxId → Type 0) (s : Shard) (n : ℕ) → s.durable ≤ n → VotedOn S S s (with_durable n s)
 voted_flushed S s n l tx None p = tt
 voted_flushed S s n l tx (Some Yes) p = (p.0, bound_flushed s n tx l p.1)
@@ -124,7 +121,7 @@ parted_flushed run W S F s n l m p =
       base = record {
         counted = m;
         ordered = b.ordered;
-        listed = λ tx x q c e i. ⊎_elim (λ d. inl (longer_durable s.local.log s.durable n q l d)) (λ r. inr r) (b.listed tx x q c e i);
+        listed = λ tx x q c e i. ⊎_elim (λ d. inl (durable_further s.local.log s.durable n q l d)) (λ r. inr r) (b.listed tx x q c e i);
         unprepared = b.unprepared;
         seen = b.seen;
         closed = b.closed;

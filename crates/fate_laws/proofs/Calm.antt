@@ -32,7 +32,7 @@ use Rattle.clv_base.specs.Due.{finish_reader, with_vote, do_ruling, with_ruling,
 use Rattle.clv_base.specs.Events.{is_alone, finish}
 use Rattle.clv_base.proofs.SameNames.{tx_true, tx_self}
 use Rattle.law_base.proofs.Tables.{stage_by, stage_in, is_pair, add_from, add_keeps, without_pairs, pairs_stay}
-use Rattle.law_base.proofs.Stages.{stage_own, active_back, closed_back, gone_by}
+use Rattle.law_base.proofs.Stages.{stage_own, active_back, closed_back, gone_out}
 use Rattle.law_base.proofs.Stages.{stage_closed, closed_other}
 use Rattle.law_base.proofs.Stages.{stage_marked}
 use Rattle.law_base.proofs.Stages.{other_part}
@@ -91,10 +91,6 @@ calm_same s t tx i e f k =
       closed = λ h. inl (subst (λ l. stage_in l tx ≡ Some Closed) e h);
     }
 
-gone_absent : (d : Option TxId) (o : Option Stage) → is_present (gone_by d o) ≡ false
-gone_absent d None = refl
-gone_absent d (Some st) = refl
-
 calm_gone : (s t : Shard) (tx : TxId) (set : List TxId) (d : Option TxId) → Inside s t → t.local.parts ≡ gone_in set d s.local.parts → t.local.pairs ≡ pairs_without set s.local.pairs → NoMorePrepares s.local.log t.local.log → Calm s t tx
 calm_gone s t tx set d i e f k =
     record {
@@ -102,7 +98,7 @@ calm_gone s t tx set d i e f k =
       pairs = λ q h. (without_pairs set s.local.pairs tx q (subst (λ l. is_pair l tx q ≡ true) f h)).0;
       keeps = λ q c h. subst (λ l. is_pair l tx q ≡ true) (sym f)
           (pairs_stay set s.local.pairs tx q
-          (false_from_ne_true (tx_in tx set) (λ m. both_ways _ (ap is_present (stage_own set d tx s.local.parts m) ∙ gone_absent d (stage_in s.local.parts tx)) (subst (λ l. is_present (stage_in l tx) ≡ true) e c))) h);
+          (false_from_ne_true (tx_in tx set) (λ m. both_ways _ (ap is_present (stage_own set d tx s.local.parts m) ∙ gone_out d (stage_in s.local.parts tx)) (subst (λ l. is_present (stage_in l tx) ≡ true) e c))) h);
       prepares = λ p h. inl (k tx p h);
       active = λ h. (active_back set d tx s.local.parts (subst (λ l. stage_in l tx ≡ Some Active) e h)).1;
       closed = λ h. inl (closed_back set d tx s.local.parts (subst (λ l. stage_in l tx ≡ Some Closed) e h));

@@ -1,8 +1,8 @@
 -- Whose part was taken away by an abort has no COMMIT, and a request that is refused has none.
-use Rattle.std.proofs.Common.{◌≡◌, ⊎_elim, refl, sym, subst, ◌∙◌, ℕ, zero, suc, true, false, cond, Bool, ◌&&◌, ◌==◌, List, [], ◌∷◌, ◌++◌, Option, Some, None, length}
+use Rattle.std.proofs.Common.{◌≡◌, ⊎_elim, refl, sym, subst, ◌∙◌, ℕ, true, false, cond, Bool, ◌&&◌, ◌==◌, List, [], ◌∷◌, ◌++◌, Option, Some, None, length}
 use Rattle.std.specs.Prelude.{⊤}
 use Rattle.std.specs.List.{list_all}
-use Rattle.std.proofs.lemmas.Bool.{both_ways, and_parts, or_cases, or_left, or_right, false_from_ne_true, and_from}
+use Rattle.std.proofs.lemmas.Bool.{both_ways, and_parts, or_cases, false_from_ne_true}
 use Rattle.clv_base.specs.declared.names.TxId.{TxId}
 use Rattle.clv_base.specs.declared.logs.LogRecord.{LogRecord}
 use Rattle.clv_base.specs.declared.logs.LogRecord.TheVariants.{Commit, End}
@@ -17,18 +17,19 @@ use Rattle.clv_base.specs.declared.state.RequestState.TheVariants.{Undecided, Co
 use Rattle.clv_base.specs.declared.state.Ruling.{Ruling}
 use Rattle.clv_base.specs.declared.state.Ruling.TheVariants.{Commit as CommitVerdict, Acknowledge, Abort as AbortVerdict, End as EndVerdict}
 use Rattle.clv_base.specs.declared.parts.PartFacts.{PartFacts}
-use Rattle.clv_base.specs.Orders.{Table, tx_same, tx_in, tx_insert, tx_get, tx_set}
+use Rattle.clv_base.specs.Orders.{Table, tx_same, tx_in, tx_get, tx_set}
 use Rattle.clv_base.specs.Logs.{committed_in}
 use Rattle.clv_base.specs.State.{Shard, is_present}
-use Rattle.clv_base.specs.Undo.{stage_of, with_successors, successors_through, doomed_by, doomed_here, gone_in, roll_back}
+use Rattle.clv_base.specs.Undo.{stage_of, doomed_by, doomed_here, gone_in, roll_back}
 use Rattle.clv_base.specs.Facts.{facts_of, doom_by, has_durable_predecessors, is_waiting}
 use Rattle.clv_base.specs.Coordinator.{first_no, cause_by, refusal, refused_ruling, yes_shards, agreed_ruling, is_agreed, undecided_ruling, end_ruling, ruling_in, ruling_by, ruled_request, others, vote_from, is_good}
-use Rattle.clv_base.proofs.SameNames.{tx_true, tx_self, in_insert}
+use Rattle.clv_base.proofs.SameNames.{tx_true}
 use Rattle.law_base.proofs.Changed.{none_some, get_set}
-use Rattle.law_base.proofs.Tables.{stage_in, row_pairs, is_pair}
+use Rattle.law_base.proofs.Tables.{stage_in}
 use Rattle.law_base.proofs.Stages.{stage_own, stage_other, gone_by}
 use Rattle.shard_laws.proofs.Sound.{waiting_here}
 use Rattle.law_base.proofs.Sets.{in_filter}
+use Rattle.law_base.proofs.Successors.{through_all}
 use Rattle.history_laws.proofs.Stepping.{commits, votes, rules, KeptByDue}
 use Rattle.history_laws.proofs.Uncommitting.{rolled, with_more}
 use Rattle.fate_laws.proofs.Homes.{still_not, new_commit}
@@ -36,19 +37,6 @@ use Rattle.fate_laws.proofs.Parts.{commit_agreed}
 use Rattle.fate_laws.proofs.Downwards.{Down, down_due}
 
 -- ---- what goes with one that isn't committed isn't
-
-pub with_from : (P : TxId → Type 0) (pairs : List (TxId × TxId)) (set so_far : List TxId) → ((a b : TxId) → is_pair pairs a b ≡ true → tx_in b set ≡ true → P a) → ((t : TxId) → tx_in t so_far ≡ true → P t) → (t : TxId) → tx_in t (with_successors pairs set so_far) ≡ true → P t
-with_from P [] set so_far d l t i = l t i
-with_from P (p ∷ ps) set so_far d l t i = with_from P ps set (cond (tx_in p.1 set) (tx_insert p.0 so_far) so_far) (λ a b j. d a b (or_right (row_pairs a b p) (is_pair ps a b) j)) (λ u j. at (tx_in p.1 set) refl u j) t i
-  where
-    at : (b : Bool) → tx_in p.1 set ≡ b → (u : TxId) → tx_in u (cond b (tx_insert p.0 so_far) so_far) ≡ true → P u
-    at true e u j =
-        ⊎_elim (λ q. subst P (sym q) (d p.0 p.1 (or_left (row_pairs p.0 p.1 p) (is_pair ps p.0 p.1) (and_from (tx_same p.0 p.0) (tx_same p.1 p.1) (tx_self p.0) (tx_self p.1))) e)) (λ q. l u q) (in_insert p.0 u so_far j)
-    at false e u j = l u j
-
-pub through_all : (P : TxId → Type 0) (n : ℕ) (pairs : List (TxId × TxId)) (set : List TxId) → ((a b : TxId) → is_pair pairs a b ≡ true → P b → P a) → ((t : TxId) → tx_in t set ≡ true → P t) → (t : TxId) → tx_in t (successors_through n pairs set) ≡ true → P t
-through_all P zero pairs set d k t i = k t i
-through_all P (suc n) pairs set d k t i = through_all P n pairs (with_successors pairs set set) d (with_from P pairs set set (λ a b j i. d a b j (k b i)) k) t i
 
 abbrev Open : List LogRecord → TxId → Type 0
 Open log t = committed_in log t ≡ false

@@ -30,14 +30,14 @@ use Rattle.clv_base.specs.State.{Shard, Local, is_present}
 use Rattle.clv_base.specs.Undo.{stage_of, roll_back}
 use Rattle.clv_base.specs.Facts.{facts_of, has_durable_commit, is_waiting}
 use Rattle.clv_base.specs.Coordinator.{new_request, takes_vote, with_vote_of, with_done_of, restored_request, restored_requests}
-use Rattle.clv_base.specs.OneShard.{OpDies, OpAnswers, new_part, written, locked, performed, rolled_back_if, closed_in}
+use Rattle.clv_base.specs.OneShard.{OpDies, OpAnswers, new_part, locked, performed, rolled_back_if, closed_in}
 use Rattle.clv_base.specs.Events.{finish, with_durable}
 use Rattle.clv_base.specs.Restarts.{state_after, unended_in}
 use Rattle.clv_base.specs.Journals.{up_to_restart}
 use Rattle.clv_base.proofs.SameNames.{tx_true, tx_self}
 use Rattle.law_base.proofs.Changed.{some_same, get_set}
 use Rattle.law_base.proofs.Tables.{stage_by, stage_in, get_put}
-use Rattle.law_base.proofs.Stages.{stage_closed, closed_other}
+use Rattle.law_base.proofs.Stages.{stage_closed, closed_other, written_parts}
 use Rattle.law_base.proofs.Stages.{stage_marked}
 use Rattle.law_base.proofs.Stages.{other_part}
 use Rattle.shard_laws.proofs.Restoring.{restored_stage}
@@ -71,10 +71,6 @@ Owes s _ = ⊤
 -- whose part is gone by an abort after the step has no COMMIT before it, and isn't closed
 abbrev GoneSafe : Shard → Shard → Type 0
 GoneSafe s t = (v d : TxId) → stage_of t.local v ≡ Some (Gone (Some d)) → committed_in s.local.log v ≡ false
-
-written_parts : (tx : TxId) (w : Option (ℕ × Option ℕ × Option ℕ)) (l : Local) → (written tx w l).parts ≡ l.parts
-written_parts tx None l = refl
-written_parts tx (Some w) l = refl
 
 performed_gone : (s : Shard) (u v d : TxId) (birth : Birth) (op : Op) → (stage_of s.local u ≡ None) ⊎ (stage_of s.local u ≡ Some Active) → stage_of (performed u birth op s.local) v ≡ Some (Gone (Some d)) → stage_of s.local v ≡ Some (Gone (Some d))
 performed_gone s u v d birth op k h = at (tx_same v u) refl

@@ -27,8 +27,8 @@ use Rattle.clv_base.specs.Restarts.{run_after, state_after, log_after_restart}
 use Rattle.clv_base.specs.Journals.{History, up_to_restart}
 use Rattle.clv_base.specs.History.{Legal}
 use Rattle.law_base.proofs.Tables.{is_pair, pair_in, in_pair}
+use Rattle.law_base.proofs.Sets.{list_all_at}
 use Rattle.shard_laws.proofs.Sound.{agreed_before}
-use Rattle.shard_laws.proofs.Dooming.{list_all_at}
 use Rattle.shard_laws.proofs.Relisting.{pair_of}
 use Rattle.history_laws.proofs.Stepping.{Due, commits, votes, rules, KeptByDue, settled, Step, Happens, finishes, stops}
 use Rattle.history_laws.proofs.Entering.{Makes, by_event, by_flush, by_failure, by_restart, makes}

@@ -25,6 +25,7 @@ use Rattle.clv_base.specs.Restarts.{run_after, log_left, greatest_run}
 use Rattle.clv_base.specs.Journals.{History, event_state, after_entry}
 use Rattle.clv_base.specs.History.{Legal, WasSent}
 use Rattle.law_base.proofs.Commits.{durable_committed}
+use Rattle.law_base.proofs.Options.{none_of}
 use Rattle.order_laws.proofs.Records.{own_prepare}
 use Rattle.order_laws.proofs.Runs.{record_fits}
 use Rattle.order_laws.proofs.InOrder.{runs_in_order}
@@ -37,7 +38,6 @@ use Rattle.fate_laws.proofs.Homes.{Known, Dead, Tells, Alone, Homed, words_on, M
 use Rattle.fate_laws.proofs.HomesEvents.{Fresh, Owes, homed_opened}
 use Rattle.fate_laws.proofs.Entering.{Enters, ToldDead, SaysOut, homed_mono, durable_front, homed_made, says_made}
 use Rattle.fate_laws.proofs.Prefixes.{Next, walk, each_shard, stays_as_it_was, AskedIn, asked_later, one_home, first_request, DurableIn, Counts, counts_start, counts_next, durable_later}
-use Rattle.file_laws.proofs.Found.{none_of}
 
 -- ---- what a message that was sent tells
 

@@ -34,19 +34,19 @@ use Rattle.law_base.proofs.Changed.{none_some, some_same}
 use Rattle.law_base.proofs.Rows.{rows_get, rows_put}
 use Rattle.law_base.proofs.Tables.{get_put}
 use Rattle.law_base.proofs.Commits.{commit_durable, place_some}
-use Rattle.law_base.proofs.Lists.{all_mono}
+use Rattle.law_base.proofs.Lists.{all_mono, all_append, all_of}
 use Rattle.shard_laws.proofs.Sound.{waiting_here}
 use Rattle.shard_laws.proofs.Ordered.{prepare_some}
 use Rattle.law_base.proofs.Sets.{in_filter}
 use Rattle.history_laws.proofs.Stepping.{Step, op_dies, op_answers, request_refused, request_doomed, request_again, request_new, request_closes, looks_well, looks_ill, drops, sends, prepare_closes, prepare_again, vote_counts, decision_comes, decision_again, done_counts, asked, reminds, flushes}
 use Rattle.history_laws.proofs.Uncommitting.{with_more, rolled, dropped, op_dying, op_answering, restarts_add, opening_adds}
-use Rattle.history_laws.proofs.Telling.{all_append, all_map}
+use Rattle.history_laws.proofs.Telling.{all_map}
 use Rattle.history_laws.proofs.TellingEvents.{front_committed}
 use Rattle.fate_laws.proofs.Prepares.{prepare_new, front_prepare, opening_adds as opening_prepares, rolled as rolled_prepares, dropped as dropped_prepares, op_dying as dying_prepares, op_answering as answering_prepares, restarts_add as restarts_prepare}
 use Rattle.fate_laws.proofs.Restored.{unended_committed, restored_committed}
 use Rattle.fate_laws.proofs.Homes.{Known, Tells, Alone, Opens, Homed, tells_on, words_on, MayCommit, homed_log, homed_same, homed_commit, homed_send, homed_set, durable_known, alone_log, still_not, open_undecided, open_committed}
 use Rattle.file_laws.proofs.Doubts.{doubt_prepared}
-use Rattle.file_laws.proofs.Rows.{all_in, all_rows}
+use Rattle.file_laws.proofs.Rows.{all_in}
 use Rattle.order_laws.proofs.Records.{prepared_there}
 
 -- ---- what is owed
@@ -259,7 +259,7 @@ reminders_told run A Z K D s now p =
     (each_told run A Z K s (λ tx q. missing_votes s.shard tx q q.state) s.requests
     (all_mono (λ r. (r.0).run ≡ run → Opens A s.shard r.0 (r.1).state) _ (λ r. missing_told run A Z K s r.0 r.1 (r.1).state) s.requests p.rows))
     (each_told run A Z K s (λ tx q. elim (tx_in tx (durable_requests s)) [ true ↦ missing_dones s.shard tx q q.state | false ↦ [] ]) s.requests
-    (all_rows _
+    (all_of _
     (λ r. dones_if run A Z K s r.0 r.1 (tx_in r.0 (durable_requests s))
     (λ i. durable_known run A Z K D s r.0 now (in_filter (λ tx. has_durable_commit (facts_of s tx)) r.0 (keys_of s.requests) i).1 p))
     s.requests)))

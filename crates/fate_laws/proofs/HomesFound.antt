@@ -10,8 +10,8 @@ use Rattle.clv_base.specs.Logs.{is_record_of, committed_in}
 use Rattle.clv_base.specs.LogRules.{log_of, all_logs_from, any_log_from, part_agrees, agrees_at, is_home_of, committed_of, committed_of_all, first_apart, apart}
 use Rattle.clv_base.specs.FileRules.{may_open, log_passes}
 use Rattle.clv_base.proofs.SameNames.{tx_true, insert_keeps, insert_has}
+use Rattle.law_base.proofs.Options.{none_of}
 use Rattle.history_laws.proofs.OldRuns.{each_passes}
-use Rattle.file_laws.proofs.Found.{none_of}
 
 -- ---- the committed have a home
 

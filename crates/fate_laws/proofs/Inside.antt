@@ -1,5 +1,5 @@
 -- Within an entry the log only grows, and what is durable is what was.
-use Rattle.std.proofs.Common.{◌≡◌, refl, sym, subst, ◌∙◌, ℕ, suc, ◌+◌, ◌≤◌, true, false, cond, Bool, ◌||◌, List, [], ◌∷◌, ◌++◌, Option, Some, None, length, arith}
+use Rattle.std.proofs.Common.{◌≡◌, refl, sym, subst, ◌∙◌, ℕ, suc, ◌+◌, ◌≤◌, true, false, cond, Bool, ◌||◌, List, [], ◌∷◌, ◌++◌, Option, Some, length, arith}
 use Rattle.std.specs.List.{list_any}
 use Rattle.std.proofs.lemmas.Bool.{both_ways}
 use Rattle.clv_base.specs.declared.names.TxId.{TxId}
@@ -19,13 +19,14 @@ use Rattle.clv_base.specs.declared.events.Outcome.{Outcome}
 use Rattle.clv_base.specs.Logs.{place_from, is_commit_of}
 use Rattle.clv_base.specs.Needs.{writes_of, value_at, key_of}
 use Rattle.clv_base.specs.State.{Shard, Local}
-use Rattle.clv_base.specs.OneShard.{OpDies, OpAnswers, written, locked, rolled_back_if}
+use Rattle.clv_base.specs.OneShard.{OpDies, OpAnswers, locked}
 use Rattle.clv_base.specs.Undo.{stage_of}
 use Rattle.clv_base.specs.State.{is_present}
 use Rattle.clv_base.specs.Due.{finish_reader, with_vote, do_ruling, with_ruling}
 use Rattle.law_base.proofs.Commits.{place_keeps, place_some, commit_durable, durable_parts, durable_from}
 use Rattle.protocol_laws.specs.Growth.{IsPrefixOf}
 use Rattle.protocol_laws.proofs.Growing.{same, more, more_twice, chain}
+use Rattle.protocol_laws.proofs.GrowingEvents.{writes, rolled_if}
 use Rattle.history_laws.proofs.Stepping.{commits, votes, rules, KeptByDue, Step, op_dies, op_answers, request_refused, request_doomed, request_again, request_new, request_closes, looks_well, looks_ill, drops, sends, prepare_closes, prepare_again, vote_counts, decision_comes, decision_again, done_counts, asked, reminds, flushes}
 use Rattle.session_laws.proofs.Replying.{OpIs, dies, rolls, performs, reply_is}
 
@@ -100,20 +101,12 @@ inside_due s0 s _ (rules tx q r a b) p = inside_ruling s0 s tx q r p
 
 -- ---- each step
 
-writes : (l : Local) (tx : TxId) (w : Option (ℕ × Option ℕ × Option ℕ)) → IsPrefixOf l.log (written tx w l).log
-writes l tx None = same l.log
-writes l tx (Some w) = more l.log _
-
 dying : (l m : Local) (tx : TxId) (birth : Birth) (seen : Option ℕ) (op : Op) (c : AbortCause) → OpIs l tx birth seen op (OpDies c m) → IsPrefixOf l.log m.log
 dying l _ tx birth seen op c dies = same l.log
 dying l _ tx birth seen op c rolls = more_twice l.log _ _
 
 answering : (l m : Local) (tx : TxId) (birth : Birth) (seen : Option ℕ) (op : Op) (a : Answer) → OpIs l tx birth seen op (OpAnswers a m) → IsPrefixOf l.log m.log
 answering l _ tx birth seen op _ (performs f e) = writes (locked tx birth op l) tx (writes_of op (value_at (key_of op) l.records))
-
-dropped : (l : Local) (tx : TxId) (b : Bool) → IsPrefixOf l.log (rolled_back_if b tx l).log
-dropped l tx true = more_twice l.log _ _
-dropped l tx false = same l.log
 
 pub inside_step : (s t : Shard) {e : Event} {o : Outcome} → Step s e o t → Inside s t
 inside_step s _ (op_dies tx birth nth seen op cause l h) = record { shard = refl; durable = refl; log = dying s.local l tx birth seen op cause (reply_is s.shard s.local tx birth seen op _ h) }
@@ -125,7 +118,7 @@ inside_step s _ (request_new tx ts f0 h) = record { shard = refl; durable = refl
 inside_step s _ (request_closes tx ts f0 h) = record { shard = refl; durable = refl; log = more s.local.log _ }
 inside_step s _ (looks_well tx h) = inside_self s
 inside_step s _ (looks_ill tx cause d h) = inside_self s
-inside_step s _ (drops tx stage h) = record { shard = refl; durable = refl; log = dropped s.local tx (is_present (stage_of s.local tx)) }
+inside_step s _ (drops tx stage h) = record { shard = refl; durable = refl; log = rolled_if s.local tx (is_present (stage_of s.local tx)) }
 inside_step s _ (sends m ms h) = record { shard = refl; durable = refl; log = same s.local.log }
 inside_step s _ (prepare_closes tx home seen stamp h) = record { shard = refl; durable = refl; log = more s.local.log _ }
 inside_step s _ (prepare_again tx home seen stamp h) = record { shard = refl; durable = refl; log = same s.local.log }

@@ -36,11 +36,11 @@ use Rattle.clv_base.proofs.SameNames.{tx_self}
 use Rattle.law_base.proofs.Rows.{rows_get, rows_set, rows_put}
 use Rattle.law_base.proofs.Commits.{durable_committed}
 use Rattle.law_base.proofs.Tables.{is_pair, stage_in}
-use Rattle.law_base.proofs.Lists.{all_mono}
+use Rattle.law_base.proofs.Lists.{all_mono, all_append, all_of}
 use Rattle.law_base.proofs.Stages.{stage_own, gone_by}
 use Rattle.law_base.proofs.Sets.{in_filter}
 use Rattle.history_laws.proofs.Stepping.{Due, commits, votes, rules, KeptByDue, settled, Step, op_dies, op_answers, request_refused, request_doomed, request_again, request_new, request_closes, looks_well, looks_ill, drops, sends, prepare_closes, prepare_again, vote_counts, decision_comes, decision_again, done_counts, asked, reminds as reminds_step, flushes}
-use Rattle.history_laws.proofs.Telling.{all_append, all_map}
+use Rattle.history_laws.proofs.Telling.{all_map}
 use Rattle.protocol_laws.proofs.Growing.{same as same_log}
 use Rattle.history_laws.proofs.Uncommitting.{with_more, rolled}
 use Rattle.fate_laws.proofs.Inside.{Inside, inside_self, inside_step, inside_due}
@@ -50,7 +50,6 @@ use Rattle.fate_laws.proofs.Binding.{ordered_wrote, VoteIs, kept, yes, read, no,
 use Rattle.fate_laws.proofs.Parts.{Touched, HomeOr, Good, Base, base_next, VotedIs, VoterIs, VoteTells, RowIs, Tells, Parted, voted_calm, voters_calm, tells_calm, agreed_good, commit_agreed, abort_undecided, others_all}
 use Rattle.fate_laws.proofs.VotesHeld.{votes_put}
 use Rattle.fate_laws.proofs.Homes.{new_commit}
-use Rattle.file_laws.proofs.Rows.{all_rows}
 
 -- ---- what is owed
 
@@ -243,7 +242,7 @@ reminders_told run W S F s p =
     (each_told run W S F s (λ tx q. missing_votes s.shard tx q q.state) s.requests
     (all_mono (λ r. RowIs W F s.shard r.0 r.1 (r.1).state) _ (λ r. missing_told run W S F s r.0 r.1 (r.1).state) s.requests p.rows))
     (each_told run W S F s (λ tx q. elim (tx_in tx (durable_requests s)) [ true ↦ missing_dones s.shard tx q q.state | false ↦ [] ]) s.requests
-    (all_rows _ (λ r. dones_if run W S F s r.0 r.1 (tx_in r.0 (durable_requests s)) (λ i. durable_good run W S F s r.0 p (in_filter (λ tx. has_durable_commit (facts_of s tx)) r.0 (keys_of s.requests) i).1)) s.requests)))
+    (all_of _ (λ r. dones_if run W S F s r.0 r.1 (tx_in r.0 (durable_requests s)) (λ i. durable_good run W S F s r.0 p (in_filter (λ tx. has_durable_commit (facts_of s tx)) r.0 (keys_of s.requests) i).1)) s.requests)))
     (asks_told run W S F s (waiting_voters s))
 
 answer_told : (run : ℕ) (W : TxId → ℕ → List (ℕ × ℕ) → Type 0) (S : TxId → Type 0) (F : ℕ → TxId → Type 0) (s : Shard) (tx : TxId) (from : ℕ) (d c : Bool) → (d ≡ true → Good run W F tx) → AllByRecursion (Tells run W S F s) (ask_messages s tx from (cond d (Some true) (cond c None (Some false))))

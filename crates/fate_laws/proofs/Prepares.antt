@@ -18,9 +18,10 @@ use Rattle.clv_base.specs.Needs.{writes_of, value_at, key_of}
 use Rattle.clv_base.specs.OneShard.{OpDies, OpAnswers, op_reply, written, locked, rolled_back_if, drop_part, closing}
 use Rattle.clv_base.specs.Restarts.{undo_records, restart_records, log_after_restart, next_epoch, losers, FailedRestarts, untouched, failed_first, Restarts}
 use Rattle.clv_base.proofs.SameNames.{tx_true}
+use Rattle.law_base.proofs.Lists.{all_append}
 use Rattle.shard_laws.proofs.Prepared.{prepared_from, prepare_keeps}
 use Rattle.session_laws.proofs.Replying.{OpIs, dies, rolls, performs, reply_is}
-use Rattle.history_laws.proofs.Telling.{all_append, all_map}
+use Rattle.history_laws.proofs.Telling.{all_map}
 use Rattle.order_laws.proofs.Records.{prepared_there}
 
 pub prepare_more : (log more : List LogRecord) (t : TxId) (p : ℕ × List TxId) → prepare_of log t ≡ Some p → prepare_of (log ++ more) t ≡ Some p

@@ -17,7 +17,8 @@ use Rattle.clv_base.specs.Facts.{predecessors_of}
 use Rattle.clv_base.specs.Restarts.{log_left}
 use Rattle.clv_base.proofs.SameNames.{tx_true, tx_self}
 use Rattle.law_base.proofs.Tables.{is_pair, pair_in, in_pair}
-use Rattle.law_base.proofs.Sets.{in_filter}
+use Rattle.law_base.proofs.Sets.{in_filter, list_all_at}
+use Rattle.law_base.proofs.Successors.{through_all}
 use Rattle.history_laws.proofs.Merging.{is_among}
 use Rattle.history_laws.proofs.Worlds.{state_at}
 use Rattle.fate_laws.specs.Votes.{Keeps, VotesBind, OthersAbortsSpareIt}
@@ -25,8 +26,6 @@ use Rattle.fate_laws.proofs.Arriving.{all_from, listed_is}
 use Rattle.fate_laws.proofs.Binding.{Bound}
 use Rattle.fate_laws.proofs.Casting.{Cast, casts_front}
 use Rattle.fate_laws.proofs.Downwards.{Down, lowered_front}
-use Rattle.fate_laws.proofs.Dooming.{through_all}
-use Rattle.shard_laws.proofs.Dooming.{list_all_at}
 use Rattle.order_laws.proofs.Records.{prepared_there}
 
 -- ---- votes

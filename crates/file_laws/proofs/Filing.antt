@@ -37,12 +37,12 @@ use Rattle.clv_base.specs.Events.{finish, is_alone, coordinate, decided, ask_mes
 use Rattle.clv_base.specs.Restarts.{log_left, revived, opened, unended_in, Restarts}
 use Rattle.clv_base.specs.Journals.{after_entry, event_state, up_to_restart, MayEnter}
 use Rattle.law_base.proofs.Rows.{rows_get, rows_set, rows_put}
+use Rattle.law_base.proofs.Lists.{all_append, all_of}
 use Rattle.history_laws.proofs.Stepping.{commits, votes, rules, KeptByDue, settled, Step, op_dies, op_answers, request_refused, request_doomed, request_again, request_new, request_closes, looks_well, looks_ill, drops, sends, prepare_closes, prepare_again, vote_counts, decision_comes, decision_again, done_counts, asked, reminds, flushes, Happens, finishes, stops}
 use Rattle.history_laws.proofs.Entering.{Makes, by_event, by_flush, by_failure, by_restart, makes}
-use Rattle.history_laws.proofs.Telling.{all_append, all_map}
+use Rattle.history_laws.proofs.Telling.{all_map}
 use Rattle.file_laws.proofs.Offers.{AreShards, OffersBy}
 use Rattle.file_laws.proofs.Records.{Passes, passes_more, passes_front, rolled_pass, dropped_pass, op_leaves, closed_pass, opened_pass, restarts_pass}
-use Rattle.file_laws.proofs.Rows.{all_rows}
 
 -- a Prepare names a home that there is
 abbrev pub Names : List ℕ → Message → Type 0
@@ -212,9 +212,9 @@ reminders_name : (splits : List ℕ) (s : Shard) → Filed splits s → AllByRec
 reminders_name splits s p =
     all_append _ (home_reminders s.shard s.requests (durable_requests s)) (asks s.shard s.voters (waiting_voters s))
     (all_append _ (each_request (λ tx q. missing_votes s.shard tx q q.state) s.requests) _
-    (each_names splits (λ tx q. missing_votes s.shard tx q q.state) s.requests (all_rows _ (λ r. missing_names splits s.shard r.0 r.1 (r.1).state p.here) s.requests))
+    (each_names splits (λ tx q. missing_votes s.shard tx q q.state) s.requests (all_of _ (λ r. missing_names splits s.shard r.0 r.1 (r.1).state p.here) s.requests))
     (each_names splits (λ tx q. elim (tx_in tx (durable_requests s)) [ true ↦ missing_dones s.shard tx q q.state | false ↦ [] ]) s.requests
-    (all_rows _ (λ r. dones_if splits s.shard r.0 r.1 (tx_in r.0 (durable_requests s))) s.requests)))
+    (all_of _ (λ r. dones_if splits s.shard r.0 r.1 (tx_in r.0 (durable_requests s))) s.requests)))
     (asks_names splits s.shard s.voters (waiting_voters s))
 
 -- ---- each step

@@ -1,15 +1,12 @@
 -- What logs that may be opened say of one of them: it is in order.
-use Rattle.std.proofs.Common.{◌≡◌, refl, subst, ℕ, ◌+◌, ◌<◌, false, List, length, Option, Some, None, is_none, arith, true}
+use Rattle.std.proofs.Common.{◌≡◌, subst, ℕ, ◌+◌, ◌<◌, List, length, None, is_none, arith, true}
 use Rattle.std.specs.List.{list_all}
-use Rattle.std.proofs.lemmas.Bool.{both_ways, and_parts}
+use Rattle.std.proofs.lemmas.Bool.{and_parts}
 use Rattle.clv_base.specs.declared.logs.LogRecord.{LogRecord}
 use Rattle.clv_base.specs.LogRules.{log_of, disorder, apart, all_logs_from}
 use Rattle.clv_base.specs.FileRules.{passes_file_rules, log_passes, may_open}
+use Rattle.law_base.proofs.Options.{none_of}
 use Rattle.history_laws.proofs.OldRuns.{each_passes}
-
-pub none_of : {X : Type 0} (o : Option X) → is_none o ≡ true → o ≡ None
-none_of None e = refl
-none_of (Some x) e = absurd (both_ways false refl e)
 
 pub found_in_order : (splits : List ℕ) (before : List (List LogRecord)) (n : ℕ) → may_open splits before ≡ true → n < length before → disorder n (log_of before n) ≡ None
 found_in_order splits before n m l =

@@ -1,5 +1,5 @@
 -- The logs that a crash leaves of a history pass.
-use Rattle.std.proofs.Common.{◌≡◌, refl, sym, subst, ◌∙◌, ℕ, zero, suc, ◌+◌, ◌<◌, ◌≤◌, true, Bool, List, [], ◌∷◌, ◌++◌, length, arith, ap}
+use Rattle.std.proofs.Common.{◌≡◌, refl, sym, subst, ◌∙◌, ℕ, zero, suc, ◌+◌, ◌<◌, ◌≤◌, true, Bool, List, [], ◌∷◌, ◌++◌, length, arith}
 use Rattle.std.specs.Prelude.{is_none}
 use Rattle.std.specs.List.{list_all}
 use Rattle.std.proofs.lemmas.Bool.{and_parts, and_from}
@@ -13,6 +13,7 @@ use Rattle.clv_base.specs.State.{Shard}
 use Rattle.clv_base.specs.Restarts.{run_after, log_left}
 use Rattle.clv_base.specs.Journals.{History, start_of, final_of, logs_left_from}
 use Rattle.clv_base.specs.History.{Legal, WasSent, logs_left}
+use Rattle.law_base.proofs.Restarts.{left_length as length_from}
 use Rattle.history_laws.proofs.Merging.{Placed, is_among}
 use Rattle.history_laws.proofs.Worlds.{state_at}
 use Rattle.history_laws.proofs.Durability.{Counted, fronts_entry, opened_counted}
@@ -62,10 +63,6 @@ opens : (splits : List ℕ) (before after : List (List LogRecord)) (h : History)
 opens splits before after h m l n i = (refl, opened_counted n (run_after before) (log_of before n), filed_opened splits n (run_after before) (log_of before n) i (found_passes splits before n m (let e = (l.each_log).0 in omega (arith, e, i))))
 
 -- ---- the logs left
-
-length_from : (finals : ℕ → Shard) (choice : ℕ → Bool) (n k : ℕ) → length (logs_left_from finals choice n k) ≡ k
-length_from finals choice n zero = refl
-length_from finals choice n (suc k) = ap suc (length_from finals choice (suc n) k)
 
 -- a log for each shard
 pub left_length : (splits : List ℕ) (before : List (List LogRecord)) (h : History) (after : List (List LogRecord)) (choice : ℕ → Bool) → length (logs_left splits before h after choice) ≡ shard_count splits

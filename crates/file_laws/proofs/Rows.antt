@@ -8,10 +8,6 @@ use Rattle.clv_base.proofs.SameNames.{tx_self, tx_true}
 use Rattle.law_base.proofs.Tables.{get_put}
 use Rattle.law_base.proofs.Changed.{some_same}
 
-pub all_rows : {A : Type 0} (P : A → Type 0) → ((x : A) → P x) → (xs : List A) → AllByRecursion P xs
-all_rows P k [] = tt
-all_rows P k (x ∷ xs) = (k x, all_rows P k xs)
-
 pub all_in : (P : TxId → Type 0) (xs : List TxId) → ((t : TxId) → tx_in t xs ≡ true → P t) → AllByRecursion P xs
 all_in P [] k = tt
 all_in P (x ∷ xs) k = (k x (or_left (tx_same x x) (tx_in x xs) (tx_self x)), all_in P xs (λ t i. k t (or_right (tx_same x t) (tx_in t xs) i)))

@@ -13,6 +13,7 @@ use Rattle.clv_base.specs.Sessions.{no_session}
 use Rattle.clv_base.specs.Journals.{History, own}
 use Rattle.clv_base.specs.History.{Legal, Member, is_acknowledgement, request_of, members, logs_left}
 use Rattle.clv_base.proofs.SameNames.{tx_true}
+use Rattle.law_base.proofs.Lists.{all_mono}
 use Rattle.protocol_laws.specs.SessionLaws.{tx_of}
 use Rattle.protocol_laws.proofs.InOrder.{sessions_keep_order}
 use Rattle.history_laws.specs.Ordering.{SerialRises, AreInSessionOrder, SessionsKeepTheirOrder}
@@ -64,10 +65,6 @@ RequestAmong h es m = (x : Placed) × (ts : List (ℕ × ℕ)) × Among x es × 
 
 from_later : (h : History) (x : Placed) (xs : List Placed) (m : Member) → RequestAmong h xs m → RequestAmong h (x ∷ xs) m
 from_later h x xs m (y, ts, i, r) = (y, ts, inr i, r)
-
-all_mono : {A : Type 0} (P Q : A → Type 0) → ((x : A) → P x → Q x) → (xs : List A) → AllByRecursion P xs → AllByRecursion Q xs
-all_mono P Q k [] a = tt
-all_mono P Q k (x ∷ xs) a = (k x a.0, all_mono P Q k xs a.1)
 
 abbrev by_request : (TxId → Bool) → History → Placed → Option TxId → List Member → List Member
 by_request test h x o rest = elim o [ Some t ↦ cond (test t) (member_at h x t ∷ rest) rest | None ↦ rest ]

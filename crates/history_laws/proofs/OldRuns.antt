@@ -1,13 +1,14 @@
 -- A log in order has COMMITs of its own runs alone, and so none of a run that opens it.
-use Rattle.std.proofs.Common.{◌≡◌, subst, ℕ, zero, suc, ◌+◌, ◌<◌, true, false, Bool, List, [], ◌∷◌, Option, Some, None, is_none, length, arith, refl}
+use Rattle.std.proofs.Common.{◌≡◌, subst, ℕ, zero, suc, ◌+◌, ◌<◌, true, Bool, List, [], ◌∷◌, is_none, length, arith}
 use Rattle.std.specs.List.{list_all}
-use Rattle.std.proofs.lemmas.Bool.{both_ways, and_parts}
+use Rattle.std.proofs.lemmas.Bool.{and_parts}
 use Rattle.clv_base.specs.declared.names.TxId.{TxId}
 use Rattle.clv_base.specs.declared.logs.LogRecord.{LogRecord}
 use Rattle.clv_base.specs.Logs.{committed_in, is_commit_of}
 use Rattle.clv_base.specs.LogRules.{disorder, log_of, all_logs_from, apart}
 use Rattle.clv_base.specs.FileRules.{may_open, log_passes, passes_file_rules}
 use Rattle.clv_base.specs.Restarts.{greatest_run, run_after}
+use Rattle.law_base.proofs.Options.{none_of}
 use Rattle.order_laws.proofs.Records.{own_commit}
 use Rattle.order_laws.proofs.Runs.{record_fits}
 use Rattle.order_laws.proofs.InOrder.{runs_in_order}
@@ -22,10 +23,6 @@ pub below_next_run : (logs : List (List LogRecord)) (i : ℕ) → greatest_run (
 below_next_run [] i = omega arith
 below_next_run (log ∷ logs) zero = omega arith
 below_next_run (log ∷ logs) (suc i) = let k = below_next_run logs i in omega (arith, k)
-
-none_of : {X : Type 0} (o : Option X) → is_none o ≡ true → o ≡ None
-none_of None e = refl
-none_of (Some x) e = absurd (both_ways false refl e)
 
 -- no log that may be opened has a COMMIT of the run that opens it
 pub none_of_this_run : (splits : List ℕ) (before : List (List LogRecord)) (n : ℕ) (t : TxId) → may_open splits before ≡ true → n < length before → committed_in (log_of before n) t ≡ true

@@ -39,6 +39,7 @@ use Rattle.clv_base.proofs.SameNames.{tx_true, nat_cmp_true}
 use Rattle.law_base.proofs.Changed.{none_some}
 use Rattle.law_base.proofs.Rows.{rows_get, rows_set}
 use Rattle.law_base.proofs.Commits.{durable_committed, committed_append}
+use Rattle.law_base.proofs.Lists.{all_append}
 use Rattle.history_laws.proofs.Stepping.{commits, votes, rules, KeptByDue, settled}
 use Rattle.history_laws.proofs.Merging.{Placed, Among}
 use Rattle.history_laws.proofs.Uncommitting.{rolled, with_more}
@@ -102,10 +103,6 @@ pub record Told (h : History) (run bound : ℕ) (s : Shard) : Type 0 where
   pub voters : AllByRecursion (λ r. VoterIs h s.shard r.0 r.1) s.voters
   pub requests : AllByRecursion (λ r. RequestIs h s.shard run bound r.0 r.1 (r.1).state) s.requests
   pub log : (tx : TxId) → committed_in s.local.log tx ≡ true → tx.run ≡ run → Voted h tx
-
-pub all_append : {A : Type 0} (P : A → Type 0) (xs ys : List A) → AllByRecursion P xs → AllByRecursion P ys → AllByRecursion P (xs ++ ys)
-all_append P [] ys a b = b
-all_append P (x ∷ xs) ys a b = (a.0, all_append P xs ys a.1 b)
 
 pub all_map : {A B : Type 0} (P : B → Type 0) (f : A → B) (xs : List A) → ((x : A) → P (f x)) → AllByRecursion P (map f xs)
 all_map P f [] k = tt

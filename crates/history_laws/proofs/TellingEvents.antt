@@ -34,17 +34,14 @@ use Rattle.clv_base.specs.Restarts.{log_left, revived, opened, unended_in, Resta
 use Rattle.clv_base.specs.Journals.{History, after_entry, event_state, up_to_restart, MayEnter}
 use Rattle.law_base.proofs.Rows.{rows_get, rows_put}
 use Rattle.law_base.proofs.Sets.{in_filter}
+use Rattle.law_base.proofs.Lists.{all_mono, all_append, all_of}
 use Rattle.history_laws.proofs.Stepping.{Step, op_dies, op_answers, request_refused, request_doomed, request_again, request_new, request_closes, looks_well, looks_ill, drops, sends, prepare_closes, prepare_again, vote_counts, decision_comes, decision_again, done_counts, asked, reminds, flushes, Happens, finishes, stops, FindsWell}
 use Rattle.history_laws.proofs.Entering.{Makes, by_event, by_flush, by_failure, by_restart, makes}
 use Rattle.history_laws.proofs.Merging.{Among}
 use Rattle.history_laws.proofs.Uncommitting.{NoMoreCommits, with_more, rolled, dropped, op_dying, op_answering, restarts_add, opening_adds}
-use Rattle.history_laws.proofs.Telling.{RequestedBelow, AskedAfter, Voted, Tells, tells_later, VoterIs, RequestIs, Told, all_append, all_map, told_send, request_set, votes_put, commit_more, durable_voted, told_finish}
+use Rattle.history_laws.proofs.Telling.{RequestedBelow, AskedAfter, Voted, Tells, tells_later, VoterIs, RequestIs, Told, all_map, told_send, request_set, votes_put, commit_more, durable_voted, told_finish}
 
 -- ---- with a later bound
-
-all_mono : {A : Type 0} (P Q : A → Type 0) → ((x : A) → P x → Q x) → (xs : List A) → AllByRecursion P xs → AllByRecursion Q xs
-all_mono P Q k [] a = tt
-all_mono P Q k (x ∷ xs) a = (k x a.0, all_mono P Q k xs a.1)
 
 request_later : (h : History) (shard run a b : ℕ) (tx : TxId) (q : Request) (st : RequestState) → a ≤ b → RequestIs h shard run a tx q st → RequestIs h shard run b tx q st
 request_later h shard run a b tx q Undecided l ((r, i, k, m), v) = ((r, i, k, omega arith), v)
@@ -169,10 +166,6 @@ dones_if : (h : History) (shard run bound : ℕ) (tx : TxId) (q : Request) (b : 
 dones_if h shard run bound tx q true k = dones_told h shard run bound tx q q.state (k refl)
 dones_if h shard run bound tx q false k = tt
 
-all_rows : {A : Type 0} (P : A → Type 0) → ((x : A) → P x) → (xs : List A) → AllByRecursion P xs
-all_rows P k [] = tt
-all_rows P k (x ∷ xs) = (k x, all_rows P k xs)
-
 ask_told : (h : History) (run bound shard : ℕ) (tx : TxId) (o : Option Voter) → AllByRecursion (Tells h run bound) (ask_by shard tx o)
 ask_told h run bound shard tx None = tt
 ask_told h run bound shard tx (Some v) = (tt, tt)
@@ -188,7 +181,7 @@ reminders_told h run bound s p =
     (each_told h run bound (λ tx q. missing_votes s.shard tx q q.state) s.requests
     (all_mono (λ r. RequestIs h s.shard run bound r.0 r.1 (r.1).state) _ (λ r. missing_told h s.shard run bound r.0 r.1 (r.1).state) s.requests p.requests))
     (each_told h run bound (λ tx q. elim (tx_in tx (durable_requests s)) [ true ↦ missing_dones s.shard tx q q.state | false ↦ [] ]) s.requests
-    (all_rows _
+    (all_of _
     (λ r. dones_if h s.shard run bound r.0 r.1 (tx_in r.0 (durable_requests s))
     (λ i. durable_voted h run bound s r.0 (in_filter (λ tx. has_durable_commit (facts_of s tx)) r.0 (keys_of s.requests) i).1 p))
     s.requests)))

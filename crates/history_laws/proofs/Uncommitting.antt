@@ -1,5 +1,6 @@
 -- What an operation, an abort and a drop write is no COMMIT.
-use Rattle.std.proofs.Common.{◌≡◌, refl, subst, ℕ, true, false, cond, not, ◌||◌, Bool, List, [], ◌∷◌, ◌++◌, map, Option, Some, None}
+use Rattle.std.proofs.Common.{◌≡◌, refl, subst, ℕ, true, false, cond, not, Bool, List, [], ◌∷◌, ◌++◌, map, Option, Some, None}
+use Rattle.std.proofs.lemmas.Bool.{or_from}
 use Rattle.std.specs.Prelude.{take, zero, suc}
 use Rattle.std.specs.List.{filter, AllByRecursion}
 use Rattle.clv_base.specs.declared.names.TxId.{TxId}
@@ -33,13 +34,9 @@ IsNoCommit r = (t : TxId) → is_commit_of t r ≡ false
 abbrev pub HaveNoCommit : List LogRecord → Type 0
 HaveNoCommit rs = AllByRecursion IsNoCommit rs
 
-or_false : (a b : Bool) → a ≡ false → b ≡ false → (a || b) ≡ false
-or_false true b e f = e
-or_false false b e f = f
-
 uncommitted : (rs : List LogRecord) → HaveNoCommit rs → (t : TxId) → committed_in rs t ≡ false
 uncommitted [] a t = refl
-uncommitted (r ∷ rs) a t = or_false _ _ (a.0 t) (uncommitted rs a.1 t)
+uncommitted (r ∷ rs) a t = or_from _ _ (a.0 t) (uncommitted rs a.1 t)
 
 both_have : (xs ys : List LogRecord) → HaveNoCommit xs → HaveNoCommit ys → HaveNoCommit (xs ++ ys)
 both_have [] ys a b = b

@@ -3,7 +3,7 @@
 use Rattle.std.proofs.Common.{◌≡◌, ◌⊎◌, inl, inr, refl, sym, ap, subst, ◌∙◌, ℕ, ◌<◌, ◌≤◌, true, false, cond, Bool, List, [], ◌∷◌, Option, Some, None, is_some, ◌&&◌, ◌==◌, nat_lt, arith, eqb-true}
 use Rattle.std.specs.Map.{lookup}
 use Rattle.std.specs.BTreeMap.{insert_entry}
-use Rattle.std.specs.Ordering.{nat_cmp, match_ordering, is_eq}
+use Rattle.std.specs.Ordering.{nat_cmp, match_ordering}
 use Rattle.std.specs.declared.cmp.Ordering.{Ordering}
 use Rattle.std.specs.declared.cmp.Ordering.TheVariants.{Less, Equal, Greater}
 use Rattle.std.proofs.lemmas.Bool.{both_ways, and_parts, ltb-true, eq-eqb, cond_both}
@@ -18,7 +18,8 @@ use Rattle.clv_base.specs.declared.events.Outcome.TheVariants.{Answered, Dead, A
 use Rattle.clv_base.specs.Orders.{tx_same}
 use Rattle.clv_base.specs.LogRules.{same_option}
 use Rattle.clv_base.specs.Sessions.{SessionState, is_number, lies_in, goes_on, begins, begun, session_for, touch, scan_shard, op_answered, op_in_session, same_touched, is_lowest, requested, looked, is_touching, session_after, makes_from, is_session, follows_birth}
-use Rattle.clv_base.proofs.SameNames.{tx_true, nat_cmp_true}
+use Rattle.clv_base.proofs.SameNames.{tx_true}
+use Rattle.law_base.proofs.Anchors.{cmp_equal}
 use Rattle.protocol_laws.specs.SessionLaws.{tx_of, SerialsRise, works_on, ended_by, NoneWorksOn, EndsStay}
 use Rattle.protocol_laws.proofs.InOrder.{sessions_keep_order}
 use Rattle.history_laws.proofs.Merging.{Placed, Among, Precedes}
@@ -115,12 +116,9 @@ put_has Less n v r rs qs e h = some_at (n == n) v _ (eq-eqb n n refl)
 put_has Equal n v r rs qs e h = some_at (n == r.0) v _ (eq-eqb n r.0 (e refl))
 put_has Greater n v r rs qs e h = some_if (n == r.0) r.1 _ h
 
-cmp_same : (a b : ℕ) → nat_cmp a b ≡ Equal → a ≡ b
-cmp_same a b e = nat_cmp_true a b (ap is_eq e)
-
 insert_has : (n v : ℕ) (ts : List (ℕ × ℕ)) → has n (insert_entry nat_cmp ts n v) ≡ true
 insert_has n v [] = some_at (n == n) v None (eq-eqb n n refl)
-insert_has n v (r ∷ rs) = put_has (nat_cmp n r.0) n v r rs (insert_entry nat_cmp rs n v) (cmp_same n r.0) (insert_has n v rs)
+insert_has n v (r ∷ rs) = put_has (nat_cmp n r.0) n v r rs (insert_entry nat_cmp rs n v) (cmp_equal n r.0) (insert_has n v rs)
 
 some_row : {X : Type 0} (b : Bool) (x y : X) (o : Option X) → is_some (cond b (Some x) o) ≡ true → is_some (cond b (Some y) o) ≡ true
 some_row true x y o h = refl

@@ -2,8 +2,6 @@
 use Rattle.std.proofs.Common.{◌≡◌, refl, sym, subst, ◌∙◌, ℕ, ◌==◌, true, false, cond, not, ◌&&◌, Bool, List, [], ◌∷◌, map, Option, Some, None}
 use Rattle.std.specs.List.{AllByRecursion}
 use Rattle.std.specs.Ordering.{nat_cmp, ordering_then, is_eq}
-use Rattle.std.specs.declared.cmp.Ordering.{Ordering}
-use Rattle.std.specs.declared.cmp.Ordering.TheVariants.{Less, Equal, Greater}
 use Rattle.std.proofs.lemmas.Bool.{both_ways, or_parts, or_from, and_left, and_right, false_from_ne_true, eq-eqb}
 use Rattle.clv_base.specs.declared.names.TxId.{TxId}
 use Rattle.clv_base.specs.declared.names.Birth.{Birth}
@@ -37,6 +35,7 @@ use Rattle.clv_base.specs.Restarts.{opened, restored_part, restored_parts, log_a
 use Rattle.clv_base.specs.Journals.{has_equal_active_birth, flush_state, FlushMay}
 use Rattle.clv_base.proofs.SameNames.{nat_cmp_true}
 use Rattle.law_base.proofs.Rows.{rows_put}
+use Rattle.law_base.proofs.Tables.{then_eq}
 use Rattle.history_laws.proofs.Stepping.{commits, votes, rules, KeptByDue, settled, Step, op_dies, op_answers, request_refused, request_doomed, request_again, request_new, request_closes, looks_well, looks_ill, drops, sends, prepare_closes, prepare_again, vote_counts, decision_comes, decision_again, done_counts, asked, reminds, flushes, Happens, finishes, stops, happened}
 use Rattle.clv_base.specs.Machines.{BecomesBy, Runs}
 use Rattle.journal_laws.specs.Births.{LeavesBirth, FreeBirthsStay, OpenedHasNone, BearsWalker, OthersLeaveBirths, NewBirthsAreFree}
@@ -231,11 +230,6 @@ pub opened_has_none : OpenedHasNone
 opened_has_none n run found tx birth = has_none tx birth _ (free_restored tx birth (in_doubt n (log_after_restart n found run 0)))
 
 -- ---- births of others
-
-then_eq : (a b : Ordering) → is_eq (ordering_then a b) ≡ true → (is_eq a ≡ true) × (is_eq b ≡ true)
-then_eq Less b e = absurd (both_ways false refl e)
-then_eq Equal b e = (refl, e)
-then_eq Greater b e = absurd (both_ways false refl e)
 
 cmp_session : (a b : Birth) → is_eq (birth_cmp a b) ≡ true → a.session ≡ b.session
 cmp_session a b h =

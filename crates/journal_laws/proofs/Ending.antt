@@ -1,5 +1,5 @@
 -- The end of a transaction on a shard leaves no active part of it.
-use Rattle.std.proofs.Common.{◌≡◌, ◌≢◌, ◌⊎◌, inl, inr, refl, sym, ap, subst, ◌∙◌, ℕ, zero, suc, true, false, cond, not, ◌&&◌, Bool, List, [], ◌∷◌, map, length, Option, Some, None}
+use Rattle.std.proofs.Common.{◌≡◌, ◌≢◌, ◌⊎◌, inl, inr, refl, sym, ap, subst, ◌∙◌, ℕ, true, false, cond, not, ◌&&◌, Bool, List, [], ◌∷◌, map, length, Option, Some, None}
 use Rattle.std.specs.List.{AllByRecursion}
 use Rattle.std.specs.Ordering.{is_eq}
 use Rattle.std.proofs.lemmas.Bool.{both_ways, or_left, and_left, false_from_ne_true}
@@ -22,22 +22,23 @@ use Rattle.clv_base.specs.declared.state.Stage.TheVariants.{Active, Closed, Gone
 use Rattle.clv_base.specs.declared.state.Held.{Held}
 use Rattle.clv_base.specs.declared.modes.Decision.{Decision}
 use Rattle.clv_base.specs.declared.modes.Decision.TheVariants.{Grant, Wait, Die}
-use Rattle.clv_base.specs.Orders.{Table, tx_same, tx_in, tx_insert, tx_get, tx_put, birth_cmp}
+use Rattle.clv_base.specs.Orders.{Table, tx_same, tx_in, tx_get, tx_put, birth_cmp}
 use Rattle.clv_base.specs.Logs.{in_doubt}
 use Rattle.clv_base.specs.Locks.{decide}
 use Rattle.clv_base.specs.State.{Local, Shard, is_active_stage, is_present}
-use Rattle.clv_base.specs.Undo.{stage_of, gone_part, gone_in, with_successors, successors_through, doomed_by, doomed_here}
+use Rattle.clv_base.specs.Undo.{stage_of, gone_part, gone_in, doomed_by, doomed_here}
 use Rattle.clv_base.specs.Needs.{needs_of}
 use Rattle.clv_base.specs.OneShard.{OpReply, OpWaits, OpCrowded, OpDies, OpAnswers, seen_fits, op_reply, op_seen, op_by_stage, op_decided, op_granted, written, locked, active_part, new_part, without_part, rolled_back_if, closed_part, closed_in, dropped_part, marked_in}
 use Rattle.clv_base.specs.Due.{finish_reader, with_vote, do_ruling, with_ruling}
 use Rattle.clv_base.specs.Events.{Does, happen, finish, with_durable}
 use Rattle.clv_base.specs.Restarts.{opened, restored_parts, log_after_restart}
 use Rattle.clv_base.specs.Journals.{flush_state, FlushMay}
-use Rattle.clv_base.proofs.SameNames.{tx_true, tx_self, tx_eq, insert_keeps}
+use Rattle.clv_base.proofs.SameNames.{tx_true, tx_self, tx_eq}
 use Rattle.law_base.proofs.Lists.{all_mono}
 use Rattle.law_base.proofs.Rows.{rows_put}
 use Rattle.law_base.proofs.Tables.{get_put, get_changed}
 use Rattle.law_base.proofs.Sets.{filter_in}
+use Rattle.law_base.proofs.Successors.{keeps_through}
 use Rattle.history_laws.proofs.Stepping.{commits, votes, rules, KeptByDue, settled, Step, op_dies, op_answers, request_refused, request_doomed, request_again, request_new, request_closes, looks_well, looks_ill, drops, sends, prepare_closes, prepare_again, vote_counts, decision_comes, decision_again, done_counts, asked, reminds, flushes, Happens, finishes, stops, happened}
 use Rattle.clv_base.specs.Machines.{BecomesBy, Runs}
 use Rattle.journal_laws.specs.Endings.{RunsFindActive, EndsHere, InactiveIsFree, EndsFree, RestartsFree}
@@ -210,18 +211,6 @@ QuietReply u (OpWaits younger) = Unit {0}
 QuietReply u (OpCrowded count) = Unit {0}
 QuietReply u (OpDies cause m) = Quietly u m.parts
 QuietReply u (OpAnswers answer m) = Unit {0}
-
-keeps_successors : (pairs : List (TxId × TxId)) (set so_far : List TxId) (t : TxId) → tx_in t so_far ≡ true → tx_in t (with_successors pairs set so_far) ≡ true
-keeps_successors [] set so_far t h = h
-keeps_successors (p ∷ ps) set so_far t h = keeps_successors ps set (cond (tx_in p.1 set) (tx_insert p.0 so_far) so_far) t (at (tx_in p.1 set))
-  where
-    at : (b : Bool) → tx_in t (cond b (tx_insert p.0 so_far) so_far) ≡ true
-    at true = insert_keeps p.0 t so_far h
-    at false = h
-
-keeps_through : (n : ℕ) (pairs : List (TxId × TxId)) (set : List TxId) (t : TxId) → tx_in t set ≡ true → tx_in t (successors_through n pairs set) ≡ true
-keeps_through zero pairs set t h = h
-keeps_through (suc n) pairs set t h = keeps_through n pairs (with_successors pairs set set) t (keeps_successors pairs set set t h)
 
 in_doomed : (l : Local) (u : TxId) → is_present (stage_of l u) ≡ true → tx_in u (doomed_here l u) ≡ true
 in_doomed l u h = filter_in (λ t. is_present (stage_of l t)) u (doomed_by l u) (keeps_through (length l.pairs) l.pairs (u ∷ []) u (or_left (tx_same u u) false (tx_self u))) h

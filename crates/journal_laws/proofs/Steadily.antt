@@ -2,7 +2,8 @@
 use Rattle.std.proofs.Common.{◌≡◌, ◌⊎◌, inl, inr, ⊎_elim, refl, sym, ap, subst, ◌∙◌, ℕ, zero, suc, ◌+◌, ◌<◌, ◌≤◌, max, true, false, cond, not, ◌&&◌, Bool, List, [], ◌∷◌, ◌++◌, length, Option, Some, None, ◌==◌, nat_lt, nat_le, arith, eqb-true}
 use Rattle.std.specs.Prelude.{◌^◌, slice_get, slice_set, is_none}
 use Rattle.std.specs.List.{AllByRecursion, list_all}
-use Rattle.std.proofs.lemmas.Bool.{both_ways, and_from, and_parts, or_cases, or_left, or_right, lt-ltb, le-leb, leb-true, leb-false, eq-eqb}
+use Rattle.std.proofs.lemmas.Bool.{both_ways, and_from, and_parts, or_cases, or_left, or_right, lt-ltb, le-leb, leb-true, leb-false, eq-eqb, not-true}
+use Rattle.std.proofs.lemmas.Option.{none-some}
 use Rattle.clv_base.specs.declared.logs.LogRecord.{LogRecord}
 use Rattle.clv_base.specs.declared.events.Event.{Event}
 use Rattle.clv_base.specs.declared.events.Event.TheVariants.{FlushIn}
@@ -17,11 +18,12 @@ use Rattle.clv_base.specs.State.{Shard}
 use Rattle.clv_base.specs.Events.{CallAnswer, Quiet, Worn, Enters, next_stamp}
 use Rattle.clv_base.specs.Restarts.{opened, run_after, log_left}
 use Rattle.clv_base.specs.Sessions.{is_session, is_of_session, is_session_number}
-use Rattle.clv_base.specs.Journals.{History, journal_of, own, start_of, stamp_bound, FlushMay, has_no_equal_active_birth, logs_left_from}
+use Rattle.clv_base.specs.Journals.{History, journal_of, own, start_of, stamp_bound, FlushMay, has_no_equal_active_birth}
 use Rattle.clv_base.specs.History.{WasSent}
 use Rattle.clv_base.specs.Core.{World, new_world, opened_from, clock_of, put_entry, step_answer, entry_of, after_answer}
 use Rattle.clv_base.specs.Runs.{was_sent, goes_on_session, is_allowed, allows_answer, run_on, run_from, run_events}
 use Rattle.law_base.proofs.Lists.{all_mono}
+use Rattle.law_base.proofs.Restarts.{left_length}
 use Rattle.history_laws.proofs.Durability.{opened_counted}
 use Rattle.history_laws.proofs.Merging.{Placed, InOrder, in_order, Among, among_all, in_journal}
 use Rattle.history_laws.proofs.Serials.{left_at}
@@ -40,10 +42,7 @@ use Rattle.journal_laws.proofs.Walking.{others_keep_sessions}
 -- ---- one shard of a list, and a new one in its place
 
 set_here : (xs : List Shard) (i : ℕ) (x y : Shard) → slice_get xs i ≡ Some x → slice_get (slice_set xs i y) i ≡ Some y
-set_here [] i x y h = absurd (none_some h)
-  where
-    none_some : {a : Shard} → ◌≡◌ {A = Option Shard} None (Some a) → ⊥
-    none_some k = cc
+set_here [] i x y h = absurd (none-some x h)
 set_here (z ∷ zs) zero x y h = refl
 set_here (z ∷ zs) (suc i) x y h = set_here zs i x y h
 
@@ -60,10 +59,7 @@ set_length (z ∷ zs) zero y = refl
 set_length (z ∷ zs) (suc i) y = let e = set_length zs i y in omega (arith, e)
 
 within : (xs : List Shard) (i : ℕ) (x : Shard) → slice_get xs i ≡ Some x → i < length xs
-within [] i x h = absurd (none_some h)
-  where
-    none_some : {a : Shard} → ◌≡◌ {A = Option Shard} None (Some a) → ⊥
-    none_some k = cc
+within [] i x h = absurd (none-some x h)
 within (z ∷ zs) zero x h = omega arith
 within (z ∷ zs) (suc i) x h = let e = within zs i x h in omega (arith, e)
 
@@ -87,11 +83,8 @@ below_bound n l = at (nat_le (2 ^ 48) n) refl
     at true h = absurd (let k = leb-true (2 ^ 48) n h in omega (arith, k, l))
     at false h = refl
 
-past_not_all : (xs : List Shard) (i : ℕ) (s : Shard) → slice_get xs i ≡ Some s → s.last < 2 ^ 48 → count_past xs < length xs
-past_not_all [] i s h l = absurd (none_some h)
-  where
-    none_some : {a : Shard} → ◌≡◌ {A = Option Shard} None (Some a) → ⊥
-    none_some k = cc
+pub past_not_all : (xs : List Shard) (i : ℕ) (s : Shard) → slice_get xs i ≡ Some s → s.last < 2 ^ 48 → count_past xs < length xs
+past_not_all [] i s h l = absurd (none-some s h)
 past_not_all (z ∷ zs) zero s h l =
     let e : nat_le (2 ^ 48) z.last ≡ false = below_bound z.last (subst (λ x. x.last < 2 ^ 48) (sym (same_shard h)) l) in
     let f : count_past (z ∷ zs) ≡ 0 + count_past zs = ap (λ b. cond b 1 0 + count_past zs) e in
@@ -120,10 +113,7 @@ past_grows (z ∷ zs) (suc i) s t h l = let k = past_grows zs i s t h l in omega
 
 -- one that passes the bound adds one
 past_one_more : (xs : List Shard) (i : ℕ) (s t : Shard) → slice_get xs i ≡ Some s → s.last < 2 ^ 48 → 2 ^ 48 ≤ t.last → suc (count_past xs) ≤ count_past (slice_set xs i t)
-past_one_more [] i s t h l m = absurd (none_some h)
-  where
-    none_some : {a : Shard} → ◌≡◌ {A = Option Shard} None (Some a) → ⊥
-    none_some k = cc
+past_one_more [] i s t h l m = absurd (none-some s h)
 past_one_more (z ∷ zs) zero s t h l m =
     let e : nat_le (2 ^ 48) z.last ≡ false = below_bound z.last (subst (λ x. x.last < 2 ^ 48) (sym (same_shard h)) l) in
     let f : nat_le (2 ^ 48) t.last ≡ true = le-leb (2 ^ 48) t.last m in
@@ -146,7 +136,7 @@ clock_above w (e ∷ es) = at ((e.1).walker == w) refl (clock_above w es)
     at true p a = (λ q. omega arith, all_mono _ _ (λ f k q. let l = k q in omega (arith, l)) es a)
     at false p a = (λ q. absurd (both_ways ((e.1).walker == w) p (eq-eqb (e.1).walker w q)), all_mono _ _ (λ f k q. let l = k q in omega (arith, l)) es a)
 
-clock_below : (w b : ℕ) (h : History) → 0 < b → AllByRecursion (λ f. (f.1).stamp < b) h → clock_of w h < b
+pub clock_below : (w b : ℕ) (h : History) → 0 < b → AllByRecursion (λ f. (f.1).stamp < b) h → clock_of w h < b
 clock_below w b [] l a = l
 clock_below w b (e ∷ es) l a = at ((e.1).walker == w) (clock_below w b es l a.1)
   where
@@ -216,10 +206,6 @@ allowed splits w s x h =
     let p = and_parts (has_no_equal_active_birth s (x.1).event && goes_on_session splits w s.run x) (was_sent w.history (x.1).event) h in
     let q = and_parts (has_no_equal_active_birth s (x.1).event) (goes_on_session splits w s.run x) p.0 in
     record { births = q.0; session = q.1; sent = p.1 }
-
-flip : (b : Bool) → not b ≡ true → b ≡ false
-flip true h = absurd (both_ways false refl h)
-flip false h = refl
 
 steady_on : (splits : List ℕ) (before : List (List LogRecord)) (w : World) (c : CoreStep) (s : Shard) (o : Outcome) (t : Shard) → are_splits splits ≡ true → Steady splits before w
     → slice_get w.shards c.shard ≡ Some s → step_answer w c s ≡ Enters o t → is_allowed splits w s (c.shard, entry_of c o t) ≡ true → Steady splits before (after_answer w c (Enters o t))
@@ -337,7 +323,7 @@ steady_on splits before w c s o t few k g h test =
 
     session_on : is_session splits (run_after before) c.walker (own c.walker w.history ++ (c.shard, entry_of c o t) ∷ []) ≡ true
     session_on =
-        ⊎_elim (λ q. others_keep_sessions splits (run_after before) c.walker (own c.walker w.history) (c.shard, entry_of c o t) (k.sessions c.walker) (flip (is_of_session c.event) q))
+        ⊎_elim (λ q. others_keep_sessions splits (run_after before) c.walker (own c.walker w.history) (c.shard, entry_of c o t) (k.sessions c.walker) (not-true (is_of_session c.event) q))
         (λ q.
         subst (λ l. is_session splits (run_after before) c.walker l ≡ true) end_is
         (subst (λ r. is_session splits r c.walker (own c.walker (w.history ++ (c.shard, entry_of c o t) ∷ [])) ≡ true) run_is
@@ -385,10 +371,6 @@ pub steps_keep_steady : StepsKeepSteady
 steps_keep_steady splits before w c few k = by_shard splits before w c (slice_get w.shards c.shard) few k refl
 
 -- ---- a steady world's history is legal
-
-left_length : (finals : ℕ → Shard) (choice : ℕ → Bool) (n k : ℕ) → length (logs_left_from finals choice n k) ≡ k
-left_length finals choice n zero = refl
-left_length finals choice n (suc k) = let e = left_length finals choice (suc n) k in omega (arith, e)
 
 found : (w : World) (xs : List Shard) (n : ℕ) → n < length xs → (s : Shard) × (slice_get xs n ≡ Some s) × (elim (slice_get xs n) [ Some s ↦ s | None ↦ opened n 1 [] ] ≡ s)
 found w xs n l = at (slice_get xs n) refl
@@ -450,10 +432,7 @@ new_length n zero = refl
 new_length n (suc k) = let e = new_length (suc n) k in omega (arith, e)
 
 new_is : (n k i : ℕ) (s : Shard) → slice_get (opened_from n k) i ≡ Some s → opened (n + i) 1 [] ≡ s
-new_is n zero i s h = absurd (none_some h)
-  where
-    none_some : {a : Shard} → ◌≡◌ {A = Option Shard} None (Some a) → ⊥
-    none_some k = cc
+new_is n zero i s h = absurd (none-some s h)
 new_is n (suc k) zero s h = ap (λ m. opened m 1 []) (plus n) ∙ same_shard h
   where
     plus : (m : ℕ) → m + 0 ≡ m

@@ -1,7 +1,7 @@
 -- A step that is answered by an entry makes it.
-use Rattle.std.proofs.Common.{◌≡◌, refl, sym, ap, subst, ◌∙◌, ℕ, ◌<◌, not, true, false, Bool, Option, Some, None, nat_lt, arith}
+use Rattle.std.proofs.Common.{◌≡◌, refl, sym, ap, subst, ◌∙◌, ℕ, ◌<◌, true, false, Bool, Option, Some, None, nat_lt, arith}
 use Rattle.std.specs.Prelude.{◌^◌}
-use Rattle.std.proofs.lemmas.Bool.{both_ways, ltb-true}
+use Rattle.std.proofs.lemmas.Bool.{both_ways, ltb-true, not-true}
 use Rattle.clv_base.specs.declared.events.Event.{Event}
 use Rattle.clv_base.specs.declared.events.Event.TheVariants.{Op, Request, Look, Drop, Send, Deliver, Remind, FlushOut, FlushIn, Stop, Restart}
 use Rattle.clv_base.specs.declared.events.Outcome.{Outcome}
@@ -90,15 +90,11 @@ revives s clock walker kept false o t u h =
     let x = entered (next_stamp s clock Restart) walker Restart (nat_lt (next_stamp s clock Restart) (2 ^ 48)) (Does (Up epoch) (revived s epoch after)) o t h in
     record { after = x.after; becomes = (u, (kept, epoch, after, (found, untouched, refl, refl), sym (does_outcome x.reply), sym (does_after x.reply))); is = x.is }
 
-no_equal : (b : Bool) → not b ≡ true → b ≡ false
-no_equal true h = absurd (both_ways false refl h)
-no_equal false h = refl
-
 pub answers : (s : Shard) (clock : ℕ) (c : CoreStep) (e : Event) (o : Outcome) (t : Shard) → answer_by clock c s e ≡ Enters o t → has_no_equal_active_birth s e ≡ true → Answers s clock c.walker e o t
 answers s clock c FlushIn o t h b = lands s clock c.walker c.kept s.is_up o t refl h
 answers s clock c Restart o t h b = revives s clock c.walker c.kept s.is_up o t refl h
 answers s clock c (Op tx birth nth seen op) o t h b =
-    let x = by_step s clock c.walker (Op tx birth nth seen op) o t h in record { after = x.after; becomes = (no_equal (has_equal_active_birth tx birth s.local.parts) b, x.reply); is = x.is }
+    let x = by_step s clock c.walker (Op tx birth nth seen op) o t h in record { after = x.after; becomes = (not-true (has_equal_active_birth tx birth s.local.parts) b, x.reply); is = x.is }
 answers s clock c (Request tx ts) o t h b = let x = by_step s clock c.walker (Request tx ts) o t h in record { after = x.after; becomes = x.reply; is = x.is }
 answers s clock c (Look tx) o t h b = let x = by_step s clock c.walker (Look tx) o t h in record { after = x.after; becomes = x.reply; is = x.is }
 answers s clock c (Drop tx) o t h b = let x = by_step s clock c.walker (Drop tx) o t h in record { after = x.after; becomes = x.reply; is = x.is }

@@ -3,7 +3,7 @@ use Rattle.std.proofs.Common.{◌≡◌, ℕ, ◌<◌, ◌≤◌, ◌⊎◌, inl
 use Rattle.std.specs.List.{AllByRecursion, filter}
 use Rattle.std.specs.declared.cmp.Ordering.{Ordering}
 use Rattle.std.specs.declared.cmp.Ordering.TheVariants.{Less, Equal, Greater}
-use Rattle.std.specs.Ordering.{nat_cmp, match_ordering}
+use Rattle.std.specs.Ordering.{nat_cmp, match_ordering, is_lt}
 use Rattle.std.proofs.lemmas.Bool.{cases_Bool, both_ways, cond_both, cond-true, cond-false, ltb-true, ltb-false, lt-ltb, le-ltb, cases_lt, cases_eq, false_from_ne_true}
 use Rattle.clv_base.specs.declared.names.TxId.{TxId}
 use Rattle.clv_base.specs.declared.modes.Anchor.{Anchor}
@@ -272,3 +272,6 @@ scan_below lo k a (r ∷ rs) le h none =
     ))
     (cases_lt r.0 k))
     (cases_lt r.0 lo)
+
+pub less_true : (a b : ℕ) → a < b → is_lt (nat_cmp a b) ≡ true
+less_true a b l = ap (λ c. is_lt (cond c Less (cond (a == b) Equal Greater))) (lt-ltb a b l)

@@ -1,15 +1,10 @@
 -- Tables in which one value is changed where it is.
 use Rattle.std.proofs.Common.{◌≡◌, ◌⊎◌, inl, inr, Bool, true, false, cond, [], ◌∷◌, Option, Some, None, refl, sym, subst, ◌∙◌}
 use Rattle.std.proofs.lemmas.Bool.{both_ways, cond-false}
+pub use Rattle.std.proofs.lemmas.Option.{same_Some as some_same, none-some as none_some}
 use Rattle.clv_base.specs.declared.names.TxId.{TxId}
 use Rattle.clv_base.specs.Orders.{Table, tx_same, tx_get, tx_set}
 use Rattle.clv_base.proofs.SameNames.{tx_true}
-
-pub some_same : {V : Type 0} (q r : V) → Some q ≡ Some r → q ≡ r
-some_same q r e = cc
-
-pub none_some : {V : Type 0} (q : V) → ◌≡◌ {A = Option V} None (Some q) → ⊥
-none_some q e = absurd cc
 
 abbrev pub Set_or_old : {V : Type 0} → TxId → TxId → V → V → Option V → Type 0
 Set_or_old t u w q old = ((u ≡ t) × (q ≡ w)) ⊎ ((u ≡ t → ⊥) × (old ≡ Some q))

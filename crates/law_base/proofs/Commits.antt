@@ -1,12 +1,14 @@
 -- COMMITs of a log, and where they stand.
 use Rattle.std.proofs.Common.{◌≡◌, ℕ, suc, ◌+◌, ◌≤◌, ◌<◌, ⊎_elim, Bool, true, false, cond, ◌||◌, List, [], ◌∷◌, ◌++◌, length, Option, Some, None, refl, sym, ap, subst, ◌∙◌, arith}
 use Rattle.std.specs.List.{list_any}
-use Rattle.std.proofs.lemmas.Bool.{both_ways, cond-true, or_cases, ltb-true, lt-ltb}
+use Rattle.std.proofs.lemmas.Bool.{both_ways, cond-true, or_cases, ltb-true, lt-ltb, or_from, or_parts, cond-false}
 use Rattle.std.proofs.lemmas.List.Folds.{list_any-append}
 use Rattle.clv_base.specs.declared.names.TxId.{TxId}
 use Rattle.clv_base.specs.declared.logs.LogRecord.{LogRecord}
-use Rattle.clv_base.specs.declared.logs.LogRecord.TheVariants.{Commit}
-use Rattle.clv_base.specs.Logs.{committed_in, is_commit_of, place_from, commit_lsn, is_below}
+use Rattle.clv_base.specs.declared.logs.LogRecord.TheVariants.{Commit, Update, Clr, Prepare, Abort, End, Restart}
+use Rattle.clv_base.specs.Logs.{committed_in, is_commit_of, place_from, commit_lsn, is_below, commit_parts}
+use Rattle.clv_base.specs.Orders.{tx_same}
+use Rattle.clv_base.specs.OneShard.{closing}
 use Rattle.clv_base.proofs.SameNames.{or_left, tx_self}
 
 pub place_keeps : (n : ℕ) (test : LogRecord → Bool) (xs ys : List LogRecord) (k : ℕ) → place_from n test xs ≡ Some k → place_from n test (xs ++ ys) ≡ Some k
@@ -71,7 +73,7 @@ before_new log p t parts there new =
 abbrev pub commit_durable : List LogRecord → ℕ → TxId → Bool
 commit_durable log durable tx = is_below (commit_lsn log tx) durable
 
-below_some : (o : Option ℕ) (d : ℕ) → is_below o d ≡ true → (n : ℕ) × (o ≡ Some n) × (n < d)
+pub below_some : (o : Option ℕ) (d : ℕ) → is_below o d ≡ true → (n : ℕ) × (o ≡ Some n) × (n < d)
 below_some None d e = absurd (both_ways false refl e)
 below_some (Some n) d e = (n, refl, ltb-true n d e)
 
@@ -108,12 +110,38 @@ committed_append log more tx = list_any-append (is_commit_of tx) log more
 pub committed_keeps : (log more : List LogRecord) (tx : TxId) → committed_in log tx ≡ true → committed_in (log ++ more) tx ≡ true
 committed_keeps log more tx e = committed_append log more tx ∙ or_left _ _ e
 
-or_false : (a b : Bool) → a ≡ false → b ≡ false → (a || b) ≡ false
-or_false true b e f = e
-or_false false b e f = f
-
 pub uncommitted_append : (log more : List LogRecord) (tx : TxId) → committed_in log tx ≡ false → committed_in more tx ≡ false → committed_in (log ++ more) tx ≡ false
-uncommitted_append log more tx e f = committed_append log more tx ∙ or_false _ _ e f
+uncommitted_append log more tx e f = committed_append log more tx ∙ or_from _ _ e f
 
 pub committed_from : (log more : List LogRecord) (tx : TxId) → committed_in more tx ≡ false → committed_in (log ++ more) tx ≡ true → committed_in log tx ≡ true
 committed_from log more tx none e = ⊎_elim (λ h. h) (λ h. absurd (both_ways _ none h)) (or_cases (committed_in log tx) (committed_in more tx) (sym (committed_append log more tx) ∙ e))
+
+-- what no record passes has no place
+pub no_place_from : (n : ℕ) (f : LogRecord → Bool) (rs : List LogRecord) → list_any f rs ≡ false → place_from n f rs ≡ None
+no_place_from n f [] e = refl
+no_place_from n f (r ∷ rs) e = let p = or_parts (f r) (list_any f rs) e in cond-false (f r) (Some n) (place_from (suc n) f rs) p.0 ∙ no_place_from (suc n) f rs p.1
+
+-- the participants of a COMMIT stand in a longer log too
+parts_case : (b : Bool) (x ps : List ℕ) (o p : Option (List ℕ)) → cond b (Some x) o ≡ Some ps → (o ≡ Some ps → p ≡ Some ps) → cond b (Some x) p ≡ Some ps
+parts_case true x ps o p e k = e
+parts_case false x ps o p e k = k e
+
+pub parts_keep : (log more : List LogRecord) (t : TxId) (ps : List ℕ) → commit_parts log t ≡ Some ps → commit_parts (log ++ more) t ≡ Some ps
+parts_keep [] more t ps e = absurd cc
+parts_keep (Commit tx parts ∷ rs) more t ps e = parts_case (tx_same t tx) parts ps (commit_parts rs t) (commit_parts (rs ++ more) t) e (parts_keep rs more t ps)
+parts_keep (Update tx k b a ∷ rs) more t ps e = parts_keep rs more t ps e
+parts_keep (Clr tx u k a ∷ rs) more t ps e = parts_keep rs more t ps e
+parts_keep (Prepare tx home qs ∷ rs) more t ps e = parts_keep rs more t ps e
+parts_keep (Abort tx ∷ rs) more t ps e = parts_keep rs more t ps e
+parts_keep (End tx ∷ rs) more t ps e = parts_keep rs more t ps e
+parts_keep (Restart run epoch ∷ rs) more t ps e = parts_keep rs more t ps e
+
+pub durable_further : (log : List LogRecord) (d e : ℕ) (tx : TxId) → d ≤ e → commit_durable log d tx ≡ true → commit_durable log e tx ≡ true
+durable_further log d e tx le h = let m = durable_parts log d tx h in let l = m.2 in durable_from log e tx m.0 m.1 (omega arith)
+
+-- records that close one transaction commit no other
+pub closing_commits : (b one : Bool) (tx : TxId) (home : ℕ) (us : List TxId) (x : TxId) → tx_same x tx ≡ false → committed_in (closing b one tx home us) x ≡ false
+closing_commits true true tx home [] x o = or_from _ _ o refl
+closing_commits true true tx home (u ∷ us) x o = refl
+closing_commits true false tx home us x o = refl
+closing_commits false one tx home us x o = refl

@@ -1,23 +1,21 @@
 -- Which transactions are committed, aborted and in doubt in a log with one record more.
-use Rattle.std.proofs.Common.{◌≡◌, ℕ, suc, ◌+◌, Bool, true, false, cond, not, ◌&&◌, ◌||◌, List, [], ◌∷◌, ◌++◌, length, Option, ◌==◌, refl, ap, ◌∙◌, arith}
+use Rattle.std.proofs.Common.{◌≡◌, ℕ, ◌+◌, Bool, true, false, cond, not, ◌&&◌, ◌||◌, List, [], ◌∷◌, ◌++◌, length, Option, ◌==◌, refl, ap, ◌∙◌}
 use Rattle.std.specs.List.{list_any, list_all}
 use Rattle.std.proofs.lemmas.List.Folds.{list_any-append}
 use Rattle.std.proofs.lemmas.Bool.{both_ways}
+use Rattle.std.proofs.Math.Bool.{or-false}
 use Rattle.clv_base.specs.declared.names.TxId.{TxId}
 use Rattle.clv_base.specs.declared.logs.LogRecord.{LogRecord}
 use Rattle.clv_base.specs.declared.logs.LogRecord.TheVariants.{Update, Clr, Prepare, Commit, Abort, End, Restart}
 use Rattle.clv_base.specs.Orders.{tx_same, tx_in, tx_insert}
-use Rattle.clv_base.specs.Logs.{StandingUpdate, is_commit_of, is_abort_of, committed_in, aborted_in, standing, standing_from, standing_after, doubt_by, in_doubt_from, in_doubt, is_winner}
+use Rattle.clv_base.specs.Logs.{is_commit_of, is_abort_of, committed_in, aborted_in, standing, standing_after, doubt_by, in_doubt_from, in_doubt, is_winner}
 use Rattle.clv_base.proofs.SameNames.{insert_keeps, insert_has}
+use Rattle.law_base.proofs.Undoing.{standing_append}
 
 -- ---- one record more
 
-or_nothing : (b : Bool) → (b || false) ≡ b
-or_nothing true = refl
-or_nothing false = refl
-
 one_more : (test : LogRecord → Bool) (log : List LogRecord) (r : LogRecord) → list_any test (log ++ r ∷ []) ≡ (list_any test log || test r)
-one_more test log r = list_any-append test log (r ∷ []) ∙ ap (λ b. list_any test log || b) (or_nothing (test r))
+one_more test log r = list_any-append test log (r ∷ []) ∙ ap (λ b. list_any test log || b) (or-false (test r))
 
 -- a record that is no COMMIT, no PREPARE and no UPDATE, and aborts those that g tells
 pub record Unlike (g : TxId → Bool) (r : LogRecord) : Type 0 where
@@ -26,7 +24,7 @@ pub record Unlike (g : TxId → Bool) (r : LogRecord) : Type 0 where
   pub no_doubt : (log : List LogRecord) (shard : ℕ) (rs : List LogRecord) (so_far : List TxId) → in_doubt_from log shard (rs ++ r ∷ []) so_far ≡ in_doubt_from log shard rs so_far
 
 pub committed_more : (g : TxId → Bool) (log : List LogRecord) (r : LogRecord) (t : TxId) → Unlike g r → committed_in (log ++ r ∷ []) t ≡ committed_in log t
-committed_more g log r t u = one_more (is_commit_of t) log r ∙ ap (λ b. committed_in log t || b) (u.no_commit t) ∙ or_nothing (committed_in log t)
+committed_more g log r t u = one_more (is_commit_of t) log r ∙ ap (λ b. committed_in log t || b) (u.no_commit t) ∙ or-false (committed_in log t)
 
 pub aborted_more : (g : TxId → Bool) (log : List LogRecord) (r : LogRecord) (t : TxId) → Unlike g r → aborted_in (log ++ r ∷ []) t ≡ (aborted_in log t || g t)
 aborted_more g log r t u = one_more (is_abort_of t) log r ∙ ap (λ b. aborted_in log t || b) (u.aborts t)
@@ -165,10 +163,6 @@ pub winners_more : (g : TxId → Bool) (log : List LogRecord) (r : LogRecord) (s
 winners_more g log r shard t u h = ap (λ b. b || tx_in t (in_doubt shard (log ++ r ∷ []))) (committed_more g log r t u) ∙ ap (λ l. committed_in log t || tx_in t l) (doubts_more g log r shard u h)
 
 -- ---- what stands after one record more
-
-standing_append : (n : ℕ) (xs ys : List LogRecord) (ws : List StandingUpdate) → standing_from n (xs ++ ys) ws ≡ standing_from (n + length xs) ys (standing_from n xs ws)
-standing_append n [] ys ws = ap (λ k. standing_from k ys ws) (omega arith)
-standing_append n (x ∷ xs) ys ws = standing_append (suc n) xs ys (standing_after n x ws) ∙ ap (λ k. standing_from k ys (standing_from (suc n) xs (standing_after n x ws))) (omega arith)
 
 pub standing_more : (log : List LogRecord) (r : LogRecord) → standing (log ++ r ∷ []) ≡ standing_after (0 + length log) r (standing log)
 standing_more log r = standing_append 0 log (r ∷ []) []

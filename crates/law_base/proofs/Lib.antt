@@ -1,4 +1,7 @@
+pub mod Bools
+pub mod Options
 pub mod Lists
+pub mod Restarts
 pub mod Cells
 pub mod Tables
 pub mod Commits
@@ -9,5 +12,7 @@ pub mod Changed
 pub mod Rows
 pub mod LockRows
 pub mod Sets
+pub mod Successors
 pub mod Doubts
 pub mod Stages
+pub mod Due

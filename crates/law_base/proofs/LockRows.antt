@@ -3,7 +3,7 @@ use Rattle.std.proofs.Common.{◌≡◌, ◌⊎◌, inl, inr, ⊎_elim, Bool, tr
 use Rattle.std.specs.List.{AllByRecursion, filter, list_any}
 use Rattle.std.specs.declared.cmp.Ordering.{Ordering}
 use Rattle.std.specs.declared.cmp.Ordering.TheVariants.{Less, Equal, Greater}
-use Rattle.std.specs.Ordering.{ordering_then, is_eq, match_ordering}
+use Rattle.std.specs.Ordering.{match_ordering}
 use Rattle.std.proofs.lemmas.Bool.{cases_Bool, both_ways, cond_both, cond-true, or_cases, and_parts, and_from, not-true, not-false}
 use Rattle.clv_base.specs.declared.names.TxId.{TxId}
 use Rattle.clv_base.specs.declared.names.Birth.{Birth}
@@ -20,6 +20,7 @@ use Rattle.clv_base.specs.Modes.{part_compatible, compatible, part_join, join, p
 use Rattle.clv_base.specs.Orders.{tx_cmp, tx_same, tx_in, tx_insert, anchor_cmp, anchor_same}
 use Rattle.clv_base.specs.Locks.{Locks, row_cmp, with_mode, take_one, holder_of, take_all, gap_alone, holds_gap, copy_gaps, split_gap, close_holder, close_locks, release, is_free, meets, conflicting_holders, oldest_by, older_of, wait_by, die_by, decide, violated_by, violated}
 use Rattle.clv_base.proofs.SameNames.{or_left, or_right, tx_true, tx_self, tx_eq, tx_ne, nat_cmp_true, nat_cmp_self, insert_keeps, insert_has, in_insert}
+use Rattle.law_base.proofs.Tables.{then_same}
 
 -- ---- anchors
 
@@ -33,13 +34,8 @@ pub anchor_self : (a : Anchor) → anchor_same a a ≡ true
 anchor_self Low = refl
 anchor_self (At k) = nat_cmp_self k
 
-then_equal : (a b : Ordering) → ordering_then a b ≡ Equal → (is_eq a ≡ true) × (is_eq b ≡ true)
-then_equal Less b e = absurd cc
-then_equal Equal b e = (refl, ap is_eq e)
-then_equal Greater b e = absurd cc
-
 pub row_equal : (a : Anchor) (tx : TxId) (r : Anchor × Holder) → row_cmp a tx r ≡ Equal → (a ≡ r.0) × (tx ≡ (r.1).tx)
-row_equal a tx r e = let p = then_equal (anchor_cmp a r.0) (tx_cmp tx (r.1).tx) e in (anchor_true a r.0 p.0, tx_true tx (r.1).tx p.1)
+row_equal a tx r e = let p = then_same (anchor_cmp a r.0) (tx_cmp tx (r.1).tx) e in (anchor_true a r.0 p.0, tx_true tx (r.1).tx p.1)
 
 -- ---- parts of modes
 

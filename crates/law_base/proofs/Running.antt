@@ -1,15 +1,20 @@
 -- Items of which some are left out run as before, where no item that stays meets a key that one left out wrote.
-use Rattle.std.proofs.Common.{◌≡◌, ℕ, ◌⊎◌, inl, inr, ⊎_elim, Bool, true, false, cond, List, [], ◌∷◌, ◌++◌, Option, Some, None, ◌==◌, refl, sym, ap, subst, ◌∙◌, eqb-true, eq-eqb}
+use Rattle.std.proofs.Common.{◌≡◌, ℕ, ◌⊎◌, inl, inr, ⊎_elim, Bool, true, false, cond, List, [], ◌∷◌, ◌++◌, Option, Some, None, ◌==◌, refl, sym, ap, subst, ◌∙◌, eqb-true, eq-eqb, ◌+◌}
 use Rattle.std.specs.List.{AllByRecursion, filter}
 use Rattle.std.proofs.lemmas.Bool.{cases_Bool, both_ways, cond_both}
 use Rattle.clv_base.specs.declared.ops.Op.{Op}
 use Rattle.clv_base.specs.declared.ops.Op.TheVariants.{Get, Put, Del, Scan}
 use Rattle.clv_base.specs.declared.ops.Answer.TheVariants.{Value, Pairs}
-use Rattle.clv_base.specs.Maps.{KeyMap, map_get, map_set, map_between, lies_between, op_answer, op_after}
+use Rattle.clv_base.specs.Maps.{KeyMap, map_get, map_set, map_between, lies_between, op_answer, op_after, replay_map, ops_after, replay_answers, ops_answers}
 use Rattle.clv_base.specs.Needs.{writes_of}
-use Rattle.clv_base.specs.Logs.{StandingUpdate, newest_at}
+use Rattle.clv_base.specs.Logs.{StandingUpdate, newest_at, wrote_in, fold_updates}
 use Rattle.clv_base.specs.Folding.{IsRising, meets_key}
+use Rattle.clv_base.specs.declared.names.TxId.{TxId}
+use Rattle.clv_base.specs.declared.logs.LogRecord.{LogRecord}
+use Rattle.clv_base.specs.declared.logs.LogRecord.TheVariants.{Update, Clr, Prepare, Commit, Abort, End, Restart}
+use Rattle.clv_base.specs.Orders.{tx_same}
 use Rattle.clv_base.proofs.Folding.{get_set, rising_after, rising_between, same_map, find_between}
+use Rattle.clv_base.proofs.SameNames.{or_left, or_right, tx_self}
 use Rattle.law_base.specs.Items.{Item, told, wrote, is_write_at, writes, meets, Runs, after, AllLater, Reaches, on_top, pile}
 use Rattle.law_base.proofs.Lists.{all_mono}
 
@@ -131,3 +136,29 @@ pile_value (x ∷ xs) m ws k r e =
 pub pile_push : (xs : List Item) (x : Item) (ws : List StandingUpdate) → pile (xs ++ x ∷ []) ws ≡ on_top x.tx x.lsn (wrote x) (pile xs ws)
 pile_push [] x ws = refl
 pile_push (y ∷ ys) x ws = pile_push ys x (on_top y.tx y.lsn (wrote y) ws)
+
+pub value_top : (o : Option StandingUpdate) → ◌≡◌ {A = Option ℕ} (elim o [ Some w ↦ w.after | None ↦ None ]) (after_of o)
+value_top None = refl
+value_top (Some w) = refl
+
+-- ---- a replay in two parts
+
+pub replay_map_append : (m : KeyMap) (xs ys : List (List Op)) → replay_map m (xs ++ ys) ≡ replay_map (replay_map m xs) ys
+replay_map_append m [] ys = refl
+replay_map_append m (x ∷ xs) ys = replay_map_append (ops_after x m) xs ys
+
+pub replay_answers_append : (m : KeyMap) (xs ys : List (List Op)) → replay_answers m (xs ++ ys) ≡ replay_answers m xs ++ replay_answers (replay_map m xs) ys
+replay_answers_append m [] ys = refl
+replay_answers_append m (x ∷ xs) ys = ap (λ l. ops_answers x m ∷ l) (replay_answers_append (ops_after x m) xs ys)
+
+-- of the records of a log the writers alone count
+pub fold_writers : (f k : TxId → Bool) (log : List LogRecord) (m : KeyMap) → ((t : TxId) → wrote_in log t ≡ true → f t ≡ k t) → fold_updates f log m ≡ fold_updates k log m
+fold_writers f k [] m e = refl
+fold_writers f k (Update tx key b a ∷ rs) m e =
+    ap (λ c. fold_updates f rs (cond c (map_set key a m) m)) (e tx (or_left _ _ (tx_self tx))) ∙ fold_writers f k rs (cond (k tx) (map_set key a m) m) (λ t w. e t (or_right (tx_same t tx) _ w))
+fold_writers f k (Clr tx u key a ∷ rs) m e = fold_writers f k rs m e
+fold_writers f k (Prepare tx home ps ∷ rs) m e = fold_writers f k rs m e
+fold_writers f k (Commit tx ps ∷ rs) m e = fold_writers f k rs m e
+fold_writers f k (Abort tx ∷ rs) m e = fold_writers f k rs m e
+fold_writers f k (End tx ∷ rs) m e = fold_writers f k rs m e
+fold_writers f k (Restart run epoch ∷ rs) m e = fold_writers f k rs m e

@@ -1,36 +1,36 @@
--- Lists of transactions that rise, and what a filter keeps of one.
-use Rattle.std.proofs.Common.{◌≡◌, ⊎_elim, Bool, true, false, cond, not, ◌&&◌, List, [], ◌∷◌, refl, sym, ap, subst, ◌∙◌}
-use Rattle.std.specs.List.{filter}
+-- Lists of transactions that rise, what is in one, and what a filter keeps of it.
+use Rattle.std.proofs.Common.{◌≡◌, ⊎_elim, Bool, true, false, cond, not, ◌&&◌, List, [], ◌∷◌, refl, sym, ap, subst, ◌∙◌, ◌⊎◌}
+use Rattle.std.specs.List.{AllByRecursion, filter, list_all}
 use Rattle.std.specs.declared.cmp.Ordering.{Ordering}
 use Rattle.std.specs.declared.cmp.Ordering.TheVariants.{Less, Equal, Greater}
 use Rattle.std.specs.Ordering.{match_ordering, is_eq, ordering_reverse}
 use Rattle.std.specs.Cmp.{IsTotalOrder}
 use Rattle.std.proofs.lemmas.Cmp.{then_total, on_total, nat_cmp_total}
-use Rattle.std.proofs.lemmas.Bool.{both_ways, or_cases, cond_both, false_from_ne_true}
+use Rattle.std.proofs.lemmas.Bool.{both_ways, or_cases, cond_both, false_from_ne_true, and_parts}
 use Rattle.clv_base.specs.declared.names.TxId.{TxId}
-use Rattle.clv_base.specs.Orders.{tx_cmp, tx_same, tx_in, tx_insert}
+use Rattle.clv_base.specs.Orders.{tx_cmp, tx_same, tx_in, tx_insert, tx_union}
 use Rattle.clv_base.specs.Logs.{StandingUpdate, writers, without_newest}
-use Rattle.clv_base.proofs.SameNames.{or_left, or_right, tx_true, tx_self, in_insert, insert_keeps, insert_has}
+use Rattle.clv_base.proofs.SameNames.{or_left, or_right, tx_true, tx_self, in_insert, insert_keeps, insert_has, tx_flip}
+use Rattle.law_base.proofs.Lists.{all_mono}
 
 -- ---- the order of transactions
 
 pub tx_total : IsTotalOrder tx_cmp
 tx_total = then_total (on_total (λ t. t.run) nat_cmp_total) (then_total (on_total (λ t. t.session) nat_cmp_total) (on_total (λ t. t.serial) nat_cmp_total))
 
-less_from_greater : (a b : TxId) → tx_cmp a b ≡ Greater → tx_cmp b a ≡ Less
+pub less_from_greater : (a b : TxId) → tx_cmp a b ≡ Greater → tx_cmp b a ≡ Less
 less_from_greater a b e = tx_total.antisymm b a ∙ ap ordering_reverse e
 
 -- ---- lists that rise
 
-abbrev AllAbove : TxId → List TxId → Type 0
-AllAbove t [] = Unit {0}
-AllAbove t (x ∷ xs) = (tx_cmp t x ≡ Less) × AllAbove t xs
+abbrev pub AllAbove : TxId → List TxId → Type 0
+AllAbove t xs = AllByRecursion (λ x. tx_cmp t x ≡ Less) xs
 
 abbrev pub Rises : List TxId → Type 0
 Rises [] = Unit {0}
 Rises (x ∷ xs) = AllAbove x xs × Rises xs
 
-above_more : (a b : TxId) (xs : List TxId) → tx_cmp a b ≡ Less → AllAbove b xs → AllAbove a xs
+pub above_more : (a b : TxId) (xs : List TxId) → tx_cmp a b ≡ Less → AllAbove b xs → AllAbove a xs
 above_more a b [] l h = tt
 above_more a b (x ∷ xs) l h = (tx_total.trans a b x l h.0, above_more a b xs l h.1)
 
@@ -39,7 +39,7 @@ above_case Less a t y xs ys l h k = (l, h)
 above_case Equal a t y xs ys l h k = h
 above_case Greater a t y xs ys l h k = (h.0, k)
 
-above_insert : (a t : TxId) (xs : List TxId) → tx_cmp a t ≡ Less → AllAbove a xs → AllAbove a (tx_insert t xs)
+pub above_insert : (a t : TxId) (xs : List TxId) → tx_cmp a t ≡ Less → AllAbove a xs → AllAbove a (tx_insert t xs)
 above_insert a t [] l h = (l, tt)
 above_insert a t (y ∷ ys) l h = above_case (tx_cmp t y) a t y ys (tx_insert t ys) l h (above_insert a t ys l h.1)
 
@@ -48,7 +48,7 @@ rises_case Less t y xs ys e h k r = ((e, above_more t y xs e h.0), h)
 rises_case Equal t y xs ys e h k r = h
 rises_case Greater t y xs ys e h k r = (k refl, r)
 
-insert_rises : (t : TxId) (xs : List TxId) → Rises xs → Rises (tx_insert t xs)
+pub insert_rises : (t : TxId) (xs : List TxId) → Rises xs → Rises (tx_insert t xs)
 insert_rises t [] h = (tt, tt)
 insert_rises t (y ∷ ys) h =
     rises_case (tx_cmp t y) t y ys (tx_insert t ys) refl h (λ g. above_insert y t ys (less_from_greater t y g) h.0) (insert_rises t ys h.1)
@@ -142,3 +142,30 @@ writers_without t u (w ∷ ws) e = at (tx_same t w.tx) e (writers_without t u ws
     at true i ih = insert_keeps w.tx u (writers ws) i
     at false i ih =
         ⊎_elim (λ h. subst (λ x. tx_in x (writers (w ∷ ws)) ≡ true) (sym h) (insert_has w.tx (writers ws))) (λ h. insert_keeps w.tx u (writers ws) (ih h)) (in_insert w.tx u (writers (without_newest t ws)) i)
+
+pub flip_apart : (x tx : TxId) → tx_same x tx ≡ false → tx_same tx x ≡ false
+flip_apart x tx o = false_from_ne_true _ (λ e. both_ways _ o (tx_flip tx x e))
+
+pub same_flip : (a b : TxId) → tx_same a b ≡ tx_same b a
+same_flip a b = at (tx_same a b) refl
+  where
+    at : (c : Bool) → tx_same a b ≡ c → c ≡ tx_same b a
+    at true e = sym (tx_flip a b e)
+    at false e = sym (false_from_ne_true (tx_same b a) (λ f. both_ways _ e (tx_flip b a f)))
+
+pub none_listed : (p : TxId) (l : List TxId) → l ≡ [] → tx_in p l ≡ true → ⊥
+none_listed p l e i = both_ways false refl (subst (λ z. tx_in p z ≡ true) e i)
+
+pub list_all_at : (f : TxId → Bool) (u : TxId) (xs : List TxId) → list_all f xs ≡ true → tx_in u xs ≡ true → f u ≡ true
+list_all_at f u [] e i = absurd (both_ways false refl i)
+list_all_at f u (x ∷ xs) e i =
+    let p = and_parts (f x) (list_all f xs) e in
+    ⊎_elim (λ h. subst (λ z. f z ≡ true) (tx_true x u h) p.0) (λ h. list_all_at f u xs p.1 h) (or_cases (tx_same x u) (tx_in u xs) i)
+
+pub each_writer : (ws : List StandingUpdate) → AllByRecursion (λ w. tx_in w.tx (writers ws) ≡ true) ws
+each_writer [] = tt
+each_writer (w ∷ ws) = (insert_has w.tx (writers ws), all_mono _ _ (λ v h. insert_keeps w.tx v.tx (writers ws) h) ws (each_writer ws))
+
+pub union_right : (x : TxId) (xs ys : List TxId) → tx_in x ys ≡ true → tx_in x (tx_union xs ys) ≡ true
+union_right x [] ys i = i
+union_right x (u ∷ us) ys i = insert_keeps u x (tx_union us ys) (union_right x us ys i)

@@ -1,15 +1,16 @@
 -- The stage of a part after its table changed: parts that are gone, marked as dropped, closed, and a part that is new.
-use Rattle.std.proofs.Common.{◌≡◌, ⊎_elim, Bool, true, false, cond, List, [], ◌∷◌, Option, Some, None, refl, sym, ap, ◌∙◌}
-use Rattle.std.proofs.lemmas.Bool.{cases_Bool, both_ways, cond-true, cond-false, false_from_ne_true}
+use Rattle.std.proofs.Common.{◌≡◌, ⊎_elim, Bool, true, false, cond, List, Option, Some, None, refl, sym, ap, ◌∙◌, ◌⊎◌, inl, inr, ℕ}
+use Rattle.std.proofs.lemmas.Bool.{cases_Bool, cond-false, false_from_ne_true, both_ways}
+use Rattle.std.proofs.lemmas.Option.{same_Some}
 use Rattle.clv_base.specs.declared.names.TxId.{TxId}
 use Rattle.clv_base.specs.declared.names.Birth.{Birth}
 use Rattle.clv_base.specs.declared.state.Stage.{Stage}
 use Rattle.clv_base.specs.declared.state.Stage.TheVariants.{Active, Closed, Gone}
 use Rattle.clv_base.specs.declared.state.Held.{Held}
 use Rattle.clv_base.specs.Orders.{Table, tx_same, tx_in, tx_get}
-use Rattle.clv_base.specs.State.{is_present}
+use Rattle.clv_base.specs.State.{is_present, Local}
 use Rattle.clv_base.specs.Undo.{gone_part, gone_in}
-use Rattle.clv_base.specs.OneShard.{active_part, new_part, dropped_part, marked_in, closed_part, closed_in}
+use Rattle.clv_base.specs.OneShard.{active_part, new_part, dropped_part, marked_in, closed_part, closed_in, written}
 use Rattle.clv_base.proofs.SameNames.{tx_self}
 use Rattle.law_base.proofs.Tables.{stage_in, stage_by, get_changed, get_put}
 
@@ -92,18 +93,18 @@ stage_marked t u parts = ap stage_by (get_marked t u parts) ∙ at (tx_same t u)
 
 -- ---- closed
 
-pub some_inj : (a b : Stage) → Some a ≡ Some b → a ≡ b
-some_inj a b e = cc
+pub closed_not_active : ◌≡◌ {A = Option Stage} (Some Closed) (Some Active) → ⊥
+closed_not_active e = absurd cc
+
+pub active_not_closed : ◌≡◌ {A = Option Stage} (Some Active) (Some Closed) → ⊥
+active_not_closed e = absurd cc
 
 pub stage_of_some : (parts : Table Held) (t : TxId) (s : Stage) → stage_in parts t ≡ Some s → (h : Held) × (tx_get t parts ≡ Some h) × (h.stage ≡ s)
 stage_of_some parts t s e = at (tx_get t parts) refl e
   where
     at : (o : Option Held) → tx_get t parts ≡ o → stage_by o ≡ Some s → (h : Held) × (tx_get t parts ≡ Some h) × (h.stage ≡ s)
     at None f g = absurd cc
-    at (Some h) f g = (h, f, some_inj h.stage s g)
-
-pub found : (parts : Table Held) (t : TxId) (s : Stage) → stage_in parts t ≡ Some s → (h : Held) × (tx_get t parts ≡ Some h) × (h.stage ≡ s)
-found parts t s e = stage_of_some parts t s e
+    at (Some h) f g = (h, f, same_Some h.stage s g)
 
 pub get_closed : (t u : TxId) (parts : Table Held) → tx_get u (closed_in t parts) ≡ elim (tx_get u parts) [ Some h ↦ Some (cond (tx_same t u) (closed_part h) h) | None ↦ None ]
 get_closed t u parts = get_changed (tx_same t) closed_part u parts
@@ -125,3 +126,20 @@ closed_other parts t u e = ap stage_by (get_closed_other t u parts e)
 pub other_part : (tx : TxId) (birth : Birth) (parts : Table Held) (u : TxId) (o : Option Held) → tx_same u tx ≡ false → tx_get u (new_part tx birth o parts) ≡ tx_get u parts
 other_part tx birth parts u None e = get_put tx u (active_part birth) parts ∙ cond-false (tx_same u tx) _ (tx_get u parts) e
 other_part tx birth parts u (Some x) e = refl
+
+pub present_is : (o : Option Stage) → is_present o ≡ true → (o ≡ Some Active) ⊎ (o ≡ Some Closed)
+present_is None e = absurd (both_ways false refl e)
+present_is (Some Active) e = inl refl
+present_is (Some Closed) e = inr refl
+present_is (Some (Gone d)) e = absurd (both_ways false refl e)
+
+pub was_present : (set : List TxId) (d : Option TxId) (u : TxId) (parts : Table Held) → is_present (stage_in (gone_in set d parts) u) ≡ true → is_present (stage_in parts u) ≡ true
+was_present set d u parts e = at (is_present (stage_in parts u)) refl
+  where
+    at : (b : Bool) → is_present (stage_in parts u) ≡ b → b ≡ true
+    at true f = refl
+    at false f = absurd (both_ways _ (absent_go set d u parts f) e)
+
+pub written_parts : (tx : TxId) (w : Option (ℕ × Option ℕ × Option ℕ)) (l : Local) → (written tx w l).parts ≡ l.parts
+written_parts tx None l = refl
+written_parts tx (Some w) l = refl

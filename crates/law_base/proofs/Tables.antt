@@ -95,7 +95,12 @@ pub in_pair : (pairs : List (TxId × TxId)) (t p : TxId) → tx_in p (predecesso
 in_pair [] t p e = absurd (both_ways false refl e)
 in_pair (q ∷ qs) t p e = in_case (tx_same t q.0) qs t p q refl (in_pair qs t p) e
 
-then_same : (a b : Ordering) → ordering_then a b ≡ Equal → (is_eq a ≡ true) × (is_eq b ≡ true)
+pub then_eq : (a b : Ordering) → is_eq (ordering_then a b) ≡ true → (is_eq a ≡ true) × (is_eq b ≡ true)
+then_eq Less b e = absurd (both_ways false refl e)
+then_eq Equal b e = (refl, e)
+then_eq Greater b e = absurd (both_ways false refl e)
+
+pub then_same : (a b : Ordering) → ordering_then a b ≡ Equal → (is_eq a ≡ true) × (is_eq b ≡ true)
 then_same Less b e = absurd cc
 then_same Equal b e = (refl, ap is_eq e)
 then_same Greater b e = absurd cc

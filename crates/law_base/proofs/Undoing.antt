@@ -17,7 +17,7 @@ use Rattle.clv_base.specs.Folding.{meets_key}
 use Rattle.law_base.specs.Undone.{stays_of}
 use Rattle.law_base.specs.Items.{Item, told, wrote, is_write_at, writes, meets, Runs, AllLater, on_top, pile}
 use Rattle.clv_base.proofs.SameNames.{tx_self, tx_true}
-use Rattle.law_base.proofs.Lists.{all_mono, all_both}
+use Rattle.law_base.proofs.Lists.{all_mono, all_both, all_push}
 use Rattle.law_base.proofs.Running.{top_value, after_of, Keeps, item_value, on_top_value, with_write}
 
 -- ---- the standing UPDATEs of a longer log
@@ -43,10 +43,6 @@ differ set t u a b = ⊎_elim (λ e. absurd (both_ways (tx_in u set) (not-true _
 none_of : (set : List TxId) (t : TxId) (pre : List StandingUpdate) → tx_in t set ≡ true → AllByRecursion (λ v. stays_of set v ≡ true) pre → NoneOf t pre
 none_of set t pre e all = all_mono _ _ (λ v h. differ set t v.tx e h) pre all
 
-all_end : {I : Type 0} (P : I → Type 0) (xs : List I) (x : I) → AllByRecursion P xs → P x → AllByRecursion P (xs ++ x ∷ [])
-all_end P [] x all p = (p, tt)
-all_end P (y ∷ ys) x all p = (all.0, all_end P ys x all.1 p)
-
 pub standing_clrs : (set : List TxId) (n : ℕ) (pre ws : List StandingUpdate) → AllByRecursion (λ v. stays_of set v ≡ true) pre → standing_from n (clrs_of set ws) (pre ++ ws) ≡ pre ++ filter (stays_of set) ws
 standing_clrs set n pre [] all = refl
 standing_clrs set n pre (w ∷ ws) all =
@@ -57,7 +53,7 @@ standing_clrs set n pre (w ∷ ws) all =
     ∙ ap (λ b. pre ++ cond (not b) (w ∷ filter (stays_of set) ws) (filter (stays_of set) ws)) (sym e))
     (λ e. ap (λ rs. standing_from n rs (pre ++ w ∷ ws)) (cond-false (tx_in w.tx set) (Clr w.tx (newest_lsn w.tx ws) w.key w.before ∷ clrs_of set ws) (clrs_of set ws) e)
     ∙ ap (standing_from n (clrs_of set ws)) (sym (append_assoc pre (w ∷ []) ws))
-    ∙ standing_clrs set n (pre ++ w ∷ []) ws (all_end _ pre w all (ap not e))
+    ∙ standing_clrs set n (pre ++ w ∷ []) ws (all_push _ pre w all (ap not e))
     ∙ append_assoc pre (w ∷ []) (filter (stays_of set) ws)
     ∙ ap (λ b. pre ++ cond (not b) (w ∷ filter (stays_of set) ws) (filter (stays_of set) ws)) (sym e))
     (cases_Bool (tx_in w.tx set))
@@ -226,9 +222,6 @@ chain_pile (x ∷ xs) m ws r same chain =
 abbrev Clear : List TxId → List StandingUpdate → Item → Type 0
 Clear set ws y = tx_in y.tx set ≡ false → AllByRecursion (λ v. meets y v.key ≡ true → tx_in v.tx set ≡ false) ws
 
-stays_false : (b : Bool) → not b ≡ true → b ≡ false
-stays_false b e = not-true b e
-
 upward_top : (set : List TxId) (x : Item) (w : ℕ × Option ℕ × Option ℕ) (ws : List StandingUpdate) → wrote x ≡ Some w → Clear set ws x → Upward set ws → Upward set (on_top x.tx x.lsn (Some w) ws)
 upward_top set x w ws e clear up = (
   λ out. all_mono _ _ (λ v h same. h (subst (λ k. meets x k ≡ true) (sym same) (write_met x w.0 (ap (λ o. is_write_at o w.0) e ∙ eq-eqb w.0 w.0 refl)))) ws (clear out),
@@ -241,7 +234,7 @@ upward_any set x (Some w) ws e clear up = upward_top set x w ws e clear up
 
 clear_any : (set : List TxId) (x y : Item) (o : Option (ℕ × Option ℕ × Option ℕ)) (ws : List StandingUpdate) → wrote x ≡ o → Keeps (keeps_of set) x y → Clear set ws y → Clear set (on_top x.tx x.lsn o ws) y
 clear_any set x y None ws e keeps clear = clear
-clear_any set x y (Some w) ws e keeps clear = λ out. (λ met. stays_false _ (keeps (w.0, ap (λ o. is_write_at o w.0) e ∙ eq-eqb w.0 w.0 refl, met) (ap not out)), clear out)
+clear_any set x y (Some w) ws e keeps clear = λ out. (λ met. not-true _ (keeps (w.0, ap (λ o. is_write_at o w.0) e ∙ eq-eqb w.0 w.0 refl, met) (ap not out)), clear out)
 
 pub upward_pile : (set : List TxId) (xs : List Item) (ws : List StandingUpdate) → AllLater (Keeps (keeps_of set)) xs → AllByRecursion (Clear set ws) xs → Upward set ws → Upward set (pile xs ws)
 upward_pile set [] ws later clear up = up

@@ -1,9 +1,10 @@
 -- Whose writes a member violated on a shard where it is here is a member before it, or was in doubt there at opening and has a COMMIT.
-use Rattle.std.proofs.Common.{◌≡◌, ◌⊎◌, inl, inr, ⊎_elim, refl, sym, ap, subst, ◌∙◌, ℕ, ◌<◌, true, false, cond, Bool, ◌&&◌, ◌||◌, List, [], ◌∷◌, ◌++◌, arith}
+use Rattle.std.proofs.Common.{◌≡◌, ◌⊎◌, inl, inr, ⊎_elim, refl, sym, subst, ◌∙◌, ℕ, ◌<◌, true, false, cond, Bool, ◌&&◌, ◌||◌, List, [], ◌∷◌, ◌++◌, arith}
 use Rattle.std.specs.Prelude.{unwrap_or}
 use Rattle.std.specs.List.{filter}
 use Rattle.std.proofs.lemmas.Bool.{both_ways, or_cases, or_left, or_right}
 use Rattle.std.proofs.lemmas.List.Folds.{list_any-append}
+use Rattle.std.proofs.lemmas.List.Elements.{filter-append}
 use Rattle.clv_base.specs.declared.names.TxId.{TxId}
 use Rattle.clv_base.specs.declared.logs.LogRecord.{LogRecord}
 use Rattle.clv_base.specs.Orders.{tx_same, tx_in}
@@ -17,6 +18,7 @@ use Rattle.clv_base.specs.Journals.{History, final_of}
 use Rattle.clv_base.specs.History.{Legal, logs_left}
 use Rattle.clv_base.proofs.SameNames.{tx_true, tx_self}
 use Rattle.law_base.proofs.Sets.{in_filter}
+use Rattle.law_base.proofs.Bools.{or_false_right}
 use Rattle.shard_laws.specs.OneShard.{MayChoose, has_met, place, found_items, found_asked, found_met}
 use Rattle.shard_laws.proofs.Choosing.{chosen_stand_before}
 use Rattle.shard_laws.proofs.Leaving.{in_more}
@@ -56,19 +58,7 @@ stands_more f g (x ∷ xs) p t k b = at (f x) (g x) refl refl b (stands_more f g
 stands_later : (p t : TxId) (xs ys : List TxId) → tx_in p xs ≡ false → StandsBefore p t (xs ++ ys) → StandsBefore p t ys
 stands_later p t [] ys n b = b
 stands_later p t (x ∷ xs) ys n (inl (s, i)) = absurd (both_ways _ n (or_left (tx_same x p) (tx_in p xs) (subst (λ z. tx_same z p ≡ true) (sym s) (tx_self p))))
-stands_later p t (x ∷ xs) ys n (inr b) = stands_later p t xs ys (none_later (tx_same x p) (tx_in p xs) n) b
-  where
-    none_later : (a c : Bool) → (a || c) ≡ false → c ≡ false
-    none_later true c e = absurd (both_ways true e refl)
-    none_later false c e = e
-
-filter_append : (f : TxId → Bool) (xs ys : List TxId) → filter f (xs ++ ys) ≡ filter f xs ++ filter f ys
-filter_append f [] ys = refl
-filter_append f (x ∷ xs) ys = at (f x) (filter_append f xs ys)
-  where
-    at : (b : Bool) → filter f (xs ++ ys) ≡ filter f xs ++ filter f ys → cond b (x ∷ filter f (xs ++ ys)) (filter f (xs ++ ys)) ≡ cond b (x ∷ filter f xs) (filter f xs) ++ filter f ys
-    at true e = ap (λ l. x ∷ l) e
-    at false e = e
+stands_later p t (x ∷ xs) ys n (inr b) = stands_later p t xs ys (or_false_right (tx_same x p) (tx_in p xs) n) b
 
 -- ---- of a shard: those whose COMMITs are left there, and one more
 
@@ -133,7 +123,7 @@ module _ (splits : List ℕ) (before : List (List LogRecord)) (h : History) (aft
       at true j = inr (of_found p j)
       at false j =
           let b = placed_before p t (filter with_it (found_asked n found ++ requests_of h)) earlier_place (in_kept with_it (found_asked n found ++ requests_of h) t (in_more (found_asked n found) (requests_of h) t asked) own) in
-          let e = stands_later p t (filter with_it (found_asked n found)) (filter with_it (requests_of h)) j (subst (StandsBefore p t) (filter_append with_it (found_asked n found) (requests_of h)) b) in
+          let e = stands_later p t (filter with_it (found_asked n found)) (filter with_it (requests_of h)) j (subst (StandsBefore p t) (filter-append with_it (found_asked n found) (requests_of h)) b) in
           inl (subst (StandsBefore p t) (sym names) (stands_more with_it (chosen splits before h after choice n) (requests_of h) p t are_chosen e))
 
 -- a predecessor that it met in this history is one of all

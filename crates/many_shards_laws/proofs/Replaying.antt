@@ -17,6 +17,7 @@ use Rattle.clv_base.specs.Journals.{History, start_of, final_of, journal_of}
 use Rattle.clv_base.specs.History.{Legal, logs_left}
 use Rattle.protocol_laws.specs.SessionLaws.{tx_of}
 use Rattle.law_base.proofs.Sets.{in_filter}
+use Rattle.law_base.proofs.Running.{fold_writers}
 use Rattle.history_laws.specs.Continuing.{serial_left}
 use Rattle.history_laws.proofs.Durability.{Fronts, fronts_entries, opened_counted}
 use Rattle.history_laws.proofs.Staying.{walker_of}
@@ -41,7 +42,7 @@ use Rattle.replay_by_shards.specs.Shares.{all_ops, parts_on, share_of, ReplaysTo
 use Rattle.member_parts.specs.Parts.{member_ops}
 use Rattle.member_parts.proofs.Parts.{members_replay_by_parts}
 use Rattle.many_shards_laws.specs.Replaying.{IsHere, MembersReplayWhereHere}
-use Rattle.many_shards_laws.proofs.Shares.{fold_writers, writer_known, at_somewhere, somewhere_at, same_test}
+use Rattle.many_shards_laws.proofs.Shares.{writer_known, at_somewhere, somewhere_at, same_test}
 use Rattle.many_shards_laws.proofs.Earlier.{wrote_at_opening, committed_still, somewhere_at_opening}
 use Rattle.many_shards_laws.proofs.Found.{IsDoubted, still_known, never_fell}
 use Rattle.many_shards_laws.proofs.Answering.{part_ops, part_answers, AllIdle, ops_later, answers_later, idle_among}

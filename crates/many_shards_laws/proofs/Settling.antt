@@ -28,6 +28,7 @@ use Rattle.law_base.specs.Items.{Item}
 use Rattle.law_base.proofs.Lists.{all_mono}
 use Rattle.law_base.proofs.Rows.{rows_get}
 use Rattle.law_base.proofs.Tables.{stage_by}
+use Rattle.law_base.proofs.Running.{fold_writers}
 use Rattle.shard_laws.proofs.Doubting.{prepared_cut}
 use Rattle.shard_laws.specs.OneShard.{Leads, found_items, found_asked, found_met}
 use Rattle.shard_laws.proofs.Histories.{held}
@@ -52,7 +53,7 @@ use Rattle.unfallen_laws.proofs.Naming.{names_shard}
 use Rattle.replay_by_shards.specs.Shares.{share_of, in_turn}
 use Rattle.replay_by_shards.proofs.Turns.{shares_make_the_map}
 use Rattle.many_shards_laws.specs.Settling.{ReadersWroteNothing, SettledIsTheMapWhereReadersWroteNothing, SettledOpensClear}
-use Rattle.many_shards_laws.proofs.Shares.{fold_writers, writer_known, at_somewhere, somewhere_at, same_test}
+use Rattle.many_shards_laws.proofs.Shares.{writer_known, at_somewhere, somewhere_at, same_test}
 use Rattle.many_shards_laws.proofs.Earlier.{wrote_at_opening, committed_still, somewhere_at_opening}
 use Rattle.many_shards_laws.proofs.Found.{still_known}
 use Rattle.many_shards_laws.proofs.Replaying.{leads, left_is, within, left_run, wrote_last, fell_there}

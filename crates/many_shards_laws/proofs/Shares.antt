@@ -1,30 +1,16 @@
 -- A shard's share of the map is what its own log commits, and what it leaves in doubt that some log commits.
-use Rattle.std.proofs.Common.{◌≡◌, ⊎_elim, refl, sym, ap, ◌∙◌, ℕ, zero, suc, ◌<◌, true, false, cond, Bool, ◌&&◌, ◌||◌, List, [], ◌∷◌, length, arith}
+use Rattle.std.proofs.Common.{◌≡◌, ⊎_elim, refl, sym, ℕ, zero, suc, ◌<◌, true, false, Bool, ◌&&◌, ◌||◌, List, [], ◌∷◌, length, arith}
 use Rattle.std.proofs.lemmas.Bool.{both_ways, and_parts, and_from, or_cases, or_left, or_right}
 use Rattle.clv_base.specs.declared.names.TxId.{TxId}
 use Rattle.clv_base.specs.declared.logs.LogRecord.{LogRecord}
-use Rattle.clv_base.specs.declared.logs.LogRecord.TheVariants.{Update, Clr, Prepare, Commit, Abort, End, Restart}
-use Rattle.clv_base.specs.Orders.{tx_same, tx_in}
-use Rattle.clv_base.specs.Maps.{KeyMap, map_set}
-use Rattle.clv_base.specs.Logs.{committed_in, wrote_in, committed_somewhere, in_doubt, fold_updates}
+use Rattle.clv_base.specs.Orders.{tx_in}
+use Rattle.clv_base.specs.Logs.{committed_in, wrote_in, committed_somewhere, in_doubt}
 use Rattle.clv_base.specs.LogRules.{log_of}
 use Rattle.clv_base.specs.FileRules.{may_open}
-use Rattle.clv_base.proofs.SameNames.{tx_self}
+use Rattle.law_base.proofs.Running.{fold_writers}
 use Rattle.many_shards_laws.specs.Replaying.{SharesAreMaps}
 use Rattle.many_shards_laws.proofs.Homes.{Known, known_here}
 use Rattle.fate_laws.proofs.RecordKinds.{update_is}
-
--- of the records of a log the writers alone count
-pub fold_writers : (f k : TxId → Bool) (log : List LogRecord) (m : KeyMap) → ((t : TxId) → wrote_in log t ≡ true → f t ≡ k t) → fold_updates f log m ≡ fold_updates k log m
-fold_writers f k [] m e = refl
-fold_writers f k (Update tx key b a ∷ rs) m e =
-    ap (λ c. fold_updates f rs (cond c (map_set key a m) m)) (e tx (or_left _ _ (tx_self tx))) ∙ fold_writers f k rs (cond (k tx) (map_set key a m) m) (λ t w. e t (or_right (tx_same t tx) _ w))
-fold_writers f k (Clr tx u key a ∷ rs) m e = fold_writers f k rs m e
-fold_writers f k (Prepare tx home ps ∷ rs) m e = fold_writers f k rs m e
-fold_writers f k (Commit tx ps ∷ rs) m e = fold_writers f k rs m e
-fold_writers f k (Abort tx ∷ rs) m e = fold_writers f k rs m e
-fold_writers f k (End tx ∷ rs) m e = fold_writers f k rs m e
-fold_writers f k (Restart run epoch ∷ rs) m e = fold_writers f k rs m e
 
 pub wrote_within : (logs : List (List LogRecord)) (m : ℕ) (t : TxId) → wrote_in (log_of logs m) t ≡ true → m < length logs
 wrote_within [] m t p = absurd (both_ways false refl p)

@@ -1,8 +1,9 @@
 -- A log with one more record.
-use Rattle.std.proofs.Common.{◌≡◌, ◌⊎◌, inl, inr, ⊎_elim, refl, sym, ap, ◌∙◌, Bool, true, false, cond, ◌||◌, ◌&&◌, List, [], ◌∷◌, ◌++◌, Option, Some, None, ℕ}
+use Rattle.std.proofs.Common.{◌≡◌, ◌⊎◌, inl, inr, ⊎_elim, refl, sym, ap, ◌∙◌, Bool, true, false, cond, ◌||◌, ◌&&◌, List, [], ◌∷◌, ◌++◌, Option, Some, ℕ}
 use Rattle.std.specs.List.{list_any}
 use Rattle.std.proofs.lemmas.Bool.{both_ways, or_cases, and_parts}
 use Rattle.std.proofs.lemmas.List.Folds.{list_any-append}
+use Rattle.std.proofs.lemmas.Option.{none-some}
 use Rattle.clv_base.specs.declared.names.TxId.{TxId}
 use Rattle.clv_base.specs.declared.logs.LogRecord.{LogRecord}
 use Rattle.clv_base.specs.declared.logs.LogRecord.TheVariants.{Update, Clr, Prepare, Commit, Abort, End, Restart}
@@ -67,11 +68,8 @@ there_case : {X : Type 0} (b c : Bool) (x p : X) (o : Option X) → cond b (Some
 there_case true c x p o e k = refl
 there_case false c x p o e k = k e
 
-no_pair : {X : Type 0} (p : X) → ◌≡◌ {A = Option X} None (Some p) → ⊥
-no_pair p e = absurd cc
-
 pub prepared_there : (rs : List LogRecord) (t : TxId) (p : ℕ × List TxId) → prepare_of rs t ≡ Some p → prepared_in rs t ≡ true
-prepared_there [] t p e = absurd (no_pair p e)
+prepared_there [] t p e = absurd (none-some p e)
 prepared_there (Prepare tx home ps ∷ rs) t p e = there_case (tx_same t tx) (prepared_in rs t) (home, ps) p (prepare_of rs t) e (prepared_there rs t p)
 prepared_there (Update tx key before after ∷ rs) t p e = prepared_there rs t p e
 prepared_there (Clr tx next key after ∷ rs) t p e = prepared_there rs t p e
@@ -81,7 +79,7 @@ prepared_there (End tx ∷ rs) t p e = prepared_there rs t p e
 prepared_there (Restart run epoch ∷ rs) t p e = prepared_there rs t p e
 
 pub committed_there : (rs : List LogRecord) (t : TxId) (p : List ℕ) → commit_parts rs t ≡ Some p → committed_in rs t ≡ true
-committed_there [] t p e = absurd (no_pair p e)
+committed_there [] t p e = absurd (none-some p e)
 committed_there (Commit tx parts ∷ rs) t p e = there_case (tx_same t tx) (committed_in rs t) parts p (commit_parts rs t) e (committed_there rs t p)
 committed_there (Update tx key before after ∷ rs) t p e = committed_there rs t p e
 committed_there (Clr tx next key after ∷ rs) t p e = committed_there rs t p e

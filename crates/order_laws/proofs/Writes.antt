@@ -1,17 +1,19 @@
 -- The standing UPDATEs of a log in order.
 use Rattle.std.proofs.Common.{◌≡◌, ⊎_elim, refl, sym, ap, subst, ◌∙◌, ℕ, suc, ◌<◌, Bool, true, false, cond, not, ◌&&◌, List, [], ◌∷◌, ◌++◌, length, Option, Some, None, ◌==◌, nat_lt, arith, eqb-true, eq-eqb}
-use Rattle.std.specs.List.{AllByRecursion, filter, list_any, list_all}
+use Rattle.std.specs.List.{AllByRecursion, filter, list_any}
 use Rattle.std.proofs.lemmas.Bool.{cases_Bool, both_ways, cond_both, cond-true, cond-false, not-true, false_from_ne_true, and_from, lt-ltb}
+use Rattle.std.proofs.lemmas.Option.{same_Some}
 use Rattle.clv_base.specs.declared.names.TxId.{TxId}
 use Rattle.clv_base.specs.declared.logs.LogRecord.{LogRecord}
 use Rattle.clv_base.specs.declared.logs.LogRecord.TheVariants.{Update, Clr, Prepare, Commit, Abort, End, Restart}
 use Rattle.clv_base.specs.Orders.{tx_same}
 use Rattle.clv_base.specs.Logs.{StandingUpdate, standing, standing_after, without_newest, newest_at, newest_of, committed_in, is_commit_of, value_in}
-use Rattle.clv_base.specs.LogRules.{same_option, has_above, compensates, may_follow}
+use Rattle.clv_base.specs.LogRules.{has_above, compensates, may_follow}
 use Rattle.clv_base.proofs.SameNames.{or_left, or_right, tx_true, tx_self}
-use Rattle.law_base.proofs.Lists.{all_mono, all_both}
-use Rattle.law_base.proofs.Running.{top_value, after_of}
+use Rattle.law_base.proofs.Lists.{all_mono, all_both, filter_passes}
+use Rattle.law_base.proofs.Running.{top_value, after_of, value_top}
 use Rattle.law_base.proofs.Undoing.{Chain}
+use Rattle.law_base.proofs.Options.{option_true}
 use Rattle.order_laws.specs.Order.{LieOnThese}
 use Rattle.order_laws.proofs.Records.{front, last, push_cases, push_left, push_right, push_same}
 
@@ -41,9 +43,6 @@ lie_without these t [] l = tt
 lie_without these t (w ∷ ws) l =
     cond_both (tx_same t w.tx) ws (w ∷ without_newest t ws) (LieOnThese these) (λ e. l.1) (λ e. ((λ c. all_without _ t ws (l.0 c)), lie_without these t ws l.1))
 
-some_same : {X : Type 0} (x y : X) → Some x ≡ Some y → x ≡ y
-some_same x y e = cc
-
 none_some : {X : Type 0} {Y : Type 0} (x : X) → ◌≡◌ {A = Option X} None (Some x) → Y
 none_some x e = absurd cc
 
@@ -60,7 +59,7 @@ top_without t k u (w ∷ ws) e d = at (tx_same t w.tx) e (λ f. top_without t k 
         by false = ih
 
     at : (b : Bool) → cond b (Some w) (newest_of t ws) ≡ Some u → (newest_of t ws ≡ Some u → top_value k (without_newest t ws) ≡ top_value k ws) → top_value k (cond b ws (w ∷ without_newest t ws)) ≡ top_value k (w ∷ ws)
-    at true f ih = ap after_of (sym (cond-false (k == w.key) (Some w) (newest_at k ws) (subst (λ z. (k == z.key) ≡ false) (sym (some_same w u f)) d)))
+    at true f ih = ap after_of (sym (cond-false (k == w.key) (Some w) (newest_at k ws) (subst (λ z. (k == z.key) ≡ false) (sym (same_Some w u f)) d)))
     at false f ih = same_later (ih f)
 
 low_of : (t : TxId) (u : StandingUpdate) (n : ℕ) (ws : List StandingUpdate) → newest_of t ws ≡ Some u → AllByRecursion (λ v. v.lsn < n) ws → u.lsn < n
@@ -68,7 +67,7 @@ low_of t u n [] e a = none_some u e
 low_of t u n (w ∷ ws) e a = at (tx_same t w.tx) e (λ f. low_of t u n ws f a.1)
   where
     at : (b : Bool) → cond b (Some w) (newest_of t ws) ≡ Some u → (newest_of t ws ≡ Some u → u.lsn < n) → u.lsn < n
-    at true f ih = subst (λ z. z.lsn < n) (some_same w u f) a.0
+    at true f ih = subst (λ z. z.lsn < n) (same_Some w u f) a.0
     at false f ih = ih f
 
 -- the newest of a transaction that is the newest of its key too
@@ -81,7 +80,7 @@ chain_without t u (w ∷ ws) e n f c = at (tx_same t w.tx) e (λ g k. chain_with
   where
     other : newest_of t ws ≡ Some u → (u.key == w.key) ≡ false
     other g = false_from_ne_true _ (λ k.
-        let same : w ≡ n.0 = some_same w n.0 (sym (cond-true (u.key == w.key) (Some w) (newest_at u.key ws) k) ∙ n.1) in
+        let same : w ≡ n.0 = same_Some w n.0 (sym (cond-true (u.key == w.key) (Some w) (newest_at u.key ws) k) ∙ n.1) in
         let l = low_of t u w.lsn ws g f.0 in
         let q : w.lsn ≡ u.lsn = ap (λ z. z.lsn) same ∙ n.2 in
         omega (arith, l, q))
@@ -115,14 +114,6 @@ pub lie_alike : (f h : TxId → Bool) (ws : List StandingUpdate) → ((t : TxId)
 lie_alike f h [] e l = tt
 lie_alike f h (w ∷ ws) e l = ((λ c. all_mono _ _ (λ v k q. sym (e v.tx) ∙ k q) ws (l.0 (e w.tx ∙ c))), lie_alike f h ws e l.1)
 
-filter_passes : (f g : StandingUpdate → Bool) (ws : List StandingUpdate) → list_all f (filter g ws) ≡ true → AllByRecursion (λ v. g v ≡ true → f v ≡ true) ws
-filter_passes f g [] e = tt
-filter_passes f g (w ∷ ws) e = at (g w) refl e (filter_passes f g ws)
-  where
-    at : (b : Bool) → g w ≡ b → list_all f (cond b (w ∷ filter g ws) (filter g ws)) ≡ true → (list_all f (filter g ws) ≡ true → AllByRecursion (λ v. g v ≡ true → f v ≡ true) ws) → AllByRecursion (λ v. g v ≡ true → f v ≡ true) (w ∷ ws)
-    at true q a k = ((λ z. front (f w) (list_all f (filter g ws)) a), k (last (f w) (list_all f (filter g ws)) a))
-    at false q a k = ((λ z. absurd (both_ways (g w) q z)), k a)
-
 -- one more of these: what lies below its writes is of these already
 module _ (tx : TxId) (f h : TxId → Bool) (all : List StandingUpdate) (more : (t : TxId) → f t ≡ true → h t ≡ true) (only : (t : TxId) → h t ≡ true → f t ≡ false → t ≡ tx) (own : h tx ≡ true) where
   abbrev Below : StandingUpdate → Type 0
@@ -150,16 +141,6 @@ module _ (tx : TxId) (f h : TxId → Bool) (all : List StandingUpdate) (more : (
 
 -- ---- a record more
 
-same_true : (a b : Option ℕ) → same_option a b ≡ true → a ≡ b
-same_true None None e = refl
-same_true (Some a) (Some b) e = ap (λ z. Some z) (eqb-true a b e)
-same_true None (Some b) e = absurd (both_ways false refl e)
-same_true (Some a) None e = absurd (both_ways false refl e)
-
-value_top : (o : Option StandingUpdate) → ◌≡◌ {A = Option ℕ} (elim o [ Some w ↦ w.after | None ↦ None ]) (after_of o)
-value_top None = refl
-value_top (Some w) = refl
-
 quiet : (log : List LogRecord) (r : LogRecord) (ws : List StandingUpdate) → ((t : TxId) → is_commit_of t r ≡ false) → Writes (committed_in log) (length log) ws → Writes (committed_in (log ++ r ∷ [])) (suc (length log)) ws
 quiet log r ws none k =
     record {
@@ -177,7 +158,7 @@ writes_step shard log (Update tx key before after) m k =
     let r = Update tx key before after in
     let q = quiet log r (standing log) (λ t. refl) k in
     record {
-      chain = (same_true before (value_in log key) (last _ _ (front _ _ (front _ _ m))) ∙ value_top (newest_at key (standing log)), k.chain);
+      chain = (option_true before (value_in log key) (last _ _ (front _ _ (front _ _ m))) ∙ value_top (newest_at key (standing log)), k.chain);
       falls = (k.low, k.falls);
       low = (omega arith, q.low);
       lie = ((λ c. absurd (both_ways _ (sym (push_same (is_commit_of tx) log r refl) ∙ not-true _ (last _ _ (front _ _ (front _ _ (front _ _ (front _ _ (front _ _ m))))))) c)), q.lie);

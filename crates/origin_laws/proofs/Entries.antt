@@ -32,6 +32,9 @@ use Rattle.clv_base.proofs.SameNames.{tx_self}
 use Rattle.law_base.proofs.Changed.{none_some}
 use Rattle.law_base.proofs.Lists.{all_mono}
 use Rattle.law_base.proofs.Tables.{get_put}
+use Rattle.law_base.proofs.Options.{none_of}
+use Rattle.law_base.proofs.Restarts.{epoch_own}
+use Rattle.law_base.proofs.Stages.{written_parts}
 use Rattle.history_laws.proofs.Stepping.{with_work, Step, op_answers, sends, Happens, finishes, stops}
 use Rattle.history_laws.proofs.Entering.{Makes, by_event, by_flush, by_failure, by_restart, makes}
 use Rattle.history_laws.proofs.Merging.{Placed, Before, before_then, Among, among_append, among_left, among_right, is_among}
@@ -44,11 +47,10 @@ use Rattle.history_laws.proofs.Worlds.{state_at}
 use Rattle.session_laws.proofs.Walking.{SeenIs, AnswersAt}
 use Rattle.session_laws.proofs.Replying.{OpIs, performs, reply_is, answered_epoch}
 use Rattle.file_laws.proofs.Walking.{Behind, Walked, Steps, walked_front}
-use Rattle.file_laws.proofs.Found.{none_of}
 use Rattle.origin_laws.proofs.Sessions.{Requested}
 use Rattle.origin_laws.proofs.Origins.{AwayRequest, MessageFrom, Origins, AllFrom, RecordFrom, from_finish}
 use Rattle.protocol_laws.proofs.Reaching.{restarts_lead_to_one}
-use Rattle.origin_laws.proofs.Events.{Owes, written_parts, from_step, from_happens, from_flushed, from_down, from_revived, from_opened, from_more, from_known}
+use Rattle.origin_laws.proofs.Events.{Owes, from_step, from_happens, from_flushed, from_down, from_revived, from_opened, from_more, from_known}
 
 -- ---- what stands in a history so far
 
@@ -262,18 +264,8 @@ either_least : (run own e : ℕ) (rs : List LogRecord) (b : Bool) → max own e 
 either_least run own e rs true k l = omega (arith, k)
 either_least run own e rs false k l = l
 
-own_least : (run own : ℕ) (log : List LogRecord) → own ≤ greatest_epoch run own log
-own_least run own [] = omega arith
-own_least run own (RestartRecord r e ∷ rs) = either_least run own e rs (r == run) (own_least run (max own e) rs) (own_least run own rs)
-own_least run own (Update tx key before after ∷ rs) = own_least run own rs
-own_least run own (Clr tx next key after ∷ rs) = own_least run own rs
-own_least run own (PrepareRecord tx home ps ∷ rs) = own_least run own rs
-own_least run own (Commit tx parts ∷ rs) = own_least run own rs
-own_least run own (Abort tx ∷ rs) = own_least run own rs
-own_least run own (End tx ∷ rs) = own_least run own rs
-
 later_epoch : (s : Shard) (kept : Bool) (epoch : ℕ) (log : List LogRecord) → Restarts s (log_left s kept) epoch log → s.local.epoch < epoch
-later_epoch s kept epoch log r = let a = (restarts_lead_to_one s (log_left s kept) epoch log r).0 in let b = own_least s.run s.local.epoch (log_left s kept) in omega (arith, a, b)
+later_epoch s kept epoch log r = let a = (restarts_lead_to_one s (log_left s kept) epoch log r).0 in let b = epoch_own s.run s.local.epoch (log_left s kept) in omega (arith, a, b)
 
 no_op : (x : Entry) (e : Event) → x.event ≡ e → ((u : TxId) (b : Birth) (nth : ℕ) (seen : Option ℕ) (op : Op) → e ≡ OpEvent u b nth seen op → ⊥) → NoOp x
 no_op x e p k u b nth seen op q = k u b nth seen op (sym p ∙ q)

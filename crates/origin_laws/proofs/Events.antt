@@ -1,5 +1,5 @@
 -- Each event of a shard keeps where what it has comes from.
-use Rattle.std.proofs.Common.{◌≡◌, inl, inr, ⊎_elim, refl, sym, ap, subst, ◌∙◌, ℕ, zero, suc, true, false, cond, not, Bool, List, [], ◌∷◌, ◌++◌, map, Option, Some, None, ◌&&◌, ◌==◌, is_some}
+use Rattle.std.proofs.Common.{◌≡◌, inl, inr, ⊎_elim, refl, sym, ap, subst, ◌∙◌, ℕ, true, false, cond, not, Bool, List, [], ◌∷◌, ◌++◌, map, Option, Some, None, ◌&&◌, ◌==◌, is_some}
 use Rattle.std.specs.Prelude.{⊤, take}
 use Rattle.std.specs.List.{AllByRecursion, filter}
 use Rattle.std.proofs.lemmas.Bool.{both_ways, and_parts, eq-eqb}
@@ -37,15 +37,16 @@ use Rattle.clv_base.specs.Events.{finish, is_alone, coordinate, owe_vote, decide
 use Rattle.clv_base.specs.Restarts.{losers, undo_records, restart_records, log_after_restart, next_epoch, home_by, homes_of, restored_part, unended_with, unended_in, log_left, opened, revived, FailedRestarts, untouched, failed_first, Restarts}
 use Rattle.clv_base.proofs.SameNames.{tx_true, in_insert}
 use Rattle.law_base.proofs.Changed.{none_some}
-use Rattle.law_base.proofs.Lists.{all_mono}
+use Rattle.law_base.proofs.Lists.{all_mono, all_append, all_kept, all_of, all_taken}
 use Rattle.law_base.proofs.Rows.{rows_get, rows_put}
 use Rattle.law_base.proofs.Tables.{get_changed, get_put}
+use Rattle.law_base.proofs.Stages.{written_parts}
 use Rattle.shard_laws.proofs.Sound.{waiting_here}
 use Rattle.history_laws.proofs.Stepping.{with_work, Step, op_dies, op_answers, request_refused, request_doomed, request_again, request_new, request_closes, looks_well, looks_ill, drops, sends, prepare_closes, prepare_again, vote_counts, decision_comes, decision_again, done_counts, asked, reminds, flushes, Happens, finishes, stops}
-use Rattle.history_laws.proofs.Telling.{all_append, all_map}
+use Rattle.history_laws.proofs.Telling.{all_map}
 use Rattle.session_laws.proofs.Replying.{OpIs, dies, rolls, performs, reply_is}
 use Rattle.origin_laws.proofs.Origins.{SomeRequest, OwnRequest, AwayRequest, away_some, own_some, BirthFrom, StageFrom, PartFrom, CommitFrom, RecordFrom, StateFrom, RowFrom, MessageFrom, Origins, part_of, none_changed, AllFrom, push_records, clrs_all, standing_of, from_rolled, from_send, from_push, row_of, from_set, from_finish}
-use Rattle.file_laws.proofs.Rows.{all_in, all_rows}
+use Rattle.file_laws.proofs.Rows.{all_in}
 
 -- ---- what an entry owes: an operation that is answered, a request that is taken, a Prepare that comes
 
@@ -79,10 +80,6 @@ put_none t u h parts e = at (tx_same t u) (sym (get_put u t h parts) ∙ e)
 pub new_known : (tx : TxId) (birth : Birth) (o : Option Held) (parts : Table Held) (t : TxId) → tx_get t (new_part tx birth o parts) ≡ None → tx_get t parts ≡ None
 new_known tx birth None parts t e = put_none t tx (active_part birth) parts e
 new_known tx birth (Some h) parts t e = e
-
-pub written_parts : (tx : TxId) (w : Option (ℕ × Option ℕ × Option ℕ)) (l : Local) → (written tx w l).parts ≡ l.parts
-written_parts tx None l = refl
-written_parts tx (Some w) l = refl
 
 written_epoch : (tx : TxId) (w : Option (ℕ × Option ℕ × Option ℕ)) (l : Local) → (written tx w l).epoch ≡ l.epoch
 written_epoch tx None l = refl
@@ -250,7 +247,7 @@ reminders_from n ep D A Q O K s p =
     (each_from Q O (λ tx q. missing_votes s.shard tx q q.state) s.requests
     (all_mono (λ r. RowFrom Q O n r.0 r.1) _ (λ r w. missing_from Q O s.shard r.0 r.1 (r.1).state (subst (λ z. StateFrom Q z r.0 (r.1).state) (sym p.shard) w.1)) s.requests p.requests))
     (each_from Q O (λ tx q. elim (tx_in tx (durable_requests s)) [ true ↦ missing_dones s.shard tx q q.state | false ↦ [] ]) s.requests
-    (all_rows _ (λ r. dones_if Q O s.shard r.0 r.1 (tx_in r.0 (durable_requests s))) s.requests)))
+    (all_of _ (λ r. dones_if Q O s.shard r.0 r.1 (tx_in r.0 (durable_requests s))) s.requests)))
     (asks_from Q O s.shard s.voters (waiting_voters s) (subst (λ z. AllByRecursion (λ r. AwayRequest Q O z r.0) s.voters) (sym p.shard) p.voters))
 
 -- ---- each step
@@ -370,28 +367,15 @@ unended_all A Q O n log (Abort tx ∷ rs) a = unended_all A Q O n log rs a.1
 unended_all A Q O n log (End tx ∷ rs) a = unended_all A Q O n log rs a.1
 unended_all A Q O n log (RestartRecord run epoch ∷ rs) a = unended_all A Q O n log rs a.1
 
-pub take_all_of : {X : Type 0} (P : X → Type 0) (n : ℕ) (xs : List X) → AllByRecursion P xs → AllByRecursion P (take n xs)
-take_all_of P zero xs a = tt
-take_all_of P (suc n) [] a = tt
-take_all_of P (suc n) (x ∷ xs) a = (a.0, take_all_of P n xs a.1)
-
-filter_all_of : {X : Type 0} (P : X → Type 0) (f : X → Bool) (xs : List X) → AllByRecursion P xs → AllByRecursion P (filter f xs)
-filter_all_of P f [] a = tt
-filter_all_of P f (x ∷ xs) a = at (f x) (filter_all_of P f xs a.1)
-  where
-    at : (b : Bool) → AllByRecursion P (filter f xs) → AllByRecursion P (cond b (x ∷ filter f xs) (filter f xs))
-    at true k = (a.0, k)
-    at false k = k
-
 in_writers : (A : TxId → Type 0) (ws : List StandingUpdate) → AllByRecursion (λ w. A w.tx) ws → (t : TxId) → tx_in t (writers ws) ≡ true → A t
 in_writers A [] a t i = absurd (both_ways false refl i)
 in_writers A (w ∷ ws) a t i = ⊎_elim (λ e. subst A (sym e) a.0) (λ j. in_writers A ws a.1 t j) (in_insert w.tx t (writers ws) i)
 
 restart_all : (A : TxId → Type 0) (Q : TxId → ℕ → Type 0) (O : TxId → Type 0) (n shard : ℕ) (log : List LogRecord) (run epoch : ℕ) → AllFrom A Q O n log → AllFrom A Q O n (restart_records shard log run epoch)
 restart_all A Q O n shard log run epoch a =
-    let ls = filter_all_of A _ (writers (standing log)) (all_in A (writers (standing log)) (in_writers A (standing log) (standing_of A Q O n log a))) in
+    let ls = all_kept A _ (writers (standing log)) (all_in A (writers (standing log)) (in_writers A (standing log) (standing_of A Q O n log a))) in
     push_records A Q O n (undo_records shard log) (RestartRecord run epoch ∷ [])
-    (push_records A Q O n _ (clrs_of (losers shard log) (standing log)) (map_rows A (RecordFrom A Q O n) (λ t. Abort t) (filter (λ t. not (aborted_in log t)) (losers shard log)) (λ t x. x) (filter_all_of A (λ t. not (aborted_in log t)) (losers shard log) ls))
+    (push_records A Q O n _ (clrs_of (losers shard log) (standing log)) (map_rows A (RecordFrom A Q O n) (λ t. Abort t) (filter (λ t. not (aborted_in log t)) (losers shard log)) (λ t x. x) (all_kept A (λ t. not (aborted_in log t)) (losers shard log) ls))
     (clrs_all A Q O n (losers shard log) (standing log) (standing_of A Q O n log a)))
     (tt, tt)
 
@@ -402,7 +386,7 @@ failed_all : (A : TxId → Type 0) (Q : TxId → ℕ → Type 0) (O : TxId → T
 failed_all A Q O n s found _ untouched a = a
 failed_all A Q O n s found left (failed_first k f) a =
     failed_all A Q O n s (found ++ take k (restart_records s.shard found s.run (next_epoch s found))) left f
-    (push_records A Q O n found _ a (take_all_of (RecordFrom A Q O n) k (restart_records s.shard found s.run (next_epoch s found)) (restart_all A Q O n s.shard found s.run (next_epoch s found) a)))
+    (push_records A Q O n found _ a (all_taken (RecordFrom A Q O n) k (restart_records s.shard found s.run (next_epoch s found)) (restart_all A Q O n s.shard found s.run (next_epoch s found) a)))
 
 restarts_all : (A : TxId → Type 0) (Q : TxId → ℕ → Type 0) (O : TxId → Type 0) (n : ℕ) (s : Shard) (found : List LogRecord) (epoch : ℕ) (after : List LogRecord) → Restarts s found epoch after → AllFrom A Q O n found → AllFrom A Q O n after
 restarts_all A Q O n s found epoch after (left, f, e, q) a = subst (AllFrom A Q O n) (sym q) (opened_all A Q O n s.shard left s.run epoch (failed_all A Q O n s found left f a))
@@ -425,7 +409,7 @@ from_log n D A Q O K s epoch log e k a =
 
 pub from_revived : (n ep : ℕ) (D D' : TxId → Birth → Type 0) (A : TxId → Type 0) (Q : TxId → ℕ → Type 0) (O K K' : TxId → Type 0) (s : Shard) (kept : Bool) (epoch : ℕ) (after : List LogRecord) → Restarts s (log_left s kept) epoch after → ((t : TxId) → K' t → ⊥)
     → Origins n ep D A Q O K s → Origins n epoch D' A Q O K' (revived s epoch after)
-from_revived n ep D D' A Q O K K' s kept epoch after r k p = from_log n D' A Q O K' s epoch after p.shard k (restarts_all A Q O n s (log_left s kept) epoch after r (take_all_of (RecordFrom A Q O n) _ s.local.log p.log))
+from_revived n ep D D' A Q O K K' s kept epoch after r k p = from_log n D' A Q O K' s epoch after p.shard k (restarts_all A Q O n s (log_left s kept) epoch after r (all_taken (RecordFrom A Q O n) _ s.local.log p.log))
 
 pub from_opened : (n run : ℕ) (D : TxId → Birth → Type 0) (A : TxId → Type 0) (Q : TxId → ℕ → Type 0) (O K : TxId → Type 0) (log : List LogRecord) → ((t : TxId) → K t → ⊥) → AllFrom A Q O n log → Origins n 0 D A Q O K (opened n run log)
 from_opened n run D A Q O K log k a =

@@ -31,11 +31,13 @@ use Rattle.clv_base.specs.Coordinator.{vote_from, is_open, is_agreed, yes_shards
 use Rattle.clv_base.specs.Due.{send, finish_part, commit_messages, with_vote, finish_reader, with_ruling, do_ruling}
 use Rattle.clv_base.specs.Events.{finish}
 use Rattle.clv_base.proofs.SameNames.{tx_true}
-use Rattle.law_base.proofs.Changed.{some_same, none_some}
+use Rattle.law_base.proofs.Changed.{none_some}
 use Rattle.law_base.proofs.Rows.{rows_get, rows_set}
-use Rattle.law_base.proofs.Tables.{stage_by, stage_in, get_changed}
+use Rattle.law_base.proofs.Tables.{stage_in, get_changed}
+use Rattle.law_base.proofs.Lists.{all_append}
+use Rattle.law_base.proofs.Stages.{stage_of_some}
 use Rattle.history_laws.proofs.Stepping.{commits, votes, rules, KeptByDue, settled}
-use Rattle.history_laws.proofs.Telling.{all_append, all_map}
+use Rattle.history_laws.proofs.Telling.{all_map}
 
 -- ---- what is told of transactions: D, an operation was answered here, in this epoch and with this birth; A, one was answered here, or the
 -- transaction is of an earlier run; Q, its request was taken on a shard; O, it is of an earlier run
@@ -120,18 +122,11 @@ pub record Origins (n ep : ℕ) (D : TxId → Birth → Type 0) (A : TxId → Ty
 
 -- ---- parts
 
-pub stage_row : (parts : Table Held) (t : TxId) (st : Stage) → stage_in parts t ≡ Some st → (h : Held) × (tx_get t parts ≡ Some h) × (h.stage ≡ st)
-stage_row parts t st e = at (tx_get t parts) refl e
-  where
-    at : (o : Option Held) → tx_get t parts ≡ o → stage_by o ≡ Some st → (h : Held) × (tx_get t parts ≡ Some h) × (h.stage ≡ st)
-    at None q f = absurd (none_some st f)
-    at (Some h) q f = (h, q, some_same h.stage st f)
-
 -- a part, by its stage
 pub part_of : (n ep : ℕ) (D : TxId → Birth → Type 0) (A : TxId → Type 0) (Q : TxId → ℕ → Type 0) (O K : TxId → Type 0) (s : Shard) (t : TxId) (st : Stage) → Origins n ep D A Q O K s → stage_in s.local.parts t ≡ Some st
     → (restored : Bool) × (b : Birth) × BirthFrom D restored t b × StageFrom (SomeRequest Q O) restored t st
 part_of n ep D A Q O K s t st p e =
-    let r = stage_row s.local.parts t st e in
+    let r = stage_of_some s.local.parts t st e in
     let q = rows_get (λ x. PartFrom D (SomeRequest Q O) x.0 x.1) t r.0 s.local.parts p.parts r.1 in
     ((r.0).is_restored, (r.0).birth, q.0, subst (StageFrom (SomeRequest Q O) (r.0).is_restored t) r.2 q.1)
 

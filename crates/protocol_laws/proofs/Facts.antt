@@ -5,7 +5,11 @@ use Rattle.std.proofs.lemmas.Bool.{both_ways, ltb-true, ltb-false, lt-ltb, le-lt
 use Rattle.clv_base.specs.declared.names.TxId.{TxId}
 use Rattle.clv_base.specs.declared.logs.LogRecord.{LogRecord}
 use Rattle.clv_base.specs.Logs.{is_commit_of, committed_in, commit_lsn, place_from, is_below}
-use Rattle.clv_base.specs.Facts.{greater_place, greatest_commit, due_by, is_due_at, predecessors_of}
+use Rattle.clv_base.specs.Facts.{greater_place, greatest_commit, due_by, is_due_at, predecessors_of, facts_of, has_durable_predecessors}
+use Rattle.clv_base.specs.State.{Shard}
+use Rattle.law_base.proofs.Tables.{is_pair, pair_in}
+use Rattle.law_base.proofs.Commits.{commit_durable}
+use Rattle.law_base.proofs.Sets.{list_all_at}
 use Rattle.protocol_laws.specs.FactLaws.{PredecessorsByFacts}
 
 -- a COMMIT that is there has a place
@@ -76,3 +80,8 @@ all log n (p ∷ ps) =
 pub predecessors_by_facts : PredecessorsByFacts
 unfolding by_facts
 predecessors_by_facts l durable tx = all l.log durable (predecessors_of l.pairs tx)
+
+-- all predecessors are durable by the facts
+pub durable_before : (s : Shard) (tx : TxId) → has_durable_predecessors (facts_of s tx) ≡ true → (p : TxId) → is_pair s.local.pairs tx p ≡ true → commit_durable s.local.log s.durable p ≡ true
+durable_before s tx d p i =
+    list_all_at (λ q. commit_durable s.local.log s.durable q) p (predecessors_of s.local.pairs tx) (sym (predecessors_by_facts s.local s.durable tx) ∙ d) (pair_in s.local.pairs tx p i)

@@ -16,6 +16,7 @@ use Rattle.clv_base.specs.Facts.{facts_of}
 use Rattle.clv_base.specs.Participant.{vote_by}
 use Rattle.clv_base.specs.Coordinator.{ruling_by}
 use Rattle.clv_base.specs.Due.{or_else, commit_due, vote_due, give_vote, request_due, rule, due_of, first_due, known_txs, next_due, do_due, with_due_done, work}
+use Rattle.law_base.proofs.Due.{do_due_at}
 
 pub same : {A : Type 0} (xs : List A) → IsPrefixOf xs xs
 same xs = ([], append-nil xs)
@@ -78,9 +79,6 @@ grows_first s (tx ∷ txs) = grows_found s (due_of s tx) _ (grows_due s tx) (gro
 
 grows_next : (s : Shard) → LogGrows s (next_due s)
 grows_next s = grows_first s (known_txs s)
-
-abbrev do_due_at : ℕ → Shard → Option Shard → Shard
-do_due_at n s o = elim o [ Some t ↦ do_due n t | None ↦ s ]
 
 settle_step : (n : ℕ) (s : Shard) (o : Option Shard) → LogGrows s o → ((t : Shard) → IsPrefixOf t.local.log (do_due n t).local.log) → IsPrefixOf s.local.log (do_due_at n s o).local.log
 settle_step n s None g h = same s.local.log

@@ -67,14 +67,14 @@ at_cond s false x y p q = q
 rolled : (l : Local) (tx : TxId) → IsPrefixOf l.log (roll_back tx l).log
 rolled l tx = more_twice l.log _ _
 
-rolled_if : (l : Local) (tx : TxId) (b : Bool) → IsPrefixOf l.log (rolled_back_if b tx l).log
+pub rolled_if : (l : Local) (tx : TxId) (b : Bool) → IsPrefixOf l.log (rolled_back_if b tx l).log
 rolled_if l tx true = rolled l tx
 rolled_if l tx false = same l.log
 
 without : (l : Local) (tx : TxId) → IsPrefixOf l.log (without_part tx l).log
 without l tx = rolled_if l tx (is_present (stage_of l tx))
 
-writes : (l : Local) (tx : TxId) (w : Option (ℕ × Option ℕ × Option ℕ)) → IsPrefixOf l.log (written tx w l).log
+pub writes : (l : Local) (tx : TxId) (w : Option (ℕ × Option ℕ × Option ℕ)) → IsPrefixOf l.log (written tx w l).log
 writes l tx None = same l.log
 writes l tx (Some w) = more l.log _
 

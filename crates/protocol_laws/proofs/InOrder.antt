@@ -2,9 +2,7 @@
 use Rattle.std.proofs.Common.{◌≡◌, ◌⊎◌, inl, inr, ⊎_elim, refl, sym, subst, ◌∙◌, ℕ, suc, ◌<◌, ◌≤◌, true, false, cond, Bool, List, [], ◌∷◌, Option, Some, None, not, ◌&&◌, ◌||◌, ◌==◌, nat_lt, arith, eqb-true}
 use Rattle.std.specs.Map.{lookup}
 use Rattle.std.proofs.lemmas.Bool.{both_ways, and_parts, or_cases, ltb-true}
-use Rattle.std.specs.declared.cmp.Ordering.{Ordering}
-use Rattle.std.specs.declared.cmp.Ordering.TheVariants.{Less, Equal, Greater}
-use Rattle.std.specs.Ordering.{nat_cmp, ordering_then, is_eq}
+use Rattle.std.specs.Ordering.{nat_cmp}
 use Rattle.clv_base.specs.declared.names.TxId.{TxId}
 use Rattle.clv_base.specs.declared.names.Birth.{Birth}
 use Rattle.clv_base.specs.declared.ops.Op.{Op}
@@ -18,22 +16,11 @@ use Rattle.clv_base.specs.declared.events.Entry.{Entry}
 use Rattle.clv_base.specs.Orders.{tx_same}
 use Rattle.clv_base.specs.LogRules.{same_option}
 use Rattle.clv_base.specs.Sessions.{Phase, Touching, Ended, Standing, Told, Refused, SessionState, no_session, is_touching, may_drop, same_birth, follows_birth, goes_on, begins, begun, session_for, is_number, goes_on_scan, scan_shard, lies_in, op_answered, op_in_session, same_touched, is_lowest, requested, looked, stands_at, after_drop, session_after, makes_from}
+use Rattle.clv_base.proofs.SameNames.{nat_cmp_true}
+use Rattle.law_base.proofs.Tables.{then_eq}
 use Rattle.protocol_laws.specs.SessionLaws.{tx_of, works_on, ended_by, number_of, SerialsRise, NoneWorksOn, EndsStay, IsNext, AreNumbered, SessionsKeepOrder}
 
 -- ---- names that are the same are equal
-
-then_eq : (a b : Ordering) → is_eq (ordering_then a b) ≡ true → (is_eq a ≡ true) × (is_eq b ≡ true)
-then_eq Less b e = absurd (both_ways false refl e)
-then_eq Equal b e = (refl, e)
-then_eq Greater b e = absurd (both_ways false refl e)
-
-eq_cmp : (lt eq : Bool) → is_eq (cond lt Less (cond eq Equal Greater)) ≡ true → eq ≡ true
-eq_cmp true eq e = absurd (both_ways false refl e)
-eq_cmp false true e = refl
-eq_cmp false false e = absurd (both_ways false refl e)
-
-nat_same : (a b : ℕ) → is_eq (nat_cmp a b) ≡ true → a ≡ b
-nat_same a b e = eqb-true a b (eq_cmp (nat_lt a b) (a == b) e)
 
 record SameNames (a b : TxId) : Type 0 where
   runs : a.run ≡ b.run
@@ -44,7 +31,7 @@ names : (a b : TxId) → tx_same a b ≡ true → SameNames a b
 names a b e =
     let p = then_eq (nat_cmp a.run b.run) _ e in
     let q = then_eq (nat_cmp a.session b.session) _ p.1 in
-    record { runs = nat_same _ _ p.0; sessions = nat_same _ _ q.0; serials = nat_same _ _ q.1 }
+    record { runs = nat_cmp_true _ _ p.0; sessions = nat_cmp_true _ _ q.0; serials = nat_cmp_true _ _ q.1 }
 
 -- ---- parts of a test
 

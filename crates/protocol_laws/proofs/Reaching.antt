@@ -9,6 +9,7 @@ use Rattle.clv_base.specs.LogRules.{same_option, same_list, same_record}
 use Rattle.clv_base.specs.State.{Shard}
 use Rattle.clv_base.specs.Restarts.{undo_records, restart_records, log_after_restart, greatest_epoch, next_epoch, log_left, FailedRestarts, untouched, failed_first, Restarts, restarts_up, log_up_to_epoch, is_log_up_to, agrees_up_to, misfit}
 use Rattle.clv_base.proofs.SameNames.{tx_true, tx_self}
+use Rattle.law_base.proofs.Options.{option_true, option_self}
 use Rattle.protocol_laws.specs.RestartLaws.{RestartsLeadToOne, RestartsReach, MisfitIsExact}
 use Rattle.protocol_laws.proofs.Undone.{Stepped, stepped, after_restart, greatest_more}
 
@@ -145,16 +146,6 @@ pub restarts_reach : RestartsReach
 restarts_reach s found epoch le = reach_by s (epoch - next_epoch s found) epoch found (omega (arith, le))
 
 -- ---- a test of logs
-
-option_true : (a b : Option ℕ) → same_option a b ≡ true → a ≡ b
-option_true None None e = refl
-option_true (Some a) (Some b) e = ap Some (eqb-true a b e)
-option_true None (Some b) e = absurd (both_ways false refl e)
-option_true (Some a) None e = absurd (both_ways false refl e)
-
-option_self : (a : Option ℕ) → same_option a a ≡ true
-option_self None = refl
-option_self (Some a) = eq-eqb a a refl
 
 list_true : {X : Type 0} (same : X → X → Bool) → ((x y : X) → same x y ≡ true → x ≡ y) → (xs ys : List X) → same_list same xs ys ≡ true → xs ≡ ys
 list_true same h [] [] e = refl

@@ -1,5 +1,5 @@
 -- In the state after a restart nothing is due, and each ghost bears a lock.
-use Rattle.std.proofs.Common.{◌≡◌, ℕ, suc, ◌⊎◌, inl, inr, ⊎_elim, Bool, true, false, cond, not, ◌&&◌, ◌||◌, List, [], ◌∷◌, Option, Some, None, ◌==◌, refl, sym, ap, subst, ◌∙◌}
+use Rattle.std.proofs.Common.{◌≡◌, ℕ, ◌⊎◌, inl, inr, ⊎_elim, Bool, true, false, cond, not, ◌&&◌, ◌||◌, List, [], ◌∷◌, Option, Some, None, ◌==◌, refl, sym, ap, subst, ◌∙◌}
 use Rattle.std.specs.List.{AllByRecursion, list_any, list_all}
 use Rattle.std.specs.declared.cmp.Ordering.{Ordering}
 use Rattle.std.specs.declared.cmp.Ordering.TheVariants.{Less, Equal, Greater}
@@ -15,12 +15,11 @@ use Rattle.clv_base.specs.declared.modes.Part.TheVariants.{X}
 use Rattle.clv_base.specs.declared.modes.Found.{Found}
 use Rattle.clv_base.specs.declared.modes.Found.TheVariants.{Live, Ghost, Absent}
 use Rattle.clv_base.specs.declared.state.Stage.TheVariants.{Closed}
-use Rattle.clv_base.specs.declared.state.Stage.{Stage}
 use Rattle.clv_base.specs.declared.state.Held.{Held}
 use Rattle.clv_base.specs.declared.events.Entry.{Entry}
 use Rattle.clv_base.specs.Orders.{Table, tx_same, tx_in, tx_get, tx_insert, anchor_cmp, anchor_same}
 use Rattle.clv_base.specs.Maps.{KeyMap}
-use Rattle.clv_base.specs.Logs.{committed_in, aborted_in, is_commit_of, place_from, is_below, doubt_by, in_doubt_from, in_doubt, is_winner, fold_updates}
+use Rattle.clv_base.specs.Logs.{committed_in, aborted_in, is_commit_of, is_below, doubt_by, in_doubt_from, in_doubt, is_winner, fold_updates}
 use Rattle.clv_base.specs.Modes.{on_key}
 use Rattle.clv_base.specs.Locks.{Locks, row_cmp, with_mode, take_one}
 use Rattle.clv_base.specs.State.{Shard}
@@ -32,6 +31,8 @@ use Rattle.clv_base.specs.Facts.{facts_of, has_durable_commit}
 use Rattle.clv_base.specs.Due.{or_else, with_commit_done, commit_due, vote_due, request_due, due_of, first_due, known_txs}
 use Rattle.clv_base.specs.Restarts.{records_of, ghost_if_absent, with_ghosts, old_birth, restored_locks, restored_part, restored_parts, homes_of, unended_in, state_after}
 use Rattle.clv_base.proofs.SameNames.{nat_cmp_true, nat_cmp_self, tx_true, in_insert}
+use Rattle.law_base.proofs.Tables.{stage_by}
+use Rattle.law_base.proofs.Commits.{no_place_from}
 use Rattle.protocol_laws.specs.Resting.{RestartsEndAtRest}
 
 -- ---- who is in doubt isn't committed
@@ -59,14 +60,6 @@ open_from log shard (Restart run epoch ∷ rs) so_far h u i = open_from log shar
 
 doubt_open : (shard : ℕ) (log : List LogRecord) (u : TxId) → tx_in u (in_doubt shard log) ≡ true → committed_in log u ≡ false
 doubt_open shard log u i = open_from log shard log [] (λ v e. absurd (both_ways false refl e)) u i
-
-no_place : (n : ℕ) (test : LogRecord → Bool) (log : List LogRecord) → list_any test log ≡ false → place_from n test log ≡ None
-no_place n test [] e = refl
-no_place n test (r ∷ rs) e = at (test r) e (no_place (suc n) test rs)
-  where
-    at : (b : Bool) → (b || list_any test rs) ≡ false → (list_any test rs ≡ false → place_from (suc n) test rs ≡ None) → cond b (Some n) (place_from (suc n) test rs) ≡ None
-    at true e ih = absurd (both_ways true e refl)
-    at false e ih = ih e
 
 -- ---- what is found in the restored tables
 
@@ -106,9 +99,6 @@ request_found (p ∷ rest) tx = at (tx_same tx p.0) (request_found rest tx)
 
 -- ---- nothing of them is due
 
-abbrev stage_by : Option Held → Option Stage
-stage_by o = elim o [ Some h ↦ Some h.stage | None ↦ None ]
-
 not_done : (s : Shard) (tx : TxId) → has_durable_commit (facts_of s tx) ≡ false → commit_due s tx (Some Closed) ≡ None
 not_done s tx e = ap (λ b. cond b (Some (with_commit_done s tx)) None) e
 
@@ -116,7 +106,7 @@ no_commit_due : (shard run epoch last : ℕ) (log : List LogRecord) (journal : L
 no_commit_due shard run epoch last log journal tx =
     let s : Shard = state_after shard run epoch log last journal in
     ⊎_elim (λ e. ap (λ o. commit_due s tx (stage_by o)) e)
-    (λ e. ap (λ o. commit_due s tx (stage_by o)) e.0 ∙ not_done s tx (ap (λ o. is_below o s.durable) (no_place 0 (is_commit_of tx) log (doubt_open shard log tx e.1))))
+    (λ e. ap (λ o. commit_due s tx (stage_by o)) e.0 ∙ not_done s tx (ap (λ o. is_below o s.durable) (no_place_from 0 (is_commit_of tx) log (doubt_open shard log tx e.1))))
     (part_found (in_doubt shard log) tx)
 
 no_vote_due : (shard run epoch last : ℕ) (log : List LogRecord) (journal : List Entry) (tx : TxId) → let s = state_after shard run epoch log last journal in vote_due s tx (tx_get tx s.voters) ≡ None

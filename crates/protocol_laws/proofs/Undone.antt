@@ -3,6 +3,7 @@ use Rattle.std.proofs.Common.{◌≡◌, ℕ, suc, Bool, true, false, cond, not,
 use Rattle.std.specs.Prelude.{max}
 use Rattle.std.specs.List.{AllByRecursion, filter}
 use Rattle.std.proofs.lemmas.Bool.{both_ways, not-true, or_parts, cond-true, cond-false, false_from_ne_true}
+use Rattle.std.proofs.Math.Bool.{or-false}
 use Rattle.clv_base.specs.declared.names.TxId.{TxId}
 use Rattle.clv_base.specs.declared.logs.LogRecord.{LogRecord}
 use Rattle.clv_base.specs.declared.logs.LogRecord.TheVariants.{Update, Clr, Prepare, Commit, Abort, End, Restart}
@@ -11,8 +12,8 @@ use Rattle.clv_base.specs.Logs.{StandingUpdate, aborted_in, committed_in, standi
 use Rattle.clv_base.specs.State.{Shard}
 use Rattle.clv_base.specs.Undo.{clrs_of, newest_lsn}
 use Rattle.clv_base.specs.Restarts.{losers, undo_records, greatest_epoch, next_epoch}
-use Rattle.clv_base.proofs.SameNames.{or_left, tx_true, tx_self, insert_keeps, insert_has}
-use Rattle.law_base.proofs.Sets.{Rises, writers_rise, filter_rises, without_first, filter_alike, filter_both, in_filter, filter_in, in_passes, none_pass, none_passed, writers_without}
+use Rattle.clv_base.proofs.SameNames.{or_left, tx_true, tx_self}
+use Rattle.law_base.proofs.Sets.{Rises, writers_rise, filter_rises, without_first, filter_alike, filter_both, in_filter, filter_in, in_passes, none_pass, none_passed, writers_without, each_writer}
 use Rattle.law_base.proofs.Doubts.{Unlike, is_it, nobody, abort_unlike, clr_unlike, restart_unlike, aborted_more, winners_more, standing_more}
 
 -- the losers that have no ABORT
@@ -21,10 +22,6 @@ unaborted shard log = filter (λ t. not (aborted_in log t)) (losers shard log)
 
 abbrev loses : ℕ → List LogRecord → TxId → Bool
 loses shard log t = not (is_winner shard log t)
-
-or_none : (b : Bool) → (b || false) ≡ b
-or_none true = refl
-or_none false = refl
 
 not_or : (a b : Bool) → not (a || b) ≡ (not a && not b)
 not_or true b = refl
@@ -125,10 +122,6 @@ all_more : (P Q : StandingUpdate → Type 0) (ws : List StandingUpdate) → ((w 
 all_more P Q [] f h = tt
 all_more P Q (w ∷ ws) f h = (f w h.0, all_more P Q ws f h.1)
 
-each_writer : (ws : List StandingUpdate) → AllByRecursion (λ w. tx_in w.tx (writers ws) ≡ true) ws
-each_writer [] = tt
-each_writer (w ∷ ws) = (insert_has w.tx (writers ws), all_more _ _ ws (λ v h. insert_keeps w.tx v.tx (writers ws) h) (each_writer ws))
-
 same_losers : (shard : ℕ) (log : List LogRecord) (t : TxId) → AllByRecursion (λ w. tx_in w.tx (filter (loses shard log) (writers (without_newest t (standing log)))) ≡ tx_in w.tx (losers shard log)) (without_newest t (standing log))
 same_losers shard log t =
     all_more _ _ (without_newest t (standing log))
@@ -151,7 +144,7 @@ after_clr shard log t u k a none =
     let none_left : unaborted shard (log ++ Clr t u k a ∷ []) ≡ [] =
     ap (λ l. filter (λ x. not (aborted_in (log ++ Clr t u k a ∷ []) x)) l) fewer_lose
     ∙ filter_alike (λ x. not (aborted_in (log ++ Clr t u k a ∷ []) x)) (λ x. not (aborted_in log x)) (filter (loses shard log) (writers (without_newest t (standing log))))
-    (λ x. ap not (aborted_more nobody log (Clr t u k a) x (clr_unlike t u k a) ∙ or_none (aborted_in log x)))
+    (λ x. ap not (aborted_more nobody log (Clr t u k a) x (clr_unlike t u k a) ∙ or-false (aborted_in log x)))
     ∙ none_pass (λ x. not (aborted_in log x)) (filter (loses shard log) (writers (without_newest t (standing log)))) (λ x i. still_none shard log t x none i) in
     ap (λ l. map (λ x. Abort x) l ++ clrs_of (losers shard (log ++ Clr t u k a ∷ [])) (standing (log ++ Clr t u k a ∷ []))) none_left
     ∙ ap (λ l. clrs_of l (standing (log ++ Clr t u k a ∷ []))) fewer_lose
@@ -167,7 +160,7 @@ after_restart shard log run epoch =
     let same_open : unaborted shard (log ++ Restart run epoch ∷ []) ≡ unaborted shard log =
     ap (λ l. filter (λ x. not (aborted_in (log ++ Restart run epoch ∷ []) x)) l) same
     ∙ filter_alike (λ x. not (aborted_in (log ++ Restart run epoch ∷ []) x)) (λ x. not (aborted_in log x)) (losers shard log)
-    (λ x. ap not (aborted_more nobody log (Restart run epoch) x (restart_unlike run epoch) ∙ or_none (aborted_in log x))) in
+    (λ x. ap not (aborted_more nobody log (Restart run epoch) x (restart_unlike run epoch) ∙ or-false (aborted_in log x))) in
     ap (λ l. map (λ x. Abort x) l ++ clrs_of (losers shard (log ++ Restart run epoch ∷ [])) (standing (log ++ Restart run epoch ∷ []))) same_open
     ∙ ap (λ l. map (λ x. Abort x) (unaborted shard log) ++ clrs_of l (standing (log ++ Restart run epoch ∷ []))) same
     ∙ ap (λ l. map (λ x. Abort x) (unaborted shard log) ++ clrs_of (losers shard log) l) stand

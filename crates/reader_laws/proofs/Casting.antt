@@ -38,7 +38,8 @@ use Rattle.law_base.proofs.Rows.{rows_get}
 use Rattle.law_base.proofs.Tables.{stage_in}
 use Rattle.shard_laws.specs.OneShard.{is_doomed}
 use Rattle.law_base.proofs.Stages.{gone_by, stage_own}
-use Rattle.history_laws.proofs.Telling.{all_append, all_map}
+use Rattle.law_base.proofs.Lists.{all_append}
+use Rattle.history_laws.proofs.Telling.{all_map}
 use Rattle.history_laws.proofs.Stepping.{Due, commits, votes, rules, KeptByDue, settled, Step, finishes, stops}
 use Rattle.history_laws.proofs.Entering.{Makes, by_event, by_flush, by_failure, by_restart}
 use Rattle.fate_laws.proofs.Inside.{inside_self, inside_due, inside_step}

@@ -40,7 +40,7 @@ use Rattle.law_base.proofs.Changed.{none_some, Set_or_old, get_set}
 use Rattle.law_base.proofs.Tables.{stage_by, stage_in, get_put}
 use Rattle.law_base.proofs.Sets.{in_filter}
 use Rattle.shard_laws.specs.OneShard.{is_doomed}
-use Rattle.law_base.proofs.Stages.{stage_closed, closed_other}
+use Rattle.law_base.proofs.Stages.{stage_closed, closed_other, written_parts}
 use Rattle.law_base.proofs.Stages.{gone_by, stage_own, stage_other, absent_go}
 use Rattle.law_base.proofs.Stages.{stage_marked}
 use Rattle.shard_laws.proofs.Restoring.{restored_closed, restored_none}
@@ -49,7 +49,6 @@ use Rattle.history_laws.proofs.Entering.{Makes, by_event, by_flush, by_failure, 
 use Rattle.history_laws.proofs.Merging.{Placed}
 use Rattle.history_laws.proofs.Worlds.{state_at}
 use Rattle.session_laws.proofs.Replying.{OpIs, dies, rolls, performs, reply_is}
-use Rattle.origin_laws.proofs.Events.{written_parts}
 use Rattle.fate_laws.proofs.Prefixes.{Next, next_at, each_shard}
 use Rattle.cause_laws.proofs.Starting.{IsCalm}
 use Rattle.cause_laws.proofs.Within.{RuledBy, commit, acknowledge, abort, end, ruled_by, opposed}

@@ -14,7 +14,7 @@ use Rattle.clv_base.specs.Restarts.{run_after, log_after_restart}
 use Rattle.clv_base.specs.Journals.{History, final_of}
 use Rattle.clv_base.specs.History.{Legal, logs_left}
 use Rattle.clv_base.proofs.SameNames.{tx_true}
-use Rattle.law_base.proofs.Commits.{committed_append}
+use Rattle.law_base.proofs.Commits.{committed_append, parts_keep}
 use Rattle.order_laws.proofs.Records.{front, last, committed_there, prepared_there}
 use Rattle.history_laws.proofs.Uncommitting.{opening_adds}
 use Rattle.shard_laws.proofs.Following.{Follows, from_disorder}
@@ -27,7 +27,6 @@ use Rattle.earlier_laws.specs.Earlier.{IsEarlier, WasCommitted}
 use Rattle.earlier_laws.proofs.Earlier.{earlier_commits_are_of_opening}
 use Rattle.unfallen_laws.proofs.StrikingFronts.{struck_front}
 use Rattle.unfallen_laws.proofs.Earlier.{never_out, committed_within}
-use Rattle.ending_laws.proofs.Ends.{parts_more}
 use Rattle.ending_laws.proofs.Ended.{part_below, ended_are_committed}
 use Rattle.many_shards_laws.proofs.Earlier.{LastFrom, last_next, opened_last, follows_behind, none_of_earlier}
 use Rattle.reopening_laws.proofs.Agreeing.{HomeIs, HasHome, PartIs, home_from, part_here, part_from}
@@ -99,7 +98,7 @@ module _ (splits : List ℕ) (before : List (List LogRecord)) (h : History) (aft
     inside = let e = (l.each_log).0 in let j = committed_within before k t committed_first in omega (arith, e, j)
 
     commits_left : commit_parts (log_of left k) t ≡ Some ps
-    commits_left = let g = left_grows splits before h after choice k l inside in subst (λ z. commit_parts z t ≡ Some ps) g.1 (parts_more (log_of before k) g.0 t ps at_opening.commits)
+    commits_left = let g = left_grows splits before h after choice k l inside in subst (λ z. commit_parts z t ≡ Some ps) g.1 (parts_keep (log_of before k) g.0 t ps at_opening.commits)
 
     home_left : home_is k (prepare_of (log_of left k) t) ≡ true
     home_left =

@@ -16,6 +16,7 @@ use Rattle.clv_base.specs.State.{Shard}
 use Rattle.clv_base.specs.Restarts.{run_after, log_left, greatest_run, FailedRestarts}
 use Rattle.clv_base.specs.Journals.{History, final_of}
 use Rattle.clv_base.specs.History.{Legal, Member, logs_left, request_of, acknowledged_in, members}
+use Rattle.law_base.proofs.Commits.{parts_keep}
 use Rattle.order_laws.proofs.Records.{committed_there}
 use Rattle.shard_laws.specs.OneShard.{found_items, found_asked, found_met}
 use Rattle.shard_laws.proofs.Following.{Follows, to_disorder, follows_take, greatest_front}
@@ -30,7 +31,6 @@ use Rattle.file_laws.proofs.Records.{Passes, passes_all, all_pass}
 use Rattle.fate_laws.proofs.Bindings.{bindings_front}
 use Rattle.fate_laws.proofs.Prepares.{prepare_more}
 use Rattle.ending_laws.proofs.Ended.{part_below}
-use Rattle.ending_laws.proofs.Ends.{parts_more}
 use Rattle.each_shard_laws.specs.Leading.{deeds_before, requests_of}
 use Rattle.each_shard_laws.proofs.Leading.{each_shard_leads}
 use Rattle.fate_laws.proofs.Deciding.{log_now}
@@ -199,7 +199,7 @@ module _ (splits : List ℕ) (before : List (List LogRecord)) (h : History) (aft
     home_kept =
         let g = stays home inside in
         record {
-          commits = subst (λ z. commit_parts z t ≡ Some ps) g.goes (parts_more (log_of left home) g.more t ps k.commits);
+          commits = subst (λ z. commit_parts z t ≡ Some ps) g.goes (parts_keep (log_of left home) g.more t ps k.commits);
           home = subst (λ z. home_is home (prepare_of z t) ≡ true) g.goes (home_behind home home (log_of left home) g.more t behind there k.home);
           named = λ n i d r. let e = lengths in let j : n < length left = omega (arith, i, e) in k.named n j d (recorded n (below n j) r);
           parts = λ n i. part_here (log_of after n) t home (part n (part_inside n i) (part_from (log_of left n) t home (k.parts n i)));

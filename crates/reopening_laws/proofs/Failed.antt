@@ -13,8 +13,8 @@ use Rattle.clv_base.specs.State.{Shard}
 use Rattle.clv_base.specs.Logs.{StandingUpdate, is_update_of, is_commit_of, is_end_of, is_abort_of, wrote_in, committed_in, ended_in, aborted_in, standing, in_doubt, fold_updates}
 use Rattle.clv_base.specs.Undo.{clrs_of, newest_lsn}
 use Rattle.clv_base.specs.Restarts.{losers, undo_records, restart_records, next_epoch, FailedRestarts, untouched, failed_first, Restarts}
+use Rattle.law_base.proofs.Lists.{all_append}
 use Rattle.shard_laws.proofs.Following.{Follows, follows_front}
-use Rattle.shard_laws.proofs.Leaving.{all_append}
 use Rattle.shard_laws.proofs.Listing.{order_of}
 use Rattle.shard_laws.proofs.Doubting.{doubted}
 use Rattle.shard_laws.proofs.Rebuilding.{of_restarts}

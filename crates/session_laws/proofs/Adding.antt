@@ -1,8 +1,8 @@
 -- What an entry adds to the lists of a history.
 use Rattle.std.proofs.Common.{◌≡◌, ⊎_elim, refl, sym, ap, ◌∙◌, ℕ, ◌+◌, true, false, cond, Bool, List, [], ◌∷◌, ◌++◌, map, Option, Some, None, ◌&&◌, ◌||◌, length, append-nil}
-use Rattle.std.specs.List.{filter}
-use Rattle.std.proofs.lemmas.Bool.{both_ways, and_parts, or_cases, false_from_ne_true}
+use Rattle.std.proofs.lemmas.Bool.{both_ways, and_parts, or_cases}
 use Rattle.std.proofs.lemmas.List.Folds.{list_any-append}
+use Rattle.std.proofs.lemmas.List.Elements.{filter-append}
 use Rattle.clv_base.specs.declared.names.TxId.{TxId}
 use Rattle.clv_base.specs.declared.names.Birth.{Birth}
 use Rattle.clv_base.specs.declared.ops.Op.{Op}
@@ -18,8 +18,9 @@ use Rattle.clv_base.specs.Needs.{needs_of}
 use Rattle.clv_base.specs.State.{Shard}
 use Rattle.clv_base.specs.Journals.{History}
 use Rattle.clv_base.specs.History.{is_acknowledgement, acknowledged_in, answered_op, ops_in}
-use Rattle.clv_base.proofs.SameNames.{tx_true, tx_flip}
+use Rattle.clv_base.proofs.SameNames.{tx_true}
 use Rattle.law_base.specs.Items.{Item}
+use Rattle.law_base.proofs.Sets.{same_flip}
 use Rattle.shard_laws.specs.OneShard.{items_of, with_one, new_item, new_met, has_met, new_told}
 
 pub ops_append : (t : TxId) (xs ys : History) → ops_in t (xs ++ ys) ≡ ops_in t xs ++ ops_in t ys
@@ -31,14 +32,6 @@ ops_append t (x ∷ xs) ys = at (answered_op t (x.1).event (x.1).outcome) (ops_a
     at None e = e
     at (Some p) e = ap (λ l. p ∷ l) e
 
-filter_append : {X : Type 0} (f : X → Bool) (xs ys : List X) → filter f (xs ++ ys) ≡ filter f xs ++ filter f ys
-filter_append f [] ys = refl
-filter_append f (x ∷ xs) ys = at (f x) (filter_append f xs ys)
-  where
-    at : (b : Bool) → filter f (xs ++ ys) ≡ filter f xs ++ filter f ys → cond b (x ∷ filter f (xs ++ ys)) (filter f (xs ++ ys)) ≡ cond b (x ∷ filter f xs) (filter f xs) ++ filter f ys
-    at true e = ap (λ l. x ∷ l) e
-    at false e = e
-
 map_append : {X Y : Type 0} (f : X → Y) (xs ys : List X) → map f (xs ++ ys) ≡ map f xs ++ map f ys
 map_append f [] ys = refl
 map_append f (x ∷ xs) ys = ap (λ l. f x ∷ l) (map_append f xs ys)
@@ -46,13 +39,6 @@ map_append f (x ∷ xs) ys = ap (λ l. f x ∷ l) (map_append f xs ys)
 pub with_none : {X : Type 0} (xs : List X) (o : Option X) → with_one xs o ≡ xs ++ with_one [] o
 with_none xs None = sym (append-nil xs)
 with_none xs (Some x) = refl
-
-same_flip : (a b : TxId) → tx_same a b ≡ tx_same b a
-same_flip a b = at (tx_same a b) refl
-  where
-    at : (c : Bool) → tx_same a b ≡ c → c ≡ tx_same b a
-    at true e = sym (tx_flip a b e)
-    at false e = sym (false_from_ne_true (tx_same b a) (λ f. both_ways _ e (tx_flip b a f)))
 
 abbrev pub told_pair : Item → Op × Answer
 told_pair y = (y.op, y.answer)
@@ -90,7 +76,7 @@ items_next pre x s all t e =
     ∙ ap (λ l. l ++ ops_in t ((0, x) ∷ [])) e
     ∙ ap (λ l. map told_pair (items_of t all) ++ l) (one_op s x.event x.outcome t)
     ∙ sym (map_append told_pair (items_of t all) (items_of t (with_one [] (new_item s x.event x.outcome))))
-    ∙ ap (map told_pair) (sym (filter_append (λ y. tx_same y.tx t) all (with_one [] (new_item s x.event x.outcome))))
+    ∙ ap (map told_pair) (sym (filter-append (λ y. tx_same y.tx t) all (with_one [] (new_item s x.event x.outcome))))
     ∙ ap (λ l. map told_pair (items_of t l)) (sym (with_none all (new_item s x.event x.outcome)))
 
 -- what it adds to those that are told

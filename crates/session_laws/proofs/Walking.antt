@@ -2,7 +2,7 @@
 use Rattle.std.proofs.Common.{◌≡◌, ◌⊎◌, inl, inr, refl, sym, ap, subst, ◌∙◌, ℕ, ◌<◌, true, false, cond, Bool, List, [], ◌∷◌, Option, Some, None, is_some, ◌&&◌, ◌==◌, nat_lt, arith, eqb-true}
 use Rattle.std.specs.Map.{lookup}
 use Rattle.std.specs.BTreeMap.{insert_entry}
-use Rattle.std.specs.Ordering.{nat_cmp, match_ordering, ordering_then, is_eq}
+use Rattle.std.specs.Ordering.{nat_cmp, match_ordering, is_eq}
 use Rattle.std.specs.declared.cmp.Ordering.{Ordering}
 use Rattle.std.specs.declared.cmp.Ordering.TheVariants.{Less, Equal, Greater}
 use Rattle.std.proofs.lemmas.Bool.{both_ways, and_parts, ltb-true, eq-eqb}
@@ -18,6 +18,8 @@ use Rattle.clv_base.specs.Orders.{tx_same, birth_cmp}
 use Rattle.clv_base.specs.LogRules.{same_option}
 use Rattle.clv_base.specs.Sessions.{Phase, SessionState, is_number, lies_in, is_touching, same_birth, follows_birth, goes_on, begins, begun, session_for, touch, scan_shard, op_answered, op_in_session, requested, looked, session_after, makes_from}
 use Rattle.clv_base.proofs.SameNames.{tx_true, nat_cmp_true}
+use Rattle.law_base.proofs.Options.{option_true}
+use Rattle.law_base.proofs.Tables.{then_eq}
 use Rattle.history_laws.proofs.Merging.{Placed, Among, Precedes}
 
 -- ---- whose session an operation finds
@@ -26,11 +28,6 @@ pub data For (t : SessionState) (tx : TxId) (birth : Birth) : Option SessionStat
   nobody : For t tx birth None
   the_same : tx ≡ t.tx → t.birth ≡ Some birth → For t tx birth (Some t)
   a_new_one : (t.tx).serial < tx.serial → For t tx birth (Some (begun t tx birth))
-
-then_eq : (a b : Ordering) → is_eq (ordering_then a b) ≡ true → (is_eq a ≡ true) × (is_eq b ≡ true)
-then_eq Less b e = absurd (both_ways false refl e)
-then_eq Equal b e = (refl, e)
-then_eq Greater b e = absurd (both_ways false refl e)
 
 same_fields : (r s t a b c : ℕ) → r ≡ a → s ≡ b → t ≡ c → ◌≡◌ {A = Birth} (record { stamp = r; session = s; serial = t }) (record { stamp = a; session = b; serial = c })
 same_fields r s t a b c e f g = cc
@@ -127,12 +124,6 @@ touch_old m n v e ts g = at (epoch_at n ts) refl
 abbrev pub SeenIs : Option ℕ → ℕ → Type 0
 SeenIs seen epoch = (seen ≡ None) ⊎ (seen ≡ Some epoch)
 
-same_seen : (a b : Option ℕ) → same_option a b ≡ true → a ≡ b
-same_seen None None e = refl
-same_seen (Some a) (Some b) e = ap (λ z. Some z) (eqb-true a b e)
-same_seen None (Some b) e = absurd (both_ways false refl e)
-same_seen (Some a) None e = absurd (both_ways false refl e)
-
 touch_new : (n epoch : ℕ) (seen : Option ℕ) (ts : List (ℕ × ℕ)) → seen ≡ epoch_at n ts → SeenIs seen epoch → epoch_at n (touch n epoch ts) ≡ Some epoch
 touch_new n epoch seen ts e (inl q) = at (epoch_at n ts) refl
   where
@@ -212,7 +203,7 @@ unfolding Held
 op_seen_by splits tx m e b t birth nth seen op o None es k f h = absurd (both_ways false refl h)
 op_seen_by splits tx m e b t birth nth seen op o (Some _) es (inl p) (the_same q r) h =
     let c = passes splits (is_number t m nth op && lies_in splits m op && same_option seen (epoch_at m t.touched)) (op_answered m nth op t o) es h in
-    (same_seen seen (epoch_at m t.touched) (and_parts (is_number t m nth op && lies_in splits m op) _ c).1 ∙ p.2, one_birth b birth (sym p.1 ∙ r))
+    (option_true seen (epoch_at m t.touched) (and_parts (is_number t m nth op && lies_in splits m op) _ c).1 ∙ p.2, one_birth b birth (sym p.1 ∙ r))
   where
     one_birth : (a c : Birth) → Some a ≡ Some c → a ≡ c
     one_birth a c h = cc
@@ -262,7 +253,7 @@ held_first splits tx n nth op t birth seen a epoch (Some v) es {X} f s h k = at 
     at : (c : Bool) → (is_number v n nth op && lies_in splits n op && same_option seen (epoch_at n v.touched)) ≡ c → makes_from splits (cond c (op_answered n nth op v (Answered a epoch)) None) es ≡ true → X
     at true q g =
         k (record v { nth = nth; scanned = scan_shard n op; touched = touch n epoch v.touched })
-        (first_held tx n nth op t v birth seen a epoch f (same_seen seen (epoch_at n v.touched) (and_parts (is_number v n nth op && lies_in splits n op) _ q).1) s) g
+        (first_held tx n nth op t v birth seen a epoch f (option_true seen (epoch_at n v.touched) (and_parts (is_number v n nth op && lies_in splits n op) _ q).1) s) g
     at false q g = absurd (both_ways false refl g)
 
 -- of two operations of a transaction on a shard, the later has seen the epoch that answered the earlier, and is of its birth

@@ -1,10 +1,9 @@
 -- What an operation answers by the records is what it answers by a map with the same values.
 use Rattle.std.proofs.Common.{◌≡◌, ℕ, ◌<◌, ⊎_elim, Bool, true, false, cond, ◌&&◌, [], ◌∷◌, Option, Some, None, ◌==◌, nat_le, T, refl, sym, ap, subst, ◌∙◌, eqb-true}
-use Rattle.std.specs.declared.cmp.Ordering.TheVariants.{Less, Equal, Greater}
-use Rattle.std.specs.Ordering.{nat_cmp, is_lt}
+use Rattle.std.specs.Ordering.{nat_cmp}
 use Rattle.std.specs.FinMap.Entries.{below_all, is_sorted}
 use Rattle.std.specs.Cmp.{unsigned_tied}
-use Rattle.std.proofs.lemmas.Bool.{cases_Bool, both_ways, cond-true, cond-false, lt-ltb, and_from}
+use Rattle.std.proofs.lemmas.Bool.{cases_Bool, both_ways, cond-true, cond-false, and_from}
 use Rattle.clv_base.specs.declared.ops.Op.{Op}
 use Rattle.clv_base.specs.declared.ops.Op.TheVariants.{Get, Put, Del, Scan}
 use Rattle.clv_base.specs.declared.ops.Answer.TheVariants.{Value, Pairs}
@@ -13,15 +12,12 @@ use Rattle.clv_base.specs.Needs.{Records, value_at, live_pairs, records_between,
 use Rattle.law_base.proofs.Cells.{record_at, live_by}
 use Rattle.clv_base.specs.Folding.{IsRising}
 use Rattle.clv_base.proofs.Folding.{same_map, find_between, rising_between}
-use Rattle.law_base.proofs.Anchors.{Rising, AllAbove, absent_above, rising_filter}
+use Rattle.law_base.proofs.Anchors.{Rising, AllAbove, absent_above, rising_filter, less_true}
 
 -- ---- the live pairs as a map
 
 pub t_true : (b : Bool) → b ≡ true → T b
 t_true b e = subst T (sym e) tt
-
-less_true : (a b : ℕ) → a < b → is_lt (nat_cmp a b) ≡ true
-less_true a b l = ap (λ c. is_lt (cond c Less (cond (a == b) Equal Greater))) (lt-ltb a b l)
 
 above_case : (k j : ℕ) (o : Option ℕ) (rest : KeyMap) → k < j → below_all nat_cmp k rest ≡ true → below_all nat_cmp k (elim o [ Some v ↦ (j, v) ∷ rest | None ↦ rest ]) ≡ true
 above_case k j None rest l e = e

@@ -1,11 +1,12 @@
 -- Lists of writes that hold the same writes at each key, in the same order.
 use Rattle.std.proofs.Common.{◌≡◌, ℕ, Bool, true, false, cond, List, [], ◌∷◌, Option, Some, None, ◌==◌, refl, sym, ap, subst, ◌∙◌, eq-eqb}
 use Rattle.std.specs.List.{AllByRecursion, filter}
-use Rattle.std.proofs.lemmas.Bool.{cond_both, cond-true, cond-false}
+use Rattle.std.proofs.lemmas.Bool.{cond_both, cond-true}
 use Rattle.clv_base.specs.declared.names.TxId.{TxId}
 use Rattle.clv_base.specs.Logs.{StandingUpdate, newest_at}
 use Rattle.law_base.specs.Items.{on_top}
 use Rattle.law_base.proofs.Running.{top_value, after_of}
+use Rattle.law_base.proofs.Lists.{filters_swap}
 
 -- the writes at a key
 abbrev pub key_writes : ℕ → List StandingUpdate → List StandingUpdate
@@ -13,16 +14,6 @@ key_writes q ws = filter (λ w. q == w.key) ws
 
 abbrev pub SameAtKeys : List StandingUpdate → List StandingUpdate → Type 0
 SameAtKeys ws vs = (q : ℕ) → key_writes q ws ≡ key_writes q vs
-
-filters_swap : {I : Type 0} (f h : I → Bool) (xs : List I) → filter f (filter h xs) ≡ filter h (filter f xs)
-filters_swap f h [] = refl
-filters_swap f h (x ∷ xs) = at (f x) (h x) refl refl (filters_swap f h xs)
-  where
-    at : (b c : Bool) → f x ≡ b → h x ≡ c → filter f (filter h xs) ≡ filter h (filter f xs) → filter f (cond c (x ∷ filter h xs) (filter h xs)) ≡ filter h (cond b (x ∷ filter f xs) (filter f xs))
-    at true true e d ih = cond-true (f x) _ _ e ∙ ap (λ l. x ∷ l) ih ∙ sym (cond-true (h x) _ _ d)
-    at true false e d ih = ih ∙ sym (cond-false (h x) _ _ d)
-    at false true e d ih = cond-false (f x) _ _ e ∙ ih
-    at false false e d ih = ih
 
 pub keys_filter : (f : StandingUpdate → Bool) (ws vs : List StandingUpdate) → SameAtKeys ws vs → SameAtKeys (filter f ws) (filter f vs)
 keys_filter f ws vs e q = filters_swap (λ w. q == w.key) f ws ∙ ap (filter f) (e q) ∙ sym (filters_swap (λ w. q == w.key) f vs)

@@ -1,7 +1,7 @@
 -- Changes of a shard that keep what it keeps: a record more, a part closed, the durable front, a purge.
 use Rattle.std.proofs.Common.{◌≡◌, ℕ, ◌≤◌, ◌<◌, inl, inr, ⊎_elim, Bool, true, false, cond, not, ◌||◌, List, [], ◌∷◌, ◌++◌, length, Option, Some, None, ◌==◌, ◌+◌, ◌⊎◌, refl, sym, ap, subst, ◌∙◌, arith, append_assoc, eqb-true}
 use Rattle.std.specs.List.{AllByRecursion, filter}
-use Rattle.std.proofs.lemmas.Bool.{cases_Bool, both_ways, cond-true, cond-false, or_cases, false_from_ne_true}
+use Rattle.std.proofs.lemmas.Bool.{cases_Bool, both_ways, cond-true, cond-false, or_cases, false_from_ne_true, or_from}
 use Rattle.std.proofs.lemmas.List.Folds.{list_any-append}
 use Rattle.clv_base.specs.declared.names.TxId.{TxId}
 use Rattle.clv_base.specs.declared.logs.LogRecord.{LogRecord}
@@ -27,12 +27,13 @@ use Rattle.law_base.proofs.Anchors.{Rising, rising_filter, record_kept, record_a
 use Rattle.law_base.proofs.LockRows.{holds, held_not_free}
 use Rattle.shard_laws.proofs.Asking.{holds_at, holds_by}
 use Rattle.law_base.proofs.Tables.{stage_in, is_pair}
-use Rattle.law_base.proofs.Commits.{CommitBefore, commit_durable, before_keeps, before_new, durable_keeps, durable_parts, durable_from, durable_committed, before_second, committed_append, uncommitted_append, place_some, place_less, place_keeps, place_new}
+use Rattle.law_base.proofs.Commits.{CommitBefore, commit_durable, before_keeps, before_new, durable_keeps, durable_parts, durable_from, durable_committed, before_second, committed_append, uncommitted_append, place_some, place_less, place_keeps, place_new, durable_further as further}
 use Rattle.shard_laws.proofs.Prepared.{IsListed, Lists, Prepared, by_prepare, prepare_here, unprepared_append, lists_more, sealed_append, prepared_more}
 use Rattle.shard_laws.proofs.AtKeys.{key_writes}
 use Rattle.shard_laws.proofs.Kept.{View, Past, Dep, Kept, Ended, Wrote, of_kept, is_alive}
 use Rattle.order_laws.specs.Order.{moves, Open_at, Tidy, is_clr_of, undone_in}
 use Rattle.std.proofs.Common.{append-nil}
+use Rattle.std.proofs.lemmas.Option.{none-some, same_Some}
 
 -- ---- a record more
 
@@ -56,13 +57,9 @@ undone_append log more t = list_any-append (is_clr_of t) log more
 pub wrote_append : (log more : List LogRecord) (t : TxId) → wrote_in (log ++ more) t ≡ (wrote_in log t || wrote_in more t)
 wrote_append log more t = list_any-append (is_update_of t) log more
 
-or_false : (a b : Bool) → a ≡ false → b ≡ false → (a || b) ≡ false
-or_false true b e f = e
-or_false false b e f = f
-
 pub ended_more : (g : Past) (v : View) (more : List LogRecord) (t : TxId) → (is_present (stage_in v.parts t) ≡ false → committed_in more t ≡ false) → wrote_in more t ≡ false → Ended g v t → Ended g (record v { log = v.log ++ more }) t
 ended_more g v more t c w e =
-    ⊎_elim (λ h. inl (durable_keeps v.log more v.durable v.durable t (omega arith) h)) (λ h. inr (uncommitted_append v.log more t h.0 (c h.2), wrote_append v.log more t ∙ or_false _ _ h.1 w, h.2, h.3)) e
+    ⊎_elim (λ h. inl (durable_keeps v.log more v.durable v.durable t (omega arith) h)) (λ h. inr (uncommitted_append v.log more t h.0 (c h.2), wrote_append v.log more t ∙ or_from _ _ h.1 w, h.2, h.3)) e
 
 -- what more records may be
 pub record More (v : View) (more : List LogRecord) : Type 0 where
@@ -109,9 +106,6 @@ keeps_records g v more k m prep = record {
   front = k.front;
 }
 
-or_none : (b : Bool) → b ≡ false → (b || false) ≡ false
-or_none b e = ap (λ c. c || false) e
-
 -- a record that is no UPDATE, CLR, COMMIT or PREPARE
 pub record Quiet (r : LogRecord) : Type 0 where
   pub no_commit : (t : TxId) → is_commit_of t r ≡ false
@@ -126,15 +120,15 @@ open_none before o e = subst (Open_at before) (sym e) tt
 pub keeps_quiet : (g : Past) (v : View) (r : LogRecord) → Kept g v → standing (v.log ++ r ∷ []) ≡ standing v.log → Quiet r → Kept g (record v { log = v.log ++ r ∷ [] })
 keeps_quiet g v r k e q = keeps_records g v (r ∷ []) k (record {
   same_standing = e;
-  not_active = λ t h. or_none _ (q.no_commit t);
-  not_gone = λ t h. or_none _ (q.no_commit t);
-  not_doomed = λ t d h. or_none _ (q.no_commit t);
-  not_dead = λ t h. or_none _ (q.no_commit t);
-  no_write = λ t. or_none _ (q.no_update t);
-  no_undo = λ t. or_none _ (q.no_clr t);
-  down = λ t p h c. absurd (both_ways _ (or_none _ (q.no_commit t)) c);
+  not_active = λ t h. or_from _ false (q.no_commit t) refl;
+  not_gone = λ t h. or_from _ false (q.no_commit t) refl;
+  not_doomed = λ t d h. or_from _ false (q.no_commit t) refl;
+  not_dead = λ t h. or_from _ false (q.no_commit t) refl;
+  no_write = λ t. or_from _ false (q.no_update t) refl;
+  no_undo = λ t. or_from _ false (q.no_clr t) refl;
+  down = λ t p h c. absurd (both_ways _ (or_from _ false (q.no_commit t) refl) c);
   tidies = (open_none v.log (moves r) q.no_move, tt);
-}) (prepared_more g.items g.met v.parts v.log (r ∷ []) k.prepared (λ t. or_none _ (q.no_update t)) (λ t. or_none _ (q.no_prepare t)))
+}) (prepared_more g.items g.met v.parts v.log (r ∷ []) k.prepared (λ t. or_from _ false (q.no_update t) refl) (λ t. or_from _ false (q.no_prepare t) refl))
 
 pub quiet_end : (tx : TxId) → Quiet (End tx)
 quiet_end tx = record { no_commit = λ t. refl; no_update = λ t. refl; no_clr = λ t. refl; no_move = refl; no_prepare = λ t. refl }
@@ -147,10 +141,10 @@ pub keeps_commit : (g : Past) (v : View) (t : TxId) (parts : List ℕ) → Kept 
     → Kept g (record v { log = v.log ++ Commit t parts ∷ [] })
 keeps_commit g v t parts k closed new before = keeps_records g v (Commit t parts ∷ []) k (record {
   same_standing = standing_append 0 v.log (Commit t parts ∷ []) [];
-  not_active = λ u h. or_none _ (stage_apart v t u Closed Active closed h (λ s. absurd cc));
-  not_gone = λ u h. or_none _ (tx_ne u t (λ s. both_ways _ h (ap is_present (ap (stage_in v.parts) s ∙ closed))));
-  not_doomed = λ u d h. or_none _ (stage_apart v t u Closed (Gone (Some d)) closed h (λ s. absurd cc));
-  not_dead = λ u h. or_none _ (tx_ne u t (λ s. (k.dead u h).2 (ap (stage_in v.parts) s ∙ closed)));
+  not_active = λ u h. or_from _ false (stage_apart v t u Closed Active closed h (λ s. absurd cc)) refl;
+  not_gone = λ u h. or_from _ false (tx_ne u t (λ s. both_ways _ h (ap is_present (ap (stage_in v.parts) s ∙ closed)))) refl;
+  not_doomed = λ u d h. or_from _ false (stage_apart v t u Closed (Gone (Some d)) closed h (λ s. absurd cc)) refl;
+  not_dead = λ u h. or_from _ false (tx_ne u t (λ s. (k.dead u h).2 (ap (stage_in v.parts) s ∙ closed))) refl;
   no_write = λ u. refl;
   no_undo = λ u. refl;
   down = λ u p h c. ⊎_elim
@@ -200,7 +194,7 @@ module _ (g : Past) (v : View) (t : TxId) (home : ℕ) (ps : List TxId) (k : Kep
 
   prepared_prepare : Prepared g.items g.met v.parts (v.log ++ Prepare t home ps ∷ [])
   prepared_prepare = record {
-    unprepared = λ u a. unprepared_append v.log (Prepare t home ps ∷ []) u (k.prepared.unprepared u a) (or_none _ (stage_apart v t u Closed Active closed a (λ s. absurd cc)));
+    unprepared = λ u a. unprepared_append v.log (Prepare t home ps ∷ []) u (k.prepared.unprepared u a) (or_from _ false (stage_apart v t u Closed Active closed a (λ s. absurd cc)) refl);
     sealed = sealed_append [] v.log (Prepare t home ps ∷ []) k.prepared.sealed (first, tt);
     causes = later_mono _ _ (λ x y h r. ⊎_elim (λ s. inl s) (λ dep. ⊎_elim (λ s. inl s) (λ old. inr (lists_now y.tx x.tx (λ e. subst (λ z. Dep v z x.tx) e dep) old)) (h.1 r)) (h.0 r)) g.items (later_both _ _ g.items k.causes k.prepared.causes);
     recover = λ u p e. lists_now u p (λ same. met_deps p (subst (λ z. is_pair g.met z p ≡ true) same e)) (k.prepared.recover u p e);
@@ -216,12 +210,6 @@ dep_front v n t p le d = ⊎_elim (λ h. inl (further v.log v.durable n p le h))
   where
     further : (log : List LogRecord) (d e : ℕ) (tx : TxId) → d ≤ e → commit_durable log d tx ≡ true → commit_durable log e tx ≡ true
     further log d e tx le h = let m = durable_parts log d tx h in let l = m.2 in durable_from log e tx m.0 m.1 (omega arith)
-
-further : (log : List LogRecord) (d e : ℕ) (tx : TxId) → d ≤ e → commit_durable log d tx ≡ true → commit_durable log e tx ≡ true
-further log d e tx le h = let m = durable_parts log d tx h in let l = m.2 in durable_from log e tx m.0 m.1 (omega arith)
-
-none_some : (n : ℕ) → ◌≡◌ {A = Option ℕ} None (Some n) → ⊥
-none_some n e = absurd cc
 
 pub keeps_front : (g : Past) (v : View) (n : ℕ) → Kept g v → v.durable ≤ n → Kept g (record v { durable = n; flight = None })
 keeps_front g v n k le = record {
@@ -252,11 +240,8 @@ keeps_front g v n k le = record {
   order = k.order;
   causes = later_mono _ _ (λ x y h r. ⊎_elim (λ s. inl s) (λ d. inr (dep_front v n y.tx x.tx le d)) (h r)) g.items k.causes;
   recover = λ t p e. ⊎_elim (λ o. inl o) (λ d. inr (dep_front v n t p le d.0, d.1)) (k.recover t p e);
-  front = λ m e. absurd (none_some m e);
+  front = λ m e. absurd (none-some m e);
 }
-
-some_same : (a b : ℕ) → Some a ≡ Some b → a ≡ b
-some_same a b e = cc
 
 pub keeps_flight : (g : Past) (v : View) (n : ℕ) → Kept g v → v.durable ≤ n → Kept g (record v { flight = Some n })
 keeps_flight g v n k le = record {
@@ -287,7 +272,7 @@ keeps_flight g v n k le = record {
   order = k.order;
   causes = k.causes;
   recover = k.recover;
-  front = λ m e. subst (λ x. v.durable ≤ x) (some_same n m e) le;
+  front = λ m e. subst (λ x. v.durable ≤ x) (same_Some n m e) le;
 }
 
 -- ---- a purge

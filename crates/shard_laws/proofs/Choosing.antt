@@ -1,25 +1,25 @@
 -- Transactions that are chosen by other shards' COMMITs replay.
-use Rattle.std.proofs.Common.{◌≡◌, ℕ, ◌+◌, ◌≤◌, ◌<◌, ◌⊎◌, inl, inr, ⊎_elim, Bool, true, false, cond, ◌&&◌, List, [], ◌∷◌, ◌++◌, map, length, refl, sym, ap, subst, ◌∙◌, not, Some}
+use Rattle.std.proofs.Common.{◌≡◌, ℕ, ◌+◌, ◌≤◌, ◌<◌, ◌⊎◌, inl, inr, ⊎_elim, Bool, true, false, ◌&&◌, List, [], ◌∷◌, ◌++◌, map, length, refl, sym, ap, subst, ◌∙◌, not, Some}
 use Rattle.std.specs.Prelude.{take, drop}
 use Rattle.std.specs.List.{AllByRecursion, filter}
 use Rattle.std.proofs.lemmas.Bool.{both_ways, or_cases, and_parts, and_from, false_from_ne_true}
 use Rattle.std.proofs.lemmas.List.{take-append-drop}
 use Rattle.clv_base.specs.declared.names.TxId.{TxId}
 use Rattle.clv_base.specs.declared.logs.LogRecord.{LogRecord}
-use Rattle.clv_base.specs.declared.logs.LogRecord.TheVariants.{Update, Clr, Prepare, Commit, Abort, End, Restart}
 use Rattle.clv_base.specs.Orders.{tx_same, tx_in}
-use Rattle.clv_base.specs.Maps.{KeyMap, map_get, map_set, replay_map, replay_answers}
+use Rattle.clv_base.specs.Maps.{map_get, replay_map, replay_answers}
 use Rattle.clv_base.specs.Logs.{standing, committed_in, wrote_in, is_commit_of, in_doubt, is_winner, fold_updates, stands}
 use Rattle.clv_base.specs.LogRules.{listed_in}
 use Rattle.clv_base.specs.State.{Shard}
 use Rattle.clv_base.proofs.Folding.{same_map}
-use Rattle.clv_base.proofs.SameNames.{or_left, or_right, tx_true, tx_self}
+use Rattle.clv_base.proofs.SameNames.{or_left, or_right, tx_true}
 use Rattle.law_base.specs.Items.{Item, Runs, after, AllLater, Reaches, Clash, pile}
 use Rattle.law_base.proofs.Lists.{all_mono, all_filter, later_mono, later_filter}
-use Rattle.law_base.proofs.Running.{top_value, Keeps, kept_runs, rising_all, pile_value}
+use Rattle.law_base.proofs.Running.{top_value, Keeps, kept_runs, rising_all, pile_value, fold_writers}
 use Rattle.law_base.proofs.Undoing.{standing_append}
 use Rattle.law_base.proofs.Tables.{is_pair}
 use Rattle.law_base.proofs.Commits.{place_there, durable_committed, before_second}
+use Rattle.law_base.proofs.Sets.{list_all_at}
 use Rattle.order_laws.specs.Order.{Tidy, Sealed, undone_in}
 use Rattle.shard_laws.specs.OneShard.{items_of, ops_by, answers_by, MayChoose, Passes, ChosenReplay, ChosenStandBefore}
 use Rattle.shard_laws.proofs.AtKeys.{keys_top, keys_filter}
@@ -27,7 +27,6 @@ use Rattle.shard_laws.proofs.Kept.{Past, view_of, place, Dep, Known, is_alive}
 use Rattle.shard_laws.proofs.Prepared.{Lists, sealed_later, listed_keeps}
 use Rattle.shard_laws.proofs.Changes.{undone_append, wrote_append, later_both}
 use Rattle.shard_laws.proofs.Sound.{Sound, Lost, filter_both, filter_same}
-use Rattle.shard_laws.proofs.Dooming.{list_all_at}
 use Rattle.shard_laws.proofs.Cutting.{cut_keeps, durable_cut, of_kept, tidy_later, fold_values, fold_rises}
 use Rattle.shard_laws.proofs.Serial.{filter_place, in_kept, Once, once_filter, serial_of}
 use Rattle.shard_laws.proofs.Members.{dep_cut, item_asked, cut_base, pile_keep, filter_all_kept, filter_alike, filter_within}
@@ -39,18 +38,6 @@ use Rattle.shard_laws.proofs.Reviving.{doubt_of, doubt_closed, tidy_closed, seal
 use Rattle.shard_laws.proofs.Histories.{held}
 use Rattle.clv_base.specs.Undo.{stage_of}
 use Rattle.clv_base.specs.declared.state.Stage.TheVariants.{Closed}
-
--- of the records of a log the writers alone count
-fold_writers : (f k : TxId → Bool) (log : List LogRecord) (m : KeyMap) → ((t : TxId) → wrote_in log t ≡ true → f t ≡ k t) → fold_updates f log m ≡ fold_updates k log m
-fold_writers f k [] m e = refl
-fold_writers f k (Update tx key b a ∷ rs) m e =
-    ap (λ c. fold_updates f rs (cond c (map_set key a m) m)) (e tx (or_left _ _ (tx_self tx))) ∙ fold_writers f k rs (cond (k tx) (map_set key a m) m) (λ t w. e t (or_right (tx_same t tx) _ w))
-fold_writers f k (Clr tx u key a ∷ rs) m e = fold_writers f k rs m e
-fold_writers f k (Prepare tx home ps ∷ rs) m e = fold_writers f k rs m e
-fold_writers f k (Commit tx ps ∷ rs) m e = fold_writers f k rs m e
-fold_writers f k (Abort tx ∷ rs) m e = fold_writers f k rs m e
-fold_writers f k (End tx ∷ rs) m e = fold_writers f k rs m e
-fold_writers f k (Restart run epoch ∷ rs) m e = fold_writers f k rs m e
 
 and_true : (a b : Bool) → b ≡ true → a ≡ (a && b)
 and_true true b e = sym e

@@ -16,15 +16,17 @@ use Rattle.clv_base.specs.State.{is_present}
 use Rattle.clv_base.specs.OneShard.{closed_part, closed_in}
 use Rattle.clv_base.specs.Needs.{lower_anchor}
 use Rattle.law_base.proofs.Cells.{record_at}
-use Rattle.clv_base.proofs.SameNames.{or_left, tx_true, tx_self, tx_ne, tx_flip}
+use Rattle.clv_base.proofs.SameNames.{or_left, tx_true, tx_ne, tx_flip}
 use Rattle.law_base.proofs.Lists.{all_mono, later_mono}
 use Rattle.law_base.proofs.LockRows.{rows_close, close_holds}
 use Rattle.shard_laws.proofs.Asking.{holds_at, holds_by}
-use Rattle.law_base.proofs.Tables.{stage_in, stage_by, get_changed}
+use Rattle.law_base.proofs.Tables.{stage_in, stage_by}
 use Rattle.shard_laws.proofs.Prepared.{prepared_parts}
 use Rattle.shard_laws.proofs.Kept.{View, Past, place, StageFits, Belongs, Known, Kept}
 use Rattle.clv_base.specs.Locks.{close_locks}
-use Rattle.law_base.proofs.Stages.{get_closed, get_closed_other, get_closed_own, stage_closed, closed_other as stage_other}
+use Rattle.law_base.proofs.Stages.{get_closed, get_closed_other, get_closed_own, stage_closed, closed_other as stage_other, closed_not_active}
+use Rattle.law_base.proofs.Bools.{or_false_left, or_false_right}
+use Rattle.law_base.proofs.Sets.{flip_apart}
 
 -- ---- places
 
@@ -58,21 +60,10 @@ place_in (a ∷ rest) t e =
     at true h = omega arith
     at false h = omega arith
 
-or_l : (a b : Bool) → (a || b) ≡ false → a ≡ false
-or_l true b e = e
-or_l false b e = refl
-
-or_r : (a b : Bool) → (a || b) ≡ false → b ≡ false
-or_r true b e = absurd (both_ways true e refl)
-or_r false b e = e
-
-flip_false : (a b : TxId) → tx_same a b ≡ false → tx_same b a ≡ false
-flip_false a b e = false_from_ne_true _ (λ h. both_ways _ e (tx_flip b a h))
-
 pub place_out : (as_ : List TxId) (t : TxId) → tx_in t as_ ≡ false → place as_ t ≡ length as_
 place_out [] t e = refl
 place_out (a ∷ rest) t e =
-    cond-false (tx_same t a) zero (suc (place rest t)) (flip_false a t (or_l _ _ e)) ∙ ap suc (place_out rest t (or_r (tx_same a t) _ e)) ∙ one
+    cond-false (tx_same t a) zero (suc (place rest t)) (flip_apart a t (or_false_left _ _ e)) ∙ ap suc (place_out rest t (or_false_right (tx_same a t) _ e)) ∙ one
   where
     one : suc (length rest) ≡ length (a ∷ rest)
     one = omega arith
@@ -95,17 +86,11 @@ fits_closed c s f e = subst (λ x. StageFits c x → c ≡ false) (sym e) (at c)
     at true f = absurd f
     at false f = refl
 
-pub closed_not_active : ◌≡◌ {A = Option Stage} (Some Closed) (Some Active) → ⊥
-closed_not_active e = absurd cc
-
 closed_not_gone : ◌≡◌ {A = Option Stage} (Some Closed) (Some (Gone None)) → ⊥
 closed_not_gone e = absurd cc
 
 closed_not_doomed : (d : TxId) → ◌≡◌ {A = Option Stage} (Some Closed) (Some (Gone (Some d))) → ⊥
 closed_not_doomed d e = absurd cc
-
-active_not_closed : ◌≡◌ {A = Option Stage} (Some Active) (Some Closed) → ⊥
-active_not_closed e = absurd cc
 
 active_not_gone : ◌≡◌ {A = Option Stage} (Some Active) (Some (Gone None)) → ⊥
 active_not_gone e = absurd cc
@@ -117,13 +102,6 @@ present_closed parts t u e = subst (λ o. is_present (stage_by o) ≡ true) (sym
     at None b e = e
     at (Some h) true e = refl
     at (Some h) false e = e
-
-or_none : (b : Bool) → b ≡ false → (b || false) ≡ false
-or_none b e = ap (λ c. c || false) e
-
-both_none : (a b : Bool) → a ≡ false → b ≡ false → (a || b) ≡ false
-both_none true b e f = e
-both_none false b e f = f
 
 -- a transaction more has asked, here or elsewhere
 pub keeps_asked : (g : Past) (v : View) (t : TxId) → Kept g v → Kept (record g { asked = g.asked ++ t ∷ [] }) v

@@ -13,6 +13,7 @@ use Rattle.clv_base.proofs.SameNames.{or_left, or_right, tx_true, tx_self, tx_ne
 use Rattle.law_base.specs.Undone.{stays_of}
 use Rattle.law_base.proofs.Lists.{all_mono, all_push}
 use Rattle.law_base.proofs.Undoing.{Upward, standing_append}
+use Rattle.law_base.proofs.Options.{option_self}
 use Rattle.order_laws.proofs.Records.{push_left, push_right, push_false}
 use Rattle.shard_laws.proofs.Serial.{Once}
 use Rattle.shard_laws.proofs.Following.{Follows, follows_append, last_push}
@@ -57,10 +58,6 @@ last_aborted log (u ∷ us) = ap last_restart (sym (append_assoc log (Abort u �
 
 -- ---- CLRs
 
-same_self : (o : Option ℕ) → same_option o o ≡ true
-same_self None = refl
-same_self (Some n) = eq-eqb n n refl
-
 newest_skip : (t : TxId) (pre ws : List StandingUpdate) → AllByRecursion (λ v. tx_same t v.tx ≡ false) pre → newest_of t (pre ++ ws) ≡ newest_of t ws
 newest_skip t [] ws none = refl
 newest_skip t (v ∷ vs) ws none = cond-false (tx_same t v.tx) (Some v) (newest_of t (vs ++ ws)) none.0 ∙ newest_skip t vs ws none.1
@@ -99,8 +96,8 @@ upward_drop set (v ∷ vs) w ws up = ((λ out. all_drop _ vs w ws (up.0 out)), u
 clr_case : (log : List LogRecord) (w : StandingUpdate) (next : Option ℕ) (o : Option StandingUpdate) → o ≡ Some w → newest_at w.key (standing log) ≡ Some w → next ≡ newest_lsn w.tx (without_newest w.tx (standing log))
     → compensates log w.tx next w.key w.before o ≡ true
 clr_case log w next o e at below = subst (λ z. compensates log w.tx next w.key w.before z ≡ true) (sym e)
-    (and_from _ _ (and_from _ _ (and_from _ _ (eq-eqb w.key w.key refl) (same_self w.before)) (subst (λ z. elim z [ Some v ↦ v.lsn == w.lsn | None ↦ false ] ≡ true) (sym at) (eq-eqb w.lsn w.lsn refl)))
-    (subst (λ z. same_option z (newest_lsn w.tx (without_newest w.tx (standing log))) ≡ true) (sym below) (same_self (newest_lsn w.tx (without_newest w.tx (standing log))))))
+    (and_from _ _ (and_from _ _ (and_from _ _ (eq-eqb w.key w.key refl) (option_self w.before)) (subst (λ z. elim z [ Some v ↦ v.lsn == w.lsn | None ↦ false ] ≡ true) (sym at) (eq-eqb w.lsn w.lsn refl)))
+    (subst (λ z. same_option z (newest_lsn w.tx (without_newest w.tx (standing log))) ≡ true) (sym below) (option_self (newest_lsn w.tx (without_newest w.tx (standing log))))))
 
 clr_may : (shard : ℕ) (set : List TxId) (log : List LogRecord) (pre : List StandingUpdate) (w : StandingUpdate) (ws : List StandingUpdate) → is_some (last_restart log) ≡ true → standing log ≡ pre ++ w ∷ ws → AllByRecursion (λ v. stays_of set v ≡ true) pre
     → Upward set (pre ++ w ∷ ws) → tx_in w.tx set ≡ true → aborted_in log w.tx ≡ true → may_follow shard log (Clr w.tx (newest_lsn w.tx ws) w.key w.before) ≡ true

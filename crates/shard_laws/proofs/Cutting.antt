@@ -170,10 +170,6 @@ whole_from c log dead = at (take c log) (λ t e. false_from_ne_true _ (λ h. bot
     at [] h = tt
     at (r ∷ rs) h = (λ t e. h t (or_left _ _ e), at rs (λ t e. h t (or_right (is_clr_of t r) _ e)))
 
-or_nothing : (b : Bool) → (b || false) ≡ b
-or_nothing true = refl
-or_nothing false = refl
-
 -- the map that the cut stands for, key by key
 pub cut_values : (g : Past) (v : View) (c k : ℕ) → Kept g v → map_get k (fold_updates (committed_in (take c v.log)) (take c v.log) []) ≡ top_value k (filter (of_kept (committed_in (take c v.log))) (standing v.log))
 cut_values g v c k h =

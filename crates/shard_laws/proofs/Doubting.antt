@@ -15,7 +15,7 @@ use Rattle.law_base.proofs.Commits.{place_some, place_keeps, place_there}
 use Rattle.order_laws.specs.Order.{Sealed}
 use Rattle.shard_laws.proofs.Cutting.{taken_there, taken_place}
 use Rattle.law_base.proofs.Doubts.{stays_in}
-use Rattle.shard_laws.proofs.Dooming.{list_all_at}
+use Rattle.law_base.proofs.Sets.{list_all_at}
 use Rattle.shard_laws.proofs.Prepared.{IsListed, by_prepare, prepare_here, listed_keeps, prepared_append}
 
 -- ---- in doubt

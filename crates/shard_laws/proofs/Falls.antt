@@ -24,6 +24,7 @@ use Rattle.law_base.proofs.Stages.{stage_other, stage_own, gone_by, own_go}
 use Rattle.shard_laws.proofs.Ordered.{listed_same, unlisted}
 use Rattle.clv_base.specs.OneShard.{add_pairs}
 use Rattle.law_base.proofs.Tables.{add_keeps, add_has}
+use Rattle.law_base.proofs.Sets.{none_listed}
 use Rattle.shard_laws.proofs.Performing.{add_which}
 
 -- it fell before this step, or its part is gone by an abort now
@@ -69,9 +70,6 @@ aborts_more durable log more t (inr a) = inr (take_more (is_abort_of t) durable 
 aborts_further : {P : Type 0} (durable n : ℕ) (log : List LogRecord) (t : TxId) → durable ≤ n → P ⊎ (aborted_in (take durable log) t ≡ true) → P ⊎ (aborted_in (take n log) t ≡ true)
 aborts_further durable n log t l (inl p) = inl p
 aborts_further durable n log t l (inr a) = inr (take_further (is_abort_of t) durable n log l a)
-
-pub none_lists : (p : TxId) (l : List TxId) → l ≡ [] → tx_in p l ≡ true → ⊥
-none_lists p l e i = both_ways false refl (subst (λ z. tx_in p z ≡ true) e i)
 
 -- records of which none is a PREPARE, and whose COMMITs are of those that are here and not lost
 module _ (asked fell lost over : List TxId) (parts : Table Held) (pairs : List (TxId × TxId)) (log more : List LogRecord) (durable : ℕ) (f : Falls asked fell lost over parts pairs log durable) where
@@ -242,7 +240,7 @@ module _ (asked fell lost over : List TxId) (parts : Table Held) (pairs : List (
     (listed : (t p : TxId) → is_present (stage_in parts t) ≡ true → tx_in p (listed_in log t) ≡ true → (committed_in log p ≡ true) ⊎ (is_pair pairs t p ≡ true)) (lists_committed : (t p : TxId) → committed_in log t ≡ true → tx_in p (listed_in log t) ≡ true → committed_in log p ≡ true)
     (no_prepare : (t : TxId) → prepared_in more t ≡ false) (no_commit : (t : TxId) → committed_in more t ≡ false) where
   is_prepared : (t p : TxId) → tx_in p (listed_in log t) ≡ true → prepared_in log t ≡ true
-  is_prepared t p i = ⊎_elim (λ e. e) (λ e. absurd (none_lists p _ (unlisted log t e) i)) (cases_Bool (prepared_in log t))
+  is_prepared t p i = ⊎_elim (λ e. e) (λ e. absurd (none_listed p _ (unlisted log t e) i)) (cases_Bool (prepared_in log t))
 
   gone_doomed : (o : Option Stage) → is_present o ≡ true → is_doomed (gone_by (Some d) o) ≡ true
   gone_doomed None e = absurd (both_ways false refl e)

@@ -1,14 +1,17 @@
 -- A log that keeps the order rules, record by record, and what RESTARTs of it say.
 use Rattle.std.proofs.Common.{◌≡◌, refl, sym, ap, subst, ◌∙◌, ℕ, suc, ◌≤◌, ◌<◌, Bool, true, false, ◌&&◌, ◌||◌, List, [], ◌∷◌, ◌++◌, Option, Some, None, nat_lt, ◌==◌, cond, max, arith, append-nil, append_assoc, eq-eqb}
 use Rattle.std.specs.Prelude.{⊤, take, drop}
-use Rattle.std.proofs.lemmas.Bool.{both_ways, and_from, lt-ltb, ltb-false}
+use Rattle.std.proofs.lemmas.Bool.{both_ways, and_from, lt-ltb, ltb-false, or_right, or_left}
 use Rattle.std.proofs.lemmas.List.{take-append-drop}
+use Rattle.std.proofs.Math.Bool.{or-false}
 use Rattle.clv_base.specs.declared.names.TxId.{TxId}
 use Rattle.clv_base.specs.declared.logs.LogRecord.{LogRecord}
 use Rattle.clv_base.specs.declared.logs.LogRecord.TheVariants.{Update, Clr, Prepare, Commit, Abort, End, Restart}
 use Rattle.clv_base.specs.Logs.{wrote_in}
 use Rattle.clv_base.specs.LogRules.{may_follow, disorder_from, last_restart, since_restart, before_restart, above_restarts}
 use Rattle.clv_base.specs.Restarts.{greatest_run, greatest_epoch}
+use Rattle.law_base.proofs.Bools.{or_false_left}
+use Rattle.law_base.proofs.Restarts.{epoch_own}
 use Rattle.shard_laws.proofs.Changes.{wrote_append}
 
 -- each record may follow those before it
@@ -101,10 +104,6 @@ or_three : (a b c : Bool) → ((a || b) || c) ≡ (a || (b || c))
 or_three true b c = refl
 or_three false b c = refl
 
-or_out : (a : Bool) → (a || false) ≡ a
-or_out true = refl
-or_out false = refl
-
 one_more : (t : TxId) (sf rs : List LogRecord) (r : LogRecord) → (wrote_in sf t || wrote_in (r ∷ rs) t) ≡ (wrote_in (sf ++ r ∷ []) t || wrote_in rs t)
 one_more t sf rs r = sym (ap (λ b. b || wrote_in rs t) (wrote_append sf (r ∷ []) t) ∙ or_three (wrote_in sf t) (wrote_in (r ∷ []) t) (wrote_in rs t) ∙ ap (λ b. wrote_in sf t || b) (sym (wrote_append (r ∷ []) rs t)))
 
@@ -120,7 +119,7 @@ same_before t xs ys (Abort tx ∷ zs) e = same_before t (xs ++ Abort tx ∷ []) 
 same_before t xs ys (End tx ∷ zs) e = same_before t (xs ++ End tx ∷ []) (ys ++ End tx ∷ []) zs (wrote_append xs (End tx ∷ []) t ∙ ap (λ z. z || false) e ∙ sym (wrote_append ys (End tx ∷ []) t))
 
 pub wrote_split : (t : TxId) (sf rs : List LogRecord) → (wrote_in sf t || wrote_in rs t) ≡ (wrote_in (before_restart sf rs) t || wrote_in (since_restart sf rs) t)
-wrote_split t sf [] = or_out (wrote_in sf t)
+wrote_split t sf [] = or-false (wrote_in sf t)
 wrote_split t sf (Restart run epoch ∷ rs) = ap (λ b. wrote_in sf t || b) (wrote_split t [] rs ∙ ap (λ b. b || wrote_in (since_restart [] rs) t) (same_before t [] (Restart run epoch ∷ []) rs refl)) ∙ sym (ap (λ b. b || wrote_in (since_restart [] rs) t) (wrote_append sf (before_restart (Restart run epoch ∷ []) rs) t) ∙ or_three (wrote_in sf t) _ _)
 wrote_split t sf (Update tx k b a ∷ rs) = one_more t sf rs (Update tx k b a) ∙ wrote_split t (sf ++ Update tx k b a ∷ []) rs
 wrote_split t sf (Clr tx u k a ∷ rs) = one_more t sf rs (Clr tx u k a) ∙ wrote_split t (sf ++ Clr tx u k a ∷ []) rs
@@ -135,10 +134,6 @@ or_first false b e f = e
 
 pub wrote_since : (log : List LogRecord) (t : TxId) → wrote_in log t ≡ true → wrote_in (before_restart [] log) t ≡ false → wrote_in (since_restart [] log) t ≡ true
 wrote_since log t w e = or_first _ _ (sym (wrote_split t [] log) ∙ w) e
-
-or_false_left : (a b : Bool) → (a || b) ≡ false → a ≡ false
-or_false_left true b e = e
-or_false_left false b e = refl
 
 pub unwritten_before : (log : List LogRecord) (t : TxId) → wrote_in log t ≡ false → wrote_in (before_restart [] log) t ≡ false
 unwritten_before log t e = or_false_left _ _ (sym (wrote_split t [] log) ∙ e)
@@ -188,33 +183,15 @@ greatest_both (Abort tx ∷ rs) ys n l m = greatest_both rs ys n l m
 greatest_both (End tx ∷ rs) ys n l m = greatest_both rs ys n l m
 
 -- a later run is above, and so is a later epoch of the same run
-or_l : (a b : Bool) → a ≡ true → (a || b) ≡ true
-or_l true b e = refl
-or_l false b e = absurd (both_ways false refl e)
-
 pub above_later : (run epoch : ℕ) (log : List LogRecord) → greatest_run log < run → above_restarts run epoch log ≡ true
 above_later run epoch [] l = refl
-above_later run epoch (Restart r e ∷ rs) l = and_from _ _ (or_l _ _ (lt-ltb r run (omega (arith, l)))) (above_later run epoch rs (omega (arith, l)))
+above_later run epoch (Restart r e ∷ rs) l = and_from _ _ (or_left _ _ (lt-ltb r run (omega (arith, l)))) (above_later run epoch rs (omega (arith, l)))
 above_later run epoch (Update tx k b a ∷ rs) l = above_later run epoch rs l
 above_later run epoch (Clr tx u k a ∷ rs) l = above_later run epoch rs l
 above_later run epoch (Prepare tx home ps ∷ rs) l = above_later run epoch rs l
 above_later run epoch (Commit tx parts ∷ rs) l = above_later run epoch rs l
 above_later run epoch (Abort tx ∷ rs) l = above_later run epoch rs l
 above_later run epoch (End tx ∷ rs) l = above_later run epoch rs l
-
-epoch_own : (run own : ℕ) (log : List LogRecord) → own ≤ greatest_epoch run own log
-epoch_own run own [] = omega arith
-epoch_own run own (Restart r e ∷ rs) = at (r == run) (epoch_own run (cond (r == run) (max own e) own) rs)
-  where
-    at : (b : Bool) → cond b (max own e) own ≤ greatest_epoch run (cond (r == run) (max own e) own) rs → own ≤ greatest_epoch run (cond (r == run) (max own e) own) rs
-    at true l = omega (arith, l)
-    at false l = l
-epoch_own run own (Update tx k b a ∷ rs) = epoch_own run own rs
-epoch_own run own (Clr tx u k a ∷ rs) = epoch_own run own rs
-epoch_own run own (Prepare tx home ps ∷ rs) = epoch_own run own rs
-epoch_own run own (Commit tx parts ∷ rs) = epoch_own run own rs
-epoch_own run own (Abort tx ∷ rs) = epoch_own run own rs
-epoch_own run own (End tx ∷ rs) = epoch_own run own rs
 
 pub above_next : (run own epoch : ℕ) (log : List LogRecord) → greatest_run log ≤ run → greatest_epoch run own log < epoch → above_restarts run epoch log ≡ true
 above_next run own epoch [] l m = refl
@@ -259,9 +236,5 @@ through P shard before (r ∷ rs) g f p step =
     subst P (append_assoc before (r ∷ []) rs) (through P shard (before ++ r ∷ []) rs (follows_append shard [] before (r ∷ []) g (f.0, tt)) f.1 (step before r g p f.0) step)
 
 -- who wrote since the last RESTART wrote
-or_second : (a b : Bool) → b ≡ true → (a || b) ≡ true
-or_second true b e = refl
-or_second false b e = e
-
 pub since_wrote : (log : List LogRecord) (t : TxId) → wrote_in (since_restart [] log) t ≡ true → wrote_in log t ≡ true
-since_wrote log t e = wrote_split t [] log ∙ or_second _ _ e
+since_wrote log t e = wrote_split t [] log ∙ or_right _ _ e

@@ -8,6 +8,7 @@ use Rattle.law_base.specs.Undone.{stays_of}
 use Rattle.clv_base.specs.Maps.{op_answer}
 use Rattle.shard_laws.proofs.Leaving.{one_in, none_two, item_wrote, top_alive, filter_less}
 use Rattle.std.proofs.lemmas.List.Folds.{list_any-append}
+use Rattle.std.proofs.lemmas.Option.{none-some, same_Some}
 use Rattle.clv_base.specs.declared.names.TxId.{TxId}
 use Rattle.clv_base.specs.declared.names.Birth.{Birth}
 use Rattle.clv_base.specs.declared.logs.LogRecord.{LogRecord}
@@ -102,13 +103,10 @@ writing (Scan lo hi) rs = nothing
 some_key : (j k : ℕ) → Some j ≡ Some k → k ≡ j
 some_key j k e = cc
 
-none_key : (k : ℕ) → ◌≡◌ {A = Option ℕ} None (Some k) → ⊥
-none_key k e = absurd cc
-
 -- an insert is a write
 pub insert_writes : (rs : Records) (w : Change) (ins : Option ℕ) (q : ℕ) → Writing rs w ins → ins ≡ Some q → is_write_at w q ≡ true
-insert_writes rs _ _ q nothing e = absurd (none_key q e)
-insert_writes rs _ _ q (there k b a x h) e = absurd (none_key q e)
+insert_writes rs _ _ q nothing e = absurd (none-some q e)
+insert_writes rs _ _ q (there k b a x h) e = absurd (none-some q e)
 insert_writes rs _ _ q (fresh k b a h) e = eq-eqb q k (some_key k q e)
 
 set_some : (q k : ℕ) (a : Option ℕ) (rs : Records) → (q == k) ≡ true → record_at q (record_set k a rs) ≡ Some a
@@ -228,12 +226,9 @@ own_part tx birth parts may =
 fits_active : (s : Stage) → s ≡ Active → StageFits false s
 fits_active s e = subst (StageFits false) (sym e) tt
 
-some_stage : (a b : Stage) → Some a ≡ Some b → a ≡ b
-some_stage a b e = cc
-
 -- a closed lock is not of an active part
 pub not_active : (parts : Table Held) (u : TxId) (b : Birth) → Belongs parts u b true → stage_in parts u ≡ Some Active → ⊥
-not_active parts u b (h, e, f, fit) a = at h.stage fit (some_stage h.stage Active (sym (ap stage_by e) ∙ a))
+not_active parts u b (h, e, f, fit) a = at h.stage fit (same_Some h.stage Active (sym (ap stage_by e) ∙ a))
   where
     at : (s : Stage) → StageFits true s → s ≡ Active → ⊥
     at s fit e = subst (StageFits true) e fit

@@ -1,5 +1,5 @@
 -- Each event of a shard keeps what it keeps.
-use Rattle.std.proofs.Common.{◌≡◌, ℕ, zero, suc, ◌+◌, ◌≤◌, ◌⊎◌, inl, inr, ⊎_elim, Bool, true, false, cond, not, ◌&&◌, ◌||◌, List, [], ◌∷◌, ◌++◌, map, length, Option, Some, None, ◌==◌, refl, sym, ap, subst, ◌∙◌, arith}
+use Rattle.std.proofs.Common.{◌≡◌, ℕ, zero, suc, ◌+◌, ◌⊎◌, inl, inr, ⊎_elim, Bool, true, false, cond, not, ◌&&◌, ◌||◌, List, [], ◌∷◌, ◌++◌, map, length, Option, Some, None, ◌==◌, refl, sym, ap, subst, ◌∙◌, arith}
 use Rattle.std.specs.List.{AllByRecursion, filter}
 use Rattle.std.proofs.lemmas.Bool.{cases_Bool, both_ways, cond-true, cond-false, or_cases, not-true, false_from_ne_true}
 use Rattle.std.proofs.lemmas.List.Folds.{list_any-append}
@@ -19,7 +19,6 @@ use Rattle.clv_base.specs.declared.state.Stage.TheVariants.{Active, Closed, Gone
 use Rattle.clv_base.specs.declared.state.Held.{Held}
 use Rattle.clv_base.specs.Orders.{Table, tx_same, tx_in, tx_get}
 use Rattle.clv_base.specs.Logs.{committed_in, wrote_in, prepared_in, aborted_in, prepare_of, is_update_of}
-use Rattle.shard_laws.proofs.Dooming.{filter_in, in_filter}
 use Rattle.clv_base.specs.Locks.{close_locks}
 use Rattle.clv_base.specs.declared.modes.Decision.{Decision}
 use Rattle.clv_base.specs.declared.modes.Decision.TheVariants.{Grant, Wait, Die}
@@ -36,7 +35,7 @@ use Rattle.shard_laws.specs.OneShard.{predecessors_committed}
 use Rattle.law_base.specs.Items.{Item}
 use Rattle.clv_base.proofs.SameNames.{or_left, or_right, tx_true, tx_self, tx_eq, tx_ne}
 use Rattle.law_base.proofs.Tables.{stage_in, stage_by, is_pair, pair_in, in_pair}
-use Rattle.law_base.proofs.Commits.{durable_committed, uncommitted_append}
+use Rattle.law_base.proofs.Commits.{durable_committed, uncommitted_append, durable_further, closing_commits}
 use Rattle.shard_laws.proofs.Kept.{View, Past, Known, Kept}
 use Rattle.order_laws.specs.Order.{undone_in}
 use Rattle.clv_base.specs.declared.ops.Op.{Op}
@@ -66,8 +65,9 @@ use Rattle.clv_base.proofs.SameNames.{cases_tx}
 use Rattle.law_base.proofs.Tables.{get_put}
 use Rattle.shard_laws.proofs.Changes.{keeps_prepare, keeps_commit, keeps_front, keeps_flight}
 use Rattle.shard_laws.proofs.Closing.{keeps_close, keeps_asked, in_push}
-use Rattle.law_base.proofs.Stages.{stage_closed, closed_other as stage_left}
+use Rattle.law_base.proofs.Stages.{stage_closed, closed_other as stage_left, active_not_closed}
 use Rattle.std.proofs.Common.{append-nil}
+use Rattle.std.proofs.lemmas.Option.{none-some, same_Some}
 use Rattle.shard_laws.proofs.Granting.{keeps_performed, keeps_lost_op, MayStand, own_part, log_by}
 use Rattle.law_base.proofs.Stages.{other_part}
 use Rattle.shard_laws.specs.OneShard.{is_doomed}
@@ -77,13 +77,13 @@ use Rattle.shard_laws.proofs.Prepared.{by_prepare}
 use Rattle.shard_laws.proofs.Kept.{Dep}
 use Rattle.shard_laws.proofs.Sound.{here_alive, commit_falls, own_kept}
 use Rattle.law_base.proofs.Undoing.{keeps_of}
-use Rattle.law_base.proofs.Commits.{commit_durable, durable_parts, durable_from}
 use Rattle.law_base.proofs.Lists.{all_mono}
+use Rattle.law_base.proofs.Sets.{filter_in, in_filter, list_all_at}
+use Rattle.law_base.proofs.Changed.{get_set, set_none}
 use Rattle.clv_base.specs.OneShard.{OpAnswers, new_part, add_pairs}
 use Rattle.std.specs.List.{list_any}
 use Rattle.clv_base.specs.Needs.{writes_of, key_of}
-use Rattle.shard_laws.proofs.Sound.{PartOf, part_push, part_more, part_filter, AskedOrOld, Sound, order_set, Open, After, More_over, at_once, rolled, marked_sound, finish_sound, get_set, set_none, commit_here, commit_other, commit_asked, waiting_here, agreed_before}
-use Rattle.shard_laws.proofs.Dooming.{list_all_at}
+use Rattle.shard_laws.proofs.Sound.{PartOf, part_push, part_more, part_filter, AskedOrOld, Sound, order_set, Open, After, More_over, at_once, rolled, marked_sound, finish_sound, commit_here, commit_other, commit_asked, waiting_here, agreed_before}
 
 -- ---- the state after it
 
@@ -95,9 +95,6 @@ pub data Keeps_reply (all : List Item) (g : Past) (s : Shard) (e : Event) : Repl
   late : {o : Outcome} → Keeps_reply all g s e (QuietAfterWorn o)
   does : {o : Outcome} {t : Shard} → Later all g s e o t → Keeps_reply all g s e (Does o t)
 
-none_told : (u : TxId) → ◌≡◌ {A = Option TxId} None (Some u) → ⊥
-none_told u e = absurd cc
-
 -- where nothing is answered and nobody asks
 abbrev Same : List Item → Past → Shard → Event → Outcome → Type 0
 Same all g s e o = (with_one all (new_item s e o) ≡ all) × (with_one g.asked (new_asked s e) ≡ g.asked) × (new_met s e o ≡ [])
@@ -108,7 +105,7 @@ ends_told all g s u e o same a told =
     does (f.0, subst (λ l. Sound l f.0 (finish u)) (sym same.0) f.1, f.2 ∙ a.2, f.3 ∙ a.3, f.4 ∙ a.4 ∙ sym same.1, (λ t i. f.5 t (a.5 t i)), (λ t n. f.5 t (told t n)), f.6 ∙ a.6 ∙ sym (ap (λ l. l ++ g.met) same.2), f.7 ∙ a.7)
 
 ends : (all : List Item) (g : Past) (s u : Shard) (e : Event) (o : Outcome) → Same all g s e o → new_told e o ≡ None → After all g u → Keeps_reply all g s e (Does o (finish u))
-ends all g s u e o same none a = ends_told all g s u e o same a (λ t n. absurd (none_told t (sym none ∙ n)))
+ends all g s u e o same none a = ends_told all g s u e o same a (λ t n. absurd (none-some t (sym none ∙ n)))
 
 at_cond : (all : List Item) (g : Past) (s : Shard) (e : Event) (b : Bool) (x y : Reply) → Keeps_reply all g s e x → Keeps_reply all g s e y → Keeps_reply all g s e (cond b x y)
 at_cond all g s e true x y p q = p
@@ -150,9 +147,6 @@ stands_now g s tx birth may o = at (tx_get tx s.local.parts) refl o
 none_closed : ◌≡◌ {A = Option Stage} None (Some Closed) → ⊥
 none_closed e = absurd cc
 
-active_closed : ◌≡◌ {A = Option Stage} (Some Active) (Some Closed) → ⊥
-active_closed e = absurd cc
-
 unfallen_now : (all : List Item) (g : Past) (s : Shard) (tx : TxId) → Sound all g s → stage_of s.local tx ≡ Some Active → tx_in tx g.fell ≡ false
 unfallen_now all g s tx h act = false_from_ne_true _ (λ i. both_ways _ (h.kept.prepared.unprepared tx act) (h.falls.back tx i (ap is_present act)))
 
@@ -174,7 +168,7 @@ fresh_now all g s tx birth h may o =
     ⊎_elim
     (λ n. let f = may (none_part (tx_get tx s.local.parts) n) in
     record { open_ = f.uncommitted; alive = false_from_ne_true _ (λ u. both_ways _ f.unaborted (r.undone tx u)); unprepared = f.unprepared; unaborted = f.unaborted; unwritten = unwritten_before s.local.log tx f.unwritten; unfallen = f.unfallen; undoomed = ap is_doomed n; unclosed = λ c. none_closed (sym n ∙ c) })
-    (λ a. record { open_ = h.kept.uncommitted tx a; alive = false_from_ne_true _ (λ u. (h.kept.dead tx u).1 a); unprepared = h.kept.prepared.unprepared tx a; unaborted = k.unaborted tx (ap is_present a); unwritten = k.new tx a; unfallen = unfallen_now all g s tx h a; undoomed = ap is_doomed a; unclosed = λ c. active_closed (sym a ∙ c) })
+    (λ a. record { open_ = h.kept.uncommitted tx a; alive = false_from_ne_true _ (λ u. (h.kept.dead tx u).1 a); unprepared = h.kept.prepared.unprepared tx a; unaborted = k.unaborted tx (ap is_present a); unwritten = k.new tx a; unfallen = unfallen_now all g s tx h a; undoomed = ap is_doomed a; unclosed = λ c. active_not_closed (sym a ∙ c) })
     o
   where
     none_part : (x : Option Held) → stage_by x ≡ None → x ≡ None
@@ -373,7 +367,7 @@ finish_performed : (all : List Item) (g : Past) (s : Shard) (tx : TxId) (birth :
 unfolding Performed
 finish_performed all g s tx birth nth seen op h grant may fit o p =
     let f = finish_sound (all ++ record { tx = tx; op = op; answer = answer_of op s.local.records; lsn = 0 + length s.local.log } ∷ []) p.0 (record s { local = performed tx birth op s.local }) p.1 in
-    does (f.0, f.1, f.2 ∙ p.2, f.3 ∙ p.3, f.4 ∙ p.4, (λ u i. f.5 u (ap (tx_in u) p.5 ∙ i)), (λ u n. absurd (none_told u n)), f.6 ∙ p.6, f.7 ∙ p.7)
+    does (f.0, f.1, f.2 ∙ p.2, f.3 ∙ p.3, f.4 ∙ p.4, (λ u i. f.5 u (ap (tx_in u) p.5 ∙ i)), (λ u n. absurd (none-some u n)), f.6 ∙ p.6, f.7 ∙ p.7)
 
 granted : (all : List Item) (g : Past) (s : Shard) (tx : TxId) (birth : Birth) (nth : ℕ) (seen : Option ℕ) (op : Op) (b : Bool) → Sound all g s → decide tx birth (needs_of op s.local.records) s.local.locks ≡ Grant → MayTouch all g.asked g.met g.fell s tx birth seen → seen_fits s.local.epoch seen ≡ true → (stage_of s.local tx ≡ None) ⊎ (stage_of s.local tx ≡ Some Active)
     → Keeps_reply all g s (OpEvent tx birth nth seen op) (op_event s (op_granted s.local tx birth op b))
@@ -436,12 +430,6 @@ closes all g s tx home true true (p ∷ ps) h act asks e =
 closes all g s tx home true false ps h act asks e =
     keeps_prepare g (record (view_of s) { locks = close_locks tx s.local.locks; parts = closed_in tx s.local.parts }) tx home ps (keeps_close g (view_of s) tx h.kept act asks) (stage_closed s.local.parts tx act) (h.kept.uncommitted tx act) (h.kept.prepared.unprepared tx act) (lists_all s tx ps e) (met_deps all g s tx h act)
 
-closing_open : (wrote one : Bool) (tx : TxId) (home : ℕ) (ps : List TxId) (u : TxId) → tx_same u tx ≡ false → committed_in (closing wrote one tx home ps) u ≡ false
-closing_open false one tx home ps u e = refl
-closing_open true true tx home [] u e = ap (λ b. b || false) e
-closing_open true true tx home (p ∷ ps) u e = refl
-closing_open true false tx home ps u e = refl
-
 some_request : (q r : Request) → Some q ≡ Some r → q ≡ r
 some_request q r e = cc
 
@@ -480,16 +468,16 @@ closed_sound all g s tx home one h act asks no_request no_vote = record {
   kept = closes all g s tx home (wrote_in s.local.log tx) one (undecided_of s.local tx) h act asks refl;
   told = h.told;
   within = h.within;
-  undecided = λ u q e un. ⊎_elim (λ c. inl (uncommitted_append s.local.log _ u c (closing_open (wrote_in s.local.log tx) one tx home (undecided_of s.local tx) u (no_request u q e un)))) (λ c. inr c) (h.undecided u q e un);
+  undecided = λ u q e un. ⊎_elim (λ c. inl (uncommitted_append s.local.log _ u c (closing_commits (wrote_in s.local.log tx) one tx home (undecided_of s.local tx) u (no_request u q e un)))) (λ c. inr c) (h.undecided u q e un);
   readers = h.readers;
   apart = h.apart;
   unvoted = λ u v e w. ⊎_elim
       (λ same. uncommitted_append s.local.log _ u (h.unvoted u v e (old u w)) (prepared_only tx home (wrote_in s.local.log tx) one (undecided_of s.local tx) u (no_vote v (ap (λ z. tx_get z s.voters) (sym (tx_true u tx same)) ∙ e))))
-      (λ ne. uncommitted_append s.local.log _ u (h.unvoted u v e (old u w)) (closing_open (wrote_in s.local.log tx) one tx home (undecided_of s.local tx) u ne))
+      (λ ne. uncommitted_append s.local.log _ u (h.unvoted u v e (old u w)) (closing_commits (wrote_in s.local.log tx) one tx home (undecided_of s.local tx) u ne))
       (cases_Bool (tx_same u tx));
   read = λ u v e f. let r = h.read u v e f in stage_left s.local.parts tx u (tx_ne tx u (λ q. active_gone (sym act ∙ ap (stage_of s.local) q ∙ r))) ∙ r;
   asked = λ u e. ⊎_elim (λ t. inl (ap (λ z. tx_in z g.asked) (tx_true u tx t) ∙ asks))
-      (λ ne. ⊎_elim (λ c. h.asked u c) (λ c. absurd (both_ways _ (uncommitted_append s.local.log _ u c (closing_open (wrote_in s.local.log tx) one tx home (undecided_of s.local tx) u ne)) e)) (cases_Bool (committed_in s.local.log u)))
+      (λ ne. ⊎_elim (λ c. h.asked u c) (λ c. absurd (both_ways _ (uncommitted_append s.local.log _ u c (closing_commits (wrote_in s.local.log tx) one tx home (undecided_of s.local tx) u ne)) e)) (cases_Bool (committed_in s.local.log u)))
       (cases_Bool (tx_same u tx));
   falls = falls_parts g.asked g.fell g.lost g.over s.local.parts (closed_in tx s.local.parts) s.local.pairs (s.local.log ++ closing (wrote_in s.local.log tx) one tx home (undecided_of s.local tx)) s.durable
       (λ u. same_present u) (λ u. same_doom u) (closing_falls all g s tx home (wrote_in s.local.log tx) one (undecided_of s.local tx) h act asks refl);
@@ -616,16 +604,13 @@ request_stage all g s tx touched (Some (Gone None)) h may e f = ends all g s s (
 request_stage all g s tx touched (Some (Gone (Some d))) h may e f = ends all g s s (RequestEvent tx touched) _ (refl, none_asks g s tx touched (Some (Gone (Some d))) true e f refl, refl) refl (at_once all g s h)
 request_stage all g s tx touched (Some Active) h may e f =
     let r = finish_sound all (record g { asked = g.asked ++ tx ∷ [] }) (coordinate tx touched (with_local (close_part tx s.shard (is_alone (others s.shard touched))) s)) (asked_sound all g s tx touched h e may.1 may.2 may.3) in
-    does (r.0, r.1, r.2, r.3, r.4 ∙ sym (ap (with_one g.asked) (ap (λ x. asks_by_stage tx x (seen_fits s.local.epoch (epoch_in s.shard touched))) e ∙ ap (asks_by_stage tx (Some Active)) f)), r.5, (λ u n. absurd (none_told u n)), r.6, r.7)
+    does (r.0, r.1, r.2, r.3, r.4 ∙ sym (ap (with_one g.asked) (ap (λ x. asks_by_stage tx x (seen_fits s.local.epoch (epoch_in s.shard touched))) e ∙ ap (asks_by_stage tx (Some Active)) f)), r.5, (λ u n. absurd (none-some u n)), r.6, r.7)
 
 request : (all : List Item) (g : Past) (s : Shard) (tx : TxId) (touched : List (ℕ × ℕ)) (b : Bool) → Sound all g s → MayAsk g.asked s tx → seen_fits s.local.epoch (epoch_in s.shard touched) ≡ b → Keeps_reply all g s (RequestEvent tx touched) (request_event s tx touched b)
 request all g s tx touched true h may f = request_stage all g s tx touched (stage_of s.local tx) h may refl f
 request all g s tx touched false h may f = ends all g s s (RequestEvent tx touched) _ (refl, none_asks g s tx touched (stage_of s.local tx) false refl f (asks_unseen tx (stage_of s.local tx)), refl) refl (at_once all g s h)
 
 -- ---- the others
-
-some_tx : (a b : TxId) → Some a ≡ Some b → a ≡ b
-some_tx a b e = cc
 
 -- whose COMMIT is durable may be told so
 add_over : (all : List Item) (g : Past) (s : Shard) (tx : TxId) → Sound all g s → has_durable_commit (facts_of s tx) ≡ true → Sound all (record g { over = tx ∷ g.over }) s
@@ -682,7 +667,7 @@ lost all g s tx (Some e) h = at_cond all g s (Look tx) (e == s.local.epoch) (Qui
 ruled : (all : List Item) (g : Past) (s : Shard) (tx : TxId) (r : RequestState) → Sound all g s → (r ≡ Finished → tx_in tx g.over ≡ true) → Keeps_reply all g s (Look tx) (look_state s r)
 ruled all g s tx Undecided h f = early
 ruled all g s tx (Committed ps) h f = early
-ruled all g s tx Finished h f = ends_told all g s s (Look tx) _ (refl, refl, refl) (g, h, refl, refl, refl, (λ u o. o), refl, refl) (λ u n. ap (λ z. tx_in z g.over) (sym (some_tx tx u n)) ∙ f refl)
+ruled all g s tx Finished h f = ends_told all g s s (Look tx) _ (refl, refl, refl) (g, h, refl, refl, refl, (λ u o. o), refl, refl) (λ u n. ap (λ z. tx_in z g.over) (sym (same_Some tx u n)) ∙ f refl)
 ruled all g s tx (Refused c) h f = ends all g s s (Look tx) _ (refl, refl, refl) refl (at_once all g s h)
 
 known : (all : List Item) (g : Past) (s : Shard) (tx : TxId) (q : Option Request) → Sound all g s → tx_get tx s.requests ≡ q → Keeps_reply all g s (Look tx) (look_known s tx q)
@@ -693,7 +678,7 @@ looked : (all : List Item) (g : Past) (s : Shard) (tx : TxId) → Sound all g s 
 looked all g s tx h = at (has_durable_commit (facts_of s tx)) refl
   where
     at : (b : Bool) → has_durable_commit (facts_of s tx) ≡ b → Keeps_reply all g s (Look tx) (cond b (Does Acknowledged (finish s)) (look_known s tx (tx_get tx s.requests)))
-    at true d = ends_told all g s s (Look tx) Acknowledged (refl, refl, refl) (record g { over = tx ∷ g.over }, add_over all g s tx h d, refl, refl, refl, (λ u o. or_right (tx_same tx u) _ o), refl, refl) (λ u n. or_left _ _ (tx_eq tx u (some_tx tx u n)))
+    at true d = ends_told all g s s (Look tx) Acknowledged (refl, refl, refl) (record g { over = tx ∷ g.over }, add_over all g s tx h d, refl, refl, refl, (λ u o. or_right (tx_same tx u) _ o), refl, refl) (λ u n. or_left _ _ (tx_eq tx u (same_Some tx u n)))
     at false d = known all g s tx (tx_get tx s.requests) h refl
 
 dropped : (all : List Item) (g : Past) (s : Shard) (tx : TxId) (o : Option Stage) → Sound all g s → (stage_of s.local tx ≡ Some Closed → committed_in s.local.log tx ≡ false) → Keeps_reply all g s (Drop tx) (drop_event s tx o)
@@ -872,7 +857,7 @@ up all g s (Deliver m stamp) h may = at_cond all g s (Deliver m stamp) (to_of m 
 up all g s Remind h may = reminded all g s s.outbox (reminders s) h
 up all g s FlushOut h may = flushed all g s s.flight _ h
 up all g s FlushIn h may = early
-up all g s Stop h may = does (g, record { kept = h.kept; told = h.told; within = h.within; undecided = h.undecided; readers = h.readers; apart = h.apart; unvoted = h.unvoted; read = h.read; asked = h.asked; order = h.order; falls = h.falls; unfallen = h.unfallen }, refl, refl, refl, (λ u o. o), (λ u n. absurd (none_told u n)), refl, refl)
+up all g s Stop h may = does (g, record { kept = h.kept; told = h.told; within = h.within; undecided = h.undecided; readers = h.readers; apart = h.apart; unvoted = h.unvoted; read = h.read; asked = h.asked; order = h.order; falls = h.falls; unfallen = h.unfallen }, refl, refl, refl, (λ u o. o), (λ u n. absurd (none-some u n)), refl, refl)
 up all g s RestartEvent h may = early
 
 all_events : (all : List Item) (g : Past) (s : Shard) (e : Event) (b : Bool) → Sound all g s → MayHappen all g.asked g.met g.fell s e → Keeps_reply all g s e (elim b [ true ↦ happen_up s e | false ↦ QuietBeforeWorn Down ])
@@ -885,9 +870,6 @@ from_reply all g s e o t (does l) = l
 -- every event keeps it
 pub happen_sound : (all : List Item) (g : Past) (s : Shard) (e : Event) (o : Outcome) (t : Shard) → Sound all g s → MayHappen all g.asked g.met g.fell s e → happen s e ≡ Does o t → Later all g s e o t
 happen_sound all g s e o t h may eq = from_reply all g s e o t (subst (Keeps_reply all g s e) eq (all_events all g s e s.is_up h may))
-
-durable_further : (log : List LogRecord) (d e : ℕ) (tx : TxId) → d ≤ e → commit_durable log d tx ≡ true → commit_durable log e tx ≡ true
-durable_further log d e tx le h = let m = durable_parts log d tx h in let l = m.2 in durable_from log e tx m.0 m.1 (omega arith)
 
 -- and so does the end of a flush
 pub landed_sound : (all : List Item) (g : Past) (s : Shard) (n : ℕ) → Sound all g s → s.flight ≡ Some n → After all g (finish (with_durable n s))

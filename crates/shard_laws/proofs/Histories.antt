@@ -9,6 +9,7 @@ use Rattle.clv_base.specs.Orders.{tx_same, tx_in}
 use Rattle.law_base.specs.Items.{Item}
 use Rattle.clv_base.proofs.SameNames.{tx_true}
 use Rattle.law_base.proofs.Tables.{is_pair}
+use Rattle.law_base.proofs.Sets.{filter_in, in_filter}
 use Rattle.shard_laws.proofs.Kept.{Past, place}
 use Rattle.std.specs.List.{filter}
 use Rattle.std.specs.Prelude.{take}
@@ -35,9 +36,9 @@ use Rattle.shard_laws.specs.OneShard.{is_doomed, doomed_in, left_out}
 use Rattle.shard_laws.proofs.Falls.{Fell}
 use Rattle.shard_laws.proofs.Refalling.{stage_name}
 use Rattle.shard_laws.proofs.Leaving.{in_first, in_more, in_two, none_two}
-use Rattle.shard_laws.proofs.Dooming.{filter_in, in_filter}
 use Rattle.clv_base.specs.State.{is_present}
 use Rattle.std.proofs.lemmas.Bool.{false_from_ne_true}
+use Rattle.std.proofs.lemmas.Option.{none-some as none_tx, same_Some}
 use Rattle.shard_laws.proofs.Happening.{happen_sound, landed_sound, failed_sound, others_asked}
 use Rattle.shard_laws.proofs.Serial.{Once, once_push}
 use Rattle.shard_laws.proofs.Members.{serial_run, recovered}
@@ -47,15 +48,9 @@ noted all g s stamp walker e o h = record { kept = h.kept; told = h.told; within
 
 -- ---- who asks, asks once
 
-some_tx : (a b : TxId) → Some a ≡ Some b → a ≡ b
-some_tx a b e = cc
-
-none_tx : (a : TxId) → ◌≡◌ {A = Option TxId} None (Some a) → ⊥
-none_tx a e = absurd cc
-
 asks_active : (t u : TxId) (o : Option Stage) (b : Bool) → asks_by_stage t o b ≡ Some u → (o ≡ Some Active) × (t ≡ u)
 asks_active t u None b e = absurd (none_tx u e)
-asks_active t u (Some Active) true e = (refl, some_tx t u e)
+asks_active t u (Some Active) true e = (refl, same_Some t u e)
 asks_active t u (Some Active) false e = absurd (none_tx u e)
 asks_active t u (Some Closed) b e = absurd (none_tx u e)
 asks_active t u (Some (Gone d)) b e = absurd (none_tx u e)

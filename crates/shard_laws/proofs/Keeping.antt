@@ -33,6 +33,7 @@ use Rattle.clv_base.specs.declared.modes.Decision.TheVariants.{Grant}
 use Rattle.clv_base.specs.Needs.{needs_of, value_at, key_of, writes_of}
 use Rattle.shard_laws.proofs.Leaving.{no_prepares}
 use Rattle.law_base.proofs.Stages.{stage_marked}
+use Rattle.law_base.proofs.Sets.{none_listed}
 use Rattle.shard_laws.proofs.Listing.{order_of, ended_committed}
 use Rattle.shard_laws.proofs.Ordered.{Lying, Ordered, Calm, prepare_none, prepare_some, unlisted, restarted, listed_same, ordered_record, ordered_parts, lying_more, this_run, commit_follows, prepare_follows}
 use Rattle.shard_laws.proofs.Shutting.{ordered_prepare, ordered_close, lying_close, ordered_leave, ordered_taken, lying_taken}
@@ -42,9 +43,6 @@ pub record KeepsOrder (asked : List TxId) (shard run : ℕ) (locks : Locks) (par
   pub ordered : Ordered asked shard run parts pairs log
   pub lying : Lying locks pairs log
   pub rulings : Rulings shard run requests log
-
-none_listed : (p : TxId) (l : List TxId) → l ≡ [] → tx_in p l ≡ true → ⊥
-none_listed p l e i = both_ways false refl (subst (λ z. tx_in p z ≡ true) e i)
 
 -- one more asked
 pub order_asked : (asked : List TxId) (shard run : ℕ) (locks : Locks) (parts : Table Held) (pairs : List (TxId × TxId)) (log : List LogRecord) (requests : Table Request) (t : TxId) → KeepsOrder asked shard run locks parts pairs log requests → KeepsOrder (asked ++ t ∷ []) shard run locks parts pairs log requests

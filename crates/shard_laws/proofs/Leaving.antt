@@ -1,7 +1,7 @@
 -- A set of transactions leaves the shard: finished, or taken away with what it wrote.
 use Rattle.std.proofs.Common.{◌≡◌, ℕ, ◌⊎◌, inl, inr, ⊎_elim, Bool, true, false, cond, not, ◌||◌, List, [], ◌∷◌, ◌++◌, map, Option, Some, None, refl, sym, ap, subst, ◌∙◌, arith, append_assoc, eqb-true, ◌==◌}
 use Rattle.std.specs.List.{AllByRecursion, filter}
-use Rattle.std.proofs.lemmas.Bool.{cases_Bool, both_ways, cond_both, cond-true, cond-false, or_cases, not-true, false_from_ne_true}
+use Rattle.std.proofs.lemmas.Bool.{cases_Bool, both_ways, cond_both, cond-true, cond-false, or_cases, not-true, false_from_ne_true, or_from}
 use Rattle.std.proofs.lemmas.List.Folds.{list_any-append}
 use Rattle.clv_base.specs.declared.names.TxId.{TxId}
 use Rattle.clv_base.specs.declared.logs.LogRecord.{LogRecord}
@@ -10,18 +10,18 @@ use Rattle.clv_base.specs.declared.modes.Part.{Part}
 use Rattle.clv_base.specs.declared.modes.Part.TheVariants.{S, X}
 use Rattle.clv_base.specs.declared.modes.Anchor.TheVariants.{Low, At}
 use Rattle.clv_base.specs.declared.state.Stage.{Stage}
-use Rattle.clv_base.specs.declared.state.Stage.TheVariants.{Active, Closed, Gone}
+use Rattle.clv_base.specs.declared.state.Stage.TheVariants.{Closed, Gone}
 use Rattle.clv_base.specs.declared.state.Held.{Held}
-use Rattle.clv_base.specs.Orders.{Table, tx_same, tx_in, tx_get}
+use Rattle.clv_base.specs.Orders.{Table, tx_same, tx_in}
 use Rattle.clv_base.specs.Logs.{StandingUpdate, standing, committed_in, wrote_in, prepared_in, is_commit_of}
 use Rattle.clv_base.specs.Locks.{Locks, release}
-use Rattle.clv_base.specs.Undo.{gone_part, gone_in, pairs_without, records_without, aborts_of, clrs_of}
+use Rattle.clv_base.specs.Undo.{gone_in, pairs_without, records_without, aborts_of, clrs_of}
 use Rattle.clv_base.specs.State.{is_present}
 use Rattle.clv_base.specs.Needs.{Records, lower_anchor}
 use Rattle.law_base.proofs.Cells.{record_at}
 use Rattle.law_base.specs.Items.{Item, wrote, writes, AllLater, Reaches, pile, on_top, is_write_at}
 use Rattle.clv_base.proofs.SameNames.{or_left, or_right, tx_true, tx_self, tx_eq}
-use Rattle.law_base.proofs.Lists.{all_mono, all_both, all_filter, later_mono, later_filter}
+use Rattle.law_base.proofs.Lists.{all_mono, all_both, all_filter, later_mono, later_filter, all_append}
 use Rattle.law_base.proofs.Running.{top_value, after_of, Keeps, kept_runs}
 use Rattle.clv_base.specs.Logs.{newest_at}
 use Rattle.law_base.specs.Undone.{stays_of}
@@ -29,7 +29,7 @@ use Rattle.law_base.proofs.Undoing.{Chain, keeps_of, standing_undone, values_und
 use Rattle.law_base.proofs.Anchors.{rising_undone, anchor_undone}
 use Rattle.law_base.proofs.LockRows.{holds, Rows, rows_release, release_holds}
 use Rattle.shard_laws.proofs.Asking.{holds_at, holds_by}
-use Rattle.law_base.proofs.Tables.{stage_in, stage_by, is_pair, get_changed, without_pairs, pairs_stay}
+use Rattle.law_base.proofs.Tables.{stage_in, is_pair, without_pairs, pairs_stay}
 use Rattle.law_base.proofs.Commits.{commit_durable, before_keeps, before_first, durable_keeps, durable_committed, before_durable, committed_append, uncommitted_append, committed_from}
 use Rattle.shard_laws.proofs.Prepared.{unprepared_append, prepared_more, prepared_parts, prepared_kept}
 use Rattle.shard_laws.proofs.AtKeys.{key_writes, keys_filter, keys_all}
@@ -40,7 +40,7 @@ use Rattle.clv_base.specs.Undo.{value_before}
 use Rattle.law_base.proofs.Undoing.{reset}
 use Rattle.clv_base.specs.Undo.{newest_lsn}
 use Rattle.shard_laws.proofs.Changes.{wrote_keeps, tidy_append, undone_append, wrote_append, ended_more}
-use Rattle.law_base.proofs.Stages.{active_back, closed_back, doomed_back, get_other, gone_by, gone_closed, stage_other, stage_own}
+use Rattle.law_base.proofs.Stages.{active_back, closed_back, doomed_back, get_other, gone_by, gone_closed, stage_other, stage_own, closed_not_active}
 
 -- ---- parts that are gone
 
@@ -55,9 +55,6 @@ holds_go set locks rs p u q out h = at (record_at q rs) h
     at None h = release_holds set false p (lower_anchor q rs) u locks out h
 
 -- ---- one is finished: its COMMIT is durable, or it only read and those of its predecessors are
-
-closed_active : ◌≡◌ {A = Option Stage} (Some Closed) (Some Active) → ⊥
-closed_active e = absurd cc
 
 pub one_in : (t u : TxId) → tx_in u (t ∷ []) ≡ true → u ≡ t
 one_in t u e = ⊎_elim (λ h. sym (tx_true t u h)) (λ h. absurd (both_ways false refl h)) (or_cases (tx_same t u) false e)
@@ -133,7 +130,7 @@ keeps_finish g v t k closed done = record {
     still_known u h =
         ⊎_elim
         (λ i. ⊎_elim
-        (λ a. absurd (closed_active (sym closed ∙ ap (stage_in v.parts) (sym (one_in t u i)) ∙ a)))
+        (λ a. absurd (closed_not_active (sym closed ∙ ap (stage_in v.parts) (sym (one_in t u i)) ∙ a)))
         (λ r. inr (r.0, λ a. r.1 (active_back (t ∷ []) None u v.parts a).1))
         h)
         (λ i. ⊎_elim
@@ -188,12 +185,8 @@ pub no_write_clrs : (set : List TxId) (t : TxId) (ws : List StandingUpdate) → 
 no_write_clrs set t [] = refl
 no_write_clrs set t (w ∷ ws) = cond_both (tx_in w.tx set) _ (clrs_of set ws) (λ l. wrote_in l t ≡ false) (λ e. no_write_clrs set t ws) (λ e. no_write_clrs set t ws)
 
-none_of_both : (a b : Bool) → a ≡ false → b ≡ false → (a || b) ≡ false
-none_of_both true b e f = e
-none_of_both false b e f = f
-
 no_writes : (set : List TxId) (t : TxId) (log : List LogRecord) → wrote_in (aborts_of log set ++ clrs_of set (standing log)) t ≡ false
-no_writes set t log = wrote_append (aborts_of log set) _ t ∙ none_of_both _ _ (no_write_aborts t (filter (wrote_in log) set)) (no_write_clrs set t (standing log))
+no_writes set t log = wrote_append (aborts_of log set) _ t ∙ or_from _ _ (no_write_aborts t (filter (wrote_in log) set)) (no_write_clrs set t (standing log))
 
 no_prepare_aborts : (t : TxId) (ts : List TxId) → prepared_in (map (λ u. Abort u) ts) t ≡ false
 no_prepare_aborts t [] = refl
@@ -235,12 +228,8 @@ pub tidy_harmless : (log before rs : List LogRecord) → ((t : TxId) → committ
 tidy_harmless log before [] h all = tt
 tidy_harmless log before (r ∷ rs) h all = (
   open_more log before (moves r) h all.0.0,
-  tidy_harmless log (before ++ r ∷ []) rs (λ t e. committed_append before (r ∷ []) t ∙ none_of_both _ _ (h t e) (none_of_both _ false (all.0.1 t) refl)) all.1,
+  tidy_harmless log (before ++ r ∷ []) rs (λ t e. committed_append before (r ∷ []) t ∙ or_from _ _ (h t e) (or_from _ false (all.0.1 t) refl)) all.1,
 )
-
-pub all_append : {I : Type 0} (P : I → Type 0) (xs ys : List I) → AllByRecursion P xs → AllByRecursion P ys → AllByRecursion P (xs ++ ys)
-all_append P [] ys a b = b
-all_append P (x ∷ xs) ys a b = (a.0, all_append P xs ys a.1 b)
 
 harmless_aborts : (log : List LogRecord) (ts : List TxId) → AllByRecursion (Harmless log) (map (λ u. Abort u) ts)
 harmless_aborts log [] = tt
@@ -338,7 +327,7 @@ pub in_more : (xs ys : List TxId) (t : TxId) → tx_in t ys ≡ true → tx_in t
 in_more xs ys t e = list_any-append (λ x. tx_same x t) xs ys ∙ or_right (tx_in t xs) _ e
 
 pub none_two : (xs ys : List TxId) (t : TxId) → tx_in t xs ≡ false → tx_in t ys ≡ false → tx_in t (xs ++ ys) ≡ false
-none_two xs ys t e f = list_any-append (λ x. tx_same x t) xs ys ∙ none_of_both (tx_in t xs) (tx_in t ys) e f
+none_two xs ys t e f = list_any-append (λ x. tx_same x t) xs ys ∙ or_from (tx_in t xs) (tx_in t ys) e f
 
 pub in_two : (xs ys : List TxId) (t : TxId) → tx_in t (xs ++ ys) ≡ true → (tx_in t xs ≡ true) ⊎ (tx_in t ys ≡ true)
 in_two xs ys t e = or_cases (tx_in t xs) (tx_in t ys) (sym (list_any-append (λ x. tx_same x t) xs ys) ∙ e)

@@ -1,6 +1,6 @@
 -- In a log in order, under a write of a prepared transaction lie writes of its own, of committed ones, and of those that its PREPARE lists.
 use Rattle.std.proofs.Common.{◌≡◌, ◌⊎◌, inl, inr, ⊎_elim, refl, sym, ap, subst, ◌∙◌, ℕ, ◌+◌, ◌<◌, Bool, true, false, cond, not, ◌&&◌, ◌||◌, List, [], ◌∷◌, ◌++◌, length, Option, Some, None, is_some, ◌==◌, nat_lt, eq-eqb}
-use Rattle.std.specs.List.{AllByRecursion, filter, list_any, list_all}
+use Rattle.std.specs.List.{AllByRecursion, list_any, list_all}
 use Rattle.std.proofs.lemmas.Bool.{cases_Bool, both_ways, cond_both, or_cases, and_from, not-true, lt-ltb, false_from_ne_true}
 use Rattle.clv_base.specs.declared.names.TxId.{TxId}
 use Rattle.clv_base.specs.declared.logs.LogRecord.{LogRecord}
@@ -9,16 +9,16 @@ use Rattle.clv_base.specs.Orders.{tx_same, tx_in}
 use Rattle.clv_base.specs.Logs.{StandingUpdate, standing, standing_after, without_newest, committed_in, prepared_in, ended_in, wrote_in, commit_parts, is_prepare_of, is_commit_of, is_end_of, is_update_of, in_doubt, is_winner, aborted_in}
 use Rattle.clv_base.specs.LogRules.{listed_in, may_follow, has_above, last_restart, some_parts}
 use Rattle.clv_base.proofs.SameNames.{or_left, or_right, tx_true, tx_self}
-use Rattle.law_base.proofs.Lists.{all_mono, all_both}
+use Rattle.law_base.proofs.Lists.{all_mono, all_both, filter_passes}
 use Rattle.law_base.proofs.Undoing.{standing_append}
 use Rattle.law_base.proofs.Commits.{committed_keeps}
+use Rattle.law_base.proofs.Sets.{list_all_at}
 use Rattle.order_laws.specs.Order.{LieOnThese}
 use Rattle.order_laws.proofs.Records.{front, last, push_cases, push_left, push_same, committed_there, push_right}
 use Rattle.order_laws.proofs.Writes.{Falling, all_without}
 use Rattle.order_laws.proofs.InOrder.{Order, in_order}
 use Rattle.shard_laws.proofs.Prepared.{by_prepare, prepare_here, listed_keeps}
 use Rattle.shard_laws.proofs.Doubting.{Doubted, doubted}
-use Rattle.shard_laws.proofs.Dooming.{list_all_at}
 use Rattle.shard_laws.proofs.Following.{Follows, to_disorder, through, last_push, last_new, since_wrote}
 use Rattle.shard_laws.proofs.Ordered.{unlisted, listed_same}
 use Rattle.order_laws.specs.Order.{undone_in, is_clr_of}
@@ -52,14 +52,6 @@ without_listed log t (w ∷ ws) l =
     cond_both (tx_same t w.tx) ws (w ∷ without_newest t ws) (LieListed log) (λ e. l.1) (λ e. ((λ c. all_without _ t ws (l.0 c)), without_listed log t ws l.1))
 
 -- a PREPARE: what lies under its writes is committed or listed
-passes_all : (f g : StandingUpdate → Bool) (ws : List StandingUpdate) → list_all f (filter g ws) ≡ true → AllByRecursion (λ v. g v ≡ true → f v ≡ true) ws
-passes_all f g [] e = tt
-passes_all f g (w ∷ ws) e = at (g w) refl e (passes_all f g ws)
-  where
-    at : (b : Bool) → g w ≡ b → list_all f (cond b (w ∷ filter g ws) (filter g ws)) ≡ true → (list_all f (filter g ws) ≡ true → AllByRecursion (λ v. g v ≡ true → f v ≡ true) ws) → AllByRecursion (λ v. g v ≡ true → f v ≡ true) (w ∷ ws)
-    at true q a k = ((λ z. front (f w) (list_all f (filter g ws)) a), k (last (f w) (list_all f (filter g ws)) a))
-    at false q a k = ((λ z. absurd (both_ways (g w) q z)), k a)
-
 module _ (log : List LogRecord) (tx : TxId) (home : ℕ) (ps : List TxId) (first : prepared_in log tx ≡ false) (all : List StandingUpdate) where
   abbrev Below : StandingUpdate → Type 0
   Below w = (not (tx_same tx w.tx) && has_above tx w all) ≡ true → (committed_in log w.tx || tx_in w.tx ps) ≡ true
@@ -93,7 +85,7 @@ listed_step shard log (Update tx key b a) o m l =
 listed_step shard log (Clr tx next key a) o m l = without_listed (log ++ Clr tx next key a ∷ []) tx (standing log) (more_listed log (Clr tx next key a) (λ t. refl) (standing log) l)
 listed_step shard log (Prepare tx home ps) o m l =
     prepare_listed log tx home ps (not-true _ (last _ _ (front _ _ (front _ _ (front _ _ (front _ _ m)))))) (standing log) (standing log) (λ test e. e)
-    (passes_all (λ w. committed_in log w.tx || tx_in w.tx ps) (λ w. not (tx_same tx w.tx) && has_above tx w (standing log)) (standing log) (last _ _ m)) (o.writes).falls l
+    (filter_passes (λ w. committed_in log w.tx || tx_in w.tx ps) (λ w. not (tx_same tx w.tx) && has_above tx w (standing log)) (standing log) (last _ _ m)) (o.writes).falls l
 listed_step shard log (Commit tx parts) o m l = more_listed log (Commit tx parts) (λ t. refl) (standing log) l
 listed_step shard log (Abort tx) o m l = more_listed log (Abort tx) (λ t. refl) (standing log) l
 listed_step shard log (End tx) o m l = more_listed log (End tx) (λ t. refl) (standing log) l

@@ -1,10 +1,12 @@
 -- A shard that was opened keeps what a shard keeps: over the writes that the log found commits, those that it leaves in doubt acted.
-use Rattle.std.proofs.Common.{◌≡◌, ℕ, ◌<◌, ◌⊎◌, inl, inr, ⊎_elim, Bool, true, false, ◌||◌, List, [], ◌∷◌, ◌++◌, length, Option, Some, None, refl, sym, ap, subst, ◌∙◌, arith, map, not, append_assoc}
+use Rattle.std.proofs.Common.{◌≡◌, ℕ, ◌<◌, ◌⊎◌, inl, inr, ⊎_elim, true, false, ◌||◌, List, [], ◌∷◌, ◌++◌, length, Option, Some, None, refl, sym, ap, subst, ◌∙◌, arith, map, not, append_assoc}
 use Rattle.std.specs.Prelude.{take}
 use Rattle.std.specs.List.{AllByRecursion, filter}
-use Rattle.std.proofs.lemmas.Bool.{cases_Bool, both_ways, cond_both, or_cases, false_from_ne_true}
+use Rattle.std.proofs.lemmas.Bool.{cases_Bool, both_ways, cond_both, or_cases, false_from_ne_true, or_from}
 use Rattle.std.proofs.lemmas.List.{take_all}
 use Rattle.std.proofs.lemmas.List.Folds.{list_any-append}
+use Rattle.std.proofs.Math.Bool.{or-false}
+use Rattle.std.proofs.lemmas.Option.{none-some}
 use Rattle.clv_base.specs.declared.names.TxId.{TxId}
 use Rattle.clv_base.specs.declared.logs.LogRecord.{LogRecord}
 use Rattle.clv_base.specs.declared.logs.LogRecord.TheVariants.{Abort, Restart}
@@ -27,6 +29,8 @@ use Rattle.law_base.proofs.Running.{top_value}
 use Rattle.law_base.proofs.Undoing.{write_met}
 use Rattle.law_base.proofs.Tables.{stage_in, is_pair}
 use Rattle.law_base.proofs.Commits.{commit_durable}
+use Rattle.law_base.proofs.Sets.{filter_in, list_all_at}
+use Rattle.law_base.proofs.Bools.{or_false_left, or_false_right}
 use Rattle.order_laws.proofs.Records.{own_commit, own_prepare}
 use Rattle.order_laws.proofs.Runs.{record_fits}
 use Rattle.order_laws.proofs.Writes.{chain_kept}
@@ -41,14 +45,13 @@ use Rattle.shard_laws.proofs.Refalling.{all_durable}
 use Rattle.shard_laws.proofs.Falls.{Falls}
 use Rattle.shard_laws.proofs.Compensating.{aborted_now}
 use Rattle.shard_laws.proofs.Doubting.{Doubted, doubted}
-use Rattle.shard_laws.proofs.Dooming.{filter_in, list_all_at}
 use Rattle.shard_laws.proofs.Restoring.{restored_closed, restored_stage, restored_none, rows_restored, standing_updates, wrote_of}
 use Rattle.shard_laws.proofs.Listing.{prepared_wrote, wrote_stands, lie_listed, winners_lie}
 use Rattle.shard_laws.proofs.Following.{Follows, from_disorder, above_later}
 use Rattle.shard_laws.proofs.Keeping.{KeepsOrder}
 use Rattle.shard_laws.proofs.Renewing.{found_self, Renewed, renewed, ordered_restored, lying_restored, rulings_restored}
 use Rattle.shard_laws.proofs.Relisting.{requests_none, unended_none, voter_is, pair_there, pair_of, pair_lists}
-use Rattle.shard_laws.proofs.Rebuilding.{Restarted, of_whole, out_left, out_right}
+use Rattle.shard_laws.proofs.Rebuilding.{Restarted, of_whole}
 use Rattle.shard_laws.proofs.Remaking.{whole_log, committed_remade, values_remade, rises_remade, wrote_remade}
 use Rattle.shard_laws.proofs.Reviving.{state_with, restored_committed, IsCommitted}
 use Rattle.shard_laws.proofs.Found.{UnderFound, all_tell, found_all, found_doubted, pile_found, keys_split, runs_found, order_has, listed_before, under_found}
@@ -75,17 +78,6 @@ past_of shard before =
       fell = [];
       lost = [];
     }
-
-none_number : (n : ℕ) → ◌≡◌ {A = Option ℕ} None (Some n) → ⊥
-none_number n e = absurd cc
-
-or_nothing : (b : Bool) → (b || false) ≡ b
-or_nothing true = refl
-or_nothing false = refl
-
-or_none : (a b : Bool) → a ≡ false → b ≡ false → (a || b) ≡ false
-or_none true b e f = e
-or_none false b e f = f
 
 closed_active : Active ≡ Closed → ⊥
 closed_active e = absurd cc
@@ -146,7 +138,7 @@ module _ (shard run : ℕ) (before : List LogRecord) (may : MayServe shard run b
   -- ---- what it wrote
 
   map_is : stands (before ∷ []) ≡ fold_updates (committed_in before) before []
-  map_is = fold_alike (committed_somewhere (before ∷ [])) (committed_in before) before [] (λ t. or_nothing (committed_in before t))
+  map_is = fold_alike (committed_somewhere (before ∷ [])) (committed_in before) before [] (λ t. or-false (committed_in before t))
 
   pub start_value : (k : ℕ) → map_get k (stands (before ∷ [])) ≡ top_value k (filter (of_kept (committed_in before)) (standing before))
   start_value k = ap (map_get k) map_is ∙ fold_values (committed_in before) 0 before [] [] k (whole_log (committed_in before) before (λ t u. undone_open shard before t order u)) refl
@@ -215,7 +207,7 @@ module _ (shard run : ℕ) (before : List LogRecord) (may : MayServe shard run b
   -- who is prepared, not committed and not in doubt is aborted by the opening at the latest
   aborted_start : (t : TxId) → prepared_in Now t ≡ true → committed_in Now t ≡ false → tx_in t doubt ≡ false → aborted_in (take (length Now) Now) t ≡ true
   aborted_start t p c n =
-      let loses : is_winner shard before t ≡ false = or_none _ _ (sym (re.found.commits t) ∙ c) n in
+      let loses : is_winner shard before t ≡ false = or_from _ _ (sym (re.found.commits t) ∙ c) n in
       subst (λ l. aborted_in l t ≡ true) (sym (take_all (length Now) Now (omega arith)))
       (⊎_elim
       (λ w. undo_aborts shard before run t (filter_in (λ u. not (is_winner shard before u)) t (writers (standing before)) w (ap not loses)))
@@ -273,7 +265,7 @@ module _ (shard run : ℕ) (before : List LogRecord) (may : MayServe shard run b
       uncommitted = λ t e. absurd (no_active t e);
       closed = λ t e. doubt_asked t (restored_stage doubt t Closed e).1;
       over = λ t e. absurd (both_ways false refl e);
-      dead = λ t e. let d = re.found.dead t e in (re.found.commits t ∙ out_left (committed_in before t) (tx_in t doubt) d, (λ a. no_active t a), (λ a. both_ways _ (out_right (committed_in before t) (tx_in t doubt) d) (restored_stage doubt t Closed a).1));
+      dead = λ t e. let d = re.found.dead t e in (re.found.commits t ∙ or_false_left (committed_in before t) (tx_in t doubt) d, (λ a. no_active t a), (λ a. both_ways _ (or_false_right (committed_in before t) (tx_in t doubt) d) (restored_stage doubt t Closed a).1));
       tidy = re.found.tidy;
       prepared = record {
         unprepared = λ t a. absurd (no_active t a);
@@ -287,7 +279,7 @@ module _ (shard run : ℕ) (before : List LogRecord) (may : MayServe shard run b
       order = later_mono _ _ (λ x y u c. ⊎_elim (λ s. inl s) (λ l. inr (listed_place y.tx x.tx l.2 l.1 l.0)) (u c.0 c.1 c.2)) (found_items shard before) under_start;
       causes = later_mono _ _ (λ x y u r. ⊎_elim (λ s. inl s) (λ l. inr (inr (inl (listed_pair y.tx x.tx l.2 l.1 l.0)))) (reached x y u r)) (found_items shard before) under_start;
       recover = λ t p e. let m = met_doubt t p e in inr (inr (inl (listed_pair t p m.0 m.1 m.2)), listed_place t p m.0 m.1 m.2);
-      front = λ n e. absurd (none_number n e);
+      front = λ n e. absurd (none-some n e);
     };
     told = λ t. inr refl;
     within = part_same (found_items shard before);

@@ -1,13 +1,12 @@
 -- What a running shard keeps for the order rules of its log, and which changes keep it.
 use Rattle.std.proofs.Common.{◌≡◌, ◌⊎◌, inl, inr, ⊎_elim, refl, sym, ap, subst, ◌∙◌, ℕ, ◌≤◌, ◌<◌, Bool, true, false, cond, not, ◌&&◌, ◌||◌, List, [], ◌∷◌, ◌++◌, Option, Some, None, is_some, ◌==◌, nat_lt, arith, eqb-true, eq-eqb, append-nil, append_assoc}
 use Rattle.std.specs.List.{AllByRecursion, filter, list_any, list_all}
-use Rattle.std.proofs.lemmas.Bool.{both_ways, or_cases, and_parts, and_from, not-true, false_from_ne_true, ltb-true}
+use Rattle.std.proofs.lemmas.Bool.{both_ways, or_cases, and_parts, and_from, not-true, false_from_ne_true, ltb-true, or_from}
 use Rattle.std.proofs.lemmas.List.Folds.{list_any-append}
 use Rattle.clv_base.specs.declared.names.TxId.{TxId}
 use Rattle.clv_base.specs.declared.logs.LogRecord.{LogRecord}
 use Rattle.clv_base.specs.declared.logs.LogRecord.TheVariants.{Update, Clr, Prepare, Commit, Abort, End, Restart}
-use Rattle.clv_base.specs.declared.state.Stage.{Stage}
-use Rattle.clv_base.specs.declared.state.Stage.TheVariants.{Active, Closed, Gone}
+use Rattle.clv_base.specs.declared.state.Stage.TheVariants.{Active, Closed}
 use Rattle.clv_base.specs.declared.state.Held.{Held}
 use Rattle.clv_base.specs.Orders.{Table, tx_same, tx_in, nat_in}
 use Rattle.clv_base.specs.State.{is_present}
@@ -19,6 +18,7 @@ use Rattle.clv_base.proofs.SameNames.{or_left, or_right, tx_true, tx_self, tx_eq
 use Rattle.law_base.proofs.Lists.{all_mono, all_both}
 use Rattle.law_base.proofs.Tables.{stage_in, is_pair}
 use Rattle.law_base.proofs.Commits.{committed_keeps}
+use Rattle.law_base.proofs.Stages.{present_is}
 use Rattle.order_laws.proofs.Writes.{Falling}
 use Rattle.shard_laws.proofs.Prepared.{by_prepare, prepared_append}
 use Rattle.shard_laws.proofs.Changes.{wrote_keeps}
@@ -75,12 +75,8 @@ none_any test (r ∷ rs) all = ap (λ b. b || list_any test rs) all.0 ∙ none_a
 from_first : (test : LogRecord → Bool) (log more : List LogRecord) → list_any test more ≡ false → list_any test (log ++ more) ≡ true → list_any test log ≡ true
 from_first test log more none e = ⊎_elim (λ h. h) (λ h. absurd (both_ways _ none h)) (or_cases (list_any test log) (list_any test more) (sym (list_any-append test log more) ∙ e))
 
-or_none : (a b : Bool) → a ≡ false → b ≡ false → (a || b) ≡ false
-or_none true b e f = e
-or_none false b e f = f
-
 none_both : (test : LogRecord → Bool) (log more : List LogRecord) → list_any test log ≡ false → list_any test more ≡ false → list_any test (log ++ more) ≡ false
-none_both test log more e f = list_any-append test log more ∙ or_none _ _ e f
+none_both test log more e f = list_any-append test log more ∙ or_from _ _ e f
 
 -- whose PREPARE is not in the later records
 pub prepare_none : (rs : List LogRecord) (t : TxId) → prepared_in rs t ≡ false → prepare_of rs t ≡ None
@@ -145,12 +141,6 @@ pub record Stepped (shard : ℕ) (parts parts2 : Table Held) (pairs pairs2 : Lis
   pub kept : (t p : TxId) → is_pair pairs2 t p ≡ true → (is_pair pairs t p ≡ true) × ((stage_in parts p ≡ Some Closed) → (stage_in parts2 p ≡ Some Closed) ⊎ ((wrote_in log p ≡ true) → committed_in log p ≡ true))
   pub stay : (t p : TxId) → stage_in parts2 t ≡ Some Closed → is_pair pairs t p ≡ true → is_pair pairs2 t p ≡ true
 
-pub present_is : (o : Option Stage) → is_present o ≡ true → (o ≡ Some Active) ⊎ (o ≡ Some Closed)
-present_is None e = absurd (both_ways false refl e)
-present_is (Some Active) e = inl refl
-present_is (Some Closed) e = inr refl
-present_is (Some (Gone d)) e = absurd (both_ways false refl e)
-
 pub ordered_step : (asked : List TxId) (shard run : ℕ) (parts parts2 : Table Held) (pairs pairs2 : List (TxId × TxId)) (log more : List LogRecord) → Ordered asked shard run parts pairs log → Stepped shard parts parts2 pairs pairs2 log more → Ordered asked shard run parts2 pairs2 (log ++ more)
 ordered_step asked shard run parts parts2 pairs pairs2 log more o s = record {
   follows = follows_append shard [] log more o.follows s.follows;
@@ -203,7 +193,7 @@ lying_more locks pairs log more e l = record {
 
 none_above : (tx : TxId) (u : StandingUpdate) (vs : List StandingUpdate) → AllByRecursion (λ v. v.lsn ≤ u.lsn) vs → has_above tx u vs ≡ false
 none_above tx u [] a = refl
-none_above tx u (v ∷ vs) a = or_none _ _ (false_from_ne_true _ (λ e. let l = ltb-true u.lsn v.lsn (and_parts (tx_same tx v.tx && (v.key == u.key)) (nat_lt u.lsn v.lsn) e).1 in let m = a.0 in omega (arith, l, m))) (none_above tx u vs a.1)
+none_above tx u (v ∷ vs) a = or_from _ _ (false_from_ne_true _ (λ e. let l = ltb-true u.lsn v.lsn (and_parts (tx_same tx v.tx && (v.key == u.key)) (nat_lt u.lsn v.lsn) e).1 in let m = a.0 in omega (arith, l, m))) (none_above tx u vs a.1)
 
 pub below_all : (pairs : List (TxId × TxId)) (done : TxId → Bool) (tx : TxId) (ws : List StandingUpdate) → Falling ws → Under pairs done ws → AllByRecursion (λ w. has_above tx w ws ≡ true → LiesOn pairs done tx w.tx) ws
 below_all pairs done tx [] f u = tt

@@ -27,7 +27,7 @@ use Rattle.clv_base.proofs.SameNames.{or_left, or_right, tx_true, tx_self, tx_eq
 use Rattle.law_base.specs.Items.{is_write_at}
 use Rattle.law_base.proofs.Cells.{record_at}
 use Rattle.law_base.proofs.Lists.{all_mono, all_both}
-use Rattle.law_base.proofs.Running.{after_of}
+use Rattle.law_base.proofs.Running.{value_top}
 use Rattle.law_base.proofs.Undoing.{standing_append}
 use Rattle.law_base.proofs.Tables.{stage_in, stage_by, is_pair, insert_from, add_keeps, add_has}
 use Rattle.law_base.proofs.Commits.{commit_durable, durable_committed, committed_keeps}
@@ -39,14 +39,11 @@ use Rattle.shard_laws.proofs.Kept.{View, Past, Belongs, Kept}
 use Rattle.shard_laws.proofs.Changes.{wrote_keeps}
 use Rattle.shard_laws.proofs.Prepared.{prepared_append}
 use Rattle.shard_laws.proofs.Granting.{Change, log_by, MayStand, own_part, not_active, is_closed, closed_row, insert_writes, writing}
-use Rattle.law_base.proofs.Stages.{other_part}
+use Rattle.law_base.proofs.Stages.{other_part, closed_not_active}
 use Rattle.shard_laws.proofs.Following.{follows_append, last_push, before_push, greatest_plain}
 use Rattle.shard_laws.proofs.Writers.{writers_more, writers_all, writers_insert, needs_write, violated_wrote}
 use Rattle.shard_laws.proofs.Ordered.{LiesOn, Under, Lying, Ordered, listed_same, under_more}
 use Rattle.shard_laws.proofs.Shutting.{all_wrote}
-
-closed_active : ◌≡◌ {A = Option Stage} (Some Closed) (Some Active) → ⊥
-closed_active e = absurd cc
 
 -- ---- an UPDATE of an active part
 
@@ -60,7 +57,7 @@ ordered_update asked shard run parts pairs log t key before after o m act = reco
   new = λ u a. ap (λ l. wrote_in l u) (before_push [] log (Update t key before after) tt) ∙ o.new u a;
   unaborted = λ u p. false_from_ne_true _ (λ e. ⊎_elim (λ a. both_ways _ (o.unaborted u p) a) (λ a. both_ways false refl a) (push_cases (is_abort_of u) log (Update t key before after) e));
   decided = λ u c w. ⊎_elim (λ old. ⊎_elim (λ p. inl (prepared_append log (Update t key before after ∷ []) u ∙ or_left _ _ p)) (λ k. inr (committed_keeps log (Update t key before after ∷ []) u k)) (o.decided u c old))
-      (λ a. absurd (closed_active (sym c ∙ ap (stage_in parts) (tx_true u t a) ∙ act))) (push_cases (is_update_of u) log (Update t key before after) w);
+      (λ a. absurd (closed_not_active (sym c ∙ ap (stage_in parts) (tx_true u t a) ∙ act))) (push_cases (is_update_of u) log (Update t key before after) w);
   others = λ u p e. let q = o.others u p e in (q.0, ⊎_elim (λ c. inl (committed_keeps log (Update t key before after ∷ []) p c)) (λ c. inr (c.0, wrote_keeps log (Update t key before after ∷ []) p c.1)) q.1);
   lists = λ u p c i. ⊎_elim (λ k. inl (committed_keeps log (Update t key before after ∷ []) p k)) (λ e. inr e) (o.lists u p c (ap (tx_in p) (sym (listed_same log (Update t key before after ∷ []) u refl)) ∙ i));
   asks = λ u e. ⊎_elim (λ old. o.asks u old) (λ s. absurd (both_ways false refl s)) (push_cases (is_prepare_of u) log (Update t key before after) e);
@@ -97,7 +94,7 @@ ordered_new asked shard run parts parts2 pairs log t vs o own same was run_is un
 }
   where
     back : (u : TxId) → stage_in parts2 u ≡ Some Closed → stage_in parts u ≡ Some Closed
-    back u c = ⊎_elim (λ e. absurd (closed_active (sym c ∙ ap (stage_in parts2) e ∙ own))) (λ ne. sym (same u ne) ∙ c) (cases_tx u t)
+    back u c = ⊎_elim (λ e. absurd (closed_not_active (sym c ∙ ap (stage_in parts2) e ∙ own))) (λ ne. sym (same u ne) ∙ c) (cases_tx u t)
 
     still : (p : TxId) → stage_in parts p ≡ Some Closed → stage_in parts2 p ≡ Some Closed
     still p c = same p (λ e. was (ap (stage_in parts) (sym e) ∙ c)) ∙ c
@@ -116,10 +113,6 @@ change_is (Del k) (Some x) w e = subst (λ z. (z.0 ≡ k) × (z.1 ≡ Some x) ×
     same : (x w : ℕ × Option ℕ × Option ℕ) → Some x ≡ Some w → x ≡ w
     same x w e = cc
 change_is (Scan lo hi) b w e = absurd cc
-
-value_top : (o : Option StandingUpdate) → ◌≡◌ {A = Option ℕ} (elim o [ Some w ↦ w.after | None ↦ None ]) (after_of o)
-value_top None = refl
-value_top (Some w) = refl
 
 same_self : (a b : Option ℕ) → a ≡ b → same_option a b ≡ true
 same_self None b e = subst (λ z. same_option None z ≡ true) e refl
@@ -167,7 +160,7 @@ module _ (asked : List TxId) (shard run : ℕ) (g : Past) (v : View) (tx : TxId)
   stage_same u ne = ap stage_by (other_part tx birth v.parts u (tx_get tx v.parts) (tx_ne u tx ne))
 
   not_closed : stage_in v.parts tx ≡ Some Closed → ⊥
-  not_closed e = ⊎_elim (λ none. none_stage (sym (ap stage_by none) ∙ e)) (λ m. closed_active (sym e ∙ ap stage_by m.1 ∙ ap Some m.3)) may
+  not_closed e = ⊎_elim (λ none. none_stage (sym (ap stage_by none) ∙ e)) (λ m. closed_not_active (sym e ∙ ap stage_by m.1 ∙ ap Some m.3)) may
     where
       none_stage : ◌≡◌ {A = Option Stage} None (Some Closed) → ⊥
       none_stage e = absurd cc

@@ -1,7 +1,7 @@
 -- What is kept of transactions that have a PREPARE.
 use Rattle.std.proofs.Common.{◌≡◌, ◌⊎◌, inl, inr, ⊎_elim, refl, sym, ap, subst, ◌∙◌, ℕ, ◌<◌, Bool, true, false, cond, ◌||◌, List, [], ◌∷◌, ◌++◌, Option, Some, None, append-nil, append_assoc}
 use Rattle.std.specs.List.{AllByRecursion, filter}
-use Rattle.std.proofs.lemmas.Bool.{both_ways, cond-true, cond-false, or_cases}
+use Rattle.std.proofs.lemmas.Bool.{both_ways, cond-true, cond-false, or_cases, or_from}
 use Rattle.std.proofs.lemmas.List.Folds.{list_any-append}
 use Rattle.clv_base.specs.declared.names.TxId.{TxId}
 use Rattle.clv_base.specs.declared.logs.LogRecord.{LogRecord}
@@ -16,6 +16,7 @@ use Rattle.law_base.specs.Items.{Item, AllLater, Reaches}
 use Rattle.law_base.proofs.Lists.{later_mono, later_filter, later_push}
 use Rattle.law_base.proofs.Tables.{stage_in, is_pair}
 use Rattle.law_base.proofs.Commits.{place_keeps}
+use Rattle.law_base.proofs.Bools.{or_false_left, or_false_right}
 use Rattle.order_laws.specs.Order.{Unprepared, Sealed}
 
 -- the PREPARE lists it, or its COMMIT stands before the PREPARE
@@ -34,17 +35,9 @@ pub record Prepared (items : List Item) (met : List (TxId × TxId)) (parts : Tab
   pub recover : (t p : TxId) → is_pair met t p ≡ true → Lists log t p
 
 -- the first PREPARE of a transaction is the one behind records that have none
-or_l : (a b : Bool) → (a || b) ≡ false → a ≡ false
-or_l true b e = e
-or_l false b e = refl
-
-or_r : (a b : Bool) → (a || b) ≡ false → b ≡ false
-or_r true b e = absurd (both_ways true e refl)
-or_r false b e = e
-
 pub prepare_here : (before rest : List LogRecord) (t : TxId) (home : ℕ) (ps : List TxId) → prepared_in before t ≡ false → prepare_of (before ++ Prepare t home ps ∷ rest) t ≡ Some (home, ps)
 prepare_here [] rest t home ps e = cond-true (tx_same t t) (Some (home, ps)) (prepare_of rest t) (tx_self t)
-prepare_here (Prepare tx h qs ∷ rs) rest t home ps e = cond-false (tx_same t tx) (Some (h, qs)) (prepare_of (rs ++ Prepare t home ps ∷ rest) t) (or_l _ _ e) ∙ prepare_here rs rest t home ps (or_r (tx_same t tx) _ e)
+prepare_here (Prepare tx h qs ∷ rs) rest t home ps e = cond-false (tx_same t tx) (Some (h, qs)) (prepare_of (rs ++ Prepare t home ps ∷ rest) t) (or_false_left _ _ e) ∙ prepare_here rs rest t home ps (or_false_right (tx_same t tx) _ e)
 prepare_here (Update tx q b a ∷ rs) rest t home ps e = prepare_here rs rest t home ps e
 prepare_here (Clr tx u q a ∷ rs) rest t home ps e = prepare_here rs rest t home ps e
 prepare_here (Commit tx qs ∷ rs) rest t home ps e = prepare_here rs rest t home ps e
@@ -57,12 +50,8 @@ prepare_here (Restart run epoch ∷ rs) rest t home ps e = prepare_here rs rest 
 pub prepared_append : (log more : List LogRecord) (t : TxId) → prepared_in (log ++ more) t ≡ (prepared_in log t || prepared_in more t)
 prepared_append log more t = list_any-append (is_prepare_of t) log more
 
-or_false : (a b : Bool) → a ≡ false → b ≡ false → (a || b) ≡ false
-or_false true b e f = e
-or_false false b e f = f
-
 pub unprepared_append : (log more : List LogRecord) (t : TxId) → prepared_in log t ≡ false → prepared_in more t ≡ false → prepared_in (log ++ more) t ≡ false
-unprepared_append log more t e f = prepared_append log more t ∙ or_false _ _ e f
+unprepared_append log more t e f = prepared_append log more t ∙ or_from _ _ e f
 
 pub prepared_from : (log more : List LogRecord) (t : TxId) → prepared_in more t ≡ false → prepared_in (log ++ more) t ≡ true → prepared_in log t ≡ true
 prepared_from log more t none e = ⊎_elim (λ h. h) (λ h. absurd (both_ways _ none h)) (or_cases (prepared_in log t) (prepared_in more t) (sym (prepared_append log more t) ∙ e))
@@ -105,7 +94,7 @@ no_update before _ rs none unp = tt
 
 sealed_none : (before rs : List LogRecord) → ((t : TxId) → wrote_in rs t ≡ false) → ((t : TxId) → prepared_in rs t ≡ false) → Sealed before rs
 sealed_none before [] none unp = tt
-sealed_none before (r ∷ rs) none unp = (no_update before r rs none unp, sealed_none (before ++ r ∷ []) rs (λ t. or_r _ (wrote_in rs t) (none t)) (λ t. or_r _ (prepared_in rs t) (unp t)))
+sealed_none before (r ∷ rs) none unp = (no_update before r rs none unp, sealed_none (before ++ r ∷ []) rs (λ t. or_false_right _ (wrote_in rs t) (none t)) (λ t. or_false_right _ (prepared_in rs t) (unp t)))
 
 pub sealed_more : (log more : List LogRecord) → Sealed [] log → ((t : TxId) → wrote_in more t ≡ false) → ((t : TxId) → prepared_in more t ≡ false) → Sealed [] (log ++ more)
 sealed_more log more s none unp = sealed_append [] log more s (sealed_none log more none unp)

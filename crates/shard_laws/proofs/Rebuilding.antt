@@ -1,5 +1,5 @@
 -- What restarts make of a log that was found: it keeps the writes of those that win, committed or in doubt.
-use Rattle.std.proofs.Common.{◌≡◌, ℕ, zero, suc, ◌+◌, ⊎_elim, Bool, true, false, not, ◌||◌, List, [], ◌∷◌, ◌++◌, map, length, refl, sym, ap, subst, ◌∙◌, append_assoc, append-nil}
+use Rattle.std.proofs.Common.{◌≡◌, ℕ, suc, ◌+◌, ⊎_elim, Bool, true, false, not, ◌||◌, List, [], ◌∷◌, ◌++◌, map, length, refl, sym, ap, subst, ◌∙◌, append_assoc, append-nil}
 use Rattle.std.specs.Prelude.{take}
 use Rattle.std.specs.List.{AllByRecursion, filter}
 use Rattle.std.proofs.lemmas.Bool.{both_ways, cond_both, cond-false, or_cases, not-true, false_from_ne_true}
@@ -11,16 +11,17 @@ use Rattle.clv_base.specs.Logs.{StandingUpdate, standing, standing_from, without
 use Rattle.clv_base.specs.Undo.{clrs_of, newest_lsn}
 use Rattle.clv_base.specs.State.{Shard}
 use Rattle.clv_base.specs.Restarts.{losers, restart_records, log_after_restart, next_epoch, FailedRestarts, untouched, failed_first, Restarts}
-use Rattle.clv_base.proofs.SameNames.{or_left, or_right, tx_true, tx_self, insert_keeps, insert_has}
-use Rattle.law_base.proofs.Lists.{all_mono}
+use Rattle.clv_base.proofs.SameNames.{or_left, or_right, tx_true, tx_self, insert_has}
+use Rattle.law_base.proofs.Lists.{all_mono, all_append, all_taken}
 use Rattle.law_base.proofs.Undoing.{standing_append, standing_aborts, standing_clrs}
 use Rattle.law_base.proofs.Commits.{committed_append}
 use Rattle.law_base.proofs.Doubts.{Unlike, is_it, nobody, abort_unlike, clr_unlike, restart_unlike, doubts_more}
+use Rattle.law_base.proofs.Sets.{filter_in, in_filter, each_writer}
+use Rattle.law_base.proofs.Bools.{or_false_left, or_false_right}
 use Rattle.order_laws.specs.Order.{moves, Open_at, Tidy, Sealed, is_clr_of, undone_in}
 use Rattle.shard_laws.proofs.Prepared.{IsListed, is_listed_more, prepared_append, sealed_more, listed_keeps}
 use Rattle.shard_laws.proofs.Changes.{undone_append, wrote_append, tidy_append}
-use Rattle.shard_laws.proofs.Dooming.{in_filter, filter_in}
-use Rattle.shard_laws.proofs.Leaving.{Harmless, tidy_harmless, all_append}
+use Rattle.shard_laws.proofs.Leaving.{Harmless, tidy_harmless}
 use Rattle.shard_laws.proofs.Cutting.{of_kept, without_other}
 use Rattle.shard_laws.proofs.Members.{filter_alike}
 use Rattle.std.proofs.lemmas.List.Folds.{list_any-append}
@@ -119,14 +120,6 @@ found_more shard cut log more f all = record {
 pub loser_out : (shard : ℕ) (log : List LogRecord) (t : TxId) → tx_in t (losers shard log) ≡ true → is_winner shard log t ≡ false
 loser_out shard log t i = not-true _ (in_filter (λ u. not (is_winner shard log u)) t (writers (standing log)) i).1
 
-pub out_left : (a b : Bool) → (a || b) ≡ false → a ≡ false
-out_left true b e = e
-out_left false b e = refl
-
-pub out_right : (a b : Bool) → (a || b) ≡ false → b ≡ false
-out_right true b e = absurd (both_ways true e refl)
-out_right false b e = e
-
 plain_aborts : (shard : ℕ) (log : List LogRecord) (ts : List TxId) → ((t : TxId) → tx_in t ts ≡ true → is_winner shard log t ≡ false) → AllByRecursion (Plain shard log) (map (λ t. Abort t) ts)
 plain_aborts shard log [] h = tt
 plain_aborts shard log (t ∷ ts) h = (
@@ -138,7 +131,7 @@ plain_aborts shard log (t ∷ ts) h = (
     undoes = λ u e. absurd (both_ways false refl e);
     whom = is_it t;
     unlike = abort_unlike t;
-    spares = λ u i. false_from_ne_true _ (λ same. both_ways _ (out_right _ _ (h t (or_left _ _ (tx_self t)))) (subst (λ z. tx_in z (in_doubt shard log) ≡ true) (tx_true u t same) i));
+    spares = λ u i. false_from_ne_true _ (λ same. both_ways _ (or_false_right _ _ (h t (or_left _ _ (tx_self t)))) (subst (λ z. tx_in z (in_doubt shard log) ≡ true) (tx_true u t same) i));
   },
   plain_aborts shard log ts (λ u i. h u (or_right (tx_same t u) _ i)),
 )
@@ -151,7 +144,7 @@ plain_clrs shard log set (w ∷ ws) h =
   where
     one : tx_in w.tx set ≡ true → Plain shard log (Clr w.tx (newest_lsn w.tx ws) w.key w.before)
     one i = record {
-      opens = out_left _ _ (h w.tx i);
+      opens = or_false_left _ _ (h w.tx i);
       no_commit = λ u. refl;
       no_update = λ u. refl;
       no_prepare = λ u. refl;
@@ -171,19 +164,10 @@ plain_restart shard log run epoch =
     (plain_aborts shard log (filter (λ t. not (aborted_in log t)) (losers shard log)) (aborted_losers shard log)) (plain_clrs shard log (losers shard log) (standing log) (loser_out shard log)))
     (record { opens = tt; no_commit = λ u. refl; no_update = λ u. refl; no_prepare = λ u. refl; undoes = λ u e. absurd (both_ways false refl e); whom = nobody; unlike = restart_unlike run epoch; spares = λ u i. refl }, tt)
 
-all_take : {I : Type 0} (P : I → Type 0) (n : ℕ) (xs : List I) → AllByRecursion P xs → AllByRecursion P (take n xs)
-all_take P zero xs all = tt
-all_take P (suc n) [] all = tt
-all_take P (suc n) (x ∷ xs) all = (all.0, all_take P n xs all.1)
-
 -- ---- the whole restart leaves the writes of those that win alone
 
 writer_in : (w : StandingUpdate) (ws : List StandingUpdate) → tx_in w.tx (writers (w ∷ ws)) ≡ true
 writer_in w ws = insert_has w.tx (writers ws)
-
-pub each_writer : (ws : List StandingUpdate) → AllByRecursion (λ w. tx_in w.tx (writers ws) ≡ true) ws
-each_writer [] = tt
-each_writer (w ∷ ws) = (writer_in w ws, all_mono _ _ (λ v h. insert_keeps w.tx v.tx (writers ws) h) ws (each_writer ws))
 
 pub loser_alike : (shard : ℕ) (log : List LogRecord) (t : TxId) → tx_in t (writers (standing log)) ≡ true → not (tx_in t (losers shard log)) ≡ is_winner shard log t
 loser_alike shard log t w = at (is_winner shard log t) refl
@@ -211,7 +195,7 @@ pub record Restarted (shard : ℕ) (cut log : List LogRecord) : Type 0 where
 of_failed : (s : Shard) (cut found left : List LogRecord) → Found s.shard cut found → FailedRestarts s found left → Found s.shard cut left
 of_failed s cut found _ f (untouched) = f
 of_failed s cut found left f (failed_first n more) =
-    of_failed s cut (found ++ take n (restart_records s.shard found s.run (next_epoch s found))) left (found_more s.shard cut found (take n (restart_records s.shard found s.run (next_epoch s found))) f (all_take (Plain s.shard found) n _ (plain_restart s.shard found s.run (next_epoch s found)))) more
+    of_failed s cut (found ++ take n (restart_records s.shard found s.run (next_epoch s found))) left (found_more s.shard cut found (take n (restart_records s.shard found s.run (next_epoch s found))) f (all_taken (Plain s.shard found) n _ (plain_restart s.shard found s.run (next_epoch s found)))) more
 
 pub of_whole : (s : Shard) (cut found : List LogRecord) (epoch : ℕ) → Found s.shard cut found → Restarted s.shard cut (log_after_restart s.shard found s.run epoch)
 of_whole s cut found epoch f = record {

@@ -15,9 +15,9 @@ use Rattle.clv_base.specs.LogRules.{listed_in}
 use Rattle.clv_base.specs.Restarts.{restored_parts, restored_pairs}
 use Rattle.law_base.proofs.Tables.{stage_in, is_pair, stage_by}
 use Rattle.law_base.proofs.Commits.{commit_durable, durable_from, place_some, place_less}
+use Rattle.law_base.proofs.Sets.{none_listed, list_all_at}
 use Rattle.shard_laws.specs.OneShard.{is_doomed}
 use Rattle.shard_laws.proofs.Leaving.{in_first, in_more, in_two}
-use Rattle.shard_laws.proofs.Dooming.{list_all_at}
 use Rattle.shard_laws.proofs.Cutting.{cut_keeps, durable_cut}
 use Rattle.shard_laws.proofs.Doubting.{Doubted, doubted, prepared_cut}
 use Rattle.shard_laws.proofs.Restoring.{restored_closed, restored_none}
@@ -25,7 +25,7 @@ use Rattle.shard_laws.proofs.Following.{Follows}
 use Rattle.shard_laws.proofs.Ordered.{unlisted}
 use Rattle.shard_laws.proofs.Listing.{order_of, committed_lists}
 use Rattle.shard_laws.proofs.Relisting.{pair_there, pair_lists}
-use Rattle.shard_laws.proofs.Falls.{Fell, Falls, none_lists, take_further}
+use Rattle.shard_laws.proofs.Falls.{Fell, Falls, take_further}
 
 -- who has a part is named
 get_name : (u : TxId) (h : Held) (ps : Table Held) → tx_get u ps ≡ Some h → tx_in u (map (λ p. p.0) ps) ≡ true
@@ -92,7 +92,7 @@ module _ (shard : ℕ) (asked fell lost over : List TxId) (parts : Table Held) (
   fell_index t (inr d) = in_more out fell t (boundary t d)
 
   lists_prepared : (t p : TxId) → tx_in p (listed_in after t) ≡ true → prepared_in after t ≡ true
-  lists_prepared t p i = ⊎_elim (λ e. e) (λ e. absurd (none_lists p _ (unlisted after t e) i)) (cases_Bool (prepared_in after t))
+  lists_prepared t p i = ⊎_elim (λ e. e) (λ e. absurd (none_listed p _ (unlisted after t e) i)) (cases_Bool (prepared_in after t))
 
   -- whom one in doubt lists is committed or in doubt
   doubt_lists : (t p : TxId) → tx_in t (in_doubt shard after) ≡ true → tx_in p (listed_in after t) ≡ true → (committed_in after p || tx_in p (in_doubt shard after)) ≡ true

@@ -16,8 +16,8 @@ use Rattle.clv_base.specs.Coordinator.{restored_request, restored_requests}
 use Rattle.clv_base.specs.Restarts.{home_by, homes_of, pairs_of_listed, restored_pairs, unended_with, unended_in}
 use Rattle.clv_base.proofs.SameNames.{or_left, or_right, tx_true, tx_eq, tx_flip}
 use Rattle.law_base.proofs.Tables.{is_pair, get_put}
-use Rattle.shard_laws.proofs.Dooming.{filter_in, in_filter}
-use Rattle.shard_laws.proofs.Rebuilding.{out_left, out_right}
+use Rattle.law_base.proofs.Sets.{filter_in, in_filter}
+use Rattle.law_base.proofs.Bools.{or_false_left, or_false_right}
 
 -- ---- what a restored shard asks and votes
 
@@ -36,7 +36,7 @@ unended_case log tx t (p ∷ ps) rs ne e =
 
 pub unended_none : (log rs : List LogRecord) (t : TxId) → committed_in rs t ≡ false → tx_get t (unended_in log rs) ≡ None
 unended_none log [] t e = refl
-unended_none log (Commit tx parts ∷ rs) t e = unended_case log tx t parts (unended_in log rs) (out_left _ _ e) (unended_none log rs t (out_right (tx_same t tx) _ e))
+unended_none log (Commit tx parts ∷ rs) t e = unended_case log tx t parts (unended_in log rs) (or_false_left _ _ e) (unended_none log rs t (or_false_right (tx_same t tx) _ e))
 unended_none log (Update tx k b a ∷ rs) t e = unended_none log rs t e
 unended_none log (Clr tx u k a ∷ rs) t e = unended_none log rs t e
 unended_none log (Prepare tx home ps ∷ rs) t e = unended_none log rs t e

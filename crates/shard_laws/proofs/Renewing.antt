@@ -17,28 +17,29 @@ use Rattle.clv_base.specs.Undo.{clrs_of, newest_lsn}
 use Rattle.clv_base.specs.Coordinator.{restored_requests}
 use Rattle.clv_base.specs.Restarts.{losers, undo_records, restart_records, log_after_restart, restored_locks, restored_parts, restored_pairs, unended_in, greatest_run, next_epoch, FailedRestarts, Restarts, untouched, failed_first}
 use Rattle.clv_base.proofs.SameNames.{tx_eq, tx_flip, in_insert}
-use Rattle.law_base.proofs.Lists.{all_mono, all_both}
+use Rattle.law_base.proofs.Lists.{all_mono, all_both, all_append}
 use Rattle.law_base.proofs.Undoing.{Upward, standing_append}
 use Rattle.law_base.proofs.Tables.{stage_in}
+use Rattle.law_base.proofs.Sets.{filter_in, in_filter, list_all_at, each_writer}
+use Rattle.law_base.proofs.Bools.{or_false_left, or_false_right}
+use Rattle.law_base.proofs.Stages.{present_is}
 use Rattle.order_laws.specs.Order.{LieOnThese}
 use Rattle.order_laws.proofs.Records.{front, last, push_false}
 use Rattle.order_laws.proofs.InOrder.{Order, undone_open}
 use Rattle.shard_laws.proofs.Serial.{once_filter}
-use Rattle.shard_laws.proofs.Dooming.{in_filter, filter_in, list_all_at}
 use Rattle.shard_laws.proofs.Cutting.{of_kept}
 use Rattle.shard_laws.proofs.Doubting.{Doubted, doubted}
 use Rattle.shard_laws.proofs.Restoring.{restored_closed, restored_stage}
-use Rattle.shard_laws.proofs.Leaving.{all_append}
 use Rattle.shard_laws.proofs.Following.{Follows, follows_append, follows_take, through, Plainly, last_new, greatest_front, greatest_both, above_next, above_push}
 use Rattle.shard_laws.proofs.Distinct.{writers_once}
 use Rattle.shard_laws.proofs.Compensating.{undo_follows}
 use Rattle.shard_laws.proofs.Listing.{prepared_wrote, lists_others, Beneath, LieListed, order_of, lie_listed, winners_lie, wrote_restart}
 use Rattle.shard_laws.proofs.Writers.{writers_restored}
-use Rattle.shard_laws.proofs.Ordered.{LiesOn, Under, Lying, Ordered, list_all_from, present_is}
+use Rattle.shard_laws.proofs.Ordered.{LiesOn, Under, Lying, Ordered, list_all_from}
 use Rattle.shard_laws.proofs.Shutting.{all_wrote}
 use Rattle.shard_laws.proofs.Rulings.{Rulings}
 use Rattle.shard_laws.proofs.Relisting.{pair_there, pair_lists, request_from, OneCommit, unended_parts}
-use Rattle.shard_laws.proofs.Rebuilding.{Found, Plain, winners, found_more, plain_restart, out_left, out_right, each_writer, loser_alike, standing_whole}
+use Rattle.shard_laws.proofs.Rebuilding.{Found, Plain, winners, found_more, plain_restart, loser_alike, standing_whole}
 
 -- ---- the losers lie under no winner
 
@@ -118,7 +119,7 @@ module _ (shard : ℕ) (log : List LogRecord) (f : Follows shard [] log) where
   loser_open t i =
       let a = in_filter (λ u. not (aborted_in log u)) t (losers shard log) i in
       let b = in_filter (λ u. not (is_winner shard log u)) t (writers (standing log)) a.0 in
-      (writer_wrote (λ z. wrote_in log z ≡ true) (standing log) t (all_wrote log) b.0, out_left (committed_in log t) (tx_in t (in_doubt shard log)) (not-true _ b.1), not-true _ a.1)
+      (writer_wrote (λ z. wrote_in log z ≡ true) (standing log) t (all_wrote log) b.0, or_false_left (committed_in log t) (tx_in t (in_doubt shard log)) (not-true _ b.1), not-true _ a.1)
 
   undo_some : is_some (last_restart log) ≡ true → Follows shard log (undo_records shard log)
   undo_some s = undo_follows shard log (losers shard log) (filter (λ t. not (aborted_in log t)) (losers shard log)) s
@@ -208,7 +209,7 @@ renewed_by s found epoch log h (left, failed, e, same) =
 one_push : (log : List LogRecord) (tx : TxId) (parts : List ℕ) → OneCommit log → committed_in log tx ≡ false → OneCommit (log ++ Commit tx parts ∷ [])
 one_push [] tx parts o e = (refl, tt)
 one_push (Commit u ps ∷ rs) tx parts o e =
-    (push_false (is_commit_of u) rs (Commit tx parts) o.0 (false_from_ne_true _ (λ s. both_ways _ (out_left (tx_same tx u) _ e) (tx_flip u tx s))), one_push rs tx parts o.1 (out_right (tx_same tx u) _ e))
+    (push_false (is_commit_of u) rs (Commit tx parts) o.0 (false_from_ne_true _ (λ s. both_ways _ (or_false_left (tx_same tx u) _ e) (tx_flip u tx s))), one_push rs tx parts o.1 (or_false_right (tx_same tx u) _ e))
 one_push (Update u k b a ∷ rs) tx parts o e = one_push rs tx parts o e
 one_push (Clr u n k a ∷ rs) tx parts o e = one_push rs tx parts o e
 one_push (Prepare u home ps ∷ rs) tx parts o e = one_push rs tx parts o e

@@ -5,6 +5,7 @@ use Rattle.std.specs.List.{AllByRecursion, filter}
 use Rattle.std.proofs.lemmas.Bool.{cases_Bool, both_ways, cond_both, or_cases, and_from, false_from_ne_true, not-true, and_parts, cond-false}
 use Rattle.std.proofs.lemmas.List.{take-append-drop}
 use Rattle.std.proofs.lemmas.List.Folds.{list_any-append}
+use Rattle.std.proofs.lemmas.Option.{none-some}
 use Rattle.clv_base.specs.declared.names.TxId.{TxId}
 use Rattle.clv_base.specs.declared.causes.Vote.{Vote}
 use Rattle.clv_base.specs.declared.causes.Vote.TheVariants.{Read}
@@ -13,7 +14,7 @@ use Rattle.clv_base.specs.declared.logs.LogRecord.TheVariants.{Update}
 use Rattle.clv_base.specs.declared.state.Stage.{Stage}
 use Rattle.clv_base.specs.declared.state.Stage.TheVariants.{Active, Closed, Gone}
 use Rattle.clv_base.specs.declared.state.Request.{Request}
-use Rattle.clv_base.specs.declared.state.RequestState.TheVariants.{Undecided, Committed, Finished}
+use Rattle.clv_base.specs.declared.state.RequestState.TheVariants.{Undecided, Finished}
 use Rattle.clv_base.specs.declared.state.Voter.{Voter}
 use Rattle.clv_base.specs.Orders.{Table, tx_same, tx_in, tx_get}
 use Rattle.clv_base.specs.Logs.{StandingUpdate, standing, committed_in, prepared_in, wrote_in, is_update_of, is_commit_of, in_doubt, is_winner, fold_updates, is_abort_of}
@@ -31,6 +32,9 @@ use Rattle.law_base.proofs.Running.{Keeps, kept_runs}
 use Rattle.law_base.proofs.Undoing.{standing_append}
 use Rattle.law_base.proofs.Tables.{stage_in}
 use Rattle.law_base.proofs.Commits.{commit_durable, committed_append, place_there, before_second}
+use Rattle.law_base.proofs.Sets.{filter_in, in_filter}
+use Rattle.law_base.proofs.Bools.{or_false_left, or_false_right}
+use Rattle.law_base.proofs.Stages.{present_is}
 use Rattle.order_laws.specs.Order.{moves, Open_at, Tidy, Unprepared, Sealed, undone_in}
 use Rattle.shard_laws.specs.OneShard.{items_of, is_member, is_doomed, left_out}
 use Rattle.shard_laws.proofs.AtKeys.{SameAtKeys, key_writes, keys_filter, keys_all}
@@ -38,7 +42,7 @@ use Rattle.shard_laws.proofs.Kept.{View, view_of, Past, Dep, Known, Left, is_ali
 use Rattle.shard_laws.proofs.Prepared.{IsListed, Lists, prepared_append, sealed_later, listed_keeps}
 use Rattle.shard_laws.proofs.Changes.{undone_append, wrote_append, later_both}
 use Rattle.shard_laws.proofs.Leaving.{pile_all, pile_each, write_some, none_two, in_first, in_more}
-use Rattle.shard_laws.proofs.Sound.{part_filter, Sound, filter_both, filter_same}
+use Rattle.shard_laws.proofs.Sound.{part_filter, Sound, filter_both, filter_same, committed_not, committed_unfinished}
 use Rattle.shard_laws.proofs.Cutting.{cut_keeps, durable_cut, of_kept, tidy_later}
 use Rattle.shard_laws.proofs.Serial.{Once}
 use Rattle.shard_laws.proofs.Members.{dep_cut, item_asked, cut_base, pile_keep, filter_all_kept, filter_alike, filter_and}
@@ -52,10 +56,9 @@ use Rattle.shard_laws.proofs.Listing.{order_of, prepared_wrote}
 use Rattle.order_laws.proofs.InOrder.{Order}
 use Rattle.shard_laws.proofs.Refalling.{all_durable, falls_restarted, stage_name}
 use Rattle.shard_laws.proofs.Relisting.{requests_none, unended_none, voter_is, pair_there, pair_of}
-use Rattle.shard_laws.proofs.Rebuilding.{Found, unmoved_from, out_left, out_right, Restarted, of_restarts}
+use Rattle.shard_laws.proofs.Rebuilding.{Found, unmoved_from, Restarted, of_restarts}
 use Rattle.shard_laws.proofs.Remaking.{view_remade, committed_remade, values_remade, rises_remade, all_written, wrote_remade}
 use Rattle.clv_base.specs.LogRules.{listed_in}
-use Rattle.shard_laws.proofs.Dooming.{in_filter, filter_in}
 
 -- ---- a cut of the log
 
@@ -71,27 +74,18 @@ abbrev pub IsCommitted : Option Request → Type 0
 IsCommitted None = Unit {0}
 IsCommitted (Some q) = (q.state ≡ Undecided → ⊥) × (q.state ≡ Finished → ⊥)
 
-not_undecided : (ps : List ℕ) → Committed ps ≡ Undecided → ⊥
-not_undecided ps e = absurd cc
-
-not_finished : (ps : List ℕ) → Committed ps ≡ Finished → ⊥
-not_finished ps e = absurd cc
-
 pub restored_committed : (rs : Table (List ℕ)) (t : TxId) → IsCommitted (tx_get t (restored_requests rs))
 restored_committed [] t = tt
 restored_committed (r ∷ rs) t = at (tx_same t r.0) (restored_committed rs t)
   where
     at : (b : Bool) → IsCommitted (tx_get t (restored_requests rs)) → IsCommitted (cond b (Some (restored_request r.1)) (tx_get t (restored_requests rs)))
-    at true ih = (not_undecided r.1, not_finished r.1)
+    at true ih = (committed_not r.1, committed_unfinished r.1)
     at false ih = ih
 
 -- ---- all of it
 
 none_stage : (st : Stage) → ◌≡◌ {A = Option Stage} None (Some st) → ⊥
 none_stage st e = absurd cc
-
-none_number : (n : ℕ) → ◌≡◌ {A = Option ℕ} None (Some n) → ⊥
-none_number n e = absurd cc
 
 -- the state after a restart, with what is in doubt, its records and its locks given
 unfoldable pub state_with : Shard → ℕ → List LogRecord → List TxId → Records → Locks → Shard
@@ -126,12 +120,6 @@ sealed_closed before (r ∷ rs) t d c w = ⊎_elim (λ h. one r d.0 h) (λ h. se
     one : (r : LogRecord) → Unprepared before r → is_update_of t r ≡ true → ⊥
     one (Update tx k b a) o e = both_ways _ (subst (λ z. prepared_in before z ≡ false) (sym (tx_true t tx e)) o) c
     one _ o e = both_ways false refl e
-
-present_is : (o : Option Stage) → is_present o ≡ true → (o ≡ Some Active) ⊎ (o ≡ Some Closed)
-present_is None e = absurd (both_ways false refl e)
-present_is (Some Active) e = inl refl
-present_is (Some Closed) e = inr refl
-present_is (Some (Gone d)) e = absurd (both_ways false refl e)
 
 -- between the steps those that an abort took away have fallen
 abbrev pub Bounded : Past → Shard → Type 0
@@ -363,8 +351,8 @@ module _ (all : List Item) (g : Past) (s : Shard) (c epoch : ℕ) (log : List Lo
   -- who does not stay: neither committed nor in doubt in the cut
   gone_facts : (t : TxId) → stays t ≡ false → (committed_in log t ≡ false) × (tx_in t doubt ≡ false) × (tx_in t g.over ≡ false)
   gone_facts t e =
-      let w = out_left (is_winner s.shard (take c s.local.log) t) (tx_in t g.over) e in
-      (found.commits t ∙ out_left (committed_in (take c s.local.log) t) (tx_in t doubt) w, out_right (committed_in (take c s.local.log) t) (tx_in t doubt) w, out_right (is_winner s.shard (take c s.local.log) t) (tx_in t g.over) e)
+      let w = or_false_left (is_winner s.shard (take c s.local.log) t) (tx_in t g.over) e in
+      (found.commits t ∙ or_false_left (committed_in (take c s.local.log) t) (tx_in t doubt) w, or_false_right (committed_in (take c s.local.log) t) (tx_in t doubt) w, or_false_right (is_winner s.shard (take c s.local.log) t) (tx_in t g.over) e)
 
   -- it is left out if it is here
   here_out : (t : TxId) → stays t ≡ false → is_present (stage_of s.local t) ≡ true → tx_in t (left_out s (revived s epoch log)) ≡ true
@@ -486,9 +474,9 @@ module _ (all : List Item) (g : Past) (s : Shard) (c epoch : ℕ) (log : List Lo
       over = λ t i. ⊎_elim (λ d. inl (committed_remade s.shard (take c s.local.log) log re t (durable_cut s.durable c s.local.log t le d)))
           (λ r. inr (found.commits t ∙ cut_false c s.local.log t r.0, found.wrote t ∙ cut_wrote c s.local.log t r.1, absent_now t (not_doubt t r.1), r.3)) (h.kept.over t i);
       dead = λ t e. let d = found.dead t e in (
-        found.commits t ∙ out_left (committed_in (take c s.local.log) t) (tx_in t doubt) d,
+        found.commits t ∙ or_false_left (committed_in (take c s.local.log) t) (tx_in t doubt) d,
         (λ a. no_active t a),
-        (λ a. both_ways _ (out_right (committed_in (take c s.local.log) t) (tx_in t doubt) d) (restored_stage doubt t Closed a).1),
+        (λ a. both_ways _ (or_false_right (committed_in (take c s.local.log) t) (tx_in t doubt) d) (restored_stage doubt t Closed a).1),
       );
       tidy = found.tidy;
       prepared = record {
@@ -503,7 +491,7 @@ module _ (all : List Item) (g : Past) (s : Shard) (c epoch : ℕ) (log : List Lo
       order = later_mono _ _ (λ x y f clash. f.0 clash) (filter (λ x. stays x.tx) g.items) (later_filter _ (λ x. stays x.tx) g.items h.kept.order);
       causes = causes_now;
       recover = λ t p e. ⊎_elim (λ o. inl (in_more (left_out s (revived s epoch log)) g.lost t o.0, λ a. no_active t a)) (λ d. recover_now t p d (h.kept.prepared.recover t p e)) (h.kept.recover t p e);
-      front = λ n e. absurd (none_number n e);
+      front = λ n e. absurd (none-some n e);
     };
     told = told_now;
     within = part_filter (λ x. stays x.tx) g.items all h.within;

@@ -1,6 +1,6 @@
 -- What the log says of a home's requests: whose COMMIT it may write, and which COMMITs await their END.
-use Rattle.std.proofs.Common.{◌≡◌, refl, sym, ◌∙◌, ℕ, Bool, true, false, cond, ◌||◌, List, [], ◌∷◌, ◌++◌, Option, Some, None}
-use Rattle.std.proofs.lemmas.Bool.{both_ways, cond-true, cond-false}
+use Rattle.std.proofs.Common.{◌≡◌, sym, ◌∙◌, ℕ, false, List, [], ◌∷◌, ◌++◌, Some, None}
+use Rattle.std.proofs.lemmas.Bool.{cond-true, cond-false, or_from}
 use Rattle.std.proofs.lemmas.List.Folds.{list_any-append}
 use Rattle.clv_base.specs.declared.names.TxId.{TxId}
 use Rattle.clv_base.specs.declared.logs.LogRecord.{LogRecord}
@@ -10,6 +10,8 @@ use Rattle.clv_base.specs.declared.state.RequestState.TheVariants.{Undecided, Co
 use Rattle.clv_base.specs.Orders.{Table, tx_same, tx_get}
 use Rattle.clv_base.specs.Logs.{committed_in, prepared_in, ended_in, prepare_of, commit_parts, is_end_of}
 use Rattle.clv_base.proofs.SameNames.{tx_self}
+use Rattle.law_base.proofs.Bools.{or_false_left, or_false_right}
+use Rattle.law_base.proofs.Commits.{parts_keep}
 use Rattle.shard_laws.proofs.Ordered.{prepare_same}
 
 -- an undecided one is of this run, and a PREPARE of it names this shard; a commit that awaits its parts has its COMMIT, and no END
@@ -22,31 +24,9 @@ Rulings shard run requests log = (t : TxId) (q : Request) → tx_get t requests 
 
 -- ---- more records
 
-parts_case : (b : Bool) (x ps : List ℕ) (o p : Option (List ℕ)) → cond b (Some x) o ≡ Some ps → (o ≡ Some ps → p ≡ Some ps) → cond b (Some x) p ≡ Some ps
-parts_case true x ps o p e k = e
-parts_case false x ps o p e k = k e
-
-parts_keep : (log more : List LogRecord) (t : TxId) (ps : List ℕ) → commit_parts log t ≡ Some ps → commit_parts (log ++ more) t ≡ Some ps
-parts_keep [] more t ps e = absurd cc
-parts_keep (Commit tx parts ∷ rs) more t ps e = parts_case (tx_same t tx) parts ps (commit_parts rs t) (commit_parts (rs ++ more) t) e (parts_keep rs more t ps)
-parts_keep (Update tx k b a ∷ rs) more t ps e = parts_keep rs more t ps e
-parts_keep (Clr tx u k a ∷ rs) more t ps e = parts_keep rs more t ps e
-parts_keep (Prepare tx home qs ∷ rs) more t ps e = parts_keep rs more t ps e
-parts_keep (Abort tx ∷ rs) more t ps e = parts_keep rs more t ps e
-parts_keep (End tx ∷ rs) more t ps e = parts_keep rs more t ps e
-parts_keep (Restart run epoch ∷ rs) more t ps e = parts_keep rs more t ps e
-
-or_l : (a b : Bool) → (a || b) ≡ false → a ≡ false
-or_l true b e = e
-or_l false b e = refl
-
-or_r : (a b : Bool) → (a || b) ≡ false → b ≡ false
-or_r true b e = absurd (both_ways true e refl)
-or_r false b e = e
-
 pub parts_new : (log : List LogRecord) (t : TxId) (ps : List ℕ) → committed_in log t ≡ false → commit_parts (log ++ Commit t ps ∷ []) t ≡ Some ps
 parts_new [] t ps e = cond-true (tx_same t t) (Some ps) None (tx_self t)
-parts_new (Commit tx parts ∷ rs) t ps e = cond-false (tx_same t tx) (Some parts) (commit_parts (rs ++ Commit t ps ∷ []) t) (or_l _ _ e) ∙ parts_new rs t ps (or_r (tx_same t tx) _ e)
+parts_new (Commit tx parts ∷ rs) t ps e = cond-false (tx_same t tx) (Some parts) (commit_parts (rs ++ Commit t ps ∷ []) t) (or_false_left _ _ e) ∙ parts_new rs t ps (or_false_right (tx_same t tx) _ e)
 parts_new (Update tx k b a ∷ rs) t ps e = parts_new rs t ps e
 parts_new (Clr tx u k a ∷ rs) t ps e = parts_new rs t ps e
 parts_new (Prepare tx home qs ∷ rs) t ps e = parts_new rs t ps e
@@ -54,12 +34,8 @@ parts_new (Abort tx ∷ rs) t ps e = parts_new rs t ps e
 parts_new (End tx ∷ rs) t ps e = parts_new rs t ps e
 parts_new (Restart run epoch ∷ rs) t ps e = parts_new rs t ps e
 
-or_none : (a b : Bool) → a ≡ false → b ≡ false → (a || b) ≡ false
-or_none true b e f = e
-or_none false b e f = f
-
 pub unended_more : (log more : List LogRecord) (t : TxId) → ended_in log t ≡ false → ended_in more t ≡ false → ended_in (log ++ more) t ≡ false
-unended_more log more t e f = list_any-append (is_end_of t) log more ∙ or_none _ _ e f
+unended_more log more t e f = list_any-append (is_end_of t) log more ∙ or_from _ _ e f
 
 pub ruled_more : (shard run : ℕ) (log more : List LogRecord) (t : TxId) (q : Request) → (q.state ≡ Undecided → prepared_in more t ≡ false) → ended_in more t ≡ false → Ruled shard run log t q → Ruled shard run (log ++ more) t q
 ruled_more shard run log more t q unprepared unended r = record {

@@ -4,6 +4,7 @@ use Rattle.std.specs.Prelude.{take}
 use Rattle.std.specs.List.{AllByRecursion, filter, list_all}
 use Rattle.std.proofs.lemmas.Bool.{both_ways, and_parts, or_cases, cases_Bool}
 use Rattle.std.proofs.lemmas.List.{take_all}
+use Rattle.std.proofs.Math.Bool.{or-false}
 use Rattle.clv_base.specs.declared.modes.Anchor.TheVariants.{At}
 use Rattle.clv_base.specs.declared.modes.Part.TheVariants.{X}
 use Rattle.clv_base.specs.declared.state.Stage.{Stage}
@@ -48,10 +49,6 @@ writer_committed g s x h q w =
     ⊎_elim (λ a. absurd (both_ways _ (not_gone r.1 p.stage (r.2).3) a)) (λ a. a) (or_cases (is_gone_stage p.stage) (committed_in s.local.log x.tx) t))
     (cases_Bool (commit_durable s.local.log s.durable x.tx))
 
-or_nothing : (b : Bool) → (b || false) ≡ b
-or_nothing true = refl
-or_nothing false = refl
-
 pub settled_map : (g : Past) (s : Shard) → Kept g (view_of s) → IsQuiet s → live_pairs s.local.records ≡ stands (s.local.log ∷ [])
 settled_map g s h q =
     let log = s.local.log in
@@ -63,7 +60,7 @@ settled_map g s h q =
     ∙ h.values k
     ∙ ap (top_value k) (sym (filter_all_kept (committed_in log) (standing log) all))
     ∙ sym (subst (λ l. map_get k (fold_updates (committed_in l) l []) ≡ top_value k (filter (of_kept (committed_in l)) (standing log))) whole (cut_values g (view_of s) (length log) k h)))
-    ∙ sym (fold_alike (committed_somewhere (log ∷ [])) (committed_in log) log [] (λ t. or_nothing (committed_in log t)))
+    ∙ sym (fold_alike (committed_somewhere (log ∷ [])) (committed_in log) log [] (λ t. or-false (committed_in log t)))
 
 pub quiet_is_settled : QuietIsSettled
 quiet_is_settled shard run before all asked told met fell s leads q = let b = held shard run before all asked told met fell s leads in settled_map b.0 s (b.1).kept q

@@ -1,11 +1,10 @@
 -- A part that is closed, one that leaves, and a set that is taken away keep the order rules.
-use Rattle.std.proofs.Common.{◌≡◌, ◌⊎◌, inl, inr, ⊎_elim, refl, sym, ap, subst, ◌∙◌, ℕ, Bool, true, false, ◌||◌, List, [], ◌∷◌, ◌++◌, map, Option, Some, is_some, append_assoc}
+use Rattle.std.proofs.Common.{◌≡◌, ◌⊎◌, inl, inr, ⊎_elim, refl, sym, ap, subst, ◌∙◌, ℕ, Bool, true, false, List, [], ◌∷◌, ◌++◌, map, Option, Some, is_some, append_assoc}
 use Rattle.std.specs.List.{AllByRecursion, filter}
-use Rattle.std.proofs.lemmas.Bool.{cases_Bool, both_ways, cond_both, not-true, false_from_ne_true}
+use Rattle.std.proofs.lemmas.Bool.{cases_Bool, both_ways, cond_both, not-true, false_from_ne_true, or_from}
 use Rattle.clv_base.specs.declared.names.TxId.{TxId}
 use Rattle.clv_base.specs.declared.logs.LogRecord.{LogRecord}
 use Rattle.clv_base.specs.declared.logs.LogRecord.TheVariants.{Clr, Prepare, Abort}
-use Rattle.clv_base.specs.declared.state.Stage.{Stage}
 use Rattle.clv_base.specs.declared.state.Stage.TheVariants.{Active, Closed}
 use Rattle.clv_base.specs.declared.state.Held.{Held}
 use Rattle.clv_base.specs.Orders.{Table, tx_same, tx_in}
@@ -17,7 +16,7 @@ use Rattle.clv_base.specs.Undo.{gone_in, pairs_without, aborts_of, clrs_of, newe
 use Rattle.clv_base.specs.OneShard.{closed_in}
 use Rattle.clv_base.proofs.SameNames.{or_left, or_right, tx_true, tx_self, tx_ne}
 use Rattle.law_base.specs.Undone.{stays_of}
-use Rattle.law_base.proofs.Lists.{all_mono}
+use Rattle.law_base.proofs.Lists.{all_mono, all_append}
 use Rattle.law_base.proofs.Tables.{stage_in, is_pair, without_pairs, pairs_stay}
 use Rattle.law_base.proofs.Commits.{committed_keeps}
 use Rattle.law_base.proofs.Undoing.{Upward, standing_undone}
@@ -27,23 +26,16 @@ use Rattle.shard_laws.proofs.Serial.{Once, once_filter}
 use Rattle.shard_laws.proofs.Changes.{wrote_keeps}
 use Rattle.shard_laws.proofs.Prepared.{prepared_append}
 use Rattle.shard_laws.proofs.Restoring.{standing_updates, wrote_of}
-use Rattle.shard_laws.proofs.Closing.{stage_back, closed_not_active}
-use Rattle.law_base.proofs.Stages.{closed_other as stage_left}
-use Rattle.shard_laws.proofs.Leaving.{all_append}
+use Rattle.shard_laws.proofs.Closing.{stage_back}
+use Rattle.law_base.proofs.Stages.{closed_other as stage_left, closed_not_active}
 use Rattle.law_base.proofs.Stages.{active_back, closed_back, stage_other, own_go}
-use Rattle.shard_laws.proofs.Dooming.{in_filter, filter_in}
+use Rattle.law_base.proofs.Sets.{filter_in, in_filter}
 use Rattle.shard_laws.proofs.Following.{Follows, follows_append, last_push, before_push, greatest_plain}
 use Rattle.shard_laws.proofs.Compensating.{undo_follows}
 use Rattle.shard_laws.proofs.Writers.{writers_more, writers_close, writers_release}
-use Rattle.shard_laws.proofs.Ordered.{LiesOn, Under, Lying, Ordered, Calm, Stepped, listed_same, ordered_step}
+use Rattle.shard_laws.proofs.Ordered.{LiesOn, Under, Lying, Ordered, Calm, Stepped, listed_same, ordered_step, under_more}
 
 -- ---- a PREPARE of an active part
-
-or_out : (b : Bool) → b ≡ false → (b || false) ≡ false
-or_out b e = ap (λ c. c || false) e
-
-closed_active : ◌≡◌ {A = Option Stage} (Some Closed) (Some Active) → ⊥
-closed_active e = absurd cc
 
 pub ordered_prepare : (asked : List TxId) (shard run : ℕ) (parts : Table Held) (pairs : List (TxId × TxId)) (log : List LogRecord) (t : TxId) (home : ℕ) (ps : List TxId) → Ordered asked shard run parts pairs log → may_follow shard log (Prepare t home ps) ≡ true
     → stage_in parts t ≡ Some Active → tx_in t asked ≡ true → Ordered asked shard run parts pairs (log ++ Prepare t home ps ∷ [])
@@ -57,7 +49,7 @@ ordered_prepare asked shard run parts pairs log t home ps o m act asks = record 
   decided = λ u c w. ⊎_elim (λ old. ⊎_elim (λ p. inl (prepared_append log (Prepare t home ps ∷ []) u ∙ or_left _ _ p)) (λ k. inr (committed_keeps log (Prepare t home ps ∷ []) u k)) (o.decided u c old)) (λ a. absurd (both_ways false refl a)) (push_cases (is_update_of u) log (Prepare t home ps) w);
   others = λ u p e. let q = o.others u p e in (q.0, ⊎_elim (λ c. inl (committed_keeps log (Prepare t home ps ∷ []) p c)) (λ c. inr (c.0, wrote_keeps log (Prepare t home ps ∷ []) p c.1)) q.1);
   lists = λ u p c i. ⊎_elim (λ k. inl (committed_keeps log (Prepare t home ps ∷ []) p k)) (λ e. inr e)
-      (o.lists u p c (ap (tx_in p) (sym (listed_same log (Prepare t home ps ∷ []) u (or_out _ (tx_ne u t (λ s. closed_active (sym c ∙ ap (stage_in parts) s ∙ act)))))) ∙ i));
+      (o.lists u p c (ap (tx_in p) (sym (listed_same log (Prepare t home ps ∷ []) u (or_from _ false (tx_ne u t (λ s. closed_not_active (sym c ∙ ap (stage_in parts) s ∙ act))) refl))) ∙ i));
   asks = λ u e. ⊎_elim (λ old. o.asks u old) (λ s. inl (subst (λ z. tx_in z asked ≡ true) (sym (tx_true u t s)) asks)) (push_cases (is_prepare_of u) log (Prepare t home ps) e);
 }
 
@@ -75,7 +67,7 @@ ordered_close asked shard run parts pairs log t o act wrote listed = record {
   decided = λ u c w. ⊎_elim
       (λ s. let e = tx_true t u s in subst (λ z. (prepared_in log z ≡ true) ⊎ (committed_in log z ≡ true)) e (wrote (subst (λ z. wrote_in log z ≡ true) (sym e) w)))
       (λ n. o.decided u (sym (stage_left parts t u n) ∙ c) w) (cases_Bool (tx_same t u));
-  others = λ u p e. let q = o.others u p e in (q.0, ⊎_elim (λ c. inl c) (λ c. inr (stage_left parts t p (tx_ne t p (λ s. closed_active (sym c.0 ∙ ap (stage_in parts) (sym s) ∙ act))) ∙ c.0, c.1)) q.1);
+  others = λ u p e. let q = o.others u p e in (q.0, ⊎_elim (λ c. inl c) (λ c. inr (stage_left parts t p (tx_ne t p (λ s. closed_not_active (sym c.0 ∙ ap (stage_in parts) (sym s) ∙ act))) ∙ c.0, c.1)) q.1);
   lists = λ u p c i. ⊎_elim
       (λ s. let e = tx_true t u s in subst (λ z. (committed_in log p ≡ true) ⊎ (is_pair pairs z p ≡ true)) e (listed p (subst (λ z. tx_in p (listed_in log z) ≡ true) (sym e) i)))
       (λ n. o.lists u p (sym (stage_left parts t u n) ∙ c) i) (cases_Bool (tx_same t u));
@@ -149,10 +141,6 @@ under_filter set pairs done (v ∷ vs) u =
     all_stay P [] a = tt
     all_stay P (x ∷ xs) a = cond_both (stays_of set x) (x ∷ filter (stays_of set) xs) (filter (stays_of set) xs) (AllByRecursion P) (λ e. (a.0, all_stay P xs a.1)) (λ e. all_stay P xs a.1)
 
-under_done : (pairs : List (TxId × TxId)) (f h : TxId → Bool) (ws : List StandingUpdate) → ((t : TxId) → f t ≡ true → h t ≡ true) → Under pairs f ws → Under pairs h ws
-under_done pairs f h [] more u = tt
-under_done pairs f h (v ∷ vs) more u = (all_mono _ _ (λ w l e. ⊎_elim (λ s. inl s) (λ m. inr (⊎_elim (λ c. inl (more w.tx c)) (λ p. inr p) m)) (l e)) vs u.0, under_done pairs f h vs more u.1)
-
 calm_aborts : (parts : Table Held) (ts : List TxId) → ((t : TxId) → tx_in t ts ≡ true → is_present (stage_in parts t) ≡ false) → AllByRecursion (Calm parts) (map (λ t. Abort t) ts)
 calm_aborts parts [] h = tt
 calm_aborts parts (t ∷ ts) h = (
@@ -201,7 +189,7 @@ module _ (asked : List TxId) (shard run : ℕ) (locks : Locks) (parts : Table He
   pub lying_taken : Lying (release set locks) (pairs_without set pairs) (log ++ aborts_of log set ++ clrs_of set (standing log))
   lying_taken = record {
     under = subst (Under (pairs_without set pairs) (committed_in (log ++ aborts_of log set ++ clrs_of set (standing log)))) (sym (standing_undone set log))
-        (under_done (pairs_without set pairs) (committed_in log) (committed_in (log ++ aborts_of log set ++ clrs_of set (standing log))) (filter (stays_of set) (standing log))
+        (under_more (pairs_without set pairs) (committed_in log) (committed_in (log ++ aborts_of log set ++ clrs_of set (standing log))) (filter (stays_of set) (standing log))
         (λ t c. ap (λ z. committed_in z t) (append_assoc log (aborts_of log set) (clrs_of set (standing log))) ∙ committed_keeps log (aborts_of log set ++ clrs_of set (standing log)) t c)
         (under_filter set pairs (committed_in log) (standing log) l.under));
     writers = writers_release _ set locks

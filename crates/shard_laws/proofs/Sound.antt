@@ -1,8 +1,9 @@
 -- What is due, and each event, keep what a shard keeps.
 use Rattle.std.proofs.Common.{◌≡◌, ℕ, zero, suc, ◌<◌, ◌⊎◌, inl, inr, ⊎_elim, Bool, true, false, cond, not, ◌&&◌, ◌||◌, List, [], ◌∷◌, ◌++◌, Option, Some, None, is_none, length, ◌==◌, eqb-true, arith, refl, sym, ap, subst, ◌∙◌, append_assoc, eq-eqb, map}
-use Rattle.std.specs.List.{AllByRecursion, filter, list_all}
-use Rattle.std.proofs.lemmas.Bool.{cases_Bool, both_ways, cond-false, or_cases, and_parts, and_from, false_from_ne_true, cond_both, not-true}
+use Rattle.std.specs.List.{filter, list_all}
+use Rattle.std.proofs.lemmas.Bool.{cases_Bool, both_ways, or_cases, and_parts, and_from, false_from_ne_true, cond_both, not-true, or_from}
 use Rattle.std.proofs.lemmas.List.Folds.{list_any-append}
+use Rattle.std.proofs.lemmas.Option.{same_Some, none-some as none_some}
 use Rattle.clv_base.specs.declared.names.TxId.{TxId}
 use Rattle.clv_base.specs.declared.logs.LogRecord.{LogRecord}
 use Rattle.clv_base.specs.declared.logs.LogRecord.TheVariants.{Commit, End}
@@ -19,9 +20,9 @@ use Rattle.clv_base.specs.declared.state.Ruling.TheVariants.{Commit as CommitRul
 use Rattle.clv_base.specs.OneShard.{purge, mark_dropped}
 use Rattle.clv_base.specs.Due.{finish_part, or_else, with_commit_done, commit_due, with_vote, finish_reader, give_vote, vote_due, with_ruling, do_ruling, rule, request_due, due_of, first_due, known_txs, next_due, do_due, with_due_done, work}
 use Rattle.clv_base.specs.Events.{finish}
-use Rattle.protocol_laws.proofs.Facts.{predecessors_by_facts}
+use Rattle.protocol_laws.proofs.Facts.{durable_before}
 use Rattle.shard_laws.proofs.Marking.{same_again, pairs_none, keeps_marked, gone_stays, keeps_again}
-use Rattle.law_base.proofs.Stages.{stage_marked}
+use Rattle.law_base.proofs.Stages.{stage_marked, present_is, was_present}
 use Rattle.law_base.specs.Items.{Item}
 use Rattle.clv_base.proofs.SameNames.{or_left, or_right, tx_true, tx_self, tx_ne}
 use Rattle.law_base.proofs.Undoing.{keeps_of, standing_append}
@@ -38,19 +39,18 @@ use Rattle.clv_base.specs.declared.state.RequestState.TheVariants.{Undecided, Co
 use Rattle.clv_base.specs.declared.causes.AbortCause.{AbortCause}
 use Rattle.clv_base.specs.Orders.{tx_set, nat_in}
 use Rattle.shard_laws.proofs.Kept.{view_of}
-use Rattle.shard_laws.proofs.Dooming.{may_go, in_filter, list_all_at}
+use Rattle.shard_laws.proofs.Dooming.{may_go}
 use Rattle.shard_laws.proofs.Distinct.{doomed_once}
 use Rattle.shard_laws.specs.OneShard.{is_doomed}
-use Rattle.shard_laws.proofs.Falls.{Falls, none_lists, falls_more, falls_parts, falls_over, falls_finish, falls_taken}
+use Rattle.shard_laws.proofs.Falls.{Falls, falls_more, falls_parts, falls_over, falls_finish, falls_taken}
 use Rattle.shard_laws.proofs.Listing.{order_of, prepared_wrote, committed_lists}
 use Rattle.shard_laws.proofs.Shutting.{upward_under}
-use Rattle.shard_laws.proofs.Ordered.{unlisted, present_is}
+use Rattle.shard_laws.proofs.Ordered.{unlisted}
 use Rattle.shard_laws.proofs.Leaving.{in_first, in_more, no_prepares}
 use Rattle.clv_base.specs.LogRules.{listed_in}
 use Rattle.clv_base.specs.Undo.{gone_in, pairs_without}
 use Rattle.clv_base.specs.OneShard.{marked_in}
 use Rattle.law_base.proofs.Tables.{stage_in}
-use Rattle.clv_base.specs.declared.state.Held.{Held}
 use Rattle.shard_laws.proofs.Keeping.{KeepsOrder, order_leaves, order_marked, order_taken, order_ends, home_commits, ended_open}
 use Rattle.shard_laws.proofs.Rulings.{Ruled, Rulings, ruled_more, ruled_other, parts_new, unended_more}
 use Rattle.clv_base.specs.LogRules.{some_parts}
@@ -58,6 +58,9 @@ use Rattle.clv_base.specs.Participant.{is_yes_vote}
 use Rattle.shard_laws.proofs.Changes.{keeps_quiet, quiet_end, keeps_commit, keeps_purge}
 use Rattle.shard_laws.proofs.Leaving.{keeps_finish, keeps_taken, MayGo, Done, no_commits, one_in}
 use Rattle.law_base.proofs.Stages.{absent_go, stage_own, stage_other, gone_by}
+use Rattle.law_base.proofs.Sets.{in_filter, none_listed}
+use Rattle.law_base.proofs.Changed.{get_set, set_none}
+use Rattle.law_base.proofs.Due.{do_due_at}
 use Rattle.shard_laws.specs.OneShard.{items_of}
 
 -- ---- lists of items
@@ -155,44 +158,6 @@ pub data Next (all : List Item) (g : Past) : Option Shard → Type 0 where
   step : {t : Shard} → After all g t → Next all g (Some t)
 
 -- ---- changed requests
-
-some_same : {V : Type 0} (q r : V) → Some q ≡ Some r → q ≡ r
-some_same q r e = cc
-
-none_some : {V : Type 0} (q : V) → ◌≡◌ {A = Option V} None (Some q) → ⊥
-none_some q e = absurd cc
-
-abbrev Set_or_old : {V : Type 0} → TxId → TxId → V → V → Option V → Type 0
-Set_or_old t u w q old = ((u ≡ t) × (q ≡ w)) ⊎ ((u ≡ t → ⊥) × (old ≡ Some q))
-
-set_here : {V : Type 0} (t u : TxId) (w q : V) (r : TxId × V) (rs : Table V) (b : Bool) → tx_same u r.0 ≡ b → tx_same t r.0 ≡ true → cond b (Some w) (tx_get u rs) ≡ Some q → Set_or_old t u w q (cond b (Some r.1) (tx_get u rs))
-set_here t u w q r rs true e f h = inl (tx_true u r.0 e ∙ sym (tx_true t r.0 f), some_same q w (sym h))
-set_here t u w q r rs false e f h = inr (λ s. both_ways _ e (subst (λ z. tx_same z r.0 ≡ true) (sym s) f), h)
-
-set_later : {V : Type 0} (t u : TxId) (w q : V) (r : TxId × V) (rs : Table V) (b : Bool) → tx_same u r.0 ≡ b → tx_same t r.0 ≡ false → cond b (Some r.1) (tx_get u (tx_set t w rs)) ≡ Some q → (tx_get u (tx_set t w rs) ≡ Some q → Set_or_old t u w q (tx_get u rs)) → Set_or_old t u w q (cond b (Some r.1) (tx_get u rs))
-set_later t u w q r rs true e f h ih = inr (λ s. both_ways _ f (subst (λ z. tx_same z r.0 ≡ true) s e), h)
-set_later t u w q r rs false e f h ih = ih h
-
-set_case : {V : Type 0} (t u : TxId) (w q : V) (r : TxId × V) (rs : Table V) (b : Bool) → tx_same t r.0 ≡ b → tx_get u (cond b ((r.0, w) ∷ rs) (r ∷ tx_set t w rs)) ≡ Some q → (tx_get u (tx_set t w rs) ≡ Some q → Set_or_old t u w q (tx_get u rs)) → Set_or_old t u w q (tx_get u (r ∷ rs))
-set_case t u w q r rs true f h ih = set_here t u w q r rs (tx_same u r.0) refl f h
-set_case t u w q r rs false f h ih = set_later t u w q r rs (tx_same u r.0) refl f h ih
-
-pub get_set : {V : Type 0} (t u : TxId) (w q : V) (rs : Table V) → tx_get u (tx_set t w rs) ≡ Some q → Set_or_old t u w q (tx_get u rs)
-get_set t u w q [] e = absurd (none_some q e)
-get_set t u w q (r ∷ rs) e = set_case t u w q r rs (tx_same t r.0) refl e (get_set t u w q rs)
-
--- who is not there is not there after a change
-none_here : {V : Type 0} (u : TxId) (r : TxId × V) (rs : Table V) (c : Bool) → tx_same u r.0 ≡ c → cond c (Some r.1) (tx_get u rs) ≡ None → (tx_same u r.0 ≡ false) × (tx_get u rs ≡ None)
-none_here u r rs true f e = absurd (none_some r.1 (sym e))
-none_here u r rs false f e = (f, e)
-
-none_case : {V : Type 0} (t u : TxId) (w : V) (r : TxId × V) (rs : Table V) (b : Bool) → tx_get u (r ∷ rs) ≡ None → (tx_get u rs ≡ None → tx_get u (tx_set t w rs) ≡ None) → tx_get u (cond b ((r.0, w) ∷ rs) (r ∷ tx_set t w rs)) ≡ None
-none_case t u w r rs true e ih = let n = none_here u r rs (tx_same u r.0) refl e in cond-false (tx_same u r.0) (Some w) (tx_get u rs) n.0 ∙ n.1
-none_case t u w r rs false e ih = let n = none_here u r rs (tx_same u r.0) refl e in cond-false (tx_same u r.0) (Some r.1) (tx_get u (tx_set t w rs)) n.0 ∙ ih n.1
-
-pub set_none : {V : Type 0} (t u : TxId) (w : V) (rs : Table V) → tx_get u rs ≡ None → tx_get u (tx_set t w rs) ≡ None
-set_none t u w [] e = refl
-set_none t u w (r ∷ rs) e = none_case t u w r rs (tx_same t r.0) e (set_none t u w rs)
 
 -- a request with another ruling
 pub rulings_set : (shard run : ℕ) (log : List LogRecord) (requests : Table Request) (t : TxId) (w : Request) → Rulings shard run requests log → Ruled shard run log t w → Rulings shard run (tx_set t w requests) log
@@ -335,9 +300,6 @@ commit_next all g s tx (Some Closed) h e =
     (λ d. let f = finished all g s tx h e (inl d) in step (record g { over = tx ∷ g.over }, record { kept = f.kept; told = f.told; within = f.within; undecided = f.undecided; readers = f.readers; apart = f.apart; unvoted = f.unvoted; read = f.read; asked = f.asked; order = f.order; falls = f.falls; unfallen = f.unfallen }, refl, refl, refl, over_more g tx, refl, refl)) (λ d. nothing)
 commit_next all g s tx (Some (Gone d)) h e = nothing
 
-some_vote : (a b : Vote) → Some a ≡ Some b → a ≡ b
-some_vote a b e = cc
-
 -- a vote changes what the shard keeps of the voter alone
 voted_sound : (all : List Item) (g : Past) (s : Shard) (tx : TxId) (v : Voter) (vote : Vote) → Sound all g s → tx_get tx s.voters ≡ Some v → (vote ≡ Read → stage_of s.local tx ≡ Some (Gone None)) → Sound all g (with_vote s tx v vote)
 voted_sound all g s tx v vote h e left = record {
@@ -348,17 +310,12 @@ voted_sound all g s tx v vote h e left = record {
   readers = h.readers;
   apart = λ u w f. ⊎_elim (λ p. subst (λ z. tx_get z s.requests ≡ None) (sym p.0) (h.apart tx v e)) (λ p. h.apart u w p.1) (get_set tx u (voted vote v) w s.voters f);
   unvoted = λ u w f. ⊎_elim (λ p. subst (λ z. wrote_in s.local.log z ≡ false → committed_in s.local.log z ≡ false) (sym p.0) (h.unvoted tx v e)) (λ p. h.unvoted u w p.1) (get_set tx u (voted vote v) w s.voters f);
-  read = λ u w f i. ⊎_elim (λ p. ap (stage_of s.local) p.0 ∙ left (some_vote vote Read (ap (λ z. z.vote) (sym p.1) ∙ i))) (λ p. h.read u w p.1 i) (get_set tx u (voted vote v) w s.voters f);
+  read = λ u w f i. ⊎_elim (λ p. ap (stage_of s.local) p.0 ∙ left (same_Some vote Read (ap (λ z. z.vote) (sym p.1) ∙ i))) (λ p. h.read u w p.1 i) (get_set tx u (voted vote v) w s.voters f);
   asked = h.asked;
   falls = h.falls;
   unfallen = h.unfallen;
   order = h.order;
 }
-
--- all predecessors are durable by the facts
-durable_before : (s : Shard) (tx : TxId) → has_durable_predecessors (facts_of s tx) ≡ true → (p : TxId) → is_pair s.local.pairs tx p ≡ true → commit_durable s.local.log s.durable p ≡ true
-durable_before s tx d p i =
-    list_all_at (λ q. commit_durable s.local.log s.durable q) p (predecessors_of s.local.pairs tx) (sym (predecessors_by_facts s.local s.durable tx) ∙ d) (pair_in s.local.pairs tx p i)
 
 -- a Read is given again, or where the part only read and its predecessors' COMMITs are durable
 abbrev ReadNow : Shard → TxId → Type 0
@@ -366,16 +323,16 @@ ReadNow s tx = (stage_of s.local tx ≡ Some Closed) × (has_durable_predecessor
 
 gone_read : (o : Option TxId) → gone_vote o ≡ Some Read → ⊥
 gone_read None e = none_some Read e
-gone_read (Some d) e = let x = some_vote (No (Doomed d)) Read e in absurd cc
+gone_read (Some d) e = let x = same_Some (No (Doomed d)) Read e in absurd cc
 
 closed_read : (a b c : Bool) → cond a (cond b (cond c (Some Yes) None) (Some Read)) None ≡ Some Read → (a ≡ true) × (b ≡ false)
 closed_read false b c e = absurd (none_some Read e)
-closed_read true true true e = let x = some_vote Yes Read e in absurd cc
+closed_read true true true e = let x = same_Some Yes Read e in absurd cc
 closed_read true true false e = absurd (none_some Read e)
 closed_read true false c e = (refl, refl)
 
 read_new : (s : Shard) (tx : TxId) (v : Voter) (o : Option Stage) → stage_of s.local tx ≡ o → vote_in_state (facts_of s tx) v.seen (state_by o) ≡ Some Read → ReadNow s tx
-read_new s tx v None e f = let x = some_vote (No (RestartedWhy v.seen s.local.epoch)) Read f in absurd cc
+read_new s tx v None e f = let x = same_Some (No (RestartedWhy v.seen s.local.epoch)) Read f in absurd cc
 read_new s tx v (Some Active) e f = absurd (none_some Read f)
 read_new s tx v (Some (Gone d)) e f = absurd (gone_read (doom_by (stage_of s.local tx)) f)
 read_new s tx v (Some Closed) e f = let c = closed_read (has_durable_predecessors (facts_of s tx)) (wrote_in s.local.log tx) (has_durable_prepare (facts_of s tx)) f in (e, c.0, c.1)
@@ -413,10 +370,6 @@ vote_next all g s tx (Some v) h e = give_next all g s tx v (vote_by (facts_of s 
 
 -- ---- rolled back
 
-all_append : {I : Type 0} (P : I → Type 0) (xs ys : List I) → AllByRecursion P xs → AllByRecursion P ys → AllByRecursion P (xs ++ ys)
-all_append P [] ys a b = b
-all_append P (x ∷ xs) ys a b = (a.0, all_append P xs ys a.1 b)
-
 none_rolled : (s : Shard) (tx t : TxId) → committed_in s.local.log t ≡ false → committed_in (s.local.log ++ aborts_of s.local.log (doomed_here s.local tx) ++ clrs_of (doomed_here s.local tx) (standing s.local.log)) t ≡ false
 none_rolled s tx t e =
     ap (λ l. committed_in l t) (append_assoc s.local.log (aborts_of s.local.log (doomed_here s.local tx)) (clrs_of (doomed_here s.local tx) (standing s.local.log)))
@@ -445,14 +398,7 @@ rolled_asked all g s tx t h e = ⊎_elim (λ c. h.asked t c) (λ c. absurd (both
 -- whom the PREPARE of one that is here lists is committed, or its predecessor
 lists_here : (all : List Item) (g : Past) (s : Shard) → Sound all g s → (u p : TxId) → is_present (stage_of s.local u) ≡ true → tx_in p (listed_in s.local.log u) ≡ true → (committed_in s.local.log p ≡ true) ⊎ (is_pair s.local.pairs u p ≡ true)
 lists_here all g s h u p here i =
-    ⊎_elim (λ a. absurd (none_lists p _ (unlisted s.local.log u (h.kept.prepared.unprepared u a)) i)) (λ c. h.order.ordered.lists u p c i) (present_is (stage_of s.local u) here)
-
-was_present : (set : List TxId) (d : Option TxId) (u : TxId) (parts : Table Held) → is_present (stage_in (gone_in set d parts) u) ≡ true → is_present (stage_in parts u) ≡ true
-was_present set d u parts e = at (is_present (stage_in parts u)) refl
-  where
-    at : (b : Bool) → is_present (stage_in parts u) ≡ b → b ≡ true
-    at true f = refl
-    at false f = absurd (both_ways _ (absent_go set d u parts f) e)
+    ⊎_elim (λ a. absurd (none_listed p _ (unlisted s.local.log u (h.kept.prepared.unprepared u a)) i)) (λ c. h.order.ordered.lists u p c i) (present_is (stage_of s.local u) here)
 
 pub rolled : (all : List Item) (g : Past) (s : Shard) (tx : TxId) → Sound all g s → committed_in s.local.log tx ≡ false → After all g (with_local (roll_back tx) s)
 rolled all g s tx h open_ =
@@ -489,7 +435,7 @@ rolled all g s tx h open_ =
 pub committed_not : (parts : List ℕ) → Committed parts ≡ Undecided → ⊥
 committed_not parts e = absurd cc
 
-committed_unfinished : (parts : List ℕ) → Committed parts ≡ Finished → ⊥
+pub committed_unfinished : (parts : List ℕ) → Committed parts ≡ Finished → ⊥
 committed_unfinished parts e = absurd cc
 
 finished_not : Finished ≡ Undecided → ⊥
@@ -659,17 +605,13 @@ refuse_next all g s tx q (Some c) h open_ e =
     step (r.0, record { kept = f.kept; told = f.told; within = f.within; undecided = f.undecided; readers = f.readers; apart = f.apart; unvoted = f.unvoted; read = f.read; asked = f.asked; order = f.order; falls = f.falls; unfallen = f.unfallen }, r.2, r.3, r.4, r.5, r.6, r.7)
 
 -- the shard itself is no part of its commit
-none_of_two : (a b : Bool) → a ≡ false → b ≡ false → (a || b) ≡ false
-none_of_two true b e f = e
-none_of_two false b e f = f
-
 not_in_filter : (n : ℕ) (f : ℕ → Bool) (xs : List ℕ) → nat_in n xs ≡ false → nat_in n (filter f xs) ≡ false
 not_in_filter n f [] e = refl
 not_in_filter n f (x ∷ xs) e = at (n == x) refl e (not_in_filter n f xs)
   where
     at : (b : Bool) → (n == x) ≡ b → (b || nat_in n xs) ≡ false → (nat_in n xs ≡ false → nat_in n (filter f xs) ≡ false) → nat_in n (cond (f x) (x ∷ filter f xs) (filter f xs)) ≡ false
     at true q e k = absurd (both_ways true e refl)
-    at false q e k = cond_both (f x) (x ∷ filter f xs) (filter f xs) (λ l. nat_in n l ≡ false) (λ c. none_of_two (n == x) (nat_in n (filter f xs)) q (k e)) (λ c. k e)
+    at false q e k = cond_both (f x) (x ∷ filter f xs) (filter f xs) (λ l. nat_in n l ≡ false) (λ c. or_from (n == x) (nat_in n (filter f xs)) q (k e)) (λ c. k e)
 
 others_only : (shard : ℕ) (xs : List ℕ) → nat_in shard (filter (λ p. not (p == shard)) xs) ≡ false
 others_only shard [] = refl
@@ -677,7 +619,7 @@ others_only shard (x ∷ xs) = at (x == shard) refl (others_only shard xs)
   where
     at : (b : Bool) → (x == shard) ≡ b → nat_in shard (filter (λ p. not (p == shard)) xs) ≡ false → nat_in shard (cond (not b) (x ∷ filter (λ p. not (p == shard)) xs) (filter (λ p. not (p == shard)) xs)) ≡ false
     at true q k = k
-    at false q k = none_of_two (shard == x) (nat_in shard (filter (λ p. not (p == shard)) xs)) (false_from_ne_true _ (λ e. both_ways _ q (eq-eqb x shard (sym (eqb-true shard x e))))) k
+    at false q k = or_from (shard == x) (nat_in shard (filter (λ p. not (p == shard)) xs)) (false_from_ne_true _ (λ e. both_ways _ q (eq-eqb x shard (sym (eqb-true shard x e))))) k
 
 not_own_part : (shard : ℕ) (q : Request) → nat_in shard (yes_shards shard q) ≡ false
 not_own_part shard q = not_in_filter shard (λ p. is_yes_vote (vote_from p q.votes)) (others shard q.touched) (others_only shard (map (λ t. t.0) q.touched))
@@ -752,9 +694,6 @@ first_next all g s [] h = nothing
 first_next all g s (tx ∷ txs) h = found_next all g (due_of s tx) _ (due_next all g s tx h) (first_next all g s txs h)
 
 -- ---- until nothing is due
-
-abbrev do_due_at : ℕ → Shard → Option Shard → Shard
-do_due_at n s o = elim o [ Some t ↦ do_due n t | None ↦ s ]
 
 settle_step : (all : List Item) (g : Past) (n : ℕ) (s : Shard) (o : Option Shard) → Sound all g s → Next all g o → ((h : Past) (t : Shard) → Sound all h t → After all h (do_due n t)) → After all g (do_due_at n s o)
 settle_step all g n s None h nothing ih = at_once all g s h

@@ -16,7 +16,7 @@ use Rattle.clv_base.specs.declared.events.Outcome.{Outcome}
 use Rattle.clv_base.specs.declared.events.Outcome.TheVariants.{Answered, Dead}
 use Rattle.clv_base.specs.Orders.{tx_same, tx_in}
 use Rattle.clv_base.specs.Folding.{IsRising}
-use Rattle.clv_base.specs.Maps.{KeyMap, replay_map, replay_answers, ops_after, ops_answers}
+use Rattle.clv_base.specs.Maps.{KeyMap, replay_map, replay_answers}
 use Rattle.clv_base.specs.Logs.{StandingUpdate, standing, committed_in, in_doubt, is_winner, stands, committed_somewhere}
 use Rattle.clv_base.specs.State.{Shard}
 use Rattle.clv_base.specs.OneShard.{OpReply, OpWaits, OpCrowded, OpDies, OpAnswers, seen_fits, op_seen}
@@ -25,7 +25,7 @@ use Rattle.clv_base.proofs.SameNames.{or_left, or_right, tx_true}
 use Rattle.clv_base.proofs.Folding.{same_map}
 use Rattle.law_base.specs.Items.{Item, Runs, after, AllLater, Clash, pile}
 use Rattle.law_base.proofs.Lists.{all_mono, all_filter, later_mono, later_filter}
-use Rattle.law_base.proofs.Running.{top_value, Keeps, kept_runs, rising_all, pile_value}
+use Rattle.law_base.proofs.Running.{top_value, Keeps, kept_runs, rising_all, pile_value, replay_map_append, replay_answers_append}
 use Rattle.law_base.proofs.Tables.{is_pair}
 use Rattle.shard_laws.specs.OneShard.{items_of, with_one, new_item, new_asked, new_met, MayHappen, MayServe, Leads, opens, happens, lands, others_ask, revives, ops_by, answers_by, found_items, found_asked, found_met, map_found, LaterReplay}
 use Rattle.order_laws.specs.Order.{undone_in}
@@ -44,16 +44,6 @@ use Rattle.shard_laws.proofs.Found.{UnderFound, order_once}
 use Rattle.shard_laws.proofs.Opening.{follows, order, doubt_apart, doubt_asked, listed_place, start_value, runs_start, split_start, items_doubted, under_start, reached}
 use Rattle.shard_laws.proofs.Happening.{push_other}
 use Rattle.shard_laws.proofs.Choosing.{chosen_replay, chosen_stand_before}
-
--- ---- a replay in two parts
-
-replay_map_append : (m : KeyMap) (xs ys : List (List Op)) → replay_map m (xs ++ ys) ≡ replay_map (replay_map m xs) ys
-replay_map_append m [] ys = refl
-replay_map_append m (x ∷ xs) ys = replay_map_append (ops_after x m) xs ys
-
-replay_answers_append : (m : KeyMap) (xs ys : List (List Op)) → replay_answers m (xs ++ ys) ≡ replay_answers m xs ++ replay_answers (replay_map m xs) ys
-replay_answers_append m [] ys = refl
-replay_answers_append m (x ∷ xs) ys = ap (λ l. ops_answers x m ∷ l) (replay_answers_append (ops_after x m) xs ys)
 
 -- ---- who asked does nothing more
 

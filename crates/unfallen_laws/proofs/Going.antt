@@ -21,6 +21,7 @@ use Rattle.history_laws.proofs.Stepping.{Happens, finishes, stops, settled}
 use Rattle.history_laws.proofs.Entering.{Makes, by_event, by_flush, by_failure, by_restart}
 use Rattle.history_laws.proofs.Durability.{Counted, restarts_front}
 use Rattle.law_base.proofs.Doubts.{doubts_more}
+use Rattle.law_base.proofs.Lists.{all_taken}
 use Rattle.history_laws.proofs.Serials.{committed_front}
 use Rattle.history_laws.proofs.Uncommitting.{restarts_add as restarts_commits}
 use Rattle.shard_laws.proofs.Rebuilding.{Plain, plain_restart}
@@ -35,7 +36,6 @@ use Rattle.fate_laws.proofs.Binding.{front_same}
 use Rattle.fall_laws.proofs.Ahead.{Ahead, Why, ahead_take, not_in_doubt, listed_front}
 use Rattle.fall_laws.proofs.Barred.{Absent}
 use Rattle.order_laws.proofs.Records.{prepared_there}
-use Rattle.origin_laws.proofs.Events.{take_all_of}
 
 -- ---- a PREPARE after an entry stood before it, or the part was active
 
@@ -82,7 +82,7 @@ failed_doubts : (s : Shard) (found left : List LogRecord) → FailedRestarts s f
 failed_doubts s found _ (untouched) = refl
 failed_doubts s found left (failed_first n more) =
     let rs = restart_records s.shard found s.run (next_epoch s found) in
-    failed_doubts s (found ++ take n rs) left more ∙ same_doubts s.shard found found (take n rs) refl (take_all_of (Plain s.shard found) n rs (plain_restart s.shard found s.run (next_epoch s found)))
+    failed_doubts s (found ++ take n rs) left more ∙ same_doubts s.shard found found (take n rs) refl (all_taken (Plain s.shard found) n rs (plain_restart s.shard found s.run (next_epoch s found)))
 
 restarts_doubts : (s : Shard) (found : List LogRecord) (epoch : ℕ) (after : List LogRecord) → Restarts s found epoch after → in_doubt s.shard after ≡ in_doubt s.shard found
 restarts_doubts s found epoch after (left, f, e, q) =

@@ -43,7 +43,8 @@ use Rattle.shard_laws.proofs.Sound.{waiting_here}
 use Rattle.law_base.proofs.Stages.{closed_other}
 use Rattle.law_base.proofs.Stages.{absent_go, own_go}
 use Rattle.law_base.proofs.Stages.{stage_marked}
-use Rattle.shard_laws.proofs.Rebuilding.{loser_out, out_left}
+use Rattle.law_base.proofs.Bools.{or_false_left}
+use Rattle.shard_laws.proofs.Rebuilding.{loser_out}
 use Rattle.shard_laws.proofs.Restoring.{restored_none}
 use Rattle.session_laws.proofs.Replying.{OpIs, dies, rolls, performs, reply_is}
 use Rattle.fate_laws.proofs.Homes.{still_not, new_commit}
@@ -222,7 +223,7 @@ losers_open shard log run epoch t h =
     let ts = filter (λ u. not (aborted_in log u)) (losers shard log) in
     let a : aborted_in (undo_records shard log) t ≡ true = aborted_back (undo_records shard log) (RestartRecord run epoch ∷ []) t refl h in
     let b : aborted_in (map (λ u. Abort u) ts) t ≡ true = aborted_back (map (λ u. Abort u) ts) (clrs_of (losers shard log) (standing log)) t (clrs_abort_none (losers shard log) (standing log) t) a in
-    out_left (committed_in log t) (tx_in t (in_doubt shard log)) (loser_out shard log t (in_filter (λ u. not (aborted_in log u)) t (losers shard log) (aborts_in ts t b)).0)
+    or_false_left (committed_in log t) (tx_in t (in_doubt shard log)) (loser_out shard log t (in_filter (λ u. not (aborted_in log u)) t (losers shard log) (aborts_in ts t b)).0)
 
 apart_whole : (shard : ℕ) (log : List LogRecord) (run epoch : ℕ) (t : TxId) → Apart log t → Apart (log_after_restart shard log run epoch) t
 apart_whole shard log run epoch t k h =

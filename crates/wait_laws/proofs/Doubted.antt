@@ -38,9 +38,10 @@ use Rattle.clv_base.proofs.SameNames.{tx_true, tx_self, tx_flip}
 use Rattle.law_base.proofs.Changed.{none_some}
 use Rattle.law_base.proofs.Rows.{rows_get, rows_put}
 use Rattle.law_base.proofs.Tables.{stage_by}
+use Rattle.law_base.proofs.Sets.{filter_in}
+use Rattle.law_base.proofs.Stages.{written_parts}
 use Rattle.protocol_laws.specs.Growth.{IsPrefixOf}
 use Rattle.protocol_laws.proofs.Growing.{chain, more}
-use Rattle.shard_laws.proofs.Dooming.{filter_in}
 use Rattle.shard_laws.proofs.Doubting.{prepared_cut}
 use Rattle.shard_laws.proofs.Following.{Follows}
 use Rattle.shard_laws.proofs.Leaving.{no_prepares}
@@ -50,7 +51,6 @@ use Rattle.shard_laws.proofs.Rebuilding.{none_prepare, plain_restart}
 use Rattle.history_laws.proofs.Serials.{committed_front}
 use Rattle.history_laws.proofs.Stepping.{commits, votes, rules, KeptByDue, settled, with_work, Step, op_dies, op_answers, request_refused, request_doomed, request_again, request_new, request_closes, looks_well, looks_ill, drops, sends, prepare_closes, prepare_again, vote_counts, decision_comes, decision_again, done_counts, asked, reminds, flushes, Happens, finishes, stops}
 use Rattle.session_laws.proofs.Replying.{OpIs, dies, rolls, performs, reply_is}
-use Rattle.origin_laws.proofs.Events.{written_parts}
 use Rattle.file_laws.proofs.Doubts.{doubt_undecided}
 
 -- ---- who is prepared in the log found is committed or in doubt there, or aborted when the shard has opened

@@ -38,14 +38,13 @@ use Rattle.clv_base.specs.Coordinator.{others}
 use Rattle.clv_base.specs.Restarts.{losers, undo_records, restart_records, log_after_restart, next_epoch, log_left, restored_part, restored_parts, restored_locks, old_birth, restored_pairs, pairs_of_listed, opened, revived, FailedRestarts, untouched, failed_first, Restarts}
 use Rattle.clv_base.proofs.SameNames.{tx_true, tx_self}
 use Rattle.law_base.proofs.Changed.{some_same, none_some}
-use Rattle.law_base.proofs.Lists.{all_mono}
+use Rattle.law_base.proofs.Lists.{all_mono, all_append}
 use Rattle.law_base.proofs.Tables.{stage_by, get_changed, get_put, is_pair, in_pair, without_pairs}
 use Rattle.law_base.proofs.LockRows.{Rows, rows_take, rows_all, rows_split, rows_close, rows_release, violated_row}
-use Rattle.law_base.proofs.Stages.{get_other}
+use Rattle.law_base.proofs.Stages.{get_other, get_closed_own}
 use Rattle.shard_laws.proofs.Performing.{add_which}
 use Rattle.shard_laws.proofs.Restoring.{restored_there}
 use Rattle.history_laws.proofs.Stepping.{commits, votes, rules, KeptByDue, settled, with_work, Step, op_dies, op_answers, request_refused, request_doomed, request_again, request_new, request_closes, looks_well, looks_ill, drops, sends, prepare_closes, prepare_again, vote_counts, decision_comes, decision_again, done_counts, asked, reminds, flushes, Happens, finishes, stops}
-use Rattle.history_laws.proofs.Telling.{all_append}
 use Rattle.session_laws.proofs.Replying.{OpIs, dies, rolls, performs, reply_is}
 
 -- ---- a lock is that of a part, with its birth, and closed as it is
@@ -199,10 +198,6 @@ tied_performed E s tx birth op m closed k =
 
 -- ---- closing a part
 
-closed_own : (tx u : TxId) (parts : Table Held) (h : Held) → tx_same tx u ≡ true → tx_get u parts ≡ Some h → tx_get u (closed_in tx parts) ≡ Some (closed_part h)
-closed_own tx u parts h e f =
-    get_changed (λ t. tx_same tx t) closed_part u parts ∙ ap (λ o. elim o [ Some g ↦ Some (cond (tx_same tx u) (closed_part g) g) | None ↦ None ]) f ∙ ap (λ b. Some (cond b (closed_part h) h)) e
-
 closed_other : (tx u : TxId) (parts : Table Held) (h : Held) → tx_same tx u ≡ false → tx_get u parts ≡ Some h → tx_get u (closed_in tx parts) ≡ Some h
 closed_other tx u parts h e f =
     get_changed (λ t. tx_same tx t) closed_part u parts ∙ ap (λ o. elim o [ Some g ↦ Some (cond (tx_same tx u) (closed_part g) g) | None ↦ None ]) f ∙ ap (λ b. Some (cond b (closed_part h) h)) e
@@ -225,7 +220,7 @@ tied_close : (E : TxId → TxId → Type 0) (s : Shard) (tx : TxId) (home : ℕ)
 tied_close E s tx home one k =
     record {
       rows = rows_close (LockOf s.local.parts) (LockOf (closed_in tx s.local.parts)) tx s.local.locks
-          (λ u b c h e. (closed_part h.0, closed_own tx u s.local.parts h.0 e h.1, h.2, refl))
+          (λ u b c h e. (closed_part h.0, get_closed_own tx u s.local.parts h.0 e h.1, h.2, refl))
           (λ u b c h e. (h.0, closed_other tx u s.local.parts h.0 e h.1, h.2, h.3)) k.rows;
       pairs = k.pairs;
       listed = all_append (ListsAre E) s.local.log (closing (wrote_in s.local.log tx) one tx home (undecided_of s.local tx)) k.listed
