@@ -3,4 +3,3 @@ pub mod Whole
 pub mod Folded
 pub mod Lasting
 pub mod Rooms
-mod Sorted
