@@ -17,8 +17,7 @@ use Rattle.turn_laws.specs.declared.notes.Note.{Note}
 use Rattle.turn_laws.specs.declared.notes.Origin.{Origin}
 use Rattle.turn_laws.specs.Notes.{plain}
 use Rattle.turn_laws.specs.Homes.{holder_of, IsLegal}
-use Rattle.turn_laws.proofs.Laws.{held_rests}
-use Rattle.turn_laws.proofs.Legal.{made_up}
+use Rattle.turn_laws.proofs.Laws.{held_rests, made_up}
 use Rattle.cluster_turns.specs.Turns.{Turned, EventTold}
 use Rattle.cluster_turns.specs.Walkers.{Walked, Looked}
 use Rattle.cluster_flush.specs.Flights.{LandTold, landed_as}

@@ -14,7 +14,7 @@ use Rattle.clv_base.specs.Restarts.{log_left}
 use Rattle.clv_base.specs.Journals.{History, final_of, after_entry, flush_state, FlushMay}
 use Rattle.clv_base.specs.Machines.{BecomesBy}
 use Rattle.disk_model.specs.Story.{Story, reads, IsImage}
-use Rattle.history_laws.proofs.Durability.{framed_finish, Counted}
+use Rattle.history_laws.proofs.Laws.{framed_finish, Counted}
 use Rattle.journal_laws.specs.Notes.{Note as Told, made, fetched, MayNotes, after_notes, entries_of_notes}
 use Rattle.log_gate.specs.Image.{log_of, records_of}
 use Rattle.log_gate.specs.Gate.{EachNow}
@@ -24,9 +24,7 @@ use Rattle.turn_laws.specs.declared.notes.Origin.{Origin}
 use Rattle.turn_laws.specs.Notes.{told}
 use Rattle.turn_laws.specs.Homes.{start, is_stop, never_stops, IsLegal}
 use Rattle.turn_laws.specs.Gates.{durable_records, flying_records}
-use Rattle.turn_laws.proofs.Calm.{does_calm, does_fly}
-use Rattle.turn_laws.proofs.Gating.{legal_counted}
-use Rattle.turn_laws.proofs.Leaving.{none_stops}
+use Rattle.turn_laws.proofs.Laws.{does_calm, does_fly, legal_counted, none_stops}
 use Rattle.cluster_closing.specs.Closing.{IsLeft}
 use Rattle.run_promises.specs.Disks.{flush_after, flush_failed_from, flush_failed, HoldsLog}
 use Rattle.cluster_promises.specs.Laws.{DownAfterFailed, LeftDisksHold, IsEnd, ClosedDisksHold}

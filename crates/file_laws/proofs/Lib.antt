@@ -6,3 +6,4 @@ pub mod Passing
 pub mod Found
 pub mod Doubts
 pub mod Rows
+pub mod Laws

@@ -4,3 +4,4 @@ pub mod Found
 pub mod Headline
 pub mod Chaining
 pub mod Promising
+pub mod Laws

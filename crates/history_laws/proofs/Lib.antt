@@ -12,3 +12,4 @@ pub mod Worlds
 pub mod Staying
 pub mod InTurn
 pub mod Endings
+pub mod Laws

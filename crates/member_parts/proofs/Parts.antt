@@ -20,12 +20,10 @@ use Rattle.clv_base.specs.History.{Member, members, request_of, acknowledged_in,
 use Rattle.clv_base.specs.Logs.{committed_in, stands}
 use Rattle.history_laws.specs.Continuing.{serial_left}
 use Rattle.clv_base.specs.Maps.{replay_map, replay_answers}
-use Rattle.history_laws.proofs.Merging.{Placed, Among}
-use Rattle.history_laws.proofs.Worlds.{in_a_shard}
-use Rattle.file_laws.proofs.Offers.{Offers, OffersBy, offered}
-use Rattle.file_laws.proofs.Passing.{logs_left_pass, left_length}
+use Rattle.history_laws.proofs.Laws.{Placed, Among, in_a_shard}
+use Rattle.file_laws.proofs.Laws.{Offers, OffersBy, offered, logs_left_pass, left_length}
 use Rattle.replay_by_shards.specs.Shares.{ShardOp, ops_of, answers_of, all_ops, all_answers, LiesIn, LieIn}
-use Rattle.replay_by_shards.proofs.Replaying.{replay_by_shards}
+use Rattle.replay_by_shards.proofs.Laws.{replay_by_shards}
 use Rattle.member_parts.specs.Parts.{op_on, shard_ops_in, member_ops, MembersReplayByParts}
 
 -- ---- a transaction's operations, with and without their shards

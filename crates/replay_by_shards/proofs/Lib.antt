@@ -3,3 +3,4 @@ pub mod Agreeing
 pub mod Standing
 pub mod Replaying
 pub mod Turns
+pub mod Laws

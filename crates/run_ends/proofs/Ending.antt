@@ -18,8 +18,8 @@ use Rattle.disk_model.specs.Story.{Story, reads}
 use Rattle.disk_model.specs.Disk.{Rose}
 use Rattle.log_gate.specs.Image.{HasLog}
 use Rattle.log_gate.specs.Gate.{EachNow}
-use Rattle.history_laws.proofs.Serials.{left_at}
-use Rattle.cut_laws.proofs.Made.{run_made}
+use Rattle.history_laws.proofs.Laws.{left_at}
+use Rattle.cut_laws.proofs.Laws.{run_made}
 use Rattle.history_replay.specs.Entries.{Kept, entries_of}
 use Rattle.protocol_laws.specs.Growth.{is_restart}
 use Rattle.journal_laws.specs.Notes.{ends_holding, MayNotes, after_notes, holder}
@@ -32,7 +32,7 @@ use Rattle.turn_laws.specs.declared.notes.Origin.{Origin}
 use Rattle.turn_laws.specs.Notes.{notes_of, told}
 use Rattle.turn_laws.specs.Homes.{is_stop, never_stops, has_failed, start, state_of, entries_in, IsLegal}
 use Rattle.turn_laws.proofs.Laws.{entries_append, notes_are_runs}
-use Rattle.journal_laws.proofs.Noting.{notes_are_seen}
+use Rattle.journal_laws.proofs.Laws.{notes_are_seen}
 use Rattle.cluster_turns.specs.declared.home.Home.{Home}
 use Rattle.cluster_turns.specs.declared.shards.Shards.{Shards}
 use Rattle.cluster_turns.specs.declared.shards.Walker.{Walker}
@@ -51,8 +51,7 @@ use Rattle.script_tries.specs.Sessions.{session_entries}
 use Rattle.shards_promises.specs.Ended.{ClusterEnded, runs_on}
 use Rattle.shards_promises.specs.Sessions.{Went, Begun, SessionWent, SessionsWent}
 use Rattle.shards_promises.specs.Down.{IsLowestDown, IsLowestFault}
-use Rattle.shards_promises.proofs.Promising.{runs_are_promised}
-use Rattle.shards_promises.proofs.Down.{failed_are_down, down_stays, lowest_down_is_fault}
+use Rattle.shards_promises.proofs.Laws.{runs_are_promised, failed_are_down, down_stays, lowest_down_is_fault}
 use Rattle.run_status.specs.Running.{End, IsOk, status_by}
 use Rattle.run_ends.specs.Ends.{end_of, walked_by, IsClosedRun}
 use Rattle.run_ends.specs.Statuses.{StatusTold, FlushesTold}

@@ -1,3 +1,4 @@
 mod Retried
 pub mod Tries
 pub mod Sessions
+pub mod Laws

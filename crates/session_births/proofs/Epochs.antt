@@ -31,19 +31,16 @@ use Rattle.clv_base.specs.Events.{Does, happen, finish, with_durable}
 use Rattle.clv_base.specs.Journals.{flush_state, FlushMay, has_equal_active_birth}
 use Rattle.clv_base.specs.Restarts.{revived}
 use Rattle.clv_base.specs.Machines.{BecomesBy, Makes, Runs}
-use Rattle.history_laws.proofs.Stepping.{commits, votes, rules, KeptByDue, settled, Step, op_dies, op_answers, request_refused, request_doomed, request_again, request_new, request_closes, looks_well, looks_ill, drops, sends, prepare_closes, prepare_again, vote_counts, decision_comes, decision_again, done_counts, asked, reminds, flushes, Happens, finishes, stops, happened}
+use Rattle.history_laws.proofs.Laws.{commits, votes, rules, KeptByDue, settled, Step, op_dies, op_answers, request_refused, request_doomed, request_again, request_new, request_closes, looks_well, looks_ill, drops, sends, prepare_closes, prepare_again, vote_counts, decision_comes, decision_again, done_counts, asked, reminds, flushes, Happens, finishes, stops, happened}
 use Rattle.turn_lock.specs.Journals.{GrownByOthers}
 use Rattle.journal_laws.specs.Births.{LeavesBirth, BearsWalker}
 use Rattle.journal_laws.specs.Walkers.{by_walker}
-use Rattle.journal_laws.proofs.Bearing.{free_births_stay, others_leave_births}
-use Rattle.journal_laws.proofs.Ending.{restarts_free}
-use Rattle.journal_laws.proofs.Noting.{notes_are_runs}
+use Rattle.journal_laws.proofs.Laws.{free_births_stay, others_leave_births, restarts_free, notes_are_runs}
 use Rattle.turn_laws.specs.declared.notes.Note.{Note}
 use Rattle.turn_laws.specs.declared.notes.Origin.{Origin}
 use Rattle.turn_laws.specs.Notes.{noter, told}
 use Rattle.turn_laws.specs.Homes.{entries_in, state_of, holder_of, IsLegal}
-use Rattle.turn_laws.proofs.Freeing.{all_bear, nothing_happens}
-use Rattle.turn_laws.proofs.Turning.{since}
+use Rattle.turn_laws.proofs.Laws.{all_bear, nothing_happens, since}
 use Rattle.session_births.specs.Births.{IsFreeFor}
 use Rattle.session_births.specs.Unborn.{is_epoch_of, IsUnbornUnless}
 use Rattle.session_births.proofs.Keeping.{by_notes}

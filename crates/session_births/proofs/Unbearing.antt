@@ -30,9 +30,7 @@ use Rattle.turn_lock.specs.declared.pass.Pass.{Pass}
 use Rattle.turn_lock.specs.Passes.{seen, pass_origin}
 use Rattle.journal_laws.specs.Births.{LeavesBirth}
 use Rattle.journal_laws.specs.Endings.{ActiveAreFound, EndsHere}
-use Rattle.journal_laws.proofs.Bearing.{free_rows, has_none}
-use Rattle.journal_laws.proofs.Ending.{ends_free, inactive_is_free, runs_find_active}
-use Rattle.journal_laws.proofs.Noting.{notes_are_runs}
+use Rattle.journal_laws.proofs.Laws.{free_rows, has_none, ends_free, inactive_is_free, runs_find_active, notes_are_runs}
 use Rattle.machine_calls.specs.declared.machine.StepError.{StepError}
 use Rattle.machine_calls.specs.declared.machine.StepError.TheVariants.{Memory, Worn}
 use Rattle.machine_calls.specs.Steps.{Tells, NoEntry, listed, is_undropped, may_want_memory}
@@ -40,8 +38,7 @@ use Rattle.turn_laws.specs.declared.notes.Note.{Note}
 use Rattle.turn_laws.specs.declared.notes.Origin.{Origin}
 use Rattle.turn_laws.specs.Notes.{plain, told}
 use Rattle.turn_laws.specs.Homes.{start, state_of, entries_in, IsLegal}
-use Rattle.turn_laws.proofs.Laws.{from_does, still_free, legal_shard}
-use Rattle.turn_laws.proofs.Freeing.{nothing_happens}
+use Rattle.turn_laws.proofs.Laws.{from_does, still_free, legal_shard, nothing_happens}
 use Rattle.cluster_turns.specs.Turns.{Turned, EventTold}
 use Rattle.cluster_turns.specs.Walkers.{Walked}
 use Rattle.cluster_flush.specs.Flights.{LandTold, landed_as}

@@ -15,9 +15,9 @@ use Rattle.cluster_turns.specs.Turns.{EventTold}
 use Rattle.cluster_turns.specs.Walkers.{Walked}
 use Rattle.cluster_flush.specs.Told.{stayed, flown, one_turn, two_turns}
 use Rattle.cluster_landing.specs.Landed.{HasOwn, IsHome, HasLanded}
-use Rattle.cluster_landing.proofs.Landing.{events_land, flushes_land}
+use Rattle.cluster_landing.proofs.Laws.{events_land, flushes_land}
 use Rattle.walker_turns.specs.Turns.{no_turn, event_turn, flush_turns, horizon_look, takes_no_flight}
-use Rattle.session_births.proofs.Keeping.{one_changes, changed}
+use Rattle.session_births.proofs.Laws.{one_changes, changed}
 use Rattle.session_landing.specs.Laws.{TurnsLand, LooksLand}
 
 module _ {T : Type 0} where

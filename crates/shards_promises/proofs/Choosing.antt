@@ -9,7 +9,7 @@ use Rattle.clv_base.specs.Journals.{logs_left_from}
 use Rattle.disk_model.specs.Story.{Story, reads}
 use Rattle.log_gate.specs.Gate.{EachNow}
 use Rattle.log_gate.specs.Image.{HasLog}
-use Rattle.history_laws.proofs.Serials.{left_at}
+use Rattle.history_laws.proofs.Laws.{left_at}
 use Rattle.run_promises.specs.Disks.{HoldsLog}
 
 -- by whether the records in flight are there, this log of shard n is what its disk reads as

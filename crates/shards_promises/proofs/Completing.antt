@@ -15,8 +15,7 @@ use Rattle.clv_base.specs.Restarts.{run_after}
 use Rattle.clv_base.specs.Journals.{History, own}
 use Rattle.clv_base.specs.History.{Legal, ops_in}
 use Rattle.cause_laws.specs.Causes.{TellsCause, op_died, request_died, look_found}
-use Rattle.history_laws.proofs.Merging.{Among, among_left, among_right}
-use Rattle.history_laws.proofs.Staying.{walker_of}
+use Rattle.history_laws.proofs.Laws.{Among, among_left, among_right, walker_of}
 use Rattle.protocol_laws.specs.SessionLaws.{tx_of}
 use Rattle.history_replay.specs.Entries.{Kept}
 use Rattle.run_promises.specs.Histories.{entries}
@@ -30,8 +29,7 @@ use Rattle.script_tries.specs.Tries as tries
 use Rattle.script_tries.specs.Sessions.{Transaction, IsTransaction, IsNamed, AreTransactions, FollowsScript, all_done, not_begun, stopped, done, is_to_retry, has_left, tries_of, entries_of, session_entries}
 use Rattle.script_tries.specs.Laws.{Completes, IsComplete}
 use Rattle.script_tries.specs.Laws as laws
-use Rattle.script_tries.proofs.Sessions.{sessions_go_through, sessions_tell_their_tries, tries_are_few}
-use Rattle.script_tries.proofs.Tries.{acknowledged_did_their_lines, entries_tell_their_lines}
+use Rattle.script_tries.proofs.Laws.{sessions_go_through, sessions_tell_their_tries, tries_are_few, acknowledged_did_their_lines, entries_tell_their_lines}
 use Rattle.shards_promises.specs.Sessions.{Went, Begun, SessionWent}
 use Rattle.shards_promises.specs.Completing.{HasEnded, acknowledged, empty, by_line, given_up, IsWanted, TransactionEnded, SessionEnded, SessionsHaveEnded}
 use Rattle.shards_promises.proofs.Entries.{from_session, from_own, all_from, split, acknowledged_by, session_ops, own_ops}

@@ -16,12 +16,11 @@ use Rattle.disk_model.specs.Story.{Story}
 use Rattle.disk_model.specs.Disk.{Rose}
 use Rattle.history_replay.specs.Entries.{Kept}
 use Rattle.protocol_laws.specs.Growth.{is_restart}
-use Rattle.history_laws.proofs.Durability.{framed_finish}
+use Rattle.history_laws.proofs.Laws.{framed_finish}
 use Rattle.journal_laws.specs.Gathered.{journal_at}
 use Rattle.journal_laws.specs.Notes.{ends_holding}
 use Rattle.turn_laws.specs.Homes.{has_failed, is_failed, is_stop}
-use Rattle.turn_laws.proofs.Calm.{does_calm, does_fly, Calm}
-use Rattle.turn_laws.proofs.Holding.{down_restarts}
+use Rattle.turn_laws.proofs.Laws.{does_calm, does_fly, Calm, down_restarts}
 use Rattle.run_promises.specs.Disks.{flush_after, flush_failed_from}
 use Rattle.shards_promises.specs.Ended.{ClusterEnded, runs_on}
 use Rattle.shards_promises.specs.Down.{FailedAreDown, DownStays, IsLowestDown, IsLowestFault, LowestDownIsFault}

@@ -16,7 +16,7 @@ use Rattle.clv_base.specs.Journals.{History, own}
 use Rattle.clv_base.specs.History.{acknowledged_in, is_acknowledgement, ops_in, answered_op}
 use Rattle.clv_base.proofs.SameNames.{tx_true, tx_self, or_left, or_right}
 use Rattle.protocol_laws.specs.SessionLaws.{tx_of}
-use Rattle.history_laws.proofs.Merging.{Among}
+use Rattle.history_laws.proofs.Laws.{Among}
 use Rattle.script_tries.specs.Sessions.{session_entries}
 
 -- ---- among

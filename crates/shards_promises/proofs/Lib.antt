@@ -3,3 +3,4 @@ mod Choosing
 pub mod Promising
 mod Entries
 mod Completing
+pub mod Laws

@@ -14,7 +14,7 @@ use Rattle.disk_model.specs.Story.{Story, reads}
 use Rattle.log_gate.specs.Gate.{EachNow}
 use Rattle.log_gate.specs.Image.{HasLog}
 use Rattle.history_replay.specs.Entries.{Kept, entries_of}
-use Rattle.headline_laws.proofs.Promising.{promise}
+use Rattle.headline_laws.proofs.Laws.{promise}
 use Rattle.turn_laws.specs.Homes.{has_failed}
 use Rattle.run_promises.specs.Disks.{HoldsLog, flush_failed}
 use Rattle.script_lang.specs.Bodies.{Body}

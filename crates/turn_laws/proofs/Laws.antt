@@ -1,20 +1,21 @@
 -- What the crates above may use.
-pub use Rattle.journal_laws.proofs.Viewing.{own_entries_go_on, views_are_legal}
-pub use Rattle.journal_laws.proofs.Noting.{notes_are_runs}
-pub use Rattle.journal_laws.proofs.Walking.{walkers_go_on, others_keep_sessions, walkers_begin}
-pub use Rattle.journal_laws.proofs.Offering.{each_outcome_goes_on}
 pub use Rattle.history_laws.proofs.Durability.{framed_finish}
-pub use Rattle.turn_laws.proofs.Calm.{does_calm, failed_append}
-pub use Rattle.turn_laws.proofs.Marking.{entry_last, fetch_last, left_last}
-pub use Rattle.turn_laws.proofs.Legal.{entries_append, legal_land, legal_step, legal_fetched, legal_restart, land_makes, from_does}
-pub use Rattle.turn_laws.proofs.Gating.{legal_counted, legal_shard, legal_run, legal_early, gate_lands, gate_leaves, gate_home, gate_kept, departing, turning, durable_stays, landing, counted_same}
-pub use Rattle.turn_laws.proofs.Flying.{flight_stays, taker_append}
-pub use Rattle.turn_laws.proofs.Single.{singly}
-pub use Rattle.turn_laws.proofs.Keeping.{holder_more, holder_plain, notes_step, grows, sound_step}
-pub use Rattle.turn_laws.proofs.Holding.{up_none}
-pub use Rattle.turn_laws.proofs.Departing.{sound_departs, Gone, gone, still_landable, sound_lands}
-pub use Rattle.turn_laws.proofs.Turning.{still_free, still_flying, clock_is, above, added_notes, grown_by}
-pub use Rattle.turn_laws.proofs.Pushing.{pushes, both_records}
-pub use Rattle.turn_laws.proofs.Leaving.{fits_leaves, none_stops, gate_at_home}
+pub use Rattle.journal_laws.proofs.Noting.{notes_are_runs}
+pub use Rattle.journal_laws.proofs.Offering.{each_outcome_goes_on}
+pub use Rattle.journal_laws.proofs.Viewing.{own_entries_go_on, views_are_legal}
+pub use Rattle.journal_laws.proofs.Walking.{walkers_go_on, others_keep_sessions, walkers_begin}
 pub use Rattle.turn_laws.proofs.Beginning.{sound_opened}
+pub use Rattle.turn_laws.proofs.Calm.{does_calm, failed_append, does_fly, Calm}
+pub use Rattle.turn_laws.proofs.Departing.{sound_departs, Gone, gone, still_landable, sound_lands}
 pub use Rattle.turn_laws.proofs.Fetching.{down_failed, held_rests, gate_of_down, sound_fetched, down_disk}
+pub use Rattle.turn_laws.proofs.Flying.{flight_stays, taker_append}
+pub use Rattle.turn_laws.proofs.Freeing.{all_bear, nothing_happens}
+pub use Rattle.turn_laws.proofs.Gating.{legal_counted, legal_shard, legal_run, legal_early, gate_lands, gate_leaves, gate_home, gate_kept, departing, turning, durable_stays, landing, counted_same}
+pub use Rattle.turn_laws.proofs.Holding.{up_none, down_restarts}
+pub use Rattle.turn_laws.proofs.Keeping.{holder_more, holder_plain, notes_step, grows, sound_step}
+pub use Rattle.turn_laws.proofs.Leaving.{fits_leaves, none_stops, gate_at_home}
+pub use Rattle.turn_laws.proofs.Legal.{entries_append, legal_land, legal_step, legal_fetched, legal_restart, land_makes, from_does, made_up}
+pub use Rattle.turn_laws.proofs.Marking.{entry_last, fetch_last, left_last}
+pub use Rattle.turn_laws.proofs.Pushing.{pushes, both_records}
+pub use Rattle.turn_laws.proofs.Single.{singly}
+pub use Rattle.turn_laws.proofs.Turning.{still_free, still_flying, clock_is, above, added_notes, grown_by, since}
