@@ -23,7 +23,7 @@ use run_status::running_status;
 use script_lang::Session;
 use script_threads::Start;
 use shard_machine::ShardMachine;
-use shards_promises::laws::sessions_have_ended;
+use shards_promises::statements::sessions_have_ended;
 use std::alloc::Global;
 use std::sync::Wait;
 use std::thread::Threads;

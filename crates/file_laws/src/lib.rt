@@ -3,4 +3,4 @@
 //! definitions of `clv_base` and on the laws of single events in `history_laws`.
 #![tactic(auto)]
 
-pub mod laws;
+pub mod statements;

@@ -5,4 +5,4 @@
 //! only read (`reader_laws`, `acknowledged_laws`), and who never was on a shard. `promise` gathers all laws over all histories in one record.
 #![tactic(auto)]
 
-pub mod laws;
+pub mod statements;

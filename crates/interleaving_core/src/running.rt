@@ -18,7 +18,7 @@ use clv_base::events::CoreStep;
 use clv_base::splits::Splits;
 use core_seats::{Seat, open};
 use history_tests::clock_of;
-use journal_laws::laws::run_events_is_legal;
+use journal_laws::statements::run_events_is_legal;
 use list_gate::ListGate;
 use machine_calls::{Flier, Machine, Maker, Restarter};
 use promise_laws::promises::{logs_stay_in_order, worlds_keep_promise};

@@ -3,4 +3,4 @@
 //! specs/. It stands on the definitions of `clv_base`.
 #![tactic(auto)]
 
-pub mod laws;
+pub mod statements;

@@ -7,4 +7,4 @@
 //! and on what a cluster has at its end.
 #![tactic(auto)]
 
-pub mod laws;
+pub mod statements;

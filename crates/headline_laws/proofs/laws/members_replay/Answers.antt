@@ -1,5 +1,0 @@
-use Rattle.headline_laws.proofs.Found.{members_replay}
-use Rattle.headline_laws.proofs.laws.members_replay.Goals as goal
-
-pub returns : goal.returns
-returns c = members_replay

@@ -1,5 +1,0 @@
-use Rattle.headline_laws.proofs.Chaining.{members_replay_to_the_end}
-use Rattle.headline_laws.proofs.laws.members_replay_to_the_end.Goals as goal
-
-pub returns : goal.returns
-returns c = members_replay_to_the_end

@@ -1,5 +1,0 @@
-use Rattle.headline_laws.proofs.Promising.{promise}
-use Rattle.headline_laws.proofs.laws.promise.Goals as goal
-
-pub returns : goal.returns
-returns c = promise

@@ -1,0 +1,5 @@
+use Rattle.headline_laws.proofs.Found.{members_are_found}
+use Rattle.headline_laws.proofs.statements.members_are_found.Goals as goal
+
+pub returns : goal.returns
+returns c = members_are_found

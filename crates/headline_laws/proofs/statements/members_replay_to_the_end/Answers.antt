@@ -1,0 +1,5 @@
+use Rattle.headline_laws.proofs.Chaining.{members_replay_to_the_end}
+use Rattle.headline_laws.proofs.statements.members_replay_to_the_end.Goals as goal
+
+pub returns : goal.returns
+returns c = members_replay_to_the_end

@@ -1,0 +1,5 @@
+use Rattle.headline_laws.proofs.Promising.{promise}
+use Rattle.headline_laws.proofs.statements.promise.Goals as goal
+
+pub returns : goal.returns
+returns c = promise

@@ -1,0 +1,5 @@
+use Rattle.journal_laws.proofs.Noting.{entries_do_not_tell}
+use Rattle.journal_laws.proofs.statements.entries_do_not_tell.Goals as goal
+
+pub returns : goal.returns
+returns c = entries_do_not_tell

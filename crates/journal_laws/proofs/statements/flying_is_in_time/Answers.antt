@@ -1,0 +1,5 @@
+use Rattle.journal_laws.proofs.Offering.{flying_is_in_time}
+use Rattle.journal_laws.proofs.statements.flying_is_in_time.Goals as goal
+
+pub returns : goal.returns
+returns c = flying_is_in_time

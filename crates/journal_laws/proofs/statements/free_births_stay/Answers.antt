@@ -1,0 +1,5 @@
+use Rattle.journal_laws.proofs.Bearing.{free_births_stay}
+use Rattle.journal_laws.proofs.statements.free_births_stay.Goals as goal
+
+pub returns : goal.returns
+returns c = free_births_stay

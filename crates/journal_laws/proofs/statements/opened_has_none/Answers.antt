@@ -1,0 +1,5 @@
+use Rattle.journal_laws.proofs.Bearing.{opened_has_none}
+use Rattle.journal_laws.proofs.statements.opened_has_none.Goals as goal
+
+pub returns : goal.returns
+returns c = opened_has_none

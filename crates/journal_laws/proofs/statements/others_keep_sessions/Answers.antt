@@ -1,0 +1,5 @@
+use Rattle.journal_laws.proofs.Walking.{others_keep_sessions}
+use Rattle.journal_laws.proofs.statements.others_keep_sessions.Goals as goal
+
+pub returns : goal.returns
+returns c = others_keep_sessions

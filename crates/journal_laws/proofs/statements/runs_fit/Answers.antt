@@ -1,0 +1,5 @@
+use Rattle.journal_laws.proofs.Running.{runs_fit}
+use Rattle.journal_laws.proofs.statements.runs_fit.Goals as goal
+
+pub returns : goal.returns
+returns c = runs_fit
