@@ -262,11 +262,13 @@ fn pass_by(alloc: Global, shard: &mut Shard, count: u32) -> Result<(), AllocErro
     for session in 0..count {
         let session = session.saturating_add(1000);
         ask(alloc, shard, session, Op::Put(5000, 1))?;
-        if shard.stage_of(tx(session)) != Some(Stage::Active) {
-            return Err(AllocError);
+        let done = tx(session);
+        match shard.stage_of(done) {
+            Some(Stage::Active) => {}
+            _ => return Err(AllocError),
         }
-        match shard.close_part(alloc, tx(session), 3, true) {
-            Ok(_) => shard.finish_part(tx(session)),
+        match shard.close_part(alloc, done, 3, true) {
+            Ok(_) => shard.finish_part(done),
             Err(_) => return Err(AllocError),
         }
     }
