@@ -36,7 +36,7 @@ use Rattle.fate_laws.proofs.VotesHeld.{votes_get}
 use Rattle.fate_laws.proofs.Rulings.{ack_refused, ack_end, no_end_undecided}
 use Rattle.fate_laws.proofs.Writing.{wrote_grown}
 use Rattle.acknowledged_laws.proofs.Quiet.{Quiet, agreed_closed, quiet_due, quiet_purged}
-use Rattle.order_laws.proofs.Records.{prepared_there}
+use Rattle.protocol_laws.proofs.Records.{prepared_there}
 
 -- ---- votes. V: who voted what
 

@@ -40,7 +40,7 @@ use Rattle.fall_laws.proofs.Finding.{fell_out}
 use Rattle.acknowledged_laws.proofs.Quiet.{Quiet, quiet_absent, quiet_undoomed, quiet_made}
 use Rattle.acknowledged_laws.proofs.Agreeing.{Told, Ends, RowIs}
 use Rattle.acknowledged_laws.proofs.Starting.{IsFinished, IsIdle, Begins, Owes, rows_made}
-use Rattle.order_laws.proofs.Records.{prepared_there}
+use Rattle.protocol_laws.proofs.Records.{prepared_there}
 
 -- ---- what stands in a front of the history
 

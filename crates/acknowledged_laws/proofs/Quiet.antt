@@ -58,8 +58,8 @@ use Rattle.fate_laws.proofs.Prepares.{rolled as rolled_prepares}
 use Rattle.fate_laws.proofs.Returning.{revived_prepares}
 use Rattle.fate_laws.proofs.Standing.{NotOwn}
 use Rattle.fate_laws.proofs.Writing.{restart_writes_none, wrote_take}
-use Rattle.file_laws.proofs.Doubts.{doubt_prepared}
-use Rattle.order_laws.proofs.Records.{prepared_there}
+use Rattle.history_laws.proofs.Doubts.{doubt_prepared}
+use Rattle.protocol_laws.proofs.Records.{prepared_there}
 
 -- its part was never known here since the shard came up, or it is finished
 abbrev pub IsOut : Option Stage → Type 0

@@ -34,7 +34,7 @@ use Rattle.fate_laws.proofs.VotesHeld.{votes_put}
 use Rattle.fate_laws.proofs.Writing.{wrote_grown}
 use Rattle.acknowledged_laws.proofs.Quiet.{active_here, closed_here}
 use Rattle.acknowledged_laws.proofs.Agreeing.{Told, RowIs, Within, unwritten_before, within_finish}
-use Rattle.order_laws.proofs.Records.{prepared_there}
+use Rattle.protocol_laws.proofs.Records.{prepared_there}
 use Rattle.shard_laws.proofs.Ordered.{prepare_some}
 
 -- ---- what an entry begins with, and owes

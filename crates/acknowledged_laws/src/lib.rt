@@ -5,3 +5,8 @@
 #![tactic(auto)]
 
 pub mod laws;
+
+pub mod members;
+pub mod sessions;
+
+pub mod reader;

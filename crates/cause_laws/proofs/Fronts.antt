@@ -16,7 +16,7 @@ use Rattle.history_laws.proofs.Entering.{Makes, by_event, by_flush, by_failure, 
 use Rattle.history_laws.proofs.Merging.{Placed}
 use Rattle.history_laws.proofs.Stepping.{Happens, finishes, stops}
 use Rattle.history_laws.proofs.Worlds.{state_at}
-use Rattle.file_laws.proofs.Walking.{behind_of}
+use Rattle.history_laws.proofs.Walking.{behind_of}
 use Rattle.origin_laws.proofs.Entries.{traced_front, brought}
 use Rattle.fate_laws.proofs.Prefixes.{next_at, each_shard}
 use Rattle.fate_laws.proofs.Sparing.{spared_front}

@@ -28,7 +28,7 @@ use Rattle.history_laws.proofs.Merging.{Placed, among_left, among_right, in_orde
 use Rattle.history_laws.proofs.Staying.{walker_of, one_request}
 use Rattle.history_laws.proofs.Worlds.{state_at}
 use Rattle.session_laws.proofs.Dropping.{drop_after_request}
-use Rattle.file_laws.proofs.Walking.{Behind, from_own, first_among}
+use Rattle.history_laws.proofs.Walking.{Behind, from_own, first_among}
 use Rattle.origin_laws.proofs.Sessions.{Requested, turn_of, own_precedes, op_no_request}
 use Rattle.origin_laws.proofs.Origins.{StateFrom, AwayRequest, row_of}
 use Rattle.origin_laws.proofs.Entries.{IsOld, Traced, Brings}

@@ -41,7 +41,7 @@ use Rattle.session_laws.proofs.Replying.{OpIs, dies, rolls, performs, reply_is}
 use Rattle.cause_laws.proofs.Votes.{votes_more}
 use Rattle.cause_laws.proofs.Resting.{Unopposed}
 use Rattle.cause_laws.proofs.Within.{RowFits, Within, Dooms, Alike, row_alike, doom_alike, within_alike, relinked, as_it_is, within_rolled, within_voter}
-use Rattle.file_laws.proofs.Rows.{put_row}
+use Rattle.history_laws.proofs.Rows.{put_row}
 
 -- ---- what an entry owes
 

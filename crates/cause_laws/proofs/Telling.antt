@@ -47,7 +47,7 @@ use Rattle.cause_laws.proofs.Reasons.{OpWhy, unseen, closed, doomed, older, Requ
 use Rattle.cause_laws.proofs.Causing.{Ended, Fallen, GoneHow, RefusedHow, StateHow, Caused, fallen_more}
 use Rattle.cause_laws.proofs.Owing.{Before_entry}
 use Rattle.cause_laws.proofs.Fronts.{before_entry, caused_front}
-use Rattle.file_laws.proofs.Walking.{from_own, first_among}
+use Rattle.history_laws.proofs.Walking.{from_own, first_among}
 
 -- ---- entries that answered
 

@@ -6,7 +6,7 @@ use Rattle.turn_lock.specs.declared.pass.Pass.{Pass}
 use Rattle.turn_lock.specs.Passes.{passes_of}
 use Rattle.turn_laws.specs.declared.notes.Note.{Note}
 use Rattle.turn_laws.specs.declared.notes.Origin.{Origin}
-use Rattle.cluster_undoing.specs.Undone.{AreOpened}
+use Rattle.cluster_opening.specs.Undone.{AreOpened}
 
 some_elem : {X : Type 0} (xs : List X) (k : ℕ) → k < length xs → X
 some_elem [] k l = absurd (omega arith)

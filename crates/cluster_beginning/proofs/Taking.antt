@@ -17,8 +17,8 @@ use Rattle.disks_opening.specs.Logs.{LogsOfAll}
 use Rattle.disks_opening.specs.Opening.{Refuses, CountsOpen}
 use Rattle.disks_opening.specs.Houses.{WentOut}
 use Rattle.disks_opening.proofs.Laws.{same_disk}
-use Rattle.machines_opening.specs.Recovered.{IsLeft, unwritten, begun as has_begun}
-use Rattle.cluster_undoing.specs.Undone.{AreBack, CountsBack}
+use Rattle.machine_calls.specs.Recovered.{IsLeft, unwritten, begun as has_begun}
+use Rattle.cluster_opening.specs.Undone.{AreBack, CountsBack}
 use Rattle.cluster_beginning.specs.Begun.{told_as, AreUnchanged, AreFound, IsLeftAt, unchanged, begun, AreLeft, before, meanwhile, LeavesDisks, IsTakenBack}
 use Rattle.cluster_beginning.proofs.Cutting.{logs_below}
 

@@ -7,7 +7,7 @@ ghost use Rattle.cluster_turns.specs.Walkers.{founds_of};
 ghost use Rattle.disk_model.specs.Story.{Story};
 ghost use Rattle.disks_opening.specs.Houses.{WentOut};
 ghost use Rattle.disks_opening.specs.Opening.{Refuses, CountsOpen};
-ghost use Rattle.walkers_making.specs.Made.{IsNewWalker};
+ghost use Rattle.cluster_opening.specs.Made.{IsNewWalker};
 ghost use Rattle.cluster_ends.specs.Room.{HasRoom};
 ghost use Rattle.cluster_beginning.specs.Begun.{AreFound, AreLocked, IsTakenBack, LeavesDisks};
 
@@ -15,7 +15,7 @@ use crate::locking::{Logs, lock_all};
 use crate::rooms::take_rooms;
 use cluster_ends::Room;
 use cluster_turns::{Home, Shards, Walker};
-use cluster_undoing::give_back_locks;
+use cluster_opening::give_back_locks;
 use clv_base::logs::LogRecord;
 use disk_model::House;
 use disks_opening::{Found, OpenError, open_disks};
@@ -23,14 +23,14 @@ use key_map::KeyMap;
 use lock_table::Locks;
 use log_gate::LogGate;
 use machine_calls::Machine;
-use machines_opening::OverDisks;
+use machine_calls::OverDisks;
 use ordered_store::Store;
 use shard_machine::ShardMachine;
 use std::alloc::Global;
 use std::snapshot::Snapshot;
 use turn_laws::{Note, Origin};
 use turn_lock::{Pass, TurnLock};
-use walkers_making::make_walkers;
+use cluster_opening::make_walkers;
 
 /// A cluster that has begun: its shards, its walkers, all memory that its end takes, and what the logs stand for.
 pub struct Opened<M: Machine> {

@@ -1,1 +1,6 @@
 pub mod ComingBack
+pub mod Holding
+pub mod Staying
+pub mod Homing
+pub mod Restarting
+pub mod Laws

@@ -1,1 +1,4 @@
 pub mod Closing
+pub mod Held
+pub mod Ends
+pub mod Laws

@@ -12,3 +12,5 @@ mod returning;
 
 pub use closing::close;
 pub use leaving::Closed;
+
+pub mod promises;

@@ -7,7 +7,7 @@ use clv_base::events::Entry;
 use disk_model::House;
 use log_gate::Gate;
 use machine_calls::{Machine, Parts};
-use machines_opening::OverDisks;
+use machine_calls::OverDisks;
 use ordered_store::Store;
 
 // The lowest shard that is down.

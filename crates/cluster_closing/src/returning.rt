@@ -1,9 +1,9 @@
 // Disks that walkers had.
 ghost use Rattle.std.specs.Prelude.{◌≡◌, ◌<◌, ◌≢◌, ℕ, true, vec_len, slice_index_or};
-ghost use Rattle.cluster_holding.specs.Ends.{shard_at, IsNotAmong};
+ghost use Rattle.cluster_closing.specs.Ends.{shard_at, IsNotAmong};
 ghost use Rattle.cluster_closing.specs.Closing.{Returned};
 
-use cluster_restart::Fetched;
+use cluster_ends::Fetched;
 use disk_model::House;
 
 // Gives the disks back that were fetched, each of another shard.

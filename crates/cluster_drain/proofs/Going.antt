@@ -10,12 +10,12 @@ use Rattle.turn_laws.specs.Homes.{IsLegal, entries_in}
 use Rattle.history_replay.specs.Entries.{on_shard}
 use Rattle.cluster_turns.specs.Turns.{SettledTold}
 use Rattle.cluster_turns.specs.Walkers.{Walked, kept}
-use Rattle.cluster_flush.specs.declared.flushing.Flushed.{Flushed}
-use Rattle.cluster_flush.specs.declared.flushing.FlushError.{FlushError}
-use Rattle.cluster_flush.specs.Told.{FlushTold, one_turn, two_turns}
-use Rattle.cluster_carry.specs.declared.carrying.Carry.{Carry}
-use Rattle.cluster_carry.specs.declared.carrying.CarryError.{CarryError}
-use Rattle.cluster_carry.specs.Carried.{BringTold, is_lost, is_brought, CarryTold, none_sent, one_sent}
+use Rattle.cluster_drain.specs.declared.flushing.Flushed.{Flushed}
+use Rattle.cluster_drain.specs.declared.flushing.FlushError.{FlushError}
+use Rattle.cluster_drain.specs.Told.{FlushTold, one_turn, two_turns}
+use Rattle.cluster_drain.specs.declared.carrying.Carry.{Carry}
+use Rattle.cluster_drain.specs.declared.carrying.CarryError.{CarryError}
+use Rattle.cluster_drain.specs.Carried.{BringTold, is_lost, is_brought, CarryTold, none_sent, one_sent}
 use Rattle.cluster_drain.specs.declared.tending.DrainError.{DrainError}
 use Rattle.cluster_drain.specs.Rounds.{Rounds, no_turn, flushes, carries, reminds, looks, Refused, no_flush, no_message, no_reminder, CarriedAll, Tended, SettledAt}
 

@@ -1,1 +1,5 @@
 pub mod Rounds
+pub mod Flights
+pub mod Told
+pub mod Carried
+pub mod Reminded

@@ -12,15 +12,15 @@ use Rattle.turn_laws.specs.declared.notes.Origin.{Origin}
 use Rattle.turn_laws.specs.Homes.{IsLegal}
 use Rattle.cluster_turns.specs.Turns.{EventTold, SettledTold}
 use Rattle.cluster_turns.specs.Walkers.{Walked}
-use Rattle.cluster_flush.specs.declared.flushing.Flushed.{Flushed}
-use Rattle.cluster_flush.specs.declared.flushing.FlushError.{FlushError}
-use Rattle.cluster_flush.specs.declared.flushing.FlushError.TheVariants.{Failed as FlushFailed, Down as FlushDown, Worn as FlushWorn, Memory as FlushMemory}
-use Rattle.cluster_flush.specs.Told.{FlushTold}
-use Rattle.cluster_carry.specs.declared.carrying.Carry.{Carry}
-use Rattle.cluster_carry.specs.declared.carrying.CarryError.{CarryError}
-use Rattle.cluster_carry.specs.declared.carrying.CarryError.TheVariants.{Down as CarryDown, Worn as CarryWorn, Memory as CarryMemory}
-use Rattle.cluster_carry.specs.Carried.{CarryTold}
-use Rattle.cluster_carry.specs.Reminded.{reminded_by}
+use Rattle.cluster_drain.specs.declared.flushing.Flushed.{Flushed}
+use Rattle.cluster_drain.specs.declared.flushing.FlushError.{FlushError}
+use Rattle.cluster_drain.specs.declared.flushing.FlushError.TheVariants.{Failed as FlushFailed, Down as FlushDown, Worn as FlushWorn, Memory as FlushMemory}
+use Rattle.cluster_drain.specs.Told.{FlushTold}
+use Rattle.cluster_drain.specs.declared.carrying.Carry.{Carry}
+use Rattle.cluster_drain.specs.declared.carrying.CarryError.{CarryError}
+use Rattle.cluster_drain.specs.declared.carrying.CarryError.TheVariants.{Down as CarryDown, Worn as CarryWorn, Memory as CarryMemory}
+use Rattle.cluster_drain.specs.Carried.{CarryTold}
+use Rattle.cluster_drain.specs.Reminded.{reminded_by}
 use Rattle.cluster_drain.specs.declared.tending.DrainError.{DrainError}
 use Rattle.cluster_drain.specs.declared.tending.DrainError.TheVariants.{Down, Worn, Memory}
 

@@ -8,3 +8,13 @@ mod tending;
 
 pub use draining::drain;
 pub use tending::DrainError;
+
+mod flushing;
+mod flying;
+mod turns;
+pub use flushing::{FlushError, Flushed, flush_once};
+
+mod carrying;
+mod reminding;
+pub use carrying::{Carry, CarryError, carry_once};
+pub use reminding::{Reminding, remind_once};

@@ -4,8 +4,8 @@ ghost use Rattle.cluster_turns.specs.Walkers.{IsWalker, IsSameWalker};
 ghost use Rattle.cluster_drain.specs.Rounds.{CarriedAll, Tended, flush_refusal, carry_refusal};
 
 use batch_gate::Batch;
-use cluster_carry::{Carry, CarryError, carry_once, remind_once};
-use cluster_flush::{FlushError, Flushed, flush_once};
+use crate::{Carry, CarryError, carry_once, remind_once};
+use crate::{FlushError, Flushed, flush_once};
 use cluster_turns::{Shards, Walker};
 use io_edge::Pace;
 use machine_calls::{Flier, Machine};

@@ -18,7 +18,7 @@ use Rattle.turn_laws.specs.Notes.{noter, notes_of}
 use Rattle.turn_laws.specs.Homes.{start, state_of, holder_of}
 use Rattle.turn_laws.specs.Gates.{GateStands}
 use Rattle.turn_laws.specs.Sound.{IsSound}
-use Rattle.machines_opening.specs.Recovered.{IsMachineAt}
+use Rattle.machine_calls.specs.Recovered.{IsMachineAt}
 
 -- a journal in which no number has entries has none
 no_notes : (J : List Note) → ((w : ℕ) → entries_by noter w J ≡ []) → J ≡ []

@@ -1,1 +1,4 @@
 pub mod Opened
+pub mod ShardsOpeningOpened
+pub mod Made
+pub mod Undone

@@ -8,7 +8,7 @@ use Rattle.turn_laws.specs.declared.notes.Origin.{Origin}
 use Rattle.turn_laws.specs.declared.notes.Mark.{Mark}
 use Rattle.turn_laws.specs.Notes.{notes_of}
 use Rattle.turn_laws.specs.Sound.{IsSound}
-use Rattle.machines_opening.specs.Recovered.{IsMachineAt}
+use Rattle.machine_calls.specs.Recovered.{IsMachineAt}
 
 module _ {G : Type 0} (shut : G → Bool) (faults whose : G → ℕ) (logs : G → Option (List LogRecord) → Type 0) where
   -- the machine has its gate, which is the shard's and isn't shut, and whose disk has not failed; each log that it may have is the one found with what a restart adds

@@ -4,12 +4,12 @@ ghost use Rattle.clv_base.specs.declared.logs.LogRecord.{LogRecord};
 ghost use Rattle.disk_model.specs.Story.{Story};
 ghost use Rattle.turn_lock.specs.Passes.{passes_of, IsNewPass};
 ghost use Rattle.turn_laws.specs.declared.notes.Origin.{Origin as OriginIs};
-ghost use Rattle.machines_opening.specs.Recovered.{IsLeft};
+ghost use Rattle.machine_calls.specs.Recovered.{IsLeft};
 ghost use Rattle.cluster_opening.specs.Opened.{IsOriginOf};
 
 use cluster_turns::Home;
 use disk_model::Disk;
-use machines_opening::{OverDisks, take_apart};
+use machine_calls::{OverDisks, take_apart};
 use turn_laws::{Note, Origin};
 use turn_lock::{Pass, TurnLock};
 

@@ -11,3 +11,14 @@ pub use closing::close_unused;
 pub use durable::restarts_are_durable;
 pub use locking::lock_shard;
 pub use opening::open_shard;
+
+mod shards_opening_opening;
+pub use shards_opening_opening::{Stopped, open_shards};
+
+mod making;
+pub use making::make_walkers;
+
+mod giving;
+mod undoing;
+pub use giving::give_back_locks;
+pub use undoing::undo;

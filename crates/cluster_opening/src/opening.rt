@@ -6,7 +6,7 @@ ghost use Rattle.clv_base.specs.LogRules.{disorder};
 ghost use Rattle.log_gate.specs.View.{Only};
 ghost use Rattle.turn_lock.specs.Passes.{passes_of, IsNewPass};
 ghost use Rattle.turn_laws.specs.declared.notes.Origin.{Origin as OriginIs};
-ghost use Rattle.machines_opening.specs.Recovered.{IsLeft, CountsLeft};
+ghost use Rattle.machine_calls.specs.Recovered.{IsLeft, CountsLeft};
 ghost use Rattle.cluster_opening.specs.Opened.{IsOriginOf};
 
 use crate::locking::lock_shard;
@@ -15,7 +15,7 @@ use clv_base::logs::LogRecord;
 use disk_model::Disk;
 use gate_recovery::RecoverError;
 use log_gate::Gate;
-use machines_opening::{OverDisks, recover_shard, take_apart};
+use machine_calls::{OverDisks, recover_shard, take_apart};
 use std::alloc::Global;
 use std::snapshot::Snapshot;
 use turn_laws::{Note, Origin};

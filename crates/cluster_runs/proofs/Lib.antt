@@ -1,1 +1,6 @@
 mod Promised
+mod Drained
+mod Gone
+mod Sending
+mod Sitting
+mod Steps

@@ -18,11 +18,11 @@ use Rattle.cluster_turns.specs.declared.home.Home.{Home}
 use Rattle.cluster_turns.specs.declared.shards.Shards.{Shards}
 use Rattle.cluster_turns.specs.declared.shards.Walker.{Walker}
 use Rattle.script_lang.specs.Bodies.{Body}
-use Rattle.script_tries.specs.declared.ends.StopCause.TheVariants as stop
-use Rattle.shards_promises.specs.Completing.{SessionsHaveEnded}
-use Rattle.shards_promises.specs.Promises.{RunPromised}
+use Rattle.script_runs.specs.declared.ends.StopCause.TheVariants as stop
+use Rattle.run_promises.specs.Completing.{SessionsHaveEnded}
+use Rattle.run_promises.specs.Promises.{RunPromised}
 use Rattle.session_scripts.specs.Grounds.{WasDown}
-use Rattle.shards_promises.specs.Sessions.{Went, NotBegun, Begun, SessionsWent}
+use Rattle.run_promises.specs.Sessions.{Went, NotBegun, Begun, SessionsWent}
 use Rattle.run_promises.specs.Histories.{entries}
 use Rattle.run_status.specs.declared.status.Status.{Status}
 use Rattle.run_status.specs.declared.status.Status.TheVariants.{Fine, Usage, Script, ReadFault, WriteFault, DiskFault, NotLog, Memory, Worn, Exists, Apart}
@@ -30,7 +30,7 @@ use Rattle.run_status.specs.Running.{End, status_by}
 use Rattle.run_ends.specs.Ends.{walked_by, IsClosedRun}
 use Rattle.run_ends.specs.Statuses.{StatusTold, FlushesTold}
 use Rattle.run_ends.proofs.Laws.{others_stand, runs_keep, sessions_have_gone, statuses_tell, flushes_tell, downs_tell}
-use Rattle.cluster_sessions.specs.Sessions.{HasGrounds, SessionsGone, HasWornLast}
+use Rattle.cluster_runs.specs.Sessions.{HasGrounds, SessionsGone, HasWornLast}
 use Rattle.cluster_runs.specs.Ran.{AllEnded, StopTold, RanAll}
 
 -- where all was fine each transaction has ended

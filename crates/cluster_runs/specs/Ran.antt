@@ -11,10 +11,10 @@ use Rattle.run_promises.specs.Histories.{entries}
 use Rattle.run_status.specs.declared.status.Status.{Status}
 use Rattle.run_status.specs.declared.status.Status.TheVariants.{Fine}
 use Rattle.script_lang.specs.Bodies.{Body}
-use Rattle.script_tries.specs.declared.ends.StopCause.TheVariants.{Down, Unsettled, Worn}
-use Rattle.shards_promises.specs.Completing.{IsWanted, SessionEnded}
-use Rattle.shards_promises.specs.Promises.{RunPromised}
-use Rattle.shards_promises.specs.Sessions.{Went, Begun}
+use Rattle.script_runs.specs.declared.ends.StopCause.TheVariants.{Down, Unsettled, Worn}
+use Rattle.run_promises.specs.Completing.{IsWanted, SessionEnded}
+use Rattle.run_promises.specs.Promises.{RunPromised}
+use Rattle.run_promises.specs.Sessions.{Went, Begun}
 use Rattle.run_ends.specs.Statuses.{StatusTold, FlushesTold}
 
 -- where all was fine, and at least one try is wanted, each transaction of each session has ended

@@ -13,7 +13,7 @@ use cluster_closing::{Closed, close};
 use cluster_ends::Room;
 use cluster_turns::{Shards, Walker};
 use disk_model::House;
-use machines_opening::OverDisks;
+use machine_calls::OverDisks;
 use std::alloc::Global;
 
 // Closes the cluster of walkers that have no gate and never took a disk.

@@ -10,5 +10,11 @@ mod ran;
 mod whole;
 
 pub use ran::Ran;
-pub use script_threads::Start;
+pub use script_runs::Start;
 pub use whole::run_script;
+
+mod draining;
+mod over;
+mod seats;
+mod sessions;
+pub use over::run_over;

@@ -2,9 +2,9 @@
 use Rattle.std.proofs.Common.{◌≡◌, ap, ◌∙◌, subst, ℕ, List, [], length, Option, Some, None}
 use Rattle.std.specs.Prelude.{IsSomeAnd}
 use Rattle.disk_model.specs.Story.{Story, reads}
-use Rattle.disks_making.specs.Making.{HasBytes}
+use Rattle.disks_opening.specs.Making.{HasBytes}
 use Rattle.disks_opening.specs.declared.error.OpenError.TheVariants as opening
-use Rattle.opening_laws.specs.Accepted.{GoodLogsAreNotRefused}
+use Rattle.disks_opening.specs.Accepted.{GoodLogsAreNotRefused}
 use Rattle.command_words.specs.declared.commands.Command.{Command}
 use Rattle.command_words.specs.declared.commands.Command.TheVariants.{Make, Run, Show, Load}
 use Rattle.history_replay.specs.Entries.{Kept}

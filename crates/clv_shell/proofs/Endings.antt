@@ -16,7 +16,7 @@ use Rattle.report_text.specs.declared.texts.ReportError.TheVariants as text
 use Rattle.run_ends.specs.Statuses.{StatusTold}
 use Rattle.run_status.specs.Refusals.{of_opening}
 use Rattle.run_status.specs.Running.{with_text}
-use Rattle.shards_promises.specs.Sessions.{Went}
+use Rattle.run_promises.specs.Sessions.{Went}
 use Rattle.script_lang.specs.Bodies.{Body}
 use Rattle.run_status.specs.declared.status.Status.{Status}
 use Rattle.run_status.specs.declared.status.Status.TheVariants.{Fine, Usage, Script, ReadFault, WriteFault, DiskFault, NotLog, Memory, Worn, Exists, Apart}

@@ -9,7 +9,7 @@ use Rattle.command_words.specs.declared.commands.Command.{Command}
 use Rattle.command_words.specs.declared.commands.Command.TheVariants.{Make, Run, Show, Load}
 use Rattle.command_words.specs.declared.commands.WordsError.{WordsError}
 use Rattle.command_words.specs.declared.commands.WordsError.TheVariants as words
-use Rattle.disks_making.specs.Making.{Spares}
+use Rattle.disks_opening.specs.Making.{Spares}
 use Rattle.run_status.specs.Refusals.{of_words}
 use Rattle.run_status.specs.declared.status.Status.{Status}
 use Rattle.run_status.specs.declared.status.Status.TheVariants.{Fine, Usage, Script, ReadFault, WriteFault, DiskFault, NotLog, Memory, Worn, Exists, Apart}

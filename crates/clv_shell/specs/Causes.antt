@@ -5,7 +5,7 @@ use Rattle.command_words.specs.declared.commands.Command.{Command}
 use Rattle.command_words.specs.declared.commands.Command.TheVariants.{Make}
 use Rattle.disk_model.specs.Story.{Story}
 use Rattle.disk_model.specs.Disk.{Rose}
-use Rattle.disks_making.specs.Making.{ExistsAt}
+use Rattle.disks_opening.specs.Making.{ExistsAt}
 use Rattle.disks_opening.specs.Opening.{Refuses}
 use Rattle.disks_opening.specs.declared.error.OpenError.TheVariants as opening
 use Rattle.history_replay.specs.Entries.{Kept}

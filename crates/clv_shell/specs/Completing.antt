@@ -5,7 +5,7 @@ use Rattle.command_words.specs.declared.commands.Command.{Command}
 use Rattle.command_words.specs.declared.commands.Command.TheVariants.{Make, Run, Show, Load}
 use Rattle.disk_model.specs.Story.{Story, reads}
 use Rattle.disk_model.specs.Disk.{Rose}
-use Rattle.opening_laws.specs.Accepted.{AreGoodLogs}
+use Rattle.disks_opening.specs.Accepted.{AreGoodLogs}
 use Rattle.script_lang.specs.Bodies.{Body}
 use Rattle.script_lang.specs.Grammar.{IsScript}
 use Rattle.run_status.specs.declared.status.Status.{Status}

@@ -6,7 +6,7 @@ use Rattle.disk_model.specs.Disk.{Tells}
 use Rattle.cluster_beginning.specs.Begun.{AreUnchanged, MayBeLeft}
 use Rattle.command_words.specs.declared.commands.Command.{Command}
 use Rattle.command_words.specs.declared.commands.Command.TheVariants.{Make, Run, Show, Load}
-use Rattle.disks_making.specs.Making.{IsMade, Spares}
+use Rattle.disks_opening.specs.Making.{IsMade, Spares}
 use Rattle.history_replay.specs.Entries.{Kept}
 use Rattle.run_status.specs.declared.status.Status.{Status}
 use Rattle.run_status.specs.declared.status.Status.TheVariants.{Fine, DiskFault, Memory}

@@ -5,7 +5,7 @@ use Rattle.command_words.specs.declared.commands.Command.{Command}
 use Rattle.command_words.specs.declared.commands.Command.TheVariants.{Make, Run, Show, Load}
 use Rattle.disk_model.specs.Story.{Story}
 use Rattle.history_replay.specs.Entries.{Kept}
-use Rattle.replay_laws.specs.Replays.{LeavesReplayed}
+use Rattle.run_promises.specs.Replays.{LeavesReplayed}
 use Rattle.report_text.specs.declared.texts.ReportError.{ReportError}
 use Rattle.script_lang.specs.Bodies.{Body}
 use Rattle.script_lang.specs.Grammar.{IsScript}

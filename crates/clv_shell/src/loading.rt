@@ -24,7 +24,7 @@ use history_replay::{History, Memory};
 use io_edge::{Pace, Sink, write_all};
 use key_map::KeyMap;
 use lock_index::HashedLocks;
-use replay_laws::laws::runs_replay;
+use run_promises::replay::runs_replay;
 use report_text::{ReportError, load_text};
 use run_status::{Status, after_text};
 use script_lang::Script;

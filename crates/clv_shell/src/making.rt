@@ -8,7 +8,7 @@ ghost use Rattle.clv_shell.specs.Causes.{HasBytes, CountsDisks};
 
 use clv_base::splits::Splits;
 use disk_model::House;
-use disks_making::make_all;
+use disks_opening::make_all;
 use run_status::Status;
 use std::alloc::Global;
 

@@ -18,7 +18,7 @@ use crate::showing::show;
 use command_words::{Command, command_of};
 use disk_model::House;
 use io_edge::{Pace, Sink, Source};
-use opening_laws::laws::good_logs_are_not_refused;
+use disks_opening::opening_laws::good_logs_are_not_refused;
 use run_status::Status;
 use script_lang::laws::scripts_are_not_refused;
 use std::alloc::Global;

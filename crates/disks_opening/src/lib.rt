@@ -15,3 +15,12 @@ mod tests;
 pub use error::{At, OpenError};
 pub use giving::give_back_all;
 pub use opening::{Found, open_disks};
+
+mod disks_making_error;
+mod making;
+#[cfg(test)]
+mod disks_making_tests;
+pub use disks_making_error::MakeError;
+pub use making::make_all;
+
+pub mod opening_laws;

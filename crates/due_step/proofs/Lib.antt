@@ -1,2 +1,9 @@
 pub mod Stepping
+pub mod Cases
+pub mod Sending
+pub mod Touched
+pub mod Concerned
+pub mod Noted
+pub mod Known
+pub mod Turning
 pub mod Laws

@@ -18,13 +18,13 @@ use Rattle.clv_base.specs.Due.{finish_reader}
 use Rattle.vote_participant.specs.Voting.{Voting, home_by, voters_by}
 use Rattle.commit_coordinator.specs.Coordinated.{Coordination, told_by}
 use Rattle.txn_core.specs.State.{TxState, IsSameBut}
-use Rattle.due_finding.specs.Found.{vote_sent, voters_after, requests_after, carried}
-use Rattle.due_finding.specs.declared.finding.Due.{Due}
-use Rattle.due_finding.specs.declared.finding.Due.TheVariants.{Commit, Vote as DueVote, Ruling as DueRuling}
-use Rattle.due_messages.specs.Sent.{Waiting, told}
-use Rattle.due_messages.proofs.Laws.{carries_messages}
-use Rattle.due_carrying.specs.Carried.{local_after}
-use Rattle.due_carrying.proofs.Laws.{carries_local}
+use Rattle.due_step.specs.Found.{vote_sent, voters_after, requests_after, carried}
+use Rattle.due_step.specs.declared.finding.Due.{Due}
+use Rattle.due_step.specs.declared.finding.Due.TheVariants.{Commit, Vote as DueVote, Ruling as DueRuling}
+use Rattle.due_step.specs.Sent.{Waiting, told}
+use Rattle.due_step.proofs.Laws.{carries_messages}
+use Rattle.due_step.specs.Carried.{local_after}
+use Rattle.due_step.proofs.Laws.{carries_local}
 use Rattle.due_step.specs.Steps.{IsSeen}
 
 -- ---- what carrying out keeps

@@ -29,7 +29,7 @@ use Rattle.fate_laws.proofs.Downwards.{Down}
 use Rattle.fate_laws.proofs.Binding.{front_same}
 use Rattle.fall_laws.proofs.Lined.{Lined}
 use Rattle.fall_laws.proofs.Doomed.{goes}
-use Rattle.order_laws.proofs.Records.{prepared_there}
+use Rattle.protocol_laws.proofs.Records.{prepared_there}
 
 -- ---- what is known. K: who is dead at its home; V: who was out so far; O: who asked, or was answered here; Q: whose home is here
 

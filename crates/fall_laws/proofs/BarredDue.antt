@@ -45,7 +45,7 @@ use Rattle.history_laws.proofs.Uncommitting.{with_more}
 use Rattle.fall_laws.proofs.Ahead.{aborts_ahead, clrs_ahead}
 use Rattle.fall_laws.proofs.Lined.{Lined, Plainly, lined_more, lined_gone}
 use Rattle.fall_laws.proofs.Barred.{Absent, Out, Lost, Barred, Change, barred_next, rolled_goes, finished_goes}
-use Rattle.order_laws.proofs.Records.{prepared_there}
+use Rattle.protocol_laws.proofs.Records.{prepared_there}
 
 -- ---- who only read rules no COMMIT
 

@@ -56,7 +56,7 @@ use Rattle.fall_laws.proofs.Lined.{Lined, lined_more, lined_closed}
 use Rattle.fall_laws.proofs.Barred.{Absent, Out, Lost, Barred, lost_inactive, barred_next}
 use Rattle.fall_laws.proofs.BarredDue.{plain_commit, out_open}
 use Rattle.fall_laws.proofs.BarredStep.{barred_same, barred_rolled, barred_marked, barred_performed}
-use Rattle.order_laws.proofs.Records.{prepared_there}
+use Rattle.protocol_laws.proofs.Records.{prepared_there}
 
 abbrev pub Owes : (TxId → Type 0) → (TxId → Type 0) → (TxId → Type 0) → (TxId → Type 0) → Shard → Event → Outcome → Type 0
 Owes K V O Q s (OpEvent tx birth nth seen op) o =

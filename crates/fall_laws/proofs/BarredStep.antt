@@ -46,7 +46,7 @@ use Rattle.fate_laws.proofs.Downwards.{down_step}
 use Rattle.fall_laws.proofs.Lined.{Lined, lined_performed}
 use Rattle.fall_laws.proofs.Barred.{Out, Lost, Barred, barred_next, rolled_goes}
 use Rattle.fall_laws.proofs.BarredDue.{lined_rolled, out_open}
-use Rattle.order_laws.proofs.Records.{prepared_there}
+use Rattle.protocol_laws.proofs.Records.{prepared_there}
 
 -- ---- only requests, voters, messages and the like change
 

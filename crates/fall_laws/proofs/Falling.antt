@@ -46,13 +46,13 @@ use Rattle.shard_laws.proofs.Following.{Follows, from_disorder}
 use Rattle.shard_laws.proofs.Restoring.{restored_closed}
 use Rattle.shard_laws.proofs.Ordered.{prepare_some}
 use Rattle.session_laws.proofs.Replying.{OpIs, waits, no_room, dies, rolls, performs, reply_is}
-use Rattle.file_laws.proofs.Walking.{Behind, next_entry}
-use Rattle.file_laws.proofs.Found.{found_in_order}
+use Rattle.history_laws.proofs.Walking.{Behind, next_entry}
+use Rattle.history_laws.proofs.Found.{found_in_order}
 use Rattle.origin_laws.proofs.Sessions.{Requested, same_epoch, turn_of}
 use Rattle.origin_laws.proofs.Origins.{PartFrom, StageFrom, SomeRequest}
 use Rattle.origin_laws.proofs.Events.{active_done}
 use Rattle.origin_laws.proofs.Entries.{Did, DidNow, DidAny, IsOld, Traced, traced_front}
-use Rattle.wait_laws.proofs.Tied.{Tied, LockOf, ListsAre, OpOwes, MayStand, tied_as, tied_happens, tied_flushed, tied_down, tied_revived, tied_opened}
+use Rattle.origin_laws.proofs.Tied.{Tied, LockOf, ListsAre, OpOwes, MayStand, tied_as, tied_happens, tied_flushed, tied_down, tied_revived, tied_opened}
 use Rattle.fate_laws.proofs.Prefixes.{Next, next_at, stays_as_it_was, AskedIn, asked_later, one_home, DurableIn}
 use Rattle.fate_laws.proofs.Fates.{Fated, DeadIn, delivered, dead_later, committed_asked}
 use Rattle.fate_laws.proofs.Parts.{VoterIs}
@@ -62,14 +62,14 @@ use Rattle.fate_laws.proofs.Arriving.{due_at}
 use Rattle.fate_laws.proofs.Downwards.{owed as owed_down}
 use Rattle.fate_laws.proofs.Dooming.{Kept}
 use Rattle.fate_laws.proofs.Sparing.{Spared, spared_front, same_home, dropped_dead}
-use Rattle.earlier_laws.specs.Earlier.{IsEarlier, WasCommitted}
-use Rattle.earlier_laws.proofs.Elders.{Elders, elders_front, delivered as elders_tell}
+use Rattle.fate_laws.specs.Earlier.{IsEarlier, WasCommitted}
+use Rattle.fate_laws.proofs.Elders.{Elders, elders_front, delivered as elders_tell}
 use Rattle.fall_laws.proofs.BarredStep.{barred_same}
 use Rattle.fall_laws.proofs.Ahead.{Ahead, follows_ahead, whole_ahead}
 use Rattle.fall_laws.proofs.Barred.{Absent, Out, Lost, Barred, lost_inactive}
 use Rattle.fall_laws.proofs.BarredEvents.{Owes}
 use Rattle.fall_laws.proofs.BarredMade.{Frame, barred_state, barred_made}
-use Rattle.order_laws.proofs.Records.{prepared_there}
+use Rattle.protocol_laws.proofs.Records.{prepared_there}
 
 -- ---- what is told of transactions after a front of the history
 

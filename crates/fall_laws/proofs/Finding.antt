@@ -29,7 +29,7 @@ use Rattle.fate_laws.specs.Decisions.{is_left}
 use Rattle.fate_laws.proofs.Deciding.{left_committed, commits_stand_at_home}
 use Rattle.fate_laws.proofs.Bindings.{bindings_front}
 use Rattle.fate_laws.proofs.Arriving.{taken_closed}
-use Rattle.earlier_laws.proofs.Elders.{elders_front}
+use Rattle.fate_laws.proofs.Elders.{elders_front}
 use Rattle.fall_laws.specs.Falls.{Fell, FallenAreUncommitted, CommitsFindTheUnfallen, CommittedNeverFell, MembersNeverFellAtHome}
 use Rattle.shard_laws.specs.OneShard.{is_doomed}
 use Rattle.fate_laws.proofs.Sparing.{spared_front}

@@ -45,7 +45,7 @@ use Rattle.fate_laws.proofs.Prefixes.{Next, next_at, stays_as_it_was, asked_late
 use Rattle.fate_laws.proofs.Bindings.{bindings_front}
 use Rattle.fall_laws.proofs.BarredStep.{performed_other}
 use Rattle.fall_laws.proofs.Falling.{Met, met_front, prepared_asked, walk_on}
-use Rattle.file_laws.proofs.Doubts.{doubt_prepared}
+use Rattle.history_laws.proofs.Doubts.{doubt_prepared}
 
 -- ---- parts that aren't there
 

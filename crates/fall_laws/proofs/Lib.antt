@@ -11,3 +11,17 @@ pub mod Known
 pub mod Finding
 pub mod Counting
 pub mod Here
+pub mod Fallen
+pub mod Deeds
+pub mod Records
+pub mod Doubted
+pub mod Restored
+pub mod Touching
+pub mod Delivering
+pub mod EachShardFinding
+pub mod Asking
+pub mod Remembering
+pub mod Leading
+pub mod Ordering
+pub mod Telling
+pub mod Settling

@@ -32,7 +32,7 @@ use Rattle.law_base.proofs.Stages.{other_part}
 use Rattle.fate_laws.proofs.Prepares.{prepare_from, prepare_new}
 use Rattle.fate_laws.proofs.Closings.{new_active}
 use Rattle.fall_laws.proofs.Ahead.{Ahead, ahead_append}
-use Rattle.order_laws.proofs.Records.{prepared_there}
+use Rattle.protocol_laws.proofs.Records.{prepared_there}
 
 -- prepared or committed
 abbrev pub Decided : List LogRecord → TxId → Type 0

@@ -6,3 +6,5 @@
 
 pub mod falls;
 pub mod members;
+
+pub mod each_shard;

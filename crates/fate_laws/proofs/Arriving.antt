@@ -42,7 +42,7 @@ use Rattle.fate_laws.proofs.Deciding.{log_now, left_committed}
 use Rattle.fate_laws.proofs.Binding.{Bound, ordered_wrote}
 use Rattle.fate_laws.proofs.Parts.{Touched, Good, Base}
 use Rattle.fate_laws.proofs.Bindings.{WasTaken, FineAt, Bindings, bound_message, bindings_front}
-use Rattle.order_laws.proofs.Records.{prepared_there}
+use Rattle.protocol_laws.proofs.Records.{prepared_there}
 
 -- ---- a commit is taken by a part that is closed, or again
 

@@ -31,7 +31,7 @@ use Rattle.fate_laws.proofs.Prepares.{front_prepare}
 use Rattle.fate_laws.proofs.Entering.{durable_front}
 use Rattle.fate_laws.proofs.Calm.{Calm}
 use Rattle.fate_laws.proofs.Writing.{wrote_take}
-use Rattle.order_laws.proofs.Records.{prepared_there}
+use Rattle.protocol_laws.proofs.Records.{prepared_there}
 
 -- ---- what binds
 

@@ -57,7 +57,7 @@ use Rattle.fate_laws.proofs.PartsEvents.{Owes, Once, parted_step, parted_same, p
 use Rattle.fate_laws.proofs.Returning.{parted_state, parted_revived, bound_state, reads_state, added_ordered}
 use Rattle.fate_laws.proofs.Opening.{ordered_opening, opening_settled}
 use Rattle.fate_laws.proofs.Standing.{NotOwn, bound_flushed, bound_made, reads_made}
-use Rattle.order_laws.proofs.Records.{prepared_there}
+use Rattle.protocol_laws.proofs.Records.{prepared_there}
 use Rattle.shard_laws.proofs.Ordered.{prepare_some}
 
 -- ---- more is known

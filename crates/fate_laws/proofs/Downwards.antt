@@ -46,7 +46,7 @@ use Rattle.fate_laws.proofs.Parts.{commit_agreed}
 use Rattle.fate_laws.proofs.Bindings.{Bindings, bindings_start, bindings_next, asked_not_own}
 use Rattle.fate_laws.proofs.Arriving.{due_at}
 use Rattle.fate_laws.proofs.Homes.{new_commit}
-use Rattle.file_laws.proofs.Doubts.{doubt_undecided}
+use Rattle.history_laws.proofs.Doubts.{doubt_undecided}
 
 abbrev pub Down : Shard → Type 0
 Down s = (a b : TxId) → committed_in s.local.log a ≡ true → is_pair s.local.pairs a b ≡ true → committed_in s.local.log b ≡ true

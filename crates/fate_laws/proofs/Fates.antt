@@ -26,9 +26,9 @@ use Rattle.clv_base.specs.Journals.{History, event_state, after_entry}
 use Rattle.clv_base.specs.History.{Legal, WasSent}
 use Rattle.law_base.proofs.Commits.{durable_committed}
 use Rattle.law_base.proofs.Options.{none_of}
-use Rattle.order_laws.proofs.Records.{own_prepare}
-use Rattle.order_laws.proofs.Runs.{record_fits}
-use Rattle.order_laws.proofs.InOrder.{runs_in_order}
+use Rattle.protocol_laws.proofs.Records.{own_prepare}
+use Rattle.protocol_laws.proofs.Runs.{record_fits}
+use Rattle.protocol_laws.proofs.OrderInOrder.{runs_in_order}
 use Rattle.history_laws.proofs.Entering.{makes}
 use Rattle.history_laws.proofs.Merging.{Placed, Among, among_append, among_right, is_among}
 use Rattle.history_laws.proofs.TellingEvents.{front_committed}

@@ -45,9 +45,9 @@ use Rattle.history_laws.proofs.TellingEvents.{front_committed}
 use Rattle.fate_laws.proofs.Prepares.{prepare_new, front_prepare, opening_adds as opening_prepares, rolled as rolled_prepares, dropped as dropped_prepares, op_dying as dying_prepares, op_answering as answering_prepares, restarts_add as restarts_prepare}
 use Rattle.fate_laws.proofs.Restored.{unended_committed, restored_committed}
 use Rattle.fate_laws.proofs.Homes.{Known, Tells, Alone, Opens, Homed, tells_on, words_on, MayCommit, homed_log, homed_same, homed_commit, homed_send, homed_set, durable_known, alone_log, still_not, open_undecided, open_committed}
-use Rattle.file_laws.proofs.Doubts.{doubt_prepared}
-use Rattle.file_laws.proofs.Rows.{all_in}
-use Rattle.order_laws.proofs.Records.{prepared_there}
+use Rattle.history_laws.proofs.Doubts.{doubt_prepared}
+use Rattle.history_laws.proofs.Rows.{all_in}
+use Rattle.protocol_laws.proofs.Records.{prepared_there}
 
 -- ---- what is owed
 

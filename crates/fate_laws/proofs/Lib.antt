@@ -28,3 +28,7 @@ pub mod RecordKinds
 pub mod VotesHeld
 pub mod Rulings
 pub mod Writing
+pub mod Elder
+pub mod ElderEvents
+pub mod Elders
+pub mod Earlier

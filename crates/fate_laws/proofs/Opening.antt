@@ -16,13 +16,13 @@ use Rattle.clv_base.proofs.SameNames.{tx_true}
 use Rattle.law_base.proofs.Commits.{place_there, place_new}
 use Rattle.law_base.proofs.Changed.{some_same}
 use Rattle.law_base.proofs.Sets.{list_all_at}
-use Rattle.order_laws.proofs.Records.{front, last, committed_there, prepared_there}
+use Rattle.protocol_laws.proofs.Records.{front, last, committed_there, prepared_there}
 use Rattle.protocol_laws.proofs.Growing.{more}
 use Rattle.fate_laws.proofs.Binding.{Ordered}
 use Rattle.fate_laws.proofs.Parts.{longer_ordered}
 use Rattle.fate_laws.proofs.HomesFound.{part_agreed, home_of}
 use Rattle.fate_laws.proofs.RecordKinds.{prepare_is}
-use Rattle.file_laws.proofs.Found.{found_in_order}
+use Rattle.history_laws.proofs.Found.{found_in_order}
 
 -- ---- a log in order has each PREPARE behind a write of its transaction
 

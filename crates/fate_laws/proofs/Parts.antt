@@ -39,7 +39,7 @@ use Rattle.fate_laws.proofs.Calm.{Calm}
 use Rattle.fate_laws.proofs.Closings.{ClosedNow}
 use Rattle.fate_laws.proofs.Binding.{Bound, Reads, bound_calm, reads_calm, Ordered, Listed}
 use Rattle.fate_laws.proofs.VotesHeld.{votes_get}
-use Rattle.order_laws.proofs.Records.{prepared_there}
+use Rattle.protocol_laws.proofs.Records.{prepared_there}
 
 -- ---- what is known. W: whose request was taken, where, naming which shards; S: who asked so far; F: whose part on a shard is bound, or has read
 

@@ -16,7 +16,7 @@ use Rattle.history_laws.proofs.Serials.{committed_front}
 use Rattle.history_laws.proofs.Telling.{IsRequest}
 use Rattle.history_laws.proofs.Worlds.{sent_at, state_at, Split, split_at, in_a_shard}
 use Rattle.history_laws.proofs.Staying.{one_request}
-use Rattle.file_laws.proofs.Walking.{other_journal}
+use Rattle.history_laws.proofs.Walking.{other_journal}
 
 -- what stands before an entry is in the front
 precedes_right : {A : Type 0} (x y : A) (xs ys : List A) → Precedes x y ys → Precedes x y (xs ++ ys)

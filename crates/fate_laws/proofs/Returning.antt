@@ -31,8 +31,8 @@ use Rattle.history_laws.proofs.Uncommitting.{restarts_add}
 use Rattle.fate_laws.proofs.Prepares.{front_prepare, restarts_add as restarts_prepare}
 use Rattle.fate_laws.proofs.Binding.{Bound, Reads, Ordered}
 use Rattle.fate_laws.proofs.Parts.{HomeOr, Good, Parted, longer_ordered}
-use Rattle.file_laws.proofs.Doubts.{doubt_prepared}
-use Rattle.order_laws.proofs.Records.{prepared_there}
+use Rattle.history_laws.proofs.Doubts.{doubt_prepared}
+use Rattle.protocol_laws.proofs.Records.{prepared_there}
 
 -- ---- pairs of those in doubt
 

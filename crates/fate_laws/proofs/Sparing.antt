@@ -59,7 +59,7 @@ use Rattle.fate_laws.proofs.Arriving.{home_committed}
 use Rattle.fate_laws.proofs.Downwards.{Lowered, lowered_next, lowered_front, owed as owed_down}
 use Rattle.fate_laws.proofs.Dooming.{Kept, RowKeeps}
 use Rattle.fate_laws.proofs.DoomingEvents.{Owes, NotPending, kept_made, kept_state}
-use Rattle.file_laws.proofs.Walking.{other_journal, from_own, first_among}
+use Rattle.history_laws.proofs.Walking.{other_journal, from_own, first_among}
 
 -- ---- journals
 

@@ -26,7 +26,7 @@ use Rattle.fate_laws.proofs.Arriving.{all_from, listed_is}
 use Rattle.fate_laws.proofs.Binding.{Bound}
 use Rattle.fate_laws.proofs.Casting.{Cast, casts_front}
 use Rattle.fate_laws.proofs.Downwards.{Down, lowered_front}
-use Rattle.order_laws.proofs.Records.{prepared_there}
+use Rattle.protocol_laws.proofs.Records.{prepared_there}
 
 -- ---- votes
 

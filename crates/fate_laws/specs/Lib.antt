@@ -4,3 +4,4 @@ pub mod Binding
 pub mod Downwards
 pub mod Aborts
 pub mod Votes
+pub mod Earlier

@@ -7,3 +7,5 @@ pub mod aborts;
 pub mod commits;
 pub mod decisions;
 pub mod votes;
+
+pub mod earlier_laws;

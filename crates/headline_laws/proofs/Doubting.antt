@@ -35,12 +35,12 @@ use Rattle.fate_laws.proofs.Casting.{casts_front}
 use Rattle.fate_laws.proofs.Deciding.{log_now}
 use Rattle.fate_laws.proofs.Prefixes.{one_home}
 use Rattle.fate_laws.proofs.Prepares.{prepare_more, front_prepare}
-use Rattle.unfallen_laws.proofs.Going.{aborted_take}
-use Rattle.unfallen_laws.proofs.Sparing.{bound_unaborted}
+use Rattle.acknowledged_laws.proofs.Going.{aborted_take}
+use Rattle.acknowledged_laws.proofs.Sparing.{bound_unaborted}
 use Rattle.many_shards_laws.specs.Replaying.{IsHere}
 use Rattle.many_shards_laws.proofs.Homes.{doubted}
 use Rattle.many_shards_laws.proofs.Shares.{at_somewhere}
-use Rattle.order_laws.proofs.Records.{prepared_there}
+use Rattle.protocol_laws.proofs.Records.{prepared_there}
 
 module _ (splits : List ℕ) (before : List (List LogRecord)) (h : History) (after : List (List LogRecord)) (choice : ℕ → Bool) (o : may_open splits before ≡ true) (l : Legal splits before h after) (n : ℕ) (i : n < shard_count splits)
     (t : TxId) (home : ℕ) (e : Entry) (touched : List (ℕ × ℕ)) (a : IsAmong home e h) (ev : e.event ≡ RequestEvent t touched) (out : e.outcome ≡ Asked)

@@ -21,7 +21,7 @@ use Rattle.history_laws.proofs.Merging.{is_among, among_is}
 use Rattle.history_laws.proofs.Staying.{is_request}
 use Rattle.history_laws.proofs.Worlds.{in_a_shard}
 use Rattle.fate_laws.specs.Decisions.{is_left}
-use Rattle.unfallen_laws.proofs.Voting.{members_are_voted_for}
+use Rattle.acknowledged_laws.proofs.Voting.{members_are_voted_for}
 use Rattle.many_shards_laws.specs.Replaying.{IsHere}
 use Rattle.many_shards_laws.proofs.Members.{asks}
 use Rattle.many_shards_laws.proofs.Replaying.{members_replay_where_here}

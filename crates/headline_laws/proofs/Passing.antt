@@ -30,17 +30,17 @@ use Rattle.origin_laws.proofs.Entries.{DidAny, DidOrOld, IsOld, Traced, traced_f
 use Rattle.fate_laws.proofs.Prefixes.{one_home}
 use Rattle.fate_laws.proofs.Voting.{votes_bind}
 use Rattle.fall_laws.specs.Falls.{Fell}
-use Rattle.each_shard_laws.specs.Leading.{deeds_before, requests_of}
-use Rattle.each_shard_laws.proofs.Deeds.{request_is_in}
-use Rattle.each_shard_laws.proofs.Delivering.{committed_wrote}
-use Rattle.each_shard_laws.proofs.Fallen.{fell_is}
-use Rattle.each_shard_laws.proofs.Leading.{at_front, each_shard_leads, restored_front}
-use Rattle.each_shard_laws.proofs.Records.{wrote_from}
-use Rattle.each_shard_laws.proofs.Remembering.{part_did, none_present}
-use Rattle.reader_laws.proofs.Readers.{readers_pass}
-use Rattle.reader_laws.proofs.Readers.{readers_never_fell}
+use Rattle.fall_laws.specs.Leading.{deeds_before, requests_of}
+use Rattle.fall_laws.proofs.Deeds.{request_is_in}
+use Rattle.fall_laws.proofs.Delivering.{committed_wrote}
+use Rattle.fall_laws.proofs.Fallen.{fell_is}
+use Rattle.fall_laws.proofs.Leading.{at_front, each_shard_leads, restored_front}
+use Rattle.fall_laws.proofs.Records.{wrote_from}
+use Rattle.fall_laws.proofs.Remembering.{part_did, none_present}
+use Rattle.acknowledged_laws.proofs.Readers.{readers_pass}
+use Rattle.acknowledged_laws.proofs.Readers.{readers_never_fell}
 use Rattle.acknowledged_laws.specs.Acknowledged.{OnlyRead}
-use Rattle.unfallen_laws.proofs.Naming.{names_shard}
+use Rattle.acknowledged_laws.proofs.Naming.{names_shard}
 
 module _ (splits : List ℕ) (before : List (List LogRecord)) (h : History) (after : List (List LogRecord)) (o : may_open splits before ≡ true) (l : Legal splits before h after) (n : ℕ) (i : n < shard_count splits)
     (t : TxId) (home : ℕ) (e : Entry) (touched : List (ℕ × ℕ)) (a : IsAmong home e h) (ev : e.event ≡ RequestEvent t touched) (out : e.outcome ≡ Asked) where

@@ -6,3 +6,5 @@
 #![tactic(auto)]
 
 pub mod statements;
+
+pub mod one_shard;

@@ -1,2 +1,14 @@
 pub mod Worked
 pub mod Steps
+pub mod Examples
+pub mod Entering
+pub mod Wide
+pub mod Again
+pub mod Undoing
+pub mod Refusing
+pub mod Dropping
+pub mod Restarting
+pub mod Flying
+pub mod Following
+pub mod Holding
+pub mod Lagging

@@ -3,3 +3,29 @@
 
 pub mod doubt;
 pub mod legal;
+
+// Examples of the protocol, computed from its definitions: each function's clause says what a list of steps leads to.
+// An example with several transactions says all that was answered, the records of each log and the live pairs of each shard.
+// Stands on the definitions of clv_base alone. No crate stands on this one.
+pub mod cascades;
+pub mod crashes;
+pub mod doubts;
+pub mod histories;
+pub mod logs;
+pub mod messages;
+pub mod scans;
+pub mod soundness;
+pub mod waiting;
+pub mod writers;
+
+pub mod aborted;
+pub mod committed;
+pub mod dropped;
+pub mod flight;
+pub mod reading;
+pub mod reopened;
+pub mod restarted;
+pub mod undone;
+pub mod wide_waiting;
+
+pub mod cut;

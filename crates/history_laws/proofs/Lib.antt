@@ -12,4 +12,12 @@ pub mod Worlds
 pub mod Staying
 pub mod InTurn
 pub mod Endings
+pub mod Walking
+pub mod Offers
+pub mod Records
+pub mod Filing
+pub mod Passing
+pub mod Found
+pub mod Doubts
+pub mod Rows
 pub mod Laws

@@ -9,9 +9,9 @@ use Rattle.clv_base.specs.LogRules.{disorder, log_of, all_logs_from, apart}
 use Rattle.clv_base.specs.FileRules.{may_open, log_passes, passes_file_rules}
 use Rattle.clv_base.specs.Restarts.{greatest_run, run_after}
 use Rattle.law_base.proofs.Options.{none_of}
-use Rattle.order_laws.proofs.Records.{own_commit}
-use Rattle.order_laws.proofs.Runs.{record_fits}
-use Rattle.order_laws.proofs.InOrder.{runs_in_order}
+use Rattle.protocol_laws.proofs.Records.{own_commit}
+use Rattle.protocol_laws.proofs.Runs.{record_fits}
+use Rattle.protocol_laws.proofs.OrderInOrder.{runs_in_order}
 
 pub each_passes : (test : ℕ → List LogRecord → Bool) (n i : ℕ) (logs : List (List LogRecord)) → all_logs_from n test logs ≡ true → i < length logs → test (n + i) (log_of logs i) ≡ true
 each_passes test n i [] a l = absurd (omega arith)

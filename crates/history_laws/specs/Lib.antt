@@ -1,3 +1,4 @@
 pub mod Continuing
 pub mod Ordering
 pub mod Outcomes
+pub mod Passing

@@ -5,3 +5,5 @@
 
 pub mod members;
 pub mod sessions;
+
+pub mod statements;

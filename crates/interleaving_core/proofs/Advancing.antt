@@ -12,9 +12,9 @@ use Rattle.clv_base.specs.Core.{clock_of, answer_by, entry_of, put_entry}
 use Rattle.clv_base.specs.Journals.{History, own, has_no_equal_active_birth}
 use Rattle.clv_base.specs.Sessions.{is_session}
 use Rattle.journal_laws.specs.Worlds.{Steady, empty_logs}
-use Rattle.list_gate.specs.Listed.{Listed}
+use Rattle.interleaving_core.specs.Listed.{Listed}
 use Rattle.machine_calls.specs.Events.{sends_fit}
-use Rattle.core_seats.specs.declared.seat.Seat.{Seat}
+use Rattle.interleaving_core.specs.declared.seat.Seat.{Seat}
 use Rattle.world_laws.specs.Moves.{Moves}
 use Rattle.world_laws.specs.Running.{run_step, is_offered}
 use Rattle.world_laws.proofs.Laws.{empty_run, refused_step, rival_step, idle_step, no_shard, taken_step, steady_step, put_tests, stands}

@@ -8,9 +8,9 @@ use Rattle.clv_base.specs.Restarts.{opened}
 use Rattle.clv_base.specs.Core.{new_world, opened_from}
 use Rattle.clv_base.specs.Journals.{History}
 use Rattle.journal_laws.specs.Worlds.{Steady, empty_logs}
-use Rattle.list_gate.specs.Listed.{Listed}
+use Rattle.interleaving_core.specs.Listed.{Listed}
 use Rattle.machine_calls.specs.Events.{sends_fit}
-use Rattle.core_seats.specs.declared.seat.Seat.{Seat}
+use Rattle.interleaving_core.specs.declared.seat.Seat.{Seat}
 use Rattle.world_laws.proofs.Laws.{new_steady}
 use Rattle.interleaving_core.specs.Sound.{shards_of, world_by, IsSeat, AreSound}
 

@@ -11,7 +11,7 @@ use Rattle.clv_base.specs.History.{IsAmong}
 use Rattle.clv_base.specs.Runs.{was_sent}
 use Rattle.world_laws.proofs.Laws.{was_sent_before}
 use Rattle.machine_calls.specs.Events.{message_fits, event_fits, sends_fit}
-use Rattle.session_tests.specs.Naming.{names_fit}
+use Rattle.interleaving_core.specs.Naming.{names_fit}
 use Rattle.interleaving_core.specs.Sound.{AllFit}
 
 fits_among : (n : ℕ) (e : Entry) (h : History) → AllFit h → IsAmong n e h → sends_fit e.outcome ≡ true

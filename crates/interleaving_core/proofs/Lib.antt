@@ -5,3 +5,10 @@ mod Sessioning
 mod Answering
 mod Beginning
 mod Stepping
+mod Spelled
+mod SessionTestsPlacing
+mod Entries
+mod CoreSeatsAnswering
+mod Keeping
+mod Flying
+mod Reviving

@@ -6,8 +6,8 @@ use Rattle.clv_base.specs.declared.events.Event.{Event}
 use Rattle.clv_base.specs.Journals.{History, own}
 use Rattle.clv_base.specs.Sessions.{SessionState, session_after, is_session, is_of_session, is_session_number}
 use Rattle.journal_laws.specs.Offers.{hoped_for, may_make}
-use Rattle.session_progress.specs.States.{session_of}
-use Rattle.session_progress.proofs.Laws.{sessions_have_states, states_tell_may_make, states_bear_walkers}
+use Rattle.session_births.specs.States.{session_of}
+use Rattle.session_births.proofs.Laws.{sessions_have_states, states_tell_may_make, states_bear_walkers}
 use Rattle.world_laws.specs.Running.{session_may}
 
 some_of : {A : Type 0} (o : Option A) → is_some o ≡ true → (x : A) × (o ≡ Some x)

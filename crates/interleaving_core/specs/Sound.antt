@@ -6,10 +6,10 @@ use Rattle.clv_base.specs.State.{Shard}
 use Rattle.clv_base.specs.Core.{World as CoreWorld}
 use Rattle.clv_base.specs.Journals.{History}
 use Rattle.journal_laws.specs.Worlds.{Steady, empty_logs}
-use Rattle.list_gate.specs.Listed.{Listed}
+use Rattle.interleaving_core.specs.Listed.{Listed}
 use Rattle.machine_calls.specs.Events.{sends_fit}
-use Rattle.core_seats.specs.declared.seat.Seat.{Seat}
-use Rattle.core_seats.specs.Seated.{IsSeated}
+use Rattle.interleaving_core.specs.declared.seat.Seat.{Seat}
+use Rattle.interleaving_core.specs.Seated.{IsSeated}
 use Rattle.interleaving_core.specs.declared.world.World.{World}
 
 -- all that was sent may be delivered

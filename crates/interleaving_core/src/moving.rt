@@ -5,14 +5,14 @@ ghost use Rattle.clv_base.specs.Journals.{has_no_equal_active_birth};
 ghost use Rattle.clv_base.specs.LogRules.{disorder};
 ghost use Rattle.clv_base.specs.Restarts.{log_left};
 ghost use Rattle.machine_calls.specs.Events.{event_fits, is_stepped, sends_fit};
-ghost use Rattle.core_seats.specs.Seated.{IsSeated};
+ghost use Rattle.interleaving_core.specs.Seated.{IsSeated};
 ghost use Rattle.world_laws.specs.Fronts.{FrontsFit, LandsBy};
 ghost use Rattle.world_laws.specs.Moves.{Moves};
 ghost use Rattle.interleaving_core.specs.Making.{MakesEntry};
 
 use clv_base::events::{CoreStep, Entry, Event, Outcome};
-use core_seats::{Seat, flush_in, flush_out, restart, step};
-use list_gate::ListGate;
+use crate::{Seat, flush_in, flush_out, restart, step};
+use crate::ListGate;
 use machine_calls::{Flier, Machine, Restarter};
 use std::alloc::{AllocError, Global};
 

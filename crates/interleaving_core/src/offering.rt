@@ -5,14 +5,14 @@ ghost use Rattle.clv_base.specs.Journals.{own};
 ghost use Rattle.clv_base.specs.Runs.{was_sent as was_sent_in};
 ghost use Rattle.clv_base.specs.Sessions.{is_session, is_of_session as of_session, is_session_number as number_of};
 ghost use Rattle.machine_calls.specs.Events.{event_fits};
-ghost use Rattle.session_tests.specs.Naming.{names_fit};
+ghost use Rattle.interleaving_core.specs.Naming.{names_fit};
 ghost use Rattle.world_laws.specs.Running.{session_may as session_may_in, is_offered as offered};
 ghost use Rattle.interleaving_core.specs.Sound.{AllFit};
 
 use clv_base::events::{Entry, Event};
 use clv_base::splits::Splits;
-use history_tests::was_sent;
-use session_tests::session_of;
+use crate::was_sent;
+use crate::session_of;
 use std::alloc::{AllocError, Global};
 
 fn comes_after_sending(history: &[(u32, Entry)], event: &Event) -> bool

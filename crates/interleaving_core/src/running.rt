@@ -16,12 +16,12 @@ use crate::placing::put_entry;
 use crate::world::World;
 use clv_base::events::CoreStep;
 use clv_base::splits::Splits;
-use core_seats::{Seat, open};
-use history_tests::clock_of;
+use crate::{Seat, open};
+use crate::clock_of;
 use journal_laws::statements::run_events_is_legal;
-use list_gate::ListGate;
+use crate::ListGate;
 use machine_calls::{Flier, Machine, Maker, Restarter};
-use promise_laws::promises::{logs_stay_in_order, worlds_keep_promise};
+use world_laws::promise_promises::{logs_stay_in_order, worlds_keep_promise};
 use std::alloc::{AllocError, Global};
 
 // All shards as they open empty logs. An `Err` is want of memory.

@@ -2,8 +2,8 @@
 ghost use Rattle.std.specs.Prelude.{◌≡◌};
 
 use clv_base::events::Entry;
-use core_seats::{Seat, leave};
-use list_gate::ListGate;
+use crate::{Seat, leave};
+use crate::ListGate;
 use machine_calls::Machine;
 
 /// The shards' machines, by their numbers, and the entries so far with their shards, by stamp, then shard.

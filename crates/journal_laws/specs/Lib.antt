@@ -6,3 +6,4 @@ pub mod Notes
 pub mod Offers
 pub mod Views
 pub mod Endings
+pub mod Cuts

@@ -1,2 +1,5 @@
 pub mod Sizes
 pub mod Flying
+mod BatchBytesSizes
+mod Fitting
+pub mod Laws

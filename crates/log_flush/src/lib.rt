@@ -10,3 +10,10 @@ mod payload;
 mod tests;
 
 pub use flushing::{FlushError, flush_all};
+
+mod batch;
+mod spelling;
+#[cfg(test)]
+mod batch_bytes_tests;
+pub use batch::batch_bytes;
+pub use spelling::spell;

@@ -20,3 +20,6 @@ pub use header::Header;
 pub use keeping::Gate;
 pub use making::make;
 pub use opening::open_log;
+
+mod log_reopening_opening;
+pub use log_reopening_opening::{disk_of, open_gate};

@@ -3,3 +3,4 @@ pub mod Steps
 pub mod Flights
 pub mod Restored
 pub mod Settled
+pub mod Recovered

@@ -13,3 +13,8 @@ pub use flights::{Flier, Flight};
 pub use machine::{Machine, Parts, StepError};
 pub use making::Maker;
 pub use restarts::Restarter;
+
+mod machines_opening_disks;
+mod recovering;
+pub use machines_opening_disks::OverDisks;
+pub use recovering::{recover_shard, take_apart};

@@ -12,7 +12,7 @@ use disk_memory::MemoryDisk;
 use lock_table::ListLocks;
 use log_disorder::disorder;
 use log_gate::{Header, LogGate, make, open_log};
-use log_reopening::disk_of;
+use log_gate::disk_of;
 use machine_calls::Parts;
 use machine_runs::begin;
 use shard_machine::ShardMachine;

@@ -15,10 +15,10 @@ use Rattle.clv_base.specs.History.{Member, answered_op, ops_in}
 use Rattle.clv_base.proofs.SameNames.{tx_true, tx_self}
 use Rattle.law_base.specs.Items.{Item}
 use Rattle.shard_laws.specs.OneShard.{items_of, ops_by, answers_by}
-use Rattle.each_shard_laws.specs.Telling.{own_entries}
-use Rattle.replay_by_shards.specs.Shares.{ShardOp, on_shard, all_ops, all_answers, parts_on}
-use Rattle.member_parts.specs.Parts.{op_on, shard_ops_in, member_ops}
-use Rattle.member_parts.proofs.Parts.{firsts, seconds}
+use Rattle.fall_laws.specs.Telling.{own_entries}
+use Rattle.many_shards_laws.specs.Shares.{ShardOp, on_shard, all_ops, all_answers, parts_on}
+use Rattle.many_shards_laws.specs.Parts.{op_on, shard_ops_in, member_ops}
+use Rattle.many_shards_laws.proofs.Parts.{firsts, seconds}
 
 abbrev told : ShardOp → Op × Answer
 told x = (x.op, x.answer)

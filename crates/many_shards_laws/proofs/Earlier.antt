@@ -14,7 +14,7 @@ use Rattle.clv_base.specs.Journals.{History, start_of, final_of, journal_of}
 use Rattle.clv_base.specs.History.{Legal, logs_left}
 use Rattle.clv_base.proofs.SameNames.{tx_true}
 use Rattle.law_base.proofs.Changed.{none_some, some_same}
-use Rattle.order_laws.proofs.Records.{front}
+use Rattle.protocol_laws.proofs.Records.{front}
 use Rattle.protocol_laws.specs.Growth.{IsPrefixOf}
 use Rattle.protocol_laws.proofs.Growing.{chain, more}
 use Rattle.shard_laws.proofs.Following.{Follows, Plainly, from_disorder, last_push, last_new}
@@ -23,8 +23,8 @@ use Rattle.history_laws.proofs.Durability.{fronts_entries, opened_counted, left_
 use Rattle.history_laws.proofs.Serials.{committed_front}
 use Rattle.fate_laws.proofs.Deciding.{left_committed, log_now}
 use Rattle.fate_laws.proofs.Writing.{restart_writes_none}
-use Rattle.earlier_laws.proofs.Earlier.{earlier_commits_are_of_opening}
-use Rattle.each_shard_laws.proofs.Ordering.{logs_left_are_in_order}
+use Rattle.fate_laws.proofs.Earlier.{earlier_commits_are_of_opening}
+use Rattle.fall_laws.proofs.Ordering.{logs_left_are_in_order}
 use Rattle.many_shards_laws.proofs.Shares.{at_somewhere}
 
 -- ---- no UPDATE behind the RESTART of a run is of an earlier one

@@ -19,16 +19,16 @@ use Rattle.history_laws.proofs.Serials.{committed_front}
 use Rattle.fate_laws.proofs.Opening.{opening_settled, opening_home}
 use Rattle.fate_laws.proofs.Prepares.{prepare_more, front_prepare}
 use Rattle.fate_laws.proofs.Arriving.{all_from}
-use Rattle.earlier_laws.specs.Earlier.{IsEarlier, WasCommitted}
+use Rattle.fate_laws.specs.Earlier.{IsEarlier, WasCommitted}
 use Rattle.fall_laws.specs.Falls.{Fell}
-use Rattle.unfallen_laws.proofs.Going.{aborted_take}
-use Rattle.unfallen_laws.proofs.StrikingFronts.{struck_front}
-use Rattle.unfallen_laws.proofs.Earlier.{never_out, earlier_members_never_fell}
+use Rattle.acknowledged_laws.proofs.Going.{aborted_take}
+use Rattle.acknowledged_laws.proofs.StrikingFronts.{struck_front}
+use Rattle.acknowledged_laws.proofs.Earlier.{never_out, earlier_members_never_fell}
 use Rattle.many_shards_laws.proofs.Homes.{doubted}
 use Rattle.many_shards_laws.proofs.Shares.{somewhere_at}
 use Rattle.many_shards_laws.proofs.Earlier.{left_begins}
-use Rattle.file_laws.proofs.Doubts.{doubt_prepared, doubt_undecided, doubted_is_old}
-use Rattle.order_laws.proofs.Records.{prepared_there}
+use Rattle.history_laws.proofs.Doubts.{doubt_prepared, doubt_undecided, doubted_is_old}
+use Rattle.protocol_laws.proofs.Records.{prepared_there}
 use Rattle.shard_laws.proofs.Ordered.{prepare_some}
 
 -- it is in doubt in a log that commits all that its PREPARE lists

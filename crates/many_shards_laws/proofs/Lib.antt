@@ -8,3 +8,10 @@ pub mod Replaying
 pub mod Unfallen
 pub mod Recovering
 pub mod Settling
+pub mod Spans
+pub mod Agreeing
+pub mod Standing
+pub mod ReplayByShardsReplaying
+pub mod Turns
+pub mod Parts
+pub mod Laws

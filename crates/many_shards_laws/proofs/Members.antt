@@ -19,9 +19,9 @@ use Rattle.history_laws.proofs.Merging.{Placed, Among}
 use Rattle.history_laws.proofs.Staying.{walker_of, one_request, is_request}
 use Rattle.fate_laws.specs.Members.{is_member}
 use Rattle.fate_laws.proofs.Deciding.{commits_are_members}
-use Rattle.each_shard_laws.specs.Leading.{requests_of}
+use Rattle.fall_laws.specs.Leading.{requests_of}
 use Rattle.many_shards_laws.proofs.Shares.{same_test}
-use Rattle.file_laws.proofs.Doubts.{doubted_is_old}
+use Rattle.history_laws.proofs.Doubts.{doubted_is_old}
 
 -- ---- members and requests
 

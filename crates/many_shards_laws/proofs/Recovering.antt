@@ -29,9 +29,9 @@ use Rattle.session_laws.proofs.Cutting.{cut_above}
 use Rattle.history_laws.specs.Continuing.{serial_left}
 use Rattle.fate_laws.specs.Members.{is_member}
 use Rattle.origin_laws.proofs.Entries.{IsOld}
-use Rattle.each_shard_laws.specs.Leading.{Deeds, deeds_before, requests_of}
-use Rattle.each_shard_laws.proofs.Doubted.{ordered_is, asked_are_old}
-use Rattle.each_shard_laws.proofs.Telling.{deeds_are_told}
+use Rattle.fall_laws.specs.Leading.{Deeds, deeds_before, requests_of}
+use Rattle.fall_laws.proofs.Doubted.{ordered_is, asked_are_old}
+use Rattle.fall_laws.proofs.Telling.{deeds_are_told}
 use Rattle.many_shards_laws.specs.Replaying.{IsHere}
 use Rattle.many_shards_laws.specs.Recovering.{PredecessorsStandBeforeWhereHere}
 use Rattle.many_shards_laws.proofs.Earlier.{somewhere_at_opening}

@@ -32,15 +32,15 @@ use Rattle.origin_laws.proofs.Sessions.{Requested}
 use Rattle.origin_laws.proofs.Origins.{SomeRequest}
 use Rattle.origin_laws.proofs.Entries.{DidOrOld, IsOld, traced_front}
 use Rattle.fall_laws.specs.Falls.{Fell}
-use Rattle.each_shard_laws.specs.Leading.{deeds_before, requests_of}
-use Rattle.each_shard_laws.proofs.Doubted.{items_are_old}
-use Rattle.each_shard_laws.proofs.Fallen.{fell_is}
-use Rattle.each_shard_laws.proofs.Leading.{at_front, each_shard_leads}
-use Rattle.each_shard_laws.proofs.Records.{committed_from}
-use Rattle.each_shard_laws.proofs.Telling.{deeds_are_told}
-use Rattle.replay_by_shards.specs.Shares.{all_ops, parts_on, share_of, ReplaysTo}
-use Rattle.member_parts.specs.Parts.{member_ops}
-use Rattle.member_parts.proofs.Parts.{members_replay_by_parts}
+use Rattle.fall_laws.specs.Leading.{deeds_before, requests_of}
+use Rattle.fall_laws.proofs.Doubted.{items_are_old}
+use Rattle.fall_laws.proofs.Fallen.{fell_is}
+use Rattle.fall_laws.proofs.Leading.{at_front, each_shard_leads}
+use Rattle.fall_laws.proofs.Records.{committed_from}
+use Rattle.fall_laws.proofs.Telling.{deeds_are_told}
+use Rattle.many_shards_laws.specs.Shares.{all_ops, parts_on, share_of, ReplaysTo}
+use Rattle.many_shards_laws.specs.Parts.{member_ops}
+use Rattle.many_shards_laws.proofs.Parts.{members_replay_by_parts}
 use Rattle.many_shards_laws.specs.Replaying.{IsHere, MembersReplayWhereHere}
 use Rattle.many_shards_laws.proofs.Shares.{writer_known, at_somewhere, somewhere_at, same_test}
 use Rattle.many_shards_laws.proofs.Earlier.{wrote_at_opening, committed_still, somewhere_at_opening}
@@ -48,8 +48,8 @@ use Rattle.many_shards_laws.proofs.Found.{IsDoubted, still_known, never_fell}
 use Rattle.many_shards_laws.proofs.Answering.{part_ops, part_answers, AllIdle, ops_later, answers_later, idle_among}
 use Rattle.many_shards_laws.proofs.Members.{request_run, asked_by, chosen, Chosen, of_chosen, is_chosen, chosen_are_members, member_run}
 use Rattle.many_shards_laws.proofs.Unfallen.{unfallen}
-use Rattle.file_laws.proofs.Passing.{left_length}
-use Rattle.file_laws.proofs.Doubts.{doubted_is_old}
+use Rattle.history_laws.proofs.Passing.{left_length}
+use Rattle.history_laws.proofs.Doubts.{doubted_is_old}
 
 module _ (splits : List ℕ) (before : List (List LogRecord)) (h : History) (after : List (List LogRecord)) (choice : ℕ → Bool) (o : may_open splits before ≡ true) (l : Legal splits before h after) where
   pub leads : (n : ℕ) → n < shard_count splits

@@ -36,22 +36,22 @@ use Rattle.shard_laws.proofs.Kept.{view_of, Wrote}
 use Rattle.shard_laws.proofs.Listing.{order_of, prepared_wrote, wrote_stands}
 use Rattle.shard_laws.proofs.Renewing.{writer_wrote}
 use Rattle.shard_laws.proofs.Settled.{writer_committed}
-use Rattle.file_laws.proofs.Passing.{logs_left_pass, left_length}
-use Rattle.file_laws.proofs.Doubts.{doubt_prepared, doubt_undecided}
+use Rattle.history_laws.proofs.Passing.{logs_left_pass, left_length}
+use Rattle.history_laws.proofs.Doubts.{doubt_prepared, doubt_undecided}
 use Rattle.origin_laws.proofs.Sessions.{Requested}
 use Rattle.origin_laws.proofs.Entries.{DidOrOld, IsOld, traced_front}
 use Rattle.fate_laws.specs.Decisions.{IsHome, is_left}
 use Rattle.fate_laws.proofs.Deciding.{commits_stand_at_home}
 use Rattle.fate_laws.proofs.Voting.{votes_bind}
-use Rattle.each_shard_laws.specs.Leading.{deeds_before, requests_of}
-use Rattle.each_shard_laws.proofs.Records.{wrote_from}
-use Rattle.each_shard_laws.proofs.Settling.{left_whole, quiet_shards_are_their_maps}
-use Rattle.unfallen_laws.proofs.Going.{aborted_take}
-use Rattle.unfallen_laws.proofs.Sparing.{yes_voters_never_fell, yes_voters_unaborted}
-use Rattle.unfallen_laws.proofs.Voting.{members_are_voted_for}
-use Rattle.unfallen_laws.proofs.Naming.{names_shard}
-use Rattle.replay_by_shards.specs.Shares.{share_of, in_turn}
-use Rattle.replay_by_shards.proofs.Turns.{shares_make_the_map}
+use Rattle.fall_laws.specs.Leading.{deeds_before, requests_of}
+use Rattle.fall_laws.proofs.Records.{wrote_from}
+use Rattle.fall_laws.proofs.Settling.{left_whole, quiet_shards_are_their_maps}
+use Rattle.acknowledged_laws.proofs.Going.{aborted_take}
+use Rattle.acknowledged_laws.proofs.Sparing.{yes_voters_never_fell, yes_voters_unaborted}
+use Rattle.acknowledged_laws.proofs.Voting.{members_are_voted_for}
+use Rattle.acknowledged_laws.proofs.Naming.{names_shard}
+use Rattle.many_shards_laws.specs.Shares.{share_of, in_turn}
+use Rattle.many_shards_laws.proofs.Turns.{shares_make_the_map}
 use Rattle.many_shards_laws.specs.Settling.{ReadersWroteNothing, SettledIsTheMapWhereReadersWroteNothing, SettledOpensClear}
 use Rattle.many_shards_laws.proofs.Shares.{writer_known, at_somewhere, somewhere_at, same_test}
 use Rattle.many_shards_laws.proofs.Earlier.{wrote_at_opening, committed_still, somewhere_at_opening}

@@ -15,10 +15,10 @@ use Rattle.origin_laws.proofs.Sessions.{Requested}
 use Rattle.origin_laws.proofs.Entries.{DidOrOld, IsOld, traced_front}
 use Rattle.fate_laws.proofs.Deciding.{commits_stand_at_home}
 use Rattle.fall_laws.specs.Falls.{Fell}
-use Rattle.each_shard_laws.proofs.Records.{prepared_from}
-use Rattle.unfallen_laws.proofs.Naming.{names_shard}
-use Rattle.unfallen_laws.proofs.Sparing.{prepared_members_never_fell}
-use Rattle.file_laws.proofs.Doubts.{doubt_prepared}
+use Rattle.fall_laws.proofs.Records.{prepared_from}
+use Rattle.acknowledged_laws.proofs.Naming.{names_shard}
+use Rattle.acknowledged_laws.proofs.Sparing.{prepared_members_never_fell}
+use Rattle.history_laws.proofs.Doubts.{doubt_prepared}
 
 pub unfallen : (splits : List ℕ) (before : List (List LogRecord)) (h : History) (after : List (List LogRecord)) (choice : ℕ → Bool) (n m : ℕ) (t : TxId) → may_open splits before ≡ true → Legal splits before h after → n < shard_count splits → m < shard_count splits → t.run ≡ run_after before
     → tx_in t (in_doubt n (log_left (final_of before h after n) (choice n))) ≡ true → committed_in (log_of (logs_left splits before h after choice) m) t ≡ true → Fell before h after n t → ⊥

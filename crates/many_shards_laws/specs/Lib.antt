@@ -1,3 +1,5 @@
 pub mod Replaying
 pub mod Recovering
 pub mod Settling
+pub mod Shares
+pub mod Parts

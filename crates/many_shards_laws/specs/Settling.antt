@@ -14,7 +14,7 @@ use Rattle.clv_base.specs.Shards.{shard_count}
 use Rattle.clv_base.specs.FileRules.{may_open}
 use Rattle.clv_base.specs.Journals.{History, final_of}
 use Rattle.clv_base.specs.History.{Legal, IsAmong, IsSettled, logs_left}
-use Rattle.replay_by_shards.specs.Shares.{in_turn}
+use Rattle.many_shards_laws.specs.Shares.{in_turn}
 
 -- whom a shard voted read on wrote nothing there
 abbrev pub ReadersWroteNothing : List ℕ → List (List LogRecord) → History → List (List LogRecord) → Type 0

@@ -6,4 +6,8 @@
 //! transactions of earlier runs.
 #![tactic(auto)]
 
-pub mod laws;
+pub mod statements;
+
+pub mod replay_by_shards_statements;
+
+pub mod member_parts;

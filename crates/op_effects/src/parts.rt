@@ -6,7 +6,7 @@ ghost use Rattle.clv_base.specs.OneShard.{new_part};
 use clv_base::names::{Birth, TxId};
 use clv_base::state::{Held, Stage};
 use lock_table::Memory;
-use part_table::PartTable;
+use tx_index::PartTable;
 
 /// The transaction has a part here from its first operation on. An `Err` changes nothing.
 pub fn enter_part(parts: &mut PartTable, tx: TxId, birth: Birth) -> Result<(), Memory>

@@ -24,7 +24,7 @@ use Rattle.clv_base.proofs.SameNames.{tx_true, tx_self}
 use Rattle.law_base.proofs.Changed.{some_same, none_some}
 use Rattle.law_base.proofs.Rows.{rows_get}
 use Rattle.history_laws.proofs.Merging.{Among, among_is, is_among}
-use Rattle.file_laws.proofs.Walking.{next_entry}
+use Rattle.history_laws.proofs.Walking.{next_entry}
 use Rattle.origin_laws.specs.Origins.{answered_as, WasAnsweredAs, WasEverAnswered, WasAskedAt, WasAsked, WasAskedAway, ComesOf, AllComesOfEntries, PreparesComeOfRequests}
 use Rattle.origin_laws.proofs.Sessions.{Requested}
 use Rattle.origin_laws.proofs.Origins.{SomeRequest, OwnRequest, AwayRequest, StageFrom, PartFrom, RowFrom, CommitFrom, AllFrom, part_of, own_some, wrote_all}

@@ -41,12 +41,12 @@ use Rattle.history_laws.proofs.Merging.{Placed, Before, before_then, Among, amon
 use Rattle.history_laws.proofs.Durability.{Counted, fronts_entry, opened_counted}
 use Rattle.history_laws.proofs.Telling.{IsRequest}
 use Rattle.history_laws.proofs.OldRuns.{each_passes, below_next_run}
-use Rattle.order_laws.proofs.InOrder.{runs_in_order}
-use Rattle.order_laws.specs.Order.{RunFits}
+use Rattle.protocol_laws.proofs.OrderInOrder.{runs_in_order}
+use Rattle.protocol_laws.specs.Order.{RunFits}
 use Rattle.history_laws.proofs.Worlds.{state_at}
 use Rattle.session_laws.proofs.Walking.{SeenIs, AnswersAt}
 use Rattle.session_laws.proofs.Replying.{OpIs, performs, reply_is, answered_epoch}
-use Rattle.file_laws.proofs.Walking.{Behind, Walked, Steps, walked_front}
+use Rattle.history_laws.proofs.Walking.{Behind, Walked, Steps, walked_front}
 use Rattle.origin_laws.proofs.Sessions.{Requested}
 use Rattle.origin_laws.proofs.Origins.{AwayRequest, MessageFrom, Origins, AllFrom, RecordFrom, from_finish}
 use Rattle.protocol_laws.proofs.Reaching.{restarts_lead_to_one}

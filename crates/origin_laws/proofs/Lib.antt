@@ -3,3 +3,10 @@ pub mod Origins
 pub mod Events
 pub mod Entries
 pub mod Coming
+pub mod Deciding
+pub mod Tied
+pub mod Doubted
+pub mod Opening
+pub mod Births
+pub mod WaitEntries
+pub mod Waiting

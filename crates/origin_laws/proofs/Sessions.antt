@@ -17,7 +17,7 @@ use Rattle.history_laws.proofs.Merging.{Placed, Before, in_order, Among, Precede
 use Rattle.history_laws.proofs.Walkers.{nothing_follows}
 use Rattle.history_laws.proofs.Telling.{IsRequest}
 use Rattle.history_laws.proofs.Staying.{together}
-use Rattle.file_laws.proofs.Walking.{Behind, from_own, first_among}
+use Rattle.history_laws.proofs.Walking.{Behind, from_own, first_among}
 use Rattle.session_laws.proofs.Walking.{OpAt, AnswersAt, has_seen}
 use Rattle.session_laws.proofs.Naming.{AnsweredAt, Named, request_names_all}
 

@@ -3,7 +3,11 @@ pub mod GrowingEvents
 pub mod Resting
 pub mod InOrder
 pub mod Facts
-pub mod Laws
 pub mod Undone
 pub mod Reaching
 pub mod Rested
+pub mod Records
+pub mod Runs
+pub mod Writes
+pub mod OrderInOrder
+pub mod Laws

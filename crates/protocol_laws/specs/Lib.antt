@@ -4,3 +4,4 @@ pub mod SessionLaws
 pub mod FactLaws
 pub mod UndoLaws
 pub mod RestartLaws
+pub mod Order

@@ -9,3 +9,5 @@ pub mod restarts;
 pub mod sessions;
 pub mod undo;
 pub mod votes;
+
+pub mod order;

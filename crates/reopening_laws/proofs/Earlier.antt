@@ -15,7 +15,7 @@ use Rattle.clv_base.specs.Journals.{History, final_of}
 use Rattle.clv_base.specs.History.{Legal, logs_left}
 use Rattle.clv_base.proofs.SameNames.{tx_true}
 use Rattle.law_base.proofs.Commits.{committed_append, parts_keep}
-use Rattle.order_laws.proofs.Records.{front, last, committed_there, prepared_there}
+use Rattle.protocol_laws.proofs.Records.{front, last, committed_there, prepared_there}
 use Rattle.history_laws.proofs.Uncommitting.{opening_adds}
 use Rattle.shard_laws.proofs.Following.{Follows, from_disorder}
 use Rattle.shard_laws.proofs.Listing.{prepared_wrote}
@@ -23,16 +23,16 @@ use Rattle.fate_laws.proofs.Deciding.{left_committed, log_now}
 use Rattle.fate_laws.proofs.Prepares.{prepare_more, front_prepare}
 use Rattle.fate_laws.proofs.HomesFound.{home_of}
 use Rattle.fate_laws.proofs.RecordKinds.{update_is, commit_is}
-use Rattle.earlier_laws.specs.Earlier.{IsEarlier, WasCommitted}
-use Rattle.earlier_laws.proofs.Earlier.{earlier_commits_are_of_opening}
-use Rattle.unfallen_laws.proofs.StrikingFronts.{struck_front}
-use Rattle.unfallen_laws.proofs.Earlier.{never_out, committed_within}
-use Rattle.ending_laws.proofs.Ended.{part_below, ended_are_committed}
+use Rattle.fate_laws.specs.Earlier.{IsEarlier, WasCommitted}
+use Rattle.fate_laws.proofs.Earlier.{earlier_commits_are_of_opening}
+use Rattle.acknowledged_laws.proofs.StrikingFronts.{struck_front}
+use Rattle.acknowledged_laws.proofs.Earlier.{never_out, committed_within}
+use Rattle.reopening_laws.proofs.Ended.{part_below, ended_are_committed}
 use Rattle.many_shards_laws.proofs.Earlier.{LastFrom, last_next, opened_last, follows_behind, none_of_earlier}
 use Rattle.reopening_laws.proofs.Agreeing.{HomeIs, HasHome, PartIs, home_from, part_here, part_from}
 use Rattle.reopening_laws.proofs.Keeping.{wrote_or_committed, home_behind, all_committed}
 use Rattle.reopening_laws.proofs.Left.{InOrder, left_opened, left_grows, left_aborted}
-use Rattle.file_laws.proofs.Passing.{left_length}
+use Rattle.history_laws.proofs.Passing.{left_length}
 
 -- ---- a COMMIT behind the RESTART of a later run is of one that is prepared
 

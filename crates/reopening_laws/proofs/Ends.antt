@@ -17,7 +17,7 @@ use Rattle.clv_base.specs.Restarts.{run_after, log_left, greatest_run, FailedRes
 use Rattle.clv_base.specs.Journals.{History, final_of}
 use Rattle.clv_base.specs.History.{Legal, Member, logs_left, request_of, acknowledged_in, members}
 use Rattle.law_base.proofs.Commits.{parts_keep}
-use Rattle.order_laws.proofs.Records.{committed_there}
+use Rattle.protocol_laws.proofs.Records.{committed_there}
 use Rattle.shard_laws.specs.OneShard.{found_items, found_asked, found_met}
 use Rattle.shard_laws.proofs.Following.{Follows, to_disorder, follows_take, greatest_front}
 use Rattle.shard_laws.proofs.Histories.{held}
@@ -26,13 +26,13 @@ use Rattle.shard_laws.proofs.Renewing.{Fine}
 use Rattle.history_laws.proofs.Merging.{Placed}
 use Rattle.history_laws.proofs.OldRuns.{each_passes}
 use Rattle.history_laws.proofs.Serials.{member_at}
-use Rattle.file_laws.proofs.Passing.{logs_left_pass}
-use Rattle.file_laws.proofs.Records.{Passes, passes_all, all_pass}
+use Rattle.history_laws.proofs.Passing.{logs_left_pass}
+use Rattle.history_laws.proofs.Records.{Passes, passes_all, all_pass}
 use Rattle.fate_laws.proofs.Bindings.{bindings_front}
 use Rattle.fate_laws.proofs.Prepares.{prepare_more}
-use Rattle.ending_laws.proofs.Ended.{part_below}
-use Rattle.each_shard_laws.specs.Leading.{deeds_before, requests_of}
-use Rattle.each_shard_laws.proofs.Leading.{each_shard_leads}
+use Rattle.reopening_laws.proofs.Ended.{part_below}
+use Rattle.fall_laws.specs.Leading.{deeds_before, requests_of}
+use Rattle.fall_laws.proofs.Leading.{each_shard_leads}
 use Rattle.fate_laws.proofs.Deciding.{log_now}
 use Rattle.many_shards_laws.proofs.Earlier.{follows_behind}
 use Rattle.fate_laws.proofs.HomesFound.{home_of}
@@ -41,8 +41,8 @@ use Rattle.reopening_laws.specs.Ends.{LogsAtTheEndMayBeOpened, TellTheSame, Logs
 use Rattle.reopening_laws.proofs.Agreeing.{HomeIs, HasHome, PartIs, home_from, part_here, part_from, all_logs, agree}
 use Rattle.fate_laws.proofs.RecordKinds.{update_is, commit_is}
 use Rattle.reopening_laws.proofs.Keeping.{wrote_or_committed, home_behind, all_committed}
-use Rattle.file_laws.proofs.Passing.{left_length}
-use Rattle.unfallen_laws.proofs.Earlier.{committed_within}
+use Rattle.history_laws.proofs.Passing.{left_length}
+use Rattle.acknowledged_laws.proofs.Earlier.{committed_within}
 use Rattle.reopening_laws.proofs.Reopening.{logs_left_may_be_opened}
 use Rattle.reopening_laws.proofs.Failed.{Stays, stays_same, stays_failed, same_wrote, same_committed, same_ended, same_fold}
 

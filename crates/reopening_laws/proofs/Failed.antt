@@ -19,7 +19,7 @@ use Rattle.shard_laws.proofs.Listing.{order_of}
 use Rattle.shard_laws.proofs.Doubting.{doubted}
 use Rattle.shard_laws.proofs.Rebuilding.{of_restarts}
 use Rattle.shard_laws.proofs.Renewing.{Fine, found_self, renewed_by}
-use Rattle.file_laws.proofs.Records.{Passes, restarts_pass}
+use Rattle.history_laws.proofs.Records.{Passes, restarts_pass}
 
 -- ---- the records
 

@@ -20,7 +20,7 @@ use Rattle.clv_base.specs.Journals.{History, final_of}
 use Rattle.clv_base.specs.History.{Legal, IsAmong, logs_left}
 use Rattle.protocol_laws.specs.Growth.{IsPrefixOf}
 use Rattle.protocol_laws.specs.SessionLaws.{tx_of}
-use Rattle.order_laws.proofs.Records.{committed_there, prepared_there}
+use Rattle.protocol_laws.proofs.Records.{committed_there, prepared_there}
 use Rattle.history_laws.proofs.Durability.{left_front}
 use Rattle.history_laws.proofs.Merging.{Placed, Among, is_among}
 use Rattle.history_laws.proofs.Serials.{committed_front}
@@ -40,19 +40,19 @@ use Rattle.fate_laws.proofs.Prepares.{front_prepare, prepare_more}
 use Rattle.fate_laws.proofs.Writing.{wrote_take}
 use Rattle.fall_laws.proofs.Falling.{WasOut, stands_front}
 use Rattle.fall_laws.proofs.Here.{in_others}
-use Rattle.ending_laws.proofs.Ended.{part_below, ended_are_committed}
-use Rattle.ending_laws.proofs.Polling.{in_picked}
-use Rattle.ending_laws.proofs.Polled.{parts_are_the_yes_voters}
-use Rattle.each_shard_laws.proofs.Records.{wrote_from}
-use Rattle.unfallen_laws.proofs.StrikingFronts.{struck_front}
-use Rattle.unfallen_laws.proofs.Naming.{names_shard}
-use Rattle.unfallen_laws.proofs.Sparing.{bound_never_out}
-use Rattle.reader_laws.proofs.Committing.{committed_by}
-use Rattle.reader_laws.proofs.Readers.{readers_pass}
+use Rattle.reopening_laws.proofs.Ended.{part_below, ended_are_committed}
+use Rattle.reopening_laws.proofs.Polling.{in_picked}
+use Rattle.reopening_laws.proofs.Polled.{parts_are_the_yes_voters}
+use Rattle.fall_laws.proofs.Records.{wrote_from}
+use Rattle.acknowledged_laws.proofs.StrikingFronts.{struck_front}
+use Rattle.acknowledged_laws.proofs.Naming.{names_shard}
+use Rattle.acknowledged_laws.proofs.Sparing.{bound_never_out}
+use Rattle.acknowledged_laws.proofs.Committing.{committed_by}
+use Rattle.acknowledged_laws.proofs.Readers.{readers_pass}
 use Rattle.reopening_laws.proofs.Agreeing.{HomeIs, PartIs, part_here}
 use Rattle.reopening_laws.proofs.Keeping.{wrote_or_committed}
 use Rattle.reopening_laws.proofs.Left.{InOrder, left_aborted}
-use Rattle.file_laws.proofs.Passing.{left_length}
+use Rattle.history_laws.proofs.Passing.{left_length}
 
 -- the home is none of the others
 not_home : (home : ℕ) (xs : List ℕ) → nat_in home (filter (λ p. not (p == home)) xs) ≡ true → ⊥

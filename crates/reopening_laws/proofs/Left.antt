@@ -10,7 +10,7 @@ use Rattle.clv_base.specs.Journals.{History, final_of}
 use Rattle.clv_base.specs.History.{Legal, logs_left}
 use Rattle.protocol_laws.specs.Growth.{IsPrefixOf}
 use Rattle.protocol_laws.proofs.Growing.{chain, more}
-use Rattle.unfallen_laws.proofs.Going.{aborted_take}
+use Rattle.acknowledged_laws.proofs.Going.{aborted_take}
 use Rattle.many_shards_laws.proofs.Earlier.{left_begins}
 use Rattle.fate_laws.proofs.Deciding.{log_now}
 

@@ -6,3 +6,11 @@ pub mod Here
 pub mod Reopening
 pub mod Failed
 pub mod Ends
+pub mod EndingEnds
+pub mod Unended
+pub mod Hearing
+pub mod HearingEvents
+pub mod Opening
+pub mod Ended
+pub mod Polling
+pub mod Polled

@@ -21,10 +21,10 @@ use Rattle.origin_laws.proofs.Origins.{SomeRequest}
 use Rattle.origin_laws.proofs.Entries.{DidOrOld, IsOld, traced_front}
 use Rattle.fate_laws.specs.Decisions.{is_left}
 use Rattle.fate_laws.proofs.Deciding.{left_committed, commits_stand_at_home}
-use Rattle.file_laws.proofs.Passing.{logs_left_pass, left_length}
-use Rattle.ending_laws.proofs.Ends.{parts_there}
-use Rattle.each_shard_laws.proofs.Ordering.{logs_left_are_in_order}
-use Rattle.each_shard_laws.proofs.Records.{committed_from}
+use Rattle.history_laws.proofs.Passing.{logs_left_pass, left_length}
+use Rattle.reopening_laws.proofs.EndingEnds.{parts_there}
+use Rattle.fall_laws.proofs.Ordering.{logs_left_are_in_order}
+use Rattle.fall_laws.proofs.Records.{committed_from}
 use Rattle.reopening_laws.specs.Reopening.{LogsLeftAgree, LogsLeftMayBeOpened}
 use Rattle.reopening_laws.proofs.Agreeing.{HasHome, agree, all_logs}
 use Rattle.reopening_laws.proofs.Left.{InOrder}

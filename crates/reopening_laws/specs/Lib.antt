@@ -1,2 +1,4 @@
 pub mod Reopening
 pub mod Ends
+pub mod Ended
+pub mod Voters

@@ -5,7 +5,7 @@ ghost use Rattle.clv_base.specs.Restarts.{greatest_epoch, log_after_restart};
 
 use clv_base::logs::LogRecord;
 use log_buffer::LogBuffer;
-use log_copies::copy_log;
+use crate::copy_log;
 use restart_analysis::analyse;
 use shard_recovery::restart;
 use std::alloc::{AllocError, Global};

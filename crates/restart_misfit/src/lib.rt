@@ -14,3 +14,8 @@ pub use misfits::{Fallen, misfit};
 
 #[cfg(test)]
 mod tests;
+
+mod copying;
+pub use copying::copy_log;
+#[cfg(test)]
+mod log_copies_tests;

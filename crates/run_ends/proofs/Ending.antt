@@ -19,7 +19,7 @@ use Rattle.disk_model.specs.Disk.{Rose}
 use Rattle.log_gate.specs.Image.{HasLog}
 use Rattle.log_gate.specs.Gate.{EachNow}
 use Rattle.history_laws.proofs.Laws.{left_at}
-use Rattle.cut_laws.proofs.Laws.{run_made}
+use Rattle.journal_laws.proofs.Laws.{run_made}
 use Rattle.history_replay.specs.Entries.{Kept, entries_of}
 use Rattle.protocol_laws.specs.Growth.{is_restart}
 use Rattle.journal_laws.specs.Notes.{ends_holding, MayNotes, after_notes, holder}
@@ -37,21 +37,21 @@ use Rattle.cluster_turns.specs.declared.home.Home.{Home}
 use Rattle.cluster_turns.specs.declared.shards.Shards.{Shards}
 use Rattle.cluster_turns.specs.declared.shards.Walker.{Walker}
 use Rattle.cluster_turns.specs.Walkers.{own_lists, founds_of}
-use Rattle.cluster_restart.specs.declared.fetching.Fetched.{Fetched}
-use Rattle.cluster_holding.specs.Held.{never_restarts}
+use Rattle.cluster_ends.specs.declared.fetching.Fetched.{Fetched}
+use Rattle.cluster_closing.specs.Held.{never_restarts}
 use Rattle.cluster_ends.specs.Legal.{state_at, views_of}
 use Rattle.cluster_ends.specs.Ending.{seen_of, origin_of}
 use Rattle.cluster_closing.specs.Closing.{IsBack}
 use Rattle.cluster_closing.specs.Closing as closing
 use Rattle.run_promises.specs.Disks.{HoldsLog, flush_failed}
-use Rattle.cluster_promises.proofs.Laws.{left_disks_hold}
+use Rattle.run_ends.proofs.Laws.{left_disks_hold}
 use Rattle.script_lang.specs.Bodies.{Body}
-use Rattle.script_tries.specs.declared.ends.StopCause.TheVariants as stop
-use Rattle.script_tries.specs.Sessions.{session_entries}
-use Rattle.shards_promises.specs.Ended.{ClusterEnded, runs_on}
-use Rattle.shards_promises.specs.Sessions.{Went, Begun, SessionWent, SessionsWent}
-use Rattle.shards_promises.specs.Down.{IsLowestDown, IsLowestFault}
-use Rattle.shards_promises.proofs.Laws.{runs_are_promised, failed_are_down, down_stays, lowest_down_is_fault}
+use Rattle.script_runs.specs.declared.ends.StopCause.TheVariants as stop
+use Rattle.script_runs.specs.Sessions.{session_entries}
+use Rattle.run_promises.specs.Ended.{ClusterEnded, runs_on}
+use Rattle.run_promises.specs.Sessions.{Went, Begun, SessionWent, SessionsWent}
+use Rattle.run_promises.specs.Down.{IsLowestDown, IsLowestFault}
+use Rattle.run_promises.proofs.Laws.{runs_are_promised, failed_are_down, down_stays, lowest_down_is_fault}
 use Rattle.run_status.specs.Running.{End, IsOk, status_by}
 use Rattle.run_ends.specs.Ends.{end_of, walked_by, IsClosedRun}
 use Rattle.run_ends.specs.Statuses.{StatusTold, FlushesTold}

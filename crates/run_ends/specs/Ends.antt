@@ -14,7 +14,7 @@ use Rattle.cluster_turns.specs.declared.home.Home.{Home}
 use Rattle.cluster_turns.specs.declared.shards.Shards.{Shards}
 use Rattle.cluster_turns.specs.declared.shards.Walker.{Walker}
 use Rattle.cluster_turns.specs.Walkers.{founds_of}
-use Rattle.cluster_holding.specs.Held.{never_restarts}
+use Rattle.cluster_closing.specs.Held.{never_restarts}
 use Rattle.cluster_ends.specs.Legal.{state_at, views_of}
 use Rattle.cluster_ends.specs.Ending.{ClosedAt}
 use Rattle.disks_opening.specs.Houses.{WentOut}

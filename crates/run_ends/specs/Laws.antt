@@ -16,10 +16,10 @@ use Rattle.cluster_turns.specs.declared.shards.Shards.{Shards}
 use Rattle.cluster_turns.specs.declared.shards.Walker.{Walker}
 use Rattle.cluster_turns.specs.Walkers.{kept as kept_by, founds_of}
 use Rattle.script_lang.specs.Bodies.{Body}
-use Rattle.script_tries.specs.declared.ends.StopCause.TheVariants.{Worn}
-use Rattle.shards_promises.specs.Ended.{ClusterEnded}
-use Rattle.shards_promises.specs.Sessions.{Went, Begun, SessionWent, SessionsWent}
-use Rattle.shards_promises.specs.Promises.{RunPromised}
+use Rattle.script_runs.specs.declared.ends.StopCause.TheVariants.{Worn}
+use Rattle.run_promises.specs.Ended.{ClusterEnded}
+use Rattle.run_promises.specs.Sessions.{Went, Begun, SessionWent, SessionsWent}
+use Rattle.run_promises.specs.Promises.{RunPromised}
 use Rattle.run_status.specs.Running.{End, IsOk, status_by}
 use Rattle.run_ends.specs.Ends.{end_of, walked_by, IsClosedRun}
 use Rattle.run_ends.specs.Statuses.{StatusTold, FlushesTold}

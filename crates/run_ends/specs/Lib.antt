@@ -1,3 +1,4 @@
 pub mod Ends
 pub mod Statuses
+pub mod ClusterPromisesLaws
 pub mod Laws

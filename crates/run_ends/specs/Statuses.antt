@@ -1,7 +1,7 @@
 -- What the status of a run that opened its shards tells of its disks and sessions.
 use Rattle.std.specs.Prelude.{◌≡◌, ℕ, ◌<◌, ◌^◌, Bool, true, false, None}
 use Rattle.disk_model.specs.Disk.{Rose}
-use Rattle.shards_promises.specs.Sessions.{Went, Begun}
+use Rattle.run_promises.specs.Sessions.{Went, Begun}
 use Rattle.run_status.specs.declared.status.Status.{Status}
 use Rattle.run_status.specs.declared.status.Status.TheVariants.{Fine, Usage, Script, ReadFault, WriteFault, DiskFault, NotLog, Memory, Worn, Exists, Apart}
 

@@ -6,3 +6,5 @@
 #![tactic(auto)]
 
 pub mod promises;
+
+pub mod cluster_promises_promises;

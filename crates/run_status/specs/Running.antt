@@ -3,8 +3,8 @@ use Rattle.std.specs.Prelude.{◌≡◌, ◌≢◌, ⊤, ℕ, ◌≤◌, List, �
 use Rattle.std.specs.List.{AllByRecursion, Contains}
 use Rattle.report_text.specs.declared.texts.ReportError.{ReportError}
 use Rattle.report_text.specs.declared.texts.ReportError.TheVariants as text
-use Rattle.script_tries.specs.declared.ends.StopCause.{StopCause}
-use Rattle.script_tries.specs.declared.ends.StopCause.TheVariants as stop
+use Rattle.script_runs.specs.declared.ends.StopCause.{StopCause}
+use Rattle.script_runs.specs.declared.ends.StopCause.TheVariants as stop
 use Rattle.run_status.specs.declared.status.Status.{Status}
 use Rattle.run_status.specs.declared.status.Status.TheVariants.{Fine, Usage, Script, ReadFault, WriteFault, DiskFault, NotLog, Memory, Worn, Exists, Apart}
 

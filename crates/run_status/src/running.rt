@@ -1,12 +1,12 @@
 // The status of a run that opened its shards.
 
 ghost use Rattle.std.specs.Prelude.{◌≡◌, ◌⊎◌, ◌++◌, ◌∷◌, [], List, Result};
-ghost use Rattle.script_tries.specs.declared.ends.StopCause.{StopCause as CauseIs};
+ghost use Rattle.script_runs.specs.declared.ends.StopCause.{StopCause as CauseIs};
 ghost use Rattle.run_status.specs.Running.{grave, IsGravest, AreFound, IsOk, RunningTold, status_by, with_text};
 
 use crate::status::Status;
 use report_text::ReportError;
-use script_tries::StopCause;
+use script_runs::StopCause;
 
 // Which of two ends says more of a run.
 fn rank(end: Result<(), StopCause>) -> u8

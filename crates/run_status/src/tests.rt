@@ -2,7 +2,7 @@ use crate::{Status, after_text, graver, running_status};
 use clv_base::names::TxId;
 use disks_opening::{At, OpenError};
 use report_text::ReportError;
-use script_tries::StopCause;
+use script_runs::StopCause;
 use std::test::Fail;
 
 #[test]

@@ -19,8 +19,8 @@ use Rattle.script_lang.specs.Places.{StandsAt, rest_of, rest_from}
 use Rattle.script_lang.specs.declared.following.Following.{Following}
 use Rattle.script_lang.specs.declared.following.Stage.{Stage}
 use Rattle.script_lang.specs.declared.following.Stage.TheVariants.{AtLine, Second, Puts, LastPut}
-use Rattle.script_tries.specs.Operations.{IsOperation, AreOperations, no_operation, operation}
-use Rattle.script_tries.specs.Tries.{is_touched, ops_so_far}
+use Rattle.script_runs.specs.Operations.{IsOperation, AreOperations, no_operation, operation}
+use Rattle.script_runs.specs.Tries.{is_touched, ops_so_far}
 use Rattle.script_runs.specs.Seen.{Active, Seen, Grows, untouched}
 use Rattle.script_runs.specs.Told.{has_range, TouchesBy}
 use Rattle.script_runs.specs.Lines.{HasDone}

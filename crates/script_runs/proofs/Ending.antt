@@ -9,12 +9,12 @@ use Rattle.script_lang.specs.declared.actions.Ending.{Ending}
 use Rattle.script_lang.specs.declared.actions.Ending.TheVariants.{Commit, Abort}
 use Rattle.script_lang.specs.Bodies.{Body}
 use Rattle.script_lang.specs.Following.{next_op}
-use Rattle.script_tries.specs.declared.ends.StopCause.{StopCause}
-use Rattle.script_tries.specs.declared.ends.StopCause.TheVariants.{Down, Unsettled, Worn, Memory}
-use Rattle.script_tries.specs.declared.ends.TryEnd.{TryEnd}
-use Rattle.script_tries.specs.declared.ends.TryEnd.TheVariants.{Acknowledged, Empty, Asked, Aborted, Stopped}
-use Rattle.script_tries.specs.Operations.{ArePartsAnswered, IsBegun, IsDeath, parts_of}
-use Rattle.script_tries.specs.Tries.{IsDone, EndsBy, AreDrops, is_touched, operation_begun, request_next, acknowledged, nothing, by_line, in_operation, at_request, at_look, down, unsettled, wanting_before, wanting_behind, unanswered, worn_at_line}
+use Rattle.script_runs.specs.declared.ends.StopCause.{StopCause}
+use Rattle.script_runs.specs.declared.ends.StopCause.TheVariants.{Down, Unsettled, Worn, Memory}
+use Rattle.script_runs.specs.declared.ends.TryEnd.{TryEnd}
+use Rattle.script_runs.specs.declared.ends.TryEnd.TheVariants.{Acknowledged, Empty, Asked, Aborted, Stopped}
+use Rattle.script_runs.specs.Operations.{ArePartsAnswered, IsBegun, IsDeath, parts_of}
+use Rattle.script_runs.specs.Tries.{IsDone, EndsBy, AreDrops, is_touched, operation_begun, request_next, acknowledged, nothing, by_line, in_operation, at_request, at_look, down, unsettled, wanting_before, wanting_behind, unanswered, worn_at_line}
 use Rattle.script_runs.specs.Seen.{Active, Seen, Grows}
 use Rattle.script_runs.specs.Told.{AreDropsOf, OperateTold, CommitTold, AbortTold, GivenUp, IsActiveWhereDown, LineAborts, EndTold}
 use Rattle.script_runs.specs.Lines.{HasDone}

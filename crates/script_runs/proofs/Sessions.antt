@@ -4,9 +4,9 @@ use Rattle.std.proofs.lemmas.Bool.{lt-ltb}
 use Rattle.std.proofs.lemmas.List.{map-append, take-append-drop, take_more, take_all}
 use Rattle.clv_base.specs.FileRules.{numbers_rise}
 use Rattle.script_lang.specs.Bodies.{Body}
-use Rattle.script_tries.specs.declared.ends.StopCause.{StopCause}
-use Rattle.script_tries.specs.declared.ends.StopCause.TheVariants.{Worn}
-use Rattle.script_tries.specs.Sessions.{Transaction, IsTransaction, AreTransactions, all_done, not_begun, stopped, done, entries_of, tries_of}
+use Rattle.script_runs.specs.declared.ends.StopCause.{StopCause}
+use Rattle.script_runs.specs.declared.ends.StopCause.TheVariants.{Worn}
+use Rattle.script_runs.specs.Sessions.{Transaction, IsTransaction, AreTransactions, all_done, not_begun, stopped, done, entries_of, tries_of}
 use Rattle.script_runs.specs.Seen.{Seen, Grows}
 use Rattle.script_runs.specs.Ran.{Rise, serials, stamps, Ran, NotBegun, Follows}
 use Rattle.script_runs.specs.Laws.{SessionsGoOn, SessionsStop}

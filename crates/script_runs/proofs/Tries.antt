@@ -5,12 +5,12 @@ use Rattle.std.proofs.lemmas.List.{map-append}
 use Rattle.clv_base.specs.declared.names.TxId.{TxId}
 use Rattle.clv_base.specs.declared.names.Birth.{Birth}
 use Rattle.script_lang.specs.Bodies.{Body}
-use Rattle.script_tries.specs.declared.ends.StopCause.{StopCause}
-use Rattle.script_tries.specs.declared.ends.StopCause.TheVariants.{Down, Unsettled, Worn, Memory}
-use Rattle.script_tries.specs.declared.ends.TryEnd.{TryEnd}
-use Rattle.script_tries.specs.declared.ends.TryEnd.TheVariants.{Acknowledged, Empty, Asked, Aborted, Stopped}
-use Rattle.script_tries.specs.Tries.{Try, IsTry}
-use Rattle.script_tries.specs.Sessions.{InTries, last, none_left, worn, further, IsNamed, is_to_retry, stopped_by, has_left, entries_of}
+use Rattle.script_runs.specs.declared.ends.StopCause.{StopCause}
+use Rattle.script_runs.specs.declared.ends.StopCause.TheVariants.{Down, Unsettled, Worn, Memory}
+use Rattle.script_runs.specs.declared.ends.TryEnd.{TryEnd}
+use Rattle.script_runs.specs.declared.ends.TryEnd.TheVariants.{Acknowledged, Empty, Asked, Aborted, Stopped}
+use Rattle.script_runs.specs.Tries.{Try, IsTry}
+use Rattle.script_runs.specs.Sessions.{InTries, last, none_left, worn, further, IsNamed, is_to_retry, stopped_by, has_left, entries_of}
 use Rattle.script_runs.specs.declared.retrying.Next.{Next}
 use Rattle.script_runs.specs.declared.retrying.Next.TheVariants.{Again, Done, Stop}
 use Rattle.script_runs.specs.Seen.{Standing, Idle, Active, Seen, Grows, untouched}

@@ -1,7 +1,7 @@
 -- Parts of a session, one after another.
 use Rattle.std.specs.Prelude.{List, ◌++◌, Option, Some, None, ℕ}
 use Rattle.script_lang.specs.Bodies.{Body}
-use Rattle.script_tries.specs.declared.ends.StopCause.{StopCause}
+use Rattle.script_runs.specs.declared.ends.StopCause.{StopCause}
 use Rattle.script_runs.specs.Seen.{Seen}
 use Rattle.script_runs.specs.Ran.{Follows}
 

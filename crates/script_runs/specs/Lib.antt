@@ -3,4 +3,10 @@ pub mod Told
 pub mod Lines
 pub mod Tried
 pub mod Ran
+pub mod Operations
+pub mod Tries
+pub mod Sessions
+pub mod ScriptTriesLaws
+pub mod Examples
+pub mod Begun
 pub mod Laws

@@ -7,9 +7,9 @@ use Rattle.clv_base.specs.declared.ops.Answer.{Answer}
 use Rattle.clv_base.specs.Journals.{History}
 use Rattle.script_lang.specs.declared.actions.Action.{Action}
 use Rattle.script_lang.specs.Following.{next_op}
-use Rattle.script_tries.specs.declared.ends.TryEnd.{TryEnd}
-use Rattle.script_tries.specs.Operations.{AreOperations}
-use Rattle.script_tries.specs.Tries.{is_touched, ops_so_far}
+use Rattle.script_runs.specs.declared.ends.TryEnd.{TryEnd}
+use Rattle.script_runs.specs.Operations.{AreOperations}
+use Rattle.script_runs.specs.Tries.{is_touched, ops_so_far}
 use Rattle.script_runs.specs.Seen.{Active, Seen, Grows}
 use Rattle.script_runs.specs.Told.{OperateTold}
 

@@ -5,12 +5,12 @@ use Rattle.clv_base.specs.declared.names.TxId.{TxId}
 use Rattle.clv_base.specs.declared.names.Birth.{Birth}
 use Rattle.clv_base.specs.Journals.{History}
 use Rattle.script_lang.specs.Bodies.{Body}
-use Rattle.script_tries.specs.declared.ends.StopCause.{StopCause}
-use Rattle.script_tries.specs.declared.ends.StopCause.TheVariants.{Worn}
-use Rattle.script_tries.specs.declared.ends.TryEnd.{TryEnd}
-use Rattle.script_tries.specs.declared.ends.TryEnd.TheVariants.{Stopped}
-use Rattle.script_tries.specs.Tries.{Try, IsTry}
-use Rattle.script_tries.specs.Sessions.{Transaction, InTries, IsNamed, IsTransaction, FollowsScript, is_to_retry, stopped_by, has_left, tries_of, entries_of}
+use Rattle.script_runs.specs.declared.ends.StopCause.{StopCause}
+use Rattle.script_runs.specs.declared.ends.StopCause.TheVariants.{Worn}
+use Rattle.script_runs.specs.declared.ends.TryEnd.{TryEnd}
+use Rattle.script_runs.specs.declared.ends.TryEnd.TheVariants.{Stopped}
+use Rattle.script_runs.specs.Tries.{Try, IsTry}
+use Rattle.script_runs.specs.Sessions.{Transaction, InTries, IsNamed, IsTransaction, FollowsScript, is_to_retry, stopped_by, has_left, tries_of, entries_of}
 use Rattle.script_runs.specs.declared.retrying.Next.{Next}
 use Rattle.script_runs.specs.declared.retrying.Next.TheVariants.{Again, Done, Stop}
 use Rattle.script_runs.specs.Seen.{Idle, Seen, Grows}

@@ -13,12 +13,12 @@ use Rattle.clv_base.specs.declared.events.Entry.{Entry}
 use Rattle.clv_base.specs.Journals.{History}
 use Rattle.script_lang.specs.declared.actions.Ending.{Ending}
 use Rattle.script_lang.specs.declared.actions.Ending.TheVariants.{Commit, Abort}
-use Rattle.script_tries.specs.declared.ends.StopCause.{StopCause}
-use Rattle.script_tries.specs.declared.ends.StopCause.TheVariants.{Down, Unsettled, Worn, Memory}
-use Rattle.script_tries.specs.declared.ends.TryEnd.{TryEnd}
-use Rattle.script_tries.specs.declared.ends.TryEnd.TheVariants.{Acknowledged, Empty, Asked, Aborted, Stopped}
-use Rattle.script_tries.specs.Operations.{IsOperation, ArePartsAnswered, IsBegun, IsDeath, parts_of}
-use Rattle.script_tries.specs.Tries.{IsRequest, IsLook, is_touched}
+use Rattle.script_runs.specs.declared.ends.StopCause.{StopCause}
+use Rattle.script_runs.specs.declared.ends.StopCause.TheVariants.{Down, Unsettled, Worn, Memory}
+use Rattle.script_runs.specs.declared.ends.TryEnd.{TryEnd}
+use Rattle.script_runs.specs.declared.ends.TryEnd.TheVariants.{Acknowledged, Empty, Asked, Aborted, Stopped}
+use Rattle.script_runs.specs.Operations.{IsOperation, ArePartsAnswered, IsBegun, IsDeath, parts_of}
+use Rattle.script_runs.specs.Tries.{IsRequest, IsLook, is_touched}
 use Rattle.script_runs.specs.Seen.{Idle, Active, Seen, Grows, untouched}
 
 -- ---- beginnings

@@ -2,13 +2,13 @@
 ghost use Rattle.std.specs.Prelude.{◌≡◌, ℕ, Bool, Option, Some, IfErr, true};
 ghost use Rattle.clv_base.specs.declared.names.TxId.{TxId};
 ghost use Rattle.clv_base.specs.declared.names.Birth.{Birth as BirthIs};
-ghost use Rattle.script_tries.specs.declared.ends.StopCause.{StopCause as CauseIs};
+ghost use Rattle.script_runs.specs.declared.ends.StopCause.{StopCause as CauseIs};
 ghost use Rattle.script_runs.specs.Seen.{Standing, Idle, Active, Seen as SeenIs};
 ghost use Rattle.script_runs.specs.Told.{has_range, BeginTold, RetryTold, OperateTold, CommitTold, AbortTold};
 ghost use Rattle.script_runs.specs.Tried.{OnStop, OnRefusal};
 
 use clv_base::ops::{Answer, Op};
-use script_tries::{StopCause, TryEnd};
+use crate::{StopCause, TryEnd};
 use std::alloc::Global;
 
 /// A session of a store. What its calls add to its entries is told by their answers, in the words of tries.

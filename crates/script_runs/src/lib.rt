@@ -5,10 +5,21 @@
 #![tactic(auto)]
 
 mod calls;
-pub mod laws;
+pub mod statements;
 mod retrying;
 mod running;
 mod trying;
 
 pub use calls::SessionCalls;
 pub use running::run_session;
+
+mod ends;
+pub mod examples;
+pub mod promises;
+pub use ends::{StopCause, TryEnd};
+
+mod behind;
+mod script_threads_running;
+mod seats;
+pub use script_threads_running::{Start, run_all};
+pub use seats::Seat;

@@ -4,7 +4,7 @@ ghost use Rattle.std.specs.List.{list_all};
 ghost use Rattle.clv_base.specs.declared.names.TxId.{TxId};
 ghost use Rattle.clv_base.specs.declared.names.Birth.{Birth as BirthIs};
 ghost use Rattle.script_lang.specs.Laws.{is_narrow};
-ghost use Rattle.script_tries.specs.Sessions.{has_left};
+ghost use Rattle.script_runs.specs.Sessions.{has_left};
 ghost use Rattle.script_runs.specs.Seen.{Active, untouched};
 ghost use Rattle.script_runs.specs.Ran.{NextIs, stop_in, IsIdle, IdleAfter, InTriesTold, Ran, NotBegun};
 
@@ -12,7 +12,7 @@ use crate::calls::SessionCalls;
 use crate::trying::run_try;
 use clv_base::causes::AbortCause;
 use script_lang::Transaction;
-use script_tries::{StopCause, TryEnd};
+use crate::{StopCause, TryEnd};
 use std::alloc::Global;
 use std::sync::Wait;
 

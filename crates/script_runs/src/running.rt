@@ -7,7 +7,7 @@ ghost use Rattle.script_runs.specs.Ran.{stop_in, IsIdle, IdleAfter, Follows};
 use crate::calls::SessionCalls;
 use crate::retrying::run_transaction;
 use script_lang::Transaction;
-use script_tries::StopCause;
+use crate::StopCause;
 use std::alloc::Global;
 use std::sync::Wait;
 

@@ -11,7 +11,7 @@ ghost use Rattle.script_runs.specs.Lines.{LinesTold};
 
 use crate::calls::SessionCalls;
 use script_lang::{Action, Ending, Following, Transaction};
-use script_tries::{StopCause, TryEnd};
+use crate::{StopCause, TryEnd};
 use std::alloc::Global;
 use std::sync::Wait;
 

@@ -9,17 +9,17 @@ use Rattle.cluster_turns.specs.declared.shards.Shards.{Shards}
 use Rattle.cluster_turns.specs.declared.shards.Walker.{Walker}
 use Rattle.cluster_turns.specs.declared.shards.WornClock.{WornClock}
 use Rattle.cluster_turns.specs.Walkers.{IsSameWalker}
-use Rattle.cluster_landing.specs.Landed.{HasLanded}
+use Rattle.cluster_ends.specs.Landed.{HasLanded}
 use Rattle.session_ops.specs.declared.operating.OpError.{OpError as Failure}
 use Rattle.session_ops.specs.Standing.{IsActive}
-use Rattle.session_begins.specs.Beginnings.{IsIdle, Begun}
-use Rattle.session_commit.specs.Requested.{IsStanding}
-use Rattle.session_drops.specs.Dropped.{Dropping, IsLeft}
-use Rattle.session_settling.specs.declared.looking.SettleError.{SettleError}
-use Rattle.session_retries.specs.Retried.{IsRetriable, Retried}
-use Rattle.session_scans.specs.Parts.{PointTold, StandsUnless, has_died}
-use Rattle.session_scans.specs.Scanned.{Scanning, IsSameTx}
-use Rattle.session_scans.specs.Stepped.{PartsTold}
+use Rattle.session_ops.specs.Beginnings.{IsIdle, Begun}
+use Rattle.session_ops.specs.Requested.{IsStanding}
+use Rattle.session_ops.specs.Dropped.{Dropping, IsLeft}
+use Rattle.session_endings.specs.declared.looking.SettleError.{SettleError}
+use Rattle.session_ops.specs.Retried.{IsRetriable, Retried}
+use Rattle.session_endings.specs.Parts.{PointTold, StandsUnless, has_died}
+use Rattle.session_endings.specs.Scanned.{Scanning, IsSameTx}
+use Rattle.session_endings.specs.Stepped.{PartsTold}
 use Rattle.session_endings.specs.declared.committing.Settled.{Settled}
 use Rattle.session_endings.specs.declared.committing.CommitError.{CommitError as CommitFailure}
 use Rattle.session_endings.specs.Standings.{StandsAs, IsUnasked}

@@ -8,7 +8,7 @@ use crate::session::Session;
 use clv_base::names::TxId;
 use io_edge::{Pace, Step};
 use machine_calls::Flier;
-use session_begins::begin;
+use session_ops::begin;
 use std::sync::Wait;
 
 /// Why no transaction was begun. All is as before.

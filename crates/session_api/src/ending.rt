@@ -1,6 +1,6 @@
 // How the active transaction ends.
 ghost use Rattle.std.specs.Prelude.{◌≡◌};
-ghost use Rattle.cluster_landing.specs.Landed.{HasLanded};
+ghost use Rattle.cluster_ends.specs.Landed.{HasLanded};
 ghost use Rattle.session_endings.specs.Standings.{IsUnasked};
 ghost use Rattle.session_api.specs.declared.progress.Progress.TheVariants.{Active, Asked};
 ghost use Rattle.session_api.specs.Progresses.{commit_refusal, commit_told, settle_told, abort_told, progress_committed, progress_aborted, is_nothing};
@@ -14,8 +14,8 @@ use clv_base::names::Point;
 use io_edge::Pace;
 use machine_calls::Flier;
 use session_endings::{CommitError as Failure, Settled, abort, commit, finish};
-use session_progress::Place;
-use session_settling::SettleError;
+use session_births::Place;
+use session_endings::SettleError;
 use std::alloc::Global;
 use std::mem;
 use std::sync::Wait;

@@ -3,7 +3,7 @@ ghost use Rattle.std.specs.Prelude.{◌≡◌};
 ghost use Rattle.session_api.specs.Progresses.{after_op, after_commit, active_tx};
 
 use clv_base::names::TxId;
-use session_progress::{Place, Stage};
+use session_births::{Place, Stage};
 
 /// How a session's last transaction stands.
 #[derive(Drop, Debug)]

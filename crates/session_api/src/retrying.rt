@@ -9,8 +9,8 @@ use crate::session::Session;
 use clv_base::names::TxId;
 use io_edge::{Pace, Step};
 use machine_calls::Flier;
-use session_progress::Place;
-use session_retries::retry;
+use session_births::Place;
+use session_ops::retry;
 use std::mem;
 use std::sync::Wait;
 

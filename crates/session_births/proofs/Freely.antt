@@ -33,8 +33,8 @@ use Rattle.turn_laws.proofs.Laws.{from_does, still_free, since, all_bear, nothin
 use Rattle.journal_laws.specs.Notes.{after_notes}
 use Rattle.cluster_turns.specs.Turns.{Turned, EventTold}
 use Rattle.cluster_turns.specs.Walkers.{Walked}
-use Rattle.cluster_flush.specs.Flights.{LandTold, landed_as}
-use Rattle.walker_turns.specs.Turns.{Turn, no_turn, event_turn, flush_turns, horizon_look}
+use Rattle.cluster_drain.specs.Flights.{LandTold, landed_as}
+use Rattle.session_births.specs.Turns.{Turn, no_turn, event_turn, flush_turns, horizon_look}
 use Rattle.session_births.specs.Births.{IsFreeFor, IsBornBy, SeesFree, AllSeeFree}
 use Rattle.session_births.specs.Laws.{FreeStays, NewIsFree}
 use Rattle.session_births.proofs.Keeping.{one_changes, changed, by_notes, some_same}

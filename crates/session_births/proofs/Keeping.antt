@@ -26,8 +26,8 @@ use Rattle.turn_laws.proofs.Laws.{entries_append, above}
 use Rattle.cluster_turns.specs.Turns.{Turned, EventTold}
 use Rattle.cluster_turns.specs.Walkers.{Walked}
 use Rattle.cluster_turns.proofs.Laws.{event_rises}
-use Rattle.cluster_flush.specs.Flights.{LandTold, landed_as}
-use Rattle.walker_turns.specs.Turns.{Turn, no_turn, event_turn, flush_turns, horizon_look}
+use Rattle.cluster_drain.specs.Flights.{LandTold, landed_as}
+use Rattle.session_births.specs.Turns.{Turn, no_turn, event_turn, flush_turns, horizon_look}
 use Rattle.session_births.specs.Births.{IsBornBy, EachPass, IsInformed, AreInformed}
 use Rattle.session_births.specs.Laws.{InformedStay, InformedLater, NewAreInformed}
 

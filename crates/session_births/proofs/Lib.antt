@@ -3,4 +3,11 @@ pub mod Freely
 pub mod Epochs
 pub mod Dropping
 pub mod Unbearing
+pub mod Taking
+pub mod Replying
+pub mod Answering
+pub mod States
+pub mod Touching
+pub mod Going
+pub mod Within
 pub mod Laws

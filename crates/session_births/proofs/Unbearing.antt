@@ -41,10 +41,10 @@ use Rattle.turn_laws.specs.Homes.{start, state_of, entries_in, IsLegal}
 use Rattle.turn_laws.proofs.Laws.{from_does, still_free, legal_shard, nothing_happens}
 use Rattle.cluster_turns.specs.Turns.{Turned, EventTold}
 use Rattle.cluster_turns.specs.Walkers.{Walked}
-use Rattle.cluster_flush.specs.Flights.{LandTold, landed_as}
-use Rattle.walker_turns.specs.Turns.{Turn, Took, no_turn, event_turn, flush_turns, horizon_look}
-use Rattle.walker_turns.specs.Answers.{is_quiet, is_kept, HasItsEntry}
-use Rattle.walker_turns.proofs.Laws.{answers_have_entries}
+use Rattle.cluster_drain.specs.Flights.{LandTold, landed_as}
+use Rattle.session_births.specs.Turns.{Turn, Took, no_turn, event_turn, flush_turns, horizon_look}
+use Rattle.session_births.specs.Answers.{is_quiet, is_kept, HasItsEntry}
+use Rattle.session_births.proofs.Laws.{answers_have_entries}
 use Rattle.session_births.specs.Births.{IsFreeFor, SeesFree, AllSeeFree}
 use Rattle.session_births.specs.Unborn.{SeesUnborn, UnbornAt, is_epoch_of, IsUnbornUnless, SeesUnless, UnbornUnless, HasShard, LeavesUnborn, AllLeaveUnborn, EndsPart, EndsThere, UnbornStays, UnlessStays, AnsweredIsInEpoch, DiesAtRequest, EndsUnbear, NewIsUnborn, UnbornIsFree, UnbornUnlessNone, UnbornUnlessAny}
 use Rattle.session_births.proofs.Keeping.{past, some_same}

@@ -10,7 +10,7 @@ use Rattle.turn_lock.specs.declared.pass.Pass.{Pass}
 use Rattle.turn_laws.specs.declared.notes.Note.{Note}
 use Rattle.turn_laws.specs.declared.notes.Origin.{Origin}
 use Rattle.cluster_turns.specs.Walkers.{AreNewPasses}
-use Rattle.walker_turns.specs.Turns.{Turn, Took}
+use Rattle.session_births.specs.Turns.{Turn, Took}
 use Rattle.session_births.specs.Births.{IsBornBy, AllSeeFree, AreInformed}
 
 -- a birth stays free while the walker's own turns leave it to its transaction

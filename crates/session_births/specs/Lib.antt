@@ -1,3 +1,8 @@
 pub mod Births
 pub mod Unborn
+pub mod Turns
+pub mod Answers
+pub mod WalkerTurnsLaws
+pub mod Stages
+pub mod States
 pub mod Laws

@@ -20,7 +20,7 @@ use Rattle.turn_laws.specs.Homes.{state_of}
 use Rattle.turn_lock.specs.Passes.{seen, pass_origin}
 use Rattle.clv_base.specs.Events.{epoch_in}
 use Rattle.journal_laws.specs.Births.{LeavesBirth}
-use Rattle.walker_turns.specs.Turns.{Turn, Took}
+use Rattle.session_births.specs.Turns.{Turn, Took}
 use Rattle.session_births.specs.Births.{IsFreeFor, SeesFree, AllSeeFree, AreInformed}
 
 module _ {T : Type 0} where

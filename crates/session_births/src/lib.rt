@@ -3,3 +3,11 @@
 #![tactic(auto)]
 
 pub mod promises;
+
+pub mod walker_turns_promises;
+
+pub mod place;
+pub mod session_progress_promises;
+#[cfg(test)]
+mod tests;
+pub use place::{Place, Stage};

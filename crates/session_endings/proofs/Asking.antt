@@ -18,14 +18,14 @@ use Rattle.turn_laws.specs.declared.notes.Origin.{Origin}
 use Rattle.cluster_turns.specs.declared.shards.Shards.{Shards}
 use Rattle.cluster_turns.specs.declared.shards.Walker.{Walker}
 use Rattle.cluster_turns.specs.Walkers.{kept}
-use Rattle.session_progress.proofs.Laws.{touched_are_last, touched_are_shards}
-use Rattle.walker_turns.specs.Turns.{Turn, no_turn}
-use Rattle.walker_turns.proofs.Laws.{turns_follow}
+use Rattle.session_births.proofs.Laws.{touched_are_last, touched_are_shards}
+use Rattle.session_births.specs.Turns.{Turn, no_turn}
+use Rattle.session_births.proofs.Laws.{turns_follow}
 use Rattle.session_ops.specs.Standing.{IsReady, IsActive}
-use Rattle.session_commit.specs.Requested.{is_request_outcome, place_requested, RequestTold, RequestStands}
-use Rattle.session_drops.specs.Dropped.{IsEnding}
-use Rattle.session_settling.specs.declared.looking.SettleError.{SettleError}
-use Rattle.session_settling.specs.declared.looking.SettleError.TheVariants.{Aborted as SettleAborted, Unsettled as SettleUnsettled, Worn as SettleWorn, Memory as SettleMemory}
+use Rattle.session_ops.specs.Requested.{is_request_outcome, place_requested, RequestTold, RequestStands}
+use Rattle.session_ops.specs.Dropped.{IsEnding}
+use Rattle.session_endings.specs.declared.looking.SettleError.{SettleError}
+use Rattle.session_endings.specs.declared.looking.SettleError.TheVariants.{Aborted as SettleAborted, Unsettled as SettleUnsettled, Worn as SettleWorn, Memory as SettleMemory}
 use Rattle.session_endings.specs.declared.committing.Settled.{Settled}
 use Rattle.session_endings.specs.declared.committing.CommitError.{CommitError}
 use Rattle.session_endings.specs.declared.committing.CommitError.TheVariants.{Aborted}

@@ -14,17 +14,17 @@ use Rattle.cluster_turns.specs.declared.shards.Shards.{Shards}
 use Rattle.cluster_turns.specs.declared.shards.Walker.{Walker}
 use Rattle.cluster_turns.specs.declared.shards.WornClock.{WornClock}
 use Rattle.cluster_turns.specs.Walkers.{kept}
-use Rattle.session_progress.proofs.Laws.{homes_are_shards}
-use Rattle.walker_turns.specs.Turns.{Turn, no_turn, AnyTurn}
-use Rattle.walker_turns.proofs.Laws.{turns_follow}
-use Rattle.session_commit.specs.Requested.{IsStanding}
-use Rattle.session_settling.specs.declared.looking.SettleError.{SettleError}
-use Rattle.session_settling.specs.declared.looking.SettleError.TheVariants.{Aborted, Unsettled, Worn, Memory}
-use Rattle.session_settling.specs.Settled.{OnlyLooks, PlacedBy, Settling, StandsBy, settled_in}
+use Rattle.session_births.proofs.Laws.{homes_are_shards}
+use Rattle.session_births.specs.Turns.{Turn, no_turn, AnyTurn}
+use Rattle.session_births.proofs.Laws.{turns_follow}
+use Rattle.session_ops.specs.Requested.{IsStanding}
+use Rattle.session_endings.specs.declared.looking.SettleError.{SettleError}
+use Rattle.session_endings.specs.declared.looking.SettleError.TheVariants.{Aborted, Unsettled, Worn, Memory}
+use Rattle.session_endings.specs.Settled.{OnlyLooks, PlacedBy, Settling, StandsBy, settled_in}
 use Rattle.session_ops.specs.Standing.{HasBirth, IsGoneAt}
-use Rattle.session_drops.specs.Dropped.{is_to_drop, Drops, Dropping, IsLeft, IsEnding}
-use Rattle.session_drops.specs.Unbearing.{IsEnded, UnbornOrWorn}
-use Rattle.session_drops.proofs.Laws.{are_drops, dropped_unborn}
+use Rattle.session_ops.specs.Dropped.{is_to_drop, Drops, Dropping, IsLeft, IsEnding}
+use Rattle.session_ops.specs.Unbearing.{IsEnded, UnbornOrWorn}
+use Rattle.session_ops.proofs.Laws.{are_drops, dropped_unborn}
 use Rattle.session_endings.specs.Standings.{StandsAt, StandsAs}
 use Rattle.session_endings.specs.Decided.{Leaving, IsLeftOver, LeavesIf, is_aborted, IsLookOrDrop, DecidedBy, Deciding}
 

@@ -1,3 +1,10 @@
 pub mod Deciding
 pub mod Asking
+pub mod Passing
+pub mod Pointing
+pub mod Seeing
+pub mod Performing
+pub mod Gathering
+pub mod Parting
+pub mod Landing
 pub mod Laws

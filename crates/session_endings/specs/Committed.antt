@@ -13,11 +13,11 @@ use Rattle.turn_laws.specs.declared.notes.Note.{Note}
 use Rattle.turn_laws.specs.declared.notes.Origin.{Origin}
 use Rattle.cluster_turns.specs.declared.shards.Shards.{Shards}
 use Rattle.cluster_turns.specs.declared.shards.Walker.{Walker}
-use Rattle.walker_turns.specs.Turns.{Turn, Took}
+use Rattle.session_births.specs.Turns.{Turn, Took}
 use Rattle.session_ops.specs.Standing.{IsActive, IsGoneAt}
-use Rattle.session_commit.specs.Requested.{IsStanding, IsTurnOf}
-use Rattle.session_drops.specs.Dropped.{IsEnding}
-use Rattle.session_settling.specs.declared.looking.SettleError.{SettleError}
+use Rattle.session_ops.specs.Requested.{IsStanding, IsTurnOf}
+use Rattle.session_ops.specs.Dropped.{IsEnding}
+use Rattle.session_endings.specs.declared.looking.SettleError.{SettleError}
 use Rattle.session_endings.specs.declared.committing.Settled.{Settled}
 use Rattle.session_endings.specs.declared.committing.Settled.TheVariants.{Empty}
 use Rattle.session_endings.specs.declared.committing.CommitError.{CommitError}

@@ -11,11 +11,11 @@ use Rattle.turn_laws.specs.declared.notes.Note.{Note}
 use Rattle.turn_laws.specs.declared.notes.Origin.{Origin}
 use Rattle.cluster_turns.specs.declared.shards.Shards.{Shards}
 use Rattle.cluster_turns.specs.declared.shards.Walker.{Walker}
-use Rattle.walker_turns.specs.Turns.{Turn, Took, AnyTurn, FoundDown, FoundWorn}
-use Rattle.session_settling.specs.declared.looking.SettleError.{SettleError}
-use Rattle.session_settling.specs.declared.looking.SettleError.TheVariants.{Aborted, Unsettled, Worn, Memory}
-use Rattle.session_settling.specs.Settled.{IsLook, Acknowledges}
-use Rattle.session_drops.specs.Dropped.{is_to_drop, Drops, IsEnding}
+use Rattle.session_births.specs.Turns.{Turn, Took, AnyTurn, FoundDown, FoundWorn}
+use Rattle.session_endings.specs.declared.looking.SettleError.{SettleError}
+use Rattle.session_endings.specs.declared.looking.SettleError.TheVariants.{Aborted, Unsettled, Worn, Memory}
+use Rattle.session_endings.specs.Settled.{IsLook, Acknowledges}
+use Rattle.session_ops.specs.Dropped.{is_to_drop, Drops, IsEnding}
 use Rattle.session_endings.specs.declared.committing.Settled.{Settled}
 use Rattle.session_endings.specs.declared.committing.Settled.TheVariants.{Committed}
 use Rattle.session_endings.specs.declared.committing.CommitError.{CommitError}

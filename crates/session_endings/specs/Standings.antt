@@ -4,9 +4,9 @@ use Rattle.clv_base.specs.Sessions.{SessionState, Phase, Touching, Ended, Standi
 use Rattle.cluster_turns.specs.declared.shards.Shards.{Shards}
 use Rattle.cluster_turns.specs.declared.shards.Walker.{Walker}
 use Rattle.session_ops.specs.Standing.{IsReady, IsActive}
-use Rattle.session_commit.specs.Requested.{IsStanding}
-use Rattle.session_drops.specs.Dropped.{IsEnding}
-use Rattle.session_drops.specs.Unbearing.{IsEnded}
+use Rattle.session_ops.specs.Requested.{IsStanding}
+use Rattle.session_ops.specs.Dropped.{IsEnding}
+use Rattle.session_ops.specs.Unbearing.{IsEnded}
 
 module _ {M S G : Type 0} where
   -- it may have operations; it is over, and has no part any more; its request stands; it was told that it is acknowledged

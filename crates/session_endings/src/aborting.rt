@@ -1,14 +1,14 @@
 // An abort.
 ghost use Rattle.std.specs.Prelude.{◌⊎◌, length};
 ghost use Rattle.cluster_turns.specs.Walkers.{IsSameWalker};
-ghost use Rattle.session_drops.specs.Dropped.{Dropping, IsLeft};
+ghost use Rattle.session_ops.specs.Dropped.{Dropping, IsLeft};
 ghost use Rattle.session_endings.specs.Standings.{IsUnasked, IsAborted};
 ghost use Rattle.std.specs.Prelude.{None};
 
 use cluster_turns::{Shards, Walker, WornClock};
 use machine_calls::Machine;
-use session_drops::drop_parts;
-use session_progress::Place;
+use session_ops::drop_parts;
+use session_births::Place;
 use std::alloc::Global;
 use std::sync::Wait;
 

@@ -14,9 +14,9 @@ use clv_base::events::Outcome;
 use clv_base::names::Point;
 use io_edge::Pace;
 use machine_calls::{Flier, StepError};
-use session_commit::request;
-use session_progress::Place;
-use session_settling::SettleError;
+use session_ops::request;
+use session_births::Place;
+use crate::SettleError;
 use std::alloc::Global;
 use std::sync::Wait;
 

@@ -1,8 +1,8 @@
 // A request that stands, until it is decided.
 ghost use Rattle.std.specs.Prelude.{◌≡◌, true, length};
 ghost use Rattle.cluster_turns.specs.Walkers.{IsSameWalker};
-ghost use Rattle.session_commit.specs.Requested.{IsStanding};
-ghost use Rattle.session_drops.specs.Dropped.{IsEnding};
+ghost use Rattle.session_ops.specs.Requested.{IsStanding};
+ghost use Rattle.session_ops.specs.Dropped.{IsEnding};
 ghost use Rattle.clv_base.specs.Sessions.{after_drop};
 ghost use Rattle.session_endings.specs.Standings.{StandsAs};
 ghost use Rattle.session_endings.specs.Decided.{Leaving, LeavesIf, IsLeftOver, Deciding, is_aborted};
@@ -11,9 +11,9 @@ use cluster_turns::{Shards, Walker};
 use clv_base::names::Point;
 use io_edge::Pace;
 use machine_calls::{Flier, Machine};
-use session_drops::drop_parts;
-use session_progress::Place;
-use session_settling::{SettleError, settle};
+use session_ops::drop_parts;
+use session_births::Place;
+use crate::{SettleError, settle};
 use std::alloc::Global;
 use std::sync::Wait;
 

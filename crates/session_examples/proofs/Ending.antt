@@ -10,7 +10,7 @@ use Rattle.disk_model.specs.Story.{Story}
 use Rattle.disks_opening.specs.Houses.{WentOut}
 use Rattle.history_replay.specs.Entries.{Kept, entries_of}
 use Rattle.journal_laws.specs.Gathered.{MakesHistory}
-use Rattle.script_tries.specs.Sessions.{session_entries}
+use Rattle.script_runs.specs.Sessions.{session_entries}
 use Rattle.cluster_turns.specs.declared.home.Home.{Home}
 use Rattle.cluster_turns.specs.declared.shards.Shards.{Shards}
 use Rattle.cluster_turns.specs.declared.shards.Walker.{Walker}

@@ -7,11 +7,11 @@ use Rattle.cluster_turns.specs.declared.shards.Walker.{Walker}
 use Rattle.cluster_turns.specs.Walkers.{IsWalker, IsSameWalker}
 use Rattle.cluster_drain.specs.declared.tending.DrainError.{DrainError}
 use Rattle.cluster_drain.specs.Rounds.{DrainTold}
-use Rattle.cluster_landing.specs.Landed.{HasLanded}
-use Rattle.cluster_landing.specs.Laws.{DrainsLand}
-use Rattle.cluster_holding.specs.Held.{HoldsNone}
-use Rattle.cluster_holding.proofs.Laws.{drains_hold_none, drains_fetch_none}
-use Rattle.walkers_making.specs.Made.{IsNewWalker}
+use Rattle.cluster_ends.specs.Landed.{HasLanded}
+use Rattle.cluster_ends.specs.Laws.{DrainsLand}
+use Rattle.cluster_closing.specs.Held.{HoldsNone}
+use Rattle.cluster_closing.proofs.Laws.{drains_hold_none, drains_fetch_none}
+use Rattle.cluster_opening.specs.Made.{IsNewWalker}
 use Rattle.session_api.specs.declared.progress.Progress.{Progress}
 use Rattle.session_api.specs.declared.progress.Progress.TheVariants.{Idle}
 use Rattle.session_api.specs.Sessions.{IsSession}

@@ -4,8 +4,8 @@ use Rattle.clv_base.specs.State.{Shard}
 use Rattle.clv_base.specs.Journals.{History}
 use Rattle.disk_model.specs.Story.{Story}
 use Rattle.history_replay.specs.Entries.{Kept}
-use Rattle.script_tries.specs.Sessions.{session_entries}
-use Rattle.shards_promises.specs.Ended.{ClusterEnded}
+use Rattle.script_runs.specs.Sessions.{session_entries}
+use Rattle.run_promises.specs.Ended.{ClusterEnded}
 use Rattle.session_rows.specs.declared.transfers.Transferred.{Transferred}
 use Rattle.session_rows.specs.declared.transfers.Transferred.TheVariants.{Moved, Refused, GivenUp}
 use Rattle.session_rows.specs.declared.transfers.Stop.{Stop}

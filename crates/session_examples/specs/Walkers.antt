@@ -3,9 +3,9 @@ use Rattle.std.specs.Prelude.{◌≡◌, ℕ, ◌<◌, List, length, slice_index
 use Rattle.cluster_turns.specs.declared.shards.Shards.{Shards}
 use Rattle.cluster_turns.specs.declared.shards.Walker.{Walker}
 use Rattle.cluster_turns.specs.Walkers.{IsWalker}
-use Rattle.cluster_landing.specs.Landed.{HasLanded}
-use Rattle.cluster_holding.specs.Held.{HoldsNone}
-use Rattle.walkers_making.specs.Made.{IsNewWalker}
+use Rattle.cluster_ends.specs.Landed.{HasLanded}
+use Rattle.cluster_closing.specs.Held.{HoldsNone}
+use Rattle.cluster_opening.specs.Made.{IsNewWalker}
 use Rattle.session_api.specs.declared.progress.Progress.{Progress}
 use Rattle.session_api.specs.Progresses.{active_tx}
 use Rattle.session_scripts.specs.Standing.{Holds, IsAtRest}

@@ -14,7 +14,7 @@ use cluster_turns::{Shards, Walker};
 use clv_base::logs::LogRecord;
 use disk_model::House;
 use history_replay::History;
-use machines_opening::OverDisks;
+use machine_calls::OverDisks;
 use std::alloc::Global;
 use std::snapshot::Snapshot;
 

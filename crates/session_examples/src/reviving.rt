@@ -9,7 +9,7 @@ use crate::calling::call_all;
 use crate::closing::{Left, close_all};
 use crate::sitting::{leave, sit};
 use cluster_beginning::{Opened, open_all};
-use cluster_restart::{FetchError, Fetched, fetch};
+use cluster_ends::{FetchError, Fetched, fetch};
 use cluster_turns::{Shards, Walker};
 use disk_model::House;
 use disks_opening::OpenError;

@@ -11,7 +11,7 @@ use crate::closing::{Left, close_all};
 use crate::sitting::{leave, sit};
 use cluster_beginning::{Opened, open_all};
 use cluster_drain::drain;
-use cluster_landing::promises::drains_land;
+use cluster_ends::promises::drains_land;
 use cluster_turns::{Home, Shards, Walker};
 use disk_model::House;
 use disks_opening::OpenError;

@@ -2,3 +2,15 @@ pub mod Touched
 pub mod Offered
 pub mod Trying
 pub mod Passing
+pub mod Outcomes
+pub mod Rounding
+pub mod First
+pub mod New
+pub mod Making
+pub mod Seeing
+pub mod Going
+pub mod Parting
+pub mod Unbearing
+pub mod Again
+pub mod SessionRetriesLeaving
+pub mod Laws

@@ -33,10 +33,10 @@ use Rattle.cluster_turns.specs.declared.shards.Walker.{Walker}
 use Rattle.cluster_turns.specs.Turns.{EventTold}
 use Rattle.cluster_turns.specs.Walkers.{IsWalker, IsSameWalker, Walked, kept}
 use Rattle.cluster_turns.proofs.Laws.{event_rises}
-use Rattle.session_progress.specs.States.{session_of}
-use Rattle.session_progress.proofs.Laws.{states_go_on, states_tell_may_make, ops_go_on}
-use Rattle.walker_turns.specs.Turns.{Turn, Took, no_turn, event_turn, entry_on}
-use Rattle.walker_turns.proofs.Laws.{kept_grows}
+use Rattle.session_births.specs.States.{session_of}
+use Rattle.session_births.proofs.Laws.{states_go_on, states_tell_may_make, ops_go_on}
+use Rattle.session_births.specs.Turns.{Turn, Took, no_turn, event_turn, entry_on}
+use Rattle.session_births.proofs.Laws.{kept_grows}
 use Rattle.session_births.specs.Births.{AllSeeFree, AreInformed}
 use Rattle.session_births.specs.Unborn.{UnbornAt, UnbornUnless, LeavesUnborn, EndsPart}
 use Rattle.session_births.proofs.Laws.{informed_stay, free_stays, unless_stays, answered_is_in_epoch, ends_unbear, unborn_unless_any}

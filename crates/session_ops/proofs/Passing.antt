@@ -14,10 +14,10 @@ use Rattle.journal_laws.specs.Births.{LeavesBirth}
 use Rattle.cluster_turns.specs.declared.shards.Shards.{Shards}
 use Rattle.cluster_turns.specs.declared.shards.Walker.{Walker}
 use Rattle.cluster_turns.specs.Walkers.{IsWalker, IsSameWalker, kept}
-use Rattle.session_progress.specs.States.{session_of}
-use Rattle.session_progress.proofs.Laws.{states_go_on, others_leave_states}
-use Rattle.walker_turns.specs.Turns.{Turn, Took, IsMadeBy, entry_on, entries_made, AreOthers}
-use Rattle.walker_turns.proofs.Laws.{kept_grows, entries_are_made, clock_rises}
+use Rattle.session_births.specs.States.{session_of}
+use Rattle.session_births.proofs.Laws.{states_go_on, others_leave_states}
+use Rattle.session_births.specs.Turns.{Turn, Took, IsMadeBy, entry_on, entries_made, AreOthers}
+use Rattle.session_births.proofs.Laws.{kept_grows, entries_are_made, clock_rises}
 use Rattle.session_births.specs.Births.{IsBornBy}
 use Rattle.session_births.specs.Unborn.{AllLeaveUnborn}
 use Rattle.session_births.proofs.Laws.{informed_stay, free_stays, unless_stays}

@@ -17,11 +17,11 @@ use Rattle.machine_calls.specs.declared.machine.StepError.{StepError}
 use Rattle.machine_calls.specs.declared.machine.StepError.TheVariants.{Memory as NoMemory, Worn as IsWorn}
 use Rattle.turn_laws.specs.declared.notes.Note.{Note}
 use Rattle.turn_laws.specs.declared.notes.Origin.{Origin}
-use Rattle.walker_turns.specs.Turns.{Turn, no_turn, AnyTurn, AreOthers}
-use Rattle.walker_turns.proofs.Laws.{turns_follow}
-use Rattle.session_rounds.specs.declared.parts.RoundError.{RoundError}
-use Rattle.session_rounds.specs.declared.parts.RoundError.TheVariants.{Down as RoundDown, Worn as RoundWorn, Memory as RoundMemory}
-use Rattle.session_rounds.specs.Rounds.{EndedBy, Rounded}
+use Rattle.session_births.specs.Turns.{Turn, no_turn, AnyTurn, AreOthers}
+use Rattle.session_births.proofs.Laws.{turns_follow}
+use Rattle.session_ops.specs.declared.parts.RoundError.{RoundError}
+use Rattle.session_ops.specs.declared.parts.RoundError.TheVariants.{Down as RoundDown, Worn as RoundWorn, Memory as RoundMemory}
+use Rattle.session_ops.specs.Rounds.{EndedBy, Rounded}
 use Rattle.session_ops.specs.declared.operating.OpError.{OpError}
 use Rattle.session_ops.specs.declared.operating.OpError.TheVariants.{Aborted, Down, Worn, Memory}
 use Rattle.session_ops.specs.Standing.{AskTold, is_op_outcome, place_after, StandsAfter, IsActive}

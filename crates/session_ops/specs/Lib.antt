@@ -1,2 +1,10 @@
 pub mod Standing
 pub mod Operated
+pub mod Rounds
+pub mod Beginnings
+pub mod Requested
+pub mod Looked
+pub mod Dropped
+pub mod Unbearing
+pub mod Retried
+pub mod Laws

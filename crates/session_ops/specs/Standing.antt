@@ -15,8 +15,8 @@ use Rattle.turn_laws.specs.declared.notes.Origin.{Origin}
 use Rattle.cluster_turns.specs.declared.shards.Shards.{Shards}
 use Rattle.cluster_turns.specs.declared.shards.Walker.{Walker}
 use Rattle.cluster_turns.specs.Walkers.{IsWalker, kept}
-use Rattle.session_progress.specs.States.{session_of, GoesOnBy}
-use Rattle.walker_turns.specs.Turns.{Turn, Took}
+use Rattle.session_births.specs.States.{session_of, GoesOnBy}
+use Rattle.session_births.specs.Turns.{Turn, Took}
 use Rattle.session_births.specs.Births.{AllSeeFree, AreInformed}
 use Rattle.session_births.specs.Unborn.{UnbornAt, UnbornUnless}
 

@@ -11,7 +11,7 @@ use cluster_turns::{Shards, Walker};
 use clv_base::events::Outcome;
 use clv_base::ops::Op;
 use machine_calls::{Machine, StepError};
-use session_progress::Place;
+use session_births::Place;
 use std::alloc::Global;
 use std::sync::Wait;
 

@@ -5,7 +5,7 @@ ghost use Rattle.clv_base.specs.declared.names.Birth.{Birth as BirthIs};
 ghost use Rattle.clv_base.specs.declared.events.Event.TheVariants.{Op as OpEvent};
 ghost use Rattle.clv_base.specs.Sessions.{is_number, lies_in};
 ghost use Rattle.cluster_turns.specs.Walkers.{IsSameWalker};
-ghost use Rattle.session_rounds.specs.Rounds.{Rounded};
+ghost use Rattle.session_ops.specs.Rounds.{Rounded};
 ghost use Rattle.session_ops.specs.Standing.{IsActive};
 ghost use Rattle.session_ops.specs.Operated.{Operated, PlacedBy, StandsBy, answered_in, tried, refusal_of};
 
@@ -17,8 +17,8 @@ use clv_base::ops::{Answer, Op};
 use crossbeam_utils::Backoff;
 use io_edge::Pace;
 use machine_calls::{Flier, Machine, StepError};
-use session_progress::Place;
-use session_rounds::{RoundError, round};
+use session_births::Place;
+use crate::{RoundError, round};
 use std::alloc::Global;
 use std::sync::Wait;
 

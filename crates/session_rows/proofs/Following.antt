@@ -5,10 +5,10 @@ use Rattle.clv_base.specs.declared.ops.Op.{Op}
 use Rattle.cluster_turns.specs.declared.shards.Shards.{Shards}
 use Rattle.cluster_turns.specs.declared.shards.Walker.{Walker}
 use Rattle.cluster_turns.specs.Walkers.{kept}
-use Rattle.cluster_holding.specs.Held.{HoldsNone, FetchedNone}
-use Rattle.cluster_holding.proofs.Laws.{turns_hold_none, turns_fetch_none}
-use Rattle.walker_turns.specs.Turns.{Turn, Took, entries_made}
-use Rattle.walker_turns.proofs.Laws.{kept_grows}
+use Rattle.cluster_closing.specs.Held.{HoldsNone, FetchedNone}
+use Rattle.cluster_closing.proofs.Laws.{turns_hold_none, turns_fetch_none}
+use Rattle.session_births.specs.Turns.{Turn, Took, entries_made}
+use Rattle.session_births.proofs.Laws.{kept_grows}
 use Rattle.session_endings.specs.declared.committing.Settled.{Settled}
 use Rattle.session_endings.specs.declared.committing.CommitError.{CommitError as CommitFailure}
 use Rattle.session_endings.specs.Committed.{CommitTold}

@@ -17,13 +17,13 @@ use Rattle.session_ops.specs.declared.operating.OpError.{OpError as OpFailure}
 use Rattle.session_ops.specs.declared.operating.OpError.TheVariants as failed
 use Rattle.session_ops.specs.Operated.{PlacedBy, answered_in}
 use Rattle.session_ops.specs.Standing.{IsActive}
-use Rattle.session_scans.specs.Parts.{has_died}
+use Rattle.session_endings.specs.Parts.{has_died}
 use Rattle.session_endings.specs.declared.committing.Settled.{Settled}
 use Rattle.session_endings.specs.declared.committing.Settled.TheVariants.{Committed, Empty}
 use Rattle.session_endings.specs.declared.committing.CommitError.{CommitError as CommitFailure}
 use Rattle.session_endings.specs.declared.committing.CommitError.TheVariants as unmade
-use Rattle.script_tries.specs.Operations.{IsOperation, AreOperations, no_operation, operation}
-use Rattle.script_tries.specs.Sessions.{session_entries}
+use Rattle.script_runs.specs.Operations.{IsOperation, AreOperations, no_operation, operation}
+use Rattle.script_runs.specs.Sessions.{session_entries}
 use Rattle.script_runs.specs.Seen.{Active as ActiveAs}
 use Rattle.script_runs.specs.Told.{OperateTold, CommitTold}
 use Rattle.session_api.specs.declared.progress.Progress.{Progress}
@@ -32,9 +32,9 @@ use Rattle.session_api.specs.Progresses.{after_op, answer_told, commit_told}
 use Rattle.session_api.specs.declared.operating.OpError.{OpError}
 use Rattle.session_api.specs.declared.ending.CommitError.{CommitError}
 use Rattle.session_api.specs.Sessions.{IsSession, StandsIn, PointMade, PointCalled, CommitMade, CommitCalled}
-use Rattle.session_told.specs.Seeing.{seen_as, touched_in, is_active, unless_dead, after_commit as commit_leaves, value_end as value_tells, commit_end as commit_tells}
-use Rattle.session_told.specs.Laws.{IsAt, gets, puts}
-use Rattle.session_told.proofs.Laws.{points_tell, commits_tell}
+use Rattle.session_scripts.specs.Seeing.{seen_as, touched_in, is_active, unless_dead, after_commit as commit_leaves, value_end as value_tells, commit_end as commit_tells}
+use Rattle.session_scripts.specs.SessionToldLaws.{IsAt, gets, puts}
+use Rattle.session_scripts.proofs.Laws.{points_tell, commits_tell}
 use Rattle.session_rows.specs.declared.transfers.Failure.{Failure}
 use Rattle.session_rows.specs.declared.transfers.Transferred.{Transferred}
 use Rattle.session_rows.specs.declared.transfers.Transferred.TheVariants.{Moved, Refused, GivenUp}

@@ -3,7 +3,7 @@ use Rattle.std.specs.Prelude.{◌≡◌, ◌++◌}
 use Rattle.clv_base.specs.Journals.{History}
 use Rattle.cluster_turns.specs.declared.shards.Walker.{Walker}
 use Rattle.cluster_turns.specs.Walkers.{kept}
-use Rattle.cluster_holding.specs.Held.{HoldsNone, FetchedNone}
+use Rattle.cluster_closing.specs.Held.{HoldsNone, FetchedNone}
 
 module _ {M S G : Type 0} where
   -- the same walker later: it has made some entries more, and if it had no disk, and never took one, that is so still

@@ -13,9 +13,9 @@ use Rattle.clv_base.specs.Sessions.{SessionState}
 use Rattle.cluster_turns.specs.declared.shards.Shards.{Shards}
 use Rattle.cluster_turns.specs.declared.shards.Walker.{Walker}
 use Rattle.cluster_turns.specs.Walkers.{kept}
-use Rattle.script_tries.specs.Operations.{AreOperations}
-use Rattle.script_tries.specs.Tries.{IsRequest, IsLook}
-use Rattle.script_tries.specs.Sessions.{session_entries}
+use Rattle.script_runs.specs.Operations.{AreOperations}
+use Rattle.script_runs.specs.Tries.{IsRequest, IsLook}
+use Rattle.script_runs.specs.Sessions.{session_entries}
 use Rattle.session_api.specs.declared.progress.Progress.{Progress}
 use Rattle.session_api.specs.declared.progress.Progress.TheVariants.{Active}
 use Rattle.session_rows.specs.declared.transfers.Transferred.{Transferred}

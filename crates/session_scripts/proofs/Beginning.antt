@@ -6,7 +6,7 @@ use Rattle.clv_base.specs.declared.names.Birth.{Birth}
 use Rattle.clv_base.specs.Sessions.{SessionState}
 use Rattle.cluster_turns.specs.declared.shards.Shards.{Shards}
 use Rattle.cluster_turns.specs.declared.shards.Walker.{Walker}
-use Rattle.script_tries.specs.declared.ends.StopCause.{StopCause}
+use Rattle.script_runs.specs.declared.ends.StopCause.{StopCause}
 use Rattle.script_runs.specs.Seen.{Standing, Idle}
 use Rattle.script_runs.specs.Told.{Begins, BeginTold, RetryTold}
 use Rattle.session_api.specs.declared.progress.Progress.{Progress}
@@ -16,8 +16,8 @@ use Rattle.session_api.specs.declared.beginning.BeginError.TheVariants as begin
 use Rattle.session_api.specs.declared.retrying.RetryError.{RetryError}
 use Rattle.session_api.specs.declared.retrying.RetryError.TheVariants as retry
 use Rattle.session_api.specs.Sessions.{IsSession, BegunNext, BeginCalled, RetriedNext, RetryCalled}
-use Rattle.session_told.specs.Seeing.{seen_as, is_active}
-use Rattle.session_told.proofs.Laws.{beginnings_tell, retries_tell}
+use Rattle.session_scripts.specs.Seeing.{seen_as, is_active}
+use Rattle.session_scripts.proofs.Laws.{beginnings_tell, retries_tell}
 use Rattle.session_scripts.specs.Standing.{Holds, active_as, standing_of, seen_in}
 use Rattle.session_scripts.specs.Grounds.{Grounds}
 use Rattle.session_scripts.specs.Ends.{BeginEnds, RetryEnds}

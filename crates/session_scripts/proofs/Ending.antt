@@ -16,22 +16,22 @@ use Rattle.cluster_turns.specs.declared.shards.WornClock.{WornClock}
 use Rattle.cluster_turns.specs.Walkers.{IsSameWalker}
 use Rattle.machine_calls.specs.declared.machine.StepError.{StepError}
 use Rattle.machine_calls.specs.declared.machine.StepError.TheVariants as step
-use Rattle.walker_turns.specs.Turns.{Turn, Took, FindsDown, FindsWorn, FoundDown, FoundWorn}
-use Rattle.walker_turns.proofs.Laws.{worn_is_last}
-use Rattle.session_commit.specs.Requested.{IsTurnOf}
-use Rattle.session_drops.specs.Dropped.{Dropping, IsLeft}
-use Rattle.session_settling.specs.declared.looking.SettleError.{SettleError}
-use Rattle.session_settling.specs.declared.looking.SettleError.TheVariants as settle
+use Rattle.session_births.specs.Turns.{Turn, Took, FindsDown, FindsWorn, FoundDown, FoundWorn}
+use Rattle.session_births.proofs.Laws.{worn_is_last}
+use Rattle.session_ops.specs.Requested.{IsTurnOf}
+use Rattle.session_ops.specs.Dropped.{Dropping, IsLeft}
+use Rattle.session_endings.specs.declared.looking.SettleError.{SettleError}
+use Rattle.session_endings.specs.declared.looking.SettleError.TheVariants as settle
 use Rattle.session_endings.specs.declared.committing.Settled.{Settled}
 use Rattle.session_endings.specs.declared.committing.Settled.TheVariants.{Committed}
 use Rattle.session_endings.specs.declared.committing.CommitError.{CommitError as CommitFailure}
 use Rattle.session_endings.specs.declared.committing.CommitError.TheVariants as unmade
 use Rattle.session_endings.specs.Decided.{DecidedBy, committed_as}
 use Rattle.session_endings.specs.Committed.{CommittedBy, CommitTold as Commits}
-use Rattle.script_tries.specs.declared.ends.StopCause.{StopCause}
-use Rattle.script_tries.specs.declared.ends.StopCause.TheVariants as stop
-use Rattle.script_tries.specs.declared.ends.TryEnd.{TryEnd}
-use Rattle.script_tries.specs.declared.ends.TryEnd.TheVariants as end
+use Rattle.script_runs.specs.declared.ends.StopCause.{StopCause}
+use Rattle.script_runs.specs.declared.ends.StopCause.TheVariants as stop
+use Rattle.script_runs.specs.declared.ends.TryEnd.{TryEnd}
+use Rattle.script_runs.specs.declared.ends.TryEnd.TheVariants as end
 use Rattle.script_runs.specs.Seen.{Idle, Active}
 use Rattle.script_runs.specs.Told.{CommitTold, AbortTold}
 use Rattle.script_runs.specs.Tried.{OnStop}
@@ -41,8 +41,8 @@ use Rattle.session_api.specs.declared.ending.CommitError.{CommitError}
 use Rattle.session_api.specs.declared.ending.AbortError.{AbortError}
 use Rattle.session_api.specs.Progresses.{commit_told, abort_told, is_nothing, after_commit, progress_committed, progress_aborted}
 use Rattle.session_api.specs.Sessions.{IsSession, CommitMade, CommitCalled, AbortMade, AbortCalled}
-use Rattle.session_told.specs.Seeing.{seen_as, touched_in, is_active, by_phase, after_commit as commit_leaves, after_abort as abort_leaves, commit_end, abort_end}
-use Rattle.session_told.proofs.Laws.{commits_tell, aborts_tell}
+use Rattle.session_scripts.specs.Seeing.{seen_as, touched_in, is_active, by_phase, after_commit as commit_leaves, after_abort as abort_leaves, commit_end, abort_end}
+use Rattle.session_scripts.proofs.Laws.{commits_tell, aborts_tell}
 use Rattle.session_scripts.specs.Standing.{Holds, active_as, standing_of, seen_in}
 use Rattle.session_scripts.specs.Grounds.{Grounds}
 use Rattle.session_scripts.proofs.Standings.{read_active, of_this, idle_active, asked_active, stays_grown, worn_still}

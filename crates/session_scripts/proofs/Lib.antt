@@ -5,4 +5,12 @@ pub mod Parts
 pub mod Operating
 pub mod Ending
 pub mod New
+pub mod Following
+pub mod SessionToldOperating
+pub mod Pointing
+pub mod Scanning
+pub mod SessionToldEnding
+pub mod Untouched
+pub mod Committing
+pub mod Leaving
 pub mod Laws

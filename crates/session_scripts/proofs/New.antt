@@ -3,7 +3,7 @@ use Rattle.std.proofs.Common.{◌≡◌, ◌∙◌, refl, sym, ap, subst, ℕ, s
 use Rattle.std.proofs.lemmas.Bool.{lt-ltb, le-leb}
 use Rattle.history_replay.specs.Entries.{on_shard, merged, merged_from}
 use Rattle.clv_base.specs.Sessions.{no_session, is_session_number}
-use Rattle.script_tries.specs.Sessions.{FollowsScript, session_entries}
+use Rattle.script_runs.specs.Sessions.{FollowsScript, session_entries}
 use Rattle.turn_lock.specs.declared.pass.Pass.{Pass}
 use Rattle.turn_lock.specs.Passes.{own}
 use Rattle.turn_laws.specs.declared.notes.Note.{Note}
@@ -12,13 +12,13 @@ use Rattle.turn_laws.specs.Homes.{entries_in, taker, is_taker}
 use Rattle.cluster_turns.specs.declared.shards.Shards.{Shards}
 use Rattle.cluster_turns.specs.declared.shards.Walker.{Walker}
 use Rattle.cluster_turns.specs.Walkers.{IsWalker, AreNewPasses, founds_of, own_of, own_lists, kept}
-use Rattle.cluster_landing.specs.Landed.{HasLanded}
+use Rattle.cluster_ends.specs.Landed.{HasLanded}
 use Rattle.turn_lock.specs.Journals.{entries_by}
 use Rattle.turn_laws.specs.Notes.{noter}
-use Rattle.cluster_landing.proofs.Laws.{new_pass}
-use Rattle.cluster_holding.specs.Held.{HoldsNone}
-use Rattle.cluster_holding.proofs.Laws.{new_walkers_hold_none, new_walkers_fetched_none}
-use Rattle.session_progress.specs.States.{session_of}
+use Rattle.cluster_ends.proofs.Laws.{new_pass}
+use Rattle.cluster_closing.specs.Held.{HoldsNone}
+use Rattle.cluster_closing.proofs.Laws.{new_walkers_hold_none, new_walkers_fetched_none}
+use Rattle.session_births.specs.States.{session_of}
 use Rattle.session_births.proofs.Laws.{new_are_informed}
 use Rattle.session_ops.specs.Standing.{IsReady}
 use Rattle.session_endings.specs.Standings.{IsUnasked}

@@ -11,17 +11,17 @@ use Rattle.clv_base.specs.declared.events.Event.{Event}
 use Rattle.clv_base.specs.Sessions.{SessionState}
 use Rattle.cluster_turns.specs.declared.shards.Shards.{Shards}
 use Rattle.cluster_turns.specs.declared.shards.Walker.{Walker}
-use Rattle.walker_turns.specs.Turns.{FindsDown, FindsWorn}
-use Rattle.walker_turns.proofs.Laws.{worn_is_last}
+use Rattle.session_births.specs.Turns.{FindsDown, FindsWorn}
+use Rattle.session_births.proofs.Laws.{worn_is_last}
 use Rattle.session_ops.specs.declared.operating.OpError.{OpError as Failure}
 use Rattle.session_ops.specs.declared.operating.OpError.TheVariants as failed
 use Rattle.session_ops.specs.Operated.{PlacedBy, answered_in}
-use Rattle.session_scans.specs.Parts.{has_died, Performing, value_in}
-use Rattle.session_scans.specs.Scanned.{Range, Scanning}
-use Rattle.script_tries.specs.declared.ends.TryEnd.{TryEnd}
-use Rattle.script_tries.specs.declared.ends.TryEnd.TheVariants.{Stopped}
-use Rattle.script_tries.specs.declared.ends.StopCause.TheVariants.{Worn}
-use Rattle.script_tries.specs.Operations.{parts_of}
+use Rattle.session_endings.specs.Parts.{has_died, Performing, value_in}
+use Rattle.session_endings.specs.Scanned.{Range, Scanning}
+use Rattle.script_runs.specs.declared.ends.TryEnd.{TryEnd}
+use Rattle.script_runs.specs.declared.ends.TryEnd.TheVariants.{Stopped}
+use Rattle.script_runs.specs.declared.ends.StopCause.TheVariants.{Worn}
+use Rattle.script_runs.specs.Operations.{parts_of}
 use Rattle.script_runs.specs.Seen.{Standing, Idle, Active}
 use Rattle.script_runs.specs.Told.{has_range, OperateTold}
 use Rattle.script_runs.specs.Tried.{OnRefusal}
@@ -30,9 +30,9 @@ use Rattle.session_api.specs.declared.progress.Progress.TheVariants as progress
 use Rattle.session_api.specs.declared.operating.OpError.{OpError}
 use Rattle.session_api.specs.Progresses.{active_tx, answer_told, after_op}
 use Rattle.session_api.specs.Sessions.{IsSession, PointMade, PointCalled, ScanMade, RangeCalled, RangeBeside, ScanCalled}
-use Rattle.session_told.specs.Seeing.{seen_as, touched_in, is_active, unless_dead, value_end, pairs_end}
-use Rattle.session_told.specs.Laws.{IsAt}
-use Rattle.session_told.proofs.Laws.{points_tell, scans_tell}
+use Rattle.session_scripts.specs.Seeing.{seen_as, touched_in, is_active, unless_dead, value_end, pairs_end}
+use Rattle.session_scripts.specs.SessionToldLaws.{IsAt}
+use Rattle.session_scripts.proofs.Laws.{points_tell, scans_tell}
 use Rattle.session_scripts.specs.Standing.{Holds, active_as, standing_of, seen_in}
 use Rattle.session_scripts.specs.Grounds.{Grounds}
 use Rattle.session_scripts.proofs.Standings.{IsOf, read_active, of_this, idle_active, asked_active, stays_grown, worn_still}

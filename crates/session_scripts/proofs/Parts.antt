@@ -11,8 +11,8 @@ use Rattle.clv_base.specs.declared.ops.Op.{Op}
 use Rattle.clv_base.specs.declared.ops.Op.TheVariants.{Get, Put, Del, Scan}
 use Rattle.clv_base.specs.Shards.{shard_of, shard_count, span, lies_within, are_splits}
 use Rattle.clv_base.proofs.Spans.{span_keys}
-use Rattle.script_tries.specs.Operations.{scan_within, part_at, scan_parts, parts_of, no_part, IsBegun}
-use Rattle.session_told.specs.Laws.{IsAt, gets, puts, dels}
+use Rattle.script_runs.specs.Operations.{scan_within, part_at, scan_parts, parts_of, no_part, IsBegun}
+use Rattle.session_scripts.specs.SessionToldLaws.{IsAt, gets, puts, dels}
 
 -- the first of its parts, and the others
 abbrev pub HasPart : List (ℕ × Op) → Type 0

@@ -9,7 +9,7 @@ use Rattle.session_ops.specs.Standing.{HasBirth}
 use Rattle.session_endings.specs.Standings.{IsUnasked}
 use Rattle.script_runs.specs.Seen.{Idle, Active, Asked, Seen, Grows}
 use Rattle.session_api.specs.declared.progress.Progress.{Progress}
-use Rattle.session_told.specs.Seeing.{touched_in}
+use Rattle.session_scripts.specs.Seeing.{touched_in}
 use Rattle.session_scripts.specs.Standing.{active_as, seen_in}
 
 -- ---- what is read

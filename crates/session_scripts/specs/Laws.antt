@@ -2,17 +2,17 @@
 use Rattle.std.specs.Prelude.{◌≡◌, ℕ, ◌≤◌, IsTrue, List, [], Option}
 use Rattle.clv_base.specs.Shards.{are_splits}
 use Rattle.script_lang.specs.Bodies.{Body}
-use Rattle.script_tries.specs.declared.ends.StopCause.{StopCause}
-use Rattle.script_tries.specs.Sessions.{FollowsScript, session_entries}
+use Rattle.script_runs.specs.declared.ends.StopCause.{StopCause}
+use Rattle.script_runs.specs.Sessions.{FollowsScript, session_entries}
 use Rattle.script_runs.specs.Seen.{Standing}
 use Rattle.script_runs.specs.Ran.{Follows}
 use Rattle.cluster_turns.specs.declared.shards.Shards.{Shards}
 use Rattle.cluster_turns.specs.declared.shards.Walker.{Walker}
 use Rattle.cluster_turns.specs.Walkers.{kept}
-use Rattle.walkers_making.specs.Made.{IsNewWalker}
+use Rattle.cluster_opening.specs.Made.{IsNewWalker}
 use Rattle.session_api.specs.declared.progress.Progress.{Progress}
 use Rattle.session_api.specs.declared.progress.Progress.TheVariants.{Idle}
-use Rattle.session_told.specs.Seeing.{seen_as}
+use Rattle.session_scripts.specs.Seeing.{seen_as}
 use Rattle.session_scripts.specs.Standing.{Holds, IsAtRest}
 
 -- a new walker, but for walker 0, is a session's

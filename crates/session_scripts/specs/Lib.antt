@@ -1,4 +1,6 @@
 pub mod Standing
 pub mod Grounds
 pub mod Ends
+pub mod Seeing
+pub mod SessionToldLaws
 pub mod Laws

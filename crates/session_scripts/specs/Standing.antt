@@ -6,12 +6,12 @@ use Rattle.clv_base.specs.Shards.{are_splits}
 use Rattle.cluster_turns.specs.declared.shards.Shards.{Shards}
 use Rattle.cluster_turns.specs.declared.shards.Walker.{Walker}
 use Rattle.cluster_turns.specs.Walkers.{IsWalker}
-use Rattle.cluster_landing.specs.Landed.{HasLanded}
-use Rattle.cluster_holding.specs.Held.{HoldsNone, FetchedNone}
+use Rattle.cluster_ends.specs.Landed.{HasLanded}
+use Rattle.cluster_closing.specs.Held.{HoldsNone, FetchedNone}
 use Rattle.session_api.specs.declared.progress.Progress.{Progress}
 use Rattle.session_api.specs.declared.progress.Progress.TheVariants as progress
 use Rattle.session_api.specs.Sessions.{IsSession}
-use Rattle.session_told.specs.Seeing.{seen_as, is_active}
+use Rattle.session_scripts.specs.Seeing.{seen_as, is_active}
 use Rattle.script_runs.specs.Seen.{Standing, Idle, Asked, Seen}
 
 -- the active transaction, whose birth is this; each that a session begins has one

@@ -10,7 +10,7 @@ use clv_base::ops::{Answer, Op};
 use io_edge::Pace;
 use machine_calls::Flier;
 use script_runs::SessionCalls;
-use script_tries::{StopCause, TryEnd};
+use script_runs::{StopCause, TryEnd};
 use std::alloc::Global;
 use std::sync::Wait;
 

@@ -6,13 +6,13 @@ ghost use Rattle.session_ops.specs.declared.operating.OpError.{OpError as Failur
 ghost use Rattle.session_endings.specs.declared.committing.Settled.{Settled as SettledIs};
 ghost use Rattle.session_endings.specs.declared.committing.CommitError.{CommitError as CommitFailure};
 ghost use Rattle.session_api.specs.Progresses.{failure_told, answer_told, commit_told, abort_told};
-ghost use Rattle.session_told.specs.Seeing.{op_end, value_end, pairs_end, commit_end, abort_end};
+ghost use Rattle.session_scripts.specs.Seeing.{op_end, value_end, pairs_end, commit_end, abort_end};
 ghost use Rattle.session_scripts.specs.Ends.{BeginEnds, RetryEnds};
 
 use clv_base::lists::Pairs;
 use clv_base::names::TxId;
 use clv_base::ops::Answer;
-use script_tries::{StopCause, TryEnd};
+use script_runs::{StopCause, TryEnd};
 use session_api::{AbortError, BeginError, CommitError, OpError, RetryError, Settled};
 
 // None is active.

@@ -10,3 +10,5 @@ pub mod promises;
 mod session;
 
 pub use session::ScriptSession;
+
+pub mod session_told_promises;

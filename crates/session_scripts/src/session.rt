@@ -1,7 +1,7 @@
 // A session that a script may drive.
 ghost use Rattle.std.specs.Prelude.{◌≡◌, None};
 ghost use Rattle.session_api.specs.declared.progress.Progress.TheVariants.{Idle};
-ghost use Rattle.session_told.specs.Seeing.{seen_as};
+ghost use Rattle.session_scripts.specs.Seeing.{seen_as};
 ghost use Rattle.script_runs.specs.Seen.{Idle as NoneActive};
 ghost use Rattle.session_scripts.specs.Standing.{Holds, seen_in};
 

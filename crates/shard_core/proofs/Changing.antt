@@ -15,8 +15,8 @@ use Rattle.due_laws.specs.Changes.{ChangesDue}
 use Rattle.due_laws.specs.Purging.{WritesAreLocked}
 use Rattle.due_laws.specs.Left.{left}
 use Rattle.due_laws.proofs.Laws.{cover_grows, purges_dont_matter, gone_le, parts_le, rolled_stay, without_stay, dropped_stay}
-use Rattle.due_loop.specs.Ready.{IsReady}
-use Rattle.due_messages.specs.Sent.{Waiting}
+use Rattle.due_step.specs.Ready.{IsReady}
+use Rattle.due_step.specs.Sent.{Waiting}
 use Rattle.txn_core.specs.State.{TxState}
 use Rattle.txn_core.specs.Sound.{is_here, owed_by, KeepsSpare}
 use Rattle.shard_core.specs.Whole.{HasRoom}

@@ -16,11 +16,11 @@ use Rattle.due_laws.specs.Depending.{DependentsHaveParts}
 use Rattle.due_laws.specs.Left.{left}
 use Rattle.due_laws.proofs.Laws.{decisions_touch}
 use Rattle.due_candidates.specs.Held.{Candidates}
-use Rattle.due_noting.specs.Noting.{known_keys}
-use Rattle.due_noting.proofs.Laws.{pair_of}
+use Rattle.due_step.specs.Noting.{known_keys}
+use Rattle.due_step.proofs.Laws.{pair_of}
 use Rattle.txn_core.specs.State.{TxState, IsSameBut}
 use Rattle.txn_core.specs.Sound.{KeepsSpare}
-use Rattle.due_loop.specs.Ready.{IsReady}
+use Rattle.due_step.specs.Ready.{IsReady}
 use Rattle.shard_core.specs.Whole.{AreKnown, IsAtRest}
 use Rattle.shard_core.proofs.Seeing.{single, part_known, pair_has}
 use Rattle.shard_core.proofs.Logged.{All, logged_more}

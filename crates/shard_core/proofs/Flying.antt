@@ -8,8 +8,8 @@ use Rattle.clv_base.specs.State.{Shard}
 use Rattle.clv_base.specs.Events.{with_durable}
 use Rattle.due_laws.specs.Depending.{DependentsHaveParts}
 use Rattle.due_candidates.specs.Held.{Candidates, HasRoomBy}
-use Rattle.due_noting.specs.Noting.{known_keys}
-use Rattle.due_noting.proofs.Laws.{keys_length}
+use Rattle.due_step.specs.Noting.{known_keys}
+use Rattle.due_step.proofs.Laws.{keys_length}
 use Rattle.txn_core.specs.Landed.{concern}
 use Rattle.shard_core.specs.Core.{flight_by}
 use Rattle.shard_core.specs.Whole.{AreKnown}

@@ -26,11 +26,11 @@ use Rattle.due_laws.specs.Changes.{ChangesDue, successors_of}
 use Rattle.due_laws.specs.Depending.{DependentsHaveParts}
 use Rattle.due_laws.specs.Left.{is_finished, is_idle, is_lone, left_by, left_request, left}
 use Rattle.due_laws.proofs.Laws.{keys_stay, close_keeps, parts_more, put_total_by, PartsStay, stay_same, closed_stay}
-use Rattle.due_loop.specs.Ready.{IsReady}
+use Rattle.due_step.specs.Ready.{IsReady}
 use Rattle.due_candidates.specs.Held.{Candidates, HasRoomFor, HasRoomBy}
-use Rattle.due_messages.specs.Sent.{Waiting}
-use Rattle.due_noting.specs.Noting.{known_keys}
-use Rattle.due_noting.proofs.Laws.{keys_length, known_have_room, pair_of}
+use Rattle.due_step.specs.Sent.{Waiting}
+use Rattle.due_step.specs.Noting.{known_keys}
+use Rattle.due_step.proofs.Laws.{keys_length, known_have_room, pair_of}
 use Rattle.due_step.specs.Steps.{ArePrepares}
 use Rattle.txn_core.specs.State.{TxState, IsSameBut}
 use Rattle.txn_core.specs.Sound.{is_here, owed_by, KeepsSpare, SpendsSpare}

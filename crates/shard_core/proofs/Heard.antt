@@ -9,7 +9,7 @@ use Rattle.clv_base.specs.State.{Shard}
 use Rattle.clv_base.specs.Undo.{stage_of}
 use Rattle.clv_base.specs.Facts.{facts_of, is_closed_state, state_by}
 use Rattle.clv_base.specs.Participant.{taken_if, taken_by}
-use Rattle.due_noting.specs.Noting.{known_keys}
+use Rattle.due_step.specs.Noting.{known_keys}
 use Rattle.shard_core.proofs.Taking.{stage_known}
 
 -- who waits for a decision has a part here

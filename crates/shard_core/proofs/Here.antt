@@ -15,7 +15,7 @@ use Rattle.clv_base.specs.Facts.{facts_of, is_closed_state, is_waiting, state_by
 use Rattle.clv_base.proofs.SameNames.{or_left, or_right, tx_flip}
 use Rattle.law_base.proofs.Changed.{none_some, some_same}
 use Rattle.tx_index.specs.Index.{index_of}
-use Rattle.part_table.specs.Parts.{is_here, parts_here}
+use Rattle.tx_index.specs.Parts.{is_here, parts_here}
 use Rattle.vote_participant.specs.Voting.{asks_by}
 
 -- a row that passes is in the index

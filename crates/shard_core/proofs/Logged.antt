@@ -18,9 +18,9 @@ use Rattle.clv_base.specs.Due.{finish_reader}
 use Rattle.clv_base.proofs.SameNames.{tx_true}
 use Rattle.protocol_laws.specs.UndoLaws.{is_pair}
 use Rattle.txn_core.specs.Landed.{concerns, concern}
-use Rattle.due_finding.specs.Found.{carried, vote_sent}
-use Rattle.due_finding.specs.declared.finding.Due.{Due}
-use Rattle.due_finding.specs.declared.finding.Due.TheVariants.{Commit, Vote as DueVote, Ruling as DueRuling}
+use Rattle.due_step.specs.Found.{carried, vote_sent}
+use Rattle.due_step.specs.declared.finding.Due.{Due}
+use Rattle.due_step.specs.declared.finding.Due.TheVariants.{Commit, Vote as DueVote, Ruling as DueRuling}
 use Rattle.shard_core.specs.Whole.{IsOfKnown}
 
 abbrev pub All : List TxId → List LogRecord → Type 0

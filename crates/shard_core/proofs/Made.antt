@@ -19,8 +19,8 @@ use Rattle.commit_coordinator.specs.Unended.{UnendedRise}
 use Rattle.due_laws.specs.Depending.{DependentsHaveParts, RestartsHaveParts}
 use Rattle.due_laws.specs.Left.{is_finished, is_idle, left_voter, left_request, total_by, left}
 use Rattle.due_laws.proofs.Laws.{at_rest_none}
-use Rattle.due_loop.specs.Ready.{IsReady}
-use Rattle.due_noting.specs.Noting.{known_keys}
+use Rattle.due_step.specs.Ready.{IsReady}
+use Rattle.due_step.specs.Noting.{known_keys}
 use Rattle.due_step.specs.Steps.{ArePrepares}
 use Rattle.protocol_laws.specs.Resting.{RestartsEndAtRest}
 use Rattle.txn_core.specs.Sound.{HasSpare}

@@ -24,13 +24,13 @@ use Rattle.clv_base.proofs.SameNames.{or_left, or_right, tx_true}
 use Rattle.due_laws.specs.Depending.{HasPart}
 use Rattle.due_laws.proofs.Laws.{nothing_to_do, none_is_nothing, operations_touch, performed_keeps, without_keeps, put_keeps, put_has, get_has}
 use Rattle.due_candidates.specs.Held.{Candidates}
-use Rattle.due_noting.specs.Noting.{known_keys}
+use Rattle.due_step.specs.Noting.{known_keys}
 use Rattle.txn_core.specs.State.{TxState, IsSameBut}
 use Rattle.txn_core.specs.Replies.{Replies}
 use Rattle.txn_core.specs.declared.op.Reply.{Reply}
 use Rattle.txn_core.specs.declared.op.Reply.TheVariants.{Answered, Dead, Wait, Crowded}
 use Rattle.txn_core.specs.Sound.{KeepsSpare}
-use Rattle.due_loop.specs.Ready.{IsReady}
+use Rattle.due_step.specs.Ready.{IsReady}
 use Rattle.shard_core.specs.Operating.{StayBy, Comes, Ends}
 use Rattle.shard_core.specs.Core.{Core}
 use Rattle.shard_core.specs.Whole.{IsAtRest}

@@ -15,9 +15,9 @@ use Rattle.clv_base.specs.Events.{finish}
 use Rattle.due_laws.specs.Candidates.{Cover}
 use Rattle.due_laws.specs.Changes.{ChangesDue}
 use Rattle.due_laws.specs.Depending.{DependentsHaveParts}
-use Rattle.due_loop.specs.Ready.{IsReady}
+use Rattle.due_step.specs.Ready.{IsReady}
 use Rattle.due_candidates.specs.Held.{Candidates}
-use Rattle.due_messages.specs.Sent.{Waiting}
+use Rattle.due_step.specs.Sent.{Waiting}
 use Rattle.due_step.specs.Steps.{ArePrepares}
 use Rattle.txn_core.specs.State.{TxState}
 use Rattle.txn_core.specs.Sound.{IsSound}
@@ -25,7 +25,7 @@ use Rattle.vote_participant.specs.Voting.{Voting}
 use Rattle.commit_coordinator.specs.Coordinated.{Coordination}
 use Rattle.shard_core.specs.Core.{Core, seen_as}
 use Rattle.shard_core.specs.Whole.{HasRoom, AreKnown, IsWhole, IsAtRest}
-use Rattle.due_noting.specs.Noting.{known_keys}
+use Rattle.due_step.specs.Noting.{known_keys}
 use Rattle.shard_core.proofs.Logged.{All}
 use Rattle.shard_core.proofs.Seeing.{writes_locked}
 use Rattle.shard_core.proofs.Changing.{covers, ready_after, finish_same}

@@ -19,8 +19,8 @@ use Rattle.due_laws.specs.Left.{is_idle, left_by, left_request, left}
 use Rattle.due_laws.proofs.Laws.{total_by_at, set_keys, answers_touch}
 use Rattle.shard_core.proofs.Changing.{room_kept}
 use Rattle.due_candidates.specs.Held.{Candidates, HasRoomFor}
-use Rattle.due_noting.specs.Noting.{known_keys}
-use Rattle.due_noting.proofs.Laws.{keys_length}
+use Rattle.due_step.specs.Noting.{known_keys}
+use Rattle.due_step.proofs.Laws.{keys_length}
 use Rattle.txn_core.specs.Sound.{HasSpare}
 use Rattle.commit_coordinator.specs.Coordinated.{Coordination, counts_by, done_by, requests_with, requests_done}
 use Rattle.shard_core.specs.Replying.{vote_taken, done_taken}

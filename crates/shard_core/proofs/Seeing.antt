@@ -23,14 +23,14 @@ use Rattle.protocol_laws.proofs.Laws.{doomed_is_closure}
 use Rattle.due_laws.specs.Depending.{HasPart, DependentsHaveParts}
 use Rattle.due_laws.specs.Purging.{IsLocked, WritesAreLocked}
 use Rattle.due_laws.proofs.Laws.{place_more, undone_none, due_keeps_keys}
-use Rattle.due_loop.specs.Ready.{least}
+use Rattle.due_step.specs.Ready.{least}
 use Rattle.due_candidates.specs.Held.{AreAmong}
-use Rattle.due_finding.specs.Found.{carried, vote_sent}
-use Rattle.due_finding.specs.declared.finding.Due.{Due}
-use Rattle.due_finding.specs.declared.finding.Due.TheVariants.{Commit, Vote as DueVote, Ruling as DueRuling}
-use Rattle.due_messages.specs.Sent.{Waiting}
-use Rattle.due_noting.specs.Noting.{ruled_touches, touches, known_keys}
-use Rattle.due_noting.proofs.Laws.{own_doomed, ruled_doomed, keys_length}
+use Rattle.due_step.specs.Found.{carried, vote_sent}
+use Rattle.due_step.specs.declared.finding.Due.{Due}
+use Rattle.due_step.specs.declared.finding.Due.TheVariants.{Commit, Vote as DueVote, Ruling as DueRuling}
+use Rattle.due_step.specs.Sent.{Waiting}
+use Rattle.due_step.specs.Noting.{ruled_touches, touches, known_keys}
+use Rattle.due_step.proofs.Laws.{own_doomed, ruled_doomed, keys_length}
 use Rattle.due_step.specs.Steps.{IsSeen}
 use Rattle.txn_core.specs.State.{TxState}
 use Rattle.txn_core.specs.Sound.{IsHeld, IsSound}

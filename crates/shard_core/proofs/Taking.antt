@@ -13,8 +13,8 @@ use Rattle.law_base.proofs.Sets.{in_filter}
 use Rattle.due_laws.specs.Depending.{HasPart, DependentsHaveParts}
 use Rattle.due_laws.proofs.Laws.{keys_stay, get_has}
 use Rattle.due_candidates.specs.Held.{Candidates}
-use Rattle.due_noting.specs.Noting.{known_keys}
-use Rattle.due_noting.proofs.Laws.{keys_length}
+use Rattle.due_step.specs.Noting.{known_keys}
+use Rattle.due_step.proofs.Laws.{keys_length}
 use Rattle.shard_core.specs.Whole.{AreKnown}
 use Rattle.shard_core.proofs.Seeing.{undone_prepares, doomed_known, part_known}
 

@@ -14,13 +14,13 @@ use Rattle.due_laws.specs.Candidates.{Cover}
 use Rattle.due_laws.specs.Depending.{DependentsHaveParts}
 use Rattle.due_laws.specs.Left.{left}
 use Rattle.due_laws.proofs.Laws.{least_is_next, left_falls, due_keeps_parts, due_keeps_keys}
-use Rattle.due_loop.specs.Ready.{IsReady, IsDone, least, but_least}
+use Rattle.due_step.specs.Ready.{IsReady, IsDone, least, but_least}
 use Rattle.due_candidates.specs.Held.{Candidates, AreAmong, HasRoomBy}
-use Rattle.due_finding.specs.Found.{carried}
-use Rattle.due_finding.specs.declared.finding.Due.{Due}
-use Rattle.due_messages.specs.Sent.{Waiting}
-use Rattle.due_noting.specs.Noting.{known_keys}
-use Rattle.due_noting.proofs.Laws.{noted_covers, known_have_room}
+use Rattle.due_step.specs.Found.{carried}
+use Rattle.due_step.specs.declared.finding.Due.{Due}
+use Rattle.due_step.specs.Sent.{Waiting}
+use Rattle.due_step.specs.Noting.{known_keys}
+use Rattle.due_step.proofs.Laws.{noted_covers, known_have_room}
 use Rattle.due_step.specs.Steps.{Steps, Notes}
 use Rattle.due_step.proofs.Laws.{kept}
 use Rattle.txn_core.specs.State.{TxState}

@@ -6,7 +6,7 @@ use Rattle.clv_base.specs.State.{Shard}
 use Rattle.txn_core.specs.State.{TxState}
 use Rattle.vote_participant.specs.Voting.{Voting}
 use Rattle.commit_coordinator.specs.Coordinated.{Coordination}
-use Rattle.due_messages.specs.Sent.{Waiting}
+use Rattle.due_step.specs.Sent.{Waiting}
 
 pub record Core : Type 0 where
   pub shard : Shard

@@ -4,3 +4,4 @@ pub mod Replying
 pub mod Operating
 pub mod Requesting
 pub mod Hearing
+pub mod Placed

@@ -8,15 +8,15 @@ use Rattle.clv_base.specs.Orders.{Table, tx_in}
 use Rattle.clv_base.specs.State.{Shard}
 use Rattle.due_laws.specs.Depending.{DependentsHaveParts}
 use Rattle.due_laws.specs.Left.{left}
-use Rattle.due_loop.specs.Ready.{IsReady}
+use Rattle.due_step.specs.Ready.{IsReady}
 use Rattle.due_candidates.specs.Held.{Candidates, AreAmong}
-use Rattle.due_noting.specs.Noting.{known_keys}
+use Rattle.due_step.specs.Noting.{known_keys}
 use Rattle.due_step.specs.Steps.{ArePrepares}
 use Rattle.txn_core.specs.State.{TxState}
 use Rattle.txn_core.specs.Sound.{HasSpare}
 use Rattle.vote_participant.specs.Voting.{Voting}
 use Rattle.commit_coordinator.specs.Coordinated.{Coordination}
-use Rattle.due_messages.specs.Sent.{Waiting}
+use Rattle.due_step.specs.Sent.{Waiting}
 use Rattle.shard_core.specs.Core.{Core}
 
 -- room for what may still be done, and for one thing more: in the log beyond undo, for settled transactions, and for messages

@@ -7,7 +7,7 @@ ghost use Rattle.clv_base.specs.Orders.{tx_in};
 ghost use Rattle.clv_base.specs.Participant.{taken_by};
 ghost use Rattle.clv_base.specs.Due.{send};
 ghost use Rattle.clv_base.specs.Events.{Does, finish, decided, on_ask, on_decide};
-ghost use Rattle.due_noting.specs.Noting.{known_keys};
+ghost use Rattle.due_step.specs.Noting.{known_keys};
 ghost use Rattle.shard_core.specs.Hearing.{Hears};
 ghost use Rattle.shard_core.specs.Whole.{IsAtRest};
 

@@ -28,3 +28,8 @@ mod telling;
 
 pub use crate::requesting::RequestAnswer;
 pub use crate::shard::ShardCore;
+
+mod prepares;
+#[cfg(test)]
+mod tests;
+pub use prepares::prepares_of;

@@ -5,7 +5,7 @@ ghost use Rattle.clv_base.specs.State.{with_local};
 ghost use Rattle.clv_base.specs.Undo.{stage_of as stage_in};
 ghost use Rattle.clv_base.specs.OneShard.{close_part as closed_by};
 ghost use Rattle.clv_base.specs.Events.{finish, owe_vote, on_prepare};
-ghost use Rattle.due_loop.specs.Ready.{IsReady};
+ghost use Rattle.due_step.specs.Ready.{IsReady};
 ghost use Rattle.shard_core.specs.Hearing.{Hears};
 ghost use Rattle.shard_core.specs.Whole.{IsAtRest};
 
@@ -14,7 +14,7 @@ use crate::closing::{close_noted, make_room};
 use crate::shard::ShardCore;
 use clv_base::names::TxId;
 use clv_base::state::Stage;
-use due_loop::settle_due;
+use due_step::settle_due;
 use lock_table::Locks;
 use ordered_store::Store;
 use std::alloc::Global;

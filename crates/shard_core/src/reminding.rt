@@ -9,15 +9,15 @@ ghost use Rattle.clv_base.specs.Participant.{asks};
 ghost use Rattle.clv_base.specs.Due.{send};
 ghost use Rattle.clv_base.specs.Events.{finish, durable_requests, waiting_voters, reminders as reminders_of};
 ghost use Rattle.vote_participant.specs.Voting.{asks_by};
-ghost use Rattle.due_loop.specs.Ready.{IsReady};
+ghost use Rattle.due_step.specs.Ready.{IsReady};
 ghost use Rattle.shard_core.specs.Whole.{IsAtRest};
 
 use crate::shard::ShardCore;
 use clv_base::messages::Message;
 use clv_base::names::TxId;
 use commit_coordinator::laws::reminders_by_waiting;
-use due_loop::settle_due;
-use due_messages::Outbox;
+use due_step::settle_due;
+use due_step::Outbox;
 use lock_table::Locks;
 use ordered_store::Store;
 use std::alloc::Global;

@@ -10,7 +10,7 @@ ghost use Rattle.clv_base.specs.Undo.{stage_of as stage_in};
 ghost use Rattle.clv_base.specs.Coordinator.{others, prepares as asking};
 ghost use Rattle.clv_base.specs.OneShard.{close_part as closed_by, seen_fits};
 ghost use Rattle.clv_base.specs.Events.{finish, Does, is_alone, epoch_in as epoch_among, coordinate, request_event};
-ghost use Rattle.due_loop.specs.Ready.{IsReady};
+ghost use Rattle.due_step.specs.Ready.{IsReady};
 ghost use Rattle.shard_core.specs.Requesting.{requested, gone_answer};
 ghost use Rattle.shard_core.specs.Whole.{IsAtRest};
 
@@ -23,7 +23,7 @@ use clv_base::lists::Touched;
 use clv_base::messages::Message;
 use clv_base::names::TxId;
 use clv_base::state::Stage;
-use due_loop::settle_due;
+use due_step::settle_due;
 use lock_table::Locks;
 use ordered_store::Store;
 use std::alloc::{AllocError, Global};

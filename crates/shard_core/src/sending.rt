@@ -1,13 +1,13 @@
 //! Messages leave.
 ghost use Rattle.std.specs.Prelude.{◌≡◌, drop};
 ghost use Rattle.clv_base.specs.Events.{finish, with_outbox};
-ghost use Rattle.due_loop.specs.Ready.{IsReady};
-ghost use Rattle.due_messages.specs.Sent.{first_of};
+ghost use Rattle.due_step.specs.Ready.{IsReady};
+ghost use Rattle.due_step.specs.Sent.{first_of};
 ghost use Rattle.shard_core.specs.Whole.{IsAtRest};
 
 use crate::shard::ShardCore;
 use clv_base::messages::Message;
-use due_loop::settle_due;
+use due_step::settle_due;
 use lock_table::Locks;
 use ordered_store::Store;
 

@@ -2,7 +2,7 @@
 
 use commit_coordinator::Coordinator;
 use due_candidates::Candidates;
-use due_messages::Outbox;
+use due_step::Outbox;
 use lock_table::Locks;
 use ordered_store::Store;
 use std::marker::Model;

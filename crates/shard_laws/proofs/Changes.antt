@@ -31,7 +31,7 @@ use Rattle.law_base.proofs.Commits.{CommitBefore, commit_durable, before_keeps, 
 use Rattle.shard_laws.proofs.Prepared.{IsListed, Lists, Prepared, by_prepare, prepare_here, unprepared_append, lists_more, sealed_append, prepared_more}
 use Rattle.shard_laws.proofs.AtKeys.{key_writes}
 use Rattle.shard_laws.proofs.Kept.{View, Past, Dep, Kept, Ended, Wrote, of_kept, is_alive}
-use Rattle.order_laws.specs.Order.{moves, Open_at, Tidy, is_clr_of, undone_in}
+use Rattle.protocol_laws.specs.Order.{moves, Open_at, Tidy, is_clr_of, undone_in}
 use Rattle.std.proofs.Common.{append-nil}
 use Rattle.std.proofs.lemmas.Option.{none-some, same_Some}
 

@@ -20,7 +20,7 @@ use Rattle.law_base.proofs.Undoing.{standing_append}
 use Rattle.law_base.proofs.Tables.{is_pair}
 use Rattle.law_base.proofs.Commits.{place_there, durable_committed, before_second}
 use Rattle.law_base.proofs.Sets.{list_all_at}
-use Rattle.order_laws.specs.Order.{Tidy, Sealed, undone_in}
+use Rattle.protocol_laws.specs.Order.{Tidy, Sealed, undone_in}
 use Rattle.shard_laws.specs.OneShard.{items_of, ops_by, answers_by, MayChoose, Passes, ChosenReplay, ChosenStandBefore}
 use Rattle.shard_laws.proofs.AtKeys.{keys_top, keys_filter}
 use Rattle.shard_laws.proofs.Kept.{Past, view_of, place, Dep, Known, is_alive}

@@ -16,7 +16,7 @@ use Rattle.law_base.proofs.Undoing.{standing_append}
 use Rattle.law_base.proofs.Commits.{CommitBefore, commit_durable, durable_parts, committed_keeps}
 pub use Rattle.shard_laws.proofs.Kept.{of_kept}
 use Rattle.shard_laws.proofs.Kept.{View, Past, Kept}
-use Rattle.order_laws.specs.Order.{moves, Open_at, Tidy, is_clr_of, undone_in}
+use Rattle.protocol_laws.specs.Order.{moves, Open_at, Tidy, is_clr_of, undone_in}
 use Rattle.std.proofs.Common.{append-nil}
 use Rattle.std.specs.Prelude.{take, drop}
 use Rattle.std.proofs.lemmas.List.{take-append-drop}

@@ -12,7 +12,7 @@ use Rattle.clv_base.specs.Logs.{committed_in, aborted_in, prepared_in, prepare_o
 use Rattle.clv_base.specs.LogRules.{listed_in}
 use Rattle.clv_base.proofs.SameNames.{or_left, or_right, tx_self, insert_keeps, in_insert}
 use Rattle.law_base.proofs.Commits.{place_some, place_keeps, place_there}
-use Rattle.order_laws.specs.Order.{Sealed}
+use Rattle.protocol_laws.specs.Order.{Sealed}
 use Rattle.shard_laws.proofs.Cutting.{taken_there, taken_place}
 use Rattle.law_base.proofs.Doubts.{stays_in}
 use Rattle.law_base.proofs.Sets.{list_all_at}

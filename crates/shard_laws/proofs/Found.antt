@@ -19,9 +19,9 @@ use Rattle.law_base.specs.Items.{Item, wrote, meets, Runs, after, AllLater, on_t
 use Rattle.law_base.proofs.Lists.{all_mono, all_push, later_push}
 use Rattle.law_base.proofs.Running.{top_value, runs_push, pile_value, pile_push}
 use Rattle.law_base.proofs.Undoing.{Chain, standing_append}
-use Rattle.order_laws.specs.Order.{LieOnThese}
-use Rattle.order_laws.proofs.Records.{front, last, push_cases}
-use Rattle.order_laws.proofs.Writes.{all_without}
+use Rattle.protocol_laws.specs.Order.{LieOnThese}
+use Rattle.protocol_laws.proofs.Records.{front, last, push_cases}
+use Rattle.protocol_laws.proofs.Writes.{all_without}
 use Rattle.shard_laws.specs.OneShard.{found_op, found_item, items_found, prepared_order, MayServe, Leads, opens}
 use Rattle.shard_laws.proofs.AtKeys.{key_writes, SameAtKeys, top_at}
 use Rattle.shard_laws.proofs.Kept.{of_kept, place}

@@ -40,7 +40,7 @@ use Rattle.law_base.proofs.Commits.{CommitBefore, commit_durable, before_keeps, 
 use Rattle.shard_laws.proofs.Prepared.{Prepared, prepared_item, prepared_update}
 use Rattle.shard_laws.proofs.AtKeys.{key_writes, keys_filter, keys_top, keys_on_top}
 use Rattle.shard_laws.proofs.Kept.{View, Past, place, StageFits, Belongs, Covers, Wrote, Dep, Known, Left, Ended, Kept, of_kept, is_alive}
-use Rattle.order_laws.specs.Order.{Tidy, undone_in}
+use Rattle.protocol_laws.specs.Order.{Tidy, undone_in}
 use Rattle.clv_base.specs.declared.ops.Op.{Op}
 use Rattle.clv_base.specs.declared.ops.Op.TheVariants.{Get, Put, Del, Scan}
 use Rattle.clv_base.specs.declared.modes.Need.{Need}

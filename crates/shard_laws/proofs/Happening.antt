@@ -8,7 +8,7 @@ use Rattle.clv_base.specs.declared.names.Birth.{Birth}
 use Rattle.clv_base.specs.declared.logs.LogRecord.{LogRecord}
 use Rattle.clv_base.specs.declared.logs.LogRecord.TheVariants.{Update, Prepare, Commit}
 use Rattle.clv_base.specs.LogRules.{before_restart}
-use Rattle.order_laws.proofs.Records.{prepared_there}
+use Rattle.protocol_laws.proofs.Records.{prepared_there}
 use Rattle.shard_laws.proofs.Prepared.{prepare_here, unprepared_append}
 use Rattle.shard_laws.proofs.Following.{unwritten_before}
 use Rattle.shard_laws.proofs.Listing.{order_of}
@@ -37,7 +37,7 @@ use Rattle.clv_base.proofs.SameNames.{or_left, or_right, tx_true, tx_self, tx_eq
 use Rattle.law_base.proofs.Tables.{stage_in, stage_by, is_pair, pair_in, in_pair}
 use Rattle.law_base.proofs.Commits.{durable_committed, uncommitted_append, durable_further, closing_commits}
 use Rattle.shard_laws.proofs.Kept.{View, Past, Known, Kept}
-use Rattle.order_laws.specs.Order.{undone_in}
+use Rattle.protocol_laws.specs.Order.{undone_in}
 use Rattle.clv_base.specs.declared.ops.Op.{Op}
 use Rattle.clv_base.specs.declared.state.Request.{Request}
 use Rattle.clv_base.specs.declared.state.RequestState.{RequestState}

@@ -20,8 +20,8 @@ use Rattle.clv_base.specs.OneShard.{closed_in, closing, marked_in, locked, writt
 use Rattle.clv_base.proofs.SameNames.{or_left, or_right, tx_self}
 use Rattle.law_base.proofs.Tables.{stage_in, is_pair}
 use Rattle.law_base.proofs.Undoing.{standing_append}
-use Rattle.order_laws.proofs.InOrder.{Order}
-use Rattle.order_laws.proofs.Records.{push_right}
+use Rattle.protocol_laws.proofs.OrderInOrder.{Order}
+use Rattle.protocol_laws.proofs.Records.{push_right}
 use Rattle.shard_laws.proofs.Serial.{Once}
 use Rattle.shard_laws.proofs.Prepared.{by_prepare, prepare_here}
 use Rattle.shard_laws.proofs.Kept.{Past, Kept, view_of}

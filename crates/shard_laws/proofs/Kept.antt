@@ -19,7 +19,7 @@ use Rattle.clv_base.specs.Needs.{Records, value_at}
 use Rattle.law_base.proofs.Cells.{record_at}
 use Rattle.clv_base.specs.Folding.{IsRising}
 use Rattle.law_base.specs.Items.{Item, writes, meets, Runs, AllLater, Reaches, Clash, pile}
-use Rattle.order_laws.specs.Order.{undone_in, Tidy}
+use Rattle.protocol_laws.specs.Order.{undone_in, Tidy}
 pub use Rattle.shard_laws.specs.OneShard.{place}
 use Rattle.law_base.proofs.Running.{top_value}
 use Rattle.law_base.proofs.Undoing.{Chain}

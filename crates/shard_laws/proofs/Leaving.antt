@@ -35,7 +35,7 @@ use Rattle.shard_laws.proofs.Prepared.{unprepared_append, prepared_more, prepare
 use Rattle.shard_laws.proofs.AtKeys.{key_writes, keys_filter, keys_all}
 use Rattle.shard_laws.proofs.Kept.{View, Past, Belongs, Dep, Known, Kept, Ended, Wrote, Left, of_kept, is_alive}
 use Rattle.shard_laws.proofs.Restoring.{standing_updates, wrote_of}
-use Rattle.order_laws.specs.Order.{moves, Open_at, Tidy, undone_in}
+use Rattle.protocol_laws.specs.Order.{moves, Open_at, Tidy, undone_in}
 use Rattle.clv_base.specs.Undo.{value_before}
 use Rattle.law_base.proofs.Undoing.{reset}
 use Rattle.clv_base.specs.Undo.{newest_lsn}

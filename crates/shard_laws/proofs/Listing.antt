@@ -13,15 +13,15 @@ use Rattle.law_base.proofs.Lists.{all_mono, all_both, filter_passes}
 use Rattle.law_base.proofs.Undoing.{standing_append}
 use Rattle.law_base.proofs.Commits.{committed_keeps}
 use Rattle.law_base.proofs.Sets.{list_all_at}
-use Rattle.order_laws.specs.Order.{LieOnThese}
-use Rattle.order_laws.proofs.Records.{front, last, push_cases, push_left, push_same, committed_there, push_right}
-use Rattle.order_laws.proofs.Writes.{Falling, all_without}
-use Rattle.order_laws.proofs.InOrder.{Order, in_order}
+use Rattle.protocol_laws.specs.Order.{LieOnThese}
+use Rattle.protocol_laws.proofs.Records.{front, last, push_cases, push_left, push_same, committed_there, push_right}
+use Rattle.protocol_laws.proofs.Writes.{Falling, all_without}
+use Rattle.protocol_laws.proofs.OrderInOrder.{Order, in_order}
 use Rattle.shard_laws.proofs.Prepared.{by_prepare, prepare_here, listed_keeps}
 use Rattle.shard_laws.proofs.Doubting.{Doubted, doubted}
 use Rattle.shard_laws.proofs.Following.{Follows, to_disorder, through, last_push, last_new, since_wrote}
 use Rattle.shard_laws.proofs.Ordered.{unlisted, listed_same}
-use Rattle.order_laws.specs.Order.{undone_in, is_clr_of}
+use Rattle.protocol_laws.specs.Order.{undone_in, is_clr_of}
 use Rattle.clv_base.specs.Logs.{writers}
 use Rattle.clv_base.specs.Orders.{tx_insert}
 use Rattle.clv_base.proofs.SameNames.{tx_eq, in_insert, insert_has, insert_keeps}

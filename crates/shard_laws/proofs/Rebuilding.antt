@@ -18,7 +18,7 @@ use Rattle.law_base.proofs.Commits.{committed_append}
 use Rattle.law_base.proofs.Doubts.{Unlike, is_it, nobody, abort_unlike, clr_unlike, restart_unlike, doubts_more}
 use Rattle.law_base.proofs.Sets.{filter_in, in_filter, each_writer}
 use Rattle.law_base.proofs.Bools.{or_false_left, or_false_right}
-use Rattle.order_laws.specs.Order.{moves, Open_at, Tidy, Sealed, is_clr_of, undone_in}
+use Rattle.protocol_laws.specs.Order.{moves, Open_at, Tidy, Sealed, is_clr_of, undone_in}
 use Rattle.shard_laws.proofs.Prepared.{IsListed, is_listed_more, prepared_append, sealed_more, listed_keeps}
 use Rattle.shard_laws.proofs.Changes.{undone_append, wrote_append, tidy_append}
 use Rattle.shard_laws.proofs.Leaving.{Harmless, tidy_harmless}

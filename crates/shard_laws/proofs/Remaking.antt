@@ -20,7 +20,7 @@ use Rattle.law_base.proofs.Lists.{all_mono, all_both}
 use Rattle.law_base.proofs.Running.{top_value}
 use Rattle.law_base.proofs.Anchors.{Rising, AllAbove}
 use Rattle.law_base.proofs.Commits.{commit_durable}
-use Rattle.order_laws.specs.Order.{is_clr_of, undone_in}
+use Rattle.protocol_laws.specs.Order.{is_clr_of, undone_in}
 use Rattle.shard_laws.proofs.Kept.{View, Wrote}
 use Rattle.shard_laws.proofs.Cutting.{of_kept, KeptWhole, fold_alike, fold_values, fold_rises}
 use Rattle.shard_laws.proofs.Restoring.{has_update, standing_updates, locks_hold, ghosts_value, ghosts_rise, ghosts_there}

@@ -23,9 +23,9 @@ use Rattle.law_base.proofs.Tables.{stage_in}
 use Rattle.law_base.proofs.Sets.{filter_in, in_filter, list_all_at, each_writer}
 use Rattle.law_base.proofs.Bools.{or_false_left, or_false_right}
 use Rattle.law_base.proofs.Stages.{present_is}
-use Rattle.order_laws.specs.Order.{LieOnThese}
-use Rattle.order_laws.proofs.Records.{front, last, push_false}
-use Rattle.order_laws.proofs.InOrder.{Order, undone_open}
+use Rattle.protocol_laws.specs.Order.{LieOnThese}
+use Rattle.protocol_laws.proofs.Records.{front, last, push_false}
+use Rattle.protocol_laws.proofs.OrderInOrder.{Order, undone_open}
 use Rattle.shard_laws.proofs.Serial.{once_filter}
 use Rattle.shard_laws.proofs.Cutting.{of_kept}
 use Rattle.shard_laws.proofs.Doubting.{Doubted, doubted}

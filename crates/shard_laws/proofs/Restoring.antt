@@ -22,7 +22,7 @@ use Rattle.clv_base.proofs.SameNames.{or_left, or_right, tx_true, tx_self, tx_fl
 use Rattle.law_base.proofs.Cells.{record_at, live_by}
 use Rattle.law_base.proofs.Anchors.{Rising, record_at_set, rising_set}
 use Rattle.law_base.proofs.Tables.{stage_in, stage_by}
-use Rattle.order_laws.proofs.Writes.{all_without}
+use Rattle.protocol_laws.proofs.Writes.{all_without}
 use Rattle.law_base.proofs.LockRows.{holds, Rows, take_keeps, take_gives, rows_take}
 use Rattle.shard_laws.proofs.Kept.{Belongs}
 

@@ -35,7 +35,7 @@ use Rattle.law_base.proofs.Commits.{commit_durable, committed_append, place_ther
 use Rattle.law_base.proofs.Sets.{filter_in, in_filter}
 use Rattle.law_base.proofs.Bools.{or_false_left, or_false_right}
 use Rattle.law_base.proofs.Stages.{present_is}
-use Rattle.order_laws.specs.Order.{moves, Open_at, Tidy, Unprepared, Sealed, undone_in}
+use Rattle.protocol_laws.specs.Order.{moves, Open_at, Tidy, Unprepared, Sealed, undone_in}
 use Rattle.shard_laws.specs.OneShard.{items_of, is_member, is_doomed, left_out}
 use Rattle.shard_laws.proofs.AtKeys.{SameAtKeys, key_writes, keys_filter, keys_all}
 use Rattle.shard_laws.proofs.Kept.{View, view_of, Past, Dep, Known, Left, is_alive, place}
@@ -53,7 +53,7 @@ use Rattle.shard_laws.proofs.Keeping.{KeepsOrder}
 use Rattle.shard_laws.proofs.Renewing.{found_self, Renewed, Fine, renewed_by, ordered_restored, lying_restored, rulings_restored}
 use Rattle.shard_laws.proofs.Falls.{Fell, Falls, take_further}
 use Rattle.shard_laws.proofs.Listing.{order_of, prepared_wrote}
-use Rattle.order_laws.proofs.InOrder.{Order}
+use Rattle.protocol_laws.proofs.OrderInOrder.{Order}
 use Rattle.shard_laws.proofs.Refalling.{all_durable, falls_restarted, stage_name}
 use Rattle.shard_laws.proofs.Relisting.{requests_none, unended_none, voter_is, pair_there, pair_of}
 use Rattle.shard_laws.proofs.Rebuilding.{Found, unmoved_from, Restarted, of_restarts}

@@ -20,8 +20,8 @@ use Rattle.law_base.proofs.Lists.{all_mono, all_append}
 use Rattle.law_base.proofs.Tables.{stage_in, is_pair, without_pairs, pairs_stay}
 use Rattle.law_base.proofs.Commits.{committed_keeps}
 use Rattle.law_base.proofs.Undoing.{Upward, standing_undone}
-use Rattle.order_laws.specs.Order.{LieOnThese}
-use Rattle.order_laws.proofs.Records.{push_cases}
+use Rattle.protocol_laws.specs.Order.{LieOnThese}
+use Rattle.protocol_laws.proofs.Records.{push_cases}
 use Rattle.shard_laws.proofs.Serial.{Once, once_filter}
 use Rattle.shard_laws.proofs.Changes.{wrote_keeps}
 use Rattle.shard_laws.proofs.Prepared.{prepared_append}

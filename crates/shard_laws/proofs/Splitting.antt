@@ -28,7 +28,7 @@ use Rattle.law_base.proofs.Lists.{all_mono, all_filter, later_mono, later_filter
 use Rattle.law_base.proofs.Running.{top_value, Keeps, kept_runs, rising_all, pile_value, replay_map_append, replay_answers_append}
 use Rattle.law_base.proofs.Tables.{is_pair}
 use Rattle.shard_laws.specs.OneShard.{items_of, with_one, new_item, new_asked, new_met, MayHappen, MayServe, Leads, opens, happens, lands, others_ask, revives, ops_by, answers_by, found_items, found_asked, found_met, map_found, LaterReplay}
-use Rattle.order_laws.specs.Order.{undone_in}
+use Rattle.protocol_laws.specs.Order.{undone_in}
 use Rattle.shard_laws.proofs.Ordered.{each_in}
 use Rattle.shard_laws.proofs.AtKeys.{keys_filter, keys_top}
 use Rattle.shard_laws.proofs.Kept.{of_kept, place}

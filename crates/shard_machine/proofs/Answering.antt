@@ -13,8 +13,8 @@ use Rattle.machine_laws.specs.Frame.{stamped_as, reply_as, look_by}
 use Rattle.machine_laws.proofs.Laws.{looks_alike}
 use Rattle.clv_base.specs.declared.names.TxId.{TxId}
 use Rattle.clv_base.specs.declared.events.Event.TheVariants.{Look}
-use Rattle.shard_events.specs.declared.happening.Happened.TheVariants.{Quiet as QuietHere, Done}
-use Rattle.shard_events.specs.Happening.{IsQuiet, Happens}
+use Rattle.shard_machine.specs.declared.happening.Happened.TheVariants.{Quiet as QuietHere, Done}
+use Rattle.shard_machine.specs.Happening.{IsQuiet, Happens}
 use Rattle.shard_machine.specs.Stamps.{newest, stamp_by}
 use Rattle.shard_machine.specs.Answers.{is_late, goes_on, Refuses}
 use Rattle.shard_machine.proofs.Telling.{told_done, told_early, told_late, told_worn, told_memory, has_stamp, no_stamp}

@@ -13,10 +13,10 @@ use Rattle.clv_base.specs.Undo.{stage_of}
 use Rattle.clv_base.specs.OneShard.{drop_part}
 use Rattle.clv_base.specs.Due.{send}
 use Rattle.clv_base.specs.Events.{QuietBeforeWorn, Does, finish, drop_event, remind_with, reminders, happen_up, happen}
-use Rattle.due_messages.specs.Sent.{first_of}
+use Rattle.due_step.specs.Sent.{first_of}
 use Rattle.shard_core.specs.Core.{Core}
 use Rattle.shard_core.specs.Whole.{IsAtRest}
-use Rattle.shard_journal.specs.Journaled.{Journaled}
+use Rattle.shard_machine.specs.Journaled.{Journaled}
 use Rattle.machine_calls.specs.Steps.{is_undropped, is_first_drop}
 use Rattle.machine_laws.specs.Frame.{stamped_as}
 use Rattle.machine_laws.specs.Undropped.{undropped}

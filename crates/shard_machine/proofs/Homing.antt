@@ -8,7 +8,7 @@ use Rattle.clv_base.specs.State.{Shard}
 use Rattle.clv_base.specs.Events.{Does, Quiet, Enters, finish, with_durable, put_down, landed, land, land_up, next_stamp, stamped, with_entry}
 use Rattle.shard_core.specs.Core.{Core}
 use Rattle.shard_core.specs.Whole.{IsAtRest}
-use Rattle.shard_journal.specs.Journaled.{Journaled}
+use Rattle.shard_machine.specs.Journaled.{Journaled}
 use Rattle.machine_calls.specs.Steps.{entry, Made}
 use Rattle.machine_laws.specs.Frame.{stamped_as}
 use Rattle.machine_laws.specs.Undropped.{undropped}

@@ -9,3 +9,5 @@ pub mod Starting
 pub mod Restarting
 pub mod Departing
 pub mod Homing
+pub mod Meaning
+pub mod Naming

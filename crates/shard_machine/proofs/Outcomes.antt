@@ -30,7 +30,7 @@ use Rattle.clv_base.specs.Events.{Reply, QuietBeforeWorn, QuietAfterWorn, Does, 
 use Rattle.clv_base.specs.declared.events.Outcome.TheVariants.{NotYet, Taken, Acknowledged, Down}
 use Rattle.machine_calls.specs.declared.machine.StepError.{StepError}
 use Rattle.machine_calls.specs.declared.machine.StepError.TheVariants.{Memory, Worn as WornError}
-use Rattle.due_messages.specs.Sent.{first_of}
+use Rattle.due_step.specs.Sent.{first_of}
 use Rattle.machine_calls.specs.Events.{message_fits, sends_fit}
 use Rattle.machine_calls.specs.Steps.{Tells}
 

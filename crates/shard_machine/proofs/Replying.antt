@@ -24,7 +24,7 @@ use Rattle.clv_base.specs.Coordinator.{takes_vote, takes_done}
 use Rattle.clv_base.specs.OneShard.{OpReply, OpWaits, OpCrowded, OpDies, OpAnswers}
 use Rattle.clv_base.specs.Events.{Reply, QuietBeforeWorn, Does, finish, op_event, request_by_stage, request_event, look_lost, look_state, on_prepare, owe_vote, on_vote, with_votes, on_decide, on_done, with_done, on_message, to_of, deliver_event}
 use Rattle.machine_laws.specs.Frame.{look_unknown, look_by}
-use Rattle.shard_events.specs.Happening.{IsQuiet, comes_early}
+use Rattle.shard_machine.specs.Happening.{IsQuiet, comes_early}
 use Rattle.shard_machine.specs.Answers.{goes_on}
 
 -- ---- operations and requests

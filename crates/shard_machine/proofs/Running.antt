@@ -8,10 +8,10 @@ use Rattle.clv_base.specs.declared.events.Outcome.TheVariants.{Sent, Nothing}
 use Rattle.clv_base.specs.declared.events.Entry.{Entry}
 use Rattle.clv_base.specs.State.{Shard}
 use Rattle.clv_base.specs.Events.{QuietBeforeWorn, Does, finish, send_event, with_outbox, happen_up, happen}
-use Rattle.due_messages.specs.Sent.{first_of}
+use Rattle.due_step.specs.Sent.{first_of}
 use Rattle.shard_core.specs.Core.{Core}
 use Rattle.shard_core.specs.Whole.{IsAtRest}
-use Rattle.shard_journal.specs.Journaled.{Journaled}
+use Rattle.shard_machine.specs.Journaled.{Journaled}
 use Rattle.machine_calls.specs.Events.{event_fits}
 use Rattle.machine_laws.specs.Frame.{stamped_as, reply_as, is_plain, is_grounded}
 use Rattle.machine_laws.specs.Undropped.{undropped, new_parts}

@@ -9,7 +9,7 @@ use Rattle.gate_recovery.specs.declared.recovering.Recovered.{Recovered}
 use Rattle.machine_calls.specs.Restored.{IsRestored}
 use Rattle.shard_core.specs.Core.{Core}
 use Rattle.shard_core.specs.Whole.{IsAtRest}
-use Rattle.shard_journal.specs.Journaled.{Journaled}
+use Rattle.shard_machine.specs.Journaled.{Journaled}
 use Rattle.machine_laws.specs.Undropped.{undropped}
 use Rattle.machine_laws.specs.Fitting.{IsNamed}
 use Rattle.machine_laws.proofs.Laws.{restarts_have_doubtful, restarts_are_named}

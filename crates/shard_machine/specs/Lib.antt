@@ -1,3 +1,5 @@
 pub mod Machined
 pub mod Stamps
 pub mod Answers
+pub mod Happening
+pub mod Journaled

@@ -15,7 +15,7 @@ use lock_table::Locks;
 use log_gate::Gate;
 use machine_calls::StepError;
 use ordered_store::Store;
-use shard_events::{Happened, is_stale};
+use crate::{Happened, is_stale};
 use std::alloc::Global;
 
 impl<S: Store + Drop, L: Locks + Drop, G: Gate> ShardMachine<S, L, G> {

@@ -7,7 +7,7 @@ use crate::machine::ShardMachine;
 use disk_model::Disk;
 use lock_table::Locks;
 use log_gate::LogGate;
-use machines_opening::OverDisks;
+use machine_calls::OverDisks;
 use ordered_store::Store;
 
 impl<S: Store + Drop, L: Locks + Drop, D: Disk> OverDisks<D> for ShardMachine<S, L, LogGate<D>> {

@@ -13,7 +13,7 @@ ghost use Rattle.shard_core.specs.Whole.{IsAtRest};
 
 use crate::machine::ShardMachine;
 use crate::stamps::{enter, place};
-use batch_bytes::batch_bytes;
+use log_flush::batch_bytes;
 use clv_base::events::{Event, Outcome};
 use lock_table::Locks;
 use log_gate::Gate;

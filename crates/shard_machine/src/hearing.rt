@@ -3,7 +3,7 @@ ghost use Rattle.std.specs.Prelude.{◌≡◌, IfOk, OnErr};
 ghost use Rattle.clv_base.specs.Undo.{stage_of};
 ghost use Rattle.clv_base.specs.Events.{on_prepare, on_message};
 ghost use Rattle.shard_core.specs.Whole.{IsAtRest};
-ghost use Rattle.shard_events.specs.Happening.{Happens};
+ghost use Rattle.shard_machine.specs.Happening.{Happens};
 
 use clv_base::events::Outcome;
 use clv_base::messages::Message;
@@ -11,7 +11,7 @@ use clv_base::names::TxId;
 use lock_table::Locks;
 use ordered_store::Store;
 use shard_core::ShardCore;
-use shard_events::{Happened, answer_question, take_decision, take_done, take_vote};
+use crate::{Happened, answer_question, take_decision, take_done, take_vote};
 use std::alloc::Global;
 use txn_core::Memory;
 

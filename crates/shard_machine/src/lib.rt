@@ -27,3 +27,17 @@ mod stepping;
 mod stopping;
 
 pub use machine::ShardMachine;
+
+mod answers;
+mod happening;
+mod shard_events_looking;
+mod operations;
+mod staleness;
+pub use answers::{answer_question, take_decision, take_done, take_vote};
+pub use happening::Happened;
+pub use shard_events_looking::look;
+pub use operations::operate;
+pub use staleness::is_stale;
+
+mod journal;
+pub use journal::Journal;

@@ -13,7 +13,7 @@ use lock_table::Locks;
 use log_gate::Gate;
 use machine_calls::StepError;
 use ordered_store::Store;
-use shard_events::{Happened, look};
+use crate::{Happened, look};
 
 impl<S: Store + Drop, L: Locks + Drop, G: Gate> ShardMachine<S, L, G> {
     /// A look. It leaves the core as it is.

@@ -9,7 +9,7 @@ use log_gate::Gate;
 use machine_calls::Parts;
 use ordered_store::Store;
 use shard_core::ShardCore;
-use shard_journal::Journal;
+use crate::Journal;
 use std::marker::Model;
 
 /// The machine of a shard. It has its gate unless that is away: for a flush, or because it was taken from a shard that is down.

@@ -11,7 +11,7 @@ use log_gate::Gate;
 use machine_calls::Maker;
 use ordered_store::Store;
 use shard_core::ShardCore;
-use shard_journal::Journal;
+use crate::Journal;
 use std::alloc::Global;
 
 impl<S: Store + Drop, L: Locks + Drop, G: Gate> ShardMachine<S, L, G> {

@@ -19,7 +19,7 @@ use log_gate::Gate;
 use machine_calls::StepError;
 use ordered_store::Store;
 use shard_core::ShardCore;
-use shard_events::{Happened, operate};
+use crate::{Happened, operate};
 use std::alloc::Global;
 
 /// How many parts an operation of the transaction would make.

@@ -5,7 +5,7 @@ use clv_base::logs::LogRecord;
 use disk_model::Disk;
 use lock_table::Locks;
 use log_gate::{Header, LogGate, OpenLogError};
-use log_reopening::{disk_of, open_gate};
+use log_gate::{disk_of, open_gate};
 use machine_calls::Reopener;
 use ordered_store::Store;
 use std::alloc::Global;

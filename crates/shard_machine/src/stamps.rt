@@ -6,7 +6,7 @@ ghost use Rattle.shard_machine.specs.Stamps.{newest, stamp_by};
 
 use clv_base::events::{Entry, Event, Outcome};
 use machine_calls::StepError;
-use shard_journal::Journal;
+use crate::Journal;
 
 /// Stamps end below this.
 pub(crate) const STAMPS: u64 = 1 << 48;

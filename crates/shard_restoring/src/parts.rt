@@ -6,7 +6,7 @@ ghost use Rattle.clv_base.specs.Restarts.{old_birth as birth_of_old, restored_pa
 
 use clv_base::names::{Birth, TxId};
 use clv_base::state::{Held, Stage};
-use part_table::PartTable;
+use tx_index::PartTable;
 use std::alloc::{AllocError, Global};
 
 /// The age of a restored part.

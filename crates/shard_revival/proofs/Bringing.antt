@@ -22,8 +22,8 @@ use Rattle.turn_laws.specs.Notes.{notes_of, IsLeft}
 use Rattle.turn_laws.specs.Homes.{holder_of}
 use Rattle.turn_laws.specs.Gates.{GateStands, is_gate_away}
 use Rattle.turn_laws.specs.Sound.{IsSound}
-use Rattle.cluster_restart.specs.Restarts.{Recovers}
-use Rattle.cluster_restart.proofs.Laws.{restarted_is, sound_restarted}
+use Rattle.cluster_ends.specs.Restarts.{Recovers}
+use Rattle.cluster_ends.proofs.Laws.{restarted_is, sound_restarted}
 use Rattle.shard_revival.specs.Revived.{Revives, Rests, StepTold, RefusedBy, clock_at}
 
 -- ---- what a restart answers

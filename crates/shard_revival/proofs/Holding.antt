@@ -22,9 +22,9 @@ use Rattle.turn_laws.proofs.Laws.{held_rests, above}
 use Rattle.cluster_turns.specs.Turns.{Turned}
 use Rattle.cluster_turns.specs.Walkers.{Walked}
 use Rattle.cluster_turns.proofs.Laws.{Adds, none, made_adds, some_inj}
-use Rattle.cluster_restart.specs.Held.{Holds}
-use Rattle.disk_recovering.specs.declared.error.RestartError.{RestartError}
-use Rattle.disk_recovering.specs.declared.error.RestartError.TheVariants.{Failed, NotLog, Worn, Memory}
+use Rattle.cluster_ends.specs.Held.{Holds}
+use Rattle.shard_revival.specs.declared.error.RestartError.{RestartError}
+use Rattle.shard_revival.specs.declared.error.RestartError.TheVariants.{Failed, NotLog, Worn, Memory}
 use Rattle.shard_revival.specs.Revived.{ReviveTold, clock_at}
 
 module _ {T : Type 0} where

@@ -1,3 +1,10 @@
 pub mod Bringing
 pub mod Holding
 pub mod Readying
+pub mod Leaving
+pub mod Refusing
+pub mod Adding
+pub mod Landing
+pub mod Informing
+pub mod Ending
+pub mod Laws

@@ -13,13 +13,13 @@ use Rattle.turn_laws.specs.declared.notes.Origin.{Origin}
 use Rattle.turn_laws.proofs.Laws.{legal_run}
 use Rattle.cluster_turns.specs.Walkers.{ArePassesOf}
 use Rattle.cluster_turns.proofs.Laws.{some_inj}
-use Rattle.cluster_restart.specs.declared.fetching.Fetched.{Fetched}
-use Rattle.cluster_restart.specs.Held.{Holds, HoldsAt, IsDiskOf}
-use Rattle.cluster_restart.specs.Restarts.{Recovers}
-use Rattle.disk_recovering.specs.declared.error.RestartError.{RestartError}
-use Rattle.disk_recovering.specs.declared.error.RestartError.TheVariants.{Failed, NotLog, Worn, Memory}
-use Rattle.disk_recovering.specs.Judging.{CountsRestart}
-use Rattle.disk_recovering.specs.Readied.{IsReady, HasGate}
+use Rattle.cluster_ends.specs.declared.fetching.Fetched.{Fetched}
+use Rattle.cluster_ends.specs.Held.{Holds, HoldsAt, IsDiskOf}
+use Rattle.cluster_ends.specs.Restarts.{Recovers}
+use Rattle.shard_revival.specs.declared.error.RestartError.{RestartError}
+use Rattle.shard_revival.specs.declared.error.RestartError.TheVariants.{Failed, NotLog, Worn, Memory}
+use Rattle.shard_revival.specs.Judging.{CountsRestart}
+use Rattle.shard_revival.specs.Readied.{IsReady, HasGate}
 use Rattle.shard_revival.specs.Revived.{IsReadyFor, IsSameSeen}
 use Rattle.shard_revival.proofs.Holding.{holds_same}
 

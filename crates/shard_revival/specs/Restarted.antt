@@ -7,10 +7,10 @@ use Rattle.turn_lock.specs.declared.pass.Pass.{Pass}
 use Rattle.turn_laws.specs.declared.notes.Note.{Note}
 use Rattle.turn_laws.specs.declared.notes.Origin.{Origin}
 use Rattle.cluster_turns.specs.Walkers.{Walked}
-use Rattle.cluster_restart.specs.declared.fetching.Fetched.{Fetched}
-use Rattle.disk_recovering.specs.declared.error.RestartError.{RestartError}
-use Rattle.disk_recovering.specs.Judging.{RefusesDisk}
-use Rattle.disk_recovering.specs.Left.{WasRead}
+use Rattle.cluster_ends.specs.declared.fetching.Fetched.{Fetched}
+use Rattle.shard_revival.specs.declared.error.RestartError.{RestartError}
+use Rattle.shard_revival.specs.Judging.{RefusesDisk}
+use Rattle.shard_revival.specs.Left.{WasRead}
 use Rattle.shard_revival.specs.Revived.{ReviveTold}
 
 -- the disk was refused with no turn, or there was one turn: with the log that was read, which is in order and doesn't bar a restart

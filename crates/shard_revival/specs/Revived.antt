@@ -19,9 +19,9 @@ use Rattle.turn_laws.specs.declared.notes.Note.{Note}
 use Rattle.turn_laws.specs.declared.notes.Note.TheVariants.{Made}
 use Rattle.turn_laws.specs.declared.notes.Origin.{Origin}
 use Rattle.disks_opening.specs.declared.error.At.TheVariants.{Byte, Record}
-use Rattle.disk_recovering.specs.declared.error.RestartError.{RestartError}
-use Rattle.disk_recovering.specs.declared.error.RestartError.TheVariants.{Failed, NotLog, Worn, Memory}
-use Rattle.disk_recovering.specs.Readied.{IsReady}
+use Rattle.shard_revival.specs.declared.error.RestartError.{RestartError}
+use Rattle.shard_revival.specs.declared.error.RestartError.TheVariants.{Failed, NotLog, Worn, Memory}
+use Rattle.shard_revival.specs.Readied.{IsReady}
 
 -- the shard in this state may be restarted with these records and lists, from the log found
 pub record IsReadyFor (s : Shard) (epoch : ℕ) (found : List LogRecord) (records : Records) (r : Recovered) : Type 0 where

@@ -9,3 +9,12 @@ mod reviving;
 mod turns;
 
 pub use restarting::restart;
+
+mod error;
+mod judging;
+pub mod promises;
+mod recovering;
+pub use error::RestartError;
+pub use recovering::{Ready, recover_disk};
+
+pub mod revival_promises;

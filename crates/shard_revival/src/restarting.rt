@@ -1,18 +1,18 @@
 // A walker restarts a shard.
 ghost use Rattle.std.specs.Prelude.{◌≡◌, ◌<◌, ◌≤◌, length, IfErr, OnErr};
 ghost use Rattle.cluster_turns.specs.Walkers.{IsWalker, IsSameWalker, Walked};
-ghost use Rattle.disk_recovering.specs.Left.{IsLeftBy};
-ghost use Rattle.disk_recovering.specs.Judging.{CountsRestart};
-ghost use Rattle.cluster_restart.specs.Held.{HoldsAt, IsDiskOf};
-ghost use Rattle.cluster_restart.specs.Restarts.{Recovers};
+ghost use Rattle.shard_revival.specs.Left.{IsLeftBy};
+ghost use Rattle.shard_revival.specs.Judging.{CountsRestart};
+ghost use Rattle.cluster_ends.specs.Held.{HoldsAt, IsDiskOf};
+ghost use Rattle.cluster_ends.specs.Restarts.{Recovers};
 ghost use Rattle.shard_revival.specs.Revived.{IsReadyFor, ReviveTold, IsSameSeen};
 ghost use Rattle.shard_revival.specs.Restarted.{RestartTold};
 
 use crate::turns::take_up;
-use cluster_restart::Fetched;
+use cluster_ends::Fetched;
 use cluster_turns::{Shards, Walker};
 use disk_model::Disk;
-use disk_recovering::{Ready, RestartError, recover_disk};
+use crate::{Ready, RestartError, recover_disk};
 use log_gate::Gate;
 use machine_calls::{Machine, Reopener};
 use ordered_store::Store;

@@ -5,12 +5,12 @@ ghost use Rattle.turn_laws.specs.declared.notes.Note.{Note as NoteIs};
 ghost use Rattle.turn_laws.specs.Notes.{notes_of};
 ghost use Rattle.turn_laws.specs.Homes.{holder_of};
 ghost use Rattle.turn_laws.specs.Sound.{IsSound};
-ghost use Rattle.cluster_restart.specs.Restarts.{Recovers};
+ghost use Rattle.cluster_ends.specs.Restarts.{Recovers};
 ghost use Rattle.shard_revival.specs.Revived.{IsReadyFor, ReviveTold, StepTold};
 
 use cluster_turns::Home;
 use clv_base::events::Outcome;
-use disk_recovering::{Ready, RestartError};
+use crate::{Ready, RestartError};
 use disks_opening::At;
 use log_gate::Gate;
 use machine_calls::{Machine, Reopener, StepError};

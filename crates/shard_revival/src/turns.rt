@@ -2,13 +2,13 @@
 ghost use Rattle.std.specs.Prelude.{◌≡◌, IfErr, OnErr};
 ghost use Rattle.turn_lock.specs.Passes.{number, seen, pass_origin, IsPassOf};
 ghost use Rattle.cluster_turns.specs.Turns.{Turned};
-ghost use Rattle.cluster_restart.specs.Held.{Holds};
-ghost use Rattle.cluster_restart.specs.Restarts.{Recovers};
+ghost use Rattle.cluster_ends.specs.Held.{Holds};
+ghost use Rattle.cluster_ends.specs.Restarts.{Recovers};
 ghost use Rattle.shard_revival.specs.Revived.{IsReadyFor, ReviveTold};
 
 use crate::reviving::bring_up;
 use cluster_turns::Home;
-use disk_recovering::{Ready, RestartError};
+use crate::{Ready, RestartError};
 use log_gate::Gate;
 use machine_calls::{Machine, Reopener};
 use ordered_store::Store;

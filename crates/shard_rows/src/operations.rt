@@ -12,7 +12,7 @@ use clv_base::state::Stage;
 use lock_table::{ListLocks, Locks};
 use log_buffer::LogBuffer;
 use ordered_store::{SortedStore, Store};
-use part_table::PartTable;
+use tx_index::PartTable;
 use std::alloc::{AllocError, Global};
 use std::test::Fail;
 use txn_core::{Reply, ShardTx};

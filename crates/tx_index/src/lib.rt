@@ -9,3 +9,8 @@ mod index;
 mod tests;
 
 pub use index::TxIndex;
+
+mod table;
+#[cfg(test)]
+mod part_table_tests;
+pub use table::PartTable;

@@ -13,7 +13,7 @@ use Rattle.clv_base.specs.Logs.{wrote_in, is_update_of}
 use Rattle.clv_base.specs.Orders.{tx_cmp, tx_same, tx_in, tx_get}
 use Rattle.clv_base.specs.State.{Local, is_present}
 use Rattle.clv_base.proofs.SameNames.{tx_true}
-use Rattle.part_table.specs.Parts.{is_here as here_by, parts_here}
+use Rattle.tx_index.specs.Parts.{is_here as here_by, parts_here}
 use Rattle.tx_index.specs.Index.{passes}
 use Rattle.tx_index.proofs.Laws.{index_has}
 use Rattle.txn_core.specs.Sound.{is_here, is_update_by, updates_by, writers, writers_by, owed_by, IsSound}

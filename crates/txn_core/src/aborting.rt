@@ -17,7 +17,7 @@ use clv_base::state::{Held, Stage};
 use lock_release::release_all;
 use lock_table::Locks;
 use ordered_store::Store;
-use part_table::PartTable;
+use tx_index::PartTable;
 use violation_deps::Deps;
 
 /// Whether the transaction's part is active or closed.

@@ -9,7 +9,7 @@ use clv_base::state::Held;
 use lock_table::Locks;
 use log_buffer::LogBuffer;
 use ordered_store::Store;
-use part_table::PartTable;
+use tx_index::PartTable;
 use violation_deps::Deps;
 
 /// What the transactions of a shard work on.

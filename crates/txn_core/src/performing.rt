@@ -18,7 +18,7 @@ use log_buffer::LogBuffer;
 use op_effects::{add_predecessors, enter_part, reserve_locks, take_locks, write_down};
 use op_needs::{Plan, Write};
 use ordered_store::Store;
-use part_table::PartTable;
+use tx_index::PartTable;
 use std::alloc::Global;
 use violation_deps::Deps;
 

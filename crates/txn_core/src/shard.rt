@@ -8,7 +8,7 @@ use clv_base::state::{Held, Stage};
 use lock_table::Locks;
 use log_buffer::LogBuffer;
 use ordered_store::Store;
-use part_table::PartTable;
+use tx_index::PartTable;
 use std::marker::Model;
 use violation_deps::Deps;
 

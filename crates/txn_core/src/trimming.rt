@@ -11,7 +11,7 @@ use clv_base::names::TxId;
 use lock_table::{Locks, Memory};
 use log_buffer::LogBuffer;
 use ordered_store::Store;
-use part_table::PartTable;
+use tx_index::PartTable;
 use std::alloc::Global;
 
 /// How many records the undo of these transactions, each of which is named once, may write: a CLR for each of their UPDATEs, and an ABORT for

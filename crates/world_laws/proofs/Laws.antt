@@ -9,3 +9,4 @@ pub use Rattle.journal_laws.proofs.Steadily.{empty_run, new_steady}
 pub use Rattle.world_laws.proofs.Beginning.{Stands, stands, lands_by}
 pub use Rattle.world_laws.proofs.Keeping.{same_outcome, same_after, Keeps, Stepped, step_keeps, take_grown, left_same}
 pub use Rattle.world_laws.proofs.Worlds.{worlds_are_steady}
+pub use Rattle.world_laws.proofs.PromiseWorlds.{logs_stay_in_order, worlds_keep_promise}

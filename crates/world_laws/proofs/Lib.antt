@@ -3,4 +3,5 @@ mod Steps
 mod Beginning
 mod Worlds
 mod Keeping
+mod PromiseWorlds
 pub mod Laws

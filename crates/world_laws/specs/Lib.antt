@@ -1,4 +1,5 @@
 pub mod Moves
 pub mod Fronts
 pub mod Running
+pub mod PromiseLaws
 pub mod Laws

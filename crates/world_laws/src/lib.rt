@@ -3,3 +3,5 @@
 #![tactic(auto)]
 
 pub mod promises;
+
+pub mod promise_promises;

@@ -9,7 +9,7 @@ use clv_base::names::TxId;
 use clv_base::ops::Op;
 use std::alloc::Global;
 use std::test::Fail;
-use world_runs::Runner;
+use world_steps::Runner;
 
 const RESTARTED: NoWhy = NoWhy::Restarted { seen: 0, now: 1 };
 

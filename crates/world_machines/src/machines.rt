@@ -2,14 +2,14 @@
 
 use clv_base::events::CoreStep;
 use clv_base::splits::Splits;
-use list_gate::ListGate;
+use interleaving_core::ListGate;
 use lock_index::HashedLocks;
 use lock_table::ListLocks;
 use ordered_store::SortedStore;
 use shard_machine::ShardMachine;
 use std::alloc::{AllocError, Global};
 use store_blocks::BlockStore;
-use world_runs::{Left, Runner, run};
+use world_steps::{Left, Runner, run};
 
 /// Machines over sorted lists of records, and lists of locks.
 #[derive(Clone, Copy, Debug)]

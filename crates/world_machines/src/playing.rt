@@ -8,7 +8,7 @@ use clv_base::names::TxId;
 use clv_base::ops::Op;
 use clv_base::splits::Splits;
 use std::alloc::{AllocError, Global};
-use world_runs::{Left, Runner};
+use world_steps::{Left, Runner};
 
 /// A list of steps so far, and what it leaves.
 #[derive(Drop)]

@@ -7,7 +7,7 @@ use clv_base::ops::Answer;
 use history_replay::{replay, stands};
 use key_map::KeyMap;
 use std::alloc::{AllocError, Global};
-use world_runs::Left;
+use crate::Left;
 
 /// What isn't as in the serial run.
 #[derive(Clone, Copy, Debug)]

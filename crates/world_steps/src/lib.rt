@@ -19,3 +19,8 @@ mod trial;
 pub use comparing::{Difference, is_same_answer};
 pub use tally::Tally;
 pub use trial::{Trial, try_seed};
+
+mod runners;
+mod running;
+pub use runners::{Left, Runner};
+pub use running::run;

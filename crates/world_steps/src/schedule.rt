@@ -8,7 +8,7 @@ use crate::sights::{shard_sight, sight_of};
 use clv_base::events::{CoreStep, Entry, Event};
 use clv_base::splits::Splits;
 use std::alloc::{AllocError, Global};
-use world_runs::Runner;
+use crate::Runner;
 
 // One step of each session.
 fn add_sessions(

@@ -5,7 +5,7 @@ use clv_base::logs::LogRecord;
 use clv_base::names::TxId;
 use clv_base::ops::{Answer, Op};
 use std::alloc::{AllocError, Global};
-use world_runs::Left;
+use crate::Left;
 
 /// The committed transactions in the order of their requests, each with its operations and what these were answered.
 #[derive(Drop)]

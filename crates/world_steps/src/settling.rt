@@ -7,7 +7,7 @@ use crate::sights::shard_sight;
 use clv_base::events::{CoreStep, Entry, Event};
 use clv_base::splits::Splits;
 use std::alloc::{AllocError, Global};
-use world_runs::{Left, Runner};
+use crate::{Left, Runner};
 
 // So many rounds at most are made until all is settled.
 const ROUNDS: u32 = 40;

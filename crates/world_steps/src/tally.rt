@@ -6,7 +6,7 @@ use clv_base::logs::LogRecord;
 use clv_base::messages::Message;
 use clv_base::names::TxId;
 use clv_base::ops::{Answer, Op};
-use world_runs::Left;
+use crate::Left;
 
 /// How much of each was met.
 #[derive(Clone, Copy)]

@@ -8,7 +8,7 @@ use crate::tally::Tally;
 use clv_base::events::CoreStep;
 use clv_base::splits::Splits;
 use std::alloc::{AllocError, Global};
-use world_runs::Runner;
+use crate::Runner;
 
 // So many rounds make a schedule.
 const ROUNDS: u32 = 32;

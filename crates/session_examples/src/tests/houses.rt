@@ -4,7 +4,7 @@ ghost use Rattle.std.specs.Prelude.{◌≡◌, ◌<◌, ℕ, false, IfOk};
 use clv_base::splits::Splits;
 use disk_memory::{MemoryDisk, MemoryHouse};
 use disk_model::House;
-use disks_making::make_all;
+use disks_opening::make_all;
 use std::alloc::{AllocError, Global};
 use std::test::Fail;
 

@@ -9,9 +9,9 @@ use Rattle.turn_laws.specs.Homes.{never_stops, holder_of, IsLegal}
 use Rattle.cluster_turns.specs.Walkers.{founds_of}
 use Rattle.cluster_ends.specs.Ending.{ClosedAt}
 use Rattle.cluster_ends.specs.Legal.{state_at, views_of}
-use Rattle.cluster_holding.specs.Held.{never_restarts}
-use Rattle.cluster_holding.specs.Ends.{shard_at, IsNotAmong}
-use Rattle.cluster_holding.proofs.Laws.{disks_are_found, unfetched_never_restart}
+use Rattle.cluster_closing.specs.Held.{never_restarts}
+use Rattle.cluster_closing.specs.Ends.{shard_at, IsNotAmong}
+use Rattle.cluster_closing.proofs.Laws.{disks_are_found, unfetched_never_restart}
 use Rattle.cluster_closing.specs.Closing.{IsBack, IsLowestDown, lists, Returned}
 use Rattle.cluster_closing.proofs.ComingBack.{few_shards, no_gate_away, of_shards, some_elem, lists_are, is_back, gate_is_away}
 use Rattle.cluster_closing.proofs.closing.close.Goals as goal

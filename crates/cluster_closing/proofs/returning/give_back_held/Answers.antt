@@ -2,7 +2,7 @@ use Rattle.std.proofs.Common.{◌≡◌, ◌∙◌, ◌<◌, ◌-◌, ap, sym, s
 use Rattle.std.proofs.lemmas.List.{take-take, get_or_default}
 use mathlib.Core.Logic.{dite}
 use native.Mathlib.Decide.{ℕ_discrete}
-use Rattle.cluster_holding.specs.Ends.{shard_at, IsNotAmong}
+use Rattle.cluster_closing.specs.Ends.{shard_at, IsNotAmong}
 use Rattle.cluster_closing.specs.Closing.{Returned}
 use Rattle.cluster_closing.proofs.ComingBack.{some_same, still_returned}
 use Rattle.cluster_closing.proofs.returning.give_back_held.Goals as goal

@@ -1,5 +1,5 @@
 use Rattle.std.proofs.Common.{◌≡◌, ◌<◌, ◌≤◌, ℕ, true, get_or, take, vec_len}
-use Rattle.cluster_holding.specs.Ends.{shard_at, IsNotAmong}
+use Rattle.cluster_closing.specs.Ends.{shard_at, IsNotAmong}
 use Rattle.cluster_closing.specs.Closing.{Returned}
 use Rattle.cluster_closing.proofs.returning.give_back_held.Given as goal
 

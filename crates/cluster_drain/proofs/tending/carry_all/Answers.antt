@@ -1,5 +1,5 @@
 use Rattle.std.proofs.Common.{◌∙◌, Err, length, subst, refl}
-use Rattle.cluster_carry.specs.Carried.{CarryTold}
+use Rattle.cluster_drain.specs.Carried.{CarryTold}
 use Rattle.cluster_drain.specs.Rounds.{no_turn, carries}
 use Rattle.cluster_drain.proofs.tending.carry_all.Goals as goal
 

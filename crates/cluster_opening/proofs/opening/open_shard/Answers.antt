@@ -1,5 +1,5 @@
 use Rattle.std.proofs.Common.{refl, sym, ap, subst}
-use Rattle.machines_opening.specs.Recovered.{IsMachineAt}
+use Rattle.machine_calls.specs.Recovered.{IsMachineAt}
 use Rattle.cluster_opening.proofs.opening.open_shard.Goals as goal
 
 pub returns-in-Ok-lock_shard-clause-passes : goal.returns-in-Ok-lock_shard-clause-passes

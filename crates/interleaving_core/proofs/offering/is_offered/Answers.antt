@@ -1,6 +1,6 @@
 use Rattle.std.proofs.Common.{◌≡◌, true, sym}
 use Rattle.machine_calls.specs.Events.{event_fits}
-use Rattle.session_tests.specs.Naming.{names_fit}
+use Rattle.interleaving_core.specs.Naming.{names_fit}
 use Rattle.interleaving_core.proofs.Fitting.{step_fits}
 use Rattle.interleaving_core.proofs.Sessioning.{of_answer}
 use Rattle.interleaving_core.proofs.offering.is_offered.Goals as goal

@@ -2,7 +2,7 @@ use Rattle.std.proofs.Common.{Ok, Err, sym, subst}
 use Rattle.std.specs.Prelude.{◌==◌}
 use Rattle.std.specs.Map.{lookup}
 use Rattle.clv_base.specs.declared.events.Event.TheVariants.{Op}
-use Rattle.session_rounds.specs.Rounds.{Rounded}
+use Rattle.session_ops.specs.Rounds.{Rounded}
 use Rattle.session_ops.specs.Operated.{Operated}
 use Rattle.session_ops.proofs.Trying.{waited, waited_ends}
 use Rattle.session_ops.proofs.operating.try_and_pass.Goals as goal

@@ -5,8 +5,8 @@ use Rattle.turn_lock.specs.Passes.{number, seen, pass_origin, IsPassOf}
 use Rattle.cluster_turns.specs.Turns.{Turned}
 use Rattle.cluster_turns.specs.Walkers.{IsWalkerOf, Walked, kept, founds_of}
 use Rattle.cluster_turns.proofs.Laws.{walks, still_pass, the}
-use Rattle.cluster_restart.specs.Held.{Holds}
-use Rattle.cluster_restart.specs.Restarts.{Recovers}
+use Rattle.cluster_ends.specs.Held.{Holds}
+use Rattle.cluster_ends.specs.Restarts.{Recovers}
 use Rattle.shard_revival.specs.Revived.{IsReadyFor, ReviveTold, IsSameSeen}
 use Rattle.shard_revival.proofs.Holding.{revive_adds, revive_rises, on_err}
 use Rattle.shard_revival.proofs.restarting.bring_back.Goals as goal

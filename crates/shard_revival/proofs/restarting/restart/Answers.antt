@@ -1,10 +1,10 @@
 use Rattle.std.proofs.Common.{◌≡◌, ◌∙◌, refl, sym, ap, subst, arith}
 use Rattle.log_gate.specs.View.{Only}
 use Rattle.cluster_turns.specs.Walkers.{founds_of}
-use Rattle.cluster_restart.specs.declared.fetching.Fetched.{Fetched}
-use Rattle.cluster_restart.specs.Held.{IsDiskOf}
-use Rattle.cluster_restart.specs.Restarts.{Recovers}
-use Rattle.disk_recovering.proofs.Laws.{at_end, left_begun}
+use Rattle.cluster_ends.specs.declared.fetching.Fetched.{Fetched}
+use Rattle.cluster_ends.specs.Held.{IsDiskOf}
+use Rattle.cluster_ends.specs.Restarts.{Recovers}
+use Rattle.shard_revival.proofs.Laws.{at_end, left_begun}
 use Rattle.shard_revival.specs.Revived.{IsReadyFor}
 use Rattle.shard_revival.specs.Restarted.{no_turn, one_turn}
 use Rattle.shard_revival.proofs.Holding.{walked_ok, walked_err}

@@ -4,7 +4,7 @@ use Rattle.turn_lock.specs.Journals.{GrownByOthers}
 use Rattle.turn_laws.specs.Notes.{noter, notes_of}
 use Rattle.turn_laws.specs.Homes.{IsLegal}
 use Rattle.turn_laws.proofs.Laws.{added_notes}
-use Rattle.cluster_restart.specs.Restarts.{Recovers}
+use Rattle.cluster_ends.specs.Restarts.{Recovers}
 use Rattle.shard_revival.specs.Revived.{IsReadyFor}
 use Rattle.shard_revival.proofs.Holding.{finds, adds_own, same_seen}
 use Rattle.shard_revival.proofs.turns.take_up.Goals as goal

@@ -1,7 +1,7 @@
 -- The turn over the parts.
 use Rattle.std.proofs.Common.{◌≡◌, sym, ap, subst, ◌∙◌, Some}
 use Rattle.clv_base.specs.Due.{due_of}
-use Rattle.due_loop.specs.Ready.{IsReady, IsDone, least}
+use Rattle.due_step.specs.Ready.{IsReady, IsDone, least}
 use Rattle.shard_core.specs.Core.{Core, seen_as}
 use Rattle.shard_core.proofs.Seeing.{seen_now}
 use Rattle.shard_core.proofs.Turned.{Turned, turned, doomed_room}

@@ -7,11 +7,11 @@ use Rattle.clv_base.specs.Undo.{doomed_here, doomed_by, roll_back}
 use Rattle.clv_base.specs.Events.{finish, decided}
 use Rattle.clv_base.proofs.SameNames.{or_left}
 use Rattle.due_laws.proofs.Laws.{rolled_keeps, decisions_touch}
-use Rattle.due_noting.proofs.Laws.{known_have_room}
+use Rattle.due_step.proofs.Laws.{known_have_room}
 use Rattle.txn_core.specs.State.{TxState}
 use Rattle.shard_core.specs.Core.{Core, seen_as}
 use Rattle.std.specs.Map.{keys_of}
-use Rattle.due_noting.specs.Noting.{known_keys}
+use Rattle.due_step.specs.Noting.{known_keys}
 use Rattle.shard_core.proofs.Logged.{All, logged_undone}
 use Rattle.shard_core.proofs.Changing.{room_kept, rolled_le}
 use Rattle.shard_core.proofs.Parts.{Parts, seen, Changed, changed, rest_of}

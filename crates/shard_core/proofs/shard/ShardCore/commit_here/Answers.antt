@@ -2,8 +2,8 @@
 use Rattle.std.proofs.Common.{◌≡◌, sym, ap, subst, ◌∙◌, true, arith}
 use Rattle.due_candidates.specs.Held.{Candidates}
 use Rattle.clv_base.specs.Orders.{tx_in}
-use Rattle.due_noting.specs.Noting.{known_keys}
-use Rattle.due_noting.proofs.Laws.{known_have_room}
+use Rattle.due_step.specs.Noting.{known_keys}
+use Rattle.due_step.proofs.Laws.{known_have_room}
 use Rattle.shard_core.specs.Core.{Core}
 use Rattle.shard_core.proofs.Committing.{commit_changed, idle_holds}
 use Rattle.shard_core.proofs.Parts.{Parts, seen, rest_of}

@@ -2,7 +2,7 @@
 use Rattle.std.proofs.Common.{◌≡◌, ap, sym, subst, ◌∙◌, ◌+◌, ◌*◌, ◌≤◌, min, arith}
 use Rattle.due_laws.specs.Left.{left}
 use Rattle.due_laws.specs.Open.{open_work}
-use Rattle.due_messages.specs.Sent.{Waiting}
+use Rattle.due_step.specs.Sent.{Waiting}
 use Rattle.shard_core.specs.Core.{Core}
 use Rattle.shard_core.proofs.Parts.{Parts, seen, viewed, rest_of}
 use Rattle.shard_core.proofs.Trimmed.{open_enough, trimmed_holds}

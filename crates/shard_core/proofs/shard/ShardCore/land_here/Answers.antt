@@ -5,8 +5,8 @@ use Rattle.clv_base.specs.Events.{finish, with_durable}
 use Rattle.clv_base.specs.OneShard.{purge}
 use Rattle.due_step.specs.Steps.{ArePrepares}
 use Rattle.due_laws.specs.Candidates.{Cover}
-use Rattle.due_noting.specs.Noting.{known_keys}
-use Rattle.due_noting.proofs.Laws.{landed_covers}
+use Rattle.due_step.specs.Noting.{known_keys}
+use Rattle.due_step.proofs.Laws.{landed_covers}
 use Rattle.txn_core.specs.State.{TxState}
 use Rattle.shard_core.specs.Whole.{HasRoom}
 use Rattle.shard_core.proofs.Logged.{All, logged_above}

@@ -4,7 +4,7 @@ use Rattle.clv_base.specs.Orders.{tx_get}
 use Rattle.clv_base.specs.Undo.{stage_of}
 use Rattle.commit_coordinator.specs.Coordinated.{state_by}
 use Rattle.clv_base.specs.OneShard.{op_reply}
-use Rattle.due_noting.proofs.Laws.{known_have_room}
+use Rattle.due_step.proofs.Laws.{known_have_room}
 use Rattle.shard_core.specs.Core.{Core}
 use Rattle.shard_core.specs.Operating.{Comes}
 use Rattle.shard_core.proofs.Committing.{idle_holds}

@@ -5,7 +5,7 @@ use Rattle.clv_base.specs.State.{Shard}
 use Rattle.clv_base.specs.Events.{finish, taken, with_flight}
 use Rattle.due_laws.proofs.Laws.{nobody_is_touched}
 use Rattle.txn_core.specs.State.{TxState}
-use Rattle.due_noting.specs.Noting.{known_keys}
+use Rattle.due_step.specs.Noting.{known_keys}
 use Rattle.shard_core.specs.Whole.{HasRoom}
 use Rattle.shard_core.proofs.Logged.{All}
 use Rattle.shard_core.proofs.Flying.{batch_flies}

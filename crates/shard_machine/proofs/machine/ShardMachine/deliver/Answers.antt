@@ -5,10 +5,10 @@ use Rattle.clv_base.specs.declared.events.Event.TheVariants.{Deliver}
 use Rattle.clv_base.specs.declared.events.Outcome.TheVariants.{Stale}
 use Rattle.clv_base.specs.State.{Shard}
 use Rattle.clv_base.specs.Events.{Does, deliver_event, on_message}
-use Rattle.shard_journal.specs.Journaled.{Journaled}
-use Rattle.shard_events.specs.declared.happening.Happened.{Happened}
-use Rattle.shard_events.specs.declared.happening.Happened.TheVariants.{Done}
-use Rattle.shard_events.specs.Happening.{Happens}
+use Rattle.shard_machine.specs.Journaled.{Journaled}
+use Rattle.shard_machine.specs.declared.happening.Happened.{Happened}
+use Rattle.shard_machine.specs.declared.happening.Happened.TheVariants.{Done}
+use Rattle.shard_machine.specs.Happening.{Happens}
 use Rattle.machine_calls.specs.Steps.{entry}
 use Rattle.machine_laws.specs.Frame.{stamped_as}
 use Rattle.machine_laws.proofs.Laws.{events_alike}

@@ -4,7 +4,7 @@ use Rattle.clv_base.specs.declared.events.Event.TheVariants.{Drop}
 use Rattle.clv_base.specs.declared.events.Outcome.TheVariants.{Dropped}
 use Rattle.clv_base.specs.State.{Shard}
 use Rattle.clv_base.specs.Events.{happen_up, Does}
-use Rattle.shard_journal.specs.Journaled.{Journaled}
+use Rattle.shard_machine.specs.Journaled.{Journaled}
 use Rattle.machine_calls.specs.Steps.{entry}
 use Rattle.machine_laws.specs.Frame.{stamped_as}
 use Rattle.machine_laws.proofs.Laws.{events_alike}

@@ -2,7 +2,7 @@
 use Rattle.std.proofs.Common.{◌≡◌, refl, ◌∙◌, ap, subst, ◌++◌, ◌∷◌, []}
 use Rattle.clv_base.specs.declared.events.Event.TheVariants.{Look}
 use Rattle.clv_base.specs.State.{Shard}
-use Rattle.shard_journal.specs.Journaled.{Journaled}
+use Rattle.shard_machine.specs.Journaled.{Journaled}
 use Rattle.machine_calls.specs.Steps.{entry}
 use Rattle.machine_laws.specs.Frame.{stamped_as, look_by}
 use Rattle.shard_machine.specs.Machined.{Machined}

@@ -1,6 +1,6 @@
 -- The parts are those that a restart leaves.
 use Rattle.std.proofs.Common.{ap, ◌∙◌, ◌+◌, ◌≤◌, arith, refl}
-use Rattle.shard_journal.specs.Journaled.{Journaled}
+use Rattle.shard_machine.specs.Journaled.{Journaled}
 use Rattle.shard_machine.proofs.Starting.{begun}
 use Rattle.shard_machine.proofs.machine.ShardMachine.new.Goals as goal
 

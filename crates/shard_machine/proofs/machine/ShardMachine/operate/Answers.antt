@@ -4,10 +4,10 @@ use Rattle.clv_base.specs.declared.events.Event.{Event}
 use Rattle.clv_base.specs.declared.events.Event.TheVariants.{Op as OpEvent}
 use Rattle.clv_base.specs.State.{Shard}
 use Rattle.clv_base.specs.Events.{happen_up}
-use Rattle.shard_journal.specs.Journaled.{Journaled}
-use Rattle.shard_events.specs.declared.happening.Happened.{Happened}
-use Rattle.shard_events.specs.declared.happening.Happened.TheVariants.{Done, Quiet}
-use Rattle.shard_events.specs.Happening.{Happens}
+use Rattle.shard_machine.specs.Journaled.{Journaled}
+use Rattle.shard_machine.specs.declared.happening.Happened.{Happened}
+use Rattle.shard_machine.specs.declared.happening.Happened.TheVariants.{Done, Quiet}
+use Rattle.shard_machine.specs.Happening.{Happens}
 use Rattle.machine_calls.specs.Steps.{entry}
 use Rattle.machine_laws.specs.Frame.{stamped_as}
 use Rattle.machine_laws.specs.Undropped.{new_parts}

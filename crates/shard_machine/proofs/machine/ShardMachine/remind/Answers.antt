@@ -5,8 +5,8 @@ use Rattle.clv_base.specs.declared.events.Outcome.TheVariants.{Reminded, Nothing
 use Rattle.clv_base.specs.State.{Shard}
 use Rattle.clv_base.specs.Due.{send}
 use Rattle.clv_base.specs.Events.{happen_up, Does, finish, reminders}
-use Rattle.due_messages.specs.Sent.{first_of}
-use Rattle.shard_journal.specs.Journaled.{Journaled}
+use Rattle.due_step.specs.Sent.{first_of}
+use Rattle.shard_machine.specs.Journaled.{Journaled}
 use Rattle.machine_calls.specs.Steps.{entry}
 use Rattle.machine_laws.specs.Frame.{stamped_as}
 use Rattle.machine_laws.proofs.Laws.{events_alike}

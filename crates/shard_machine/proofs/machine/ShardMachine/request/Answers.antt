@@ -5,7 +5,7 @@ use Rattle.clv_base.specs.declared.events.Event.{Event}
 use Rattle.clv_base.specs.declared.events.Event.TheVariants.{Request}
 use Rattle.clv_base.specs.State.{Shard}
 use Rattle.clv_base.specs.Events.{Does, happen_up}
-use Rattle.shard_journal.specs.Journaled.{Journaled}
+use Rattle.shard_machine.specs.Journaled.{Journaled}
 use Rattle.shard_core.specs.Requesting.{requested}
 use Rattle.machine_calls.specs.Events.{touched_fit}
 use Rattle.machine_calls.specs.Steps.{entry}

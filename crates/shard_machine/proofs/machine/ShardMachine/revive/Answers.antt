@@ -4,7 +4,7 @@ use Rattle.std.proofs.lemmas.Bool.{ltb-true}
 use Rattle.clv_base.specs.declared.events.Event.TheVariants.{Restart}
 use Rattle.clv_base.specs.declared.events.Outcome.TheVariants.{Up}
 use Rattle.clv_base.specs.Restarts.{state_after}
-use Rattle.shard_journal.specs.Journaled.{Journaled}
+use Rattle.shard_machine.specs.Journaled.{Journaled}
 use Rattle.machine_calls.specs.Steps.{entry}
 use Rattle.shard_machine.specs.Machined.{Machined, IsRunning}
 use Rattle.shard_machine.specs.Stamps.{newest, stamp_by}

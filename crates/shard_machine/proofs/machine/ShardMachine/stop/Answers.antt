@@ -5,7 +5,7 @@ use Rattle.clv_base.specs.declared.events.Event.TheVariants.{Stop}
 use Rattle.clv_base.specs.declared.events.Outcome.TheVariants.{Stopped}
 use Rattle.clv_base.specs.State.{Shard}
 use Rattle.clv_base.specs.Events.{put_down, step}
-use Rattle.shard_journal.specs.Journaled.{Journaled}
+use Rattle.shard_machine.specs.Journaled.{Journaled}
 use Rattle.machine_calls.specs.Steps.{entry, Tells}
 use Rattle.machine_laws.specs.Frame.{stamped_as}
 use Rattle.shard_machine.specs.Machined.{Machined}

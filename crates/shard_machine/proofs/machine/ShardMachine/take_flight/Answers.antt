@@ -6,7 +6,7 @@ use Rattle.clv_base.specs.declared.events.Outcome.TheVariants.{Out}
 use Rattle.clv_base.specs.State.{Shard}
 use Rattle.clv_base.specs.Events.{Does, happen_up, with_flight}
 use Rattle.log_gate.specs.Image.{SpellAll}
-use Rattle.shard_journal.specs.Journaled.{Journaled}
+use Rattle.shard_machine.specs.Journaled.{Journaled}
 use Rattle.machine_calls.specs.Flights.{flying}
 use Rattle.machine_calls.specs.Steps.{entry}
 use Rattle.machine_laws.specs.Frame.{stamped_as}

@@ -1,3 +1,0 @@
-mod Sizes
-mod Fitting
-pub mod Laws

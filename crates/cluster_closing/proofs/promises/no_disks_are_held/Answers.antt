@@ -1,0 +1,5 @@
+use Rattle.cluster_closing.proofs.Homing.{no_disks_are_held}
+use Rattle.cluster_closing.proofs.promises.no_disks_are_held.Goals as goal
+
+pub returns : goal.returns
+returns g c = no_disks_are_held _ _ _ g.D.Disk.story g.D.Disk.faults

@@ -1,5 +1,0 @@
-pub mod Holding
-pub mod Staying
-pub mod Homing
-pub mod Restarting
-pub mod Laws

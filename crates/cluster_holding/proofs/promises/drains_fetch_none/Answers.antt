@@ -1,5 +1,0 @@
-use Rattle.cluster_holding.proofs.Holding.{drains_fetch_none}
-use Rattle.cluster_holding.proofs.promises.drains_fetch_none.Goals as goal
-
-pub returns : goal.returns
-returns g c = drains_fetch_none

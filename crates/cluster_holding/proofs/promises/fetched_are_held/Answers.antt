@@ -1,5 +1,0 @@
-use Rattle.cluster_holding.proofs.Homing.{fetched_are_held}
-use Rattle.cluster_holding.proofs.promises.fetched_are_held.Goals as goal
-
-pub returns : goal.returns
-returns g c = fetched_are_held _ g.D.Disk.story g.D.Disk.faults

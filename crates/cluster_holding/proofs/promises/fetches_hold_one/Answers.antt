@@ -1,5 +1,0 @@
-use Rattle.cluster_holding.proofs.Holding.{fetches_hold_one}
-use Rattle.cluster_holding.proofs.promises.fetches_hold_one.Goals as goal
-
-pub returns : goal.returns
-returns g c = fetches_hold_one

@@ -1,5 +1,0 @@
-use Rattle.cluster_holding.proofs.Staying.{held_disks_stay}
-use Rattle.cluster_holding.proofs.promises.held_disks_stay.Goals as goal
-
-pub returns : goal.returns
-returns g c = held_disks_stay

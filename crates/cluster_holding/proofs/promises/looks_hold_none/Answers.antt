@@ -1,5 +1,0 @@
-use Rattle.cluster_holding.proofs.Holding.{looks_hold_none}
-use Rattle.cluster_holding.proofs.promises.looks_hold_none.Goals as goal
-
-pub returns : goal.returns
-returns g c = looks_hold_none

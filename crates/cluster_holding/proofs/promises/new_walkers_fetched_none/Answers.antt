@@ -1,5 +1,0 @@
-use Rattle.cluster_holding.proofs.Holding.{new_walkers_fetched_none}
-use Rattle.cluster_holding.proofs.promises.new_walkers_fetched_none.Goals as goal
-
-pub returns : goal.returns
-returns g c = new_walkers_fetched_none

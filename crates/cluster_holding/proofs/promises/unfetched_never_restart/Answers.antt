@@ -1,5 +1,0 @@
-use Rattle.cluster_holding.proofs.Restarting.{unfetched_never_restart}
-use Rattle.cluster_holding.proofs.promises.unfetched_never_restart.Goals as goal
-
-pub returns : goal.returns
-returns g c = unfetched_never_restart _ _ _

@@ -1,5 +1,0 @@
-use Rattle.cluster_promises.proofs.Holding.{closed_disks_hold}
-use Rattle.cluster_promises.proofs.promises.closed_disks_hold.Goals as goal
-
-pub returns : goal.returns
-returns c = closed_disks_hold

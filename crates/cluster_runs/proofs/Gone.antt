@@ -1,0 +1,75 @@
+-- How the sessions of a script went, all together.
+use Rattle.std.proofs.Common.{◌≡◌, refl, ◌∙◌, sym, ap, subst, arith, ℕ, zero, suc, ◌+◌, ◌<◌, List, [], ◌∷◌, length, get_or, set, slice_get, Option, Some, None, Ok, Err, IfErr}
+use Rattle.std.proofs.lemmas.Option.{slice_get_within}
+use Rattle.cluster_turns.specs.declared.shards.Shards.{Shards}
+use Rattle.cluster_turns.specs.declared.shards.Walker.{Walker}
+use Rattle.cluster_turns.specs.Walkers.{kept}
+use Rattle.cluster_opening.specs.Made.{IsNewWalker}
+use Rattle.script_lang.specs.Bodies.{Body}
+use Rattle.script_runs.specs.declared.ends.StopCause.{StopCause}
+use Rattle.script_runs.specs.Sessions.{session_entries}
+use Rattle.run_status.specs.Running.{End, IsOk}
+use Rattle.session_scripts.specs.Standing.{IsAtRest}
+use Rattle.session_scripts.specs.Grounds.{Grounds}
+use Rattle.session_scripts.proofs.Laws.{new_walkers_rest, new_walkers_keep_none}
+use Rattle.run_promises.specs.Sessions.{Went, NotBegun, Begun, SessionWent}
+use Rattle.cluster_runs.specs.Sessions.{HasSat, HasGrounds, SessionsGone, went_to, went_by}
+
+pub some_elem : {X : Type 0} (xs : List X) (k : ℕ) → k < length xs → X
+some_elem [] k l = absurd (omega arith)
+some_elem (x ∷ xs) k l = x
+
+at_slice : {X : Type 0} (xs : List X) (k : ℕ) (e : X) → k < length xs → slice_get xs k ≡ Some (get_or xs k e)
+at_slice [] k e l = absurd (omega arith)
+at_slice (x ∷ xs) zero e l = refl
+at_slice (x ∷ xs) (suc k) e l = at_slice xs k e (omega arith)
+
+fine_went : (end : End) → IsOk end → went_to (Some end) ≡ Begun None
+fine_went (Ok u) ok = refl
+fine_went (Err cause) ok = absurd ok
+
+stopped : {M S G : Type 0} (w : Walker M S G) (end : End) → IfErr end (Grounds w) → HasGrounds (went_to (Some end)) w
+stopped w (Ok u) grounds = tt
+stopped w (Err cause) grounds = grounds
+
+module _ {M S G : Type 0} (sh : Shards M S G) (most : Option ℕ) (script : List (List Body)) where
+  pub gone : (walkers : List (Walker M S G)) (ends : List End) (end : End) → length ends ≡ length script
+      → ((k : ℕ) (d : Walker M S G) (e : End) → k < length script → HasSat sh most script k (get_or walkers (suc k) d) (get_or ends k e)) → (IsOk end → (k : ℕ) (e : End) → k < length script → IsOk (get_or ends k e))
+      → SessionsGone sh most script walkers (went_by ends) end
+  gone walkers ends end many sat fine = record {
+    each = λ k bodies d at. (let low = slice_get_within script k bodies at in let e : End = Ok tt in
+        subst (λ x. SessionWent sh.splits sh.run (suc k) most bodies (went_to x) (kept (get_or walkers (suc k) d).passes.items)) (sym (at_slice ends k e (omega arith))) ((sat k d e low).went bodies at));
+    grounds = λ k d low. (let e : End = Ok tt in
+        subst (λ x. HasGrounds (went_to x) (get_or walkers (suc k) d)) (sym (at_slice ends k e (omega arith))) (stopped (get_or walkers (suc k) d) (get_or ends k e) (sat k d e low).grounds));
+    fine = λ ok k low. (let e : End = Ok tt in ap went_to (at_slice ends k e (omega arith)) ∙ fine_went (get_or ends k e) (fine ok k e low));
+  }
+
+  -- none was begun
+  pub none_gone : (walkers : List (Walker M S G)) (cause : StopCause) → ((k : ℕ) (d : Walker M S G) → k < length script → IsNewWalker sh (suc k) 0 (get_or walkers (suc k) d))
+      → SessionsGone sh most script walkers (λ k. NotBegun) (Err cause)
+  none_gone walkers cause new = record {
+    each = λ k bodies d at. ap session_entries (new_walkers_keep_none _ _ _ sh (suc k) 0 (get_or walkers (suc k) d) (new k d (slice_get_within script k bodies at)));
+    grounds = λ k d low. tt;
+    fine = λ ok. absurd ok;
+  }
+
+  pub new_rest : (number : ℕ) (w : Walker M S G) → IsNewWalker sh number 0 w → IsAtRest sh number w
+  new_rest number w new = new_walkers_rest _ _ _ sh number 0 w new
+
+  behind : (walkers : List (Walker M S G)) (w d : Walker M S G) (k : ℕ) → get_or (set walkers 0 w) (suc k) d ≡ get_or walkers (suc k) d
+  behind [] w d k = refl
+  behind (x ∷ xs) w d k = refl
+
+  -- walker 0 has gone on
+  pub all_rest : (walkers : List (Walker M S G)) (w : Walker M S G) → length walkers ≡ length script + 1 → IsAtRest sh 0 w → ((k : ℕ) (d : Walker M S G) → k < length script → IsAtRest sh (suc k) (get_or walkers (suc k) d))
+      → (k : ℕ) (d : Walker M S G) → k < length script + 1 → IsAtRest sh k (get_or (set walkers 0 w) k d)
+  all_rest [] w many rest others k d low = absurd (omega arith)
+  all_rest (x ∷ xs) w many rest others zero d low = rest
+  all_rest (x ∷ xs) w many rest others (suc k) d low = others k d (omega arith)
+
+  pub goes_on : (walkers : List (Walker M S G)) (w : Walker M S G) (went : ℕ → Went) (end last : End) → (IsOk last → IsOk end) → SessionsGone sh most script walkers went end → SessionsGone sh most script (set walkers 0 w) went last
+  goes_on walkers w went end last ok gone = record {
+    each = λ k bodies d at. subst (λ v. SessionWent sh.splits sh.run (suc k) most bodies (went k) (kept v.passes.items)) (sym (behind walkers w d k)) (gone.each k bodies d at);
+    grounds = λ k d low. subst (λ v. HasGrounds (went k) v) (sym (behind walkers w d k)) (gone.grounds k d low);
+    fine = λ is. gone.fine (ok is);
+  }

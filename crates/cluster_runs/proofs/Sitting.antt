@@ -1,0 +1,52 @@
+-- What a session of a seat leaves.
+use Rattle.std.proofs.Common.{◌≡◌, refl, ◌∙◌, sym, subst, arith, Bool, true, false, ◌&&◌, ℕ, zero, suc, ◌<◌, List, [], ◌∷◌, ◌++◌, length, take, get_or, Option, Some, IfErr, slice_get}
+use Rattle.std.specs.List.{list_all}
+use Rattle.std.proofs.lemmas.List.{get_or_append_left, get_or-take}
+use Rattle.cluster_turns.specs.declared.shards.Shards.{Shards}
+use Rattle.cluster_turns.specs.declared.shards.Walker.{Walker}
+use Rattle.script_lang.specs.Bodies.{Body}
+use Rattle.script_lang.specs.Laws.{is_narrow_body}
+use Rattle.script_runs.specs.Ran.{stop_in, Follows}
+use Rattle.run_status.specs.Running.{End}
+use Rattle.session_api.specs.declared.progress.Progress.{Progress}
+use Rattle.session_scripts.specs.Standing.{Holds, seen_in, standing_of}
+use Rattle.session_scripts.specs.Grounds.{Grounds}
+use Rattle.session_scripts.proofs.Laws.{sessions_rest, scripts_follow}
+use Rattle.cluster_runs.specs.Sessions.{IsSeated, HasSat, HasWornLast}
+
+and_first : (a b : Bool) → (a && b) ≡ true → a ≡ true
+and_first true b p = refl
+and_first false b p = p
+
+and_second : (a b : Bool) → (a && b) ≡ true → b ≡ true
+and_second true b p = p
+and_second false b p = absurd cc
+
+module _ {M S G : Type 0} where
+  worn_last : (w : Walker M S G) (end : End) → IfErr end (Grounds w) → HasWornLast end
+  worn_last w end grounds at is = (subst (λ e. IfErr e (Grounds w)) is grounds).0
+
+  pub sat : (sh old new : Shards M S G) (w v : Walker M S G) (s t : Progress) (bodies : List Body) (most : Option ℕ) (script : List (List Body)) (k : ℕ) (end : End)
+      → IsSeated sh script k old w s bodies → Holds new v t → new ≡ old → Follows bodies most (stop_in end) (seen_in old w s) (seen_in new v t) → IfErr end (Grounds v) → HasSat sh most script k v end
+  sat sh old new w v s t bodies most script k end seat holds stays follows grounds =
+      let is : new ≡ sh = stays ∙ seat.on in
+      let f = subst (λ z. Follows bodies most (stop_in end) (seen_in sh w s) (seen_in z v t)) is (subst (λ z. Follows bodies most (stop_in end) (seen_in z w s) (seen_in new v t)) seat.on follows) in
+      let told = scripts_follow M S G sh (suc k) 0 w v (standing_of s) (standing_of t) bodies most (stop_in end) seat.new f in
+      let r = sessions_rest M S G sh v t (subst (λ z. Holds z v t) is holds) in
+      record {
+        rest = record { walker = r.walker; number_is = told.0; landed = r.landed; fetched = r.fetched; disks = r.disks };
+        went = λ wanted at. (scripts_follow M S G sh (suc k) 0 w v (standing_of s) (standing_of t) wanted most (stop_in end) seat.new (subst (λ z. Follows z most (stop_in end) (seen_in sh w s) (seen_in sh v t)) (seat.bodies wanted at) f)).1;
+        worn = worn_last v end grounds;
+        grounds = grounds;
+      }
+
+-- each session of a script that has it is narrow
+pub narrow_at : (script : List (List Body)) (k : ℕ) (bodies : List Body) → k < length script → list_all (list_all is_narrow_body) script ≡ true → ((wanted : List Body) → slice_get script k ≡ Some wanted → bodies ≡ wanted)
+    → list_all is_narrow_body bodies ≡ true
+narrow_at [] k bodies low all is = absurd (omega arith)
+narrow_at (x ∷ xs) zero bodies low all is = subst (λ z. list_all is_narrow_body z ≡ true) (sym (is x refl)) (and_first (list_all is_narrow_body x) (list_all (list_all is_narrow_body) xs) all)
+narrow_at (x ∷ xs) (suc k) bodies low all is = narrow_at xs k bodies (omega arith) (and_second (list_all is_narrow_body x) (list_all (list_all is_narrow_body) xs) all) is
+
+-- what was written through a slice of a list
+pub written : {A : Type 0} (ys zs : List A) (n k : ℕ) (d : A) → k < n → k < length ys → get_or (take n (ys ++ zs)) k d ≡ get_or ys k d
+written ys zs n k d low within = get_or-take n (ys ++ zs) k d low ∙ get_or_append_left ys zs d k within

@@ -1,0 +1,50 @@
+use Rattle.std.proofs.Common.{arith, ◌≡◌, ◌∙◌, ◌+◌, ◌-◌, ℕ, suc, length, get_or, vec_len, sym, ap, subst, length-take, Option, Some, None}
+use Rattle.std.proofs.lemmas.List.{get_or-take}
+use Rattle.cluster_opening.specs.Made.{IsNewWalker}
+use Rattle.session_scripts.proofs.Laws.{new_walkers_are_sessions}
+use Rattle.session_scripts.specs.Standing.{Holds}
+use Rattle.cluster_runs.specs.Sessions.{IsSeated}
+use Rattle.cluster_runs.proofs.Steps.{pushed_each, bodies_at}
+use Rattle.cluster_runs.proofs.seats.take_seats.Goals as goal
+
+abbrev the : {A : Type 0} → A → Option A → A
+the d None = d
+the d (Some x) = x
+
+pub new-requires : goal.new-requires
+new-requires g c =
+    let inv = c.loop-taken.invariant in let low = c.loop-taken-test.true in let i = c.loop-taken.taken in let hw = inv.walkers in let w = c.unwrap-walker.result in let few = c.requires.few in
+    let m = length c.args.sessions.now - 1 - i in
+    let is = ap (the w) (sym c.unwrap-walker.ensures ∙ c.pop.ensures.value w (omega arith)) ∙ (inv.same (vec_len c.loop-taken.walkers - 1) w (omega arith) ∙ ap (λ x. get_or c.args.walkers.now.items x w) (omega arith)) in
+    record { session = new_walkers_are_sessions _ _ _ c.args.shards.now (suc m) 0 w (subst (λ z. IsNewWalker c.args.shards.now (suc m) 0 z) (sym is) (c.requires.new m w (omega arith))) c.requires.splits (omega arith) (omega arith) }
+
+pub loop-taken-preserved : goal.loop-taken-preserved
+loop-taken-preserved g c =
+    let inv = c.loop-taken.invariant in let low = c.loop-taken-test.true in let i = c.loop-taken.taken in
+    let hw = inv.walkers in let hs = inv.seats in let hwide = inv.wide in let count = c.requires.count in
+    let okW = c.loop-taken.walkers.ok in let okW2 = c.pop.new.self.ok in let okS = c.loop-taken.seats.ok in
+    let fewer = ap length c.pop.ensures.rest in let most = length-take (vec_len c.loop-taken.walkers - 1) c.loop-taken.walkers.items in
+    let pl = c.push_reserved.ensures.len in let pc = c.push_reserved.ensures.capacity in let cap = c.pop.ensures.capacity in
+    record {
+      walkers = omega arith;
+      wide_walkers = cap ∙ inv.wide_walkers;
+      same = λ j d l. ap (λ z. get_or z j d) c.pop.ensures.rest ∙ (get_or-take (vec_len c.loop-taken.walkers - 1) c.loop-taken.walkers.items j d (omega arith) ∙ inv.same j d (omega arith));
+      seats = omega arith;
+      wide = omega arith;
+      seated = λ j d l. subst (λ z. (k : ℕ) → j + suc k ≡ length c.args.sessions.now → IsSeated c.args.shards.now c.args.sessions.now k (get_or z j d).session.session.shards.now (get_or z j d).session.session.walker (get_or z j d).session.session.progress (get_or z j d).transactions.now) (sym c.push_reserved.ensures.items)
+          (pushed_each (λ a z. (k : ℕ) → a + suc k ≡ length c.args.sessions.now → IsSeated c.args.shards.now c.args.sessions.now k z.session.session.shards.now z.session.session.walker z.session.session.progress z.transactions.now) c.loop-taken.seats.items _ i (omega arith) inv.seated
+          (λ k at. (let w = c.unwrap-walker.result in
+          let is = ap (the w) (sym c.unwrap-walker.ensures ∙ c.pop.ensures.value w (omega arith)) ∙ (inv.same (vec_len c.loop-taken.walkers - 1) w (omega arith) ∙ ap (λ x. get_or c.args.walkers.now.items x w) (omega arith)) in record {
+            on = c.new.ensures.shards;
+            new = subst (λ z. IsNewWalker c.args.shards.now (suc k) 0 z) (sym (c.new.ensures.begins.0 ∙ is)) (c.requires.new k w (omega arith));
+            none_begun = c.new.ensures.begins.1;
+            holds = subst (λ z. Holds z c.new.result.session.walker c.new.result.session.progress) c.new.ensures.shards c.new.ensures.session;
+            bodies = λ b has. c.transactions.ensures ∙ (c.index-sessions-place.is ∙ (ap (λ x. get_or c.args.sessions.now x c.index-sessions-place.result) (omega arith) ∙ bodies_at c.args.sessions.now k b c.index-sessions-place.result has));
+          })) j d l);
+    }
+
+pub returns-clause-seated : goal.returns-clause-seated
+returns-clause-seated g c =
+    let inv = c.loop-taken.invariant in let out = c.loop-taken-test.false in let hs = inv.seats in
+    λ k d l. subst (λ z. IsSeated c.args.shards.now c.args.sessions.now k z.session.session.shards.now z.session.session.walker z.session.session.progress z.transactions.now) (sym (c.reverse.ensures.by_index k d (omega arith)))
+    (inv.seated (vec_len c.loop-taken.seats - 1 - k) d (omega arith) k (omega arith))

@@ -1,0 +1,34 @@
+use mir.Syntax.{named}
+use denote.Ref.{NamedLft}
+use denote.Param.{param}
+use denote.Param.Send.{param_send}
+use Rattle.std.proofs.Common.{arith, ◌≡◌, ◌<◌, true, sym, subst, length, get_or}
+use Rattle.std.specs.List.{list_all}
+use Rattle.script_lang.specs.Laws.{is_narrow_body}
+use Rattle.cluster_runs.specs.Sessions.{IsSeated, HasSat}
+use Rattle.cluster_runs.proofs.Sending.{script_row_send}
+use Rattle.cluster_runs.proofs.Sitting.{sat, narrow_at, written}
+use Rattle.cluster_runs.proofs.sessions.run_seats.Goals as goal
+
+-- a session may be sent to a thread
+pub run_all-requires-send-C : goal.run_all-requires-send-C
+run_all-requires-send-C g c κs within =
+    let l : NamedLft = record { mir = named 4; lft = κs.1.1.1.1.0 } in
+    let b = c.type_bounds in
+    let s = script_row_send l (param 0 g.row.M) (param 1 g.row.P) (param 2 g.row.R) (param 3 g.row.M-Store) (param 4 g.row.M-Gate) g.M.Machine g.M.Store.Store g.M.Gate.Gate b.send-M b.sync-P b.sync-R in
+    record { owned = s.owned; leaving = (param_send 1 _ s).leaving }
+
+pub run_all-requires-clause-narrow : goal.run_all-requires-clause-narrow
+run_all-requires-clause-narrow g c κs within k d l =
+    let low : k < length c.args.sessions.now = (let a = c.as_mut_slice.ensures.len in let n = c.requires.count in omega arith) in
+    subst (λ z. list_all is_narrow_body (get_or z k d).transactions.now ≡ true) (sym c.as_mut_slice.ensures.value) (narrow_at c.args.sessions.now k _ low c.requires.narrow (c.requires.seated k d low).bodies)
+
+pub returns-clause-sat : goal.returns-clause-sat
+returns-clause-sat g c =
+    let E = c.run_all.ensures in let many = c.run_all.auto.seats in let a = c.as_mut_slice.ensures.len in let n = c.requires.count in let value = c.as_mut_slice.ensures.value in
+    λ k d l. (let low : k < length c.run_all.new.seats = omega arith in let was : k < length c.as_mut_slice.result.now = omega arith in
+    let v = get_or c.run_all.new.seats k d in let o = get_or c.as_mut_slice.result.now k d in
+    let seat = subst (λ z. IsSeated c.args.shards.now c.args.sessions.now k (get_or z k d).session.session.shards.now (get_or z k d).session.session.walker (get_or z k d).session.session.progress (get_or z k d).transactions.now) (sym value) (c.requires.seated k d l) in
+    subst (λ z. HasSat c.args.shards.now c.args.most c.args.sessions.now k z.session.session.walker z.ended) (sym (written c.run_all.new.seats _ c.args.seats.now.len k d (omega arith) low))
+    (sat c.args.shards.now o.session.session.shards.now v.session.session.shards.now o.session.session.walker v.session.session.walker o.session.session.progress v.session.session.progress o.transactions.now c.args.most c.args.sessions.now k v.ended seat
+    (E.session k d was) (E.base k d was) (E.follows k d was) (E.grounds k d was)))

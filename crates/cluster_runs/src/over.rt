@@ -1,0 +1,59 @@
+// What a run does with a cluster that was opened.
+ghost use Rattle.std.specs.Prelude.{◌≡◌, ◌<◌, ◌≤◌, ◌+◌, ℕ, true, length, slice_index_or, vec_len};
+ghost use Rattle.std.specs.List.{list_all};
+ghost use Rattle.clv_base.specs.Shards.{are_splits};
+ghost use Rattle.cluster_opening.specs.Made.{IsNewWalker};
+ghost use Rattle.script_lang.specs.Laws.{is_narrow_body};
+ghost use Rattle.session_scripts.specs.Standing.{IsAtRest};
+ghost use Rattle.run_promises.specs.Sessions.{Went};
+ghost use Rattle.cluster_runs.specs.Sessions.{SessionsGone, HasWornLast};
+
+use crate::draining::drain_all;
+use crate::sessions::run_sessions;
+use cluster_turns::{Shards, Walker};
+use io_edge::Pace;
+use machine_calls::Flier;
+use run_status::graver;
+use script_lang::Session;
+use script_runs::Start;
+use script_runs::StopCause;
+use std::alloc::Global;
+use std::sync::Wait;
+use std::thread::Threads;
+
+/// Runs the sessions of a script, each with a new walker of its own and each transaction in at most so many tries, between two drains by walker 0.
+///
+/// What its walker kept of a session is its transactions in order, each in its tries, or nothing where it wasn't begun. The end is fine only where each session
+/// went through, and worn only past the last stamp. No clause says that sessions run beside each other, that the drains do anything, or that none is begun
+/// where the first one isn't well.
+pub fn run_over<M: Flier + Send, P: Pace + Sync, R: Threads + Wait + Sync>(
+    rt: &R,
+    alloc: Global,
+    shards: &Shards<M>,
+    pace: &P,
+    walkers: &mut Vec<Walker<M>>,
+    sessions: &[Session],
+    most: Option<u32>,
+    start: Start,
+) -> Result<(), StopCause>
+where
+    M::Store: Send,
+    M::Gate: Send,
+    requires count { vec_len walkers.old ≡ length sessions.now + 1 }
+    requires few { length sessions.now ≤ 64 }
+    requires splits { are_splits shards.now.splits ≡ true }
+    requires new { (k : ℕ) (d : _) → k < length sessions.now + 1 → IsNewWalker shards.now k 0 (slice_index_or walkers.old.items k d) }
+    requires narrow { list_all (list_all is_narrow_body) sessions.now ≡ true }
+    ensures len { vec_len walkers.new ≡ vec_len walkers.old }
+    ensures rest { (k : ℕ) (d : _) → k < length sessions.now + 1 → IsAtRest shards.now k (slice_index_or walkers.new.items k d) }
+    ensures went { (went : ℕ → Went) × SessionsGone shards.now most sessions.now walkers.new.items went result }
+    ensures worn { HasWornLast result }
+{
+    let first = drain_all(rt, alloc, shards, &mut walkers[0], pace);
+    if first.is_err() {
+        return first;
+    }
+    let ran = run_sessions(rt, alloc, shards, pace, walkers, sessions, most, start);
+    let last = drain_all(rt, alloc, shards, &mut walkers[0], pace);
+    graver(ran, last)
+}

@@ -1,0 +1,78 @@
+// Seats for the sessions of a script.
+ghost use Rattle.std.specs.Prelude.{◌≡◌, ◌<◌, ◌≤◌, ◌+◌, ℕ, suc, true, length, slice_index_or, vec_len, vec_capacity};
+ghost use Rattle.clv_base.specs.Shards.{are_splits};
+ghost use Rattle.cluster_opening.specs.Made.{IsNewWalker};
+ghost use Rattle.run_status.specs.Running.{IsOk};
+ghost use Rattle.cluster_runs.specs.Sessions.{IsSeated, HasWornLast};
+
+use cluster_turns::{Shards, Walker};
+use io_edge::Pace;
+use machine_calls::Flier;
+use run_status::graver;
+use script_lang::Session;
+use script_runs::Seat;
+use script_runs::StopCause;
+use session_scripts::ScriptSession;
+use std::sync::Wait;
+
+// A seat for each session, with its walker, which leaves the list of walkers; walker 0 stays.
+pub(crate) fn take_seats<'a, M: Flier, P: Pace, R: Wait>(
+    rt: &'a R,
+    shards: &'a Shards<M>,
+    pace: &'a P,
+    walkers: &mut Vec<Walker<M>>,
+    sessions: &'a [Session],
+    mut seats: Vec<Seat<'a, ScriptSession<'a, M, P, R>>>,
+) -> Vec<Seat<'a, ScriptSession<'a, M, P, R>>>
+    requires count { vec_len walkers.old ≡ length sessions.now + 1 }
+    requires few { length sessions.now ≤ 64 }
+    requires splits { are_splits shards.now.splits ≡ true }
+    requires new { (k : ℕ) (d : _) → k < length sessions.now → IsNewWalker shards.now (suc k) 0 (slice_index_or walkers.old.items (suc k) d) }
+    requires room { (vec_len seats ≡ 0) × (length sessions.now ≤ vec_capacity seats) }
+    ensures len { (vec_len walkers.new ≡ 1) × (vec_capacity walkers.new ≡ vec_capacity walkers.old) × (vec_len result ≡ length sessions.now) }
+    ensures first { (d : _) → slice_index_or walkers.new.items 0 d ≡ slice_index_or walkers.old.items 0 d }
+    ensures seated { (k : ℕ) (d : _) → k < length sessions.now → IsSeated shards.now sessions.now k (slice_index_or result.items k d).session.session.shards.now (slice_index_or result.items k d).session.session.walker (slice_index_or result.items k d).session.session.progress (slice_index_or result.items k d).transactions.now }
+{
+    let count = sessions.len();
+    for taken in 0..count {
+        let place = count - 1 - taken;
+        let walker = walkers.pop().unwrap();
+        seats.push_reserved(Seat {
+            session: ScriptSession::new(rt, shards, pace, walker),
+            transactions: sessions[place].transactions(),
+            ended: Ok(()),
+        });
+    }
+    seats.reverse();
+    seats
+}
+
+// The walkers of all seats go back behind walker 0.
+pub(crate) fn leave_seats<M: Flier, P: Pace, R: Wait>(
+    walkers: &mut Vec<Walker<M>>,
+    seats: Vec<Seat<'_, ScriptSession<'_, M, P, R>>>,
+)
+    requires room { vec_len walkers.old + vec_len seats ≤ vec_capacity walkers.old }
+    requires one { vec_len walkers.old ≡ 1 }
+    ensures len { vec_len walkers.new ≡ vec_len seats.entry + 1 }
+    ensures first { (d : _) → slice_index_or walkers.new.items 0 d ≡ slice_index_or walkers.old.items 0 d }
+    ensures walkers { (k : ℕ) (d e : _) → k < vec_len seats.entry → slice_index_or walkers.new.items (suc k) d ≡ (slice_index_or seats.entry.items k e).session.session.walker }
+{
+    for seat in seats {
+        let Seat { session, .. } = seat;
+        walkers.push_reserved(session.into_walker());
+    }
+}
+
+// The gravest of their ends.
+pub(crate) fn gravest<C>(seats: &[Seat<'_, C>]) -> Result<(), StopCause>
+    requires worn { (k : ℕ) (d : _) → k < length seats.now → HasWornLast (slice_index_or seats.now k d).ended }
+    ensures worn { HasWornLast result }
+    ensures fine { IsOk result → (k : ℕ) (d : _) → k < length seats.now → IsOk (slice_index_or seats.now k d).ended }
+{
+    let mut end = Ok(());
+    for seat in seats {
+        end = graver(end, seat.ended);
+    }
+    end
+}

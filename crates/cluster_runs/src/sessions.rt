@@ -1,0 +1,78 @@
+// The sessions of a script, beside each other.
+ghost use Rattle.std.specs.Prelude.{◌≡◌, ◌<◌, ◌≤◌, ◌+◌, ℕ, suc, true, List, length, slice_index_or, vec_len};
+ghost use Rattle.std.specs.List.{list_all};
+ghost use Rattle.clv_base.specs.Shards.{are_splits};
+ghost use Rattle.cluster_opening.specs.Made.{IsNewWalker};
+ghost use Rattle.script_lang.specs.Laws.{is_narrow_body};
+ghost use Rattle.session_scripts.specs.Standing.{IsAtRest};
+ghost use Rattle.run_promises.specs.Sessions.{Went};
+ghost use Rattle.cluster_runs.specs.Sessions.{IsSeated, HasSat, SessionsGone, HasWornLast};
+
+use crate::seats::{gravest, leave_seats, take_seats};
+use cluster_turns::{Shards, Walker};
+use io_edge::Pace;
+use machine_calls::Flier;
+use script_lang::Session;
+use script_runs::{Seat, Start, run_all};
+use script_runs::StopCause;
+use session_scripts::ScriptSession;
+use std::alloc::Global;
+use std::sync::Wait;
+use std::thread::Threads;
+
+// Runs the sessions of all seats.
+fn run_seats<M: Flier + Send, P: Pace + Sync, R: Threads + Wait + Sync>(
+    rt: &R,
+    alloc: Global,
+    shards: &Shards<M>,
+    sessions: &[Session],
+    seats: &mut Vec<Seat<'_, ScriptSession<'_, M, P, R>>>,
+    most: Option<u32>,
+    start: Start,
+)
+where
+    M::Store: Send,
+    M::Gate: Send,
+    requires count { vec_len seats.old ≡ length sessions.now }
+    requires narrow { list_all (list_all is_narrow_body) sessions.now ≡ true }
+    requires seated { (k : ℕ) (d : _) → k < length sessions.now → IsSeated shards.now sessions.now k (slice_index_or seats.old.items k d).session.session.shards.now (slice_index_or seats.old.items k d).session.session.walker (slice_index_or seats.old.items k d).session.session.progress (slice_index_or seats.old.items k d).transactions.now }
+    ensures len { vec_len seats.new ≡ vec_len seats.old }
+    ensures sat { (k : ℕ) (d : _) → k < length sessions.now → HasSat shards.now most sessions.now k (slice_index_or seats.new.items k d).session.session.walker (slice_index_or seats.new.items k d).ended }
+{
+    run_all(rt, alloc, seats.as_mut_slice(), most, start);
+}
+
+// Runs each session with a walker of its own on a thread of its own, behind walker 0. Where there is no memory for their seats none is begun.
+pub(crate) fn run_sessions<M: Flier + Send, P: Pace + Sync, R: Threads + Wait + Sync>(
+    rt: &R,
+    alloc: Global,
+    shards: &Shards<M>,
+    pace: &P,
+    walkers: &mut Vec<Walker<M>>,
+    sessions: &[Session],
+    most: Option<u32>,
+    start: Start,
+) -> Result<(), StopCause>
+where
+    M::Store: Send,
+    M::Gate: Send,
+    requires count { vec_len walkers.old ≡ length sessions.now + 1 }
+    requires few { length sessions.now ≤ 64 }
+    requires splits { are_splits shards.now.splits ≡ true }
+    requires new { (k : ℕ) (d : _) → k < length sessions.now → IsNewWalker shards.now (suc k) 0 (slice_index_or walkers.old.items (suc k) d) }
+    requires narrow { list_all (list_all is_narrow_body) sessions.now ≡ true }
+    ensures len { vec_len walkers.new ≡ vec_len walkers.old }
+    ensures first { (d : _) → slice_index_or walkers.new.items 0 d ≡ slice_index_or walkers.old.items 0 d }
+    ensures rest { (k : ℕ) (d : _) → k < length sessions.now → IsAtRest shards.now (suc k) (slice_index_or walkers.new.items (suc k) d) }
+    ensures went { (went : ℕ → Went) × SessionsGone shards.now most sessions.now walkers.new.items went result }
+    ensures worn { HasWornLast result }
+{
+    let Ok(room) = Vec::with_capacity(alloc, sessions.len()) else {
+        return Err(StopCause::Memory);
+    };
+    let mut seats = take_seats(rt, shards, pace, walkers, sessions, room);
+    run_seats(rt, alloc, shards, sessions, &mut seats, most, start);
+    let end = gravest(seats.as_slice());
+    leave_seats(walkers, seats);
+    end
+}

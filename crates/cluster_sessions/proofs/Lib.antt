@@ -1,5 +1,0 @@
-mod Drained
-mod Gone
-mod Sending
-mod Sitting
-mod Steps

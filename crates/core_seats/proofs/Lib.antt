@@ -1,4 +1,0 @@
-mod Answering
-mod Keeping
-mod Flying
-mod Reviving

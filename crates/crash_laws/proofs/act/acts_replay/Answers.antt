@@ -1,0 +1,5 @@
+use Rattle.crash_laws.proofs.Folding.{acts_replay}
+use Rattle.crash_laws.proofs.act.acts_replay.Goals as goal
+
+pub returns : goal.returns
+returns c = acts_replay

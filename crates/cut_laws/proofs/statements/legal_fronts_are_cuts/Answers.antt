@@ -1,5 +1,0 @@
-use Rattle.cut_laws.proofs.Fronts.{legal_fronts_are_cuts}
-use Rattle.cut_laws.proofs.statements.legal_fronts_are_cuts.Goals as goal
-
-pub returns : goal.returns
-returns c = legal_fronts_are_cuts

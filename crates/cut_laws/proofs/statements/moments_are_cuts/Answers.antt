@@ -1,5 +1,0 @@
-use Rattle.cut_laws.proofs.Fronts.{moments_are_cuts}
-use Rattle.cut_laws.proofs.statements.moments_are_cuts.Goals as goal
-
-pub returns : goal.returns
-returns c = moments_are_cuts

@@ -1,3 +1,0 @@
-pub mod Leaving
-pub mod Refusing
-pub mod Laws

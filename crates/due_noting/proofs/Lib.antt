@@ -1,4 +1,0 @@
-pub mod Concerned
-pub mod Noted
-pub mod Known
-pub mod Laws

@@ -1,4 +1,0 @@
-pub mod Leading
-pub mod Ordering
-pub mod Telling
-pub mod Settling

@@ -1,4 +1,0 @@
-pub mod Elder
-pub mod ElderEvents
-pub mod Elders
-pub mod Earlier

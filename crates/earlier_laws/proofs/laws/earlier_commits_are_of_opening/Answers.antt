@@ -1,5 +1,0 @@
-use Rattle.earlier_laws.proofs.Earlier.{earlier_commits_are_of_opening}
-use Rattle.earlier_laws.proofs.laws.earlier_commits_are_of_opening.Goals as goal
-
-pub returns : goal.returns
-returns c = earlier_commits_are_of_opening

@@ -1,5 +1,0 @@
-use Rattle.file_laws.proofs.Passing.{logs_left_pass}
-use Rattle.file_laws.proofs.statements.logs_left_pass.Goals as goal
-
-pub returns : goal.returns
-returns c = logs_left_pass

@@ -1,0 +1,5 @@
+use Rattle.headline_laws.proofs.Alone.{members_replay}
+use Rattle.headline_laws.proofs.one_shard.members_replay.Goals as goal
+
+pub returns : goal.returns
+returns c = members_replay

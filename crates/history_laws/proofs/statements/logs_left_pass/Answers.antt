@@ -1,0 +1,5 @@
+use Rattle.history_laws.proofs.Passing.{logs_left_pass}
+use Rattle.history_laws.proofs.statements.logs_left_pass.Goals as goal
+
+pub returns : goal.returns
+returns c = logs_left_pass

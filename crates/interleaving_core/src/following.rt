@@ -1,0 +1,114 @@
+// A session after its walker's entries.
+ghost use Rattle.std.specs.Prelude.{◌≡◌, ◌<◌, ℕ, List, Some};
+ghost use Rattle.std.specs.List.{AllByRecursion};
+ghost use Rattle.clv_base.specs.Journals.{own};
+ghost use Rattle.clv_base.specs.Sessions.{SessionState, session_for, op_answered, op_in_session, requested, looked, after_drop, session_after};
+ghost use Rattle.session_births.specs.States.{session_of as session_in};
+
+use crate::sessions::Session;
+use clv_base::events::{Entry, Event, Outcome};
+use clv_base::names::{Birth, TxId};
+use clv_base::ops::Op;
+
+impl Session {
+    // The transaction of an operation is the last one.
+    fn follow_birth(&mut self, tx: TxId, birth: Birth)
+        ensures { (t : SessionState) → session_for self.old tx birth ≡ Some t → (self.new ≡ t) × (0 < t.tx.serial) }
+    {
+        let _walker = self.walker;
+        if self.is_last(tx) {
+            return;
+        }
+        if self.begins(tx, birth) {
+            self.begin(tx, birth);
+        }
+    }
+
+    fn follow_answer(&mut self, shard: u32, nth: u64, op: Op, outcome: &Outcome)
+        requires { shard < 16 }
+        ensures { (t : SessionState) → 0 < self.old.tx.serial → op_answered shard nth op self.old outcome.now ≡ Some t → self.new ≡ t }
+    {
+        if self.tx().serial == 0 {
+            return;
+        }
+        match outcome {
+            Outcome::Answered { answer: _, epoch } => self.answered(shard, nth, op, *epoch),
+            Outcome::Dead(_) => self.died(shard, nth, op),
+            _ => {}
+        }
+    }
+
+    fn follow_op(&mut self, shard: u32, tx: TxId, birth: Birth, nth: u64, op: Op, outcome: &Outcome)
+        requires { shard < 16 }
+        ensures { (splits : List ℕ) (seen : _) (t : SessionState) → op_in_session splits shard nth seen op outcome.now (session_for self.old tx birth) ≡ Some t → self.new ≡ t }
+    {
+        self.follow_birth(tx, birth);
+        self.follow_answer(shard, nth, op, outcome);
+    }
+
+    fn follow_request(&mut self, shard: u32, outcome: &Outcome)
+        requires { 0 < self.old.tx.serial }
+        ensures { (t : SessionState) → requested shard self.old outcome.now ≡ Some t → self.new ≡ t }
+    {
+        match outcome {
+            Outcome::Asked => self.requested(shard),
+            Outcome::Dead(_) => self.ended(),
+            _ => {}
+        }
+    }
+
+    fn follow_look(&mut self, outcome: &Outcome)
+        requires { 0 < self.old.tx.serial }
+        ensures { (t : SessionState) → looked self.old outcome.now ≡ Some t → self.new ≡ t }
+    {
+        match outcome {
+            Outcome::Acknowledged => self.told(),
+            Outcome::Aborted(_) => self.refused(),
+            _ => {}
+        }
+    }
+
+    fn follow_drop(&mut self)
+        ensures { self.new ≡ record self.old { phase = after_drop self.old.phase } }
+    {
+        if self.is_touching() {
+            self.ended();
+        }
+    }
+
+    // One entry of the walker on a shard, which goes on the session.
+    fn follow(&mut self, shard: u32, event: &Event, outcome: &Outcome)
+        requires { shard < 16 }
+        ensures { (splits : List ℕ) (t : SessionState) → session_after splits shard self.old event.now outcome.now ≡ Some t → self.new ≡ t }
+    {
+        let _walker = self.walker;
+        let last = self.tx();
+        match event {
+            Event::Op {
+                tx,
+                birth,
+                nth,
+                seen: _,
+                op,
+            } => self.follow_op(shard, *tx, *birth, *nth, *op, outcome),
+            Event::Request { .. } if last.serial != 0 => self.follow_request(shard, outcome),
+            Event::Look { .. } if last.serial != 0 => self.follow_look(outcome),
+            Event::Drop { .. } => self.follow_drop(),
+            _ => {}
+        }
+    }
+}
+
+/// The session that a walker's entries make, where they make one. It goes through the history.
+pub fn session_of(walker: u32, history: &[(u32, Entry)]) -> Session
+    requires { AllByRecursion (λ e. e.0 < 16) history.now }
+    ensures { (splits : List ℕ) (t : SessionState) → session_in splits 1 walker (own walker history.now) ≡ Some t → result ≡ t }
+{
+    let mut session = Session::new(walker);
+    for placed in history {
+        if placed.1.walker == walker {
+            session.follow(placed.0, &placed.1.event, &placed.1.outcome);
+        }
+    }
+    session
+}

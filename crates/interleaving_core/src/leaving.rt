@@ -1,0 +1,21 @@
+// The end of a seat.
+ghost use Rattle.std.specs.Prelude.{◌≡◌};
+
+use crate::seat::{Seat, let_go};
+use clv_base::events::Entry;
+use crate::ListGate;
+use machine_calls::{Machine, Parts};
+
+/// Takes a seat apart, and gives the journal. Takes no memory.
+pub fn leave<M: Machine<Gate = ListGate>>(seat: Seat<M>) -> Vec<Entry>
+    ensures { result.items ≡ (M.shard seat.machine).journal }
+{
+    let Seat { machine, air } = seat;
+    let_go(air);
+    let Parts {
+        gate: _,
+        store: _,
+        journal,
+    } = machine.into_parts();
+    journal
+}

@@ -1,0 +1,5 @@
+use Rattle.journal_laws.proofs.Leaving.{crashes_leave}
+use Rattle.journal_laws.proofs.cut_statements.crashes_leave.Goals as goal
+
+pub returns : goal.returns
+returns c = crashes_leave

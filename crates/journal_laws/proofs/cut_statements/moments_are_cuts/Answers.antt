@@ -1,0 +1,5 @@
+use Rattle.journal_laws.proofs.Fronts.{moments_are_cuts}
+use Rattle.journal_laws.proofs.cut_statements.moments_are_cuts.Goals as goal
+
+pub returns : goal.returns
+returns c = moments_are_cuts

@@ -1,0 +1,52 @@
+-- Fronts and backs of a log whose records have spellings, and the front that fits.
+use Rattle.std.proofs.Common.{◌≡◌, refl, ap, ◌∙◌, subst, ℕ, zero, suc, ◌-◌, ◌≤◌, ◌<◌, Bool, true, false, nat_lt, List, [], ◌∷◌, length, take, drop}
+use Rattle.std.proofs.lemmas.Bool.{and_parts, and_from}
+use Rattle.std.proofs.Math.Seq.{take-length}
+use Rattle.std.specs.List.{list_all}
+use Rattle.clv_base.specs.declared.logs.LogRecord.{LogRecord}
+use Rattle.clv_base.specs.Logs.{record_size, fitting}
+use Rattle.clv_base.specs.FileRules.{has_spelling}
+use Rattle.log_records.specs.Laws.{LengthIsSize}
+use Rattle.log_gate.specs.Image.{IsBatch}
+use Rattle.log_flush.specs.Batches.{spellings}
+use Rattle.log_flush.proofs.BatchBytesSizes.{they_fit, has_bytes}
+
+pub all_dropped : (n : ℕ) (rs : List LogRecord) → list_all has_spelling rs ≡ true → list_all has_spelling (drop n rs) ≡ true
+all_dropped zero rs h = h
+all_dropped (suc n) [] h = h
+all_dropped (suc n) (r ∷ rs) h = all_dropped n rs (and_parts (has_spelling r) (list_all has_spelling rs) h).1
+
+pub all_taken : (n : ℕ) (rs : List LogRecord) → list_all has_spelling rs ≡ true → list_all has_spelling (take n rs) ≡ true
+all_taken zero rs h = refl
+all_taken (suc n) [] h = refl
+all_taken (suc n) (r ∷ rs) h =
+    let parts = and_parts (has_spelling r) (list_all has_spelling rs) h in
+    and_from (has_spelling r) (list_all has_spelling (take n rs)) parts.0 (all_taken n rs parts.1)
+
+-- all of those that fit do
+pub those_fit : (room : ℕ) (rs : List LogRecord) → fitting room (take (fitting room rs) rs) ≡ length (take (fitting room rs) rs)
+those_fit room [] = refl
+those_fit room (r ∷ rs) = by_test (nat_lt room (record_size r)) refl (those_fit (room - record_size r) rs)
+  where
+    count : Bool → ℕ
+    count b = elim b [ true ↦ 0 | false ↦ suc (fitting (room - record_size r) rs) ]
+
+    by_test :
+        (b : Bool) → nat_lt room (record_size r) ≡ b → fitting (room - record_size r) (take (fitting (room - record_size r) rs) rs) ≡ length (take (fitting (room - record_size r) rs) rs)
+        → fitting room (take (count b) (r ∷ rs)) ≡ length (take (count b) (r ∷ rs))
+    by_test true e more = refl
+    by_test false e more =
+        ap (λ b. elim b [ true ↦ 0 | false ↦ suc (fitting (room - record_size r) (take (fitting (room - record_size r) rs) rs)) ]) e ∙ ap suc more
+
+-- records that fit one batch are one
+pub is_batch : LengthIsSize → (rs : List LogRecord) → list_all has_spelling rs ≡ true → 0 < length rs → fitting 1048576 rs ≡ length rs → IsBatch (spellings rs)
+is_batch law rs h some fits =
+    let all : take (length rs) rs ≡ rs = take-length rs in
+    record {
+      size = (
+        subst (λ (xs : List LogRecord). 0 < length (spellings xs)) all (has_bytes (length rs) rs some some),
+        subst (λ (xs : List LogRecord). length (spellings xs) ≤ 1048576) (ap (λ n. take n rs) fits ∙ all) (they_fit law 1048576 rs h),
+      );
+      records = rs;
+      spelled = record { in_bounds = h; is = refl };
+    }

@@ -1,0 +1,56 @@
+-- What recovery leaves of a disk.
+use Rattle.std.proofs.Common.{◌≡◌, ◌⊎◌, ℕ, zero, suc, ◌+◌, List, [], ◌∷◌, ◌++◌, take, drop, length, Option, Some, None, IfSome, refl, inl, inr, sym, ◌∙◌, ap, subst, append_assoc, arith}
+use Rattle.std.proofs.lemmas.List.{take_all}
+use Rattle.clv_base.specs.declared.logs.LogRecord.{LogRecord}
+use Rattle.clv_base.specs.Restarts.{log_after_restart, restart_records}
+use Rattle.disk_model.specs.Story.{Story, reads}
+use Rattle.gate_recovery.specs.declared.recovering.RecoverError.{RecoverError}
+use Rattle.gate_recovery.specs.declared.recovering.RecoverError.TheVariants.{Failed, Memory}
+use Rattle.gate_recovery.specs.Recovering.{IsBegun}
+use Rattle.log_gate.specs.Gate.{EachNow}
+use Rattle.log_gate.specs.View.{Only, logs_told}
+use Rattle.machine_calls.specs.Recovered.{HasBegun, IsLeft, unwritten, begun}
+
+take_plus : {X : Type 0} (m k : ℕ) (xs : List X) → take (m + k) xs ≡ take m xs ++ take k (drop m xs)
+take_plus zero k xs = let e : 0 + k ≡ k = omega arith in ap (λ n. take n xs) e
+take_plus (suc m) k [] = let e : suc m + k ≡ suc (m + k) = omega arith in ap (λ n. take n []) e ∙ sym (nothing k)
+  where
+    nothing : {Y : Type 0} (n : ℕ) → take {A = Y} n [] ≡ []
+    nothing zero = refl
+    nothing (suc n) = refl
+take_plus (suc m) k (x ∷ xs) = let e : suc m + k ≡ suc (m + k) = omega arith in ap (λ n. take n (x ∷ xs)) e ∙ ap (λ l. x ∷ l) (take_plus m k xs)
+
+module _ (n : ℕ) (found : List LogRecord) (run : ℕ) (logs : Option (List LogRecord) → Type 0) where
+  -- each log of the disk is one of the gate's
+  each_image : (story : Option Story) → ((log : Option (List LogRecord)) → logs_told story n log → logs log) → ((log : Option (List LogRecord)) → logs log → (count : ℕ) × (log ≡ Some (found ++ take count (restart_records n found run 0))))
+      → IfSome story (EachNow (HasBegun n found run))
+  each_image None told is = tt
+  each_image (Some s) told is = record { read = is _ (told _ (reads s, inl refl, refl)); images = λ image left. is _ (told _ (image, inr left, refl)) }
+
+  in_between : IsBegun n found run 0 logs → (log : Option (List LogRecord)) → logs log → (count : ℕ) × (log ≡ Some (found ++ take count (restart_records n found run 0)))
+  in_between b log has = by b.written b.batch (b.log log has)
+    where
+      by : (m k : ℕ) → (log ≡ Some (found ++ take m (restart_records n found run 0))) ⊎ (log ≡ Some ((found ++ take m (restart_records n found run 0)) ++ take k (drop m (restart_records n found run 0))))
+          → (count : ℕ) × (log ≡ Some (found ++ take count (restart_records n found run 0)))
+      by m k (inl is) = (m, is)
+      by m k (inr is) =
+          let R = restart_records n found run 0 in
+          (m + k, is ∙ ap (λ l. Some l) (append_assoc found (take m R) (take k (drop m R)) ∙ ap (λ l. found ++ l) (sym (take_plus m k R))))
+
+  at_end : Only (log_after_restart n found run 0) logs → (log : Option (List LogRecord)) → logs log → (count : ℕ) × (log ≡ Some (found ++ take count (restart_records n found run 0)))
+  at_end only log has = (length (restart_records n found run 0), only log has ∙ ap (λ l. Some (found ++ l)) (sym (take_all (length (restart_records n found run 0)) (restart_records n found run 0) (omega arith))))
+
+  pub left_begun : (before now : Option Story) (shard : ℕ) → shard ≡ n → ((log : Option (List LogRecord)) → logs_told now shard log → logs log) → IsBegun n found run 0 logs → IsLeft n found run before now
+  left_begun before now shard same told b = begun (each_image now (subst (λ (m : ℕ). (log : Option (List LogRecord)) → logs_told now m log → logs log) same told) (in_between b))
+
+  pub left_whole : (before now : Option Story) (shard : ℕ) → shard ≡ n → ((log : Option (List LogRecord)) → logs_told now shard log → logs log) → Only (log_after_restart n found run 0) logs → IsLeft n found run before now
+  left_whole before now shard same told only = begun (each_image now (subst (λ (m : ℕ). (log : Option (List LogRecord)) → logs_told now m log → logs log) same told) (at_end only))
+
+pub left_by : (n : ℕ) (found : List LogRecord) (run : ℕ) (before now : Option Story) (e : RecoverError) → (e ≡ Failed → IsLeft n found run before now) → (e ≡ Memory → now ≡ before) → IsLeft n found run before now
+left_by n found run before now Failed failed memory = failed refl
+left_by n found run before now Memory failed memory = unwritten (memory refl)
+
+-- ---- a machine that is taken apart
+
+pub some_same : {A : Type 0} (x y : A) (o : Option A) → o ≡ Some x → o ≡ Some y → x ≡ y
+some_same {A} x y o a b = let k : ◌≡◌ {A = Option A} (Some x) (Some y) = sym a ∙ b in cc

@@ -1,0 +1,15 @@
+use Rattle.std.proofs.Common.{◌≡◌, ◌∙◌, ap, sym, subst}
+use Rattle.clv_base.specs.Restarts.{log_after_restart}
+use Rattle.log_gate.specs.View.{Only}
+use Rattle.machine_calls.proofs.Leaving.{left_whole, some_same}
+use Rattle.machine_calls.proofs.recovering.take_apart.Goals as goal
+
+pub returns-clause-left : goal.returns-clause-left
+returns-clause-left g c = λ n found run before is. (let G = g.M.Gate.Gate in let gate = c.unwrap.result in
+    let same : is.home ≡ gate = some_same is.home gate (g.M.Machine.gate c.args.machine) is.has (sym c.into_parts-gate.ensures.gate ∙ c.unwrap.ensures) in
+    left_whole n found run (G.logs gate) before (g.D.Disk.story c.disk_under.result) (G.shard gate) (ap G.shard (sym same) ∙ is.own) c.disk_under.ensures.logs
+    (subst (λ z. Only (log_after_restart n found run 0) (G.logs z)) same is.log))
+
+pub returns-clause-fine : goal.returns-clause-fine
+returns-clause-fine g c = λ n found run is. (let G = g.M.Gate.Gate in
+    c.disk_under.ensures.faults ∙ ap G.faults (sym (some_same is.home c.unwrap.result (g.M.Machine.gate c.args.machine) is.has (sym c.into_parts-gate.ensures.gate ∙ c.unwrap.ensures))) ∙ is.fine)

@@ -1,0 +1,65 @@
+// One shard.
+
+ghost use Rattle.std.specs.Prelude.{◌≡◌, ◌<◌, ◌≤◌, ℕ, List, Option, false, true, None, IfOk, IfErr, IsSome};
+ghost use Rattle.std.specs.List.{list_all};
+ghost use Rattle.clv_base.specs.declared.logs.LogRecord.{LogRecord as Rec};
+ghost use Rattle.clv_base.specs.FileRules.{has_spelling};
+ghost use Rattle.clv_base.specs.LogRules.{disorder};
+ghost use Rattle.disk_model.specs.Story.{Story};
+ghost use Rattle.log_gate.specs.View.{Only};
+ghost use Rattle.machine_calls.specs.Recovered.{IsLeft, CountsLeft, IsMachineAt};
+
+use crate::machines_opening_disks::OverDisks;
+use clv_base::logs::LogRecord;
+use disk_model::Disk;
+use gate_recovery::{RecoverError, recover};
+use log_gate::Gate;
+use crate::{Machine, Maker, Parts};
+use ordered_store::Store;
+use std::alloc::Global;
+
+/// Recovers a shard from its log, which is in order, and makes its machine. What a restart adds to the log is durable at `Ok`. An `Err` gives the disk back.
+pub fn recover_shard<D: Disk, M: OverDisks<D>>(
+    alloc: Global,
+    mut gate: M::Gate,
+    log: Vec<LogRecord>,
+    shard: u32,
+    run: u32,
+) -> Result<M, (RecoverError, D)>
+    requires shard { (shard < 16) × (M.Gate.shard gate ≡ shard) }
+    requires run { 1 ≤ run }
+    requires open { (M.Gate.is_shut gate ≡ false) × (M.Gate.faults gate ≡ 0) }
+    requires log { Only log.items (M.Gate.logs gate) }
+    requires spelled { list_all has_spelling log.items ≡ true }
+    requires in_order { disorder shard log.items ≡ None }
+    ensures machine { IfOk result (λ m. IsMachineAt M.Gate.is_shut M.Gate.faults M.Gate.shard M.Gate.logs shard log.items run (M.shard m) (M.gate m)) }
+    ensures left { IfErr result (λ e. IsLeft shard log.items run (M.story gate) (D.story e.1)) }
+    ensures cause { IfErr result (λ e. CountsLeft (M.Gate.faults gate) (D.faults e.1) e.0) }
+{
+    let Ok(mut store) = M::Store::empty(alloc) else {
+        return Err((RecoverError::Memory, M::disk_under(gate)));
+    };
+    match recover(alloc, &mut store, &mut gate, log, shard, run, 0) {
+        Ok(recovered) => match M::new(alloc, gate, store, recovered, shard, run, 0) {
+            Ok(machine) => Ok(machine),
+            Err(gate) => Err((RecoverError::Memory, M::disk_under(gate))),
+        },
+        Err(error) => Err((error, M::disk_under(gate))),
+    }
+}
+
+/// Takes a machine that still has its gate apart, and gives the disk. Takes no memory.
+pub fn take_apart<D: Disk, M: OverDisks<D>>(machine: M) -> D
+    requires { IsSome (M.gate machine) }
+
+    // Of a machine that recovery made and that did nothing since.
+    ensures left { (n : ℕ) (found : List Rec) (run : ℕ) (before : Option Story) → IsMachineAt M.Gate.is_shut M.Gate.faults M.Gate.shard M.Gate.logs n found run (M.shard machine) (M.gate machine) → IsLeft n found run before (D.story result) }
+    ensures fine { (n : ℕ) (found : List Rec) (run : ℕ) → IsMachineAt M.Gate.is_shut M.Gate.faults M.Gate.shard M.Gate.logs n found run (M.shard machine) (M.gate machine) → D.faults result ≡ 0 }
+{
+    let Parts {
+        gate,
+        store: _,
+        journal: _,
+    } = machine.into_parts();
+    M::disk_under(gate.unwrap())
+}

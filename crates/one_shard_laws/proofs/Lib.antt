@@ -1,2 +1,0 @@
-pub mod Doubting
-pub mod Alone

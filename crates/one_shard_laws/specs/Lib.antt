@@ -1,4 +1,0 @@
-pub mod Replaying
-pub mod Recovering
-pub mod Settling
-pub mod Doubting

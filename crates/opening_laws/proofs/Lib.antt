@@ -1,2 +1,0 @@
-pub mod Unagreed
-pub mod Accepting

@@ -1,4 +1,0 @@
-pub mod Records
-pub mod Runs
-pub mod Writes
-pub mod InOrder

@@ -1,2 +1,0 @@
-mod Worlds
-pub mod Laws

@@ -1,0 +1,147 @@
+-- What holds of a log in order, record by record.
+use Rattle.std.proofs.Common.{◌≡◌, ⊎_elim, refl, sym, ap, subst, ◌∙◌, ℕ, zero, suc, true, false, Bool, List, [], ◌∷◌, ◌++◌, length, Option, Some, None, arith, append-nil, append_assoc}
+use Rattle.std.specs.Prelude.{⊤, take}
+use Rattle.std.specs.List.{AllByRecursion}
+use Rattle.std.proofs.lemmas.Bool.{both_ways, not-true, false_from_ne_true}
+use Rattle.clv_base.specs.declared.names.TxId.{TxId}
+use Rattle.clv_base.specs.declared.logs.LogRecord.{LogRecord}
+use Rattle.clv_base.specs.declared.logs.LogRecord.TheVariants.{Update, Clr, Prepare, Commit, Abort}
+use Rattle.clv_base.specs.Orders.{nat_in}
+use Rattle.clv_base.specs.Logs.{standing, standing_after, committed_in, aborted_in, is_commit_of, is_abort_of}
+use Rattle.clv_base.specs.LogRules.{may_follow, disorder_from, disorder}
+use Rattle.clv_base.specs.Restarts.{greatest_run}
+use Rattle.clv_base.proofs.SameNames.{tx_true}
+use Rattle.law_base.proofs.Undoing.{standing_append}
+use Rattle.protocol_laws.specs.Order.{is_clr_of, undone_in, moves, Open_at, Tidy, Unprepared, Sealed, RunFits, NothingAfterCommit, NothingAfterPrepare, UndoneAreUncommitted, CommittedLieOnCommitted, RunsAreThoseOfRestarts, FrontsKeepOrder}
+use Rattle.protocol_laws.proofs.Records.{front, last, push_cases, push_left, push_false}
+use Rattle.protocol_laws.proofs.Runs.{runs_step}
+use Rattle.protocol_laws.proofs.Writes.{Writes, writes_step}
+
+-- a COMMIT does not name the shard itself as a part
+abbrev pub OtherParts : ℕ → LogRecord → Type 0
+OtherParts shard (Commit tx parts) = nat_in shard parts ≡ false
+OtherParts shard _ = ⊤
+
+pub record Order (shard : ℕ) (log : List LogRecord) : Type 0 where
+  pub tidy : Tidy [] log
+  pub sealed : Sealed [] log
+  pub apart : (t : TxId) → committed_in log t ≡ true → aborted_in log t ≡ false
+  pub undone : (t : TxId) → undone_in log t ≡ true → aborted_in log t ≡ true
+  pub writes : Writes (committed_in log) (length log) (standing log)
+  pub runs : AllByRecursion (RunFits (greatest_run log)) log
+  pub parts : AllByRecursion (OtherParts shard) log
+
+tidy_push : (before log : List LogRecord) (r : LogRecord) → Tidy before log → Open_at (before ++ log) (moves r) → Tidy before (log ++ r ∷ [])
+tidy_push before [] r t o = (subst (λ l. Open_at l (moves r)) (append-nil before) o, tt)
+tidy_push before (x ∷ xs) r t o = (t.0, tidy_push (before ++ x ∷ []) xs r t.1 (subst (λ l. Open_at l (moves r)) (sym (append_assoc before (x ∷ []) xs)) o))
+
+sealed_push : (before log : List LogRecord) (r : LogRecord) → Sealed before log → Unprepared (before ++ log) r → Sealed before (log ++ r ∷ [])
+sealed_push before [] r t o = (subst (λ l. Unprepared l r) (append-nil before) o, tt)
+sealed_push before (x ∷ xs) r t o = (t.0, sealed_push (before ++ x ∷ []) xs r t.1 (subst (λ l. Unprepared l r) (sym (append_assoc before (x ∷ []) xs)) o))
+
+unprepared_step : (shard : ℕ) (log : List LogRecord) (r : LogRecord) → may_follow shard log r ≡ true → Unprepared log r
+unprepared_step shard log (Update tx key before after) m = not-true _ (last _ _ (front _ _ (front _ _ (front _ _ (front _ _ (front _ _ (front _ _ m)))))))
+unprepared_step shard log (Prepare tx home ps) m = not-true _ (last _ _ (front _ _ (front _ _ (front _ _ (front _ _ m)))))
+unprepared_step shard log _ m = tt
+
+open_step : (shard : ℕ) (log : List LogRecord) (r : LogRecord) → Order shard log → may_follow shard log r ≡ true → Open_at log (moves r)
+open_step shard log (Update tx key before after) h m = not-true _ (last _ _ (front _ _ (front _ _ (front _ _ (front _ _ (front _ _ m))))))
+open_step shard log (Clr tx next key after) h m = false_from_ne_true _ (λ c. both_ways _ (h.apart tx c) (last _ _ (front _ _ m)))
+open_step shard log _ h m = tt
+
+no_abort : (shard : ℕ) (log : List LogRecord) (r : LogRecord) (t : TxId) → may_follow shard log r ≡ true → committed_in log t ≡ true → is_abort_of t r ≡ false
+no_abort shard log (Abort tx) t m c = false_from_ne_true _ (λ s. both_ways _ (not-true _ (last _ _ (front _ _ m))) (subst (λ z. committed_in log z ≡ true) (tx_true t tx s) c))
+no_abort shard log _ t m c = refl
+
+commit_new : (shard : ℕ) (log : List LogRecord) (r : LogRecord) (t : TxId) → may_follow shard log r ≡ true → is_commit_of t r ≡ true → (aborted_in log t ≡ false) × (is_abort_of t r ≡ false)
+commit_new shard log (Commit tx parts) t m e =
+    (subst (λ z. aborted_in log z ≡ false) (sym (tx_true t tx e)) (not-true _ (last _ _ (front _ _ (front _ _ (front _ _ (front _ _ (front _ _ m))))))), refl)
+commit_new shard log _ t m e = absurd (both_ways false refl e)
+
+clr_new : (shard : ℕ) (log : List LogRecord) (r : LogRecord) (t : TxId) → may_follow shard log r ≡ true → is_clr_of t r ≡ true → aborted_in log t ≡ true
+clr_new shard log (Clr tx next key after) t m e = subst (λ z. aborted_in log z ≡ true) (sym (tx_true t tx e)) (last _ _ (front _ _ m))
+clr_new shard log _ t m e = absurd (both_ways false refl e)
+
+parts_step : (shard : ℕ) (log : List LogRecord) (r : LogRecord) → may_follow shard log r ≡ true → OtherParts shard r
+parts_step shard log (Commit tx parts) m = not-true _ (last _ _ (front _ _ (front _ _ (front _ _ (front _ _ m)))))
+parts_step shard log _ m = tt
+
+all_push : (P : LogRecord → Type 0) (rs : List LogRecord) (r : LogRecord) → AllByRecursion P rs → P r → AllByRecursion P (rs ++ r ∷ [])
+all_push P [] r a p = (p, tt)
+all_push P (x ∷ xs) r a p = (a.0, all_push P xs r a.1 p)
+
+length_push : (log : List LogRecord) (r : LogRecord) → suc (length log) ≡ length (log ++ r ∷ [])
+length_push [] r = refl
+length_push (x ∷ xs) r = ap suc (length_push xs r)
+
+standing_push : (log : List LogRecord) (r : LogRecord) → standing (log ++ r ∷ []) ≡ standing_after (length log) r (standing log)
+standing_push log r = standing_append 0 log (r ∷ []) [] ∙ ap (λ n. standing_after n r (standing log)) (omega arith)
+
+order_push : (shard : ℕ) (log : List LogRecord) (r : LogRecord) → Order shard log → may_follow shard log r ≡ true → Order shard (log ++ r ∷ [])
+order_push shard log r h m =
+    record {
+      tidy = tidy_push [] log r h.tidy (open_step shard log r h m);
+      sealed = sealed_push [] log r h.sealed (unprepared_step shard log r m);
+      apart = λ t c. ⊎_elim (λ old. push_false (is_abort_of t) log r (h.apart t old) (no_abort shard log r t m old)) (λ new. let p = commit_new shard log r t m new in push_false (is_abort_of t) log r p.0 p.1)
+          (push_cases (is_commit_of t) log r c);
+      undone = λ t u. push_left (is_abort_of t) log r (⊎_elim (λ old. h.undone t old) (λ new. clr_new shard log r t m new) (push_cases (is_clr_of t) log r u));
+      writes = subst (λ n. Writes (committed_in (log ++ r ∷ [])) n (standing (log ++ r ∷ []))) (length_push log r)
+          (subst (Writes (committed_in (log ++ r ∷ [])) (suc (length log))) (sym (standing_push log r)) (writes_step shard log r m h.writes));
+      runs = runs_step shard log r h.runs m;
+      parts = all_push (OtherParts shard) log r h.parts (parts_step shard log r m);
+    }
+
+order_case : (shard n : ℕ) (log : List LogRecord) (r : LogRecord) (rs : List LogRecord) (b : Bool) → may_follow shard log r ≡ b → ◌≡◌ {A = Option ℕ} (elim b [ true ↦ disorder_from shard (suc n) (log ++ r ∷ []) rs | false ↦ Some n ]) None
+    → (may_follow shard log r ≡ true) × (disorder_from shard (suc n) (log ++ r ∷ []) rs ≡ None)
+order_case shard n log r rs true e d = (e, d)
+order_case shard n log r rs false e d = absurd (never d)
+  where
+    never : ◌≡◌ {A = Option ℕ} (Some n) None → ⊥
+    never k = absurd cc
+
+order_from : (shard n : ℕ) (log rs : List LogRecord) → disorder_from shard n log rs ≡ None → Order shard log → Order shard (log ++ rs)
+order_from shard n log [] d h = subst (Order shard) (sym (append-nil log)) h
+order_from shard n log (r ∷ rs) d h =
+    let p = order_case shard n log r rs (may_follow shard log r) refl d in
+    subst (Order shard) (append_assoc log (r ∷ []) rs) (order_from shard (suc n) (log ++ r ∷ []) rs p.1 (order_push shard log r h p.0))
+
+pub in_order : (shard : ℕ) (log : List LogRecord) → disorder shard log ≡ None → Order shard log
+in_order shard log d =
+    order_from shard 0 [] log d
+    (record {
+      tidy = tt;
+      sealed = tt;
+      apart = λ t c. absurd (both_ways false refl c);
+      undone = λ t u. absurd (both_ways false refl u);
+      writes = record { chain = tt; falls = tt; low = tt; lie = tt };
+      runs = tt;
+      parts = tt;
+    })
+
+pub undone_open : (shard : ℕ) (log : List LogRecord) (t : TxId) → Order shard log → undone_in log t ≡ true → committed_in log t ≡ false
+undone_open shard log t h u = false_from_ne_true _ (λ c. both_ways _ (h.apart t c) (h.undone t u))
+
+pub tidy_in_order : NothingAfterCommit
+tidy_in_order shard log d = (in_order shard log d).tidy
+
+pub sealed_in_order : NothingAfterPrepare
+sealed_in_order shard log d = (in_order shard log d).sealed
+
+pub undone_uncommitted : UndoneAreUncommitted
+undone_uncommitted shard log t d u = undone_open shard log t (in_order shard log d) u
+
+pub lie_in_order : CommittedLieOnCommitted
+lie_in_order shard log d = (in_order shard log d).writes.lie
+
+pub runs_in_order : RunsAreThoseOfRestarts
+runs_in_order shard log d = (in_order shard log d).runs
+
+front_from : (shard k : ℕ) (before rs : List LogRecord) (n : ℕ) → disorder_from shard k before rs ≡ None → disorder_from shard k before (take n rs) ≡ None
+front_from shard k before rs zero d = refl
+front_from shard k before [] (suc n) d = refl
+front_from shard k before (r ∷ rs) (suc n) d =
+    let p = order_case shard k before r rs (may_follow shard before r) refl d in
+    ap (λ b. elim b [ true ↦ disorder_from shard (suc k) (before ++ r ∷ []) (take n rs) | false ↦ Some k ]) p.0 ∙ front_from shard (suc k) (before ++ r ∷ []) rs n p.1
+
+pub fronts_in_order : FrontsKeepOrder
+fronts_in_order shard n log d = front_from shard 0 [] log n d

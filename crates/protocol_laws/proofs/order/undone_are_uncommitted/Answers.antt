@@ -1,0 +1,5 @@
+use Rattle.protocol_laws.proofs.OrderInOrder.{undone_uncommitted}
+use Rattle.protocol_laws.proofs.order.undone_are_uncommitted.Goals as goal
+
+pub returns : goal.returns
+returns c = undone_uncommitted

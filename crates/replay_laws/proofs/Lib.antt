@@ -1,3 +1,0 @@
-mod Telling
-mod Going
-mod Replaying

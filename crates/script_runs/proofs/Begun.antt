@@ -1,0 +1,108 @@
+-- Seats of which the first has begun.
+use Rattle.std.proofs.Common.{◌≡◌, refl, sym, ap, subst, ◌∙◌, ℕ, zero, suc, ◌-◌, ◌<◌, true, false, List, [], ◌∷◌, ◌++◌, take, drop, length, slice_index_or, slice_set, Option, None, Some, Result, Ok, Err, IfErr, arith}
+use Rattle.std.specs.Result.{is_ok}
+use Rattle.std.proofs.lemmas.List.{take_all, get_or_append_left}
+use borrow.Rule.Slice.PartMut.{put_mid}
+use Rattle.script_runs.specs.declared.ends.StopCause.{StopCause}
+use Rattle.script_runs.specs.Seen.{Seen}
+use Rattle.script_runs.specs.Ran.{stop_in, IsIdle, IdleAfter, Follows}
+use Rattle.script_runs.specs.Laws.{SessionsGoOn, SessionsStop}
+use Rattle.script_runs.specs.declared.seats.Seat.{Seat}
+use Rattle.script_runs.specs.Begun.{HasBegun}
+
+-- ---- lists with another first element
+
+pub first_is : {X : Type 0} (xs : List X) (y d : X) → 0 < length xs → slice_index_or (slice_set xs 0 y) 0 d ≡ y
+first_is [] y d l = absurd (omega arith)
+first_is (x ∷ xs) y d l = refl
+
+pub idle_when_ok : {A : Type 0} (r : Result A StopCause) (u : Seen) → is_ok r ≡ true → IdleAfter r u → IsIdle u
+idle_when_ok (Ok a) u ok idle = idle
+idle_when_ok (Err cause) u ok idle = absurd cc
+
+module _ {X : Type 0} (P : X → Type 0) where
+  pub with_first : (xs : List X) (y : X) → P y → ((k : ℕ) (d : X) → k < length xs → P (slice_index_or xs k d)) → (k : ℕ) (d : X) → k < length (slice_set xs 0 y) → P (slice_index_or (slice_set xs 0 y) k d)
+  with_first [] y p all k d l = absurd (omega arith)
+  with_first (x ∷ xs) y p all zero d l = p
+  with_first (x ∷ xs) y p all (suc k) d l = all (suc k) d l
+
+  pub behind_first : (xs : List X) (y : X) → ((k : ℕ) (d : X) → k < length xs → P (slice_index_or xs k d))
+      → (k : ℕ) (d : X) → k < length (take (length (slice_set xs 0 y) - 1) (drop 1 (slice_set xs 0 y))) → P (slice_index_or (take (length (slice_set xs 0 y) - 1) (drop 1 (slice_set xs 0 y))) k d)
+  behind_first [] y all k d l = absurd (omega arith)
+  behind_first (x ∷ xs) y all k d l =
+      let whole : take (length (y ∷ xs) - 1) xs ≡ xs = take_all (length (y ∷ xs) - 1) xs (omega arith) in
+      subst (λ zs. P (slice_index_or zs k d)) (sym whole) (all (suc k) d (let m : k < length xs = subst (λ zs. k < length zs) whole l in omega arith))
+
+-- ---- seats
+
+module _ {S B : Type 0} (holds : S → Type 0) (base : S → B) (seen : S → Seen) (grounds : S → StopCause → Type 0) (most : Option ℕ) where
+  -- the session of a seat ran
+  pub record Sat (old new : Seat S) : Type 0 where
+    pub session : holds new.session
+    pub base_is : base new.session ≡ base old.session
+    pub transactions : new.transactions.now ≡ old.transactions.now
+    pub follows : Follows old.transactions.now most (stop_in new.ended) (seen old.session) (seen new.session)
+    pub stopped : IfErr new.ended (grounds new.session)
+
+  -- it ran its first transaction
+  pub record Begun (old new : Seat S) : Type 0 where
+    pub session : holds new.session
+    pub base_is : base new.session ≡ base old.session
+    pub begun : HasBegun old.transactions.now new.transactions.now most (stop_in new.ended) (seen old.session) (seen new.session)
+    pub stopped : IfErr new.ended (grounds new.session)
+
+  abbrev given_back : Seat S → Seat S → Seat S
+  given_back x y = record { session = y.session; transactions = x.transactions; ended = y.ended }
+
+  fine : {A : Type 0} (r : Result A StopCause) → is_ok r ≡ true → stop_in r ≡ None
+  fine (Ok a) h = refl
+  fine (Err cause) h = absurd cc
+
+  joined : SessionsGoOn → (x s y : Seat S) → Begun x s → is_ok s.ended ≡ true → Sat s y → Sat x (given_back x y)
+  joined go_on x s y b ok r =
+      record {
+        session = r.session;
+        base_is = r.base_is ∙ b.base_is;
+        transactions = refl;
+        follows =
+            subst (λ bodies. Follows bodies most (stop_in y.ended) (seen x.session) (seen y.session)) (sym (b.begun).whole_is)
+            (go_on (b.begun).front s.transactions.now most (stop_in y.ended) (seen x.session) (seen s.session) (seen y.session)
+            (subst (λ c. Follows (b.begun).front most c (seen x.session) (seen s.session)) (fine s.ended ok) (b.begun).follows) r.follows);
+        stopped = r.stopped;
+      }
+
+  pub all_joined : SessionsGoOn → (xs : List (Seat S)) (s : Seat S) (ys : List (Seat S)) (p q r : Seat S) → length ys ≡ length (slice_set xs 0 s) → Begun (slice_index_or xs 0 p) s → is_ok s.ended ≡ true
+      → ((k : ℕ) (d : Seat S) → k < length (slice_set xs 0 s) → Sat (slice_index_or (slice_set xs 0 s) k d) (slice_index_or ys k d))
+      → (k : ℕ) (d : Seat S) → k < length xs → Sat (slice_index_or xs k d) (slice_index_or (slice_set ys 0 (given_back (slice_index_or xs 0 q) (slice_index_or ys 0 r))) k d)
+  all_joined go_on [] s ys p q r len b ok all k d l = absurd (omega arith)
+  all_joined go_on (x ∷ xs) s [] p q r len b ok all k d l = absurd (omega arith)
+  all_joined go_on (x ∷ xs) s (y ∷ ys) p q r len b ok all zero d l = joined go_on x s y b ok (all 0 d (omega arith))
+  all_joined go_on (x ∷ xs) s (y ∷ ys) p q r len b ok all (suc k) d l = all (suc k) d l
+
+  ended_so : SessionsStop → (x s : Seat S) (e : Result (Unit {0}) StopCause) → s.ended ≡ e → is_ok e ≡ false → Begun x s → Follows x.transactions.now most (stop_in e) (seen x.session) (seen s.session)
+  ended_so stop x s (Ok a) is off b = absurd cc
+  ended_so stop x s (Err cause) is off b =
+      subst (λ bodies. Follows bodies most (Some cause) (seen x.session) (seen s.session)) (sym (b.begun).whole_is)
+      (stop (b.begun).front s.transactions.now most cause (seen x.session) (seen s.session) (subst (λ e. Follows (b.begun).front most (stop_in e) (seen x.session) (seen s.session)) is (b.begun).follows))
+
+  stopped_at : SessionsStop → (x s : Seat S) → is_ok s.ended ≡ false → Begun x s → Sat x (given_back x s)
+  stopped_at stop x s off b = record { session = b.session; base_is = b.base_is; transactions = refl; follows = ended_so stop x s s.ended refl off b; stopped = b.stopped }
+
+  -- the others ran, and the first was stopped
+  behind : SessionsStop → (x s : Seat S) (xs ys rest : List (Seat S)) (r : Seat S) → length ys ≡ length xs → Begun x s → is_ok s.ended ≡ false → ((k : ℕ) (d : Seat S) → k < length xs → Sat (slice_index_or xs k d) (slice_index_or ys k d))
+      → (k : ℕ) (d : Seat S) → k < length (x ∷ xs) → Sat (slice_index_or (x ∷ xs) k d) (slice_index_or (given_back x s ∷ (ys ++ rest)) k d)
+  behind stop x s xs ys rest r len b off all zero d l = stopped_at stop x s off b
+  behind stop x s xs ys rest r len b off all (suc k) d l = subst (Sat (slice_index_or xs k d)) (sym (get_or_append_left ys rest d k (omega arith))) (all k d (omega arith))
+
+  pub all_behind : SessionsStop → (xs : List (Seat S)) (s : Seat S) (ys zs : List (Seat S)) (p q r : Seat S) → zs ≡ put_mid 1 (length (slice_set xs 0 s) - 1) (slice_set xs 0 s) ys
+      → length ys ≡ length (take (length (slice_set xs 0 s) - 1) (drop 1 (slice_set xs 0 s))) → Begun (slice_index_or xs 0 p) s → is_ok s.ended ≡ false
+      → ((k : ℕ) (d : Seat S) → k < length (take (length (slice_set xs 0 s) - 1) (drop 1 (slice_set xs 0 s))) → Sat (slice_index_or (take (length (slice_set xs 0 s) - 1) (drop 1 (slice_set xs 0 s))) k d) (slice_index_or ys k d))
+      → (k : ℕ) (d : Seat S) → k < length xs → Sat (slice_index_or xs k d) (slice_index_or (slice_set zs 0 (given_back (slice_index_or xs 0 q) (slice_index_or zs 0 r))) k d)
+  all_behind stop [] s ys zs p q r is len b off all k d l = absurd (omega arith)
+  all_behind stop (x ∷ xs) s ys zs p q r is len b off all k d l =
+      let whole : take (length (s ∷ xs) - 1) xs ≡ xs = take_all (length (s ∷ xs) - 1) xs (omega arith) in
+      let rest = drop (length (s ∷ xs) - 1) xs in
+      let same : zs ≡ s ∷ (ys ++ rest) = is in
+      subst (λ z. Sat (slice_index_or (x ∷ xs) k d) (slice_index_or (slice_set z 0 (given_back x (slice_index_or z 0 r))) k d)) (sym same)
+      (behind stop x s xs ys rest r (len ∙ ap length whole) b off
+      (λ j e m. subst (λ w. Sat (slice_index_or w j e) (slice_index_or ys j e)) whole (all j e (subst (λ w. j < length w) (sym whole) m))) k d l)

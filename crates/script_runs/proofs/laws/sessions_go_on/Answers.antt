@@ -1,5 +1,0 @@
-use Rattle.script_runs.proofs.Sessions.{sessions_go_on}
-use Rattle.script_runs.proofs.laws.sessions_go_on.Goals as goal
-
-pub returns : goal.returns
-returns c = sessions_go_on

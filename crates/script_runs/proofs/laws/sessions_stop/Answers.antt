@@ -1,5 +1,0 @@
-use Rattle.script_runs.proofs.Sessions.{sessions_stop}
-use Rattle.script_runs.proofs.laws.sessions_stop.Goals as goal
-
-pub returns : goal.returns
-returns c = sessions_stop

@@ -1,0 +1,5 @@
+use Rattle.script_runs.proofs.ScriptTriesTries.{entries_tell_their_lines}
+use Rattle.script_runs.proofs.promises.entries_tell_their_lines.Goals as goal
+
+pub returns : goal.returns
+returns c = entries_tell_their_lines

@@ -1,0 +1,5 @@
+use Rattle.script_runs.proofs.ScriptTriesSessions.{sessions_go_through}
+use Rattle.script_runs.proofs.promises.sessions_go_through.Goals as goal
+
+pub returns : goal.returns
+returns c = sessions_go_through

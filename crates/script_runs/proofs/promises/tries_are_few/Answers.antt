@@ -1,0 +1,5 @@
+use Rattle.script_runs.proofs.ScriptTriesSessions.{tries_are_few}
+use Rattle.script_runs.proofs.promises.tries_are_few.Goals as goal
+
+pub returns : goal.returns
+returns c = tries_are_few

@@ -1,0 +1,33 @@
+use Rattle.std.proofs.Common.{◌≡◌, true, sym, subst, slice_index_or}
+use Rattle.std.specs.List.{list_all}
+use Rattle.script_lang.specs.Laws.{is_narrow_body}
+use Rattle.script_runs.specs.Ran.{stop_in, IsIdle, Follows}
+use Rattle.script_runs.proofs.seats.run_together.Goals as goal
+
+-- each seat may be run
+pub for_each_mut-requires-clause-accepts : goal.for_each_mut-requires-clause-accepts
+for_each_mut-requires-clause-accepts g c κs within =
+    λ i p l same. (
+      subst (λ s. g.C.SessionCalls.holds s.session) (sym same) (c.requires.session i p.now l),
+      (
+        subst (λ s. IsIdle (g.C.SessionCalls.seen s.session)) (sym same) (c.requires.idle i p.now l),
+        subst (λ s. list_all is_narrow_body s.transactions.now ≡ true) (sym same) (c.requires.narrow i p.now l),
+      ),
+    )
+
+-- what its call left is what stands in its place
+pub returns-clause-follows : goal.returns-clause-follows
+returns-clause-follows g c =
+    λ k d l.
+    let seen = g.C.SessionCalls.seen in
+    let e = (c.for_each_mut.ensures k d l).1 in
+    subst (λ y. Follows (slice_index_or c.args.seats.now k d).transactions.now c.args.most (stop_in y.ended) (seen (slice_index_or c.args.seats.now k d).session) (seen y.session)) e.left
+    (subst (λ x. Follows x.transactions.now c.args.most (stop_in e.after_call.now.ended) (seen x.session) (seen e.after_call.now.session)) e.argument_is e.call.1.1.1.0)
+
+pub returns-clause-base : goal.returns-clause-base
+returns-clause-base g c =
+    λ k d l.
+    let base = g.C.SessionCalls.base in
+    let e = (c.for_each_mut.ensures k d l).1 in
+    subst (λ y. base y.session ≡ base (slice_index_or c.args.seats.now k d).session) e.left
+    (subst (λ x. base e.after_call.now.session ≡ base x.session) e.argument_is e.call.1.0)

@@ -1,0 +1,5 @@
+use Rattle.script_runs.proofs.Sessions.{sessions_stop}
+use Rattle.script_runs.proofs.statements.sessions_stop.Goals as goal
+
+pub returns : goal.returns
+returns c = sessions_stop

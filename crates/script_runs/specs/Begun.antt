@@ -1,0 +1,12 @@
+-- A session that ran some of its transactions.
+use Rattle.std.specs.Prelude.{◌≡◌, ℕ, List, ◌++◌, Option}
+use Rattle.script_lang.specs.Bodies.{Body}
+use Rattle.script_runs.specs.declared.ends.StopCause.{StopCause}
+use Rattle.script_runs.specs.Seen.{Seen}
+use Rattle.script_runs.specs.Ran.{Follows}
+
+-- some of the transactions were run, and the others are left
+pub record HasBegun (whole left : List Body) (most : Option ℕ) (cause : Option StopCause) (u v : Seen) : Type 0 where
+  pub front : List Body
+  pub whole_is : whole ≡ front ++ left
+  pub follows : Follows front most cause u v

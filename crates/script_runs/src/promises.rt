@@ -1,0 +1,48 @@
+// What a session of a script keeps.
+ghost use Rattle.script_runs.specs.ScriptTriesLaws.{AcknowledgedDidTheirLines, EntriesTellTheirLines, EntriesTellOfNoOther, DropsHaveReasons, TriesAreFew, TriesHaveOneBirth, TransactionsHaveOwnBirths, SessionsGoThrough, SessionsTellTheirTries};
+
+/// A try that is acknowledged did each of its lines.
+pub fn acknowledged_did_their_lines()
+    ensures { AcknowledgedDidTheirLines }
+{}
+
+/// What its entries tell of answered operations are the parts of its lines' operations, under its answers.
+pub fn entries_tell_their_lines()
+    ensures { EntriesTellTheirLines }
+{}
+
+/// Of operations of another transaction they tell nothing.
+pub fn entries_tell_of_no_other()
+    ensures { EntriesTellOfNoOther }
+{}
+
+/// A try has drops only where it was aborted, where the line `abort` ended it, or where a shard was down before its request.
+pub fn drops_have_reasons()
+    ensures { DropsHaveReasons }
+{}
+
+/// A transaction has at most as many tries as are wanted.
+pub fn tries_are_few()
+    ensures { TriesAreFew }
+{}
+
+/// The operations of all its tries bear one birth.
+pub fn tries_have_one_birth()
+    ensures { TriesHaveOneBirth }
+{}
+
+/// Different transactions have different births.
+pub fn transactions_have_own_births()
+    ensures { TransactionsHaveOwnBirths }
+{}
+
+/// A session that wasn't stopped went through all its transactions: each is acknowledged, had nothing to commit, was ended by its line `abort`, or has no
+/// try left.
+pub fn sessions_go_through()
+    ensures { SessionsGoThrough }
+{}
+
+/// Each try has a name of its own: of the transaction of that name the session's entries tell the operations of this try alone.
+pub fn sessions_tell_their_tries()
+    ensures { SessionsTellTheirTries }
+{}

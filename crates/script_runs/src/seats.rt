@@ -1,0 +1,73 @@
+// Sessions with their work, on threads.
+ghost use Rattle.std.specs.Prelude.{◌≡◌, ◌<◌, ℕ, true, length, slice_index_or, IfErr};
+ghost use Rattle.std.specs.List.{list_all};
+ghost use Rattle.script_lang.specs.Laws.{is_narrow_body};
+ghost use Rattle.script_runs.specs.Ran.{stop_in, IsIdle, Follows};
+
+use script_lang::Transaction;
+use crate::{SessionCalls, run_session};
+use crate::StopCause;
+use std::alloc::Global;
+use std::sync::Wait;
+use std::thread;
+use std::thread::Threads;
+
+/// A session, the transactions that it is to run, and how it ended.
+#[derive(Drop)]
+pub struct Seat<'a, C> {
+    pub session: C,
+    pub transactions: &'a [Transaction],
+    pub ended: Result<(), StopCause>,
+}
+
+// Runs the session of a seat.
+fn run_one<R: Wait, C: SessionCalls>(
+    rt: &R,
+    alloc: Global,
+    seat: &mut Seat<'_, C>,
+    most: Option<u32>,
+)
+    requires session { C.holds seat.old.session }
+    requires idle { IsIdle (C.seen seat.old.session) }
+    requires narrow { list_all is_narrow_body seat.old.transactions.now ≡ true }
+    ensures session { C.holds seat.new.session }
+    ensures base { C.base seat.new.session ≡ C.base seat.old.session }
+    ensures transactions { seat.new.transactions.now ≡ seat.old.transactions.now }
+    ensures follows { Follows seat.old.transactions.now most (stop_in seat.new.ended) (C.seen seat.old.session) (C.seen seat.new.session) }
+    ensures grounds { IfErr seat.new.ended (C.grounds seat.new.session) }
+{
+    seat.ended = run_session(rt, alloc, &mut seat.session, seat.transactions, most);
+}
+
+// Runs the session of each seat on a thread of its own.
+pub(crate) fn run_together<R: Threads + Wait + Sync, C: SessionCalls + Send>(
+    rt: &R,
+    alloc: Global,
+    seats: &mut [Seat<'_, C>],
+    most: Option<u32>,
+)
+    requires session { (k : ℕ) (d : _) → k < length seats.old → C.holds (slice_index_or seats.old k d).session }
+    requires idle { (k : ℕ) (d : _) → k < length seats.old → IsIdle (C.seen (slice_index_or seats.old k d).session) }
+    requires narrow { (k : ℕ) (d : _) → k < length seats.old → list_all is_narrow_body (slice_index_or seats.old k d).transactions.now ≡ true }
+    ensures session { (k : ℕ) (d : _) → k < length seats.old → C.holds (slice_index_or seats.new k d).session }
+    ensures base { (k : ℕ) (d : _) → k < length seats.old → C.base (slice_index_or seats.new k d).session ≡ C.base (slice_index_or seats.old k d).session }
+    ensures transactions { (k : ℕ) (d : _) → k < length seats.old → (slice_index_or seats.new k d).transactions.now ≡ (slice_index_or seats.old k d).transactions.now }
+    ensures follows { (k : ℕ) (d : _) → k < length seats.old → Follows (slice_index_or seats.old k d).transactions.now most (stop_in (slice_index_or seats.new k d).ended) (C.seen (slice_index_or seats.old k d).session) (C.seen (slice_index_or seats.new k d).session) }
+    ensures grounds { (k : ℕ) (d : _) → k < length seats.old → IfErr (slice_index_or seats.new k d).ended (C.grounds (slice_index_or seats.new k d).session) }
+{
+    if seats.is_empty() {
+        return;
+    }
+    let count = seats.len();
+    let body = |_: usize, seat: &mut Seat<'_, C>|
+        requires session { C.holds seat.now.session }
+        requires idle { IsIdle (C.seen seat.now.session) }
+        requires narrow { list_all is_narrow_body seat.now.transactions.now ≡ true }
+        ensures session { C.holds seat.exit.now.session }
+        ensures base { C.base seat.exit.now.session ≡ C.base seat.entry.now.session }
+        ensures transactions { seat.exit.now.transactions.now ≡ seat.entry.now.transactions.now }
+        ensures follows { Follows seat.entry.now.transactions.now most (stop_in seat.exit.now.ended) (C.seen seat.entry.now.session) (C.seen seat.exit.now.session) }
+        ensures grounds { IfErr seat.exit.now.ended (C.grounds seat.exit.now.session) }
+    { run_one(rt, alloc, seat, most) };
+    thread::for_each_mut(rt, seats, count, &body);
+}

@@ -1,4 +1,0 @@
-mod Retried
-pub mod Tries
-pub mod Sessions
-pub mod Laws

@@ -1,5 +1,0 @@
-use Rattle.script_tries.proofs.Retried.{transfer_is_retried}
-use Rattle.script_tries.proofs.examples.transfer_is_retried.Goals as goal
-
-pub returns : goal.returns
-returns c = transfer_is_retried

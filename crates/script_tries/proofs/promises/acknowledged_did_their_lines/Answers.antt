@@ -1,5 +1,0 @@
-use Rattle.script_tries.proofs.Tries.{acknowledged_did_their_lines}
-use Rattle.script_tries.proofs.promises.acknowledged_did_their_lines.Goals as goal
-
-pub returns : goal.returns
-returns c = acknowledged_did_their_lines

@@ -1,5 +1,0 @@
-use Rattle.script_tries.proofs.Tries.{entries_tell_their_lines}
-use Rattle.script_tries.proofs.promises.entries_tell_their_lines.Goals as goal
-
-pub returns : goal.returns
-returns c = entries_tell_their_lines

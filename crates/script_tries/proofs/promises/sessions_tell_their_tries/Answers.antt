@@ -1,5 +1,0 @@
-use Rattle.script_tries.proofs.Sessions.{sessions_tell_their_tries}
-use Rattle.script_tries.proofs.promises.sessions_tell_their_tries.Goals as goal
-
-pub returns : goal.returns
-returns c = sessions_tell_their_tries

@@ -1,5 +1,0 @@
-use Rattle.script_tries.proofs.Sessions.{transactions_have_own_births}
-use Rattle.script_tries.proofs.promises.transactions_have_own_births.Goals as goal
-
-pub returns : goal.returns
-returns c = transactions_have_own_births

@@ -1,5 +1,0 @@
-use Rattle.script_tries.proofs.Sessions.{tries_have_one_birth}
-use Rattle.script_tries.proofs.promises.tries_have_one_birth.Goals as goal
-
-pub returns : goal.returns
-returns c = tries_have_one_birth

@@ -1,7 +1,0 @@
-// Who may begin.
-ghost use Rattle.session_begins.specs.Beginnings.{NewWalkersAreReady};
-
-/// A walker without a turn so far is ready for its first transaction.
-pub fn new_walkers_are_ready<M, S, G>()
-    ensures { NewWalkersAreReady M S G }
-{}

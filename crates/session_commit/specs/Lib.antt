@@ -1,2 +1,0 @@
-pub mod Requested
-pub mod Looked

@@ -1,4 +1,0 @@
-pub mod Going
-pub mod Parting
-pub mod Unbearing
-pub mod Laws

@@ -1,0 +1,324 @@
+-- What a request's answer makes of a session.
+use Rattle.std.proofs.Common.{◌≡◌, ◌∙◌, refl, sym, ap, subst, ℕ, zero, suc, ◌<◌, ◌≤◌, ◌^◌, ◌==◌, nat_lt, Bool, true, false, cond, ◌&&◌, ◌||◌, map, length, get_or, List, [], ◌∷◌, ◌++◌, append-nil, Option, Some, None, Result, Ok, Err, arith, inl, inr, eq-eqb, eqb-true}
+use Rattle.std.specs.Prelude.{is_some, IfOk}
+use Rattle.std.specs.List.{list_all, list_any}
+use Rattle.std.specs.Map.{lookup}
+use Rattle.std.proofs.lemmas.Bool.{both_ways, and_from}
+use Rattle.clv_base.specs.declared.names.TxId.{TxId}
+use Rattle.clv_base.specs.declared.names.Birth.{Birth}
+use Rattle.clv_base.specs.declared.causes.AbortCause.{AbortCause}
+use Rattle.clv_base.specs.declared.events.Event.{Event}
+use Rattle.clv_base.specs.declared.events.Event.TheVariants.{Request}
+use Rattle.clv_base.specs.declared.events.Outcome.{Outcome}
+use Rattle.clv_base.specs.declared.events.Outcome.TheVariants.{Asked, Dead, Down}
+use Rattle.clv_base.specs.declared.events.Entry.{Entry}
+use Rattle.clv_base.specs.FileRules.{numbers_rise}
+use Rattle.clv_base.specs.Orders.{tx_same}
+use Rattle.clv_base.specs.State.{Shard}
+use Rattle.clv_base.specs.declared.state.Stage.{Stage}
+use Rattle.clv_base.specs.declared.state.Stage.TheVariants.{Active, Closed, Gone}
+use Rattle.clv_base.specs.Undo.{stage_of}
+use Rattle.clv_base.specs.OneShard.{seen_fits}
+use Rattle.clv_base.specs.Events.{Reply, QuietBeforeWorn, QuietAfterWorn, Does, Quiet, Enters, stamped, happen, happen_up, step, next_stamp, request_event, request_by_stage, epoch_in}
+use Rattle.clv_base.specs.Sessions.{SessionState, is_touching, same_touched, is_lowest, requested, session_after, is_session_number}
+use Rattle.clv_base.proofs.SameNames.{tx_self}
+use Rattle.journal_laws.specs.Offers.{may_make}
+use Rattle.machine_calls.specs.declared.machine.StepError.{StepError}
+use Rattle.machine_calls.specs.declared.machine.StepError.TheVariants.{Memory}
+use Rattle.machine_calls.specs.Events.{touched_fit}
+use Rattle.machine_calls.specs.Steps.{Tells}
+use Rattle.cluster_turns.specs.declared.shards.Shards.{Shards}
+use Rattle.cluster_turns.specs.declared.shards.Walker.{Walker}
+use Rattle.cluster_turns.specs.Turns.{EventTold}
+use Rattle.turn_lock.specs.Passes.{pass_origin}
+use Rattle.cluster_turns.specs.Walkers.{IsWalker, IsSameWalker, Walked, kept}
+use Rattle.cluster_turns.proofs.Laws.{event_rises}
+use Rattle.session_births.specs.States.{session_of}
+use Rattle.session_births.proofs.Laws.{states_go_on, states_tell_may_make, touched_are_last}
+use Rattle.session_births.specs.Turns.{Turn, Took, no_turn, event_turn, entry_on}
+use Rattle.session_births.proofs.Laws.{kept_grows}
+use Rattle.session_births.specs.Births.{AreInformed}
+use Rattle.session_births.specs.Unborn.{UnbornAt, HasShard, EndsPart}
+use Rattle.session_births.proofs.Laws.{informed_stay, free_stays, unless_stays, ends_unbear, dies_at_request}
+use Rattle.session_ops.specs.Standing.{IsOld, IsReady, HasBirth, IsActive, IsGoneAt}
+use Rattle.session_ops.specs.Requested.{is_request_outcome, place_requested, RequestTold, RequestStands}
+
+-- ---- an entry is made exactly where the request stands or died
+
+abbrev is_told : Outcome → Bool
+is_told Asked = true
+is_told (Dead cause) = true
+is_told _ = false
+
+abbrev pub is_done : Reply → Bool
+is_done (QuietBeforeWorn o) = false
+is_done (QuietAfterWorn o) = false
+is_done (Does o t) = true
+
+abbrev pub outcome_in : Reply → Outcome
+outcome_in (QuietBeforeWorn o) = o
+outcome_in (QuietAfterWorn o) = o
+outcome_in (Does o t) = o
+
+-- what a request comes to fits, and is told where it is done
+abbrev Fits : Reply → Type 0
+Fits r = (is_told (outcome_in r) ≡ is_done r) × (is_request_outcome (outcome_in r) ≡ true)
+
+by_stage : (s : Shard) (tx : TxId) (ts : List (ℕ × ℕ)) (st : Option Stage) → Fits (request_by_stage s tx ts st)
+by_stage s tx ts None = (refl, refl)
+by_stage s tx ts (Some Active) = (refl, refl)
+by_stage s tx ts (Some Closed) = (refl, refl)
+by_stage s tx ts (Some (Gone None)) = (refl, refl)
+by_stage s tx ts (Some (Gone (Some doom))) = (refl, refl)
+
+by_seen : (s : Shard) (tx : TxId) (ts : List (ℕ × ℕ)) (fits : Bool) → Fits (request_event s tx ts fits)
+by_seen s tx ts false = (refl, refl)
+by_seen s tx ts true = by_stage s tx ts (stage_of s.local tx)
+
+happens_fits : (s : Shard) (tx : TxId) (ts : List (ℕ × ℕ)) → Fits (happen s (Request tx ts))
+happens_fits s tx ts = at s.is_up
+  where
+    at : (u : Bool) → Fits (elim u [ true ↦ happen_up s (Request tx ts) | false ↦ QuietBeforeWorn Down ])
+    at true = by_seen s tx ts (seen_fits s.local.epoch (epoch_in s.shard ts))
+    at false = (refl, refl)
+
+pub quiet_so : (stamp w : ℕ) (e : Event) (room : Bool) (r : Reply) (o : Outcome) → stamped stamp w e room r ≡ Quiet o → (outcome_in r ≡ o) × (is_done r ≡ false)
+quiet_so stamp w e room (QuietBeforeWorn p) o h = (cc, refl)
+quiet_so stamp w e true (QuietAfterWorn p) o h = (cc, refl)
+quiet_so stamp w e false (QuietAfterWorn p) o h = absurd cc
+quiet_so stamp w e true (Does p t) o h = absurd cc
+quiet_so stamp w e false (Does p t) o h = absurd cc
+
+pub enters_so : (stamp w : ℕ) (e : Event) (room : Bool) (r : Reply) (o : Outcome) (t : Shard) → stamped stamp w e room r ≡ Enters o t → (outcome_in r ≡ o) × (is_done r ≡ true)
+enters_so stamp w e room (QuietBeforeWorn p) o t h = absurd cc
+enters_so stamp w e true (QuietAfterWorn p) o t h = absurd cc
+enters_so stamp w e false (QuietAfterWorn p) o t h = absurd cc
+enters_so stamp w e true (Does p u) o t h = (cc, refl)
+enters_so stamp w e false (Does p u) o t h = absurd cc
+
+pub ok_same : (o p : Outcome) → ◌≡◌ {A = Result Outcome StepError} (Ok o) (Ok p) → o ≡ p
+ok_same o p h = cc
+
+-- an entry of this event and outcome
+pub record IsEntered (e : Event) (o : Outcome) (made : Option Entry) : Type 0 where
+  pub entry : Entry
+  pub is : made ≡ Some entry
+  pub event_is : entry.event ≡ e
+  pub outcome_is : entry.outcome ≡ o
+
+module _ (tx : TxId) (ts : List (ℕ × ℕ)) where
+  told_enters : (s t : Shard) (clock w : ℕ) (o : Outcome) (made : Option Entry) → Tells (step s clock w (Request tx ts)) s clock w (Request tx ts) (Ok o) t made → is_told o ≡ true → IsEntered (Request tx ts) o made
+  told_enters s t clock w o None h k =
+      let e = Request tx ts in
+      let q = quiet_so (next_stamp s clock e) w e (nat_lt (next_stamp s clock e) (2 ^ 48)) (happen s e) o h.0 in
+      absurd (both_ways (is_done (happen s e)) q.1 (sym (happens_fits s tx ts).0 ∙ ap is_told q.0 ∙ k))
+  told_enters s t clock w o (Some x) (p, is, m) k =
+      record { entry = x; is = refl; event_is = ap (λ y. y.event) m.entry_is; outcome_is = ap (λ y. y.outcome) m.entry_is ∙ sym (ok_same o p is) }
+
+  quiet_none : (s t : Shard) (clock w : ℕ) (o : Outcome) (made : Option Entry) → Tells (step s clock w (Request tx ts)) s clock w (Request tx ts) (Ok o) t made → is_told o ≡ false → made ≡ None
+  quiet_none s t clock w o None h k = refl
+  quiet_none s t clock w o (Some x) (p, is, m) k =
+      let e = Request tx ts in
+      let q = enters_so (next_stamp s clock e) w e (nat_lt (next_stamp s clock e) (2 ^ 48)) (happen s e) p t m.enters in
+      absurd (both_ways (is_done (happen s e)) (sym (happens_fits s tx ts).0 ∙ ap is_told (q.0 ∙ sym (ok_same o p is)) ∙ k) q.1)
+
+  error_none : (s t : Shard) (clock w : ℕ) (x : StepError) (made : Option Entry) → Tells (step s clock w (Request tx ts)) s clock w (Request tx ts) (Err x) t made → made ≡ None
+  error_none s t clock w x None h = refl
+  error_none s t clock w x (Some y) (p, is, m) = absurd cc
+
+  told_fits : (s t : Shard) (clock w : ℕ) (r : Result Outcome StepError) (made : Option Entry) → Tells (step s clock w (Request tx ts)) s clock w (Request tx ts) r t made → IfOk r (λ o. is_request_outcome o ≡ true)
+  told_fits s t clock w (Err e) made h = tt
+  told_fits s t clock w (Ok o) None h =
+      let e = Request tx ts in
+      let q = quiet_so (next_stamp s clock e) w e (nat_lt (next_stamp s clock e) (2 ^ 48)) (happen s e) o h.0 in ap is_request_outcome (sym q.0) ∙ (happens_fits s tx ts).1
+  told_fits s t clock w (Ok o) (Some x) (p, is, m) =
+      let e = Request tx ts in
+      let q = enters_so (next_stamp s clock e) w e (nat_lt (next_stamp s clock e) (2 ^ 48)) (happen s e) p t m.enters in ap is_request_outcome (ok_same o p is ∙ sym q.0) ∙ (happens_fits s tx ts).1
+
+-- ---- passes
+
+pub birth_same : (x y : Birth) → ◌≡◌ {A = Option Birth} (Some x) (Some y) → x ≡ y
+birth_same x y h = cc
+
+past : {A : Type 0} (xs : List (Option A)) (n : ℕ) (p : A) → ((d : Option A) → get_or xs n d ≡ Some p) → n < length xs
+past [] n p had = absurd (let h : None ≡ Some p = had None in cc)
+past (x ∷ xs) zero p had = omega arith
+past (x ∷ xs) (suc n) p had = let l = past xs n p had in omega arith
+
+some_same : {A : Type 0} (a b : A) → Some a ≡ Some b → a ≡ b
+some_same a b h = cc
+
+-- each is of its shard
+has_shard : {M S G : Type 0} (sh : Shards M S G) (w : Walker M S G) → IsWalker sh w → (n : ℕ) → HasShard n w.passes.items
+has_shard sh w is n p had o has =
+    let each = is.walks.are_passes.each n None (let l = past w.passes.items n p had in let c = is.walks.are_passes.count in omega arith) in
+    let same : each.0 ≡ p = some_same each.0 p (sym each.1 ∙ had None) in
+    let origin : each.2.origin ≡ o = some_same each.2.origin o (sym each.2.has_origin ∙ ap pass_origin same ∙ has) in
+    ap (λ x. x.shard) (sym origin) ∙ each.2.origin_is.shard
+
+-- ---- the session's state
+
+touched_self : (ts : List (ℕ × ℕ)) → same_touched ts ts ≡ true
+touched_self [] = refl
+touched_self (t ∷ ts) = and_from ((t.0 == t.0) && (t.1 == t.1)) (same_touched ts ts) (and_from (t.0 == t.0) (t.1 == t.1) (eq-eqb t.0 t.0 refl) (eq-eqb t.1 t.1 refl)) (touched_self ts)
+
+some_touched : (n : ℕ) (ts : List (ℕ × ℕ)) → is_lowest n ts ≡ true → ts ≡ [] → ⊥
+some_touched n [] h e = both_ways false refl h
+some_touched n (t ∷ ts) h e = cc
+
+lowest_among : (n : ℕ) (ts : List (ℕ × ℕ)) → is_lowest n ts ≡ true → list_any (λ t. t.0 == n) ts ≡ true
+lowest_among n [] h = absurd (both_ways false refl h)
+lowest_among n (t ∷ ts) h = ap (λ b. b || list_any (λ x. x.0 == n) ts) (eq-eqb t.0 n (sym (eqb-true n t.0 h)))
+
+pub parts_fit : (n : ℕ) (ts : List (ℕ × ℕ)) → is_lowest n ts ≡ true → numbers_rise (map (λ t. t.0) ts) ≡ true → list_all (λ t. nat_lt t.0 16) ts ≡ true → touched_fit n ts ≡ true
+parts_fit n ts l a b = and_from _ _ (and_from _ _ a b) (lowest_among n ts l)
+
+module _ {M S G : Type 0} (sh : Shards M S G) (w : Walker M S G) (p : SessionState) (a : IsActive sh w p) (n : ℕ) where
+  is_last : is_lowest n p.touched ≡ true → p ≡ a.state
+  is_last l = touched_are_last a.state p a.goes (inl (some_touched n p.touched l))
+
+  pub asks_home : (o : Outcome) → is_lowest n p.touched ≡ true → session_after sh.splits n a.state (Request p.tx p.touched) o ≡ requested n p o
+  asks_home o l =
+      ap (λ t. session_after sh.splits n t (Request p.tx p.touched) o) (sym (is_last l))
+      ∙ ap (λ b. cond b (requested n p o) None)
+      (and_from (tx_same p.tx p.tx && is_touching p.phase && same_touched p.touched p.touched) (is_lowest n p.touched)
+      (and_from (tx_same p.tx p.tx && is_touching p.phase) (same_touched p.touched p.touched) (and_from (tx_same p.tx p.tx) (is_touching p.phase) (tx_self p.tx) a.touching) (touched_self p.touched)) l)
+
+  pub may_request : is_lowest n p.touched ≡ true → may_make sh.splits sh.run w.number (kept w.passes.items) n (Request p.tx p.touched) ≡ true
+  may_request l = states_tell_may_make sh.splits sh.run w.number (kept w.passes.items) a.state n (Request p.tx p.touched) a.ready.state ∙ ap is_some (asks_home Asked l)
+
+-- ---- after one turn
+
+module _ {M S G : Type 0} (sh : Shards M S G) (w v : Walker M S G) (p : SessionState) (a : IsActive sh w p) (n : ℕ) (r : Result Outcome StepError) where
+  abbrev IsAsked : Type 0
+  IsAsked = Walked (EventTold w.clock w.number (Request p.tx p.touched) r v.clock) n w.number w.passes.items v.passes.items
+
+  abbrev turn_of : IsAsked → Turn
+  turn_of walked = record { shard = n; event = Request p.tx p.touched; answer = r; made = walked.turned.told.made }
+
+  took_turn : (walked : IsAsked) → Took w.number w.clock w.passes.items (turn_of walked ∷ []) v.clock v.passes.items
+  took_turn walked = event_turn w.clock v.clock v.clock w.passes.items v.passes.items v.passes.items (turn_of walked) [] walked refl refl (no_turn v.clock v.passes.items)
+
+  pub request_told : IsAsked → RequestTold w.number w.clock w.passes.items n (Request p.tx p.touched) r v.clock v.passes.items
+  request_told walked = record { turns = turn_of walked ∷ []; took = took_turn walked; is = inr (turn_of walked, refl, refl, refl, refl) }
+
+  pub request_fits : IsAsked → IfOk r (λ o. is_request_outcome o ≡ true)
+  request_fits walked = told_fits p.tx p.touched walked.turned.s walked.turned.t w.clock w.number r walked.turned.told.made walked.turned.told.tells
+
+  rises : IsAsked → w.clock ≤ v.clock
+  rises walked = event_rises w.clock w.number (Request p.tx p.touched) r v.clock walked.turned.s walked.turned.t walked.turned.added walked.turned.told
+
+  informed_after : (walked : IsAsked) → v.number ≡ w.number → AreInformed v.number v.clock v.passes.items
+  informed_after walked same =
+      subst (λ k. AreInformed k v.clock v.passes.items) (sym same)
+      (informed_stay w.number w.clock v.clock w.passes.items v.passes.items (turn_of walked ∷ []) (took_turn walked) (tt, tt) a.ready.informed)
+
+  kept_after : (walked : IsAsked) → kept v.passes.items ≡ kept w.passes.items ++ (entry_on n walked.turned.told.made ++ [])
+  kept_after walked = kept_grows w.number w.clock v.clock w.passes.items v.passes.items (turn_of walked ∷ []) (took_turn walked)
+
+  old_after : w.clock ≤ v.clock → (b : Option Birth) → IsOld w.clock b → IsOld v.clock b
+  old_after l None h = tt
+  old_after l (Some b) h = omega arith
+
+  born_after : (walked : IsAsked) → v.number ≡ w.number → HasBirth v p
+  born_after walked same = record {
+    birth = a.born.birth;
+    is = a.born.is;
+    bears = a.born.bears ∙ sym same;
+    old = (let l = rises walked in let o = a.born.old in omega arith);
+    free = free_stays w.number w.clock v.clock w.passes.items v.passes.items (turn_of walked ∷ []) p.tx a.born.birth (took_turn walked) a.born.bears (tt, tt) a.born.free;
+    parts = λ m. unless_stays m w.number w.clock v.clock w.passes.items v.passes.items (turn_of walked ∷ []) (lookup (◌==◌ m) p.touched) a.born.birth (took_turn walked) a.born.bears ((λ here. inr (λ u. tt)), tt) (a.born.parts m);
+  }
+
+  -- where it stands or died, it has no active part at its home
+  gone_asked : (walked : IsAsked) → r ≡ Ok Asked → IsGoneAt n v p
+  gone_asked walked is birth had =
+      subst (λ b. UnbornAt n b v.passes.items) (birth_same a.born.birth birth (sym a.born.is ∙ had))
+      (ends_unbear n w.number w.clock v.clock w.passes.items v.passes.items (turn_of walked ∷ []) p.tx a.born.birth (took_turn walked) a.born.bears (tt, tt) a.born.free
+      (inl (refl, subst (EndsPart p.tx (Request p.tx p.touched)) (sym is) refl, tt)))
+
+  gone_dead : (walked : IsAsked) (cause : AbortCause) → r ≡ Ok (Dead cause) → IsGoneAt n v p
+  gone_dead walked cause is birth had =
+      subst (λ b. UnbornAt n b v.passes.items) (birth_same a.born.birth birth (sym a.born.is ∙ had))
+      (dies_at_request n w.number w.clock v.clock w.passes.items v.passes.items (turn_of walked) p.tx a.born.birth p.touched cause (took_turn walked) a.born.bears refl refl is (has_shard sh w a.ready.walker n) a.born.free (a.born.parts n))
+
+  -- no entry was made
+  active_still : (walked : IsAsked) → IsWalker sh v → IsSameWalker w v → walked.turned.told.made ≡ None → IsActive sh v p
+  active_still walked is_walker same none =
+      let l = rises walked in
+      let kept_same : kept v.passes.items ≡ kept w.passes.items = kept_after walked ∙ ap (λ m. kept w.passes.items ++ (entry_on n m ++ [])) none ∙ append-nil (kept w.passes.items) in
+      record {
+        state = a.state;
+        ready = record {
+          walker = is_walker;
+          number = subst (λ k. is_session_number k ≡ true) (sym same.0) a.ready.number;
+          state = subst (λ k. session_of sh.splits sh.run k (kept v.passes.items) ≡ Some a.state) (sym same.0) (ap (session_of sh.splits sh.run w.number) kept_same ∙ a.ready.state);
+          serial = (let s = same.1 in let h = a.ready.serial in omega arith);
+          old = old_after l (a.state).birth a.ready.old;
+          informed = informed_after walked same.0;
+        };
+        goes = a.goes;
+        touching = a.touching;
+        born = born_after walked same.0;
+        serial = (let s = same.1 in let h = a.serial in omega arith);
+        spelled = a.spelled;
+        counted = (let h = a.counted in omega arith);
+        few = a.few;
+      }
+
+  -- one was
+  ready_then : (walked : IsAsked) (o : Outcome) (q : SessionState) → IsWalker sh v → IsSameWalker w v → is_lowest n p.touched ≡ true → IsEntered (Request p.tx p.touched) o walked.turned.told.made → requested n p o ≡ Some q → (q.tx ≡ p.tx) → (q.birth ≡ p.birth)
+      → IsReady sh v q
+  ready_then walked o q is_walker same lowest x goes name birth = record {
+    walker = is_walker;
+    number = subst (λ k. is_session_number k ≡ true) (sym same.0) a.ready.number;
+    state = subst (λ k. session_of sh.splits sh.run k (kept v.passes.items) ≡ Some q) (sym same.0)
+        (ap (session_of sh.splits sh.run w.number) (kept_after walked ∙ ap (λ m. kept w.passes.items ++ (entry_on n m ++ [])) x.is)
+        ∙ states_go_on sh.splits sh.run w.number (kept w.passes.items) a.state (n, x.entry) a.ready.state
+        ∙ ap (λ e. session_after sh.splits n a.state e (x.entry).outcome) x.event_is ∙ ap (session_after sh.splits n a.state (Request p.tx p.touched)) x.outcome_is
+        ∙ asks_home sh w p a n o lowest ∙ goes);
+    serial = (let s = same.1 in let h = a.serial in let k = ap (λ (t : TxId). t.serial) name in omega arith);
+    old = subst (IsOld v.clock) (sym (birth ∙ a.born.is)) (let l = rises walked in let h = a.born.old in omega arith);
+    informed = informed_after walked same.0;
+  }
+
+  pub request_stands : (walked : IsAsked) → IsWalker sh v → IsSameWalker w v → is_lowest n p.touched ≡ true → (x : Result Outcome StepError) → r ≡ x → RequestStands sh v (place_requested n p x) n x
+  request_stands walked is_walker same lowest (Err e) is =
+      active_still walked is_walker same (error_none p.tx p.touched walked.turned.s walked.turned.t w.clock w.number e walked.turned.told.made
+      (subst (λ y. Tells (step walked.turned.s w.clock w.number (Request p.tx p.touched)) walked.turned.s w.clock w.number (Request p.tx p.touched) y walked.turned.t walked.turned.told.made) is walked.turned.told.tells))
+  request_stands walked is_walker same lowest (Ok o) is = at o refl
+    where
+      tells : Tells (step walked.turned.s w.clock w.number (Request p.tx p.touched)) walked.turned.s w.clock w.number (Request p.tx p.touched) (Ok o) walked.turned.t walked.turned.told.made
+      tells = subst (λ y. Tells (step walked.turned.s w.clock w.number (Request p.tx p.touched)) walked.turned.s w.clock w.number (Request p.tx p.touched) y walked.turned.t walked.turned.told.made) is walked.turned.told.tells
+
+      quiet : is_told o ≡ false → IsActive sh v p
+      quiet k = active_still walked is_walker same (quiet_none p.tx p.touched walked.turned.s walked.turned.t w.clock w.number o walked.turned.told.made tells k)
+
+      entered : is_told o ≡ true → IsEntered (Request p.tx p.touched) o walked.turned.told.made
+      entered k = told_enters p.tx p.touched walked.turned.s walked.turned.t w.clock w.number o walked.turned.told.made tells k
+
+      at : (z : Outcome) → o ≡ z → RequestStands sh v (place_requested n p (Ok z)) n (Ok z)
+      at Asked q =
+          let b = born_after walked same.0 in
+          record {
+            ready = ready_then walked o (place_requested n p (Ok Asked)) is_walker same lowest (entered (ap is_told q)) (ap (requested n p) q) refl refl;
+            stands = refl;
+            born = record { birth = b.birth; is = b.is; bears = b.bears; old = b.old; free = b.free; parts = b.parts };
+            spelled = a.spelled;
+            gone = gone_asked walked (is ∙ ap (λ y. Ok y) q);
+          }
+      at (Dead cause) q =
+          let b = born_after walked same.0 in (
+            record {
+              ready = ready_then walked o (place_requested n p (Ok (Dead cause))) is_walker same lowest (entered (ap is_told q)) (ap (requested n p) q) refl refl;
+              born = record { birth = b.birth; is = b.is; bears = b.bears; old = b.old; free = b.free; parts = b.parts };
+              spelled = a.spelled;
+            },
+            gone_dead walked cause (is ∙ ap (λ y. Ok y) q),
+          )
+      at z q = quiet (ap is_told q)
+
+module _ {M S G : Type 0} where
+  -- for want of memory there was no turn
+  pub no_request : (w : Walker M S G) (n : ℕ) (e : Event) → RequestTold w.number w.clock w.passes.items n e (Err Memory) w.clock w.passes.items
+  no_request w n e = record { turns = []; took = no_turn w.clock w.passes.items; is = inl (refl, refl) }

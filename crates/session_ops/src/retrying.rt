@@ -1,0 +1,50 @@
+// Trying a transaction again.
+ghost use Rattle.std.specs.Prelude.{◌≡◌, ◌<◌, ◌^◌};
+ghost use Rattle.clv_base.specs.Sessions.{SessionState, begun};
+ghost use Rattle.session_ops.specs.Retried.{IsRetriable, RetriedBy};
+
+use cluster_turns::{Shards, Walker, WornClock};
+use clv_base::names::{Birth, TxId};
+use machine_calls::Machine;
+use session_births::Place;
+use std::thread::yield_now;
+
+// The place of a transaction of this run, whose number is one of 32 bits.
+fn place_of(run: u32, tx: TxId, birth: Birth) -> Place
+    ensures place { (before : SessionState) → result ≡ begun before tx birth }
+    ensures run { run < 2 ^ 32 }
+{
+    let _run = run;
+    Place::begun(tx, birth)
+}
+
+// After so many tries the time between two tries is longest.
+const MOST: u64 = 64;
+
+// Gives way, ever longer after each try, so that those that hold the locks get on.
+fn give_way(tries: u64) {
+    let tries = tries.min(MOST);
+    for _ in 0..8 * tries * tries {
+        yield_now();
+    }
+}
+
+/// Begins the next transaction of a session with the birth of its last one, which ended by an abort. It gives way before, longer
+/// after each try, so that an older one that holds its locks gets on. `WornClock` comes exactly where the walker's clock is at its end.
+pub fn retry<M: Machine>(
+    shards: &Shards<M>,
+    walker: &mut Walker<M>,
+    last: &Place,
+) -> Result<Place, WornClock>
+    requires retriable { IsRetriable shards.now walker.old last.now }
+    ensures retried { RetriedBy (λ p. p) shards.now walker.old last.now result walker.new }
+{
+    let birth = last.birth();
+    match shards.next_tx(walker) {
+        Ok((tx, _)) => {
+            give_way(tx.serial.saturating_sub(birth.serial));
+            Ok(place_of(tx.run, tx, birth))
+        }
+        Err(worn) => Err(worn),
+    }
+}

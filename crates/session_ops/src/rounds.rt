@@ -1,0 +1,266 @@
+// A round.
+ghost use Rattle.std.specs.Prelude.{◌<◌, length};
+ghost use Rattle.cluster_turns.specs.Walkers.{IsWalker, IsSameWalker};
+ghost use Rattle.session_ops.specs.Rounds.{Rounded};
+
+use crate::parts::{Met, RoundError, await_writer, carry_all, flush, remind};
+use cluster_turns::{Shards, Walker};
+use io_edge::Pace;
+use machine_calls::{Flier, Machine};
+use std::alloc::Global;
+use std::sync::Wait;
+
+// Flushes a shard and carries its messages.
+fn move_one<M: Flier, P: Pace, R: Wait>(
+    rt: &R,
+    alloc: Global,
+    shards: &Shards<M>,
+    walker: &mut Walker<M>,
+    shard: u32,
+    is_home: bool,
+    pace: &P,
+    met: &mut Met,
+) -> Result<(), RoundError>
+    requires walker { IsWalker shards.now walker.old }
+    requires shard { shard < length shards.now.locks.items }
+    ensures walker { IsWalker shards.now walker.new × IsSameWalker walker.old walker.new }
+    ensures round { Rounded walker.old.number walker.old.clock walker.old.passes.items result walker.new.clock walker.new.passes.items }
+{
+    match flush(rt, alloc, shards, walker, shard, is_home, pace, met) {
+        Ok(()) => carry_all(rt, alloc, shards, walker, shard, met),
+        Err(error) => Err(error),
+    }
+}
+
+// Flushes all shards and carries their messages.
+fn move_all<M: Flier, P: Pace, R: Wait>(
+    rt: &R,
+    alloc: Global,
+    shards: &Shards<M>,
+    walker: &mut Walker<M>,
+    pace: &P,
+    met: &mut Met,
+) -> Result<(), RoundError>
+    requires walker { IsWalker shards.now walker.old }
+    ensures walker { IsWalker shards.now walker.new × IsSameWalker walker.old walker.new }
+    ensures round { Rounded walker.old.number walker.old.clock walker.old.passes.items result walker.new.clock walker.new.passes.items }
+{
+    for shard in 0..shards.splits().shards() {
+        match move_one(rt, alloc, shards, walker, shard, false, pace, met) {
+            Ok(()) => {}
+            Err(error) => return Err(error),
+        }
+    }
+    Ok(())
+}
+
+// Carries the messages of all shards.
+fn carry_every<M: Machine, R: Wait>(
+    rt: &R,
+    alloc: Global,
+    shards: &Shards<M>,
+    walker: &mut Walker<M>,
+    met: &mut Met,
+) -> Result<(), RoundError>
+    requires walker { IsWalker shards.now walker.old }
+    ensures walker { IsWalker shards.now walker.new × IsSameWalker walker.old walker.new }
+    ensures round { Rounded walker.old.number walker.old.clock walker.old.passes.items result walker.new.clock walker.new.passes.items }
+{
+    for shard in 0..shards.splits().shards() {
+        match carry_all(rt, alloc, shards, walker, shard, met) {
+            Ok(()) => {}
+            Err(error) => return Err(error),
+        }
+    }
+    Ok(())
+}
+
+fn is_own(own: &[bool; 16], shard: u32) -> bool {
+    match own.get(shard as usize) {
+        Some(is) => *is,
+        None => false,
+    }
+}
+
+// A shard of a request is flushed, and its messages are carried; nothing is done on another.
+fn move_if_own<M: Flier, P: Pace, R: Wait>(
+    rt: &R,
+    alloc: Global,
+    shards: &Shards<M>,
+    walker: &mut Walker<M>,
+    shard: u32,
+    home: u32,
+    own: &[bool; 16],
+    pace: &P,
+    met: &mut Met,
+) -> Result<(), RoundError>
+    requires walker { IsWalker shards.now walker.old }
+    requires shard { shard < length shards.now.locks.items }
+    ensures walker { IsWalker shards.now walker.new × IsSameWalker walker.old walker.new }
+    ensures round { Rounded walker.old.number walker.old.clock walker.old.passes.items result walker.new.clock walker.new.passes.items }
+{
+    if is_own(own, shard) {
+        move_one(rt, alloc, shards, walker, shard, shard == home, pace, met)
+    } else {
+        Ok(())
+    }
+}
+
+// Flushes the shards of a request and carries their messages.
+fn move_own<M: Flier, P: Pace, R: Wait>(
+    rt: &R,
+    alloc: Global,
+    shards: &Shards<M>,
+    walker: &mut Walker<M>,
+    home: u32,
+    own: &[bool; 16],
+    pace: &P,
+    met: &mut Met,
+) -> Result<(), RoundError>
+    requires walker { IsWalker shards.now walker.old }
+    ensures walker { IsWalker shards.now walker.new × IsSameWalker walker.old walker.new }
+    ensures round { Rounded walker.old.number walker.old.clock walker.old.passes.items result walker.new.clock walker.new.passes.items }
+{
+    for shard in 0..shards.splits().shards() {
+        match move_if_own(rt, alloc, shards, walker, shard, home, own, pace, met) {
+            Ok(()) => {}
+            Err(error) => return Err(error),
+        }
+    }
+    Ok(())
+}
+
+// Carries the messages of all shards, then flushes those of a request.
+fn carry_and_move<M: Flier, P: Pace, R: Wait>(
+    rt: &R,
+    alloc: Global,
+    shards: &Shards<M>,
+    walker: &mut Walker<M>,
+    home: u32,
+    own: &[bool; 16],
+    pace: &P,
+    met: &mut Met,
+) -> Result<(), RoundError>
+    requires walker { IsWalker shards.now walker.old }
+    ensures walker { IsWalker shards.now walker.new × IsSameWalker walker.old walker.new }
+    ensures round { Rounded walker.old.number walker.old.clock walker.old.passes.items result walker.new.clock walker.new.passes.items }
+{
+    match carry_every(rt, alloc, shards, walker, met) {
+        Ok(()) => move_own(rt, alloc, shards, walker, home, own, pace, met),
+        Err(error) => Err(error),
+    }
+}
+
+// Asks for what is missing at all shards.
+fn ask_all<M: Machine, R: Wait>(
+    rt: &R,
+    alloc: Global,
+    shards: &Shards<M>,
+    walker: &mut Walker<M>,
+) -> Result<(), RoundError>
+    requires walker { IsWalker shards.now walker.old }
+    ensures walker { IsWalker shards.now walker.new × IsSameWalker walker.old walker.new }
+    ensures round { Rounded walker.old.number walker.old.clock walker.old.passes.items result walker.new.clock walker.new.passes.items }
+{
+    for shard in 0..shards.splits().shards() {
+        match remind(rt, alloc, shards, walker, shard) {
+            Ok(()) => {}
+            Err(error) => return Err(error),
+        }
+    }
+    Ok(())
+}
+
+// Where nothing moved: sleeps until a batch is written that another walker writes, or else asks for what is missing.
+fn stand_by<M: Machine, R: Wait>(
+    rt: &R,
+    alloc: Global,
+    shards: &Shards<M>,
+    walker: &mut Walker<M>,
+    met: Met,
+) -> Result<(), RoundError>
+    requires walker { IsWalker shards.now walker.old }
+    ensures walker { IsWalker shards.now walker.new × IsSameWalker walker.old walker.new }
+    ensures round { Rounded walker.old.number walker.old.clock walker.old.passes.items result walker.new.clock walker.new.passes.items }
+{
+    if met.moves {
+        return Ok(());
+    }
+    match met.away {
+        Some((shard, batch)) => {
+            await_writer(rt, shards, shard, batch);
+            Ok(())
+        }
+        None => ask_all(rt, alloc, shards, walker),
+    }
+}
+
+/// Goes through all shards, in rising order: flushes once, unless another walker writes a batch, and carries messages until none is left. Where nothing
+/// moved it sleeps until the other's batch is written, or, where nobody writes, asks once for what is missing. `Down` comes only where a
+/// turn of the round found that shard down, and `Worn` only where one would have had a stamp past the last; the round ends there.
+pub fn round<M: Flier, P: Pace, R: Wait>(
+    rt: &R,
+    alloc: Global,
+    shards: &Shards<M>,
+    walker: &mut Walker<M>,
+    pace: &P,
+) -> Result<(), RoundError>
+    requires walker { IsWalker shards.now walker.old }
+    ensures walker { IsWalker shards.now walker.new × IsSameWalker walker.old walker.new }
+    ensures round { Rounded walker.old.number walker.old.clock walker.old.passes.items result walker.new.clock walker.new.passes.items }
+{
+    let mut met = Met::new();
+    match move_all(rt, alloc, shards, walker, pace, &mut met) {
+        Ok(()) => stand_by(rt, alloc, shards, walker, met),
+        Err(error) => Err(error),
+    }
+}
+
+// Where nothing of a request moved: sleeps until a batch is written that another walker writes, or else makes a round over all shards.
+fn stand_by_own<M: Flier, P: Pace, R: Wait>(
+    rt: &R,
+    alloc: Global,
+    shards: &Shards<M>,
+    walker: &mut Walker<M>,
+    pace: &P,
+    met: Met,
+) -> Result<(), RoundError>
+    requires walker { IsWalker shards.now walker.old }
+    ensures walker { IsWalker shards.now walker.new × IsSameWalker walker.old walker.new }
+    ensures round { Rounded walker.old.number walker.old.clock walker.old.passes.items result walker.new.clock walker.new.passes.items }
+{
+    if met.moves {
+        return Ok(());
+    }
+    match met.away {
+        Some((shard, batch)) => {
+            await_writer(rt, shards, shard, batch);
+            Ok(())
+        }
+        None => round(rt, alloc, shards, walker, pace),
+    }
+}
+
+/// A round of whoever waits for a request with this home and these shards: carries the messages of all shards, flushes those of the request once, unless
+/// another walker writes a batch, and carries their messages. Before it writes a batch of the home it gives way to those who slept on the last one, so that
+/// they get into this one. Where nothing moved it sleeps until the other's batch is written, or, where nobody writes, makes a `round`.
+/// `Down` and `Worn` come as of a `round`.
+pub fn round_for<M: Flier, P: Pace, R: Wait>(
+    rt: &R,
+    alloc: Global,
+    shards: &Shards<M>,
+    walker: &mut Walker<M>,
+    home: u32,
+    own: &[bool; 16],
+    pace: &P,
+) -> Result<(), RoundError>
+    requires walker { IsWalker shards.now walker.old }
+    ensures walker { IsWalker shards.now walker.new × IsSameWalker walker.old walker.new }
+    ensures round { Rounded walker.old.number walker.old.clock walker.old.passes.items result walker.new.clock walker.new.passes.items }
+{
+    let mut met = Met::new();
+    match carry_and_move(rt, alloc, shards, walker, home, own, pace, &mut met) {
+        Ok(()) => stand_by_own(rt, alloc, shards, walker, pace, met),
+        Err(error) => Err(error),
+    }
+}

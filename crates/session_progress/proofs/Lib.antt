@@ -1,5 +1,0 @@
-pub mod States
-pub mod Touching
-pub mod Going
-pub mod Within
-pub mod Laws

@@ -1,2 +1,0 @@
-pub mod Retried
-pub mod Laws

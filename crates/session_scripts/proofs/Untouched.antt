@@ -1,0 +1,114 @@
+-- A transaction that touched nothing had no operation.
+use Rattle.std.proofs.Common.{◌≡◌, ◌≢◌, ◌∙◌, refl, sym, ap, subst, ℕ, Bool, true, false, cond, ◌&&◌, ◌==◌, List, [], ◌∷◌, Option, Some, None, inl, inr}
+use Rattle.std.specs.Prelude.{is_some}
+use Rattle.std.specs.Map.{lookup}
+use Rattle.std.specs.BTreeMap.{insert_entry}
+use Rattle.std.specs.Ordering.{nat_cmp, match_ordering}
+use Rattle.std.specs.declared.cmp.Ordering.{Ordering}
+use Rattle.std.specs.declared.cmp.Ordering.TheVariants.{Less, Equal, Greater}
+use Rattle.std.proofs.lemmas.Bool.{both_ways}
+use Rattle.clv_base.specs.declared.names.TxId.{TxId}
+use Rattle.clv_base.specs.declared.names.Birth.{Birth}
+use Rattle.clv_base.specs.declared.ops.Op.{Op as Operation}
+use Rattle.clv_base.specs.declared.events.Event.{Event}
+use Rattle.clv_base.specs.declared.events.Event.TheVariants.{Op, Request, Look, Drop, Send, Deliver, Remind, FlushOut, FlushIn, Stop, Restart}
+use Rattle.clv_base.specs.declared.events.Outcome.{Outcome}
+use Rattle.clv_base.specs.declared.events.Outcome.TheVariants.{Answered, Dead, Asked, Acknowledged, Aborted}
+use Rattle.clv_base.specs.Orders.{tx_same}
+use Rattle.clv_base.specs.LogRules.{same_option}
+use Rattle.clv_base.specs.Journals.{History}
+use Rattle.clv_base.specs.Sessions.{SessionState, Phase, Touching, Ended, Standing, Told, Refused, no_session, begun, begins, is_number, lies_in, goes_on, session_for, op_answered, op_in_session, is_touching, same_touched, is_lowest, requested, stands_at, looked, touch, after_drop, session_after}
+use Rattle.cluster_turns.specs.declared.shards.Shards.{Shards}
+use Rattle.cluster_turns.specs.declared.shards.Walker.{Walker}
+use Rattle.cluster_turns.specs.Walkers.{kept}
+use Rattle.session_births.specs.States.{after_from, GoesOnBy}
+use Rattle.session_ops.specs.Standing.{IsActive}
+
+touch_some : (n epoch : ℕ) (ts : List (ℕ × ℕ)) → touch n epoch ts ≢ []
+touch_some n epoch [] h = cc
+touch_some n epoch (t ∷ ts) h = at (is_some (lookup (◌==◌ n) (t ∷ ts))) h
+  where
+    inserted : (o : Ordering) → match_ordering o ((n, epoch) ∷ t ∷ ts) ((t.0, epoch) ∷ ts) (t ∷ insert_entry nat_cmp ts n epoch) ≢ []
+    inserted Less k = cc
+    inserted Equal k = cc
+    inserted Greater k = cc
+
+    at : (b : Bool) → cond b (t ∷ ts) (insert_entry nat_cmp (t ∷ ts) n epoch) ≢ []
+    at true k = cc
+    at false k = inserted (nat_cmp n t.0) k
+
+abbrev Numbered : SessionState → Type 0
+Numbered t = is_touching t.phase ≡ true → t.touched ≡ [] → t.nth ≡ 0
+
+abbrev NumberedIn : Option SessionState → Type 0
+NumberedIn None = Unit {0}
+NumberedIn (Some t) = Numbered t
+
+numbered_if : (b : Bool) (t : Option SessionState) → NumberedIn t → NumberedIn (cond b t None)
+numbered_if true t h = h
+numbered_if false t h = tt
+
+over : (t : SessionState) → is_touching t.phase ≡ false → Numbered t
+over t not_so k e = absurd (both_ways (is_touching t.phase) not_so k)
+
+numbered_for : (t : SessionState) (tx : TxId) (birth : Birth) → Numbered t → NumberedIn (session_for t tx birth)
+numbered_for t tx birth h = at (tx_same tx t.tx)
+  where
+    at : (b : Bool) → NumberedIn (cond b (cond (goes_on t tx birth) (Some t) None) (cond (begins t tx birth) (Some (begun t tx birth)) None))
+    at true = numbered_if (goes_on t tx birth) (Some t) h
+    at false = numbered_if (begins t tx birth) (Some (begun t tx birth)) (λ k e. refl)
+
+numbered_answered : (n nth : ℕ) (op : Operation) (t : SessionState) (o : Outcome) → NumberedIn (op_answered n nth op t o)
+numbered_answered n nth op t (Answered answer epoch) = λ k e. absurd (touch_some n epoch t.touched e)
+numbered_answered n nth op t (Dead cause) = λ k e. absurd (both_ways false refl k)
+numbered_answered n nth op t _ = tt
+
+numbered_op : (splits : List ℕ) (n nth : ℕ) (seen : Option ℕ) (op : Operation) (o : Outcome) (v : Option SessionState) → NumberedIn (op_in_session splits n nth seen op o v)
+numbered_op splits n nth seen op o None = tt
+numbered_op splits n nth seen op o (Some t) = numbered_if (is_number t n nth op && lies_in splits n op && same_option seen (lookup (◌==◌ n) t.touched)) _ (numbered_answered n nth op t o)
+
+numbered_requested : (n : ℕ) (t : SessionState) (o : Outcome) → NumberedIn (requested n t o)
+numbered_requested n t Asked = λ k e. absurd (both_ways false refl k)
+numbered_requested n t (Dead cause) = λ k e. absurd (both_ways false refl k)
+numbered_requested n t _ = tt
+
+numbered_looked : (t : SessionState) (o : Outcome) → NumberedIn (looked t o)
+numbered_looked t Acknowledged = λ k e. absurd (both_ways false refl k)
+numbered_looked t (Aborted cause) = λ k e. absurd (both_ways false refl k)
+numbered_looked t _ = tt
+
+dropped_over : (x : Phase) → is_touching (after_drop x) ≡ false
+dropped_over Touching = refl
+dropped_over Ended = refl
+dropped_over (Standing home) = refl
+dropped_over Told = refl
+dropped_over Refused = refl
+
+numbered_after : (splits : List ℕ) (n : ℕ) (t : SessionState) (e : Event) (o : Outcome) → Numbered t → NumberedIn (session_after splits n t e o)
+numbered_after splits n t (Op tx birth nth seen op) o h = numbered_op splits n nth seen op o (session_for t tx birth)
+numbered_after splits n t (Request tx touched) o h = numbered_if (tx_same tx t.tx && is_touching t.phase && same_touched touched t.touched && is_lowest n touched) _ (numbered_requested n t o)
+numbered_after splits n t (Look tx) o h = numbered_if (tx_same tx t.tx && stands_at n t.phase) _ (numbered_looked t o)
+numbered_after splits n t (Drop tx) o h = numbered_if _ (Some (record t { phase = after_drop t.phase })) (over (record t { phase = after_drop t.phase }) (dropped_over t.phase))
+numbered_after splits n t Send o h = h
+numbered_after splits n t (Deliver m stamp) o h = h
+numbered_after splits n t Remind o h = h
+numbered_after splits n t FlushOut o h = h
+numbered_after splits n t FlushIn o h = h
+numbered_after splits n t Stop o h = h
+numbered_after splits n t Restart o h = h
+
+numbered_from : (splits : List ℕ) (v : Option SessionState) (es : History) → NumberedIn v → NumberedIn (after_from splits v es)
+numbered_from splits v [] h = h
+numbered_from splits None (e ∷ es) h = tt
+numbered_from splits (Some t) (e ∷ es) h = numbered_from splits (session_after splits e.0 t (e.1).event (e.1).outcome) es (numbered_after splits e.0 t (e.1).event (e.1).outcome h)
+
+module _ {M S G : Type 0} where
+  pub untouched_unnumbered : (sh : Shards M S G) (w : Walker M S G) (p : SessionState) → IsActive sh w p → p.touched ≡ [] → p.nth ≡ 0
+  untouched_unnumbered sh w p active none = at active.goes
+    where
+      all : Numbered active.state
+      all = subst NumberedIn active.ready.state (numbered_from sh.splits (Some (no_session sh.run w.number)) (kept w.passes.items) (λ k e. refl))
+
+      at : GoesOnBy active.state p → p.nth ≡ 0
+      at (inl same) = ap (λ z. z.nth) same ∙ all (ap (λ z. is_touching z.phase) (sym same) ∙ active.touching) (ap (λ z. z.touched) (sym same) ∙ none)
+      at (inr (birth, is, other, may)) = ap (λ z. z.nth) is

@@ -1,3 +1,0 @@
-pub mod Passing
-pub mod Pointing
-pub mod Seeing

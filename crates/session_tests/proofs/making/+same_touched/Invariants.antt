@@ -1,5 +1,0 @@
-use Rattle.std.proofs.Common.{length}
-use Rattle.session_tests.proofs.making.+same_touched.Given as goal
-
-abbrev pub decreases-same_touched : goal.decreases-same_touched
-decreases-same_touched l = length l.touched.now

@@ -1,9 +1,0 @@
-pub mod Following
-pub mod Operating
-pub mod Pointing
-pub mod Scanning
-pub mod Ending
-pub mod Untouched
-pub mod Committing
-pub mod Leaving
-pub mod Laws

@@ -1,5 +1,0 @@
-pub mod Ended
-pub mod Sessions
-pub mod Promises
-pub mod Completing
-pub mod Down

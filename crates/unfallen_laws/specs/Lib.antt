@@ -1,4 +1,0 @@
-pub mod Unfallen
-pub mod Named
-pub mod Voted
-pub mod Readers

@@ -1,4 +1,0 @@
-pub mod Taking
-pub mod Replying
-pub mod Answering
-pub mod Laws

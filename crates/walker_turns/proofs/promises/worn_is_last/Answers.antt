@@ -1,5 +1,0 @@
-use Rattle.walker_turns.proofs.Answering.{worn_is_last}
-use Rattle.walker_turns.proofs.promises.worn_is_last.Goals as goal
-
-pub returns : goal.returns
-returns g c = worn_is_last

@@ -1,5 +1,0 @@
-use Rattle.wide_examples.proofs.Flying.{found_is_legal}
-use Rattle.wide_examples.proofs.flight.found_is_legal.Goals as goal
-
-pub returns : goal.returns
-returns c = found_is_legal

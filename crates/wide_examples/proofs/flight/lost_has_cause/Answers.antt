@@ -1,5 +1,0 @@
-use Rattle.wide_examples.proofs.Flying.{lost_has_cause}
-use Rattle.wide_examples.proofs.flight.lost_has_cause.Goals as goal
-
-pub returns : goal.returns
-returns c = lost_has_cause

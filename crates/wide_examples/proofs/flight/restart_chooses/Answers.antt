@@ -1,5 +1,0 @@
-use Rattle.wide_examples.proofs.Flying.{restart_chooses}
-use Rattle.wide_examples.proofs.flight.restart_chooses.Goals as goal
-
-pub returns : goal.returns
-returns c = restart_chooses

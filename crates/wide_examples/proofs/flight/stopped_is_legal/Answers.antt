@@ -1,5 +1,0 @@
-use Rattle.wide_examples.proofs.Flying.{stopped_is_legal}
-use Rattle.wide_examples.proofs.flight.stopped_is_legal.Goals as goal
-
-pub returns : goal.returns
-returns c = stopped_is_legal

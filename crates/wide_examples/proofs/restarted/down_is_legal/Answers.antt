@@ -1,5 +1,0 @@
-use Rattle.wide_examples.proofs.Restarting.{down_is_legal}
-use Rattle.wide_examples.proofs.restarted.down_is_legal.Goals as goal
-
-pub returns : goal.returns
-returns c = down_is_legal

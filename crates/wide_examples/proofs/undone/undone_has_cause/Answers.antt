@@ -1,5 +1,0 @@
-use Rattle.wide_examples.proofs.Undoing.{undone_has_cause}
-use Rattle.wide_examples.proofs.undone.undone_has_cause.Goals as goal
-
-pub returns : goal.returns
-returns c = undone_has_cause
