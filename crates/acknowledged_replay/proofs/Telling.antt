@@ -19,6 +19,7 @@ use Rattle.history_replay.specs.Located.{located, located_all}
 use Rattle.std.specs.Borrow.{Bor}
 use Rattle.acknowledged_replay.specs.Replayed.{operations_in}
 use Rattle.acknowledged_replay.specs.Tables.{op_by, with_op}
+use Rattle.law_base.proofs.Names.{with_op as more}
 
 -- a test of names goes both ways
 flipped : (a b : TxId) (s t : Bool) → tx_same a b ≡ s → tx_same b a ≡ t → s ≡ t
@@ -26,9 +27,6 @@ flipped a b true true p q = refl
 flipped a b false false p q = refl
 flipped a b true false p q = absurd (both_ways (tx_same b a) q (tx_flip a b p))
 flipped a b false true p q = absurd (both_ways (tx_same a b) p (tx_flip b a q))
-
-abbrev more : Option (Op × Answer) → List (Op × Answer) → List (Op × Answer)
-more o ps = elim o as (λ z. List (Op × Answer)) [ Some p ↦ p ∷ ps | None ↦ ps ]
 
 abbrev firsts : List (Op × Answer) → List Op
 firsts ps = map (λ p. p.0) ps

@@ -12,9 +12,9 @@ use Rattle.log_buffer.specs.Buffers.{Buffer}
 use Rattle.cascade_undo.specs.declared.write.Write.{Write}
 use Rattle.cascade_undo.specs.Writes.{writes_of}
 use Rattle.cascade_undo.specs.Steps.{newest_in, IsNewestIn, Advances}
-use Rattle.cascade_undo.proofs.Bools.{both}
 use Rattle.cascade_undo.proofs.Splitting.{NoneOf, none_of, before_above}
 use Rattle.cascade_undo.proofs.Stepping.{log_step}
+use Rattle.law_base.proofs.Bools.{by_bool as both}
 
 one_longer : (log after : List LogRecord) (r : LogRecord) (room left : ℕ) → after ≡ log ++ r ∷ [] → room ≤ left + 1 → room + length log ≤ left + length after
 one_longer log after r room left e less = let grown = ap length e ∙ length-append log (r ∷ []) in omega arith

@@ -1,11 +1,10 @@
 -- What a caller keeps: each write that stands has a record, and there is room to undo all.
-use Rattle.std.proofs.Common.{◌≡◌, ℕ, ◌+◌, ◌≤◌, ◌<◌, Bool, true, false, cond, ◌==◌, List, [], ◌∷◌, ◌++◌, map, length, Option, Some, None, refl, sym, ap, subst, ◌∙◌, eq-eqb, arith}
+use Rattle.std.proofs.Common.{◌≡◌, ℕ, ◌+◌, ◌≤◌, ◌<◌, Bool, true, false, cond, ◌==◌, List, [], ◌∷◌, ◌++◌, map, length, Option, Some, refl, sym, ap, subst, ◌∙◌, arith}
 use Rattle.std.specs.List.{filter}
 use Rattle.std.specs.Map.{lookup}
 use Rattle.std.specs.declared.cmp.Ordering.{Ordering}
 use Rattle.std.specs.declared.cmp.Ordering.TheVariants.{Less, Equal, Greater}
 use Rattle.std.specs.Ordering.{nat_cmp, match_ordering}
-use Rattle.std.proofs.lemmas.Bool.Decides.{nat_tests}
 use Rattle.std.proofs.lemmas.Bool.{both_ways}
 use Rattle.clv_base.specs.declared.names.TxId.{TxId}
 use Rattle.clv_base.specs.declared.logs.LogRecord.{LogRecord}
@@ -16,9 +15,10 @@ use Rattle.clv_base.specs.Undo.{aborts_of}
 use Rattle.clv_base.specs.Needs.{Records, found_at, found_by, is_there, record_set}
 use Rattle.law_base.proofs.Doubts.{standing_more}
 use Rattle.cascade_undo.specs.Writes.{writes_of, HaveRecords}
-use Rattle.cascade_undo.proofs.Bools.{both}
-use Rattle.cascade_undo.proofs.Standing.{Falls, falls, all_mono}
+use Rattle.cascade_undo.proofs.Standing.{falls, all_mono}
 use Rattle.cascade_undo.proofs.Restoring.{there_by}
+use Rattle.law_base.proofs.Bools.{by_bool as both}
+use Rattle.law_base.proofs.Names.{Falls, set_has as set_is_there}
 
 -- a record that is there stays so when one is set
 pub there_set : (k j : ℕ) (v : Option ℕ) (rs : Records) → is_there (found_at j rs) ≡ true → is_there (found_at j (record_set k v rs)) ≡ true
@@ -33,16 +33,6 @@ there_set k j v (r ∷ rs) e = at (nat_cmp k r.0) (k == j) (j == r.0) refl e (th
     at Equal b false q h more = ap (λ d. is_there (found_by (cond d (Some v) (lookup (◌==◌ j) rs)))) q ∙ h
     at Greater b true q h more = ap (λ d. is_there (found_by (cond d (Some r.1) (lookup (◌==◌ j) (record_set k v rs))))) q ∙ there_by r.1
     at Greater b false q h more = ap (λ d. is_there (found_by (cond d (Some r.1) (lookup (◌==◌ j) (record_set k v rs))))) q ∙ more h
-
--- the record that is set is there
-pub set_is_there : (k : ℕ) (v : Option ℕ) (rs : Records) → is_there (found_at k (record_set k v rs)) ≡ true
-set_is_there k v [] = ap (λ d. is_there (found_by (cond d (Some v) None))) (eq-eqb k k refl) ∙ there_by v
-set_is_there k v (r ∷ rs) = at (nat_cmp k r.0) refl (set_is_there k v rs)
-  where
-    at : (o : Ordering) → nat_cmp k r.0 ≡ o → is_there (found_at k (record_set k v rs)) ≡ true → is_there (found_at k (match_ordering o ((k, v) ∷ r ∷ rs) ((r.0, v) ∷ rs) (r ∷ record_set k v rs))) ≡ true
-    at Less o more = ap (λ d. is_there (found_by (cond d (Some v) (lookup (◌==◌ k) (r ∷ rs))))) (eq-eqb k k refl) ∙ there_by v
-    at Equal o more = let same : k ≡ r.0 = grind (arith, nat_tests) in ap (λ d. is_there (found_by (cond d (Some v) (lookup (◌==◌ k) rs)))) (eq-eqb k r.0 same) ∙ there_by v
-    at Greater o more = both (λ d. is_there (found_by (cond d (Some r.1) (lookup (◌==◌ k) (record_set k v rs)))) ≡ true) (k == r.0) (λ _. there_by r.1) (λ _. more)
 
 -- so each write has its record when one more is made
 pub have_more : (set : List TxId) (log after : List LogRecord) (rs qs : Records) (tx : TxId) (key : ℕ) (v before x : Option ℕ) → HaveRecords set (standing log) rs

@@ -15,9 +15,10 @@ use Rattle.clv_base.proofs.SameNames.{tx_self}
 use Rattle.violation_deps.proofs.Laws.{tx_in-more}
 use Rattle.cascade_undo.specs.declared.write.Write.{Write}
 use Rattle.cascade_undo.specs.Steps.{newest_in, lsn_of, write_in, IsNewestIn, AreBelow}
-use Rattle.cascade_undo.proofs.Bools.{both}
-use Rattle.cascade_undo.proofs.Splitting.{NoneOf, split_at, other_name, newest_above, newest_past}
-use Rattle.cascade_undo.proofs.Standing.{Falls, falls, IsIn, in_log}
+use Rattle.cascade_undo.proofs.Splitting.{NoneOf, split_at, newest_above, newest_past}
+use Rattle.cascade_undo.proofs.Standing.{falls, IsIn, in_log}
+use Rattle.law_base.proofs.Bools.{by_bool as both}
+use Rattle.law_base.proofs.Names.{other_name, Falls}
 
 -- ---- the greatest of two LSNs
 

@@ -9,7 +9,7 @@ use Rattle.std.specs.Ordering.{nat_cmp, match_ordering}
 use Rattle.clv_base.specs.Needs.{Records, found_at, found_by, is_there, record_set}
 use Rattle.ordered_store.proofs.Laws.{Above, Rises, above_less}
 use Rattle.ordered_store.proofs.Laws.{none_above}
-use Rattle.cascade_undo.proofs.Bools.{both}
+use Rattle.law_base.proofs.Bools.{by_bool as both}
 
 -- the records with another value at a key that is there
 abbrev pub set_back : ℕ → Option ℕ → Records → Records

@@ -1,16 +1,17 @@
 -- The newest write of a set, among the writes that stand: those above it are others', and it goes.
 use Rattle.std.proofs.Common.{◌≡◌, ℕ, suc, Bool, true, false, cond, ◌&&◌, ◌==◌, List, [], ◌∷◌, ◌++◌, length, Option, Some, None, unwrap_or, refl, sym, ap, subst, ◌∙◌}
 use Rattle.std.specs.List.{AllByRecursion}
-use Rattle.std.proofs.lemmas.Bool.{both_ways, cond-true, cond-false, false_from_ne_true}
+use Rattle.std.proofs.lemmas.Bool.{both_ways, cond-true, cond-false}
 use Rattle.clv_base.specs.declared.names.TxId.{TxId}
 use Rattle.clv_base.specs.declared.logs.LogRecord.TheVariants.{Clr}
-use Rattle.clv_base.specs.Orders.{tx_same, tx_in}
+use Rattle.clv_base.specs.Orders.{tx_in}
 use Rattle.clv_base.specs.Logs.{StandingUpdate, without_newest, newest_of}
 use Rattle.clv_base.specs.Undo.{value_before, clrs_of, newest_lsn}
-use Rattle.clv_base.proofs.SameNames.{tx_true, tx_self}
+use Rattle.clv_base.proofs.SameNames.{tx_self}
 use Rattle.cascade_undo.specs.Writes.{writes_of}
 use Rattle.cascade_undo.specs.Steps.{newest_in, lsn_of}
-use Rattle.cascade_undo.proofs.Bools.{both}
+use Rattle.law_base.proofs.Bools.{by_bool as both}
+use Rattle.law_base.proofs.Names.{other_name}
 
 -- none of the writes is of the set
 abbrev pub NoneOf : List TxId → List StandingUpdate → Type 0
@@ -37,9 +38,6 @@ none_of set [] e = tt
 none_of set (v ∷ vs) e =
     both (λ b. tx_in v.tx set ≡ b → cond b (Some v) (newest_in set vs) ≡ None → NoneOf set (v ∷ vs)) (tx_in v.tx set)
     (λ _ own is. absurd cc) (λ _ other is. (other, none_of set vs is)) refl e
-
-pub other_name : (set : List TxId) (t u : TxId) → tx_in t set ≡ true → tx_in u set ≡ false → tx_same t u ≡ false
-other_name set t u i o = false_from_ne_true _ (λ e. both_ways _ o (subst (λ x. tx_in x set ≡ true) (tx_true t u e) i))
 
 module _ (set : List TxId) where
   -- ---- what lies above changes nothing

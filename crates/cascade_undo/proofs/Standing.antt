@@ -1,23 +1,18 @@
 -- The UPDATEs that stand are records of the log, and their LSNs fall.
-use Rattle.std.proofs.Common.{◌≡◌, ℕ, suc, ◌+◌, ◌<◌, ◌≤◌, cond, List, [], ◌∷◌, ◌++◌, length, Some, refl, sym, ap, subst, ◌∙◌, append_assoc, length-append, arith}
+use Rattle.std.proofs.Common.{◌≡◌, ℕ, suc, ◌+◌, ◌<◌, ◌≤◌, cond, List, [], ◌∷◌, ◌++◌, length, Some, refl, sym, ap, subst, ◌∙◌, append_assoc, arith}
 use Rattle.std.specs.Prelude.{slice_get}
 use Rattle.std.specs.List.{AllByRecursion}
-use Rattle.std.proofs.Math.Seq.{get_or-append_seam}
 use Rattle.std.proofs.lemmas.List.{length_push}
-use Rattle.std.proofs.lemmas.Option.{slice_get_read}
 use Rattle.clv_base.specs.declared.names.TxId.{TxId}
 use Rattle.clv_base.specs.declared.logs.LogRecord.{LogRecord}
 use Rattle.clv_base.specs.declared.logs.LogRecord.TheVariants.{Update, Clr, Prepare, Commit, Abort, End, Restart}
 use Rattle.clv_base.specs.Orders.{tx_same}
 use Rattle.clv_base.specs.Logs.{StandingUpdate, without_newest, standing_after, standing_from, standing}
-use Rattle.cascade_undo.proofs.Bools.{both}
+use Rattle.law_base.proofs.Bools.{by_bool as both}
+use Rattle.law_base.proofs.Names.{Falls, all_without}
+use Rattle.law_base.proofs.Logs.{get_seam}
 
 -- ---- LSNs fall
-
--- from the newest on, all below n
-abbrev pub Falls : ℕ → List StandingUpdate → Type 0
-Falls n [] = Unit {0}
-Falls n (w ∷ ws) = (w.lsn < n) × Falls w.lsn ws
 
 pub falls_weaker : (n m : ℕ) (ws : List StandingUpdate) → n ≤ m → Falls n ws → Falls m ws
 falls_weaker n m [] le falls = tt
@@ -53,13 +48,6 @@ IsIn log w = slice_get log w.lsn ≡ Some (Update w.tx w.key w.before w.after)
 pub all_mono : (P Q : StandingUpdate → Type 0) → ((w : StandingUpdate) → P w → Q w) → (ws : List StandingUpdate) → AllByRecursion P ws → AllByRecursion Q ws
 all_mono P Q h [] a = tt
 all_mono P Q h (w ∷ ws) a = (h w a.0, all_mono P Q h ws a.1)
-
-pub all_without : (P : StandingUpdate → Type 0) (t : TxId) (ws : List StandingUpdate) → AllByRecursion P ws → AllByRecursion P (without_newest t ws)
-all_without P t [] a = tt
-all_without P t (w ∷ ws) a = both (λ b. AllByRecursion P (cond b ws (w ∷ without_newest t ws))) (tx_same t w.tx) (λ _. a.1) (λ _. (a.0, all_without P t ws a.1))
-
-get_seam : (front : List LogRecord) (r : LogRecord) (rest : List LogRecord) → slice_get (front ++ r ∷ rest) (length front) ≡ Some r
-get_seam front r rest = slice_get_read (front ++ r ∷ rest) (length (front ++ r ∷ rest)) (length front) r refl (omega (arith, length-append front (r ∷ rest))) (sym (get_or-append_seam front r rest r))
 
 in_after : (all : List LogRecord) (n : ℕ) (r : LogRecord) (ws : List StandingUpdate) → slice_get all n ≡ Some r → AllByRecursion (IsIn all) ws → AllByRecursion (IsIn all) (standing_after n r ws)
 in_after all n (Update tx key before after) ws at a = (at, a)

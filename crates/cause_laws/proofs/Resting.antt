@@ -1,35 +1,28 @@
 -- Where nothing is due, no undecided request has a reason to be refused.
-use Rattle.std.proofs.Common.{◌≡◌, ⊎_elim, refl, sym, ap, subst, ◌∙◌, ℕ, true, false, cond, Bool, List, [], ◌∷◌, Option, Some, None, ◌&&◌, ◌==◌}
+use Rattle.std.proofs.Common.{◌≡◌, ⊎_elim, refl, sym, ap, subst, ◌∙◌, ℕ, true, false, Bool, List, [], ◌∷◌, Option, Some, None, ◌&&◌, ◌==◌}
 use Rattle.std.specs.Map.{keys_of}
 use Rattle.std.specs.List.{list_all}
-use Rattle.std.proofs.lemmas.Bool.{both_ways, and_parts, or_left, or_right, or_cases}
+use Rattle.std.proofs.lemmas.Bool.{both_ways, and_parts, or_cases}
 use Rattle.clv_base.specs.declared.names.TxId.{TxId}
 use Rattle.clv_base.specs.declared.causes.NoWhy.{NoWhy}
 use Rattle.clv_base.specs.declared.causes.AbortCause.{AbortCause}
 use Rattle.clv_base.specs.declared.state.Request.{Request}
 use Rattle.clv_base.specs.declared.state.RequestState.TheVariants.{Undecided}
 use Rattle.clv_base.specs.declared.state.Ruling.{Ruling}
-use Rattle.clv_base.specs.Orders.{Table, tx_same, tx_in, tx_get, tx_union}
+use Rattle.clv_base.specs.Orders.{tx_same, tx_in, tx_get, tx_union}
 use Rattle.clv_base.specs.State.{Shard}
 use Rattle.clv_base.specs.Undo.{stage_of}
 use Rattle.clv_base.specs.Facts.{doom_by, facts_of, is_waiting}
 use Rattle.clv_base.specs.Coordinator.{others, vote_from, is_good, is_agreed, first_no, cause_by, refusal, refused_ruling, undecided_ruling, ruling_in, ruling_by}
 use Rattle.clv_base.specs.Due.{or_else, rule, request_due, due_of, first_due, known_txs, next_due}
-use Rattle.clv_base.proofs.SameNames.{tx_true, tx_self}
+use Rattle.clv_base.proofs.SameNames.{tx_true}
 use Rattle.law_base.proofs.Changed.{none_some}
 use Rattle.law_base.proofs.Sets.{union_right}
 use Rattle.shard_laws.proofs.Sound.{waiting_here}
 use Rattle.cause_laws.proofs.Votes.{VotesFit, all_good}
+use Rattle.law_base.proofs.Names.{has_key}
 
 -- ---- what is known is looked at
-
-has_key : {V : Type 0} (t : TxId) (v : V) (rs : Table V) → tx_get t rs ≡ Some v → tx_in t (keys_of rs) ≡ true
-has_key t v [] e = absurd (none_some v e)
-has_key t v (r ∷ rs) e = at (tx_same t r.0) refl e (has_key t v rs)
-  where
-    at : (b : Bool) → tx_same t r.0 ≡ b → cond b (Some r.1) (tx_get t rs) ≡ Some v → (tx_get t rs ≡ Some v → tx_in t (keys_of rs) ≡ true) → tx_in t (r.0 ∷ keys_of rs) ≡ true
-    at true q f k = or_left (tx_same r.0 t) (tx_in t (keys_of rs)) (subst (λ z. tx_same r.0 z ≡ true) (sym (tx_true t r.0 q)) (tx_self r.0))
-    at false q f k = or_right (tx_same r.0 t) (tx_in t (keys_of rs)) (k f)
 
 none_due : (s : Shard) (txs : List TxId) (t : TxId) → first_due s txs ≡ None → tx_in t txs ≡ true → due_of s t ≡ None
 none_due s [] t e i = absurd (both_ways false refl i)

@@ -1,11 +1,11 @@
 -- Votes that a home has taken: each is found under its shard, which is another part of the request.
-use Rattle.std.proofs.Common.{◌≡◌, ⊎_elim, refl, sym, ap, subst, ◌∙◌, ℕ, true, false, cond, List, [], ◌∷◌, Option, Some, None, ◌==◌, eqb-true}
+use Rattle.std.proofs.Common.{◌≡◌, refl, sym, ap, subst, ◌∙◌, ℕ, true, false, cond, List, [], ◌∷◌, Option, Some, None, ◌==◌, eqb-true}
 use Rattle.std.specs.List.{AllByRecursion, list_all}
 use Rattle.std.specs.BTreeMap.{insert_entry}
 use Rattle.std.specs.Ordering.{nat_cmp, match_ordering, is_eq}
 use Rattle.std.specs.declared.cmp.Ordering.{Ordering}
 use Rattle.std.specs.declared.cmp.Ordering.TheVariants.{Less, Equal, Greater}
-use Rattle.std.proofs.lemmas.Bool.{both_ways, and_parts, or_cases, cond-true, cond-false, eq-eqb, false_from_ne_true}
+use Rattle.std.proofs.lemmas.Bool.{both_ways, cond-true, cond-false, eq-eqb, false_from_ne_true}
 use Rattle.clv_base.specs.declared.causes.NoWhy.{NoWhy}
 use Rattle.clv_base.specs.declared.causes.AbortCause.{AbortCause}
 use Rattle.clv_base.specs.declared.causes.AbortCause.TheVariants.{NoVote}
@@ -15,7 +15,7 @@ use Rattle.clv_base.specs.Orders.{nat_in}
 use Rattle.clv_base.specs.Coordinator.{vote_from, is_good, first_no}
 use Rattle.clv_base.proofs.SameNames.{nat_cmp_true}
 use Rattle.law_base.proofs.Changed.{some_same, none_some}
-use Rattle.law_base.proofs.Lists.{all_mono}
+use Rattle.law_base.proofs.Lists.{all_mono, good_at}
 
 -- a vote that is found in these votes, of one of these shards, and of which T holds where it is a no
 abbrev pub VoteFits : List ℕ → (ℕ → NoWhy → Type 0) → List (ℕ × Vote) → ℕ × Vote → Type 0
@@ -96,12 +96,6 @@ no_in ps T (r ∷ rs) all c a e = at r.1 refl e (no_in ps T rs all c a.1)
     at Yes q f k = later (k f)
     at Read q f k = later (k f)
     at (No why) q f k = record { from = r.0; why = why; cause = sym (some_same (NoVote r.0 why) c f); found = (a.0).0 ∙ ap (λ z. Some z) q; other = (a.0).1; holds = (a.0).2 why q }
-
-good_at : (vs : List (ℕ × Vote)) (ps : List ℕ) (p : ℕ) → list_all (λ m. is_good (vote_from m vs)) ps ≡ true → nat_in p ps ≡ true → is_good (vote_from p vs) ≡ true
-good_at vs [] p g i = absurd (both_ways false refl i)
-good_at vs (m ∷ ms) p g i =
-    let a = and_parts (is_good (vote_from m vs)) (list_all (λ m. is_good (vote_from m vs)) ms) g in
-    ⊎_elim (λ e. subst (λ z. is_good (vote_from z vs) ≡ true) (sym (eqb-true p m e)) a.0) (λ j. good_at vs ms p a.1 j) (or_cases (p == m) (nat_in p ms) i)
 
 -- where all others' votes are good there is none
 pub all_good : (ps : List ℕ) (T : ℕ → NoWhy → Type 0) (vs : List (ℕ × Vote)) → VotesFit ps T vs → list_all (λ p. is_good (vote_from p vs)) ps ≡ true → first_no vs ≡ None

@@ -1,5 +1,5 @@
 -- Locks with all their passes.
-use Rattle.std.proofs.Common.{◌≡◌, ℕ, ◌<◌, List, [], ◌∷◌, length, All, Vec, Global, arith}
+use Rattle.std.proofs.Common.{◌≡◌, ℕ, ◌<◌, List, ◌∷◌, length, All, Vec, Global, arith}
 use Rattle.clv_base.specs.declared.logs.LogRecord.{LogRecord}
 use Rattle.turn_lock.specs.declared.pass.TurnLock.{TurnLock}
 use Rattle.turn_lock.specs.declared.pass.Pass.{Pass}
@@ -7,10 +7,7 @@ use Rattle.turn_lock.specs.Passes.{passes_of}
 use Rattle.turn_laws.specs.declared.notes.Note.{Note}
 use Rattle.turn_laws.specs.declared.notes.Origin.{Origin}
 use Rattle.cluster_opening.specs.Undone.{AreOpened}
-
-some_elem : {X : Type 0} (xs : List X) (k : ℕ) → k < length xs → X
-some_elem [] k l = absurd (omega arith)
-some_elem (x ∷ xs) k l = x
+use Rattle.law_base.proofs.Lists.{elem_at as some_elem}
 
 module _ {T : Type 0} where
   pub passes_each : (run walkers : ℕ) (logs : List (List LogRecord)) (locks : List (TurnLock T Note Origin)) (passes : List (Vec (Pass T Note Origin) Global)) → length passes ≡ length locks → AreOpened run walkers logs locks passes

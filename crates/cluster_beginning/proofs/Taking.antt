@@ -1,5 +1,5 @@
 -- An opening that is taken back.
-use Rattle.std.proofs.Common.{◌≡◌, ℕ, ◌<◌, ◌≤◌, ◌^◌, List, length, get_or, take, Bool, true, false, Option, refl, sym, ◌∙◌, subst, arith, inl, inr, [], ◌∷◌}
+use Rattle.std.proofs.Common.{◌≡◌, ℕ, ◌<◌, ◌≤◌, ◌^◌, List, length, get_or, take, Bool, true, false, Option, refl, sym, ◌∙◌, subst, arith, inl, inr, ◌∷◌}
 use Rattle.std.proofs.lemmas.Bool.{cases_lt}
 use Rattle.clv_base.specs.declared.logs.LogRecord.{LogRecord}
 use Rattle.clv_base.specs.Shards.{shard_count}
@@ -21,14 +21,7 @@ use Rattle.machine_calls.specs.Recovered.{IsLeft, unwritten, begun as has_begun}
 use Rattle.cluster_opening.specs.Undone.{AreBack, CountsBack}
 use Rattle.cluster_beginning.specs.Begun.{told_as, AreUnchanged, AreFound, IsLeftAt, unchanged, begun, AreLeft, before, meanwhile, LeavesDisks, IsTakenBack}
 use Rattle.cluster_beginning.proofs.Cutting.{logs_below}
-
-some_elem : {X : Type 0} (xs : List X) (k : ℕ) → k < length xs → X
-some_elem [] k l = absurd (omega arith)
-some_elem (x ∷ xs) k l = x
-
-pub least_run : (logs : List (List LogRecord)) → 1 ≤ run_after logs
-least_run [] = omega arith
-least_run (log ∷ logs) = let k = least_run logs in omega arith
+use Rattle.law_base.proofs.Lists.{elem_at as some_elem}
 
 -- ---- no disk was written
 

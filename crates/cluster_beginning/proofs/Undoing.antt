@@ -1,6 +1,5 @@
 -- ABORTs, CLRs and RESTARTs leave what logs stand for.
-use Rattle.std.proofs.Common.{◌≡◌, ℕ, zero, suc, ◌<◌, Bool, true, false, cond, not, ◌||◌, List, [], ◌∷◌, ◌++◌, take, length, map, refl, ap, ◌∙◌, arith}
-use Rattle.std.specs.Prelude.{⊤}
+use Rattle.std.proofs.Common.{◌≡◌, ℕ, zero, suc, ◌<◌, Bool, true, false, cond, not, ◌||◌, List, [], ◌∷◌, ◌++◌, take, map, refl, ap, ◌∙◌, arith}
 use Rattle.std.specs.List.{AllByRecursion, filter, list_any}
 use Rattle.std.proofs.lemmas.Bool.{cond_both}
 use Rattle.std.proofs.lemmas.List.Folds.{list_any-append}
@@ -9,20 +8,14 @@ use Rattle.clv_base.specs.declared.logs.LogRecord.{LogRecord}
 use Rattle.clv_base.specs.declared.logs.LogRecord.TheVariants.{Update, Clr, Prepare, Commit, Abort, End, Restart}
 use Rattle.clv_base.specs.Orders.{tx_in}
 use Rattle.clv_base.specs.Maps.{KeyMap, map_set}
-use Rattle.clv_base.specs.Logs.{StandingUpdate, is_commit_of, committed_in, aborted_in, committed_somewhere, standing, fold_updates, stands_from}
+use Rattle.clv_base.specs.Logs.{StandingUpdate, is_commit_of, committed_in, aborted_in, committed_somewhere, standing, fold_updates}
 use Rattle.clv_base.specs.LogRules.{log_of}
 use Rattle.clv_base.specs.Undo.{clrs_of, newest_lsn}
 use Rattle.clv_base.specs.Restarts.{losers, undo_records, restart_records}
 use Rattle.cluster_beginning.specs.Added.{BegunStandForTheSame}
+use Rattle.law_base.proofs.Logs.{IsUndo, same_somewhere, same_stands}
 
 -- ---- the records
-
--- a record that undoes, or the RESTART behind such
-abbrev pub IsUndo : LogRecord → Type 0
-IsUndo (Abort tx) = ⊤
-IsUndo (Clr tx undo_next key after) = ⊤
-IsUndo (Restart run epoch) = ⊤
-IsUndo _ = ⊥
 
 all_append : (xs ys : List LogRecord) → AllByRecursion IsUndo xs → AllByRecursion IsUndo ys → AllByRecursion IsUndo (xs ++ ys)
 all_append [] ys a b = b
@@ -84,19 +77,6 @@ same_fold f k e (End tx ∷ log) more m a = same_fold f k e log more m a
 same_fold f k e (Restart run epoch ∷ log) more m a = same_fold f k e log more m a
 
 -- ---- all logs
-
-same_somewhere : (xs ys : List (List LogRecord)) (t : TxId) → length xs ≡ length ys → ((n : ℕ) → n < length ys → committed_in (log_of xs n) t ≡ committed_in (log_of ys n) t) → committed_somewhere xs t ≡ committed_somewhere ys t
-same_somewhere [] [] t e k = refl
-same_somewhere [] (y ∷ ys) t e k = absurd (omega (arith, e))
-same_somewhere (x ∷ xs) [] t e k = absurd (omega (arith, e))
-same_somewhere (x ∷ xs) (y ∷ ys) t e k =
-    ap (λ b. b || committed_somewhere xs t) (k 0 (omega arith)) ∙ ap (λ b. committed_in y t || b) (same_somewhere xs ys t (omega (arith, e)) (λ n i. k (suc n) (omega (arith, i))))
-
-same_stands : (f g : TxId → Bool) (xs ys : List (List LogRecord)) (m : KeyMap) → length xs ≡ length ys → ((n : ℕ) → n < length ys → (m : KeyMap) → fold_updates f (log_of xs n) m ≡ fold_updates g (log_of ys n) m) → stands_from f xs m ≡ stands_from g ys m
-same_stands f g [] [] m e k = refl
-same_stands f g [] (y ∷ ys) m e k = absurd (omega (arith, e))
-same_stands f g (x ∷ xs) [] m e k = absurd (omega (arith, e))
-same_stands f g (x ∷ xs) (y ∷ ys) m e k = ap (stands_from f xs) (k 0 (omega arith) m) ∙ same_stands f g xs ys (fold_updates g y m) (omega (arith, e)) (λ n i. k (suc n) (omega (arith, i)))
 
 pub begun_stand : BegunStandForTheSame
 begun_stand run founds logs b =

@@ -1,13 +1,11 @@
 -- What comes back, shard by shard.
-use Rattle.std.proofs.Common.{◌≡◌, ◌∙◌, sym, ap, subst, refl, ℕ, zero, suc, ◌+◌, ◌<◌, ◌≤◌, Bool, true, false, List, [], ◌∷◌, ◌++◌, map, length, get_or, arith, Option, Some, None, Vec, Global, nat_le}
-use Rattle.std.specs.Prelude.{is_none}
-use Rattle.std.proofs.lemmas.Bool.{both_ways, and_parts, leb-true}
+use Rattle.std.proofs.Common.{◌≡◌, ◌∙◌, sym, ap, subst, refl, ℕ, zero, suc, ◌+◌, ◌<◌, ◌≤◌, Bool, true, false, List, [], ◌∷◌, ◌++◌, map, length, get_or, arith, Option, Some, None, Vec, Global}
+use Rattle.std.proofs.lemmas.Bool.{both_ways}
 use Rattle.std.proofs.lemmas.List.{get_or_default, get_or_append_left, get_or_at}
 use mathlib.Core.Logic.{dite}
 use native.Mathlib.Decide.{ℕ_discrete}
 use Rattle.clv_base.specs.declared.logs.LogRecord.{LogRecord}
 use Rattle.clv_base.specs.declared.events.Entry.{Entry}
-use Rattle.clv_base.specs.Shards.{shard_count, are_splits, not_rising}
 use Rattle.clv_base.specs.LogRules.{log_of}
 use Rattle.clv_base.specs.State.{Shard}
 use Rattle.clv_base.specs.Journals.{MayLeave}
@@ -26,17 +24,8 @@ use Rattle.cluster_ends.specs.Landed.{HasLanded}
 use Rattle.cluster_ends.specs.declared.fetching.Fetched.{Fetched}
 use Rattle.cluster_closing.specs.Ends.{shard_at, IsNotAmong, HasDisk, HaveDisks, EndsWith, its_gate, a_disk, HasNoGate}
 use Rattle.cluster_closing.specs.Closing.{lists, CountsBack, IsLeft, IsBack, Returned, CameFrom}
-
-pub some_same : {A : Type 0} (x y : A) (o : Option A) → o ≡ Some x → o ≡ Some y → x ≡ y
-some_same {A} x y o a b = let k : ◌≡◌ {A = Option A} (Some x) (Some y) = sym a ∙ b in cc
-
-abbrev pub the : {A : Type 0} → A → Option A → A
-the d None = d
-the d (Some x) = x
-
-pub some_elem : {X : Type 0} (xs : List X) (k : ℕ) → k < length xs → X
-some_elem [] k l = absurd (omega arith)
-some_elem (x ∷ xs) k l = x
+use Rattle.law_base.proofs.Lists.{some_inside as inside, elem_at as some_elem}
+use Rattle.law_base.proofs.Options.{value_or as the}
 
 -- ---- one disk
 
@@ -107,14 +96,6 @@ gate_is_away story faults n s gate fetched (its_gate there none) j f low is = ab
 gate_is_away story faults n s gate fetched (a_disk i l gone down all) j f low is = gone
 
 -- ---- walkers
-
-pub few_shards : (splits : List ℕ) → are_splits splits ≡ true → shard_count splits ≤ 16
-few_shards splits h = let p = and_parts (nat_le (length splits) 15) (is_none (not_rising splits)) h in let l : length splits ≤ 15 = leb-true (length splits) 15 p.0 in omega arith
-
-inside : {A : Type 0} (xs : List (Option A)) (n : ℕ) (p : A) → ((d : Option A) → get_or xs n d ≡ Some p) → n < length xs
-inside [] n p h = absurd (let k : None ≡ Some p = h None in cc)
-inside (x ∷ xs) zero p h = omega arith
-inside (x ∷ xs) (suc n) p h = let k = inside xs n p h in omega arith
 
 module _ {M S G : Type 0} where
   pub no_gate_away : (sh : Shards M S G) (v : Walker M S G) (n : ℕ) → IsWalker sh v → n < length sh.locks.items → HasLanded v.number v.passes.items → HasNoGate n v

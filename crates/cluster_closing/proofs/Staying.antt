@@ -5,10 +5,9 @@ use mathlib.Core.Logic.{dite}
 use native.Mathlib.Decide.{ℕ_discrete}
 use Rattle.clv_base.specs.declared.events.Event.{Event}
 use Rattle.clv_base.specs.declared.events.Outcome.{Outcome}
-use Rattle.clv_base.specs.declared.events.Outcome.TheVariants.{Down}
 use Rattle.clv_base.specs.declared.events.Entry.{Entry}
 use Rattle.clv_base.specs.State.{Shard}
-use Rattle.clv_base.specs.Events.{step, land, land_up, Enters, Quiet}
+use Rattle.clv_base.specs.Events.{step, land}
 use Rattle.turn_lock.specs.declared.pass.Pass.{Pass}
 use Rattle.turn_lock.specs.Passes.{seen}
 use Rattle.machine_calls.specs.declared.machine.StepError.{StepError}
@@ -25,6 +24,7 @@ use Rattle.cluster_ends.proofs.Laws.{inside, some_inj}
 use Rattle.cluster_ends.specs.Held.{Holds, HoldsAt, IsDiskOf}
 use Rattle.session_births.specs.Turns.{Turn, Took, no_turn, event_turn, flush_turns, horizon_look}
 use Rattle.cluster_closing.specs.Laws.{HeldDisksStay}
+use Rattle.law_base.proofs.Shards.{not_down}
 
 -- ---- a shard that is down takes no entry
 
@@ -34,10 +34,6 @@ idle_event clock w c e r s t added h down = h.added_is ∙ at h.made h.tells
     at : (made : Option Entry) → Tells (step s clock w e) s clock w e r t made → map plain (listed made) ≡ []
     at None k = refl
     at (Some x) (o, is, m) = absurd (both_ways s.is_up down (made_up s clock w e o t m.enters))
-
-not_down : (s : Shard) (clock w : ℕ) (pushed : Bool) (o : Outcome) (t : Shard) {X : Type 0} (u : Bool) → s.is_up ≡ u → elim u [ true ↦ land_up s clock w pushed s.flight | false ↦ Quiet Down ] ≡ Enters o t → u ≡ false → X
-not_down s clock w pushed o t true up h d = absurd (both_ways true d refl)
-not_down s clock w pushed o t false up h d = absurd cc
 
 idle_landing : (clock w c upto : ℕ) (pushed : Bool) (s t : Shard) (added : List Note) → LandTold clock w pushed upto c s t added → s.is_up ≡ false → added ≡ []
 idle_landing clock w c upto pushed s t added h down = not_down s clock w pushed (landed_as pushed upto) t s.is_up refl h.made_is.enters down

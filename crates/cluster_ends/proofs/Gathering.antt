@@ -1,5 +1,5 @@
 -- Lists that are filled or changed place by place.
-use Rattle.std.proofs.Common.{◌≡◌, ℕ, zero, suc, ◌+◌, ◌<◌, List, [], ◌∷◌, ◌++◌, length, get_or, set, sym, ap, ◌∙◌, subst, arith, Option, Some, None, get_or-set_same, get_or-set_other}
+use Rattle.std.proofs.Common.{◌≡◌, ℕ, zero, suc, ◌+◌, ◌<◌, List, [], ◌∷◌, ◌++◌, length, get_or, set, sym, ap, ◌∙◌, subst, arith, None, get_or-set_same, get_or-set_other}
 use Rattle.std.proofs.lemmas.List.{get_or_append_left, get_or_at}
 use mathlib.Core.Logic.{dite}
 use Rattle.turn_lock.specs.Journals.{StartsWith, entries_by}
@@ -9,11 +9,6 @@ use Rattle.turn_laws.specs.Notes.{noter}
 use Rattle.cluster_turns.specs.declared.shards.Walker.{Walker}
 use Rattle.cluster_ends.specs.Ending.{ClosedAt, seen_of, own_notes, origin_of}
 use native.Mathlib.Decide.{ℕ_discrete}
-
-pub inside : {A : Type 0} (xs : List (Option A)) (n : ℕ) (p : A) → ((d : Option A) → get_or xs n d ≡ Some p) → n < length xs
-inside [] n p h = absurd (let k : None ≡ Some p = h None in cc)
-inside (x ∷ xs) zero p h = omega arith
-inside (x ∷ xs) (suc n) p h = let k = inside xs n p h in omega arith
 
 module _ {X : Type 0} (P : ℕ → X → Type 0) where
   pub pushed_each : (xs : List X) (x : X) (n : ℕ) → length xs ≡ n → ((j : ℕ) (e : X) → j < n → P j (get_or xs j e)) → P n x → (j : ℕ) (e : X) → j < n + 1 → P j (get_or (xs ++ x ∷ []) j e)
@@ -25,14 +20,6 @@ module _ {X : Type 0} (P : ℕ → X → Type 0) where
   set_each xs x n len old new j e l = dite (ℕ_discrete j n)
       (λ same. subst (λ (y : X). P j y) (sym (ap (λ (i : ℕ). get_or (set xs n x) i e) same ∙ get_or-set_same xs n x e len)) (subst (λ (i : ℕ). P i x) (sym same) new))
       (λ other. let low : j < n = omega arith in subst (λ (y : X). P j y) (sym (get_or-set_other xs n j x e other)) (old j e low))
-
-abbrev pub the : {A : Type 0} → A → Option A → A
-the d None = d
-the d (Some x) = x
-
-pub some_elem : {X : Type 0} (xs : List X) (k : ℕ) → k < length xs → X
-some_elem [] k l = absurd (omega arith)
-some_elem (x ∷ xs) k l = x
 
 module _ {M S G : Type 0} where
   pub closed_same : (V W : List (Walker M S G)) (m : ℕ) (o : Origin) (J : List Note) → length V ≡ length W → ((k : ℕ) (d : Walker M S G) → k < length V → (get_or V k d).number ≡ (get_or W k d).number)

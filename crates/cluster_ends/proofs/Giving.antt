@@ -1,8 +1,7 @@
 -- A gate that is taken out of a machine that is down.
 use Rattle.std.proofs.Common.{◌≡◌, ℕ, Bool, true, false, List, [], ◌∷◌, ◌++◌, length, get_or, sym, ap, refl, ◌∙◌, subst, append-nil, Option, Some, None, Result, Ok, Err}
-use Rattle.std.specs.Prelude.{not, is_some, IfOk}
+use Rattle.std.specs.Prelude.{is_some, IfOk}
 use Rattle.std.specs.List.{All}
-use Rattle.std.proofs.lemmas.Bool.{both_ways}
 use Rattle.std.proofs.lemmas.List.Elements.{All-cons, All-nil}
 use Rattle.clv_base.specs.declared.logs.LogRecord.{LogRecord}
 use Rattle.clv_base.specs.State.{Shard}
@@ -27,10 +26,6 @@ use Rattle.cluster_ends.specs.declared.fetching.FetchError.TheVariants.{Up, Away
 use Rattle.cluster_turns.specs.Walkers.{IsPassAt}
 use Rattle.cluster_turns.proofs.Laws.{some_inj}
 use Rattle.cluster_ends.specs.Held.{FetchTold, DiskFits, Holds, HoldsAt, IsDiskOf, PassTaken}
-
-pub is_down : (b : Bool) → not b ≡ true → b ≡ false
-is_down true h = absurd (both_ways false refl h)
-is_down false h = refl
 
 pub gate_given : {G : Type 0} (b : Bool) (gate : Option G) → b ≡ false → down_gate_of b gate ≡ gate
 gate_given b gate h = ap (λ c. down_gate_of c gate) h

@@ -22,13 +22,8 @@ use Rattle.turn_laws.specs.Gates.{durable_records}
 use Rattle.turn_laws.specs.Sound.{IsSound}
 use Rattle.turn_laws.proofs.Laws.{left_last, legal_restart, from_does, gate_home, down_failed, failed_append}
 use Rattle.cluster_ends.specs.Restarts.{Recovers}
-
-does_after : {p q : Outcome} {u v : Shard} → Does p u ≡ Does q v → u ≡ v
-does_after e = cc
-
-or_first : (a b : Bool) → a ≡ true → (a || b) ≡ true
-or_first true b h = refl
-or_first false b h = absurd (both_ways false refl h)
+use Rattle.law_base.proofs.Shards.{does_after}
+use Rattle.clv_base.proofs.SameNames.{or_left as or_first}
 
 -- the state after it
 pub restarted_is : (s : Shard) (clock w epoch : ℕ) (log : List LogRecord) (out : Outcome) (t : Shard) (x : Entry) → IsMade (revives s clock w epoch log) s clock w Restart out t x → t ≡ with_entry (next_stamp s clock Restart) w Restart out (revived s epoch log)

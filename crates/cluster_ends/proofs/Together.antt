@@ -1,6 +1,5 @@
 -- What the shards kept is a legal history.
 use Rattle.std.proofs.Common.{◌≡◌, ◌≢◌, ℕ, zero, suc, ◌<◌, Bool, true, false, cond, ◌==◌, List, [], ◌∷◌, length, get_or, map, sym, ap, refl, ◌∙◌, subst, arith, Option, Some, None, eqb-true}
-use Rattle.std.specs.Prelude.{slice_get}
 use Rattle.std.proofs.lemmas.Bool.{both_ways, eq-eqb}
 use Rattle.clv_base.specs.declared.logs.LogRecord.{LogRecord}
 use Rattle.clv_base.specs.declared.events.Entry.{Entry}
@@ -28,7 +27,7 @@ use Rattle.cluster_turns.specs.Walkers.{IsOriginAt, IsWalker, own_lists, kept, f
 use Rattle.cluster_turns.proofs.Laws.{some_inj}
 use Rattle.cluster_ends.specs.Ending.{ClosedAt, own_notes, origin_of}
 use Rattle.cluster_ends.specs.Legal.{AreShards, state_at, views_of}
-use Rattle.cluster_ends.proofs.Gathering.{some_elem}
+use Rattle.law_base.proofs.Lists.{elem_at as some_elem, some_at}
 
 -- a walker's entries of notes
 shared_by : (w : ℕ) (ns : List Note) → by_walker w (entries_in ns) ≡ entries_in (entries_by noter w ns)
@@ -53,11 +52,6 @@ map_at f (x ∷ xs) (suc n) d l = map_at f xs n d (omega arith)
 map_length : {X Y : Type 0} (f : X → Y) (xs : List X) → length (map f xs) ≡ length xs
 map_length f [] = refl
 map_length f (x ∷ xs) = ap suc (map_length f xs)
-
-some_at : {X : Type 0} (xs : List X) (n : ℕ) (d : X) → n < length xs → slice_get xs n ≡ Some (get_or xs n d)
-some_at [] n d l = absurd (omega arith)
-some_at (x ∷ xs) zero d l = refl
-some_at (x ∷ xs) (suc n) d l = some_at xs n d (omega arith)
 
 state_here : {H : Type 0} (state : H → Shard) (founds : List (List LogRecord)) (homes : List H) (n : ℕ) (d : H) → n < length homes → state_at state founds homes n ≡ state (get_or homes n d)
 state_here state founds homes n d l = ap (λ o. elim o [ Some h ↦ state h | None ↦ start_of founds n ]) (some_at homes n d l)

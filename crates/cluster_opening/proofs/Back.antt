@@ -22,9 +22,6 @@ module _ {G : Type 0} (told : G → Option Story) (faults : G → ℕ) where
   pub still_back : (g : G) (f f1 f2 : ℕ) (o1 o2 : Bool) (s1 s2 : Option Story) → CameBack told faults g f f1 o1 s1 → f2 ≡ f1 → o2 ≡ o1 → s2 ≡ s1 → CameBack told faults g f f2 o2 s2
   still_back g f f1 f2 o1 o2 s1 s2 b a c d = record { adds = subst (λ (n : ℕ). Adds f (faults g) n) (sym a) b.adds; is_in = c ∙ b.is_in; story_is = d ∙ b.story_is }
 
-pub some_same : {A : Type 0} (x y : A) (o : Option A) → o ≡ Some x → o ≡ Some y → x ≡ y
-some_same {A} x y o a b = let k : ◌≡◌ {A = Option A} (Some x) (Some y) = sym a ∙ b in cc
-
 pub none_case : {A : Type 0} (r : Option A) (X : Type 0) (Y : A → Type 0) → r ≡ None → MatchOption r X Y → X
 none_case None X Y e h = h
 none_case {A} (Some x) X Y e h = absurd (let k : ◌≡◌ {A = Option A} (Some x) None = e in cc)

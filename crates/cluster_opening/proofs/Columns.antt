@@ -1,5 +1,5 @@
 -- The passes of locks, taken one of each at a time.
-use Rattle.std.proofs.Common.{◌≡◌, ℕ, ◌+◌, ◌<◌, List, [], ◌∷◌, ◌++◌, length, get_or, set, sym, ap, ◌∙◌, subst, arith, get_or-set_same, get_or-set_other, Option, Some, None, Vec, Global}
+use Rattle.std.proofs.Common.{◌≡◌, ℕ, ◌+◌, ◌<◌, List, [], ◌∷◌, ◌++◌, length, get_or, set, sym, ap, ◌∙◌, subst, arith, get_or-set_same, get_or-set_other, Option, Some, Vec, Global}
 use Rattle.std.proofs.lemmas.List.{get_or_append_left, get_or_at, get_or_default}
 use mathlib.Core.Logic.{dite}
 use native.Mathlib.Decide.{ℕ_discrete}
@@ -13,6 +13,8 @@ use Rattle.turn_laws.specs.declared.notes.Note.{Note}
 use Rattle.turn_laws.specs.declared.notes.Origin.{Origin}
 use Rattle.cluster_turns.specs.Walkers.{AreNewPasses}
 use Rattle.cluster_opening.specs.ShardsOpeningOpened.{IsOpenedAt}
+use Rattle.law_base.proofs.Lists.{elem_at as some_elem}
+use Rattle.law_base.proofs.Options.{value_or as the}
 
 module _ {X : Type 0} (P : ℕ → X → Type 0) where
   pub pushed_each : (xs : List X) (x : X) (n : ℕ) → length xs ≡ n → ((j : ℕ) (e : X) → j < n → P j (get_or xs j e)) → P n x → (j : ℕ) (e : X) → j < n + 1 → P j (get_or (xs ++ x ∷ []) j e)
@@ -24,14 +26,6 @@ module _ {X : Type 0} (P : ℕ → X → Type 0) where
   set_each xs x n len old new j e l = dite (ℕ_discrete j n)
       (λ same. subst (λ (y : X). P j y) (sym (ap (λ (i : ℕ). get_or (set xs n x) i e) same ∙ get_or-set_same xs n x e len)) (subst (λ (i : ℕ). P i x) (sym same) new))
       (λ other. let low : j < n = omega arith in subst (λ (y : X). P j y) (sym (get_or-set_other xs n j x e other)) (old j e low))
-
-abbrev pub the : {A : Type 0} → A → Option A → A
-the d None = d
-the d (Some x) = x
-
-pub some_elem : {X : Type 0} (xs : List X) (k : ℕ) → k < length xs → X
-some_elem [] k l = absurd (omega arith)
-some_elem (x ∷ xs) k l = x
 
 module _ {T : Type 0} where
   -- the passes of one number, one of each lock, are new ones

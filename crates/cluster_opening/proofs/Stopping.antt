@@ -1,5 +1,5 @@
 -- All disks of an opening that stopped, after they came back.
-use Rattle.std.proofs.Common.{◌≡◌, ◌≢◌, ℕ, suc, ◌+◌, ◌-◌, ◌<◌, ◌≤◌, List, [], ◌∷◌, length, get_or, sym, ap, ◌∙◌, subst, arith, ◌⊎◌, inl, inr, Option, None, Bool, false}
+use Rattle.std.proofs.Common.{◌≡◌, ◌≢◌, ℕ, suc, ◌+◌, ◌-◌, ◌<◌, ◌≤◌, List, ◌∷◌, length, get_or, sym, ap, ◌∙◌, subst, arith, ◌⊎◌, inl, inr, Option, None, Bool, false}
 use Rattle.std.proofs.lemmas.Bool.{cases_lt}
 use mathlib.Core.Logic.{dite}
 use native.Mathlib.Decide.{ℕ_discrete}
@@ -12,10 +12,7 @@ use Rattle.gate_recovery.specs.declared.recovering.RecoverError.TheVariants.{Fai
 use Rattle.machine_calls.specs.Recovered.{IsLeft, unwritten, CountsLeft}
 use Rattle.cluster_opening.specs.ShardsOpeningOpened.{StoppedAt}
 use Rattle.cluster_opening.specs.Undone.{AreFine, AreBack, CountsBack}
-
-some_elem : {X : Type 0} (xs : List X) (k : ℕ) → k < length xs → X
-some_elem [] k l = absurd (omega arith)
-some_elem (x ∷ xs) k l = x
+use Rattle.law_base.proofs.Lists.{elem_at as some_elem}
 
 module _ {G : Type 0} (told : G → Option Story) (fails : G → ℕ) (run : ℕ) (logs : List (List LogRecord)) (gates : List G) (shard : ℕ) (e : RecoverError) (story : Option Story) (faults : ℕ) (rest : List G) (st : StoppedAt told run logs gates shard e story faults rest) where
   pub all_back : (out1 out2 out3 : ℕ → Bool) (s1 s2 s3 : ℕ → Option Story) → ((n : ℕ) → n < shard → out1 n ≡ false) → ((n : ℕ) (b : Option Story) → n < shard → IsLeft n (log_of logs n) run b (s1 n)) → out2 shard ≡ false → s2 shard ≡ story

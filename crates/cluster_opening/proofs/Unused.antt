@@ -19,6 +19,7 @@ use Rattle.turn_laws.specs.Homes.{start, state_of, holder_of}
 use Rattle.turn_laws.specs.Gates.{GateStands}
 use Rattle.turn_laws.specs.Sound.{IsSound}
 use Rattle.machine_calls.specs.Recovered.{IsMachineAt}
+use Rattle.law_base.proofs.Lists.{elem_at as some_elem}
 
 -- a journal in which no number has entries has none
 no_notes : (J : List Note) → ((w : ℕ) → entries_by noter w J ≡ []) → J ≡ []
@@ -27,10 +28,6 @@ no_notes (x ∷ xs) h =
     let k : x ∷ entries_by noter (noter x) xs ≡ [] =
     subst (λ (b : Bool). cond b (x ∷ entries_by noter (noter x) xs) (entries_by noter (noter x) xs) ≡ []) (eq-eqb (noter x) (noter x) refl) (h (noter x)) in
     absurd (cc)
-
-pub some_elem : {X : Type 0} (xs : List X) (k : ℕ) → k < length xs → X
-some_elem [] k l = absurd (omega arith)
-some_elem (x ∷ xs) k l = x
 
 module _ {T : Type 0} (lock : TurnLock T Note Origin) (o : Origin) (passes : List (Pass T Note Origin)) (new : (k : ℕ) (d : Pass T Note Origin) → k < length passes → IsNewPass lock o k (get_or passes k d)) (J : List Note) where
   pub all_empty : All (λ p. entries_by noter (number p) J ≡ own p) passes → ((w : ℕ) → All (λ p. number p ≢ w) passes → entries_by noter w J ≡ []) → J ≡ []

@@ -1,5 +1,5 @@
 -- How the sessions of a script went, all together.
-use Rattle.std.proofs.Common.{◌≡◌, refl, ◌∙◌, sym, ap, subst, arith, ℕ, zero, suc, ◌+◌, ◌<◌, List, [], ◌∷◌, length, get_or, set, slice_get, Option, Some, None, Ok, Err, IfErr}
+use Rattle.std.proofs.Common.{◌≡◌, refl, ◌∙◌, sym, ap, subst, arith, ℕ, zero, suc, ◌+◌, ◌<◌, List, [], ◌∷◌, length, get_or, set, Option, Some, None, Ok, Err, IfErr}
 use Rattle.std.proofs.lemmas.Option.{slice_get_within}
 use Rattle.cluster_turns.specs.declared.shards.Shards.{Shards}
 use Rattle.cluster_turns.specs.declared.shards.Walker.{Walker}
@@ -14,15 +14,7 @@ use Rattle.session_scripts.specs.Grounds.{Grounds}
 use Rattle.session_scripts.proofs.Laws.{new_walkers_rest, new_walkers_keep_none}
 use Rattle.run_promises.specs.Sessions.{Went, NotBegun, Begun, SessionWent}
 use Rattle.cluster_runs.specs.Sessions.{HasSat, HasGrounds, SessionsGone, went_to, went_by}
-
-pub some_elem : {X : Type 0} (xs : List X) (k : ℕ) → k < length xs → X
-some_elem [] k l = absurd (omega arith)
-some_elem (x ∷ xs) k l = x
-
-at_slice : {X : Type 0} (xs : List X) (k : ℕ) (e : X) → k < length xs → slice_get xs k ≡ Some (get_or xs k e)
-at_slice [] k e l = absurd (omega arith)
-at_slice (x ∷ xs) zero e l = refl
-at_slice (x ∷ xs) (suc k) e l = at_slice xs k e (omega arith)
+use Rattle.law_base.proofs.Lists.{some_at as at_slice}
 
 fine_went : (end : End) → IsOk end → went_to (Some end) ≡ Begun None
 fine_went (Ok u) ok = refl

@@ -1,5 +1,5 @@
 -- The promise of a run, from what its cluster's beginning, its sessions and its end told.
-use Rattle.std.proofs.Common.{◌≡◌, ◌∙◌, sym, ap, subst, arith, ℕ, suc, ◌<◌, Bool, true, false, List, [], ◌∷◌, ◌++◌, length, get_or, Option, Some, None}
+use Rattle.std.proofs.Common.{◌≡◌, ◌∙◌, sym, ap, subst, arith, ℕ, suc, ◌<◌, Bool, true, false, List, ◌∷◌, ◌++◌, length, get_or, Option, Some, None}
 use Rattle.std.proofs.lemmas.List.{length-map}
 use Rattle.std.proofs.lemmas.Option.{slice_get_within}
 use Rattle.clv_base.specs.State.{Shard}
@@ -32,6 +32,7 @@ use Rattle.run_ends.specs.Statuses.{StatusTold, FlushesTold}
 use Rattle.run_ends.proofs.Laws.{others_stand, runs_keep, sessions_have_gone, statuses_tell, flushes_tell, downs_tell}
 use Rattle.cluster_runs.specs.Sessions.{HasGrounds, SessionsGone, HasWornLast}
 use Rattle.cluster_runs.specs.Ran.{AllEnded, StopTold, RanAll}
+use Rattle.law_base.proofs.Lists.{elem_at as some_elem}
 
 -- where all was fine each transaction has ended
 module _ (ends : SessionsHaveEnded) (splits : List ℕ) (before now : ℕ → Option Story) (counts counts_now : ℕ → ℕ) (most : Option ℕ) (script : List (List Body)) (went : ℕ → Went) (kept : Kept)
@@ -63,10 +64,6 @@ module _ {M S G : Type 0} (shards : ℕ) (failed : ℕ → Bool) (w : Walker M S
   stop_told (Begun (Some (stop.Unsettled n))) h = was_down n h
   stop_told (Begun (Some (stop.Worn at))) h = h.0
   stop_told (Begun (Some stop.Memory)) h = tt
-
-some_elem : {X : Type 0} (xs : List X) (k : ℕ) → k < length xs → X
-some_elem [] k l = absurd (omega arith)
-some_elem (x ∷ xs) k l = x
 
 pub ran_all : {M S G : Type 0} → SessionsHaveEnded → (D : Type 0) (shard : M → Shard) (sh : Shards M S G) (walkers : List (Walker M S G)) (homes : List (Home M S G)) (kept : Kept) (down : Option ℕ) (counts counts_now : ℕ → ℕ) (out out_now : ℕ → Bool)
     (before now : ℕ → Option Story) (most : Option ℕ) (script : List (List Body)) (went : ℕ → Went) (end : End) (status : Status)

@@ -1,7 +1,6 @@
 -- What a session of a seat leaves.
-use Rattle.std.proofs.Common.{◌≡◌, refl, ◌∙◌, sym, subst, arith, Bool, true, false, ◌&&◌, ℕ, zero, suc, ◌<◌, List, [], ◌∷◌, ◌++◌, length, take, get_or, Option, Some, IfErr, slice_get}
+use Rattle.std.proofs.Common.{◌≡◌, refl, ◌∙◌, sym, subst, arith, true, false, ◌&&◌, ℕ, zero, suc, ◌<◌, List, [], ◌∷◌, ◌++◌, length, Option, Some, IfErr, slice_get}
 use Rattle.std.specs.List.{list_all}
-use Rattle.std.proofs.lemmas.List.{get_or_append_left, get_or-take}
 use Rattle.cluster_turns.specs.declared.shards.Shards.{Shards}
 use Rattle.cluster_turns.specs.declared.shards.Walker.{Walker}
 use Rattle.script_lang.specs.Bodies.{Body}
@@ -13,14 +12,7 @@ use Rattle.session_scripts.specs.Standing.{Holds, seen_in, standing_of}
 use Rattle.session_scripts.specs.Grounds.{Grounds}
 use Rattle.session_scripts.proofs.Laws.{sessions_rest, scripts_follow}
 use Rattle.cluster_runs.specs.Sessions.{IsSeated, HasSat, HasWornLast}
-
-and_first : (a b : Bool) → (a && b) ≡ true → a ≡ true
-and_first true b p = refl
-and_first false b p = p
-
-and_second : (a b : Bool) → (a && b) ≡ true → b ≡ true
-and_second true b p = p
-and_second false b p = absurd cc
+use Rattle.law_base.proofs.Bools.{and_first, and_second}
 
 module _ {M S G : Type 0} where
   worn_last : (w : Walker M S G) (end : End) → IfErr end (Grounds w) → HasWornLast end
@@ -46,7 +38,3 @@ pub narrow_at : (script : List (List Body)) (k : ℕ) (bodies : List Body) → k
 narrow_at [] k bodies low all is = absurd (omega arith)
 narrow_at (x ∷ xs) zero bodies low all is = subst (λ z. list_all is_narrow_body z ≡ true) (sym (is x refl)) (and_first (list_all is_narrow_body x) (list_all (list_all is_narrow_body) xs) all)
 narrow_at (x ∷ xs) (suc k) bodies low all is = narrow_at xs k bodies (omega arith) (and_second (list_all is_narrow_body x) (list_all (list_all is_narrow_body) xs) all) is
-
--- what was written through a slice of a list
-pub written : {A : Type 0} (ys zs : List A) (n k : ℕ) (d : A) → k < n → k < length ys → get_or (take n (ys ++ zs)) k d ≡ get_or ys k d
-written ys zs n k d low within = get_or-take n (ys ++ zs) k d low ∙ get_or_append_left ys zs d k within

@@ -35,6 +35,7 @@ use Rattle.turn_laws.proofs.Laws.{own_entries_go_on, walkers_go_on, entries_appe
 use Rattle.turn_laws.specs.Notes.{plain}
 use Rattle.cluster_turns.specs.Turns.{Turned, EventTold}
 use Rattle.cluster_turns.specs.Walkers.{IsPassAt, ArePassesOf, own_of, own_lists, kept, IsWalkerOf, Walked, GoesOn}
+use Rattle.law_base.proofs.Options.{value_or as the}
 
 -- what a turn adds to what a walker with this clock keeps: nothing, or one entry that comes after all
 pub data Adds (splits : List ℕ) (run w n clock clock' : ℕ) (es : History) : List Entry → Type 0 where
@@ -144,13 +145,6 @@ event_adds splits run w n clock clock' es e r s t added h g = subst (λ l. Adds 
         let same = told.2.entry_is in
         one x (above (step s clock w e) s clock w e told.0 t x told.2) (omega arith) (subst (λ y. is_session splits run w (es ++ (n, y) ∷ []) ≡ true) (sym same) (g.session s d.after (next_stamp s clock e) told.0 d.does))
         (subst (λ y. is_numbered w (n, y) ≡ true) (sym same) g.numbered) (subst (λ y. WasSent es y.event) (sym same) g.sent)
-
-pub some_inj : {A : Type 0} (x y : A) → Some x ≡ Some y → x ≡ y
-some_inj x y h = cc
-
-abbrev pub the : {A : Type 0} → A → Option A → A
-the d None = d
-the d (Some x) = x
 
 -- the clock never falls
 pub event_rises : (clock w : ℕ) (e : Event) (r : Result Outcome StepError) (clock' : ℕ) (s t : Shard) (added : List Note) → EventTold clock w e r clock' s t added → clock ≤ clock'

@@ -26,6 +26,7 @@ use Rattle.clv_shell.specs.Sinks.{TookPairs}
 use Rattle.clv_shell.specs.Causes.{BreaksLogs, BreaksScript, CountsSource, CountsSink, CountsDisks, Stand}
 use Rattle.clv_shell.specs.Reading.{IsRead, ReadsScript}
 use Rattle.clv_shell.specs.Runs.{EndsAs, Opened}
+use Rattle.law_base.proofs.Numbers.{below_differs as below}
 
 -- ---- the shards were opened
 
@@ -95,9 +96,6 @@ ended_so before now counts counts_now most script kept left faults faults' runni
     (tells counts counts_now before kept left faults faults' (shard_count r.splits) (length script) r.went running written r.told (λ n l. (r.others n l).1) e)
 
 -- ---- they were not
-
-below : (n shard : ℕ) → n < shard → n ≡ shard → ⊥
-below n shard l e = omega (arith, l, e)
 
 pub record Refused (counts counts_now : ℕ → ℕ) (stories stories' : ℕ → Option Story) (left : Option (List ℕ)) (faults faults' taken : ℕ) (status : Status) : Type 0 where
   pub runs : IsOfRun status

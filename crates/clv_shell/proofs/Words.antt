@@ -6,6 +6,7 @@ use Rattle.command_words.specs.Commands.{IsGiven, AreTries, AreNumbers, Says, Is
 use Rattle.command_words.specs.declared.commands.Command.{Command}
 use Rattle.command_words.specs.declared.commands.Command.TheVariants.{Make, Run, Show, Load}
 use Rattle.clv_shell.specs.Top.{HasCommand, IsWithinBounds}
+use Rattle.law_base.proofs.Numbers.{below_differs as less}
 
 number_once : (word : List ℕ) (m n : ℕ) → IsNumber word m → IsNumber word n → m ≡ n
 number_once word m n p q = sym p.value ∙ q.value
@@ -33,9 +34,6 @@ numbers_once (word ∷ words) (m ∷ ms) (n ∷ ns) p q =
 abbrev first_letter : List ℕ → ℕ
 first_letter [] = 0
 first_letter (letter ∷ letters) = letter
-
-less : (m n : ℕ) → m < n → m ≡ n → ⊥
-less m n l e = omega (arith, l, e)
 
 says_once : (name : Text) (rows : List Row) (c d : Command) → Says name rows c → Says name rows d → c ≡ d
 says_once name rows (Make a) (Make b) p q = ap Make (numbers_once _ a b p.1 q.1)

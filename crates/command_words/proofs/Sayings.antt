@@ -1,18 +1,16 @@
 -- What a subcommand says.
-use Rattle.std.proofs.Common.{◌≡◌, ◌≢◌, ℕ, List, map, Option, option_map, codes, slice_index, true, refl, ap, sym, ◌∙◌, subst, arith}
+use Rattle.std.proofs.Common.{◌≡◌, ◌≢◌, ℕ, List, map, Option, option_map, codes, true, refl, sym, ◌∙◌, subst, arith}
 use Rattle.std.specs.Borrow.{Bor}
 use Rattle.clap.specs.Words.{Row, Text, first_of, all_of, rows_of, matched_of, raw_values}
 use Rattle.clap.specs.declared.parser.matches.Found.{Found}
 use Rattle.clap.proofs.WalkLemmas.{raw_values-rows}
 use Rattle.clv_base.specs.Shards.{are_splits}
 use Rattle.command_words.specs.Commands.{Command, Make, Run, Show, Load, AreTries, AreNumbers, listed, Says}
+use Rattle.law_base.proofs.Lists.{unequal}
 
 pub all_is : (f : Found) (id : Text) (result : Option (Bor (List (Bor (List ℕ))))) (list : Option (List Text))
     → option_map (λ s. map (λ v. v.now) s.now) result ≡ option_map raw_values (matched_of f id) → option_map (λ s. map (λ v. v.now) s.now) result ≡ list → all_of id (rows_of f) ≡ list
 all_is f id result list e is = sym (raw_values-rows f id) ∙ sym e ∙ is
-
-unequal : (a b : List ℕ) → slice_index a 0 ≢ slice_index b 0 → a ≡ b → ⊥
-unequal a b differ e = differ (ap (λ (w : List ℕ). slice_index w 0) e)
 
 pub make_says : (rows : List Row) (command : Command) (words : List Text) → listed (all_of (codes "split") rows) ≡ words
     → ((splits : List ℕ) × (command ≡ Make splits) × AreNumbers words splits × (are_splits splits ≡ true)) → Says (codes "make") rows command

@@ -12,10 +12,7 @@ use Rattle.clv_base.specs.Orders.{Table, tx_cmp}
 use Rattle.clv_base.specs.Coordinator.{restored_request, restored_requests}
 use Rattle.commit_coordinator.specs.Coordinated.{IsFit}
 use Rattle.vote_participant.proofs.Laws.{put_last}
-
-keys_restored : (commits : Table (List ℕ)) → keys_of (restored_requests commits) ≡ keys_of commits
-keys_restored [] = refl
-keys_restored (h ∷ hs) = ap (λ l. h.0 ∷ l) (keys_restored hs)
+use Rattle.law_base.proofs.Names.{request_keys as keys_restored}
 
 pub step_restored : (i : ℕ) (commits : Table (List ℕ)) (x : TxId × List ℕ) (now : Table Request) → IsStrictlySortedBy tx_cmp (keys_of commits) → i < length commits → x ≡ get_or commits i x
     → now ++ restored_requests (drop i commits) ≡ restored_requests commits

@@ -18,6 +18,7 @@ use Rattle.tx_index.specs.Index.{index_of}
 use Rattle.tx_index.proofs.Laws.{HasOwn, rows_own}
 use Rattle.commit_coordinator.specs.Reminding.{votes_of, dones_of, of_one, each_at}
 use Rattle.commit_coordinator.specs.Waiting.{waits, waits_in, waiting_in, RemindersByWaiting}
+use Rattle.law_base.proofs.Bools.{was_true}
 
 -- ---- one that doesn't wait
 
@@ -33,10 +34,6 @@ untold shard tx acked [] e = refl
 untold shard tx acked (p ∷ ps) e =
     let a = and_parts (nat_in p acked) (list_all (λ n. nat_in n acked) ps) e in let rest = filter (λ n. not (nat_in n acked)) ps in
     ap (λ b. map (λ n. Decide n tx shard true) (cond (not b) (p ∷ rest) rest)) a.0 ∙ untold shard tx acked ps a.1
-
-was_true : (b : Bool) → not b ≡ false → b ≡ true
-was_true true e = refl
-was_true false e = absurd (both_ways false refl (sym e))
 
 no_votes : (shard : ℕ) (tx : TxId) (q : Request) (st : RequestState) → waits_in shard q st ≡ false → missing_votes shard tx q st ≡ []
 no_votes shard tx q Undecided e = unasked shard tx (λ t. not (is_some (vote_from t.0 q.votes))) q.touched e

@@ -1,13 +1,13 @@
 -- Each answer of a member is that of the map with the members' earlier writes.
-use Rattle.std.proofs.Common.{◌≡◌, refl, sym, ap, subst, ◌∙◌, ℕ, suc, ◌<◌, true, false, Bool, ◌&&◌, List, [], ◌∷◌, map, ◌==◌}
+use Rattle.std.proofs.Common.{◌≡◌, refl, sym, ap, subst, ◌∙◌, ℕ, suc, ◌<◌, true, false, ◌&&◌, List, [], ◌∷◌, map, ◌==◌}
 use Rattle.std.specs.Prelude.{is_none}
-use Rattle.std.specs.List.{AllByRecursion, filter, list_all}
+use Rattle.std.specs.List.{AllByRecursion, filter}
 use Rattle.std.proofs.lemmas.Bool.{and_parts}
 use Rattle.clv_base.specs.declared.logs.LogRecord.{LogRecord}
 use Rattle.clv_base.specs.declared.ops.Answer.{Answer}
 use Rattle.clv_base.specs.Maps.{KeyMap, op_after, ops_after, ops_answers}
-use Rattle.clv_base.specs.LogRules.{log_of, all_logs_from, disorder, apart}
-use Rattle.clv_base.specs.FileRules.{passes_file_rules, log_passes}
+use Rattle.clv_base.specs.LogRules.{log_of, all_logs_from, apart}
+use Rattle.clv_base.specs.FileRules.{log_passes}
 use Rattle.clv_base.specs.Shards.{shard_count}
 use Rattle.clv_base.specs.Logs.{stands}
 use Rattle.clv_base.specs.History.{logs_left}
@@ -23,14 +23,13 @@ use Rattle.crash_laws.specs.Acts.{Act, AnswersFrom, member_acts, AnswersAreOfEar
 use Rattle.crash_laws.proofs.Lists.{filter_map_is}
 use Rattle.crash_laws.proofs.Telling.{told}
 use Rattle.crash_laws.proofs.Shards.{IsFine, members_are_fine, chosen_acts, acted}
+use Rattle.law_base.proofs.Names.{first_of}
+use Rattle.law_base.proofs.Logs.{only_passes}
 
 abbrev ops_done : List Act → List ShardOp
 ops_done as_ = map (λ a. a.done) as_
 
 -- ---- one list, as the operations of one transaction
-
-first_of : (a b : Answer) (as_ bs : List Answer) → a ∷ as_ ≡ b ∷ bs → (a ≡ b) × (as_ ≡ bs)
-first_of a b as_ bs e = (cc, cc)
 
 one_of : (as_ bs : List Answer) → ◌≡◌ {A = List (List Answer)} (as_ ∷ []) (bs ∷ []) → as_ ≡ bs
 one_of as_ bs e = cc
@@ -50,17 +49,6 @@ of_runs n m [] last r e = e
 of_runs n m (x ∷ xs) last r e = (r.0, of_runs n (op_after x.op m) xs last r.1 e)
 
 -- ---- logs
-
-pub only_passes : (splits : List ℕ) (n : ℕ) (logs : List (List LogRecord)) → all_logs_from n (log_passes splits) logs ≡ true → all_logs_from n (λ m log. list_all (passes_file_rules splits m) log) logs ≡ true
-only_passes splits n [] e = refl
-only_passes splits n (log ∷ logs) e =
-    let p = and_parts (log_passes splits n log) (all_logs_from (suc n) (log_passes splits) logs) e in
-    let q = and_parts (list_all (passes_file_rules splits n) log) (is_none (disorder n log)) p.0 in
-    both (list_all (passes_file_rules splits n) log) _ q.0 (only_passes splits (suc n) logs p.1)
-  where
-    both : (a b : Bool) → a ≡ true → b ≡ true → (a && b) ≡ true
-    both true b f g = g
-    both false b f g = f
 
 done_lie : (splits : List ℕ) (before : List (List LogRecord)) (as_ : List Act) → AllByRecursion (IsFine splits before) as_ → AllByRecursion (LiesIn splits) (ops_done as_)
 done_lie splits before [] a = tt

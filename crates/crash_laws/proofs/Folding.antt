@@ -43,7 +43,9 @@ use Rattle.crash_laws.specs.Acts.{Act, act_of, with_act, acts, member_acts, Answ
 use Rattle.many_shards_laws.proofs.Standing.{logs_agree}
 use Rattle.crash_laws.proofs.Lists.{filter_map_is, later_told}
 use Rattle.crash_laws.proofs.Meeting.{meetings_follow_places}
-use Rattle.crash_laws.proofs.Basing.{only_passes, answers_are_of_earlier}
+use Rattle.crash_laws.proofs.Basing.{answers_are_of_earlier}
+use Rattle.law_base.proofs.Logs.{only_passes}
+use Rattle.law_base.proofs.Shards.{FromHistory}
 
 -- ---- places
 
@@ -211,10 +213,6 @@ own_kept keep t (a ∷ as_) k = at (keep a.tx) (tx_same a.tx t) refl refl (own_k
     at true c p q i = ap (λ d. cond d (a ∷ filter (λ a. tx_same a.tx t) (filter (λ a. keep a.tx) as_)) (filter (λ a. tx_same a.tx t) (filter (λ a. keep a.tx) as_))) q ∙ ap (λ l. cond c (a ∷ l) l) i
     at false true p q i = absurd (both_ways (keep a.tx) p (subst (λ z. keep z ≡ true) (sym (tx_true a.tx t q)) k))
     at false false p q i = i
-
--- each member's operations are those of its transaction in the history
-abbrev FromHistory : History → List Member → Type 0
-FromHistory h ms = AllByRecursion (λ m. m.ops ≡ ops_in m.tx h) ms
 
 from_history : (logs : List (List LogRecord)) (h es : History) → FromHistory h (members logs h es)
 from_history logs h [] = tt

@@ -1,5 +1,5 @@
 -- Where two operations of members meet, the earlier is of the same member or of one at an earlier place.
-use Rattle.std.proofs.Common.{◌≡◌, ◌⊎◌, inl, inr, ⊎_elim, sym, subst, ℕ, ◌<◌, true, false, Bool, List, [], ◌∷◌, ◌++◌, ◌==◌, eq-eqb, eqb-true, Some, None, arith}
+use Rattle.std.proofs.Common.{◌≡◌, ◌⊎◌, inl, inr, ⊎_elim, sym, subst, ℕ, ◌<◌, true, false, Bool, List, [], ◌∷◌, ◌++◌, ◌==◌, eqb-true, arith}
 use Rattle.std.specs.List.{filter}
 use Rattle.std.proofs.lemmas.Bool.{both_ways, and_parts, or_left, false_from_ne_true}
 use Rattle.std.proofs.lemmas.List.Elements.{filter-append}
@@ -7,11 +7,8 @@ use Rattle.clv_base.specs.declared.names.TxId.{TxId}
 use Rattle.clv_base.specs.declared.logs.LogRecord.{LogRecord}
 use Rattle.clv_base.specs.declared.ops.Op.{Op}
 use Rattle.clv_base.specs.declared.ops.Op.TheVariants.{Get, Put, Del, Scan}
-use Rattle.clv_base.specs.declared.ops.Answer.{Answer}
-use Rattle.clv_base.specs.declared.ops.Answer.TheVariants.{Value, Pairs}
 use Rattle.clv_base.specs.Orders.{tx_same, tx_in}
-use Rattle.clv_base.specs.Folding.{meets_key, key_written}
-use Rattle.clv_base.specs.Needs.{writes_of}
+use Rattle.clv_base.specs.Folding.{meets_key}
 use Rattle.clv_base.specs.Shards.{shard_count, are_splits, span, in_span}
 use Rattle.clv_base.specs.Sessions.{lies_in}
 use Rattle.clv_base.specs.LogRules.{log_of}
@@ -24,7 +21,7 @@ use Rattle.law_base.proofs.Sets.{in_filter}
 use Rattle.law_base.proofs.Lists.{all_mono, all_filter}
 use Rattle.law_base.proofs.Bools.{or_false_right}
 use Rattle.history_laws.specs.Continuing.{serial_left}
-use Rattle.law_base.specs.Items.{Item, AllLater, Clash, told as value_told, is_write_at}
+use Rattle.law_base.specs.Items.{Item, AllLater, Clash}
 use Rattle.shard_laws.specs.OneShard.{found_asked, place}
 use Rattle.shard_laws.proofs.Serial.{in_kept}
 use Rattle.shard_laws.proofs.Leaving.{in_more}
@@ -40,16 +37,9 @@ use Rattle.crash_laws.specs.Acts.{Act, Meet, member_acts, MeetingsFollowPlaces}
 use Rattle.crash_laws.proofs.Lists.{later_told, later_by_shard}
 use Rattle.crash_laws.proofs.Telling.{told}
 use Rattle.crash_laws.proofs.Shards.{IsFine, members_are_fine, chosen_member, deeds_run, chosen_acts, acted}
+use Rattle.law_base.proofs.Names.{written_at}
 
 -- ---- what is written at a key
-
-written_at : (o : Op) (a : Answer) (k : ℕ) → key_written o a ≡ Some k → is_write_at (writes_of o (value_told a)) k ≡ true
-written_at (Get j) a k e = absurd cc
-written_at (Put j v) a k e = let s : j ≡ k = cc in eq-eqb k j (sym s)
-written_at (Del j) (Value (Some v)) k e = let s : j ≡ k = cc in eq-eqb k j (sym s)
-written_at (Del j) (Value None) k e = absurd cc
-written_at (Del j) (Pairs ps) k e = absurd cc
-written_at (Scan lo hi) a k e = absurd cc
 
 clash_of : (n : ℕ) (x y : Item) → Meet (told n x) (told n y) → Clash x y
 clash_of n x y (k, p, q, inl w) = (k, p, q, λ f. absurd (both_ways _ f (written_at x.op x.answer k w)))

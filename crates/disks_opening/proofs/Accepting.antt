@@ -17,13 +17,10 @@ use Rattle.disks_opening.specs.Logs.{HoldsLog, LogsBelow, LogsOfAll}
 use Rattle.disks_opening.specs.Opening.{Refuses}
 use Rattle.disks_opening.specs.Accepted.{AreGoodLogs, IsOfNoLog, GoodLogsAreNotRefused}
 use Rattle.disks_opening.proofs.Unagreed.{read_unagreed}
+use Rattle.law_base.proofs.Logs.{splits_in}
 
 abbrev Reads : ℕ → Option (List ℕ) → Result (List ℕ × List LogRecord) ℕ → Story → Type 0
 Reads n agreed r s = checked_log n agreed (reads s) ≡ r
-
-abbrev splits_in : Result (List ℕ × List LogRecord) ℕ → Option (List ℕ)
-splits_in (Ok x) = Some x.0
-splits_in (Err place) = None
 
 abbrev log_in : Result (List ℕ × List LogRecord) ℕ → Option (List LogRecord)
 log_in (Ok x) = Some x.1

@@ -13,6 +13,8 @@ use Rattle.disk_model.specs.Story.{Story}
 use Rattle.log_gate.specs.View.{View}
 use Rattle.disks_opening.specs.Logs.{HoldsLog, IsGateAt, LogsOfAll, IsFound}
 use Rattle.disks_opening.specs.Houses.{WentOut, AreGates}
+use Rattle.law_base.proofs.Logs.{all_logs as all_from}
+use Rattle.law_base.proofs.Bools.{and_true}
 
 -- ---- one more
 
@@ -57,17 +59,6 @@ module _ (f f1 f2 : ℕ → ℕ) (o o1 o2 : ℕ → Bool) (s s1 s2 : ℕ → Opt
   }
 
 -- ---- all
-
-and_true : (a b : Bool) → a ≡ true → b ≡ true → (a && b) ≡ true
-and_true true b e f = f
-and_true false b e f = absurd (let k : false ≡ true = e in cc)
-
-all_from : (test : ℕ → List LogRecord → Bool) (i : ℕ) (logs : List (List LogRecord)) → ((n : ℕ) → n < length logs → test (i + n) (log_of logs n) ≡ true) → all_logs_from i test logs ≡ true
-all_from test i [] h = refl
-all_from test i (x ∷ xs) h =
-    let here : i + 0 ≡ i = omega arith in
-    and_true (test i x) (all_logs_from (suc i) test xs) (subst (λ (m : ℕ). test m x ≡ true) here (h 0 (omega arith)))
-    (all_from test (suc i) xs (λ n l. let same : i + suc n ≡ suc i + n = omega arith in subst (λ (m : ℕ). test m (log_of xs n) ≡ true) same (h (suc n) (omega arith))))
 
 each_log : (test : List LogRecord → Bool) (logs : List (List LogRecord)) → ((n : ℕ) → n < length logs → test (log_of logs n) ≡ true) → list_all test logs ≡ true
 each_log test [] h = refl

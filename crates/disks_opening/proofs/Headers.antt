@@ -8,6 +8,7 @@ use Rattle.clv_base.specs.FileRules.{passes_file_rules}
 use Rattle.log_gate.specs.Header.{with_split, splits_from, agrees_at, has_number, has_count, same_bytes, magic, behind_field, header_of}
 use Rattle.log_gate.specs.Image.{with_header, behind_header, checked_log}
 use Rattle.log_gate.specs.Records.{record_log}
+use Rattle.law_base.proofs.Logs.{splits_in}
 
 -- ---- splits, one after another
 
@@ -122,12 +123,7 @@ header_agreed n image a splits e =
 
 -- ---- the log behind it
 
-splits_in : Result (List ℕ × List LogRecord) ℕ → Option (List ℕ)
-splits_in (Ok x) = Some x.0
-splits_in (Err place) = None
-
 header_behind : (passes : List ℕ → LogRecord → Bool) (image : List ℕ) (h : Result (List ℕ) ℕ) (splits : List ℕ) (log : List LogRecord) → behind_header passes image h ≡ Ok (splits, log) → h ≡ Ok splits
-unfolding splits_in
 header_behind passes image (Ok found) splits log e = by (record_log _ _ image) e
   where
     by : (r : Result (List LogRecord) ℕ) → with_header found r ≡ Ok (splits, log) → ◌≡◌ {A = Result (List ℕ) ℕ} (Ok found) (Ok splits)

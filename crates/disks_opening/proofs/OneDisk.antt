@@ -1,9 +1,8 @@
 -- What one disk's opening finds.
-use Rattle.std.proofs.Common.{◌≡◌, ℕ, ◌^◌, ◌≤◌, ◌<◌, ◌+◌, inl, inr, suc, MatchOption, List, [], ◌∷◌, Option, Some, None, IfSome, Ok, Err, refl, sym, ◌∙◌, subst, arith, Bool, false}
+use Rattle.std.proofs.Common.{◌≡◌, ℕ, ◌^◌, ◌≤◌, ◌<◌, ◌+◌, inl, inr, suc, MatchOption, List, ◌∷◌, Option, Some, None, IfSome, Ok, Err, refl, sym, ◌∙◌, subst, arith, Bool, false}
 use Rattle.std.proofs.lemmas.Bool.{cases_lt}
 use Rattle.std.specs.Option.{SomeIff}
 use Rattle.clv_base.specs.declared.logs.LogRecord.{LogRecord}
-use Rattle.clv_base.specs.Restarts.{run_after}
 use Rattle.disk_model.specs.Story.{Story, reads}
 use Rattle.disk_model.specs.Disk.{Adds}
 use Rattle.log_gate.specs.declared.error.OpenLogError.{OpenLogError}
@@ -58,10 +57,6 @@ pub run_is : (r : Option ℕ) (most run : ℕ) → most < 2 ^ 32 → run ≡ suc
 run_is None most run low is h = elim (cases_lt (most + 1) (2 ^ 32)) [ inl l ↦ absurd (h l) | inr m ↦ omega arith ]
 run_is (Some n) most run low is h = let e = h.1 in omega arith
 
-pub least_run : (logs : List (List LogRecord)) → 1 ≤ run_after logs
-least_run [] = omega arith
-least_run (log ∷ logs) = let k = least_run logs in omega arith
-
 -- ---- disks that come back
 
 pub came_back : (g : View) (f f1 f2 count : ℕ) (o : Bool) (s : Option Story) → Adds f1 count f2 → count ≡ g.faults → f1 ≡ f → o ≡ false → s ≡ g.story → CameBack g f f2 o s
@@ -73,6 +68,3 @@ came_back g f f1 f2 count o s adds same before is_in story = record {
 
 pub still_back : (g : View) (f f1 f2 : ℕ) (o1 o2 : Bool) (s1 s2 : Option Story) → CameBack g f f1 o1 s1 → f2 ≡ f1 → o2 ≡ o1 → s2 ≡ s1 → CameBack g f f2 o2 s2
 still_back g f f1 f2 o1 o2 s1 s2 b a c d = record { adds = subst (λ (n : ℕ). Adds f g.faults n) (sym a) b.adds; is_in = c ∙ b.is_in; story_is = d ∙ b.story_is }
-
-pub some_same : {A : Type 0} (x y : A) (o : Option A) → o ≡ Some x → o ≡ Some y → x ≡ y
-some_same {A} x y o a b = let k : ◌≡◌ {A = Option A} (Some x) (Some y) = sym a ∙ b in cc

@@ -1,6 +1,6 @@
 -- Opening that is refused.
-use Rattle.std.proofs.Common.{◌≡◌, ◌≢◌, ◌⊎◌, ℕ, zero, suc, ◌<◌, ◌≤◌, List, length, get_or, Bool, true, false, ◌&&◌, nat_le, Option, Some, None, IfSome, Ok, Err, refl, inl, inr, sym, ◌∙◌, ap, subst, arith}
-use Rattle.std.proofs.lemmas.Bool.{cases_lt, leb-true}
+use Rattle.std.proofs.Common.{◌≡◌, ◌≢◌, ◌⊎◌, ℕ, zero, suc, ◌<◌, ◌≤◌, List, length, get_or, Bool, true, false, ◌&&◌, Option, Some, None, IfSome, Ok, Err, refl, inl, inr, sym, ◌∙◌, ap, subst, arith}
+use Rattle.std.proofs.lemmas.Bool.{cases_lt}
 use mathlib.Core.Logic.{dite}
 use native.Mathlib.Decide.{ℕ_discrete}
 use Rattle.clv_base.specs.declared.logs.LogRecord.{LogRecord}
@@ -86,13 +86,6 @@ counts_all logs f f1 stand (Worn at) h = stand
 counts_all logs f f1 stand Memory h = stand
 
 -- ---- the house
-
-first_true : (a b : Bool) → (a && b) ≡ true → a ≡ true
-first_true true b e = refl
-first_true false b e = e
-
-pub few_shards : (splits : List ℕ) → are_splits splits ≡ true → shard_count splits ≤ 16
-few_shards splits rise = let k = leb-true (length splits) 15 (first_true (nat_le (length splits) 15) _ rise) in omega arith
 
 pub agreed_later : (n : ℕ) (splits : List ℕ) → 0 < n → Some splits ≡ agreed_for n splits
 agreed_later zero splits l = absurd (omega arith)

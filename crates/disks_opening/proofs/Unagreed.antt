@@ -6,6 +6,7 @@ use Rattle.clv_base.specs.FileRules.{passes_file_rules}
 use Rattle.log_gate.specs.Header.{with_split, splits_from, agrees_at, has_number, has_count, same_bytes, magic, behind_field, header_of}
 use Rattle.log_gate.specs.Image.{with_header, behind_header, checked_log}
 use Rattle.log_gate.specs.Records.{record_log}
+use Rattle.law_base.proofs.Logs.{splits_in}
 
 -- ---- splits, one after another
 
@@ -69,10 +70,6 @@ header_unagreed n image a splits e =
     ∙ splits_unagreed a (m - 1) 0 0 (drop 20 image) splits f.is
 
 -- ---- the log behind it
-
-abbrev splits_in : Result (List ℕ × List LogRecord) ℕ → Option (List ℕ)
-splits_in (Ok x) = Some x.0
-splits_in (Err place) = None
 
 header_behind : (passes : List ℕ → LogRecord → Bool) (image : List ℕ) (h : Result (List ℕ) ℕ) (splits : List ℕ) (log : List LogRecord) → behind_header passes image h ≡ Ok (splits, log) → h ≡ Ok splits
 header_behind passes image (Ok found) splits log e = by (record_log _ _ image) e

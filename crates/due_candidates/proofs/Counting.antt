@@ -1,16 +1,17 @@
 -- A list that rises has no more than a list that holds all of it.
 use Rattle.std.proofs.Common.{◌≡◌, refl, sym, ap, subst, ◌∙◌, ⊎_elim, ℕ, zero, suc, ◌+◌, ◌<◌, ◌≤◌, Bool, true, false, cond, ◌||◌, List, [], ◌∷◌, length, drop, get_or, drop-cons, add-one, map, arith}
-use Rattle.std.proofs.lemmas.Bool.{both_ways, or_cases, or_parts, false_from_ne_true}
+use Rattle.std.proofs.lemmas.Bool.{both_ways, or_cases, or_parts}
 use Rattle.std.specs.List.Sorted.{IsStrictlySortedBy}
 use Rattle.std.specs.declared.cmp.Ordering.{Ordering}
 use Rattle.std.specs.declared.cmp.Ordering.TheVariants.{Less, Equal, Greater}
 use Rattle.std.specs.Ordering.{is_eq, match_ordering}
 use Rattle.clv_base.specs.declared.names.TxId.{TxId}
 use Rattle.clv_base.specs.Orders.{tx_cmp, tx_same, tx_in, tx_insert}
-use Rattle.clv_base.proofs.SameNames.{or_left, or_right, tx_true, tx_self, in_insert, insert_keeps, insert_has}
+use Rattle.clv_base.proofs.SameNames.{or_left, or_right, tx_true, tx_self, in_insert}
 use Rattle.due_candidates.specs.Held.{Candidates, AreAmong, HasRoomFor, HasRoomBy}
-use Rattle.due_candidates.proofs.Keeping.{tx_total, not_less, above_in}
+use Rattle.due_candidates.proofs.Keeping.{tx_total}
 use Rattle.due_candidates.proofs.Rising.{insert_key-rises}
+use Rattle.law_base.proofs.Names.{not_less, above_in, tx_in-insert as insert_in}
 
 without : TxId → List TxId → List TxId
 without n [] = []
@@ -57,14 +58,6 @@ room_for tx txs all limit s among i few out =
     let more = insert_length tx txs out in
     let most = no_more (tx_insert tx txs) all (insert_key-rises tx_total tx txs s) (λ k j. ⊎_elim (λ e. subst (λ z. tx_in z all ≡ true) (sym e) i) (λ h. among k h) (in_insert tx k txs j)) in
     omega (arith, more, most, few)
-
--- one more
-pub insert_in : (t x : TxId) (xs : List TxId) → tx_in x (tx_insert t xs) ≡ (tx_same t x || tx_in x xs)
-insert_in t x xs = at (tx_in x (tx_insert t xs)) refl
-  where
-    at : (b : Bool) → tx_in x (tx_insert t xs) ≡ b → b ≡ (tx_same t x || tx_in x xs)
-    at true e = sym (⊎_elim (λ s. or_left (tx_same t x) (tx_in x xs) (subst (λ z. tx_same t z ≡ true) (sym s) (tx_self t))) (λ h. or_right (tx_same t x) (tx_in x xs) h) (in_insert t x xs e))
-    at false e = sym (false_from_ne_true _ (λ h. both_ways _ e (⊎_elim (λ s. subst (λ z. tx_in z (tx_insert t xs) ≡ true) (tx_true t x s) (insert_has t xs)) (λ j. insert_keeps t x xs j) (or_cases (tx_same t x) (tx_in x xs) h))))
 
 -- those so far and the rest
 pub step_in : (i : ℕ) (ts : List TxId) (d x : TxId) (b : Bool) → i < length ts → (tx_in x (drop i ts) || b) ≡ (tx_in x (drop (i + 1) ts) || (tx_same (get_or ts i d) x || b))

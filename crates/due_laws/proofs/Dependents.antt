@@ -46,6 +46,7 @@ use Rattle.clv_base.specs.Restarts.{pairs_of_listed, restored_pairs, restored_pa
 use Rattle.clv_base.proofs.SameNames.{or_left, or_right, tx_true, tx_self, tx_eq}
 use Rattle.law_base.proofs.Lists.{all_mono, all_append, all_kept}
 use Rattle.due_laws.specs.Depending.{HasPart, DependentsHaveParts, RestartsHaveParts, DueKeepsParts, EventsKeepParts, LandingKeepsParts}
+use Rattle.law_base.proofs.Names.{keys_restored, listed_have, own_in}
 
 -- ---- parts stay in the table
 
@@ -380,10 +381,6 @@ land_keeps s clock walker b d = at s.is_up
 
 -- ---- a restart
 
-listed_have : (P : TxId → Type 0) (t : TxId) (qs : List TxId) → P t → AllByRecursion (λ (p : TxId × TxId). P p.0) (map (λ q. (t, q)) qs)
-listed_have P t [] h = tt
-listed_have P t (q ∷ qs) h = (h, listed_have P t qs h)
-
 of_listed : (P : TxId → Type 0) (log : List LogRecord) (t : TxId) (o : Option (ℕ × List TxId)) → P t → AllByRecursion (λ p. P p.0) (pairs_of_listed log t o)
 of_listed P log t None h = tt
 of_listed P log t (Some p) h = listed_have P t (filter (λ q. not (committed_in log q)) p.1) h
@@ -391,14 +388,6 @@ of_listed P log t (Some p) h = listed_have P t (filter (λ q. not (committed_in 
 restored_have : (P : TxId → Type 0) (log : List LogRecord) (ts : List TxId) → AllByRecursion P ts → AllByRecursion (λ p. P p.0) (restored_pairs log ts)
 restored_have P log [] a = tt
 restored_have P log (t ∷ ts) a = all_append (λ p. P p.0) (pairs_of_listed log t (prepare_of log t)) (restored_pairs log ts) (of_listed P log t (prepare_of log t) a.0) (restored_have P log ts a.1)
-
-own_in : (ts : List TxId) → AllByRecursion (λ t. tx_in t ts ≡ true) ts
-own_in [] = tt
-own_in (t ∷ ts) = (or_left (tx_same t t) (tx_in t ts) (tx_self t), all_mono (λ u. tx_in u ts ≡ true) (λ u. tx_in u (t ∷ ts) ≡ true) (λ u h. or_right (tx_same t u) (tx_in u ts) h) ts (own_in ts))
-
-keys_restored : (ts : List TxId) → keys_of (restored_parts ts) ≡ ts
-keys_restored [] = refl
-keys_restored (t ∷ ts) = ap (λ ks. t ∷ ks) (keys_restored ts)
 
 pub restarts_have_parts : RestartsHaveParts
 restarts_have_parts shard run epoch log last journal =

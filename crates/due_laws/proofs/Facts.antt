@@ -4,30 +4,29 @@ use Rattle.std.specs.List.{filter, list_any}
 use Rattle.std.proofs.lemmas.Bool.{both_ways, or_cases, or_parts, or_from, and_parts, cond-false, false_from_ne_true}
 use Rattle.std.proofs.lemmas.List.Folds.{list_any-append}
 use Rattle.std.proofs.Math.Bool.{or-false}
-use Rattle.std.specs.declared.cmp.Ordering.{Ordering}
-use Rattle.std.specs.declared.cmp.Ordering.TheVariants.{Less, Equal, Greater}
-use Rattle.std.specs.Ordering.{match_ordering}
 use Rattle.clv_base.specs.declared.names.TxId.{TxId}
 use Rattle.clv_base.specs.declared.names.Birth.{Birth}
 use Rattle.clv_base.specs.declared.logs.LogRecord.{LogRecord}
 use Rattle.clv_base.specs.declared.logs.LogRecord.TheVariants.{Update, Clr, Commit, Abort, End}
 use Rattle.clv_base.specs.declared.parts.PartState.{PartState}
 use Rattle.clv_base.specs.declared.state.Held.{Held}
-use Rattle.clv_base.specs.Orders.{Table, pair_cmp, pair_insert, tx_same, tx_in, tx_insert, tx_get}
+use Rattle.clv_base.specs.Orders.{Table, pair_insert, tx_same, tx_in, tx_get}
 use Rattle.clv_base.specs.Logs.{StandingUpdate, standing, is_update_of, is_commit_of, is_prepare_of, wrote_in, committed_in, prepared_in, place_from, commit_lsn, prepare_lsn}
 use Rattle.clv_base.specs.Locks.{Locks, close_locks, violated}
 use Rattle.clv_base.specs.Needs.{needs_of, writes_of, value_at, key_of}
 use Rattle.clv_base.specs.State.{Local}
-use Rattle.clv_base.specs.Undo.{stage_of, gone_part, release_parts, pairs_without, aborts_of, clrs_of, newest_lsn, doomed_here, undo}
+use Rattle.clv_base.specs.Undo.{stage_of, gone_part, release_parts, aborts_of, clrs_of, newest_lsn, doomed_here, undo}
 use Rattle.clv_base.specs.declared.parts.PartFacts.{PartFacts}
 use Rattle.clv_base.specs.Facts.{predecessors_of, undecided_of, greater_place, greatest_commit, due_by, due_lsn_of, state_by, doom_by, is_restored_by, facts_in}
 use Rattle.clv_base.specs.OneShard.{active_part, new_part, add_pairs, closing, closed_part, closed_in, dropped_part, mark_dropped, written, locked}
 use Rattle.clv_base.proofs.SameNames.{or_left, or_right, tx_true, tx_self, tx_flip}
 use Rattle.law_base.proofs.Tables.{get_put, get_changed, is_pair, in_pair, stage_by}
 use Rattle.law_base.proofs.Stages.{same_part}
-use Rattle.law_base.proofs.Commits.{no_place_from, closing_commits}
+use Rattle.law_base.proofs.Commits.{closing_commits}
 use Rattle.law_base.proofs.Sets.{flip_apart}
 use Rattle.due_laws.specs.Changes.{ChangesOnly, successors_of, ReleasesChange, RollBacksChange, CommitsChange, EndsChange, ClosesChange, OperationsChange, MarksChange, PurgesChange}
+use Rattle.law_base.proofs.Logs.{place_more}
+use Rattle.law_base.proofs.Names.{preds_insert, preds_without}
 
 -- ---- predecessors whose COMMITs stay
 
@@ -95,26 +94,6 @@ get_same test f x parts out = get_changed test f x parts ∙ ap (λ b. elim (tx_
 
 -- ---- pairs
 
-preds_without : (set : List TxId) (x : TxId) (pairs : List (TxId × TxId)) → tx_in x set ≡ false → predecessors_of (pairs_without set pairs) x ≡ predecessors_of pairs x
-preds_without set x [] out = refl
-preds_without set x (p ∷ ps) out = at (tx_in p.0 set) refl (preds_without set x ps out)
-  where
-    at : (b : Bool) → tx_in p.0 set ≡ b → predecessors_of (pairs_without set ps) x ≡ predecessors_of ps x
-        → predecessors_of (cond (not b) (p ∷ pairs_without set ps) (pairs_without set ps)) x ≡ predecessors_of (p ∷ ps) x
-    at true i more =
-        let other : tx_same x p.0 ≡ false = false_from_ne_true _ (λ e. both_ways _ out (subst (λ z. tx_in z set ≡ true) (sym (tx_true x p.0 e)) i)) in
-        more ∙ sym (ap (λ b. elim b [ true ↦ tx_insert p.1 (predecessors_of ps x) | false ↦ predecessors_of ps x ]) other)
-    at false i more = ap (λ l. elim (tx_same x p.0) [ true ↦ tx_insert p.1 l | false ↦ l ]) more
-
-preds_insert : (x tx q : TxId) (pairs : List (TxId × TxId)) → tx_same x tx ≡ false → predecessors_of (pair_insert (tx, q) pairs) x ≡ predecessors_of pairs x
-preds_insert x tx q [] other = ap (λ b. elim b [ true ↦ tx_insert q [] | false ↦ [] ]) other
-preds_insert x tx q (p ∷ ps) other = at (pair_cmp (tx, q) p) (preds_insert x tx q ps other)
-  where
-    at : (o : Ordering) → predecessors_of (pair_insert (tx, q) ps) x ≡ predecessors_of ps x → predecessors_of (match_ordering o ((tx, q) ∷ p ∷ ps) (p ∷ ps) (p ∷ pair_insert (tx, q) ps)) x ≡ predecessors_of (p ∷ ps) x
-    at Less more = ap (λ b. elim b [ true ↦ tx_insert q (predecessors_of (p ∷ ps) x) | false ↦ predecessors_of (p ∷ ps) x ]) other
-    at Equal more = refl
-    at Greater more = ap (λ l. elim (tx_same x p.0) [ true ↦ tx_insert p.1 l | false ↦ l ]) more
-
 preds_add : (x tx : TxId) (qs : List TxId) (pairs : List (TxId × TxId)) → tx_same x tx ≡ false → predecessors_of (add_pairs tx qs pairs) x ≡ predecessors_of pairs x
 preds_add x tx [] pairs other = refl
 preds_add x tx (q ∷ qs) pairs other = preds_add x tx qs (pair_insert (tx, q) pairs) other ∙ preds_insert x tx q pairs other
@@ -133,10 +112,6 @@ successor_in x p (q ∷ qs) e = at (tx_same p q.1) refl e (successor_in x p qs)
 
 wrote_more : (log more : List LogRecord) (x : TxId) → wrote_in more x ≡ false → wrote_in (log ++ more) x ≡ wrote_in log x
 wrote_more log more x e = list_any-append (is_update_of x) log more ∙ ap (λ b. wrote_in log x || b) e ∙ or-false (wrote_in log x)
-
-pub place_more : (n : ℕ) (f : LogRecord → Bool) (log more : List LogRecord) → list_any f more ≡ false → place_from n f (log ++ more) ≡ place_from n f log
-place_more n f [] more e = no_place_from n f more e
-place_more n f (r ∷ rs) more e = ap (λ p. cond (f r) (Some n) p) (place_more (suc n) f rs more e)
 
 -- nothing of the transaction that its facts depend on
 pub record Silent (more : List LogRecord) (x : TxId) : Type 0 where

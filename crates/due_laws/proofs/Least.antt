@@ -5,7 +5,7 @@ use Rattle.std.specs.List.Sorted.{IsStrictlySortedBy}
 use Rattle.std.specs.Map.{keys_of}
 use Rattle.std.specs.declared.cmp.Ordering.{Ordering}
 use Rattle.std.specs.declared.cmp.Ordering.TheVariants.{Less, Equal, Greater}
-use Rattle.std.specs.Ordering.{is_eq, match_ordering}
+use Rattle.std.specs.Ordering.{match_ordering}
 use Rattle.clv_base.specs.declared.names.TxId.{TxId}
 use Rattle.clv_base.specs.declared.state.Held.{Held}
 use Rattle.clv_base.specs.declared.state.Voter.{Voter}
@@ -15,18 +15,14 @@ use Rattle.clv_base.specs.State.{Shard}
 use Rattle.clv_base.specs.declared.parts.PartFacts.{PartFacts}
 use Rattle.clv_base.specs.Facts.{state_by, facts_of, is_closed_state}
 use Rattle.clv_base.specs.Due.{due_of, first_due, known_txs}
-use Rattle.clv_base.proofs.SameNames.{or_left, or_right, tx_true, tx_self, tx_flip, insert_keeps, insert_has}
+use Rattle.clv_base.proofs.SameNames.{or_left, or_right, tx_true, tx_flip, insert_keeps, insert_has}
 use Rattle.law_base.proofs.Sets.{tx_total, less_from_greater, above_more, above_insert, AllAbove, union_right}
 use Rattle.due_laws.specs.Candidates.{is_commit_due, is_vote_due, is_ruling_due, is_due, Cover, LeastIsNext, OthersCover, NoneIsNothing, AtRestNone}
 use Rattle.due_laws.proofs.Deciding.{due_by_facts}
+use Rattle.law_base.proofs.Names.{Rise, not_less}
+use Rattle.law_base.proofs.Shards.{rest_of}
 
 -- ---- lists that rise
-
-abbrev Rise : List TxId → Type 0
-Rise ts = IsStrictlySortedBy tx_cmp ts
-
-pub not_less : (t : TxId) → tx_cmp t t ≡ Less → ⊥
-not_less t e = both_ways _ (ap is_eq e) (tx_self t)
 
 pub above_in : (t x : TxId) (ts : List TxId) → AllAbove t ts → tx_in x ts ≡ true → tx_cmp t x ≡ Less
 above_in t x [] a i = absurd (both_ways false refl i)
@@ -93,9 +89,6 @@ known_rise : (s : Shard) → Rise (keys_of s.requests) → Rise (known_txs s)
 known_rise s h = union_rises (keys_of s.local.parts) (tx_union (keys_of s.voters) (keys_of s.requests)) (union_rises (keys_of s.voters) (keys_of s.requests) h)
 
 -- ---- the least
-
-abbrev rest_of : Option Shard → Option Shard → Option Shard
-rest_of o rest = elim o [ Some t ↦ Some t | None ↦ rest ]
 
 first_least : (s t : Shard) (c : TxId) (ks : List TxId) → Rise ks → tx_in c ks ≡ true → due_of s c ≡ Some t → ((x : TxId) → is_due s x ≡ true → (x ≡ c) ⊎ (tx_cmp c x ≡ Less)) → first_due s ks ≡ Some t
 unfolding IsStrictlySortedBy

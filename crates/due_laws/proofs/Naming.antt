@@ -1,20 +1,16 @@
 -- Sums over the rows of a rising table, by one transaction that differs and by names that have all rows that count.
 use Rattle.std.proofs.Common.{◌≡◌, refl, sym, ap, subst, ◌∙◌, ℕ, zero, suc, ◌+◌, ◌<◌, ◌≤◌, Bool, true, false, cond, ◌||◌, List, [], ◌∷◌, Option, Some, None, arith}
 use Rattle.std.proofs.lemmas.Bool.{both_ways}
-use Rattle.std.specs.List.{AllByRecursion}
 use Rattle.std.specs.List.Sorted.{IsStrictlySortedBy}
 use Rattle.std.specs.Map.{keys_of}
-use Rattle.std.specs.declared.cmp.Ordering.TheVariants.{Less}
 use Rattle.std.specs.Ordering.{is_eq}
 use Rattle.clv_base.specs.declared.names.TxId.{TxId}
 use Rattle.clv_base.specs.Orders.{Table, tx_same, tx_in, tx_cmp, tx_get}
 use Rattle.clv_base.proofs.SameNames.{tx_true, tx_self}
 use Rattle.due_laws.specs.Left.{total_by}
+use Rattle.law_base.proofs.Sets.{AllAbove as Above}
 
 -- ---- rising tables
-
-abbrev Above : TxId → List TxId → Type 0
-Above t ts = AllByRecursion (λ u. tx_cmp t u ≡ Less) ts
 
 pub above_none : {X : Type 0} (t : TxId) (rs : Table X) → Above t (keys_of rs) → tx_get t rs ≡ None
 above_none t [] a = refl

@@ -1,7 +1,7 @@
 -- Ghosts may go early: what is due doesn't look at records, and an undo meets none that is a ghost without a lock.
 use Rattle.std.proofs.Common.{◌≡◌, refl, sym, ap, subst, ◌∙◌, ℕ, zero, suc, ⊎_elim, Bool, true, false, cond, not, ◌&&◌, ◌==◌, List, [], ◌∷◌, ◌++◌, Option, Some, None, unwrap_or, eqb-true}
 use Rattle.std.proofs.lemmas.Bool.{both_ways, or_cases, and_parts, cond_both, cond-true, cond-false, false_from_ne_true}
-use Rattle.std.specs.List.{AllByRecursion, filter, list_any}
+use Rattle.std.specs.List.{AllByRecursion, filter}
 use Rattle.clv_base.specs.declared.names.TxId.{TxId}
 use Rattle.clv_base.specs.declared.causes.Vote.{Vote}
 use Rattle.clv_base.specs.declared.causes.Vote.TheVariants.{Yes, Read, No}
@@ -33,11 +33,9 @@ use Rattle.law_base.proofs.Stages.{stage_other, own_go}
 use Rattle.law_base.proofs.Lists.{all_mono, all_kept}
 use Rattle.law_base.proofs.Due.{do_due_at}
 use Rattle.due_laws.specs.Purging.{has_lock, IsLocked, WritesAreLocked, PurgesDontMatter}
+use Rattle.law_base.proofs.Names.{is_held_at}
 
 -- ---- locks
-
-abbrev is_held_at : ℕ → Locks → Bool
-is_held_at k locks = list_any (λ r. anchor_same (At k) r.0) locks
 
 lock_on : (t : TxId) (k : ℕ) (locks : Locks) → has_lock t k locks ≡ true → is_held_at k locks ≡ true
 lock_on t k [] h = absurd (both_ways false refl h)

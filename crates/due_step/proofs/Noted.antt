@@ -21,10 +21,6 @@ use Rattle.due_step.proofs.Laws.{carried_covers}
 use Rattle.due_step.specs.Noting.{ruled_touches, touches, NotedCovers, DoomedHaveRoom}
 use Rattle.due_step.proofs.Concerned.{pair_of}
 
-pub joined : (a b c : Bool) → (a || (b || c)) ≡ ((a || b) || c)
-joined true b c = refl
-joined false b c = refl
-
 pub own_doomed : (l : Local) (tx : TxId) → tx_in tx (doomed_by l tx) ≡ true
 own_doomed l tx = (doomed_is_closure l tx).0
 

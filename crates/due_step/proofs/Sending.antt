@@ -1,5 +1,5 @@
 -- What is found, carried out, sends, case by case.
-use Rattle.std.proofs.Common.{◌≡◌, refl, sym, ap, ℕ, true, List, [], ◌++◌, map, Option, Some, None, append-nil}
+use Rattle.std.proofs.Common.{◌≡◌, refl, sym, ap, ℕ, true, List, ◌++◌, Option, Some, None, append-nil}
 use Rattle.clv_base.specs.declared.names.TxId.{TxId}
 use Rattle.clv_base.specs.declared.causes.Vote.{Vote}
 use Rattle.clv_base.specs.declared.causes.Vote.TheVariants.{Yes, Read, No}
@@ -7,7 +7,6 @@ use Rattle.clv_base.specs.declared.state.Voter.{Voter}
 use Rattle.clv_base.specs.declared.state.Request.{Request}
 use Rattle.clv_base.specs.declared.state.RequestState.{RequestState}
 use Rattle.clv_base.specs.declared.messages.Message.{Message}
-use Rattle.clv_base.specs.declared.messages.Message.TheVariants.{Decide}
 use Rattle.clv_base.specs.declared.state.RequestState.TheVariants.{Undecided, Committed, Finished, Refused}
 use Rattle.clv_base.specs.declared.state.Ruling.TheVariants.{Commit as CommitVerdict, Acknowledge, Abort as AbortVerdict, End as EndVerdict}
 use Rattle.clv_base.specs.Orders.{tx_get}
@@ -18,9 +17,7 @@ use Rattle.commit_coordinator.specs.Coordinated.{parts_of, told_by}
 use Rattle.due_step.specs.Found.{vote_sent}
 use Rattle.due_step.specs.declared.finding.Due.TheVariants.{Commit, Vote as DueVote, Ruling as DueRuling}
 use Rattle.due_step.specs.Sent.{decide_all, told, CarriesMessages}
-
-abbrev by_state : TxId → ℕ → RequestState → List Message
-by_state tx shard st = elim st [ Committed parts ↦ map (λ p. Decide p tx shard true) parts | Undecided ↦ [] | Finished ↦ [] | Refused cause ↦ [] ]
+use Rattle.law_base.proofs.Names.{by_state}
 
 state_told : (tx : TxId) (shard : ℕ) (st : RequestState) → by_state tx shard st ≡ decide_all tx shard true (parts_of st)
 state_told tx shard (Committed parts) = refl

@@ -26,7 +26,7 @@ use Rattle.clv_base.specs.Journals.{History}
 use Rattle.clv_base.proofs.SameNames.{tx_true}
 use Rattle.law_base.specs.Items.{Item}
 use Rattle.law_base.proofs.Rows.{rows_get}
-use Rattle.protocol_laws.proofs.Records.{last, push_cases, push_left, push_right}
+use Rattle.protocol_laws.proofs.Records.{push_cases, push_right}
 use Rattle.protocol_laws.specs.SessionLaws.{tx_of}
 use Rattle.shard_laws.specs.OneShard.{Leads, MayDeliver}
 use Rattle.shard_laws.proofs.Following.{Follows, from_disorder, through}
@@ -39,6 +39,8 @@ use Rattle.fall_laws.specs.Leading.{requests_of}
 use Rattle.fall_laws.proofs.Deeds.{request_is_in}
 use Rattle.fall_laws.proofs.Records.{any_from}
 use Rattle.fall_laws.proofs.Touching.{Here, none_of}
+use Rattle.law_base.proofs.Bools.{and_second as last}
+use Rattle.law_base.proofs.Logs.{push_left}
 
 -- ---- where a message comes, and what it comes to
 

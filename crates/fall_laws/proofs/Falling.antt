@@ -52,7 +52,7 @@ use Rattle.origin_laws.proofs.Sessions.{Requested, same_epoch, turn_of}
 use Rattle.origin_laws.proofs.Origins.{PartFrom, StageFrom, SomeRequest}
 use Rattle.origin_laws.proofs.Events.{active_done}
 use Rattle.origin_laws.proofs.Entries.{Did, DidNow, DidAny, IsOld, Traced, traced_front}
-use Rattle.origin_laws.proofs.Tied.{Tied, LockOf, ListsAre, OpOwes, MayStand, tied_as, tied_happens, tied_flushed, tied_down, tied_revived, tied_opened}
+use Rattle.origin_laws.proofs.Tied.{Tied, LockOf, ListsAre, OpOwes, tied_as, tied_happens, tied_flushed, tied_down, tied_revived, tied_opened}
 use Rattle.fate_laws.proofs.Prefixes.{Next, next_at, stays_as_it_was, AskedIn, asked_later, one_home, DurableIn}
 use Rattle.fate_laws.proofs.Fates.{Fated, DeadIn, delivered, dead_later, committed_asked}
 use Rattle.fate_laws.proofs.Parts.{VoterIs}
@@ -70,6 +70,7 @@ use Rattle.fall_laws.proofs.Barred.{Absent, Out, Lost, Barred, lost_inactive}
 use Rattle.fall_laws.proofs.BarredEvents.{Owes}
 use Rattle.fall_laws.proofs.BarredMade.{Frame, barred_state, barred_made}
 use Rattle.protocol_laws.proofs.Records.{prepared_there}
+use Rattle.law_base.proofs.Names.{MayStand}
 
 -- ---- what is told of transactions after a front of the history
 

@@ -19,11 +19,12 @@ use Rattle.clv_base.specs.History.{is_acknowledgement, acknowledged_in, ops_in, 
 use Rattle.clv_base.proofs.SameNames.{tx_flip}
 use Rattle.shard_laws.specs.OneShard.{items_of, has_met, new_met}
 use Rattle.history_laws.proofs.Merging.{Placed}
-use Rattle.session_laws.proofs.Adding.{ops_append, items_next, told_next, told_pair}
+use Rattle.session_laws.proofs.Adding.{items_next, told_next}
 use Rattle.fall_laws.specs.Leading.{Deeds, deeds_with, deeds_after, deeds_before, no_deeds}
 use Rattle.fall_laws.specs.Telling.{own_entries, DeedsAreTold}
 use Rattle.fall_laws.proofs.Deeds.{deeds_own, deeds_other}
 use Rattle.origin_laws.proofs.Waiting.{in_union}
+use Rattle.law_base.proofs.Names.{ops_append, item_told as told_pair}
 
 -- what the front tells the shard did
 pub record Tells (before after : List (List LogRecord)) (n : ℕ) (t : TxId) (pre : History) : Type 0 where

@@ -1,7 +1,7 @@
 -- What a commit finds where it arrives, and what is left of its parts.
 use Rattle.std.proofs.Common.{◌≡◌, inl, inr, ⊎_elim, refl, sym, ap, subst, ◌∙◌, ℕ, ◌<◌, true, false, Bool, ◌&&◌, List, [], ◌∷◌, ◌++◌, Some, None, append-nil}
 use Rattle.std.specs.List.{list_all}
-use Rattle.std.proofs.lemmas.Bool.{both_ways, or_left, or_right, false_from_ne_true}
+use Rattle.std.proofs.lemmas.Bool.{both_ways, false_from_ne_true}
 use Rattle.clv_base.specs.declared.names.TxId.{TxId}
 use Rattle.clv_base.specs.declared.logs.LogRecord.{LogRecord}
 use Rattle.clv_base.specs.declared.messages.Message.TheVariants.{Decide}
@@ -11,7 +11,6 @@ use Rattle.clv_base.specs.declared.events.Event.{Event}
 use Rattle.clv_base.specs.declared.events.Event.TheVariants.{Deliver}
 use Rattle.clv_base.specs.declared.events.Outcome.{Outcome}
 use Rattle.clv_base.specs.Shards.{shard_count}
-use Rattle.clv_base.specs.Orders.{tx_same, tx_in}
 use Rattle.clv_base.specs.Logs.{committed_in, prepare_of}
 use Rattle.clv_base.specs.LogRules.{log_of, listed_in}
 use Rattle.clv_base.specs.State.{Shard}
@@ -21,7 +20,6 @@ use Rattle.clv_base.specs.Participant.{taken_if, taken_by}
 use Rattle.clv_base.specs.Restarts.{run_after, log_left}
 use Rattle.clv_base.specs.Journals.{History, final_of}
 use Rattle.clv_base.specs.History.{WasSent}
-use Rattle.clv_base.proofs.SameNames.{tx_self}
 use Rattle.law_base.proofs.Commits.{durable_committed}
 use Rattle.law_base.proofs.Tables.{in_pair}
 use Rattle.shard_laws.proofs.Sound.{waiting_here}
@@ -43,6 +41,7 @@ use Rattle.fate_laws.proofs.Binding.{Bound, ordered_wrote}
 use Rattle.fate_laws.proofs.Parts.{Touched, Good, Base}
 use Rattle.fate_laws.proofs.Bindings.{WasTaken, FineAt, Bindings, bound_message, bindings_front}
 use Rattle.protocol_laws.proofs.Records.{prepared_there}
+use Rattle.law_base.proofs.Names.{all_from}
 
 -- ---- a commit is taken by a part that is closed, or again
 
@@ -98,14 +97,6 @@ closed_made log s _ tx to home stamp (by_failure k u f) e n = absurd cc
 closed_made log s _ tx to home stamp (by_restart epoch kept u r) e n = absurd cc
 
 -- ---- it is due
-
-pub all_from : (f : TxId → Bool) (ps : List TxId) → ((q : TxId) → tx_in q ps ≡ true → f q ≡ true) → list_all f ps ≡ true
-all_from f [] k = refl
-all_from f (p ∷ ps) k = both (f p) (list_all f ps) (k p (or_left (tx_same p p) (tx_in p ps) (tx_self p))) (all_from f ps (λ q i. k q (or_right (tx_same p q) (tx_in q ps) i)))
-  where
-    both : (a b : Bool) → a ≡ true → b ≡ true → (a && b) ≡ true
-    both true b e f = f
-    both false b e f = e
 
 bound_due : (run : ℕ) (W : TxId → ℕ → List (ℕ × ℕ) → Type 0) (s : Shard) (tx : TxId) → Base run W s → Bound s tx → IsDue s tx
 bound_due run W s tx b k = (

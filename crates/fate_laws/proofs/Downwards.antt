@@ -47,12 +47,10 @@ use Rattle.fate_laws.proofs.Bindings.{Bindings, bindings_start, bindings_next, a
 use Rattle.fate_laws.proofs.Arriving.{due_at}
 use Rattle.fate_laws.proofs.Homes.{new_commit}
 use Rattle.history_laws.proofs.Doubts.{doubt_undecided}
+use Rattle.law_base.proofs.Shards.{Before}
 
 abbrev pub Down : Shard → Type 0
 Down s = (a b : TxId) → committed_in s.local.log a ≡ true → is_pair s.local.pairs a b ≡ true → committed_in s.local.log b ≡ true
-
-abbrev pub Before : Shard → TxId → Type 0
-Before s a = (b : TxId) → is_pair s.local.pairs a b ≡ true → committed_in s.local.log b ≡ true
 
 -- an operation is of one that isn't committed; a commit that comes is of one whose predecessors are
 abbrev pub Owes : Shard → Event → Type 0

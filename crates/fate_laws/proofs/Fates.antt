@@ -32,12 +32,13 @@ use Rattle.protocol_laws.proofs.OrderInOrder.{runs_in_order}
 use Rattle.history_laws.proofs.Entering.{makes}
 use Rattle.history_laws.proofs.Merging.{Placed, Among, among_append, among_right, is_among}
 use Rattle.history_laws.proofs.TellingEvents.{front_committed}
-use Rattle.history_laws.proofs.OldRuns.{each_passes, below_next_run, none_of_this_run}
+use Rattle.history_laws.proofs.OldRuns.{below_next_run, none_of_this_run}
 use Rattle.history_laws.proofs.Worlds.{state_at}
 use Rattle.fate_laws.proofs.Homes.{Known, Dead, Tells, Alone, Homed, words_on, MayCommit}
 use Rattle.fate_laws.proofs.HomesEvents.{Fresh, Owes, homed_opened}
 use Rattle.fate_laws.proofs.Entering.{Enters, ToldDead, SaysOut, homed_mono, durable_front, homed_made, says_made}
 use Rattle.fate_laws.proofs.Prefixes.{Next, walk, each_shard, stays_as_it_was, AskedIn, asked_later, one_home, first_request, DurableIn, Counts, counts_start, counts_next, durable_later}
+use Rattle.law_base.proofs.Logs.{passes_at as each_passes}
 
 -- ---- what a message that was sent tells
 

@@ -11,7 +11,7 @@ use Rattle.clv_base.specs.LogRules.{log_of, all_logs_from, any_log_from, part_ag
 use Rattle.clv_base.specs.FileRules.{may_open, log_passes}
 use Rattle.clv_base.proofs.SameNames.{tx_true, insert_keeps, insert_has}
 use Rattle.law_base.proofs.Options.{none_of}
-use Rattle.history_laws.proofs.OldRuns.{each_passes}
+use Rattle.law_base.proofs.Logs.{passes_at as each_passes}
 
 -- ---- the committed have a home
 

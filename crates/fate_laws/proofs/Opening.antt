@@ -16,13 +16,15 @@ use Rattle.clv_base.proofs.SameNames.{tx_true}
 use Rattle.law_base.proofs.Commits.{place_there, place_new}
 use Rattle.law_base.proofs.Changed.{some_same}
 use Rattle.law_base.proofs.Sets.{list_all_at}
-use Rattle.protocol_laws.proofs.Records.{front, last, committed_there, prepared_there}
+use Rattle.protocol_laws.proofs.Records.{committed_there, prepared_there}
 use Rattle.protocol_laws.proofs.Growing.{more}
 use Rattle.fate_laws.proofs.Binding.{Ordered}
 use Rattle.fate_laws.proofs.Parts.{longer_ordered}
 use Rattle.fate_laws.proofs.HomesFound.{part_agreed, home_of}
 use Rattle.fate_laws.proofs.RecordKinds.{prepare_is}
 use Rattle.history_laws.proofs.Found.{found_in_order}
+use Rattle.law_base.proofs.Bools.{and_first as front, and_second as last}
+use Rattle.law_base.proofs.Logs.{order_case}
 
 -- ---- a log in order has each PREPARE behind a write of its transaction
 
@@ -66,14 +68,6 @@ ordered_push shard log r o m t k e = at (prepared_in log t) refl
         let i : length log ≡ k = omega (arith, i0) in
         let f : take k (log ++ r ∷ []) ≡ log = ap (λ n. take n (log ++ r ∷ [])) (sym i) ∙ take-append-le (length log) log (r ∷ []) (omega arith) ∙ take_all (length log) log (omega arith) in
         subst (λ z. wrote_in z t ≡ true) (sym f) (prepare_follows shard log r t m h)
-
-order_case : (shard n : ℕ) (log : List LogRecord) (r : LogRecord) (rs : List LogRecord) (b : Bool) → may_follow shard log r ≡ b → ◌≡◌ {A = Option ℕ} (elim b [ true ↦ disorder_from shard (suc n) (log ++ r ∷ []) rs | false ↦ Some n ]) None
-    → (may_follow shard log r ≡ true) × (disorder_from shard (suc n) (log ++ r ∷ []) rs ≡ None)
-order_case shard n log r rs true e d = (e, d)
-order_case shard n log r rs false e d = absurd (never d)
-  where
-    never : ◌≡◌ {A = Option ℕ} (Some n) None → ⊥
-    never k = absurd cc
 
 ordered_from : (shard n : ℕ) (log rs : List LogRecord) → disorder_from shard n log rs ≡ None → Ordered log → Ordered (log ++ rs)
 ordered_from shard n log [] d o = subst Ordered (sym (append-nil log)) o

@@ -33,17 +33,9 @@ use Rattle.fate_laws.proofs.Binding.{Bound, Reads, Ordered}
 use Rattle.fate_laws.proofs.Parts.{HomeOr, Good, Parted, longer_ordered}
 use Rattle.history_laws.proofs.Doubts.{doubt_prepared}
 use Rattle.protocol_laws.proofs.Records.{prepared_there}
+use Rattle.law_base.proofs.Names.{own_pairs}
 
 -- ---- pairs of those in doubt
-
-own_pairs : (tx t q : TxId) (qs : List TxId) → tx_same t tx ≡ true → tx_in q qs ≡ true → is_pair (map (λ x. (tx, x)) qs) t q ≡ true
-own_pairs tx t q [] e i = absurd (both_ways false refl i)
-own_pairs tx t q (x ∷ xs) e i =
-    ⊎_elim (λ a. or_left (tx_same t tx && tx_same q x) _ (both (tx_same t tx) (tx_same q x) e (tx_flip x q a))) (λ a. or_right (tx_same t tx && tx_same q x) _ (own_pairs tx t q xs e a)) (or_cases (tx_same x q) (tx_in q xs) i)
-  where
-    both : (a b : Bool) → a ≡ true → b ≡ true → (a && b) ≡ true
-    both true b e f = f
-    both false b e f = e
 
 listed_pair : (log : List LogRecord) (tx q : TxId) (p : ℕ × List TxId) (o : Option (ℕ × List TxId)) → o ≡ Some p → tx_in q p.1 ≡ true → committed_in log q ≡ false → is_pair (pairs_of_listed log tx o) tx q ≡ true
 listed_pair log tx q p None e i c = absurd cc

@@ -22,11 +22,12 @@ use Rattle.law_base.proofs.Successors.{through_all}
 use Rattle.history_laws.proofs.Merging.{is_among}
 use Rattle.history_laws.proofs.Worlds.{state_at}
 use Rattle.fate_laws.specs.Votes.{Keeps, VotesBind, OthersAbortsSpareIt}
-use Rattle.fate_laws.proofs.Arriving.{all_from, listed_is}
+use Rattle.fate_laws.proofs.Arriving.{listed_is}
 use Rattle.fate_laws.proofs.Binding.{Bound}
 use Rattle.fate_laws.proofs.Casting.{Cast, casts_front}
 use Rattle.fate_laws.proofs.Downwards.{Down, lowered_front}
 use Rattle.protocol_laws.proofs.Records.{prepared_there}
+use Rattle.law_base.proofs.Names.{all_from}
 
 -- ---- votes
 

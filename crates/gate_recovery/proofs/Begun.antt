@@ -1,8 +1,7 @@
 -- How far recovery has come when the disk fails.
-use Rattle.std.proofs.Common.{◌≡◌, refl, ap, sym, ◌∙◌, subst, ℕ, suc, ◌+◌, ◌-◌, ◌≤◌, List, [], ◌∷◌, ◌++◌, map, length, take, drop, Option, arith}
-use Rattle.clv_base.specs.declared.names.TxId.{TxId}
+use Rattle.std.proofs.Common.{◌≡◌, refl, ap, sym, ◌∙◌, subst, ℕ, suc, ◌+◌, ◌-◌, ◌≤◌, List, [], ◌∷◌, ◌++◌, length, take, drop, Option, arith}
 use Rattle.clv_base.specs.declared.logs.LogRecord.{LogRecord}
-use Rattle.clv_base.specs.Restarts.{restart_records, log_after_restart, homes_of}
+use Rattle.clv_base.specs.Restarts.{restart_records, log_after_restart}
 use Rattle.log_buffer.specs.Buffers.{Buffer}
 use Rattle.log_flush.specs.Flushing.{ByBatches, none, another, InFlight, batch_from}
 use Rattle.log_gate.specs.View.{OnlyOrMore}
@@ -10,10 +9,6 @@ use Rattle.log_flush.specs.declared.flushing.FlushError.{FlushError}
 use Rattle.log_flush.specs.declared.flushing.FlushError.TheVariants.{Failed as FlushFailed, Memory as NoMemory}
 use Rattle.gate_recovery.specs.declared.recovering.RecoverError.TheVariants.{Failed}
 use Rattle.gate_recovery.specs.Recovering.{IsBegun, recover_error}
-
-pub firsts_are : (log : List LogRecord) (txs : List TxId) → map (λ d. d.0) (homes_of log txs) ≡ txs
-firsts_are log [] = refl
-firsts_are log (t ∷ ts) = ap (λ (xs : List TxId). t ∷ xs) (firsts_are log ts)
 
 -- a front of two lists, and what is behind it
 front : (found more : List LogRecord) (k : ℕ) → take (length found + k) (found ++ more) ≡ found ++ take k more

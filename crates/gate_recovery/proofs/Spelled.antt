@@ -10,8 +10,9 @@ use Rattle.clv_base.specs.Logs.{StandingUpdate, standing, writers, aborted_in, i
 use Rattle.clv_base.specs.FileRules.{has_spelling, tx_has_spelling}
 use Rattle.clv_base.specs.Undo.{clrs_of}
 use Rattle.clv_base.specs.Restarts.{losers, undo_records, restart_records, log_after_restart}
-use Rattle.log_facts.proofs.Laws.Rising.{Rises, nothing_rises, insert_rises}
+use Rattle.log_facts.proofs.Laws.Rising.{nothing_rises, insert_rises}
 use Rattle.spelling_laws.proofs.Laws.{all_filter, AreFit, fit_standing, clrs_spelled, Named, writers_named, aborts_spelled, all_append}
+use Rattle.law_base.proofs.Names.{Rise as Rises}
 
 module _ (shard run epoch : ℕ) (log : List LogRecord) (h : list_all has_spelling log ≡ true) (few : length log ≤ 2 ^ 64 - 1) where
   fit : AreFit (length log) (standing log)

@@ -1,23 +1,20 @@
 -- A cut that is no moment, and a part that is no cut.
 use Rattle.std.proofs.Common.{◌≡◌, ◌⊎◌, inl, inr, refl, sym, ap, subst, ◌∙◌, ℕ, ◌<◌, true, false, cond, Bool, [], ◌∷◌, ◌++◌, ◌==◌, nat_lt, arith, eqb-true}
 use Rattle.std.specs.Prelude.{take}
-use Rattle.std.specs.List.{AllByRecursion, filter}
+use Rattle.std.specs.List.{filter}
 use Rattle.std.proofs.lemmas.Bool.{both_ways, ltb-true, lt-ltb}
 use Rattle.clv_base.specs.Shards.{shard_count}
 use Rattle.clv_base.specs.Sessions.{is_of_session}
-use Rattle.clv_base.specs.Journals.{History, journal_of, own}
+use Rattle.clv_base.specs.Journals.{History, journal_of}
 use Rattle.protocol_laws.specs.Growth.{IsPrefixOf}
 use Rattle.history_laws.proofs.Merging.{Placed, Among, is_among}
 use Rattle.journal_laws.specs.Cuts.{session_entries}
 use Rattle.history_examples.specs.Noted.{splits}
 use Rattle.history_examples.specs.Aborted.{dies, refused}
 use Rattle.history_examples.specs.Lagging.{lagging, unsent, LaggingIsACut, LaggingIsNoMoment, LaggingWalkersAreNoFront, UnsentIsNeverLegal}
+use Rattle.law_base.proofs.Shards.{own_none}
 
 -- ---- the cut
-
-own_none : (w : ℕ) (h : History) → AllByRecursion (λ e. ((e.1).walker == w) ≡ false) h → own w h ≡ []
-own_none w [] a = refl
-own_none w (e ∷ es) a = ap (λ b. cond b (e ∷ own w es) (own w es)) a.0 ∙ own_none w es a.1
 
 abbrev Begins : ℕ → Type 0
 Begins w = IsPrefixOf (session_entries w lagging) (session_entries w refused)

@@ -16,9 +16,7 @@ use Rattle.clv_base.specs.declared.modes.Holder.{Holder}
 use Rattle.clv_base.specs.declared.modes.Part.TheVariants.{N, X}
 use Rattle.clv_base.specs.declared.modes.Anchor.TheVariants.{Low, At}
 use Rattle.clv_base.specs.Participant.{asked_voter}
-use Rattle.clv_base.specs.declared.state.Stage.{Stage}
 use Rattle.clv_base.specs.declared.state.Stage.TheVariants.{Closed}
-use Rattle.clv_base.specs.declared.state.Held.{Held}
 use Rattle.clv_base.specs.declared.state.Request.{Request}
 use Rattle.clv_base.specs.Orders.{tx_same, tx_in}
 use Rattle.clv_base.specs.State.{Shard}
@@ -34,15 +32,10 @@ use Rattle.clv_base.specs.Restarts.{opened, revived, untouched}
 use Rattle.clv_base.proofs.SameNames.{tx_true}
 use Rattle.shard_laws.specs.OneShard.{Leads, opens, happens, lands, others_ask, revives, is_member, Passes, MayChoose}
 use Rattle.history_examples.specs.Doubt.{doubtful, DoubtIsRestored, DoubtComesBack, DoubtIsCommitted, DoubtIsChosen, doubt_log, DoubtIsFound}
+use Rattle.law_base.proofs.Names.{none_closed, none_held}
 
 abbrev birth : Birth
 birth = record { stamp = 1; session = 1; serial = 1 }
-
-none_closed : ◌≡◌ {A = Option Stage} None (Some Closed) → ⊥
-none_closed e = absurd cc
-
-none_held : (h : Held) → ◌≡◌ {A = Option Held} None (Some h) → ⊥
-none_held h e = absurd cc
 
 none_request : (q : Request) → ◌≡◌ {A = Option Request} None (Some q) → ⊥
 none_request q e = absurd cc

@@ -15,7 +15,7 @@ use Rattle.clv_base.specs.declared.events.Event.TheVariants.{Restart}
 use Rattle.clv_base.specs.declared.events.Outcome.{Outcome}
 use Rattle.clv_base.specs.declared.events.Outcome.TheVariants.{Up}
 use Rattle.clv_base.specs.declared.events.Entry.{Entry}
-use Rattle.clv_base.specs.Logs.{fitting, record_size}
+use Rattle.clv_base.specs.Logs.{fitting}
 use Rattle.clv_base.specs.State.{Shard}
 use Rattle.clv_base.specs.Due.{finish_reader, with_vote, do_ruling, with_ruling}
 use Rattle.clv_base.specs.Events.{finish, put_down, with_durable, with_entry, taken}
@@ -27,6 +27,7 @@ use Rattle.protocol_laws.proofs.GrowingEvents.{log_only_grows}
 use Rattle.history_laws.proofs.Stepping.{commits, votes, rules, KeptByDue, settled, Step, op_dies, op_answers, request_refused, request_doomed, request_again, request_new, request_closes, looks_well, looks_ill, drops, sends, prepare_closes, prepare_again, vote_counts, decision_comes, decision_again, done_counts, asked, reminds, flushes, Happens, finishes, stops}
 use Rattle.history_laws.specs.Continuing.{SameAtRestart, SameAtRestarts}
 use Rattle.history_laws.proofs.Entering.{Makes, by_event, by_flush, by_failure, by_restart, makes, after_append, run_second}
+use Rattle.law_base.proofs.Logs.{few_fit as fitting_length}
 
 -- ---- what an event leaves as it is
 
@@ -146,10 +147,6 @@ grown_length xs ys p = let e = ap length p.1 in let f = length-append xs p.0 in 
 fitting_by : (r : LogRecord) (rs : List LogRecord) (n : ℕ) (b : Bool) → n ≤ length rs → elim b [ true ↦ 0 | false ↦ suc n ] ≤ length (r ∷ rs)
 fitting_by r rs n true h = omega arith
 fitting_by r rs n false h = omega (arith, h)
-
-fitting_length : (room : ℕ) (log : List LogRecord) → fitting room log ≤ length log
-fitting_length room [] = omega arith
-fitting_length room (r ∷ rs) = fitting_by r rs _ _ (fitting_length (room - record_size r) rs)
 
 -- up to where records fly, after an event
 flying_after : (s t : Shard) → Counted s → FlightIs s t → length s.local.log ≤ length t.local.log → (n : ℕ) → t.flight ≡ Some n → (s.durable ≤ n) × (n ≤ length t.local.log)

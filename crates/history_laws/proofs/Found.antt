@@ -6,7 +6,7 @@ use Rattle.clv_base.specs.declared.logs.LogRecord.{LogRecord}
 use Rattle.clv_base.specs.LogRules.{log_of, disorder, apart, all_logs_from}
 use Rattle.clv_base.specs.FileRules.{passes_file_rules, log_passes, may_open}
 use Rattle.law_base.proofs.Options.{none_of}
-use Rattle.history_laws.proofs.OldRuns.{each_passes}
+use Rattle.law_base.proofs.Logs.{passes_at as each_passes}
 
 pub found_in_order : (splits : List ℕ) (before : List (List LogRecord)) (n : ℕ) → may_open splits before ≡ true → n < length before → disorder n (log_of before n) ≡ None
 found_in_order splits before n m l =

@@ -23,10 +23,7 @@ use Rattle.clv_base.specs.Restarts.{run_after}
 use Rattle.clv_base.specs.Journals.{History, own}
 use Rattle.clv_base.specs.History.{Legal}
 use Rattle.history_laws.proofs.Merging.{Placed, Among, among_all, in_own}
-
--- the shards named are ones that there are
-abbrev pub AreShards : List ℕ → List (ℕ × ℕ) → Type 0
-AreShards splits ts = AllByRecursion (λ t. t.0 < shard_count splits) ts
+use Rattle.law_base.proofs.Lists.{AreShards}
 
 abbrev pub OffersBy : List ℕ → ℕ → Event → Outcome → Type 0
 OffersBy splits n (OpEvent tx birth nth seen op) (Answered answer epoch) = lies_in splits n op ≡ true

@@ -1,5 +1,5 @@
 -- A log in order has COMMITs of its own runs alone, and so none of a run that opens it.
-use Rattle.std.proofs.Common.{◌≡◌, subst, ℕ, zero, suc, ◌+◌, ◌<◌, true, Bool, List, [], ◌∷◌, is_none, length, arith}
+use Rattle.std.proofs.Common.{◌≡◌, ℕ, zero, suc, ◌+◌, ◌<◌, true, List, [], ◌∷◌, is_none, length, arith}
 use Rattle.std.specs.List.{list_all}
 use Rattle.std.proofs.lemmas.Bool.{and_parts}
 use Rattle.clv_base.specs.declared.names.TxId.{TxId}
@@ -12,12 +12,7 @@ use Rattle.law_base.proofs.Options.{none_of}
 use Rattle.protocol_laws.proofs.Records.{own_commit}
 use Rattle.protocol_laws.proofs.Runs.{record_fits}
 use Rattle.protocol_laws.proofs.OrderInOrder.{runs_in_order}
-
-pub each_passes : (test : ℕ → List LogRecord → Bool) (n i : ℕ) (logs : List (List LogRecord)) → all_logs_from n test logs ≡ true → i < length logs → test (n + i) (log_of logs i) ≡ true
-each_passes test n i [] a l = absurd (omega arith)
-each_passes test n zero (log ∷ logs) a l = subst (λ z. test z log ≡ true) (omega arith) (and_parts (test n log) _ a).0
-each_passes test n (suc i) (log ∷ logs) a l =
-    subst (λ z. test z (log_of logs i) ≡ true) (omega arith) (each_passes test (suc n) i logs (and_parts (test n log) _ a).1 (omega arith))
+use Rattle.law_base.proofs.Logs.{passes_at as each_passes}
 
 pub below_next_run : (logs : List (List LogRecord)) (i : ℕ) → greatest_run (log_of logs i) < run_after logs
 below_next_run [] i = omega arith

@@ -11,20 +11,19 @@ use Rattle.clv_base.specs.LogRules.{log_of}
 use Rattle.clv_base.specs.State.{Shard}
 use Rattle.clv_base.specs.Restarts.{log_left}
 use Rattle.clv_base.specs.Journals.{History, logs_left_from}
-use Rattle.clv_base.specs.History.{Member, acknowledged_in, answered_op, ops_in, request_of, members}
+use Rattle.clv_base.specs.History.{Member, answered_op, ops_in, request_of, members}
 use Rattle.protocol_laws.specs.Growth.{IsPrefixOf}
 use Rattle.std.proofs.lemmas.List.Folds.{list_any-append}
 use Rattle.history_laws.specs.Continuing.{IsSublistOf, nothing, also, only}
 use Rattle.history_laws.proofs.Merging.{Placed, Before, InOrder, Among, among_all, not_before_itself, sublist_among}
+use Rattle.law_base.proofs.Logs.{is_in}
+use Rattle.law_base.proofs.Names.{with_op}
 
 -- ---- operations
 
 -- whether an entry is an answered operation of the transaction
 abbrev pub op_at : TxId → Placed → Option (Op × Answer)
 op_at t e = answered_op t (e.1).event (e.1).outcome
-
-abbrev with_op : Option (Op × Answer) → List (Op × Answer) → List (Op × Answer)
-with_op o rest = elim o [ Some p ↦ p ∷ rest | None ↦ rest ]
 
 -- where the longer history has no further operation of the transaction, the operations are the same
 passes : (t : TxId) (y : Placed) (o : Option (Op × Answer)) (rest : List (Op × Answer)) → (((p : Op × Answer) → o ≡ Some p → ⊥)) → with_op o rest ≡ rest
@@ -59,9 +58,6 @@ pub committed_front : (xs ys : List LogRecord) (t : TxId) → IsPrefixOf xs ys �
 committed_front xs ys t (more, e) h = subst (λ z. committed_in z t ≡ true) e (list_any-append _ xs more ∙ or_left _ _ h)
 
 -- ---- members
-
-abbrev pub is_in : List (List LogRecord) → History → ℕ → TxId → Bool
-is_in logs h n t = committed_in (log_of logs n) t || acknowledged_in h t
 
 abbrev pub member_at : History → Placed → TxId → Member
 member_at h e t = record { tx = t; point = record { stamp = (e.1).stamp; shard = e.0 }; ops = ops_in t h }

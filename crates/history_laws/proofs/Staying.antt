@@ -29,11 +29,12 @@ use Rattle.protocol_laws.proofs.InOrder.{sessions_keep_order}
 use Rattle.history_laws.specs.Continuing.{IsSublistOf, GoesOn, NeverTakenBack}
 use Rattle.history_laws.proofs.Durability.{later_front, opened_counted}
 use Rattle.history_laws.proofs.Merging.{Placed, InOrder, in_order, Among, among_front, among_append, Precedes, in_turn, precedes_before, in_journal, from_journal, in_own, own_in_order, journal_precedes, front_precedes, stamps_follow, stamps_rise, sublist}
-use Rattle.history_laws.proofs.Serials.{op_at, same_ops, any_in, any_among, committed_front, is_in, Stays, members_stay, left_at}
+use Rattle.history_laws.proofs.Serials.{op_at, same_ops, any_in, any_among, committed_front, Stays, members_stay, left_at}
 use Rattle.history_laws.proofs.Walkers.{has, of_session, nothing_follows, request_names}
 use Rattle.history_laws.proofs.Telling.{IsRequest, AskedAfter, Voted}
 use Rattle.history_laws.proofs.TellingEvents.{SaysWell, front_committed}
 use Rattle.history_laws.proofs.Worlds.{world, in_a_shard}
+use Rattle.law_base.proofs.Logs.{is_in}
 
 -- ---- a transaction's session
 

@@ -1,6 +1,6 @@
 -- One step of a world, by what its shard made of it.
-use Rattle.std.proofs.Common.{◌≡◌, refl, sym, ap, subst, ◌∙◌, ℕ, zero, suc, ◌<◌, ◌≤◌, true, false, not, Bool, List, [], ◌∷◌, length, get_or, arith, nat_lt, nat_le, Option, Some, None, Result, Ok, Err}
-use Rattle.std.specs.Prelude.{slice_get, slice_set, OnOk, is_none}
+use Rattle.std.proofs.Common.{◌≡◌, refl, sym, ap, subst, ◌∙◌, ℕ, zero, suc, ◌<◌, ◌≤◌, true, false, not, Bool, List, [], ◌∷◌, length, get_or, arith, nat_lt, nat_le, Option, Some, None}
+use Rattle.std.specs.Prelude.{slice_get, slice_set, is_none}
 use Rattle.std.specs.List.{AllByRecursion, list_all}
 use Rattle.std.proofs.lemmas.Bool.{both_ways, and_parts, leb-true, ltb-true}
 use Rattle.clv_base.specs.declared.events.CoreStep.{CoreStep}
@@ -37,11 +37,6 @@ low_shards k (e ∷ es) few a = let p = and_parts (nat_lt e.0 k) (list_all (λ f
 pub few_shards : (splits : List ℕ) (h : History) → are_splits splits ≡ true → list_all (λ e. nat_lt e.0 (shard_count splits)) h ≡ true → AllByRecursion (λ e. e.0 < 16) h
 few_shards splits h few a =
     let short = leb-true (length splits) 15 (and_parts (nat_le (length splits) 15) (is_none (not_rising splits)) few).0 in low_shards (shard_count splits) h (omega (arith, short)) a
-
--- what holds where a call succeeds, by what does
-pub on_success : {A E : Type 0} (r : Result A E) (P Q : Type 0) → (P → Q) → OnOk r P → OnOk r Q
-on_success (Ok a) P Q f p = f p
-on_success (Err e) P Q f p = p
 
 pub seat_at : {A : Type 0} (xs : List A) (n : ℕ) → n < length xs → (x : A) × (x ≡ get_or xs n x)
 seat_at [] n l = absurd (omega (arith, l))

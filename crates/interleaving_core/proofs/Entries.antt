@@ -2,7 +2,7 @@
 use Rattle.std.proofs.Common.{◌≡◌, refl, sym, ap, subst, ◌∙◌, ℕ, true, false, cond, ◌&&◌, Bool, List, [], ◌∷◌, Option, Some, None, ◌==◌, map, nat_lt, eqb-true, suc, ◌+◌, ◌<◌, length, drop, get_or, drop-cons, arith}
 use Rattle.std.specs.List.{list_all, list_any}
 use Rattle.std.specs.Map.{lookup}
-use Rattle.std.proofs.lemmas.Bool.{both_ways, and_parts, and_from, or_left, eq-eqb, ne_eqb}
+use Rattle.std.proofs.lemmas.Bool.{both_ways, and_parts, and_from, eq-eqb, ne_eqb}
 use Rattle.clv_base.specs.declared.names.TxId.{TxId}
 use Rattle.clv_base.specs.declared.names.Birth.{Birth}
 use Rattle.clv_base.specs.declared.ops.Op.{Op}
@@ -15,6 +15,7 @@ use Rattle.clv_base.specs.Journals.{History, own}
 use Rattle.clv_base.specs.Sessions.{SessionState, Ended, goes_on, begins, begun, same_birth, session_for, is_number, lies_in, is_touching, same_touched, is_lowest, stands_at, op_answered, op_in_session, session_after}
 use Rattle.session_births.specs.States.{after_from}
 use Rattle.interleaving_core.specs.Naming.{shards_fit}
+use Rattle.law_base.proofs.Lists.{lowest_any}
 
 none_some : {A X : Type 0} {t : A} → ◌≡◌ {A = Option A} None (Some t) → X
 none_some h = absurd cc
@@ -88,10 +89,6 @@ same_list (a ∷ as_) (b ∷ bs) h =
   where
     same_first : (a b : ℕ × ℕ) → a.0 ≡ b.0 → a.1 ≡ b.1 → as_ ≡ bs → a ∷ as_ ≡ b ∷ bs
     same_first (n, m) (k, l) e f g = cc
-
-lowest_any : (n : ℕ) (ts : List (ℕ × ℕ)) → is_lowest n ts ≡ true → list_any (λ t. t.0 == n) ts ≡ true
-lowest_any n [] h = absurd (both_ways false refl h)
-lowest_any n (t ∷ ts) h = or_left (t.0 == n) (list_any (λ t. t.0 == n) ts) (eq-eqb t.0 n (sym (eqb-true n t.0 h)))
 
 pub asked_fit : (n : ℕ) (touched own : List (ℕ × ℕ)) → same_touched touched own ≡ true → is_lowest n touched ≡ true → numbers_rise (map (λ t. t.0) own) ≡ true → list_all (λ t. nat_lt t.0 16) own ≡ true → shards_fit n touched ≡ true
 asked_fit n touched own s l r w =

@@ -1,7 +1,7 @@
 -- The two events of a flush, by what the machine tells of them.
-use Rattle.std.proofs.Common.{◌≡◌, refl, sym, ap, subst, ◌∙◌, ℕ, zero, suc, ◌+◌, ◌≤◌, true, false, Bool, List, [], ◌∷◌, ◌++◌, take, arith, nat_lt, Option, Some, None, Result, Ok}
+use Rattle.std.proofs.Common.{◌≡◌, refl, sym, ap, subst, ◌∙◌, ℕ, zero, suc, ◌+◌, ◌≤◌, true, false, Bool, List, ◌∷◌, ◌++◌, take, arith, nat_lt, Option, Some, None, Result, Ok}
 use Rattle.std.specs.Prelude.{drop, ◌^◌, unwrap_or}
-use Rattle.std.proofs.lemmas.Bool.{both_ways, and_from, and_parts}
+use Rattle.std.proofs.lemmas.Bool.{both_ways}
 use Rattle.std.proofs.lemmas.List.{take-append-drop, take-take}
 use Rattle.clv_base.specs.declared.logs.LogRecord.{LogRecord}
 use Rattle.clv_base.specs.declared.events.Event.TheVariants.{FlushOut, FlushIn}
@@ -27,11 +27,10 @@ use Rattle.interleaving_core.specs.declared.seat.Air.{Air}
 use Rattle.interleaving_core.specs.declared.seat.Air.TheVariants.{Home, Away, Lost}
 use Rattle.interleaving_core.specs.Seated.{HasLog, IsInFlight, IsHome, IsAway, IsLost, IsSeated}
 use Rattle.world_laws.proofs.Laws.{Framed, framed_finish, grows_settled, same_outcome, same_after, take_grown}
+use Rattle.law_base.proofs.Logs.{spelled_append as all_spelled}
+use Rattle.law_base.proofs.Shards.{quiet_out, same_out}
 
 -- ---- the start of a flush
-
-same_out : {m n : ℕ} → Out m ≡ Out n → m ≡ n
-same_out e = cc
 
 -- from s, that is up, with nothing in flight
 pub record Departing (s : Shard) (stamp w n : ℕ) (t : Shard) : Type 0 where
@@ -53,13 +52,6 @@ by_up : (s : Shard) (clock w n : ℕ) (t : Shard) (b : Bool) → s.is_up ≡ b
     → stamped (next_stamp s clock FlushOut) w FlushOut (nat_lt (next_stamp s clock FlushOut) (2 ^ 48)) (elim b [ true ↦ happen_up s FlushOut | false ↦ QuietBeforeWorn Down ]) ≡ Enters (Out n) t → Departing s (next_stamp s clock FlushOut) w n t
 by_up s clock w n t false up h = absurd cc
 by_up s clock w n t true up h = outs s (next_stamp s clock FlushOut) w (nat_lt (next_stamp s clock FlushOut) (2 ^ 48)) s.flight (fitting 1048576 (drop (taken s) s.local.log)) n t up refl h
-
--- no quiet answer is Out
-quiet_out : (s : Shard) (stamp w : ℕ) (room : Bool) (n : ℕ) (f : Option ℕ) (k : ℕ) → stamped stamp w FlushOut room (out_event s f k) ≡ Quiet (Out n) → ⊥
-quiet_out s stamp w room n f zero h = absurd cc
-quiet_out s stamp w room n (Some m) (suc k) h = absurd cc
-quiet_out s stamp w true n None (suc k) h = absurd cc
-quiet_out s stamp w false n None (suc k) h = absurd cc
 
 up_or_down : (s : Shard) (stamp w : ℕ) (room : Bool) (n : ℕ) (b : Bool) → stamped stamp w FlushOut room (elim b [ true ↦ happen_up s FlushOut | false ↦ QuietBeforeWorn Down ]) ≡ Quiet (Out n) → ⊥
 up_or_down s stamp w room n true h = quiet_out s stamp w room n s.flight (fitting 1048576 (drop (taken s) s.local.log)) h
@@ -130,10 +122,6 @@ seated_away s t clock w before after o f air fits h e d =
     at (Lost payload) k = absurd (both_ways s.is_up k.down p.up)
 
 -- ---- the end of a flush
-
-pub all_spelled : (xs ys : List LogRecord) → list_all has_spelling xs ≡ true → list_all has_spelling ys ≡ true → list_all has_spelling (xs ++ ys) ≡ true
-all_spelled [] ys a b = b
-all_spelled (x ∷ xs) ys a b = let p = and_parts (has_spelling x) (list_all has_spelling xs) a in and_from (has_spelling x) (list_all has_spelling (xs ++ ys)) p.0 (all_spelled xs ys p.1 b)
 
 pub lands : (s : Shard) (clock w n : ℕ) (kept : Bool) → s.is_up ≡ true → s.flight ≡ Some n → land s clock w kept ≡ land_up s clock w kept (Some n)
 lands s clock w n kept up f = ap (λ b. elim b [ true ↦ land_up s clock w kept s.flight | false ↦ Quiet Down ]) up ∙ ap (land_up s clock w kept) f

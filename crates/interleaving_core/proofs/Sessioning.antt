@@ -1,7 +1,6 @@
 -- What a walker's session may make, by its state.
-use Rattle.std.proofs.Common.{◌≡◌, refl, sym, ap, ◌∙◌, ℕ, true, false, not, ◌&&◌, ◌||◌, List, Option, Some, None, Result, Ok, Err}
+use Rattle.std.proofs.Common.{◌≡◌, refl, sym, ap, ◌∙◌, ℕ, true, false, not, ◌&&◌, ◌||◌, List, Some, Result, Ok, Err}
 use Rattle.std.specs.Prelude.{is_some, IfOk}
-use Rattle.std.proofs.lemmas.Bool.{both_ways}
 use Rattle.clv_base.specs.declared.events.Event.{Event}
 use Rattle.clv_base.specs.Journals.{History, own}
 use Rattle.clv_base.specs.Sessions.{SessionState, session_after, is_session, is_of_session, is_session_number}
@@ -9,10 +8,7 @@ use Rattle.journal_laws.specs.Offers.{hoped_for, may_make}
 use Rattle.session_births.specs.States.{session_of}
 use Rattle.session_births.proofs.Laws.{sessions_have_states, states_tell_may_make, states_bear_walkers}
 use Rattle.world_laws.specs.Running.{session_may}
-
-some_of : {A : Type 0} (o : Option A) → is_some o ≡ true → (x : A) × (o ≡ Some x)
-some_of None h = absurd (both_ways false refl h)
-some_of (Some x) h = (x, refl)
+use Rattle.law_base.proofs.Options.{some_of}
 
 -- its state
 pub record HasState (splits : List ℕ) (walker : ℕ) (es : History) : Type 0 where

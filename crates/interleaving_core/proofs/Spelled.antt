@@ -1,5 +1,5 @@
 -- Records that are spelled one behind the other, and how far they are read.
-use Rattle.std.proofs.Common.{◌≡◌, ℕ, ◌<◌, ◌≤◌, Bool, true, false, ◌&&◌, List, [], ◌∷◌, ◌++◌, length, drop, sym, ap, refl, ◌∙◌, arith, append_assoc, length-append}
+use Rattle.std.proofs.Common.{◌≡◌, ℕ, ◌<◌, ◌≤◌, true, false, ◌&&◌, List, [], ◌∷◌, ◌++◌, length, drop, sym, ap, refl, ◌∙◌, arith, append_assoc, length-append}
 use Rattle.std.specs.Prelude.{IsTrue}
 use Rattle.std.specs.List.{flat_map, list_all}
 use Rattle.std.proofs.lemmas.List.{append-nil}
@@ -9,10 +9,7 @@ use Rattle.clv_base.specs.Logs.{record_size}
 use Rattle.log_records.specs.Spelling.{spelling, Spells, BeginsWith}
 use Rattle.log_records.specs.Laws.{NoneBeginsAnother}
 use Rattle.log_gate.specs.Image.{SpellAll}
-
-both_true : (a b : Bool) → IsTrue (a && b) → IsTrue a × IsTrue b
-both_true true b is = (refl, is)
-both_true false b is = absurd (let no : ◌≡◌ {A = Bool} false true = is in cc)
+use Rattle.law_base.proofs.Bools.{both_true}
 
 -- what is still to be read of these records, where those are read
 pub record Unread (more read : List LogRecord) (rest : List ℕ) : Type 0 where

@@ -1,8 +1,8 @@
 -- The end of a transaction on a shard leaves no active part of it.
-use Rattle.std.proofs.Common.{◌≡◌, ◌≢◌, ◌⊎◌, inl, inr, refl, sym, ap, subst, ◌∙◌, ℕ, true, false, cond, not, ◌&&◌, Bool, List, [], ◌∷◌, map, length, Option, Some, None}
+use Rattle.std.proofs.Common.{◌≡◌, ◌≢◌, ◌⊎◌, inl, inr, refl, sym, ap, subst, ◌∙◌, ℕ, true, false, cond, not, ◌&&◌, Bool, List, [], ◌∷◌, map, Option, Some, None}
 use Rattle.std.specs.List.{AllByRecursion}
 use Rattle.std.specs.Ordering.{is_eq}
-use Rattle.std.proofs.lemmas.Bool.{both_ways, or_left, and_left, false_from_ne_true}
+use Rattle.std.proofs.lemmas.Bool.{both_ways, and_left, false_from_ne_true}
 use Rattle.clv_base.specs.declared.names.TxId.{TxId}
 use Rattle.clv_base.specs.declared.names.Birth.{Birth}
 use Rattle.clv_base.specs.declared.ops.Op.{Op}
@@ -26,7 +26,7 @@ use Rattle.clv_base.specs.Orders.{Table, tx_same, tx_in, tx_get, tx_put, birth_c
 use Rattle.clv_base.specs.Logs.{in_doubt}
 use Rattle.clv_base.specs.Locks.{decide}
 use Rattle.clv_base.specs.State.{Local, Shard, is_active_stage, is_present}
-use Rattle.clv_base.specs.Undo.{stage_of, gone_part, gone_in, doomed_by, doomed_here}
+use Rattle.clv_base.specs.Undo.{stage_of, gone_part, gone_in, doomed_here}
 use Rattle.clv_base.specs.Needs.{needs_of}
 use Rattle.clv_base.specs.OneShard.{OpReply, OpWaits, OpCrowded, OpDies, OpAnswers, seen_fits, op_reply, op_seen, op_by_stage, op_decided, op_granted, written, locked, active_part, new_part, without_part, rolled_back_if, closed_part, closed_in, dropped_part, marked_in}
 use Rattle.clv_base.specs.Due.{finish_reader, with_vote, do_ruling, with_ruling}
@@ -37,13 +37,12 @@ use Rattle.clv_base.proofs.SameNames.{tx_true, tx_self, tx_eq}
 use Rattle.law_base.proofs.Lists.{all_mono}
 use Rattle.law_base.proofs.Rows.{rows_put}
 use Rattle.law_base.proofs.Tables.{get_put, get_changed}
-use Rattle.law_base.proofs.Sets.{filter_in}
-use Rattle.law_base.proofs.Successors.{keeps_through}
 use Rattle.history_laws.proofs.Stepping.{commits, votes, rules, KeptByDue, settled, Step, op_dies, op_answers, request_refused, request_doomed, request_again, request_new, request_closes, looks_well, looks_ill, drops, sends, prepare_closes, prepare_again, vote_counts, decision_comes, decision_again, done_counts, asked, reminds, flushes, Happens, finishes, stops, happened}
 use Rattle.clv_base.specs.Machines.{BecomesBy, Runs}
 use Rattle.journal_laws.specs.Endings.{RunsFindActive, EndsHere, InactiveIsFree, EndsFree, RestartsFree}
 use Rattle.journal_laws.specs.Births.{LeavesBirth}
 use Rattle.journal_laws.proofs.Bearing.{free_rows, has_none, free_restored, free_event, Free, Leaves}
+use Rattle.law_base.proofs.Names.{in_doomed}
 
 -- ---- what is due only takes parts away: what holds of a table and stays where parts go, stays
 
@@ -211,9 +210,6 @@ QuietReply u (OpWaits younger) = Unit {0}
 QuietReply u (OpCrowded count) = Unit {0}
 QuietReply u (OpDies cause m) = Quietly u m.parts
 QuietReply u (OpAnswers answer m) = Unit {0}
-
-in_doomed : (l : Local) (u : TxId) → is_present (stage_of l u) ≡ true → tx_in u (doomed_here l u) ≡ true
-in_doomed l u h = filter_in (λ t. is_present (stage_of l t)) u (doomed_by l u) (keeps_through (length l.pairs) l.pairs (u ∷ []) u (or_left (tx_same u u) false (tx_self u))) h
 
 quiet_without : (l : Local) (u : TxId) → Found l.parts → Quietly u (without_part u l).parts
 quiet_without l u a = at (is_present (stage_of l u)) refl

@@ -22,23 +22,9 @@ use Rattle.clv_base.specs.Machines.{BecomesBy, Makes, Runs}
 use Rattle.journal_laws.specs.Worlds.{LandsInTime}
 use Rattle.journal_laws.specs.Offers.{hoped_for, EachOutcomeGoesOn, FlyingIsInTime}
 use Rattle.journal_laws.proofs.Stepping.{lands_after}
+use Rattle.law_base.proofs.Shards.{is_told as fits_look, fits_op, fits_request}
 
 -- ---- outcomes
-
-abbrev fits_op : Outcome → Bool
-fits_op (Answered answer epoch) = true
-fits_op (Dead cause) = true
-fits_op _ = false
-
-abbrev fits_request : Outcome → Bool
-fits_request Asked = true
-fits_request (Dead cause) = true
-fits_request _ = false
-
-abbrev fits_look : Outcome → Bool
-fits_look Acknowledged = true
-fits_look (Aborted cause) = true
-fits_look _ = false
 
 abbrev fits : Event → Outcome → Bool
 fits (Op tx birth nth seen op) o = fits_op o

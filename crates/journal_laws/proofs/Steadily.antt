@@ -11,7 +11,7 @@ use Rattle.clv_base.specs.declared.events.Outcome.{Outcome}
 use Rattle.clv_base.specs.declared.events.Outcome.TheVariants.{Durable, Failed}
 use Rattle.clv_base.specs.declared.events.Entry.{Entry}
 use Rattle.clv_base.specs.declared.events.CoreStep.{CoreStep}
-use Rattle.clv_base.specs.Shards.{shard_count, are_splits, not_rising}
+use Rattle.clv_base.specs.Shards.{shard_count, are_splits}
 use Rattle.clv_base.specs.LogRules.{log_of, all_logs_from, committed_of_all, first_apart, apart}
 use Rattle.clv_base.specs.FileRules.{log_passes, have_spellings}
 use Rattle.clv_base.specs.State.{Shard}
@@ -22,7 +22,7 @@ use Rattle.clv_base.specs.Journals.{History, journal_of, own, start_of, stamp_bo
 use Rattle.clv_base.specs.History.{WasSent}
 use Rattle.clv_base.specs.Core.{World, new_world, opened_from, clock_of, put_entry, step_answer, entry_of, after_answer}
 use Rattle.clv_base.specs.Runs.{was_sent, goes_on_session, is_allowed, allows_answer, run_on, run_from, run_events}
-use Rattle.law_base.proofs.Lists.{all_mono}
+use Rattle.law_base.proofs.Lists.{all_mono, few_shards as few_splits}
 use Rattle.law_base.proofs.Restarts.{left_length}
 use Rattle.history_laws.proofs.Durability.{opened_counted}
 use Rattle.history_laws.proofs.Merging.{Placed, InOrder, in_order, Among, among_all, in_journal}
@@ -38,6 +38,7 @@ use Rattle.journal_laws.proofs.Sending.{was_sent_before}
 use Rattle.journal_laws.proofs.Placing.{Above, Place, place, put_in_order, put_here, put_there, put_own, put_others, put_all, put_tests, put_sent, rises_push, tests_push, stands_first}
 use Rattle.journal_laws.proofs.Stepping.{Answers, answers, Bounds, has_room, may_pass, bounds, makes_entry, lands_after}
 use Rattle.journal_laws.proofs.Walking.{others_keep_sessions}
+use Rattle.law_base.proofs.Shards.{shard_inside as within}
 
 -- ---- one shard of a list, and a new one in its place
 
@@ -57,11 +58,6 @@ set_length : (xs : List Shard) (i : ℕ) (y : Shard) → length (slice_set xs i 
 set_length [] i y = refl
 set_length (z ∷ zs) zero y = refl
 set_length (z ∷ zs) (suc i) y = let e = set_length zs i y in omega (arith, e)
-
-within : (xs : List Shard) (i : ℕ) (x : Shard) → slice_get xs i ≡ Some x → i < length xs
-within [] i x h = absurd (none-some x h)
-within (z ∷ zs) zero x h = omega arith
-within (z ∷ zs) (suc i) x h = let e = within zs i x h in omega (arith, e)
 
 same_shard : {a b : Shard} → Some a ≡ Some b → a ≡ b
 same_shard h = cc
@@ -121,9 +117,6 @@ past_one_more (z ∷ zs) zero s t h l m =
     let k : count_past (t ∷ zs) ≡ 1 + count_past zs = ap (λ b. cond b 1 0 + count_past zs) f in
     omega (arith, g, k)
 past_one_more (z ∷ zs) (suc i) s t h l m = let k = past_one_more zs i s t h l m in omega (arith, k)
-
-few_splits : (splits : List ℕ) → are_splits splits ≡ true → shard_count splits ≤ 16
-few_splits splits h = let k = leb-true (length splits) 15 (and_parts (nat_le (length splits) 15) (is_none (not_rising splits)) h).0 in omega (arith, k)
 
 -- ---- clocks and last stamps
 

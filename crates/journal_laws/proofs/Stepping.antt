@@ -14,6 +14,7 @@ use Rattle.clv_base.specs.Journals.{has_equal_active_birth, has_no_equal_active_
 use Rattle.clv_base.specs.Core.{answer_by, entry_of}
 use Rattle.history_laws.proofs.Durability.{framed_finish}
 use Rattle.clv_base.specs.Machines.{BecomesBy, Makes}
+use Rattle.law_base.proofs.Shards.{does_after, does_outcome, same_after, same_outcome}
 
 -- ---- an answer with a stamp
 
@@ -22,12 +23,6 @@ quiet_enters h = cc
 
 worn_enters : {X : Type 0} {o : Outcome} {t : Shard} → Worn ≡ Enters o t → X
 worn_enters h = cc
-
-same_outcome : {p o : Outcome} {u t : Shard} → Enters p u ≡ Enters o t → p ≡ o
-same_outcome h = cc
-
-same_after : {p o : Outcome} {u t : Shard} → Enters p u ≡ Enters o t → u ≡ t
-same_after h = cc
 
 pub record Entered (stamp walker : ℕ) (e : Event) (room : Bool) (r : Reply) (o : Outcome) (t : Shard) : Type 0 where
   pub after : Shard
@@ -45,12 +40,6 @@ entered stamp walker e true (Does p u) o t h =
     record { after = u; reply = ap (λ x. Does x u) q; is = sym (same_after h) ∙ ap (λ x. with_entry stamp walker e x u) q; had_room = refl }
 
 -- ---- what it becomes by
-
-does_outcome : {p o : Outcome} {u t : Shard} → Does p u ≡ Does o t → p ≡ o
-does_outcome h = cc
-
-does_after : {p o : Outcome} {u t : Shard} → Does p u ≡ Does o t → u ≡ t
-does_after h = cc
 
 -- an answer of the shard, and where its stamp is bounded by the test
 pub record Answers (s : Shard) (clock walker : ℕ) (e : Event) (o : Outcome) (t : Shard) : Type 0 where

@@ -16,3 +16,7 @@ pub mod Successors
 pub mod Doubts
 pub mod Stages
 pub mod Due
+pub mod Names
+pub mod Shards
+pub mod Numbers
+pub mod Logs

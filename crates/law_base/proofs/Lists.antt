@@ -1,9 +1,21 @@
 -- Lists, and what holds of each element, or of each and each later one.
-use Rattle.std.proofs.Common.{◌≡◌, Bool, true, List, [], ◌∷◌, ◌++◌, ℕ, zero, suc, false, cond, refl, sym, ap, ◌∙◌}
-use Rattle.std.specs.List.{AllByRecursion, filter, list_all}
-use Rattle.std.specs.Prelude.{take}
-use Rattle.std.proofs.lemmas.Bool.{cond_both, cond-true, cond-false, both_ways, and_parts, both_ways}
+use Rattle.std.proofs.Common.{◌≡◌, Bool, true, List, [], ◌∷◌, ◌++◌, ℕ, zero, suc, false, cond, refl, sym, ap, ◌∙◌, ◌<◌, length, arith, get_or, Option, Some, None, ◌≤◌, nat_le, ⊎_elim, subst, ◌==◌, eqb-true, ◌≢◌, slice_index, ◌⊎◌, inl, inr, map, set, ◌+◌, drop, ◌-◌, slice_range}
+use Rattle.std.specs.List.{AllByRecursion, filter, list_all, list_any}
+use Rattle.std.specs.Prelude.{take, is_none, slice_get}
+use Rattle.std.proofs.lemmas.Bool.{cond_both, cond-true, cond-false, both_ways, and_parts, leb-true, or_cases, eq-eqb}
 use Rattle.law_base.specs.Items.{AllLater}
+use Rattle.clv_base.specs.Shards.{shard_count, are_splits, not_rising, shard_of}
+use Rattle.clv_base.specs.declared.causes.Vote.{Vote}
+use Rattle.clv_base.specs.Orders.{nat_in, nat_insert}
+use Rattle.clv_base.specs.Coordinator.{vote_from, is_good}
+use Rattle.std.proofs.lemmas.List.{get_or_append_left, get_or-take}
+use Rattle.std.specs.declared.cmp.Ordering.{Ordering}
+use Rattle.std.specs.declared.cmp.Ordering.TheVariants.{Less, Equal, Greater}
+use Rattle.std.specs.Ordering.{nat_cmp, match_ordering}
+use Rattle.clv_base.proofs.SameNames.{or_left, or_right}
+use Rattle.clv_base.specs.Sessions.{is_lowest}
+use Rattle.std.proofs.lemmas.List.Sums.{count_by-le-length}
+use Rattle.std.proofs.Math.Seq.{take-length}
 
 pub all_mono : {I : Type 0} (P Q : I → Type 0) → ((x : I) → P x → Q x) → (xs : List I) → AllByRecursion P xs → AllByRecursion Q xs
 all_mono P Q h [] a = tt
@@ -74,3 +86,111 @@ filter_passes f g (x ∷ xs) e = at (g x) refl e (filter_passes f g xs)
         → AllByRecursion (λ y. g y ≡ true → f y ≡ true) (x ∷ xs)
     at true q a k = let p = and_parts (f x) (list_all f (filter g xs)) a in ((λ z. p.0), k p.1)
     at false q a k = ((λ z. absurd (both_ways (g x) q z)), k a)
+
+pub elem_at : {X : Type 0} (xs : List X) (n : ℕ) → n < length xs → X
+elem_at [] n l = absurd (omega arith)
+elem_at (x ∷ xs) n l = x
+
+pub some_inside : {A : Type 0} (xs : List (Option A)) (n : ℕ) (p : A) → ((d : Option A) → get_or xs n d ≡ Some p) → n < length xs
+some_inside [] n p had = absurd (let h : None ≡ Some p = had None in cc)
+some_inside (x ∷ xs) zero p had = omega arith
+some_inside (x ∷ xs) (suc n) p had = let l = some_inside xs n p had in omega arith
+
+pub few_shards : (splits : List ℕ) → are_splits splits ≡ true → shard_count splits ≤ 16
+few_shards splits h = let p = and_parts (nat_le (length splits) 15) (is_none (not_rising splits)) h in let l : length splits ≤ 15 = leb-true (length splits) 15 p.0 in omega arith
+
+pub some_at : {X : Type 0} (xs : List X) (n : ℕ) (d : X) → n < length xs → slice_get xs n ≡ Some (get_or xs n d)
+some_at [] n d l = absurd (omega arith)
+some_at (x ∷ xs) zero d l = refl
+some_at (x ∷ xs) (suc n) d l = some_at xs n d (omega arith)
+
+pub first_elem : {A : Type 0} (xs : List A) → 0 < length xs → A
+first_elem [] l = absurd (omega arith)
+first_elem (x ∷ xs) l = x
+
+pub good_at : (vs : List (ℕ × Vote)) (ps : List ℕ) (p : ℕ) → list_all (λ m. is_good (vote_from m vs)) ps ≡ true → nat_in p ps ≡ true → is_good (vote_from p vs) ≡ true
+good_at vs [] p g i = absurd (both_ways false refl i)
+good_at vs (m ∷ ms) p g i =
+    let a = and_parts (is_good (vote_from m vs)) (list_all (λ m. is_good (vote_from m vs)) ms) g in
+    ⊎_elim (λ e. subst (λ z. is_good (vote_from z vs) ≡ true) (sym (eqb-true p m e)) a.0) (λ j. good_at vs ms p a.1 j) (or_cases (p == m) (nat_in p ms) i)
+
+pub get_or_taken : {A : Type 0} (ys zs : List A) (n k : ℕ) (d : A) → k < n → k < length ys → get_or (take n (ys ++ zs)) k d ≡ get_or ys k d
+get_or_taken ys zs n k d low within = get_or-take n (ys ++ zs) k d low ∙ get_or_append_left ys zs d k within
+
+pub unequal : (a b : List ℕ) → slice_index a 0 ≢ slice_index b 0 → a ≡ b → ⊥
+unequal a b differ e = differ (ap (λ (w : List ℕ). slice_index w 0) e)
+
+pub insert_in : (n k : ℕ) (ns : List ℕ) → nat_in k (nat_insert n ns) ≡ true → (k ≡ n) ⊎ (nat_in k ns ≡ true)
+insert_in n k [] i = ⊎_elim (λ s. inl (eqb-true k n s)) (λ h. inr h) (or_cases (k == n) false i)
+insert_in n k (m ∷ ms) i = at (nat_cmp n m) i (insert_in n k ms)
+  where
+    at : (o : Ordering) → nat_in k (match_ordering o (n ∷ m ∷ ms) (m ∷ ms) (m ∷ nat_insert n ms)) ≡ true → (nat_in k (nat_insert n ms) ≡ true → (k ≡ n) ⊎ (nat_in k ms ≡ true)) → (k ≡ n) ⊎ (nat_in k (m ∷ ms) ≡ true)
+    at Less i more = ⊎_elim (λ s. inl (eqb-true k n s)) (λ h. inr h) (or_cases (k == n) (nat_in k (m ∷ ms)) i)
+    at Equal i more = inr i
+    at Greater i more = ⊎_elim (λ s. inr (or_left _ _ s)) (λ h. ⊎_elim (λ e. inl e) (λ j. inr (or_right (k == m) _ j)) (more h)) (or_cases (k == m) (nat_in k (nat_insert n ms)) i)
+
+pub filter_fewer : (f : ℕ → Bool) (xs : List ℕ) → length (filter f xs) ≤ length xs
+filter_fewer f [] = omega arith
+filter_fewer f (x ∷ xs) = at (f x) (filter_fewer f xs)
+  where
+    at : (b : Bool) → length (filter f xs) ≤ length xs → length (cond b (x ∷ filter f xs) (filter f xs)) ≤ length (x ∷ xs)
+    at true h = omega arith
+    at false h = omega arith
+
+abbrev pub AreShards : List ℕ → List (ℕ × ℕ) → Type 0
+AreShards splits ts = AllByRecursion (λ t. t.0 < shard_count splits) ts
+
+pub lowest_any : (n : ℕ) (ts : List (ℕ × ℕ)) → is_lowest n ts ≡ true → list_any (λ t. t.0 == n) ts ≡ true
+lowest_any n [] h = absurd (both_ways false refl h)
+lowest_any n (t ∷ ts) h = or_left (t.0 == n) (list_any (λ t. t.0 == n) ts) (eq-eqb t.0 n (sym (eqb-true n t.0 h)))
+
+pub map_append : {X Y : Type 0} (f : X → Y) (xs ys : List X) → map f (xs ++ ys) ≡ map f xs ++ map f ys
+map_append f [] ys = refl
+map_append f (x ∷ xs) ys = ap (λ l. f x ∷ l) (map_append f xs ys)
+
+pub append_nil : {X : Type 0} (xs : List X) → xs ++ [] ≡ xs
+append_nil [] = refl
+append_nil (x ∷ xs) = ap (λ ys. x ∷ ys) (append_nil xs)
+
+pub own_default : {X : Type 0} (xs : List X) (i : ℕ) (d : X) → i < length xs → get_or xs i d ≡ get_or xs i (get_or xs i d)
+own_default [] i d l = absurd (omega arith)
+own_default (x ∷ xs) zero d l = refl
+own_default (x ∷ xs) (suc i) d l = own_default xs i d (omega arith)
+
+pub set_same : {X : Type 0} (xs : List X) (j : ℕ) (x : X) → x ≡ get_or xs j x → set xs j x ≡ xs
+set_same [] j x e = refl
+set_same (z ∷ zs) zero x e = ap (λ l. l ∷ zs) e
+set_same (z ∷ zs) (suc j) x e = ap (λ l. z ∷ l) (set_same zs j x e)
+
+pub filter-few : {A : Type 0} (f : A → Bool) (xs : List A) → length (filter f xs) ≤ length xs
+filter-few f [] = omega arith
+filter-few f (x ∷ xs) = more (f x) (filter-few f xs)
+  where
+    more : (b : Bool) → length (filter f xs) ≤ length xs → length (cond b (x ∷ filter f xs) (filter f xs)) ≤ length (x ∷ xs)
+    more true h = omega (arith, h)
+    more false h = omega (arith, h)
+
+abbrev pub IsBytes : List ℕ → Type 0
+IsBytes xs = (i : ℕ) → get_or xs i 0 < 256
+
+pub take_plus : {X : Type 0} (m k : ℕ) (xs : List X) → take (m + k) xs ≡ take m xs ++ take k (drop m xs)
+take_plus zero k xs = let e : 0 + k ≡ k = omega arith in ap (λ n. take n xs) e
+take_plus (suc m) k [] = let e : suc m + k ≡ suc (m + k) = omega arith in ap (λ n. take n []) e ∙ sym (nothing k)
+  where
+    nothing : {Y : Type 0} (n : ℕ) → take {A = Y} n [] ≡ []
+    nothing zero = refl
+    nothing (suc n) = refl
+take_plus (suc m) k (x ∷ xs) = let e : suc m + k ≡ suc (m + k) = omega arith in ap (λ n. take n (x ∷ xs)) e ∙ ap (λ l. x ∷ l) (take_plus m k xs)
+
+pub lowest_some : (n : ℕ) (ts : List (ℕ × ℕ)) → is_lowest n ts ≡ true → ts ≢ []
+lowest_some n [] h k = both_ways false refl h
+lowest_some n (t ∷ ts) h k = cc
+
+pub is_shard : (splits : List ℕ) (k : ℕ) → shard_of splits k < shard_count splits
+is_shard splits k = let h = count_by-le-length (λ s. nat_le s k) splits in omega arith
+
+pub whole_range : {X : Type 0} (ys xs : List X) (n : ℕ) → ys ≡ slice_range xs 0 n → n ≡ length xs → ys ≡ xs
+whole_range ys xs n e f =
+    let none : length xs - 0 ≡ length xs = omega arith in
+    let all : slice_range xs 0 (length xs) ≡ take (length xs) xs = ap (λ (k : ℕ). take k xs) none in
+    e ∙ ap (slice_range xs 0) f ∙ all ∙ take-length xs

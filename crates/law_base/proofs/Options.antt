@@ -1,7 +1,11 @@
 -- An Option that is none, and Options of numbers that are the same.
-use Rattle.std.proofs.Common.{◌≡◌, refl, false, Option, Some, None, is_none, true, ℕ, ◌-◌, ap, eqb-true, eq-eqb}
+use Rattle.std.proofs.Common.{◌≡◌, refl, false, Option, Some, None, is_none, true, ℕ, ◌-◌, ap, eqb-true, eq-eqb, ◌∙◌, sym, Result, Ok, Err, ◌≤◌, arith, subst}
 use Rattle.std.proofs.lemmas.Bool.{both_ways}
 use Rattle.clv_base.specs.LogRules.{same_option}
+use Rattle.std.specs.Prelude.{OnOk, is_some}
+use Rattle.clv_base.specs.Logs.{optional_size}
+use Rattle.clv_base.specs.declared.modes.Found.TheVariants.{Absent}
+use Rattle.clv_base.specs.Needs.{found_by}
 
 pub none_of : {X : Type 0} (o : Option X) → is_none o ≡ true → o ≡ None
 none_of None e = refl
@@ -16,3 +20,38 @@ option_true (Some a) None e = absurd (both_ways false refl e)
 pub option_self : (a : Option ℕ) → same_option a a ≡ true
 option_self None = refl
 option_self (Some a) = eq-eqb a a refl
+
+abbrev pub value_or : {A : Type 0} → A → Option A → A
+value_or d None = d
+value_or d (Some x) = x
+
+pub some_once : {A : Type 0} (x y : A) (o : Option A) → o ≡ Some x → o ≡ Some y → x ≡ y
+some_once {A} x y o a b = let k : ◌≡◌ {A = Option A} (Some x) (Some y) = sym a ∙ b in cc
+
+pub some_inj : {A : Type 0} (x y : A) → Some x ≡ Some y → x ≡ y
+some_inj x y h = cc
+
+pub on_success : {A E : Type 0} (r : Result A E) (P Q : Type 0) → (P → Q) → OnOk r P → OnOk r Q
+on_success (Ok a) P Q f p = f p
+on_success (Err e) P Q f p = p
+
+pub some_of : {A : Type 0} (o : Option A) → is_some o ≡ true → (x : A) × (o ≡ Some x)
+some_of None h = absurd (both_ways false refl h)
+some_of (Some x) h = (x, refl)
+
+pub option_small : (v : Option ℕ) → optional_size v ≤ 9
+option_small None = omega arith
+option_small (Some n) = omega arith
+
+pub if_ok : {A E : Type 0} (P : A → Type 0) (r : Result A E) → Rattle.std.specs.Prelude.IfOk r P → (a : A) → r ≡ Ok a → P a
+if_ok P (Ok b) h a is = subst P (let same : b ≡ a = cc in same) h
+if_ok P (Err e) h a is = absurd cc
+
+pub found_none : (held : Option ℕ) → is_some held ≡ false → held ≡ None
+found_none None h = refl
+found_none (Some w) h = absurd (both_ways true h refl)
+
+pub absent_is : (o : Option (Option ℕ)) → found_by o ≡ Absent → o ≡ None
+absent_is None e = refl
+absent_is (Some None) e = absurd cc
+absent_is (Some (Some v)) e = absurd cc

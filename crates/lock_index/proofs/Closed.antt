@@ -16,9 +16,10 @@ use Rattle.lock_index.specs.Rising.{row_order, Behind, Rising}
 use Rattle.lock_index.specs.Links.{Links, Nexts, nexts, first, has, Path, Among, AllApart, Thread, Threaded, is_link, next_of, tx_of, place_of, same_place}
 use Rattle.lock_index.specs.Kept.{Tied}
 use Rattle.lock_index.specs.Closings.{close_row, close_over, Closing}
-use Rattle.lock_index.proofs.Names.{anchor_true, anchor_self}
 use Rattle.lock_index.proofs.Sums.{Row, In}
-use Rattle.lock_index.proofs.GroupWrites.{by_with, map_append}
+use Rattle.lock_index.proofs.GroupWrites.{by_with}
+use Rattle.law_base.proofs.LockRows.{anchor_true, anchor_self}
+use Rattle.law_base.proofs.Lists.{map_append}
 
 -- ---- on one anchor
 

@@ -2,9 +2,7 @@
 use Rattle.std.proofs.Common.{◌≡◌, refl, sym, ap, ◌∙◌, ℕ, ◌<◌, Bool, true, false, cond, ◌&&◌, ◌==◌, nat_lt, [], ◌∷◌, Option, Some, None, arith}
 use Rattle.std.proofs.lemmas.Bool.{ltb-true, ne_eqb}
 use Rattle.std.specs.Map.{lookup}
-use Rattle.std.specs.declared.cmp.Ordering.{Ordering}
-use Rattle.std.specs.declared.cmp.Ordering.TheVariants.{Less, Equal, Greater}
-use Rattle.std.specs.Ordering.{nat_cmp, ordering_then, is_eq}
+use Rattle.std.specs.Ordering.{nat_cmp, is_eq}
 use Rattle.clv_base.specs.declared.names.TxId.{TxId}
 use Rattle.clv_base.specs.declared.modes.Anchor.{Anchor}
 use Rattle.clv_base.specs.declared.modes.Anchor.TheVariants.{Low as LowAnchor, At as AtAnchor}
@@ -15,19 +13,10 @@ use Rattle.lock_index.specs.declared.links.Link.{Link}
 use Rattle.lock_index.specs.contracts.links.SpotPartialEq.TheImpl.{eq-value as spot-eq}
 use Rattle.lock_index.specs.contracts.links.LinkPartialEq.TheImpl.{eq-value}
 use Rattle.lock_index.specs.Links.{Links, spot_of, place_of, link_of, tx_of, same_place, is_link, next_of}
-
-eq_by : (lt eq : Bool) → (lt ≡ true → eq ≡ false) → is_eq (cond lt Less (cond eq Equal Greater)) ≡ eq
-eq_by true eq h = sym (h refl)
-eq_by false true h = refl
-eq_by false false h = refl
+use Rattle.law_base.proofs.Bools.{eq_by, then_tied as then_eq}
 
 cmp_eq : (a b : ℕ) → is_eq (nat_cmp a b) ≡ (a == b)
 cmp_eq a b = eq_by (nat_lt a b) (a == b) (λ e. let l : a < b = ltb-true a b e in ne_eqb a b (λ q. absurd (omega arith)))
-
-then_eq : (a b : Ordering) → is_eq (ordering_then a b) ≡ (is_eq a && is_eq b)
-then_eq Less b = refl
-then_eq Equal b = refl
-then_eq Greater b = refl
 
 same_names : (t : TxId) (k : Link) → tx_same t (tx_of k) ≡ ((t.run == k.run) && ((t.session == k.session) && (t.serial == k.serial)))
 same_names t k =

@@ -24,6 +24,8 @@ use Rattle.lock_index.specs.Groups.{Groups, rows_of, Apart}
 pub use Rattle.lock_index.specs.Rising.{row_order, Behind, Rising}
 use Rattle.lock_index.specs.Meeting.{visit, oldest_step, older_row, age_cmp, decided, is_active, bars}
 use Rattle.lock_index.proofs.Sums.{Row, In, visited}
+use Rattle.law_base.proofs.Names.{anchor_less as anchor_goes_on}
+use Rattle.law_base.proofs.Bools.{less_is}
 
 -- ---- the orders
 
@@ -38,14 +40,6 @@ anchor_turns Low Low = refl
 anchor_turns Low (At k) = refl
 anchor_turns (At j) Low = refl
 anchor_turns (At j) (At k) = nat_cmp_total.antisymm j k
-
-anchor_goes_on : (a b c : Anchor) → anchor_cmp a b ≡ Less → anchor_cmp b c ≡ Less → anchor_cmp a c ≡ Less
-anchor_goes_on Low Low c e f = absurd cc
-anchor_goes_on Low (At j) Low e f = absurd cc
-anchor_goes_on Low (At j) (At k) e f = refl
-anchor_goes_on (At i) Low c e f = absurd cc
-anchor_goes_on (At i) (At j) Low e f = absurd cc
-anchor_goes_on (At i) (At j) (At k) e f = nat_cmp_total.trans i j k e f
 
 anchor_agrees : (a b c : Anchor) → anchor_cmp a b ≡ Equal → anchor_cmp a c ≡ anchor_cmp b c
 anchor_agrees Low Low c e = refl
@@ -224,11 +218,6 @@ of_row birth (Some r) = refl
 abbrev keep : Birth → Option Holder → Option Holder
 keep birth None = None
 keep birth (Some h) = cond (is_older h.birth birth) (Some h) None
-
-less_is : (o : Ordering) → is_lt o ≡ true → o ≡ Less
-less_is Less e = refl
-less_is Equal e = absurd (both_ways false refl e)
-less_is Greater e = absurd (both_ways false refl e)
 
 older_goes_on : (a b c : Birth) → is_older a b ≡ true → is_older b c ≡ true → is_older a c ≡ true
 older_goes_on a b c e f = ap is_lt (birth_order.trans a b c (less_is _ e) (less_is _ f))

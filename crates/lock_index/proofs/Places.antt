@@ -1,5 +1,5 @@
 -- Where an element is put into a list that is in order.
-use Rattle.std.proofs.Common.{◌≡◌, refl, sym, ap, ◌∙◌, ℕ, zero, suc, ◌+◌, ◌<◌, length, cond, true, false, Bool, not, List, [], ◌∷◌, ◌++◌, get_or, set, Some, None, subst, arith}
+use Rattle.std.proofs.Common.{◌≡◌, refl, sym, ap, ◌∙◌, ℕ, zero, suc, ◌+◌, ◌<◌, cond, true, false, Bool, not, List, [], ◌∷◌, ◌++◌, get_or, set, Some, None, subst, arith}
 use Rattle.std.specs.List.{position, position_from, insert}
 use Rattle.std.proofs.lemmas.Iterator.Adapters.{position_from-zero}
 use Rattle.std.specs.declared.cmp.Ordering.{Ordering}
@@ -81,12 +81,6 @@ module _ (h : Holder) where
   take_here-put [] = refl
   take_here-put (x ∷ xs) = ap (λ l. match_ordering (side_of x) (h ∷ x ∷ xs) (merged x ∷ xs) (x ∷ l)) (take_here-put xs)
 
--- an element that is there is its own default
-pub own_default : {X : Type 0} (xs : List X) (i : ℕ) (d : X) → i < length xs → get_or xs i d ≡ get_or xs i (get_or xs i d)
-own_default [] i d l = absurd (omega arith)
-own_default (x ∷ xs) zero d l = refl
-own_default (x ∷ xs) (suc i) d l = own_default xs i d (omega arith)
-
 -- to insert a transaction is to put it
 module _ (tx : TxId) where
   abbrev pub tx_side : TxId → Ordering
@@ -95,9 +89,3 @@ module _ (tx : TxId) where
   pub tx_insert-put : (txs : List TxId) → tx_insert tx txs ≡ put tx_side tx (λ x. x) txs
   tx_insert-put [] = refl
   tx_insert-put (x ∷ xs) = ap (λ l. match_ordering (tx_side x) (tx ∷ x ∷ xs) (x ∷ xs) (x ∷ l)) (tx_insert-put xs)
-
--- an element that stands at its place already stays
-pub set_same : {X : Type 0} (xs : List X) (j : ℕ) (x : X) → x ≡ get_or xs j x → set xs j x ≡ xs
-set_same [] j x e = refl
-set_same (z ∷ zs) zero x e = ap (λ l. l ∷ zs) e
-set_same (z ∷ zs) (suc j) x e = ap (λ l. z ∷ l) (set_same zs j x e)

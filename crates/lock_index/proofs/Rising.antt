@@ -12,9 +12,9 @@ use Rattle.clv_base.specs.declared.modes.Need.{Need}
 use Rattle.clv_base.specs.declared.modes.Holder.{Holder}
 use Rattle.clv_base.specs.Orders.{tx_cmp, anchor_cmp}
 use Rattle.clv_base.specs.Locks.{Locks, row_cmp, with_mode, take_one, take_all, holder_of}
-use Rattle.lock_index.proofs.Names.{anchor_true}
 use Rattle.lock_index.proofs.Sums.{Row}
 use Rattle.lock_index.proofs.Oldest.{row_order, row_total, Behind, Rising}
+use Rattle.law_base.proofs.LockRows.{anchor_true}
 
 behind_more : (x r : Row) (rs : Locks) → row_order x r ≡ Less → Behind r rs → Behind x rs
 behind_more x r [] e b = tt

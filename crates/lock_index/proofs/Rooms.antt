@@ -10,6 +10,7 @@ use Rattle.lock_table.specs.Rows.{anchors_of}
 use Rattle.lock_index.specs.Keys.{anchor_of}
 use Rattle.lock_index.specs.Rows.{Entries, spare_on}
 use Rattle.lock_index.specs.Kept.{spares, spare_at, room_at}
+use Rattle.law_base.proofs.Numbers.{under_min as under_least}
 
 pub spare_same : (a : Anchor) (es : Entries) → spare_at a (spares es) ≡ spare_on a es
 spare_same a [] = refl
@@ -28,9 +29,6 @@ pub room_falls : (d k l : ℕ) (es fs : Entries) → k ≤ l + d → ((a : Ancho
 room_falls d k l es fs p q [] = p
 room_falls d k l es fs p q (a ∷ rest) = let here : spare_at a (spares es) ≤ spare_at a (spares fs) + d = (let e = spare_same a es in let f = spare_same a fs in let r = q a in omega arith) in
     least_kept (spare_at a (spares es)) (spare_at a (spares fs)) (room_at k (spares es) rest) (room_at l (spares fs) rest) d here (room_falls d k l es fs p q rest)
-
-under_least : (c k m : ℕ) → c ≤ k → c ≤ m → c ≤ min k m
-under_least c k m p q = omega (arith, p, q)
 
 pub of_least : (c k m : ℕ) → c ≤ min k m → (c ≤ k) × (c ≤ m)
 of_least c k m p = (omega (arith, p), omega (arith, p))

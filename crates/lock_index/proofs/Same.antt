@@ -18,10 +18,10 @@ use Rattle.lock_index.specs.contracts.key.KeyPartialEq.TheImpl.{eq-value}
 use Rattle.lock_index.specs.Keys.{key_of, anchor_of}
 use Rattle.lock_index.specs.Groups.{Groups, rows_on, rows_in, rows_of, by_anchor, group_at, NoneAt, Apart}
 use Rattle.lock_index.specs.Rows.{Entries, groups, spare_on}
-use Rattle.lock_index.proofs.Names.{anchor_true, anchor_self}
 use Rattle.lock_index.proofs.Firsts.{same_key, found_group, found_same}
 use Rattle.lock_index.proofs.Grouped.{no_group, at_by}
 use Rattle.lock_index.proofs.GroupWrites.{Above, Rise, above_less, above_none, anchor_back, rise_by}
+use Rattle.law_base.proofs.LockRows.{anchor_true, anchor_self}
 
 abbrev Alike : Groups → Groups → Type 0
 Alike gs hs = (a : Anchor) → group_at a gs ≡ group_at a hs

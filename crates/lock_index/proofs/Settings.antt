@@ -13,8 +13,8 @@ use Rattle.lock_index.specs.Keys.{key_of, anchor_of}
 use Rattle.lock_index.specs.Groups.{Groups, NoneAt, Apart}
 use Rattle.lock_index.specs.Rows.{Entries, groups, spare_on}
 use Rattle.lock_index.specs.Writes.{with_each, there}
-use Rattle.lock_index.proofs.Names.{anchor_true}
 use Rattle.lock_index.proofs.Firsts.{same_key, found_same}
+use Rattle.law_base.proofs.LockRows.{anchor_true}
 
 -- a change on an anchor that no group has
 pub none_changed : (a : Anchor) (f : List Holder → List Holder) (gs : Groups) → NoneAt a gs → with_each (there a f) gs ≡ gs

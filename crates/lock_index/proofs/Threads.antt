@@ -7,7 +7,7 @@ use Rattle.clv_base.specs.declared.modes.Anchor.{Anchor}
 use Rattle.clv_base.specs.Orders.{tx_same, anchor_same}
 use Rattle.clv_base.proofs.SameNames.{tx_true, tx_self}
 use Rattle.lock_index.specs.Links.{Nexts, first, has, Path, Among, AllApart, Thread, TakesOut, same_place}
-use Rattle.lock_index.proofs.Names.{anchor_true, anchor_self}
+use Rattle.law_base.proofs.LockRows.{anchor_true, anchor_self}
 
 and_no : (b : Bool) → (b && false) ≡ false
 and_no true = refl

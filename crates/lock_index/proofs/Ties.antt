@@ -3,35 +3,18 @@ use Rattle.std.proofs.Common.{◌≡◌, ⊎_elim, refl, sym, ap, ◌∙◌, sub
 use Rattle.std.proofs.lemmas.Bool.{cases_Bool, both_ways, and_parts, and_from}
 use Rattle.std.specs.declared.cmp.Ordering.{Ordering}
 use Rattle.std.specs.declared.cmp.Ordering.TheVariants.{Less, Equal, Greater}
-use Rattle.std.specs.Ordering.{match_ordering, ordering_then, is_eq}
+use Rattle.std.specs.Ordering.{match_ordering}
 use Rattle.clv_base.specs.declared.names.TxId.{TxId}
 use Rattle.clv_base.specs.declared.modes.Anchor.{Anchor}
 use Rattle.clv_base.specs.declared.modes.Holder.{Holder}
 use Rattle.clv_base.specs.Orders.{tx_cmp, tx_same, tx_in, anchor_cmp, anchor_same}
 use Rattle.clv_base.specs.Locks.{Locks, row_cmp, with_mode, take_one, close_locks, release}
-use Rattle.clv_base.proofs.SameNames.{tx_true, tx_self}
+use Rattle.clv_base.proofs.SameNames.{tx_true}
 use Rattle.lock_table.specs.Rows.{is_lock_of, has_lock_on, without_lock, GivesUpOne}
-use Rattle.lock_index.proofs.Names.{anchor_true, anchor_self}
-
-then_both : (o p : Ordering) → ordering_then o p ≡ Equal → (is_eq o ≡ true) × (is_eq p ≡ true)
-then_both Less p e = absurd cc
-then_both Equal p e = (refl, ap is_eq e)
-then_both Greater p e = absurd cc
-
-or_twice : (x y : Bool) → (x || y) ≡ (x || (x || y))
-or_twice true y = refl
-or_twice false y = refl
-
-or_swap : (x y z : Bool) → (x || (y || z)) ≡ (y || (x || z))
-or_swap true true z = refl
-or_swap true false z = refl
-or_swap false y z = refl
-
-flip_and : (x y : Bool) → (x && y) ≡ (y && x)
-flip_and true true = refl
-flip_and true false = refl
-flip_and false true = refl
-flip_and false false = refl
+use Rattle.law_base.proofs.LockRows.{anchor_true, anchor_self}
+use Rattle.law_base.proofs.Bools.{or_swap, or_twice}
+use Rattle.law_base.proofs.Tables.{then_same as then_both}
+use Rattle.law_base.proofs.Sets.{same_flip as tx_turn}
 
 -- equality of names, the other way round
 anchor_turn : (a b : Anchor) → anchor_same a b ≡ anchor_same b a
@@ -41,15 +24,6 @@ anchor_turn a b = go (anchor_same a b) (anchor_same b a) refl refl
     go true true e f = refl
     go true false e f = absurd (both_ways (anchor_same b a) f (subst (λ c. anchor_same b c ≡ true) (sym (anchor_true a b e)) (anchor_self b)))
     go false true e f = absurd (both_ways (anchor_same a b) e (subst (λ c. anchor_same a c ≡ true) (sym (anchor_true b a f)) (anchor_self a)))
-    go false false e f = refl
-
-tx_turn : (t u : TxId) → tx_same t u ≡ tx_same u t
-tx_turn t u = go (tx_same t u) (tx_same u t) refl refl
-  where
-    go : (x y : Bool) → tx_same t u ≡ x → tx_same u t ≡ y → x ≡ y
-    go true true e f = refl
-    go true false e f = absurd (both_ways (tx_same u t) f (subst (λ c. tx_same u c ≡ true) (sym (tx_true t u e)) (tx_self u)))
-    go false true e f = absurd (both_ways (tx_same t u) e (subst (λ c. tx_same t c ≡ true) (sym (tx_true u t f)) (tx_self t)))
     go false false e f = refl
 
 module _ (a : Anchor) (h : Holder) (t : TxId) (b : Anchor) where

@@ -14,6 +14,9 @@ use Rattle.clv_base.proofs.SameNames.{or_left, or_right, nat_cmp_true, nat_cmp_s
 use Rattle.lock_table.specs.Rows.{is_lock_of, without_lock}
 use Rattle.ordered_store.proofs.Laws.{Above, Rises}
 use Rattle.lock_release.specs.Ghosts.{GhostsAreLocked, is_ghost, without_ghost_on}
+use Rattle.law_base.proofs.Lists.{all_of, all_mono as all_weaker}
+use Rattle.law_base.proofs.LockRows.{anchor_true}
+use Rattle.law_base.proofs.Names.{held_on}
 
 -- ---- filters
 
@@ -58,14 +61,7 @@ module _ {A : Type 0} where
       go true e more = ⊎_elim (λ h. or_left _ _ h) (λ h. or_right (p x) _ (more h)) (or_cases (p x) (list_any p (filter q xs)) e)
       go false e more = or_right (p x) _ (more e)
 
-all_weaker : {A : Type 0} (P Q : A → Type 0) → ((x : A) → P x → Q x) → (xs : List A) → AllByRecursion P xs → AllByRecursion Q xs
-all_weaker P Q h [] a = tt
-all_weaker P Q h (x ∷ xs) a = (h x a.0, all_weaker P Q h xs a.1)
-
 -- ---- fewer locks
-
-abbrev held_on : Anchor → Locks → Bool
-held_on a locks = list_any (λ r. anchor_same a r.0) locks
 
 stays_by : (few locks : Locks) → ((a : Anchor) → held_on a few ≡ true → held_on a locks ≡ true) → (k : ℕ) (v : Option ℕ) → is_locked_or_live few (k, v) ≡ true → is_locked_or_live locks (k, v) ≡ true
 stays_by few locks h k (Some v) e = refl
@@ -93,12 +89,6 @@ pub purged_are_locked : (locks : Locks) (rs : Records) → GhostsAreLocked locks
 purged_are_locked locks rs = filter_stricter (is_locked_or_live locks) (is_locked_or_live locks) (λ r e. e) rs
 
 -- ---- one lock less
-
-pub anchor_true : (a b : Anchor) → anchor_same a b ≡ true → a ≡ b
-anchor_true Low Low e = refl
-anchor_true Low (At k) e = absurd (both_ways false refl e)
-anchor_true (At j) Low e = absurd (both_ways false refl e)
-anchor_true (At j) (At k) e = ap At (nat_cmp_true j k e)
 
 -- locks on another anchor stay
 other_held : (tx : TxId) (a b : Anchor) (locks : Locks) → anchor_same a b ≡ false → held_on b locks ≡ true → held_on b (without_lock tx a locks) ≡ true
@@ -152,10 +142,6 @@ found_each k (r ∷ rs) h = (
     both : (P Q R : ℕ × Option ℕ → Type 0) → ((x : ℕ × Option ℕ) → P x → Q x → R x) → (xs : Records) → AllByRecursion P xs → AllByRecursion Q xs → AllByRecursion R xs
     both P Q R g [] a b = tt
     both P Q R g (x ∷ xs) a b = (g x a.0 b.0, both P Q R g xs a.1 b.1)
-
-all_of : {A : Type 0} (P : A → Type 0) → ((x : A) → P x) → (xs : List A) → AllByRecursion P xs
-all_of P h [] = tt
-all_of P h (x ∷ xs) = (h x, all_of P h xs)
 
 -- whether a record stays, where the ghost on the anchor goes if it bears no lock
 abbrev stays : Anchor → Locks → ℕ × Option ℕ → Bool

@@ -1,11 +1,12 @@
 -- Calls that leave no choice have one answer over the same rows.
-use Rattle.std.proofs.Common.{◌≡◌, sym, ap, ◌∙◌, subst, true, false, Bool, ◌||◌, [], ◌∷◌}
+use Rattle.std.proofs.Common.{◌≡◌, sym, ap, ◌∙◌, subst, true, false, ◌||◌, [], ◌∷◌}
 use Rattle.std.specs.List.{list_any}
 use Rattle.clv_base.specs.Locks.{Locks}
 use Rattle.lock_runs.specs.declared.calls.LockCall.{LockCall}
 use Rattle.lock_runs.specs.declared.calls.LockCall.TheVariants.{Take, SplitGap, ClosePart, Release, ReleaseNext, GapCount, Decide, Violated, IsFree, Holders}
 use Rattle.lock_runs.specs.declared.answers.LockAnswer.{LockAnswer}
 use Rattle.lock_runs.specs.Runs.{Does, Runs, is_choice, TablesAnswerAlike}
+use Rattle.law_base.proofs.Bools.{none_or as neither}
 
 one_answer : (c : LockCall) (a b : LockAnswer) (before after other : Locks) → is_choice c ≡ false → Does c a before after → Does c b before other → (a ≡ b) × (after ≡ other)
 one_answer (Take tx birth needs) a b before after other n r s = (r.0 ∙ sym s.0, r.1 ∙ sym s.1)
@@ -18,11 +19,6 @@ one_answer (Decide tx birth needs) a b before after other n r s = (r.0 ∙ sym s
 one_answer (Violated tx needs) a b before after other n r s = (r.0 ∙ sym s.0, r.1 ∙ sym s.1)
 one_answer (IsFree anchor) a b before after other n r s = (r.0 ∙ sym s.0, r.1 ∙ sym s.1)
 one_answer (Holders anchor) a b before after other n r s = (r.0 ∙ sym s.0, r.1 ∙ sym s.1)
-
-neither : (a b : Bool) → (a || b) ≡ false → (a ≡ false) × (b ≡ false)
-neither true b e = absurd cc
-neither false true e = absurd cc
-neither false false e = (e, e)
 
 pub alike : TablesAnswerAlike
 alike [] told heard before after other n r s = (r.0 ∙ sym s.0, r.1 ∙ sym s.1)

@@ -7,16 +7,11 @@ use Rattle.std.proofs.lemmas.List.Folds.{list_any-from_Any}
 use Rattle.std.proofs.lemmas.List.Quantifiers.{position-Some}
 use Rattle.clv_base.specs.declared.names.TxId.{TxId}
 use Rattle.clv_base.specs.declared.modes.Anchor.{Anchor}
-use Rattle.clv_base.specs.declared.modes.Anchor.TheVariants.{Low, At}
 use Rattle.clv_base.specs.declared.modes.Holder.{Holder}
 use Rattle.clv_base.specs.Orders.{tx_same, anchor_same}
 use Rattle.clv_base.specs.Locks.{Locks, release}
-use Rattle.clv_base.proofs.SameNames.{nat_cmp_self}
 use Rattle.lock_table.specs.Rows.{is_lock_of, has_lock_on}
-
-anchor_self : (a : Anchor) → anchor_same a a ≡ true
-anchor_self Low = refl
-anchor_self (At k) = nat_cmp_self k
+use Rattle.law_base.proofs.LockRows.{anchor_self}
 
 -- whether a row is of the transaction
 abbrev pub is_of : TxId → Anchor × Holder → Bool

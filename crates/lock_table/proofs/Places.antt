@@ -89,9 +89,3 @@ module _ (tx : TxId) where
   pub tx_insert-put : (txs : List TxId) → tx_insert tx txs ≡ put tx_side tx (λ x. x) txs
   tx_insert-put [] = refl
   tx_insert-put (x ∷ xs) = ap (λ l. match_ordering (tx_side x) (tx ∷ x ∷ xs) (x ∷ xs) (x ∷ l)) (tx_insert-put xs)
-
--- an element that stands at its place already stays
-pub set_same : {X : Type 0} (xs : List X) (j : ℕ) (x : X) → x ≡ get_or xs j x → set xs j x ≡ xs
-set_same [] j x e = refl
-set_same (z ∷ zs) zero x e = ap (λ l. l ∷ zs) e
-set_same (z ∷ zs) (suc j) x e = ap (λ l. z ∷ l) (set_same zs j x e)

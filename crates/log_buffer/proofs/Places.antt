@@ -63,11 +63,3 @@ count-snoc f (y ∷ ys) x = more (f y) (count-snoc f ys x)
 pub none_counted : {A : Type 0} (f : A → Bool) (xs : List A) → list_any f xs ≡ false → length (filter f xs) ≡ 0
 none_counted f [] e = refl
 none_counted f (x ∷ xs) e = let p = or_parts (f x) (list_any f xs) e in ap (λ b. length (cond b (x ∷ filter f xs) (filter f xs))) p.0 ∙ none_counted f xs p.1
-
-pub filter-few : {A : Type 0} (f : A → Bool) (xs : List A) → length (filter f xs) ≤ length xs
-filter-few f [] = omega arith
-filter-few f (x ∷ xs) = more (f x) (filter-few f xs)
-  where
-    more : (b : Bool) → length (filter f xs) ≤ length xs → length (cond b (x ∷ filter f xs) (filter f xs)) ≤ length (x ∷ xs)
-    more true h = omega (arith, h)
-    more false h = omega (arith, h)

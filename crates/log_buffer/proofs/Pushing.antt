@@ -5,7 +5,6 @@ use Rattle.std.specs.List.{list_any}
 use Rattle.clv_base.specs.declared.names.TxId.{TxId}
 use Rattle.clv_base.specs.Orders.{tx_same, tx_get}
 use Rattle.clv_base.proofs.SameNames.{tx_true}
-use Rattle.tx_table.proofs.Laws.Names.{tx_symmetric}
 use Rattle.log_buffer.specs.declared.measured.Link.{Link}
 use Rattle.log_buffer.specs.declared.measured.Link.TheVariants.{Writes, Undoes, Neither}
 use Rattle.log_buffer.specs.declared.chain.Chain.{Chain}
@@ -13,7 +12,10 @@ use Rattle.log_buffer.specs.declared.chain.Written.{Written}
 use Rattle.log_buffer.specs.Links.{is_write_of}
 use Rattle.log_buffer.specs.Chains.{first, others, places_after, places, write_count}
 use Rattle.log_buffer.specs.Chained.{IsChainOf, Linked, written_in, newest_by, count_by}
-use Rattle.log_buffer.proofs.Places.{places-snoc, any-snoc, count-snoc, filter-few, none_written, none_counted}
+use Rattle.log_buffer.proofs.Places.{places-snoc, any-snoc, count-snoc, none_written, none_counted}
+use Rattle.law_base.proofs.Sets.{same_flip as tx_symmetric}
+use Rattle.law_base.proofs.Lists.{filter-few}
+use Rattle.law_base.proofs.Bools.{or_none}
 
 get_left : (xs : List (Option ℕ)) (y : Option ℕ) (k : ℕ) → k < length xs → get_or (xs ++ y ∷ []) k None ≡ get_or xs k None
 get_left [] y k l = absurd (omega arith)
@@ -76,10 +78,6 @@ written_in-snoc t links l =
     ap (λ b. told_row b (places t (links ++ l ∷ [])) (write_count t (links ++ l ∷ []))) (any-snoc (is_write_of t) links l)
     ∙ (ap (λ ps. told_row (list_any (is_write_of t) links || is_write_of t l) ps (write_count t (links ++ l ∷ []))) (places-snoc t links l)
     ∙ ap (told_row (list_any (is_write_of t) links || is_write_of t l) (places_after t (length links) l (places t links))) (count-snoc (is_write_of t) links l))
-
-or_none : (b : Bool) → (b || false) ≡ b
-or_none true = refl
-or_none false = refl
 
 no_more : (n : ℕ) → n + 0 ≡ n
 no_more n = omega arith

@@ -7,8 +7,9 @@ use Rattle.clv_base.specs.Orders.{tx_same}
 use Rattle.clv_base.specs.Logs.{StandingUpdate, newest_at}
 use Rattle.clv_base.specs.LogRules.{has_above, writes_below}
 use Rattle.clv_base.proofs.SameNames.{tx_true}
-use Rattle.log_facts.proofs.Laws.Pushes.{Falls}
-use Rattle.log_facts.proofs.Laws.Bools.{both, and_first, and_second, all_same, all_weaker, all_filter, all_both, all_true}
+use Rattle.log_facts.proofs.Laws.Bools.{and_first, and_second, all_same, all_weaker, all_filter, all_both, all_true}
+use Rattle.law_base.proofs.Names.{Falls}
+use Rattle.law_base.proofs.Bools.{by_bool as both, and_no, or_yes, was_true as own_true}
 
 -- of these writes, those of others at the key pass
 abbrev pub others_pass : (TxId → Bool) → ℕ → TxId → List StandingUpdate → Bool
@@ -20,10 +21,6 @@ each_passes p tx [] = true
 each_passes p tx (w ∷ ws) = (not (tx_same tx w.tx) || others_pass p w.key tx ws) && each_passes p tx ws
 
 -- ---- as the rules say it
-
-and_no : (a : Bool) → a && false ≡ false
-and_no true = refl
-and_no false = refl
 
 -- no write is above one that comes after all of them
 none_above : (tx : TxId) (u : StandingUpdate) (n : ℕ) (ws : List StandingUpdate) → n ≤ suc u.lsn → Falls n ws → has_above tx u ws ≡ false
@@ -101,14 +98,6 @@ is_others tx (Some w) = not (tx_same tx w.tx)
 abbrev pub each_passes_once : (TxId → Bool) → TxId → List StandingUpdate → Bool
 each_passes_once p tx [] = true
 each_passes_once p tx (w ∷ ws) = (not (tx_same tx w.tx) || (not (is_others tx (newest_at w.key ws)) || others_pass p w.key tx ws)) && each_passes_once p tx ws
-
-own_true : (t : Bool) → not t ≡ false → t ≡ true
-own_true true e = refl
-own_true false e = absurd cc
-
-or_yes : (a : Bool) → a || true ≡ true
-or_yes true = refl
-or_yes false = refl
 
 module _ (p : TxId → Bool) (tx : TxId) where
   -- below an own write all pass where they do below that one

@@ -9,10 +9,13 @@ use Rattle.clv_base.specs.Orders.{tx_same, tx_in, tx_insert}
 use Rattle.clv_base.specs.Logs.{StandingUpdate, is_prepare_of, committed_in, prepared_in, aborted_in, prepare_of, standing, newest_of, doubt_by, in_doubt_from, in_doubt, is_winner}
 use Rattle.clv_base.specs.LogRules.{listed_in}
 use Rattle.clv_base.proofs.SameNames.{tx_true, tx_self, in_insert, insert_keeps, insert_has}
-use Rattle.log_facts.proofs.Laws.Bools.{both, and_first, and_second, and_both, not_true, same_truth}
+use Rattle.log_facts.proofs.Laws.Bools.{and_first, and_second, and_both}
 use Rattle.log_facts.proofs.Laws.Pushes.{any_push}
 use Rattle.log_disorder.specs.Rules.{is_empty}
-use Rattle.log_disorder.proofs.Laws.{EachPrepare, ListsEarlier, Sound, no_prepare}
+use Rattle.log_disorder.proofs.Laws.{EachPrepare, ListsEarlier, Sound}
+use Rattle.law_base.proofs.Bools.{by_bool as both, not_true, same_truth}
+use Rattle.law_base.proofs.Logs.{no_prepare}
+use Rattle.law_base.proofs.Names.{all_from as all_of}
 
 -- prepared for another home
 abbrev pub is_elsewhere : ℕ → Option (ℕ × List TxId) → Bool
@@ -39,10 +42,6 @@ each_writer q [] all t e = absurd (both_ways _ refl e)
 each_writer q (w ∷ ws) all t e =
     both (λ b. tx_same t w.tx ≡ b → is_some (cond b (Some w) (newest_of t ws)) ≡ true → q t ≡ true) (tx_same t w.tx)
     (λ _ own _. ap q (tx_true t w.tx own) ∙ and_first (q w.tx) (list_all (λ v. q v.tx) ws) all) (λ _ other h. each_writer q ws (and_second (q w.tx) (list_all (λ v. q v.tx) ws) all) t h) refl e
-
-all_of : (p : TxId → Bool) (xs : List TxId) → ((x : TxId) → tx_in x xs ≡ true → p x ≡ true) → list_all p xs ≡ true
-all_of p [] each = refl
-all_of p (x ∷ xs) each = and_both (p x) (list_all p xs) (each x (ap (λ b. b || tx_in x xs) (tx_self x))) (all_of p xs (λ y e. each y (or_right (tx_same x y) (tx_in y xs) e)))
 
 of_all : (p : TxId → Bool) (xs : List TxId) → list_all p xs ≡ true → (x : TxId) → tx_in x xs ≡ true → p x ≡ true
 of_all p [] all x e = absurd (both_ways _ refl e)

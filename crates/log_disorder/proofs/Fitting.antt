@@ -8,9 +8,8 @@ use Rattle.clv_base.specs.Orders.{tx_same, tx_in}
 use Rattle.clv_base.specs.Logs.{StandingUpdate, is_update_of, is_prepare_of, is_commit_of, wrote_in, committed_in, prepared_in, aborted_in, ended_in, prepare_of, commit_parts, standing, newest_at, newest_of, without_newest, value_in}
 use Rattle.clv_base.specs.LogRules.{same_option, some_parts, last_restart, above_restarts, before_restart, since_restart, in_last_run, may_cover, may_follow, writes_below, listed_in, commit_by_prepare, compensates}
 use Rattle.log_facts.specs.Lists.{home_at, listed_at, parts_at}
-use Rattle.log_facts.proofs.Laws.Bools.{both, all_same}
-use Rattle.log_facts.proofs.Laws.Places.{is_some_place, home_in, home_is, listed_is, parts_is}
-use Rattle.log_facts.proofs.Laws.Pushes.{or_false}
+use Rattle.log_facts.proofs.Laws.Bools.{all_same}
+use Rattle.log_facts.proofs.Laws.Places.{home_in, home_is, listed_is, parts_is}
 use Rattle.log_disorder.specs.declared.index.Index.{Index}
 use Rattle.log_disorder.specs.Writes.{Write, write_at, top_at, newest_by}
 use Rattle.log_disorder.specs.Rules.{is_last_run, is_before, is_since, value_of, facts_in, has_commit, has_no_fate, may_be_covered, may_be_listed, all_clear, home_allows, is_at, compensates_write, restart_fits, update_fits, prepare_fits, commit_fits, abort_fits, clr_fits, end_fits, fits}
@@ -19,6 +18,8 @@ use Rattle.log_disorder.proofs.IndexOf.{IsIndexOf}
 use Rattle.log_disorder.proofs.Laws.{Sound}
 use Rattle.log_disorder.proofs.Links.{lsn_of, link_of, link_at, link_newest, at_top, at_newest, falls_length, earlier_is_left, earlier_of}
 use Rattle.log_disorder.proofs.Walks.{all_clear_is}
+use Rattle.law_base.proofs.Bools.{by_bool as both, or_false}
+use Rattle.law_base.proofs.Logs.{place_is as is_some_place}
 
 and_assoc : (a b c : Bool) → a && (b && c) ≡ (a && b) && c
 and_assoc true b c = refl

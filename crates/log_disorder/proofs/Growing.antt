@@ -9,12 +9,13 @@ use Rattle.clv_base.specs.declared.logs.LogRecord.TheVariants.{Restart}
 use Rattle.clv_base.specs.Logs.{is_update_of, wrote_in}
 use Rattle.clv_base.specs.LogRules.{before_restart, since_restart}
 use Rattle.log_facts.specs.Facts.{first_place, last_place_from, first_update_lsn, last_update_lsn}
-use Rattle.log_facts.proofs.Laws.Bools.{both}
 use Rattle.log_facts.proofs.Laws.Growing.{place_push, last_place_push}
-use Rattle.log_facts.proofs.Laws.Places.{is_some_place, place_within}
-use Rattle.log_facts.proofs.Laws.Pushes.{or_false, any_push, before_restart_push, before_restart_other}
+use Rattle.log_facts.proofs.Laws.Pushes.{any_push, before_restart_push, before_restart_other}
 use Rattle.log_disorder.specs.Rules.{is_before, is_since}
 use Rattle.log_disorder.proofs.IndexOf.{SplitsAt}
+use Rattle.law_base.proofs.Bools.{by_bool as both, or_false}
+use Rattle.law_base.proofs.Logs.{place_is as is_some_place}
+use Rattle.law_base.proofs.Commits.{place_less as place_within}
 
 -- ---- where the last RESTART stands
 

@@ -8,10 +8,11 @@ use Rattle.clv_base.specs.declared.logs.LogRecord.TheVariants.{Prepare, Abort}
 use Rattle.clv_base.specs.Orders.{tx_same, tx_in}
 use Rattle.clv_base.specs.Logs.{is_commit_of, is_prepare_of, is_abort_of, committed_in, prepared_in, aborted_in, prepare_of, standing, newest_of}
 use Rattle.clv_base.specs.LogRules.{listed_in}
-use Rattle.log_facts.proofs.Laws.Bools.{both}
 use Rattle.log_facts.proofs.Laws.Pushes.{any_push}
 use Rattle.log_disorder.proofs.Doubt.{is_elsewhere, is_held, bars}
-use Rattle.log_disorder.proofs.Laws.{any_other, no_prepare, prepare_new}
+use Rattle.log_disorder.proofs.Laws.{any_other, prepare_new}
+use Rattle.law_base.proofs.Bools.{by_bool as both}
+use Rattle.law_base.proofs.Logs.{no_prepare}
 
 pub eq_flip : (a b : ℕ) → (a == b) ≡ (b == a)
 eq_flip a b =

@@ -11,9 +11,8 @@ use Rattle.clv_base.specs.Logs.{StandingUpdate, is_commit_of, is_abort_of, commi
 use Rattle.clv_base.specs.LogRules.{last_restart, above_restarts, before_restart, since_restart, listed_in, may_follow, compensates}
 use Rattle.clv_base.proofs.SameNames.{tx_true, tx_self, tx_flip}
 use Rattle.log_facts.specs.Facts.{Knows}
-use Rattle.log_facts.proofs.Laws.Names.{tx_symmetric}
-use Rattle.log_facts.proofs.Laws.Bools.{both, and_first, and_second, not_true}
-use Rattle.log_facts.proofs.Laws.Pushes.{or_false, and_true, any_push, last_restart_push, last_restart_other, above_push, standing_push}
+use Rattle.log_facts.proofs.Laws.Bools.{and_first, and_second}
+use Rattle.log_facts.proofs.Laws.Pushes.{and_true, any_push, last_restart_other, above_push}
 use Rattle.log_disorder.specs.declared.index.Index.{Index}
 use Rattle.log_disorder.specs.Writes.{Write, write_at, top_at, newest_by, Pushes, Pops}
 use Rattle.log_disorder.specs.Listers.{Descends, last_of, listers_from, listers_in}
@@ -25,18 +24,13 @@ use Rattle.log_disorder.proofs.Growing.{splits_restart, splits_other}
 use Rattle.log_disorder.proofs.Held.{eq_flip, listed_other, held_other, bars_other, unprepared_unheld, held_now, held_after, aborted_unheld}
 use Rattle.log_disorder.proofs.IndexOf.{IsIndexOf}
 use Rattle.log_disorder.proofs.RuleParts.{update_rule, prepare_rule, abort_rule, clr_rule}
-use Rattle.log_disorder.proofs.Laws.{Sound, any_other, no_prepare, prepare_new, wrote_since}
+use Rattle.log_disorder.proofs.Laws.{Sound, any_other, prepare_new, wrote_since}
 use Rattle.log_disorder.proofs.Links.{Linked, lsn_of, link_of, link_newest, linked_is, linked_stay, linked_without, at_newest, same_lsn, IsTop, at_other, of_other, below_of, earlier_of, below_is_left, earlier_is_left}
+use Rattle.law_base.proofs.Sets.{same_flip as tx_symmetric}
+use Rattle.law_base.proofs.Bools.{by_bool as both, not_true, or_false, and_no, or_yes}
+use Rattle.law_base.proofs.Logs.{last_restart_push, standing_push, no_prepare}
 
 -- ---- the RESTARTs so far
-
-or_yes : (a : Bool) → a || true ≡ true
-or_yes true = refl
-or_yes false = refl
-
-and_no : (a : Bool) → a && false ≡ false
-and_no true = refl
-and_no false = refl
 
 later : (a b c d : ℕ) → nat_lt a c || ((a == c) && nat_lt b d) ≡ true → (a < c) ⊎ ((a ≡ c) × (b < d))
 later a b c d above =

@@ -10,13 +10,15 @@ use Rattle.clv_base.specs.Orders.{tx_same}
 use Rattle.clv_base.specs.Logs.{StandingUpdate, is_update_of, is_commit_of, is_prepare_of, is_abort_of, wrote_in, committed_in, prepared_in, aborted_in, prepare_of, standing, standing_after, newest_of, without_newest}
 use Rattle.clv_base.specs.LogRules.{since_restart, may_follow}
 use Rattle.clv_base.proofs.SameNames.{tx_true, tx_self}
-use Rattle.log_facts.proofs.Laws.Names.{tx_symmetric}
-use Rattle.log_facts.proofs.Laws.Bools.{both, and_first, and_second, and_both, all_weaker}
-use Rattle.log_facts.proofs.Laws.Pushes.{Falls}
-use Rattle.log_facts.proofs.Laws.Pushes.{or_false, any_push, standing_push}
+use Rattle.log_facts.proofs.Laws.Bools.{and_first, and_second, and_both, all_weaker}
+use Rattle.log_facts.proofs.Laws.Pushes.{any_push}
 use Rattle.log_disorder.proofs.Below.{Sinks, each_passes, below_is, others_pass}
 use Rattle.log_disorder.proofs.RuleParts.{update_rule, prepare_rule, commit_rule, abort_rule, clr_rule}
 use Rattle.log_disorder.proofs.Links.{falls_weaker, falls_without, of_other}
+use Rattle.law_base.proofs.Sets.{same_flip as tx_symmetric}
+use Rattle.law_base.proofs.Bools.{by_bool as both, or_false, or_assoc}
+use Rattle.law_base.proofs.Names.{Falls}
+use Rattle.law_base.proofs.Logs.{standing_push, push_left as any_more, no_prepare}
 
 -- so it is of each PREPARE
 abbrev pub EachPrepare : (TxId → ℕ → List TxId → Type 0) → List LogRecord → Type 0
@@ -47,9 +49,6 @@ pub record Sound (log : List LogRecord) : Type 0 where
 
 pub any_other : (test : LogRecord → Bool) (log : List LogRecord) (r : LogRecord) → test r ≡ false → list_any test (log ++ r ∷ []) ≡ list_any test log
 any_other test log r other = any_push test log r ∙ ap (λ b. list_any test log || b) other ∙ or_false (list_any test log)
-
-any_more : (test : LogRecord → Bool) (log : List LogRecord) (r : LogRecord) → list_any test log ≡ true → list_any test (log ++ r ∷ []) ≡ true
-any_more test log r some = any_push test log r ∙ ap (λ b. b || test r) some
 
 any_less : (test : LogRecord → Bool) (log : List LogRecord) (r : LogRecord) → list_any test (log ++ r ∷ []) ≡ false → list_any test log ≡ false
 any_less test log r none = (or_parts (list_any test log) (test r) (sym (any_push test log r) ∙ none)).0
@@ -84,10 +83,6 @@ turned false true true e = refl
 turned false true false e = refl
 turned false false true e = refl
 turned false false false e = absurd cc
-
-or_assoc : (a b d : Bool) → (a || b) || d ≡ a || (b || d)
-or_assoc true b d = refl
-or_assoc false b d = refl
 
 -- who wrote since the last RESTART wrote
 pub wrote_since : (so_far log : List LogRecord) (t : TxId) → wrote_in (since_restart so_far log) t ≡ true → wrote_in so_far t || wrote_in log t ≡ true
@@ -127,13 +122,6 @@ prepare_new (Prepare tx home listed ∷ rs) r t e =
     let parts = or_parts (tx_same t tx) (prepared_in rs t) e in
     ap (λ b. cond b (Some (home, listed)) (prepare_of (rs ++ r ∷ []) t)) parts.0 ∙ prepare_new rs r t parts.1
 prepare_new (_ ∷ rs) r t e = prepare_new rs r t e
-
-pub no_prepare : (log : List LogRecord) (t : TxId) → prepared_in log t ≡ false → prepare_of log t ≡ None
-no_prepare [] t e = refl
-no_prepare (Prepare tx home listed ∷ rs) t e =
-    let parts = or_parts (tx_same t tx) (prepared_in rs t) e in
-    ap (λ b. cond b (Some (home, listed)) (prepare_of rs t)) parts.0 ∙ no_prepare rs t parts.1
-no_prepare (_ ∷ rs) t e = no_prepare rs t e
 
 -- a transaction is committed whose writes lie above committed ones alone
 sinks_more : (c d : TxId → Bool) (tx : TxId) → ((t : TxId) → d t ≡ c t || tx_same tx t) → (ws : List StandingUpdate) → each_passes c tx ws ≡ true → Sinks c ws → Sinks d ws

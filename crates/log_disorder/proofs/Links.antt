@@ -1,15 +1,16 @@
 -- The UPDATEs that stand, and their links.
-use Rattle.std.proofs.Common.{◌≡◌, ℕ, ◌<◌, ◌≤◌, Bool, true, false, cond, not, ◌&&◌, ◌==◌, List, [], ◌∷◌, length, Option, Some, None, refl, sym, ap, subst, ◌∙◌, eqb-true, eq-eqb, arith}
-use Rattle.std.proofs.lemmas.Bool.{both_ways, ne_eqb}
+use Rattle.std.proofs.Common.{◌≡◌, ℕ, ◌<◌, ◌≤◌, Bool, true, false, cond, not, ◌&&◌, ◌==◌, List, [], ◌∷◌, length, Option, Some, None, refl, sym, ap, subst, ◌∙◌, eqb-true, arith}
+use Rattle.std.proofs.lemmas.Bool.{both_ways}
 use Rattle.clv_base.specs.declared.names.TxId.{TxId}
 use Rattle.clv_base.specs.Orders.{tx_same}
 use Rattle.clv_base.specs.Logs.{StandingUpdate, newest_at, newest_of, without_newest}
 use Rattle.clv_base.proofs.SameNames.{tx_true}
-use Rattle.log_facts.proofs.Laws.Names.{tx_symmetric}
-use Rattle.log_facts.proofs.Laws.Pushes.{Falls}
 use Rattle.log_disorder.specs.Writes.{Write, Writes, write_at, top_at, newest_by, foreign_below, covers_foreign, linked}
-use Rattle.log_facts.proofs.Laws.Bools.{both}
 use Rattle.log_disorder.proofs.Below.{is_others}
+use Rattle.law_base.proofs.Sets.{same_flip as tx_symmetric}
+use Rattle.law_base.proofs.Names.{Falls}
+use Rattle.law_base.proofs.Bools.{by_bool as both}
+use Rattle.law_base.proofs.Numbers.{unequal_flip as key_differs}
 
 -- the newest one at the key that isn't the transaction's
 abbrev pub newest_other : ℕ → TxId → List StandingUpdate → Option StandingUpdate
@@ -153,9 +154,6 @@ of_other tx t (v ∷ vs) other =
     both (λ b. tx_same tx v.tx ≡ b → newest_of t (cond b vs (v ∷ without_newest tx vs)) ≡ cond (tx_same t v.tx) (Some v) (newest_of t vs)) (tx_same tx v.tx)
     (λ _ own. sym (ap (λ b. cond b (Some v) (newest_of t vs)) (ap (tx_same t) (sym (tx_true tx v.tx own)) ∙ tx_symmetric t tx ∙ other)))
     (λ _ past. ap (λ o. cond (tx_same t v.tx) (Some v) o) (of_other tx t vs other)) refl
-
-key_differs : (a b : ℕ) → (a == b) ≡ false → (b == a) ≡ false
-key_differs a b e = ne_eqb b a (λ s. both_ways _ e (eq-eqb a b (sym s)))
 
 -- its links lead to what is left
 pub linked_without : (m : Writes) (tx : TxId) (w : StandingUpdate) (ws : List StandingUpdate) → IsTop tx w ws → Linked m ws → Linked m (without_newest tx ws)

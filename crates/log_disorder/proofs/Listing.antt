@@ -9,6 +9,7 @@ use Rattle.clv_base.specs.declared.names.TxId.{TxId}
 use Rattle.clv_base.specs.Orders.{tx_same, tx_in}
 use Rattle.clv_base.proofs.SameNames.{tx_true}
 use Rattle.log_disorder.specs.Listers.{Lister, Listers, lister_at, last_of, listers_from, listers_in, IsUnder, Descends, ListsOne, ListsAll}
+use Rattle.law_base.proofs.Bools.{or_assoc}
 
 -- ---- the listers so far stay
 
@@ -84,10 +85,6 @@ or_nothing false false = refl
 and_one : (b : Bool) → b ≡ b && true
 and_one true = refl
 and_one false = refl
-
-or_assoc : (a b c : Bool) → (a || b) || c ≡ a || (b || c)
-or_assoc true b c = refl
-or_assoc false b c = refl
 
 module _ (old new : Listers) (tx p : TxId) (d : Descends old) (one : ListsOne old new tx p) where
   longer : length new.all.items ≡ length old.all.items + 1

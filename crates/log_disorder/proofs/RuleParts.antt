@@ -7,7 +7,8 @@ use Rattle.clv_base.specs.declared.logs.LogRecord.TheVariants.{Update, Clr, Prep
 use Rattle.clv_base.specs.Orders.{tx_same}
 use Rattle.clv_base.specs.Logs.{wrote_in, committed_in, prepared_in, aborted_in, standing, newest_of}
 use Rattle.clv_base.specs.LogRules.{since_restart, writes_below, compensates, may_follow}
-use Rattle.log_facts.proofs.Laws.Bools.{and_first, and_second, not_true}
+use Rattle.log_facts.proofs.Laws.Bools.{and_first, and_second}
+use Rattle.law_base.proofs.Bools.{not_true}
 
 pub record UpdateRule (log : List LogRecord) (tx : TxId) : Type 0 where
   pub unprepared : prepared_in log tx ≡ false

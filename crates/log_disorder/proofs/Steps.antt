@@ -6,12 +6,7 @@ use Rattle.log_disorder.specs.declared.index.Index.{Index}
 use Rattle.log_disorder.specs.Writes.{Write, write_at, newest_by}
 use Rattle.log_disorder.specs.Listers.{Lister, lister_at, listers_from}
 use Rattle.log_disorder.specs.Rules.{has_commit, is_own_or_one_of, is_clear, is_clear_under, all_clear_from, all_clear}
-
-left : (n k : ℕ) → k < n → n - k ≡ suc (n - (k + 1))
-left n k lt = omega arith
-
-none_left : (n k : ℕ) → n ≤ k → n - k ≡ 0
-none_left n k le = omega arith
+use Rattle.law_base.proofs.Numbers.{minus_suc as left, minus_none as none_left}
 
 -- ---- down the writes of a key
 

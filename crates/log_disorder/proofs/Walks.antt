@@ -7,14 +7,15 @@ use Rattle.clv_base.specs.Orders.{tx_same, tx_in}
 use Rattle.clv_base.specs.Logs.{StandingUpdate, committed_in, newest_at, newest_of}
 use Rattle.clv_base.specs.LogRules.{writes_below}
 use Rattle.clv_base.proofs.SameNames.{tx_true, tx_self}
-use Rattle.log_facts.proofs.Laws.Names.{tx_symmetric}
-use Rattle.log_facts.proofs.Laws.Bools.{both, all_same}
-use Rattle.log_facts.proofs.Laws.Pushes.{Falls}
+use Rattle.log_facts.proofs.Laws.Bools.{all_same}
 use Rattle.log_disorder.specs.declared.index.Index.{Index}
 use Rattle.log_disorder.specs.Writes.{newest_by}
 use Rattle.log_disorder.specs.Rules.{has_commit, is_own_or_one_of, is_clear, is_clear_under, all_clear_from, all_clear}
 use Rattle.log_disorder.proofs.Below.{others_pass, below_is, is_others, each_passes_once, once_is, Sinks, walk, walk_is}
 use Rattle.log_disorder.proofs.Links.{Linked, lsn_of, newest_other}
+use Rattle.law_base.proofs.Sets.{same_flip as tx_symmetric}
+use Rattle.law_base.proofs.Bools.{by_bool as both}
+use Rattle.law_base.proofs.Names.{Falls}
 
 -- nothing is at no place
 clear_nowhere : (x : Index) (tx : TxId) (listed : List TxId) (n : ℕ) → is_clear x tx listed n None ≡ true

@@ -1,23 +1,21 @@
 -- How long batches are.
-use Rattle.std.proofs.Common.{◌≡◌, refl, ℕ, zero, suc, ◌+◌, ◌-◌, ◌≤◌, ◌<◌, Bool, true, false, nat_lt, List, [], ◌∷◌, length, get_or, take, Option, Some, None, arith, length-append}
-use Rattle.std.proofs.lemmas.Bool.{and_parts, both_ways}
+use Rattle.std.proofs.Common.{◌≡◌, refl, ℕ, zero, suc, ◌+◌, ◌-◌, ◌≤◌, ◌<◌, Bool, true, false, nat_lt, List, [], ◌∷◌, length, get_or, take, arith, length-append}
+use Rattle.std.proofs.lemmas.Bool.{and_parts}
 use Rattle.std.proofs.lemmas.Bool.Decides.{nat_tests}
-use Rattle.std.proofs.lemmas.List.Folds.{list_all_at, length-flat_map-take}
+use Rattle.std.proofs.lemmas.List.Folds.{length-flat_map-take}
 use Rattle.std.specs.List.{list_all}
 use Rattle.clv_base.specs.declared.logs.LogRecord.{LogRecord}
 use Rattle.clv_base.specs.declared.logs.LogRecord.TheVariants.{Update, Clr, Prepare, Commit, Abort, End, Restart}
-use Rattle.clv_base.specs.Logs.{record_size, optional_size, fitting}
+use Rattle.clv_base.specs.Logs.{record_size, fitting}
 use Rattle.clv_base.specs.FileRules.{has_spelling}
 use Rattle.log_records.specs.Spelling.{spelling}
 use Rattle.log_records.specs.Laws.{LengthIsSize}
 use Rattle.log_flush.specs.Batches.{spellings}
+use Rattle.law_base.proofs.Logs.{each_spelled}
+use Rattle.law_base.proofs.Options.{option_small}
 
 pub size_is : LengthIsSize → (r : LogRecord) → has_spelling r ≡ true → length (spelling r) ≡ record_size r
 size_is law r h = law r (spelling r) (record { in_bounds = h; is = refl })
-
-option_small : (v : Option ℕ) → optional_size v ≤ 9
-option_small None = omega arith
-option_small (Some n) = omega arith
 
 -- a record fits a batch
 pub is_small : (r : LogRecord) → has_spelling r ≡ true → record_size r ≤ 1048576
@@ -58,27 +56,11 @@ some_fits room (r ∷ rs) wide h some = by_test (nat_lt room (record_size r)) re
     by_test true e = absurd (grind (arith, nat_tests, e, wide, small))
     by_test false e = omega arith
 
-pub few_fit : (room : ℕ) (rs : List LogRecord) → fitting room rs ≤ length rs
-few_fit room [] = omega arith
-few_fit room (r ∷ rs) = by_test (few_fit (room - record_size r) rs) (nat_lt room (record_size r))
-  where
-    by_test : fitting (room - record_size r) rs ≤ length rs → (b : Bool) → elim b [ true ↦ 0 | false ↦ suc (fitting (room - record_size r) rs) ] ≤ suc (length rs)
-    by_test few true = omega arith
-    by_test few false = omega (arith, few)
-
 -- a batch with a record has bytes
 pub has_bytes : (n : ℕ) (rs : List LogRecord) → 0 < n → 0 < length rs → 0 < length (spellings (take n rs))
 has_bytes zero rs none some = absurd (omega (arith, none))
 has_bytes (suc n) [] some none = absurd (omega (arith, none))
 has_bytes (suc n) (r ∷ rs) some more = omega (arith, length-append (spelling r) (spellings (take n rs)))
-
--- each of them has a spelling, and there is room for it behind those before it
-pub each_spelled : (rs : List LogRecord) (i : ℕ) (d : LogRecord) → list_all has_spelling rs ≡ true → i < length rs → has_spelling (get_or rs i d) ≡ true
-each_spelled rs i d h inside = by_test (has_spelling (get_or rs i d)) refl
-  where
-    by_test : (b : Bool) → has_spelling (get_or rs i d) ≡ b → has_spelling (get_or rs i d) ≡ true
-    by_test true e = e
-    by_test false e = absurd (both_ways (list_all has_spelling rs) (list_all_at has_spelling rs i d inside e) h)
 
 pub spelled_before : LengthIsSize → (rs : List LogRecord) (i : ℕ) (d : LogRecord) → list_all has_spelling rs ≡ true → i < length rs → length (spellings (take i rs)) + record_size (get_or rs i d) ≤ length (spellings rs)
 spelled_before law rs i d h inside =

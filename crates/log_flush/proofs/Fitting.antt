@@ -1,6 +1,5 @@
 -- Fronts and backs of a log whose records have spellings, and the front that fits.
-use Rattle.std.proofs.Common.{◌≡◌, refl, ap, ◌∙◌, subst, ℕ, zero, suc, ◌-◌, ◌≤◌, ◌<◌, Bool, true, false, nat_lt, List, [], ◌∷◌, length, take, drop}
-use Rattle.std.proofs.lemmas.Bool.{and_parts, and_from}
+use Rattle.std.proofs.Common.{◌≡◌, refl, ap, ◌∙◌, subst, ℕ, zero, suc, ◌-◌, ◌≤◌, ◌<◌, Bool, true, false, nat_lt, List, [], ◌∷◌, length, take}
 use Rattle.std.proofs.Math.Seq.{take-length}
 use Rattle.std.specs.List.{list_all}
 use Rattle.clv_base.specs.declared.logs.LogRecord.{LogRecord}
@@ -10,18 +9,6 @@ use Rattle.log_records.specs.Laws.{LengthIsSize}
 use Rattle.log_gate.specs.Image.{IsBatch}
 use Rattle.log_flush.specs.Batches.{spellings}
 use Rattle.log_flush.proofs.BatchBytesSizes.{they_fit, has_bytes}
-
-pub all_dropped : (n : ℕ) (rs : List LogRecord) → list_all has_spelling rs ≡ true → list_all has_spelling (drop n rs) ≡ true
-all_dropped zero rs h = h
-all_dropped (suc n) [] h = h
-all_dropped (suc n) (r ∷ rs) h = all_dropped n rs (and_parts (has_spelling r) (list_all has_spelling rs) h).1
-
-pub all_taken : (n : ℕ) (rs : List LogRecord) → list_all has_spelling rs ≡ true → list_all has_spelling (take n rs) ≡ true
-all_taken zero rs h = refl
-all_taken (suc n) [] h = refl
-all_taken (suc n) (r ∷ rs) h =
-    let parts = and_parts (has_spelling r) (list_all has_spelling rs) h in
-    and_from (has_spelling r) (list_all has_spelling (take n rs)) parts.0 (all_taken n rs parts.1)
 
 -- all of those that fit do
 pub those_fit : (room : ℕ) (rs : List LogRecord) → fitting room (take (fitting room rs) rs) ≡ length (take (fitting room rs) rs)

@@ -1,6 +1,5 @@
 -- The next batch of a buffer whose records have spellings.
-use Rattle.std.proofs.Common.{◌≡◌, refl, ap, sym, ◌∙◌, subst, ℕ, zero, suc, ◌+◌, ◌-◌, ◌≤◌, ◌<◌, Bool, true, false, Option, List, [], ◌∷◌, ◌++◌, length, take, drop, slice_range, arith, length-drop}
-use Rattle.std.proofs.lemmas.Bool.{and_parts, and_from}
+use Rattle.std.proofs.Common.{◌≡◌, refl, ap, sym, ◌∙◌, subst, ℕ, zero, suc, ◌+◌, ◌-◌, ◌≤◌, ◌<◌, Bool, true, false, Option, List, ◌∷◌, ◌++◌, length, take, drop, slice_range, arith, length-drop}
 use Rattle.std.proofs.Math.Seq.{take-add}
 use Rattle.std.specs.List.{list_all}
 use Rattle.clv_base.specs.declared.logs.LogRecord.{LogRecord}
@@ -11,19 +10,8 @@ use Rattle.log_records.specs.Laws.{LengthIsSize}
 use Rattle.log_gate.specs.Image.{SpellAll, IsBatch}
 use Rattle.log_gate.specs.View.{Only, OnlyOrMore}
 use Rattle.log_flush.specs.Flushing.{spellings, batch_from, flown, landed, AtRest, InFlight, ByBatches, another}
-use Rattle.log_flush.proofs.Sizes.{same_count, they_fit, some_fits, few_fit, has_bytes}
-
-pub all_dropped : (n : ℕ) (rs : List LogRecord) → list_all has_spelling rs ≡ true → list_all has_spelling (drop n rs) ≡ true
-all_dropped zero rs h = h
-all_dropped (suc n) [] h = h
-all_dropped (suc n) (r ∷ rs) h = all_dropped n rs (and_parts (has_spelling r) (list_all has_spelling rs) h).1
-
-pub all_taken : (n : ℕ) (rs : List LogRecord) → list_all has_spelling rs ≡ true → list_all has_spelling (take n rs) ≡ true
-all_taken zero rs h = refl
-all_taken (suc n) [] h = refl
-all_taken (suc n) (r ∷ rs) h =
-    let parts = and_parts (has_spelling r) (list_all has_spelling rs) h in
-    and_from (has_spelling r) (list_all has_spelling (take n rs)) parts.0 (all_taken n rs parts.1)
+use Rattle.log_flush.proofs.Sizes.{same_count, they_fit, some_fits, has_bytes}
+use Rattle.law_base.proofs.Logs.{few_fit, spelled_dropped as all_dropped, spelled_taken as all_taken}
 
 pub same_next : (b : Buffer LogRecord) → b.taken ≡ b.durable → next_count record_size 1048576 b ≡ batch_from b.durable b.records
 same_next b e = ap (λ (n : ℕ). next_count record_size 1048576 (record b { taken = n })) e ∙ same_count 1048576 (drop b.durable b.records)

@@ -7,7 +7,7 @@ use Rattle.byteorder.specs.Numbers.{length-bytes_low_first}
 use Rattle.log_records.specs.Reading.{number_at}
 use Rattle.log_records.specs.Spelling.{number}
 use Rattle.log_records.proofs.Laws.Fields.{number_takes}
-use Rattle.log_gate.proofs.Parsing.{IsBytes}
+use Rattle.law_base.proofs.Lists.{IsBytes}
 
 pub bytes_drop : (n : ℕ) (bytes : List ℕ) → IsBytes bytes → IsBytes (drop n bytes)
 bytes_drop n bytes are i = subst (λ (b : ℕ). b < 256) (sym (get_or-drop n bytes i 0)) (are (n + i))

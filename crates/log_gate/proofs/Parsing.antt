@@ -7,9 +7,7 @@ use Rattle.byteorder.specs.Endian.{little_bytes, little_number}
 use Rattle.log_gate.specs.Payloads.{IsPayload, batch, opened, with_first, holds_batch, payloads_from, payload_log}
 use Rattle.log_gate.specs.Gate.{StandsAt}
 use Rattle.log_gate.proofs.Opened.{opened-append}
-
-abbrev pub IsBytes : List ℕ → Type 0
-IsBytes xs = (i : ℕ) → get_or xs i 0 < 256
+use Rattle.law_base.proofs.Lists.{IsBytes}
 
 -- more payloads before those that reading gives
 abbrev pub with_all : List (List ℕ) → Result (List (List ℕ)) ℕ → Result (List (List ℕ)) ℕ

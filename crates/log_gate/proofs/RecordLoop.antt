@@ -8,10 +8,11 @@ use Rattle.log_gate.specs.Payloads.{holds_batch}
 use Rattle.clv_base.specs.declared.logs.LogRecord.{LogRecord}
 use Rattle.log_gate.specs.Records.{both, records_from, record_log}
 use Rattle.log_gate.specs.Image.{SpellAll, AllSpelled}
-use Rattle.log_gate.proofs.Parsing.{IsBytes, SoFar, start, stops, goes_on}
+use Rattle.log_gate.proofs.Parsing.{SoFar, start, stops, goes_on}
 use Rattle.log_gate.specs.Opening.{ParsesAs}
 use Rattle.log_gate.proofs.Views.{spelled_push}
 use Rattle.log_gate.proofs.Records.{all_append}
+use Rattle.law_base.proofs.Lists.{IsBytes}
 
 module _ (read : ℕ → List ℕ → Result (List LogRecord) ℕ) where
   both_none : (r : Result (List LogRecord) ℕ) → both (Ok []) r ≡ r

@@ -8,6 +8,7 @@ use Rattle.log_records.specs.Spelling.{spelling, BeginsWith}
 use Rattle.log_records.specs.Reading.{record_at}
 use Rattle.log_records.proofs.Laws.Spellings.{begins_read}
 use Rattle.log_gate.specs.Image.{SpellAll, with_record, records_at, record_then, records_in}
+use Rattle.law_base.proofs.Bools.{both_true}
 
 -- each record passes
 abbrev pub all_pass : LogRecord → Bool
@@ -60,10 +61,6 @@ records_end passes (suc most) place = refl
 
 length-spelled : (r : LogRecord) → 0 < length (spelling r)
 length-spelled r = omega arith
-
-both_true : (a b : Bool) → IsTrue (a && b) → IsTrue a × IsTrue b
-both_true true b is = (refl, is)
-both_true false b is = absurd (let no : ◌≡◌ {A = Bool} false true = is in cc)
 
 -- what is spelled is read, wherever it stands
 pub spelled_read : (most place : ℕ) (records : List LogRecord) (bytes : List ℕ) → IsTrue (list_all has_spelling records) → bytes ≡ flat_map spelling records → length bytes ≤ most → records_at all_pass most place bytes ≡ Ok records

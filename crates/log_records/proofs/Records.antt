@@ -7,7 +7,8 @@ use Rattle.clv_base.specs.declared.logs.LogRecord.TheVariants.{Update, Clr, Prep
 use Rattle.clv_base.specs.FileRules.{tx_has_spelling, has_spelling, is_value, is_undo_next, is_64_bits, is_32_bits, txs_rise, numbers_rise}
 use Rattle.log_records.specs.Reading.{◌>>=◌, number_at, transaction_at, optional_at, undo_next_at, several_at, update_at, clr_at, prepare_at, commit_at, abort_at, end_at, restart_at, fields_at, record_at, if_in_bounds}
 use Rattle.log_records.specs.Spelling.{number, transaction, optional, undo_next, several, kind, fields, spelling}
-use Rattle.log_records.proofs.Laws.Fields.{IsBytes, IsBytes-rest, bind_some, guard_some, some_is, both_true, Takes, Takes-then, number_takes, number_again, transaction_takes, transaction_again, optional_takes, optional_again, undo_next_takes, undo_next_again, several_takes, several_again}
+use Rattle.log_records.proofs.Laws.Fields.{IsBytes-rest, bind_some, guard_some, some_is, both_true, Takes, Takes-then, number_takes, number_again, transaction_takes, transaction_again, optional_takes, optional_again, undo_next_takes, undo_next_again, several_takes, several_again}
+use Rattle.law_base.proofs.Lists.{IsBytes}
 
 -- behind this byte the fields of a record of its kind were taken
 abbrev pub TakesFields : ℕ → List ℕ → LogRecord × List ℕ → Type 0

@@ -7,13 +7,11 @@ use Rattle.clv_base.specs.Orders.{tx_same, tx_in, tx_insert, tx_union}
 use Rattle.clv_base.specs.Logs.{is_commit_of, committed_in, committed_somewhere}
 use Rattle.clv_base.specs.LogRules.{committed_of, committed_of_all}
 use Rattle.log_facts.proofs.Laws.Members.{in_inserted}
-use Rattle.log_facts.proofs.Laws.Names.{tx_symmetric}
-use Rattle.log_facts.proofs.Laws.Rising.{Rises, insert_rises, nothing_rises, same_list}
+use Rattle.log_facts.proofs.Laws.Rising.{insert_rises, nothing_rises, same_list}
 use Rattle.logs_apart.specs.Committed.{with_commit, with_commits, with_all_commits}
-
-or_false : (a : Bool) → a || false ≡ a
-or_false true = refl
-or_false false = refl
+use Rattle.law_base.proofs.Sets.{same_flip as tx_symmetric}
+use Rattle.law_base.proofs.Names.{Rise as Rises}
+use Rattle.law_base.proofs.Bools.{or_false}
 
 -- ---- the definition's list
 

@@ -1,5 +1,5 @@
 -- What recovery leaves of a disk.
-use Rattle.std.proofs.Common.{◌≡◌, ◌⊎◌, ℕ, zero, suc, ◌+◌, List, [], ◌∷◌, ◌++◌, take, drop, length, Option, Some, None, IfSome, refl, inl, inr, sym, ◌∙◌, ap, subst, append_assoc, arith}
+use Rattle.std.proofs.Common.{◌≡◌, ◌⊎◌, ℕ, zero, suc, ◌+◌, List, ◌∷◌, ◌++◌, take, drop, length, Option, Some, None, IfSome, refl, inl, inr, sym, ◌∙◌, ap, subst, append_assoc, arith}
 use Rattle.std.proofs.lemmas.List.{take_all}
 use Rattle.clv_base.specs.declared.logs.LogRecord.{LogRecord}
 use Rattle.clv_base.specs.Restarts.{log_after_restart, restart_records}
@@ -10,15 +10,7 @@ use Rattle.gate_recovery.specs.Recovering.{IsBegun}
 use Rattle.log_gate.specs.Gate.{EachNow}
 use Rattle.log_gate.specs.View.{Only, logs_told}
 use Rattle.machine_calls.specs.Recovered.{HasBegun, IsLeft, unwritten, begun}
-
-take_plus : {X : Type 0} (m k : ℕ) (xs : List X) → take (m + k) xs ≡ take m xs ++ take k (drop m xs)
-take_plus zero k xs = let e : 0 + k ≡ k = omega arith in ap (λ n. take n xs) e
-take_plus (suc m) k [] = let e : suc m + k ≡ suc (m + k) = omega arith in ap (λ n. take n []) e ∙ sym (nothing k)
-  where
-    nothing : {Y : Type 0} (n : ℕ) → take {A = Y} n [] ≡ []
-    nothing zero = refl
-    nothing (suc n) = refl
-take_plus (suc m) k (x ∷ xs) = let e : suc m + k ≡ suc (m + k) = omega arith in ap (λ n. take n (x ∷ xs)) e ∙ ap (λ l. x ∷ l) (take_plus m k xs)
+use Rattle.law_base.proofs.Lists.{take_plus}
 
 module _ (n : ℕ) (found : List LogRecord) (run : ℕ) (logs : Option (List LogRecord) → Type 0) where
   -- each log of the disk is one of the gate's
@@ -51,6 +43,3 @@ left_by n found run before now Failed failed memory = failed refl
 left_by n found run before now Memory failed memory = unwritten (memory refl)
 
 -- ---- a machine that is taken apart
-
-pub some_same : {A : Type 0} (x y : A) (o : Option A) → o ≡ Some x → o ≡ Some y → x ≡ y
-some_same {A} x y o a b = let k : ◌≡◌ {A = Option A} (Some x) (Some y) = sym a ∙ b in cc

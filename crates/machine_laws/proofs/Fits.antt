@@ -55,11 +55,10 @@ use Rattle.machine_laws.specs.Fitting.{shards_fit, voter_fits, request_fits, IsF
 use Rattle.machine_laws.proofs.Shards.{AreParts, all_append, all_filter, others_low, some_others}
 use Rattle.machine_laws.proofs.Rows.{get_passes, put_passes, set_passes}
 use Rattle.spelling_laws.proofs.Laws.{operations_keep, closings_keep, aborts_keep, drops_keep, ends_keep, records_keep, purges_keep}
+use Rattle.law_base.proofs.Names.{by_state}
+use Rattle.law_base.proofs.Bools.{and_three as three}
 
 -- ---- messages
-
-test_and : (a b : Bool) → a ≡ true → b ≡ true → (a && b) ≡ true
-test_and a b p q = and_from a b p q
 
 decides_fit : (tx : TxId) (home : ℕ) (commit : Bool) (ps : List ℕ) → tx_has_spelling tx ≡ true → nat_lt home 16 ≡ true → list_all (λ p. nat_lt p 16) ps ≡ true
     → list_all message_fits (map (λ p. Decide p tx home commit) ps) ≡ true
@@ -185,9 +184,6 @@ next_or : (s : Shard) (x y : Option Shard) → NextBy s x → NextBy s y → Nex
 unfolding NextBy
 next_or s None y p q = q
 next_or s (Some t) y p q = p
-
-abbrev by_state : TxId → ℕ → RequestState → List Message
-by_state tx shard st = elim st [ Committed parts ↦ map (λ p. Decide p tx shard true) parts | Undecided ↦ [] | Finished ↦ [] | Refused cause ↦ [] ]
 
 commit_says : (s : Shard) (tx : TxId) (q : Option Request) (v : Option Voter) → tx_get tx s.requests ≡ q → tx_get tx s.voters ≡ v → IsFitting s → list_all message_fits (commit_messages s tx q v) ≡ true
 commit_says s tx (Some q) v e d f = let r = request_at s tx q f e in at q.state r.parts r.name
@@ -489,10 +485,6 @@ done_named s tx from (Some q) e n =
 told_fits : (s : Shard) (tx : TxId) (from : ℕ) (o : Option Bool) → tx_has_spelling tx ≡ true → nat_lt from 16 ≡ true → nat_lt s.shard 16 ≡ true → list_all message_fits (ask_messages s tx from o) ≡ true
 told_fits s tx from None k h m = refl
 told_fits s tx from (Some commit) k h m = and_from _ _ (and_from _ _ (and_from _ _ k h) m) refl
-
--- what the parts of a message's test say
-three : (a b c : Bool) → (a && b && c) ≡ true → (a ≡ true) × (b ≡ true) × (c ≡ true)
-three a b c h = let two = and_parts (a && b) c h in let one = and_parts a b two.0 in (one.0, one.1, two.1)
 
 message_named : (s : Shard) (m : Message) → message_fits m ≡ true → FewUndecided s.local → IsShort s.local → IsNamed s → NamedBy (on_message s m)
 message_named s (Prepare to tx home seen) h few short n = let p = three (tx_has_spelling tx) (nat_lt to 16) (nat_lt home 16) h in prepare_named s tx home seen (stage_of s.local tx) p.0 p.2 few n

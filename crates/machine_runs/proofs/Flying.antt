@@ -14,6 +14,7 @@ use Rattle.machine_calls.specs.declared.flights.Flight.{Flight}
 use Rattle.machine_calls.specs.Steps.{Tells}
 use Rattle.machine_calls.specs.Flights.{Leaves}
 use Rattle.machine_laws.proofs.Laws.{finishes_alike, finishes_stay}
+use Rattle.law_base.proofs.Shards.{quiet_out, same_out}
 
 -- the shard is up, its records are in flight, and there are stamps
 pub record Flown (t : Shard) (clock upto : ℕ) : Type 0 where
@@ -21,9 +22,6 @@ pub record Flown (t : Shard) (clock upto : ℕ) : Type 0 where
   pub flies : t.flight ≡ Some upto
   pub last : t.last < 2 ^ 48
   pub early : clock < 2 ^ 48
-
-same_out : {m n : ℕ} → Out m ≡ Out n → m ≡ n
-same_out e = cc
 
 same_ok : {p q : Outcome} → ◌≡◌ {A = Result Outcome StepError} (Ok p) (Ok q) → p ≡ q
 same_ok e = cc
@@ -54,13 +52,6 @@ entered s clock w n t true up h =
       last = omega (arith, last, below);
       early = omega (arith, below);
     }
-
--- no quiet answer is Out
-quiet_out : (s : Shard) (stamp w : ℕ) (room : Bool) (n : ℕ) (f : Option ℕ) (k : ℕ) → stamped stamp w FlushOut room (out_event s f k) ≡ Quiet (Out n) → ⊥
-quiet_out s stamp w room n f zero h = absurd cc
-quiet_out s stamp w room n (Some m) (suc k) h = absurd cc
-quiet_out s stamp w true n None (suc k) h = absurd cc
-quiet_out s stamp w false n None (suc k) h = absurd cc
 
 up_or_down : (s : Shard) (stamp w : ℕ) (room : Bool) (n : ℕ) (b : Bool) → stamped stamp w FlushOut room (elim b [ true ↦ happen_up s FlushOut | false ↦ QuietBeforeWorn Down ]) ≡ Quiet (Out n) → ⊥
 up_or_down s stamp w room n true h = quiet_out s stamp w room n s.flight (fitting 1048576 (drop (taken s) s.local.log)) h

@@ -19,12 +19,10 @@ use Rattle.fall_laws.specs.Telling.{own_entries}
 use Rattle.many_shards_laws.specs.Shares.{ShardOp, on_shard, all_ops, all_answers, parts_on}
 use Rattle.many_shards_laws.specs.Parts.{op_on, shard_ops_in, member_ops}
 use Rattle.many_shards_laws.proofs.Parts.{firsts, seconds}
+use Rattle.law_base.proofs.Names.{item_told, with_op}
 
 abbrev told : ShardOp → Op × Answer
 told x = (x.op, x.answer)
-
-abbrev item_told : Item → Op × Answer
-item_told x = (x.op, x.answer)
 
 abbrev at_shard : ℕ → Op × Answer → ShardOp
 at_shard n p = record { shard = n; op = p.0; answer = p.1 }
@@ -49,9 +47,6 @@ op_placed t n FlushOut o = refl
 op_placed t n FlushIn o = refl
 op_placed t n Stop o = refl
 op_placed t n Restart o = refl
-
-abbrev with_op : Option (Op × Answer) → List (Op × Answer) → List (Op × Answer)
-with_op o ys = elim o [ Some p ↦ p ∷ ys | None ↦ ys ]
 
 abbrev with_shard_op : Option ShardOp → List ShardOp → List ShardOp
 with_shard_op o xs = elim o [ Some x ↦ x ∷ xs | None ↦ xs ]

@@ -14,10 +14,9 @@ use Rattle.clv_base.specs.Journals.{History, start_of, final_of, journal_of}
 use Rattle.clv_base.specs.History.{Legal, logs_left}
 use Rattle.clv_base.proofs.SameNames.{tx_true}
 use Rattle.law_base.proofs.Changed.{none_some, some_same}
-use Rattle.protocol_laws.proofs.Records.{front}
 use Rattle.protocol_laws.specs.Growth.{IsPrefixOf}
 use Rattle.protocol_laws.proofs.Growing.{chain, more}
-use Rattle.shard_laws.proofs.Following.{Follows, Plainly, from_disorder, last_push, last_new}
+use Rattle.shard_laws.proofs.Following.{Follows, Plainly, from_disorder, last_push}
 use Rattle.shard_laws.proofs.Changes.{wrote_append}
 use Rattle.history_laws.proofs.Durability.{fronts_entries, opened_counted, left_front}
 use Rattle.history_laws.proofs.Serials.{committed_front}
@@ -26,6 +25,8 @@ use Rattle.fate_laws.proofs.Writing.{restart_writes_none}
 use Rattle.fate_laws.proofs.Earlier.{earlier_commits_are_of_opening}
 use Rattle.fall_laws.proofs.Ordering.{logs_left_are_in_order}
 use Rattle.many_shards_laws.proofs.Shares.{at_somewhere}
+use Rattle.law_base.proofs.Bools.{and_first as front}
+use Rattle.law_base.proofs.Logs.{last_restart_push as last_new}
 
 -- ---- no UPDATE behind the RESTART of a run is of an earlier one
 

@@ -18,7 +18,6 @@ use Rattle.protocol_laws.proofs.Growing.{chain, more}
 use Rattle.history_laws.proofs.Serials.{committed_front}
 use Rattle.fate_laws.proofs.Opening.{opening_settled, opening_home}
 use Rattle.fate_laws.proofs.Prepares.{prepare_more, front_prepare}
-use Rattle.fate_laws.proofs.Arriving.{all_from}
 use Rattle.fate_laws.specs.Earlier.{IsEarlier, WasCommitted}
 use Rattle.fall_laws.specs.Falls.{Fell}
 use Rattle.acknowledged_laws.proofs.Going.{aborted_take}
@@ -30,6 +29,7 @@ use Rattle.many_shards_laws.proofs.Earlier.{left_begins}
 use Rattle.history_laws.proofs.Doubts.{doubt_prepared, doubt_undecided, doubted_is_old}
 use Rattle.protocol_laws.proofs.Records.{prepared_there}
 use Rattle.shard_laws.proofs.Ordered.{prepare_some}
+use Rattle.law_base.proofs.Names.{all_from}
 
 -- it is in doubt in a log that commits all that its PREPARE lists
 abbrev pub IsDoubted : ℕ → List LogRecord → TxId → Type 0

@@ -11,7 +11,7 @@ use Rattle.clv_base.specs.Shards.{shard_count}
 use Rattle.clv_base.specs.FileRules.{may_open}
 use Rattle.clv_base.specs.Restarts.{run_after}
 use Rattle.clv_base.specs.Journals.{History}
-use Rattle.clv_base.specs.History.{Legal, Member, members, request_of, acknowledged_in, ops_in, logs_left}
+use Rattle.clv_base.specs.History.{Legal, Member, members, request_of, ops_in, logs_left}
 use Rattle.clv_base.proofs.SameNames.{tx_true, tx_self}
 use Rattle.protocol_laws.specs.SessionLaws.{tx_of}
 use Rattle.history_laws.specs.Continuing.{serial_left}
@@ -20,14 +20,11 @@ use Rattle.history_laws.proofs.Staying.{walker_of, one_request, is_request}
 use Rattle.fate_laws.specs.Members.{is_member}
 use Rattle.fate_laws.proofs.Deciding.{commits_are_members}
 use Rattle.fall_laws.specs.Leading.{requests_of}
-use Rattle.many_shards_laws.proofs.Shares.{same_test}
 use Rattle.history_laws.proofs.Doubts.{doubted_is_old}
+use Rattle.law_base.proofs.Bools.{same_truth as same_test}
+use Rattle.law_base.proofs.Logs.{is_in as counts}
 
 -- ---- members and requests
-
--- whether a request's transaction is a member: its COMMIT is left at its home, or it was acknowledged
-abbrev counts : List (List LogRecord) → History → ℕ → TxId → Bool
-counts logs h n t = committed_in (log_of logs n) t || acknowledged_in h t
 
 abbrev as_member : History → Placed → TxId → Member
 as_member h e t = record { tx = t; point = record { stamp = (e.1).stamp; shard = e.0 }; ops = ops_in t h }

@@ -1,7 +1,7 @@
 -- Members by their parts.
 use Rattle.std.proofs.Common.{◌≡◌, inl, inr, refl, sym, ap, ◌∙◌, ℕ, suc, ◌<◌, true, false, cond, Bool, List, [], ◌∷◌, map, Option, Some, None, ◌&&◌, ◌||◌}
 use Rattle.std.specs.Prelude.{is_none}
-use Rattle.std.specs.List.{AllByRecursion, list_all}
+use Rattle.std.specs.List.{AllByRecursion}
 use Rattle.std.proofs.lemmas.Bool.{and_parts}
 use Rattle.clv_base.specs.declared.names.TxId.{TxId}
 use Rattle.clv_base.specs.declared.logs.LogRecord.{LogRecord}
@@ -13,8 +13,8 @@ use Rattle.clv_base.specs.declared.events.Outcome.{Outcome}
 use Rattle.clv_base.specs.declared.events.Outcome.TheVariants.{Answered}
 use Rattle.clv_base.specs.Orders.{tx_same}
 use Rattle.clv_base.specs.Shards.{shard_count}
-use Rattle.clv_base.specs.LogRules.{log_of, all_logs_from, disorder, apart}
-use Rattle.clv_base.specs.FileRules.{passes_file_rules, log_passes}
+use Rattle.clv_base.specs.LogRules.{log_of, all_logs_from, apart}
+use Rattle.clv_base.specs.FileRules.{log_passes}
 use Rattle.clv_base.specs.Journals.{History}
 use Rattle.clv_base.specs.History.{Member, members, request_of, acknowledged_in, answered_op, ops_in, logs_left}
 use Rattle.clv_base.specs.Logs.{committed_in, stands}
@@ -25,6 +25,8 @@ use Rattle.history_laws.proofs.Laws.{Offers, OffersBy, offered, logs_left_pass, 
 use Rattle.many_shards_laws.specs.Shares.{ShardOp, ops_of, answers_of, all_ops, all_answers, LiesIn, LieIn}
 use Rattle.many_shards_laws.proofs.Laws.{replay_by_shards}
 use Rattle.many_shards_laws.specs.Parts.{op_on, shard_ops_in, member_ops, MembersReplayByParts}
+use Rattle.law_base.proofs.Shards.{FromHistory}
+use Rattle.law_base.proofs.Logs.{only_passes}
 
 -- ---- a transaction's operations, with and without their shards
 
@@ -63,10 +65,6 @@ seconds [] = refl
 seconds (x ∷ xs) = ap (λ l. x.answer ∷ l) (seconds xs)
 
 -- ---- members have their operations in the history
-
--- each member's operations are those of its transaction in the history
-abbrev FromHistory : History → List Member → Type 0
-FromHistory h ms = AllByRecursion (λ m. m.ops ≡ ops_in m.tx h) ms
 
 from_history : (logs : List (List LogRecord)) (h es : History) → FromHistory h (members logs h es)
 from_history logs h [] = tt
@@ -125,17 +123,6 @@ all_lie splits h [] k = tt
 all_lie splits h (m ∷ ms) k = (ops_lie splits m.tx h k, all_lie splits h ms k)
 
 -- ---- logs
-
-only_passes : (splits : List ℕ) (n : ℕ) (logs : List (List LogRecord)) → all_logs_from n (log_passes splits) logs ≡ true → all_logs_from n (λ m log. list_all (passes_file_rules splits m) log) logs ≡ true
-only_passes splits n [] e = refl
-only_passes splits n (log ∷ logs) e =
-    let p = and_parts (log_passes splits n log) (all_logs_from (suc n) (log_passes splits) logs) e in
-    let q = and_parts (list_all (passes_file_rules splits n) log) (is_none (disorder n log)) p.0 in
-    both (list_all (passes_file_rules splits n) log) _ q.0 (only_passes splits (suc n) logs p.1)
-  where
-    both : (a b : Bool) → a ≡ true → b ≡ true → (a && b) ≡ true
-    both true b f g = g
-    both false b f g = f
 
 pub members_replay_by_parts : MembersReplayByParts
 members_replay_by_parts splits before h after choice m l k =

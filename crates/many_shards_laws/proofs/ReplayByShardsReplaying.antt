@@ -12,6 +12,7 @@ use Rattle.many_shards_laws.specs.Shares.{ShardOp, ops_of, answers_of, on_shard,
 use Rattle.many_shards_laws.proofs.Spans.{whose}
 use Rattle.many_shards_laws.proofs.Agreeing.{Agrees, agrees_alike, answer_alike, with_share, agrees_after}
 use Rattle.many_shards_laws.proofs.Standing.{logs_agree}
+use Rattle.law_base.proofs.Names.{first_of}
 
 -- ---- one transaction
 
@@ -34,9 +35,6 @@ ops_agree splits (x ∷ xs) m f s l a =
 -- what it is answered on each shard
 abbrev Answers : List ShardOp → (ℕ → KeyMap) → ℕ → Type 0
 Answers t f n = ops_answers (ops_of (on_shard n t)) (f n) ≡ answers_of (on_shard n t)
-
-first_of : (a b : Answer) (as_ bs : List Answer) → a ∷ as_ ≡ b ∷ bs → (a ≡ b) × (as_ ≡ bs)
-first_of a b as_ bs e = (cc, cc)
 
 here : (x : ShardOp) (xs : List ShardOp) (m : KeyMap) (b : Bool) → b ≡ true → ops_answers (ops_of (cond b (x ∷ on_shard x.shard xs) (on_shard x.shard xs))) m ≡ answers_of (cond b (x ∷ on_shard x.shard xs) (on_shard x.shard xs)) → op_answer x.op m ≡ x.answer
 here x xs m true e h = (first_of _ _ _ _ h).0

@@ -42,7 +42,7 @@ use Rattle.many_shards_laws.specs.Shares.{all_ops, parts_on, share_of, ReplaysTo
 use Rattle.many_shards_laws.specs.Parts.{member_ops}
 use Rattle.many_shards_laws.proofs.Parts.{members_replay_by_parts}
 use Rattle.many_shards_laws.specs.Replaying.{IsHere, MembersReplayWhereHere}
-use Rattle.many_shards_laws.proofs.Shares.{writer_known, at_somewhere, somewhere_at, same_test}
+use Rattle.many_shards_laws.proofs.Shares.{writer_known, at_somewhere, somewhere_at}
 use Rattle.many_shards_laws.proofs.Earlier.{wrote_at_opening, committed_still, somewhere_at_opening}
 use Rattle.many_shards_laws.proofs.Found.{IsDoubted, still_known, never_fell}
 use Rattle.many_shards_laws.proofs.Answering.{part_ops, part_answers, AllIdle, ops_later, answers_later, idle_among}
@@ -50,6 +50,7 @@ use Rattle.many_shards_laws.proofs.Members.{request_run, asked_by, chosen, Chose
 use Rattle.many_shards_laws.proofs.Unfallen.{unfallen}
 use Rattle.history_laws.proofs.Passing.{left_length}
 use Rattle.history_laws.proofs.Doubts.{doubted_is_old}
+use Rattle.law_base.proofs.Bools.{same_truth as same_test}
 
 module _ (splits : List ℕ) (before : List (List LogRecord)) (h : History) (after : List (List LogRecord)) (choice : ℕ → Bool) (o : may_open splits before ≡ true) (l : Legal splits before h after) where
   pub leads : (n : ℕ) → n < shard_count splits

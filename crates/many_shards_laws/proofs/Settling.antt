@@ -53,11 +53,12 @@ use Rattle.acknowledged_laws.proofs.Naming.{names_shard}
 use Rattle.many_shards_laws.specs.Shares.{share_of, in_turn}
 use Rattle.many_shards_laws.proofs.Turns.{shares_make_the_map}
 use Rattle.many_shards_laws.specs.Settling.{ReadersWroteNothing, SettledIsTheMapWhereReadersWroteNothing, SettledOpensClear}
-use Rattle.many_shards_laws.proofs.Shares.{writer_known, at_somewhere, somewhere_at, same_test}
+use Rattle.many_shards_laws.proofs.Shares.{writer_known, at_somewhere, somewhere_at}
 use Rattle.many_shards_laws.proofs.Earlier.{wrote_at_opening, committed_still, somewhere_at_opening}
 use Rattle.many_shards_laws.proofs.Found.{still_known}
 use Rattle.many_shards_laws.proofs.Replaying.{leads, left_is, within, left_run, wrote_last, fell_there}
 use Rattle.fall_laws.proofs.Here.{in_others}
+use Rattle.law_base.proofs.Bools.{same_truth as same_test}
 
 -- ---- a part that is here on a quiet shard is committed
 

@@ -1,5 +1,5 @@
 -- A shard's share of the map is what its own log commits, and what it leaves in doubt that some log commits.
-use Rattle.std.proofs.Common.{◌≡◌, ⊎_elim, refl, sym, ℕ, zero, suc, ◌<◌, true, false, Bool, ◌&&◌, ◌||◌, List, [], ◌∷◌, length, arith}
+use Rattle.std.proofs.Common.{◌≡◌, ⊎_elim, refl, ℕ, zero, suc, ◌<◌, true, false, ◌&&◌, ◌||◌, List, [], ◌∷◌, length, arith}
 use Rattle.std.proofs.lemmas.Bool.{both_ways, and_parts, and_from, or_cases, or_left, or_right}
 use Rattle.clv_base.specs.declared.names.TxId.{TxId}
 use Rattle.clv_base.specs.declared.logs.LogRecord.{LogRecord}
@@ -11,6 +11,7 @@ use Rattle.law_base.proofs.Running.{fold_writers}
 use Rattle.many_shards_laws.specs.Replaying.{SharesAreMaps}
 use Rattle.many_shards_laws.proofs.Homes.{Known, known_here}
 use Rattle.fate_laws.proofs.RecordKinds.{update_is}
+use Rattle.law_base.proofs.Bools.{same_truth as same_test}
 
 pub wrote_within : (logs : List (List LogRecord)) (m : ℕ) (t : TxId) → wrote_in (log_of logs m) t ≡ true → m < length logs
 wrote_within [] m t p = absurd (both_ways false refl p)
@@ -26,11 +27,6 @@ at_somewhere (log ∷ logs) (suc m) t c = or_right (committed_in log t) _ (at_so
 pub somewhere_at : (logs : List (List LogRecord)) (t : TxId) → committed_somewhere logs t ≡ true → (m : ℕ) × (m < length logs) × (committed_in (log_of logs m) t ≡ true)
 somewhere_at [] t c = absurd (both_ways false refl c)
 somewhere_at (log ∷ logs) t c = ⊎_elim (λ h. (0, omega arith, h)) (λ h. let r = somewhere_at logs t h in (suc r.0, (let k = r.1 in omega (arith, k)), r.2)) (or_cases (committed_in log t) (committed_somewhere logs t) c)
-
-pub same_test : (a b : Bool) → (a ≡ true → b ≡ true) → (b ≡ true → a ≡ true) → a ≡ b
-same_test true b f g = sym (f refl)
-same_test false true f g = g refl
-same_test false false f g = refl
 
 -- who wrote in a log that may be opened, and is committed in some log, is committed in it, or in doubt
 pub writer_known : (splits : List ℕ) (before : List (List LogRecord)) (n : ℕ) (t : TxId) → may_open splits before ≡ true → wrote_in (log_of before n) t ≡ true → committed_somewhere before t ≡ true → Known before n t

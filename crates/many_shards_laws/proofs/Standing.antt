@@ -11,26 +11,13 @@ use Rattle.clv_base.specs.LogRules.{log_of, all_logs_from}
 use Rattle.clv_base.specs.FileRules.{passes_file_rules}
 use Rattle.clv_base.specs.Shards.{shard_count, are_splits, in_span}
 use Rattle.clv_base.specs.Folding.{IsRising}
-use Rattle.clv_base.proofs.Folding.{eq_true, get_set, get_other, rising_set}
+use Rattle.clv_base.proofs.Folding.{eq_true, get_set, get_other}
 use Rattle.many_shards_laws.specs.Shares.{AreLogsOf, share_of}
 use Rattle.many_shards_laws.proofs.Spans.{one_shard}
 use Rattle.many_shards_laws.proofs.Agreeing.{Agrees}
+use Rattle.law_base.proofs.Logs.{fold_rises}
 
 -- ---- one log
-
-fold_rises : (keep : TxId → Bool) (log : List LogRecord) (m : KeyMap) → IsRising m → IsRising (fold_updates keep log m)
-fold_rises keep [] m h = h
-fold_rises keep (Update tx key before after ∷ rs) m h = fold_rises keep rs (cond (keep tx) (map_set key after m) m) (at (keep tx))
-  where
-    at : (b : Bool) → IsRising (cond b (map_set key after m) m)
-    at true = rising_set key after m h
-    at false = h
-fold_rises keep (Clr tx undo_next key after ∷ rs) m h = fold_rises keep rs m h
-fold_rises keep (Prepare tx home ps ∷ rs) m h = fold_rises keep rs m h
-fold_rises keep (Commit tx ps ∷ rs) m h = fold_rises keep rs m h
-fold_rises keep (Abort tx ∷ rs) m h = fold_rises keep rs m h
-fold_rises keep (End tx ∷ rs) m h = fold_rises keep rs m h
-fold_rises keep (Restart run epoch ∷ rs) m h = fold_rises keep rs m h
 
 -- the value at a key depends on the value at that key alone
 set_alike : (b : Bool) (key k : ℕ) (x : Option ℕ) (m n : KeyMap) → map_get k m ≡ map_get k n → map_get k (cond b (map_set key x m) m) ≡ map_get k (cond b (map_set key x n) n)

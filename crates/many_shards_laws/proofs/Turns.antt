@@ -1,16 +1,15 @@
 -- The shards' maps, one after another, are one map: their keys lie in spans that follow one another.
-use Rattle.std.proofs.Common.{◌≡◌, ℕ, zero, suc, ◌+◌, ◌<◌, ◌≤◌, ⊎_elim, Bool, true, false, cond, List, [], ◌∷◌, ◌++◌, length, Option, Some, None, ◌==◌, T, nat_cmp, refl, sym, ap, subst, ◌∙◌, arith}
+use Rattle.std.proofs.Common.{◌≡◌, ℕ, zero, suc, ◌+◌, ◌<◌, ◌≤◌, ⊎_elim, Bool, true, false, cond, List, [], ◌∷◌, ◌++◌, Option, Some, None, ◌==◌, T, nat_cmp, refl, sym, ap, subst, ◌∙◌, arith}
 use Rattle.std.specs.List.{AllByRecursion, list_all}
 use Rattle.std.specs.Ordering.{nat_cmp, is_lt}
 use Rattle.std.specs.Cmp.{unsigned_tied}
 use Rattle.std.specs.FinMap.{is_sorted}
 use Rattle.std.specs.FinMap.Entries.{below_all}
 use Rattle.std.proofs.lemmas.Bool.{both_ways, and_parts, and_from, cases_order, eq-eqb, false_from_ne_true}
-use Rattle.std.proofs.lemmas.Bool.Decides.{nat_tests}
 use Rattle.clv_base.specs.declared.logs.LogRecord.{LogRecord}
 use Rattle.clv_base.specs.Maps.{KeyMap, map_get}
 use Rattle.clv_base.specs.Logs.{committed_somewhere, stands}
-use Rattle.clv_base.specs.LogRules.{log_of, all_logs_from}
+use Rattle.clv_base.specs.LogRules.{log_of}
 use Rattle.clv_base.specs.FileRules.{passes_file_rules}
 use Rattle.clv_base.specs.Shards.{shard_count, are_splits, in_span}
 use Rattle.clv_base.specs.Folding.{IsRising}
@@ -18,6 +17,10 @@ use Rattle.clv_base.proofs.Folding.{eq_true, same_map}
 use Rattle.many_shards_laws.specs.Shares.{AreLogsOf, share_of, in_turn, SharesMakeTheMap}
 use Rattle.many_shards_laws.proofs.Spans.{one_shard, follow, whose}
 use Rattle.many_shards_laws.proofs.Standing.{fold_away, logs_agree}
+use Rattle.law_base.proofs.Lists.{all_append as all_two}
+use Rattle.law_base.proofs.Anchors.{less_true as less_test}
+use Rattle.law_base.proofs.Bools.{t_true as of_true}
+use Rattle.law_base.proofs.Logs.{passes_at}
 
 -- ---- the value at a key, through a list of pairs
 
@@ -42,19 +45,9 @@ true_of : (b : Bool) → T b → b ≡ true
 true_of true h = refl
 true_of false h = absurd h
 
-of_true : (b : Bool) → b ≡ true → T b
-of_true b e = subst T (sym e) tt
-
-less_test : (a b : ℕ) → a < b → is_lt (nat_cmp a b) ≡ true
-less_test a b l = grind (arith, nat_tests)
-
 below_both : (k : ℕ) (xs ys : KeyMap) → below_all nat_cmp k xs ≡ true → below_all nat_cmp k ys ≡ true → below_all nat_cmp k (xs ++ ys) ≡ true
 below_both k [] ys e f = f
 below_both k (x ∷ xs) ys e f = let p = and_parts (is_lt (nat_cmp k x.0)) (below_all nat_cmp k xs) e in and_from _ _ p.0 (below_both k xs ys p.1 f)
-
-all_two : {X : Type 0} (P : X → Type 0) (xs ys : List X) → AllByRecursion P xs → AllByRecursion P ys → AllByRecursion P (xs ++ ys)
-all_two P [] ys a b = b
-all_two P (x ∷ xs) ys a b = (a.0, all_two P xs ys a.1 b)
 
 all_from : {X : Type 0} (P Q : X → Type 0) (xs : List X) → ((x : X) → P x → Q x) → AllByRecursion P xs → AllByRecursion Q xs
 all_from P Q [] f a = tt
@@ -135,12 +128,6 @@ module _ (splits : List ℕ) (f : ℕ → KeyMap) (s : are_splits splits ≡ tru
       (cases_order n j)
 
 -- ---- the map that logs stand for
-
-passes_at : (test : ℕ → List LogRecord → Bool) (i n : ℕ) (logs : List (List LogRecord)) → all_logs_from i test logs ≡ true → n < length logs → test (i + n) (log_of logs n) ≡ true
-passes_at test i n [] a l = absurd (omega (arith, l))
-passes_at test i zero (log ∷ logs) a l = subst (λ k. test k log ≡ true) (omega arith) (and_parts (test i log) (all_logs_from (suc i) test logs) a).0
-passes_at test i (suc n) (log ∷ logs) a l =
-    subst (λ k. test k (log_of logs n) ≡ true) (omega arith) (passes_at test (suc i) n logs (and_parts (test i log) (all_logs_from (suc i) test logs) a).1 (omega (arith, l)))
 
 outside : (splits : List ℕ) (logs : List (List LogRecord)) (n k : ℕ) → AreLogsOf splits logs → n < shard_count splits → in_span splits n k ≡ false → map_get k (share_of logs n) ≡ None
 outside splits logs n k a i o =

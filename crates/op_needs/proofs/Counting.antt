@@ -1,7 +1,7 @@
 -- How many of the transactions of two lists pass a test.
-use Rattle.std.proofs.Common.{◌≡◌, ℕ, ◌+◌, ⊎_elim, Bool, true, false, cond, not, ◌&&◌, ◌||◌, List, [], ◌∷◌, length, refl, sym, ap, ◌∙◌, arith}
-use Rattle.std.proofs.lemmas.Bool.{both_ways, or_cases, cond_both, false_from_ne_true}
-use Rattle.std.specs.List.{AllByRecursion, filter}
+use Rattle.std.proofs.Common.{◌≡◌, ℕ, ◌+◌, Bool, true, false, cond, not, ◌&&◌, ◌||◌, List, [], ◌∷◌, length, refl, sym, ap, ◌∙◌, arith}
+use Rattle.std.proofs.lemmas.Bool.{both_ways, cond_both, false_from_ne_true}
+use Rattle.std.specs.List.{filter}
 use Rattle.std.specs.List.Sorted.{IsStrictlySortedBy}
 use Rattle.std.specs.declared.cmp.Ordering.{Ordering}
 use Rattle.std.specs.declared.cmp.Ordering.TheVariants.{Less, Equal, Greater}
@@ -9,16 +9,13 @@ use Rattle.std.specs.Ordering.{is_eq, match_ordering, ordering_reverse}
 use Rattle.clv_base.specs.declared.names.TxId.{TxId}
 use Rattle.clv_base.specs.Orders.{tx_cmp, tx_same, tx_in, tx_insert, tx_union}
 use Rattle.clv_base.specs.Facts.{predecessors_of}
-use Rattle.clv_base.proofs.SameNames.{or_left, or_right, tx_true, tx_self, tx_eq}
+use Rattle.clv_base.proofs.SameNames.{or_left, or_right, tx_true, tx_eq}
 use Rattle.violation_deps.proofs.Laws.{tx_in-insert}
 use Rattle.violation_deps.proofs.Laws.{tx_total}
 use Rattle.violation_deps.proofs.Laws.{insert_key-rises, insert_there}
-
-abbrev Rises : List TxId → Type 0
-Rises xs = IsStrictlySortedBy tx_cmp xs
-
-abbrev one_if : Bool → ℕ
-one_if b = cond b 1 0
+use Rattle.law_base.proofs.Names.{Rise as Rises, above_not_in}
+use Rattle.law_base.proofs.Numbers.{one_if}
+use Rattle.law_base.proofs.Bools.{or_regroup as or_assoc}
 
 abbrev passing : (TxId → Bool) → List TxId → ℕ
 passing q xs = length (filter q xs)
@@ -66,18 +63,9 @@ pub union_rises : (xs ys : List TxId) → Rises ys → Rises (tx_union xs ys)
 union_rises [] ys s = s
 union_rises (x ∷ xs) ys s = insert_key-rises tx_total x (tx_union xs ys) (union_rises xs ys s)
 
-or_assoc : (a b c : Bool) → (a || (b || c)) ≡ ((a || b) || c)
-or_assoc true b c = refl
-or_assoc false b c = refl
-
 in_union : (t : TxId) (xs ys : List TxId) → tx_in t (tx_union xs ys) ≡ (tx_in t xs || tx_in t ys)
 in_union t [] ys = refl
 in_union t (x ∷ xs) ys = tx_in-insert x t (tx_union xs ys) ∙ ap (λ b. tx_same x t || b) (in_union t xs ys) ∙ or_assoc (tx_same x t) (tx_in t xs) (tx_in t ys)
-
-above_not_in : (x : TxId) (xs : List TxId) → AllByRecursion (λ y. tx_cmp x y ≡ Less) xs → tx_in x xs ≡ false
-above_not_in x [] a = refl
-above_not_in x (y ∷ ys) a =
-    false_from_ne_true _ (λ e. ⊎_elim (λ s. both_ways _ (ap is_eq a.0) (ap is_eq (ap (tx_cmp x) (tx_true y x s)) ∙ tx_self x)) (λ m. both_ways _ (above_not_in x ys a.1) m) (or_cases (tx_same y x) (tx_in x ys) e))
 
 -- those of the second list, and those of the first that are new
 pub passing-union : (q : TxId → Bool) (xs ys : List TxId) → Rises xs → Rises ys → passing q (tx_union xs ys) ≡ passing q ys + passing (λ x. q x && not (tx_in x ys)) xs

@@ -1,14 +1,12 @@
 -- What stands at the place of a key, and what stands below it.
 use Rattle.std.proofs.Common.{◌≡◌, ℕ, zero, suc, ◌<◌, ◌≤◌, Bool, true, false, cond, ◌==◌, nat_lt, [], ◌∷◌, length, get_or, Option, Some, None, refl, sym, ap, ◌∙◌, arith}
-use Rattle.std.proofs.lemmas.Bool.{both_ways, ltb-true, ltb-false, le-ltb, eqb-true, eq-eqb, ne_eqb}
+use Rattle.std.proofs.lemmas.Bool.{both_ways, ltb-true, ltb-false, le-ltb, eqb-true, eq-eqb}
 use Rattle.std.specs.Map.{lookup}
 use Rattle.clv_base.specs.declared.modes.Anchor.{Anchor}
 use Rattle.clv_base.specs.declared.modes.Anchor.TheVariants.{Low, At}
 use Rattle.clv_base.specs.Needs.{Records, found_at, found_by, is_there, anchor_from, lower_anchor}
 use Rattle.ordered_store.proofs.Rising.{Above, Rises, above_less, lows}
-
-other : (k j : ℕ) → (k ≡ j → ⊥) → (k == j) ≡ false
-other k j h = ne_eqb k j h
+use Rattle.law_base.proofs.Numbers.{unequal_test as other}
 
 -- no record is at a key below all
 pub none_above : (k : ℕ) (rs : Records) → Above k rs → lookup (◌==◌ k) rs ≡ None

@@ -1,13 +1,14 @@
 -- Records whose keys rise, and the place of a key among them.
 use Rattle.std.proofs.Common.{◌≡◌, ℕ, zero, suc, ◌+◌, ◌<◌, ◌≤◌, true, false, cond, nat_lt, [], ◌∷◌, length, get_or, Option, refl, sym, ap, ◌∙◌, nat_cmp, arith}
 use Rattle.std.proofs.lemmas.Bool.{and_parts, and_from, ltb-true, lt-ltb}
-use Rattle.std.proofs.lemmas.Bool.Decides.{nat_tests}
 use Rattle.std.specs.Ordering.{nat_cmp, is_lt}
 use Rattle.std.specs.FinMap.{is_sorted}
 use Rattle.std.specs.FinMap.Entries.{below_all}
 use Rattle.std.specs.List.Sorted.{IsPartitionedBy, IsPartitionPoint}
 use Rattle.clv_base.specs.Needs.{Records}
 use Rattle.ordered_store.specs.Places.{count_below}
+use Rattle.law_base.proofs.Numbers.{lt_from}
+use Rattle.law_base.proofs.Anchors.{less_true as lt_to}
 
 -- all keys are above k
 abbrev pub Above : ℕ → Records → Type 0
@@ -17,12 +18,6 @@ Above k (r ∷ rs) = (k < r.0) × Above k rs
 abbrev pub Rises : Records → Type 0
 Rises [] = Unit {0}
 Rises (r ∷ rs) = Above r.0 rs × Rises rs
-
-lt_from : (a b : ℕ) → is_lt (nat_cmp a b) ≡ true → a < b
-lt_from a b e = grind (arith, nat_tests)
-
-lt_to : (a b : ℕ) → a < b → is_lt (nat_cmp a b) ≡ true
-lt_to a b l = grind (arith, nat_tests)
 
 above_from : (k : ℕ) (rs : Records) → below_all nat_cmp k rs ≡ true → Above k rs
 above_from k [] e = tt

@@ -8,18 +8,11 @@ use Rattle.std.specs.declared.cmp.Ordering.TheVariants.{Less, Equal, Greater}
 use Rattle.std.specs.Ordering.{nat_cmp, match_ordering}
 use Rattle.clv_base.specs.Needs.{Records, record_set}
 use Rattle.ordered_store.proofs.Rising.{Above, Rises, above_less, lows}
-
-is_less : (a b : ℕ) → a < b → nat_cmp a b ≡ Less
-is_less a b l = grind (arith, nat_tests)
-
-is_equal : (a b : ℕ) → a ≡ b → nat_cmp a b ≡ Equal
-is_equal a b e = grind (arith, nat_tests)
+use Rattle.law_base.proofs.Names.{set_by as by_cmp}
+use Rattle.law_base.proofs.Numbers.{is_equal, is_less}
 
 is_greater : (a b : ℕ) → b < a → nat_cmp a b ≡ Greater
 is_greater a b l = grind (arith, nat_tests)
-
-by_cmp : Ordering → ℕ → Option ℕ → ℕ × Option ℕ → Records → Records
-by_cmp o k v r rs = match_ordering o ((k, v) ∷ r ∷ rs) ((r.0, v) ∷ rs) (r ∷ record_set k v rs)
 
 abbrev first_with : Option ℕ → Records → ℕ → Records
 first_with v rs j = (j, v) ∷ rs
@@ -27,7 +20,6 @@ first_with v rs j = (j, v) ∷ rs
 module _ (k : ℕ) (v : Option ℕ) (d : ℕ × Option ℕ) where
   -- a key that is there keeps its place
   pub record_set-there : (rs : Records) → lows k rs < length rs → (get_or rs (lows k rs) d).0 ≡ k → set rs (lows k rs) (k, v) ≡ record_set k v rs
-  unfolding by_cmp
   record_set-there [] l e = absurd (omega arith)
   record_set-there (r ∷ rs) l e = at (nat_lt r.0 k) refl (record_set-there rs) l e
     where
@@ -39,7 +31,6 @@ module _ (k : ℕ) (v : Option ℕ) (d : ℕ × Option ℕ) where
 
   -- a new one goes to its place
   pub record_set-new : (rs : Records) → (lows k rs < length rs → (get_or rs (lows k rs) d).0 ≡ k → ⊥) → insert rs (lows k rs) (k, v) ≡ record_set k v rs
-  unfolding by_cmp
   record_set-new [] n = refl
   record_set-new (r ∷ rs) n = at (nat_lt r.0 k) refl (record_set-new rs) n
     where

@@ -2,7 +2,6 @@
 use Rattle.std.proofs.Common.{◌≡◌, ◌⊎◌, inl, inr, ⊎_elim, refl, sym, ap, subst, ◌∙◌, ℕ, ◌<◌, Bool, true, false, cond, not, ◌&&◌, ◌||◌, List, [], ◌∷◌, map, Option, Some, None, arith}
 use Rattle.std.specs.List.{filter, list_any}
 use Rattle.std.specs.Ordering.{nat_cmp, ordering_then, is_eq, is_lt}
-use Rattle.std.specs.Cmp.{nat_cmp_is}
 use Rattle.std.specs.declared.cmp.Ordering.{Ordering}
 use Rattle.std.specs.declared.cmp.Ordering.TheVariants.{Less, Equal, Greater}
 use Rattle.std.proofs.lemmas.Bool.{both_ways, and_parts, or_cases, cases_order, or_parts, not-true}
@@ -19,6 +18,7 @@ use Rattle.clv_base.specs.Locks.{Locks, meets, conflicting_holders, older_of, ol
 use Rattle.clv_base.proofs.SameNames.{tx_true, nat_cmp_true}
 use Rattle.law_base.proofs.Anchors.{cmp_less}
 use Rattle.law_base.proofs.LockRows.{Rows}
+use Rattle.law_base.proofs.Numbers.{is_equal as equal_cmp, lt_from as is_less, is_less as less_cmp}
 
 -- ---- births
 
@@ -34,24 +34,10 @@ less_or_equal m n o e = at (nat_cmp m n) refl e
     at Equal f g = inr (nat_cmp_true m n (ap is_eq f), g)
     at Greater f g = absurd (both_ways false refl g)
 
-pub is_less : (m n : ℕ) → is_lt (nat_cmp m n) ≡ true → m < n
-is_less m n e = at (nat_cmp m n) refl e
-  where
-    at : (c : Ordering) → nat_cmp m n ≡ c → is_lt c ≡ true → m < n
-    at Less f g = cmp_less m n f
-    at Equal f g = absurd (both_ways false refl g)
-    at Greater f g = absurd (both_ways false refl g)
-
 pub older_of_test : (a b : Birth) → is_older a b ≡ true → Older a b
 older_of_test a b e =
     ⊎_elim (λ l. inl l) (λ p. ⊎_elim (λ l. inr (p.0, inl l)) (λ q. inr (p.0, inr (q.0, is_less a.serial b.serial q.1))) (less_or_equal a.session b.session (nat_cmp a.serial b.serial) p.1))
     (less_or_equal a.stamp b.stamp (ordering_then (nat_cmp a.session b.session) (nat_cmp a.serial b.serial)) e)
-
-pub less_cmp : (m n : ℕ) → m < n → nat_cmp m n ≡ Less
-less_cmp m n l = sym (nat_cmp_is m n Less l)
-
-pub equal_cmp : (m n : ℕ) → m ≡ n → nat_cmp m n ≡ Equal
-equal_cmp m n e = sym (nat_cmp_is m n Equal e)
 
 pub older_is_told : (a b : Birth) → Older a b → is_older a b ≡ true
 older_is_told a b (inl l) = ap (λ o. is_lt (ordering_then o (ordering_then (nat_cmp a.session b.session) (nat_cmp a.serial b.serial)))) (less_cmp a.stamp b.stamp l)

@@ -40,7 +40,7 @@ use Rattle.history_laws.proofs.Entering.{Makes, by_event, by_flush, by_failure, 
 use Rattle.history_laws.proofs.Merging.{Placed, Before, before_then, Among, among_append, among_left, among_right, is_among}
 use Rattle.history_laws.proofs.Durability.{Counted, fronts_entry, opened_counted}
 use Rattle.history_laws.proofs.Telling.{IsRequest}
-use Rattle.history_laws.proofs.OldRuns.{each_passes, below_next_run}
+use Rattle.history_laws.proofs.OldRuns.{below_next_run}
 use Rattle.protocol_laws.proofs.OrderInOrder.{runs_in_order}
 use Rattle.protocol_laws.specs.Order.{RunFits}
 use Rattle.history_laws.proofs.Worlds.{state_at}
@@ -51,6 +51,7 @@ use Rattle.origin_laws.proofs.Sessions.{Requested}
 use Rattle.origin_laws.proofs.Origins.{AwayRequest, MessageFrom, Origins, AllFrom, RecordFrom, from_finish}
 use Rattle.protocol_laws.proofs.Reaching.{restarts_lead_to_one}
 use Rattle.origin_laws.proofs.Events.{Owes, from_step, from_happens, from_flushed, from_down, from_revived, from_opened, from_more, from_known}
+use Rattle.law_base.proofs.Logs.{passes_at as each_passes}
 
 -- ---- what stands in a history so far
 

@@ -43,9 +43,9 @@ use Rattle.law_base.proofs.Tables.{stage_by, get_changed, get_put, is_pair, in_p
 use Rattle.law_base.proofs.LockRows.{Rows, rows_take, rows_all, rows_split, rows_close, rows_release, violated_row}
 use Rattle.law_base.proofs.Stages.{get_other, get_closed_own}
 use Rattle.shard_laws.proofs.Performing.{add_which}
-use Rattle.shard_laws.proofs.Restoring.{restored_there}
 use Rattle.history_laws.proofs.Stepping.{commits, votes, rules, KeptByDue, settled, with_work, Step, op_dies, op_answers, request_refused, request_doomed, request_again, request_new, request_closes, looks_well, looks_ill, drops, sends, prepare_closes, prepare_again, vote_counts, decision_comes, decision_again, done_counts, asked, reminds, flushes, Happens, finishes, stops}
 use Rattle.session_laws.proofs.Replying.{OpIs, dies, rolls, performs, reply_is}
+use Rattle.law_base.proofs.Names.{restored_there, MayStand}
 
 -- ---- a lock is that of a part, with its birth, and closed as it is
 
@@ -141,10 +141,6 @@ tied_finish : (E : TxId → TxId → Type 0) (s : Shard) → Tied E s → Tied E
 tied_finish E s k = let q = settled (Tied E) s (tied_due E) k in record { rows = q.rows; pairs = q.pairs; listed = q.listed }
 
 -- ---- an operation
-
--- the parts that an operation finds: its transaction is new, or active with this birth
-abbrev pub MayStand : Table Held → TxId → Birth → Type 0
-MayStand parts tx birth = (tx_get tx parts ≡ None) ⊎ ((h : Held) × (tx_get tx parts ≡ Some h) × (h.birth ≡ birth) × (h.stage ≡ Active))
 
 stays_part : (tx u : TxId) (birth b : Birth) (c : Bool) (o : Option Held) (parts : Table Held) → tx_get tx parts ≡ o → LockOf parts u b c → LockOf (new_part tx birth o parts) u b c
 stays_part tx u birth b c (Some h) parts e k = k

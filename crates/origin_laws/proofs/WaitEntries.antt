@@ -47,7 +47,8 @@ use Rattle.law_base.proofs.Lists.{all_mono}
 use Rattle.origin_laws.specs.Waiting.{OpenedInDoubt}
 use Rattle.origin_laws.proofs.Doubted.{has_stage}
 use Rattle.origin_laws.proofs.Opening.{MayHave, MayPrepare, Opened, opened_opens, opened_entry}
-use Rattle.origin_laws.proofs.Tied.{ListsAre, Tied, MayStand, OpOwes, tied_happens, tied_flushed, tied_down, tied_revived, tied_opened, tied_mono, tied_as}
+use Rattle.origin_laws.proofs.Tied.{ListsAre, Tied, OpOwes, tied_happens, tied_flushed, tied_down, tied_revived, tied_opened, tied_mono, tied_as}
+use Rattle.law_base.proofs.Names.{MayStand}
 
 -- ---- who asked before whom
 

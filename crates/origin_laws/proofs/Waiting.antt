@@ -49,13 +49,14 @@ use Rattle.origin_laws.proofs.Events.{active_done}
 use Rattle.origin_laws.proofs.Entries.{Did, IsOld}
 use Rattle.law_base.proofs.Rows.{rows_get}
 use Rattle.origin_laws.specs.Waiting.{OpenedInDoubt, IsRequestOf, AskedBefore, birth_waiting, IsActiveAs, WithoutRequest, WithRequest, WaitsGoDown, WaitsThrough, at_once, through, WaitsHaveNoCycle}
-use Rattle.origin_laws.proofs.Deciding.{Older, less_or_equal, is_less, older_of_test, older_is_told, either, older_then, not_older_itself, in_way, less_cmp, equal_cmp}
+use Rattle.origin_laws.proofs.Deciding.{Older, less_or_equal, older_of_test, older_is_told, either, older_then, not_older_itself, in_way}
 use Rattle.origin_laws.proofs.Doubted.{has_stage}
 use Rattle.origin_laws.proofs.Opening.{MayHave, MayPrepare}
 use Rattle.origin_laws.proofs.Tied.{LockOf}
 use Rattle.origin_laws.proofs.Births.{one_birth}
 use Rattle.origin_laws.proofs.WaitEntries.{AskedFirst, Earlier, Depends, depends}
 use Rattle.history_laws.proofs.Doubts.{doubted_is_old}
+use Rattle.law_base.proofs.Numbers.{lt_from as is_less, is_less as less_cmp, is_equal as equal_cmp}
 
 -- ---- an operation that is to wait
 

@@ -15,10 +15,12 @@ use Rattle.clv_base.specs.declared.events.Outcome.TheVariants.{Answered, Dead, A
 use Rattle.clv_base.specs.declared.events.Entry.{Entry}
 use Rattle.clv_base.specs.Orders.{tx_same}
 use Rattle.clv_base.specs.LogRules.{same_option}
-use Rattle.clv_base.specs.Sessions.{Phase, Touching, Ended, Standing, Told, Refused, SessionState, no_session, is_touching, may_drop, same_birth, follows_birth, goes_on, begins, begun, session_for, is_number, goes_on_scan, scan_shard, lies_in, op_answered, op_in_session, same_touched, is_lowest, requested, looked, stands_at, after_drop, session_after, makes_from}
+use Rattle.clv_base.specs.Sessions.{SessionState, no_session, is_touching, may_drop, same_birth, follows_birth, goes_on, begins, begun, session_for, is_number, goes_on_scan, scan_shard, lies_in, op_answered, op_in_session, same_touched, is_lowest, requested, looked, stands_at, after_drop, session_after, makes_from}
 use Rattle.clv_base.proofs.SameNames.{nat_cmp_true}
 use Rattle.law_base.proofs.Tables.{then_eq}
 use Rattle.protocol_laws.specs.SessionLaws.{tx_of, works_on, ended_by, number_of, SerialsRise, NoneWorksOn, EndsStay, IsNext, AreNumbered, SessionsKeepOrder}
+use Rattle.law_base.proofs.Shards.{drop_ends}
+use Rattle.law_base.proofs.Bools.{and_three as parts3}
 
 -- ---- names that are the same are equal
 
@@ -34,12 +36,6 @@ names a b e =
     record { runs = nat_cmp_true _ _ p.0; sessions = nat_cmp_true _ _ q.0; serials = nat_cmp_true _ _ q.1 }
 
 -- ---- parts of a test
-
-parts3 : (a b c : Bool) → (a && b && c) ≡ true → (a ≡ true) × (b ≡ true) × (c ≡ true)
-parts3 a b c e =
-    let p = and_parts (a && b) c e in
-    let q = and_parts a b p.0 in
-    (q.0, q.1, p.1)
 
 -- ---- what an entry does to a session
 
@@ -157,13 +153,6 @@ look_out t tx _ s = refuses
 look_test : (t : SessionState) (tx : TxId) (n : ℕ) (o : Outcome) (b : Bool) → (tx_same tx t.tx && stands_at n t.phase) ≡ b → Moves t (Look tx) o (cond b (looked t o) None)
 look_test t tx n o true e = look_out t tx o (names tx t.tx (and_parts (tx_same tx t.tx) (stands_at n t.phase) e).0)
 look_test t tx n o false e = refuses
-
-drop_ends : (p : Phase) → is_touching (after_drop p) ≡ false
-drop_ends Touching = refl
-drop_ends Ended = refl
-drop_ends (Standing home) = refl
-drop_ends Told = refl
-drop_ends Refused = refl
 
 drop_test : (t : SessionState) (tx : TxId) (o : Outcome) (b : Bool) → (tx_same tx t.tx && may_drop t.phase && not ((t.tx).serial == 0)) ≡ b
     → Moves t (Drop tx) o (cond b (Some (record t { phase = after_drop t.phase })) None)

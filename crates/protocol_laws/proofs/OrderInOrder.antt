@@ -1,5 +1,5 @@
 -- What holds of a log in order, record by record.
-use Rattle.std.proofs.Common.{◌≡◌, ⊎_elim, refl, sym, ap, subst, ◌∙◌, ℕ, zero, suc, true, false, Bool, List, [], ◌∷◌, ◌++◌, length, Option, Some, None, arith, append-nil, append_assoc}
+use Rattle.std.proofs.Common.{◌≡◌, ⊎_elim, refl, sym, ap, subst, ◌∙◌, ℕ, zero, suc, true, false, List, [], ◌∷◌, ◌++◌, length, Some, None, arith, append-nil, append_assoc}
 use Rattle.std.specs.Prelude.{⊤, take}
 use Rattle.std.specs.List.{AllByRecursion}
 use Rattle.std.proofs.lemmas.Bool.{both_ways, not-true, false_from_ne_true}
@@ -7,15 +7,16 @@ use Rattle.clv_base.specs.declared.names.TxId.{TxId}
 use Rattle.clv_base.specs.declared.logs.LogRecord.{LogRecord}
 use Rattle.clv_base.specs.declared.logs.LogRecord.TheVariants.{Update, Clr, Prepare, Commit, Abort}
 use Rattle.clv_base.specs.Orders.{nat_in}
-use Rattle.clv_base.specs.Logs.{standing, standing_after, committed_in, aborted_in, is_commit_of, is_abort_of}
+use Rattle.clv_base.specs.Logs.{standing, committed_in, aborted_in, is_commit_of, is_abort_of}
 use Rattle.clv_base.specs.LogRules.{may_follow, disorder_from, disorder}
 use Rattle.clv_base.specs.Restarts.{greatest_run}
 use Rattle.clv_base.proofs.SameNames.{tx_true}
-use Rattle.law_base.proofs.Undoing.{standing_append}
 use Rattle.protocol_laws.specs.Order.{is_clr_of, undone_in, moves, Open_at, Tidy, Unprepared, Sealed, RunFits, NothingAfterCommit, NothingAfterPrepare, UndoneAreUncommitted, CommittedLieOnCommitted, RunsAreThoseOfRestarts, FrontsKeepOrder}
-use Rattle.protocol_laws.proofs.Records.{front, last, push_cases, push_left, push_false}
+use Rattle.protocol_laws.proofs.Records.{push_cases, push_false}
 use Rattle.protocol_laws.proofs.Runs.{runs_step}
 use Rattle.protocol_laws.proofs.Writes.{Writes, writes_step}
+use Rattle.law_base.proofs.Bools.{and_first as front, and_second as last}
+use Rattle.law_base.proofs.Logs.{push_left, order_case, standing_push}
 
 -- a COMMIT does not name the shard itself as a part
 abbrev pub OtherParts : ℕ → LogRecord → Type 0
@@ -74,9 +75,6 @@ length_push : (log : List LogRecord) (r : LogRecord) → suc (length log) ≡ le
 length_push [] r = refl
 length_push (x ∷ xs) r = ap suc (length_push xs r)
 
-standing_push : (log : List LogRecord) (r : LogRecord) → standing (log ++ r ∷ []) ≡ standing_after (length log) r (standing log)
-standing_push log r = standing_append 0 log (r ∷ []) [] ∙ ap (λ n. standing_after n r (standing log)) (omega arith)
-
 order_push : (shard : ℕ) (log : List LogRecord) (r : LogRecord) → Order shard log → may_follow shard log r ≡ true → Order shard (log ++ r ∷ [])
 order_push shard log r h m =
     record {
@@ -90,14 +88,6 @@ order_push shard log r h m =
       runs = runs_step shard log r h.runs m;
       parts = all_push (OtherParts shard) log r h.parts (parts_step shard log r m);
     }
-
-order_case : (shard n : ℕ) (log : List LogRecord) (r : LogRecord) (rs : List LogRecord) (b : Bool) → may_follow shard log r ≡ b → ◌≡◌ {A = Option ℕ} (elim b [ true ↦ disorder_from shard (suc n) (log ++ r ∷ []) rs | false ↦ Some n ]) None
-    → (may_follow shard log r ≡ true) × (disorder_from shard (suc n) (log ++ r ∷ []) rs ≡ None)
-order_case shard n log r rs true e d = (e, d)
-order_case shard n log r rs false e d = absurd (never d)
-  where
-    never : ◌≡◌ {A = Option ℕ} (Some n) None → ⊥
-    never k = absurd cc
 
 order_from : (shard n : ℕ) (log rs : List LogRecord) → disorder_from shard n log rs ≡ None → Order shard log → Order shard (log ++ rs)
 order_from shard n log [] d h = subst (Order shard) (sym (append-nil log)) h

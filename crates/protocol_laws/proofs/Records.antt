@@ -1,7 +1,7 @@
 -- A log with one more record.
 use Rattle.std.proofs.Common.{◌≡◌, ◌⊎◌, inl, inr, ⊎_elim, refl, sym, ap, ◌∙◌, Bool, true, false, cond, ◌||◌, ◌&&◌, List, [], ◌∷◌, ◌++◌, Option, Some, ℕ}
 use Rattle.std.specs.List.{list_any}
-use Rattle.std.proofs.lemmas.Bool.{both_ways, or_cases, and_parts}
+use Rattle.std.proofs.lemmas.Bool.{both_ways, or_cases}
 use Rattle.std.proofs.lemmas.List.Folds.{list_any-append}
 use Rattle.std.proofs.lemmas.Option.{none-some}
 use Rattle.clv_base.specs.declared.names.TxId.{TxId}
@@ -11,20 +11,10 @@ use Rattle.clv_base.specs.Orders.{tx_same}
 use Rattle.clv_base.specs.Logs.{own_tx, is_update_of, is_commit_of, is_prepare_of, is_abort_of, committed_in, prepared_in, prepare_of, commit_parts}
 use Rattle.clv_base.proofs.SameNames.{or_left, or_right, tx_true}
 
--- the parts of a rule, by their places from the end
-pub front : (a b : Bool) → (a && b) ≡ true → a ≡ true
-front a b e = (and_parts a b e).0
-
-pub last : (a b : Bool) → (a && b) ≡ true → b ≡ true
-last a b e = (and_parts a b e).1
-
 -- whether some record passes, with one more
 pub push_cases : (test : LogRecord → Bool) (log : List LogRecord) (r : LogRecord) → list_any test (log ++ r ∷ []) ≡ true → (list_any test log ≡ true) ⊎ (test r ≡ true)
 push_cases test log r e =
     ⊎_elim (λ a. inl a) (λ a. ⊎_elim (λ b. inr b) (λ b. absurd (both_ways false refl b)) (or_cases (test r) false a)) (or_cases (list_any test log) (list_any test (r ∷ [])) (sym (list_any-append test log (r ∷ [])) ∙ e))
-
-pub push_left : (test : LogRecord → Bool) (log : List LogRecord) (r : LogRecord) → list_any test log ≡ true → list_any test (log ++ r ∷ []) ≡ true
-push_left test log r e = list_any-append test log (r ∷ []) ∙ or_left (list_any test log) (list_any test (r ∷ [])) e
 
 pub push_right : (test : LogRecord → Bool) (log : List LogRecord) (r : LogRecord) → test r ≡ true → list_any test (log ++ r ∷ []) ≡ true
 push_right test log r e = list_any-append test log (r ∷ []) ∙ or_right (list_any test log) (list_any test (r ∷ [])) (or_left (test r) false e)

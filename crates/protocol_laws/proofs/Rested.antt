@@ -1,6 +1,6 @@
 -- In the state after a restart nothing is due, and each ghost bears a lock.
 use Rattle.std.proofs.Common.{◌≡◌, ℕ, ◌⊎◌, inl, inr, ⊎_elim, Bool, true, false, cond, not, ◌&&◌, ◌||◌, List, [], ◌∷◌, Option, Some, None, ◌==◌, refl, sym, ap, subst, ◌∙◌}
-use Rattle.std.specs.List.{AllByRecursion, list_any, list_all}
+use Rattle.std.specs.List.{AllByRecursion, list_all}
 use Rattle.std.specs.declared.cmp.Ordering.{Ordering}
 use Rattle.std.specs.declared.cmp.Ordering.TheVariants.{Less, Equal, Greater}
 use Rattle.std.specs.Ordering.{nat_cmp, ordering_then, is_eq, match_ordering}
@@ -11,7 +11,6 @@ use Rattle.clv_base.specs.declared.logs.LogRecord.TheVariants.{Update, Clr, Prep
 use Rattle.clv_base.specs.declared.modes.Anchor.{Anchor}
 use Rattle.clv_base.specs.declared.modes.Anchor.TheVariants.{Low, At}
 use Rattle.clv_base.specs.declared.modes.Holder.{Holder}
-use Rattle.clv_base.specs.declared.modes.Part.TheVariants.{X}
 use Rattle.clv_base.specs.declared.modes.Found.{Found}
 use Rattle.clv_base.specs.declared.modes.Found.TheVariants.{Live, Ghost, Absent}
 use Rattle.clv_base.specs.declared.state.Stage.TheVariants.{Closed}
@@ -20,7 +19,6 @@ use Rattle.clv_base.specs.declared.events.Entry.{Entry}
 use Rattle.clv_base.specs.Orders.{Table, tx_same, tx_in, tx_get, tx_insert, anchor_cmp, anchor_same}
 use Rattle.clv_base.specs.Maps.{KeyMap}
 use Rattle.clv_base.specs.Logs.{committed_in, aborted_in, is_commit_of, is_below, doubt_by, in_doubt_from, in_doubt, is_winner, fold_updates}
-use Rattle.clv_base.specs.Modes.{on_key}
 use Rattle.clv_base.specs.Locks.{Locks, row_cmp, with_mode, take_one}
 use Rattle.clv_base.specs.State.{Shard}
 use Rattle.clv_base.specs.Undo.{stage_of}
@@ -29,11 +27,12 @@ use Rattle.clv_base.specs.Coordinator.{restored_request, restored_requests}
 use Rattle.clv_base.specs.Needs.{Records, record_set, found_at, is_locked_or_live, without_ghosts}
 use Rattle.clv_base.specs.Facts.{facts_of, has_durable_commit}
 use Rattle.clv_base.specs.Due.{or_else, with_commit_done, commit_due, vote_due, request_due, due_of, first_due, known_txs}
-use Rattle.clv_base.specs.Restarts.{records_of, ghost_if_absent, with_ghosts, old_birth, restored_locks, restored_part, restored_parts, homes_of, unended_in, state_after}
+use Rattle.clv_base.specs.Restarts.{records_of, ghost_if_absent, with_ghosts, restored_locks, restored_part, restored_parts, homes_of, unended_in, state_after}
 use Rattle.clv_base.proofs.SameNames.{nat_cmp_true, nat_cmp_self, tx_true, in_insert}
 use Rattle.law_base.proofs.Tables.{stage_by}
 use Rattle.law_base.proofs.Commits.{no_place_from}
 use Rattle.protocol_laws.specs.Resting.{RestartsEndAtRest}
+use Rattle.law_base.proofs.Names.{Stays, shut_lock as doubt_holder, held_on as held_at}
 
 -- ---- who is in doubt isn't committed
 
@@ -142,9 +141,6 @@ anchor_true Low (At k) e = absurd cc
 anchor_true (At j) Low e = absurd cc
 anchor_true (At j) (At k) e = ap At (nat_cmp_true j k (ap is_eq e))
 
-abbrev held_at : Anchor → Locks → Bool
-held_at a locks = list_any (λ r. anchor_same a r.0) locks
-
 then_equal : (a b : Ordering) → ordering_then a b ≡ Equal → a ≡ Equal
 then_equal Less b e = absurd cc
 then_equal Equal b e = refl
@@ -168,9 +164,6 @@ take_has_case Greater k h r rs more ih = or_right (anchor_same (At k) r.0) _ ih
 take_has : (k : ℕ) (h : Holder) (locks : Locks) → held_at (At k) (take_one (At k) h locks) ≡ true
 take_has k h [] = or_left _ _ (nat_cmp_self k)
 take_has k h (r ∷ rs) = take_has_case (row_cmp (At k) h.tx r) k h r rs (take_one (At k) h rs) (take_has k h rs)
-
-abbrev doubt_holder : TxId → Holder
-doubt_holder tx = record { tx = tx; birth = old_birth tx; mode = on_key X; closed = true }
 
 locks_keep : (txs : List TxId) (log : List LogRecord) (locks : Locks) (x : Anchor) → held_at x locks ≡ true → held_at x (restored_locks txs log locks) ≡ true
 locks_keep txs [] locks x e = e
@@ -202,10 +195,6 @@ keys_held txs (Commit tx ps ∷ log) locks = (tt, keys_held txs log locks)
 keys_held txs (Abort tx ∷ log) locks = (tt, keys_held txs log locks)
 keys_held txs (End tx ∷ log) locks = (tt, keys_held txs log locks)
 keys_held txs (Restart run epoch ∷ log) locks = (tt, keys_held txs log locks)
-
--- records that stay
-abbrev Stays : Locks → Records → Type 0
-Stays locks rs = AllByRecursion (λ r. is_locked_or_live locks r ≡ true) rs
 
 locked_ghost : (locks : Locks) (k : ℕ) → held_at (At k) locks ≡ true → is_locked_or_live locks (k, None) ≡ true
 locked_ghost locks k e = ap (λ b. not (not b)) e

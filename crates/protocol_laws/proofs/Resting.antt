@@ -20,6 +20,7 @@ use Rattle.clv_base.specs.Due.{or_else, with_commit_done, commit_due, vote_due, 
 use Rattle.clv_base.specs.Events.{finish}
 use Rattle.protocol_laws.specs.Resting.{IsAtRest}
 use Rattle.clv_base.proofs.Settling.{nothing_is_left}
+use Rattle.law_base.proofs.Shards.{rest_of as or_rest}
 
 abbrev purged : Shard → Shard
 purged s = with_local purge s
@@ -68,10 +69,6 @@ no_due s tx e =
     (vote_due (purged s) tx (tx_get tx s.voters)) (request_due (purged s) tx (tx_get tx s.requests))
     (no_vote s tx (tx_get tx s.voters)) (no_request s tx (tx_get tx s.requests)))
     e
-
--- the rest of a list, where nothing is due for its first
-abbrev or_rest : Option Shard → Option Shard → Option Shard
-or_rest o rest = elim o [ Some t ↦ Some t | None ↦ rest ]
 
 none_found : (o rest p later : Option Shard) → (o ≡ None → p ≡ None) → (rest ≡ None → later ≡ None) → or_rest o rest ≡ None → or_rest p later ≡ None
 none_found (Some t) rest p later f g e = absurd cc

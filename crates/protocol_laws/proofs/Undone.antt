@@ -15,6 +15,7 @@ use Rattle.clv_base.specs.Restarts.{losers, undo_records, greatest_epoch, next_e
 use Rattle.clv_base.proofs.SameNames.{or_left, tx_true, tx_self}
 use Rattle.law_base.proofs.Sets.{Rises, writers_rise, filter_rises, without_first, filter_alike, filter_both, in_filter, filter_in, in_passes, none_pass, none_passed, writers_without, each_writer}
 use Rattle.law_base.proofs.Doubts.{Unlike, is_it, nobody, abort_unlike, clr_unlike, restart_unlike, aborted_more, winners_more, standing_more}
+use Rattle.law_base.proofs.Names.{other_name as other_writer}
 
 -- the losers that have no ABORT
 abbrev pub unaborted : ℕ → List LogRecord → List TxId
@@ -86,9 +87,6 @@ first_here set w ws c cs i e = (w.tx, newest_lsn w.tx ws, w.key, w.before, cc, i
   where
     tails : clrs_of set ws ≡ cs
     tails = cc
-
-other_writer : (set : List TxId) (t u : TxId) → tx_in t set ≡ true → tx_in u set ≡ false → tx_same t u ≡ false
-other_writer set t u i o = false_from_ne_true _ (λ e. both_ways _ o (subst (λ x. tx_in x set ≡ true) (tx_true t u e) i))
 
 first_later : (set : List TxId) (w : StandingUpdate) (ws : List StandingUpdate) (c : LogRecord) (cs : List LogRecord) → tx_in w.tx set ≡ false → FirstClr set ws c cs → FirstClr set (w ∷ ws) c cs
 first_later set w ws c cs o (t, u, k, a, e, i, r) = (

@@ -15,7 +15,10 @@ use Rattle.law_base.proofs.Running.{top_value, after_of, value_top}
 use Rattle.law_base.proofs.Undoing.{Chain}
 use Rattle.law_base.proofs.Options.{option_true}
 use Rattle.protocol_laws.specs.Order.{LieOnThese}
-use Rattle.protocol_laws.proofs.Records.{front, last, push_cases, push_left, push_right, push_same}
+use Rattle.protocol_laws.proofs.Records.{push_cases, push_right, push_same}
+use Rattle.law_base.proofs.Bools.{and_first as front, and_second as last}
+use Rattle.law_base.proofs.Logs.{push_left}
+use Rattle.law_base.proofs.Names.{all_without}
 
 -- each is at a lower place than those before it
 abbrev pub Falling : List StandingUpdate → Type 0
@@ -29,10 +32,6 @@ pub record Writes (these : TxId → Bool) (n : ℕ) (ws : List StandingUpdate) :
   pub lie : LieOnThese these ws
 
 -- ---- without the newest of a transaction
-
-pub all_without : (P : StandingUpdate → Type 0) (t : TxId) (ws : List StandingUpdate) → AllByRecursion P ws → AllByRecursion P (without_newest t ws)
-all_without P t [] a = tt
-all_without P t (w ∷ ws) a = cond_both (tx_same t w.tx) ws (w ∷ without_newest t ws) (AllByRecursion P) (λ e. a.1) (λ e. (a.0, all_without P t ws a.1))
 
 falls_without : (t : TxId) (ws : List StandingUpdate) → Falling ws → Falling (without_newest t ws)
 falls_without t [] f = tt

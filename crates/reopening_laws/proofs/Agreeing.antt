@@ -7,10 +7,11 @@ use Rattle.clv_base.specs.declared.logs.LogRecord.{LogRecord}
 use Rattle.clv_base.specs.declared.logs.LogRecord.TheVariants.{Update, Clr, Prepare, Commit, Abort, End, Restart}
 use Rattle.clv_base.specs.Orders.{tx_same, tx_in, nat_in}
 use Rattle.clv_base.specs.Logs.{is_record_of, committed_in, aborted_in, ended_in, prepare_of, commit_parts}
-use Rattle.clv_base.specs.LogRules.{log_of, all_logs_from, any_log_from, home_is, part_agrees, agrees_at, is_home_of, committed_of, committed_of_all, first_apart, apart}
+use Rattle.clv_base.specs.LogRules.{log_of, any_log_from, home_is, part_agrees, agrees_at, is_home_of, committed_of, committed_of_all, first_apart, apart}
 use Rattle.clv_base.proofs.SameNames.{tx_self, in_insert}
 use Rattle.fate_laws.proofs.HomesFound.{nat_at, named_part}
 use Rattle.origin_laws.proofs.Waiting.{in_union}
+use Rattle.law_base.proofs.Logs.{all_logs}
 
 -- ---- a home
 
@@ -26,12 +27,6 @@ pub record HomeIs (logs : List (List LogRecord)) (t : TxId) (h : ℕ) (ps : List
 all_numbers : (f : ℕ → Bool) (ns : List ℕ) → ((n : ℕ) → nat_in n ns ≡ true → f n ≡ true) → list_all f ns ≡ true
 all_numbers f [] k = refl
 all_numbers f (n ∷ ns) k = and_from (f n) _ (k n (or_left (n == n) _ (eq-eqb n n refl))) (all_numbers f ns (λ m i. k m (or_right (m == n) _ i)))
-
-pub all_logs : (test : ℕ → List LogRecord → Bool) (i : ℕ) (logs : List (List LogRecord)) → ((n : ℕ) → n < length logs → test (i + n) (log_of logs n) ≡ true) → all_logs_from i test logs ≡ true
-all_logs test i [] k = refl
-all_logs test i (log ∷ logs) k =
-    and_from (test i log) _ (subst (λ z. test z log ≡ true) (omega arith) (k 0 (omega arith)))
-    (all_logs test (suc i) logs (λ n l. subst (λ z. test z (log_of logs n) ≡ true) (omega arith) (k (suc n) (omega (arith, l)))))
 
 any_log : (test : ℕ → List LogRecord → Bool) (i n : ℕ) (logs : List (List LogRecord)) → n < length logs → test (i + n) (log_of logs n) ≡ true → any_log_from i test logs ≡ true
 any_log test i n [] l e = absurd (omega (arith, l))

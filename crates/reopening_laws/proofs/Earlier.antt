@@ -15,7 +15,7 @@ use Rattle.clv_base.specs.Journals.{History, final_of}
 use Rattle.clv_base.specs.History.{Legal, logs_left}
 use Rattle.clv_base.proofs.SameNames.{tx_true}
 use Rattle.law_base.proofs.Commits.{committed_append, parts_keep}
-use Rattle.protocol_laws.proofs.Records.{front, last, committed_there, prepared_there}
+use Rattle.protocol_laws.proofs.Records.{committed_there, prepared_there}
 use Rattle.history_laws.proofs.Uncommitting.{opening_adds}
 use Rattle.shard_laws.proofs.Following.{Follows, from_disorder}
 use Rattle.shard_laws.proofs.Listing.{prepared_wrote}
@@ -33,6 +33,7 @@ use Rattle.reopening_laws.proofs.Agreeing.{HomeIs, HasHome, PartIs, home_from, p
 use Rattle.reopening_laws.proofs.Keeping.{wrote_or_committed, home_behind, all_committed}
 use Rattle.reopening_laws.proofs.Left.{InOrder, left_opened, left_grows, left_aborted}
 use Rattle.history_laws.proofs.Passing.{left_length}
+use Rattle.law_base.proofs.Bools.{and_first as front, and_second as last}
 
 -- ---- a COMMIT behind the RESTART of a later run is of one that is prepared
 

@@ -21,7 +21,6 @@ use Rattle.clv_base.specs.History.{Legal, WasSent, logs_left}
 use Rattle.law_base.proofs.Changed.{none_some, some_same}
 use Rattle.history_laws.proofs.Entering.{makes}
 use Rattle.history_laws.proofs.Merging.{Placed, Among, among_append, is_among}
-use Rattle.history_laws.proofs.OldRuns.{each_passes}
 use Rattle.history_laws.proofs.Worlds.{state_at}
 use Rattle.history_laws.proofs.Passing.{logs_left_pass, left_length}
 use Rattle.fate_laws.proofs.Deciding.{log_now, durable_left}
@@ -34,6 +33,7 @@ use Rattle.reopening_laws.proofs.EndingEnds.{tell_front}
 use Rattle.reopening_laws.proofs.Hearing.{Hears}
 use Rattle.reopening_laws.proofs.HearingEvents.{Brings, Enters, SaysOut, hears_mono, hears_opened, hears_made, hears_noted, out_made}
 use Rattle.reopening_laws.proofs.Opening.{opening_tells}
+use Rattle.law_base.proofs.Logs.{passes_at as each_passes}
 
 -- ---- what is known after a front of the history
 

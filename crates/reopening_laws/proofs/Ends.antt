@@ -7,9 +7,8 @@ use Rattle.std.proofs.lemmas.List.{take-append-drop}
 use Rattle.clv_base.specs.declared.names.TxId.{TxId}
 use Rattle.clv_base.specs.declared.logs.LogRecord.{LogRecord}
 use Rattle.clv_base.specs.Orders.{nat_in}
-use Rattle.clv_base.specs.Maps.{KeyMap}
 use Rattle.clv_base.specs.Shards.{shard_count}
-use Rattle.clv_base.specs.Logs.{is_record_of, committed_in, wrote_in, aborted_in, ended_in, prepare_of, commit_parts, committed_somewhere, fold_updates, stands_from, stands}
+use Rattle.clv_base.specs.Logs.{is_record_of, committed_in, wrote_in, aborted_in, ended_in, prepare_of, commit_parts, committed_somewhere, fold_updates, stands}
 use Rattle.clv_base.specs.LogRules.{log_of, all_logs_from, home_is}
 use Rattle.clv_base.specs.FileRules.{may_open, log_passes, passes_file_rules}
 use Rattle.clv_base.specs.State.{Shard}
@@ -24,7 +23,6 @@ use Rattle.shard_laws.proofs.Histories.{held}
 use Rattle.shard_laws.proofs.Listing.{order_of}
 use Rattle.shard_laws.proofs.Renewing.{Fine}
 use Rattle.history_laws.proofs.Merging.{Placed}
-use Rattle.history_laws.proofs.OldRuns.{each_passes}
 use Rattle.history_laws.proofs.Serials.{member_at}
 use Rattle.history_laws.proofs.Passing.{logs_left_pass}
 use Rattle.history_laws.proofs.Records.{Passes, passes_all, all_pass}
@@ -38,28 +36,16 @@ use Rattle.many_shards_laws.proofs.Earlier.{follows_behind}
 use Rattle.fate_laws.proofs.HomesFound.{home_of}
 use Rattle.many_shards_laws.proofs.Homes.{doubted}
 use Rattle.reopening_laws.specs.Ends.{LogsAtTheEndMayBeOpened, TellTheSame, LogsAtTheEndAreWhatIsLeft}
-use Rattle.reopening_laws.proofs.Agreeing.{HomeIs, HasHome, PartIs, home_from, part_here, part_from, all_logs, agree}
+use Rattle.reopening_laws.proofs.Agreeing.{HomeIs, HasHome, PartIs, home_from, part_here, part_from, agree}
 use Rattle.fate_laws.proofs.RecordKinds.{update_is, commit_is}
 use Rattle.reopening_laws.proofs.Keeping.{wrote_or_committed, home_behind, all_committed}
 use Rattle.history_laws.proofs.Passing.{left_length}
 use Rattle.acknowledged_laws.proofs.Earlier.{committed_within}
 use Rattle.reopening_laws.proofs.Reopening.{logs_left_may_be_opened}
 use Rattle.reopening_laws.proofs.Failed.{Stays, stays_same, stays_failed, same_wrote, same_committed, same_ended, same_fold}
+use Rattle.law_base.proofs.Logs.{passes_at as each_passes, all_logs, same_somewhere, same_stands}
 
 -- ---- logs that agree shard by shard
-
-same_somewhere : (xs ys : List (List LogRecord)) (t : TxId) → length xs ≡ length ys → ((n : ℕ) → n < length ys → committed_in (log_of xs n) t ≡ committed_in (log_of ys n) t) → committed_somewhere xs t ≡ committed_somewhere ys t
-same_somewhere [] [] t e k = refl
-same_somewhere [] (y ∷ ys) t e k = absurd (omega (arith, e))
-same_somewhere (x ∷ xs) [] t e k = absurd (omega (arith, e))
-same_somewhere (x ∷ xs) (y ∷ ys) t e k =
-    ap (λ b. b || committed_somewhere xs t) (k 0 (omega arith)) ∙ ap (λ b. committed_in y t || b) (same_somewhere xs ys t (omega (arith, e)) (λ n i. k (suc n) (omega (arith, i))))
-
-same_stands : (f g : TxId → Bool) (xs ys : List (List LogRecord)) (m : KeyMap) → length xs ≡ length ys → ((n : ℕ) → n < length ys → (m : KeyMap) → fold_updates f (log_of xs n) m ≡ fold_updates g (log_of ys n) m) → stands_from f xs m ≡ stands_from g ys m
-same_stands f g [] [] m e k = refl
-same_stands f g [] (y ∷ ys) m e k = absurd (omega (arith, e))
-same_stands f g (x ∷ xs) [] m e k = absurd (omega (arith, e))
-same_stands f g (x ∷ xs) (y ∷ ys) m e k = ap (stands_from f xs) (k 0 (omega arith) m) ∙ same_stands f g xs ys (fold_updates g y m) (omega (arith, e)) (λ n i. k (suc n) (omega (arith, i)))
 
 abbrev with_member : List (List LogRecord) → History → Placed → TxId → List Member → List Member
 with_member logs h e t ms = cond (committed_in (log_of logs e.0) t || acknowledged_in h t) (member_at h e t ∷ ms) ms

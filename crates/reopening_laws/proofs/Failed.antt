@@ -1,6 +1,6 @@
 -- What failed restarts add to a log: ABORTs, CLRs and RESTARTs, and no ABORT of one that is in doubt. So the log stays in order and keeps what it tells.
 use Rattle.std.proofs.Common.{◌≡◌, refl, sym, ap, subst, ◌∙◌, ℕ, zero, suc, true, false, cond, Bool, not, ◌||◌, List, [], ◌∷◌, ◌++◌, map, append_assoc, append-nil}
-use Rattle.std.specs.Prelude.{⊤, take}
+use Rattle.std.specs.Prelude.{take}
 use Rattle.std.specs.List.{AllByRecursion, filter, list_any}
 use Rattle.std.proofs.lemmas.Bool.{both_ways, cond_both, false_from_ne_true, or_left}
 use Rattle.std.proofs.lemmas.List.Folds.{list_any-append}
@@ -20,15 +20,9 @@ use Rattle.shard_laws.proofs.Doubting.{doubted}
 use Rattle.shard_laws.proofs.Rebuilding.{of_restarts}
 use Rattle.shard_laws.proofs.Renewing.{Fine, found_self, renewed_by}
 use Rattle.history_laws.proofs.Records.{Passes, restarts_pass}
+use Rattle.law_base.proofs.Logs.{IsUndo}
 
 -- ---- the records
-
--- a record that undoes, or the RESTART behind such
-abbrev pub IsUndo : LogRecord → Type 0
-IsUndo (Abort tx) = ⊤
-IsUndo (Clr tx undo_next key after) = ⊤
-IsUndo (Restart run epoch) = ⊤
-IsUndo _ = ⊥
 
 aborts_undo : (ts : List TxId) → AllByRecursion IsUndo (map (λ t. Abort t) ts)
 aborts_undo [] = tt

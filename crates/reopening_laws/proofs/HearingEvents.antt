@@ -1,8 +1,8 @@
 -- Each entry keeps what a home heard of the parts of its commits, and what it sends says it.
-use Rattle.std.proofs.Common.{◌≡◌, ◌⊎◌, inl, inr, ⊎_elim, refl, sym, ap, subst, ℕ, true, false, not, ◌&&◌, ◌==◌, Bool, List, [], ◌∷◌, Option, Some, None, is_some, arith}
+use Rattle.std.proofs.Common.{◌≡◌, ◌⊎◌, inl, inr, ⊎_elim, refl, sym, subst, ℕ, true, false, not, ◌&&◌, ◌==◌, Bool, List, [], ◌∷◌, Option, Some, None, is_some, arith}
 use Rattle.std.specs.Prelude.{⊤}
 use Rattle.std.specs.List.{AllByRecursion, filter}
-use Rattle.std.specs.Ordering.{nat_cmp, match_ordering, is_eq}
+use Rattle.std.specs.Ordering.{match_ordering}
 use Rattle.std.specs.declared.cmp.Ordering.{Ordering}
 use Rattle.std.specs.declared.cmp.Ordering.TheVariants.{Less, Equal, Greater}
 use Rattle.std.proofs.lemmas.Bool.{both_ways, or_cases, or_left, or_right, eqb-true}
@@ -21,7 +21,7 @@ use Rattle.clv_base.specs.declared.events.Event.TheVariants.{Deliver}
 use Rattle.clv_base.specs.declared.events.Outcome.{Outcome}
 use Rattle.clv_base.specs.declared.events.Outcome.TheVariants.{Sent}
 use Rattle.clv_base.specs.declared.events.Entry.{Entry}
-use Rattle.clv_base.specs.Orders.{Table, tx_in, tx_get, tx_put, nat_in, nat_insert}
+use Rattle.clv_base.specs.Orders.{Table, tx_in, tx_get, tx_put, nat_in}
 use Rattle.clv_base.specs.State.{Shard, with_local}
 use Rattle.clv_base.specs.Undo.{roll_back}
 use Rattle.clv_base.specs.Facts.{facts_of, has_durable_commit, is_waiting}
@@ -31,8 +31,7 @@ use Rattle.clv_base.specs.OneShard.{close_part, drop_part}
 use Rattle.clv_base.specs.Events.{finish, is_alone, coordinate, decided, ask_messages, durable_requests, waiting_voters, reminders, with_durable}
 use Rattle.clv_base.specs.Restarts.{log_left, revived, opened, unended_in, log_after_restart, Restarts}
 use Rattle.clv_base.specs.Journals.{event_state, after_entry, up_to_restart}
-use Rattle.clv_base.proofs.SameNames.{nat_cmp_true}
-use Rattle.law_base.proofs.Lists.{all_mono, all_append}
+use Rattle.law_base.proofs.Lists.{all_mono, all_append, insert_in as in_inserted}
 use Rattle.law_base.proofs.Commits.{commit_durable, durable_keeps}
 use Rattle.protocol_laws.proofs.Growing.{grows_settled}
 use Rattle.shard_laws.proofs.Relisting.{request_from}
@@ -113,10 +112,6 @@ insert_case : (o : Ordering) (n m x : ℕ) (xs ys : List ℕ) → (o ≡ Equal �
 insert_case Less n m x xs ys q e k = ⊎_elim (λ a. inl (eqb-true m n a)) (λ a. inr a) (or_cases (m == n) (nat_in m (x ∷ xs)) e)
 insert_case Equal n m x xs ys q e k = inr e
 insert_case Greater n m x xs ys q e k = ⊎_elim (λ a. inr (or_left (m == x) (nat_in m xs) a)) (λ a. ⊎_elim (λ b. inl b) (λ b. inr (or_right (m == x) (nat_in m xs) b)) (k a)) (or_cases (m == x) (nat_in m ys) e)
-
-in_inserted : (n m : ℕ) (xs : List ℕ) → nat_in m (nat_insert n xs) ≡ true → (m ≡ n) ⊎ (nat_in m xs ≡ true)
-in_inserted n m [] e = ⊎_elim (λ a. inl (eqb-true m n a)) (λ a. inr a) (or_cases (m == n) false e)
-in_inserted n m (x ∷ xs) e = insert_case (nat_cmp n x) n m x xs (nat_insert n xs) (λ q. nat_cmp_true n x (ap is_eq q)) e (in_inserted n m xs)
 
 done_row : (K : ℕ → TxId → Type 0) (log : List LogRecord) (tx : TxId) (from : ℕ) (q : Request) → K from tx → Row K log tx q → Row K log tx (with_done_of from q)
 done_row K log tx from q d r = ((λ m i. ⊎_elim (λ e. subst (λ n. K n tx) (sym e) d) (λ j. r.0 m j) (in_inserted from m q.acknowledged_by i)), r.1)

@@ -30,7 +30,6 @@ use Rattle.shard_laws.proofs.Following.{from_disorder}
 use Rattle.origin_laws.proofs.Sessions.{Requested}
 use Rattle.origin_laws.proofs.Entries.{DidOrOld, IsOld, OriginsAt, traced_front}
 use Rattle.fate_laws.specs.Decisions.{is_left}
-use Rattle.fate_laws.proofs.Arriving.{all_from}
 use Rattle.fate_laws.proofs.Binding.{Bound}
 use Rattle.fate_laws.proofs.Bindings.{Bindings, bindings_front}
 use Rattle.fate_laws.proofs.Casting.{casts_front}
@@ -53,6 +52,7 @@ use Rattle.reopening_laws.proofs.Agreeing.{HomeIs, PartIs, part_here}
 use Rattle.reopening_laws.proofs.Keeping.{wrote_or_committed}
 use Rattle.reopening_laws.proofs.Left.{InOrder, left_aborted}
 use Rattle.history_laws.proofs.Passing.{left_length}
+use Rattle.law_base.proofs.Names.{all_from}
 
 -- the home is none of the others
 not_home : (home : ℕ) (xs : List ℕ) → nat_in home (filter (λ p. not (p == home)) xs) ≡ true → ⊥

@@ -14,7 +14,7 @@ use Rattle.clv_base.specs.Restarts.{run_after, log_after_restart}
 use Rattle.clv_base.proofs.SameNames.{tx_true}
 use Rattle.law_base.proofs.Changed.{none_some, some_same}
 use Rattle.law_base.proofs.Commits.{committed_keeps}
-use Rattle.protocol_laws.proofs.Records.{front, last, committed_there}
+use Rattle.protocol_laws.proofs.Records.{committed_there}
 use Rattle.shard_laws.proofs.Following.{Follows, from_disorder, through}
 use Rattle.shard_laws.proofs.Rulings.{parts_new}
 use Rattle.history_laws.proofs.Uncommitting.{with_more}
@@ -25,6 +25,7 @@ use Rattle.fate_laws.proofs.RecordKinds.{commit_is}
 use Rattle.fate_laws.proofs.Homes.{new_commit}
 use Rattle.reopening_laws.proofs.EndingEnds.{parts_back, EndsFrom, Tell}
 use Rattle.history_laws.proofs.Found.{found_in_order}
+use Rattle.law_base.proofs.Bools.{and_first as front, and_second as last}
 
 -- ---- a log in order
 

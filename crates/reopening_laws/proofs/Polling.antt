@@ -32,7 +32,7 @@ use Rattle.clv_base.specs.Events.{finish, is_alone, coordinate, decided}
 use Rattle.clv_base.specs.Restarts.{log_left, revived, opened, unended_in, log_after_restart, Restarts}
 use Rattle.clv_base.specs.Journals.{event_state, after_entry, up_to_restart}
 use Rattle.law_base.proofs.Changed.{none_some, some_same, get_set}
-use Rattle.law_base.proofs.Lists.{all_mono}
+use Rattle.law_base.proofs.Lists.{all_mono, good_at}
 use Rattle.protocol_laws.proofs.Records.{committed_there}
 use Rattle.protocol_laws.specs.Growth.{IsPrefixOf}
 use Rattle.protocol_laws.proofs.Growing.{same, more, more_twice}
@@ -157,12 +157,6 @@ read_is None e n = absurd (both_ways false refl e)
 read_is (Some Yes) e n = absurd (n refl)
 read_is (Some Read) e n = refl
 read_is (Some (No why)) e n = absurd (both_ways false refl e)
-
-good_at : (vs : List (ℕ × Vote)) (ns : List ℕ) (m : ℕ) → list_all (λ p. is_good (vote_from p vs)) ns ≡ true → nat_in m ns ≡ true → is_good (vote_from m vs) ≡ true
-good_at vs [] m a i = absurd (both_ways false refl i)
-good_at vs (n ∷ ns) m a i =
-    let p = and_parts (is_good (vote_from n vs)) (list_all (λ p. is_good (vote_from p vs)) ns) a in
-    ⊎_elim (λ e. subst (λ z. is_good (vote_from z vs) ≡ true) (sym (eqb-true m n e)) p.0) (λ j. good_at vs ns m p.1 j) (or_cases (m == n) (nat_in m ns) i)
 
 -- the shards that voted yes are so chosen, where all agree
 yes_chosen : (V : ℕ → TxId → ℕ → Vote → Type 0) (shard : ℕ) (tx : TxId) (q : Request) (f : PartFacts) → is_agreed shard q f ≡ true → Votes V shard tx q.votes → Chosen V shard tx q.touched (yes_shards shard q)

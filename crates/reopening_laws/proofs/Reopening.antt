@@ -12,7 +12,6 @@ use Rattle.clv_base.specs.Restarts.{run_after}
 use Rattle.clv_base.specs.Journals.{History, final_of}
 use Rattle.clv_base.specs.History.{Legal, logs_left}
 use Rattle.protocol_laws.specs.SessionLaws.{tx_of}
-use Rattle.history_laws.proofs.OldRuns.{each_passes}
 use Rattle.history_laws.proofs.Staying.{walker_of}
 use Rattle.history_laws.proofs.Worlds.{in_a_shard}
 use Rattle.history_laws.proofs.Merging.{is_among}
@@ -26,10 +25,11 @@ use Rattle.reopening_laws.proofs.EndingEnds.{parts_there}
 use Rattle.fall_laws.proofs.Ordering.{logs_left_are_in_order}
 use Rattle.fall_laws.proofs.Records.{committed_from}
 use Rattle.reopening_laws.specs.Reopening.{LogsLeftAgree, LogsLeftMayBeOpened}
-use Rattle.reopening_laws.proofs.Agreeing.{HasHome, agree, all_logs}
+use Rattle.reopening_laws.proofs.Agreeing.{HasHome, agree}
 use Rattle.reopening_laws.proofs.Left.{InOrder}
 use Rattle.reopening_laws.proofs.Earlier.{earlier_home}
 use Rattle.reopening_laws.proofs.Here.{home_here}
+use Rattle.law_base.proofs.Logs.{passes_at as each_passes, all_logs}
 
 module _ (splits : List ℕ) (before : List (List LogRecord)) (h : History) (after : List (List LogRecord)) (choice : ℕ → Bool) (o : may_open splits before ≡ true) (l : Legal splits before h after) (orders : InOrder splits before h after choice) where
   abbrev left : List (List LogRecord)

@@ -7,12 +7,13 @@ use Rattle.clv_base.specs.declared.logs.LogRecord.TheVariants.{Update, Clr, Prep
 use Rattle.clv_base.specs.Orders.{tx_same, tx_in, tx_insert}
 use Rattle.clv_base.specs.Logs.{StandingUpdate, is_update_of, wrote_in, without_newest, standing_after, standing_from, standing, writers}
 use Rattle.clv_base.proofs.SameNames.{tx_true}
-use Rattle.log_facts.proofs.Laws.Bools.{both}
 use Rattle.log_facts.proofs.Laws.Members.{in_inserted}
-use Rattle.log_facts.proofs.Laws.Names.{tx_symmetric}
-use Rattle.log_facts.proofs.Laws.Rising.{Rises, insert_rises, nothing_rises, same_list}
-use Rattle.log_facts.proofs.Laws.Pushes.{or_false, standing_push}
+use Rattle.log_facts.proofs.Laws.Rising.{insert_rises, nothing_rises, same_list}
 use Rattle.restart_analysis.specs.Standing.{number_of, count_after, with_writer, writers_by}
+use Rattle.law_base.proofs.Bools.{by_bool as both, or_false, or_yes as or_true}
+use Rattle.law_base.proofs.Sets.{same_flip as tx_symmetric}
+use Rattle.law_base.proofs.Names.{Rise as Rises}
+use Rattle.law_base.proofs.Logs.{standing_push}
 
 -- ---- the numbers after one more record
 
@@ -117,10 +118,6 @@ number_kept n (r ∷ rs) ws t none =
     omega arith
 
 -- ---- the two lists
-
-or_true : (a : Bool) → a || true ≡ true
-or_true true = refl
-or_true false = refl
 
 in_writers : (t : TxId) (ws : List StandingUpdate) → tx_in t (writers ws) ≡ nat_lt 0 (number_of t ws)
 in_writers t [] = refl

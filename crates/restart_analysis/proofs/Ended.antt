@@ -9,8 +9,8 @@ use Rattle.clv_base.specs.LogRules.{some_parts}
 use Rattle.clv_base.specs.Restarts.{unended_with, unended_in}
 use Rattle.log_facts.specs.declared.facts.TxFacts.{TxFacts}
 use Rattle.log_facts.specs.Facts.{known, Knows}
-use Rattle.log_facts.proofs.Laws.Bools.{both}
 use Rattle.restart_analysis.specs.Unended.{commits_by}
+use Rattle.law_base.proofs.Bools.{by_bool as both}
 
 module _ (m : Table TxFacts) (log : List LogRecord) (knows : Knows m log) where
   with_is : (tx : TxId) (parts : List ℕ) (rest : Table (List ℕ)) → cond (some_parts parts && not (known m tx).is_ended) (tx_put tx parts rest) rest ≡ unended_with log tx parts rest

@@ -5,7 +5,8 @@ use Rattle.clv_base.specs.declared.logs.LogRecord.{LogRecord}
 use Rattle.clv_base.specs.Orders.{tx_cmp}
 use Rattle.clv_base.specs.Logs.{StandingUpdate, standing, writers, is_winner}
 use Rattle.clv_base.specs.Restarts.{losers}
-use Rattle.log_facts.proofs.Laws.Rising.{Rises, nothing_rises, insert_rises}
+use Rattle.log_facts.proofs.Laws.Rising.{nothing_rises, insert_rises}
+use Rattle.law_base.proofs.Names.{Rise as Rises}
 
 writers_rise : (ws : List StandingUpdate) → Rises (writers ws)
 writers_rise [] = nothing_rises

@@ -56,22 +56,15 @@ use Rattle.run_status.specs.Running.{End, IsOk, status_by}
 use Rattle.run_ends.specs.Ends.{end_of, walked_by, IsClosedRun}
 use Rattle.run_ends.specs.Statuses.{StatusTold, FlushesTold}
 use Rattle.run_ends.specs.Laws.{ClustersEnd, OthersStand, AllAreIn, RunsKeep, SessionsHaveGone, StatusesTell, FlushesTell, DownsTell}
+use Rattle.law_base.proofs.Lists.{elem_at, some_at}
+use Rattle.law_base.proofs.Restarts.{left_length as length_left}
 
 -- ---- lists
-
-elem_at : {X : Type 0} (xs : List X) (n : ℕ) → n < length xs → X
-elem_at [] n l = absurd (omega arith)
-elem_at (x ∷ xs) n l = x
 
 map_at : {X : Type 0} (f : X → List Entry) (xs : List X) (n : ℕ) (d : X) → n < length xs → journal_at (map f xs) n ≡ f (get_or xs n d)
 map_at f [] n d l = absurd (omega arith)
 map_at f (x ∷ xs) zero d l = refl
 map_at f (x ∷ xs) (suc n) d l = map_at f xs n d (omega arith)
-
-some_at : {X : Type 0} (xs : List X) (n : ℕ) (d : X) → n < length xs → slice_get xs n ≡ Some (get_or xs n d)
-some_at [] n d l = absurd (omega arith)
-some_at (x ∷ xs) zero d l = refl
-some_at (x ∷ xs) (suc n) d l = some_at xs n d (omega arith)
 
 inside : {X : Type 0} (xs : List X) (n : ℕ) (x : X) → slice_get xs n ≡ Some x → n < length xs
 inside [] n x h = absurd cc
@@ -80,10 +73,6 @@ inside (y ∷ xs) (suc n) x h = let l = inside xs n x h in omega arith
 
 state_here : {H : Type 0} (state : H → Shard) (founds : List (List LogRecord)) (homes : List H) (n : ℕ) (d : H) → n < length homes → state_at state founds homes n ≡ state (get_or homes n d)
 state_here state founds homes n d l = ap (λ o. elim o [ Some h ↦ state h | None ↦ start_of founds n ]) (some_at homes n d l)
-
-length_left : (states : ℕ → Shard) (choice : ℕ → Bool) (n k : ℕ) → length (logs_left_from states choice n k) ≡ k
-length_left states choice n zero = refl
-length_left states choice n (suc k) = ap suc (length_left states choice (suc n) k)
 
 -- a disk that came back where none was fetched
 pub none_fetched : {D : Type 0} (s : Shard) (n : ℕ) (fetched : List (Fetched D)) (before now : ℕ) (out : Bool) (story : Option Story) → length fetched ≡ 0 → IsBack s n fetched before now out story → IsBack {D = D} s n [] before now out story

@@ -28,6 +28,7 @@ use Rattle.turn_laws.proofs.Laws.{does_calm, does_fly, legal_counted, none_stops
 use Rattle.cluster_closing.specs.Closing.{IsLeft}
 use Rattle.run_promises.specs.Disks.{flush_after, flush_failed_from, flush_failed, HoldsLog}
 use Rattle.run_ends.specs.ClusterPromisesLaws.{DownAfterFailed, LeftDisksHold, IsEnd, ClosedDisksHold}
+use Rattle.law_base.proofs.Bools.{not_true as not_stop}
 
 -- ---- the last flush of a shard that is down failed
 
@@ -55,10 +56,6 @@ becomes_tells s t (Drop tx) o b k n h down = calm_tells s t b (does_calm s t (Dr
 becomes_tells s t Send o b k n h down = calm_tells s t b (does_calm s t Send o k refl refl).is_up h down
 becomes_tells s t (Deliver x stamp) o b k n h down = calm_tells s t b (does_calm s t (Deliver x stamp) o k refl refl).is_up h down
 becomes_tells s t Remind o b k n h down = calm_tells s t b (does_calm s t Remind o k refl refl).is_up h down
-
-not_stop : (b : Bool) → not b ≡ true → b ≡ false
-not_stop true h = absurd (both_ways false refl h)
-not_stop false h = refl
 
 notes_tell : (s : Shard) (held : Option ℕ) (b : Bool) (ns : List Told) → MayNotes s held ns → never_stops (entries_of_notes ns) ≡ true → Tells b s → Tells (flush_failed_from b (entries_of_notes ns)) (after_notes s ns)
 notes_tell s held b [] m n h = h

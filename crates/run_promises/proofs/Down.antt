@@ -24,6 +24,7 @@ use Rattle.turn_laws.proofs.Laws.{does_calm, does_fly, Calm, down_restarts}
 use Rattle.run_promises.specs.Disks.{flush_after, flush_failed_from}
 use Rattle.run_promises.specs.Ended.{ClusterEnded, runs_on}
 use Rattle.run_promises.specs.Down.{FailedAreDown, DownStays, IsLowestDown, IsLowestFault, LowestDownIsFault}
+use Rattle.law_base.proofs.Bools.{not_true as not_so}
 
 -- ---- one entry
 
@@ -70,10 +71,6 @@ leads s t (Deliver x stamp) o b up n r = calmly s t (Deliver x stamp) o up (does
 leads s t Remind o b up n r = calmly s t Remind o up (does_calm s t Remind o b refl refl) refl
 
 -- ---- entries
-
-not_so : (b : Bool) → not b ≡ true → b ≡ false
-not_so true h = absurd (both_ways false refl h)
-not_so false h = refl
 
 record First (e : Entry) (es : List Entry) : Type 0 where
   no_stop : is_stop e.event ≡ false

@@ -18,6 +18,7 @@ use Rattle.clv_base.proofs.SameNames.{tx_true, tx_self, or_left, or_right}
 use Rattle.protocol_laws.specs.SessionLaws.{tx_of}
 use Rattle.history_laws.proofs.Laws.{Among}
 use Rattle.script_runs.specs.Sessions.{session_entries}
+use Rattle.law_base.proofs.Names.{with_op as more_ops}
 
 -- ---- among
 
@@ -93,10 +94,6 @@ of_session FlushOut tx h = none_some tx h
 of_session FlushIn tx h = none_some tx h
 of_session Stop tx h = none_some tx h
 of_session Restart tx h = none_some tx h
-
--- where an entry is left out only if it tells of no operation, the operations stay
-abbrev more_ops : Option (Op × Answer) → List (Op × Answer) → List (Op × Answer)
-more_ops o ps = elim o as (λ z. List (Op × Answer)) [ Some p ↦ p ∷ ps | None ↦ ps ]
 
 left_out : (o : Option (Op × Answer)) (ps : List (Op × Answer)) → ((p : Op × Answer) → o ≡ Some p → ⊥) → more_ops o ps ≡ ps
 left_out (Some p) ps none = absurd (none p refl)

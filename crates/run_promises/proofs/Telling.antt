@@ -21,7 +21,7 @@ use Rattle.script_runs.specs.Operations.{ArePartsAnswered, no_part, part, AreOpe
 use Rattle.script_runs.specs.Tries.{Try, IsTry, IsRequest, IsLook, AreDrops, EndsBy, acknowledged, nothing, by_line, in_operation, at_request, at_look, down, unsettled, wanting_before, wanting_behind, unanswered, worn_at_line, ops_so_far}
 use Rattle.script_runs.specs.Sessions.{stopped_by}
 use Rattle.script_runs.specs.declared.ends.TryEnd.{TryEnd}
-use Rattle.script_runs.proofs.ScriptTriesTries.{all_append}
+use Rattle.script_runs.proofs.Laws.{all_append}
 
 -- an entry tells the transaction of its acknowledgement or of its abort
 abbrev pub Ends : TxId → ℕ × Entry → Type 0

@@ -9,6 +9,9 @@ use Rattle.clv_base.specs.Maps.{KeyMap, map_set}
 use Rattle.clv_base.specs.Logs.{committed_in, is_commit_of, fold_updates, committed_somewhere, stands_from}
 use Rattle.run_promises.specs.Disks.{is_undo}
 use Rattle.run_promises.specs.Laws.{UndoStands}
+use Rattle.law_base.proofs.Lists.{append_nil}
+use Rattle.law_base.proofs.Bools.{or_none as or_false}
+use Rattle.law_base.proofs.Logs.{stands_alike as same_stands}
 
 -- the fold over two logs, with tests that agree, where the second one has no writes that count
 pub fold_undo :
@@ -42,26 +45,12 @@ commits_none t (Prepare tx home ps ∷ more) all = absurd cc
 commits_none t (Commit tx ps ∷ more) all = absurd cc
 commits_none t (End tx ∷ more) all = absurd cc
 
-append_nil : {X : Type 0} (xs : List X) → xs ++ [] ≡ xs
-append_nil [] = refl
-append_nil (x ∷ xs) = ap (λ ys. x ∷ ys) (append_nil xs)
-
-pub or_false : (b : Bool) → (b || false) ≡ b
-or_false true = refl
-or_false false = refl
-
 -- each transaction is committed in these logs as without them
 same_commits : (front behind : List (List LogRecord)) (log more : List LogRecord) → list_all is_undo more ≡ true → (t : TxId)
     → committed_somewhere (front ++ (log ++ more) ∷ behind) t ≡ committed_somewhere (front ++ log ∷ behind) t
 same_commits [] behind log more all t =
     ap (λ b. b || committed_somewhere behind t) (list_any-append (is_commit_of t) log more ∙ ap (λ b. committed_in log t || b) (commits_none t more all) ∙ or_false (committed_in log t))
 same_commits (l ∷ front) behind log more all t = ap (λ b. committed_in l t || b) (same_commits front behind log more all t)
-
--- logs in which the same ones count stand for the same
-same_stands : (keep keep' : TxId → Bool) → ((t : TxId) → keep t ≡ keep' t) → (logs : List (List LogRecord)) (m : KeyMap) → stands_from keep logs m ≡ stands_from keep' logs m
-same_stands keep keep' same [] m = refl
-same_stands keep keep' same (l ∷ logs) m =
-    ap (λ rs. stands_from keep logs (fold_updates keep rs m)) (sym (append_nil l)) ∙ ap (stands_from keep logs) (fold_undo keep keep' same l [] m refl) ∙ same_stands keep keep' same logs (fold_updates keep' l m)
 
 stands_with : (keep keep' : TxId → Bool) → ((t : TxId) → keep t ≡ keep' t) → (front behind : List (List LogRecord)) (log more : List LogRecord) (m : KeyMap) → list_all is_undo more ≡ true
     → stands_from keep (front ++ (log ++ more) ∷ behind) m ≡ stands_from keep' (front ++ log ∷ behind) m

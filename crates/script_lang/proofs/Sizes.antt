@@ -8,21 +8,9 @@ use Rattle.clv_base.specs.declared.ops.Op.TheVariants.{Get, Put, Del, Scan}
 use Rattle.script_lang.specs.Bodies.{Action, Ending, Body}
 use Rattle.script_lang.specs.Grammar.{Line, Blank, Session, Begin, Act, End, Do, Move, IsNumber, IsAction, IsLine, Reading, reading, nothing_read, with_last, body, read_line, Leads, lines_of, before_line}
 use Rattle.script_lang.specs.Laws.{is_word, is_narrow, is_narrow_body, session_size, script_size, ScriptsAreNarrow, ScriptsAreShort, ScriptsHaveFewSessions}
+use Rattle.law_base.proofs.Bools.{and_first, and_second, and_true}
 
 -- ---- an action of a line
-
-and_true : (a b : Bool) → a ≡ true → b ≡ true → (a && b) ≡ true
-and_true true true p q = refl
-and_true true false p q = q
-and_true false b p q = p
-
-and_first : (a b : Bool) → (a && b) ≡ true → a ≡ true
-and_first true b p = refl
-and_first false b p = p
-
-and_second : (a b : Bool) → (a && b) ≡ true → b ≡ true
-and_second true b p = p
-and_second false b p = absurd cc
 
 lt_true : (a b : ℕ) → a < b → nat_lt a b ≡ true
 lt_true a b h = grind (arith, nat_tests)

@@ -1,5 +1,5 @@
 -- The word that an action begins with, and what follows it.
-use Rattle.std.proofs.Common.{◌≡◌, ◌≢◌, ℕ, zero, suc, ◌≤◌, List, [], ◌∷◌, ◌++◌, slice_index, codes, subst, ap, refl, sym, ◌∙◌, arith, Option, Some, None, MatchOption}
+use Rattle.std.proofs.Common.{◌≡◌, ◌≢◌, ℕ, zero, suc, ◌≤◌, List, [], ◌∷◌, ◌++◌, codes, subst, ap, refl, sym, ◌∙◌, arith, Option, Some, None, MatchOption}
 use Rattle.clv_base.specs.declared.ops.Op.TheVariants.{Get, Put, Del, Scan}
 use Rattle.script_lang.specs.Bodies.{Action}
 use Rattle.script_lang.specs.Reading.{Lacks, verb_text}
@@ -7,6 +7,7 @@ use Rattle.script_lang.specs.Grammar.{Do, Move, IsNumber, AreTwo, AreThree, name
 use Rattle.script_lang.specs.declared.lines.Verb.{Verb}
 use Rattle.script_lang.specs.declared.lines.Verb.TheVariants as verbs
 use Rattle.script_lang.proofs.Words.{parted_alike, number_once, two_once, three_once}
+use Rattle.law_base.proofs.Lists.{unequal}
 
 lacks_none : Lacks 32 []
 lacks_none k h e = omega arith
@@ -42,9 +43,6 @@ action_by_words bytes word words is none action (others, same, operands) =
     (sym e.0, subst (λ (w : List ℕ). HasOperands w action) (sym e.1) operands)
 
 -- ---- by the verb
-
-unequal : (a b : List ℕ) → slice_index a 0 ≢ slice_index b 0 → a ≡ b → ⊥
-unequal a b differ e = differ (ap (λ (w : List ℕ). slice_index w 0) e)
 
 pub get_operands : (words : List ℕ) (action : Action) → name_of action ≡ codes "get" → HasOperands words action → (k : ℕ) × IsNumber words k
 get_operands words (Do (Get k)) e h = (k, h)

@@ -10,7 +10,7 @@ use Rattle.clv_base.specs.declared.ops.Op.{Op}
 use Rattle.clv_base.specs.declared.ops.Answer.{Answer}
 use Rattle.clv_base.specs.FileRules.{numbers_rise}
 use Rattle.clv_base.specs.Journals.{History}
-use Rattle.clv_base.specs.History.{ops_in, answered_op}
+use Rattle.clv_base.specs.History.{ops_in}
 use Rattle.clv_base.proofs.SameNames.{tx_ne}
 use Rattle.script_lang.specs.Bodies.{Body}
 use Rattle.script_runs.specs.declared.ends.StopCause.{StopCause}
@@ -20,7 +20,9 @@ use Rattle.script_runs.specs.Tries.{Try, IsTry, EndsBy, acknowledged, nothing, b
 use Rattle.script_runs.specs.Sessions.{Transaction, IsTransaction, InTries, last, none_left, worn, further, is_to_retry, stopped_by, has_left, AreTransactions, all_done, not_begun, stopped, done, entries_of, tries_of}
 use Rattle.script_runs.specs.ScriptTriesLaws.{TriesAreFew, IsBornSo, TriesHaveOneBirth, TransactionsHaveOwnBirths, Completes, IsComplete, SessionsGoThrough, SessionsTellTheirTries}
 use Rattle.script_runs.specs.ScriptTriesLaws as laws
-use Rattle.script_runs.proofs.ScriptTriesTries.{all_append, try_born, entries_tell_of_no_other}
+use Rattle.script_runs.proofs.ScriptTriesTries.{try_born, entries_tell_of_no_other}
+use Rattle.law_base.proofs.Lists.{all_append}
+use Rattle.law_base.proofs.Names.{ops_append}
 
 -- ---- how many tries
 
@@ -132,10 +134,6 @@ told_more : (o : Option (Op × Answer)) (r s q : List (Op × Answer)) → r ≡ 
     → elim o as (λ z. List (Op × Answer)) [ Some p ↦ p ∷ r | None ↦ r ] ≡ (elim o as (λ z. List (Op × Answer)) [ Some p ↦ p ∷ s | None ↦ s ]) ++ q
 told_more (Some p) r s q h = ap (λ l. p ∷ l) h
 told_more None r s q h = h
-
-ops_append : (tx : TxId) (es fs : History) → ops_in tx (es ++ fs) ≡ ops_in tx es ++ ops_in tx fs
-ops_append tx [] fs = refl
-ops_append tx (e ∷ es) fs = told_more (answered_op tx (e.1).event (e.1).outcome) (ops_in tx (es ++ fs)) (ops_in tx es) (ops_in tx fs) (ops_append tx es fs)
 
 abbrev IsTried : List ℕ → Try → Type 0
 IsTried splits t = (body : Body) × (birth : Birth) × IsTry splits body birth t

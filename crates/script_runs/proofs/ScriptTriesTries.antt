@@ -28,6 +28,7 @@ use Rattle.script_runs.specs.declared.ends.TryEnd.TheVariants as end
 use Rattle.script_runs.specs.Operations.{parts_of, IsPart, ArePartsAnswered, no_part, part, AreOperations, no_operation, operation, IsDeath}
 use Rattle.script_runs.specs.Tries.{Try, IsTry, IsDone, IsRequest, IsLook, AreDrops, IsUnderWay, operation_begun, request_next, EndsBy, acknowledged, nothing, by_line, in_operation, at_request, at_look, down, unsettled, wanting_before, wanting_behind, unanswered, worn_at_line, is_want, ops_so_far}
 use Rattle.script_runs.specs.ScriptTriesLaws.{AcknowledgedDidTheirLines, all_parts, EntriesTellTheirLines, EntriesTellOfNoOther, is_drop, MayDrop, DropsHaveReasons, IsBornSo}
+use Rattle.law_base.proofs.Lists.{all_append}
 
 -- ---- an acknowledged try
 
@@ -180,10 +181,6 @@ drops_have_reasons splits body birth t is h =
 
 abbrev AreBornSo : Birth → History → Type 0
 AreBornSo birth es = AllByRecursion (λ e. IsBornSo birth (e.1).event) es
-
-pub all_append : {X : Type 0} (P : X → Type 0) (xs ys : List X) → AllByRecursion P xs → AllByRecursion P ys → AllByRecursion P (xs ++ ys)
-all_append P [] ys a b = b
-all_append P (x ∷ xs) ys a b = (a.0, all_append P xs ys a.1 b)
 
 born_so : (birth : Birth) (e : ℕ × Entry) (event : Event) → (e.1).event ≡ event → IsBornSo birth event → IsBornSo birth (e.1).event
 born_so birth e event h k = subst (IsBornSo birth) (sym h) k

@@ -18,6 +18,7 @@ use Rattle.script_runs.specs.Told.{Begins, BeginTold, RetryTold}
 use Rattle.script_runs.specs.Tried.{Tried, LeftBy}
 use Rattle.script_runs.specs.Ran.{Rise, serials, NextIs, IsIdle, InTriesTold, Ran, NotBegun}
 use Rattle.script_runs.proofs.Doing.{grows_on, grows_none}
+use Rattle.law_base.proofs.Lists.{all_append as all_more}
 
 -- ---- numbers that rise
 
@@ -31,10 +32,6 @@ rise_on lo mid hi [] (m ∷ ms) r s = (let a = s.0 in omega arith, s.1)
 rise_on lo mid hi (n ∷ ns) ms r s = (r.0, rise_on n mid hi ns ms r.1 s)
 
 -- ---- lists
-
-pub all_more : {X : Type 0} (P : X → Type 0) (xs ys : List X) → AllByRecursion P xs → AllByRecursion P ys → AllByRecursion P (xs ++ ys)
-all_more P [] ys a b = b
-all_more P (x ∷ xs) ys a b = (a.0, all_more P xs ys a.1 b)
 
 pub entries_more : (ts us : List Try) → entries_of (ts ++ us) ≡ entries_of ts ++ entries_of us
 entries_more [] us = refl

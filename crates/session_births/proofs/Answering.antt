@@ -1,5 +1,5 @@
 -- The answers of turns, one after another.
-use Rattle.std.proofs.Common.{◌≡◌, ◌∙◌, refl, sym, ap, subst, ℕ, zero, suc, ◌<◌, ◌≤◌, ◌^◌, ◌-◌, Bool, true, false, cond, ◌⊎◌, inl, inr, List, [], ◌∷◌, ◌++◌, length, get_or, set, get_or-set_same, append_assoc, Option, Some, None, Result, Ok, Err, arith}
+use Rattle.std.proofs.Common.{◌≡◌, ◌∙◌, refl, sym, ap, subst, ℕ, zero, suc, ◌<◌, ◌≤◌, ◌^◌, ◌-◌, Bool, true, false, cond, ◌⊎◌, inl, inr, List, [], ◌∷◌, ◌++◌, get_or, set, get_or-set_same, append_assoc, Option, Some, None, Result, Ok, Err, arith}
 use Rattle.std.specs.Prelude.{is_some}
 use Rattle.std.specs.List.{AllByRecursion, filter}
 use Rattle.std.proofs.lemmas.Bool.{both_ways}
@@ -28,6 +28,7 @@ use Rattle.session_births.specs.Turns.{Turn, Took, no_turn, event_turn, flush_tu
 use Rattle.session_births.specs.Answers.{is_kept, may_come_to, HasItsEntry, HasItsOutcome, SeesDown, SawDown, AnswersHaveEntries, OutcomesFit, DownIsSeen, WornIsLast, SessionsGrow, entries_of_session, turns_of_session}
 use Rattle.session_births.proofs.Replying.{Told, told_by, failed_down}
 use Rattle.session_births.proofs.Taking.{kept_grows, entries_are_made, clock_rises}
+use Rattle.law_base.proofs.Lists.{some_inside as past}
 
 -- ---- which events a turn has
 
@@ -99,11 +100,6 @@ module _ {T : Type 0} where
   outcomes_fit w _ _ _ _ _ (horizon_look clock clock' n horizon ps qs rs ts looked h) = outcomes_fit w clock clock' qs rs ts h
 
 -- ---- a shard that was found down
-
-past : {A : Type 0} (xs : List (Option A)) (n : ℕ) (p : A) → ((d : Option A) → get_or xs n d ≡ Some p) → n < length xs
-past [] n p had = absurd (let h : None ≡ Some p = had None in cc)
-past (x ∷ xs) zero p had = omega arith
-past (x ∷ xs) (suc n) p had = let l = past xs n p had in omega arith
 
 no_find : (n upto : ℕ) (t : Turn) {X : Type 0} → t.answer ≡ Ok (Out upto) → FindsDown n t → X
 no_find n upto t answer (at, inl down) = let wrong = sym answer ∙ down in absurd cc

@@ -1,7 +1,7 @@
 -- A part that was dropped isn't active.
-use Rattle.std.proofs.Common.{◌≡◌, ◌≢◌, refl, sym, ap, subst, ◌∙◌, ℕ, zero, suc, true, false, cond, Bool, List, [], ◌∷◌, ◌++◌, map, length, append_assoc, append-nil, Option, Some, None}
+use Rattle.std.proofs.Common.{◌≡◌, ◌≢◌, refl, sym, ap, subst, ◌∙◌, ℕ, zero, suc, true, false, cond, Bool, List, [], ◌∷◌, ◌++◌, map, append_assoc, append-nil, Option, Some, None}
 use Rattle.std.specs.List.{AllByRecursion}
-use Rattle.std.proofs.lemmas.Bool.{both_ways, or_left, false_from_ne_true}
+use Rattle.std.proofs.lemmas.Bool.{both_ways, false_from_ne_true}
 use Rattle.clv_base.specs.declared.names.TxId.{TxId}
 use Rattle.clv_base.specs.declared.names.Birth.{Birth}
 use Rattle.clv_base.specs.declared.ops.Op.{Op}
@@ -22,11 +22,11 @@ use Rattle.clv_base.specs.declared.state.Stage.TheVariants.{Active, Closed, Gone
 use Rattle.clv_base.specs.declared.state.Held.{Held}
 use Rattle.clv_base.specs.declared.modes.Decision.{Decision}
 use Rattle.clv_base.specs.declared.modes.Decision.TheVariants.{Grant, Wait, Die}
-use Rattle.clv_base.specs.Orders.{Table, tx_same, tx_in, tx_insert, tx_get}
+use Rattle.clv_base.specs.Orders.{Table, tx_same, tx_in, tx_get}
 use Rattle.clv_base.specs.Logs.{in_doubt}
 use Rattle.clv_base.specs.Locks.{decide}
 use Rattle.clv_base.specs.State.{Local, Shard, is_active_stage, is_present}
-use Rattle.clv_base.specs.Undo.{stage_of, gone_part, gone_in, with_successors, successors_through, doomed_by, doomed_here}
+use Rattle.clv_base.specs.Undo.{stage_of, gone_part, gone_in, doomed_here}
 use Rattle.clv_base.specs.Needs.{needs_of}
 use Rattle.clv_base.specs.OneShard.{OpReply, OpWaits, OpCrowded, OpDies, OpAnswers, seen_fits, op_reply, op_seen, op_by_stage, op_decided, op_granted, written, locked, active_part, new_part, without_part, rolled_back_if, closed_part, closed_in, dropped_part, marked_in}
 use Rattle.clv_base.specs.Due.{finish_reader, with_vote, do_ruling, with_ruling}
@@ -34,13 +34,13 @@ use Rattle.clv_base.specs.Events.{Does, happen, finish, with_durable}
 use Rattle.clv_base.specs.Restarts.{opened, restored_parts, log_after_restart}
 use Rattle.clv_base.specs.Journals.{flush_state, FlushMay}
 use Rattle.clv_base.specs.Machines.{BecomesBy, Runs}
-use Rattle.clv_base.proofs.SameNames.{tx_true, tx_self, insert_keeps}
+use Rattle.clv_base.proofs.SameNames.{tx_true}
 use Rattle.law_base.proofs.Lists.{all_mono}
 use Rattle.law_base.proofs.Rows.{rows_put, rows_get}
-use Rattle.law_base.proofs.Sets.{filter_in}
 use Rattle.history_laws.proofs.Laws.{commits, votes, rules, KeptByDue, settled, Step, op_dies, op_answers, request_refused, request_doomed, request_again, request_new, request_closes, looks_well, looks_ill, drops, sends, prepare_closes, prepare_again, vote_counts, decision_comes, decision_again, done_counts, asked, reminds, flushes, Happens, finishes, stops, happened}
 use Rattle.journal_laws.specs.Endings.{ActiveAreFound}
 use Rattle.journal_laws.proofs.Laws.{runs_go_on, runs_find_active}
+use Rattle.law_base.proofs.Names.{in_doomed}
 
 -- ---- rows of a table
 
@@ -109,21 +109,6 @@ quiet_found s tx a n =
     active : (p : TxId × Held) → tx_same tx p.0 ≡ true → is_active_stage (p.1).stage ≡ true → tx_get p.0 s.local.parts ≡ Some p.1 → stage_of s.local tx ≡ Some Active
     active p e h g =
         ap (λ o. elim o [ Some h ↦ Some h.stage | None ↦ None ]) (ap (λ t. tx_get t s.local.parts) (tx_true tx p.0 e) ∙ g) ∙ ap Some (is (p.1).stage h)
-
-keeps_successors : (pairs : List (TxId × TxId)) (set so_far : List TxId) (t : TxId) → tx_in t so_far ≡ true → tx_in t (with_successors pairs set so_far) ≡ true
-keeps_successors [] set so_far t h = h
-keeps_successors (p ∷ ps) set so_far t h = keeps_successors ps set (cond (tx_in p.1 set) (tx_insert p.0 so_far) so_far) t (at (tx_in p.1 set))
-  where
-    at : (b : Bool) → tx_in t (cond b (tx_insert p.0 so_far) so_far) ≡ true
-    at true = insert_keeps p.0 t so_far h
-    at false = h
-
-keeps_through : (n : ℕ) (pairs : List (TxId × TxId)) (set : List TxId) (t : TxId) → tx_in t set ≡ true → tx_in t (successors_through n pairs set) ≡ true
-keeps_through zero pairs set t h = h
-keeps_through (suc n) pairs set t h = keeps_through n pairs (with_successors pairs set set) t (keeps_successors pairs set set t h)
-
-in_doomed : (l : Local) (u : TxId) → is_present (stage_of l u) ≡ true → tx_in u (doomed_here l u) ≡ true
-in_doomed l u h = filter_in (λ t. is_present (stage_of l t)) u (doomed_by l u) (keeps_through (length l.pairs) l.pairs (u ∷ []) u (or_left (tx_same u u) false (tx_self u))) h
 
 quiet_without : (s : Shard) (u : TxId) → ActiveAreFound s → Quietly u (without_part u s.local).parts
 quiet_without s u a = at (is_present (stage_of s.local u)) refl

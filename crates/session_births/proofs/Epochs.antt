@@ -44,7 +44,7 @@ use Rattle.turn_laws.proofs.Laws.{all_bear, nothing_happens, since}
 use Rattle.session_births.specs.Births.{IsFreeFor}
 use Rattle.session_births.specs.Unborn.{is_epoch_of, IsUnbornUnless}
 use Rattle.session_births.proofs.Keeping.{by_notes}
-use Rattle.session_births.proofs.Freely.{not_true}
+use Rattle.law_base.proofs.Bools.{not_true}
 
 -- ---- an event keeps it
 

@@ -11,12 +11,11 @@ use Rattle.clv_base.specs.declared.ops.Op.TheVariants.{Get}
 use Rattle.clv_base.specs.declared.events.Event.{Event}
 use Rattle.clv_base.specs.declared.events.Event.TheVariants.{Op, Request, Look, Drop, Send, Deliver, Remind, FlushOut, FlushIn, Stop, Restart}
 use Rattle.clv_base.specs.declared.events.Outcome.{Outcome}
-use Rattle.clv_base.specs.declared.events.Outcome.TheVariants.{Down}
 use Rattle.clv_base.specs.declared.events.Entry.{Entry}
 use Rattle.clv_base.proofs.SameNames.{nat_cmp_true}
 use Rattle.clv_base.specs.Orders.{tx_same, birth_cmp}
 use Rattle.clv_base.specs.State.{Shard}
-use Rattle.clv_base.specs.Events.{Does, Quiet, Enters, land_up, step, happen, next_stamp}
+use Rattle.clv_base.specs.Events.{Does, step, happen, next_stamp}
 use Rattle.clv_base.specs.Journals.{has_equal_active_birth}
 use Rattle.turn_lock.specs.declared.pass.Pass.{Pass}
 use Rattle.turn_lock.specs.Passes.{seen, own, pass_origin}
@@ -37,11 +36,10 @@ use Rattle.cluster_drain.specs.Flights.{LandTold, landed_as}
 use Rattle.session_births.specs.Turns.{Turn, no_turn, event_turn, flush_turns, horizon_look}
 use Rattle.session_births.specs.Births.{IsFreeFor, IsBornBy, SeesFree, AllSeeFree}
 use Rattle.session_births.specs.Laws.{FreeStays, NewIsFree}
-use Rattle.session_births.proofs.Keeping.{one_changes, changed, by_notes, some_same}
-
-pub not_true : (b : Bool) → not b ≡ true → b ≡ false
-not_true true h = absurd (both_ways false refl h)
-not_true false h = refl
+use Rattle.session_births.proofs.Keeping.{one_changes, changed, by_notes}
+use Rattle.law_base.proofs.Options.{some_inj as some_same}
+use Rattle.law_base.proofs.Shards.{not_down}
+use Rattle.law_base.proofs.Bools.{not_true}
 
 -- ---- the walker's own entry
 
@@ -60,10 +58,6 @@ event_frees tx birth clock w c e r s t added h k free = at h.made h.tells
         subst (IsFreeFor tx birth) (sym d.is) (stays_by_event tx birth s e o d.after s.is_up refl d.does k free)
 
 -- ---- the end of a flush
-
-not_down : (s : Shard) (clock w : ℕ) (pushed : Bool) (o : Outcome) (t : Shard) {X : Type 0} (u : Bool) → s.is_up ≡ u → elim u [ true ↦ land_up s clock w pushed s.flight | false ↦ Quiet Down ] ≡ Enters o t → u ≡ false → X
-not_down s clock w pushed o t true up h d = absurd (both_ways true d refl)
-not_down s clock w pushed o t false up h d = absurd cc
 
 pub landing_frees : (tx : TxId) (birth : Birth) (g : Origin) (before added : List Note) (clock w c upto : ℕ) (pushed : Bool) (s t : Shard) → IsLegal g before s → IsLegal g (before ++ added) t → LandTold clock w pushed upto c s t added → IsFreeFor tx birth s → IsFreeFor tx birth t
 landing_frees tx birth g before added clock w c upto pushed s t k l h free = at s.is_up refl

@@ -1,36 +1,11 @@
 -- How a transaction goes on, or begins.
-use Rattle.std.proofs.Common.{◌≡◌, refl, sym, ap, subst, ◌∙◌, ℕ, true, false, cond, Option, Some, None, inl, inr}
-use Rattle.std.specs.Ordering.{nat_cmp, ordering_then, is_eq}
-use Rattle.std.specs.declared.cmp.Ordering.{Ordering}
-use Rattle.std.specs.declared.cmp.Ordering.TheVariants.{Less, Equal, Greater}
+use Rattle.std.proofs.Common.{◌≡◌, refl, sym, ap, subst, ◌∙◌, true, false, cond, Some, None, inl, inr}
 use Rattle.std.proofs.lemmas.Bool.{both_ways, and_from}
 use Rattle.clv_base.specs.declared.names.Birth.{Birth}
-use Rattle.clv_base.specs.Orders.{birth_cmp}
 use Rattle.clv_base.specs.Sessions.{SessionState, begun, begins, goes_on, same_birth, session_for, op_in_session, is_touching}
 use Rattle.clv_base.proofs.SameNames.{tx_self}
 use Rattle.session_births.specs.States.{GoesOnBy, OpsGoOn, TouchedAreLast}
-
--- the same birth, by the comparison of the same name
-birth_self : (b : Birth) → is_eq (birth_cmp b b) ≡ true
-birth_self b = at (nat_cmp b.stamp b.stamp) (nat_cmp b.session b.session) (nat_cmp b.serial b.serial) (one b.stamp) (one b.session) (one b.serial)
-  where
-    one : (n : ℕ) → is_eq (nat_cmp n n) ≡ true
-    one n = first (nat_cmp n n) _ (tx_self (record { run = n; session = n; serial = n }))
-      where
-        first : (x y : Ordering) → is_eq (ordering_then x y) ≡ true → is_eq x ≡ true
-        first Less y h = absurd (both_ways false refl h)
-        first Equal y h = refl
-        first Greater y h = absurd (both_ways false refl h)
-
-    at : (x y z : Ordering) → is_eq x ≡ true → is_eq y ≡ true → is_eq z ≡ true → is_eq (ordering_then x (ordering_then y z)) ≡ true
-    at Equal Equal z e f g = g
-    at Less y z e f g = absurd (both_ways false refl e)
-    at Greater y z e f g = absurd (both_ways false refl e)
-    at Equal Less z e f g = absurd (both_ways false refl f)
-    at Equal Greater z e f g = absurd (both_ways false refl f)
-
-some_same : (a b : Birth) → ◌≡◌ {A = Option Birth} (Some a) (Some b) → a ≡ b
-some_same a b h = cc
+use Rattle.law_base.proofs.Names.{birth_self, birth_same as some_same}
 
 found : (t p : SessionState) (birth : Birth) → GoesOnBy t p → is_touching p.phase ≡ true → p.birth ≡ Some birth → session_for t p.tx birth ≡ Some p
 found t p birth (inl same) touching has =

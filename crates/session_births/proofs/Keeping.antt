@@ -10,7 +10,7 @@ use Rattle.clv_base.specs.declared.events.Outcome.{Outcome}
 use Rattle.clv_base.specs.declared.events.Entry.{Entry}
 use Rattle.clv_base.specs.State.{Shard}
 use Rattle.clv_base.specs.Events.{step, land}
-use Rattle.law_base.proofs.Lists.{all_mono}
+use Rattle.law_base.proofs.Lists.{all_mono, first_elem as a_lock, all_append, some_inside as past}
 use Rattle.turn_lock.specs.declared.pass.Pass.{Pass}
 use Rattle.turn_lock.specs.Journals.{entries_by}
 use Rattle.turn_lock.specs.Passes.{seen, own, pass_origin}
@@ -30,16 +30,9 @@ use Rattle.cluster_drain.specs.Flights.{LandTold, landed_as}
 use Rattle.session_births.specs.Turns.{Turn, no_turn, event_turn, flush_turns, horizon_look}
 use Rattle.session_births.specs.Births.{IsBornBy, EachPass, IsInformed, AreInformed}
 use Rattle.session_births.specs.Laws.{InformedStay, InformedLater, NewAreInformed}
+use Rattle.law_base.proofs.Options.{some_inj as some_same}
 
 -- ---- one pass of many
-
-pub past : {A : Type 0} (xs : List (Option A)) (n : ℕ) (p : A) → ((d : Option A) → get_or xs n d ≡ Some p) → n < length xs
-past [] n p had = absurd (let h : None ≡ Some p = had None in cc)
-past (x ∷ xs) zero p had = omega arith
-past (x ∷ xs) (suc n) p had = let l = past xs n p had in omega arith
-
-pub some_same : {A : Type 0} (a b : A) → Some a ≡ Some b → a ≡ b
-some_same a b h = cc
 
 module _ {T : Type 0} where
   pub one_changes : (P Q : Pass T Note Origin → Type 0) (n : ℕ) (ps : List (Option (Pass T Note Origin))) (p q : Pass T Note Origin) → ((d : Option (Pass T Note Origin)) → get_or ps n d ≡ Some p) → ((x : Pass T Note Origin) → P x → Q x) → (P p → Q q)
@@ -74,10 +67,6 @@ by_notes w (Fetched v ∷ ns) = at (v == w) (by_notes w ns)
     at : (b : Bool) → by_walker w (entries_in ns) ≡ entries_in (entries_by noter w ns) → by_walker w (entries_in ns) ≡ entries_in (cond b (Fetched v ∷ entries_by noter w ns) (entries_by noter w ns))
     at true h = h
     at false h = h
-
-all_append : {A : Type 0} (P : A → Type 0) (xs ys : List A) → AllByRecursion P xs → AllByRecursion P ys → AllByRecursion P (xs ++ ys)
-all_append P [] ys a b = b
-all_append P (x ∷ xs) ys a b = (a.0, all_append P xs ys a.1 b)
 
 -- ---- what a turn adds
 
@@ -194,10 +183,6 @@ module _ {T : Type 0} where
       (one_changes (IsInformed w clock) (IsInformed w clock) n ps looked.p looked.q looked.had (λ x k. k) (same_pass w clock looked.p looked.q looked.same.0 looked.same.2 looked.same.3) i))
 
 -- ---- new passes
-
-a_lock : {A : Type 0} (xs : List A) → 0 < length xs → A
-a_lock [] l = absurd (omega arith)
-a_lock (x ∷ xs) l = x
 
 module _ {T : Type 0} where
   pub new_are_informed : NewAreInformed T

@@ -39,18 +39,9 @@ use Rattle.machine_calls.specs.declared.machine.StepError.{StepError}
 use Rattle.machine_calls.specs.Steps.{Tells}
 use Rattle.turn_laws.specs.Homes.{is_turned}
 use Rattle.session_births.specs.Answers.{is_quiet, is_kept, may_answer, may_come_to}
+use Rattle.law_base.proofs.Shards.{is_done, outcome_in}
 
 -- ---- replies
-
-abbrev is_done : Reply → Bool
-is_done (QuietBeforeWorn o) = false
-is_done (QuietAfterWorn o) = false
-is_done (Does o t) = true
-
-abbrev outcome_in : Reply → Outcome
-outcome_in (QuietBeforeWorn o) = o
-outcome_in (QuietAfterWorn o) = o
-outcome_in (Does o t) = o
 
 abbrev is_down : Outcome → Bool
 is_down Down = true

@@ -17,6 +17,7 @@ use Rattle.clv_base.specs.Journals.{History}
 use Rattle.clv_base.specs.Sessions.{SessionState, no_session, begun, begins, is_number, lies_in, goes_on, session_for, op_answered, op_in_session, is_touching, same_touched, is_lowest, requested, stands_at, looked, session_after, makes_from}
 use Rattle.journal_laws.specs.Offers.{hoped_for}
 use Rattle.session_births.specs.States.{after_from, SessionsHaveStates, StatesGoOn, StatesTellMayMake, OthersLeaveStates, StatesBearWalkers}
+use Rattle.law_base.proofs.Shards.{none_session as none_some, some_session as some_same}
 
 none_stays : (splits : List ℕ) (es : History) → after_from splits None es ≡ None
 none_stays splits [] = refl
@@ -30,12 +31,6 @@ made splits (Some t) (e ∷ es) = made splits (session_after splits e.0 t (e.1).
 
 pub sessions_have_states : SessionsHaveStates
 sessions_have_states splits run walker es = made splits (Some (no_session run walker)) es
-
-none_some : {X : Type 0} (t : SessionState) → ◌≡◌ {A = Option SessionState} None (Some t) → X
-none_some t h = absurd cc
-
-some_same : (t u : SessionState) → ◌≡◌ {A = Option SessionState} (Some t) (Some u) → t ≡ u
-some_same t u h = cc
 
 after_push : (splits : List ℕ) (v : Option SessionState) (es : History) (t : SessionState) (e : ℕ × Entry) → after_from splits v es ≡ Some t → after_from splits v (es ++ e ∷ []) ≡ session_after splits e.0 t (e.1).event (e.1).outcome
 after_push splits None [] t e h = none_some t h

@@ -47,10 +47,12 @@ use Rattle.session_births.specs.Answers.{is_quiet, is_kept, HasItsEntry}
 use Rattle.session_births.proofs.Laws.{answers_have_entries}
 use Rattle.session_births.specs.Births.{IsFreeFor, SeesFree, AllSeeFree}
 use Rattle.session_births.specs.Unborn.{SeesUnborn, UnbornAt, is_epoch_of, IsUnbornUnless, SeesUnless, UnbornUnless, HasShard, LeavesUnborn, AllLeaveUnborn, EndsPart, EndsThere, UnbornStays, UnlessStays, AnsweredIsInEpoch, DiesAtRequest, EndsUnbear, NewIsUnborn, UnbornIsFree, UnbornUnlessNone, UnbornUnlessAny}
-use Rattle.session_births.proofs.Keeping.{past, some_same}
 use Rattle.session_births.proofs.Dropping.{dropped_inactive}
 use Rattle.session_births.proofs.Epochs.{epoch_stays, others_unless, added_unless}
-use Rattle.session_births.proofs.Freely.{not_true, event_frees, turn_frees, event_leaves, landing_leaves, free_stays, new_is_free}
+use Rattle.session_births.proofs.Freely.{event_frees, turn_frees, event_leaves, landing_leaves, free_stays, new_is_free}
+use Rattle.law_base.proofs.Lists.{some_inside as past}
+use Rattle.law_base.proofs.Options.{some_inj as some_same}
+use Rattle.law_base.proofs.Bools.{not_true}
 
 -- ---- the pass of one shard
 

@@ -1,7 +1,6 @@
 -- What a session touched are shards that there are.
 use Rattle.std.proofs.Common.{◌≡◌, refl, sym, ap, subst, ◌∙◌, ℕ, ◌<◌, true, false, cond, Bool, ◌&&◌, ◌==◌, length, nat_lt, List, [], ◌∷◌, Option, Some, None, eqb-true, arith}
 use Rattle.std.specs.Prelude.{is_some}
-use Rattle.std.specs.List.{AllByRecursion}
 use Rattle.std.specs.Map.{lookup}
 use Rattle.std.specs.BTreeMap.{insert_entry}
 use Rattle.std.specs.Ordering.{nat_cmp, match_ordering}
@@ -23,6 +22,7 @@ use Rattle.clv_base.specs.Shards.{shard_count, lies_within, in_span}
 use Rattle.clv_base.specs.Sessions.{SessionState, Phase, Touching, Ended, Standing, Told, Refused, no_session, begun, begins, is_number, lies_in, goes_on, session_for, op_answered, op_in_session, is_touching, same_touched, is_lowest, requested, stands_at, looked, touch, after_drop, session_after}
 use Rattle.clv_base.proofs.Spans.{past_all}
 use Rattle.session_births.specs.States.{after_from, TouchedAreShards, HomesAreShards}
+use Rattle.law_base.proofs.Lists.{AreShards as AllWithin}
 
 -- ---- a span lies on a shard
 
@@ -47,9 +47,6 @@ HomeWithin splits Touching = Unit {0}
 HomeWithin splits Ended = Unit {0}
 HomeWithin splits Told = Unit {0}
 HomeWithin splits Refused = Unit {0}
-
-abbrev AllWithin : List ℕ → List (ℕ × ℕ) → Type 0
-AllWithin splits ts = AllByRecursion (λ x. x.0 < shard_count splits) ts
 
 abbrev Within : List ℕ → SessionState → Type 0
 Within splits t = AllWithin splits t.touched × HomeWithin splits t.phase

@@ -9,7 +9,7 @@ use Rattle.clv_base.specs.declared.events.Event.TheVariants.{Request}
 use Rattle.clv_base.specs.declared.events.Outcome.{Outcome}
 use Rattle.clv_base.specs.declared.events.Outcome.TheVariants.{Asked, Dead, Down as DownOut}
 use Rattle.clv_base.specs.Shards.{shard_count}
-use Rattle.clv_base.specs.Sessions.{SessionState, Phase, Touching, Ended, Standing, Told, Refused, is_lowest, is_touching, may_drop}
+use Rattle.clv_base.specs.Sessions.{SessionState, Phase, Touching, Ended, Standing, is_lowest, may_drop}
 use Rattle.turn_lock.specs.declared.pass.Pass.{Pass}
 use Rattle.machine_calls.specs.declared.machine.StepError.{StepError}
 use Rattle.machine_calls.specs.declared.machine.StepError.TheVariants.{Memory as NoMemory, Worn as IsWorn}
@@ -35,24 +35,14 @@ use Rattle.session_endings.specs.Standings.{StandsAs}
 use Rattle.session_endings.specs.Decided.{Leaving, DecidedBy, Deciding, IsLookOrDrop, committed_as}
 use Rattle.session_endings.specs.Committed.{CommittedBy, next_as, FollowedBy, Following, Committing, Answering}
 use Rattle.session_endings.proofs.Deciding.{stands_in, only_drops}
+use Rattle.law_base.proofs.Lists.{lowest_some as some_touched}
+use Rattle.law_base.proofs.Shards.{touching_is}
 
 -- ---- which shards
-
--- some shard was touched
-some_touched : (n : ℕ) (ts : List (ℕ × ℕ)) → is_lowest n ts ≡ true → ts ≢ []
-some_touched n [] h is = both_ways false refl h
-some_touched n (t ∷ ts) h is = (let k : t ∷ ts ≡ [] = is in cc)
 
 lowest_within : (splits : List ℕ) (n : ℕ) (ts : List (ℕ × ℕ)) → is_lowest n ts ≡ true → AllByRecursion (λ x. x.0 < shard_count splits) ts → n < shard_count splits
 lowest_within splits n [] h a = absurd (both_ways false refl h)
 lowest_within splits n (t ∷ ts) h a = subst (λ k. k < shard_count splits) (sym (let e : n ≡ t.0 = eqb-true n t.0 h in e)) a.0
-
-touching_is : (x : Phase) → is_touching x ≡ true → x ≡ Touching
-touching_is Touching h = refl
-touching_is Ended h = absurd (both_ways false refl h)
-touching_is (Standing home) h = absurd (both_ways false refl h)
-touching_is Told h = absurd (both_ways false refl h)
-touching_is Refused h = absurd (both_ways false refl h)
 
 module _ {M S G : Type 0} (sh : Shards M S G) where
   pub lowest_is_shard : (w : Walker M S G) (p : SessionState) (n : ℕ) → IsActive sh w p → is_lowest n p.touched ≡ true → n < length sh.locks.items

@@ -23,6 +23,7 @@ use Rattle.session_births.specs.Unborn.{AllLeaveUnborn}
 use Rattle.session_births.proofs.Laws.{informed_stay, free_stays, unless_stays, unborn_stays}
 use Rattle.session_ops.specs.Standing.{IsOld, IsReady, HasBirth}
 use Rattle.session_ops.specs.Requested.{IsStanding}
+use Rattle.law_base.proofs.Names.{birth_same}
 
 other_leaves : (tx : TxId) (birth : Birth) (e : Event) → is_of_session e ≡ false → LeavesBirth tx birth e
 other_leaves tx birth (Op u b nth seen op) h = absurd (both_ways true h refl)
@@ -72,9 +73,6 @@ state_stays splits run w es s (t ∷ ts) o m h = at t.made refl (λ fs k. state_
     at (Some x) is rest =
         let one = states_go_on splits run w es s (t.shard, x) h ∙ others_leave_states splits t.shard s x.event x.outcome (ap is_of_session (m.0 x is).1 ∙ o.0) in
         ap (session_of splits run w) (sym (append_assoc es ((t.shard, x) ∷ []) (entries_made ts))) ∙ rest (es ++ (t.shard, x) ∷ []) one
-
-birth_same : (x y : Birth) → ◌≡◌ {A = Option Birth} (Some x) (Some y) → x ≡ y
-birth_same x y h = cc
 
 module _ {M S G : Type 0} (sh : Shards M S G) (w v : Walker M S G) where
   still_ready : (t : SessionState) (ts : List Turn) → Took w.number w.clock w.passes.items ts v.clock v.passes.items → AreOthers ts → IsWalker sh v → IsSameWalker w v → IsReady sh w t → IsReady sh v t

@@ -23,21 +23,7 @@ use Rattle.turn_laws.specs.declared.notes.Note.{Note}
 use Rattle.turn_laws.specs.declared.notes.Origin.{Origin}
 use Rattle.session_births.specs.Turns.{Turn, Took, no_turn, event_turn, flush_turns, horizon_look}
 use Rattle.session_ops.specs.Looked.{is_look_outcome}
-
-abbrev is_told : Outcome → Bool
-is_told Acknowledged = true
-is_told (Aborted cause) = true
-is_told _ = false
-
-abbrev is_done : Reply → Bool
-is_done (QuietBeforeWorn o) = false
-is_done (QuietAfterWorn o) = false
-is_done (Does o t) = true
-
-abbrev outcome_in : Reply → Outcome
-outcome_in (QuietBeforeWorn o) = o
-outcome_in (QuietAfterWorn o) = o
-outcome_in (Does o t) = o
+use Rattle.law_base.proofs.Shards.{is_done, is_told, outcome_in}
 
 -- what a look comes to fits, and is told where it is done
 abbrev Fits : Reply → Type 0

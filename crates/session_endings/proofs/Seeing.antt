@@ -66,10 +66,6 @@ module _ {T : Type 0} where
           let found = stamp_told tx w c d ps qs (a.turn ∷ []) a.took a.turn refl a.event_is (a.answer_is ∙ is) in
           ((a.shard_is, a.event_is, a.answer_is ∙ is), (found.0, found.1, ap (λ z. record { stamp = z; shard = n }) found.2))
 
-pub if_ok : {A E : Type 0} (P : A → Type 0) (r : Result A E) → Rattle.std.specs.Prelude.IfOk r P → (a : A) → r ≡ Ok a → P a
-if_ok P (Ok b) h a is = subst P (let same : b ≡ a = cc in same) h
-if_ok P (Err e) h a is = absurd cc
-
 -- ---- turns after turns
 
 any_after : (P : Turn → Type 0) (xs ys : List Turn) → AnyTurn P ys → AnyTurn P (xs ++ ys)

@@ -1,6 +1,5 @@
 -- Sessions that transfer, each in its seat.
-use Rattle.std.proofs.Common.{arith, ◌≡◌, ◌∙◌, refl, ap, subst, ℕ, ◌<◌, true, false, List, [], ◌∷◌, ◌++◌, take, length, get_or, None, Ok}
-use Rattle.std.proofs.lemmas.List.{get_or-take, get_or_append_left}
+use Rattle.std.proofs.Common.{arith, ◌≡◌, ◌∙◌, refl, ap, subst, ℕ, ◌<◌, true, false, ◌∷◌, ◌++◌, None, Ok}
 use Rattle.cluster_turns.specs.declared.shards.Shards.{Shards}
 use Rattle.cluster_turns.specs.declared.shards.Walker.{Walker}
 use Rattle.session_api.specs.declared.progress.Progress.{Progress}
@@ -11,14 +10,6 @@ use Rattle.session_rows.specs.declared.transfers.Transferred.TheVariants.{Moved,
 use Rattle.session_rows.specs.Ends.{has_ended, EndsAs}
 use Rattle.session_scripts.specs.Standing.{IsAtRest}
 use Rattle.session_examples.specs.Walkers.{IsSeated}
-
-pub some_one : {A : Type 0} (xs : List A) (k : ℕ) → k < length xs → A
-some_one [] k l = absurd (omega arith)
-some_one (x ∷ xs) k l = x
-
--- what was written through a slice of a list
-pub written : {A : Type 0} (ys zs : List A) (n k : ℕ) (d : A) → k < n → k < length ys → get_or (take n (ys ++ zs)) k d ≡ get_or ys k d
-written ys zs n k d low within = get_or-take n (ys ++ zs) k d low ∙ get_or_append_left ys zs d k within
 
 ended : (s : Progress) → has_ended s ≡ true → active_tx s ≡ None
 ended Idle is = refl

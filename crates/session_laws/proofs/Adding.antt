@@ -22,26 +22,12 @@ use Rattle.clv_base.proofs.SameNames.{tx_true}
 use Rattle.law_base.specs.Items.{Item}
 use Rattle.law_base.proofs.Sets.{same_flip}
 use Rattle.shard_laws.specs.OneShard.{items_of, with_one, new_item, new_met, has_met, new_told}
-
-pub ops_append : (t : TxId) (xs ys : History) → ops_in t (xs ++ ys) ≡ ops_in t xs ++ ops_in t ys
-ops_append t [] ys = refl
-ops_append t (x ∷ xs) ys = at (answered_op t (x.1).event (x.1).outcome) (ops_append t xs ys)
-  where
-    at : (o : Option (Op × Answer)) → ops_in t (xs ++ ys) ≡ ops_in t xs ++ ops_in t ys
-        → ◌≡◌ {A = List (Op × Answer)} (elim o [ Some p ↦ p ∷ ops_in t (xs ++ ys) | None ↦ ops_in t (xs ++ ys) ]) (elim o [ Some p ↦ p ∷ ops_in t xs | None ↦ ops_in t xs ] ++ ops_in t ys)
-    at None e = e
-    at (Some p) e = ap (λ l. p ∷ l) e
-
-map_append : {X Y : Type 0} (f : X → Y) (xs ys : List X) → map f (xs ++ ys) ≡ map f xs ++ map f ys
-map_append f [] ys = refl
-map_append f (x ∷ xs) ys = ap (λ l. f x ∷ l) (map_append f xs ys)
+use Rattle.law_base.proofs.Lists.{map_append}
+use Rattle.law_base.proofs.Names.{ops_append, item_told as told_pair}
 
 pub with_none : {X : Type 0} (xs : List X) (o : Option X) → with_one xs o ≡ xs ++ with_one [] o
 with_none xs None = sym (append-nil xs)
 with_none xs (Some x) = refl
-
-abbrev pub told_pair : Item → Op × Answer
-told_pair y = (y.op, y.answer)
 
 -- what the entry adds to the operations
 one_op : (s : Shard) (e : Event) (o : Outcome) (t : TxId)

@@ -9,7 +9,6 @@ use Rattle.clv_base.specs.declared.names.TxId.{TxId}
 use Rattle.clv_base.specs.declared.names.Birth.{Birth}
 use Rattle.clv_base.specs.Orders.{birth_cmp, is_older}
 use Rattle.clv_base.specs.Sessions.{SessionState, begun, follows_birth, may_drop, is_session_number}
-use Rattle.clv_base.proofs.SameNames.{nat_cmp_self}
 use Rattle.cluster_turns.specs.declared.shards.Shards.{Shards}
 use Rattle.cluster_turns.specs.declared.shards.Walker.{Walker}
 use Rattle.cluster_turns.specs.Walkers.{IsWalker, kept, founds_of}
@@ -21,19 +20,14 @@ use Rattle.session_births.proofs.Laws.{informed_later, unborn_is_free, unborn_un
 use Rattle.session_ops.specs.Standing.{IsOld, IsActive}
 use Rattle.session_ops.proofs.Laws.{runs_count, other_name, spelled_so}
 use Rattle.session_ops.specs.Retried.{IsRetriable, Retried}
+use Rattle.law_base.proofs.Names.{birth_self, birth_same as some_birth}
 
 -- ---- the birth follows once more
-
-pub some_birth : (a b : Birth) → ◌≡◌ {A = Option Birth} (Some a) (Some b) → a ≡ b
-some_birth a b h = cc
 
 equal_then : (x y : Ordering) → is_eq x ≡ true → is_eq y ≡ true → is_eq (ordering_then x y) ≡ true
 equal_then Equal y a b = b
 equal_then Less y a b = a
 equal_then Greater y a b = a
-
-birth_self : (b : Birth) → is_eq (birth_cmp b b) ≡ true
-birth_self b = equal_then _ _ (nat_cmp_self b.stamp) (equal_then _ _ (nat_cmp_self b.session) (nat_cmp_self b.serial))
 
 follows_again : (t p : SessionState) (birth : Birth) → GoesOnBy t p → may_drop p.phase ≡ true → p.birth ≡ Some birth → follows_birth t.birth birth t.phase ≡ true
 follows_again t p birth (inl same) may is =

@@ -35,22 +35,13 @@ use Rattle.session_births.specs.Births.{AreInformed}
 use Rattle.session_births.proofs.Laws.{informed_stay, free_stays, unless_stays}
 use Rattle.session_ops.specs.Standing.{IsOld, HasBirth, AskTold}
 use Rattle.session_ops.specs.Dropped.{is_drop_outcome, place_dropped, IsEnding}
+use Rattle.law_base.proofs.Shards.{is_done, outcome_in}
 
 -- ---- an entry is made exactly where the part was dropped
 
 abbrev is_told : Outcome → Bool
 is_told Dropped = true
 is_told _ = false
-
-abbrev is_done : Reply → Bool
-is_done (QuietBeforeWorn o) = false
-is_done (QuietAfterWorn o) = false
-is_done (Does o t) = true
-
-abbrev outcome_in : Reply → Outcome
-outcome_in (QuietBeforeWorn o) = o
-outcome_in (QuietAfterWorn o) = o
-outcome_in (Does o t) = o
 
 -- what a drop comes to fits, and is told where it is done
 abbrev Fits : Reply → Type 0

@@ -1,7 +1,7 @@
 -- What a request's answer makes of a session.
-use Rattle.std.proofs.Common.{◌≡◌, ◌∙◌, refl, sym, ap, subst, ℕ, zero, suc, ◌<◌, ◌≤◌, ◌^◌, ◌==◌, nat_lt, Bool, true, false, cond, ◌&&◌, ◌||◌, map, length, get_or, List, [], ◌∷◌, ◌++◌, append-nil, Option, Some, None, Result, Ok, Err, arith, inl, inr, eq-eqb, eqb-true}
+use Rattle.std.proofs.Common.{◌≡◌, ◌∙◌, refl, sym, ap, subst, ℕ, zero, suc, ◌<◌, ◌≤◌, ◌^◌, ◌==◌, nat_lt, Bool, true, false, cond, ◌&&◌, ◌||◌, map, List, [], ◌∷◌, ◌++◌, append-nil, Option, Some, None, Result, Ok, Err, arith, inl, inr, eq-eqb}
 use Rattle.std.specs.Prelude.{is_some, IfOk}
-use Rattle.std.specs.List.{list_all, list_any}
+use Rattle.std.specs.List.{list_all}
 use Rattle.std.specs.Map.{lookup}
 use Rattle.std.proofs.lemmas.Bool.{both_ways, and_from}
 use Rattle.clv_base.specs.declared.names.TxId.{TxId}
@@ -42,23 +42,12 @@ use Rattle.session_births.specs.Unborn.{UnbornAt, HasShard, EndsPart}
 use Rattle.session_births.proofs.Laws.{informed_stay, free_stays, unless_stays, ends_unbear, dies_at_request}
 use Rattle.session_ops.specs.Standing.{IsOld, IsReady, HasBirth, IsActive, IsGoneAt}
 use Rattle.session_ops.specs.Requested.{is_request_outcome, place_requested, RequestTold, RequestStands}
+use Rattle.law_base.proofs.Names.{birth_same}
+use Rattle.law_base.proofs.Shards.{is_done, fits_request as is_told, outcome_in}
+use Rattle.law_base.proofs.Lists.{lowest_any as lowest_among, some_inside as past}
+use Rattle.law_base.proofs.Options.{some_inj as some_same}
 
 -- ---- an entry is made exactly where the request stands or died
-
-abbrev is_told : Outcome → Bool
-is_told Asked = true
-is_told (Dead cause) = true
-is_told _ = false
-
-abbrev pub is_done : Reply → Bool
-is_done (QuietBeforeWorn o) = false
-is_done (QuietAfterWorn o) = false
-is_done (Does o t) = true
-
-abbrev pub outcome_in : Reply → Outcome
-outcome_in (QuietBeforeWorn o) = o
-outcome_in (QuietAfterWorn o) = o
-outcome_in (Does o t) = o
 
 -- what a request comes to fits, and is told where it is done
 abbrev Fits : Reply → Type 0
@@ -137,17 +126,6 @@ module _ (tx : TxId) (ts : List (ℕ × ℕ)) where
 
 -- ---- passes
 
-pub birth_same : (x y : Birth) → ◌≡◌ {A = Option Birth} (Some x) (Some y) → x ≡ y
-birth_same x y h = cc
-
-past : {A : Type 0} (xs : List (Option A)) (n : ℕ) (p : A) → ((d : Option A) → get_or xs n d ≡ Some p) → n < length xs
-past [] n p had = absurd (let h : None ≡ Some p = had None in cc)
-past (x ∷ xs) zero p had = omega arith
-past (x ∷ xs) (suc n) p had = let l = past xs n p had in omega arith
-
-some_same : {A : Type 0} (a b : A) → Some a ≡ Some b → a ≡ b
-some_same a b h = cc
-
 -- each is of its shard
 has_shard : {M S G : Type 0} (sh : Shards M S G) (w : Walker M S G) → IsWalker sh w → (n : ℕ) → HasShard n w.passes.items
 has_shard sh w is n p had o has =
@@ -165,10 +143,6 @@ touched_self (t ∷ ts) = and_from ((t.0 == t.0) && (t.1 == t.1)) (same_touched 
 some_touched : (n : ℕ) (ts : List (ℕ × ℕ)) → is_lowest n ts ≡ true → ts ≡ [] → ⊥
 some_touched n [] h e = both_ways false refl h
 some_touched n (t ∷ ts) h e = cc
-
-lowest_among : (n : ℕ) (ts : List (ℕ × ℕ)) → is_lowest n ts ≡ true → list_any (λ t. t.0 == n) ts ≡ true
-lowest_among n [] h = absurd (both_ways false refl h)
-lowest_among n (t ∷ ts) h = ap (λ b. b || list_any (λ x. x.0 == n) ts) (eq-eqb t.0 n (sym (eqb-true n t.0 h)))
 
 pub parts_fit : (n : ℕ) (ts : List (ℕ × ℕ)) → is_lowest n ts ≡ true → numbers_rise (map (λ t. t.0) ts) ≡ true → list_all (λ t. nat_lt t.0 16) ts ≡ true → touched_fit n ts ≡ true
 parts_fit n ts l a b = and_from _ _ (and_from _ _ a b) (lowest_among n ts l)

@@ -12,10 +12,7 @@ use Rattle.cluster_turns.specs.Walkers.{AreNewPasses, founds_of, own_of, own_lis
 use Rattle.session_births.specs.States.{session_of}
 use Rattle.session_births.proofs.Laws.{new_are_informed}
 use Rattle.session_ops.specs.Beginnings.{NewWalkersAreReady}
-
-a_lock : {A : Type 0} (xs : List A) → 0 < length xs → A
-a_lock [] l = absurd (omega arith)
-a_lock (x ∷ xs) l = x
+use Rattle.law_base.proofs.Lists.{first_elem as a_lock}
 
 module _ {T : Type 0} where
   abbrev NoneOwn : List (Option (Pass T Note Origin)) → Type 0

@@ -1,5 +1,5 @@
 -- What an operation's answer makes of a session.
-use Rattle.std.proofs.Common.{◌≡◌, ◌∙◌, refl, sym, ap, subst, ℕ, suc, ◌≤◌, ◌<◌, ◌^◌, ◌==◌, nat_lt, Bool, true, false, not, cond, ◌&&◌, ◌||◌, List, [], ◌∷◌, ◌++◌, append-nil, Option, Some, None, Result, Ok, Err, arith, inl, eq-eqb, eqb-true, ltb-true}
+use Rattle.std.proofs.Common.{◌≡◌, ◌∙◌, refl, sym, ap, subst, ℕ, suc, ◌≤◌, ◌<◌, ◌^◌, ◌==◌, nat_lt, Bool, true, false, not, cond, ◌&&◌, ◌||◌, List, [], ◌∷◌, ◌++◌, append-nil, Option, Some, None, Result, Ok, Err, arith, inl, eqb-true, ltb-true}
 use Rattle.std.specs.Prelude.{is_some, IfOk}
 use Rattle.std.specs.Map.{lookup}
 use Rattle.std.specs.Ordering.{is_eq}
@@ -42,23 +42,11 @@ use Rattle.session_births.specs.Unborn.{UnbornAt, UnbornUnless, LeavesUnborn, En
 use Rattle.session_births.proofs.Laws.{informed_stay, free_stays, unless_stays, answered_is_in_epoch, ends_unbear, unborn_unless_any}
 use Rattle.session_ops.proofs.Touched.{touch_here, touch_else}
 use Rattle.session_ops.specs.Standing.{IsOld, is_op_outcome, place_after, AskTold, IsReady, HasBirth, IsActive, StandsAfter}
+use Rattle.law_base.proofs.Names.{birth_same}
+use Rattle.law_base.proofs.Shards.{is_done, fits_op as is_told, outcome_in}
+use Rattle.law_base.proofs.Options.{option_self}
 
 -- ---- an entry is made exactly where the operation was answered or died
-
-abbrev pub is_told : Outcome → Bool
-is_told (Answered answer epoch) = true
-is_told (Dead cause) = true
-is_told _ = false
-
-abbrev is_done : Reply → Bool
-is_done (QuietBeforeWorn o) = false
-is_done (QuietAfterWorn o) = false
-is_done (Does o t) = true
-
-abbrev outcome_in : Reply → Outcome
-outcome_in (QuietBeforeWorn o) = o
-outcome_in (QuietAfterWorn o) = o
-outcome_in (Does o t) = o
 
 op_done : (s : Shard) (r : OpReply) → is_told (outcome_in (op_event s r)) ≡ is_done (op_event s r)
 op_done s (OpWaits younger) = refl
@@ -160,10 +148,6 @@ told_fits tx birth nth seen op s t clock w (Ok o) (Some x) (p, is, m) =
 
 -- ---- the session's state
 
-option_self : (a : Option ℕ) → same_option a a ≡ true
-option_self None = refl
-option_self (Some a) = eq-eqb a a refl
-
 op_in : (splits : List ℕ) (n nth : ℕ) (op : Operation) (o : Outcome) (p : SessionState) → is_number p n nth op ≡ true → lies_in splits n op ≡ true → op_in_session splits n nth (lookup (◌==◌ n) p.touched) op o (Some p) ≡ op_answered n nth op p o
 op_in splits n nth op o p a b =
     ap (λ c. cond c (op_answered n nth op p o) None)
@@ -187,9 +171,6 @@ module _ {M S G : Type 0} where
       → may_make sh.splits sh.run w.number (kept w.passes.items) n (Op p.tx a.born.birth nth (lookup (◌==◌ n) p.touched) op) ≡ true
   may_ask sh w p a n nth op number lies =
       states_tell_may_make sh.splits sh.run w.number (kept w.passes.items) a.state n (Op p.tx a.born.birth nth (lookup (◌==◌ n) p.touched) op) a.ready.state ∙ ap is_some (goes_to sh w p a n nth op (Answered (Value None) 0) number lies)
-
-birth_same : (x y : Birth) → ◌≡◌ {A = Option Birth} (Some x) (Some y) → x ≡ y
-birth_same x y h = cc
 
 -- ---- after one turn
 

@@ -10,11 +10,7 @@ use Rattle.clv_base.specs.State.{Shard}
 use Rattle.clv_base.specs.Events.{Reply, QuietBeforeWorn, QuietAfterWorn, Does, Quiet, Enters, stamped, happen, happen_up, step, next_stamp, out_event, send_event, remind_with, reminders}
 use Rattle.machine_calls.specs.declared.machine.StepError.{StepError}
 use Rattle.machine_calls.specs.Steps.{Tells}
-
-abbrev pub outcome_in : Reply → Outcome
-outcome_in (QuietBeforeWorn o) = o
-outcome_in (QuietAfterWorn o) = o
-outcome_in (Does o t) = o
+use Rattle.law_base.proofs.Shards.{outcome_in}
 
 quiet_outcome : (stamp w : ℕ) (e : Event) (room : Bool) (r : Reply) (o : Outcome) → stamped stamp w e room r ≡ Quiet o → outcome_in r ≡ o
 quiet_outcome stamp w e room (QuietBeforeWorn p) o h = cc

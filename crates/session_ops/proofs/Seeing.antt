@@ -38,12 +38,9 @@ use Rattle.session_births.proofs.Laws.{informed_stay, free_stays, unless_stays, 
 use Rattle.session_ops.specs.Standing.{IsOld, IsReady, HasBirth, AskTold, IsGoneAt}
 use Rattle.session_ops.specs.Requested.{IsStanding}
 use Rattle.session_ops.specs.Looked.{is_look_outcome, place_looked, LookStands}
-use Rattle.session_ops.proofs.Making.{is_done, outcome_in, quiet_so, enters_so, ok_same, IsEntered, birth_same}
-
-abbrev is_told : Outcome → Bool
-is_told Acknowledged = true
-is_told (Aborted cause) = true
-is_told _ = false
+use Rattle.session_ops.proofs.Making.{quiet_so, enters_so, ok_same, IsEntered}
+use Rattle.law_base.proofs.Shards.{is_done, outcome_in, is_told}
+use Rattle.law_base.proofs.Names.{birth_same}
 
 -- what a look comes to fits, and is told where it is done
 abbrev Fits : Reply → Type 0

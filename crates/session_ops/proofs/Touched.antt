@@ -1,17 +1,16 @@
 -- The epoch of a touched shard, after one more touch.
-use Rattle.std.proofs.Common.{◌≡◌, ◌∙◌, refl, sym, ap, ℕ, ◌==◌, Bool, true, false, cond, List, [], ◌∷◌, Option, Some, None, eq-eqb, eqb-true}
+use Rattle.std.proofs.Common.{◌≡◌, ◌∙◌, refl, sym, ap, ℕ, ◌==◌, Bool, true, false, cond, List, [], ◌∷◌, Option, Some, None, eq-eqb}
 use Rattle.std.specs.Prelude.{is_some, unwrap_or}
 use Rattle.std.specs.Map.{lookup}
 use Rattle.std.specs.BTreeMap.{insert_entry}
 use Rattle.std.specs.Ordering.{nat_cmp, match_ordering, is_eq}
 use Rattle.std.specs.declared.cmp.Ordering.{Ordering}
 use Rattle.std.specs.declared.cmp.Ordering.TheVariants.{Less, Equal, Greater}
-use Rattle.std.proofs.lemmas.Bool.{both_ways, false_from_ne_true}
+use Rattle.std.proofs.lemmas.Bool.{both_ways}
 use Rattle.clv_base.specs.Sessions.{touch}
 use Rattle.clv_base.proofs.SameNames.{nat_cmp_true, nat_cmp_self}
-
-apart : (m n : ℕ) → (m ≡ n → ⊥) → (m == n) ≡ false
-apart m n other = false_from_ne_true (m == n) (λ h. other (eqb-true m n h))
+use Rattle.law_base.proofs.Numbers.{unequal_test as apart}
+use Rattle.law_base.proofs.Options.{found_none}
 
 greater_apart : (n k : ℕ) → nat_cmp n k ≡ Greater → (n == k) ≡ false
 greater_apart n k e = apart n k (λ same. both_ways (is_eq (nat_cmp n k)) (ap is_eq e) (sym (ap (λ j. is_eq (nat_cmp n j)) same) ∙ nat_cmp_self n))
@@ -37,10 +36,6 @@ insert_else m n epoch (t ∷ ts) other = at (nat_cmp n t.0) refl (insert_else m 
         let far = apart m t.0 (λ same. other (same ∙ sym (nat_cmp_true n t.0 (ap is_eq e)))) in
         ap (λ b. cond b (Some epoch) (lookup (◌==◌ m) ts)) far ∙ sym (ap (λ b. cond b (Some t.1) (lookup (◌==◌ m) ts)) far)
     at Greater e h = ap (λ o. cond (m == t.0) (Some t.1) o) h
-
-found_none : (o : Option ℕ) → is_some o ≡ false → o ≡ None
-found_none None h = refl
-found_none (Some v) h = absurd (both_ways true h refl)
 
 some_or : (o : Option ℕ) (epoch : ℕ) → is_some o ≡ true → o ≡ Some (unwrap_or o epoch)
 some_or None epoch h = absurd (both_ways false refl h)

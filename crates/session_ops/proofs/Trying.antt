@@ -60,10 +60,6 @@ module _ {T : Type 0} where
   pub tried_once : (w c d : ℕ) (ps qs : List (Option (Pass T Note Origin))) (n : ℕ) (e : Event) (r : Result Outcome StepError) → ((o : Outcome) → r ≡ Ok o → is_op_outcome o ≡ true) → AskTold w c ps n e r d qs → Operated w c ps n e (tried n r) d qs
   tried_once w c d ps qs n e r fits a = record { turns = a.turn ∷ []; took = a.took; only = (inr a.event_is, tt); told = tried_told n e r a.turn fits a.shard_is a.event_is a.answer_is }
 
-pub if_ok : {A E : Type 0} (P : A → Type 0) (r : Result A E) → Rattle.std.specs.Prelude.IfOk r P → (a : A) → r ≡ Ok a → P a
-if_ok P (Ok b) h a is = subst P (let same : b ≡ a = cc in same) h
-if_ok P (Err e) h a is = absurd cc
-
 -- ---- turns after turns
 
 any_after : (P : Turn → Type 0) (xs ys : List Turn) → AnyTurn P ys → AnyTurn P (xs ++ ys)

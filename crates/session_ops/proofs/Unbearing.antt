@@ -26,6 +26,7 @@ use Rattle.session_births.proofs.Laws.{past, unborn_stays, ends_unbear, unborn_u
 use Rattle.session_ops.specs.Standing.{HasBirth}
 use Rattle.session_ops.specs.Dropped.{is_to_drop, is_excepted, Drops}
 use Rattle.session_ops.specs.Unbearing.{UnbornOrWorn, IsGoneBut, DropsUnbear}
+use Rattle.law_base.proofs.Names.{birth_same as some_birth}
 
 -- ---- turns that are drops
 
@@ -88,9 +89,6 @@ are_drops tx touched except [] h = tt
 are_drops tx touched except (t ∷ ts) h = ((h.0).event, are_drops tx touched except ts h.1)
 
 -- ---- where nothing is to be dropped
-
-some_birth : (a b : Birth) → ◌≡◌ {A = Option Birth} (Some a) (Some b) → a ≡ b
-some_birth a b h = cc
 
 module _ {M S G : Type 0} where
   unborn_there : (w : Walker M S G) (p : SessionState) (except : Option ℕ) (born : HasBirth w p) → IsGoneBut except w p → (n : ℕ) → is_to_drop p.touched except n ≡ false → UnbornAt n born.birth w.passes.items

@@ -41,11 +41,13 @@ use Rattle.script_runs.specs.Seen.{Standing, Grows}
 use Rattle.script_runs.specs.Told.{AreDropsOf, CommitTold}
 use Rattle.session_scripts.specs.Seeing.{seen_as, touched_in, is_active, after_commit, commit_end}
 use Rattle.session_scripts.specs.SessionToldLaws.{CommitsTell}
-use Rattle.session_scripts.proofs.Following.{IsPlain, are_plain, all_before, all_behind, all_session, made_in, made_in_more, made_of, between, turns_lead, some_same, Among, among_one, among_none, among_first, is_there, ok_same, IsOneOf, MadeOne, any_made}
+use Rattle.session_scripts.proofs.Following.{IsPlain, are_plain, all_before, all_behind, all_session, made_in, made_in_more, made_of, between, turns_lead, Among, among_one, among_none, among_first, is_there, ok_same, IsOneOf, MadeOne, any_made}
 use Rattle.session_scripts.proofs.SessionToldOperating.{if_some}
 use Rattle.session_scripts.proofs.Pointing.{grows_by}
 use Rattle.session_scripts.proofs.SessionToldEnding.{IsGone, behind_it, only_drops, Behind, not_yet, acknowledged, aborted, behind_request}
 use Rattle.session_scripts.proofs.Untouched.{untouched_unnumbered}
+use Rattle.law_base.proofs.Shards.{some_session as some_same}
+use Rattle.law_base.proofs.Lists.{lowest_some}
 
 -- ---- the request
 
@@ -223,10 +225,6 @@ module _ {M S G : Type 0} (sh : Shards M S G) (w v : Walker M S G) (p q : Sessio
           subst (λ z. CommitTold p.tx birth p.nth (touched_in p.touched) (commit_end (Err z)) (seen_as sh w (is_active p birth)) (seen_as sh v (after_commit q birth (Err z)))) (sym is) (inl (nothing (after_commit q birth (Err commit.Memory))))
       at (inr (inr (t, is))) =
           subst (λ z. CommitTold p.tx birth p.nth (touched_in p.touched) (commit_end (Err z)) (seen_as sh w (is_active p birth)) (seen_as sh v (after_commit q birth (Err z)))) (sym is) (inl (nothing (after_commit q birth (Err (commit.Worn t)))))
-
-lowest_some : (n : ℕ) (ts : List (ℕ × ℕ)) → is_lowest n ts ≡ true → ts ≢ []
-lowest_some n [] h k = both_ways false refl h
-lowest_some n (t ∷ ts) h k = cc
 
 module _ {M S G : Type 0} (sh : Shards M S G) (w v : Walker M S G) (p q : SessionState) (birth : Birth) (n : ℕ) (active : IsActive sh w p) (lowest : is_lowest n p.touched ≡ true) (same : IsSameWalker w v) (stands : StandsAs sh v q) where
   -- by what the request was answered

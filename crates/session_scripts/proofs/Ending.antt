@@ -1,7 +1,6 @@
 -- Commits and aborts, as whoever runs a script is told of them.
 use Rattle.std.proofs.Common.{◌≡◌, ◌∙◌, refl, sym, ap, subst, ℕ, ◌^◌, Bool, true, false, List, ◌++◌, length, Some, None, Result, Ok, Err, inl, inr}
 use Rattle.std.specs.Prelude.{⊤, IfErr}
-use Rattle.std.proofs.lemmas.Bool.{both_ways}
 use Rattle.clv_base.specs.declared.names.TxId.{TxId}
 use Rattle.clv_base.specs.declared.names.Birth.{Birth}
 use Rattle.clv_base.specs.declared.names.Point.{Point}
@@ -48,6 +47,7 @@ use Rattle.session_scripts.specs.Grounds.{Grounds}
 use Rattle.session_scripts.proofs.Standings.{read_active, of_this, idle_active, asked_active, stays_grown, worn_still}
 use Rattle.session_scripts.proofs.Taking.{any_before, any_behind, found_down, grounds_stay, held_after, held_so}
 use Rattle.session_scripts.proofs.Operating.{IsUnderWay}
+use Rattle.law_base.proofs.Shards.{touching_is as touching_phase}
 
 -- ---- how a commit leaves the transaction
 
@@ -58,13 +58,6 @@ phase_stands q birth is Ended = ap (λ b. Idle b) is
 phase_stands q birth is (IsStanding home) = refl
 phase_stands q birth is Told = refl
 phase_stands q birth is Refused = ap (λ b. Idle b) is
-
-touching_phase : (x : Phase) → is_touching x ≡ true → x ≡ Touching
-touching_phase Touching h = refl
-touching_phase Ended h = absurd (both_ways false refl h)
-touching_phase (IsStanding home) h = absurd (both_ways false refl h)
-touching_phase Told h = absurd (both_ways false refl h)
-touching_phase Refused h = absurd (both_ways false refl h)
 
 -- what the place is after a commit, whose answer is this
 pub record PlaceIs (p q : SessionState) (r : Result Settled CommitFailure) : Type 0 where

@@ -18,6 +18,7 @@ use Rattle.session_births.proofs.Laws.{others_leave_states}
 use Rattle.session_births.specs.Turns.{Turn, Took, AnyTurn, IsMadeBy, entry_on, entries_made}
 use Rattle.session_births.specs.Answers.{is_quiet, is_kept, may_come_to, HasItsEntry, HasItsOutcome, turns_of_session}
 use Rattle.session_births.proofs.Laws.{kept_grows, entries_are_made, answers_have_entries, outcomes_fit}
+use Rattle.law_base.proofs.Shards.{none_session as none_some}
 
 -- ---- states
 
@@ -29,12 +30,6 @@ after_more splits None (e ∷ es) fs = sym (none_stays fs)
     none_stays [] = refl
     none_stays (f ∷ fs) = refl
 after_more splits (Some t) (e ∷ es) fs = after_more splits (session_after splits e.0 t (e.1).event (e.1).outcome) es fs
-
-pub none_some : {X : Type 0} (t : SessionState) → ◌≡◌ {A = Option SessionState} None (Some t) → X
-none_some t h = absurd cc
-
-pub some_same : (t u : SessionState) → ◌≡◌ {A = Option SessionState} (Some t) (Some u) → t ≡ u
-some_same t u h = cc
 
 pub none_leads : {X : Type 0} (splits : List ℕ) (es : History) (t : SessionState) → after_from splits None es ≡ Some t → X
 none_leads splits [] t h = none_some t h

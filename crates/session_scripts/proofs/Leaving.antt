@@ -1,5 +1,5 @@
 -- What an abort and a beginning tell of a session's entries.
-use Rattle.std.proofs.Common.{◌≡◌, ◌∙◌, refl, sym, ap, subst, suc, append-nil, length, Option, Some, None, Result, Ok, Err, arith}
+use Rattle.std.proofs.Common.{◌≡◌, ◌∙◌, refl, sym, ap, subst, suc, append-nil, length, Some, None, Result, Ok, Err, arith}
 use Rattle.clv_base.specs.declared.names.Birth.{Birth}
 use Rattle.clv_base.specs.Sessions.{SessionState, no_session, begun}
 use Rattle.cluster_turns.specs.declared.shards.Shards.{Shards}
@@ -14,6 +14,7 @@ use Rattle.session_scripts.specs.Seeing.{seen_as, touched_in, is_active, after_a
 use Rattle.session_scripts.specs.SessionToldLaws.{AbortsTell, BeginningsTell, RetriesTell}
 use Rattle.session_scripts.proofs.Following.{are_plain, made_in}
 use Rattle.session_scripts.proofs.Pointing.{are_drops, seen_grows}
+use Rattle.law_base.proofs.Names.{birth_same as some_birth}
 
 pub aborts_tell : (M S G A : Type 0) → AbortsTell M S G A
 aborts_tell M S G A sh w v p birth r en has same d = at r d
@@ -64,9 +65,6 @@ beginnings_tell M S G sh w v p again b =
       (omega arith),
       begun_begins M S G sh w v p b.birth (Idle again) place b.walker_is,
     )
-
-some_birth : (a b : Birth) → ◌≡◌ {A = Option Birth} (Some a) (Some b) → a ≡ b
-some_birth a b h = cc
 
 pub retries_tell : (M S G : Type 0) → RetriesTell M S G
 retries_tell M S G sh w v last p birth is r =

@@ -26,12 +26,9 @@ use Rattle.session_api.specs.declared.progress.Progress.{Progress}
 use Rattle.session_api.specs.declared.progress.Progress.TheVariants as progress
 use Rattle.session_api.specs.Sessions.{StandsIn}
 use Rattle.session_scripts.specs.Laws.{NewWalkersAreSessions, NewWalkersRest, NewWalkersKeepNone, SessionsRest, ScriptsFollow}
+use Rattle.law_base.proofs.Lists.{first_elem as a_lock}
 
 -- ---- it keeps nothing so far
-
-a_lock : {A : Type 0} (xs : List A) → 0 < length xs → A
-a_lock [] l = absurd (omega arith)
-a_lock (x ∷ xs) l = x
 
 module _ {T : Type 0} where
   nothing_kept : (n : ℕ) (ps : List (Option (Pass T Note Origin))) → ((k : ℕ) (d : Option (Pass T Note Origin)) → k < length ps → own_of (get_or ps k d) ≡ []) → merged_from n (own_lists ps) ≡ []

@@ -2,7 +2,6 @@
 use Rattle.std.proofs.Common.{◌≡◌, ◌∙◌, refl, sym, ap, ℕ, zero, suc, ◌+◌, ◌<◌, ◌≤◌, ◌^◌, true, false, cond, max, min, nat_le, List, [], ◌∷◌, ◌++◌, Option, Some, None, arith, eq-eqb}
 use Rattle.std.specs.Prelude.{IsTrue}
 use Rattle.std.proofs.lemmas.Bool.{both_ways, and_parts, leb-true, le-leb}
-use Rattle.std.proofs.lemmas.List.Sums.{count_by-le-length}
 use mathlib.Core.Logic.{dite}
 use native.Mathlib.Decide.{ℕ_discrete}
 use Rattle.clv_base.specs.declared.names.TxId.{TxId}
@@ -13,6 +12,7 @@ use Rattle.clv_base.specs.Shards.{shard_of, shard_count, span, lies_within, are_
 use Rattle.clv_base.proofs.Spans.{span_keys}
 use Rattle.script_runs.specs.Operations.{scan_within, part_at, scan_parts, parts_of, no_part, IsBegun}
 use Rattle.session_scripts.specs.SessionToldLaws.{IsAt, gets, puts, dels}
+use Rattle.law_base.proofs.Lists.{is_shard}
 
 -- the first of its parts, and the others
 abbrev pub HasPart : List (ℕ × Op) → Type 0
@@ -29,9 +29,6 @@ meets_first splits lo hi rise falls small = at (span splits (shard_of splits lo)
         let a = leb-true s.0 lo k.0 in
         let b = leb-true lo s.1 k.1 in
         (Scan (max lo s.0) (min hi s.1), ap (λ c. cond c (Some (Scan (max lo s.0) (min hi s.1))) None) (le-leb (max lo s.0) (min hi s.1) (omega arith)))
-
-is_shard : (splits : List ℕ) (k : ℕ) → shard_of splits k < shard_count splits
-is_shard splits k = let h = count_by-le-length (λ s. nat_le s k) splits in omega arith
 
 -- if one of so many shards is met there is a first one
 some_part : (splits : List ℕ) (lo hi n a k : ℕ) (op : Op) → scan_within lo hi (span splits n) ≡ Some op → a ≤ n → n < a + k → HasPart (scan_parts splits lo hi a k)

@@ -4,7 +4,6 @@ use Rattle.std.specs.Prelude.{◌⊎◌, IsTrue}
 use Rattle.std.specs.Map.{lookup}
 use Rattle.std.proofs.lemmas.Bool.{both_ways, and_parts, leb-true, ltb-true, le-leb}
 use Rattle.std.proofs.lemmas.List.Folds.{list_any-append}
-use Rattle.std.proofs.lemmas.List.Sums.{count_by-le-length}
 use Rattle.clv_base.specs.declared.names.TxId.{TxId}
 use Rattle.clv_base.specs.declared.names.Birth.{Birth}
 use Rattle.clv_base.specs.declared.ops.Op.{Op as Operation}
@@ -39,6 +38,7 @@ use Rattle.session_scripts.specs.SessionToldLaws.{ScansTell}
 use Rattle.session_scripts.proofs.Following.{made_in, made_in_more}
 use Rattle.session_scripts.proofs.SessionToldOperating.{IsLastOn, EntriesBy}
 use Rattle.session_scripts.proofs.Pointing.{touches_one, touches_none, seen_grows, asked_entries, others_drop, made_asking}
+use Rattle.law_base.proofs.Lists.{is_shard}
 
 -- ---- parts
 
@@ -363,9 +363,6 @@ meets_first splits lo hi rise falls small = at (span splits (shard_of splits lo)
         let a = leb-true s.0 lo k.0 in
         let b = leb-true lo s.1 k.1 in
         ((max lo s.0, min hi s.1), ap (λ c. cond c (Some (max lo s.0, min hi s.1)) None) (le-leb (max lo s.0) (min hi s.1) (omega arith)))
-
-is_shard : (splits : List ℕ) (k : ℕ) → shard_of splits k < shard_count splits
-is_shard splits k = let h = count_by-le-length (λ s. nat_le s k) splits in omega arith
 
 no_answers : (tx : TxId) (birth : Birth) (nth : ℕ) (parts : List (ℕ × Operation)) (es : History) → ArePartsAnswered tx birth nth parts [] es → parts ≡ []
 no_answers tx birth nth _ _ no_part = refl

@@ -19,9 +19,10 @@ use Rattle.session_ops.specs.Dropped.{Drops}
 use Rattle.session_endings.specs.Decided.{IsLookOrDrop}
 use Rattle.script_runs.specs.Told.{AreDropsOf}
 use Rattle.session_scripts.specs.Seeing.{touched_in}
-use Rattle.session_scripts.proofs.Following.{IsPlain, none_leads, some_same, none_some, all_so}
+use Rattle.session_scripts.proofs.Following.{IsPlain, none_leads, all_so}
 use Rattle.session_scripts.proofs.SessionToldOperating.{if_some}
 use Rattle.session_scripts.proofs.Pointing.{one_drop}
+use Rattle.law_base.proofs.Shards.{some_session as some_same, none_session as none_some}
 
 -- ---- turns behind a request, turn by turn
 

@@ -26,7 +26,8 @@ use Rattle.session_births.specs.Answers.{may_come_to, turns_of_session}
 use Rattle.session_ops.specs.declared.operating.OpError.{OpError}
 use Rattle.session_ops.specs.declared.operating.OpError.TheVariants.{Aborted, Down, Worn, Memory}
 use Rattle.session_ops.specs.Operated.{IsAnswered, Died, ToldBy, PlacedBy, OnlyOf, answered_in}
-use Rattle.session_scripts.proofs.Following.{IsPlain, none_leads, some_same, none_some, made_in, Among, among_one, among_none, IsOneOf, any_made, all_session, all_so}
+use Rattle.session_scripts.proofs.Following.{IsPlain, none_leads, made_in, Among, among_one, among_none, IsOneOf, any_made, all_session, all_so}
+use Rattle.law_base.proofs.Shards.{some_session as some_same, none_session as none_some}
 
 -- ---- one entry
 

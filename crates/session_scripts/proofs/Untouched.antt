@@ -17,12 +17,13 @@ use Rattle.clv_base.specs.declared.events.Outcome.TheVariants.{Answered, Dead, A
 use Rattle.clv_base.specs.Orders.{tx_same}
 use Rattle.clv_base.specs.LogRules.{same_option}
 use Rattle.clv_base.specs.Journals.{History}
-use Rattle.clv_base.specs.Sessions.{SessionState, Phase, Touching, Ended, Standing, Told, Refused, no_session, begun, begins, is_number, lies_in, goes_on, session_for, op_answered, op_in_session, is_touching, same_touched, is_lowest, requested, stands_at, looked, touch, after_drop, session_after}
+use Rattle.clv_base.specs.Sessions.{SessionState, no_session, begun, begins, is_number, lies_in, goes_on, session_for, op_answered, op_in_session, is_touching, same_touched, is_lowest, requested, stands_at, looked, touch, after_drop, session_after}
 use Rattle.cluster_turns.specs.declared.shards.Shards.{Shards}
 use Rattle.cluster_turns.specs.declared.shards.Walker.{Walker}
 use Rattle.cluster_turns.specs.Walkers.{kept}
 use Rattle.session_births.specs.States.{after_from, GoesOnBy}
 use Rattle.session_ops.specs.Standing.{IsActive}
+use Rattle.law_base.proofs.Shards.{drop_ends as dropped_over}
 
 touch_some : (n epoch : ℕ) (ts : List (ℕ × ℕ)) → touch n epoch ts ≢ []
 touch_some n epoch [] h = cc
@@ -76,13 +77,6 @@ numbered_looked : (t : SessionState) (o : Outcome) → NumberedIn (looked t o)
 numbered_looked t Acknowledged = λ k e. absurd (both_ways false refl k)
 numbered_looked t (Aborted cause) = λ k e. absurd (both_ways false refl k)
 numbered_looked t _ = tt
-
-dropped_over : (x : Phase) → is_touching (after_drop x) ≡ false
-dropped_over Touching = refl
-dropped_over Ended = refl
-dropped_over (Standing home) = refl
-dropped_over Told = refl
-dropped_over Refused = refl
 
 numbered_after : (splits : List ℕ) (n : ℕ) (t : SessionState) (e : Event) (o : Outcome) → Numbered t → NumberedIn (session_after splits n t e o)
 numbered_after splits n t (Op tx birth nth seen op) o h = numbered_op splits n nth seen op o (session_for t tx birth)

@@ -42,8 +42,9 @@ use Rattle.shard_core.proofs.Seeing.{part_known, pair_has}
 use Rattle.shard_core.proofs.Logged.{All, logged_more, logged_known}
 use Rattle.shard_core.proofs.Changing.{room_kept}
 use Rattle.shard_core.proofs.Taking.{stage_known}
-use Rattle.shard_core.proofs.Putting.{put_in, put_own, put_most, asked_total, closed_total, in_left, in_right, left_more, right_more}
+use Rattle.shard_core.proofs.Putting.{put_in, put_own, put_most, asked_total, closed_total, left_more, right_more}
 use Rattle.shard_core.proofs.Parts.{Parts, seen, viewed, Holds, Changed, changed, AreKept}
+use Rattle.law_base.proofs.Names.{in_first as in_left, in_second as in_right}
 
 -- ---- only more room was made, and nobody is a candidate
 

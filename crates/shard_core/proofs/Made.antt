@@ -1,10 +1,9 @@
 -- The parts that a restart leaves are the protocol's state after it, at rest, and hold together.
-use Rattle.std.proofs.Common.{◌≡◌, refl, sym, ap, subst, ◌∙◌, ℕ, ◌+◌, ◌*◌, ◌≤◌, ◌==◌, ◌-◌, Bool, true, false, Some, None, List, [], ◌∷◌, length, take, drop, slice_range, eq-eqb, arith}
-use Rattle.std.proofs.Math.Seq.{drop-length, take-length}
+use Rattle.std.proofs.Common.{◌≡◌, refl, sym, ap, subst, ◌∙◌, ℕ, ◌+◌, ◌*◌, ◌≤◌, ◌==◌, ◌-◌, Bool, true, false, Some, None, List, [], ◌∷◌, length, drop, eq-eqb, arith}
+use Rattle.std.proofs.Math.Seq.{drop-length}
 use Rattle.std.proofs.lemmas.Bool.{both_ways, cond-true}
 use Rattle.std.proofs.lemmas.List.{length-map}
 use Rattle.std.specs.List.Sorted.{IsStrictlySortedBy}
-use Rattle.std.specs.Map.{keys_of}
 use Rattle.clv_base.specs.declared.names.TxId.{TxId}
 use Rattle.clv_base.specs.declared.logs.LogRecord.{LogRecord}
 use Rattle.clv_base.specs.Orders.{Table, tx_cmp, tx_in}
@@ -29,13 +28,7 @@ use Rattle.shard_core.specs.Whole.{HasRoom, AreKnown, IsAtRest}
 use Rattle.shard_core.proofs.Logged.{All}
 use Rattle.shard_core.proofs.Seeing.{same_shard}
 use Rattle.shard_core.proofs.Parts.{Parts, seen, viewed, Holds}
-
--- a range of all
-pub whole_range : {X : Type 0} (ys xs : List X) (n : ℕ) → ys ≡ slice_range xs 0 n → n ≡ length xs → ys ≡ xs
-whole_range ys xs n e f =
-    let none : length xs - 0 ≡ length xs = omega arith in
-    let all : slice_range xs 0 (length xs) ≡ take (length xs) xs = ap (λ (k : ℕ). take k xs) none in
-    e ∙ ap (slice_range xs 0) f ∙ all ∙ take-length xs
+use Rattle.law_base.proofs.Names.{request_keys}
 
 -- ---- how much is left
 
@@ -58,10 +51,6 @@ one_left shard idle (p ∷ ps) = omega arith
 requests_left : (shard : ℕ) (test : TxId → Bool) (unended : Table (List ℕ)) → total_by (left_request shard) test (restored_requests unended) ≤ length unended
 requests_left shard test [] = omega arith
 requests_left shard test (u ∷ us) = let one = one_left shard (test u.0) u.1 in let more = requests_left shard test us in omega (arith, one, more)
-
-request_keys : (unended : Table (List ℕ)) → keys_of (restored_requests unended) ≡ keys_of unended
-request_keys [] = refl
-request_keys (u ∷ us) = ap (λ ks. u.0 ∷ ks) (request_keys us)
 
 -- ---- the state
 

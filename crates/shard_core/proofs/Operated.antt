@@ -44,6 +44,8 @@ use Rattle.shard_core.proofs.Taking.{here_in, without_keys, without_prepares, st
 use Rattle.shard_core.proofs.Committing.{idle_holds, idle_ready}
 use Rattle.shard_core.proofs.Replied.{Leaves, reply_leaves}
 use Rattle.shard_core.proofs.Parts.{Parts, seen, viewed, Holds, Changed, changed, covered, AreKept}
+use Rattle.law_base.proofs.Bools.{or_none}
+use Rattle.law_base.proofs.Stages.{written_parts}
 
 -- ---- a part more
 
@@ -78,10 +80,6 @@ record New (tx : TxId) (parts more : Table Held) (known : Bool) : Type 0 where
 new_is : (tx : TxId) (birth : Birth) (parts : Table Held) (o : Option Held) → tx_get tx parts ≡ o → New tx parts (new_part tx birth o parts) (stage_in o)
 new_is tx birth parts None e = record { work = put_le tx birth parts; count = put_length tx (active_part birth) parts; own = put_has tx (active_part birth) parts; stay = λ x h. put_keeps tx (active_part birth) x parts h }
 new_is tx birth parts (Some h) e = record { work = omega arith; count = omega arith; own = get_has tx h parts e; stay = λ x i. i }
-
-written_parts : (tx : TxId) (w : Option (ℕ × Option ℕ × Option ℕ)) (l : Local) → (written tx w l).parts ≡ l.parts
-written_parts tx None l = refl
-written_parts tx (Some w) l = refl
 
 performed_new : (tx : TxId) (birth : Birth) (op : Op) (l : Local) → New tx l.parts (performed tx birth op l).parts (is_some (stage_of l tx))
 performed_new tx birth op l =
@@ -139,10 +137,6 @@ granted_changed a tx birth op u f rest whole fresh e put limit room pairs kept =
     kept
 
 -- ---- a death
-
-or_none : (b : Bool) → (b || false) ≡ b
-or_none true = refl
-or_none false = refl
 
 abbrev noted_by : Local → TxId → TxId → Bool
 noted_by l tx x = cond (is_some (stage_of l tx)) (tx_in x (doomed_by l tx)) false

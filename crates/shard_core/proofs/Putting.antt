@@ -1,7 +1,6 @@
 -- A table with one entry more, and what it counts.
 use Rattle.std.proofs.Common.{◌≡◌, refl, sym, ap, subst, ◌∙◌, ⊎_elim, ℕ, suc, ◌+◌, ◌≤◌, Bool, true, false, cond, ◌&&◌, is_none, List, [], ◌∷◌, ◌++◌, length, Some, None, arith}
 use Rattle.std.proofs.lemmas.Bool.{both_ways, or_cases}
-use Rattle.std.specs.List.{AllByRecursion}
 use Rattle.std.specs.List.Sorted.{IsStrictlySortedBy}
 use Rattle.std.specs.Map.{keys_of}
 use Rattle.std.specs.declared.cmp.Ordering.{Ordering}
@@ -16,8 +15,9 @@ use Rattle.clv_base.specs.OneShard.{closed_part, closed_in}
 use Rattle.clv_base.specs.Due.{total, part_work}
 use Rattle.due_laws.specs.Left.{left_voter, total_by}
 use Rattle.clv_base.proofs.SameNames.{or_left, or_right, tx_true, tx_self, tx_eq}
-use Rattle.law_base.proofs.Sets.{tx_total}
+use Rattle.law_base.proofs.Sets.{tx_total, AllAbove as Above}
 use Rattle.due_laws.proofs.Laws.{in_append}
+use Rattle.law_base.proofs.Names.{in_first as in_left, in_second as in_right}
 
 -- ---- who is in it
 
@@ -50,12 +50,6 @@ put_most t v (r ∷ rs) = at (tx_cmp t r.0) (put_most t v rs)
 
 -- ---- in lists one behind another
 
-pub in_left : (x : TxId) (xs ys : List TxId) → tx_in x xs ≡ true → tx_in x (xs ++ ys) ≡ true
-in_left x xs ys e = in_append x xs ys ∙ or_left _ _ e
-
-pub in_right : (x : TxId) (xs ys : List TxId) → tx_in x ys ≡ true → tx_in x (xs ++ ys) ≡ true
-in_right x xs ys e = in_append x xs ys ∙ or_right (tx_in x xs) _ e
-
 pub left_more : (x : TxId) (xs more ys : List TxId) → (tx_in x xs ≡ true → tx_in x more ≡ true) → tx_in x (xs ++ ys) ≡ true → tx_in x (more ++ ys) ≡ true
 left_more x xs more ys h e = ⊎_elim (λ i. in_left x more ys (h i)) (λ i. in_right x more ys i) (or_cases (tx_in x xs) (tx_in x ys) (sym (in_append x xs ys) ∙ e))
 
@@ -63,9 +57,6 @@ pub right_more : (x : TxId) (xs ys more : List TxId) → (tx_in x ys ≡ true �
 right_more x xs ys more h e = ⊎_elim (λ i. in_left x xs more i) (λ i. in_right x xs more (h i)) (or_cases (tx_in x xs) (tx_in x ys) (sym (in_append x xs ys) ∙ e))
 
 -- ---- what is left to do by it
-
-abbrev Above : TxId → List TxId → Type 0
-Above t ts = AllByRecursion (λ u. tx_cmp t u ≡ Less) ts
 
 above_all : (t u : TxId) (ts : List TxId) → tx_cmp t u ≡ Less → Above u ts → ((x : TxId) → tx_cmp t u ≡ Less → tx_cmp u x ≡ Less → tx_cmp t x ≡ Less) → Above t ts
 above_all t u [] l a h = tt

@@ -1,5 +1,5 @@
 -- One request changes, with no more left to do.
-use Rattle.std.proofs.Common.{◌≡◌, refl, sym, ap, subst, ◌∙◌, ⊎_elim, ℕ, ◌+◌, ◌≤◌, Bool, true, false, cond, ◌&&◌, is_none, List, [], ◌∷◌, ◌++◌, length, length-append, drop, ◌*◌, Option, Some, None, arith}
+use Rattle.std.proofs.Common.{◌≡◌, refl, sym, ap, subst, ◌∙◌, ⊎_elim, ℕ, ◌+◌, ◌≤◌, Bool, true, false, ◌&&◌, is_none, List, [], ◌∷◌, ◌++◌, length, length-append, drop, ◌*◌, Option, Some, None, arith}
 use Rattle.std.proofs.lemmas.Bool.{both_ways, or_cases, and_parts, cond-true}
 use Rattle.std.specs.List.Sorted.{IsStrictlySortedBy}
 use Rattle.std.specs.Map.{keys_of}
@@ -13,7 +13,7 @@ use Rattle.clv_base.specs.declared.state.RequestState.TheVariants.{Undecided, Co
 use Rattle.clv_base.specs.Orders.{nat_in}
 use Rattle.clv_base.specs.Events.{is_alone}
 use Rattle.clv_base.specs.Coordinator.{others, first_no, counts_vote, takes_vote, with_vote_of, takes_done, with_done_of}
-use Rattle.clv_base.proofs.SameNames.{or_left, or_right, tx_true, tx_flip, in_insert, insert_has}
+use Rattle.clv_base.proofs.SameNames.{tx_true, in_insert, insert_has}
 use Rattle.due_laws.specs.Changes.{ChangesDue}
 use Rattle.due_laws.specs.Left.{is_idle, left_by, left_request, left}
 use Rattle.due_laws.proofs.Laws.{total_by_at, set_keys, answers_touch}
@@ -27,20 +27,9 @@ use Rattle.shard_core.specs.Replying.{vote_taken, done_taken}
 use Rattle.shard_core.specs.Whole.{HasRoom, AreKnown, IsAtRest}
 use Rattle.shard_core.proofs.Logged.{logged_known}
 use Rattle.shard_core.proofs.Parts.{Parts, seen, viewed, Holds, Changed, changed, AreKept}
+use Rattle.law_base.proofs.Names.{has_key as get_key, in_second}
 
 -- ---- who has a request is known
-
-get_key : {V : Type 0} (tx : TxId) (v : V) (rs : Table V) → tx_get tx rs ≡ Some v → tx_in tx (keys_of rs) ≡ true
-get_key tx v [] e = absurd cc
-get_key tx v (r ∷ rs) e = at (tx_same tx r.0) refl e (get_key tx v rs)
-  where
-    at : (b : Bool) → tx_same tx r.0 ≡ b → cond b (Some r.1) (tx_get tx rs) ≡ Some v → (tx_get tx rs ≡ Some v → tx_in tx (keys_of rs) ≡ true) → tx_in tx (keys_of (r ∷ rs)) ≡ true
-    at true s e more = or_left _ _ (tx_flip tx r.0 s)
-    at false s e more = or_right (tx_same r.0 tx) _ (more e)
-
-in_second : (x : TxId) (xs ys : List TxId) → tx_in x ys ≡ true → tx_in x (xs ++ ys) ≡ true
-in_second x [] ys e = e
-in_second x (z ∷ zs) ys e = or_right (tx_same z x) _ (in_second x zs ys e)
 
 pub request_known : (s : Shard) (tx : TxId) (q : Request) → tx_get tx s.requests ≡ Some q → tx_in tx (known_keys s) ≡ true
 request_known s tx q e = in_second tx (keys_of s.local.parts) _ (in_second tx (keys_of s.voters) (keys_of s.requests) (get_key tx q s.requests e))

@@ -17,7 +17,7 @@ use Rattle.clv_base.specs.State.{Shard, Local, with_local}
 use Rattle.clv_base.specs.Undo.{doomed_by, doomed_here, aborts_of, clrs_of}
 use Rattle.clv_base.specs.OneShard.{purge}
 use Rattle.clv_base.specs.Due.{due_of, finish_reader}
-use Rattle.clv_base.proofs.SameNames.{or_left, or_right, tx_true, tx_self}
+use Rattle.clv_base.proofs.SameNames.{or_left, tx_true, tx_self}
 use Rattle.protocol_laws.specs.UndoLaws.{is_pair}
 use Rattle.protocol_laws.proofs.Laws.{doomed_is_closure}
 use Rattle.due_laws.specs.Depending.{HasPart, DependentsHaveParts}
@@ -37,6 +37,8 @@ use Rattle.txn_core.specs.Sound.{IsHeld, IsSound}
 use Rattle.vote_participant.specs.Voting.{Voting}
 use Rattle.commit_coordinator.specs.Coordinated.{Coordination}
 use Rattle.shard_core.specs.Core.{flight_by, seen_as}
+use Rattle.law_base.proofs.Lists.{all_mono as all_weaker}
+use Rattle.law_base.proofs.Names.{in_first}
 
 -- ---- seen
 
@@ -103,10 +105,6 @@ pair_has parts [] x p a e = absurd (both_ways false refl e)
 pair_has parts (q ∷ qs) x p a e =
     ⊎_elim (λ h. subst (HasPart parts) (sym (tx_true x q.0 (and_parts _ _ h).0)) a.0) (λ h. pair_has parts qs x p a.1 h) (or_cases _ (is_pair qs x p) e)
 
-in_first : (x : TxId) (xs ys : List TxId) → tx_in x xs ≡ true → tx_in x (xs ++ ys) ≡ true
-in_first x [] ys e = absurd (both_ways false refl e)
-in_first x (z ∷ zs) ys e = ⊎_elim (λ h. or_left _ _ h) (λ h. or_right (tx_same z x) _ (in_first x zs ys h)) (or_cases (tx_same z x) (tx_in x zs) e)
-
 pub part_known : (s : Shard) (x : TxId) → HasPart s.local.parts x → tx_in x (known_keys s) ≡ true
 part_known s x h = in_first x (keys_of s.local.parts) _ h
 
@@ -168,10 +166,6 @@ carried_prepares s tx (DueRuling (AbortVerdict cause to)) x = undone_prepares s.
 carried_prepares s tx (DueRuling EndVerdict) x = single x s.local.log (EndRecord tx) refl
 
 -- ---- writes are locked
-
-all_weaker : {A : Type 0} (P Q : A → Type 0) → ((x : A) → P x → Q x) → (xs : List A) → AllByRecursion P xs → AllByRecursion Q xs
-all_weaker P Q h [] a = tt
-all_weaker P Q h (x ∷ xs) a = (h x a.0, all_weaker P Q h xs a.1)
 
 pub writes_locked : (l : Local) (n : ℕ) → IsSound l n → WritesAreLocked l
 writes_locked l n sound = all_weaker (IsHeld l) (IsLocked l) (λ w h here. (h here).1) (standing l.log) sound.writes

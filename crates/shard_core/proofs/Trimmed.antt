@@ -25,6 +25,7 @@ use Rattle.txn_core.specs.Sound.{is_here, owed_by as undo_owed_by, trimmed}
 use Rattle.shard_core.specs.Core.{Core}
 use Rattle.shard_core.specs.Whole.{HasRoom, IsAtRest}
 use Rattle.shard_core.proofs.Parts.{Parts, seen, viewed, Holds}
+use Rattle.law_base.proofs.Numbers.{under_min as least}
 
 -- ---- requests that wait
 
@@ -69,9 +70,6 @@ owed_next voters (t ∷ ts) (suc i) d h = let more = owed_next voters ts i d (om
 
 pub open_enough : (c : Core) → IsAtRest c → IsStrictlySortedBy tx_cmp (keys_of (c.shard).voters) → left c.shard ≤ open_work c.shard
 open_enough c r voters = left_by_open c.shard voters r.ready.requests (none_is_nothing c.shard r.ready.cover)
-
-least : (n x y : ℕ) → n ≤ x → n ≤ y → n ≤ min x y
-least n x y a b = omega (arith, a, b)
 
 pub room_stays : (s : Shard) (t : TxState) (o : Waiting) (n : ℕ) → left s + 1 ≤ n → HasRoom s t o → HasRoom s (trimmed n t) (record o { room = min o.room (15 * n) })
 room_stays s t o n enough r =

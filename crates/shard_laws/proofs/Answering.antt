@@ -1,5 +1,5 @@
 -- What an operation answers by the records is what it answers by a map with the same values.
-use Rattle.std.proofs.Common.{◌≡◌, ℕ, ◌<◌, ⊎_elim, Bool, true, false, cond, ◌&&◌, [], ◌∷◌, Option, Some, None, ◌==◌, nat_le, T, refl, sym, ap, subst, ◌∙◌, eqb-true}
+use Rattle.std.proofs.Common.{◌≡◌, ℕ, ◌<◌, ⊎_elim, Bool, true, false, cond, ◌&&◌, [], ◌∷◌, Option, Some, None, ◌==◌, nat_le, refl, sym, ap, subst, ◌∙◌, eqb-true}
 use Rattle.std.specs.Ordering.{nat_cmp}
 use Rattle.std.specs.FinMap.Entries.{below_all, is_sorted}
 use Rattle.std.specs.Cmp.{unsigned_tied}
@@ -13,11 +13,9 @@ use Rattle.law_base.proofs.Cells.{record_at, live_by}
 use Rattle.clv_base.specs.Folding.{IsRising}
 use Rattle.clv_base.proofs.Folding.{same_map, find_between, rising_between}
 use Rattle.law_base.proofs.Anchors.{Rising, AllAbove, absent_above, rising_filter, less_true}
+use Rattle.law_base.proofs.Bools.{t_true}
 
 -- ---- the live pairs as a map
-
-pub t_true : (b : Bool) → b ≡ true → T b
-t_true b e = subst T (sym e) tt
 
 above_case : (k j : ℕ) (o : Option ℕ) (rest : KeyMap) → k < j → below_all nat_cmp k rest ≡ true → below_all nat_cmp k (elim o [ Some v ↦ (j, v) ∷ rest | None ↦ rest ]) ≡ true
 above_case k j None rest l e = e

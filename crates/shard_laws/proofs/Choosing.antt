@@ -27,7 +27,7 @@ use Rattle.shard_laws.proofs.Kept.{Past, view_of, place, Dep, Known, is_alive}
 use Rattle.shard_laws.proofs.Prepared.{Lists, sealed_later, listed_keeps}
 use Rattle.shard_laws.proofs.Changes.{undone_append, wrote_append, later_both}
 use Rattle.shard_laws.proofs.Sound.{Sound, Lost, filter_both, filter_same}
-use Rattle.shard_laws.proofs.Cutting.{cut_keeps, durable_cut, of_kept, tidy_later, fold_values, fold_rises}
+use Rattle.shard_laws.proofs.Cutting.{cut_keeps, durable_cut, of_kept, tidy_later, fold_values}
 use Rattle.shard_laws.proofs.Serial.{filter_place, in_kept, Once, once_filter, serial_of}
 use Rattle.shard_laws.proofs.Members.{dep_cut, item_asked, cut_base, pile_keep, filter_all_kept, filter_alike, filter_within}
 use Rattle.shard_laws.proofs.Doubting.{prepared_cut, listed_cut}
@@ -38,6 +38,7 @@ use Rattle.shard_laws.proofs.Reviving.{doubt_of, doubt_closed, tidy_closed, seal
 use Rattle.shard_laws.proofs.Histories.{held}
 use Rattle.clv_base.specs.Undo.{stage_of}
 use Rattle.clv_base.specs.declared.state.Stage.TheVariants.{Closed}
+use Rattle.law_base.proofs.Logs.{fold_rises}
 
 and_true : (a b : Bool) → b ≡ true → a ≡ (a && b)
 and_true true b e = sym e

@@ -22,8 +22,7 @@ use Rattle.std.specs.Prelude.{take, drop}
 use Rattle.std.proofs.lemmas.List.{take-append-drop}
 use Rattle.clv_base.specs.Maps.{map_set}
 use Rattle.clv_base.specs.Logs.{place_from, fold_updates, standing_after, without_newest, newest_at}
-use Rattle.clv_base.specs.Folding.{IsRising}
-use Rattle.clv_base.proofs.Folding.{get_set, rising_set}
+use Rattle.clv_base.proofs.Folding.{get_set}
 use Rattle.law_base.proofs.Running.{after_of}
 
 -- ---- COMMITs below the cut
@@ -113,20 +112,6 @@ fold_alike f k (Commit tx ps ∷ rs) m e = fold_alike f k rs m e
 fold_alike f k (Abort tx ∷ rs) m e = fold_alike f k rs m e
 fold_alike f k (End tx ∷ rs) m e = fold_alike f k rs m e
 fold_alike f k (Restart run epoch ∷ rs) m e = fold_alike f k rs m e
-
-pub fold_rises : (keep : TxId → Bool) (log : List LogRecord) (m : KeyMap) → IsRising m → IsRising (fold_updates keep log m)
-fold_rises keep [] m h = h
-fold_rises keep (Update tx key before after ∷ rs) m h = fold_rises keep rs (cond (keep tx) (map_set key after m) m) (at (keep tx))
-  where
-    at : (b : Bool) → IsRising (cond b (map_set key after m) m)
-    at true = rising_set key after m h
-    at false = h
-fold_rises keep (Clr tx undo_next key after ∷ rs) m h = fold_rises keep rs m h
-fold_rises keep (Prepare tx home ps ∷ rs) m h = fold_rises keep rs m h
-fold_rises keep (Commit tx ps ∷ rs) m h = fold_rises keep rs m h
-fold_rises keep (Abort tx ∷ rs) m h = fold_rises keep rs m h
-fold_rises keep (End tx ∷ rs) m h = fold_rises keep rs m h
-fold_rises keep (Restart run epoch ∷ rs) m h = fold_rises keep rs m h
 
 -- ---- no record after the cut moves one that the cut commits
 

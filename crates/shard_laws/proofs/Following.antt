@@ -73,16 +73,6 @@ last_push (Commit tx parts ∷ rs) r p = last_push rs r p
 last_push (Abort tx ∷ rs) r p = last_push rs r p
 last_push (End tx ∷ rs) r p = last_push rs r p
 
-pub last_new : (log : List LogRecord) (run epoch : ℕ) → last_restart (log ++ Restart run epoch ∷ []) ≡ Some (run, epoch)
-last_new [] run epoch = refl
-last_new (Restart r e ∷ rs) run epoch = ap (λ o. or_last o r e) (last_new rs run epoch)
-last_new (Update tx k b a ∷ rs) run epoch = last_new rs run epoch
-last_new (Clr tx u k a ∷ rs) run epoch = last_new rs run epoch
-last_new (Prepare tx home ps ∷ rs) run epoch = last_new rs run epoch
-last_new (Commit tx parts ∷ rs) run epoch = last_new rs run epoch
-last_new (Abort tx ∷ rs) run epoch = last_new rs run epoch
-last_new (End tx ∷ rs) run epoch = last_new rs run epoch
-
 pub before_push : (sf log : List LogRecord) (r : LogRecord) → Plainly r → before_restart sf (log ++ r ∷ []) ≡ before_restart sf log
 before_push sf [] (Update tx k b a) p = refl
 before_push sf [] (Clr tx u k a) p = refl

@@ -20,8 +20,7 @@ use Rattle.law_base.proofs.Lists.{all_mono, all_push, later_push}
 use Rattle.law_base.proofs.Running.{top_value, runs_push, pile_value, pile_push}
 use Rattle.law_base.proofs.Undoing.{Chain, standing_append}
 use Rattle.protocol_laws.specs.Order.{LieOnThese}
-use Rattle.protocol_laws.proofs.Records.{front, last, push_cases}
-use Rattle.protocol_laws.proofs.Writes.{all_without}
+use Rattle.protocol_laws.proofs.Records.{push_cases}
 use Rattle.shard_laws.specs.OneShard.{found_op, found_item, items_found, prepared_order, MayServe, Leads, opens}
 use Rattle.shard_laws.proofs.AtKeys.{key_writes, SameAtKeys, top_at}
 use Rattle.shard_laws.proofs.Kept.{of_kept, place}
@@ -31,6 +30,8 @@ use Rattle.shard_laws.proofs.Ordered.{unlisted}
 use Rattle.shard_laws.proofs.Closing.{place_in, place_out, place_push}
 use Rattle.shard_laws.proofs.Serial.{Once, once_push}
 use Rattle.shard_laws.proofs.Listing.{Beneath, LieListed, listed_prepared, lists_others}
+use Rattle.law_base.proofs.Bools.{and_first as front, and_second as last}
+use Rattle.law_base.proofs.Names.{all_without}
 
 -- ---- an UPDATE as an operation
 

@@ -56,7 +56,7 @@ use Rattle.law_base.specs.Items.{told}
 use Rattle.clv_base.proofs.SameNames.{cases_tx}
 use Rattle.law_base.proofs.Running.{after_of, same_answer, Keeps, kept_runs, runs_push, rising_all, pile_value, pile_push}
 use Rattle.law_base.proofs.Undoing.{write_met, keeps_of, pile_filter, filter_all}
-use Rattle.shard_laws.proofs.Answering.{same_told, live_find, live_rises, t_true}
+use Rattle.shard_laws.proofs.Answering.{same_told, live_find, live_rises}
 use Rattle.law_base.proofs.Anchors.{rising_set, record_at_set, lower_insert, anchor_present}
 use Rattle.law_base.proofs.LockRows.{least, asks, take_keeps, take_gives, rows_take, rows_all, all_keeps, all_gives, split_keeps, split_gives, rows_split, conflict, violates, violated_row}
 use Rattle.shard_laws.proofs.Asking.{asks_at, asks_by, asks_met, asks_written}
@@ -66,6 +66,8 @@ use Rattle.shard_laws.proofs.Changes.{wrote_keeps, tidy_append, undone_append, w
 use Rattle.shard_laws.proofs.Kept.{view_of}
 use Rattle.clv_base.specs.Logs.{newest_at}
 use Rattle.law_base.proofs.Stages.{other_part}
+use Rattle.law_base.proofs.Bools.{t_true}
+use Rattle.law_base.proofs.Names.{MayStand, none_held}
 
 abbrev pub Change : Type 0
 Change = Option (ℕ × Option ℕ × Option ℕ)
@@ -200,13 +202,6 @@ all_held p tx birth ns locks rs u q (Some x) e = all_keeps true p (At q) u tx bi
 all_held p tx birth ns locks rs u q None e = all_keeps false p (lower_anchor q rs) u tx birth ns locks e
 
 -- ---- the part
-
--- the transaction has no part here, or an active one of this birth
-abbrev pub MayStand : Table Held → TxId → Birth → Type 0
-MayStand parts tx birth = (tx_get tx parts ≡ None) ⊎ ((h : Held) × (tx_get tx parts ≡ Some h) × (h.birth ≡ birth) × (h.stage ≡ Active))
-
-none_held : (h : Held) → ◌≡◌ {A = Option Held} None (Some h) → ⊥
-none_held h e = absurd cc
 
 get_new : (tx : TxId) (birth : Birth) (parts : Table Held) (u : TxId) (h : Held) → tx_get tx parts ≡ None → tx_get u parts ≡ Some h → tx_get u (tx_put tx (active_part birth) parts) ≡ Some h
 get_new tx birth parts u h none e =

@@ -68,7 +68,7 @@ use Rattle.shard_laws.proofs.Closing.{keeps_close, keeps_asked, in_push}
 use Rattle.law_base.proofs.Stages.{stage_closed, closed_other as stage_left, active_not_closed}
 use Rattle.std.proofs.Common.{append-nil}
 use Rattle.std.proofs.lemmas.Option.{none-some, same_Some}
-use Rattle.shard_laws.proofs.Granting.{keeps_performed, keeps_lost_op, MayStand, own_part, log_by}
+use Rattle.shard_laws.proofs.Granting.{keeps_performed, keeps_lost_op, own_part, log_by}
 use Rattle.law_base.proofs.Stages.{other_part}
 use Rattle.shard_laws.specs.OneShard.{is_doomed}
 use Rattle.shard_laws.proofs.Falls.{Falls, falls_more, falls_prepare, falls_parts, falls_over, falls_front, falls_alive, falls_lost, falls_asked}
@@ -84,6 +84,7 @@ use Rattle.clv_base.specs.OneShard.{OpAnswers, new_part, add_pairs}
 use Rattle.std.specs.List.{list_any}
 use Rattle.clv_base.specs.Needs.{writes_of, key_of}
 use Rattle.shard_laws.proofs.Sound.{PartOf, part_push, part_more, part_filter, AskedOrOld, Sound, order_set, Open, After, More_over, at_once, rolled, marked_sound, finish_sound, commit_here, commit_other, commit_asked, waiting_here, agreed_before}
+use Rattle.law_base.proofs.Names.{MayStand, none_closed}
 
 -- ---- the state after it
 
@@ -143,9 +144,6 @@ stands_now g s tx birth may o = at (tx_get tx s.local.parts) refl o
     at : (x : Option Held) → tx_get tx s.local.parts ≡ x → (stage_by x ≡ None) ⊎ (stage_by x ≡ Some Active) → MayStand s.local.parts tx birth
     at None e f = inl e
     at (Some h) e f = inr (h, e, may h e, ⊎_elim (λ n. absurd (some_none h.stage n)) (λ a. some_stage h.stage Active a) f)
-
-none_closed : ◌≡◌ {A = Option Stage} None (Some Closed) → ⊥
-none_closed e = absurd cc
 
 unfallen_now : (all : List Item) (g : Past) (s : Shard) (tx : TxId) → Sound all g s → stage_of s.local tx ≡ Some Active → tx_in tx g.fell ≡ false
 unfallen_now all g s tx h act = false_from_ne_true _ (λ i. both_ways _ (h.kept.prepared.unprepared tx act) (h.falls.back tx i (ap is_present act)))

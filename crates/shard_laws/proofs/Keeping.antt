@@ -25,7 +25,7 @@ use Rattle.protocol_laws.proofs.Records.{push_right}
 use Rattle.shard_laws.proofs.Serial.{Once}
 use Rattle.shard_laws.proofs.Prepared.{by_prepare, prepare_here}
 use Rattle.shard_laws.proofs.Kept.{Past, Kept, view_of}
-use Rattle.shard_laws.proofs.Granting.{Change, log_by, MayStand}
+use Rattle.shard_laws.proofs.Granting.{Change, log_by}
 use Rattle.shard_laws.proofs.Performing.{ordered_performed, lying_performed}
 use Rattle.clv_base.specs.declared.names.Birth.{Birth}
 use Rattle.clv_base.specs.declared.ops.Op.{Op}
@@ -35,9 +35,11 @@ use Rattle.shard_laws.proofs.Leaving.{no_prepares}
 use Rattle.law_base.proofs.Stages.{stage_marked}
 use Rattle.law_base.proofs.Sets.{none_listed}
 use Rattle.shard_laws.proofs.Listing.{order_of, ended_committed}
-use Rattle.shard_laws.proofs.Ordered.{Lying, Ordered, Calm, prepare_none, prepare_some, unlisted, restarted, listed_same, ordered_record, ordered_parts, lying_more, this_run, commit_follows, prepare_follows}
+use Rattle.shard_laws.proofs.Ordered.{Lying, Ordered, Calm, prepare_some, unlisted, restarted, listed_same, ordered_record, ordered_parts, lying_more, this_run, commit_follows, prepare_follows}
 use Rattle.shard_laws.proofs.Shutting.{ordered_prepare, ordered_close, lying_close, ordered_leave, ordered_taken, lying_taken}
 use Rattle.shard_laws.proofs.Rulings.{Rulings, rulings_more, ruled_more}
+use Rattle.law_base.proofs.Names.{MayStand}
+use Rattle.law_base.proofs.Logs.{no_prepare as prepare_none}
 
 pub record KeepsOrder (asked : List TxId) (shard run : ℕ) (locks : Locks) (parts : Table Held) (pairs : List (TxId × TxId)) (log : List LogRecord) (requests : Table Request) : Type 0 where
   pub ordered : Ordered asked shard run parts pairs log

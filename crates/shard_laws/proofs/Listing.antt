@@ -14,18 +14,21 @@ use Rattle.law_base.proofs.Undoing.{standing_append}
 use Rattle.law_base.proofs.Commits.{committed_keeps}
 use Rattle.law_base.proofs.Sets.{list_all_at}
 use Rattle.protocol_laws.specs.Order.{LieOnThese}
-use Rattle.protocol_laws.proofs.Records.{front, last, push_cases, push_left, push_same, committed_there, push_right}
-use Rattle.protocol_laws.proofs.Writes.{Falling, all_without}
+use Rattle.protocol_laws.proofs.Records.{push_cases, push_same, committed_there, push_right}
+use Rattle.protocol_laws.proofs.Writes.{Falling}
 use Rattle.protocol_laws.proofs.OrderInOrder.{Order, in_order}
 use Rattle.shard_laws.proofs.Prepared.{by_prepare, prepare_here, listed_keeps}
 use Rattle.shard_laws.proofs.Doubting.{Doubted, doubted}
-use Rattle.shard_laws.proofs.Following.{Follows, to_disorder, through, last_push, last_new, since_wrote}
+use Rattle.shard_laws.proofs.Following.{Follows, to_disorder, through, last_push, since_wrote}
 use Rattle.shard_laws.proofs.Ordered.{unlisted, listed_same}
 use Rattle.protocol_laws.specs.Order.{undone_in, is_clr_of}
 use Rattle.clv_base.specs.Logs.{writers}
 use Rattle.clv_base.specs.Orders.{tx_insert}
 use Rattle.clv_base.proofs.SameNames.{tx_eq, in_insert, insert_has, insert_keeps}
 use Rattle.std.proofs.lemmas.Bool.{and_parts}
+use Rattle.law_base.proofs.Bools.{and_first as front, and_second as last}
+use Rattle.law_base.proofs.Logs.{push_left, last_restart_push as last_new}
+use Rattle.law_base.proofs.Names.{all_without}
 
 abbrev pub Beneath : List LogRecord → TxId → TxId → Type 0
 Beneath log t p = (p ≡ t) ⊎ ((committed_in log p ≡ true) ⊎ (tx_in p (listed_in log t) ≡ true))

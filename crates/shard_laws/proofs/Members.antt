@@ -23,9 +23,10 @@ use Rattle.shard_laws.specs.OneShard.{is_member, members_of, items_of, ops_by, a
 use Rattle.shard_laws.proofs.Kept.{view_of}
 use Rattle.law_base.proofs.Running.{rising_all, pile_value}
 use Rattle.shard_laws.proofs.Leaving.{pile_all}
-use Rattle.shard_laws.proofs.Cutting.{durable_cut, before_cut, cut_keeps, of_kept, cut_values, fold_rises, fold_alike}
+use Rattle.shard_laws.proofs.Cutting.{durable_cut, before_cut, cut_keeps, of_kept, cut_values, fold_alike}
 use Rattle.shard_laws.proofs.Sound.{Sound, Lost, filter_both, filter_same}
 use Rattle.shard_laws.proofs.Serial.{filter_place, in_kept, Once, once_filter, serial_of}
+use Rattle.law_base.proofs.Logs.{fold_rises}
 
 -- the writes of those that pass, of items over a base that all pass
 pub pile_keep : (f : TxId → Bool) (xs : List Item) (ws : List StandingUpdate) → filter (of_kept f) (pile xs ws) ≡ pile (filter (λ x. f x.tx) xs) (filter (of_kept f) ws)

@@ -39,7 +39,7 @@ use Rattle.shard_laws.specs.OneShard.{MayServe, is_doomed, found_items, found_as
 use Rattle.shard_laws.proofs.AtKeys.{SameAtKeys, key_writes}
 use Rattle.shard_laws.proofs.Kept.{Past, is_alive, place}
 use Rattle.shard_laws.proofs.Sound.{part_same, Sound}
-use Rattle.shard_laws.proofs.Cutting.{of_kept, fold_alike, fold_values, fold_rises}
+use Rattle.shard_laws.proofs.Cutting.{of_kept, fold_alike, fold_values}
 use Rattle.shard_laws.proofs.Members.{filter_all_kept}
 use Rattle.shard_laws.proofs.Refalling.{all_durable}
 use Rattle.shard_laws.proofs.Falls.{Falls}
@@ -55,6 +55,7 @@ use Rattle.shard_laws.proofs.Rebuilding.{Restarted, of_whole}
 use Rattle.shard_laws.proofs.Remaking.{whole_log, committed_remade, values_remade, rises_remade, wrote_remade}
 use Rattle.shard_laws.proofs.Reviving.{state_with, restored_committed, IsCommitted}
 use Rattle.shard_laws.proofs.Found.{UnderFound, all_tell, found_all, found_doubted, pile_found, keys_split, runs_found, order_has, listed_before, under_found}
+use Rattle.law_base.proofs.Logs.{fold_rises}
 
 -- a restart aborts the losers
 undo_aborts : (shard : ℕ) (log : List LogRecord) (run : ℕ) (t : TxId) → tx_in t (losers shard log) ≡ true → aborted_in (log_after_restart shard log run 0) t ≡ true

@@ -14,7 +14,7 @@ use Rattle.clv_base.specs.Locks.{Locks}
 use Rattle.clv_base.specs.Logs.{StandingUpdate, standing, committed_in, prepared_in, aborted_in, wrote_in, prepare_of, is_update_of, is_prepare_of, is_abort_of}
 use Rattle.clv_base.specs.LogRules.{may_follow, last_restart, before_restart, in_last_run, has_above, writes_below, listed_in, commit_by_prepare, some_parts}
 use Rattle.clv_base.specs.Restarts.{greatest_run}
-use Rattle.clv_base.proofs.SameNames.{or_left, or_right, tx_true, tx_self, tx_eq, tx_ne}
+use Rattle.clv_base.proofs.SameNames.{or_left, or_right, tx_true, tx_eq, tx_ne}
 use Rattle.law_base.proofs.Lists.{all_mono, all_both}
 use Rattle.law_base.proofs.Tables.{stage_in, is_pair}
 use Rattle.law_base.proofs.Commits.{committed_keeps}
@@ -24,6 +24,8 @@ use Rattle.shard_laws.proofs.Prepared.{by_prepare, prepared_append}
 use Rattle.shard_laws.proofs.Changes.{wrote_keeps}
 use Rattle.shard_laws.proofs.Following.{Follows, follows_append, Plainly, last_push, before_push, greatest_plain, wrote_since}
 use Rattle.shard_laws.proofs.Writers.{Writers}
+use Rattle.law_base.proofs.Names.{own_in as each_in}
+use Rattle.law_base.proofs.Logs.{no_prepare as prepare_none}
 
 -- what lies under a standing write is its transaction's own, of one that is done, or of a predecessor
 abbrev pub LiesOn : List (TxId × TxId) → (TxId → Bool) → TxId → TxId → Type 0
@@ -77,21 +79,6 @@ from_first test log more none e = ⊎_elim (λ h. h) (λ h. absurd (both_ways _ 
 
 none_both : (test : LogRecord → Bool) (log more : List LogRecord) → list_any test log ≡ false → list_any test more ≡ false → list_any test (log ++ more) ≡ false
 none_both test log more e f = list_any-append test log more ∙ or_from _ _ e f
-
--- whose PREPARE is not in the later records
-pub prepare_none : (rs : List LogRecord) (t : TxId) → prepared_in rs t ≡ false → prepare_of rs t ≡ None
-prepare_none [] t e = refl
-prepare_none (Prepare tx home ps ∷ rs) t e = at (tx_same t tx) e (prepare_none rs t)
-  where
-    at : (b : Bool) → (b || prepared_in rs t) ≡ false → (prepared_in rs t ≡ false → prepare_of rs t ≡ None) → cond b (Some (home, ps)) (prepare_of rs t) ≡ None
-    at true e k = absurd (both_ways true e refl)
-    at false e k = k e
-prepare_none (Update tx k b a ∷ rs) t e = prepare_none rs t e
-prepare_none (Clr tx u k a ∷ rs) t e = prepare_none rs t e
-prepare_none (Commit tx ps ∷ rs) t e = prepare_none rs t e
-prepare_none (Abort tx ∷ rs) t e = prepare_none rs t e
-prepare_none (End tx ∷ rs) t e = prepare_none rs t e
-prepare_none (Restart run epoch ∷ rs) t e = prepare_none rs t e
 
 some_case : (b c : Bool) (x : ℕ × List TxId) (o : Option (ℕ × List TxId)) → (b || c) ≡ true → (c ≡ true → (p : ℕ × List TxId) × (o ≡ Some p)) → (p : ℕ × List TxId) × (cond b (Some x) o ≡ Some p)
 some_case true c x o e k = (x, refl)
@@ -225,10 +212,6 @@ pub under_all : (pairs : List (TxId × TxId)) (done f : TxId → Bool) (tx : TxI
 under_all pairs done f tx ws fall u h =
     list_all_filter (λ w. f w.tx) (λ w. not (tx_same tx w.tx) && has_above tx w ws) ws
     (all_mono _ _ (λ w l e. let p = and_parts (not (tx_same tx w.tx)) (has_above tx w ws) e in ⊎_elim (λ s. absurd (both_ways _ (not-true _ p.0) (tx_eq tx w.tx (sym s)))) (λ m. h w.tx m) (l p.1)) ws (below_all pairs done tx ws fall u))
-
-pub each_in : (xs : List TxId) → AllByRecursion (λ x. tx_in x xs ≡ true) xs
-each_in [] = tt
-each_in (x ∷ xs) = (or_left _ _ (tx_self x), all_mono _ _ (λ y h. or_right (tx_same x y) _ h) xs (each_in xs))
 
 -- ---- which records may follow
 

@@ -38,12 +38,13 @@ use Rattle.shard_laws.proofs.Asking.{asks_by, asks_written}
 use Rattle.shard_laws.proofs.Kept.{View, Past, Belongs, Kept}
 use Rattle.shard_laws.proofs.Changes.{wrote_keeps}
 use Rattle.shard_laws.proofs.Prepared.{prepared_append}
-use Rattle.shard_laws.proofs.Granting.{Change, log_by, MayStand, own_part, not_active, is_closed, closed_row, insert_writes, writing}
+use Rattle.shard_laws.proofs.Granting.{Change, log_by, own_part, not_active, is_closed, closed_row, insert_writes, writing}
 use Rattle.law_base.proofs.Stages.{other_part, closed_not_active}
 use Rattle.shard_laws.proofs.Following.{follows_append, last_push, before_push, greatest_plain}
 use Rattle.shard_laws.proofs.Writers.{writers_more, writers_all, writers_insert, needs_write, violated_wrote}
 use Rattle.shard_laws.proofs.Ordered.{LiesOn, Under, Lying, Ordered, listed_same, under_more}
 use Rattle.shard_laws.proofs.Shutting.{all_wrote}
+use Rattle.law_base.proofs.Names.{MayStand}
 
 -- ---- an UPDATE of an active part
 

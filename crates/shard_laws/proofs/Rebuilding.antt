@@ -17,7 +17,7 @@ use Rattle.law_base.proofs.Undoing.{standing_append, standing_aborts, standing_c
 use Rattle.law_base.proofs.Commits.{committed_append}
 use Rattle.law_base.proofs.Doubts.{Unlike, is_it, nobody, abort_unlike, clr_unlike, restart_unlike, doubts_more}
 use Rattle.law_base.proofs.Sets.{filter_in, in_filter, each_writer}
-use Rattle.law_base.proofs.Bools.{or_false_left, or_false_right}
+use Rattle.law_base.proofs.Bools.{or_false_left, or_false_right, or_right_false}
 use Rattle.protocol_laws.specs.Order.{moves, Open_at, Tidy, Sealed, is_clr_of, undone_in}
 use Rattle.shard_laws.proofs.Prepared.{IsListed, is_listed_more, prepared_append, sealed_more, listed_keeps}
 use Rattle.shard_laws.proofs.Changes.{undone_append, wrote_append, tidy_append}
@@ -72,10 +72,6 @@ none_prepare shard log (r ∷ rs) t all = ap (λ b. b || prepared_in rs t) ((all
 undone_open : (shard : ℕ) (log rs : List LogRecord) (t : TxId) → AllByRecursion (Plain shard log) rs → undone_in rs t ≡ true → is_winner shard log t ≡ false
 undone_open shard log [] t all e = absurd (both_ways false refl e)
 undone_open shard log (r ∷ rs) t all e = ⊎_elim (λ h. (all.0).undoes t h) (λ h. undone_open shard log rs t all.1 h) (or_cases (is_clr_of t r) (undone_in rs t) e)
-
-or_right_false : (a b : Bool) → b ≡ false → (a || b) ≡ a
-or_right_false true b e = refl
-or_right_false false b e = e
 
 same_doubts : (shard : ℕ) (log now rs : List LogRecord) → in_doubt shard now ≡ in_doubt shard log → AllByRecursion (Plain shard log) rs → in_doubt shard (now ++ rs) ≡ in_doubt shard log
 same_doubts shard log now [] e all = ap (in_doubt shard) (append-nil now) ∙ e

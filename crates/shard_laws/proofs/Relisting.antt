@@ -1,7 +1,7 @@
 -- What a restart restores of requests, voters and pairs.
 use Rattle.std.proofs.Common.{◌≡◌, ℕ, ⊎_elim, Bool, true, false, cond, not, ◌&&◌, ◌||◌, List, [], ◌∷◌, ◌++◌, map, Option, Some, None, refl, sym, ap, subst, ◌∙◌}
 use Rattle.std.specs.List.{filter}
-use Rattle.std.proofs.lemmas.Bool.{both_ways, cond_both, cond-false, or_cases, and_parts, and_from, not-true, false_from_ne_true}
+use Rattle.std.proofs.lemmas.Bool.{both_ways, cond_both, cond-false, or_cases, and_parts, not-true, false_from_ne_true}
 use Rattle.std.proofs.lemmas.List.Folds.{list_any-append}
 use Rattle.clv_base.specs.declared.names.TxId.{TxId}
 use Rattle.clv_base.specs.declared.logs.LogRecord.{LogRecord}
@@ -18,6 +18,7 @@ use Rattle.clv_base.proofs.SameNames.{or_left, or_right, tx_true, tx_eq, tx_flip
 use Rattle.law_base.proofs.Tables.{is_pair, get_put}
 use Rattle.law_base.proofs.Sets.{filter_in, in_filter}
 use Rattle.law_base.proofs.Bools.{or_false_left, or_false_right}
+use Rattle.law_base.proofs.Names.{own_pairs}
 
 -- ---- what a restored shard asks and votes
 
@@ -59,11 +60,6 @@ voter_is log (x ∷ xs) t v e = at (tx_same t x) refl e (voter_is log xs t v)
 
 pub pair_append : (xs ys : List (TxId × TxId)) (t p : TxId) → is_pair (xs ++ ys) t p ≡ (is_pair xs t p || is_pair ys t p)
 pair_append xs ys t p = list_any-append (λ q. tx_same t q.0 && tx_same p q.1) xs ys
-
-own_pairs : (tx t p : TxId) (ps : List TxId) → tx_same t tx ≡ true → tx_in p ps ≡ true → is_pair (map (λ q. (tx, q)) ps) t p ≡ true
-own_pairs tx t p [] e i = absurd (both_ways false refl i)
-own_pairs tx t p (q ∷ qs) e i =
-    ⊎_elim (λ h. or_left (tx_same t tx && tx_same p q) _ (and_from _ _ e (tx_flip q p h))) (λ h. or_right (tx_same t tx && tx_same p q) _ (own_pairs tx t p qs e h)) (or_cases (tx_same q p) (tx_in p qs) i)
 
 pairs_own : (tx t p : TxId) (ps : List TxId) → is_pair (map (λ q. (tx, q)) ps) t p ≡ true → t ≡ tx
 pairs_own tx t p [] e = absurd (both_ways false refl e)

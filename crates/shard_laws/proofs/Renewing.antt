@@ -21,16 +21,16 @@ use Rattle.law_base.proofs.Lists.{all_mono, all_both, all_append}
 use Rattle.law_base.proofs.Undoing.{Upward, standing_append}
 use Rattle.law_base.proofs.Tables.{stage_in}
 use Rattle.law_base.proofs.Sets.{filter_in, in_filter, list_all_at, each_writer}
-use Rattle.law_base.proofs.Bools.{or_false_left, or_false_right}
+use Rattle.law_base.proofs.Bools.{or_false_left, or_false_right, and_first as front, and_second as last}
 use Rattle.law_base.proofs.Stages.{present_is}
 use Rattle.protocol_laws.specs.Order.{LieOnThese}
-use Rattle.protocol_laws.proofs.Records.{front, last, push_false}
+use Rattle.protocol_laws.proofs.Records.{push_false}
 use Rattle.protocol_laws.proofs.OrderInOrder.{Order, undone_open}
 use Rattle.shard_laws.proofs.Serial.{once_filter}
 use Rattle.shard_laws.proofs.Cutting.{of_kept}
 use Rattle.shard_laws.proofs.Doubting.{Doubted, doubted}
 use Rattle.shard_laws.proofs.Restoring.{restored_closed, restored_stage}
-use Rattle.shard_laws.proofs.Following.{Follows, follows_append, follows_take, through, Plainly, last_new, greatest_front, greatest_both, above_next, above_push}
+use Rattle.shard_laws.proofs.Following.{Follows, follows_append, follows_take, through, Plainly, greatest_front, greatest_both, above_next, above_push}
 use Rattle.shard_laws.proofs.Distinct.{writers_once}
 use Rattle.shard_laws.proofs.Compensating.{undo_follows}
 use Rattle.shard_laws.proofs.Listing.{prepared_wrote, lists_others, Beneath, LieListed, order_of, lie_listed, winners_lie, wrote_restart}
@@ -40,6 +40,7 @@ use Rattle.shard_laws.proofs.Shutting.{all_wrote}
 use Rattle.shard_laws.proofs.Rulings.{Rulings}
 use Rattle.shard_laws.proofs.Relisting.{pair_there, pair_lists, request_from, OneCommit, unended_parts}
 use Rattle.shard_laws.proofs.Rebuilding.{Found, Plain, winners, found_more, plain_restart, loser_alike, standing_whole}
+use Rattle.law_base.proofs.Logs.{last_restart_push as last_new}
 
 -- ---- the losers lie under no winner
 

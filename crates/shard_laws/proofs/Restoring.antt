@@ -13,24 +13,20 @@ use Rattle.clv_base.specs.Orders.{tx_same, tx_in, tx_get}
 use Rattle.clv_base.specs.Logs.{StandingUpdate, standing, standing_from, without_newest, wrote_in}
 use Rattle.clv_base.specs.declared.modes.Found.{Found}
 use Rattle.clv_base.specs.declared.modes.Found.TheVariants.{Live, Ghost, Absent}
-use Rattle.clv_base.specs.declared.modes.Holder.{Holder}
 use Rattle.clv_base.specs.Locks.{Locks, take_one}
-use Rattle.clv_base.specs.Modes.{on_key}
 use Rattle.clv_base.specs.Needs.{Records, found_at, found_by, value_at}
-use Rattle.clv_base.specs.Restarts.{with_ghosts, ghost_if_absent, restored_locks, restored_parts, restored_part, old_birth}
+use Rattle.clv_base.specs.Restarts.{with_ghosts, ghost_if_absent, restored_locks, restored_parts, restored_part}
 use Rattle.clv_base.proofs.SameNames.{or_left, or_right, tx_true, tx_self, tx_flip}
 use Rattle.law_base.proofs.Cells.{record_at, live_by}
 use Rattle.law_base.proofs.Anchors.{Rising, record_at_set, rising_set}
 use Rattle.law_base.proofs.Tables.{stage_in, stage_by}
-use Rattle.protocol_laws.proofs.Writes.{all_without}
 use Rattle.law_base.proofs.LockRows.{holds, Rows, take_keeps, take_gives, rows_take}
 use Rattle.shard_laws.proofs.Kept.{Belongs}
+use Rattle.law_base.proofs.Names.{all_without, IsThere, lock_of, restored_there, set_some}
+use Rattle.law_base.proofs.Options.{absent_is}
+use Rattle.law_base.proofs.Logs.{is_update_at}
 
 -- ---- the UPDATEs of a log, by transaction and key
-
-abbrev pub is_update_at : TxId → ℕ → LogRecord → Bool
-is_update_at t q (Update tx key before after) = tx_same t tx && (q == key)
-is_update_at t q _ = false
 
 abbrev pub has_update : List LogRecord → TxId → ℕ → Bool
 has_update log t q = list_any (is_update_at t q) log
@@ -63,14 +59,6 @@ wrote_of (Restart run epoch ∷ rs) t q e = wrote_of rs t q e
 
 -- ---- parts
 
-pub restored_there : (txs : List TxId) (t : TxId) → tx_in t txs ≡ true → tx_get t (restored_parts txs) ≡ Some (restored_part t)
-restored_there [] t i = absurd (both_ways false refl i)
-restored_there (x ∷ xs) t i = at (tx_same t x) refl (restored_there xs t)
-  where
-    at : (b : Bool) → tx_same t x ≡ b → (tx_in t xs ≡ true → tx_get t (restored_parts xs) ≡ Some (restored_part t)) → cond b (Some (restored_part x)) (tx_get t (restored_parts xs)) ≡ Some (restored_part t)
-    at true e k = ap (λ z. Some (restored_part z)) (sym (tx_true t x e))
-    at false e k = k (⊎_elim (λ h. absurd (both_ways _ e (tx_flip x t h))) (λ h. h) (or_cases (tx_same x t) (tx_in t xs) i))
-
 pub restored_closed : (txs : List TxId) (t : TxId) → tx_in t txs ≡ true → stage_in (restored_parts txs) t ≡ Some Closed
 restored_closed txs t i = ap stage_by (restored_there txs t i)
 
@@ -93,9 +81,6 @@ restored_none txs t i = at (stage_in (restored_parts txs) t) refl
     at (Some st) e = absurd (both_ways _ i (restored_stage txs t st e).1)
 
 -- ---- locks
-
-abbrev pub lock_of : TxId → Holder
-lock_of t = record { tx = t; birth = old_birth t; mode = on_key X; closed = true }
 
 lock_case : (txs : List TxId) (tx : TxId) (key : ℕ) (locks : Locks) (t : TxId) (q : ℕ) → holds true X (At q) t locks ≡ true → holds true X (At q) t (cond (tx_in tx txs) (take_one (At key) (lock_of tx) locks) locks) ≡ true
 lock_case txs tx key locks t q h = cond_both (tx_in tx txs) (take_one (At key) (lock_of tx) locks) locks (λ l. holds true X (At q) t l ≡ true) (λ e. take_keeps true X (At q) t (At key) (lock_of tx) locks h) (λ e. h)
@@ -145,12 +130,6 @@ rows_restored txs (Restart run epoch ∷ rs) locks h = rows_restored txs rs lock
 
 -- ---- records
 
--- a ghost where nothing is: the same values, a record there, and those that were there stay
-absent_is : (o : Option (Option ℕ)) → found_by o ≡ Absent → o ≡ None
-absent_is None e = refl
-absent_is (Some None) e = absurd cc
-absent_is (Some (Some v)) e = absurd cc
-
 ghost_value : (k q : ℕ) (rs : Records) (f : Found) → found_at k rs ≡ f → value_at q (ghost_if_absent k rs f) ≡ value_at q rs
 ghost_value k q rs (Live v) e = refl
 ghost_value k q rs Ghost e = refl
@@ -164,13 +143,6 @@ ghost_rises : (k : ℕ) (rs : Records) (f : Found) → Rising rs → Rising (gho
 ghost_rises k rs (Live v) h = h
 ghost_rises k rs Ghost h = h
 ghost_rises k rs Absent h = rising_set k None rs h
-
-abbrev IsThere : ℕ → Records → Type 0
-IsThere q rs = record_at q rs ≡ None → ⊥
-
-set_some : (q k : ℕ) (rs : Records) (b : Bool) (o : Option (Option ℕ)) → (b ≡ false → o ≡ None → ⊥) → cond b (Some None) o ≡ None → ⊥
-set_some q k rs true o h e = absurd cc
-set_some q k rs false o h e = h refl e
 
 ghost_keeps : (k q : ℕ) (rs : Records) (f : Found) → IsThere q rs → IsThere q (ghost_if_absent k rs f)
 ghost_keeps k q rs (Live v) h = h

@@ -6,22 +6,18 @@ use Rattle.std.proofs.lemmas.List.Folds.{list_any-append}
 use Rattle.clv_base.specs.declared.names.TxId.{TxId}
 use Rattle.clv_base.specs.Orders.{tx_same, tx_in}
 use Rattle.clv_base.specs.Maps.{KeyMap}
-use Rattle.law_base.specs.Items.{Item, Runs, after, AllLater, Clash, is_write_at}
+use Rattle.law_base.specs.Items.{Item, Runs, after, AllLater, Clash}
 use Rattle.clv_base.proofs.SameNames.{or_left, or_right, tx_true, tx_eq, tx_ne}
 use Rattle.shard_laws.proofs.Kept.{place}
 use Rattle.std.proofs.lemmas.Bool.{ltb-true}
 use Rattle.clv_base.specs.declared.ops.Op.{Op}
-use Rattle.clv_base.specs.declared.ops.Op.TheVariants.{Get, Put, Del, Scan}
-use Rattle.clv_base.specs.declared.ops.Answer.{Answer}
-use Rattle.clv_base.specs.declared.ops.Answer.TheVariants.{Value, Pairs}
 use Rattle.clv_base.specs.Maps.{op_after, replay_map, replay_answers}
-use Rattle.clv_base.specs.Needs.{writes_of}
 use Rattle.clv_base.proofs.Grouping.{is_serial_run}
 use Rattle.clv_base.specs.Folding.{IsRising, Placed, Replays, map_after, ClearOf, InOrder, AllPlacesBelow, at_place, grouped_from, ops_of, answers_of, clash, meets_written, key_written, meets_key}
-use Rattle.law_base.specs.Items.{told}
 use Rattle.shard_laws.specs.OneShard.{items_of, ops_by, answers_by}
 use Rattle.law_base.proofs.Undoing.{write_met}
 use Rattle.shard_laws.proofs.Closing.{place_in}
+use Rattle.law_base.proofs.Names.{written_at as written_some}
 
 -- ---- items at places
 
@@ -39,14 +35,6 @@ after_placed ms m [] = refl
 after_placed ms m (x ∷ xs) = after_placed ms (op_after x.op m) xs
 
 -- ---- what clashes meets
-
-written_some : (o : Op) (a : Answer) (k : ℕ) → key_written o a ≡ Some k → is_write_at (writes_of o (told a)) k ≡ true
-written_some (Get j) a k e = absurd cc
-written_some (Put j v) a k e = let s : j ≡ k = cc in eq-eqb k j (sym s)
-written_some (Del j) (Value (Some v)) k e = let s : j ≡ k = cc in eq-eqb k j (sym s)
-written_some (Del j) (Value None) k e = absurd cc
-written_some (Del j) (Pairs ps) k e = absurd cc
-written_some (Scan lo hi) a k e = absurd cc
 
 met_some : (o : Op) (w : Option ℕ) → meets_written o w ≡ true → (k : ℕ) × (w ≡ Some k) × (meets_key o k ≡ true)
 met_some o None e = absurd (both_ways false refl e)

@@ -23,9 +23,11 @@ use Rattle.shard_laws.specs.OneShard.{QuietIsSettled}
 use Rattle.shard_laws.proofs.Histories.{held}
 use Rattle.law_base.proofs.LockRows.{holder_row}
 use Rattle.shard_laws.proofs.Kept.{Past, view_of, Kept, Wrote, Belongs, StageFits}
-use Rattle.shard_laws.proofs.Answering.{t_true, live_rises, live_find}
-use Rattle.shard_laws.proofs.Cutting.{of_kept, cut_values, fold_rises, fold_alike}
+use Rattle.shard_laws.proofs.Answering.{live_rises, live_find}
+use Rattle.shard_laws.proofs.Cutting.{of_kept, cut_values, fold_alike}
 use Rattle.shard_laws.proofs.Members.{filter_all_kept}
+use Rattle.law_base.proofs.Bools.{t_true}
+use Rattle.law_base.proofs.Logs.{fold_rises}
 
 each_row : {A : Type 0} (test : A → Bool) (xs : List A) → list_all test xs ≡ true → AllByRecursion (λ x. test x ≡ true) xs
 each_row test [] e = tt

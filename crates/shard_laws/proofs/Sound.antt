@@ -62,6 +62,7 @@ use Rattle.law_base.proofs.Sets.{in_filter, none_listed}
 use Rattle.law_base.proofs.Changed.{get_set, set_none}
 use Rattle.law_base.proofs.Due.{do_due_at}
 use Rattle.shard_laws.specs.OneShard.{items_of}
+use Rattle.law_base.proofs.Shards.{Before}
 
 -- ---- lists of items
 
@@ -475,9 +476,6 @@ commit_asked all g s tx parts h closed u e =
     ⊎_elim (λ t. inl (ap (λ z. tx_in z g.asked) (tx_true u tx t) ∙ h.kept.closed tx closed))
     (λ ne. ⊎_elim (λ c. h.asked u c) (λ c. absurd (both_ways _ (commit_other s.local.log tx u parts c ne) e)) (cases_Bool (committed_in s.local.log u)))
     (cases_Bool (tx_same u tx))
-
-abbrev Before : Shard → TxId → Type 0
-Before s tx = (p : TxId) → is_pair s.local.pairs tx p ≡ true → committed_in s.local.log p ≡ true
 
 -- a COMMIT of one that is here and not lost
 pub commit_falls : (all : List Item) (g : Past) (s : Shard) (tx : TxId) (parts : List ℕ) → Sound all g s → stage_of s.local tx ≡ Some Closed → tx_in tx g.lost ≡ false → Falls g.asked g.fell g.lost g.over s.local.parts s.local.pairs (s.local.log ++ Commit tx parts ∷ []) s.durable

@@ -29,10 +29,9 @@ use Rattle.law_base.proofs.Running.{top_value, Keeps, kept_runs, rising_all, pil
 use Rattle.law_base.proofs.Tables.{is_pair}
 use Rattle.shard_laws.specs.OneShard.{items_of, with_one, new_item, new_asked, new_met, MayHappen, MayServe, Leads, opens, happens, lands, others_ask, revives, ops_by, answers_by, found_items, found_asked, found_met, map_found, LaterReplay}
 use Rattle.protocol_laws.specs.Order.{undone_in}
-use Rattle.shard_laws.proofs.Ordered.{each_in}
 use Rattle.shard_laws.proofs.AtKeys.{keys_filter, keys_top}
 use Rattle.shard_laws.proofs.Kept.{of_kept, place}
-use Rattle.shard_laws.proofs.Cutting.{fold_values, fold_rises}
+use Rattle.shard_laws.proofs.Cutting.{fold_values}
 use Rattle.shard_laws.proofs.Sound.{filter_both, filter_same}
 use Rattle.shard_laws.proofs.Leaving.{in_first}
 use Rattle.shard_laws.proofs.Members.{pile_keep, filter_all_kept, filter_within}
@@ -44,6 +43,8 @@ use Rattle.shard_laws.proofs.Found.{UnderFound, order_once}
 use Rattle.shard_laws.proofs.Opening.{follows, order, doubt_apart, doubt_asked, listed_place, start_value, runs_start, split_start, items_doubted, under_start, reached}
 use Rattle.shard_laws.proofs.Happening.{push_other}
 use Rattle.shard_laws.proofs.Choosing.{chosen_replay, chosen_stand_before}
+use Rattle.law_base.proofs.Names.{own_in as each_in}
+use Rattle.law_base.proofs.Logs.{fold_rises}
 
 -- ---- who asked does nothing more
 

@@ -1,5 +1,5 @@
 -- Touched shards that fit, as the core wants them.
-use Rattle.std.proofs.Common.{◌≡◌, refl, sym, ap, ℕ, ◌<◌, ⊎_elim, eqb-true, Bool, true, ◌&&◌, ◌||◌, false, cond, ◌==◌, List, [], ◌∷◌, map, nat_lt}
+use Rattle.std.proofs.Common.{◌≡◌, refl, sym, ap, ℕ, ◌<◌, ⊎_elim, eqb-true, true, ◌&&◌, ◌||◌, false, cond, ◌==◌, List, [], ◌∷◌, map, nat_lt}
 use Rattle.std.proofs.lemmas.Bool.{and_parts, or_cases, or_left, ltb-true, eq-eqb}
 use Rattle.std.specs.List.{AllByRecursion, list_all, list_any}
 use Rattle.std.specs.List.Sorted.{IsStrictlySortedBy}
@@ -9,14 +9,11 @@ use Rattle.std.proofs.lemmas.Cmp.{nat_cmp_total}
 use Rattle.clv_base.specs.FileRules.{numbers_rise}
 use Rattle.clv_base.specs.Orders.{nat_in}
 use Rattle.machine_calls.specs.Events.{touched_fit}
+use Rattle.clv_base.proofs.SameNames.{or_right}
 
 above_more : (a b : ℕ) (ns : List ℕ) → nat_cmp a b ≡ Less → AllByRecursion (λ m. nat_cmp b m ≡ Less) ns → AllByRecursion (λ m. nat_cmp a m ≡ Less) ns
 above_more a b [] l h = tt
 above_more a b (x ∷ xs) l h = (nat_cmp_total.trans a b x l h.0, above_more a b xs l h.1)
-
-or_right : (x y : Bool) → y ≡ true → (x || y) ≡ true
-or_right true y e = refl
-or_right false y e = e
 
 rising : (ns : List ℕ) → numbers_rise ns ≡ true → IsStrictlySortedBy nat_cmp ns
 unfolding IsStrictlySortedBy

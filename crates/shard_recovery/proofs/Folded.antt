@@ -7,7 +7,7 @@ use Rattle.std.specs.declared.cmp.Ordering.TheVariants.{Less, Equal, Greater}
 use Rattle.std.specs.Ordering.{nat_cmp, match_ordering}
 use Rattle.std.specs.FinMap.{put}
 use Rattle.std.specs.FinMap.Entries.{by_order}
-use Rattle.std.proofs.lemmas.Bool.{both_ways, ne_eqb}
+use Rattle.std.proofs.lemmas.Bool.{ne_eqb}
 use Rattle.std.proofs.lemmas.Bool.Decides.{nat_tests}
 use Rattle.clv_base.specs.declared.names.TxId.{TxId}
 use Rattle.clv_base.specs.declared.logs.LogRecord.{LogRecord}
@@ -20,17 +20,16 @@ use Rattle.clv_base.specs.Needs.{Records, found_at, found_by, record_set}
 use Rattle.clv_base.specs.Restarts.{records_of, with_ghosts, ghost_if_absent}
 use Rattle.log_facts.specs.declared.facts.TxFacts.{TxFacts}
 use Rattle.log_facts.specs.Facts.{Knows, known}
-use Rattle.log_facts.proofs.Laws.Places.{is_some_place}
 use Rattle.cascade_undo.proofs.Laws.{both}
 use Rattle.shard_recovery.specs.Winning.{wins_in, records_after}
+use Rattle.law_base.proofs.Logs.{place_is as is_some_place}
+use Rattle.law_base.proofs.Numbers.{unequal_flip as apart}
+use Rattle.law_base.proofs.Names.{set_by}
 
 -- ---- a record taken away
 
 abbrev is_other : ℕ → ℕ × Option ℕ → Bool
 is_other k r = not (r.0 == k)
-
-apart : (a b : ℕ) → (a == b) ≡ false → (b == a) ≡ false
-apart a b e = ne_eqb b a (λ s. both_ways _ e (eq-eqb a b (sym s)))
 
 some_found : (v : Option ℕ) → found_by (Some v) ≡ Absent → ⊥
 some_found None e = absurd cc
@@ -42,9 +41,6 @@ none_gone k (r ∷ rs) e =
     both (λ b. (k == r.0) ≡ b → found_by (cond b (Some r.1) (lookup (◌==◌ k) rs)) ≡ Absent → r ∷ rs ≡ filter (is_other k) (r ∷ rs)) (k == r.0)
     (λ _ _ h. absurd (some_found r.1 h))
     (λ _ o h. ap (λ l. r ∷ l) (none_gone k rs h) ∙ ap (λ b. cond (not b) (r ∷ filter (is_other k) rs) (filter (is_other k) rs)) (sym (apart k r.0 o))) refl e
-
-abbrev set_by : Ordering → ℕ → Option ℕ → ℕ × Option ℕ → Records → Records
-set_by o k v r rs = match_ordering o ((k, v) ∷ r ∷ rs) ((r.0, v) ∷ rs) (r ∷ record_set k v rs)
 
 pub found_set : (k : ℕ) (v : Option ℕ) (rs : Records) → lookup (◌==◌ k) (record_set k v rs) ≡ Some v
 found_set k v [] = ap (λ b. cond b (Some v) None) (eq-eqb k k refl)

@@ -9,9 +9,7 @@ use Rattle.clv_base.specs.declared.logs.LogRecord.TheVariants.{Update, Clr, Prep
 use Rattle.clv_base.specs.Orders.{tx_same, tx_in}
 use Rattle.clv_base.specs.Logs.{StandingUpdate, is_update_of, without_newest, standing_from, standing}
 use Rattle.cascade_undo.specs.Writes.{writes_of}
-
-abbrev one_if : Bool → ℕ
-one_if b = cond b 1 0
+use Rattle.law_base.proofs.Numbers.{one_if}
 
 count-first : {A : Type 0} (f : A → Bool) (x : A) (xs : List A) → length (filter f (x ∷ xs)) ≡ one_if (f x) + length (filter f xs)
 count-first f x xs = at (f x)

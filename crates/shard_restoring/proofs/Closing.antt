@@ -11,12 +11,11 @@ use Rattle.clv_base.specs.declared.modes.Anchor.{Anchor}
 use Rattle.clv_base.specs.declared.modes.Anchor.TheVariants.{At}
 use Rattle.clv_base.specs.declared.modes.Holder.{Holder}
 use Rattle.clv_base.specs.declared.modes.Mode.{Mode}
-use Rattle.clv_base.specs.declared.modes.Part.TheVariants.{X}
 use Rattle.clv_base.specs.Orders.{tx_same, tx_in}
-use Rattle.clv_base.specs.Modes.{on_key}
 use Rattle.clv_base.specs.Locks.{Locks, row_cmp, with_mode, take_one, close_holder, close_locks}
-use Rattle.clv_base.specs.Restarts.{old_birth, restored_locks}
+use Rattle.clv_base.specs.Restarts.{restored_locks}
 use Rattle.shard_restoring.specs.Opened.{open_lock, with_update, open_locks, close_each}
+use Rattle.law_base.proofs.Names.{shut_lock}
 
 -- ---- one transaction's locks are closed
 
@@ -57,9 +56,6 @@ close_holder_each (t ∷ ts) h = close_holder_each ts (close_holder t h)
 each_take : (ts : List TxId) (a : Anchor) (h : Holder) (locks : Locks) → close_each ts (take_one a h locks) ≡ take_one a (close_holder_each ts h) (close_each ts locks)
 each_take [] a h locks = refl
 each_take (t ∷ ts) a h locks = ap (close_each ts) (close_take t a h locks) ∙ each_take ts a (close_holder t h) (close_locks t locks)
-
-abbrev shut_lock : TxId → Holder
-shut_lock tx = record { tx = tx; birth = old_birth tx; mode = on_key X; closed = true }
 
 shut_stays : (ts : List TxId) (tx : TxId) → close_holder_each ts (shut_lock tx) ≡ shut_lock tx
 shut_stays [] tx = refl

@@ -1,10 +1,9 @@
 -- Those in doubt rise, and so do their parts.
-use Rattle.std.proofs.Common.{◌≡◌, List, [], ◌∷◌, ◌++◌, refl, sym, ap, subst, ◌∙◌, ℕ, ◌+◌, ◌<◌, Bool, true, false, cond, map, length, get_or, drop, drop-cons, add-one}
-use Rattle.std.specs.List.{AllByRecursion}
+use Rattle.std.proofs.Common.{◌≡◌, List, [], ◌∷◌, ◌++◌, refl, sym, ap, subst, ◌∙◌, ℕ, ◌+◌, ◌<◌, Bool, true, false, cond, length, get_or, drop, drop-cons, add-one}
 use Rattle.std.specs.List.Sorted.{IsStrictlySortedBy}
 use Rattle.std.specs.Map.{keys_of}
 use Rattle.std.specs.BTreeMap.{insert_entry}
-use Rattle.std.specs.declared.cmp.Ordering.TheVariants.{Less, Greater}
+use Rattle.std.specs.declared.cmp.Ordering.TheVariants.{Greater}
 use Rattle.std.specs.Ordering.{match_ordering, ordering_reverse}
 use Rattle.clv_base.specs.declared.names.TxId.{TxId}
 use Rattle.clv_base.specs.declared.logs.LogRecord.{LogRecord}
@@ -12,8 +11,10 @@ use Rattle.clv_base.specs.declared.logs.LogRecord.TheVariants.{Update, Clr, Prep
 use Rattle.clv_base.specs.declared.state.Held.{Held}
 use Rattle.clv_base.specs.Orders.{Table, tx_cmp, tx_insert}
 use Rattle.clv_base.specs.Logs.{doubt_by, in_doubt_from, in_doubt}
-use Rattle.clv_base.specs.Restarts.{homes_of, restored_part, restored_parts}
-use Rattle.log_facts.proofs.Laws.Rising.{Rises, nothing_rises, insert_rises, tx_total}
+use Rattle.clv_base.specs.Restarts.{restored_part, restored_parts}
+use Rattle.log_facts.proofs.Laws.Rising.{nothing_rises, insert_rises, tx_total}
+use Rattle.law_base.proofs.Names.{Rise as Rises, keys_restored}
+use Rattle.law_base.proofs.Sets.{AllAbove as Above}
 
 one_more : (b : Bool) (t : TxId) (ts : List TxId) → Rises ts → Rises (cond b (tx_insert t ts) ts)
 one_more true t ts s = insert_rises t ts s
@@ -32,14 +33,7 @@ from_rise log shard (Restart run epoch ∷ rs) ts s = from_rise log shard rs ts 
 pub doubt_rises : (shard : ℕ) (log : List LogRecord) → Rises (in_doubt shard log)
 doubt_rises shard log = from_rise log shard log [] nothing_rises
 
-pub firsts_are : (log : List LogRecord) (ts : List TxId) → map (λ d. d.0) (homes_of log ts) ≡ ts
-firsts_are log [] = refl
-firsts_are log (t ∷ ts) = ap (λ (xs : List TxId). t ∷ xs) (firsts_are log ts)
-
 -- ---- rising rows put in one after another stand in their order
-
-abbrev Above : TxId → List TxId → Type 0
-Above t ts = AllByRecursion (λ u. tx_cmp t u ≡ Less) ts
 
 above_one : {V : Type 0} (p t : TxId) (v : V) (xs rest : Table V) → Above p (keys_of (xs ++ (t, v) ∷ rest)) → tx_cmp t p ≡ Greater
 above_one p t v [] rest a = tx_total.antisymm t p ∙ ap ordering_reverse a.0
@@ -51,10 +45,6 @@ put_last t v [] rest s = refl
 put_last t v (p ∷ ps) rest s =
     ap (λ o. match_ordering o ((t, v) ∷ p ∷ ps) ((p.0, v) ∷ ps) (p ∷ insert_entry tx_cmp ps t v) ++ rest) (above_one p.0 t v ps rest s.0)
     ∙ ap (λ l. p ∷ l) (put_last t v ps rest s.1)
-
-keys_restored : (ts : List TxId) → keys_of (restored_parts ts) ≡ ts
-keys_restored [] = refl
-keys_restored (t ∷ ts) = ap (λ (l : List TxId). t ∷ l) (keys_restored ts)
 
 pub step_parts : (i : ℕ) (ts : List TxId) (d : TxId) (now : Table Held) → Rises ts → i < length ts → now ++ restored_parts (drop i ts) ≡ restored_parts ts
     → insert_entry tx_cmp now (get_or ts i d) (restored_part (get_or ts i d)) ++ restored_parts (drop (i + 1) ts) ≡ restored_parts ts

@@ -1,6 +1,5 @@
 -- What holds of the state after a restart: each part in doubt can be taken away.
 use Rattle.std.proofs.Common.{◌≡◌, ◌≤◌, ⊎_elim, refl, ap, ◌∙◌, ℕ, Bool, true, false, ◌&&◌, ◌||◌, List, [], ◌∷◌, Option, Some, None, arith}
-use Rattle.std.specs.List.{AllByRecursion}
 use Rattle.std.proofs.lemmas.Bool.{both_ways, cases_Bool}
 use Rattle.clv_base.specs.declared.names.TxId.{TxId}
 use Rattle.clv_base.specs.declared.logs.LogRecord.{LogRecord}
@@ -13,13 +12,15 @@ use Rattle.clv_base.specs.Locks.{Locks}
 use Rattle.clv_base.specs.Needs.{found_by, is_there}
 use Rattle.clv_base.specs.State.{Local, is_present}
 use Rattle.clv_base.specs.Restarts.{local_after, records_of}
-use Rattle.clv_base.proofs.SameNames.{or_left, or_right, tx_self}
+use Rattle.clv_base.proofs.SameNames.{or_left, or_right}
 use Rattle.law_base.proofs.Cells.{record_at}
 use Rattle.law_base.proofs.LockRows.{holds, row_holds}
 use Rattle.txn_core.specs.Sound.{is_here, has_lock, IsHeld, owed_by, IsSound}
 use Rattle.txn_core.proofs.Laws.{count_owed_fewer}
-use Rattle.shard_restoring.proofs.Updates.{has_update, standing_updates, restored_there, restored_away, locks_hold, ghosts_there}
-use Rattle.shard_restoring.proofs.Listed.{all_mono, restored_have}
+use Rattle.shard_restoring.proofs.Updates.{has_update, standing_updates, restored_away, locks_hold, ghosts_there}
+use Rattle.shard_restoring.proofs.Listed.{restored_have}
+use Rattle.law_base.proofs.Names.{restored_there, own_in}
+use Rattle.law_base.proofs.Lists.{all_mono}
 
 -- ---- a lock with key X is a lock
 
@@ -42,10 +43,6 @@ there_by (Some None) h = refl
 there_by (Some (Some v)) h = refl
 
 -- ---- those in doubt
-
-own_in : (ts : List TxId) → AllByRecursion (λ t. tx_in t ts ≡ true) ts
-own_in [] = tt
-own_in (t ∷ ts) = (or_left (tx_same t t) (tx_in t ts) (tx_self t), all_mono (λ u. tx_in u ts ≡ true) (λ u. tx_in u (t ∷ ts) ≡ true) (λ u h. or_right (tx_same t u) (tx_in u ts) h) ts (own_in ts))
 
 module _ (shard epoch : ℕ) (log : List LogRecord) where
   abbrev l : Local

@@ -17,22 +17,14 @@ use Rattle.clv_base.specs.Facts.{predecessors_of}
 use Rattle.clv_base.specs.FileRules.{has_spelling, tx_has_spelling, txs_rise}
 use Rattle.clv_base.specs.Restarts.{pairs_of_listed, restored_pairs}
 use Rattle.clv_base.proofs.SameNames.{tx_true, tx_self}
-use Rattle.log_facts.proofs.Laws.Rising.{Rises, tx_total}
+use Rattle.log_facts.proofs.Laws.Rising.{tx_total}
 use Rattle.txn_core.specs.Sound.{FewUndecided}
-
-pub all_append : {X : Type 0} (P : X → Type 0) (xs ys : List X) → AllByRecursion P xs → AllByRecursion P ys → AllByRecursion P (xs ++ ys)
-all_append P [] ys a b = b
-all_append P (x ∷ xs) ys a b = (a.0, all_append P xs ys a.1 b)
-
-pub all_mono : {X : Type 0} (P Q : X → Type 0) → ((x : X) → P x → Q x) → (xs : List X) → AllByRecursion P xs → AllByRecursion Q xs
-all_mono P Q f [] a = tt
-all_mono P Q f (x ∷ xs) a = (f x a.0, all_mono P Q f xs a.1)
+use Rattle.law_base.proofs.Names.{Rise as Rises, listed_have}
+use Rattle.law_base.proofs.Sets.{AllAbove as Above}
+use Rattle.law_base.proofs.Lists.{all_append, all_mono, filter-few as filter_shorter}
+use Rattle.law_base.proofs.Bools.{less_is}
 
 -- ---- whose they are
-
-listed_have : (P : TxId → Type 0) (t : TxId) (qs : List TxId) → P t → AllByRecursion (λ (p : TxId × TxId). P p.0) (map (λ q. (t, q)) qs)
-listed_have P t [] h = tt
-listed_have P t (q ∷ qs) h = (h, listed_have P t qs h)
 
 of_listed : (P : TxId → Type 0) (log : List LogRecord) (t : TxId) (o : Option (ℕ × List TxId)) → P t → AllByRecursion (λ p. P p.0) (pairs_of_listed log t o)
 of_listed P log t None h = tt
@@ -77,16 +69,8 @@ listed_at (Restart run epoch ∷ rs) t h = listed_at rs t (and_parts (has_spelli
 
 -- ---- they rise
 
-abbrev Above : TxId → List TxId → Type 0
-Above x ys = AllByRecursion (λ y. tx_cmp x y ≡ Less) ys
-
 above_all : (t x : TxId) (ys : List TxId) → tx_cmp t x ≡ Less → Above x ys → Above t ys
 above_all t x ys below a = all_mono (λ y. tx_cmp x y ≡ Less) (λ y. tx_cmp t y ≡ Less) (λ y h. tx_total.trans t x y below h) ys a
-
-less_is : (o : Ordering) → is_lt o ≡ true → o ≡ Less
-less_is Less e = refl
-less_is Equal e = absurd (both_ways false refl e)
-less_is Greater e = absurd (both_ways false refl e)
 
 above_first : (t u : TxId) (us : List TxId) → tx_cmp t u ≡ Less → Above u us → Above t (u ∷ us)
 above_first t u us below a = (below, above_all t u us below a)
@@ -176,14 +160,6 @@ preds_at_most (p ∷ ps) t = at (tx_same t p.0) (preds_at_most ps t) (insert_mor
         → length {A = TxId} (elim b [ true ↦ tx_insert p.1 (predecessors_of ps t) | false ↦ predecessors_of ps t ]) ≤ length (cond b (p ∷ filter (own t) ps) (filter (own t) ps))
     at true more one = omega (arith, more, one)
     at false more one = more
-
-filter_shorter : {X : Type 0} (f : X → Bool) (xs : List X) → length (filter f xs) ≤ length xs
-filter_shorter f [] = omega arith
-filter_shorter f (x ∷ xs) = at (f x) (filter_shorter f xs)
-  where
-    at : (b : Bool) → length (filter f xs) ≤ length xs → length (cond b (x ∷ filter f xs) (filter f xs)) ≤ length (x ∷ xs)
-    at true more = omega (arith, more)
-    at false more = omega (arith, more)
 
 with_append : (t : TxId) (xs ys : List (TxId × TxId)) → pairs_with t (xs ++ ys) ≡ pairs_with t xs + pairs_with t ys
 with_append t [] ys = omega arith

@@ -1,5 +1,5 @@
 -- What a restart restores of those in doubt: a part, and a lock and a record at each key that they wrote.
-use Rattle.std.proofs.Common.{◌≡◌, ◌||◌, ⊎_elim, refl, sym, ap, subst, ◌∙◌, ℕ, suc, Bool, true, false, cond, ◌&&◌, ◌==◌, List, [], ◌∷◌, Option, Some, None, eqb-true, eq-eqb}
+use Rattle.std.proofs.Common.{◌≡◌, ◌||◌, ⊎_elim, refl, sym, ap, subst, ◌∙◌, ℕ, suc, Bool, true, false, cond, ◌&&◌, ◌==◌, List, [], ◌∷◌, Some, None, eqb-true, eq-eqb}
 use Rattle.std.specs.List.{AllByRecursion, list_any}
 use Rattle.std.proofs.lemmas.Bool.{both_ways, cond-true, cond_both, or_cases, and_parts, and_from}
 use Rattle.clv_base.specs.declared.names.TxId.{TxId}
@@ -11,28 +11,20 @@ use Rattle.clv_base.specs.Orders.{tx_same, tx_in, tx_get}
 use Rattle.clv_base.specs.Logs.{StandingUpdate, standing, standing_from, without_newest}
 use Rattle.clv_base.specs.declared.modes.Found.{Found}
 use Rattle.clv_base.specs.declared.modes.Found.TheVariants.{Live, Ghost, Absent}
-use Rattle.clv_base.specs.declared.modes.Holder.{Holder}
 use Rattle.clv_base.specs.Locks.{Locks, take_one}
-use Rattle.clv_base.specs.Modes.{on_key}
 use Rattle.clv_base.specs.Needs.{Records, found_at, found_by}
-use Rattle.clv_base.specs.Restarts.{with_ghosts, ghost_if_absent, restored_locks, restored_parts, restored_part, old_birth}
+use Rattle.clv_base.specs.Restarts.{with_ghosts, ghost_if_absent, restored_locks, restored_parts, restored_part}
 use Rattle.clv_base.proofs.SameNames.{or_left, or_right, tx_true, tx_self, tx_flip}
 use Rattle.law_base.proofs.Cells.{record_at}
 use Rattle.law_base.proofs.Anchors.{record_at_set}
 use Rattle.law_base.proofs.LockRows.{holds, take_keeps, take_gives}
+use Rattle.law_base.proofs.Names.{IsThere, all_without, lock_of, set_some}
+use Rattle.law_base.proofs.Logs.{is_update_at}
 
 -- ---- the UPDATEs of a log, by transaction and key
 
-abbrev pub is_update_at : TxId → ℕ → LogRecord → Bool
-is_update_at t q (Update tx key before after) = tx_same t tx && (q == key)
-is_update_at t q _ = false
-
 abbrev pub has_update : List LogRecord → TxId → ℕ → Bool
 has_update log t q = list_any (is_update_at t q) log
-
-all_without : (P : StandingUpdate → Type 0) (t : TxId) (ws : List StandingUpdate) → AllByRecursion P ws → AllByRecursion P (without_newest t ws)
-all_without P t [] a = tt
-all_without P t (w ∷ ws) a = cond_both (tx_same t w.tx) ws (w ∷ without_newest t ws) (AllByRecursion P) (λ e. a.1) (λ e. (a.0, all_without P t ws a.1))
 
 standing_all : (log : List LogRecord) (n : ℕ) (rs : List LogRecord) (ws : List StandingUpdate) → ((t : TxId) (q : ℕ) → has_update rs t q ≡ true → has_update log t q ≡ true) → AllByRecursion (λ w. has_update log w.tx w.key ≡ true) ws
     → AllByRecursion (λ w. has_update log w.tx w.key ≡ true) (standing_from n rs ws)
@@ -52,14 +44,6 @@ standing_updates log = standing_all log 0 log [] (λ t q e. e) tt
 
 -- ---- parts
 
-pub restored_there : (txs : List TxId) (t : TxId) → tx_in t txs ≡ true → tx_get t (restored_parts txs) ≡ Some (restored_part t)
-restored_there [] t i = absurd (both_ways false refl i)
-restored_there (x ∷ xs) t i = at (tx_same t x) refl (restored_there xs t)
-  where
-    at : (b : Bool) → tx_same t x ≡ b → (tx_in t xs ≡ true → tx_get t (restored_parts xs) ≡ Some (restored_part t)) → cond b (Some (restored_part x)) (tx_get t (restored_parts xs)) ≡ Some (restored_part t)
-    at true e k = ap (λ z. Some (restored_part z)) (sym (tx_true t x e))
-    at false e k = k (⊎_elim (λ h. absurd (both_ways _ e (tx_flip x t h))) (λ h. h) (or_cases (tx_same x t) (tx_in t xs) i))
-
 pub restored_away : (txs : List TxId) (t : TxId) → tx_in t txs ≡ false → tx_get t (restored_parts txs) ≡ None
 restored_away [] t i = refl
 restored_away (x ∷ xs) t i = at (tx_same t x) refl (restored_away xs t)
@@ -73,9 +57,6 @@ restored_away (x ∷ xs) t i = at (tx_same t x) refl (restored_away xs t)
     at false e k = k (rest (tx_same x t) (tx_in t xs) i)
 
 -- ---- locks
-
-abbrev pub lock_of : TxId → Holder
-lock_of t = record { tx = t; birth = old_birth t; mode = on_key X; closed = true }
 
 lock_case : (txs : List TxId) (tx : TxId) (key : ℕ) (locks : Locks) (t : TxId) (q : ℕ) → holds true X (At q) t locks ≡ true → holds true X (At q) t (cond (tx_in tx txs) (take_one (At key) (lock_of tx) locks) locks) ≡ true
 lock_case txs tx key locks t q h = cond_both (tx_in tx txs) (take_one (At key) (lock_of tx) locks) locks (λ l. holds true X (At q) t l ≡ true) (λ e. take_keeps true X (At q) t (At key) (lock_of tx) locks h) (λ e. h)
@@ -111,19 +92,6 @@ locks_hold txs (End tx ∷ rs) locks t q i e = locks_hold txs rs locks t q i e
 locks_hold txs (Restart run epoch ∷ rs) locks t q i e = locks_hold txs rs locks t q i e
 
 -- ---- records
-
--- a ghost where nothing is: the same values, a record there, and those that were there stay
-absent_is : (o : Option (Option ℕ)) → found_by o ≡ Absent → o ≡ None
-absent_is None e = refl
-absent_is (Some None) e = absurd cc
-absent_is (Some (Some v)) e = absurd cc
-
-abbrev IsThere : ℕ → Records → Type 0
-IsThere q rs = record_at q rs ≡ None → ⊥
-
-set_some : (q k : ℕ) (rs : Records) (b : Bool) (o : Option (Option ℕ)) → (b ≡ false → o ≡ None → ⊥) → cond b (Some None) o ≡ None → ⊥
-set_some q k rs true o h e = absurd cc
-set_some q k rs false o h e = h refl e
 
 ghost_keeps : (k q : ℕ) (rs : Records) (f : Found) → IsThere q rs → IsThere q (ghost_if_absent k rs f)
 ghost_keeps k q rs (Live v) h = h

@@ -1,6 +1,5 @@
 -- The state after a restart, of its parts.
-use Rattle.std.proofs.Common.{◌≡◌, ◌≤◌, ◌∙◌, ap, ℕ, true, List, [], length, take, slice_range, ◌-◌, arith}
-use Rattle.std.proofs.Math.Seq.{take-length}
+use Rattle.std.proofs.Common.{◌≡◌, ◌≤◌, ◌∙◌, ap, ℕ, true, List, [], ◌-◌, arith}
 use Rattle.std.specs.List.{list_all}
 use Rattle.clv_base.specs.declared.names.TxId.{TxId}
 use Rattle.clv_base.specs.declared.logs.LogRecord.{LogRecord}
@@ -18,13 +17,6 @@ use Rattle.txn_core.specs.State.{AreSettled}
 use Rattle.shard_restoring.proofs.Doubted.{doubt_rises}
 use Rattle.shard_restoring.proofs.Listed.{few_restored}
 use Rattle.shard_restoring.proofs.Kept.{restored_sound}
-
--- a range of all
-pub whole_range : {X : Type 0} (ys xs : List X) (n : ℕ) → ys ≡ slice_range xs 0 n → n ≡ length xs → ys ≡ xs
-whole_range ys xs n e f =
-    let none : length xs - 0 ≡ length xs = omega arith in
-    let all : slice_range xs 0 (length xs) ≡ take (length xs) xs = ap (λ (k : ℕ). take k xs) none in
-    e ∙ ap (slice_range xs 0) f ∙ all ∙ take-length xs
 
 module _ (shard epoch : ℕ) (log : List LogRecord) where
   abbrev l : Local

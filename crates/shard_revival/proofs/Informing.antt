@@ -1,11 +1,11 @@
 -- What passes know of births, through a fetch, a restart and a look.
-use Rattle.std.proofs.Common.{◌≡◌, ◌∙◌, refl, sym, ap, subst, ℕ, ◌≤◌, List, [], ◌∷◌, ◌++◌, append-nil, arith, Option, Result}
+use Rattle.std.proofs.Common.{◌≡◌, ◌∙◌, refl, sym, ap, subst, ℕ, ◌≤◌, List, ◌∷◌, ◌++◌, append-nil, arith, Option, Result}
 use Rattle.std.specs.List.{AllByRecursion}
 use Rattle.clv_base.specs.declared.events.Event.{Event}
 use Rattle.clv_base.specs.declared.events.Event.TheVariants.{Op, Request, Look, Drop, Send, Deliver, Remind, FlushOut, FlushIn, Stop, Restart}
 use Rattle.clv_base.specs.declared.events.Entry.{Entry}
 use Rattle.clv_base.specs.State.{Shard}
-use Rattle.law_base.proofs.Lists.{all_mono}
+use Rattle.law_base.proofs.Lists.{all_mono, all_append}
 use Rattle.turn_lock.specs.Journals.{entries_by}
 use Rattle.turn_lock.specs.declared.pass.Pass.{Pass}
 use Rattle.turn_lock.specs.Passes.{seen, own, pass_origin}
@@ -18,14 +18,10 @@ use Rattle.cluster_turns.specs.Turns.{Turned}
 use Rattle.cluster_turns.specs.Walkers.{Walked}
 use Rattle.cluster_ends.proofs.Laws.{turned_own}
 use Rattle.session_births.specs.Births.{IsBornBy, IsInformed, AreInformed}
-use Rattle.session_births.proofs.Keeping.{some_same, one_changes, changed, informed_later}
+use Rattle.session_births.proofs.Laws.{some_same, one_changes, changed, informed_later}
 use Rattle.shard_revival.specs.Restarted.{no_turn, one_turn}
 use Rattle.shard_revival.specs.Laws.{FetchesInform, RestartsInform, SettledLooksInform}
 use Rattle.shard_revival.proofs.Adding.{AddsCalmly, nothing_added, fetch_adds, revive_adds, revive_later}
-
-all_append : {A : Type 0} (P : A → Type 0) (xs ys : List A) → AllByRecursion P xs → AllByRecursion P ys → AllByRecursion P (xs ++ ys)
-all_append P [] ys a b = b
-all_append P (x ∷ xs) ys a b = (a.0, all_append P xs ys a.1 b)
 
 module _ {T : Type 0} where
   turned_informs : {Told : Shard → Shard → List Note → Type 0} (w clock : ℕ) (p q : Pass T Note Origin) (t : Turned Told w p q) → AddsCalmly w clock t.added → IsInformed w clock p → IsInformed w clock q

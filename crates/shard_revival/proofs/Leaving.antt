@@ -1,5 +1,5 @@
 -- What a restart that fails leaves.
-use Rattle.std.proofs.Common.{◌≡◌, ◌⊎◌, ℕ, zero, suc, ◌+◌, false, List, [], ◌∷◌, ◌++◌, take, drop, length, Option, Some, None, refl, inl, inr, ⊎_elim, sym, ◌∙◌, ap, subst, append_assoc, append-nil, arith}
+use Rattle.std.proofs.Common.{◌≡◌, ◌⊎◌, ℕ, zero, suc, ◌+◌, false, List, ◌∷◌, ◌++◌, take, drop, length, Option, Some, None, refl, inl, inr, ⊎_elim, sym, ◌∙◌, ap, subst, append_assoc, append-nil, arith}
 use Rattle.std.proofs.lemmas.List.{take_all}
 use Rattle.clv_base.specs.declared.logs.LogRecord.{LogRecord}
 use Rattle.clv_base.specs.State.{Shard}
@@ -9,15 +9,8 @@ use Rattle.disk_model.specs.Story.{Story, reads}
 use Rattle.gate_recovery.specs.Recovering.{IsBegun}
 use Rattle.log_gate.specs.View.{Only, logs_told}
 use Rattle.shard_revival.specs.Left.{HasBegun, IsLeftBy, unwritten, begun, MayStand}
-
-take_plus : {X : Type 0} (m k : ℕ) (xs : List X) → take (m + k) xs ≡ take m xs ++ take k (drop m xs)
-take_plus zero k xs = let e : 0 + k ≡ k = omega arith in ap (λ n. take n xs) e
-take_plus (suc m) k [] = let e : suc m + k ≡ suc (m + k) = omega arith in ap (λ n. take n []) e ∙ sym (nothing k)
-  where
-    nothing : {Y : Type 0} (n : ℕ) → take {A = Y} n [] ≡ []
-    nothing zero = refl
-    nothing (suc n) = refl
-take_plus (suc m) k (x ∷ xs) = let e : suc m + k ≡ suc (m + k) = omega arith in ap (λ n. take n (x ∷ xs)) e ∙ ap (λ l. x ∷ l) (take_plus m k xs)
+use Rattle.law_base.proofs.Logs.{some_log as some_same}
+use Rattle.law_base.proofs.Lists.{take_plus}
 
 module _ (n run epoch : ℕ) (found : List LogRecord) (logs : Option (List LogRecord) → Type 0) where
   -- nothing was written
@@ -54,9 +47,6 @@ one_more s base found n (failed_first m rest) = failed_first m (one_more s _ fou
 still_leaves : (s : Shard) (found : List LogRecord) (n : ℕ) → s.is_up ≡ false → MayLeave s found → MayLeave s (found ++ take n (restart_records s.shard found s.run (next_epoch s found)))
 still_leaves s found n down (b, inl is) = (b, inr (down, subst (λ base. FailedRestarts s base (found ++ take n (restart_records s.shard found s.run (next_epoch s found)))) is (failed_first n untouched)))
 still_leaves s found n down (b, inr (d, rest)) = (b, inr (down, one_more s (log_left s b) found n rest))
-
-some_same : {a b : List LogRecord} → Some a ≡ Some b → a ≡ b
-some_same h = cc
 
 pub still_stands : (s : Shard) (t : Story) (before now : Option Story) → s.is_up ≡ false → before ≡ Some t → MayStand s before → IsLeftBy s.shard s.run s.local.epoch before now → MayStand s now
 still_stands s t before now down tells may (unwritten same) log has = may log (same (Some log) has)

@@ -1,5 +1,5 @@
 -- The shard whose disk a walker has, and what was recovered of it.
-use Rattle.std.proofs.Common.{◌≡◌, ℕ, suc, ◌≤◌, ◌<◌, Bool, List, [], ◌∷◌, length, get_or, sym, ap, ◌∙◌, subst, arith, Option, Some, None}
+use Rattle.std.proofs.Common.{◌≡◌, ℕ, suc, ◌≤◌, ◌<◌, Bool, List, ◌∷◌, length, get_or, sym, ap, ◌∙◌, subst, arith, Option, Some, None}
 use Rattle.clv_base.specs.declared.logs.LogRecord.{LogRecord}
 use Rattle.clv_base.specs.Needs.{Records}
 use Rattle.clv_base.specs.State.{Shard}
@@ -22,10 +22,6 @@ use Rattle.shard_revival.specs.Judging.{CountsRestart}
 use Rattle.shard_revival.specs.Readied.{IsReady, HasGate}
 use Rattle.shard_revival.specs.Revived.{IsReadyFor, IsSameSeen}
 use Rattle.shard_revival.proofs.Holding.{holds_same}
-
-pub least_run : (logs : List (List LogRecord)) → 1 ≤ run_after logs
-least_run [] = omega arith
-least_run (log ∷ logs) = let k = least_run logs in omega arith
 
 pub counts_keep : (before now : ℕ) (e : RestartError) → CountsRestart before now e → 1 ≤ before → 1 ≤ now
 counts_keep before now Failed h l = let k = h.1 in omega arith

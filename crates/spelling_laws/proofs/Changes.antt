@@ -18,9 +18,11 @@ use Rattle.clv_base.specs.Facts.{undecided_of}
 use Rattle.clv_base.specs.Undo.{stage_of, doomed_here, aborts_of, clrs_of, undo}
 use Rattle.clv_base.specs.OneShard.{locked, written, closing, without_part, rolled_back_if, drop_part}
 use Rattle.spelling_laws.specs.Spelled.{IsSpelled, fits_op, OperationsKeep, ClosingsKeep, AbortsKeep, DropsKeep, EndsKeep, RecordsKeep, PurgesKeep, RestartsAreSpelled}
-use Rattle.spelling_laws.proofs.Undoing.{all_filter, fit_standing, clrs_spelled, Named, aborts_spelled, all_append}
+use Rattle.spelling_laws.proofs.Undoing.{fit_standing, clrs_spelled, Named, aborts_spelled}
 use Rattle.spelling_laws.proofs.Rows.{takes_named, inserts_named, close_named, release_named, violated_are_named, restored_named, add_seconds, set_value, value_fits, undone_values}
 use Rattle.spelling_laws.proofs.Lists.{wrote_named, undecided_spelled, restored_seconds, restored_values}
+use Rattle.law_base.proofs.Lists.{all_kept as all_filter}
+use Rattle.law_base.proofs.Logs.{spelled_append as all_append}
 
 -- ---- an operation
 

@@ -23,9 +23,11 @@ use Rattle.clv_base.specs.Needs.{Records, found_at}
 use Rattle.clv_base.specs.OneShard.{closing_record, closing}
 use Rattle.clv_base.specs.Restarts.{records_of, ghost_if_absent, with_ghosts, pairs_of_listed, restored_pairs}
 use Rattle.clv_base.proofs.SameNames.{tx_true}
-use Rattle.log_facts.proofs.Laws.Rising.{Rises, nothing_rises, insert_rises}
-use Rattle.spelling_laws.proofs.Undoing.{all_filter, Named, named_insert}
+use Rattle.log_facts.proofs.Laws.Rising.{nothing_rises, insert_rises}
+use Rattle.spelling_laws.proofs.Undoing.{Named, named_insert}
 use Rattle.spelling_laws.proofs.Rows.{Seconds, Values, set_value}
+use Rattle.law_base.proofs.Names.{Rise as Rises}
+use Rattle.law_base.proofs.Lists.{all_kept as all_filter}
 
 -- ---- the record that closes a part
 

@@ -2,8 +2,7 @@
 use Rattle.std.proofs.Common.{◌≡◌, refl, ◌∙◌, subst, ℕ, suc, ◌+◌, ◌-◌, ◌^◌, ◌≤◌, ◌<◌, Bool, true, false, cond, List, [], ◌∷◌, ◌++◌, map, length, Some, None, arith}
 use Rattle.std.proofs.lemmas.Bool.{and_parts, and_from}
 use Rattle.std.proofs.lemmas.Bool.Decides.{nat_tests}
-use Rattle.std.proofs.lemmas.List.Folds.{list_all-append}
-use Rattle.std.specs.List.{list_all, AllByRecursion, filter}
+use Rattle.std.specs.List.{list_all, AllByRecursion}
 use Rattle.std.specs.declared.cmp.Ordering.{Ordering}
 use Rattle.std.specs.declared.cmp.Ordering.TheVariants.{Less, Equal, Greater}
 use Rattle.std.specs.Ordering.{match_ordering}
@@ -14,21 +13,13 @@ use Rattle.clv_base.specs.Orders.{tx_cmp, tx_same, tx_in, tx_insert}
 use Rattle.clv_base.specs.Logs.{StandingUpdate, standing_after, standing_from, standing, without_newest, newest_of, writers}
 use Rattle.clv_base.specs.FileRules.{has_spelling, tx_has_spelling, is_64_bits, is_value, is_undo_next}
 use Rattle.clv_base.specs.Undo.{clrs_of, newest_lsn}
+use Rattle.law_base.proofs.Lists.{all_mono}
 
 -- ---- lists
-
-pub all_mono : {X : Type 0} (P Q : X → Type 0) → ((x : X) → P x → Q x) → (xs : List X) → AllByRecursion P xs → AllByRecursion Q xs
-all_mono P Q f [] h = tt
-all_mono P Q f (x ∷ xs) h = (f x h.0, all_mono P Q f xs h.1)
 
 pub both : (P : Bool → Type 0) → P true → P false → (b : Bool) → P b
 both P t f true = t
 both P t f false = f
-
-pub all_filter : {X : Type 0} (P : X → Type 0) (p : X → Bool) (xs : List X) → AllByRecursion P xs → AllByRecursion P (filter p xs)
-all_filter P p [] h = tt
-all_filter P p (x ∷ xs) h =
-    both (λ (b : Bool). AllByRecursion P (cond b (x ∷ filter p xs) (filter p xs))) (h.0, all_filter P p xs h.1) (all_filter P p xs h.1) (p x)
 
 -- ---- the writes that stand
 
@@ -109,6 +100,3 @@ aborts_spelled [] h = refl
 aborts_spelled (t ∷ ts) h = and_from _ _ h.0 (aborts_spelled ts h.1)
 
 -- ---- both
-
-pub all_append : (xs ys : List LogRecord) → list_all has_spelling xs ≡ true → list_all has_spelling ys ≡ true → list_all has_spelling (xs ++ ys) ≡ true
-all_append xs ys f g = list_all-append has_spelling xs ys ∙ and_from _ _ f g

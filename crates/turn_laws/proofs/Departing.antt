@@ -9,7 +9,7 @@ use Rattle.clv_base.specs.declared.events.Outcome.TheVariants.{Out, Down}
 use Rattle.clv_base.specs.declared.events.Entry.{Entry}
 use Rattle.clv_base.specs.State.{Shard}
 use Rattle.clv_base.specs.Logs.{fitting}
-use Rattle.clv_base.specs.Events.{QuietBeforeWorn, Quiet, next_stamp, step, stamped, land, happen, happen_up, out_event, taken}
+use Rattle.clv_base.specs.Events.{QuietBeforeWorn, Quiet, next_stamp, step, stamped, land, happen, happen_up, taken}
 use Rattle.log_gate.specs.View.{Only, OnlyOrMore}
 use Rattle.machine_calls.specs.declared.machine.StepError.{StepError}
 use Rattle.machine_calls.specs.declared.flights.Flight.{Flight}
@@ -28,14 +28,9 @@ use Rattle.turn_laws.proofs.Gating.{departing, turning, durable_stays, legal_cou
 use Rattle.turn_laws.proofs.Flying.{taker_append}
 use Rattle.turn_laws.proofs.Keeping.{notes_step, grows, holder_plain, holder_step}
 use Rattle.turn_laws.proofs.Holding.{up_none}
+use Rattle.law_base.proofs.Shards.{quiet_out}
 
 -- ---- no quiet answer is Out
-
-quiet_out : (s : Shard) (stamp w : ℕ) (room : Bool) (n : ℕ) (f : Option ℕ) (k : ℕ) → stamped stamp w FlushOut room (out_event s f k) ≡ Quiet (Out n) → ⊥
-quiet_out s stamp w room n f zero h = absurd cc
-quiet_out s stamp w room n (Some m) (suc k) h = absurd cc
-quiet_out s stamp w true n None (suc k) h = absurd cc
-quiet_out s stamp w false n None (suc k) h = absurd cc
 
 up_or_down : (s : Shard) (stamp w : ℕ) (room : Bool) (n : ℕ) (b : Bool) → stamped stamp w FlushOut room (elim b [ true ↦ happen_up s FlushOut | false ↦ QuietBeforeWorn Down ]) ≡ Quiet (Out n) → ⊥
 up_or_down s stamp w room n true h = quiet_out s stamp w room n s.flight (fitting 1048576 (drop (taken s) s.local.log)) h

@@ -31,12 +31,10 @@ use Rattle.turn_laws.proofs.Legal.{legal_fetched}
 use Rattle.turn_laws.proofs.Keeping.{holder_more}
 use Rattle.turn_laws.proofs.Leaving.{fits_leaves, none_stops}
 use Rattle.turn_laws.proofs.Turning.{since}
+use Rattle.law_base.proofs.Options.{found_none as none_held}
+use Rattle.clv_base.proofs.SameNames.{or_right}
 
 -- ---- a shard is down only after a failed flush
-
-or_right : (a b : Bool) → b ≡ true → (a || b) ≡ true
-or_right true b h = refl
-or_right false b h = h
 
 -- after an entry of a shard it is up, or its flush has failed
 abbrev Fine : Shard → Type 0
@@ -127,10 +125,6 @@ held_rests o s u w seen notes k l d down held =
 
 pub gate_of_down : (s : Shard) (held : Option ℕ) (b : Bool) → s.is_up ≡ false → is_gate_away s held ≡ b → is_some held ≡ b
 gate_of_down s held b down h = ap (λ u. elim u [ true ↦ is_some s.flight | false ↦ is_some held ]) (sym down) ∙ h
-
-none_held : (held : Option ℕ) → is_some held ≡ false → held ≡ None
-none_held None h = refl
-none_held (Some w) h = absurd (both_ways true h refl)
 
 module _ {G : Type 0} (shut : G → Bool) (faults whose : G → ℕ) (logs : G → Option (List LogRecord) → Type 0) where
   pub sound_fetched : (o : Origin) (marks : List Mark) (capacity : ℕ) (s : Shard) (g : G) (w : ℕ) → IsSound shut faults whose logs o marks capacity s (Some g) → s.is_up ≡ false

@@ -24,6 +24,7 @@ use Rattle.turn_laws.specs.declared.notes.Note.TheVariants.{Made, Fetched}
 use Rattle.turn_laws.specs.Notes.{noter, told}
 use Rattle.turn_laws.specs.Homes.{entries_in, is_named, all_named, IsFree}
 use Rattle.turn_laws.proofs.Flying.{other_first}
+use Rattle.law_base.proofs.Bools.{not_true}
 
 down_by : {X : Type 0} (s : Shard) (e : Event) (o : Outcome) (t : Shard) (b : Bool) → b ≡ false → elim b [ true ↦ happen_up s e | false ↦ QuietBeforeWorn Down ] ≡ Does o t → X
 down_by s e o t true d h = absurd (both_ways true d refl)
@@ -76,10 +77,6 @@ others_leave tx birth w (Made e log ∷ ns) is named none =
       others_leave_births e tx birth (bears e.walker e.event p.0) (λ same. both_ways (e.walker == w) first.0 (eq-eqb e.walker w (same ∙ is))),
       others_leave tx birth w ns is p.1 first.1,
     )
-
-not_true : (b : Bool) → not b ≡ true → b ≡ false
-not_true true h = absurd (both_ways false refl h)
-not_true false h = refl
 
 runs_free : (s t : Shard) (es : List Entry) (tx : TxId) (birth : Birth) → Runs s es t → AllByRecursion (λ e. LeavesBirth tx birth e.event) es → (b : Bool) → s.is_up ≡ b → (s.is_up ≡ true → has_equal_active_birth tx birth s.local.parts ≡ false)
     → t.is_up ≡ true → has_equal_active_birth tx birth t.local.parts ≡ false

@@ -9,7 +9,7 @@ use Rattle.clv_base.specs.declared.events.Outcome.{Outcome}
 use Rattle.clv_base.specs.declared.events.Outcome.TheVariants.{Durable, Down}
 use Rattle.clv_base.specs.declared.events.Entry.{Entry}
 use Rattle.clv_base.specs.State.{Shard}
-use Rattle.clv_base.specs.Events.{Does, Enters, next_stamp, step, land, with_entry, finish, with_durable, put_down, landed, land_up, Quiet}
+use Rattle.clv_base.specs.Events.{Enters, next_stamp, step, land, with_entry, finish, with_durable, put_down, landed, land_up, Quiet}
 use Rattle.protocol_laws.specs.Growth.{IsPrefixOf}
 use Rattle.protocol_laws.proofs.Growing.{grows_settled}
 use Rattle.history_laws.proofs.Durability.{framed_finish, Counted, opened_counted}
@@ -25,6 +25,9 @@ use Rattle.turn_laws.specs.Homes.{start, state_of, is_turned, is_failed, has_fai
 use Rattle.turn_laws.specs.Gates.{durable_records, flying_records, IsCounted, GateFits, is_gate_away, GateStands, Landable}
 use Rattle.turn_laws.proofs.Legal.{plainly, step_makes, made_up, FromDoes, from_does}
 use Rattle.turn_laws.proofs.Calm.{is_flush_out, Calm, does_calm, does_keep, Flies, does_fly, failed_append, take_grown}
+use Rattle.law_base.proofs.Shards.{does_after, does_outcome}
+use Rattle.clv_base.proofs.SameNames.{or_right as or_last}
+use Rattle.law_base.proofs.Bools.{or_right_false as or_none}
 
 -- what is durable and what flies is in the log
 pub legal_counted : (o : Origin) (notes : List Note) (s : Shard) → IsLegal o notes s → Counted s
@@ -33,14 +36,6 @@ legal_counted o notes s l =
 
 pub counted_same : (xs ys : List Entry) (faults : ℕ) → has_failed ys ≡ has_failed xs → IsCounted xs faults → IsCounted ys faults
 counted_same xs ys faults e c = record { some = λ h. c.some (sym e ∙ h); none = λ h. c.none (sym e ∙ h) }
-
-or_none : (a b : Bool) → b ≡ false → (a || b) ≡ a
-or_none true b h = refl
-or_none false b h = h
-
-or_last : (a b : Bool) → b ≡ true → (a || b) ≡ true
-or_last true b h = refl
-or_last false b h = h
 
 away_same : (s t : Shard) (held : Option ℕ) → t.is_up ≡ s.is_up → t.flight ≡ s.flight → is_gate_away t held ≡ is_gate_away s held
 away_same s t held u f = ap (λ b. elim b [ true ↦ is_some t.flight | false ↦ is_some held ]) u ∙ ap (λ x. elim s.is_up [ true ↦ is_some x | false ↦ is_some held ]) f
@@ -85,12 +80,6 @@ no_failure xs ys x o j is f = ap has_failed j ∙ failed_append xs x ∙ or_none
 
 pub durable_stays : (s t : Shard) → Counted s → t.durable ≡ s.durable → IsPrefixOf s.local.log t.local.log → durable_records t ≡ durable_records s
 durable_stays s t c d g = take_grown s.durable t.durable s.local.log t.local.log c.within d g
-
-does_outcome : {p q : Outcome} {u v : Shard} → Does p u ≡ Does q v → p ≡ q
-does_outcome e = cc
-
-does_after : {p q : Outcome} {u v : Shard} → Does p u ≡ Does q v → u ≡ v
-does_after e = cc
 
 -- what the end of a flush comes to
 pub landing : (s : Shard) (clock w upto : ℕ) (pushed : Bool) (o : Outcome) (t : Shard) → land s clock w pushed ≡ Enters o t → s.is_up ≡ true → s.flight ≡ Some upto

@@ -16,9 +16,7 @@ use Rattle.turn_laws.specs.declared.notes.Origin.{Origin}
 use Rattle.turn_laws.specs.Homes.{taker_after, may_follow, ends_own, is_stop, never_stops, IsLegal}
 use Rattle.turn_laws.specs.Gates.{durable_records, flying_records, GateFits, GateStands}
 use Rattle.turn_laws.proofs.Gating.{legal_counted}
-
-some_same : {a b : List LogRecord} → Some a ≡ Some b → a ≡ b
-some_same h = cc
+use Rattle.law_base.proofs.Logs.{some_log as some_same}
 
 at_least : (s : Shard) (f : Option ℕ) → Counted s → s.flight ≡ f → s.durable ≤ unwrap_or f s.durable
 at_least s None c e = omega arith

@@ -6,8 +6,8 @@ use Rattle.clv_base.specs.Orders.{Table, tx_same, tx_get, tx_in, tx_put, tx_set}
 use Rattle.clv_base.proofs.SameNames.{tx_true}
 use Rattle.law_base.proofs.Changed.{none_some}
 use Rattle.law_base.proofs.Tables.{get_put}
-use Rattle.log_facts.proofs.Laws.Names.{tx_symmetric}
 use Rattle.tx_index.specs.Index.{IsIndex, passes}
+use Rattle.law_base.proofs.Sets.{same_flip as tx_symmetric}
 
 -- at the transaction it is whether the new row passes, elsewhere what it was
 abbrev pub Changes : TxId → Bool → List TxId → List TxId → Type 0

@@ -10,11 +10,8 @@ use Rattle.std.specs.Ordering.{is_eq, ordering_reverse}
 use Rattle.clv_base.specs.declared.names.TxId.{TxId}
 use Rattle.clv_base.specs.Orders.{Table, tx_cmp, tx_same, tx_get, tx_in}
 use Rattle.clv_base.proofs.SameNames.{or_left, tx_true, tx_self, tx_eq}
-use Rattle.law_base.proofs.Sets.{tx_total}
+use Rattle.law_base.proofs.Sets.{tx_total, AllAbove as Above}
 use Rattle.tx_index.specs.Index.{IsIndex, index_of, passes}
-
-abbrev Above : TxId → List TxId → Type 0
-Above t ts = AllByRecursion (λ u. tx_cmp t u ≡ Less) ts
 
 -- who is below all of them is none of them, nor is one of them the lower
 not_same : (a b : TxId) → tx_cmp a b ≡ Less → tx_same b a ≡ false

@@ -1,31 +1,20 @@
 -- Looking a transaction up is looking its key up.
-use Rattle.std.proofs.Common.{◌≡◌, ℕ, Bool, true, false, cond, ◌&&◌, ◌==◌, ◌<◌, nat_lt, List, [], ◌∷◌, Some, refl, sym, ap, ◌∙◌, arith}
+use Rattle.std.proofs.Common.{◌≡◌, ℕ, Bool, true, false, cond, ◌&&◌, ◌==◌, ◌<◌, nat_lt, List, [], ◌∷◌, Some, refl, ap, ◌∙◌, arith}
 use Rattle.std.proofs.lemmas.Bool.{ltb-true, ne_eqb}
 use Rattle.std.specs.Map.{lookup}
-use Rattle.std.specs.declared.cmp.Ordering.{Ordering}
-use Rattle.std.specs.declared.cmp.Ordering.TheVariants.{Less, Equal, Greater}
-use Rattle.std.specs.Ordering.{nat_cmp, ordering_then, is_eq}
+use Rattle.std.specs.Ordering.{nat_cmp, is_eq}
 use Rattle.clv_base.specs.declared.names.TxId.{TxId}
 use Rattle.clv_base.specs.Orders.{tx_same, tx_get}
 use Rattle.tx_table.specs.declared.key.Key.{Key}
 use Rattle.tx_table.specs.Keys.{key_of, named, by_name}
+use Rattle.law_base.proofs.Bools.{eq_by, then_tied as then_eq}
 
 -- whether two keys are equal
 abbrev pub same_key : Key → Key → Bool
 same_key a b = (a.run == b.run) && ((a.session == b.session) && (a.serial == b.serial))
 
-eq_by : (lt eq : Bool) → (lt ≡ true → eq ≡ false) → is_eq (cond lt Less (cond eq Equal Greater)) ≡ eq
-eq_by true eq h = sym (h refl)
-eq_by false true h = refl
-eq_by false false h = refl
-
 cmp_eq : (a b : ℕ) → is_eq (nat_cmp a b) ≡ (a == b)
 cmp_eq a b = eq_by (nat_lt a b) (a == b) (λ e. let l : a < b = ltb-true a b e in ne_eqb a b (λ q. absurd (omega arith)))
-
-then_eq : (a b : Ordering) → is_eq (ordering_then a b) ≡ (is_eq a && is_eq b)
-then_eq Less b = refl
-then_eq Equal b = refl
-then_eq Greater b = refl
 
 pub tx_same-key : (t : TxId) (k : Key) → tx_same t (named k) ≡ same_key (key_of t) k
 tx_same-key t k =

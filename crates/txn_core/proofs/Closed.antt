@@ -29,7 +29,8 @@ use Rattle.txn_core.specs.State.{TxState}
 use Rattle.txn_core.specs.Sound.{is_here, has_lock, IsHeld, owed_by, IsSound, SpendsSpare}
 use Rattle.txn_core.proofs.Writers.{NoUpdate}
 use Rattle.txn_core.proofs.Owing.{owed-still, count_owed_fewer}
-use Rattle.txn_core.proofs.Undoing.{lock_is_held, release_keeps, all_filter, not_false}
+use Rattle.txn_core.proofs.Undoing.{lock_is_held, release_keeps, all_filter}
+use Rattle.law_base.proofs.Bools.{not_true as not_false}
 
 -- ---- records that neither write nor undo
 

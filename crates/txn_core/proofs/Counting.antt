@@ -1,16 +1,13 @@
 -- How many of a list pass a test.
-use Rattle.std.proofs.Common.{◌≡◌, ℕ, ◌+◌, ◌≤◌, ⊎_elim, Bool, true, false, cond, not, ◌&&◌, ◌||◌, List, [], ◌∷◌, length, refl, sym, ap, ◌∙◌, arith}
-use Rattle.std.proofs.lemmas.Bool.{both_ways, or_cases, false_from_ne_true}
-use Rattle.std.specs.List.{AllByRecursion, filter}
+use Rattle.std.proofs.Common.{◌≡◌, ◌+◌, ◌≤◌, Bool, true, false, cond, not, ◌&&◌, ◌||◌, List, [], ◌∷◌, length, refl, sym, ap, ◌∙◌, arith}
+use Rattle.std.proofs.lemmas.Bool.{both_ways}
+use Rattle.std.specs.List.{filter}
 use Rattle.std.specs.List.Sorted.{IsStrictlySortedBy}
-use Rattle.std.specs.declared.cmp.Ordering.TheVariants.{Less}
-use Rattle.std.specs.Ordering.{is_eq}
 use Rattle.clv_base.specs.declared.names.TxId.{TxId}
 use Rattle.clv_base.specs.Orders.{tx_cmp, tx_same, tx_in}
-use Rattle.clv_base.proofs.SameNames.{tx_true, tx_self}
-
-abbrev pub one_if : Bool → ℕ
-one_if b = cond b 1 0
+use Rattle.clv_base.proofs.SameNames.{tx_true}
+use Rattle.law_base.proofs.Names.{above_not_in}
+use Rattle.law_base.proofs.Numbers.{one_if}
 
 module _ {A : Type 0} where
   pub count-first : (q : A → Bool) (x : A) (xs : List A) → length (filter q (x ∷ xs)) ≡ one_if (q x) + length (filter q xs)
@@ -69,11 +66,6 @@ count-unless q true x xs = omega arith
 count-unless q false x xs = count-first q x xs
 
 -- ---- names
-
-pub above_not_in : (x : TxId) (xs : List TxId) → AllByRecursion (λ y. tx_cmp x y ≡ Less) xs → tx_in x xs ≡ false
-above_not_in x [] a = refl
-above_not_in x (y ∷ ys) a =
-    false_from_ne_true _ (λ e. ⊎_elim (λ s. both_ways _ (ap is_eq a.0) (ap is_eq (ap (tx_cmp x) (tx_true y x s)) ∙ tx_self x)) (λ m. both_ways _ (above_not_in x ys a.1) m) (or_cases (tx_same y x) (tx_in x ys) e))
 
 -- one more name passes at most once
 pub one_more : (t : TxId) (g : TxId → Bool) (xs : List TxId) → IsStrictlySortedBy tx_cmp xs → length (filter (λ x. tx_same x t || g x) xs) ≤ one_if (tx_in t xs) + length (filter g xs)

@@ -8,10 +8,7 @@ use Rattle.clv_base.specs.declared.logs.LogRecord.{LogRecord}
 use Rattle.clv_base.specs.declared.logs.LogRecord.TheVariants.{Update}
 use Rattle.op_needs.specs.declared.plan.Write.{Write}
 use Rattle.op_effects.specs.Effects.{log_after}
-use Rattle.clv_base.specs.Orders.{tx_same, tx_in, tx_insert, tx_union, pair_insert, pair_cmp}
-use Rattle.std.specs.declared.cmp.Ordering.{Ordering}
-use Rattle.std.specs.declared.cmp.Ordering.TheVariants.{Less, Equal, Greater}
-use Rattle.std.specs.Ordering.{match_ordering}
+use Rattle.clv_base.specs.Orders.{tx_same, tx_in, tx_insert, tx_union, pair_insert}
 use Rattle.clv_base.specs.Logs.{committed_in, is_commit_of}
 use Rattle.clv_base.specs.Facts.{predecessors_of}
 use Rattle.clv_base.specs.Undo.{pairs_without}
@@ -23,6 +20,8 @@ use Rattle.violation_deps.proofs.Laws.{tx_in-insert, same_list}
 use Rattle.op_needs.proofs.Laws.{predecessors_rise, union_rises}
 use Rattle.txn_core.specs.Sound.{FewUndecided}
 use Rattle.txn_core.proofs.Counting.{count-fewer}
+use Rattle.law_base.proofs.Bools.{or_regroup as or_assoc, same_truth as same_bits}
+use Rattle.law_base.proofs.Names.{preds_insert, preds_without}
 
 -- ---- a longer log
 
@@ -50,17 +49,6 @@ preds_gone set x (p ∷ ps) i = at (tx_in p.0 set) refl (preds_gone set x ps i)
         let other : tx_same x p.0 ≡ false = false_from_ne_true _ (λ s. both_ways _ e (subst (λ z. tx_in z set ≡ true) (tx_true x p.0 s) i)) in
         ap (λ b. elim b [ true ↦ tx_insert p.1 (predecessors_of (pairs_without set ps) x) | false ↦ predecessors_of (pairs_without set ps) x ]) other ∙ more
 
-preds_without : (set : List TxId) (x : TxId) (pairs : List (TxId × TxId)) → tx_in x set ≡ false → predecessors_of (pairs_without set pairs) x ≡ predecessors_of pairs x
-preds_without set x [] out = refl
-preds_without set x (p ∷ ps) out = at (tx_in p.0 set) refl (preds_without set x ps out)
-  where
-    at : (b : Bool) → tx_in p.0 set ≡ b → predecessors_of (pairs_without set ps) x ≡ predecessors_of ps x
-        → predecessors_of (cond (not b) (p ∷ pairs_without set ps) (pairs_without set ps)) x ≡ predecessors_of (p ∷ ps) x
-    at true i more =
-        let other : tx_same x p.0 ≡ false = false_from_ne_true _ (λ e. both_ways _ out (subst (λ z. tx_in z set ≡ true) (sym (tx_true x p.0 e)) i)) in
-        more ∙ sym (ap (λ b. elim b [ true ↦ tx_insert p.1 (predecessors_of ps x) | false ↦ predecessors_of ps x ]) other)
-    at false i more = ap (λ l. elim (tx_same x p.0) [ true ↦ tx_insert p.1 l | false ↦ l ]) more
-
 pub few_without : (set : List TxId) (log : List LogRecord) (pairs : List (TxId × TxId)) → FewUndecided log pairs → FewUndecided log (pairs_without set pairs)
 few_without set log pairs few t =
     ⊎_elim (λ i. subst (λ (us : List TxId). length (filter (λ p. not (committed_in log p)) us) ≤ 1024) (sym (preds_gone set t pairs i)) (omega arith))
@@ -68,23 +56,9 @@ few_without set log pairs few t =
 
 -- ---- more pairs of one transaction
 
-preds_insert : (x tx q : TxId) (pairs : List (TxId × TxId)) → tx_same x tx ≡ false → predecessors_of (pair_insert (tx, q) pairs) x ≡ predecessors_of pairs x
-preds_insert x tx q [] other = ap (λ b. elim b [ true ↦ tx_insert q [] | false ↦ [] ]) other
-preds_insert x tx q (p ∷ ps) other = at (pair_cmp (tx, q) p) (preds_insert x tx q ps other)
-  where
-    at : (o : Ordering) → predecessors_of (pair_insert (tx, q) ps) x ≡ predecessors_of ps x → predecessors_of (match_ordering o ((tx, q) ∷ p ∷ ps) (p ∷ ps) (p ∷ pair_insert (tx, q) ps)) x ≡ predecessors_of (p ∷ ps) x
-    at Less more = ap (λ b. elim b [ true ↦ tx_insert q (predecessors_of (p ∷ ps) x) | false ↦ predecessors_of (p ∷ ps) x ]) other
-    at Equal more = refl
-    at Greater more = ap (λ l. elim (tx_same x p.0) [ true ↦ tx_insert p.1 l | false ↦ l ]) more
-
 preds_add : (x tx : TxId) (qs : List TxId) (pairs : List (TxId × TxId)) → tx_same x tx ≡ false → predecessors_of (add_pairs tx qs pairs) x ≡ predecessors_of pairs x
 preds_add x tx [] pairs other = refl
 preds_add x tx (q ∷ qs) pairs other = preds_add x tx qs (pair_insert (tx, q) pairs) other ∙ preds_insert x tx q pairs other
-
-same_bits : (b c : Bool) → (b ≡ true → c ≡ true) → (c ≡ true → b ≡ true) → b ≡ c
-same_bits true c f g = sym (f refl)
-same_bits false true f g = g refl
-same_bits false false f g = refl
 
 -- its new pairs are with these alone
 from_these : (tx : TxId) (qs : List TxId) (pairs : List (TxId × TxId)) (p : TxId) → is_pair (add_pairs tx qs pairs) tx p ≡ true → (tx_in p qs || tx_in p (predecessors_of pairs tx)) ≡ true
@@ -96,10 +70,6 @@ from_these tx (q ∷ qs) pairs p e =
   where
     flip : (p q : TxId) → tx_same p q ≡ true → tx_same q p ≡ true
     flip p q s = ap (λ z. tx_same z p) (sym (tx_true p q s)) ∙ tx_self p
-
-or_assoc : (a b c : Bool) → (a || (b || c)) ≡ ((a || b) || c)
-or_assoc true b c = refl
-or_assoc false b c = refl
 
 in_union : (t : TxId) (xs ys : List TxId) → tx_in t (tx_union xs ys) ≡ (tx_in t xs || tx_in t ys)
 in_union t [] ys = refl

@@ -1,5 +1,5 @@
 -- What is granted leaves a state of which all can still be taken away.
-use Rattle.std.proofs.Common.{◌≡◌, ℕ, suc, ◌+◌, ◌≤◌, ◌⊎◌, inl, inr, ⊎_elim, Bool, true, false, cond, ◌&&◌, ◌||◌, ◌==◌, List, [], ◌∷◌, length, zero, Option, Some, None, is_none, refl, sym, ap, subst, ◌∙◌, eq-eqb, arith}
+use Rattle.std.proofs.Common.{◌≡◌, ℕ, suc, ◌+◌, ◌≤◌, ◌⊎◌, inl, inr, ⊎_elim, Bool, true, false, cond, ◌&&◌, ◌||◌, ◌==◌, List, [], ◌∷◌, length, zero, Option, Some, None, is_none, refl, sym, ap, subst, ◌∙◌, arith}
 use Rattle.std.specs.Prelude.{slice_get}
 use Rattle.std.proofs.lemmas.Bool.{both_ways, cases_Bool, cond-true, false_from_ne_true}
 use Rattle.std.specs.List.{AllByRecursion, list_any}
@@ -30,7 +30,7 @@ use Rattle.clv_base.specs.Undo.{stage_of}
 use Rattle.clv_base.specs.OneShard.{new_part, active_part, add_pairs}
 use Rattle.clv_base.proofs.SameNames.{or_left, or_right, tx_true, tx_self, tx_flip}
 use Rattle.law_base.proofs.Cells.{record_at}
-use Rattle.law_base.proofs.Tables.{get_put, stage_in}
+use Rattle.law_base.proofs.Tables.{get_put, stage_in, stage_by as stage_at}
 use Rattle.law_base.proofs.Anchors.{record_at_set}
 use Rattle.law_base.proofs.Undoing.{standing_append}
 use Rattle.law_base.proofs.LockRows.{holds, asks, need_asks, anchor_self, all_keeps, all_gives, split_keeps}
@@ -43,6 +43,8 @@ use Rattle.op_effects.specs.Effects.{performed_by, locks_after, records_after, l
 use Rattle.txn_core.specs.Sound.{is_here, has_lock, IsHeld, owed_by, owed_more, IsSound, may_work, has_need, IsCovered}
 use Rattle.txn_core.proofs.Owing.{owed-one, owed_of_others, count_owed_fewer}
 use Rattle.txn_core.proofs.Undoing.{lock_is_held}
+use Rattle.law_base.proofs.Lists.{all_both, all_mono as all_weaker}
+use Rattle.law_base.proofs.Names.{set_has}
 
 -- ---- what a plan writes is locked
 
@@ -77,14 +79,6 @@ all_add : (P : TxId × TxId → Type 0) (tx : TxId) (ps : List TxId) (pairs : Li
 all_add P tx [] pairs h a = a
 all_add P tx (p ∷ ps) pairs h a = all_add P tx ps (pair_insert (tx, p) pairs) h (all_insert_key pair_cmp P (tx, p) pairs (h p) a)
 
-all_weaker : {A : Type 0} (P Q : A → Type 0) → ((x : A) → P x → Q x) → (xs : List A) → AllByRecursion P xs → AllByRecursion Q xs
-all_weaker P Q h [] a = tt
-all_weaker P Q h (x ∷ xs) a = (h x a.0, all_weaker P Q h xs a.1)
-
-all_both : {A : Type 0} (P Q : A → Type 0) (xs : List A) → AllByRecursion P xs → AllByRecursion Q xs → AllByRecursion (λ x. P x × Q x) xs
-all_both P Q [] a b = tt
-all_both P Q (x ∷ xs) a b = ((a.0, b.0), all_both P Q xs a.1 b.1)
-
 -- ---- the log tells who wrote
 
 any_at : (f : LogRecord → Bool) (log : List LogRecord) (n : ℕ) (r : LogRecord) → slice_get log n ≡ Some r → f r ≡ true → list_any f log ≡ true
@@ -104,13 +98,6 @@ set_keeps q k v rs h = ap (λ o. is_there (found_by o)) (record_at_set q k v rs)
     at true None = refl
     at true (Some u) = refl
     at false v = h
-
-set_has : (k : ℕ) (v : Option ℕ) (rs : Records) → is_there (found_at k (record_set k v rs)) ≡ true
-set_has k v rs = ap (λ o. is_there (found_by o)) (record_at_set k k v rs ∙ cond-true (k == k) (Some v) (record_at k rs) (eq-eqb k k refl)) ∙ some v
-  where
-    some : (v : Option ℕ) → is_there (found_by (Some v)) ≡ true
-    some None = refl
-    some (Some u) = refl
 
 after_keeps : (write : Option Write) (q : ℕ) (rs : Records) → is_there (found_at q rs) ≡ true → is_there (found_at q (records_after write rs)) ≡ true
 after_keeps None q rs h = h
@@ -158,9 +145,6 @@ work_here : (s : Stage) → may_work (Some s) ≡ true → is_present (Some s) �
 work_here Active e = refl
 work_here Closed e = absurd (both_ways false refl e)
 work_here (Gone doom) e = absurd (both_ways false refl e)
-
-abbrev stage_at : Option Held → Option Stage
-stage_at o = elim o [ Some h ↦ Some h.stage | None ↦ None ]
 
 module _ (tx : TxId) (birth : Birth) (needs : List Need) (insert : Option Insert) (write : Option Write) (preds : List TxId) (l : Local) where
   abbrev after : Local

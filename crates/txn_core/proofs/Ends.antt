@@ -1,6 +1,5 @@
 -- Ending one part after another.
 use Rattle.std.proofs.Common.{◌≡◌, ℕ, ◌+◌, ◌<◌, length, get_or, drop, drop-cons, add-one, Bool, true, false, cond, ◌||◌, List, [], ◌∷◌, map, Option, Some, None, refl, sym, ap, subst, ◌∙◌}
-use Rattle.std.specs.List.{AllByRecursion}
 use Rattle.std.specs.List.Sorted.{IsStrictlySortedBy}
 use Rattle.std.specs.Map.{keys_of}
 use Rattle.std.specs.BTreeMap.{insert_entry}
@@ -14,6 +13,7 @@ use Rattle.clv_base.specs.Undo.{gone_in, gone_part}
 use Rattle.clv_base.proofs.SameNames.{tx_true}
 use Rattle.tx_index.specs.Parts.{IsNoReturn, is_here as part_is_here}
 use Rattle.violation_deps.proofs.Laws.{tx_total}
+use Rattle.law_base.proofs.Sets.{AllAbove as Above}
 
 -- ---- parts
 
@@ -45,9 +45,6 @@ changed-none t f (p ∷ ps) e = at (tx_same t p.0) e (changed-none t f ps)
     at : (b : Bool) → cond b (Some p.1) (tx_get t ps) ≡ None → (tx_get t ps ≡ None → changed t f ps ≡ ps) → (p.0, cond b (f p.1) p.1) ∷ changed t f ps ≡ p ∷ ps
     at true e more = absurd cc
     at false e more = ap (λ l. p ∷ l) (more e)
-
-abbrev Above : TxId → List TxId → Type 0
-Above t ts = AllByRecursion (λ u. tx_cmp t u ≡ Less) ts
 
 not_above : (t : TxId) (parts : Table Held) → Above t (keys_of parts) → tx_get t parts ≡ None
 not_above t [] a = refl

@@ -1,7 +1,7 @@
 -- Each ghost bears a lock, whatever was done, and a purge leaves what a part did.
 use Rattle.std.proofs.Common.{◌≡◌, ℕ, Bool, true, false, cond, not, ◌&&◌, ◌==◌, List, [], ◌∷◌, unwrap_or, Option, Some, None, refl, sym, ap, subst, ◌∙◌, ⊎_elim, eqb-true}
 use Rattle.std.proofs.lemmas.Bool.{both_ways, not-false, and_from, and_parts, or_cases}
-use Rattle.std.specs.List.{AllByRecursion, list_any}
+use Rattle.std.specs.List.{AllByRecursion}
 use Rattle.std.specs.declared.cmp.Ordering.{Ordering}
 use Rattle.std.specs.declared.cmp.Ordering.TheVariants.{Less, Equal, Greater}
 use Rattle.std.specs.Ordering.{nat_cmp, is_eq, match_ordering}
@@ -30,14 +30,8 @@ use Rattle.txn_core.specs.State.{TxState, IsSameBut}
 use Rattle.txn_core.specs.Sound.{is_here, has_lock, IsHeld, IsSound, IsCovered}
 use Rattle.txn_core.proofs.Undoing.{lock_is_held}
 use Rattle.txn_core.proofs.Doing.{locks_keep, covered_lock}
-
--- whether somebody holds a lock on the record at the key
-abbrev is_held_at : ℕ → Locks → Bool
-is_held_at k locks = list_any (λ r. anchor_same (At k) r.0) locks
-
--- each record is live, or bears a lock
-abbrev AllStay : Locks → Records → Type 0
-AllStay locks rs = AllByRecursion (λ r. is_locked_or_live locks r ≡ true) rs
+use Rattle.law_base.proofs.Names.{Stays as AllStay, is_held_at}
+use Rattle.law_base.proofs.Lists.{all_mono as all_weaker}
 
 held_stays : (locks : Locks) (k : ℕ) → is_held_at k locks ≡ true → (v : Option ℕ) → is_locked_or_live locks (k, v) ≡ true
 held_stays locks k h (Some v) = refl
@@ -57,10 +51,6 @@ holder_at k (r ∷ rs) e =
     (or_cases (anchor_same (At k) r.0) (is_held_at k rs) e)
 
 -- ---- what is granted
-
-all_weaker : {A : Type 0} (P Q : A → Type 0) → ((x : A) → P x → Q x) → (xs : List A) → AllByRecursion P xs → AllByRecursion Q xs
-all_weaker P Q h [] a = tt
-all_weaker P Q h (x ∷ xs) a = (h x a.0, all_weaker P Q h xs a.1)
 
 set_all : (locks : Locks) (k : ℕ) (v : Option ℕ) (rs : Records) → is_held_at k locks ≡ true → AllStay locks rs → AllStay locks (record_set k v rs)
 set_all locks k v [] h a = (held_stays locks k h v, tt)

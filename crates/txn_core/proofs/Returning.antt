@@ -1,11 +1,10 @@
 -- What was reserved for an undo that isn't wanted any more.
 use Rattle.std.proofs.Common.{◌≡◌, ℕ, ◌+◌, ◌≤◌, ⊎_elim, true, false, cond, List, [], ◌∷◌, None, refl, sym, ap, subst, ◌∙◌, arith}
 use Rattle.std.proofs.lemmas.Bool.{both_ways, cases_Bool, or_cases}
-use Rattle.std.specs.List.Sorted.{IsStrictlySortedBy}
 use Rattle.clv_base.specs.declared.names.TxId.{TxId}
 use Rattle.clv_base.specs.declared.logs.LogRecord.{LogRecord}
 use Rattle.clv_base.specs.declared.state.Held.{Held}
-use Rattle.clv_base.specs.Orders.{Table, tx_cmp, tx_same, tx_in}
+use Rattle.clv_base.specs.Orders.{Table, tx_same, tx_in}
 use Rattle.clv_base.specs.Logs.{standing}
 use Rattle.clv_base.specs.State.{Local, is_present}
 use Rattle.clv_base.specs.Undo.{take_away, release_parts}
@@ -33,10 +32,6 @@ module _ (set : List TxId) (tx : TxId) (l : Local) where
       let cover = count_owed_covered (is_here (take_away set tx l)) (in_set set) (is_here l) l.log gone_or_here in omega (arith, same, cover, room)
 
 -- ---- a part that is finished
-
-pub one_rises : (tx : TxId) → IsStrictlySortedBy tx_cmp (tx ∷ [])
-unfolding IsStrictlySortedBy
-one_rises tx = (tt, tt)
 
 pub own_fits : (parts : Table Held) (tx : TxId) (log : List LogRecord) → is_in parts tx ≡ true → owed_by (in_set (tx ∷ [])) log ≤ owed_by (is_in parts) log
 own_fits parts tx log e = count_owed_fewer (in_set (tx ∷ [])) (is_in parts) log (λ t i. subst (λ u. is_in parts u ≡ true) (own t i) e)

@@ -9,6 +9,7 @@ use Rattle.clv_base.specs.Logs.{StandingUpdate, place_from, is_commit_of, commit
 use Rattle.clv_base.specs.Undo.{aborts_of, clrs_of, newest_lsn}
 use Rattle.op_needs.specs.declared.plan.Write.{Write}
 use Rattle.op_effects.specs.Effects.{log_after}
+use Rattle.law_base.proofs.Logs.{place_more as place_from-more}
 
 place_from-update : (n : ℕ) (t tx : TxId) (k : ℕ) (before after : Option ℕ) (log : List LogRecord)
     → place_from n (is_commit_of t) (log ++ Update tx k before after ∷ []) ≡ place_from n (is_commit_of t) log
@@ -20,18 +21,6 @@ commit_lsn-log_after t tx None log = refl
 commit_lsn-log_after t tx (Some w) log = place_from-update 0 t tx w.key w.before w.after log
 
 -- ---- the records of an undo
-
-none_from : (n : ℕ) (f : LogRecord → Bool) (rs : List LogRecord) → list_any f rs ≡ false → place_from n f rs ≡ None
-none_from n f [] e = refl
-none_from n f (r ∷ rs) e = at (f r) e (none_from (suc n) f rs)
-  where
-    at : (b : Bool) → (b || list_any f rs) ≡ false → (list_any f rs ≡ false → place_from (suc n) f rs ≡ None) → cond b (Some n) (place_from (suc n) f rs) ≡ None
-    at true e more = absurd cc
-    at false e more = more e
-
-place_from-more : (n : ℕ) (f : LogRecord → Bool) (log more : List LogRecord) → list_any f more ≡ false → place_from n f (log ++ more) ≡ place_from n f log
-place_from-more n f [] more e = none_from n f more e
-place_from-more n f (r ∷ rs) more e = ap (λ p. cond (f r) (Some n) p) (place_from-more (suc n) f rs more e)
 
 aborts_alone : (t : TxId) (ts : List TxId) → list_any (is_commit_of t) (map (λ u. Abort u) ts) ≡ false
 aborts_alone t [] = refl

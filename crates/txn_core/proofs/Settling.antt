@@ -1,23 +1,15 @@
 -- A COMMIT more settles its own transaction, where that wasn't settled before; a PREPARE or an END settles nobody.
 use Rattle.std.proofs.Common.{◌≡◌, ℕ, suc, ◌+◌, Bool, true, false, cond, List, [], ◌∷◌, ◌++◌, length, Some, None, refl, sym, ap, ◌∙◌, arith}
-use Rattle.std.proofs.lemmas.Bool.{both_ways, false_from_ne_true}
 use Rattle.std.specs.List.{list_any}
-use Rattle.std.proofs.lemmas.Bool.{or_parts}
 use Rattle.clv_base.specs.declared.names.TxId.{TxId}
 use Rattle.clv_base.specs.declared.logs.LogRecord.{LogRecord}
 use Rattle.clv_base.specs.declared.logs.LogRecord.TheVariants.{Commit}
 use Rattle.clv_base.specs.Orders.{Table, tx_same, tx_get}
 use Rattle.clv_base.specs.Logs.{is_commit_of, place_from, commit_lsn}
-use Rattle.clv_base.proofs.SameNames.{tx_flip}
 use Rattle.txn_core.specs.State.{AreSettled}
 use Rattle.txn_core.specs.Committed.{place_or}
-
-same_turned : (a b : TxId) → tx_same a b ≡ tx_same b a
-same_turned a b = at (tx_same b a) refl
-  where
-    at : (c : Bool) → tx_same b a ≡ c → tx_same a b ≡ c
-    at true e = tx_flip b a e
-    at false e = false_from_ne_true _ (λ h. both_ways _ e (tx_flip a b h))
+use Rattle.law_base.proofs.Commits.{no_place_from as none_from}
+use Rattle.law_base.proofs.Sets.{same_flip as same_turned}
 
 placed : (n : ℕ) (t tx : TxId) (parts : List ℕ) (log : List LogRecord)
     → place_from n (is_commit_of t) (log ++ Commit tx parts ∷ []) ≡ cond (tx_same t tx) (place_or (place_from n (is_commit_of t) log) (n + length log)) (place_from n (is_commit_of t) log)
@@ -47,10 +39,6 @@ commit_settles commits more tx parts log lsn settled same new t =
   where
     zero_plus : length log ≡ 0 + length log
     zero_plus = omega arith
-
-none_from : (n : ℕ) (f : LogRecord → Bool) (rs : List LogRecord) → list_any f rs ≡ false → place_from n f rs ≡ None
-none_from n f [] e = refl
-none_from n f (r ∷ rs) e = let p = or_parts (f r) (list_any f rs) e in ap (λ b. cond b (Some n) (place_from (suc n) f rs)) p.0 ∙ none_from (suc n) f rs p.1
 
 pub commit_lsn-more : (t : TxId) (log more : List LogRecord) → list_any (is_commit_of t) more ≡ false → commit_lsn (log ++ more) t ≡ commit_lsn log t
 commit_lsn-more t log more e = from 0 log

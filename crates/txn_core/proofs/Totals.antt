@@ -17,8 +17,10 @@ use Rattle.tx_index.specs.Parts.{is_here as here_by, parts_here}
 use Rattle.tx_index.specs.Index.{passes}
 use Rattle.tx_index.proofs.Laws.{index_has}
 use Rattle.txn_core.specs.Sound.{is_here, is_update_by, updates_by, writers, writers_by, owed_by, IsSound}
-use Rattle.txn_core.proofs.Counting.{one_if, count-first, count-unless, in_set, above_not_in}
+use Rattle.txn_core.proofs.Counting.{count-first, count-unless, in_set}
 use Rattle.txn_core.proofs.Owing.{count_owed_fewer}
+use Rattle.law_base.proofs.Numbers.{one_if}
+use Rattle.law_base.proofs.Names.{above_not_in}
 
 -- UPDATEs of one
 abbrev pub updates_of : List LogRecord → TxId → ℕ

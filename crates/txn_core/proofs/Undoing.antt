@@ -37,6 +37,8 @@ use Rattle.txn_core.proofs.Undoable.{IsUndoable}
 use Rattle.txn_core.specs.Sound.{is_here, has_lock, IsHeld, owed_by, IsSound, KeepsSpare}
 use Rattle.txn_core.proofs.Counting.{in_set}
 use Rattle.txn_core.proofs.Owing.{undo_at_most, count_owed_fewer, count_owed_apart, owed-undone}
+use Rattle.law_base.proofs.Names.{Rise as Rises}
+use Rattle.law_base.proofs.Bools.{not_true as not_false}
 
 -- ---- the doomed are here
 
@@ -68,9 +70,6 @@ module _ (test : TxId → Bool) where
   one_passes : (t : TxId) (xs : List TxId) → AllPass xs → tx_in t xs ≡ true → test t ≡ true
   one_passes t [] a e = absurd (both_ways false refl e)
   one_passes t (x ∷ xs) a e = ⊎_elim (λ s. subst (λ y. test y ≡ true) (tx_true x t s) a.0) (λ m. one_passes t xs a.1 m) (or_cases (tx_same x t) (tx_in t xs) e)
-
-abbrev Rises : List TxId → Type 0
-Rises xs = IsStrictlySortedBy tx_cmp xs
 
 with_rises : (pairs : List (TxId × TxId)) (set so_far : List TxId) → Rises so_far → Rises (with_successors pairs set so_far)
 with_rises [] set so_far s = s
@@ -193,10 +192,6 @@ undo_keeps set ws k l h = ap (λ o. is_there (found_by o)) (record_undone set ws
 pub all_filter : {A : Type 0} (P Q : A → Type 0) (f : A → Bool) (xs : List A) → ((x : A) → P x → f x ≡ true → Q x) → AllByRecursion P xs → AllByRecursion Q (filter f xs)
 all_filter P Q f [] h a = tt
 all_filter P Q f (x ∷ xs) h a = cond_both (f x) (x ∷ filter f xs) (filter f xs) (AllByRecursion Q) (λ e. (h x a.0 e, all_filter P Q f xs h a.1)) (λ e. all_filter P Q f xs h a.1)
-
-pub not_false : (b : Bool) → not b ≡ true → b ≡ false
-not_false true e = absurd (both_ways false refl e)
-not_false false e = refl
 
 module _ (set : List TxId) (tx : TxId) (l : Local) where
   gone_here : (t : TxId) → is_here (take_away set tx l) t ≡ true → (tx_in t set ≡ false) × (is_here l t ≡ true)

@@ -8,9 +8,12 @@ use Rattle.clv_base.specs.declared.logs.LogRecord.{LogRecord}
 use Rattle.clv_base.specs.declared.logs.LogRecord.TheVariants.{Update, Clr, Prepare, Commit, Abort, End, Restart}
 use Rattle.clv_base.specs.Orders.{tx_cmp, tx_same, tx_in}
 use Rattle.clv_base.specs.Logs.{wrote_in, is_update_of}
-use Rattle.clv_base.proofs.SameNames.{or_right, tx_true, tx_flip}
+use Rattle.clv_base.proofs.SameNames.{or_right, tx_true}
 use Rattle.txn_core.specs.Sound.{updates_by, writers, writers_by}
-use Rattle.txn_core.proofs.Counting.{one_if, count-first, count-fewer, count-unless, one_more, one_new, in_set}
+use Rattle.txn_core.proofs.Counting.{count-first, count-fewer, count-unless, one_more, one_new, in_set}
+use Rattle.law_base.proofs.Numbers.{one_if}
+use Rattle.law_base.proofs.Bools.{none_or}
+use Rattle.law_base.proofs.Sets.{same_flip as same_flipped}
 
 -- ---- those of a set
 
@@ -101,14 +104,6 @@ writers-still test log more h = ap (λ ws. length (filter test ws)) (writers_bef
 
 -- ---- an UPDATE more
 
-same_flipped : (a b : TxId) → tx_same a b ≡ tx_same b a
-same_flipped a b = at (tx_same a b) (tx_same b a) (tx_flip a b) (tx_flip b a)
-  where
-    at : (x y : Bool) → (x ≡ true → y ≡ true) → (y ≡ true → x ≡ true) → x ≡ y
-    at true y f g = sym (f refl)
-    at false true f g = g refl
-    at false false f g = refl
-
 module _ (test : TxId → Bool) (tx : TxId) (key : ℕ) (before after : Option ℕ) where
   abbrev with_one : List LogRecord → List LogRecord
   with_one log = log ++ Update tx key before after ∷ []
@@ -151,10 +146,6 @@ module _ (test : TxId → Bool) (tx : TxId) (key : ℕ) (before after : Option �
   writers-one (Restart run epoch ∷ rs) = writers-one rs
 
 -- ---- those of others
-
-pub none_or : (a b : Bool) → (a || b) ≡ false → (a ≡ false) × (b ≡ false)
-none_or true b e = absurd (both_ways true e refl)
-none_or false b e = (refl, e)
 
 -- one that has no UPDATE doesn't count
 pub writers_of_others : (tx : TxId) (p q : TxId → Bool) (log : List LogRecord) → wrote_in log tx ≡ false → ((t : TxId) → tx_same tx t ≡ false → p t ≡ true → q t ≡ true) → writers_by p log ≤ writers_by q log

@@ -17,6 +17,7 @@ use Rattle.violation_deps.specs.Marking.{marks_with, new_marks, unmarked}
 use Rattle.violation_deps.proofs.Rising.{insert_key-rises, insert_there, length-insert_key}
 use Rattle.violation_deps.proofs.Runs.{tx_total}
 use Rattle.violation_deps.proofs.Members.{Within, tx_in-more, marks_keep, marks_have, marks_from, queue_has, successors, tx_in-successors, same_list}
+use Rattle.law_base.proofs.Names.{one_rises}
 
 -- ---- the doomed set rises
 
@@ -28,10 +29,6 @@ with_successors_rise (p ∷ ps) set so_far s =
 through_rises : (n : ℕ) (ps : List (TxId × TxId)) (set : List TxId) → IsStrictlySortedBy tx_cmp set → IsStrictlySortedBy tx_cmp (successors_through n ps set)
 through_rises zero ps set s = s
 through_rises (suc n) ps set s = through_rises n ps (with_successors ps set set) (with_successors_rise ps set set s)
-
-one_rises : (t : TxId) → IsStrictlySortedBy tx_cmp (t ∷ [])
-unfolding IsStrictlySortedBy
-one_rises t = (tt, tt)
 
 doomed_rises : (pairs : List (TxId × TxId)) (tx : TxId) → IsStrictlySortedBy tx_cmp (doomed pairs tx)
 doomed_rises pairs tx = through_rises (length pairs) pairs (tx ∷ []) (one_rises tx)

@@ -8,6 +8,7 @@ use Rattle.clv_base.specs.Logs.{is_commit_of, committed_in, commit_lsn, place_fr
 use Rattle.clv_base.specs.State.{Local}
 use Rattle.clv_base.specs.Facts.{predecessors_of, undecided_of, greater_place, greatest_commit, due_by, due_lsn_of}
 use Rattle.violation_deps.specs.Dependencies.{Dependencies, undecided_by, greatest_of, due_of}
+use Rattle.law_base.proofs.Sets.{filter_alike}
 
 none_placed : (n : ℕ) (f : LogRecord → Bool) (log : List LogRecord) → is_none (place_from n f log) ≡ not (list_any f log)
 none_placed n f [] = refl
@@ -16,10 +17,6 @@ none_placed n f (r ∷ rs) = at (f r) (none_placed (suc n) f rs)
     at : (b : Bool) → is_none (place_from (suc n) f rs) ≡ not (list_any f rs) → is_none (cond b (Some n) (place_from (suc n) f rs)) ≡ not (b || list_any f rs)
     at true more = refl
     at false more = more
-
-filter_alike : (f g : TxId → Bool) (xs : List TxId) → ((x : TxId) → f x ≡ g x) → filter f xs ≡ filter g xs
-filter_alike f g [] h = refl
-filter_alike f g (x ∷ xs) h = ap (λ l. cond (f x) (x ∷ l) l) (filter_alike f g xs h) ∙ ap (λ b. cond b (x ∷ filter g xs) (filter g xs)) (h x)
 
 -- the transactions with a COMMIT in the log are settled, each at its COMMIT's place, and no other
 abbrev pub AreInLog : Dependencies → Local → Type 0

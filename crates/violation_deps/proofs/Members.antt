@@ -1,40 +1,23 @@
 -- Who is a member of a list of transactions, and of the marks with more.
 use Rattle.std.proofs.Common.{◌≡◌, ℕ, zero, suc, ◌<◌, ◌⊎◌, inl, inr, ⊎_elim, Bool, true, false, cond, ◌&&◌, ◌||◌, List, [], ◌∷◌, ◌++◌, length, map, get_or, refl, sym, ap, subst, ◌∙◌, append_assoc, arith}
 use Rattle.std.proofs.lemmas.Bool.{both_ways, or_cases}
-use Rattle.std.specs.List.{AllByRecursion, list_any}
+use Rattle.std.specs.List.{list_any}
 use Rattle.std.specs.List.Sorted.{IsStrictlySortedBy}
-use Rattle.std.specs.declared.cmp.Ordering.{Ordering}
-use Rattle.std.specs.declared.cmp.Ordering.TheVariants.{Less, Equal, Greater}
-use Rattle.std.specs.Ordering.{is_eq, ordering_then}
+use Rattle.std.specs.Ordering.{is_eq}
 use Rattle.std.specs.Cmp.{both_ways as same_tests}
 use Rattle.clv_base.specs.declared.names.TxId.{TxId}
 use Rattle.clv_base.specs.Orders.{tx_cmp, tx_same, tx_in, tx_insert, pair_cmp}
 use Rattle.clv_base.specs.Facts.{predecessors_of}
 use Rattle.clv_base.proofs.SameNames.{or_left, or_right, tx_true, tx_self, tx_eq, in_insert, insert_keeps, insert_has}
-use Rattle.tx_table.proofs.Laws.Names.{tx_symmetric}
 use Rattle.protocol_laws.specs.UndoLaws.{is_pair}
 use Rattle.violation_deps.specs.Marking.{marks_with, new_marks}
 use Rattle.violation_deps.proofs.Runs.{of_tx, tx_total}
+use Rattle.law_base.proofs.Sets.{same_flip as tx_symmetric}
+use Rattle.law_base.proofs.Names.{not_less as not_below_itself, above_in as not_in_above, in_append as tx_in-append, tx_in-insert}
+use Rattle.law_base.proofs.Bools.{or_none, then_tied}
 
 abbrev pub Within : List TxId → List TxId → Type 0
 Within xs ys = (t : TxId) → tx_in t xs ≡ true → tx_in t ys ≡ true
-
-pub tx_in-insert : (x t : TxId) (xs : List TxId) → tx_in t (tx_insert x xs) ≡ (tx_same x t || tx_in t xs)
-tx_in-insert x t xs = same_tests _ _
-    (λ e. ⊎_elim (λ s. or_left _ _ (tx_eq x t (sym s))) (λ m. or_right _ _ m) (in_insert x t xs e))
-    (λ e. ⊎_elim (λ s. subst (λ y. tx_in y (tx_insert x xs) ≡ true) (tx_true x t s) (insert_has x xs)) (λ m. insert_keeps x t xs m) (or_cases (tx_same x t) (tx_in t xs) e))
-
-or_assoc : (a b c : Bool) → (a || (b || c)) ≡ ((a || b) || c)
-or_assoc true b c = refl
-or_assoc false b c = refl
-
-pub tx_in-append : (t : TxId) (xs ys : List TxId) → tx_in t (xs ++ ys) ≡ (tx_in t xs || tx_in t ys)
-tx_in-append t [] ys = refl
-tx_in-append t (x ∷ xs) ys = ap (λ b. tx_same x t || b) (tx_in-append t xs ys) ∙ or_assoc (tx_same x t) (tx_in t xs) (tx_in t ys)
-
-or_none : (b : Bool) → (b || false) ≡ b
-or_none true = refl
-or_none false = refl
 
 pub tx_in-more : (t : TxId) (xs : List TxId) (x : TxId) → tx_in t (xs ++ x ∷ []) ≡ (tx_in t xs || tx_same x t)
 tx_in-more t xs x = tx_in-append t xs (x ∷ []) ∙ ap (λ b. tx_in t xs || b) (or_none (tx_same x t))
@@ -109,13 +92,6 @@ pair_at p (q ∷ qs) i d l = at (tx_same p q.0) i l (pair_at p qs)
 
 -- ---- lists that rise and have the same members
 
-not_in_above : (x t : TxId) (ys : List TxId) → AllByRecursion (λ y. tx_cmp x y ≡ Less) ys → tx_in t ys ≡ true → tx_cmp x t ≡ Less
-not_in_above x t [] a e = absurd (both_ways false refl e)
-not_in_above x t (y ∷ ys) a e = ⊎_elim (λ s. ap (tx_cmp x) (sym (tx_true y t s)) ∙ a.0) (λ m. not_in_above x t ys a.1 m) (or_cases (tx_same y t) (tx_in t ys) e)
-
-not_below_itself : (x : TxId) → tx_cmp x x ≡ Less → ⊥
-not_below_itself x e = both_ways _ (ap is_eq e) (tx_self x)
-
 pub same_list : (xs ys : List TxId) → IsStrictlySortedBy tx_cmp xs → IsStrictlySortedBy tx_cmp ys → ((t : TxId) → tx_in t xs ≡ tx_in t ys) → xs ≡ ys
 unfolding IsStrictlySortedBy
 same_list [] [] s r same = refl
@@ -133,11 +109,6 @@ same_list (x ∷ xs) (y ∷ ys) s r same =
     ap (λ z. z ∷ xs) first ∙ ap (λ l. y ∷ l) (same_list xs ys s.1 r.1 (λ t. same_tests _ _ (forth t) (back t)))
 
 -- ---- a pair, and the predecessors
-
-pub then_tied : (a b : Ordering) → is_eq (ordering_then a b) ≡ (is_eq a && is_eq b)
-then_tied Less b = refl
-then_tied Equal b = refl
-then_tied Greater b = refl
 
 abbrev pub has_pair : TxId → TxId → List (TxId × TxId) → Bool
 has_pair tx pred pairs = list_any (λ (p : TxId × TxId). is_eq (pair_cmp p (tx, pred))) pairs

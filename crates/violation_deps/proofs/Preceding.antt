@@ -12,9 +12,7 @@ use Rattle.clv_base.specs.Orders.{tx_cmp, tx_same, tx_insert, pair_cmp}
 use Rattle.clv_base.specs.Facts.{predecessors_of, due_by}
 use Rattle.clv_base.proofs.SameNames.{tx_true}
 use Rattle.violation_deps.proofs.Runs.{of_tx}
-
-abbrev Above : TxId → List TxId → Type 0
-Above x ys = AllByRecursion (λ y. tx_cmp x y ≡ Less) ys
+use Rattle.law_base.proofs.Sets.{AllAbove as Above}
 
 insert_first : (x : TxId) (xs : List TxId) → Above x xs → tx_insert x xs ≡ x ∷ xs
 insert_first x [] a = refl

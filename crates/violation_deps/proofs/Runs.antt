@@ -12,6 +12,7 @@ use Rattle.clv_base.specs.declared.names.TxId.{TxId}
 use Rattle.clv_base.specs.Orders.{tx_cmp, tx_same, tx_in, pair_cmp}
 use Rattle.clv_base.specs.Undo.{pairs_without}
 use Rattle.clv_base.proofs.SameNames.{tx_true}
+use Rattle.law_base.proofs.Bools.{less_is as is_less}
 
 pub tx_total : IsTotalOrder tx_cmp
 tx_total = then_total (on_total (λ t. t.run) nat_cmp_total) (then_total (on_total (λ t. t.session) nat_cmp_total) (on_total (λ t. t.serial) nat_cmp_total))
@@ -65,11 +66,6 @@ rise_at (p ∷ ps) zero zero d h l m = ap is_gt (tied_itself tx_total p.0)
 rise_at (p ∷ ps) zero (suc j) d h l m = before_at p.0 ps j d h.0 (omega arith)
 rise_at (p ∷ ps) (suc i) zero d h l m = absurd (omega arith)
 rise_at (p ∷ ps) (suc i) (suc j) d h l m = rise_at ps i j d h.1 (omega arith) (omega arith)
-
-is_less : (o : Ordering) → is_lt o ≡ true → o ≡ Less
-is_less Less e = refl
-is_less Equal e = absurd (both_ways false refl e)
-is_less Greater e = absurd (both_ways false refl e)
 
 still_less : (a b c : TxId) → is_gt (tx_cmp a b) ≡ false → is_lt (tx_cmp b c) ≡ true → is_lt (tx_cmp a c) ≡ true
 still_less a b c e l = at (tx_cmp a b) refl e

@@ -1,18 +1,10 @@
 -- Who succeeds a transaction, by the pairs that are turned round.
 use Rattle.std.proofs.Common.{◌≡◌, refl, ap, ◌∙◌, Bool, true, false, cond, ◌&&◌, ◌||◌, List, [], ◌∷◌, map}
-use Rattle.std.proofs.lemmas.Bool.{both_ways, false_from_ne_true}
 use Rattle.std.specs.List.{filter}
 use Rattle.clv_base.specs.declared.names.TxId.{TxId}
 use Rattle.clv_base.specs.Orders.{tx_same, tx_in}
-use Rattle.clv_base.proofs.SameNames.{tx_flip}
 use Rattle.protocol_laws.specs.UndoLaws.{is_pair}
-
-same_turned : (a b : TxId) → tx_same a b ≡ tx_same b a
-same_turned a b = at (tx_same b a) refl
-  where
-    at : (c : Bool) → tx_same b a ≡ c → tx_same a b ≡ c
-    at true e = tx_flip b a e
-    at false e = false_from_ne_true _ (λ h. both_ways _ e (tx_flip a b h))
+use Rattle.law_base.proofs.Sets.{same_flip as same_turned}
 
 pub in_run : (p t : TxId) (pairs : List (TxId × TxId)) → tx_in t (map (λ q. q.1) (filter (λ q. tx_same p q.0) pairs)) ≡ is_pair pairs p t
 in_run p t [] = refl

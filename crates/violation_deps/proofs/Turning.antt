@@ -10,18 +10,16 @@ use Rattle.std.specs.Ordering.{is_eq, ordering_then, match_ordering}
 use Rattle.clv_base.specs.declared.names.TxId.{TxId}
 use Rattle.clv_base.specs.Orders.{tx_cmp, tx_same, tx_in, pair_cmp, pair_insert}
 use Rattle.clv_base.specs.Undo.{pairs_without}
-use Rattle.tx_table.proofs.Laws.Names.{tx_symmetric}
 use Rattle.clv_base.proofs.SameNames.{tx_true}
 use Rattle.protocol_laws.specs.UndoLaws.{is_pair}
 use Rattle.violation_deps.specs.Pairs.{AreTurned}
 use Rattle.violation_deps.specs.Kept.{AreKept}
 use Rattle.violation_deps.proofs.Rising.{insert_key-rises}
 use Rattle.violation_deps.proofs.Runs.{pair_total, of_tx}
-use Rattle.violation_deps.proofs.Members.{then_tied}
 use Rattle.violation_deps.proofs.Succeeding.{in_run}
-
-is_row : TxId → TxId → TxId × TxId → Bool
-is_row t p q = tx_same t q.0 && tx_same p q.1
+use Rattle.law_base.proofs.Sets.{same_flip as tx_symmetric}
+use Rattle.law_base.proofs.Bools.{then_tied, flip_and as and_flip, or_swap as swap_first, or_twice as twice}
+use Rattle.law_base.proofs.Tables.{row_pairs as is_row}
 
 tied_pairs : (p q : TxId × TxId) → pair_cmp p q ≡ Equal → (p.0 ≡ q.0) × (p.1 ≡ q.1)
 tied_pairs p q e = at (tx_cmp p.0 q.0) (tx_cmp p.1 q.1) (tx_true p.0 q.0) (tx_true p.1 q.1) e
@@ -31,17 +29,7 @@ tied_pairs p q e = at (tx_cmp p.0 q.0) (tx_cmp p.1 q.1) (tx_true p.0 q.0) (tx_tr
     at Equal b f g e = (f refl, g (ap is_eq e))
     at Greater b f g e = absurd cc
 
-swap_first : (a b c : Bool) → (a || (b || c)) ≡ (b || (a || c))
-swap_first true true c = refl
-swap_first true false c = refl
-swap_first false b c = refl
-
-twice : (a c : Bool) → (a || c) ≡ (a || (a || c))
-twice true c = refl
-twice false c = refl
-
 pub is_pair-insert : (new : TxId × TxId) (ps : List (TxId × TxId)) (t p : TxId) → is_pair (pair_insert new ps) t p ≡ ((tx_same t new.0 && tx_same p new.1) || is_pair ps t p)
-unfolding is_row
 is_pair-insert new [] t p = refl
 is_pair-insert new (q ∷ qs) t p = at (pair_cmp new q) refl (is_pair-insert new qs t p)
   where
@@ -53,12 +41,6 @@ is_pair-insert new (q ∷ qs) t p = at (pair_cmp new q) refl (is_pair-insert new
         let row : is_row t p q ≡ is_row t p new = sym (ap (λ x. tx_same t x && tx_same p new.1) same.0 ∙ ap (λ x. tx_same t q.0 && tx_same p x) same.1) in
         ap (λ b. b || is_pair qs t p) row ∙ twice (is_row t p new) (is_pair qs t p) ∙ ap (λ b. is_row t p new || (b || is_pair qs t p)) (sym row)
     at Greater e more = ap (λ b. is_row t p q || b) more ∙ swap_first (is_row t p q) (is_row t p new) (is_pair qs t p)
-
-and_flip : (a b : Bool) → (a && b) ≡ (b && a)
-and_flip true true = refl
-and_flip true false = refl
-and_flip false true = refl
-and_flip false false = refl
 
 turned_more : (tx pred : TxId) (pairs turned : List (TxId × TxId)) → AreTurned pairs turned → AreTurned (pair_insert (tx, pred) pairs) (pair_insert (pred, tx) turned)
 turned_more tx pred pairs turned h t p =
@@ -83,7 +65,6 @@ drop_row false false rest keeps h b e = e
 
 -- a pair is one of those that pass where it is one and passes
 is_pair-filter : (f : TxId × TxId → Bool) (ps : List (TxId × TxId)) (t p : TxId) → is_pair (filter f ps) t p ≡ (is_pair ps t p && f (t, p))
-unfolding is_row
 is_pair-filter f [] t p = refl
 is_pair-filter f (q ∷ qs) t p = pushed (f q) ∙ drop_row (f q) (is_row t p q) (is_pair qs t p) (f (t, p)) (same (tx_same t q.0) (tx_same p q.1) refl refl) (is_pair (filter f qs) t p) (is_pair-filter f qs t p)
   where

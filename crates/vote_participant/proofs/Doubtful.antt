@@ -5,15 +5,13 @@ use Rattle.std.specs.Map.{keys_of}
 use Rattle.clv_base.specs.declared.names.TxId.{TxId}
 use Rattle.clv_base.specs.declared.logs.LogRecord.{LogRecord}
 use Rattle.clv_base.specs.declared.logs.LogRecord.TheVariants.{Update, Clr, Prepare, Commit, Abort, End, Restart}
-use Rattle.clv_base.specs.Orders.{tx_cmp, tx_insert}
+use Rattle.clv_base.specs.Orders.{tx_insert}
 use Rattle.clv_base.specs.Logs.{doubt_by, in_doubt_from, in_doubt}
 use Rattle.clv_base.specs.Restarts.{homes_of}
 use Rattle.due_candidates.proofs.Laws.{insert_key-rises}
 use Rattle.vote_participant.specs.Doubtful.{DoubtfulRise}
 use Rattle.vote_participant.proofs.Setting.{tx_total}
-
-abbrev Rise : List TxId → Type 0
-Rise ts = IsStrictlySortedBy tx_cmp ts
+use Rattle.law_base.proofs.Names.{Rise}
 
 nothing_rises : Rise []
 unfolding IsStrictlySortedBy

@@ -5,17 +5,11 @@ use Rattle.script_lang.specs.declared.actions.Action.TheVariants.{Do}
 use Rattle.script_lang.specs.declared.actions.Ending.TheVariants.{Commit}
 use Rattle.script_lang.specs.Grammar.{body}
 use Rattle.workload.specs.Loads.{next_state, fill, transfers, sessions_from, transfer, session}
-
--- what is left after one more of n
-one_less : (n i : ℕ) → i < n → n - i ≡ suc (n - (i + 1))
-one_less n i h = omega arith
+use Rattle.law_base.proofs.Numbers.{minus_none as none_left, minus_suc as one_less}
 
 -- one more element, and one fewer to come
 pub grown : {A : Type 0} (items : List A) (x : A) (rest behind whole : List A) → items ++ rest ≡ whole → rest ≡ x ∷ behind → (items ++ x ∷ []) ++ behind ≡ whole
 grown items x rest behind whole h e = append_assoc items (x ∷ []) behind ∙ ap (λ r. items ++ r) (sym e) ∙ h
-
-none_left : (n i : ℕ) → n ≤ i → n - i ≡ 0
-none_left n i h = omega arith
 
 pub fill_more : (n i : ℕ) → i < n → fill i (n - i) ≡ Do (Put i 1000) ∷ fill (i + 1) (n - (i + 1))
 fill_more n i h = ap (fill i) (one_less n i h) ∙ ap (λ k. Do (Put i 1000) ∷ fill k (n - (i + 1))) (let e : suc i ≡ i + 1 = omega arith in e)

@@ -1,5 +1,5 @@
 -- A workload is a script within bounds.
-use Rattle.std.proofs.Common.{◌≡◌, ◌≢◌, refl, sym, ap, ap₂, subst, ℕ, zero, suc, ◌+◌, ◌≤◌, ◌^◌, Bool, true, false, not, ◌&&◌, ◌==◌, eqb-true, List, [], ◌∷◌, length, arith}
+use Rattle.std.proofs.Common.{◌≡◌, ◌≢◌, refl, sym, ap, subst, ℕ, zero, suc, ◌+◌, ◌≤◌, ◌^◌, Bool, true, false, not, ◌&&◌, ◌==◌, eqb-true, List, [], ◌∷◌, length, arith}
 use Rattle.std.specs.List.{list_all}
 use Rattle.std.proofs.lemmas.Bool.{lt-ltb}
 use Rattle.clv_base.specs.declared.ops.Op.TheVariants.{Put}
@@ -11,9 +11,7 @@ use Rattle.script_lang.specs.Laws.{is_word, is_narrow, is_narrow_body}
 use Rattle.workload.specs.Loads.{next_state, first_state, transfer, transfers, fill, after_filling, session, sessions_from}
 use Rattle.workload.specs.Laws.{LoadsHaveTheirSessions, LoadsAreNarrow}
 use Rattle.workload.proofs.Bounds.{keep_to_accounts}
-
-both : (a b : Bool) → a ≡ true → b ≡ true → (a && b) ≡ true
-both a b p q = ap₂ (λ x y. x && y) p q
+use Rattle.law_base.proofs.Bools.{and_true as both}
 
 word : (n : ℕ) → n ≤ 10000 → is_word n ≡ true
 word n h = lt-ltb n (2 ^ 64) (omega arith)

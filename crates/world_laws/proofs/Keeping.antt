@@ -14,6 +14,7 @@ use Rattle.protocol_laws.proofs.GrowingEvents.{log_only_grows}
 use Rattle.history_laws.proofs.Stepping.{Step, op_dies, op_answers, request_refused, request_doomed, request_again, request_new, request_closes, looks_well, looks_ill, drops, sends, prepare_closes, prepare_again, vote_counts, decision_comes, decision_again, done_counts, asked, reminds, flushes, Happens, finishes, stops, happened}
 use Rattle.history_laws.proofs.Durability.{framed_finish, happens_steps}
 use Rattle.world_laws.specs.Fronts.{FrontsFit}
+use Rattle.law_base.proofs.Shards.{same_after, same_outcome}
 
 -- an answer with a stamp that is an entry's
 pub record Stamped (stamp w : ℕ) (e : Event) (r : Reply) (o : Outcome) (t : Shard) : Type 0 where
@@ -26,12 +27,6 @@ quiet_enters h = absurd cc
 
 worn_enters : {X : Type 0} {o : Outcome} {t : Shard} → Worn ≡ Enters o t → X
 worn_enters h = absurd cc
-
-pub same_outcome : {p o : Outcome} {u t : Shard} → Enters p u ≡ Enters o t → p ≡ o
-same_outcome h = cc
-
-pub same_after : {p o : Outcome} {u t : Shard} → Enters p u ≡ Enters o t → u ≡ t
-same_after h = cc
 
 pub entered : (stamp w : ℕ) (e : Event) (room : Bool) (r : Reply) (o : Outcome) (t : Shard) → stamped stamp w e room r ≡ Enters o t → Stamped stamp w e r o t
 entered stamp w e room (QuietBeforeWorn p) o t h = quiet_enters h

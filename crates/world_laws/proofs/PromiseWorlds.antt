@@ -1,5 +1,5 @@
 -- A steady world's history is legal, so it has the promise.
-use Rattle.std.proofs.Common.{◌≡◌, inl, refl, sym, ap, subst, ◌∙◌, ℕ, zero, suc, ◌+◌, ◌<◌, true, Bool, List, [], ◌∷◌, length, Option, Some, None, arith}
+use Rattle.std.proofs.Common.{◌≡◌, inl, refl, sym, ap, subst, ◌∙◌, ℕ, zero, suc, ◌+◌, ◌<◌, true, Bool, List, [], ◌∷◌, Some, None, arith}
 use Rattle.std.specs.Prelude.{slice_get}
 use Rattle.clv_base.specs.declared.logs.LogRecord.{LogRecord}
 use Rattle.clv_base.specs.Shards.{shard_count, are_splits}
@@ -17,14 +17,7 @@ use Rattle.journal_laws.proofs.Running.{runs_fit}
 use Rattle.journal_laws.proofs.Steadily.{steady_is_legal, empty_count, empty_fits, empty_logs_may_be_opened, run_events_is_legal}
 use Rattle.clv_base.specs.Runs.{run_events}
 use Rattle.world_laws.specs.PromiseLaws.{LogsStayInOrder, WorldsKeepPromise}
-
-within : (xs : List Shard) (i : ℕ) (x : Shard) → slice_get xs i ≡ Some x → i < length xs
-within [] i x h = absurd (none_some h)
-  where
-    none_some : {a : Shard} → ◌≡◌ {A = Option Shard} None (Some a) → ⊥
-    none_some k = cc
-within (z ∷ zs) zero x h = omega arith
-within (z ∷ zs) (suc i) x h = let e = within zs i x h in omega (arith, e)
+use Rattle.law_base.proofs.Shards.{shard_inside as within}
 
 there : (w : World) (n : ℕ) (s : Shard) → slice_get w.shards n ≡ Some s → shard_at w n ≡ s
 there w n s h = ap (λ o. elim o [ Some x ↦ x | None ↦ opened n 1 [] ]) h

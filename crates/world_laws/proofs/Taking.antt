@@ -24,6 +24,7 @@ use Rattle.journal_laws.proofs.Owning.{own_append, own_mine}
 use Rattle.session_births.specs.States.{session_of}
 use Rattle.session_births.proofs.Laws.{sessions_have_states, states_go_on, states_tell_may_make}
 use Rattle.world_laws.specs.Running.{session_may}
+use Rattle.law_base.proofs.Options.{some_of}
 
 -- ---- an event that a session may not make is refused with every outcome
 
@@ -55,10 +56,6 @@ refused_after splits n t FlushOut o h = absurd (both_ways true h refl)
 refused_after splits n t FlushIn o h = absurd (both_ways true h refl)
 refused_after splits n t Stop o h = absurd (both_ways true h refl)
 refused_after splits n t Restart o h = absurd (both_ways true h refl)
-
-some_of : {A : Type 0} (o : Option A) → is_some o ≡ true → (x : A) × (o ≡ Some x)
-some_of None h = absurd (both_ways false refl h)
-some_of (Some x) h = (x, refl)
 
 refused_session : (splits : List ℕ) (run walker : ℕ) (es : History) (n : ℕ) (x : Entry) → is_session splits run walker es ≡ true → may_make splits run walker es n x.event ≡ false → is_session splits run walker (es ++ (n, x) ∷ []) ≡ false
 refused_session splits run walker es n x h m =

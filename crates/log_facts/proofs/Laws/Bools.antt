@@ -1,11 +1,6 @@
 -- Tests by cases.
-use Rattle.std.proofs.Common.{◌≡◌, Bool, true, false, cond, not, ◌&&◌, ◌||◌, List, [], ◌∷◌, refl, sym, ap, ◌∙◌}
+use Rattle.std.proofs.Common.{◌≡◌, Bool, true, false, cond, not, ◌&&◌, ◌||◌, List, [], ◌∷◌, refl, ap, ◌∙◌}
 use Rattle.std.specs.List.{list_all, filter}
-
--- a fact at each of the two values
-pub both : (P : Bool → Type 0) (b : Bool) → (b ≡ true → P true) → (b ≡ false → P false) → P b
-both P true t f = t refl
-both P false t f = f refl
 
 pub and_first : (a b : Bool) → a && b ≡ true → a ≡ true
 and_first true b e = refl
@@ -18,16 +13,6 @@ and_second false b e = absurd cc
 pub and_both : (a b : Bool) → a ≡ true → b ≡ true → a && b ≡ true
 and_both true b e f = f
 and_both false b e f = absurd cc
-
-pub not_true : (a : Bool) → not a ≡ true → a ≡ false
-not_true true e = absurd cc
-not_true false e = refl
-
--- two tests that follow from one another
-pub same_truth : (a b : Bool) → (a ≡ true → b ≡ true) → (b ≡ true → a ≡ true) → a ≡ b
-same_truth true b f g = sym (f refl)
-same_truth false true f g = g refl
-same_truth false false f g = refl
 
 pub all_same : {X : Type 0} (f g : X → Bool) → ((x : X) → f x ≡ g x) → (xs : List X) → list_all f xs ≡ list_all g xs
 all_same f g same [] = refl

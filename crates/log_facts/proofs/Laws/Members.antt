@@ -5,7 +5,7 @@ use Rattle.std.proofs.lemmas.Bool.{cases_Bool, both_ways, false_from_ne_true}
 use Rattle.clv_base.specs.declared.names.TxId.{TxId}
 use Rattle.clv_base.specs.Orders.{tx_same, tx_in, tx_insert}
 use Rattle.clv_base.proofs.SameNames.{tx_true, tx_eq, in_insert, insert_keeps, insert_has}
-use Rattle.log_facts.proofs.Laws.Names.{tx_symmetric}
+use Rattle.law_base.proofs.Sets.{same_flip as tx_symmetric}
 
 -- the two ways in which members are asked for
 pub in_flipped : (t : TxId) (xs : List TxId) → list_any (tx_same t) xs ≡ tx_in t xs

@@ -1,15 +1,12 @@
 -- Names of transactions, whichever stands first.
 use Rattle.std.proofs.Common.{◌≡◌, true, false, cond, ⊎_elim, sym, ap, ◌∙◌, Some, None}
-use Rattle.std.proofs.lemmas.Bool.{cases_Bool, both_ways}
+use Rattle.std.proofs.lemmas.Bool.{cases_Bool}
 use Rattle.clv_base.specs.declared.names.TxId.{TxId}
 use Rattle.clv_base.specs.declared.logs.LogRecord.{LogRecord}
 use Rattle.clv_base.specs.Orders.{tx_same}
 use Rattle.clv_base.specs.Logs.{own_tx, is_record_of}
-use Rattle.clv_base.proofs.SameNames.{tx_true, tx_eq, tx_flip, tx_ne}
-
--- the test doesn't ask which name stands first
-pub tx_symmetric : (a b : TxId) → tx_same a b ≡ tx_same b a
-tx_symmetric a b = ⊎_elim (λ e. e ∙ sym (tx_flip a b e)) (λ e. e ∙ sym (tx_ne b a (λ s. both_ways _ e (tx_eq a b (sym s))))) (cases_Bool (tx_same a b))
+use Rattle.clv_base.proofs.SameNames.{tx_true, tx_flip}
+use Rattle.law_base.proofs.Sets.{same_flip as tx_symmetric}
 
 -- whether a record is one's own, by its owner
 pub record_of_owner : (r : LogRecord) (t tx : TxId) → own_tx r ≡ Some tx → is_record_of t r ≡ tx_same t tx

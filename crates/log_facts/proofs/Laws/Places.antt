@@ -1,33 +1,17 @@
 -- The records at the places that a log says.
-use Rattle.std.proofs.Common.{◌≡◌, ℕ, suc, ◌+◌, ◌<◌, Bool, cond, ◌||◌, List, [], ◌∷◌, ◌++◌, length, take, drop, Option, Some, None, is_some, unwrap_or, refl, sym, ap, ◌∙◌, append_assoc, length-append, arith}
+use Rattle.std.proofs.Common.{◌≡◌, ℕ, suc, ◌+◌, ◌<◌, Bool, cond, ◌||◌, List, [], ◌∷◌, ◌++◌, length, take, drop, Option, Some, None, unwrap_or, refl, sym, ap, ◌∙◌, append_assoc, arith}
 use Rattle.std.specs.Prelude.{slice_get}
-use Rattle.std.specs.List.{list_any, find}
-use Rattle.std.proofs.Math.Seq.{get_or-append_seam}
+use Rattle.std.specs.List.{find}
 use Rattle.std.proofs.lemmas.List.{take-append-drop, length_push}
-use Rattle.std.proofs.lemmas.Option.{slice_get_read}
 use Rattle.clv_base.specs.declared.names.TxId.{TxId}
 use Rattle.clv_base.specs.declared.logs.LogRecord.{LogRecord}
 use Rattle.clv_base.specs.declared.logs.LogRecord.TheVariants.{Prepare, Commit}
 use Rattle.clv_base.specs.Orders.{tx_same}
 use Rattle.clv_base.specs.Logs.{is_prepare_of, is_commit_of, place_from, prepare_of, prepare_lsn, commit_parts, commit_lsn}
 use Rattle.clv_base.specs.LogRules.{listed_in}
-use Rattle.log_facts.proofs.Laws.Bools.{both}
 use Rattle.log_facts.specs.Lists.{record_at, home_by, listed_by, parts_by, home_at, listed_at, parts_at}
-
--- a place is there exactly where some record passes
-pub is_some_place : (n : ℕ) (test : LogRecord → Bool) (log : List LogRecord) → is_some (place_from n test log) ≡ list_any test log
-is_some_place n test [] = refl
-is_some_place n test (r ∷ log) = both (λ b. is_some (cond b (Some n) (place_from (suc n) test log)) ≡ b || list_any test log) (test r) (λ _. refl) (λ _. is_some_place (suc n) test log)
-
--- and below the log's end
-pub place_within : (n : ℕ) (test : LogRecord → Bool) (log : List LogRecord) (m : ℕ) → place_from n test log ≡ Some m → m < n + length log
-place_within n test [] m is = absurd cc
-place_within n test (r ∷ log) m is =
-    both (λ b. cond b (Some n) (place_from (suc n) test log) ≡ Some m → m < n + suc (length log)) (test r)
-    (λ _ e. let same : n ≡ m = cc in omega arith) (λ _ e. let within : m < suc n + length log = place_within (suc n) test log m e in omega arith) is
-
-get_seam : (front : List LogRecord) (r : LogRecord) (rest : List LogRecord) → slice_get (front ++ r ∷ rest) (length front) ≡ Some r
-get_seam front r rest = slice_get_read (front ++ r ∷ rest) (length (front ++ r ∷ rest)) (length front) r refl (omega (arith, length-append front (r ∷ rest))) (sym (get_or-append_seam front r rest r))
+use Rattle.law_base.proofs.Bools.{by_bool as both}
+use Rattle.law_base.proofs.Logs.{get_seam}
 
 -- the record there is the first that passes
 found_at : (test : LogRecord → Bool) (log front rest all : List LogRecord) (n : ℕ) → n ≡ length front → all ≡ front ++ (log ++ rest) → record_at all (place_from n test log) ≡ find test log

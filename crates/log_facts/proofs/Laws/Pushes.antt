@@ -1,22 +1,15 @@
 -- What one more record at the end of a log changes.
-use Rattle.std.proofs.Common.{◌≡◌, ℕ, suc, ◌<◌, ◌+◌, Bool, true, false, ◌&&◌, ◌||◌, List, [], ◌∷◌, ◌++◌, length, Some, None, refl, sym, ap, ◌∙◌, append_assoc, add-zero, zero-add, nat_lt, ◌==◌, arith}
+use Rattle.std.proofs.Common.{◌≡◌, ℕ, suc, ◌<◌, ◌+◌, Bool, true, false, ◌&&◌, ◌||◌, List, [], ◌∷◌, ◌++◌, length, None, refl, sym, ap, ◌∙◌, append_assoc, add-zero, nat_lt, ◌==◌, arith}
 use Rattle.std.specs.List.{list_any, list_all}
 use Rattle.clv_base.specs.declared.logs.LogRecord.{LogRecord}
 use Rattle.clv_base.specs.declared.logs.LogRecord.TheVariants.{Restart}
-use Rattle.clv_base.specs.Logs.{StandingUpdate, standing_from, standing_after, standing}
+use Rattle.clv_base.specs.Logs.{StandingUpdate, standing_from, standing_after}
 use Rattle.clv_base.specs.LogRules.{last_restart, above_restarts, before_restart}
-
-pub or_false : (a : Bool) → a || false ≡ a
-or_false true = refl
-or_false false = refl
+use Rattle.law_base.proofs.Bools.{or_assoc, or_false}
 
 pub and_true : (a : Bool) → a && true ≡ a
 and_true true = refl
 and_true false = refl
-
-or_assoc : (a b c : Bool) → (a || b) || c ≡ a || (b || c)
-or_assoc true b c = refl
-or_assoc false b c = refl
 
 and_assoc : (a b c : Bool) → (a && b) && c ≡ a && (b && c)
 and_assoc true b c = refl
@@ -31,11 +24,6 @@ all_push test [] y = and_true (test y)
 all_push test (x ∷ xs) y = ap (λ (b : Bool). test x && b) (all_push test xs y) ∙ sym (and_assoc (test x) (list_all test xs) (test y))
 
 -- ---- RESTARTs
-
-pub last_restart_push : (log : List LogRecord) (run epoch : ℕ) → last_restart (log ++ Restart run epoch ∷ []) ≡ Some (run, epoch)
-last_restart_push [] run epoch = refl
-last_restart_push (Restart r e ∷ rs) run epoch = rw (last_restart_push rs run epoch) refl
-last_restart_push (_ ∷ rs) run epoch = last_restart_push rs run epoch
 
 pub last_restart_other : (log : List LogRecord) (r : LogRecord) → last_restart (r ∷ []) ≡ None → last_restart (log ++ r ∷ []) ≡ last_restart log
 last_restart_other [] r other = other
@@ -67,12 +55,4 @@ standing_from_push n (h ∷ rs) r ws =
     let place : suc n + length rs ≡ n + suc (length rs) = omega arith in
     standing_from_push (suc n) rs r (standing_after n h ws) ∙ ap (λ (k : ℕ). standing_after k r (standing_from (suc n) rs (standing_after n h ws))) place
 
-pub standing_push : (log : List LogRecord) (r : LogRecord) → standing (log ++ r ∷ []) ≡ standing_after (length log) r (standing log)
-standing_push log r = standing_from_push 0 log r [] ∙ ap (λ (k : ℕ). standing_after k r (standing log)) (zero-add (length log))
-
 -- ---- falling LSNs
-
--- the places fall from the newest on, all below n
-abbrev pub Falls : ℕ → List StandingUpdate → Type 0
-Falls n [] = Unit {0}
-Falls n (w ∷ ws) = (w.lsn < n) × Falls w.lsn ws

@@ -2,7 +2,6 @@
 use Rattle.std.proofs.Common.{◌≡◌, List, [], ◌∷◌, refl, sym, ap, ◌∙◌}
 use Rattle.std.proofs.lemmas.Cmp.{then_total, on_total, nat_cmp_total}
 use Rattle.std.proofs.lemmas.Map.Lookups.{btree_set_from_contains}
-use Rattle.std.specs.List.{AllByRecursion}
 use Rattle.std.specs.List.Sorted.{IsStrictlySortedBy}
 use Rattle.std.specs.declared.cmp.Ordering.{Ordering}
 use Rattle.std.specs.declared.cmp.Ordering.TheVariants.{Less, Equal, Greater}
@@ -12,15 +11,11 @@ use Rattle.clv_base.specs.declared.names.TxId.{TxId}
 use Rattle.clv_base.specs.Orders.{tx_cmp, tx_in, tx_insert}
 use Rattle.clv_base.proofs.SameNames.{tx_true}
 use Rattle.log_facts.proofs.Laws.Members.{in_flipped}
+use Rattle.law_base.proofs.Sets.{AllAbove as Above}
+use Rattle.law_base.proofs.Names.{Rise as Rises}
 
 pub tx_total : IsTotalOrder tx_cmp
 tx_total = then_total (on_total (λ t. t.run) nat_cmp_total) (then_total (on_total (λ t. t.session) nat_cmp_total) (on_total (λ t. t.serial) nat_cmp_total))
-
-abbrev pub Rises : List TxId → Type 0
-Rises xs = IsStrictlySortedBy tx_cmp xs
-
-abbrev Above : TxId → List TxId → Type 0
-Above x ys = AllByRecursion (λ y. tx_cmp x y ≡ Less) ys
 
 above_insert : (t x : TxId) (ys : List TxId) → tx_cmp x t ≡ Less → Above x ys → Above x (tx_insert t ys)
 above_insert t x [] below above = (below, tt)

@@ -8,8 +8,9 @@ use Rattle.clv_base.specs.Orders.{tx_same}
 use Rattle.clv_base.specs.Logs.{is_prepare_of, is_commit_of, committed_in, prepared_in, prepare_of, prepare_lsn, commit_parts, commit_lsn}
 use Rattle.clv_base.specs.LogRules.{listed_in}
 use Rattle.log_facts.specs.Lists.{home_at, listed_at, parts_at}
-use Rattle.log_facts.proofs.Laws.Bools.{both}
-use Rattle.log_facts.proofs.Laws.Places.{is_some_place, home_in, home_is, listed_is, parts_is}
+use Rattle.log_facts.proofs.Laws.Places.{home_in, home_is, listed_is, parts_is}
+use Rattle.law_base.proofs.Bools.{by_bool as both}
+use Rattle.law_base.proofs.Logs.{place_is as is_some_place}
 
 pub prepare_some : (log : List LogRecord) (t : TxId) → prepared_in log t ≡ is_some (prepare_of log t)
 prepare_some [] t = refl

@@ -1,5 +1,5 @@
 -- A field that is read is the field that was written, and what was written is read again.
-use Rattle.std.proofs.Common.{◌≡◌, ℕ, zero, suc, ◌+◌, ◌-◌, ◌*◌, ◌/◌, ◌%◌, ◌^◌, ◌<◌, ◌≤◌, Bool, true, false, cond, ltb, leb, eqb, ◌&&◌, ◌⊎◌, lit<, List, [], ◌∷◌, ◌++◌, length, get_or, take, drop, Option, Some, None, refl, sym, ap, subst, ◌∙◌, append_assoc, arith, inl, inr}
+use Rattle.std.proofs.Common.{◌≡◌, ℕ, zero, suc, ◌+◌, ◌-◌, ◌*◌, ◌/◌, ◌%◌, ◌^◌, ◌<◌, ◌≤◌, Bool, true, false, cond, ltb, leb, eqb, ◌&&◌, ◌⊎◌, lit<, List, [], ◌∷◌, ◌++◌, length, take, drop, Option, Some, None, refl, sym, ap, subst, ◌∙◌, append_assoc, arith, inl, inr}
 use Rattle.std.specs.List.{flat_map, list_all}
 use Rattle.std.specs.Int.{byte_at, bytes_low_first}
 use Rattle.std.proofs.Math.Nat.{div-div-eq-div-mul, pow-succ'}
@@ -13,9 +13,7 @@ use Rattle.clv_base.specs.declared.names.TxId.{TxId}
 use Rattle.clv_base.specs.FileRules.{tx_has_spelling, is_value, is_undo_next}
 use Rattle.log_records.specs.Reading.{◌>>=◌, number_at, transaction_at, optional_at, undo_next_at, each_at, several_at, unless_greatest}
 use Rattle.log_records.specs.Spelling.{number, transaction, optional, undo_next, several}
-
-abbrev pub IsBytes : List ℕ → Type 0
-IsBytes bytes = (i : ℕ) → get_or bytes i 0 < 256
+use Rattle.law_base.proofs.Lists.{IsBytes}
 
 pub IsBytes-drop : (n : ℕ) (bytes : List ℕ) → IsBytes bytes → IsBytes (drop n bytes)
 IsBytes-drop n bytes h i = rw get_or-drop (h (n + i))

@@ -12,8 +12,9 @@ use Rattle.log_records.specs.declared.error.DecodeError.{DecodeError}
 use Rattle.log_records.specs.declared.error.DecodeError.TheVariants as errors
 use Rattle.log_records.specs.Reading.{Fails, record_at}
 use Rattle.log_records.specs.Spelling.{number, transaction, optional, undo_next, several, fields, spelling, BeginsWith}
-use Rattle.log_records.proofs.Laws.Fields.{IsBytes, some_is}
+use Rattle.log_records.proofs.Laws.Fields.{some_is}
 use Rattle.log_records.proofs.Records.{record_takes, record_again}
+use Rattle.law_base.proofs.Lists.{IsBytes}
 
 pub length-number : (width n : ℕ) → length (number width n) ≡ width
 unfolding number

@@ -7,8 +7,9 @@ use Rattle.disks_opening.proofs.Laws.{few_shards}
 use Rattle.cluster_opening.specs.ShardsOpeningOpened.{IsOpenedAt}
 use Rattle.cluster_beginning.specs.Begun.{told_as, IsTakenBack}
 use Rattle.cluster_beginning.proofs.Dealing.{passes_each}
-use Rattle.cluster_beginning.proofs.Taking.{stopped, least_run}
+use Rattle.cluster_beginning.proofs.Taking.{stopped}
 use Rattle.cluster_beginning.proofs.locking.lock_all.Goals as goal
+use Rattle.law_base.proofs.Logs.{least_run}
 
 pub open_shards-requires-clause-run : goal.open_shards-requires-clause-run
 open_shards-requires-clause-run g c = let F = c.requires.found.3 in let is = F.run_is in let least = least_run (map (λ v. v.items) c.args.found.logs.items) in omega arith

@@ -13,8 +13,9 @@ use Rattle.cluster_closing.specs.Held.{never_restarts}
 use Rattle.cluster_closing.specs.Ends.{shard_at, IsNotAmong}
 use Rattle.cluster_closing.proofs.Laws.{disks_are_found, unfetched_never_restart}
 use Rattle.cluster_closing.specs.Closing.{IsBack, IsLowestDown, lists, Returned}
-use Rattle.cluster_closing.proofs.ComingBack.{few_shards, no_gate_away, of_shards, some_elem, lists_are, is_back, gate_is_away}
+use Rattle.cluster_closing.proofs.ComingBack.{no_gate_away, of_shards, lists_are, is_back, gate_is_away}
 use Rattle.cluster_closing.proofs.closing.close.Goals as goal
+use Rattle.law_base.proofs.Lists.{few_shards, elem_at as some_elem}
 
 pub returns-clause-disks : goal.returns-clause-disks
 returns-clause-disks g c =

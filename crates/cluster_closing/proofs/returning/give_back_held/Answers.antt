@@ -4,8 +4,9 @@ use mathlib.Core.Logic.{dite}
 use native.Mathlib.Decide.{ℕ_discrete}
 use Rattle.cluster_closing.specs.Ends.{shard_at, IsNotAmong}
 use Rattle.cluster_closing.specs.Closing.{Returned}
-use Rattle.cluster_closing.proofs.ComingBack.{some_same, still_returned}
+use Rattle.cluster_closing.proofs.ComingBack.{still_returned}
 use Rattle.cluster_closing.proofs.returning.give_back_held.Goals as goal
+use Rattle.law_base.proofs.Options.{some_once as some_same}
 
 pub give_back-requires : goal.give_back-requires
 give_back-requires g c =

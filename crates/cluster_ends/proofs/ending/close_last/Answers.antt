@@ -3,8 +3,9 @@ use Rattle.turn_lock.specs.Journals.{StartsWith, entries_by}
 use Rattle.turn_lock.specs.Passes.{number}
 use Rattle.turn_laws.specs.Notes.{noter, notes_of}
 use Rattle.cluster_ends.specs.Ending.{seen_of, own_notes, origin_of}
-use Rattle.cluster_ends.proofs.Gathering.{the, some_elem}
 use Rattle.cluster_ends.proofs.ending.close_last.Goals as goal
+use Rattle.law_base.proofs.Options.{value_or as the}
+use Rattle.law_base.proofs.Lists.{elem_at as some_elem}
 
 pub gather-passes-requires-clause-walkers : goal.gather-passes-requires-clause-walkers
 gather-passes-requires-clause-walkers g c =

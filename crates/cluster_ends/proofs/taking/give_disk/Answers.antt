@@ -3,8 +3,9 @@ use Rattle.turn_laws.specs.Notes.{notes_of}
 use Rattle.turn_laws.specs.Homes.{holder_of}
 use Rattle.turn_laws.specs.Gates.{GateStands}
 use Rattle.turn_laws.proofs.Laws.{down_disk, legal_shard}
-use Rattle.cluster_ends.proofs.Giving.{is_down, gate_given, none_left, sound_given}
+use Rattle.cluster_ends.proofs.Giving.{gate_given, none_left, sound_given}
 use Rattle.cluster_ends.proofs.taking.give_disk.Goals as goal
+use Rattle.law_base.proofs.Bools.{not_true as is_down}
 
 pub returns-in-Some-clause-sound : goal.returns-in-Some-clause-sound
 returns-in-Some-clause-sound g c = let h = c.args.home.now in let s = g.M.Machine.shard h.machine in let gate = g.M.Machine.gate h.machine in

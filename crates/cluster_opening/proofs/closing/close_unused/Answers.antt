@@ -1,8 +1,9 @@
 use Rattle.std.proofs.Common.{◌<◌, get_or, length, vec_capacity, arith}
 use Rattle.turn_lock.specs.Passes.{pass_origin}
 use Rattle.turn_laws.specs.Notes.{notes_of}
-use Rattle.cluster_opening.proofs.Unused.{some_elem, all_empty, unused, same_origin, by_origin, gate_there}
+use Rattle.cluster_opening.proofs.Unused.{all_empty, unused, same_origin, by_origin, gate_there}
 use Rattle.cluster_opening.proofs.closing.close_unused.Goals as goal
+use Rattle.law_base.proofs.Lists.{elem_at as some_elem}
 
 pub take_apart-requires : goal.take_apart-requires
 take_apart-requires g c =

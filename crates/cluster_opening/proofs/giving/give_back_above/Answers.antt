@@ -3,8 +3,9 @@ use Rattle.std.proofs.lemmas.List.{take-take}
 use mathlib.Core.Logic.{dite}
 use native.Mathlib.Decide.{ℕ_discrete}
 use Rattle.cluster_opening.specs.Undone.{CameBack}
-use Rattle.cluster_opening.proofs.Back.{came_back, still_back, some_same, none_case}
+use Rattle.cluster_opening.proofs.Back.{came_back, still_back, none_case}
 use Rattle.cluster_opening.proofs.giving.give_back_above.Goals as goal
+use Rattle.law_base.proofs.Options.{some_once as some_same}
 
 pub loop-gate-preserved : goal.loop-gate-preserved
 loop-gate-preserved g c =

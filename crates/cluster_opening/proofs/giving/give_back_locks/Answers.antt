@@ -4,8 +4,9 @@ use mathlib.Core.Logic.{dite}
 use native.Mathlib.Decide.{ℕ_discrete}
 use Rattle.clv_base.specs.LogRules.{log_of}
 use Rattle.machine_calls.specs.Recovered.{IsLeft}
-use Rattle.cluster_opening.proofs.Back.{some_same, opened_at, none_case}
+use Rattle.cluster_opening.proofs.Back.{opened_at, none_case}
 use Rattle.cluster_opening.proofs.giving.give_back_locks.Goals as goal
+use Rattle.law_base.proofs.Options.{some_once as some_same}
 
 pub close_unused-requires-clause-some : goal.close_unused-requires-clause-some
 close_unused-requires-clause-some g c =

@@ -3,8 +3,9 @@ use Rattle.std.proofs.lemmas.List.{get_or_default, get_or-take, length_push, len
 use Rattle.clv_base.specs.LogRules.{log_of}
 use Rattle.machine_calls.specs.Recovered.{IsLeft}
 use Rattle.cluster_opening.specs.ShardsOpeningOpened.{IsOpenedAt, IsOpenGate}
-use Rattle.cluster_opening.proofs.Taking.{some_same, log_at, pushed_two}
+use Rattle.cluster_opening.proofs.Taking.{log_at, pushed_two}
 use Rattle.cluster_opening.proofs.shards_opening_opening.open_shards.Goals as goal
+use Rattle.law_base.proofs.Options.{some_once as some_same}
 
 pub open_shard-requires : goal.open_shard-requires
 open_shard-requires g c =

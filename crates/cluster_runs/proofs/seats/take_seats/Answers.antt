@@ -1,4 +1,4 @@
-use Rattle.std.proofs.Common.{arith, ◌≡◌, ◌∙◌, ◌+◌, ◌-◌, ℕ, suc, length, get_or, vec_len, sym, ap, subst, length-take, Option, Some, None}
+use Rattle.std.proofs.Common.{arith, ◌≡◌, ◌∙◌, ◌+◌, ◌-◌, ℕ, suc, length, get_or, vec_len, sym, ap, subst, length-take}
 use Rattle.std.proofs.lemmas.List.{get_or-take}
 use Rattle.cluster_opening.specs.Made.{IsNewWalker}
 use Rattle.session_scripts.proofs.Laws.{new_walkers_are_sessions}
@@ -6,10 +6,7 @@ use Rattle.session_scripts.specs.Standing.{Holds}
 use Rattle.cluster_runs.specs.Sessions.{IsSeated}
 use Rattle.cluster_runs.proofs.Steps.{pushed_each, bodies_at}
 use Rattle.cluster_runs.proofs.seats.take_seats.Goals as goal
-
-abbrev the : {A : Type 0} → A → Option A → A
-the d None = d
-the d (Some x) = x
+use Rattle.law_base.proofs.Options.{value_or as the}
 
 pub new-requires : goal.new-requires
 new-requires g c =

@@ -7,8 +7,9 @@ use Rattle.std.specs.List.{list_all}
 use Rattle.script_lang.specs.Laws.{is_narrow_body}
 use Rattle.cluster_runs.specs.Sessions.{IsSeated, HasSat}
 use Rattle.cluster_runs.proofs.Sending.{script_row_send}
-use Rattle.cluster_runs.proofs.Sitting.{sat, narrow_at, written}
+use Rattle.cluster_runs.proofs.Sitting.{sat, narrow_at}
 use Rattle.cluster_runs.proofs.sessions.run_seats.Goals as goal
+use Rattle.law_base.proofs.Lists.{get_or_taken as written}
 
 -- a session may be sent to a thread
 pub run_all-requires-send-C : goal.run_all-requires-send-C

@@ -5,8 +5,9 @@ use Rattle.run_status.specs.Running.{IsOk}
 use Rattle.session_scripts.specs.Standing.{IsAtRest}
 use Rattle.run_promises.specs.Sessions.{NotBegun}
 use Rattle.cluster_runs.specs.Sessions.{HasSat, went_by}
-use Rattle.cluster_runs.proofs.Gone.{some_elem, gone, none_gone, new_rest}
+use Rattle.cluster_runs.proofs.Gone.{gone, none_gone, new_rest}
 use Rattle.cluster_runs.proofs.sessions.run_sessions.Goals as goal
+use Rattle.law_base.proofs.Lists.{elem_at as some_elem}
 
 pub returns-in_default-clause-rest : goal.returns-in_default-clause-rest
 returns-in_default-clause-rest g c = λ k d l. new_rest c.args.shards.now c.args.most c.args.sessions.now (suc k) _ (c.requires.new k d l)

@@ -3,8 +3,9 @@ use Rattle.std.proofs.lemmas.List.{take-take}
 use mathlib.Core.Logic.{dite}
 use native.Mathlib.Decide.{ℕ_discrete}
 use Rattle.disks_opening.specs.Houses.{CameBack}
-use Rattle.disks_opening.proofs.OneDisk.{came_back, still_back, some_same}
+use Rattle.disks_opening.proofs.OneDisk.{came_back, still_back}
 use Rattle.disks_opening.proofs.giving.give_back_all.Goals as goal
+use Rattle.law_base.proofs.Options.{some_once as some_same}
 
 pub loop-gate-preserved : goal.loop-gate-preserved
 loop-gate-preserved g c =

@@ -1,8 +1,9 @@
 use Rattle.std.proofs.Common.{◌≡◌, map, drop, arith}
 use Rattle.std.proofs.lemmas.List.{at_drop_all}
 use Rattle.clv_base.specs.Restarts.{run_after}
-use Rattle.disks_opening.proofs.OneDisk.{least_run, run_is}
+use Rattle.disks_opening.proofs.OneDisk.{run_is}
 use Rattle.disks_opening.proofs.judging.next_run.Goals as goal
+use Rattle.law_base.proofs.Logs.{least_run}
 
 pub loop-log-init : goal.loop-log-init
 loop-log-init c = record { small = omega arith; run = (let k = least_run (map (λ v. v.items) c.args.logs.now) in omega arith) }

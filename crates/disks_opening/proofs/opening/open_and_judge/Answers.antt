@@ -5,8 +5,9 @@ use Rattle.clv_base.specs.LogRules.{apart}
 use Rattle.clv_base.specs.Restarts.{run_after}
 use Rattle.disks_opening.specs.Judging.{FaultsOfAll}
 use Rattle.disks_opening.proofs.Growing.{found}
-use Rattle.disks_opening.proofs.Stopping.{all_stopped, few_shards}
+use Rattle.disks_opening.proofs.Stopping.{all_stopped}
 use Rattle.disks_opening.proofs.opening.open_and_judge.Goals as goal
+use Rattle.law_base.proofs.Lists.{few_shards}
 
 pub returns-in-Ok-judge_all-clause-found : goal.returns-in-Ok-judge_all-clause-found
 returns-in-Ok-judge_all-clause-found g c =

@@ -4,8 +4,9 @@ use Rattle.clv_base.specs.Orders.{tx_in, tx_same}
 use Rattle.clv_base.specs.Undo.{doomed_by}
 use Rattle.due_candidates.proofs.Laws.{room_own, insert_in}
 use Rattle.due_step.specs.Noting.{ruled_touches, touches}
-use Rattle.due_step.proofs.Noted.{room_more, own_doomed, ruled_doomed, joined}
+use Rattle.due_step.proofs.Noted.{room_more, own_doomed, ruled_doomed}
 use Rattle.due_step.proofs.noting.note_touched.Goals as goal
+use Rattle.law_base.proofs.Bools.{or_regroup as joined}
 
 pub insert-requires : goal.insert-requires
 insert-requires g c =

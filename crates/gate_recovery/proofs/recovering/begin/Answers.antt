@@ -1,10 +1,10 @@
 use Rattle.std.proofs.Common.{◌≡◌, ap, sym, ◌∙◌, subst, map}
 use Rattle.clv_base.specs.Logs.{in_doubt}
 use Rattle.clv_base.specs.Restarts.{losers, homes_of}
-use Rattle.log_facts.proofs.Laws.Rising.{Rises}
 use Rattle.gate_recovery.proofs.Spelled.{losers_rise}
-use Rattle.gate_recovery.proofs.Begun.{firsts_are}
 use Rattle.gate_recovery.proofs.recovering.begin.Goals as goal
+use Rattle.law_base.proofs.Names.{Rise as Rises}
+use Rattle.law_base.proofs.Logs.{firsts_are}
 
 pub restart-requires-clause-rising : goal.restart-requires-clause-rising
 restart-requires-clause-rising g c =

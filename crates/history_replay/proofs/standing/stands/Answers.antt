@@ -1,8 +1,8 @@
 use Rattle.std.proofs.Common.{[], map, ◌∙◌}
 use Rattle.clv_base.specs.Logs.{committed_somewhere}
 use Rattle.history_replay.specs.Transactions.{has_member}
-use Rattle.history_replay.proofs.Folding.{same_test}
 use Rattle.history_replay.proofs.standing.stands.Goals as goal
+use Rattle.law_base.proofs.Logs.{stands_alike as same_test}
 
 pub returns : goal.returns
 returns c =

@@ -10,8 +10,9 @@ use Rattle.world_laws.specs.Fronts.{LandsBy}
 use Rattle.world_laws.proofs.Laws.{stands, lands_by}
 use Rattle.world_laws.specs.Running.{is_offered, run_step}
 use Rattle.interleaving_core.specs.Sound.{world_by, AreSound}
-use Rattle.interleaving_core.proofs.Advancing.{shard_there, seat_at, session_one, refused, rival, few_shards, on_success, free_there, one_not, made_none, made_some}
+use Rattle.interleaving_core.proofs.Advancing.{shard_there, seat_at, session_one, refused, rival, few_shards, free_there, one_not, made_none, made_some}
 use Rattle.interleaving_core.proofs.running.advance.Goals as goal
+use Rattle.law_base.proofs.Options.{on_success}
 
 pub is_offered-requires-clause-shards : goal.is_offered-requires-clause-shards
 is_offered-requires-clause-shards g c =

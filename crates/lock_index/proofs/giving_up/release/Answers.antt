@@ -1,11 +1,9 @@
-use Rattle.std.proofs.Common.{◌≡◌, ℕ, ◌<◌, ◌+◌, sym, ◌∙◌, ap, Bool, cond, length, is_some, arith}
+use Rattle.std.proofs.Common.{◌≡◌, ℕ, ◌<◌, ◌+◌, sym, ◌∙◌, ap, cond, length, is_some, arith}
 use Rattle.lock_index.specs.Groups.{rows_of}
 use Rattle.lock_index.specs.Rows.{groups}
 use Rattle.lock_index.proofs.Ties.{goes_on, ended, shorter}
 use Rattle.lock_index.proofs.giving_up.release.Goals as goal
-
-abbrev flag : Bool → ℕ
-flag b = cond b 1 0
+use Rattle.law_base.proofs.Numbers.{one_if as flag}
 
 pub loop-more-smaller : goal.loop-more-smaller
 loop-more-smaller c = let before = rows_of (groups c.loop-more.groups.entries) in let after = rows_of (groups c.release_next.new.groups.entries) in

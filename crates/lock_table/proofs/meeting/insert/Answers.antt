@@ -1,7 +1,8 @@
 use Rattle.std.proofs.Common.{sym, ◌∙◌, ap, ◌≡◌, None, Some, position, is_eq, if◌then◌else◌, is_ok, ◌++◌, ◌∷◌, []}
 use Rattle.std.specs.List.{insert}
-use Rattle.lock_table.proofs.Places.{reached, put_last, put_merged, put_before, tx_side, tx_insert-put, set_same}
+use Rattle.lock_table.proofs.Places.{reached, put_last, put_merged, put_before, tx_side, tx_insert-put}
 use Rattle.lock_table.proofs.meeting.insert.Goals as goal
+use Rattle.law_base.proofs.Lists.{set_same}
 
 pub returns-in-Ok : goal.returns-in-Ok
 returns-in-Ok c = let tx = c.args.tx in let txs = c.args.txs.now.items in

@@ -2,8 +2,8 @@ use Rattle.std.proofs.Common.{◌≡◌, sym, subst, ◌-◌, drop, true, List}
 use Rattle.std.specs.List.{list_all}
 use Rattle.clv_base.specs.declared.logs.LogRecord.{LogRecord}
 use Rattle.clv_base.specs.FileRules.{has_spelling}
-use Rattle.log_flush.proofs.Flying.{all_taken, all_dropped}
 use Rattle.log_flush.proofs.payload.lay_out.Goals as goal
+use Rattle.law_base.proofs.Logs.{spelled_taken as all_taken, spelled_dropped as all_dropped}
 
 pub spell-requires-clause-spelled : goal.spell-requires-clause-spelled
 spell-requires-clause-spelled c =

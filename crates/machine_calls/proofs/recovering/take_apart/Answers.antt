@@ -1,8 +1,9 @@
 use Rattle.std.proofs.Common.{◌≡◌, ◌∙◌, ap, sym, subst}
 use Rattle.clv_base.specs.Restarts.{log_after_restart}
 use Rattle.log_gate.specs.View.{Only}
-use Rattle.machine_calls.proofs.Leaving.{left_whole, some_same}
+use Rattle.machine_calls.proofs.Leaving.{left_whole}
 use Rattle.machine_calls.proofs.recovering.take_apart.Goals as goal
+use Rattle.law_base.proofs.Options.{some_once as some_same}
 
 pub returns-clause-left : goal.returns-clause-left
 returns-clause-left g c = λ n found run before is. (let G = g.M.Gate.Gate in let gate = c.unwrap.result in

@@ -1,8 +1,8 @@
 use Rattle.std.proofs.Common.{◌≡◌, sym, ◌∙◌, ap, subst}
 use Rattle.clv_base.specs.Restarts.{losers}
-use Rattle.log_facts.proofs.Laws.Rising.{Rises}
 use Rattle.restart_misfit.proofs.Rising.{losers_rise}
 use Rattle.restart_misfit.proofs.expecting.restarted.Goals as goal
+use Rattle.law_base.proofs.Names.{Rise as Rises}
 
 pub restart-requires-clause-rising : goal.restart-requires-clause-rising
 restart-requires-clause-rising c =

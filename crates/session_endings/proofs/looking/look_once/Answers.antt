@@ -1,8 +1,9 @@
 use Rattle.std.proofs.Common.{◌≡◌, true, sym, subst}
 use Rattle.session_ops.specs.Looked.{is_look_outcome}
 use Rattle.session_endings.specs.Settled.{Settling, PlacedBy, StandsBy, looked_as}
-use Rattle.session_endings.proofs.Seeing.{looked_once, looked_placed, looked_stands, if_ok}
+use Rattle.session_endings.proofs.Seeing.{looked_once, looked_placed, looked_stands}
 use Rattle.session_endings.proofs.looking.look_once.Goals as goal
+use Rattle.law_base.proofs.Options.{if_ok}
 
 pub returns-clause-turns : goal.returns-clause-turns
 returns-clause-turns g c = let w = c.args.walker.now in let v = c.look-answer.new.walker in let n = c.args.home in let p = c.args.place.now in let r = c.look-answer.result in

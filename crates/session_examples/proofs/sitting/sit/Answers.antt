@@ -1,11 +1,8 @@
-use Rattle.std.proofs.Common.{◌∙◌, sym, ap, subst, arith, Option, Some, None}
+use Rattle.std.proofs.Common.{◌∙◌, sym, ap, subst, arith}
 use Rattle.session_api.specs.declared.progress.Progress.TheVariants.{Idle}
 use Rattle.session_scripts.specs.Standing.{Holds}
 use Rattle.session_examples.proofs.sitting.sit.Goals as goal
-
-abbrev the : {A : Type 0} → A → Option A → A
-the d None = d
-the d (Some x) = x
+use Rattle.law_base.proofs.Options.{value_or as the}
 
 pub new-requires : goal.new-requires
 new-requires g c = record {

@@ -2,8 +2,9 @@ use Rattle.std.proofs.Common.{◌∙◌, ◌<◌, sym, ap, subst, refl, arith, s
 use Rattle.session_scripts.specs.Standing.{IsAtRest}
 use Rattle.session_examples.specs.Walkers.{IsSeated}
 use Rattle.session_examples.proofs.Walking.{rests_as, rest_new, all_behind}
-use Rattle.session_examples.proofs.Seats.{some_one, written, seat_rests}
+use Rattle.session_examples.proofs.Seats.{seat_rests}
 use Rattle.session_examples.proofs.together.transfer_and_drain.Goals as goal
+use Rattle.law_base.proofs.Lists.{elem_at as some_one, get_or_taken as written}
 
 pub drain_together-requires-clause-rest : goal.drain_together-requires-clause-rest
 drain_together-requires-clause-rest g c κs within =

@@ -4,8 +4,9 @@ use Rattle.std.specs.Map.{lookup}
 use Rattle.clv_base.specs.declared.events.Event.TheVariants.{Op}
 use Rattle.session_ops.specs.Standing.{is_op_outcome}
 use Rattle.session_ops.specs.Operated.{tried, Operated, PlacedBy, StandsBy}
-use Rattle.session_ops.proofs.Trying.{tried_once, tried_placed, tried_stands, if_ok}
+use Rattle.session_ops.proofs.Trying.{tried_once, tried_placed, tried_stands}
 use Rattle.session_ops.proofs.operating.try_once.Goals as goal
+use Rattle.law_base.proofs.Options.{if_ok}
 
 pub returns-clause-turns : goal.returns-clause-turns
 returns-clause-turns g c birth is = let w = c.args.walker.now in let v = c.ask-answer.new.walker in let n = c.args.shard in let p = c.args.place.now in let r = c.ask-answer.result in

@@ -1,16 +1,12 @@
 -- A CLR for each UPDATE, and an ABORT for each that wrote, is what an undo may write.
-use Rattle.std.proofs.Common.{◌≡◌, sym, ap, ◌∙◌, arith, List, Result, Ok, Err}
-use Rattle.std.specs.Prelude.{OnOk}
+use Rattle.std.proofs.Common.{◌≡◌, sym, ap, ◌∙◌, arith, List}
 use Rattle.clv_base.specs.declared.logs.LogRecord.{LogRecord}
 use Rattle.clv_base.specs.Orders.{tx_in}
 use Rattle.txn_core.specs.Sound.{updates_by}
 use Rattle.txn_core.proofs.Laws.{writers_at_most}
-use Rattle.shard_restoring.proofs.Whole.{whole_range}
 use Rattle.shard_restoring.proofs.restoring.reserve_undo.Goals as goal
-
-on_success : {A E : Type 0} (r : Result A E) (P Q : Type 0) → (P → Q) → OnOk r P → OnOk r Q
-on_success (Ok x) P Q f h = f h
-on_success (Err e) P Q f h = h
+use Rattle.law_base.proofs.Lists.{whole_range}
+use Rattle.law_base.proofs.Options.{on_success}
 
 pub returns-clause-ok : goal.returns-clause-ok
 returns-clause-ok c =

@@ -7,13 +7,15 @@ use Rattle.clv_base.specs.Logs.{in_doubt}
 use Rattle.clv_base.specs.State.{Local}
 use Rattle.clv_base.specs.Restarts.{restored_locks, restored_parts}
 use Rattle.std.specs.List.Sorted.{IsStrictlySortedBy}
-use Rattle.log_facts.proofs.Laws.Rising.{Rises}
 use Rattle.txn_core.specs.Sound.{IsKept}
 use Rattle.txn_core.specs.State.{AreSettled}
-use Rattle.shard_restoring.proofs.Doubted.{doubt_rises, firsts_are}
+use Rattle.shard_restoring.proofs.Doubted.{doubt_rises}
 use Rattle.shard_restoring.proofs.Listed.{restored_rise}
-use Rattle.shard_restoring.proofs.Whole.{local_is, kept_is, whole_range}
+use Rattle.shard_restoring.proofs.Whole.{local_is, kept_is}
 use Rattle.shard_restoring.proofs.restoring.restored.Goals as goal
+use Rattle.law_base.proofs.Names.{Rise as Rises}
+use Rattle.law_base.proofs.Logs.{firsts_are}
+use Rattle.law_base.proofs.Lists.{whole_range}
 
 pub parts_of-requires : goal.parts_of-requires
 parts_of-requires g c =

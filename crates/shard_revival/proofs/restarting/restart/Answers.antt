@@ -8,8 +8,9 @@ use Rattle.shard_revival.proofs.Laws.{at_end, left_begun}
 use Rattle.shard_revival.specs.Revived.{IsReadyFor}
 use Rattle.shard_revival.specs.Restarted.{no_turn, one_turn}
 use Rattle.shard_revival.proofs.Holding.{walked_ok, walked_err}
-use Rattle.shard_revival.proofs.Readying.{least_run, counts_keep, ready_for, held_as, held_still, held_after}
+use Rattle.shard_revival.proofs.Readying.{counts_keep, ready_for, held_as, held_still, held_after}
 use Rattle.shard_revival.proofs.restarting.restart.Goals as goal
+use Rattle.law_base.proofs.Logs.{least_run}
 
 pub recover_disk-requires : goal.recover_disk-requires
 recover_disk-requires g c = record { run = (let k = least_run (founds_of c.args.shards.now) in let r = c.requires.walker.run in omega arith) }

@@ -1,9 +1,9 @@
 use mir.Val.{bool_byte}
 use Rattle.std.proofs.Common.{◌≡◌, Bool, true, false, refl, suc, add-one, ap, ◌∙◌, arith}
 use Rattle.std.proofs.lemmas.List.{take_all}
-use Rattle.txn_core.proofs.Counting.{one_if}
 use Rattle.txn_core.proofs.Totals.{total_of, total_next, total_fits, total_told}
 use Rattle.txn_core.proofs.trimming.owed_to.Goals as goal
+use Rattle.law_base.proofs.Numbers.{one_if}
 
 byte_is : (b : Bool) → bool_byte b ≡ one_if b
 byte_is true = refl

@@ -1,6 +1,7 @@
 use Rattle.std.proofs.Common.{sym, ◌∙◌, arith}
-use Rattle.txn_core.proofs.Returning.{one_rises, own_fits}
+use Rattle.txn_core.proofs.Returning.{own_fits}
 use Rattle.txn_core.proofs.trimming.room_without.Goals as goal
+use Rattle.law_base.proofs.Names.{one_rises}
 
 pub room_beyond-requires-clause-rising : goal.room_beyond-requires-clause-rising
 room_beyond-requires-clause-rising c = one_rises c.args.tx

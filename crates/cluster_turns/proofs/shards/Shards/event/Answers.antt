@@ -4,8 +4,9 @@ use Rattle.turn_lock.specs.Passes.{number, pass_origin, IsPassOf}
 use Rattle.machine_calls.specs.Events.{event_fits}
 use Rattle.cluster_turns.specs.Turns.{Turned, EventTold}
 use Rattle.cluster_turns.specs.Walkers.{IsWalkerOf, Walked, GoesOn, kept, founds_of}
-use Rattle.cluster_turns.proofs.Walking.{walks, still_pass, event_adds, event_rises, the, some_inj}
+use Rattle.cluster_turns.proofs.Walking.{walks, still_pass, event_adds, event_rises}
 use Rattle.cluster_turns.proofs.shards.Shards.event.Goals as goal
+use Rattle.law_base.proofs.Options.{value_or as the, some_inj}
 
 pub unwrap-pass-requires : goal.unwrap-pass-requires
 unwrap-pass-requires g c = let t = c.requires.walker.walks.are_passes.each c.args.shard c.index_mut.result.now c.requires.shard in let is : c.take.result ≡ Some t.0 = c.take.ensures.value ∙ (c.index_mut.ensures.value ∙ t.1) in search rules

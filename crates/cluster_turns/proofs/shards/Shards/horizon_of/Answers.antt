@@ -2,8 +2,9 @@ use Rattle.std.proofs.Common.{rules, arith, ◌≡◌, ◌∙◌, ◌<◌, ◌�
 use Rattle.std.proofs.lemmas.List.{get_or_default, set-set}
 use Rattle.turn_lock.specs.Passes.{known, IsPassOf, IsSamePass}
 use Rattle.cluster_turns.specs.Walkers.{IsWalkerOf, IsPassAt, founds_of}
-use Rattle.cluster_turns.proofs.Walking.{looks, the}
+use Rattle.cluster_turns.proofs.Walking.{looks}
 use Rattle.cluster_turns.proofs.shards.Shards.horizon_of.Goals as goal
+use Rattle.law_base.proofs.Options.{value_or as the}
 
 pub unwrap-pass-requires : goal.unwrap-pass-requires
 unwrap-pass-requires g c = let t = c.requires.walker.walks.are_passes.each c.args.shard c.index_mut.result.now c.requires.shard in let is : c.take.result ≡ Some t.0 = c.take.ensures.value ∙ (c.index_mut.ensures.value ∙ t.1) in search rules

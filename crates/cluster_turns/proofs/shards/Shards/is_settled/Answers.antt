@@ -5,8 +5,9 @@ use Rattle.turn_lock.specs.Passes.{number, IsPassOf}
 use Rattle.turn_laws.specs.Homes.{entries_in}
 use Rattle.cluster_turns.specs.Turns.{Turned, SettledTold}
 use Rattle.cluster_turns.specs.Walkers.{IsWalkerOf, Walked, kept, founds_of}
-use Rattle.cluster_turns.proofs.Walking.{Adds, none, walks, still_pass, the}
+use Rattle.cluster_turns.proofs.Walking.{Adds, none, walks, still_pass}
 use Rattle.cluster_turns.proofs.shards.Shards.is_settled.Goals as goal
+use Rattle.law_base.proofs.Options.{value_or as the}
 
 pub unwrap-pass-requires : goal.unwrap-pass-requires
 unwrap-pass-requires g c = let t = c.requires.walker.walks.are_passes.each c.args.shard c.index_mut.result.now c.requires.shard in let is : c.take.result ≡ Some t.0 = c.take.ensures.value ∙ (c.index_mut.ensures.value ∙ t.1) in search rules

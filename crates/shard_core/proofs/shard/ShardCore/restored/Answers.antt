@@ -7,10 +7,11 @@ use Rattle.clv_base.specs.Coordinator.{restored_requests}
 use Rattle.clv_base.specs.Participant.{restored_voters}
 use Rattle.clv_base.specs.Restarts.{homes_of, unended_in}
 use Rattle.txn_core.specs.State.{TxState}
-use Rattle.shard_core.proofs.Made.{AreMade, whole_range, made_is, made_rests, made_holds}
+use Rattle.shard_core.proofs.Made.{AreMade, made_is, made_rests, made_holds}
 use Rattle.shard_core.proofs.Parts.{Parts}
 use Rattle.shard_core.proofs.shard.ShardCore.restored.Given as given
 use Rattle.shard_core.proofs.shard.ShardCore.restored.Goals as goal
+use Rattle.law_base.proofs.Lists.{whole_range}
 
 unfoldable after : (g : given.Over) (c : goal.In-Ok-reserve g) → Parts
 after g c = record { shard = c.args.shard; run = c.args.run; transactions = c.reserve.new.self; participant = c.in-Ok-new.participant; coordinator = c.in-Ok-home_of.coordinator; prepares = c.in-Ok.prepares; outbox = c.in-Ok-outbox_for.outbox; candidates = c.in-Ok-candidates_for.candidates }

@@ -2,8 +2,8 @@
 use Rattle.std.proofs.Common.{◌≡◌, ◌∙◌, ap, subst, is_some}
 use Rattle.clv_base.specs.Logs.{is_commit_of, committed_in}
 use Rattle.txn_core.specs.State.{TxState}
-use Rattle.txn_core.proofs.Places.{place_is}
 use Rattle.txn_core.proofs.shard.ShardTx.is_committed.Goals as goal
+use Rattle.law_base.proofs.Logs.{place_is}
 
 pub returns : goal.returns
 returns g c =
