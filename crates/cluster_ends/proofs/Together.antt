@@ -44,7 +44,7 @@ shared_by w (Fetched v ∷ ns) = at (v == w) (shared_by w ns)
     at true h = h
     at false h = h
 
-map_at : {X : Type 0} (f : X → List Entry) (xs : List X) (n : ℕ) (d : X) → n < length xs → journal_at (map f xs) n ≡ f (get_or xs n d)
+pub map_at : {X : Type 0} (f : X → List Entry) (xs : List X) (n : ℕ) (d : X) → n < length xs → journal_at (map f xs) n ≡ f (get_or xs n d)
 map_at f [] n d l = absurd (omega arith)
 map_at f (x ∷ xs) zero d l = refl
 map_at f (x ∷ xs) (suc n) d l = map_at f xs n d (omega arith)
@@ -53,7 +53,7 @@ map_length : {X Y : Type 0} (f : X → Y) (xs : List X) → length (map f xs) �
 map_length f [] = refl
 map_length f (x ∷ xs) = ap suc (map_length f xs)
 
-state_here : {H : Type 0} (state : H → Shard) (founds : List (List LogRecord)) (homes : List H) (n : ℕ) (d : H) → n < length homes → state_at state founds homes n ≡ state (get_or homes n d)
+pub state_here : {H : Type 0} (state : H → Shard) (founds : List (List LogRecord)) (homes : List H) (n : ℕ) (d : H) → n < length homes → state_at state founds homes n ≡ state (get_or homes n d)
 state_here state founds homes n d l = ap (λ o. elim o [ Some h ↦ state h | None ↦ start_of founds n ]) (some_at homes n d l)
 
 at_own : {T : Type 0} (ps : List (Option (Pass T Note Origin))) (n : ℕ) → journal_at (own_lists ps) n ≡ entries_in (own_notes (get_or ps n None))

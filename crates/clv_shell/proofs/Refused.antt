@@ -1,5 +1,5 @@
 -- Words that are refused.
-use Rattle.std.proofs.Common.{◌≡◌, refl, sym, subst, inl, inr, ℕ, List, [], Option, Some, None}
+use Rattle.std.proofs.Common.{◌≡◌, refl, sym, subst, inr, ℕ, List, Option, Some, None}
 use Rattle.disk_model.specs.Story.{Story}
 use Rattle.disk_model.specs.Disk.{Tells}
 use Rattle.log_gate.specs.Opening.{IsUnchanged}
@@ -18,6 +18,7 @@ use Rattle.clv_shell.specs.Disks.{ClosedBy}
 use Rattle.clv_shell.specs.Reading.{ReadsBy}
 use Rattle.clv_shell.specs.Completing.{IsCompleted}
 use Rattle.clv_shell.specs.Top.{IsRefusedWords, HasCommand}
+use Rattle.disks_opening.proofs.Laws.{same_story as still}
 
 -- ---- no command
 
@@ -34,13 +35,6 @@ wanting (Load s n a t) = tt
 pub kind : (texts : List (List ℕ)) (e : WordsError) (status : Status) → status ≡ of_words e → (e ≡ words.Usage → (c : Command) → IsCommand texts c → ⊥) → HasCommand texts (λ c. IsOfCommand c status)
 kind texts words.Usage status is none c also = absurd (none refl c also)
 kind texts words.Memory status is none c also = subst (IsOfCommand c) (sym is) (wanting c)
-
-still : (s : Story) → IsUnchanged s s
-still s =
-    record {
-      same = refl;
-      moments = record { start = refl; newer = []; calls = refl; images = (λ image is. inl is) };
-    }
 
 pub unwritten : (stories : ℕ → Option Story) → AreUnchanged stories stories
 unwritten stories n = told (stories n)

@@ -1,15 +1,13 @@
 -- Words are one command.
 use Rattle.std.proofs.Common.{◌≡◌, refl, sym, ap, subst, ◌∙◌, ℕ, ◌<◌, ◌≤◌, List, [], ◌∷◌, Option, Some, None, arith}
 use Rattle.clap.specs.Words.{Row, Text}
-use Rattle.script_lang.specs.Grammar.{IsNumber}
-use Rattle.command_words.specs.Commands.{IsGiven, AreTries, AreNumbers, Says, IsCommand}
+use Rattle.command_words.specs.Commands.{IsGiven, AreTries, Says, IsCommand}
 use Rattle.command_words.specs.declared.commands.Command.{Command}
 use Rattle.command_words.specs.declared.commands.Command.TheVariants.{Make, Run, Show, Load}
 use Rattle.clv_shell.specs.Top.{HasCommand, IsWithinBounds}
 use Rattle.law_base.proofs.Numbers.{below_differs as less}
-
-number_once : (word : List ℕ) (m n : ℕ) → IsNumber word m → IsNumber word n → m ≡ n
-number_once word m n p q = sym p.value ∙ q.value
+use Rattle.script_lang.proofs.Laws.{number_once}
+use Rattle.command_words.proofs.Laws.{numbers_once}
 
 given_once : (o : Option Text) (m n : ℕ) → IsGiven o m → IsGiven o n → m ≡ n
 given_once None m n p q = absurd p
@@ -18,17 +16,6 @@ given_once (Some word) m n p q = number_once word m n p q
 tries_once : (o : Option Text) (m n : ℕ) → AreTries o m → AreTries o n → m ≡ n
 tries_once None m n p q = p ∙ sym q
 tries_once (Some word) m n p q = number_once word m n p.0 q.0
-
-numbers_once : (words : List Text) (ms ns : List ℕ) → AreNumbers words ms → AreNumbers words ns → ms ≡ ns
-numbers_once [] [] [] p q = refl
-numbers_once [] [] (n ∷ ns) p q = absurd q
-numbers_once [] (m ∷ ms) ns p q = absurd p
-numbers_once (word ∷ words) [] ns p q = absurd p
-numbers_once (word ∷ words) (m ∷ ms) [] p q = absurd q
-numbers_once (word ∷ words) (m ∷ ms) (n ∷ ns) p q =
-    let e : m ≡ n = number_once word m n p.0 q.0 in
-    let f : ms ≡ ns = numbers_once words ms ns p.1 q.1 in
-    cc
 
 -- the first letter of each command's name differs
 abbrev first_letter : List ℕ → ℕ

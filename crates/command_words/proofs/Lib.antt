@@ -3,3 +3,4 @@ pub mod Numbers
 pub mod Lists
 pub mod Programs
 pub mod Sayings
+pub mod Laws

@@ -5,8 +5,8 @@ use Rattle.clap.specs.Words.{Text}
 use Rattle.script_lang.specs.Grammar.{IsNumber}
 use Rattle.command_words.specs.Commands.{AreNumbers}
 use Rattle.command_words.specs.Steps.{texts}
-use Rattle.command_words.proofs.Numbers.{number_once}
 use Rattle.std.proofs.lemmas.List.{map-append}
+use Rattle.script_lang.proofs.Laws.{number_once}
 
 pub numbers_more : (words : List Text) (list : List ℕ) (word : Text) (n : ℕ) → AreNumbers words list → IsNumber word n → AreNumbers (words ++ word ∷ []) (list ++ n ∷ [])
 numbers_more [] [] word n all one = (one, tt)

@@ -87,7 +87,7 @@ record Fields (a b c d : Bool) (rest : Result (List ℕ) ℕ) (splits : List ℕ
   pub is : rest ≡ Ok splits
   pub other : (e : Bool) (more : Result (List ℕ) ℕ) → e ≡ true → behind_field a 0 (behind_field b 8 (behind_field c 12 (behind_field e 16 more))) ≡ more
 
-fields : (a b c d : Bool) (rest : Result (List ℕ) ℕ) (splits : List ℕ) → behind_field a 0 (behind_field b 8 (behind_field c 12 (behind_field d 16 rest))) ≡ Ok splits → Fields a b c d rest splits
+pub fields : (a b c d : Bool) (rest : Result (List ℕ) ℕ) (splits : List ℕ) → behind_field a 0 (behind_field b 8 (behind_field c 12 (behind_field d 16 rest))) ≡ Ok splits → Fields a b c d rest splits
 fields true true true true rest splits e = record { count = refl; is = e; other = λ d more is. ap (λ o. behind_field o 16 more) is }
 fields true true true false rest splits e = absurd (let k : ◌≡◌ {A = Result (List ℕ) ℕ} (Err 16) (Ok splits) = e in cc)
 fields true true false d rest splits e = absurd (let k : ◌≡◌ {A = Result (List ℕ) ℕ} (Err 12) (Ok splits) = e in cc)
@@ -123,7 +123,7 @@ header_agreed n image a splits e =
 
 -- ---- the log behind it
 
-header_behind : (passes : List ℕ → LogRecord → Bool) (image : List ℕ) (h : Result (List ℕ) ℕ) (splits : List ℕ) (log : List LogRecord) → behind_header passes image h ≡ Ok (splits, log) → h ≡ Ok splits
+pub header_behind : (passes : List ℕ → LogRecord → Bool) (image : List ℕ) (h : Result (List ℕ) ℕ) (splits : List ℕ) (log : List LogRecord) → behind_header passes image h ≡ Ok (splits, log) → h ≡ Ok splits
 header_behind passes image (Ok found) splits log e = by (record_log _ _ image) e
   where
     by : (r : Result (List LogRecord) ℕ) → with_header found r ≡ Ok (splits, log) → ◌≡◌ {A = Result (List ℕ) ℕ} (Ok found) (Ok splits)

@@ -1,12 +1,11 @@
 -- A log that is read under splits that were agreed on is read without them.
-use Rattle.std.proofs.Common.{◌≡◌, refl, sym, ◌∙◌, ap, ℕ, zero, suc, ◌+◌, ◌-◌, ◌*◌, List, ◌∷◌, length, take, drop, Option, Some, None, Result, Ok, Err, Bool, true, false, cond, ◌&&◌, nat_eq, nat_le}
+use Rattle.std.proofs.Common.{◌≡◌, refl, sym, ◌∙◌, ap, ℕ, zero, suc, ◌+◌, ◌-◌, ◌*◌, List, ◌∷◌, length, take, drop, Some, None, Result, Ok, Err, Bool, true, false, cond, ◌&&◌, nat_eq, nat_le}
 use Rattle.byteorder.specs.Endian.{little_number}
 use Rattle.clv_base.specs.declared.logs.LogRecord.{LogRecord}
 use Rattle.clv_base.specs.FileRules.{passes_file_rules}
 use Rattle.log_gate.specs.Header.{with_split, splits_from, agrees_at, has_number, has_count, same_bytes, magic, behind_field, header_of}
-use Rattle.log_gate.specs.Image.{with_header, behind_header, checked_log}
-use Rattle.log_gate.specs.Records.{record_log}
-use Rattle.law_base.proofs.Logs.{splits_in}
+use Rattle.log_gate.specs.Image.{behind_header, checked_log}
+use Rattle.disks_opening.proofs.Headers.{fields, header_behind}
 
 -- ---- splits, one after another
 
@@ -47,13 +46,6 @@ record Fields (a b c d : Bool) (rest : Result (List ℕ) ℕ) (splits : List ℕ
   pub is : rest ≡ Ok splits
   pub other : (e : Bool) (more : Result (List ℕ) ℕ) → e ≡ true → behind_field a 0 (behind_field b 8 (behind_field c 12 (behind_field e 16 more))) ≡ more
 
-fields : (a b c d : Bool) (rest : Result (List ℕ) ℕ) (splits : List ℕ) → behind_field a 0 (behind_field b 8 (behind_field c 12 (behind_field d 16 rest))) ≡ Ok splits → Fields a b c d rest splits
-fields true true true true rest splits e = record { count = refl; is = e; other = λ d more is. ap (λ o. behind_field o 16 more) is }
-fields true true true false rest splits e = absurd (let k : ◌≡◌ {A = Result (List ℕ) ℕ} (Err 16) (Ok splits) = e in cc)
-fields true true false d rest splits e = absurd (let k : ◌≡◌ {A = Result (List ℕ) ℕ} (Err 12) (Ok splits) = e in cc)
-fields true false c d rest splits e = absurd (let k : ◌≡◌ {A = Result (List ℕ) ℕ} (Err 8) (Ok splits) = e in cc)
-fields false b c d rest splits e = absurd (let k : ◌≡◌ {A = Result (List ℕ) ℕ} (Err 0) (Ok splits) = e in cc)
-
 -- a count that is as agreed is one
 counts : (a b c d : Bool) → (a && (b && (c && d))) ≡ true → (a && (b && (c && true))) ≡ true
 counts true true true d e = refl
@@ -70,14 +62,6 @@ header_unagreed n image a splits e =
     ∙ splits_unagreed a (m - 1) 0 0 (drop 20 image) splits f.is
 
 -- ---- the log behind it
-
-header_behind : (passes : List ℕ → LogRecord → Bool) (image : List ℕ) (h : Result (List ℕ) ℕ) (splits : List ℕ) (log : List LogRecord) → behind_header passes image h ≡ Ok (splits, log) → h ≡ Ok splits
-header_behind passes image (Ok found) splits log e = by (record_log _ _ image) e
-  where
-    by : (r : Result (List LogRecord) ℕ) → with_header found r ≡ Ok (splits, log) → ◌≡◌ {A = Result (List ℕ) ℕ} (Ok found) (Ok splits)
-    by (Ok records) e = let k : ◌≡◌ {A = Option (List ℕ)} (Some found) (Some splits) = ap splits_in e in let same : found ≡ splits = cc in ap (λ (l : List ℕ). Ok l) same
-    by (Err place) e = absurd (let k : ◌≡◌ {A = Result (List ℕ × List LogRecord) ℕ} (Err place) (Ok (splits, log)) = e in cc)
-header_behind passes image (Err place) splits log e = absurd (let k : ◌≡◌ {A = Result (List ℕ × List LogRecord) ℕ} (Err place) (Ok (splits, log)) = e in cc)
 
 pub read_unagreed : (n : ℕ) (image a splits : List ℕ) (log : List LogRecord) → checked_log n (Some a) image ≡ Ok (splits, log) → checked_log n None image ≡ Ok (splits, log)
 read_unagreed n image a splits log e =

@@ -39,7 +39,7 @@ use Rattle.cluster_turns.specs.declared.shards.Walker.{Walker}
 use Rattle.cluster_turns.specs.Walkers.{own_lists, founds_of}
 use Rattle.cluster_ends.specs.declared.fetching.Fetched.{Fetched}
 use Rattle.cluster_closing.specs.Held.{never_restarts}
-use Rattle.cluster_ends.specs.Legal.{state_at, views_of}
+use Rattle.cluster_ends.specs.Legal.{views_of}
 use Rattle.cluster_ends.specs.Ending.{seen_of, origin_of}
 use Rattle.cluster_closing.specs.Closing.{IsBack}
 use Rattle.cluster_closing.specs.Closing as closing
@@ -56,23 +56,16 @@ use Rattle.run_status.specs.Running.{End, IsOk, status_by}
 use Rattle.run_ends.specs.Ends.{end_of, walked_by, IsClosedRun}
 use Rattle.run_ends.specs.Statuses.{StatusTold, FlushesTold}
 use Rattle.run_ends.specs.Laws.{ClustersEnd, OthersStand, AllAreIn, RunsKeep, SessionsHaveGone, StatusesTell, FlushesTell, DownsTell}
-use Rattle.law_base.proofs.Lists.{elem_at, some_at}
+use Rattle.law_base.proofs.Lists.{elem_at}
 use Rattle.law_base.proofs.Restarts.{left_length as length_left}
+use Rattle.cluster_ends.proofs.Laws.{map_at, state_here}
 
 -- ---- lists
-
-map_at : {X : Type 0} (f : X → List Entry) (xs : List X) (n : ℕ) (d : X) → n < length xs → journal_at (map f xs) n ≡ f (get_or xs n d)
-map_at f [] n d l = absurd (omega arith)
-map_at f (x ∷ xs) zero d l = refl
-map_at f (x ∷ xs) (suc n) d l = map_at f xs n d (omega arith)
 
 inside : {X : Type 0} (xs : List X) (n : ℕ) (x : X) → slice_get xs n ≡ Some x → n < length xs
 inside [] n x h = absurd cc
 inside (y ∷ xs) zero x h = omega arith
 inside (y ∷ xs) (suc n) x h = let l = inside xs n x h in omega arith
-
-state_here : {H : Type 0} (state : H → Shard) (founds : List (List LogRecord)) (homes : List H) (n : ℕ) (d : H) → n < length homes → state_at state founds homes n ≡ state (get_or homes n d)
-state_here state founds homes n d l = ap (λ o. elim o [ Some h ↦ state h | None ↦ start_of founds n ]) (some_at homes n d l)
 
 -- a disk that came back where none was fetched
 pub none_fetched : {D : Type 0} (s : Shard) (n : ℕ) (fetched : List (Fetched D)) (before now : ℕ) (out : Bool) (story : Option Story) → length fetched ≡ 0 → IsBack s n fetched before now out story → IsBack {D = D} s n [] before now out story

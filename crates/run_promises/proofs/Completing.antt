@@ -29,7 +29,7 @@ use Rattle.script_runs.specs.Tries as tries
 use Rattle.script_runs.specs.Sessions.{Transaction, IsTransaction, IsNamed, AreTransactions, FollowsScript, all_done, not_begun, stopped, done, is_to_retry, has_left, tries_of, entries_of, session_entries}
 use Rattle.script_runs.specs.ScriptTriesLaws.{Completes, IsComplete}
 use Rattle.script_runs.specs.ScriptTriesLaws as laws
-use Rattle.script_runs.proofs.Laws.{sessions_go_through, sessions_tell_their_tries, tries_are_few, acknowledged_did_their_lines, entries_tell_their_lines}
+use Rattle.script_runs.proofs.Laws.{sessions_go_through, sessions_tell_their_tries, tries_are_few, acknowledged_did_their_lines, entries_tell_their_lines, tries_more as tries_append}
 use Rattle.run_promises.specs.Sessions.{Went, Begun, SessionWent}
 use Rattle.run_promises.specs.Completing.{HasEnded, acknowledged, empty, by_line, given_up, IsWanted, TransactionEnded, SessionEnded, SessionsHaveEnded}
 use Rattle.run_promises.proofs.Entries.{from_session, from_own, all_from, split, acknowledged_by, session_ops, own_ops}
@@ -108,10 +108,6 @@ has_none splits body tx birth answers before _ _ (tries.unanswered op parts here
 has_none splits body tx birth answers before _ _ (tries.worn_at_line at drops all d) is = absurd cc
 
 -- ---- a try among all
-
-tries_append : (trs us : List Transaction) → tries_of (trs ++ us) ≡ tries_of trs ++ tries_of us
-tries_append [] us = refl
-tries_append (tr ∷ trs) us = ap (λ ts. tr.tries ++ ts) (tries_append trs us) ∙ sym (append_assoc tr.tries (tries_of trs) (tries_of us))
 
 stands_at : (front behind : List Transaction) (tr : Transaction) (before : List Try) (t : Try) → tr.tries ≡ before ++ t ∷ [] → tries_of (front ++ tr ∷ behind) ≡ (tries_of front ++ before) ++ t ∷ tries_of behind
 stands_at front behind tr before t is =

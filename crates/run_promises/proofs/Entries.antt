@@ -22,7 +22,7 @@ use Rattle.law_base.proofs.Names.{with_op as more_ops}
 
 -- ---- among
 
-from_cond : {A : Type 0} (x y : A) (b : Bool) (ys xs : List A) → Among x (cond b (y ∷ ys) ys) → (Among x ys → Among x xs) → Among x (y ∷ xs)
+pub from_cond : {A : Type 0} (x y : A) (b : Bool) (ys xs : List A) → Among x (cond b (y ∷ ys) ys) → (Among x ys → Among x xs) → Among x (y ∷ xs)
 from_cond x y true ys xs (inl e) f = inl e
 from_cond x y true ys xs (inr m) f = inr (f m)
 from_cond x y false ys xs m f = inr (f m)

@@ -1,5 +1,5 @@
 -- A session that went through: each request was told how its transaction ended.
-use Rattle.std.proofs.Common.{◌≡◌, refl, sym, ap, subst, ◌∙◌, ◌⊎◌, inl, inr, ⊎_elim, ℕ, zero, suc, ◌<◌, ◌≤◌, ◌==◌, Bool, true, false, cond, List, [], ◌∷◌, ◌++◌, length, append_assoc, Option, Some, None, slice_get, get_or, arith}
+use Rattle.std.proofs.Common.{◌≡◌, refl, sym, ap, subst, ◌∙◌, ◌⊎◌, inl, inr, ⊎_elim, ℕ, zero, suc, ◌<◌, ◌≤◌, ◌==◌, Bool, true, false, cond, List, [], ◌∷◌, ◌++◌, length, Option, Some, None, slice_get, get_or, arith}
 use Rattle.std.specs.List.{AllByRecursion, list_any}
 use Rattle.std.proofs.lemmas.Bool.{both_ways}
 use Rattle.std.proofs.lemmas.Option.{slice_get_cases}
@@ -26,6 +26,8 @@ use Rattle.script_runs.specs.Sessions.{Transaction, AreTransactions, FollowsScri
 use Rattle.run_promises.specs.Sessions.{SessionWent}
 use Rattle.run_promises.specs.Replays.{RequestsAreTold}
 use Rattle.run_promises.proofs.Telling.{Ends, Told, GoOn, told_left, told_right, try_tells}
+use Rattle.run_promises.proofs.Entries.{from_own, from_session}
+use Rattle.script_runs.proofs.Laws.{entries_more as more_entries}
 
 retried_goes_on : (e : TryEnd) → is_to_retry e ≡ true → stopped_by e ≡ None
 retried_goes_on end.Acknowledged h = refl
@@ -49,10 +51,6 @@ tries_tell splits body birth (y ∷ ts) is on x t m some =
     (λ b. told_right t y.entries (entries_of ts) (tries_tell splits body birth ts is.1 on.1 x t b some))
     (among_append x y.entries (entries_of ts) m)
 
-more_entries : (ts us : List Try) → entries_of (ts ++ us) ≡ entries_of ts ++ entries_of us
-more_entries [] us = refl
-more_entries (y ∷ ts) us = ap (λ es. y.entries ++ es) (more_entries ts us) ∙ sym (append_assoc y.entries (entries_of ts) (entries_of us))
-
 session_tells : (splits : List ℕ) (run walker : ℕ) (most : Option ℕ) (bodies : List Body) (trs : List Transaction) (cause : Option StopCause) → AreTransactions splits run walker most bodies trs cause → cause ≡ None
     → (x : ℕ × Entry) (t : TxId) → Among x (entries_of (tries_of trs)) → request_of (x.1).event (x.1).outcome ≡ Some t → Told t (entries_of (tries_of trs))
 session_tells splits run walker most _ _ _ all_done none x t m some = absurd m
@@ -67,19 +65,6 @@ session_tells splits run walker most _ _ _ (done tr bodies trs cause is more) no
     (among_append x (entries_of tr.tries) (entries_of (tries_of trs)) (subst (Among x) parts m)))
 
 -- ---- among the history's
-
-from_cond : {A : Type 0} (x y : A) (b : Bool) (ys xs : List A) → Among x (cond b (y ∷ ys) ys) → (Among x ys → Among x xs) → Among x (y ∷ xs)
-from_cond x y true ys xs (inl e) f = inl e
-from_cond x y true ys xs (inr m) f = inr (f m)
-from_cond x y false ys xs m f = inr (f m)
-
-from_session : (x : ℕ × Entry) (es : History) → Among x (session_entries es) → Among x es
-from_session x [] m = m
-from_session x (e ∷ es) m = from_cond x e (is_of_session (e.1).event) (session_entries es) es m (from_session x es)
-
-from_own : (w : ℕ) (x : ℕ × Entry) (h : History) → Among x (own w h) → Among x h
-from_own w x [] m = m
-from_own w x (e ∷ es) m = from_cond x e ((e.1).walker == w) (own w es) es m (from_own w x es)
 
 into_cond : {A : Type 0} (x y : A) (b : Bool) (ys : List A) → (y ≡ x → b ≡ true) → (y ≡ x) ⊎ Among x ys → Among x (cond b (y ∷ ys) ys)
 into_cond x y true ys f m = m

@@ -5,3 +5,4 @@ pub mod Steps
 pub mod Unique
 pub mod Sizes
 pub mod Progress
+pub mod Laws

@@ -18,7 +18,7 @@ risen lo [] hi r = refl
 risen lo (n ∷ []) hi r = refl
 risen lo (n ∷ m ∷ ns) hi r = ap (λ b. b && numbers_rise (m ∷ ns)) (lt-ltb n m (r.1).0) ∙ risen n (m ∷ ns) hi r.1
 
-tries_more : (trs us : List Transaction) → tries_of (trs ++ us) ≡ tries_of trs ++ tries_of us
+pub tries_more : (trs us : List Transaction) → tries_of (trs ++ us) ≡ tries_of trs ++ tries_of us
 tries_more [] us = refl
 tries_more (tr ∷ trs) us = ap (λ ts. tr.tries ++ ts) (tries_more trs us) ∙ sym (append_assoc tr.tries (tries_of trs) (tries_of us))
 

@@ -52,7 +52,7 @@ by_append w (x ∷ xs) ys = at (noter x == w) (by_append w xs ys)
     at true h = ap (λ l. x ∷ l) h
     at false h = h
 
-by_one : (w : ℕ) (x : Note) → noter x ≡ w → entries_by noter w (x ∷ []) ≡ x ∷ []
+pub by_one : (w : ℕ) (x : Note) → noter x ≡ w → entries_by noter w (x ∷ []) ≡ x ∷ []
 by_one w x h = ap (λ b. cond b (x ∷ []) []) (eq-eqb (noter x) w h)
 
 pub by_notes : (w : ℕ) (ns : List Note) → by_walker w (entries_in ns) ≡ entries_in (entries_by noter w ns)

@@ -226,21 +226,21 @@ happen_fits s e k = at s.is_up
 
 -- ---- an answer, with the entry that it made
 
-quiet_so : (stamp w : ℕ) (e : Event) (room : Bool) (r : Reply) (o : Outcome) → stamped stamp w e room r ≡ Quiet o → (outcome_in r ≡ o) × (is_done r ≡ false)
+pub quiet_so : (stamp w : ℕ) (e : Event) (room : Bool) (r : Reply) (o : Outcome) → stamped stamp w e room r ≡ Quiet o → (outcome_in r ≡ o) × (is_done r ≡ false)
 quiet_so stamp w e room (QuietBeforeWorn p) o h = (cc, refl)
 quiet_so stamp w e true (QuietAfterWorn p) o h = (cc, refl)
 quiet_so stamp w e false (QuietAfterWorn p) o h = absurd cc
 quiet_so stamp w e true (Does p t) o h = absurd cc
 quiet_so stamp w e false (Does p t) o h = absurd cc
 
-enters_so : (stamp w : ℕ) (e : Event) (room : Bool) (r : Reply) (o : Outcome) (t : Shard) → stamped stamp w e room r ≡ Enters o t → (outcome_in r ≡ o) × (is_done r ≡ true)
+pub enters_so : (stamp w : ℕ) (e : Event) (room : Bool) (r : Reply) (o : Outcome) (t : Shard) → stamped stamp w e room r ≡ Enters o t → (outcome_in r ≡ o) × (is_done r ≡ true)
 enters_so stamp w e room (QuietBeforeWorn p) o t h = absurd cc
 enters_so stamp w e true (QuietAfterWorn p) o t h = absurd cc
 enters_so stamp w e false (QuietAfterWorn p) o t h = absurd cc
 enters_so stamp w e true (Does p u) o t h = (cc, refl)
 enters_so stamp w e false (Does p u) o t h = absurd cc
 
-ok_same : (o p : Outcome) → ◌≡◌ {A = Result Outcome StepError} (Ok o) (Ok p) → o ≡ p
+pub ok_same : (o p : Outcome) → ◌≡◌ {A = Result Outcome StepError} (Ok o) (Ok p) → o ≡ p
 ok_same o p h = cc
 
 no_answer : (e : StepError) (o : Outcome) {X : Type 0} → ◌≡◌ {A = Result Outcome StepError} (Err e) (Ok o) → X

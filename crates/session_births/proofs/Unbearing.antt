@@ -338,10 +338,10 @@ request_unbears t tx birth ts cause clock w c s u added h made entered event is 
 
 -- ---- the one turn of a call
 
-head_same : (t u : Turn) (ts us : List Turn) → t ∷ ts ≡ u ∷ us → t ≡ u
+pub head_same : (t u : Turn) (ts us : List Turn) → t ∷ ts ≡ u ∷ us → t ≡ u
 head_same t u ts us h = cc
 
-tail_same : (t u : Turn) (ts us : List Turn) → t ∷ ts ≡ u ∷ us → ts ≡ us
+pub tail_same : (t u : Turn) (ts us : List Turn) → t ∷ ts ≡ u ∷ us → ts ≡ us
 tail_same t u ts us h = cc
 
 no_more : (n : ℕ) (birth : Birth) (ts : List Turn) → ts ≡ [] → AllLeaveUnborn n birth ts

@@ -24,24 +24,11 @@ use Rattle.session_endings.specs.Settled.{OnlyLooks, PlacedBy, Settling, StandsB
 use Rattle.session_ops.specs.Standing.{HasBirth, IsGoneAt}
 use Rattle.session_ops.specs.Dropped.{is_to_drop, Drops, Dropping, IsLeft, IsEnding}
 use Rattle.session_ops.specs.Unbearing.{IsEnded, UnbornOrWorn}
-use Rattle.session_ops.proofs.Laws.{are_drops, dropped_unborn}
+use Rattle.session_ops.proofs.Laws.{are_drops, dropped_unborn, all_append, any_after, any_before}
 use Rattle.session_endings.specs.Standings.{StandsAt, StandsAs}
 use Rattle.session_endings.specs.Decided.{Leaving, IsLeftOver, LeavesIf, is_aborted, IsLookOrDrop, DecidedBy, Deciding}
 
 -- ---- turns
-
-pub any_after : (P : Turn → Type 0) (xs ys : List Turn) → AnyTurn P ys → AnyTurn P (xs ++ ys)
-any_after P [] ys h = h
-any_after P (x ∷ xs) ys h = inr (any_after P xs ys h)
-
-pub any_before : (P : Turn → Type 0) (xs ys : List Turn) → AnyTurn P xs → AnyTurn P (xs ++ ys)
-any_before P [] ys h = absurd h
-any_before P (x ∷ xs) ys (inl h) = inl h
-any_before P (x ∷ xs) ys (inr h) = inr (any_before P xs ys h)
-
-all_append : (P : Turn → Type 0) (xs ys : List Turn) → AllByRecursion P xs → AllByRecursion P ys → AllByRecursion P (xs ++ ys)
-all_append P [] ys a b = b
-all_append P (x ∷ xs) ys a b = (a.0, all_append P xs ys a.1 b)
 
 dropped_there : (tx : TxId) (touched : List (ℕ × ℕ)) (except : Option ℕ) (n : ℕ) (ts : List Turn) → AllByRecursion (Drops tx touched except) ts → AnyTurn (λ t. t.shard ≡ n) ts → AnyTurn (λ t. (t.shard ≡ n) × (t.event ≡ Drop tx)) ts
 dropped_there tx touched except n [] a h = absurd h

@@ -25,6 +25,7 @@ use Rattle.session_endings.specs.Decided.{DropsOthers}
 use Rattle.session_endings.proofs.Laws.{any_before, any_after}
 use Rattle.session_endings.specs.Parts.{has_died, LeftBy, Performing}
 use Rattle.session_endings.specs.Scanned.{part_within, part_on, Range, IsPartScan, IsScanWait, pairs_in, GivesPairs, DiesOfScan, PartGiven, Gathered, IsOfScan, ScanFailed, Scanning, StepTold, Stepping, IsBelow, IsUnder, IsSameTx, TakesPairs}
+use Rattle.session_ops.proofs.Laws.{all_append}
 
 -- ---- parts of a range
 
@@ -80,10 +81,6 @@ any_map P Q f (t ∷ ts) (inr h) = inr (any_map P Q f ts h)
 all_map : (P Q : Turn → Type 0) → ((t : Turn) → P t → Q t) → (ts : List Turn) → AllByRecursion P ts → AllByRecursion Q ts
 all_map P Q f [] h = tt
 all_map P Q f (t ∷ ts) h = (f t h.0, all_map P Q f ts h.1)
-
-all_append : (P : Turn → Type 0) (xs ys : List Turn) → AllByRecursion P xs → AllByRecursion P ys → AllByRecursion P (xs ++ ys)
-all_append P [] ys a b = b
-all_append P (x ∷ xs) ys a b = (a.0, all_append P xs ys a.1 b)
 
 module _ (splits : List ℕ) (x : Range) (n : ℕ) (seen : Option ℕ) (part : ℕ × ℕ) (is : part_on splits n x.lo x.hi ≡ Some part) where
   abbrev scan_event : Event

@@ -14,7 +14,7 @@ use Rattle.clv_base.specs.declared.state.Request.{Request}
 use Rattle.clv_base.specs.declared.state.RequestState.{RequestState}
 use Rattle.clv_base.specs.declared.state.RequestState.TheVariants.{Undecided, Committed, Finished, Refused}
 use Rattle.clv_base.specs.Facts.{facts_of, has_durable_commit}
-use Rattle.clv_base.specs.Events.{Reply, QuietBeforeWorn, QuietAfterWorn, Does, Quiet, stamped, happen, happen_up, step, next_stamp, request_epoch, look_lost, look_state, look_known, look_event, finish}
+use Rattle.clv_base.specs.Events.{QuietBeforeWorn, Does, happen, happen_up, step, next_stamp, request_epoch, look_lost, look_state, look_known, look_event, finish}
 use Rattle.clv_base.specs.declared.causes.AbortCause.TheVariants.{Restarted}
 use Rattle.turn_lock.specs.declared.pass.Pass.{Pass}
 use Rattle.machine_calls.specs.declared.machine.StepError.{StepError}
@@ -22,12 +22,9 @@ use Rattle.machine_calls.specs.Steps.{Tells, clock_after}
 use Rattle.turn_laws.specs.declared.notes.Note.{Note}
 use Rattle.turn_laws.specs.declared.notes.Origin.{Origin}
 use Rattle.session_births.specs.Turns.{Turn, Took, no_turn, event_turn, flush_turns, horizon_look}
-use Rattle.session_ops.specs.Looked.{is_look_outcome}
-use Rattle.law_base.proofs.Shards.{is_done, is_told, outcome_in}
-
--- what a look comes to fits, and is told where it is done
-abbrev Fits : Reply → Type 0
-Fits r = (is_told (outcome_in r) ≡ is_done r) × (is_look_outcome (outcome_in r) ≡ true)
+use Rattle.law_base.proofs.Shards.{is_done, is_told}
+use Rattle.session_ops.proofs.Laws.{Fits}
+use Rattle.session_births.proofs.Laws.{head_same, quiet_so, tail_same}
 
 by_state : (s : Shard) (q : RequestState) → Fits (look_state s q)
 by_state s Undecided = (refl, refl)
@@ -65,20 +62,7 @@ happens_fits s tx = at s.is_up (by_look s tx)
     at true h = h
     at false h = (refl, refl)
 
-quiet_so : (stamp w : ℕ) (e : Event) (room : Bool) (r : Reply) (o : Outcome) → stamped stamp w e room r ≡ Quiet o → (outcome_in r ≡ o) × (is_done r ≡ false)
-quiet_so stamp w e room (QuietBeforeWorn p) o h = (cc, refl)
-quiet_so stamp w e true (QuietAfterWorn p) o h = (cc, refl)
-quiet_so stamp w e false (QuietAfterWorn p) o h = absurd cc
-quiet_so stamp w e true (Does p t) o h = absurd cc
-quiet_so stamp w e false (Does p t) o h = absurd cc
-
 -- ---- the entry
-
-head_same : (t u : Turn) (ts us : List Turn) → t ∷ ts ≡ u ∷ us → t ≡ u
-head_same t u ts us h = cc
-
-tail_same : (t u : Turn) (ts us : List Turn) → t ∷ ts ≡ u ∷ us → ts ≡ us
-tail_same t u ts us h = cc
 
 module _ (tx : TxId) where
   -- an acknowledgement is entered, with the clock that the walker then has

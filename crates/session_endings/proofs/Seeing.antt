@@ -1,7 +1,6 @@
 -- One look at a request, and a round after it.
 use Rattle.std.proofs.Common.{◌≡◌, ◌∙◌, refl, ap, subst, ℕ, true, false, List, [], ◌∷◌, ◌++◌, Option, Some, None, Result, Ok, Err, inl, inr}
 use Rattle.std.specs.Prelude.{◌⊎◌}
-use Rattle.std.specs.List.{AllByRecursion}
 use Rattle.std.proofs.lemmas.Bool.{both_ways}
 use Rattle.clv_base.specs.declared.names.TxId.{TxId}
 use Rattle.clv_base.specs.declared.names.Point.{Point}
@@ -29,6 +28,7 @@ use Rattle.session_endings.specs.declared.looking.SettleError.{SettleError}
 use Rattle.session_endings.specs.declared.looking.SettleError.TheVariants.{Aborted, Unsettled, Worn, Memory}
 use Rattle.session_endings.specs.Settled.{looked_as, refusal_of, IsLook, Acknowledges, SettledBy, PlacedBy, OnlyLooks, Settling, StandsBy}
 use Rattle.session_endings.proofs.Pointing.{stamp_told}
+use Rattle.session_ops.proofs.Laws.{all_append, any_after, any_before, ended_after, others_follow}
 
 looked_told : (n c : ℕ) (tx : TxId) (r : Result Outcome StepError) (t : Turn) → ((o : Outcome) → r ≡ Ok o → is_look_outcome o ≡ true) → (r ≡ Ok Acknowledged → Acknowledges n tx (record { stamp = c; shard = n }) t) → t.shard ≡ n → t.event ≡ Look tx → t.answer ≡ r
     → SettledBy n tx (looked_as n c r) (t ∷ [])
@@ -67,19 +67,6 @@ module _ {T : Type 0} where
           ((a.shard_is, a.event_is, a.answer_is ∙ is), (found.0, found.1, ap (λ z. record { stamp = z; shard = n }) found.2))
 
 -- ---- turns after turns
-
-any_after : (P : Turn → Type 0) (xs ys : List Turn) → AnyTurn P ys → AnyTurn P (xs ++ ys)
-any_after P [] ys h = h
-any_after P (x ∷ xs) ys h = inr (any_after P xs ys h)
-
-any_before : (P : Turn → Type 0) (xs ys : List Turn) → AnyTurn P xs → AnyTurn P (xs ++ ys)
-any_before P [] ys h = absurd h
-any_before P (x ∷ xs) ys (inl h) = inl h
-any_before P (x ∷ xs) ys (inr h) = inr (any_before P xs ys h)
-
-all_append : (P : Turn → Type 0) (xs ys : List Turn) → AllByRecursion P xs → AllByRecursion P ys → AllByRecursion P (xs ++ ys)
-all_append P [] ys a b = b
-all_append P (x ∷ xs) ys a b = (a.0, all_append P xs ys a.1 b)
 
 told_after : (n : ℕ) (tx : TxId) (r : Result (Option Point) SettleError) (xs ys : List Turn) → SettledBy n tx r ys → SettledBy n tx r (xs ++ ys)
 told_after n tx (Ok (Some point)) xs ys h = any_after _ xs ys h
@@ -155,16 +142,6 @@ module _ {M S G : Type 0} where
       (subst (λ (z : SessionState). Settling u.number u.clock u.passes.items n z.tx x v.clock v.passes.items) at b))
 
 -- ---- rounds
-
-others_follow : (xs ys : List Turn) → AreOthers xs → AreOthers ys → AreOthers (xs ++ ys)
-others_follow [] ys a b = b
-others_follow (x ∷ xs) ys a b = (a.0, others_follow xs ys a.1 b)
-
-ended_after : {A : Type 0} (r : Result A RoundError) (xs ys : List Turn) → EndedBy r ys → EndedBy r (xs ++ ys)
-ended_after (Ok a) xs ys h = tt
-ended_after (Err (RoundDown n)) xs ys h = any_after _ xs ys h
-ended_after (Err (RoundWorn at)) xs ys h = any_after _ xs ys h
-ended_after (Err RoundMemory) xs ys h = tt
 
 module _ {T A B : Type 0} where
   pub rounds_follow : (w c d e : ℕ) (ps qs rs : List (Option (Pass T Note Origin))) (q : Result A RoundError) (r : Result B RoundError) → Rounded w c ps q d qs → Rounded w d qs r e rs → Rounded w c ps r e rs

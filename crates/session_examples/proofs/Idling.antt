@@ -8,7 +8,7 @@ use Rattle.session_rows.specs.declared.transfers.Transferred.TheVariants.{Moved,
 use Rattle.session_rows.specs.Ends.{has_ended, EndsAs}
 
 -- none is active after a transfer that wasn't stopped
-ended_idle : (t : Progress) → has_ended t ≡ true → active_tx t ≡ None
+pub ended_idle : (t : Progress) → has_ended t ≡ true → active_tx t ≡ None
 ended_idle Idle e = refl
 ended_idle (Active p) e = absurd cc
 ended_idle (Worn p) e = absurd cc

@@ -15,7 +15,7 @@ use Rattle.clv_base.specs.Orders.{tx_same}
 use Rattle.clv_base.specs.State.{Shard}
 use Rattle.clv_base.specs.declared.state.Stage.{Stage}
 use Rattle.clv_base.specs.Undo.{stage_of}
-use Rattle.clv_base.specs.Events.{Reply, QuietBeforeWorn, QuietAfterWorn, Does, Quiet, Enters, stamped, happen, happen_up, step, next_stamp, drop_event}
+use Rattle.clv_base.specs.Events.{Reply, QuietBeforeWorn, happen, happen_up, step, next_stamp, drop_event}
 use Rattle.clv_base.specs.Sessions.{SessionState, Phase, Touching, Ended, Standing, Told, Refused, may_drop, after_drop, session_after, is_session_number}
 use Rattle.clv_base.proofs.SameNames.{tx_self}
 use Rattle.journal_laws.specs.Offers.{may_make}
@@ -28,7 +28,7 @@ use Rattle.cluster_turns.specs.Turns.{EventTold}
 use Rattle.cluster_turns.specs.Walkers.{IsWalker, IsSameWalker, Walked, kept}
 use Rattle.cluster_turns.proofs.Laws.{event_rises}
 use Rattle.session_births.specs.States.{session_of}
-use Rattle.session_births.proofs.Laws.{states_go_on, states_tell_may_make, states_bear_walkers}
+use Rattle.session_births.proofs.Laws.{states_go_on, states_tell_may_make, states_bear_walkers, enters_so, ok_same, quiet_so}
 use Rattle.session_births.specs.Turns.{Turn, Took, no_turn, event_turn, entry_on}
 use Rattle.session_births.proofs.Laws.{kept_grows}
 use Rattle.session_births.specs.Births.{AreInformed}
@@ -57,23 +57,6 @@ happens_fits s tx = at s.is_up
     at : (u : Bool) → Fits (elim u [ true ↦ happen_up s (Drop tx) | false ↦ QuietBeforeWorn Down ])
     at true = by_stage s tx (stage_of s.local tx)
     at false = (refl, refl)
-
-quiet_so : (stamp w : ℕ) (e : Event) (room : Bool) (r : Reply) (o : Outcome) → stamped stamp w e room r ≡ Quiet o → (outcome_in r ≡ o) × (is_done r ≡ false)
-quiet_so stamp w e room (QuietBeforeWorn p) o h = (cc, refl)
-quiet_so stamp w e true (QuietAfterWorn p) o h = (cc, refl)
-quiet_so stamp w e false (QuietAfterWorn p) o h = absurd cc
-quiet_so stamp w e true (Does p t) o h = absurd cc
-quiet_so stamp w e false (Does p t) o h = absurd cc
-
-enters_so : (stamp w : ℕ) (e : Event) (room : Bool) (r : Reply) (o : Outcome) (t : Shard) → stamped stamp w e room r ≡ Enters o t → (outcome_in r ≡ o) × (is_done r ≡ true)
-enters_so stamp w e room (QuietBeforeWorn p) o t h = absurd cc
-enters_so stamp w e true (QuietAfterWorn p) o t h = absurd cc
-enters_so stamp w e false (QuietAfterWorn p) o t h = absurd cc
-enters_so stamp w e true (Does p u) o t h = (cc, refl)
-enters_so stamp w e false (Does p u) o t h = absurd cc
-
-ok_same : (o p : Outcome) → ◌≡◌ {A = Result Outcome StepError} (Ok o) (Ok p) → o ≡ p
-ok_same o p h = cc
 
 -- an entry of this event and outcome
 record IsEntered (e : Event) (o : Outcome) (made : Option Entry) : Type 0 where

@@ -19,7 +19,7 @@ use Rattle.clv_base.specs.declared.state.Stage.{Stage}
 use Rattle.clv_base.specs.declared.state.Stage.TheVariants.{Active, Closed, Gone}
 use Rattle.clv_base.specs.Undo.{stage_of}
 use Rattle.clv_base.specs.OneShard.{seen_fits}
-use Rattle.clv_base.specs.Events.{Reply, QuietBeforeWorn, QuietAfterWorn, Does, Quiet, Enters, stamped, happen, happen_up, step, next_stamp, request_event, request_by_stage, epoch_in}
+use Rattle.clv_base.specs.Events.{Reply, QuietBeforeWorn, happen, happen_up, step, next_stamp, request_event, request_by_stage, epoch_in}
 use Rattle.clv_base.specs.Sessions.{SessionState, is_touching, same_touched, is_lowest, requested, session_after, is_session_number}
 use Rattle.clv_base.proofs.SameNames.{tx_self}
 use Rattle.journal_laws.specs.Offers.{may_make}
@@ -34,7 +34,7 @@ use Rattle.turn_lock.specs.Passes.{pass_origin}
 use Rattle.cluster_turns.specs.Walkers.{IsWalker, IsSameWalker, Walked, kept}
 use Rattle.cluster_turns.proofs.Laws.{event_rises}
 use Rattle.session_births.specs.States.{session_of}
-use Rattle.session_births.proofs.Laws.{states_go_on, states_tell_may_make, touched_are_last}
+use Rattle.session_births.proofs.Laws.{states_go_on, states_tell_may_make, touched_are_last, enters_so, ok_same, quiet_so}
 use Rattle.session_births.specs.Turns.{Turn, Took, no_turn, event_turn, entry_on}
 use Rattle.session_births.proofs.Laws.{kept_grows}
 use Rattle.session_births.specs.Births.{AreInformed}
@@ -70,23 +70,6 @@ happens_fits s tx ts = at s.is_up
     at : (u : Bool) → Fits (elim u [ true ↦ happen_up s (Request tx ts) | false ↦ QuietBeforeWorn Down ])
     at true = by_seen s tx ts (seen_fits s.local.epoch (epoch_in s.shard ts))
     at false = (refl, refl)
-
-pub quiet_so : (stamp w : ℕ) (e : Event) (room : Bool) (r : Reply) (o : Outcome) → stamped stamp w e room r ≡ Quiet o → (outcome_in r ≡ o) × (is_done r ≡ false)
-quiet_so stamp w e room (QuietBeforeWorn p) o h = (cc, refl)
-quiet_so stamp w e true (QuietAfterWorn p) o h = (cc, refl)
-quiet_so stamp w e false (QuietAfterWorn p) o h = absurd cc
-quiet_so stamp w e true (Does p t) o h = absurd cc
-quiet_so stamp w e false (Does p t) o h = absurd cc
-
-pub enters_so : (stamp w : ℕ) (e : Event) (room : Bool) (r : Reply) (o : Outcome) (t : Shard) → stamped stamp w e room r ≡ Enters o t → (outcome_in r ≡ o) × (is_done r ≡ true)
-enters_so stamp w e room (QuietBeforeWorn p) o t h = absurd cc
-enters_so stamp w e true (QuietAfterWorn p) o t h = absurd cc
-enters_so stamp w e false (QuietAfterWorn p) o t h = absurd cc
-enters_so stamp w e true (Does p u) o t h = (cc, refl)
-enters_so stamp w e false (Does p u) o t h = absurd cc
-
-pub ok_same : (o p : Outcome) → ◌≡◌ {A = Result Outcome StepError} (Ok o) (Ok p) → o ≡ p
-ok_same o p h = cc
 
 -- an entry of this event and outcome
 pub record IsEntered (e : Event) (o : Outcome) (made : Option Entry) : Type 0 where

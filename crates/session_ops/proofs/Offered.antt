@@ -21,7 +21,7 @@ use Rattle.clv_base.specs.LogRules.{same_option}
 use Rattle.clv_base.specs.Orders.{birth_cmp}
 use Rattle.clv_base.specs.State.{Shard}
 use Rattle.clv_base.specs.OneShard.{OpReply, OpWaits, OpCrowded, OpDies, OpAnswers, op_reply}
-use Rattle.clv_base.specs.Events.{Reply, QuietBeforeWorn, QuietAfterWorn, Does, Quiet, Enters, stamped, happen, happen_up, step, next_stamp, op_event}
+use Rattle.clv_base.specs.Events.{QuietBeforeWorn, happen, happen_up, step, next_stamp, op_event}
 use Rattle.clv_base.specs.Sessions.{SessionState, is_number, goes_on_scan, scan_shard, lies_in, op_answered, op_in_session, is_touching, touch, session_after}
 use Rattle.clv_base.proofs.SameNames.{tx_self}
 use Rattle.journal_laws.specs.Offers.{may_make}
@@ -34,7 +34,7 @@ use Rattle.cluster_turns.specs.Turns.{EventTold}
 use Rattle.cluster_turns.specs.Walkers.{IsWalker, IsSameWalker, Walked, kept}
 use Rattle.cluster_turns.proofs.Laws.{event_rises}
 use Rattle.session_births.specs.States.{session_of}
-use Rattle.session_births.proofs.Laws.{states_go_on, states_tell_may_make, ops_go_on}
+use Rattle.session_births.proofs.Laws.{states_go_on, states_tell_may_make, ops_go_on, enters_so, ok_same, quiet_so}
 use Rattle.session_births.specs.Turns.{Turn, Took, no_turn, event_turn, entry_on}
 use Rattle.session_births.proofs.Laws.{kept_grows}
 use Rattle.session_births.specs.Births.{AllSeeFree, AreInformed}
@@ -60,23 +60,6 @@ op_happens s tx birth nth seen op = at s.is_up
     at : (u : Bool) → is_told (outcome_in (elim u [ true ↦ happen_up s (Op tx birth nth seen op) | false ↦ QuietBeforeWorn Down ])) ≡ is_done (elim u [ true ↦ happen_up s (Op tx birth nth seen op) | false ↦ QuietBeforeWorn Down ])
     at true = op_done s (op_reply s.shard s.local tx birth seen op)
     at false = refl
-
-quiet_so : (stamp w : ℕ) (e : Event) (room : Bool) (r : Reply) (o : Outcome) → stamped stamp w e room r ≡ Quiet o → (outcome_in r ≡ o) × (is_done r ≡ false)
-quiet_so stamp w e room (QuietBeforeWorn p) o h = (cc, refl)
-quiet_so stamp w e true (QuietAfterWorn p) o h = (cc, refl)
-quiet_so stamp w e false (QuietAfterWorn p) o h = absurd cc
-quiet_so stamp w e true (Does p t) o h = absurd cc
-quiet_so stamp w e false (Does p t) o h = absurd cc
-
-enters_so : (stamp w : ℕ) (e : Event) (room : Bool) (r : Reply) (o : Outcome) (t : Shard) → stamped stamp w e room r ≡ Enters o t → (outcome_in r ≡ o) × (is_done r ≡ true)
-enters_so stamp w e room (QuietBeforeWorn p) o t h = absurd cc
-enters_so stamp w e true (QuietAfterWorn p) o t h = absurd cc
-enters_so stamp w e false (QuietAfterWorn p) o t h = absurd cc
-enters_so stamp w e true (Does p u) o t h = (cc, refl)
-enters_so stamp w e false (Does p u) o t h = absurd cc
-
-ok_same : (o p : Outcome) → ◌≡◌ {A = Result Outcome StepError} (Ok o) (Ok p) → o ≡ p
-ok_same o p h = cc
 
 -- the entry that an answered operation made, with its stamp
 pub record IsEntered (clock w : ℕ) (e : Event) (o : Outcome) (clock' : ℕ) (made : Option Entry) : Type 0 where

@@ -18,16 +18,16 @@ use Rattle.session_births.proofs.Laws.{turns_follow}
 use Rattle.session_ops.specs.Standing.{AskTold}
 use Rattle.session_ops.specs.Dropped.{is_to_drop, is_worn, WornBy, worse, Dropping, place_dropped, IsLeft}
 
-any_after : (P : Turn → Type 0) (xs ys : List Turn) → AnyTurn P ys → AnyTurn P (xs ++ ys)
+pub any_after : (P : Turn → Type 0) (xs ys : List Turn) → AnyTurn P ys → AnyTurn P (xs ++ ys)
 any_after P [] ys h = h
 any_after P (x ∷ xs) ys h = inr (any_after P xs ys h)
 
-any_before : (P : Turn → Type 0) (xs ys : List Turn) → AnyTurn P xs → AnyTurn P (xs ++ ys)
+pub any_before : (P : Turn → Type 0) (xs ys : List Turn) → AnyTurn P xs → AnyTurn P (xs ++ ys)
 any_before P [] ys h = absurd h
 any_before P (x ∷ xs) ys (inl h) = inl h
 any_before P (x ∷ xs) ys (inr h) = inr (any_before P xs ys h)
 
-all_append : (P : Turn → Type 0) (xs ys : List Turn) → AllByRecursion P xs → AllByRecursion P ys → AllByRecursion P (xs ++ ys)
+pub all_append : (P : Turn → Type 0) (xs ys : List Turn) → AllByRecursion P xs → AllByRecursion P ys → AllByRecursion P (xs ++ ys)
 all_append P [] ys a b = b
 all_append P (x ∷ xs) ys a b = (a.0, all_append P xs ys a.1 b)
 

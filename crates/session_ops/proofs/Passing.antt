@@ -23,7 +23,7 @@ use Rattle.session_births.specs.Unborn.{AllLeaveUnborn}
 use Rattle.session_births.proofs.Laws.{informed_stay, free_stays, unless_stays}
 use Rattle.session_ops.specs.Standing.{IsOld, IsReady, HasBirth, IsActive}
 
-other_leaves : (tx : TxId) (birth : Birth) (e : Event) → is_of_session e ≡ false → LeavesBirth tx birth e
+pub other_leaves : (tx : TxId) (birth : Birth) (e : Event) → is_of_session e ≡ false → LeavesBirth tx birth e
 other_leaves tx birth (Op u b nth seen op) h = absurd (both_ways true h refl)
 other_leaves tx birth (Request u ts) h = tt
 other_leaves tx birth (Look u) h = tt
@@ -36,7 +36,7 @@ other_leaves tx birth FlushIn h = tt
 other_leaves tx birth Stop h = tt
 other_leaves tx birth Restart h = tt
 
-other_born : (clock : ℕ) (e : Event) → is_of_session e ≡ false → IsBornBy clock e
+pub other_born : (clock : ℕ) (e : Event) → is_of_session e ≡ false → IsBornBy clock e
 other_born clock (Op u b nth seen op) h = absurd (both_ways true h refl)
 other_born clock (Request u ts) h = tt
 other_born clock (Look u) h = tt
@@ -49,20 +49,20 @@ other_born clock FlushIn h = tt
 other_born clock Stop h = tt
 other_born clock Restart h = tt
 
-all_leave : (tx : TxId) (birth : Birth) (ts : List Turn) → AreOthers ts → AllByRecursion (λ t. LeavesBirth tx birth t.event) ts
+pub all_leave : (tx : TxId) (birth : Birth) (ts : List Turn) → AreOthers ts → AllByRecursion (λ t. LeavesBirth tx birth t.event) ts
 all_leave tx birth [] h = tt
 all_leave tx birth (t ∷ ts) h = (other_leaves tx birth t.event h.0, all_leave tx birth ts h.1)
 
-all_unborn : (m : ℕ) (birth : Birth) (ts : List Turn) → AreOthers ts → AllLeaveUnborn m birth ts
+pub all_unborn : (m : ℕ) (birth : Birth) (ts : List Turn) → AreOthers ts → AllLeaveUnborn m birth ts
 all_unborn m birth [] h = tt
 all_unborn m birth (t ∷ ts) h = ((λ here. inr (λ tx. other_leaves tx birth t.event h.0)), all_unborn m birth ts h.1)
 
-all_born : (clock : ℕ) (ts : List Turn) → AreOthers ts → AllByRecursion (λ t. IsBornBy clock t.event) ts
+pub all_born : (clock : ℕ) (ts : List Turn) → AreOthers ts → AllByRecursion (λ t. IsBornBy clock t.event) ts
 all_born clock [] h = tt
 all_born clock (t ∷ ts) h = (other_born clock t.event h.0, all_born clock ts h.1)
 
 -- entries of others leave the session's state
-state_stays : (splits : List ℕ) (run w : ℕ) (es : History) (s : SessionState) (ts : List Turn) → AreOthers ts → AllByRecursion (IsMadeBy w) ts → session_of splits run w es ≡ Some s → session_of splits run w (es ++ entries_made ts) ≡ Some s
+pub state_stays : (splits : List ℕ) (run w : ℕ) (es : History) (s : SessionState) (ts : List Turn) → AreOthers ts → AllByRecursion (IsMadeBy w) ts → session_of splits run w es ≡ Some s → session_of splits run w (es ++ entries_made ts) ≡ Some s
 state_stays splits run w es s [] o m h = ap (session_of splits run w) (append-nil es) ∙ h
 state_stays splits run w es s (t ∷ ts) o m h = at t.made refl (λ fs k. state_stays splits run w fs s ts o.1 m.1 k)
   where

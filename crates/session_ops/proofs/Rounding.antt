@@ -25,24 +25,21 @@ use Rattle.cluster_drain.specs.declared.carrying.CarryError.{CarryError}
 use Rattle.cluster_drain.specs.declared.reminding.Reminding.{Reminding}
 use Rattle.cluster_drain.specs.Carried.{message_of, not_taken, brought_by, BringTold, is_lost, is_brought, CarryTold, none_sent, one_sent}
 use Rattle.cluster_drain.specs.Reminded.{reminded_by}
-use Rattle.session_births.specs.Turns.{Turn, no_turn, event_turn, flush_turns, takes_no_flight, AreOthers, AnyTurn}
+use Rattle.session_births.specs.Turns.{Turn, no_turn, event_turn, flush_turns, takes_no_flight, AreOthers}
 use Rattle.session_births.proofs.Laws.{turns_follow}
 use Rattle.session_ops.specs.declared.parts.RoundError.{RoundError}
 use Rattle.session_ops.specs.declared.parts.RoundError.TheVariants.{Down as RoundDown, Worn as RoundWorn, Memory as RoundMemory}
 use Rattle.session_ops.specs.Rounds.{EndedBy, Rounded, refusal_of}
 use Rattle.session_ops.proofs.Outcomes.{fits_by, fits_flush, fits_send, fits_remind, flush_fits, send_fits, remind_fits}
+use Rattle.session_ops.proofs.Parting.{any_after}
 
 -- ---- turns after turns
 
-any_after : (P : Turn → Type 0) (xs ys : List Turn) → AnyTurn P ys → AnyTurn P (xs ++ ys)
-any_after P [] ys h = h
-any_after P (x ∷ xs) ys h = inr (any_after P xs ys h)
-
-others_follow : (xs ys : List Turn) → AreOthers xs → AreOthers ys → AreOthers (xs ++ ys)
+pub others_follow : (xs ys : List Turn) → AreOthers xs → AreOthers ys → AreOthers (xs ++ ys)
 others_follow [] ys a b = b
 others_follow (x ∷ xs) ys a b = (a.0, others_follow xs ys a.1 b)
 
-ended_after : {A : Type 0} (r : Result A RoundError) (xs ys : List Turn) → EndedBy r ys → EndedBy r (xs ++ ys)
+pub ended_after : {A : Type 0} (r : Result A RoundError) (xs ys : List Turn) → EndedBy r ys → EndedBy r (xs ++ ys)
 ended_after (Ok a) xs ys h = tt
 ended_after (Err (RoundDown n)) xs ys h = any_after _ xs ys h
 ended_after (Err (RoundWorn at)) xs ys h = any_after _ xs ys h

@@ -30,7 +30,7 @@ use Rattle.cluster_turns.specs.Turns.{EventTold}
 use Rattle.cluster_turns.specs.Walkers.{IsWalker, IsSameWalker, Walked, kept}
 use Rattle.cluster_turns.proofs.Laws.{event_rises}
 use Rattle.session_births.specs.States.{session_of}
-use Rattle.session_births.proofs.Laws.{states_go_on, states_tell_may_make}
+use Rattle.session_births.proofs.Laws.{states_go_on, states_tell_may_make, quiet_so, enters_so, ok_same}
 use Rattle.session_births.specs.Turns.{Turn, Took, no_turn, event_turn, entry_on}
 use Rattle.session_births.proofs.Laws.{kept_grows}
 use Rattle.session_births.specs.Births.{AreInformed}
@@ -38,12 +38,12 @@ use Rattle.session_births.proofs.Laws.{informed_stay, free_stays, unless_stays, 
 use Rattle.session_ops.specs.Standing.{IsOld, IsReady, HasBirth, AskTold, IsGoneAt}
 use Rattle.session_ops.specs.Requested.{IsStanding}
 use Rattle.session_ops.specs.Looked.{is_look_outcome, place_looked, LookStands}
-use Rattle.session_ops.proofs.Making.{quiet_so, enters_so, ok_same, IsEntered}
+use Rattle.session_ops.proofs.Making.{IsEntered}
 use Rattle.law_base.proofs.Shards.{is_done, outcome_in, is_told}
 use Rattle.law_base.proofs.Names.{birth_same}
 
 -- what a look comes to fits, and is told where it is done
-abbrev Fits : Reply → Type 0
+abbrev pub Fits : Reply → Type 0
 Fits r = (is_told (outcome_in r) ≡ is_done r) × (is_look_outcome (outcome_in r) ≡ true)
 
 by_state : (s : Shard) (q : RequestState) → Fits (look_state s q)

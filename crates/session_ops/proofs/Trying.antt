@@ -2,7 +2,6 @@
 use Rattle.std.proofs.Common.{◌≡◌, refl, subst, ℕ, ◌==◌, true, false, List, [], ◌∷◌, ◌++◌, Option, Some, None, Result, Ok, Err, inl, inr}
 use Rattle.std.specs.Prelude.{◌⊎◌}
 use Rattle.std.specs.Map.{lookup}
-use Rattle.std.specs.List.{AllByRecursion}
 use Rattle.std.proofs.lemmas.Bool.{both_ways}
 use Rattle.clv_base.specs.declared.names.Birth.{Birth}
 use Rattle.clv_base.specs.declared.ops.Op.{Op as Operation}
@@ -26,6 +25,7 @@ use Rattle.session_ops.specs.declared.operating.OpError.{OpError}
 use Rattle.session_ops.specs.declared.operating.OpError.TheVariants.{Aborted, Down, Worn, Memory}
 use Rattle.session_ops.specs.Standing.{AskTold, is_op_outcome, place_after, StandsAfter, IsActive}
 use Rattle.session_ops.specs.Operated.{tried, refusal_of, Waits, ToldBy, PlacedBy, OnlyOf, Operated, StandsBy}
+use Rattle.session_ops.proofs.Parting.{all_append, any_after, any_before}
 
 tried_told : (n : ℕ) (e : Event) (r : Result Outcome StepError) (t : Turn) → ((o : Outcome) → r ≡ Ok o → is_op_outcome o ≡ true) → t.shard ≡ n → t.event ≡ e → t.answer ≡ r → ToldBy n e (tried n r) (t ∷ [])
 tried_told n e (Ok (Answered answer epoch)) t fits s k h = inl (s, k, (epoch, h))
@@ -61,19 +61,6 @@ module _ {T : Type 0} where
   tried_once w c d ps qs n e r fits a = record { turns = a.turn ∷ []; took = a.took; only = (inr a.event_is, tt); told = tried_told n e r a.turn fits a.shard_is a.event_is a.answer_is }
 
 -- ---- turns after turns
-
-any_after : (P : Turn → Type 0) (xs ys : List Turn) → AnyTurn P ys → AnyTurn P (xs ++ ys)
-any_after P [] ys h = h
-any_after P (x ∷ xs) ys h = inr (any_after P xs ys h)
-
-any_before : (P : Turn → Type 0) (xs ys : List Turn) → AnyTurn P xs → AnyTurn P (xs ++ ys)
-any_before P [] ys h = absurd h
-any_before P (x ∷ xs) ys (inl h) = inl h
-any_before P (x ∷ xs) ys (inr h) = inr (any_before P xs ys h)
-
-all_append : (P : Turn → Type 0) (xs ys : List Turn) → AllByRecursion P xs → AllByRecursion P ys → AllByRecursion P (xs ++ ys)
-all_append P [] ys a b = b
-all_append P (x ∷ xs) ys a b = (a.0, all_append P xs ys a.1 b)
 
 told_after : (n : ℕ) (e : Event) (r : Result (Option Answer) OpError) (xs ys : List Turn) → ToldBy n e r ys → ToldBy n e r (xs ++ ys)
 told_after n e (Ok (Some answer)) xs ys h = any_after _ xs ys h

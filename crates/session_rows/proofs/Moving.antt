@@ -8,21 +8,19 @@ use Rattle.clv_base.specs.declared.ops.Op.{Op}
 use Rattle.clv_base.specs.declared.ops.Op.TheVariants.{Get, Put}
 use Rattle.clv_base.specs.declared.ops.Answer.{Answer}
 use Rattle.clv_base.specs.declared.ops.Answer.TheVariants.{Value}
-use Rattle.clv_base.specs.Journals.{History}
 use Rattle.clv_base.specs.Sessions.{SessionState, is_of_session}
 use Rattle.cluster_turns.specs.declared.shards.Shards.{Shards}
 use Rattle.cluster_turns.specs.declared.shards.Walker.{Walker}
 use Rattle.cluster_turns.specs.Walkers.{kept}
 use Rattle.session_ops.specs.declared.operating.OpError.{OpError as OpFailure}
 use Rattle.session_ops.specs.declared.operating.OpError.TheVariants as failed
-use Rattle.session_ops.specs.Operated.{PlacedBy, answered_in}
 use Rattle.session_ops.specs.Standing.{IsActive}
 use Rattle.session_endings.specs.Parts.{has_died}
 use Rattle.session_endings.specs.declared.committing.Settled.{Settled}
 use Rattle.session_endings.specs.declared.committing.Settled.TheVariants.{Committed, Empty}
 use Rattle.session_endings.specs.declared.committing.CommitError.{CommitError as CommitFailure}
 use Rattle.session_endings.specs.declared.committing.CommitError.TheVariants as unmade
-use Rattle.script_runs.specs.Operations.{IsOperation, AreOperations, no_operation, operation}
+use Rattle.script_runs.specs.Operations.{AreOperations}
 use Rattle.script_runs.specs.Sessions.{session_entries}
 use Rattle.script_runs.specs.Seen.{Active as ActiveAs}
 use Rattle.script_runs.specs.Told.{OperateTold, CommitTold}
@@ -34,7 +32,7 @@ use Rattle.session_api.specs.declared.ending.CommitError.{CommitError}
 use Rattle.session_api.specs.Sessions.{IsSession, StandsIn, PointMade, PointCalled, CommitMade, CommitCalled}
 use Rattle.session_scripts.specs.Seeing.{seen_as, touched_in, is_active, unless_dead, after_commit as commit_leaves, value_end as value_tells, commit_end as commit_tells}
 use Rattle.session_scripts.specs.SessionToldLaws.{IsAt, gets, puts}
-use Rattle.session_scripts.proofs.Laws.{points_tell, commits_tell}
+use Rattle.session_scripts.proofs.Laws.{points_tell, commits_tell, placed_birth}
 use Rattle.session_rows.specs.declared.transfers.Failure.{Failure}
 use Rattle.session_rows.specs.declared.transfers.Transferred.{Transferred}
 use Rattle.session_rows.specs.declared.transfers.Transferred.TheVariants.{Moved, Refused, GivenUp}
@@ -42,24 +40,9 @@ use Rattle.session_rows.specs.declared.transfers.Stop.{Stop}
 use Rattle.session_rows.specs.Later.{IsLater}
 use Rattle.session_rows.specs.Ends.{value_end, written_end, commit_end}
 use Rattle.session_rows.specs.Moves.{Acknowledges, made_by, Doing, HasAcknowledged, HasMoved, MovesAs}
+use Rattle.script_runs.proofs.Laws.{one_more}
 
 -- ---- operations
-
-one_more : (splits : List ℕ) (tx : TxId) (birth : Birth) (nth k : ℕ) (ops : List Op) (answers : List Answer) (es : History) (op : Op) (answer : Answer) (here : History) → AreOperations splits tx birth nth ops answers es
-    → k ≡ nth + length answers → IsOperation splits tx birth k op answer here → AreOperations splits tx birth nth (ops ++ op ∷ []) (answers ++ answer ∷ []) (es ++ here)
-one_more splits tx birth _ k _ _ _ op answer here (no_operation nth) same is =
-    operation nth op answer [] [] here [] here (sym (append-nil here)) (subst (λ m. IsOperation splits tx birth m op answer here) (let h : k ≡ nth = omega arith in h) is) (no_operation (suc nth))
-one_more splits tx birth _ k _ _ _ op answer here (operation nth o a ops answers first behind es e p more) same is =
-    operation nth o a (ops ++ op ∷ []) (answers ++ answer ∷ []) first (behind ++ here) (es ++ here) (ap (λ l. l ++ here) e ∙ append_assoc first behind here) p
-    (one_more splits tx birth (suc nth) k ops answers behind op answer here more (omega arith) is)
-
--- the place after an operation is of the same birth
-placed_birth : (n nth : ℕ) (op : Op) (p q : SessionState) (answer : Result Answer OpFailure) → PlacedBy n nth op p (answered_in answer) q → q.birth ≡ p.birth
-placed_birth n nth op p q (Ok answer) k = ap (λ z. z.birth) k.1
-placed_birth n nth op p q (Err (failed.Aborted cause)) k = ap (λ z. z.birth) k
-placed_birth n nth op p q (Err (failed.Down m)) k = ap (λ z. z.birth) k
-placed_birth n nth op p q (Err (failed.Worn at)) k = ap (λ z. z.birth) k
-placed_birth n nth op p q (Err failed.Memory) k = ap (λ z. z.birth) k
 
 active_parts : (x tx : TxId) (b birth : Birth) (k nth : ℕ) (f touched : ℕ → Bool) → ActiveAs x b k f ≡ ActiveAs tx birth nth touched → (x ≡ tx) × (k ≡ nth)
 active_parts x tx b birth k nth f touched h = (cc, cc)

@@ -21,7 +21,7 @@ use Rattle.cluster_turns.specs.declared.shards.Shards.{Shards}
 use Rattle.cluster_turns.specs.declared.shards.Walker.{Walker}
 use Rattle.cluster_turns.specs.Walkers.{IsSameWalker, kept}
 use Rattle.session_births.specs.States.{after_from, session_of}
-use Rattle.session_births.proofs.Laws.{touched_are_last}
+use Rattle.session_births.proofs.Laws.{touched_are_last, ok_same}
 use Rattle.session_births.specs.Turns.{Turn, Took, no_turn, entry_on}
 use Rattle.session_births.specs.Answers.{is_quiet, is_kept, turns_of_session}
 use Rattle.session_ops.specs.Standing.{IsActive}
@@ -41,7 +41,7 @@ use Rattle.script_runs.specs.Seen.{Standing, Grows}
 use Rattle.script_runs.specs.Told.{AreDropsOf, CommitTold}
 use Rattle.session_scripts.specs.Seeing.{seen_as, touched_in, is_active, after_commit, commit_end}
 use Rattle.session_scripts.specs.SessionToldLaws.{CommitsTell}
-use Rattle.session_scripts.proofs.Following.{IsPlain, are_plain, all_before, all_behind, all_session, made_in, made_in_more, made_of, between, turns_lead, Among, among_one, among_none, among_first, is_there, ok_same, IsOneOf, MadeOne, any_made}
+use Rattle.session_scripts.proofs.Following.{IsPlain, are_plain, all_before, all_behind, all_session, made_in, made_in_more, made_of, between, turns_lead, Among, among_one, among_none, among_first, is_there, IsOneOf, MadeOne, any_made}
 use Rattle.session_scripts.proofs.SessionToldOperating.{if_some}
 use Rattle.session_scripts.proofs.Pointing.{grows_by}
 use Rattle.session_scripts.proofs.SessionToldEnding.{IsGone, behind_it, only_drops, Behind, not_yet, acknowledged, aborted, behind_request}

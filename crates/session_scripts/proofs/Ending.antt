@@ -45,9 +45,10 @@ use Rattle.session_scripts.proofs.Laws.{commits_tell, aborts_tell}
 use Rattle.session_scripts.specs.Standing.{Holds, active_as, standing_of, seen_in}
 use Rattle.session_scripts.specs.Grounds.{Grounds}
 use Rattle.session_scripts.proofs.Standings.{read_active, of_this, idle_active, asked_active, stays_grown, worn_still}
-use Rattle.session_scripts.proofs.Taking.{any_before, any_behind, found_down, grounds_stay, held_after, held_so}
+use Rattle.session_scripts.proofs.Taking.{found_down, grounds_stay, held_after, held_so}
 use Rattle.session_scripts.proofs.Operating.{IsUnderWay}
 use Rattle.law_base.proofs.Shards.{touching_is as touching_phase}
+use Rattle.session_ops.proofs.Laws.{any_before, any_after as any_behind}
 
 -- ---- how a commit leaves the transaction
 

@@ -1,5 +1,5 @@
 -- What a session's turns make of its state.
-use Rattle.std.proofs.Common.{◌≡◌, ◌∙◌, refl, sym, ap, subst, ℕ, Bool, true, false, cond, List, [], ◌∷◌, ◌++◌, append_assoc, Option, Some, None, Result, Ok, inl, inr}
+use Rattle.std.proofs.Common.{◌≡◌, ◌∙◌, refl, sym, ap, subst, ℕ, Bool, true, false, cond, List, [], ◌∷◌, ◌++◌, append_assoc, Option, Some, None, Ok, inl, inr}
 use Rattle.std.specs.Prelude.{◌⊎◌, is_some, not, IfOk}
 use Rattle.std.specs.List.{AllByRecursion}
 use Rattle.std.proofs.lemmas.Bool.{both_ways}
@@ -9,12 +9,11 @@ use Rattle.clv_base.specs.declared.events.Entry.{Entry}
 use Rattle.clv_base.specs.Journals.{History}
 use Rattle.clv_base.specs.Sessions.{SessionState, no_session, session_after, is_of_session}
 use Rattle.turn_lock.specs.declared.pass.Pass.{Pass}
-use Rattle.machine_calls.specs.declared.machine.StepError.{StepError}
 use Rattle.turn_laws.specs.declared.notes.Note.{Note}
 use Rattle.turn_laws.specs.declared.notes.Origin.{Origin}
 use Rattle.cluster_turns.specs.Walkers.{kept}
 use Rattle.session_births.specs.States.{after_from, session_of}
-use Rattle.session_births.proofs.Laws.{others_leave_states}
+use Rattle.session_births.proofs.Laws.{others_leave_states, ok_same}
 use Rattle.session_births.specs.Turns.{Turn, Took, AnyTurn, IsMadeBy, entry_on, entries_made}
 use Rattle.session_births.specs.Answers.{is_quiet, is_kept, may_come_to, HasItsEntry, HasItsOutcome, turns_of_session}
 use Rattle.session_births.proofs.Laws.{kept_grows, entries_are_made, answers_have_entries, outcomes_fit}
@@ -161,9 +160,6 @@ pub record MadeSo (n : ℕ) (e : Event) (o : Outcome) (es : History) : Type 0 wh
   pub outcome : entry.outcome ≡ o
   pub fits : may_come_to e o ≡ true
   pub among : Among (n, entry) es
-
-pub ok_same : (o p : Outcome) → ◌≡◌ {A = Result Outcome StepError} (Ok o) (Ok p) → o ≡ p
-ok_same o p h = cc
 
 pub is_there : (m : Option Entry) → is_some m ≡ true → (x : Entry) × (m ≡ Some x)
 is_there None h = absurd (both_ways false refl h)

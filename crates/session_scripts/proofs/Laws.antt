@@ -4,3 +4,4 @@ pub use Rattle.session_scripts.proofs.Pointing.{points_tell}
 pub use Rattle.session_scripts.proofs.Scanning.{scans_tell}
 pub use Rattle.session_scripts.proofs.Committing.{commits_tell}
 pub use Rattle.session_scripts.proofs.Leaving.{aborts_tell, beginnings_tell, retries_tell}
+pub use Rattle.session_scripts.proofs.Operating.{placed_birth}

@@ -36,8 +36,9 @@ use Rattle.session_scripts.proofs.Laws.{points_tell, scans_tell}
 use Rattle.session_scripts.specs.Standing.{Holds, active_as, standing_of, seen_in}
 use Rattle.session_scripts.specs.Grounds.{Grounds}
 use Rattle.session_scripts.proofs.Standings.{IsOf, read_active, of_this, idle_active, asked_active, stays_grown, worn_still}
-use Rattle.session_scripts.proofs.Taking.{any_before, found_down, held_after, held_so}
+use Rattle.session_scripts.proofs.Taking.{found_down, held_after, held_so}
 use Rattle.session_scripts.proofs.Parts.{HasPart, scan_has_part, point_has_part, begun_with_none}
+use Rattle.session_ops.proofs.Laws.{any_before}
 
 -- the place after an operation is of the same birth
 pub placed_birth : (n nth : ℕ) (op : Op) (p q : SessionState) (answer : Result Answer Failure) → PlacedBy n nth op p (answered_in answer) q → q.birth ≡ p.birth

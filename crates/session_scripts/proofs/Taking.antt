@@ -1,5 +1,5 @@
 -- What a walker's turns keep: a shard that it saw down, and that it has no disk.
-use Rattle.std.proofs.Common.{◌≡◌, ◌∙◌, sym, ap, subst, ℕ, List, [], ◌∷◌, ◌++◌, append_assoc, append-nil, get_or, set, get_or-set_same, get_or-set_other, Option, Some, None, inl, inr, arith}
+use Rattle.std.proofs.Common.{◌≡◌, ◌∙◌, sym, ap, subst, ℕ, List, [], ◌∷◌, ◌++◌, append_assoc, append-nil, get_or, set, get_or-set_same, get_or-set_other, Option, Some, None, arith}
 use mathlib.Core.Logic.{dite}
 use native.Mathlib.Decide.{ℕ_discrete}
 use Rattle.clv_base.specs.State.{Shard}
@@ -14,7 +14,7 @@ use Rattle.cluster_turns.specs.Walkers.{Walked, Looked, IsSameWalker}
 use Rattle.cluster_ends.proofs.Laws.{inside, some_inj}
 use Rattle.cluster_closing.specs.Held.{HoldsNone, FetchedNone}
 use Rattle.cluster_closing.proofs.Laws.{turns_hold_none, turns_fetch_none}
-use Rattle.session_births.specs.Turns.{Turn, Took, no_turn, event_turn, flush_turns, horizon_look, AnyTurn, FoundDown}
+use Rattle.session_births.specs.Turns.{Turn, Took, no_turn, event_turn, flush_turns, horizon_look, FoundDown}
 use Rattle.session_births.proofs.Laws.{clock_rises, down_is_seen}
 use Rattle.script_runs.specs.declared.ends.StopCause.{StopCause}
 use Rattle.script_runs.specs.declared.ends.StopCause.TheVariants.{Down, Unsettled, Worn, Memory}
@@ -24,15 +24,6 @@ use Rattle.session_scripts.specs.Standing.{Holds}
 use Rattle.session_scripts.specs.Grounds.{HasSeenDown, WasDown, Grounds}
 
 -- ---- a shard that was seen down
-
-pub any_before : (P : Turn → Type 0) (xs ys : List Turn) → AnyTurn P xs → AnyTurn P (xs ++ ys)
-any_before P [] ys h = absurd h
-any_before P (x ∷ xs) ys (inl h) = inl h
-any_before P (x ∷ xs) ys (inr h) = inr (any_before P xs ys h)
-
-pub any_behind : (P : Turn → Type 0) (xs ys : List Turn) → AnyTurn P ys → AnyTurn P (xs ++ ys)
-any_behind P [] ys h = h
-any_behind P (x ∷ xs) ys h = inr (any_behind P xs ys h)
 
 module _ {T : Type 0} where
   -- what was seen first is so still, whatever was seen since

@@ -1,5 +1,5 @@
 -- A core at rest, and what its log has.
-use Rattle.std.proofs.Common.{◌≡◌, refl, sym, ap, ◌∙◌, ℕ, suc, ◌+◌, ◌<◌, Bool, true, false, cond, ◌||◌, List, [], ◌∷◌, ◌++◌, append_assoc, length, get_or, drop, drop-cons, add-one, Some, None, is_some, ◌==◌, eqb-true, unwrap_or}
+use Rattle.std.proofs.Common.{◌≡◌, refl, sym, ap, ◌∙◌, ℕ, suc, ◌+◌, ◌<◌, Bool, true, false, cond, ◌||◌, List, [], ◌∷◌, ◌++◌, append_assoc, length, get_or, drop, drop-cons, add-one, is_some, ◌==◌}
 use Rattle.std.specs.List.{list_any, filter}
 use Rattle.clv_base.specs.declared.names.TxId.{TxId}
 use Rattle.clv_base.specs.declared.logs.LogRecord.{LogRecord}
@@ -8,20 +8,12 @@ use Rattle.clv_base.specs.State.{with_local}
 use Rattle.clv_base.specs.OneShard.{purge}
 use Rattle.clv_base.specs.Events.{finish}
 use Rattle.due_laws.proofs.Laws.{none_is_nothing, nothing_to_do}
-use Rattle.shard_core.specs.Core.{Core, flight_by}
+use Rattle.shard_core.specs.Core.{Core}
 use Rattle.shard_core.specs.Whole.{IsAtRest}
 
 -- at rest nothing is left to do, and no ghost to let go
 pub rest_is : (c : Core) → IsAtRest c → finish c.shard ≡ c.shard
 rest_is c r = ap (with_local purge) (nothing_to_do c.shard (none_is_nothing c.shard r.ready.cover)) ∙ r.ready.purged
-
--- up to where records were taken
-pub taken_is : (d t : ℕ) → unwrap_or (flight_by d t) d ≡ t
-taken_is d t = at (d == t) refl
-  where
-    at : (b : Bool) → (d == t) ≡ b → unwrap_or (cond b None (Some t)) d ≡ t
-    at true e = eqb-true d t e
-    at false e = refl
 
 -- ---- those of a list that pass, one after another
 

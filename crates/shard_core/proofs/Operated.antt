@@ -15,14 +15,14 @@ use Rattle.clv_base.specs.Logs.{prepare_lsn}
 use Rattle.clv_base.specs.Needs.{writes_of, value_at, key_of}
 use Rattle.clv_base.specs.declared.causes.AbortCause.{AbortCause}
 use Rattle.clv_base.specs.declared.state.Stage.{Stage}
-use Rattle.clv_base.specs.State.{Shard, Local, with_local, is_present}
+use Rattle.clv_base.specs.State.{Shard, Local, is_present}
 use Rattle.clv_base.specs.Undo.{stage_of, doomed_by, doomed_here}
 use Rattle.clv_base.specs.OneShard.{OpReply, OpDies, OpAnswers, op_reply, new_part, active_part, written, locked, performed, rolled_back_if, without_part, purge}
 use Rattle.clv_base.specs.Events.{finish}
 use Rattle.clv_base.specs.Due.{total, part_work}
 use Rattle.clv_base.proofs.SameNames.{or_left, or_right, tx_true}
 use Rattle.due_laws.specs.Depending.{HasPart}
-use Rattle.due_laws.proofs.Laws.{nothing_to_do, none_is_nothing, operations_touch, performed_keeps, without_keeps, put_keeps, put_has, get_has}
+use Rattle.due_laws.proofs.Laws.{operations_touch, performed_keeps, without_keeps, put_keeps, put_has, get_has}
 use Rattle.due_candidates.specs.Held.{Candidates}
 use Rattle.due_step.specs.Noting.{known_keys}
 use Rattle.txn_core.specs.State.{TxState, IsSameBut}
@@ -32,7 +32,6 @@ use Rattle.txn_core.specs.declared.op.Reply.TheVariants.{Answered, Dead, Wait, C
 use Rattle.txn_core.specs.Sound.{KeepsSpare}
 use Rattle.due_step.specs.Ready.{IsReady}
 use Rattle.shard_core.specs.Operating.{StayBy, Comes, Ends}
-use Rattle.shard_core.specs.Core.{Core}
 use Rattle.shard_core.specs.Whole.{IsAtRest}
 use Rattle.shard_core.proofs.Seeing.{single, part_known, doomed_known}
 use Rattle.shard_core.proofs.Logged.{All, logged_more, logged_known, logged_without}
@@ -258,9 +257,6 @@ module _ (a : Parts) (tx : TxId) (birth : Birth) (seen_epoch : Option ℕ) (op :
       quiet h = subst (λ (y : TxState). IsSameBut a.transactions a.transactions.local y) (sym h) refl
 
 -- ---- in the end
-
-pub rest_same : (c : Core) → IsAtRest c → finish c.shard ≡ c.shard
-rest_same c r = ap (λ (x : Shard). with_local purge x) (nothing_to_do c.shard (none_is_nothing c.shard r.ready.cover)) ∙ r.ready.purged
 
 pub ends : (reply : OpReply) (s t u : Shard) (r : Reply) → finish s ≡ s → u ≡ finish t → Comes reply s r t → Ends reply s r u
 ends told s t u (Answered answer copy epoch) rest same x = (x.0, x.1, x.2, same ∙ x.3, x.4)

@@ -1,6 +1,5 @@
 -- What the turn of a fetch and that of a restart add.
-use Rattle.std.proofs.Common.{◌≡◌, ◌∙◌, refl, sym, ap, subst, ℕ, ◌≤◌, ◌==◌, Bool, true, false, cond, List, [], ◌∷◌, arith, Option, Result, Ok, Err}
-use Rattle.std.proofs.lemmas.Bool.{eq-eqb}
+use Rattle.std.proofs.Common.{◌≡◌, ◌∙◌, refl, sym, ap, subst, ℕ, ◌≤◌, ◌==◌, Bool, true, false, List, [], ◌∷◌, arith, Option, Result, Ok, Err}
 use Rattle.std.specs.List.{AllByRecursion}
 use Rattle.clv_base.specs.declared.logs.LogRecord.{LogRecord}
 use Rattle.clv_base.specs.declared.events.Event.TheVariants.{Restart}
@@ -23,6 +22,7 @@ use Rattle.shard_revival.specs.declared.error.RestartError.{RestartError}
 use Rattle.shard_revival.specs.declared.error.RestartError.TheVariants.{Failed, NotLog, Worn, Memory}
 use Rattle.session_births.specs.Births.{IsBornBy}
 use Rattle.shard_revival.specs.Revived.{Revives, Rests, ReviveTold, clock_at}
+use Rattle.session_births.proofs.Laws.{by_one}
 
 -- the notes are the walker's, they give no gate, and none is an operation's with a birth past the clock
 pub record AddsCalmly (w clock : ℕ) (added : List Note) : Type 0 where
@@ -32,9 +32,6 @@ pub record AddsCalmly (w clock : ℕ) (added : List Note) : Type 0 where
 
 pub nothing_added : (w clock : ℕ) (added : List Note) → added ≡ [] → AddsCalmly w clock added
 nothing_added w clock added is = subst (AddsCalmly w clock) (sym is) (record { by = refl; takes = λ t. refl; born = tt })
-
-by_one : (w : ℕ) (x : Note) → noter x ≡ w → entries_by noter w (x ∷ []) ≡ x ∷ []
-by_one w x h = ap (λ b. cond b (x ∷ []) []) (eq-eqb (noter x) w h)
 
 pub fetch_adds : {D : Type 0} (w clock : ℕ) (r : Result D FetchError) (s t : Shard) (added : List Note) → FetchTold w r s t added → AddsCalmly w clock added
 fetch_adds w clock (Ok d) s t added h = subst (AddsCalmly w clock) (sym h.2) (record { by = by_one w (FetchedBy w) refl; takes = λ k. refl; born = tt })
@@ -55,7 +52,7 @@ revive_adds clock w epoch found (Ok n) clock' c s t added h =
     subst (AddsCalmly w c) (sym v.added_is) (restart_adds w c v.made (log_after_restart s.shard found s.run epoch) (ap (λ y. y.walker) v.made_is.entry_is) (ap (λ y. y.event) v.made_is.entry_is))
 revive_adds clock w epoch found (Err e) clock' c s t added h = nothing_added w c added h.added_is
 
-at_later : (clock : ℕ) (e : RestartError) → clock ≤ clock_at clock e
+pub at_later : (clock : ℕ) (e : RestartError) → clock ≤ clock_at clock e
 at_later clock Failed = omega arith
 at_later clock (NotLog at) = omega arith
 at_later clock (Worn at) = omega arith

@@ -18,14 +18,14 @@ use Rattle.turn_laws.specs.declared.notes.Note.TheVariants.{Made}
 use Rattle.turn_laws.specs.declared.notes.Origin.{Origin}
 use Rattle.turn_laws.specs.Notes.{noter}
 use Rattle.turn_laws.specs.Homes.{holder_of, entries_in, IsLegal}
-use Rattle.turn_laws.proofs.Laws.{held_rests, above}
+use Rattle.turn_laws.proofs.Laws.{held_rests}
 use Rattle.cluster_turns.specs.Turns.{Turned}
 use Rattle.cluster_turns.specs.Walkers.{Walked}
 use Rattle.cluster_turns.proofs.Laws.{Adds, none, made_adds, some_inj}
 use Rattle.cluster_ends.specs.Held.{Holds}
 use Rattle.shard_revival.specs.declared.error.RestartError.{RestartError}
-use Rattle.shard_revival.specs.declared.error.RestartError.TheVariants.{Failed, NotLog, Worn, Memory}
-use Rattle.shard_revival.specs.Revived.{ReviveTold, clock_at}
+use Rattle.shard_revival.specs.Revived.{ReviveTold}
+use Rattle.shard_revival.proofs.Adding.{at_later as clock_rises}
 
 module _ {T : Type 0} where
   pub holds_same : (w : ℕ) (P : Shard → Type 0) (p q : Pass T Note Origin) → seen q ≡ seen p → pass_origin q ≡ pass_origin p → Holds w P p → Holds w P q
@@ -69,12 +69,6 @@ adds_own {D} clock w epoch n found r clock' s t seen before after added h is sam
         (All-cons (λ x. noter x ≡ n) (Made v.made (log_after_restart s.shard found s.run epoch)) [] (ap (λ y. y.walker) v.made_is.entry_is ∙ sym num) (All-nil (λ x. noter x ≡ n)))
     own (Err e) k = subst (λ l. All (λ x. noter x ≡ n) l) (sym k.added_is) (All-nil (λ x. noter x ≡ n))
 
-clock_rises : (clock : ℕ) (e : RestartError) → clock ≤ clock_at clock e
-clock_rises clock Failed = omega arith
-clock_rises clock (NotLog at) = omega arith
-clock_rises clock (Worn at) = omega arith
-clock_rises clock Memory = omega arith
-
 -- and what the walker keeps goes on
 pub revive_adds : {D : Type 0} (splits : List ℕ) (run w n clock clock' epoch : ℕ) (es : History) (found : List LogRecord) (r : Result ℕ (RestartError × D)) (s t : Shard) (added : List Note) → ReviveTold clock w epoch found r clock' s t added → is_session splits run w es ≡ true
     → Adds splits run w n clock clock' es (entries_in added)
@@ -84,11 +78,6 @@ revive_adds {D} splits run w n clock clock' epoch es found (Ok m) s t added h se
     (made_adds splits run w n clock clock' es Restart (revives s clock w epoch (log_after_restart s.shard found s.run epoch)) s t _ v.made v.made_is (let k = v.clock_is in omega arith) session refl tt)
 revive_adds {D} splits run w n clock clock' epoch es found (Err e) s t added h session =
     subst (λ l. Adds splits run w n clock clock' es (entries_in l)) (sym h.added_is) (none (let k = h.clock_is in let c = clock_rises clock e.0 in omega arith))
-
--- the clock after the turn is no less
-pub revive_rises : {D : Type 0} (clock w epoch : ℕ) (found : List LogRecord) (r : Result ℕ (RestartError × D)) (clock' : ℕ) (s t : Shard) (added : List Note) → ReviveTold clock w epoch found r clock' s t added → clock ≤ clock'
-revive_rises clock w epoch found (Ok m) clock' s t added h = let v = h.1 in let k = v.clock_is in let e = above (revives s clock w epoch (log_after_restart s.shard found s.run epoch)) s clock w Restart _ t v.made v.made_is in omega arith
-revive_rises clock w epoch found (Err e) clock' s t added h = let k = h.clock_is in let c = clock_rises clock e.0 in omega arith
 
 -- a turn that refused the restart saw no more
 pub same_seen : {D : Type 0} (clock w epoch : ℕ) (found : List LogRecord) (r : Result ℕ (RestartError × D)) (clock' : ℕ) (s t : Shard) (saw before added sees : List Note) (from from' : Option Origin) → ReviveTold clock w epoch found r clock' s t added → before ≡ saw

@@ -1,8 +1,8 @@
 use Rattle.std.proofs.Common.{codes, arith, ◌≡◌, ◌≤◌}
 use Rattle.clap.specs.Words.{found_of}
 use Rattle.command_words.proofs.Found.{found_some, found_none, tries_by, number_of_tries, default_tries}
-use Rattle.command_words.proofs.Numbers.{number_once}
 use Rattle.command_words.proofs.meanings.tries_of.Goals as goal
+use Rattle.script_lang.proofs.Laws.{number_once}
 
 pub returns-in_default : goal.returns-in_default
 returns-in_default c = default_tries _ (found_none (found_of c.args.given.now) (codes "tries") c.get_str.result c.get_str.ensures c.in_default.is)

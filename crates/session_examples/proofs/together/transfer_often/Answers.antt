@@ -1,8 +1,8 @@
 use Rattle.std.proofs.Common.{◌∙◌, sym, subst, arith}
 use Rattle.session_scripts.specs.Standing.{Holds}
 use Rattle.session_examples.proofs.Walking.{holds_later}
-use Rattle.session_examples.proofs.Seats.{none_active}
 use Rattle.session_examples.proofs.together.transfer_often.Goals as goal
+use Rattle.session_examples.proofs.Idling.{ends_idle as none_active}
 
 pub returns-in-Err-clause-session : goal.returns-in-Err-clause-session
 returns-in-Err-clause-session g c =

@@ -8,8 +8,9 @@ use Rattle.cluster_turns.proofs.Laws.{walks, still_pass, the}
 use Rattle.cluster_ends.specs.Held.{Holds}
 use Rattle.cluster_ends.specs.Restarts.{Recovers}
 use Rattle.shard_revival.specs.Revived.{IsReadyFor, ReviveTold, IsSameSeen}
-use Rattle.shard_revival.proofs.Holding.{revive_adds, revive_rises, on_err}
+use Rattle.shard_revival.proofs.Holding.{revive_adds, on_err}
 use Rattle.shard_revival.proofs.restarting.bring_back.Goals as goal
+use Rattle.shard_revival.proofs.Adding.{revive_later as revive_rises}
 
 pub unwrap-pass-requires : goal.unwrap-pass-requires
 unwrap-pass-requires g c = let t = c.requires.walker.walks.are_passes.each c.args.shard c.index_mut.result.now c.requires.shard in let is : c.take.result ≡ Some t.0 = c.take.ensures.value ∙ (c.index_mut.ensures.value ∙ t.1) in search rules

@@ -3,8 +3,8 @@ use Rattle.std.proofs.Common.{sym, ap, ◌∙◌, drop}
 use Rattle.clv_base.specs.Logs.{fitting}
 use Rattle.clv_base.specs.Events.{taken}
 use Rattle.shard_core.specs.Core.{Core}
-use Rattle.shard_core.proofs.Looked.{taken_is}
 use Rattle.shard_core.proofs.shard.ShardCore.next_count.Goals as goal
+use Rattle.shard_core.proofs.Flying.{taken_is}
 
 pub returns : goal.returns
 returns g c =

@@ -2,8 +2,9 @@
 use Rattle.std.proofs.Common.{ap, ◌∙◌}
 use Rattle.clv_base.specs.OneShard.{op_reply}
 use Rattle.clv_base.specs.Events.{finish}
-use Rattle.shard_core.proofs.Operated.{rest_same, ends}
+use Rattle.shard_core.proofs.Operated.{ends}
 use Rattle.shard_core.proofs.shard.ShardCore.operate.Goals as goal
+use Rattle.shard_core.proofs.Looked.{rest_is as rest_same}
 
 pub returns-clause-ok : goal.returns-clause-ok
 returns-clause-ok g c =

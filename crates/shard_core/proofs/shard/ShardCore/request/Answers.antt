@@ -10,8 +10,8 @@ use Rattle.shard_core.specs.declared.requesting.RequestAnswer.{RequestAnswer}
 use Rattle.shard_core.specs.Requesting.{requested}
 use Rattle.shard_core.specs.Core.{Core}
 use Rattle.shard_core.proofs.Asking.{named, misfit, fits, gone_by}
-use Rattle.shard_core.proofs.Operated.{rest_same}
 use Rattle.shard_core.proofs.shard.ShardCore.request.Goals as goal
+use Rattle.shard_core.proofs.Looked.{rest_is as rest_same}
 
 pub returns-then-seen-now-clause-ok : goal.returns-then-seen-now-clause-ok
 returns-then-seen-now-clause-ok g c =

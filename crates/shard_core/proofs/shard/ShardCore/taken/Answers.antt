@@ -2,8 +2,8 @@
 use Rattle.std.proofs.Common.{◌≡◌, sym, ap, subst, ◌∙◌, ◌≤◌, length}
 use Rattle.clv_base.specs.Events.{taken}
 use Rattle.shard_core.specs.Core.{Core}
-use Rattle.shard_core.proofs.Looked.{taken_is}
 use Rattle.shard_core.proofs.shard.ShardCore.taken.Goals as goal
+use Rattle.shard_core.proofs.Flying.{taken_is}
 
 pub returns-clause-taken : goal.returns-clause-taken
 returns-clause-taken g c =
