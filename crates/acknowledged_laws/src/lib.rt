@@ -1,12 +1,10 @@
 //! Where an acknowledged transaction is, in each legal history: its COMMIT is left at its home, whatever a crash keeps, or it only read: it wrote
 //! nothing at its home, is gone there and never fell, and each other shard that its request names voted read. Each law is the clause of a
 //! function with an empty body; the statements stand in specs/. They join what `fate_laws` says of votes and decisions with what `fall_laws` and
-//! `unfallen_laws` say of who falls.
+//! `acknowledged_laws` say of who falls.
 #![tactic(auto)]
 
 pub mod laws;
-
 pub mod members;
-pub mod sessions;
-
 pub mod reader;
+pub mod sessions;

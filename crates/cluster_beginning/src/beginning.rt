@@ -14,23 +14,21 @@ ghost use Rattle.cluster_beginning.specs.Begun.{AreFound, AreLocked, IsTakenBack
 use crate::locking::{Logs, lock_all};
 use crate::rooms::take_rooms;
 use cluster_ends::Room;
+use cluster_opening::{give_back_locks, make_walkers};
 use cluster_turns::{Home, Shards, Walker};
-use cluster_opening::give_back_locks;
 use clv_base::logs::LogRecord;
 use disk_model::House;
 use disks_opening::{Found, OpenError, open_disks};
 use key_map::KeyMap;
 use lock_table::Locks;
 use log_gate::LogGate;
-use machine_calls::Machine;
-use machine_calls::OverDisks;
+use machine_calls::{Machine, OverDisks};
 use ordered_store::Store;
 use shard_machine::ShardMachine;
 use std::alloc::Global;
 use std::snapshot::Snapshot;
 use turn_laws::{Note, Origin};
 use turn_lock::{Pass, TurnLock};
-use cluster_opening::make_walkers;
 
 /// A cluster that has begun: its shards, its walkers, all memory that its end takes, and what the logs stand for.
 pub struct Opened<M: Machine> {

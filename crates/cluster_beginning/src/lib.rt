@@ -1,8 +1,8 @@
 //! The beginning of a cluster over the disks of a house: the disks are opened and judged, each shard is recovered and goes into its lock, and
 //! walkers get their passes. Where that is refused, every disk is back in the house.
 //!
-//! All memory that the cluster's end takes is taken here, before a disk is opened. It stands on `disks_opening`, `shards_opening`,
-//! `walkers_making` and `cluster_undoing`.
+//! All memory that the cluster's end takes is taken here, before a disk is opened. It stands on `disks_opening`, `cluster_opening`,
+//! `cluster_opening` and `cluster_opening`.
 #![tactic(auto)]
 
 mod beginning;

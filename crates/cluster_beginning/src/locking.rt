@@ -8,8 +8,8 @@ ghost use Rattle.cluster_opening.specs.Undone.{AreOpened};
 ghost use Rattle.cluster_beginning.specs.Begun.{AreFound, AreLocked, IsTakenBack, told_as as telling};
 
 use batch_gate::BatchGate;
+use cluster_opening::{open_shards, undo};
 use cluster_turns::{Home, Shards};
-use cluster_opening::undo;
 use clv_base::logs::LogRecord;
 use clv_base::splits::Splits;
 use disk_model::House;
@@ -17,7 +17,6 @@ use disks_opening::OpenError;
 use gate_recovery::RecoverError;
 use log_gate::Gate;
 use machine_calls::OverDisks;
-use cluster_opening::open_shards;
 use std::alloc::Global;
 use std::array;
 use std::snapshot::Snapshot;

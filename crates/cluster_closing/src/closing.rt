@@ -22,12 +22,10 @@ ghost use Rattle.cluster_closing.specs.Closing.{IsBack, IsLowestDown, lists};
 use crate::leaving::Closed;
 use crate::parting::{Lists, lowest_down, part_all};
 use crate::returning::give_back_held;
-use cluster_ends::Room;
-use cluster_ends::Fetched;
+use cluster_ends::{Fetched, Room};
 use cluster_turns::{Shards, Walker};
 use disk_model::House;
-use machine_calls::Machine;
-use machine_calls::OverDisks;
+use machine_calls::{Machine, OverDisks};
 use ordered_store::Store;
 use std::snapshot::Snapshot;
 

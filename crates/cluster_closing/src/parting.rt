@@ -6,8 +6,7 @@ use cluster_turns::Home;
 use clv_base::events::Entry;
 use disk_model::House;
 use log_gate::Gate;
-use machine_calls::{Machine, Parts};
-use machine_calls::OverDisks;
+use machine_calls::{Machine, OverDisks, Parts};
 use ordered_store::Store;
 
 // The lowest shard that is down.

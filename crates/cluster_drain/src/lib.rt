@@ -12,9 +12,11 @@ pub use tending::DrainError;
 mod flushing;
 mod flying;
 mod turns;
+
 pub use flushing::{FlushError, Flushed, flush_once};
 
 mod carrying;
 mod reminding;
+
 pub use carrying::{Carry, CarryError, carry_once};
 pub use reminding::{Reminding, remind_once};

@@ -3,9 +3,8 @@ ghost use Rattle.std.specs.Prelude.{◌≡◌, ◌<◌, length};
 ghost use Rattle.cluster_turns.specs.Walkers.{IsWalker, IsSameWalker};
 ghost use Rattle.cluster_drain.specs.Rounds.{CarriedAll, Tended, flush_refusal, carry_refusal};
 
+use crate::{Carry, CarryError, FlushError, Flushed, carry_once, flush_once, remind_once};
 use batch_gate::Batch;
-use crate::{Carry, CarryError, carry_once, remind_once};
-use crate::{FlushError, Flushed, flush_once};
 use cluster_turns::{Shards, Walker};
 use io_edge::Pace;
 use machine_calls::{Flier, Machine};

@@ -8,13 +8,14 @@ mod memory;
 pub use closing::close;
 pub use memory::Room;
 
+pub mod cluster_home_promises;
+mod parting;
 pub mod promises;
 
-mod parting;
-pub mod cluster_home_promises;
 pub use parting::take_apart;
 
-mod fetching;
 pub mod cluster_restart_promises;
+mod fetching;
 mod taking;
+
 pub use fetching::{FetchError, Fetched, fetch};

@@ -4,13 +4,13 @@ ghost use Rattle.clv_base.specs.declared.logs.LogRecord.{LogRecord};
 ghost use Rattle.cluster_opening.specs.ShardsOpeningOpened.{StoppedAt};
 ghost use Rattle.cluster_opening.specs.Undone.{AreOpened, AreFine, AreBack, CountsBack};
 
+use crate::Stopped;
 use crate::giving::{give_back_above, give_back_locks};
 use cluster_turns::Home;
 use disk_model::House;
 use gate_recovery::RecoverError;
 use log_gate::Gate;
 use machine_calls::OverDisks;
-use crate::Stopped;
 use turn_laws::{Note, Origin};
 use turn_lock::{Pass, TurnLock};
 

@@ -4,8 +4,8 @@ ghost use Rattle.script_runs.specs.declared.ends.StopCause.TheVariants.{Worn};
 ghost use Rattle.session_scripts.specs.Standing.{IsAtRest};
 ghost use Rattle.cluster_runs.specs.Sessions.{HasWornLast};
 
-use cluster_drain::{DrainError, drain};
 use cluster_closing::promises::{drains_fetch_none, drains_hold_none};
+use cluster_drain::{DrainError, drain};
 use cluster_ends::promises::drains_land;
 use cluster_turns::{Home, Shards, Walker};
 use io_edge::Pace;

@@ -17,4 +17,5 @@ mod draining;
 mod over;
 mod seats;
 mod sessions;
+
 pub use over::run_over;

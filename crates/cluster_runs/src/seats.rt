@@ -10,8 +10,7 @@ use io_edge::Pace;
 use machine_calls::Flier;
 use run_status::graver;
 use script_lang::Session;
-use script_runs::Seat;
-use script_runs::StopCause;
+use script_runs::{Seat, StopCause};
 use session_scripts::ScriptSession;
 use std::sync::Wait;
 

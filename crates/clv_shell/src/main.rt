@@ -3,7 +3,7 @@
 //!
 //! `run` is the top call, over any source, sink and house of disks; its contract is the promise of the program. `main` makes the real ones:
 //! standard input, standard output, and the files of the working folder. It stands on `command_words` and `script_lang` for what it reads, on
-//! `disks_making` and `cluster_runs` for the disks, and on `report_text` and `run_status` for what it answers.
+//! `disks_opening` and `cluster_runs` for the disks, and on `report_text` and `run_status` for what it answers.
 #![tactic(auto)]
 
 mod ended;

@@ -17,9 +17,10 @@ pub use giving::give_back_all;
 pub use opening::{Found, open_disks};
 
 mod disks_making_error;
-mod making;
 #[cfg(test)]
 mod disks_making_tests;
+mod making;
+
 pub use disks_making_error::MakeError;
 pub use making::make_all;
 

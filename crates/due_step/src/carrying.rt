@@ -5,10 +5,10 @@ ghost use Rattle.txn_core.specs.State.{IsSameBut};
 ghost use Rattle.txn_core.specs.Sound.{HasSpare, SpendsSpare};
 ghost use Rattle.due_step.specs.Carried.{local_after, ruled, voted, IsPurged, CarriesLocal};
 
+use crate::Due;
 use clv_base::causes::Vote;
 use clv_base::names::TxId;
 use clv_base::state::Ruling;
-use crate::Due;
 use lock_table::Locks;
 use ordered_store::Store;
 use txn_core::ShardTx;

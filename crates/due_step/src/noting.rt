@@ -6,10 +6,10 @@ ghost use Rattle.clv_base.specs.Undo.{doomed_by};
 ghost use Rattle.due_candidates.specs.Held.{HasRoomBy};
 ghost use Rattle.due_step.specs.Noting.{ruled_touches, touches};
 
+use crate::Due;
 use clv_base::names::TxId;
 use clv_base::state::Ruling;
 use due_candidates::Candidates;
-use crate::Due;
 use lock_table::Locks;
 use ordered_store::Store;
 use txn_core::ShardTx;

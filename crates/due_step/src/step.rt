@@ -8,13 +8,10 @@ ghost use Rattle.clv_base.specs.Undo.{doomed_by};
 ghost use Rattle.due_candidates.specs.Held.{HasRoomBy};
 ghost use Rattle.due_step.specs.Steps.{IsSeen, ArePrepares, Steps, Notes};
 
+use crate::{Due, Outbox, carry, find_due, note_touched, tell};
 use clv_base::names::TxId;
 use commit_coordinator::Coordinator;
 use due_candidates::Candidates;
-use crate::carry;
-use crate::{Due, find_due};
-use crate::{Outbox, tell};
-use crate::note_touched;
 use lock_table::Locks;
 use ordered_store::Store;
 use tx_table::TxTable;

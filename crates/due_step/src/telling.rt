@@ -5,13 +5,13 @@ ghost use Rattle.vote_participant.specs.Voting.{home_by};
 ghost use Rattle.commit_coordinator.specs.Coordinated.{told_by};
 ghost use Rattle.due_step.specs.Sent.{decide_all, told, CarriesMessages};
 
+use crate::Due;
 use crate::outbox::Outbox;
 use clv_base::messages::Message;
 use clv_base::names::TxId;
 use clv_base::parts::ShardList;
 use clv_base::state::Ruling;
 use commit_coordinator::Coordinator;
-use crate::Due;
 use vote_participant::Participant;
 
 /// The decision goes to each of the shards.

@@ -6,6 +6,5 @@
 pub mod aborts;
 pub mod commits;
 pub mod decisions;
-pub mod votes;
-
 pub mod earlier_laws;
+pub mod votes;

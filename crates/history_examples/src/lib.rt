@@ -7,25 +7,23 @@ pub mod legal;
 // Examples of the protocol, computed from its definitions: each function's clause says what a list of steps leads to.
 // An example with several transactions says all that was answered, the records of each log and the live pairs of each shard.
 // Stands on the definitions of clv_base alone. No crate stands on this one.
+pub mod aborted;
 pub mod cascades;
+pub mod committed;
 pub mod crashes;
+pub mod cut;
 pub mod doubts;
+pub mod dropped;
+pub mod flight;
 pub mod histories;
 pub mod logs;
 pub mod messages;
-pub mod scans;
-pub mod soundness;
-pub mod waiting;
-pub mod writers;
-
-pub mod aborted;
-pub mod committed;
-pub mod dropped;
-pub mod flight;
 pub mod reading;
 pub mod reopened;
 pub mod restarted;
+pub mod scans;
+pub mod soundness;
 pub mod undone;
+pub mod waiting;
 pub mod wide_waiting;
-
-pub mod cut;
+pub mod writers;

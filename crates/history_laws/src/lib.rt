@@ -5,5 +5,4 @@
 
 pub mod members;
 pub mod sessions;
-
 pub mod statements;

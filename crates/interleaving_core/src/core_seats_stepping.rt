@@ -7,9 +7,9 @@ ghost use Rattle.world_laws.specs.Moves.{Moves};
 ghost use Rattle.world_laws.specs.Fronts.{FrontsFit};
 ghost use Rattle.interleaving_core.specs.Seated.{IsSeated};
 
+use crate::ListGate;
 use crate::seat::Seat;
 use clv_base::events::{Event, Outcome};
-use crate::ListGate;
 use machine_calls::{Machine, StepError};
 use std::alloc::{AllocError, Global};
 

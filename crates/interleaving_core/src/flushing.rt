@@ -8,9 +8,9 @@ ghost use Rattle.world_laws.specs.Fronts.{FrontsFit, LandsBy};
 ghost use Rattle.interleaving_core.specs.Seated.{IsSeated, IsAway};
 ghost use Rattle.interleaving_core.specs.declared.seat.Air.TheVariants.{Home, Lost};
 
+use crate::ListGate;
 use crate::seat::{Air, Seat, let_go};
 use clv_base::events::Outcome;
-use crate::ListGate;
 use machine_calls::{Flier, Flight, Machine, StepError};
 use std::alloc::{AllocError, Global};
 use std::mem::replace;

@@ -1,9 +1,9 @@
 // The end of a seat.
 ghost use Rattle.std.specs.Prelude.{◌≡◌};
 
+use crate::ListGate;
 use crate::seat::{Seat, let_go};
 use clv_base::events::Entry;
-use crate::ListGate;
 use machine_calls::{Machine, Parts};
 
 /// Takes a seat apart, and gives the journal. Takes no memory.

@@ -14,30 +14,34 @@ pub use world::World;
 
 mod gate;
 mod reading;
+
 pub use gate::ListGate;
 
 mod clocks;
 mod messages;
 #[cfg(test)]
 mod tests;
+
 pub use clocks::clock_of;
 pub use messages::was_sent;
 
 mod following;
 mod making;
 mod sessions;
+
 pub use following::session_of;
 pub use sessions::Session;
 
+mod core_seats_stepping;
 mod flushing;
 mod leaving;
 mod opening;
 mod restarting;
 mod seat;
-mod core_seats_stepping;
+
+pub use core_seats_stepping::step;
 pub use flushing::{flush_in, flush_out};
 pub use leaving::leave;
 pub use opening::open;
 pub use restarting::restart;
 pub use seat::{Air, Seat};
-pub use core_seats_stepping::step;

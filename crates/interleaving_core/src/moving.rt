@@ -10,9 +10,8 @@ ghost use Rattle.world_laws.specs.Fronts.{FrontsFit, LandsBy};
 ghost use Rattle.world_laws.specs.Moves.{Moves};
 ghost use Rattle.interleaving_core.specs.Making.{MakesEntry};
 
+use crate::{ListGate, Seat, flush_in, flush_out, restart, step};
 use clv_base::events::{CoreStep, Entry, Event, Outcome};
-use crate::{Seat, flush_in, flush_out, restart, step};
-use crate::ListGate;
 use machine_calls::{Flier, Machine, Restarter};
 use std::alloc::{AllocError, Global};
 

@@ -9,10 +9,9 @@ ghost use Rattle.interleaving_core.specs.Naming.{names_fit};
 ghost use Rattle.world_laws.specs.Running.{session_may as session_may_in, is_offered as offered};
 ghost use Rattle.interleaving_core.specs.Sound.{AllFit};
 
+use crate::{session_of, was_sent};
 use clv_base::events::{Entry, Event};
 use clv_base::splits::Splits;
-use crate::was_sent;
-use crate::session_of;
 use std::alloc::{AllocError, Global};
 
 fn comes_after_sending(history: &[(u32, Entry)], event: &Event) -> bool

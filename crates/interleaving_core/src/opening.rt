@@ -3,9 +3,9 @@ ghost use Rattle.std.specs.Prelude.{◌≡◌, ◌<◌, [], IfOk};
 ghost use Rattle.clv_base.specs.Restarts.{opened};
 ghost use Rattle.interleaving_core.specs.Seated.{IsSeated};
 
+use crate::ListGate;
 use crate::seat::{Air, Seat};
 use gate_recovery::recover;
-use crate::ListGate;
 use machine_calls::{Machine, Maker};
 use ordered_store::Store;
 use std::alloc::{AllocError, Global};

@@ -13,14 +13,14 @@ ghost use Rattle.world_laws.specs.Moves.{Moves};
 ghost use Rattle.interleaving_core.specs.Seated.{IsSeated, HasLog};
 ghost use Rattle.interleaving_core.specs.declared.seat.Air.TheVariants.{Home};
 
+use crate::ListGate;
 use crate::seat::{Air, Seat};
 use clv_base::events::Outcome;
 use clv_base::logs::LogRecord;
 use gate_recovery::recover;
-use crate::ListGate;
-use restart_misfit::copy_log;
 use machine_calls::{Flight, Machine, Restarter};
 use ordered_store::Store;
+use restart_misfit::copy_log;
 use std::alloc::{AllocError, Global};
 use std::mem::replace;
 

@@ -14,15 +14,13 @@ use crate::moving::{has_rival, make_entry};
 use crate::offering::is_offered;
 use crate::placing::put_entry;
 use crate::world::World;
+use crate::{ListGate, Seat, clock_of, open};
 use clv_base::events::CoreStep;
 use clv_base::splits::Splits;
-use crate::{Seat, open};
-use crate::clock_of;
 use journal_laws::statements::run_events_is_legal;
-use crate::ListGate;
 use machine_calls::{Flier, Machine, Maker, Restarter};
-use world_laws::promise_promises::{logs_stay_in_order, worlds_keep_promise};
 use std::alloc::{AllocError, Global};
+use world_laws::promise_promises::{logs_stay_in_order, worlds_keep_promise};
 
 // All shards as they open empty logs. An `Err` is want of memory.
 fn begin<M: Maker + Machine<Gate = ListGate>>(

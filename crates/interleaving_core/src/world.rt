@@ -1,9 +1,8 @@
 // All shards together.
 ghost use Rattle.std.specs.Prelude.{◌≡◌};
 
+use crate::{ListGate, Seat, leave};
 use clv_base::events::Entry;
-use crate::{Seat, leave};
-use crate::ListGate;
 use machine_calls::Machine;
 
 /// The shards' machines, by their numbers, and the entries so far with their shards, by stamp, then shard.

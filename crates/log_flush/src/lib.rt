@@ -12,8 +12,9 @@ mod tests;
 pub use flushing::{FlushError, flush_all};
 
 mod batch;
-mod spelling;
 #[cfg(test)]
 mod batch_bytes_tests;
+mod spelling;
+
 pub use batch::batch_bytes;
 pub use spelling::spell;

@@ -22,4 +22,5 @@ pub use making::make;
 pub use opening::open_log;
 
 mod log_reopening_opening;
+
 pub use log_reopening_opening::{disk_of, open_gate};

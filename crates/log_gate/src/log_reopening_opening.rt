@@ -9,9 +9,9 @@ ghost use Rattle.log_gate.specs.Opening.{CountsOpening};
 ghost use Rattle.log_gate.specs.View.{Only, logs_of, logs_told};
 ghost use Rattle.log_gate.specs.declared.error.OpenLogError.TheVariants.{NotLog};
 
+use crate::{Header, LogGate, OpenLogError, open_log};
 use clv_base::logs::LogRecord;
 use disk_model::Disk;
-use crate::{Header, LogGate, OpenLogError, open_log};
 use std::alloc::Global;
 
 /// The disk of a gate as it stands: its logs are the gate's. Takes no memory.

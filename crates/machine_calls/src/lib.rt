@@ -16,5 +16,6 @@ pub use restarts::Restarter;
 
 mod machines_opening_disks;
 mod recovering;
+
 pub use machines_opening_disks::OverDisks;
 pub use recovering::{recover_shard, take_apart};

@@ -10,11 +10,11 @@ ghost use Rattle.log_gate.specs.View.{Only};
 ghost use Rattle.machine_calls.specs.Recovered.{IsLeft, CountsLeft, IsMachineAt};
 
 use crate::machines_opening_disks::OverDisks;
+use crate::{Machine, Maker, Parts};
 use clv_base::logs::LogRecord;
 use disk_model::Disk;
 use gate_recovery::{RecoverError, recover};
 use log_gate::Gate;
-use crate::{Machine, Maker, Parts};
 use ordered_store::Store;
 use std::alloc::Global;
 

@@ -12,11 +12,10 @@ use clv_base::names::TxId;
 use clv_base::ops::Op;
 use clv_base::splits::Splits;
 use disk_memory::MemoryDisk;
-use shard_revival::{Ready, recover_disk};
-use log_gate::LogGate;
-use log_gate::disk_of;
+use log_gate::{LogGate, disk_of};
 use machine_runs::flush;
 use ordered_store::Store;
+use shard_revival::{Ready, recover_disk};
 use std::alloc::{AllocError, Global};
 use store_blocks::BlockStore;
 

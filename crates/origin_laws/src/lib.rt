@@ -4,5 +4,4 @@
 #![tactic(auto)]
 
 pub mod laws;
-
 pub mod wait;

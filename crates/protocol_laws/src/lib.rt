@@ -4,10 +4,9 @@
 #![tactic(auto)]
 
 pub mod events;
+pub mod order;
 pub mod replay;
 pub mod restarts;
 pub mod sessions;
 pub mod undo;
 pub mod votes;
-
-pub mod order;

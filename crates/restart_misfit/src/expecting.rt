@@ -3,9 +3,9 @@ ghost use Rattle.std.specs.Prelude.{◌≡◌, ◌++◌, ◌∷◌, ℕ, List, c
 ghost use Rattle.clv_base.specs.declared.logs.LogRecord.{LogRecord as Rec};
 ghost use Rattle.clv_base.specs.Restarts.{greatest_epoch, log_after_restart};
 
+use crate::copy_log;
 use clv_base::logs::LogRecord;
 use log_buffer::LogBuffer;
-use crate::copy_log;
 use restart_analysis::analyse;
 use shard_recovery::restart;
 use std::alloc::{AllocError, Global};

@@ -12,10 +12,11 @@ mod records;
 
 pub use misfits::{Fallen, misfit};
 
+mod copying;
 #[cfg(test)]
 mod tests;
 
-mod copying;
 pub use copying::copy_log;
+
 #[cfg(test)]
 mod log_copies_tests;

@@ -3,8 +3,6 @@
 //! (`headline_laws`). For any number of shards and sessions. It stands on the definitions of `clv_base` and on the log of an image (`log_gate`).
 #![tactic(auto)]
 
-pub mod statements;
-
-pub mod shards_promises_statements;
-
 pub mod replay;
+pub mod shards_promises_statements;
+pub mod statements;

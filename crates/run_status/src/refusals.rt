@@ -5,8 +5,7 @@ ghost use Rattle.run_status.specs.Refusals.{of_words, of_source, of_script, of_m
 
 use crate::status::Status;
 use command_words::WordsError;
-use disks_opening::MakeError;
-use disks_opening::OpenError;
+use disks_opening::{MakeError, OpenError};
 use io_edge::ReadError;
 use script_lang::ScriptError;
 

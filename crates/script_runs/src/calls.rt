@@ -7,8 +7,8 @@ ghost use Rattle.script_runs.specs.Seen.{Standing, Idle, Active, Seen as SeenIs}
 ghost use Rattle.script_runs.specs.Told.{has_range, BeginTold, RetryTold, OperateTold, CommitTold, AbortTold};
 ghost use Rattle.script_runs.specs.Tried.{OnStop, OnRefusal};
 
-use clv_base::ops::{Answer, Op};
 use crate::{StopCause, TryEnd};
+use clv_base::ops::{Answer, Op};
 use std::alloc::Global;
 
 /// A session of a store. What its calls add to its entries is told by their answers, in the words of tries.

@@ -5,9 +5,9 @@
 #![tactic(auto)]
 
 mod calls;
-pub mod statements;
 mod retrying;
 mod running;
+pub mod statements;
 mod trying;
 
 pub use calls::SessionCalls;
@@ -16,10 +16,12 @@ pub use running::run_session;
 mod ends;
 pub mod examples;
 pub mod promises;
+
 pub use ends::{StopCause, TryEnd};
 
 mod behind;
 mod script_threads_running;
 mod seats;
+
 pub use script_threads_running::{Start, run_all};
 pub use seats::Seat;

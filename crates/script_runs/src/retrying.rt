@@ -10,9 +10,9 @@ ghost use Rattle.script_runs.specs.Ran.{NextIs, stop_in, IsIdle, IdleAfter, InTr
 
 use crate::calls::SessionCalls;
 use crate::trying::run_try;
+use crate::{StopCause, TryEnd};
 use clv_base::causes::AbortCause;
 use script_lang::Transaction;
-use crate::{StopCause, TryEnd};
 use std::alloc::Global;
 use std::sync::Wait;
 

@@ -4,10 +4,10 @@ ghost use Rattle.std.specs.List.{list_all};
 ghost use Rattle.script_lang.specs.Laws.{is_narrow_body};
 ghost use Rattle.script_runs.specs.Ran.{stop_in, IsIdle, IdleAfter, Follows};
 
+use crate::StopCause;
 use crate::calls::SessionCalls;
 use crate::retrying::run_transaction;
 use script_lang::Transaction;
-use crate::StopCause;
 use std::alloc::Global;
 use std::sync::Wait;
 

@@ -4,9 +4,9 @@ ghost use Rattle.std.specs.List.{list_all};
 ghost use Rattle.script_lang.specs.Laws.{is_narrow_body};
 ghost use Rattle.script_runs.specs.Ran.{stop_in, IsIdle, Follows};
 
+use crate::SessionCalls;
 use crate::behind::run_behind_first;
 use crate::seats::{Seat, run_together};
-use crate::SessionCalls;
 use std::alloc::Global;
 use std::sync::Wait;
 use std::thread::Threads;

@@ -4,9 +4,8 @@ ghost use Rattle.std.specs.List.{list_all};
 ghost use Rattle.script_lang.specs.Laws.{is_narrow_body};
 ghost use Rattle.script_runs.specs.Ran.{stop_in, IsIdle, Follows};
 
+use crate::{SessionCalls, StopCause, run_session};
 use script_lang::Transaction;
-use crate::{SessionCalls, run_session};
-use crate::StopCause;
 use std::alloc::Global;
 use std::sync::Wait;
 use std::thread;

@@ -10,8 +10,8 @@ ghost use Rattle.script_runs.specs.Tried.{OnStop, OnRefusal, Tried};
 ghost use Rattle.script_runs.specs.Lines.{LinesTold};
 
 use crate::calls::SessionCalls;
-use script_lang::{Action, Ending, Following, Transaction};
 use crate::{StopCause, TryEnd};
+use script_lang::{Action, Ending, Following, Transaction};
 use std::alloc::Global;
 use std::sync::Wait;
 

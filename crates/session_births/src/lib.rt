@@ -2,12 +2,11 @@
 //! not even this one has.
 #![tactic(auto)]
 
-pub mod promises;
-
-pub mod walker_turns_promises;
-
 pub mod place;
+pub mod promises;
 pub mod session_progress_promises;
 #[cfg(test)]
 mod tests;
+pub mod walker_turns_promises;
+
 pub use place::{Place, Stage};

@@ -7,8 +7,8 @@ ghost use Rattle.std.specs.Prelude.{None};
 
 use cluster_turns::{Shards, Walker, WornClock};
 use machine_calls::Machine;
-use session_ops::drop_parts;
 use session_births::Place;
+use session_ops::drop_parts;
 use std::alloc::Global;
 use std::sync::Wait;
 

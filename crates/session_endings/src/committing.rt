@@ -7,6 +7,7 @@ ghost use Rattle.session_endings.specs.Standings.{StandsAs};
 ghost use Rattle.session_endings.specs.Decided.{committed_as};
 ghost use Rattle.session_endings.specs.Committed.{next_as, Answering, Following, Committing, CommitTold};
 
+use crate::SettleError;
 use crate::leaving::{finish, leave_others};
 use cluster_turns::{Shards, Walker};
 use clv_base::causes::AbortCause;
@@ -14,9 +15,8 @@ use clv_base::events::Outcome;
 use clv_base::names::Point;
 use io_edge::Pace;
 use machine_calls::{Flier, StepError};
-use session_ops::request;
 use session_births::Place;
-use crate::SettleError;
+use session_ops::request;
 use std::alloc::Global;
 use std::sync::Wait;
 

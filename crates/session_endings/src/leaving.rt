@@ -7,13 +7,13 @@ ghost use Rattle.clv_base.specs.Sessions.{after_drop};
 ghost use Rattle.session_endings.specs.Standings.{StandsAs};
 ghost use Rattle.session_endings.specs.Decided.{Leaving, LeavesIf, IsLeftOver, Deciding, is_aborted};
 
+use crate::{SettleError, settle};
 use cluster_turns::{Shards, Walker};
 use clv_base::names::Point;
 use io_edge::Pace;
 use machine_calls::{Flier, Machine};
-use session_ops::drop_parts;
 use session_births::Place;
-use crate::{SettleError, settle};
+use session_ops::drop_parts;
 use std::alloc::Global;
 use std::sync::Wait;
 

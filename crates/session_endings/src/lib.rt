@@ -15,12 +15,14 @@ pub use leaving::{finish, leave_if};
 mod looking;
 mod settling;
 mod waiting;
+
 pub use looking::SettleError;
 pub use settling::settle;
 
 mod parts;
 mod points;
 mod scanning;
+
 pub use points::{at_key, del, get, put};
 pub use scanning::scan;
 

@@ -9,8 +9,8 @@ use clv_base::causes::AbortCause;
 use clv_base::events::Outcome;
 use clv_base::names::Point;
 use machine_calls::{Machine, StepError};
-use session_ops::look;
 use session_births::Place;
+use session_ops::look;
 use std::alloc::Global;
 use std::sync::Wait;
 

@@ -9,13 +9,13 @@ ghost use Rattle.session_ops.specs.Standing.{IsActive};
 ghost use Rattle.session_ops.specs.Operated.{PlacedBy, answered_in};
 ghost use Rattle.session_endings.specs.Parts.{Performing, StandsUnless, has_died};
 
+use crate::leave_if;
 use cluster_turns::{Shards, Walker};
 use clv_base::ops::{Answer, Op};
 use io_edge::Pace;
 use machine_calls::Flier;
-use crate::leave_if;
-use session_ops::{OpError, operate};
 use session_births::Place;
+use session_ops::{OpError, operate};
 use std::alloc::Global;
 use std::sync::Wait;
 

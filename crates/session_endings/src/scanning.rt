@@ -14,8 +14,8 @@ use clv_base::ops::{Answer, Op};
 use clv_base::splits::Splits;
 use io_edge::Pace;
 use machine_calls::Flier;
-use session_ops::OpError;
 use session_births::Place;
+use session_ops::OpError;
 use std::alloc::Global;
 use std::sync::Wait;
 

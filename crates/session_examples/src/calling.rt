@@ -9,8 +9,9 @@ ghost use Rattle.session_examples.specs.Programs.{HasRun, AnyMade};
 use crate::closing::{Left, close_all};
 use crate::sitting::{leave, sit};
 use cluster_beginning::{Opened, open_all};
-use cluster_drain::{Carry, CarryError, Reminding, carry_once, remind_once};
-use cluster_drain::{FlushError, Flushed, flush_once};
+use cluster_drain::{
+    Carry, CarryError, FlushError, Flushed, Reminding, carry_once, flush_once, remind_once,
+};
 use cluster_turns::{Shards, Walker};
 use disk_model::House;
 use disks_opening::OpenError;

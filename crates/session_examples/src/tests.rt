@@ -12,8 +12,7 @@ use crate::{
     Quiet, Revival, open_call_close, open_revive_close, open_transfer_close,
     open_transfer_together_close,
 };
-use cluster_drain::{Carry, Reminding};
-use cluster_drain::Flushed;
+use cluster_drain::{Carry, Flushed, Reminding};
 use cluster_ends::FetchError;
 use disk_memory::MemoryHouse;
 use disk_model::House;

@@ -11,24 +11,29 @@ pub use operating::{OpError, operate};
 
 mod parts;
 mod rounds;
+
 pub use parts::RoundError;
 pub use rounds::{round, round_for};
 
 mod beginning;
 pub mod promises;
+
 pub use beginning::begin;
 
 mod looking;
 mod requesting;
+
 pub use looking::look;
 pub use requesting::request;
 
 mod dropping;
 mod leaving;
 pub mod session_drops_promises;
+
 pub use dropping::drop_part;
 pub use leaving::drop_parts;
 
-pub mod session_retries_promises;
 mod retrying;
+pub mod session_retries_promises;
+
 pub use retrying::retry;

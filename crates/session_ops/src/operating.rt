@@ -10,6 +10,7 @@ ghost use Rattle.session_ops.specs.Standing.{IsActive};
 ghost use Rattle.session_ops.specs.Operated.{Operated, PlacedBy, StandsBy, answered_in, tried, refusal_of};
 
 use crate::asking::ask;
+use crate::{RoundError, round};
 use cluster_turns::{Shards, Walker};
 use clv_base::causes::AbortCause;
 use clv_base::events::Outcome;
@@ -18,7 +19,6 @@ use crossbeam_utils::Backoff;
 use io_edge::Pace;
 use machine_calls::{Flier, Machine, StepError};
 use session_births::Place;
-use crate::{RoundError, round};
 use std::alloc::Global;
 use std::sync::Wait;
 

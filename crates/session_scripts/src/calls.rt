@@ -9,8 +9,7 @@ use cluster_turns::Shards;
 use clv_base::ops::{Answer, Op};
 use io_edge::Pace;
 use machine_calls::Flier;
-use script_runs::SessionCalls;
-use script_runs::{StopCause, TryEnd};
+use script_runs::{SessionCalls, StopCause, TryEnd};
 use std::alloc::Global;
 use std::sync::Wait;
 

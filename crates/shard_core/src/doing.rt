@@ -3,8 +3,7 @@ ghost use Rattle.std.specs.Prelude.{◌≡◌};
 
 use crate::shard::ShardCore;
 use clv_base::names::TxId;
-use due_step::Dues;
-use due_step::do_one;
+use due_step::{Dues, do_one};
 use lock_table::Locks;
 use ordered_store::Store;
 

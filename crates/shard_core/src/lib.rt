@@ -3,7 +3,7 @@
 //! It promises that all that is due is done as the protocol's definition does it, one thing after another by candidates, and that this takes no
 //! memory: room for it is part of what always holds.
 //! It is made of what recovery found, exactly the state after a restart.
-//! It stands on `due_step` and `due_loop`, and its maker on `shard_restoring`.
+//! It stands on `due_step` and `due_step`, and its maker on `shard_restoring`.
 #![tactic(auto)]
 
 mod answering;
@@ -32,4 +32,5 @@ pub use crate::shard::ShardCore;
 mod prepares;
 #[cfg(test)]
 mod tests;
+
 pub use prepares::prepares_of;

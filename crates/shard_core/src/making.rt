@@ -9,6 +9,7 @@ ghost use Rattle.clv_base.specs.Restarts.{state_after};
 ghost use Rattle.machine_calls.specs.Restored.{IsRestored};
 ghost use Rattle.shard_core.specs.Whole.{IsAtRest};
 
+use crate::prepares_of;
 use crate::shard::ShardCore;
 use clv_base::names::TxId;
 use clv_base::parts::ShardList;
@@ -21,7 +22,6 @@ use gate_recovery::Recovered;
 use lock_table::Locks;
 use ordered_store::Store;
 use protocol_laws::events::restarts_end_at_rest;
-use crate::prepares_of;
 use shard_restoring::restored;
 use std::alloc::Global;
 use txn_core::Memory;

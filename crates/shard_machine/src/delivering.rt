@@ -9,13 +9,13 @@ ghost use Rattle.machine_calls.specs.Steps.{Tells};
 use crate::hearing::hear;
 use crate::machine::ShardMachine;
 use crate::stamps::{enter, place};
+use crate::{Happened, is_stale};
 use clv_base::events::{Event, Outcome};
 use clv_base::messages::Message;
 use lock_table::Locks;
 use log_gate::Gate;
 use machine_calls::StepError;
 use ordered_store::Store;
-use crate::{Happened, is_stale};
 use std::alloc::Global;
 
 impl<S: Store + Drop, L: Locks + Drop, G: Gate> ShardMachine<S, L, G> {

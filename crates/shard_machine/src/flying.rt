@@ -13,9 +13,9 @@ ghost use Rattle.shard_core.specs.Whole.{IsAtRest};
 
 use crate::machine::ShardMachine;
 use crate::stamps::{enter, place};
-use log_flush::batch_bytes;
 use clv_base::events::{Event, Outcome};
 use lock_table::Locks;
+use log_flush::batch_bytes;
 use log_gate::Gate;
 use machine_calls::{Flight, StepError};
 use ordered_store::Store;

@@ -5,13 +5,13 @@ ghost use Rattle.clv_base.specs.Events.{on_prepare, on_message};
 ghost use Rattle.shard_core.specs.Whole.{IsAtRest};
 ghost use Rattle.shard_machine.specs.Happening.{Happens};
 
+use crate::{Happened, answer_question, take_decision, take_done, take_vote};
 use clv_base::events::Outcome;
 use clv_base::messages::Message;
 use clv_base::names::TxId;
 use lock_table::Locks;
 use ordered_store::Store;
 use shard_core::ShardCore;
-use crate::{Happened, answer_question, take_decision, take_done, take_vote};
 use std::alloc::Global;
 use txn_core::Memory;
 

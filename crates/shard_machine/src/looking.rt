@@ -7,13 +7,13 @@ ghost use Rattle.machine_calls.specs.Steps.{Tells};
 
 use crate::machine::ShardMachine;
 use crate::stamps::{enter, forget, place};
+use crate::{Happened, look};
 use clv_base::events::{Event, Outcome};
 use clv_base::names::TxId;
 use lock_table::Locks;
 use log_gate::Gate;
 use machine_calls::StepError;
 use ordered_store::Store;
-use crate::{Happened, look};
 
 impl<S: Store + Drop, L: Locks + Drop, G: Gate> ShardMachine<S, L, G> {
     /// A look. It leaves the core as it is.

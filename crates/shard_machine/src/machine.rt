@@ -3,13 +3,13 @@ ghost use Rattle.std.specs.Prelude.{◌≡◌, not, length};
 ghost use Rattle.clv_base.specs.Journals.{has_equal_active_birth as has_equal_birth_in};
 ghost use Rattle.machine_calls.specs.Settled.{is_settled as is_settled_in};
 
+use crate::Journal;
 use clv_base::names::{Birth, TxId};
 use lock_table::Locks;
 use log_gate::Gate;
 use machine_calls::Parts;
 use ordered_store::Store;
 use shard_core::ShardCore;
-use crate::Journal;
 use std::marker::Model;
 
 /// The machine of a shard. It has its gate unless that is away: for a flush, or because it was taken from a shard that is down.

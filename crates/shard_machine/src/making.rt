@@ -3,6 +3,7 @@ ghost use Rattle.std.specs.Prelude.{◌≡◌, ◌<◌, [], Some, IfOk, IfErr};
 ghost use Rattle.clv_base.specs.Restarts.{state_after};
 ghost use Rattle.machine_calls.specs.Restored.{IsRestored};
 
+use crate::Journal;
 use crate::machine::ShardMachine;
 use crate::stamps::has_room;
 use gate_recovery::Recovered;
@@ -11,7 +12,6 @@ use log_gate::Gate;
 use machine_calls::Maker;
 use ordered_store::Store;
 use shard_core::ShardCore;
-use crate::Journal;
 use std::alloc::Global;
 
 impl<S: Store + Drop, L: Locks + Drop, G: Gate> ShardMachine<S, L, G> {

@@ -11,6 +11,7 @@ ghost use Rattle.spelling_laws.specs.Spelled.{fits_op};
 
 use crate::machine::ShardMachine;
 use crate::stamps::{enter, place};
+use crate::{Happened, operate};
 use clv_base::events::{Event, Outcome};
 use clv_base::names::{Birth, TxId};
 use clv_base::ops::Op;
@@ -19,7 +20,6 @@ use log_gate::Gate;
 use machine_calls::StepError;
 use ordered_store::Store;
 use shard_core::ShardCore;
-use crate::{Happened, operate};
 use std::alloc::Global;
 
 /// How many parts an operation of the transaction would make.

@@ -4,9 +4,9 @@ ghost use Rattle.machine_calls.specs.Steps.{entry as entry_of};
 ghost use Rattle.shard_machine.specs.Answers.{Refuses};
 ghost use Rattle.shard_machine.specs.Stamps.{newest, stamp_by};
 
+use crate::Journal;
 use clv_base::events::{Entry, Event, Outcome};
 use machine_calls::StepError;
-use crate::Journal;
 
 /// Stamps end below this.
 pub(crate) const STAMPS: u64 = 1 << 48;

@@ -1,7 +1,7 @@
 //! The restart of a shard that is down, by the walker that has its disk: the disk is recovered with no turn held, and then, in one turn, the shard is up
 //! again with its records, and the log that it was left with is noted.
 //!
-//! Where a restart is refused nothing is noted, the walker still has the disk, and it may be tried again. It stands on `disk_recovering`.
+//! Where a restart is refused nothing is noted, the walker still has the disk, and it may be tried again. It stands on `shard_revival`.
 #![tactic(auto)]
 
 mod restarting;
@@ -14,6 +14,7 @@ mod error;
 mod judging;
 pub mod promises;
 mod recovering;
+
 pub use error::RestartError;
 pub use recovering::{Ready, recover_disk};
 

@@ -9,10 +9,10 @@ ghost use Rattle.shard_revival.specs.Revived.{IsReadyFor, ReviveTold, IsSameSeen
 ghost use Rattle.shard_revival.specs.Restarted.{RestartTold};
 
 use crate::turns::take_up;
+use crate::{Ready, RestartError, recover_disk};
 use cluster_ends::Fetched;
 use cluster_turns::{Shards, Walker};
 use disk_model::Disk;
-use crate::{Ready, RestartError, recover_disk};
 use log_gate::Gate;
 use machine_calls::{Machine, Reopener};
 use ordered_store::Store;

@@ -8,9 +8,9 @@ ghost use Rattle.turn_laws.specs.Sound.{IsSound};
 ghost use Rattle.cluster_ends.specs.Restarts.{Recovers};
 ghost use Rattle.shard_revival.specs.Revived.{IsReadyFor, ReviveTold, StepTold};
 
+use crate::{Ready, RestartError};
 use cluster_turns::Home;
 use clv_base::events::Outcome;
-use crate::{Ready, RestartError};
 use disks_opening::At;
 use log_gate::Gate;
 use machine_calls::{Machine, Reopener, StepError};

@@ -7,8 +7,8 @@ ghost use Rattle.cluster_ends.specs.Restarts.{Recovers};
 ghost use Rattle.shard_revival.specs.Revived.{IsReadyFor, ReviveTold};
 
 use crate::reviving::bring_up;
-use cluster_turns::Home;
 use crate::{Ready, RestartError};
+use cluster_turns::Home;
 use log_gate::Gate;
 use machine_calls::{Machine, Reopener};
 use ordered_store::Store;

@@ -12,9 +12,9 @@ use clv_base::state::Stage;
 use lock_table::{ListLocks, Locks};
 use log_buffer::LogBuffer;
 use ordered_store::{SortedStore, Store};
-use tx_index::PartTable;
 use std::alloc::{AllocError, Global};
 use std::test::Fail;
+use tx_index::PartTable;
 use txn_core::{Reply, ShardTx};
 use violation_deps::Deps;
 

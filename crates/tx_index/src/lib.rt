@@ -10,7 +10,8 @@ mod tests;
 
 pub use index::TxIndex;
 
-mod table;
 #[cfg(test)]
 mod part_table_tests;
+mod table;
+
 pub use table::PartTable;

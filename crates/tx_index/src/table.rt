@@ -5,13 +5,13 @@ ghost use Rattle.std.specs.Map.{keys_of};
 ghost use Rattle.clv_base.specs.Orders.{tx_cmp, tx_get, tx_put};
 ghost use Rattle.tx_index.specs.Parts.{IsNoReturn, is_here as here_by, parts_here};
 
+use crate::TxIndex;
 use clv_base::names::TxId;
 use clv_base::state::{Held, Stage};
 use std::alloc::{AllocError, Global};
 use std::collections::BTreeMap;
 use std::collections::btree_map::Iter;
 use std::marker::Model;
-use crate::TxIndex;
 use tx_table::TxTable;
 
 /// The parts of one shard's transactions, in one epoch.

@@ -18,8 +18,8 @@ use log_buffer::LogBuffer;
 use op_effects::{add_predecessors, enter_part, reserve_locks, take_locks, write_down};
 use op_needs::{Plan, Write};
 use ordered_store::Store;
-use tx_index::PartTable;
 use std::alloc::Global;
+use tx_index::PartTable;
 use violation_deps::Deps;
 
 /// Whether a transaction has no part here, and yet an UPDATE in the log, from before a restart. Its session is told of the restart before it

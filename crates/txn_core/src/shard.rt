@@ -8,8 +8,8 @@ use clv_base::state::{Held, Stage};
 use lock_table::Locks;
 use log_buffer::LogBuffer;
 use ordered_store::Store;
-use tx_index::PartTable;
 use std::marker::Model;
+use tx_index::PartTable;
 use violation_deps::Deps;
 
 /// The records, locks, log, dependencies and parts of one shard, in one epoch.

@@ -11,8 +11,8 @@ use clv_base::names::TxId;
 use lock_table::{Locks, Memory};
 use log_buffer::LogBuffer;
 use ordered_store::Store;
-use tx_index::PartTable;
 use std::alloc::Global;
+use tx_index::PartTable;
 
 /// How many records the undo of these transactions, each of which is named once, may write: a CLR for each of their UPDATEs, and an ABORT for
 /// each that wrote.

@@ -2,6 +2,5 @@
 //! known before its outcome.
 #![tactic(auto)]
 
-pub mod promises;
-
 pub mod promise_promises;
+pub mod promises;

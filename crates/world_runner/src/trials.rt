@@ -5,8 +5,7 @@ use clv_base::splits::Splits;
 use std::alloc::{AllocError, Global};
 use std::test::Fail;
 use world_machines::Lists;
-use world_steps::{Left, Runner};
-use world_steps::{Difference, try_seed};
+use world_steps::{Difference, Left, Runner, try_seed};
 
 // Leaves out a pair of the lowest shard.
 struct Forgetful;

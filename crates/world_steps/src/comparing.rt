@@ -1,5 +1,6 @@
 // What is left, compared with a serial run.
 
+use crate::Left;
 use crate::serial::{Serial, serial_of};
 use clv_base::events::{Entry, Event, Outcome};
 use clv_base::names::TxId;
@@ -7,7 +8,6 @@ use clv_base::ops::Answer;
 use history_replay::{replay, stands};
 use key_map::KeyMap;
 use std::alloc::{AllocError, Global};
-use crate::Left;
 
 /// What isn't as in the serial run.
 #[derive(Clone, Copy, Debug)]

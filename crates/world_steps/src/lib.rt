@@ -1,7 +1,7 @@
 //! Worlds of machines that are run by seeds: schedules of sessions, flushes, messages, stops and restarts that follow from a number, what a crash of all
 //! shards may leave of each, and the comparison of that with a serial run.
 //!
-//! It promises that each of its calls is safe and ends. It stands on `world_runs`, whose trait tells who runs lists of steps, and on `history_replay` for the serial runs.
+//! It promises that each of its calls is safe and ends. It stands on `world_steps`, whose trait tells who runs lists of steps, and on `history_replay` for the serial runs.
 #![tactic(auto)]
 
 mod comparing;
@@ -22,5 +22,6 @@ pub use trial::{Trial, try_seed};
 
 mod runners;
 mod running;
+
 pub use runners::{Left, Runner};
 pub use running::run;

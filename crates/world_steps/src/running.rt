@@ -7,12 +7,10 @@ use clv_base::events::CoreStep;
 use clv_base::logs::LogRecord;
 use clv_base::modes::Found;
 use clv_base::splits::Splits;
-use interleaving_core::{Air, Seat};
-use interleaving_core::{World, run_events};
-use interleaving_core::ListGate;
-use restart_misfit::copy_log;
+use interleaving_core::{Air, ListGate, Seat, World, run_events};
 use machine_calls::{Flier, Flight, Machine, Maker, Parts, Restarter};
 use ordered_store::Store;
+use restart_misfit::copy_log;
 use std::alloc::{AllocError, Global};
 
 // What a shard's machine is made of, at its end.

@@ -1,5 +1,6 @@
 // Lists of steps that follow from numbers.
 
+use crate::Runner;
 use crate::letters::{deliver_one, letters, waiting};
 use crate::numbers::Numbers;
 use crate::sessions::{by, session_step};
@@ -8,7 +9,6 @@ use crate::sights::{shard_sight, sight_of};
 use clv_base::events::{CoreStep, Entry, Event};
 use clv_base::splits::Splits;
 use std::alloc::{AllocError, Global};
-use crate::Runner;
 
 // One step of each session.
 fn add_sessions(

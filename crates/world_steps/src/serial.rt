@@ -1,11 +1,11 @@
 // The serial history that a history stands for.
 
+use crate::Left;
 use clv_base::events::{Entry, Event, Outcome};
 use clv_base::logs::LogRecord;
 use clv_base::names::TxId;
 use clv_base::ops::{Answer, Op};
 use std::alloc::{AllocError, Global};
-use crate::Left;
 
 /// The committed transactions in the order of their requests, each with its operations and what these were answered.
 #[derive(Drop)]

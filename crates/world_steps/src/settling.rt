@@ -4,10 +4,10 @@ use crate::letters::{deliver, letters, waiting};
 use crate::sessions::by;
 use crate::shards::{flush_in, flush_out, restart};
 use crate::sights::shard_sight;
+use crate::{Left, Runner};
 use clv_base::events::{CoreStep, Entry, Event};
 use clv_base::splits::Splits;
 use std::alloc::{AllocError, Global};
-use crate::{Left, Runner};
 
 // So many rounds at most are made until all is settled.
 const ROUNDS: u32 = 40;

@@ -1,12 +1,12 @@
 // What was met.
 
+use crate::Left;
 use clv_base::causes::{AbortCause, NoWhy, Vote};
 use clv_base::events::{Entry, Event, Outcome};
 use clv_base::logs::LogRecord;
 use clv_base::messages::Message;
 use clv_base::names::TxId;
 use clv_base::ops::{Answer, Op};
-use crate::Left;
 
 /// How much of each was met.
 #[derive(Clone, Copy)]

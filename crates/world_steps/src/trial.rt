@@ -1,5 +1,6 @@
 // The trial of a seed.
 
+use crate::Runner;
 use crate::comparing::{Difference, compare};
 use crate::numbers::Numbers;
 use crate::schedule::schedule;
@@ -8,7 +9,6 @@ use crate::tally::Tally;
 use clv_base::events::CoreStep;
 use clv_base::splits::Splits;
 use std::alloc::{AllocError, Global};
-use crate::Runner;
 
 // So many rounds make a schedule.
 const ROUNDS: u32 = 32;
