@@ -23,7 +23,7 @@ use Rattle.disks_opening.specs.Logs.{LogsOfAll}
 use Rattle.disks_opening.specs.Opening.{Refuses, CountsOpen}
 use Rattle.disks_opening.specs.Houses.{WentOut}
 use Rattle.machine_calls.specs.Recovered.{HasBegun}
-use Rattle.cluster_opening.specs.ShardsOpeningOpened.{AreOpenGates}
+use Rattle.cluster_opening.specs.AllOpened.{AreOpenGates}
 
 module _ {M S G : Type 0} where
   -- the shards in their locks, with so many passes each: the logs found are those that the disks held, and may be opened together by the run

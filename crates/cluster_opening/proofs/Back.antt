@@ -8,7 +8,7 @@ use Rattle.turn_lock.specs.declared.pass.TurnLock.{TurnLock}
 use Rattle.turn_lock.specs.declared.pass.Pass.{Pass}
 use Rattle.turn_laws.specs.declared.notes.Note.{Note}
 use Rattle.turn_laws.specs.declared.notes.Origin.{Origin}
-use Rattle.cluster_opening.specs.ShardsOpeningOpened.{IsOpenedAt}
+use Rattle.cluster_opening.specs.AllOpened.{IsOpenedAt}
 use Rattle.cluster_opening.specs.Undone.{AreOpened, CameBack}
 
 module _ {G : Type 0} (told : G → Option Story) (faults : G → ℕ) where

@@ -12,7 +12,7 @@ use Rattle.turn_lock.specs.Passes.{IsNewPass}
 use Rattle.turn_laws.specs.declared.notes.Note.{Note}
 use Rattle.turn_laws.specs.declared.notes.Origin.{Origin}
 use Rattle.cluster_turns.specs.Walkers.{AreNewPasses}
-use Rattle.cluster_opening.specs.ShardsOpeningOpened.{IsOpenedAt}
+use Rattle.cluster_opening.specs.AllOpened.{IsOpenedAt}
 use Rattle.law_base.proofs.Lists.{elem_at as some_elem}
 use Rattle.law_base.proofs.Options.{value_or as the}
 

@@ -10,7 +10,7 @@ use Rattle.disk_model.specs.Disk.{Adds, Rose}
 use Rattle.gate_recovery.specs.declared.recovering.RecoverError.{RecoverError}
 use Rattle.gate_recovery.specs.declared.recovering.RecoverError.TheVariants.{Failed, Memory}
 use Rattle.machine_calls.specs.Recovered.{IsLeft, unwritten, CountsLeft}
-use Rattle.cluster_opening.specs.ShardsOpeningOpened.{StoppedAt}
+use Rattle.cluster_opening.specs.AllOpened.{StoppedAt}
 use Rattle.cluster_opening.specs.Undone.{AreFine, AreBack, CountsBack}
 use Rattle.law_base.proofs.Lists.{elem_at as some_elem}
 

@@ -1,4 +1,4 @@
 pub mod Opened
-pub mod ShardsOpeningOpened
+pub mod AllOpened
 pub mod Made
 pub mod Undone

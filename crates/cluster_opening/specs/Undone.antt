@@ -12,7 +12,7 @@ use Rattle.turn_lock.specs.declared.pass.Pass.{Pass}
 use Rattle.turn_laws.specs.declared.notes.Note.{Note}
 use Rattle.turn_laws.specs.declared.notes.Origin.{Origin}
 use Rattle.machine_calls.specs.Recovered.{IsLeft}
-use Rattle.cluster_opening.specs.ShardsOpeningOpened.{IsOpenedAt}
+use Rattle.cluster_opening.specs.AllOpened.{IsOpenedAt}
 
 module _ {T : Type 0} where
   -- each lock is round its shard, which opened its log, and these are its passes, which had no turn

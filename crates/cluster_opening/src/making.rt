@@ -5,7 +5,7 @@ ghost use Rattle.clv_base.specs.LogRules.{log_of};
 ghost use Rattle.clv_base.specs.Restarts.{run_after};
 ghost use Rattle.clv_base.specs.Shards.{shard_count};
 ghost use Rattle.cluster_turns.specs.Walkers.{founds_of};
-ghost use Rattle.cluster_opening.specs.ShardsOpeningOpened.{IsOpenedAt};
+ghost use Rattle.cluster_opening.specs.AllOpened.{IsOpenedAt};
 ghost use Rattle.cluster_opening.specs.Made.{IsNewWalker};
 
 use cluster_turns::{Home, Shards, Walker};

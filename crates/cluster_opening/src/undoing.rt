@@ -1,7 +1,7 @@
 // An opening that stopped.
 ghost use Rattle.std.specs.Prelude.{◌≡◌, ◌<◌, ◌≤◌, ◌+◌, ℕ, suc, true, List, vec_len};
 ghost use Rattle.clv_base.specs.declared.logs.LogRecord.{LogRecord};
-ghost use Rattle.cluster_opening.specs.ShardsOpeningOpened.{StoppedAt};
+ghost use Rattle.cluster_opening.specs.AllOpened.{StoppedAt};
 ghost use Rattle.cluster_opening.specs.Undone.{AreOpened, AreFine, AreBack, CountsBack};
 
 use crate::Stopped;

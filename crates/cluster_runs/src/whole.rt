@@ -19,7 +19,7 @@ use io_edge::Pace;
 use lock_table::Locks;
 use log_gate::LogGate;
 use ordered_store::Store;
-use run_promises::shards_promises_statements::sessions_have_ended;
+use run_promises::shards_statements::sessions_have_ended;
 use run_status::running_status;
 use script_lang::Session;
 use script_runs::Start;

@@ -7,8 +7,8 @@ use Rattle.log_gate.specs.Header.{header_bytes}
 use Rattle.log_gate.specs.Opening.{IsUnchanged}
 use Rattle.log_gate.specs.declared.error.MakeError.{MakeError as OneError}
 use Rattle.log_gate.specs.declared.error.MakeError.TheVariants as one
-use Rattle.disks_opening.specs.declared.disks_making_error.MakeError.{MakeError}
-use Rattle.disks_opening.specs.declared.disks_making_error.MakeError.TheVariants.{Exists, Failed, Memory}
+use Rattle.disks_opening.specs.declared.making_error.MakeError.{MakeError}
+use Rattle.disks_opening.specs.declared.making_error.MakeError.TheVariants.{Exists, Failed, Memory}
 
 -- a disk that tells its bytes has none
 abbrev pub IsEmpty : Option Story → Type 0

@@ -6,7 +6,7 @@ ghost use Rattle.disk_model.specs.Disk.{Tells};
 ghost use Rattle.log_gate.specs.Opening.{IsUnchanged};
 ghost use Rattle.disks_opening.specs.Making.{IsEmpty, IsMade, Spares, AreUnchanged, Refuses, CountsMaking, RefusesOne, CountsOne, told_as};
 
-use crate::disks_making_error::MakeError;
+use crate::making_error::MakeError;
 use clv_base::splits::Splits;
 use disk_model::{Disk, House};
 use log_gate::{Header, MakeError as OneError, make};

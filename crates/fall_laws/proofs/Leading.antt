@@ -37,7 +37,7 @@ use Rattle.fall_laws.proofs.Restored.{RestoredArePrepared, restored_prepared}
 use Rattle.fall_laws.proofs.Doubted.{items_are_old, asked_are_old, met_are_old, with_found, one_after, found_with}
 use Rattle.fall_laws.proofs.Touching.{Here, Remembers, AskedFrom, asked_from, not_asked, may_ask, may_touch}
 use Rattle.fall_laws.proofs.Delivering.{when_up, comes_to, decide_taken, may_prepare}
-use Rattle.fall_laws.proofs.EachShardFinding.{AllFound, DropsSpared, all_found, drops_spared}
+use Rattle.fall_laws.proofs.ShardFinding.{AllFound, DropsSpared, all_found, drops_spared}
 use Rattle.fall_laws.proofs.Asking.{with_others, asked_own}
 use Rattle.fall_laws.proofs.Remembering.{remembers_more, remembers_own}
 

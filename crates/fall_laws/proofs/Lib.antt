@@ -18,7 +18,7 @@ pub mod Doubted
 pub mod Restored
 pub mod Touching
 pub mod Delivering
-pub mod EachShardFinding
+pub mod ShardFinding
 pub mod Asking
 pub mod Remembering
 pub mod Leading

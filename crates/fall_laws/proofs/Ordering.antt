@@ -4,7 +4,7 @@ use Rattle.std.specs.Prelude.{unwrap_or}
 use Rattle.clv_base.specs.LogRules.{log_of, disorder}
 use Rattle.clv_base.specs.Restarts.{run_after}
 use Rattle.clv_base.specs.Journals.{final_of}
-use Rattle.protocol_laws.proofs.OrderInOrder.{fronts_in_order}
+use Rattle.protocol_laws.proofs.LogsInOrder.{fronts_in_order}
 use Rattle.shard_laws.specs.OneShard.{found_items, found_asked, found_met}
 use Rattle.shard_laws.proofs.OrderKept.{order_is_kept}
 use Rattle.fall_laws.specs.Leading.{deeds_before, requests_of}

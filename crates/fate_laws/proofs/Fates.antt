@@ -28,7 +28,7 @@ use Rattle.law_base.proofs.Commits.{durable_committed}
 use Rattle.law_base.proofs.Options.{none_of}
 use Rattle.protocol_laws.proofs.Records.{own_prepare}
 use Rattle.protocol_laws.proofs.Runs.{record_fits}
-use Rattle.protocol_laws.proofs.OrderInOrder.{runs_in_order}
+use Rattle.protocol_laws.proofs.LogsInOrder.{runs_in_order}
 use Rattle.history_laws.proofs.Entering.{makes}
 use Rattle.history_laws.proofs.Merging.{Placed, Among, among_append, among_right, is_among}
 use Rattle.history_laws.proofs.TellingEvents.{front_committed}

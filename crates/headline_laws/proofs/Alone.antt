@@ -9,7 +9,7 @@ use Rattle.headline_laws.proofs.Headline.{predecessors_stand_before as all_stand
 use Rattle.headline_laws.specs.Replaying.{MembersReplay}
 use Rattle.headline_laws.specs.OneShardRecovering.{PredecessorsStandBefore}
 use Rattle.headline_laws.specs.OneShardSettling.{SettledIsTheMap}
-use Rattle.headline_laws.proofs.OneShardDoubting.{none_in_doubt}
+use Rattle.headline_laws.proofs.OneDoubting.{none_in_doubt}
 
 pub members_replay : MembersReplay
 members_replay before h after choice may l = all_replay [] (before ∷ []) h after choice may l

@@ -4,6 +4,6 @@ pub mod Found
 pub mod Headline
 pub mod Chaining
 pub mod Promising
-pub mod OneShardDoubting
+pub mod OneDoubting
 pub mod Alone
 pub mod Laws

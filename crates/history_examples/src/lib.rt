@@ -1,8 +1,8 @@
-//! Worked legal histories for which the premises of the laws of histories are computed, so that no law speaks of nothing.
+//! Worked histories, so that no law speaks of nothing: lists of events and what they come to, legal histories over one and two shards for
+//! which the premises of the laws are computed (commits over both shards, crashes, restarts, openings with a transaction in doubt, a
+//! reader, waits, deaths and drops), a cut that is no moment, and a part of a history that is no cut. Each fact is the clause of a
+//! function with an empty body.
 #![tactic(auto)]
-
-pub mod doubt;
-pub mod legal;
 
 // Examples of the protocol, computed from its definitions: each function's clause says what a list of steps leads to.
 // An example with several transactions says all that was answered, the records of each log and the live pairs of each shard.
@@ -12,10 +12,12 @@ pub mod cascades;
 pub mod committed;
 pub mod crashes;
 pub mod cut;
+pub mod doubt;
 pub mod doubts;
 pub mod dropped;
 pub mod flight;
 pub mod histories;
+pub mod legal;
 pub mod logs;
 pub mod messages;
 pub mod reading;

@@ -11,7 +11,7 @@ use Rattle.clv_base.proofs.SameNames.{tx_self, in_insert}
 use Rattle.clv_base.specs.LogRules.{log_of}
 use Rattle.clv_base.specs.FileRules.{may_open}
 use Rattle.clv_base.specs.Restarts.{greatest_run, run_after}
-use Rattle.protocol_laws.proofs.OrderInOrder.{runs_in_order}
+use Rattle.protocol_laws.proofs.LogsInOrder.{runs_in_order}
 use Rattle.protocol_laws.proofs.Records.{own_prepare}
 use Rattle.protocol_laws.proofs.Runs.{record_fits}
 use Rattle.history_laws.proofs.OldRuns.{below_next_run}

@@ -11,7 +11,7 @@ use Rattle.clv_base.specs.Restarts.{greatest_run, run_after}
 use Rattle.law_base.proofs.Options.{none_of}
 use Rattle.protocol_laws.proofs.Records.{own_commit}
 use Rattle.protocol_laws.proofs.Runs.{record_fits}
-use Rattle.protocol_laws.proofs.OrderInOrder.{runs_in_order}
+use Rattle.protocol_laws.proofs.LogsInOrder.{runs_in_order}
 use Rattle.law_base.proofs.Logs.{passes_at as each_passes}
 
 pub below_next_run : (logs : List (List LogRecord)) (i : ℕ) → greatest_run (log_of logs i) < run_after logs

@@ -6,9 +6,9 @@ mod Answering
 mod Beginning
 mod Stepping
 mod Spelled
-mod SessionTestsPlacing
+mod SessionPlacing
 mod Entries
-mod CoreSeatsAnswering
+mod SeatAnswering
 mod Keeping
 mod Flying
 mod Reviving

@@ -20,7 +20,7 @@ use clv_base::splits::Splits;
 use journal_laws::statements::run_events_is_legal;
 use machine_calls::{Flier, Machine, Maker, Restarter};
 use std::alloc::{AllocError, Global};
-use world_laws::promise_promises::{logs_stay_in_order, worlds_keep_promise};
+use world_laws::promise::{logs_stay_in_order, worlds_keep_promise};
 
 // All shards as they open empty logs. An `Err` is want of memory.
 fn begin<M: Maker + Machine<Gate = ListGate>>(

@@ -8,7 +8,7 @@ use Rattle.clv_base.specs.FileRules.{has_spelling}
 use Rattle.log_records.specs.Laws.{LengthIsSize}
 use Rattle.log_gate.specs.Image.{IsBatch}
 use Rattle.log_flush.specs.Batches.{spellings}
-use Rattle.log_flush.proofs.BatchBytesSizes.{they_fit, has_bytes}
+use Rattle.log_flush.proofs.BatchSizes.{they_fit, has_bytes}
 
 -- all of those that fit do
 pub those_fit : (room : ℕ) (rs : List LogRecord) → fitting room (take (fitting room rs) rs) ≡ length (take (fitting room rs) rs)

@@ -1,5 +1,5 @@
 pub mod Sizes
 pub mod Flying
-mod BatchBytesSizes
+mod BatchSizes
 mod Fitting
 pub mod Laws

@@ -14,5 +14,5 @@ pub mod SplitLoop
 pub mod Batches
 pub mod Unchanged
 pub mod ManyLogs
-pub mod LogReopeningUnchanged
+pub mod ReopenedUnchanged
 pub mod Laws

@@ -13,6 +13,7 @@ mod making;
 mod opening;
 mod parse;
 mod reading;
+mod reopening;
 
 pub use error::{MakeError, OpenLogError};
 pub use gate::{LogGate, PushError};
@@ -20,7 +21,4 @@ pub use header::Header;
 pub use keeping::Gate;
 pub use making::make;
 pub use opening::open_log;
-
-mod log_reopening_opening;
-
-pub use log_reopening_opening::{disk_of, open_gate};
+pub use reopening::{disk_of, open_gate};

@@ -9,7 +9,7 @@ ghost use Rattle.disk_model.specs.Story.{Story};
 ghost use Rattle.log_gate.specs.View.{Only};
 ghost use Rattle.machine_calls.specs.Recovered.{IsLeft, CountsLeft, IsMachineAt};
 
-use crate::machines_opening_disks::OverDisks;
+use crate::opened_disks::OverDisks;
 use crate::{Machine, Maker, Parts};
 use clv_base::logs::LogRecord;
 use disk_model::Disk;

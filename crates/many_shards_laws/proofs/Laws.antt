@@ -1,2 +1,2 @@
 -- Lemmas that this crate offers to the proofs of the crates above it.
-pub use Rattle.many_shards_laws.proofs.ReplayByShardsReplaying.{replay_by_shards}
+pub use Rattle.many_shards_laws.proofs.ShardReplaying.{replay_by_shards}

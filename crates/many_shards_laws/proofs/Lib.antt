@@ -11,7 +11,7 @@ pub mod Settling
 pub mod Spans
 pub mod Agreeing
 pub mod Standing
-pub mod ReplayByShardsReplaying
+pub mod ShardReplaying
 pub mod Turns
 pub mod Parts
 pub mod Laws

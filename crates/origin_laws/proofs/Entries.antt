@@ -41,7 +41,7 @@ use Rattle.history_laws.proofs.Merging.{Placed, Before, before_then, Among, amon
 use Rattle.history_laws.proofs.Durability.{Counted, fronts_entry, opened_counted}
 use Rattle.history_laws.proofs.Telling.{IsRequest}
 use Rattle.history_laws.proofs.OldRuns.{below_next_run}
-use Rattle.protocol_laws.proofs.OrderInOrder.{runs_in_order}
+use Rattle.protocol_laws.proofs.LogsInOrder.{runs_in_order}
 use Rattle.protocol_laws.specs.Order.{RunFits}
 use Rattle.history_laws.proofs.Worlds.{state_at}
 use Rattle.session_laws.proofs.Walking.{SeenIs, AnswersAt}

@@ -29,7 +29,7 @@ use Rattle.law_base.proofs.Changed.{some_same}
 use Rattle.law_base.proofs.Rows.{rows_get}
 use Rattle.law_base.proofs.Tables.{stage_by}
 use Rattle.protocol_laws.specs.Order.{RunFits}
-use Rattle.protocol_laws.proofs.OrderInOrder.{runs_in_order}
+use Rattle.protocol_laws.proofs.LogsInOrder.{runs_in_order}
 use Rattle.history_laws.proofs.Stepping.{Step, op_answers, Happens, finishes, stops}
 use Rattle.history_laws.proofs.Entering.{Makes, by_event, by_flush, by_failure, by_restart, makes}
 use Rattle.history_laws.proofs.Merging.{Placed, Before, Among, among_append, among_left}

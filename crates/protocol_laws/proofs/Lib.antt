@@ -9,5 +9,5 @@ pub mod Rested
 pub mod Records
 pub mod Runs
 pub mod Writes
-pub mod OrderInOrder
+pub mod LogsInOrder
 pub mod Laws

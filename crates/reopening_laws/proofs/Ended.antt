@@ -29,7 +29,7 @@ use Rattle.fate_laws.proofs.Fates.{fated}
 use Rattle.fate_laws.proofs.Prefixes.{Next, walk, each_shard, DurableIn, Counts, counts_start, counts_next, durable_later}
 use Rattle.fate_laws.proofs.HomesFound.{nat_at}
 use Rattle.reopening_laws.specs.Ended.{EndedAreCommitted}
-use Rattle.reopening_laws.proofs.EndingEnds.{tell_front}
+use Rattle.reopening_laws.proofs.PartsEnded.{tell_front}
 use Rattle.reopening_laws.proofs.Hearing.{Hears}
 use Rattle.reopening_laws.proofs.HearingEvents.{Brings, Enters, SaysOut, hears_mono, hears_opened, hears_made, hears_noted, out_made}
 use Rattle.reopening_laws.proofs.Opening.{opening_tells}

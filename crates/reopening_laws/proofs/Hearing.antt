@@ -39,7 +39,7 @@ use Rattle.fate_laws.proofs.Homes.{Starts, now_at}
 use Rattle.fate_laws.proofs.Parts.{commit_agreed}
 use Rattle.fate_laws.proofs.HomesFound.{nat_at}
 use Rattle.fate_laws.proofs.Rulings.{no_end_undecided}
-use Rattle.reopening_laws.proofs.EndingEnds.{GoesOn, on_same, on_more, on_rolled, Tell, tell_on, tell_end}
+use Rattle.reopening_laws.proofs.PartsEnded.{GoesOn, on_same, on_more, on_rolled, Tell, tell_on, tell_end}
 use Rattle.history_laws.proofs.Rows.{put_row}
 
 -- ---- what is known. K: where whose COMMIT is durable

@@ -40,7 +40,7 @@ use Rattle.history_laws.proofs.Entering.{Makes, by_event, by_flush, by_failure, 
 use Rattle.history_laws.proofs.Durability.{Counted, framed_finish}
 use Rattle.history_laws.proofs.Telling.{all_map}
 use Rattle.fate_laws.proofs.Inside.{inside_self, inside_step}
-use Rattle.reopening_laws.proofs.EndingEnds.{on_more, on_rolled, on_dropped, on_closed, on_opened, on_restarted, step_on, Tell, tell_on, tell_front, tell_mono}
+use Rattle.reopening_laws.proofs.PartsEnded.{on_more, on_rolled, on_dropped, on_closed, on_opened, on_restarted, step_on, Tell, tell_on, tell_front, tell_mono}
 use Rattle.reopening_laws.proofs.Unended.{unended}
 use Rattle.reopening_laws.proofs.Hearing.{Says, Row, Hears, hears_local, hears_set, hears_put, hears_send, hears_finish}
 

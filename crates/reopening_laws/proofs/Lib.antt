@@ -6,7 +6,7 @@ pub mod Here
 pub mod Reopening
 pub mod Failed
 pub mod Ends
-pub mod EndingEnds
+pub mod PartsEnded
 pub mod Unended
 pub mod Hearing
 pub mod HearingEvents

@@ -23,7 +23,7 @@ use Rattle.fate_laws.proofs.Prepares.{plain_more, prepare_new}
 use Rattle.fate_laws.proofs.HomesFound.{part_agreed, home_of, nat_at}
 use Rattle.fate_laws.proofs.RecordKinds.{commit_is}
 use Rattle.fate_laws.proofs.Homes.{new_commit}
-use Rattle.reopening_laws.proofs.EndingEnds.{parts_back, EndsFrom, Tell}
+use Rattle.reopening_laws.proofs.PartsEnded.{parts_back, EndsFrom, Tell}
 use Rattle.history_laws.proofs.Found.{found_in_order}
 use Rattle.law_base.proofs.Bools.{and_first as front, and_second as last}
 

@@ -27,7 +27,7 @@ use Rattle.fate_laws.proofs.Deciding.{log_now}
 use Rattle.fate_laws.proofs.Fates.{Fated, fated_next, fated_start, delivered}
 use Rattle.fate_laws.proofs.Prefixes.{Next, walk, each_shard, one_home, DurableIn}
 use Rattle.reopening_laws.specs.Voters.{WasVoted, PartsAreTheYesVoters}
-use Rattle.reopening_laws.proofs.EndingEnds.{parts_front}
+use Rattle.reopening_laws.proofs.PartsEnded.{parts_front}
 use Rattle.reopening_laws.proofs.Polling.{Chosen, Polls, Owes, polls_opened, polls_made, polls_mono, polls_noted}
 
 -- ---- what is known after a front of the history

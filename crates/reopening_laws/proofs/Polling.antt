@@ -47,7 +47,7 @@ use Rattle.fate_laws.proofs.Parts.{commit_agreed}
 use Rattle.fate_laws.proofs.PartsEvents.{Once}
 use Rattle.fate_laws.proofs.VotesHeld.{votes_get, votes_put}
 use Rattle.fate_laws.proofs.Homes.{new_commit}
-use Rattle.reopening_laws.proofs.EndingEnds.{parts_back, parts_front, on_restarted}
+use Rattle.reopening_laws.proofs.PartsEnded.{parts_back, parts_front, on_restarted}
 use Rattle.history_laws.proofs.Rows.{put_row}
 
 -- ---- lists of shards

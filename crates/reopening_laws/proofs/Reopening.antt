@@ -21,7 +21,7 @@ use Rattle.origin_laws.proofs.Entries.{DidOrOld, IsOld, traced_front}
 use Rattle.fate_laws.specs.Decisions.{is_left}
 use Rattle.fate_laws.proofs.Deciding.{left_committed, commits_stand_at_home}
 use Rattle.history_laws.proofs.Passing.{logs_left_pass, left_length}
-use Rattle.reopening_laws.proofs.EndingEnds.{parts_there}
+use Rattle.reopening_laws.proofs.PartsEnded.{parts_there}
 use Rattle.fall_laws.proofs.Ordering.{logs_left_are_in_order}
 use Rattle.fall_laws.proofs.Records.{committed_from}
 use Rattle.reopening_laws.specs.Reopening.{LogsLeftAgree, LogsLeftMayBeOpened}

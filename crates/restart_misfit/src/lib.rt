@@ -6,17 +6,14 @@
 #![tactic(auto)]
 
 mod agreeing;
+#[cfg(test)]
+mod copy_tests;
+mod copying;
 mod expecting;
 mod misfits;
 mod records;
-
-pub use misfits::{Fallen, misfit};
-
-mod copying;
 #[cfg(test)]
 mod tests;
 
 pub use copying::copy_log;
-
-#[cfg(test)]
-mod log_copies_tests;
+pub use misfits::{Fallen, misfit};

@@ -27,7 +27,7 @@ use Rattle.turn_laws.specs.Gates.{durable_records, flying_records}
 use Rattle.turn_laws.proofs.Laws.{does_calm, does_fly, legal_counted, none_stops}
 use Rattle.cluster_closing.specs.Closing.{IsLeft}
 use Rattle.run_promises.specs.Disks.{flush_after, flush_failed_from, flush_failed, HoldsLog}
-use Rattle.run_ends.specs.ClusterPromisesLaws.{DownAfterFailed, LeftDisksHold, IsEnd, ClosedDisksHold}
+use Rattle.run_ends.specs.ClusterLaws.{DownAfterFailed, LeftDisksHold, IsEnd, ClosedDisksHold}
 use Rattle.law_base.proofs.Bools.{not_true as not_stop}
 
 -- ---- the last flush of a shard that is down failed

@@ -1,4 +1,4 @@
 pub mod Ends
 pub mod Statuses
-pub mod ClusterPromisesLaws
+pub mod ClusterLaws
 pub mod Laws

@@ -27,8 +27,8 @@ use Rattle.script_runs.specs.declared.ends.TryEnd.TheVariants as end
 use Rattle.script_runs.specs.Tries.{Try, IsTry, EndsBy}
 use Rattle.script_runs.specs.Tries as tries
 use Rattle.script_runs.specs.Sessions.{Transaction, IsTransaction, IsNamed, AreTransactions, FollowsScript, all_done, not_begun, stopped, done, is_to_retry, has_left, tries_of, entries_of, session_entries}
-use Rattle.script_runs.specs.ScriptTriesLaws.{Completes, IsComplete}
-use Rattle.script_runs.specs.ScriptTriesLaws as laws
+use Rattle.script_runs.specs.TriesLaws.{Completes, IsComplete}
+use Rattle.script_runs.specs.TriesLaws as laws
 use Rattle.script_runs.proofs.Laws.{sessions_go_through, sessions_tell_their_tries, tries_are_few, acknowledged_did_their_lines, entries_tell_their_lines, tries_more as tries_append}
 use Rattle.run_promises.specs.Sessions.{Went, Begun, SessionWent}
 use Rattle.run_promises.specs.Completing.{HasEnded, acknowledged, empty, by_line, given_up, IsWanted, TransactionEnded, SessionEnded, SessionsHaveEnded}

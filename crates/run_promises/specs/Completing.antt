@@ -11,7 +11,7 @@ use Rattle.script_lang.specs.declared.actions.Ending.TheVariants as line
 use Rattle.script_lang.specs.Bodies.{Body}
 use Rattle.script_lang.specs.Following.{all_ops, next_op}
 use Rattle.script_runs.specs.declared.ends.TryEnd.TheVariants as end
-use Rattle.script_runs.specs.ScriptTriesLaws.{all_parts}
+use Rattle.script_runs.specs.TriesLaws.{all_parts}
 use Rattle.script_runs.specs.Tries.{Try}
 use Rattle.script_runs.specs.Sessions.{Transaction, tries_of, entries_of, session_entries}
 use Rattle.run_promises.specs.Histories.{entries}

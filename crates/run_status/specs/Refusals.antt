@@ -1,8 +1,8 @@
 -- The status of each refusal.
 use Rattle.command_words.specs.declared.commands.WordsError.{WordsError}
 use Rattle.command_words.specs.declared.commands.WordsError.TheVariants as words
-use Rattle.disks_opening.specs.declared.disks_making_error.MakeError.{MakeError}
-use Rattle.disks_opening.specs.declared.disks_making_error.MakeError.TheVariants as making
+use Rattle.disks_opening.specs.declared.making_error.MakeError.{MakeError}
+use Rattle.disks_opening.specs.declared.making_error.MakeError.TheVariants as making
 use Rattle.disks_opening.specs.declared.error.OpenError.{OpenError}
 use Rattle.disks_opening.specs.declared.error.OpenError.TheVariants as opening
 use Rattle.io_edge.specs.declared.whole.ReadError.{ReadError}

@@ -1,6 +1,6 @@
 -- Lemmas that this crate offers to the proofs of the crates above it.
-pub use Rattle.script_runs.proofs.ScriptTriesSessions.{sessions_go_through, sessions_tell_their_tries, tries_are_few}
-pub use Rattle.script_runs.proofs.ScriptTriesTries.{acknowledged_did_their_lines, entries_tell_their_lines}
+pub use Rattle.script_runs.proofs.TriesSessions.{sessions_go_through, sessions_tell_their_tries, tries_are_few}
+pub use Rattle.script_runs.proofs.TriesListed.{acknowledged_did_their_lines, entries_tell_their_lines}
 pub use Rattle.law_base.proofs.Lists.{all_append}
 pub use Rattle.script_runs.proofs.Sessions.{tries_more}
 pub use Rattle.script_runs.proofs.Tries.{entries_more}

@@ -3,7 +3,7 @@ mod Ending
 mod Tries
 mod Sessions
 mod Retried
-pub mod ScriptTriesTries
-pub mod ScriptTriesSessions
+pub mod TriesListed
+pub mod TriesSessions
 mod Begun
 pub mod Laws

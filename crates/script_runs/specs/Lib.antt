@@ -6,7 +6,7 @@ pub mod Ran
 pub mod Operations
 pub mod Tries
 pub mod Sessions
-pub mod ScriptTriesLaws
+pub mod TriesLaws
 pub mod Examples
 pub mod Begun
 pub mod Laws

@@ -1,5 +1,5 @@
 // What a session of a script keeps.
-ghost use Rattle.script_runs.specs.ScriptTriesLaws.{AcknowledgedDidTheirLines, EntriesTellTheirLines, EntriesTellOfNoOther, DropsHaveReasons, TriesAreFew, TriesHaveOneBirth, TransactionsHaveOwnBirths, SessionsGoThrough, SessionsTellTheirTries};
+ghost use Rattle.script_runs.specs.TriesLaws.{AcknowledgedDidTheirLines, EntriesTellTheirLines, EntriesTellOfNoOther, DropsHaveReasons, TriesAreFew, TriesHaveOneBirth, TransactionsHaveOwnBirths, SessionsGoThrough, SessionsTellTheirTries};
 
 /// A try that is acknowledged did each of its lines.
 pub fn acknowledged_did_their_lines()

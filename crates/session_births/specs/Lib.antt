@@ -2,7 +2,7 @@ pub mod Births
 pub mod Unborn
 pub mod Turns
 pub mod Answers
-pub mod WalkerTurnsLaws
+pub mod WalkerLaws
 pub mod Stages
 pub mod States
 pub mod Laws

@@ -12,5 +12,5 @@ pub mod Going
 pub mod Parting
 pub mod Unbearing
 pub mod Again
-pub mod SessionRetriesLeaving
+pub mod RetryLeaving
 pub mod Laws

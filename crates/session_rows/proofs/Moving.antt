@@ -31,7 +31,7 @@ use Rattle.session_api.specs.declared.operating.OpError.{OpError}
 use Rattle.session_api.specs.declared.ending.CommitError.{CommitError}
 use Rattle.session_api.specs.Sessions.{IsSession, StandsIn, PointMade, PointCalled, CommitMade, CommitCalled}
 use Rattle.session_scripts.specs.Seeing.{seen_as, touched_in, is_active, unless_dead, after_commit as commit_leaves, value_end as value_tells, commit_end as commit_tells}
-use Rattle.session_scripts.specs.SessionToldLaws.{IsAt, gets, puts}
+use Rattle.session_scripts.specs.ToldLaws.{IsAt, gets, puts}
 use Rattle.session_scripts.proofs.Laws.{points_tell, commits_tell, placed_birth}
 use Rattle.session_rows.specs.declared.transfers.Failure.{Failure}
 use Rattle.session_rows.specs.declared.transfers.Transferred.{Transferred}

@@ -40,11 +40,11 @@ use Rattle.script_runs.specs.Tries.{IsRequest, IsLook}
 use Rattle.script_runs.specs.Seen.{Standing, Grows}
 use Rattle.script_runs.specs.Told.{AreDropsOf, CommitTold}
 use Rattle.session_scripts.specs.Seeing.{seen_as, touched_in, is_active, after_commit, commit_end}
-use Rattle.session_scripts.specs.SessionToldLaws.{CommitsTell}
+use Rattle.session_scripts.specs.ToldLaws.{CommitsTell}
 use Rattle.session_scripts.proofs.Following.{IsPlain, are_plain, all_before, all_behind, all_session, made_in, made_in_more, made_of, between, turns_lead, Among, among_one, among_none, among_first, is_there, IsOneOf, MadeOne, any_made}
-use Rattle.session_scripts.proofs.SessionToldOperating.{if_some}
+use Rattle.session_scripts.proofs.ToldOperating.{if_some}
 use Rattle.session_scripts.proofs.Pointing.{grows_by}
-use Rattle.session_scripts.proofs.SessionToldEnding.{IsGone, behind_it, only_drops, Behind, not_yet, acknowledged, aborted, behind_request}
+use Rattle.session_scripts.proofs.ToldEnding.{IsGone, behind_it, only_drops, Behind, not_yet, acknowledged, aborted, behind_request}
 use Rattle.session_scripts.proofs.Untouched.{untouched_unnumbered}
 use Rattle.law_base.proofs.Shards.{some_session as some_same}
 use Rattle.law_base.proofs.Lists.{lowest_some}

@@ -11,7 +11,7 @@ use Rattle.session_ops.specs.Dropped.{Dropping}
 use Rattle.script_runs.specs.Seen.{Standing, Idle, Active}
 use Rattle.script_runs.specs.Told.{Begins, AreDropsOf, AbortTold}
 use Rattle.session_scripts.specs.Seeing.{seen_as, touched_in, is_active, after_abort, abort_end}
-use Rattle.session_scripts.specs.SessionToldLaws.{AbortsTell, BeginningsTell, RetriesTell}
+use Rattle.session_scripts.specs.ToldLaws.{AbortsTell, BeginningsTell, RetriesTell}
 use Rattle.session_scripts.proofs.Following.{are_plain, made_in}
 use Rattle.session_scripts.proofs.Pointing.{are_drops, seen_grows}
 use Rattle.law_base.proofs.Names.{birth_same as some_birth}

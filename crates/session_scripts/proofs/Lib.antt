@@ -6,10 +6,10 @@ pub mod Operating
 pub mod Ending
 pub mod New
 pub mod Following
-pub mod SessionToldOperating
+pub mod ToldOperating
 pub mod Pointing
 pub mod Scanning
-pub mod SessionToldEnding
+pub mod ToldEnding
 pub mod Untouched
 pub mod Committing
 pub mod Leaving

@@ -11,7 +11,7 @@ use Rattle.clv_base.specs.declared.ops.Op.TheVariants.{Get, Put, Del, Scan}
 use Rattle.clv_base.specs.Shards.{shard_of, shard_count, span, lies_within, are_splits}
 use Rattle.clv_base.proofs.Spans.{span_keys}
 use Rattle.script_runs.specs.Operations.{scan_within, part_at, scan_parts, parts_of, no_part, IsBegun}
-use Rattle.session_scripts.specs.SessionToldLaws.{IsAt, gets, puts, dels}
+use Rattle.session_scripts.specs.ToldLaws.{IsAt, gets, puts, dels}
 use Rattle.law_base.proofs.Lists.{is_shard}
 
 -- the first of its parts, and the others

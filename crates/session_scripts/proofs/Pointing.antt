@@ -39,9 +39,9 @@ use Rattle.script_runs.specs.Tries.{is_touched}
 use Rattle.script_runs.specs.Seen.{Standing, Idle, Active, Grows}
 use Rattle.script_runs.specs.Told.{IsDropOf, AreDropsOf, TouchesBy, OperateTold}
 use Rattle.session_scripts.specs.Seeing.{seen_as, touched_in, is_active, unless_dead, value_end}
-use Rattle.session_scripts.specs.SessionToldLaws.{IsAt, gets, puts, dels, PointsTell}
+use Rattle.session_scripts.specs.ToldLaws.{IsAt, gets, puts, dels, PointsTell}
 use Rattle.session_scripts.proofs.Following.{IsPlain, are_plain, all_before, all_behind, made_in, made_in_more, made_of, between, turns_lead}
-use Rattle.session_scripts.proofs.SessionToldOperating.{IsLastOn, EntriesBy, GoesUnless, entries_by}
+use Rattle.session_scripts.proofs.ToldOperating.{IsLastOn, EntriesBy, GoesUnless, entries_by}
 use Rattle.law_base.proofs.Shards.{some_session as some_same}
 
 -- ---- touched shards

@@ -34,9 +34,9 @@ use Rattle.script_runs.specs.Tries.{is_touched}
 use Rattle.script_runs.specs.Seen.{Standing, Idle, Active, Grows}
 use Rattle.script_runs.specs.Told.{AreDropsOf, TouchesBy, IsUnanswered, OperateTold}
 use Rattle.session_scripts.specs.Seeing.{seen_as, touched_in, is_active, unless_dead, pairs_end}
-use Rattle.session_scripts.specs.SessionToldLaws.{ScansTell}
+use Rattle.session_scripts.specs.ToldLaws.{ScansTell}
 use Rattle.session_scripts.proofs.Following.{made_in, made_in_more}
-use Rattle.session_scripts.proofs.SessionToldOperating.{IsLastOn, EntriesBy}
+use Rattle.session_scripts.proofs.ToldOperating.{IsLastOn, EntriesBy}
 use Rattle.session_scripts.proofs.Pointing.{touches_one, touches_none, seen_grows, asked_entries, others_drop, made_asking}
 use Rattle.law_base.proofs.Lists.{is_shard}
 

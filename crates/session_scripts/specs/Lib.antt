@@ -2,5 +2,5 @@ pub mod Standing
 pub mod Grounds
 pub mod Ends
 pub mod Seeing
-pub mod SessionToldLaws
+pub mod ToldLaws
 pub mod Laws

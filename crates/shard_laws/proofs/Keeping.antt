@@ -20,7 +20,7 @@ use Rattle.clv_base.specs.OneShard.{closed_in, closing, marked_in, locked, writt
 use Rattle.clv_base.proofs.SameNames.{or_left, or_right, tx_self}
 use Rattle.law_base.proofs.Tables.{stage_in, is_pair}
 use Rattle.law_base.proofs.Undoing.{standing_append}
-use Rattle.protocol_laws.proofs.OrderInOrder.{Order}
+use Rattle.protocol_laws.proofs.LogsInOrder.{Order}
 use Rattle.protocol_laws.proofs.Records.{push_right}
 use Rattle.shard_laws.proofs.Serial.{Once}
 use Rattle.shard_laws.proofs.Prepared.{by_prepare, prepare_here}

@@ -16,7 +16,7 @@ use Rattle.law_base.proofs.Sets.{list_all_at}
 use Rattle.protocol_laws.specs.Order.{LieOnThese}
 use Rattle.protocol_laws.proofs.Records.{push_cases, push_same, committed_there, push_right}
 use Rattle.protocol_laws.proofs.Writes.{Falling}
-use Rattle.protocol_laws.proofs.OrderInOrder.{Order, in_order}
+use Rattle.protocol_laws.proofs.LogsInOrder.{Order, in_order}
 use Rattle.shard_laws.proofs.Prepared.{by_prepare, prepare_here, listed_keeps}
 use Rattle.shard_laws.proofs.Doubting.{Doubted, doubted}
 use Rattle.shard_laws.proofs.Following.{Follows, to_disorder, through, last_push, since_wrote}

@@ -34,7 +34,7 @@ use Rattle.law_base.proofs.Bools.{or_false_left, or_false_right}
 use Rattle.protocol_laws.proofs.Records.{own_commit, own_prepare}
 use Rattle.protocol_laws.proofs.Runs.{record_fits}
 use Rattle.protocol_laws.proofs.Writes.{chain_kept}
-use Rattle.protocol_laws.proofs.OrderInOrder.{Order, in_order, undone_open}
+use Rattle.protocol_laws.proofs.LogsInOrder.{Order, in_order, undone_open}
 use Rattle.shard_laws.specs.OneShard.{MayServe, is_doomed, found_items, found_asked, found_met}
 use Rattle.shard_laws.proofs.AtKeys.{SameAtKeys, key_writes}
 use Rattle.shard_laws.proofs.Kept.{Past, is_alive, place}

@@ -25,7 +25,7 @@ use Rattle.law_base.proofs.Bools.{or_false_left, or_false_right, and_first as fr
 use Rattle.law_base.proofs.Stages.{present_is}
 use Rattle.protocol_laws.specs.Order.{LieOnThese}
 use Rattle.protocol_laws.proofs.Records.{push_false}
-use Rattle.protocol_laws.proofs.OrderInOrder.{Order, undone_open}
+use Rattle.protocol_laws.proofs.LogsInOrder.{Order, undone_open}
 use Rattle.shard_laws.proofs.Serial.{once_filter}
 use Rattle.shard_laws.proofs.Cutting.{of_kept}
 use Rattle.shard_laws.proofs.Doubting.{Doubted, doubted}

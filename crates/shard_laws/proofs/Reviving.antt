@@ -53,7 +53,7 @@ use Rattle.shard_laws.proofs.Keeping.{KeepsOrder}
 use Rattle.shard_laws.proofs.Renewing.{found_self, Renewed, Fine, renewed_by, ordered_restored, lying_restored, rulings_restored}
 use Rattle.shard_laws.proofs.Falls.{Fell, Falls, take_further}
 use Rattle.shard_laws.proofs.Listing.{order_of, prepared_wrote}
-use Rattle.protocol_laws.proofs.OrderInOrder.{Order}
+use Rattle.protocol_laws.proofs.LogsInOrder.{Order}
 use Rattle.shard_laws.proofs.Refalling.{all_durable, falls_restarted, stage_name}
 use Rattle.shard_laws.proofs.Relisting.{requests_none, unended_none, voter_is, pair_there, pair_of}
 use Rattle.shard_laws.proofs.Rebuilding.{Found, unmoved_from, Restarted, of_restarts}

@@ -1,9 +1,9 @@
-//! A shard's machine: the core with its journal, the stamp of its last entry, and the gate of its log.
-//! It promises that each of its calls is the protocol's event, with its entry; and that where a first drop of a part or the end of a flush is to come
-//! there is room for their entries.
-//! Stands on `shard_core`, `shard_machine` and the laws of `machine_laws`.
+//! A shard's machine: the core with its journal, the stamp of its last entry, and the gate of its log. It promises that each of its calls
+//! is the protocol's event, with its entry; and that where a first drop of a part or the end of a flush is to come there is room for
+//! their entries. Stands on `shard_core` and the laws of `machine_laws`.
 #![tactic(auto)]
 
+mod answers;
 mod asking;
 mod calls;
 mod delivering;
@@ -12,34 +12,29 @@ mod dropping;
 mod flights;
 mod flying;
 mod gates;
+mod happening;
 mod hearing;
+mod journal;
 mod landing;
+mod look_event;
 mod looking;
 mod machine;
 mod making;
 mod operating;
+mod operations;
 mod reminding;
 mod reopening;
 mod reviving;
 mod sending;
+mod staleness;
 mod stamps;
 mod stepping;
 mod stopping;
 
-pub use machine::ShardMachine;
-
-mod answers;
-mod happening;
-mod operations;
-mod shard_events_looking;
-mod staleness;
-
 pub use answers::{answer_question, take_decision, take_done, take_vote};
 pub use happening::Happened;
-pub use operations::operate;
-pub use shard_events_looking::look;
-pub use staleness::is_stale;
-
-mod journal;
-
 pub use journal::Journal;
+pub use look_event::look;
+pub use machine::ShardMachine;
+pub use operations::operate;
+pub use staleness::is_stale;

@@ -4,7 +4,7 @@ use Rattle.clv_base.specs.FileRules.{may_open}
 use Rattle.clv_base.specs.Restarts.{run_after}
 use Rattle.disks_opening.specs.Logs.{LogsOfAll}
 use Rattle.disks_opening.proofs.Laws.{few_shards}
-use Rattle.cluster_opening.specs.ShardsOpeningOpened.{IsOpenedAt}
+use Rattle.cluster_opening.specs.AllOpened.{IsOpenedAt}
 use Rattle.cluster_beginning.specs.Begun.{told_as, IsTakenBack}
 use Rattle.cluster_beginning.proofs.Dealing.{passes_each}
 use Rattle.cluster_beginning.proofs.Taking.{stopped}

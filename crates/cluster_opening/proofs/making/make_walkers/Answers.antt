@@ -1,7 +1,7 @@
 use Rattle.std.proofs.Common.{get_or, sym, subst}
 use Rattle.clv_base.specs.LogRules.{log_of}
 use Rattle.cluster_turns.specs.Walkers.{founds_of}
-use Rattle.cluster_opening.specs.ShardsOpeningOpened.{IsOpenedAt}
+use Rattle.cluster_opening.specs.AllOpened.{IsOpenedAt}
 use Rattle.cluster_opening.proofs.making.make_walkers.Goals as goal
 
 pub make_all-requires-clause-opened : goal.make_all-requires-clause-opened

@@ -5,7 +5,7 @@ use Rattle.clv_base.specs.FileRules.{has_spelling}
 use Rattle.log_flush.specs.Flushing.{spellings}
 use Rattle.log_flush.proofs.payload.spell.Goals as goal
 use Rattle.law_base.proofs.Logs.{each_spelled}
-use Rattle.log_flush.proofs.BatchBytesSizes.{spelled_before}
+use Rattle.log_flush.proofs.BatchSizes.{spelled_before}
 
 pub encode-requires : goal.encode-requires
 encode-requires c =

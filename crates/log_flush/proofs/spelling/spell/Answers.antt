@@ -4,7 +4,7 @@ use Rattle.clv_base.specs.declared.logs.LogRecord.{LogRecord}
 use Rattle.clv_base.specs.Logs.{record_size}
 use Rattle.clv_base.specs.FileRules.{has_spelling}
 use Rattle.log_flush.specs.Batches.{spellings}
-use Rattle.log_flush.proofs.BatchBytesSizes.{spelled_before}
+use Rattle.log_flush.proofs.BatchSizes.{spelled_before}
 use Rattle.log_flush.proofs.spelling.spell.Goals as goal
 use Rattle.law_base.proofs.Logs.{each_spelled}
 

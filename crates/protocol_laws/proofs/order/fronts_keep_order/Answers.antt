@@ -1,4 +1,4 @@
-use Rattle.protocol_laws.proofs.OrderInOrder.{fronts_in_order}
+use Rattle.protocol_laws.proofs.LogsInOrder.{fronts_in_order}
 use Rattle.protocol_laws.proofs.order.fronts_keep_order.Goals as goal
 
 pub returns : goal.returns

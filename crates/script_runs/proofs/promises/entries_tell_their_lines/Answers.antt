@@ -1,4 +1,4 @@
-use Rattle.script_runs.proofs.ScriptTriesTries.{entries_tell_their_lines}
+use Rattle.script_runs.proofs.TriesListed.{entries_tell_their_lines}
 use Rattle.script_runs.proofs.promises.entries_tell_their_lines.Goals as goal
 
 pub returns : goal.returns

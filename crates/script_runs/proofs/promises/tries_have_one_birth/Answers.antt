@@ -1,4 +1,4 @@
-use Rattle.script_runs.proofs.ScriptTriesSessions.{tries_have_one_birth}
+use Rattle.script_runs.proofs.TriesSessions.{tries_have_one_birth}
 use Rattle.script_runs.proofs.promises.tries_have_one_birth.Goals as goal
 
 pub returns : goal.returns

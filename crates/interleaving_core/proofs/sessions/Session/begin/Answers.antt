@@ -1,5 +1,5 @@
 use Rattle.std.proofs.Common.{sym, ap, ◌∙◌}
-use Rattle.interleaving_core.proofs.SessionTestsPlacing.{session_is}
+use Rattle.interleaving_core.proofs.SessionPlacing.{session_is}
 use Rattle.interleaving_core.proofs.sessions.Session.begin.Goals as goal
 
 pub invariant_of-self : goal.invariant_of-self

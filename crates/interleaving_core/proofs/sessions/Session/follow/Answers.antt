@@ -2,7 +2,7 @@ use Rattle.std.proofs.Common.{◌≡◌, Some, sym, ap, subst, ◌∙◌, ◌&&�
 use Rattle.clv_base.specs.declared.events.Event.{Event}
 use Rattle.clv_base.specs.Orders.{tx_same}
 use Rattle.clv_base.specs.Sessions.{is_touching, same_touched, is_lowest, stands_at, requested, looked, session_after}
-use Rattle.interleaving_core.proofs.SessionTestsPlacing.{serial_zero}
+use Rattle.interleaving_core.proofs.SessionPlacing.{serial_zero}
 use Rattle.interleaving_core.proofs.Entries.{passed, not_touching, not_standing}
 use Rattle.interleaving_core.proofs.sessions.Session.follow.Goals as goal
 

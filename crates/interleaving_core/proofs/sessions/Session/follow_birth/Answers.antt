@@ -1,7 +1,7 @@
 use Rattle.std.proofs.Common.{sym, ap, ◌∙◌, arith}
 use Rattle.std.proofs.lemmas.Bool.{both_ways}
 use Rattle.clv_base.specs.Sessions.{is_touching, begins}
-use Rattle.interleaving_core.proofs.SessionTestsPlacing.{touching_begun}
+use Rattle.interleaving_core.proofs.SessionPlacing.{touching_begun}
 use Rattle.interleaving_core.proofs.Entries.{for_last, for_next}
 use Rattle.interleaving_core.proofs.sessions.Session.follow_birth.Goals as goal
 

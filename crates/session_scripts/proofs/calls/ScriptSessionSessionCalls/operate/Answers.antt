@@ -1,6 +1,6 @@
 use Rattle.std.proofs.Common.{ap}
 use Rattle.clv_base.specs.declared.ops.Op.TheVariants.{Get, Put, Del}
-use Rattle.session_scripts.specs.SessionToldLaws.{gets, puts, dels}
+use Rattle.session_scripts.specs.ToldLaws.{gets, puts, dels}
 use Rattle.session_scripts.proofs.Operating.{point_answers, point_call, scan_answers, scan_call}
 use Rattle.session_scripts.proofs.calls.ScriptSessionSessionCalls.operate.Goals as goal
 

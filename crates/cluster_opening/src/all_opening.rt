@@ -1,0 +1,72 @@
+// All shards, one after another.
+ghost use Rattle.std.specs.Prelude.{◌≡◌, ◌<◌, ◌≤◌, ℕ, [], map, length, vec_len, vec_capacity, slice_index_or, OnOk, IfErr};
+ghost use Rattle.clv_base.specs.LogRules.{log_of};
+ghost use Rattle.cluster_opening.specs.AllOpened.{IsOpenedAt, AreOpenGates, StoppedAt};
+
+use crate::open_shard;
+use cluster_turns::Home;
+use clv_base::logs::LogRecord;
+use disk_model::Disk;
+use gate_recovery::RecoverError;
+use log_gate::Gate;
+use machine_calls::OverDisks;
+use std::alloc::Global;
+use turn_laws::{Note, Origin};
+use turn_lock::{Pass, TurnLock};
+
+/// Where opening stopped: the shard, with its disk, and the gates of those above it, the last one first.
+pub struct Stopped<D: Disk, G: Gate> {
+    pub shard: u32,
+    pub error: RecoverError,
+    pub disk: D,
+    pub rest: Vec<G>,
+}
+
+/// Takes all shards from the logs found into their locks, in rising order, and puts locks and passes into what has room for them. At `Ok` what a restart adds to
+/// each log is durable. At `Err` the shards below have their locks.
+pub fn open_shards<D: Disk, M: OverDisks<D>>(
+    alloc: Global,
+    gates: Vec<M::Gate>,
+    logs: Vec<Vec<LogRecord>>,
+    run: u32,
+    walkers: usize,
+    locks: &mut Vec<TurnLock<Home<M>>>,
+    passes: &mut Vec<Vec<Pass<Home<M>, Note, Origin>>>,
+) -> Result<(), Stopped<D, M::Gate>>
+    requires gates { AreOpenGates M.Gate.is_shut M.Gate.faults M.Gate.shard M.Gate.logs (map (λ l. l.items) logs.items) gates.items }
+    requires run { 1 ≤ run }
+    requires few { vec_len gates ≤ 16 }
+    requires some { 0 < walkers }
+    requires empty { (locks.old.items ≡ []) × (passes.old.items ≡ []) }
+    requires room { (vec_len gates ≤ vec_capacity locks.old) × (vec_len gates ≤ vec_capacity passes.old) }
+    ensures all { OnOk result (length locks.new.items ≡ vec_len gates) }
+    ensures len { length passes.new.items ≡ length locks.new.items }
+    ensures opened { (n : ℕ) (d : _) (e : _) → n < length locks.new.items → IsOpenedAt run walkers n (log_of (map (λ l. l.items) logs.items) n) (slice_index_or locks.new.items n d) (slice_index_or passes.new.items n e).items }
+    ensures stopped { IfErr result (λ s. (length locks.new.items ≡ s.shard) × StoppedAt M.story run (map (λ l. l.items) logs.items) gates.items s.shard s.error (D.story s.disk) (D.faults s.disk) s.rest.items) }
+{
+    let count = gates.len() as u32;
+    let mut rest = gates;
+    let mut later = logs;
+    rest.reverse();
+    later.reverse();
+    for shard in 0..count {
+        let gate = rest.pop().unwrap();
+        let log = later.pop().unwrap();
+        match open_shard(alloc, gate, log, shard, run, walkers) {
+            Ok((lock, mine)) => {
+                locks.push_reserved(lock);
+                passes.push_reserved(mine);
+            }
+            Err((error, disk)) => {
+                return Err(Stopped {
+                    shard,
+                    error,
+                    disk,
+                    rest,
+                });
+            }
+        }
+    }
+    rest.destroy_empty();
+    Ok(())
+}
