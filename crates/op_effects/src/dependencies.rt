@@ -11,7 +11,7 @@ pub fn add_predecessors(deps: &mut Deps, tx: TxId, preds: &[TxId])
     ensures pairs { deps.new.pairs ≡ add_pairs tx preds.now deps.old.pairs }
     ensures commits { deps.new.commits ≡ deps.old.commits }
     ensures marked { deps.new.marked ≡ deps.old.marked }
-    ensures room { deps.old.room ≤ deps.new.room + length preds.now }
+    ensures room { deps.old.room ≡ deps.new.room + length preds.now }
 {
     for pred in preds {
         deps.add(tx, *pred);

@@ -36,7 +36,7 @@ pub fn write_down<S: Store>(
     ensures records { S.records store.new ≡ records_after write (S.records store.old) }
     ensures log { buffer.new.records ≡ log_after tx write buffer.old.records }
     ensures fronts { (buffer.new.durable ≡ buffer.old.durable) × (buffer.new.taken ≡ buffer.old.taken) }
-    ensures room { buffer.old.room ≤ buffer.new.room + record_count write }
+    ensures room { buffer.old.room ≡ buffer.new.room + record_count write }
     ensures store_room { S.room store.old ≤ S.room store.new + new_records write (S.records store.old) }
 {
     if let Some(write) = write {

@@ -8,5 +8,5 @@ invariant-loop-pred l = record {
   room : length (drop l.pred-index l.preds) ≤ (l.deps).room;
   commits : (l.deps).commits ≡ (l.initial.deps).commits;
   marked : (l.deps).marked ≡ (l.initial.deps).marked;
-  used : (l.initial.deps).room + length (drop l.pred-index l.preds) ≤ (l.deps).room + length l.preds;
+  used : (l.initial.deps).room + length (drop l.pred-index l.preds) ≡ (l.deps).room + length l.preds;
 }
