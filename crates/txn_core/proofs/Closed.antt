@@ -26,7 +26,7 @@ use Rattle.law_base.proofs.Stages.{own_go, stage_other as other_stays}
 use Rattle.cascade_undo.proofs.Laws.{all_mono}
 use Rattle.lock_release.specs.Ghosts.{GhostsAreLocked}
 use Rattle.txn_core.specs.State.{TxState}
-use Rattle.txn_core.specs.Sound.{is_here, has_lock, IsHeld, owed_by, IsSound, SpendsSpare}
+use Rattle.txn_core.specs.Sound.{is_here, has_lock, IsHeld, owed_by, IsSound, UsesSpare, SpendsSpare}
 use Rattle.txn_core.proofs.Writers.{NoUpdate}
 use Rattle.txn_core.proofs.Owing.{owed-still, count_owed_fewer}
 use Rattle.txn_core.proofs.Undoing.{lock_is_held, release_keeps, all_filter}
@@ -68,6 +68,11 @@ module _ (l : Local) (locks : Locks) (parts : Table Held) (more : List LogRecord
   spare_plain =
       let a = owed-still (is_here (changed l locks parts more)) l.log more plain.updates in
       let b = count_owed_fewer (is_here (changed l locks parts more)) (is_here l) l.log (λ t h. sym (here t) ∙ h) in omega (arith, a, b)
+
+  pub back_plain : owed_by (is_here l) l.log ≤ owed_by (is_here (changed l locks parts more)) (l.log ++ more)
+  back_plain =
+      let a = owed-still (is_here (changed l locks parts more)) l.log more plain.updates in
+      let b = count_owed_fewer (is_here l) (is_here (changed l locks parts more)) l.log (λ t h. here t ∙ h) in omega (arith, a, b)
 
   pairs_again : (ps : List (TxId × TxId)) → AllByRecursion (λ p. is_here l p.0 ≡ true) ps → AllByRecursion (λ p. is_here (changed l locks parts more) p.0 ≡ true) ps
   pairs_again [] a = tt
@@ -115,6 +120,10 @@ pub closed_fewer : (l : Local) (tx : TxId) (home : ℕ) (one : Bool) → stage_o
 closed_fewer l tx home one active =
     spare_plain l (close_locks tx l.locks) (closed_in tx l.parts) (closing (wrote_in l.log tx) one tx home (undecided_of l tx)) (plain_closing (wrote_in l.log tx) one tx home (undecided_of l tx)) (closed_here l tx active)
 
+pub closed_back : (l : Local) (tx : TxId) (home : ℕ) (one : Bool) → stage_of l tx ≡ Some Active → owed_by (is_here l) l.log ≤ owed_by (is_here (close_part tx home one l)) (close_part tx home one l).log
+closed_back l tx home one active =
+    back_plain l (close_locks tx l.locks) (closed_in tx l.parts) (closing (wrote_in l.log tx) one tx home (undecided_of l tx)) (plain_closing (wrote_in l.log tx) one tx home (undecided_of l tx)) (closed_here l tx active)
+
 pub closed_sound : (l : Local) (tx : TxId) (home : ℕ) (one : Bool) (spare left : ℕ) → stage_of l tx ≡ Some Active → IsSound l spare → owed_by (is_here l) l.log ≤ left → IsSound (close_part tx home one l) left
 closed_sound l tx home one spare left active sound room =
     sound_plain l (close_locks tx l.locks) (closed_in tx l.parts) (closing (wrote_in l.log tx) one tx home (undecided_of l tx)) (plain_closing (wrote_in l.log tx) one tx home (undecided_of l tx)) (closed_here l tx active)
@@ -148,6 +157,11 @@ pub spends_like : (n : ℕ) (s t : TxState) (m : Local) → (t.local).parts ≡ 
 spends_like n s t m parts log h =
     subst (λ (ps : Table Held). s.room + owed_by (is_here (record m { parts = ps })) (t.local).log ≤ n + t.room + owed_by (is_here s.local) (s.local).log) (sym parts)
     (subst (λ (lg : List LogRecord). s.room + owed_by (is_here m) lg ≤ n + t.room + owed_by (is_here s.local) (s.local).log) (sym log) h)
+
+pub uses_like : (n : ℕ) (s t : TxState) (m : Local) → (t.local).parts ≡ m.parts → (t.local).log ≡ m.log → n + t.room + owed_by (is_here s.local) (s.local).log ≡ s.room + owed_by (is_here m) m.log → UsesSpare n s t
+uses_like n s t m parts log h =
+    subst (λ (ps : Table Held). n + t.room + owed_by (is_here s.local) (s.local).log ≡ s.room + owed_by (is_here (record m { parts = ps })) (t.local).log) (sym parts)
+    (subst (λ (lg : List LogRecord). n + t.room + owed_by (is_here s.local) (s.local).log ≡ s.room + owed_by (is_here m) lg) (sym log) h)
 
 -- ---- a record more
 

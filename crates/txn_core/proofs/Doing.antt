@@ -41,7 +41,7 @@ use Rattle.op_needs.specs.declared.plan.Write.{Write}
 use Rattle.op_needs.specs.Planned.{insert_by, write_by, insert_of, write_of}
 use Rattle.op_effects.specs.Effects.{performed_by, locks_after, records_after, log_after, new_key}
 use Rattle.txn_core.specs.Sound.{is_here, has_lock, IsHeld, owed_by, owed_more, IsSound, may_work, has_need, IsCovered}
-use Rattle.txn_core.proofs.Owing.{owed-one, owed_of_others, count_owed_fewer}
+use Rattle.txn_core.proofs.Owing.{owed-one, owed-own, owed_of_others, count_owed_fewer}
 use Rattle.txn_core.proofs.Undoing.{lock_is_held}
 use Rattle.law_base.proofs.Lists.{all_both, all_mono as all_weaker}
 use Rattle.law_base.proofs.Names.{set_has}
@@ -199,12 +199,24 @@ owed_written : (test : TxId → Bool) (tx : TxId) (write : Option Write) (log : 
 owed_written test tx None log = omega arith
 owed_written test tx (Some w) log = owed-one test log tx w.key w.before w.after
 
+owed_own : (test : TxId → Bool) (tx : TxId) (write : Option Write) (log : List LogRecord) → test tx ≡ true → owed_by test log + owed_more (wrote_in log tx) write ≤ owed_by test (log_after tx write log)
+owed_own test tx None log own = omega arith
+owed_own test tx (Some w) log own = owed-own test log tx w.key w.before w.after own
+
 -- what is reserved beyond the undo of the parts that are here stays so
 pub spare_performed : (tx : TxId) (birth : Birth) (needs : List Need) (insert : Option Insert) (write : Option Write) (preds : List TxId) (l : Local) (spare left : ℕ)
     → (is_here l tx ≡ true) ⊎ (wrote_in l.log tx ≡ false) → spare + owed_more (wrote_in l.log tx) write ≤ left
     → spare + owed_by (is_here (performed_by tx birth needs insert write preds l)) (log_after tx write l.log) ≤ left + owed_by (is_here l) l.log
 spare_performed tx birth needs insert write preds l spare left known room =
     let a = owed_before tx birth needs insert write preds l known in let b = owed_written (is_here (performed_by tx birth needs insert write preds l)) tx write l.log in omega (arith, a, b, room)
+
+-- nor is there more of it
+pub back_performed : (tx : TxId) (birth : Birth) (needs : List Need) (insert : Option Insert) (write : Option Write) (preds : List TxId) (l : Local) (spare left : ℕ)
+    → may_work (stage_of l tx) ≡ true → left ≤ spare + owed_more (wrote_in l.log tx) write
+    → left + owed_by (is_here l) l.log ≤ spare + owed_by (is_here (performed_by tx birth needs insert write preds l)) (log_after tx write l.log)
+back_performed tx birth needs insert write preds l spare left work room =
+    let a = count_owed_fewer (is_here l) (is_here (performed_by tx birth needs insert write preds l)) l.log (here_keeps tx birth needs insert write preds l work) in
+    let b = owed_own (is_here (performed_by tx birth needs insert write preds l)) tx write l.log (own_here tx birth needs insert write preds l work) in omega (arith, a, b, room)
 
 -- what is done by a plan that locks what it writes
 pub sound_performed : (tx : TxId) (birth : Birth) (needs : List Need) (insert : Option Insert) (write : Option Write) (preds : List TxId) (l : Local) (spare left : ℕ)

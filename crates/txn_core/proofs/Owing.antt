@@ -1,5 +1,5 @@
 -- How many records an undo writes.
-use Rattle.std.proofs.Common.{◌≡◌, ℕ, Option, suc, ◌+◌, ◌≤◌, Bool, true, false, cond, not, ◌&&◌, List, [], ◌∷◌, ◌++◌, map, length, refl, arith}
+use Rattle.std.proofs.Common.{◌≡◌, ℕ, Option, suc, ◌+◌, ◌≤◌, Bool, true, false, cond, not, ◌&&◌, List, [], ◌∷◌, ◌++◌, map, length, refl, ap, arith}
 use Rattle.std.proofs.lemmas.Bool.{both_ways, cond_both}
 use Rattle.std.proofs.lemmas.List.{length-map}
 use Rattle.std.specs.List.{filter}
@@ -65,6 +65,19 @@ owed-one test log tx k before after =
     at : (b t : Bool) → one_if (not b && t) + 1 ≤ cond b 1 2
     at true t = omega arith
     at false t = let one = one_at_most t in omega (arith, one)
+
+-- and no fewer where the transaction passes
+pub owed-own : (test : TxId → Bool) (log : List LogRecord) (tx : TxId) (k : ℕ) (before after : Option ℕ) → test tx ≡ true
+    → owed_by test log + cond (wrote_in log tx) 1 2 ≤ owed_by test (log ++ Update tx k before after ∷ [])
+owed-own test log tx k before after own =
+    let a = updates-append test log (Update tx k before after ∷ []) in let b = count-first (is_update_by test) (Update tx k before after) [] in let c = ap one_if own in
+    let d = writers-one test tx k before after log in let e = at (wrote_in log tx) (test tx) own in omega (arith, a, b, c, d, e)
+  where
+    at : (b t : Bool) → t ≡ true → cond b 1 2 ≤ one_if (not b && t) + 1
+    at true true e = omega arith
+    at true false e = absurd (both_ways false refl e)
+    at false true e = omega arith
+    at false false e = absurd (both_ways false refl e)
 
 none_aborts : (test : TxId → Bool) (ts : List TxId) → updates_by test (map (λ t. Abort t) ts) ≡ 0
 none_aborts test [] = refl

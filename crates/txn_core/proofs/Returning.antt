@@ -1,23 +1,25 @@
 -- What was reserved for an undo that isn't wanted any more.
-use Rattle.std.proofs.Common.{◌≡◌, ℕ, ◌+◌, ◌≤◌, ⊎_elim, true, false, cond, List, [], ◌∷◌, None, refl, sym, ap, subst, ◌∙◌, arith}
+use Rattle.std.proofs.Common.{◌≡◌, ℕ, ◌+◌, ◌≤◌, ⊎_elim, min, Bool, true, false, cond, List, [], ◌∷◌, None, Some, refl, sym, ap, subst, ◌∙◌, arith}
+use Rattle.std.proofs.Math.Nat.{min-eq_right}
 use Rattle.std.proofs.lemmas.Bool.{both_ways, cases_Bool, or_cases}
 use Rattle.clv_base.specs.declared.names.TxId.{TxId}
 use Rattle.clv_base.specs.declared.logs.LogRecord.{LogRecord}
 use Rattle.clv_base.specs.declared.state.Held.{Held}
-use Rattle.clv_base.specs.Orders.{Table, tx_same, tx_in}
+use Rattle.clv_base.specs.declared.state.Stage.TheVariants.{Active}
+use Rattle.clv_base.specs.Orders.{Table, tx_cmp, tx_same, tx_in}
 use Rattle.clv_base.specs.Logs.{standing}
 use Rattle.clv_base.specs.State.{Local, is_present}
-use Rattle.clv_base.specs.Undo.{take_away, release_parts}
-use Rattle.clv_base.specs.OneShard.{marked_in, mark_dropped}
+use Rattle.clv_base.specs.Undo.{stage_of, take_away, release_parts}
+use Rattle.clv_base.specs.OneShard.{marked_in, mark_dropped, close_part}
 use Rattle.clv_base.proofs.SameNames.{tx_true}
 use Rattle.law_base.proofs.Stages.{stage_marked}
 use Rattle.log_buffer.specs.Buffers.{Buffer}
-use Rattle.txn_core.specs.State.{TxState}
-use Rattle.txn_core.specs.Sound.{is_here, is_in, owed_by, IsKept, KeepsSpare}
+use Rattle.txn_core.specs.State.{TxState, IsSameBut}
+use Rattle.txn_core.specs.Sound.{is_here, is_in, owed_by, IsKept, KeepsSpare, SpendsSpare}
 use Rattle.txn_core.proofs.Counting.{in_set}
 use Rattle.txn_core.proofs.Owing.{count_owed_fewer, count_owed_apart, count_owed_covered, owed-undone}
 use Rattle.txn_core.proofs.Undoing.{still_here}
-use Rattle.txn_core.proofs.Closed.{finished_here, still_here as others_here, spare_finished}
+use Rattle.txn_core.proofs.Closed.{finished_here, still_here as others_here, spare_finished, closed_fewer, closed_back}
 
 -- ---- an undo of a set
 
@@ -84,3 +86,33 @@ pub back_marked : (s t : TxState) (tx : TxId) → (t.local).parts ≡ marked_in 
 back_marked s t tx parts log less =
     let a = count_owed_fewer (is_here s.local) (is_here (mark_dropped tx s.local)) (s.local).log (λ u h. ap is_present (stage_marked tx u (s.local).parts) ∙ h) in
     back_like s t (mark_dropped tx s.local) parts log (omega (arith, a, less))
+
+-- ---- what was reserved for a closing
+
+same_through : (f : Local → Local) (s m t : TxState) → IsSameBut s s.local m → IsSameBut m (f m.local) t → IsSameBut s (f s.local) t
+same_through f s m t a b = b ∙ ap (λ (v : TxState). record v { local = f v.local; room = t.room; pairs_room = t.pairs_room }) a
+
+-- what may be owed in a state
+abbrev owed_in : TxState → ℕ
+owed_in s = owed_by (is_here s.local) (s.local).log
+
+module _ (tx : TxId) (home : ℕ) (one : Bool) (s m t : TxState) (active : stage_of s.local tx ≡ Some Active) (made : IsSameBut s s.local m) (closed : IsSameBut m (close_part tx home one m.local) t) where
+  closed_local : t.local ≡ close_part tx home one s.local
+  closed_local = ap (λ (v : TxState). v.local) (same_through (close_part tx home one) s m t made closed)
+
+  closed_owed : owed_in t ≡ owed_in s
+  closed_owed =
+      let same = ap (λ (l : Local). owed_by (is_here l) l.log) closed_local in
+      let fewer = closed_fewer s.local tx home one active in let back = closed_back s.local tx home one active in omega (arith, same, fewer, back)
+
+  -- a closing that wrote nothing gives its place back, another one has used it
+  pub closing_fits : owed_in s ≤ s.room → owed_in t ≤ s.room
+  closing_fits h = let same = closed_owed in omega (arith, same, h)
+
+  pub closing_back : (u : TxState) (room pairs : ℕ) → m.room ≡ s.room + 1 → SpendsSpare 1 m t → room ≡ s.room → u ≡ record t { room = min t.room room; pairs_room = pairs }
+      → KeepsSpare s u × KeepsSpare u s
+  closing_back u room pairs more spent a e =
+      let before = ap (λ (v : TxState). owed_in v) made in let now = closed_owed in let after = ap (λ (v : TxState). owed_in v) e in
+      let enough : s.room ≤ t.room = omega (arith, before, now, more, spent) in
+      let left : u.room ≡ s.room = ap (λ (v : TxState). v.room) e ∙ min-eq_right (omega (arith, enough, a)) ∙ a in
+      (omega (arith, left, now, after), omega (arith, left, now, after))

@@ -120,7 +120,7 @@ module _ (test : TxId → Bool) (tx : TxId) (key : ℕ) (before after : Option �
       regroup true b c = refl
       regroup false b c = refl
 
-  pub writers-one : (log : List LogRecord) → writers_by test (with_one log) ≤ writers_by test log + one_if (not (wrote_in log tx) && test tx)
+  pub writers-one : (log : List LogRecord) → writers_by test (with_one log) ≡ writers_by test log + one_if (not (wrote_in log tx) && test tx)
   writers-one [] = let a = count-first test tx [] in omega (arith, a)
   writers-one (Update t k b a ∷ rs) =
       let wrote = ap (λ x. length (filter test (cond x (writers (with_one rs)) (t ∷ writers (with_one rs))))) (wrote_after rs t) in
@@ -129,7 +129,7 @@ module _ (test : TxId → Bool) (tx : TxId) (key : ℕ) (before after : Option �
       let one = at (wrote_in rs t) (tx_same t tx) (tx_same tx t) (test t) (wrote_in rs tx) (test tx) (same_flipped t tx) (λ s. ap (wrote_in rs) (tx_true t tx s)) (λ s. ap test (tx_true t tx s)) in
       omega (arith, wrote, now, was, more, one)
     where
-      at : (x s f p y q : Bool) → s ≡ f → (s ≡ true → x ≡ y) → (s ≡ true → p ≡ q) → one_if (not (x || s) && p) + one_if (not y && q) ≤ one_if (not x && p) + one_if (not (f || y) && q)
+      at : (x s f p y q : Bool) → s ≡ f → (s ≡ true → x ≡ y) → (s ≡ true → p ≡ q) → one_if (not (x || s) && p) + one_if (not y && q) ≡ one_if (not x && p) + one_if (not (f || y) && q)
       at x true false p y q same g h = absurd (both_ways true same refl)
       at x false true p y q same g h = absurd (both_ways false refl same)
       at true false false p y q same g h = omega arith

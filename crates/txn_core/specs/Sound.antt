@@ -96,6 +96,10 @@ HasSpare n s = n + owed_by (is_here s.local) (s.local).log ≤ s.room
 abbrev pub SpendsSpare : ℕ → TxState → TxState → Type 0
 SpendsSpare n s t = s.room + owed_by (is_here t.local) (t.local).log ≤ n + t.room + owed_by (is_here s.local) (s.local).log
 
+-- exactly so many places of that room were used, by records that were written
+abbrev pub UsesSpare : ℕ → TxState → TxState → Type 0
+UsesSpare n s t = n + t.room + owed_by (is_here s.local) (s.local).log ≡ s.room + owed_by (is_here t.local) (t.local).log
+
 -- without the room that is beyond so many records, beside a CLR for each UPDATE of a part that is here and an ABORT for each that wrote, and
 -- beyond so many pairs
 abbrev pub trimmed : ℕ → TxState → TxState

@@ -55,6 +55,7 @@ impl<S: Store + Drop, L: Locks + Drop> ShardTx<S, L> {
         ensures room { KeepsSpare self.old self.new }
         ensures given_back { KeepsSpare self.new self.old }
         ensures pairs_room { self.old.pairs_room ≤ self.new.pairs_room }
+        ensures pairs_given_back { self.new.pairs_room ≤ self.old.pairs_room }
     {
         mark_doomed(&mut self.deps, &self.parts, tx);
         let kept = room_beyond(&self.buffer, self.deps.marks());

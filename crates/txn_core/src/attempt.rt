@@ -36,7 +36,7 @@ pub(crate) enum Attempt {
 }
 
 impl<S: Store + Drop, L: Locks + Drop> ShardTx<S, L> {
-    /// Does what was granted.
+    /// Does what was granted. Where there is no memory, what was reserved for it is given back.
     fn grant(
         &mut self,
         alloc: Global,
@@ -53,24 +53,31 @@ impl<S: Store + Drop, L: Locks + Drop> ShardTx<S, L> {
         ensures ok { IfOk result (λ a. ComesTo (OpAnswers plan.answer (performed tx birth op self.old.local)) tx self.old a self.new) }
         ensures err { OnErr result (IsSameBut self.old self.old.local self.new) }
         ensures room { KeepsSpare self.old self.new }
+        ensures given_back { KeepsSpare self.new self.old }
         ensures pairs_room { self.old.pairs_room ≤ self.new.pairs_room }
+        ensures pairs_given_back { self.new.pairs_room ≤ self.old.pairs_room }
     {
         performed_by_plan();
         let Ok(copy) = plan.answer.clone() else {
             return Err(Memory);
         };
+        let room = self.buffer.room();
+        let pairs = self.deps.room();
         match self.perform(alloc, tx, birth, &plan, violated) {
             Ok(()) => Ok(Attempt::Answered {
                 answer: plan.answer,
                 copy,
             }),
-            Err(memory) => Err(memory),
+            Err(memory) => {
+                self.trim_to(room, pairs);
+                Err(memory)
+            }
         }
     }
 
     /// An operation of a transaction with this birth; `seen` is the epoch that its session was answered here at its first touch, none at the
-    /// first. It comes to what the protocol says, and leaves the state that the protocol says; a part that dies is still to be rolled back. After a quiet answer, and where there is no memory, all is as before, but that
-    /// there may be more room.
+    /// first. It comes to what the protocol says, and leaves the state that the protocol says; a part that dies is still to be rolled back. After a quiet answer,
+    /// and where there is no memory, all is as before.
     pub(crate) fn attempt(
         &mut self,
         alloc: Global,
@@ -82,7 +89,9 @@ impl<S: Store + Drop, L: Locks + Drop> ShardTx<S, L> {
         ensures ok { IfOk result (λ a. ComesTo (op_reply self.old.shard self.old.local tx birth seen op) tx self.old a self.new) }
         ensures err { OnErr result (IsSameBut self.old self.old.local self.new) }
         ensures room { KeepsSpare self.old self.new }
+        ensures given_back { KeepsSpare self.new self.old }
         ensures pairs_room { self.old.pairs_room ≤ self.new.pairs_room }
+        ensures pairs_given_back { self.new.pairs_room ≤ self.old.pairs_room }
     {
         let found = match self.judge(alloc, tx, birth, seen, op) {
             Ok(found) => found,

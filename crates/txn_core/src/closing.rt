@@ -1,5 +1,5 @@
 //! Closing a part.
-ghost use Rattle.std.specs.Prelude.{◌≡◌, ◌≤◌, ◌<◌, ◌+◌, ℕ, Some, IfOk, OnOk, OnErr};
+ghost use Rattle.std.specs.Prelude.{◌≡◌, ◌≤◌, ◌<◌, ◌+◌, ℕ, length, Some, IfOk, OnOk, OnErr};
 ghost use Rattle.std.specs.List.Sorted.{IsStrictlySortedBy};
 ghost use Rattle.std.specs.Map.{keys_of};
 ghost use Rattle.clv_base.specs.declared.state.Stage.TheVariants.{Active};
@@ -9,11 +9,11 @@ ghost use Rattle.clv_base.specs.Undo.{stage_of as stage_in};
 ghost use Rattle.clv_base.specs.Facts.{undecided_of};
 ghost use Rattle.clv_base.specs.OneShard.{close_part as closed_by, closing};
 ghost use Rattle.txn_core.specs.State.{IsSameBut};
-ghost use Rattle.txn_core.specs.Sound.{HasSpare, KeepsSpare, SpendsSpare};
+ghost use Rattle.txn_core.specs.Sound.{HasSpare, KeepsSpare, UsesSpare, SpendsSpare};
 ghost use Rattle.txn_core.specs.Closings.{IsClosing, planned};
 
 use crate::ending::close_in;
-use crate::performing::reserve_pairs;
+use crate::performing::{reserve_pairs, reserve_records};
 use crate::plans::{Closing, ClosingPlan, closing_plan, write_closing};
 use crate::shard::ShardTx;
 use clv_base::names::TxId;
@@ -23,29 +23,32 @@ use std::alloc::Global;
 
 impl<S: Store + Drop, L: Locks + Drop> ShardTx<S, L> {
     /// Makes room for so many records more, and for as many COMMITs that are to be settled, on top of what was reserved. An `Err` changes
-    /// nothing but that there may be more room.
+    /// nothing.
     pub fn reserve(&mut self, count: usize) -> Result<(), Memory>
         ensures ok { OnOk result ((self.old.room + count ≤ self.new.room) × (self.old.pairs_room + count ≤ self.new.pairs_room)) }
         ensures spare { OnOk result (HasSpare count self.new) }
         ensures same { IsSameBut self.old self.old.local self.new }
         ensures room { (self.old.room ≤ self.new.room) × (self.old.pairs_room ≤ self.new.pairs_room) }
+        ensures made { OnOk result ((self.new.room ≡ self.old.room + count) × (self.new.pairs_room ≡ self.old.pairs_room + count)) }
+        ensures refused { OnErr result ((self.new.room ≡ self.old.room) × (self.new.pairs_room ≡ self.old.pairs_room)) }
     {
+        let pairs = self.deps.room();
         match reserve_pairs(&mut self.deps, count) {
             Ok(()) => {}
             Err(memory) => return Err(memory),
         }
-        let Some(all) = self.buffer.room().checked_add(count) else {
-            return Err(Memory);
-        };
-        match self.buffer.reserve(all) {
+        match reserve_records(&mut self.buffer, count) {
             Ok(()) => Ok(()),
-            Err(_) => Err(Memory),
+            Err(memory) => {
+                self.deps.trim(pairs);
+                Err(memory)
+            }
         }
     }
 
     /// The active part of a transaction is closed: its locks may be violated from now on. Where it wrote, the log gets a COMMIT, if this shard is
     /// the only one and no predecessor is undecided, else a PREPARE for the home, which lists the undecided ones. Where there is no memory all
-    /// is as before, but that there may be more room.
+    /// is as before. There is no more room afterwards than before, also where nothing was written.
     pub fn close_part(
         &mut self,
         alloc: Global,
@@ -58,8 +61,12 @@ impl<S: Store + Drop, L: Locks + Drop> ShardTx<S, L> {
         ensures written { IfOk result (IsClosing (self.old.local).log tx home (closing (wrote_in (self.old.local).log tx) one_shard tx home (undecided_of self.old.local tx))) }
         ensures err { OnErr result (IsSameBut self.old self.old.local self.new) }
         ensures room { KeepsSpare self.old self.new }
+        ensures given_back { KeepsSpare self.new self.old }
         ensures pairs_room { self.old.pairs_room ≤ self.new.pairs_room }
+        ensures pairs_given_back { self.new.pairs_room ≤ self.old.pairs_room }
     {
+        let room = self.buffer.room();
+        let pairs = self.deps.room();
         let plan = match self.plan_closing(alloc, tx, one_shard) {
             Ok(plan) => plan,
             Err(memory) => return Err(memory),
@@ -68,7 +75,9 @@ impl<S: Store + Drop, L: Locks + Drop> ShardTx<S, L> {
             Ok(()) => {}
             Err(memory) => return Err(memory),
         }
-        Ok(self.close_as(tx, home, one_shard, plan))
+        let closing = self.close_as(tx, home, one_shard, plan);
+        self.trim_to(room, pairs);
+        Ok(closing)
     }
 
     /// The record that is to close the transaction's part.
@@ -91,7 +100,9 @@ impl<S: Store + Drop, L: Locks + Drop> ShardTx<S, L> {
         ensures closed { IsSameBut self.old (closed_by tx home one_shard self.old.local) self.new }
         ensures written { IsClosing (self.old.local).log tx home (closing (wrote_in (self.old.local).log tx) one_shard tx home (undecided_of self.old.local tx)) result }
         ensures room { SpendsSpare 1 self.old self.new }
+        ensures spent { UsesSpare (length (closing (wrote_in (self.old.local).log tx) one_shard tx home (undecided_of self.old.local tx))) self.old self.new }
         ensures pairs_room { self.old.pairs_room ≤ self.new.pairs_room + 1 }
+        ensures pairs_given_back { self.new.pairs_room ≤ self.old.pairs_room }
         ensures rising { IsStrictlySortedBy tx_cmp (keys_of (self.old.local).parts) }
     {
         self.parts.rising();

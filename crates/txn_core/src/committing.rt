@@ -17,7 +17,7 @@ fn settle_first(deps: &mut Deps, tx: TxId, lsn: u64)
     requires { 0 < deps.old.room }
     ensures commits { (t : Tx) → tx_get t deps.new.commits ≡ cond (tx_same tx t) (place_or (tx_get t deps.old.commits) lsn) (tx_get t deps.old.commits) }
     ensures pairs { deps.new.pairs ≡ deps.old.pairs }
-    ensures room { deps.old.room ≤ deps.new.room + 1 }
+    ensures room { (deps.new.room ≤ deps.old.room) × (deps.old.room ≤ deps.new.room + 1) }
 {
     if deps.settled_at(tx).is_none() {
         deps.settle(tx, lsn);
@@ -37,6 +37,7 @@ pub(crate) fn write_commit(
     ensures records { buffer.new.records ≡ buffer.old.records ++ Commit tx parts ∷ [] }
     ensures fronts { (buffer.new.durable ≡ buffer.old.durable) × (buffer.new.taken ≡ buffer.old.taken) }
     ensures room { (buffer.old.room ≡ buffer.new.room + 1) × (deps.old.room ≤ deps.new.room + 1) }
+    ensures left { deps.new.room ≤ deps.old.room }
     ensures settled { AreSettled deps.new.commits buffer.new.records }
     ensures pairs { deps.new.pairs ≡ deps.old.pairs }
 {

@@ -5,7 +5,7 @@ ghost use Rattle.clv_base.specs.Undo.{release_parts};
 ghost use Rattle.clv_base.specs.OneShard.{purge};
 ghost use Rattle.clv_base.specs.Due.{append_log};
 ghost use Rattle.txn_core.specs.State.{IsSameBut};
-ghost use Rattle.txn_core.specs.Sound.{HasSpare, KeepsSpare, SpendsSpare};
+ghost use Rattle.txn_core.specs.Sound.{HasSpare, KeepsSpare, UsesSpare, SpendsSpare};
 
 use crate::committing::write_commit;
 use crate::ending::finish_in;
@@ -25,7 +25,9 @@ impl<S: Store + Drop, L: Locks + Drop> ShardTx<S, L> {
         ensures lsn { result ≡ length (self.old.local).log }
         ensures committed { IsSameBut self.old (append_log (Commit tx parts ∷ []) self.old.local) self.new }
         ensures room { SpendsSpare 1 self.old self.new }
+        ensures spent { UsesSpare 1 self.old self.new }
         ensures pairs_room { self.old.pairs_room ≤ self.new.pairs_room + 1 }
+        ensures pairs_given_back { self.new.pairs_room ≤ self.old.pairs_room }
     {
         write_commit(&mut self.buffer, &mut self.deps, tx, parts)
     }
@@ -35,7 +37,9 @@ impl<S: Store + Drop, L: Locks + Drop> ShardTx<S, L> {
         requires { HasSpare 1 self.old }
         ensures ended { IsSameBut self.old (append_log (End tx ∷ []) self.old.local) self.new }
         ensures room { SpendsSpare 1 self.old self.new }
+        ensures spent { UsesSpare 1 self.old self.new }
         ensures pairs_room { self.old.pairs_room ≤ self.new.pairs_room }
+        ensures pairs_given_back { self.new.pairs_room ≤ self.old.pairs_room }
     {
         self.buffer.append_reserved(LogRecord::End { tx });
     }
@@ -47,6 +51,7 @@ impl<S: Store + Drop, L: Locks + Drop> ShardTx<S, L> {
         ensures room { KeepsSpare self.old self.new }
         ensures given_back { KeepsSpare self.new self.old }
         ensures pairs_room { self.old.pairs_room ≤ self.new.pairs_room }
+        ensures pairs_given_back { self.new.pairs_room ≤ self.old.pairs_room }
     {
         let kept = room_without(&self.buffer, &self.parts, tx);
         release_all(&mut self.store, &mut self.locks, &[tx]);

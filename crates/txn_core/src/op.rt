@@ -37,9 +37,10 @@ pub enum Reply {
 
 impl<S: Store + Drop, L: Locks + Drop> ShardTx<S, L> {
     /// An operation of a transaction with this birth; `seen` is the epoch that its session was answered here at its first touch, none at the
-    /// first. It is answered what the protocol says, and leaves the state that the protocol says, without the ghosts that bear no lock. After a quiet answer all is as before; where there is no memory too, but that there may be more room. `Memory` is
-    /// also answered in place of a grant to a transaction that has no part here and yet an UPDATE in the log, from before a restart. What was
-    /// reserved in the log beyond the undo of the parts that are here stays reserved, and so does the room for dependencies.
+    /// first. It is answered what the protocol says, and leaves the state that the protocol says, without the ghosts that bear no lock. After a quiet
+    /// answer all is as before, and where there is no memory too. `Memory` is also answered in place of a grant to a transaction that has no part
+    /// here and yet an UPDATE in the log, from before a restart. The room in the log beyond the undo of the parts that are here is as it was, and
+    /// so is the room for dependencies.
     pub fn op(
         &mut self,
         alloc: Global,
@@ -51,7 +52,9 @@ impl<S: Store + Drop, L: Locks + Drop> ShardTx<S, L> {
         ensures ok { IfOk result (λ r. Replies (op_reply self.old.shard self.old.local tx birth seen op) self.old r self.new) }
         ensures err { OnErr result (IsSameBut self.old self.old.local self.new) }
         ensures room { KeepsSpare self.old self.new }
+        ensures given_back { KeepsSpare self.new self.old }
         ensures pairs_room { self.old.pairs_room ≤ self.new.pairs_room }
+        ensures pairs_given_back { self.new.pairs_room ≤ self.old.pairs_room }
     {
         let attempt = match self.attempt(alloc, tx, birth, seen, op) {
             Ok(attempt) => attempt,

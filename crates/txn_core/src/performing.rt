@@ -30,33 +30,42 @@ fn was_before(parts: &PartTable, buffer: &LogBuffer<LogRecord>, tx: TxId) -> boo
     parts.get(tx).is_none() && buffer.wrote(tx)
 }
 
-/// Makes room for an UPDATE and the CLR that it may want, and for an ABORT where it is the first of the transaction.
+/// Makes room for so many records beside what was reserved before. An `Err` changes nothing.
+pub(crate) fn reserve_records(buffer: &mut LogBuffer<LogRecord>, count: usize) -> Result<(), Memory>
+    ensures ok { OnOk result (buffer.new.room ≡ buffer.old.room + count) }
+    ensures refused { OnErr result (buffer.new ≡ buffer.old) }
+    ensures same { buffer.new ≡ record buffer.old { room = buffer.new.room } }
+{
+    let Some(all) = buffer.room().checked_add(count) else {
+        return Err(Memory);
+    };
+    match buffer.reserve(all) {
+        Ok(()) => Ok(()),
+        Err(_) => Err(Memory),
+    }
+}
+
+/// Makes room for an UPDATE and the CLR that it may want, and for an ABORT where it is the first of the transaction. An `Err` changes nothing.
 fn reserve_log(
     buffer: &mut LogBuffer<LogRecord>,
     tx: TxId,
     write: Option<Write>,
 ) -> Result<(), Memory>
-    ensures ok { OnOk result (buffer.old.room + record_count write + owed_more (wrote_in buffer.old.records tx) write ≤ buffer.new.room) }
-    ensures room { buffer.old.room ≤ buffer.new.room }
+    ensures ok { OnOk result (buffer.new.room ≡ buffer.old.room + record_count write + owed_more (wrote_in buffer.old.records tx) write) }
+    ensures refused { OnErr result (buffer.new ≡ buffer.old) }
     ensures same { buffer.new ≡ record buffer.old { room = buffer.new.room } }
 {
     if write.is_none() {
         return Ok(());
     }
     let places = if buffer.wrote(tx) { 2 } else { 3 };
-    let Some(count) = buffer.room().checked_add(places) else {
-        return Err(Memory);
-    };
-    match buffer.reserve(count) {
-        Ok(()) => Ok(()),
-        Err(_) => Err(Memory),
-    }
+    reserve_records(buffer, places)
 }
 
-/// Makes room for so many pairs beside what was reserved before, for COMMITs that are to be settled.
+/// Makes room for so many pairs beside what was reserved before, for COMMITs that are to be settled. An `Err` changes nothing.
 pub(crate) fn reserve_pairs(deps: &mut Deps, count: usize) -> Result<(), Memory>
-    ensures ok { OnOk result (deps.old.room + count ≤ deps.new.room) }
-    ensures room { deps.old.room ≤ deps.new.room }
+    ensures ok { OnOk result (deps.new.room ≡ deps.old.room + count) }
+    ensures refused { OnErr result (deps.new.room ≡ deps.old.room) }
     ensures pairs { deps.new.pairs ≡ deps.old.pairs }
     ensures commits { (t : Tx) → tx_get t deps.new.commits ≡ tx_get t deps.old.commits }
 {
@@ -69,11 +78,11 @@ pub(crate) fn reserve_pairs(deps: &mut Deps, count: usize) -> Result<(), Memory>
     }
 }
 
-/// Makes room for a record, and for so many predecessors.
+/// Makes room for a record, and for so many predecessors. An `Err` leaves the dependencies as they were.
 fn reserve_rest<S: Store>(store: &mut S, deps: &mut Deps, preds: usize) -> Result<(), Memory>
     ensures store { OnOk result (1 ≤ S.room store.new) }
-    ensures deps { OnOk result (deps.old.room + preds ≤ deps.new.room) }
-    ensures room { deps.old.room ≤ deps.new.room }
+    ensures deps { OnOk result (deps.new.room ≡ deps.old.room + preds) }
+    ensures refused { OnErr result (deps.new.room ≡ deps.old.room) }
     ensures records { S.records store.new ≡ S.records store.old }
     ensures pairs { deps.new.pairs ≡ deps.old.pairs }
     ensures commits { (t : Tx) → tx_get t deps.new.commits ≡ tx_get t deps.old.commits }
@@ -86,8 +95,8 @@ fn reserve_rest<S: Store>(store: &mut S, deps: &mut Deps, preds: usize) -> Resul
 }
 
 impl<S: Store + Drop, L: Locks + Drop> ShardTx<S, L> {
-    /// Does what was planned and granted, which violates the writes of these. An `Err` changes nothing but room. What was reserved before
-    /// stays reserved.
+    /// Does what was planned and granted, which violates the writes of these. An `Err` changes nothing but that there may be more room. What was
+    /// reserved before stays reserved, and after `Ok` there is no more than that beyond the undo.
     pub(crate) fn perform(
         &mut self,
         alloc: Global,
@@ -103,7 +112,9 @@ impl<S: Store + Drop, L: Locks + Drop> ShardTx<S, L> {
         ensures ok { OnOk result (IsSameBut self.old (performed_by tx birth plan.now.needs.items plan.now.insert plan.now.write violated.now self.old.local) self.new) }
         ensures err { OnErr result (IsSameBut self.old self.old.local self.new) }
         ensures room { KeepsSpare self.old self.new }
+        ensures given_back { OnOk result (KeepsSpare self.new self.old) }
         ensures pairs_room { self.old.pairs_room ≤ self.new.pairs_room }
+        ensures pairs_given_back { OnOk result (self.new.pairs_room ≤ self.old.pairs_room) }
     {
         if was_before(&self.parts, &self.buffer, tx) {
             return Err(Memory);

@@ -1,5 +1,5 @@
 //! Which record closes a part.
-ghost use Rattle.std.specs.Prelude.{◌≡◌, ◌≤◌, ◌<◌, ◌+◌, ◌++◌, ℕ, true, map, is_none, IfOk};
+ghost use Rattle.std.specs.Prelude.{◌≡◌, ◌≤◌, ◌<◌, ◌+◌, ◌++◌, ℕ, true, length, map, is_none, IfOk};
 ghost use Rattle.clv_base.specs.declared.names.TxId.{TxId as Tx};
 ghost use Rattle.std.specs.List.{filter};
 ghost use Rattle.clv_base.specs.Orders.{tx_get};
@@ -114,6 +114,7 @@ pub(crate) fn write_closing(
     ensures records { buffer.new.records ≡ buffer.old.records ++ planned tx home plan }
     ensures fronts { (buffer.new.durable ≡ buffer.old.durable) × (buffer.new.taken ≡ buffer.old.taken) }
     ensures room { (buffer.old.room ≤ buffer.new.room + 1) × (deps.old.room ≤ deps.new.room + 1) }
+    ensures spent { (buffer.old.room ≡ buffer.new.room + length (planned tx home plan)) × (deps.new.room ≤ deps.old.room) }
     ensures settled { AreSettled deps.new.commits buffer.new.records }
     ensures pairs { deps.new.pairs ≡ deps.old.pairs }
 {

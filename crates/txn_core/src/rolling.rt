@@ -25,6 +25,7 @@ impl<S: Store + Drop, L: Locks + Drop> ShardTx<S, L> {
         ensures room { KeepsSpare self.old self.new }
         ensures given_back { KeepsSpare self.new self.old }
         ensures pairs_room { self.old.pairs_room ≤ self.new.pairs_room }
+        ensures pairs_given_back { self.new.pairs_room ≤ self.old.pairs_room }
     {
         self.deps.mark_dependents(tx);
         let kept = room_beyond(&self.buffer, self.deps.marks());
@@ -45,6 +46,7 @@ impl<S: Store + Drop, L: Locks + Drop> ShardTx<S, L> {
         ensures room { KeepsSpare self.old self.new }
         ensures given_back { KeepsSpare self.new self.old }
         ensures pairs_room { self.old.pairs_room ≤ self.new.pairs_room }
+        ensures pairs_given_back { self.new.pairs_room ≤ self.old.pairs_room }
     {
         match self.stage_of(tx) {
             None => return false,

@@ -1,8 +1,8 @@
 //! Giving back the room that nothing open wants.
-ghost use Rattle.std.specs.Prelude.{◌≡◌, ◌+◌, ◌≤◌, [], ◌∷◌, cond, OnOk, OnErr};
+ghost use Rattle.std.specs.Prelude.{◌≡◌, ◌+◌, ◌≤◌, [], ◌∷◌, cond, min, OnOk, OnErr};
 ghost use Rattle.std.specs.List.Sorted.{IsStrictlySortedBy};
 ghost use Rattle.clv_base.specs.Orders.{tx_cmp, tx_in};
-ghost use Rattle.txn_core.specs.Sound.{is_in, owed_by, trimmed};
+ghost use Rattle.txn_core.specs.Sound.{is_here as here_in, is_in, owed_by, trimmed};
 
 use crate::aborting::is_here;
 use crate::shard::ShardTx;
@@ -69,5 +69,15 @@ impl<S: Store + Drop, L: Locks + Drop> ShardTx<S, L> {
         self.buffer.trim(undo + spare.min(count));
         self.deps.trim(count);
         Ok(())
+    }
+
+    /// Gives back the room that is beyond so many records, which the undo of the parts that are here fits into, and beyond so many pairs and
+    /// settled transactions. Takes no memory.
+    pub(crate) fn trim_to(&mut self, room: usize, pairs: usize)
+        requires { owed_by (here_in self.old.local) (self.old.local).log ≤ room }
+        ensures { self.new ≡ record self.old { room = min self.old.room room; pairs_room = min self.old.pairs_room pairs } }
+    {
+        self.buffer.trim(room);
+        self.deps.trim(pairs);
     }
 }

@@ -1,5 +1,5 @@
 -- The part is closed, and the record is at the end of the log.
-use Rattle.std.proofs.Common.{◌≡◌, ◌++◌, List, refl, sym, ap, subst, ◌∙◌, arith, Some}
+use Rattle.std.proofs.Common.{◌≡◌, ◌+◌, ◌++◌, List, length, refl, sym, ap, subst, ◌∙◌, arith, Some}
 use Rattle.clv_base.specs.declared.logs.LogRecord.{LogRecord}
 use Rattle.clv_base.specs.declared.state.Stage.TheVariants.{Active}
 use Rattle.clv_base.specs.Logs.{wrote_in}
@@ -8,11 +8,11 @@ use Rattle.clv_base.specs.Undo.{stage_of}
 use Rattle.clv_base.specs.Facts.{undecided_of}
 use Rattle.clv_base.specs.OneShard.{closing, close_part}
 use Rattle.txn_core.specs.State.{TxState}
-use Rattle.txn_core.specs.Sound.{HasSpare, SpendsSpare}
+use Rattle.txn_core.specs.Sound.{HasSpare, UsesSpare, SpendsSpare}
 use Rattle.txn_core.specs.Closings.{planned, IsClosing}
 use Rattle.txn_core.proofs.Undoing.{local_same, state_same, sound_more}
 use Rattle.txn_core.proofs.Locked.{ghosts_same}
-use Rattle.txn_core.proofs.Closed.{closed_sound, closed_fewer, closed_ghosts, spends_like}
+use Rattle.txn_core.proofs.Closed.{closed_sound, closed_fewer, closed_back, closed_ghosts, spends_like, uses_like}
 use Rattle.txn_core.proofs.Crowds.{few_same, few_grows}
 use Rattle.txn_core.proofs.shard.ShardTx.close_as.Goals as goal
 
@@ -72,3 +72,19 @@ returns-clause-room g c =
     let fewer = closed_fewer l tx home one active in let spent = c.write_closing.ensures.room.0 in
     let inside : SpendsSpare 1 view left = spends_like 1 view left (close_part tx home one l) c.close_in.ensures log (omega (arith, fewer, spent)) in
     subst (λ (v : TxState). SpendsSpare 1 v left) c.self.view_is inside
+
+pub returns-clause-spent : goal.returns-clause-spent
+returns-clause-spent g c =
+    let s = c.self.inside in let tx = c.args.tx in let home = c.args.home in let one = c.args.one_shard in let now = c.write_closing.new.buffer in let deps = c.write_closing.new.deps in
+    let l : Local = record { records = g.S.Store.records s.store; locks = g.L.Locks.rows s.locks; parts = s.parts.entries; pairs = s.deps.pairs; log = s.buffer.records; epoch = s.epoch } in
+    let active : stage_of l tx ≡ Some Active = subst (λ (v : TxState). stage_of v.local tx ≡ Some Active) (sym c.self.view_is) c.requires.active in
+    let plan : planned tx home c.args.plan ≡ closing (wrote_in l.log tx) one tx home (undecided_of l tx) = subst (λ (v : TxState). planned tx home c.args.plan ≡ closing (wrote_in (v.local).log tx) one tx home (undecided_of v.local tx)) (sym c.self.view_is) c.requires.plan in
+    let log : now.records ≡ l.log ++ closing (wrote_in l.log tx) one tx home (undecided_of l tx) = c.write_closing.ensures.records ∙ ap (λ (rs : List LogRecord). s.buffer.records ++ rs) plan in
+    let view : TxState = record { shard = s.shard; local = l; durable = s.buffer.durable; taken = s.buffer.taken; room = s.buffer.room; pairs_room = s.deps.room } in
+    let m : Local = record { records = g.S.Store.records s.store; locks = g.L.Locks.rows c.close_part.new.self; parts = c.close_in.new.parts.entries; pairs = deps.pairs; log = now.records; epoch = s.epoch } in
+    let left : TxState = record { shard = s.shard; local = m; durable = now.durable; taken = now.taken; room = now.room; pairs_room = deps.room } in
+    let more = closing (wrote_in l.log tx) one tx home (undecided_of l tx) in
+    let written : s.buffer.room ≡ now.room + length more = subst (λ (rs : List LogRecord). s.buffer.room ≡ now.room + length rs) plan c.write_closing.ensures.spent.0 in
+    let fewer = closed_fewer l tx home one active in let back = closed_back l tx home one active in
+    let inside : UsesSpare (length more) view left = uses_like (length more) view left (close_part tx home one l) c.close_in.ensures log (omega (arith, fewer, back, written)) in
+    subst (λ (v : TxState). UsesSpare (length (closing (wrote_in (v.local).log tx) one tx home (undecided_of v.local tx))) v left) c.self.view_is inside

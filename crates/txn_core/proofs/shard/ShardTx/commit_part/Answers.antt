@@ -3,9 +3,9 @@ use Rattle.std.proofs.Common.{[], ◌∷◌, ◌++◌, refl, sym, subst, arith}
 use Rattle.clv_base.specs.declared.logs.LogRecord.TheVariants.{Commit}
 use Rattle.clv_base.specs.State.{Local}
 use Rattle.txn_core.specs.State.{TxState}
-use Rattle.txn_core.specs.Sound.{HasSpare, SpendsSpare}
+use Rattle.txn_core.specs.Sound.{HasSpare, UsesSpare, SpendsSpare}
 use Rattle.txn_core.proofs.Undoing.{local_same, sound_more}
-use Rattle.txn_core.proofs.Closed.{plain_commit, more_sound, more_owed, spends_like}
+use Rattle.txn_core.proofs.Closed.{plain_commit, more_sound, more_owed, spends_like, uses_like}
 use Rattle.txn_core.proofs.Crowds.{few_same, few_grows}
 use Rattle.txn_core.proofs.shard.ShardTx.commit_part.Goals as goal
 
@@ -35,3 +35,14 @@ returns-clause-room g c =
     let same = more_owed l more (plain_commit c.args.tx c.args.parts) in let spent = c.write_commit.ensures.room.0 in
     let inside : SpendsSpare 1 view left = spends_like 1 view left (record l { log = l.log ++ more }) refl c.write_commit.ensures.records (omega (arith, same, spent)) in
     subst (λ (v : TxState). SpendsSpare 1 v left) c.self.view_is inside
+
+pub returns-clause-spent : goal.returns-clause-spent
+returns-clause-spent g c =
+    let s = c.self.inside in let more = Commit c.args.tx c.args.parts ∷ [] in let now = c.write_commit.new.buffer in
+    let l : Local = record { records = g.S.Store.records s.store; locks = g.L.Locks.rows s.locks; parts = s.parts.entries; pairs = s.deps.pairs; log = s.buffer.records; epoch = s.epoch } in
+    let view : TxState = record { shard = s.shard; local = l; durable = s.buffer.durable; taken = s.buffer.taken; room = s.buffer.room; pairs_room = s.deps.room } in
+    let m : Local = record l { pairs = c.write_commit.new.deps.pairs; log = now.records } in
+    let left : TxState = record { shard = s.shard; local = m; durable = now.durable; taken = now.taken; room = now.room; pairs_room = c.write_commit.new.deps.room } in
+    let same = more_owed l more (plain_commit c.args.tx c.args.parts) in let spent = c.write_commit.ensures.room.0 in
+    let inside : UsesSpare 1 view left = uses_like 1 view left (record l { log = l.log ++ more }) refl c.write_commit.ensures.records (omega (arith, same, spent)) in
+    subst (λ (v : TxState). UsesSpare 1 v left) c.self.view_is inside
