@@ -26,7 +26,7 @@ use Rattle.law_base.proofs.Stages.{own_go, stage_other as other_stays}
 use Rattle.cascade_undo.proofs.Laws.{all_mono}
 use Rattle.lock_release.specs.Ghosts.{GhostsAreLocked}
 use Rattle.txn_core.specs.State.{TxState}
-use Rattle.txn_core.specs.Sound.{is_here, has_lock, IsHeld, owed_by, IsSound, UsesSpare, SpendsSpare}
+use Rattle.txn_core.specs.Sound.{is_here, has_lock, IsHeld, owed_by, IsSound, SpendsSpare, UsesSpare}
 use Rattle.txn_core.proofs.Writers.{NoUpdate}
 use Rattle.txn_core.proofs.Owing.{owed-still, count_owed_fewer}
 use Rattle.txn_core.proofs.Undoing.{lock_is_held, release_keeps, all_filter}

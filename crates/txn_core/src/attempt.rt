@@ -76,8 +76,8 @@ impl<S: Store + Drop, L: Locks + Drop> ShardTx<S, L> {
     }
 
     /// An operation of a transaction with this birth; `seen` is the epoch that its session was answered here at its first touch, none at the
-    /// first. It comes to what the protocol says, and leaves the state that the protocol says; a part that dies is still to be rolled back. After a quiet answer,
-    /// and where there is no memory, all is as before.
+    /// first. It comes to what the protocol says, and leaves the state that the protocol says; a part that dies is still to be rolled back. After
+    /// a quiet answer, and where there is no memory, all is as before.
     pub(crate) fn attempt(
         &mut self,
         alloc: Global,

@@ -9,7 +9,7 @@ ghost use Rattle.clv_base.specs.Undo.{stage_of as stage_in};
 ghost use Rattle.clv_base.specs.Facts.{undecided_of};
 ghost use Rattle.clv_base.specs.OneShard.{close_part as closed_by, closing};
 ghost use Rattle.txn_core.specs.State.{IsSameBut};
-ghost use Rattle.txn_core.specs.Sound.{HasSpare, KeepsSpare, UsesSpare, SpendsSpare};
+ghost use Rattle.txn_core.specs.Sound.{HasSpare, KeepsSpare, SpendsSpare, UsesSpare};
 ghost use Rattle.txn_core.specs.Closings.{IsClosing, planned};
 
 use crate::ending::close_in;

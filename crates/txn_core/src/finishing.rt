@@ -5,7 +5,7 @@ ghost use Rattle.clv_base.specs.Undo.{release_parts};
 ghost use Rattle.clv_base.specs.OneShard.{purge};
 ghost use Rattle.clv_base.specs.Due.{append_log};
 ghost use Rattle.txn_core.specs.State.{IsSameBut};
-ghost use Rattle.txn_core.specs.Sound.{HasSpare, KeepsSpare, UsesSpare, SpendsSpare};
+ghost use Rattle.txn_core.specs.Sound.{HasSpare, KeepsSpare, SpendsSpare, UsesSpare};
 
 use crate::committing::write_commit;
 use crate::ending::finish_in;

@@ -45,7 +45,8 @@ pub(crate) fn reserve_records(buffer: &mut LogBuffer<LogRecord>, count: usize) -
     }
 }
 
-/// Makes room for an UPDATE and the CLR that it may want, and for an ABORT where it is the first of the transaction. An `Err` changes nothing.
+/// Makes room for an UPDATE and the CLR that it may want, and for an ABORT where it is the first of the transaction. An `Err` changes
+/// nothing.
 fn reserve_log(
     buffer: &mut LogBuffer<LogRecord>,
     tx: TxId,
@@ -95,8 +96,8 @@ fn reserve_rest<S: Store>(store: &mut S, deps: &mut Deps, preds: usize) -> Resul
 }
 
 impl<S: Store + Drop, L: Locks + Drop> ShardTx<S, L> {
-    /// Does what was planned and granted, which violates the writes of these. An `Err` changes nothing but that there may be more room. What was
-    /// reserved before stays reserved, and after `Ok` there is no more than that beyond the undo.
+    /// Does what was planned and granted, which violates the writes of these. An `Err` changes nothing but that there may be more room. What
+    /// was reserved before stays reserved, and after `Ok` there is no more than that beyond the undo.
     pub(crate) fn perform(
         &mut self,
         alloc: Global,

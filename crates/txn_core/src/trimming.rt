@@ -71,8 +71,8 @@ impl<S: Store + Drop, L: Locks + Drop> ShardTx<S, L> {
         Ok(())
     }
 
-    /// Gives back the room that is beyond so many records, which the undo of the parts that are here fits into, and beyond so many pairs and
-    /// settled transactions. Takes no memory.
+    /// Gives back the room that is beyond so many records, into which the undo of the parts that are here fits, and beyond so many pairs
+    /// and settled transactions. Takes no memory.
     pub(crate) fn trim_to(&mut self, room: usize, pairs: usize)
         requires { owed_by (here_in self.old.local) (self.old.local).log ≤ room }
         ensures { self.new ≡ record self.old { room = min self.old.room room; pairs_room = min self.old.pairs_room pairs } }

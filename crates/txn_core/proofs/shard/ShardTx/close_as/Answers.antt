@@ -8,7 +8,7 @@ use Rattle.clv_base.specs.Undo.{stage_of}
 use Rattle.clv_base.specs.Facts.{undecided_of}
 use Rattle.clv_base.specs.OneShard.{closing, close_part}
 use Rattle.txn_core.specs.State.{TxState}
-use Rattle.txn_core.specs.Sound.{HasSpare, UsesSpare, SpendsSpare}
+use Rattle.txn_core.specs.Sound.{HasSpare, SpendsSpare, UsesSpare}
 use Rattle.txn_core.specs.Closings.{planned, IsClosing}
 use Rattle.txn_core.proofs.Undoing.{local_same, state_same, sound_more}
 use Rattle.txn_core.proofs.Locked.{ghosts_same}

@@ -3,7 +3,7 @@ use Rattle.std.proofs.Common.{[], ◌∷◌, ◌++◌, refl, sym, subst, arith}
 use Rattle.clv_base.specs.declared.logs.LogRecord.TheVariants.{Commit}
 use Rattle.clv_base.specs.State.{Local}
 use Rattle.txn_core.specs.State.{TxState}
-use Rattle.txn_core.specs.Sound.{HasSpare, UsesSpare, SpendsSpare}
+use Rattle.txn_core.specs.Sound.{HasSpare, SpendsSpare, UsesSpare}
 use Rattle.txn_core.proofs.Undoing.{local_same, sound_more}
 use Rattle.txn_core.proofs.Closed.{plain_commit, more_sound, more_owed, spends_like, uses_like}
 use Rattle.txn_core.proofs.Crowds.{few_same, few_grows}

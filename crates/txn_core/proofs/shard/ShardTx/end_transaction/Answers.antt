@@ -5,7 +5,7 @@ use Rattle.clv_base.specs.declared.logs.LogRecord.TheVariants.{End}
 use Rattle.clv_base.specs.Logs.{commit_lsn}
 use Rattle.clv_base.specs.State.{Local}
 use Rattle.txn_core.specs.State.{TxState}
-use Rattle.txn_core.specs.Sound.{HasSpare, UsesSpare, SpendsSpare}
+use Rattle.txn_core.specs.Sound.{HasSpare, SpendsSpare, UsesSpare}
 use Rattle.txn_core.proofs.Settling.{commit_lsn-more}
 use Rattle.txn_core.proofs.Undoing.{local_same, sound_more}
 use Rattle.txn_core.proofs.Closed.{plain_end, more_sound, more_owed, spends_like, uses_like}
