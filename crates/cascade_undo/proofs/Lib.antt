@@ -1,4 +1,3 @@
-pub mod Bools
 pub mod Standing
 pub mod Splitting
 pub mod Newest

@@ -1,5 +1,4 @@
 pub mod Found
-pub mod Numbers
 pub mod Lists
 pub mod Programs
 pub mod Sayings

@@ -14,7 +14,6 @@ pub mod Closed
 pub mod Joins
 mod Batches
 mod Crowds
-mod Places
 pub mod Totals
 pub mod Returning
 mod Births

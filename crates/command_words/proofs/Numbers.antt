@@ -1,2 +1,0 @@
--- A word is one number.
-use Rattle.std.proofs.Common.{◌≡◌, ◌∙◌}

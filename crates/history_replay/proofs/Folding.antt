@@ -1,2 +1,0 @@
--- Folds by tests that agree.
-use Rattle.std.proofs.Common.{◌≡◌}

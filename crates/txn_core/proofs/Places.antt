@@ -1,2 +1,0 @@
--- Records and their places.
-use Rattle.std.proofs.Common.{◌≡◌, refl, suc, true, false, ◌||◌, ◌∷◌, None}
