@@ -28,6 +28,7 @@ use std::collections::BTreeMap;
 use std::collections::btree_map::Iter;
 use std::marker::Model;
 use tx_index::TxIndex;
+use tx_table::TxTable;
 
 /// The requests that a shard coordinates as their home.
 #[derive(Drop)]
@@ -37,11 +38,14 @@ pub struct Coordinator {
     requests: BTreeMap<TxId, Kept>,
     /// Those that wait for a vote or an acknowledgement.
     waiting: TxIndex,
+    /// All that have a request here. Who isn't among them has none: a look into a hash map tells that whatever requests are over.
+    asked: TxTable<()>,
 }
 
 impl Model for Coordinator {
     ghost use Rattle.std.specs.Prelude.{◌≡◌};
     ghost use Rattle.commit_coordinator.specs.Coordinated.{Coordination, AreFit};
+    ghost use Rattle.commit_coordinator.specs.Asked.{AreAsked};
     ghost use Rattle.commit_coordinator.specs.Waiting.{waits};
     ghost use Rattle.tx_index.specs.Index.{IsIndex};
 
@@ -49,7 +53,7 @@ impl Model for Coordinator {
 
     ghost view = { λ c. record { shard = c.shard; requests = c.requests.entries } };
 
-    ghost invariant = { λ c. AreFit c.shard c.requests.entries × IsIndex (waits c.shard) c.requests.entries c.waiting };
+    ghost invariant = { λ c. AreFit c.shard c.requests.entries × IsIndex (waits c.shard) c.requests.entries c.waiting × AreAsked c.asked.rows c.requests.entries };
 }
 
 /// Whether a vote counts: it is the first of another part of an undecided request.
@@ -158,6 +162,7 @@ impl Coordinator {
             shard,
             requests: BTreeMap::new(alloc),
             waiting: TxIndex::new(alloc),
+            asked: TxTable::new(alloc),
         }
     }
 
@@ -171,15 +176,25 @@ impl Coordinator {
         let shard = self.shard;
         let mut requests = BTreeMap::new(alloc);
         let mut waiting = TxIndex::new(alloc);
+        let mut asked = TxTable::new(alloc);
         for commit in unended {
             let request = restored_request(alloc, &commit.1);
-            match put_request(alloc, &mut requests, &mut waiting, shard, commit.0, request) {
+            match put_request(
+                alloc,
+                &mut requests,
+                &mut waiting,
+                &mut asked,
+                shard,
+                commit.0,
+                request,
+            ) {
                 Ok(()) => {}
                 Err(memory) => return Err(memory),
             }
         }
         self.requests = requests;
         self.waiting = waiting;
+        self.asked = asked;
         Ok(())
     }
 
@@ -195,6 +210,9 @@ impl Coordinator {
     pub fn state_of(&self, tx: TxId) -> Option<RequestState>
         ensures { result ≡ state_by (tx_get tx self.now.requests) }
     {
+        if self.asked.get(tx).is_none() {
+            return None;
+        }
         match self.requests.get(&tx) {
             Some(request) => Some(copied(&request.state)),
             None => None,
@@ -354,6 +372,9 @@ impl Coordinator {
         ensures ruling { result ≡ ruling_of self.old.shard tx facts.entry.now (tx_get tx self.old.requests) }
         ensures requests { self.new ≡ record self.old { requests = requests_by tx (tx_get tx self.old.requests) result self.old.requests } }
     {
+        if self.asked.get(tx).is_none() {
+            return None;
+        }
         let shard = self.shard;
         let Some(request) = self.requests.get_mut(&tx) else {
             return None;
@@ -384,6 +405,7 @@ impl Coordinator {
             self.alloc,
             &mut self.requests,
             &mut self.waiting,
+            &mut self.asked,
             self.shard,
             tx,
             request,
