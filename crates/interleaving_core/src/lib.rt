@@ -21,8 +21,6 @@ mod running;
 mod seat;
 mod seat_steps;
 mod sessions;
-#[cfg(test)]
-mod tests;
 mod world;
 
 pub use clocks::clock_of;

@@ -6,8 +6,6 @@
 pub mod place;
 pub mod progress_promises;
 pub mod promises;
-#[cfg(test)]
-mod tests;
 pub mod turn_promises;
 
 pub use place::{Place, Stage};

@@ -7,6 +7,8 @@
 
 mod calling;
 mod closing;
+#[cfg(test)]
+mod places;
 mod reviving;
 mod sitting;
 #[cfg(test)]

@@ -25,8 +25,6 @@ mod sending;
 mod settling;
 mod shard;
 mod telling;
-#[cfg(test)]
-mod tests;
 
 pub use crate::requesting::RequestAnswer;
 pub use crate::shard::ShardCore;

@@ -7,8 +7,6 @@ mod aborts;
 mod rebuilding;
 mod restarting;
 mod room;
-#[cfg(test)]
-mod tests;
 mod winners;
 mod writes;
 

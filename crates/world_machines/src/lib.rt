@@ -6,6 +6,8 @@
 
 #[cfg(test)]
 mod examples;
+#[cfg(test)]
+mod histories;
 mod machines;
 #[cfg(test)]
 mod playing;

@@ -1,12 +1,12 @@
 // One request from its asking to the last acknowledgement, with memory at hand.
 ghost use Rattle.std.specs.Prelude.{◌≡◌, [], ◌∷◌, IfOk};
 
-use crate::Coordinator;
 use clv_base::causes::Vote;
 use clv_base::lists::Touched;
 use clv_base::names::TxId;
 use clv_base::parts::{PartFacts, PartState};
 use clv_base::state::Ruling;
+use commit_coordinator::Coordinator;
 use std::alloc::{AllocError, Global};
 use std::test::Fail;
 

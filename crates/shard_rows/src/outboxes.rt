@@ -1,6 +1,6 @@
 // An outbox, with memory at hand.
 
-use crate::Outbox;
+use due_step::Outbox;
 use std::test::Fail;
 
 #[test]

@@ -1,10 +1,10 @@
 // The tests over two entries.
 
-use crate::{clock_of, was_sent};
 use clv_base::events::{Entry, Event, Outcome};
 use clv_base::messages::Message;
 use clv_base::names::{Birth, TxId};
 use clv_base::ops::{Answer, Op};
+use interleaving_core::{clock_of, was_sent};
 use std::test::Fail;
 
 fn by(serial: u64) -> TxId {

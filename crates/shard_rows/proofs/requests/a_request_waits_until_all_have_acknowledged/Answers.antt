@@ -2,7 +2,7 @@
 use Rattle.std.proofs.Common.{ℕ, List, [], ◌∷◌, map, refl, sym, subst}
 use Rattle.std.specs.List.Sorted.{IsStrictlySortedBy}
 use Rattle.std.specs.Ordering.{nat_cmp}
-use Rattle.commit_coordinator.proofs.tests.a_request_waits_until_all_have_acknowledged.Goals as goal
+use Rattle.shard_rows.proofs.requests.a_request_waits_until_all_have_acknowledged.Goals as goal
 
 one : IsStrictlySortedBy nat_cmp (0 ∷ [])
 unfolding IsStrictlySortedBy

@@ -1,7 +1,6 @@
 // A restart, with memory at hand.
 ghost use Rattle.std.specs.Prelude.{◌≡◌, []};
 
-use crate::restart;
 use clv_base::lists::TxList;
 use clv_base::logs::LogRecord;
 use clv_base::modes::Found;
@@ -9,6 +8,7 @@ use clv_base::names::TxId;
 use clv_base::parts::ShardList;
 use log_buffer::LogBuffer;
 use ordered_store::{SortedStore, Store};
+use shard_recovery::restart;
 use std::alloc::{AllocError, Global};
 use std::cmp::Ordering;
 use std::test::Fail;

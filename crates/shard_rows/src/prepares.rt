@@ -1,9 +1,9 @@
 // The LSNs of PREPAREs. Expected values are counted by hand.
 
-use crate::prepares_of;
 use clv_base::lists::TxList;
 use clv_base::logs::LogRecord;
 use clv_base::names::TxId;
+use shard_core::prepares_of;
 use std::test::Fail;
 
 fn by(session: u32) -> TxId {

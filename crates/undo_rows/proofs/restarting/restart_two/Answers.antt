@@ -1,6 +1,6 @@
 use Rattle.std.proofs.Common.{sym}
 use Rattle.std.specs.List.Sorted.{IsStrictlySortedBy}
-use Rattle.shard_recovery.proofs.tests.restart_two.Goals as goal
+use Rattle.undo_rows.proofs.restarting.restart_two.Goals as goal
 
 pub restart-requires-clause-rising : goal.restart-requires-clause-rising
 unfolding IsStrictlySortedBy
