@@ -22,7 +22,7 @@ use io_edge::{Pace, Sink, Source, read_all};
 use lock_index::HashedLocks;
 use report_text::report_into;
 use run_status::{Status, after_text};
-use script_lang::laws::{scripts_are_narrow, scripts_have_few_sessions};
+use script_lang::statements::{scripts_are_narrow, scripts_have_few_sessions};
 use script_lang::{MOST_BYTES, Script, parse};
 use std::alloc::Global;
 use std::sync::Wait;

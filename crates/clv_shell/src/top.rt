@@ -20,7 +20,7 @@ use disk_model::House;
 use disks_opening::opening_laws::good_logs_are_not_refused;
 use io_edge::{Pace, Sink, Source};
 use run_status::Status;
-use script_lang::laws::scripts_are_not_refused;
+use script_lang::statements::scripts_are_not_refused;
 use std::alloc::Global;
 use std::sync::Wait;
 use std::thread::Threads;

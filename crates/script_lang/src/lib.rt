@@ -7,11 +7,11 @@
 
 mod actions;
 mod following;
-pub mod laws;
 mod lines;
 mod parsing;
 mod reader;
 mod script;
+pub mod statements;
 #[cfg(test)]
 mod tests;
 

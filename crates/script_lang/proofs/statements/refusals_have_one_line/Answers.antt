@@ -1,5 +1,5 @@
 use Rattle.script_lang.proofs.Unique.{one_line}
-use Rattle.script_lang.proofs.laws.refusals_have_one_line.Goals as goal
+use Rattle.script_lang.proofs.statements.refusals_have_one_line.Goals as goal
 
 pub returns : goal.returns
 returns c = one_line

@@ -1,5 +1,5 @@
 use Rattle.script_lang.proofs.Unique.{one_script}
-use Rattle.script_lang.proofs.laws.scripts_have_one_meaning.Goals as goal
+use Rattle.script_lang.proofs.statements.scripts_have_one_meaning.Goals as goal
 
 pub returns : goal.returns
 returns c = one_script

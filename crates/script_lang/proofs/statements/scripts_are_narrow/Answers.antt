@@ -1,5 +1,5 @@
 use Rattle.script_lang.proofs.Sizes.{narrow_scripts}
-use Rattle.script_lang.proofs.laws.scripts_are_narrow.Goals as goal
+use Rattle.script_lang.proofs.statements.scripts_are_narrow.Goals as goal
 
 pub returns : goal.returns
 returns c = narrow_scripts
