@@ -24,7 +24,7 @@ use Rattle.turn_laws.specs.Gates.{is_gate_away}
 use Rattle.turn_laws.proofs.Laws.{framed_finish, does_calm, entries_append, taker_append}
 use Rattle.cluster_turns.specs.declared.shards.Walker.{Walker}
 use Rattle.cluster_ends.specs.Landed.{HasLanded}
-use Rattle.cluster_ends.proofs.Laws.{by_append, others_take}
+use Rattle.cluster_ends.proofs.Landing.{by_append, others_take}
 use Rattle.cluster_ends.specs.Ending.{ClosedAt, HasPassAt, seen_of, own_notes}
 use Rattle.cluster_ends.specs.Home.{GatesComeHome}
 

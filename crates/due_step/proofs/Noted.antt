@@ -17,7 +17,7 @@ use Rattle.due_candidates.specs.Held.{Candidates, HasRoomBy}
 use Rattle.due_step.specs.declared.finding.Due.{Due}
 use Rattle.due_step.specs.declared.finding.Due.TheVariants.{Commit, Vote as DueVote, Ruling as DueRuling}
 use Rattle.due_step.specs.Covering.{touched}
-use Rattle.due_step.proofs.Laws.{carried_covers}
+use Rattle.due_step.proofs.Touched.{carried_covers}
 use Rattle.due_step.specs.Noting.{ruled_touches, touches, NotedCovers, DoomedHaveRoom}
 use Rattle.due_step.proofs.Concerned.{pair_of}
 

@@ -22,9 +22,9 @@ use Rattle.due_step.specs.Found.{vote_sent, voters_after, requests_after, carrie
 use Rattle.due_step.specs.declared.finding.Due.{Due}
 use Rattle.due_step.specs.declared.finding.Due.TheVariants.{Commit, Vote as DueVote, Ruling as DueRuling}
 use Rattle.due_step.specs.Sent.{Waiting, told}
-use Rattle.due_step.proofs.Laws.{carries_messages}
+use Rattle.due_step.proofs.Sending.{carries_messages}
 use Rattle.due_step.specs.Carried.{local_after}
-use Rattle.due_step.proofs.Laws.{carries_local}
+use Rattle.due_step.proofs.Cases.{carries_local}
 use Rattle.due_step.specs.Steps.{IsSeen}
 
 -- ---- what carrying out keeps

@@ -23,7 +23,7 @@ use Rattle.clv_base.specs.Maps.{replay_map, replay_answers}
 use Rattle.history_laws.proofs.Laws.{Placed, Among, in_a_shard}
 use Rattle.history_laws.proofs.Laws.{Offers, OffersBy, offered, logs_left_pass, left_length}
 use Rattle.many_shards_laws.specs.Shares.{ShardOp, ops_of, answers_of, all_ops, all_answers, LiesIn, LieIn}
-use Rattle.many_shards_laws.proofs.Laws.{replay_by_shards}
+use Rattle.many_shards_laws.proofs.ShardReplaying.{replay_by_shards}
 use Rattle.many_shards_laws.specs.Parts.{op_on, shard_ops_in, member_ops, MembersReplayByParts}
 use Rattle.law_base.proofs.Shards.{FromHistory}
 use Rattle.law_base.proofs.Logs.{only_passes}

@@ -44,7 +44,7 @@ use Rattle.cluster_ends.specs.Ending.{seen_of, origin_of}
 use Rattle.cluster_closing.specs.Closing.{IsBack}
 use Rattle.cluster_closing.specs.Closing as closing
 use Rattle.run_promises.specs.Disks.{HoldsLog, flush_failed}
-use Rattle.run_ends.proofs.Laws.{left_disks_hold}
+use Rattle.run_ends.proofs.Holding.{left_disks_hold}
 use Rattle.script_lang.specs.Bodies.{Body}
 use Rattle.script_runs.specs.declared.ends.StopCause.TheVariants as stop
 use Rattle.script_runs.specs.Sessions.{session_entries}

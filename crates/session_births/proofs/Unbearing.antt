@@ -44,7 +44,7 @@ use Rattle.cluster_turns.specs.Walkers.{Walked}
 use Rattle.cluster_drain.specs.Flights.{LandTold, landed_as}
 use Rattle.session_births.specs.Turns.{Turn, Took, no_turn, event_turn, flush_turns, horizon_look}
 use Rattle.session_births.specs.Answers.{is_quiet, is_kept, HasItsEntry}
-use Rattle.session_births.proofs.Laws.{answers_have_entries}
+use Rattle.session_births.proofs.Answering.{answers_have_entries}
 use Rattle.session_births.specs.Births.{IsFreeFor, SeesFree, AllSeeFree}
 use Rattle.session_births.specs.Unborn.{SeesUnborn, UnbornAt, is_epoch_of, IsUnbornUnless, SeesUnless, UnbornUnless, HasShard, LeavesUnborn, AllLeaveUnborn, EndsPart, EndsThere, UnbornStays, UnlessStays, AnsweredIsInEpoch, DiesAtRequest, EndsUnbear, NewIsUnborn, UnbornIsFree, UnbornUnlessNone, UnbornUnlessAny}
 use Rattle.session_births.proofs.Dropping.{dropped_inactive}

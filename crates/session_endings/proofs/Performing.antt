@@ -13,7 +13,7 @@ use Rattle.session_ops.specs.declared.operating.OpError.TheVariants.{Aborted, Do
 use Rattle.session_ops.specs.Standing.{IsActive}
 use Rattle.session_ops.specs.Operated.{Operated, PlacedBy, StandsBy, answered_in}
 use Rattle.session_endings.specs.Decided.{Leaving, IsLeftOver, LeavesIf}
-use Rattle.session_endings.proofs.Laws.{left_ended}
+use Rattle.session_endings.proofs.Deciding.{left_ended}
 use Rattle.session_endings.specs.Parts.{has_died, LeftBy, Performing, StandsUnless}
 
 module _ {M S G : Type 0} (sh : Shards M S G) where

@@ -18,7 +18,7 @@ use Rattle.session_births.specs.Births.{AllSeeFree, AreInformed}
 use Rattle.session_births.specs.Unborn.{AllUnborn, UnbornUnless}
 use Rattle.session_births.proofs.Laws.{informed_later, unborn_is_free, unborn_unless_any}
 use Rattle.session_ops.specs.Standing.{IsOld, IsActive}
-use Rattle.session_ops.proofs.Laws.{runs_count, other_name, spelled_so}
+use Rattle.session_ops.proofs.First.{runs_count, other_name, spelled_so}
 use Rattle.session_ops.specs.Retried.{IsRetriable, Retried}
 use Rattle.law_base.proofs.Names.{birth_self, birth_same as some_birth}
 

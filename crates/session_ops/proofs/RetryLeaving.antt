@@ -8,7 +8,7 @@ use Rattle.cluster_turns.specs.Walkers.{IsWalker}
 use Rattle.session_ops.specs.Standing.{IsActive}
 use Rattle.session_ops.specs.Dropped.{IsLeft, IsEnding}
 use Rattle.session_ops.specs.Unbearing.{UnbornOrWorn}
-use Rattle.session_ops.proofs.Laws.{drops_unbear}
+use Rattle.session_ops.proofs.Unbearing.{drops_unbear}
 use Rattle.session_ops.specs.Retried.{IsRetriable}
 use Rattle.session_ops.specs.Laws.{EndedAreRetriable, ActiveAreRetriable, AbortsAreRetriable}
 

@@ -17,7 +17,7 @@ use Rattle.session_api.specs.declared.retrying.RetryError.{RetryError}
 use Rattle.session_api.specs.declared.retrying.RetryError.TheVariants as retry
 use Rattle.session_api.specs.Sessions.{IsSession, BegunNext, BeginCalled, RetriedNext, RetryCalled}
 use Rattle.session_scripts.specs.Seeing.{seen_as, is_active}
-use Rattle.session_scripts.proofs.Laws.{beginnings_tell, retries_tell}
+use Rattle.session_scripts.proofs.Leaving.{beginnings_tell, retries_tell}
 use Rattle.session_scripts.specs.Standing.{Holds, active_as, standing_of, seen_in}
 use Rattle.session_scripts.specs.Grounds.{Grounds}
 use Rattle.session_scripts.specs.Ends.{BeginEnds, RetryEnds}

@@ -41,7 +41,8 @@ use Rattle.session_api.specs.declared.ending.AbortError.{AbortError}
 use Rattle.session_api.specs.Progresses.{commit_told, abort_told, is_nothing, after_commit, progress_committed, progress_aborted}
 use Rattle.session_api.specs.Sessions.{IsSession, CommitMade, CommitCalled, AbortMade, AbortCalled}
 use Rattle.session_scripts.specs.Seeing.{seen_as, touched_in, is_active, by_phase, after_commit as commit_leaves, after_abort as abort_leaves, commit_end, abort_end}
-use Rattle.session_scripts.proofs.Laws.{commits_tell, aborts_tell}
+use Rattle.session_scripts.proofs.Committing.{commits_tell}
+use Rattle.session_scripts.proofs.Leaving.{aborts_tell}
 use Rattle.session_scripts.specs.Standing.{Holds, active_as, standing_of, seen_in}
 use Rattle.session_scripts.specs.Grounds.{Grounds}
 use Rattle.session_scripts.proofs.Standings.{read_active, of_this, idle_active, asked_active, stays_grown, worn_still}

@@ -32,7 +32,8 @@ use Rattle.session_api.specs.Progresses.{active_tx, answer_told, after_op}
 use Rattle.session_api.specs.Sessions.{IsSession, PointMade, PointCalled, ScanMade, RangeCalled, RangeBeside, ScanCalled}
 use Rattle.session_scripts.specs.Seeing.{seen_as, touched_in, is_active, unless_dead, value_end, pairs_end}
 use Rattle.session_scripts.specs.ToldLaws.{IsAt}
-use Rattle.session_scripts.proofs.Laws.{points_tell, scans_tell}
+use Rattle.session_scripts.proofs.Pointing.{points_tell}
+use Rattle.session_scripts.proofs.Scanning.{scans_tell}
 use Rattle.session_scripts.specs.Standing.{Holds, active_as, standing_of, seen_in}
 use Rattle.session_scripts.specs.Grounds.{Grounds}
 use Rattle.session_scripts.proofs.Standings.{IsOf, read_active, of_this, idle_active, asked_active, stays_grown, worn_still}

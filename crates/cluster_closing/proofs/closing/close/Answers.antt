@@ -11,7 +11,8 @@ use Rattle.cluster_ends.specs.Ending.{ClosedAt}
 use Rattle.cluster_ends.specs.Legal.{state_at, views_of}
 use Rattle.cluster_closing.specs.Held.{never_restarts}
 use Rattle.cluster_closing.specs.Ends.{shard_at, IsNotAmong}
-use Rattle.cluster_closing.proofs.Laws.{disks_are_found, unfetched_never_restart}
+use Rattle.cluster_closing.proofs.Homing.{disks_are_found}
+use Rattle.cluster_closing.proofs.Restarting.{unfetched_never_restart}
 use Rattle.cluster_closing.specs.Closing.{IsBack, IsLowestDown, lists, Returned}
 use Rattle.cluster_closing.proofs.ComingBack.{no_gate_away, of_shards, lists_are, is_back, gate_is_away}
 use Rattle.cluster_closing.proofs.closing.close.Goals as goal

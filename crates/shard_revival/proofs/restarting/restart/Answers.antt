@@ -4,7 +4,8 @@ use Rattle.cluster_turns.specs.Walkers.{founds_of}
 use Rattle.cluster_ends.specs.declared.fetching.Fetched.{Fetched}
 use Rattle.cluster_ends.specs.Held.{IsDiskOf}
 use Rattle.cluster_ends.specs.Restarts.{Recovers}
-use Rattle.shard_revival.proofs.Laws.{at_end, left_begun}
+use Rattle.shard_revival.proofs.Leaving.{at_end}
+use Rattle.shard_revival.proofs.Refusing.{left_begun}
 use Rattle.shard_revival.specs.Revived.{IsReadyFor}
 use Rattle.shard_revival.specs.Restarted.{no_turn, one_turn}
 use Rattle.shard_revival.proofs.Holding.{walked_ok, walked_err}

@@ -4,7 +4,7 @@ use Rattle.std.specs.List.Sorted.{IsStrictlySortedBy}
 use Rattle.std.specs.Map.{keys_of}
 use Rattle.clv_base.specs.Orders.{tx_cmp}
 use Rattle.tx_index.specs.Parts.{PartRows, is_here, parts_here}
-use Rattle.tx_index.proofs.Laws.{in_order, index_rises}
+use Rattle.tx_index.proofs.Members.{in_order, index_rises}
 use Rattle.tx_index.proofs.table.PartTable.here.Goals as goal
 
 pub returns-clause-rising : goal.returns-clause-rising
