@@ -10,7 +10,7 @@ use Rattle.clv_base.specs.declared.modes.Holder.{Holder}
 use Rattle.clv_base.specs.Orders.{anchor_same}
 use Rattle.lock_index.specs.contracts.key.KeyPartialEq.TheImpl.{eq-value}
 use Rattle.lock_index.specs.Keys.{key_of, anchor_of}
-use Rattle.lock_index.specs.Groups.{Groups, NoneAt, Apart}
+use Rattle.lock_index.specs.Groups.{Groups, NoneAt, Apart, group_at}
 use Rattle.lock_index.specs.Rows.{Entries, groups, spare_on}
 use Rattle.lock_index.specs.Writes.{with_each, there}
 use Rattle.lock_index.proofs.Firsts.{same_key, found_same}
@@ -107,3 +107,12 @@ same_each a (g ∷ gs) = go (anchor_same a g.0) ∙ ap (λ l. g ∷ l) (same_eac
     go : (b : Bool) → ◌≡◌ {A = Groups} ((g.0, cond b g.1 g.1) ∷ with_each (there a (λ hs. hs)) gs) (g ∷ with_each (there a (λ hs. hs)) gs)
     go true = refl
     go false = refl
+
+-- the holders on an anchor where they change
+pub group_each : (a : Anchor) (f : List Holder → List Holder) (gs : Groups) → f [] ≡ [] → group_at a (with_each (there a f) gs) ≡ f (group_at a gs)
+group_each a f [] e = sym e
+group_each a f (g ∷ gs) e = go (anchor_same a g.0) (group_each a f gs e)
+  where
+    go : (b : Bool) → group_at a (with_each (there a f) gs) ≡ f (group_at a gs) → cond b (cond b (f g.1) g.1) (group_at a (with_each (there a f) gs)) ≡ f (cond b g.1 (group_at a gs))
+    go true more = refl
+    go false more = more

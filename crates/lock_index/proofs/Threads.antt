@@ -137,3 +137,13 @@ none_out u N is k b = go k.anchors k.path k.all
 pub twice : (u : TxId) (a : Anchor) (N L M : Nexts) (w z : Option (Option Anchor)) → ((t : TxId) (p : Option Anchor) → L t p ≡ cond (tx_same u t && same_place (Some a) p) z (N t p)) → ((t : TxId) (p : Option Anchor) → M t p ≡ cond (tx_same u t && same_place None p) w (L t p))
     → (t : TxId) (p : Option Anchor) → M t p ≡ cond (tx_same u t && same_place None p) w (cond (tx_same u t && same_place (Some a) p) z (N t p))
 twice u a N L M w z l m t p = m t p ∙ ap (λ o. cond (tx_same u t && same_place None p) w o) (l t p)
+
+-- the same, where what follows the beginning changes first
+pub turned : (u : TxId) (a : Anchor) (N L M : Nexts) (w z : Option (Option Anchor)) → ((t : TxId) (p : Option Anchor) → L t p ≡ cond (tx_same u t && same_place None p) w (N t p)) → ((t : TxId) (p : Option Anchor) → M t p ≡ cond (tx_same u t && same_place (Some a) p) z (L t p))
+    → (t : TxId) (p : Option Anchor) → M t p ≡ cond (tx_same u t && same_place None p) w (cond (tx_same u t && same_place (Some a) p) z (N t p))
+turned u a N L M w z l m t p = m t p ∙ ap (λ o. cond (tx_same u t && same_place (Some a) p) z o) (l t p) ∙ go (tx_same u t) p
+  where
+    go : (x : Bool) (p : Option Anchor) → cond (x && same_place (Some a) p) z (cond (x && same_place None p) w (N t p)) ≡ cond (x && same_place None p) w (cond (x && same_place (Some a) p) z (N t p))
+    go true None = refl
+    go true (Some b) = refl
+    go false p = refl

@@ -1,5 +1,5 @@
 //! The holders of all anchors.
-ghost use Rattle.std.specs.Prelude.{◌≡◌, ◌≤◌, ◌<◌, ◌+◌, [], map, length, IfOk};
+ghost use Rattle.std.specs.Prelude.{◌≡◌, ◌≤◌, ◌<◌, ◌+◌, true, [], map, length, IfOk};
 ghost use Rattle.clv_base.specs.declared.modes.Anchor.{Anchor as AnAnchor};
 ghost use Rattle.std.specs.List.{filter};
 ghost use Rattle.clv_base.specs.Modes.{is_held};
@@ -60,21 +60,22 @@ pub(crate) fn leave_on(groups: &mut IndexMap<Key, Vec<Holder>>, anchor: Anchor, 
     ensures rows { rows_of (groups_of groups.new.entries) ≡ without_lock tx anchor (rows_of (groups_of groups.old.entries)) }
     ensures apart { Apart (groups_of groups.new.entries) }
 {
-    take_out(groups, anchor, tx);
-    if on(groups, anchor).is_empty() {
+    if take_out(groups, anchor, tx) {
         forget(groups, anchor);
     }
 }
 
-/// The transaction's holder on an anchor goes.
-fn take_out(groups: &mut IndexMap<Key, Vec<Holder>>, anchor: Anchor, tx: TxId)
+/// The transaction's holder on an anchor goes. True only where nobody is left there.
+fn take_out(groups: &mut IndexMap<Key, Vec<Holder>>, anchor: Anchor, tx: TxId) -> bool
     requires { Apart (groups_of groups.old.entries) }
-    ensures { groups_of groups.new.entries ≡ with_each (there anchor (without tx)) (groups_of groups.old.entries) }
+    ensures groups { groups_of groups.new.entries ≡ with_each (there anchor (without tx)) (groups_of groups.old.entries) }
+    ensures nobody { result ≡ true → group_at anchor (groups_of groups.new.entries) ≡ [] }
 {
     let Some(holders) = groups.get_mut(&make_key(anchor)) else {
-        return;
+        return false;
     };
     group::leave(holders, tx);
+    holders.is_empty()
 }
 
 /// An anchor goes that nobody holds a lock on.

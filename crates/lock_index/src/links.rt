@@ -105,27 +105,34 @@ pub(crate) fn first(links: &IndexMap<Link, Option<Anchor>>, tx: TxId) -> Option<
     next(links, tx, None).flatten()
 }
 
-/// Another anchor follows a place.
+/// Another anchor follows a place; gives what followed it before.
 fn set(
     links: &mut IndexMap<Link, Option<Anchor>>,
     tx: TxId,
     at: Option<Anchor>,
     then: Option<Anchor>,
-)
+) -> Option<Option<Anchor>>
     requires { next_of tx at links.old.entries ≡ None → 0 < spare links.old }
+    ensures was { result ≡ next_of tx at links.old.entries }
     ensures links { Changes tx at (Some then) links.old.entries links.new.entries }
     ensures room { spare links.old ≤ spare links.new + 1 }
 {
-    let Ok(_) = links.insert(make_link(tx, at), then) else {
+    let Ok(was) = links.insert(make_link(tx, at), then) else {
         unreachable!()
     };
+    was
 }
 
-/// A place leaves the thread.
-fn cut(links: &mut IndexMap<Link, Option<Anchor>>, tx: TxId, at: Option<Anchor>)
-    ensures { Changes tx at None links.old.entries links.new.entries }
+/// A place leaves the thread; gives what followed it.
+fn cut(
+    links: &mut IndexMap<Link, Option<Anchor>>,
+    tx: TxId,
+    at: Option<Anchor>,
+) -> Option<Option<Anchor>>
+    ensures was { result ≡ next_of tx at links.old.entries }
+    ensures links { Changes tx at None links.old.entries links.new.entries }
 {
-    links.swap_remove(&make_link(tx, at));
+    links.swap_remove(&make_link(tx, at))
 }
 
 /// Puts an anchor first into the transaction's thread, unless it is in it.
@@ -139,9 +146,8 @@ pub(crate) fn note(links: &mut IndexMap<Link, Option<Anchor>>, tx: TxId, anchor:
     if next(links, tx, Some(anchor)).is_some() {
         return;
     }
-    let then = first(links, tx);
+    let then = set(links, tx, None, Some(anchor)).flatten();
     set(links, tx, Some(anchor), then);
-    set(links, tx, None, Some(anchor));
 }
 
 /// Takes the first anchor out of the transaction's thread. Takes no memory.
@@ -153,8 +159,7 @@ pub(crate) fn take_first(links: &mut IndexMap<Link, Option<Anchor>>, tx: TxId) -
     let Some(anchor) = first(links, tx) else {
         return None;
     };
-    let then = next(links, tx, Some(anchor)).flatten();
-    cut(links, tx, Some(anchor));
+    let then = cut(links, tx, Some(anchor)).flatten();
     if then.is_some() {
         set(links, tx, None, then);
     } else {

@@ -13,3 +13,6 @@ unreachable-requires c = let ls = c.args.links.now.entries in
 pub returns-clause-links : goal.returns-clause-links
 returns-clause-links c = let ls = c.args.links.now.entries in let ms = c.insert.new.self.entries in
     next_changed c.args.tx c.args.at ls ms (Some c.args.then) (subst (λ k. (q : Link) → lookup (eq-value.it q) ms ≡ cond (eq-value.it k q) (Some c.args.then) (lookup (eq-value.it q) ls)) c.make_link.ensures c.in-Ok.ensures.updates.0)
+
+pub returns-clause-was : goal.returns-clause-was
+returns-clause-was c = let ls = c.args.links.now.entries in c.in-Ok.ensures.old ∙ (ap (λ k. lookup (eq-value.it k) ls) c.make_link.ensures ∙ found_next c.args.tx c.args.at ls)
