@@ -82,7 +82,7 @@ agreed_from a (suc count) i least bytes ss long e =
 
 -- ---- the fields before them
 
-record Fields (a b c d : Bool) (rest : Result (List ℕ) ℕ) (splits : List ℕ) : Type 0 where
+pub record Fields (a b c d : Bool) (rest : Result (List ℕ) ℕ) (splits : List ℕ) : Type 0 where
   pub count : d ≡ true
   pub is : rest ≡ Ok splits
   pub other : (e : Bool) (more : Result (List ℕ) ℕ) → e ≡ true → behind_field a 0 (behind_field b 8 (behind_field c 12 (behind_field e 16 more))) ≡ more
