@@ -30,7 +30,7 @@ use Rattle.law_base.proofs.Tables.{stage_in, is_pair}
 use Rattle.law_base.proofs.Commits.{CommitBefore, commit_durable, before_keeps, before_new, durable_keeps, durable_parts, durable_from, durable_committed, before_second, committed_append, uncommitted_append, place_some, place_less, place_keeps, place_new, durable_further as further}
 use Rattle.shard_laws.proofs.Prepared.{IsListed, Lists, Prepared, by_prepare, prepare_here, unprepared_append, lists_more, sealed_append, prepared_more}
 use Rattle.shard_laws.proofs.AtKeys.{key_writes}
-use Rattle.shard_laws.proofs.Kept.{View, Past, Dep, Kept, Ended, Wrote, of_kept, is_alive}
+use Rattle.shard_laws.proofs.Kept.{View, Past, Dep, Kept, KeptFront, Ended, Wrote, of_kept, is_alive}
 use Rattle.protocol_laws.specs.Order.{moves, Open_at, Tidy, is_clr_of, undone_in}
 use Rattle.std.proofs.Common.{append-nil}
 use Rattle.std.proofs.lemmas.Option.{none-some, same_Some}
@@ -75,35 +75,29 @@ pub record More (v : View) (more : List LogRecord) : Type 0 where
 
 pub keeps_records : (g : Past) (v : View) (more : List LogRecord) → Kept g v → More v more → Prepared g.items g.met v.parts (v.log ++ more) → Kept g (record v { log = v.log ++ more })
 keeps_records g v more k m prep = record {
-  start_rises = k.start_rises;
-  base_value = k.base_value;
-  base_chain = k.base_chain;
-  base_done = all_mono _ _ (λ w h. durable_keeps v.log more v.durable v.durable w.tx (omega arith) h) g.base k.base_done;
-  runs = k.runs;
-  standing_is = λ q. ap (λ ws. key_writes q (filter (of_kept (is_alive g.lost)) ws)) m.same_standing ∙ k.standing_is q;
-  rises = k.rises;
-  values = λ q. k.values q ∙ ap (top_value q) (sym m.same_standing);
-  logged = all_mono _ _ (λ x h q w. wrote_keeps v.log more x.tx (h q w)) g.items k.logged;
-  rows = k.rows;
-  covered = k.covered;
-  wrote = subst (AllByRecursion (Wrote (record v { log = v.log ++ more }))) (sym m.same_standing) (all_mono _ _ (λ x h out. h (undurable v.log more v.durable v.durable x.tx (omega arith) out)) (standing v.log) k.wrote);
-  known = k.known;
-  alive = k.alive;
-  left = all_mono _ _ (λ x l. ⊎_elim (λ a. inl a) (λ a. inr (⊎_elim (λ o. inl o) (λ d. inr (durable_keeps v.log more v.durable v.durable x.tx (omega arith) d)) a)) l) g.items k.left;
-  uncommitted = λ t h. uncommitted_append v.log more t (k.uncommitted t h) (m.not_active t h);
-  closed = k.closed;
-  over = λ t h. ended_more g v more t (m.not_gone t) (m.no_write t) (k.over t h);
-  dead = λ t u. let old : undone_in v.log t ≡ true = ⊎_elim (λ h. h) (λ h. absurd (both_ways _ (m.no_undo t) h)) (or_cases (undone_in v.log t) (undone_in more t) (sym (undone_append v.log more t) ∙ u)) in
-      let d = k.dead t old in (uncommitted_append v.log more t d.0 (m.not_dead t old), d.1, d.2);
-  tidy = tidy_append [] v.log more k.tidy m.tidies;
-  prepared = prep;
-  doomed = λ t d h. uncommitted_append v.log more t (k.doomed t d h) (m.not_doomed t d h);
-  successors = k.successors;
-  downwards = λ t p h c. ⊎_elim (λ i. before_keeps v.log more p t (k.downwards t p h i)) (λ i. m.down t p h i) (or_cases (committed_in v.log t) (committed_in more t) (sym (committed_append v.log more t) ∙ c));
-  order = k.order;
-  causes = later_mono _ _ (λ x y h r. ⊎_elim (λ s. inl s) (λ d. inr (dep_more v more y.tx x.tx d)) (h r)) g.items k.causes;
-  recover = λ t p e. ⊎_elim (λ o. inl o) (λ d. inr (dep_more v more t p d.0, d.1)) (k.recover t p e);
-  front = k.front;
+  start = k.start;
+  past = k.past;
+  log = record { standing_is = λ q. ap (λ ws. key_writes q (filter (of_kept (is_alive g.lost)) ws)) m.same_standing ∙ k.standing_is q; logged = all_mono _ _ (λ x h q w. wrote_keeps v.log more x.tx (h q w)) g.items k.logged; tidy = tidy_append [] v.log more k.tidy m.tidies };
+  records = record { rises = k.rises; values = λ q. k.values q ∙ ap (top_value q) (sym m.same_standing) };
+  locks = record { rows = k.rows; covered = k.covered; wrote = subst (AllByRecursion (Wrote (record v { log = v.log ++ more }))) (sym m.same_standing) (all_mono _ _ (λ x h out. h (undurable v.log more v.durable v.durable x.tx (omega arith) out)) (standing v.log) k.wrote) };
+  parts = k.parts;
+  fates = record {
+    uncommitted = λ t h. uncommitted_append v.log more t (k.uncommitted t h) (m.not_active t h);
+    dead = λ t u. let old : undone_in v.log t ≡ true = ⊎_elim (λ h. h) (λ h. absurd (both_ways _ (m.no_undo t) h)) (or_cases (undone_in v.log t) (undone_in more t) (sym (undone_append v.log more t) ∙ u)) in
+        let d = k.dead t old in (uncommitted_append v.log more t d.0 (m.not_dead t old), d.1, d.2);
+    doomed = λ t d h. uncommitted_append v.log more t (k.doomed t d h) (m.not_doomed t d h);
+    prepared = prep;
+  };
+  ends = record {
+    left = all_mono _ _ (λ x l. ⊎_elim (λ a. inl a) (λ a. inr (⊎_elim (λ o. inl o) (λ d. inr (durable_keeps v.log more v.durable v.durable x.tx (omega arith) d)) a)) l) g.items k.left;
+    over = λ t h. ended_more g v more t (m.not_gone t) (m.no_write t) (k.over t h);
+    recover = λ t p e. ⊎_elim (λ o. inl o) (λ d. inr (dep_more v more t p d.0, d.1)) (k.recover t p e);
+  };
+  pairs = record {
+    downwards = λ t p h c. ⊎_elim (λ i. before_keeps v.log more p t (k.downwards t p h i)) (λ i. m.down t p h i) (or_cases (committed_in v.log t) (committed_in more t) (sym (committed_append v.log more t) ∙ c));
+    causes = later_mono _ _ (λ x y h r. ⊎_elim (λ s. inl s) (λ d. inr (dep_more v more y.tx x.tx d)) (h r)) g.items k.causes;
+  };
+  durable = record { base_done = all_mono _ _ (λ w h. durable_keeps v.log more v.durable v.durable w.tx (omega arith) h) g.base k.base_done; front = k.front };
 }
 
 -- a record that is no UPDATE, CLR, COMMIT or PREPARE
@@ -213,67 +207,26 @@ dep_front v n t p le d = ⊎_elim (λ h. inl (further v.log v.durable n p le h))
 
 pub keeps_front : (g : Past) (v : View) (n : ℕ) → Kept g v → v.durable ≤ n → Kept g (record v { durable = n; flight = None })
 keeps_front g v n k le = record {
-  start_rises = k.start_rises;
-  base_value = k.base_value;
-  base_chain = k.base_chain;
-  base_done = all_mono _ _ (λ w h. further v.log v.durable n w.tx le h) g.base k.base_done;
-  runs = k.runs;
-  standing_is = k.standing_is;
-  rises = k.rises;
-  values = k.values;
-  logged = k.logged;
-  rows = k.rows;
-  covered = k.covered;
-  wrote = all_mono _ _ (λ x h out. h (false_from_ne_true _ (λ t. both_ways _ out (further v.log v.durable n x.tx le t)))) (standing v.log) k.wrote;
-  known = k.known;
-  alive = k.alive;
-  left = all_mono _ _ (λ x l. ⊎_elim (λ a. inl a) (λ a. inr (⊎_elim (λ o. inl o) (λ d. inr (further v.log v.durable n x.tx le d)) a)) l) g.items k.left;
-  uncommitted = k.uncommitted;
-  closed = k.closed;
-  over = λ t h. ⊎_elim (λ c. inl (further v.log v.durable n t le c)) (λ c. inr c) (k.over t h);
-  dead = k.dead;
-  tidy = k.tidy;
-  prepared = k.prepared;
-  doomed = k.doomed;
-  successors = k.successors;
-  downwards = k.downwards;
-  order = k.order;
-  causes = later_mono _ _ (λ x y h r. ⊎_elim (λ s. inl s) (λ d. inr (dep_front v n y.tx x.tx le d)) (h r)) g.items k.causes;
-  recover = λ t p e. ⊎_elim (λ o. inl o) (λ d. inr (dep_front v n t p le d.0, d.1)) (k.recover t p e);
-  front = λ m e. absurd (none-some m e);
+  start = k.start;
+  past = k.past;
+  log = k.log;
+  records = k.records;
+  locks = record { rows = k.rows; covered = k.covered; wrote = all_mono _ _ (λ x h out. h (false_from_ne_true _ (λ t. both_ways _ out (further v.log v.durable n x.tx le t)))) (standing v.log) k.wrote };
+  parts = k.parts;
+  fates = k.fates;
+  ends = record {
+    left = all_mono _ _ (λ x l. ⊎_elim (λ a. inl a) (λ a. inr (⊎_elim (λ o. inl o) (λ d. inr (further v.log v.durable n x.tx le d)) a)) l) g.items k.left;
+    over = λ t h. ⊎_elim (λ c. inl (further v.log v.durable n t le c)) (λ c. inr c) (k.over t h);
+    recover = λ t p e. ⊎_elim (λ o. inl o) (λ d. inr (dep_front v n t p le d.0, d.1)) (k.recover t p e);
+  };
+  pairs = record { downwards = k.downwards; causes = later_mono _ _ (λ x y h r. ⊎_elim (λ s. inl s) (λ d. inr (dep_front v n y.tx x.tx le d)) (h r)) g.items k.causes };
+  durable = record { base_done = all_mono _ _ (λ w h. further v.log v.durable n w.tx le h) g.base k.base_done; front = λ m e. absurd (none-some m e) };
 }
 
 pub keeps_flight : (g : Past) (v : View) (n : ℕ) → Kept g v → v.durable ≤ n → Kept g (record v { flight = Some n })
-keeps_flight g v n k le = record {
-  start_rises = k.start_rises;
-  base_value = k.base_value;
-  base_chain = k.base_chain;
-  base_done = k.base_done;
-  runs = k.runs;
-  standing_is = k.standing_is;
-  rises = k.rises;
-  values = k.values;
-  logged = k.logged;
-  rows = k.rows;
-  covered = k.covered;
-  wrote = k.wrote;
-  known = k.known;
-  alive = k.alive;
-  left = k.left;
-  uncommitted = k.uncommitted;
-  closed = k.closed;
-  over = k.over;
-  dead = k.dead;
-  tidy = k.tidy;
-  prepared = k.prepared;
-  doomed = k.doomed;
-  successors = k.successors;
-  downwards = k.downwards;
-  order = k.order;
-  causes = k.causes;
-  recover = k.recover;
-  front = λ m e. subst (λ x. v.durable ≤ x) (same_Some n m e) le;
-}
+keeps_flight g v n k le =
+    let front : KeptFront g.base v.log v.durable (Some n) = record { base_done = k.base_done; front = λ m e. subst (λ x. v.durable ≤ x) (same_Some n m e) le } in
+    record { start = k.start; past = k.past; log = k.log; records = k.records; locks = k.locks; parts = k.parts; fates = k.fates; ends = k.ends; pairs = k.pairs; durable = front }
 
 -- ---- a purge
 
@@ -313,32 +266,18 @@ purge_holds locks rs p tx k h = purge_case locks rs p tx k (record_at k rs) refl
 
 pub keeps_purge : (g : Past) (v : View) → Kept g v → Kept g (record v { records = without_ghosts v.locks v.records })
 keeps_purge g v k = record {
-  start_rises = k.start_rises;
-  base_value = k.base_value;
-  base_chain = k.base_chain;
-  base_done = k.base_done;
-  runs = k.runs;
-  standing_is = k.standing_is;
-  rises = rising_filter (is_locked_or_live v.locks) v.records k.rises;
-  values = λ q. value_purged v.locks q v.records k.rises ∙ k.values q;
-  logged = k.logged;
-  rows = k.rows;
-  covered = all_mono _ _ (λ y h active. let c = h active in (λ q m. purge_holds v.locks v.records S y.tx q (c.0 q m), λ q m. purge_holds v.locks v.records X y.tx q (c.1 q m))) g.items k.covered;
-  wrote = all_mono _ _ (λ w h out. let c = h out in (c.0, λ none. c.1 (sym (record_kept (is_locked_or_live v.locks) w.key v.records (λ b. at_key v.locks true X (At w.key) w.tx c.0 (w.key, b) refl)) ∙ none))) (standing v.log) k.wrote;
-  known = k.known;
-  alive = k.alive;
-  left = k.left;
-  uncommitted = k.uncommitted;
-  closed = k.closed;
-  over = k.over;
-  dead = k.dead;
-  tidy = k.tidy;
-  prepared = k.prepared;
-  doomed = k.doomed;
-  successors = k.successors;
-  downwards = k.downwards;
-  order = k.order;
-  causes = k.causes;
-  recover = k.recover;
-  front = k.front;
+  start = k.start;
+  past = k.past;
+  log = k.log;
+  records = record { rises = rising_filter (is_locked_or_live v.locks) v.records k.rises; values = λ q. value_purged v.locks q v.records k.rises ∙ k.values q };
+  locks = record {
+    rows = k.rows;
+    covered = all_mono _ _ (λ y h active. let c = h active in (λ q m. purge_holds v.locks v.records S y.tx q (c.0 q m), λ q m. purge_holds v.locks v.records X y.tx q (c.1 q m))) g.items k.covered;
+    wrote = all_mono _ _ (λ w h out. let c = h out in (c.0, λ none. c.1 (sym (record_kept (is_locked_or_live v.locks) w.key v.records (λ b. at_key v.locks true X (At w.key) w.tx c.0 (w.key, b) refl)) ∙ none))) (standing v.log) k.wrote;
+  };
+  parts = k.parts;
+  fates = k.fates;
+  ends = k.ends;
+  pairs = k.pairs;
+  durable = k.durable;
 }

@@ -106,73 +106,54 @@ present_closed parts t u e = subst (λ o. is_present (stage_by o) ≡ true) (sym
 -- a transaction more has asked, here or elsewhere
 pub keeps_asked : (g : Past) (v : View) (t : TxId) → Kept g v → Kept (record g { asked = g.asked ++ t ∷ [] }) v
 keeps_asked g v t k = record {
-  start_rises = k.start_rises;
-  base_value = k.base_value;
-  base_chain = k.base_chain;
-  base_done = k.base_done;
-  runs = k.runs;
-  standing_is = k.standing_is;
-  rises = k.rises;
-  values = k.values;
-  logged = k.logged;
-  rows = k.rows;
-  covered = k.covered;
-  wrote = k.wrote;
-  known = all_mono _ _ (λ x h. ⊎_elim (λ a. inl a) (λ r. inr (in_push g.asked t x.tx ∙ or_left _ _ r.0, r.1)) h) g.items k.known;
-  alive = k.alive;
-  left = k.left;
-  uncommitted = k.uncommitted;
-  closed = λ u h. in_push g.asked t u ∙ or_left _ _ (k.closed u h);
-  over = λ u h. ⊎_elim (λ c. inl c) (λ c. inr (c.0, c.1, c.2, in_push g.asked t u ∙ or_left _ _ c.3)) (k.over u h);
-  dead = k.dead;
-  tidy = k.tidy;
-  prepared = k.prepared;
-  doomed = k.doomed;
-  successors = k.successors;
-  downwards = k.downwards;
-  order = later_mono _ _ (λ x y h c. ⊎_elim (λ s. inl s) (λ l. inr (place_push g.asked t x.tx y.tx l)) (h c)) g.items k.order;
-  causes = k.causes;
-  recover = λ u p e. ⊎_elim (λ o. inl o) (λ d. inr (d.0, place_push g.asked t p u d.1)) (k.recover u p e);
-  front = k.front;
+  start = k.start;
+  past = record { runs = k.runs; alive = k.alive; order = later_mono _ _ (λ x y h c. ⊎_elim (λ s. inl s) (λ l. inr (place_push g.asked t x.tx y.tx l)) (h c)) g.items k.order };
+  log = k.log;
+  records = k.records;
+  locks = k.locks;
+  parts = record { known = all_mono _ _ (λ x h. ⊎_elim (λ a. inl a) (λ r. inr (in_push g.asked t x.tx ∙ or_left _ _ r.0, r.1)) h) g.items k.known; closed = λ u h. in_push g.asked t u ∙ or_left _ _ (k.closed u h); successors = k.successors };
+  fates = k.fates;
+  ends = record { left = k.left; over = λ u h. ⊎_elim (λ c. inl c) (λ c. inr (c.0, c.1, c.2, in_push g.asked t u ∙ or_left _ _ c.3)) (k.over u h); recover = λ u p e. ⊎_elim (λ o. inl o) (λ d. inr (d.0, place_push g.asked t p u d.1)) (k.recover u p e) };
+  pairs = k.pairs;
+  durable = k.durable;
 }
 
 -- the part of one that asked is closed
 pub keeps_close : (g : Past) (v : View) (t : TxId) → Kept g v → stage_in v.parts t ≡ Some Active → tx_in t g.asked ≡ true
     → Kept g (record v { locks = close_locks t v.locks; parts = closed_in t v.parts })
 keeps_close g v t k act asks = record {
-  start_rises = k.start_rises;
-  base_value = k.base_value;
-  base_chain = k.base_chain;
-  base_done = k.base_done;
-  runs = k.runs;
-  standing_is = k.standing_is;
-  rises = k.rises;
-  values = k.values;
-  logged = k.logged;
-  rows = rows_close (Belongs v.parts) (Belongs (closed_in t v.parts)) t v.locks
-      (λ u b c h same. (closed_part h.0, get_closed_own t u v.parts h.0 same h.1, h.2, tt))
-      (λ u b c h other. (h.0, get_closed_other t u v.parts other ∙ h.1, h.2, h.3))
-      k.rows;
-  covered = all_mono _ _ (λ y h active.
-      let c = h (stage_back v.parts t y.tx Active act closed_not_active active).1 in
-      (λ q m. holds_closed S y.tx q (c.0 q m), λ q m. holds_closed X y.tx q (c.1 q m))) g.items k.covered;
-  wrote = all_mono _ _ (λ w h out. let c = h out in (close_holds t true X (At w.key) w.tx v.locks ∙ c.0, c.1)) (standing v.log) k.wrote;
-  known = all_mono _ _ (λ x h. still_known x.tx h) g.items k.known;
-  alive = k.alive;
-  left = all_mono _ _ (λ x l. ⊎_elim (λ a. inl (present_closed v.parts t x.tx a)) (λ a. inr a) l) g.items k.left;
-  uncommitted = λ u h. k.uncommitted u (stage_back v.parts t u Active act closed_not_active h).1;
-  closed = λ u h. ⊎_elim (λ e. subst (λ z. tx_in z g.asked ≡ true) (tx_true t u e) asks) (λ e. k.closed u (sym (stage_other v.parts t u e) ∙ h)) (cases_Bool (tx_same t u));
-  over = λ u h. ⊎_elim (λ c. inl c) (λ c. inr (c.0, c.1, not_present u c.2, c.3)) (k.over u h);
-  dead = λ u h. let d = k.dead u h in (d.0, (λ a. d.1 (stage_back v.parts t u Active act closed_not_active a).1), (λ a. still_dead u d.1 d.2 a));
-  tidy = k.tidy;
-  prepared = prepared_parts g.items g.met v.parts (closed_in t v.parts) v.log k.prepared (λ u a. (stage_back v.parts t u Active act closed_not_active a).1);
-  doomed = λ u d h. k.doomed u d (stage_back v.parts t u (Gone (Some d)) act (closed_not_doomed d) h).1;
-  successors = λ u p h. present_closed v.parts t u (k.successors u p h);
-  downwards = k.downwards;
-  order = k.order;
-  causes = k.causes;
-  recover = λ u p e. ⊎_elim (λ o. inl (o.0, λ a. o.1 (stage_back v.parts t u Active act closed_not_active a).1)) (λ d. inr d) (k.recover u p e);
-  front = k.front;
+  start = k.start;
+  past = k.past;
+  log = k.log;
+  records = k.records;
+  locks = record {
+    rows = rows_close (Belongs v.parts) (Belongs (closed_in t v.parts)) t v.locks
+        (λ u b c h same. (closed_part h.0, get_closed_own t u v.parts h.0 same h.1, h.2, tt))
+        (λ u b c h other. (h.0, get_closed_other t u v.parts other ∙ h.1, h.2, h.3))
+        k.rows;
+    covered = all_mono _ _ (λ y h active.
+        let c = h (stage_back v.parts t y.tx Active act closed_not_active active).1 in
+        (λ q m. holds_closed S y.tx q (c.0 q m), λ q m. holds_closed X y.tx q (c.1 q m))) g.items k.covered;
+    wrote = all_mono _ _ (λ w h out. let c = h out in (close_holds t true X (At w.key) w.tx v.locks ∙ c.0, c.1)) (standing v.log) k.wrote;
+  };
+  parts = record {
+    known = all_mono _ _ (λ x h. still_known x.tx h) g.items k.known;
+    closed = λ u h. ⊎_elim (λ e. subst (λ z. tx_in z g.asked ≡ true) (tx_true t u e) asks) (λ e. k.closed u (sym (stage_other v.parts t u e) ∙ h)) (cases_Bool (tx_same t u));
+    successors = λ u p h. present_closed v.parts t u (k.successors u p h);
+  };
+  fates = record {
+    uncommitted = λ u h. k.uncommitted u (stage_back v.parts t u Active act closed_not_active h).1;
+    dead = λ u h. let d = k.dead u h in (d.0, (λ a. d.1 (stage_back v.parts t u Active act closed_not_active a).1), (λ a. still_dead u d.1 d.2 a));
+    doomed = λ u d h. k.doomed u d (stage_back v.parts t u (Gone (Some d)) act (closed_not_doomed d) h).1;
+    prepared = prepared_parts g.items g.met v.parts (closed_in t v.parts) v.log k.prepared (λ u a. (stage_back v.parts t u Active act closed_not_active a).1);
+  };
+  ends = record {
+    left = all_mono _ _ (λ x l. ⊎_elim (λ a. inl (present_closed v.parts t x.tx a)) (λ a. inr a) l) g.items k.left;
+    over = λ u h. ⊎_elim (λ c. inl c) (λ c. inr (c.0, c.1, not_present u c.2, c.3)) (k.over u h);
+    recover = λ u p e. ⊎_elim (λ o. inl (o.0, λ a. o.1 (stage_back v.parts t u Active act closed_not_active a).1)) (λ d. inr d) (k.recover u p e);
+  };
+  pairs = k.pairs;
+  durable = k.durable;
 }
   where
     holds_closed : (p : Part) (u : TxId) (q : ℕ) → holds_at p v.locks v.records u q ≡ true → holds_at p (close_locks t v.locks) v.records u q ≡ true

@@ -338,7 +338,7 @@ module _ (g : Past) (v : View) (tx : TxId) (birth : Birth) (op : Op) (k : Kept g
   active_item u known a = ⊎_elim (λ h. h) (λ r. sym (stage_same u (asked_other u r.0)) ∙ a) known
 
   -- another's item, active, does not meet the inserted key
-  insert_own : (y : Item) → (stage_in v.parts y.tx ≡ Some Active) → Covers v y → (q : ℕ) → meets y q ≡ true → ins ≡ Some q → y.tx ≡ tx
+  insert_own : (y : Item) → (stage_in v.parts y.tx ≡ Some Active) → Covers v.records v.locks y → (q : ℕ) → meets y q ≡ true → ins ≡ Some q → y.tx ≡ tx
   insert_own y active c q met e =
       ⊎_elim (λ s. s)
       (λ ne. absurd (apart_at y.tx S X q (record_at q v.records) (c.0 q met) (write_asked q (insert_writes v.records change ins q (writing op v.records) e)) refl (λ s. ne (sym s)) active))
@@ -407,7 +407,7 @@ module _ (g : Past) (v : View) (tx : TxId) (birth : Birth) (op : Op) (k : Kept g
   tidy_by (Some w) = tidy_append [] v.log (Update tx w.0 w.1 w.2 ∷ []) k.tidy (open_, tt)
 
   -- ---- the new item against an earlier one
-  order_new : (y : Item) → Known g v y.tx → (stage_in v.parts y.tx ≡ Some Active → Covers v y) → Clash y item → (y.tx ≡ tx) ⊎ (place g.asked y.tx < place g.asked tx)
+  order_new : (y : Item) → Known g v y.tx → (stage_in v.parts y.tx ≡ Some Active → Covers v.records v.locks y) → Clash y item → (y.tx ≡ tx) ⊎ (place g.asked y.tx < place g.asked tx)
   order_new y known covers clash =
       ⊎_elim (λ s. inl s)
       (λ ne. ⊎_elim
@@ -541,7 +541,7 @@ module _ (g : Past) (v : View) (tx : TxId) (birth : Birth) (op : Op) (k : Kept g
   rows_now = rows_insert (Belongs parts_after) tx birth v.records ins (take_all tx birth needs v.locks) own_belongs (rows_all (Belongs parts_after) tx birth needs v.locks own_belongs
       (all_mono _ _ (λ r h. (h.0, part_keeps tx birth v.parts (r.1).tx h.0 (tx_get tx v.parts) refl h.1, h.2, h.3)) v.locks k.rows))
 
-  covered_now : AllByRecursion (λ y. stage_in parts_after y.tx ≡ Some Active → Covers (View_by change) y) g.items
+  covered_now : AllByRecursion (λ y. stage_in parts_after y.tx ≡ Some Active → Covers (View_by change).records (View_by change).locks y) g.items
   covered_now = all_mono _ _ (λ y h active. let a = active_item y.tx h.1 active in let c = h.0 a in
       (λ q m. old_holds S y q refl (insert_own y a c q m) (c.0 q m), λ q m. old_holds X y q refl (insert_own y a c q (write_met y q m)) (c.1 q m))) g.items (all_both _ _ g.items k.covered k.known)
 
@@ -575,36 +575,26 @@ module _ (g : Past) (v : View) (tx : TxId) (birth : Birth) (op : Op) (k : Kept g
 
   keeps_view : tx_in tx g.lost ≡ false → ((p : TxId) → tx_in p (violated tx needs v.locks) ≡ true → tx_in p g.lost ≡ false) → Kept (record g { items = g.items ++ item ∷ []; met = map (λ p. (tx, p)) (violated tx needs v.locks) ++ g.met }) (View_by change)
   keeps_view own others = record {
-    start_rises = k.start_rises;
-    base_value = k.base_value;
-    base_chain = k.base_chain;
-    base_done = all_mono _ _ (λ w c. durable_by change w.tx c) g.base k.base_done;
-    runs = runs_push g.items item g.start k.runs (answer_now own others);
-    standing_is = λ q. ap (key_writes q) (ap (filter (of_kept (is_alive g.lost))) (standing_by change) ∙ top_kept change own)
-        ∙ keys_on_top tx (0 + length v.log) change (filter (of_kept (is_alive g.lost)) (standing v.log)) (pile g.items g.base) k.standing_is q
-        ∙ ap (key_writes q) (ap (λ w. on_top tx (0 + length v.log) w (pile g.items g.base)) (sym wrote_here) ∙ sym (pile_push g.items item g.base));
-    rises = rising_by v.records change k.rises;
-    values = values_now;
-    logged = all_push _ g.items item (all_mono _ _ (λ x h q w. wrote_by change x.tx (h q w)) g.items k.logged) (λ q w. own_wrote change q (writes_here q w));
-    rows = rows_now;
-    covered = all_push _ g.items item covered_now (λ active. (λ q m. new_holds S q refl (met_asked q m), λ q m. new_holds X q refl (write_asked q (writes_here q m))));
-    wrote = wrote_now;
-    known = all_push _ g.items item (all_mono _ _ (λ x h. still_known x.tx h) g.items k.known) (inl stage_own);
-    alive = all_push _ g.items item k.alive own;
-    left = all_push _ g.items item (all_mono _ _ (λ x l. still_left x.tx l) g.items k.left) (inl (ap is_present stage_own));
-    uncommitted = λ u a. none_by change u (⊎_elim (λ s. ap (committed_in v.log) s ∙ open_) (λ b. k.uncommitted u b) (active_back u a));
-    closed = λ u e. k.closed u (sym (stage_same u (λ s. closed_apart (sym stage_own ∙ ap (stage_in parts_after) (sym s) ∙ e))) ∙ e);
-    over = over_now;
-    dead = dead_now;
-    tidy = tidy_by change;
-    prepared = prepared_by change;
-    doomed = doomed_now;
-    successors = successors_now;
-    downwards = downwards_now;
-    order = later_push _ g.items item k.order (all_mono _ _ (λ y h. order_new y h.0 h.1) g.items (all_both _ _ g.items k.known k.covered));
-    causes = later_push _ g.items item causes_now (all_mono _ _ (λ y h. cause_new y h) g.items (item_wrote g v k));
-    recover = recovers g.lost (λ t l. l);
-    front = k.front;
+    start = k.start;
+    past = record { runs = runs_push g.items item g.start k.runs (answer_now own others); alive = all_push _ g.items item k.alive own; order = later_push _ g.items item k.order (all_mono _ _ (λ y h. order_new y h.0 h.1) g.items (all_both _ _ g.items k.known k.covered)) };
+    log = record {
+      standing_is = λ q. ap (key_writes q) (ap (filter (of_kept (is_alive g.lost))) (standing_by change) ∙ top_kept change own)
+          ∙ keys_on_top tx (0 + length v.log) change (filter (of_kept (is_alive g.lost)) (standing v.log)) (pile g.items g.base) k.standing_is q
+          ∙ ap (key_writes q) (ap (λ w. on_top tx (0 + length v.log) w (pile g.items g.base)) (sym wrote_here) ∙ sym (pile_push g.items item g.base));
+      logged = all_push _ g.items item (all_mono _ _ (λ x h q w. wrote_by change x.tx (h q w)) g.items k.logged) (λ q w. own_wrote change q (writes_here q w));
+      tidy = tidy_by change;
+    };
+    records = record { rises = rising_by v.records change k.rises; values = values_now };
+    locks = record { rows = rows_now; covered = all_push _ g.items item covered_now (λ active. (λ q m. new_holds S q refl (met_asked q m), λ q m. new_holds X q refl (write_asked q (writes_here q m)))); wrote = wrote_now };
+    parts = record {
+      known = all_push _ g.items item (all_mono _ _ (λ x h. still_known x.tx h) g.items k.known) (inl stage_own);
+      closed = λ u e. k.closed u (sym (stage_same u (λ s. closed_apart (sym stage_own ∙ ap (stage_in parts_after) (sym s) ∙ e))) ∙ e);
+      successors = successors_now;
+    };
+    fates = record { uncommitted = λ u a. none_by change u (⊎_elim (λ s. ap (committed_in v.log) s ∙ open_) (λ b. k.uncommitted u b) (active_back u a)); dead = dead_now; doomed = doomed_now; prepared = prepared_by change };
+    ends = record { left = all_push _ g.items item (all_mono _ _ (λ x l. still_left x.tx l) g.items k.left) (inl (ap is_present stage_own)); over = over_now; recover = recovers g.lost (λ t l. l) };
+    pairs = record { downwards = downwards_now; causes = later_push _ g.items item causes_now (all_mono _ _ (λ y h. cause_new y h) g.items (item_wrote g v k)) };
+    durable = record { base_done = all_mono _ _ (λ w c. durable_by change w.tx c) g.base k.base_done; front = k.front };
   }
 
   -- ---- it is lost: it violated one that is, or is lost already; what it did leaves the past
@@ -629,36 +619,30 @@ module _ (g : Past) (v : View) (tx : TxId) (birth : Birth) (op : Op) (k : Kept g
 
   keeps_lost : Kept (record g { items = filter (keeps_of (tx ∷ [])) g.items; lost = tx ∷ g.lost; met = map (λ p. (tx, p)) (violated tx needs v.locks) ++ g.met }) (View_by change)
   keeps_lost = record {
-    start_rises = k.start_rises;
-    base_value = k.base_value;
-    base_chain = k.base_chain;
-    base_done = all_mono _ _ (λ w c. durable_by change w.tx c) g.base k.base_done;
-    runs = kept_runs (keeps_of (tx ∷ [])) g.items g.start g.start k.start_rises k.start_rises k.runs (later_mono _ _ keeps_own g.items k.causes) (λ q. inl refl);
-    standing_is = λ q. ap (key_writes q) (ap (filter (of_kept (is_alive (tx ∷ g.lost)))) (standing_by change) ∙ top_lost change ∙ filter_less (tx ∷ []) g.lost (standing v.log))
-        ∙ keys_filter (stays_of (tx ∷ [])) (filter (of_kept (is_alive g.lost)) (standing v.log)) (pile g.items g.base) k.standing_is q
-        ∙ ap (key_writes q) (pile_filter (tx ∷ []) g.items g.base ∙ ap (pile (filter (keeps_of (tx ∷ [])) g.items)) (filter_all (tx ∷ []) g.base base_other));
-    rises = rising_by v.records change k.rises;
-    values = values_now;
-    logged = all_mono _ _ (λ x h q w. wrote_by change x.tx (h.0 q w)) (filter (keeps_of (tx ∷ [])) g.items) (all_filter _ (keeps_of (tx ∷ [])) g.items k.logged);
-    rows = rows_now;
-    covered = all_mono _ _ (λ y h. h.0) (filter (keeps_of (tx ∷ [])) g.items) (all_filter _ (keeps_of (tx ∷ [])) g.items covered_now);
-    wrote = wrote_now;
-    known = all_mono _ _ (λ x h. still_known x.tx h.0) (filter (keeps_of (tx ∷ [])) g.items) (all_filter _ (keeps_of (tx ∷ [])) g.items k.known);
-    alive = all_mono _ _ (λ x h. none_two (tx ∷ []) g.lost x.tx (not-true _ h.1) h.0) (filter (keeps_of (tx ∷ [])) g.items) (all_filter _ (keeps_of (tx ∷ [])) g.items k.alive);
-    left = all_mono _ _ (λ x h. still_left x.tx h.0) (filter (keeps_of (tx ∷ [])) g.items) (all_filter _ (keeps_of (tx ∷ [])) g.items k.left);
-    uncommitted = λ u a. none_by change u (⊎_elim (λ s. ap (committed_in v.log) s ∙ open_) (λ b. k.uncommitted u b) (active_back u a));
-    closed = λ u e. k.closed u (sym (stage_same u (λ s. closed_apart (sym stage_own ∙ ap (stage_in parts_after) (sym s) ∙ e))) ∙ e);
-    over = over_now;
-    dead = dead_now;
-    tidy = tidy_by change;
-    prepared = prepared_lost change;
-    doomed = doomed_now;
-    successors = successors_now;
-    downwards = downwards_now;
-    order = later_mono _ _ (λ x y h c. h.0 c) (filter (keeps_of (tx ∷ [])) g.items) (later_filter _ (keeps_of (tx ∷ [])) g.items k.order);
-    causes = later_mono _ _ (λ x y h. h.0) (filter (keeps_of (tx ∷ [])) g.items) (later_filter _ (keeps_of (tx ∷ [])) g.items causes_now);
-    recover = recovers (tx ∷ g.lost) (λ t l. or_right (tx_same tx t) _ l);
-    front = k.front;
+    start = k.start;
+    past = record {
+      runs = kept_runs (keeps_of (tx ∷ [])) g.items g.start g.start k.start_rises k.start_rises k.runs (later_mono _ _ keeps_own g.items k.causes) (λ q. inl refl);
+      alive = all_mono _ _ (λ x h. none_two (tx ∷ []) g.lost x.tx (not-true _ h.1) h.0) (filter (keeps_of (tx ∷ [])) g.items) (all_filter _ (keeps_of (tx ∷ [])) g.items k.alive);
+      order = later_mono _ _ (λ x y h c. h.0 c) (filter (keeps_of (tx ∷ [])) g.items) (later_filter _ (keeps_of (tx ∷ [])) g.items k.order);
+    };
+    log = record {
+      standing_is = λ q. ap (key_writes q) (ap (filter (of_kept (is_alive (tx ∷ g.lost)))) (standing_by change) ∙ top_lost change ∙ filter_less (tx ∷ []) g.lost (standing v.log))
+          ∙ keys_filter (stays_of (tx ∷ [])) (filter (of_kept (is_alive g.lost)) (standing v.log)) (pile g.items g.base) k.standing_is q
+          ∙ ap (key_writes q) (pile_filter (tx ∷ []) g.items g.base ∙ ap (pile (filter (keeps_of (tx ∷ [])) g.items)) (filter_all (tx ∷ []) g.base base_other));
+      logged = all_mono _ _ (λ x h q w. wrote_by change x.tx (h.0 q w)) (filter (keeps_of (tx ∷ [])) g.items) (all_filter _ (keeps_of (tx ∷ [])) g.items k.logged);
+      tidy = tidy_by change;
+    };
+    records = record { rises = rising_by v.records change k.rises; values = values_now };
+    locks = record { rows = rows_now; covered = all_mono _ _ (λ y h. h.0) (filter (keeps_of (tx ∷ [])) g.items) (all_filter _ (keeps_of (tx ∷ [])) g.items covered_now); wrote = wrote_now };
+    parts = record {
+      known = all_mono _ _ (λ x h. still_known x.tx h.0) (filter (keeps_of (tx ∷ [])) g.items) (all_filter _ (keeps_of (tx ∷ [])) g.items k.known);
+      closed = λ u e. k.closed u (sym (stage_same u (λ s. closed_apart (sym stage_own ∙ ap (stage_in parts_after) (sym s) ∙ e))) ∙ e);
+      successors = successors_now;
+    };
+    fates = record { uncommitted = λ u a. none_by change u (⊎_elim (λ s. ap (committed_in v.log) s ∙ open_) (λ b. k.uncommitted u b) (active_back u a)); dead = dead_now; doomed = doomed_now; prepared = prepared_lost change };
+    ends = record { left = all_mono _ _ (λ x h. still_left x.tx h.0) (filter (keeps_of (tx ∷ [])) g.items) (all_filter _ (keeps_of (tx ∷ [])) g.items k.left); over = over_now; recover = recovers (tx ∷ g.lost) (λ t l. or_right (tx_same tx t) _ l) };
+    pairs = record { downwards = downwards_now; causes = later_mono _ _ (λ x y h. h.0) (filter (keeps_of (tx ∷ [])) g.items) (later_filter _ (keeps_of (tx ∷ [])) g.items causes_now) };
+    durable = record { base_done = all_mono _ _ (λ w c. durable_by change w.tx c) g.base k.base_done; front = k.front };
   }
 
 -- the state after a granted operation

@@ -115,36 +115,7 @@ refell all g t h =
     let k = h.kept in
     let f = h.falls in
     record {
-      kept = record {
-        start_rises = k.start_rises;
-        base_value = k.base_value;
-        base_chain = k.base_chain;
-        base_done = k.base_done;
-        runs = k.runs;
-        standing_is = k.standing_is;
-        rises = k.rises;
-        values = k.values;
-        logged = k.logged;
-        rows = k.rows;
-        covered = k.covered;
-        wrote = k.wrote;
-        known = k.known;
-        alive = k.alive;
-        left = k.left;
-        uncommitted = k.uncommitted;
-        closed = k.closed;
-        over = k.over;
-        dead = k.dead;
-        tidy = k.tidy;
-        prepared = k.prepared;
-        doomed = k.doomed;
-        successors = k.successors;
-        downwards = k.downwards;
-        order = k.order;
-        causes = k.causes;
-        recover = k.recover;
-        front = k.front;
-      };
+      kept = record { start = k.start; past = k.past; log = k.log; records = k.records; locks = k.locks; parts = k.parts; fates = k.fates; ends = k.ends; pairs = k.pairs; durable = k.durable };
       told = h.told;
       within = h.within;
       undecided = h.undecided;

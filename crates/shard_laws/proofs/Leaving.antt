@@ -72,37 +72,36 @@ left_with set d v = record v { locks = release set v.locks; parts = gone_in set 
 pub keeps_finish : (g : Past) (v : View) (t : TxId) → Kept g v → stage_in v.parts t ≡ Some Closed → Done v t
     → Kept (record g { over = t ∷ g.over }) (record v { locks = release (t ∷ []) v.locks; parts = gone_in (t ∷ []) None v.parts; pairs = pairs_without (t ∷ []) v.pairs })
 keeps_finish g v t k closed done = record {
-  start_rises = k.start_rises;
-  base_value = k.base_value;
-  base_chain = k.base_chain;
-  base_done = k.base_done;
-  runs = k.runs;
-  standing_is = k.standing_is;
-  rises = k.rises;
-  values = k.values;
-  logged = k.logged;
-  rows = rows_go (t ∷ []) None v.parts v.locks k.rows;
-  covered = all_mono _ _ (λ y h active.
-      let a = active_back (t ∷ []) None y.tx v.parts active in
-      let c = h a.1 in
-      (λ q m. holds_go (t ∷ []) v.locks v.records S y.tx q a.0 (c.0 q m), λ q m. holds_go (t ∷ []) v.locks v.records X y.tx q a.0 (c.1 q m))) g.items k.covered;
-  wrote = all_mono _ _ (λ w h out. let c = h.0 out in (release_holds (t ∷ []) true X (At w.key) w.tx v.locks (not_own w.tx (wrote_of v.log w.tx w.key h.1) out) c.0, c.1)) (standing v.log) (all_both _ _ (standing v.log) k.wrote (standing_updates v.log));
-  known = all_mono _ _ (λ x h. still_known x.tx h) g.items k.known;
-  alive = k.alive;
-  left = all_mono _ _ (λ x l. ⊎_elim (λ a. still_left x.tx a) (λ a. inr (⊎_elim (λ o. inl (or_right (tx_same t x.tx) _ o)) (λ d. inr d) a)) l) g.items k.left;
-  uncommitted = λ u h. k.uncommitted u (active_back (t ∷ []) None u v.parts h).1;
-  closed = λ u h. k.closed u (closed_back (t ∷ []) None u v.parts h);
-  over = λ u h. ⊎_elim (λ e. own_ended u (sym (tx_true t u e))) (λ i. still_ended u (k.over u i)) (or_cases (tx_same t u) (tx_in u g.over) h);
-  dead = λ u h. let d = k.dead u h in (d.0, (λ a. d.1 (active_back (t ∷ []) None u v.parts a).1), (λ a. d.2 (closed_back (t ∷ []) None u v.parts a)));
-  tidy = k.tidy;
-  prepared = prepared_parts g.items g.met v.parts (gone_in (t ∷ []) None v.parts) v.log k.prepared (λ u a. (active_back (t ∷ []) None u v.parts a).1);
-  doomed = λ u d h. k.doomed u d (doomed_back (t ∷ []) u d v.parts h);
-  successors = λ u p h. let s = without_pairs (t ∷ []) v.pairs u p h in subst (λ o. is_present o ≡ true) (sym (stage_other (t ∷ []) None u v.parts s.1)) (k.successors u p s.0);
-  downwards = λ u p h c. k.downwards u p (without_pairs (t ∷ []) v.pairs u p h).0 c;
-  order = k.order;
-  causes = later_mono _ _ (λ x y h r. ⊎_elim (λ s. inl s) (λ d. inr (still_dep y.tx x.tx d)) (h r)) g.items k.causes;
-  recover = λ u p e. ⊎_elim (λ o. inl (o.0, λ a. o.1 (active_back (t ∷ []) None u v.parts a).1)) (λ d. inr (still_dep u p d.0, d.1)) (k.recover u p e);
-  front = k.front;
+  start = k.start;
+  past = k.past;
+  log = k.log;
+  records = k.records;
+  locks = record {
+    rows = rows_go (t ∷ []) None v.parts v.locks k.rows;
+    covered = all_mono _ _ (λ y h active.
+        let a = active_back (t ∷ []) None y.tx v.parts active in
+        let c = h a.1 in
+        (λ q m. holds_go (t ∷ []) v.locks v.records S y.tx q a.0 (c.0 q m), λ q m. holds_go (t ∷ []) v.locks v.records X y.tx q a.0 (c.1 q m))) g.items k.covered;
+    wrote = all_mono _ _ (λ w h out. let c = h.0 out in (release_holds (t ∷ []) true X (At w.key) w.tx v.locks (not_own w.tx (wrote_of v.log w.tx w.key h.1) out) c.0, c.1)) (standing v.log) (all_both _ _ (standing v.log) k.wrote (standing_updates v.log));
+  };
+  parts = record {
+    known = all_mono _ _ (λ x h. still_known x.tx h) g.items k.known;
+    closed = λ u h. k.closed u (closed_back (t ∷ []) None u v.parts h);
+    successors = λ u p h. let s = without_pairs (t ∷ []) v.pairs u p h in subst (λ o. is_present o ≡ true) (sym (stage_other (t ∷ []) None u v.parts s.1)) (k.successors u p s.0);
+  };
+  fates = record {
+    uncommitted = λ u h. k.uncommitted u (active_back (t ∷ []) None u v.parts h).1;
+    dead = λ u h. let d = k.dead u h in (d.0, (λ a. d.1 (active_back (t ∷ []) None u v.parts a).1), (λ a. d.2 (closed_back (t ∷ []) None u v.parts a)));
+    doomed = λ u d h. k.doomed u d (doomed_back (t ∷ []) u d v.parts h);
+    prepared = prepared_parts g.items g.met v.parts (gone_in (t ∷ []) None v.parts) v.log k.prepared (λ u a. (active_back (t ∷ []) None u v.parts a).1);
+  };
+  ends = record {
+    left = all_mono _ _ (λ x l. ⊎_elim (λ a. still_left x.tx a) (λ a. inr (⊎_elim (λ o. inl (or_right (tx_same t x.tx) _ o)) (λ d. inr d) a)) l) g.items k.left;
+    over = λ u h. ⊎_elim (λ e. own_ended u (sym (tx_true t u e))) (λ i. still_ended u (k.over u i)) (or_cases (tx_same t u) (tx_in u g.over) h);
+    recover = λ u p e. ⊎_elim (λ o. inl (o.0, λ a. o.1 (active_back (t ∷ []) None u v.parts a).1)) (λ d. inr (still_dep u p d.0, d.1)) (k.recover u p e);
+  };
+  pairs = record { downwards = λ u p h c. k.downwards u p (without_pairs (t ∷ []) v.pairs u p h).0 c; causes = later_mono _ _ (λ x y h r. ⊎_elim (λ s. inl s) (λ d. inr (still_dep y.tx x.tx d)) (h r)) g.items k.causes };
+  durable = k.durable;
 }
   where
     not_own : (u : TxId) → wrote_in v.log u ≡ true → commit_durable v.log v.durable u ≡ false → tx_in u (t ∷ []) ≡ false
@@ -426,64 +425,74 @@ module _ (g : Past) (v : View) (set : List TxId) (d : TxId) (k : Kept g v) (may 
   taken_kept : Kept (record g { items = filter (keeps_of set) g.items; lost = set ++ g.lost }) (Taken (v.log ++ (aborts_of v.log set ++ clrs_of set (standing v.log))))
   unfolding Taken
   taken_kept = record {
-    start_rises = k.start_rises;
-    base_value = k.base_value;
-    base_chain = k.base_chain;
-    base_done = all_mono _ _ (λ w c. still_durable w.tx c) g.base k.base_done;
-    runs = kept_runs (keeps_of set) g.items g.start g.start k.start_rises k.start_rises k.runs keeps_all (λ q. inl refl);
-    standing_is = λ q. ap (key_writes q) (ap (filter (of_kept (is_alive (set ++ g.lost)))) standing_more ∙ filter_sets set g.lost (standing v.log))
-        ∙ keys_filter (stays_of set) (filter (of_kept (is_alive g.lost)) (standing v.log)) (pile g.items g.base) k.standing_is q
-        ∙ ap (key_writes q) (pile_filter set g.items g.base ∙ ap (pile (filter (keeps_of set) g.items)) (filter_all set g.base base_out));
-    rises = rising_undone set (standing v.log) v.records k.rises;
-    values = λ q. values_undone set (standing v.log) v.records q chain_here upward_here have_here (k.values q) ∙ ap (top_value q) (sym standing_more);
-    logged = all_mono _ _ (λ x h q w. wrote_keeps v.log _ x.tx (h.0 q w)) (filter (keeps_of set) g.items) (all_filter _ (keeps_of set) g.items k.logged);
-    rows = rows_go set (Some d) v.parts v.locks k.rows;
-    covered = all_mono _ _ (λ y h active.
-        let a = active_back set (Some d) y.tx v.parts active in
-        let c = h.0 a.1 in (
-          λ q m. holds_undone set (standing v.log) (release set v.locks) v.records S y.tx q (holds_go set v.locks v.records S y.tx q a.0 (c.0 q m)),
-          λ q m. holds_undone set (standing v.log) (release set v.locks) v.records X y.tx q (holds_go set v.locks v.records X y.tx q a.0 (c.1 q m)),
-        ))
-        (filter (keeps_of set) g.items) (all_filter _ (keeps_of set) g.items k.covered);
-    wrote = subst (AllByRecursion (Wrote (Taken (v.log ++ (aborts_of v.log set ++ clrs_of set (standing v.log)))))) (sym standing_more)
-        (all_mono _ _ (λ w h out.
-        let c = h.0 (false_from_ne_true _ (λ t. both_ways _ out (still_durable w.tx t))) in
-        (release_holds set true X (At w.key) w.tx v.locks (not-true _ h.1) c.0, λ none. c.1 (reset_none (value_before set w.key (standing v.log)) (record_at w.key v.records) (sym (record_undone set (standing v.log) v.records w.key) ∙ none))))
-        (filter (stays_of set) (standing v.log)) (all_filter _ (stays_of set) (standing v.log) k.wrote));
-    known = all_mono _ _ (λ x h.
-        let out : tx_in x.tx set ≡ false = not-true _ h.1 in
-        ⊎_elim (λ a. inl (stage_other set (Some d) x.tx v.parts out ∙ a))
-        (λ r. inr (r.0, λ a. r.1 (active_back set (Some d) x.tx v.parts a).1)) h.0)
-        (filter (keeps_of set) g.items) (all_filter _ (keeps_of set) g.items k.known);
-    alive = all_mono _ _ (λ x h. none_two set g.lost x.tx (not-true _ h.1) h.0) (filter (keeps_of set) g.items) (all_filter _ (keeps_of set) g.items k.alive);
-    left = all_mono _ _ (λ x h. ⊎_elim (λ a. inl (ap is_present (stage_other set (Some d) x.tx v.parts (not-true _ h.1)) ∙ a)) (λ a. inr (⊎_elim (λ o. inl o) (λ c. inr (still_durable x.tx c)) a)) h.0) (filter (keeps_of set) g.items) (all_filter _ (keeps_of set) g.items k.left);
-    uncommitted = λ u h. uncommitted_append v.log _ u (k.uncommitted u (active_back set (Some d) u v.parts h).1) (no_more u);
-    closed = λ u h. k.closed u (closed_back set (Some d) u v.parts h);
-    over = λ u h. ⊎_elim (λ c. inl c) (λ c. inr (c.0, c.1, absent u c.2, c.3)) (ended_more g v (aborts_of v.log set ++ clrs_of set (standing v.log)) u (λ a. no_more u) (no_writes set u v.log) (k.over u h));
-    dead = λ u h.
-        ⊎_elim
-        (λ old. let e = k.dead u old in (uncommitted_append v.log _ u e.0 (no_more u), (λ a. e.1 (active_back set (Some d) u v.parts a).1), (λ a. e.2 (closed_back set (Some d) u v.parts a))))
-        (λ new. let i = undone_here set u v.log new in
-        (uncommitted_append v.log _ u (may.undecided u i) (no_more u), (λ a. both_ways _ (active_back set (Some d) u v.parts a).0 i), (λ a. gone_closed (Some d) (stage_in v.parts u) (sym (stage_own set (Some d) u v.parts i) ∙ a))))
-        (or_cases (undone_in v.log u) _ (sym (undone_append v.log (aborts_of v.log set ++ clrs_of set (standing v.log)) u) ∙ h));
-    doomed = λ u e h. uncommitted_append v.log _ u (⊎_elim (λ i. may.undecided u i) (λ i. k.doomed u e (sym (stage_other set (Some d) u v.parts i) ∙ h)) (cases_Bool (tx_in u set))) (no_more u);
-    prepared = prepared_more (filter (keeps_of set) g.items) g.met (gone_in set (Some d) v.parts) v.log (aborts_of v.log set ++ clrs_of set (standing v.log))
-        (prepared_kept (keeps_of set) g.items g.met (gone_in set (Some d) v.parts) v.log (prepared_parts g.items g.met v.parts (gone_in set (Some d) v.parts) v.log k.prepared (λ u a. (active_back set (Some d) u v.parts a).1)))
-        (λ u. no_writes set u v.log) (λ u. no_prepares set u v.log);
-    tidy = tidy_append [] v.log _ k.tidy (tidy_harmless v.log v.log _ (λ t e. e) (all_append _ (aborts_of v.log set) (clrs_of set (standing v.log)) (harmless_aborts v.log (filter (wrote_in v.log) set)) (harmless_clrs v.log set (standing v.log) may.undecided)));
-    successors = λ u p h. let s = without_pairs set v.pairs u p h in subst (λ o. is_present o ≡ true) (sym (stage_other set (Some d) u v.parts s.1)) (k.successors u p s.0);
-    downwards = λ u p h c. before_keeps v.log _ p u (k.downwards u p (without_pairs set v.pairs u p h).0 (back u c));
-    order = later_mono _ _ (λ x y h c. h.0 c) (filter (keeps_of set) g.items) (later_filter _ (keeps_of set) g.items k.order);
-    causes = later_mono _ _ (λ x y h r.
-        ⊎_elim (λ s. inl s) (λ dep. inr (⊎_elim (λ c. inl (still_durable x.tx c))
-        (λ m. ⊎_elim (λ pair. inr (inl (pairs_stay set v.pairs y.tx x.tx (not-true _ h.2) pair))) (λ b. inr (inr (before_keeps v.log _ x.tx y.tx b))) m) dep)) (h.0 r))
-        (filter (keeps_of set) g.items) (later_filter _ (keeps_of set) g.items k.causes);
-    recover = λ u p e. ⊎_elim (λ o. inl (in_more set g.lost u o.0, λ a. o.1 (active_back set (Some d) u v.parts a).1))
-        (λ dep. ⊎_elim (λ i. inl (in_first set g.lost u i, λ a. both_ways _ (active_back set (Some d) u v.parts a).0 i))
-        (λ i. inr (⊎_elim (λ c. inl (still_durable p c)) (λ m. ⊎_elim (λ pair. inr (inl (pairs_stay set v.pairs u p i pair))) (λ b. inr (inr (before_keeps v.log _ p u b))) m) dep.0, dep.1))
-        (cases_Bool (tx_in u set)))
-        (k.recover u p e);
-    front = k.front;
+    start = k.start;
+    past = record {
+      runs = kept_runs (keeps_of set) g.items g.start g.start k.start_rises k.start_rises k.runs keeps_all (λ q. inl refl);
+      alive = all_mono _ _ (λ x h. none_two set g.lost x.tx (not-true _ h.1) h.0) (filter (keeps_of set) g.items) (all_filter _ (keeps_of set) g.items k.alive);
+      order = later_mono _ _ (λ x y h c. h.0 c) (filter (keeps_of set) g.items) (later_filter _ (keeps_of set) g.items k.order);
+    };
+    log = record {
+      standing_is = λ q. ap (key_writes q) (ap (filter (of_kept (is_alive (set ++ g.lost)))) standing_more ∙ filter_sets set g.lost (standing v.log))
+          ∙ keys_filter (stays_of set) (filter (of_kept (is_alive g.lost)) (standing v.log)) (pile g.items g.base) k.standing_is q
+          ∙ ap (key_writes q) (pile_filter set g.items g.base ∙ ap (pile (filter (keeps_of set) g.items)) (filter_all set g.base base_out));
+      logged = all_mono _ _ (λ x h q w. wrote_keeps v.log _ x.tx (h.0 q w)) (filter (keeps_of set) g.items) (all_filter _ (keeps_of set) g.items k.logged);
+      tidy = tidy_append [] v.log _ k.tidy (tidy_harmless v.log v.log _ (λ t e. e) (all_append _ (aborts_of v.log set) (clrs_of set (standing v.log)) (harmless_aborts v.log (filter (wrote_in v.log) set)) (harmless_clrs v.log set (standing v.log) may.undecided)));
+    };
+    records = record { rises = rising_undone set (standing v.log) v.records k.rises; values = λ q. values_undone set (standing v.log) v.records q chain_here upward_here have_here (k.values q) ∙ ap (top_value q) (sym standing_more) };
+    locks = record {
+      rows = rows_go set (Some d) v.parts v.locks k.rows;
+      covered = all_mono _ _ (λ y h active.
+          let a = active_back set (Some d) y.tx v.parts active in
+          let c = h.0 a.1 in (
+            λ q m. holds_undone set (standing v.log) (release set v.locks) v.records S y.tx q (holds_go set v.locks v.records S y.tx q a.0 (c.0 q m)),
+            λ q m. holds_undone set (standing v.log) (release set v.locks) v.records X y.tx q (holds_go set v.locks v.records X y.tx q a.0 (c.1 q m)),
+          ))
+          (filter (keeps_of set) g.items) (all_filter _ (keeps_of set) g.items k.covered);
+      wrote = subst (AllByRecursion (Wrote (Taken (v.log ++ (aborts_of v.log set ++ clrs_of set (standing v.log)))))) (sym standing_more)
+          (all_mono _ _ (λ w h out.
+          let c = h.0 (false_from_ne_true _ (λ t. both_ways _ out (still_durable w.tx t))) in
+          (release_holds set true X (At w.key) w.tx v.locks (not-true _ h.1) c.0, λ none. c.1 (reset_none (value_before set w.key (standing v.log)) (record_at w.key v.records) (sym (record_undone set (standing v.log) v.records w.key) ∙ none))))
+          (filter (stays_of set) (standing v.log)) (all_filter _ (stays_of set) (standing v.log) k.wrote));
+    };
+    parts = record {
+      known = all_mono _ _ (λ x h.
+          let out : tx_in x.tx set ≡ false = not-true _ h.1 in
+          ⊎_elim (λ a. inl (stage_other set (Some d) x.tx v.parts out ∙ a))
+          (λ r. inr (r.0, λ a. r.1 (active_back set (Some d) x.tx v.parts a).1)) h.0)
+          (filter (keeps_of set) g.items) (all_filter _ (keeps_of set) g.items k.known);
+      closed = λ u h. k.closed u (closed_back set (Some d) u v.parts h);
+      successors = λ u p h. let s = without_pairs set v.pairs u p h in subst (λ o. is_present o ≡ true) (sym (stage_other set (Some d) u v.parts s.1)) (k.successors u p s.0);
+    };
+    fates = record {
+      uncommitted = λ u h. uncommitted_append v.log _ u (k.uncommitted u (active_back set (Some d) u v.parts h).1) (no_more u);
+      dead = λ u h.
+          ⊎_elim
+          (λ old. let e = k.dead u old in (uncommitted_append v.log _ u e.0 (no_more u), (λ a. e.1 (active_back set (Some d) u v.parts a).1), (λ a. e.2 (closed_back set (Some d) u v.parts a))))
+          (λ new. let i = undone_here set u v.log new in
+          (uncommitted_append v.log _ u (may.undecided u i) (no_more u), (λ a. both_ways _ (active_back set (Some d) u v.parts a).0 i), (λ a. gone_closed (Some d) (stage_in v.parts u) (sym (stage_own set (Some d) u v.parts i) ∙ a))))
+          (or_cases (undone_in v.log u) _ (sym (undone_append v.log (aborts_of v.log set ++ clrs_of set (standing v.log)) u) ∙ h));
+      doomed = λ u e h. uncommitted_append v.log _ u (⊎_elim (λ i. may.undecided u i) (λ i. k.doomed u e (sym (stage_other set (Some d) u v.parts i) ∙ h)) (cases_Bool (tx_in u set))) (no_more u);
+      prepared = prepared_more (filter (keeps_of set) g.items) g.met (gone_in set (Some d) v.parts) v.log (aborts_of v.log set ++ clrs_of set (standing v.log))
+          (prepared_kept (keeps_of set) g.items g.met (gone_in set (Some d) v.parts) v.log (prepared_parts g.items g.met v.parts (gone_in set (Some d) v.parts) v.log k.prepared (λ u a. (active_back set (Some d) u v.parts a).1)))
+          (λ u. no_writes set u v.log) (λ u. no_prepares set u v.log);
+    };
+    ends = record {
+      left = all_mono _ _ (λ x h. ⊎_elim (λ a. inl (ap is_present (stage_other set (Some d) x.tx v.parts (not-true _ h.1)) ∙ a)) (λ a. inr (⊎_elim (λ o. inl o) (λ c. inr (still_durable x.tx c)) a)) h.0) (filter (keeps_of set) g.items) (all_filter _ (keeps_of set) g.items k.left);
+      over = λ u h. ⊎_elim (λ c. inl c) (λ c. inr (c.0, c.1, absent u c.2, c.3)) (ended_more g v (aborts_of v.log set ++ clrs_of set (standing v.log)) u (λ a. no_more u) (no_writes set u v.log) (k.over u h));
+      recover = λ u p e. ⊎_elim (λ o. inl (in_more set g.lost u o.0, λ a. o.1 (active_back set (Some d) u v.parts a).1))
+          (λ dep. ⊎_elim (λ i. inl (in_first set g.lost u i, λ a. both_ways _ (active_back set (Some d) u v.parts a).0 i))
+          (λ i. inr (⊎_elim (λ c. inl (still_durable p c)) (λ m. ⊎_elim (λ pair. inr (inl (pairs_stay set v.pairs u p i pair))) (λ b. inr (inr (before_keeps v.log _ p u b))) m) dep.0, dep.1))
+          (cases_Bool (tx_in u set)))
+          (k.recover u p e);
+    };
+    pairs = record {
+      downwards = λ u p h c. before_keeps v.log _ p u (k.downwards u p (without_pairs set v.pairs u p h).0 (back u c));
+      causes = later_mono _ _ (λ x y h r.
+          ⊎_elim (λ s. inl s) (λ dep. inr (⊎_elim (λ c. inl (still_durable x.tx c))
+          (λ m. ⊎_elim (λ pair. inr (inl (pairs_stay set v.pairs y.tx x.tx (not-true _ h.2) pair))) (λ b. inr (inr (before_keeps v.log _ x.tx y.tx b))) m) dep)) (h.0 r))
+          (filter (keeps_of set) g.items) (later_filter _ (keeps_of set) g.items k.causes);
+    };
+    durable = record { base_done = all_mono _ _ (λ w c. still_durable w.tx c) g.base k.base_done; front = k.front };
   }
 
   pub keeps_taken : Kept (record g { items = filter (keeps_of set) g.items; lost = set ++ g.lost }) (record {

@@ -248,39 +248,37 @@ module _ (shard run : ℕ) (before : List LogRecord) (may : MayServe shard run b
   unfolding state_with
   sound_start = record {
     kept = record {
-      start_rises = fold_rises (committed_somewhere (before ∷ [])) before [] tt;
-      base_value = start_value;
-      base_chain = chain_kept (committed_in before) (standing before) order.writes.lie order.writes.chain;
-      base_done = base_done (standing before);
-      runs = runs_start;
-      standing_is = standing_start;
-      rises = rises_remade shard before Now re;
-      values = values_remade shard before Now re;
-      logged = logged_start;
-      rows = rows_restored doubt Now [] tt;
-      covered = all_mono _ _ (λ x i a. absurd (no_active x.tx a)) (found_items shard before) items_doubted;
-      wrote = wrote_remade shard before Now re;
-      known = all_mono _ _ (λ x i. inr (doubt_asked x.tx i, λ a. no_active x.tx a)) (found_items shard before) items_doubted;
-      alive = all_mono _ _ (λ x i. refl) (found_items shard before) items_doubted;
-      left = all_mono _ _ (λ x i. inl (ap is_present (restored_closed doubt x.tx i))) (found_items shard before) items_doubted;
-      uncommitted = λ t e. absurd (no_active t e);
-      closed = λ t e. doubt_asked t (restored_stage doubt t Closed e).1;
-      over = λ t e. absurd (both_ways false refl e);
-      dead = λ t e. let d = re.found.dead t e in (re.found.commits t ∙ or_false_left (committed_in before t) (tx_in t doubt) d, (λ a. no_active t a), (λ a. both_ways _ (or_false_right (committed_in before t) (tx_in t doubt) d) (restored_stage doubt t Closed a).1));
-      tidy = re.found.tidy;
-      prepared = record {
-        unprepared = λ t a. absurd (no_active t a);
-        sealed = re.found.sealed;
-        causes = later_mono _ _ (λ x y u r. ⊎_elim (λ s. inl s) (λ l. inr (λ e. inl (listed_now y.tx x.tx l.2 l.0))) (reached x y u r)) (found_items shard before) under_start;
-        recover = λ t p e q. let m = met_doubt t p e in inl (listed_now t p m.0 m.2);
+      start = record { start_rises = fold_rises (committed_somewhere (before ∷ [])) before [] tt; base_value = start_value; base_chain = chain_kept (committed_in before) (standing before) order.writes.lie order.writes.chain };
+      past = record { runs = runs_start; alive = all_mono _ _ (λ x i. refl) (found_items shard before) items_doubted; order = later_mono _ _ (λ x y u c. ⊎_elim (λ s. inl s) (λ l. inr (listed_place y.tx x.tx l.2 l.1 l.0)) (u c.0 c.1 c.2)) (found_items shard before) under_start };
+      log = record { standing_is = standing_start; logged = logged_start; tidy = re.found.tidy };
+      records = record { rises = rises_remade shard before Now re; values = values_remade shard before Now re };
+      locks = record { rows = rows_restored doubt Now [] tt; covered = all_mono _ _ (λ x i a. absurd (no_active x.tx a)) (found_items shard before) items_doubted; wrote = wrote_remade shard before Now re };
+      parts = record {
+        known = all_mono _ _ (λ x i. inr (doubt_asked x.tx i, λ a. no_active x.tx a)) (found_items shard before) items_doubted;
+        closed = λ t e. doubt_asked t (restored_stage doubt t Closed e).1;
+        successors = λ t p e. ap is_present (restored_closed doubt t (pair_of Now doubt t p e));
       };
-      doomed = λ t d e. absurd (gone_closed (Some d) (restored_stage doubt t (Gone (Some d)) e).0);
-      successors = λ t p e. ap is_present (restored_closed doubt t (pair_of Now doubt t p e));
-      downwards = λ t p e c. absurd (both_ways _ (doubt_open t (pair_of Now doubt t p e)) c);
-      order = later_mono _ _ (λ x y u c. ⊎_elim (λ s. inl s) (λ l. inr (listed_place y.tx x.tx l.2 l.1 l.0)) (u c.0 c.1 c.2)) (found_items shard before) under_start;
-      causes = later_mono _ _ (λ x y u r. ⊎_elim (λ s. inl s) (λ l. inr (inr (inl (listed_pair y.tx x.tx l.2 l.1 l.0)))) (reached x y u r)) (found_items shard before) under_start;
-      recover = λ t p e. let m = met_doubt t p e in inr (inr (inl (listed_pair t p m.0 m.1 m.2)), listed_place t p m.0 m.1 m.2);
-      front = λ n e. absurd (none-some n e);
+      fates = record {
+        uncommitted = λ t e. absurd (no_active t e);
+        dead = λ t e. let d = re.found.dead t e in (re.found.commits t ∙ or_false_left (committed_in before t) (tx_in t doubt) d, (λ a. no_active t a), (λ a. both_ways _ (or_false_right (committed_in before t) (tx_in t doubt) d) (restored_stage doubt t Closed a).1));
+        doomed = λ t d e. absurd (gone_closed (Some d) (restored_stage doubt t (Gone (Some d)) e).0);
+        prepared = record {
+          unprepared = λ t a. absurd (no_active t a);
+          sealed = re.found.sealed;
+          causes = later_mono _ _ (λ x y u r. ⊎_elim (λ s. inl s) (λ l. inr (λ e. inl (listed_now y.tx x.tx l.2 l.0))) (reached x y u r)) (found_items shard before) under_start;
+          recover = λ t p e q. let m = met_doubt t p e in inl (listed_now t p m.0 m.2);
+        };
+      };
+      ends = record {
+        left = all_mono _ _ (λ x i. inl (ap is_present (restored_closed doubt x.tx i))) (found_items shard before) items_doubted;
+        over = λ t e. absurd (both_ways false refl e);
+        recover = λ t p e. let m = met_doubt t p e in inr (inr (inl (listed_pair t p m.0 m.1 m.2)), listed_place t p m.0 m.1 m.2);
+      };
+      pairs = record {
+        downwards = λ t p e c. absurd (both_ways _ (doubt_open t (pair_of Now doubt t p e)) c);
+        causes = later_mono _ _ (λ x y u r. ⊎_elim (λ s. inl s) (λ l. inr (inr (inl (listed_pair y.tx x.tx l.2 l.1 l.0)))) (reached x y u r)) (found_items shard before) under_start;
+      };
+      durable = record { base_done = base_done (standing before); front = λ n e. absurd (none-some n e) };
     };
     told = λ t. inr refl;
     within = part_same (found_items shard before);

@@ -454,44 +454,43 @@ module _ (all : List Item) (g : Past) (s : Shard) (c epoch : ℕ) (log : List Lo
   unfolding state_with
   sound_now = record {
     kept = record {
-      start_rises = h.kept.start_rises;
-      base_value = h.kept.base_value;
-      base_chain = h.kept.base_chain;
-      base_done = all_mono _ _ (λ w e. committed_remade s.shard (take c s.local.log) log re w.tx e) g.base (cut_base all g s g.over c h le once (λ t i. i));
-      runs = runs_now;
-      standing_is = standing_now;
-      rises = rises_remade s.shard (take c s.local.log) log re;
-      values = values_remade s.shard (take c s.local.log) log re;
-      logged = all_mono _ _ (λ x f q w. wrote_of log x.tx q (f q w).1) (filter (λ x. stays x.tx) g.items) wrote_now;
-      rows = rows_restored doubt log [] tt;
-      covered = all_mono _ _ (λ x f a. absurd (no_active x.tx a)) (filter (λ x. stays x.tx) g.items) wrote_now;
-      wrote = wrote_remade s.shard (take c s.local.log) log re;
-      known = all_mono _ _ (λ x f. inr (stays_asked x.tx f.0.0 f.0.1 f.1, λ a. no_active x.tx a)) (filter (λ x. stays x.tx) g.items) known_now;
-      alive = all_mono _ _ (λ x f. none_two (left_out s (revived s epoch log)) g.lost x.tx (stays_in x.tx f.1) f.0.1) (filter (λ x. stays x.tx) g.items) known_now;
-      left = all_mono _ _ (λ x f. left_now x.tx f.1) (filter (λ x. stays x.tx) g.items) known_now;
-      uncommitted = λ t e. absurd (no_active t e);
-      closed = λ t e. doubt_asked t (restored_stage doubt t Closed e).1;
-      over = λ t i. ⊎_elim (λ d. inl (committed_remade s.shard (take c s.local.log) log re t (durable_cut s.durable c s.local.log t le d)))
-          (λ r. inr (found.commits t ∙ cut_false c s.local.log t r.0, found.wrote t ∙ cut_wrote c s.local.log t r.1, absent_now t (not_doubt t r.1), r.3)) (h.kept.over t i);
-      dead = λ t e. let d = found.dead t e in (
-        found.commits t ∙ or_false_left (committed_in (take c s.local.log) t) (tx_in t doubt) d,
-        (λ a. no_active t a),
-        (λ a. both_ways _ (or_false_right (committed_in (take c s.local.log) t) (tx_in t doubt) d) (restored_stage doubt t Closed a).1),
-      );
-      tidy = found.tidy;
-      prepared = record {
-        unprepared = λ t a. absurd (no_active t a);
-        sealed = found.sealed;
-        causes = later_mono _ _ (λ x y f reach. ⊎_elim (λ same. inl same) (λ l. inr (lists_now y.tx x.tx l)) (f.0 reach)) (filter (λ x. stays x.tx) g.items) (later_filter _ (λ x. stays x.tx) g.items h.kept.prepared.causes);
-        recover = λ t p e. lists_now t p (h.kept.prepared.recover t p e);
+      start = h.kept.start;
+      past = record {
+        runs = runs_now;
+        alive = all_mono _ _ (λ x f. none_two (left_out s (revived s epoch log)) g.lost x.tx (stays_in x.tx f.1) f.0.1) (filter (λ x. stays x.tx) g.items) known_now;
+        order = later_mono _ _ (λ x y f clash. f.0 clash) (filter (λ x. stays x.tx) g.items) (later_filter _ (λ x. stays x.tx) g.items h.kept.order);
       };
-      doomed = λ t d e. absurd (gone_closed (Some d) (restored_stage doubt t (Gone (Some d)) e).0);
-      successors = λ t p e. ap is_present (restored_closed doubt t (pair_of log doubt t p e));
-      downwards = λ t p e m. absurd (both_ways _ (doubt_open t (pair_of log doubt t p e)) m);
-      order = later_mono _ _ (λ x y f clash. f.0 clash) (filter (λ x. stays x.tx) g.items) (later_filter _ (λ x. stays x.tx) g.items h.kept.order);
-      causes = causes_now;
-      recover = λ t p e. ⊎_elim (λ o. inl (in_more (left_out s (revived s epoch log)) g.lost t o.0, λ a. no_active t a)) (λ d. recover_now t p d (h.kept.prepared.recover t p e)) (h.kept.recover t p e);
-      front = λ n e. absurd (none-some n e);
+      log = record { standing_is = standing_now; logged = all_mono _ _ (λ x f q w. wrote_of log x.tx q (f q w).1) (filter (λ x. stays x.tx) g.items) wrote_now; tidy = found.tidy };
+      records = record { rises = rises_remade s.shard (take c s.local.log) log re; values = values_remade s.shard (take c s.local.log) log re };
+      locks = record { rows = rows_restored doubt log [] tt; covered = all_mono _ _ (λ x f a. absurd (no_active x.tx a)) (filter (λ x. stays x.tx) g.items) wrote_now; wrote = wrote_remade s.shard (take c s.local.log) log re };
+      parts = record {
+        known = all_mono _ _ (λ x f. inr (stays_asked x.tx f.0.0 f.0.1 f.1, λ a. no_active x.tx a)) (filter (λ x. stays x.tx) g.items) known_now;
+        closed = λ t e. doubt_asked t (restored_stage doubt t Closed e).1;
+        successors = λ t p e. ap is_present (restored_closed doubt t (pair_of log doubt t p e));
+      };
+      fates = record {
+        uncommitted = λ t e. absurd (no_active t e);
+        dead = λ t e. let d = found.dead t e in (
+          found.commits t ∙ or_false_left (committed_in (take c s.local.log) t) (tx_in t doubt) d,
+          (λ a. no_active t a),
+          (λ a. both_ways _ (or_false_right (committed_in (take c s.local.log) t) (tx_in t doubt) d) (restored_stage doubt t Closed a).1),
+        );
+        doomed = λ t d e. absurd (gone_closed (Some d) (restored_stage doubt t (Gone (Some d)) e).0);
+        prepared = record {
+          unprepared = λ t a. absurd (no_active t a);
+          sealed = found.sealed;
+          causes = later_mono _ _ (λ x y f reach. ⊎_elim (λ same. inl same) (λ l. inr (lists_now y.tx x.tx l)) (f.0 reach)) (filter (λ x. stays x.tx) g.items) (later_filter _ (λ x. stays x.tx) g.items h.kept.prepared.causes);
+          recover = λ t p e. lists_now t p (h.kept.prepared.recover t p e);
+        };
+      };
+      ends = record {
+        left = all_mono _ _ (λ x f. left_now x.tx f.1) (filter (λ x. stays x.tx) g.items) known_now;
+        over = λ t i. ⊎_elim (λ d. inl (committed_remade s.shard (take c s.local.log) log re t (durable_cut s.durable c s.local.log t le d)))
+            (λ r. inr (found.commits t ∙ cut_false c s.local.log t r.0, found.wrote t ∙ cut_wrote c s.local.log t r.1, absent_now t (not_doubt t r.1), r.3)) (h.kept.over t i);
+        recover = λ t p e. ⊎_elim (λ o. inl (in_more (left_out s (revived s epoch log)) g.lost t o.0, λ a. no_active t a)) (λ d. recover_now t p d (h.kept.prepared.recover t p e)) (h.kept.recover t p e);
+      };
+      pairs = record { downwards = λ t p e m. absurd (both_ways _ (doubt_open t (pair_of log doubt t p e)) m); causes = causes_now };
+      durable = record { base_done = all_mono _ _ (λ w e. committed_remade s.shard (take c s.local.log) log re w.tx e) g.base (cut_base all g s g.over c h le once (λ t i. i)); front = λ n e. absurd (none-some n e) };
     };
     told = told_now;
     within = part_filter (λ x. stays x.tx) g.items all h.within;
