@@ -29,7 +29,7 @@ use Rattle.law_base.proofs.Changed.{none_some, Set_or_old, get_set}
 use Rattle.protocol_laws.specs.Growth.{IsPrefixOf}
 use Rattle.law_base.proofs.Stages.{gone_by, stage_own}
 use Rattle.shard_laws.proofs.Ordered.{prepare_some}
-use Rattle.history_laws.proofs.Stepping.{Due, commits, votes, rules, KeptByDue, settled}
+use Rattle.history_cases.proofs.Stepping.{Due, commits, votes, rules, KeptByDue, settled}
 use Rattle.fate_laws.proofs.Calm.{due_closed, due_prepares}
 use Rattle.fate_laws.proofs.Inside.{inside_self, inside_due}
 use Rattle.fate_laws.proofs.VotesHeld.{votes_get}

@@ -39,9 +39,9 @@ use Rattle.law_base.proofs.Tables.{stage_in}
 use Rattle.shard_laws.specs.OneShard.{is_doomed}
 use Rattle.law_base.proofs.Stages.{gone_by, stage_own}
 use Rattle.law_base.proofs.Lists.{all_append}
-use Rattle.history_laws.proofs.Telling.{all_map}
-use Rattle.history_laws.proofs.Stepping.{Due, commits, votes, rules, KeptByDue, settled, Step, finishes, stops}
-use Rattle.history_laws.proofs.Entering.{Makes, by_event, by_flush, by_failure, by_restart}
+use Rattle.history_cases.proofs.Telling.{all_map}
+use Rattle.history_cases.proofs.Stepping.{Due, commits, votes, rules, KeptByDue, settled, Step, finishes, stops}
+use Rattle.history_cases.proofs.Entering.{Makes, by_event, by_flush, by_failure, by_restart}
 use Rattle.fate_laws.proofs.Inside.{inside_self, inside_due, inside_step}
 use Rattle.fate_laws.proofs.Binding.{VoteIs, kept, yes, read, no, vote_is}
 use Rattle.fate_laws.proofs.Calm.{due_closed}

@@ -24,15 +24,15 @@ use Rattle.clv_base.specs.Journals.{History, event_state, up_to_restart}
 use Rattle.clv_base.specs.History.{Legal}
 use Rattle.law_base.proofs.Rows.{rows_get}
 use Rattle.protocol_laws.specs.Growth.{IsPrefixOf}
-use Rattle.history_laws.proofs.Durability.{restarts_front}
-use Rattle.history_laws.proofs.Stepping.{Due, commits, votes, rules, KeptByDue, settled, finishes, stops}
-use Rattle.history_laws.proofs.Entering.{Makes, by_event, by_flush, by_failure, by_restart, makes}
-use Rattle.history_laws.proofs.Merging.{Placed, among_right}
+use Rattle.history_cases.proofs.Durability.{restarts_front}
+use Rattle.history_cases.proofs.Stepping.{Due, commits, votes, rules, KeptByDue, settled, finishes, stops}
+use Rattle.history_cases.proofs.Entering.{Makes, by_event, by_flush, by_failure, by_restart, makes}
+use Rattle.history_cases.proofs.Merging.{Placed, among_right}
 use Rattle.shard_laws.proofs.Changes.{wrote_keeps}
-use Rattle.history_laws.proofs.OldRuns.{none_of_this_run}
-use Rattle.history_laws.proofs.TellingEvents.{front_committed}
-use Rattle.history_laws.proofs.Uncommitting.{rolled, with_more, opening_adds, restarts_add}
-use Rattle.history_laws.proofs.Worlds.{state_at}
+use Rattle.history_cases.proofs.OldRuns.{none_of_this_run}
+use Rattle.history_cases.proofs.TellingEvents.{front_committed}
+use Rattle.history_cases.proofs.Uncommitting.{rolled, with_more, opening_adds, restarts_add}
+use Rattle.history_cases.proofs.Worlds.{state_at}
 use Rattle.origin_laws.proofs.Origins.{RowFrom, OwnRequest}
 use Rattle.origin_laws.proofs.Sessions.{Requested}
 use Rattle.origin_laws.proofs.Entries.{IsOld, requested_more, traced_front}

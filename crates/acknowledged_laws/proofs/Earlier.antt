@@ -15,8 +15,8 @@ use Rattle.clv_base.specs.Restarts.{run_after, log_left}
 use Rattle.clv_base.specs.Journals.{History}
 use Rattle.clv_base.specs.History.{Legal}
 use Rattle.shard_laws.specs.OneShard.{is_doomed}
-use Rattle.history_laws.proofs.TellingEvents.{front_committed}
-use Rattle.history_laws.proofs.Worlds.{state_at}
+use Rattle.history_cases.proofs.TellingEvents.{front_committed}
+use Rattle.history_cases.proofs.Worlds.{state_at}
 use Rattle.fate_laws.proofs.Prepares.{prepare_more, front_prepare}
 use Rattle.fate_laws.proofs.Prefixes.{Next, next_at, fronts_next, durable_later}
 use Rattle.fate_laws.proofs.Binding.{Bound, Reads}

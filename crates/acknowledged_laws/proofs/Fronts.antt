@@ -25,10 +25,10 @@ use Rattle.clv_base.specs.Journals.{History, event_state}
 use Rattle.clv_base.specs.History.{Legal, WasSent}
 use Rattle.shard_laws.specs.OneShard.{is_doomed}
 use Rattle.law_base.proofs.Rows.{rows_get}
-use Rattle.history_laws.proofs.Entering.{Makes, makes}
-use Rattle.history_laws.proofs.Merging.{Placed, Among, among_left, among_right, is_among}
-use Rattle.history_laws.proofs.Telling.{IsRequest, all_map}
-use Rattle.history_laws.proofs.Worlds.{state_at}
+use Rattle.history_cases.proofs.Entering.{Makes, makes}
+use Rattle.history_cases.proofs.Merging.{Placed, Among, among_left, among_right, is_among}
+use Rattle.history_cases.proofs.Telling.{IsRequest, all_map}
+use Rattle.history_cases.proofs.Worlds.{state_at}
 use Rattle.fate_laws.proofs.Binding.{ordered_wrote}
 use Rattle.fate_laws.proofs.Bindings.{asked_not_own, bindings_front}
 use Rattle.fate_laws.proofs.Prefixes.{Next, next_at, stays_as_it_was}

@@ -17,13 +17,13 @@ use Rattle.clv_base.specs.Undo.{stage_of}
 use Rattle.clv_base.specs.Events.{finish, with_durable}
 use Rattle.clv_base.specs.Restarts.{restart_records, log_after_restart, log_left, next_epoch, revived, FailedRestarts, untouched, failed_first, Restarts}
 use Rattle.clv_base.specs.Journals.{up_to_restart}
-use Rattle.history_laws.proofs.Stepping.{Happens, finishes, stops, settled}
-use Rattle.history_laws.proofs.Entering.{Makes, by_event, by_flush, by_failure, by_restart}
-use Rattle.history_laws.proofs.Durability.{Counted, restarts_front}
+use Rattle.history_cases.proofs.Stepping.{Happens, finishes, stops, settled}
+use Rattle.history_cases.proofs.Entering.{Makes, by_event, by_flush, by_failure, by_restart}
+use Rattle.history_cases.proofs.Durability.{Counted, restarts_front}
 use Rattle.law_base.proofs.Doubts.{doubts_more}
 use Rattle.law_base.proofs.Lists.{all_taken}
 use Rattle.history_laws.proofs.Serials.{committed_front}
-use Rattle.history_laws.proofs.Uncommitting.{restarts_add as restarts_commits}
+use Rattle.history_cases.proofs.Uncommitting.{restarts_add as restarts_commits}
 use Rattle.shard_laws.proofs.Rebuilding.{Plain, plain_restart}
 use Rattle.shard_laws.proofs.Restoring.{restored_closed, restored_none}
 use Rattle.shard_laws.proofs.Ordered.{prepare_some}

@@ -14,9 +14,9 @@ use Rattle.clv_base.specs.Restarts.{run_after, restart_records, log_after_restar
 use Rattle.clv_base.specs.Journals.{History, event_state}
 use Rattle.clv_base.specs.History.{Legal}
 use Rattle.law_base.proofs.Commits.{committed_keeps}
-use Rattle.history_laws.proofs.Entering.{Makes, makes}
-use Rattle.history_laws.proofs.Merging.{Placed}
-use Rattle.history_laws.proofs.Worlds.{state_at}
+use Rattle.history_cases.proofs.Entering.{Makes, makes}
+use Rattle.history_cases.proofs.Merging.{Placed}
+use Rattle.history_cases.proofs.Worlds.{state_at}
 use Rattle.shard_laws.proofs.Restoring.{restored_closed}
 use Rattle.fate_laws.proofs.Prepares.{opening_adds as opening_prepares}
 use Rattle.fate_laws.proofs.Opening.{opening_settled, opening_home, opening_unaborted}

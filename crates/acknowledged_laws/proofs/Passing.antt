@@ -22,11 +22,11 @@ use Rattle.clv_base.specs.Journals.{History, event_state, after_entry}
 use Rattle.clv_base.specs.History.{Legal}
 use Rattle.protocol_laws.specs.SessionLaws.{tx_of}
 use Rattle.shard_laws.specs.OneShard.{is_doomed}
-use Rattle.history_laws.proofs.Stepping.{Step, sends, finishes, stops}
-use Rattle.history_laws.proofs.Entering.{Makes, by_event, by_flush, by_failure, by_restart, makes}
-use Rattle.history_laws.proofs.Merging.{Placed, Among, among_append}
+use Rattle.history_cases.proofs.Stepping.{Step, sends, finishes, stops}
+use Rattle.history_cases.proofs.Entering.{Makes, by_event, by_flush, by_failure, by_restart, makes}
+use Rattle.history_cases.proofs.Merging.{Placed, Among, among_append}
 use Rattle.history_laws.proofs.Staying.{walker_of}
-use Rattle.history_laws.proofs.Worlds.{state_at}
+use Rattle.history_cases.proofs.Worlds.{state_at}
 use Rattle.history_laws.proofs.Walking.{behind_of}
 use Rattle.origin_laws.proofs.Sessions.{Requested}
 use Rattle.origin_laws.proofs.Entries.{IsOld, Brings, traced_front, brought, requested_more}

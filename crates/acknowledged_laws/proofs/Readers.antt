@@ -10,8 +10,8 @@ use Rattle.clv_base.specs.Undo.{stage_of}
 use Rattle.clv_base.specs.Restarts.{run_after}
 use Rattle.clv_base.specs.Journals.{History}
 use Rattle.clv_base.specs.History.{Legal}
-use Rattle.history_laws.proofs.Merging.{Among, among_left, is_among}
-use Rattle.history_laws.proofs.Worlds.{state_at}
+use Rattle.history_cases.proofs.Merging.{Among, among_left, is_among}
+use Rattle.history_cases.proofs.Worlds.{state_at}
 use Rattle.origin_laws.proofs.Sessions.{Requested}
 use Rattle.origin_laws.proofs.Entries.{DidOrOld, traced_front}
 use Rattle.fate_laws.specs.Decisions.{IsHome, is_left}

@@ -11,7 +11,7 @@ use Rattle.clv_base.specs.Shards.{shard_count}
 use Rattle.clv_base.specs.Restarts.{run_after}
 use Rattle.clv_base.specs.History.{IsAmong}
 use Rattle.protocol_laws.specs.SessionLaws.{tx_of}
-use Rattle.history_laws.proofs.Merging.{is_among}
+use Rattle.history_cases.proofs.Merging.{is_among}
 use Rattle.history_laws.proofs.Staying.{walker_of}
 use Rattle.fall_laws.specs.Falls.{Fell}
 use Rattle.fall_laws.proofs.Finding.{members_never_fell_at_home}

@@ -30,11 +30,11 @@ use Rattle.protocol_laws.specs.SessionLaws.{tx_of}
 use Rattle.protocol_laws.proofs.Growing.{same as same_log}
 use Rattle.shard_laws.proofs.Restoring.{restored_none}
 use Rattle.shard_laws.proofs.Ordered.{prepare_some}
-use Rattle.history_laws.proofs.Entering.{Makes, by_event, by_flush, by_failure, by_restart, makes}
-use Rattle.history_laws.proofs.Merging.{Placed, Among, among_left}
+use Rattle.history_cases.proofs.Entering.{Makes, by_event, by_flush, by_failure, by_restart, makes}
+use Rattle.history_cases.proofs.Merging.{Placed, Among, among_left}
 use Rattle.history_laws.proofs.Staying.{walker_of}
-use Rattle.history_laws.proofs.Stepping.{commits, votes, rules, KeptByDue, settled, op_dies, op_answers, finishes, stops}
-use Rattle.history_laws.proofs.Worlds.{state_at}
+use Rattle.history_cases.proofs.Stepping.{commits, votes, rules, KeptByDue, settled, op_dies, op_answers, finishes, stops}
+use Rattle.history_cases.proofs.Worlds.{state_at}
 use Rattle.history_laws.proofs.Walking.{behind_of}
 use Rattle.history_laws.proofs.Doubts.{doubt_prepared}
 use Rattle.session_laws.proofs.Replying.{OpIs, dies, rolls, performs, reply_is}

@@ -14,10 +14,10 @@ use Rattle.clv_base.specs.declared.events.Outcome.TheVariants.{Sent}
 use Rattle.clv_base.specs.declared.events.Entry.{Entry}
 use Rattle.clv_base.specs.History.{Legal, IsAmong}
 use Rattle.protocol_laws.specs.SessionLaws.{tx_of}
-use Rattle.history_laws.proofs.Merging.{Among, is_among, among_is}
+use Rattle.history_cases.proofs.Merging.{Among, is_among, among_is}
 use Rattle.history_laws.proofs.Staying.{walker_of}
-use Rattle.history_laws.proofs.TellingEvents.{front_committed}
-use Rattle.history_laws.proofs.Worlds.{state_at, in_a_shard}
+use Rattle.history_cases.proofs.TellingEvents.{front_committed}
+use Rattle.history_cases.proofs.Worlds.{state_at, in_a_shard}
 use Rattle.fate_laws.specs.Decisions.{IsHome, is_left}
 use Rattle.fate_laws.proofs.Fates.{DeadIn}
 use Rattle.fate_laws.proofs.Prefixes.{one_home}

@@ -18,12 +18,12 @@ use Rattle.clv_base.specs.Restarts.{run_after}
 use Rattle.clv_base.specs.Journals.{History, final_of}
 use Rattle.clv_base.specs.History.{Legal, is_acknowledgement, acknowledged_in, logs_left}
 use Rattle.protocol_laws.specs.SessionLaws.{tx_of}
-use Rattle.history_laws.proofs.Stepping.{FindsWell, Step, looks_well, Happens, finishes, stops}
-use Rattle.history_laws.proofs.Entering.{Makes, by_event, by_flush, by_failure, by_restart, makes}
-use Rattle.history_laws.proofs.Merging.{Placed, Among, is_among, among_is}
+use Rattle.history_cases.proofs.Stepping.{FindsWell, Step, looks_well, Happens, finishes, stops}
+use Rattle.history_cases.proofs.Entering.{Makes, by_event, by_flush, by_failure, by_restart, makes}
+use Rattle.history_cases.proofs.Merging.{Placed, Among, is_among, among_is}
 use Rattle.history_laws.proofs.Serials.{any_among}
 use Rattle.history_laws.proofs.Staying.{walker_of, one_request}
-use Rattle.history_laws.proofs.Worlds.{state_at, in_a_shard}
+use Rattle.history_cases.proofs.Worlds.{state_at, in_a_shard}
 use Rattle.fate_laws.specs.Decisions.{IsHome, is_left}
 use Rattle.fate_laws.proofs.Deciding.{durable_left, is_member_by}
 use Rattle.fate_laws.proofs.Entering.{durable_front}

@@ -24,9 +24,9 @@ use Rattle.clv_base.specs.Journals.{up_to_restart}
 use Rattle.law_base.proofs.Changed.{Set_or_old, get_set}
 use Rattle.law_base.proofs.Rows.{rows_get}
 use Rattle.law_base.proofs.Tables.{get_put}
-use Rattle.history_laws.proofs.Stepping.{Step, op_dies, op_answers, request_refused, request_doomed, request_again, request_new, request_closes, looks_well, looks_ill, drops, sends, prepare_closes, prepare_again, vote_counts, decision_comes, decision_again, done_counts, asked, reminds, flushes, finishes, stops}
-use Rattle.history_laws.proofs.Entering.{Makes, by_event, by_flush, by_failure, by_restart}
-use Rattle.history_laws.proofs.Telling.{all_map}
+use Rattle.history_cases.proofs.Stepping.{Step, op_dies, op_answers, request_refused, request_doomed, request_again, request_new, request_closes, looks_well, looks_ill, drops, sends, prepare_closes, prepare_again, vote_counts, decision_comes, decision_again, done_counts, asked, reminds, flushes, finishes, stops}
+use Rattle.history_cases.proofs.Entering.{Makes, by_event, by_flush, by_failure, by_restart}
+use Rattle.history_cases.proofs.Telling.{all_map}
 use Rattle.fate_laws.proofs.Closings.{Closes, by_request, by_prepare, step_closed, step_prepares}
 use Rattle.fate_laws.proofs.HomesEvents.{put_get, counts_undecided}
 use Rattle.fate_laws.proofs.Inside.{inside_step}

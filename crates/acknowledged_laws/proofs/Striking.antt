@@ -34,11 +34,11 @@ use Rattle.clv_base.specs.Journals.{up_to_restart}
 use Rattle.clv_base.proofs.SameNames.{tx_true, tx_flip}
 use Rattle.law_base.proofs.Tables.{stage_in}
 use Rattle.law_base.proofs.Sets.{in_filter}
-use Rattle.history_laws.proofs.Stepping.{Due, commits, votes, rules, KeptByDue, settled, Step, op_dies, op_answers, request_refused, request_doomed, request_again, request_new, request_closes, looks_well, looks_ill, drops, sends, prepare_closes, prepare_again, vote_counts, decision_comes, decision_again, done_counts, asked, reminds, flushes, Happens, finishes, stops}
-use Rattle.history_laws.proofs.Entering.{Makes, by_event, by_flush, by_failure, by_restart}
+use Rattle.history_cases.proofs.Stepping.{Due, commits, votes, rules, KeptByDue, settled, Step, op_dies, op_answers, request_refused, request_doomed, request_again, request_new, request_closes, looks_well, looks_ill, drops, sends, prepare_closes, prepare_again, vote_counts, decision_comes, decision_again, done_counts, asked, reminds, flushes, Happens, finishes, stops}
+use Rattle.history_cases.proofs.Entering.{Makes, by_event, by_flush, by_failure, by_restart}
 use Rattle.history_laws.proofs.Serials.{committed_front}
-use Rattle.history_laws.proofs.TellingEvents.{front_committed}
-use Rattle.history_laws.proofs.Uncommitting.{NoMoreCommits, rolled as rolled_commits, with_more, op_answering, opening_adds}
+use Rattle.history_cases.proofs.TellingEvents.{front_committed}
+use Rattle.history_cases.proofs.Uncommitting.{NoMoreCommits, rolled as rolled_commits, with_more, op_answering, opening_adds}
 use Rattle.shard_laws.proofs.Sound.{waiting_here}
 use Rattle.law_base.proofs.Stages.{closed_other}
 use Rattle.law_base.proofs.Stages.{absent_go, own_go}

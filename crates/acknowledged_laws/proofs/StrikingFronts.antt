@@ -14,9 +14,9 @@ use Rattle.clv_base.specs.Restarts.{run_after}
 use Rattle.clv_base.specs.Journals.{History, event_state}
 use Rattle.clv_base.specs.History.{Legal}
 use Rattle.clv_base.proofs.SameNames.{tx_true}
-use Rattle.history_laws.proofs.Entering.{makes}
-use Rattle.history_laws.proofs.Merging.{Placed}
-use Rattle.history_laws.proofs.Worlds.{state_at}
+use Rattle.history_cases.proofs.Entering.{makes}
+use Rattle.history_cases.proofs.Merging.{Placed}
+use Rattle.history_cases.proofs.Worlds.{state_at}
 use Rattle.shard_laws.proofs.Listing.{order_of}
 use Rattle.origin_laws.proofs.Origins.{AllFrom}
 use Rattle.origin_laws.proofs.Entries.{DidOrOld}

@@ -17,11 +17,11 @@ use Rattle.clv_base.specs.Restarts.{run_after, log_after_restart}
 use Rattle.clv_base.specs.Journals.{History}
 use Rattle.clv_base.specs.History.{Legal, WasSent}
 use Rattle.protocol_laws.specs.SessionLaws.{tx_of}
-use Rattle.history_laws.proofs.Entering.{makes}
-use Rattle.history_laws.proofs.Merging.{Placed, Among, among_append, is_among}
-use Rattle.history_laws.proofs.OldRuns.{none_of_this_run}
-use Rattle.history_laws.proofs.Uncommitting.{opening_adds}
-use Rattle.history_laws.proofs.Worlds.{state_at}
+use Rattle.history_cases.proofs.Entering.{makes}
+use Rattle.history_cases.proofs.Merging.{Placed, Among, among_append, is_among}
+use Rattle.history_cases.proofs.OldRuns.{none_of_this_run}
+use Rattle.history_cases.proofs.Uncommitting.{opening_adds}
+use Rattle.history_cases.proofs.Worlds.{state_at}
 use Rattle.history_laws.proofs.Staying.{walker_of}
 use Rattle.fate_laws.proofs.Prefixes.{Next, each_shard, asked_later}
 use Rattle.fate_laws.proofs.Fates.{delivered}
@@ -30,7 +30,7 @@ use Rattle.fate_laws.proofs.PartsEvents.{Owes}
 use Rattle.fate_laws.proofs.Returning.{parted_state}
 use Rattle.fate_laws.proofs.Bindings.{WasTaken, Sought, Bindings, once, sought_later, bound_message, says_made, SaysOut, bindings_front, parted_mono, parted_made, noted, op_asks_none, op_unprepared}
 use Rattle.fate_laws.proofs.Deciding.{left_committed}
-use Rattle.history_laws.proofs.Merging.{among_left, among_is}
+use Rattle.history_cases.proofs.Merging.{among_left, among_is}
 use Rattle.clv_base.specs.Coordinator.{is_good}
 use Rattle.fall_laws.proofs.Falling.{walk_on}
 use Rattle.fate_laws.proofs.Prefixes.{next_at}

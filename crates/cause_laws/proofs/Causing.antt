@@ -32,8 +32,8 @@ use Rattle.protocol_laws.specs.SessionLaws.{tx_of, ended_by}
 use Rattle.law_base.proofs.Changed.{none_some, some_same}
 use Rattle.law_base.proofs.Rows.{rows_get}
 use Rattle.law_base.proofs.Tables.{stage_by}
-use Rattle.history_laws.proofs.Merging.{Placed, Among, among_left}
-use Rattle.history_laws.proofs.Worlds.{state_at}
+use Rattle.history_cases.proofs.Merging.{Placed, Among, among_left}
+use Rattle.history_cases.proofs.Worlds.{state_at}
 use Rattle.cause_laws.proofs.Votes.{VotesFit, votes_mono}
 use Rattle.cause_laws.proofs.Within.{GoneBy, RefusedFor, StateFits, RowFits, Within}
 use Rattle.cause_laws.proofs.Starting.{IsCalm}

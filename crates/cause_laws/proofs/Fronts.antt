@@ -12,10 +12,10 @@ use Rattle.clv_base.specs.Restarts.{run_after, log_after_restart, revived}
 use Rattle.clv_base.specs.Journals.{History, event_state, up_to_restart}
 use Rattle.clv_base.specs.History.{Legal}
 use Rattle.protocol_laws.proofs.Resting.{rests}
-use Rattle.history_laws.proofs.Entering.{Makes, by_event, by_flush, by_failure, by_restart, makes}
-use Rattle.history_laws.proofs.Merging.{Placed}
-use Rattle.history_laws.proofs.Stepping.{Happens, finishes, stops}
-use Rattle.history_laws.proofs.Worlds.{state_at}
+use Rattle.history_cases.proofs.Entering.{Makes, by_event, by_flush, by_failure, by_restart, makes}
+use Rattle.history_cases.proofs.Merging.{Placed}
+use Rattle.history_cases.proofs.Stepping.{Happens, finishes, stops}
+use Rattle.history_cases.proofs.Worlds.{state_at}
 use Rattle.history_laws.proofs.Walking.{behind_of}
 use Rattle.origin_laws.proofs.Entries.{traced_front, brought}
 use Rattle.fate_laws.proofs.Prefixes.{next_at, each_shard}

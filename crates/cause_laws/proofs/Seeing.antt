@@ -11,7 +11,7 @@ use Rattle.clv_base.specs.declared.events.Outcome.{Outcome}
 use Rattle.clv_base.specs.LogRules.{same_option}
 use Rattle.clv_base.specs.Sessions.{SessionState, is_number, lies_in, session_for, op_answered, op_in_session, session_after, makes_from}
 use Rattle.law_base.proofs.Changed.{none_some, some_same}
-use Rattle.history_laws.proofs.Merging.{Placed, Among, Precedes, front_precedes}
+use Rattle.history_cases.proofs.Merging.{Placed, Among, Precedes, front_precedes}
 use Rattle.session_laws.proofs.Walking.{For, nobody, the_same, a_new_one, for_by}
 use Rattle.session_laws.proofs.Naming.{AnsweredAt, Traced, traced_next, named_case}
 

@@ -36,7 +36,7 @@ use Rattle.law_base.proofs.Changed.{none_some, Set_or_old, get_set}
 use Rattle.law_base.proofs.Tables.{stage_by, stage_in, is_pair, get_put}
 use Rattle.law_base.proofs.Stages.{stage_closed, closed_other as stage_other, written_parts}
 use Rattle.law_base.proofs.Stages.{stage_marked}
-use Rattle.history_laws.proofs.Stepping.{with_work, Step, op_dies, op_answers, request_refused, request_doomed, request_again, request_new, request_closes, looks_well, looks_ill, drops, sends, prepare_closes, prepare_again, vote_counts, decision_comes, decision_again, done_counts, asked, reminds, flushes}
+use Rattle.history_cases.proofs.Stepping.{with_work, Step, op_dies, op_answers, request_refused, request_doomed, request_again, request_new, request_closes, looks_well, looks_ill, drops, sends, prepare_closes, prepare_again, vote_counts, decision_comes, decision_again, done_counts, asked, reminds, flushes}
 use Rattle.session_laws.proofs.Replying.{OpIs, dies, rolls, performs, reply_is}
 use Rattle.cause_laws.proofs.Votes.{votes_more}
 use Rattle.cause_laws.proofs.Resting.{Unopposed}

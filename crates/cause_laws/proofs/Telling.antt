@@ -29,12 +29,12 @@ use Rattle.clv_base.proofs.SameNames.{tx_true, tx_self}
 use Rattle.protocol_laws.specs.SessionLaws.{tx_of, works_on}
 use Rattle.protocol_laws.proofs.InOrder.{sessions_keep_order}
 use Rattle.law_base.proofs.Changed.{none_some, some_same}
-use Rattle.history_laws.proofs.Entering.{Makes, by_event, by_flush, by_failure, by_restart, makes}
-use Rattle.history_laws.proofs.Merging.{Placed, Among, among_is, from_journal, before_then, in_order, own_in_order, precedes_before}
+use Rattle.history_cases.proofs.Entering.{Makes, by_event, by_flush, by_failure, by_restart, makes}
+use Rattle.history_cases.proofs.Merging.{Placed, Among, among_is, from_journal, before_then, in_order, own_in_order, precedes_before}
 use Rattle.history_laws.proofs.Staying.{walker_of, together}
-use Rattle.history_laws.proofs.Stepping.{FindsIll, Step, op_dies, Happens, finishes, stops}
+use Rattle.history_cases.proofs.Stepping.{FindsIll, Step, op_dies, Happens, finishes, stops}
 use Rattle.history_laws.proofs.Walkers.{nothing_follows}
-use Rattle.history_laws.proofs.Worlds.{state_at}
+use Rattle.history_cases.proofs.Worlds.{state_at}
 use Rattle.session_laws.proofs.Naming.{AnsweredAt}
 use Rattle.origin_laws.proofs.Sessions.{Turn, Requested, turn_of, own_precedes, named_at, op_no_request}
 use Rattle.origin_laws.proofs.Origins.{SomeRequest, part_of}

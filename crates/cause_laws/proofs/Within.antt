@@ -33,7 +33,7 @@ use Rattle.protocol_laws.specs.UndoLaws.{IsClosed}
 use Rattle.protocol_laws.proofs.Laws.{doomed_is_closure}
 use Rattle.law_base.proofs.Stages.{gone_by, stage_own, stage_other}
 use Rattle.shard_laws.proofs.Sound.{waiting_here}
-use Rattle.history_laws.proofs.Stepping.{commits, votes, rules, KeptByDue, settled}
+use Rattle.history_cases.proofs.Stepping.{commits, votes, rules, KeptByDue, settled}
 use Rattle.cause_laws.proofs.Votes.{VotesFit, no_in}
 use Rattle.cause_laws.proofs.Resting.{Unopposed}
 use Rattle.origin_laws.proofs.Origins.{in_one}

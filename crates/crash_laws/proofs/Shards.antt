@@ -16,8 +16,8 @@ use Rattle.clv_base.specs.Restarts.{run_after}
 use Rattle.clv_base.specs.Journals.{History, final_of}
 use Rattle.clv_base.specs.History.{Legal, logs_left}
 use Rattle.protocol_laws.specs.SessionLaws.{tx_of}
-use Rattle.history_laws.proofs.Merging.{Placed, Among}
-use Rattle.history_laws.proofs.Worlds.{in_a_shard}
+use Rattle.history_cases.proofs.Merging.{Placed, Among}
+use Rattle.history_cases.proofs.Worlds.{in_a_shard}
 use Rattle.history_laws.proofs.Staying.{walker_of}
 use Rattle.law_base.specs.Items.{Item, Runs, after, AllLater, Clash}
 use Rattle.law_base.proofs.Lists.{all_mono, filters_swap, all_filter}

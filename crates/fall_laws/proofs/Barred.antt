@@ -19,7 +19,7 @@ use Rattle.law_base.proofs.Tables.{stage_in, is_pair}
 use Rattle.law_base.proofs.Sets.{filter_in}
 use Rattle.protocol_laws.specs.Growth.{IsPrefixOf}
 use Rattle.history_laws.proofs.Serials.{committed_front}
-use Rattle.history_laws.proofs.Uncommitting.{rolled as rolled_commits}
+use Rattle.history_cases.proofs.Uncommitting.{rolled as rolled_commits}
 use Rattle.law_base.proofs.Stages.{absent_go, own_go, stage_other}
 use Rattle.shard_laws.proofs.Ordered.{prepare_some}
 use Rattle.fate_laws.proofs.Homes.{still_not}

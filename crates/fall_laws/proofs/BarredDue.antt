@@ -29,8 +29,8 @@ use Rattle.clv_base.proofs.SameNames.{tx_true}
 use Rattle.law_base.proofs.Changed.{none_some, some_same, get_set}
 use Rattle.law_base.proofs.Commits.{durable_committed}
 use Rattle.history_laws.proofs.Serials.{committed_front}
-use Rattle.history_laws.proofs.Stepping.{Due, commits, votes, rules, KeptByDue, settled}
-use Rattle.history_laws.proofs.Uncommitting.{rolled as rolled_commits}
+use Rattle.history_cases.proofs.Stepping.{Due, commits, votes, rules, KeptByDue, settled}
+use Rattle.history_cases.proofs.Uncommitting.{rolled as rolled_commits}
 use Rattle.shard_laws.proofs.Sound.{waiting_here}
 use Rattle.shard_laws.proofs.Ordered.{prepare_some}
 use Rattle.shard_laws.proofs.Leaving.{no_write_aborts, no_write_clrs}
@@ -41,7 +41,7 @@ use Rattle.fate_laws.proofs.Binding.{VoteIs, kept, yes, read, no, vote_is}
 use Rattle.fate_laws.proofs.Calm.{calm_one, due_prepares, was_there}
 use Rattle.fate_laws.proofs.Downwards.{down_due}
 use Rattle.fate_laws.proofs.Rulings.{ack_refused, ack_end}
-use Rattle.history_laws.proofs.Uncommitting.{with_more}
+use Rattle.history_cases.proofs.Uncommitting.{with_more}
 use Rattle.fall_laws.proofs.Ahead.{aborts_ahead, clrs_ahead}
 use Rattle.fall_laws.proofs.Lined.{Lined, Plainly, lined_more, lined_gone}
 use Rattle.fall_laws.proofs.Barred.{Absent, Out, Lost, Barred, Change, barred_next, rolled_goes, finished_goes}

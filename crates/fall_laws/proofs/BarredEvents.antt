@@ -21,7 +21,7 @@ use Rattle.clv_base.proofs.SameNames.{tx_true}
 use Rattle.law_base.proofs.Changed.{none_some, some_same, get_set}
 use Rattle.law_base.proofs.Commits.{committed_keeps}
 use Rattle.law_base.proofs.Tables.{stage_in, is_pair}
-use Rattle.history_laws.proofs.Uncommitting.{rolled as rolled_commits}
+use Rattle.history_cases.proofs.Uncommitting.{rolled as rolled_commits}
 use Rattle.law_base.proofs.Stages.{absent_go}
 use Rattle.fate_laws.proofs.Homes.{still_not, new_commit}
 use Rattle.fate_laws.proofs.Prepares.{prepare_from}
@@ -39,7 +39,7 @@ use Rattle.clv_base.specs.Participant.{asked_voter}
 use Rattle.clv_base.specs.OneShard.{OpDies, rolled_back_if, close_part, closed_in, without_part}
 use Rattle.clv_base.specs.Events.{is_alone, coordinate, owe_vote}
 use Rattle.law_base.proofs.Tables.{get_put}
-use Rattle.history_laws.proofs.Stepping.{Step, op_dies, op_answers, request_refused, request_doomed, request_again, request_new, request_closes, looks_well, looks_ill, drops, sends, prepare_closes, prepare_again, vote_counts, decision_comes, decision_again, done_counts, asked, reminds, flushes}
+use Rattle.history_cases.proofs.Stepping.{Step, op_dies, op_answers, request_refused, request_doomed, request_again, request_new, request_closes, looks_well, looks_ill, drops, sends, prepare_closes, prepare_again, vote_counts, decision_comes, decision_again, done_counts, asked, reminds, flushes}
 use Rattle.law_base.proofs.LockRows.{Rows}
 use Rattle.law_base.proofs.Stages.{stage_closed, closed_other}
 use Rattle.shard_laws.proofs.Ordered.{prepare_some}

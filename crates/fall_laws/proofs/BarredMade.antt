@@ -35,13 +35,13 @@ use Rattle.fate_laws.proofs.Inside.{Inside, inside_self, inside_due}
 use Rattle.fate_laws.proofs.Prepares.{front_prepare, restarts_add as restarts_prepare}
 use Rattle.fate_laws.proofs.Prepares.{prepare_more}
 use Rattle.fate_laws.proofs.Returning.{pair_from}
-use Rattle.history_laws.proofs.Durability.{Counted, left_front, restarts_front}
-use Rattle.history_laws.proofs.Entering.{Makes, by_event, by_flush, by_failure, by_restart}
-use Rattle.history_laws.proofs.Stepping.{settled}
-use Rattle.history_laws.proofs.Stepping.{finishes, stops}
-use Rattle.history_laws.proofs.Telling.{all_map}
-use Rattle.history_laws.proofs.TellingEvents.{front_committed}
-use Rattle.history_laws.proofs.Uncommitting.{restarts_add}
+use Rattle.history_cases.proofs.Durability.{Counted, left_front, restarts_front}
+use Rattle.history_cases.proofs.Entering.{Makes, by_event, by_flush, by_failure, by_restart}
+use Rattle.history_cases.proofs.Stepping.{settled}
+use Rattle.history_cases.proofs.Stepping.{finishes, stops}
+use Rattle.history_cases.proofs.Telling.{all_map}
+use Rattle.history_cases.proofs.TellingEvents.{front_committed}
+use Rattle.history_cases.proofs.Uncommitting.{restarts_add}
 use Rattle.law_base.proofs.Changed.{none_some, some_same}
 use Rattle.law_base.proofs.Rows.{rows_get}
 use Rattle.law_base.proofs.Tables.{stage_in}

@@ -17,7 +17,7 @@ use Rattle.law_base.proofs.Changed.{none_some}
 use Rattle.law_base.proofs.Tables.{stage_in, is_pair}
 use Rattle.protocol_laws.specs.Growth.{IsPrefixOf}
 use Rattle.history_laws.proofs.Serials.{committed_front}
-use Rattle.history_laws.proofs.Uncommitting.{rolled as rolled_commits}
+use Rattle.history_cases.proofs.Uncommitting.{rolled as rolled_commits}
 use Rattle.law_base.proofs.Stages.{was_present, written_parts}
 use Rattle.fate_laws.proofs.Homes.{still_not}
 use Rattle.fate_laws.proofs.Prepares.{rolled}
@@ -32,7 +32,7 @@ use Rattle.clv_base.specs.Needs.{writes_of, value_at, key_of}
 use Rattle.clv_base.specs.OneShard.{op_reply, OpAnswers, active_part, new_part, locked, performed, marked_in, mark_dropped}
 use Rattle.law_base.proofs.Tables.{stage_by, get_put, without_pairs}
 use Rattle.protocol_laws.proofs.Growing.{same, more_twice}
-use Rattle.history_laws.proofs.Stepping.{Step}
+use Rattle.history_cases.proofs.Stepping.{Step}
 use Rattle.law_base.proofs.LockRows.{Rows}
 use Rattle.law_base.proofs.Stages.{active_back}
 use Rattle.law_base.proofs.Stages.{stage_marked}

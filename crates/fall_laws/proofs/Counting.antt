@@ -14,8 +14,8 @@ use Rattle.clv_base.specs.State.{Shard, is_present}
 use Rattle.clv_base.specs.Undo.{stage_of}
 use Rattle.clv_base.specs.Journals.{History, journal_of, start_of, after_entry, after_entries}
 use Rattle.law_base.proofs.Sets.{in_filter}
-use Rattle.history_laws.proofs.Merging.{Placed}
-use Rattle.history_laws.proofs.Worlds.{state_at, journal_append}
+use Rattle.history_cases.proofs.Merging.{Placed}
+use Rattle.history_cases.proofs.Worlds.{state_at, journal_append}
 use Rattle.shard_laws.specs.OneShard.{is_doomed}
 use Rattle.fall_laws.specs.Falls.{IsLeftOut, WasLeftOut, Fell, falls_by, fallen_in, fallen_on, CommitsFindNoneFallen}
 use Rattle.fall_laws.proofs.Falling.{walk_on}

@@ -12,10 +12,10 @@ use Rattle.clv_base.specs.Journals.{History, journal_of, start_of, after_entry, 
 use Rattle.clv_base.specs.History.{request_of, state_before}
 use Rattle.clv_base.proofs.SameNames.{tx_true, tx_self}
 use Rattle.std.proofs.lemmas.Bool.{or_left, or_right}
-use Rattle.history_laws.proofs.Merging.{Placed, Among}
-use Rattle.history_laws.proofs.Telling.{IsRequest}
+use Rattle.history_cases.proofs.Merging.{Placed, Among}
+use Rattle.history_cases.proofs.Telling.{IsRequest}
 use Rattle.history_laws.proofs.Staying.{is_request}
-use Rattle.history_laws.proofs.Worlds.{journal_append}
+use Rattle.history_cases.proofs.Worlds.{journal_append}
 use Rattle.fall_laws.specs.Leading.{Deeds, no_deeds, deeds_with, deeds_after, deeds_before, requests_of}
 use Rattle.history_laws.proofs.Walking.{other_journal}
 

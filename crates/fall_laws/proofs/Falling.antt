@@ -37,11 +37,11 @@ use Rattle.law_base.proofs.Sets.{list_all_at}
 use Rattle.law_base.proofs.Stages.{stage_of_some}
 use Rattle.clv_base.specs.Facts.{predecessors_of}
 use Rattle.protocol_laws.specs.SessionLaws.{tx_of}
-use Rattle.history_laws.proofs.Entering.{Makes, by_event, by_flush, by_failure, by_restart, makes}
-use Rattle.history_laws.proofs.Merging.{Placed, Among, among_append, among_left}
-use Rattle.history_laws.proofs.Worlds.{state_at}
+use Rattle.history_cases.proofs.Entering.{Makes, by_event, by_flush, by_failure, by_restart, makes}
+use Rattle.history_cases.proofs.Merging.{Placed, Among, among_append, among_left}
+use Rattle.history_cases.proofs.Worlds.{state_at}
 use Rattle.history_laws.proofs.Staying.{walker_of}
-use Rattle.history_laws.proofs.TellingEvents.{front_committed}
+use Rattle.history_cases.proofs.TellingEvents.{front_committed}
 use Rattle.shard_laws.proofs.Following.{Follows, from_disorder}
 use Rattle.shard_laws.proofs.Restoring.{restored_closed}
 use Rattle.shard_laws.proofs.Ordered.{prepare_some}

@@ -22,8 +22,8 @@ use Rattle.clv_base.specs.Events.{Reply, QuietBeforeWorn, Does, on_decide, deliv
 use Rattle.clv_base.specs.Journals.{History, EventMay}
 use Rattle.clv_base.specs.History.{Legal}
 use Rattle.law_base.proofs.Commits.{durable_committed}
-use Rattle.history_laws.proofs.Merging.{Placed, among_left, is_among}
-use Rattle.history_laws.proofs.Worlds.{state_at}
+use Rattle.history_cases.proofs.Merging.{Placed, among_left, is_among}
+use Rattle.history_cases.proofs.Worlds.{state_at}
 use Rattle.fate_laws.proofs.Prefixes.{Next, next_at, asked_later, one_home}
 use Rattle.fate_laws.specs.Decisions.{is_left}
 use Rattle.fate_laws.proofs.Deciding.{left_committed, commits_stand_at_home}

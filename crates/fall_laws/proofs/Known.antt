@@ -30,10 +30,10 @@ use Rattle.clv_base.specs.History.{Legal}
 use Rattle.clv_base.proofs.SameNames.{tx_true}
 use Rattle.law_base.proofs.Changed.{none_some}
 use Rattle.law_base.proofs.Tables.{stage_in}
-use Rattle.history_laws.proofs.Stepping.{commits, votes, rules, KeptByDue, settled, Step, op_dies, op_answers, request_refused, request_doomed, request_again, request_new, request_closes, looks_well, looks_ill, drops, sends, prepare_closes, prepare_again, vote_counts, decision_comes, decision_again, done_counts, asked, reminds, flushes, finishes, stops}
-use Rattle.history_laws.proofs.Entering.{Makes, by_event, by_flush, by_failure, by_restart, makes}
-use Rattle.history_laws.proofs.Merging.{Placed, Among, among_left, among_right}
-use Rattle.history_laws.proofs.Worlds.{state_at}
+use Rattle.history_cases.proofs.Stepping.{commits, votes, rules, KeptByDue, settled, Step, op_dies, op_answers, request_refused, request_doomed, request_again, request_new, request_closes, looks_well, looks_ill, drops, sends, prepare_closes, prepare_again, vote_counts, decision_comes, decision_again, done_counts, asked, reminds, flushes, finishes, stops}
+use Rattle.history_cases.proofs.Entering.{Makes, by_event, by_flush, by_failure, by_restart, makes}
+use Rattle.history_cases.proofs.Merging.{Placed, Among, among_left, among_right}
+use Rattle.history_cases.proofs.Worlds.{state_at}
 use Rattle.law_base.proofs.Stages.{closed_other}
 use Rattle.law_base.proofs.Stages.{stage_own, stage_other, gone_by}
 use Rattle.law_base.proofs.Stages.{stage_marked}

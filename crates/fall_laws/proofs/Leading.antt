@@ -23,9 +23,9 @@ use Rattle.clv_base.specs.History.{Legal, request_of, state_before}
 use Rattle.law_base.proofs.Lists.{all_mono}
 use Rattle.protocol_laws.specs.SessionLaws.{tx_of}
 use Rattle.shard_laws.specs.OneShard.{Leads, opens, happens, lands, revives, MayServe, MayHappen, MayDeliver, with_one, new_item, new_told, new_met, doomed_in, found_items, found_asked, found_met}
-use Rattle.history_laws.proofs.Entering.{Makes, by_event, by_flush, by_failure, by_restart, makes}
-use Rattle.history_laws.proofs.Merging.{Placed}
-use Rattle.history_laws.proofs.OldRuns.{below_next_run}
+use Rattle.history_cases.proofs.Entering.{Makes, by_event, by_flush, by_failure, by_restart, makes}
+use Rattle.history_cases.proofs.Merging.{Placed}
+use Rattle.history_cases.proofs.OldRuns.{below_next_run}
 use Rattle.history_laws.proofs.Staying.{is_request, walker_of}
 use Rattle.history_laws.proofs.Walking.{Behind, next_entry}
 use Rattle.history_laws.proofs.Found.{found_in_order}

@@ -30,7 +30,7 @@ use Rattle.law_base.proofs.Stages.{stage_of_some}
 use Rattle.shard_laws.specs.OneShard.{with_one, new_item, new_met, has_met, is_doomed, doomed_in, left_out}
 use Rattle.shard_laws.proofs.Histories.{named_doomed}
 use Rattle.shard_laws.proofs.Leaving.{in_two}
-use Rattle.history_laws.proofs.Merging.{Placed, among_right}
+use Rattle.history_cases.proofs.Merging.{Placed, among_right}
 use Rattle.session_laws.proofs.Adding.{one_met}
 use Rattle.origin_laws.proofs.Sessions.{Requested}
 use Rattle.origin_laws.proofs.Origins.{SomeRequest, BirthFrom, PartFrom}

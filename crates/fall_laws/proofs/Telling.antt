@@ -18,7 +18,7 @@ use Rattle.clv_base.specs.Journals.{History, journal_of, start_of, after_entry, 
 use Rattle.clv_base.specs.History.{is_acknowledgement, acknowledged_in, ops_in, state_before}
 use Rattle.clv_base.proofs.SameNames.{tx_flip}
 use Rattle.shard_laws.specs.OneShard.{items_of, has_met, new_met}
-use Rattle.history_laws.proofs.Merging.{Placed}
+use Rattle.history_cases.proofs.Merging.{Placed}
 use Rattle.session_laws.proofs.Adding.{items_next, told_next}
 use Rattle.fall_laws.specs.Leading.{Deeds, deeds_with, deeds_after, deeds_before, no_deeds}
 use Rattle.fall_laws.specs.Telling.{own_entries, DeedsAreTold}

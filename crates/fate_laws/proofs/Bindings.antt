@@ -36,15 +36,15 @@ use Rattle.law_base.proofs.Lists.{all_mono}
 use Rattle.protocol_laws.specs.SessionLaws.{tx_of, works_on, ended_by}
 use Rattle.protocol_laws.proofs.InOrder.{sessions_keep_order}
 use Rattle.protocol_laws.proofs.Growing.{same as same_log, more}
-use Rattle.history_laws.proofs.Stepping.{Step, sends, Happens, finishes, stops}
-use Rattle.history_laws.proofs.Entering.{Makes, by_event, by_flush, by_failure, by_restart, makes}
-use Rattle.history_laws.proofs.Durability.{Counted}
-use Rattle.history_laws.proofs.Merging.{Placed, in_order, not_before_itself, before_then, Among, among_append, is_among, in_turn, precedes_before, own_in_order}
+use Rattle.history_cases.proofs.Stepping.{Step, sends, Happens, finishes, stops}
+use Rattle.history_cases.proofs.Entering.{Makes, by_event, by_flush, by_failure, by_restart, makes}
+use Rattle.history_cases.proofs.Durability.{Counted}
+use Rattle.history_cases.proofs.Merging.{Placed, in_order, not_before_itself, before_then, Among, among_append, is_among, in_turn, precedes_before, own_in_order}
 use Rattle.history_laws.proofs.Walkers.{nothing_follows}
-use Rattle.history_laws.proofs.Telling.{IsRequest}
-use Rattle.history_laws.proofs.OldRuns.{none_of_this_run}
-use Rattle.history_laws.proofs.Uncommitting.{opening_adds}
-use Rattle.history_laws.proofs.Worlds.{state_at}
+use Rattle.history_cases.proofs.Telling.{IsRequest}
+use Rattle.history_cases.proofs.OldRuns.{none_of_this_run}
+use Rattle.history_cases.proofs.Uncommitting.{opening_adds}
+use Rattle.history_cases.proofs.Worlds.{state_at}
 use Rattle.history_laws.proofs.Staying.{walker_of, together, one_request}
 use Rattle.fate_laws.proofs.Inside.{Inside}
 use Rattle.fate_laws.proofs.Prepares.{prepare_more, opening_adds as opening_prepares}

@@ -37,7 +37,7 @@ use Rattle.law_base.proofs.Stages.{stage_closed, closed_other}
 use Rattle.law_base.proofs.Stages.{stage_marked}
 use Rattle.law_base.proofs.Stages.{other_part}
 use Rattle.session_laws.proofs.Replying.{OpIs, dies, rolls, performs, reply_is}
-use Rattle.history_laws.proofs.Stepping.{Due, commits, votes, rules, KeptByDue, settled, Step, op_dies, op_answers, request_refused, request_doomed, request_again, request_new, request_closes, looks_well, looks_ill, drops, sends, prepare_closes, prepare_again, vote_counts, decision_comes, decision_again, done_counts, asked, reminds, flushes}
+use Rattle.history_cases.proofs.Stepping.{Due, commits, votes, rules, KeptByDue, settled, Step, op_dies, op_answers, request_refused, request_doomed, request_again, request_new, request_closes, looks_well, looks_ill, drops, sends, prepare_closes, prepare_again, vote_counts, decision_comes, decision_again, done_counts, asked, reminds, flushes}
 use Rattle.protocol_laws.proofs.Growing.{same}
 use Rattle.fate_laws.proofs.Inside.{Inside, inside_self, inside_then, inside_due, inside_step}
 use Rattle.fate_laws.proofs.Prepares.{NoMorePrepares, plain_more, rolled, op_answering, closes_with}

@@ -13,9 +13,9 @@ use Rattle.clv_base.specs.State.{Shard}
 use Rattle.clv_base.specs.Restarts.{run_after}
 use Rattle.clv_base.specs.Journals.{History, event_state}
 use Rattle.clv_base.specs.History.{Legal}
-use Rattle.history_laws.proofs.Entering.{Makes, makes}
-use Rattle.history_laws.proofs.Merging.{Placed, Among, among_append}
-use Rattle.history_laws.proofs.Worlds.{state_at}
+use Rattle.history_cases.proofs.Entering.{Makes, makes}
+use Rattle.history_cases.proofs.Merging.{Placed, Among, among_append}
+use Rattle.history_cases.proofs.Worlds.{state_at}
 use Rattle.fate_laws.proofs.Binding.{Bound, Reads}
 use Rattle.fate_laws.proofs.Bindings.{WasTaken, Sought, FineAt, SaysOut, says_made, Bindings, bindings_next, bindings_start, sought_not_own, sought_later, noted_bound, noted_reads}
 use Rattle.fate_laws.proofs.Fates.{Fated}

@@ -12,12 +12,12 @@ use Rattle.clv_base.specs.Journals.{History, final_of}
 use Rattle.clv_base.specs.declared.events.Event.TheVariants.{Request as RequestEvent}
 use Rattle.clv_base.specs.History.{Legal, Member, members, ops_in, request_of, acknowledged_in, logs_left}
 use Rattle.clv_base.proofs.SameNames.{tx_self}
-use Rattle.history_laws.proofs.Durability.{left_front}
-use Rattle.history_laws.proofs.Merging.{Placed, Among, among_is, is_among}
+use Rattle.history_cases.proofs.Durability.{left_front}
+use Rattle.history_cases.proofs.Merging.{Placed, Among, among_is, is_among}
 use Rattle.history_laws.proofs.Serials.{committed_front, left_at}
-use Rattle.history_laws.proofs.Telling.{IsRequest}
-use Rattle.history_laws.proofs.TellingEvents.{front_committed}
-use Rattle.history_laws.proofs.Worlds.{in_a_shard}
+use Rattle.history_cases.proofs.Telling.{IsRequest}
+use Rattle.history_cases.proofs.TellingEvents.{front_committed}
+use Rattle.history_cases.proofs.Worlds.{in_a_shard}
 use Rattle.fate_laws.specs.Members.{CommitsAreMembers}
 use Rattle.fate_laws.specs.Decisions.{IsTold, IsHome, CommitsStandAtHome, ToldCommitsStay, ToldAbortsStay}
 use Rattle.fate_laws.proofs.Homes.{Known}

@@ -30,8 +30,8 @@ use Rattle.law_base.proofs.Stages.{stage_own, stage_other, gone_by}
 use Rattle.shard_laws.proofs.Sound.{waiting_here}
 use Rattle.law_base.proofs.Sets.{in_filter}
 use Rattle.law_base.proofs.Successors.{through_all}
-use Rattle.history_laws.proofs.Stepping.{commits, votes, rules, KeptByDue}
-use Rattle.history_laws.proofs.Uncommitting.{rolled, with_more}
+use Rattle.history_cases.proofs.Stepping.{commits, votes, rules, KeptByDue}
+use Rattle.history_cases.proofs.Uncommitting.{rolled, with_more}
 use Rattle.fate_laws.proofs.Homes.{still_not, new_commit}
 use Rattle.fate_laws.proofs.Parts.{commit_agreed}
 use Rattle.fate_laws.proofs.Downwards.{Down, down_due}

@@ -24,7 +24,7 @@ use Rattle.clv_base.specs.Logs.{committed_in, in_doubt}
 use Rattle.history_laws.proofs.Serials.{committed_front}
 use Rattle.protocol_laws.proofs.Growing.{more_twice}
 use Rattle.law_base.proofs.Rows.{rows_get}
-use Rattle.history_laws.proofs.Telling.{all_map}
+use Rattle.history_cases.proofs.Telling.{all_map}
 use Rattle.clv_base.specs.Needs.{writes_of, value_at, key_of}
 use Rattle.clv_base.specs.State.{Shard, Local, is_present}
 use Rattle.clv_base.specs.Undo.{stage_of, roll_back}
@@ -42,8 +42,8 @@ use Rattle.law_base.proofs.Stages.{stage_marked}
 use Rattle.law_base.proofs.Stages.{other_part}
 use Rattle.shard_laws.proofs.Restoring.{restored_stage}
 use Rattle.session_laws.proofs.Replying.{OpIs, dies, rolls, performs, reply_is}
-use Rattle.history_laws.proofs.Stepping.{settled, Step, op_dies, op_answers, request_refused, request_doomed, request_again, request_new, request_closes, looks_well, looks_ill, drops, sends, prepare_closes, prepare_again, vote_counts, decision_comes, decision_again, done_counts, asked, reminds, flushes, Happens, finishes, stops}
-use Rattle.history_laws.proofs.Entering.{Makes, by_event, by_flush, by_failure, by_restart}
+use Rattle.history_cases.proofs.Stepping.{settled, Step, op_dies, op_answers, request_refused, request_doomed, request_again, request_new, request_closes, looks_well, looks_ill, drops, sends, prepare_closes, prepare_again, vote_counts, decision_comes, decision_again, done_counts, asked, reminds, flushes, Happens, finishes, stops}
+use Rattle.history_cases.proofs.Entering.{Makes, by_event, by_flush, by_failure, by_restart}
 use Rattle.fate_laws.proofs.HomesEvents.{awaits, put_get, counts_undecided}
 use Rattle.fate_laws.proofs.Closings.{Commits, alone, decided, step_commits, new_active}
 use Rattle.fate_laws.proofs.Downwards.{down_step, down_state, Owes as OwesDown}

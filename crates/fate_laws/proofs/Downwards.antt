@@ -30,13 +30,13 @@ use Rattle.law_base.proofs.Tables.{is_pair, pair_in, in_pair}
 use Rattle.law_base.proofs.Sets.{list_all_at}
 use Rattle.shard_laws.proofs.Sound.{agreed_before}
 use Rattle.shard_laws.proofs.Relisting.{pair_of}
-use Rattle.history_laws.proofs.Stepping.{Due, commits, votes, rules, KeptByDue, settled, Step, Happens, finishes, stops}
-use Rattle.history_laws.proofs.Entering.{Makes, by_event, by_flush, by_failure, by_restart, makes}
-use Rattle.history_laws.proofs.Merging.{Placed}
+use Rattle.history_cases.proofs.Stepping.{Due, commits, votes, rules, KeptByDue, settled, Step, Happens, finishes, stops}
+use Rattle.history_cases.proofs.Entering.{Makes, by_event, by_flush, by_failure, by_restart, makes}
+use Rattle.history_cases.proofs.Merging.{Placed}
 use Rattle.history_laws.proofs.Serials.{committed_front}
 use Rattle.history_laws.proofs.Staying.{walker_of}
-use Rattle.history_laws.proofs.Uncommitting.{with_more, rolled}
-use Rattle.history_laws.proofs.Worlds.{state_at}
+use Rattle.history_cases.proofs.Uncommitting.{with_more, rolled}
+use Rattle.history_cases.proofs.Worlds.{state_at}
 use Rattle.protocol_laws.specs.SessionLaws.{tx_of}
 use Rattle.fate_laws.specs.Downwards.{CommitsGoDownwards}
 use Rattle.fate_laws.proofs.Calm.{calm_step, calm_one}

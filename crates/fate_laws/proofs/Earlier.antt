@@ -8,7 +8,7 @@ use Rattle.clv_base.specs.LogRules.{log_of}
 use Rattle.clv_base.specs.Restarts.{run_after}
 use Rattle.clv_base.specs.Journals.{History}
 use Rattle.clv_base.specs.History.{logs_left}
-use Rattle.history_laws.proofs.Merging.{is_among}
+use Rattle.history_cases.proofs.Merging.{is_among}
 use Rattle.fate_laws.specs.Decisions.{IsTold}
 use Rattle.fate_laws.proofs.Deciding.{left_committed, told_aborts_stay}
 use Rattle.fate_laws.specs.Earlier.{IsEarlier, EarlierCommitsAreOfOpening, EarlierCommitsAreKnown, EarlierAbortsAreKnown, AbortsStay}

@@ -28,9 +28,9 @@ use Rattle.clv_base.specs.Events.{finish}
 use Rattle.law_base.proofs.Commits.{durable_committed}
 use Rattle.law_base.proofs.Rows.{rows_get, rows_set}
 use Rattle.law_base.proofs.Lists.{all_append}
-use Rattle.history_laws.proofs.Stepping.{commits, votes, rules, KeptByDue, settled}
-use Rattle.history_laws.proofs.Telling.{all_map}
-use Rattle.history_laws.proofs.Uncommitting.{NoMoreCommits, rolled as rolled_commits, with_more}
+use Rattle.history_cases.proofs.Stepping.{commits, votes, rules, KeptByDue, settled}
+use Rattle.history_cases.proofs.Telling.{all_map}
+use Rattle.history_cases.proofs.Uncommitting.{NoMoreCommits, rolled as rolled_commits, with_more}
 use Rattle.fate_laws.proofs.Prepares.{NoMorePrepares, prepare_new, plain_more, rolled as rolled_prepares}
 use Rattle.fate_laws.proofs.Parts.{commit_agreed, abort_undecided}
 use Rattle.fate_laws.proofs.Homes.{new_commit}

@@ -30,11 +30,11 @@ use Rattle.clv_base.specs.Journals.{up_to_restart}
 use Rattle.law_base.proofs.Rows.{rows_get, rows_put}
 use Rattle.law_base.proofs.Lists.{all_mono, all_append, all_of}
 use Rattle.law_base.proofs.Sets.{in_filter}
-use Rattle.history_laws.proofs.Stepping.{Step, op_dies, op_answers, request_refused, request_doomed, request_again, request_new, request_closes, looks_well, looks_ill, drops, sends, prepare_closes, prepare_again, vote_counts, decision_comes, decision_again, done_counts, asked, reminds, flushes, Happens, finishes, stops}
-use Rattle.history_laws.proofs.Entering.{Makes, by_event, by_flush, by_failure, by_restart}
-use Rattle.history_laws.proofs.Uncommitting.{rolled, dropped, op_dying, op_answering, restarts_add, opening_adds}
-use Rattle.history_laws.proofs.Telling.{all_map}
-use Rattle.history_laws.proofs.TellingEvents.{front_committed}
+use Rattle.history_cases.proofs.Stepping.{Step, op_dies, op_answers, request_refused, request_doomed, request_again, request_new, request_closes, looks_well, looks_ill, drops, sends, prepare_closes, prepare_again, vote_counts, decision_comes, decision_again, done_counts, asked, reminds, flushes, Happens, finishes, stops}
+use Rattle.history_cases.proofs.Entering.{Makes, by_event, by_flush, by_failure, by_restart}
+use Rattle.history_cases.proofs.Uncommitting.{rolled, dropped, op_dying, op_answering, restarts_add, opening_adds}
+use Rattle.history_cases.proofs.Telling.{all_map}
+use Rattle.history_cases.proofs.TellingEvents.{front_committed}
 use Rattle.fate_laws.proofs.Prepares.{front_prepare, opening_adds as opening_prepares, rolled as rolled_prepares, dropped as dropped_prepares, op_dying as dying_prepares, op_answering as answering_prepares, restarts_add as restarts_prepare}
 use Rattle.fate_laws.proofs.HomesEvents.{none_committed}
 use Rattle.fate_laws.proofs.Elder.{MayHave, MayAnswer, Tells, Opens, Elder, elder_log, elder_same, elder_commit, elder_prepare, elder_send, elder_set, opens_at, elder_durable, elder_finish}

@@ -19,11 +19,11 @@ use Rattle.clv_base.specs.Journals.{History, event_state, after_entry}
 use Rattle.clv_base.specs.History.{Legal, WasSent}
 use Rattle.law_base.proofs.Commits.{committed_keeps}
 use Rattle.protocol_laws.specs.SessionLaws.{tx_of}
-use Rattle.history_laws.proofs.Entering.{Makes, makes}
-use Rattle.history_laws.proofs.Merging.{Placed, Among, among_append, is_among}
+use Rattle.history_cases.proofs.Entering.{Makes, makes}
+use Rattle.history_cases.proofs.Merging.{Placed, Among, among_append, is_among}
 use Rattle.history_laws.proofs.Staying.{walker_of}
-use Rattle.history_laws.proofs.TellingEvents.{front_committed}
-use Rattle.history_laws.proofs.Worlds.{state_at}
+use Rattle.history_cases.proofs.TellingEvents.{front_committed}
+use Rattle.history_cases.proofs.Worlds.{state_at}
 use Rattle.fate_laws.proofs.Prefixes.{Next, walk_front, each_shard, DurableIn, Counts, counts_start, counts_next, durable_later}
 use Rattle.fate_laws.proofs.Opening.{opening_home}
 use Rattle.fate_laws.specs.Earlier.{WasCommitted}

@@ -3,7 +3,7 @@ use Rattle.std.proofs.Common.{◌≡◌, inl, inr, ⊎_elim, refl, sym, subst, �
 use Rattle.std.specs.Prelude.{⊤}
 use Rattle.std.specs.List.{list_all}
 use Rattle.std.proofs.lemmas.Bool.{and_parts, false_from_ne_true}
-use Rattle.history_laws.proofs.Telling.{IsRequest}
+use Rattle.history_cases.proofs.Telling.{IsRequest}
 use Rattle.clv_base.specs.declared.names.TxId.{TxId}
 use Rattle.clv_base.specs.declared.logs.LogRecord.{LogRecord}
 use Rattle.clv_base.specs.declared.messages.Message.{Message}
@@ -29,11 +29,11 @@ use Rattle.law_base.proofs.Options.{none_of}
 use Rattle.protocol_laws.proofs.Records.{own_prepare}
 use Rattle.protocol_laws.proofs.Runs.{record_fits}
 use Rattle.protocol_laws.proofs.LogsInOrder.{runs_in_order}
-use Rattle.history_laws.proofs.Entering.{makes}
-use Rattle.history_laws.proofs.Merging.{Placed, Among, among_append, among_right, is_among}
-use Rattle.history_laws.proofs.TellingEvents.{front_committed}
-use Rattle.history_laws.proofs.OldRuns.{below_next_run, none_of_this_run}
-use Rattle.history_laws.proofs.Worlds.{state_at}
+use Rattle.history_cases.proofs.Entering.{makes}
+use Rattle.history_cases.proofs.Merging.{Placed, Among, among_append, among_right, is_among}
+use Rattle.history_cases.proofs.TellingEvents.{front_committed}
+use Rattle.history_cases.proofs.OldRuns.{below_next_run, none_of_this_run}
+use Rattle.history_cases.proofs.Worlds.{state_at}
 use Rattle.fate_laws.proofs.Homes.{Known, Dead, Tells, Alone, Homed, words_on, MayCommit}
 use Rattle.fate_laws.proofs.HomesEvents.{Fresh, Owes, homed_opened}
 use Rattle.fate_laws.proofs.Entering.{Enters, ToldDead, SaysOut, homed_mono, durable_front, homed_made, says_made}

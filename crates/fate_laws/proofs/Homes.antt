@@ -34,9 +34,9 @@ use Rattle.law_base.proofs.Changed.{none_some, get_set}
 use Rattle.law_base.proofs.Rows.{rows_get, rows_set}
 use Rattle.law_base.proofs.Commits.{commit_durable, committed_append, durable_committed}
 use Rattle.law_base.proofs.Lists.{all_append}
-use Rattle.history_laws.proofs.Stepping.{Due, commits, votes, rules, KeptByDue, settled}
-use Rattle.history_laws.proofs.Uncommitting.{NoMoreCommits, rolled, with_more}
-use Rattle.history_laws.proofs.Telling.{all_map}
+use Rattle.history_cases.proofs.Stepping.{Due, commits, votes, rules, KeptByDue, settled}
+use Rattle.history_cases.proofs.Uncommitting.{NoMoreCommits, rolled, with_more}
+use Rattle.history_cases.proofs.Telling.{all_map}
 use Rattle.fate_laws.proofs.Inside.{Inside, inside_due, durable_before}
 use Rattle.fate_laws.proofs.Prepares.{NoMorePrepares, plain_more, rolled as rolled_prepares}
 

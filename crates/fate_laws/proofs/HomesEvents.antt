@@ -38,10 +38,10 @@ use Rattle.law_base.proofs.Lists.{all_mono, all_append, all_of}
 use Rattle.shard_laws.proofs.Sound.{waiting_here}
 use Rattle.shard_laws.proofs.Ordered.{prepare_some}
 use Rattle.law_base.proofs.Sets.{in_filter}
-use Rattle.history_laws.proofs.Stepping.{Step, op_dies, op_answers, request_refused, request_doomed, request_again, request_new, request_closes, looks_well, looks_ill, drops, sends, prepare_closes, prepare_again, vote_counts, decision_comes, decision_again, done_counts, asked, reminds, flushes}
-use Rattle.history_laws.proofs.Uncommitting.{with_more, rolled, dropped, op_dying, op_answering, restarts_add, opening_adds}
-use Rattle.history_laws.proofs.Telling.{all_map}
-use Rattle.history_laws.proofs.TellingEvents.{front_committed}
+use Rattle.history_cases.proofs.Stepping.{Step, op_dies, op_answers, request_refused, request_doomed, request_again, request_new, request_closes, looks_well, looks_ill, drops, sends, prepare_closes, prepare_again, vote_counts, decision_comes, decision_again, done_counts, asked, reminds, flushes}
+use Rattle.history_cases.proofs.Uncommitting.{with_more, rolled, dropped, op_dying, op_answering, restarts_add, opening_adds}
+use Rattle.history_cases.proofs.Telling.{all_map}
+use Rattle.history_cases.proofs.TellingEvents.{front_committed}
 use Rattle.fate_laws.proofs.Prepares.{prepare_new, front_prepare, opening_adds as opening_prepares, rolled as rolled_prepares, dropped as dropped_prepares, op_dying as dying_prepares, op_answering as answering_prepares, restarts_add as restarts_prepare}
 use Rattle.fate_laws.proofs.Restored.{unended_committed, restored_committed}
 use Rattle.fate_laws.proofs.Homes.{Known, Tells, Alone, Opens, Homed, tells_on, words_on, MayCommit, homed_log, homed_same, homed_commit, homed_send, homed_set, durable_known, alone_log, still_not, open_undecided, open_committed}

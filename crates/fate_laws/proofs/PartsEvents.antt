@@ -39,10 +39,10 @@ use Rattle.law_base.proofs.Tables.{is_pair, stage_in}
 use Rattle.law_base.proofs.Lists.{all_mono, all_append, all_of}
 use Rattle.law_base.proofs.Stages.{stage_own, gone_by}
 use Rattle.law_base.proofs.Sets.{in_filter}
-use Rattle.history_laws.proofs.Stepping.{Due, commits, votes, rules, KeptByDue, settled, Step, op_dies, op_answers, request_refused, request_doomed, request_again, request_new, request_closes, looks_well, looks_ill, drops, sends, prepare_closes, prepare_again, vote_counts, decision_comes, decision_again, done_counts, asked, reminds as reminds_step, flushes}
-use Rattle.history_laws.proofs.Telling.{all_map}
+use Rattle.history_cases.proofs.Stepping.{Due, commits, votes, rules, KeptByDue, settled, Step, op_dies, op_answers, request_refused, request_doomed, request_again, request_new, request_closes, looks_well, looks_ill, drops, sends, prepare_closes, prepare_again, vote_counts, decision_comes, decision_again, done_counts, asked, reminds as reminds_step, flushes}
+use Rattle.history_cases.proofs.Telling.{all_map}
 use Rattle.protocol_laws.proofs.Growing.{same as same_log}
-use Rattle.history_laws.proofs.Uncommitting.{with_more, rolled}
+use Rattle.history_cases.proofs.Uncommitting.{with_more, rolled}
 use Rattle.fate_laws.proofs.Inside.{Inside, inside_self, inside_step, inside_due}
 use Rattle.fate_laws.proofs.Calm.{Calm, calm_same, calm_step, step_keeps, calm_one, due_closed, due_prepares, there_closed}
 use Rattle.fate_laws.proofs.Closings.{step_prepares, Closes, by_request, by_prepare, step_closed, Commits, alone, decided, step_commits}

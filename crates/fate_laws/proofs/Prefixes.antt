@@ -10,11 +10,11 @@ use Rattle.clv_base.specs.State.{Shard}
 use Rattle.clv_base.specs.Restarts.{run_after, log_left}
 use Rattle.clv_base.specs.Journals.{History, start_of, after_entries}
 use Rattle.clv_base.specs.History.{Legal, WasSent, MessagesSent}
-use Rattle.history_laws.proofs.Durability.{Counted, Fronts, fronts_entry, opened_counted}
-use Rattle.history_laws.proofs.Merging.{Placed, Before, in_order, not_before_itself, before_then, Among, among_append, among_left, among_right, front_precedes, Precedes, precedes_before}
+use Rattle.history_cases.proofs.Durability.{Counted, Fronts, fronts_entry, opened_counted}
+use Rattle.history_cases.proofs.Merging.{Placed, Before, in_order, not_before_itself, before_then, Among, among_append, among_left, among_right, front_precedes, Precedes, precedes_before}
 use Rattle.history_laws.proofs.Serials.{committed_front}
-use Rattle.history_laws.proofs.Telling.{IsRequest}
-use Rattle.history_laws.proofs.Worlds.{sent_at, state_at, Split, split_at, in_a_shard}
+use Rattle.history_cases.proofs.Telling.{IsRequest}
+use Rattle.history_cases.proofs.Worlds.{sent_at, state_at, Split, split_at, in_a_shard}
 use Rattle.history_laws.proofs.Staying.{one_request}
 use Rattle.history_laws.proofs.Walking.{other_journal}
 

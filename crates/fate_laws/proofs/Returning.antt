@@ -24,10 +24,10 @@ use Rattle.shard_laws.proofs.Restoring.{restored_stage}
 use Rattle.shard_laws.proofs.Refalling.{all_durable}
 use Rattle.shard_laws.proofs.Ordered.{prepare_some}
 use Rattle.shard_laws.proofs.Relisting.{pair_append}
-use Rattle.history_laws.proofs.Telling.{all_map}
-use Rattle.history_laws.proofs.TellingEvents.{front_committed}
-use Rattle.history_laws.proofs.Durability.{restarts_front}
-use Rattle.history_laws.proofs.Uncommitting.{restarts_add}
+use Rattle.history_cases.proofs.Telling.{all_map}
+use Rattle.history_cases.proofs.TellingEvents.{front_committed}
+use Rattle.history_cases.proofs.Durability.{restarts_front}
+use Rattle.history_cases.proofs.Uncommitting.{restarts_add}
 use Rattle.fate_laws.proofs.Prepares.{front_prepare, restarts_add as restarts_prepare}
 use Rattle.fate_laws.proofs.Binding.{Bound, Reads, Ordered}
 use Rattle.fate_laws.proofs.Parts.{HomeOr, Good, Parted, longer_ordered}

@@ -28,11 +28,11 @@ use Rattle.clv_base.specs.History.{Legal, WasSent}
 use Rattle.clv_base.proofs.SameNames.{tx_true, tx_self}
 use Rattle.law_base.proofs.Changed.{none_some}
 use Rattle.protocol_laws.specs.SessionLaws.{tx_of, works_on, ended_by}
-use Rattle.history_laws.proofs.Stepping.{FindsIll}
-use Rattle.history_laws.proofs.Entering.{Makes, by_event, by_flush, by_failure, by_restart, makes}
-use Rattle.history_laws.proofs.Durability.{framed_finish, happens_steps}
-use Rattle.history_laws.proofs.Merging.{Placed, in_order, not_before_itself, before_then, Among, among_append, from_journal, in_turn, precedes_before, own_in_order, is_among}
-use Rattle.history_laws.proofs.TellingEvents.{front_committed}
+use Rattle.history_cases.proofs.Stepping.{FindsIll}
+use Rattle.history_cases.proofs.Entering.{Makes, by_event, by_flush, by_failure, by_restart, makes}
+use Rattle.history_cases.proofs.Durability.{framed_finish, happens_steps}
+use Rattle.history_cases.proofs.Merging.{Placed, in_order, not_before_itself, before_then, Among, among_append, from_journal, in_turn, precedes_before, own_in_order, is_among}
+use Rattle.history_cases.proofs.TellingEvents.{front_committed}
 use Rattle.history_laws.specs.Outcomes.{is_abort}
 use Rattle.history_laws.proofs.Walkers.{nothing_follows}
 use Rattle.history_laws.proofs.Endings.{names, nothing_after_end}
@@ -41,7 +41,7 @@ use Rattle.protocol_laws.proofs.InOrder.{sessions_keep_order}
 use Rattle.clv_base.specs.History.{is_acknowledgement}
 use Rattle.clv_base.specs.declared.names.Birth.{Birth}
 use Rattle.clv_base.specs.declared.ops.Op.{Op}
-use Rattle.history_laws.proofs.Worlds.{state_at, journal_append}
+use Rattle.history_cases.proofs.Worlds.{state_at, journal_append}
 use Rattle.history_laws.proofs.Staying.{walker_of, together}
 use Rattle.session_laws.proofs.Dropping.{drop_after_request}
 use Rattle.session_laws.proofs.Looking.{IllOf, ill, ill_happens}

@@ -16,11 +16,11 @@ use Rattle.clv_base.specs.Restarts.{log_left, revived}
 use Rattle.clv_base.specs.Journals.{up_to_restart}
 use Rattle.protocol_laws.specs.Growth.{IsPrefixOf}
 use Rattle.protocol_laws.proofs.Growing.{same, chain}
-use Rattle.history_laws.proofs.Stepping.{Happens, finishes, stops}
-use Rattle.history_laws.proofs.Entering.{Makes, by_event, by_flush, by_failure, by_restart}
-use Rattle.history_laws.proofs.Durability.{Counted, left_front, restarts_front}
+use Rattle.history_cases.proofs.Stepping.{Happens, finishes, stops}
+use Rattle.history_cases.proofs.Entering.{Makes, by_event, by_flush, by_failure, by_restart}
+use Rattle.history_cases.proofs.Durability.{Counted, left_front, restarts_front}
 use Rattle.history_laws.proofs.Serials.{committed_front}
-use Rattle.history_laws.proofs.TellingEvents.{front_committed}
+use Rattle.history_cases.proofs.TellingEvents.{front_committed}
 use Rattle.fate_laws.proofs.Inside.{inside_self}
 use Rattle.fate_laws.proofs.Prepares.{prepare_more, front_prepare}
 use Rattle.fate_laws.proofs.Homes.{still_not}

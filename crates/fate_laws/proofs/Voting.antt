@@ -19,8 +19,8 @@ use Rattle.clv_base.proofs.SameNames.{tx_true, tx_self}
 use Rattle.law_base.proofs.Tables.{is_pair, pair_in, in_pair}
 use Rattle.law_base.proofs.Sets.{in_filter, list_all_at}
 use Rattle.law_base.proofs.Successors.{through_all}
-use Rattle.history_laws.proofs.Merging.{is_among}
-use Rattle.history_laws.proofs.Worlds.{state_at}
+use Rattle.history_cases.proofs.Merging.{is_among}
+use Rattle.history_cases.proofs.Worlds.{state_at}
 use Rattle.fate_laws.specs.Votes.{Keeps, VotesBind, OthersAbortsSpareIt}
 use Rattle.fate_laws.proofs.Arriving.{listed_is}
 use Rattle.fate_laws.proofs.Binding.{Bound}

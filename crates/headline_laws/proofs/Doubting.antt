@@ -22,10 +22,10 @@ use Rattle.clv_base.specs.Journals.{History, final_of}
 use Rattle.clv_base.specs.History.{Legal, IsAmong, logs_left}
 use Rattle.protocol_laws.specs.Growth.{IsPrefixOf}
 use Rattle.protocol_laws.specs.SessionLaws.{tx_of}
-use Rattle.history_laws.proofs.Durability.{left_front}
-use Rattle.history_laws.proofs.Merging.{is_among}
+use Rattle.history_cases.proofs.Durability.{left_front}
+use Rattle.history_cases.proofs.Merging.{is_among}
 use Rattle.history_laws.proofs.Staying.{walker_of}
-use Rattle.history_laws.proofs.Worlds.{in_a_shard}
+use Rattle.history_cases.proofs.Worlds.{in_a_shard}
 use Rattle.fate_laws.specs.Binding.{HasItsPart}
 use Rattle.fate_laws.specs.Decisions.{is_left}
 use Rattle.fate_laws.proofs.Arriving.{commits_have_their_parts}

@@ -17,9 +17,9 @@ use Rattle.clv_base.specs.Journals.{History}
 use Rattle.clv_base.specs.Logs.{committed_in}
 use Rattle.clv_base.specs.LogRules.{log_of}
 use Rattle.clv_base.specs.History.{Legal, IsAmong, acknowledged_in, logs_left}
-use Rattle.history_laws.proofs.Merging.{is_among, among_is}
+use Rattle.history_cases.proofs.Merging.{is_among, among_is}
 use Rattle.history_laws.proofs.Staying.{is_request}
-use Rattle.history_laws.proofs.Worlds.{in_a_shard}
+use Rattle.history_cases.proofs.Worlds.{in_a_shard}
 use Rattle.fate_laws.specs.Decisions.{is_left}
 use Rattle.acknowledged_laws.proofs.Voting.{members_are_voted_for}
 use Rattle.many_shards_laws.specs.Replaying.{IsHere}

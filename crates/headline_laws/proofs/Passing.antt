@@ -19,7 +19,7 @@ use Rattle.clv_base.specs.Restarts.{run_after}
 use Rattle.clv_base.specs.Journals.{History, final_of}
 use Rattle.clv_base.specs.History.{Legal, IsAmong}
 use Rattle.protocol_laws.specs.SessionLaws.{tx_of}
-use Rattle.history_laws.proofs.Merging.{is_among}
+use Rattle.history_cases.proofs.Merging.{is_among}
 use Rattle.history_laws.proofs.Staying.{walker_of}
 use Rattle.shard_laws.specs.OneShard.{Passes, found_items, found_asked, found_met}
 use Rattle.shard_laws.proofs.Following.{from_disorder}

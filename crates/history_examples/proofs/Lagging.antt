@@ -7,7 +7,7 @@ use Rattle.clv_base.specs.Shards.{shard_count}
 use Rattle.clv_base.specs.Sessions.{is_of_session}
 use Rattle.clv_base.specs.Journals.{History, journal_of}
 use Rattle.protocol_laws.specs.Growth.{IsPrefixOf}
-use Rattle.history_laws.proofs.Merging.{Placed, Among, is_among}
+use Rattle.history_cases.proofs.Merging.{Placed, Among, is_among}
 use Rattle.journal_laws.specs.Cuts.{session_entries}
 use Rattle.history_examples.specs.Noted.{splits}
 use Rattle.history_examples.specs.Aborted.{dies, refused}

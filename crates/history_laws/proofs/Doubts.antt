@@ -14,7 +14,7 @@ use Rattle.clv_base.specs.Restarts.{greatest_run, run_after}
 use Rattle.protocol_laws.proofs.LogsInOrder.{runs_in_order}
 use Rattle.protocol_laws.proofs.Records.{own_prepare}
 use Rattle.protocol_laws.proofs.Runs.{record_fits}
-use Rattle.history_laws.proofs.OldRuns.{below_next_run}
+use Rattle.history_cases.proofs.OldRuns.{below_next_run}
 use Rattle.history_laws.proofs.Found.{found_in_order}
 
 abbrev pub Undecided : List LogRecord → List LogRecord → TxId → Type 0

@@ -15,7 +15,7 @@ use Rattle.clv_base.specs.Sessions.{Phase, Touching, Ended, Standing, Told, Refu
 use Rattle.clv_base.specs.History.{is_acknowledgement}
 use Rattle.clv_base.proofs.SameNames.{tx_true}
 use Rattle.history_laws.specs.Outcomes.{is_abort}
-use Rattle.history_laws.proofs.Merging.{Placed, Among, Precedes}
+use Rattle.history_cases.proofs.Merging.{Placed, Among, Precedes}
 
 -- a phase that nothing but drops follows
 is_over : Phase → Bool

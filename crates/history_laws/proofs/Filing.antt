@@ -38,9 +38,9 @@ use Rattle.clv_base.specs.Restarts.{log_left, revived, opened, unended_in, Resta
 use Rattle.clv_base.specs.Journals.{after_entry, event_state, up_to_restart, MayEnter}
 use Rattle.law_base.proofs.Rows.{rows_get, rows_set, rows_put}
 use Rattle.law_base.proofs.Lists.{all_append, all_of, AreShards}
-use Rattle.history_laws.proofs.Stepping.{commits, votes, rules, KeptByDue, settled, Step, op_dies, op_answers, request_refused, request_doomed, request_again, request_new, request_closes, looks_well, looks_ill, drops, sends, prepare_closes, prepare_again, vote_counts, decision_comes, decision_again, done_counts, asked, reminds, flushes, Happens, finishes, stops}
-use Rattle.history_laws.proofs.Entering.{Makes, by_event, by_flush, by_failure, by_restart, makes}
-use Rattle.history_laws.proofs.Telling.{all_map}
+use Rattle.history_cases.proofs.Stepping.{commits, votes, rules, KeptByDue, settled, Step, op_dies, op_answers, request_refused, request_doomed, request_again, request_new, request_closes, looks_well, looks_ill, drops, sends, prepare_closes, prepare_again, vote_counts, decision_comes, decision_again, done_counts, asked, reminds, flushes, Happens, finishes, stops}
+use Rattle.history_cases.proofs.Entering.{Makes, by_event, by_flush, by_failure, by_restart, makes}
+use Rattle.history_cases.proofs.Telling.{all_map}
 use Rattle.history_laws.proofs.Offers.{OffersBy}
 use Rattle.history_laws.proofs.Records.{Passes, passes_more, passes_front, rolled_pass, dropped_pass, op_leaves, closed_pass, opened_pass, restarts_pass}
 

@@ -18,11 +18,11 @@ use Rattle.protocol_laws.specs.SessionLaws.{tx_of}
 use Rattle.protocol_laws.proofs.InOrder.{sessions_keep_order}
 use Rattle.history_laws.specs.Ordering.{SerialRises, AreInSessionOrder, SessionsKeepTheirOrder}
 use Rattle.history_laws.specs.Outcomes.{is_abort, aborted_in_history, OneOutcome}
-use Rattle.history_laws.proofs.Merging.{Placed, Before, before_then, not_before_itself, InOrder, in_order, Among, among_all, in_turn, precedes_before, own_in_order}
+use Rattle.history_cases.proofs.Merging.{Placed, Before, before_then, not_before_itself, InOrder, in_order, Among, among_all, in_turn, precedes_before, own_in_order}
 use Rattle.history_laws.proofs.Serials.{any_among, member_at}
 use Rattle.history_laws.proofs.Walkers.{serials_follow}
 use Rattle.history_laws.proofs.Endings.{names, nothing_after_end, nothing_after_success}
-use Rattle.history_laws.proofs.Telling.{IsRequest}
+use Rattle.history_cases.proofs.Telling.{IsRequest}
 use Rattle.history_laws.proofs.Staying.{walker_of, together, together_by_walker, one_request, is_request}
 use Rattle.law_base.proofs.Logs.{is_in}
 

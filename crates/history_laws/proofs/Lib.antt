@@ -1,14 +1,7 @@
-pub mod Stepping
-pub mod Entering
-pub mod Durability
-pub mod Merging
+pub mod Sublists
+pub mod Continuing
 pub mod Serials
 pub mod Walkers
-pub mod Uncommitting
-pub mod Telling
-pub mod TellingEvents
-pub mod OldRuns
-pub mod Worlds
 pub mod Staying
 pub mod InTurn
 pub mod Endings

@@ -22,7 +22,7 @@ use Rattle.clv_base.specs.Sessions.{SessionState, no_session, lies_in, goes_on, 
 use Rattle.clv_base.specs.Restarts.{run_after}
 use Rattle.clv_base.specs.Journals.{History, own}
 use Rattle.clv_base.specs.History.{Legal}
-use Rattle.history_laws.proofs.Merging.{Placed, Among, among_all, in_own}
+use Rattle.history_cases.proofs.Merging.{Placed, Among, among_all, in_own}
 use Rattle.law_base.proofs.Lists.{AreShards}
 
 abbrev pub OffersBy : List ℕ → ℕ → Event → Outcome → Type 0

@@ -14,9 +14,9 @@ use Rattle.clv_base.specs.Restarts.{run_after, log_left}
 use Rattle.clv_base.specs.Journals.{History, start_of, final_of, logs_left_from}
 use Rattle.clv_base.specs.History.{Legal, WasSent, logs_left}
 use Rattle.law_base.proofs.Restarts.{left_length as length_from}
-use Rattle.history_laws.proofs.Merging.{Placed, is_among}
-use Rattle.history_laws.proofs.Worlds.{state_at}
-use Rattle.history_laws.proofs.Durability.{Counted, fronts_entry, opened_counted}
+use Rattle.history_cases.proofs.Merging.{Placed, is_among}
+use Rattle.history_cases.proofs.Worlds.{state_at}
+use Rattle.history_cases.proofs.Durability.{Counted, fronts_entry, opened_counted}
 use Rattle.history_laws.specs.Passing.{pass_file_rules}
 use Rattle.history_laws.proofs.Walking.{Walked, Steps, walked}
 use Rattle.history_laws.proofs.Offers.{OffersBy, offered}

@@ -27,13 +27,15 @@ use Rattle.clv_base.proofs.SameNames.{tx_true}
 use Rattle.protocol_laws.specs.SessionLaws.{tx_of, works_on, ended_by}
 use Rattle.protocol_laws.proofs.InOrder.{sessions_keep_order}
 use Rattle.history_laws.specs.Continuing.{IsSublistOf, GoesOn, NeverTakenBack}
-use Rattle.history_laws.proofs.Durability.{later_front, opened_counted}
-use Rattle.history_laws.proofs.Merging.{Placed, InOrder, in_order, Among, among_front, among_append, Precedes, in_turn, precedes_before, in_journal, from_journal, in_own, own_in_order, journal_precedes, front_precedes, stamps_follow, stamps_rise, sublist}
+use Rattle.history_cases.proofs.Durability.{opened_counted}
+use Rattle.history_laws.proofs.Continuing.{later_front}
+use Rattle.history_cases.proofs.Merging.{Placed, InOrder, in_order, Among, among_front, among_append, Precedes, in_turn, precedes_before, in_journal, from_journal, in_own, own_in_order, journal_precedes, front_precedes, stamps_follow, stamps_rise}
+use Rattle.history_laws.proofs.Sublists.{sublist}
 use Rattle.history_laws.proofs.Serials.{op_at, same_ops, any_in, any_among, committed_front, Stays, members_stay, left_at}
 use Rattle.history_laws.proofs.Walkers.{has, of_session, nothing_follows, request_names}
-use Rattle.history_laws.proofs.Telling.{IsRequest, AskedAfter, Voted}
-use Rattle.history_laws.proofs.TellingEvents.{SaysWell, front_committed}
-use Rattle.history_laws.proofs.Worlds.{world, in_a_shard}
+use Rattle.history_cases.proofs.Telling.{IsRequest, AskedAfter, Voted}
+use Rattle.history_cases.proofs.TellingEvents.{SaysWell, front_committed}
+use Rattle.history_cases.proofs.Worlds.{world, in_a_shard}
 use Rattle.law_base.proofs.Logs.{is_in}
 
 -- ---- a transaction's session

@@ -8,8 +8,8 @@ use Rattle.clv_base.specs.LogRules.{log_of}
 use Rattle.clv_base.specs.State.{Shard}
 use Rattle.clv_base.specs.Journals.{History, journal_of, start_of, after_entries, own}
 use Rattle.clv_base.specs.History.{Legal, WasSent, MessagesSent}
-use Rattle.history_laws.proofs.Merging.{Placed, Before, InOrder, in_order, before_then, not_before_itself, Among, among_all, among_append, among_left, among_right, front_precedes, precedes_before, Precedes}
-use Rattle.history_laws.proofs.Worlds.{journal_append, sent_at, state_at, Split, split_at, in_a_shard}
+use Rattle.history_cases.proofs.Merging.{Placed, Before, InOrder, in_order, before_then, not_before_itself, Among, among_all, among_append, among_left, among_right, front_precedes, precedes_before, Precedes}
+use Rattle.history_cases.proofs.Worlds.{journal_append, sent_at, state_at, Split, split_at, in_a_shard}
 
 -- ---- the entry behind a front of the history
 

@@ -36,7 +36,7 @@ use Rattle.clv_base.specs.Journals.{has_equal_active_birth, flush_state, FlushMa
 use Rattle.clv_base.proofs.SameNames.{nat_cmp_true}
 use Rattle.law_base.proofs.Rows.{rows_put}
 use Rattle.law_base.proofs.Tables.{then_eq}
-use Rattle.history_laws.proofs.Stepping.{commits, votes, rules, KeptByDue, settled, Step, op_dies, op_answers, request_refused, request_doomed, request_again, request_new, request_closes, looks_well, looks_ill, drops, sends, prepare_closes, prepare_again, vote_counts, decision_comes, decision_again, done_counts, asked, reminds, flushes, Happens, finishes, stops, happened}
+use Rattle.history_cases.proofs.Stepping.{commits, votes, rules, KeptByDue, settled, Step, op_dies, op_answers, request_refused, request_doomed, request_again, request_new, request_closes, looks_well, looks_ill, drops, sends, prepare_closes, prepare_again, vote_counts, decision_comes, decision_again, done_counts, asked, reminds, flushes, Happens, finishes, stops, happened}
 use Rattle.clv_base.specs.Machines.{BecomesBy, Runs}
 use Rattle.journal_laws.specs.Births.{LeavesBirth, FreeBirthsStay, OpenedHasNone, BearsWalker, OthersLeaveBirths, NewBirthsAreFree}
 use Rattle.journal_laws.specs.Walkers.{by_walker}

@@ -9,8 +9,8 @@ use Rattle.clv_base.specs.Journals.{History, journal_of, own}
 use Rattle.clv_base.specs.History.{WasSent, MessagesSent}
 use Rattle.protocol_laws.specs.Growth.{IsPrefixOf}
 use Rattle.law_base.proofs.Lists.{all_mono}
-use Rattle.history_laws.proofs.Merging.{Placed, Before, InOrder, in_order, stamps_follow, among_left}
-use Rattle.history_laws.proofs.Worlds.{journal_append}
+use Rattle.history_cases.proofs.Merging.{Placed, Before, InOrder, in_order, stamps_follow, among_left}
+use Rattle.history_cases.proofs.Worlds.{journal_append}
 use Rattle.journal_laws.proofs.Ordering.{ordered}
 use Rattle.journal_laws.proofs.Owning.{own_append, was_sent_more}
 use Rattle.journal_laws.specs.Cuts.{FrontsAreCuts, entries_until, MomentsAreCuts, WholeWalkersServe, LegalFrontsAreCuts}

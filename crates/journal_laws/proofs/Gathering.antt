@@ -13,7 +13,7 @@ use Rattle.clv_base.specs.Sessions.{is_session, is_of_session, is_session_number
 use Rattle.clv_base.specs.Journals.{History, journal_of, own, start_of, final_of, MayLeave}
 use Rattle.clv_base.specs.History.{Legal, MessagesSent}
 use Rattle.law_base.proofs.Lists.{all_mono}
-use Rattle.history_laws.proofs.Merging.{Placed, InOrder, Among, in_own, own_in_order}
+use Rattle.history_cases.proofs.Merging.{Placed, InOrder, Among, in_own, own_in_order}
 use Rattle.history_replay.specs.Entries.{on_shard, entries_of}
 use Rattle.clv_base.specs.Machines.{Runs}
 use Rattle.journal_laws.specs.Walkers.{StampsRise, is_numbered, by_walker}

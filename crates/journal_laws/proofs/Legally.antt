@@ -15,9 +15,10 @@ use Rattle.clv_base.specs.History.{Legal, WasSent, MessagesSent}
 use Rattle.protocol_laws.specs.Growth.{IsPrefixOf}
 use Rattle.protocol_laws.proofs.Growing.{chain}
 use Rattle.history_laws.specs.Continuing.{IsSublistOf}
-use Rattle.history_laws.proofs.Merging.{Placed, Before, InOrder, Among, in_order, among_append, among_front, among_all, among_is, is_among, in_journal, from_journal, sublist, stamps_follow}
-use Rattle.history_laws.proofs.Entering.{after_append, run_first, run_second}
-use Rattle.history_laws.proofs.Durability.{opened_counted}
+use Rattle.history_cases.proofs.Merging.{Placed, Before, InOrder, Among, in_order, among_append, among_front, among_all, among_is, is_among, in_journal, from_journal, stamps_follow}
+use Rattle.history_laws.proofs.Sublists.{sublist}
+use Rattle.history_cases.proofs.Entering.{after_append, run_first, run_second}
+use Rattle.history_cases.proofs.Durability.{opened_counted}
 use Rattle.clv_base.specs.Machines.{Runs}
 use Rattle.journal_laws.proofs.Running.{fronts_run, leaves_front}
 use Rattle.journal_laws.proofs.Owning.{each_among, among_each}

@@ -16,7 +16,7 @@ use Rattle.clv_base.specs.Journals.{up_to_restart, reply_state, restart_state, e
 use Rattle.protocol_laws.specs.Growth.{IsPrefixOf}
 use Rattle.protocol_laws.proofs.Growing.{chain}
 use Rattle.history_laws.specs.Continuing.{SameAtRestart, SameAtRestarts}
-use Rattle.history_laws.proofs.Durability.{Counted}
+use Rattle.history_cases.proofs.Durability.{Counted}
 use Rattle.clv_base.specs.Machines.{BecomesBy, Makes, Runs}
 use Rattle.journal_laws.proofs.Running.{enters, fronts_made, fronts_run}
 

@@ -20,7 +20,7 @@ use Rattle.clv_base.specs.Restarts.{log_left}
 use Rattle.clv_base.specs.Journals.{MayLeave}
 use Rattle.protocol_laws.specs.Growth.{IsPrefixOf}
 use Rattle.protocol_laws.proofs.Growing.{same}
-use Rattle.history_laws.proofs.Durability.{failed_front}
+use Rattle.history_cases.proofs.Durability.{failed_front}
 use Rattle.journal_laws.specs.Worlds.{shard_at}
 
 pub notes_are_runs : NotesAreRuns

@@ -16,8 +16,8 @@ use Rattle.clv_base.specs.State.{Shard}
 use Rattle.clv_base.specs.Restarts.{opened}
 use Rattle.clv_base.specs.Sessions.{SessionState, no_session, is_number, lies_in, is_touching, session_for, op_answered, op_in_session, same_touched, is_lowest, requested, looked, stands_at, session_after, makes_from}
 use Rattle.clv_base.specs.Journals.{History, stamp_bound}
-use Rattle.history_laws.proofs.Merging.{Placed}
-use Rattle.history_laws.proofs.Stepping.{Step, op_dies, op_answers, request_refused, request_doomed, request_again, request_new, request_closes, looks_well, looks_ill, drops, sends, prepare_closes, prepare_again, vote_counts, decision_comes, decision_again, done_counts, asked, reminds, flushes, Happens, finishes, stops, happened}
+use Rattle.history_cases.proofs.Merging.{Placed}
+use Rattle.history_cases.proofs.Stepping.{Step, op_dies, op_answers, request_refused, request_doomed, request_again, request_new, request_closes, looks_well, looks_ill, drops, sends, prepare_closes, prepare_again, vote_counts, decision_comes, decision_again, done_counts, asked, reminds, flushes, Happens, finishes, stops, happened}
 use Rattle.clv_base.specs.Machines.{BecomesBy, Makes, Runs}
 use Rattle.journal_laws.specs.Worlds.{LandsInTime}
 use Rattle.journal_laws.specs.Offers.{hoped_for, EachOutcomeGoesOn, FlyingIsInTime}

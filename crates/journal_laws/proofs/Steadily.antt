@@ -24,8 +24,8 @@ use Rattle.clv_base.specs.Core.{World, new_world, opened_from, clock_of, put_ent
 use Rattle.clv_base.specs.Runs.{was_sent, goes_on_session, is_allowed, allows_answer, run_on, run_from, run_events}
 use Rattle.law_base.proofs.Lists.{all_mono, few_shards as few_splits}
 use Rattle.law_base.proofs.Restarts.{left_length}
-use Rattle.history_laws.proofs.Durability.{opened_counted}
-use Rattle.history_laws.proofs.Merging.{Placed, InOrder, in_order, Among, among_all, in_journal}
+use Rattle.history_cases.proofs.Durability.{opened_counted}
+use Rattle.history_cases.proofs.Merging.{Placed, InOrder, in_order, Among, among_all, in_journal}
 use Rattle.history_laws.proofs.Serials.{left_at}
 use Rattle.clv_base.specs.Machines.{Makes, Runs}
 use Rattle.journal_laws.specs.Walkers.{StampsRise, is_numbered}

@@ -12,7 +12,7 @@ use Rattle.clv_base.specs.Events.{Reply, QuietBeforeWorn, QuietAfterWorn, Does, 
 use Rattle.clv_base.specs.Restarts.{log_left, log_after_restart, next_epoch, revived, revive_down, untouched}
 use Rattle.clv_base.specs.Journals.{has_equal_active_birth, has_no_equal_active_birth, stamp_bound}
 use Rattle.clv_base.specs.Core.{answer_by, entry_of}
-use Rattle.history_laws.proofs.Durability.{framed_finish}
+use Rattle.history_cases.proofs.Durability.{framed_finish}
 use Rattle.clv_base.specs.Machines.{BecomesBy, Makes}
 use Rattle.law_base.proofs.Shards.{does_after, does_outcome, same_after, same_outcome}
 

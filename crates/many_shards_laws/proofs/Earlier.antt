@@ -18,7 +18,7 @@ use Rattle.protocol_laws.specs.Growth.{IsPrefixOf}
 use Rattle.protocol_laws.proofs.Growing.{chain, more}
 use Rattle.shard_laws.proofs.Following.{Follows, Plainly, from_disorder, last_push}
 use Rattle.shard_laws.proofs.Changes.{wrote_append}
-use Rattle.history_laws.proofs.Durability.{fronts_entries, opened_counted, left_front}
+use Rattle.history_cases.proofs.Durability.{fronts_entries, opened_counted, left_front}
 use Rattle.history_laws.proofs.Serials.{committed_front}
 use Rattle.fate_laws.proofs.Deciding.{left_committed, log_now}
 use Rattle.fate_laws.proofs.Writing.{restart_writes_none}

@@ -15,7 +15,7 @@ use Rattle.clv_base.specs.History.{Legal, Member, members, request_of, ops_in, l
 use Rattle.clv_base.proofs.SameNames.{tx_true, tx_self}
 use Rattle.protocol_laws.specs.SessionLaws.{tx_of}
 use Rattle.history_laws.specs.Continuing.{serial_left}
-use Rattle.history_laws.proofs.Merging.{Placed, Among}
+use Rattle.history_cases.proofs.Merging.{Placed, Among}
 use Rattle.history_laws.proofs.Staying.{walker_of, one_request, is_request}
 use Rattle.fate_laws.specs.Members.{is_member}
 use Rattle.fate_laws.proofs.Deciding.{commits_are_members}

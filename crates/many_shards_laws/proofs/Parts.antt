@@ -20,7 +20,8 @@ use Rattle.clv_base.specs.History.{Member, members, request_of, acknowledged_in,
 use Rattle.clv_base.specs.Logs.{committed_in, stands}
 use Rattle.history_laws.specs.Continuing.{serial_left}
 use Rattle.clv_base.specs.Maps.{replay_map, replay_answers}
-use Rattle.history_laws.proofs.Laws.{Placed, Among, in_a_shard}
+use Rattle.history_cases.proofs.Merging.{Placed, Among}
+use Rattle.history_cases.proofs.Worlds.{in_a_shard}
 use Rattle.history_laws.proofs.Laws.{Offers, OffersBy, offered, logs_left_pass, left_length}
 use Rattle.many_shards_laws.specs.Shares.{ShardOp, ops_of, answers_of, all_ops, all_answers, LiesIn, LieIn}
 use Rattle.many_shards_laws.proofs.ShardReplaying.{replay_by_shards}

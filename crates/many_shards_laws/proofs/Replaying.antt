@@ -19,7 +19,7 @@ use Rattle.protocol_laws.specs.SessionLaws.{tx_of}
 use Rattle.law_base.proofs.Sets.{in_filter}
 use Rattle.law_base.proofs.Running.{fold_writers}
 use Rattle.history_laws.specs.Continuing.{serial_left}
-use Rattle.history_laws.proofs.Durability.{Fronts, fronts_entries, opened_counted}
+use Rattle.history_cases.proofs.Durability.{Fronts, fronts_entries, opened_counted}
 use Rattle.history_laws.proofs.Staying.{walker_of}
 use Rattle.shard_laws.specs.OneShard.{Leads, MayChoose, Passes, ops_by, answers_by, found_items, found_asked, found_met, map_found}
 use Rattle.shard_laws.proofs.Changes.{wrote_append}

@@ -23,7 +23,7 @@ use Rattle.clv_base.specs.History.{WasSent, request_of}
 use Rattle.clv_base.proofs.SameNames.{tx_true, tx_self}
 use Rattle.law_base.proofs.Changed.{some_same, none_some}
 use Rattle.law_base.proofs.Rows.{rows_get}
-use Rattle.history_laws.proofs.Merging.{Among, among_is, is_among}
+use Rattle.history_cases.proofs.Merging.{Among, among_is, is_among}
 use Rattle.history_laws.proofs.Walking.{next_entry}
 use Rattle.origin_laws.specs.Origins.{answered_as, WasAnsweredAs, WasEverAnswered, WasAskedAt, WasAsked, WasAskedAway, ComesOf, AllComesOfEntries, PreparesComeOfRequests}
 use Rattle.origin_laws.proofs.Sessions.{Requested}

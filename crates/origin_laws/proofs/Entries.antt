@@ -35,15 +35,15 @@ use Rattle.law_base.proofs.Tables.{get_put}
 use Rattle.law_base.proofs.Options.{none_of}
 use Rattle.law_base.proofs.Restarts.{epoch_own}
 use Rattle.law_base.proofs.Stages.{written_parts}
-use Rattle.history_laws.proofs.Stepping.{with_work, Step, op_answers, sends, Happens, finishes, stops}
-use Rattle.history_laws.proofs.Entering.{Makes, by_event, by_flush, by_failure, by_restart, makes}
-use Rattle.history_laws.proofs.Merging.{Placed, Before, before_then, Among, among_append, among_left, among_right, is_among}
-use Rattle.history_laws.proofs.Durability.{Counted, fronts_entry, opened_counted}
-use Rattle.history_laws.proofs.Telling.{IsRequest}
-use Rattle.history_laws.proofs.OldRuns.{below_next_run}
+use Rattle.history_cases.proofs.Stepping.{with_work, Step, op_answers, sends, Happens, finishes, stops}
+use Rattle.history_cases.proofs.Entering.{Makes, by_event, by_flush, by_failure, by_restart, makes}
+use Rattle.history_cases.proofs.Merging.{Placed, Before, before_then, Among, among_append, among_left, among_right, is_among}
+use Rattle.history_cases.proofs.Durability.{Counted, fronts_entry, opened_counted}
+use Rattle.history_cases.proofs.Telling.{IsRequest}
+use Rattle.history_cases.proofs.OldRuns.{below_next_run}
 use Rattle.protocol_laws.proofs.LogsInOrder.{runs_in_order}
 use Rattle.protocol_laws.specs.Order.{RunFits}
-use Rattle.history_laws.proofs.Worlds.{state_at}
+use Rattle.history_cases.proofs.Worlds.{state_at}
 use Rattle.session_laws.proofs.Walking.{SeenIs, AnswersAt}
 use Rattle.session_laws.proofs.Replying.{OpIs, performs, reply_is, answered_epoch}
 use Rattle.history_laws.proofs.Walking.{Behind, Walked, Steps, walked_front}

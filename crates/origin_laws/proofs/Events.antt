@@ -42,8 +42,8 @@ use Rattle.law_base.proofs.Rows.{rows_get, rows_put}
 use Rattle.law_base.proofs.Tables.{get_changed, get_put}
 use Rattle.law_base.proofs.Stages.{written_parts}
 use Rattle.shard_laws.proofs.Sound.{waiting_here}
-use Rattle.history_laws.proofs.Stepping.{with_work, Step, op_dies, op_answers, request_refused, request_doomed, request_again, request_new, request_closes, looks_well, looks_ill, drops, sends, prepare_closes, prepare_again, vote_counts, decision_comes, decision_again, done_counts, asked, reminds, flushes, Happens, finishes, stops}
-use Rattle.history_laws.proofs.Telling.{all_map}
+use Rattle.history_cases.proofs.Stepping.{with_work, Step, op_dies, op_answers, request_refused, request_doomed, request_again, request_new, request_closes, looks_well, looks_ill, drops, sends, prepare_closes, prepare_again, vote_counts, decision_comes, decision_again, done_counts, asked, reminds, flushes, Happens, finishes, stops}
+use Rattle.history_cases.proofs.Telling.{all_map}
 use Rattle.session_laws.proofs.Replying.{OpIs, dies, rolls, performs, reply_is}
 use Rattle.origin_laws.proofs.Origins.{SomeRequest, OwnRequest, AwayRequest, away_some, own_some, BirthFrom, StageFrom, PartFrom, CommitFrom, RecordFrom, StateFrom, RowFrom, MessageFrom, Origins, part_of, none_changed, AllFrom, push_records, clrs_all, standing_of, from_rolled, from_send, from_push, row_of, from_set, from_finish}
 use Rattle.history_laws.proofs.Rows.{all_in}

@@ -20,9 +20,9 @@ use Rattle.protocol_laws.specs.Growth.{IsPrefixOf}
 use Rattle.protocol_laws.specs.SessionLaws.{tx_of}
 use Rattle.protocol_laws.proofs.Growing.{same, chain}
 use Rattle.shard_laws.proofs.Following.{Follows, from_disorder}
-use Rattle.history_laws.proofs.Durability.{Counted, fronts_entry, left_front, restarts_front}
-use Rattle.history_laws.proofs.Entering.{Makes, by_event, by_flush, by_failure, by_restart, makes}
-use Rattle.history_laws.proofs.Merging.{Among}
+use Rattle.history_cases.proofs.Durability.{Counted, fronts_entry, left_front, restarts_front}
+use Rattle.history_cases.proofs.Entering.{Makes, by_event, by_flush, by_failure, by_restart, makes}
+use Rattle.history_cases.proofs.Merging.{Among}
 use Rattle.history_laws.proofs.Staying.{walker_of}
 use Rattle.origin_laws.proofs.Entries.{IsOld}
 use Rattle.origin_laws.proofs.Doubted.{Has, AnswersOf, doubt_found, opening_prepares, left_prepares, has_as, has_happens, has_flushed, has_down, has_revived, has_opened}

@@ -36,8 +36,8 @@ use Rattle.law_base.proofs.Rows.{rows_get, rows_set}
 use Rattle.law_base.proofs.Tables.{stage_in, get_changed}
 use Rattle.law_base.proofs.Lists.{all_append}
 use Rattle.law_base.proofs.Stages.{stage_of_some}
-use Rattle.history_laws.proofs.Stepping.{commits, votes, rules, KeptByDue, settled}
-use Rattle.history_laws.proofs.Telling.{all_map}
+use Rattle.history_cases.proofs.Stepping.{commits, votes, rules, KeptByDue, settled}
+use Rattle.history_cases.proofs.Telling.{all_map}
 
 -- ---- what is told of transactions: D, an operation was answered here, in this epoch and with this birth; A, one was answered here, or the
 -- transaction is of an earlier run; Q, its request was taken on a shard; O, it is of an earlier run

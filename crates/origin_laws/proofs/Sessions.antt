@@ -13,9 +13,9 @@ use Rattle.clv_base.specs.Journals.{History, own}
 use Rattle.clv_base.specs.History.{Legal}
 use Rattle.protocol_laws.specs.SessionLaws.{tx_of, works_on, ended_by}
 use Rattle.protocol_laws.proofs.InOrder.{sessions_keep_order}
-use Rattle.history_laws.proofs.Merging.{Placed, Before, in_order, Among, Precedes, in_turn, precedes_before, before_then, not_before_itself, own_in_order}
+use Rattle.history_cases.proofs.Merging.{Placed, Before, in_order, Among, Precedes, in_turn, precedes_before, before_then, not_before_itself, own_in_order}
 use Rattle.history_laws.proofs.Walkers.{nothing_follows}
-use Rattle.history_laws.proofs.Telling.{IsRequest}
+use Rattle.history_cases.proofs.Telling.{IsRequest}
 use Rattle.history_laws.proofs.Staying.{together}
 use Rattle.history_laws.proofs.Walking.{Behind, from_own, first_among}
 use Rattle.session_laws.proofs.Walking.{OpAt, AnswersAt, has_seen}

@@ -30,12 +30,12 @@ use Rattle.law_base.proofs.Rows.{rows_get}
 use Rattle.law_base.proofs.Tables.{stage_by}
 use Rattle.protocol_laws.specs.Order.{RunFits}
 use Rattle.protocol_laws.proofs.LogsInOrder.{runs_in_order}
-use Rattle.history_laws.proofs.Stepping.{Step, op_answers, Happens, finishes, stops}
-use Rattle.history_laws.proofs.Entering.{Makes, by_event, by_flush, by_failure, by_restart, makes}
-use Rattle.history_laws.proofs.Merging.{Placed, Before, Among, among_append, among_left}
-use Rattle.history_laws.proofs.OldRuns.{below_next_run}
-use Rattle.history_laws.proofs.Telling.{IsRequest}
-use Rattle.history_laws.proofs.Worlds.{state_at}
+use Rattle.history_cases.proofs.Stepping.{Step, op_answers, Happens, finishes, stops}
+use Rattle.history_cases.proofs.Entering.{Makes, by_event, by_flush, by_failure, by_restart, makes}
+use Rattle.history_cases.proofs.Merging.{Placed, Before, Among, among_append, among_left}
+use Rattle.history_cases.proofs.OldRuns.{below_next_run}
+use Rattle.history_cases.proofs.Telling.{IsRequest}
+use Rattle.history_cases.proofs.Worlds.{state_at}
 use Rattle.session_laws.proofs.Replying.{OpIs, performs, reply_is}
 use Rattle.history_laws.proofs.Walking.{Behind, Walked, Steps, walked}
 use Rattle.history_laws.proofs.Found.{found_in_order}

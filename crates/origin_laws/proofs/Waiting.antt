@@ -39,9 +39,9 @@ use Rattle.law_base.proofs.Tables.{stage_by, in_pair}
 use Rattle.protocol_laws.specs.SessionLaws.{tx_of, works_on, ended_by}
 use Rattle.protocol_laws.proofs.InOrder.{sessions_keep_order}
 use Rattle.law_base.proofs.LockRows.{violated_row}
-use Rattle.history_laws.proofs.Merging.{Placed, Before, before_then, not_before_itself, Among, among_is, is_among, in_own, among_right, Precedes, front_precedes}
+use Rattle.history_cases.proofs.Merging.{Placed, Before, before_then, not_before_itself, Among, among_is, is_among, in_own, among_right, Precedes, front_precedes}
 use Rattle.history_laws.proofs.Walkers.{of_session, nothing_follows}
-use Rattle.history_laws.proofs.Telling.{IsRequest}
+use Rattle.history_cases.proofs.Telling.{IsRequest}
 use Rattle.history_laws.proofs.Staying.{walker_of, one_request, is_request}
 use Rattle.origin_laws.proofs.Sessions.{Requested}
 use Rattle.origin_laws.proofs.Origins.{SomeRequest, PartFrom, StageFrom, part_of}

@@ -16,7 +16,7 @@ use Rattle.clv_base.specs.History.{Legal, logs_left}
 use Rattle.clv_base.proofs.SameNames.{tx_true}
 use Rattle.law_base.proofs.Commits.{committed_append, parts_keep}
 use Rattle.protocol_laws.proofs.Records.{committed_there, prepared_there}
-use Rattle.history_laws.proofs.Uncommitting.{opening_adds}
+use Rattle.history_cases.proofs.Uncommitting.{opening_adds}
 use Rattle.shard_laws.proofs.Following.{Follows, from_disorder}
 use Rattle.shard_laws.proofs.Listing.{prepared_wrote}
 use Rattle.fate_laws.proofs.Deciding.{left_committed, log_now}

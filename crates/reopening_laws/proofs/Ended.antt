@@ -19,9 +19,9 @@ use Rattle.clv_base.specs.Restarts.{run_after, log_left}
 use Rattle.clv_base.specs.Journals.{History, event_state, final_of}
 use Rattle.clv_base.specs.History.{Legal, WasSent, logs_left}
 use Rattle.law_base.proofs.Changed.{none_some, some_same}
-use Rattle.history_laws.proofs.Entering.{makes}
-use Rattle.history_laws.proofs.Merging.{Placed, Among, among_append, is_among}
-use Rattle.history_laws.proofs.Worlds.{state_at}
+use Rattle.history_cases.proofs.Entering.{makes}
+use Rattle.history_cases.proofs.Merging.{Placed, Among, among_append, is_among}
+use Rattle.history_cases.proofs.Worlds.{state_at}
 use Rattle.history_laws.proofs.Passing.{logs_left_pass, left_length}
 use Rattle.fate_laws.proofs.Deciding.{log_now, durable_left}
 use Rattle.fate_laws.proofs.Entering.{durable_front}

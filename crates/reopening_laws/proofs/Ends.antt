@@ -22,7 +22,7 @@ use Rattle.shard_laws.proofs.Following.{Follows, to_disorder, follows_take, grea
 use Rattle.shard_laws.proofs.Histories.{held}
 use Rattle.shard_laws.proofs.Listing.{order_of}
 use Rattle.shard_laws.proofs.Renewing.{Fine}
-use Rattle.history_laws.proofs.Merging.{Placed}
+use Rattle.history_cases.proofs.Merging.{Placed}
 use Rattle.history_laws.proofs.Serials.{member_at}
 use Rattle.history_laws.proofs.Passing.{logs_left_pass}
 use Rattle.history_laws.proofs.Records.{Passes, passes_all, all_pass}

@@ -32,8 +32,8 @@ use Rattle.law_base.proofs.Commits.{parts_keep}
 use Rattle.protocol_laws.proofs.Records.{committed_there}
 use Rattle.shard_laws.proofs.Rulings.{parts_new}
 use Rattle.shard_laws.proofs.Sound.{waiting_here}
-use Rattle.history_laws.proofs.Stepping.{Due, commits, votes, rules, KeptByDue, settled}
-use Rattle.history_laws.proofs.Telling.{all_map}
+use Rattle.history_cases.proofs.Stepping.{Due, commits, votes, rules, KeptByDue, settled}
+use Rattle.history_cases.proofs.Telling.{all_map}
 use Rattle.fate_laws.proofs.Inside.{Inside, inside_due}
 use Rattle.fate_laws.proofs.Homes.{Starts, now_at}
 use Rattle.fate_laws.proofs.Parts.{commit_agreed}

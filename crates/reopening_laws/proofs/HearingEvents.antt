@@ -35,10 +35,10 @@ use Rattle.law_base.proofs.Lists.{all_mono, all_append, insert_in as in_inserted
 use Rattle.law_base.proofs.Commits.{commit_durable, durable_keeps}
 use Rattle.protocol_laws.proofs.Growing.{grows_settled}
 use Rattle.shard_laws.proofs.Relisting.{request_from}
-use Rattle.history_laws.proofs.Stepping.{Step, op_dies, op_answers, request_refused, request_doomed, request_again, request_new, request_closes, looks_well, looks_ill, drops, sends, prepare_closes, prepare_again, vote_counts, decision_comes, decision_again, done_counts, asked, reminds, flushes, Happens, finishes, stops}
-use Rattle.history_laws.proofs.Entering.{Makes, by_event, by_flush, by_failure, by_restart}
-use Rattle.history_laws.proofs.Durability.{Counted, framed_finish}
-use Rattle.history_laws.proofs.Telling.{all_map}
+use Rattle.history_cases.proofs.Stepping.{Step, op_dies, op_answers, request_refused, request_doomed, request_again, request_new, request_closes, looks_well, looks_ill, drops, sends, prepare_closes, prepare_again, vote_counts, decision_comes, decision_again, done_counts, asked, reminds, flushes, Happens, finishes, stops}
+use Rattle.history_cases.proofs.Entering.{Makes, by_event, by_flush, by_failure, by_restart}
+use Rattle.history_cases.proofs.Durability.{Counted, framed_finish}
+use Rattle.history_cases.proofs.Telling.{all_map}
 use Rattle.fate_laws.proofs.Inside.{inside_self, inside_step}
 use Rattle.reopening_laws.proofs.PartsEnded.{on_more, on_rolled, on_dropped, on_closed, on_opened, on_restarted, step_on, Tell, tell_on, tell_front, tell_mono}
 use Rattle.reopening_laws.proofs.Unended.{unended}

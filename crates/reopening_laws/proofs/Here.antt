@@ -21,11 +21,11 @@ use Rattle.clv_base.specs.History.{Legal, IsAmong, logs_left}
 use Rattle.protocol_laws.specs.Growth.{IsPrefixOf}
 use Rattle.protocol_laws.specs.SessionLaws.{tx_of}
 use Rattle.protocol_laws.proofs.Records.{committed_there, prepared_there}
-use Rattle.history_laws.proofs.Durability.{left_front}
-use Rattle.history_laws.proofs.Merging.{Placed, Among, is_among}
+use Rattle.history_cases.proofs.Durability.{left_front}
+use Rattle.history_cases.proofs.Merging.{Placed, Among, is_among}
 use Rattle.history_laws.proofs.Serials.{committed_front}
 use Rattle.history_laws.proofs.Staying.{walker_of, one_request}
-use Rattle.history_laws.proofs.Worlds.{in_a_shard}
+use Rattle.history_cases.proofs.Worlds.{in_a_shard}
 use Rattle.shard_laws.proofs.Following.{from_disorder}
 use Rattle.origin_laws.proofs.Sessions.{Requested}
 use Rattle.origin_laws.proofs.Entries.{DidOrOld, IsOld, OriginsAt, traced_front}

@@ -17,7 +17,7 @@ use Rattle.law_base.proofs.Commits.{committed_keeps}
 use Rattle.protocol_laws.proofs.Records.{committed_there}
 use Rattle.shard_laws.proofs.Following.{Follows, from_disorder, through}
 use Rattle.shard_laws.proofs.Rulings.{parts_new}
-use Rattle.history_laws.proofs.Uncommitting.{with_more}
+use Rattle.history_cases.proofs.Uncommitting.{with_more}
 use Rattle.fate_laws.proofs.Prefixes.{DurableIn}
 use Rattle.fate_laws.proofs.Prepares.{plain_more, prepare_new}
 use Rattle.fate_laws.proofs.HomesFound.{part_agreed, home_of, nat_at}

@@ -29,7 +29,7 @@ use Rattle.law_base.proofs.Changed.{some_same}
 use Rattle.law_base.proofs.Commits.{committed_keeps, parts_keep}
 use Rattle.law_base.proofs.Lists.{all_append}
 use Rattle.session_laws.proofs.Replying.{OpIs, dies, rolls, performs, reply_is}
-use Rattle.history_laws.proofs.Stepping.{Step, op_dies, op_answers, request_refused, request_doomed, request_again, request_new, request_closes, looks_well, looks_ill, drops, sends, prepare_closes, prepare_again, vote_counts, decision_comes, decision_again, done_counts, asked, reminds, flushes}
+use Rattle.history_cases.proofs.Stepping.{Step, op_dies, op_answers, request_refused, request_doomed, request_again, request_new, request_closes, looks_well, looks_ill, drops, sends, prepare_closes, prepare_again, vote_counts, decision_comes, decision_again, done_counts, asked, reminds, flushes}
 
 -- ---- the parts that a COMMIT names: those of the first one, in a longer log too
 

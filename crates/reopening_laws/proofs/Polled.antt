@@ -17,11 +17,11 @@ use Rattle.clv_base.specs.FileRules.{may_open}
 use Rattle.clv_base.specs.Restarts.{run_after}
 use Rattle.clv_base.specs.Journals.{History, final_of}
 use Rattle.clv_base.specs.History.{Legal, WasSent}
-use Rattle.history_laws.proofs.Entering.{makes}
-use Rattle.history_laws.proofs.Merging.{Placed, Among, among_left, among_is, is_among}
-use Rattle.history_laws.proofs.OldRuns.{none_of_this_run}
-use Rattle.history_laws.proofs.TellingEvents.{front_committed}
-use Rattle.history_laws.proofs.Worlds.{state_at, in_a_shard}
+use Rattle.history_cases.proofs.Entering.{makes}
+use Rattle.history_cases.proofs.Merging.{Placed, Among, among_left, among_is, is_among}
+use Rattle.history_cases.proofs.OldRuns.{none_of_this_run}
+use Rattle.history_cases.proofs.TellingEvents.{front_committed}
+use Rattle.history_cases.proofs.Worlds.{state_at, in_a_shard}
 use Rattle.fate_laws.proofs.Bindings.{WasTaken, once}
 use Rattle.fate_laws.proofs.Deciding.{log_now}
 use Rattle.fate_laws.proofs.Fates.{Fated, fated_next, fated_start, delivered}

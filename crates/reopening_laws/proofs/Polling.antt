@@ -38,9 +38,9 @@ use Rattle.protocol_laws.specs.Growth.{IsPrefixOf}
 use Rattle.protocol_laws.proofs.Growing.{same, more, more_twice}
 use Rattle.shard_laws.proofs.Relisting.{request_from}
 use Rattle.shard_laws.proofs.Rulings.{parts_new}
-use Rattle.history_laws.proofs.Stepping.{commits, votes, rules, KeptByDue, settled, Step, op_dies, op_answers, request_refused, request_doomed, request_again, request_new, request_closes, looks_well, looks_ill, drops, sends, prepare_closes, prepare_again, vote_counts, decision_comes, decision_again, done_counts, asked, reminds, flushes, Happens, finishes, stops}
-use Rattle.history_laws.proofs.Entering.{Makes, by_event, by_flush, by_failure, by_restart}
-use Rattle.history_laws.proofs.Uncommitting.{NoMoreCommits, with_more, rolled, dropped, op_dying, op_answering, restarts_add, opening_adds}
+use Rattle.history_cases.proofs.Stepping.{commits, votes, rules, KeptByDue, settled, Step, op_dies, op_answers, request_refused, request_doomed, request_again, request_new, request_closes, looks_well, looks_ill, drops, sends, prepare_closes, prepare_again, vote_counts, decision_comes, decision_again, done_counts, asked, reminds, flushes, Happens, finishes, stops}
+use Rattle.history_cases.proofs.Entering.{Makes, by_event, by_flush, by_failure, by_restart}
+use Rattle.history_cases.proofs.Uncommitting.{NoMoreCommits, with_more, rolled, dropped, op_dying, op_answering, restarts_add, opening_adds}
 use Rattle.fate_laws.proofs.Inside.{inside_step}
 use Rattle.fate_laws.proofs.HomesEvents.{awaits}
 use Rattle.fate_laws.proofs.Parts.{commit_agreed}

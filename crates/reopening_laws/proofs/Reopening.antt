@@ -13,8 +13,8 @@ use Rattle.clv_base.specs.Journals.{History, final_of}
 use Rattle.clv_base.specs.History.{Legal, logs_left}
 use Rattle.protocol_laws.specs.SessionLaws.{tx_of}
 use Rattle.history_laws.proofs.Staying.{walker_of}
-use Rattle.history_laws.proofs.Worlds.{in_a_shard}
-use Rattle.history_laws.proofs.Merging.{is_among}
+use Rattle.history_cases.proofs.Worlds.{in_a_shard}
+use Rattle.history_cases.proofs.Merging.{is_among}
 use Rattle.origin_laws.proofs.Sessions.{Requested}
 use Rattle.origin_laws.proofs.Origins.{SomeRequest}
 use Rattle.origin_laws.proofs.Entries.{DidOrOld, IsOld, traced_front}

@@ -14,7 +14,7 @@ use Rattle.clv_base.specs.Restarts.{log_left}
 use Rattle.clv_base.specs.Journals.{History, final_of, after_entry, flush_state, FlushMay}
 use Rattle.clv_base.specs.Machines.{BecomesBy}
 use Rattle.disk_model.specs.Story.{Story, reads, IsImage}
-use Rattle.history_laws.proofs.Laws.{framed_finish, Counted}
+use Rattle.history_cases.proofs.Durability.{framed_finish, Counted}
 use Rattle.journal_laws.specs.Notes.{Note as Told, made, fetched, MayNotes, after_notes, entries_of_notes}
 use Rattle.log_gate.specs.Image.{log_of, records_of}
 use Rattle.log_gate.specs.Gate.{EachNow}

@@ -15,7 +15,8 @@ use Rattle.clv_base.specs.Restarts.{run_after}
 use Rattle.clv_base.specs.Journals.{History, own}
 use Rattle.clv_base.specs.History.{Legal, ops_in}
 use Rattle.cause_laws.specs.Causes.{TellsCause, op_died, request_died, look_found}
-use Rattle.history_laws.proofs.Laws.{Among, among_left, among_right, walker_of}
+use Rattle.history_cases.proofs.Merging.{Among, among_left, among_right}
+use Rattle.history_laws.proofs.Laws.{walker_of}
 use Rattle.protocol_laws.specs.SessionLaws.{tx_of}
 use Rattle.history_replay.specs.Entries.{Kept}
 use Rattle.run_promises.specs.Histories.{entries}

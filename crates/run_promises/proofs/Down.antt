@@ -16,7 +16,7 @@ use Rattle.disk_model.specs.Story.{Story}
 use Rattle.disk_model.specs.Disk.{Rose}
 use Rattle.history_replay.specs.Entries.{Kept}
 use Rattle.protocol_laws.specs.Growth.{is_restart}
-use Rattle.history_laws.proofs.Laws.{framed_finish}
+use Rattle.history_cases.proofs.Durability.{framed_finish}
 use Rattle.journal_laws.specs.Gathered.{journal_at}
 use Rattle.journal_laws.specs.Notes.{ends_holding}
 use Rattle.turn_laws.specs.Homes.{has_failed, is_failed, is_stop}

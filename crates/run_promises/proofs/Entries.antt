@@ -16,7 +16,7 @@ use Rattle.clv_base.specs.Journals.{History, own}
 use Rattle.clv_base.specs.History.{acknowledged_in, is_acknowledgement, ops_in, answered_op}
 use Rattle.clv_base.proofs.SameNames.{tx_true, tx_self, or_left, or_right}
 use Rattle.protocol_laws.specs.SessionLaws.{tx_of}
-use Rattle.history_laws.proofs.Laws.{Among}
+use Rattle.history_cases.proofs.Merging.{Among}
 use Rattle.script_runs.specs.Sessions.{session_entries}
 use Rattle.law_base.proofs.Names.{with_op as more_ops}
 

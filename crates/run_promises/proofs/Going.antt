@@ -15,7 +15,7 @@ use Rattle.clv_base.specs.History.{acknowledged_in, is_acknowledgement, request_
 use Rattle.clv_base.specs.Restarts.{run_after}
 use Rattle.clv_base.proofs.SameNames.{or_left, or_right}
 use Rattle.history_laws.specs.Outcomes.{is_abort, aborted_in_history}
-use Rattle.history_laws.proofs.Merging.{Among, among_append, is_among, in_own}
+use Rattle.history_cases.proofs.Merging.{Among, among_append, is_among, in_own}
 use Rattle.run_promises.specs.Histories.{entries}
 use Rattle.script_lang.specs.Bodies.{Body}
 use Rattle.script_runs.specs.declared.ends.StopCause.{StopCause}

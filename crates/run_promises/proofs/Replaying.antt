@@ -10,8 +10,8 @@ use Rattle.clv_base.specs.LogRules.{log_of}
 use Rattle.clv_base.specs.Maps.{replay_map}
 use Rattle.clv_base.specs.Journals.{History}
 use Rattle.clv_base.specs.History.{Member, members, serial_ops, logs_left, acknowledged_in, ops_in, request_of}
-use Rattle.history_laws.proofs.Merging.{Among, among_is}
-use Rattle.history_laws.proofs.Worlds.{in_a_shard}
+use Rattle.history_cases.proofs.Merging.{Among, among_is}
+use Rattle.history_cases.proofs.Worlds.{in_a_shard}
 use Rattle.fate_laws.proofs.Sparing.{aborted_are_committed_nowhere}
 use Rattle.acknowledged_replay.specs.Replayed.{operations_at, acknowledged_ops}
 use Rattle.run_promises.specs.Histories.{entries}

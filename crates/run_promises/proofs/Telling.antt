@@ -15,7 +15,7 @@ use Rattle.clv_base.specs.Journals.{History}
 use Rattle.clv_base.specs.History.{is_acknowledgement, request_of}
 use Rattle.clv_base.proofs.SameNames.{tx_self}
 use Rattle.history_laws.specs.Outcomes.{is_abort}
-use Rattle.history_laws.proofs.Merging.{Among, among_all, among_left, among_right, among_append}
+use Rattle.history_cases.proofs.Merging.{Among, among_all, among_left, among_right, among_append}
 use Rattle.script_lang.specs.Bodies.{Body}
 use Rattle.script_runs.specs.Operations.{ArePartsAnswered, no_part, part, AreOperations, no_operation, operation, IsDeath, parts_of}
 use Rattle.script_runs.specs.Tries.{Try, IsTry, IsRequest, IsLook, AreDrops, EndsBy, acknowledged, nothing, by_line, in_operation, at_request, at_look, down, unsettled, wanting_before, wanting_behind, unanswered, worn_at_line, ops_so_far}

@@ -31,7 +31,7 @@ use Rattle.clv_base.specs.Events.{Does, happen, finish, with_durable}
 use Rattle.clv_base.specs.Journals.{flush_state, FlushMay, has_equal_active_birth}
 use Rattle.clv_base.specs.Restarts.{revived}
 use Rattle.clv_base.specs.Machines.{BecomesBy, Makes, Runs}
-use Rattle.history_laws.proofs.Laws.{commits, votes, rules, KeptByDue, settled, Step, op_dies, op_answers, request_refused, request_doomed, request_again, request_new, request_closes, looks_well, looks_ill, drops, sends, prepare_closes, prepare_again, vote_counts, decision_comes, decision_again, done_counts, asked, reminds, flushes, Happens, finishes, stops, happened}
+use Rattle.history_cases.proofs.Stepping.{commits, votes, rules, KeptByDue, settled, Step, op_dies, op_answers, request_refused, request_doomed, request_again, request_new, request_closes, looks_well, looks_ill, drops, sends, prepare_closes, prepare_again, vote_counts, decision_comes, decision_again, done_counts, asked, reminds, flushes, Happens, finishes, stops, happened}
 use Rattle.turn_lock.specs.Journals.{GrownByOthers}
 use Rattle.journal_laws.specs.Births.{LeavesBirth, BearsWalker}
 use Rattle.journal_laws.specs.Walkers.{by_walker}

@@ -2,7 +2,7 @@
 use Rattle.std.proofs.Common.{◌≡◌, refl, ℕ, ◌≤◌, true, false, cond, Bool, Option, Some, None, arith}
 use Rattle.std.specs.Prelude.{unwrap_or}
 use Rattle.clv_base.specs.State.{Shard}
-use Rattle.history_laws.proofs.Durability.{Counted}
+use Rattle.history_cases.proofs.Durability.{Counted}
 
 cut_by : (s : Shard) (f : Option ℕ) → Counted s → s.flight ≡ f → s.durable ≤ unwrap_or f s.durable
 cut_by s None c e = omega arith

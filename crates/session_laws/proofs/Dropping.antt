@@ -14,7 +14,7 @@ use Rattle.clv_base.specs.Orders.{tx_same}
 use Rattle.clv_base.specs.LogRules.{same_option}
 use Rattle.clv_base.specs.Sessions.{Phase, Touching, Ended, Standing, Told, Refused, SessionState, is_number, lies_in, is_touching, same_birth, follows_birth, goes_on, begins, begun, session_for, op_in_session, same_touched, is_lowest, requested, looked, stands_at, may_drop, after_drop, session_after, makes_from}
 use Rattle.clv_base.proofs.SameNames.{tx_true}
-use Rattle.history_laws.proofs.Merging.{Placed, Among, Precedes}
+use Rattle.history_cases.proofs.Merging.{Placed, Among, Precedes}
 
 -- its request stands, or it was told that it is acknowledged
 stands : Phase → Bool

@@ -20,7 +20,7 @@ use Rattle.clv_base.specs.Sessions.{Phase, SessionState, is_number, lies_in, is_
 use Rattle.clv_base.proofs.SameNames.{tx_true, nat_cmp_true}
 use Rattle.law_base.proofs.Options.{option_true}
 use Rattle.law_base.proofs.Tables.{then_eq}
-use Rattle.history_laws.proofs.Merging.{Placed, Among, Precedes}
+use Rattle.history_cases.proofs.Merging.{Placed, Among, Precedes}
 
 -- ---- whose session an operation finds
 

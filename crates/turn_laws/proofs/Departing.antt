@@ -121,7 +121,7 @@ module _ {G : Type 0} (shut : G → Bool) (faults whose : G → ℕ) (logs : G �
   pub still_landable : (o : Origin) (seen : List Note) (pushed : Bool) (s u : Shard) (upto at_departure : ℕ) (g : G) → IsLegal o seen s → StillFlies upto s u → Landable pushed s upto at_departure (shut g) (faults g) (whose g) (logs g) → Landable pushed u upto at_departure (shut g) (faults g) (whose g) (logs g)
   still_landable o seen pushed s u upto at_departure g k f l = record { up = f.is_up; flies = f.flight; own = l.own ∙ sym f.shard; counts = l.counts; as_pushed = by pushed l.as_pushed }
     where
-      c : Rattle.history_laws.proofs.Durability.Counted s
+      c : Rattle.history_cases.proofs.Durability.Counted s
       c = legal_counted o seen s k
 
       taken_same : take (unwrap_or u.flight u.durable) u.local.log ≡ take (unwrap_or s.flight s.durable) s.local.log

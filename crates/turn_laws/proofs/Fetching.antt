@@ -12,7 +12,7 @@ use Rattle.clv_base.specs.State.{Shard}
 use Rattle.clv_base.specs.Events.{with_durable}
 use Rattle.clv_base.specs.Journals.{MayLeave, after_entry, flush_state, FlushMay}
 use Rattle.clv_base.specs.Machines.{BecomesBy}
-use Rattle.history_laws.proofs.Durability.{framed_finish}
+use Rattle.history_cases.proofs.Durability.{framed_finish}
 use Rattle.turn_lock.specs.Journals.{GrownByOthers, entries_by}
 use Rattle.journal_laws.specs.Notes.{Note as Told, made, fetched, MayNotes, after_notes, entries_of_notes, notes_by}
 use Rattle.journal_laws.proofs.Noting.{held_shards_rest}

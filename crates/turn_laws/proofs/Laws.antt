@@ -1,5 +1,5 @@
 -- What the crates above may use.
-pub use Rattle.history_laws.proofs.Durability.{framed_finish}
+pub use Rattle.history_cases.proofs.Durability.{framed_finish}
 pub use Rattle.journal_laws.proofs.Noting.{notes_are_runs}
 pub use Rattle.journal_laws.proofs.Offering.{each_outcome_goes_on}
 pub use Rattle.journal_laws.proofs.Viewing.{own_entries_go_on, views_are_legal}

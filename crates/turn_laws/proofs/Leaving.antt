@@ -10,7 +10,7 @@ use Rattle.clv_base.specs.declared.events.Event.TheVariants.{Op, Request, Look, 
 use Rattle.clv_base.specs.declared.events.Entry.{Entry}
 use Rattle.clv_base.specs.Restarts.{log_left}
 use Rattle.clv_base.specs.Journals.{MayLeave}
-use Rattle.history_laws.proofs.Durability.{Counted}
+use Rattle.history_cases.proofs.Durability.{Counted}
 use Rattle.turn_laws.specs.declared.notes.Note.{Note}
 use Rattle.turn_laws.specs.declared.notes.Origin.{Origin}
 use Rattle.turn_laws.specs.Homes.{taker_after, may_follow, ends_own, is_stop, never_stops, IsLegal}

@@ -9,7 +9,7 @@ use Rattle.clv_base.specs.State.{Shard}
 use Rattle.clv_base.specs.Restarts.{run_after}
 use Rattle.clv_base.specs.Core.{World, clock_of}
 use Rattle.clv_base.specs.Journals.{journal_of, start_of}
-use Rattle.history_laws.proofs.Durability.{opened_counted}
+use Rattle.history_cases.proofs.Durability.{opened_counted}
 use Rattle.journal_laws.specs.Worlds.{Steady, count_past, empty_logs}
 use Rattle.journal_laws.proofs.Running.{fronts_run}
 use Rattle.journal_laws.proofs.Steadily.{empty_run, past_not_all, clock_below}

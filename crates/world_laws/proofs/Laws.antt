@@ -1,7 +1,7 @@
 -- What the crates above may use.
 pub use Rattle.protocol_laws.proofs.Growing.{grows_settled}
 pub use Rattle.protocol_laws.proofs.Reaching.{misfit_is_exact}
-pub use Rattle.history_laws.proofs.Durability.{Framed, framed_finish}
+pub use Rattle.history_cases.proofs.Durability.{Framed, framed_finish}
 pub use Rattle.journal_laws.proofs.Placing.{put_tests}
 pub use Rattle.journal_laws.proofs.Sending.{was_sent_before}
 pub use Rattle.world_laws.proofs.Steps.{refused_step, rival_step, idle_step, no_shard, taken_step, steady_step}

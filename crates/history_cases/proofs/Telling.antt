@@ -40,9 +40,9 @@ use Rattle.law_base.proofs.Changed.{none_some}
 use Rattle.law_base.proofs.Rows.{rows_get, rows_set}
 use Rattle.law_base.proofs.Commits.{durable_committed, committed_append}
 use Rattle.law_base.proofs.Lists.{all_append}
-use Rattle.history_laws.proofs.Stepping.{commits, votes, rules, KeptByDue, settled}
-use Rattle.history_laws.proofs.Merging.{Placed, Among}
-use Rattle.history_laws.proofs.Uncommitting.{rolled, with_more}
+use Rattle.history_cases.proofs.Stepping.{commits, votes, rules, KeptByDue, settled}
+use Rattle.history_cases.proofs.Merging.{Placed, Among}
+use Rattle.history_cases.proofs.Uncommitting.{rolled, with_more}
 
 -- ---- what stands in a history
 

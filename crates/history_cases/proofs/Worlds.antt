@@ -12,12 +12,12 @@ use Rattle.clv_base.specs.State.{Shard}
 use Rattle.clv_base.specs.Restarts.{run_after}
 use Rattle.clv_base.specs.Journals.{History, journal_of, start_of, after_entry, after_entries, MayEnter, MayRun}
 use Rattle.clv_base.specs.History.{Legal, WasSent, MessagesSent}
-use Rattle.history_laws.proofs.Entering.{after_append, run_second, run_first}
-use Rattle.history_laws.proofs.Durability.{fronts_entries, opened_counted}
-use Rattle.history_laws.proofs.Merging.{Placed, Among, among_append, among_right, is_among}
-use Rattle.history_laws.proofs.Telling.{Tells, Told}
-use Rattle.history_laws.proofs.TellingEvents.{Brings, Says, SaysOut, told_entry, says_entry, told_opened}
-use Rattle.history_laws.proofs.OldRuns.{none_of_this_run}
+use Rattle.history_cases.proofs.Entering.{after_append, run_second, run_first}
+use Rattle.history_cases.proofs.Durability.{fronts_entries, opened_counted}
+use Rattle.history_cases.proofs.Merging.{Placed, Among, among_append, among_right, is_among}
+use Rattle.history_cases.proofs.Telling.{Tells, Told}
+use Rattle.history_cases.proofs.TellingEvents.{Brings, Says, SaysOut, told_entry, says_entry, told_opened}
+use Rattle.history_cases.proofs.OldRuns.{none_of_this_run}
 
 -- ---- prefixes of a history
 

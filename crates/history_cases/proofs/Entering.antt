@@ -10,7 +10,7 @@ use Rattle.clv_base.specs.State.{Shard}
 use Rattle.clv_base.specs.Events.{Does, finish, happen, put_down, with_durable}
 use Rattle.clv_base.specs.Restarts.{log_left, revived, Restarts}
 use Rattle.clv_base.specs.Journals.{up_to_restart, reply_state, event_state, after_entry, after_entries, EventMay, FlushMay, RestartMay, MayRun}
-use Rattle.history_laws.proofs.Stepping.{Happens, happened}
+use Rattle.history_cases.proofs.Stepping.{Happens, happened}
 
 -- an event of a shard that is up; the end of a flush; a restart
 pub data Makes (log : List LogRecord) (s : Shard) : Event → Outcome → Shard → Type 0 where

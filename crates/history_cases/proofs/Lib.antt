@@ -1,0 +1,9 @@
+pub mod Stepping
+pub mod Entering
+pub mod Durability
+pub mod Merging
+pub mod Uncommitting
+pub mod Telling
+pub mod TellingEvents
+pub mod OldRuns
+pub mod Worlds
