@@ -116,7 +116,7 @@ at_cond all g s e false x y p q = q
 
 dies_if : (all : List Item) (g : Past) (s : Shard) (tx : TxId) (b : Bool) → Sound all g s → (b ≡ true → committed_in s.local.log tx ≡ false) → After all g (record s { local = rolled_back_if b tx s.local })
 dies_if all g s tx true h open_ = rolled all g s tx h (open_ refl)
-dies_if all g s tx false h open_ = at_once all g (record s { local = s.local }) (record { kept = h.kept; told = h.told; within = h.within; undecided = h.undecided; readers = h.readers; apart = h.apart; unvoted = h.unvoted; read = h.read; asked = h.asked; order = h.order; falls = h.falls; unfallen = h.unfallen })
+dies_if all g s tx false h open_ = at_once all g (record s { local = s.local }) h
 
 present_open : (all : List Item) (g : Past) (s : Shard) (tx : TxId) → Sound all g s → (stage_of s.local tx ≡ Some Closed → ⊥) → is_present (stage_of s.local tx) ≡ true → committed_in s.local.log tx ≡ false
 present_open all g s tx h not_closed e = at (stage_of s.local tx) refl e
@@ -283,17 +283,20 @@ module _ (all : List Item) (g : Past) (s : Shard) (tx : TxId) (birth : Birth) (o
       let u : Local = locked tx birth op s.local in
       record {
         kept = kept;
-        told = told;
-        within = within;
-        undecided = λ t q e un. ⊎_elim (λ c. inl (written_open tx w u t c)) (λ c. inr c) (h.undecided t q e un);
-        readers = h.readers;
-        apart = h.apart;
-        unvoted = λ t v e x. written_open tx w u t (h.unvoted t v e (false_from_ne_true _ (λ y. both_ways _ x (written_wrote tx w u t y))));
-        read = λ t v e f. let r = h.read t v e f in
-            ap (λ p. stage_in p t) (written_parts tx w u) ∙ others_now t (λ q. left (ap (stage_of s.local) (sym q) ∙ r)) ∙ r;
+        answers = record { told = told; within = within };
+        requests = record {
+          undecided = λ t q e un. ⊎_elim (λ c. inl (written_open tx w u t c)) (λ c. inr c) (h.undecided t q e un);
+          readers = h.readers;
+          unfallen = λ t q e un here. ⊎_elim (λ e2. ap (λ z. tx_in z g.fell) e2 ∙ fr.unfallen) (λ ne. h.unfallen t q e un (ap is_present (sym (others_now t ne) ∙ sym (ap (λ p. stage_in p t) (written_parts tx w u))) ∙ here)) (cases_tx t tx);
+        };
+        voters = record {
+          apart = h.apart;
+          unvoted = λ t v e x. written_open tx w u t (h.unvoted t v e (false_from_ne_true _ (λ y. both_ways _ x (written_wrote tx w u t y))));
+          read = λ t v e f. let r = h.read t v e f in
+              ap (λ p. stage_in p t) (written_parts tx w u) ∙ others_now t (λ q. left (ap (stage_of s.local) (sym q) ∙ r)) ∙ r;
+        };
         asked = λ t e. ⊎_elim (λ c. h.asked t c) (λ c. absurd (both_ways _ (written_open tx w u t c) e)) (cases_Bool (committed_in s.local.log t));
         falls = falls_written g.asked g.fell lost g.over tx birth op s.local s.durable (writes_of op (value_at (key_of op) s.local.records)) (falls_by g.asked g.fell lost g.over (new_part tx birth (tx_get tx s.local.parts) s.local.parts) (add_pairs tx vs s.local.pairs) s.local.log s.durable tx (writes_of op (value_at (key_of op) s.local.records)) falls);
-        unfallen = λ t q e un here. ⊎_elim (λ e2. ap (λ z. tx_in z g.fell) e2 ∙ fr.unfallen) (λ ne. h.unfallen t q e un (ap is_present (sym (others_now t ne) ∙ sym (ap (λ p. stage_in p t) (written_parts tx w u))) ∙ here)) (cases_tx t tx);
         order = order_performs g.asked g s tx birth op h.kept h.order grant (stands_now g s tx birth same o) run_is fr.open_ fr.unprepared fr.unaborted fr.unwritten;
       }
 
@@ -382,8 +385,8 @@ by_stage : (all : List Item) (g : Past) (s : Shard) (tx : TxId) (birth : Birth) 
 by_stage all g s tx birth nth seen op None h may fit e = by_decision all g s tx birth nth seen op (decide tx birth (needs_of op s.local.records) s.local.locks) h refl may fit (inl e)
 by_stage all g s tx birth nth seen op (Some Active) h may fit e = by_decision all g s tx birth nth seen op (decide tx birth (needs_of op s.local.records) s.local.locks) h refl may fit (inr e)
 by_stage all g s tx birth nth seen op (Some Closed) h may fit e = absurd (may.not_closed e)
-by_stage all g s tx birth nth seen op (Some (Gone None)) h may fit e = ends all g s (record s { local = s.local }) (OpEvent tx birth nth seen op) _ (refl, refl, refl) refl (at_once all g _ (record { kept = h.kept; told = h.told; within = h.within; undecided = h.undecided; readers = h.readers; apart = h.apart; unvoted = h.unvoted; read = h.read; asked = h.asked; order = h.order; falls = h.falls; unfallen = h.unfallen }))
-by_stage all g s tx birth nth seen op (Some (Gone (Some d))) h may fit e = ends all g s (record s { local = s.local }) (OpEvent tx birth nth seen op) _ (refl, refl, refl) refl (at_once all g _ (record { kept = h.kept; told = h.told; within = h.within; undecided = h.undecided; readers = h.readers; apart = h.apart; unvoted = h.unvoted; read = h.read; asked = h.asked; order = h.order; falls = h.falls; unfallen = h.unfallen }))
+by_stage all g s tx birth nth seen op (Some (Gone None)) h may fit e = ends all g s (record s { local = s.local }) (OpEvent tx birth nth seen op) _ (refl, refl, refl) refl (at_once all g s h)
+by_stage all g s tx birth nth seen op (Some (Gone (Some d))) h may fit e = ends all g s (record s { local = s.local }) (OpEvent tx birth nth seen op) _ (refl, refl, refl) refl (at_once all g s h)
 
 operation : (all : List Item) (g : Past) (s : Shard) (tx : TxId) (birth : Birth) (nth : ℕ) (seen : Option ℕ) (op : Op) (b : Bool) → Sound all g s → MayTouch all g.asked g.met g.fell s tx birth seen → seen_fits s.local.epoch seen ≡ b → Keeps_reply all g s (OpEvent tx birth nth seen op) (op_event s (op_seen s.shard s.local tx birth seen op b))
 operation all g s tx birth nth seen op true h may fit = by_stage all g s tx birth nth seen op (stage_of s.local tx) h may fit refl
@@ -464,22 +467,25 @@ closed_sound : (all : List Item) (g : Past) (s : Shard) (tx : TxId) (home : ℕ)
     → ((u : TxId) (q : Request) → tx_get u s.requests ≡ Some q → q.state ≡ Undecided → tx_same u tx ≡ false) → ((v : Voter) → tx_get tx s.voters ≡ Some v → one ≡ false) → Sound all g (with_local (close_part tx home one) s)
 closed_sound all g s tx home one h act asks no_request no_vote = record {
   kept = closes all g s tx home (wrote_in s.local.log tx) one (undecided_of s.local tx) h act asks refl;
-  told = h.told;
-  within = h.within;
-  undecided = λ u q e un. ⊎_elim (λ c. inl (uncommitted_append s.local.log _ u c (closing_commits (wrote_in s.local.log tx) one tx home (undecided_of s.local tx) u (no_request u q e un)))) (λ c. inr c) (h.undecided u q e un);
-  readers = h.readers;
-  apart = h.apart;
-  unvoted = λ u v e w. ⊎_elim
-      (λ same. uncommitted_append s.local.log _ u (h.unvoted u v e (old u w)) (prepared_only tx home (wrote_in s.local.log tx) one (undecided_of s.local tx) u (no_vote v (ap (λ z. tx_get z s.voters) (sym (tx_true u tx same)) ∙ e))))
-      (λ ne. uncommitted_append s.local.log _ u (h.unvoted u v e (old u w)) (closing_commits (wrote_in s.local.log tx) one tx home (undecided_of s.local tx) u ne))
-      (cases_Bool (tx_same u tx));
-  read = λ u v e f. let r = h.read u v e f in stage_left s.local.parts tx u (tx_ne tx u (λ q. active_gone (sym act ∙ ap (stage_of s.local) q ∙ r))) ∙ r;
+  answers = h.answers;
+  requests = record {
+    undecided = λ u q e un. ⊎_elim (λ c. inl (uncommitted_append s.local.log _ u c (closing_commits (wrote_in s.local.log tx) one tx home (undecided_of s.local tx) u (no_request u q e un)))) (λ c. inr c) (h.undecided u q e un);
+    readers = h.readers;
+    unfallen = λ u q e un here. h.unfallen u q e un (sym (same_present u) ∙ here);
+  };
+  voters = record {
+    apart = h.apart;
+    unvoted = λ u v e w. ⊎_elim
+        (λ same. uncommitted_append s.local.log _ u (h.unvoted u v e (old u w)) (prepared_only tx home (wrote_in s.local.log tx) one (undecided_of s.local tx) u (no_vote v (ap (λ z. tx_get z s.voters) (sym (tx_true u tx same)) ∙ e))))
+        (λ ne. uncommitted_append s.local.log _ u (h.unvoted u v e (old u w)) (closing_commits (wrote_in s.local.log tx) one tx home (undecided_of s.local tx) u ne))
+        (cases_Bool (tx_same u tx));
+    read = λ u v e f. let r = h.read u v e f in stage_left s.local.parts tx u (tx_ne tx u (λ q. active_gone (sym act ∙ ap (stage_of s.local) q ∙ r))) ∙ r;
+  };
   asked = λ u e. ⊎_elim (λ t. inl (ap (λ z. tx_in z g.asked) (tx_true u tx t) ∙ asks))
       (λ ne. ⊎_elim (λ c. h.asked u c) (λ c. absurd (both_ways _ (uncommitted_append s.local.log _ u c (closing_commits (wrote_in s.local.log tx) one tx home (undecided_of s.local tx) u ne)) e)) (cases_Bool (committed_in s.local.log u)))
       (cases_Bool (tx_same u tx));
   falls = falls_parts g.asked g.fell g.lost g.over s.local.parts (closed_in tx s.local.parts) s.local.pairs (s.local.log ++ closing (wrote_in s.local.log tx) one tx home (undecided_of s.local tx)) s.durable
       (λ u. same_present u) (λ u. same_doom u) (closing_falls all g s tx home (wrote_in s.local.log tx) one (undecided_of s.local tx) h act asks refl);
-  unfallen = λ u q e un here. h.unfallen u q e un (sym (same_present u) ∙ here);
   order = order_closes g.asked s.shard s.run s.local.locks s.local.parts s.local.pairs s.local.log s.requests h.order tx home (wrote_in s.local.log tx) one (undecided_of s.local tx) refl act asks (h.kept.uncommitted tx act) (h.kept.prepared.unprepared tx act)
       (λ p i. let f = in_filter (λ q. not (committed_in s.local.log q)) p (predecessors_of s.local.pairs tx) i in (in_pair s.local.pairs tx p f.0, not-true _ f.1)) (lists_all s tx (undecided_of s.local tx) refl) no_request;
 }
@@ -497,7 +503,7 @@ closed_sound all g s tx home one h act asks no_request no_vote = record {
     active_gone e = absurd cc
 
 asks_sound : (all : List Item) (g : Past) (s : Shard) (tx : TxId) → Sound all g s → Sound all (record g { asked = g.asked ++ tx ∷ [] }) s
-asks_sound all g s tx h = record { kept = keeps_asked g (view_of s) tx h.kept; told = h.told; within = h.within; undecided = h.undecided; readers = h.readers; apart = h.apart; unvoted = h.unvoted; read = h.read; asked = λ u c. ⊎_elim (λ a. inl (in_push g.asked tx u ∙ or_left _ _ a)) (λ l. inr l) (h.asked u c); falls = falls_asked g.asked g.fell g.lost g.over s.local.parts s.local.pairs s.local.log s.durable tx h.falls; unfallen = h.unfallen; order = order_asked g.asked s.shard s.run s.local.locks s.local.parts s.local.pairs s.local.log s.requests tx h.order }
+asks_sound all g s tx h = record { kept = keeps_asked g (view_of s) tx h.kept; answers = h.answers; requests = h.requests; voters = h.voters; asked = λ u c. ⊎_elim (λ a. inl (in_push g.asked tx u ∙ or_left _ _ a)) (λ l. inr l) (h.asked u c); falls = falls_asked g.asked g.fell g.lost g.over s.local.parts s.local.pairs s.local.log s.durable tx h.falls; order = order_asked g.asked s.shard s.run s.local.locks s.local.parts s.local.pairs s.local.log s.requests tx h.order }
 
 pub others_asked : (all : List Item) (g : Past) (s : Shard) (tx : TxId) → Sound all g s → Sound all (record g { asked = g.asked ++ tx ∷ [] }) s
 others_asked all g s tx h = asks_sound all g s tx h
@@ -525,16 +531,15 @@ new_ruled shard run log tx touched e home = record { undecided = λ u. (e, home)
 coordinated : (all : List Item) (g : Past) (s : Shard) (tx : TxId) (touched : List (ℕ × ℕ)) → Sound all g s → Open s.shard s.local.log tx (new_request touched Undecided) → ((v : Voter) → tx_get tx s.voters ≡ Some v → ⊥) → Ruled s.shard s.run s.local.log tx (new_request touched Undecided) → (is_present (stage_of s.local tx) ≡ true → tx_in tx g.fell ≡ false) → Sound all g (coordinate tx touched s)
 coordinated all g s tx touched h new no_vote ruled unfallen = record {
   kept = h.kept;
-  told = h.told;
-  within = h.within;
-  undecided = put_open s tx touched new h.undecided;
-  readers = put_reader g s tx touched h.readers;
-  apart = λ u v e. get_put tx u (new_request touched Undecided) s.requests ∙ cond-false (tx_same u tx) _ (tx_get u s.requests) (tx_ne u tx (λ same. no_vote v (ap (λ z. tx_get z s.voters) (sym same) ∙ e))) ∙ h.apart u v e;
-  unvoted = h.unvoted;
-  read = h.read;
+  answers = h.answers;
+  requests = record { undecided = put_open s tx touched new h.undecided; readers = put_reader g s tx touched h.readers; unfallen = λ u q e un here. put_unfallen u q here (tx_same u tx) refl (sym (get_put tx u (new_request touched Undecided) s.requests ∙ refl) ∙ e) un };
+  voters = record {
+    apart = λ u v e. get_put tx u (new_request touched Undecided) s.requests ∙ cond-false (tx_same u tx) _ (tx_get u s.requests) (tx_ne u tx (λ same. no_vote v (ap (λ z. tx_get z s.voters) (sym same) ∙ e))) ∙ h.apart u v e;
+    unvoted = h.unvoted;
+    read = h.read;
+  };
   asked = h.asked;
   falls = h.falls;
-  unfallen = λ u q e un here. put_unfallen u q here (tx_same u tx) refl (sym (get_put tx u (new_request touched Undecided) s.requests ∙ refl) ∙ e) un;
   order = order_put g.asked s tx touched h.order ruled;
 }
   where
@@ -594,7 +599,7 @@ new_here g s tx may (inl a) = both_ways _ may.0 a
 new_here g s tx may (inr l) = let q = may.3 in omega (arith, l, q)
 
 request_stage : (all : List Item) (g : Past) (s : Shard) (tx : TxId) (touched : List (ℕ × ℕ)) (o : Option Stage) → Sound all g s → MayAsk g.asked s tx → stage_of s.local tx ≡ o → seen_fits s.local.epoch (epoch_in s.shard touched) ≡ true → Keeps_reply all g s (RequestEvent tx touched) (request_by_stage s tx touched o)
-request_stage all g s tx touched None h may e f = ends all g s (coordinate tx touched s) (RequestEvent tx touched) _ (refl, none_asks g s tx touched None true e f refl, refl) refl (at_once all g _ (coordinated all g s tx touched h (inl (false_from_ne_true _ (λ c. new_here g s tx may (h.asked tx c)))) may.1
+request_stage all g s tx touched None h may e f = ends all g s (coordinate tx touched s) (RequestEvent tx touched) _ (refl, none_asks g s tx touched None true e f refl, refl) refl (at_once all g (coordinate tx touched s) (coordinated all g s tx touched h (inl (false_from_ne_true _ (λ c. new_here g s tx may (h.asked tx c)))) may.1
     (new_ruled s.shard s.run s.local.log tx touched may.3 (λ p i. absurd (new_here g s tx may (h.order.ordered.asks tx (prepared_there s.local.log tx p i)))))
     (λ here. absurd (both_ways false refl (sym (ap is_present e) ∙ here)))))
 request_stage all g s tx touched (Some Closed) h may e f = ends all g s s (RequestEvent tx touched) _ (refl, none_asks g s tx touched (Some Closed) true e f refl, refl) refl (at_once all g s h)
@@ -631,16 +636,11 @@ add_over all g s tx h d =
         pairs = k.pairs;
         durable = k.durable;
       };
-      told = h.told;
-      within = h.within;
-      undecided = h.undecided;
-      readers = λ u q e f. or_right (tx_same tx u) _ (h.readers u q e f);
-      apart = h.apart;
-      unvoted = h.unvoted;
-      read = h.read;
+      answers = h.answers;
+      requests = record { undecided = h.undecided; readers = λ u q e f. or_right (tx_same tx u) _ (h.readers u q e f); unfallen = h.unfallen };
+      voters = h.voters;
       asked = h.asked;
       falls = falls_over g.asked g.fell g.lost g.over s.local.parts s.local.pairs s.local.log s.durable tx (false_from_ne_true _ (λ l. both_ways _ (h.falls.open_ tx l) (durable_committed s.local.log s.durable tx d))) h.falls;
-      unfallen = h.unfallen;
       order = h.order;
     }
 
@@ -671,7 +671,7 @@ dropped all g s tx (Some st) h n =
     let a = dies_if all g s tx (is_present (stage_of s.local tx)) h (open_ (stage_of s.local tx) refl) in
     let m = marked_sound all a.0 (record s { local = without_part tx s.local }) tx a.1 in
     ends all g s (with_local (drop_part tx) s) (Drop tx) _ (refl, refl, refl) refl
-    (a.0, record { kept = m.kept; told = m.told; within = m.within; undecided = m.undecided; readers = m.readers; apart = m.apart; unvoted = m.unvoted; read = m.read; asked = m.asked; order = m.order; falls = m.falls; unfallen = m.unfallen }, a.2, a.3, a.4, a.5, a.6, a.7)
+    (a.0, m, a.2, a.3, a.4, a.5, a.6, a.7)
   where
     open_ : (o : Option Stage) → stage_of s.local tx ≡ o → is_present o ≡ true → committed_in s.local.log tx ≡ false
     open_ None e p = absurd (both_ways false refl p)
@@ -684,34 +684,33 @@ quietly all g s u e o same none h = ends all g s u e o same none (at_once all g 
 
 sent : (all : List Item) (g : Past) (s : Shard) (ms : List Message) → Sound all g s → Keeps_reply all g s Send (send_event s ms)
 sent all g s [] h = early
-sent all g s (m ∷ ms) h = quietly all g s (with_outbox ms s) Send _ (refl, refl, refl) refl (record { kept = h.kept; told = h.told; within = h.within; undecided = h.undecided; readers = h.readers; apart = h.apart; unvoted = h.unvoted; read = h.read; asked = h.asked; order = h.order; falls = h.falls; unfallen = h.unfallen })
+sent all g s (m ∷ ms) h = quietly all g s (with_outbox ms s) Send _ (refl, refl, refl) refl h
 
 reminded : (all : List Item) (g : Past) (s : Shard) (out ms : List Message) → Sound all g s → Keeps_reply all g s Remind (remind_with s out ms)
 reminded all g s [] [] h = early
-reminded all g s [] (m ∷ ms) h = quietly all g s (send (m ∷ ms) s) Remind _ (refl, refl, refl) refl (record { kept = h.kept; told = h.told; within = h.within; undecided = h.undecided; readers = h.readers; apart = h.apart; unvoted = h.unvoted; read = h.read; asked = h.asked; order = h.order; falls = h.falls; unfallen = h.unfallen })
+reminded all g s [] (m ∷ ms) h = quietly all g s (send (m ∷ ms) s) Remind _ (refl, refl, refl) refl h
 reminded all g s (o ∷ os) ms h = early
 
 flushed : (all : List Item) (g : Past) (s : Shard) (f : Option ℕ) (n : ℕ) → Sound all g s → Keeps_reply all g s FlushOut (out_event s f n)
 flushed all g s None zero h = early
 flushed all g s (Some m) zero h = early
 flushed all g s (Some m) (suc n) h = early
-flushed all g s None (suc n) h = quietly all g s (with_flight (s.durable + suc n) s) FlushOut _ (refl, refl, refl) refl (record { kept = keeps_flight g (view_of s) (s.durable + suc n) h.kept (omega arith); told = h.told; within = h.within; undecided = h.undecided; readers = h.readers; apart = h.apart; unvoted = h.unvoted; read = h.read; asked = h.asked; order = h.order; falls = h.falls; unfallen = h.unfallen })
+flushed all g s None (suc n) h = quietly all g s (with_flight (s.durable + suc n) s) FlushOut _ (refl, refl, refl) refl (record { kept = keeps_flight g (view_of s) (s.durable + suc n) h.kept (omega arith); answers = h.answers; requests = h.requests; voters = h.voters; asked = h.asked; falls = h.falls; order = h.order })
 
 -- ---- messages that come
 
 owed : (all : List Item) (g : Past) (s : Shard) (tx : TxId) (home seen : ℕ) → Sound all g s → tx_get tx s.requests ≡ None → (wrote_in s.local.log tx ≡ false → committed_in s.local.log tx ≡ false) → Sound all g (owe_vote tx home seen s)
 owed all g s tx home seen h no_request open_ = record {
   kept = h.kept;
-  told = h.told;
-  within = h.within;
-  undecided = h.undecided;
-  readers = h.readers;
-  apart = λ u v e. at u v (tx_same u tx) refl (sym (get_put tx u (asked_voter home seen (tx_get tx s.voters)) s.voters) ∙ e);
-  unvoted = λ u v e. open_at u v (tx_same u tx) refl (sym (get_put tx u (asked_voter home seen (tx_get tx s.voters)) s.voters) ∙ e);
-  read = λ u v e f. read_at u v (tx_same u tx) refl (sym (get_put tx u (asked_voter home seen (tx_get tx s.voters)) s.voters) ∙ e) f;
+  answers = h.answers;
+  requests = h.requests;
+  voters = record {
+    apart = λ u v e. at u v (tx_same u tx) refl (sym (get_put tx u (asked_voter home seen (tx_get tx s.voters)) s.voters) ∙ e);
+    unvoted = λ u v e. open_at u v (tx_same u tx) refl (sym (get_put tx u (asked_voter home seen (tx_get tx s.voters)) s.voters) ∙ e);
+    read = λ u v e f. read_at u v (tx_same u tx) refl (sym (get_put tx u (asked_voter home seen (tx_get tx s.voters)) s.voters) ∙ e) f;
+  };
   asked = h.asked;
   falls = h.falls;
-  unfallen = h.unfallen;
   order = h.order;
 }
   where
@@ -758,16 +757,15 @@ prepares all g s m stamp tx home seen (Some Active) h st asks none open_ =
 same_ruling : (all : List Item) (g : Past) (s : Shard) (tx : TxId) (q w : Request) → Sound all g s → tx_get tx s.requests ≡ Some q → w.state ≡ q.state → w.is_ended ≡ q.is_ended → (q.state ≡ Undecided → Open s.shard s.local.log tx w) → Sound all g (record s { requests = tx_set tx w s.requests })
 same_ruling all g s tx q w h e r n open_ = record {
   kept = h.kept;
-  told = h.told;
-  within = h.within;
-  undecided = λ u p f un. ⊎_elim (λ i. subst (λ z. Open s.shard s.local.log z p) (sym i.0) (subst (Open s.shard s.local.log tx) (sym i.1) (open_ (sym r ∙ ap (λ z. z.state) (sym i.1) ∙ un)))) (λ i. h.undecided u p i.1 un) (get_set tx u w p s.requests f);
-  readers = λ u p f un. ⊎_elim (λ i. subst (λ z. tx_in z g.over ≡ true) (sym i.0) (h.readers tx q e (sym r ∙ ap (λ z. z.state) (sym i.1) ∙ un))) (λ i. h.readers u p i.1 un) (get_set tx u w p s.requests f);
-  apart = λ u v f. set_none tx u w s.requests (h.apart u v f);
-  unvoted = h.unvoted;
-  read = h.read;
+  answers = h.answers;
+  requests = record {
+    undecided = λ u p f un. ⊎_elim (λ i. subst (λ z. Open s.shard s.local.log z p) (sym i.0) (subst (Open s.shard s.local.log tx) (sym i.1) (open_ (sym r ∙ ap (λ z. z.state) (sym i.1) ∙ un)))) (λ i. h.undecided u p i.1 un) (get_set tx u w p s.requests f);
+    readers = λ u p f un. ⊎_elim (λ i. subst (λ z. tx_in z g.over ≡ true) (sym i.0) (h.readers tx q e (sym r ∙ ap (λ z. z.state) (sym i.1) ∙ un))) (λ i. h.readers u p i.1 un) (get_set tx u w p s.requests f);
+    unfallen = λ u p f un here. ⊎_elim (λ i. ap (λ z. tx_in z g.fell) i.0 ∙ h.unfallen tx q e (sym r ∙ ap (λ z. z.state) (sym i.1) ∙ un) (ap is_present (ap (stage_of s.local) (sym i.0)) ∙ here)) (λ i. h.unfallen u p i.1 un here) (get_set tx u w p s.requests f);
+  };
+  voters = record { apart = λ u v f. set_none tx u w s.requests (h.apart u v f); unvoted = h.unvoted; read = h.read };
   asked = h.asked;
   falls = h.falls;
-  unfallen = λ u p f un here. ⊎_elim (λ i. ap (λ z. tx_in z g.fell) i.0 ∙ h.unfallen tx q e (sym r ∙ ap (λ z. z.state) (sym i.1) ∙ un) (ap is_present (ap (stage_of s.local) (sym i.0)) ∙ here)) (λ i. h.unfallen u p i.1 un here) (get_set tx u w p s.requests f);
   order = order_set g.asked s tx w h.order (ruled_alike s.shard s.run s.local.log tx q w r n (h.order.rulings tx q e));
 }
 
@@ -796,17 +794,16 @@ dones all g s m stamp tx from (Some q) h e =
 commit_sound : (all : List Item) (g : Past) (s : Shard) (tx : TxId) → Sound all g s → stage_of s.local tx ≡ Some Closed → committed_in s.local.log tx ≡ false → predecessors_committed s.local tx ≡ true → wrote_in s.local.log tx ≡ true → ((q : Request) → tx_get tx s.requests ≡ Some q → q.state ≡ Undecided → ⊥) → tx_in tx g.fell ≡ false → Sound all g (decided s tx true)
 commit_sound all g s tx h closed open_ before w none unfallen = record {
   kept = commit_here all g s tx [] h closed open_ (λ p e. list_all_at (committed_in s.local.log) p (predecessors_of s.local.pairs tx) before (pair_in s.local.pairs tx p e));
-  told = h.told;
-  within = h.within;
-  undecided = λ u q e un. ⊎_elim (λ c. inl (commit_other s.local.log tx u [] c (tx_ne u tx (λ same. none q (ap (λ z. tx_get z s.requests) (sym same) ∙ e) un)))) (λ c. inr c) (h.undecided u q e un);
-  readers = h.readers;
-  apart = h.apart;
-  unvoted = λ u v e x. let y : wrote_in s.local.log u ≡ false = false_from_ne_true _ (λ z. both_ways _ x (list_any-append (is_update_of u) s.local.log (Commit tx [] ∷ []) ∙ or_left _ _ z)) in
-      commit_other s.local.log tx u [] (h.unvoted u v e y) (tx_ne u tx (λ same. both_ways _ y (ap (wrote_in s.local.log) same ∙ w)));
-  read = h.read;
+  answers = h.answers;
+  requests = record { undecided = λ u q e un. ⊎_elim (λ c. inl (commit_other s.local.log tx u [] c (tx_ne u tx (λ same. none q (ap (λ z. tx_get z s.requests) (sym same) ∙ e) un)))) (λ c. inr c) (h.undecided u q e un); readers = h.readers; unfallen = h.unfallen };
+  voters = record {
+    apart = h.apart;
+    unvoted = λ u v e x. let y : wrote_in s.local.log u ≡ false = false_from_ne_true _ (λ z. both_ways _ x (list_any-append (is_update_of u) s.local.log (Commit tx [] ∷ []) ∙ or_left _ _ z)) in
+        commit_other s.local.log tx u [] (h.unvoted u v e y) (tx_ne u tx (λ same. both_ways _ y (ap (wrote_in s.local.log) same ∙ w)));
+    read = h.read;
+  };
   asked = commit_asked all g s tx [] h closed;
   falls = commit_falls all g s tx [] h closed (here_alive all g s tx h (ap is_present closed) unfallen (λ p e. list_all_at (committed_in s.local.log) p (predecessors_of s.local.pairs tx) before (pair_in s.local.pairs tx p e)));
-  unfallen = h.unfallen;
   order = decision_commits g.asked s.shard s.run s.local.locks s.local.parts s.local.pairs s.local.log s.requests h.order tx closed open_ (λ p e. list_all_at (committed_in s.local.log) p (predecessors_of s.local.pairs tx) before (pair_in s.local.pairs tx p e)) w;
 }
 
@@ -815,12 +812,12 @@ decides : (all : List Item) (g : Past) (s : Shard) (m : Message) (stamp : ℕ) (
 decides all g s m stamp tx home commit h may = at (is_waiting (facts_of s tx)) (commit && has_durable_commit (facts_of s tx)) refl
   where
     decided_after : (c : Bool) → commit ≡ c → is_waiting (facts_of s tx) ≡ true → After all g (decided s tx c)
-    decided_after true e w = let x = waiting_here s tx w in let y = may e x.1 in at_once all g _ (commit_sound all g s tx h x.0 x.1 y.0 y.1 y.2 y.3)
+    decided_after true e w = let x = waiting_here s tx w in let y = may e x.1 in at_once all g (decided s tx true) (commit_sound all g s tx h x.0 x.1 y.0 y.1 y.2 y.3)
     decided_after false e w = rolled all g s tx h (waiting_here s tx w).1
 
     at : (b c : Bool) → is_waiting (facts_of s tx) ≡ b → Keeps_reply all g s (Deliver m stamp) (on_decide s tx home commit (taken_if b c))
     at true c w = ends all g s (decided s tx commit) (Deliver m stamp) Taken (refl, refl, refl) refl (decided_after commit refl w)
-    at false true w = quietly all g s (send (Done home tx s.shard ∷ []) s) (Deliver m stamp) Taken (refl, refl, refl) refl (record { kept = h.kept; told = h.told; within = h.within; undecided = h.undecided; readers = h.readers; apart = h.apart; unvoted = h.unvoted; read = h.read; asked = h.asked; order = h.order; falls = h.falls; unfallen = h.unfallen })
+    at false true w = quietly all g s (send (Done home tx s.shard ∷ []) s) (Deliver m stamp) Taken (refl, refl, refl) refl h
     at false false w = early
 
 message : (all : List Item) (g : Past) (s : Shard) (m : Message) (stamp : ℕ) → Sound all g s → MayDeliver g.asked g.fell s m → Keeps_reply all g s (Deliver m stamp) (on_message s m)
@@ -829,7 +826,7 @@ message all g s (VoteMessage to tx from vote) stamp h may = votes all g s (VoteM
 message all g s (Decide to tx home true) stamp h may = decides all g s (Decide to tx home true) stamp tx home true h (λ e. may)
 message all g s (Decide to tx home false) stamp h may = decides all g s (Decide to tx home false) stamp tx home false h (λ e. absurd (both_ways false refl e))
 message all g s (Done to tx from) stamp h may = dones all g s (Done to tx from) stamp tx from (tx_get tx s.requests) h refl
-message all g s (Ask to tx from) stamp h may = quietly all g s (send (ask_messages s tx from (ask_answer (tx_get tx s.requests) (facts_of s tx))) s) (Deliver (Ask to tx from) stamp) Taken (refl, refl, refl) refl (record { kept = h.kept; told = h.told; within = h.within; undecided = h.undecided; readers = h.readers; apart = h.apart; unvoted = h.unvoted; read = h.read; asked = h.asked; order = h.order; falls = h.falls; unfallen = h.unfallen })
+message all g s (Ask to tx from) stamp h may = quietly all g s (send (ask_messages s tx from (ask_answer (tx_get tx s.requests) (facts_of s tx))) s) (Deliver (Ask to tx from) stamp) Taken (refl, refl, refl) refl h
 
 up : (all : List Item) (g : Past) (s : Shard) (e : Event) → Sound all g s → MayHappen all g.asked g.met g.fell s e → Keeps_reply all g s e (happen_up s e)
 up all g s (OpEvent tx birth nth seen op) h may = operation all g s tx birth nth seen op (seen_fits s.local.epoch seen) h may refl
@@ -841,7 +838,7 @@ up all g s (Deliver m stamp) h may = at_cond all g s (Deliver m stamp) (to_of m 
 up all g s Remind h may = reminded all g s s.outbox (reminders s) h
 up all g s FlushOut h may = flushed all g s s.flight _ h
 up all g s FlushIn h may = early
-up all g s Stop h may = does (g, record { kept = h.kept; told = h.told; within = h.within; undecided = h.undecided; readers = h.readers; apart = h.apart; unvoted = h.unvoted; read = h.read; asked = h.asked; order = h.order; falls = h.falls; unfallen = h.unfallen }, refl, refl, refl, (λ u o. o), (λ u n. absurd (none-some u n)), refl, refl)
+up all g s Stop h may = does (g, h, refl, refl, refl, (λ u o. o), (λ u n. absurd (none-some u n)), refl, refl)
 up all g s RestartEvent h may = early
 
 all_events : (all : List Item) (g : Past) (s : Shard) (e : Event) (b : Bool) → Sound all g s → MayHappen all g.asked g.met g.fell s e → Keeps_reply all g s e (elim b [ true ↦ happen_up s e | false ↦ QuietBeforeWorn Down ])
@@ -857,7 +854,7 @@ happen_sound all g s e o t h may eq = from_reply all g s e o t (subst (Keeps_rep
 
 -- and so does the end of a flush
 pub landed_sound : (all : List Item) (g : Past) (s : Shard) (n : ℕ) → Sound all g s → s.flight ≡ Some n → After all g (finish (with_durable n s))
-landed_sound all g s n h e = finish_sound all g (with_durable n s) (record { kept = keeps_front g (view_of s) n h.kept (h.kept.front n e); told = h.told; within = h.within; undecided = h.undecided; readers = h.readers; apart = h.apart; unvoted = h.unvoted; read = h.read; asked = h.asked; order = h.order; falls = falls_front g.asked g.fell g.lost g.over s.local.parts s.local.pairs s.local.log s.durable n (h.kept.front n e) (λ t c. durable_further s.local.log s.durable n t (h.kept.front n e) c) h.falls; unfallen = h.unfallen })
+landed_sound all g s n h e = finish_sound all g (with_durable n s) (record { kept = keeps_front g (view_of s) n h.kept (h.kept.front n e); answers = h.answers; requests = h.requests; voters = h.voters; asked = h.asked; falls = falls_front g.asked g.fell g.lost g.over s.local.parts s.local.pairs s.local.log s.durable n (h.kept.front n e) (λ t c. durable_further s.local.log s.durable n t (h.kept.front n e) c) h.falls; order = h.order })
 
 pub failed_sound : (all : List Item) (g : Past) (s : Shard) → Sound all g s → Sound all g (put_down s)
-failed_sound all g s h = record { kept = h.kept; told = h.told; within = h.within; undecided = h.undecided; readers = h.readers; apart = h.apart; unvoted = h.unvoted; read = h.read; asked = h.asked; order = h.order; falls = h.falls; unfallen = h.unfallen }
+failed_sound all g s h = h

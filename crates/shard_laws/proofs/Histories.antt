@@ -16,13 +16,12 @@ use Rattle.std.specs.Prelude.{take}
 use Rattle.clv_base.specs.declared.events.Event.{Event}
 use Rattle.clv_base.specs.declared.events.Event.TheVariants.{Op as OpEvent, Request as RequestEvent, Look, Drop, Send, Deliver, Remind, FlushOut, FlushIn, Stop, Restart as RestartEvent}
 use Rattle.clv_base.specs.declared.events.Outcome.{Outcome}
-use Rattle.clv_base.specs.declared.events.Outcome.TheVariants.{Up}
 use Rattle.clv_base.specs.Maps.{replay_map, replay_answers}
 use Rattle.clv_base.specs.declared.logs.LogRecord.{LogRecord}
 use Rattle.clv_base.specs.Logs.{stands, standing, committed_in, in_doubt}
 use Rattle.clv_base.specs.State.{Shard}
 use Rattle.clv_base.specs.Undo.{stage_of}
-use Rattle.clv_base.specs.Events.{Reply, Does, landed, with_entry, put_down, epoch_in}
+use Rattle.clv_base.specs.Events.{Reply, Does, landed, put_down, epoch_in}
 use Rattle.clv_base.specs.OneShard.{seen_fits}
 use Rattle.clv_base.specs.Restarts.{revived}
 use Rattle.shard_laws.specs.OneShard.{with_one, asks_by_stage, new_asked, MayHappen, Leads, opens, happens, lands, others_ask, revives, new_told, members_of, ops_by, answers_by, AnswersAndMap, Recoverable, new_met}
@@ -42,9 +41,6 @@ use Rattle.std.proofs.lemmas.Option.{none-some as none_tx, same_Some}
 use Rattle.shard_laws.proofs.Happening.{happen_sound, landed_sound, failed_sound, others_asked}
 use Rattle.shard_laws.proofs.Serial.{Once, once_push}
 use Rattle.shard_laws.proofs.Members.{serial_run, recovered}
-
-noted : (all : List Item) (g : Past) (s : Shard) (stamp walker : ℕ) (e : Event) (o : Outcome) → Sound all g s → Sound all g (with_entry stamp walker e o s)
-noted all g s stamp walker e o h = record { kept = h.kept; told = h.told; within = h.within; undecided = h.undecided; readers = h.readers; apart = h.apart; unvoted = h.unvoted; read = h.read; asked = h.asked; order = h.order; falls = h.falls; unfallen = h.unfallen }
 
 -- ---- who asks, asks once
 
@@ -116,15 +112,10 @@ refell all g t h =
     let f = h.falls in
     record {
       kept = record { start = k.start; past = k.past; log = k.log; records = k.records; locks = k.locks; parts = k.parts; fates = k.fates; ends = k.ends; pairs = k.pairs; durable = k.durable };
-      told = h.told;
-      within = h.within;
-      undecided = h.undecided;
-      readers = h.readers;
-      apart = h.apart;
-      unvoted = h.unvoted;
-      read = h.read;
+      answers = h.answers;
+      requests = record { undecided = h.undecided; readers = h.readers; unfallen = λ u q e un here. none_two (doomed_in t) g.fell u (false_from_ne_true _ (λ i. absent_doomed (stage_of t.local u) (named_doomed t u i) here)) (h.unfallen u q e un here) };
+      voters = h.voters;
       asked = h.asked;
-      order = h.order;
       falls = record {
         fallen = λ u e. f.fallen u (⊎_elim (λ i. old u i) (λ d. inr d) e);
         open_ = f.open_;
@@ -138,7 +129,7 @@ refell all g t h =
         settled = f.settled;
         paired = f.paired;
       };
-      unfallen = λ u q e un here. none_two (doomed_in t) g.fell u (false_from_ne_true _ (λ i. absent_doomed (stage_of t.local u) (named_doomed t u i) here)) (h.unfallen u q e un here);
+      order = h.order;
     }
   where
     old : (u : TxId) → tx_in u (doomed_in t ++ g.fell) ≡ true → Fell g.fell t.local.parts u
@@ -161,7 +152,7 @@ held shard run log0 _ _ _ _ _ _ (happens {all} {asked} {told} {met} {fell} {s} e
     let b = held shard run log0 all asked told met fell s before in
     let later = happen_sound all b.0 s e o t b.1 (subst (λ l. MayHappen all l (b.0).met (b.0).fell s e) (sym b.4) (subst (λ m. MayHappen all asked m (b.0).fell s e) (sym b.7) (subst (λ m. MayHappen all asked met m s e) (sym b.8) may))) eq in (
       record later.0 { fell = doomed_in t ++ (later.0).fell },
-      noted _ (record later.0 { fell = doomed_in t ++ (later.0).fell }) t stamp walker e o (refell _ later.0 t later.1),
+      refell _ later.0 t later.1,
       later.2 ∙ b.2,
       later.3 ∙ b.3,
       later.4 ∙ ap (λ l. with_one l (new_asked s e)) b.4,
@@ -175,7 +166,7 @@ held shard run log0 _ _ _ _ _ _ (lands {all} {asked} {told} {met} {fell} {s} n p
     let b = held shard run log0 all asked told met fell s before in
     let later = from_landed all b.0 o t (subst (Landed all b.0) eq (landed_any all b.0 s n pushed b.1 flies)) in (
       record later.0 { fell = doomed_in t ++ (later.0).fell },
-      noted all (record later.0 { fell = doomed_in t ++ (later.0).fell }) t stamp walker FlushIn o (refell all later.0 t later.1),
+      refell all later.0 t later.1,
       later.2 ∙ b.2,
       later.3 ∙ b.3,
       later.4 ∙ b.4,
@@ -191,7 +182,7 @@ held shard run log0 _ _ _ _ _ _ (others_ask {all} {asked} {told} {met} {fell} {s
 held shard run log0 _ _ _ _ _ _ (revives {all} {asked} {told} {met} {fell} {s} kept epoch log stamp walker before down leads) =
     let b = held shard run log0 all asked told met fell s before in
     let later = revived_sound all told b.0 s kept epoch log b.1 b.9 (subst Once (sym b.4) b.5) b.6 leads in
-    (later.0, noted all later.0 (revived s epoch log) stamp walker RestartEvent (Up epoch) later.1, later.2 ∙ b.2, later.3 ∙ b.3, later.4 ∙ b.4, b.5, later.5, later.6 ∙ b.7, later.7 ∙ ap (λ l. left_out s (revived s epoch log) ++ l) b.8, later.8)
+    (later.0, later.1, later.2 ∙ b.2, later.3 ∙ b.3, later.4 ∙ b.4, b.5, later.5, later.6 ∙ b.7, later.7 ∙ ap (λ l. left_out s (revived s epoch log) ++ l) b.8, later.8)
 
 pub answers_and_map : AnswersAndMap
 answers_and_map shard run before all asked told met fell s cut leads le =

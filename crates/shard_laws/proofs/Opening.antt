@@ -280,17 +280,16 @@ module _ (shard run : ℕ) (before : List LogRecord) (may : MayServe shard run b
       };
       durable = record { base_done = base_done (standing before); front = λ n e. absurd (none-some n e) };
     };
-    told = λ t. inr refl;
-    within = part_same (found_items shard before);
-    undecided = λ t q e u. absurd ((subst IsCommitted e (restored_committed (unended_in Now Now) t)).0 u);
-    readers = λ t q e u. absurd ((subst IsCommitted e (restored_committed (unended_in Now Now) t)).1 u);
-    apart = λ t v e. requests_none (unended_in Now Now) t (unended_none Now Now t (doubt_open t (voter_is Now doubt t v e).0));
-    unvoted = λ t v e w. doubt_open t (voter_is Now doubt t v e).0;
-    read = λ t v e f. absurd (no_read v (voter_is Now doubt t v e).1 f);
+    answers = record { told = λ t. inr refl; within = part_same (found_items shard before) };
+    requests = record { undecided = λ t q e u. absurd ((subst IsCommitted e (restored_committed (unended_in Now Now) t)).0 u); readers = λ t q e u. absurd ((subst IsCommitted e (restored_committed (unended_in Now Now) t)).1 u); unfallen = λ t q e u here. refl };
+    voters = record {
+      apart = λ t v e. requests_none (unended_in Now Now) t (unended_none Now Now t (doubt_open t (voter_is Now doubt t v e).0));
+      unvoted = λ t v e w. doubt_open t (voter_is Now doubt t v e).0;
+      read = λ t v e f. absurd (no_read v (voter_is Now doubt t v e).1 f);
+    };
     asked = λ t e. inr (old_run t (sym (re.found.commits t) ∙ e));
-    order = order_start;
     falls = falls_start;
-    unfallen = λ t q e u here. refl;
+    order = order_start;
   }
 
   pub sound_opened : Sound (found_items shard before) (past_of shard before) (opened shard run before)

@@ -492,16 +492,19 @@ module _ (all : List Item) (g : Past) (s : Shard) (c epoch : ℕ) (log : List Lo
       pairs = record { downwards = λ t p e m. absurd (both_ways _ (doubt_open t (pair_of log doubt t p e)) m); causes = causes_now };
       durable = record { base_done = all_mono _ _ (λ w e. committed_remade s.shard (take c s.local.log) log re w.tx e) g.base (cut_base all g s g.over c h le once (λ t i. i)); front = λ n e. absurd (none-some n e) };
     };
-    told = told_now;
-    within = part_filter (λ x. stays x.tx) g.items all h.within;
-    falls = falls_now;
-    unfallen = λ t q e u here. absurd ((subst IsCommitted e (restored_committed (unended_in log log) t)).0 u);
-    undecided = λ t q e u. absurd ((subst IsCommitted e (restored_committed (unended_in log log) t)).0 u);
-    readers = λ t q e u. absurd ((subst IsCommitted e (restored_committed (unended_in log log) t)).1 u);
-    apart = λ t v e. requests_none (unended_in log log) t (unended_none log log t (doubt_open t (voter_is log doubt t v e).0));
-    unvoted = λ t v e w. doubt_open t (voter_is log doubt t v e).0;
-    read = λ t v e f. absurd (no_read v (voter_is log doubt t v e).1 f);
+    answers = record { told = told_now; within = part_filter (λ x. stays x.tx) g.items all h.within };
+    requests = record {
+      undecided = λ t q e u. absurd ((subst IsCommitted e (restored_committed (unended_in log log) t)).0 u);
+      readers = λ t q e u. absurd ((subst IsCommitted e (restored_committed (unended_in log log) t)).1 u);
+      unfallen = λ t q e u here. absurd ((subst IsCommitted e (restored_committed (unended_in log log) t)).0 u);
+    };
+    voters = record {
+      apart = λ t v e. requests_none (unended_in log log) t (unended_none log log t (doubt_open t (voter_is log doubt t v e).0));
+      unvoted = λ t v e w. doubt_open t (voter_is log doubt t v e).0;
+      read = λ t v e f. absurd (no_read v (voter_is log doubt t v e).1 f);
+    };
     asked = λ t e. h.asked t (cut_keeps c s.local.log t (sym (found.commits t) ∙ e));
+    falls = falls_now;
     order = order_now;
   }
 

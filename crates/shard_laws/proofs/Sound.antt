@@ -8,6 +8,7 @@ use Rattle.clv_base.specs.declared.names.TxId.{TxId}
 use Rattle.clv_base.specs.declared.logs.LogRecord.{LogRecord}
 use Rattle.clv_base.specs.declared.logs.LogRecord.TheVariants.{Commit, End}
 use Rattle.clv_base.specs.declared.state.Stage.{Stage}
+use Rattle.clv_base.specs.declared.state.Held.{Held}
 use Rattle.clv_base.specs.declared.state.Stage.TheVariants.{Active, Closed, Gone}
 use Rattle.clv_base.specs.Orders.{Table, tx_same, tx_in, tx_get}
 use Rattle.clv_base.specs.Logs.{standing, committed_in, wrote_in, is_update_of, is_commit_of, commit_lsn}
@@ -28,7 +29,7 @@ use Rattle.clv_base.proofs.SameNames.{or_left, or_right, tx_true, tx_self, tx_ne
 use Rattle.law_base.proofs.Undoing.{keeps_of, standing_append}
 use Rattle.law_base.proofs.Tables.{is_pair, pair_in}
 use Rattle.law_base.proofs.Commits.{commit_durable, durable_committed, uncommitted_append, committed_from, place_some}
-use Rattle.shard_laws.proofs.Kept.{Past, Kept}
+use Rattle.shard_laws.proofs.Kept.{Past, View, Kept}
 use Rattle.clv_base.specs.declared.state.Voter.{Voter}
 use Rattle.clv_base.specs.declared.causes.Vote.{Vote}
 use Rattle.clv_base.specs.declared.causes.Vote.TheVariants.{Yes, Read, No}
@@ -121,26 +122,52 @@ Open shard log t q = (committed_in log t ≡ false) ⊎ ((others shard q.touched
 abbrev pub AskedOrOld : Past → ℕ → TxId → Type 0
 AskedOrOld g run t = (tx_in t g.asked ≡ true) ⊎ (t.run < run)
 
-pub record Sound (all : List Item) (g : Past) (s : Shard) : Type 0 where
-  pub kept : Kept g (view_of s)
-  -- of each transaction the past has all that it was answered, or it is lost
-  pub told : (t : TxId) → Lost g t ⊎ (items_of t g.items ≡ items_of t all)
-  -- in the order in which all were answered
-  pub within : PartOf g.items all
-  pub undecided : (t : TxId) (q : Request) → tx_get t s.requests ≡ Some q → q.state ≡ Undecided → Open s.shard s.local.log t q
-  pub readers : (t : TxId) (q : Request) → tx_get t s.requests ≡ Some q → q.state ≡ Finished → tx_in t g.over ≡ true
-  -- no home is asked by another; what votes and did not write is not committed
-  pub apart : (t : TxId) (v : Voter) → tx_get t s.voters ≡ Some v → tx_get t s.requests ≡ None
-  pub unvoted : (t : TxId) (v : Voter) → tx_get t s.voters ≡ Some v → wrote_in s.local.log t ≡ false → committed_in s.local.log t ≡ false
-  -- a part that voted Read has left
-  pub read : (t : TxId) (v : Voter) → tx_get t s.voters ≡ Some v → v.vote ≡ Some Read → stage_of s.local t ≡ Some (Gone None)
+-- what of a shard its invariant reads
+pub record Seen : Type 0 where
+  pub shard : ℕ
+  pub run : ℕ
+  pub view : View
+  pub voters : Table Voter
+  pub requests : Table Request
+
+abbrev pub seen_of : Shard → Seen
+seen_of s = record { shard = s.shard; run = s.run; view = view_of s; voters = s.voters; requests = s.requests }
+
+-- what was answered: of each transaction the past has all that it was answered, or it is lost; and that in the order in which all were answered
+pub record SoundAnswers (all items : List Item) (lost : List TxId) : Type 0 where
+  pub told : (t : TxId) → (tx_in t lost ≡ true) ⊎ (items_of t items ≡ items_of t all)
+  pub within : PartOf items all
+
+-- requests: an undecided one is open, a finished one is over, and of whose undecided request this is the home, it did not fall
+pub record SoundRequests (shard : ℕ) (over fell : List TxId) (parts : Table Held) (log : List LogRecord) (requests : Table Request) : Type 0 where
+  pub undecided : (t : TxId) (q : Request) → tx_get t requests ≡ Some q → q.state ≡ Undecided → Open shard log t q
+  pub readers : (t : TxId) (q : Request) → tx_get t requests ≡ Some q → q.state ≡ Finished → tx_in t over ≡ true
+  pub unfallen : (t : TxId) (q : Request) → tx_get t requests ≡ Some q → q.state ≡ Undecided → is_present (stage_in parts t) ≡ true → tx_in t fell ≡ false
+
+-- voters: no home is asked by another; what votes and did not write is not committed; a part that voted Read has left
+pub record SoundVoters (parts : Table Held) (log : List LogRecord) (voters : Table Voter) (requests : Table Request) : Type 0 where
+  pub apart : (t : TxId) (v : Voter) → tx_get t voters ≡ Some v → tx_get t requests ≡ None
+  pub unvoted : (t : TxId) (v : Voter) → tx_get t voters ≡ Some v → wrote_in log t ≡ false → committed_in log t ≡ false
+  pub read : (t : TxId) (v : Voter) → tx_get t voters ≡ Some v → v.vote ≡ Some Read → stage_in parts t ≡ Some (Gone None)
+
+-- each group reads only what its type names, and all of them only what is seen: a step that leaves this alone hands it on
+pub record SoundIn (all : List Item) (g : Past) (v : Seen) : Type 0 where
+  pub kept : Kept g v.view
+  pub answers : SoundAnswers all g.items g.lost
+  pub open answers use *
+  pub requests : SoundRequests v.shard g.over g.fell v.view.parts v.view.log v.requests
+  pub open requests use *
+  pub voters : SoundVoters v.view.parts v.view.log v.voters v.requests
+  pub open voters use *
   -- who is committed asked, or is of an earlier run
-  pub asked : (t : TxId) → committed_in s.local.log t ≡ true → AskedOrOld g s.run t
-  -- who fell and who is lost; and of whose request this is the home, it did not fall
-  pub falls : Falls g.asked g.fell g.lost g.over s.local.parts s.local.pairs s.local.log s.durable
-  pub unfallen : (t : TxId) (q : Request) → tx_get t s.requests ≡ Some q → q.state ≡ Undecided → is_present (stage_of s.local t) ≡ true → tx_in t g.fell ≡ false
+  pub asked : (t : TxId) → committed_in v.view.log t ≡ true → AskedOrOld g v.run t
+  -- who fell and who is lost
+  pub falls : Falls g.asked g.fell g.lost g.over v.view.parts v.view.pairs v.view.log v.view.durable
   -- what the order rules of its log rest on
-  pub order : KeepsOrder g.asked s.shard s.run s.local.locks s.local.parts s.local.pairs s.local.log s.requests
+  pub order : KeepsOrder g.asked v.shard v.run v.view.locks v.view.parts v.view.pairs v.view.log v.requests
+
+abbrev pub Sound : List Item → Past → Shard → Type 0
+Sound all g s = SoundIn all g (seen_of s)
 
 abbrev pub More_over : Past → Past → Type 0
 More_over g h = (t : TxId) → tx_in t g.over ≡ true → tx_in t h.over ≡ true
@@ -224,18 +251,13 @@ was_here s t u e = false_or (is_present (stage_of s.local u)) refl
 finished : (all : List Item) (g : Past) (s : Shard) (t : TxId) → Sound all g s → stage_of s.local t ≡ Some Closed → Done (view_of s) t → Sound all (record g { over = t ∷ g.over }) (finish_part t s)
 finished all g s t h closed done = record {
   kept = keeps_finish g (view_of s) t h.kept closed done;
-  told = h.told;
-  within = h.within;
-  undecided = h.undecided;
-  readers = λ u q e f. or_right (tx_same t u) _ (h.readers u q e f);
-  apart = h.apart;
-  unvoted = h.unvoted;
-  read = λ u v e f. gone_stays t u s.local.parts (h.read u v e f);
+  answers = h.answers;
+  requests = record { undecided = h.undecided; readers = λ u q e f. or_right (tx_same t u) _ (h.readers u q e f); unfallen = λ u q e un here. h.unfallen u q e un (was_here s t u here) };
+  voters = record { apart = h.apart; unvoted = h.unvoted; read = λ u v e f. gone_stays t u s.local.parts (h.read u v e f) };
   asked = h.asked;
   falls = falls_over g.asked g.fell g.lost g.over (gone_in (t ∷ []) None s.local.parts) (pairs_without (t ∷ []) s.local.pairs) s.local.log s.durable t (done_alive all g s t h closed done)
       (falls_finish g.asked g.fell g.lost g.over s.local.parts s.local.pairs s.local.log s.durable t h.falls (done_alive all g s t h closed done)
       (λ c. ⊎_elim (λ d. d) (λ d. absurd (both_ways _ d.0 c)) done) (λ p. wrote_done s t t refl done (prepared_wrote s.shard s.local.log h.order.ordered.follows t p)));
-  unfallen = λ u q e un here. h.unfallen u q e un (was_here s t u here);
   order = order_leaves g.asked s.shard s.run s.local.locks s.local.parts s.local.pairs s.local.log s.requests h.order (t ∷ []) None (λ u i. inl (λ w. wrote_done s t u (one_in t u i) done w));
 }
 
@@ -251,16 +273,11 @@ again_falls all g s t h gone =
 finished_again : (all : List Item) (g : Past) (s : Shard) (t : TxId) → Sound all g s → stage_of s.local t ≡ Some (Gone None) → Sound all g (finish_part t s)
 finished_again all g s t h gone = record {
   kept = keeps_again g (view_of s) t h.kept gone;
-  told = h.told;
-  within = h.within;
-  undecided = h.undecided;
-  readers = h.readers;
-  apart = h.apart;
-  unvoted = h.unvoted;
-  read = λ u v e f. gone_stays t u s.local.parts (h.read u v e f);
+  answers = h.answers;
+  requests = record { undecided = h.undecided; readers = h.readers; unfallen = λ u q e un here. h.unfallen u q e un (was_here s t u here) };
+  voters = record { apart = h.apart; unvoted = h.unvoted; read = λ u v e f. gone_stays t u s.local.parts (h.read u v e f) };
   asked = h.asked;
   falls = again_falls all g s t h gone;
-  unfallen = λ u q e un here. h.unfallen u q e un (was_here s t u here);
   order = order_leaves g.asked s.shard s.run s.local.locks s.local.parts s.local.pairs s.local.log s.requests h.order (t ∷ []) None
       (λ u i. inr ((λ c. gone_closed (sym gone ∙ ap (stage_of s.local) (sym (one_in t u i)) ∙ c)), (λ p e. both_ways _ (ap is_present (ap (stage_of s.local) (one_in t u i) ∙ gone)) (h.kept.successors u p e))));
 }
@@ -269,16 +286,11 @@ finished_again all g s t h gone = record {
 pub marked_sound : (all : List Item) (g : Past) (s : Shard) (t : TxId) → Sound all g s → Sound all g (with_local (mark_dropped t) s)
 marked_sound all g s t h = record {
   kept = keeps_marked g (view_of s) t h.kept;
-  told = h.told;
-  within = h.within;
-  undecided = h.undecided;
-  readers = h.readers;
-  apart = h.apart;
-  unvoted = h.unvoted;
-  read = λ u v e f. stage_marked t u s.local.parts ∙ h.read u v e f;
+  answers = h.answers;
+  requests = record { undecided = h.undecided; readers = h.readers; unfallen = λ u q e un here. h.unfallen u q e un (ap is_present (sym (stage_marked t u s.local.parts)) ∙ here) };
+  voters = record { apart = h.apart; unvoted = h.unvoted; read = λ u v e f. stage_marked t u s.local.parts ∙ h.read u v e f };
   asked = h.asked;
   falls = falls_parts g.asked g.fell g.lost g.over s.local.parts (marked_in t s.local.parts) s.local.pairs s.local.log s.durable (λ u. ap is_present (stage_marked t u s.local.parts)) (λ u. ap is_doomed (stage_marked t u s.local.parts)) h.falls;
-  unfallen = λ u q e un here. h.unfallen u q e un (ap is_present (sym (stage_marked t u s.local.parts)) ∙ here);
   order = order_marked g.asked s.shard s.run s.local.locks s.local.parts s.local.pairs s.local.log s.requests t h.order;
 }
 
@@ -298,23 +310,22 @@ commit_next all g s tx None h e = nothing
 commit_next all g s tx (Some Active) h e = nothing
 commit_next all g s tx (Some Closed) h e =
     due_cond all g (commit_durable s.local.log s.durable tx) (Some (with_commit_done s tx)) None
-    (λ d. let f = finished all g s tx h e (inl d) in step (record g { over = tx ∷ g.over }, record { kept = f.kept; told = f.told; within = f.within; undecided = f.undecided; readers = f.readers; apart = f.apart; unvoted = f.unvoted; read = f.read; asked = f.asked; order = f.order; falls = f.falls; unfallen = f.unfallen }, refl, refl, refl, over_more g tx, refl, refl)) (λ d. nothing)
+    (λ d. let f = finished all g s tx h e (inl d) in step (record g { over = tx ∷ g.over }, f, refl, refl, refl, over_more g tx, refl, refl)) (λ d. nothing)
 commit_next all g s tx (Some (Gone d)) h e = nothing
 
 -- a vote changes what the shard keeps of the voter alone
 voted_sound : (all : List Item) (g : Past) (s : Shard) (tx : TxId) (v : Voter) (vote : Vote) → Sound all g s → tx_get tx s.voters ≡ Some v → (vote ≡ Read → stage_of s.local tx ≡ Some (Gone None)) → Sound all g (with_vote s tx v vote)
 voted_sound all g s tx v vote h e left = record {
   kept = h.kept;
-  told = h.told;
-  within = h.within;
-  undecided = h.undecided;
-  readers = h.readers;
-  apart = λ u w f. ⊎_elim (λ p. subst (λ z. tx_get z s.requests ≡ None) (sym p.0) (h.apart tx v e)) (λ p. h.apart u w p.1) (get_set tx u (voted vote v) w s.voters f);
-  unvoted = λ u w f. ⊎_elim (λ p. subst (λ z. wrote_in s.local.log z ≡ false → committed_in s.local.log z ≡ false) (sym p.0) (h.unvoted tx v e)) (λ p. h.unvoted u w p.1) (get_set tx u (voted vote v) w s.voters f);
-  read = λ u w f i. ⊎_elim (λ p. ap (stage_of s.local) p.0 ∙ left (same_Some vote Read (ap (λ z. z.vote) (sym p.1) ∙ i))) (λ p. h.read u w p.1 i) (get_set tx u (voted vote v) w s.voters f);
+  answers = h.answers;
+  requests = h.requests;
+  voters = record {
+    apart = λ u w f. ⊎_elim (λ p. subst (λ z. tx_get z s.requests ≡ None) (sym p.0) (h.apart tx v e)) (λ p. h.apart u w p.1) (get_set tx u (voted vote v) w s.voters f);
+    unvoted = λ u w f. ⊎_elim (λ p. subst (λ z. wrote_in s.local.log z ≡ false → committed_in s.local.log z ≡ false) (sym p.0) (h.unvoted tx v e)) (λ p. h.unvoted u w p.1) (get_set tx u (voted vote v) w s.voters f);
+    read = λ u w f i. ⊎_elim (λ p. ap (stage_of s.local) p.0 ∙ left (same_Some vote Read (ap (λ z. z.vote) (sym p.1) ∙ i))) (λ p. h.read u w p.1 i) (get_set tx u (voted vote v) w s.voters f);
+  };
   asked = h.asked;
   falls = h.falls;
-  unfallen = h.unfallen;
   order = h.order;
 }
 
@@ -356,14 +367,14 @@ give_next all g s tx v (Some Read) h e f = ⊎_elim again first (read_by s tx v 
     again r =
         let gone = h.read tx v e r in
         let x = voted_sound all g (finish_part tx s) tx v Read (finished_again all g s tx h gone) e (λ y. gone_stays tx tx s.local.parts gone) in
-        step (at_once all g (finish_part tx (with_vote s tx v Read)) (record { kept = x.kept; told = x.told; within = x.within; undecided = x.undecided; readers = x.readers; apart = x.apart; unvoted = x.unvoted; read = x.read; asked = x.asked; order = x.order; falls = x.falls; unfallen = x.unfallen }))
+        step (at_once all g (finish_part tx (with_vote s tx v Read)) x)
 
     first : ReadNow s tx → Next all g (Some (finish_reader tx Read (with_vote s tx v Read)))
     first r =
         let x = voted_sound all (record g { over = tx ∷ g.over }) (finish_part tx s) tx v Read
         (finished all g s tx h r.0 (inr (h.unvoted tx v e r.2, r.2, durable_before s tx r.1))) e
         (λ y. stage_own (tx ∷ []) None tx s.local.parts (or_left _ _ (tx_self tx)) ∙ ap (gone_by None) r.0) in
-        step (record g { over = tx ∷ g.over }, record { kept = x.kept; told = x.told; within = x.within; undecided = x.undecided; readers = x.readers; apart = x.apart; unvoted = x.unvoted; read = x.read; asked = x.asked; order = x.order; falls = x.falls; unfallen = x.unfallen }, refl, refl, refl, over_more g tx, refl, refl)
+        step (record g { over = tx ∷ g.over }, x, refl, refl, refl, over_more g tx, refl, refl)
 
 vote_next : (all : List Item) (g : Past) (s : Shard) (tx : TxId) (o : Option Voter) → Sound all g s → tx_get tx s.voters ≡ o → Next all g (vote_due s tx o)
 vote_next all g s tx None h e = nothing
@@ -407,20 +418,22 @@ rolled all g s tx h open_ =
       record g { items = filter (keeps_of (doomed_here s.local tx)) g.items; lost = doomed_here s.local tx ++ g.lost },
       record {
         kept = keeps_taken g (view_of s) (doomed_here s.local tx) tx h.kept go ((order_of s.shard s.local.log h.order.ordered.follows).writes).chain (upward_under (doomed_here s.local tx) s.local.pairs (committed_in s.local.log) (standing s.local.log) go.upward (λ u c. false_from_ne_true _ (λ i. both_ways _ (go.undecided u i) c)) h.order.lying.under);
-        told = λ u. ⊎_elim (λ i. inl (in_first (doomed_here s.local tx) g.lost u i)) (λ i. ⊎_elim (λ l. inl (in_more (doomed_here s.local tx) g.lost u l)) (λ e. inr (own_kept (doomed_here s.local tx) u g.items i ∙ e)) (h.told u)) (cases_Bool (tx_in u (doomed_here s.local tx)));
-        within = part_filter (keeps_of (doomed_here s.local tx)) g.items all h.within;
-        undecided = λ t q e u. ⊎_elim (λ c. inl (none_rolled s tx t c)) (λ c. inr c) (h.undecided t q e u);
-        readers = h.readers;
-        apart = h.apart;
-        unvoted = λ t v e w. none_rolled s tx t (h.unvoted t v e (false_from_ne_true _ (λ x. both_ways _ w (rolled_wrote s tx t x))));
-        read = λ t v e f. let r = h.read t v e f in
-            stage_other (doomed_here s.local tx) (Some tx) t s.local.parts (false_from_ne_true _ (λ i. both_ways false refl (sym (ap is_present r) ∙ (in_filter (λ x. is_present (stage_of s.local x)) t (doomed_by s.local tx) i).1))) ∙ r;
+        answers = record {
+          told = λ u. ⊎_elim (λ i. inl (in_first (doomed_here s.local tx) g.lost u i)) (λ i. ⊎_elim (λ l. inl (in_more (doomed_here s.local tx) g.lost u l)) (λ e. inr (own_kept (doomed_here s.local tx) u g.items i ∙ e)) (h.told u)) (cases_Bool (tx_in u (doomed_here s.local tx)));
+          within = part_filter (keeps_of (doomed_here s.local tx)) g.items all h.within;
+        };
+        requests = record { undecided = λ t q e u. ⊎_elim (λ c. inl (none_rolled s tx t c)) (λ c. inr c) (h.undecided t q e u); readers = h.readers; unfallen = λ u q e un here. h.unfallen u q e un (was_present (doomed_here s.local tx) (Some tx) u s.local.parts here) };
+        voters = record {
+          apart = h.apart;
+          unvoted = λ t v e w. none_rolled s tx t (h.unvoted t v e (false_from_ne_true _ (λ x. both_ways _ w (rolled_wrote s tx t x))));
+          read = λ t v e f. let r = h.read t v e f in
+              stage_other (doomed_here s.local tx) (Some tx) t s.local.parts (false_from_ne_true _ (λ i. both_ways false refl (sym (ap is_present r) ∙ (in_filter (λ x. is_present (stage_of s.local x)) t (doomed_by s.local tx) i).1))) ∙ r;
+        };
         asked = λ t e. rolled_asked all g s tx t h e;
         falls = subst (λ l. Falls g.asked g.fell (doomed_here s.local tx ++ g.lost) g.over (gone_in (doomed_here s.local tx) (Some tx) s.local.parts) (pairs_without (doomed_here s.local tx) s.local.pairs) l s.durable) (sym (append_assoc s.local.log (aborts_of s.local.log (doomed_here s.local tx)) (clrs_of (doomed_here s.local tx) (standing s.local.log))))
             (falls_taken g.asked g.fell g.lost g.over s.local.parts s.local.pairs s.local.log (aborts_of s.local.log (doomed_here s.local tx) ++ clrs_of (doomed_here s.local tx) (standing s.local.log)) s.durable (doomed_here s.local tx) tx h.falls go.upward go.undecided go.present
             (λ u i. false_from_ne_true _ (λ o. ⊎_elim (λ d. both_ways _ (go.undecided u i) (durable_committed s.local.log s.durable u d)) (λ d. both_ways _ d.2 (go.present u i)) (h.kept.over u o)))
             (λ u p here i. lists_here all g s h u p here i) (committed_lists s.shard s.local.log h.order.ordered.follows) (λ u. no_prepares (doomed_here s.local tx) u s.local.log) (λ u. no_commits (doomed_here s.local tx) u s.local.log));
-        unfallen = λ u q e un here. h.unfallen u q e un (was_present (doomed_here s.local tx) (Some tx) u s.local.parts here);
         order = order_taken g.asked s.shard s.run s.local.locks s.local.parts s.local.pairs s.local.log s.requests h.order (doomed_here s.local tx) tx go.upward go.undecided go.present (doomed_once s.local tx);
       },
       refl,
@@ -451,16 +464,15 @@ refused_unfinished c e = absurd cc
 refused_as : (all : List Item) (g : Past) (s : Shard) (tx : TxId) (q : Request) (c : AbortCause) (to : List ℕ) → Sound all g s → Sound all g (with_ruling tx q (AbortRuling c to) s)
 refused_as all g s tx q c to h = record {
   kept = h.kept;
-  told = h.told;
-  within = h.within;
-  undecided = ruled_open s tx (record q { state = Refused c }) (refused_not c) s.local.log h.undecided;
-  readers = ruled_reader g s tx (record q { state = Refused c }) (λ e. absurd (refused_unfinished c e)) h.readers;
-  apart = λ t v e. set_none tx t (record q { state = Refused c }) s.requests (h.apart t v e);
-  unvoted = h.unvoted;
-  read = h.read;
+  answers = h.answers;
+  requests = record {
+    undecided = ruled_open s tx (record q { state = Refused c }) (refused_not c) s.local.log h.undecided;
+    readers = ruled_reader g s tx (record q { state = Refused c }) (λ e. absurd (refused_unfinished c e)) h.readers;
+    unfallen = λ u w e f here. ⊎_elim (λ p. absurd (refused_not c (ap (λ z. z.state) (sym p.1) ∙ f))) (λ p. h.unfallen u w p.1 f here) (get_set tx u (record q { state = Refused c }) w s.requests e);
+  };
+  voters = record { apart = λ t v e. set_none tx t (record q { state = Refused c }) s.requests (h.apart t v e); unvoted = h.unvoted; read = h.read };
   asked = h.asked;
   falls = h.falls;
-  unfallen = λ u w e f here. ⊎_elim (λ p. absurd (refused_not c (ap (λ z. z.state) (sym p.1) ∙ f))) (λ p. h.unfallen u w p.1 f here) (get_set tx u (record q { state = Refused c }) w s.requests e);
   order = order_set g.asked s tx (record q { state = Refused c }) h.order (ruled_other s.shard s.run s.local.log tx (record q { state = Refused c }) (refused_not c) (refused_commit c));
 }
 
@@ -508,20 +520,23 @@ update_committed all g s tx q parts h there closed open_ before un home wrote = 
   g,
   record {
     kept = commit_here all g s tx parts h closed open_ before;
-    told = h.told;
-    within = h.within;
-    undecided = λ u r e un. ⊎_elim
-        (λ p. absurd (committed_not parts (ap (λ z. z.state) (sym p.1) ∙ un)))
-        (λ p. ⊎_elim (λ c. inl (commit_other s.local.log tx u parts c (tx_ne u tx p.0))) (λ c. inr c) (h.undecided u r p.1 un))
-        (get_set tx u (record q { state = Committed parts }) r s.requests e);
-    readers = ruled_reader g s tx (record q { state = Committed parts }) (λ e. absurd (committed_unfinished parts e)) h.readers;
-    apart = λ t v e. set_none tx t (record q { state = Committed parts }) s.requests (h.apart t v e);
-    unvoted = λ t v e w. commit_other s.local.log tx t parts (h.unvoted t v e (false_from_ne_true _ (λ x. both_ways _ w (list_any-append (is_update_of t) s.local.log (Commit tx parts ∷ []) ∙ or_left _ _ x))))
-        (tx_ne t tx (λ same. none_some q (sym (h.apart t v e) ∙ ap (λ z. tx_get z s.requests) same ∙ there)));
-    read = h.read;
+    answers = h.answers;
+    requests = record {
+      undecided = λ u r e un. ⊎_elim
+          (λ p. absurd (committed_not parts (ap (λ z. z.state) (sym p.1) ∙ un)))
+          (λ p. ⊎_elim (λ c. inl (commit_other s.local.log tx u parts c (tx_ne u tx p.0))) (λ c. inr c) (h.undecided u r p.1 un))
+          (get_set tx u (record q { state = Committed parts }) r s.requests e);
+      readers = ruled_reader g s tx (record q { state = Committed parts }) (λ e. absurd (committed_unfinished parts e)) h.readers;
+      unfallen = λ u w e f here. ⊎_elim (λ p. absurd (committed_not parts (ap (λ z. z.state) (sym p.1) ∙ f))) (λ p. h.unfallen u w p.1 f here) (get_set tx u (record q { state = Committed parts }) w s.requests e);
+    };
+    voters = record {
+      apart = λ t v e. set_none tx t (record q { state = Committed parts }) s.requests (h.apart t v e);
+      unvoted = λ t v e w. commit_other s.local.log tx t parts (h.unvoted t v e (false_from_ne_true _ (λ x. both_ways _ w (list_any-append (is_update_of t) s.local.log (Commit tx parts ∷ []) ∙ or_left _ _ x))))
+          (tx_ne t tx (λ same. none_some q (sym (h.apart t v e) ∙ ap (λ z. tx_get z s.requests) same ∙ there)));
+      read = h.read;
+    };
     asked = commit_asked all g s tx parts h closed;
     falls = commit_falls all g s tx parts h closed (here_alive all g s tx h (ap is_present closed) (h.unfallen tx q there un (ap is_present closed)) before);
-    unfallen = λ u w e f here. ⊎_elim (λ p. absurd (committed_not parts (ap (λ z. z.state) (sym p.1) ∙ f))) (λ p. h.unfallen u w p.1 f here) (get_set tx u (record q { state = Committed parts }) w s.requests e);
     order = committed_order g.asked s tx q parts h.order there closed open_ before un home wrote;
   },
   refl,
@@ -537,16 +552,15 @@ reader_sound all g s tx q h closed done =
     let f = finished all g s tx h closed done in
     record {
       kept = f.kept;
-      told = f.told;
-      within = f.within;
-      undecided = ruled_open s tx (record q { state = Finished }) finished_not s.local.log h.undecided;
-      readers = ruled_reader (record g { over = tx ∷ g.over }) s tx (record q { state = Finished }) (λ e. or_left _ _ (tx_self tx)) f.readers;
-      apart = λ t v e. set_none tx t (record q { state = Finished }) s.requests (h.apart t v e);
-      unvoted = h.unvoted;
-      read = f.read;
+      answers = f.answers;
+      requests = record {
+        undecided = ruled_open s tx (record q { state = Finished }) finished_not s.local.log h.undecided;
+        readers = ruled_reader (record g { over = tx ∷ g.over }) s tx (record q { state = Finished }) (λ e. or_left _ _ (tx_self tx)) f.readers;
+        unfallen = λ u w e g2 here. ⊎_elim (λ p. absurd (finished_not (ap (λ z. z.state) (sym p.1) ∙ g2))) (λ p. f.unfallen u w p.1 g2 here) (get_set tx u (record q { state = Finished }) w s.requests e);
+      };
+      voters = record { apart = λ t v e. set_none tx t (record q { state = Finished }) s.requests (h.apart t v e); unvoted = h.unvoted; read = f.read };
       asked = h.asked;
       falls = f.falls;
-      unfallen = λ u w e g2 here. ⊎_elim (λ p. absurd (finished_not (ap (λ z. z.state) (sym p.1) ∙ g2))) (λ p. f.unfallen u w p.1 g2 here) (get_set tx u (record q { state = Finished }) w s.requests e);
       order = order_set g.asked (finish_part tx s) tx (record q { state = Finished }) f.order (ruled_other s.shard s.run s.local.log tx (record q { state = Finished }) finished_not finished_commit);
     }
 
@@ -600,7 +614,7 @@ refuse_next all g s tx q None h open_ e = nothing
 refuse_next all g s tx q (Some c) h open_ e =
     let r = rolled all g (with_ruling tx q (AbortRuling c (open_shards s.shard q)) s) tx (refused_as all g s tx q c (open_shards s.shard q) h) (refusal_open all g s tx q c h open_ e) in
     let f = r.1 in
-    step (r.0, record { kept = f.kept; told = f.told; within = f.within; undecided = f.undecided; readers = f.readers; apart = f.apart; unvoted = f.unvoted; read = f.read; asked = f.asked; order = f.order; falls = f.falls; unfallen = f.unfallen }, r.2, r.3, r.4, r.5, r.6, r.7)
+    step (r.0, f, r.2, r.3, r.4, r.5, r.6, r.7)
 
 -- the shard itself is no part of its commit
 not_in_filter : (n : ℕ) (f : ℕ → Bool) (xs : List ℕ) → nat_in n xs ≡ false → nat_in n (filter f xs) ≡ false
@@ -648,16 +662,19 @@ ended_order asked s tx q p ps k ne there is open_ =
 end_sound : (all : List Item) (g : Past) (s : Shard) (tx : TxId) (q : Request) → Sound all g s → (q.state ≡ Undecided → ⊥) → (q.state ≡ Finished → ⊥) → tx_get tx s.requests ≡ Some q → (p : ℕ) (ps : List ℕ) → q.state ≡ Committed (p ∷ ps) → q.is_ended ≡ false → Sound all g (do_ruling tx EndRuling (with_ruling tx q EndRuling s))
 end_sound all g s tx q h ne nf there p ps is open_ = record {
   kept = keeps_quiet g (view_of s) (End tx) h.kept (standing_append 0 s.local.log (End tx ∷ []) []) (quiet_end tx);
-  told = h.told;
-  within = h.within;
-  undecided = ruled_open s tx (record q { is_ended = true }) ne (s.local.log ++ End tx ∷ []) (λ u r e un. ⊎_elim (λ c. inl (uncommitted_append s.local.log (End tx ∷ []) u c refl)) (λ c. inr c) (h.undecided u r e un));
-  readers = ruled_reader g s tx (record q { is_ended = true }) (λ e. absurd (nf e)) h.readers;
-  apart = λ t v e. set_none tx t (record q { is_ended = true }) s.requests (h.apart t v e);
-  unvoted = λ t v e w. uncommitted_append s.local.log (End tx ∷ []) t (h.unvoted t v e (false_from_ne_true _ (λ x. both_ways _ w (list_any-append (is_update_of t) s.local.log (End tx ∷ []) ∙ or_left _ _ x)))) refl;
-  read = h.read;
+  answers = h.answers;
+  requests = record {
+    undecided = ruled_open s tx (record q { is_ended = true }) ne (s.local.log ++ End tx ∷ []) (λ u r e un. ⊎_elim (λ c. inl (uncommitted_append s.local.log (End tx ∷ []) u c refl)) (λ c. inr c) (h.undecided u r e un));
+    readers = ruled_reader g s tx (record q { is_ended = true }) (λ e. absurd (nf e)) h.readers;
+    unfallen = λ u w e f here. ⊎_elim (λ z. absurd (ne (ap (λ y. y.state) (sym z.1) ∙ f))) (λ z. h.unfallen u w z.1 f here) (get_set tx u (record q { is_ended = true }) w s.requests e);
+  };
+  voters = record {
+    apart = λ t v e. set_none tx t (record q { is_ended = true }) s.requests (h.apart t v e);
+    unvoted = λ t v e w. uncommitted_append s.local.log (End tx ∷ []) t (h.unvoted t v e (false_from_ne_true _ (λ x. both_ways _ w (list_any-append (is_update_of t) s.local.log (End tx ∷ []) ∙ or_left _ _ x)))) refl;
+    read = h.read;
+  };
   asked = λ t e. h.asked t (committed_from s.local.log (End tx ∷ []) t refl e);
   falls = falls_more g.asked g.fell g.lost g.over s.local.parts s.local.pairs s.local.log (End tx ∷ []) s.durable h.falls (λ u. refl) (λ u c. absurd (both_ways false refl c));
-  unfallen = λ u w e f here. ⊎_elim (λ z. absurd (ne (ap (λ y. y.state) (sym z.1) ∙ f))) (λ z. h.unfallen u w z.1 f here) (get_set tx u (record q { is_ended = true }) w s.requests e);
   order = ended_order g.asked s tx q p ps h.order ne there is open_;
 }
 
@@ -666,7 +683,7 @@ end_next all g s tx q [] h ne nf there is = nothing
 end_next all g s tx q (p ∷ ps) h ne nf there is = at (not q.is_ended && list_all (λ n. nat_in n q.acknowledged_by) (p ∷ ps)) refl
   where
     at : (b : Bool) → (not q.is_ended && list_all (λ n. nat_in n q.acknowledged_by) (p ∷ ps)) ≡ b → Next all g (rule s tx q (cond b (Some EndRuling) None))
-    at true e = step (at_once all g _ (end_sound all g s tx q h ne nf there p ps is (not-true _ (and_parts (not q.is_ended) (list_all (λ n. nat_in n q.acknowledged_by) (p ∷ ps)) e).0)))
+    at true e = step (at_once all g (do_ruling tx EndRuling (with_ruling tx q EndRuling s)) (end_sound all g s tx q h ne nf there p ps is (not-true _ (and_parts (not q.is_ended) (list_all (λ n. nat_in n q.acknowledged_by) (p ∷ ps)) e).0)))
     at false e = nothing
 
 ruling_next : (all : List Item) (g : Past) (s : Shard) (tx : TxId) (q : Request) (r : RequestState) → Sound all g s → tx_get tx s.requests ≡ Some q → q.state ≡ r → Next all g (rule s tx q (ruling_in s.shard tx q (facts_of s tx) r))
@@ -702,7 +719,7 @@ settle_sound all zero g s h = at_once all g s h
 settle_sound all (suc n) g s h = settle_step all g n s (next_due s) h (first_next all g s (known_txs s) h) (settle_sound all n)
 
 purged_sound : (all : List Item) (g : Past) (s : Shard) → Sound all g s → Sound all g (with_local purge s)
-purged_sound all g s h = record { kept = keeps_purge g (view_of s) h.kept; told = h.told; within = h.within; undecided = h.undecided; readers = h.readers; apart = h.apart; unvoted = h.unvoted; read = h.read; asked = h.asked; order = h.order; falls = h.falls; unfallen = h.unfallen }
+purged_sound all g s h = record { kept = keeps_purge g (view_of s) h.kept; answers = h.answers; requests = h.requests; voters = h.voters; asked = h.asked; falls = h.falls; order = h.order }
 
 -- at the end of an event
 pub finish_sound : (all : List Item) (g : Past) (s : Shard) → Sound all g s → After all g (finish s)
