@@ -251,7 +251,7 @@ members_have_their_acts splits before h after_ choice o l =
     let left = logs_left splits before h after_ choice in
     let ms = serial_left splits before h after_ choice in
     let first : 0 < shard_count splits = omega arith in
-    let b = held 0 (run_after before) (log_of before 0) _ _ _ _ _ _ (leads splits before h after_ choice o l 0 first) in
+    let b = held 0 (run_after before) (log_of before 0) _ _ (leads splits before h after_ choice o l 0 first) in
     let once = once_filter (chosen splits before h after_ choice 0) (requests_of h) (once_second (found_asked 0 (log_of before 0)) (requests_of h) b.5) in
     let own = members_ops h (is_member splits before h after_ choice) ms (from_history left h h) (λ t i. i) in
     (of_once _ (subst Once (sym (chosen_are_members splits before h after_ choice 0 o l first)) once), own.0, own.1)

@@ -22,14 +22,14 @@ use Rattle.history_laws.proofs.Staying.{walker_of}
 use Rattle.law_base.specs.Items.{Item, Runs, after, AllLater, Clash}
 use Rattle.law_base.proofs.Lists.{all_mono, filters_swap, all_filter}
 use Rattle.law_base.proofs.Running.{fold_writers}
-use Rattle.shard_laws.specs.OneShard.{found_items, found_asked, found_met, map_found, place}
+use Rattle.shard_laws.specs.OneShard.{found_asked, map_found, place}
 use Rattle.shard_laws.proofs.Acting.{chosen_act}
 use Rattle.session_laws.proofs.Cutting.{cut_above}
 use Rattle.fate_laws.specs.Members.{is_member}
 use Rattle.fate_laws.proofs.Deciding.{commits_are_members}
 use Rattle.history_laws.proofs.Doubts.{doubted_is_old}
 use Rattle.history_laws.proofs.Offers.{OffersBy, Offers, offered}
-use Rattle.fall_laws.specs.Leading.{deeds_before, requests_of}
+use Rattle.fall_laws.specs.Leading.{deeds_before, with_found, requests_of}
 use Rattle.many_shards_laws.specs.Shares.{LiesIn, share_of}
 use Rattle.many_shards_laws.proofs.Members.{chosen, Chosen, of_chosen, is_chosen}
 use Rattle.many_shards_laws.proofs.Replaying.{leads, fronts, left_is, may_choose, writers_chosen}
@@ -106,7 +106,7 @@ module _ (splits : List ℕ) (before : List (List LogRecord)) (h : History) (aft
       let found = log_of before n in
       let pick = chosen splits before h after_ choice n in
       let here : (m : ℕ) (t : TxId) → m < shard_count splits → is_member splits before h after_ choice t ≡ true → _ = λ m t j k. members_are_found splits before h after_ choice m t o l j k in
-      let r = chosen_act n (run_after before) found (found_items n found ++ d.items) (found_asked n found ++ requests_of h) d.told (d.met ++ found_met n found) d.fell s (cond (choice n) (unwrap_or s.flight s.durable) s.durable) pick d.items (leads splits before h after_ choice o l n i)
+      let r = chosen_act n (run_after before) found (with_found n found d) s (cond (choice n) (unwrap_or s.flight s.durable) s.durable) pick d.items (leads splits before h after_ choice o l n i)
       (cut_above s (choice n) (fronts splits before h after_ choice o l n i).counted) (may_choose splits before h after_ choice o l here n i) refl in
       let ends = ap (λ z. fold_updates pick z []) (sym (left_is splits before h after_ choice o l n i)) ∙ fold_writers pick (committed_somewhere (logs_left splits before h after_ choice)) (log_of (logs_left splits before h after_ choice) n) [] (λ t w. writers_chosen splits before h after_ choice o l here n t i w) in
       (r.0, r.1 ∙ ends, r.2)

@@ -12,8 +12,8 @@ use Rattle.clv_base.specs.LogRules.{log_of}
 use Rattle.clv_base.specs.State.{Shard}
 use Rattle.clv_base.specs.Journals.{History, journal_of, start_of, after_entry}
 use Rattle.law_base.specs.Items.{Item}
-use Rattle.shard_laws.specs.OneShard.{with_one, new_item}
-use Rattle.fall_laws.specs.Leading.{Deeds, no_deeds, deeds_with, deeds_after, deeds_before}
+use Rattle.shard_laws.specs.OneShard.{Deeds, no_deeds, with_one, new_item}
+use Rattle.fall_laws.specs.Leading.{deeds_with, deeds_after, deeds_before}
 use Rattle.crash_laws.specs.Acts.{Act, act_of, with_act, acts}
 
 abbrev pub told : ℕ → Item → Act

@@ -13,9 +13,8 @@ use Rattle.clv_base.specs.Undo.{stage_of}
 use Rattle.clv_base.specs.OneShard.{seen_fits}
 use Rattle.clv_base.specs.Events.{Does, happen, request_event, request_by_stage, epoch_in}
 use Rattle.clv_base.specs.History.{request_of}
-use Rattle.law_base.specs.Items.{Item}
 use Rattle.law_base.proofs.Changed.{none_some, some_same}
-use Rattle.shard_laws.specs.OneShard.{Leads, others_ask, with_one, new_asked, asks_by_stage}
+use Rattle.shard_laws.specs.OneShard.{Deeds, Leads, others_ask, with_one, new_asked, asks_by_stage}
 use Rattle.fall_laws.proofs.Delivering.{when_up}
 
 asks_active : (t u : TxId) (o : Option Stage) (b : Bool) → asks_by_stage t o b ≡ Some u → (o ≡ Some Active) × (b ≡ true) × (t ≡ u)
@@ -46,21 +45,20 @@ own_asks s t Stop o u f g = absurd (none_some u g)
 own_asks s t Restart o u f g = absurd (none_some u g)
 
 -- one that others ask, or none
-pub with_others : (n run : ℕ) (log0 : List LogRecord) (all : List Item) (asked told : List TxId) (met : List (TxId × TxId)) (fell : List TxId) (s : Shard) (o : Option TxId) → ((u : TxId) → o ≡ Some u → tx_in u asked ≡ false) → Leads n run log0 all asked told met fell s
-    → Leads n run log0 all (with_one asked o) told met fell s
-with_others n run log0 all asked told met fell s None k l = l
-with_others n run log0 all asked told met fell s (Some u) k l = others_ask u l (k u refl)
+pub with_others : (n run : ℕ) (log0 : List LogRecord) (d : Deeds) (s : Shard) (o : Option TxId) → ((u : TxId) → o ≡ Some u → tx_in u d.asked ≡ false) → Leads n run log0 d s → Leads n run log0 (record d { asked = with_one d.asked o }) s
+with_others n run log0 d s None k l = l
+with_others n run log0 d s (Some u) k l = others_ask u l (k u refl)
 
-by_own : (n run : ℕ) (log0 : List LogRecord) (all : List Item) (asked told : List TxId) (met : List (TxId × TxId)) (fell : List TxId) (s : Shard) (own o : Option TxId) → ((u : TxId) → own ≡ Some u → o ≡ Some u) → ((u : TxId) → o ≡ Some u → tx_in u asked ≡ false)
-    → Leads n run log0 all (with_one asked own) told met fell s → Leads n run log0 all (with_one asked o) told met fell s
-by_own n run log0 all asked told met fell s None o k f l = with_others n run log0 all asked told met fell s o f l
-by_own n run log0 all asked told met fell s (Some u) None k f l = absurd (none_some u (k u refl))
-by_own n run log0 all asked told met fell s (Some u) (Some v) k f l = at (some_same v u (k u refl)) l
+by_own : (n run : ℕ) (log0 : List LogRecord) (d : Deeds) (s : Shard) (own o : Option TxId) → ((u : TxId) → own ≡ Some u → o ≡ Some u) → ((u : TxId) → o ≡ Some u → tx_in u d.asked ≡ false)
+    → Leads n run log0 (record d { asked = with_one d.asked own }) s → Leads n run log0 (record d { asked = with_one d.asked o }) s
+by_own n run log0 d s None o k f l = with_others n run log0 d s o f l
+by_own n run log0 d s (Some u) None k f l = absurd (none_some u (k u refl))
+by_own n run log0 d s (Some u) (Some v) k f l = at (some_same v u (k u refl)) l
   where
-    at : v ≡ u → Leads n run log0 all (asked ++ u ∷ []) told met fell s → Leads n run log0 all (asked ++ v ∷ []) told met fell s
-    at e m = subst (λ z. Leads n run log0 all (asked ++ z ∷ []) told met fell s) (sym e) m
+    at : v ≡ u → Leads n run log0 (record d { asked = d.asked ++ u ∷ [] }) s → Leads n run log0 (record d { asked = d.asked ++ v ∷ [] }) s
+    at e m = subst (λ z. Leads n run log0 (record d { asked = d.asked ++ z ∷ [] }) s) (sym e) m
 
 -- after the shard's own entry: who asked is whose request was taken
-pub asked_own : (n run : ℕ) (log0 : List LogRecord) (all : List Item) (asked told : List TxId) (met : List (TxId × TxId)) (fell : List TxId) (s t w : Shard) (e : Event) (o : Outcome) → happen s e ≡ Does o t → ((u : TxId) → request_of e o ≡ Some u → tx_in u asked ≡ false)
-    → Leads n run log0 all (with_one asked (new_asked s e)) told met fell w → Leads n run log0 all (with_one asked (request_of e o)) told met fell w
-asked_own n run log0 all asked told met fell s t w e o f k l = by_own n run log0 all asked told met fell w (new_asked s e) (request_of e o) (λ u g. own_asks s t e o u f g) k l
+pub asked_own : (n run : ℕ) (log0 : List LogRecord) (d : Deeds) (s t w : Shard) (e : Event) (o : Outcome) → happen s e ≡ Does o t → ((u : TxId) → request_of e o ≡ Some u → tx_in u d.asked ≡ false)
+    → Leads n run log0 (record d { asked = with_one d.asked (new_asked s e) }) w → Leads n run log0 (record d { asked = with_one d.asked (request_of e o) }) w
+asked_own n run log0 d s t w e o f k l = by_own n run log0 d w (new_asked s e) (request_of e o) (λ u g. own_asks s t e o u f g) k l

@@ -16,7 +16,8 @@ use Rattle.history_cases.proofs.Merging.{Placed, Among}
 use Rattle.history_cases.proofs.Telling.{IsRequest}
 use Rattle.history_laws.proofs.Staying.{is_request}
 use Rattle.history_cases.proofs.Worlds.{journal_append}
-use Rattle.fall_laws.specs.Leading.{Deeds, no_deeds, deeds_with, deeds_after, deeds_before, requests_of}
+use Rattle.fall_laws.specs.Leading.{deeds_with, deeds_after, own_deeds, requests_of}
+use Rattle.shard_laws.specs.OneShard.{Deeds, no_deeds}
 use Rattle.history_laws.proofs.Walking.{other_journal}
 
 -- ---- a shard's own entry, and another's
@@ -33,11 +34,11 @@ own_journal n e pre = journal_append n pre ((n, e) ∷ []) ∙ ap (λ l. journal
     at false q = absurd (both_ways false refl q)
 
 pub deeds_own : (before after : List (List LogRecord)) (n : ℕ) (e : Entry) (pre : History)
-    → deeds_before before (pre ++ (n, e) ∷ []) after n ≡ deeds_with (deeds_before before pre after n) (state_before before pre after n) (after_entry (log_of after n) (state_before before pre after n) e) e
+    → own_deeds before (pre ++ (n, e) ∷ []) after n ≡ deeds_with (own_deeds before pre after n) (state_before before pre after n) (after_entry (log_of after n) (state_before before pre after n) e) e
 deeds_own before after n e pre =
     ap (deeds_after (log_of after n) no_deeds (start_of before n)) (own_journal n e pre) ∙ deeds_push (log_of after n) no_deeds (start_of before n) (journal_of n pre) e
 
-pub deeds_other : (before after : List (List LogRecord)) (n : ℕ) (y : Placed) (pre : History) → (y.0 == n) ≡ false → deeds_before before (pre ++ y ∷ []) after n ≡ deeds_before before pre after n
+pub deeds_other : (before after : List (List LogRecord)) (n : ℕ) (y : Placed) (pre : History) → (y.0 == n) ≡ false → own_deeds before (pre ++ y ∷ []) after n ≡ own_deeds before pre after n
 deeds_other before after n y pre b = ap (deeds_after (log_of after n) no_deeds (start_of before n)) (other_journal n y pre b)
 
 pub state_other : (before after : List (List LogRecord)) (n : ℕ) (y : Placed) (pre : History) → (y.0 == n) ≡ false → state_before before (pre ++ y ∷ []) after n ≡ state_before before pre after n

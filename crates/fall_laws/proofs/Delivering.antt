@@ -24,11 +24,10 @@ use Rattle.clv_base.specs.Events.{QuietBeforeWorn, Does, happen, happen_up, on_m
 use Rattle.clv_base.specs.Restarts.{run_after}
 use Rattle.clv_base.specs.Journals.{History}
 use Rattle.clv_base.proofs.SameNames.{tx_true}
-use Rattle.law_base.specs.Items.{Item}
 use Rattle.law_base.proofs.Rows.{rows_get}
 use Rattle.protocol_laws.proofs.Records.{push_cases, push_right}
 use Rattle.protocol_laws.specs.SessionLaws.{tx_of}
-use Rattle.shard_laws.specs.OneShard.{Leads, MayDeliver}
+use Rattle.shard_laws.specs.OneShard.{Deeds, Leads, MayDeliver}
 use Rattle.shard_laws.proofs.Following.{Follows, from_disorder, through}
 use Rattle.shard_laws.proofs.OrderKept.{order_is_kept}
 use Rattle.history_laws.proofs.Staying.{walker_of, one_request}
@@ -124,15 +123,15 @@ not_own splits before after h pre n x s t home here (r, ts, i, q, p) k (inl (r2,
 not_own splits before after h pre n x s t home here (r, ts, i, q, p) k (inr o) =
     let w = (walker_of splits before after h r t here.legal ((here.behind).turn r i).0 (ap tx_of q.0)).0 in omega (arith, o, w)
 
-pub may_prepare : (splits : List ℕ) (before after : List (List LogRecord)) (h pre : History) (n : ℕ) (x : Entry) (s : Shard) (all : List Item) (asked told : List TxId) (met : List (TxId × TxId)) (fell : List TxId) (log0 : List LogRecord) (to : ℕ) (t : TxId) (home seen : ℕ)
-    → Here splits before after h pre n x s → Leads n (run_after before) log0 all asked told met fell s → (tx_in t (requests_of pre) ≡ true → tx_in t asked ≡ true) → to ≡ s.shard → Requested pre t home → (to ≡ home → ⊥) → MayDeliver asked fell s (Prepare to t home seen)
-may_prepare splits before after h pre n x s all asked told met fell log0 to t home seen here leads among z req away = (
+pub may_prepare : (splits : List ℕ) (before after : List (List LogRecord)) (h pre : History) (n : ℕ) (x : Entry) (s : Shard) (d : Deeds) (log0 : List LogRecord) (to : ℕ) (t : TxId) (home seen : ℕ)
+    → Here splits before after h pre n x s → Leads n (run_after before) log0 d s → (tx_in t (requests_of pre) ≡ true → tx_in t d.asked ≡ true) → to ≡ s.shard → Requested pre t home → (to ≡ home → ⊥) → MayDeliver d s (Prepare to t home seen)
+may_prepare splits before after h pre n x s d log0 to t home seen here leads among z req away = (
   among (request_is_in pre t req.0 req.1 req.2 req.3),
   none_of (tx_get t s.requests) (λ q g. here_not (rows_get (λ r. RowFrom (Requested pre) (IsOld (run_after before)) n r.0 r.1) t q s.requests ((here.traced).origins).requests g).0),
   (λ w. false_from_ne_true _ (λ c.
       ⊎_elim (λ y. both_ways _ w y)
       here_not
-      (committed_wrote (DidOrOld (run_after before) pre n) (Requested pre) (IsOld (run_after before)) n s.local.log t ((here.traced).origins).log (from_disorder n 0 [] s.local.log (order_is_kept n (run_after before) log0 all asked told met fell s leads)) c))),
+      (committed_wrote (DidOrOld (run_after before) pre n) (Requested pre) (IsOld (run_after before)) n s.local.log t ((here.traced).origins).log (from_disorder n 0 [] s.local.log (order_is_kept n (run_after before) log0 d s leads)) c))),
 )
   where
     here_not : OwnRequest (Requested pre) (IsOld (run_after before)) n t → ⊥

@@ -14,11 +14,11 @@ use Rattle.clv_base.specs.State.{Shard}
 use Rattle.clv_base.specs.Restarts.{run_after}
 use Rattle.clv_base.proofs.SameNames.{tx_true}
 use Rattle.law_base.proofs.Lists.{all_mono}
-use Rattle.shard_laws.specs.OneShard.{with_one, new_item, new_met, has_met, prepared_order, found_items, found_asked, found_met}
+use Rattle.shard_laws.specs.OneShard.{Deeds, with_one, new_item, new_met, has_met, prepared_order, found_items, found_asked, found_met}
 use Rattle.shard_laws.proofs.Found.{found_doubted}
 use Rattle.shard_laws.proofs.Relisting.{pair_of}
 use Rattle.origin_laws.proofs.Entries.{IsOld}
-use Rattle.fall_laws.specs.Leading.{Deeds, deeds_with}
+use Rattle.fall_laws.specs.Leading.{deeds_with, with_found}
 use Rattle.history_laws.proofs.Doubts.{doubted_is_old}
 
 -- ---- what was found is of earlier runs
@@ -50,9 +50,6 @@ module _ (splits : List ℕ) (before : List (List LogRecord)) (n : ℕ) (m : may
 
 -- ---- it stands before what the shard did
 
-abbrev pub with_found : ℕ → List LogRecord → Deeds → Deeds
-with_found n log d = record { items = found_items n log ++ d.items; told = d.told; met = d.met ++ found_met n log; fell = d.fell }
-
 pub one_after : {X : Type 0} (found xs : List X) (o : Option X) → with_one (found ++ xs) o ≡ found ++ with_one xs o
 one_after found xs None = refl
 one_after found xs (Some x) = append_assoc found xs (x ∷ [])
@@ -60,5 +57,5 @@ one_after found xs (Some x) = append_assoc found xs (x ∷ [])
 pub found_with : (n : ℕ) (log : List LogRecord) (d : Deeds) (s t : Shard) (e : Entry) → deeds_with (with_found n log d) s t e ≡ with_found n log (deeds_with d s t e)
 found_with n log d s t e =
     let w = deeds_with d s t e in
-    ap (λ z. record { items = z; told = w.told; met = new_met s e.event e.outcome ++ (d.met ++ found_met n log); fell = w.fell }) (one_after (found_items n log) d.items (new_item s e.event e.outcome))
-    ∙ ap (λ z. record { items = found_items n log ++ w.items; told = w.told; met = z; fell = w.fell }) (sym (append_assoc (new_met s e.event e.outcome) d.met (found_met n log)))
+    ap (λ z. record { items = z; asked = found_asked n log ++ d.asked; told = w.told; met = new_met s e.event e.outcome ++ (d.met ++ found_met n log); fell = w.fell }) (one_after (found_items n log) d.items (new_item s e.event e.outcome))
+    ∙ ap (λ z. record { items = found_items n log ++ w.items; asked = found_asked n log ++ d.asked; told = w.told; met = z; fell = w.fell }) (sym (append_assoc (new_met s e.event e.outcome) d.met (found_met n log)))

@@ -27,7 +27,7 @@ use Rattle.law_base.proofs.Lists.{all_mono, all_push}
 use Rattle.law_base.proofs.Rows.{rows_get}
 use Rattle.law_base.proofs.Sets.{in_filter}
 use Rattle.law_base.proofs.Stages.{stage_of_some}
-use Rattle.shard_laws.specs.OneShard.{with_one, new_item, new_met, has_met, is_doomed, doomed_in, left_out}
+use Rattle.shard_laws.specs.OneShard.{Deeds, with_one, new_item, new_met, has_met, is_doomed, doomed_in, left_out}
 use Rattle.shard_laws.proofs.Histories.{named_doomed}
 use Rattle.shard_laws.proofs.Leaving.{in_two}
 use Rattle.history_cases.proofs.Merging.{Placed, among_right}
@@ -36,7 +36,7 @@ use Rattle.origin_laws.proofs.Sessions.{Requested}
 use Rattle.origin_laws.proofs.Origins.{SomeRequest, BirthFrom, PartFrom}
 use Rattle.origin_laws.proofs.Entries.{Did, DidAny, IsOld, DidOrOld, Traced, any_of, old_more}
 use Rattle.fall_laws.proofs.Fallen.{FellOn, is_left_out}
-use Rattle.fall_laws.specs.Leading.{Deeds, deeds_with, falling}
+use Rattle.fall_laws.specs.Leading.{deeds_with, falling}
 use Rattle.fall_laws.proofs.Records.{prepared_from}
 use Rattle.fall_laws.proofs.Restored.{RestoredArePrepared}
 use Rattle.fall_laws.proofs.Touching.{Remembers}

@@ -29,14 +29,13 @@ use Rattle.clv_base.specs.Due.{finish_reader, with_vote, do_ruling, with_ruling}
 use Rattle.clv_base.specs.Events.{Reply, Does, finish, landed}
 use Rattle.clv_base.specs.Restarts.{restored_parts, log_after_restart}
 use Rattle.clv_base.proofs.SameNames.{tx_self, in_insert}
-use Rattle.law_base.specs.Items.{Item}
 use Rattle.law_base.proofs.Lists.{all_mono}
 use Rattle.law_base.proofs.Rows.{rows_put}
 use Rattle.protocol_laws.specs.Growth.{IsPrefixOf}
 use Rattle.protocol_laws.proofs.Growing.{more, more_twice}
 use Rattle.history_cases.proofs.Stepping.{commits, votes, rules, KeptByDue, settled, Step, op_dies, op_answers, request_refused, request_doomed, request_again, request_new, request_closes, looks_well, looks_ill, drops, sends, prepare_closes, prepare_again, vote_counts, decision_comes, decision_again, done_counts, asked, reminds, flushes, Happens, finishes, stops, happened}
 use Rattle.session_laws.proofs.Replying.{OpIs, dies, rolls, performs, reply_is}
-use Rattle.shard_laws.specs.OneShard.{Leads, opens, happens, lands, others_ask, revives}
+use Rattle.shard_laws.specs.OneShard.{Deeds, Leads, opens, happens, lands, others_ask, revives}
 
 -- ---- rows of parts
 
@@ -180,9 +179,9 @@ restored_rows log (t ∷ ts) k = ((λ e. k t (or_left (tx_same t t) (tx_in t ts)
 doubted_rows : (shard : ℕ) (log : List LogRecord) → Rows log (restored_parts (in_doubt shard log))
 doubted_rows shard log = restored_rows log (in_doubt shard log) (λ t i. ⊎_elim (λ j. absurd (both_ways false refl j)) (λ p. p) (doubts log shard log [] t i))
 
-pub restored_prepared : (shard run : ℕ) (before : List LogRecord) (all : List Item) (asked told : List TxId) (met : List (TxId × TxId)) (fell : List TxId) (s : Shard) → Leads shard run before all asked told met fell s → RestoredArePrepared s.local
-restored_prepared shard run before _ _ _ _ _ _ (opens may) = doubted_rows shard (log_after_restart shard before run 0)
-restored_prepared shard run before _ _ _ _ _ _ (happens {all} {asked} {told} {met} {fell} {s} e o t stamp walker leads may eq) = event s t (happened s t e o eq) (restored_prepared shard run before all asked told met fell s leads)
-restored_prepared shard run before _ _ _ _ _ _ (lands {all} {asked} {told} {met} {fell} {s} n pushed o t stamp walker leads flies eq) = from_after o t (subst After eq (flushed s n pushed (restored_prepared shard run before all asked told met fell s leads)))
-restored_prepared shard run before _ _ _ _ _ _ (others_ask {all} {asked} {told} {met} {fell} {s} t leads new) = restored_prepared shard run before all asked told met fell s leads
-restored_prepared shard run before _ _ _ _ _ _ (revives {all} {asked} {told} {met} {fell} {s} kept epoch log stamp walker leads down fits) = doubted_rows s.shard log
+pub restored_prepared : (shard run : ℕ) (before : List LogRecord) (d : Deeds) (s : Shard) → Leads shard run before d s → RestoredArePrepared s.local
+restored_prepared shard run before _ _ (opens may) = doubted_rows shard (log_after_restart shard before run 0)
+restored_prepared shard run before _ _ (happens {d} {s} e o t stamp walker leads may eq) = event s t (happened s t e o eq) (restored_prepared shard run before d s leads)
+restored_prepared shard run before _ _ (lands {d} {s} n pushed o t stamp walker leads flies eq) = from_after o t (subst After eq (flushed s n pushed (restored_prepared shard run before d s leads)))
+restored_prepared shard run before _ _ (others_ask {d} {s} t leads new) = restored_prepared shard run before d s leads
+restored_prepared shard run before _ _ (revives {d} {s} kept epoch log stamp walker leads down fits) = doubted_rows s.shard log

@@ -1,5 +1,5 @@
 -- The records of a quiet shard are its log's map.
-use Rattle.std.proofs.Common.{◌≡◌, sym, ap, ◌∙◌, true, false, Bool, [], ◌∷◌, ◌++◌, length, arith, append-nil}
+use Rattle.std.proofs.Common.{◌≡◌, sym, ap, ◌∙◌, true, false, Bool, [], ◌∷◌, length, arith, append-nil}
 use Rattle.std.specs.Prelude.{take, unwrap_or}
 use Rattle.std.proofs.lemmas.List.{take_all}
 use Rattle.clv_base.specs.LogRules.{log_of}
@@ -8,9 +8,8 @@ use Rattle.clv_base.specs.State.{Shard}
 use Rattle.clv_base.specs.Restarts.{run_after, log_left}
 use Rattle.clv_base.specs.Journals.{final_of}
 use Rattle.clv_base.specs.History.{IsQuiet}
-use Rattle.shard_laws.specs.OneShard.{found_items, found_asked, found_met}
 use Rattle.shard_laws.proofs.Settled.{quiet_is_settled}
-use Rattle.fall_laws.specs.Leading.{deeds_before, requests_of}
+use Rattle.fall_laws.specs.Leading.{deeds_before, with_found}
 use Rattle.fall_laws.specs.Settling.{QuietShardsAreTheirMaps}
 use Rattle.fall_laws.proofs.Leading.{each_shard_leads}
 use Rattle.fate_laws.proofs.Deciding.{log_now}
@@ -25,5 +24,5 @@ quiet_shards_are_their_maps splits before h after choice n m l i q =
     let s = final_of before h after n in
     let log = log_of before n in
     let e = deeds_before before h after n in
-    quiet_is_settled n (run_after before) log (found_items n log ++ e.items) (found_asked n log ++ requests_of h) e.told (e.met ++ found_met n log) e.fell s (each_shard_leads splits before h after h [] n m l (append-nil h) i) q
+    quiet_is_settled n (run_after before) log (with_found n log e) s (each_shard_leads splits before h after h [] n m l (append-nil h) i) q
     ∙ ap (λ z. stands (z ∷ [])) (sym (log_now splits before h after choice n i ∙ left_whole s (choice n) q))

@@ -17,10 +17,10 @@ use Rattle.clv_base.specs.State.{Shard}
 use Rattle.clv_base.specs.Journals.{History, journal_of, start_of, after_entry, got_predecessors, predecessors_in}
 use Rattle.clv_base.specs.History.{is_acknowledgement, acknowledged_in, ops_in, state_before}
 use Rattle.clv_base.proofs.SameNames.{tx_flip}
-use Rattle.shard_laws.specs.OneShard.{items_of, has_met, new_met}
+use Rattle.shard_laws.specs.OneShard.{Deeds, no_deeds, items_of, has_met, new_met}
 use Rattle.history_cases.proofs.Merging.{Placed}
 use Rattle.session_laws.proofs.Adding.{items_next, told_next}
-use Rattle.fall_laws.specs.Leading.{Deeds, deeds_with, deeds_after, deeds_before, no_deeds}
+use Rattle.fall_laws.specs.Leading.{deeds_with, deeds_after, own_deeds, deeds_before}
 use Rattle.fall_laws.specs.Telling.{own_entries, DeedsAreTold}
 use Rattle.fall_laws.proofs.Deeds.{deeds_own, deeds_other}
 use Rattle.origin_laws.proofs.Waiting.{in_union}
@@ -47,7 +47,7 @@ module _ (before after : List (List LogRecord)) (n : ℕ) (t : TxId) where
   own_tells : (pre : History) (x : Entry) → Tells before after n t pre → Tells before after n t (pre ++ (n, x) ∷ [])
   own_tells pre x k =
       let s = state_before before pre after n in
-      let d = deeds_before before pre after n in
+      let d = own_deeds before pre after n in
       let e = deeds_own before after n x pre in
       let o = own_entries n pre in
       record {
@@ -58,7 +58,7 @@ module _ (before after : List (List LogRecord)) (n : ℕ) (t : TxId) where
 
   other_tells : (pre : History) (y : Placed) → (y.0 == n) ≡ false → Tells before after n t pre → Tells before after n t (pre ++ y ∷ [])
   other_tells pre y b k =
-      let e : deeds_before before (pre ++ y ∷ []) after n ≡ deeds_before before pre after n = deeds_other before after n y pre b in
+      let e : own_deeds before (pre ++ y ∷ []) after n ≡ own_deeds before pre after n = deeds_other before after n y pre b in
       let o : own_entries n (pre ++ y ∷ []) ≡ own_entries n pre = own_push n pre y ∙ ap (λ c. own_entries n pre ++ cond c (y ∷ []) []) b ∙ append-nil (own_entries n pre) in
       record {
         items = ap (ops_in t) o ∙ k.items ∙ ap (λ z. map told_pair (items_of t z.items)) (sym e);

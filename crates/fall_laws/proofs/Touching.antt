@@ -21,7 +21,7 @@ use Rattle.clv_base.proofs.SameNames.{tx_true}
 use Rattle.law_base.specs.Items.{Item}
 use Rattle.law_base.proofs.Rows.{rows_get}
 use Rattle.protocol_laws.specs.SessionLaws.{tx_of}
-use Rattle.shard_laws.specs.OneShard.{items_of, has_met, MayTouch, MayAsk}
+use Rattle.shard_laws.specs.OneShard.{Deeds, items_of, has_met, MayTouch, MayAsk}
 use Rattle.shard_laws.proofs.Leaving.{in_two}
 use Rattle.history_laws.proofs.Staying.{walker_of}
 use Rattle.history_laws.proofs.Walking.{Behind}
@@ -29,7 +29,7 @@ use Rattle.origin_laws.proofs.Sessions.{Requested, turn_of, same_epoch, op_no_re
 use Rattle.origin_laws.proofs.Origins.{SomeRequest, AwayRequest, BirthFrom, PartFrom, RowFrom, part_of, own_some, away_some}
 use Rattle.origin_laws.proofs.Entries.{Did, DidNow, DidAny, IsOld, DidOrOld, Traced}
 use Rattle.fall_laws.proofs.Fallen.{FellOn}
-use Rattle.fall_laws.specs.Leading.{Deeds, requests_of}
+use Rattle.fall_laws.specs.Leading.{requests_of}
 use Rattle.fall_laws.proofs.Deeds.{made_request}
 use Rattle.fall_laws.proofs.Records.{wrote_from, aborted_from, prepared_from, committed_from}
 use Rattle.fall_laws.proofs.Restored.{RestoredArePrepared}
@@ -68,9 +68,9 @@ none_of (Some v) k = absurd (k v refl)
 
 -- ---- a request
 
-pub may_ask : (splits : List ℕ) (before after : List (List LogRecord)) (h pre : History) (n : ℕ) (x : Entry) (s : Shard) (asked : List TxId) (t : TxId) (ts : List (ℕ × ℕ)) → Here splits before after h pre n x s → AskedFrom (run_after before) pre asked → x.event ≡ RequestEvent t ts → MayAsk asked s t
-may_ask splits before after h pre n x s asked t ts here from e = (
-  not_asked (run_after before) pre asked t from of_run first,
+pub may_ask : (splits : List ℕ) (before after : List (List LogRecord)) (h pre : History) (n : ℕ) (x : Entry) (s : Shard) (d : Deeds) (t : TxId) (ts : List (ℕ × ℕ)) → Here splits before after h pre n x s → AskedFrom (run_after before) pre d.asked → x.event ≡ RequestEvent t ts → MayAsk d s t
+may_ask splits before after h pre n x s d t ts here from e = (
+  not_asked (run_after before) pre d.asked t from of_run first,
   (λ v g. none (away_some (Requested pre) (IsOld run) n t (rows_get (λ r. AwayRequest (Requested pre) (IsOld run) n r.0) t v s.voters (k.origins).voters g))),
   none_of (tx_get t s.requests) (λ q g. none (own_some (Requested pre) (IsOld run) n t (rows_get (λ r. RowFrom (Requested pre) (IsOld run) n r.0 r.1) t q s.requests (k.origins).requests g).0)),
   of_run ∙ sym k.run_is,
@@ -130,7 +130,7 @@ module _ (splits : List ℕ) (before after : List (List LogRecord)) (h pre : His
       absurd (none (prepared_from (DidOrOld (run_after before) pre n) (Requested pre) (IsOld (run_after before)) n s.local.log ((here.traced).origins).log t (rows_get (λ y. (y.1).is_restored ≡ true → prepared_in s.local.log y.0 ≡ true) t p s.local.parts r g q)).1)
   birth_is p false q r g d = (earlier p.birth s.local.epoch d).1
 
-  pub may_touch : (d : Deeds) (asked : List TxId) → AskedFrom (run_after before) pre asked → Remembers before after pre n d → RestoredArePrepared s.local → MayTouch d.items asked d.met d.fell s t birth seen
+  pub may_touch : (d : Deeds) (asked : List TxId) → AskedFrom (run_after before) pre asked → Remembers before after pre n d → RestoredArePrepared s.local → MayTouch (record d { asked = asked }) s t birth seen
   may_touch d asked from m r =
       record {
         of_run = of_run ∙ sym (here.traced).run_is;

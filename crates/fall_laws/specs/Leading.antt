@@ -12,20 +12,9 @@ use Rattle.clv_base.specs.State.{Shard}
 use Rattle.clv_base.specs.Restarts.{run_after}
 use Rattle.clv_base.specs.Journals.{History, journal_of, start_of, after_entry}
 use Rattle.clv_base.specs.History.{Legal, request_of, state_before}
-use Rattle.law_base.specs.Items.{Item}
-use Rattle.shard_laws.specs.OneShard.{Leads, with_one, new_item, new_told, new_met, doomed_in, left_out, found_items, found_asked, found_met}
+use Rattle.shard_laws.specs.OneShard.{Deeds, no_deeds, Leads, with_one, new_item, new_told, new_met, doomed_in, left_out, found_items, found_asked, found_met}
 
 -- ---- what a shard did
-
--- the operations that it answered, those that its looks told of success, those whose writes were violated, and those that fell
-pub record Deeds : Type 0 where
-  pub items : List Item
-  pub told : List TxId
-  pub met : List (TxId × TxId)
-  pub fell : List TxId
-
-abbrev pub no_deeds : Deeds
-no_deeds = record { items = []; told = []; met = []; fell = [] }
 
 -- who falls by an event: at a restart those that it leaves out, else those whose parts an abort took away
 abbrev pub falling : Event → Shard → Shard → List TxId
@@ -34,7 +23,7 @@ falling _ s t = doomed_in t
 
 abbrev pub deeds_with : Deeds → Shard → Shard → Entry → Deeds
 deeds_with d s t e =
-    record {
+    record d {
       items = with_one d.items (new_item s e.event e.outcome);
       told = with_one d.told (new_told e.event e.outcome);
       met = new_met s e.event e.outcome ++ d.met;
@@ -46,13 +35,21 @@ abbrev pub deeds_after : List LogRecord → Deeds → Shard → List Entry → D
 deeds_after log d s [] = d
 deeds_after log d s (e ∷ es) = let t = after_entry log s e in deeds_after log (deeds_with d s t e) t es
 
-abbrev pub deeds_before : List (List LogRecord) → History → List (List LogRecord) → ℕ → Deeds
-deeds_before before so_far after n = deeds_after (log_of after n) no_deeds (start_of before n) (journal_of n so_far)
+abbrev pub own_deeds : List (List LogRecord) → History → List (List LogRecord) → ℕ → Deeds
+own_deeds before so_far after n = deeds_after (log_of after n) no_deeds (start_of before n) (journal_of n so_far)
 
 -- the transactions whose requests were taken, on any shard, in order
 abbrev pub requests_of : History → List TxId
 requests_of [] = []
 requests_of (e ∷ es) = elim (request_of (e.1).event (e.1).outcome) [ Some t ↦ t ∷ requests_of es | None ↦ requests_of es ]
+
+-- with those that asked on any shard
+abbrev pub deeds_before : List (List LogRecord) → History → List (List LogRecord) → ℕ → Deeds
+deeds_before before so_far after n = record (own_deeds before so_far after n) { asked = requests_of so_far }
+
+-- with what those that its log left in doubt did before
+abbrev pub with_found : ℕ → List LogRecord → Deeds → Deeds
+with_found n log d = record { items = found_items n log ++ d.items; asked = found_asked n log ++ d.asked; told = d.told; met = d.met ++ found_met n log; fell = d.fell }
 
 -- ---- the laws of one shard hold of each
 
@@ -61,5 +58,4 @@ abbrev pub EachShardLeads : Type 0
 EachShardLeads =
     (splits : List ℕ) (before : List (List LogRecord)) (h : History) (after : List (List LogRecord)) (so_far rest : History) (n : ℕ)
     → may_open splits before ≡ true → Legal splits before h after → so_far ++ rest ≡ h → n < shard_count splits
-    → Leads n (run_after before) (log_of before n) (found_items n (log_of before n) ++ (deeds_before before so_far after n).items) (found_asked n (log_of before n) ++ requests_of so_far) (deeds_before before so_far after n).told
-    ((deeds_before before so_far after n).met ++ found_met n (log_of before n)) (deeds_before before so_far after n).fell (state_before before so_far after n)
+    → Leads n (run_after before) (log_of before n) (with_found n (log_of before n) (deeds_before before so_far after n)) (state_before before so_far after n)

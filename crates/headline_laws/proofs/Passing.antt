@@ -21,7 +21,7 @@ use Rattle.clv_base.specs.History.{Legal, IsAmong}
 use Rattle.protocol_laws.specs.SessionLaws.{tx_of}
 use Rattle.history_cases.proofs.Merging.{is_among}
 use Rattle.history_laws.proofs.Staying.{walker_of}
-use Rattle.shard_laws.specs.OneShard.{Passes, found_items, found_asked, found_met}
+use Rattle.shard_laws.specs.OneShard.{Passes}
 use Rattle.shard_laws.proofs.Following.{from_disorder}
 use Rattle.shard_laws.proofs.OrderKept.{order_is_kept}
 use Rattle.origin_laws.proofs.Sessions.{Requested}
@@ -30,7 +30,7 @@ use Rattle.origin_laws.proofs.Entries.{DidAny, DidOrOld, IsOld, Traced, traced_f
 use Rattle.fate_laws.proofs.Prefixes.{one_home}
 use Rattle.fate_laws.proofs.Voting.{votes_bind}
 use Rattle.fall_laws.specs.Falls.{Fell}
-use Rattle.fall_laws.specs.Leading.{deeds_before, requests_of}
+use Rattle.fall_laws.specs.Leading.{deeds_before, with_found, requests_of}
 use Rattle.fall_laws.proofs.Deeds.{request_is_in}
 use Rattle.fall_laws.proofs.Delivering.{committed_wrote}
 use Rattle.fall_laws.proofs.Fallen.{fell_is}
@@ -56,7 +56,7 @@ module _ (splits : List ℕ) (before : List (List LogRecord)) (h : History) (aft
 
   -- ---- who voted read
 
-  pub reader_passes : (k : ℕ) (x : Entry) (to : ℕ) → IsAmong k x h → x.outcome ≡ Sent (VoteMessage to t n Read) → Passes (requests_of h) (deeds_before before h after n).fell (final_of before h after n) t
+  pub reader_passes : (k : ℕ) (x : Entry) (to : ℕ) → IsAmong k x h → x.outcome ≡ Sent (VoteMessage to t n Read) → Passes (deeds_before before h after n) (final_of before h after n) t
   reader_passes k x to m s =
       let w : Legal splits before (h ++ []) after = subst (λ z. Legal splits before z after) (sym (append-nil h)) l in
       let p = readers_pass splits before h [] after k x to n t o w i m s in
@@ -70,7 +70,7 @@ module _ (splits : List ℕ) (before : List (List LogRecord)) (h : History) (aft
 
   -- ---- who only read, at its home
 
-  pub home_passes : n ≡ home → OnlyRead before h after home touched t → Passes (requests_of h) (deeds_before before h after n).fell (final_of before h after n) t
+  pub home_passes : n ≡ home → OnlyRead before h after home touched t → Passes (deeds_before before h after n) (final_of before h after n) t
   home_passes z r =
       record {
         has_asked = asked;
@@ -99,7 +99,7 @@ module _ (splits : List ℕ) (before : List (List LogRecord)) (h : History) (aft
     ordered =
         let d = deeds_before before h after n in
         let found = log_of before n in
-        order_is_kept n (run_after before) found (found_items n found ++ d.items) (found_asked n found ++ requests_of h) d.told (d.met ++ found_met n found) d.fell s (each_shard_leads splits before h after h [] n o l (append-nil h) i)
+        order_is_kept n (run_after before) found (with_found n found d) s (each_shard_leads splits before h after h [] n o l (append-nil h) i)
 
     traced : Traced (run_after before) h n (final_of before h after n)
     traced = (traced_front splits before after h h [] o l (append-nil h)).states n i
@@ -115,7 +115,7 @@ module _ (splits : List ℕ) (before : List (List LogRecord)) (h : History) (aft
     not_its_home (inl (r, us, j, q, z)) = away (sym z ∙ one_home splits before after h t r.0 home r.1 e us touched l j q (is_among home e h a) (ev, out))
     not_its_home (inr old) = let r = run_is in omega (arith, old, r)
 
-    pub unnamed_passes : Passes (requests_of h) (deeds_before before h after n).fell (final_of before h after n) t
+    pub unnamed_passes : Passes (deeds_before before h after n) (final_of before h after n) t
     unnamed_passes =
         let log = (traced.origins).log in
         record {

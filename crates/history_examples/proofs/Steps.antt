@@ -30,7 +30,7 @@ use Rattle.clv_base.specs.Logs.{committed_in, in_doubt}
 use Rattle.clv_base.specs.LogRules.{listed_in}
 use Rattle.clv_base.specs.Restarts.{opened, revived, untouched}
 use Rattle.clv_base.proofs.SameNames.{tx_true}
-use Rattle.shard_laws.specs.OneShard.{Leads, opens, happens, lands, others_ask, revives, is_member, Passes, MayChoose}
+use Rattle.shard_laws.specs.OneShard.{Deeds, Leads, opens, happens, lands, others_ask, revives, is_member, Passes, MayChoose}
 use Rattle.history_examples.specs.Doubt.{doubtful, DoubtIsRestored, DoubtComesBack, DoubtIsCommitted, DoubtIsChosen, doubt_log, DoubtIsFound}
 use Rattle.law_base.proofs.Names.{none_closed, none_held}
 
@@ -122,8 +122,12 @@ s8 = with_entry 9 0 FlushIn (Durable 5) (reply_state s7 (landed s7 5 true))
 abbrev items : List Item
 items = record { tx = doubtful; op = Put 5 10; answer = Value None; lsn = 1 } ∷ []
 
+-- what they did, where so many asked and fell
+abbrev did : List TxId → List TxId → Deeds
+did asked fell = record { items = items; asked = asked; told = []; met = []; fell = fell }
+
 abbrev Led : List TxId → Shard → Type 0
-Led asked s = Leads 1 1 [] items asked [] [] [] s
+Led asked s = Leads 1 1 [] (did asked []) s
 
 led1 : Led [] s1
 led1 =
@@ -173,29 +177,29 @@ a6 = entered 7 Stop Stopped a5
 abbrev a7 : Shard
 a7 = with_entry 8 0 Restart (Up 1) (revived a6 1 log_now)
 
-aborts7 : Leads 1 1 [] items (doubtful ∷ []) [] [] (doubtful ∷ doubtful ∷ []) a7
+aborts7 : Leads 1 1 [] (did (doubtful ∷ []) (doubtful ∷ doubtful ∷ [])) a7
 aborts7 =
     revives true 1 log_now 8 0
     (happens Stop Stopped (reply_state a5 (happen a5 Stop)) 7 0 (happens abort Taken (reply_state a4 (happen a4 abort)) 6 0 (lands 3 true (Durable 3) (reply_state s3 (landed s3 3 true)) 5 0 led3 refl refl) tt refl) tt refl)
     refl (found, untouched, refl, refl)
 
 pub doubt_comes_back : DoubtComesBack
-doubt_comes_back = (items, doubtful ∷ [], [], doubtful ∷ doubtful ∷ [], a7, aborts7, refl, refl, refl, refl)
+doubt_comes_back = (did (doubtful ∷ []) (doubtful ∷ doubtful ∷ []), a7, aborts7, refl, refl, refl, refl, refl)
 
 pub doubt_is_restored : DoubtIsRestored
-doubt_is_restored = (items, doubtful ∷ [], [], s5, led5, refl, refl, refl)
+doubt_is_restored = (did (doubtful ∷ []) [], s5, led5, refl, refl, refl, refl, refl)
 
 pub doubt_is_committed : DoubtIsCommitted
-doubt_is_committed = (items, doubtful ∷ [], [], s8, led8, refl, refl, refl, refl)
+doubt_is_committed = (did (doubtful ∷ []) [], s8, led8, refl, refl, refl, refl, refl, refl)
 
-chooses : MayChoose s5 4 (doubtful ∷ []) [] [] (tx_same doubtful)
+chooses : MayChoose s5 4 (did (doubtful ∷ []) []) (tx_same doubtful)
 chooses = record {
   commits = λ t e. absurd (both_ways false refl e);
-  are_here = λ t e. subst (λ z. (is_member s5 4 [] z ≡ true) ⊎ (((tx_in z (in_doubt 1 log_now) ≡ true) × (list_all (committed_in log_now) (listed_in log_now z) ≡ true) × (tx_in z [] ≡ false)) ⊎ Passes (doubtful ∷ []) [] s5 z)) (tx_true doubtful t e) (inr (inl (refl, refl, refl)));
+  are_here = λ t e. subst (λ z. (is_member s5 4 [] z ≡ true) ⊎ (((tx_in z (in_doubt 1 log_now) ≡ true) × (list_all (committed_in log_now) (listed_in log_now z) ≡ true) × (tx_in z [] ≡ false)) ⊎ Passes (did (doubtful ∷ []) []) s5 z)) (tx_true doubtful t e) (inr (inl (refl, refl, refl)));
 }
 
 pub doubt_is_chosen : DoubtIsChosen
-doubt_is_chosen = (items, doubtful ∷ [], [], s5, led5, omega arith, chooses, refl, refl)
+doubt_is_chosen = (did (doubtful ∷ []) [], s5, led5, refl, refl, omega arith, chooses, refl, refl)
 
 -- the next run opens the log, and the decision comes
 abbrev f0 : Shard
@@ -204,8 +208,8 @@ f0 = opened 1 2 doubt_log
 abbrev f1 : Shard
 f1 = entered 2 decide Taken f0
 
-led_found : Leads 1 2 doubt_log items (doubtful ∷ []) [] [] [] f1
+led_found : Leads 1 2 doubt_log (did (doubtful ∷ []) []) f1
 led_found = happens decide Taken (reply_state f0 (happen f0 decide)) 2 0 (opens (refl, lit< tt)) (λ open_. (refl, refl, (λ q e. absurd (none_request q e)), refl)) refl
 
 pub doubt_is_found : DoubtIsFound
-doubt_is_found = (items, f1, led_found, refl, refl, refl, refl, refl)
+doubt_is_found = (did (doubtful ∷ []) [], f1, led_found, refl, refl, refl, refl, refl, refl, refl, refl, refl)

@@ -10,8 +10,7 @@ use Rattle.clv_base.specs.Orders.{tx_same, tx_in}
 use Rattle.clv_base.specs.Logs.{committed_in, in_doubt, fold_updates}
 use Rattle.clv_base.specs.State.{Shard}
 use Rattle.clv_base.specs.Undo.{stage_of}
-use Rattle.law_base.specs.Items.{Item}
-use Rattle.shard_laws.specs.OneShard.{Leads, MayChoose, members_of, ops_by, found_asked, map_found}
+use Rattle.shard_laws.specs.OneShard.{Deeds, Leads, MayChoose, members_of, ops_by, found_asked, map_found}
 
 abbrev pub doubtful : TxId
 doubtful = record { run = 1; session = 1; serial = 1 }
@@ -19,28 +18,28 @@ doubtful = record { run = 1; session = 1; serial = 1 }
 -- shard 1, from a new log: a history after whose restart the transaction is in doubt, and its part is restored
 abbrev pub DoubtIsRestored : Type 0
 DoubtIsRestored =
-    (all : List Item) × (asked : List TxId) × (met : List (TxId × TxId)) × (s : Shard)
-    × Leads 1 1 [] all asked [] met [] s × (s.local.epoch ≡ 1) × (in_doubt 1 s.local.log ≡ doubtful ∷ []) × (stage_of s.local doubtful ≡ Some Closed)
+    (d : Deeds) × (s : Shard)
+    × Leads 1 1 [] d s × (d.told ≡ []) × (d.fell ≡ []) × (s.local.epoch ≡ 1) × (in_doubt 1 s.local.log ≡ doubtful ∷ []) × (stage_of s.local doubtful ≡ Some Closed)
 
 -- or its abort was decided and taken here, and was not durable yet: after the restart it is in doubt again, and it fell
 abbrev pub DoubtComesBack : Type 0
 DoubtComesBack =
-    (all : List Item) × (asked : List TxId) × (met : List (TxId × TxId)) × (fell : List TxId) × (s : Shard)
-    × Leads 1 1 [] all asked [] met fell s × (tx_in doubtful fell ≡ true) × (s.local.epoch ≡ 1) × (in_doubt 1 s.local.log ≡ doubtful ∷ []) × (stage_of s.local doubtful ≡ Some Closed)
+    (d : Deeds) × (s : Shard)
+    × Leads 1 1 [] d s × (d.told ≡ []) × (tx_in doubtful d.fell ≡ true) × (s.local.epoch ≡ 1) × (in_doubt 1 s.local.log ≡ doubtful ∷ []) × (stage_of s.local doubtful ≡ Some Closed)
 
 -- and one that goes on: the decision to commit comes, and it is a member with what it put before the restart
 abbrev pub DoubtIsCommitted : Type 0
 DoubtIsCommitted =
-    (all : List Item) × (asked : List TxId) × (met : List (TxId × TxId)) × (s : Shard)
-    × Leads 1 1 [] all asked [] met [] s × (s.local.epoch ≡ 1) × (committed_in s.local.log doubtful ≡ true)
-    × (members_of s s.durable [] asked ≡ doubtful ∷ []) × (ops_by (doubtful ∷ []) all ≡ (Put 5 10 ∷ []) ∷ [])
+    (d : Deeds) × (s : Shard)
+    × Leads 1 1 [] d s × (d.told ≡ []) × (d.fell ≡ []) × (s.local.epoch ≡ 1) × (committed_in s.local.log doubtful ≡ true)
+    × (members_of s s.durable d ≡ doubtful ∷ []) × (ops_by (doubtful ∷ []) d.items ≡ (Put 5 10 ∷ []) ∷ [])
 
 -- or another shard's COMMIT chooses it while it is in doubt still: then it replays to the map of its UPDATE
 abbrev pub DoubtIsChosen : Type 0
 DoubtIsChosen =
-    (all : List Item) × (asked : List TxId) × (met : List (TxId × TxId)) × (s : Shard)
-    × Leads 1 1 [] all asked [] met [] s × (s.durable ≤ 4) × MayChoose s 4 asked [] [] (tx_same doubtful)
-    × (ops_by (filter (tx_same doubtful) asked) all ≡ (Put 5 10 ∷ []) ∷ []) × (fold_updates (tx_same doubtful) (take 4 s.local.log) [] ≡ (5, 10) ∷ [])
+    (d : Deeds) × (s : Shard)
+    × Leads 1 1 [] d s × (d.told ≡ []) × (d.fell ≡ []) × (s.durable ≤ 4) × MayChoose s 4 d (tx_same doubtful)
+    × (ops_by (filter (tx_same doubtful) d.asked) d.items ≡ (Put 5 10 ∷ []) ∷ []) × (fold_updates (tx_same doubtful) (take 4 s.local.log) [] ≡ (5, 10) ∷ [])
 
 -- the log that a run left with it in doubt
 abbrev pub doubt_log : List LogRecord
@@ -50,6 +49,6 @@ doubt_log = Restart 1 0 ∷ Update doubtful 5 None (Some 10) ∷ Prepare doubtfu
 -- what later ones replay from has its value
 abbrev pub DoubtIsFound : Type 0
 DoubtIsFound =
-    (all : List Item) × (s : Shard)
-    × Leads 1 2 doubt_log all (doubtful ∷ []) [] [] [] s × (found_asked 1 doubt_log ≡ doubtful ∷ []) × (s.local.epoch ≡ 0)
-    × (members_of s 5 [] (doubtful ∷ []) ≡ doubtful ∷ []) × (ops_by (doubtful ∷ []) all ≡ (Put 5 10 ∷ []) ∷ []) × (map_found 1 doubt_log (tx_same doubtful) ≡ (5, 10) ∷ [])
+    (d : Deeds) × (s : Shard)
+    × Leads 1 2 doubt_log d s × (d.asked ≡ doubtful ∷ []) × (d.told ≡ []) × (d.met ≡ []) × (d.fell ≡ []) × (found_asked 1 doubt_log ≡ doubtful ∷ []) × (s.local.epoch ≡ 0)
+    × (members_of s 5 d ≡ doubtful ∷ []) × (ops_by (doubtful ∷ []) d.items ≡ (Put 5 10 ∷ []) ∷ []) × (map_found 1 doubt_log (tx_same doubtful) ≡ (5, 10) ∷ [])

@@ -19,7 +19,7 @@ use Rattle.clv_base.specs.History.{Legal, logs_left}
 use Rattle.clv_base.proofs.SameNames.{tx_true, tx_self}
 use Rattle.law_base.proofs.Sets.{in_filter}
 use Rattle.law_base.proofs.Bools.{or_false_right}
-use Rattle.shard_laws.specs.OneShard.{MayChoose, has_met, place, found_items, found_asked, found_met}
+use Rattle.shard_laws.specs.OneShard.{Deeds, MayChoose, has_met, place, found_asked, found_met}
 use Rattle.shard_laws.proofs.Choosing.{chosen_stand_before}
 use Rattle.shard_laws.proofs.Leaving.{in_more}
 use Rattle.shard_laws.proofs.Serial.{in_kept}
@@ -29,7 +29,7 @@ use Rattle.session_laws.proofs.Cutting.{cut_above}
 use Rattle.history_laws.specs.Continuing.{serial_left}
 use Rattle.fate_laws.specs.Members.{is_member}
 use Rattle.origin_laws.proofs.Entries.{IsOld}
-use Rattle.fall_laws.specs.Leading.{Deeds, deeds_before, requests_of}
+use Rattle.fall_laws.specs.Leading.{deeds_before, with_found, requests_of}
 use Rattle.fall_laws.proofs.Doubted.{ordered_is, asked_are_old}
 use Rattle.fall_laws.proofs.Telling.{deeds_are_told}
 use Rattle.many_shards_laws.specs.Replaying.{IsHere}
@@ -74,7 +74,7 @@ module _ (splits : List ℕ) (before : List (List LogRecord)) (h : History) (aft
       by_case (inl a) = is_chosen splits before h after choice n u (inr (inl a))
       by_case (inr a) = is_chosen splits before h after choice n u (inl (subst (λ z. is_member splits before h after choice z ≡ true) (tx_true t u a) k))
 
-  may_choose : MayChoose (final_of before h after n) (cond (choice n) (unwrap_or (final_of before h after n).flight (final_of before h after n).durable) (final_of before h after n).durable) (found_asked n (log_of before n) ++ requests_of h) (deeds_before before h after n).told (deeds_before before h after n).fell
+  may_choose : MayChoose (final_of before h after n) (cond (choice n) (unwrap_or (final_of before h after n).flight (final_of before h after n).durable) (final_of before h after n).durable) (with_found n (log_of before n) (deeds_before before h after n))
       (λ u. committed_in (log_of (logs_left splits before h after choice) n) u || tx_same t u)
   may_choose =
       record {
@@ -116,7 +116,7 @@ module _ (splits : List ℕ) (before : List (List LogRecord)) (h : History) (aft
 
       earlier_place : place (filter with_it (found_asked n found ++ requests_of h)) p < place (filter with_it (found_asked n found ++ requests_of h)) t
       earlier_place =
-          (chosen_stand_before n (run_after before) found (found_items n found ++ d.items) (found_asked n found ++ requests_of h) d.told (d.met ++ found_met n found) d.fell s (cond (choice n) (unwrap_or s.flight s.durable) s.durable) with_it t p (leads splits before h after choice o l n i)
+          (chosen_stand_before n (run_after before) found (with_found n found d) s (cond (choice n) (unwrap_or s.flight s.durable) s.durable) with_it t p (leads splits before h after choice o l n i)
           (cut_above s (choice n) (fronts splits before h after choice o l n i).counted) may_choose met own).1
 
       at : (b : Bool) → tx_in p (filter with_it (found_asked n found)) ≡ b → StandsBefore p t (transactions_of (serial_left splits before h after choice)) ⊎ ((tx_in p (in_doubt n found) ≡ true) × (committed_somewhere before p ≡ true))

@@ -1,5 +1,5 @@
 -- The members of a legal history of many shards replay where each of them is here on each shard.
-use Rattle.std.proofs.Common.{◌≡◌, ◌⊎◌, inl, inr, ⊎_elim, refl, sym, ap, subst, ◌∙◌, ℕ, ◌<◌, true, false, cond, Bool, ◌&&◌, ◌||◌, List, [], ◌++◌, length, arith, append-nil}
+use Rattle.std.proofs.Common.{◌≡◌, ◌⊎◌, inl, inr, ⊎_elim, refl, sym, ap, subst, ◌∙◌, ℕ, ◌<◌, true, false, cond, Bool, ◌&&◌, ◌||◌, List, [], length, arith, append-nil}
 use Rattle.std.specs.Prelude.{take, drop, unwrap_or}
 use Rattle.std.specs.List.{filter, list_all}
 use Rattle.std.proofs.lemmas.Bool.{both_ways, and_parts, and_from, or_cases, or_left, or_right, false_from_ne_true}
@@ -21,7 +21,7 @@ use Rattle.law_base.proofs.Running.{fold_writers}
 use Rattle.history_laws.specs.Continuing.{serial_left}
 use Rattle.history_cases.proofs.Durability.{Fronts, fronts_entries, opened_counted}
 use Rattle.history_laws.proofs.Staying.{walker_of}
-use Rattle.shard_laws.specs.OneShard.{Leads, MayChoose, Passes, ops_by, answers_by, found_items, found_asked, found_met, map_found}
+use Rattle.shard_laws.specs.OneShard.{Leads, MayChoose, Passes, ops_by, answers_by, found_items, found_asked, map_found}
 use Rattle.shard_laws.proofs.Changes.{wrote_append}
 use Rattle.shard_laws.proofs.Leaving.{in_more}
 use Rattle.shard_laws.proofs.Splitting.{later_replay}
@@ -32,7 +32,7 @@ use Rattle.origin_laws.proofs.Sessions.{Requested}
 use Rattle.origin_laws.proofs.Origins.{SomeRequest}
 use Rattle.origin_laws.proofs.Entries.{DidOrOld, IsOld, traced_front}
 use Rattle.fall_laws.specs.Falls.{Fell}
-use Rattle.fall_laws.specs.Leading.{deeds_before, requests_of}
+use Rattle.fall_laws.specs.Leading.{deeds_before, with_found, requests_of}
 use Rattle.fall_laws.proofs.Doubted.{items_are_old}
 use Rattle.fall_laws.proofs.Fallen.{fell_is}
 use Rattle.fall_laws.proofs.Leading.{at_front, each_shard_leads}
@@ -54,8 +54,7 @@ use Rattle.law_base.proofs.Bools.{same_truth as same_test}
 
 module _ (splits : List ℕ) (before : List (List LogRecord)) (h : History) (after : List (List LogRecord)) (choice : ℕ → Bool) (o : may_open splits before ≡ true) (l : Legal splits before h after) where
   pub leads : (n : ℕ) → n < shard_count splits
-      → Leads n (run_after before) (log_of before n) (found_items n (log_of before n) ++ (deeds_before before h after n).items) (found_asked n (log_of before n) ++ requests_of h) (deeds_before before h after n).told
-      ((deeds_before before h after n).met ++ found_met n (log_of before n)) (deeds_before before h after n).fell (final_of before h after n)
+      → Leads n (run_after before) (log_of before n) (with_found n (log_of before n) (deeds_before before h after n)) (final_of before h after n)
   leads n i = each_shard_leads splits before h after h [] n o l (append-nil h) i
 
   pub fronts : (n : ℕ) → n < shard_count splits → Fronts (start_of before n) (final_of before h after n)
@@ -114,7 +113,7 @@ module _ (splits : List ℕ) (before : List (List LogRecord)) (h : History) (aft
   IsHereByCut n t =
       ((committed_in (log_left (final_of before h after n) (choice n)) t || tx_in t (deeds_before before h after n).told) ≡ true)
       ⊎ (((tx_in t (in_doubt (final_of before h after n).shard (log_left (final_of before h after n) (choice n))) ≡ true) × (list_all (committed_in (log_left (final_of before h after n) (choice n))) (listed_in (log_left (final_of before h after n) (choice n)) t) ≡ true) × (tx_in t (deeds_before before h after n).fell ≡ false))
-      ⊎ Passes (found_asked n (log_of before n) ++ requests_of h) (deeds_before before h after n).fell (final_of before h after n) t)
+      ⊎ Passes (with_found n (log_of before n) (deeds_before before h after n)) (final_of before h after n) t)
 
   pub left_here : (n : ℕ) (t : TxId) → n < shard_count splits → committed_in (log_of (logs_left splits before h after choice) n) t ≡ true → IsHereByCut n t
   left_here n t i a = inl (or_left _ _ (subst (λ z. committed_in z t ≡ true) (left_is n i) a))
@@ -194,7 +193,7 @@ module _ (splits : List ℕ) (before : List (List LogRecord)) (h : History) (aft
     chosen_here n t i (inr (inr a)) = found_here n t i a.0 a.1
 
     pub may_choose : (n : ℕ) → n < shard_count splits
-        → MayChoose (final_of before h after n) (cond (choice n) (unwrap_or (final_of before h after n).flight (final_of before h after n).durable) (final_of before h after n).durable) (found_asked n (log_of before n) ++ requests_of h) (deeds_before before h after n).told (deeds_before before h after n).fell (chosen splits before h after choice n)
+        → MayChoose (final_of before h after n) (cond (choice n) (unwrap_or (final_of before h after n).flight (final_of before h after n).durable) (final_of before h after n).durable) (with_found n (log_of before n) (deeds_before before h after n)) (chosen splits before h after choice n)
     may_choose n i =
         record {
           commits = λ t k. is_chosen splits before h after choice n t (inr (inl (subst (λ z. committed_in z t ≡ true) (sym (left_is n i)) k)));
@@ -208,7 +207,7 @@ module _ (splits : List ℕ) (before : List (List LogRecord)) (h : History) (aft
         let found = log_of before n in
         let ms = serial_left splits before h after choice in
         let pick = chosen splits before h after choice n in
-        let r = later_replay n (run_after before) found (found_items n found ++ d.items) (found_asked n found ++ requests_of h) d.told (d.met ++ found_met n found) d.fell s (cond (choice n) (unwrap_or s.flight s.durable) s.durable) pick (requests_of h) (leads n i)
+        let r = later_replay n (run_after before) found (with_found n found d) s (cond (choice n) (unwrap_or s.flight s.durable) s.durable) pick (requests_of h) (leads n i)
         (cut_above s (choice n) (fronts n i).counted) (may_choose n i) refl in
         let share = starts n i in
         let names = chosen_are_members splits before h after choice n o l i in

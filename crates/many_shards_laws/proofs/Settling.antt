@@ -24,13 +24,12 @@ use Rattle.clv_base.specs.Restarts.{run_after}
 use Rattle.clv_base.specs.Journals.{History, final_of}
 use Rattle.clv_base.specs.History.{Legal, IsAmong, IsQuiet, IsSettled, logs_left}
 use Rattle.clv_base.proofs.SameNames.{tx_self}
-use Rattle.law_base.specs.Items.{Item}
 use Rattle.law_base.proofs.Lists.{all_mono}
 use Rattle.law_base.proofs.Rows.{rows_get}
 use Rattle.law_base.proofs.Tables.{stage_by}
 use Rattle.law_base.proofs.Running.{fold_writers}
 use Rattle.shard_laws.proofs.Doubting.{prepared_cut}
-use Rattle.shard_laws.specs.OneShard.{Leads, found_items, found_asked, found_met}
+use Rattle.shard_laws.specs.OneShard.{Deeds, Leads}
 use Rattle.shard_laws.proofs.Histories.{held}
 use Rattle.shard_laws.proofs.Kept.{view_of, Wrote}
 use Rattle.shard_laws.proofs.Listing.{order_of, prepared_wrote, wrote_stands}
@@ -43,7 +42,7 @@ use Rattle.origin_laws.proofs.Entries.{DidOrOld, IsOld, traced_front}
 use Rattle.fate_laws.specs.Decisions.{IsHome, is_left}
 use Rattle.fate_laws.proofs.Deciding.{commits_stand_at_home}
 use Rattle.fate_laws.proofs.Voting.{votes_bind}
-use Rattle.fall_laws.specs.Leading.{deeds_before, requests_of}
+use Rattle.fall_laws.specs.Leading.{deeds_before, with_found}
 use Rattle.fall_laws.proofs.Records.{wrote_from}
 use Rattle.fall_laws.proofs.Settling.{left_whole, quiet_shards_are_their_maps}
 use Rattle.acknowledged_laws.proofs.Going.{aborted_take}
@@ -79,10 +78,10 @@ present_committed s t q e = at (tx_get t s.local.parts) refl e
 -- ---- nothing is in doubt on a quiet shard
 
 -- who is prepared and neither committed nor aborted wrote what stands, so it is committed on a quiet shard
-undoubted : (shard run : ℕ) (before : List LogRecord) (all : List Item) (asked told : List TxId) (met : List (TxId × TxId)) (fell : List TxId) (s : Shard) (n : ℕ) (t : TxId) → Leads shard run before all asked told met fell s → IsQuiet s
+undoubted : (shard run : ℕ) (before : List LogRecord) (d : Deeds) (s : Shard) (n : ℕ) (t : TxId) → Leads shard run before d s → IsQuiet s
     → tx_in t (in_doubt n s.local.log) ≡ true → ⊥
-undoubted shard run before all asked told met fell s n t leads q i =
-    let b = held shard run before all asked told met fell s leads in
+undoubted shard run before d s n t leads q i =
+    let b = held shard run before d s leads in
     let log = s.local.log in
     let follows = (b.1).order.ordered.follows in
     let undecided = doubt_undecided n log t i in
@@ -110,7 +109,7 @@ module _ (splits : List ℕ) (before : List (List LogRecord)) (h : History) (aft
           let s = final_of before h after n in
           let d = deeds_before before h after n in
           let found = log_of before n in
-          let b = held n (run_after before) found (found_items n found ++ d.items) (found_asked n found ++ requests_of h) d.told (d.met ++ found_met n found) d.fell s (leads splits before h after choice o l n i) in
+          let b = held n (run_after before) found (with_found n found d) s (leads splits before h after choice o l n i) in
           let bound = votes_bind splits before h [] after k x home n t Yes o (subst (λ z. Legal splits before z after) (sym (append-nil h)) l) i a v in
           absurd
           (⊎_elim (λ f. fallen (subst (λ z. tx_in t z ≡ true) b.8 (⊎_elim (λ y. y) (λ y. b.9 t y) f))) (λ r. yes_voters_unaborted splits before h after choice m n k x home t o l j i run a v left (aborted_take s.durable s.local.log t r))
@@ -156,7 +155,7 @@ module _ (splits : List ℕ) (before : List (List LogRecord)) (h : History) (aft
       let found = log_of before n in
       ⊎_elim (λ a. subst (λ z. committed_in z t ≡ true) (sym (left_is splits before h after choice o l n i)) a)
       (λ a. absurd
-      (undoubted n (run_after before) found (found_items n found ++ e.items) (found_asked n found ++ requests_of h) e.told (e.met ++ found_met n found) e.fell s n t (leads splits before h after choice o l n i) (quiet n i)
+      (undoubted n (run_after before) found (with_found n found e) s n t (leads splits before h after choice o l n i) (quiet n i)
       (subst (λ z. tx_in t (in_doubt n z) ≡ true) (left_whole s (choice n) (quiet n i)) a.0)))
       (still_known splits before h after (choice n) n t o l i d c)
 
@@ -208,5 +207,5 @@ settled_opens_clear splits before h after choice n o l quiet i =
     let d = deeds_before before h after n in
     let found = log_of before n in
     none_in (in_doubt n (log_of (logs_left splits before h after choice) n)) (λ t k.
-    undoubted n (run_after before) found (found_items n found ++ d.items) (found_asked n found ++ requests_of h) d.told (d.met ++ found_met n found) d.fell s n t (leads splits before h after choice o l n i) (quiet n i)
+    undoubted n (run_after before) found (with_found n found d) s n t (leads splits before h after choice o l n i) (quiet n i)
     (subst (λ z. tx_in t (in_doubt n z) ≡ true) (left_is splits before h after choice o l n i ∙ left_whole s (choice n) (quiet n i)) k))

@@ -14,7 +14,7 @@ use Rattle.clv_base.specs.History.{Legal, logs_left, serial_ops, serial_answers}
 use Rattle.history_laws.specs.Continuing.{serial_left}
 use Rattle.fate_laws.specs.Members.{is_member}
 use Rattle.shard_laws.specs.OneShard.{Passes, map_found}
-use Rattle.fall_laws.specs.Leading.{deeds_before, requests_of}
+use Rattle.fall_laws.specs.Leading.{deeds_before}
 use Rattle.many_shards_laws.specs.Shares.{share_of}
 
 -- ---- what a log has of the map
@@ -36,7 +36,7 @@ abbrev pub IsHere : List ℕ → List (List LogRecord) → History → List (Lis
 IsHere splits before h after choice n t =
     (committed_in (log_of (logs_left splits before h after choice) n) t ≡ true)
     ⊎ (IsInDoubt (logs_left splits before h after choice) n t
-    ⊎ Passes (requests_of h) (deeds_before before h after n).fell (final_of before h after n) t)
+    ⊎ Passes (deeds_before before h after n) (final_of before h after n) t)
 
 -- where each member by what a crash leaves is here on each shard, the members replay
 abbrev pub MembersReplayWhereHere : Type 0

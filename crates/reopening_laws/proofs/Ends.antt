@@ -1,5 +1,5 @@
 -- The logs at the end of a history: what a crash leaves by some choice for each shard, and behind it what failed restarts added.
-use Rattle.std.proofs.Common.{◌≡◌, ◌⊎◌, inl, inr, ⊎_elim, refl, sym, ap, subst, ◌∙◌, ℕ, suc, ◌+◌, ◌<◌, ◌≤◌, true, false, cond, Bool, ◌||◌, ◌==◌, nat_lt, List, [], ◌∷◌, ◌++◌, Option, Some, None, length, arith, append-nil, eqb-true}
+use Rattle.std.proofs.Common.{◌≡◌, ◌⊎◌, inl, inr, ⊎_elim, refl, sym, ap, subst, ◌∙◌, ℕ, suc, ◌+◌, ◌<◌, ◌≤◌, true, false, cond, Bool, ◌||◌, ◌==◌, nat_lt, List, [], ◌∷◌, Option, Some, None, length, arith, append-nil, eqb-true}
 use Rattle.std.specs.Prelude.{is_none, take, drop}
 use Rattle.std.specs.List.{list_any, list_all}
 use Rattle.std.proofs.lemmas.Bool.{both_ways, and_parts, and_from, false_from_ne_true, ltb-true, lt-ltb}
@@ -17,7 +17,6 @@ use Rattle.clv_base.specs.Journals.{History, final_of}
 use Rattle.clv_base.specs.History.{Legal, Member, logs_left, request_of, acknowledged_in, members}
 use Rattle.law_base.proofs.Commits.{parts_keep}
 use Rattle.protocol_laws.proofs.Records.{committed_there}
-use Rattle.shard_laws.specs.OneShard.{found_items, found_asked, found_met}
 use Rattle.shard_laws.proofs.Following.{Follows, to_disorder, follows_take, greatest_front}
 use Rattle.shard_laws.proofs.Histories.{held}
 use Rattle.shard_laws.proofs.Listing.{order_of}
@@ -29,7 +28,7 @@ use Rattle.history_laws.proofs.Records.{Passes, passes_all, all_pass}
 use Rattle.fate_laws.proofs.Bindings.{bindings_front}
 use Rattle.fate_laws.proofs.Prepares.{prepare_more}
 use Rattle.reopening_laws.proofs.Ended.{part_below}
-use Rattle.fall_laws.specs.Leading.{deeds_before, requests_of}
+use Rattle.fall_laws.specs.Leading.{deeds_before, with_found}
 use Rattle.fall_laws.proofs.Leading.{each_shard_leads}
 use Rattle.fate_laws.proofs.Deciding.{log_now}
 use Rattle.many_shards_laws.proofs.Earlier.{follows_behind}
@@ -92,7 +91,7 @@ module _ (splits : List ℕ) (before : List (List LogRecord)) (h : History) (aft
   fine n i =
       let d = deeds_before before h after n in
       let found = log_of before n in
-      let b = held n (run_after before) found (found_items n found ++ d.items) (found_asked n found ++ requests_of h) d.told (d.met ++ found_met n found) d.fell (last n) (each_shard_leads splits before h after h [] n o l (append-nil h) i) in
+      let b = held n (run_after before) found (with_found n found d) (last n) (each_shard_leads splits before h after h [] n o l (append-nil h) i) in
       ((b.1).order.ordered.follows, (b.1).order.ordered.latest)
 
   fine_left : (n k : ℕ) → n < shard_count splits → Fine (last n) (take k (last n).local.log)

@@ -13,7 +13,7 @@ use Rattle.law_base.specs.Items.{Item, Runs, after, AllLater, Clash}
 use Rattle.law_base.proofs.Tables.{is_pair}
 use Rattle.shard_laws.specs.OneShard.{items_of, MayChoose, map_found, found_items, found_met, ChosenAct}
 use Rattle.shard_laws.proofs.Kept.{place}
-use Rattle.shard_laws.proofs.Sound.{PartOf, nothing, also, only}
+use Rattle.shard_laws.proofs.Sound.{did, as_done, PartOf, nothing, also, only}
 use Rattle.shard_laws.proofs.Serial.{Once}
 use Rattle.shard_laws.proofs.Histories.{held}
 use Rattle.shard_laws.proofs.Choosing.{kept_run, kept_order, same_chosen, own_items, chosen_stand_before}
@@ -102,25 +102,25 @@ later_second R [] ys a = a
 later_second R (x ∷ xs) ys a = later_second R xs ys a.1
 
 pub chosen_act : ChosenAct
-chosen_act shard run before all asked told met fell s cut chosen done leads le may split =
-    let b = held shard run before all asked told met fell s leads in
+chosen_act shard run before d s cut chosen done leads le may split =
+    let b = held shard run before d s leads in
     let g = b.0 in
     let once : Once g.asked = subst Once (sym b.4) b.5 in
-    let may2 : MayChoose s cut g.asked told g.fell chosen = subst (λ q. MayChoose s cut q told g.fell chosen) (sym b.4) (subst (λ f. MayChoose s cut asked told f chosen) (sym b.8) may) in
-    let k = found_stays shard run before all asked told met fell s leads in
-    let closed : (t p : TxId) → is_pair (found_met shard before) t p ≡ true → chosen t ≡ true → chosen p ≡ true = λ t p e c. (chosen_stand_before shard run before all asked told met fell s cut chosen t p leads le may (k.pairs t p e) c).0 in
-    let own : (t : TxId) → chosen t ≡ true → items_of t (filter (λ x. chosen x.tx) g.items) ≡ items_of t all = own_items all g s told cut chosen b.1 le once b.6 b.9 may2 in
-    let same : filter (λ x. chosen x.tx) g.items ≡ filter (λ x. chosen x.tx) all =
-    same_part (filter (λ x. chosen x.tx) g.items) (filter (λ x. chosen x.tx) all) (part_both (λ x. chosen x.tx) g.items all (b.1).within)
-    (all_from (λ x c. let e = ap length (own x.tx c) in let m = no_more x.tx (filter (λ x. chosen x.tx) all) all (part_of_filter (λ x. chosen x.tx) all) in omega (arith, e, m)) (filter (λ x. chosen x.tx) all) (all_pass chosen all)) in
+    let may2 : MayChoose s cut (did d.items d.told g) chosen = subst (λ x. MayChoose s cut x chosen) (sym (as_done d g b.4 b.7 b.8)) may in
+    let k = found_stays shard run before d s leads in
+    let closed : (t p : TxId) → is_pair (found_met shard before) t p ≡ true → chosen t ≡ true → chosen p ≡ true = λ t p e c. (chosen_stand_before shard run before d s cut chosen t p leads le may (k.pairs t p e) c).0 in
+    let own : (t : TxId) → chosen t ≡ true → items_of t (filter (λ x. chosen x.tx) g.items) ≡ items_of t d.items = own_items d.items g s d.told cut chosen b.1 le once b.6 b.9 may2 in
+    let same : filter (λ x. chosen x.tx) g.items ≡ filter (λ x. chosen x.tx) d.items =
+    same_part (filter (λ x. chosen x.tx) g.items) (filter (λ x. chosen x.tx) d.items) (part_both (λ x. chosen x.tx) g.items d.items (b.1).within)
+    (all_from (λ x c. let e = ap length (own x.tx c) in let m = no_more x.tx (filter (λ x. chosen x.tx) d.items) d.items (part_of_filter (λ x. chosen x.tx) d.items) in omega (arith, e, m)) (filter (λ x. chosen x.tx) d.items) (all_pass chosen d.items)) in
     let picks = filter (λ x. chosen x.tx) (found_items shard before) in
     let rest = filter (λ x. chosen x.tx) done in
     let whole : filter (λ x. chosen x.tx) g.items ≡ picks ++ rest = same ∙ ap (filter (λ x. chosen x.tx)) split ∙ filter-append (λ x. chosen x.tx) (found_items shard before) done in
     let start = stands (before ∷ []) in
-    let runs : Runs start (picks ++ rest) = subst (λ m. Runs m (picks ++ rest)) b.2 (subst (Runs g.start) whole (kept_run all g s told cut chosen b.1 le once b.6 b.9 may2)) in
+    let runs : Runs start (picks ++ rest) = subst (λ m. Runs m (picks ++ rest)) b.2 (subst (Runs g.start) whole (kept_run d.items g s d.told cut chosen b.1 le once b.6 b.9 may2)) in
     let first : after start picks ≡ map_found shard before chosen = firsts_map shard run before k.may chosen closed in
-    let ends : after start (picks ++ rest) ≡ fold_updates chosen (take cut s.local.log) [] = ap (λ m. after m (picks ++ rest)) (sym b.2) ∙ ap (after g.start) (sym whole) ∙ same_chosen all g s told cut chosen b.1 le once b.6 b.9 may2 in
-    let order = kept_order all g s told cut chosen b.1 le once b.6 b.9 may2 in (
+    let ends : after start (picks ++ rest) ≡ fold_updates chosen (take cut s.local.log) [] = ap (λ m. after m (picks ++ rest)) (sym b.2) ∙ ap (after g.start) (sym whole) ∙ same_chosen d.items g s d.told cut chosen b.1 le once b.6 b.9 may2 in
+    let order = kept_order d.items g s d.told cut chosen b.1 le once b.6 b.9 may2 in (
       subst (λ m. Runs m rest) first (runs_second start picks rest runs),
       ap (λ m. after m rest) (sym first) ∙ sym (after_second start picks rest) ∙ ends,
       later_second _ picks rest (subst (λ l. AllLater (λ x y. Clash x y → (x.tx ≡ y.tx) ⊎ (place (filter chosen l) x.tx < place (filter chosen l) y.tx)) (picks ++ rest)) b.4 (subst (AllLater (λ x y. Clash x y → (x.tx ≡ y.tx) ⊎ (place (filter chosen g.asked) x.tx < place (filter chosen g.asked) y.tx))) whole order)),

@@ -26,7 +26,7 @@ use Rattle.shard_laws.proofs.AtKeys.{keys_top, keys_filter}
 use Rattle.shard_laws.proofs.Kept.{Past, view_of, place, Dep, Known, is_alive}
 use Rattle.shard_laws.proofs.Prepared.{Lists, sealed_later, listed_keeps}
 use Rattle.shard_laws.proofs.Changes.{undone_append, wrote_append, later_both}
-use Rattle.shard_laws.proofs.Sound.{Sound, Lost, filter_both, filter_same}
+use Rattle.shard_laws.proofs.Sound.{Sound, did, as_done, Lost, filter_both, filter_same}
 use Rattle.shard_laws.proofs.Cutting.{cut_keeps, durable_cut, of_kept, tidy_later, fold_values}
 use Rattle.shard_laws.proofs.Serial.{filter_place, in_kept, Once, once_filter, serial_of}
 use Rattle.shard_laws.proofs.Members.{dep_cut, item_asked, cut_base, pile_keep, filter_all_kept, filter_alike, filter_within}
@@ -45,7 +45,7 @@ and_true true b e = sym e
 and_true false b e = refl
 
 module _ (all : List Item) (g : Past) (s : Shard) (told : List TxId) (cut : ℕ) (chosen : TxId → Bool) (h : Sound all g s) (le : s.durable ≤ cut) (once : Once g.asked) (all_over : (t : TxId) → tx_in t told ≡ true → tx_in t g.over ≡ true)
-    (bounded : Bounded g s) (may : MayChoose s cut g.asked told g.fell chosen) where
+    (bounded : Bounded g s) (may : MayChoose s cut (did all told g) chosen) where
   abbrev front : List LogRecord
   front = take cut s.local.log
 
@@ -63,11 +63,11 @@ module _ (all : List Item) (g : Past) (s : Shard) (told : List TxId) (cut : ℕ)
   chosen_closed t i n = doubt_closed all g s cut h t i (doubt_here all g s cut h le t i (λ e. ⊎_elim (λ a. both_ways _ n a) (λ d. both_ways _ n (bounded t d)) e))
 
   -- one that wrote nothing here and left stays, and whom it met is committed in the cut
-  passing_stays : (t : TxId) → Passes g.asked g.fell s t → Lost g t → ⊥
+  passing_stays : (t : TxId) → Passes (did all told g) s t → Lost g t → ⊥
   passing_stays t r l =
       ⊎_elim (λ e. ⊎_elim (λ a. both_ways _ r.unfallen a) (λ d. both_ways _ r.unfallen (bounded t d)) e) (λ p. both_ways _ r.absent (h.kept.successors t p.0 p.1)) (h.falls.why t l)
 
-  passing_met : (t p : TxId) → Passes g.asked g.fell s t → Dep (view_of s) t p → committed_in (take cut s.local.log) p ≡ true
+  passing_met : (t p : TxId) → Passes (did all told g) s t → Dep (view_of s) t p → committed_in (take cut s.local.log) p ≡ true
   passing_met t p r d =
       ⊎_elim (λ e. durable_cut s.durable cut s.local.log p le e)
       (λ m. ⊎_elim (λ pair. absurd (both_ways _ r.absent (h.kept.successors t p pair))) (λ b. absurd (both_ways _ r.uncommitted (before_second s.local.log p t b))) m) d
@@ -212,15 +212,15 @@ module _ (all : List Item) (g : Past) (s : Shard) (told : List TxId) (cut : ℕ)
       (h.kept.recover t p e)
 
 pub chosen_replay : ChosenReplay
-chosen_replay shard run before all asked told met fell s cut chosen leads le may =
-    let b = held shard run before all asked told met fell s leads in
-    let r = chosen_run all b.0 s told cut chosen b.1 le (subst Once (sym b.4) b.5) b.6 b.9 (subst (λ q. MayChoose s cut q told (b.0).fell chosen) (sym b.4) (subst (λ f. MayChoose s cut asked told f chosen) (sym b.8) may)) in (
-      subst (λ l. replay_answers (stands (before ∷ [])) (ops_by (filter chosen l) all) ≡ answers_by (filter chosen l) all) b.4 (subst (λ m. replay_answers m (ops_by (filter chosen (b.0).asked) all) ≡ answers_by (filter chosen (b.0).asked) all) b.2 r.0),
-      subst (λ l. replay_map (stands (before ∷ [])) (ops_by (filter chosen l) all) ≡ fold_updates chosen (take cut s.local.log) []) b.4 (subst (λ m. replay_map m (ops_by (filter chosen (b.0).asked) all) ≡ fold_updates chosen (take cut s.local.log) []) b.2 r.1),
+chosen_replay shard run before d s cut chosen leads le may =
+    let b = held shard run before d s leads in
+    let r = chosen_run d.items b.0 s d.told cut chosen b.1 le (subst Once (sym b.4) b.5) b.6 b.9 (subst (λ x. MayChoose s cut x chosen) (sym (as_done d b.0 b.4 b.7 b.8)) may) in (
+      subst (λ l. replay_answers (stands (before ∷ [])) (ops_by (filter chosen l) d.items) ≡ answers_by (filter chosen l) d.items) b.4 (subst (λ m. replay_answers m (ops_by (filter chosen (b.0).asked) d.items) ≡ answers_by (filter chosen (b.0).asked) d.items) b.2 r.0),
+      subst (λ l. replay_map (stands (before ∷ [])) (ops_by (filter chosen l) d.items) ≡ fold_updates chosen (take cut s.local.log) []) b.4 (subst (λ m. replay_map m (ops_by (filter chosen (b.0).asked) d.items) ≡ fold_updates chosen (take cut s.local.log) []) b.2 r.1),
     )
 
 pub chosen_stand_before : ChosenStandBefore
-chosen_stand_before shard run before all asked told met fell s cut chosen t p leads le may e k =
-    let b = held shard run before all asked told met fell s leads in
-    let r = chosen_before all b.0 s told cut chosen b.1 le (subst Once (sym b.4) b.5) b.6 b.9 (subst (λ q. MayChoose s cut q told (b.0).fell chosen) (sym b.4) (subst (λ f. MayChoose s cut asked told f chosen) (sym b.8) may)) t p (subst (λ m. is_pair m t p ≡ true) (sym b.7) e) k in
+chosen_stand_before shard run before d s cut chosen t p leads le may e k =
+    let b = held shard run before d s leads in
+    let r = chosen_before d.items b.0 s d.told cut chosen b.1 le (subst Once (sym b.4) b.5) b.6 b.9 (subst (λ x. MayChoose s cut x chosen) (sym (as_done d b.0 b.4 b.7 b.8)) may) t p (subst (λ m. is_pair m t p ≡ true) (sym b.7) e) k in
     (r.0, subst (λ l. place (filter chosen l) p < place (filter chosen l) t) b.4 r.1)

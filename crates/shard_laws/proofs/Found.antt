@@ -21,7 +21,7 @@ use Rattle.law_base.proofs.Running.{top_value, runs_push, pile_value, pile_push}
 use Rattle.law_base.proofs.Undoing.{Chain, standing_append}
 use Rattle.protocol_laws.specs.Order.{LieOnThese}
 use Rattle.protocol_laws.proofs.Records.{push_cases}
-use Rattle.shard_laws.specs.OneShard.{found_op, found_item, items_found, prepared_order, MayServe, Leads, opens}
+use Rattle.shard_laws.specs.OneShard.{no_deeds, found_op, found_item, items_found, prepared_order, MayServe, Leads, opens}
 use Rattle.shard_laws.proofs.AtKeys.{key_writes, SameAtKeys, top_at}
 use Rattle.shard_laws.proofs.Kept.{of_kept, place}
 use Rattle.shard_laws.proofs.Prepared.{listed_keeps}
@@ -336,8 +336,8 @@ none_ordered (Abort tx ∷ rs) = none_ordered rs
 none_ordered (End tx ∷ rs) = none_ordered rs
 none_ordered (Restart run epoch ∷ rs) = none_ordered rs
 
-pub opens_clear : (shard run : ℕ) (before : List LogRecord) → MayServe shard run before → in_doubt shard before ≡ [] → Leads shard run before [] [] [] [] [] (opened shard run before)
+pub opens_clear : (shard run : ℕ) (before : List LogRecord) → MayServe shard run before → in_doubt shard before ≡ [] → Leads shard run before no_deeds (opened shard run before)
 opens_clear shard run before may clear =
-    subst (λ xs. Leads shard run before xs [] [] [] [] (opened shard run before)) (none_found (standing before))
-    (subst (λ ts. Leads shard run before (items_found (λ t. tx_in t []) (standing before)) ts [] [] [] (opened shard run before)) (none_ordered before)
-    (subst (λ d. Leads shard run before (items_found (λ t. tx_in t d) (standing before)) (prepared_order (λ t. tx_in t d) before) [] (restored_pairs before d) [] (opened shard run before)) clear (opens may)))
+    subst (λ xs. Leads shard run before (record no_deeds { items = xs }) (opened shard run before)) (none_found (standing before))
+    (subst (λ ts. Leads shard run before (record no_deeds { items = items_found (λ t. tx_in t []) (standing before); asked = ts }) (opened shard run before)) (none_ordered before)
+    (subst (λ d. Leads shard run before (record no_deeds { items = items_found (λ t. tx_in t d) (standing before); asked = prepared_order (λ t. tx_in t d) before; met = restored_pairs before d }) (opened shard run before)) clear (opens may)))

@@ -75,7 +75,7 @@ use Rattle.shard_laws.proofs.Falls.{Falls, falls_more, falls_prepare, falls_part
 use Rattle.shard_laws.proofs.Listing.{listed_prepared}
 use Rattle.shard_laws.proofs.Prepared.{by_prepare}
 use Rattle.shard_laws.proofs.Kept.{Dep}
-use Rattle.shard_laws.proofs.Sound.{here_alive, commit_falls, own_kept}
+use Rattle.shard_laws.proofs.Sound.{did, here_alive, commit_falls, own_kept}
 use Rattle.law_base.proofs.Undoing.{keeps_of}
 use Rattle.law_base.proofs.Lists.{all_mono}
 use Rattle.law_base.proofs.Sets.{filter_in, in_filter, list_all_at}
@@ -159,7 +159,7 @@ record NewHere (g : Past) (s : Shard) (tx : TxId) : Type 0 where
   undoomed : is_doomed (stage_of s.local tx) ≡ false
   unclosed : stage_of s.local tx ≡ Some Closed → ⊥
 
-fresh_now : (all : List Item) (g : Past) (s : Shard) (tx : TxId) (birth : Birth) → Sound all g s → (tx_get tx s.local.parts ≡ None → Fresh all g.met g.fell s tx) → (stage_of s.local tx ≡ None) ⊎ (stage_of s.local tx ≡ Some Active) → NewHere g s tx
+fresh_now : {told : List TxId} (all : List Item) (g : Past) (s : Shard) (tx : TxId) (birth : Birth) → Sound all g s → (tx_get tx s.local.parts ≡ None → Fresh (did all told g) s tx) → (stage_of s.local tx ≡ None) ⊎ (stage_of s.local tx ≡ Some Active) → NewHere g s tx
 fresh_now all g s tx birth h may o =
     let k = h.order.ordered in
     let r = order_of s.shard s.local.log k.follows in
@@ -215,7 +215,7 @@ no_items g v u (x ∷ xs) all none new =
     none_active : ◌≡◌ {A = Option Stage} None (Some Active) → ⊥
     none_active e = absurd cc
 
-told_own : (all : List Item) (g : Past) (s : Shard) (tx u : TxId) → u ≡ tx → Sound all g s → (tx_get tx s.local.parts ≡ None → Fresh all g.met g.fell s tx) → tx_in tx g.asked ≡ false → tx_in tx g.lost ≡ false → (stage_of s.local tx ≡ None) ⊎ (stage_of s.local tx ≡ Some Active) → items_of u g.items ≡ items_of u all
+told_own : {told : List TxId} (all : List Item) (g : Past) (s : Shard) (tx u : TxId) → u ≡ tx → Sound all g s → (tx_get tx s.local.parts ≡ None → Fresh (did all told g) s tx) → tx_in tx g.asked ≡ false → tx_in tx g.lost ≡ false → (stage_of s.local tx ≡ None) ⊎ (stage_of s.local tx ≡ Some Active) → items_of u g.items ≡ items_of u all
 told_own all g s tx u e h fresh new alive o =
     subst (λ z. items_of z g.items ≡ items_of z all) (sym e)
     (⊎_elim
@@ -235,7 +235,7 @@ falls_written : (asked fell lost over : List TxId) (tx : TxId) (birth : Birth) (
 falls_written asked fell lost over tx birth op l durable None f = f
 falls_written asked fell lost over tx birth op l durable (Some w) f = f
 
-module _ (all : List Item) (g : Past) (s : Shard) (tx : TxId) (birth : Birth) (op : Op) (h : Sound all g s) (grant : decide tx birth (needs_of op s.local.records) s.local.locks ≡ Grant) (fresh : tx_get tx s.local.parts ≡ None → Fresh all g.met g.fell s tx) (same : (h : Held) → tx_get tx s.local.parts ≡ Some h → h.birth ≡ birth)
+module _ {told : List TxId} (all : List Item) (g : Past) (s : Shard) (tx : TxId) (birth : Birth) (op : Op) (h : Sound all g s) (grant : decide tx birth (needs_of op s.local.records) s.local.locks ≡ Grant) (fresh : tx_get tx s.local.parts ≡ None → Fresh (did all told g) s tx) (same : (h : Held) → tx_get tx s.local.parts ≡ Some h → h.birth ≡ birth)
     (new : tx_in tx g.asked ≡ false) (run_is : tx.run ≡ s.run) (o : (stage_of s.local tx ≡ None) ⊎ (stage_of s.local tx ≡ Some Active)) where
   fr : NewHere g s tx
   fr = fresh_now all g s tx birth h fresh o
@@ -362,7 +362,7 @@ module _ (all : List Item) (g : Past) (s : Shard) (tx : TxId) (birth : Birth) (o
       )) (cases_Bool (list_any (λ p. tx_in p g.lost) vs)))
       (cases_Bool (tx_in tx g.lost))
 
-finish_performed : (all : List Item) (g : Past) (s : Shard) (tx : TxId) (birth : Birth) (nth : ℕ) (seen : Option ℕ) (op : Op) (h : Sound all g s) (grant : decide tx birth (needs_of op s.local.records) s.local.locks ≡ Grant) (may : MayTouch all g.asked g.met g.fell s tx birth seen) (fit : seen_fits s.local.epoch seen ≡ true)
+finish_performed : {told : List TxId} (all : List Item) (g : Past) (s : Shard) (tx : TxId) (birth : Birth) (nth : ℕ) (seen : Option ℕ) (op : Op) (h : Sound all g s) (grant : decide tx birth (needs_of op s.local.records) s.local.locks ≡ Grant) (may : MayTouch (did all told g) s tx birth seen) (fit : seen_fits s.local.epoch seen ≡ true)
     (o : (stage_of s.local tx ≡ None) ⊎ (stage_of s.local tx ≡ Some Active)) → Performed all g s tx birth op h grant (may.fresh fit) may.same_birth (may.not_asked fit) may.of_run o
     → Keeps_reply all g s (OpEvent tx birth nth seen op) (op_event s (OpAnswers (answer_of op s.local.records) (performed tx birth op s.local)))
 unfolding Performed
@@ -370,25 +370,25 @@ finish_performed all g s tx birth nth seen op h grant may fit o p =
     let f = finish_sound (all ++ record { tx = tx; op = op; answer = answer_of op s.local.records; lsn = 0 + length s.local.log } ∷ []) p.0 (record s { local = performed tx birth op s.local }) p.1 in
     does (f.0, f.1, f.2 ∙ p.2, f.3 ∙ p.3, f.4 ∙ p.4, (λ u i. f.5 u (ap (tx_in u) p.5 ∙ i)), (λ u n. absurd (none-some u n)), f.6 ∙ p.6, f.7 ∙ p.7)
 
-granted : (all : List Item) (g : Past) (s : Shard) (tx : TxId) (birth : Birth) (nth : ℕ) (seen : Option ℕ) (op : Op) (b : Bool) → Sound all g s → decide tx birth (needs_of op s.local.records) s.local.locks ≡ Grant → MayTouch all g.asked g.met g.fell s tx birth seen → seen_fits s.local.epoch seen ≡ true → (stage_of s.local tx ≡ None) ⊎ (stage_of s.local tx ≡ Some Active)
+granted : {told : List TxId} (all : List Item) (g : Past) (s : Shard) (tx : TxId) (birth : Birth) (nth : ℕ) (seen : Option ℕ) (op : Op) (b : Bool) → Sound all g s → decide tx birth (needs_of op s.local.records) s.local.locks ≡ Grant → MayTouch (did all told g) s tx birth seen → seen_fits s.local.epoch seen ≡ true → (stage_of s.local tx ≡ None) ⊎ (stage_of s.local tx ≡ Some Active)
     → Keeps_reply all g s (OpEvent tx birth nth seen op) (op_event s (op_granted s.local tx birth op b))
 granted all g s tx birth nth seen op true h grant may fit o = late
 granted all g s tx birth nth seen op false h grant may fit o = finish_performed all g s tx birth nth seen op h grant may fit o (performed_sound all g s tx birth op h grant (may.fresh fit) may.same_birth (may.not_asked fit) may.of_run o)
 
-by_decision : (all : List Item) (g : Past) (s : Shard) (tx : TxId) (birth : Birth) (nth : ℕ) (seen : Option ℕ) (op : Op) (d : Decision) → Sound all g s → decide tx birth (needs_of op s.local.records) s.local.locks ≡ d → MayTouch all g.asked g.met g.fell s tx birth seen → seen_fits s.local.epoch seen ≡ true → (stage_of s.local tx ≡ None) ⊎ (stage_of s.local tx ≡ Some Active)
+by_decision : {told : List TxId} (all : List Item) (g : Past) (s : Shard) (tx : TxId) (birth : Birth) (nth : ℕ) (seen : Option ℕ) (op : Op) (d : Decision) → Sound all g s → decide tx birth (needs_of op s.local.records) s.local.locks ≡ d → MayTouch (did all told g) s tx birth seen → seen_fits s.local.epoch seen ≡ true → (stage_of s.local tx ≡ None) ⊎ (stage_of s.local tx ≡ Some Active)
     → Keeps_reply all g s (OpEvent tx birth nth seen op) (op_event s (op_decided s.local tx birth op d))
 by_decision all g s tx birth nth seen op Grant h e may fit o = granted all g s tx birth nth seen op _ h e may fit o
 by_decision all g s tx birth nth seen op (Wait y) h e may fit o = late
 by_decision all g s tx birth nth seen op (Die y) h e may fit o = dies all g s tx birth nth seen op _ h may.not_closed
 
-by_stage : (all : List Item) (g : Past) (s : Shard) (tx : TxId) (birth : Birth) (nth : ℕ) (seen : Option ℕ) (op : Op) (o : Option Stage) → Sound all g s → MayTouch all g.asked g.met g.fell s tx birth seen → seen_fits s.local.epoch seen ≡ true → stage_of s.local tx ≡ o → Keeps_reply all g s (OpEvent tx birth nth seen op) (op_event s (op_by_stage s.local tx birth op o))
+by_stage : {told : List TxId} (all : List Item) (g : Past) (s : Shard) (tx : TxId) (birth : Birth) (nth : ℕ) (seen : Option ℕ) (op : Op) (o : Option Stage) → Sound all g s → MayTouch (did all told g) s tx birth seen → seen_fits s.local.epoch seen ≡ true → stage_of s.local tx ≡ o → Keeps_reply all g s (OpEvent tx birth nth seen op) (op_event s (op_by_stage s.local tx birth op o))
 by_stage all g s tx birth nth seen op None h may fit e = by_decision all g s tx birth nth seen op (decide tx birth (needs_of op s.local.records) s.local.locks) h refl may fit (inl e)
 by_stage all g s tx birth nth seen op (Some Active) h may fit e = by_decision all g s tx birth nth seen op (decide tx birth (needs_of op s.local.records) s.local.locks) h refl may fit (inr e)
 by_stage all g s tx birth nth seen op (Some Closed) h may fit e = absurd (may.not_closed e)
 by_stage all g s tx birth nth seen op (Some (Gone None)) h may fit e = ends all g s (record s { local = s.local }) (OpEvent tx birth nth seen op) _ (refl, refl, refl) refl (at_once all g s h)
 by_stage all g s tx birth nth seen op (Some (Gone (Some d))) h may fit e = ends all g s (record s { local = s.local }) (OpEvent tx birth nth seen op) _ (refl, refl, refl) refl (at_once all g s h)
 
-operation : (all : List Item) (g : Past) (s : Shard) (tx : TxId) (birth : Birth) (nth : ℕ) (seen : Option ℕ) (op : Op) (b : Bool) → Sound all g s → MayTouch all g.asked g.met g.fell s tx birth seen → seen_fits s.local.epoch seen ≡ b → Keeps_reply all g s (OpEvent tx birth nth seen op) (op_event s (op_seen s.shard s.local tx birth seen op b))
+operation : {told : List TxId} (all : List Item) (g : Past) (s : Shard) (tx : TxId) (birth : Birth) (nth : ℕ) (seen : Option ℕ) (op : Op) (b : Bool) → Sound all g s → MayTouch (did all told g) s tx birth seen → seen_fits s.local.epoch seen ≡ b → Keeps_reply all g s (OpEvent tx birth nth seen op) (op_event s (op_seen s.shard s.local tx birth seen op b))
 operation all g s tx birth nth seen op true h may fit = by_stage all g s tx birth nth seen op (stage_of s.local tx) h may fit refl
 operation all g s tx birth nth seen op false h may fit = dies all g s tx birth nth seen op _ h may.not_closed
 
@@ -594,11 +594,11 @@ asks_unseen tx (Some Closed) = refl
 asks_unseen tx (Some (Gone d)) = refl
 
 -- a first request of this run is of one that is not committed
-new_here : (g : Past) (s : Shard) (tx : TxId) → MayAsk g.asked s tx → AskedOrOld g s.run tx → ⊥
+new_here : (g : Past) (s : Shard) (tx : TxId) → MayAsk (did [] [] g) s tx → AskedOrOld g s.run tx → ⊥
 new_here g s tx may (inl a) = both_ways _ may.0 a
 new_here g s tx may (inr l) = let q = may.3 in omega (arith, l, q)
 
-request_stage : (all : List Item) (g : Past) (s : Shard) (tx : TxId) (touched : List (ℕ × ℕ)) (o : Option Stage) → Sound all g s → MayAsk g.asked s tx → stage_of s.local tx ≡ o → seen_fits s.local.epoch (epoch_in s.shard touched) ≡ true → Keeps_reply all g s (RequestEvent tx touched) (request_by_stage s tx touched o)
+request_stage : (all : List Item) (g : Past) (s : Shard) (tx : TxId) (touched : List (ℕ × ℕ)) (o : Option Stage) → Sound all g s → MayAsk (did all [] g) s tx → stage_of s.local tx ≡ o → seen_fits s.local.epoch (epoch_in s.shard touched) ≡ true → Keeps_reply all g s (RequestEvent tx touched) (request_by_stage s tx touched o)
 request_stage all g s tx touched None h may e f = ends all g s (coordinate tx touched s) (RequestEvent tx touched) _ (refl, none_asks g s tx touched None true e f refl, refl) refl (at_once all g (coordinate tx touched s) (coordinated all g s tx touched h (inl (false_from_ne_true _ (λ c. new_here g s tx may (h.asked tx c)))) may.1
     (new_ruled s.shard s.run s.local.log tx touched may.3 (λ p i. absurd (new_here g s tx may (h.order.ordered.asks tx (prepared_there s.local.log tx p i)))))
     (λ here. absurd (both_ways false refl (sym (ap is_present e) ∙ here)))))
@@ -609,7 +609,7 @@ request_stage all g s tx touched (Some Active) h may e f =
     let r = finish_sound all (record g { asked = g.asked ++ tx ∷ [] }) (coordinate tx touched (with_local (close_part tx s.shard (is_alone (others s.shard touched))) s)) (asked_sound all g s tx touched h e may.1 may.2 may.3) in
     does (r.0, r.1, r.2, r.3, r.4 ∙ sym (ap (with_one g.asked) (ap (λ x. asks_by_stage tx x (seen_fits s.local.epoch (epoch_in s.shard touched))) e ∙ ap (asks_by_stage tx (Some Active)) f)), r.5, (λ u n. absurd (none-some u n)), r.6, r.7)
 
-request : (all : List Item) (g : Past) (s : Shard) (tx : TxId) (touched : List (ℕ × ℕ)) (b : Bool) → Sound all g s → MayAsk g.asked s tx → seen_fits s.local.epoch (epoch_in s.shard touched) ≡ b → Keeps_reply all g s (RequestEvent tx touched) (request_event s tx touched b)
+request : (all : List Item) (g : Past) (s : Shard) (tx : TxId) (touched : List (ℕ × ℕ)) (b : Bool) → Sound all g s → MayAsk (did all [] g) s tx → seen_fits s.local.epoch (epoch_in s.shard touched) ≡ b → Keeps_reply all g s (RequestEvent tx touched) (request_event s tx touched b)
 request all g s tx touched true h may f = request_stage all g s tx touched (stage_of s.local tx) h may refl f
 request all g s tx touched false h may f = ends all g s s (RequestEvent tx touched) _ (refl, none_asks g s tx touched (stage_of s.local tx) false refl f (asks_unseen tx (stage_of s.local tx)), refl) refl (at_once all g s h)
 
@@ -820,7 +820,7 @@ decides all g s m stamp tx home commit h may = at (is_waiting (facts_of s tx)) (
     at false true w = quietly all g s (send (Done home tx s.shard ∷ []) s) (Deliver m stamp) Taken (refl, refl, refl) refl h
     at false false w = early
 
-message : (all : List Item) (g : Past) (s : Shard) (m : Message) (stamp : ℕ) → Sound all g s → MayDeliver g.asked g.fell s m → Keeps_reply all g s (Deliver m stamp) (on_message s m)
+message : (all : List Item) (g : Past) (s : Shard) (m : Message) (stamp : ℕ) → Sound all g s → MayDeliver (did all [] g) s m → Keeps_reply all g s (Deliver m stamp) (on_message s m)
 message all g s (PrepareMessage to tx home seen) stamp h may = prepares all g s (PrepareMessage to tx home seen) stamp tx home seen (stage_of s.local tx) h refl may.0 may.1 may.2
 message all g s (VoteMessage to tx from vote) stamp h may = votes all g s (VoteMessage to tx from vote) stamp tx from vote (tx_get tx s.requests) h refl
 message all g s (Decide to tx home true) stamp h may = decides all g s (Decide to tx home true) stamp tx home true h (λ e. may)
@@ -828,29 +828,29 @@ message all g s (Decide to tx home false) stamp h may = decides all g s (Decide 
 message all g s (Done to tx from) stamp h may = dones all g s (Done to tx from) stamp tx from (tx_get tx s.requests) h refl
 message all g s (Ask to tx from) stamp h may = quietly all g s (send (ask_messages s tx from (ask_answer (tx_get tx s.requests) (facts_of s tx))) s) (Deliver (Ask to tx from) stamp) Taken (refl, refl, refl) refl h
 
-up : (all : List Item) (g : Past) (s : Shard) (e : Event) → Sound all g s → MayHappen all g.asked g.met g.fell s e → Keeps_reply all g s e (happen_up s e)
-up all g s (OpEvent tx birth nth seen op) h may = operation all g s tx birth nth seen op (seen_fits s.local.epoch seen) h may refl
-up all g s (RequestEvent tx touched) h may = request all g s tx touched (seen_fits s.local.epoch (epoch_in s.shard touched)) h may refl
-up all g s (Look tx) h may = looked all g s tx h
-up all g s (Drop tx) h may = dropped all g s tx (stage_of s.local tx) h may
-up all g s Send h may = sent all g s s.outbox h
-up all g s (Deliver m stamp) h may = at_cond all g s (Deliver m stamp) (to_of m == s.shard) (on_message s m) (QuietBeforeWorn Stale) (message all g s m stamp h may) early
-up all g s Remind h may = reminded all g s s.outbox (reminders s) h
-up all g s FlushOut h may = flushed all g s s.flight _ h
-up all g s FlushIn h may = early
-up all g s Stop h may = does (g, h, refl, refl, refl, (λ u o. o), (λ u n. absurd (none-some u n)), refl, refl)
-up all g s RestartEvent h may = early
+up : (all : List Item) (told : List TxId) (g : Past) (s : Shard) (e : Event) → Sound all g s → MayHappen (did all told g) s e → Keeps_reply all g s e (happen_up s e)
+up all told g s (OpEvent tx birth nth seen op) h may = operation all g s tx birth nth seen op (seen_fits s.local.epoch seen) h may refl
+up all told g s (RequestEvent tx touched) h may = request all g s tx touched (seen_fits s.local.epoch (epoch_in s.shard touched)) h may refl
+up all told g s (Look tx) h may = looked all g s tx h
+up all told g s (Drop tx) h may = dropped all g s tx (stage_of s.local tx) h may
+up all told g s Send h may = sent all g s s.outbox h
+up all told g s (Deliver m stamp) h may = at_cond all g s (Deliver m stamp) (to_of m == s.shard) (on_message s m) (QuietBeforeWorn Stale) (message all g s m stamp h may) early
+up all told g s Remind h may = reminded all g s s.outbox (reminders s) h
+up all told g s FlushOut h may = flushed all g s s.flight _ h
+up all told g s FlushIn h may = early
+up all told g s Stop h may = does (g, h, refl, refl, refl, (λ u o. o), (λ u n. absurd (none-some u n)), refl, refl)
+up all told g s RestartEvent h may = early
 
-all_events : (all : List Item) (g : Past) (s : Shard) (e : Event) (b : Bool) → Sound all g s → MayHappen all g.asked g.met g.fell s e → Keeps_reply all g s e (elim b [ true ↦ happen_up s e | false ↦ QuietBeforeWorn Down ])
-all_events all g s e true h may = up all g s e h may
-all_events all g s e false h may = early
+all_events : (all : List Item) (told : List TxId) (g : Past) (s : Shard) (e : Event) (b : Bool) → Sound all g s → MayHappen (did all told g) s e → Keeps_reply all g s e (elim b [ true ↦ happen_up s e | false ↦ QuietBeforeWorn Down ])
+all_events all told g s e true h may = up all told g s e h may
+all_events all told g s e false h may = early
 
 from_reply : (all : List Item) (g : Past) (s : Shard) (e : Event) (o : Outcome) (t : Shard) → Keeps_reply all g s e (Does o t) → Later all g s e o t
 from_reply all g s e o t (does l) = l
 
 -- every event keeps it
-pub happen_sound : (all : List Item) (g : Past) (s : Shard) (e : Event) (o : Outcome) (t : Shard) → Sound all g s → MayHappen all g.asked g.met g.fell s e → happen s e ≡ Does o t → Later all g s e o t
-happen_sound all g s e o t h may eq = from_reply all g s e o t (subst (Keeps_reply all g s e) eq (all_events all g s e s.is_up h may))
+pub happen_sound : (all : List Item) (told : List TxId) (g : Past) (s : Shard) (e : Event) (o : Outcome) (t : Shard) → Sound all g s → MayHappen (did all told g) s e → happen s e ≡ Does o t → Later all g s e o t
+happen_sound all told g s e o t h may eq = from_reply all g s e o t (subst (Keeps_reply all g s e) eq (all_events all told g s e s.is_up h may))
 
 -- and so does the end of a flush
 pub landed_sound : (all : List Item) (g : Past) (s : Shard) (n : ℕ) → Sound all g s → s.flight ≡ Some n → After all g (finish (with_durable n s))

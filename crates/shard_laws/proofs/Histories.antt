@@ -24,8 +24,8 @@ use Rattle.clv_base.specs.Undo.{stage_of}
 use Rattle.clv_base.specs.Events.{Reply, Does, landed, put_down, epoch_in}
 use Rattle.clv_base.specs.OneShard.{seen_fits}
 use Rattle.clv_base.specs.Restarts.{revived}
-use Rattle.shard_laws.specs.OneShard.{with_one, asks_by_stage, new_asked, MayHappen, Leads, opens, happens, lands, others_ask, revives, new_told, members_of, ops_by, answers_by, AnswersAndMap, Recoverable, new_met}
-use Rattle.shard_laws.proofs.Sound.{Sound, After, More_over, at_once}
+use Rattle.shard_laws.specs.OneShard.{Deeds, with_one, asks_by_stage, new_asked, MayHappen, Leads, opens, happens, lands, others_ask, revives, new_told, is_member, ops_by, answers_by, AnswersAndMap, Recoverable, new_met}
+use Rattle.shard_laws.proofs.Sound.{Sound, as_done, After, More_over, at_once}
 use Rattle.shard_laws.proofs.Opening.{past_of, sound_opened, opened_undoomed}
 use Rattle.shard_laws.proofs.Reviving.{revived_sound}
 use Rattle.shard_laws.proofs.Cutting.{of_kept}
@@ -51,18 +51,18 @@ asks_active t u (Some Active) false e = absurd (none_tx u e)
 asks_active t u (Some Closed) b e = absurd (none_tx u e)
 asks_active t u (Some (Gone d)) b e = absurd (none_tx u e)
 
-asked_new : (all : List Item) (asked : List TxId) (met : List (TxId × TxId)) (fell : List TxId) (s : Shard) (e : Event) (u : TxId) → MayHappen all asked met fell s e → new_asked s e ≡ Some u → tx_in u asked ≡ false
-asked_new all asked met fell s (OpEvent tx birth nth seen op) u may e = absurd (none_tx u e)
-asked_new all asked met fell s (RequestEvent tx touched) u may e = let a = asks_active tx u (stage_of s.local tx) (seen_fits s.local.epoch (epoch_in s.shard touched)) e in ap (λ z. tx_in z asked) (sym a.1) ∙ may.0
-asked_new all asked met fell s (Look tx) u may e = absurd (none_tx u e)
-asked_new all asked met fell s (Drop tx) u may e = absurd (none_tx u e)
-asked_new all asked met fell s Send u may e = absurd (none_tx u e)
-asked_new all asked met fell s (Deliver m stamp) u may e = absurd (none_tx u e)
-asked_new all asked met fell s Remind u may e = absurd (none_tx u e)
-asked_new all asked met fell s FlushOut u may e = absurd (none_tx u e)
-asked_new all asked met fell s FlushIn u may e = absurd (none_tx u e)
-asked_new all asked met fell s Stop u may e = absurd (none_tx u e)
-asked_new all asked met fell s RestartEvent u may e = absurd (none_tx u e)
+asked_new : (d : Deeds) (s : Shard) (e : Event) (u : TxId) → MayHappen d s e → new_asked s e ≡ Some u → tx_in u d.asked ≡ false
+asked_new d s (OpEvent tx birth nth seen op) u may e = absurd (none_tx u e)
+asked_new d s (RequestEvent tx touched) u may e = let a = asks_active tx u (stage_of s.local tx) (seen_fits s.local.epoch (epoch_in s.shard touched)) e in ap (λ z. tx_in z d.asked) (sym a.1) ∙ may.0
+asked_new d s (Look tx) u may e = absurd (none_tx u e)
+asked_new d s (Drop tx) u may e = absurd (none_tx u e)
+asked_new d s Send u may e = absurd (none_tx u e)
+asked_new d s (Deliver m stamp) u may e = absurd (none_tx u e)
+asked_new d s Remind u may e = absurd (none_tx u e)
+asked_new d s FlushOut u may e = absurd (none_tx u e)
+asked_new d s FlushIn u may e = absurd (none_tx u e)
+asked_new d s Stop u may e = absurd (none_tx u e)
+asked_new d s RestartEvent u may e = absurd (none_tx u e)
 
 once_more : (as_ : List TxId) (o : Option TxId) → Once as_ → ((t : TxId) → o ≡ Some t → tx_in t as_ ≡ false) → Once (with_one as_ o)
 once_more as_ None h n = h
@@ -139,34 +139,34 @@ refell all g t h =
     now u (inl i) = inl (in_more (doomed_in t) g.fell u i)
     now u (inr d) = inr d
 
-abbrev pub Holds : ℕ → ℕ → List LogRecord → List Item → List TxId → List TxId → List (TxId × TxId) → List TxId → Shard → Type 0
-Holds shard run before all asked told met fell s =
-    (g : Past) × Sound all g s × (g.start ≡ stands (before ∷ [])) × (g.base ≡ filter (of_kept (committed_in before)) (standing before)) × (g.asked ≡ asked) × Once asked × Over_all told g × (g.met ≡ met) × (g.fell ≡ fell) × ((u : TxId) → is_doomed (stage_of s.local u) ≡ true → tx_in u g.fell ≡ true)
+abbrev pub Holds : ℕ → ℕ → List LogRecord → Deeds → Shard → Type 0
+Holds shard run before d s =
+    (g : Past) × Sound d.items g s × (g.start ≡ stands (before ∷ [])) × (g.base ≡ filter (of_kept (committed_in before)) (standing before)) × (g.asked ≡ d.asked) × Once d.asked × Over_all d.told g × (g.met ≡ d.met) × (g.fell ≡ d.fell) × ((u : TxId) → is_doomed (stage_of s.local u) ≡ true → tx_in u g.fell ≡ true)
 
 boundary : (t : Shard) (fell : List TxId) (u : TxId) → is_doomed (stage_of t.local u) ≡ true → tx_in u (doomed_in t ++ fell) ≡ true
 boundary t fell u d = in_first (doomed_in t) fell u (doomed_named t u d)
 
-pub held : (shard run : ℕ) (before : List LogRecord) (all : List Item) (asked told : List TxId) (met : List (TxId × TxId)) (fell : List TxId) (s : Shard) → Leads shard run before all asked told met fell s → Holds shard run before all asked told met fell s
-held shard run log0 _ _ _ _ _ _ (opens may) = (past_of shard log0, sound_opened shard run log0 may, refl, refl, refl, order_once shard (λ t. tx_in t (in_doubt shard log0)) log0 (from_disorder shard 0 [] log0 may.0), (λ t i. absurd (both_ways false refl i)), refl, refl, (λ u d. absurd (opened_undoomed shard run log0 u d)))
-held shard run log0 _ _ _ _ _ _ (happens {all} {asked} {told} {met} {fell} {s} e o t stamp walker before may eq) =
-    let b = held shard run log0 all asked told met fell s before in
-    let later = happen_sound all b.0 s e o t b.1 (subst (λ l. MayHappen all l (b.0).met (b.0).fell s e) (sym b.4) (subst (λ m. MayHappen all asked m (b.0).fell s e) (sym b.7) (subst (λ m. MayHappen all asked met m s e) (sym b.8) may))) eq in (
+pub held : (shard run : ℕ) (before : List LogRecord) (d : Deeds) (s : Shard) → Leads shard run before d s → Holds shard run before d s
+held shard run log0 _ _ (opens may) = (past_of shard log0, sound_opened shard run log0 may, refl, refl, refl, order_once shard (λ t. tx_in t (in_doubt shard log0)) log0 (from_disorder shard 0 [] log0 may.0), (λ t i. absurd (both_ways false refl i)), refl, refl, (λ u d. absurd (opened_undoomed shard run log0 u d)))
+held shard run log0 _ _ (happens {d} {s} e o t stamp walker before may eq) =
+    let b = held shard run log0 d s before in
+    let later = happen_sound d.items d.told b.0 s e o t b.1 (subst (λ x. MayHappen x s e) (sym (as_done d b.0 b.4 b.7 b.8)) may) eq in (
       record later.0 { fell = doomed_in t ++ (later.0).fell },
       refell _ later.0 t later.1,
       later.2 ∙ b.2,
       later.3 ∙ b.3,
       later.4 ∙ ap (λ l. with_one l (new_asked s e)) b.4,
-      once_more asked (new_asked s e) b.5 (λ u n. asked_new all asked met fell s e u may n),
-      told_more told (new_told e o) b.0 later.0 b.6 later.5 later.6,
+      once_more d.asked (new_asked s e) b.5 (λ u n. asked_new d s e u may n),
+      told_more d.told (new_told e o) b.0 later.0 b.6 later.5 later.6,
       later.7 ∙ ap (λ l. new_met s e o ++ l) b.7,
       ap (λ l. doomed_in t ++ l) (later.8 ∙ b.8),
       boundary t (later.0).fell,
     )
-held shard run log0 _ _ _ _ _ _ (lands {all} {asked} {told} {met} {fell} {s} n pushed o t stamp walker before flies eq) =
-    let b = held shard run log0 all asked told met fell s before in
-    let later = from_landed all b.0 o t (subst (Landed all b.0) eq (landed_any all b.0 s n pushed b.1 flies)) in (
+held shard run log0 _ _ (lands {d} {s} n pushed o t stamp walker before flies eq) =
+    let b = held shard run log0 d s before in
+    let later = from_landed d.items b.0 o t (subst (Landed d.items b.0) eq (landed_any d.items b.0 s n pushed b.1 flies)) in (
       record later.0 { fell = doomed_in t ++ (later.0).fell },
-      refell all later.0 t later.1,
+      refell d.items later.0 t later.1,
       later.2 ∙ b.2,
       later.3 ∙ b.3,
       later.4 ∙ b.4,
@@ -176,24 +176,24 @@ held shard run log0 _ _ _ _ _ _ (lands {all} {asked} {told} {met} {fell} {s} n p
       ap (λ l. doomed_in t ++ l) (later.7 ∙ b.8),
       boundary t (later.0).fell,
     )
-held shard run log0 _ _ _ _ _ _ (others_ask {all} {asked} {told} {met} {fell} {s} t before new) =
-    let b = held shard run log0 all asked told met fell s before in
-    (record b.0 { asked = (b.0).asked ++ t ∷ [] }, others_asked all b.0 s t b.1, b.2, b.3, ap (λ l. l ++ t ∷ []) b.4, once_push asked t b.5 new, b.6, b.7, b.8, b.9)
-held shard run log0 _ _ _ _ _ _ (revives {all} {asked} {told} {met} {fell} {s} kept epoch log stamp walker before down leads) =
-    let b = held shard run log0 all asked told met fell s before in
-    let later = revived_sound all told b.0 s kept epoch log b.1 b.9 (subst Once (sym b.4) b.5) b.6 leads in
+held shard run log0 _ _ (others_ask {d} {s} t before new) =
+    let b = held shard run log0 d s before in
+    (record b.0 { asked = (b.0).asked ++ t ∷ [] }, others_asked d.items b.0 s t b.1, b.2, b.3, ap (λ l. l ++ t ∷ []) b.4, once_push d.asked t b.5 new, b.6, b.7, b.8, b.9)
+held shard run log0 _ _ (revives {d} {s} kept epoch log stamp walker before down leads) =
+    let b = held shard run log0 d s before in
+    let later = revived_sound d.items d.told b.0 s kept epoch log b.1 b.9 (subst Once (sym b.4) b.5) b.6 leads in
     (later.0, later.1, later.2 ∙ b.2, later.3 ∙ b.3, later.4 ∙ b.4, b.5, later.5, later.6 ∙ b.7, later.7 ∙ ap (λ l. left_out s (revived s epoch log) ++ l) b.8, later.8)
 
 pub answers_and_map : AnswersAndMap
-answers_and_map shard run before all asked told met fell s cut leads le =
-    let b = held shard run before all asked told met fell s leads in
-    let r = serial_run all b.0 s told cut b.1 le (subst Once (sym b.4) b.5) b.6 in (
-      subst (λ l. replay_answers (stands (before ∷ [])) (ops_by (members_of s cut told l) all) ≡ answers_by (members_of s cut told l) all) b.4 (subst (λ m. replay_answers m (ops_by (members_of s cut told (b.0).asked) all) ≡ answers_by (members_of s cut told (b.0).asked) all) b.2 r.0),
-      subst (λ l. replay_map (stands (before ∷ [])) (ops_by (members_of s cut told l) all) ≡ stands (take cut s.local.log ∷ [])) b.4 (subst (λ m. replay_map m (ops_by (members_of s cut told (b.0).asked) all) ≡ stands (take cut s.local.log ∷ [])) b.2 r.1),
+answers_and_map shard run before d s cut leads le =
+    let b = held shard run before d s leads in
+    let r = serial_run d.items b.0 s d.told cut b.1 le (subst Once (sym b.4) b.5) b.6 in (
+      subst (λ l. replay_answers (stands (before ∷ [])) (ops_by (filter (is_member s cut d.told) l) d.items) ≡ answers_by (filter (is_member s cut d.told) l) d.items) b.4 (subst (λ m. replay_answers m (ops_by (filter (is_member s cut d.told) (b.0).asked) d.items) ≡ answers_by (filter (is_member s cut d.told) (b.0).asked) d.items) b.2 r.0),
+      subst (λ l. replay_map (stands (before ∷ [])) (ops_by (filter (is_member s cut d.told) l) d.items) ≡ stands (take cut s.local.log ∷ [])) b.4 (subst (λ m. replay_map m (ops_by (filter (is_member s cut d.told) (b.0).asked) d.items) ≡ stands (take cut s.local.log ∷ [])) b.2 r.1),
     )
 
 pub recoverable : Recoverable
-recoverable shard run before all asked told met fell s cut t p leads le e member =
-    let b = held shard run before all asked told met fell s leads in
-    let r = recovered all b.0 s told cut b.1 le (subst Once (sym b.4) b.5) b.6 t p (subst (λ m. is_pair m t p ≡ true) (sym b.7) e) member in
-    (r.0, subst (λ l. place (members_of s cut told l) p < place (members_of s cut told l) t) b.4 r.1)
+recoverable shard run before d s cut t p leads le e member =
+    let b = held shard run before d s leads in
+    let r = recovered d.items b.0 s d.told cut b.1 le (subst Once (sym b.4) b.5) b.6 t p (subst (λ m. is_pair m t p ≡ true) (sym b.7) e) member in
+    (r.0, subst (λ l. place (filter (is_member s cut d.told) l) p < place (filter (is_member s cut d.told) l) t) b.4 r.1)

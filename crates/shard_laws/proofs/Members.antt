@@ -19,7 +19,7 @@ use Rattle.clv_base.specs.Maps.{replay_map, replay_answers}
 use Rattle.clv_base.specs.Logs.{stands, fold_updates, committed_somewhere}
 use Rattle.clv_base.specs.State.{Shard}
 use Rattle.clv_base.proofs.Folding.{same_map}
-use Rattle.shard_laws.specs.OneShard.{is_member, members_of, items_of, ops_by, answers_by}
+use Rattle.shard_laws.specs.OneShard.{is_member, items_of, ops_by, answers_by}
 use Rattle.shard_laws.proofs.Kept.{view_of}
 use Rattle.law_base.proofs.Running.{rising_all, pile_value}
 use Rattle.shard_laws.proofs.Leaving.{pile_all}
@@ -84,7 +84,7 @@ module _ (all : List Item) (g : Past) (s : Shard) (told : List TxId) (cut : ℕ)
   keep_item x = is_member s cut told x.tx
 
   abbrev ms : List TxId
-  ms = members_of s cut told g.asked
+  ms = filter (is_member s cut told) g.asked
 
   abbrev kept : List Item
   kept = filter (λ x. is_member s cut told x.tx) g.items
@@ -224,8 +224,8 @@ module _ (all : List Item) (g : Past) (s : Shard) (told : List TxId) (cut : ℕ)
       ∙ sym (fold_alike (committed_somewhere (take cut s.local.log ∷ [])) (committed_in (take cut s.local.log)) (take cut s.local.log) [] somewhere)
 
   -- ---- all of it
-  pub serial_run : (replay_answers g.start (ops_by (members_of s cut told g.asked) all) ≡ answers_by (members_of s cut told g.asked) all)
-      × (replay_map g.start (ops_by (members_of s cut told g.asked) all) ≡ stands (take cut s.local.log ∷ []))
+  pub serial_run : (replay_answers g.start (ops_by (filter (is_member s cut told) g.asked) all) ≡ answers_by (filter (is_member s cut told) g.asked) all)
+      × (replay_map g.start (ops_by (filter (is_member s cut told) g.asked) all) ≡ stands (take cut s.local.log ∷ []))
   serial_run =
       let run = serial_of ms g.start kept (once_filter (λ t. is_member s cut told t) g.asked once) h.kept.start_rises kept_run kept_order kept_in in
       let ops = same_ops ms ms_members in

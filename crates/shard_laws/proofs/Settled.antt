@@ -65,4 +65,4 @@ settled_map g s h q =
     ∙ sym (fold_alike (committed_somewhere (log ∷ [])) (committed_in log) log [] (λ t. or-false (committed_in log t)))
 
 pub quiet_is_settled : QuietIsSettled
-quiet_is_settled shard run before all asked told met fell s leads q = let b = held shard run before all asked told met fell s leads in settled_map b.0 s (b.1).kept q
+quiet_is_settled shard run before d s leads q = let b = held shard run before d s leads in settled_map b.0 s (b.1).kept q

@@ -42,7 +42,7 @@ use Rattle.clv_base.specs.Orders.{tx_set, nat_in}
 use Rattle.shard_laws.proofs.Kept.{view_of}
 use Rattle.shard_laws.proofs.Dooming.{may_go}
 use Rattle.shard_laws.proofs.Distinct.{doomed_once}
-use Rattle.shard_laws.specs.OneShard.{is_doomed}
+use Rattle.shard_laws.specs.OneShard.{Deeds, is_doomed}
 use Rattle.shard_laws.proofs.Falls.{Falls, falls_more, falls_parts, falls_over, falls_finish, falls_taken}
 use Rattle.shard_laws.proofs.Listing.{order_of, prepared_wrote, committed_lists}
 use Rattle.shard_laws.proofs.Shutting.{upward_under}
@@ -109,6 +109,13 @@ part_filter f _ _ (also y {xs = xs} {ys = ys} p) = at (f y) (part_filter f xs ys
 part_filter f xs _ (only y {ys = ys} p) = only y (part_filter f xs ys p)
 
 -- ---- what is true of a state and all that was answered in it
+
+-- what a past has of what was done, with all that was answered, and those that were told
+abbrev pub did : List Item → List TxId → Past → Deeds
+did all told g = record { items = all; asked = g.asked; told = told; met = g.met; fell = g.fell }
+
+pub as_done : (d : Deeds) (g : Past) → g.asked ≡ d.asked → g.met ≡ d.met → g.fell ≡ d.fell → did d.items d.told g ≡ d
+as_done d g a m f = ap (λ l. record d { asked = l; met = g.met; fell = g.fell }) a ∙ ap (λ l. record d { met = l; fell = g.fell }) m ∙ ap (λ l. record d { fell = l }) f
 
 -- never to be committed or finished here
 abbrev pub Lost : Past → TxId → Type 0

@@ -27,7 +27,7 @@ use Rattle.law_base.specs.Items.{Item, Runs, after, AllLater, Clash, pile}
 use Rattle.law_base.proofs.Lists.{all_mono, all_filter, later_mono, later_filter}
 use Rattle.law_base.proofs.Running.{top_value, Keeps, kept_runs, rising_all, pile_value, replay_map_append, replay_answers_append}
 use Rattle.law_base.proofs.Tables.{is_pair}
-use Rattle.shard_laws.specs.OneShard.{items_of, with_one, new_item, new_asked, new_met, MayHappen, MayServe, Leads, opens, happens, lands, others_ask, revives, ops_by, answers_by, found_items, found_asked, found_met, map_found, LaterReplay}
+use Rattle.shard_laws.specs.OneShard.{Deeds, items_of, with_one, new_item, new_asked, new_met, MayHappen, MayServe, Leads, opens, happens, lands, others_ask, revives, ops_by, answers_by, found_items, found_asked, found_met, map_found, LaterReplay}
 use Rattle.protocol_laws.specs.Order.{undone_in}
 use Rattle.shard_laws.proofs.AtKeys.{keys_filter, keys_top}
 use Rattle.shard_laws.proofs.Kept.{of_kept, place}
@@ -74,47 +74,47 @@ other_item : (s : Shard) (tx : TxId) (birth : Birth) (nth : ℕ) (seen : Option 
 other_item s tx birth nth seen op fits _ t all u (answers {a} e) ne = push_other (record { tx = tx; op = op; answer = a; lsn = 0 + length s.local.log }) u (ne e) all
 other_item s tx birth nth seen op fits _ t all u dies ne = refl
 
-step_items : (all : List Item) (asked : List TxId) (met : List (TxId × TxId)) (fell : List TxId) (s : Shard) (e : Event) (o : Outcome) (t : Shard) (u : TxId) → MayHappen all asked met fell s e → happen s e ≡ Does o t → tx_in u asked ≡ true
-    → items_of u (with_one all (new_item s e o)) ≡ items_of u all
-step_items all asked met fell s (OpEvent tx birth nth seen op) o t u may eq i =
-    other_item s tx birth nth seen op (seen_fits s.local.epoch seen) o t all u (subst (Answering (seen_fits s.local.epoch seen)) eq (if_up s tx birth nth seen op s.is_up _)) (λ fit same. both_ways _ (may.not_asked fit) (subst (λ z. tx_in z asked ≡ true) (sym same) i))
-step_items all asked met fell s (RequestEvent tx touched) o t u may eq i = refl
-step_items all asked met fell s (Look tx) o t u may eq i = refl
-step_items all asked met fell s (Drop tx) o t u may eq i = refl
-step_items all asked met fell s Send o t u may eq i = refl
-step_items all asked met fell s (Deliver m stamp) o t u may eq i = refl
-step_items all asked met fell s Remind o t u may eq i = refl
-step_items all asked met fell s FlushOut o t u may eq i = refl
-step_items all asked met fell s FlushIn o t u may eq i = refl
-step_items all asked met fell s Stop o t u may eq i = refl
-step_items all asked met fell s RestartEvent o t u may eq i = refl
+step_items : (d : Deeds) (s : Shard) (e : Event) (o : Outcome) (t : Shard) (u : TxId) → MayHappen d s e → happen s e ≡ Does o t → tx_in u d.asked ≡ true
+    → items_of u (with_one d.items (new_item s e o)) ≡ items_of u d.items
+step_items d s (OpEvent tx birth nth seen op) o t u may eq i =
+    other_item s tx birth nth seen op (seen_fits s.local.epoch seen) o t d.items u (subst (Answering (seen_fits s.local.epoch seen)) eq (if_up s tx birth nth seen op s.is_up _)) (λ fit same. both_ways _ (may.not_asked fit) (subst (λ z. tx_in z d.asked ≡ true) (sym same) i))
+step_items d s (RequestEvent tx touched) o t u may eq i = refl
+step_items d s (Look tx) o t u may eq i = refl
+step_items d s (Drop tx) o t u may eq i = refl
+step_items d s Send o t u may eq i = refl
+step_items d s (Deliver m stamp) o t u may eq i = refl
+step_items d s Remind o t u may eq i = refl
+step_items d s FlushOut o t u may eq i = refl
+step_items d s FlushIn o t u may eq i = refl
+step_items d s Stop o t u may eq i = refl
+step_items d s RestartEvent o t u may eq i = refl
 
 in_with : (as_ : List TxId) (o : Option TxId) (u : TxId) → tx_in u as_ ≡ true → tx_in u (with_one as_ o) ≡ true
 in_with as_ None u i = i
 in_with as_ (Some t) u i = in_first as_ (t ∷ []) u i
 
 -- what was found stays as it was
-pub record Stays (shard run : ℕ) (before : List LogRecord) (all : List Item) (asked : List TxId) (met : List (TxId × TxId)) : Type 0 where
+pub record Stays (shard run : ℕ) (before : List LogRecord) (items : List Item) (asked : List TxId) (met : List (TxId × TxId)) : Type 0 where
   pub may : MayServe shard run before
   pub there : (u : TxId) → tx_in u (found_asked shard before) ≡ true → tx_in u asked ≡ true
-  pub items : (u : TxId) → tx_in u (found_asked shard before) ≡ true → items_of u all ≡ items_of u (found_items shard before)
+  pub same : (u : TxId) → tx_in u (found_asked shard before) ≡ true → items_of u items ≡ items_of u (found_items shard before)
   pub pairs : (t p : TxId) → is_pair (found_met shard before) t p ≡ true → is_pair met t p ≡ true
 
-pub found_stays : (shard run : ℕ) (before : List LogRecord) (all : List Item) (asked told : List TxId) (met : List (TxId × TxId)) (fell : List TxId) (s : Shard) → Leads shard run before all asked told met fell s → Stays shard run before all asked met
-found_stays shard run before _ _ _ _ _ _ (opens may) = record { may = may; there = λ u i. i; items = λ u i. refl; pairs = λ t p e. e }
-found_stays shard run before _ _ _ _ _ _ (happens {all} {asked} {told} {met} {fell} {s} e o t stamp walker leads may eq) =
-    let k = found_stays shard run before all asked told met fell s leads in
+pub found_stays : (shard run : ℕ) (before : List LogRecord) (d : Deeds) (s : Shard) → Leads shard run before d s → Stays shard run before d.items d.asked d.met
+found_stays shard run before _ _ (opens may) = record { may = may; there = λ u i. i; same = λ u i. refl; pairs = λ t p e. e }
+found_stays shard run before _ _ (happens {d} {s} e o t stamp walker leads may eq) =
+    let k = found_stays shard run before d s leads in
     record {
       may = k.may;
-      there = λ u i. in_with asked (new_asked s e) u (k.there u i);
-      items = λ u i. step_items all asked met fell s e o t u may eq (k.there u i) ∙ k.items u i;
-      pairs = λ v p i. pair_append (new_met s e o) met v p ∙ or_right (is_pair (new_met s e o) v p) _ (k.pairs v p i);
+      there = λ u i. in_with d.asked (new_asked s e) u (k.there u i);
+      same = λ u i. step_items d s e o t u may eq (k.there u i) ∙ k.same u i;
+      pairs = λ v p i. pair_append (new_met s e o) d.met v p ∙ or_right (is_pair (new_met s e o) v p) _ (k.pairs v p i);
     }
-found_stays shard run before _ _ _ _ _ _ (lands {all} {asked} {told} {met} {fell} {s} n pushed o t stamp walker leads flies eq) = found_stays shard run before all asked told met fell s leads
-found_stays shard run before _ _ _ _ _ _ (others_ask {all} {asked} {told} {met} {fell} {s} t leads new) =
-    let k = found_stays shard run before all asked told met fell s leads in
-    record { may = k.may; there = λ u i. in_first asked (t ∷ []) u (k.there u i); items = k.items; pairs = k.pairs }
-found_stays shard run before _ _ _ _ _ _ (revives {all} {asked} {told} {met} {fell} {s} kept epoch log stamp walker leads down fits) = found_stays shard run before all asked told met fell s leads
+found_stays shard run before _ _ (lands {d} {s} n pushed o t stamp walker leads flies eq) = found_stays shard run before d s leads
+found_stays shard run before _ _ (others_ask {d} {s} t leads new) =
+    let k = found_stays shard run before d s leads in
+    record { may = k.may; there = λ u i. in_first d.asked (t ∷ []) u (k.there u i); same = k.same; pairs = k.pairs }
+found_stays shard run before _ _ (revives {d} {s} kept epoch log stamp walker leads down fits) = found_stays shard run before d s leads
 
 -- ---- the chosen ones of those in doubt
 
@@ -237,19 +237,19 @@ module _ (shard run : ℕ) (before : List LogRecord) (may : MayServe shard run b
         (ap (replay_answers start) (sym ops) ∙ firsts_run.0 ∙ same_answers firsts firsts_chosen, ap (replay_map start) (sym ops) ∙ firsts_run.1 ∙ firsts_map)
 
 pub later_replay : LaterReplay
-later_replay shard run before all asked told met fell s cut chosen later leads le may split =
-    let k = found_stays shard run before all asked told met fell s leads in
+later_replay shard run before d s cut chosen later leads le may split =
+    let k = found_stays shard run before d s leads in
     let start = stands (before ∷ []) in
     let firsts = filter chosen (found_asked shard before) in
     let rest = filter chosen later in
-    let whole : filter chosen asked ≡ firsts ++ rest = ap (filter chosen) split ∙ filter-append chosen (found_asked shard before) later in
-    let ops : ops_by (filter chosen asked) all ≡ ops_by firsts all ++ ops_by rest all = ap (λ ts. ops_by ts all) whole ∙ map-append (λ t. map (λ x. x.op) (items_of t all)) firsts rest in
-    let answers : answers_by (filter chosen asked) all ≡ answers_by firsts all ++ answers_by rest all = ap (λ ts. answers_by ts all) whole ∙ map-append (λ t. map (λ x. x.answer) (items_of t all)) firsts rest in
-    let closed : (t p : TxId) → is_pair (found_met shard before) t p ≡ true → chosen t ≡ true → chosen p ≡ true = λ t p e c. (chosen_stand_before shard run before all asked told met fell s cut chosen t p leads le may (k.pairs t p e) c).0 in
-    let first = firsts_replay shard run before k.may chosen closed all k.items in
-    let r = chosen_replay shard run before all asked told met fell s cut chosen leads le may in (
-      append_cancel_left (answers_by firsts all) (replay_answers (map_found shard before chosen) (ops_by rest all)) (answers_by rest all)
-          (ap (λ a. a ++ replay_answers (map_found shard before chosen) (ops_by rest all)) (sym first.0) ∙ ap (λ m. replay_answers start (ops_by firsts all) ++ replay_answers m (ops_by rest all)) (sym first.1)
-          ∙ sym (replay_answers_append start (ops_by firsts all) (ops_by rest all)) ∙ ap (replay_answers start) (sym ops) ∙ r.0 ∙ answers),
-      ap (λ m. replay_map m (ops_by rest all)) (sym first.1) ∙ sym (replay_map_append start (ops_by firsts all) (ops_by rest all)) ∙ ap (replay_map start) (sym ops) ∙ r.1,
+    let whole : filter chosen d.asked ≡ firsts ++ rest = ap (filter chosen) split ∙ filter-append chosen (found_asked shard before) later in
+    let ops : ops_by (filter chosen d.asked) d.items ≡ ops_by firsts d.items ++ ops_by rest d.items = ap (λ ts. ops_by ts d.items) whole ∙ map-append (λ t. map (λ x. x.op) (items_of t d.items)) firsts rest in
+    let answers : answers_by (filter chosen d.asked) d.items ≡ answers_by firsts d.items ++ answers_by rest d.items = ap (λ ts. answers_by ts d.items) whole ∙ map-append (λ t. map (λ x. x.answer) (items_of t d.items)) firsts rest in
+    let closed : (t p : TxId) → is_pair (found_met shard before) t p ≡ true → chosen t ≡ true → chosen p ≡ true = λ t p e c. (chosen_stand_before shard run before d s cut chosen t p leads le may (k.pairs t p e) c).0 in
+    let first = firsts_replay shard run before k.may chosen closed d.items k.same in
+    let r = chosen_replay shard run before d s cut chosen leads le may in (
+      append_cancel_left (answers_by firsts d.items) (replay_answers (map_found shard before chosen) (ops_by rest d.items)) (answers_by rest d.items)
+          (ap (λ a. a ++ replay_answers (map_found shard before chosen) (ops_by rest d.items)) (sym first.0) ∙ ap (λ m. replay_answers start (ops_by firsts d.items) ++ replay_answers m (ops_by rest d.items)) (sym first.1)
+          ∙ sym (replay_answers_append start (ops_by firsts d.items) (ops_by rest d.items)) ∙ ap (replay_answers start) (sym ops) ∙ r.0 ∙ answers),
+      ap (λ m. replay_map m (ops_by rest d.items)) (sym first.1) ∙ sym (replay_map_append start (ops_by firsts d.items) (ops_by rest d.items)) ∙ ap (replay_map start) (sym ops) ∙ r.1,
     )

@@ -36,6 +36,22 @@ use Rattle.clv_base.specs.LogRules.{disorder, listed_in}
 use Rattle.clv_base.specs.Restarts.{greatest_run, restored_pairs, opened, log_left, revived, Restarts}
 use Rattle.law_base.specs.Items.{Item, Runs, after, AllLater, Clash}
 
+-- what a shard did
+pub record Deeds : Type 0 where
+  -- all operations that were answered, in their order
+  pub items : List Item
+  -- those that made a request, in that order
+  pub asked : List TxId
+  -- those that were told of success
+  pub told : List TxId
+  -- transactions with those whose writes they violated
+  pub met : List (TxId × TxId)
+  -- those that fell
+  pub fell : List TxId
+
+abbrev pub no_deeds : Deeds
+no_deeds = record { items = []; asked = []; told = []; met = []; fell = [] }
+
 abbrev pub items_of : TxId → List Item → List Item
 items_of t all = filter (λ x. tx_same x.tx t) all
 
@@ -78,26 +94,26 @@ place [] t = zero
 place (a ∷ as_) t = cond (tx_same t a) zero (suc (place as_ t))
 
 -- a transaction without a part here, that does an operation in this epoch, is new: it has no record here, did nothing, and did not fall
-pub record Fresh (all : List Item) (met : List (TxId × TxId)) (fell : List TxId) (s : Shard) (tx : TxId) : Type 0 where
+pub record Fresh (d : Deeds) (s : Shard) (tx : TxId) : Type 0 where
   pub unwritten : wrote_in s.local.log tx ≡ false
   pub unprepared : prepared_in s.local.log tx ≡ false
   pub uncommitted : committed_in s.local.log tx ≡ false
   pub unaborted : aborted_in s.local.log tx ≡ false
-  pub idle : items_of tx all ≡ []
-  pub unmet : (p : TxId) → has_met met tx p ≡ true → ⊥
-  pub unfallen : tx_in tx fell ≡ false
+  pub idle : items_of tx d.items ≡ []
+  pub unmet : (p : TxId) → has_met d.met tx p ≡ true → ⊥
+  pub unfallen : tx_in tx d.fell ≡ false
 
 -- an operation is of this run's transaction, and none after a request; each transaction has one birth
-pub record MayTouch (all : List Item) (asked : List TxId) (met : List (TxId × TxId)) (fell : List TxId) (s : Shard) (tx : TxId) (birth : Birth) (seen : Option ℕ) : Type 0 where
+pub record MayTouch (d : Deeds) (s : Shard) (tx : TxId) (birth : Birth) (seen : Option ℕ) : Type 0 where
   pub of_run : tx.run ≡ s.run
   pub not_closed : stage_of s.local tx ≡ Some Closed → ⊥
-  pub not_asked : seen_fits s.local.epoch seen ≡ true → tx_in tx asked ≡ false
-  pub fresh : seen_fits s.local.epoch seen ≡ true → tx_get tx s.local.parts ≡ None → Fresh all met fell s tx
+  pub not_asked : seen_fits s.local.epoch seen ≡ true → tx_in tx d.asked ≡ false
+  pub fresh : seen_fits s.local.epoch seen ≡ true → tx_get tx s.local.parts ≡ None → Fresh d s tx
   pub same_birth : (h : Held) → tx_get tx s.local.parts ≡ Some h → h.birth ≡ birth
 
 -- a request is the first of its transaction, which is of this run, and which no other shard has asked for its vote here
-abbrev pub MayAsk : List TxId → Shard → TxId → Type 0
-MayAsk asked s tx = (tx_in tx asked ≡ false) × ((v : Voter) → tx_get tx s.voters ≡ Some v → ⊥) × (tx_get tx s.requests ≡ None) × (tx.run ≡ s.run)
+abbrev pub MayAsk : Deeds → Shard → TxId → Type 0
+MayAsk d s tx = (tx_in tx d.asked ≡ false) × ((v : Voter) → tx_get tx s.voters ≡ Some v → ⊥) × (tx_get tx s.requests ≡ None) × (tx.run ≡ s.run)
 
 -- all predecessors have COMMITs in the log
 abbrev pub predecessors_committed : Local → TxId → Bool
@@ -106,21 +122,21 @@ predecessors_committed l tx = list_all (committed_in l.log) (predecessors_of l.p
 -- what other shards and the transport owe of a message that is delivered here: a Prepare is of one that asked elsewhere, whose request doesn't
 -- stand here, and who isn't committed here without a write; the first Decide(commit) finds the COMMITs of the predecessors, at a part that wrote
 -- and did not fall, and no undecided request of it
-abbrev pub MayDeliver : List TxId → List TxId → Shard → Message → Type 0
-MayDeliver asked fell s (Prepare to tx home seen) = (tx_in tx asked ≡ true) × (tx_get tx s.requests ≡ None) × (wrote_in s.local.log tx ≡ false → committed_in s.local.log tx ≡ false)
-MayDeliver asked fell s (VoteMessage to tx from vote) = ⊤
-MayDeliver asked fell s (Decide to tx home true) = committed_in s.local.log tx ≡ false → (predecessors_committed s.local tx ≡ true) × (wrote_in s.local.log tx ≡ true) × ((q : Request) → tx_get tx s.requests ≡ Some q → q.state ≡ Undecided → ⊥) × (tx_in tx fell ≡ false)
-MayDeliver asked fell s (Decide to tx home false) = ⊤
-MayDeliver asked fell s (Done to tx from) = ⊤
-MayDeliver asked fell s (Ask to tx from) = ⊤
+abbrev pub MayDeliver : Deeds → Shard → Message → Type 0
+MayDeliver d s (Prepare to tx home seen) = (tx_in tx d.asked ≡ true) × (tx_get tx s.requests ≡ None) × (wrote_in s.local.log tx ≡ false → committed_in s.local.log tx ≡ false)
+MayDeliver d s (VoteMessage to tx from vote) = ⊤
+MayDeliver d s (Decide to tx home true) = committed_in s.local.log tx ≡ false → (predecessors_committed s.local tx ≡ true) × (wrote_in s.local.log tx ≡ true) × ((q : Request) → tx_get tx s.requests ≡ Some q → q.state ≡ Undecided → ⊥) × (tx_in tx d.fell ≡ false)
+MayDeliver d s (Decide to tx home false) = ⊤
+MayDeliver d s (Done to tx from) = ⊤
+MayDeliver d s (Ask to tx from) = ⊤
 
 -- and what sessions owe: who is closed and committed is not dropped
-abbrev pub MayHappen : List Item → List TxId → List (TxId × TxId) → List TxId → Shard → Event → Type 0
-MayHappen all asked met fell s (OpEvent tx birth nth seen op) = MayTouch all asked met fell s tx birth seen
-MayHappen all asked met fell s (Drop tx) = stage_of s.local tx ≡ Some Closed → committed_in s.local.log tx ≡ false
-MayHappen all asked met fell s (RequestEvent tx touched) = MayAsk asked s tx
-MayHappen all asked met fell s (Deliver m stamp) = MayDeliver asked fell s m
-MayHappen all asked met fell s _ = ⊤
+abbrev pub MayHappen : Deeds → Shard → Event → Type 0
+MayHappen d s (OpEvent tx birth nth seen op) = MayTouch d s tx birth seen
+MayHappen d s (Drop tx) = stage_of s.local tx ≡ Some Closed → committed_in s.local.log tx ≡ false
+MayHappen d s (RequestEvent tx touched) = MayAsk d s tx
+MayHappen d s (Deliver m stamp) = MayDeliver d s m
+MayHappen d s _ = ⊤
 
 -- who is told that it is acknowledged
 abbrev pub new_told : Event → Outcome → Option TxId
@@ -179,30 +195,35 @@ doomed_in t = filter (λ u. is_doomed (stage_of t.local u)) (map (λ p. p.0) t.l
 abbrev pub left_out : Shard → Shard → List TxId
 left_out s t = filter (λ u. is_present (stage_of s.local u) && not (is_present (stage_of t.local u)) && not (committed_in t.local.log u)) (map (λ p. p.0) s.local.parts)
 
--- from the shard that opened such a log: all operations that were answered, those that made a request, those that were told of success,
--- those whose writes were violated, in their orders, those that fell, and the state. Those in doubt in the log acted and asked before
-pub data Leads (shard run : ℕ) (before : List LogRecord) : List Item → List TxId → List TxId → List (TxId × TxId) → List TxId → Shard → Type 0 where
-  opens : MayServe shard run before → Leads shard run before (found_items shard before) (found_asked shard before) [] (found_met shard before) [] (opened shard run before)
-  happens :
-      {all : List Item} {asked told : List TxId} {met : List (TxId × TxId)} {fell : List TxId} {s : Shard} (e : Event) (o : Outcome) (t : Shard) (stamp walker : ℕ) → Leads shard run before all asked told met fell s → MayHappen all asked met fell s e → happen s e ≡ Does o t
-      → Leads shard run before (with_one all (new_item s e o)) (with_one asked (new_asked s e)) (with_one told (new_told e o)) (new_met s e o ++ met) (doomed_in t ++ fell) (with_entry stamp walker e o t)
+-- what those in doubt in the log did before: they acted and asked
+abbrev pub deeds_found : ℕ → List LogRecord → Deeds
+deeds_found shard log = record { items = found_items shard log; asked = found_asked shard log; told = []; met = found_met shard log; fell = [] }
+
+-- with what an event does
+abbrev pub deeds_by : Deeds → Shard → Event → Outcome → Shard → Deeds
+deeds_by d s e o t = record { items = with_one d.items (new_item s e o); asked = with_one d.asked (new_asked s e); told = with_one d.told (new_told e o); met = new_met s e o ++ d.met; fell = doomed_in t ++ d.fell }
+
+-- from the shard that opened such a log: what it did, and the state
+pub data Leads (shard run : ℕ) (before : List LogRecord) : Deeds → Shard → Type 0 where
+  opens : MayServe shard run before → Leads shard run before (deeds_found shard before) (opened shard run before)
+  happens : {d : Deeds} {s : Shard} (e : Event) (o : Outcome) (t : Shard) (stamp walker : ℕ) → Leads shard run before d s → MayHappen d s e → happen s e ≡ Does o t → Leads shard run before (deeds_by d s e o t) (with_entry stamp walker e o t)
   lands :
-      {all : List Item} {asked told : List TxId} {met : List (TxId × TxId)} {fell : List TxId} {s : Shard} (n : ℕ) (pushed : Bool) (o : Outcome) (t : Shard) (stamp walker : ℕ) → Leads shard run before all asked told met fell s → s.flight ≡ Some n → landed s n pushed ≡ Does o t
-      → Leads shard run before all asked told met (doomed_in t ++ fell) (with_entry stamp walker FlushIn o t)
+      {d : Deeds} {s : Shard} (n : ℕ) (pushed : Bool) (o : Outcome) (t : Shard) (stamp walker : ℕ) → Leads shard run before d s → s.flight ≡ Some n → landed s n pushed ≡ Does o t
+      → Leads shard run before (record d { fell = doomed_in t ++ d.fell }) (with_entry stamp walker FlushIn o t)
   -- others ask at their homes
-  others_ask : {all : List Item} {asked told : List TxId} {met : List (TxId × TxId)} {fell : List TxId} {s : Shard} (t : TxId) → Leads shard run before all asked told met fell s → tx_in t asked ≡ false → Leads shard run before all (asked ++ t ∷ []) told met fell s
+  others_ask : {d : Deeds} {s : Shard} (t : TxId) → Leads shard run before d s → tx_in t d.asked ≡ false → Leads shard run before (record d { asked = d.asked ++ t ∷ [] }) s
   -- those in doubt are restored
   revives :
-      {all : List Item} {asked told : List TxId} {met : List (TxId × TxId)} {fell : List TxId} {s : Shard} (kept : Bool) (epoch : ℕ) (log : List LogRecord) (stamp walker : ℕ) → Leads shard run before all asked told met fell s → s.is_up ≡ false
-      → Restarts s (log_left s kept) epoch log → Leads shard run before all asked told met (left_out s (revived s epoch log) ++ fell) (with_entry stamp walker RestartEvent (Up epoch) (revived s epoch log))
+      {d : Deeds} {s : Shard} (kept : Bool) (epoch : ℕ) (log : List LogRecord) (stamp walker : ℕ) → Leads shard run before d s → s.is_up ≡ false → Restarts s (log_left s kept) epoch log
+      → Leads shard run before (record d { fell = left_out s (revived s epoch log) ++ d.fell }) (with_entry stamp walker RestartEvent (Up epoch) (revived s epoch log))
 
 -- ---- the members, by a cut of the log, and what they did
 
 abbrev pub is_member : Shard → ℕ → List TxId → TxId → Bool
 is_member s cut told t = committed_in (take cut s.local.log) t || tx_in t told
 
-abbrev pub members_of : Shard → ℕ → List TxId → List TxId → List TxId
-members_of s cut told asked = filter (is_member s cut told) asked
+abbrev pub members_of : Shard → ℕ → Deeds → List TxId
+members_of s cut d = filter (is_member s cut d.told) d.asked
 
 abbrev pub ops_by : List TxId → List Item → List (List Op)
 ops_by ts all = map (λ t. map (λ x. x.op) (items_of t all)) ts
@@ -214,35 +235,35 @@ answers_by ts all = map (λ t. map (λ x. x.answer) (items_of t all)) ts
 -- that the cut log stands for
 abbrev pub AnswersAndMap : Type 0
 AnswersAndMap =
-    (shard run : ℕ) (before : List LogRecord) (all : List Item) (asked told : List TxId) (met : List (TxId × TxId)) (fell : List TxId) (s : Shard) (cut : ℕ) → Leads shard run before all asked told met fell s → s.durable ≤ cut
-    → (replay_answers (stands (before ∷ [])) (ops_by (members_of s cut told asked) all) ≡ answers_by (members_of s cut told asked) all)
-    × (replay_map (stands (before ∷ [])) (ops_by (members_of s cut told asked) all) ≡ stands (take cut s.local.log ∷ []))
+    (shard run : ℕ) (before : List LogRecord) (d : Deeds) (s : Shard) (cut : ℕ) → Leads shard run before d s → s.durable ≤ cut
+    → (replay_answers (stands (before ∷ [])) (ops_by (members_of s cut d) d.items) ≡ answers_by (members_of s cut d) d.items)
+    × (replay_map (stands (before ∷ [])) (ops_by (members_of s cut d) d.items) ≡ stands (take cut s.local.log ∷ []))
 
 -- it asked, but wrote nothing here: it read and left, or did nothing here
-pub record Passes (asked fell : List TxId) (s : Shard) (tx : TxId) : Type 0 where
-  pub has_asked : tx_in tx asked ≡ true
+pub record Passes (d : Deeds) (s : Shard) (tx : TxId) : Type 0 where
+  pub has_asked : tx_in tx d.asked ≡ true
   pub unwritten : wrote_in s.local.log tx ≡ false
   pub uncommitted : committed_in s.local.log tx ≡ false
   pub absent : is_present (stage_of s.local tx) ≡ false
-  pub unfallen : tx_in tx fell ≡ false
+  pub unfallen : tx_in tx d.fell ≡ false
 
 -- a choice of transactions as other shards' COMMITs make it: all that the cut commits are chosen, and each of the chosen is a member here, or
 -- is in doubt in the cut, which commits all that its PREPARE lists, and did not fall, or it wrote nothing here and left
-pub record MayChoose (s : Shard) (cut : ℕ) (asked told fell : List TxId) (chosen : TxId → Bool) : Type 0 where
+pub record MayChoose (s : Shard) (cut : ℕ) (d : Deeds) (chosen : TxId → Bool) : Type 0 where
   pub commits : (t : TxId) → committed_in (take cut s.local.log) t ≡ true → chosen t ≡ true
   pub are_here :
       (t : TxId) → chosen t ≡ true
-      → (is_member s cut told t ≡ true)
-      ⊎ (((tx_in t (in_doubt s.shard (take cut s.local.log)) ≡ true) × (list_all (committed_in (take cut s.local.log)) (listed_in (take cut s.local.log) t) ≡ true) × (tx_in t fell ≡ false))
-      ⊎ Passes asked fell s t)
+      → (is_member s cut d.told t ≡ true)
+      ⊎ (((tx_in t (in_doubt s.shard (take cut s.local.log)) ≡ true) × (list_all (committed_in (take cut s.local.log)) (listed_in (take cut s.local.log) t) ≡ true) × (tx_in t d.fell ≡ false))
+      ⊎ Passes d s t)
 
 -- then the chosen ones that asked give their answers, and the map of the chosen ones' UPDATEs in the cut
 abbrev pub ChosenReplay : Type 0
 ChosenReplay =
-    (shard run : ℕ) (before : List LogRecord) (all : List Item) (asked told : List TxId) (met : List (TxId × TxId)) (fell : List TxId) (s : Shard) (cut : ℕ) (chosen : TxId → Bool)
-    → Leads shard run before all asked told met fell s → s.durable ≤ cut → MayChoose s cut asked told fell chosen
-    → (replay_answers (stands (before ∷ [])) (ops_by (filter chosen asked) all) ≡ answers_by (filter chosen asked) all)
-    × (replay_map (stands (before ∷ [])) (ops_by (filter chosen asked) all) ≡ fold_updates chosen (take cut s.local.log) [])
+    (shard run : ℕ) (before : List LogRecord) (d : Deeds) (s : Shard) (cut : ℕ) (chosen : TxId → Bool)
+    → Leads shard run before d s → s.durable ≤ cut → MayChoose s cut d chosen
+    → (replay_answers (stands (before ∷ [])) (ops_by (filter chosen d.asked) d.items) ≡ answers_by (filter chosen d.asked) d.items)
+    × (replay_map (stands (before ∷ [])) (ops_by (filter chosen d.asked) d.items) ≡ fold_updates chosen (take cut s.local.log) [])
 
 -- the map of what a log commits, and of those in doubt in it that are chosen
 abbrev pub map_found : ℕ → List LogRecord → (TxId → Bool) → KeyMap
@@ -251,43 +272,43 @@ map_found shard log chosen = fold_updates (λ t. committed_in log t || (tx_in t 
 -- the chosen ones that asked after those that were found in doubt give their answers from that map
 abbrev pub LaterReplay : Type 0
 LaterReplay =
-    (shard run : ℕ) (before : List LogRecord) (all : List Item) (asked told : List TxId) (met : List (TxId × TxId)) (fell : List TxId) (s : Shard) (cut : ℕ) (chosen : TxId → Bool) (later : List TxId)
-    → Leads shard run before all asked told met fell s → s.durable ≤ cut → MayChoose s cut asked told fell chosen → asked ≡ found_asked shard before ++ later
-    → (replay_answers (map_found shard before chosen) (ops_by (filter chosen later) all) ≡ answers_by (filter chosen later) all)
-    × (replay_map (map_found shard before chosen) (ops_by (filter chosen later) all) ≡ fold_updates chosen (take cut s.local.log) [])
+    (shard run : ℕ) (before : List LogRecord) (d : Deeds) (s : Shard) (cut : ℕ) (chosen : TxId → Bool) (later : List TxId)
+    → Leads shard run before d s → s.durable ≤ cut → MayChoose s cut d chosen → d.asked ≡ found_asked shard before ++ later
+    → (replay_answers (map_found shard before chosen) (ops_by (filter chosen later) d.items) ≡ answers_by (filter chosen later) d.items)
+    × (replay_map (map_found shard before chosen) (ops_by (filter chosen later) d.items) ≡ fold_updates chosen (take cut s.local.log) [])
 
 -- in the order in which they were done, each operation of the chosen ones after the opening gives its answer from that map with the earlier ones'
 -- writes, and all of them come to the map of the chosen ones' UPDATEs in the cut; and where two of them meet at a key that one writes, the earlier is
 -- of the same transaction or of one that asked earlier
 abbrev pub ChosenAct : Type 0
 ChosenAct =
-    (shard run : ℕ) (before : List LogRecord) (all : List Item) (asked told : List TxId) (met : List (TxId × TxId)) (fell : List TxId) (s : Shard) (cut : ℕ) (chosen : TxId → Bool) (done : List Item)
-    → Leads shard run before all asked told met fell s → s.durable ≤ cut → MayChoose s cut asked told fell chosen → all ≡ found_items shard before ++ done
+    (shard run : ℕ) (before : List LogRecord) (d : Deeds) (s : Shard) (cut : ℕ) (chosen : TxId → Bool) (done : List Item)
+    → Leads shard run before d s → s.durable ≤ cut → MayChoose s cut d chosen → d.items ≡ found_items shard before ++ done
     → Runs (map_found shard before chosen) (filter (λ x. chosen x.tx) done)
     × (after (map_found shard before chosen) (filter (λ x. chosen x.tx) done) ≡ fold_updates chosen (take cut s.local.log) [])
-    × AllLater (λ x y. Clash x y → (x.tx ≡ y.tx) ⊎ (place (filter chosen asked) x.tx < place (filter chosen asked) y.tx)) (filter (λ x. chosen x.tx) done)
+    × AllLater (λ x y. Clash x y → (x.tx ≡ y.tx) ⊎ (place (filter chosen d.asked) x.tx < place (filter chosen d.asked) y.tx)) (filter (λ x. chosen x.tx) done)
 
 -- whose writes a chosen one violated is chosen, at an earlier place
 abbrev pub ChosenStandBefore : Type 0
 ChosenStandBefore =
-    (shard run : ℕ) (before : List LogRecord) (all : List Item) (asked told : List TxId) (met : List (TxId × TxId)) (fell : List TxId) (s : Shard) (cut : ℕ) (chosen : TxId → Bool) (t p : TxId)
-    → Leads shard run before all asked told met fell s → s.durable ≤ cut → MayChoose s cut asked told fell chosen → has_met met t p ≡ true → chosen t ≡ true
-    → (chosen p ≡ true) × (place (filter chosen asked) p < place (filter chosen asked) t)
+    (shard run : ℕ) (before : List LogRecord) (d : Deeds) (s : Shard) (cut : ℕ) (chosen : TxId → Bool) (t p : TxId)
+    → Leads shard run before d s → s.durable ≤ cut → MayChoose s cut d chosen → has_met d.met t p ≡ true → chosen t ≡ true
+    → (chosen p ≡ true) × (place (filter chosen d.asked) p < place (filter chosen d.asked) t)
 
 -- whose writes a member violated is a member at an earlier place
 abbrev pub Recoverable : Type 0
 Recoverable =
-    (shard run : ℕ) (before : List LogRecord) (all : List Item) (asked told : List TxId) (met : List (TxId × TxId)) (fell : List TxId) (s : Shard) (cut : ℕ) (t p : TxId)
-    → Leads shard run before all asked told met fell s → s.durable ≤ cut → has_met met t p ≡ true → is_member s cut told t ≡ true
-    → (is_member s cut told p ≡ true) × (place (members_of s cut told asked) p < place (members_of s cut told asked) t)
+    (shard run : ℕ) (before : List LogRecord) (d : Deeds) (s : Shard) (cut : ℕ) (t p : TxId)
+    → Leads shard run before d s → s.durable ≤ cut → has_met d.met t p ≡ true → is_member s cut d.told t ≡ true
+    → (is_member s cut d.told p ≡ true) × (place (members_of s cut d) p < place (members_of s cut d) t)
 
 -- where the shard is quiet its live records are what its log stands for
 abbrev pub QuietIsSettled : Type 0
 QuietIsSettled =
-    (shard run : ℕ) (before : List LogRecord) (all : List Item) (asked told : List TxId) (met : List (TxId × TxId)) (fell : List TxId) (s : Shard) → Leads shard run before all asked told met fell s → IsQuiet s
+    (shard run : ℕ) (before : List LogRecord) (d : Deeds) (s : Shard) → Leads shard run before d s → IsQuiet s
     → live_pairs s.local.records ≡ stands (s.local.log ∷ [])
 
 -- the log of a shard keeps the order rules at every moment
 abbrev pub OrderIsKept : Type 0
 OrderIsKept =
-    (shard run : ℕ) (before : List LogRecord) (all : List Item) (asked told : List TxId) (met : List (TxId × TxId)) (fell : List TxId) (s : Shard) → Leads shard run before all asked told met fell s → disorder shard s.local.log ≡ None
+    (shard run : ℕ) (before : List LogRecord) (d : Deeds) (s : Shard) → Leads shard run before d s → disorder shard s.local.log ≡ None
