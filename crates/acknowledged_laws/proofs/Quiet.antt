@@ -47,7 +47,7 @@ use Rattle.shard_laws.proofs.Restoring.{restored_none}
 use Rattle.shard_laws.proofs.Sound.{waiting_here}
 use Rattle.shard_laws.proofs.Ordered.{prepare_some}
 use Rattle.session_laws.proofs.Replying.{OpIs, dies, rolls, performs, reply_is}
-use Rattle.history_cases.proofs.Stepping.{Due, commits, votes, rules, settled, Step, op_dies, op_answers, request_refused, request_doomed, request_again, request_new, request_closes, looks_well, looks_ill, drops, sends, prepare_closes, prepare_again, vote_counts, decision_comes, decision_again, done_counts, asked, reminds, flushes, finishes, stops}
+use Rattle.history_cases.proofs.Stepping.{Due, commits, votes, rules, settled, Step, op_dies, op_answers, request_closes, drops, prepare_closes, decision_comes, finishes, stops}
 use Rattle.history_cases.proofs.Entering.{Makes, by_event, by_flush, by_failure, by_restart}
 use Rattle.history_cases.proofs.TellingEvents.{front_committed}
 use Rattle.history_cases.proofs.Uncommitting.{rolled as rolled_commits, restarts_add}
@@ -196,26 +196,13 @@ pub quiet_step : (s x : Shard) {e : Event} {o : Outcome} (t : TxId) → Step s e
 quiet_step s _ t (op_dies u birth nth seen op cause l g) n k = quiet_dies s.local l u t birth seen op cause (reply_is s.shard s.local u birth seen op _ g) k
 quiet_step s _ t (op_answers u birth nth seen op answer l g) n k =
     quiet_answers s.local l u t birth seen op answer (reply_is s.shard s.local u birth seen op _ g) (tx_ne t u (λ e. n birth nth seen op (ap (λ v. OpEvent v birth nth seen op) (sym e)))) k
-quiet_step s _ t (request_refused u ts cause g) n k = k
-quiet_step s _ t (request_doomed u ts doom g) n k = k
-quiet_step s _ t (request_again u ts f g) n k = k
-quiet_step s _ t (request_new u ts f g) n k = k
 quiet_step s _ t (request_closes u ts f g) n k = quiet_closed s.local u t s.shard (is_alone (others s.shard ts)) g k
-quiet_step s _ t (looks_well u g) n k = k
-quiet_step s _ t (looks_ill u cause d g) n k = k
 quiet_step s _ t (drops u stage g) n k =
     let b = is_present (stage_of s.local u) in quiet_marked (rolled_back_if b u s.local) u t (quiet_without s.local u t b k)
-quiet_step s _ t (sends m ms g) n k = k
 quiet_step s _ t (prepare_closes u home seen stamp g) n k = quiet_closed s.local u t home false g k
-quiet_step s _ t (prepare_again u home seen stamp g) n k = k
-quiet_step s _ t (vote_counts u from vote stamp q g c) n k = k
 quiet_step s _ t (decision_comes u home true stamp g) n k = quiet_committed s.local u t [] (taken_closed s u (is_waiting (facts_of s u)) (true && has_durable_commit (facts_of s u)) refl g) k
 quiet_step s _ t (decision_comes u home false stamp g) n k = quiet_rolled s.local u t k
-quiet_step s _ t (decision_again u home commit stamp g) n k = k
-quiet_step s _ t (done_counts u from stamp q g c) n k = k
-quiet_step s _ t (asked u from stamp) n k = k
-quiet_step s _ t (reminds m ms g c) n k = k
-quiet_step s _ t (flushes m g c) n k = k
+quiet_step s _ t _ n k = k
 
 -- ---- what is due
 

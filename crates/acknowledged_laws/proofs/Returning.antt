@@ -9,7 +9,7 @@ use Rattle.clv_base.specs.declared.causes.AbortCause.{AbortCause}
 use Rattle.clv_base.specs.declared.causes.Vote.TheVariants.{Yes, Read, No}
 use Rattle.clv_base.specs.declared.logs.LogRecord.{LogRecord}
 use Rattle.clv_base.specs.declared.events.Event.{Event}
-use Rattle.clv_base.specs.declared.events.Event.TheVariants.{Op as OpEvent, Request, Look, Drop, Send, Deliver, Remind, FlushOut, FlushIn, Stop, Restart}
+use Rattle.clv_base.specs.declared.events.Event.TheVariants.{Op as OpEvent, Request}
 use Rattle.clv_base.specs.declared.events.Outcome.{Outcome}
 use Rattle.clv_base.specs.declared.state.Ruling.TheVariants.{Commit as CommitVerdict, Acknowledge, Abort as AbortVerdict, End as EndVerdict}
 use Rattle.clv_base.specs.Orders.{tx_same, tx_in, tx_get}
@@ -96,15 +96,7 @@ own_or_not t (OpEvent u birth nth seen op) = at (tx_same u t) refl
     at true d = inl (birth, nth, seen, op, ap (λ z. OpEvent z birth nth seen op) (tx_true u t d))
     at false d = inr (λ b i x y z. both_ways _ d (subst (λ v. tx_same u v ≡ true) (one z) (tx_self u)))
 own_or_not t (Request u ts) = inr (λ b i x y z. absurd cc)
-own_or_not t (Look u) = inr (λ b i x y z. absurd cc)
-own_or_not t (Drop u) = inr (λ b i x y z. absurd cc)
-own_or_not t Send = inr (λ b i x y z. absurd cc)
-own_or_not t (Deliver m stamp) = inr (λ b i x y z. absurd cc)
-own_or_not t Remind = inr (λ b i x y z. absurd cc)
-own_or_not t FlushOut = inr (λ b i x y z. absurd cc)
-own_or_not t FlushIn = inr (λ b i x y z. absurd cc)
-own_or_not t Stop = inr (λ b i x y z. absurd cc)
-own_or_not t Restart = inr (λ b i x y z. absurd cc)
+own_or_not t _ = inr (λ b i x y z. absurd cc)
 
 -- an operation of its own that has a part after it had one, or is its first here
 abbrev First : Shard → TxId → Option ℕ → Type 0

@@ -24,7 +24,7 @@ use Rattle.clv_base.specs.Journals.{up_to_restart}
 use Rattle.law_base.proofs.Changed.{Set_or_old, get_set}
 use Rattle.law_base.proofs.Rows.{rows_get}
 use Rattle.law_base.proofs.Tables.{get_put}
-use Rattle.history_cases.proofs.Stepping.{Step, op_dies, op_answers, request_refused, request_doomed, request_again, request_new, request_closes, looks_well, looks_ill, drops, sends, prepare_closes, prepare_again, vote_counts, decision_comes, decision_again, done_counts, asked, reminds, flushes, finishes, stops}
+use Rattle.history_cases.proofs.Stepping.{Step, request_new, request_closes, vote_counts, decision_comes, done_counts, finishes, stops}
 use Rattle.history_cases.proofs.Entering.{Makes, by_event, by_flush, by_failure, by_restart}
 use Rattle.history_cases.proofs.Telling.{all_map}
 use Rattle.fate_laws.proofs.Closings.{Closes, by_request, by_prepare, step_closed, step_prepares}
@@ -106,29 +106,15 @@ module _ (W : TxId → List (ℕ × ℕ) → Type 0) (V : TxId → ℕ → Vote 
   -- ---- a step
 
   step_rows : (P : TxId → Type 0) (s x : Shard) {e : Event} {o : Outcome} → Step s e o x → Owes W V e o → Begins W V home s → (t : TxId) (q : Request) → tx_get t x.requests ≡ Some q → RowIs (IsFinished s) P W V home x.local t q q.state
-  step_rows P s x (op_dies u birth nth seen op cause l f) w b t q g = old_row P s x.local t q g b
-  step_rows P s x (op_answers u birth nth seen op answer l f) w b t q g = old_row P s x.local t q g b
-  step_rows P s x (request_refused u ts cause f) w b t q g = old_row P s x.local t q g b
-  step_rows P s x (request_doomed u ts doom f) w b t q g = old_row P s x.local t q g b
-  step_rows P s x (request_again u ts f h) w b t q g = old_row P s x.local t q g b
   step_rows P s x (request_new u ts f h) w b t q g = put_row P s x.local u ts w b t q (put_get u t (new_request ts Undecided) q s.requests (tx_same t u) refl (sym (get_put u t (new_request ts Undecided) s.requests) ∙ g))
   step_rows P s x (request_closes u ts f h) w b t q g = put_row P s x.local u ts w b t q (put_get u t (new_request ts Undecided) q s.requests (tx_same t u) refl (sym (get_put u t (new_request ts Undecided) s.requests) ∙ g))
-  step_rows P s x (looks_well u f) w b t q g = old_row P s x.local t q g b
-  step_rows P s x (looks_ill u cause d f) w b t q g = old_row P s x.local t q g b
-  step_rows P s x (drops u stage f) w b t q g = old_row P s x.local t q g b
-  step_rows P s x (sends m ms f) w b t q g = old_row P s x.local t q g b
-  step_rows P s x (prepare_closes u to seen stamp f) w b t q g = old_row P s x.local t q g b
-  step_rows P s x (prepare_again u to seen stamp f) w b t q g = old_row P s x.local t q g b
   step_rows P s x (vote_counts u from vote stamp p f c) w b t q g =
       set_row P s x.local u (with_vote_of from vote p) (voted_row P s x.local u p from vote w (counts_undecided s.shard from p p.state c) f b) b t q (get_set u t (with_vote_of from vote p) q s.requests g)
   step_rows P s x (decision_comes u to true stamp f) w b t q g = old_row P s x.local t q g b
   step_rows P s x (decision_comes u to false stamp f) w b t q g = old_row P s x.local t q g b
-  step_rows P s x (decision_again u to commit stamp f) w b t q g = old_row P s x.local t q g b
   step_rows P s x (done_counts u from stamp p f c) w b t q g =
       set_row P s x.local u (with_done_of from p) (done_row (IsFinished s) P x.local u p from p.state (old_row P s x.local u p f b)) b t q (get_set u t (with_done_of from p) q s.requests g)
-  step_rows P s x (asked u from stamp) w b t q g = old_row P s x.local t q g b
-  step_rows P s x (reminds m ms f h) w b t q g = old_row P s x.local t q g b
-  step_rows P s x (flushes n f h) w b t q g = old_row P s x.local t q g b
+  step_rows P s x _ w b t q g = old_row P s x.local t q g b
 
   within_step : (s x : Shard) {e : Event} {o : Outcome} → Step s e o x → (e ≡ Restart → ⊥) → Owes W V e o → Begins W V home s → Within (IsFinished s) (IsIdle e s) W V home x
   within_step s x {e} {o} h n w b =

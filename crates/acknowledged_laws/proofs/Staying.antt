@@ -44,7 +44,7 @@ use Rattle.law_base.proofs.Stages.{stage_closed, closed_other, written_parts}
 use Rattle.law_base.proofs.Stages.{gone_by, stage_own, stage_other, absent_go}
 use Rattle.law_base.proofs.Stages.{stage_marked}
 use Rattle.shard_laws.proofs.Restoring.{restored_closed, restored_none}
-use Rattle.history_cases.proofs.Stepping.{commits, votes, rules, KeptByDue, settled, Step, op_dies, op_answers, request_refused, request_doomed, request_again, request_new, request_closes, looks_well, looks_ill, drops, sends, prepare_closes, prepare_again, vote_counts, decision_comes, decision_again, done_counts, asked, reminds, flushes, finishes, stops}
+use Rattle.history_cases.proofs.Stepping.{commits, votes, rules, KeptByDue, settled, Step, op_dies, op_answers, request_refused, request_doomed, request_again, request_closes, looks_well, looks_ill, drops, prepare_closes, decision_comes, finishes, stops}
 use Rattle.history_cases.proofs.Entering.{Makes, by_event, by_flush, by_failure, by_restart, makes}
 use Rattle.history_cases.proofs.Merging.{Placed}
 use Rattle.history_cases.proofs.Worlds.{state_at}
@@ -257,22 +257,13 @@ stays_step s _ (op_answers tx birth nth seen op answer l g) c = stays_answers s 
 stays_step s x (request_refused tx ts cause g) c = stays_self s
 stays_step s x (request_doomed tx ts doom g) c = stays_self s
 stays_step s x (request_again tx ts f g) c = stays_self s
-stays_step s x (request_new tx ts f g) c = stays_by s x (fewer_same s x refl)
 stays_step s x (request_closes tx ts f g) c = stays_by s x (fewer_closed s x tx g refl)
 stays_step s x (looks_well tx f) c = stays_self s
 stays_step s x (looks_ill tx cause d f) c = stays_self s
 stays_step s x (drops tx stage g) c = stays_dropped s x tx (is_present (stage_of s.local tx)) refl (λ t. stage_marked tx t (rolled_back_if (is_present (stage_of s.local tx)) tx s.local).parts)
-stays_step s x (sends m ms g) c = stays_by s x (fewer_same s x refl)
 stays_step s x (prepare_closes tx home seen stamp g) c = stays_by s x (fewer_closed s x tx g refl)
-stays_step s x (prepare_again tx home seen stamp g) c = stays_by s x (fewer_same s x refl)
-stays_step s x (vote_counts tx from vote stamp q g f) c = stays_by s x (fewer_same s x refl)
-stays_step s x (decision_comes tx home true stamp g) c = stays_by s x (fewer_same s x refl)
 stays_step s x (decision_comes tx home false stamp g) c = rolled_by s x tx refl
-stays_step s x (decision_again tx home told stamp g) c = stays_by s x (fewer_same s x refl)
-stays_step s x (done_counts tx from stamp q g f) c = stays_by s x (fewer_same s x refl)
-stays_step s x (asked tx from stamp) c = stays_by s x (fewer_same s x refl)
-stays_step s x (reminds m ms f g) c = stays_by s x (fewer_same s x refl)
-stays_step s x (flushes n f g) c = stays_by s x (fewer_same s x refl)
+stays_step s x _ c = stays_by s x (fewer_same s x refl)
 
 -- ---- an entry
 

@@ -34,7 +34,7 @@ use Rattle.clv_base.specs.Journals.{up_to_restart}
 use Rattle.clv_base.proofs.SameNames.{tx_true, tx_flip}
 use Rattle.law_base.proofs.Tables.{stage_in}
 use Rattle.law_base.proofs.Sets.{in_filter}
-use Rattle.history_cases.proofs.Stepping.{Due, commits, votes, rules, KeptByDue, settled, Step, op_dies, op_answers, request_refused, request_doomed, request_again, request_new, request_closes, looks_well, looks_ill, drops, sends, prepare_closes, prepare_again, vote_counts, decision_comes, decision_again, done_counts, asked, reminds, flushes, Happens, finishes, stops}
+use Rattle.history_cases.proofs.Stepping.{Due, commits, votes, rules, KeptByDue, settled, Step, op_dies, op_answers, request_closes, drops, prepare_closes, decision_comes, Happens, finishes, stops}
 use Rattle.history_cases.proofs.Entering.{Makes, by_event, by_flush, by_failure, by_restart}
 use Rattle.history_laws.proofs.Serials.{committed_front}
 use Rattle.history_cases.proofs.TellingEvents.{front_committed}
@@ -194,27 +194,14 @@ struck_step : (s x : Shard) {e : Event} {o : Outcome} (t : TxId) → Step s e o 
 struck_step s _ t (op_dies u birth nth seen op cause l g) w n d k = died s u t birth seen op cause l (reply_is s.shard s.local u birth seen op _ g) w d k
 struck_step s _ t (op_answers u birth nth seen op answer l g) w n d k =
     answered s u t birth seen op answer l (reply_is s.shard s.local u birth seen op _ g) (n u birth nth seen op answer s.local.epoch refl refl) (op_answering s.shard s.local l u birth seen op answer g) k
-struck_step s _ t (request_refused u ts cause g) w n d k = k
-struck_step s _ t (request_doomed u ts doom g) w n d k = k
-struck_step s _ t (request_again u ts f0 g) w n d k = k
-struck_step s _ t (request_new u ts f0 g) w n d k = k
 struck_step s _ t (request_closes u ts f0 g) w n d k = struck_close s u t s.shard (is_alone (others s.shard ts)) g k
-struck_step s _ t (looks_well u g) w n d k = k
-struck_step s _ t (looks_ill u cause c g) w n d k = k
 struck_step s _ t (drops u stage g) w n d k =
     let b = is_present (stage_of s.local u) in
     struck_on (with_local (rolled_back_if b u) s) (with_local (drop_part u) s) t (λ h. h) (λ z. ap is_present (stage_marked u t (rolled_back_if b u s.local).parts) ∙ z) (λ z c. c) (dropped s u t b w d k)
-struck_step s _ t (sends m ms g) w n d k = k
 struck_step s _ t (prepare_closes u home seen stamp g) w n d k = struck_close s u t home false g k
-struck_step s _ t (prepare_again u home seen stamp g) w n d k = k
-struck_step s _ t (vote_counts u from vote stamp q g c) w n d k = k
 struck_step s _ t (decision_comes u home true stamp g) w n d k = struck_commit s u t [] (taken_closed s u (is_waiting (facts_of s u)) (true && has_durable_commit (facts_of s u)) refl g) k
 struck_step s _ t (decision_comes u home false stamp g) w n d k = struck_rolled s u t (awaits s u false g) d k
-struck_step s _ t (decision_again u home commit stamp g) w n d k = k
-struck_step s _ t (done_counts u from stamp q g c) w n d k = k
-struck_step s _ t (asked u from stamp) w n d k = k
-struck_step s _ t (reminds m ms g c) w n d k = k
-struck_step s _ t (flushes j g c) w n d k = k
+struck_step s _ t _ w n d k = k
 
 -- ---- a restart, and an opening
 

@@ -30,7 +30,7 @@ use Rattle.clv_base.proofs.SameNames.{tx_true}
 use Rattle.law_base.proofs.Lists.{all_append}
 use Rattle.shard_laws.proofs.Changes.{wrote_append, wrote_keeps}
 use Rattle.history_cases.proofs.Telling.{all_map}
-use Rattle.history_cases.proofs.Stepping.{Due, commits, votes, rules, settled, Step, op_dies, op_answers, request_refused, request_doomed, request_again, request_new, request_closes, looks_well, looks_ill, drops, sends, prepare_closes, prepare_again, vote_counts, decision_comes, decision_again, done_counts, asked, reminds, flushes, finishes, stops}
+use Rattle.history_cases.proofs.Stepping.{Due, commits, votes, rules, settled, Step, op_dies, op_answers, request_closes, drops, prepare_closes, decision_comes, finishes, stops}
 use Rattle.history_cases.proofs.Entering.{Makes, by_event, by_flush, by_failure, by_restart}
 use Rattle.session_laws.proofs.Replying.{OpIs, dies, rolls, performs, reply_is}
 use Rattle.fate_laws.proofs.Standing.{NotOwn}
@@ -104,27 +104,14 @@ step_updates : (s x : Shard) {e : Event} {o : Outcome} (t : TxId) → Step s e o
 step_updates s _ t (op_dies u birth nth seen op cause l g) n h = died_updates s.local l u birth seen op cause (reply_is s.shard s.local u birth seen op _ g) t h
 step_updates s _ t (op_answers u birth nth seen op answer l g) n h =
     answered_updates s.local l u t birth seen op answer (reply_is s.shard s.local u birth seen op _ g) (λ q. n birth nth seen op (ap (λ v. OpEvent v birth nth seen op) q)) h
-step_updates s _ t (request_refused u ts cause g) n h = h
-step_updates s _ t (request_doomed u ts doom g) n h = h
-step_updates s _ t (request_again u ts f0 g) n h = h
-step_updates s _ t (request_new u ts f0 g) n h = h
 step_updates s _ t (request_closes u ts f0 g) n h =
     let one = is_alone (others s.shard ts) in plain_more s.local.log (closing (wrote_in s.local.log u) one u s.shard (undecided_of s.local u)) (closing_have (wrote_in s.local.log u) one u s.shard (undecided_of s.local u)) t h
-step_updates s _ t (looks_well u g) n h = h
-step_updates s _ t (looks_ill u cause d g) n h = h
 step_updates s _ t (drops u stage g) n h = dropped u s.local t h
-step_updates s _ t (sends m ms g) n h = h
 step_updates s _ t (prepare_closes u home seen stamp g) n h =
     plain_more s.local.log (closing (wrote_in s.local.log u) false u home (undecided_of s.local u)) (closing_have (wrote_in s.local.log u) false u home (undecided_of s.local u)) t h
-step_updates s _ t (prepare_again u home seen stamp g) n h = h
-step_updates s _ t (vote_counts u from vote stamp q g c) n h = h
 step_updates s _ t (decision_comes u home true stamp g) n h = plain_more s.local.log (Commit u [] ∷ []) ((λ v. refl), tt) t h
 step_updates s _ t (decision_comes u home false stamp g) n h = rolled u s.local t h
-step_updates s _ t (decision_again u home told stamp g) n h = h
-step_updates s _ t (done_counts u from stamp q g c) n h = h
-step_updates s _ t (asked u from stamp) n h = h
-step_updates s _ t (reminds m ms g c) n h = h
-step_updates s _ t (flushes k g c) n h = h
+step_updates s _ t _ n h = h
 
 -- ---- a restart
 

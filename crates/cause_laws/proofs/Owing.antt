@@ -10,7 +10,7 @@ use Rattle.clv_base.specs.declared.logs.LogRecord.{LogRecord}
 use Rattle.clv_base.specs.declared.messages.Message.{Message}
 use Rattle.clv_base.specs.declared.messages.Message.TheVariants.{Prepare, Vote as VoteMessage, Decide, Done, Ask}
 use Rattle.clv_base.specs.declared.events.Event.{Event}
-use Rattle.clv_base.specs.declared.events.Event.TheVariants.{Op as OpEvent, Request as RequestEvent, Look, Drop, Send, Deliver, Remind, FlushOut, FlushIn, Stop, Restart}
+use Rattle.clv_base.specs.declared.events.Event.TheVariants.{Op as OpEvent, Request as RequestEvent, Drop, Deliver}
 use Rattle.clv_base.specs.declared.events.Outcome.{Outcome}
 use Rattle.clv_base.specs.declared.events.Outcome.TheVariants.{Dead, Asked, Taken}
 use Rattle.clv_base.specs.declared.state.Request.{Request}
@@ -117,16 +117,7 @@ owes_message splits before after h pre e (Ask to t from) stamp w p q b = tt
 pub owes : (splits : List ℕ) (before after : List (List LogRecord)) (h pre : History) (e : Placed) (ev : Event) (o : Outcome) → Before_entry splits before after h pre e → (e.1).event ≡ ev → (e.1).outcome ≡ o → Brings (Requested pre) (IsOld (run_after before)) ev
     → Owes (Ended (run_after before) (pre ++ e ∷ [])) (Took (pre ++ e ∷ []) e.0) (state_at before after e.0 pre) ev o
 owes splits before after h pre e (OpEvent t b nth seen op) (Dead c) w p q x = (ended_now (run_after before) pre e t (OpEvent t b nth seen op) (Dead c) p q refl refl, op_settled splits before after h pre e t b nth seen op w p)
-owes splits before after h pre e (OpEvent t b nth seen op) _ w p q x = tt
 owes splits before after h pre e (RequestEvent t ts) Asked w p q x = ended_now (run_after before) pre e t (RequestEvent t ts) Asked p q refl refl
-owes splits before after h pre e (RequestEvent t ts) _ w p q x = tt
 owes splits before after h pre e (Drop t) o w p q x = (ended_now (run_after before) pre e t (Drop t) o p q refl refl, drop_settled splits before after h pre e t w p)
 owes splits before after h pre e (Deliver m stamp) Taken w p q x = owes_message splits before after h pre e m stamp w p q x
-owes splits before after h pre e (Deliver m stamp) _ w p q x = tt
-owes splits before after h pre e (Look t) o w p q x = tt
-owes splits before after h pre e Send o w p q x = tt
-owes splits before after h pre e Remind o w p q x = tt
-owes splits before after h pre e FlushOut o w p q x = tt
-owes splits before after h pre e FlushIn o w p q x = tt
-owes splits before after h pre e Stop o w p q x = tt
-owes splits before after h pre e Restart o w p q x = tt
+owes splits before after h pre e _ o w p q x = tt

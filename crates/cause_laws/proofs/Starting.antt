@@ -36,7 +36,7 @@ use Rattle.law_base.proofs.Changed.{none_some, Set_or_old, get_set}
 use Rattle.law_base.proofs.Tables.{stage_by, stage_in, is_pair, get_put}
 use Rattle.law_base.proofs.Stages.{stage_closed, closed_other as stage_other, written_parts}
 use Rattle.law_base.proofs.Stages.{stage_marked}
-use Rattle.history_cases.proofs.Stepping.{with_work, Step, op_dies, op_answers, request_refused, request_doomed, request_again, request_new, request_closes, looks_well, looks_ill, drops, sends, prepare_closes, prepare_again, vote_counts, decision_comes, decision_again, done_counts, asked, reminds, flushes}
+use Rattle.history_cases.proofs.Stepping.{with_work, Step, op_dies, op_answers, request_refused, request_doomed, request_again, request_new, request_closes, looks_well, looks_ill, drops, prepare_closes, prepare_again, vote_counts, decision_comes, done_counts}
 use Rattle.session_laws.proofs.Replying.{OpIs, dies, rolls, performs, reply_is}
 use Rattle.cause_laws.proofs.Votes.{votes_more}
 use Rattle.cause_laws.proofs.Resting.{Unopposed}
@@ -244,7 +244,6 @@ within_step E T W s _ (request_closes tx ts f g) w c k =
 within_step E T W s _ (looks_well tx f) w c k = k
 within_step E T W s _ (looks_ill tx cause d f) w c k = k
 within_step E T W s _ (drops tx stage g) w c k = drops_within E T W s tx (is_present (stage_of s.local tx)) w.0 w.1 k
-within_step E T W s t (sends m ms g) w c k = within_alike E T W s s t (as_it_is s t refl refl refl) refl refl k
 within_step E T W s _ (prepare_closes tx home seen stamp g) w c k =
     let u = with_local (close_part tx home false) s in owes_vote E T W s u tx home seen (within_alike E T W s s u (closed_alike s tx home false g) refl refl k)
 within_step E T W s _ (prepare_again tx home seen stamp g) w c k = owes_vote E T W s s tx home seen k
@@ -255,11 +254,8 @@ within_step E T W s _ (vote_counts tx from vote stamp q g f) w c k =
     with_requests E T W s s (tx_set tx v s.requests) tx v
     (record { votes = votes_more (others s.shard q.touched) (T tx) q.votes from vote n.1 n.0 (told_no T tx from vote w) row.votes; state = row.state }) (λ t x y. set_row t tx v x s.requests y) (λ a b x. x) k
 within_step E T W s _ (decision_comes tx home commit stamp g) w c k = decides_within E T W s tx home commit w k
-within_step E T W s t (decision_again tx home commit stamp g) w c k = within_alike E T W s s t (as_it_is s t refl refl refl) refl refl k
 within_step E T W s _ (done_counts tx from stamp q g f) w c k =
     let row = k.rows tx q g in
     let v = with_done_of from q in
     with_requests E T W s s (tx_set tx v s.requests) tx v (record { votes = row.votes; state = row.state }) (λ t x y. set_row t tx v x s.requests y) (λ a b x. x) k
-within_step E T W s t (asked tx from stamp) w c k = within_alike E T W s s t (as_it_is s t refl refl refl) refl refl k
-within_step E T W s t (reminds m ms f g) w c k = within_alike E T W s s t (as_it_is s t refl refl refl) refl refl k
-within_step E T W s t (flushes n f g) w c k = within_alike E T W s s t (as_it_is s t refl refl refl) refl refl k
+within_step E T W s t _ w c k = within_alike E T W s s t (as_it_is s t refl refl refl) refl refl k

@@ -9,7 +9,7 @@ use Rattle.clv_base.specs.declared.causes.AbortCause.TheVariants.{Asked as Asked
 use Rattle.clv_base.specs.declared.logs.LogRecord.{LogRecord}
 use Rattle.clv_base.specs.declared.state.Stage.TheVariants.{Closed, Gone}
 use Rattle.clv_base.specs.declared.events.Event.{Event}
-use Rattle.clv_base.specs.declared.events.Event.TheVariants.{Op as OpEvent, Request as RequestEvent, Look, Drop, Send, Deliver, Remind, FlushOut, FlushIn, Stop, Restart}
+use Rattle.clv_base.specs.declared.events.Event.TheVariants.{Op as OpEvent, Request as RequestEvent}
 use Rattle.clv_base.specs.declared.events.Outcome.{Outcome}
 use Rattle.clv_base.specs.declared.events.Outcome.TheVariants.{Dead}
 use Rattle.clv_base.specs.declared.events.Entry.{Entry}
@@ -175,16 +175,7 @@ names_event shard t (RequestEvent u ts) n q = by_name (tx_same t u) refl q
     by_name : (b : Bool) → tx_same t u ≡ b → cond b (epoch_in shard ts) None ≡ Some n → (us : List (ℕ × ℕ)) × (RequestEvent u ts ≡ RequestEvent t us) × (epoch_in shard us ≡ Some n)
     by_name true f g = (ts, ap (λ z. RequestEvent z ts) (sym (tx_true t u f)), g)
     by_name false f g = absurd (none_some n g)
-names_event shard t (OpEvent u birth nth seen op) n q = absurd (none_some n q)
-names_event shard t (Look u) n q = absurd (none_some n q)
-names_event shard t (Drop u) n q = absurd (none_some n q)
-names_event shard t Send n q = absurd (none_some n q)
-names_event shard t (Deliver m stamp) n q = absurd (none_some n q)
-names_event shard t Remind n q = absurd (none_some n q)
-names_event shard t FlushOut n q = absurd (none_some n q)
-names_event shard t FlushIn n q = absurd (none_some n q)
-names_event shard t Stop n q = absurd (none_some n q)
-names_event shard t Restart n q = absurd (none_some n q)
+names_event shard t _ n q = absurd (none_some n q)
 
 names_entry : (shard : ℕ) (t : TxId) (es : List Entry) (n : ℕ) → request_epoch shard t es ≡ Some n → Names shard t es n
 names_entry shard t [] n e = absurd (none_some n e)

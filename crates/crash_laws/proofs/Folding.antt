@@ -8,7 +8,7 @@ use Rattle.clv_base.specs.declared.logs.LogRecord.{LogRecord}
 use Rattle.clv_base.specs.declared.ops.Op.{Op}
 use Rattle.clv_base.specs.declared.ops.Answer.{Answer}
 use Rattle.clv_base.specs.declared.events.Event.{Event}
-use Rattle.clv_base.specs.declared.events.Event.TheVariants.{Op as OpEvent, Request as RequestEvent, Look, Drop, Send, Deliver, Remind, FlushOut, FlushIn, Stop, Restart}
+use Rattle.clv_base.specs.declared.events.Event.TheVariants.{Op as OpEvent}
 use Rattle.clv_base.specs.declared.events.Outcome.{Outcome}
 use Rattle.clv_base.specs.declared.events.Outcome.TheVariants.{Answered}
 use Rattle.clv_base.specs.Orders.{tx_same, tx_in}
@@ -177,17 +177,7 @@ one_told t n (OpEvent tx birth nth seen op) (Answered a epoch) as_ ys e =
         ≡ elim (cond {A = Option (Op × Answer)} b (Some (op, a)) None) [ Some p ↦ p ∷ ys | None ↦ ys ]
     at true = ap (λ l. (op, a) ∷ l) e
     at false = e
-one_told t n (OpEvent tx birth nth seen op) _ as_ ys e = e
-one_told t n (RequestEvent tx ts) o as_ ys e = e
-one_told t n (Look tx) o as_ ys e = e
-one_told t n (Drop tx) o as_ ys e = e
-one_told t n Send o as_ ys e = e
-one_told t n (Deliver m stamp) o as_ ys e = e
-one_told t n Remind o as_ ys e = e
-one_told t n FlushOut o as_ ys e = e
-one_told t n FlushIn o as_ ys e = e
-one_told t n Stop o as_ ys e = e
-one_told t n Restart o as_ ys e = e
+one_told t n _ o as_ ys e = e
 
 own_told : (t : TxId) (h : History) → map pair_of (filter (λ a. tx_same a.tx t) (acts h)) ≡ ops_in t h
 own_told t [] = refl

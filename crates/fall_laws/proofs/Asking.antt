@@ -5,7 +5,7 @@ use Rattle.clv_base.specs.declared.logs.LogRecord.{LogRecord}
 use Rattle.clv_base.specs.declared.state.Stage.{Stage}
 use Rattle.clv_base.specs.declared.state.Stage.TheVariants.{Active, Closed, Gone}
 use Rattle.clv_base.specs.declared.events.Event.{Event}
-use Rattle.clv_base.specs.declared.events.Event.TheVariants.{Op as OpEvent, Request as RequestEvent, Look, Drop, Send, Deliver, Remind, FlushOut, FlushIn, Stop, Restart}
+use Rattle.clv_base.specs.declared.events.Event.TheVariants.{Request as RequestEvent}
 use Rattle.clv_base.specs.declared.events.Outcome.{Outcome}
 use Rattle.clv_base.specs.Orders.{tx_in}
 use Rattle.clv_base.specs.State.{Shard}
@@ -33,16 +33,7 @@ own_asks s t (RequestEvent tx ts) o u f g =
     let a = asks_active tx u (stage_of s.local tx) (seen_fits s.local.epoch (epoch_in s.shard ts)) g in
     when_up s (RequestEvent tx ts) o t
     (λ k. ap (request_of (RequestEvent tx ts)) (same_outcome (sym (ap (request_event s tx ts) a.1 ∙ ap (request_by_stage s tx ts) a.0) ∙ k)) ∙ ap (λ z. Some z) a.2) f
-own_asks s t (OpEvent tx birth nth seen op) o u f g = absurd (none_some u g)
-own_asks s t (Look tx) o u f g = absurd (none_some u g)
-own_asks s t (Drop tx) o u f g = absurd (none_some u g)
-own_asks s t Send o u f g = absurd (none_some u g)
-own_asks s t (Deliver m stamp) o u f g = absurd (none_some u g)
-own_asks s t Remind o u f g = absurd (none_some u g)
-own_asks s t FlushOut o u f g = absurd (none_some u g)
-own_asks s t FlushIn o u f g = absurd (none_some u g)
-own_asks s t Stop o u f g = absurd (none_some u g)
-own_asks s t Restart o u f g = absurd (none_some u g)
+own_asks s t _ o u f g = absurd (none_some u g)
 
 -- one that others ask, or none
 pub with_others : (n run : ℕ) (log0 : List LogRecord) (d : Deeds) (s : Shard) (o : Option TxId) → ((u : TxId) → o ≡ Some u → tx_in u d.asked ≡ false) → Leads n run log0 d s → Leads n run log0 (record d { asked = with_one d.asked o }) s

@@ -39,7 +39,7 @@ use Rattle.clv_base.specs.Participant.{asked_voter}
 use Rattle.clv_base.specs.OneShard.{OpDies, rolled_back_if, close_part, closed_in, without_part}
 use Rattle.clv_base.specs.Events.{is_alone, coordinate, owe_vote}
 use Rattle.law_base.proofs.Tables.{get_put}
-use Rattle.history_cases.proofs.Stepping.{Step, op_dies, op_answers, request_refused, request_doomed, request_again, request_new, request_closes, looks_well, looks_ill, drops, sends, prepare_closes, prepare_again, vote_counts, decision_comes, decision_again, done_counts, asked, reminds, flushes}
+use Rattle.history_cases.proofs.Stepping.{Step, op_dies, op_answers, request_refused, request_doomed, request_again, request_new, request_closes, looks_well, looks_ill, drops, prepare_closes, prepare_again, vote_counts, decision_comes, done_counts}
 use Rattle.law_base.proofs.LockRows.{Rows}
 use Rattle.law_base.proofs.Stages.{stage_closed, closed_other}
 use Rattle.shard_laws.proofs.Ordered.{prepare_some}
@@ -193,7 +193,6 @@ barred_step K V O Q s _ (looks_well u g) P rows closed wd sx w b = b
 barred_step K V O Q s _ (looks_ill u cause d g) P rows closed wd sx w b = b
 barred_step K V O Q s _ (drops u stage g) P rows closed wd sx w b =
     barred_marked K V O Q (with_local (without_part u) s) u (dropped K V O Q s u (is_present (stage_of s.local u)) w.0 w.1 b)
-barred_step K V O Q s _ (sends m ms g) P rows closed wd sx w b = barred_same K V O Q s _ refl refl refl b.rows b.readers b
 barred_step K V O Q s _ (prepare_closes u home seen stamp g) P rows closed wd sx w b =
     barred_closes K V O Q s _ u home false (prepare_closes u home seen stamp g) (λ t birth nth seen op z. absurd cc) refl tt g sx b.rows (owed_readers s u home seen b.readers) (λ t z. prepares_none s t u s.shard home seen stamp z refl) b
 barred_step K V O Q s _ (prepare_again u home seen stamp g) P rows closed wd sx w b = barred_same K V O Q s (owe_vote u home seen s) refl refl refl b.rows (owed_readers s u home seen b.readers) b
@@ -204,8 +203,5 @@ barred_step K V O Q s _ (decision_comes u home true stamp g) P rows closed wd sx
 barred_step K V O Q s _ (decision_comes u home false stamp g) P rows closed wd sx w b =
     let n = awaits s u false g in
     ruled_out K V O Q s u n (w n) (subst (λ z. is_present z ≡ true) (sym (taken_closed s u (is_waiting (facts_of s u)) (false && has_durable_commit (facts_of s u)) refl g)) refl) b
-barred_step K V O Q s _ (decision_again u home commit stamp g) P rows closed wd sx w b = barred_same K V O Q s _ refl refl refl b.rows b.readers b
 barred_step K V O Q s _ (done_counts u from stamp q g c) P rows closed wd sx w b = barred_same K V O Q s (with_done u from q s) refl refl refl (set_rows Q s u (with_done_of from q) q g refl b.rows) b.readers b
-barred_step K V O Q s _ (asked u from stamp) P rows closed wd sx w b = barred_same K V O Q s _ refl refl refl b.rows b.readers b
-barred_step K V O Q s _ (reminds m ms g c) P rows closed wd sx w b = barred_same K V O Q s _ refl refl refl b.rows b.readers b
-barred_step K V O Q s _ (flushes k g c) P rows closed wd sx w b = barred_same K V O Q s _ refl refl refl b.rows b.readers b
+barred_step K V O Q s _ _ P rows closed wd sx w b = barred_same K V O Q s _ refl refl refl b.rows b.readers b

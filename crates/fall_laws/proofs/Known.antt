@@ -30,7 +30,7 @@ use Rattle.clv_base.specs.History.{Legal}
 use Rattle.clv_base.proofs.SameNames.{tx_true}
 use Rattle.law_base.proofs.Changed.{none_some}
 use Rattle.law_base.proofs.Tables.{stage_in}
-use Rattle.history_cases.proofs.Stepping.{commits, votes, rules, KeptByDue, settled, Step, op_dies, op_answers, request_refused, request_doomed, request_again, request_new, request_closes, looks_well, looks_ill, drops, sends, prepare_closes, prepare_again, vote_counts, decision_comes, decision_again, done_counts, asked, reminds, flushes, finishes, stops}
+use Rattle.history_cases.proofs.Stepping.{commits, votes, rules, KeptByDue, settled, Step, op_dies, op_answers, request_closes, drops, prepare_closes, decision_comes, finishes, stops}
 use Rattle.history_cases.proofs.Entering.{Makes, by_event, by_flush, by_failure, by_restart, makes}
 use Rattle.history_cases.proofs.Merging.{Placed, Among, among_left, among_right}
 use Rattle.history_cases.proofs.Worlds.{state_at}
@@ -98,26 +98,12 @@ step_none s _ t (op_answers u birth nth seen op answer l g) h = at (tx_same t u)
     at : (b : Bool) → tx_same t u ≡ b → (stage_of l t ≡ None) ⊎ DoesNow t (OpEvent u birth nth seen op) (Answered answer s.local.epoch)
     at true e = inr (birth, nth, seen, op, answer, s.local.epoch, ap (λ z. OpEvent z birth nth seen op) (sym (tx_true t u e)), refl)
     at false e = inl (answered_none s.local l u birth seen op answer t (reply_is s.shard s.local u birth seen op _ g) e h)
-step_none s _ t (request_refused u ts cause g) h = inl h
-step_none s _ t (request_doomed u ts doom g) h = inl h
-step_none s _ t (request_again u ts f0 g) h = inl h
-step_none s _ t (request_new u ts f0 g) h = inl h
 step_none s _ t (request_closes u ts f0 g) h = inl (closed_none s.local.parts u t g h)
-step_none s _ t (looks_well u g) h = inl h
-step_none s _ t (looks_ill u cause d g) h = inl h
 step_none s _ t (drops u stage g) h =
     inl (stage_marked u t (rolled_back_if (is_present (stage_of s.local u)) u s.local).parts ∙ without_none s.local u t (is_present (stage_of s.local u)) h)
-step_none s _ t (sends m ms g) h = inl h
 step_none s _ t (prepare_closes u home seen stamp g) h = inl (closed_none s.local.parts u t g h)
-step_none s _ t (prepare_again u home seen stamp g) h = inl h
-step_none s _ t (vote_counts u from vote stamp q g c) h = inl h
-step_none s _ t (decision_comes u home true stamp g) h = inl h
 step_none s _ t (decision_comes u home false stamp g) h = inl (gone_none (doomed_here s.local u) (Some u) s.local.parts t h)
-step_none s _ t (decision_again u home commit stamp g) h = inl h
-step_none s _ t (done_counts u from stamp q g c) h = inl h
-step_none s _ t (asked u from stamp) h = inl h
-step_none s _ t (reminds m ms g c) h = inl h
-step_none s _ t (flushes k g c) h = inl h
+step_none s _ t _ h = inl h
 
 pub none_made : (log : List LogRecord) (s x : Shard) {e : Event} {o : Outcome} (t : TxId) → Makes log s e o x → stage_of s.local t ≡ None → (stage_of x.local t ≡ None) ⊎ ((prepared_in x.local.log t ≡ true) ⊎ DoesNow t e o)
 none_made log s _ t (by_event g (finishes {t = y} u f)) h = ⊎_elim (λ k. inl (finish_none t y k)) (λ k. inr (inr k)) (step_none s y t f h)

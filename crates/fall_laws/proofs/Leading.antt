@@ -8,7 +8,7 @@ use Rattle.clv_base.specs.declared.logs.LogRecord.{LogRecord}
 use Rattle.clv_base.specs.declared.messages.Message.{Message}
 use Rattle.clv_base.specs.declared.messages.Message.TheVariants.{Prepare, Vote as VoteMessage, Decide, Done, Ask}
 use Rattle.clv_base.specs.declared.events.Event.{Event}
-use Rattle.clv_base.specs.declared.events.Event.TheVariants.{Op as OpEvent, Request as RequestEvent, Look, Drop, Send, Deliver, Remind, FlushOut, FlushIn, Stop, Restart}
+use Rattle.clv_base.specs.declared.events.Event.TheVariants.{Op as OpEvent, Request as RequestEvent, Drop, Deliver, Restart}
 use Rattle.clv_base.specs.declared.events.Outcome.{Outcome}
 use Rattle.clv_base.specs.declared.events.Entry.{Entry}
 use Rattle.clv_base.specs.Orders.{tx_same, tx_in}
@@ -48,16 +48,7 @@ LeadsAs n run log0 asked d s = Leads n run log0 (record d { asked = asked }) s
 
 falls_up : (s t u : Shard) (e : Event) (o : Outcome) → happen s e ≡ Does o t → falling e s u ≡ doomed_in u
 falls_up s t u Restart o f = when_up s Restart o t (λ k. absurd cc) f
-falls_up s t u (OpEvent tx birth nth seen op) o f = refl
-falls_up s t u (RequestEvent tx ts) o f = refl
-falls_up s t u (Look tx) o f = refl
-falls_up s t u (Drop tx) o f = refl
-falls_up s t u Send o f = refl
-falls_up s t u (Deliver m stamp) o f = refl
-falls_up s t u Remind o f = refl
-falls_up s t u FlushOut o f = refl
-falls_up s t u FlushIn o f = refl
-falls_up s t u Stop o f = refl
+falls_up s t u _ o f = refl
 
 abbrev entry : ℕ → ℕ → Event → Outcome → Entry
 entry stamp walker e o = record { stamp = stamp; walker = walker; event = e; outcome = o }
@@ -95,13 +86,7 @@ module _ (splits : List ℕ) (before after : List (List LogRecord)) (h pre : His
   may (RequestEvent t ts) u e b f = may_ask splits before after h pre n x (state_before before pre after n) (record d { asked = found ++ requests_of pre }) t ts here from e
   may (Drop t) u e b f = λ c. spares pre n x post t q e
   may (Deliver w stamp) u e b f = may_come w stamp u e b f
-  may (Look t) u e b f = tt
-  may Send u e b f = tt
-  may Remind u e b f = tt
-  may FlushOut u e b f = tt
-  may FlushIn u e b f = tt
-  may Stop u e b f = tt
-  may Restart u e b f = tt
+  may _ u e b f = tt
 
 -- ---- one entry more
 

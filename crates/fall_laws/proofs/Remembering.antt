@@ -11,7 +11,7 @@ use Rattle.clv_base.specs.declared.logs.LogRecord.{LogRecord}
 use Rattle.clv_base.specs.declared.state.Stage.{Stage}
 use Rattle.clv_base.specs.declared.state.Held.{Held}
 use Rattle.clv_base.specs.declared.events.Event.{Event}
-use Rattle.clv_base.specs.declared.events.Event.TheVariants.{Op as OpEvent, Request as RequestEvent, Look, Drop, Send, Deliver, Remind, FlushOut, FlushIn, Stop, Restart}
+use Rattle.clv_base.specs.declared.events.Event.TheVariants.{Op as OpEvent, Restart}
 use Rattle.clv_base.specs.declared.events.Outcome.{Outcome}
 use Rattle.clv_base.specs.declared.events.Outcome.TheVariants.{Answered}
 use Rattle.clv_base.specs.declared.events.Entry.{Entry}
@@ -86,17 +86,7 @@ module _ (before after : List (List LogRecord)) (pre : History) (n : ℕ) (x : E
 
   one_item : (e : Event) (o : Outcome) → x.event ≡ e → x.outcome ≡ o → (is : List Item) → AllByRecursion (λ z. DidOrOld (run_after before) (pre ++ (n, x) ∷ []) n z.tx) is → AllByRecursion (λ z. DidOrOld (run_after before) (pre ++ (n, x) ∷ []) n z.tx) (with_one is (new_item s e o))
   one_item (OpEvent tx b nth seen op) (Answered a ep) q r is k = all_push (λ z. DidOrOld (run_after before) (pre ++ (n, x) ∷ []) n z.tx) is _ k (inl (did_now tx b nth seen op a ep q r))
-  one_item (OpEvent tx b nth seen op) _ q r is k = k
-  one_item (RequestEvent tx ts) o q r is k = k
-  one_item (Look tx) o q r is k = k
-  one_item (Drop tx) o q r is k = k
-  one_item Send o q r is k = k
-  one_item (Deliver w stamp) o q r is k = k
-  one_item Remind o q r is k = k
-  one_item FlushOut o q r is k = k
-  one_item FlushIn o q r is k = k
-  one_item Stop o q r is k = k
-  one_item Restart o q r is k = k
+  one_item _ o q r is k = k
 
   doomed_now : (u : TxId) → tx_in u (doomed_in t) ≡ true → DidOrOld (run_after before) (pre ++ (n, x) ∷ []) n u × FellOn before (pre ++ (n, x) ∷ []) after n u
   doomed_now u i =
@@ -115,16 +105,7 @@ module _ (before after : List (List LogRecord)) (pre : History) (n : ℕ) (x : E
 
   fell_now : (e : Event) → x.event ≡ e → (u : TxId) → tx_in u (falling e s t) ≡ true → DidOrOld (run_after before) (pre ++ (n, x) ∷ []) n u × FellOn before (pre ++ (n, x) ∷ []) after n u
   fell_now Restart q u i = left_now q u i
-  fell_now (OpEvent tx b nth seen op) q u i = doomed_now u i
-  fell_now (RequestEvent tx ts) q u i = doomed_now u i
-  fell_now (Look tx) q u i = doomed_now u i
-  fell_now (Drop tx) q u i = doomed_now u i
-  fell_now Send q u i = doomed_now u i
-  fell_now (Deliver w stamp) q u i = doomed_now u i
-  fell_now Remind q u i = doomed_now u i
-  fell_now FlushOut q u i = doomed_now u i
-  fell_now FlushIn q u i = doomed_now u i
-  fell_now Stop q u i = doomed_now u i
+  fell_now _ q u i = doomed_now u i
 
   pub remembers_own : Remembers before after (pre ++ (n, x) ∷ []) n (deeds_with d s t x)
   remembers_own =

@@ -33,7 +33,7 @@ use Rattle.law_base.proofs.Lists.{all_mono}
 use Rattle.law_base.proofs.Rows.{rows_put}
 use Rattle.protocol_laws.specs.Growth.{IsPrefixOf}
 use Rattle.protocol_laws.proofs.Growing.{more, more_twice}
-use Rattle.history_cases.proofs.Stepping.{commits, votes, rules, KeptByDue, settled, Step, op_dies, op_answers, request_refused, request_doomed, request_again, request_new, request_closes, looks_well, looks_ill, drops, sends, prepare_closes, prepare_again, vote_counts, decision_comes, decision_again, done_counts, asked, reminds, flushes, Happens, finishes, stops, happened}
+use Rattle.history_cases.proofs.Stepping.{commits, votes, rules, KeptByDue, settled, Step, op_dies, op_answers, request_closes, drops, prepare_closes, decision_comes, asked, Happens, finishes, stops, happened}
 use Rattle.session_laws.proofs.Replying.{OpIs, dies, rolls, performs, reply_is}
 use Rattle.shard_laws.specs.OneShard.{Deeds, Leads, opens, happens, lands, others_ask, revives}
 
@@ -125,20 +125,7 @@ step s _ (drops tx stage h) a = let r = rolled_if s.local tx (is_present (stage_
 step s _ (prepare_closes tx home seen stamp h) a = grown s.local.log _ _ (more s.local.log _) (closes s.local.log tx s.local.parts a)
 step s _ (decision_comes tx home true stamp h) a = grown s.local.log _ s.local.parts (more s.local.log _) a
 step s _ (decision_comes tx home false stamp h) a = rolled s.local tx a
-step s _ (request_refused tx ts cause h) a = a
-step s _ (request_doomed tx ts doom h) a = a
-step s _ (request_again tx ts f h) a = a
-step s _ (request_new tx ts f h) a = a
-step s _ (looks_well tx h) a = a
-step s _ (looks_ill tx cause d h) a = a
-step s _ (sends m ms h) a = a
-step s _ (prepare_again tx home seen stamp h) a = a
-step s _ (vote_counts tx from vote stamp q g h) a = a
-step s _ (decision_again tx home commit stamp h) a = a
-step s _ (done_counts tx from stamp q g h) a = a
-step s _ (asked tx from stamp) a = a
-step s _ (reminds m ms g h) a = a
-step s _ (flushes k g h) a = a
+step s _ _ a = a
 
 event : (s t : Shard) {e : Event} {o : Outcome} → Happens s e o t → RestoredArePrepared s.local → RestoredArePrepared t.local
 event s _ (finishes {t = t} u g) a = finished t (step s t g a)

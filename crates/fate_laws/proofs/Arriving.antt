@@ -24,7 +24,7 @@ use Rattle.law_base.proofs.Commits.{durable_committed}
 use Rattle.law_base.proofs.Tables.{in_pair}
 use Rattle.shard_laws.proofs.Sound.{waiting_here}
 use Rattle.shard_laws.proofs.Ordered.{prepare_some}
-use Rattle.history_cases.proofs.Stepping.{Step, op_dies, op_answers, request_refused, request_doomed, request_again, request_new, request_closes, looks_well, looks_ill, drops, sends, prepare_closes, prepare_again, vote_counts, decision_comes, decision_again, done_counts, asked, reminds, flushes, Happens, finishes, stops}
+use Rattle.history_cases.proofs.Stepping.{Step, decision_comes, decision_again, Happens, finishes, stops}
 use Rattle.history_cases.proofs.Entering.{Makes, by_event, by_flush, by_failure, by_restart, makes}
 use Rattle.history_cases.proofs.Durability.{left_front}
 use Rattle.history_cases.proofs.Merging.{Placed, is_among}
@@ -59,20 +59,6 @@ one_decision : (s : Shard) (u tx : TxId) (home to home' : ℕ) (stamp stamp' : �
 one_decision s u tx home to home' stamp stamp' c e = (cc, cc)
 
 closed_step : (s t : Shard) {e : Event} {o : Outcome} (tx : TxId) (to home stamp : ℕ) → Step s e o t → e ≡ Deliver (Decide to tx home true) stamp → committed_in s.local.log tx ≡ false → stage_of s.local tx ≡ Some Closed
-closed_step s _ tx to home stamp (op_dies u birth nth seen op cause l g) e n = absurd cc
-closed_step s _ tx to home stamp (op_answers u birth nth seen op answer l g) e n = absurd cc
-closed_step s _ tx to home stamp (request_refused u ts cause g) e n = absurd cc
-closed_step s _ tx to home stamp (request_doomed u ts doom g) e n = absurd cc
-closed_step s _ tx to home stamp (request_again u ts f0 g) e n = absurd cc
-closed_step s _ tx to home stamp (request_new u ts f0 g) e n = absurd cc
-closed_step s _ tx to home stamp (request_closes u ts f0 g) e n = absurd cc
-closed_step s _ tx to home stamp (looks_well u g) e n = absurd cc
-closed_step s _ tx to home stamp (looks_ill u cause d g) e n = absurd cc
-closed_step s _ tx to home stamp (drops u stage g) e n = absurd cc
-closed_step s _ tx to home stamp (sends m ms g) e n = absurd cc
-closed_step s _ tx to home stamp (prepare_closes u h seen st g) e n = absurd cc
-closed_step s _ tx to home stamp (prepare_again u h seen st g) e n = absurd cc
-closed_step s _ tx to home stamp (vote_counts u from vote st q g c) e n = absurd cc
 closed_step s _ tx to home stamp (decision_comes u h c st g) e n =
     let q = one_decision s u tx h to home st stamp c e in
     let f : taken_by (facts_of s tx) c ≡ IsAwaited = subst (λ v. taken_by (facts_of s v) c ≡ IsAwaited) q.0 g in
@@ -81,10 +67,7 @@ closed_step s _ tx to home stamp (decision_again u h c st g) e n =
     let q = one_decision s u tx h to home st stamp c e in
     let f : taken_by (facts_of s tx) true ≡ IsDone = subst (λ b. taken_by (facts_of s tx) b ≡ IsDone) q.1 (subst (λ v. taken_by (facts_of s v) c ≡ IsDone) q.0 g) in
     absurd (both_ways _ n (taken_done s tx (is_waiting (facts_of s tx)) (has_durable_commit (facts_of s tx)) refl f))
-closed_step s _ tx to home stamp (done_counts u from st q g c) e n = absurd cc
-closed_step s _ tx to home stamp (asked u from st) e n = absurd cc
-closed_step s _ tx to home stamp (reminds m ms g c) e n = absurd cc
-closed_step s _ tx to home stamp (flushes k g c) e n = absurd cc
+closed_step s _ tx to home stamp _ e n = absurd cc
 
 closed_event : (s t : Shard) {e : Event} {o : Outcome} (tx : TxId) (to home stamp : ℕ) → Happens s e o t → e ≡ Deliver (Decide to tx home true) stamp → committed_in s.local.log tx ≡ false → stage_of s.local tx ≡ Some Closed
 closed_event s _ tx to home stamp (finishes {t = x} u h) e n = closed_step s x tx to home stamp h e n

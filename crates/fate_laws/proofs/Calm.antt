@@ -37,7 +37,7 @@ use Rattle.law_base.proofs.Stages.{stage_closed, closed_other}
 use Rattle.law_base.proofs.Stages.{stage_marked}
 use Rattle.law_base.proofs.Stages.{other_part}
 use Rattle.session_laws.proofs.Replying.{OpIs, dies, rolls, performs, reply_is}
-use Rattle.history_cases.proofs.Stepping.{Due, commits, votes, rules, KeptByDue, settled, Step, op_dies, op_answers, request_refused, request_doomed, request_again, request_new, request_closes, looks_well, looks_ill, drops, sends, prepare_closes, prepare_again, vote_counts, decision_comes, decision_again, done_counts, asked, reminds, flushes}
+use Rattle.history_cases.proofs.Stepping.{Due, commits, votes, rules, KeptByDue, settled, Step, op_dies, op_answers, request_closes, drops, prepare_closes, decision_comes}
 use Rattle.protocol_laws.proofs.Growing.{same}
 use Rattle.fate_laws.proofs.Inside.{Inside, inside_self, inside_then, inside_due, inside_step}
 use Rattle.fate_laws.proofs.Prepares.{NoMorePrepares, plain_more, rolled, op_answering, closes_with}
@@ -193,33 +193,20 @@ step_at : (s t : Shard) {e : Event} {o : Outcome} (tx : TxId) → Step s e o t �
 step_at s _ tx (op_dies u birth nth seen op cause l g) i n = calm_dies s tx u birth seen op cause l (reply_is s.shard s.local u birth seen op _ g) i
 step_at s _ tx (op_answers u birth nth seen op answer l g) i n =
     calm_answers s tx u birth seen op answer l (reply_is s.shard s.local u birth seen op _ g) (λ q. n birth nth seen op (ap (λ v. OpEvent v birth nth seen op) q)) i (op_answering s.shard s.local l u birth seen op answer g)
-step_at s _ tx (request_refused u ts cause g) i n = calm_same s _ tx i refl refl (λ t p h. h)
-step_at s _ tx (request_doomed u ts doom g) i n = calm_same s _ tx i refl refl (λ t p h. h)
-step_at s _ tx (request_again u ts f0 g) i n = calm_same s _ tx i refl refl (λ t p h. h)
-step_at s _ tx (request_new u ts f0 g) i n = calm_same s _ tx i refl refl (λ t p h. h)
 step_at s _ tx (request_closes u ts f0 g) i n =
     let one = is_alone (others s.shard ts) in
     let x = with_local (close_part u s.shard one) s in
     let c = calm_close s tx u s.shard one g (record { shard = refl; durable = refl; log = i.log }) in
     calm_then s x _ tx c (calm_same x _ tx (record { shard = refl; durable = refl; log = same x.local.log }) refl refl (λ t p h. h))
-step_at s _ tx (looks_well u g) i n = calm_same s _ tx i refl refl (λ t p h. h)
-step_at s _ tx (looks_ill u cause d g) i n = calm_same s _ tx i refl refl (λ t p h. h)
 step_at s _ tx (drops u stage g) i n =
     calm_marked s tx u (rolled_back_if (is_present (stage_of s.local u)) u s.local) (calm_without s tx u (is_present (stage_of s.local u)) (record { shard = refl; durable = refl; log = i.log }))
-step_at s _ tx (sends m ms g) i n = calm_same s _ tx i refl refl (λ t p h. h)
 step_at s _ tx (prepare_closes u home seen stamp g) i n =
     let x = with_local (close_part u home false) s in
     let c = calm_close s tx u home false g (record { shard = refl; durable = refl; log = i.log }) in
     calm_then s x _ tx c (calm_same x _ tx (record { shard = refl; durable = refl; log = same x.local.log }) refl refl (λ t p h. h))
-step_at s _ tx (prepare_again u home seen stamp g) i n = calm_same s _ tx i refl refl (λ t p h. h)
-step_at s _ tx (vote_counts u from vote stamp q g c) i n = calm_same s _ tx i refl refl (λ t p h. h)
 step_at s _ tx (decision_comes u home true stamp g) i n = calm_same s _ tx i refl refl (plain_more s.local.log (Commit u [] ∷ []) ((λ t. refl), tt))
 step_at s _ tx (decision_comes u home false stamp g) i n = calm_rolled s tx u i
-step_at s _ tx (decision_again u home commit stamp g) i n = calm_same s _ tx i refl refl (λ t p h. h)
-step_at s _ tx (done_counts u from stamp q g c) i n = calm_same s _ tx i refl refl (λ t p h. h)
-step_at s _ tx (asked u from stamp) i n = calm_same s _ tx i refl refl (λ t p h. h)
-step_at s _ tx (reminds m ms g c) i n = calm_same s _ tx i refl refl (λ t p h. h)
-step_at s _ tx (flushes k g c) i n = calm_same s _ tx i refl refl (λ t p h. h)
+step_at s _ tx _ i n = calm_same s _ tx i refl refl (λ t p h. h)
 
 pub calm_step : (s t : Shard) {e : Event} {o : Outcome} (tx : TxId) → Step s e o t → ((birth : Birth) (nth : ℕ) (seen : Option ℕ) (op : Op) → e ≡ OpEvent tx birth nth seen op → ⊥) → Calm s t tx
 calm_step s t tx h n = step_at s t tx h (inside_step s t h) n
@@ -237,25 +224,9 @@ pub step_keeps : (s t : Shard) {e : Event} {o : Outcome} (tx q : TxId) → Step 
 step_keeps s t tx q (op_dies u birth nth seen op cause l g) p i =
     (calm_dies s tx u birth seen op cause l (reply_is s.shard s.local u birth seen op _ g) (record { shard = refl; durable = refl; log = (inside_step s t (op_dies u birth nth seen op cause l g)).log })).keeps q p i
 step_keeps s t tx q (op_answers u birth nth seen op answer l g) p i = answers_keeps s tx u q birth seen op answer l (reply_is s.shard s.local u birth seen op _ g) i
-step_keeps s t tx q (request_refused u ts cause g) p i = i
-step_keeps s t tx q (request_doomed u ts doom g) p i = i
-step_keeps s t tx q (request_again u ts f0 g) p i = i
-step_keeps s t tx q (request_new u ts f0 g) p i = i
-step_keeps s t tx q (request_closes u ts f0 g) p i = i
-step_keeps s t tx q (looks_well u g) p i = i
-step_keeps s t tx q (looks_ill u cause d g) p i = i
 step_keeps s t tx q (drops u stage g) p i = (calm_step s t tx (drops u stage g) (λ b k z op e. absurd cc)).keeps q p i
-step_keeps s t tx q (sends m ms g) p i = i
-step_keeps s t tx q (prepare_closes u home seen stamp g) p i = i
-step_keeps s t tx q (prepare_again u home seen stamp g) p i = i
-step_keeps s t tx q (vote_counts u from vote stamp r g c) p i = i
-step_keeps s t tx q (decision_comes u home true stamp g) p i = i
 step_keeps s t tx q (decision_comes u home false stamp g) p i = (calm_step s t tx (decision_comes u home false stamp g) (λ b k z op e. absurd cc)).keeps q p i
-step_keeps s t tx q (decision_again u home commit stamp g) p i = i
-step_keeps s t tx q (done_counts u from stamp r g c) p i = i
-step_keeps s t tx q (asked u from stamp) p i = i
-step_keeps s t tx q (reminds m ms g c) p i = i
-step_keeps s t tx q (flushes k g c) p i = i
+step_keeps s t tx q _ p i = i
 
 -- ---- each thing that is due
 

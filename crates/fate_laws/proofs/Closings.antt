@@ -32,7 +32,7 @@ use Rattle.law_base.proofs.Stages.{stage_closed, closed_other}
 use Rattle.law_base.proofs.Stages.{stage_marked}
 use Rattle.law_base.proofs.Stages.{other_part}
 use Rattle.session_laws.proofs.Replying.{OpIs, dies, rolls, performs, reply_is}
-use Rattle.history_cases.proofs.Stepping.{Step, op_dies, op_answers, request_refused, request_doomed, request_again, request_new, request_closes, looks_well, looks_ill, drops, sends, prepare_closes, prepare_again, vote_counts, decision_comes, decision_again, done_counts, asked, reminds, flushes}
+use Rattle.history_cases.proofs.Stepping.{Step, op_dies, op_answers, request_closes, drops, prepare_closes, decision_comes}
 use Rattle.history_cases.proofs.Uncommitting.{with_more, rolled as rolled_commits, dropped as dropped_commits, op_dying as dying_commits, op_answering as answering_commits}
 use Rattle.fate_laws.proofs.Prepares.{plain_more, prepare_new, rolled, dropped, op_dying, op_answering}
 use Rattle.fate_laws.proofs.Homes.{new_commit}
@@ -65,26 +65,13 @@ closing_is s t tx u home true false us p a c e w f g h = closing_new s t tx u ho
 pub step_prepares : (s t : Shard) {e : Event} {o : Outcome} (tx : TxId) (p : ℕ × List TxId) → Step s e o t → prepare_of t.local.log tx ≡ Some p → (prepare_of s.local.log tx ≡ Some p) ⊎ ClosedNow s t tx
 step_prepares s _ tx p (op_dies u birth nth seen op cause l g) h = inl (op_dying s.shard s.local l u birth seen op cause g tx p h)
 step_prepares s _ tx p (op_answers u birth nth seen op answer l g) h = inl (op_answering s.shard s.local l u birth seen op answer g tx p h)
-step_prepares s _ tx p (request_refused u ts cause g) h = inl h
-step_prepares s _ tx p (request_doomed u ts doom g) h = inl h
-step_prepares s _ tx p (request_again u ts f0 g) h = inl h
-step_prepares s _ tx p (request_new u ts f0 g) h = inl h
 step_prepares s t tx p (request_closes u ts f0 g) h =
     closing_is s _ tx u s.shard (wrote_in s.local.log u) (is_alone (others s.shard ts)) (undecided_of s.local u) p g (stage_closed s.local.parts u g) refl refl refl refl h
-step_prepares s _ tx p (looks_well u g) h = inl h
-step_prepares s _ tx p (looks_ill u cause d g) h = inl h
 step_prepares s _ tx p (drops u stage g) h = inl (dropped u s.local tx p h)
-step_prepares s _ tx p (sends m ms g) h = inl h
 step_prepares s t tx p (prepare_closes u home seen stamp g) h = closing_is s _ tx u home (wrote_in s.local.log u) false (undecided_of s.local u) p g (stage_closed s.local.parts u g) refl refl refl refl h
-step_prepares s _ tx p (prepare_again u home seen stamp g) h = inl h
-step_prepares s _ tx p (vote_counts u from vote stamp q g c) h = inl h
 step_prepares s _ tx p (decision_comes u home true stamp g) h = inl (plain_more s.local.log (Commit u [] ∷ []) ((λ v. refl), tt) tx p h)
 step_prepares s _ tx p (decision_comes u home false stamp g) h = inl (rolled u s.local tx p h)
-step_prepares s _ tx p (decision_again u home commit stamp g) h = inl h
-step_prepares s _ tx p (done_counts u from stamp q g c) h = inl h
-step_prepares s _ tx p (asked u from stamp) h = inl h
-step_prepares s _ tx p (reminds m ms g c) h = inl h
-step_prepares s _ tx p (flushes k g c) h = inl h
+step_prepares s _ tx p _ h = inl h
 
 -- ---- a closed part
 
@@ -139,26 +126,12 @@ close_closed s tx u e o false f c h = inl (sym (closed_other s.local.parts u tx 
 pub step_closed : (s t : Shard) {e : Event} {o : Outcome} (tx : TxId) → Step s e o t → stage_of t.local tx ≡ Some Closed → (stage_of s.local tx ≡ Some Closed) ⊎ Closes s tx e o
 step_closed s _ tx (op_dies u birth nth seen op cause l g) h = inl (dies_closed s tx u birth seen op cause l (reply_is s.shard s.local u birth seen op _ g) h)
 step_closed s _ tx (op_answers u birth nth seen op answer l g) h = inl (answers_closed s tx u birth seen op answer l (reply_is s.shard s.local u birth seen op _ g) h)
-step_closed s _ tx (request_refused u ts cause g) h = inl h
-step_closed s _ tx (request_doomed u ts doom g) h = inl h
-step_closed s _ tx (request_again u ts f0 g) h = inl h
-step_closed s _ tx (request_new u ts f0 g) h = inl h
 step_closed s _ tx (request_closes u ts f0 g) h = close_closed s tx u _ _ (tx_same u tx) refl (by_request ts g) h
-step_closed s _ tx (looks_well u g) h = inl h
-step_closed s _ tx (looks_ill u cause d g) h = inl h
 step_closed s _ tx (drops u stage g) h =
     inl (without_closed s tx u (is_present (stage_of s.local u)) (sym (stage_marked u tx (rolled_back_if (is_present (stage_of s.local u)) u s.local).parts) ∙ h))
-step_closed s _ tx (sends m ms g) h = inl h
 step_closed s _ tx (prepare_closes u home seen stamp g) h = close_closed s tx u _ _ (tx_same u tx) refl (by_prepare home seen stamp g) h
-step_closed s _ tx (prepare_again u home seen stamp g) h = inl h
-step_closed s _ tx (vote_counts u from vote stamp q g c) h = inl h
-step_closed s _ tx (decision_comes u home true stamp g) h = inl h
 step_closed s _ tx (decision_comes u home false stamp g) h = inl (closed_back (doomed_here s.local u) (Some u) tx s.local.parts h)
-step_closed s _ tx (decision_again u home commit stamp g) h = inl h
-step_closed s _ tx (done_counts u from stamp q g c) h = inl h
-step_closed s _ tx (asked u from stamp) h = inl h
-step_closed s _ tx (reminds m ms g c) h = inl h
-step_closed s _ tx (flushes k g c) h = inl h
+step_closed s _ tx _ h = inl h
 
 -- ---- a COMMIT
 
@@ -175,25 +148,12 @@ closing_commits log u tx home true false us c = inl (with_more log (PrepareRecor
 pub step_commits : (s t : Shard) {e : Event} {o : Outcome} (tx : TxId) → Step s e o t → committed_in t.local.log tx ≡ true → (committed_in s.local.log tx ≡ true) ⊎ Commits s tx e o
 step_commits s _ tx (op_dies u birth nth seen op cause l g) h = inl (dying_commits s.shard s.local l u birth seen op cause g tx h)
 step_commits s _ tx (op_answers u birth nth seen op answer l g) h = inl (answering_commits s.shard s.local l u birth seen op answer g tx h)
-step_commits s _ tx (request_refused u ts cause g) h = inl h
-step_commits s _ tx (request_doomed u ts doom g) h = inl h
-step_commits s _ tx (request_again u ts f0 g) h = inl h
-step_commits s _ tx (request_new u ts f0 g) h = inl h
 step_commits s _ tx (request_closes u ts f0 g) h =
     ⊎_elim (λ x. inl x) (λ x. inr (subst (λ v. Commits s v (RequestEvent u ts) Asked) (sym x.0) (alone ts x.1 x.2)))
     (closing_commits s.local.log u tx s.shard (wrote_in s.local.log u) (is_alone (others s.shard ts)) (undecided_of s.local u) h)
-step_commits s _ tx (looks_well u g) h = inl h
-step_commits s _ tx (looks_ill u cause d g) h = inl h
 step_commits s _ tx (drops u stage g) h = inl (dropped_commits u s.local tx h)
-step_commits s _ tx (sends m ms g) h = inl h
 step_commits s _ tx (prepare_closes u home seen stamp g) h =
     ⊎_elim (λ x. inl x) (λ x. absurd (both_ways false refl x.1)) (closing_commits s.local.log u tx home (wrote_in s.local.log u) false (undecided_of s.local u) h)
-step_commits s _ tx (prepare_again u home seen stamp g) h = inl h
-step_commits s _ tx (vote_counts u from vote stamp q g c) h = inl h
 step_commits s _ tx (decision_comes u home true stamp g) h = ⊎_elim (λ x. inl x) (λ x. inr (subst (λ v. Commits s v (Deliver (Decide s.shard u home true) stamp) Taken) (sym x) (decided home stamp))) (new_commit s.local.log u [] tx h)
 step_commits s _ tx (decision_comes u home false stamp g) h = inl (rolled_commits u s.local tx h)
-step_commits s _ tx (decision_again u home commit stamp g) h = inl h
-step_commits s _ tx (done_counts u from stamp q g c) h = inl h
-step_commits s _ tx (asked u from stamp) h = inl h
-step_commits s _ tx (reminds m ms g c) h = inl h
-step_commits s _ tx (flushes k g c) h = inl h
+step_commits s _ tx _ h = inl h

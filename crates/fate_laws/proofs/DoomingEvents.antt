@@ -42,7 +42,7 @@ use Rattle.law_base.proofs.Stages.{stage_marked}
 use Rattle.law_base.proofs.Stages.{other_part}
 use Rattle.shard_laws.proofs.Restoring.{restored_stage}
 use Rattle.session_laws.proofs.Replying.{OpIs, dies, rolls, performs, reply_is}
-use Rattle.history_cases.proofs.Stepping.{settled, Step, op_dies, op_answers, request_refused, request_doomed, request_again, request_new, request_closes, looks_well, looks_ill, drops, sends, prepare_closes, prepare_again, vote_counts, decision_comes, decision_again, done_counts, asked, reminds, flushes, Happens, finishes, stops}
+use Rattle.history_cases.proofs.Stepping.{settled, Step, op_dies, op_answers, request_new, request_closes, drops, prepare_closes, vote_counts, decision_comes, done_counts, Happens, finishes, stops}
 use Rattle.history_cases.proofs.Entering.{Makes, by_event, by_flush, by_failure, by_restart}
 use Rattle.fate_laws.proofs.HomesEvents.{awaits, put_get, counts_undecided}
 use Rattle.fate_laws.proofs.Closings.{Commits, alone, decided, step_commits, new_active}
@@ -117,25 +117,11 @@ close_gone s u v d a p h = at (tx_same u v) refl
 safe_step : (s t : Shard) {e : Event} {o : Outcome} → Step s e o t → Owes s e → Kept s → GoneSafe s t
 safe_step s _ (op_dies u birth nth seen op cause l g) w p v d h = dies_gone s u birth seen op cause l (reply_is s.shard s.local u birth seen op _ g) w p v d h
 safe_step s _ (op_answers u birth nth seen op answer l g) w p v d h = answers_gone s u birth seen op answer l (reply_is s.shard s.local u birth seen op _ g) p v d h
-safe_step s _ (request_refused u ts cause g) w p v d h = p.gone v d h
-safe_step s _ (request_doomed u ts doom g) w p v d h = p.gone v d h
-safe_step s _ (request_again u ts f0 g) w p v d h = p.gone v d h
-safe_step s _ (request_new u ts f0 g) w p v d h = p.gone v d h
 safe_step s _ (request_closes u ts f0 g) w p v d h = close_gone s u v d g p h
-safe_step s _ (looks_well u g) w p v d h = p.gone v d h
-safe_step s _ (looks_ill u cause x g) w p v d h = p.gone v d h
 safe_step s _ (drops u stage g) w p v d h = without_gone s u v d (is_present (stage_of s.local u)) w p (sym (stage_marked u v (rolled_back_if (is_present (stage_of s.local u)) u s.local).parts) ∙ h)
-safe_step s _ (sends m ms g) w p v d h = p.gone v d h
 safe_step s _ (prepare_closes u home seen stamp g) w p v d h = close_gone s u v d g p h
-safe_step s _ (prepare_again u home seen stamp g) w p v d h = p.gone v d h
-safe_step s _ (vote_counts u from vote stamp q g c) w p v d h = p.gone v d h
-safe_step s _ (decision_comes u home true stamp g) w p v d h = p.gone v d h
 safe_step s _ (decision_comes u home false stamp g) w p v d h = rolled_safe s u v d (awaits s u false g) p h
-safe_step s _ (decision_again u home commit stamp g) w p v d h = p.gone v d h
-safe_step s _ (done_counts u from stamp q g c) w p v d h = p.gone v d h
-safe_step s _ (asked u from stamp) w p v d h = p.gone v d h
-safe_step s _ (reminds m ms g c) w p v d h = p.gone v d h
-safe_step s _ (flushes k g c) w p v d h = p.gone v d h
+safe_step s _ _ w p v d h = p.gone v d h
 
 -- a request, or word of a commit
 abbrev commit_kind : Event → Bool
@@ -169,28 +155,15 @@ closed_not_gone o d e f = differ (sym e ∙ f)
 commit_stage : (s t : Shard) {e : Event} {o : Outcome} (v d : TxId) → Step s e o t → Commits s v e o → stage_of t.local v ≡ Some (Gone (Some d)) → committed_in s.local.log v ≡ false → committed_in t.local.log v ≡ true → ⊥
 commit_stage s t v d (op_dies tx birth nth seen op cause l g) z h o c = no_commits s refl v z
 commit_stage s t v d (op_answers tx birth nth seen op answer l g) z h o c = no_commits s refl v z
-commit_stage s t v d (request_refused tx touched cause g) z h o c = both_ways _ o c
-commit_stage s t v d (request_doomed tx touched doom g) z h o c = both_ways _ o c
-commit_stage s t v d (request_again tx touched f0 g) z h o c = both_ways _ o c
-commit_stage s t v d (request_new tx touched f0 g) z h o c = both_ways _ o c
 commit_stage s t v d (request_closes u ts f0 g) z h o c =
     closed_not_gone (stage_in (closed_in u s.local.parts) u) d (stage_closed s.local.parts u g) (subst (λ x. stage_in (closed_in u s.local.parts) x ≡ Some (Gone (Some d))) (whose_request s v u ts z refl) h)
-commit_stage s t v d (looks_well tx g) z h o c = both_ways _ o c
-commit_stage s t v d (looks_ill tx cause x g) z h o c = both_ways _ o c
 commit_stage s t v d (drops tx stage g) z h o c = no_commits s refl v z
-commit_stage s t v d (sends m ms g) z h o c = both_ways _ o c
 commit_stage s t v d (prepare_closes tx home seen stamp g) z h o c = no_commits s refl v z
-commit_stage s t v d (prepare_again tx home seen stamp g) z h o c = both_ways _ o c
-commit_stage s t v d (vote_counts tx from vote stamp q g k) z h o c = both_ways _ o c
 commit_stage s t v d (decision_comes u home true stamp g) z h o c =
     closed_not_gone (stage_of s.local u) d (taken_closed s u (is_waiting (facts_of s u)) (true && has_durable_commit (facts_of s u)) refl g)
     (subst (λ x. stage_of s.local x ≡ Some (Gone (Some d))) (whose_decision s v u s.shard home stamp z refl) h)
 commit_stage s t v d (decision_comes u home false stamp g) z h o c = no_commits s refl v z
-commit_stage s t v d (decision_again u home commit stamp g) z h o c = both_ways _ o c
-commit_stage s t v d (done_counts tx from stamp q g k) z h o c = both_ways _ o c
-commit_stage s t v d (asked tx from stamp) z h o c = both_ways _ o c
-commit_stage s t v d (reminds m ms g k) z h o c = both_ways _ o c
-commit_stage s t v d (flushes k g x) z h o c = both_ways _ o c
+commit_stage s t v d _ z h o c = both_ways _ o c
 
 gone_step : (s t : Shard) {e : Event} {o : Outcome} → Step s e o t → Owes s e → Kept s → (v d : TxId) → stage_of t.local v ≡ Some (Gone (Some d)) → committed_in t.local.log v ≡ false
 gone_step s t h w p v d g =
@@ -256,25 +229,15 @@ decided_rows s t u k n p v q g = by_name (tx_same v u) refl
 rows_step : (s t : Shard) {e : Event} {o : Outcome} → Step s e o t → Owes s e → Kept s → Rows s t.requests t.local.log
 rows_step s t (op_dies u birth nth seen op cause l g) w p = plain_rows s t (op_dies u birth nth seen op cause l g) (no_commits s refl) p
 rows_step s t (op_answers u birth nth seen op answer l g) w p = plain_rows s t (op_answers u birth nth seen op answer l g) (no_commits s refl) p
-rows_step s t (request_refused u ts cause g) w p = p.rows
-rows_step s t (request_doomed u ts doom g) w p = p.rows
-rows_step s t (request_again u ts f0 g) w p = p.rows
 rows_step s t (request_new u ts f0 g) w p = put_rows s t u ts (λ v c. inl c) p
 rows_step s t (request_closes u ts f0 g) w p = put_rows s t u ts (λ v c. request_commits s t u v ts (request_closes u ts f0 g) refl c) p
-rows_step s t (looks_well u g) w p = p.rows
-rows_step s t (looks_ill u cause d g) w p = p.rows
 rows_step s t (drops u stage g) w p = plain_rows s t (drops u stage g) (no_commits s refl) p
-rows_step s t (sends m ms g) w p = p.rows
 rows_step s t (prepare_closes u home seen stamp g) w p = plain_rows s t (prepare_closes u home seen stamp g) (no_commits s refl) p
-rows_step s t (prepare_again u home seen stamp g) w p = p.rows
 rows_step s t (vote_counts u from vote stamp q g c) w p = set_row s u (with_vote_of from vote q) (voted_keeps s u q from vote (counts_undecided s.shard from q q.state c) (w q g c)) p
 rows_step s t (decision_comes u home true stamp g) w p = decided_rows s t u (λ v c. new_commit s.local.log u [] v c) (w (awaits s u true g)) p
 rows_step s t (decision_comes u home false stamp g) w p = plain_rows s t (decision_comes u home false stamp g) (no_commits s refl) p
-rows_step s t (decision_again u home commit stamp g) w p = p.rows
 rows_step s t (done_counts u from stamp q g c) w p = set_row s u (with_done_of from q) (done_keeps s.local.log u q from q.state (p.rows u q g)) p
-rows_step s t (asked u from stamp) w p = p.rows
-rows_step s t (reminds m ms g c) w p = p.rows
-rows_step s t (flushes k g c) w p = p.rows
+rows_step s t _ w p = p.rows
 
 -- ---- each entry
 

@@ -30,7 +30,7 @@ use Rattle.clv_base.specs.Journals.{up_to_restart}
 use Rattle.law_base.proofs.Rows.{rows_get, rows_put}
 use Rattle.law_base.proofs.Lists.{all_mono, all_append, all_of}
 use Rattle.law_base.proofs.Sets.{in_filter}
-use Rattle.history_cases.proofs.Stepping.{Step, op_dies, op_answers, request_refused, request_doomed, request_again, request_new, request_closes, looks_well, looks_ill, drops, sends, prepare_closes, prepare_again, vote_counts, decision_comes, decision_again, done_counts, asked, reminds, flushes, Happens, finishes, stops}
+use Rattle.history_cases.proofs.Stepping.{Step, op_dies, op_answers, request_new, request_closes, drops, sends, prepare_closes, prepare_again, vote_counts, decision_comes, decision_again, done_counts, asked, reminds, flushes, Happens, finishes, stops}
 use Rattle.history_cases.proofs.Entering.{Makes, by_event, by_flush, by_failure, by_restart}
 use Rattle.history_cases.proofs.Uncommitting.{rolled, dropped, op_dying, op_answering, restarts_add, opening_adds}
 use Rattle.history_cases.proofs.Telling.{all_map}
@@ -145,14 +145,9 @@ module _ (R O : TxId → Type 0) (H : ℕ → TxId → Type 0) where
   elder_step : (s t : Shard) {e : Event} {o : Outcome} → ((u : TxId) → H s.shard u → committed_in s.local.log u ≡ true) → Step s e o t → Owes R O H e → Elder R O H s → Elder R O H t
   elder_step s _ found (op_dies tx birth nth seen op cause l g) w p = elder_log R O H s l (op_dying s.shard s.local l tx birth seen op cause g) (dying_prepares s.shard s.local l tx birth seen op cause g) p
   elder_step s _ found (op_answers tx birth nth seen op answer l g) w p = elder_log R O H s l (op_answering s.shard s.local l tx birth seen op answer g) (answering_prepares s.shard s.local l tx birth seen op answer g) p
-  elder_step s _ found (request_refused tx ts cause g) w p = p
-  elder_step s _ found (request_doomed tx ts doom g) w p = p
-  elder_step s _ found (request_again tx ts f0 g) w p = p
   elder_step s _ found (request_new tx ts f0 g) w p = elder_coordinate s tx ts w p
   elder_step s _ found (request_closes tx ts f0 g) w p =
       let one = is_alone (others s.shard ts) in elder_coordinate (with_local (close_part tx s.shard one) s) tx ts w (elder_close s tx s.shard one w p)
-  elder_step s _ found (looks_well tx g) w p = p
-  elder_step s _ found (looks_ill tx cause d g) w p = p
   elder_step s _ found (drops tx stage g) w p = elder_log R O H s (drop_part tx s.local) (dropped tx s.local) (dropped_prepares tx s.local) p
   elder_step s _ found (sends m ms g) w p = elder_outbox s m ms g p
   elder_step s _ found (prepare_closes tx home seen stamp g) w p = elder_owe (with_local (close_part tx home false) s) tx home seen w (elder_close s tx home false w p)
@@ -166,6 +161,7 @@ module _ (R O : TxId → Type 0) (H : ℕ → TxId → Type 0) where
       (answer_told s tx from (has_durable_commit (facts_of s tx)) (is_some (commit_lsn s.local.log tx)) (stands_open (tx_get tx s.requests)) refl (λ d. elder_durable R O H s tx d p) w (found tx)) p
   elder_step s _ found (reminds m ms g c) w p = elder_send R O H s (m ∷ ms) (subst (AllByRecursion (Tells R O H)) c (reminders_told s p)) p
   elder_step s _ found (flushes n g c) w p = record { log = p.log; prepares = p.prepares; voters = p.voters; rows = p.rows; out = p.out }
+  elder_step s _ found _ w p = p
 
   -- ---- a restart, and an opening
 

@@ -38,7 +38,7 @@ use Rattle.law_base.proofs.Lists.{all_mono, all_append, all_of}
 use Rattle.shard_laws.proofs.Sound.{waiting_here}
 use Rattle.shard_laws.proofs.Ordered.{prepare_some}
 use Rattle.law_base.proofs.Sets.{in_filter}
-use Rattle.history_cases.proofs.Stepping.{Step, op_dies, op_answers, request_refused, request_doomed, request_again, request_new, request_closes, looks_well, looks_ill, drops, sends, prepare_closes, prepare_again, vote_counts, decision_comes, decision_again, done_counts, asked, reminds, flushes}
+use Rattle.history_cases.proofs.Stepping.{Step, op_dies, op_answers, request_new, request_closes, drops, sends, prepare_closes, prepare_again, vote_counts, decision_comes, decision_again, done_counts, asked, reminds, flushes}
 use Rattle.history_cases.proofs.Uncommitting.{with_more, rolled, dropped, op_dying, op_answering, restarts_add, opening_adds}
 use Rattle.history_cases.proofs.Telling.{all_map}
 use Rattle.history_cases.proofs.TellingEvents.{front_committed}
@@ -281,17 +281,12 @@ homed_outbox run A Z K D s m ms e p =
 pub homed_step : (run : ℕ) (A Z : TxId → ℕ → Type 0) (K : ℕ → TxId → Type 0) (D : TxId → Type 0) (s t : Shard) {e : Event} {o : Outcome} → ((u : TxId) (n : ℕ) → Z u n → A u n) → Now K s → Step s e o t → Owes run A Z K s e o → Homed run A Z K D s → Homed run A Z K D t
 homed_step run A Z K D s _ za now (op_dies tx birth nth seen op cause l g) w p = homed_log run A Z K D s l (op_dying s.shard s.local l tx birth seen op cause g) (dying_prepares s.shard s.local l tx birth seen op cause g) p
 homed_step run A Z K D s _ za now (op_answers tx birth nth seen op answer l g) w p = homed_log run A Z K D s l (op_answering s.shard s.local l tx birth seen op answer g) (answering_prepares s.shard s.local l tx birth seen op answer g) p
-homed_step run A Z K D s _ za now (request_refused tx ts cause g) w p = p
-homed_step run A Z K D s _ za now (request_doomed tx ts doom g) w p = p
-homed_step run A Z K D s _ za now (request_again tx ts f0 g) w p = p
 homed_step run A Z K D s _ za now (request_new tx ts f0 g) w p = homed_coordinate run A Z K D s tx ts (λ r. (w r).here) (λ r c. absurd (both_ways _ (w r).uncommitted c)) (λ r. (w r).untold) p
 homed_step run A Z K D s _ za now (request_closes tx ts f0 g) w p =
     let one = is_alone (others s.shard ts) in
     homed_coordinate run A Z K D (with_local (close_part tx s.shard one) s) tx ts (λ r. (w r).here)
     (λ r c. alone_none (others s.shard ts) (closing_commit s.local.log (wrote_in s.local.log tx) one tx s.shard (undecided_of s.local tx) (w r).uncommitted c)) (λ r. (w r).untold)
     (homed_close run A Z K D s tx s.shard one (λ r. (w r).here) (λ q. w) p)
-homed_step run A Z K D s _ za now (looks_well tx g) w p = p
-homed_step run A Z K D s _ za now (looks_ill tx cause d g) w p = p
 homed_step run A Z K D s _ za now (drops tx stage g) w p = homed_log run A Z K D s (drop_part tx s.local) (dropped tx s.local) (dropped_prepares tx s.local) p
 homed_step run A Z K D s _ za now (sends m ms g) w p = homed_outbox run A Z K D s m ms g p
 homed_step run A Z K D s _ za now (prepare_closes tx home seen stamp g) w p =
@@ -311,6 +306,7 @@ homed_step run A Z K D s _ za now (asked tx from stamp) w p =
 homed_step run A Z K D s _ za now (reminds m ms g c) w p = homed_send run A Z K D s (m ∷ ms) (subst (AllByRecursion (Tells run A Z K s)) c (reminders_told run A Z K D s now p)) p
 homed_step run A Z K D s _ za now (flushes n g c) w p =
     record { log = p.log; prepares = p.prepares; voters = p.voters; requests = p.requests; rows = p.rows; words = words_on run A Z K D s _ refl refl (λ u r z d. d) p.words }
+homed_step run A Z K D s _ za now _ w p = p
 
 -- ---- a restart
 

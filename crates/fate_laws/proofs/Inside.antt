@@ -27,7 +27,7 @@ use Rattle.law_base.proofs.Commits.{place_keeps, place_some, commit_durable, dur
 use Rattle.protocol_laws.specs.Growth.{IsPrefixOf}
 use Rattle.protocol_laws.proofs.Growing.{same, more, more_twice, chain}
 use Rattle.protocol_laws.proofs.GrowingEvents.{writes, rolled_if}
-use Rattle.history_cases.proofs.Stepping.{commits, votes, rules, KeptByDue, Step, op_dies, op_answers, request_refused, request_doomed, request_again, request_new, request_closes, looks_well, looks_ill, drops, sends, prepare_closes, prepare_again, vote_counts, decision_comes, decision_again, done_counts, asked, reminds, flushes}
+use Rattle.history_cases.proofs.Stepping.{commits, votes, rules, KeptByDue, Step, op_dies, op_answers, request_refused, request_doomed, request_again, request_closes, looks_well, looks_ill, drops, prepare_closes, decision_comes}
 use Rattle.session_laws.proofs.Replying.{OpIs, dies, rolls, performs, reply_is}
 
 pub record Inside (s t : Shard) : Type 0 where
@@ -114,19 +114,11 @@ inside_step s _ (op_answers tx birth nth seen op answer l h) = record { shard = 
 inside_step s _ (request_refused tx ts cause h) = inside_self s
 inside_step s _ (request_doomed tx ts doom h) = inside_self s
 inside_step s _ (request_again tx ts f0 h) = inside_self s
-inside_step s _ (request_new tx ts f0 h) = record { shard = refl; durable = refl; log = same s.local.log }
 inside_step s _ (request_closes tx ts f0 h) = record { shard = refl; durable = refl; log = more s.local.log _ }
 inside_step s _ (looks_well tx h) = inside_self s
 inside_step s _ (looks_ill tx cause d h) = inside_self s
 inside_step s _ (drops tx stage h) = record { shard = refl; durable = refl; log = rolled_if s.local tx (is_present (stage_of s.local tx)) }
-inside_step s _ (sends m ms h) = record { shard = refl; durable = refl; log = same s.local.log }
 inside_step s _ (prepare_closes tx home seen stamp h) = record { shard = refl; durable = refl; log = more s.local.log _ }
-inside_step s _ (prepare_again tx home seen stamp h) = record { shard = refl; durable = refl; log = same s.local.log }
-inside_step s _ (vote_counts tx from vote stamp q g h) = record { shard = refl; durable = refl; log = same s.local.log }
 inside_step s _ (decision_comes tx home true stamp h) = record { shard = refl; durable = refl; log = more s.local.log _ }
 inside_step s _ (decision_comes tx home false stamp h) = record { shard = refl; durable = refl; log = more_twice s.local.log _ _ }
-inside_step s _ (decision_again tx home commit stamp h) = record { shard = refl; durable = refl; log = same s.local.log }
-inside_step s _ (done_counts tx from stamp q g h) = record { shard = refl; durable = refl; log = same s.local.log }
-inside_step s _ (asked tx from stamp) = record { shard = refl; durable = refl; log = same s.local.log }
-inside_step s _ (reminds m ms g h) = record { shard = refl; durable = refl; log = same s.local.log }
-inside_step s _ (flushes k g h) = record { shard = refl; durable = refl; log = same s.local.log }
+inside_step s _ _ = record { shard = refl; durable = refl; log = same s.local.log }

@@ -39,7 +39,7 @@ use Rattle.law_base.proofs.Tables.{is_pair, stage_in}
 use Rattle.law_base.proofs.Lists.{all_mono, all_append, all_of}
 use Rattle.law_base.proofs.Stages.{stage_own, gone_by}
 use Rattle.law_base.proofs.Sets.{in_filter}
-use Rattle.history_cases.proofs.Stepping.{Due, commits, votes, rules, KeptByDue, settled, Step, op_dies, op_answers, request_refused, request_doomed, request_again, request_new, request_closes, looks_well, looks_ill, drops, sends, prepare_closes, prepare_again, vote_counts, decision_comes, decision_again, done_counts, asked, reminds as reminds_step, flushes}
+use Rattle.history_cases.proofs.Stepping.{Due, commits, votes, rules, KeptByDue, settled, Step, request_new, request_closes, sends, prepare_closes, prepare_again, vote_counts, decision_comes, decision_again, done_counts, asked, reminds as reminds_step}
 use Rattle.history_cases.proofs.Telling.{all_map}
 use Rattle.protocol_laws.proofs.Growing.{same as same_log}
 use Rattle.history_cases.proofs.Uncommitting.{with_more, rolled}
@@ -113,16 +113,8 @@ pub data Tables (s t : Shard) : Event → Outcome → Type 0 where
   reminds : {e : Event} {o : Outcome} → t.requests ≡ s.requests → t.voters ≡ s.voters → t.outbox ≡ s.outbox ++ reminders s → Tables s t e o
 
 pub step_tables : (s t : Shard) {e : Event} {o : Outcome} → Step s e o t → Tables s t e o
-step_tables s _ (op_dies u birth nth seen op cause l g) = same refl refl refl
-step_tables s _ (op_answers u birth nth seen op answer l g) = same refl refl refl
-step_tables s _ (request_refused u ts cause g) = same refl refl refl
-step_tables s _ (request_doomed u ts doom g) = same refl refl refl
-step_tables s _ (request_again u ts f0 g) = same refl refl refl
 step_tables s _ (request_new u ts f0 g) = coordinates u ts refl refl refl
 step_tables s _ (request_closes u ts f0 g) = coordinates u ts refl refl refl
-step_tables s _ (looks_well u g) = same refl refl refl
-step_tables s _ (looks_ill u cause d g) = same refl refl refl
-step_tables s _ (drops u stage g) = same refl refl refl
 step_tables s _ (sends m ms g) = sent m ms g refl refl refl
 step_tables s _ (prepare_closes u home seen stamp g) = owes u home seen stamp refl refl refl
 step_tables s _ (prepare_again u home seen stamp g) = owes u home seen stamp refl refl refl
@@ -133,7 +125,7 @@ step_tables s _ (decision_again u home commit stamp g) = again home u refl refl 
 step_tables s _ (done_counts u from stamp q g c) = done u from q g c refl refl refl
 step_tables s _ (asked u from stamp) = answers u from refl refl refl
 step_tables s _ (reminds_step m ms g c) = reminds refl refl (ap (λ l. s.outbox ++ l) (sym c))
-step_tables s _ (flushes k g c) = same refl refl refl
+step_tables s _ _ = same refl refl refl
 
 -- ---- the tables of requests and voters
 

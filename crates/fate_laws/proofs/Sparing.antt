@@ -9,7 +9,7 @@ use Rattle.clv_base.specs.declared.state.Request.{Request}
 use Rattle.clv_base.specs.declared.state.RequestState.{RequestState}
 use Rattle.clv_base.specs.declared.state.RequestState.TheVariants.{Undecided, Committed, Finished, Refused}
 use Rattle.clv_base.specs.declared.events.Event.{Event}
-use Rattle.clv_base.specs.declared.events.Event.TheVariants.{Op as OpEvent, Request as RequestEvent, Look, Drop, Send, Deliver, Remind, FlushOut, FlushIn, Stop, Restart}
+use Rattle.clv_base.specs.declared.events.Event.TheVariants.{Op as OpEvent, Request as RequestEvent, Look, Drop, Deliver}
 use Rattle.clv_base.specs.declared.events.Outcome.{Outcome}
 use Rattle.clv_base.specs.declared.events.Outcome.TheVariants.{Asked, Aborted, Dead as DeadOutcome, Dropped}
 use Rattle.clv_base.specs.declared.events.Entry.{Entry}
@@ -180,16 +180,7 @@ request_entry shard t (r ∷ rs) n e = at (cond (is_asked_outcome r.outcome) (en
         by_name : (b : Bool) → tx_same t u ≡ b → cond b (epoch_in shard ts) None ≡ Some m → (us : List (ℕ × ℕ)) × (RequestEvent u ts ≡ RequestEvent t us)
         by_name true f g = (ts, ap (λ z. RequestEvent z ts) (sym (tx_true t u f)))
         by_name false f g = absurd (none_some m g)
-    in_request (OpEvent u birth nth seen op) m q = absurd (none_some m q)
-    in_request (Look u) m q = absurd (none_some m q)
-    in_request (Drop u) m q = absurd (none_some m q)
-    in_request Send m q = absurd (none_some m q)
-    in_request (Deliver x stamp) m q = absurd (none_some m q)
-    in_request Remind m q = absurd (none_some m q)
-    in_request FlushOut m q = absurd (none_some m q)
-    in_request FlushIn m q = absurd (none_some m q)
-    in_request Stop m q = absurd (none_some m q)
-    in_request Restart m q = absurd (none_some m q)
+    in_request _ m q = absurd (none_some m q)
 
     was_asked : (o : Outcome) → is_asked_outcome o ≡ true → o ≡ Asked
     was_asked Asked q = refl

@@ -22,7 +22,7 @@ use Rattle.clv_base.specs.Journals.{up_to_restart, event_state, after_entry, aft
 use Rattle.protocol_laws.specs.Growth.{IsPrefixOf}
 use Rattle.protocol_laws.proofs.Growing.{same, more, chain, grows_settled}
 use Rattle.protocol_laws.proofs.GrowingEvents.{log_only_grows}
-use Rattle.history_cases.proofs.Stepping.{commits, votes, rules, KeptByDue, settled, Step, op_dies, op_answers, request_refused, request_doomed, request_again, request_new, request_closes, looks_well, looks_ill, drops, sends, prepare_closes, prepare_again, vote_counts, decision_comes, decision_again, done_counts, asked, reminds, flushes, Happens, finishes, stops}
+use Rattle.history_cases.proofs.Stepping.{commits, votes, rules, KeptByDue, settled, Step, decision_comes, flushes, Happens, finishes, stops}
 use Rattle.history_cases.proofs.Entering.{Makes, by_event, by_flush, by_failure, by_restart, makes}
 use Rattle.law_base.proofs.Logs.{few_fit as fitting_length}
 
@@ -82,27 +82,10 @@ plain : (s t : Shard) → t.shard ≡ s.shard → t.run ≡ s.run → t.durable 
 plain s t a b c d e f = record { shard = a; run = b; durable = c; last = d; journal = e; flight = as_it_was f }
 
 pub steps : (s t : Shard) {e : Event} {o : Outcome} → Step s e o t → Stepped s t
-steps s t (op_dies tx birth nth seen op cause l h) = plain _ _ refl refl refl refl refl refl
-steps s t (op_answers tx birth nth seen op answer l h) = plain _ _ refl refl refl refl refl refl
-steps s t (request_refused tx ts cause h) = plain _ _ refl refl refl refl refl refl
-steps s t (request_doomed tx ts doom h) = plain _ _ refl refl refl refl refl refl
-steps s t (request_again tx ts f0 h) = plain _ _ refl refl refl refl refl refl
-steps s t (request_new tx ts f0 h) = plain _ _ refl refl refl refl refl refl
-steps s t (request_closes tx ts f0 h) = plain _ _ refl refl refl refl refl refl
-steps s t (looks_well tx h) = plain _ _ refl refl refl refl refl refl
-steps s t (looks_ill tx cause d h) = plain _ _ refl refl refl refl refl refl
-steps s t (drops tx stage h) = plain _ _ refl refl refl refl refl refl
-steps s t (sends m ms h) = plain _ _ refl refl refl refl refl refl
-steps s t (prepare_closes tx home seen stamp h) = plain _ _ refl refl refl refl refl refl
-steps s t (prepare_again tx home seen stamp h) = plain _ _ refl refl refl refl refl refl
-steps s t (vote_counts tx from vote stamp q g h) = plain _ _ refl refl refl refl refl refl
 steps s t (decision_comes tx home true stamp h) = plain _ _ refl refl refl refl refl refl
 steps s t (decision_comes tx home false stamp h) = plain _ _ refl refl refl refl refl refl
-steps s t (decision_again tx home commit stamp h) = plain _ _ refl refl refl refl refl refl
-steps s t (done_counts tx from stamp q g h) = plain _ _ refl refl refl refl refl refl
-steps s t (asked tx from stamp) = plain _ _ refl refl refl refl refl refl
-steps s t (reminds m ms g h) = plain _ _ refl refl refl refl refl refl
 steps s t (flushes k g h) = record { shard = refl; run = refl; durable = refl; last = refl; journal = refl; flight = begun k g h refl }
+steps s t _ = plain _ _ refl refl refl refl refl refl
 
 flight_on : (s t u : Shard) → FlightIs s t → u.flight ≡ t.flight → FlightIs s u
 flight_on s t u (as_it_was e) f = as_it_was (f ∙ e)

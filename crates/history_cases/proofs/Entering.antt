@@ -2,7 +2,7 @@
 use Rattle.std.proofs.Common.{◌≡◌, refl, sym, subst, ℕ, true, false, Bool, List, [], ◌∷◌, ◌++◌, Some}
 use Rattle.clv_base.specs.declared.logs.LogRecord.{LogRecord}
 use Rattle.clv_base.specs.declared.events.Event.{Event}
-use Rattle.clv_base.specs.declared.events.Event.TheVariants.{Op, Request, Look, Drop, Send, Deliver, Remind, FlushOut, FlushIn, Stop, Restart}
+use Rattle.clv_base.specs.declared.events.Event.TheVariants.{Op, FlushIn, Restart}
 use Rattle.clv_base.specs.declared.events.Outcome.{Outcome}
 use Rattle.clv_base.specs.declared.events.Outcome.TheVariants.{Durable, Failed, Up}
 use Rattle.clv_base.specs.declared.events.Entry.{Entry}
@@ -37,14 +37,7 @@ pub makes : (log : List LogRecord) (s : Shard) (e : Event) (o : Outcome) → Eve
 makes log s FlushIn o m = flushes log s o m.0 m.1
 makes log s Restart o m = restarts log s o m.0 m.1
 makes log s (Op tx birth nth seen op) o m = of_event log s _ _ o m.1.1
-makes log s (Request tx ts) o m = of_event log s _ _ o m.1
-makes log s (Look tx) o m = of_event log s _ _ o m.1
-makes log s (Drop tx) o m = of_event log s _ _ o m.1
-makes log s Send o m = of_event log s _ _ o m.1
-makes log s (Deliver x stamp) o m = of_event log s _ _ o m.1
-makes log s Remind o m = of_event log s _ _ o m.1
-makes log s FlushOut o m = of_event log s _ _ o m.1
-makes log s Stop o m = of_event log s _ _ o m.1
+makes log s _ o m = of_event log s _ _ o m.1
 
 -- ---- journals in two parts
 

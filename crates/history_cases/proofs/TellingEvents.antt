@@ -35,7 +35,7 @@ use Rattle.clv_base.specs.Journals.{History, after_entry, event_state, up_to_res
 use Rattle.law_base.proofs.Rows.{rows_get, rows_put}
 use Rattle.law_base.proofs.Sets.{in_filter}
 use Rattle.law_base.proofs.Lists.{all_mono, all_append, all_of}
-use Rattle.history_cases.proofs.Stepping.{Step, op_dies, op_answers, request_refused, request_doomed, request_again, request_new, request_closes, looks_well, looks_ill, drops, sends, prepare_closes, prepare_again, vote_counts, decision_comes, decision_again, done_counts, asked, reminds, flushes, Happens, finishes, stops, FindsWell}
+use Rattle.history_cases.proofs.Stepping.{Step, op_dies, op_answers, request_new, request_closes, looks_well, drops, sends, prepare_closes, prepare_again, vote_counts, decision_comes, decision_again, done_counts, asked, reminds, flushes, Happens, finishes, stops, FindsWell}
 use Rattle.history_cases.proofs.Entering.{Makes, by_event, by_flush, by_failure, by_restart, makes}
 use Rattle.history_cases.proofs.Merging.{Among}
 use Rattle.history_cases.proofs.Uncommitting.{NoMoreCommits, with_more, rolled, dropped, op_dying, op_answering, restarts_add, opening_adds}
@@ -202,16 +202,11 @@ told_outbox h run bound s m ms e p = record { out = (subst (AllByRecursion (Tell
 pub told_step : (h : History) (run : ℕ) (s t : Shard) (x : Entry) {e : Event} {o : Outcome} → Step s e o t → Here h s x e o → Brings h run e → Told h run (suc x.stamp) s → Told h run (suc x.stamp) t
 told_step h run s t x (op_dies tx birth nth seen op cause l g) k b p = told_log h run _ s l (op_dying s.shard s.local l tx birth seen op cause g) p
 told_step h run s t x (op_answers tx birth nth seen op answer l g) k b p = told_log h run _ s l (op_answering s.shard s.local l tx birth seen op answer g) p
-told_step h run s t x (request_refused tx ts cause g) k b p = p
-told_step h run s t x (request_doomed tx ts doom g) k b p = p
-told_step h run s t x (request_again tx ts f0 g) k b p = p
 told_step h run s t x (request_new tx ts f0 g) k b p = told_coordinate h run s x tx ts k p
 told_step h run s t x (request_closes tx ts f0 g) k b p =
     let u = with_local (close_part tx s.shard (is_alone (others s.shard ts))) s in
     told_coordinate h run u x tx ts (record { among = k.among; event = k.event; outcome = k.outcome; later = k.later; above = k.above })
     (told_close h run (suc x.stamp) s tx s.shard (is_alone (others s.shard ts)) (alone_voted h s x tx ts (others s.shard ts) refl k) p)
-told_step h run s t x (looks_well tx g) k b p = p
-told_step h run s t x (looks_ill tx cause d g) k b p = p
 told_step h run s t x (drops tx stage g) k b p = told_log h run _ s (drop_part tx s.local) (dropped tx s.local) p
 told_step h run s t x (sends m ms g) k b p = told_outbox h run _ s m ms g p
 told_step h run s t x (prepare_closes tx home seen stamp g) k b p =
@@ -233,6 +228,7 @@ told_step h run s t x (asked tx from stamp) k b p =
     (answer_told h run (suc x.stamp) s tx from (tx_get tx s.requests) (facts_of s tx) (has_durable_commit (facts_of s tx)) _ refl (λ d. durable_voted h run (suc x.stamp) s tx d p)) p
 told_step h run s t x (reminds m ms g c) k b p = told_send h run (suc x.stamp) s (m ∷ ms) (subst (AllByRecursion (Tells h run (suc x.stamp))) c (reminders_told h run (suc x.stamp) s p)) p
 told_step h run s t x (flushes n g c) k b p = record { out = p.out; voters = p.voters; requests = p.requests; log = p.log }
+told_step h run s t x _ k b p = p
 
 -- ---- each entry
 

@@ -38,7 +38,7 @@ use Rattle.clv_base.specs.Restarts.{log_left, revived, opened, unended_in, Resta
 use Rattle.clv_base.specs.Journals.{after_entry, event_state, up_to_restart, MayEnter}
 use Rattle.law_base.proofs.Rows.{rows_get, rows_set, rows_put}
 use Rattle.law_base.proofs.Lists.{all_append, all_of, AreShards}
-use Rattle.history_cases.proofs.Stepping.{commits, votes, rules, KeptByDue, settled, Step, op_dies, op_answers, request_refused, request_doomed, request_again, request_new, request_closes, looks_well, looks_ill, drops, sends, prepare_closes, prepare_again, vote_counts, decision_comes, decision_again, done_counts, asked, reminds, flushes, Happens, finishes, stops}
+use Rattle.history_cases.proofs.Stepping.{commits, votes, rules, KeptByDue, settled, Step, op_dies, op_answers, request_new, request_closes, drops, sends, prepare_closes, prepare_again, vote_counts, decision_comes, decision_again, done_counts, asked, reminds, flushes, Happens, finishes, stops}
 use Rattle.history_cases.proofs.Entering.{Makes, by_event, by_flush, by_failure, by_restart, makes}
 use Rattle.history_cases.proofs.Telling.{all_map}
 use Rattle.history_laws.proofs.Offers.{OffersBy}
@@ -247,14 +247,9 @@ filed_decided splits s tx false p = filed_log splits s _ (rolled_pass splits s.s
 filed_step : (splits : List ℕ) (s t : Shard) {e : Event} {o : Outcome} → Step s e o t → OffersBy splits s.shard e o → BringsNames splits e → Filed splits s → Filed splits t
 filed_step splits s t (op_dies tx birth nth seen op cause l g) k b p = filed_log splits s l (op_leaves splits s.shard s.shard s.local tx birth seen op _ g p.log) p
 filed_step splits s t (op_answers tx birth nth seen op answer l g) k b p = filed_log splits s l (op_leaves splits s.shard s.shard s.local tx birth seen op _ g p.log k) p
-filed_step splits s t (request_refused tx ts cause g) k b p = p
-filed_step splits s t (request_doomed tx ts doom g) k b p = p
-filed_step splits s t (request_again tx ts f g) k b p = p
 filed_step splits s t (request_new tx ts f g) k b p = filed_coordinate splits s tx ts k p
 filed_step splits s t (request_closes tx ts f g) k b p =
     filed_coordinate splits (with_local (close_part tx s.shard (is_alone (others s.shard ts))) s) tx ts k (filed_close splits s tx s.shard (is_alone (others s.shard ts)) p.here p)
-filed_step splits s t (looks_well tx g) k b p = p
-filed_step splits s t (looks_ill tx cause d g) k b p = p
 filed_step splits s t (drops tx stage g) k b p = filed_log splits s _ (dropped_pass splits s.shard tx s.local p.log) p
 filed_step splits s t (sends m ms g) k b p = record { here = p.here; log = p.log; out = (subst (AllByRecursion (Names splits)) g p.out).1; requests = p.requests }
 filed_step splits s t (prepare_closes tx home seen stamp g) k b p =
@@ -267,6 +262,7 @@ filed_step splits s t (done_counts tx from stamp q g c) k b p = filed_set splits
 filed_step splits s t (asked tx from stamp) k b p = filed_send splits s _ (answer_names splits s tx from (ask_answer (tx_get tx s.requests) (facts_of s tx))) p
 filed_step splits s t (reminds m ms g c) k b p = filed_send splits s (m ∷ ms) (subst (AllByRecursion (Names splits)) c (reminders_name splits s p)) p
 filed_step splits s t (flushes n g c) k b p = record { here = p.here; log = p.log; out = p.out; requests = p.requests }
+filed_step splits s t _ k b p = p
 
 -- ---- each entry
 

@@ -13,7 +13,7 @@ use Rattle.clv_base.specs.declared.names.Birth.{Birth}
 use Rattle.clv_base.specs.declared.logs.LogRecord.{LogRecord}
 use Rattle.clv_base.specs.declared.ops.Op.{Op}
 use Rattle.clv_base.specs.declared.events.Event.{Event}
-use Rattle.clv_base.specs.declared.events.Event.TheVariants.{Op as OpEvent, Request as RequestEvent, Look, Drop, Send, Deliver, Remind, FlushOut, FlushIn, Stop, Restart}
+use Rattle.clv_base.specs.declared.events.Event.TheVariants.{Op as OpEvent, Request as RequestEvent, Look, Drop}
 use Rattle.clv_base.specs.declared.events.Outcome.{Outcome}
 use Rattle.clv_base.specs.declared.events.Outcome.TheVariants.{Answered, Dead, Asked, Acknowledged, Aborted}
 use Rattle.clv_base.specs.Orders.{tx_same}
@@ -119,13 +119,7 @@ session_step splits n t (OpEvent tx birth nth seen op) o l s = op_for splits n t
 session_step splits n t (RequestEvent tx ts) o l s = request_case splits n tx ts t o (tx_same tx t.tx) (is_touching t.phase) (same_touched ts t.touched) (is_lowest n ts) refl s
 session_step splits n t (Look tx) o l s = after_look splits n tx t o _ s
 session_step splits n t (Drop tx) o l s = after_dropping splits n tx t o _ s
-session_step splits n t Send o l s = (s, tt)
-session_step splits n t (Deliver m stamp) o l s = (s, tt)
-session_step splits n t Remind o l s = (s, tt)
-session_step splits n t FlushOut o l s = (s, tt)
-session_step splits n t FlushIn o l s = (s, tt)
-session_step splits n t Stop o l s = (s, tt)
-session_step splits n t Restart o l s = (s, tt)
+session_step splits n t _ o l s = (s, tt)
 
 -- ---- all entries of a session
 

@@ -8,7 +8,7 @@ use Rattle.clv_base.specs.declared.ops.Op.{Op}
 use Rattle.clv_base.specs.declared.causes.Vote.{Vote}
 use Rattle.clv_base.specs.declared.causes.Vote.TheVariants.{Yes, Read, No}
 use Rattle.clv_base.specs.declared.events.Event.{Event}
-use Rattle.clv_base.specs.declared.events.Event.TheVariants.{Op as OpEvent, Request as RequestEvent, Look, Drop, Send, Deliver, Remind, FlushOut, FlushIn, Stop, Restart}
+use Rattle.clv_base.specs.declared.events.Event.TheVariants.{Op as OpEvent, FlushIn, Restart}
 use Rattle.clv_base.specs.declared.events.Outcome.{Outcome}
 use Rattle.clv_base.specs.declared.events.Outcome.TheVariants.{Durable, Failed}
 use Rattle.clv_base.specs.declared.events.Entry.{Entry}
@@ -35,7 +35,7 @@ use Rattle.clv_base.specs.Journals.{flush_state, FlushMay}
 use Rattle.clv_base.proofs.SameNames.{tx_self}
 use Rattle.law_base.proofs.Lists.{all_mono}
 use Rattle.law_base.proofs.Rows.{rows_put}
-use Rattle.history_cases.proofs.Stepping.{commits, votes, rules, KeptByDue, settled, Step, op_dies, op_answers, request_refused, request_doomed, request_again, request_new, request_closes, looks_well, looks_ill, drops, sends, prepare_closes, prepare_again, vote_counts, decision_comes, decision_again, done_counts, asked, reminds, flushes, Happens, finishes, stops, happened}
+use Rattle.history_cases.proofs.Stepping.{commits, votes, rules, KeptByDue, settled, Step, op_dies, op_answers, request_closes, drops, prepare_closes, decision_comes, Happens, finishes, stops, happened}
 use Rattle.std.proofs.Common.{◌++◌, ◌==◌, append_assoc, append-nil}
 use Rattle.std.specs.List.{list_any}
 use Rattle.std.proofs.lemmas.Bool.{or_right, or_cases, eq-eqb}
@@ -142,25 +142,12 @@ Gives P epoch _ _ = Unit {0}
 fits_step : (P : TxId → Type 0) (epoch : ℕ) (s t : Shard) {e : Event} {o : Outcome} → Step s e o t → Gives P epoch e o → Fits P epoch s.local → Fits P epoch t.local
 fits_step P epoch s _ (op_dies u b nth seen op cause l h) g a = fits_reply P epoch s.shard s.local u b seen op (OpDies cause l) h a
 fits_step P epoch s _ (op_answers u b nth seen op answer l h) g a = fits_reply P epoch s.shard s.local u b seen op (OpAnswers answer l) h a (g a.0)
-fits_step P epoch s _ (request_refused u ts cause h) g a = a
-fits_step P epoch s _ (request_doomed u ts doom h) g a = a
-fits_step P epoch s _ (request_again u ts f h) g a = a
-fits_step P epoch s _ (request_new u ts f h) g a = a
 fits_step P epoch s _ (request_closes u ts f h) g a = (a.0, rows_closed P u s.local.parts a.1)
-fits_step P epoch s _ (looks_well u h) g a = a
-fits_step P epoch s _ (looks_ill u cause d h) g a = a
 fits_step P epoch s _ (drops u stage h) g a = let r = fits_rolled P epoch u (is_present (stage_of s.local u)) s.local a in (r.0, rows_marked P u _ r.1)
-fits_step P epoch s _ (sends m ms h) g a = a
 fits_step P epoch s _ (prepare_closes u home seen stamp h) g a = (a.0, rows_closed P u s.local.parts a.1)
-fits_step P epoch s _ (prepare_again u home seen stamp h) g a = a
-fits_step P epoch s _ (vote_counts u from vote stamp q g2 h) g a = a
 fits_step P epoch s _ (decision_comes u home true stamp h) g a = (a.0, a.1)
 fits_step P epoch s _ (decision_comes u home false stamp h) g a = (a.0, rows_gone P _ (Some u) s.local.parts a.1)
-fits_step P epoch s _ (decision_again u home commit stamp h) g a = a
-fits_step P epoch s _ (done_counts u from stamp q g2 h) g a = a
-fits_step P epoch s _ (asked u from stamp) g a = a
-fits_step P epoch s _ (reminds m ms g2 h) g a = a
-fits_step P epoch s _ (flushes n g2 h) g a = a
+fits_step P epoch s _ _ g a = a
 
 fits_happens : (P : TxId → Type 0) (epoch : ℕ) (s t : Shard) {e : Event} {o : Outcome} → Happens s e o t → Gives P epoch e o → Fits P epoch s.local → Fits P epoch t.local
 fits_happens P epoch s _ (finishes {t = x} u h) g a = fits_finish P epoch x (fits_step P epoch s x h g a)
@@ -218,14 +205,7 @@ becomes es entry s t e o b g a = at e o b g
     at Restart y (u, (kept, epoch, after, r, p, q)) k =
         subst (λ x. Rows (Tells (es ++ entry ∷ []) x.local.epoch) x.local.parts) (sym q) (rows_restored (Tells (es ++ entry ∷ []) epoch) (in_doubt s.shard after))
     at (OpEvent u b nth seen op) y c k = ends (fits_event _ s.local.epoch s t (OpEvent u b nth seen op) y c.1 k more_rows)
-    at (RequestEvent u ts) y c k = ends (fits_event _ s.local.epoch s t (RequestEvent u ts) y c k more_rows)
-    at (Look u) y c k = ends (fits_event _ s.local.epoch s t (Look u) y c k more_rows)
-    at (Drop u) y c k = ends (fits_event _ s.local.epoch s t (Drop u) y c k more_rows)
-    at Send y c k = ends (fits_event _ s.local.epoch s t Send y c k more_rows)
-    at (Deliver m stamp) y c k = ends (fits_event _ s.local.epoch s t (Deliver m stamp) y c k more_rows)
-    at Remind y c k = ends (fits_event _ s.local.epoch s t Remind y c k more_rows)
-    at FlushOut y c k = ends (fits_event _ s.local.epoch s t FlushOut y c k more_rows)
-    at Stop y c k = ends (fits_event _ s.local.epoch s t Stop y c k more_rows)
+    at e y c k = ends (fits_event _ s.local.epoch s t e y c k more_rows)
 
 answered_run : (so_far : List Entry) (s : Shard) (es : List Entry) (t : Shard) → Runs s es t → Rows (Tells so_far s.local.epoch) s.local.parts → Rows (Tells (so_far ++ es) t.local.epoch) t.local.parts
 answered_run so_far s [] t r a =

@@ -9,7 +9,7 @@ use Rattle.clv_base.specs.declared.ops.Op.{Op}
 use Rattle.clv_base.specs.declared.causes.Vote.{Vote}
 use Rattle.clv_base.specs.declared.causes.Vote.TheVariants.{Yes, Read, No}
 use Rattle.clv_base.specs.declared.events.Event.{Event}
-use Rattle.clv_base.specs.declared.events.Event.TheVariants.{Op as OpEvent, Request as RequestEvent, Look, Drop, Send, Deliver, Remind, FlushOut, FlushIn, Stop, Restart}
+use Rattle.clv_base.specs.declared.events.Event.TheVariants.{Op as OpEvent, FlushIn, Restart}
 use Rattle.clv_base.specs.declared.events.Outcome.{Outcome}
 use Rattle.clv_base.specs.declared.events.Outcome.TheVariants.{Durable, Failed}
 use Rattle.clv_base.specs.declared.events.Entry.{Entry}
@@ -36,7 +36,7 @@ use Rattle.clv_base.specs.Journals.{has_equal_active_birth, flush_state, FlushMa
 use Rattle.clv_base.proofs.SameNames.{nat_cmp_true}
 use Rattle.law_base.proofs.Rows.{rows_put}
 use Rattle.law_base.proofs.Tables.{then_eq}
-use Rattle.history_cases.proofs.Stepping.{commits, votes, rules, KeptByDue, settled, Step, op_dies, op_answers, request_refused, request_doomed, request_again, request_new, request_closes, looks_well, looks_ill, drops, sends, prepare_closes, prepare_again, vote_counts, decision_comes, decision_again, done_counts, asked, reminds, flushes, Happens, finishes, stops, happened}
+use Rattle.history_cases.proofs.Stepping.{commits, votes, rules, KeptByDue, settled, Step, op_dies, op_answers, request_closes, drops, prepare_closes, decision_comes, Happens, finishes, stops, happened}
 use Rattle.clv_base.specs.Machines.{BecomesBy, Runs}
 use Rattle.journal_laws.specs.Births.{LeavesBirth, FreeBirthsStay, OpenedHasNone, BearsWalker, OthersLeaveBirths, NewBirthsAreFree}
 use Rattle.journal_laws.specs.Walkers.{by_walker}
@@ -167,25 +167,11 @@ free_finish tx birth s a = settled (FreeOn tx birth) s (free_due tx birth) a
 free_step : (tx : TxId) (birth : Birth) (s t : Shard) {e : Event} {o : Outcome} → Step s e o t → LeavesBirth tx birth e → FreeOn tx birth s → FreeOn tx birth t
 free_step tx birth s _ (op_dies u b nth seen op cause l h) k a = free_reply tx birth s.shard s.local u b seen op (OpDies cause l) h k a
 free_step tx birth s _ (op_answers u b nth seen op answer l h) k a = free_reply tx birth s.shard s.local u b seen op (OpAnswers answer l) h k a
-free_step tx birth s _ (request_refused u ts cause h) k a = a
-free_step tx birth s _ (request_doomed u ts doom h) k a = a
-free_step tx birth s _ (request_again u ts f h) k a = a
-free_step tx birth s _ (request_new u ts f h) k a = a
 free_step tx birth s _ (request_closes u ts f h) k a = free_closed tx birth u s.local.parts a
-free_step tx birth s _ (looks_well u h) k a = a
-free_step tx birth s _ (looks_ill u cause d h) k a = a
 free_step tx birth s _ (drops u stage h) k a = free_marked tx birth u _ (free_rolled tx birth u (is_present (stage_of s.local u)) s.local a)
-free_step tx birth s _ (sends m ms h) k a = a
 free_step tx birth s _ (prepare_closes u home seen stamp h) k a = free_closed tx birth u s.local.parts a
-free_step tx birth s _ (prepare_again u home seen stamp h) k a = a
-free_step tx birth s _ (vote_counts u from vote stamp q g h) k a = a
-free_step tx birth s _ (decision_comes u home true stamp h) k a = a
 free_step tx birth s _ (decision_comes u home false stamp h) k a = free_gone tx birth _ (Some u) s.local.parts a
-free_step tx birth s _ (decision_again u home commit stamp h) k a = a
-free_step tx birth s _ (done_counts u from stamp q g h) k a = a
-free_step tx birth s _ (asked u from stamp) k a = a
-free_step tx birth s _ (reminds m ms g h) k a = a
-free_step tx birth s _ (flushes n g h) k a = a
+free_step tx birth s _ _ k a = a
 
 free_happens : (tx : TxId) (birth : Birth) (s t : Shard) {e : Event} {o : Outcome} → Happens s e o t → LeavesBirth tx birth e → FreeOn tx birth s → FreeOn tx birth t
 free_happens tx birth s _ (finishes {t = x} u h) k a = free_finish tx birth x (free_step tx birth s x h k a)
@@ -209,14 +195,7 @@ free_becomes : (tx : TxId) (birth : Birth) (s t : Shard) (e : Event) (o : Outcom
 free_becomes tx birth s t FlushIn o b k a = subst (FreeOn tx birth) (sym b.2) (free_flush tx birth s o b.1 a)
 free_becomes tx birth s t Restart o (u, (kept, epoch, after, r, p, q)) k a = subst (FreeOn tx birth) (sym q) (free_restored tx birth (in_doubt s.shard after))
 free_becomes tx birth s t (OpEvent u b nth seen op) o x k a = free_event tx birth s t (OpEvent u b nth seen op) o x.1 k a
-free_becomes tx birth s t (RequestEvent u ts) o x k a = free_event tx birth s t (RequestEvent u ts) o x k a
-free_becomes tx birth s t (Look u) o x k a = free_event tx birth s t (Look u) o x k a
-free_becomes tx birth s t (Drop u) o x k a = free_event tx birth s t (Drop u) o x k a
-free_becomes tx birth s t Send o x k a = free_event tx birth s t Send o x k a
-free_becomes tx birth s t (Deliver m stamp) o x k a = free_event tx birth s t (Deliver m stamp) o x k a
-free_becomes tx birth s t Remind o x k a = free_event tx birth s t Remind o x k a
-free_becomes tx birth s t FlushOut o x k a = free_event tx birth s t FlushOut o x k a
-free_becomes tx birth s t Stop o x k a = free_event tx birth s t Stop o x k a
+free_becomes tx birth s t e o x k a = free_event tx birth s t e o x k a
 
 free_run : (tx : TxId) (birth : Birth) (s : Shard) (es : List Entry) (t : Shard) → Runs s es t → AllByRecursion (λ e. LeavesBirth tx birth e.event) es → FreeOn tx birth s → FreeOn tx birth t
 free_run tx birth s [] t r k a = subst (FreeOn tx birth) r a

@@ -9,7 +9,7 @@ use Rattle.clv_base.specs.declared.ops.Op.{Op}
 use Rattle.clv_base.specs.declared.causes.Vote.{Vote}
 use Rattle.clv_base.specs.declared.causes.Vote.TheVariants.{Yes, Read, No}
 use Rattle.clv_base.specs.declared.events.Event.{Event}
-use Rattle.clv_base.specs.declared.events.Event.TheVariants.{Op as OpEvent, Request as RequestEvent, Look, Drop, Send, Deliver, Remind, FlushOut, FlushIn, Stop, Restart}
+use Rattle.clv_base.specs.declared.events.Event.TheVariants.{Op as OpEvent, FlushIn, Restart}
 use Rattle.clv_base.specs.declared.events.Outcome.{Outcome}
 use Rattle.clv_base.specs.declared.events.Outcome.TheVariants.{Dead, Durable, Failed}
 use Rattle.clv_base.specs.declared.events.Entry.{Entry}
@@ -37,7 +37,7 @@ use Rattle.clv_base.proofs.SameNames.{tx_true, tx_self, tx_eq}
 use Rattle.law_base.proofs.Lists.{all_mono}
 use Rattle.law_base.proofs.Rows.{rows_put}
 use Rattle.law_base.proofs.Tables.{get_put, get_changed}
-use Rattle.history_cases.proofs.Stepping.{commits, votes, rules, KeptByDue, settled, Step, op_dies, op_answers, request_refused, request_doomed, request_again, request_new, request_closes, looks_well, looks_ill, drops, sends, prepare_closes, prepare_again, vote_counts, decision_comes, decision_again, done_counts, asked, reminds, flushes, Happens, finishes, stops, happened}
+use Rattle.history_cases.proofs.Stepping.{commits, votes, rules, KeptByDue, settled, Step, op_dies, op_answers, request_again, request_new, request_closes, drops, prepare_closes, decision_comes, Happens, finishes, stops, happened}
 use Rattle.clv_base.specs.Machines.{BecomesBy, Runs}
 use Rattle.journal_laws.specs.Endings.{RunsFindActive, EndsHere, InactiveIsFree, EndsFree, RestartsFree}
 use Rattle.journal_laws.specs.Births.{LeavesBirth}
@@ -282,25 +282,11 @@ quiet_reply shard l u b seen op r e a = subst (QuietReply u) e (quiet_seen u b o
 found_step : (s t : Shard) {e : Event} {o : Outcome} → Step s e o t → Found s.local.parts → Found t.local.parts
 found_step s _ (op_dies u b nth seen op cause l h) a = found_reply s.shard s.local u b seen op (OpDies cause l) h a
 found_step s _ (op_answers u b nth seen op answer l h) a = found_reply s.shard s.local u b seen op (OpAnswers answer l) h a
-found_step s _ (request_refused u ts cause h) a = a
-found_step s _ (request_doomed u ts doom h) a = a
-found_step s _ (request_again u ts f h) a = a
-found_step s _ (request_new u ts f h) a = a
 found_step s _ (request_closes u ts f h) a = found_closed u s.local.parts a
-found_step s _ (looks_well u h) a = a
-found_step s _ (looks_ill u cause d h) a = a
 found_step s _ (drops u stage h) a = found_marked u _ (found_rolled u (is_present (stage_of s.local u)) s.local a)
-found_step s _ (sends m ms h) a = a
 found_step s _ (prepare_closes u home seen stamp h) a = found_closed u s.local.parts a
-found_step s _ (prepare_again u home seen stamp h) a = a
-found_step s _ (vote_counts u from vote stamp q g h) a = a
-found_step s _ (decision_comes u home true stamp h) a = a
 found_step s _ (decision_comes u home false stamp h) a = found_gone _ (Some u) s.local.parts a
-found_step s _ (decision_again u home commit stamp h) a = a
-found_step s _ (done_counts u from stamp q g h) a = a
-found_step s _ (asked u from stamp) a = a
-found_step s _ (reminds m ms g h) a = a
-found_step s _ (flushes n g h) a = a
+found_step s _ _ a = a
 
 found_happens : (s t : Shard) {e : Event} {o : Outcome} → Happens s e o t → Found s.local.parts → Found t.local.parts
 found_happens s _ (finishes {t = x} u h) a = finish_rows Found found_gone x (found_step s x h a)
@@ -322,14 +308,7 @@ found_becomes : (s t : Shard) (e : Event) (o : Outcome) → BecomesBy s e o t �
 found_becomes s t FlushIn o b a = subst (λ x. Found x.local.parts) (sym b.2) (found_flush s o b.1 a)
 found_becomes s t Restart o (u, (kept, epoch, after, r, p, q)) a = subst (λ x. Found x.local.parts) (sym q) (found_restored_in (restored_parts (in_doubt s.shard after)) (in_doubt s.shard after))
 found_becomes s t (OpEvent u b nth seen op) o x a = found_event s t (OpEvent u b nth seen op) o x.1 a
-found_becomes s t (RequestEvent u ts) o x a = found_event s t (RequestEvent u ts) o x a
-found_becomes s t (Look u) o x a = found_event s t (Look u) o x a
-found_becomes s t (Drop u) o x a = found_event s t (Drop u) o x a
-found_becomes s t Send o x a = found_event s t Send o x a
-found_becomes s t (Deliver m stamp) o x a = found_event s t (Deliver m stamp) o x a
-found_becomes s t Remind o x a = found_event s t Remind o x a
-found_becomes s t FlushOut o x a = found_event s t FlushOut o x a
-found_becomes s t Stop o x a = found_event s t Stop o x a
+found_becomes s t e o x a = found_event s t e o x a
 
 found_run : (s : Shard) (es : List Entry) (t : Shard) → Runs s es t → Found s.local.parts → Found t.local.parts
 found_run s [] t r a = subst (λ x. Found x.local.parts) r a
@@ -352,25 +331,11 @@ none_stage p q = absurd cc
 -- what the event leaves of it before what is due is done
 ended_step : (s t : Shard) (tx : TxId) {e : Event} {o : Outcome} → Step s e o t → EndsHere tx e o → Found s.local.parts → Quietly tx t.local.parts
 ended_step s _ tx (op_dies u b nth seen op cause l h) k a = subst (λ z. Quietly z l.parts) k (quiet_reply s.shard s.local u b seen op (OpDies cause l) h a)
-ended_step s _ tx (op_answers u b nth seen op answer l h) k a = absurd k
-ended_step s _ tx (request_refused u ts cause h) k a = absurd k
-ended_step s _ tx (request_doomed u ts doom h) k a = absurd k
 ended_step s _ tx (request_again u ts f h) k a = subst (λ z. Quietly z s.local.parts) k (quiet_found s.local u a (λ q. closed_stage h q))
 ended_step s _ tx (request_new u ts f h) k a = subst (λ z. Quietly z s.local.parts) k (quiet_found s.local u a (λ q. none_stage h q))
 ended_step s _ tx (request_closes u ts f h) k a = subst (λ z. Quietly z (closed_in u s.local.parts)) k (quiet_closed u s.local.parts)
-ended_step s _ tx (looks_well u h) k a = absurd k
-ended_step s _ tx (looks_ill u cause d h) k a = absurd k
 ended_step s _ tx (drops u stage h) k a = subst (λ z. Quietly z (marked_in u (without_part u s.local).parts)) k (quiet_marked u u _ (quiet_without s.local u a))
-ended_step s _ tx (sends m ms h) k a = absurd k
-ended_step s _ tx (prepare_closes u home seen stamp h) k a = absurd k
-ended_step s _ tx (prepare_again u home seen stamp h) k a = absurd k
-ended_step s _ tx (vote_counts u from vote stamp q g h) k a = absurd k
-ended_step s _ tx (decision_comes u home commit stamp h) k a = absurd k
-ended_step s _ tx (decision_again u home commit stamp h) k a = absurd k
-ended_step s _ tx (done_counts u from stamp q g h) k a = absurd k
-ended_step s _ tx (asked u from stamp) k a = absurd k
-ended_step s _ tx (reminds m ms g h) k a = absurd k
-ended_step s _ tx (flushes n g h) k a = absurd k
+ended_step s _ tx _ k a = absurd k
 
 ended : (s t : Shard) (tx : TxId) {e : Event} {o : Outcome} → Happens s e o t → EndsHere tx e o → Found s.local.parts → Quietly tx t.local.parts
 ended s _ tx (finishes {t = x} u h) k a = finish_rows (Quietly tx) (quiet_gone tx) x (ended_step s x tx h k a)

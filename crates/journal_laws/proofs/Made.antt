@@ -5,7 +5,7 @@ use Rattle.clv_base.specs.declared.names.TxId.{TxId}
 use Rattle.clv_base.specs.Orders.{tx_union}
 use Rattle.clv_base.specs.declared.logs.LogRecord.{LogRecord}
 use Rattle.clv_base.specs.declared.events.Event.{Event}
-use Rattle.clv_base.specs.declared.events.Event.TheVariants.{Op, Request, Look, Drop, Send, Deliver, Remind, FlushOut, FlushIn, Stop, Restart}
+use Rattle.clv_base.specs.declared.events.Event.TheVariants.{Op, FlushIn, Restart}
 use Rattle.clv_base.specs.declared.events.Outcome.{Outcome}
 use Rattle.clv_base.specs.declared.events.Outcome.TheVariants.{Up}
 use Rattle.clv_base.specs.declared.events.Entry.{Entry}
@@ -33,14 +33,7 @@ becomes : (log : List LogRecord) (s : Shard) (e : Event) (o : Outcome) → Event
 becomes log s FlushIn o m = (m.0, m.1, refl)
 becomes log s Restart o m = (m.0, by_restart log s o m.1)
 becomes log s (Op tx birth nth seen op) o m = (m.0, by_happen s (m.1).0 (Op tx birth nth seen op) o (m.1).1)
-becomes log s (Request tx ts) o m = by_happen s m.0 (Request tx ts) o m.1
-becomes log s (Look tx) o m = by_happen s m.0 (Look tx) o m.1
-becomes log s (Drop tx) o m = by_happen s m.0 (Drop tx) o m.1
-becomes log s Send o m = by_happen s m.0 Send o m.1
-becomes log s (Deliver x stamp) o m = by_happen s m.0 (Deliver x stamp) o m.1
-becomes log s Remind o m = by_happen s m.0 Remind o m.1
-becomes log s FlushOut o m = by_happen s m.0 FlushOut o m.1
-becomes log s Stop o m = by_happen s m.0 Stop o m.1
+becomes log s e o m = by_happen s m.0 e o m.1
 
 made : (log : List LogRecord) (s : Shard) (e : Entry) → MayEnter log s e → Makes s e (after_entry log s e)
 made log s e m =

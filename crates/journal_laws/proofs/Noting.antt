@@ -2,7 +2,7 @@
 use Rattle.std.proofs.Common.{◌≡◌, refl, sym, ap, subst, ◌∙◌, ℕ, ◌==◌, true, false, cond, Bool, List, [], ◌∷◌, Option, Some, None}
 use Rattle.std.proofs.lemmas.Bool.{both_ways, eq-eqb}
 use Rattle.clv_base.specs.declared.events.Event.{Event}
-use Rattle.clv_base.specs.declared.events.Event.TheVariants.{Op, Request, Look, Drop, Send, Deliver, Remind, FlushOut, FlushIn, Stop, Restart}
+use Rattle.clv_base.specs.declared.events.Event.TheVariants.{Op, FlushIn, Restart}
 use Rattle.clv_base.specs.declared.events.Outcome.{Outcome}
 use Rattle.clv_base.specs.declared.events.Outcome.TheVariants.{Down}
 use Rattle.clv_base.specs.State.{Shard}
@@ -67,14 +67,7 @@ only_restarts : (s : Shard) (e : Event) (o : Outcome) (t : Shard) → s.is_up �
 only_restarts s FlushIn o t d b = absurd (both_ways s.is_up d b.0)
 only_restarts s Restart o t d b = refl
 only_restarts s (Op tx birth nth seen op) o t d b = nothing_happens s (Op tx birth nth seen op) o t d b.1
-only_restarts s (Request tx ts) o t d b = nothing_happens s (Request tx ts) o t d b
-only_restarts s (Look tx) o t d b = nothing_happens s (Look tx) o t d b
-only_restarts s (Drop tx) o t d b = nothing_happens s (Drop tx) o t d b
-only_restarts s Send o t d b = nothing_happens s Send o t d b
-only_restarts s (Deliver m stamp) o t d b = nothing_happens s (Deliver m stamp) o t d b
-only_restarts s Remind o t d b = nothing_happens s Remind o t d b
-only_restarts s FlushOut o t d b = nothing_happens s FlushOut o t d b
-only_restarts s Stop o t d b = nothing_happens s Stop o t d b
+only_restarts s e o t d b = nothing_happens s e o t d b
 
 not_empty : {A X : Type 0} {x : A} {xs : List A} → x ∷ xs ≡ [] → X
 not_empty h = cc

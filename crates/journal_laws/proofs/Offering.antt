@@ -6,7 +6,7 @@ use Rattle.std.proofs.lemmas.Bool.{both_ways}
 use Rattle.clv_base.specs.declared.ops.Op.{Op as Operation}
 use Rattle.clv_base.specs.declared.ops.Answer.TheVariants.{Value}
 use Rattle.clv_base.specs.declared.events.Event.{Event}
-use Rattle.clv_base.specs.declared.events.Event.TheVariants.{Op, Request, Look, Drop, Send, Deliver, Remind, FlushOut, FlushIn, Stop, Restart}
+use Rattle.clv_base.specs.declared.events.Event.TheVariants.{Op, Request, Look, Drop, FlushIn}
 use Rattle.clv_base.specs.declared.events.Outcome.{Outcome}
 use Rattle.clv_base.specs.declared.events.Outcome.TheVariants.{Answered, Dead, Asked, Acknowledged, Aborted}
 use Rattle.clv_base.specs.declared.events.Entry.{Entry}
@@ -17,7 +17,7 @@ use Rattle.clv_base.specs.Restarts.{opened}
 use Rattle.clv_base.specs.Sessions.{SessionState, no_session, is_number, lies_in, is_touching, session_for, op_answered, op_in_session, same_touched, is_lowest, requested, looked, stands_at, session_after, makes_from}
 use Rattle.clv_base.specs.Journals.{History, stamp_bound}
 use Rattle.history_cases.proofs.Merging.{Placed}
-use Rattle.history_cases.proofs.Stepping.{Step, op_dies, op_answers, request_refused, request_doomed, request_again, request_new, request_closes, looks_well, looks_ill, drops, sends, prepare_closes, prepare_again, vote_counts, decision_comes, decision_again, done_counts, asked, reminds, flushes, Happens, finishes, stops, happened}
+use Rattle.history_cases.proofs.Stepping.{Step, op_dies, Happens, finishes, stops, happened}
 use Rattle.clv_base.specs.Machines.{BecomesBy, Makes, Runs}
 use Rattle.journal_laws.specs.Worlds.{LandsInTime}
 use Rattle.journal_laws.specs.Offers.{hoped_for, EachOutcomeGoesOn, FlyingIsInTime}
@@ -34,25 +34,7 @@ fits _ o = true
 
 fits_step : (s t : Shard) {e : Event} {o : Outcome} → Step s e o t → fits e o ≡ true
 fits_step s _ (op_dies u b nth seen op cause l h) = refl
-fits_step s _ (op_answers u b nth seen op answer l h) = refl
-fits_step s _ (request_refused u ts cause h) = refl
-fits_step s _ (request_doomed u ts doom h) = refl
-fits_step s _ (request_again u ts f h) = refl
-fits_step s _ (request_new u ts f h) = refl
-fits_step s _ (request_closes u ts f h) = refl
-fits_step s _ (looks_well u h) = refl
-fits_step s _ (looks_ill u cause d h) = refl
-fits_step s _ (drops u stage h) = refl
-fits_step s _ (sends m ms h) = refl
-fits_step s _ (prepare_closes u home seen stamp h) = refl
-fits_step s _ (prepare_again u home seen stamp h) = refl
-fits_step s _ (vote_counts u from vote stamp q g h) = refl
-fits_step s _ (decision_comes u home commit stamp h) = refl
-fits_step s _ (decision_again u home commit stamp h) = refl
-fits_step s _ (done_counts u from stamp q g h) = refl
-fits_step s _ (asked u from stamp) = refl
-fits_step s _ (reminds m ms g h) = refl
-fits_step s _ (flushes n g h) = refl
+fits_step s _ _ = refl
 
 fits_happens : (s t : Shard) {e : Event} {o : Outcome} → Happens s e o t → fits e o ≡ true
 fits_happens s _ (finishes {t = x} u h) = fits_step s x h
@@ -100,13 +82,7 @@ goes splits n t (Look tx) o f h = at (tx_same tx t.tx && stands_at n t.phase) h
     at true k = look_goes t o f
     at false k = absurd (both_ways false refl k)
 goes splits n t (Drop tx) o f h = h
-goes splits n t Send o f h = refl
-goes splits n t (Deliver m stamp) o f h = refl
-goes splits n t Remind o f h = refl
-goes splits n t FlushOut o f h = refl
-goes splits n t FlushIn o f h = refl
-goes splits n t Stop o f h = refl
-goes splits n t Restart o f h = refl
+goes splits n t _ o f h = refl
 
 at_end : (splits : List ℕ) (v : Option SessionState) → makes_from splits v [] ≡ is_some v
 at_end splits None = refl
@@ -134,16 +110,7 @@ each_outcome_goes_on splits run walker es n e s t h d =
 -- by the bound of an entry's stamp
 in_time : (s t : Shard) (e : Event) (o : Outcome) (stamp : ℕ) → BecomesBy s e o t → stamp < stamp_bound e → t.is_up ≡ true → (n : ℕ) → t.flight ≡ Some n → stamp < 2 ^ 48
 in_time s t FlushIn o stamp b l u n f = absurd (lands_after s o t b u n f)
-in_time s t Restart o stamp b l u n f = l
-in_time s t (Op tx birth nth seen op) o stamp b l u n f = l
-in_time s t (Request tx ts) o stamp b l u n f = l
-in_time s t (Look tx) o stamp b l u n f = l
-in_time s t (Drop tx) o stamp b l u n f = l
-in_time s t Send o stamp b l u n f = l
-in_time s t (Deliver m at) o stamp b l u n f = l
-in_time s t Remind o stamp b l u n f = l
-in_time s t FlushOut o stamp b l u n f = l
-in_time s t Stop o stamp b l u n f = l
+in_time s t _ o stamp b l u n f = l
 
 lands_made : (s t : Shard) (e : Entry) → Makes s e t → LandsInTime t
 lands_made s t e m =

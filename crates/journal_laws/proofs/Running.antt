@@ -3,7 +3,7 @@ use Rattle.std.proofs.Common.{◌≡◌, ⊎_elim, refl, sym, ap, subst, ◌∙�
 use Rattle.std.proofs.lemmas.List.{take_all}
 use Rattle.clv_base.specs.declared.logs.LogRecord.{LogRecord}
 use Rattle.clv_base.specs.declared.events.Event.{Event}
-use Rattle.clv_base.specs.declared.events.Event.TheVariants.{Op, Request, Look, Drop, Send, Deliver, Remind, FlushOut, FlushIn, Stop, Restart}
+use Rattle.clv_base.specs.declared.events.Event.TheVariants.{Op, FlushIn, Restart}
 use Rattle.clv_base.specs.declared.events.Outcome.{Outcome}
 use Rattle.clv_base.specs.declared.events.Entry.{Entry}
 use Rattle.clv_base.specs.State.{Shard}
@@ -44,14 +44,7 @@ fits : (log : List LogRecord) (s : Shard) (e : Event) (o : Outcome) (t : Shard) 
 fits log s FlushIn o t b p = record { may = (b.0, b.1); state = sym b.2 }
 fits log s Restart o t b p = fits_restart log s o t b.0 b.1 p
 fits log s (Op tx birth nth seen op) o t b p = record { may = (b.0, (t, b.1)); state = of_event log s t (Op tx birth nth seen op) o b.1 }
-fits log s (Request tx ts) o t b p = record { may = (t, b); state = of_event log s t (Request tx ts) o b }
-fits log s (Look tx) o t b p = record { may = (t, b); state = of_event log s t (Look tx) o b }
-fits log s (Drop tx) o t b p = record { may = (t, b); state = of_event log s t (Drop tx) o b }
-fits log s Send o t b p = record { may = (t, b); state = of_event log s t Send o b }
-fits log s (Deliver x stamp) o t b p = record { may = (t, b); state = of_event log s t (Deliver x stamp) o b }
-fits log s Remind o t b p = record { may = (t, b); state = of_event log s t Remind o b }
-fits log s FlushOut o t b p = record { may = (t, b); state = of_event log s t FlushOut o b }
-fits log s Stop o t b p = record { may = (t, b); state = of_event log s t Stop o b }
+fits log s e o t b p = record { may = (t, b); state = of_event log s t e o b }
 
 pub record Enters (log : List LogRecord) (s : Shard) (e : Entry) (t : Shard) : Type 0 where
   pub may : MayEnter log s e

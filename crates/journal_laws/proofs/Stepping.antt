@@ -3,7 +3,7 @@ use Rattle.std.proofs.Common.{◌≡◌, refl, sym, ap, subst, ◌∙◌, ℕ, �
 use Rattle.std.specs.Prelude.{◌^◌}
 use Rattle.std.proofs.lemmas.Bool.{both_ways, ltb-true, not-true}
 use Rattle.clv_base.specs.declared.events.Event.{Event}
-use Rattle.clv_base.specs.declared.events.Event.TheVariants.{Op, Request, Look, Drop, Send, Deliver, Remind, FlushOut, FlushIn, Stop, Restart}
+use Rattle.clv_base.specs.declared.events.Event.TheVariants.{Op, FlushIn, Restart}
 use Rattle.clv_base.specs.declared.events.Outcome.{Outcome}
 use Rattle.clv_base.specs.declared.events.Outcome.TheVariants.{Durable, Failed, Up, Nothing, Down}
 use Rattle.clv_base.specs.declared.events.CoreStep.{CoreStep}
@@ -84,14 +84,7 @@ answers s clock c FlushIn o t h b = lands s clock c.walker c.kept s.is_up o t re
 answers s clock c Restart o t h b = revives s clock c.walker c.kept s.is_up o t refl h
 answers s clock c (Op tx birth nth seen op) o t h b =
     let x = by_step s clock c.walker (Op tx birth nth seen op) o t h in record { after = x.after; becomes = (not-true (has_equal_active_birth tx birth s.local.parts) b, x.reply); is = x.is }
-answers s clock c (Request tx ts) o t h b = let x = by_step s clock c.walker (Request tx ts) o t h in record { after = x.after; becomes = x.reply; is = x.is }
-answers s clock c (Look tx) o t h b = let x = by_step s clock c.walker (Look tx) o t h in record { after = x.after; becomes = x.reply; is = x.is }
-answers s clock c (Drop tx) o t h b = let x = by_step s clock c.walker (Drop tx) o t h in record { after = x.after; becomes = x.reply; is = x.is }
-answers s clock c Send o t h b = let x = by_step s clock c.walker Send o t h in record { after = x.after; becomes = x.reply; is = x.is }
-answers s clock c (Deliver m stamp) o t h b = let x = by_step s clock c.walker (Deliver m stamp) o t h in record { after = x.after; becomes = x.reply; is = x.is }
-answers s clock c Remind o t h b = let x = by_step s clock c.walker Remind o t h in record { after = x.after; becomes = x.reply; is = x.is }
-answers s clock c FlushOut o t h b = let x = by_step s clock c.walker FlushOut o t h in record { after = x.after; becomes = x.reply; is = x.is }
-answers s clock c Stop o t h b = let x = by_step s clock c.walker Stop o t h in record { after = x.after; becomes = x.reply; is = x.is }
+answers s clock c e o t h b = let x = by_step s clock c.walker e o t h in record { after = x.after; becomes = x.reply; is = x.is }
 
 -- ---- the bound on its stamp
 
@@ -114,15 +107,7 @@ revives_room s clock walker kept false o t h =
 pub bounds : (s : Shard) (clock : ℕ) (c : CoreStep) (e : Event) (o : Outcome) (t : Shard) → answer_by clock c s e ≡ Enters o t → Bounds s clock e
 bounds s clock c FlushIn o t h = may_pass
 bounds s clock c Restart o t h = revives_room s clock c.walker c.kept s.is_up o t h
-bounds s clock c (Op tx birth nth seen op) o t h = room_of s clock c.walker _ o t h
-bounds s clock c (Request tx ts) o t h = room_of s clock c.walker _ o t h
-bounds s clock c (Look tx) o t h = room_of s clock c.walker _ o t h
-bounds s clock c (Drop tx) o t h = room_of s clock c.walker _ o t h
-bounds s clock c Send o t h = room_of s clock c.walker _ o t h
-bounds s clock c (Deliver m stamp) o t h = room_of s clock c.walker _ o t h
-bounds s clock c Remind o t h = room_of s clock c.walker _ o t h
-bounds s clock c FlushOut o t h = room_of s clock c.walker _ o t h
-bounds s clock c Stop o t h = room_of s clock c.walker _ o t h
+bounds s clock c _ o t h = room_of s clock c.walker _ o t h
 
 -- ---- the entry
 

@@ -6,7 +6,7 @@ use Rattle.clv_base.specs.declared.names.TxId.{TxId}
 use Rattle.clv_base.specs.declared.ops.Op.{Op}
 use Rattle.clv_base.specs.declared.ops.Answer.{Answer}
 use Rattle.clv_base.specs.declared.events.Event.{Event}
-use Rattle.clv_base.specs.declared.events.Event.TheVariants.{Op as OpEvent, Request as RequestEvent, Look, Drop, Send, Deliver, Remind, FlushOut, FlushIn, Stop, Restart}
+use Rattle.clv_base.specs.declared.events.Event.TheVariants.{Op as OpEvent}
 use Rattle.clv_base.specs.declared.events.Outcome.{Outcome}
 use Rattle.clv_base.specs.declared.events.Outcome.TheVariants.{Answered}
 use Rattle.clv_base.specs.Orders.{tx_same, tx_in}
@@ -36,17 +36,7 @@ op_placed t n (OpEvent tx birth nth seen op) (Answered a epoch) = at (tx_same t 
     at : (b : Bool) → cond {A = Option ShardOp} b (Some (record { shard = n; op = op; answer = a })) None ≡ placed n (cond {A = Option (Op × Answer)} b (Some (op, a)) None)
     at true = refl
     at false = refl
-op_placed t n (OpEvent tx birth nth seen op) _ = refl
-op_placed t n (RequestEvent tx ts) o = refl
-op_placed t n (Look tx) o = refl
-op_placed t n (Drop tx) o = refl
-op_placed t n Send o = refl
-op_placed t n (Deliver m stamp) o = refl
-op_placed t n Remind o = refl
-op_placed t n FlushOut o = refl
-op_placed t n FlushIn o = refl
-op_placed t n Stop o = refl
-op_placed t n Restart o = refl
+op_placed t n _ o = refl
 
 abbrev with_shard_op : Option ShardOp → List ShardOp → List ShardOp
 with_shard_op o xs = elim o [ Some x ↦ x ∷ xs | None ↦ xs ]

@@ -8,7 +8,7 @@ use Rattle.clv_base.specs.declared.logs.LogRecord.{LogRecord}
 use Rattle.clv_base.specs.declared.ops.Op.{Op}
 use Rattle.clv_base.specs.declared.ops.Answer.{Answer}
 use Rattle.clv_base.specs.declared.events.Event.{Event}
-use Rattle.clv_base.specs.declared.events.Event.TheVariants.{Op as OpEvent, Request as RequestEvent, Look, Drop, Send, Deliver, Remind, FlushOut, FlushIn, Stop, Restart}
+use Rattle.clv_base.specs.declared.events.Event.TheVariants.{Op as OpEvent}
 use Rattle.clv_base.specs.declared.events.Outcome.{Outcome}
 use Rattle.clv_base.specs.declared.events.Outcome.TheVariants.{Answered}
 use Rattle.clv_base.specs.Orders.{tx_same}
@@ -41,17 +41,7 @@ one_told t n (OpEvent tx birth nth seen op) (Answered a epoch) xs ys e = at (tx_
     at : (b : Bool) → map told (elim (cond {A = Option ShardOp} b (Some (record { shard = n; op = op; answer = a })) None) [ Some x ↦ x ∷ xs | None ↦ xs ]) ≡ elim (cond {A = Option (Op × Answer)} b (Some (op, a)) None) [ Some p ↦ p ∷ ys | None ↦ ys ]
     at true = ap (λ l. (op, a) ∷ l) e
     at false = e
-one_told t n (OpEvent tx birth nth seen op) _ xs ys e = e
-one_told t n (RequestEvent tx ts) o xs ys e = e
-one_told t n (Look tx) o xs ys e = e
-one_told t n (Drop tx) o xs ys e = e
-one_told t n Send o xs ys e = e
-one_told t n (Deliver m stamp) o xs ys e = e
-one_told t n Remind o xs ys e = e
-one_told t n FlushOut o xs ys e = e
-one_told t n FlushIn o xs ys e = e
-one_told t n Stop o xs ys e = e
-one_told t n Restart o xs ys e = e
+one_told t n _ o xs ys e = e
 
 same_ops : (t : TxId) (h : History) → map told (shard_ops_in t h) ≡ ops_in t h
 same_ops t [] = refl
@@ -103,17 +93,7 @@ one_lies splits t n (OpEvent tx birth nth seen op) (Answered a epoch) xs l k r =
     at : (b : Bool) → AllByRecursion (LiesIn splits) (elim (cond {A = Option ShardOp} b (Some (record { shard = n; op = op; answer = a })) None) [ Some x ↦ x ∷ xs | None ↦ xs ])
     at true = ((l, k), r)
     at false = r
-one_lies splits t n (OpEvent tx birth nth seen op) _ xs l k r = r
-one_lies splits t n (RequestEvent tx ts) o xs l k r = r
-one_lies splits t n (Look tx) o xs l k r = r
-one_lies splits t n (Drop tx) o xs l k r = r
-one_lies splits t n Send o xs l k r = r
-one_lies splits t n (Deliver m stamp) o xs l k r = r
-one_lies splits t n Remind o xs l k r = r
-one_lies splits t n FlushOut o xs l k r = r
-one_lies splits t n FlushIn o xs l k r = r
-one_lies splits t n Stop o xs l k r = r
-one_lies splits t n Restart o xs l k r = r
+one_lies splits t n _ o xs l k r = r
 
 ops_lie : (splits : List ℕ) (t : TxId) (es : History) → ((e : Placed) → Among e es → (e.0 < shard_count splits) × Offers splits e) → AllByRecursion (LiesIn splits) (shard_ops_in t es)
 ops_lie splits t [] k = tt

@@ -11,7 +11,7 @@ use Rattle.clv_base.specs.declared.messages.Message.TheVariants.{Prepare}
 use Rattle.clv_base.specs.declared.state.Stage.TheVariants.{Active, Closed}
 use Rattle.clv_base.specs.declared.state.Held.{Held}
 use Rattle.clv_base.specs.declared.events.Event.{Event}
-use Rattle.clv_base.specs.declared.events.Event.TheVariants.{Op as OpEvent, Request as RequestEvent, Look, Drop, Send, Deliver, Remind, FlushOut, FlushIn, Stop, Restart}
+use Rattle.clv_base.specs.declared.events.Event.TheVariants.{Op as OpEvent, Request as RequestEvent, Deliver}
 use Rattle.clv_base.specs.declared.events.Outcome.{Outcome}
 use Rattle.clv_base.specs.declared.events.Outcome.TheVariants.{Answered}
 use Rattle.clv_base.specs.Orders.{tx_same, tx_get}
@@ -73,16 +73,7 @@ an_op t b ep (OpEvent tx birth nth seen op) (Answered answer epoch) q = at (tx_s
         }
     at false s z = absurd (none_some _ z)
 an_op t b ep (OpEvent tx birth nth seen op) _ q = absurd (none_some _ q)
-an_op t b ep (RequestEvent tx ts) o q = absurd (none_some _ q)
-an_op t b ep (Look tx) o q = absurd (none_some _ q)
-an_op t b ep (Drop tx) o q = absurd (none_some _ q)
-an_op t b ep Send o q = absurd (none_some _ q)
-an_op t b ep (Deliver m stamp) o q = absurd (none_some _ q)
-an_op t b ep Remind o q = absurd (none_some _ q)
-an_op t b ep FlushOut o q = absurd (none_some _ q)
-an_op t b ep FlushIn o q = absurd (none_some _ q)
-an_op t b ep Stop o q = absurd (none_some _ q)
-an_op t b ep Restart o q = absurd (none_some _ q)
+an_op t b ep _ o q = absurd (none_some _ q)
 
 did_of : (run : ℕ) (h : History) (n : ℕ) (s : Shard) (t : TxId) (b : Birth) (ep : ℕ) → Traced run h n s → WasAnsweredAs h n t b ep → Did h n ep t b
 did_of run h n s t b ep k (e, i, q) =

@@ -49,7 +49,7 @@ use Rattle.shard_laws.proofs.Listing.{order_of, prepared_wrote, wrote_stands}
 use Rattle.shard_laws.proofs.Prepared.{prepared_append, prepared_from}
 use Rattle.shard_laws.proofs.Rebuilding.{none_prepare, plain_restart}
 use Rattle.history_laws.proofs.Serials.{committed_front}
-use Rattle.history_cases.proofs.Stepping.{commits, votes, rules, KeptByDue, settled, with_work, Step, op_dies, op_answers, request_refused, request_doomed, request_again, request_new, request_closes, looks_well, looks_ill, drops, sends, prepare_closes, prepare_again, vote_counts, decision_comes, decision_again, done_counts, asked, reminds, flushes, Happens, finishes, stops}
+use Rattle.history_cases.proofs.Stepping.{commits, votes, rules, KeptByDue, settled, with_work, Step, op_dies, op_answers, request_refused, request_doomed, request_again, request_closes, looks_well, looks_ill, drops, prepare_closes, decision_comes, Happens, finishes, stops}
 use Rattle.session_laws.proofs.Replying.{OpIs, dies, rolls, performs, reply_is}
 use Rattle.history_laws.proofs.Doubts.{doubt_undecided}
 
@@ -257,21 +257,13 @@ has_step P G pg s _ (op_answers tx birth nth seen op answer l g) w k = has_answe
 has_step P G pg s _ (request_refused tx ts cause g) w k = k
 has_step P G pg s _ (request_doomed tx ts doom g) w k = k
 has_step P G pg s _ (request_again tx ts f g) w k = k
-has_step P G pg s _ (request_new tx ts f g) w k = has_as P G s _ refl k
 has_step P G pg s _ (request_closes tx ts f g) w k = has_as P G (with_local (close_part tx s.shard (is_alone (others s.shard ts))) s) _ refl (has_close P G pg s tx s.shard (is_alone (others s.shard ts)) g k)
 has_step P G pg s _ (looks_well tx g) w k = k
 has_step P G pg s _ (looks_ill tx cause d g) w k = k
 has_step P G pg s _ (drops tx stage g) w k = has_drop P G s tx k
-has_step P G pg s _ (sends m ms g) w k = has_as P G s _ refl k
 has_step P G pg s _ (prepare_closes tx home seen stamp g) w k = has_as P G (with_local (close_part tx home false) s) _ refl (has_close P G pg s tx home false g k)
-has_step P G pg s _ (prepare_again tx home seen stamp g) w k = has_as P G s _ refl k
-has_step P G pg s _ (vote_counts tx from vote stamp q g c) w k = has_as P G s _ refl k
 has_step P G pg s _ (decision_comes tx home commit stamp g) w k = has_decided P G s tx commit k
-has_step P G pg s _ (decision_again tx home commit stamp g) w k = has_as P G s _ refl k
-has_step P G pg s _ (done_counts tx from stamp q g c) w k = has_as P G s _ refl k
-has_step P G pg s _ (asked tx from stamp) w k = has_as P G s _ refl k
-has_step P G pg s _ (reminds m ms g c) w k = has_as P G s _ refl k
-has_step P G pg s _ (flushes n g c) w k = has_as P G s _ refl k
+has_step P G pg s _ _ w k = has_as P G s _ refl k
 
 pub has_happens : (P G : TxId → Type 0) → ((t : TxId) → P t → G t) → (s t : Shard) {e : Event} {o : Outcome} → Happens s e o t → AnswersOf P e o → Has P G s → Has P G t
 has_happens P G pg s _ (finishes {t = t} u g) w k = has_finish P G t (has_step P G pg s t g w k)

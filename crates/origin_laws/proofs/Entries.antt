@@ -12,7 +12,7 @@ use Rattle.clv_base.specs.declared.logs.LogRecord.TheVariants.{Update, Clr, Prep
 use Rattle.clv_base.specs.declared.messages.Message.{Message}
 use Rattle.clv_base.specs.declared.messages.Message.TheVariants.{Prepare, Vote as VoteMessage, Decide, Done, Ask}
 use Rattle.clv_base.specs.declared.events.Event.{Event}
-use Rattle.clv_base.specs.declared.events.Event.TheVariants.{Op as OpEvent, Request as RequestEvent, Look, Drop, Send, Deliver, Remind, FlushOut, FlushIn, Stop, Restart}
+use Rattle.clv_base.specs.declared.events.Event.TheVariants.{Op as OpEvent, Request as RequestEvent, Deliver, FlushIn, Restart}
 use Rattle.clv_base.specs.declared.events.Outcome.{Outcome}
 use Rattle.clv_base.specs.declared.events.Outcome.TheVariants.{Answered, Asked, Sent}
 use Rattle.clv_base.specs.declared.events.Entry.{Entry}
@@ -175,18 +175,9 @@ owed : (run : ℕ) (pre : History) (n : ℕ) (x : Entry) (s t : Shard) (e : Even
 owed run pre n x s t (OpEvent tx b nth seen op) (Answered a m) p q g w =
     let z = answered_epoch s t g tx b nth seen op a m refl refl in
     did_now pre n x tx b nth seen op a s.local.epoch p (q ∙ ap (Answered a) z.0) (subst (SeenIs seen) z.0 z.1)
-owed run pre n x s t (OpEvent tx b nth seen op) _ p q g w = tt
 owed run pre n x s t (RequestEvent tx ts) Asked p q g w = ((n, x), ts, among_right (n, x) pre ((n, x) ∷ []) (inl refl), (p, q), refl)
-owed run pre n x s t (RequestEvent tx ts) _ p q g w = tt
 owed run pre n x s t (Deliver m stamp) o p q g w = message_mono (Requested pre) (Requested (pre ++ (n, x) ∷ [])) (IsOld run) (requested_more pre (n, x)) m w
-owed run pre n x s t (Look tx) o p q g w = tt
-owed run pre n x s t (Drop tx) o p q g w = tt
-owed run pre n x s t Send o p q g w = tt
-owed run pre n x s t Remind o p q g w = tt
-owed run pre n x s t FlushOut o p q g w = tt
-owed run pre n x s t FlushIn o p q g w = tt
-owed run pre n x s t Stop o p q g w = tt
-owed run pre n x s t Restart o p q g w = tt
+owed run pre n x s t _ o p q g w = tt
 
 -- after an event, with the parts that were known before
 happens_from : (run : ℕ) (pre : History) (n : ℕ) (x : Entry) (s t : Shard) {e : Event} {o : Outcome} → x.event ≡ e → x.outcome ≡ o → Happens s e o t → Brings (Requested pre) (IsOld run) e → Traced run pre n s

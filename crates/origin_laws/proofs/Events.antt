@@ -42,7 +42,7 @@ use Rattle.law_base.proofs.Rows.{rows_get, rows_put}
 use Rattle.law_base.proofs.Tables.{get_changed, get_put}
 use Rattle.law_base.proofs.Stages.{written_parts}
 use Rattle.shard_laws.proofs.Sound.{waiting_here}
-use Rattle.history_cases.proofs.Stepping.{with_work, Step, op_dies, op_answers, request_refused, request_doomed, request_again, request_new, request_closes, looks_well, looks_ill, drops, sends, prepare_closes, prepare_again, vote_counts, decision_comes, decision_again, done_counts, asked, reminds, flushes, Happens, finishes, stops}
+use Rattle.history_cases.proofs.Stepping.{with_work, Step, op_dies, op_answers, request_new, request_closes, drops, sends, prepare_closes, prepare_again, vote_counts, decision_comes, decision_again, done_counts, asked, reminds, flushes, Happens, finishes, stops}
 use Rattle.history_cases.proofs.Telling.{all_map}
 use Rattle.session_laws.proofs.Replying.{OpIs, dies, rolls, performs, reply_is}
 use Rattle.origin_laws.proofs.Origins.{SomeRequest, OwnRequest, AwayRequest, away_some, own_some, BirthFrom, StageFrom, PartFrom, CommitFrom, RecordFrom, StateFrom, RowFrom, MessageFrom, Origins, part_of, none_changed, AllFrom, push_records, clrs_all, standing_of, from_rolled, from_send, from_push, row_of, from_set, from_finish}
@@ -277,14 +277,9 @@ came_from Q O n to home tx e w = inl (home, (λ f. w.1 (e ∙ sym f)), w.0)
 pub from_step : (n ep : ℕ) (D : TxId → Birth → Type 0) (A : TxId → Type 0) (Q : TxId → ℕ → Type 0) (O K : TxId → Type 0) → ((t : TxId) (b : Birth) → D t b → A t) → (s t : Shard) {e : Event} {o : Outcome} → Step s e o t → Owes n D Q O e o → Origins n ep D A Q O K s → Origins n ep D A Q O K t
 from_step n ep D A Q O K da s _ (op_dies tx birth nth seen op cause l g) w p = dies_from n ep D A Q O K s tx birth seen op cause l (reply_is s.shard s.local tx birth seen op (OpDies cause l) g) p
 from_step n ep D A Q O K da s _ (op_answers tx birth nth seen op answer l g) w p = answers_from n ep D A Q O K da s tx birth seen op answer l (reply_is s.shard s.local tx birth seen op (OpAnswers answer l) g) w p
-from_step n ep D A Q O K da s _ (request_refused tx ts cause g) w p = p
-from_step n ep D A Q O K da s _ (request_doomed tx ts doom g) w p = p
-from_step n ep D A Q O K da s _ (request_again tx ts f g) w p = p
 from_step n ep D A Q O K da s _ (request_new tx ts f g) w p = from_coordinate n ep D A Q O K s tx ts w p
 from_step n ep D A Q O K da s _ (request_closes tx ts f g) w p =
     from_coordinate n ep D A Q O K (with_local (close_part tx s.shard (is_alone (others s.shard ts))) s) tx ts w (from_close n ep D A Q O K da s tx s.shard (is_alone (others s.shard ts)) g (inl (subst (Q tx) (sym p.shard) w)) p)
-from_step n ep D A Q O K da s _ (looks_well tx g) w p = p
-from_step n ep D A Q O K da s _ (looks_ill tx cause d g) w p = p
 from_step n ep D A Q O K da s _ (drops tx stage g) w p = from_drop n ep D A Q O K s tx p
 from_step n ep D A Q O K da s _ (sends m ms g) w p =
     record { shard = p.shard; epoch = p.epoch; out = (subst (AllByRecursion (MessageFrom Q O)) g p.out).1; voters = p.voters; parts = p.parts; known = p.known; log = p.log; requests = p.requests }
@@ -302,6 +297,7 @@ from_step n ep D A Q O K da s _ (done_counts tx from stamp q g c) w p =
 from_step n ep D A Q O K da s _ (asked tx from stamp) w p = from_send n ep D A Q O K s _ (answer_from Q O s tx from (ask_answer (tx_get tx s.requests) (facts_of s tx)) w) p
 from_step n ep D A Q O K da s _ (reminds m ms g c) w p = from_send n ep D A Q O K s (m ∷ ms) (subst (AllByRecursion (MessageFrom Q O)) c (reminders_from n ep D A Q O K s p)) p
 from_step n ep D A Q O K da s _ (flushes k g c) w p = record { shard = p.shard; epoch = p.epoch; out = p.out; voters = p.voters; parts = p.parts; known = p.known; log = p.log; requests = p.requests }
+from_step n ep D A Q O K da s _ _ w p = p
 
 pub from_happens : (n ep : ℕ) (D : TxId → Birth → Type 0) (A : TxId → Type 0) (Q : TxId → ℕ → Type 0) (O K : TxId → Type 0) → ((t : TxId) (b : Birth) → D t b → A t) → (s t : Shard) {e : Event} {o : Outcome} → Happens s e o t → Owes n D Q O e o → Origins n ep D A Q O K s → Origins n ep D A Q O K t
 from_happens n ep D A Q O K da s _ (finishes {t = t} u g) w p = from_finish n ep D A Q O K t (from_step n ep D A Q O K da s t g w p)

@@ -43,7 +43,7 @@ use Rattle.law_base.proofs.Tables.{stage_by, get_changed, get_put, is_pair, in_p
 use Rattle.law_base.proofs.LockRows.{Rows, rows_take, rows_all, rows_split, rows_close, rows_release, violated_row}
 use Rattle.law_base.proofs.Stages.{get_other, get_closed_own}
 use Rattle.shard_laws.proofs.Performing.{add_which}
-use Rattle.history_cases.proofs.Stepping.{commits, votes, rules, KeptByDue, settled, with_work, Step, op_dies, op_answers, request_refused, request_doomed, request_again, request_new, request_closes, looks_well, looks_ill, drops, sends, prepare_closes, prepare_again, vote_counts, decision_comes, decision_again, done_counts, asked, reminds, flushes, Happens, finishes, stops}
+use Rattle.history_cases.proofs.Stepping.{commits, votes, rules, KeptByDue, settled, with_work, Step, op_dies, op_answers, request_refused, request_doomed, request_again, request_closes, looks_well, looks_ill, drops, prepare_closes, decision_comes, Happens, finishes, stops}
 use Rattle.session_laws.proofs.Replying.{OpIs, dies, rolls, performs, reply_is}
 use Rattle.law_base.proofs.Names.{restored_there, MayStand}
 
@@ -274,21 +274,13 @@ tied_step E s _ (op_answers tx birth nth seen op answer l g) w k = tied_answers 
 tied_step E s _ (request_refused tx ts cause g) w k = k
 tied_step E s _ (request_doomed tx ts doom g) w k = k
 tied_step E s _ (request_again tx ts f g) w k = k
-tied_step E s _ (request_new tx ts f g) w k = tied_as E s _ refl k
 tied_step E s _ (request_closes tx ts f g) w k = tied_as E (with_local (close_part tx s.shard (is_alone (others s.shard ts))) s) _ refl (tied_close E s tx s.shard (is_alone (others s.shard ts)) k)
 tied_step E s _ (looks_well tx g) w k = k
 tied_step E s _ (looks_ill tx cause d g) w k = k
 tied_step E s _ (drops tx stage g) w k = tied_drop E s tx k
-tied_step E s _ (sends m ms g) w k = tied_as E s _ refl k
 tied_step E s _ (prepare_closes tx home seen stamp g) w k = tied_as E (with_local (close_part tx home false) s) _ refl (tied_close E s tx home false k)
-tied_step E s _ (prepare_again tx home seen stamp g) w k = tied_as E s _ refl k
-tied_step E s _ (vote_counts tx from vote stamp q g c) w k = tied_as E s _ refl k
 tied_step E s _ (decision_comes tx home commit stamp g) w k = tied_decided E s tx commit k
-tied_step E s _ (decision_again tx home commit stamp g) w k = tied_as E s _ refl k
-tied_step E s _ (done_counts tx from stamp q g c) w k = tied_as E s _ refl k
-tied_step E s _ (asked tx from stamp) w k = tied_as E s _ refl k
-tied_step E s _ (reminds m ms g c) w k = tied_as E s _ refl k
-tied_step E s _ (flushes n g c) w k = tied_as E s _ refl k
+tied_step E s _ _ w k = tied_as E s _ refl k
 
 pub tied_happens : (E : TxId → TxId → Type 0) (s t : Shard) {e : Event} {o : Outcome} → Happens s e o t → OpOwes E s e o → Tied E s → Tied E t
 tied_happens E s _ (finishes {t = t} u g) w k = tied_finish E t (tied_step E s t g w k)

@@ -243,15 +243,7 @@ flush_grows s _ = same s.local.log
 event_grows : (log : List LogRecord) (s : Shard) (e : Event) (o : Outcome) → is_restart e ≡ false → IsPrefixOf s.local.log (event_state log s e o).local.log
 event_grows log s FlushIn o n = flush_grows s o
 event_grows log s Restart o n = absurd (both_ways true n refl)
-event_grows log s (OpEvent tx birth nth seen op) o n = state_grows s (happen s (OpEvent tx birth nth seen op)) (happens s (OpEvent tx birth nth seen op))
-event_grows log s (RequestEvent tx ts) o n = state_grows s (happen s (RequestEvent tx ts)) (happens s (RequestEvent tx ts))
-event_grows log s (Look tx) o n = state_grows s (happen s (Look tx)) (happens s (Look tx))
-event_grows log s (Drop tx) o n = state_grows s (happen s (Drop tx)) (happens s (Drop tx))
-event_grows log s Send o n = state_grows s (happen s Send) (happens s Send)
-event_grows log s (Deliver m stamp) o n = state_grows s (happen s (Deliver m stamp)) (happens s (Deliver m stamp))
-event_grows log s Remind o n = state_grows s (happen s Remind) (happens s Remind)
-event_grows log s FlushOut o n = state_grows s (happen s FlushOut) (happens s FlushOut)
-event_grows log s Stop o n = state_grows s (happen s Stop) (happens s Stop)
+event_grows log s e o n = state_grows s (happen s e) (happens s e)
 
 pub entries_keep_logs : EntriesKeepLogs
 entries_keep_logs log s e n = event_grows log s e.event e.outcome n

@@ -35,7 +35,7 @@ use Rattle.law_base.proofs.Lists.{all_mono, all_append, insert_in as in_inserted
 use Rattle.law_base.proofs.Commits.{commit_durable, durable_keeps}
 use Rattle.protocol_laws.proofs.Growing.{grows_settled}
 use Rattle.shard_laws.proofs.Relisting.{request_from}
-use Rattle.history_cases.proofs.Stepping.{Step, op_dies, op_answers, request_refused, request_doomed, request_again, request_new, request_closes, looks_well, looks_ill, drops, sends, prepare_closes, prepare_again, vote_counts, decision_comes, decision_again, done_counts, asked, reminds, flushes, Happens, finishes, stops}
+use Rattle.history_cases.proofs.Stepping.{Step, op_dies, op_answers, request_new, request_closes, drops, sends, prepare_closes, prepare_again, vote_counts, decision_comes, decision_again, done_counts, asked, reminds, flushes, Happens, finishes, stops}
 use Rattle.history_cases.proofs.Entering.{Makes, by_event, by_flush, by_failure, by_restart}
 use Rattle.history_cases.proofs.Durability.{Counted, framed_finish}
 use Rattle.history_cases.proofs.Telling.{all_map}
@@ -138,15 +138,10 @@ hears_coordinate K s tx ts p =
 hears_step : (K : ℕ → TxId → Type 0) (s t : Shard) {e : Event} {o : Outcome} → ((u : TxId) → commit_durable s.local.log s.durable u ≡ true → K s.shard u) → Step s e o t → Brings K e → Hears K s → Hears K t
 hears_step K s _ now (op_dies tx birth nth seen op cause l g) b p = hears_local K s l (step_on s _ (op_dies tx birth nth seen op cause l g)) p
 hears_step K s _ now (op_answers tx birth nth seen op answer l g) b p = hears_local K s l (step_on s _ (op_answers tx birth nth seen op answer l g)) p
-hears_step K s _ now (request_refused tx ts cause g) b p = p
-hears_step K s _ now (request_doomed tx ts doom g) b p = p
-hears_step K s _ now (request_again tx ts f g) b p = p
 hears_step K s _ now (request_new tx ts f g) b p = hears_coordinate K s tx ts p
 hears_step K s _ now (request_closes tx ts f g) b p =
     let one = is_alone (others s.shard ts) in
     hears_coordinate K (with_local (close_part tx s.shard one) s) tx ts (hears_local K s (close_part tx s.shard one s.local) (on_closed tx s.shard one s.local) p)
-hears_step K s _ now (looks_well tx g) b p = p
-hears_step K s _ now (looks_ill tx cause d g) b p = p
 hears_step K s _ now (drops tx stage g) b p = hears_local K s (drop_part tx s.local) (on_dropped tx s.local) p
 hears_step K s _ now (sends m ms g) b p = record { log = p.log; rows = p.rows; out = (subst (AllByRecursion (Says K)) g p.out).1 }
 hears_step K s _ now (prepare_closes tx home seen stamp g) b p =
@@ -159,6 +154,7 @@ hears_step K s _ now (done_counts tx from stamp q g c) b p = hears_set K s tx (w
 hears_step K s _ now (asked tx from stamp) b p = hears_send K s _ (answer_says K s tx from (ask_answer (tx_get tx s.requests) (facts_of s tx))) p
 hears_step K s _ now (reminds m ms g c) b p = hears_send K s (m ∷ ms) (subst (AllByRecursion (Says K)) c (reminders_say K s)) p
 hears_step K s _ now (flushes n g c) b p = record { log = p.log; rows = p.rows; out = p.out }
+hears_step K s _ now _ b p = p
 
 -- ---- a restart, and a shard that opened
 

@@ -29,7 +29,7 @@ use Rattle.law_base.proofs.Changed.{some_same}
 use Rattle.law_base.proofs.Commits.{committed_keeps, parts_keep}
 use Rattle.law_base.proofs.Lists.{all_append}
 use Rattle.session_laws.proofs.Replying.{OpIs, dies, rolls, performs, reply_is}
-use Rattle.history_cases.proofs.Stepping.{Step, op_dies, op_answers, request_refused, request_doomed, request_again, request_new, request_closes, looks_well, looks_ill, drops, sends, prepare_closes, prepare_again, vote_counts, decision_comes, decision_again, done_counts, asked, reminds, flushes}
+use Rattle.history_cases.proofs.Stepping.{Step, op_dies, op_answers, request_closes, drops, prepare_closes, decision_comes}
 
 -- ---- the parts that a COMMIT names: those of the first one, in a longer log too
 
@@ -169,25 +169,12 @@ on_closed tx home one l = on_more l.log (closing (wrote_in l.log tx) one tx home
 pub step_on : (s t : Shard) {e : Event} {o : Outcome} → Step s e o t → GoesOn s.local.log t.local.log
 step_on s _ (op_dies tx birth nth seen op cause l g) = dying s.local l tx birth seen op cause (reply_is s.shard s.local tx birth seen op _ g)
 step_on s _ (op_answers tx birth nth seen op answer l g) = answering s.local l tx birth seen op answer (reply_is s.shard s.local tx birth seen op _ g)
-step_on s _ (request_refused tx ts cause g) = on_same s.local.log
-step_on s _ (request_doomed tx ts doom g) = on_same s.local.log
-step_on s _ (request_again tx ts f g) = on_same s.local.log
-step_on s _ (request_new tx ts f g) = on_same s.local.log
 step_on s _ (request_closes tx ts f g) = on_closed tx s.shard (is_alone (others s.shard ts)) s.local
-step_on s _ (looks_well tx g) = on_same s.local.log
-step_on s _ (looks_ill tx cause d g) = on_same s.local.log
 step_on s _ (drops tx stage g) = on_dropped tx s.local
-step_on s _ (sends m ms g) = on_same s.local.log
 step_on s _ (prepare_closes tx home seen stamp g) = on_closed tx home false s.local
-step_on s _ (prepare_again tx home seen stamp g) = on_same s.local.log
-step_on s _ (vote_counts tx from vote stamp q g c) = on_same s.local.log
 step_on s _ (decision_comes tx home true stamp g) = on_more s.local.log (Commit tx [] ∷ []) ((λ u. refl), tt)
 step_on s _ (decision_comes tx home false stamp g) = on_rolled tx s.local
-step_on s _ (decision_again tx home commit stamp g) = on_same s.local.log
-step_on s _ (done_counts tx from stamp q g c) = on_same s.local.log
-step_on s _ (asked tx from stamp) = on_same s.local.log
-step_on s _ (reminds m ms g c) = on_same s.local.log
-step_on s _ (flushes n g c) = on_same s.local.log
+step_on s _ _ = on_same s.local.log
 
 -- nor does a restart
 

@@ -38,7 +38,7 @@ use Rattle.protocol_laws.specs.Growth.{IsPrefixOf}
 use Rattle.protocol_laws.proofs.Growing.{same, more, more_twice}
 use Rattle.shard_laws.proofs.Relisting.{request_from}
 use Rattle.shard_laws.proofs.Rulings.{parts_new}
-use Rattle.history_cases.proofs.Stepping.{commits, votes, rules, KeptByDue, settled, Step, op_dies, op_answers, request_refused, request_doomed, request_again, request_new, request_closes, looks_well, looks_ill, drops, sends, prepare_closes, prepare_again, vote_counts, decision_comes, decision_again, done_counts, asked, reminds, flushes, Happens, finishes, stops}
+use Rattle.history_cases.proofs.Stepping.{commits, votes, rules, KeptByDue, settled, Step, op_dies, op_answers, request_refused, request_doomed, request_again, request_new, request_closes, looks_well, looks_ill, drops, prepare_closes, vote_counts, decision_comes, done_counts, Happens, finishes, stops}
 use Rattle.history_cases.proofs.Entering.{Makes, by_event, by_flush, by_failure, by_restart}
 use Rattle.history_cases.proofs.Uncommitting.{NoMoreCommits, with_more, rolled, dropped, op_dying, op_answering, restarts_add, opening_adds}
 use Rattle.fate_laws.proofs.Inside.{inside_step}
@@ -256,16 +256,11 @@ module _ (run : ℕ) (W : TxId → ℕ → List (ℕ × ℕ) → Type 0) (V : �
   polls_step s _ (looks_well tx g) w p = p
   polls_step s _ (looks_ill tx cause d g) w p = p
   polls_step s _ (drops tx stage g) w p = polls_local W V s (drop_part tx s.local) ((inside_step s _ (drops tx stage g)).log, dropped tx s.local) p
-  polls_step s _ (sends m ms g) w p = record { log = p.log; rows = p.rows }
   polls_step s _ (prepare_closes tx home seen stamp g) w p = let q = polls_close W V s tx home false (λ a. absurd (both_ways false refl a)) p in record { log = q.log; rows = q.rows }
-  polls_step s _ (prepare_again tx home seen stamp g) w p = record { log = p.log; rows = p.rows }
   polls_step s _ (vote_counts tx from vote stamp q g c) w p = polls_set W V s tx (with_vote_of from vote q) (λ z. let r = p.rows tx q g z in (r.0, votes_put (V s.shard tx) q.votes from vote w r.1)) p
   polls_step s _ (decision_comes tx home commit stamp g) w p = polls_decided s tx home stamp commit Taken (awaits s tx commit g) w p
-  polls_step s _ (decision_again tx home commit stamp g) w p = record { log = p.log; rows = p.rows }
   polls_step s _ (done_counts tx from stamp q g c) w p = polls_set W V s tx (with_done_of from q) (p.rows tx q g) p
-  polls_step s _ (asked tx from stamp) w p = record { log = p.log; rows = p.rows }
-  polls_step s _ (reminds m ms g c) w p = record { log = p.log; rows = p.rows }
-  polls_step s _ (flushes n g c) w p = record { log = p.log; rows = p.rows }
+  polls_step s _ _ w p = record { log = p.log; rows = p.rows }
 
   -- ---- a restart, and a shard that opened
 

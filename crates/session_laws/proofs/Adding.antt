@@ -8,7 +8,7 @@ use Rattle.clv_base.specs.declared.names.Birth.{Birth}
 use Rattle.clv_base.specs.declared.ops.Op.{Op}
 use Rattle.clv_base.specs.declared.ops.Answer.{Answer}
 use Rattle.clv_base.specs.declared.events.Event.{Event}
-use Rattle.clv_base.specs.declared.events.Event.TheVariants.{Op as OpEvent, Request as RequestEvent, Look, Drop, Send, Deliver, Remind, FlushOut, FlushIn, Stop, Restart}
+use Rattle.clv_base.specs.declared.events.Event.TheVariants.{Op as OpEvent, Look}
 use Rattle.clv_base.specs.declared.events.Outcome.{Outcome}
 use Rattle.clv_base.specs.declared.events.Outcome.TheVariants.{Answered, Acknowledged}
 use Rattle.clv_base.specs.declared.events.Entry.{Entry}
@@ -44,16 +44,7 @@ one_op s (OpEvent tx birth nth seen op) (Answered a n) t = at (tx_same t tx) (tx
     at false true e = absurd (both_ways true (sym e) refl)
     at false false e = refl
 one_op s (OpEvent tx birth nth seen op) _ t = refl
-one_op s (RequestEvent tx ts) o t = refl
-one_op s (Look tx) o t = refl
-one_op s (Drop tx) o t = refl
-one_op s Send o t = refl
-one_op s (Deliver m stamp) o t = refl
-one_op s Remind o t = refl
-one_op s FlushOut o t = refl
-one_op s FlushIn o t = refl
-one_op s Stop o t = refl
-one_op s Restart o t = refl
+one_op s _ o t = refl
 
 pub items_next : (pre : History) (x : Entry) (s : Shard) (all : List Item) (t : TxId) → ops_in t pre ≡ map told_pair (items_of t all)
     → ops_in t (pre ++ (0, x) ∷ []) ≡ map told_pair (items_of t (with_one all (new_item s x.event x.outcome)))
@@ -68,17 +59,7 @@ items_next pre x s all t e =
 -- what it adds to those that are told
 one_told : (e : Event) (o : Outcome) (t : TxId) → tx_in t (with_one [] (new_told e o)) ≡ (is_acknowledgement t e o || false)
 one_told (Look tx) Acknowledged t = ap (λ b. b || false) (same_flip tx t)
-one_told (Look tx) _ t = refl
-one_told (OpEvent tx birth nth seen op) o t = refl
-one_told (RequestEvent tx ts) o t = refl
-one_told (Drop tx) o t = refl
-one_told Send o t = refl
-one_told (Deliver m stamp) o t = refl
-one_told Remind o t = refl
-one_told FlushOut o t = refl
-one_told FlushIn o t = refl
-one_told Stop o t = refl
-one_told Restart o t = refl
+one_told _ o t = refl
 
 pub told_next : (pre : History) (x : Entry) (told : List TxId) (t : TxId) → tx_in t told ≡ acknowledged_in pre t → tx_in t (with_one told (new_told x.event x.outcome)) ≡ acknowledged_in (pre ++ (0, x) ∷ []) t
 told_next pre x told t e =

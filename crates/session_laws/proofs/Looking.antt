@@ -8,7 +8,7 @@ use Rattle.clv_base.specs.declared.events.Outcome.{Outcome}
 use Rattle.clv_base.specs.declared.events.Outcome.TheVariants.{Aborted}
 use Rattle.clv_base.specs.State.{Shard}
 use Rattle.clv_base.specs.Events.{finish}
-use Rattle.history_cases.proofs.Stepping.{FindsIll, Step, op_dies, op_answers, request_refused, request_doomed, request_again, request_new, request_closes, looks_well, looks_ill, drops, sends, prepare_closes, prepare_again, vote_counts, decision_comes, decision_again, done_counts, asked, reminds, flushes, Happens, finishes, stops}
+use Rattle.history_cases.proofs.Stepping.{FindsIll, Step, looks_ill, Happens, finishes, stops}
 
 -- it leaves the shard as it was, with what is due done
 pub data IllOf (s t : Shard) (tx : TxId) (cause : AbortCause) : Type 0 where
@@ -22,25 +22,7 @@ one_cause e = cc
 
 pub ill_step : (s t : Shard) {e : Event} {o : Outcome} → Step s e o t → (tx : TxId) (c : AbortCause) → e ≡ Look tx → o ≡ Aborted c → FindsIll s tx c × (t ≡ s)
 ill_step s _ (looks_ill t cause d g) tx c q r = (subst (λ z. FindsIll s z c) (one_look q) (subst (FindsIll s t) (one_cause r) g), refl)
-ill_step s _ (request_again t us f g) tx c q r = absurd cc
-ill_step s _ (request_new t us f g) tx c q r = absurd cc
-ill_step s _ (request_closes t us f g) tx c q r = absurd cc
-ill_step s _ (op_dies t birth nth seen op cause l g) tx c q r = absurd cc
-ill_step s _ (op_answers t birth nth seen op answer l g) tx c q r = absurd cc
-ill_step s _ (request_refused t us cause g) tx c q r = absurd cc
-ill_step s _ (request_doomed t us doom g) tx c q r = absurd cc
-ill_step s _ (looks_well t g) tx c q r = absurd cc
-ill_step s _ (drops t stage g) tx c q r = absurd cc
-ill_step s _ (sends m ms g) tx c q r = absurd cc
-ill_step s _ (prepare_closes t home seen stamp g) tx c q r = absurd cc
-ill_step s _ (prepare_again t home seen stamp g) tx c q r = absurd cc
-ill_step s _ (vote_counts t from vote stamp w g b) tx c q r = absurd cc
-ill_step s _ (decision_comes t home commit stamp g) tx c q r = absurd cc
-ill_step s _ (decision_again t home commit stamp g) tx c q r = absurd cc
-ill_step s _ (done_counts t from stamp w g b) tx c q r = absurd cc
-ill_step s _ (asked t from stamp) tx c q r = absurd cc
-ill_step s _ (reminds m ms g b) tx c q r = absurd cc
-ill_step s _ (flushes k g b) tx c q r = absurd cc
+ill_step s _ _ tx c q r = absurd cc
 
 pub ill_happens : (s t : Shard) {e : Event} {o : Outcome} → Happens s e o t → (tx : TxId) (c : AbortCause) → e ≡ Look tx → o ≡ Aborted c → IllOf s t tx c
 ill_happens s _ (finishes {t = t} u g) tx c q r = let p = ill_step s t g tx c q r in ill p.0 (ap finish p.1)

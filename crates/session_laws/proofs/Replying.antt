@@ -18,7 +18,7 @@ use Rattle.clv_base.specs.State.{Shard, Local, is_present}
 use Rattle.clv_base.specs.Undo.{stage_of, roll_back}
 use Rattle.clv_base.specs.Needs.{needs_of, answer_of}
 use Rattle.clv_base.specs.OneShard.{OpReply, OpWaits, OpCrowded, OpDies, OpAnswers, performed, rolled_back_if, op_granted, op_decided, op_by_stage, op_seen, op_reply, seen_fits}
-use Rattle.history_cases.proofs.Stepping.{Step, op_dies, op_answers, request_refused, request_doomed, request_again, request_new, request_closes, looks_well, looks_ill, drops, sends, prepare_closes, prepare_again, vote_counts, decision_comes, decision_again, done_counts, asked, reminds, flushes, Happens, finishes, stops}
+use Rattle.history_cases.proofs.Stepping.{Step, op_dies, op_answers, Happens, finishes, stops}
 
 -- ---- its replies
 
@@ -85,22 +85,5 @@ answered_epoch s _ (finishes {t = t} u g) tx birth nth seen op a n q r = at t g 
         one_seen : OpEvent tx0 birth0 nth0 seen0 op0 ≡ OpEvent tx birth nth seen op → seen0 ≡ seen
         one_seen z = cc
     at t (op_dies tx0 birth0 nth0 seen0 op0 cause l g) q r = absurd cc
-    at t (request_refused tx0 ts cause g) q r = absurd cc
-    at t (request_doomed tx0 ts doom g) q r = absurd cc
-    at t (request_again tx0 ts f g) q r = absurd cc
-    at t (request_new tx0 ts f g) q r = absurd cc
-    at t (request_closes tx0 ts f g) q r = absurd cc
-    at t (looks_well tx0 g) q r = absurd cc
-    at t (looks_ill tx0 cause d g) q r = absurd cc
-    at t (drops tx0 stage g) q r = absurd cc
-    at t (sends m ms g) q r = absurd cc
-    at t (prepare_closes tx0 home seen0 stamp g) q r = absurd cc
-    at t (prepare_again tx0 home seen0 stamp g) q r = absurd cc
-    at t (vote_counts tx0 from vote stamp q0 g c) q r = absurd cc
-    at t (decision_comes tx0 home commit stamp g) q r = absurd cc
-    at t (decision_again tx0 home commit stamp g) q r = absurd cc
-    at t (done_counts tx0 from stamp q0 g c) q r = absurd cc
-    at t (asked tx0 from stamp) q r = absurd cc
-    at t (reminds m ms g c) q r = absurd cc
-    at t (flushes k g c) q r = absurd cc
+    at t _ q r = absurd cc
 answered_epoch s _ (stops u) tx birth nth seen op a n q r = absurd cc
