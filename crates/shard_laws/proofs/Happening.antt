@@ -516,6 +516,7 @@ order_put asked s tx touched k ruled = record {
   ordered = k.ordered;
   lying = k.lying;
   rulings = λ u q e. at u q (tx_same u tx) refl (sym (get_put tx u (new_request touched Undecided) s.requests) ∙ e);
+  asks = k.asks;
 }
   where
     at : (u : TxId) (q : Request) (b : Bool) → tx_same u tx ≡ b → cond b (Some (new_request touched Undecided)) (tx_get u s.requests) ≡ Some q → Ruled s.shard s.run s.local.log u q
@@ -600,7 +601,7 @@ new_here g s tx may (inr l) = let q = may.3 in omega (arith, l, q)
 
 request_stage : (all : List Item) (g : Past) (s : Shard) (tx : TxId) (touched : List (ℕ × ℕ)) (o : Option Stage) → Sound all g s → MayAsk (did all [] g) s tx → stage_of s.local tx ≡ o → seen_fits s.local.epoch (epoch_in s.shard touched) ≡ true → Keeps_reply all g s (RequestEvent tx touched) (request_by_stage s tx touched o)
 request_stage all g s tx touched None h may e f = ends all g s (coordinate tx touched s) (RequestEvent tx touched) _ (refl, none_asks g s tx touched None true e f refl, refl) refl (at_once all g (coordinate tx touched s) (coordinated all g s tx touched h (inl (false_from_ne_true _ (λ c. new_here g s tx may (h.asked tx c)))) may.1
-    (new_ruled s.shard s.run s.local.log tx touched may.3 (λ p i. absurd (new_here g s tx may (h.order.ordered.asks tx (prepared_there s.local.log tx p i)))))
+    (new_ruled s.shard s.run s.local.log tx touched may.3 (λ p i. absurd (new_here g s tx may (h.order.asks tx (prepared_there s.local.log tx p i)))))
     (λ here. absurd (both_ways false refl (sym (ap is_present e) ∙ here)))))
 request_stage all g s tx touched (Some Closed) h may e f = ends all g s s (RequestEvent tx touched) _ (refl, none_asks g s tx touched (Some Closed) true e f refl, refl) refl (at_once all g s h)
 request_stage all g s tx touched (Some (Gone None)) h may e f = ends all g s s (RequestEvent tx touched) _ (refl, none_asks g s tx touched (Some (Gone None)) true e f refl, refl) refl (at_once all g s h)

@@ -198,9 +198,10 @@ module _ (shard run : ℕ) (before : List LogRecord) (may : MayServe shard run b
 
   order_start : KeepsOrder (found_asked shard before) shard run (restored_locks doubt Now []) (restored_parts doubt) (restored_pairs Now doubt) Now (restored_requests (unended_in Now Now))
   order_start = subst KeepsNow re.found.doubts (record {
-    ordered = ordered_restored (found_asked shard before) shard run Now renewed_start old_prepared;
-    lying = lying_restored (found_asked shard before) shard run Now renewed_start old_prepared;
-    rulings = rulings_restored (found_asked shard before) shard run Now renewed_start old_prepared;
+    ordered = ordered_restored shard run Now renewed_start;
+    lying = lying_restored shard run Now renewed_start;
+    rulings = rulings_restored shard run Now renewed_start;
+    asks = old_prepared;
   })
 
   -- ---- who fell

@@ -39,7 +39,7 @@ pub record Lying (locks : Locks) (pairs : List (TxId × TxId)) (log : List LogRe
   pub under : Under pairs (committed_in log) (standing log)
   pub writers : Writers (λ t. wrote_in log t ≡ true) locks
 
-pub record Ordered (asked : List TxId) (shard run : ℕ) (parts : Table Held) (pairs : List (TxId × TxId)) (log : List LogRecord) : Type 0 where
+pub record Ordered (shard run : ℕ) (parts : Table Held) (pairs : List (TxId × TxId)) (log : List LogRecord) : Type 0 where
   pub follows : Follows shard [] log
   -- its last RESTART is of this run, and none is of a later one
   pub last : (epoch : ℕ) × (last_restart log ≡ Some (run, epoch))
@@ -53,8 +53,6 @@ pub record Ordered (asked : List TxId) (shard run : ℕ) (parts : Table Held) (p
   -- a predecessor is another one, committed, or closed here, where it wrote; whom a PREPARE lists is committed or one still
   pub others : (t p : TxId) → is_pair pairs t p ≡ true → (t ≡ p → ⊥) × ((committed_in log p ≡ true) ⊎ ((stage_in parts p ≡ Some Closed) × (wrote_in log p ≡ true)))
   pub lists : (t p : TxId) → stage_in parts t ≡ Some Closed → tx_in p (listed_in log t) ≡ true → (committed_in log p ≡ true) ⊎ (is_pair pairs t p ≡ true)
-  -- who is prepared asked, or is of an earlier run
-  pub asks : (t : TxId) → prepared_in log t ≡ true → (tx_in t asked ≡ true) ⊎ (t.run < run)
 
 -- ---- lists of records
 
@@ -128,8 +126,8 @@ pub record Stepped (shard : ℕ) (parts parts2 : Table Held) (pairs pairs2 : Lis
   pub kept : (t p : TxId) → is_pair pairs2 t p ≡ true → (is_pair pairs t p ≡ true) × ((stage_in parts p ≡ Some Closed) → (stage_in parts2 p ≡ Some Closed) ⊎ ((wrote_in log p ≡ true) → committed_in log p ≡ true))
   pub stay : (t p : TxId) → stage_in parts2 t ≡ Some Closed → is_pair pairs t p ≡ true → is_pair pairs2 t p ≡ true
 
-pub ordered_step : (asked : List TxId) (shard run : ℕ) (parts parts2 : Table Held) (pairs pairs2 : List (TxId × TxId)) (log more : List LogRecord) → Ordered asked shard run parts pairs log → Stepped shard parts parts2 pairs pairs2 log more → Ordered asked shard run parts2 pairs2 (log ++ more)
-ordered_step asked shard run parts parts2 pairs pairs2 log more o s = record {
+pub ordered_step : (shard run : ℕ) (parts parts2 : Table Held) (pairs pairs2 : List (TxId × TxId)) (log more : List LogRecord) → Ordered shard run parts pairs log → Stepped shard parts parts2 pairs pairs2 log more → Ordered shard run parts2 pairs2 (log ++ more)
+ordered_step shard run parts parts2 pairs pairs2 log more o s = record {
   follows = follows_append shard [] log more o.follows s.follows;
   last = ((o.last).0, last_all log more plain ∙ (o.last).1);
   latest = greatest_all log more run plain o.latest;
@@ -143,7 +141,6 @@ ordered_step asked shard run parts parts2 pairs pairs2 log more o s = record {
       let q = o.others t p k.0 in
       (q.0, ⊎_elim (λ c. inl (committed_keeps log more p c)) (λ c. ⊎_elim (λ i. inr (i, wrote_keeps log more p c.1)) (λ d. inl (committed_keeps log more p (d c.1))) (k.1 c.0)) q.1);
   lists = λ t p c i. ⊎_elim (λ k. inl (committed_keeps log more p k)) (λ e. inr (s.stay t p c e)) (o.lists t p (s.closed t c) (ap (tx_in p) (sym (listed_same log more t (no_prepares t))) ∙ i));
-  asks = λ t e. o.asks t (from_first (is_prepare_of t) log more (no_prepares t) e);
 }
   where
     plain : AllByRecursion Plainly more
@@ -155,15 +152,22 @@ ordered_step asked shard run parts parts2 pairs pairs2 log more o s = record {
     no_prepares : (t : TxId) → prepared_in more t ≡ false
     no_prepares t = none_any (is_prepare_of t) more (all_mono _ _ (λ r c. c.no_prepare t) more s.calm)
 
+-- who is prepared asked, or is of an earlier run
+abbrev pub AskedFirst : List TxId → ℕ → List LogRecord → Type 0
+AskedFirst asked run log = (t : TxId) → prepared_in log t ≡ true → (tx_in t asked ≡ true) ⊎ (t.run < run)
+
+pub asked_more : (asked : List TxId) (run : ℕ) (log more : List LogRecord) → ((t : TxId) → prepared_in more t ≡ false) → AskedFirst asked run log → AskedFirst asked run (log ++ more)
+asked_more asked run log more none a t e = a t (from_first (is_prepare_of t) log more (none t) e)
+
 -- a record more, where parts and pairs stay
-pub ordered_record : (asked : List TxId) (shard run : ℕ) (parts : Table Held) (pairs : List (TxId × TxId)) (log : List LogRecord) (r : LogRecord) → Ordered asked shard run parts pairs log → may_follow shard log r ≡ true → Calm parts r → Ordered asked shard run parts pairs (log ++ r ∷ [])
-ordered_record asked shard run parts pairs log r o m c =
-    ordered_step asked shard run parts parts pairs pairs log (r ∷ []) o
+pub ordered_record : (shard run : ℕ) (parts : Table Held) (pairs : List (TxId × TxId)) (log : List LogRecord) (r : LogRecord) → Ordered shard run parts pairs log → may_follow shard log r ≡ true → Calm parts r → Ordered shard run parts pairs (log ++ r ∷ [])
+ordered_record shard run parts pairs log r o m c =
+    ordered_step shard run parts parts pairs pairs log (r ∷ []) o
     (record { follows = (m, tt); calm = (c, tt); active = λ t a. a; closed = λ t a. a; kept = λ t p e. (e, λ i. inl i); stay = λ t p i e. e })
 
 -- only parts and pairs
-pub ordered_parts : (asked : List TxId) (shard run : ℕ) (parts parts2 : Table Held) (pairs pairs2 : List (TxId × TxId)) (log : List LogRecord) → Ordered asked shard run parts pairs log → Stepped shard parts parts2 pairs pairs2 log [] → Ordered asked shard run parts2 pairs2 log
-ordered_parts asked shard run parts parts2 pairs pairs2 log o s = subst (Ordered asked shard run parts2 pairs2) (append-nil log) (ordered_step asked shard run parts parts2 pairs pairs2 log [] o s)
+pub ordered_parts : (shard run : ℕ) (parts parts2 : Table Held) (pairs pairs2 : List (TxId × TxId)) (log : List LogRecord) → Ordered shard run parts pairs log → Stepped shard parts parts2 pairs pairs2 log [] → Ordered shard run parts2 pairs2 log
+ordered_parts shard run parts parts2 pairs pairs2 log o s = subst (Ordered shard run parts2 pairs2) (append-nil log) (ordered_step shard run parts parts2 pairs pairs2 log [] o s)
 
 -- ---- what lies under a write
 
@@ -215,7 +219,7 @@ under_all pairs done f tx ws fall u h =
 
 -- ---- which records may follow
 
-module _ (asked : List TxId) (shard run : ℕ) (locks : Locks) (parts : Table Held) (pairs : List (TxId × TxId)) (log : List LogRecord) (o : Ordered asked shard run parts pairs log) (l : Lying locks pairs log) (fall : Falling (standing log)) where
+module _ (shard run : ℕ) (locks : Locks) (parts : Table Held) (pairs : List (TxId × TxId)) (log : List LogRecord) (o : Ordered shard run parts pairs log) (l : Lying locks pairs log) (fall : Falling (standing log)) where
   pub restarted : is_some (last_restart log) ≡ true
   restarted = ap is_some (o.last).1
 

@@ -19,7 +19,7 @@ use Rattle.clv_base.specs.declared.state.Held.{Held}
 use Rattle.clv_base.specs.Orders.{Table, tx_same, tx_in, tx_get}
 use Rattle.clv_base.specs.State.{is_present}
 use Rattle.clv_base.specs.Locks.{Locks, decide, violated, take_all}
-use Rattle.clv_base.specs.Logs.{StandingUpdate, standing, committed_in, prepared_in, aborted_in, wrote_in, newest_at, value_in, is_update_of, is_prepare_of, is_abort_of}
+use Rattle.clv_base.specs.Logs.{StandingUpdate, standing, committed_in, prepared_in, aborted_in, wrote_in, newest_at, value_in, is_update_of, is_abort_of}
 use Rattle.clv_base.specs.LogRules.{may_follow, same_option, may_cover, before_restart}
 use Rattle.clv_base.specs.Needs.{needs_of, found_at, value_at, key_of, inserts, writes_of}
 use Rattle.clv_base.specs.OneShard.{new_part, add_pairs, inserted_locks}
@@ -48,9 +48,9 @@ use Rattle.law_base.proofs.Names.{MayStand}
 
 -- ---- an UPDATE of an active part
 
-pub ordered_update : (asked : List TxId) (shard run : ℕ) (parts : Table Held) (pairs : List (TxId × TxId)) (log : List LogRecord) (t : TxId) (key : ℕ) (before after : Option ℕ) → Ordered asked shard run parts pairs log → may_follow shard log (Update t key before after) ≡ true
-    → stage_in parts t ≡ Some Active → Ordered asked shard run parts pairs (log ++ Update t key before after ∷ [])
-ordered_update asked shard run parts pairs log t key before after o m act = record {
+pub ordered_update : (shard run : ℕ) (parts : Table Held) (pairs : List (TxId × TxId)) (log : List LogRecord) (t : TxId) (key : ℕ) (before after : Option ℕ) → Ordered shard run parts pairs log → may_follow shard log (Update t key before after) ≡ true
+    → stage_in parts t ≡ Some Active → Ordered shard run parts pairs (log ++ Update t key before after ∷ [])
+ordered_update shard run parts pairs log t key before after o m act = record {
   follows = follows_append shard [] log (Update t key before after ∷ []) o.follows (m, tt);
   last = ((o.last).0, last_push log (Update t key before after) tt ∙ (o.last).1);
   latest = greatest_plain log (Update t key before after) run tt o.latest;
@@ -61,7 +61,6 @@ ordered_update asked shard run parts pairs log t key before after o m act = reco
       (λ a. absurd (closed_not_active (sym c ∙ ap (stage_in parts) (tx_true u t a) ∙ act))) (push_cases (is_update_of u) log (Update t key before after) w);
   others = λ u p e. let q = o.others u p e in (q.0, ⊎_elim (λ c. inl (committed_keeps log (Update t key before after ∷ []) p c)) (λ c. inr (c.0, wrote_keeps log (Update t key before after ∷ []) p c.1)) q.1);
   lists = λ u p c i. ⊎_elim (λ k. inl (committed_keeps log (Update t key before after ∷ []) p k)) (λ e. inr e) (o.lists u p c (ap (tx_in p) (sym (listed_same log (Update t key before after ∷ []) u refl)) ∙ i));
-  asks = λ u e. ⊎_elim (λ old. o.asks u old) (λ s. absurd (both_ways false refl s)) (push_cases (is_prepare_of u) log (Update t key before after) e);
 }
 
 -- ---- a new part, and more pairs
@@ -74,10 +73,10 @@ add_which tx (q ∷ qs) pairs t p e =
     (λ h. inr (h.0, or_right (tx_same q p) _ h.1))
     (add_which tx qs _ t p e)
 
-pub ordered_new : (asked : List TxId) (shard run : ℕ) (parts parts2 : Table Held) (pairs : List (TxId × TxId)) (log : List LogRecord) (t : TxId) (vs : List TxId) → Ordered asked shard run parts pairs log
+pub ordered_new : (shard run : ℕ) (parts parts2 : Table Held) (pairs : List (TxId × TxId)) (log : List LogRecord) (t : TxId) (vs : List TxId) → Ordered shard run parts pairs log
     → (stage_in parts2 t ≡ Some Active) → ((u : TxId) → (u ≡ t → ⊥) → stage_in parts2 u ≡ stage_in parts u) → (stage_in parts t ≡ Some Closed → ⊥) → t.run ≡ run → wrote_in (before_restart [] log) t ≡ false → aborted_in log t ≡ false
-    → ((p : TxId) → tx_in p vs ≡ true → (t ≡ p → ⊥) × ((stage_in parts p ≡ Some Closed) × (wrote_in log p ≡ true))) → Ordered asked shard run parts2 (add_pairs t vs pairs) log
-ordered_new asked shard run parts parts2 pairs log t vs o own same was run_is unwritten unaborted viol = record {
+    → ((p : TxId) → tx_in p vs ≡ true → (t ≡ p → ⊥) × ((stage_in parts p ≡ Some Closed) × (wrote_in log p ≡ true))) → Ordered shard run parts2 (add_pairs t vs pairs) log
+ordered_new shard run parts parts2 pairs log t vs o own same was run_is unwritten unaborted viol = record {
   follows = o.follows;
   last = o.last;
   latest = o.latest;
@@ -91,7 +90,6 @@ ordered_new asked shard run parts parts2 pairs log t vs o own same was run_is un
       (λ n. let q = viol p n.1 in ((λ s. q.0 (sym n.0 ∙ s)), inr (still p q.1.0, q.1.1)))
       (add_which t vs pairs u p e);
   lists = λ u p c i. ⊎_elim (λ k. inl k) (λ e. inr (add_keeps t vs pairs u p e)) (o.lists u p (back u c) i);
-  asks = o.asks;
 }
   where
     back : (u : TxId) → stage_in parts2 u ≡ Some Closed → stage_in parts u ≡ Some Closed
@@ -133,7 +131,7 @@ newest_holds P k (v ∷ vs) w a e = at (k == v.key) refl e (newest_holds P k vs 
 
 -- ---- all of it
 
-module _ (asked : List TxId) (shard run : ℕ) (g : Past) (v : View) (tx : TxId) (birth : Birth) (op : Op) (k : Kept g v) (o : Ordered asked shard run v.parts v.pairs v.log) (l : Lying v.locks v.pairs v.log) (order : Order shard v.log)
+module _ (shard run : ℕ) (g : Past) (v : View) (tx : TxId) (birth : Birth) (op : Op) (k : Kept g v) (o : Ordered shard run v.parts v.pairs v.log) (l : Lying v.locks v.pairs v.log) (order : Order shard v.log)
     (grant : decide tx birth (needs_of op v.records) v.locks ≡ Grant) (may : MayStand v.parts tx birth) (run_is : tx.run ≡ run) (open_ : committed_in v.log tx ≡ false) (unprepared : prepared_in v.log tx ≡ false) (unaborted : aborted_in v.log tx ≡ false)
     (unwritten : wrote_in (before_restart [] v.log) tx ≡ false) where
   abbrev needs : List Need
@@ -218,14 +216,14 @@ module _ (asked : List TxId) (shard run : ℕ) (g : Past) (v : View) (tx : TxId)
       (same_self w.1 (value_in v.log w.0) (c.1 ∙ ap (λ q. value_at q v.records) (sym c.0) ∙ k.values w.0 ∙ sym (value_top (newest_at w.0 (standing v.log))))))
       c.2) (may_lie (newest_at w.0 (standing v.log)) w.0 refl (ap (λ z. is_write_at z w.0) e ∙ eq-eqb w.0 w.0 refl))
 
-  new_ordered : Ordered asked shard run parts_after pairs_after v.log
-  new_ordered = ordered_new asked shard run v.parts parts_after v.pairs v.log tx (violated tx needs v.locks) o stage_own stage_same not_closed run_is unwritten unaborted violated_closed
+  new_ordered : Ordered shard run parts_after pairs_after v.log
+  new_ordered = ordered_new shard run v.parts parts_after v.pairs v.log tx (violated tx needs v.locks) o stage_own stage_same not_closed run_is unwritten unaborted violated_closed
 
-  ordered_by : (w : Change) → change ≡ w → Ordered asked shard run parts_after pairs_after (log_by tx w v.log)
+  ordered_by : (w : Change) → change ≡ w → Ordered shard run parts_after pairs_after (log_by tx w v.log)
   ordered_by None e = new_ordered
-  ordered_by (Some w) e = ordered_update asked shard run parts_after pairs_after v.log tx w.0 w.1 w.2 new_ordered (update_follows w e) stage_own
+  ordered_by (Some w) e = ordered_update shard run parts_after pairs_after v.log tx w.0 w.1 w.2 new_ordered (update_follows w e) stage_own
 
-  pub ordered_performed : Ordered asked shard run parts_after pairs_after (log_by tx change v.log)
+  pub ordered_performed : Ordered shard run parts_after pairs_after (log_by tx change v.log)
   ordered_performed = ordered_by change refl
 
   under_old : (ws : List StandingUpdate) → Under v.pairs (committed_in v.log) ws → Under pairs_after (committed_in v.log) ws

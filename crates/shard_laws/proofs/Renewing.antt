@@ -1,5 +1,5 @@
 -- A log in order stays so through a restart, also where restarts failed in between; and the state that it restores keeps the order rules.
-use Rattle.std.proofs.Common.{◌≡◌, ◌⊎◌, inl, inr, ⊎_elim, refl, sym, ap, subst, ◌∙◌, ℕ, ◌≤◌, ◌<◌, Bool, true, false, not, ◌||◌, List, [], ◌∷◌, ◌++◌, map, Some, is_some, arith, append_assoc, append-nil}
+use Rattle.std.proofs.Common.{◌≡◌, inl, inr, ⊎_elim, refl, sym, ap, subst, ◌∙◌, ℕ, ◌≤◌, Bool, true, false, not, ◌||◌, List, [], ◌∷◌, ◌++◌, map, Some, is_some, arith, append_assoc, append-nil}
 use Rattle.std.specs.Prelude.{take, drop}
 use Rattle.std.specs.List.{AllByRecursion, filter}
 use Rattle.std.proofs.lemmas.Bool.{cases_Bool, both_ways, cond_both, or_cases, and_from, not-true, false_from_ne_true}
@@ -11,7 +11,7 @@ use Rattle.clv_base.specs.declared.state.Stage.TheVariants.{Active, Closed}
 use Rattle.clv_base.specs.declared.state.RequestState.TheVariants.{Undecided, Committed}
 use Rattle.clv_base.specs.Orders.{tx_same, tx_in}
 use Rattle.clv_base.specs.State.{Shard}
-use Rattle.clv_base.specs.Logs.{StandingUpdate, standing, committed_in, prepared_in, aborted_in, wrote_in, is_commit_of, in_doubt, is_winner, writers}
+use Rattle.clv_base.specs.Logs.{StandingUpdate, standing, committed_in, aborted_in, wrote_in, is_commit_of, in_doubt, is_winner, writers}
 use Rattle.clv_base.specs.LogRules.{may_follow, last_restart, above_restarts, listed_in}
 use Rattle.clv_base.specs.Undo.{clrs_of, newest_lsn}
 use Rattle.clv_base.specs.Coordinator.{restored_requests}
@@ -242,7 +242,7 @@ one_commit shard log f = through OneCommit shard [] log tt f tt (λ l r g p m. o
 
 -- ---- the state that a restart restores
 
-module _ (asked : List TxId) (shard run : ℕ) (log : List LogRecord) (r : Renewed shard run log) (asks : (t : TxId) → prepared_in log t ≡ true → (tx_in t asked ≡ true) ⊎ (t.run < run)) where
+module _ (shard run : ℕ) (log : List LogRecord) (r : Renewed shard run log) where
   now : Order shard log
   now = order_of shard log r.follows
 
@@ -262,7 +262,7 @@ module _ (asked : List TxId) (shard run : ℕ) (log : List LogRecord) (r : Renew
   listed_doubt t p i l c = ⊎_elim (λ k. absurd (both_ways _ c k)) (λ k. k)
       (or_cases (committed_in log p) (tx_in p (in_doubt shard log)) (list_all_at (λ q. committed_in log q || tx_in q (in_doubt shard log)) p (listed_in log t) (doubt_of t i).listed l))
 
-  pub ordered_restored : Ordered asked shard run (restored_parts (in_doubt shard log)) (restored_pairs log (in_doubt shard log)) log
+  pub ordered_restored : Ordered shard run (restored_parts (in_doubt shard log)) (restored_pairs log (in_doubt shard log)) log
   ordered_restored = record {
     follows = r.follows;
     last = r.last;
@@ -276,7 +276,6 @@ module _ (asked : List TxId) (shard run : ℕ) (log : List LogRecord) (r : Renew
         let i = listed_doubt t p q.0 q.1 q.2 in
         ((λ s. both_ways _ (lists_others shard log r.follows t p q.1) (tx_eq p t (sym s))), inr (restored_closed (in_doubt shard log) p i, prepared_wrote shard log r.follows p (doubt_of p i).prepared));
     lists = λ t p c l. ⊎_elim (λ k. inl k) (λ n. inr (pair_there log (in_doubt shard log) t p (closed_doubt t c) l n)) (cases_Bool (committed_in log p));
-    asks = asks;
   }
 
   under_now : (ws : List StandingUpdate) → AllByRecursion (λ w. is_winner shard log w.tx ≡ true) ws → LieOnThese (committed_in log) ws → LieListed log ws → Under (restored_pairs log (in_doubt shard log)) (committed_in log) ws

@@ -417,7 +417,7 @@ module _ (all : List Item) (g : Past) (s : Shard) (c epoch : ℕ) (log : List Lo
       (cases_Bool (is_present (stage_of s.local t)))) (cases_Bool (stays t))
 
   still_asked : (t : TxId) → prepared_in log t ≡ true → (tx_in t g.asked ≡ true) ⊎ (t.run < s.run)
-  still_asked t e = h.order.ordered.asks t (prepared_cut c s.local.log t (sym (found.prepares t) ∙ e))
+  still_asked t e = h.order.asks t (prepared_cut c s.local.log t (sym (found.prepares t) ∙ e))
 
   -- who is prepared and here asked, and so did who is in doubt
   present_asked : (t : TxId) → is_present (stage_of s.local t) ≡ true → prepared_in s.local.log t ≡ true → tx_in t g.asked ≡ true
@@ -445,9 +445,10 @@ module _ (all : List Item) (g : Past) (s : Shard) (c epoch : ℕ) (log : List Lo
 
   order_now : KeepsOrder g.asked s.shard s.run (restored_locks doubt log []) (restored_parts doubt) (restored_pairs log doubt) log (restored_requests (unended_in log log))
   order_now = subst KeepsNow found.doubts (record {
-    ordered = ordered_restored g.asked s.shard s.run log new still_asked;
-    lying = lying_restored g.asked s.shard s.run log new still_asked;
-    rulings = rulings_restored g.asked s.shard s.run log new still_asked;
+    ordered = ordered_restored s.shard s.run log new;
+    lying = lying_restored s.shard s.run log new;
+    rulings = rulings_restored s.shard s.run log new;
+    asks = still_asked;
   })
 
   sound_now : Sound all (record g { items = filter (λ x. stays x.tx) g.items; fell = left_out s (revived s epoch log) ++ g.fell; lost = left_out s (revived s epoch log) ++ g.lost }) (state_with s epoch log doubt (with_ghosts doubt log (records_of (fold_updates (is_winner s.shard log) log []))) (restored_locks doubt log []))

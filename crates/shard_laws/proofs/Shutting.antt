@@ -10,7 +10,7 @@ use Rattle.clv_base.specs.declared.state.Held.{Held}
 use Rattle.clv_base.specs.Orders.{Table, tx_same, tx_in}
 use Rattle.clv_base.specs.State.{is_present}
 use Rattle.clv_base.specs.Locks.{Locks, close_locks, release}
-use Rattle.clv_base.specs.Logs.{StandingUpdate, standing, committed_in, prepared_in, wrote_in, is_update_of, is_prepare_of, is_abort_of}
+use Rattle.clv_base.specs.Logs.{StandingUpdate, standing, committed_in, prepared_in, wrote_in, is_update_of, is_abort_of}
 use Rattle.clv_base.specs.LogRules.{may_follow, listed_in}
 use Rattle.clv_base.specs.Undo.{gone_in, pairs_without, aborts_of, clrs_of, newest_lsn}
 use Rattle.clv_base.specs.OneShard.{closed_in}
@@ -37,9 +37,9 @@ use Rattle.shard_laws.proofs.Ordered.{LiesOn, Under, Lying, Ordered, Calm, Stepp
 
 -- ---- a PREPARE of an active part
 
-pub ordered_prepare : (asked : List TxId) (shard run : ℕ) (parts : Table Held) (pairs : List (TxId × TxId)) (log : List LogRecord) (t : TxId) (home : ℕ) (ps : List TxId) → Ordered asked shard run parts pairs log → may_follow shard log (Prepare t home ps) ≡ true
-    → stage_in parts t ≡ Some Active → tx_in t asked ≡ true → Ordered asked shard run parts pairs (log ++ Prepare t home ps ∷ [])
-ordered_prepare asked shard run parts pairs log t home ps o m act asks = record {
+pub ordered_prepare : (shard run : ℕ) (parts : Table Held) (pairs : List (TxId × TxId)) (log : List LogRecord) (t : TxId) (home : ℕ) (ps : List TxId) → Ordered shard run parts pairs log → may_follow shard log (Prepare t home ps) ≡ true
+    → stage_in parts t ≡ Some Active → Ordered shard run parts pairs (log ++ Prepare t home ps ∷ [])
+ordered_prepare shard run parts pairs log t home ps o m act = record {
   follows = follows_append shard [] log (Prepare t home ps ∷ []) o.follows (m, tt);
   last = ((o.last).0, last_push log (Prepare t home ps) tt ∙ (o.last).1);
   latest = greatest_plain log (Prepare t home ps) run tt o.latest;
@@ -50,14 +50,13 @@ ordered_prepare asked shard run parts pairs log t home ps o m act asks = record 
   others = λ u p e. let q = o.others u p e in (q.0, ⊎_elim (λ c. inl (committed_keeps log (Prepare t home ps ∷ []) p c)) (λ c. inr (c.0, wrote_keeps log (Prepare t home ps ∷ []) p c.1)) q.1);
   lists = λ u p c i. ⊎_elim (λ k. inl (committed_keeps log (Prepare t home ps ∷ []) p k)) (λ e. inr e)
       (o.lists u p c (ap (tx_in p) (sym (listed_same log (Prepare t home ps ∷ []) u (or_from _ false (tx_ne u t (λ s. closed_not_active (sym c ∙ ap (stage_in parts) s ∙ act))) refl))) ∙ i));
-  asks = λ u e. ⊎_elim (λ old. o.asks u old) (λ s. inl (subst (λ z. tx_in z asked ≡ true) (sym (tx_true u t s)) asks)) (push_cases (is_prepare_of u) log (Prepare t home ps) e);
 }
 
 -- ---- a part is closed, where its record stands
 
-pub ordered_close : (asked : List TxId) (shard run : ℕ) (parts : Table Held) (pairs : List (TxId × TxId)) (log : List LogRecord) (t : TxId) → Ordered asked shard run parts pairs log → stage_in parts t ≡ Some Active
-    → (wrote_in log t ≡ true → (prepared_in log t ≡ true) ⊎ (committed_in log t ≡ true)) → ((p : TxId) → tx_in p (listed_in log t) ≡ true → (committed_in log p ≡ true) ⊎ (is_pair pairs t p ≡ true)) → Ordered asked shard run (closed_in t parts) pairs log
-ordered_close asked shard run parts pairs log t o act wrote listed = record {
+pub ordered_close : (shard run : ℕ) (parts : Table Held) (pairs : List (TxId × TxId)) (log : List LogRecord) (t : TxId) → Ordered shard run parts pairs log → stage_in parts t ≡ Some Active
+    → (wrote_in log t ≡ true → (prepared_in log t ≡ true) ⊎ (committed_in log t ≡ true)) → ((p : TxId) → tx_in p (listed_in log t) ≡ true → (committed_in log p ≡ true) ⊎ (is_pair pairs t p ≡ true)) → Ordered shard run (closed_in t parts) pairs log
+ordered_close shard run parts pairs log t o act wrote listed = record {
   follows = o.follows;
   last = o.last;
   latest = o.latest;
@@ -71,7 +70,6 @@ ordered_close asked shard run parts pairs log t o act wrote listed = record {
   lists = λ u p c i. ⊎_elim
       (λ s. let e = tx_true t u s in subst (λ z. (committed_in log p ≡ true) ⊎ (is_pair pairs z p ≡ true)) e (listed p (subst (λ z. tx_in p (listed_in log z) ≡ true) (sym e) i)))
       (λ n. o.lists u p (sym (stage_left parts t u n) ∙ c) i) (cases_Bool (tx_same t u));
-  asks = o.asks;
 }
 
 pub lying_close : (locks : Locks) (pairs : List (TxId × TxId)) (log : List LogRecord) (t : TxId) → Lying locks pairs log → Lying (close_locks t locks) pairs log
@@ -98,10 +96,10 @@ pub all_wrote : (log : List LogRecord) → AllByRecursion (λ w. wrote_in log w.
 all_wrote log = all_mono _ _ (λ w h. wrote_of log w.tx w.key h) (standing log) (standing_updates log)
 
 -- a set leaves by itself: each of it wrote nothing or is committed, or had left
-pub ordered_leave : (asked : List TxId) (shard run : ℕ) (locks : Locks) (parts : Table Held) (pairs : List (TxId × TxId)) (log : List LogRecord) (set : List TxId) (d : Option TxId) → Ordered asked shard run parts pairs log → Lying locks pairs log → LieOnThese (committed_in log) (standing log)
+pub ordered_leave : (shard run : ℕ) (locks : Locks) (parts : Table Held) (pairs : List (TxId × TxId)) (log : List LogRecord) (set : List TxId) (d : Option TxId) → Ordered shard run parts pairs log → Lying locks pairs log → LieOnThese (committed_in log) (standing log)
     → ((u : TxId) → tx_in u set ≡ true → (wrote_in log u ≡ true → committed_in log u ≡ true) ⊎ ((stage_in parts u ≡ Some Closed → ⊥) × ((p : TxId) → is_pair pairs u p ≡ true → ⊥)))
     → Stepped shard parts (gone_in set d parts) pairs (pairs_without set pairs) log [] × Lying (release set locks) (pairs_without set pairs) log
-ordered_leave asked shard run locks parts pairs log set d o l lie h = (
+ordered_leave shard run locks parts pairs log set d o l lie h = (
   record {
     follows = tt;
     calm = tt;
@@ -159,7 +157,7 @@ calm_clrs parts set (w ∷ ws) =
     cond_both (tx_in w.tx set) (Clr w.tx (newest_lsn w.tx ws) w.key w.before ∷ clrs_of set ws) (clrs_of set ws) (AllByRecursion (Calm parts))
     (λ i. (record { plainly = tt; no_update = λ u. refl; no_prepare = λ u. refl; no_abort = λ u p. refl }, calm_clrs parts set ws)) (λ i. calm_clrs parts set ws)
 
-module _ (asked : List TxId) (shard run : ℕ) (locks : Locks) (parts : Table Held) (pairs : List (TxId × TxId)) (log : List LogRecord) (set : List TxId) (d : TxId) (o : Ordered asked shard run parts pairs log) (l : Lying locks pairs log)
+module _ (shard run : ℕ) (locks : Locks) (parts : Table Held) (pairs : List (TxId × TxId)) (log : List LogRecord) (set : List TxId) (d : TxId) (o : Ordered shard run parts pairs log) (l : Lying locks pairs log)
     (upward : (t p : TxId) → is_pair pairs t p ≡ true → tx_in p set ≡ true → tx_in t set ≡ true) (open_ : (t : TxId) → tx_in t set ≡ true → committed_in log t ≡ false) (here : (t : TxId) → tx_in t set ≡ true → is_present (stage_in parts t) ≡ true) (once : Once set) where
   not_own : (t : TxId) → committed_in log t ≡ true → tx_in t set ≡ false
   not_own t c = false_from_ne_true _ (λ i. both_ways _ (open_ t i) c)
@@ -182,9 +180,9 @@ module _ (asked : List TxId) (shard run : ℕ) (locks : Locks) (parts : Table He
     stay = λ u p c e. pairs_stay set pairs u p (false_from_ne_true _ (λ i. both_ways _ (own_go set (Some d) u parts i) (ap is_present c))) e;
   }
 
-  pub ordered_taken : Ordered asked shard run (gone_in set (Some d) parts) (pairs_without set pairs) (log ++ aborts_of log set ++ clrs_of set (standing log))
-  ordered_taken = subst (Ordered asked shard run (gone_in set (Some d) parts) (pairs_without set pairs)) (sym (append_assoc log (aborts_of log set) (clrs_of set (standing log))))
-      (ordered_step asked shard run parts (gone_in set (Some d) parts) pairs (pairs_without set pairs) log (aborts_of log set ++ clrs_of set (standing log)) o taken_stepped)
+  pub ordered_taken : Ordered shard run (gone_in set (Some d) parts) (pairs_without set pairs) (log ++ aborts_of log set ++ clrs_of set (standing log))
+  ordered_taken = subst (Ordered shard run (gone_in set (Some d) parts) (pairs_without set pairs)) (sym (append_assoc log (aborts_of log set) (clrs_of set (standing log))))
+      (ordered_step shard run parts (gone_in set (Some d) parts) pairs (pairs_without set pairs) log (aborts_of log set ++ clrs_of set (standing log)) o taken_stepped)
 
   pub lying_taken : Lying (release set locks) (pairs_without set pairs) (log ++ aborts_of log set ++ clrs_of set (standing log))
   lying_taken = record {

@@ -46,7 +46,7 @@ use Rattle.shard_laws.specs.OneShard.{Deeds, is_doomed}
 use Rattle.shard_laws.proofs.Falls.{Falls, falls_more, falls_parts, falls_over, falls_finish, falls_taken}
 use Rattle.shard_laws.proofs.Listing.{order_of, prepared_wrote, committed_lists}
 use Rattle.shard_laws.proofs.Shutting.{upward_under}
-use Rattle.shard_laws.proofs.Ordered.{unlisted}
+use Rattle.shard_laws.proofs.Ordered.{unlisted, asked_more}
 use Rattle.shard_laws.proofs.Leaving.{in_first, in_more, no_prepares}
 use Rattle.clv_base.specs.LogRules.{listed_in}
 use Rattle.clv_base.specs.Undo.{gone_in, pairs_without}
@@ -201,7 +201,7 @@ rulings_set shard run log requests t w old own u q e =
 
 pub order_set : (asked : List TxId) (s : Shard) (t : TxId) (w : Request) → KeepsOrder asked s.shard s.run s.local.locks s.local.parts s.local.pairs s.local.log s.requests → Ruled s.shard s.run s.local.log t w
     → KeepsOrder asked s.shard s.run s.local.locks s.local.parts s.local.pairs s.local.log (tx_set t w s.requests)
-order_set asked s t w k own = record { ordered = k.ordered; lying = k.lying; rulings = rulings_set s.shard s.run s.local.log s.requests t w k.rulings own }
+order_set asked s t w k own = record { ordered = k.ordered; lying = k.lying; rulings = rulings_set s.shard s.run s.local.log s.requests t w k.rulings own; asks = k.asks }
 
 refused_commit : (c : AbortCause) (ps : List ℕ) → Refused c ≡ Committed ps → ⊥
 refused_commit c ps e = absurd cc
@@ -510,6 +510,7 @@ committed_order asked s tx q parts k there closed open_ before un home wrote =
     record {
       ordered = c.ordered;
       lying = c.lying;
+      asks = c.asks;
       rulings = rulings_set s.shard s.run (s.local.log ++ Commit tx parts ∷ []) s.requests tx (record q { state = Committed parts }) c.rulings (record {
         undecided = λ e. absurd (committed_not parts e);
         committed = λ p ps e n. (
@@ -660,6 +661,7 @@ ended_order asked s tx q p ps k ne there is open_ =
     record {
       ordered = c.0;
       lying = c.1;
+      asks = asked_more asked s.run s.local.log (End tx ∷ []) (λ u. refl) k.asks;
       rulings = λ u w e. ⊎_elim
           (λ i. subst (λ z. Ruled s.shard s.run (s.local.log ++ End tx ∷ []) u z) (sym i.1) (record { undecided = λ un. absurd (ne un); committed = λ n ns f o. absurd (both_ways true o refl) }))
           (λ i. ruled_more s.shard s.run s.local.log (End tx ∷ []) u w (λ un. refl) (ap (λ b. b || false) (tx_ne u tx i.0)) (k.rulings u w i.1))
