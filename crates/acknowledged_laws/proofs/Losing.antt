@@ -26,10 +26,11 @@ use Rattle.fate_laws.proofs.Bindings.{bindings_front}
 use Rattle.fate_laws.specs.Earlier.{WasCommitted}
 use Rattle.fall_laws.proofs.Ahead.{Why, follows_ahead, not_in_doubt}
 use Rattle.fall_laws.proofs.Barred.{Absent, Out, Lost, lost_inactive}
-use Rattle.fall_laws.proofs.Falling.{Denied, Met, WasOut, empty_front, last_front, Stands, log_follows, stands_front, walk_on}
+use Rattle.fall_laws.proofs.Falling.{Denied, Met, WasOut, empty_front, last_front, Stands, stands_front, walk_on}
 use Rattle.acknowledged_laws.proofs.StrikingFronts.{struck_front}
 use Rattle.acknowledged_laws.proofs.Going.{opening_doubts, WasPrepared, GoesBy, prepares_made, goes_made, aborted_take}
 use Rattle.protocol_laws.proofs.Records.{prepared_there}
+use Rattle.origin_laws.proofs.Opening.{found_follows as log_follows}
 
 -- ---- why it is lost
 

@@ -43,7 +43,6 @@ use Rattle.shard_laws.proofs.Sound.{waiting_here}
 use Rattle.law_base.proofs.Stages.{closed_other}
 use Rattle.law_base.proofs.Stages.{absent_go, own_go}
 use Rattle.law_base.proofs.Stages.{stage_marked}
-use Rattle.law_base.proofs.Bools.{or_false_left}
 use Rattle.shard_laws.proofs.Rebuilding.{loser_out}
 use Rattle.shard_laws.proofs.Restoring.{restored_none}
 use Rattle.session_laws.proofs.Replying.{OpIs, dies, rolls, performs, reply_is}
@@ -58,6 +57,7 @@ use Rattle.fall_laws.proofs.Barred.{Absent}
 use Rattle.fall_laws.proofs.BarredStep.{performed_other}
 use Rattle.acknowledged_laws.proofs.Going.{aborted_take}
 use Rattle.history_laws.proofs.Doubts.{doubt_undecided}
+use Rattle.clv_base.proofs.Folding.{or_left as or_false_left}
 
 abbrev pub Struck : Shard → TxId → Type 0
 Struck s t = aborted_in s.local.log t ≡ true → Absent s t × (committed_in s.local.log t ≡ false)

@@ -18,7 +18,7 @@ use Rattle.cascade_undo.specs.Writes.{writes_of, HaveRecords}
 use Rattle.cascade_undo.proofs.Standing.{falls, all_mono}
 use Rattle.cascade_undo.proofs.Restoring.{there_by}
 use Rattle.law_base.proofs.Bools.{by_bool as both}
-use Rattle.law_base.proofs.Names.{Falls, set_has as set_is_there}
+use Rattle.law_base.proofs.Names.{set_has as set_is_there, falls_length}
 
 -- a record that is there stays so when one is set
 pub there_set : (k j : ℕ) (v : Option ℕ) (rs : Records) → is_there (found_at j rs) ≡ true → is_there (found_at j (record_set k v rs)) ≡ true
@@ -43,10 +43,6 @@ have_more set log after rs qs tx key v before x have e q =
     ((λ _. set_is_there key v rs), all_mono _ _ (λ w h i. there_set key w.key v rs (h i)) (standing log) have))
 
 -- ---- room
-
-falls_length : (n : ℕ) (ws : List StandingUpdate) → Falls n ws → length ws ≤ n
-falls_length n [] f = omega arith
-falls_length n (w ∷ ws) f = let l : w.lsn < n = f.0 in let m : length ws ≤ w.lsn = falls_length w.lsn ws f.1 in omega arith
 
 fewer_writes : (set : List TxId) (ws : List StandingUpdate) → length (writes_of set ws) ≤ length ws
 fewer_writes set [] = omega arith

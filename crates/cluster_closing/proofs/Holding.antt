@@ -7,7 +7,7 @@ use Rattle.clv_base.specs.declared.events.Event.{Event}
 use Rattle.clv_base.specs.declared.events.Outcome.{Outcome}
 use Rattle.clv_base.specs.declared.events.Entry.{Entry}
 use Rattle.clv_base.specs.State.{Shard}
-use Rattle.journal_laws.specs.Notes.{Note as Told, holder, holder_after, ends_holding}
+use Rattle.journal_laws.specs.Notes.{Note as Told, holder, ends_holding}
 use Rattle.turn_lock.specs.Journals.{entries_by}
 use Rattle.turn_lock.specs.declared.pass.TurnLock.{TurnLock}
 use Rattle.turn_lock.specs.declared.pass.Pass.{Pass}
@@ -38,12 +38,9 @@ use Rattle.cluster_ends.specs.Held.{FetchTold}
 use Rattle.session_births.specs.Turns.{Turn, Took, no_turn, event_turn, flush_turns, horizon_look}
 use Rattle.cluster_closing.specs.Held.{AreMade, HasNoDisk, HoldsNoneBut, FetchedNone}
 use Rattle.cluster_closing.specs.Laws.{NewWalkersHoldNone, TurnsHoldNone, DrainsHoldNone, LooksHoldNone, NewWalkersFetchedNone, TurnsFetchNone, DrainsFetchNone, FetchesHoldOne, RefusedFetchesHoldNone}
+use Rattle.turn_laws.proofs.Laws.{holder_append}
 
 -- ---- notes, and who has the disk after them
-
-holder_append : (held : Option ℕ) (xs ys : List Told) → holder held (xs ++ ys) ≡ holder (holder held xs) ys
-holder_append held [] ys = refl
-holder_append held (x ∷ xs) ys = holder_append (holder_after held x) xs ys
 
 pub holder_split : (xs ys : List Note) → holder_of (xs ++ ys) ≡ holder (holder_of xs) (map told ys)
 holder_split xs ys = ap (holder None) (map-append told xs ys) ∙ holder_append None (map told xs) (map told ys)

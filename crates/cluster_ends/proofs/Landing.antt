@@ -1,7 +1,7 @@
 -- Who has a gate, through the turns of a walker and of others.
 use Rattle.std.proofs.Common.{◌≡◌, ◌≢◌, ℕ, Bool, true, false, cond, ◌==◌, List, [], ◌∷◌, ◌++◌, map, length, get_or, set, sym, ap, refl, ◌∙◌, subst, append-nil, arith, Option, Some, None, Result, Ok, Err, get_or-set_same, get_or-set_other}
 use Rattle.std.specs.Prelude.{slice_index_or}
-use Rattle.std.proofs.lemmas.Bool.{both_ways, eq-eqb}
+use Rattle.std.proofs.lemmas.Bool.{both_ways}
 use mathlib.Core.Logic.{dite}
 use native.Mathlib.Decide.{ℕ_discrete}
 use Rattle.clv_base.specs.declared.logs.LogRecord.{LogRecord}
@@ -23,7 +23,7 @@ use Rattle.turn_laws.specs.declared.notes.Note.TheVariants.{Made, Fetched}
 use Rattle.turn_laws.specs.declared.notes.Origin.{Origin}
 use Rattle.turn_laws.specs.Notes.{noter, plain}
 use Rattle.turn_laws.specs.Homes.{entries_in, taker_after, taker, is_taker, is_single}
-use Rattle.turn_laws.proofs.Laws.{entries_append, taker_append, departing}
+use Rattle.turn_laws.proofs.Laws.{entries_append, taker_append, departing, other_first as first_other}
 use Rattle.cluster_turns.specs.Turns.{Turned, EventTold, SettledTold}
 use Rattle.cluster_turns.specs.Walkers.{Walked, Looked, AreNewPasses}
 use Rattle.cluster_drain.specs.declared.flushing.Flushed.{Flushed}
@@ -35,6 +35,7 @@ use Rattle.cluster_drain.specs.Carried.{BringTold, is_lost, is_brought, CarryTol
 use Rattle.cluster_drain.specs.declared.tending.DrainError.{DrainError}
 use Rattle.cluster_drain.specs.Rounds.{Rounds, no_turn, flushes, carries, reminds, looks, Refused, no_flush, no_message, no_reminder, DrainTold}
 use Rattle.cluster_ends.specs.Landed.{EachPass, HasOwn, IsHome, HasLanded}
+use Rattle.clv_base.proofs.Folding.{eq_self as self}
 
 -- ---- notes of one walker among others'
 
@@ -46,10 +47,6 @@ by_append w (x ∷ xs) ys = at (noter x == w) (by_append w xs ys)
         → cond b (x ∷ entries_by noter w (xs ++ ys)) (entries_by noter w (xs ++ ys)) ≡ cond b (x ∷ entries_by noter w xs) (entries_by noter w xs) ++ entries_by noter w ys
     at true h = ap (λ l. x ∷ l) h
     at false h = h
-
-pub first_other : (w : ℕ) (n : Note) (ns : List Note) (b : Bool) → (noter n == w) ≡ b → entries_by noter w (n ∷ ns) ≡ [] → ((noter n == w) ≡ false) × (entries_by noter w ns ≡ [])
-first_other w n ns true is h = absurd (let k : n ∷ entries_by noter w ns ≡ [] = rw is at h in cc)
-first_other w n ns false is h = (is, rw is at h)
 
 takes_not : (t : Option ℕ) (w v : ℕ) (e : Event) → (v == w) ≡ false → is_taker t w ≡ false → is_taker (taker_after t v e) w ≡ false
 takes_not t w v FlushOut d h = d
@@ -83,9 +80,6 @@ single_takes t v FlushOut h = absurd (both_ways false refl h)
 single_takes t v FlushIn h = absurd (both_ways false refl h)
 single_takes t v Stop h = absurd (both_ways false refl h)
 single_takes t v Restart h = absurd (both_ways false refl h)
-
-self : (w : ℕ) → (w == w) ≡ true
-self w = eq-eqb w w refl
 
 one_own : (w : ℕ) (x : Entry) → x.walker ≡ w → entries_by noter w (plain x ∷ []) ≡ plain x ∷ []
 one_own w x is = at (x.walker == w) (ap (λ v. v == w) is ∙ self w)

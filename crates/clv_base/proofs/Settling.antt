@@ -55,11 +55,11 @@ total_at f tx t x w e = subst (λ o. SetTotal f t (tx_set tx w t) w o) e (total_
 
 -- ---- parts that go
 
-gone_one : (b : Bool) (d : Option TxId) (h : Held) → part_work (cond b (gone_part d h) h) ≤ part_work h
+pub gone_one : (b : Bool) (d : Option TxId) (h : Held) → part_work (cond b (gone_part d h) h) ≤ part_work h
 gone_one true d h = omega arith
 gone_one false d h = omega arith
 
-gone_le : (set : List TxId) (d : Option TxId) (parts : Table Held) → total part_work (gone_in set d parts) ≤ total part_work parts
+pub gone_le : (set : List TxId) (d : Option TxId) (parts : Table Held) → total part_work (gone_in set d parts) ≤ total part_work parts
 gone_le set d [] = omega arith
 gone_le set d (p ∷ ps) = omega (arith, gone_one (tx_in p.0 set) d p.1, gone_le set d ps)
 
@@ -87,7 +87,7 @@ unfolding GoneLess stage_in
 gone_less tx d [] = tt
 gone_less tx d (p ∷ ps) = gone_here p ps (gone_in (tx ∷ []) d ps) d (tx_same tx p.0) (tx_get tx ps) (gone_le (tx ∷ []) d ps) (gone_less tx d ps)
 
-gone_closed : (l : Local) (tx : TxId) → stage_of l tx ≡ Some Closed → total part_work (gone_in (tx ∷ []) None l.parts) + 1 ≤ total part_work l.parts
+pub gone_closed : (l : Local) (tx : TxId) → stage_of l tx ≡ Some Closed → total part_work (gone_in (tx ∷ []) None l.parts) + 1 ≤ total part_work l.parts
 unfolding GoneLess stage_in
 gone_closed l tx e = subst (λ o. GoneLess l.parts (gone_in (tx ∷ []) None l.parts) o) e (gone_less tx None l.parts)
 
@@ -118,11 +118,11 @@ IsVote : Option Vote → Type 0
 IsVote None = ⊥
 IsVote (Some x) = Unit {0}
 
-owed_some : (n : ℕ) (b : Bool) → (n == 0) ≡ b → b ≡ false → 0 < n
+pub owed_some : (n : ℕ) (b : Bool) → (n == 0) ≡ b → b ≡ false → 0 < n
 owed_some zero b e h = absurd (both_ways (zero == 0) (e ∙ h) refl)
 owed_some (suc n) b e h = omega arith
 
-owes : (f : PartFacts) (v : Voter) (b : Bool) (vote : Vote) → (v.owed == 0) ≡ b → vote_owed f v b ≡ Some vote → 0 < v.owed
+pub owes : (f : PartFacts) (v : Voter) (b : Bool) (vote : Vote) → (v.owed == 0) ≡ b → vote_owed f v b ≡ Some vote → 0 < v.owed
 unfolding IsVote
 owes f v true vote t e = absurd (subst IsVote (sym e) tt)
 owes f v false vote t e = owed_some v.owed false t refl

@@ -4,7 +4,6 @@ use Rattle.std.specs.List.{AllByRecursion, filter}
 use Rattle.std.specs.Prelude.{is_none}
 use Rattle.std.proofs.lemmas.Bool.{cases_Bool, both_ways, and_parts, or_left, or_right}
 use Rattle.clv_base.specs.declared.names.TxId.{TxId}
-use Rattle.clv_base.specs.declared.logs.LogRecord.{LogRecord}
 use Rattle.clv_base.specs.declared.ops.Op.{Op}
 use Rattle.clv_base.specs.declared.ops.Answer.{Answer}
 use Rattle.clv_base.specs.declared.events.Event.{Event}
@@ -21,9 +20,8 @@ use Rattle.clv_base.specs.declared.ops.Op.TheVariants.{Get, Put, Del, Scan}
 use Rattle.clv_base.specs.declared.ops.Answer.TheVariants.{Value, Pairs}
 use Rattle.clv_base.specs.Logs.{stands}
 use Rattle.clv_base.specs.Journals.{History}
-use Rattle.clv_base.specs.History.{Member, members, request_of, acknowledged_in, answered_op, ops_in, logs_left, serial_ops, serial_answers}
+use Rattle.clv_base.specs.History.{Member, members, answered_op, ops_in, logs_left, serial_ops, serial_answers}
 use Rattle.clv_base.specs.LogRules.{log_of, all_logs_from, apart}
-use Rattle.clv_base.specs.Logs.{committed_in}
 use Rattle.clv_base.specs.Restarts.{run_after}
 use Rattle.clv_base.proofs.SameNames.{tx_true, tx_self}
 use Rattle.law_base.specs.Items.{Item, Runs, after, AllLater, Clash, is_write_at, told as value_told}
@@ -44,7 +42,7 @@ use Rattle.many_shards_laws.proofs.Standing.{logs_agree}
 use Rattle.crash_laws.proofs.Lists.{filter_map_is, later_told}
 use Rattle.crash_laws.proofs.Meeting.{meetings_follow_places}
 use Rattle.crash_laws.proofs.Basing.{answers_are_of_earlier}
-use Rattle.law_base.proofs.Logs.{only_passes}
+use Rattle.law_base.proofs.Logs.{only_passes, from_history}
 use Rattle.law_base.proofs.Shards.{FromHistory}
 
 -- ---- places
@@ -203,23 +201,6 @@ own_kept keep t (a ∷ as_) k = at (keep a.tx) (tx_same a.tx t) refl refl (own_k
     at true c p q i = ap (λ d. cond d (a ∷ filter (λ a. tx_same a.tx t) (filter (λ a. keep a.tx) as_)) (filter (λ a. tx_same a.tx t) (filter (λ a. keep a.tx) as_))) q ∙ ap (λ l. cond c (a ∷ l) l) i
     at false true p q i = absurd (both_ways (keep a.tx) p (subst (λ z. keep z ≡ true) (sym (tx_true a.tx t q)) k))
     at false false p q i = i
-
-from_history : (logs : List (List LogRecord)) (h es : History) → FromHistory h (members logs h es)
-from_history logs h [] = tt
-from_history logs h (e ∷ es) = at (request_of (e.1).event (e.1).outcome) (from_history logs h es)
-  where
-    kept : (t : TxId) (b : Bool) → FromHistory h (members logs h es)
-        → FromHistory h (cond b (record { tx = t; point = record { stamp = (e.1).stamp; shard = e.0 }; ops = ops_in t h } ∷ members logs h es) (members logs h es))
-    kept t true k = (refl, k)
-    kept t false k = k
-
-    at : (o : Option TxId) → FromHistory h (members logs h es)
-        → FromHistory h (elim o [
-          | Some t ↦ cond (committed_in (log_of logs e.0) t || acknowledged_in h t) (record { tx = t; point = record { stamp = (e.1).stamp; shard = e.0 }; ops = ops_in t h } ∷ members logs h es) (members logs h es)
-          | None ↦ members logs h es
-        ])
-    at None k = k
-    at (Some t) k = kept t (committed_in (log_of logs e.0) t || acknowledged_in h t) k
 
 members_ops : (h : History) (keep : TxId → Bool) (ms : List Member) → FromHistory h ms → ((t : TxId) → tx_in t (map (λ m. m.tx) ms) ≡ true → keep t ≡ true)
     → (ops_of_each (map (λ m. m.tx) ms) (filter (λ a. keep a.tx) (acts h)) ≡ serial_ops ms) × (answers_of_each (map (λ m. m.tx) ms) (filter (λ a. keep a.tx) (acts h)) ≡ serial_answers ms)

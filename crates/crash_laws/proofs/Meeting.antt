@@ -1,13 +1,13 @@
 -- Where two operations of members meet, the earlier is of the same member or of one at an earlier place.
-use Rattle.std.proofs.Common.{◌≡◌, ◌⊎◌, inl, inr, ⊎_elim, sym, subst, ℕ, ◌<◌, true, false, Bool, List, [], ◌∷◌, ◌++◌, ◌==◌, eqb-true, arith}
+use Rattle.std.proofs.Common.{◌≡◌, ◌⊎◌, inl, inr, ⊎_elim, sym, subst, ℕ, ◌<◌, true, false, Bool, List, ◌∷◌, ◌++◌, ◌==◌, eqb-true, arith}
 use Rattle.std.specs.List.{filter}
-use Rattle.std.proofs.lemmas.Bool.{both_ways, and_parts, or_left, false_from_ne_true}
+use Rattle.std.proofs.lemmas.Bool.{both_ways, and_parts, false_from_ne_true}
 use Rattle.std.proofs.lemmas.List.Elements.{filter-append}
 use Rattle.clv_base.specs.declared.names.TxId.{TxId}
 use Rattle.clv_base.specs.declared.logs.LogRecord.{LogRecord}
 use Rattle.clv_base.specs.declared.ops.Op.{Op}
 use Rattle.clv_base.specs.declared.ops.Op.TheVariants.{Get, Put, Del, Scan}
-use Rattle.clv_base.specs.Orders.{tx_same, tx_in}
+use Rattle.clv_base.specs.Orders.{tx_in}
 use Rattle.clv_base.specs.Folding.{meets_key}
 use Rattle.clv_base.specs.Shards.{shard_count, are_splits, span, in_span}
 use Rattle.clv_base.specs.Sessions.{lies_in}
@@ -16,10 +16,8 @@ use Rattle.clv_base.specs.FileRules.{may_open}
 use Rattle.clv_base.specs.Restarts.{run_after}
 use Rattle.clv_base.specs.Journals.{History}
 use Rattle.clv_base.specs.History.{Legal}
-use Rattle.clv_base.proofs.SameNames.{tx_self}
 use Rattle.law_base.proofs.Sets.{in_filter}
 use Rattle.law_base.proofs.Lists.{all_mono, all_filter}
-use Rattle.law_base.proofs.Bools.{or_false_right}
 use Rattle.history_laws.specs.Continuing.{serial_left}
 use Rattle.law_base.specs.Items.{Item, AllLater, Clash}
 use Rattle.shard_laws.specs.OneShard.{found_asked, place}
@@ -38,6 +36,7 @@ use Rattle.crash_laws.proofs.Lists.{later_told, later_by_shard}
 use Rattle.crash_laws.proofs.Telling.{told}
 use Rattle.crash_laws.proofs.Shards.{IsFine, members_are_fine, chosen_member, deeds_run, chosen_acts, acted}
 use Rattle.law_base.proofs.Names.{written_at}
+use Rattle.many_shards_laws.proofs.Recovering.{stands_later}
 
 -- ---- what is written at a key
 
@@ -58,11 +57,6 @@ meet_apart splits a b s p q n (k, x, y, w) =
     n (one_shard splits (a.done).shard (b.done).shard k s p.0 q.0 (key_lies splits (a.done).shard (a.done).op k p.1 x) (key_lies splits (b.done).shard (b.done).op k q.1 y))
 
 -- ---- who is none of the first ones stands behind them
-
-stands_later : (p t : TxId) (xs ys : List TxId) → tx_in p xs ≡ false → StandsBefore p t (xs ++ ys) → StandsBefore p t ys
-stands_later p t [] ys n b = b
-stands_later p t (x ∷ xs) ys n (inl (s, i)) = absurd (both_ways _ n (or_left (tx_same x p) (tx_in p xs) (subst (λ z. tx_same z p ≡ true) (sym s) (tx_self p))))
-stands_later p t (x ∷ xs) ys n (inr b) = stands_later p t xs ys (or_false_right (tx_same x p) (tx_in p xs) n) b
 
 module _ (splits : List ℕ) (before : List (List LogRecord)) (h : History) (after : List (List LogRecord)) (choice : ℕ → Bool) (o : may_open splits before ≡ true) (l : Legal splits before h after) where
   abbrev Follows : Act → Act → Type 0

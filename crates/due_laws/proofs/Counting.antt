@@ -28,6 +28,7 @@ use Rattle.std.proofs.lemmas.Bool.{and_parts}
 use Rattle.std.proofs.Common.{is_none, is_some, ⊎_elim}
 use Rattle.clv_base.specs.Facts.{is_closed_state}
 use Rattle.law_base.proofs.Options.{none_of}
+use Rattle.clv_base.proofs.Settling.{owes}
 
 -- ---- where nothing comes of a part any more
 
@@ -55,15 +56,6 @@ request_falls shard q = at q.state (is_lone shard q)
 IsVote : Option Vote → Type 0
 IsVote None = ⊥
 IsVote (Some x) = Unit {0}
-
-owed_some : (n : ℕ) (b : Bool) → (n == 0) ≡ b → b ≡ false → 0 < n
-owed_some zero b e h = absurd (both_ways (zero == 0) (e ∙ h) refl)
-owed_some (suc n) b e h = omega arith
-
-pub owes : (f : PartFacts) (v : Voter) (b : Bool) (vote : Vote) → (v.owed == 0) ≡ b → vote_owed f v b ≡ Some vote → 0 < v.owed
-unfolding IsVote
-owes f v true vote t e = absurd (subst IsVote (sym e) tt)
-owes f v false vote t e = owed_some v.owed false t refl
 
 -- one of a part that is finished was given before
 given_before : (f : PartFacts) (v : Voter) (vote : Vote) → f.state ≡ GoneState → f.doom ≡ None → vote_by f v ≡ Some vote → is_none v.vote ≡ false

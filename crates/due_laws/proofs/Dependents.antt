@@ -1,7 +1,7 @@
 -- Each that depends on another has a part here: pairs come with a granted operation or a restart, which make the part too, and no part leaves the table.
 use Rattle.std.proofs.Common.{◌≡◌, refl, sym, ap, subst, ℕ, zero, suc, ⊎_elim, Bool, true, false, cond, not, ◌==◌, List, [], ◌∷◌, map, drop, Option, Some, None}
 use Rattle.std.proofs.lemmas.Bool.{both_ways, or_cases}
-use Rattle.std.specs.List.{AllByRecursion, filter}
+use Rattle.std.specs.List.{AllByRecursion}
 use Rattle.std.specs.Map.{keys_of}
 use Rattle.std.specs.declared.cmp.Ordering.{Ordering}
 use Rattle.std.specs.declared.cmp.Ordering.TheVariants.{Less, Equal, Greater}
@@ -11,7 +11,6 @@ use Rattle.clv_base.specs.declared.names.Birth.{Birth}
 use Rattle.clv_base.specs.declared.ops.Op.{Op}
 use Rattle.clv_base.specs.declared.causes.Vote.{Vote}
 use Rattle.clv_base.specs.declared.causes.Vote.TheVariants.{Yes, Read, No}
-use Rattle.clv_base.specs.declared.logs.LogRecord.{LogRecord}
 use Rattle.clv_base.specs.declared.messages.Message.{Message}
 use Rattle.clv_base.specs.declared.messages.Message.TheVariants.{Prepare, Vote as VoteMessage, Decide, Done, Ask}
 use Rattle.clv_base.specs.declared.events.Event.{Event}
@@ -19,7 +18,7 @@ use Rattle.clv_base.specs.declared.events.Event.TheVariants.{Op as OpEvent, Requ
 use Rattle.clv_base.specs.declared.events.Outcome.TheVariants.{Nothing, Down}
 use Rattle.clv_base.specs.declared.state.Ruling.TheVariants.{Commit as CommitVerdict, Acknowledge, Abort as AbortVerdict, End as EndVerdict}
 use Rattle.clv_base.specs.Orders.{Table, pair_cmp, pair_insert, tx_cmp, tx_same, tx_in, tx_get, tx_put}
-use Rattle.clv_base.specs.Logs.{committed_in, in_doubt, prepare_of, fitting}
+use Rattle.clv_base.specs.Logs.{committed_in, in_doubt, fitting}
 use Rattle.clv_base.specs.declared.modes.Decision.{Decision}
 use Rattle.clv_base.specs.declared.modes.Decision.TheVariants.{Grant, Wait, Die}
 use Rattle.clv_base.specs.Locks.{decide, violated}
@@ -42,11 +41,12 @@ use Rattle.clv_base.specs.Coordinator.{others, takes_vote, takes_done, ruling_by
 use Rattle.clv_base.specs.OneShard.{OpReply, OpWaits, OpCrowded, OpDies, OpAnswers, seen_fits, op_reply, op_seen, op_by_stage, op_active, op_decided, op_granted, written, locked, performed, active_part, new_part, add_pairs, rolled_back_if, without_part, close_part, drop_part}
 use Rattle.clv_base.specs.Due.{or_else, with_commit_done, commit_due, give_vote, vote_due, rule, request_due, due_of, first_due, known_txs, next_due, do_due, work}
 use Rattle.clv_base.specs.Events.{Reply, QuietBeforeWorn, QuietAfterWorn, Does, finish, op_event, is_alone, epoch_in, coordinate, request_by_stage, request_event, look_lost, look_state, look_known, request_epoch, drop_event, owe_vote, on_prepare, with_votes, on_vote, decided, on_decide, with_done, on_done, on_message, to_of, with_outbox, send_event, reminders, remind_with, with_durable, out_event, taken, landed, happen_up, happen, CallAnswer, Quiet, Worn, Enters, next_stamp, stamped, step, land_up, land}
-use Rattle.clv_base.specs.Restarts.{pairs_of_listed, restored_pairs, restored_parts, log_left, next_epoch, log_after_restart, revived, revive_down, revive}
+use Rattle.clv_base.specs.Restarts.{restored_parts, log_left, next_epoch, log_after_restart, revived, revive_down, revive}
 use Rattle.clv_base.proofs.SameNames.{or_left, or_right, tx_true, tx_self, tx_eq}
-use Rattle.law_base.proofs.Lists.{all_mono, all_append, all_kept}
+use Rattle.law_base.proofs.Lists.{all_mono, all_kept}
 use Rattle.due_laws.specs.Depending.{HasPart, DependentsHaveParts, RestartsHaveParts, DueKeepsParts, EventsKeepParts, LandingKeepsParts}
-use Rattle.law_base.proofs.Names.{keys_restored, listed_have, own_in}
+use Rattle.law_base.proofs.Names.{keys_restored, own_in}
+use Rattle.law_base.proofs.Logs.{restored_have}
 
 -- ---- parts stay in the table
 
@@ -380,14 +380,6 @@ land_keeps s clock walker b d = at s.is_up
     at false = tt
 
 -- ---- a restart
-
-of_listed : (P : TxId → Type 0) (log : List LogRecord) (t : TxId) (o : Option (ℕ × List TxId)) → P t → AllByRecursion (λ p. P p.0) (pairs_of_listed log t o)
-of_listed P log t None h = tt
-of_listed P log t (Some p) h = listed_have P t (filter (λ q. not (committed_in log q)) p.1) h
-
-restored_have : (P : TxId → Type 0) (log : List LogRecord) (ts : List TxId) → AllByRecursion P ts → AllByRecursion (λ p. P p.0) (restored_pairs log ts)
-restored_have P log [] a = tt
-restored_have P log (t ∷ ts) a = all_append (λ p. P p.0) (pairs_of_listed log t (prepare_of log t)) (restored_pairs log ts) (of_listed P log t (prepare_of log t) a.0) (restored_have P log ts a.1)
 
 pub restarts_have_parts : RestartsHaveParts
 restarts_have_parts shard run epoch log last journal =

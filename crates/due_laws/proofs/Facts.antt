@@ -10,7 +10,7 @@ use Rattle.clv_base.specs.declared.logs.LogRecord.{LogRecord}
 use Rattle.clv_base.specs.declared.logs.LogRecord.TheVariants.{Update, Clr, Commit, Abort, End}
 use Rattle.clv_base.specs.declared.parts.PartState.{PartState}
 use Rattle.clv_base.specs.declared.state.Held.{Held}
-use Rattle.clv_base.specs.Orders.{Table, pair_insert, tx_same, tx_in, tx_get}
+use Rattle.clv_base.specs.Orders.{Table, tx_same, tx_in, tx_get}
 use Rattle.clv_base.specs.Logs.{StandingUpdate, standing, is_update_of, is_commit_of, is_prepare_of, wrote_in, committed_in, prepared_in, place_from, commit_lsn, prepare_lsn}
 use Rattle.clv_base.specs.Locks.{Locks, close_locks, violated}
 use Rattle.clv_base.specs.Needs.{needs_of, writes_of, value_at, key_of}
@@ -18,7 +18,7 @@ use Rattle.clv_base.specs.State.{Local}
 use Rattle.clv_base.specs.Undo.{stage_of, gone_part, release_parts, aborts_of, clrs_of, newest_lsn, doomed_here, undo}
 use Rattle.clv_base.specs.declared.parts.PartFacts.{PartFacts}
 use Rattle.clv_base.specs.Facts.{predecessors_of, undecided_of, greater_place, greatest_commit, due_by, due_lsn_of, state_by, doom_by, is_restored_by, facts_in}
-use Rattle.clv_base.specs.OneShard.{active_part, new_part, add_pairs, closing, closed_part, closed_in, dropped_part, mark_dropped, written, locked}
+use Rattle.clv_base.specs.OneShard.{active_part, new_part, closing, closed_part, closed_in, dropped_part, mark_dropped, written, locked}
 use Rattle.clv_base.proofs.SameNames.{or_left, or_right, tx_true, tx_self, tx_flip}
 use Rattle.law_base.proofs.Tables.{get_put, get_changed, is_pair, in_pair, stage_by}
 use Rattle.law_base.proofs.Stages.{same_part}
@@ -26,7 +26,7 @@ use Rattle.law_base.proofs.Commits.{closing_commits}
 use Rattle.law_base.proofs.Sets.{flip_apart}
 use Rattle.due_laws.specs.Changes.{ChangesOnly, successors_of, ReleasesChange, RollBacksChange, CommitsChange, EndsChange, ClosesChange, OperationsChange, MarksChange, PurgesChange}
 use Rattle.law_base.proofs.Logs.{place_more}
-use Rattle.law_base.proofs.Names.{preds_insert, preds_without}
+use Rattle.law_base.proofs.Names.{preds_without, preds_add}
 
 -- ---- predecessors whose COMMITs stay
 
@@ -93,10 +93,6 @@ get_same : (test : TxId → Bool) (f : Held → Held) (x : TxId) (parts : Table 
 get_same test f x parts out = get_changed test f x parts ∙ ap (λ b. elim (tx_get x parts) [ Some h ↦ Some (cond b (f h) h) | None ↦ None ]) out ∙ same_part (tx_get x parts)
 
 -- ---- pairs
-
-preds_add : (x tx : TxId) (qs : List TxId) (pairs : List (TxId × TxId)) → tx_same x tx ≡ false → predecessors_of (add_pairs tx qs pairs) x ≡ predecessors_of pairs x
-preds_add x tx [] pairs other = refl
-preds_add x tx (q ∷ qs) pairs other = preds_add x tx qs (pair_insert (tx, q) pairs) other ∙ preds_insert x tx q pairs other
 
 -- a predecessor's successor is among its successors
 pub successor_in : (x p : TxId) (pairs : List (TxId × TxId)) → is_pair pairs x p ≡ true → tx_in x (successors_of pairs p) ≡ true

@@ -19,14 +19,10 @@ use Rattle.clv_base.proofs.SameNames.{or_left, or_right, tx_true, tx_flip, inser
 use Rattle.law_base.proofs.Sets.{tx_total, less_from_greater, above_more, above_insert, AllAbove, union_right}
 use Rattle.due_laws.specs.Candidates.{is_commit_due, is_vote_due, is_ruling_due, is_due, Cover, LeastIsNext, OthersCover, NoneIsNothing, AtRestNone}
 use Rattle.due_laws.proofs.Deciding.{due_by_facts}
-use Rattle.law_base.proofs.Names.{Rise, not_less}
+use Rattle.law_base.proofs.Names.{Rise, not_less, above_all_in as above_in}
 use Rattle.law_base.proofs.Shards.{rest_of}
 
 -- ---- lists that rise
-
-pub above_in : (t x : TxId) (ts : List TxId) → AllAbove t ts → tx_in x ts ≡ true → tx_cmp t x ≡ Less
-above_in t x [] a i = absurd (both_ways false refl i)
-above_in t x (u ∷ us) a i = ⊎_elim (λ h. subst (λ z. tx_cmp t z ≡ Less) (tx_true u x h) a.0) (λ h. above_in t x us a.1 h) (or_cases (tx_same u x) (tx_in x us) i)
 
 rise_case : (o : Ordering) (t y : TxId) (xs ys : List TxId) → tx_cmp t y ≡ o → Rise (y ∷ xs) → (o ≡ Greater → AllAbove y ys) → Rise ys → Rise (match_ordering o (t ∷ y ∷ xs) (y ∷ xs) (y ∷ ys))
 unfolding IsStrictlySortedBy

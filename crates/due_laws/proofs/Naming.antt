@@ -3,18 +3,13 @@ use Rattle.std.proofs.Common.{◌≡◌, refl, sym, ap, subst, ◌∙◌, ℕ, z
 use Rattle.std.proofs.lemmas.Bool.{both_ways}
 use Rattle.std.specs.List.Sorted.{IsStrictlySortedBy}
 use Rattle.std.specs.Map.{keys_of}
-use Rattle.std.specs.Ordering.{is_eq}
 use Rattle.clv_base.specs.declared.names.TxId.{TxId}
 use Rattle.clv_base.specs.Orders.{Table, tx_same, tx_in, tx_cmp, tx_get}
 use Rattle.clv_base.proofs.SameNames.{tx_true, tx_self}
 use Rattle.due_laws.specs.Left.{total_by}
-use Rattle.law_base.proofs.Sets.{AllAbove as Above}
+use Rattle.law_base.proofs.Names.{not_above as above_none}
 
 -- ---- rising tables
-
-pub above_none : {X : Type 0} (t : TxId) (rs : Table X) → Above t (keys_of rs) → tx_get t rs ≡ None
-above_none t [] a = refl
-above_none t (r ∷ rs) a = ap (λ c. cond (is_eq c) (Some r.1) (tx_get t rs)) a.0 ∙ above_none t rs a.1
 
 none_some : {X : Type 0} (o : Option X) (x : X) → o ≡ None → o ≡ Some x → ⊥
 none_some None x e h = absurd cc

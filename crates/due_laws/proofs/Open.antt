@@ -31,9 +31,10 @@ use Rattle.due_laws.specs.Left.{is_finished_stage, is_over, is_finished, is_idle
 use Rattle.due_laws.specs.Open.{txs_here, votes_owed, waits_in, count_waiting, open_work, LeftByOpen}
 use Rattle.due_laws.proofs.Deciding.{due_by_facts}
 use Rattle.due_laws.proofs.Least.{at_rest_none}
-use Rattle.due_laws.proofs.Naming.{above_none, get_first, get_later, row_sum, at_name, name_sum, named_total, by_rows}
+use Rattle.due_laws.proofs.Naming.{get_first, get_later, row_sum, at_name, name_sum, named_total, by_rows}
 use Rattle.std.specs.List.Sorted.{IsStrictlySortedBy}
 use Rattle.clv_base.specs.Orders.{tx_cmp}
+use Rattle.law_base.proofs.Names.{not_above as above_none}
 
 -- ---- nothing is due of a transaction
 

@@ -3,7 +3,7 @@ use Rattle.std.proofs.Common.{◌≡◌, refl, sym, ap, ◌∙◌, subst, ℕ, z
 use Rattle.clv_base.specs.declared.names.TxId.{TxId}
 use Rattle.clv_base.specs.declared.causes.Vote.{Vote}
 use Rattle.clv_base.specs.declared.causes.Vote.TheVariants.{Yes, Read, No}
-use Rattle.clv_base.specs.Orders.{Table, tx_same, tx_in, tx_get}
+use Rattle.clv_base.specs.Orders.{Table, tx_same, tx_get}
 use Rattle.clv_base.specs.declared.state.Ruling.TheVariants.{Commit as CommitVerdict, Acknowledge, Abort as AbortVerdict, End as EndVerdict}
 use Rattle.clv_base.specs.State.{Shard, Local, with_local}
 use Rattle.clv_base.specs.declared.state.Stage.{Stage}
@@ -31,13 +31,14 @@ use Rattle.due_laws.proofs.Naming.{other_total}
 use Rattle.due_laws.specs.Left.{is_over, total_by, is_finished, is_idle, left_voter, left_request, left, LeftFalls, OnlyLeftIsDue, MessagesByLeft, RecordsByLeft}
 use Rattle.due_laws.proofs.Finished.{Stay, finished_stage, performed_known, performed_other, total_by_at, PartsStay, stay_total, finish_stay, rolled_stay}
 use Rattle.due_laws.proofs.Deciding.{due_by_facts}
-use Rattle.due_laws.proofs.Counting.{voter_falls, request_falls, owes, finished_facts, idle_facts, vote_counts, voted_counts, RulingLess, less_in, request_left, voter_left}
+use Rattle.due_laws.proofs.Counting.{voter_falls, request_falls, finished_facts, idle_facts, vote_counts, voted_counts, RulingLess, less_in, request_left, voter_left}
 use Rattle.due_laws.proofs.Spending.{closed_work, Sends, sends_first, Writes, writes_first}
 use Rattle.std.proofs.lemmas.Bool.{or_cases, and_parts}
 use Rattle.std.proofs.Common.{length, ⊎_elim, is_some}
 use Rattle.std.proofs.lemmas.Bool.{both_ways}
 use Rattle.clv_base.specs.Facts.{is_closed_state}
 use Rattle.law_base.proofs.Tables.{stage_by as stage_in}
+use Rattle.clv_base.proofs.Settling.{owes, gone_closed, gone_le}
 
 -- where there is a next state, less is left in it
 data LessLeft (s : Shard) : Option Shard → Type 0 where
@@ -45,14 +46,6 @@ data LessLeft (s : Shard) : Option Shard → Type 0 where
   less : {t : Shard} → left t < left s → LessLeft s (Some t)
 
 -- ---- parts that go
-
-gone_one : (b : Bool) (d : Option TxId) (h : Held) → part_work (cond b (gone_part d h) h) ≤ part_work h
-gone_one true d h = omega arith
-gone_one false d h = omega arith
-
-pub gone_le : (set : List TxId) (d : Option TxId) (parts : Table Held) → total part_work (gone_in set d parts) ≤ total part_work parts
-gone_le set d [] = omega arith
-gone_le set d (p ∷ ps) = omega (arith, gone_one (tx_in p.0 set) d p.1, gone_le set d ps)
 
 -- by the stage that the transaction's part has
 GoneLess : Table Held → Table Held → Option Stage → Type 0
@@ -74,10 +67,6 @@ gone_less : (tx : TxId) (d : Option TxId) (parts : Table Held) → GoneLess part
 unfolding GoneLess
 gone_less tx d [] = tt
 gone_less tx d (p ∷ ps) = gone_here p ps (gone_in (tx ∷ []) d ps) d (tx_same tx p.0) (tx_get tx ps) (gone_le (tx ∷ []) d ps) (gone_less tx d ps)
-
-gone_closed : (l : Local) (tx : TxId) → stage_of l tx ≡ Some Closed → total part_work (gone_in (tx ∷ []) None l.parts) + 1 ≤ total part_work l.parts
-unfolding GoneLess
-gone_closed l tx e = subst (λ o. GoneLess l.parts (gone_in (tx ∷ []) None l.parts) o) e (gone_less tx None l.parts)
 
 -- ---- voters and requests whose parts change
 

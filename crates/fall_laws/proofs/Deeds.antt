@@ -15,10 +15,9 @@ use Rattle.std.proofs.lemmas.Bool.{or_left, or_right}
 use Rattle.history_cases.proofs.Merging.{Placed, Among}
 use Rattle.history_cases.proofs.Telling.{IsRequest}
 use Rattle.history_laws.proofs.Staying.{is_request}
-use Rattle.history_cases.proofs.Worlds.{journal_append}
+use Rattle.history_cases.proofs.Worlds.{journal_append, other_journal}
 use Rattle.fall_laws.specs.Leading.{deeds_with, deeds_after, own_deeds, requests_of}
 use Rattle.shard_laws.specs.OneShard.{Deeds, no_deeds}
-use Rattle.history_laws.proofs.Walking.{other_journal}
 
 -- ---- a shard's own entry, and another's
 

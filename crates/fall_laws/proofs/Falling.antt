@@ -42,12 +42,10 @@ use Rattle.history_cases.proofs.Merging.{Placed, Among, among_append, among_left
 use Rattle.history_cases.proofs.Worlds.{state_at}
 use Rattle.history_laws.proofs.Staying.{walker_of}
 use Rattle.history_cases.proofs.TellingEvents.{front_committed}
-use Rattle.shard_laws.proofs.Following.{Follows, from_disorder}
 use Rattle.shard_laws.proofs.Restoring.{restored_closed}
 use Rattle.shard_laws.proofs.Ordered.{prepare_some}
 use Rattle.session_laws.proofs.Replying.{OpIs, waits, no_room, dies, rolls, performs, reply_is}
 use Rattle.history_laws.proofs.Walking.{Behind, next_entry}
-use Rattle.history_laws.proofs.Found.{found_in_order}
 use Rattle.origin_laws.proofs.Sessions.{Requested, same_epoch, turn_of}
 use Rattle.origin_laws.proofs.Origins.{PartFrom, StageFrom, SomeRequest}
 use Rattle.origin_laws.proofs.Events.{active_done}
@@ -71,6 +69,7 @@ use Rattle.fall_laws.proofs.BarredEvents.{Owes}
 use Rattle.fall_laws.proofs.BarredMade.{Frame, barred_state, barred_made}
 use Rattle.protocol_laws.proofs.Records.{prepared_there}
 use Rattle.law_base.proofs.Names.{MayStand}
+use Rattle.origin_laws.proofs.Opening.{found_follows as log_follows}
 
 -- ---- what is told of transactions after a front of the history
 
@@ -462,9 +461,6 @@ all_tied (Commit tx parts ∷ rs) = (tt, all_tied rs)
 all_tied (Abort tx ∷ rs) = (tt, all_tied rs)
 all_tied (End tx ∷ rs) = (tt, all_tied rs)
 all_tied (RestartRecord run epoch ∷ rs) = (tt, all_tied rs)
-
-pub log_follows : (splits : List ℕ) (before : List (List LogRecord)) (n : ℕ) → may_open splits before ≡ true → n < length before → Follows n [] (log_of before n)
-log_follows splits before n m l = from_disorder n 0 [] (log_of before n) (found_in_order splits before n m l)
 
 log_ahead : (splits : List ℕ) (before : List (List LogRecord)) (n : ℕ) → may_open splits before ≡ true → n < length before → Ahead [] (log_of before n)
 log_ahead splits before n m l = follows_ahead n [] (log_of before n) (log_follows splits before n m l)

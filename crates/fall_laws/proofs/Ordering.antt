@@ -9,7 +9,7 @@ use Rattle.shard_laws.proofs.OrderKept.{order_is_kept}
 use Rattle.fall_laws.specs.Leading.{deeds_before, with_found}
 use Rattle.fall_laws.specs.Ordering.{LogsLeftAreInOrder}
 use Rattle.fall_laws.proofs.Leading.{each_shard_leads}
-use Rattle.fate_laws.proofs.Deciding.{log_now}
+use Rattle.history_laws.proofs.Staying.{log_now}
 
 pub logs_left_are_in_order : LogsLeftAreInOrder
 logs_left_are_in_order splits before h after choice n m l i =

@@ -12,7 +12,7 @@ use Rattle.shard_laws.proofs.Settled.{quiet_is_settled}
 use Rattle.fall_laws.specs.Leading.{deeds_before, with_found}
 use Rattle.fall_laws.specs.Settling.{QuietShardsAreTheirMaps}
 use Rattle.fall_laws.proofs.Leading.{each_shard_leads}
-use Rattle.fate_laws.proofs.Deciding.{log_now}
+use Rattle.history_laws.proofs.Staying.{log_now}
 
 -- a quiet shard's log is left whole
 pub left_whole : (s : Shard) (kept : Bool) → IsQuiet s → log_left s kept ≡ s.local.log

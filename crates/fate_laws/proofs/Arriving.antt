@@ -36,12 +36,13 @@ use Rattle.fate_laws.proofs.Prepares.{prepare_more, front_prepare}
 use Rattle.fate_laws.proofs.Homes.{Known}
 use Rattle.fate_laws.proofs.Prefixes.{Next, next_at, AskedIn, one_home, DurableIn}
 use Rattle.fate_laws.proofs.Fates.{Fated, delivered}
-use Rattle.fate_laws.proofs.Deciding.{log_now, left_committed}
+use Rattle.fate_laws.proofs.Deciding.{left_committed}
 use Rattle.fate_laws.proofs.Binding.{Bound, ordered_wrote}
 use Rattle.fate_laws.proofs.Parts.{Touched, Good, Base}
 use Rattle.fate_laws.proofs.Bindings.{WasTaken, FineAt, Bindings, bound_message, bindings_front}
 use Rattle.protocol_laws.proofs.Records.{prepared_there}
 use Rattle.law_base.proofs.Names.{all_from}
+use Rattle.history_laws.proofs.Staying.{log_now}
 
 -- ---- a commit is taken by a part that is closed, or again
 

@@ -14,7 +14,7 @@ use Rattle.clv_base.specs.History.{Legal, Member, members, ops_in, request_of, a
 use Rattle.clv_base.proofs.SameNames.{tx_self}
 use Rattle.history_cases.proofs.Durability.{left_front}
 use Rattle.history_cases.proofs.Merging.{Placed, Among, among_is, is_among}
-use Rattle.history_laws.proofs.Serials.{committed_front, left_at}
+use Rattle.history_laws.proofs.Serials.{committed_front}
 use Rattle.history_cases.proofs.Telling.{IsRequest}
 use Rattle.history_cases.proofs.TellingEvents.{front_committed}
 use Rattle.history_cases.proofs.Worlds.{in_a_shard}
@@ -23,12 +23,9 @@ use Rattle.fate_laws.specs.Decisions.{IsTold, IsHome, CommitsStandAtHome, ToldCo
 use Rattle.fate_laws.proofs.Homes.{Known}
 use Rattle.fate_laws.proofs.Prefixes.{AskedIn, one_home, DurableIn}
 use Rattle.fate_laws.proofs.Fates.{Said, Fated, fated}
+use Rattle.history_laws.proofs.Staying.{log_now}
 
 -- ---- the log that a crash leaves
-
-pub log_now : (splits : List ℕ) (before : List (List LogRecord)) (h : History) (after : List (List LogRecord)) (choice : ℕ → Bool) (n : ℕ) → n < shard_count splits
-    → log_of (logs_left splits before h after choice) n ≡ log_left (final_of before h after n) (choice n)
-log_now splits before h after choice n l = left_at (final_of before h after) choice 0 (shard_count splits) n l ∙ ap (λ m. log_left (final_of before h after m) (choice m)) (omega arith)
 
 -- who is durable is left
 pub durable_left : (splits : List ℕ) (before : List (List LogRecord)) (h : History) (after : List (List LogRecord)) (choice : ℕ → Bool) (n : ℕ) (tx : TxId) → n < shard_count splits → Fated splits before after h → DurableIn before after h n tx

@@ -1,5 +1,5 @@
 -- What a shard knows of parts: what its votes bind, who was asked, and of whose COMMIT all touched shards voted well.
-use Rattle.std.proofs.Common.{◌≡◌, ◌⊎◌, inl, inr, ⊎_elim, refl, sym, ap, subst, ◌∙◌, ℕ, ◌+◌, ◌≤◌, true, false, cond, Bool, not, ◌&&◌, ◌==◌, List, [], ◌∷◌, ◌++◌, Option, Some, None, length, arith, eqb-true, length-append}
+use Rattle.std.proofs.Common.{◌≡◌, ◌⊎◌, inl, inr, ⊎_elim, refl, sym, ap, subst, ◌∙◌, ℕ, ◌+◌, ◌≤◌, true, false, cond, Bool, not, ◌&&◌, ◌==◌, List, [], ◌∷◌, ◌++◌, Option, Some, None, length, arith, eqb-true}
 use Rattle.std.specs.Prelude.{⊤, take}
 use Rattle.std.specs.List.{AllByRecursion, list_all, filter}
 use Rattle.std.proofs.lemmas.Bool.{both_ways, and_parts, or_cases, or_left, or_right, eq-eqb, false_from_ne_true}
@@ -40,6 +40,7 @@ use Rattle.fate_laws.proofs.Closings.{ClosedNow}
 use Rattle.fate_laws.proofs.Binding.{Bound, Reads, bound_calm, reads_calm, Ordered, Listed}
 use Rattle.fate_laws.proofs.VotesHeld.{votes_get}
 use Rattle.protocol_laws.proofs.Records.{prepared_there}
+use Rattle.history_cases.proofs.Durability.{grown_length}
 
 -- ---- what is known. W: whose request was taken, where, naming which shards; S: who asked so far; F: whose part on a shard is bound, or has read
 
@@ -63,9 +64,6 @@ pub record Base (run : ℕ) (W : TxId → ℕ → List (ℕ × ℕ) → Type 0) 
   pub closed : (tx : TxId) → stage_of s.local tx ≡ Some Closed → tx.run ≡ run → HomeOr W s.shard tx
 
 -- ---- the base is kept
-
-grown_length : {A : Type 0} (xs ys : List A) → IsPrefixOf xs ys → length xs ≤ length ys
-grown_length xs ys p = let e = ap length p.1 in let f = length-append xs p.0 in omega (arith, e, f)
 
 -- where the first PREPARE stands in a longer log
 pub longer_ordered : (xs ys : List LogRecord) (t : TxId) (k : ℕ) → IsPrefixOf xs ys → Ordered xs → prepared_in xs t ≡ true → prepare_lsn ys t ≡ Some k → wrote_in (take k ys) t ≡ true

@@ -14,9 +14,8 @@ use Rattle.history_cases.proofs.Durability.{Counted, Fronts, fronts_entry, opene
 use Rattle.history_cases.proofs.Merging.{Placed, Before, in_order, not_before_itself, before_then, Among, among_append, among_left, among_right, front_precedes, Precedes, precedes_before}
 use Rattle.history_laws.proofs.Serials.{committed_front}
 use Rattle.history_cases.proofs.Telling.{IsRequest}
-use Rattle.history_cases.proofs.Worlds.{sent_at, state_at, Split, split_at, in_a_shard}
+use Rattle.history_cases.proofs.Worlds.{sent_at, state_at, Split, split_at, in_a_shard, other_journal}
 use Rattle.history_laws.proofs.Staying.{one_request}
-use Rattle.history_laws.proofs.Walking.{other_journal}
 
 -- what stands before an entry is in the front
 precedes_right : {A : Type 0} (x y : A) (xs ys : List A) → Precedes x y ys → Precedes x y (xs ++ ys)

@@ -41,7 +41,7 @@ use Rattle.protocol_laws.proofs.InOrder.{sessions_keep_order}
 use Rattle.clv_base.specs.History.{is_acknowledgement}
 use Rattle.clv_base.specs.declared.names.Birth.{Birth}
 use Rattle.clv_base.specs.declared.ops.Op.{Op}
-use Rattle.history_cases.proofs.Worlds.{state_at, journal_append}
+use Rattle.history_cases.proofs.Worlds.{state_at, journal_append, other_journal}
 use Rattle.history_laws.proofs.Staying.{walker_of, together}
 use Rattle.session_laws.proofs.Dropping.{drop_after_request}
 use Rattle.session_laws.proofs.Looking.{IllOf, ill, ill_happens}
@@ -59,7 +59,7 @@ use Rattle.fate_laws.proofs.Arriving.{home_committed}
 use Rattle.fate_laws.proofs.Downwards.{Lowered, lowered_next, lowered_front, owed as owed_down}
 use Rattle.fate_laws.proofs.Dooming.{Kept, RowKeeps}
 use Rattle.fate_laws.proofs.DoomingEvents.{Owes, NotPending, kept_made, kept_state}
-use Rattle.history_laws.proofs.Walking.{other_journal, from_own, first_among}
+use Rattle.history_laws.proofs.Walking.{from_own, first_among}
 
 -- ---- journals
 

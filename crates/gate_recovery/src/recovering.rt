@@ -14,7 +14,7 @@ use log_buffer::LogBuffer;
 use log_flush::{FlushError, flush_all};
 use log_gate::Gate;
 use ordered_store::Store;
-use restart_analysis::laws::a_restart_keeps_the_lists;
+use restart_analysis::statements::a_restart_keeps_the_lists;
 use restart_analysis::{Analysis, analyse};
 use shard_recovery::restart;
 use std::alloc::{AllocError, Global};

@@ -121,7 +121,7 @@ take_of_more m xs ys l p = ap (take m) (sym p.1) ∙ take-append-le m xs p.0 l
 pub fronts_of : {A : Type 0} (m n : ℕ) (xs ys : List A) → m ≤ length xs → m ≤ n → IsPrefixOf xs ys → IsPrefixOf (take m xs) (take n ys)
 fronts_of m n xs ys l k p = subst (λ z. IsPrefixOf z (take n ys)) (take_of_more m xs ys l p) (take_more_of m n ys k)
 
-grown_length : {A : Type 0} (xs ys : List A) → IsPrefixOf xs ys → length xs ≤ length ys
+pub grown_length : {A : Type 0} (xs ys : List A) → IsPrefixOf xs ys → length xs ≤ length ys
 grown_length xs ys p = let e = ap length p.1 in let f = length-append xs p.0 in omega (arith, e, f)
 
 fitting_by : (r : LogRecord) (rs : List LogRecord) (n : ℕ) (b : Bool) → n ≤ length rs → elim b [ true ↦ 0 | false ↦ suc n ] ≤ length (r ∷ rs)

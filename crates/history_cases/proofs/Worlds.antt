@@ -51,7 +51,7 @@ own_journal n e pre post b = journal_append n pre (e ∷ post) ∙ ap (λ l. jou
     at true d = refl
     at false d = absurd (both_ways false refl d)
 
-other_journal : (n : ℕ) (e : Placed) (pre : History) → (e.0 == n) ≡ false → journal_of n (pre ++ e ∷ []) ≡ journal_of n pre
+pub other_journal : (n : ℕ) (e : Placed) (pre : History) → (e.0 == n) ≡ false → journal_of n (pre ++ e ∷ []) ≡ journal_of n pre
 other_journal n e pre b = journal_append n pre (e ∷ []) ∙ ap (λ l. journal_of n pre ++ l) (at (e.0 == n) b) ∙ append-nil (journal_of n pre)
   where
     at : (c : Bool) → c ≡ false → cond c (e.1 ∷ []) [] ≡ []
@@ -116,7 +116,7 @@ next_world h splits before after pre e w i s l p =
 
 -- ---- the whole history
 
-all_in : (splits : List ℕ) (h : History) (e : Placed) → list_all (λ x. nat_lt x.0 (shard_count splits)) h ≡ true → Among e h → e.0 < shard_count splits
+pub all_in : (splits : List ℕ) (h : History) (e : Placed) → list_all (λ x. nat_lt x.0 (shard_count splits)) h ≡ true → Among e h → e.0 < shard_count splits
 all_in splits [] e a i = elim i [ ]
 all_in splits (x ∷ xs) e a (inl q) =
     subst (λ z. z.0 < shard_count splits) q (ltb-true x.0 (shard_count splits) (and_parts (nat_lt x.0 (shard_count splits)) (list_all (λ x. nat_lt x.0 (shard_count splits)) xs) a).0)

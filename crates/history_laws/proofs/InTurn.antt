@@ -12,7 +12,7 @@ use Rattle.clv_base.specs.Restarts.{run_after}
 use Rattle.clv_base.specs.Sessions.{no_session}
 use Rattle.clv_base.specs.Journals.{History, own}
 use Rattle.clv_base.specs.History.{Legal, Member, is_acknowledgement, request_of, members, logs_left}
-use Rattle.clv_base.proofs.SameNames.{tx_true}
+use Rattle.clv_base.proofs.SameNames.{tx_true, same_fields}
 use Rattle.law_base.proofs.Lists.{all_mono}
 use Rattle.protocol_laws.specs.SessionLaws.{tx_of}
 use Rattle.protocol_laws.proofs.InOrder.{sessions_keep_order}
@@ -27,9 +27,6 @@ use Rattle.history_laws.proofs.Staying.{walker_of, together, together_by_walker,
 use Rattle.law_base.proofs.Logs.{is_in}
 
 -- ---- members of one session
-
-same_fields : (r s t a b c : ℕ) → r ≡ a → s ≡ b → t ≡ c → ◌≡◌ {A = TxId} (record { run = r; session = s; serial = t }) (record { run = a; session = b; serial = c })
-same_fields r s t a b c e f g = cc
 
 one_name : (t u : TxId) → t.run ≡ u.run → t.session ≡ u.session → t.serial ≡ u.serial → t ≡ u
 one_name t u a b c = same_fields t.run t.session t.serial u.run u.session u.serial a b c

@@ -211,7 +211,7 @@ told_well h run t (Look tx) Acknowledged e s r = let q : t ≡ tx = tx_true t tx
 told_well h run t (Look tx) _ e s r = absurd (both_ways false refl e)
 told_well h run t _ o e s r = absurd (both_ways false refl e)
 
-log_now : (splits : List ℕ) (before : List (List LogRecord)) (h : History) (after : List (List LogRecord)) (choice : ℕ → Bool) (n : ℕ) → n < shard_count splits
+pub log_now : (splits : List ℕ) (before : List (List LogRecord)) (h : History) (after : List (List LogRecord)) (choice : ℕ → Bool) (n : ℕ) → n < shard_count splits
     → log_of (logs_left splits before h after choice) n ≡ log_left (final_of before h after n) (choice n)
 log_now splits before h after choice n l = left_at (final_of before h after) choice 0 (shard_count splits) n l ∙ ap (λ m. log_left (final_of before h after m) (choice m)) (omega arith)
 

@@ -1,15 +1,14 @@
 -- What holds of every shard and every entry along a history, by one entry more.
 use Rattle.std.proofs.Common.{◌≡◌, ◌⊎◌, inl, inr, ⊎_elim, refl, sym, ap, subst, ◌∙◌, ℕ, ◌<◌, true, false, cond, Bool, List, [], ◌∷◌, ◌++◌, ◌==◌, eqb-true, append_assoc, append-nil}
 use Rattle.std.specs.List.{AllByRecursion}
-use Rattle.std.proofs.lemmas.Bool.{both_ways}
 use Rattle.clv_base.specs.declared.logs.LogRecord.{LogRecord}
 use Rattle.clv_base.specs.Shards.{shard_count}
 use Rattle.clv_base.specs.LogRules.{log_of}
 use Rattle.clv_base.specs.State.{Shard}
-use Rattle.clv_base.specs.Journals.{History, journal_of, start_of, after_entries, own}
+use Rattle.clv_base.specs.Journals.{History, start_of, after_entries, own}
 use Rattle.clv_base.specs.History.{Legal, WasSent, MessagesSent}
 use Rattle.history_cases.proofs.Merging.{Placed, Before, InOrder, in_order, before_then, not_before_itself, Among, among_all, among_append, among_left, among_right, front_precedes, precedes_before, Precedes}
-use Rattle.history_cases.proofs.Worlds.{journal_append, sent_at, state_at, Split, split_at, in_a_shard}
+use Rattle.history_cases.proofs.Worlds.{sent_at, state_at, Split, split_at, in_a_shard, other_journal}
 
 -- ---- the entry behind a front of the history
 
@@ -61,13 +60,6 @@ abbrev pub Steps : (History → ℕ → Shard → Type 0) → (Placed → Type 0
 Steps S M splits before after h =
     (pre : History) (e : Placed) → Walked S M splits before after pre → Entry_next splits before after h pre e
     → S (pre ++ e ∷ []) e.0 (state_at before after e.0 (pre ++ e ∷ [])) × M e × ((n : ℕ) → n < shard_count splits → (e.0 == n) ≡ false → S pre n (state_at before after n pre) → S (pre ++ e ∷ []) n (state_at before after n pre))
-
-pub other_journal : (n : ℕ) (e : Placed) (pre : History) → (e.0 == n) ≡ false → journal_of n (pre ++ e ∷ []) ≡ journal_of n pre
-other_journal n e pre b = journal_append n pre (e ∷ []) ∙ ap (λ l. journal_of n pre ++ l) (at (e.0 == n) b) ∙ append-nil (journal_of n pre)
-  where
-    at : (c : Bool) → c ≡ false → cond c (e.1 ∷ []) [] ≡ []
-    at true d = absurd (both_ways true d refl)
-    at false d = refl
 
 next_walked : (S : History → ℕ → Shard → Type 0) (M : Placed → Type 0) (splits : List ℕ) (before after : List (List LogRecord)) (h pre : History) (e : Placed)
     → Walked S M splits before after pre → Steps S M splits before after h → Entry_next splits before after h pre e → Walked S M splits before after (pre ++ e ∷ [])

@@ -28,7 +28,7 @@ use Rattle.interleaving_core.specs.declared.seat.Air.TheVariants.{Home, Away, Lo
 use Rattle.interleaving_core.specs.Seated.{HasLog, IsInFlight, IsHome, IsAway, IsLost, IsSeated}
 use Rattle.world_laws.proofs.Laws.{Framed, framed_finish, grows_settled, same_outcome, same_after, take_grown}
 use Rattle.law_base.proofs.Logs.{spelled_append as all_spelled}
-use Rattle.law_base.proofs.Shards.{quiet_out, same_out}
+use Rattle.law_base.proofs.Shards.{same_out, up_or_down}
 
 -- ---- the start of a flush
 
@@ -52,10 +52,6 @@ by_up : (s : Shard) (clock w n : ℕ) (t : Shard) (b : Bool) → s.is_up ≡ b
     → stamped (next_stamp s clock FlushOut) w FlushOut (nat_lt (next_stamp s clock FlushOut) (2 ^ 48)) (elim b [ true ↦ happen_up s FlushOut | false ↦ QuietBeforeWorn Down ]) ≡ Enters (Out n) t → Departing s (next_stamp s clock FlushOut) w n t
 by_up s clock w n t false up h = absurd cc
 by_up s clock w n t true up h = outs s (next_stamp s clock FlushOut) w (nat_lt (next_stamp s clock FlushOut) (2 ^ 48)) s.flight (fitting 1048576 (drop (taken s) s.local.log)) n t up refl h
-
-up_or_down : (s : Shard) (stamp w : ℕ) (room : Bool) (n : ℕ) (b : Bool) → stamped stamp w FlushOut room (elim b [ true ↦ happen_up s FlushOut | false ↦ QuietBeforeWorn Down ]) ≡ Quiet (Out n) → ⊥
-up_or_down s stamp w room n true h = quiet_out s stamp w room n s.flight (fitting 1048576 (drop (taken s) s.local.log)) h
-up_or_down s stamp w room n false h = absurd cc
 
 same_ok : {p q : Outcome} → ◌≡◌ {A = Result Outcome StepError} (Ok p) (Ok q) → p ≡ q
 same_ok e = cc

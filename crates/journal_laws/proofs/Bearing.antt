@@ -33,9 +33,8 @@ use Rattle.clv_base.specs.Due.{finish_reader, with_vote, do_ruling, with_ruling}
 use Rattle.clv_base.specs.Events.{Does, happen, finish, with_durable}
 use Rattle.clv_base.specs.Restarts.{opened, restored_part, restored_parts, log_after_restart}
 use Rattle.clv_base.specs.Journals.{has_equal_active_birth, flush_state, FlushMay}
-use Rattle.clv_base.proofs.SameNames.{nat_cmp_true}
+use Rattle.clv_base.proofs.SameNames.{nat_cmp_true, then_eq}
 use Rattle.law_base.proofs.Rows.{rows_put}
-use Rattle.law_base.proofs.Tables.{then_eq}
 use Rattle.history_cases.proofs.Stepping.{commits, votes, rules, KeptByDue, settled, Step, op_dies, op_answers, request_closes, drops, prepare_closes, decision_comes, Happens, finishes, stops, happened}
 use Rattle.clv_base.specs.Machines.{BecomesBy, Runs}
 use Rattle.journal_laws.specs.Births.{LeavesBirth, FreeBirthsStay, OpenedHasNone, BearsWalker, OthersLeaveBirths, NewBirthsAreFree}

@@ -1,7 +1,6 @@
 -- A cut of a legal history is legal.
-use Rattle.std.proofs.Common.{append_assoc, Some, ◌≡◌, inl, inr, ⊎_elim, refl, sym, ap, subst, ◌∙◌, ℕ, ◌<◌, true, false, not, ◌||◌, List, [], ◌∷◌, ◌++◌, nat_lt, arith}
-use Rattle.std.specs.List.{AllByRecursion, list_all}
-use Rattle.std.proofs.lemmas.Bool.{ltb-true}
+use Rattle.std.proofs.Common.{append_assoc, Some, ◌≡◌, inl, inr, ⊎_elim, refl, sym, ap, subst, ◌∙◌, ℕ, ◌<◌, true, false, not, ◌||◌, List, [], ◌∷◌, ◌++◌, arith}
+use Rattle.std.specs.List.{AllByRecursion}
 use Rattle.clv_base.specs.declared.logs.LogRecord.{LogRecord}
 use Rattle.clv_base.specs.declared.events.Event.{Event}
 use Rattle.clv_base.specs.declared.events.Event.TheVariants.{Deliver}
@@ -26,11 +25,9 @@ use Rattle.journal_laws.proofs.Gathering.{Whole, whole_state, whole_is_legal}
 use Rattle.journal_laws.specs.Cuts.{session_entries, IsCut, CutLeaves, CutIsLegal}
 use Rattle.journal_laws.proofs.Owned.{own_sublist, rise_of_sublist, own_rise, own_numbered, each_session, by_session_events, session_front}
 use Rattle.journal_laws.proofs.Made.{run_made, run_above, runs_same, same_got}
+use Rattle.history_cases.proofs.Worlds.{all_in as on_its_shard}
 
 -- ---- a cut's entries are the history's
-
-on_its_shard : (splits : List ℕ) (es : History) (x : Placed) → list_all (λ e. nat_lt e.0 (shard_count splits)) es ≡ true → Among x es → x.0 < shard_count splits
-on_its_shard splits es x a i = ltb-true x.0 (shard_count splits) (among_each (λ e. nat_lt e.0 (shard_count splits)) x es a i)
 
 in_whole : (splits : List ℕ) (h cut : History) → IsCut splits h cut → (x : Placed) → Among x cut → Among x h
 in_whole splits h cut c x i =

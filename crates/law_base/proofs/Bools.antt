@@ -1,16 +1,10 @@
--- Of two tests of which neither passes, each fails.
+-- Tests: not, and, or; and orderings as tests.
 use Rattle.std.proofs.Common.{◌≡◌, Bool, false, ◌||◌, refl, true, ◌&&◌, ap₂, sym, cond, T, subst}
-use Rattle.std.proofs.lemmas.Bool.{or_parts, both_ways, and_parts}
+use Rattle.std.proofs.lemmas.Bool.{both_ways, and_parts}
 use Rattle.std.specs.Prelude.{not, IsTrue}
 use Rattle.std.specs.declared.cmp.Ordering.TheVariants.{Less, Equal, Greater}
 use Rattle.std.specs.Ordering.{is_eq, ordering_then, is_lt}
 use Rattle.std.specs.declared.cmp.Ordering.{Ordering}
-
-pub or_false_left : (a b : Bool) → (a || b) ≡ false → a ≡ false
-or_false_left a b e = (or_parts a b e).0
-
-pub or_false_right : (a b : Bool) → (a || b) ≡ false → b ≡ false
-or_false_right a b e = (or_parts a b e).1
 
 pub not_true : (b : Bool) → not b ≡ true → b ≡ false
 not_true true h = absurd (both_ways false refl h)

@@ -8,7 +8,7 @@ use Rattle.clv_base.specs.Shards.{shard_count, are_splits, not_rising, shard_of}
 use Rattle.clv_base.specs.declared.causes.Vote.{Vote}
 use Rattle.clv_base.specs.Orders.{nat_in, nat_insert}
 use Rattle.clv_base.specs.Coordinator.{vote_from, is_good}
-use Rattle.std.proofs.lemmas.List.{get_or_append_left, get_or-take}
+use Rattle.std.proofs.lemmas.List.{get_or_append_left, get_or-take, get_or-drop}
 use Rattle.std.specs.declared.cmp.Ordering.{Ordering}
 use Rattle.std.specs.declared.cmp.Ordering.TheVariants.{Less, Equal, Greater}
 use Rattle.std.specs.Ordering.{nat_cmp, match_ordering}
@@ -194,3 +194,6 @@ whole_range ys xs n e f =
     let none : length xs - 0 ≡ length xs = omega arith in
     let all : slice_range xs 0 (length xs) ≡ take (length xs) xs = ap (λ (k : ℕ). take k xs) none in
     e ∙ ap (slice_range xs 0) f ∙ all ∙ take-length xs
+
+pub bytes_drop : (n : ℕ) (bytes : List ℕ) → IsBytes bytes → IsBytes (drop n bytes)
+bytes_drop n bytes are i = subst (λ (b : ℕ). b < 256) (sym (get_or-drop n bytes i 0)) (are (n + i))

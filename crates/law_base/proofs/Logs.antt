@@ -1,8 +1,8 @@
 -- Lemmas of logs, by their records.
-use Rattle.std.proofs.Common.{◌≤◌, List, arith, [], ◌∷◌, ℕ, Option, Some, None, Result, Ok, Err, suc, ◌-◌, Bool, true, false, nat_lt, length, ◌≡◌, ◌+◌, ◌++◌, refl, sym, length-append, ◌<◌, ◌||◌, ap, ◌∙◌, ◌&&◌, subst, cond, map, zero, is_some, get_or, drop, take, ◌==◌}
+use Rattle.std.proofs.Common.{◌≤◌, List, arith, [], ◌∷◌, ℕ, Option, Some, None, Result, Ok, Err, suc, ◌-◌, Bool, true, false, nat_lt, length, ◌≡◌, ◌+◌, ◌++◌, refl, sym, length-append, ◌<◌, ◌||◌, ap, ◌∙◌, ◌&&◌, subst, cond, map, zero, is_some, get_or, drop, take, ◌==◌, not, eq-eqb, ⊎_elim}
 use Rattle.clv_base.specs.declared.logs.LogRecord.{LogRecord}
-use Rattle.clv_base.specs.Restarts.{run_after, homes_of}
-use Rattle.clv_base.specs.Logs.{record_size, fitting, committed_in, committed_somewhere, fold_updates, stands_from, place_from, prepared_in, prepare_of, standing, standing_after}
+use Rattle.clv_base.specs.Restarts.{run_after, homes_of, pairs_of_listed, losers, undo_records, restart_records, restored_pairs, restored_locks, with_ghosts, ghost_if_absent}
+use Rattle.clv_base.specs.Logs.{record_size, fitting, committed_in, committed_somewhere, fold_updates, stands_from, place_from, prepared_in, prepare_of, standing, standing_after, aborted_in, StandingUpdate, standing_from, without_newest}
 use Rattle.std.specs.Prelude.{slice_get, ⊤, is_none}
 use Rattle.std.proofs.Math.Seq.{get_or-append_seam}
 use Rattle.std.proofs.lemmas.Option.{slice_get_read}
@@ -10,19 +10,29 @@ use Rattle.clv_base.specs.declared.logs.LogRecord.TheVariants.{Clr, Abort, Resta
 use Rattle.clv_base.specs.declared.names.TxId.{TxId}
 use Rattle.clv_base.specs.LogRules.{log_of, all_logs_from, disorder, may_follow, disorder_from, last_restart}
 use Rattle.clv_base.specs.Maps.{KeyMap, map_set}
-use Rattle.std.specs.List.{list_all, list_any}
-use Rattle.std.proofs.lemmas.Bool.{and_parts, and_from, or_parts, both_ways}
+use Rattle.std.specs.List.{list_all, list_any, AllByRecursion, filter}
+use Rattle.std.proofs.lemmas.Bool.{and_parts, and_from, or_parts, both_ways, cond_both, or_cases}
 use Rattle.clv_base.specs.FileRules.{passes_file_rules, log_passes, has_spelling}
+use Rattle.clv_base.specs.Undo.{clrs_of, newest_lsn}
 use Rattle.law_base.proofs.Commits.{no_place_from}
 use Rattle.clv_base.specs.Journals.{History}
-use Rattle.clv_base.specs.History.{acknowledged_in}
+use Rattle.clv_base.specs.History.{acknowledged_in, members, request_of, ops_in}
 use Rattle.std.proofs.Math.Path.{fun_ext}
 use Rattle.std.proofs.lemmas.List.Folds.{list_all-append, list_any-append, list_all_at}
-use Rattle.clv_base.proofs.SameNames.{or_left}
-use Rattle.clv_base.specs.Orders.{tx_same}
+use Rattle.clv_base.proofs.SameNames.{or_left, or_right, tx_self}
+use Rattle.clv_base.specs.Orders.{tx_same, tx_in}
 use Rattle.law_base.proofs.Undoing.{standing_append}
 use Rattle.clv_base.specs.Folding.{IsRising}
 use Rattle.clv_base.proofs.Folding.{rising_set}
+use Rattle.law_base.proofs.Shards.{FromHistory}
+use Rattle.law_base.proofs.Names.{listed_have, all_without, lock_of, lock_case, IsThere, ghost_keeps, own_lock, own_ghost}
+use Rattle.law_base.proofs.Lists.{all_append}
+use Rattle.clv_base.specs.declared.modes.Part.TheVariants.{X}
+use Rattle.clv_base.specs.declared.modes.Anchor.TheVariants.{At}
+use Rattle.clv_base.specs.Locks.{Locks, take_one}
+use Rattle.law_base.proofs.LockRows.{holds}
+use Rattle.clv_base.specs.Needs.{Records, found_at}
+use Rattle.law_base.proofs.Cells.{record_at}
 
 pub least_run : (logs : List (List LogRecord)) → 1 ≤ run_after logs
 least_run [] = omega arith
@@ -48,6 +58,14 @@ IsUndo (Abort tx) = ⊤
 IsUndo (Clr tx undo_next key after) = ⊤
 IsUndo (Restart run epoch) = ⊤
 IsUndo _ = ⊥
+
+pub aborts_undo : (ts : List TxId) → AllByRecursion IsUndo (map (λ t. Abort t) ts)
+aborts_undo [] = tt
+aborts_undo (t ∷ ts) = (tt, aborts_undo ts)
+
+pub clrs_undo : (set : List TxId) (ws : List StandingUpdate) → AllByRecursion IsUndo (clrs_of set ws)
+clrs_undo set [] = tt
+clrs_undo set (w ∷ ws) = cond_both (tx_in w.tx set) (Clr w.tx (newest_lsn w.tx ws) w.key w.before ∷ clrs_of set ws) (clrs_of set ws) (AllByRecursion IsUndo) (λ i. (tt, clrs_undo set ws)) (λ i. clrs_undo set ws)
 
 pub same_somewhere : (xs ys : List (List LogRecord)) (t : TxId) → length xs ≡ length ys → ((n : ℕ) → n < length ys → committed_in (log_of xs n) t ≡ committed_in (log_of ys n) t) → committed_somewhere xs t ≡ committed_somewhere ys t
 same_somewhere [] [] t e k = refl
@@ -175,3 +193,123 @@ is_update_at t q _ = false
 
 pub some_log : {a b : List LogRecord} → Some a ≡ Some b → a ≡ b
 some_log h = cc
+
+pub all_take : (n : ℕ) (rs : List LogRecord) → AllByRecursion IsUndo rs → AllByRecursion IsUndo (take n rs)
+all_take zero rs a = tt
+all_take (suc n) [] a = tt
+all_take (suc n) (r ∷ rs) a = (a.0, all_take n rs a.1)
+
+pub undo_passes_none : (f : LogRecord → Bool) (rs : List LogRecord) → ((r : LogRecord) → IsUndo r → f r ≡ false) → AllByRecursion IsUndo rs → list_any f rs ≡ false
+undo_passes_none f [] k a = refl
+undo_passes_none f (r ∷ rs) k a = ap (λ b. b || list_any f rs) (k r a.0) ∙ undo_passes_none f rs k a.1
+
+pub same_fold : (f k : TxId → Bool) → ((t : TxId) → f t ≡ k t) → (log more : List LogRecord) (m : KeyMap) → AllByRecursion IsUndo more → fold_updates f (log ++ more) m ≡ fold_updates k log m
+same_fold f k e [] [] m a = refl
+same_fold f k e [] (Abort tx ∷ more) m a = same_fold f k e [] more m a.1
+same_fold f k e [] (Clr tx u q v ∷ more) m a = same_fold f k e [] more m a.1
+same_fold f k e [] (Restart run epoch ∷ more) m a = same_fold f k e [] more m a.1
+same_fold f k e [] (Update tx q b v ∷ more) m a = absurd a.0
+same_fold f k e [] (Prepare tx home ps ∷ more) m a = absurd a.0
+same_fold f k e [] (Commit tx ps ∷ more) m a = absurd a.0
+same_fold f k e [] (End tx ∷ more) m a = absurd a.0
+same_fold f k e (Update tx q b v ∷ log) more m a = ap (λ c. fold_updates f (log ++ more) (cond c (map_set q v m) m)) (e tx) ∙ same_fold f k e log more (cond (k tx) (map_set q v m) m) a
+same_fold f k e (Clr tx u q v ∷ log) more m a = same_fold f k e log more m a
+same_fold f k e (Prepare tx home ps ∷ log) more m a = same_fold f k e log more m a
+same_fold f k e (Commit tx ps ∷ log) more m a = same_fold f k e log more m a
+same_fold f k e (Abort tx ∷ log) more m a = same_fold f k e log more m a
+same_fold f k e (End tx ∷ log) more m a = same_fold f k e log more m a
+same_fold f k e (Restart run epoch ∷ log) more m a = same_fold f k e log more m a
+
+pub from_history : (logs : List (List LogRecord)) (h es : History) → FromHistory h (members logs h es)
+from_history logs h [] = tt
+from_history logs h (e ∷ es) = at (request_of (e.1).event (e.1).outcome) (from_history logs h es)
+  where
+    kept : (t : TxId) (b : Bool) → FromHistory h (members logs h es)
+        → FromHistory h (cond b (record { tx = t; point = record { stamp = (e.1).stamp; shard = e.0 }; ops = ops_in t h } ∷ members logs h es) (members logs h es))
+    kept t true k = (refl, k)
+    kept t false k = k
+
+    at : (o : Option TxId) → FromHistory h (members logs h es)
+        → FromHistory h (elim o [
+          | Some t ↦ cond (committed_in (log_of logs e.0) t || acknowledged_in h t) (record { tx = t; point = record { stamp = (e.1).stamp; shard = e.0 }; ops = ops_in t h } ∷ members logs h es) (members logs h es)
+          | None ↦ members logs h es
+        ])
+    at None k = k
+    at (Some t) k = kept t (committed_in (log_of logs e.0) t || acknowledged_in h t) k
+
+pub of_listed : (P : TxId → Type 0) (log : List LogRecord) (t : TxId) (o : Option (ℕ × List TxId)) → P t → AllByRecursion (λ p. P p.0) (pairs_of_listed log t o)
+of_listed P log t None h = tt
+of_listed P log t (Some p) h = listed_have P t (filter (λ q. not (committed_in log q)) p.1) h
+
+abbrev pub has_update : List LogRecord → TxId → ℕ → Bool
+has_update log t q = list_any (is_update_at t q) log
+
+pub restart_undoes : (shard : ℕ) (log : List LogRecord) (run epoch : ℕ) → AllByRecursion IsUndo (restart_records shard log run epoch)
+restart_undoes shard log run epoch =
+    all_append IsUndo (undo_records shard log) (Restart run epoch ∷ [])
+    (all_append IsUndo _ _ (aborts_undo (filter (λ t. not (aborted_in log t)) (losers shard log))) (clrs_undo (losers shard log) (standing log))) (tt, tt)
+
+pub restored_have : (P : TxId → Type 0) (log : List LogRecord) (ts : List TxId) → AllByRecursion P ts → AllByRecursion (λ p. P p.0) (restored_pairs log ts)
+restored_have P log [] a = tt
+restored_have P log (t ∷ ts) a = all_append (λ p. P p.0) (pairs_of_listed log t (prepare_of log t)) (restored_pairs log ts) (of_listed P log t (prepare_of log t) a.0) (restored_have P log ts a.1)
+
+pub standing_all : (log : List LogRecord) (n : ℕ) (rs : List LogRecord) (ws : List StandingUpdate) → ((t : TxId) (q : ℕ) → has_update rs t q ≡ true → has_update log t q ≡ true) → AllByRecursion (λ w. has_update log w.tx w.key ≡ true) ws
+    → AllByRecursion (λ w. has_update log w.tx w.key ≡ true) (standing_from n rs ws)
+standing_all log n [] ws h all = all
+standing_all log n (Update tx k b a ∷ rs) ws h all =
+    standing_all log (suc n) rs (record { lsn = n; tx = tx; key = k; before = b; after = a } ∷ ws) (λ t q e. h t q (or_right (tx_same t tx && (q == k)) _ e))
+    (h tx k (or_left _ _ (and_from _ _ (tx_self tx) (eq-eqb k k refl))), all)
+standing_all log n (Clr tx u k a ∷ rs) ws h all = standing_all log (suc n) rs (without_newest tx ws) h (all_without _ tx ws all)
+standing_all log n (Prepare tx home ps ∷ rs) ws h all = standing_all log (suc n) rs ws h all
+standing_all log n (Commit tx ps ∷ rs) ws h all = standing_all log (suc n) rs ws h all
+standing_all log n (Abort tx ∷ rs) ws h all = standing_all log (suc n) rs ws h all
+standing_all log n (End tx ∷ rs) ws h all = standing_all log (suc n) rs ws h all
+standing_all log n (Restart run epoch ∷ rs) ws h all = standing_all log (suc n) rs ws h all
+
+pub locks_keep : (txs : List TxId) (log : List LogRecord) (locks : Locks) (t : TxId) (q : ℕ) → holds true X (At q) t locks ≡ true → holds true X (At q) t (restored_locks txs log locks) ≡ true
+locks_keep txs [] locks t q h = h
+locks_keep txs (Update tx key b a ∷ rs) locks t q h = locks_keep txs rs (cond (tx_in tx txs) (take_one (At key) (lock_of tx) locks) locks) t q (lock_case txs tx key locks t q h)
+locks_keep txs (Clr tx u k a ∷ rs) locks t q h = locks_keep txs rs locks t q h
+locks_keep txs (Prepare tx home ps ∷ rs) locks t q h = locks_keep txs rs locks t q h
+locks_keep txs (Commit tx ps ∷ rs) locks t q h = locks_keep txs rs locks t q h
+locks_keep txs (Abort tx ∷ rs) locks t q h = locks_keep txs rs locks t q h
+locks_keep txs (End tx ∷ rs) locks t q h = locks_keep txs rs locks t q h
+locks_keep txs (Restart run epoch ∷ rs) locks t q h = locks_keep txs rs locks t q h
+
+pub ghosts_keep : (txs : List TxId) (log : List LogRecord) (rs : Records) (q : ℕ) → IsThere q rs → IsThere q (with_ghosts txs log rs)
+ghosts_keep txs [] rs q h = h
+ghosts_keep txs (Update tx key b a ∷ log) rs q h =
+    ghosts_keep txs log (cond (tx_in tx txs) (ghost_if_absent key rs (found_at key rs)) rs) q (cond_both (tx_in tx txs) (ghost_if_absent key rs (found_at key rs)) rs (IsThere q) (λ e. ghost_keeps key q rs (found_at key rs) h) (λ e. h))
+ghosts_keep txs (Clr tx u k a ∷ log) rs q h = ghosts_keep txs log rs q h
+ghosts_keep txs (Prepare tx home ps ∷ log) rs q h = ghosts_keep txs log rs q h
+ghosts_keep txs (Commit tx ps ∷ log) rs q h = ghosts_keep txs log rs q h
+ghosts_keep txs (Abort tx ∷ log) rs q h = ghosts_keep txs log rs q h
+ghosts_keep txs (End tx ∷ log) rs q h = ghosts_keep txs log rs q h
+ghosts_keep txs (Restart run epoch ∷ log) rs q h = ghosts_keep txs log rs q h
+
+pub standing_updates : (log : List LogRecord) → AllByRecursion (λ w. has_update log w.tx w.key ≡ true) (standing log)
+standing_updates log = standing_all log 0 log [] (λ t q e. e) tt
+
+pub locks_hold : (txs : List TxId) (log : List LogRecord) (locks : Locks) (t : TxId) (q : ℕ) → tx_in t txs ≡ true → has_update log t q ≡ true → holds true X (At q) t (restored_locks txs log locks) ≡ true
+locks_hold txs [] locks t q i e = absurd (both_ways false refl e)
+locks_hold txs (Update tx key b a ∷ rs) locks t q i e =
+    ⊎_elim (λ h. locks_keep txs rs (cond (tx_in tx txs) (take_one (At key) (lock_of tx) locks) locks) t q (own_lock txs tx key locks t q i h))
+    (λ h. locks_hold txs rs (cond (tx_in tx txs) (take_one (At key) (lock_of tx) locks) locks) t q i h) (or_cases (tx_same t tx && (q == key)) (has_update rs t q) e)
+locks_hold txs (Clr tx u k a ∷ rs) locks t q i e = locks_hold txs rs locks t q i e
+locks_hold txs (Prepare tx home ps ∷ rs) locks t q i e = locks_hold txs rs locks t q i e
+locks_hold txs (Commit tx ps ∷ rs) locks t q i e = locks_hold txs rs locks t q i e
+locks_hold txs (Abort tx ∷ rs) locks t q i e = locks_hold txs rs locks t q i e
+locks_hold txs (End tx ∷ rs) locks t q i e = locks_hold txs rs locks t q i e
+locks_hold txs (Restart run epoch ∷ rs) locks t q i e = locks_hold txs rs locks t q i e
+
+pub ghosts_there : (txs : List TxId) (log : List LogRecord) (rs : Records) (t : TxId) (q : ℕ) → tx_in t txs ≡ true → has_update log t q ≡ true → record_at q (with_ghosts txs log rs) ≡ None → ⊥
+ghosts_there txs [] rs t q i e = absurd (both_ways false refl e)
+ghosts_there txs (Update tx key b a ∷ log) rs t q i e =
+    ⊎_elim (λ h. ghosts_keep txs log (cond (tx_in tx txs) (ghost_if_absent key rs (found_at key rs)) rs) q (own_ghost txs tx key rs t q i h))
+    (λ h. ghosts_there txs log (cond (tx_in tx txs) (ghost_if_absent key rs (found_at key rs)) rs) t q i h) (or_cases (tx_same t tx && (q == key)) (has_update log t q) e)
+ghosts_there txs (Clr tx u k a ∷ log) rs t q i e = ghosts_there txs log rs t q i e
+ghosts_there txs (Prepare tx home ps ∷ log) rs t q i e = ghosts_there txs log rs t q i e
+ghosts_there txs (Commit tx ps ∷ log) rs t q i e = ghosts_there txs log rs t q i e
+ghosts_there txs (Abort tx ∷ log) rs t q i e = ghosts_there txs log rs t q i e
+ghosts_there txs (End tx ∷ log) rs t q i e = ghosts_there txs log rs t q i e
+ghosts_there txs (Restart run epoch ∷ log) rs t q i e = ghosts_there txs log rs t q i e

@@ -1,5 +1,5 @@
 -- Lemmas of names, locks and parts.
-use Rattle.std.proofs.Common.{◌≡◌, Option, Some, List, ◌∷◌, None, [], ap, true, ℕ, map, ◌==◌, refl, ◌∙◌, eq-eqb, false, subst, ◌<◌, sym, cond, Bool, ◌⊎◌, ⊎_elim, ◌||◌, ◌++◌, not, ◌&&◌, length, ◌+◌}
+use Rattle.std.proofs.Common.{◌≡◌, Option, Some, List, ◌∷◌, None, [], ap, true, ℕ, map, ◌==◌, refl, ◌∙◌, eq-eqb, false, subst, ◌<◌, sym, cond, Bool, ◌⊎◌, ⊎_elim, ◌||◌, ◌++◌, not, ◌&&◌, length, ◌+◌, ◌≤◌, arith, eqb-true}
 use Rattle.clv_base.specs.declared.names.Birth.{Birth}
 use Rattle.std.specs.List.Sorted.{IsStrictlySortedBy}
 use Rattle.clv_base.specs.declared.names.TxId.{TxId}
@@ -7,7 +7,7 @@ use Rattle.clv_base.specs.Orders.{tx_cmp, tx_same, tx_in, Table, tx_get, tx_inse
 use Rattle.clv_base.specs.declared.ops.Op.{Op}
 use Rattle.clv_base.specs.declared.ops.Answer.{Answer}
 use Rattle.std.specs.List.{AllByRecursion, list_any, list_all}
-use Rattle.std.proofs.lemmas.Bool.{cond_both, both_ways, cond-true, false_from_ne_true, or_cases, and_from}
+use Rattle.std.proofs.lemmas.Bool.{cond_both, both_ways, cond-true, false_from_ne_true, or_cases, and_from, and_parts}
 use Rattle.clv_base.specs.Logs.{StandingUpdate, without_newest}
 use Rattle.std.specs.declared.cmp.Ordering.TheVariants.{Less, Equal, Greater}
 use Rattle.std.specs.Ordering.{is_eq, match_ordering, nat_cmp, ordering_then}
@@ -29,18 +29,18 @@ use Rattle.clv_base.specs.Folding.{key_written}
 use Rattle.law_base.specs.Items.{told as value_told, is_write_at, Item}
 use Rattle.std.specs.Cmp.{both_ways as same_tests}
 use Rattle.std.proofs.lemmas.List.Folds.{list_any-append}
-use Rattle.clv_base.specs.Restarts.{restored_parts, old_birth, restored_part}
+use Rattle.clv_base.specs.Restarts.{restored_parts, old_birth, restored_part, ghost_if_absent}
 use Rattle.clv_base.specs.Undo.{pairs_without, stage_of, doomed_by, doomed_here}
 use Rattle.clv_base.specs.Facts.{predecessors_of}
 use Rattle.std.specs.declared.cmp.Ordering.{Ordering}
 use Rattle.clv_base.specs.declared.modes.Anchor.TheVariants.{At, Low}
-use Rattle.clv_base.specs.Locks.{Locks}
+use Rattle.clv_base.specs.Locks.{Locks, take_one}
 use Rattle.law_base.proofs.Tables.{is_pair}
 use Rattle.clv_base.specs.declared.state.Stage.{Stage}
 use Rattle.clv_base.specs.declared.state.Stage.TheVariants.{Closed, Active}
 use Rattle.clv_base.specs.declared.state.Held.{Held}
 use Rattle.clv_base.specs.State.{Local, is_present}
-use Rattle.law_base.proofs.Sets.{filter_in}
+use Rattle.law_base.proofs.Sets.{filter_in, AllAbove}
 use Rattle.law_base.proofs.Successors.{keeps_through}
 use Rattle.std.proofs.lemmas.Cmp.{nat_cmp_total}
 use Rattle.clv_base.specs.declared.modes.Anchor.{Anchor}
@@ -49,6 +49,10 @@ use Rattle.clv_base.specs.declared.modes.Part.TheVariants.{X}
 use Rattle.clv_base.specs.Modes.{on_key}
 use Rattle.clv_base.specs.Journals.{History}
 use Rattle.clv_base.specs.History.{answered_op, ops_in}
+use Rattle.clv_base.specs.OneShard.{add_pairs}
+use Rattle.law_base.proofs.LockRows.{holds, take_keeps, take_gives}
+use Rattle.clv_base.specs.declared.modes.Found.{Found}
+use Rattle.clv_base.specs.declared.modes.Found.TheVariants.{Live, Ghost, Absent}
 
 pub birth_same : (a b : Birth) → ◌≡◌ {A = Option Birth} (Some a) (Some b) → a ≡ b
 birth_same a b h = cc
@@ -262,3 +266,58 @@ set_some q k rs false o h e = h refl e
 pub one_rises : (tx : TxId) → IsStrictlySortedBy tx_cmp (tx ∷ [])
 unfolding IsStrictlySortedBy
 one_rises tx = (tt, tt)
+
+pub not_above : {V : Type 0} (t : TxId) (rs : Table V) → AllAbove t (keys_of rs) → tx_get t rs ≡ None
+not_above t [] a = refl
+not_above t (p ∷ ps) a = ap (λ c. cond (is_eq c) (Some p.1) (tx_get t ps)) a.0 ∙ not_above t ps a.1
+
+pub falls_length : (n : ℕ) (ws : List StandingUpdate) → Falls n ws → length ws ≤ n
+falls_length n [] f = omega arith
+falls_length n (w ∷ ws) f = let l : w.lsn < n = f.0 in let m : length ws ≤ w.lsn = falls_length w.lsn ws f.1 in omega arith
+
+pub preds_add : (x tx : TxId) (qs : List TxId) (pairs : List (TxId × TxId)) → tx_same x tx ≡ false → predecessors_of (add_pairs tx qs pairs) x ≡ predecessors_of pairs x
+preds_add x tx [] pairs other = refl
+preds_add x tx (q ∷ qs) pairs other = preds_add x tx qs (pair_insert (tx, q) pairs) other ∙ preds_insert x tx q pairs other
+
+pub above_all_in : (t x : TxId) (ts : List TxId) → AllAbove t ts → tx_in x ts ≡ true → tx_cmp t x ≡ Less
+above_all_in t x [] a i = absurd (both_ways false refl i)
+above_all_in t x (u ∷ us) a i = ⊎_elim (λ h. subst (λ z. tx_cmp t z ≡ Less) (tx_true u x h) a.0) (λ h. above_all_in t x us a.1 h) (or_cases (tx_same u x) (tx_in x us) i)
+
+pub above_out : (t : TxId) (xs : List TxId) → AllAbove t xs → tx_in t xs ≡ false
+above_out t [] a = refl
+above_out t (x ∷ xs) a = false_from_ne_true _ (λ i. ⊎_elim
+    (λ s. both_ways _ (ap is_eq a.0) (tx_flip x t s))
+    (λ j. both_ways _ (above_out t xs a.1) j) (or_cases (tx_same x t) (tx_in t xs) i))
+
+pub lock_case : (txs : List TxId) (tx : TxId) (key : ℕ) (locks : Locks) (t : TxId) (q : ℕ) → holds true X (At q) t locks ≡ true → holds true X (At q) t (cond (tx_in tx txs) (take_one (At key) (lock_of tx) locks) locks) ≡ true
+lock_case txs tx key locks t q h = cond_both (tx_in tx txs) (take_one (At key) (lock_of tx) locks) locks (λ l. holds true X (At q) t l ≡ true) (λ e. take_keeps true X (At q) t (At key) (lock_of tx) locks h) (λ e. h)
+
+pub own_lock : (txs : List TxId) (tx : TxId) (key : ℕ) (locks : Locks) (t : TxId) (q : ℕ) → tx_in t txs ≡ true → (tx_same t tx && (q == key)) ≡ true → holds true X (At q) t (cond (tx_in tx txs) (take_one (At key) (lock_of tx) locks) locks) ≡ true
+own_lock txs tx key locks t q i e =
+    let p = and_parts (tx_same t tx) (q == key) e in
+    let same : t ≡ tx = tx_true t tx p.0 in
+    let at : q ≡ key = eqb-true q key p.1 in
+    subst (λ l. holds true X (At q) t l ≡ true) (sym (cond-true (tx_in tx txs) (take_one (At key) (lock_of tx) locks) locks (subst (λ z. tx_in z txs ≡ true) same i)))
+    (subst (λ z. holds true X (At q) z (take_one (At key) (lock_of tx) locks) ≡ true) (sym same) (subst (λ k. holds true X (At k) tx (take_one (At key) (lock_of tx) locks) ≡ true) (sym at) (take_gives true X (At key) (lock_of tx) locks refl)))
+
+pub ghost_keeps : (k q : ℕ) (rs : Records) (f : Found) → IsThere q rs → IsThere q (ghost_if_absent k rs f)
+ghost_keeps k q rs (Live v) h = h
+ghost_keeps k q rs Ghost h = h
+ghost_keeps k q rs Absent h = λ e. set_some q k rs (q == k) (record_at q rs) (λ t. h) (sym (record_at_set q k None rs) ∙ e)
+
+pub ghost_there : (k : ℕ) (rs : Records) (f : Found) → found_at k rs ≡ f → IsThere k (ghost_if_absent k rs f)
+ghost_there k rs (Live v) e = λ n. live_not (sym (ap found_by n) ∙ e)
+  where
+    live_not : found_by None ≡ Live v → ⊥
+    live_not f = absurd cc
+ghost_there k rs Ghost e = λ n. ghost_not (sym (ap found_by n) ∙ e)
+  where
+    ghost_not : found_by None ≡ Ghost → ⊥
+    ghost_not f = absurd cc
+ghost_there k rs Absent e = λ n. set_some k k rs (k == k) (record_at k rs) (λ t. absurd (both_ways _ t (eq-eqb k k refl))) (sym (record_at_set k k None rs) ∙ n)
+
+pub own_ghost : (txs : List TxId) (tx : TxId) (key : ℕ) (rs : Records) (t : TxId) (q : ℕ) → tx_in t txs ≡ true → (tx_same t tx && (q == key)) ≡ true → IsThere q (cond (tx_in tx txs) (ghost_if_absent key rs (found_at key rs)) rs)
+own_ghost txs tx key rs t q i e =
+    let p = and_parts (tx_same t tx) (q == key) e in
+    subst (IsThere q) (sym (cond-true (tx_in tx txs) (ghost_if_absent key rs (found_at key rs)) rs (subst (λ z. tx_in z txs ≡ true) (tx_true t tx p.0) i)))
+    (subst (λ k. IsThere k (ghost_if_absent key rs (found_at key rs))) (sym (eqb-true q key p.1)) (ghost_there key rs (found_at key rs) refl))

@@ -1,18 +1,12 @@
 -- Lemmas of numbers.
-use Rattle.std.proofs.Common.{ℕ, Bool, cond, ◌≡◌, ◌<◌, arith, ◌≤◌, min, false, ◌==◌, sym, eq-eqb, suc, ◌+◌, ◌-◌, true}
+use Rattle.std.proofs.Common.{ℕ, Bool, cond, ◌≡◌, ◌<◌, arith, ◌≤◌, min, false, ◌==◌, sym, eq-eqb, suc, ◌+◌, ◌-◌, true, nat_lt}
 use Rattle.std.proofs.lemmas.Bool.Decides.{nat_tests}
-use Rattle.std.specs.declared.cmp.Ordering.TheVariants.{Less, Equal}
-use Rattle.std.specs.Ordering.{nat_cmp, is_lt}
-use Rattle.std.proofs.lemmas.Bool.{both_ways, ne_eqb}
+use Rattle.std.specs.Ordering.{nat_cmp, is_lt, is_eq}
+use Rattle.std.proofs.lemmas.Bool.{both_ways, ne_eqb, ltb-true}
+use Rattle.law_base.proofs.Bools.{eq_by}
 
 abbrev pub one_if : Bool → ℕ
 one_if b = cond b 1 0
-
-pub is_less : (a b : ℕ) → a < b → nat_cmp a b ≡ Less
-is_less a b l = grind (arith, nat_tests)
-
-pub is_equal : (a b : ℕ) → a ≡ b → nat_cmp a b ≡ Equal
-is_equal a b e = grind (arith, nat_tests)
 
 pub below_differs : (m n : ℕ) → m < n → m ≡ n → ⊥
 below_differs m n l e = omega (arith, l, e)
@@ -34,3 +28,6 @@ unequal_test k j h = ne_eqb k j h
 
 pub lt_from : (a b : ℕ) → is_lt (nat_cmp a b) ≡ true → a < b
 lt_from a b e = grind (arith, nat_tests)
+
+pub cmp_eq : (a b : ℕ) → is_eq (nat_cmp a b) ≡ (a == b)
+cmp_eq a b = eq_by (nat_lt a b) (a == b) (λ e. let l : a < b = ltb-true a b e in ne_eqb a b (λ q. absurd (omega arith)))

@@ -1,6 +1,6 @@
 -- Lemmas of shards, and of what an event comes to.
 use Rattle.clv_base.specs.declared.events.Outcome.{Outcome}
-use Rattle.clv_base.specs.Events.{Reply, QuietBeforeWorn, QuietAfterWorn, Does, Quiet, stamped, out_event, land_up, Enters}
+use Rattle.clv_base.specs.Events.{Reply, QuietBeforeWorn, QuietAfterWorn, Does, Quiet, stamped, out_event, land_up, Enters, happen_up, taken}
 use Rattle.std.proofs.Common.{Bool, true, false, ◌≡◌, ℕ, zero, suc, Option, Some, None, refl, List, ap, ◌∙◌, cond, [], ◌∷◌, ◌==◌, ◌<◌, length, arith}
 use Rattle.clv_base.specs.State.{Shard}
 use Rattle.clv_base.specs.declared.events.Event.TheVariants.{FlushOut, Op, Request, Look, Drop, Send, Deliver, Remind, FlushIn, Stop, Restart}
@@ -10,11 +10,11 @@ use Rattle.std.specs.List.{AllByRecursion}
 use Rattle.clv_base.specs.Journals.{History, own}
 use Rattle.clv_base.specs.History.{Member, ops_in}
 use Rattle.clv_base.specs.declared.names.TxId.{TxId}
-use Rattle.clv_base.specs.Logs.{committed_in}
+use Rattle.clv_base.specs.Logs.{committed_in, fitting}
 use Rattle.law_base.proofs.Tables.{is_pair}
 use Rattle.clv_base.specs.declared.events.Event.{Event}
 use Rattle.clv_base.specs.Sessions.{SessionState, session_after, is_of_session, Phase, Touching, Ended, Standing, Told, Refused, is_touching, after_drop}
-use Rattle.std.specs.Prelude.{slice_get}
+use Rattle.std.specs.Prelude.{slice_get, drop}
 use Rattle.std.proofs.lemmas.Option.{none-some}
 
 abbrev pub outcome_in : Reply → Outcome
@@ -117,3 +117,7 @@ touching_is Ended h = absurd (both_ways false refl h)
 touching_is (Standing home) h = absurd (both_ways false refl h)
 touching_is Told h = absurd (both_ways false refl h)
 touching_is Refused h = absurd (both_ways false refl h)
+
+pub up_or_down : (s : Shard) (stamp w : ℕ) (room : Bool) (n : ℕ) (b : Bool) → stamped stamp w FlushOut room (elim b [ true ↦ happen_up s FlushOut | false ↦ QuietBeforeWorn Down ]) ≡ Quiet (Out n) → ⊥
+up_or_down s stamp w room n true h = quiet_out s stamp w room n s.flight (fitting 1048576 (drop (taken s) s.local.log)) h
+up_or_down s stamp w room n false h = absurd cc

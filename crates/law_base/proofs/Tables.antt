@@ -12,7 +12,7 @@ use Rattle.clv_base.specs.declared.state.Held.{Held}
 use Rattle.clv_base.specs.Undo.{pairs_without}
 use Rattle.clv_base.specs.Facts.{predecessors_of}
 use Rattle.clv_base.specs.OneShard.{add_pairs}
-use Rattle.clv_base.proofs.SameNames.{or_left, or_right, tx_true, tx_self, tx_eq, in_insert, insert_keeps, insert_has}
+use Rattle.clv_base.proofs.SameNames.{or_left, or_right, tx_true, tx_self, tx_eq, in_insert, insert_keeps, insert_has, cmp_equal as cmp_same}
 
 -- ---- a value at a transaction
 
@@ -33,9 +33,6 @@ put_case Greater t u x r rs ts same far ih =
     at true false h = refl
     at false true h = refl
     at false false h = refl
-
-cmp_same : (a b : TxId) → tx_cmp a b ≡ Equal → a ≡ b
-cmp_same a b e = tx_true a b (ap is_eq e)
 
 cmp_apart : (a b : TxId) → tx_cmp a b ≡ Greater → a ≡ b → ⊥
 cmp_apart a b e s = both_ways (tx_same a b) (ap is_eq e) (tx_eq a b s)
@@ -94,11 +91,6 @@ in_case false pairs t p q s ih e = or_right (row_pairs t p q) _ (ih e)
 pub in_pair : (pairs : List (TxId × TxId)) (t p : TxId) → tx_in p (predecessors_of pairs t) ≡ true → is_pair pairs t p ≡ true
 in_pair [] t p e = absurd (both_ways false refl e)
 in_pair (q ∷ qs) t p e = in_case (tx_same t q.0) qs t p q refl (in_pair qs t p) e
-
-pub then_eq : (a b : Ordering) → is_eq (ordering_then a b) ≡ true → (is_eq a ≡ true) × (is_eq b ≡ true)
-then_eq Less b e = absurd (both_ways false refl e)
-then_eq Equal b e = (refl, e)
-then_eq Greater b e = absurd (both_ways false refl e)
 
 pub then_same : (a b : Ordering) → ordering_then a b ≡ Equal → (is_eq a ≡ true) × (is_eq b ≡ true)
 then_same Less b e = absurd cc

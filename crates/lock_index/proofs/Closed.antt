@@ -137,7 +137,7 @@ few_apart t (b ∷ bs) ls alone all =
     (λ c i. ap is_some (left_in (is_link t (Some b)) (is_link t (Some c)) (never_both t b c (λ s. alone.0 (subst (λ z. Among z bs) (sym s) i))) ls) ∙ all c (inr i)) in
     omega arith
 
-followed : (N : Nexts) (t : TxId) (p : Option Anchor) (bs : List Anchor) (b : Anchor) → Path N t p bs → Among b bs → has N t b ≡ true
+pub followed : (N : Nexts) (t : TxId) (p : Option Anchor) (bs : List Anchor) (b : Anchor) → Path N t p bs → Among b bs → has N t b ≡ true
 followed N t p [] b path i = absurd i
 followed N t p (c ∷ cs) b path i = ⊎_elim (λ s. ap (λ z. has N t z) s ∙ ap is_some path.1.1) (λ j. followed N t path.1.0 cs b path.1.2 j) i
 

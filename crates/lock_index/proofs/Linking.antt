@@ -1,6 +1,5 @@
 -- Looking a place of a thread up is looking its key up.
-use Rattle.std.proofs.Common.{◌≡◌, refl, sym, ap, ◌∙◌, ℕ, ◌<◌, Bool, true, false, cond, ◌&&◌, ◌==◌, nat_lt, [], ◌∷◌, Option, Some, None, arith}
-use Rattle.std.proofs.lemmas.Bool.{ltb-true, ne_eqb}
+use Rattle.std.proofs.Common.{◌≡◌, refl, sym, ap, ◌∙◌, ◌<◌, Bool, true, false, cond, ◌&&◌, ◌==◌, [], ◌∷◌, Option, Some, None, arith}
 use Rattle.std.specs.Map.{lookup}
 use Rattle.std.specs.Ordering.{nat_cmp, is_eq}
 use Rattle.clv_base.specs.declared.names.TxId.{TxId}
@@ -13,10 +12,8 @@ use Rattle.lock_index.specs.declared.links.Link.{Link}
 use Rattle.lock_index.specs.contracts.links.SpotPartialEq.TheImpl.{eq-value as spot-eq}
 use Rattle.lock_index.specs.contracts.links.LinkPartialEq.TheImpl.{eq-value}
 use Rattle.lock_index.specs.Links.{Links, spot_of, place_of, link_of, tx_of, same_place, is_link, next_of}
-use Rattle.law_base.proofs.Bools.{eq_by, then_tied as then_eq}
-
-cmp_eq : (a b : ℕ) → is_eq (nat_cmp a b) ≡ (a == b)
-cmp_eq a b = eq_by (nat_lt a b) (a == b) (λ e. let l : a < b = ltb-true a b e in ne_eqb a b (λ q. absurd (omega arith)))
+use Rattle.law_base.proofs.Bools.{then_tied as then_eq}
+use Rattle.law_base.proofs.Numbers.{cmp_eq}
 
 same_names : (t : TxId) (k : Link) → tx_same t (tx_of k) ≡ ((t.run == k.run) && ((t.session == k.session) && (t.serial == k.serial)))
 same_names t k =

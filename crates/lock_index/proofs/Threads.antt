@@ -8,6 +8,7 @@ use Rattle.clv_base.specs.Orders.{tx_same, anchor_same}
 use Rattle.clv_base.proofs.SameNames.{tx_true, tx_self}
 use Rattle.lock_index.specs.Links.{Nexts, first, has, Path, Among, AllApart, Thread, TakesOut, same_place}
 use Rattle.law_base.proofs.LockRows.{anchor_true, anchor_self}
+use Rattle.lock_index.proofs.Closed.{followed}
 
 and_no : (b : Bool) → (b && false) ≡ false
 and_no true = refl
@@ -17,11 +18,6 @@ and_no false = refl
 framed : (N M : Nexts) (t : TxId) (p : Option Anchor) (bs : List Anchor) → ((b : Anchor) → Among b bs → M t (Some b) ≡ N t (Some b)) → Path N t p bs → Path M t p bs
 framed N M t p [] same path = path
 framed N M t p (b ∷ bs) same path = (path.0, (path.1.0, same b (inl refl) ∙ path.1.1, framed N M t path.1.0 bs (λ c i. same c (inr i)) path.1.2))
-
--- each anchor on the way is followed by something
-followed : (N : Nexts) (t : TxId) (p : Option Anchor) (bs : List Anchor) (b : Anchor) → Path N t p bs → Among b bs → has N t b ≡ true
-followed N t p [] b path i = absurd i
-followed N t p (c ∷ cs) b path i = ⊎_elim (λ s. ap (λ z. has N t z) s ∙ ap is_some path.1.1) (λ j. followed N t path.1.0 cs b path.1.2 j) i
 
 -- a thread that nothing changes
 thread_alike : (N M : Nexts) (t : TxId) → ((p : Option Anchor) → M t p ≡ N t p) → Thread N t → Thread M t

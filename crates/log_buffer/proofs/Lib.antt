@@ -2,3 +2,4 @@ pub mod Places
 pub mod Pushing
 pub mod Standing
 pub mod Fitting
+pub mod Laws

@@ -16,10 +16,11 @@ use Rattle.log_disorder.specs.Rules.{is_last_run, is_before, is_since, value_of,
 use Rattle.log_disorder.proofs.Doubt.{nobody_is}
 use Rattle.log_disorder.proofs.IndexOf.{IsIndexOf}
 use Rattle.log_disorder.proofs.Laws.{Sound}
-use Rattle.log_disorder.proofs.Links.{lsn_of, link_of, link_at, link_newest, at_top, at_newest, falls_length, earlier_is_left, earlier_of}
+use Rattle.log_disorder.proofs.Links.{lsn_of, link_of, link_at, link_newest, at_top, at_newest, earlier_is_left, earlier_of}
 use Rattle.log_disorder.proofs.Walks.{all_clear_is}
 use Rattle.law_base.proofs.Bools.{by_bool as both, or_false}
 use Rattle.law_base.proofs.Logs.{place_is as is_some_place}
+use Rattle.law_base.proofs.Names.{falls_length}
 
 and_assoc : (a b c : Bool) → a && (b && c) ≡ (a && b) && c
 and_assoc true b c = refl

@@ -1,5 +1,5 @@
 -- The UPDATEs that stand, and their links.
-use Rattle.std.proofs.Common.{◌≡◌, ℕ, ◌<◌, ◌≤◌, Bool, true, false, cond, not, ◌&&◌, ◌==◌, List, [], ◌∷◌, length, Option, Some, None, refl, sym, ap, subst, ◌∙◌, eqb-true, arith}
+use Rattle.std.proofs.Common.{◌≡◌, ℕ, ◌<◌, ◌≤◌, Bool, true, false, cond, not, ◌&&◌, ◌==◌, List, [], ◌∷◌, Option, Some, None, refl, sym, ap, subst, ◌∙◌, eqb-true, arith}
 use Rattle.std.proofs.lemmas.Bool.{both_ways}
 use Rattle.clv_base.specs.declared.names.TxId.{TxId}
 use Rattle.clv_base.specs.Orders.{tx_same}
@@ -65,10 +65,6 @@ at_newest m tx (w ∷ ws) l =
 pub falls_weaker : (n m : ℕ) (ws : List StandingUpdate) → n ≤ m → Falls n ws → Falls m ws
 falls_weaker n m [] le falls = tt
 falls_weaker n m (w ∷ ws) le falls = (omega arith, falls.1)
-
-pub falls_length : (n : ℕ) (ws : List StandingUpdate) → Falls n ws → length ws ≤ n
-falls_length n [] falls = omega arith
-falls_length n (w ∷ ws) falls = omega (arith, falls_length w.lsn ws falls.1)
 
 pub falls_without : (tx : TxId) (n : ℕ) (ws : List StandingUpdate) → Falls n ws → Falls n (without_newest tx ws)
 falls_without tx n [] falls = tt

@@ -10,9 +10,9 @@ use Rattle.log_records.specs.Laws.{LengthIsSize}
 use Rattle.log_gate.specs.Image.{SpellAll, IsBatch}
 use Rattle.log_gate.specs.View.{Only, OnlyOrMore}
 use Rattle.log_flush.specs.Flushing.{spellings, batch_from, flown, landed, AtRest, InFlight, ByBatches, another}
-use Rattle.log_flush.proofs.Sizes.{same_count}
 use Rattle.law_base.proofs.Logs.{few_fit, spelled_dropped as all_dropped, spelled_taken as all_taken}
 use Rattle.log_flush.proofs.BatchSizes.{they_fit, some_fits, has_bytes}
+use Rattle.log_buffer.proofs.Laws.{fitting_by-fitting as same_count}
 
 pub same_next : (b : Buffer LogRecord) → b.taken ≡ b.durable → next_count record_size 1048576 b ≡ batch_from b.durable b.records
 same_next b e = ap (λ (n : ℕ). next_count record_size 1048576 (record b { taken = n })) e ∙ same_count 1048576 (drop b.durable b.records)

@@ -1,4 +1,3 @@
-pub mod Sizes
 pub mod Flying
 mod BatchSizes
 mod Fitting

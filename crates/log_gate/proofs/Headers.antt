@@ -7,8 +7,8 @@ use Rattle.std.proofs.lemmas.Bool.Decides.{nat_tests}
 use Rattle.byteorder.specs.Endian.{little_bytes, little_number}
 use Rattle.byteorder.specs.Numbers.{little_number-reads_back, little_from-lt, length-bytes_low_first}
 use Rattle.log_gate.specs.Header.{magic, header_bytes, header_size, same_bytes, with_split, has_split, splits_from, has_number, has_count, behind_field, header_of, Rise}
-use Rattle.log_gate.proofs.Numbers.{written_again, bytes_drop}
-use Rattle.law_base.proofs.Lists.{IsBytes}
+use Rattle.log_gate.proofs.Numbers.{written_again}
+use Rattle.law_base.proofs.Lists.{IsBytes, bytes_drop}
 
 same_from : (xs ys : List ℕ) → same_bytes xs ys ≡ true → xs ≡ ys
 same_from [] [] is = refl

@@ -1,6 +1,6 @@
 -- Bytes, and the number that they are.
-use Rattle.std.proofs.Common.{◌≡◌, ℕ, ◌+◌, ◌≤◌, ◌<◌, List, length, take, drop, Some, None, Bool, false, cond, nat_lt, sym, ◌∙◌, ap, subst, arith}
-use Rattle.std.proofs.lemmas.List.{get_or-drop, take_at}
+use Rattle.std.proofs.Common.{◌≡◌, ℕ, ◌+◌, ◌≤◌, ◌<◌, List, length, take, drop, Some, None, Bool, false, cond, nat_lt, sym, ◌∙◌, ap, arith}
+use Rattle.std.proofs.lemmas.List.{take_at}
 use Rattle.std.proofs.lemmas.Bool.Decides.{nat_tests}
 use Rattle.byteorder.specs.Endian.{little_bytes, little_number}
 use Rattle.byteorder.specs.Numbers.{length-bytes_low_first}
@@ -8,9 +8,6 @@ use Rattle.log_records.specs.Reading.{number_at}
 use Rattle.log_records.specs.Spelling.{number}
 use Rattle.log_records.proofs.Laws.Fields.{number_takes}
 use Rattle.law_base.proofs.Lists.{IsBytes}
-
-pub bytes_drop : (n : ℕ) (bytes : List ℕ) → IsBytes bytes → IsBytes (drop n bytes)
-bytes_drop n bytes are i = subst (λ (b : ℕ). b < 256) (sym (get_or-drop n bytes i 0)) (are (n + i))
 
 -- a number that was read is written as the bytes from which it was read
 pub written_again : (width : ℕ) (bytes : List ℕ) → IsBytes bytes → width ≤ length bytes → little_bytes width (little_number width bytes) ≡ take width bytes

@@ -14,7 +14,7 @@ use Rattle.machine_calls.specs.declared.flights.Flight.{Flight}
 use Rattle.machine_calls.specs.Steps.{Tells}
 use Rattle.machine_calls.specs.Flights.{Leaves}
 use Rattle.machine_laws.proofs.Laws.{finishes_alike, finishes_stay}
-use Rattle.law_base.proofs.Shards.{quiet_out, same_out}
+use Rattle.law_base.proofs.Shards.{same_out, up_or_down}
 
 -- the shard is up, its records are in flight, and there are stamps
 pub record Flown (t : Shard) (clock upto : ℕ) : Type 0 where
@@ -52,10 +52,6 @@ entered s clock w n t true up h =
       last = omega (arith, last, below);
       early = omega (arith, below);
     }
-
-up_or_down : (s : Shard) (stamp w : ℕ) (room : Bool) (n : ℕ) (b : Bool) → stamped stamp w FlushOut room (elim b [ true ↦ happen_up s FlushOut | false ↦ QuietBeforeWorn Down ]) ≡ Quiet (Out n) → ⊥
-up_or_down s stamp w room n true h = quiet_out s stamp w room n s.flight (fitting 1048576 (drop (taken s) s.local.log)) h
-up_or_down s stamp w room n false h = absurd cc
 
 pub flown : {G : Type 0} (s t : Shard) (clock w : ℕ) (before after : Option G) (o : Outcome) (f : Flight G) (x : Option Entry) → Tells (step s clock w FlushOut) s clock w FlushOut (Ok o) t x → Leaves t before after o f
     → Flown t clock f.upto

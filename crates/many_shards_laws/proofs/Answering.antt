@@ -18,11 +18,8 @@ use Rattle.shard_laws.specs.OneShard.{items_of, ops_by, answers_by}
 use Rattle.fall_laws.specs.Telling.{own_entries}
 use Rattle.many_shards_laws.specs.Shares.{ShardOp, on_shard, all_ops, all_answers, parts_on}
 use Rattle.many_shards_laws.specs.Parts.{op_on, shard_ops_in, member_ops}
-use Rattle.many_shards_laws.proofs.Parts.{firsts, seconds}
+use Rattle.many_shards_laws.proofs.Parts.{firsts, seconds, told}
 use Rattle.law_base.proofs.Names.{item_told, with_op}
-
-abbrev told : ShardOp → Op × Answer
-told x = (x.op, x.answer)
 
 abbrev at_shard : ℕ → Op × Answer → ShardOp
 at_shard n p = record { shard = n; op = p.0; answer = p.1 }

@@ -20,13 +20,14 @@ use Rattle.shard_laws.proofs.Following.{Follows, Plainly, from_disorder, last_pu
 use Rattle.shard_laws.proofs.Changes.{wrote_append}
 use Rattle.history_cases.proofs.Durability.{fronts_entries, opened_counted, left_front}
 use Rattle.history_laws.proofs.Serials.{committed_front}
-use Rattle.fate_laws.proofs.Deciding.{left_committed, log_now}
+use Rattle.fate_laws.proofs.Deciding.{left_committed}
 use Rattle.fate_laws.proofs.Writing.{restart_writes_none}
 use Rattle.fate_laws.proofs.Earlier.{earlier_commits_are_of_opening}
 use Rattle.fall_laws.proofs.Ordering.{logs_left_are_in_order}
 use Rattle.many_shards_laws.proofs.Shares.{at_somewhere}
 use Rattle.law_base.proofs.Bools.{and_first as front}
 use Rattle.law_base.proofs.Logs.{last_restart_push as last_new}
+use Rattle.history_laws.proofs.Staying.{log_now}
 
 -- ---- no UPDATE behind the RESTART of a run is of an earlier one
 

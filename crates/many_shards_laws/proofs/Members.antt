@@ -11,7 +11,7 @@ use Rattle.clv_base.specs.Shards.{shard_count}
 use Rattle.clv_base.specs.FileRules.{may_open}
 use Rattle.clv_base.specs.Restarts.{run_after}
 use Rattle.clv_base.specs.Journals.{History}
-use Rattle.clv_base.specs.History.{Legal, Member, members, request_of, ops_in, logs_left}
+use Rattle.clv_base.specs.History.{Legal, Member, members, request_of, logs_left}
 use Rattle.clv_base.proofs.SameNames.{tx_true, tx_self}
 use Rattle.protocol_laws.specs.SessionLaws.{tx_of}
 use Rattle.history_laws.specs.Continuing.{serial_left}
@@ -23,11 +23,9 @@ use Rattle.fall_laws.specs.Leading.{requests_of}
 use Rattle.history_laws.proofs.Doubts.{doubted_is_old}
 use Rattle.law_base.proofs.Bools.{same_truth as same_test}
 use Rattle.law_base.proofs.Logs.{is_in as counts}
+use Rattle.history_laws.proofs.Serials.{member_at as as_member}
 
 -- ---- members and requests
-
-abbrev as_member : History → Placed → TxId → Member
-as_member h e t = record { tx = t; point = record { stamp = (e.1).stamp; shard = e.0 }; ops = ops_in t h }
 
 abbrev with_member : List (List LogRecord) → History → Placed → Option TxId → List Member → List Member
 with_member logs h e o ms = elim o [ Some t ↦ cond (counts logs h e.0 t) (as_member h e t ∷ ms) ms | None ↦ ms ]

@@ -4,7 +4,6 @@ use Rattle.std.specs.Prelude.{is_none}
 use Rattle.std.specs.List.{AllByRecursion}
 use Rattle.std.proofs.lemmas.Bool.{and_parts}
 use Rattle.clv_base.specs.declared.names.TxId.{TxId}
-use Rattle.clv_base.specs.declared.logs.LogRecord.{LogRecord}
 use Rattle.clv_base.specs.declared.ops.Op.{Op}
 use Rattle.clv_base.specs.declared.ops.Answer.{Answer}
 use Rattle.clv_base.specs.declared.events.Event.{Event}
@@ -13,11 +12,11 @@ use Rattle.clv_base.specs.declared.events.Outcome.{Outcome}
 use Rattle.clv_base.specs.declared.events.Outcome.TheVariants.{Answered}
 use Rattle.clv_base.specs.Orders.{tx_same}
 use Rattle.clv_base.specs.Shards.{shard_count}
-use Rattle.clv_base.specs.LogRules.{log_of, all_logs_from, apart}
+use Rattle.clv_base.specs.LogRules.{all_logs_from, apart}
 use Rattle.clv_base.specs.FileRules.{log_passes}
 use Rattle.clv_base.specs.Journals.{History}
-use Rattle.clv_base.specs.History.{Member, members, request_of, acknowledged_in, answered_op, ops_in, logs_left}
-use Rattle.clv_base.specs.Logs.{committed_in, stands}
+use Rattle.clv_base.specs.History.{Member, members, answered_op, ops_in, logs_left}
+use Rattle.clv_base.specs.Logs.{stands}
 use Rattle.history_laws.specs.Continuing.{serial_left}
 use Rattle.clv_base.specs.Maps.{replay_map, replay_answers}
 use Rattle.history_cases.proofs.Merging.{Placed, Among}
@@ -27,11 +26,11 @@ use Rattle.many_shards_laws.specs.Shares.{ShardOp, ops_of, answers_of, all_ops, 
 use Rattle.many_shards_laws.proofs.ShardReplaying.{replay_by_shards}
 use Rattle.many_shards_laws.specs.Parts.{op_on, shard_ops_in, member_ops, MembersReplayByParts}
 use Rattle.law_base.proofs.Shards.{FromHistory}
-use Rattle.law_base.proofs.Logs.{only_passes}
+use Rattle.law_base.proofs.Logs.{only_passes, from_history}
 
 -- ---- a transaction's operations, with and without their shards
 
-abbrev told : ShardOp → Op × Answer
+abbrev pub told : ShardOp → Op × Answer
 told x = (x.op, x.answer)
 
 one_told : (t : TxId) (n : ℕ) (e : Event) (o : Outcome) (xs : List ShardOp) (ys : List (Op × Answer)) → map told xs ≡ ys
@@ -56,23 +55,6 @@ seconds [] = refl
 seconds (x ∷ xs) = ap (λ l. x.answer ∷ l) (seconds xs)
 
 -- ---- members have their operations in the history
-
-from_history : (logs : List (List LogRecord)) (h es : History) → FromHistory h (members logs h es)
-from_history logs h [] = tt
-from_history logs h (e ∷ es) = at (request_of (e.1).event (e.1).outcome) (from_history logs h es)
-  where
-    kept : (t : TxId) (b : Bool) → FromHistory h (members logs h es)
-        → FromHistory h (cond b (record { tx = t; point = record { stamp = (e.1).stamp; shard = e.0 }; ops = ops_in t h } ∷ members logs h es) (members logs h es))
-    kept t true k = (refl, k)
-    kept t false k = k
-
-    at : (o : Option TxId) → FromHistory h (members logs h es)
-        → FromHistory h (elim o [
-          | Some t ↦ cond (committed_in (log_of logs e.0) t || acknowledged_in h t) (record { tx = t; point = record { stamp = (e.1).stamp; shard = e.0 }; ops = ops_in t h } ∷ members logs h es) (members logs h es)
-          | None ↦ members logs h es
-        ])
-    at None k = k
-    at (Some t) k = kept t (committed_in (log_of logs e.0) t || acknowledged_in h t) k
 
 serial_is : (h : History) (ms : List Member) → FromHistory h ms → map (λ m. map (λ p. p.0) m.ops) ms ≡ all_ops (member_ops h ms)
 serial_is h [] a = refl

@@ -18,7 +18,6 @@ use Rattle.clv_base.specs.Journals.{History, final_of}
 use Rattle.clv_base.specs.History.{Legal, logs_left}
 use Rattle.clv_base.proofs.SameNames.{tx_true, tx_self}
 use Rattle.law_base.proofs.Sets.{in_filter}
-use Rattle.law_base.proofs.Bools.{or_false_right}
 use Rattle.shard_laws.specs.OneShard.{Deeds, MayChoose, has_met, place, found_asked, found_met}
 use Rattle.shard_laws.proofs.Choosing.{chosen_stand_before}
 use Rattle.shard_laws.proofs.Leaving.{in_more}
@@ -37,6 +36,7 @@ use Rattle.many_shards_laws.specs.Recovering.{PredecessorsStandBeforeWhereHere}
 use Rattle.many_shards_laws.proofs.Earlier.{somewhere_at_opening}
 use Rattle.many_shards_laws.proofs.Members.{chosen, is_chosen, chosen_are_members, member_run}
 use Rattle.many_shards_laws.proofs.Replaying.{leads, fronts, left_is, inside, IsHereByCut, left_here, member_here}
+use Rattle.clv_base.proofs.Folding.{or_right as or_false_right}
 
 -- ---- who stands before another among some stands before it among more
 
@@ -55,7 +55,7 @@ stands_more f g (x ∷ xs) p t k b = at (f x) (g x) refl refl b (stands_more f g
     at false false e q r n = n r
 
 -- who is none of the first ones stands behind them
-stands_later : (p t : TxId) (xs ys : List TxId) → tx_in p xs ≡ false → StandsBefore p t (xs ++ ys) → StandsBefore p t ys
+pub stands_later : (p t : TxId) (xs ys : List TxId) → tx_in p xs ≡ false → StandsBefore p t (xs ++ ys) → StandsBefore p t ys
 stands_later p t [] ys n b = b
 stands_later p t (x ∷ xs) ys n (inl (s, i)) = absurd (both_ways _ n (or_left (tx_same x p) (tx_in p xs) (subst (λ z. tx_same z p ≡ true) (sym s) (tx_self p))))
 stands_later p t (x ∷ xs) ys n (inr b) = stands_later p t xs ys (or_false_right (tx_same x p) (tx_in p xs) n) b

@@ -20,14 +20,14 @@ use Rattle.law_base.proofs.Sets.{in_filter}
 use Rattle.law_base.proofs.Running.{fold_writers}
 use Rattle.history_laws.specs.Continuing.{serial_left}
 use Rattle.history_cases.proofs.Durability.{Fronts, fronts_entries, opened_counted}
-use Rattle.history_laws.proofs.Staying.{walker_of}
+use Rattle.history_laws.proofs.Staying.{walker_of, log_now}
 use Rattle.shard_laws.specs.OneShard.{Leads, MayChoose, Passes, ops_by, answers_by, found_items, found_asked, map_found}
 use Rattle.shard_laws.proofs.Changes.{wrote_append}
 use Rattle.shard_laws.proofs.Leaving.{in_more}
 use Rattle.shard_laws.proofs.Splitting.{later_replay}
 use Rattle.session_laws.proofs.Cutting.{cut_above}
 use Rattle.fate_laws.specs.Members.{is_member}
-use Rattle.fate_laws.proofs.Deciding.{commits_are_members, left_committed, log_now}
+use Rattle.fate_laws.proofs.Deciding.{commits_are_members, left_committed}
 use Rattle.origin_laws.proofs.Sessions.{Requested}
 use Rattle.origin_laws.proofs.Origins.{SomeRequest}
 use Rattle.origin_laws.proofs.Entries.{DidOrOld, IsOld, traced_front}

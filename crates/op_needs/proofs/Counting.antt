@@ -63,7 +63,7 @@ pub union_rises : (xs ys : List TxId) → Rises ys → Rises (tx_union xs ys)
 union_rises [] ys s = s
 union_rises (x ∷ xs) ys s = insert_key-rises tx_total x (tx_union xs ys) (union_rises xs ys s)
 
-in_union : (t : TxId) (xs ys : List TxId) → tx_in t (tx_union xs ys) ≡ (tx_in t xs || tx_in t ys)
+pub in_union : (t : TxId) (xs ys : List TxId) → tx_in t (tx_union xs ys) ≡ (tx_in t xs || tx_in t ys)
 in_union t [] ys = refl
 in_union t (x ∷ xs) ys = tx_in-insert x t (tx_union xs ys) ∙ ap (λ b. tx_same x t || b) (in_union t xs ys) ∙ or_assoc (tx_same x t) (tx_in t xs) (tx_in t ys)
 

@@ -9,10 +9,7 @@ use Rattle.std.specs.Ordering.{nat_cmp, match_ordering}
 use Rattle.clv_base.specs.Needs.{Records, record_set}
 use Rattle.ordered_store.proofs.Rising.{Above, Rises, above_less, lows}
 use Rattle.law_base.proofs.Names.{set_by as by_cmp}
-use Rattle.law_base.proofs.Numbers.{is_equal, is_less}
-
-is_greater : (a b : ℕ) → b < a → nat_cmp a b ≡ Greater
-is_greater a b l = grind (arith, nat_tests)
+use Rattle.clv_base.proofs.Arrays.{is_equal, is_less, is_greater}
 
 abbrev first_with : Option ℕ → Records → ℕ → Records
 first_with v rs j = (j, v) ∷ rs

@@ -18,7 +18,8 @@ use Rattle.clv_base.specs.Locks.{Locks, meets, conflicting_holders, older_of, ol
 use Rattle.clv_base.proofs.SameNames.{tx_true, nat_cmp_true}
 use Rattle.law_base.proofs.Anchors.{cmp_less}
 use Rattle.law_base.proofs.LockRows.{Rows}
-use Rattle.law_base.proofs.Numbers.{is_equal as equal_cmp, lt_from as is_less, is_less as less_cmp}
+use Rattle.law_base.proofs.Numbers.{lt_from as is_less}
+use Rattle.clv_base.proofs.Arrays.{is_equal as equal_cmp, is_less as less_cmp}
 
 -- ---- births
 

@@ -47,7 +47,7 @@ pub record Opened (before : List (List LogRecord)) (n : ℕ) (s : Shard) : Type 
 
 -- ---- at opening
 
-found_follows : (splits : List ℕ) (before : List (List LogRecord)) (n : ℕ) → may_open splits before ≡ true → n < length before → Follows n [] (log_of before n)
+pub found_follows : (splits : List ℕ) (before : List (List LogRecord)) (n : ℕ) → may_open splits before ≡ true → n < length before → Follows n [] (log_of before n)
 found_follows splits before n m l = from_disorder n 0 [] (log_of before n) (found_in_order splits before n m l)
 
 pub opened_opens : (splits : List ℕ) (before : List (List LogRecord)) (n : ℕ) → may_open splits before ≡ true → n < length before → Opened before n (start_of before n)

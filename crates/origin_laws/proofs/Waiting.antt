@@ -56,7 +56,8 @@ use Rattle.origin_laws.proofs.Tied.{LockOf}
 use Rattle.origin_laws.proofs.Births.{one_birth}
 use Rattle.origin_laws.proofs.WaitEntries.{AskedFirst, Earlier, Depends, depends}
 use Rattle.history_laws.proofs.Doubts.{doubted_is_old}
-use Rattle.law_base.proofs.Numbers.{lt_from as is_less, is_less as less_cmp, is_equal as equal_cmp}
+use Rattle.law_base.proofs.Numbers.{lt_from as is_less}
+use Rattle.clv_base.proofs.Arrays.{is_less as less_cmp, is_equal as equal_cmp}
 
 -- ---- an operation that is to wait
 

@@ -16,8 +16,7 @@ use Rattle.clv_base.specs.declared.events.Entry.{Entry}
 use Rattle.clv_base.specs.Orders.{tx_same}
 use Rattle.clv_base.specs.LogRules.{same_option}
 use Rattle.clv_base.specs.Sessions.{SessionState, no_session, is_touching, may_drop, same_birth, follows_birth, goes_on, begins, begun, session_for, is_number, goes_on_scan, scan_shard, lies_in, op_answered, op_in_session, same_touched, is_lowest, requested, looked, stands_at, after_drop, session_after, makes_from}
-use Rattle.clv_base.proofs.SameNames.{nat_cmp_true}
-use Rattle.law_base.proofs.Tables.{then_eq}
+use Rattle.clv_base.proofs.SameNames.{nat_cmp_true, then_eq}
 use Rattle.protocol_laws.specs.SessionLaws.{tx_of, works_on, ended_by, number_of, SerialsRise, NoneWorksOn, EndsStay, IsNext, AreNumbered, SessionsKeepOrder}
 use Rattle.law_base.proofs.Shards.{drop_ends}
 use Rattle.law_base.proofs.Bools.{and_three as parts3}

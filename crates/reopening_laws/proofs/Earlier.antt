@@ -19,7 +19,7 @@ use Rattle.protocol_laws.proofs.Records.{committed_there, prepared_there}
 use Rattle.history_cases.proofs.Uncommitting.{opening_adds}
 use Rattle.shard_laws.proofs.Following.{Follows, from_disorder}
 use Rattle.shard_laws.proofs.Listing.{prepared_wrote}
-use Rattle.fate_laws.proofs.Deciding.{left_committed, log_now}
+use Rattle.fate_laws.proofs.Deciding.{left_committed}
 use Rattle.fate_laws.proofs.Prepares.{prepare_more, front_prepare}
 use Rattle.fate_laws.proofs.HomesFound.{home_of}
 use Rattle.fate_laws.proofs.RecordKinds.{update_is, commit_is}
@@ -34,6 +34,7 @@ use Rattle.reopening_laws.proofs.Keeping.{wrote_or_committed, home_behind, all_c
 use Rattle.reopening_laws.proofs.Left.{InOrder, left_opened, left_grows, left_aborted}
 use Rattle.history_laws.proofs.Passing.{left_length}
 use Rattle.law_base.proofs.Bools.{and_first as front, and_second as last}
+use Rattle.history_laws.proofs.Staying.{log_now}
 
 -- ---- a COMMIT behind the RESTART of a later run is of one that is prepared
 

@@ -23,7 +23,7 @@ use Rattle.history_cases.proofs.Entering.{makes}
 use Rattle.history_cases.proofs.Merging.{Placed, Among, among_append, is_among}
 use Rattle.history_cases.proofs.Worlds.{state_at}
 use Rattle.history_laws.proofs.Passing.{logs_left_pass, left_length}
-use Rattle.fate_laws.proofs.Deciding.{log_now, durable_left}
+use Rattle.fate_laws.proofs.Deciding.{durable_left}
 use Rattle.fate_laws.proofs.Entering.{durable_front}
 use Rattle.fate_laws.proofs.Fates.{fated}
 use Rattle.fate_laws.proofs.Prefixes.{Next, walk, each_shard, DurableIn, Counts, counts_start, counts_next, durable_later}
@@ -34,6 +34,7 @@ use Rattle.reopening_laws.proofs.Hearing.{Hears}
 use Rattle.reopening_laws.proofs.HearingEvents.{Brings, Enters, SaysOut, hears_mono, hears_opened, hears_made, hears_noted, out_made}
 use Rattle.reopening_laws.proofs.Opening.{opening_tells}
 use Rattle.law_base.proofs.Logs.{passes_at as each_passes}
+use Rattle.history_laws.proofs.Staying.{log_now}
 
 -- ---- what is known after a front of the history
 

@@ -30,7 +30,6 @@ use Rattle.fate_laws.proofs.Prepares.{prepare_more}
 use Rattle.reopening_laws.proofs.Ended.{part_below}
 use Rattle.fall_laws.specs.Leading.{deeds_before, with_found}
 use Rattle.fall_laws.proofs.Leading.{each_shard_leads}
-use Rattle.fate_laws.proofs.Deciding.{log_now}
 use Rattle.many_shards_laws.proofs.Earlier.{follows_behind}
 use Rattle.fate_laws.proofs.HomesFound.{home_of}
 use Rattle.many_shards_laws.proofs.Homes.{doubted}
@@ -41,8 +40,9 @@ use Rattle.reopening_laws.proofs.Keeping.{wrote_or_committed, home_behind, all_c
 use Rattle.history_laws.proofs.Passing.{left_length}
 use Rattle.acknowledged_laws.proofs.Earlier.{committed_within}
 use Rattle.reopening_laws.proofs.Reopening.{logs_left_may_be_opened}
-use Rattle.reopening_laws.proofs.Failed.{Stays, stays_same, stays_failed, same_wrote, same_committed, same_ended, same_fold}
-use Rattle.law_base.proofs.Logs.{passes_at as each_passes, all_logs, same_somewhere, same_stands}
+use Rattle.reopening_laws.proofs.Failed.{Stays, stays_same, stays_failed, same_wrote, same_committed, same_ended}
+use Rattle.law_base.proofs.Logs.{passes_at as each_passes, all_logs, same_somewhere, same_stands, same_fold}
+use Rattle.history_laws.proofs.Staying.{log_now}
 
 -- ---- logs that agree shard by shard
 

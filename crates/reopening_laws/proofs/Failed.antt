@@ -1,18 +1,16 @@
 -- What failed restarts add to a log: ABORTs, CLRs and RESTARTs, and no ABORT of one that is in doubt. So the log stays in order and keeps what it tells.
-use Rattle.std.proofs.Common.{◌≡◌, refl, sym, ap, subst, ◌∙◌, ℕ, zero, suc, true, false, cond, Bool, not, ◌||◌, List, [], ◌∷◌, ◌++◌, map, append_assoc, append-nil}
+use Rattle.std.proofs.Common.{◌≡◌, refl, sym, ap, subst, ◌∙◌, ℕ, zero, suc, true, false, Bool, ◌||◌, List, [], ◌∷◌, ◌++◌, append_assoc, append-nil}
 use Rattle.std.specs.Prelude.{take}
-use Rattle.std.specs.List.{AllByRecursion, filter, list_any}
-use Rattle.std.proofs.lemmas.Bool.{both_ways, cond_both, false_from_ne_true, or_left}
+use Rattle.std.specs.List.{AllByRecursion, list_any}
+use Rattle.std.proofs.lemmas.Bool.{both_ways, false_from_ne_true, or_left}
 use Rattle.std.proofs.lemmas.List.Folds.{list_any-append}
 use Rattle.clv_base.specs.declared.names.TxId.{TxId}
 use Rattle.clv_base.specs.declared.logs.LogRecord.{LogRecord}
-use Rattle.clv_base.specs.declared.logs.LogRecord.TheVariants.{Update, Clr, Prepare, Commit, Abort, End, Restart}
+use Rattle.clv_base.specs.declared.logs.LogRecord.TheVariants.{Update, Commit, End}
 use Rattle.clv_base.specs.Orders.{tx_in}
-use Rattle.clv_base.specs.Maps.{KeyMap, map_set}
 use Rattle.clv_base.specs.State.{Shard}
-use Rattle.clv_base.specs.Logs.{StandingUpdate, is_update_of, is_commit_of, is_end_of, is_abort_of, wrote_in, committed_in, ended_in, aborted_in, standing, in_doubt, fold_updates}
-use Rattle.clv_base.specs.Undo.{clrs_of, newest_lsn}
-use Rattle.clv_base.specs.Restarts.{losers, undo_records, restart_records, next_epoch, FailedRestarts, untouched, failed_first, Restarts}
+use Rattle.clv_base.specs.Logs.{is_update_of, is_commit_of, is_end_of, is_abort_of, wrote_in, committed_in, ended_in, aborted_in, in_doubt}
+use Rattle.clv_base.specs.Restarts.{restart_records, next_epoch, FailedRestarts, untouched, failed_first, Restarts}
 use Rattle.law_base.proofs.Lists.{all_append}
 use Rattle.shard_laws.proofs.Following.{Follows, follows_front}
 use Rattle.shard_laws.proofs.Listing.{order_of}
@@ -20,27 +18,9 @@ use Rattle.shard_laws.proofs.Doubting.{doubted}
 use Rattle.shard_laws.proofs.Rebuilding.{of_restarts}
 use Rattle.shard_laws.proofs.Renewing.{Fine, found_self, renewed_by}
 use Rattle.history_laws.proofs.Records.{Passes, restarts_pass}
-use Rattle.law_base.proofs.Logs.{IsUndo}
+use Rattle.law_base.proofs.Logs.{IsUndo, all_take, undo_passes_none as none_of, restart_undoes}
 
 -- ---- the records
-
-aborts_undo : (ts : List TxId) → AllByRecursion IsUndo (map (λ t. Abort t) ts)
-aborts_undo [] = tt
-aborts_undo (t ∷ ts) = (tt, aborts_undo ts)
-
-clrs_undo : (set : List TxId) (ws : List StandingUpdate) → AllByRecursion IsUndo (clrs_of set ws)
-clrs_undo set [] = tt
-clrs_undo set (w ∷ ws) = cond_both (tx_in w.tx set) (Clr w.tx (newest_lsn w.tx ws) w.key w.before ∷ clrs_of set ws) (clrs_of set ws) (AllByRecursion IsUndo) (λ i. (tt, clrs_undo set ws)) (λ i. clrs_undo set ws)
-
-restart_undoes : (shard : ℕ) (log : List LogRecord) (run epoch : ℕ) → AllByRecursion IsUndo (restart_records shard log run epoch)
-restart_undoes shard log run epoch =
-    all_append IsUndo (undo_records shard log) (Restart run epoch ∷ [])
-    (all_append IsUndo _ _ (aborts_undo (filter (λ t. not (aborted_in log t)) (losers shard log))) (clrs_undo (losers shard log) (standing log))) (tt, tt)
-
-all_take : (n : ℕ) (rs : List LogRecord) → AllByRecursion IsUndo rs → AllByRecursion IsUndo (take n rs)
-all_take zero rs a = tt
-all_take (suc n) [] a = tt
-all_take (suc n) (r ∷ rs) a = (a.0, all_take n rs a.1)
 
 record Adds (found left : List LogRecord) : Type 0 where
   more : List LogRecord
@@ -59,10 +39,6 @@ added s found left (failed_first n f) =
     }
 
 -- ---- what a log with such records behind it tells
-
-none_of : (f : LogRecord → Bool) (rs : List LogRecord) → ((r : LogRecord) → IsUndo r → f r ≡ false) → AllByRecursion IsUndo rs → list_any f rs ≡ false
-none_of f [] k a = refl
-none_of f (r ∷ rs) k a = ap (λ b. b || list_any f rs) (k r a.0) ∙ none_of f rs k a.1
 
 same_any : (f : LogRecord → Bool) (log more : List LogRecord) → ((r : LogRecord) → IsUndo r → f r ≡ false) → AllByRecursion IsUndo more → list_any f (log ++ more) ≡ list_any f log
 same_any f log more k a = list_any-append f log more ∙ ap (λ b. list_any f log || b) (none_of f more k a) ∙ or_nothing (list_any f log)
@@ -91,24 +67,6 @@ same_ended log more t a = same_any (is_end_of t) log more one a
     one : (r : LogRecord) → IsUndo r → is_end_of t r ≡ false
     one (End tx) u = absurd u
     one _ u = refl
-
--- the map, where the same transactions count
-pub same_fold : (f k : TxId → Bool) → ((t : TxId) → f t ≡ k t) → (log more : List LogRecord) (m : KeyMap) → AllByRecursion IsUndo more → fold_updates f (log ++ more) m ≡ fold_updates k log m
-same_fold f k e [] [] m a = refl
-same_fold f k e [] (Abort tx ∷ more) m a = same_fold f k e [] more m a.1
-same_fold f k e [] (Clr tx u q v ∷ more) m a = same_fold f k e [] more m a.1
-same_fold f k e [] (Restart run epoch ∷ more) m a = same_fold f k e [] more m a.1
-same_fold f k e [] (Update tx q b v ∷ more) m a = absurd a.0
-same_fold f k e [] (Prepare tx home ps ∷ more) m a = absurd a.0
-same_fold f k e [] (Commit tx ps ∷ more) m a = absurd a.0
-same_fold f k e [] (End tx ∷ more) m a = absurd a.0
-same_fold f k e (Update tx q b v ∷ log) more m a = ap (λ c. fold_updates f (log ++ more) (cond c (map_set q v m) m)) (e tx) ∙ same_fold f k e log more (cond (k tx) (map_set q v m) m) a
-same_fold f k e (Clr tx u q v ∷ log) more m a = same_fold f k e log more m a
-same_fold f k e (Prepare tx home ps ∷ log) more m a = same_fold f k e log more m a
-same_fold f k e (Commit tx ps ∷ log) more m a = same_fold f k e log more m a
-same_fold f k e (Abort tx ∷ log) more m a = same_fold f k e log more m a
-same_fold f k e (End tx ∷ log) more m a = same_fold f k e log more m a
-same_fold f k e (Restart run epoch ∷ log) more m a = same_fold f k e log more m a
 
 -- ---- a log and what failed restarts left of it
 

@@ -24,7 +24,7 @@ use Rattle.protocol_laws.proofs.Records.{committed_there, prepared_there}
 use Rattle.history_cases.proofs.Durability.{left_front}
 use Rattle.history_cases.proofs.Merging.{Placed, Among, is_among}
 use Rattle.history_laws.proofs.Serials.{committed_front}
-use Rattle.history_laws.proofs.Staying.{walker_of, one_request}
+use Rattle.history_laws.proofs.Staying.{walker_of, one_request, log_now}
 use Rattle.history_cases.proofs.Worlds.{in_a_shard}
 use Rattle.shard_laws.proofs.Following.{from_disorder}
 use Rattle.origin_laws.proofs.Sessions.{Requested}
@@ -33,7 +33,7 @@ use Rattle.fate_laws.specs.Decisions.{is_left}
 use Rattle.fate_laws.proofs.Binding.{Bound}
 use Rattle.fate_laws.proofs.Bindings.{Bindings, bindings_front}
 use Rattle.fate_laws.proofs.Casting.{casts_front}
-use Rattle.fate_laws.proofs.Deciding.{left_committed, log_now}
+use Rattle.fate_laws.proofs.Deciding.{left_committed}
 use Rattle.fate_laws.proofs.Prefixes.{one_home}
 use Rattle.fate_laws.proofs.Prepares.{front_prepare, prepare_more}
 use Rattle.fate_laws.proofs.Writing.{wrote_take}

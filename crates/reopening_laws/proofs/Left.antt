@@ -12,7 +12,7 @@ use Rattle.protocol_laws.specs.Growth.{IsPrefixOf}
 use Rattle.protocol_laws.proofs.Growing.{chain, more}
 use Rattle.acknowledged_laws.proofs.Going.{aborted_take}
 use Rattle.many_shards_laws.proofs.Earlier.{left_begins}
-use Rattle.fate_laws.proofs.Deciding.{log_now}
+use Rattle.history_laws.proofs.Staying.{log_now}
 
 -- each log left is in order
 abbrev pub InOrder : List ℕ → List (List LogRecord) → History → List (List LogRecord) → (ℕ → Bool) → Type 0

@@ -15,7 +15,7 @@ use Rattle.clv_base.proofs.SameNames.{tx_true}
 use Rattle.law_base.proofs.Changed.{none_some, some_same}
 use Rattle.law_base.proofs.Commits.{committed_keeps}
 use Rattle.protocol_laws.proofs.Records.{committed_there}
-use Rattle.shard_laws.proofs.Following.{Follows, from_disorder, through}
+use Rattle.shard_laws.proofs.Following.{Follows, through}
 use Rattle.shard_laws.proofs.Rulings.{parts_new}
 use Rattle.history_cases.proofs.Uncommitting.{with_more}
 use Rattle.fate_laws.proofs.Prefixes.{DurableIn}
@@ -24,8 +24,8 @@ use Rattle.fate_laws.proofs.HomesFound.{part_agreed, home_of, nat_at}
 use Rattle.fate_laws.proofs.RecordKinds.{commit_is}
 use Rattle.fate_laws.proofs.Homes.{new_commit}
 use Rattle.reopening_laws.proofs.PartsEnded.{parts_back, EndsFrom, Tell}
-use Rattle.history_laws.proofs.Found.{found_in_order}
 use Rattle.law_base.proofs.Bools.{and_first as front, and_second as last}
+use Rattle.origin_laws.proofs.Opening.{found_follows as in_order}
 
 -- ---- a log in order
 
@@ -113,9 +113,6 @@ agrees_here logs t n h q qs (Some ps) l k c d a =
     subst (λ z. agrees_at logs t z (log_of logs z) (q ∷ qs) ≡ true) (sym e) (subst (λ z. agrees_at logs t h (log_of logs h) z ≡ true) f a)
 
 -- ---- where it is ended, its parts are committed
-
-in_order : (splits : List ℕ) (logs : List (List LogRecord)) (n : ℕ) → may_open splits logs ≡ true → n < length logs → Follows n [] (log_of logs n)
-in_order splits logs n o l = from_disorder n 0 [] (log_of logs n) (found_in_order splits logs n o l)
 
 second_of : (b c : Bool) → b ≡ true → (not b || c) ≡ true → c ≡ true
 second_of true c e v = v

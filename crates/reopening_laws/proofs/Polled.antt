@@ -23,12 +23,12 @@ use Rattle.history_cases.proofs.OldRuns.{none_of_this_run}
 use Rattle.history_cases.proofs.TellingEvents.{front_committed}
 use Rattle.history_cases.proofs.Worlds.{state_at, in_a_shard}
 use Rattle.fate_laws.proofs.Bindings.{WasTaken, once}
-use Rattle.fate_laws.proofs.Deciding.{log_now}
 use Rattle.fate_laws.proofs.Fates.{Fated, fated_next, fated_start, delivered}
 use Rattle.fate_laws.proofs.Prefixes.{Next, walk, each_shard, one_home, DurableIn}
 use Rattle.reopening_laws.specs.Voters.{WasVoted, PartsAreTheYesVoters}
 use Rattle.reopening_laws.proofs.PartsEnded.{parts_front}
 use Rattle.reopening_laws.proofs.Polling.{Chosen, Polls, Owes, polls_opened, polls_made, polls_mono, polls_noted}
+use Rattle.history_laws.proofs.Staying.{log_now}
 
 -- ---- what is known after a front of the history
 

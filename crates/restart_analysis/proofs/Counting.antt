@@ -128,7 +128,7 @@ in_writers t (w ∷ ws) =
     above : (n : ℕ) → true ≡ nat_lt 0 (n + 1)
     above n = grind arith
 
-writers_rise : (ws : List StandingUpdate) → Rises (writers ws)
+pub writers_rise : (ws : List StandingUpdate) → Rises (writers ws)
 writers_rise [] = nothing_rises
 writers_rise (w ∷ ws) = insert_rises w.tx (writers ws) (writers_rise ws)
 

@@ -7,8 +7,8 @@
 
 mod analysis;
 mod doubt;
-pub mod laws;
 mod standing;
+pub mod statements;
 mod unended;
 
 pub use analysis::{Analysis, analyse};

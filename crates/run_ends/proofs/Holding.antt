@@ -1,8 +1,7 @@
 -- What the disk of a shard holds at its end.
-use Rattle.std.proofs.Common.{◌≡◌, ◌∙◌, refl, sym, ap, subst, ℕ, ◌≤◌, Bool, true, false, not, List, [], ◌∷◌, ◌++◌, map, take, take-append-drop, inl, inr, ⊎_elim, arith, Option, Some, None}
+use Rattle.std.proofs.Common.{◌≡◌, ◌∙◌, refl, sym, ap, subst, ℕ, ◌≤◌, Bool, true, false, not, List, [], ◌∷◌, ◌++◌, map, inl, inr, ⊎_elim, arith, Option, Some, None}
 use Rattle.std.specs.Prelude.{◌⊎◌, unwrap_or, IfSome}
 use Rattle.std.proofs.lemmas.Bool.{both_ways, and_parts}
-use Rattle.std.proofs.lemmas.List.{take-take}
 use Rattle.clv_base.specs.declared.logs.LogRecord.{LogRecord}
 use Rattle.clv_base.specs.declared.events.Event.{Event}
 use Rattle.clv_base.specs.declared.events.Event.TheVariants.{Op, Request, Look, Drop, Send, Deliver, Remind, FlushOut, FlushIn, Stop, Restart}
@@ -10,7 +9,6 @@ use Rattle.clv_base.specs.declared.events.Outcome.{Outcome}
 use Rattle.clv_base.specs.declared.events.Outcome.TheVariants.{Durable, Failed}
 use Rattle.clv_base.specs.State.{Shard}
 use Rattle.clv_base.specs.Events.{with_durable}
-use Rattle.clv_base.specs.Restarts.{log_left}
 use Rattle.clv_base.specs.Journals.{History, final_of, after_entry, flush_state, FlushMay}
 use Rattle.clv_base.specs.Machines.{BecomesBy}
 use Rattle.disk_model.specs.Story.{Story, reads, IsImage}
@@ -23,8 +21,8 @@ use Rattle.turn_laws.specs.declared.notes.Note.{Note}
 use Rattle.turn_laws.specs.declared.notes.Origin.{Origin}
 use Rattle.turn_laws.specs.Notes.{told}
 use Rattle.turn_laws.specs.Homes.{start, is_stop, never_stops, IsLegal}
-use Rattle.turn_laws.specs.Gates.{durable_records, flying_records}
-use Rattle.turn_laws.proofs.Laws.{does_calm, does_fly, legal_counted, none_stops}
+use Rattle.turn_laws.specs.Gates.{durable_records}
+use Rattle.turn_laws.proofs.Laws.{does_calm, does_fly, legal_counted, none_stops, whole}
 use Rattle.cluster_closing.specs.Closing.{IsLeft}
 use Rattle.run_promises.specs.Disks.{flush_after, flush_failed_from, flush_failed, HoldsLog}
 use Rattle.run_ends.specs.ClusterLaws.{DownAfterFailed, LeftDisksHold, IsEnd, ClosedDisksHold}
@@ -76,11 +74,6 @@ down_after_failed o notes s l down =
 at_least : (s : Shard) (f : Option ℕ) → Counted s → s.flight ≡ f → s.durable ≤ unwrap_or f s.durable
 at_least s None c e = omega arith
 at_least s (Some n) c e = (c.flying n e).0
-
-whole : (s : Shard) → Counted s → durable_records s ++ flying_records s ≡ log_left s true
-whole s c =
-    let m = unwrap_or s.flight s.durable in
-    ap (λ z. z ++ flying_records s) (sym (take-take s.durable m s.local.log (at_least s s.flight c refl))) ∙ take-append-drop s.durable (take m s.local.log)
 
 only_durable : (b : Bool) (s : Shard) (n : ℕ) (image : List ℕ) → records_of (log_of n image) ≡ Some (durable_records s) → HoldsLog b s n image
 only_durable true s n image h = inl h

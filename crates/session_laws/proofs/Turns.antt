@@ -19,6 +19,7 @@ use Rattle.session_laws.specs.Dropping.{DropsFollowAborts}
 use Rattle.session_laws.specs.Naming.{AnsweredBefore, RequestsNameWhatAnswered}
 use Rattle.session_laws.proofs.Dropping.{drop_after_request}
 use Rattle.session_laws.proofs.Naming.{Named, request_names_all}
+use Rattle.history_laws.proofs.Walking.{first_among}
 
 -- a walker's entry is one of the history's
 from_own : (w : ℕ) (y : Placed) (h : History) → Among y (own w h) → Among y h
@@ -29,11 +30,6 @@ from_own w y (f ∷ fs) m = at ((f.1).walker == w) m (from_own w y fs)
     at true (inl q) k = inl q
     at true (inr m) k = inr (k m)
     at false m k = inr (k m)
-
-first_among : (x y : Placed) (es : List Placed) → Precedes x y es → Among x es
-first_among x y [] p = elim p [ ]
-first_among x y (z ∷ zs) (inl p) = inl p.0
-first_among x y (z ∷ zs) (inr p) = inr (first_among x y zs p)
 
 differ : {tx : TxId} {ts : List (ℕ × ℕ)} → RequestEvent tx ts ≡ Drop tx → ⊥
 differ z = absurd cc

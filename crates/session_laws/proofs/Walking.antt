@@ -17,9 +17,8 @@ use Rattle.clv_base.specs.declared.events.Outcome.TheVariants.{Answered, Dead, A
 use Rattle.clv_base.specs.Orders.{tx_same, birth_cmp}
 use Rattle.clv_base.specs.LogRules.{same_option}
 use Rattle.clv_base.specs.Sessions.{Phase, SessionState, is_number, lies_in, is_touching, same_birth, follows_birth, goes_on, begins, begun, session_for, touch, scan_shard, op_answered, op_in_session, requested, looked, session_after, makes_from}
-use Rattle.clv_base.proofs.SameNames.{tx_true, nat_cmp_true}
+use Rattle.clv_base.proofs.SameNames.{tx_true, nat_cmp_true, then_eq}
 use Rattle.law_base.proofs.Options.{option_true}
-use Rattle.law_base.proofs.Tables.{then_eq}
 use Rattle.history_cases.proofs.Merging.{Placed, Among, Precedes}
 
 -- ---- whose session an operation finds

@@ -1,9 +1,7 @@
 -- The next try of a transaction.
 use Rattle.std.proofs.Common.{◌≡◌, ◌∙◌, refl, sym, ap, subst, suc, ◌≤◌, ◌<◌, ◌^◌, ◌-◌, ◌&&◌, true, Option, Some, None, arith, inl, inr, eq-eqb}
 use Rattle.std.specs.Prelude.{◌⊎◌}
-use Rattle.std.specs.Ordering.{is_eq, ordering_then}
-use Rattle.std.specs.declared.cmp.Ordering.{Ordering}
-use Rattle.std.specs.declared.cmp.Ordering.TheVariants.{Less, Equal, Greater}
+use Rattle.std.specs.Ordering.{is_eq}
 use Rattle.std.proofs.lemmas.Bool.{and_from, and_parts, lt-ltb, or_right}
 use Rattle.clv_base.specs.declared.names.TxId.{TxId}
 use Rattle.clv_base.specs.declared.names.Birth.{Birth}
@@ -23,11 +21,6 @@ use Rattle.session_ops.specs.Retried.{IsRetriable, Retried}
 use Rattle.law_base.proofs.Names.{birth_self, birth_same as some_birth}
 
 -- ---- the birth follows once more
-
-equal_then : (x y : Ordering) → is_eq x ≡ true → is_eq y ≡ true → is_eq (ordering_then x y) ≡ true
-equal_then Equal y a b = b
-equal_then Less y a b = a
-equal_then Greater y a b = a
 
 follows_again : (t p : SessionState) (birth : Birth) → GoesOnBy t p → may_drop p.phase ≡ true → p.birth ≡ Some birth → follows_birth t.birth birth t.phase ≡ true
 follows_again t p birth (inl same) may is =

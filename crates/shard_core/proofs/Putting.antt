@@ -17,7 +17,7 @@ use Rattle.due_laws.specs.Left.{left_voter, total_by}
 use Rattle.clv_base.proofs.SameNames.{or_left, or_right, tx_true, tx_self, tx_eq}
 use Rattle.law_base.proofs.Sets.{tx_total, AllAbove as Above}
 use Rattle.due_laws.proofs.Laws.{in_append}
-use Rattle.law_base.proofs.Names.{in_first as in_left, in_second as in_right}
+use Rattle.law_base.proofs.Names.{in_first as in_left, in_second as in_right, not_above as above_none}
 
 -- ---- who is in it
 
@@ -61,10 +61,6 @@ right_more x xs ys more h e = ⊎_elim (λ i. in_left x xs more i) (λ i. in_rig
 above_all : (t u : TxId) (ts : List TxId) → tx_cmp t u ≡ Less → Above u ts → ((x : TxId) → tx_cmp t u ≡ Less → tx_cmp u x ≡ Less → tx_cmp t x ≡ Less) → Above t ts
 above_all t u [] l a h = tt
 above_all t u (x ∷ xs) l a h = (h x l a.0, above_all t u xs l a.1 h)
-
-above_none : {V : Type 0} (t : TxId) (rs : Table V) → Above t (keys_of rs) → tx_get t rs ≡ None
-above_none t [] a = refl
-above_none t (r ∷ rs) a = ap (λ c. cond (is_eq c) (Some r.1) (tx_get t rs)) a.0 ∙ above_none t rs a.1
 
 -- one vote more is owed
 asked_more : (finished : Bool) (home seen : ℕ) (v : Voter) → left_voter finished (asked_voter home seen (Some v)) ≤ left_voter finished v + 1

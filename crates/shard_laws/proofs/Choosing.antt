@@ -31,14 +31,14 @@ use Rattle.shard_laws.proofs.Cutting.{cut_keeps, durable_cut, of_kept, tidy_late
 use Rattle.shard_laws.proofs.Serial.{filter_place, in_kept, Once, once_filter, serial_of}
 use Rattle.shard_laws.proofs.Members.{dep_cut, item_asked, cut_base, pile_keep, filter_all_kept, filter_alike, filter_within}
 use Rattle.shard_laws.proofs.Doubting.{prepared_cut, listed_cut}
-use Rattle.shard_laws.proofs.Restoring.{standing_updates, wrote_of}
+use Rattle.shard_laws.proofs.Restoring.{wrote_of}
 use Rattle.shard_laws.proofs.Rebuilding.{unmoved_from}
 use Rattle.shard_laws.proofs.Remaking.{whole_log}
 use Rattle.shard_laws.proofs.Reviving.{doubt_of, doubt_closed, tidy_closed, sealed_closed, Bounded, doubt_here}
 use Rattle.shard_laws.proofs.Histories.{held}
 use Rattle.clv_base.specs.Undo.{stage_of}
 use Rattle.clv_base.specs.declared.state.Stage.TheVariants.{Closed}
-use Rattle.law_base.proofs.Logs.{fold_rises}
+use Rattle.law_base.proofs.Logs.{fold_rises, standing_updates}
 
 and_true : (a b : Bool) → b ≡ true → a ≡ (a && b)
 and_true true b e = sym e

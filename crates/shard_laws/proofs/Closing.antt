@@ -25,8 +25,8 @@ use Rattle.shard_laws.proofs.Prepared.{prepared_parts}
 use Rattle.shard_laws.proofs.Kept.{View, Past, place, StageFits, Belongs, Known, Kept}
 use Rattle.clv_base.specs.Locks.{close_locks}
 use Rattle.law_base.proofs.Stages.{get_closed, get_closed_other, get_closed_own, stage_closed, closed_other as stage_other, closed_not_active}
-use Rattle.law_base.proofs.Bools.{or_false_left, or_false_right}
 use Rattle.law_base.proofs.Sets.{flip_apart}
+use Rattle.clv_base.proofs.Folding.{or_left as or_false_left, or_right as or_false_right}
 
 -- ---- places
 

@@ -1,21 +1,14 @@
 -- Lists of transactions that rise have no transaction twice.
-use Rattle.std.proofs.Common.{◌≡◌, ⊎_elim, false, List, [], ◌∷◌, ℕ, zero, suc, length, refl, ap}
-use Rattle.std.specs.Ordering.{is_eq}
-use Rattle.std.proofs.lemmas.Bool.{both_ways, cond_both, or_cases, false_from_ne_true}
+use Rattle.std.proofs.Common.{◌≡◌, false, List, [], ◌∷◌, ℕ, zero, suc, length, refl}
+use Rattle.std.proofs.lemmas.Bool.{cond_both}
 use Rattle.clv_base.specs.declared.names.TxId.{TxId}
-use Rattle.clv_base.specs.Orders.{tx_same, tx_in, tx_insert}
+use Rattle.clv_base.specs.Orders.{tx_in, tx_insert}
 use Rattle.clv_base.specs.Logs.{StandingUpdate, writers}
 use Rattle.clv_base.specs.State.{Local}
 use Rattle.clv_base.specs.Undo.{with_successors, successors_through, doomed_by, doomed_here}
-use Rattle.clv_base.proofs.SameNames.{tx_flip}
-use Rattle.law_base.proofs.Sets.{insert_rises, Rises as RiseOnce, AllAbove}
+use Rattle.law_base.proofs.Sets.{insert_rises, Rises as RiseOnce}
 use Rattle.shard_laws.proofs.Serial.{Once, once_filter}
-
-above_out : (t : TxId) (xs : List TxId) → AllAbove t xs → tx_in t xs ≡ false
-above_out t [] a = refl
-above_out t (x ∷ xs) a = false_from_ne_true _ (λ i. ⊎_elim
-    (λ s. both_ways _ (ap is_eq a.0) (tx_flip x t s))
-    (λ j. both_ways _ (above_out t xs a.1) j) (or_cases (tx_same x t) (tx_in t xs) i))
+use Rattle.law_base.proofs.Names.{above_out}
 
 pub rises_once : (xs : List TxId) → RiseOnce xs → Once xs
 rises_once [] h = tt

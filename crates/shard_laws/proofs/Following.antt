@@ -10,9 +10,9 @@ use Rattle.clv_base.specs.declared.logs.LogRecord.TheVariants.{Update, Clr, Prep
 use Rattle.clv_base.specs.Logs.{wrote_in}
 use Rattle.clv_base.specs.LogRules.{may_follow, disorder_from, last_restart, since_restart, before_restart, above_restarts}
 use Rattle.clv_base.specs.Restarts.{greatest_run, greatest_epoch}
-use Rattle.law_base.proofs.Bools.{or_false_left}
 use Rattle.law_base.proofs.Restarts.{epoch_own}
 use Rattle.shard_laws.proofs.Changes.{wrote_append}
+use Rattle.clv_base.proofs.Folding.{or_left as or_false_left}
 
 -- each record may follow those before it
 abbrev pub Follows : ℕ → List LogRecord → List LogRecord → Type 0

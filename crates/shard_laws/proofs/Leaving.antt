@@ -34,13 +34,14 @@ use Rattle.law_base.proofs.Commits.{commit_durable, before_keeps, before_first, 
 use Rattle.shard_laws.proofs.Prepared.{unprepared_append, prepared_more, prepared_parts, prepared_kept}
 use Rattle.shard_laws.proofs.AtKeys.{key_writes, keys_filter, keys_all}
 use Rattle.shard_laws.proofs.Kept.{View, Past, Belongs, Dep, Known, Kept, Ended, Wrote, Left, of_kept, is_alive}
-use Rattle.shard_laws.proofs.Restoring.{standing_updates, wrote_of}
+use Rattle.shard_laws.proofs.Restoring.{wrote_of}
 use Rattle.protocol_laws.specs.Order.{moves, Open_at, Tidy, undone_in}
 use Rattle.clv_base.specs.Undo.{value_before}
 use Rattle.law_base.proofs.Undoing.{reset}
 use Rattle.clv_base.specs.Undo.{newest_lsn}
 use Rattle.shard_laws.proofs.Changes.{wrote_keeps, tidy_append, undone_append, wrote_append, ended_more}
 use Rattle.law_base.proofs.Stages.{active_back, closed_back, doomed_back, get_other, gone_by, gone_closed, stage_other, stage_own, closed_not_active}
+use Rattle.law_base.proofs.Logs.{standing_updates}
 
 -- ---- parts that are gone
 

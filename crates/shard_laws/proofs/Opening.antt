@@ -30,7 +30,6 @@ use Rattle.law_base.proofs.Undoing.{write_met}
 use Rattle.law_base.proofs.Tables.{stage_in, is_pair}
 use Rattle.law_base.proofs.Commits.{commit_durable}
 use Rattle.law_base.proofs.Sets.{filter_in, list_all_at}
-use Rattle.law_base.proofs.Bools.{or_false_left, or_false_right}
 use Rattle.protocol_laws.proofs.Records.{own_commit, own_prepare}
 use Rattle.protocol_laws.proofs.Runs.{record_fits}
 use Rattle.protocol_laws.proofs.Writes.{chain_kept}
@@ -45,7 +44,7 @@ use Rattle.shard_laws.proofs.Refalling.{all_durable}
 use Rattle.shard_laws.proofs.Falls.{Falls}
 use Rattle.shard_laws.proofs.Compensating.{aborted_now}
 use Rattle.shard_laws.proofs.Doubting.{Doubted, doubted}
-use Rattle.shard_laws.proofs.Restoring.{restored_closed, restored_stage, restored_none, rows_restored, standing_updates, wrote_of}
+use Rattle.shard_laws.proofs.Restoring.{restored_closed, restored_stage, restored_none, rows_restored, wrote_of}
 use Rattle.shard_laws.proofs.Listing.{prepared_wrote, wrote_stands, lie_listed, winners_lie}
 use Rattle.shard_laws.proofs.Following.{Follows, from_disorder, above_later}
 use Rattle.shard_laws.proofs.Keeping.{KeepsOrder}
@@ -55,7 +54,8 @@ use Rattle.shard_laws.proofs.Rebuilding.{Restarted, of_whole}
 use Rattle.shard_laws.proofs.Remaking.{whole_log, committed_remade, values_remade, rises_remade, wrote_remade}
 use Rattle.shard_laws.proofs.Reviving.{state_with, restored_committed, IsCommitted}
 use Rattle.shard_laws.proofs.Found.{UnderFound, all_tell, found_all, found_doubted, pile_found, keys_split, runs_found, order_has, listed_before, under_found}
-use Rattle.law_base.proofs.Logs.{fold_rises}
+use Rattle.law_base.proofs.Logs.{fold_rises, standing_updates}
+use Rattle.clv_base.proofs.Folding.{or_left as or_false_left, or_right as or_false_right}
 
 -- a restart aborts the losers
 undo_aborts : (shard : ℕ) (log : List LogRecord) (run : ℕ) (t : TxId) → tx_in t (losers shard log) ≡ true → aborted_in (log_after_restart shard log run 0) t ≡ true

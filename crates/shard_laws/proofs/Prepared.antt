@@ -16,8 +16,8 @@ use Rattle.law_base.specs.Items.{Item, AllLater, Reaches}
 use Rattle.law_base.proofs.Lists.{later_mono, later_filter, later_push}
 use Rattle.law_base.proofs.Tables.{stage_in, is_pair}
 use Rattle.law_base.proofs.Commits.{place_keeps}
-use Rattle.law_base.proofs.Bools.{or_false_left, or_false_right}
 use Rattle.protocol_laws.specs.Order.{Unprepared, Sealed}
+use Rattle.clv_base.proofs.Folding.{or_left as or_false_left, or_right as or_false_right}
 
 -- the PREPARE lists it, or its COMMIT stands before the PREPARE
 abbrev pub IsListed : List LogRecord → TxId → TxId → Type 0

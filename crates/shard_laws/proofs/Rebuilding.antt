@@ -17,7 +17,7 @@ use Rattle.law_base.proofs.Undoing.{standing_append, standing_aborts, standing_c
 use Rattle.law_base.proofs.Commits.{committed_append}
 use Rattle.law_base.proofs.Doubts.{Unlike, is_it, nobody, abort_unlike, clr_unlike, restart_unlike, doubts_more}
 use Rattle.law_base.proofs.Sets.{filter_in, in_filter, each_writer}
-use Rattle.law_base.proofs.Bools.{or_false_left, or_false_right, or_right_false}
+use Rattle.law_base.proofs.Bools.{or_right_false}
 use Rattle.protocol_laws.specs.Order.{moves, Open_at, Tidy, Sealed, is_clr_of, undone_in}
 use Rattle.shard_laws.proofs.Prepared.{IsListed, is_listed_more, prepared_append, sealed_more, listed_keeps}
 use Rattle.shard_laws.proofs.Changes.{undone_append, wrote_append, tidy_append}
@@ -26,6 +26,7 @@ use Rattle.shard_laws.proofs.Cutting.{of_kept, without_other}
 use Rattle.shard_laws.proofs.Members.{filter_alike}
 use Rattle.std.proofs.lemmas.List.Folds.{list_any-append}
 use Rattle.clv_base.specs.LogRules.{listed_in}
+use Rattle.clv_base.proofs.Folding.{or_left as or_false_left, or_right as or_false_right}
 
 -- ---- what restarts may make of the log that was found
 

@@ -17,8 +17,8 @@ use Rattle.clv_base.specs.Restarts.{home_by, homes_of, pairs_of_listed, restored
 use Rattle.clv_base.proofs.SameNames.{or_left, or_right, tx_true, tx_eq, tx_flip}
 use Rattle.law_base.proofs.Tables.{is_pair, get_put}
 use Rattle.law_base.proofs.Sets.{filter_in, in_filter}
-use Rattle.law_base.proofs.Bools.{or_false_left, or_false_right}
 use Rattle.law_base.proofs.Names.{own_pairs}
+use Rattle.clv_base.proofs.Folding.{or_left as or_false_left, or_right as or_false_right}
 
 -- ---- what a restored shard asks and votes
 

@@ -23,10 +23,10 @@ use Rattle.law_base.proofs.Commits.{commit_durable}
 use Rattle.protocol_laws.specs.Order.{is_clr_of, undone_in}
 use Rattle.shard_laws.proofs.Kept.{View, Wrote}
 use Rattle.shard_laws.proofs.Cutting.{of_kept, KeptWhole, fold_alike, fold_values}
-use Rattle.shard_laws.proofs.Restoring.{has_update, standing_updates, locks_hold, ghosts_value, ghosts_rise, ghosts_there}
+use Rattle.shard_laws.proofs.Restoring.{ghosts_value, ghosts_rise}
 use Rattle.shard_laws.proofs.Rebuilding.{winners, Restarted}
 use Rattle.shard_laws.proofs.Refalling.{all_durable}
-use Rattle.law_base.proofs.Logs.{fold_rises}
+use Rattle.law_base.proofs.Logs.{fold_rises, has_update, standing_updates, locks_hold, ghosts_there}
 
 -- ---- the records of a map
 

@@ -21,7 +21,7 @@ use Rattle.law_base.proofs.Lists.{all_mono, all_both, all_append}
 use Rattle.law_base.proofs.Undoing.{Upward, standing_append}
 use Rattle.law_base.proofs.Tables.{stage_in}
 use Rattle.law_base.proofs.Sets.{filter_in, in_filter, list_all_at, each_writer}
-use Rattle.law_base.proofs.Bools.{or_false_left, or_false_right, and_first as front, and_second as last}
+use Rattle.law_base.proofs.Bools.{and_first as front, and_second as last}
 use Rattle.law_base.proofs.Stages.{present_is}
 use Rattle.protocol_laws.specs.Order.{LieOnThese}
 use Rattle.protocol_laws.proofs.Records.{push_false}
@@ -41,6 +41,7 @@ use Rattle.shard_laws.proofs.Rulings.{Rulings}
 use Rattle.shard_laws.proofs.Relisting.{pair_there, pair_lists, request_from, OneCommit, unended_parts}
 use Rattle.shard_laws.proofs.Rebuilding.{Found, Plain, winners, found_more, plain_restart, loser_alike, standing_whole}
 use Rattle.law_base.proofs.Logs.{last_restart_push as last_new}
+use Rattle.clv_base.proofs.Folding.{or_left as or_false_left, or_right as or_false_right}
 
 -- ---- the losers lie under no winner
 

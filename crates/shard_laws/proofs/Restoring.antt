@@ -1,51 +1,30 @@
 -- What a restart restores of those in doubt: locks, parts, and a record at each key that they wrote.
-use Rattle.std.proofs.Common.{◌≡◌, ⊎_elim, refl, sym, ap, subst, ◌∙◌, ℕ, suc, Bool, true, false, cond, ◌&&◌, ◌==◌, List, [], ◌∷◌, Option, Some, None, eqb-true, eq-eqb}
-use Rattle.std.specs.List.{AllByRecursion, list_any}
-use Rattle.std.proofs.lemmas.Bool.{both_ways, cond-true, cond_both, or_cases, and_parts, and_from}
+use Rattle.std.proofs.Common.{◌≡◌, ⊎_elim, refl, sym, ap, ◌∙◌, ℕ, suc, Bool, true, false, cond, ◌&&◌, ◌==◌, List, [], ◌∷◌, Option, Some, None, eqb-true}
+use Rattle.std.proofs.lemmas.Bool.{both_ways, cond_both, or_cases, and_parts}
 use Rattle.clv_base.specs.declared.names.TxId.{TxId}
 use Rattle.clv_base.specs.declared.logs.LogRecord.{LogRecord}
 use Rattle.clv_base.specs.declared.logs.LogRecord.TheVariants.{Update, Clr, Prepare, Commit, Abort, End, Restart}
-use Rattle.clv_base.specs.declared.modes.Part.TheVariants.{X}
 use Rattle.clv_base.specs.declared.modes.Anchor.TheVariants.{At}
 use Rattle.clv_base.specs.declared.state.Stage.{Stage}
 use Rattle.clv_base.specs.declared.state.Stage.TheVariants.{Closed}
 use Rattle.clv_base.specs.Orders.{tx_same, tx_in, tx_get}
-use Rattle.clv_base.specs.Logs.{StandingUpdate, standing, standing_from, without_newest, wrote_in}
+use Rattle.clv_base.specs.Logs.{wrote_in}
 use Rattle.clv_base.specs.declared.modes.Found.{Found}
 use Rattle.clv_base.specs.declared.modes.Found.TheVariants.{Live, Ghost, Absent}
 use Rattle.clv_base.specs.Locks.{Locks, take_one}
-use Rattle.clv_base.specs.Needs.{Records, found_at, found_by, value_at}
+use Rattle.clv_base.specs.Needs.{Records, found_at, value_at}
 use Rattle.clv_base.specs.Restarts.{with_ghosts, ghost_if_absent, restored_locks, restored_parts, restored_part}
-use Rattle.clv_base.proofs.SameNames.{or_left, or_right, tx_true, tx_self, tx_flip}
+use Rattle.clv_base.proofs.SameNames.{or_left, or_right, tx_flip}
 use Rattle.law_base.proofs.Cells.{record_at, live_by}
 use Rattle.law_base.proofs.Anchors.{Rising, record_at_set, rising_set}
 use Rattle.law_base.proofs.Tables.{stage_in, stage_by}
-use Rattle.law_base.proofs.LockRows.{holds, Rows, take_keeps, take_gives, rows_take}
+use Rattle.law_base.proofs.LockRows.{Rows, rows_take}
 use Rattle.shard_laws.proofs.Kept.{Belongs}
-use Rattle.law_base.proofs.Names.{all_without, IsThere, lock_of, restored_there, set_some}
+use Rattle.law_base.proofs.Names.{lock_of, restored_there}
 use Rattle.law_base.proofs.Options.{absent_is}
-use Rattle.law_base.proofs.Logs.{is_update_at}
+use Rattle.law_base.proofs.Logs.{has_update}
 
 -- ---- the UPDATEs of a log, by transaction and key
-
-abbrev pub has_update : List LogRecord → TxId → ℕ → Bool
-has_update log t q = list_any (is_update_at t q) log
-
-standing_all : (log : List LogRecord) (n : ℕ) (rs : List LogRecord) (ws : List StandingUpdate) → ((t : TxId) (q : ℕ) → has_update rs t q ≡ true → has_update log t q ≡ true) → AllByRecursion (λ w. has_update log w.tx w.key ≡ true) ws
-    → AllByRecursion (λ w. has_update log w.tx w.key ≡ true) (standing_from n rs ws)
-standing_all log n [] ws h all = all
-standing_all log n (Update tx k b a ∷ rs) ws h all =
-    standing_all log (suc n) rs (record { lsn = n; tx = tx; key = k; before = b; after = a } ∷ ws) (λ t q e. h t q (or_right (tx_same t tx && (q == k)) _ e))
-    (h tx k (or_left _ _ (and_from _ _ (tx_self tx) (eq-eqb k k refl))), all)
-standing_all log n (Clr tx u k a ∷ rs) ws h all = standing_all log (suc n) rs (without_newest tx ws) h (all_without _ tx ws all)
-standing_all log n (Prepare tx home ps ∷ rs) ws h all = standing_all log (suc n) rs ws h all
-standing_all log n (Commit tx ps ∷ rs) ws h all = standing_all log (suc n) rs ws h all
-standing_all log n (Abort tx ∷ rs) ws h all = standing_all log (suc n) rs ws h all
-standing_all log n (End tx ∷ rs) ws h all = standing_all log (suc n) rs ws h all
-standing_all log n (Restart run epoch ∷ rs) ws h all = standing_all log (suc n) rs ws h all
-
-pub standing_updates : (log : List LogRecord) → AllByRecursion (λ w. has_update log w.tx w.key ≡ true) (standing log)
-standing_updates log = standing_all log 0 log [] (λ t q e. e) tt
 
 pub wrote_of : (log : List LogRecord) (t : TxId) (q : ℕ) → has_update log t q ≡ true → wrote_in log t ≡ true
 wrote_of [] t q e = e
@@ -82,39 +61,6 @@ restored_none txs t i = at (stage_in (restored_parts txs) t) refl
 
 -- ---- locks
 
-lock_case : (txs : List TxId) (tx : TxId) (key : ℕ) (locks : Locks) (t : TxId) (q : ℕ) → holds true X (At q) t locks ≡ true → holds true X (At q) t (cond (tx_in tx txs) (take_one (At key) (lock_of tx) locks) locks) ≡ true
-lock_case txs tx key locks t q h = cond_both (tx_in tx txs) (take_one (At key) (lock_of tx) locks) locks (λ l. holds true X (At q) t l ≡ true) (λ e. take_keeps true X (At q) t (At key) (lock_of tx) locks h) (λ e. h)
-
-locks_keep : (txs : List TxId) (log : List LogRecord) (locks : Locks) (t : TxId) (q : ℕ) → holds true X (At q) t locks ≡ true → holds true X (At q) t (restored_locks txs log locks) ≡ true
-locks_keep txs [] locks t q h = h
-locks_keep txs (Update tx key b a ∷ rs) locks t q h = locks_keep txs rs (cond (tx_in tx txs) (take_one (At key) (lock_of tx) locks) locks) t q (lock_case txs tx key locks t q h)
-locks_keep txs (Clr tx u k a ∷ rs) locks t q h = locks_keep txs rs locks t q h
-locks_keep txs (Prepare tx home ps ∷ rs) locks t q h = locks_keep txs rs locks t q h
-locks_keep txs (Commit tx ps ∷ rs) locks t q h = locks_keep txs rs locks t q h
-locks_keep txs (Abort tx ∷ rs) locks t q h = locks_keep txs rs locks t q h
-locks_keep txs (End tx ∷ rs) locks t q h = locks_keep txs rs locks t q h
-locks_keep txs (Restart run epoch ∷ rs) locks t q h = locks_keep txs rs locks t q h
-
-own_lock : (txs : List TxId) (tx : TxId) (key : ℕ) (locks : Locks) (t : TxId) (q : ℕ) → tx_in t txs ≡ true → (tx_same t tx && (q == key)) ≡ true → holds true X (At q) t (cond (tx_in tx txs) (take_one (At key) (lock_of tx) locks) locks) ≡ true
-own_lock txs tx key locks t q i e =
-    let p = and_parts (tx_same t tx) (q == key) e in
-    let same : t ≡ tx = tx_true t tx p.0 in
-    let at : q ≡ key = eqb-true q key p.1 in
-    subst (λ l. holds true X (At q) t l ≡ true) (sym (cond-true (tx_in tx txs) (take_one (At key) (lock_of tx) locks) locks (subst (λ z. tx_in z txs ≡ true) same i)))
-    (subst (λ z. holds true X (At q) z (take_one (At key) (lock_of tx) locks) ≡ true) (sym same) (subst (λ k. holds true X (At k) tx (take_one (At key) (lock_of tx) locks) ≡ true) (sym at) (take_gives true X (At key) (lock_of tx) locks refl)))
-
-pub locks_hold : (txs : List TxId) (log : List LogRecord) (locks : Locks) (t : TxId) (q : ℕ) → tx_in t txs ≡ true → has_update log t q ≡ true → holds true X (At q) t (restored_locks txs log locks) ≡ true
-locks_hold txs [] locks t q i e = absurd (both_ways false refl e)
-locks_hold txs (Update tx key b a ∷ rs) locks t q i e =
-    ⊎_elim (λ h. locks_keep txs rs (cond (tx_in tx txs) (take_one (At key) (lock_of tx) locks) locks) t q (own_lock txs tx key locks t q i h))
-    (λ h. locks_hold txs rs (cond (tx_in tx txs) (take_one (At key) (lock_of tx) locks) locks) t q i h) (or_cases (tx_same t tx && (q == key)) (has_update rs t q) e)
-locks_hold txs (Clr tx u k a ∷ rs) locks t q i e = locks_hold txs rs locks t q i e
-locks_hold txs (Prepare tx home ps ∷ rs) locks t q i e = locks_hold txs rs locks t q i e
-locks_hold txs (Commit tx ps ∷ rs) locks t q i e = locks_hold txs rs locks t q i e
-locks_hold txs (Abort tx ∷ rs) locks t q i e = locks_hold txs rs locks t q i e
-locks_hold txs (End tx ∷ rs) locks t q i e = locks_hold txs rs locks t q i e
-locks_hold txs (Restart run epoch ∷ rs) locks t q i e = locks_hold txs rs locks t q i e
-
 pub rows_restored : (txs : List TxId) (log : List LogRecord) (locks : Locks) → Rows (Belongs (restored_parts txs)) locks → Rows (Belongs (restored_parts txs)) (restored_locks txs log locks)
 rows_restored txs [] locks h = h
 rows_restored txs (Update tx key b a ∷ rs) locks h =
@@ -144,22 +90,6 @@ ghost_rises k rs (Live v) h = h
 ghost_rises k rs Ghost h = h
 ghost_rises k rs Absent h = rising_set k None rs h
 
-ghost_keeps : (k q : ℕ) (rs : Records) (f : Found) → IsThere q rs → IsThere q (ghost_if_absent k rs f)
-ghost_keeps k q rs (Live v) h = h
-ghost_keeps k q rs Ghost h = h
-ghost_keeps k q rs Absent h = λ e. set_some q k rs (q == k) (record_at q rs) (λ t. h) (sym (record_at_set q k None rs) ∙ e)
-
-ghost_there : (k : ℕ) (rs : Records) (f : Found) → found_at k rs ≡ f → IsThere k (ghost_if_absent k rs f)
-ghost_there k rs (Live v) e = λ n. live_not (sym (ap found_by n) ∙ e)
-  where
-    live_not : found_by None ≡ Live v → ⊥
-    live_not f = absurd cc
-ghost_there k rs Ghost e = λ n. ghost_not (sym (ap found_by n) ∙ e)
-  where
-    ghost_not : found_by None ≡ Ghost → ⊥
-    ghost_not f = absurd cc
-ghost_there k rs Absent e = λ n. set_some k k rs (k == k) (record_at k rs) (λ t. absurd (both_ways _ t (eq-eqb k k refl))) (sym (record_at_set k k None rs) ∙ n)
-
 pub ghosts_value : (txs : List TxId) (log : List LogRecord) (rs : Records) (q : ℕ) → value_at q (with_ghosts txs log rs) ≡ value_at q rs
 ghosts_value txs [] rs q = refl
 ghosts_value txs (Update tx key b a ∷ log) rs q =
@@ -182,32 +112,3 @@ ghosts_rise txs (Commit tx ps ∷ log) rs h = ghosts_rise txs log rs h
 ghosts_rise txs (Abort tx ∷ log) rs h = ghosts_rise txs log rs h
 ghosts_rise txs (End tx ∷ log) rs h = ghosts_rise txs log rs h
 ghosts_rise txs (Restart run epoch ∷ log) rs h = ghosts_rise txs log rs h
-
-ghosts_keep : (txs : List TxId) (log : List LogRecord) (rs : Records) (q : ℕ) → IsThere q rs → IsThere q (with_ghosts txs log rs)
-ghosts_keep txs [] rs q h = h
-ghosts_keep txs (Update tx key b a ∷ log) rs q h =
-    ghosts_keep txs log (cond (tx_in tx txs) (ghost_if_absent key rs (found_at key rs)) rs) q (cond_both (tx_in tx txs) (ghost_if_absent key rs (found_at key rs)) rs (IsThere q) (λ e. ghost_keeps key q rs (found_at key rs) h) (λ e. h))
-ghosts_keep txs (Clr tx u k a ∷ log) rs q h = ghosts_keep txs log rs q h
-ghosts_keep txs (Prepare tx home ps ∷ log) rs q h = ghosts_keep txs log rs q h
-ghosts_keep txs (Commit tx ps ∷ log) rs q h = ghosts_keep txs log rs q h
-ghosts_keep txs (Abort tx ∷ log) rs q h = ghosts_keep txs log rs q h
-ghosts_keep txs (End tx ∷ log) rs q h = ghosts_keep txs log rs q h
-ghosts_keep txs (Restart run epoch ∷ log) rs q h = ghosts_keep txs log rs q h
-
-own_ghost : (txs : List TxId) (tx : TxId) (key : ℕ) (rs : Records) (t : TxId) (q : ℕ) → tx_in t txs ≡ true → (tx_same t tx && (q == key)) ≡ true → IsThere q (cond (tx_in tx txs) (ghost_if_absent key rs (found_at key rs)) rs)
-own_ghost txs tx key rs t q i e =
-    let p = and_parts (tx_same t tx) (q == key) e in
-    subst (IsThere q) (sym (cond-true (tx_in tx txs) (ghost_if_absent key rs (found_at key rs)) rs (subst (λ z. tx_in z txs ≡ true) (tx_true t tx p.0) i)))
-    (subst (λ k. IsThere k (ghost_if_absent key rs (found_at key rs))) (sym (eqb-true q key p.1)) (ghost_there key rs (found_at key rs) refl))
-
-pub ghosts_there : (txs : List TxId) (log : List LogRecord) (rs : Records) (t : TxId) (q : ℕ) → tx_in t txs ≡ true → has_update log t q ≡ true → record_at q (with_ghosts txs log rs) ≡ None → ⊥
-ghosts_there txs [] rs t q i e = absurd (both_ways false refl e)
-ghosts_there txs (Update tx key b a ∷ log) rs t q i e =
-    ⊎_elim (λ h. ghosts_keep txs log (cond (tx_in tx txs) (ghost_if_absent key rs (found_at key rs)) rs) q (own_ghost txs tx key rs t q i h))
-    (λ h. ghosts_there txs log (cond (tx_in tx txs) (ghost_if_absent key rs (found_at key rs)) rs) t q i h) (or_cases (tx_same t tx && (q == key)) (has_update log t q) e)
-ghosts_there txs (Clr tx u k a ∷ log) rs t q i e = ghosts_there txs log rs t q i e
-ghosts_there txs (Prepare tx home ps ∷ log) rs t q i e = ghosts_there txs log rs t q i e
-ghosts_there txs (Commit tx ps ∷ log) rs t q i e = ghosts_there txs log rs t q i e
-ghosts_there txs (Abort tx ∷ log) rs t q i e = ghosts_there txs log rs t q i e
-ghosts_there txs (End tx ∷ log) rs t q i e = ghosts_there txs log rs t q i e
-ghosts_there txs (Restart run epoch ∷ log) rs t q i e = ghosts_there txs log rs t q i e

@@ -33,7 +33,6 @@ use Rattle.law_base.proofs.Undoing.{standing_append}
 use Rattle.law_base.proofs.Tables.{stage_in}
 use Rattle.law_base.proofs.Commits.{commit_durable, committed_append, place_there, before_second}
 use Rattle.law_base.proofs.Sets.{filter_in, in_filter}
-use Rattle.law_base.proofs.Bools.{or_false_left, or_false_right}
 use Rattle.law_base.proofs.Stages.{present_is}
 use Rattle.protocol_laws.specs.Order.{moves, Open_at, Tidy, Unprepared, Sealed, undone_in}
 use Rattle.shard_laws.specs.OneShard.{items_of, is_member, is_doomed, left_out}
@@ -47,7 +46,7 @@ use Rattle.shard_laws.proofs.Cutting.{cut_keeps, durable_cut, of_kept, tidy_late
 use Rattle.shard_laws.proofs.Serial.{Once}
 use Rattle.shard_laws.proofs.Members.{dep_cut, item_asked, cut_base, pile_keep, filter_all_kept, filter_alike, filter_and}
 use Rattle.shard_laws.proofs.Doubting.{Doubted, doubted, prepared_cut, listed_cut, listed_wins}
-use Rattle.shard_laws.proofs.Restoring.{has_update, wrote_of, restored_closed, restored_stage, restored_none, rows_restored}
+use Rattle.shard_laws.proofs.Restoring.{wrote_of, restored_closed, restored_stage, restored_none, rows_restored}
 use Rattle.shard_laws.proofs.Following.{follows_take, greatest_front}
 use Rattle.shard_laws.proofs.Keeping.{KeepsOrder}
 use Rattle.shard_laws.proofs.Renewing.{found_self, Renewed, Fine, renewed_by, ordered_restored, lying_restored, rulings_restored}
@@ -59,6 +58,8 @@ use Rattle.shard_laws.proofs.Relisting.{requests_none, unended_none, voter_is, p
 use Rattle.shard_laws.proofs.Rebuilding.{Found, unmoved_from, Restarted, of_restarts}
 use Rattle.shard_laws.proofs.Remaking.{view_remade, committed_remade, values_remade, rises_remade, all_written, wrote_remade}
 use Rattle.clv_base.specs.LogRules.{listed_in}
+use Rattle.clv_base.proofs.Folding.{or_left as or_false_left, or_right as or_false_right}
+use Rattle.law_base.proofs.Logs.{has_update}
 
 -- ---- a cut of the log
 

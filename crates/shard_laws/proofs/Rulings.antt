@@ -10,9 +10,9 @@ use Rattle.clv_base.specs.declared.state.RequestState.TheVariants.{Undecided, Co
 use Rattle.clv_base.specs.Orders.{Table, tx_same, tx_get}
 use Rattle.clv_base.specs.Logs.{committed_in, prepared_in, ended_in, prepare_of, commit_parts, is_end_of}
 use Rattle.clv_base.proofs.SameNames.{tx_self}
-use Rattle.law_base.proofs.Bools.{or_false_left, or_false_right}
 use Rattle.law_base.proofs.Commits.{parts_keep}
 use Rattle.shard_laws.proofs.Ordered.{prepare_same}
+use Rattle.clv_base.proofs.Folding.{or_left as or_false_left, or_right as or_false_right}
 
 -- an undecided one is of this run, and a PREPARE of it names this shard; a commit that awaits its parts has its COMMIT, and no END
 pub record Ruled (shard run : ℕ) (log : List LogRecord) (t : TxId) (q : Request) : Type 0 where

@@ -25,7 +25,7 @@ use Rattle.protocol_laws.proofs.Records.{push_cases}
 use Rattle.shard_laws.proofs.Serial.{Once, once_filter}
 use Rattle.shard_laws.proofs.Changes.{wrote_keeps}
 use Rattle.shard_laws.proofs.Prepared.{prepared_append}
-use Rattle.shard_laws.proofs.Restoring.{standing_updates, wrote_of}
+use Rattle.shard_laws.proofs.Restoring.{wrote_of}
 use Rattle.shard_laws.proofs.Closing.{stage_back}
 use Rattle.law_base.proofs.Stages.{closed_other as stage_left, closed_not_active}
 use Rattle.law_base.proofs.Stages.{active_back, closed_back, stage_other, own_go}
@@ -34,6 +34,7 @@ use Rattle.shard_laws.proofs.Following.{Follows, follows_append, last_push, befo
 use Rattle.shard_laws.proofs.Compensating.{undo_follows}
 use Rattle.shard_laws.proofs.Writers.{writers_more, writers_close, writers_release}
 use Rattle.shard_laws.proofs.Ordered.{LiesOn, Under, Lying, Ordered, Calm, Stepped, listed_same, ordered_step, under_more}
+use Rattle.law_base.proofs.Logs.{standing_updates}
 
 -- ---- a PREPARE of an active part
 

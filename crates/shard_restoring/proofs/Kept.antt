@@ -17,10 +17,10 @@ use Rattle.law_base.proofs.Cells.{record_at}
 use Rattle.law_base.proofs.LockRows.{holds, row_holds}
 use Rattle.txn_core.specs.Sound.{is_here, has_lock, IsHeld, owed_by, IsSound}
 use Rattle.txn_core.proofs.Laws.{count_owed_fewer}
-use Rattle.shard_restoring.proofs.Updates.{has_update, standing_updates, restored_away, locks_hold, ghosts_there}
-use Rattle.shard_restoring.proofs.Listed.{restored_have}
+use Rattle.shard_restoring.proofs.Updates.{restored_away}
 use Rattle.law_base.proofs.Names.{restored_there, own_in}
 use Rattle.law_base.proofs.Lists.{all_mono}
+use Rattle.law_base.proofs.Logs.{has_update, restored_have, standing_updates, locks_hold, ghosts_there}
 
 -- ---- a lock with key X is a lock
 

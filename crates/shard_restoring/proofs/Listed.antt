@@ -19,20 +19,13 @@ use Rattle.clv_base.specs.Restarts.{pairs_of_listed, restored_pairs}
 use Rattle.clv_base.proofs.SameNames.{tx_true, tx_self}
 use Rattle.log_facts.proofs.Laws.Rising.{tx_total}
 use Rattle.txn_core.specs.Sound.{FewUndecided}
-use Rattle.law_base.proofs.Names.{Rise as Rises, listed_have}
+use Rattle.law_base.proofs.Names.{Rise as Rises}
 use Rattle.law_base.proofs.Sets.{AllAbove as Above}
 use Rattle.law_base.proofs.Lists.{all_append, all_mono, filter-few as filter_shorter}
 use Rattle.law_base.proofs.Bools.{less_is}
+use Rattle.law_base.proofs.Logs.{of_listed, restored_have}
 
 -- ---- whose they are
-
-of_listed : (P : TxId → Type 0) (log : List LogRecord) (t : TxId) (o : Option (ℕ × List TxId)) → P t → AllByRecursion (λ p. P p.0) (pairs_of_listed log t o)
-of_listed P log t None h = tt
-of_listed P log t (Some p) h = listed_have P t (filter (λ q. not (committed_in log q)) p.1) h
-
-pub restored_have : (P : TxId → Type 0) (log : List LogRecord) (ts : List TxId) → AllByRecursion P ts → AllByRecursion (λ p. P p.0) (restored_pairs log ts)
-restored_have P log [] a = tt
-restored_have P log (t ∷ ts) a = all_append (λ p. P p.0) (pairs_of_listed log t (prepare_of log t)) (restored_pairs log ts) (of_listed P log t (prepare_of log t) a.0) (restored_have P log ts a.1)
 
 -- ---- what a PREPARE lists rises, and is not too long
 

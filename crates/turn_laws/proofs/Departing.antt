@@ -5,11 +5,10 @@ use Rattle.std.proofs.lemmas.Bool.{both_ways, ltb-true}
 use Rattle.clv_base.specs.declared.logs.LogRecord.{LogRecord}
 use Rattle.clv_base.specs.declared.events.Event.TheVariants.{FlushOut, FlushIn}
 use Rattle.clv_base.specs.declared.events.Outcome.{Outcome}
-use Rattle.clv_base.specs.declared.events.Outcome.TheVariants.{Out, Down}
+use Rattle.clv_base.specs.declared.events.Outcome.TheVariants.{Out}
 use Rattle.clv_base.specs.declared.events.Entry.{Entry}
 use Rattle.clv_base.specs.State.{Shard}
-use Rattle.clv_base.specs.Logs.{fitting}
-use Rattle.clv_base.specs.Events.{QuietBeforeWorn, Quiet, next_stamp, step, stamped, land, happen, happen_up, taken}
+use Rattle.clv_base.specs.Events.{Quiet, next_stamp, step, land, happen}
 use Rattle.log_gate.specs.View.{Only, OnlyOrMore}
 use Rattle.machine_calls.specs.declared.machine.StepError.{StepError}
 use Rattle.machine_calls.specs.declared.flights.Flight.{Flight}
@@ -28,13 +27,9 @@ use Rattle.turn_laws.proofs.Gating.{departing, turning, durable_stays, legal_cou
 use Rattle.turn_laws.proofs.Flying.{taker_append}
 use Rattle.turn_laws.proofs.Keeping.{notes_step, grows, holder_plain, holder_step}
 use Rattle.turn_laws.proofs.Holding.{up_none}
-use Rattle.law_base.proofs.Shards.{quiet_out}
+use Rattle.law_base.proofs.Shards.{up_or_down}
 
 -- ---- no quiet answer is Out
-
-up_or_down : (s : Shard) (stamp w : ℕ) (room : Bool) (n : ℕ) (b : Bool) → stamped stamp w FlushOut room (elim b [ true ↦ happen_up s FlushOut | false ↦ QuietBeforeWorn Down ]) ≡ Quiet (Out n) → ⊥
-up_or_down s stamp w room n true h = quiet_out s stamp w room n s.flight (fitting 1048576 (drop (taken s) s.local.log)) h
-up_or_down s stamp w room n false h = absurd cc
 
 quiet_is_not_out : (s : Shard) (clock w n : ℕ) → step s clock w FlushOut ≡ Quiet (Out n) → ⊥
 quiet_is_not_out s clock w n h = up_or_down s (next_stamp s clock FlushOut) w (nat_lt (next_stamp s clock FlushOut) (2 ^ 48)) n s.is_up h

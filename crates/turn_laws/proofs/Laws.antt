@@ -8,12 +8,12 @@ pub use Rattle.turn_laws.proofs.Beginning.{sound_opened}
 pub use Rattle.turn_laws.proofs.Calm.{does_calm, failed_append, does_fly, Calm}
 pub use Rattle.turn_laws.proofs.Departing.{sound_departs, Gone, gone, still_landable, sound_lands}
 pub use Rattle.turn_laws.proofs.Fetching.{down_failed, held_rests, gate_of_down, sound_fetched, down_disk}
-pub use Rattle.turn_laws.proofs.Flying.{flight_stays, taker_append}
+pub use Rattle.turn_laws.proofs.Flying.{flight_stays, taker_append, other_first}
 pub use Rattle.turn_laws.proofs.Freeing.{all_bear, nothing_happens}
 pub use Rattle.turn_laws.proofs.Gating.{legal_counted, legal_shard, legal_run, legal_early, gate_lands, gate_leaves, gate_home, gate_kept, departing, turning, durable_stays, landing, counted_same}
 pub use Rattle.turn_laws.proofs.Holding.{up_none, down_restarts}
-pub use Rattle.turn_laws.proofs.Keeping.{holder_more, holder_plain, notes_step, grows, sound_step}
-pub use Rattle.turn_laws.proofs.Leaving.{fits_leaves, none_stops, gate_at_home}
+pub use Rattle.turn_laws.proofs.Keeping.{holder_more, holder_plain, notes_step, grows, sound_step, holder_append}
+pub use Rattle.turn_laws.proofs.Leaving.{fits_leaves, none_stops, gate_at_home, whole}
 pub use Rattle.turn_laws.proofs.Legal.{entries_append, legal_land, legal_step, legal_fetched, legal_restart, land_makes, from_does, made_up}
 pub use Rattle.turn_laws.proofs.Marking.{entry_last, fetch_last, left_last}
 pub use Rattle.turn_laws.proofs.Pushing.{pushes, both_records}

@@ -22,7 +22,7 @@ at_least : (s : Shard) (f : Option ℕ) → Counted s → s.flight ≡ f → s.d
 at_least s None c e = omega arith
 at_least s (Some n) c e = (c.flying n e).0
 
-whole : (s : Shard) → Counted s → durable_records s ++ flying_records s ≡ log_left s true
+pub whole : (s : Shard) → Counted s → durable_records s ++ flying_records s ≡ log_left s true
 whole s c =
     let m = unwrap_or s.flight s.durable in
     ap (λ z. z ++ flying_records s) (sym (take-take s.durable m s.local.log (at_least s s.flight c refl))) ∙ take-append-drop s.durable (take m s.local.log)

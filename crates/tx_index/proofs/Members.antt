@@ -1,5 +1,5 @@
 -- Rising lists with the same members are the same, so an index that rises stands in its table's order.
-use Rattle.std.proofs.Common.{◌≡◌, ⊎_elim, Bool, true, false, cond, ◌||◌, List, [], ◌∷◌, Some, None, refl, sym, ap, subst, ◌∙◌}
+use Rattle.std.proofs.Common.{◌≡◌, ⊎_elim, Bool, true, false, cond, ◌||◌, List, [], ◌∷◌, Some, refl, sym, ap, subst, ◌∙◌}
 use Rattle.std.proofs.lemmas.Bool.{both_ways, or_cases, false_from_ne_true}
 use Rattle.std.specs.List.{AllByRecursion, filter}
 use Rattle.std.specs.List.Sorted.{IsStrictlySortedBy}
@@ -12,18 +12,11 @@ use Rattle.clv_base.specs.Orders.{Table, tx_cmp, tx_same, tx_get, tx_in}
 use Rattle.clv_base.proofs.SameNames.{or_left, tx_true, tx_self, tx_eq}
 use Rattle.law_base.proofs.Sets.{tx_total, AllAbove as Above}
 use Rattle.tx_index.specs.Index.{IsIndex, index_of, passes}
+use Rattle.law_base.proofs.Names.{above_all_in as above_in, above_out}
 
 -- who is below all of them is none of them, nor is one of them the lower
 not_same : (a b : TxId) → tx_cmp a b ≡ Less → tx_same b a ≡ false
 not_same a b l = false_from_ne_true _ (λ e. both_ways _ (ap is_eq l) (tx_eq a b (sym (tx_true b a e))))
-
-above_out : (t : TxId) (ts : List TxId) → Above t ts → tx_in t ts ≡ false
-above_out t [] a = refl
-above_out t (u ∷ us) a = ap (λ b. b || tx_in t us) (not_same t u a.0) ∙ above_out t us a.1
-
-above_in : (t u : TxId) (ts : List TxId) → Above t ts → tx_in u ts ≡ true → tx_cmp t u ≡ Less
-above_in t u [] a i = absurd (both_ways false refl i)
-above_in t u (x ∷ xs) a i = ⊎_elim (λ s. subst (λ z. tx_cmp t z ≡ Less) (tx_true x u s) a.0) (λ j. above_in t u xs a.1 j) (or_cases (tx_same x u) (tx_in u xs) i)
 
 abbrev Alike : List TxId → List TxId → Type 0
 Alike xs ys = (t : TxId) → tx_in t xs ≡ tx_in t ys
@@ -84,10 +77,6 @@ index_rises test (r ∷ rs) s = at (test r.1) (index_rises test rs s.1)
     at : (b : Bool) → IsStrictlySortedBy tx_cmp (index_of test rs) → IsStrictlySortedBy tx_cmp (keys_of (cond b (r ∷ kept test rs) (kept test rs)))
     at true more = (above_kept test r.0 rs s.0, more)
     at false more = more
-
-above_none : {V : Type 0} (t : TxId) (rows : Table V) → Above t (keys_of rows) → tx_get t rows ≡ None
-above_none t [] a = refl
-above_none t (r ∷ rs) a = ap (λ o. cond (is_eq o) (Some r.1) (tx_get t rs)) a.0 ∙ above_none t rs a.1
 
 pub index_has : {V : Type 0} (test : V → Bool) (rows : Table V) → IsStrictlySortedBy tx_cmp (keys_of rows) → IsIndex test rows (index_of test rows)
 unfolding IsStrictlySortedBy

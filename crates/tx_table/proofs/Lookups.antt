@@ -1,20 +1,17 @@
 -- Looking a transaction up is looking its key up.
-use Rattle.std.proofs.Common.{◌≡◌, ℕ, Bool, true, false, cond, ◌&&◌, ◌==◌, ◌<◌, nat_lt, List, [], ◌∷◌, Some, refl, ap, ◌∙◌, arith}
-use Rattle.std.proofs.lemmas.Bool.{ltb-true, ne_eqb}
+use Rattle.std.proofs.Common.{◌≡◌, Bool, true, false, cond, ◌&&◌, ◌==◌, ◌<◌, List, [], ◌∷◌, Some, refl, ap, ◌∙◌, arith}
 use Rattle.std.specs.Map.{lookup}
 use Rattle.std.specs.Ordering.{nat_cmp, is_eq}
 use Rattle.clv_base.specs.declared.names.TxId.{TxId}
 use Rattle.clv_base.specs.Orders.{tx_same, tx_get}
 use Rattle.tx_table.specs.declared.key.Key.{Key}
 use Rattle.tx_table.specs.Keys.{key_of, named, by_name}
-use Rattle.law_base.proofs.Bools.{eq_by, then_tied as then_eq}
+use Rattle.law_base.proofs.Bools.{then_tied as then_eq}
+use Rattle.law_base.proofs.Numbers.{cmp_eq}
 
 -- whether two keys are equal
 abbrev pub same_key : Key → Key → Bool
 same_key a b = (a.run == b.run) && ((a.session == b.session) && (a.serial == b.serial))
-
-cmp_eq : (a b : ℕ) → is_eq (nat_cmp a b) ≡ (a == b)
-cmp_eq a b = eq_by (nat_lt a b) (a == b) (λ e. let l : a < b = ltb-true a b e in ne_eqb a b (λ q. absurd (omega arith)))
 
 pub tx_same-key : (t : TxId) (k : Key) → tx_same t (named k) ≡ same_key (key_of t) k
 tx_same-key t k =

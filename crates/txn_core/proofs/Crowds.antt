@@ -16,12 +16,12 @@ use Rattle.clv_base.specs.OneShard.{add_pairs}
 use Rattle.clv_base.proofs.SameNames.{tx_true, tx_self}
 use Rattle.protocol_laws.specs.UndoLaws.{is_pair}
 use Rattle.law_base.proofs.Tables.{pair_in, in_pair, add_keeps, add_has, insert_from}
-use Rattle.violation_deps.proofs.Laws.{tx_in-insert, same_list}
-use Rattle.op_needs.proofs.Laws.{predecessors_rise, union_rises}
+use Rattle.violation_deps.proofs.Laws.{same_list}
+use Rattle.op_needs.proofs.Laws.{predecessors_rise, union_rises, in_union}
 use Rattle.txn_core.specs.Sound.{FewUndecided}
 use Rattle.txn_core.proofs.Counting.{count-fewer}
-use Rattle.law_base.proofs.Bools.{or_regroup as or_assoc, same_truth as same_bits}
-use Rattle.law_base.proofs.Names.{preds_insert, preds_without}
+use Rattle.law_base.proofs.Bools.{same_truth as same_bits}
+use Rattle.law_base.proofs.Names.{preds_without, preds_add}
 
 -- ---- a longer log
 
@@ -56,10 +56,6 @@ few_without set log pairs few t =
 
 -- ---- more pairs of one transaction
 
-preds_add : (x tx : TxId) (qs : List TxId) (pairs : List (TxId × TxId)) → tx_same x tx ≡ false → predecessors_of (add_pairs tx qs pairs) x ≡ predecessors_of pairs x
-preds_add x tx [] pairs other = refl
-preds_add x tx (q ∷ qs) pairs other = preds_add x tx qs (pair_insert (tx, q) pairs) other ∙ preds_insert x tx q pairs other
-
 -- its new pairs are with these alone
 from_these : (tx : TxId) (qs : List TxId) (pairs : List (TxId × TxId)) (p : TxId) → is_pair (add_pairs tx qs pairs) tx p ≡ true → (tx_in p qs || tx_in p (predecessors_of pairs tx)) ≡ true
 from_these tx [] pairs p e = pair_in pairs tx p e
@@ -70,10 +66,6 @@ from_these tx (q ∷ qs) pairs p e =
   where
     flip : (p q : TxId) → tx_same p q ≡ true → tx_same q p ≡ true
     flip p q s = ap (λ z. tx_same z p) (sym (tx_true p q s)) ∙ tx_self p
-
-in_union : (t : TxId) (xs ys : List TxId) → tx_in t (tx_union xs ys) ≡ (tx_in t xs || tx_in t ys)
-in_union t [] ys = refl
-in_union t (x ∷ xs) ys = tx_in-insert x t (tx_union xs ys) ∙ ap (λ b. tx_same x t || b) (in_union t xs ys) ∙ or_assoc (tx_same x t) (tx_in t xs) (tx_in t ys)
 
 preds_own : (tx : TxId) (qs : List TxId) (pairs : List (TxId × TxId)) → predecessors_of (add_pairs tx qs pairs) tx ≡ tx_union qs (predecessors_of pairs tx)
 preds_own tx qs pairs =

@@ -12,7 +12,6 @@ pub mod Undoable
 pub mod Settling
 pub mod Closed
 pub mod Joins
-mod Batches
 mod Crowds
 pub mod Totals
 pub mod Returning

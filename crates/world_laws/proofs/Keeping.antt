@@ -1,8 +1,6 @@
 -- What an event that isn't of a flush or a restart leaves of a shard.
-use Rattle.std.proofs.Common.{◌≡◌, refl, sym, ap, ◌∙◌, ℕ, ◌≤◌, true, false, Bool, List, length, take, nat_lt, Option, Some, None}
+use Rattle.std.proofs.Common.{◌≡◌, refl, sym, ap, ◌∙◌, ℕ, ◌≤◌, true, false, Bool, length, take, nat_lt, Option, Some, None}
 use Rattle.std.specs.Prelude.{◌^◌, unwrap_or}
-use Rattle.std.proofs.lemmas.List.{take-append-le}
-use Rattle.clv_base.specs.declared.logs.LogRecord.{LogRecord}
 use Rattle.clv_base.specs.declared.events.Event.{Event}
 use Rattle.clv_base.specs.declared.events.Event.TheVariants.{FlushOut}
 use Rattle.clv_base.specs.declared.events.Outcome.{Outcome}
@@ -15,6 +13,7 @@ use Rattle.history_cases.proofs.Stepping.{Step, op_dies, op_answers, request_ref
 use Rattle.history_cases.proofs.Durability.{framed_finish, happens_steps}
 use Rattle.world_laws.specs.Fronts.{FrontsFit}
 use Rattle.law_base.proofs.Shards.{same_after, same_outcome}
+use Rattle.turn_laws.proofs.Calm.{take_grown}
 
 -- an answer with a stamp that is an entry's
 pub record Stamped (stamp w : ℕ) (e : Event) (r : Reply) (o : Outcome) (t : Shard) : Type 0 where
@@ -90,9 +89,6 @@ step_keeps s clock w e o t h f =
         grown = (g.0, g.1 ∙ ap (λ u. u.local.log) (sym x.is));
       };
     }
-
-pub take_grown : (m n : ℕ) (xs ys : List LogRecord) → m ≤ length xs → n ≡ m → IsPrefixOf xs ys → take n ys ≡ take m xs
-take_grown m n xs ys l same p = ap (λ k. take k ys) same ∙ ap (take m) (sym p.1) ∙ take-append-le m xs p.0 l
 
 -- what a crash leaves of the log stays
 pub left_same : (s t : Shard) (kept : Bool) → FrontsFit s → Keeps s t → log_left t kept ≡ log_left s kept

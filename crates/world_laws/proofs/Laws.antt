@@ -7,7 +7,8 @@ pub use Rattle.journal_laws.proofs.Sending.{was_sent_before}
 pub use Rattle.world_laws.proofs.Steps.{refused_step, rival_step, idle_step, no_shard, taken_step, steady_step}
 pub use Rattle.journal_laws.proofs.Steadily.{empty_run, new_steady}
 pub use Rattle.world_laws.proofs.Beginning.{Stands, stands, lands_by}
-pub use Rattle.world_laws.proofs.Keeping.{Keeps, Stepped, step_keeps, take_grown, left_same}
+pub use Rattle.world_laws.proofs.Keeping.{Keeps, Stepped, step_keeps, left_same}
 pub use Rattle.world_laws.proofs.Worlds.{worlds_are_steady}
 pub use Rattle.world_laws.proofs.PromiseWorlds.{logs_stay_in_order, worlds_keep_promise}
 pub use Rattle.law_base.proofs.Shards.{same_outcome, same_after}
+pub use Rattle.turn_laws.proofs.Calm.{take_grown}

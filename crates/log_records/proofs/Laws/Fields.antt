@@ -5,7 +5,7 @@ use Rattle.std.specs.Int.{byte_at, bytes_low_first}
 use Rattle.std.proofs.Math.Nat.{div-div-eq-div-mul, pow-succ'}
 use Rattle.std.proofs.lemmas.Bool.{ltb-false, ltb-true, le-ltb, eqb-true}
 use Rattle.std.proofs.lemmas.Bool.Decides.{nat_tests}
-use Rattle.std.proofs.lemmas.List.{drop_at, take-append-drop, length-append, get_or-drop}
+use Rattle.std.proofs.lemmas.List.{drop_at, take-append-drop, length-append}
 use Rattle.std.proofs.lemmas.List.Concat.{flat_map-cons}
 use Rattle.byteorder.specs.Endian.{little_bytes, little_from, little_number}
 use Rattle.byteorder.specs.Numbers.{little_number-reads_back, little_from-cons, length-bytes_low_first}
@@ -13,10 +13,7 @@ use Rattle.clv_base.specs.declared.names.TxId.{TxId}
 use Rattle.clv_base.specs.FileRules.{tx_has_spelling, is_value, is_undo_next}
 use Rattle.log_records.specs.Reading.{◌>>=◌, number_at, transaction_at, optional_at, undo_next_at, each_at, several_at, unless_greatest}
 use Rattle.log_records.specs.Spelling.{number, transaction, optional, undo_next, several}
-use Rattle.law_base.proofs.Lists.{IsBytes}
-
-pub IsBytes-drop : (n : ℕ) (bytes : List ℕ) → IsBytes bytes → IsBytes (drop n bytes)
-IsBytes-drop n bytes h i = rw get_or-drop (h (n + i))
+use Rattle.law_base.proofs.Lists.{IsBytes, bytes_drop as IsBytes-drop}
 
 pub IsBytes-rest : (b : ℕ) (bytes : List ℕ) → IsBytes (b ∷ bytes) → IsBytes bytes
 IsBytes-rest b bytes h i = h (suc i)

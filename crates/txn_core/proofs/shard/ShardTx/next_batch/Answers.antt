@@ -1,8 +1,8 @@
 use Rattle.std.proofs.Common.{◌∙◌, ap, drop}
 use Rattle.clv_base.specs.Logs.{fitting}
 use Rattle.txn_core.specs.State.{TxState}
-use Rattle.txn_core.proofs.Batches.{fitting_same}
 use Rattle.txn_core.proofs.shard.ShardTx.next_batch.Goals as goal
+use Rattle.log_buffer.proofs.Laws.{fitting_by-fitting as fitting_same}
 
 pub returns-clause-count : goal.returns-clause-count
 returns-clause-count g c =

@@ -5,8 +5,8 @@ use Rattle.clv_base.specs.Logs.{record_size, fitting}
 use Rattle.clv_base.specs.State.{Local}
 use Rattle.log_buffer.specs.Buffers.{Buffer, next_count}
 use Rattle.txn_core.specs.State.{TxState}
-use Rattle.txn_core.proofs.Batches.{fitting_same}
 use Rattle.txn_core.proofs.shard.ShardTx.take_batch.Goals as goal
+use Rattle.log_buffer.proofs.Laws.{fitting_by-fitting as fitting_same}
 
 pub returns-clause-none : goal.returns-clause-none
 returns-clause-none g c =
