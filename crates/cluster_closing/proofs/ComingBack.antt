@@ -20,8 +20,8 @@ use Rattle.turn_laws.proofs.Laws.{fits_leaves, gate_at_home, down_failed}
 use Rattle.cluster_turns.specs.declared.shards.Shards.{Shards}
 use Rattle.cluster_turns.specs.declared.shards.Walker.{Walker}
 use Rattle.cluster_turns.specs.Walkers.{IsWalker}
-use Rattle.cluster_ends.specs.Landed.{HasLanded}
-use Rattle.cluster_ends.specs.declared.fetching.Fetched.{Fetched}
+use Rattle.cluster_closing.specs.Landed.{HasLanded}
+use Rattle.cluster_closing.specs.declared.fetching.Fetched.{Fetched}
 use Rattle.cluster_closing.specs.Ends.{shard_at, IsNotAmong, HasDisk, HaveDisks, EndsWith, its_gate, a_disk, HasNoGate}
 use Rattle.cluster_closing.specs.Closing.{lists, CountsBack, IsLeft, IsBack, Returned, CameFrom}
 use Rattle.law_base.proofs.Lists.{some_inside as inside, elem_at as some_elem}

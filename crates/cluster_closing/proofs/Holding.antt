@@ -21,21 +21,22 @@ use Rattle.turn_laws.specs.Notes.{noter, told, plain}
 use Rattle.turn_laws.specs.Homes.{holder_of}
 use Rattle.cluster_turns.specs.Turns.{Turned, EventTold, SettledTold}
 use Rattle.cluster_turns.specs.Walkers.{Walked, Looked, AreNewPasses}
-use Rattle.cluster_drain.specs.declared.flushing.Flushed.{Flushed}
-use Rattle.cluster_drain.specs.declared.flushing.FlushError.{FlushError}
-use Rattle.cluster_drain.specs.Flights.{LandTold}
-use Rattle.cluster_drain.specs.Told.{FlushTold, one_turn, two_turns}
-use Rattle.cluster_drain.specs.declared.carrying.Carry.{Carry}
-use Rattle.cluster_drain.specs.declared.carrying.CarryError.{CarryError}
-use Rattle.cluster_drain.specs.Carried.{BringTold, is_lost, is_brought, CarryTold, none_sent, one_sent}
-use Rattle.cluster_drain.specs.declared.tending.DrainError.{DrainError}
-use Rattle.cluster_drain.specs.Rounds.{Rounds, no_turn as no_round, flushes, carries, reminds, looks, Refused, no_flush, no_message, no_reminder, DrainTold}
-use Rattle.cluster_ends.specs.Landed.{EachPass}
-use Rattle.cluster_ends.proofs.Laws.{first_other, walked_each, new_pass, looked_each}
-use Rattle.cluster_ends.specs.declared.fetching.FetchError.{FetchError}
-use Rattle.cluster_ends.specs.declared.fetching.FetchError.TheVariants.{Up, Away}
-use Rattle.cluster_ends.specs.Held.{FetchTold}
-use Rattle.session_births.specs.Turns.{Turn, Took, no_turn, event_turn, flush_turns, horizon_look}
+use Rattle.cluster_turns.specs.declared.flushing.Flushed.{Flushed}
+use Rattle.cluster_turns.specs.declared.flushing.FlushError.{FlushError}
+use Rattle.cluster_turns.specs.Flights.{LandTold}
+use Rattle.cluster_turns.specs.Told.{FlushTold, one_turn, two_turns}
+use Rattle.cluster_turns.specs.declared.carrying.Carry.{Carry}
+use Rattle.cluster_turns.specs.declared.carrying.CarryError.{CarryError}
+use Rattle.cluster_turns.specs.Carried.{BringTold, is_lost, is_brought, CarryTold, none_sent, one_sent}
+use Rattle.cluster_turns.specs.declared.tending.DrainError.{DrainError}
+use Rattle.cluster_turns.specs.Rounds.{Rounds, no_turn as no_round, flushes, carries, reminds, looks, Refused, no_flush, no_message, no_reminder, DrainTold}
+use Rattle.cluster_closing.specs.Landed.{EachPass}
+use Rattle.turn_laws.proofs.Laws.{other_first as first_other}
+use Rattle.cluster_closing.proofs.Landing.{walked_each, new_pass, looked_each}
+use Rattle.cluster_closing.specs.declared.fetching.FetchError.{FetchError}
+use Rattle.cluster_closing.specs.declared.fetching.FetchError.TheVariants.{Up, Away}
+use Rattle.cluster_closing.specs.EndHeld.{FetchTold}
+use Rattle.cluster_turns.specs.CallTurns.{Turn, Took, no_turn, event_turn, flush_turns, horizon_look}
 use Rattle.cluster_closing.specs.Held.{AreMade, HasNoDisk, HoldsNoneBut, FetchedNone}
 use Rattle.cluster_closing.specs.Laws.{NewWalkersHoldNone, TurnsHoldNone, DrainsHoldNone, LooksHoldNone, NewWalkersFetchedNone, TurnsFetchNone, DrainsFetchNone, FetchesHoldOne, RefusedFetchesHoldNone}
 use Rattle.turn_laws.proofs.Laws.{holder_append}

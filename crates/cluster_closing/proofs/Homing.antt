@@ -17,13 +17,13 @@ use Rattle.turn_laws.specs.Homes.{holder_of, IsLegal}
 use Rattle.turn_laws.specs.Gates.{GateStands}
 use Rattle.turn_laws.proofs.Laws.{held_rests, gate_of_down}
 use Rattle.cluster_turns.specs.declared.shards.Walker.{Walker}
-use Rattle.cluster_ends.specs.Landed.{HasLanded}
-use Rattle.cluster_ends.proofs.Laws.{by_append}
-use Rattle.cluster_ends.specs.Ending.{ClosedAt, seen_of, own_notes, origin_of}
-use Rattle.cluster_ends.specs.Home.{IsThere}
-use Rattle.cluster_ends.proofs.Laws.{gates_come_home, Has, find, first_of, rest_none}
-use Rattle.cluster_ends.specs.declared.fetching.Fetched.{Fetched}
-use Rattle.cluster_ends.specs.Held.{Holds}
+use Rattle.cluster_closing.specs.Landed.{HasLanded}
+use Rattle.cluster_closing.proofs.Landing.{by_append}
+use Rattle.cluster_closing.specs.Ending.{ClosedAt, seen_of, own_notes, origin_of}
+use Rattle.cluster_closing.specs.Home.{IsThere}
+use Rattle.cluster_closing.proofs.EndHoming.{gates_come_home, Has, find, first_of, rest_none}
+use Rattle.cluster_closing.specs.declared.fetching.Fetched.{Fetched}
+use Rattle.cluster_closing.specs.EndHeld.{Holds}
 use Rattle.cluster_closing.specs.Held.{HoldsNone}
 use Rattle.cluster_closing.specs.Ends.{shard_at, IsAmong, IsNotAmong, HasDisk, HaveDisks, EndsWith, its_gate, a_disk, HasNoGate, DisksAreFound, NoDisksAreHeld, FetchedAreHeld}
 use Rattle.cluster_closing.proofs.Holding.{holder_split, others_hold}

@@ -15,8 +15,8 @@ use Rattle.turn_laws.specs.declared.notes.Origin.{Origin}
 use Rattle.turn_laws.specs.Notes.{noter, told}
 use Rattle.turn_laws.specs.Homes.{start, IsLegal}
 use Rattle.cluster_turns.specs.declared.shards.Walker.{Walker}
-use Rattle.cluster_ends.specs.Ending.{ClosedAt, HasPassAt, own_notes}
-use Rattle.cluster_ends.proofs.Laws.{Has, find, first_of}
+use Rattle.cluster_closing.specs.Ending.{ClosedAt, HasPassAt, own_notes}
+use Rattle.cluster_closing.proofs.EndHoming.{Has, find, first_of}
 use Rattle.cluster_closing.specs.Held.{AreMade, FetchedNone, never_restarts}
 use Rattle.cluster_closing.specs.Ends.{UnfetchedNeverRestart}
 

@@ -19,10 +19,10 @@ use Rattle.turn_laws.specs.Homes.{holder_of, IsLegal}
 use Rattle.turn_laws.proofs.Laws.{held_rests, made_up}
 use Rattle.cluster_turns.specs.Turns.{Turned, EventTold}
 use Rattle.cluster_turns.specs.Walkers.{Walked, Looked}
-use Rattle.cluster_drain.specs.Flights.{LandTold, landed_as}
-use Rattle.cluster_ends.proofs.Laws.{inside, some_inj}
-use Rattle.cluster_ends.specs.Held.{Holds, HoldsAt, IsDiskOf}
-use Rattle.session_births.specs.Turns.{Turn, Took, no_turn, event_turn, flush_turns, horizon_look}
+use Rattle.cluster_turns.specs.Flights.{LandTold, landed_as}
+use Rattle.cluster_closing.proofs.Landing.{inside, some_inj}
+use Rattle.cluster_closing.specs.EndHeld.{Holds, HoldsAt, IsDiskOf}
+use Rattle.cluster_turns.specs.CallTurns.{Turn, Took, no_turn, event_turn, flush_turns, horizon_look}
 use Rattle.cluster_closing.specs.Laws.{HeldDisksStay}
 use Rattle.law_base.proofs.Shards.{not_down}
 

@@ -9,7 +9,7 @@ use Rattle.disk_model.specs.Disk.{Rose, Adds}
 use Rattle.clv_base.specs.Journals.{MayLeave}
 use Rattle.log_gate.specs.View.{Only, OnlyOrMore, logs_told}
 use Rattle.turn_laws.specs.Homes.{has_failed}
-use Rattle.cluster_ends.specs.declared.fetching.Fetched.{Fetched}
+use Rattle.cluster_closing.specs.declared.fetching.Fetched.{Fetched}
 use Rattle.cluster_closing.specs.Ends.{IsNotAmong}
 use Rattle.turn_laws.specs.Gates.{durable_records, flying_records}
 

@@ -12,11 +12,11 @@ use Rattle.turn_laws.specs.declared.notes.Origin.{Origin}
 use Rattle.turn_laws.specs.Homes.{holder_of, IsLegal}
 use Rattle.turn_laws.specs.Gates.{GateStands}
 use Rattle.cluster_turns.specs.declared.shards.Walker.{Walker}
-use Rattle.cluster_ends.specs.Landed.{EachPass, HasLanded}
-use Rattle.cluster_ends.specs.Ending.{ClosedAt, HasPassAt}
-use Rattle.cluster_ends.specs.Home.{IsThere}
-use Rattle.cluster_ends.specs.declared.fetching.Fetched.{Fetched}
-use Rattle.cluster_ends.specs.Held.{HoldsAt, DiskTaken}
+use Rattle.cluster_closing.specs.Landed.{EachPass, HasLanded}
+use Rattle.cluster_closing.specs.Ending.{ClosedAt, HasPassAt}
+use Rattle.cluster_closing.specs.Home.{IsThere}
+use Rattle.cluster_closing.specs.declared.fetching.Fetched.{Fetched}
+use Rattle.cluster_closing.specs.EndHeld.{HoldsAt, DiskTaken}
 use Rattle.cluster_closing.specs.Held.{HoldsNone, FetchedNone, never_restarts}
 
 module _ {D : Type 0} where

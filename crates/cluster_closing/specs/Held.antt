@@ -9,7 +9,7 @@ use Rattle.turn_laws.specs.declared.notes.Note.{Note}
 use Rattle.turn_laws.specs.declared.notes.Note.TheVariants.{Made, Fetched}
 use Rattle.turn_laws.specs.declared.notes.Origin.{Origin}
 use Rattle.turn_laws.specs.Homes.{holder_of}
-use Rattle.cluster_ends.specs.Landed.{EachPass}
+use Rattle.cluster_closing.specs.Landed.{EachPass}
 
 -- none of the notes says that a disk was taken
 abbrev pub AreMade : List Note → Type 0

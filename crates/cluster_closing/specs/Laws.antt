@@ -7,12 +7,12 @@ use Rattle.turn_laws.specs.declared.notes.Note.{Note}
 use Rattle.turn_laws.specs.declared.notes.Origin.{Origin}
 use Rattle.cluster_turns.specs.Turns.{SettledTold}
 use Rattle.cluster_turns.specs.Walkers.{Walked, AreNewPasses}
-use Rattle.cluster_drain.specs.declared.tending.DrainError.{DrainError}
-use Rattle.cluster_drain.specs.Rounds.{DrainTold}
-use Rattle.cluster_ends.specs.declared.fetching.FetchError.{FetchError}
-use Rattle.cluster_ends.specs.declared.fetching.Fetched.{Fetched}
-use Rattle.cluster_ends.specs.Held.{FetchTold, HoldsAt, IsDiskOf}
-use Rattle.session_births.specs.Turns.{Turn, Took}
+use Rattle.cluster_turns.specs.declared.tending.DrainError.{DrainError}
+use Rattle.cluster_turns.specs.Rounds.{DrainTold}
+use Rattle.cluster_closing.specs.declared.fetching.FetchError.{FetchError}
+use Rattle.cluster_closing.specs.declared.fetching.Fetched.{Fetched}
+use Rattle.cluster_closing.specs.EndHeld.{FetchTold, HoldsAt, IsDiskOf}
+use Rattle.cluster_turns.specs.CallTurns.{Turn, Took}
 use Rattle.cluster_closing.specs.Held.{HoldsNone, HoldsNoneBut, FetchedNone}
 
 module _ (T : Type 0) where

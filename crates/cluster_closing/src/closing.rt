@@ -11,18 +11,18 @@ ghost use Rattle.turn_lock.specs.Passes.{passes_of};
 ghost use Rattle.turn_laws.specs.Notes.{notes_of};
 ghost use Rattle.turn_laws.specs.Homes.{never_stops, IsLegal};
 ghost use Rattle.cluster_turns.specs.Walkers.{IsWalker, founds_of};
-ghost use Rattle.cluster_ends.specs.Landed.{HasLanded};
+ghost use Rattle.cluster_closing.specs.Landed.{HasLanded};
 ghost use Rattle.cluster_closing.specs.Held.{FetchedNone, never_restarts};
 ghost use Rattle.cluster_closing.specs.Ends.{HaveDisks};
-ghost use Rattle.cluster_ends.specs.Ending.{ClosedAt};
-ghost use Rattle.cluster_ends.specs.Legal.{AreShards, state_at, views_of};
-ghost use Rattle.cluster_ends.specs.Room.{HasRoom};
+ghost use Rattle.cluster_closing.specs.Ending.{ClosedAt};
+ghost use Rattle.cluster_closing.specs.Legal.{AreShards, state_at, views_of};
+ghost use Rattle.cluster_closing.specs.Room.{HasRoom};
 ghost use Rattle.cluster_closing.specs.Closing.{IsBack, IsLowestDown, lists};
 
 use crate::leaving::Closed;
 use crate::parting::{Lists, lowest_down, part_all};
 use crate::returning::give_back_held;
-use cluster_ends::{Fetched, Room};
+use crate::{Fetched, Room};
 use cluster_turns::{Shards, Walker};
 use disk_model::House;
 use machine_calls::{Machine, OverDisks};
@@ -75,7 +75,7 @@ pub fn close<H: House, M: OverDisks<H::Disk>>(
         maps,
     } = room;
     let room = Lists { journals, maps };
-    let homes = cluster_ends::close(shards, walkers, passes, homes);
+    let homes = crate::lock_ends::close(shards, walkers, passes, homes);
     let ends = Snapshot::of(&homes);
     let down = lowest_down(homes.as_slice());
     let Lists { journals, maps } = part_all::<H, M>(house, homes, room);

@@ -3,7 +3,7 @@ ghost use Rattle.std.specs.Prelude.{◌≡◌, ◌<◌, ◌≢◌, ℕ, true, ve
 ghost use Rattle.cluster_closing.specs.Ends.{shard_at, IsNotAmong};
 ghost use Rattle.cluster_closing.specs.Closing.{Returned};
 
-use cluster_ends::Fetched;
+use crate::Fetched;
 use disk_model::House;
 
 // Gives the disks back that were fetched, each of another shard.

@@ -4,10 +4,10 @@ use Rattle.cluster_turns.specs.declared.home.Home.{Home}
 use Rattle.cluster_turns.specs.declared.shards.Shards.{Shards}
 use Rattle.cluster_turns.specs.declared.shards.Walker.{Walker}
 use Rattle.cluster_turns.specs.Walkers.{IsWalker, IsSameWalker}
-use Rattle.cluster_drain.specs.declared.tending.DrainError.{DrainError}
-use Rattle.cluster_drain.specs.Rounds.{DrainTold}
-use Rattle.cluster_ends.specs.Landed.{HasLanded}
-use Rattle.cluster_ends.specs.Laws.{DrainsLand}
+use Rattle.cluster_turns.specs.declared.tending.DrainError.{DrainError}
+use Rattle.cluster_turns.specs.Rounds.{DrainTold}
+use Rattle.cluster_closing.specs.Landed.{HasLanded}
+use Rattle.cluster_closing.specs.EndLaws.{DrainsLand}
 use Rattle.cluster_closing.specs.Held.{HoldsNone}
 use Rattle.cluster_closing.specs.Laws.{DrainsHoldNone, DrainsFetchNone}
 use Rattle.session_scripts.specs.Standing.{IsAtRest}

@@ -4,3 +4,11 @@ mod Gone
 mod Sending
 mod Sitting
 mod Steps
+pub mod Ending
+pub mod Holding
+pub mod Cutting
+pub mod Dealing
+pub mod Finding
+pub mod Taking
+pub mod Undoing
+pub mod Laws

@@ -27,9 +27,9 @@ use Rattle.run_promises.specs.Histories.{entries}
 use Rattle.run_status.specs.declared.status.Status.{Status}
 use Rattle.run_status.specs.declared.status.Status.TheVariants.{Fine, Usage, Script, ReadFault, WriteFault, DiskFault, NotLog, Memory, Worn, Exists, Apart}
 use Rattle.run_status.specs.Running.{End, status_by}
-use Rattle.run_ends.specs.Ends.{walked_by, IsClosedRun}
-use Rattle.run_ends.specs.Statuses.{StatusTold, FlushesTold}
-use Rattle.run_ends.proofs.Laws.{others_stand, runs_keep, sessions_have_gone, statuses_tell, flushes_tell, downs_tell}
+use Rattle.cluster_runs.specs.Ends.{walked_by, IsClosedRun}
+use Rattle.cluster_runs.specs.Statuses.{StatusTold, FlushesTold}
+use Rattle.cluster_runs.proofs.Ending.{others_stand, runs_keep, sessions_have_gone, statuses_tell, flushes_tell, downs_tell}
 use Rattle.cluster_runs.specs.Sessions.{HasGrounds, SessionsGone, HasWornLast}
 use Rattle.cluster_runs.specs.Ran.{AllEnded, StopTold, RanAll}
 use Rattle.law_base.proofs.Lists.{elem_at as some_elem}

@@ -15,7 +15,7 @@ use Rattle.script_runs.specs.declared.ends.StopCause.TheVariants.{Down, Unsettle
 use Rattle.run_promises.specs.Completing.{IsWanted, SessionEnded}
 use Rattle.run_promises.specs.Promises.{RunPromised}
 use Rattle.run_promises.specs.Sessions.{Went, Begun}
-use Rattle.run_ends.specs.Statuses.{StatusTold, FlushesTold}
+use Rattle.cluster_runs.specs.Statuses.{StatusTold, FlushesTold}
 
 -- where all was fine, and at least one try is wanted, each transaction of each session has ended
 abbrev pub AllEnded : List ℕ → Option ℕ → List (List Body) → Kept → Status → Type 0

@@ -3,14 +3,13 @@ ghost use Rattle.std.specs.Prelude.{◌≡◌, ◌<◌, ℕ, true, length, slice
 ghost use Rattle.std.specs.List.{All};
 ghost use Rattle.turn_lock.specs.Passes.{passes_of};
 ghost use Rattle.cluster_turns.specs.Walkers.{founds_of};
-ghost use Rattle.cluster_ends.specs.Legal.{AreShards};
-ghost use Rattle.cluster_ends.specs.Room.{HasRoom};
+ghost use Rattle.cluster_closing.specs.Legal.{AreShards};
+ghost use Rattle.cluster_closing.specs.Room.{HasRoom};
 ghost use Rattle.cluster_closing.specs.Closing.{lists};
 ghost use Rattle.session_scripts.specs.Standing.{IsAtRest};
-ghost use Rattle.run_ends.specs.Ends.{IsClosed};
+ghost use Rattle.cluster_runs.specs.Ends.{IsClosed};
 
-use cluster_closing::{Closed, close};
-use cluster_ends::Room;
+use cluster_closing::{Closed, Room, close};
 use cluster_turns::{Shards, Walker};
 use disk_model::House;
 use machine_calls::OverDisks;

@@ -4,10 +4,9 @@ ghost use Rattle.script_runs.specs.declared.ends.StopCause.TheVariants.{Worn};
 ghost use Rattle.session_scripts.specs.Standing.{IsAtRest};
 ghost use Rattle.cluster_runs.specs.Sessions.{HasWornLast};
 
+use cluster_closing::end_promises::drains_land;
 use cluster_closing::promises::{drains_fetch_none, drains_hold_none};
-use cluster_drain::{DrainError, drain};
-use cluster_ends::promises::drains_land;
-use cluster_turns::{Home, Shards, Walker};
+use cluster_turns::{DrainError, Home, Shards, Walker, drain};
 use io_edge::Pace;
 use machine_calls::Flier;
 use script_runs::StopCause;

@@ -4,13 +4,12 @@ ghost use Rattle.std.specs.List.{list_all};
 ghost use Rattle.clv_base.specs.Logs.{stands};
 ghost use Rattle.script_lang.specs.Laws.{is_narrow_body};
 ghost use Rattle.disks_opening.specs.Opening.{Refuses, CountsOpen};
-ghost use Rattle.cluster_beginning.specs.Begun.{LeavesDisks};
+ghost use Rattle.cluster_runs.specs.Begun.{LeavesDisks};
 ghost use Rattle.cluster_runs.specs.Ran.{RanAll};
 
 use crate::closing::close_run;
 use crate::ran::Ran;
-use crate::run_over;
-use cluster_beginning::{Opened, open_all};
+use crate::{Opened, open_all, run_over};
 use cluster_closing::Closed;
 use disk_model::House;
 use disks_opening::OpenError;

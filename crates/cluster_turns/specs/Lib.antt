@@ -1,2 +1,15 @@
 pub mod Turns
 pub mod Walkers
+pub mod Rounds
+pub mod Flights
+pub mod Told
+pub mod Carried
+pub mod Reminded
+pub mod Births
+pub mod Unborn
+pub mod CallTurns
+pub mod Answers
+pub mod WalkerLaws
+pub mod Stages
+pub mod States
+pub mod Laws

@@ -5,7 +5,7 @@ use Rattle.std.proofs.lemmas.Bool.{and_parts, leb-true}
 use Rattle.std.proofs.lemmas.Bool.{cases_lt}
 use Rattle.clv_base.specs.Shards.{shard_count, are_splits, not_rising}
 use Rattle.disk_model.specs.Story.{Story}
-use Rattle.cluster_beginning.specs.Begun.{LeavesDisks}
+use Rattle.cluster_runs.specs.Begun.{LeavesDisks}
 use Rattle.cluster_runs.specs.Ran.{RanAll}
 use Rattle.disks_opening.specs.Opening.{Refuses, CountsOpen}
 use Rattle.disks_opening.specs.declared.error.OpenError.{OpenError}
@@ -13,7 +13,7 @@ use Rattle.disks_opening.specs.declared.error.OpenError.TheVariants as opening
 use Rattle.history_replay.specs.Entries.{Kept}
 use Rattle.report_text.specs.declared.texts.ReportError.{ReportError}
 use Rattle.report_text.specs.declared.texts.ReportError.TheVariants as text
-use Rattle.run_ends.specs.Statuses.{StatusTold}
+use Rattle.cluster_runs.specs.Statuses.{StatusTold}
 use Rattle.run_status.specs.Refusals.{of_opening}
 use Rattle.run_status.specs.Running.{with_text}
 use Rattle.run_promises.specs.Sessions.{Went}

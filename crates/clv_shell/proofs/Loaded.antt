@@ -5,7 +5,7 @@ use Rattle.disk_model.specs.Story.{Story}
 use Rattle.cluster_runs.specs.Ran.{RanAll}
 use Rattle.history_replay.specs.Entries.{Kept}
 use Rattle.run_promises.specs.Replays.{RunsReplay}
-use Rattle.run_ends.specs.Statuses.{StatusTold}
+use Rattle.cluster_runs.specs.Statuses.{StatusTold}
 use Rattle.run_status.specs.declared.status.Status.{Status}
 use Rattle.script_lang.specs.Bodies.{Body}
 use Rattle.clv_shell.specs.Runs.{EndsAs, HasLoaded}

@@ -3,7 +3,7 @@ use Rattle.std.proofs.Common.{◌≡◌, refl, sym, subst, inr, ℕ, List, Optio
 use Rattle.disk_model.specs.Story.{Story}
 use Rattle.disk_model.specs.Disk.{Tells}
 use Rattle.log_gate.specs.Opening.{IsUnchanged}
-use Rattle.cluster_beginning.specs.Begun.{AreUnchanged, before}
+use Rattle.cluster_runs.specs.Begun.{AreUnchanged, before}
 use Rattle.command_words.specs.Commands.{IsCommand}
 use Rattle.command_words.specs.declared.commands.Command.{Command}
 use Rattle.command_words.specs.declared.commands.Command.TheVariants.{Make, Run, Show, Load}

@@ -3,7 +3,7 @@ use Rattle.std.specs.Prelude.{◌≡◌, ℕ, ◌<◌, ◌≤◌, List, Option, 
 use Rattle.clv_base.specs.Shards.{shard_count}
 use Rattle.disk_model.specs.Story.{Story}
 use Rattle.disk_model.specs.Disk.{Tells}
-use Rattle.cluster_beginning.specs.Begun.{AreUnchanged, MayBeLeft}
+use Rattle.cluster_runs.specs.Begun.{AreUnchanged, MayBeLeft}
 use Rattle.command_words.specs.declared.commands.Command.{Command}
 use Rattle.command_words.specs.declared.commands.Command.TheVariants.{Make, Run, Show, Load}
 use Rattle.disks_opening.specs.Making.{IsMade, Spares}

@@ -27,16 +27,16 @@ use Rattle.session_laws.specs.Places.{transactions_of, StandsBefore}
 use Rattle.session_laws.proofs.Placing.{placed_before}
 use Rattle.fall_laws.specs.Leading.{deeds_before, requests_of}
 use Rattle.fall_laws.proofs.Doubted.{asked_are_old}
-use Rattle.many_shards_laws.specs.Shares.{LiesIn}
-use Rattle.many_shards_laws.proofs.Spans.{one_shard, between}
-use Rattle.many_shards_laws.proofs.Members.{chosen, chosen_are_members}
-use Rattle.many_shards_laws.proofs.Replaying.{inside}
+use Rattle.headline_laws.specs.Shares.{LiesIn}
+use Rattle.headline_laws.proofs.Spans.{one_shard, between}
+use Rattle.headline_laws.proofs.Members.{chosen, chosen_are_members}
+use Rattle.headline_laws.proofs.Replaying.{inside}
 use Rattle.crash_laws.specs.Acts.{Act, Meet, member_acts, MeetingsFollowPlaces}
 use Rattle.crash_laws.proofs.Lists.{later_told, later_by_shard}
 use Rattle.crash_laws.proofs.Telling.{told}
 use Rattle.crash_laws.proofs.Shards.{IsFine, members_are_fine, chosen_member, deeds_run, chosen_acts, acted}
 use Rattle.law_base.proofs.Names.{written_at}
-use Rattle.many_shards_laws.proofs.Recovering.{stands_later}
+use Rattle.headline_laws.proofs.Recovering.{stands_later}
 
 -- ---- what is written at a key
 

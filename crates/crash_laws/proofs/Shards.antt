@@ -30,9 +30,9 @@ use Rattle.fate_laws.proofs.Deciding.{commits_are_members}
 use Rattle.history_laws.proofs.Doubts.{doubted_is_old}
 use Rattle.history_laws.proofs.Offers.{OffersBy, Offers, offered}
 use Rattle.fall_laws.specs.Leading.{deeds_before, with_found, requests_of}
-use Rattle.many_shards_laws.specs.Shares.{LiesIn, share_of}
-use Rattle.many_shards_laws.proofs.Members.{chosen, Chosen, of_chosen, is_chosen}
-use Rattle.many_shards_laws.proofs.Replaying.{leads, fronts, left_is, may_choose, writers_chosen}
+use Rattle.headline_laws.specs.Shares.{LiesIn, share_of}
+use Rattle.headline_laws.proofs.Members.{chosen, Chosen, of_chosen, is_chosen}
+use Rattle.headline_laws.proofs.Replaying.{leads, fronts, left_is, may_choose, writers_chosen}
 use Rattle.headline_laws.proofs.Found.{members_are_found}
 use Rattle.crash_laws.specs.Acts.{Act, act_of, with_act, acts, member_acts}
 use Rattle.crash_laws.proofs.Lists.{filter_map_is, filter_where, all_of_map}

@@ -20,7 +20,7 @@ use Rattle.law_base.specs.Items.{AllLater}
 use Rattle.history_laws.specs.Continuing.{serial_left}
 use Rattle.session_laws.specs.Places.{transactions_of, StandsBefore}
 use Rattle.fate_laws.specs.Members.{is_member}
-use Rattle.many_shards_laws.specs.Shares.{ShardOp}
+use Rattle.headline_laws.specs.Shares.{ShardOp}
 
 -- an operation that a shard answered, and whose it is
 pub record Act : Type 0 where

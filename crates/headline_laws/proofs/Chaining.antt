@@ -3,7 +3,7 @@ use Rattle.std.proofs.Common.{◌≡◌, sym, subst, ◌∙◌, List}
 use Rattle.clv_base.specs.Maps.{replay_map, replay_answers}
 use Rattle.clv_base.specs.Logs.{stands}
 use Rattle.clv_base.specs.History.{Member, serial_ops, serial_answers}
-use Rattle.reopening_laws.proofs.Ends.{logs_at_the_end_are_what_is_left}
+use Rattle.headline_laws.proofs.Ends.{logs_at_the_end_are_what_is_left}
 use Rattle.headline_laws.specs.Chaining.{MembersReplayToTheEnd}
 use Rattle.headline_laws.proofs.Found.{members_replay}
 

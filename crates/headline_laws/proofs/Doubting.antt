@@ -34,11 +34,11 @@ use Rattle.fate_laws.proofs.Bindings.{Bindings, bindings_front}
 use Rattle.fate_laws.proofs.Casting.{casts_front}
 use Rattle.fate_laws.proofs.Prefixes.{one_home}
 use Rattle.fate_laws.proofs.Prepares.{prepare_more, front_prepare}
-use Rattle.acknowledged_laws.proofs.Going.{aborted_take}
-use Rattle.acknowledged_laws.proofs.Sparing.{bound_unaborted}
-use Rattle.many_shards_laws.specs.Replaying.{IsHere}
-use Rattle.many_shards_laws.proofs.Homes.{doubted}
-use Rattle.many_shards_laws.proofs.Shares.{at_somewhere}
+use Rattle.headline_laws.proofs.Going.{aborted_take}
+use Rattle.headline_laws.proofs.Sparing.{bound_unaborted}
+use Rattle.headline_laws.specs.ReplayingHere.{IsHere}
+use Rattle.headline_laws.proofs.Homes.{doubted}
+use Rattle.headline_laws.proofs.Shares.{at_somewhere}
 use Rattle.protocol_laws.proofs.Records.{prepared_there}
 
 module _ (splits : List ℕ) (before : List (List LogRecord)) (h : History) (after : List (List LogRecord)) (choice : ℕ → Bool) (o : may_open splits before ≡ true) (l : Legal splits before h after) (n : ℕ) (i : n < shard_count splits)

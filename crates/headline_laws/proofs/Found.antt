@@ -21,13 +21,13 @@ use Rattle.history_cases.proofs.Merging.{is_among, among_is}
 use Rattle.history_laws.proofs.Staying.{is_request}
 use Rattle.history_cases.proofs.Worlds.{in_a_shard}
 use Rattle.fate_laws.specs.Decisions.{is_left}
-use Rattle.acknowledged_laws.proofs.Voting.{members_are_voted_for}
-use Rattle.many_shards_laws.specs.Replaying.{IsHere}
-use Rattle.many_shards_laws.proofs.Members.{asks}
-use Rattle.many_shards_laws.proofs.Replaying.{members_replay_where_here}
+use Rattle.headline_laws.proofs.Voting.{members_are_voted_for}
+use Rattle.headline_laws.specs.ReplayingHere.{IsHere}
+use Rattle.headline_laws.proofs.Members.{asks}
+use Rattle.headline_laws.proofs.Replaying.{members_replay_where_here}
 use Rattle.headline_laws.specs.Found.{MembersAreFound, MembersReplay}
-use Rattle.acknowledged_laws.specs.Acknowledged.{OnlyRead}
-use Rattle.acknowledged_laws.proofs.Standing.{acknowledged_stand}
+use Rattle.headline_laws.specs.Acknowledged.{OnlyRead}
+use Rattle.headline_laws.proofs.MembersStanding.{acknowledged_stand}
 use Rattle.headline_laws.proofs.Passing.{reader_passes, home_passes, unnamed_passes}
 use Rattle.headline_laws.proofs.Doubting.{yes_is_here}
 use Rattle.fall_laws.proofs.Here.{in_others}

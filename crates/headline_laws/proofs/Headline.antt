@@ -1,9 +1,9 @@
 -- Predecessors of members, and settled histories, with no premise on where members are.
 use Rattle.std.proofs.Common.{sym, subst, [], append-nil}
 use Rattle.clv_base.specs.History.{Legal}
-use Rattle.acknowledged_laws.proofs.Readers.{readers_pass}
-use Rattle.many_shards_laws.proofs.Recovering.{predecessors_stand_before_where_here}
-use Rattle.many_shards_laws.proofs.Settling.{settled_is_the_map_where_readers_wrote_nothing}
+use Rattle.headline_laws.proofs.Readers.{readers_pass}
+use Rattle.headline_laws.proofs.Recovering.{predecessors_stand_before_where_here}
+use Rattle.headline_laws.proofs.Settling.{settled_is_the_map_where_readers_wrote_nothing}
 use Rattle.headline_laws.specs.Recovering.{PredecessorsStandBefore}
 use Rattle.headline_laws.specs.Settling.{SettledIsTheMap}
 use Rattle.headline_laws.proofs.Found.{members_are_found}

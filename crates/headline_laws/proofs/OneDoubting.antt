@@ -10,7 +10,7 @@ use Rattle.clv_base.specs.Logs.{in_doubt, in_doubt_from, doubt_by, committed_in,
 use Rattle.clv_base.specs.LogRules.{log_of, disorder, all_logs_from, apart}
 use Rattle.clv_base.specs.FileRules.{passes_file_rules, log_passes, may_open}
 use Rattle.clv_base.specs.History.{logs_left}
-use Rattle.reopening_laws.proofs.Reopening.{logs_left_may_be_opened}
+use Rattle.headline_laws.proofs.Reopening.{logs_left_may_be_opened}
 use Rattle.headline_laws.specs.Doubting.{NothingInDoubt}
 
 no_doubt : (log rs : List LogRecord) (so_far : List TxId) → list_all (passes_file_rules [] 0) rs ≡ true → in_doubt_from log 0 rs so_far ≡ so_far

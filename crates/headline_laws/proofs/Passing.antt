@@ -37,10 +37,10 @@ use Rattle.fall_laws.proofs.Fallen.{fell_is}
 use Rattle.fall_laws.proofs.Leading.{at_front, each_shard_leads, restored_front}
 use Rattle.fall_laws.proofs.Records.{wrote_from}
 use Rattle.fall_laws.proofs.Remembering.{part_did, none_present}
-use Rattle.acknowledged_laws.proofs.Readers.{readers_pass}
-use Rattle.acknowledged_laws.proofs.Readers.{readers_never_fell}
-use Rattle.acknowledged_laws.specs.Acknowledged.{OnlyRead}
-use Rattle.acknowledged_laws.proofs.Naming.{names_shard}
+use Rattle.headline_laws.proofs.Readers.{readers_pass}
+use Rattle.headline_laws.proofs.Readers.{readers_never_fell}
+use Rattle.headline_laws.specs.Acknowledged.{OnlyRead}
+use Rattle.headline_laws.proofs.Naming.{names_shard}
 
 module _ (splits : List ℕ) (before : List (List LogRecord)) (h : History) (after : List (List LogRecord)) (o : may_open splits before ≡ true) (l : Legal splits before h after) (n : ℕ) (i : n < shard_count splits)
     (t : TxId) (home : ℕ) (e : Entry) (touched : List (ℕ × ℕ)) (a : IsAmong home e h) (ev : e.event ≡ RequestEvent t touched) (out : e.outcome ≡ Asked) where

@@ -3,9 +3,9 @@ use Rattle.history_laws.proofs.Staying.{never_taken_back}
 use Rattle.history_laws.proofs.InTurn.{sessions_keep_their_order, outcomes_are_one}
 use Rattle.cause_laws.proofs.Telling.{causes_stand}
 use Rattle.origin_laws.proofs.Waiting.{waits_go_down, waits_have_no_cycle}
-use Rattle.acknowledged_laws.proofs.Standing.{acknowledged_are_members}
-use Rattle.reopening_laws.proofs.Reopening.{logs_left_may_be_opened}
-use Rattle.reopening_laws.proofs.Ends.{logs_at_the_end_may_be_opened}
+use Rattle.headline_laws.proofs.MembersStanding.{acknowledged_are_members}
+use Rattle.headline_laws.proofs.Reopening.{logs_left_may_be_opened}
+use Rattle.headline_laws.proofs.Ends.{logs_at_the_end_may_be_opened}
 use Rattle.headline_laws.specs.Promise.{Promise}
 use Rattle.headline_laws.proofs.Found.{members_replay}
 use Rattle.headline_laws.proofs.Headline.{predecessors_stand_before, settled_is_the_map}

@@ -10,7 +10,7 @@ use Rattle.clv_base.specs.Journals.{History}
 use Rattle.clv_base.specs.History.{Legal, logs_left, serial_ops, serial_answers}
 use Rattle.history_laws.specs.Continuing.{serial_left}
 use Rattle.fate_laws.specs.Members.{is_member}
-use Rattle.many_shards_laws.specs.Replaying.{IsHere}
+use Rattle.headline_laws.specs.ReplayingHere.{IsHere}
 
 -- each member by what a crash leaves is here on each shard
 abbrev pub MembersAreFound : Type 0

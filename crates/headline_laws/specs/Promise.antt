@@ -19,7 +19,7 @@ use Rattle.session_laws.specs.Places.{transactions_of, StandsBefore, predecessor
 use Rattle.fate_laws.specs.Members.{is_member}
 use Rattle.cause_laws.specs.Causes.{TellsCause, IsOfAnother}
 use Rattle.origin_laws.specs.Waiting.{WithoutRequest, WithRequest, WaitsThrough, birth_waiting}
-use Rattle.many_shards_laws.specs.Settling.{live_pairs_of_all}
+use Rattle.headline_laws.specs.SettlingHere.{live_pairs_of_all}
 
 -- what a legal history h over these splits promises, from the logs found to the logs at the end, where a crash keeps what the choice says of what is in
 -- flight. Its members are the transactions with a COMMIT left at their home, and the acknowledged ones

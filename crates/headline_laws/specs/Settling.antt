@@ -5,7 +5,7 @@ use Rattle.clv_base.specs.Logs.{stands}
 use Rattle.clv_base.specs.FileRules.{may_open}
 use Rattle.clv_base.specs.Journals.{History}
 use Rattle.clv_base.specs.History.{Legal, IsSettled, logs_left}
-use Rattle.many_shards_laws.specs.Settling.{live_pairs_of_all}
+use Rattle.headline_laws.specs.SettlingHere.{live_pairs_of_all}
 
 -- where the history is settled, the live records, one shard after another, are the map that the logs left stand for, whatever a crash would keep
 abbrev pub SettledIsTheMap : Type 0

@@ -13,7 +13,7 @@ use Rattle.clv_base.specs.LogRules.{same_option}
 use Rattle.clv_base.specs.Orders.{tx_same}
 use Rattle.clv_base.specs.Journals.{History, own}
 use Rattle.clv_base.specs.Sessions.{SessionState, Ended, goes_on, begins, begun, same_birth, session_for, is_number, lies_in, is_touching, same_touched, is_lowest, stands_at, op_answered, op_in_session, session_after}
-use Rattle.session_births.specs.States.{after_from}
+use Rattle.cluster_turns.specs.States.{after_from}
 use Rattle.interleaving_core.specs.Naming.{shards_fit}
 use Rattle.law_base.proofs.Lists.{lowest_any}
 

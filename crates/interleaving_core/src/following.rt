@@ -3,7 +3,7 @@ ghost use Rattle.std.specs.Prelude.{◌≡◌, ◌<◌, ℕ, List, Some};
 ghost use Rattle.std.specs.List.{AllByRecursion};
 ghost use Rattle.clv_base.specs.Journals.{own};
 ghost use Rattle.clv_base.specs.Sessions.{SessionState, session_for, op_answered, op_in_session, requested, looked, after_drop, session_after};
-ghost use Rattle.session_births.specs.States.{session_of as session_in};
+ghost use Rattle.cluster_turns.specs.States.{session_of as session_in};
 
 use crate::sessions::Session;
 use clv_base::events::{Entry, Event, Outcome};

@@ -5,12 +5,12 @@ ghost use Rattle.std.specs.Map.{lookup};
 ghost use Rattle.clv_base.specs.FileRules.{numbers_rise, tx_has_spelling};
 ghost use Rattle.clv_base.specs.Orders.{tx_same};
 ghost use Rattle.clv_base.specs.Sessions.{no_session, begun, touch, scan_shard, is_touching as touches, same_birth, may_drop as drops, stands_at as stands, is_number as numbers, goes_on_scan, follows_birth as follows, is_session_number, Ended, Standing, Told, Refused};
-ghost use Rattle.session_births.specs.Stages.{phase_of};
+ghost use Rattle.cluster_turns.specs.Stages.{phase_of};
 
+use cluster_turns::{Place, Stage};
 use clv_base::lists::Touched;
 use clv_base::names::{Birth, TxId};
 use clv_base::ops::Op;
-use session_births::{Place, Stage};
 use std::alloc::{AllocError, Global};
 use std::marker::Model;
 

@@ -6,6 +6,7 @@ ghost use Rattle.machine_calls.specs.Restored.{IsRestored};
 
 use crate::fixture::{Machine, splits};
 use crate::steps::{Step, Told, birth, in_words, is_named, of_error, of_outcome};
+use cluster_closing::{Ready, recover_disk};
 use clv_base::lists::Touched;
 use clv_base::messages::Message;
 use clv_base::names::TxId;
@@ -15,7 +16,6 @@ use disk_memory::MemoryDisk;
 use log_gate::{LogGate, disk_of};
 use machine_runs::flush;
 use ordered_store::Store;
-use shard_revival::{Ready, recover_disk};
 use std::alloc::{AllocError, Global};
 use store_blocks::BlockStore;
 

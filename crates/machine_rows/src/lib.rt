@@ -1,7 +1,7 @@
 //! Rows of the protocol as runs of the machine itself: over blocks of records, a list of locks, and a log on a disk in memory. Expected
 //! values are worked out by hand from the rules.
 //! It promises that such a machine may be handed to another thread where the disk may. Stands on `shard_machine`, `machine_runs` and
-//! `shard_revival`.
+//! `cluster_closing`.
 #![tactic(auto)]
 
 #[cfg(test)]

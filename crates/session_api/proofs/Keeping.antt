@@ -7,24 +7,24 @@ use Rattle.cluster_turns.specs.declared.shards.Shards.{Shards}
 use Rattle.cluster_turns.specs.declared.shards.Walker.{Walker}
 use Rattle.cluster_turns.specs.declared.shards.WornClock.{WornClock}
 use Rattle.cluster_turns.specs.Walkers.{IsSameWalker}
-use Rattle.cluster_ends.specs.Landed.{HasLanded}
-use Rattle.session_births.specs.Turns.{Turn, Took}
-use Rattle.session_births.proofs.Laws.{worn_is_last}
-use Rattle.session_endings.proofs.Laws.{turns_land}
+use Rattle.cluster_closing.specs.Landed.{HasLanded}
+use Rattle.cluster_turns.specs.CallTurns.{Turn, Took}
+use Rattle.cluster_turns.proofs.Laws.{worn_is_last}
+use Rattle.session_ops.proofs.Laws.{turns_land}
 use Rattle.session_ops.specs.declared.operating.OpError.{OpError as Failure}
 use Rattle.session_ops.specs.Beginnings.{IsIdle, Begun}
 use Rattle.session_ops.specs.Dropped.{Dropping}
-use Rattle.session_endings.specs.declared.looking.SettleError.{SettleError}
+use Rattle.session_ops.specs.declared.settled_looking.SettleError.{SettleError}
 use Rattle.session_ops.specs.Dropped.{IsLeft}
 use Rattle.session_ops.specs.Standing.{HasBirth}
 use Rattle.session_ops.specs.Retried.{Retried}
 use Rattle.session_ops.proofs.Laws.{ended_are_retriable, aborts_are_retriable}
-use Rattle.session_endings.specs.Parts.{PointTold, StandsUnless, has_died}
-use Rattle.session_endings.specs.declared.committing.Settled.{Settled}
-use Rattle.session_endings.specs.declared.committing.CommitError.{CommitError as CommitFailure}
-use Rattle.session_endings.specs.Standings.{StandsAt, StandsAs, IsUnasked, IsAborted}
-use Rattle.session_endings.specs.Decided.{Deciding}
-use Rattle.session_endings.specs.Committed.{CommitTold}
+use Rattle.session_ops.specs.Parts.{PointTold, StandsUnless, has_died}
+use Rattle.session_ops.specs.declared.committing.Settled.{Settled}
+use Rattle.session_ops.specs.declared.committing.CommitError.{CommitError as CommitFailure}
+use Rattle.session_ops.specs.Standings.{StandsAt, StandsAs, IsUnasked, IsAborted}
+use Rattle.session_ops.specs.Decided.{Deciding}
+use Rattle.session_ops.specs.Committed.{CommitTold}
 use Rattle.session_api.specs.declared.progress.Progress.{Progress}
 use Rattle.session_api.specs.declared.progress.Progress.TheVariants.{Idle, Active, Worn, Asked, Ended}
 use Rattle.session_api.specs.Progresses.{after_op, after_commit, progress_committed, progress_aborted, is_nothing}

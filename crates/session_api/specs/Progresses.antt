@@ -6,12 +6,12 @@ use Rattle.clv_base.specs.Sessions.{SessionState, Phase, Touching, Ended as HasE
 use Rattle.cluster_turns.specs.declared.shards.WornClock.{WornClock}
 use Rattle.session_ops.specs.declared.operating.OpError.{OpError as Failure}
 use Rattle.session_ops.specs.declared.operating.OpError.TheVariants as failed
-use Rattle.session_endings.specs.declared.looking.SettleError.{SettleError}
-use Rattle.session_endings.specs.declared.looking.SettleError.TheVariants as settle
-use Rattle.session_endings.specs.declared.committing.Settled.{Settled}
-use Rattle.session_endings.specs.declared.committing.Settled.TheVariants.{Committed, Empty}
-use Rattle.session_endings.specs.declared.committing.CommitError.{CommitError as CommitFailure}
-use Rattle.session_endings.specs.declared.committing.CommitError.TheVariants as unmade
+use Rattle.session_ops.specs.declared.settled_looking.SettleError.{SettleError}
+use Rattle.session_ops.specs.declared.settled_looking.SettleError.TheVariants as settle
+use Rattle.session_ops.specs.declared.committing.Settled.{Settled}
+use Rattle.session_ops.specs.declared.committing.Settled.TheVariants.{Committed, Empty}
+use Rattle.session_ops.specs.declared.committing.CommitError.{CommitError as CommitFailure}
+use Rattle.session_ops.specs.declared.committing.CommitError.TheVariants as unmade
 use Rattle.session_api.specs.declared.progress.Progress.{Progress}
 use Rattle.session_api.specs.declared.progress.Progress.TheVariants.{Idle, Active, Worn, Asked, Ended}
 use Rattle.session_api.specs.declared.retrying.RetryError.{RetryError}

@@ -9,22 +9,22 @@ use Rattle.cluster_turns.specs.declared.shards.Shards.{Shards}
 use Rattle.cluster_turns.specs.declared.shards.Walker.{Walker}
 use Rattle.cluster_turns.specs.declared.shards.WornClock.{WornClock}
 use Rattle.cluster_turns.specs.Walkers.{IsSameWalker}
-use Rattle.cluster_ends.specs.Landed.{HasLanded}
+use Rattle.cluster_closing.specs.Landed.{HasLanded}
 use Rattle.session_ops.specs.declared.operating.OpError.{OpError as Failure}
 use Rattle.session_ops.specs.Standing.{IsActive}
 use Rattle.session_ops.specs.Beginnings.{IsIdle, Begun}
 use Rattle.session_ops.specs.Requested.{IsStanding}
 use Rattle.session_ops.specs.Dropped.{Dropping, IsLeft}
-use Rattle.session_endings.specs.declared.looking.SettleError.{SettleError}
+use Rattle.session_ops.specs.declared.settled_looking.SettleError.{SettleError}
 use Rattle.session_ops.specs.Retried.{IsRetriable, Retried}
-use Rattle.session_endings.specs.Parts.{PointTold, StandsUnless, has_died}
-use Rattle.session_endings.specs.Scanned.{Scanning, IsSameTx}
-use Rattle.session_endings.specs.Stepped.{PartsTold}
-use Rattle.session_endings.specs.declared.committing.Settled.{Settled}
-use Rattle.session_endings.specs.declared.committing.CommitError.{CommitError as CommitFailure}
-use Rattle.session_endings.specs.Standings.{StandsAs, IsUnasked}
-use Rattle.session_endings.specs.Decided.{Deciding}
-use Rattle.session_endings.specs.Committed.{CommitTold}
+use Rattle.session_ops.specs.Parts.{PointTold, StandsUnless, has_died}
+use Rattle.session_ops.specs.Scanned.{Scanning, IsSameTx}
+use Rattle.session_ops.specs.Stepped.{PartsTold}
+use Rattle.session_ops.specs.declared.committing.Settled.{Settled}
+use Rattle.session_ops.specs.declared.committing.CommitError.{CommitError as CommitFailure}
+use Rattle.session_ops.specs.Standings.{StandsAs, IsUnasked}
+use Rattle.session_ops.specs.Decided.{Deciding}
+use Rattle.session_ops.specs.Committed.{CommitTold}
 use Rattle.session_api.specs.declared.progress.Progress.{Progress}
 use Rattle.session_api.specs.declared.progress.Progress.TheVariants.{Idle, Active, Worn, Asked, Ended}
 use Rattle.session_api.specs.declared.beginning.BeginError.{BeginError}

@@ -1,20 +1,19 @@
 // How the active transaction ends.
 ghost use Rattle.std.specs.Prelude.{◌≡◌};
-ghost use Rattle.cluster_ends.specs.Landed.{HasLanded};
-ghost use Rattle.session_endings.specs.Standings.{IsUnasked};
+ghost use Rattle.cluster_closing.specs.Landed.{HasLanded};
+ghost use Rattle.session_ops.specs.Standings.{IsUnasked};
 ghost use Rattle.session_api.specs.declared.progress.Progress.TheVariants.{Active, Asked};
 ghost use Rattle.session_api.specs.Progresses.{commit_refusal, commit_told, settle_told, abort_told, progress_committed, progress_aborted, is_nothing};
 ghost use Rattle.session_api.specs.Sessions.{IsSession, CommitCalled, CommitMade, LooksMade, AbortCalled, AbortMade};
 
 use crate::progress::{Progress, after_request};
 use crate::session::Session;
-use cluster_turns::WornClock;
+use cluster_turns::{Place, WornClock};
 use clv_base::causes::AbortCause;
 use clv_base::names::Point;
 use io_edge::Pace;
 use machine_calls::Flier;
-use session_births::Place;
-use session_endings::{CommitError as Failure, SettleError, Settled, abort, commit, finish};
+use session_ops::{CommitError as Failure, SettleError, Settled, abort, commit, finish};
 use std::alloc::Global;
 use std::mem;
 use std::sync::Wait;

@@ -20,4 +20,4 @@ pub use operating::OpError;
 pub use progress::Progress;
 pub use retrying::RetryError;
 pub use session::Session;
-pub use session_endings::Settled;
+pub use session_ops::Settled;

@@ -2,8 +2,8 @@
 ghost use Rattle.std.specs.Prelude.{◌≡◌};
 ghost use Rattle.session_api.specs.Progresses.{after_op, after_commit, active_tx};
 
+use cluster_turns::{Place, Stage};
 use clv_base::names::TxId;
-use session_births::{Place, Stage};
 
 /// How a session's last transaction stands.
 #[derive(Drop, Debug)]

@@ -6,10 +6,10 @@ ghost use Rattle.session_api.specs.Sessions.{IsSession, RetriedNext, RetryCalled
 
 use crate::progress::Progress;
 use crate::session::Session;
+use cluster_turns::Place;
 use clv_base::names::TxId;
 use io_edge::{Pace, Step};
 use machine_calls::Flier;
-use session_births::Place;
 use session_ops::retry;
 use std::mem;
 use std::sync::Wait;

@@ -15,9 +15,9 @@ use Rattle.cluster_turns.specs.declared.home.Home.{Home}
 use Rattle.cluster_turns.specs.declared.shards.Shards.{Shards}
 use Rattle.cluster_turns.specs.declared.shards.Walker.{Walker}
 use Rattle.cluster_turns.specs.Walkers.{own_lists, kept}
-use Rattle.cluster_beginning.specs.Begun.{AreLocked}
-use Rattle.run_ends.specs.Ends.{end_of, walked_by, IsClosed}
-use Rattle.run_ends.proofs.Laws.{clusters_end}
+use Rattle.cluster_runs.specs.Begun.{AreLocked}
+use Rattle.cluster_runs.specs.Ends.{end_of, walked_by, IsClosed}
+use Rattle.cluster_runs.proofs.Laws.{clusters_end}
 use Rattle.session_rows.specs.declared.transfers.Transferred.TheVariants.{Moved, Refused, GivenUp}
 use Rattle.session_rows.specs.declared.transfers.Transferred.{Transferred}
 use Rattle.session_rows.specs.declared.transfers.Stop.{Stop}

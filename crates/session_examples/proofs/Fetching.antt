@@ -1,18 +1,18 @@
 -- A walker that fetches the disk of a shard and restarts it.
 use Rattle.std.proofs.Common.{◌≡◌, ◌∙◌, sym, subst, ℕ, Option, Some, None, Result, Ok, Err}
 use Rattle.disk_model.specs.Story.{Story}
-use Rattle.shard_revival.specs.declared.error.RestartError.{RestartError}
+use Rattle.cluster_closing.specs.declared.error.RestartError.{RestartError}
 use Rattle.cluster_turns.specs.declared.shards.Shards.{Shards}
 use Rattle.cluster_turns.specs.declared.shards.Walker.{Walker}
 use Rattle.cluster_turns.specs.Walkers.{IsWalker, IsSameWalker, Walked}
-use Rattle.cluster_ends.specs.Landed.{HasLanded}
-use Rattle.cluster_ends.specs.declared.fetching.FetchError.{FetchError}
-use Rattle.cluster_ends.specs.declared.fetching.Fetched.{Fetched}
-use Rattle.cluster_ends.specs.Held.{FetchTold}
+use Rattle.cluster_closing.specs.Landed.{HasLanded}
+use Rattle.cluster_closing.specs.declared.fetching.FetchError.{FetchError}
+use Rattle.cluster_closing.specs.declared.fetching.Fetched.{Fetched}
+use Rattle.cluster_closing.specs.EndHeld.{FetchTold}
 use Rattle.cluster_closing.specs.Held.{HoldsNone, HoldsNoneBut}
 use Rattle.cluster_closing.proofs.Laws.{fetches_hold_one, refused_fetches_hold_none}
-use Rattle.shard_revival.specs.Restarted.{RestartTold}
-use Rattle.shard_revival.proofs.Laws.{fetches_land, restarts_land, restarts_end_holding}
+use Rattle.cluster_closing.specs.Restarted.{RestartTold}
+use Rattle.cluster_closing.proofs.Laws.{fetches_land, restarts_land, restarts_end_holding}
 use Rattle.session_examples.specs.Walkers.{IsAtHome}
 
 module _ {M S G : Type 0} (sh : Shards M S G) where

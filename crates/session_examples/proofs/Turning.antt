@@ -14,18 +14,18 @@ use Rattle.cluster_turns.specs.declared.shards.Shards.{Shards}
 use Rattle.cluster_turns.specs.declared.shards.Walker.{Walker}
 use Rattle.cluster_turns.specs.Turns.{EventTold}
 use Rattle.cluster_turns.specs.Walkers.{IsWalker, Walked, Looked}
-use Rattle.cluster_drain.specs.declared.flushing.Flushed.{Flushed}
-use Rattle.cluster_drain.specs.declared.flushing.FlushError.{FlushError}
-use Rattle.cluster_drain.specs.Flights.{landed_as}
-use Rattle.cluster_drain.specs.Told.{FlushTold, one_turn, two_turns}
-use Rattle.cluster_drain.specs.declared.carrying.Carry.{Carry}
-use Rattle.cluster_drain.specs.declared.carrying.CarryError.{CarryError}
-use Rattle.cluster_drain.specs.Carried.{BringTold, is_lost, is_brought, CarryTold, none_sent, one_sent}
-use Rattle.cluster_ends.specs.Landed.{HasLanded}
+use Rattle.cluster_turns.specs.declared.flushing.Flushed.{Flushed}
+use Rattle.cluster_turns.specs.declared.flushing.FlushError.{FlushError}
+use Rattle.cluster_turns.specs.Flights.{landed_as}
+use Rattle.cluster_turns.specs.Told.{FlushTold, one_turn, two_turns}
+use Rattle.cluster_turns.specs.declared.carrying.Carry.{Carry}
+use Rattle.cluster_turns.specs.declared.carrying.CarryError.{CarryError}
+use Rattle.cluster_turns.specs.Carried.{BringTold, is_lost, is_brought, CarryTold, none_sent, one_sent}
+use Rattle.cluster_closing.specs.Landed.{HasLanded}
 use Rattle.cluster_closing.specs.Held.{HoldsNone}
 use Rattle.cluster_closing.proofs.Laws.{turns_hold_none, turns_fetch_none}
-use Rattle.session_births.specs.Turns.{Turn, Took, no_turn, event_turn, flush_turns, horizon_look, takes_no_flight}
-use Rattle.session_endings.proofs.Laws.{turns_land}
+use Rattle.cluster_turns.specs.CallTurns.{Turn, Took, no_turn, event_turn, flush_turns, horizon_look, takes_no_flight}
+use Rattle.session_ops.proofs.Laws.{turns_land}
 use Rattle.session_scripts.specs.Standing.{IsAtRest}
 
 module _ {T : Type 0} where

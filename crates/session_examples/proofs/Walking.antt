@@ -5,10 +5,10 @@ use Rattle.cluster_turns.specs.declared.home.Home.{Home}
 use Rattle.cluster_turns.specs.declared.shards.Shards.{Shards}
 use Rattle.cluster_turns.specs.declared.shards.Walker.{Walker}
 use Rattle.cluster_turns.specs.Walkers.{IsWalker, IsSameWalker}
-use Rattle.cluster_drain.specs.declared.tending.DrainError.{DrainError}
-use Rattle.cluster_drain.specs.Rounds.{DrainTold}
-use Rattle.cluster_ends.specs.Landed.{HasLanded}
-use Rattle.cluster_ends.specs.Laws.{DrainsLand}
+use Rattle.cluster_turns.specs.declared.tending.DrainError.{DrainError}
+use Rattle.cluster_turns.specs.Rounds.{DrainTold}
+use Rattle.cluster_closing.specs.Landed.{HasLanded}
+use Rattle.cluster_closing.specs.EndLaws.{DrainsLand}
 use Rattle.cluster_closing.specs.Held.{HoldsNone}
 use Rattle.cluster_closing.proofs.Laws.{drains_hold_none, drains_fetch_none}
 use Rattle.cluster_opening.specs.Made.{IsNewWalker}

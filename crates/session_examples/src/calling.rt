@@ -8,11 +8,11 @@ ghost use Rattle.session_examples.specs.Programs.{HasRun, AnyMade};
 
 use crate::closing::{Left, close_all};
 use crate::sitting::{leave, sit};
-use cluster_beginning::{Opened, open_all};
-use cluster_drain::{
-    Carry, CarryError, FlushError, Flushed, Reminding, carry_once, flush_once, remind_once,
+use cluster_runs::{Opened, open_all};
+use cluster_turns::{
+    Carry, CarryError, FlushError, Flushed, Reminding, Shards, Walker, carry_once, flush_once,
+    remind_once,
 };
-use cluster_turns::{Shards, Walker};
 use disk_model::House;
 use disks_opening::OpenError;
 use io_edge::Pace;

@@ -1,9 +1,9 @@
 // A place, from its beginning to the answer of its request.
 
+use cluster_turns::{Place, Stage};
 use clv_base::events::Event;
 use clv_base::names::{Birth, TxId};
 use clv_base::ops::Op;
-use session_births::{Place, Stage};
 use std::test::Fail;
 
 #[test]

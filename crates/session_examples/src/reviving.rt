@@ -8,8 +8,8 @@ ghost use Rattle.session_examples.specs.Walkers.{AreNew, IsAtHome, AreAtHome};
 use crate::calling::call_all;
 use crate::closing::{Left, close_all};
 use crate::sitting::{leave, sit};
-use cluster_beginning::{Opened, open_all};
-use cluster_ends::{FetchError, Fetched, fetch};
+use cluster_closing::{FetchError, Fetched, fetch, restart};
+use cluster_runs::{Opened, open_all};
 use cluster_turns::{Shards, Walker};
 use disk_model::House;
 use disks_opening::OpenError;
@@ -20,7 +20,6 @@ use machine_calls::{Flier, Reopener};
 use ordered_store::Store;
 use session_rows::{Call, Said};
 use shard_machine::ShardMachine;
-use shard_revival::restart;
 use std::alloc::Global;
 use std::sync::Wait;
 

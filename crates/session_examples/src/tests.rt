@@ -12,8 +12,8 @@ use crate::{
     Quiet, Revival, open_call_close, open_revive_close, open_transfer_close,
     open_transfer_together_close,
 };
-use cluster_drain::{Carry, Flushed, Reminding};
-use cluster_ends::FetchError;
+use cluster_closing::FetchError;
+use cluster_turns::{Carry, Flushed, Reminding};
 use disk_memory::MemoryHouse;
 use disk_model::House;
 use io_edge::NoPace;

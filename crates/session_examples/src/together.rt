@@ -9,10 +9,9 @@ ghost use Rattle.session_examples.specs.Programs.{HasRun, AnyMade};
 
 use crate::closing::{Left, close_all};
 use crate::sitting::{leave, sit};
-use cluster_beginning::{Opened, open_all};
-use cluster_drain::drain;
-use cluster_ends::promises::drains_land;
-use cluster_turns::{Home, Shards, Walker};
+use cluster_closing::end_promises::drains_land;
+use cluster_runs::{Opened, open_all};
+use cluster_turns::{Home, Shards, Walker, drain};
 use disk_model::House;
 use disks_opening::OpenError;
 use io_edge::Pace;

@@ -2,14 +2,14 @@
 ghost use Rattle.std.specs.Prelude.{◌≡◌, ◌≢◌, ◌<◌, ℕ, true, false, vec_len, IfOk, IfErr};
 ghost use Rattle.clv_base.specs.Shards.{are_splits};
 ghost use Rattle.disks_opening.specs.Opening.{Refuses, CountsOpen};
-ghost use Rattle.cluster_beginning.specs.Begun.{LeavesDisks};
-ghost use Rattle.run_ends.specs.Ends.{walked_by};
+ghost use Rattle.cluster_runs.specs.Begun.{LeavesDisks};
+ghost use Rattle.cluster_runs.specs.Ends.{walked_by};
 ghost use Rattle.session_examples.specs.Walkers.{AreNew, AreAtRest};
 ghost use Rattle.session_examples.specs.Programs.{HasRun, HasMade};
 
 use crate::closing::{Left, close_all};
 use crate::sitting::{leave, sit};
-use cluster_beginning::{Opened, open_all};
+use cluster_runs::{Opened, open_all};
 use cluster_turns::{Shards, Walker};
 use disk_model::House;
 use disks_opening::OpenError;

@@ -10,11 +10,11 @@ use Rattle.clv_base.specs.Sessions.{SessionState, begun, follows_birth, may_drop
 use Rattle.cluster_turns.specs.declared.shards.Shards.{Shards}
 use Rattle.cluster_turns.specs.declared.shards.Walker.{Walker}
 use Rattle.cluster_turns.specs.Walkers.{IsWalker, kept, founds_of}
-use Rattle.session_births.specs.States.{session_of, GoesOnBy}
-use Rattle.session_births.proofs.Laws.{states_bear_walkers}
-use Rattle.session_births.specs.Births.{AllSeeFree, AreInformed}
-use Rattle.session_births.specs.Unborn.{AllUnborn, UnbornUnless}
-use Rattle.session_births.proofs.Laws.{informed_later, unborn_is_free, unborn_unless_any}
+use Rattle.cluster_turns.specs.States.{session_of, GoesOnBy}
+use Rattle.cluster_turns.proofs.Laws.{states_bear_walkers}
+use Rattle.cluster_turns.specs.Births.{AllSeeFree, AreInformed}
+use Rattle.cluster_turns.specs.Unborn.{AllUnborn, UnbornUnless}
+use Rattle.cluster_turns.proofs.Laws.{informed_later, unborn_is_free, unborn_unless_any}
 use Rattle.session_ops.specs.Standing.{IsOld, IsActive}
 use Rattle.session_ops.proofs.First.{runs_count, other_name, spelled_so}
 use Rattle.session_ops.specs.Retried.{IsRetriable, Retried}

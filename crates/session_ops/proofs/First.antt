@@ -14,10 +14,10 @@ use Rattle.clv_base.proofs.SameNames.{tx_true}
 use Rattle.cluster_turns.specs.declared.shards.Shards.{Shards}
 use Rattle.cluster_turns.specs.declared.shards.Walker.{Walker}
 use Rattle.cluster_turns.specs.Walkers.{IsWalker, kept}
-use Rattle.session_births.specs.States.{session_of}
-use Rattle.session_births.proofs.Laws.{states_bear_walkers}
-use Rattle.session_births.specs.Unborn.{UnbornUnless}
-use Rattle.session_births.proofs.Laws.{informed_later, new_is_free, new_is_unborn, unborn_unless_any}
+use Rattle.cluster_turns.specs.States.{session_of}
+use Rattle.cluster_turns.proofs.Laws.{states_bear_walkers}
+use Rattle.cluster_turns.specs.Unborn.{UnbornUnless}
+use Rattle.cluster_turns.proofs.Laws.{informed_later, new_is_free, new_is_unborn, unborn_unless_any}
 use Rattle.session_ops.specs.Standing.{IsOld, IsReady, IsActive}
 use Rattle.session_ops.specs.Beginnings.{Begun}
 
@@ -62,7 +62,7 @@ module _ {M S G : Type 0} (sh : Shards M S G) (w v : Walker M S G) (t : SessionS
           state = ap (λ x. session_of sh.splits sh.run x.number (kept x.passes.items)) v_is ∙ ready.state;
           serial = (let h = ready.serial in omega arith);
           old = later t.birth (omega arith) ready.old;
-          informed = subst (λ x. Rattle.session_births.specs.Births.AreInformed x.number x.clock x.passes.items) (sym v_is) (informed_later w.number w.clock (suc w.clock) w.passes.items (omega arith) ready.informed);
+          informed = subst (λ x. Rattle.cluster_turns.specs.Births.AreInformed x.number x.clock x.passes.items) (sym v_is) (informed_later w.number w.clock (suc w.clock) w.passes.items (omega arith) ready.informed);
         };
         goes = inr (birth, refl, other_name tx t (let h = ready.serial in omega arith), begins_so t tx birth w.clock (run_is ∙ sym bears.0) (session_is ∙ sym bears.1) (let h = ready.serial in omega arith) (born_is ∙ sym session_is) ready.old (omega arith));
         touching = refl;
@@ -71,7 +71,7 @@ module _ {M S G : Type 0} (sh : Shards M S G) (w v : Walker M S G) (t : SessionS
           is = refl;
           bears = born_is ∙ sym number_is;
           old = omega arith;
-          free = subst (λ x. Rattle.session_births.specs.Births.AllSeeFree tx birth x.passes.items) (sym v_is) (new_is_free w.number w.clock w.passes.items tx birth ready.informed born_is (omega arith));
+          free = subst (λ x. Rattle.cluster_turns.specs.Births.AllSeeFree tx birth x.passes.items) (sym v_is) (new_is_free w.number w.clock w.passes.items tx birth ready.informed born_is (omega arith));
           parts = λ n. subst (λ x. UnbornUnless n None birth x.passes.items) (sym v_is) (unborn_unless_any n None birth w.passes.items (new_is_unborn w.number w.clock w.passes.items birth ready.informed born_is (omega arith) n));
         };
         serial = omega arith;

@@ -6,3 +6,7 @@ pub use Rattle.session_ops.proofs.RetryLeaving.{ended_are_retriable, active_are_
 pub use Rattle.session_ops.proofs.Passing.{other_leaves, other_born, all_leave, all_unborn, all_born, state_stays}
 pub use Rattle.session_ops.proofs.Seeing.{Fits}
 pub use Rattle.session_ops.proofs.Rounding.{others_follow, ended_after}
+pub use Rattle.session_ops.proofs.Deciding.{stands_in, left_ended}
+pub use Rattle.session_ops.proofs.ScanAsking.{active_ends, active_stands}
+pub use Rattle.session_ops.proofs.Landing.{turns_land, looks_land}
+pub use Rattle.session_ops.proofs.Laws.{any_after, any_before}

@@ -13,4 +13,13 @@ pub mod Parting
 pub mod Unbearing
 pub mod Again
 pub mod RetryLeaving
+pub mod Deciding
+pub mod ScanAsking
+pub mod EndPassing
+pub mod Pointing
+pub mod EndSeeing
+pub mod Performing
+pub mod Gathering
+pub mod EndParting
+pub mod Landing
 pub mod Laws

@@ -33,13 +33,13 @@ use Rattle.cluster_turns.specs.Turns.{EventTold}
 use Rattle.turn_lock.specs.Passes.{pass_origin}
 use Rattle.cluster_turns.specs.Walkers.{IsWalker, IsSameWalker, Walked, kept}
 use Rattle.cluster_turns.proofs.Laws.{event_rises}
-use Rattle.session_births.specs.States.{session_of}
-use Rattle.session_births.proofs.Laws.{states_go_on, states_tell_may_make, touched_are_last, enters_so, ok_same, quiet_so}
-use Rattle.session_births.specs.Turns.{Turn, Took, no_turn, event_turn, entry_on}
-use Rattle.session_births.proofs.Laws.{kept_grows}
-use Rattle.session_births.specs.Births.{AreInformed}
-use Rattle.session_births.specs.Unborn.{UnbornAt, HasShard, EndsPart}
-use Rattle.session_births.proofs.Laws.{informed_stay, free_stays, unless_stays, ends_unbear, dies_at_request}
+use Rattle.cluster_turns.specs.States.{session_of}
+use Rattle.cluster_turns.proofs.Laws.{states_go_on, states_tell_may_make, touched_are_last, enters_so, ok_same, quiet_so}
+use Rattle.cluster_turns.specs.CallTurns.{Turn, Took, no_turn, event_turn, entry_on}
+use Rattle.cluster_turns.proofs.Laws.{kept_grows}
+use Rattle.cluster_turns.specs.Births.{AreInformed}
+use Rattle.cluster_turns.specs.Unborn.{UnbornAt, HasShard, EndsPart}
+use Rattle.cluster_turns.proofs.Laws.{informed_stay, free_stays, unless_stays, ends_unbear, dies_at_request}
 use Rattle.session_ops.specs.Standing.{IsOld, IsReady, HasBirth, IsActive, IsGoneAt}
 use Rattle.session_ops.specs.Requested.{is_request_outcome, place_requested, RequestTold, RequestStands}
 use Rattle.law_base.proofs.Names.{birth_same}

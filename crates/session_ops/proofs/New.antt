@@ -9,8 +9,8 @@ use Rattle.turn_laws.specs.Homes.{entries_in}
 use Rattle.cluster_turns.specs.declared.shards.Shards.{Shards}
 use Rattle.cluster_turns.specs.declared.shards.Walker.{Walker}
 use Rattle.cluster_turns.specs.Walkers.{AreNewPasses, founds_of, own_of, own_lists, kept}
-use Rattle.session_births.specs.States.{session_of}
-use Rattle.session_births.proofs.Laws.{new_are_informed}
+use Rattle.cluster_turns.specs.States.{session_of}
+use Rattle.cluster_turns.proofs.Laws.{new_are_informed}
 use Rattle.session_ops.specs.Beginnings.{NewWalkersAreReady}
 use Rattle.law_base.proofs.Lists.{first_elem as a_lock}
 

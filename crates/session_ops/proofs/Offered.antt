@@ -33,13 +33,13 @@ use Rattle.cluster_turns.specs.declared.shards.Walker.{Walker}
 use Rattle.cluster_turns.specs.Turns.{EventTold}
 use Rattle.cluster_turns.specs.Walkers.{IsWalker, IsSameWalker, Walked, kept}
 use Rattle.cluster_turns.proofs.Laws.{event_rises}
-use Rattle.session_births.specs.States.{session_of}
-use Rattle.session_births.proofs.Laws.{states_go_on, states_tell_may_make, ops_go_on, enters_so, ok_same, quiet_so}
-use Rattle.session_births.specs.Turns.{Turn, Took, no_turn, event_turn, entry_on}
-use Rattle.session_births.proofs.Laws.{kept_grows}
-use Rattle.session_births.specs.Births.{AllSeeFree, AreInformed}
-use Rattle.session_births.specs.Unborn.{UnbornAt, UnbornUnless, LeavesUnborn, EndsPart}
-use Rattle.session_births.proofs.Laws.{informed_stay, free_stays, unless_stays, answered_is_in_epoch, ends_unbear, unborn_unless_any}
+use Rattle.cluster_turns.specs.States.{session_of}
+use Rattle.cluster_turns.proofs.Laws.{states_go_on, states_tell_may_make, ops_go_on, enters_so, ok_same, quiet_so}
+use Rattle.cluster_turns.specs.CallTurns.{Turn, Took, no_turn, event_turn, entry_on}
+use Rattle.cluster_turns.proofs.Laws.{kept_grows}
+use Rattle.cluster_turns.specs.Births.{AllSeeFree, AreInformed}
+use Rattle.cluster_turns.specs.Unborn.{UnbornAt, UnbornUnless, LeavesUnborn, EndsPart}
+use Rattle.cluster_turns.proofs.Laws.{informed_stay, free_stays, unless_stays, answered_is_in_epoch, ends_unbear, unborn_unless_any}
 use Rattle.session_ops.proofs.Touched.{touch_here, touch_else}
 use Rattle.session_ops.specs.Standing.{IsOld, is_op_outcome, place_after, AskTold, IsReady, HasBirth, IsActive, StandsAfter}
 use Rattle.law_base.proofs.Names.{birth_same}

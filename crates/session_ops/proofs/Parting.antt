@@ -13,8 +13,8 @@ use Rattle.machine_calls.specs.declared.machine.StepError.{StepError}
 use Rattle.turn_laws.specs.declared.notes.Note.{Note}
 use Rattle.turn_laws.specs.declared.notes.Origin.{Origin}
 use Rattle.cluster_turns.specs.declared.shards.WornClock.{WornClock}
-use Rattle.session_births.specs.Turns.{Turn, no_turn, AnyTurn}
-use Rattle.session_births.proofs.Laws.{turns_follow}
+use Rattle.cluster_turns.specs.CallTurns.{Turn, no_turn, AnyTurn}
+use Rattle.cluster_turns.proofs.Laws.{turns_follow}
 use Rattle.session_ops.specs.Standing.{AskTold}
 use Rattle.session_ops.specs.Dropped.{is_to_drop, is_worn, WornBy, worse, Dropping, place_dropped, IsLeft}
 

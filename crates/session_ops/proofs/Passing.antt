@@ -14,13 +14,13 @@ use Rattle.journal_laws.specs.Births.{LeavesBirth}
 use Rattle.cluster_turns.specs.declared.shards.Shards.{Shards}
 use Rattle.cluster_turns.specs.declared.shards.Walker.{Walker}
 use Rattle.cluster_turns.specs.Walkers.{IsWalker, IsSameWalker, kept}
-use Rattle.session_births.specs.States.{session_of}
-use Rattle.session_births.proofs.Laws.{states_go_on, others_leave_states}
-use Rattle.session_births.specs.Turns.{Turn, Took, IsMadeBy, entry_on, entries_made, AreOthers}
-use Rattle.session_births.proofs.Laws.{kept_grows, entries_are_made, clock_rises}
-use Rattle.session_births.specs.Births.{IsBornBy}
-use Rattle.session_births.specs.Unborn.{AllLeaveUnborn}
-use Rattle.session_births.proofs.Laws.{informed_stay, free_stays, unless_stays}
+use Rattle.cluster_turns.specs.States.{session_of}
+use Rattle.cluster_turns.proofs.Laws.{states_go_on, others_leave_states}
+use Rattle.cluster_turns.specs.CallTurns.{Turn, Took, IsMadeBy, entry_on, entries_made, AreOthers}
+use Rattle.cluster_turns.proofs.Laws.{kept_grows, entries_are_made, clock_rises}
+use Rattle.cluster_turns.specs.Births.{IsBornBy}
+use Rattle.cluster_turns.specs.Unborn.{AllLeaveUnborn}
+use Rattle.cluster_turns.proofs.Laws.{informed_stay, free_stays, unless_stays}
 use Rattle.session_ops.specs.Standing.{IsOld, IsReady, HasBirth, IsActive}
 
 pub other_leaves : (tx : TxId) (birth : Birth) (e : Event) → is_of_session e ≡ false → LeavesBirth tx birth e
@@ -84,7 +84,7 @@ module _ {M S G : Type 0} (sh : Shards M S G) (w v : Walker M S G) where
             ∙ state_stays sh.splits sh.run w.number (kept w.passes.items) t ts others (entries_are_made w.number w.clock v.clock w.passes.items v.passes.items ts took) a.state);
         serial = (let s = same.1 in let h = a.serial in omega arith);
         old = later l t.birth a.old;
-        informed = subst (λ k. Rattle.session_births.specs.Births.AreInformed k v.clock v.passes.items) (sym same.0)
+        informed = subst (λ k. Rattle.cluster_turns.specs.Births.AreInformed k v.clock v.passes.items) (sym same.0)
             (informed_stay w.number w.clock v.clock w.passes.items v.passes.items ts took (all_born w.clock ts others) a.informed);
       }
     where

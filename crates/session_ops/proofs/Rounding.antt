@@ -15,18 +15,18 @@ use Rattle.turn_laws.specs.declared.notes.Note.{Note}
 use Rattle.turn_laws.specs.declared.notes.Origin.{Origin}
 use Rattle.cluster_turns.specs.Turns.{EventTold}
 use Rattle.cluster_turns.specs.Walkers.{Walked}
-use Rattle.cluster_drain.specs.declared.flushing.Flushed.{Flushed}
-use Rattle.cluster_drain.specs.declared.flushing.FlushError.{FlushError}
-use Rattle.cluster_drain.specs.declared.flushing.FlushError.TheVariants.{Failed as FlushFailed, Down as FlushDown, Worn as FlushWorn, Memory as FlushMemory}
-use Rattle.cluster_drain.specs.Flights.{LandTold, KnownAt, landed_as}
-use Rattle.cluster_drain.specs.Told.{FlushTold, one_turn, two_turns, stayed, has_no_flight, flown}
-use Rattle.cluster_drain.specs.declared.carrying.Carry.{Carry}
-use Rattle.cluster_drain.specs.declared.carrying.CarryError.{CarryError}
-use Rattle.cluster_drain.specs.declared.reminding.Reminding.{Reminding}
-use Rattle.cluster_drain.specs.Carried.{message_of, not_taken, brought_by, BringTold, is_lost, is_brought, CarryTold, none_sent, one_sent}
-use Rattle.cluster_drain.specs.Reminded.{reminded_by}
-use Rattle.session_births.specs.Turns.{Turn, no_turn, event_turn, flush_turns, takes_no_flight, AreOthers}
-use Rattle.session_births.proofs.Laws.{turns_follow}
+use Rattle.cluster_turns.specs.declared.flushing.Flushed.{Flushed}
+use Rattle.cluster_turns.specs.declared.flushing.FlushError.{FlushError}
+use Rattle.cluster_turns.specs.declared.flushing.FlushError.TheVariants.{Failed as FlushFailed, Down as FlushDown, Worn as FlushWorn, Memory as FlushMemory}
+use Rattle.cluster_turns.specs.Flights.{LandTold, KnownAt, landed_as}
+use Rattle.cluster_turns.specs.Told.{FlushTold, one_turn, two_turns, stayed, has_no_flight, flown}
+use Rattle.cluster_turns.specs.declared.carrying.Carry.{Carry}
+use Rattle.cluster_turns.specs.declared.carrying.CarryError.{CarryError}
+use Rattle.cluster_turns.specs.declared.reminding.Reminding.{Reminding}
+use Rattle.cluster_turns.specs.Carried.{message_of, not_taken, brought_by, BringTold, is_lost, is_brought, CarryTold, none_sent, one_sent}
+use Rattle.cluster_turns.specs.Reminded.{reminded_by}
+use Rattle.cluster_turns.specs.CallTurns.{Turn, no_turn, event_turn, flush_turns, takes_no_flight, AreOthers}
+use Rattle.cluster_turns.proofs.Laws.{turns_follow}
 use Rattle.session_ops.specs.declared.parts.RoundError.{RoundError}
 use Rattle.session_ops.specs.declared.parts.RoundError.TheVariants.{Down as RoundDown, Worn as RoundWorn, Memory as RoundMemory}
 use Rattle.session_ops.specs.Rounds.{EndedBy, Rounded, refusal_of}

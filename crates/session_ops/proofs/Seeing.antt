@@ -29,12 +29,12 @@ use Rattle.cluster_turns.specs.declared.shards.Walker.{Walker}
 use Rattle.cluster_turns.specs.Turns.{EventTold}
 use Rattle.cluster_turns.specs.Walkers.{IsWalker, IsSameWalker, Walked, kept}
 use Rattle.cluster_turns.proofs.Laws.{event_rises}
-use Rattle.session_births.specs.States.{session_of}
-use Rattle.session_births.proofs.Laws.{states_go_on, states_tell_may_make, quiet_so, enters_so, ok_same}
-use Rattle.session_births.specs.Turns.{Turn, Took, no_turn, event_turn, entry_on}
-use Rattle.session_births.proofs.Laws.{kept_grows}
-use Rattle.session_births.specs.Births.{AreInformed}
-use Rattle.session_births.proofs.Laws.{informed_stay, free_stays, unless_stays, unborn_stays}
+use Rattle.cluster_turns.specs.States.{session_of}
+use Rattle.cluster_turns.proofs.Laws.{states_go_on, states_tell_may_make, quiet_so, enters_so, ok_same}
+use Rattle.cluster_turns.specs.CallTurns.{Turn, Took, no_turn, event_turn, entry_on}
+use Rattle.cluster_turns.proofs.Laws.{kept_grows}
+use Rattle.cluster_turns.specs.Births.{AreInformed}
+use Rattle.cluster_turns.proofs.Laws.{informed_stay, free_stays, unless_stays, unborn_stays}
 use Rattle.session_ops.specs.Standing.{IsOld, IsReady, HasBirth, AskTold, IsGoneAt}
 use Rattle.session_ops.specs.Requested.{IsStanding}
 use Rattle.session_ops.specs.Looked.{is_look_outcome, place_looked, LookStands}

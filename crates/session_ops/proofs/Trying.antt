@@ -16,8 +16,8 @@ use Rattle.machine_calls.specs.declared.machine.StepError.{StepError}
 use Rattle.machine_calls.specs.declared.machine.StepError.TheVariants.{Memory as NoMemory, Worn as IsWorn}
 use Rattle.turn_laws.specs.declared.notes.Note.{Note}
 use Rattle.turn_laws.specs.declared.notes.Origin.{Origin}
-use Rattle.session_births.specs.Turns.{Turn, no_turn, AnyTurn, AreOthers}
-use Rattle.session_births.proofs.Laws.{turns_follow}
+use Rattle.cluster_turns.specs.CallTurns.{Turn, no_turn, AnyTurn, AreOthers}
+use Rattle.cluster_turns.proofs.Laws.{turns_follow}
 use Rattle.session_ops.specs.declared.parts.RoundError.{RoundError}
 use Rattle.session_ops.specs.declared.parts.RoundError.TheVariants.{Down as RoundDown, Worn as RoundWorn, Memory as RoundMemory}
 use Rattle.session_ops.specs.Rounds.{EndedBy, Rounded}

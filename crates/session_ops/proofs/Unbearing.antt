@@ -18,11 +18,11 @@ use Rattle.turn_laws.specs.declared.notes.Origin.{Origin}
 use Rattle.cluster_turns.specs.declared.shards.Shards.{Shards}
 use Rattle.cluster_turns.specs.declared.shards.Walker.{Walker}
 use Rattle.cluster_turns.specs.Walkers.{IsWalker}
-use Rattle.session_births.specs.Turns.{Turn, Took, AnyTurn, FoundWorn}
-use Rattle.session_births.proofs.Laws.{worn_is_last}
-use Rattle.session_births.specs.Births.{AllSeeFree}
-use Rattle.session_births.specs.Unborn.{UnbornAt, AllUnborn, LeavesUnborn, AllLeaveUnborn, EndsPart, EndsThere}
-use Rattle.session_births.proofs.Laws.{past, unborn_stays, ends_unbear, unborn_unless_none}
+use Rattle.cluster_turns.specs.CallTurns.{Turn, Took, AnyTurn, FoundWorn}
+use Rattle.cluster_turns.proofs.Laws.{worn_is_last}
+use Rattle.cluster_turns.specs.Births.{AllSeeFree}
+use Rattle.cluster_turns.specs.Unborn.{UnbornAt, AllUnborn, LeavesUnborn, AllLeaveUnborn, EndsPart, EndsThere}
+use Rattle.cluster_turns.proofs.Laws.{past, unborn_stays, ends_unbear, unborn_unless_none}
 use Rattle.session_ops.specs.Standing.{HasBirth}
 use Rattle.session_ops.specs.Dropped.{is_to_drop, is_excepted, Drops}
 use Rattle.session_ops.specs.Unbearing.{UnbornOrWorn, IsGoneBut, DropsUnbear}
@@ -95,7 +95,7 @@ module _ {M S G : Type 0} where
   unborn_there w p except born gone n out = at (lookup (◌==◌ n) p.touched) refl except refl out
     where
       at : (part : Option ℕ) → lookup (◌==◌ n) p.touched ≡ part → (o : Option ℕ) → except ≡ o → (is_some (lookup (◌==◌ n) p.touched) && not (is_excepted o n)) ≡ false → UnbornAt n born.birth w.passes.items
-      at None e o same out = unborn_unless_none n born.birth w.passes.items (subst (λ part. Rattle.session_births.specs.Unborn.UnbornUnless n part born.birth w.passes.items) e (born.parts n))
+      at None e o same out = unborn_unless_none n born.birth w.passes.items (subst (λ part. Rattle.cluster_turns.specs.Unborn.UnbornUnless n part born.birth w.passes.items) e (born.parts n))
       at (Some epoch) e None same out = absurd (both_ways true (sym (ap (λ x. is_some x && true) e) ∙ out) refl)
       at (Some epoch) e (Some m) same out = left (m == n) refl (sym (ap (λ x. is_some x && not (m == n)) e) ∙ out)
         where

@@ -15,7 +15,7 @@ use Rattle.turn_laws.specs.declared.notes.Origin.{Origin}
 use Rattle.cluster_turns.specs.declared.shards.Shards.{Shards}
 use Rattle.cluster_turns.specs.declared.shards.Walker.{Walker}
 use Rattle.cluster_turns.specs.declared.shards.WornClock.{WornClock}
-use Rattle.session_births.specs.Turns.{Turn, Took, AnyTurn, FoundWorn}
+use Rattle.cluster_turns.specs.CallTurns.{Turn, Took, AnyTurn, FoundWorn}
 use Rattle.session_ops.specs.Standing.{IsOver}
 
 -- what a drop may come to

@@ -7,4 +7,12 @@ pub mod Looked
 pub mod Dropped
 pub mod Unbearing
 pub mod Retried
+pub mod Standings
+pub mod Decided
+pub mod Committed
+pub mod Settled
+pub mod Parts
+pub mod Scanned
+pub mod Stepped
+pub mod EndLaws
 pub mod Laws

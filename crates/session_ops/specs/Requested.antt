@@ -12,7 +12,7 @@ use Rattle.turn_laws.specs.declared.notes.Note.{Note}
 use Rattle.turn_laws.specs.declared.notes.Origin.{Origin}
 use Rattle.cluster_turns.specs.declared.shards.Shards.{Shards}
 use Rattle.cluster_turns.specs.declared.shards.Walker.{Walker}
-use Rattle.session_births.specs.Turns.{Turn, Took}
+use Rattle.cluster_turns.specs.CallTurns.{Turn, Took}
 use Rattle.session_ops.specs.Standing.{IsReady, HasBirth, IsActive, IsOver, IsGoneAt}
 
 -- what a request may come to

@@ -5,8 +5,8 @@ use Rattle.clv_base.specs.Sessions.{SessionState, begun, may_drop}
 use Rattle.cluster_turns.specs.declared.shards.Shards.{Shards}
 use Rattle.cluster_turns.specs.declared.shards.Walker.{Walker}
 use Rattle.cluster_turns.specs.declared.shards.WornClock.{WornClock}
-use Rattle.session_births.specs.States.{GoesOnBy}
-use Rattle.session_births.specs.Unborn.{AllUnborn}
+use Rattle.cluster_turns.specs.States.{GoesOnBy}
+use Rattle.cluster_turns.specs.Unborn.{AllUnborn}
 use Rattle.session_ops.specs.Standing.{IsReady, HasBirth, IsActive}
 use Rattle.session_ops.specs.Unbearing.{UnbornOrWorn}
 

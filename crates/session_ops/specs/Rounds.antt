@@ -3,9 +3,9 @@ use Rattle.std.specs.Prelude.{⊤, ℕ, List, Option, Result, Ok, Err}
 use Rattle.turn_lock.specs.declared.pass.Pass.{Pass}
 use Rattle.turn_laws.specs.declared.notes.Note.{Note}
 use Rattle.turn_laws.specs.declared.notes.Origin.{Origin}
-use Rattle.session_births.specs.Turns.{Turn, Took, AreOthers, FoundDown, FoundWorn}
-use Rattle.cluster_drain.specs.declared.carrying.CarryError.{CarryError}
-use Rattle.cluster_drain.specs.declared.carrying.CarryError.TheVariants.{Down as CarryDown, Worn as CarryWorn, Memory as NoMemory}
+use Rattle.cluster_turns.specs.CallTurns.{Turn, Took, AreOthers, FoundDown, FoundWorn}
+use Rattle.cluster_turns.specs.declared.carrying.CarryError.{CarryError}
+use Rattle.cluster_turns.specs.declared.carrying.CarryError.TheVariants.{Down as CarryDown, Worn as CarryWorn, Memory as NoMemory}
 use Rattle.session_ops.specs.declared.parts.RoundError.{RoundError}
 use Rattle.session_ops.specs.declared.parts.RoundError.TheVariants.{Down, Worn, Memory}
 

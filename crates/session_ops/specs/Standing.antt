@@ -15,10 +15,10 @@ use Rattle.turn_laws.specs.declared.notes.Origin.{Origin}
 use Rattle.cluster_turns.specs.declared.shards.Shards.{Shards}
 use Rattle.cluster_turns.specs.declared.shards.Walker.{Walker}
 use Rattle.cluster_turns.specs.Walkers.{IsWalker, kept}
-use Rattle.session_births.specs.States.{session_of, GoesOnBy}
-use Rattle.session_births.specs.Turns.{Turn, Took}
-use Rattle.session_births.specs.Births.{AllSeeFree, AreInformed}
-use Rattle.session_births.specs.Unborn.{UnbornAt, UnbornUnless}
+use Rattle.cluster_turns.specs.States.{session_of, GoesOnBy}
+use Rattle.cluster_turns.specs.CallTurns.{Turn, Took}
+use Rattle.cluster_turns.specs.Births.{AllSeeFree, AreInformed}
+use Rattle.cluster_turns.specs.Unborn.{UnbornAt, UnbornUnless}
 
 -- a birth, if any, with a stamp up to the clock
 abbrev pub IsOld : ℕ → Option Birth → Type 0

@@ -6,7 +6,7 @@ use Rattle.cluster_turns.specs.declared.shards.Shards.{Shards}
 use Rattle.cluster_turns.specs.declared.shards.Walker.{Walker}
 use Rattle.cluster_turns.specs.declared.shards.WornClock.{WornClock}
 use Rattle.cluster_turns.specs.Walkers.{IsWalker}
-use Rattle.session_births.specs.Unborn.{AllUnborn}
+use Rattle.cluster_turns.specs.Unborn.{AllUnborn}
 use Rattle.session_ops.specs.Standing.{HasBirth, IsGoneAt}
 use Rattle.session_ops.specs.Dropped.{Dropping, IsEnding}
 

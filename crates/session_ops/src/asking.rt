@@ -7,11 +7,10 @@ ghost use Rattle.clv_base.specs.Sessions.{is_number, lies_in};
 ghost use Rattle.cluster_turns.specs.Walkers.{IsSameWalker};
 ghost use Rattle.session_ops.specs.Standing.{IsActive, AskTold, StandsAfter, place_after, is_op_outcome};
 
-use cluster_turns::{Shards, Walker};
+use cluster_turns::{Place, Shards, Walker};
 use clv_base::events::Outcome;
 use clv_base::ops::Op;
 use machine_calls::{Machine, StepError};
-use session_births::Place;
 use std::alloc::Global;
 use std::sync::Wait;
 

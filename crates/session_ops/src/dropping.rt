@@ -6,10 +6,9 @@ ghost use Rattle.session_ops.specs.Standing.{AskTold};
 ghost use Rattle.session_ops.specs.Dropped.{IsEnding, place_dropped, is_drop_outcome};
 ghost use Rattle.clv_base.specs.Sessions.{after_drop};
 
-use cluster_turns::{Shards, Walker};
+use cluster_turns::{Place, Shards, Stage, Walker};
 use clv_base::events::{Event, Outcome};
 use machine_calls::{Machine, StepError};
-use session_births::{Place, Stage};
 use std::alloc::Global;
 use std::sync::Wait;
 

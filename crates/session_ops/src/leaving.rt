@@ -4,10 +4,9 @@ ghost use Rattle.cluster_turns.specs.Walkers.{IsSameWalker};
 ghost use Rattle.session_ops.specs.Dropped.{IsEnding, Dropping, TellsWorn, IsLeft, is_excepted, is_to_drop, worse};
 
 use crate::dropping::drop_part;
-use cluster_turns::{Shards, Walker, WornClock};
+use cluster_turns::{Place, Shards, Walker, WornClock};
 use clv_base::events::Outcome;
 use machine_calls::{Machine, StepError};
-use session_births::Place;
 use std::alloc::Global;
 use std::sync::Wait;
 

@@ -1,30 +1,49 @@
-//! Single steps of a session on a cluster: a beginning, an operation on one shard, a request, a look, drops, another try, and the rounds
-//! of one who waits.
+//! Calls of a session on a cluster. Single steps: a beginning, an operation on one shard, a request, a look, drops, another try, and the
+//! rounds of one who waits. Calls that take many turns: the decision of a request, a commit from its request to its decision with the
+//! drops of what is left of it, an abort, and operations and scans over the shards that they meet.
 //!
-//! The walker's entries stay a session's whatever is answered; its place in the transaction follows them.
+//! What each answers is read from the turns of the call alone. The walker's entries stay a session's, its place in the transaction
+//! follows them, and after each answer it is told how the transaction stands.
 #![tactic(auto)]
 
+mod aborting;
 mod asking;
 pub mod begin_promises;
 mod beginning;
+mod committing;
 pub mod drop_promises;
 mod dropping;
+mod ended_leaving;
 mod leaving;
 mod looking;
 mod operating;
 mod parts;
+mod points;
+pub mod promises;
 mod requesting;
 pub mod retry_promises;
 mod retrying;
 mod rounds;
+mod scanned_parts;
+mod scanning;
+mod settled_looking;
+mod settling;
+mod waiting;
 
+pub use aborting::abort;
 pub use asking::ask;
 pub use beginning::begin;
+pub use committing::{CommitError, Settled, commit};
 pub use dropping::drop_part;
+pub use ended_leaving::{finish, leave_if};
 pub use leaving::drop_parts;
 pub use looking::look;
 pub use operating::{OpError, operate};
 pub use parts::RoundError;
+pub use points::{at_key, del, get, put};
 pub use requesting::request;
 pub use retrying::retry;
 pub use rounds::{round, round_for};
+pub use scanning::scan;
+pub use settled_looking::SettleError;
+pub use settling::settle;

@@ -6,10 +6,9 @@ ghost use Rattle.session_ops.specs.Standing.{AskTold};
 ghost use Rattle.session_ops.specs.Requested.{IsStanding};
 ghost use Rattle.session_ops.specs.Looked.{LookStands, place_looked, is_look_outcome};
 
-use cluster_turns::{Shards, Walker};
+use cluster_turns::{Place, Shards, Walker};
 use clv_base::events::{Event, Outcome};
 use machine_calls::{Machine, StepError};
-use session_births::Place;
 use std::alloc::Global;
 use std::sync::Wait;
 

@@ -11,14 +11,13 @@ ghost use Rattle.session_ops.specs.Operated.{Operated, PlacedBy, StandsBy, answe
 
 use crate::asking::ask;
 use crate::{RoundError, round};
-use cluster_turns::{Shards, Walker};
+use cluster_turns::{Place, Shards, Walker};
 use clv_base::causes::AbortCause;
 use clv_base::events::Outcome;
 use clv_base::ops::{Answer, Op};
 use crossbeam_utils::Backoff;
 use io_edge::Pace;
 use machine_calls::{Flier, Machine, StepError};
-use session_births::Place;
 use std::alloc::Global;
 use std::sync::Wait;
 

@@ -4,8 +4,9 @@ ghost use Rattle.cluster_turns.specs.Walkers.{IsWalker, IsSameWalker};
 ghost use Rattle.session_ops.specs.Rounds.{Rounded, refusal_of};
 
 use batch_gate::Batch;
-use cluster_drain::{Carry, CarryError, FlushError, Flushed, carry_once, flush_once, remind_once};
-use cluster_turns::{Shards, Walker};
+use cluster_turns::{
+    Carry, CarryError, FlushError, Flushed, Shards, Walker, carry_once, flush_once, remind_once,
+};
 use io_edge::Pace;
 use machine_calls::{Flier, Machine};
 use std::alloc::Global;

@@ -8,11 +8,10 @@ ghost use Rattle.cluster_turns.specs.Walkers.{IsSameWalker};
 ghost use Rattle.session_ops.specs.Standing.{IsActive};
 ghost use Rattle.session_ops.specs.Requested.{RequestTold, RequestStands, place_requested, is_request_outcome};
 
-use cluster_turns::{Shards, Walker};
+use cluster_turns::{Place, Shards, Walker};
 use clv_base::events::{Event, Outcome};
 use clv_base::lists::Touched;
 use machine_calls::{Machine, StepError};
-use session_births::Place;
 use std::alloc::Global;
 use std::sync::Wait;
 

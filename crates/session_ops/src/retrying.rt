@@ -3,10 +3,9 @@ ghost use Rattle.std.specs.Prelude.{◌≡◌, ◌<◌, ◌^◌};
 ghost use Rattle.clv_base.specs.Sessions.{SessionState, begun};
 ghost use Rattle.session_ops.specs.Retried.{IsRetriable, RetriedBy};
 
-use cluster_turns::{Shards, Walker, WornClock};
+use cluster_turns::{Place, Shards, Walker, WornClock};
 use clv_base::names::{Birth, TxId};
 use machine_calls::Machine;
-use session_births::Place;
 use std::thread::yield_now;
 
 // The place of a transaction of this run, whose number is one of 32 bits.

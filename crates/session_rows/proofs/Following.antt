@@ -7,11 +7,11 @@ use Rattle.cluster_turns.specs.declared.shards.Walker.{Walker}
 use Rattle.cluster_turns.specs.Walkers.{kept}
 use Rattle.cluster_closing.specs.Held.{HoldsNone, FetchedNone}
 use Rattle.cluster_closing.proofs.Laws.{turns_hold_none, turns_fetch_none}
-use Rattle.session_births.specs.Turns.{Turn, Took, entries_made}
-use Rattle.session_births.proofs.Laws.{kept_grows}
-use Rattle.session_endings.specs.declared.committing.Settled.{Settled}
-use Rattle.session_endings.specs.declared.committing.CommitError.{CommitError as CommitFailure}
-use Rattle.session_endings.specs.Committed.{CommitTold}
+use Rattle.cluster_turns.specs.CallTurns.{Turn, Took, entries_made}
+use Rattle.cluster_turns.proofs.Laws.{kept_grows}
+use Rattle.session_ops.specs.declared.committing.Settled.{Settled}
+use Rattle.session_ops.specs.declared.committing.CommitError.{CommitError as CommitFailure}
+use Rattle.session_ops.specs.Committed.{CommitTold}
 use Rattle.clv_base.specs.Sessions.{SessionState}
 use Rattle.session_api.specs.declared.progress.Progress.{Progress}
 use Rattle.session_api.specs.declared.progress.Progress.TheVariants.{Idle, Active, Worn, Asked, Ended}

@@ -15,11 +15,11 @@ use Rattle.cluster_turns.specs.Walkers.{kept}
 use Rattle.session_ops.specs.declared.operating.OpError.{OpError as OpFailure}
 use Rattle.session_ops.specs.declared.operating.OpError.TheVariants as failed
 use Rattle.session_ops.specs.Standing.{IsActive}
-use Rattle.session_endings.specs.Parts.{has_died}
-use Rattle.session_endings.specs.declared.committing.Settled.{Settled}
-use Rattle.session_endings.specs.declared.committing.Settled.TheVariants.{Committed, Empty}
-use Rattle.session_endings.specs.declared.committing.CommitError.{CommitError as CommitFailure}
-use Rattle.session_endings.specs.declared.committing.CommitError.TheVariants as unmade
+use Rattle.session_ops.specs.Parts.{has_died}
+use Rattle.session_ops.specs.declared.committing.Settled.{Settled}
+use Rattle.session_ops.specs.declared.committing.Settled.TheVariants.{Committed, Empty}
+use Rattle.session_ops.specs.declared.committing.CommitError.{CommitError as CommitFailure}
+use Rattle.session_ops.specs.declared.committing.CommitError.TheVariants as unmade
 use Rattle.script_runs.specs.Operations.{AreOperations}
 use Rattle.script_runs.specs.Sessions.{session_entries}
 use Rattle.script_runs.specs.Seen.{Active as ActiveAs}

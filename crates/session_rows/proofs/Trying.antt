@@ -15,18 +15,18 @@ use Rattle.cluster_turns.specs.declared.shards.Walker.{Walker}
 use Rattle.cluster_turns.specs.declared.shards.WornClock.{WornClock}
 use Rattle.machine_calls.specs.declared.machine.StepError.{StepError}
 use Rattle.machine_calls.specs.declared.machine.StepError.TheVariants as step
-use Rattle.session_births.specs.Turns.{Turn}
+use Rattle.cluster_turns.specs.CallTurns.{Turn}
 use Rattle.session_ops.specs.declared.operating.OpError.{OpError as OpFailure}
 use Rattle.session_ops.specs.declared.operating.OpError.TheVariants as op
-use Rattle.session_endings.specs.Parts.{has_died}
-use Rattle.session_endings.specs.declared.looking.SettleError.{SettleError}
-use Rattle.session_endings.specs.declared.looking.SettleError.TheVariants as settle
-use Rattle.session_endings.specs.declared.committing.Settled.{Settled}
-use Rattle.session_endings.specs.declared.committing.Settled.TheVariants.{Committed}
-use Rattle.session_endings.specs.declared.committing.CommitError.{CommitError as CommitFailure}
-use Rattle.session_endings.specs.declared.committing.CommitError.TheVariants as unmade
-use Rattle.session_endings.specs.Decided.{DecidedBy, committed_as}
-use Rattle.session_endings.specs.Committed.{CommittedBy, CommitTold}
+use Rattle.session_ops.specs.Parts.{has_died}
+use Rattle.session_ops.specs.declared.settled_looking.SettleError.{SettleError}
+use Rattle.session_ops.specs.declared.settled_looking.SettleError.TheVariants as settle
+use Rattle.session_ops.specs.declared.committing.Settled.{Settled}
+use Rattle.session_ops.specs.declared.committing.Settled.TheVariants.{Committed}
+use Rattle.session_ops.specs.declared.committing.CommitError.{CommitError as CommitFailure}
+use Rattle.session_ops.specs.declared.committing.CommitError.TheVariants as unmade
+use Rattle.session_ops.specs.Decided.{DecidedBy, committed_as}
+use Rattle.session_ops.specs.Committed.{CommittedBy, CommitTold}
 use Rattle.script_runs.specs.Operations.{no_operation}
 use Rattle.session_api.specs.declared.progress.Progress.{Progress}
 use Rattle.session_api.specs.declared.progress.Progress.TheVariants.{Idle, Active, Worn, Asked, Ended}

@@ -3,9 +3,9 @@ use Rattle.std.specs.Prelude.{◌≡◌, ⊤, ℕ, Bool, true, false, Option, So
 use Rattle.clv_base.specs.declared.names.TxId.{TxId}
 use Rattle.session_ops.specs.declared.operating.OpError.{OpError}
 use Rattle.session_ops.specs.declared.operating.OpError.TheVariants as op
-use Rattle.session_endings.specs.declared.committing.Settled.{Settled}
-use Rattle.session_endings.specs.declared.committing.CommitError.{CommitError}
-use Rattle.session_endings.specs.declared.committing.CommitError.TheVariants as commit
+use Rattle.session_ops.specs.declared.committing.Settled.{Settled}
+use Rattle.session_ops.specs.declared.committing.CommitError.{CommitError}
+use Rattle.session_ops.specs.declared.committing.CommitError.TheVariants as commit
 use Rattle.session_api.specs.declared.progress.Progress.{Progress}
 use Rattle.session_api.specs.declared.progress.Progress.TheVariants.{Idle, Active, Worn, Asked, Ended}
 use Rattle.session_api.specs.declared.beginning.BeginError.{BeginError}

@@ -20,22 +20,22 @@ use Rattle.machine_calls.specs.declared.machine.StepError.TheVariants.{Memory as
 use Rattle.cluster_turns.specs.declared.shards.Shards.{Shards}
 use Rattle.cluster_turns.specs.declared.shards.Walker.{Walker}
 use Rattle.cluster_turns.specs.Walkers.{IsSameWalker, kept}
-use Rattle.session_births.specs.States.{after_from, session_of}
-use Rattle.session_births.proofs.Laws.{touched_are_last, ok_same}
-use Rattle.session_births.specs.Turns.{Turn, Took, no_turn, entry_on}
-use Rattle.session_births.specs.Answers.{is_quiet, is_kept, turns_of_session}
+use Rattle.cluster_turns.specs.States.{after_from, session_of}
+use Rattle.cluster_turns.proofs.Laws.{touched_are_last, ok_same}
+use Rattle.cluster_turns.specs.CallTurns.{Turn, Took, no_turn, entry_on}
+use Rattle.cluster_turns.specs.Answers.{is_quiet, is_kept, turns_of_session}
 use Rattle.session_ops.specs.Standing.{IsActive}
 use Rattle.session_ops.specs.Requested.{IsTurnOf}
-use Rattle.session_endings.specs.declared.looking.SettleError.{SettleError}
-use Rattle.session_endings.specs.declared.looking.SettleError.TheVariants as settle
-use Rattle.session_endings.specs.Settled.{IsLook as LooksSo, Acknowledges}
-use Rattle.session_endings.specs.declared.committing.Settled.{Settled}
-use Rattle.session_endings.specs.declared.committing.Settled.TheVariants.{Committed, Empty}
-use Rattle.session_endings.specs.declared.committing.CommitError.{CommitError}
-use Rattle.session_endings.specs.declared.committing.CommitError.TheVariants as commit
-use Rattle.session_endings.specs.Standings.{StandsAt, StandsAs}
-use Rattle.session_endings.specs.Decided.{DecidedBy, committed_as}
-use Rattle.session_endings.specs.Committed.{Committing, CommittedBy}
+use Rattle.session_ops.specs.declared.settled_looking.SettleError.{SettleError}
+use Rattle.session_ops.specs.declared.settled_looking.SettleError.TheVariants as settle
+use Rattle.session_ops.specs.Settled.{IsLook as LooksSo, Acknowledges}
+use Rattle.session_ops.specs.declared.committing.Settled.{Settled}
+use Rattle.session_ops.specs.declared.committing.Settled.TheVariants.{Committed, Empty}
+use Rattle.session_ops.specs.declared.committing.CommitError.{CommitError}
+use Rattle.session_ops.specs.declared.committing.CommitError.TheVariants as commit
+use Rattle.session_ops.specs.Standings.{StandsAt, StandsAs}
+use Rattle.session_ops.specs.Decided.{DecidedBy, committed_as}
+use Rattle.session_ops.specs.Committed.{Committing, CommittedBy}
 use Rattle.script_runs.specs.Tries.{IsRequest, IsLook}
 use Rattle.script_runs.specs.Seen.{Standing, Grows}
 use Rattle.script_runs.specs.Told.{AreDropsOf, CommitTold}

@@ -15,18 +15,18 @@ use Rattle.cluster_turns.specs.declared.shards.WornClock.{WornClock}
 use Rattle.cluster_turns.specs.Walkers.{IsSameWalker}
 use Rattle.machine_calls.specs.declared.machine.StepError.{StepError}
 use Rattle.machine_calls.specs.declared.machine.StepError.TheVariants as step
-use Rattle.session_births.specs.Turns.{Turn, Took, FindsDown, FindsWorn, FoundDown, FoundWorn}
-use Rattle.session_births.proofs.Laws.{worn_is_last}
+use Rattle.cluster_turns.specs.CallTurns.{Turn, Took, FindsDown, FindsWorn, FoundDown, FoundWorn}
+use Rattle.cluster_turns.proofs.Laws.{worn_is_last}
 use Rattle.session_ops.specs.Requested.{IsTurnOf}
 use Rattle.session_ops.specs.Dropped.{Dropping, IsLeft}
-use Rattle.session_endings.specs.declared.looking.SettleError.{SettleError}
-use Rattle.session_endings.specs.declared.looking.SettleError.TheVariants as settle
-use Rattle.session_endings.specs.declared.committing.Settled.{Settled}
-use Rattle.session_endings.specs.declared.committing.Settled.TheVariants.{Committed}
-use Rattle.session_endings.specs.declared.committing.CommitError.{CommitError as CommitFailure}
-use Rattle.session_endings.specs.declared.committing.CommitError.TheVariants as unmade
-use Rattle.session_endings.specs.Decided.{DecidedBy, committed_as}
-use Rattle.session_endings.specs.Committed.{CommittedBy, CommitTold as Commits}
+use Rattle.session_ops.specs.declared.settled_looking.SettleError.{SettleError}
+use Rattle.session_ops.specs.declared.settled_looking.SettleError.TheVariants as settle
+use Rattle.session_ops.specs.declared.committing.Settled.{Settled}
+use Rattle.session_ops.specs.declared.committing.Settled.TheVariants.{Committed}
+use Rattle.session_ops.specs.declared.committing.CommitError.{CommitError as CommitFailure}
+use Rattle.session_ops.specs.declared.committing.CommitError.TheVariants as unmade
+use Rattle.session_ops.specs.Decided.{DecidedBy, committed_as}
+use Rattle.session_ops.specs.Committed.{CommittedBy, CommitTold as Commits}
 use Rattle.script_runs.specs.declared.ends.StopCause.{StopCause}
 use Rattle.script_runs.specs.declared.ends.StopCause.TheVariants as stop
 use Rattle.script_runs.specs.declared.ends.TryEnd.{TryEnd}

@@ -12,11 +12,11 @@ use Rattle.turn_lock.specs.declared.pass.Pass.{Pass}
 use Rattle.turn_laws.specs.declared.notes.Note.{Note}
 use Rattle.turn_laws.specs.declared.notes.Origin.{Origin}
 use Rattle.cluster_turns.specs.Walkers.{kept}
-use Rattle.session_births.specs.States.{after_from, session_of}
-use Rattle.session_births.proofs.Laws.{others_leave_states, ok_same}
-use Rattle.session_births.specs.Turns.{Turn, Took, AnyTurn, IsMadeBy, entry_on, entries_made}
-use Rattle.session_births.specs.Answers.{is_quiet, is_kept, may_come_to, HasItsEntry, HasItsOutcome, turns_of_session}
-use Rattle.session_births.proofs.Laws.{kept_grows, entries_are_made, answers_have_entries, outcomes_fit}
+use Rattle.cluster_turns.specs.States.{after_from, session_of}
+use Rattle.cluster_turns.proofs.Laws.{others_leave_states, ok_same}
+use Rattle.cluster_turns.specs.CallTurns.{Turn, Took, AnyTurn, IsMadeBy, entry_on, entries_made}
+use Rattle.cluster_turns.specs.Answers.{is_quiet, is_kept, may_come_to, HasItsEntry, HasItsOutcome, turns_of_session}
+use Rattle.cluster_turns.proofs.Laws.{kept_grows, entries_are_made, answers_have_entries, outcomes_fit}
 use Rattle.law_base.proofs.Shards.{none_session as none_some}
 
 -- ---- states

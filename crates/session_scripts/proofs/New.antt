@@ -12,16 +12,16 @@ use Rattle.turn_laws.specs.Homes.{entries_in, taker, is_taker}
 use Rattle.cluster_turns.specs.declared.shards.Shards.{Shards}
 use Rattle.cluster_turns.specs.declared.shards.Walker.{Walker}
 use Rattle.cluster_turns.specs.Walkers.{IsWalker, AreNewPasses, founds_of, own_of, own_lists, kept}
-use Rattle.cluster_ends.specs.Landed.{HasLanded}
+use Rattle.cluster_closing.specs.Landed.{HasLanded}
 use Rattle.turn_lock.specs.Journals.{entries_by}
 use Rattle.turn_laws.specs.Notes.{noter}
-use Rattle.cluster_ends.proofs.Laws.{new_pass}
+use Rattle.cluster_closing.proofs.Laws.{new_pass}
 use Rattle.cluster_closing.specs.Held.{HoldsNone}
 use Rattle.cluster_closing.proofs.Laws.{new_walkers_hold_none, new_walkers_fetched_none}
-use Rattle.session_births.specs.States.{session_of}
-use Rattle.session_births.proofs.Laws.{new_are_informed}
+use Rattle.cluster_turns.specs.States.{session_of}
+use Rattle.cluster_turns.proofs.Laws.{new_are_informed}
 use Rattle.session_ops.specs.Standing.{IsReady}
-use Rattle.session_endings.specs.Standings.{IsUnasked}
+use Rattle.session_ops.specs.Standings.{IsUnasked}
 use Rattle.session_api.specs.declared.progress.Progress.{Progress}
 use Rattle.session_api.specs.declared.progress.Progress.TheVariants as progress
 use Rattle.session_api.specs.Sessions.{StandsIn}

@@ -11,13 +11,13 @@ use Rattle.clv_base.specs.declared.events.Event.{Event}
 use Rattle.clv_base.specs.Sessions.{SessionState}
 use Rattle.cluster_turns.specs.declared.shards.Shards.{Shards}
 use Rattle.cluster_turns.specs.declared.shards.Walker.{Walker}
-use Rattle.session_births.specs.Turns.{FindsDown, FindsWorn}
-use Rattle.session_births.proofs.Laws.{worn_is_last}
+use Rattle.cluster_turns.specs.CallTurns.{FindsDown, FindsWorn}
+use Rattle.cluster_turns.proofs.Laws.{worn_is_last}
 use Rattle.session_ops.specs.declared.operating.OpError.{OpError as Failure}
 use Rattle.session_ops.specs.declared.operating.OpError.TheVariants as failed
 use Rattle.session_ops.specs.Operated.{PlacedBy, answered_in}
-use Rattle.session_endings.specs.Parts.{has_died, Performing, value_in}
-use Rattle.session_endings.specs.Scanned.{Range, Scanning}
+use Rattle.session_ops.specs.Parts.{has_died, Performing, value_in}
+use Rattle.session_ops.specs.Scanned.{Range, Scanning}
 use Rattle.script_runs.specs.declared.ends.TryEnd.{TryEnd}
 use Rattle.script_runs.specs.declared.ends.TryEnd.TheVariants.{Stopped}
 use Rattle.script_runs.specs.declared.ends.StopCause.TheVariants.{Worn}

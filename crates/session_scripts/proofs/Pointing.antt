@@ -24,16 +24,16 @@ use Rattle.clv_base.specs.Sessions.{SessionState, lies_in, is_of_session, touch}
 use Rattle.cluster_turns.specs.declared.shards.Shards.{Shards}
 use Rattle.cluster_turns.specs.declared.shards.Walker.{Walker}
 use Rattle.cluster_turns.specs.Walkers.{IsSameWalker, kept}
-use Rattle.session_births.specs.States.{after_from, session_of, GoesOnBy}
-use Rattle.session_births.specs.Turns.{Turn, Took, entry_on}
-use Rattle.session_births.specs.Answers.{is_kept, may_answer, may_come_to}
-use Rattle.session_births.proofs.Laws.{clock_rises, sessions_grow}
+use Rattle.cluster_turns.specs.States.{after_from, session_of, GoesOnBy}
+use Rattle.cluster_turns.specs.CallTurns.{Turn, Took, entry_on}
+use Rattle.cluster_turns.specs.Answers.{is_kept, may_answer, may_come_to}
+use Rattle.cluster_turns.proofs.Laws.{clock_rises, sessions_grow}
 use Rattle.session_ops.specs.declared.operating.OpError.{OpError}
 use Rattle.session_ops.specs.declared.operating.OpError.TheVariants as op
 use Rattle.session_ops.specs.Standing.{IsActive}
 use Rattle.session_ops.specs.Operated.{PlacedBy, answered_in}
 use Rattle.session_ops.specs.Dropped.{Drops, is_excepted}
-use Rattle.session_endings.specs.Parts.{has_died, value_in, LeftBy, Performing, StandsUnless}
+use Rattle.session_ops.specs.Parts.{has_died, value_in, LeftBy, Performing, StandsUnless}
 use Rattle.script_runs.specs.Operations.{IsBegun, IsPart, ArePartsAnswered, parts_of, answer_of, first_answer, no_part, part}
 use Rattle.script_runs.specs.Tries.{is_touched}
 use Rattle.script_runs.specs.Seen.{Standing, Idle, Active, Grows}

@@ -25,9 +25,9 @@ use Rattle.cluster_turns.specs.Walkers.{IsSameWalker, kept}
 use Rattle.session_ops.specs.declared.operating.OpError.{OpError}
 use Rattle.session_ops.specs.declared.operating.OpError.TheVariants as op
 use Rattle.session_ops.specs.Operated.{PlacedBy}
-use Rattle.session_endings.specs.Parts.{has_died}
-use Rattle.session_endings.specs.Scanned.{part_within, part_on}
-use Rattle.session_endings.specs.Stepped.{all_pairs, PartMade, PartsMade, no_shard, passed_by, one_part, Fails, PartFailed, PartsTold}
+use Rattle.session_ops.specs.Parts.{has_died}
+use Rattle.session_ops.specs.Scanned.{part_within, part_on}
+use Rattle.session_ops.specs.Stepped.{all_pairs, PartMade, PartsMade, no_shard, passed_by, one_part, Fails, PartFailed, PartsTold}
 use Rattle.script_runs.specs.Operations.{scan_within, part_at, scan_parts, pairs_of, IsPart, ArePartsAnswered, no_part, part, IsBegun}
 use Rattle.script_runs.specs.Sessions.{session_entries}
 use Rattle.script_runs.specs.Tries.{is_touched}

@@ -6,7 +6,7 @@ use Rattle.clv_base.specs.Sessions.{SessionState}
 use Rattle.cluster_turns.specs.declared.shards.Shards.{Shards}
 use Rattle.cluster_turns.specs.declared.shards.Walker.{Walker}
 use Rattle.session_ops.specs.Standing.{HasBirth}
-use Rattle.session_endings.specs.Standings.{IsUnasked}
+use Rattle.session_ops.specs.Standings.{IsUnasked}
 use Rattle.script_runs.specs.Seen.{Idle, Active, Asked, Seen, Grows}
 use Rattle.session_api.specs.declared.progress.Progress.{Progress}
 use Rattle.session_scripts.specs.Seeing.{touched_in}

@@ -11,11 +11,11 @@ use Rattle.cluster_turns.specs.declared.shards.Shards.{Shards}
 use Rattle.cluster_turns.specs.declared.shards.Walker.{Walker}
 use Rattle.cluster_turns.specs.Turns.{Turned}
 use Rattle.cluster_turns.specs.Walkers.{Walked, Looked, IsSameWalker}
-use Rattle.cluster_ends.proofs.Laws.{inside, some_inj}
+use Rattle.cluster_closing.proofs.Laws.{inside, some_inj}
 use Rattle.cluster_closing.specs.Held.{HoldsNone, FetchedNone}
 use Rattle.cluster_closing.proofs.Laws.{turns_hold_none, turns_fetch_none}
-use Rattle.session_births.specs.Turns.{Turn, Took, no_turn, event_turn, flush_turns, horizon_look, FoundDown}
-use Rattle.session_births.proofs.Laws.{clock_rises, down_is_seen}
+use Rattle.cluster_turns.specs.CallTurns.{Turn, Took, no_turn, event_turn, flush_turns, horizon_look, FoundDown}
+use Rattle.cluster_turns.proofs.Laws.{clock_rises, down_is_seen}
 use Rattle.script_runs.specs.declared.ends.StopCause.{StopCause}
 use Rattle.script_runs.specs.declared.ends.StopCause.TheVariants.{Down, Unsettled, Worn, Memory}
 use Rattle.session_api.specs.declared.progress.Progress.{Progress}

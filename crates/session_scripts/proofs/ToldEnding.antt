@@ -12,11 +12,11 @@ use Rattle.clv_base.specs.declared.events.Entry.{Entry}
 use Rattle.clv_base.specs.Orders.{tx_same}
 use Rattle.clv_base.specs.Journals.{History}
 use Rattle.clv_base.specs.Sessions.{SessionState, Phase, Touching, Ended, Standing as IsStanding, Told, Refused, may_drop, after_drop, stands_at, looked, session_after}
-use Rattle.session_births.specs.States.{after_from}
-use Rattle.session_births.specs.Turns.{Turn, entry_on, entries_made}
-use Rattle.session_births.specs.Answers.{turns_of_session}
+use Rattle.cluster_turns.specs.States.{after_from}
+use Rattle.cluster_turns.specs.CallTurns.{Turn, entry_on, entries_made}
+use Rattle.cluster_turns.specs.Answers.{turns_of_session}
 use Rattle.session_ops.specs.Dropped.{Drops}
-use Rattle.session_endings.specs.Decided.{IsLookOrDrop}
+use Rattle.session_ops.specs.Decided.{IsLookOrDrop}
 use Rattle.script_runs.specs.Told.{AreDropsOf}
 use Rattle.session_scripts.specs.Seeing.{touched_in}
 use Rattle.session_scripts.proofs.Following.{IsPlain, none_leads, all_so}

@@ -19,10 +19,10 @@ use Rattle.clv_base.specs.LogRules.{same_option}
 use Rattle.clv_base.specs.Journals.{History}
 use Rattle.clv_base.specs.Sessions.{SessionState, Ended, scan_shard, goes_on_scan, is_number, lies_in, is_touching, touch, goes_on, begins, begun, session_for, op_answered, op_in_session, session_after}
 use Rattle.clv_base.proofs.SameNames.{tx_self}
-use Rattle.session_births.specs.States.{after_from, GoesOnBy}
-use Rattle.session_births.proofs.Laws.{ops_go_on}
-use Rattle.session_births.specs.Turns.{Turn, entry_on, entries_made}
-use Rattle.session_births.specs.Answers.{may_come_to, turns_of_session}
+use Rattle.cluster_turns.specs.States.{after_from, GoesOnBy}
+use Rattle.cluster_turns.proofs.Laws.{ops_go_on}
+use Rattle.cluster_turns.specs.CallTurns.{Turn, entry_on, entries_made}
+use Rattle.cluster_turns.specs.Answers.{may_come_to, turns_of_session}
 use Rattle.session_ops.specs.declared.operating.OpError.{OpError}
 use Rattle.session_ops.specs.declared.operating.OpError.TheVariants.{Aborted, Down, Worn, Memory}
 use Rattle.session_ops.specs.Operated.{IsAnswered, Died, ToldBy, PlacedBy, OnlyOf, answered_in}

@@ -21,7 +21,7 @@ use Rattle.clv_base.specs.Sessions.{SessionState, no_session, begun, begins, is_
 use Rattle.cluster_turns.specs.declared.shards.Shards.{Shards}
 use Rattle.cluster_turns.specs.declared.shards.Walker.{Walker}
 use Rattle.cluster_turns.specs.Walkers.{kept}
-use Rattle.session_births.specs.States.{after_from, GoesOnBy}
+use Rattle.cluster_turns.specs.States.{after_from, GoesOnBy}
 use Rattle.session_ops.specs.Standing.{IsActive}
 use Rattle.law_base.proofs.Shards.{drop_ends as dropped_over}
 

@@ -11,10 +11,10 @@ use Rattle.cluster_turns.specs.declared.shards.WornClock.{WornClock}
 use Rattle.cluster_turns.specs.Walkers.{kept}
 use Rattle.session_ops.specs.declared.operating.OpError.{OpError}
 use Rattle.session_ops.specs.declared.operating.OpError.TheVariants as op
-use Rattle.session_endings.specs.declared.committing.Settled.{Settled}
-use Rattle.session_endings.specs.declared.committing.Settled.TheVariants.{Committed, Empty as NothingToCommit}
-use Rattle.session_endings.specs.declared.committing.CommitError.{CommitError}
-use Rattle.session_endings.specs.declared.committing.CommitError.TheVariants as commit
+use Rattle.session_ops.specs.declared.committing.Settled.{Settled}
+use Rattle.session_ops.specs.declared.committing.Settled.TheVariants.{Committed, Empty as NothingToCommit}
+use Rattle.session_ops.specs.declared.committing.CommitError.{CommitError}
+use Rattle.session_ops.specs.declared.committing.CommitError.TheVariants as commit
 use Rattle.script_runs.specs.declared.ends.StopCause.{StopCause}
 use Rattle.script_runs.specs.declared.ends.StopCause.TheVariants.{Down, Unsettled, Worn, Memory}
 use Rattle.script_runs.specs.declared.ends.TryEnd.{TryEnd}

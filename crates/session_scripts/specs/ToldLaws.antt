@@ -1,7 +1,7 @@
 -- What the answers of a session's calls tell of its entries.
 use Rattle.std.specs.Prelude.{◌≡◌, ℕ, ◌+◌, ◌^◌, ◌<◌, ◌≤◌, IsTrue, List, length, Option, Some, None, Result}
 use Rattle.clv_base.specs.Shards.{are_splits}
-use Rattle.session_endings.specs.Stepped.{PartsTold}
+use Rattle.session_ops.specs.Stepped.{PartsTold}
 use Rattle.clv_base.specs.declared.names.Birth.{Birth}
 use Rattle.clv_base.specs.declared.ops.Op.{Op}
 use Rattle.clv_base.specs.declared.ops.Op.TheVariants.{Get, Put, Del, Scan}
@@ -14,12 +14,12 @@ use Rattle.session_ops.specs.declared.operating.OpError.{OpError}
 use Rattle.session_ops.specs.Standing.{IsActive}
 use Rattle.session_ops.specs.Beginnings.{Begun}
 use Rattle.session_ops.specs.Retried.{Retried}
-use Rattle.session_endings.specs.Parts.{PointTold, StandsUnless, has_died}
+use Rattle.session_ops.specs.Parts.{PointTold, StandsUnless, has_died}
 use Rattle.session_ops.specs.Dropped.{Dropping}
-use Rattle.session_endings.specs.declared.committing.Settled.{Settled}
-use Rattle.session_endings.specs.declared.committing.CommitError.{CommitError}
-use Rattle.session_endings.specs.Standings.{StandsAs}
-use Rattle.session_endings.specs.Committed.{CommitTold as Commits}
+use Rattle.session_ops.specs.declared.committing.Settled.{Settled}
+use Rattle.session_ops.specs.declared.committing.CommitError.{CommitError}
+use Rattle.session_ops.specs.Standings.{StandsAs}
+use Rattle.session_ops.specs.Committed.{CommitTold as Commits}
 use Rattle.script_runs.specs.Seen.{Standing, Idle}
 use Rattle.script_runs.specs.Told.{Begins, OperateTold, CommitTold, AbortTold}
 use Rattle.session_scripts.specs.Seeing.{seen_as, touched_in, is_active, unless_dead, after_commit, after_abort, value_end, pairs_end, commit_end, abort_end}

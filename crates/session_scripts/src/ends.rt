@@ -3,8 +3,8 @@ ghost use Rattle.std.specs.Prelude.{◌≡◌, ◌≢◌, ℕ, List, Option, Res
 ghost use Rattle.clv_base.specs.declared.names.TxId.{TxId as TxIdIs};
 ghost use Rattle.cluster_turns.specs.declared.shards.WornClock.{WornClock};
 ghost use Rattle.session_ops.specs.declared.operating.OpError.{OpError as Failure};
-ghost use Rattle.session_endings.specs.declared.committing.Settled.{Settled as SettledIs};
-ghost use Rattle.session_endings.specs.declared.committing.CommitError.{CommitError as CommitFailure};
+ghost use Rattle.session_ops.specs.declared.committing.Settled.{Settled as SettledIs};
+ghost use Rattle.session_ops.specs.declared.committing.CommitError.{CommitError as CommitFailure};
 ghost use Rattle.session_api.specs.Progresses.{failure_told, answer_told, commit_told, abort_told};
 ghost use Rattle.session_scripts.specs.Seeing.{op_end, value_end, pairs_end, commit_end, abort_end};
 ghost use Rattle.session_scripts.specs.Ends.{BeginEnds, RetryEnds};

@@ -21,8 +21,8 @@ use Rattle.clv_base.specs.Sessions.{SessionState, is_number, lies_in, session_fo
 use Rattle.journal_laws.specs.Offers.{hoped_for, may_make}
 use Rattle.journal_laws.proofs.Offering.{each_outcome_goes_on}
 use Rattle.journal_laws.proofs.Owning.{own_append, own_mine}
-use Rattle.session_births.specs.States.{session_of}
-use Rattle.session_births.proofs.Laws.{sessions_have_states, states_go_on, states_tell_may_make}
+use Rattle.cluster_turns.specs.States.{session_of}
+use Rattle.cluster_turns.proofs.Laws.{sessions_have_states, states_go_on, states_tell_may_make}
 use Rattle.world_laws.specs.Running.{session_may}
 use Rattle.law_base.proofs.Options.{some_of}
 

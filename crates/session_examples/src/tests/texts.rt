@@ -1,7 +1,7 @@
 // What a session was answered, in words.
 use clv_base::names::TxId;
 use session_api::{AbortError, BeginError, CommitError, OpError, RetryError};
-use session_endings::Settled;
+use session_ops::Settled;
 use session_rows::Said;
 use std::alloc::{AllocError, Global};
 

@@ -7,8 +7,8 @@ use Rattle.journal_laws.specs.Gathered.{MakesHistory}
 use Rattle.turn_laws.specs.Notes.{notes_of}
 use Rattle.turn_laws.specs.Homes.{never_stops, holder_of, IsLegal}
 use Rattle.cluster_turns.specs.Walkers.{founds_of}
-use Rattle.cluster_ends.specs.Ending.{ClosedAt}
-use Rattle.cluster_ends.specs.Legal.{state_at, views_of}
+use Rattle.cluster_closing.specs.Ending.{ClosedAt}
+use Rattle.cluster_closing.specs.Legal.{state_at, views_of}
 use Rattle.cluster_closing.specs.Held.{never_restarts}
 use Rattle.cluster_closing.specs.Ends.{shard_at, IsNotAmong}
 use Rattle.cluster_closing.proofs.Homing.{disks_are_found}

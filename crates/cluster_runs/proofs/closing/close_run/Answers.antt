@@ -1,7 +1,7 @@
 use Rattle.std.proofs.Common.{refl, sym, subst, ap, length, arith}
 use Rattle.cluster_closing.specs.Ends.{HaveDisks}
 use Rattle.cluster_closing.proofs.Laws.{no_disks_are_held}
-use Rattle.run_ends.proofs.Laws.{none_fetched}
+use Rattle.cluster_runs.proofs.Ending.{none_fetched}
 use Rattle.cluster_runs.proofs.closing.close_run.Goals as goal
 
 pub close-requires-clause-fetched : goal.close-requires-clause-fetched

@@ -1,6 +1,6 @@
 use Rattle.std.proofs.Common.{arith, ◌∙◌, ◌+◌, length, sym, subst}
-use Rattle.run_ends.specs.Ends.{IsClosedRun}
-use Rattle.run_ends.proofs.Laws.{all_are_in}
+use Rattle.cluster_runs.specs.Ends.{IsClosedRun}
+use Rattle.cluster_runs.proofs.Ending.{all_are_in}
 use Rattle.cluster_turns.specs.Walkers.{founds_of}
 use Rattle.cluster_closing.specs.Closing.{lists}
 use Rattle.cluster_runs.specs.Ran.{RanAll}

@@ -1,6 +1,6 @@
 use Rattle.std.proofs.Common.{◌+◌, drop, Some, sym, ap, ◌∙◌}
 use Rattle.clv_base.specs.Journals.{own}
-use Rattle.session_births.specs.States.{after_from}
+use Rattle.cluster_turns.specs.States.{after_from}
 use Rattle.interleaving_core.proofs.Entries.{after_first, own_first, own_other, cut}
 use Rattle.interleaving_core.proofs.following.session_of.Goals as goal
 use Rattle.interleaving_core.proofs.following.session_of.Goals.{then-placed-walker, else-placed-walker}

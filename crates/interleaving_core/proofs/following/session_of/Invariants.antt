@@ -1,7 +1,7 @@
 use Rattle.std.proofs.Common.{◌≡◌, ℕ, List, Some, drop}
 use Rattle.clv_base.specs.Journals.{own}
 use Rattle.clv_base.specs.Sessions.{SessionState}
-use Rattle.session_births.specs.States.{session_of, after_from}
+use Rattle.cluster_turns.specs.States.{session_of, after_from}
 use Rattle.interleaving_core.proofs.following.session_of.Given as goal
 
 abbrev pub invariant-loop-placed : goal.invariant-loop-placed

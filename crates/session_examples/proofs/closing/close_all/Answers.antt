@@ -1,7 +1,7 @@
 use Rattle.std.proofs.Common.{◌∙◌, sym, subst, ap, length, arith}
 use Rattle.cluster_closing.specs.Ends.{HaveDisks}
 use Rattle.cluster_closing.proofs.Laws.{no_disks_are_held}
-use Rattle.run_ends.proofs.Laws.{none_fetched}
+use Rattle.cluster_runs.proofs.Laws.{none_fetched}
 use Rattle.session_examples.proofs.Ending.{by_any, legal_by}
 use Rattle.session_examples.proofs.closing.close_all.Goals as goal
 

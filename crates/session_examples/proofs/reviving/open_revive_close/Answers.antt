@@ -2,7 +2,7 @@ use Rattle.std.proofs.Common.{◌≡◌, subst, arith, vec_len}
 use Rattle.std.specs.List.{All}
 use Rattle.clv_base.specs.Shards.{shard_count}
 use Rattle.turn_lock.specs.Passes.{passes_of}
-use Rattle.cluster_ends.specs.Room.{HasRoom}
+use Rattle.cluster_closing.specs.Room.{HasRoom}
 use Rattle.session_examples.proofs.Ending.{all_back}
 use Rattle.session_examples.proofs.reviving.open_revive_close.Goals as goal
 

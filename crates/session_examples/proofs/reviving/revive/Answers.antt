@@ -1,5 +1,5 @@
 use Rattle.std.proofs.Common.{◌∙◌, sym, subst, Ok}
-use Rattle.cluster_ends.specs.Held.{HoldsAt, IsDiskOf}
+use Rattle.cluster_closing.specs.EndHeld.{HoldsAt, IsDiskOf}
 use Rattle.session_examples.proofs.Walking.{home_of}
 use Rattle.session_examples.proofs.Fetching.{one_fetched, none_fetched, refused_again, restarted}
 use Rattle.session_examples.proofs.reviving.revive.Goals as goal

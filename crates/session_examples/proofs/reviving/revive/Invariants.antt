@@ -1,5 +1,5 @@
 use Rattle.std.proofs.Common.{◌≡◌}
-use Rattle.cluster_ends.specs.Held.{HoldsAt, IsDiskOf}
+use Rattle.cluster_closing.specs.EndHeld.{HoldsAt, IsDiskOf}
 use Rattle.session_examples.proofs.Fetching.{HasOneDisk}
 use Rattle.session_examples.proofs.reviving.revive.Given as goal
 

@@ -1,6 +1,6 @@
 use Rattle.std.proofs.Common.{◌≡◌, ◌∙◌, sym, ap, subst, arith, ◌-◌, [], get_or, vec_len}
 use Rattle.cluster_turns.specs.Walkers.{kept}
-use Rattle.run_ends.specs.Ends.{walked_by}
+use Rattle.cluster_runs.specs.Ends.{walked_by}
 use Rattle.session_scripts.specs.Standing.{Holds}
 use Rattle.session_scripts.proofs.Laws.{new_walkers_keep_none}
 use Rattle.session_rows.specs.Moves.{MovesAs}

@@ -1,5 +1,5 @@
 use Rattle.std.proofs.Common.{[]}
-use Rattle.session_births.specs.Turns.{no_turn}
+use Rattle.cluster_turns.specs.CallTurns.{no_turn}
 use Rattle.session_ops.proofs.Passing.{still_active}
 use Rattle.session_ops.proofs.operating.pass_round.Goals as goal
 

@@ -1,5 +1,5 @@
 use Rattle.std.proofs.Common.{Ok}
-use Rattle.cluster_drain.specs.declared.flushing.FlushError.TheVariants.{Failed, Down, Worn, Memory}
+use Rattle.cluster_turns.specs.declared.flushing.FlushError.TheVariants.{Failed, Down, Worn, Memory}
 use Rattle.session_ops.proofs.Rounding.{flush_rounds, flush_fails}
 use Rattle.session_ops.proofs.parts.flush_now.Goals as goal
 

@@ -1,5 +1,0 @@
-use Rattle.acknowledged_laws.proofs.Standing.{acknowledged_at_home}
-use Rattle.acknowledged_laws.proofs.laws.acknowledged_at_home.Goals as goal
-
-pub returns : goal.returns
-returns c = acknowledged_at_home

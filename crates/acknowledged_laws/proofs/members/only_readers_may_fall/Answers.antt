@@ -1,5 +1,0 @@
-use Rattle.acknowledged_laws.proofs.Reading.{only_readers_may_fall}
-use Rattle.acknowledged_laws.proofs.members.only_readers_may_fall.Goals as goal
-
-pub returns : goal.returns
-returns c = only_readers_may_fall

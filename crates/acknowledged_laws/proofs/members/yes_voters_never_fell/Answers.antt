@@ -1,5 +1,0 @@
-use Rattle.acknowledged_laws.proofs.Sparing.{yes_voters_never_fell}
-use Rattle.acknowledged_laws.proofs.members.yes_voters_never_fell.Goals as goal
-
-pub returns : goal.returns
-returns c = yes_voters_never_fell

@@ -1,5 +1,0 @@
-use Rattle.acknowledged_laws.proofs.Readers.{members_never_fell}
-use Rattle.acknowledged_laws.proofs.reader.members_never_fell.Goals as goal
-
-pub returns : goal.returns
-returns c = members_never_fell

@@ -1,5 +1,0 @@
-use Rattle.acknowledged_laws.proofs.Readers.{readers_never_fell}
-use Rattle.acknowledged_laws.proofs.reader.readers_never_fell.Goals as goal
-
-pub returns : goal.returns
-returns c = readers_never_fell

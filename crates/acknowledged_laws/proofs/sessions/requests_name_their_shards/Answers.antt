@@ -1,5 +1,0 @@
-use Rattle.acknowledged_laws.proofs.Naming.{requests_name_their_shards}
-use Rattle.acknowledged_laws.proofs.sessions.requests_name_their_shards.Goals as goal
-
-pub returns : goal.returns
-returns c = requests_name_their_shards

@@ -1,5 +1,0 @@
-use Rattle.cluster_beginning.proofs.Undoing.{begun_stand}
-use Rattle.cluster_beginning.proofs.standing.begun_logs_stand_for_the_same.Goals as goal
-
-pub returns : goal.returns
-returns g = begun_stand

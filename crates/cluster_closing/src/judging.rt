@@ -1,0 +1,93 @@
+// Whether a restart may go on from a log.
+ghost use Rattle.std.specs.Prelude.{◌≡◌, ◌∷◌, suc, None, List, IfOk, IfErr, OnOk};
+ghost use Rattle.clv_base.specs.declared.logs.LogRecord.{LogRecord as RecordIs};
+ghost use Rattle.clv_base.specs.LogRules.{disorder as first_disorder};
+ghost use Rattle.clv_base.specs.Restarts.{bars_restart, first_barred as barred_in, greatest_epoch};
+ghost use Rattle.cluster_closing.specs.Judging.{Bars};
+
+use crate::error::RestartError;
+use clv_base::logs::LogRecord;
+use disks_opening::At;
+use log_disorder::disorder;
+use std::alloc::Global;
+
+// Epochs of a log from which a restart goes on are below it.
+const EPOCHS_END: u64 = 1 << 63;
+
+fn is_barred(run: u32, found: &LogRecord) -> bool
+    ensures { result ≡ bars_restart run found.now }
+{
+    match found {
+        LogRecord::Restart { run: other, epoch } => {
+            run < *other || (*other == run && EPOCHS_END <= *epoch)
+        }
+        _ => false,
+    }
+}
+
+// The first RESTART of a later run, or of this run with too great an epoch.
+fn first_barred(run: u32, log: &[LogRecord]) -> Option<u64>
+    ensures { result ≡ barred_in run log.now }
+{
+    for lsn in 0..log.len() {
+        if is_barred(run, &log[lsn]) {
+            return Some(lsn as u64);
+        }
+    }
+    None
+}
+
+// The greater of an epoch and that of a RESTART of this run.
+fn later(run: u32, so_far: u64, found: &LogRecord) -> u64
+    ensures { (rest : List RecordIs) → greatest_epoch run so_far (found.now ∷ rest) ≡ greatest_epoch run result rest }
+{
+    match found {
+        LogRecord::Restart { run: other, epoch } if *other == run => so_far.max(*epoch),
+        _ => so_far,
+    }
+}
+
+// The greatest epoch of the run in a log, and the shard's own.
+fn greatest(run: u32, own: u64, log: &[LogRecord]) -> u64
+    ensures { result ≡ greatest_epoch run own log.now }
+{
+    let mut so_far = own;
+    for found in log {
+        so_far = later(run, so_far, found);
+    }
+    so_far
+}
+
+// The epoch of the next restart of a shard whose own this is, where its log is in order and doesn't bar it.
+pub(crate) fn judge(
+    alloc: Global,
+    log: &[LogRecord],
+    shard: u32,
+    run: u32,
+    own: u64,
+) -> Result<u64, RestartError>
+    ensures epoch { IfOk result (λ epoch. epoch ≡ suc (greatest_epoch run own log.now)) }
+    ensures in_order { OnOk result (first_disorder shard log.now ≡ None) }
+    ensures free { OnOk result (barred_in run log.now ≡ None) }
+    ensures fault { IfErr result (Bars shard run own log.now) }
+{
+    match disorder(alloc, log, shard) {
+        Ok(None) => {}
+        Ok(Some(lsn)) => {
+            let at = At::Record(lsn);
+            return Err(RestartError::NotLog { at });
+        }
+        Err(_) => return Err(RestartError::Memory),
+    }
+    if let Some(lsn) = first_barred(run, log) {
+        let at = At::Record(lsn);
+        return Err(RestartError::NotLog { at });
+    }
+    match greatest(run, own, log).checked_add(1) {
+        Some(epoch) => Ok(epoch),
+        None => {
+            let at = At::Record(log.len() as u64);
+            Err(RestartError::NotLog { at })
+        }
+    }
+}

@@ -1,5 +1,0 @@
-use Rattle.cluster_ends.proofs.Landing.{new_have_landed}
-use Rattle.cluster_ends.proofs.promises.new_walkers_have_landed.Goals as goal
-
-pub returns : goal.returns
-returns g c = new_have_landed

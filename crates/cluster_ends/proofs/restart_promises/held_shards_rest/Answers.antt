@@ -1,5 +1,0 @@
-use Rattle.turn_laws.proofs.Laws.{held_rests}
-use Rattle.cluster_ends.proofs.restart_promises.held_shards_rest.Goals as goal
-
-pub returns : goal.returns
-returns c = held_rests

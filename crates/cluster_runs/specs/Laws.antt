@@ -1,0 +1,85 @@
+-- What the end of a run is, by what opening and closing its cluster told.
+use Rattle.std.specs.Prelude.{◌≡◌, ℕ, suc, ◌<◌, ◌≤◌, ◌^◌, Bool, true, false, List, ◌++◌, length, slice_index_or, Option, None, Some, Err, slice_get}
+use Rattle.clv_base.specs.Shards.{shard_count}
+use Rattle.clv_base.specs.State.{Shard}
+use Rattle.clv_base.specs.Restarts.{run_after}
+use Rattle.clv_base.specs.Journals.{journal_of}
+use Rattle.disk_model.specs.Story.{Story}
+use Rattle.history_replay.specs.Entries.{Kept, entries_of}
+use Rattle.turn_lock.specs.declared.pass.Pass.{Pass}
+use Rattle.turn_lock.specs.Passes.{seen, pass_origin}
+use Rattle.turn_laws.specs.declared.notes.Note.{Note}
+use Rattle.turn_laws.specs.declared.notes.Origin.{Origin}
+use Rattle.turn_laws.specs.Homes.{state_of, has_failed}
+use Rattle.cluster_turns.specs.declared.home.Home.{Home}
+use Rattle.cluster_turns.specs.declared.shards.Shards.{Shards}
+use Rattle.cluster_turns.specs.declared.shards.Walker.{Walker}
+use Rattle.cluster_turns.specs.Walkers.{kept as kept_by, founds_of}
+use Rattle.script_lang.specs.Bodies.{Body}
+use Rattle.script_runs.specs.declared.ends.StopCause.TheVariants.{Worn}
+use Rattle.run_promises.specs.Ended.{ClusterEnded}
+use Rattle.run_promises.specs.Sessions.{Went, Begun, SessionWent, SessionsWent}
+use Rattle.run_promises.specs.Promises.{RunPromised}
+use Rattle.run_status.specs.Running.{End, IsOk, status_by}
+use Rattle.cluster_runs.specs.Ends.{end_of, walked_by, IsClosedRun}
+use Rattle.cluster_runs.specs.Statuses.{StatusTold, FlushesTold}
+
+module _ (M S G D : Type 0) where
+  -- what such a run leaves is the end of a cluster
+  abbrev pub ClustersEnd : Type 0
+  ClustersEnd =
+      (shard : M → Shard) (sh : Shards M S G) (walkers : List (Walker M S G)) (homes : List (Home M S G)) (kept : Kept) (down : Option ℕ) (counts counts_now : ℕ → ℕ) (out out_now : ℕ → Bool) (before now : ℕ → Option Story)
+      → IsClosedRun D shard sh walkers homes kept down counts counts_now out out_now before now
+      → ClusterEnded sh.splits before now counts counts_now kept (end_of D shard sh homes) (walked_by walkers)
+
+  -- and with how its sessions went it keeps the promise of a run
+  abbrev pub RunsKeep : Type 0
+  RunsKeep =
+      (shard : M → Shard) (sh : Shards M S G) (walkers : List (Walker M S G)) (homes : List (Home M S G)) (kept : Kept) (down : Option ℕ) (counts counts_now : ℕ → ℕ) (out out_now : ℕ → Bool) (before now : ℕ → Option Story)
+      (most : Option ℕ) (script : List (List Body)) (went : ℕ → Went)
+      → IsClosedRun D shard sh walkers homes kept down counts counts_now out out_now before now → SessionsWent sh.splits (run_after (founds_of sh)) most script went (walked_by walkers)
+      → RunPromised sh.splits before now counts counts_now most script went kept
+
+  -- the disks that are no shard's are as they were
+  abbrev pub OthersStand : Type 0
+  OthersStand =
+      (shard : M → Shard) (sh : Shards M S G) (walkers : List (Walker M S G)) (homes : List (Home M S G)) (kept : Kept) (down : Option ℕ) (counts counts_now : ℕ → ℕ) (out out_now : ℕ → Bool) (before now : ℕ → Option Story)
+      → IsClosedRun D shard sh walkers homes kept down counts counts_now out out_now before now → (n : ℕ) → shard_count sh.splits ≤ n → (now n ≡ before n) × (counts_now n ≡ counts n)
+
+  -- a house whose disks were all in has them all in again
+  abbrev pub AllAreIn : Type 0
+  AllAreIn =
+      (shard : M → Shard) (sh : Shards M S G) (walkers : List (Walker M S G)) (homes : List (Home M S G)) (kept : Kept) (down : Option ℕ) (counts counts_now : ℕ → ℕ) (out out_now : ℕ → Bool) (before now : ℕ → Option Story)
+      → IsClosedRun D shard sh walkers homes kept down counts counts_now out out_now before now → ((n : ℕ) → n < 16 → out n ≡ false) → (n : ℕ) → n < 16 → out_now n ≡ false
+
+  -- the status by the lowest shard that is down, and by the gravest end of a drain or a session, tells so of disks and sessions: where that end is fine all sessions
+  -- went through, and where it is worn stamps these are past their bound
+  abbrev pub StatusesTell : Type 0
+  StatusesTell =
+      (shard : M → Shard) (sh : Shards M S G) (walkers : List (Walker M S G)) (homes : List (Home M S G)) (kept : Kept) (down : Option ℕ) (counts counts_now : ℕ → ℕ) (out out_now : ℕ → Bool) (before now : ℕ → Option Story)
+      (sessions : ℕ) (went : ℕ → Went) (end : End)
+      → IsClosedRun D shard sh walkers homes kept down counts counts_now out out_now before now → (IsOk end → (k : ℕ) → k < sessions → went k ≡ Begun None) → ((at : ℕ) → end ≡ Err (Worn at) → at ≡ 2 ^ 48)
+      → StatusTold (shard_count sh.splits) counts counts_now sessions went (status_by down end)
+
+  -- and which shards' flushes failed
+  abbrev pub FlushesTell : Type 0
+  FlushesTell =
+      (shard : M → Shard) (sh : Shards M S G) (walkers : List (Walker M S G)) (homes : List (Home M S G)) (kept : Kept) (down : Option ℕ) (counts counts_now : ℕ → ℕ) (out out_now : ℕ → Bool) (before now : ℕ → Option Story) (end : End)
+      → IsClosedRun D shard sh walkers homes kept down counts counts_now out out_now before now
+      → FlushesTold (shard_count sh.splits) (λ n. has_failed (journal_of n (entries_of kept.journals))) (status_by down end)
+
+  -- a shard that a walker's pass has seen down is one that there is, and its flush failed
+  abbrev pub DownsTell : Type 0
+  DownsTell =
+      (shard : M → Shard) (sh : Shards M S G) (walkers : List (Walker M S G)) (homes : List (Home M S G)) (kept : Kept) (down : Option ℕ) (counts counts_now : ℕ → ℕ) (out out_now : ℕ → Bool) (before now : ℕ → Option Story)
+      (k n : ℕ) (d : Walker M S G) (p : Pass (Home M S G) Note Origin) (origin : Origin) (first later : List Note)
+      → IsClosedRun D shard sh walkers homes kept down counts counts_now out out_now before now → k < length walkers → slice_index_or (slice_index_or walkers k d).passes.items n None ≡ Some p
+      → pass_origin p ≡ Some origin → seen p ≡ first ++ later → (state_of origin first).is_up ≡ false
+      → (n < shard_count sh.splits) × (has_failed (journal_of n (entries_of kept.journals)) ≡ true)
+
+-- walkers whose numbers are their places, walker 0 and one for each session of the script, made the entries of these sessions
+abbrev pub SessionsHaveGone : (M S G : Type 0) → Type 0
+SessionsHaveGone M S G =
+    (splits : List ℕ) (run : ℕ) (most : Option ℕ) (script : List (List Body)) (went : ℕ → Went) (walkers : List (Walker M S G)) → ((k : ℕ) (d : Walker M S G) → k < length walkers → (slice_index_or walkers k d).number ≡ k) → length walkers ≡ suc (length script)
+    → ((k : ℕ) (bodies : List Body) (d : Walker M S G) → slice_get script k ≡ Some bodies → SessionWent splits run (suc k) most bodies (went k) (kept_by (slice_index_or walkers (suc k) d).passes.items))
+    → SessionsWent splits run most script went (walked_by walkers)

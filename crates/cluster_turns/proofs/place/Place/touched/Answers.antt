@@ -1,0 +1,18 @@
+use Rattle.std.proofs.Common.{◌∙◌, map, nat_lt, sym, ap, arith}
+use Rattle.std.specs.List.{list_all}
+use Rattle.clv_base.specs.FileRules.{numbers_rise}
+use Rattle.clv_base.specs.Sessions.{SessionState}
+use Rattle.cluster_turns.proofs.Touching.{places_rise, places_low}
+use Rattle.cluster_turns.proofs.place.Place.touched.Goals as goal
+
+pub returns-in_err-push-clause-rise : goal.returns-in_err-push-clause-rise
+returns-in_err-push-clause-rise c = sym (ap (λ (t : SessionState). numbers_rise (map (λ x. x.0) t.touched)) c.self.view_is) ∙ places_rise 0 c.self.inside.epochs
+
+pub returns-in_err-push-clause-low : goal.returns-in_err-push-clause-low
+returns-in_err-push-clause-low c = sym (ap (λ (t : SessionState). list_all (λ x. nat_lt x.0 16) t.touched) c.self.view_is) ∙ places_low 0 c.self.inside.epochs (let i = c.self.invariant in omega arith)
+
+pub returns-clause-rise : goal.returns-clause-rise
+returns-clause-rise c = sym (ap (λ (t : SessionState). numbers_rise (map (λ x. x.0) t.touched)) c.self.view_is) ∙ places_rise 0 c.self.inside.epochs
+
+pub returns-clause-low : goal.returns-clause-low
+returns-clause-low c = sym (ap (λ (t : SessionState). list_all (λ x. nat_lt x.0 16) t.touched) c.self.view_is) ∙ places_low 0 c.self.inside.epochs (let i = c.self.invariant in omega arith)

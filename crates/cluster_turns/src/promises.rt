@@ -1,0 +1,73 @@
+// Births through a walker's turns.
+ghost use Rattle.cluster_turns.specs.Laws.{FreeStays, InformedStay, InformedLater, NewAreInformed, NewIsFree};
+ghost use Rattle.cluster_turns.specs.Unborn.{UnbornStays, UnlessStays, AnsweredIsInEpoch, DiesAtRequest, EndsUnbear, NewIsUnborn, UnbornIsFree, UnbornUnlessNone, UnbornUnlessAny};
+
+/// A birth stays free while the walker's own turns leave it to its transaction.
+pub fn free_stays<T>()
+    ensures { FreeStays T }
+{}
+
+/// What passes know stays so.
+pub fn informed_stay<T>()
+    ensures { InformedStay T }
+{}
+
+/// With a later clock too.
+pub fn informed_later<T>()
+    ensures { InformedLater T }
+{}
+
+/// New passes know it.
+pub fn new_are_informed<T>()
+    ensures { NewAreInformed T }
+{}
+
+/// A birth past the clock is free.
+pub fn new_is_free<T>()
+    ensures { NewIsFree T }
+{}
+
+/// A birth that no transaction has active on a shard stays so while the walker's own turns there make no operation of it.
+pub fn unborn_stays<T>()
+    ensures { UnbornStays T }
+{}
+
+/// It is so where its one transaction died, made its request or was dropped.
+pub fn ends_unbear<T>()
+    ensures { EndsUnbear T }
+{}
+
+/// A birth past the clock is so everywhere.
+pub fn new_is_unborn<T>()
+    ensures { NewIsUnborn T }
+{}
+
+/// Then it is free for each transaction.
+pub fn unborn_is_free<T>()
+    ensures { UnbornIsFree T }
+{}
+
+/// What is so but for the part of one epoch stays so too.
+pub fn unless_stays<T>()
+    ensures { UnlessStays T }
+{}
+
+/// Where an operation was answered its shard is in that epoch.
+pub fn answered_is_in_epoch<T>()
+    ensures { AnsweredIsInEpoch T }
+{}
+
+/// A request that died leaves no active part at its home.
+pub fn dies_at_request<T>()
+    ensures { DiesAtRequest T }
+{}
+
+/// No epoch, no part.
+pub fn unborn_unless_none<T>()
+    ensures { UnbornUnlessNone T }
+{}
+
+/// What has no active part at all has none in any epoch.
+pub fn unborn_unless_any<T>()
+    ensures { UnbornUnlessAny T }
+{}

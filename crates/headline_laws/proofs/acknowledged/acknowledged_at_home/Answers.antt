@@ -1,0 +1,5 @@
+use Rattle.headline_laws.proofs.MembersStanding.{acknowledged_at_home}
+use Rattle.headline_laws.proofs.acknowledged.acknowledged_at_home.Goals as goal
+
+pub returns : goal.returns
+returns c = acknowledged_at_home

@@ -1,0 +1,5 @@
+use Rattle.headline_laws.proofs.MembersStanding.{acknowledged_stand}
+use Rattle.headline_laws.proofs.acknowledged.acknowledged_stand.Goals as goal
+
+pub returns : goal.returns
+returns c = acknowledged_stand

@@ -1,0 +1,5 @@
+use Rattle.headline_laws.proofs.Ended.{ended_are_committed}
+use Rattle.headline_laws.proofs.ending.ended_are_committed.Goals as goal
+
+pub returns : goal.returns
+returns c = ended_are_committed

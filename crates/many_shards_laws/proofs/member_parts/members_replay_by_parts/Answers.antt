@@ -1,5 +1,0 @@
-use Rattle.many_shards_laws.proofs.Parts.{members_replay_by_parts}
-use Rattle.many_shards_laws.proofs.member_parts.members_replay_by_parts.Goals as goal
-
-pub returns : goal.returns
-returns c = members_replay_by_parts

@@ -1,5 +1,0 @@
-use Rattle.many_shards_laws.proofs.Turns.{shares_make_the_map}
-use Rattle.many_shards_laws.proofs.shard_replay.shares_make_the_map.Goals as goal
-
-pub returns : goal.returns
-returns c = shares_make_the_map

@@ -1,5 +1,0 @@
-use Rattle.many_shards_laws.proofs.ShardReplaying.{replay_by_shards}
-use Rattle.many_shards_laws.proofs.shard_replay.transactions_replay_by_shards.Goals as goal
-
-pub returns : goal.returns
-returns c = replay_by_shards

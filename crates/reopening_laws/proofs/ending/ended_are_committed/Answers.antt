@@ -1,5 +1,0 @@
-use Rattle.reopening_laws.proofs.Ended.{ended_are_committed}
-use Rattle.reopening_laws.proofs.ending.ended_are_committed.Goals as goal
-
-pub returns : goal.returns
-returns c = ended_are_committed

@@ -1,5 +1,0 @@
-use Rattle.reopening_laws.proofs.Polled.{parts_are_the_yes_voters}
-use Rattle.reopening_laws.proofs.ending.parts_are_the_yes_voters.Goals as goal
-
-pub returns : goal.returns
-returns c = parts_are_the_yes_voters

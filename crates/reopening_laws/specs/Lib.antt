@@ -1,4 +1,0 @@
-pub mod Reopening
-pub mod Ends
-pub mod Ended
-pub mod Voters

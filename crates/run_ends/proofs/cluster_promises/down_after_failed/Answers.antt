@@ -1,5 +1,0 @@
-use Rattle.run_ends.proofs.Holding.{down_after_failed}
-use Rattle.run_ends.proofs.cluster_promises.down_after_failed.Goals as goal
-
-pub returns : goal.returns
-returns c = down_after_failed

@@ -1,5 +1,0 @@
-use Rattle.run_ends.proofs.Ending.{sessions_have_gone}
-use Rattle.run_ends.proofs.promises.sessions_have_gone.Goals as goal
-
-pub returns : goal.returns
-returns g c = sessions_have_gone

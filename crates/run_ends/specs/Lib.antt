@@ -1,4 +1,0 @@
-pub mod Ends
-pub mod Statuses
-pub mod ClusterLaws
-pub mod Laws

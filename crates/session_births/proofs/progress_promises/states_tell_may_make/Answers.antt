@@ -1,5 +1,0 @@
-use Rattle.session_births.proofs.States.{states_tell_may_make}
-use Rattle.session_births.proofs.progress_promises.states_tell_may_make.Goals as goal
-
-pub returns : goal.returns
-returns c = states_tell_may_make

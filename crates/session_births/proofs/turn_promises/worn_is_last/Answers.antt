@@ -1,5 +1,0 @@
-use Rattle.session_births.proofs.Answering.{worn_is_last}
-use Rattle.session_births.proofs.turn_promises.worn_is_last.Goals as goal
-
-pub returns : goal.returns
-returns g c = worn_is_last

@@ -1,0 +1,241 @@
+-- A scan, shard by shard.
+use Rattle.std.proofs.Common.{◌≡◌, ◌∙◌, refl, sym, ap, subst, ℕ, zero, suc, ◌<◌, ◌+◌, ◌==◌, nat_le, Bool, true, false, cond, ◌&&◌, ◌||◌, List, [], ◌∷◌, ◌++◌, append-nil, Option, Some, None, Result, Ok, Err, arith, inl, inr, eq-eqb}
+use Rattle.std.specs.Prelude.{◌⊎◌, is_some, max, min, IfOk}
+use Rattle.std.specs.List.{AllByRecursion}
+use Rattle.std.proofs.lemmas.Bool.{and_from, lt-ltb, leb-true, le-leb}
+use Rattle.clv_base.specs.declared.names.TxId.{TxId}
+use Rattle.clv_base.specs.declared.names.Birth.{Birth}
+use Rattle.clv_base.specs.declared.ops.Op.{Op}
+use Rattle.clv_base.specs.declared.ops.Op.TheVariants.{Scan}
+use Rattle.clv_base.specs.declared.ops.Answer.{Answer}
+use Rattle.clv_base.specs.declared.events.Event.{Event}
+use Rattle.clv_base.specs.declared.events.Event.TheVariants.{Op as OpEvent}
+use Rattle.clv_base.specs.Shards.{span, lies_within}
+use Rattle.clv_base.specs.Sessions.{SessionState, is_number, goes_on_scan, is_of_session, lies_in}
+use Rattle.turn_lock.specs.declared.pass.Pass.{Pass}
+use Rattle.turn_laws.specs.declared.notes.Note.{Note}
+use Rattle.turn_laws.specs.declared.notes.Origin.{Origin}
+use Rattle.cluster_turns.specs.CallTurns.{Turn, no_turn, AnyTurn}
+use Rattle.cluster_turns.proofs.Laws.{turns_follow}
+use Rattle.session_ops.specs.declared.operating.OpError.{OpError}
+use Rattle.session_ops.specs.declared.operating.OpError.TheVariants.{Aborted, Down, Worn, Memory}
+use Rattle.session_ops.specs.Operated.{IsAnswered, Died, Waits, OnlyOf, ToldBy, PlacedBy, answered_in}
+use Rattle.session_ops.specs.Dropped.{Drops}
+use Rattle.session_ops.specs.Decided.{DropsOthers}
+use Rattle.session_ops.proofs.Laws.{any_before, any_after}
+use Rattle.session_ops.specs.Parts.{has_died, LeftBy, Performing}
+use Rattle.session_ops.specs.Scanned.{part_within, part_on, Range, IsPartScan, IsScanWait, pairs_in, GivesPairs, DiesOfScan, PartGiven, Gathered, IsOfScan, ScanFailed, Scanning, StepTold, Stepping, IsBelow, IsUnder, IsSameTx, TakesPairs}
+use Rattle.session_ops.proofs.Parting.{all_append}
+
+-- ---- parts of a range
+
+some_part : (a b : ℕ × ℕ) → ◌≡◌ {A = Option (ℕ × ℕ)} (Some a) (Some b) → a ≡ b
+some_part a b h = cc
+
+within_bounds : (lo hi : ℕ) (s part : ℕ × ℕ) → part_within lo hi (Some s) ≡ Some part → (lies_within (Some s) part.0 && lies_within (Some s) part.1) ≡ true
+within_bounds lo hi s part h = at (nat_le (max lo s.0) (min hi s.1)) refl h
+  where
+    at : (b : Bool) → nat_le (max lo s.0) (min hi s.1) ≡ b → cond b (Some (max lo s.0, min hi s.1)) None ≡ Some part → (lies_within (Some s) part.0 && lies_within (Some s) part.1) ≡ true
+    at false is k = absurd cc
+    at true is k =
+        let l = leb-true (max lo s.0) (min hi s.1) is in
+        subst (λ (p : ℕ × ℕ). (lies_within (Some s) p.0 && lies_within (Some s) p.1) ≡ true) (some_part (max lo s.0, min hi s.1) part k)
+        (and_from _ _ (and_from _ _ (le-leb s.0 (max lo s.0) (omega arith)) (le-leb (max lo s.0) s.1 (omega arith))) (and_from _ _ (le-leb s.0 (min hi s.1) (omega arith)) (le-leb (min hi s.1) s.1 (omega arith))))
+
+part_bounds : (lo hi : ℕ) (o : Option (ℕ × ℕ)) (part : ℕ × ℕ) → part_within lo hi o ≡ Some part → (lies_within o part.0 && lies_within o part.1) ≡ true
+part_bounds lo hi None part h = absurd cc
+part_bounds lo hi (Some s) part h = within_bounds lo hi s part h
+
+pub part_lies : (splits : List ℕ) (n lo hi : ℕ) (part : ℕ × ℕ) → part_on splits n lo hi ≡ Some part → lies_in splits n (Scan part.0 part.1) ≡ true
+part_lies splits n lo hi part h = part_bounds lo hi (span splits n) part h
+
+-- ---- the number
+
+below_so : (n : ℕ) (o : Option ℕ) → IsBelow n o → goes_on_scan o (Some n) ≡ true
+below_so n None h = absurd h
+below_so n (Some a) h = lt-ltb a n h
+
+pub under_number : (n nth a b : ℕ) (p : SessionState) → IsUnder n nth p → is_number p n nth (Scan a b) ≡ true
+under_number n nth a b p (inl h) = ap (λ c. c || ((nth == p.nth) && goes_on_scan p.scanned (Some n))) (eq-eqb nth (suc p.nth) (omega arith))
+under_number n nth a b p (inr h) = or_so (nth == suc p.nth) ((nth == p.nth) && goes_on_scan p.scanned (Some n)) (and_from (nth == p.nth) (goes_on_scan p.scanned (Some n)) (eq-eqb nth p.nth h.0) (below_so n p.scanned h.1))
+  where
+    or_so : (x y : Bool) → y ≡ true → (x || y) ≡ true
+    or_so true y k = refl
+    or_so false y k = k
+
+below_next : (n : ℕ) (o : Option ℕ) → IsBelow n o → IsBelow (n + 1) o
+below_next n None h = h
+below_next n (Some a) h = omega arith
+
+pub under_next : (n nth : ℕ) (p : SessionState) → IsUnder n nth p → IsUnder (n + 1) nth p
+under_next n nth p (inl h) = inl h
+under_next n nth p (inr h) = inr (h.0, below_next n p.scanned h.1)
+
+-- ---- turns
+
+any_map : (P Q : Turn → Type 0) → ((t : Turn) → P t → Q t) → (ts : List Turn) → AnyTurn P ts → AnyTurn Q ts
+any_map P Q f [] h = absurd h
+any_map P Q f (t ∷ ts) (inl h) = inl (f t h)
+any_map P Q f (t ∷ ts) (inr h) = inr (any_map P Q f ts h)
+
+all_map : (P Q : Turn → Type 0) → ((t : Turn) → P t → Q t) → (ts : List Turn) → AllByRecursion P ts → AllByRecursion Q ts
+all_map P Q f [] h = tt
+all_map P Q f (t ∷ ts) h = (f t h.0, all_map P Q f ts h.1)
+
+module _ (splits : List ℕ) (x : Range) (n : ℕ) (seen : Option ℕ) (part : ℕ × ℕ) (is : part_on splits n x.lo x.hi ≡ Some part) where
+  abbrev scan_event : Event
+  scan_event = OpEvent x.tx x.birth x.nth seen (Scan part.0 part.1)
+
+  is_scan : (t : Turn) → t.event ≡ scan_event → IsPartScan splits x n t
+  is_scan t e = record { seen = seen; part = part; meets = is; event = e }
+
+  of_scan : (t : Turn) → (is_of_session t.event ≡ false) ⊎ (t.event ≡ scan_event) → IsOfScan splits x t
+  of_scan t (inl h) = inl h
+  of_scan t (inr h) = inr (inl (n, is_scan t h))
+
+  of_drop : (touched : List (ℕ × ℕ)) (t : Turn) → Drops x.tx touched (Some n) t → IsOfScan splits x t
+  of_drop touched t h = inr (inr h.event)
+
+  pub all_of_scan : (touched : List (ℕ × ℕ)) (ts us : List Turn) → OnlyOf scan_event ts → AllByRecursion (Drops x.tx touched (Some n)) us → AllByRecursion (IsOfScan splits x) (ts ++ us)
+  all_of_scan touched ts us a b = all_append (IsOfScan splits x) ts us (all_map _ (IsOfScan splits x) of_scan ts a) (all_map _ (IsOfScan splits x) (of_drop touched) us b)
+
+  pub given : (answer : Answer) (ts : List Turn) → AnyTurn (IsAnswered n scan_event answer) ts → AnyTurn (GivesPairs splits x n (pairs_in answer)) ts
+  given answer ts h = any_map (IsAnswered n scan_event answer) (GivesPairs splits x n (pairs_in answer)) (λ t a. record { shard = a.0; scan = is_scan t a.1; answer = answer; epoch = a.2.0; answered = a.2.1; pairs = refl }) ts h
+
+  pub failed : (count : ℕ) (touched : List (ℕ × ℕ)) (e : OpError) (ts us : List Turn) → ToldBy n scan_event (Err e) ts → LeftBy count n x.tx touched (has_died {A = Answer} (Err e)) us → ScanFailed splits count x touched e (ts ++ us)
+  failed count touched (Aborted cause) ts us h left = (
+    n,
+    (
+      any_before _ ts us (any_map (Died n scan_event cause) (DiesOfScan splits x n cause) (λ t a. record { shard = a.0; scan = is_scan t a.1; died = a.2 }) ts h),
+      λ k low to. any_after _ ts us (left k low to),
+    ),
+  )
+  failed count touched (Down m) ts us h left = (any_before _ ts us h.0, by h.1)
+    where
+      by : (m ≡ n) ⊎ AnyTurn (Waits n scan_event) ts → (is_some (part_on splits m x.lo x.hi) ≡ true) ⊎ AnyTurn (IsScanWait splits x) (ts ++ us)
+      by (inl same) = inl (ap (λ k. is_some (part_on splits k x.lo x.hi)) same ∙ ap is_some is)
+      by (inr w) = inr (any_before _ ts us (any_map (Waits n scan_event) (IsScanWait splits x) (λ t a. record { at = n; scan = is_scan t a.1; waits = a.2 }) ts w))
+  failed count touched (Worn at) ts us h left = any_before _ ts us h
+  failed count touched Memory ts us h left = tt
+
+-- ---- one shard
+
+pub same_after : (n nth : ℕ) (op : Op) (p q : SessionState) (r : Result Answer OpError) → PlacedBy n nth op p (answered_in r) q → IsSameTx p q
+same_after n nth op p q (Ok answer) h = (ap (λ z. z.tx) h.1, ap (λ z. z.birth) h.1)
+same_after n nth op p q (Err (Aborted cause)) h = (ap (λ z. z.tx) h, ap (λ z. z.birth) h)
+same_after n nth op p q (Err (Down m)) h = (ap (λ z. z.tx) h, ap (λ z. z.birth) h)
+same_after n nth op p q (Err (Worn at)) h = (ap (λ z. z.tx) h, ap (λ z. z.birth) h)
+same_after n nth op p q (Err Memory) h = (ap (λ z. z.tx) h, ap (λ z. z.birth) h)
+
+-- after an answer
+pub answered_under : (n nth a b : ℕ) (p q : SessionState) (answer : Answer) → PlacedBy n nth (Scan a b) p (Ok (Some answer)) q → IsUnder (n + 1) nth q
+answered_under n nth a b p q answer h = inr (sym (ap (λ z. z.nth) h.1), subst (IsBelow (n + 1)) (sym (ap (λ z. z.scanned) h.1)) (let l : n < n + 1 = omega arith in l))
+
+pub taken_under : (n nth a b : ℕ) (p q : SessionState) (answer : Result Answer OpError) (r : Result Unit OpError) (ps qs : List (ℕ × ℕ)) → PlacedBy n nth (Scan a b) p (answered_in answer) q → TakesPairs ps answer r qs
+    → IfOk r (λ u. IsUnder (n + 1) nth q)
+taken_under n nth a b p q answer (Err e) ps qs h t = tt
+taken_under n nth a b p q (Ok answer) (Ok u) ps qs h t = answered_under n nth a b p q answer h
+taken_under n nth a b p q (Err e) (Ok u) ps qs h t = absurd cc
+
+-- an end of a scan for want of memory alone is no death
+pub taken_died : (answer : Result Answer OpError) (r : Result Unit OpError) (ps qs : List (ℕ × ℕ)) → TakesPairs ps answer r qs → has_died answer ≡ has_died r
+taken_died (Ok answer) (Ok u) ps qs t = refl
+taken_died (Ok answer) (Err e) ps qs t = sym (ap (λ z. has_died {A = Unit {0}} (Err z)) t)
+taken_died (Err (Aborted cause)) r ps qs t = sym (ap has_died t)
+taken_died (Err (Down m)) r ps qs t = sym (ap has_died t)
+taken_died (Err (Worn at)) r ps qs t = sym (ap has_died t)
+taken_died (Err Memory) r ps qs t = sym (ap has_died t)
+
+-- the touched shards when a transaction died
+died_touched : (count n nth : ℕ) (op : Op) (p q : SessionState) (e : OpError) (tx : TxId) (ts : List Turn) → PlacedBy n nth op p (Err e) q → LeftBy count n tx p.touched (has_died {A = Answer} (Err e)) ts → LeftBy count n tx q.touched (has_died {A = Answer} (Err e)) ts
+died_touched count n nth op p q (Aborted cause) tx ts h l = subst (λ z. DropsOthers count tx z n ts) (sym (ap (λ z. z.touched) h)) l
+died_touched count n nth op p q (Down m) tx ts h l = l
+died_touched count n nth op p q (Worn at) tx ts h l = l
+died_touched count n nth op p q Memory tx ts h l = l
+
+module _ {T : Type 0} where
+  pub stepped : (splits : List ℕ) (count w c d n : ℕ) (before after : List (Option (Pass T Note Origin))) (x : Range) (seen : Option ℕ) (part : ℕ × ℕ) (p q : SessionState) (answer : Result Answer OpError) (r : Result Unit OpError)
+      (ps qs : List (ℕ × ℕ)) → part_on splits n x.lo x.hi ≡ Some part → p.tx ≡ x.tx → Performing count w c before n p (OpEvent x.tx x.birth x.nth seen (Scan part.0 part.1)) answer d after → PlacedBy n x.nth (Scan part.0 part.1) p (answered_in answer) q
+      → TakesPairs ps answer r qs → Stepping splits count w c before x n q.touched ps qs r d after
+  stepped splits count w c d n before after x seen part p q answer r ps qs is name h place t = record {
+    turns = h.asking ++ h.leaving;
+    took = h.took;
+    only = all_of_scan splits x n seen part is p.touched h.asking h.leaving h.only (subst (λ z. AllByRecursion (Drops z p.touched (Some n)) h.leaving) name h.drops);
+    told = at answer r h.told h.left place t;
+  }
+    where
+      at : (answer : Result Answer OpError) (r : Result Unit OpError) → ToldBy n (OpEvent x.tx x.birth x.nth seen (Scan part.0 part.1)) (answered_in answer) h.asking → LeftBy count n p.tx p.touched (has_died answer) h.leaving
+          → PlacedBy n x.nth (Scan part.0 part.1) p (answered_in answer) q → TakesPairs ps answer r qs → StepTold splits count x n q.touched ps qs r (h.asking ++ h.leaving)
+      at (Ok answer) (Ok u) told left place t =
+          (pairs_in answer, t, subst (λ o. PartGiven splits x n o (pairs_in answer) (h.asking ++ h.leaving)) (sym is) (any_before _ h.asking h.leaving (given splits x n seen part is answer h.asking told)))
+      at (Ok answer) (Err e) told left place t = subst (λ z. ScanFailed splits count x q.touched z (h.asking ++ h.leaving)) (sym t) tt
+      at (Err e) r told left place t =
+          subst (λ z. StepTold splits count x n q.touched ps qs z (h.asking ++ h.leaving)) (sym t)
+          (failed splits x n seen part is count q.touched e h.asking h.leaving told
+          (subst (λ z. LeftBy count n z q.touched (has_died {A = Answer} (Err e)) h.leaving) name (died_touched count n x.nth (Scan part.0 part.1) p q e p.tx h.leaving place left)))
+
+  -- a shard that the range doesn't meet
+  pub passed : (splits : List ℕ) (count w c n : ℕ) (ps : List (Option (Pass T Note Origin))) (x : Range) (touched qs : List (ℕ × ℕ)) (u : Unit) → part_on splits n x.lo x.hi ≡ None → Stepping splits count w c ps x n touched qs qs (Ok u) c ps
+  passed splits count w c n ps x touched qs u is = record {
+    turns = [];
+    took = no_turn c ps;
+    only = tt;
+    told = ([], sym (append-nil qs), subst (λ o. PartGiven splits x n o [] []) (sym is) refl);
+  }
+
+-- ---- shard after shard
+
+given_before : (splits : List ℕ) (x : Range) (n : ℕ) (o : Option (ℕ × ℕ)) (rs : List (ℕ × ℕ)) (ts us : List Turn) → PartGiven splits x n o rs ts → PartGiven splits x n o rs (ts ++ us)
+given_before splits x n None rs ts us h = h
+given_before splits x n (Some part) rs ts us h = any_before _ ts us h
+
+given_after : (splits : List ℕ) (x : Range) (n : ℕ) (o : Option (ℕ × ℕ)) (rs : List (ℕ × ℕ)) (ts us : List Turn) → PartGiven splits x n o rs us → PartGiven splits x n o rs (ts ++ us)
+given_after splits x n None rs ts us h = h
+given_after splits x n (Some part) rs ts us h = any_after _ ts us h
+
+gathered_before : (splits : List ℕ) (x : Range) (n : ℕ) (ps : List (ℕ × ℕ)) (ts us : List Turn) → Gathered splits x n ps ts → Gathered splits x n ps (ts ++ us)
+gathered_before splits x zero ps ts us h = h
+gathered_before splits x (suc n) ps ts us (qs, (rs, is, h, g)) = (qs, (rs, is, gathered_before splits x n qs ts us h, given_before splits x n (part_on splits n x.lo x.hi) rs ts us g))
+
+failed_after : (splits : List ℕ) (count : ℕ) (x : Range) (touched : List (ℕ × ℕ)) (e : OpError) (ts us : List Turn) → ScanFailed splits count x touched e us → ScanFailed splits count x touched e (ts ++ us)
+failed_after splits count x touched (Aborted cause) ts us (n, (h, d)) = (n, (any_after _ ts us h, λ k l is. any_after _ ts us (d k l is)))
+failed_after splits count x touched (Down m) ts us h = (any_after _ ts us h.0, by h.1)
+  where
+    by : (is_some (part_on splits m x.lo x.hi) ≡ true) ⊎ AnyTurn (IsScanWait splits x) us → (is_some (part_on splits m x.lo x.hi) ≡ true) ⊎ AnyTurn (IsScanWait splits x) (ts ++ us)
+    by (inl k) = inl k
+    by (inr k) = inr (any_after _ ts us k)
+failed_after splits count x touched (Worn at) ts us h = any_after _ ts us h
+failed_after splits count x touched Memory ts us h = tt
+
+module _ {T : Type 0} where
+  pub nothing_scanned : (splits : List ℕ) (w c : ℕ) (ps : List (Option (Pass T Note Origin))) (x : Range) (touched : List (ℕ × ℕ)) → Scanning splits 0 w c ps x touched (Ok []) c ps
+  nothing_scanned splits w c ps x touched = record { turns = []; took = no_turn c ps; only = tt; told = refl }
+
+  pub scanned_on : (splits : List ℕ) (count w c d e n : ℕ) (as_ bs cs : List (Option (Pass T Note Origin))) (x : Range) (old touched ps qs : List (ℕ × ℕ)) (u : Unit) → Scanning splits n w c as_ x old (Ok ps) d bs
+      → Stepping splits count w d bs x n touched ps qs (Ok u) e cs → Scanning splits (n + 1) w c as_ x touched (Ok qs) e cs
+  scanned_on splits count w c d e n as_ bs cs x old touched ps qs u a b = record {
+    turns = a.turns ++ b.turns;
+    took = turns_follow w c d e as_ bs cs a.turns b.turns a.took b.took;
+    only = all_append (IsOfScan splits x) a.turns b.turns a.only b.only;
+    told = subst (λ k. Gathered splits x k qs (a.turns ++ b.turns)) (let k : suc n ≡ n + 1 = omega arith in k)
+        (ps, (b.told.0, b.told.1, gathered_before splits x n ps a.turns b.turns a.told, given_after splits x n (part_on splits n x.lo x.hi) b.told.0 a.turns b.turns b.told.2));
+  }
+
+  pub scan_fails : (splits : List ℕ) (count w c d k n : ℕ) (as_ bs cs : List (Option (Pass T Note Origin))) (x : Range) (old touched ps qs : List (ℕ × ℕ)) (e : OpError) → Scanning splits n w c as_ x old (Ok ps) d bs
+      → Stepping splits count w d bs x n touched ps qs (Err e) k cs → Scanning splits count w c as_ x touched (Err e) k cs
+  scan_fails splits count w c d k n as_ bs cs x old touched ps qs e a b = record {
+    turns = a.turns ++ b.turns;
+    took = turns_follow w c d k as_ bs cs a.turns b.turns a.took b.took;
+    only = all_append (IsOfScan splits x) a.turns b.turns a.only b.only;
+    told = failed_after splits count x touched e a.turns b.turns b.told;
+  }
+
+module _ {T : Type 0} where
+  -- the same scan by other names
+  pub as_scan : (splits : List ℕ) (count w k c d n : ℕ) (as_ bs : List (Option (Pass T Note Origin))) (tx y : TxId) (birth : Birth) (nth z lo hi : ℕ) (touched ps qs : List (ℕ × ℕ)) (r : Result Unit OpError) → k ≡ w → tx ≡ y → nth ≡ z
+      → Stepping splits count k c as_ (record { tx = tx; birth = birth; nth = nth; lo = lo; hi = hi }) n touched ps qs r d bs
+      → Stepping splits count w c as_ (record { tx = y; birth = birth; nth = z; lo = lo; hi = hi }) n touched ps qs r d bs
+  as_scan splits count w k c d n as_ bs tx y birth nth z lo hi touched ps qs r a b e h =
+      subst (λ (i : ℕ). Stepping splits count i c as_ (record { tx = y; birth = birth; nth = z; lo = lo; hi = hi }) n touched ps qs r d bs) a
+      (subst (λ (i : TxId). Stepping splits count k c as_ (record { tx = i; birth = birth; nth = z; lo = lo; hi = hi }) n touched ps qs r d bs) b
+      (subst (λ (i : ℕ). Stepping splits count k c as_ (record { tx = tx; birth = birth; nth = i; lo = lo; hi = hi }) n touched ps qs r d bs) e h))

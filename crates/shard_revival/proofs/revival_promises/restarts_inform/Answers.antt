@@ -1,5 +1,0 @@
-use Rattle.shard_revival.proofs.Informing.{restarts_inform}
-use Rattle.shard_revival.proofs.revival_promises.restarts_inform.Goals as goal
-
-pub returns : goal.returns
-returns g c = restarts_inform
