@@ -26,7 +26,7 @@ use Rattle.session_ops.specs.Dropped.{is_to_drop, Drops, Dropping, IsLeft, IsEnd
 use Rattle.session_ops.specs.Unbearing.{IsEnded, UnbornOrWorn}
 use Rattle.session_ops.proofs.Unbearing.{are_drops, dropped_unborn}
 use Rattle.session_ops.proofs.Parting.{all_append}
-use Rattle.session_ops.proofs.Laws.{any_after, any_before}
+use Rattle.session_ops.proofs.Parting.{any_after, any_before}
 use Rattle.session_ops.specs.Standings.{StandsAt, StandsAs}
 use Rattle.session_ops.specs.Decided.{Leaving, IsLeftOver, LeavesIf, is_aborted, IsLookOrDrop, DecidedBy, Deciding}
 

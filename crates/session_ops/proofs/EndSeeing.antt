@@ -29,7 +29,7 @@ use Rattle.session_ops.specs.declared.settled_looking.SettleError.TheVariants.{A
 use Rattle.session_ops.specs.Settled.{looked_as, refusal_of, IsLook, Acknowledges, SettledBy, PlacedBy, OnlyLooks, Settling, StandsBy}
 use Rattle.session_ops.proofs.Pointing.{stamp_told}
 use Rattle.session_ops.proofs.Parting.{all_append}
-use Rattle.session_ops.proofs.Laws.{any_after, any_before}
+use Rattle.session_ops.proofs.Parting.{any_after, any_before}
 use Rattle.session_ops.proofs.Rounding.{ended_after, others_follow}
 
 looked_told : (n c : ℕ) (tx : TxId) (r : Result Outcome StepError) (t : Turn) → ((o : Outcome) → r ≡ Ok o → is_look_outcome o ≡ true) → (r ≡ Ok Acknowledged → Acknowledges n tx (record { stamp = c; shard = n }) t) → t.shard ≡ n → t.event ≡ Look tx → t.answer ≡ r

@@ -22,7 +22,7 @@ use Rattle.session_ops.specs.declared.operating.OpError.TheVariants.{Aborted, Do
 use Rattle.session_ops.specs.Operated.{IsAnswered, Died, Waits, OnlyOf, ToldBy, PlacedBy, answered_in}
 use Rattle.session_ops.specs.Dropped.{Drops}
 use Rattle.session_ops.specs.Decided.{DropsOthers}
-use Rattle.session_ops.proofs.Laws.{any_before, any_after}
+use Rattle.session_ops.proofs.Parting.{any_before, any_after}
 use Rattle.session_ops.specs.Parts.{has_died, LeftBy, Performing}
 use Rattle.session_ops.specs.Scanned.{part_within, part_on, Range, IsPartScan, IsScanWait, pairs_in, GivesPairs, DiesOfScan, PartGiven, Gathered, IsOfScan, ScanFailed, Scanning, StepTold, Stepping, IsBelow, IsUnder, IsSameTx, TakesPairs}
 use Rattle.session_ops.proofs.Parting.{all_append}

@@ -9,4 +9,3 @@ pub use Rattle.session_ops.proofs.Rounding.{others_follow, ended_after}
 pub use Rattle.session_ops.proofs.Deciding.{stands_in, left_ended}
 pub use Rattle.session_ops.proofs.ScanAsking.{active_ends, active_stands}
 pub use Rattle.session_ops.proofs.Landing.{turns_land, looks_land}
-pub use Rattle.session_ops.proofs.Laws.{any_after, any_before}
