@@ -13,6 +13,7 @@ use Rattle.std.specs.declared.cmp.Ordering.TheVariants.{Less, Equal, Greater}
 use Rattle.std.specs.Ordering.{is_eq, match_ordering, nat_cmp, ordering_then}
 use Rattle.clv_base.proofs.SameNames.{tx_self, or_left, or_right, tx_true, tx_eq, in_insert, insert_keeps, insert_has, tx_flip}
 use Rattle.law_base.proofs.Lists.{all_mono}
+use Rattle.law_base.proofs.Sets.{same_flip as tx_symmetric}
 use Rattle.clv_base.specs.declared.messages.Message.{Message}
 use Rattle.clv_base.specs.declared.messages.Message.TheVariants.{Decide}
 use Rattle.clv_base.specs.declared.state.RequestState.{RequestState}
@@ -321,3 +322,15 @@ own_ghost txs tx key rs t q i e =
     let p = and_parts (tx_same t tx) (q == key) e in
     subst (IsThere q) (sym (cond-true (tx_in tx txs) (ghost_if_absent key rs (found_at key rs)) rs (subst (λ z. tx_in z txs ≡ true) (tx_true t tx p.0) i)))
     (subst (λ k. IsThere k (ghost_if_absent key rs (found_at key rs))) (sym (eqb-true q key p.1)) (ghost_there key rs (found_at key rs) refl))
+
+-- the two ways in which members are asked for
+pub in_flipped : (t : TxId) (xs : List TxId) → list_any (tx_same t) xs ≡ tx_in t xs
+in_flipped t [] = refl
+in_flipped t (x ∷ xs) = ap (λ b. b || list_any (tx_same t) xs) (tx_symmetric t x) ∙ ap (λ b. tx_same x t || b) (in_flipped t xs)
+
+or_cond : (a b : Bool) → (a || b) ≡ cond a true b
+or_cond true b = refl
+or_cond false b = refl
+
+pub in_inserted : (tx t : TxId) (xs : List TxId) → tx_in t (tx_insert tx xs) ≡ cond (tx_same tx t) true (tx_in t xs)
+in_inserted tx t xs = tx_in-insert tx t xs ∙ or_cond (tx_same tx t) (tx_in t xs)

@@ -1,7 +1,6 @@
 -- Lemmas that this crate offers to the proofs of the crates above it.
 pub mod Bools
 pub mod Growing
-pub mod Members
 pub mod Names
 pub mod Places
 pub mod Rising

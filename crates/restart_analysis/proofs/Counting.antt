@@ -7,7 +7,7 @@ use Rattle.clv_base.specs.declared.logs.LogRecord.TheVariants.{Update, Clr, Prep
 use Rattle.clv_base.specs.Orders.{tx_same, tx_in, tx_insert}
 use Rattle.clv_base.specs.Logs.{StandingUpdate, is_update_of, wrote_in, without_newest, standing_after, standing_from, standing, writers}
 use Rattle.clv_base.proofs.SameNames.{tx_true}
-use Rattle.log_facts.proofs.Laws.Members.{in_inserted}
+use Rattle.law_base.proofs.Names.{in_inserted}
 use Rattle.log_facts.proofs.Laws.Rising.{insert_rises, nothing_rises, same_list}
 use Rattle.restart_analysis.specs.Standing.{number_of, count_after, with_writer, writers_by}
 use Rattle.law_base.proofs.Bools.{by_bool as both, or_false, or_yes as or_true}

@@ -12,7 +12,7 @@ use Rattle.clv_base.specs.Undo.{clrs_of, newest_lsn}
 use Rattle.clv_base.specs.Restarts.{losers, restart_records, log_after_restart, home_by, homes_of, pairs_of_listed, restored_pairs, unended_with, unended_in}
 use Rattle.clv_base.proofs.SameNames.{tx_true, insert_keeps, insert_has}
 use Rattle.log_facts.proofs.Laws.Bools.{and_first, and_second, and_both, all_same}
-use Rattle.log_facts.proofs.Laws.Members.{in_flipped}
+use Rattle.law_base.proofs.Names.{in_flipped}
 use Rattle.restart_analysis.proofs.Doubted.{filter_same}
 use Rattle.restart_analysis.specs.Restarting.{KeepsDoubt, KeepsHomes, KeepsPairs, KeepsUnended}
 use Rattle.law_base.proofs.Bools.{by_bool as both, not_true, or_false}

@@ -10,7 +10,7 @@ use Rattle.std.specs.Cmp.{IsTotalOrder}
 use Rattle.clv_base.specs.declared.names.TxId.{TxId}
 use Rattle.clv_base.specs.Orders.{tx_cmp, tx_in, tx_insert}
 use Rattle.clv_base.proofs.SameNames.{tx_true}
-use Rattle.log_facts.proofs.Laws.Members.{in_flipped}
+use Rattle.law_base.proofs.Names.{in_flipped}
 use Rattle.law_base.proofs.Sets.{AllAbove as Above}
 use Rattle.law_base.proofs.Names.{Rise as Rises}
 

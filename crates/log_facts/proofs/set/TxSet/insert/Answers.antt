@@ -1,6 +1,6 @@
 use Rattle.std.proofs.Common.{true, cond, ap, ◌∙◌}
 use Rattle.clv_base.specs.Orders.{tx_same, tx_in}
-use Rattle.log_facts.proofs.Laws.Members.{in_inserted}
+use Rattle.law_base.proofs.Names.{in_inserted}
 use Rattle.log_facts.proofs.set.TxSet.insert.Goals as goal
 
 pub returns-clause-members : goal.returns-clause-members

@@ -1,6 +1,6 @@
 use Rattle.std.proofs.Common.{false, cond, sym, ap, ◌∙◌}
 use Rattle.clv_base.specs.Orders.{tx_same, tx_in}
-use Rattle.log_facts.proofs.Laws.Members.{in_flipped}
+use Rattle.law_base.proofs.Names.{in_flipped}
 use Rattle.log_facts.proofs.set.TxSet.remove.Goals as goal
 
 pub returns-clause-members : goal.returns-clause-members

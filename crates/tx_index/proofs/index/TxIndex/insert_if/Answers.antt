@@ -1,6 +1,6 @@
 use Rattle.std.proofs.Common.{◌||◌, cond, sym, ap, ◌∙◌}
 use Rattle.clv_base.specs.Orders.{tx_in, tx_same}
-use Rattle.log_facts.proofs.Laws.Members.{in_inserted}
+use Rattle.law_base.proofs.Names.{in_inserted}
 use Rattle.tx_index.proofs.index.TxIndex.insert_if.Goals as goal
 
 pub returns-in_ok-insert-clause-members : goal.returns-in_ok-insert-clause-members

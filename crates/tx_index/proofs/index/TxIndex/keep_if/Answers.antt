@@ -1,6 +1,6 @@
 use Rattle.std.proofs.Common.{◌&&◌, false, cond, sym, ap, ◌∙◌}
 use Rattle.clv_base.specs.Orders.{tx_in, tx_same}
-use Rattle.log_facts.proofs.Laws.Members.{in_flipped}
+use Rattle.law_base.proofs.Names.{in_flipped}
 use Rattle.tx_index.proofs.index.TxIndex.keep_if.Goals as goal
 
 pub returns-then-not-stays : goal.returns-then-not-stays

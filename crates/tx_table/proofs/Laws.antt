@@ -1,2 +1,0 @@
--- Lemmas that this crate offers to the proofs of the crates above it.
-pub mod Names

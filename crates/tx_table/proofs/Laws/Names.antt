@@ -1,2 +1,0 @@
--- The test of two names doesn't ask which stands first.
-use Rattle.std.proofs.Common.{◌≡◌, ◌∙◌}
