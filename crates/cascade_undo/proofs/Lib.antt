@@ -6,4 +6,13 @@ pub mod Stepping
 pub mod Aborting
 pub mod Growing
 pub mod Keeping
+pub mod Rising
+pub mod Runs
+pub mod Members
+pub mod Following
+pub mod Preceding
+pub mod Turning
+pub mod InLog
+pub mod Succeeding
+pub mod Fewer
 pub mod Laws

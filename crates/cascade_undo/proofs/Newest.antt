@@ -12,7 +12,7 @@ use Rattle.clv_base.specs.Orders.{tx_same, tx_in}
 use Rattle.clv_base.specs.Logs.{StandingUpdate, standing, newest_of}
 use Rattle.clv_base.specs.Undo.{newest_lsn}
 use Rattle.clv_base.proofs.SameNames.{tx_self}
-use Rattle.violation_deps.proofs.Laws.{tx_in-more}
+use Rattle.cascade_undo.proofs.Laws.{tx_in-more}
 use Rattle.cascade_undo.specs.declared.write.Write.{Write}
 use Rattle.cascade_undo.specs.Steps.{newest_in, lsn_of, write_in, IsNewestIn, AreBelow}
 use Rattle.cascade_undo.proofs.Splitting.{NoneOf, split_at, newest_above, newest_past}

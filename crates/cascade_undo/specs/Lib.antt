@@ -1,2 +1,6 @@
 pub mod Writes
 pub mod Steps
+pub mod Dependencies
+pub mod Pairs
+pub mod Marking
+pub mod Kept

@@ -4,12 +4,12 @@ ghost use Rattle.clv_base.specs.Logs.{standing};
 ghost use Rattle.clv_base.specs.Undo.{records_without, aborts_of, clrs_of};
 ghost use Rattle.cascade_undo.specs.Writes.{writes_of, HaveRecords};
 
+use crate::Deps;
 use crate::aborts::append_aborts;
 use crate::undoing::undo_writes;
 use clv_base::logs::LogRecord;
 use log_buffer::LogBuffer;
 use ordered_store::Store;
-use violation_deps::Deps;
 
 /// Takes away the effects of the marked transactions, and gives how many of their UPDATEs it undid. The log gets an ABORT for each that
 /// has an UPDATE, in rising order, and then a CLR for each of their UPDATEs that stand, from the greatest LSN down. Each of their keys gets

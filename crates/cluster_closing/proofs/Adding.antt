@@ -10,11 +10,11 @@ use Rattle.clv_base.specs.Restarts.{log_after_restart}
 use Rattle.journal_laws.specs.Notes.{ends_holding}
 use Rattle.turn_lock.specs.Journals.{entries_by}
 use Rattle.machine_calls.specs.Restored.{revives}
-use Rattle.turn_laws.specs.declared.notes.Note.{Note}
-use Rattle.turn_laws.specs.declared.notes.Note.TheVariants.{Made, Fetched as FetchedBy}
-use Rattle.turn_laws.specs.Notes.{noter}
-use Rattle.turn_laws.specs.Homes.{entries_in, taker_after, taker}
-use Rattle.turn_laws.proofs.Laws.{above}
+use Rattle.machine_laws.specs.declared.notes.Note.{Note}
+use Rattle.machine_laws.specs.declared.notes.Note.TheVariants.{Made, Fetched as FetchedBy}
+use Rattle.machine_laws.specs.Notes.{noter}
+use Rattle.machine_laws.specs.Homes.{entries_in, taker_after, taker}
+use Rattle.machine_laws.proofs.Laws.{above}
 use Rattle.cluster_closing.specs.declared.fetching.FetchError.{FetchError}
 use Rattle.cluster_closing.specs.declared.fetching.FetchError.TheVariants.{Up, Away}
 use Rattle.cluster_closing.specs.EndHeld.{FetchTold}

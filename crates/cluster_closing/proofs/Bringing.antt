@@ -14,14 +14,14 @@ use Rattle.machine_calls.specs.declared.machine.StepError.{StepError}
 use Rattle.machine_calls.specs.declared.machine.StepError.TheVariants.{Memory as NoMemory, Worn as WornAt}
 use Rattle.machine_calls.specs.Steps.{Made as IsMade, Tells}
 use Rattle.machine_calls.specs.Restored.{revives}
-use Rattle.turn_laws.specs.declared.notes.Note.{Note}
-use Rattle.turn_laws.specs.declared.notes.Note.TheVariants.{Made}
-use Rattle.turn_laws.specs.declared.notes.Origin.{Origin}
-use Rattle.turn_laws.specs.declared.notes.Mark.{Mark}
-use Rattle.turn_laws.specs.Notes.{notes_of, IsLeft}
-use Rattle.turn_laws.specs.Homes.{holder_of}
-use Rattle.turn_laws.specs.Gates.{GateStands, is_gate_away}
-use Rattle.turn_laws.specs.Sound.{IsSound}
+use Rattle.machine_laws.specs.declared.notes.Note.{Note}
+use Rattle.machine_laws.specs.declared.notes.Note.TheVariants.{Made}
+use Rattle.machine_laws.specs.declared.notes.Origin.{Origin}
+use Rattle.machine_laws.specs.declared.notes.Mark.{Mark}
+use Rattle.machine_laws.specs.Notes.{notes_of, IsLeft}
+use Rattle.machine_laws.specs.Homes.{holder_of}
+use Rattle.machine_laws.specs.Gates.{GateStands, is_gate_away}
+use Rattle.machine_laws.specs.Sound.{IsSound}
 use Rattle.cluster_closing.specs.Restarts.{Recovers}
 use Rattle.cluster_closing.proofs.EndRestarting.{restarted_is, sound_restarted}
 use Rattle.cluster_closing.specs.Revived.{Revives, Rests, StepTold, RefusedBy, clock_at}

@@ -9,14 +9,14 @@ use Rattle.clv_base.specs.declared.events.Entry.{Entry}
 use Rattle.clv_base.specs.LogRules.{log_of}
 use Rattle.clv_base.specs.State.{Shard}
 use Rattle.clv_base.specs.Journals.{MayLeave}
-use Rattle.disk_model.specs.Story.{Story}
-use Rattle.disk_model.specs.Disk.{Adds, Rose}
+use Rattle.io_model.specs.Story.{Story}
+use Rattle.io_model.specs.Disk.{Adds, Rose}
 use Rattle.log_gate.specs.View.{logs_told}
-use Rattle.turn_laws.specs.declared.notes.Note.{Note}
-use Rattle.turn_laws.specs.declared.notes.Origin.{Origin}
-use Rattle.turn_laws.specs.Homes.{holder_of, has_failed, IsLegal}
-use Rattle.turn_laws.specs.Gates.{IsCounted, GateFits, GateStands}
-use Rattle.turn_laws.proofs.Laws.{fits_leaves, gate_at_home, down_failed}
+use Rattle.machine_laws.specs.declared.notes.Note.{Note}
+use Rattle.machine_laws.specs.declared.notes.Origin.{Origin}
+use Rattle.machine_laws.specs.Homes.{holder_of, has_failed, IsLegal}
+use Rattle.machine_laws.specs.Gates.{IsCounted, GateFits, GateStands}
+use Rattle.machine_laws.proofs.Laws.{fits_leaves, gate_at_home, down_failed}
 use Rattle.cluster_turns.specs.declared.shards.Shards.{Shards}
 use Rattle.cluster_turns.specs.declared.shards.Walker.{Walker}
 use Rattle.cluster_turns.specs.Walkers.{IsWalker}

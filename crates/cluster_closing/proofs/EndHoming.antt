@@ -16,12 +16,12 @@ use Rattle.clv_base.specs.Machines.{BecomesBy}
 use Rattle.turn_lock.specs.Journals.{entries_by}
 use Rattle.turn_lock.specs.Passes.{seen, own}
 use Rattle.journal_laws.specs.Notes.{Note as Told, made, fetched, MayNotes, after_notes, entries_of_notes}
-use Rattle.turn_laws.specs.declared.notes.Note.{Note}
-use Rattle.turn_laws.specs.declared.notes.Origin.{Origin}
-use Rattle.turn_laws.specs.Notes.{noter, told}
-use Rattle.turn_laws.specs.Homes.{start, holder_of, entries_in, taker_after, taker, is_taker, IsLegal}
-use Rattle.turn_laws.specs.Gates.{is_gate_away}
-use Rattle.turn_laws.proofs.Laws.{framed_finish, does_calm, entries_append, taker_append}
+use Rattle.machine_laws.specs.declared.notes.Note.{Note}
+use Rattle.machine_laws.specs.declared.notes.Origin.{Origin}
+use Rattle.machine_laws.specs.Notes.{noter, told}
+use Rattle.machine_laws.specs.Homes.{start, holder_of, entries_in, taker_after, taker, is_taker, IsLegal}
+use Rattle.machine_laws.specs.Gates.{is_gate_away}
+use Rattle.machine_laws.proofs.Laws.{framed_finish, does_calm, entries_append, taker_append}
 use Rattle.cluster_turns.specs.declared.shards.Walker.{Walker}
 use Rattle.cluster_closing.specs.Landed.{HasLanded}
 use Rattle.cluster_closing.proofs.Landing.{by_append, others_take}

@@ -13,14 +13,14 @@ use Rattle.clv_base.specs.Restarts.{misfit, revived}
 use Rattle.log_gate.specs.View.{Only}
 use Rattle.machine_calls.specs.Steps.{Made as IsMade}
 use Rattle.machine_calls.specs.Restored.{revives}
-use Rattle.turn_laws.specs.declared.notes.Note.TheVariants.{Made}
-use Rattle.turn_laws.specs.declared.notes.Origin.{Origin}
-use Rattle.turn_laws.specs.declared.notes.Mark.{Mark}
-use Rattle.turn_laws.specs.Notes.{notes_of, AreMarksOf, IsLeft}
-use Rattle.turn_laws.specs.Homes.{holder_of, has_failed, is_failed, IsLegal}
-use Rattle.turn_laws.specs.Gates.{durable_records}
-use Rattle.turn_laws.specs.Sound.{IsSound}
-use Rattle.turn_laws.proofs.Laws.{left_last, legal_restart, from_does, gate_home, down_failed, failed_append}
+use Rattle.machine_laws.specs.declared.notes.Note.TheVariants.{Made}
+use Rattle.machine_laws.specs.declared.notes.Origin.{Origin}
+use Rattle.machine_laws.specs.declared.notes.Mark.{Mark}
+use Rattle.machine_laws.specs.Notes.{notes_of, AreMarksOf, IsLeft}
+use Rattle.machine_laws.specs.Homes.{holder_of, has_failed, is_failed, IsLegal}
+use Rattle.machine_laws.specs.Gates.{durable_records}
+use Rattle.machine_laws.specs.Sound.{IsSound}
+use Rattle.machine_laws.proofs.Laws.{left_last, legal_restart, from_does, gate_home, down_failed, failed_append}
 use Rattle.cluster_closing.specs.Restarts.{Recovers}
 use Rattle.law_base.proofs.Shards.{does_after}
 use Rattle.clv_base.proofs.SameNames.{or_left as or_first}

@@ -3,9 +3,9 @@ use Rattle.std.proofs.Common.{◌≡◌, ℕ, zero, suc, ◌+◌, ◌<◌, List,
 use Rattle.std.proofs.lemmas.List.{get_or_append_left, get_or_at}
 use mathlib.Core.Logic.{dite}
 use Rattle.turn_lock.specs.Journals.{StartsWith, entries_by}
-use Rattle.turn_laws.specs.declared.notes.Note.{Note}
-use Rattle.turn_laws.specs.declared.notes.Origin.{Origin}
-use Rattle.turn_laws.specs.Notes.{noter}
+use Rattle.machine_laws.specs.declared.notes.Note.{Note}
+use Rattle.machine_laws.specs.declared.notes.Origin.{Origin}
+use Rattle.machine_laws.specs.Notes.{noter}
 use Rattle.cluster_turns.specs.declared.shards.Walker.{Walker}
 use Rattle.cluster_closing.specs.Ending.{ClosedAt, seen_of, own_notes, origin_of}
 use native.Mathlib.Decide.{ℕ_discrete}

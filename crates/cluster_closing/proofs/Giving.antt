@@ -5,21 +5,21 @@ use Rattle.std.specs.List.{All}
 use Rattle.std.proofs.lemmas.List.Elements.{All-cons, All-nil}
 use Rattle.clv_base.specs.declared.logs.LogRecord.{LogRecord}
 use Rattle.clv_base.specs.State.{Shard}
-use Rattle.disk_model.specs.Story.{Story}
+use Rattle.io_model.specs.Story.{Story}
 use Rattle.turn_lock.specs.Journals.{GrownBy}
 use Rattle.turn_lock.specs.declared.pass.TurnLock.{TurnLock}
 use Rattle.turn_lock.specs.declared.pass.Pass.{Pass}
 use Rattle.turn_lock.specs.Passes.{pass_origin, seen}
 use Rattle.machine_calls.specs.Restored.{down_gate_of, gate_left}
-use Rattle.turn_laws.specs.declared.notes.Note.{Note}
-use Rattle.turn_laws.specs.declared.notes.Note.TheVariants.{Fetched}
-use Rattle.turn_laws.specs.declared.notes.Origin.{Origin}
-use Rattle.turn_laws.specs.declared.notes.Mark.{Mark}
-use Rattle.turn_laws.specs.declared.notes.Mark.TheVariants.{Fetched as FetchedAt}
-use Rattle.turn_laws.specs.Notes.{noter, notes_of}
-use Rattle.turn_laws.specs.Homes.{entries_in, holder_of, IsLegal}
-use Rattle.turn_laws.specs.Sound.{IsSound}
-use Rattle.turn_laws.proofs.Laws.{sound_fetched, holder_more, legal_shard}
+use Rattle.machine_laws.specs.declared.notes.Note.{Note}
+use Rattle.machine_laws.specs.declared.notes.Note.TheVariants.{Fetched}
+use Rattle.machine_laws.specs.declared.notes.Origin.{Origin}
+use Rattle.machine_laws.specs.declared.notes.Mark.{Mark}
+use Rattle.machine_laws.specs.declared.notes.Mark.TheVariants.{Fetched as FetchedAt}
+use Rattle.machine_laws.specs.Notes.{noter, notes_of}
+use Rattle.machine_laws.specs.Homes.{entries_in, holder_of, IsLegal}
+use Rattle.machine_laws.specs.Sound.{IsSound}
+use Rattle.machine_laws.proofs.Laws.{sound_fetched, holder_more, legal_shard}
 use Rattle.cluster_closing.specs.declared.fetching.Fetched.{Fetched as Taken}
 use Rattle.cluster_closing.specs.declared.fetching.FetchError.{FetchError}
 use Rattle.cluster_closing.specs.declared.fetching.FetchError.TheVariants.{Up, Away}

@@ -14,11 +14,11 @@ use Rattle.turn_lock.specs.declared.pass.Pass.{Pass}
 use Rattle.turn_lock.specs.Passes.{seen, own}
 use Rattle.machine_calls.specs.declared.machine.StepError.{StepError}
 use Rattle.machine_calls.specs.Steps.{listed}
-use Rattle.turn_laws.specs.declared.notes.Note.{Note}
-use Rattle.turn_laws.specs.declared.notes.Note.TheVariants.{Made, Fetched}
-use Rattle.turn_laws.specs.declared.notes.Origin.{Origin}
-use Rattle.turn_laws.specs.Notes.{noter, told, plain}
-use Rattle.turn_laws.specs.Homes.{holder_of}
+use Rattle.machine_laws.specs.declared.notes.Note.{Note}
+use Rattle.machine_laws.specs.declared.notes.Note.TheVariants.{Made, Fetched}
+use Rattle.machine_laws.specs.declared.notes.Origin.{Origin}
+use Rattle.machine_laws.specs.Notes.{noter, told, plain}
+use Rattle.machine_laws.specs.Homes.{holder_of}
 use Rattle.cluster_turns.specs.Turns.{Turned, EventTold, SettledTold}
 use Rattle.cluster_turns.specs.Walkers.{Walked, Looked, AreNewPasses}
 use Rattle.cluster_turns.specs.declared.flushing.Flushed.{Flushed}
@@ -31,7 +31,7 @@ use Rattle.cluster_turns.specs.Carried.{BringTold, is_lost, is_brought, CarryTol
 use Rattle.cluster_turns.specs.declared.tending.DrainError.{DrainError}
 use Rattle.cluster_turns.specs.Rounds.{Rounds, no_turn as no_round, flushes, carries, reminds, looks, Refused, no_flush, no_message, no_reminder, DrainTold}
 use Rattle.cluster_closing.specs.Landed.{EachPass}
-use Rattle.turn_laws.proofs.Laws.{other_first as first_other}
+use Rattle.machine_laws.proofs.Laws.{other_first as first_other}
 use Rattle.cluster_closing.proofs.Landing.{walked_each, new_pass, looked_each}
 use Rattle.cluster_closing.specs.declared.fetching.FetchError.{FetchError}
 use Rattle.cluster_closing.specs.declared.fetching.FetchError.TheVariants.{Up, Away}
@@ -39,7 +39,7 @@ use Rattle.cluster_closing.specs.EndHeld.{FetchTold}
 use Rattle.cluster_turns.specs.CallTurns.{Turn, Took, no_turn, event_turn, flush_turns, horizon_look}
 use Rattle.cluster_closing.specs.Held.{AreMade, HasNoDisk, HoldsNoneBut, FetchedNone}
 use Rattle.cluster_closing.specs.Laws.{NewWalkersHoldNone, TurnsHoldNone, DrainsHoldNone, LooksHoldNone, NewWalkersFetchedNone, TurnsFetchNone, DrainsFetchNone, FetchesHoldOne, RefusedFetchesHoldNone}
-use Rattle.turn_laws.proofs.Laws.{holder_append}
+use Rattle.machine_laws.proofs.Laws.{holder_append}
 
 -- ---- notes, and who has the disk after them
 

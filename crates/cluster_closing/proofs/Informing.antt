@@ -9,11 +9,11 @@ use Rattle.law_base.proofs.Lists.{all_mono, all_append}
 use Rattle.turn_lock.specs.Journals.{entries_by}
 use Rattle.turn_lock.specs.declared.pass.Pass.{Pass}
 use Rattle.turn_lock.specs.Passes.{seen, own, pass_origin}
-use Rattle.turn_laws.specs.declared.notes.Note.{Note}
-use Rattle.turn_laws.specs.declared.notes.Origin.{Origin}
-use Rattle.turn_laws.specs.Notes.{noter}
-use Rattle.turn_laws.specs.Homes.{entries_in, state_of, IsLegal}
-use Rattle.turn_laws.proofs.Laws.{entries_append}
+use Rattle.machine_laws.specs.declared.notes.Note.{Note}
+use Rattle.machine_laws.specs.declared.notes.Origin.{Origin}
+use Rattle.machine_laws.specs.Notes.{noter}
+use Rattle.machine_laws.specs.Homes.{entries_in, state_of, IsLegal}
+use Rattle.machine_laws.proofs.Laws.{entries_append}
 use Rattle.cluster_turns.specs.Turns.{Turned}
 use Rattle.cluster_turns.specs.Walkers.{Walked}
 use Rattle.cluster_closing.proofs.Landing.{turned_own}

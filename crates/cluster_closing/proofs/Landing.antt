@@ -18,12 +18,12 @@ use Rattle.turn_lock.specs.declared.pass.Pass.{Pass}
 use Rattle.turn_lock.specs.Passes.{seen, own}
 use Rattle.machine_calls.specs.declared.machine.StepError.{StepError}
 use Rattle.machine_calls.specs.Steps.{Tells, listed}
-use Rattle.turn_laws.specs.declared.notes.Note.{Note}
-use Rattle.turn_laws.specs.declared.notes.Note.TheVariants.{Made, Fetched}
-use Rattle.turn_laws.specs.declared.notes.Origin.{Origin}
-use Rattle.turn_laws.specs.Notes.{noter, plain}
-use Rattle.turn_laws.specs.Homes.{entries_in, taker_after, taker, is_taker, is_single}
-use Rattle.turn_laws.proofs.Laws.{entries_append, taker_append, departing, other_first as first_other}
+use Rattle.machine_laws.specs.declared.notes.Note.{Note}
+use Rattle.machine_laws.specs.declared.notes.Note.TheVariants.{Made, Fetched}
+use Rattle.machine_laws.specs.declared.notes.Origin.{Origin}
+use Rattle.machine_laws.specs.Notes.{noter, plain}
+use Rattle.machine_laws.specs.Homes.{entries_in, taker_after, taker, is_taker, is_single}
+use Rattle.machine_laws.proofs.Laws.{entries_append, taker_append, departing, other_first as first_other}
 use Rattle.cluster_turns.specs.Turns.{Turned, EventTold, SettledTold}
 use Rattle.cluster_turns.specs.Walkers.{Walked, Looked, AreNewPasses}
 use Rattle.cluster_turns.specs.declared.flushing.Flushed.{Flushed}

@@ -7,7 +7,7 @@ pub use Rattle.cluster_closing.proofs.Landing.{by_append, others_take, walked_ea
 pub use Rattle.cluster_closing.proofs.EndHoming.{gates_come_home, Has, find, first_of, rest_none}
 pub use Rattle.cluster_closing.proofs.EndRestarting.{restarted_is, sound_restarted}
 pub use Rattle.cluster_closing.proofs.Together.{map_at, state_here}
-pub use Rattle.turn_laws.proofs.Laws.{other_first as first_other}
+pub use Rattle.machine_laws.proofs.Laws.{other_first as first_other}
 pub use Rattle.cluster_closing.proofs.ReviveLeaving.{at_end}
 pub use Rattle.cluster_closing.proofs.Refusing.{left_begun}
 pub use Rattle.cluster_closing.proofs.ReviveLanding.{fetches_land, restarts_land, settled_looks_land}

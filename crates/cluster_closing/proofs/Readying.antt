@@ -4,13 +4,13 @@ use Rattle.clv_base.specs.declared.logs.LogRecord.{LogRecord}
 use Rattle.clv_base.specs.Needs.{Records}
 use Rattle.clv_base.specs.State.{Shard}
 use Rattle.clv_base.specs.Restarts.{run_after, greatest_epoch}
-use Rattle.gate_recovery.specs.declared.recovering.Recovered.{Recovered}
+use Rattle.shard_recovery.specs.declared.recovering.Recovered.{Recovered}
 use Rattle.turn_lock.specs.declared.pass.TurnLock.{TurnLock}
 use Rattle.turn_lock.specs.declared.pass.Pass.{Pass}
 use Rattle.turn_lock.specs.Passes.{pass_origin, seen}
-use Rattle.turn_laws.specs.declared.notes.Note.{Note}
-use Rattle.turn_laws.specs.declared.notes.Origin.{Origin}
-use Rattle.turn_laws.proofs.Laws.{legal_run}
+use Rattle.machine_laws.specs.declared.notes.Note.{Note}
+use Rattle.machine_laws.specs.declared.notes.Origin.{Origin}
+use Rattle.machine_laws.proofs.Laws.{legal_run}
 use Rattle.cluster_turns.specs.Walkers.{ArePassesOf}
 use Rattle.cluster_turns.proofs.Laws.{some_inj}
 use Rattle.cluster_closing.specs.declared.fetching.Fetched.{Fetched}

@@ -3,16 +3,16 @@ use Rattle.std.proofs.Common.{◌≡◌, ℕ, suc, List, refl, sym, ◌∙◌, a
 use Rattle.std.specs.Prelude.{IfSome}
 use Rattle.clv_base.specs.declared.logs.LogRecord.{LogRecord}
 use Rattle.clv_base.specs.Restarts.{greatest_epoch}
-use Rattle.disk_model.specs.Story.{Story, reads}
-use Rattle.disks_opening.specs.declared.error.At.TheVariants.{Byte, Record}
-use Rattle.gate_recovery.specs.declared.recovering.RecoverError.{RecoverError}
-use Rattle.gate_recovery.specs.declared.recovering.RecoverError.TheVariants.{Failed as DiskFailed, Memory as NoMemory}
+use Rattle.io_model.specs.Story.{Story, reads}
+use Rattle.cluster_opening.specs.declared.error.At.TheVariants.{Byte, Record}
+use Rattle.shard_recovery.specs.declared.recovering.RecoverError.{RecoverError}
+use Rattle.shard_recovery.specs.declared.recovering.RecoverError.TheVariants.{Failed as DiskFailed, Memory as NoMemory}
 use Rattle.log_gate.specs.Image.{checked_log}
 use Rattle.log_gate.specs.Opening.{CountsOpening}
 use Rattle.log_gate.specs.View.{Only, logs_told}
 use Rattle.log_gate.specs.declared.error.OpenLogError.{OpenLogError}
 use Rattle.log_gate.specs.declared.error.OpenLogError.TheVariants.{NotLog as NoLog, Failed as ReadFailed, Memory as NoneToRead}
-use Rattle.gate_recovery.specs.Recovering.{CountsRecovery, IsBegun}
+use Rattle.shard_recovery.specs.Recovering.{CountsRecovery, IsBegun}
 use Rattle.cluster_closing.specs.declared.error.RestartError.{RestartError}
 use Rattle.cluster_closing.specs.declared.error.RestartError.TheVariants.{Failed, NotLog, Worn, Memory}
 use Rattle.cluster_closing.specs.Judging.{Bars, RefusesDisk, CountsRestart, opening_error, recovery_error, IsRecoveryError}

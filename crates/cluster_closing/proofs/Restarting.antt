@@ -9,11 +9,11 @@ use Rattle.clv_base.specs.Journals.{after_entry}
 use Rattle.journal_laws.specs.Notes.{Note as Told, made, fetched, MayNotes, RestartsByHolder, ends_holding, entries_of_notes}
 use Rattle.turn_lock.specs.Journals.{entries_by}
 use Rattle.turn_lock.specs.Passes.{seen, own}
-use Rattle.turn_laws.specs.declared.notes.Note.{Note}
-use Rattle.turn_laws.specs.declared.notes.Note.TheVariants.{Made, Fetched}
-use Rattle.turn_laws.specs.declared.notes.Origin.{Origin}
-use Rattle.turn_laws.specs.Notes.{noter, told}
-use Rattle.turn_laws.specs.Homes.{start, IsLegal}
+use Rattle.machine_laws.specs.declared.notes.Note.{Note}
+use Rattle.machine_laws.specs.declared.notes.Note.TheVariants.{Made, Fetched}
+use Rattle.machine_laws.specs.declared.notes.Origin.{Origin}
+use Rattle.machine_laws.specs.Notes.{noter, told}
+use Rattle.machine_laws.specs.Homes.{start, IsLegal}
 use Rattle.cluster_turns.specs.declared.shards.Walker.{Walker}
 use Rattle.cluster_closing.specs.Ending.{ClosedAt, HasPassAt, own_notes}
 use Rattle.cluster_closing.proofs.EndHoming.{Has, find, first_of}

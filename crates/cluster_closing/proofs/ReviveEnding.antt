@@ -8,11 +8,11 @@ use Rattle.clv_base.specs.Restarts.{log_after_restart}
 use Rattle.journal_laws.specs.Notes.{holder, ends_holding}
 use Rattle.turn_lock.specs.declared.pass.Pass.{Pass}
 use Rattle.turn_lock.specs.Passes.{seen}
-use Rattle.turn_laws.specs.declared.notes.Note.{Note}
-use Rattle.turn_laws.specs.declared.notes.Note.TheVariants.{Made}
-use Rattle.turn_laws.specs.declared.notes.Origin.{Origin}
-use Rattle.turn_laws.specs.Notes.{told}
-use Rattle.turn_laws.specs.Homes.{holder_of}
+use Rattle.machine_laws.specs.declared.notes.Note.{Note}
+use Rattle.machine_laws.specs.declared.notes.Note.TheVariants.{Made}
+use Rattle.machine_laws.specs.declared.notes.Origin.{Origin}
+use Rattle.machine_laws.specs.Notes.{told}
+use Rattle.machine_laws.specs.Homes.{holder_of}
 use Rattle.cluster_closing.proofs.Landing.{walked_each}
 use Rattle.cluster_closing.specs.Held.{AreMade, HasNoDisk}
 use Rattle.cluster_closing.proofs.Holding.{holder_split, walked_none}

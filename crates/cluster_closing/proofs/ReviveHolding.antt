@@ -13,12 +13,12 @@ use Rattle.turn_lock.specs.Journals.{GrownBy, GrownByOthers}
 use Rattle.turn_lock.specs.declared.pass.Pass.{Pass}
 use Rattle.turn_lock.specs.Passes.{pass_origin, seen}
 use Rattle.machine_calls.specs.Restored.{revives}
-use Rattle.turn_laws.specs.declared.notes.Note.{Note}
-use Rattle.turn_laws.specs.declared.notes.Note.TheVariants.{Made}
-use Rattle.turn_laws.specs.declared.notes.Origin.{Origin}
-use Rattle.turn_laws.specs.Notes.{noter}
-use Rattle.turn_laws.specs.Homes.{holder_of, entries_in, IsLegal}
-use Rattle.turn_laws.proofs.Laws.{held_rests}
+use Rattle.machine_laws.specs.declared.notes.Note.{Note}
+use Rattle.machine_laws.specs.declared.notes.Note.TheVariants.{Made}
+use Rattle.machine_laws.specs.declared.notes.Origin.{Origin}
+use Rattle.machine_laws.specs.Notes.{noter}
+use Rattle.machine_laws.specs.Homes.{holder_of, entries_in, IsLegal}
+use Rattle.machine_laws.proofs.Laws.{held_rests}
 use Rattle.cluster_turns.specs.Turns.{Turned}
 use Rattle.cluster_turns.specs.Walkers.{Walked}
 use Rattle.cluster_turns.proofs.Laws.{Adds, none, made_adds, some_inj}

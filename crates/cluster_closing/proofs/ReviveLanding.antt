@@ -2,9 +2,9 @@
 use Rattle.std.proofs.Common.{◌≡◌, ◌∙◌, ap, ℕ, Bool, List, Option, None, Result}
 use Rattle.clv_base.specs.State.{Shard}
 use Rattle.turn_lock.specs.declared.pass.Pass.{Pass}
-use Rattle.turn_laws.specs.declared.notes.Note.{Note}
-use Rattle.turn_laws.specs.declared.notes.Origin.{Origin}
-use Rattle.turn_laws.specs.Homes.{entries_in, taker, is_taker}
+use Rattle.machine_laws.specs.declared.notes.Note.{Note}
+use Rattle.machine_laws.specs.declared.notes.Origin.{Origin}
+use Rattle.machine_laws.specs.Homes.{entries_in, taker, is_taker}
 use Rattle.cluster_turns.specs.Walkers.{Walked}
 use Rattle.cluster_closing.specs.Landed.{HasOwn, IsHome, HasLanded}
 use Rattle.cluster_closing.proofs.Landing.{turned_own, taker_now, home_before, walked_each}

@@ -5,8 +5,8 @@ use Rattle.clv_base.specs.declared.logs.LogRecord.{LogRecord}
 use Rattle.clv_base.specs.State.{Shard}
 use Rattle.clv_base.specs.Restarts.{FailedRestarts, untouched, failed_first, restart_records, log_after_restart, log_left, next_epoch}
 use Rattle.clv_base.specs.Journals.{MayLeave}
-use Rattle.disk_model.specs.Story.{Story, reads}
-use Rattle.gate_recovery.specs.Recovering.{IsBegun}
+use Rattle.io_model.specs.Story.{Story, reads}
+use Rattle.shard_recovery.specs.Recovering.{IsBegun}
 use Rattle.log_gate.specs.View.{Only, logs_told}
 use Rattle.cluster_closing.specs.Left.{HasBegun, IsLeftBy, unwritten, begun, MayStand}
 use Rattle.law_base.proofs.Logs.{some_log as some_same}

@@ -12,11 +12,11 @@ use Rattle.turn_lock.specs.declared.pass.Pass.{Pass}
 use Rattle.turn_lock.specs.Passes.{seen}
 use Rattle.machine_calls.specs.declared.machine.StepError.{StepError}
 use Rattle.machine_calls.specs.Steps.{Tells, listed}
-use Rattle.turn_laws.specs.declared.notes.Note.{Note}
-use Rattle.turn_laws.specs.declared.notes.Origin.{Origin}
-use Rattle.turn_laws.specs.Notes.{plain}
-use Rattle.turn_laws.specs.Homes.{holder_of, IsLegal}
-use Rattle.turn_laws.proofs.Laws.{held_rests, made_up}
+use Rattle.machine_laws.specs.declared.notes.Note.{Note}
+use Rattle.machine_laws.specs.declared.notes.Origin.{Origin}
+use Rattle.machine_laws.specs.Notes.{plain}
+use Rattle.machine_laws.specs.Homes.{holder_of, IsLegal}
+use Rattle.machine_laws.proofs.Laws.{held_rests, made_up}
 use Rattle.cluster_turns.specs.Turns.{Turned, EventTold}
 use Rattle.cluster_turns.specs.Walkers.{Walked, Looked}
 use Rattle.cluster_turns.specs.Flights.{LandTold, landed_as}

@@ -15,12 +15,12 @@ use Rattle.journal_laws.specs.Walkers.{WalkerKeeps, by_walker}
 use Rattle.turn_lock.specs.Journals.{entries_by}
 use Rattle.turn_lock.specs.declared.pass.Pass.{Pass}
 use Rattle.turn_lock.specs.Passes.{pass_origin}
-use Rattle.turn_laws.specs.declared.notes.Note.{Note}
-use Rattle.turn_laws.specs.declared.notes.Note.TheVariants.{Made, Fetched}
-use Rattle.turn_laws.specs.declared.notes.Origin.{Origin}
-use Rattle.turn_laws.specs.Notes.{noter, told}
-use Rattle.turn_laws.specs.Homes.{start, state_of, entries_in, IsLegal}
-use Rattle.turn_laws.proofs.Laws.{views_are_legal, notes_are_runs, walkers_begin}
+use Rattle.machine_laws.specs.declared.notes.Note.{Note}
+use Rattle.machine_laws.specs.declared.notes.Note.TheVariants.{Made, Fetched}
+use Rattle.machine_laws.specs.declared.notes.Origin.{Origin}
+use Rattle.machine_laws.specs.Notes.{noter, told}
+use Rattle.machine_laws.specs.Homes.{start, state_of, entries_in, IsLegal}
+use Rattle.machine_laws.proofs.Laws.{views_are_legal, notes_are_runs, walkers_begin}
 use Rattle.cluster_turns.specs.declared.shards.Shards.{Shards}
 use Rattle.cluster_turns.specs.declared.shards.Walker.{Walker}
 use Rattle.cluster_turns.specs.Walkers.{IsOriginAt, IsWalker, own_lists, kept, founds_of}

@@ -4,14 +4,14 @@ use Rattle.std.specs.Global.{Global}
 use Rattle.clv_base.specs.declared.logs.LogRecord.{LogRecord}
 use Rattle.clv_base.specs.declared.events.Entry.{Entry}
 use Rattle.clv_base.specs.State.{Shard}
-use Rattle.disk_model.specs.Story.{Story}
-use Rattle.disk_model.specs.Disk.{Rose, Adds}
+use Rattle.io_model.specs.Story.{Story}
+use Rattle.io_model.specs.Disk.{Rose, Adds}
 use Rattle.clv_base.specs.Journals.{MayLeave}
 use Rattle.log_gate.specs.View.{Only, OnlyOrMore, logs_told}
-use Rattle.turn_laws.specs.Homes.{has_failed}
+use Rattle.machine_laws.specs.Homes.{has_failed}
 use Rattle.cluster_closing.specs.declared.fetching.Fetched.{Fetched}
 use Rattle.cluster_closing.specs.Ends.{IsNotAmong}
-use Rattle.turn_laws.specs.Gates.{durable_records, flying_records}
+use Rattle.machine_laws.specs.Gates.{durable_records, flying_records}
 
 abbrev pub lists : {A : Type 0} → List (Vec A Global) → List (List A)
 lists vecs = map (λ v. v.items) vecs

@@ -4,9 +4,9 @@ use Rattle.turn_lock.specs.Journals.{StartsWith, entries_by}
 use Rattle.turn_lock.specs.declared.pass.TurnLock.{TurnLock}
 use Rattle.turn_lock.specs.declared.pass.Pass.{Pass}
 use Rattle.turn_lock.specs.Passes.{number, pass_origin, seen, own, IsPassOf}
-use Rattle.turn_laws.specs.declared.notes.Note.{Note}
-use Rattle.turn_laws.specs.declared.notes.Origin.{Origin}
-use Rattle.turn_laws.specs.Notes.{noter}
+use Rattle.machine_laws.specs.declared.notes.Note.{Note}
+use Rattle.machine_laws.specs.declared.notes.Origin.{Origin}
+use Rattle.machine_laws.specs.Notes.{noter}
 use Rattle.cluster_turns.specs.declared.shards.Walker.{Walker}
 
 module _ {T : Type 0} where

@@ -5,10 +5,10 @@ use Rattle.clv_base.specs.declared.events.Entry.{Entry}
 use Rattle.journal_laws.specs.Notes.{ends_holding}
 use Rattle.turn_lock.specs.declared.pass.Pass.{Pass}
 use Rattle.turn_lock.specs.Passes.{seen, own}
-use Rattle.turn_laws.specs.declared.notes.Note.{Note}
-use Rattle.turn_laws.specs.declared.notes.Note.TheVariants.{Made, Fetched}
-use Rattle.turn_laws.specs.declared.notes.Origin.{Origin}
-use Rattle.turn_laws.specs.Homes.{holder_of}
+use Rattle.machine_laws.specs.declared.notes.Note.{Note}
+use Rattle.machine_laws.specs.declared.notes.Note.TheVariants.{Made, Fetched}
+use Rattle.machine_laws.specs.declared.notes.Origin.{Origin}
+use Rattle.machine_laws.specs.Homes.{holder_of}
 use Rattle.cluster_closing.specs.Landed.{EachPass}
 
 -- none of the notes says that a disk was taken

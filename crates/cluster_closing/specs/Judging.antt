@@ -3,11 +3,11 @@ use Rattle.std.specs.Prelude.{◌≡◌, ℕ, ◌≤◌, ◌-◌, ◌^◌, List,
 use Rattle.clv_base.specs.declared.logs.LogRecord.{LogRecord}
 use Rattle.clv_base.specs.LogRules.{disorder}
 use Rattle.clv_base.specs.Restarts.{first_barred, greatest_epoch}
-use Rattle.disk_model.specs.Story.{Story, reads}
-use Rattle.disk_model.specs.Disk.{Rose}
-use Rattle.disks_opening.specs.declared.error.At.TheVariants.{Byte, Record}
-use Rattle.gate_recovery.specs.declared.recovering.RecoverError.{RecoverError}
-use Rattle.gate_recovery.specs.declared.recovering.RecoverError.TheVariants.{Failed as DiskFailed, Memory as NoMemory}
+use Rattle.io_model.specs.Story.{Story, reads}
+use Rattle.io_model.specs.Disk.{Rose}
+use Rattle.cluster_opening.specs.declared.error.At.TheVariants.{Byte, Record}
+use Rattle.shard_recovery.specs.declared.recovering.RecoverError.{RecoverError}
+use Rattle.shard_recovery.specs.declared.recovering.RecoverError.TheVariants.{Failed as DiskFailed, Memory as NoMemory}
 use Rattle.log_gate.specs.Image.{checked_log}
 use Rattle.log_gate.specs.declared.error.OpenLogError.{OpenLogError}
 use Rattle.log_gate.specs.declared.error.OpenLogError.TheVariants.{NotLog as NoLog, Failed as ReadFailed, Memory as NoneToRead}

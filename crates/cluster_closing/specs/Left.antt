@@ -4,7 +4,7 @@ use Rattle.clv_base.specs.declared.logs.LogRecord.{LogRecord}
 use Rattle.clv_base.specs.State.{Shard}
 use Rattle.clv_base.specs.Restarts.{restart_records, greatest_epoch}
 use Rattle.clv_base.specs.Journals.{MayLeave}
-use Rattle.disk_model.specs.Story.{Story, reads}
+use Rattle.io_model.specs.Story.{Story, reads}
 use Rattle.log_gate.specs.Image.{HasLog}
 use Rattle.log_gate.specs.View.{logs_told}
 

@@ -3,7 +3,7 @@ use Rattle.std.specs.Prelude.{◌≡◌, ℕ, Bool, false, List, Option}
 use Rattle.clv_base.specs.declared.logs.LogRecord.{LogRecord}
 use Rattle.clv_base.specs.Needs.{Records}
 use Rattle.clv_base.specs.Restarts.{log_after_restart}
-use Rattle.gate_recovery.specs.declared.recovering.Recovered.{Recovered}
+use Rattle.shard_recovery.specs.declared.recovering.Recovered.{Recovered}
 use Rattle.log_gate.specs.View.{Only}
 use Rattle.machine_calls.specs.Restored.{IsRestored}
 

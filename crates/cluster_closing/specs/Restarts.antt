@@ -10,13 +10,13 @@ use Rattle.log_gate.specs.View.{Only}
 use Rattle.turn_lock.specs.Journals.{GrownByOthers}
 use Rattle.machine_calls.specs.Steps.{Made as IsMade}
 use Rattle.machine_calls.specs.Restored.{revives}
-use Rattle.turn_laws.specs.declared.notes.Note.{Note}
-use Rattle.turn_laws.specs.declared.notes.Note.TheVariants.{Made}
-use Rattle.turn_laws.specs.declared.notes.Origin.{Origin}
-use Rattle.turn_laws.specs.declared.notes.Mark.{Mark}
-use Rattle.turn_laws.specs.Notes.{noter, notes_of, IsLeft}
-use Rattle.turn_laws.specs.Homes.{holder_of, IsLegal}
-use Rattle.turn_laws.specs.Sound.{IsSound}
+use Rattle.machine_laws.specs.declared.notes.Note.{Note}
+use Rattle.machine_laws.specs.declared.notes.Note.TheVariants.{Made}
+use Rattle.machine_laws.specs.declared.notes.Origin.{Origin}
+use Rattle.machine_laws.specs.declared.notes.Mark.{Mark}
+use Rattle.machine_laws.specs.Notes.{noter, notes_of, IsLeft}
+use Rattle.machine_laws.specs.Homes.{holder_of, IsLegal}
+use Rattle.machine_laws.specs.Sound.{IsSound}
 
 -- while a walker has the disk of a shard nobody else notes anything there
 abbrev pub HeldShardsRest : Type 0

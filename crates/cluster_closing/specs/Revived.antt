@@ -8,17 +8,17 @@ use Rattle.clv_base.specs.Events.{Worn as IsWorn}
 use Rattle.clv_base.specs.Needs.{Records}
 use Rattle.clv_base.specs.State.{Shard}
 use Rattle.clv_base.specs.Restarts.{log_after_restart, misfit, next_epoch}
-use Rattle.gate_recovery.specs.declared.recovering.Recovered.{Recovered}
+use Rattle.shard_recovery.specs.declared.recovering.Recovered.{Recovered}
 use Rattle.machine_calls.specs.declared.machine.StepError.{StepError}
 use Rattle.machine_calls.specs.declared.machine.StepError.TheVariants.{Memory as NoMemory, Worn as WornAt}
 use Rattle.machine_calls.specs.Steps.{Made as IsMade}
 use Rattle.machine_calls.specs.Restored.{revives}
 use Rattle.turn_lock.specs.declared.pass.Pass.{Pass}
 use Rattle.turn_lock.specs.Passes.{pass_origin, seen}
-use Rattle.turn_laws.specs.declared.notes.Note.{Note}
-use Rattle.turn_laws.specs.declared.notes.Note.TheVariants.{Made}
-use Rattle.turn_laws.specs.declared.notes.Origin.{Origin}
-use Rattle.disks_opening.specs.declared.error.At.TheVariants.{Byte, Record}
+use Rattle.machine_laws.specs.declared.notes.Note.{Note}
+use Rattle.machine_laws.specs.declared.notes.Note.TheVariants.{Made}
+use Rattle.machine_laws.specs.declared.notes.Origin.{Origin}
+use Rattle.cluster_opening.specs.declared.error.At.TheVariants.{Byte, Record}
 use Rattle.cluster_closing.specs.declared.error.RestartError.{RestartError}
 use Rattle.cluster_closing.specs.declared.error.RestartError.TheVariants.{Failed, NotLog, Worn, Memory}
 use Rattle.cluster_closing.specs.Readied.{IsReady}

@@ -3,15 +3,15 @@ ghost use Rattle.std.specs.Prelude.{◌≡◌, ◌≢◌, ◌<◌, ◌≤◌, �
 ghost use Rattle.std.specs.List.{All};
 ghost use Rattle.clv_base.specs.declared.logs.LogRecord.{LogRecord};
 ghost use Rattle.turn_lock.specs.Passes.{passes_of};
-ghost use Rattle.turn_laws.specs.Notes.{notes_of};
-ghost use Rattle.turn_laws.specs.Sound.{IsSound};
+ghost use Rattle.machine_laws.specs.Notes.{notes_of};
+ghost use Rattle.machine_laws.specs.Sound.{IsSound};
 ghost use Rattle.cluster_turns.specs.Walkers.{IsOriginAt};
 ghost use Rattle.cluster_closing.specs.Ending.{ClosedAt, HasPassAt, HasPassOf};
 
 use cluster_turns::{Home, Walker};
 use log_gate::Gate;
 use machine_calls::Machine;
-use turn_laws::{Note, Origin};
+use machine_laws::{Note, Origin};
 use turn_lock::{Pass, TurnLock};
 
 // The pass of a shard, taken out.

@@ -1,5 +1,5 @@
 // Why a shard isn't restarted.
-use disks_opening::At;
+use cluster_opening::At;
 
 /// Why a shard wasn't restarted.
 #[derive(Clone, Copy, Debug, PartialEq, Eq)]

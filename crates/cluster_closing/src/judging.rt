@@ -6,9 +6,9 @@ ghost use Rattle.clv_base.specs.Restarts.{bars_restart, first_barred as barred_i
 ghost use Rattle.cluster_closing.specs.Judging.{Bars};
 
 use crate::error::RestartError;
+use cluster_opening::At;
 use clv_base::logs::LogRecord;
-use disks_opening::At;
-use log_disorder::disorder;
+use log_rules::disorder;
 use std::alloc::Global;
 
 // Epochs of a log from which a restart goes on are below it.

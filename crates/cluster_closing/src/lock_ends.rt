@@ -8,10 +8,10 @@ ghost use Rattle.clv_base.specs.Journals.{MayLeave};
 ghost use Rattle.history_replay.specs.Entries.{entries_of};
 ghost use Rattle.journal_laws.specs.Gathered.{MakesHistory};
 ghost use Rattle.turn_lock.specs.Passes.{passes_of};
-ghost use Rattle.turn_laws.specs.Notes.{notes_of};
-ghost use Rattle.turn_laws.specs.Homes.{never_stops};
-ghost use Rattle.turn_laws.specs.Gates.{IsCounted};
-ghost use Rattle.turn_laws.specs.Sound.{IsSound};
+ghost use Rattle.machine_laws.specs.Notes.{notes_of};
+ghost use Rattle.machine_laws.specs.Homes.{never_stops};
+ghost use Rattle.machine_laws.specs.Gates.{IsCounted};
+ghost use Rattle.machine_laws.specs.Sound.{IsSound};
 ghost use Rattle.cluster_turns.specs.Walkers.{IsWalker, IsOriginAt, founds_of};
 ghost use Rattle.cluster_closing.specs.Ending.{ClosedAt};
 ghost use Rattle.cluster_closing.specs.Legal.{AreShards, state_at, views_of};
@@ -20,7 +20,7 @@ use crate::ending::close_last;
 use cluster_turns::{Home, Shards, Walker};
 use log_gate::Gate;
 use machine_calls::Machine;
-use turn_laws::{Note, Origin};
+use machine_laws::{Note, Origin};
 use turn_lock::Pass;
 
 // Ends the locks, the last one first.

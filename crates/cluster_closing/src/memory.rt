@@ -3,7 +3,7 @@
 use cluster_turns::Home;
 use clv_base::events::Entry;
 use machine_calls::Machine;
-use turn_laws::{Note, Origin};
+use machine_laws::{Note, Origin};
 use turn_lock::Pass;
 
 /// All memory that the end of a cluster takes, made when the cluster began.

@@ -4,7 +4,7 @@ ghost use Rattle.cluster_closing.specs.Closing.{CameFrom, IsLowestDown};
 
 use cluster_turns::Home;
 use clv_base::events::Entry;
-use disk_model::House;
+use io_model::House;
 use log_gate::Gate;
 use machine_calls::{Machine, OverDisks, Parts};
 use ordered_store::Store;

@@ -2,7 +2,7 @@
 ghost use Rattle.cluster_closing.specs.Laws.{NewWalkersHoldNone, TurnsHoldNone, DrainsHoldNone, LooksHoldNone, NewWalkersFetchedNone, TurnsFetchNone, DrainsFetchNone, FetchesHoldOne, HeldDisksStay};
 ghost use Rattle.cluster_closing.specs.Ends.{DisksAreFound, NoDisksAreHeld, FetchedAreHeld, UnfetchedNeverRestart};
 
-use disk_model::Disk;
+use io_model::Disk;
 use log_gate::Gate;
 
 /// A new walker has the disk of no shard.

@@ -11,14 +11,14 @@ ghost use Rattle.cluster_closing.specs.Readied.{IsReady, HasGate};
 
 use crate::error::RestartError;
 use crate::judging::judge;
+use cluster_opening::At;
 use clv_base::logs::LogRecord;
 use clv_base::splits::Splits;
-use disk_model::Disk;
-use disks_opening::At;
-use gate_recovery::{RecoverError, Recovered, recover};
+use io_model::Disk;
 use log_gate::{Gate, Header, OpenLogError};
 use machine_calls::{Machine, Reopener};
 use ordered_store::Store;
+use shard_recovery::{RecoverError, Recovered, recover};
 use std::alloc::Global;
 use std::snapshot::Snapshot;
 

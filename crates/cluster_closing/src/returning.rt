@@ -4,7 +4,7 @@ ghost use Rattle.cluster_closing.specs.Ends.{shard_at, IsNotAmong};
 ghost use Rattle.cluster_closing.specs.Closing.{Returned};
 
 use crate::Fetched;
-use disk_model::House;
+use io_model::House;
 
 // Gives the disks back that were fetched, each of another shard.
 pub(crate) fn give_back_held<H: House>(house: &mut H, fetched: Vec<Fetched<H::Disk>>)

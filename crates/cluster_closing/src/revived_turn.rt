@@ -11,7 +11,7 @@ ghost use Rattle.cluster_closing.specs.Restarted.{RestartTold};
 use crate::turns::take_up;
 use crate::{Fetched, Ready, RestartError, recover_disk};
 use cluster_turns::{Shards, Walker};
-use disk_model::Disk;
+use io_model::Disk;
 use log_gate::Gate;
 use machine_calls::{Machine, Reopener};
 use ordered_store::Store;

@@ -1,23 +1,23 @@
 // What a walker does in the turn of a restart.
 ghost use Rattle.std.specs.Prelude.{◌≡◌, ◌≤◌, ◌<◌, ◌+◌, ◌++◌, List, None, Some, IfErr, length, false, vec_capacity};
 ghost use Rattle.clv_base.specs.Restarts.{misfit};
-ghost use Rattle.turn_laws.specs.declared.notes.Note.{Note as NoteIs};
-ghost use Rattle.turn_laws.specs.Notes.{notes_of};
-ghost use Rattle.turn_laws.specs.Homes.{holder_of};
-ghost use Rattle.turn_laws.specs.Sound.{IsSound};
+ghost use Rattle.machine_laws.specs.declared.notes.Note.{Note as NoteIs};
+ghost use Rattle.machine_laws.specs.Notes.{notes_of};
+ghost use Rattle.machine_laws.specs.Homes.{holder_of};
+ghost use Rattle.machine_laws.specs.Sound.{IsSound};
 ghost use Rattle.cluster_closing.specs.Restarts.{Recovers};
 ghost use Rattle.cluster_closing.specs.Revived.{IsReadyFor, ReviveTold, StepTold};
 
 use crate::{Ready, RestartError};
+use cluster_opening::At;
 use cluster_turns::Home;
 use clv_base::events::Outcome;
-use disks_opening::At;
 use log_gate::Gate;
 use machine_calls::{Machine, Reopener, StepError};
+use machine_laws::Mark;
 use ordered_store::Store;
 use std::alloc::Global;
 use std::snapshot::Snapshot;
-use turn_laws::Mark;
 
 // The clock of a walker for whom no event has a stamp any more.
 const WORN: u64 = (1 << 48) - 1;

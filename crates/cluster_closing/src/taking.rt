@@ -1,10 +1,10 @@
 // The turn in which a disk is taken.
 ghost use Rattle.std.specs.Prelude.{◌≡◌, ◌++◌, List, Err, IfOk, true, is_some, vec_capacity};
 ghost use Rattle.turn_lock.specs.Passes.{number, IsPassOf};
-ghost use Rattle.turn_laws.specs.declared.notes.Note.{Note as NoteIs};
-ghost use Rattle.turn_laws.specs.Notes.{notes_of};
-ghost use Rattle.turn_laws.specs.Homes.{holder_of};
-ghost use Rattle.turn_laws.specs.Sound.{IsSound};
+ghost use Rattle.machine_laws.specs.declared.notes.Note.{Note as NoteIs};
+ghost use Rattle.machine_laws.specs.Notes.{notes_of};
+ghost use Rattle.machine_laws.specs.Homes.{holder_of};
+ghost use Rattle.machine_laws.specs.Sound.{IsSound};
 ghost use Rattle.cluster_turns.specs.Turns.{Turned};
 ghost use Rattle.cluster_closing.specs.EndHeld.{FetchTold, DiskFits, PassTaken};
 ghost use Rattle.cluster_closing.specs.declared.fetching.FetchError.TheVariants.{Away as IsAway};
@@ -13,8 +13,8 @@ use crate::fetching::{FetchError, Fetched};
 use cluster_turns::Home;
 use log_gate::Gate;
 use machine_calls::Reopener;
+use machine_laws::{Mark, Note, Origin};
 use std::sync::Wait;
-use turn_laws::{Mark, Note, Origin};
 use turn_lock::{Pass, TurnLock};
 
 // Takes the gate out of a machine that is down, and notes it.

@@ -11,10 +11,10 @@ use crate::{Ready, RestartError};
 use cluster_turns::Home;
 use log_gate::Gate;
 use machine_calls::{Machine, Reopener};
+use machine_laws::{Note, Origin};
 use ordered_store::Store;
 use std::alloc::Global;
 use std::sync::Wait;
-use turn_laws::{Note, Origin};
 use turn_lock::{Pass, TurnLock};
 
 // The turn in which a shard is up again, with the walker's clock after it.

@@ -9,8 +9,8 @@ use Rattle.clv_base.specs.Restarts.{run_after}
 use Rattle.turn_lock.specs.declared.pass.TurnLock.{TurnLock}
 use Rattle.turn_lock.specs.declared.pass.Pass.{Pass}
 use Rattle.turn_lock.specs.Passes.{IsNewPass}
-use Rattle.turn_laws.specs.declared.notes.Note.{Note}
-use Rattle.turn_laws.specs.declared.notes.Origin.{Origin}
+use Rattle.machine_laws.specs.declared.notes.Note.{Note}
+use Rattle.machine_laws.specs.declared.notes.Origin.{Origin}
 use Rattle.cluster_turns.specs.Walkers.{AreNewPasses}
 use Rattle.cluster_opening.specs.AllOpened.{IsOpenedAt}
 use Rattle.law_base.proofs.Lists.{elem_at as some_elem}

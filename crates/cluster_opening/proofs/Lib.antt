@@ -3,3 +3,11 @@ pub mod Taking
 pub mod Columns
 pub mod Back
 pub mod Stopping
+pub mod Headers
+pub mod Growing
+pub mod DisksStopping
+pub mod OneDisk
+pub mod Disks
+pub mod Unagreed
+pub mod Accepting
+pub mod Laws

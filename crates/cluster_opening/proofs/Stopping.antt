@@ -5,10 +5,10 @@ use mathlib.Core.Logic.{dite}
 use native.Mathlib.Decide.{ℕ_discrete}
 use Rattle.clv_base.specs.declared.logs.LogRecord.{LogRecord}
 use Rattle.clv_base.specs.LogRules.{log_of}
-use Rattle.disk_model.specs.Story.{Story}
-use Rattle.disk_model.specs.Disk.{Adds, Rose}
-use Rattle.gate_recovery.specs.declared.recovering.RecoverError.{RecoverError}
-use Rattle.gate_recovery.specs.declared.recovering.RecoverError.TheVariants.{Failed, Memory}
+use Rattle.io_model.specs.Story.{Story}
+use Rattle.io_model.specs.Disk.{Adds, Rose}
+use Rattle.shard_recovery.specs.declared.recovering.RecoverError.{RecoverError}
+use Rattle.shard_recovery.specs.declared.recovering.RecoverError.TheVariants.{Failed, Memory}
 use Rattle.machine_calls.specs.Recovered.{IsLeft, unwritten, CountsLeft}
 use Rattle.cluster_opening.specs.AllOpened.{StoppedAt}
 use Rattle.cluster_opening.specs.Undone.{AreFine, AreBack, CountsBack}

@@ -11,13 +11,13 @@ use Rattle.turn_lock.specs.Journals.{entries_by}
 use Rattle.turn_lock.specs.declared.pass.Pass.{Pass}
 use Rattle.turn_lock.specs.declared.pass.TurnLock.{TurnLock}
 use Rattle.turn_lock.specs.Passes.{number, own, IsNewPass}
-use Rattle.turn_laws.specs.declared.notes.Note.{Note}
-use Rattle.turn_laws.specs.declared.notes.Origin.{Origin}
-use Rattle.turn_laws.specs.declared.notes.Mark.{Mark}
-use Rattle.turn_laws.specs.Notes.{noter, notes_of}
-use Rattle.turn_laws.specs.Homes.{start, state_of, holder_of}
-use Rattle.turn_laws.specs.Gates.{GateStands}
-use Rattle.turn_laws.specs.Sound.{IsSound}
+use Rattle.machine_laws.specs.declared.notes.Note.{Note}
+use Rattle.machine_laws.specs.declared.notes.Origin.{Origin}
+use Rattle.machine_laws.specs.declared.notes.Mark.{Mark}
+use Rattle.machine_laws.specs.Notes.{noter, notes_of}
+use Rattle.machine_laws.specs.Homes.{start, state_of, holder_of}
+use Rattle.machine_laws.specs.Gates.{GateStands}
+use Rattle.machine_laws.specs.Sound.{IsSound}
 use Rattle.machine_calls.specs.Recovered.{IsMachineAt}
 use Rattle.law_base.proofs.Lists.{elem_at as some_elem}
 

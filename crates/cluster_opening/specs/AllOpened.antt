@@ -4,14 +4,14 @@ use Rattle.std.specs.List.{list_all}
 use Rattle.clv_base.specs.declared.logs.LogRecord.{LogRecord}
 use Rattle.clv_base.specs.LogRules.{log_of, disorder}
 use Rattle.clv_base.specs.FileRules.{has_spelling}
-use Rattle.disk_model.specs.Story.{Story}
-use Rattle.gate_recovery.specs.declared.recovering.RecoverError.{RecoverError}
+use Rattle.io_model.specs.Story.{Story}
+use Rattle.shard_recovery.specs.declared.recovering.RecoverError.{RecoverError}
 use Rattle.log_gate.specs.View.{Only}
 use Rattle.turn_lock.specs.declared.pass.TurnLock.{TurnLock}
 use Rattle.turn_lock.specs.declared.pass.Pass.{Pass}
 use Rattle.turn_lock.specs.Passes.{passes_of, IsNewPass}
-use Rattle.turn_laws.specs.declared.notes.Note.{Note}
-use Rattle.turn_laws.specs.declared.notes.Origin.{Origin}
+use Rattle.machine_laws.specs.declared.notes.Note.{Note}
+use Rattle.machine_laws.specs.declared.notes.Origin.{Origin}
 use Rattle.machine_calls.specs.Recovered.{IsLeft, CountsLeft}
 use Rattle.cluster_opening.specs.Opened.{IsOriginOf}
 

@@ -2,3 +2,9 @@ pub mod Opened
 pub mod AllOpened
 pub mod Made
 pub mod Undone
+pub mod Logs
+pub mod Opening
+pub mod Judging
+pub mod Houses
+pub mod Making
+pub mod Accepted

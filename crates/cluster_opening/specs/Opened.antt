@@ -4,10 +4,10 @@ use Rattle.clv_base.specs.declared.logs.LogRecord.{LogRecord}
 use Rattle.clv_base.specs.State.{Shard}
 use Rattle.clv_base.specs.Restarts.{log_after_restart}
 use Rattle.log_gate.specs.View.{Only}
-use Rattle.turn_laws.specs.declared.notes.Origin.{Origin}
-use Rattle.turn_laws.specs.declared.notes.Mark.{Mark}
-use Rattle.turn_laws.specs.Notes.{notes_of}
-use Rattle.turn_laws.specs.Sound.{IsSound}
+use Rattle.machine_laws.specs.declared.notes.Origin.{Origin}
+use Rattle.machine_laws.specs.declared.notes.Mark.{Mark}
+use Rattle.machine_laws.specs.Notes.{notes_of}
+use Rattle.machine_laws.specs.Sound.{IsSound}
 use Rattle.machine_calls.specs.Recovered.{IsMachineAt}
 
 module _ {G : Type 0} (shut : G → Bool) (faults whose : G → ℕ) (logs : G → Option (List LogRecord) → Type 0) where

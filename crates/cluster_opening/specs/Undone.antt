@@ -3,14 +3,14 @@ use Rattle.std.specs.Prelude.{◌≡◌, ◌≢◌, ℕ, ◌<◌, ◌≤◌, Boo
 use Rattle.std.specs.Global.{Global}
 use Rattle.clv_base.specs.declared.logs.LogRecord.{LogRecord}
 use Rattle.clv_base.specs.LogRules.{log_of}
-use Rattle.disk_model.specs.Story.{Story}
-use Rattle.disk_model.specs.Disk.{Rose, Adds}
-use Rattle.gate_recovery.specs.declared.recovering.RecoverError.{RecoverError}
-use Rattle.gate_recovery.specs.declared.recovering.RecoverError.TheVariants.{Failed, Memory}
+use Rattle.io_model.specs.Story.{Story}
+use Rattle.io_model.specs.Disk.{Rose, Adds}
+use Rattle.shard_recovery.specs.declared.recovering.RecoverError.{RecoverError}
+use Rattle.shard_recovery.specs.declared.recovering.RecoverError.TheVariants.{Failed, Memory}
 use Rattle.turn_lock.specs.declared.pass.TurnLock.{TurnLock}
 use Rattle.turn_lock.specs.declared.pass.Pass.{Pass}
-use Rattle.turn_laws.specs.declared.notes.Note.{Note}
-use Rattle.turn_laws.specs.declared.notes.Origin.{Origin}
+use Rattle.machine_laws.specs.declared.notes.Note.{Note}
+use Rattle.machine_laws.specs.declared.notes.Origin.{Origin}
 use Rattle.machine_calls.specs.Recovered.{IsLeft}
 use Rattle.cluster_opening.specs.AllOpened.{IsOpenedAt}
 

@@ -6,12 +6,12 @@ ghost use Rattle.cluster_opening.specs.AllOpened.{IsOpenedAt, AreOpenGates, Stop
 use crate::open_shard;
 use cluster_turns::Home;
 use clv_base::logs::LogRecord;
-use disk_model::Disk;
-use gate_recovery::RecoverError;
+use io_model::Disk;
 use log_gate::Gate;
 use machine_calls::OverDisks;
+use machine_laws::{Note, Origin};
+use shard_recovery::RecoverError;
 use std::alloc::Global;
-use turn_laws::{Note, Origin};
 use turn_lock::{Pass, TurnLock};
 
 /// Where opening stopped: the shard, with its disk, and the gates of those above it, the last one first.

@@ -1,16 +1,16 @@
 // The end of a lock that served nobody.
 ghost use Rattle.std.specs.Prelude.{◌≡◌, ◌<◌, ℕ, List, Option, vec_len, slice_index_or};
 ghost use Rattle.clv_base.specs.declared.logs.LogRecord.{LogRecord};
-ghost use Rattle.disk_model.specs.Story.{Story};
+ghost use Rattle.io_model.specs.Story.{Story};
 ghost use Rattle.turn_lock.specs.Passes.{passes_of, IsNewPass};
-ghost use Rattle.turn_laws.specs.declared.notes.Origin.{Origin as OriginIs};
+ghost use Rattle.machine_laws.specs.declared.notes.Origin.{Origin as OriginIs};
 ghost use Rattle.machine_calls.specs.Recovered.{IsLeft};
 ghost use Rattle.cluster_opening.specs.Opened.{IsOriginOf};
 
 use cluster_turns::Home;
-use disk_model::Disk;
+use io_model::Disk;
 use machine_calls::{OverDisks, take_apart};
-use turn_laws::{Note, Origin};
+use machine_laws::{Note, Origin};
 use turn_lock::{Pass, TurnLock};
 
 /// Ends the lock of a shard that nobody has entered, with all its passes, and gives the disk. Takes no memory.

@@ -2,16 +2,16 @@
 ghost use Rattle.std.specs.Prelude.{◌≡◌, ◌<◌, ◌≤◌, ◌+◌, ℕ, suc, true, false, List, Option, vec_len, slice_index_or};
 ghost use Rattle.clv_base.specs.declared.logs.LogRecord.{LogRecord};
 ghost use Rattle.clv_base.specs.LogRules.{log_of};
-ghost use Rattle.disk_model.specs.Story.{Story};
+ghost use Rattle.io_model.specs.Story.{Story};
 ghost use Rattle.machine_calls.specs.Recovered.{IsLeft};
 ghost use Rattle.cluster_opening.specs.Undone.{AreOpened, CameBack};
 
 use crate::close_unused;
 use cluster_turns::Home;
-use disk_model::House;
+use io_model::House;
 use log_gate::Gate;
 use machine_calls::OverDisks;
-use turn_laws::{Note, Origin};
+use machine_laws::{Note, Origin};
 use turn_lock::{Pass, TurnLock};
 
 /// Ends the locks of the first shards, which nobody has entered, with all their passes, and gives the disks back: each is left as recovery left it, and has

@@ -1,14 +1,14 @@
 // One shard in its lock.
 ghost use Rattle.std.specs.Prelude.{◌≡◌, ◌<◌, ℕ, IfOk, IfErr, vec_len, slice_index_or};
 ghost use Rattle.turn_lock.specs.Passes.{passes_of, IsNewPass};
-ghost use Rattle.turn_laws.specs.Homes.{start};
+ghost use Rattle.machine_laws.specs.Homes.{start};
 ghost use Rattle.cluster_opening.specs.Opened.{HasOpenGate};
 
 use cluster_turns::Home;
 use log_gate::Gate;
 use machine_calls::Machine;
+use machine_laws::{Mark, Note, Origin};
 use std::alloc::Global;
-use turn_laws::{Mark, Note, Origin};
 use turn_lock::{Pass, TurnLock};
 
 /// A lock round a machine whose shard is as opening leaves it, with so many passes, numbered from 0, and room for the mark of a walker that takes the

@@ -10,8 +10,8 @@ ghost use Rattle.cluster_opening.specs.Made.{IsNewWalker};
 
 use cluster_turns::{Home, Shards, Walker};
 use machine_calls::Machine;
+use machine_laws::{Note, Origin};
 use std::alloc::{AllocError, Global};
-use turn_laws::{Note, Origin};
 use turn_lock::Pass;
 
 // The last pass of each lock, taken out.

@@ -5,20 +5,20 @@ ghost use Rattle.clv_base.specs.FileRules.{has_spelling};
 ghost use Rattle.clv_base.specs.LogRules.{disorder};
 ghost use Rattle.log_gate.specs.View.{Only};
 ghost use Rattle.turn_lock.specs.Passes.{passes_of, IsNewPass};
-ghost use Rattle.turn_laws.specs.declared.notes.Origin.{Origin as OriginIs};
+ghost use Rattle.machine_laws.specs.declared.notes.Origin.{Origin as OriginIs};
 ghost use Rattle.machine_calls.specs.Recovered.{IsLeft, CountsLeft};
 ghost use Rattle.cluster_opening.specs.Opened.{IsOriginOf};
 
 use crate::locking::lock_shard;
 use cluster_turns::Home;
 use clv_base::logs::LogRecord;
-use disk_model::Disk;
-use gate_recovery::RecoverError;
+use io_model::Disk;
 use log_gate::Gate;
 use machine_calls::{OverDisks, recover_shard, take_apart};
+use machine_laws::{Note, Origin};
+use shard_recovery::RecoverError;
 use std::alloc::Global;
 use std::snapshot::Snapshot;
-use turn_laws::{Note, Origin};
 use turn_lock::{Pass, TurnLock};
 
 /// Recovers a shard from its log, which is in order, and puts its machine into a lock with so many passes, numbered from 0. What a restart adds to the log is

@@ -7,11 +7,11 @@ ghost use Rattle.cluster_opening.specs.Undone.{AreOpened, AreFine, AreBack, Coun
 use crate::Stopped;
 use crate::giving::{give_back_above, give_back_locks};
 use cluster_turns::Home;
-use disk_model::House;
-use gate_recovery::RecoverError;
+use io_model::House;
 use log_gate::Gate;
 use machine_calls::OverDisks;
-use turn_laws::{Note, Origin};
+use machine_laws::{Note, Origin};
+use shard_recovery::RecoverError;
 use turn_lock::{Pass, TurnLock};
 
 /// Takes an opening back that stopped at a shard: the locks of those below it are ended, and all disks are given back, theirs, its own and those above. The

@@ -3,8 +3,8 @@ use Rattle.std.proofs.Common.{◌≡◌, ℕ, zero, suc, ◌<◌, List, [], ◌�
 use Rattle.clv_base.specs.declared.logs.LogRecord.{LogRecord}
 use Rattle.clv_base.specs.Shards.{shard_count}
 use Rattle.clv_base.specs.LogRules.{log_of}
-use Rattle.disk_model.specs.Story.{Story}
-use Rattle.disks_opening.specs.Logs.{HoldsLog, LogsBelow, LogsOfAll}
+use Rattle.io_model.specs.Story.{Story}
+use Rattle.cluster_opening.specs.Logs.{HoldsLog, LogsBelow, LogsOfAll}
 
 log_of_take : (logs : List (List LogRecord)) (k n : ℕ) → n < k → log_of (take k logs) n ≡ log_of logs n
 log_of_take logs zero n l = absurd (omega arith)

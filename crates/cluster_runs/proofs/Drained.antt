@@ -10,7 +10,7 @@ use Rattle.cluster_closing.specs.Landed.{HasLanded}
 use Rattle.cluster_closing.specs.EndLaws.{DrainsLand}
 use Rattle.cluster_closing.specs.Held.{HoldsNone}
 use Rattle.cluster_closing.specs.Laws.{DrainsHoldNone, DrainsFetchNone}
-use Rattle.session_scripts.specs.Standing.{IsAtRest}
+use Rattle.session_api.specs.Standing.{IsAtRest}
 
 pub drained : {M S G : Type 0} → DrainsLand (Home M S G) → DrainsHoldNone (Home M S G) → DrainsFetchNone (Home M S G) → (sh : Shards M S G) (w v : Walker M S G) (r : Result Unit DrainError)
     → IsAtRest sh 0 w → IsWalker sh v × IsSameWalker w v → DrainTold (length sh.locks.items) w.number w.clock w.passes.items r v.clock v.passes.items → IsAtRest sh 0 v

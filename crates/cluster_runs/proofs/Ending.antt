@@ -14,8 +14,8 @@ use Rattle.clv_base.specs.State.{Shard}
 use Rattle.clv_base.specs.Restarts.{run_after, log_left}
 use Rattle.clv_base.specs.Journals.{journal_of, start_of, logs_left_from}
 use Rattle.clv_base.specs.Machines.{Runs}
-use Rattle.disk_model.specs.Story.{Story, reads}
-use Rattle.disk_model.specs.Disk.{Rose}
+use Rattle.io_model.specs.Story.{Story, reads}
+use Rattle.io_model.specs.Disk.{Rose}
 use Rattle.log_gate.specs.Image.{HasLog}
 use Rattle.log_gate.specs.Gate.{EachNow}
 use Rattle.history_laws.proofs.Laws.{left_at}
@@ -27,11 +27,11 @@ use Rattle.journal_laws.specs.Gathered.{MakesHistory, journal_at}
 use Rattle.turn_lock.specs.declared.pass.Pass.{Pass}
 use Rattle.turn_lock.specs.Passes.{seen, pass_origin}
 use Rattle.turn_lock.specs.Journals.{StartsWith}
-use Rattle.turn_laws.specs.declared.notes.Note.{Note}
-use Rattle.turn_laws.specs.declared.notes.Origin.{Origin}
-use Rattle.turn_laws.specs.Notes.{notes_of, told}
-use Rattle.turn_laws.specs.Homes.{is_stop, never_stops, has_failed, start, state_of, entries_in, IsLegal}
-use Rattle.turn_laws.proofs.Laws.{entries_append, notes_are_runs}
+use Rattle.machine_laws.specs.declared.notes.Note.{Note}
+use Rattle.machine_laws.specs.declared.notes.Origin.{Origin}
+use Rattle.machine_laws.specs.Notes.{notes_of, told}
+use Rattle.machine_laws.specs.Homes.{is_stop, never_stops, has_failed, start, state_of, entries_in, IsLegal}
+use Rattle.machine_laws.proofs.Laws.{entries_append, notes_are_runs}
 use Rattle.journal_laws.proofs.Laws.{notes_are_seen}
 use Rattle.cluster_turns.specs.declared.home.Home.{Home}
 use Rattle.cluster_turns.specs.declared.shards.Shards.{Shards}
@@ -43,16 +43,16 @@ use Rattle.cluster_closing.specs.Legal.{views_of}
 use Rattle.cluster_closing.specs.Ending.{seen_of, origin_of}
 use Rattle.cluster_closing.specs.Closing.{IsBack}
 use Rattle.cluster_closing.specs.Closing as closing
-use Rattle.run_promises.specs.Disks.{HoldsLog, flush_failed}
+use Rattle.cluster_runs.specs.Disks.{HoldsLog, flush_failed}
 use Rattle.cluster_runs.proofs.Holding.{left_disks_hold}
 use Rattle.script_lang.specs.Bodies.{Body}
 use Rattle.script_runs.specs.declared.ends.StopCause.TheVariants as stop
 use Rattle.script_runs.specs.Sessions.{session_entries}
-use Rattle.run_promises.specs.Ended.{ClusterEnded, runs_on}
-use Rattle.run_promises.specs.Sessions.{Went, Begun, SessionWent, SessionsWent}
-use Rattle.run_promises.specs.Down.{IsLowestDown, IsLowestFault}
-use Rattle.run_promises.proofs.Laws.{runs_are_promised, failed_are_down, down_stays, lowest_down_is_fault}
-use Rattle.run_status.specs.Running.{End, IsOk, status_by}
+use Rattle.cluster_runs.specs.Ended.{ClusterEnded, runs_on}
+use Rattle.cluster_runs.specs.PromisedSessions.{Went, Begun, SessionWent, SessionsWent}
+use Rattle.cluster_runs.specs.Down.{IsLowestDown, IsLowestFault}
+use Rattle.cluster_runs.proofs.Laws.{runs_are_promised, failed_are_down, down_stays, lowest_down_is_fault}
+use Rattle.command_line.specs.Running.{End, IsOk, status_by}
 use Rattle.cluster_runs.specs.Ends.{end_of, walked_by, IsClosedRun}
 use Rattle.cluster_runs.specs.Statuses.{StatusTold, FlushesTold}
 use Rattle.cluster_runs.specs.Laws.{ClustersEnd, OthersStand, AllAreIn, RunsKeep, SessionsHaveGone, StatusesTell, FlushesTell, DownsTell}

@@ -3,11 +3,11 @@ use Rattle.std.proofs.Common.{◌≡◌, ℕ, ◌<◌, Bool, false, List, get_or
 use Rattle.clv_base.specs.declared.logs.LogRecord.{LogRecord}
 use Rattle.clv_base.specs.Shards.{shard_count}
 use Rattle.clv_base.specs.LogRules.{log_of}
-use Rattle.disk_model.specs.Story.{Story}
+use Rattle.io_model.specs.Story.{Story}
 use Rattle.log_gate.specs.View.{View, logs_of}
 use Rattle.log_gate.proofs.Laws.{only_from}
-use Rattle.disks_opening.specs.Logs.{IsFound}
-use Rattle.disks_opening.specs.Houses.{WentOut}
+use Rattle.cluster_opening.specs.Logs.{IsFound}
+use Rattle.cluster_opening.specs.Houses.{WentOut}
 use Rattle.cluster_runs.specs.Begun.{AreFound}
 
 pub found_in : (splits : List ℕ) (logs : List (List LogRecord)) (run : ℕ) (gates : List View) (f f' : ℕ → ℕ) (o o' : ℕ → Bool) (s s' : ℕ → Option Story) → IsFound splits logs run gates s → WentOut (shard_count splits) f f' o o' s s'

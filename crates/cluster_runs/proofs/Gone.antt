@@ -8,11 +8,11 @@ use Rattle.cluster_opening.specs.Made.{IsNewWalker}
 use Rattle.script_lang.specs.Bodies.{Body}
 use Rattle.script_runs.specs.declared.ends.StopCause.{StopCause}
 use Rattle.script_runs.specs.Sessions.{session_entries}
-use Rattle.run_status.specs.Running.{End, IsOk}
-use Rattle.session_scripts.specs.Standing.{IsAtRest}
-use Rattle.session_scripts.specs.Grounds.{Grounds}
-use Rattle.session_scripts.proofs.Laws.{new_walkers_rest, new_walkers_keep_none}
-use Rattle.run_promises.specs.Sessions.{Went, NotBegun, Begun, SessionWent}
+use Rattle.command_line.specs.Running.{End, IsOk}
+use Rattle.session_api.specs.Standing.{IsAtRest}
+use Rattle.session_api.specs.Grounds.{Grounds}
+use Rattle.session_api.proofs.Laws.{new_walkers_rest, new_walkers_keep_none}
+use Rattle.cluster_runs.specs.PromisedSessions.{Went, NotBegun, Begun, SessionWent}
 use Rattle.cluster_runs.specs.Sessions.{HasSat, HasGrounds, SessionsGone, went_to, went_by}
 use Rattle.law_base.proofs.Lists.{some_at as at_slice}
 

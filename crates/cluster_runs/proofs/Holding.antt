@@ -11,20 +11,20 @@ use Rattle.clv_base.specs.State.{Shard}
 use Rattle.clv_base.specs.Events.{with_durable}
 use Rattle.clv_base.specs.Journals.{History, final_of, after_entry, flush_state, FlushMay}
 use Rattle.clv_base.specs.Machines.{BecomesBy}
-use Rattle.disk_model.specs.Story.{Story, reads, IsImage}
+use Rattle.io_model.specs.Story.{Story, reads, IsImage}
 use Rattle.history_cases.proofs.Durability.{framed_finish, Counted}
 use Rattle.journal_laws.specs.Notes.{Note as Told, made, fetched, MayNotes, after_notes, entries_of_notes}
 use Rattle.log_gate.specs.Image.{log_of, records_of}
 use Rattle.log_gate.specs.Gate.{EachNow}
 use Rattle.log_gate.specs.View.{logs_told}
-use Rattle.turn_laws.specs.declared.notes.Note.{Note}
-use Rattle.turn_laws.specs.declared.notes.Origin.{Origin}
-use Rattle.turn_laws.specs.Notes.{told}
-use Rattle.turn_laws.specs.Homes.{start, is_stop, never_stops, IsLegal}
-use Rattle.turn_laws.specs.Gates.{durable_records}
-use Rattle.turn_laws.proofs.Laws.{does_calm, does_fly, legal_counted, none_stops, whole}
+use Rattle.machine_laws.specs.declared.notes.Note.{Note}
+use Rattle.machine_laws.specs.declared.notes.Origin.{Origin}
+use Rattle.machine_laws.specs.Notes.{told}
+use Rattle.machine_laws.specs.Homes.{start, is_stop, never_stops, IsLegal}
+use Rattle.machine_laws.specs.Gates.{durable_records}
+use Rattle.machine_laws.proofs.Laws.{does_calm, does_fly, legal_counted, none_stops, whole}
 use Rattle.cluster_closing.specs.Closing.{IsLeft}
-use Rattle.run_promises.specs.Disks.{flush_after, flush_failed_from, flush_failed, HoldsLog}
+use Rattle.cluster_runs.specs.Disks.{flush_after, flush_failed_from, flush_failed, HoldsLog}
 use Rattle.cluster_runs.specs.ClusterLaws.{DownAfterFailed, LeftDisksHold, IsEnd, ClosedDisksHold}
 use Rattle.law_base.proofs.Bools.{not_true as not_stop}
 

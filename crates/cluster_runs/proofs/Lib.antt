@@ -11,4 +11,13 @@ pub mod Dealing
 pub mod Finding
 pub mod Taking
 pub mod Undoing
+pub mod Undone
+pub mod Down
+mod Choosing
+pub mod Promising
+mod Entries
+mod Completing
+mod Telling
+mod Going
+mod Replaying
 pub mod Laws

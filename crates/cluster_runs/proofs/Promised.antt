@@ -6,27 +6,27 @@ use Rattle.clv_base.specs.State.{Shard}
 use Rattle.clv_base.specs.Shards.{shard_count}
 use Rattle.clv_base.specs.FileRules.{may_open}
 use Rattle.clv_base.specs.Journals.{journal_of}
-use Rattle.disk_model.specs.Story.{Story}
-use Rattle.disks_opening.specs.Logs.{LogsOfAll}
+use Rattle.io_model.specs.Story.{Story}
+use Rattle.cluster_opening.specs.Logs.{LogsOfAll}
 use Rattle.history_replay.specs.Entries.{Kept}
 use Rattle.turn_lock.specs.declared.pass.Pass.{Pass}
 use Rattle.turn_lock.specs.Passes.{seen, pass_origin}
-use Rattle.turn_laws.specs.declared.notes.Note.{Note}
-use Rattle.turn_laws.specs.declared.notes.Origin.{Origin}
-use Rattle.turn_laws.specs.Homes.{state_of, has_failed}
+use Rattle.machine_laws.specs.declared.notes.Note.{Note}
+use Rattle.machine_laws.specs.declared.notes.Origin.{Origin}
+use Rattle.machine_laws.specs.Homes.{state_of, has_failed}
 use Rattle.cluster_turns.specs.declared.home.Home.{Home}
 use Rattle.cluster_turns.specs.declared.shards.Shards.{Shards}
 use Rattle.cluster_turns.specs.declared.shards.Walker.{Walker}
 use Rattle.script_lang.specs.Bodies.{Body}
 use Rattle.script_runs.specs.declared.ends.StopCause.TheVariants as stop
-use Rattle.run_promises.specs.Completing.{SessionsHaveEnded}
-use Rattle.run_promises.specs.Promises.{RunPromised}
-use Rattle.session_scripts.specs.Grounds.{WasDown}
-use Rattle.run_promises.specs.Sessions.{Went, NotBegun, Begun, SessionsWent}
-use Rattle.run_promises.specs.Histories.{entries}
-use Rattle.run_status.specs.declared.status.Status.{Status}
-use Rattle.run_status.specs.declared.status.Status.TheVariants.{Fine, Usage, Script, ReadFault, WriteFault, DiskFault, NotLog, Memory, Worn, Exists, Apart}
-use Rattle.run_status.specs.Running.{End, status_by}
+use Rattle.cluster_runs.specs.Completing.{SessionsHaveEnded}
+use Rattle.cluster_runs.specs.Promises.{RunPromised}
+use Rattle.session_api.specs.Grounds.{WasDown}
+use Rattle.cluster_runs.specs.PromisedSessions.{Went, NotBegun, Begun, SessionsWent}
+use Rattle.cluster_runs.specs.Histories.{entries}
+use Rattle.command_line.specs.declared.status.Status.{Status}
+use Rattle.command_line.specs.declared.status.Status.TheVariants.{Fine, Usage, Script, ReadFault, WriteFault, DiskFault, NotLog, Memory, Worn, Exists, Apart}
+use Rattle.command_line.specs.Running.{End, status_by}
 use Rattle.cluster_runs.specs.Ends.{walked_by, IsClosedRun}
 use Rattle.cluster_runs.specs.Statuses.{StatusTold, FlushesTold}
 use Rattle.cluster_runs.proofs.Ending.{others_stand, runs_keep, sessions_have_gone, statuses_tell, flushes_tell, downs_tell}

@@ -6,10 +6,10 @@ use denote.Struct.Declared.{shape}
 use Rattle.std.proofs.Crossing.{crosses, Vec-send}
 use Rattle.turn_lock.proofs.pass.Pass.TheSendSync as pass
 use Rattle.turn_lock.proofs.pass.TurnLock.TheSendSync as lock
-use Rattle.batch_gate.proofs.gate.BatchGate.TheSendSync as gate
+use Rattle.turn_lock.proofs.gate.BatchGate.TheSendSync as gate
 use Rattle.std.specs.contracts.option.Option as option
-use Rattle.turn_laws.specs.contracts.notes.Origin as Origin
-use Rattle.turn_laws.specs.contracts.notes.Note as Note
+use Rattle.machine_laws.specs.contracts.notes.Origin as Origin
+use Rattle.machine_laws.specs.contracts.notes.Note as Note
 use Rattle.turn_lock.specs.contracts.pass.Pass as Pass
 use Rattle.cluster_turns.specs.contracts.home.Home as home
 use Rattle.cluster_turns.specs.contracts.shards.Walker as walker
@@ -19,7 +19,7 @@ use Rattle.clv_base.proofs.splits.Splits.TheSendSync as splits
 use Rattle.cluster_turns.specs.contracts.shards.Shards as shards
 use Rattle.session_api.specs.contracts.session.Session as session
 use Rattle.session_api.proofs.progress.Progress.TheSendSync as progress
-use Rattle.session_scripts.specs.contracts.session.ScriptSession as script
+use Rattle.session_api.specs.contracts.script_session.ScriptSession as script
 
 pub origin_send : IsSend Origin.the_field.row
 origin_send = struct_send (shape Origin.the_type) (search sendable, (search sendable, (search (sendable, crosses) depth 20, tt)))

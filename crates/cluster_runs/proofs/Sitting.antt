@@ -6,11 +6,11 @@ use Rattle.cluster_turns.specs.declared.shards.Walker.{Walker}
 use Rattle.script_lang.specs.Bodies.{Body}
 use Rattle.script_lang.specs.Laws.{is_narrow_body}
 use Rattle.script_runs.specs.Ran.{stop_in, Follows}
-use Rattle.run_status.specs.Running.{End}
+use Rattle.command_line.specs.Running.{End}
 use Rattle.session_api.specs.declared.progress.Progress.{Progress}
-use Rattle.session_scripts.specs.Standing.{Holds, seen_in, standing_of}
-use Rattle.session_scripts.specs.Grounds.{Grounds}
-use Rattle.session_scripts.proofs.Laws.{sessions_rest, scripts_follow}
+use Rattle.session_api.specs.Standing.{Holds, seen_in, standing_of}
+use Rattle.session_api.specs.Grounds.{Grounds}
+use Rattle.session_api.proofs.Laws.{sessions_rest, scripts_follow}
 use Rattle.cluster_runs.specs.Sessions.{IsSeated, HasSat, HasWornLast}
 use Rattle.law_base.proofs.Bools.{and_first, and_second}
 

@@ -6,17 +6,17 @@ use Rattle.clv_base.specs.Shards.{shard_count}
 use Rattle.clv_base.specs.LogRules.{log_of}
 use Rattle.clv_base.specs.FileRules.{may_open}
 use Rattle.clv_base.specs.Restarts.{run_after}
-use Rattle.disk_model.specs.Story.{Story}
-use Rattle.disk_model.specs.Disk.{Tells, Rose}
-use Rattle.gate_recovery.specs.declared.recovering.RecoverError.{RecoverError}
-use Rattle.gate_recovery.specs.declared.recovering.RecoverError.TheVariants as recovery
+use Rattle.io_model.specs.Story.{Story}
+use Rattle.io_model.specs.Disk.{Tells, Rose}
+use Rattle.shard_recovery.specs.declared.recovering.RecoverError.{RecoverError}
+use Rattle.shard_recovery.specs.declared.recovering.RecoverError.TheVariants as recovery
 use Rattle.log_gate.specs.Opening.{IsUnchanged}
-use Rattle.disks_opening.specs.declared.error.OpenError.{OpenError}
-use Rattle.disks_opening.specs.declared.error.OpenError.TheVariants.{Failed, NotLog, Apart, Worn, Memory}
-use Rattle.disks_opening.specs.Logs.{LogsOfAll}
-use Rattle.disks_opening.specs.Opening.{Refuses, CountsOpen}
-use Rattle.disks_opening.specs.Houses.{WentOut}
-use Rattle.disks_opening.proofs.Laws.{same_disk}
+use Rattle.cluster_opening.specs.declared.error.OpenError.{OpenError}
+use Rattle.cluster_opening.specs.declared.error.OpenError.TheVariants.{Failed, NotLog, Apart, Worn, Memory}
+use Rattle.cluster_opening.specs.Logs.{LogsOfAll}
+use Rattle.cluster_opening.specs.Opening.{Refuses, CountsOpen}
+use Rattle.cluster_opening.specs.Houses.{WentOut}
+use Rattle.cluster_opening.proofs.Laws.{same_disk}
 use Rattle.machine_calls.specs.Recovered.{IsLeft, unwritten, begun as has_begun}
 use Rattle.cluster_opening.specs.Undone.{AreBack, CountsBack}
 use Rattle.cluster_runs.specs.Begun.{told_as, AreUnchanged, AreFound, IsLeftAt, unchanged, begun, AreLeft, before, meanwhile, LeavesDisks, IsTakenBack}

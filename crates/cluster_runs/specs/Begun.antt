@@ -6,10 +6,10 @@ use Rattle.clv_base.specs.Shards.{shard_count}
 use Rattle.clv_base.specs.LogRules.{log_of}
 use Rattle.clv_base.specs.FileRules.{may_open}
 use Rattle.clv_base.specs.Restarts.{run_after}
-use Rattle.disk_model.specs.Story.{Story}
-use Rattle.disk_model.specs.Disk.{Tells}
-use Rattle.gate_recovery.specs.declared.recovering.RecoverError.{RecoverError}
-use Rattle.gate_recovery.specs.declared.recovering.RecoverError.TheVariants as recovery
+use Rattle.io_model.specs.Story.{Story}
+use Rattle.io_model.specs.Disk.{Tells}
+use Rattle.shard_recovery.specs.declared.recovering.RecoverError.{RecoverError}
+use Rattle.shard_recovery.specs.declared.recovering.RecoverError.TheVariants as recovery
 use Rattle.log_gate.specs.Gate.{EachNow}
 use Rattle.log_gate.specs.Opening.{IsUnchanged}
 use Rattle.turn_lock.specs.Passes.{passes_of}
@@ -17,11 +17,11 @@ use Rattle.cluster_turns.specs.declared.shards.Shards.{Shards}
 use Rattle.cluster_turns.specs.Walkers.{founds_of}
 use Rattle.cluster_closing.specs.declared.memory.Room.{Room}
 use Rattle.cluster_closing.specs.Legal.{AreShards}
-use Rattle.disks_opening.specs.declared.error.OpenError.{OpenError}
-use Rattle.disks_opening.specs.declared.error.OpenError.TheVariants.{Failed, NotLog, Apart, Worn, Memory}
-use Rattle.disks_opening.specs.Logs.{LogsOfAll}
-use Rattle.disks_opening.specs.Opening.{Refuses, CountsOpen}
-use Rattle.disks_opening.specs.Houses.{WentOut}
+use Rattle.cluster_opening.specs.declared.error.OpenError.{OpenError}
+use Rattle.cluster_opening.specs.declared.error.OpenError.TheVariants.{Failed, NotLog, Apart, Worn, Memory}
+use Rattle.cluster_opening.specs.Logs.{LogsOfAll}
+use Rattle.cluster_opening.specs.Opening.{Refuses, CountsOpen}
+use Rattle.cluster_opening.specs.Houses.{WentOut}
 use Rattle.machine_calls.specs.Recovered.{HasBegun}
 use Rattle.cluster_opening.specs.AllOpened.{AreOpenGates}
 

@@ -4,14 +4,14 @@ use Rattle.clv_base.specs.declared.logs.LogRecord.{LogRecord}
 use Rattle.clv_base.specs.Shards.{shard_count}
 use Rattle.clv_base.specs.State.{Shard}
 use Rattle.clv_base.specs.Journals.{History, journal_of, final_of}
-use Rattle.disk_model.specs.Story.{Story}
+use Rattle.io_model.specs.Story.{Story}
 use Rattle.log_gate.specs.Gate.{EachNow}
 use Rattle.log_gate.specs.View.{logs_told}
-use Rattle.turn_laws.specs.declared.notes.Note.{Note}
-use Rattle.turn_laws.specs.declared.notes.Origin.{Origin}
-use Rattle.turn_laws.specs.Homes.{IsLegal}
+use Rattle.machine_laws.specs.declared.notes.Note.{Note}
+use Rattle.machine_laws.specs.declared.notes.Origin.{Origin}
+use Rattle.machine_laws.specs.Homes.{IsLegal}
 use Rattle.cluster_closing.specs.Closing.{IsLeft}
-use Rattle.run_promises.specs.Disks.{flush_failed, HoldsLog, DisksHold}
+use Rattle.cluster_runs.specs.Disks.{flush_failed, HoldsLog, DisksHold}
 
 -- a shard whose notes leave it down has a journal whose last flush failed
 abbrev pub DownAfterFailed : Type 0

@@ -5,11 +5,11 @@ use Rattle.clv_base.specs.Shards.{shard_count}
 use Rattle.clv_base.specs.LogRules.{log_of}
 use Rattle.clv_base.specs.State.{Shard}
 use Rattle.clv_base.specs.Journals.{History, MayLeave}
-use Rattle.disk_model.specs.Story.{Story}
+use Rattle.io_model.specs.Story.{Story}
 use Rattle.history_replay.specs.Entries.{Kept, entries_of}
 use Rattle.journal_laws.specs.Gathered.{MakesHistory}
-use Rattle.turn_laws.specs.Notes.{notes_of}
-use Rattle.turn_laws.specs.Homes.{never_stops, IsLegal}
+use Rattle.machine_laws.specs.Notes.{notes_of}
+use Rattle.machine_laws.specs.Homes.{never_stops, IsLegal}
 use Rattle.cluster_turns.specs.declared.home.Home.{Home}
 use Rattle.cluster_turns.specs.declared.shards.Shards.{Shards}
 use Rattle.cluster_turns.specs.declared.shards.Walker.{Walker}
@@ -17,7 +17,7 @@ use Rattle.cluster_turns.specs.Walkers.{founds_of}
 use Rattle.cluster_closing.specs.Held.{never_restarts}
 use Rattle.cluster_closing.specs.Legal.{state_at, views_of}
 use Rattle.cluster_closing.specs.Ending.{ClosedAt}
-use Rattle.disks_opening.specs.Houses.{WentOut}
+use Rattle.cluster_opening.specs.Houses.{WentOut}
 use Rattle.cluster_runs.specs.Begun.{AreLocked}
 use Rattle.cluster_closing.specs.Closing.{IsLowestDown, IsBack}
 

@@ -5,4 +5,13 @@ pub mod Statuses
 pub mod ClusterLaws
 pub mod Begun
 pub mod Added
+pub mod Disks
+pub mod Histories
+pub mod Ended
+pub mod PromisedSessions
+pub mod Promises
+pub mod Completing
+pub mod Down
+pub mod Replays
+pub mod PromiseLaws
 pub mod Laws

@@ -3,18 +3,18 @@ use Rattle.std.specs.Prelude.{◌≡◌, ℕ, suc, ◌<◌, ◌≤◌, ◌^◌, 
 use Rattle.clv_base.specs.Shards.{shard_count}
 use Rattle.clv_base.specs.FileRules.{may_open}
 use Rattle.clv_base.specs.Journals.{journal_of}
-use Rattle.disk_model.specs.Story.{Story}
-use Rattle.disks_opening.specs.Logs.{LogsOfAll}
+use Rattle.io_model.specs.Story.{Story}
+use Rattle.cluster_opening.specs.Logs.{LogsOfAll}
 use Rattle.history_replay.specs.Entries.{Kept}
-use Rattle.turn_laws.specs.Homes.{has_failed}
-use Rattle.run_promises.specs.Histories.{entries}
-use Rattle.run_status.specs.declared.status.Status.{Status}
-use Rattle.run_status.specs.declared.status.Status.TheVariants.{Fine}
+use Rattle.machine_laws.specs.Homes.{has_failed}
+use Rattle.cluster_runs.specs.Histories.{entries}
+use Rattle.command_line.specs.declared.status.Status.{Status}
+use Rattle.command_line.specs.declared.status.Status.TheVariants.{Fine}
 use Rattle.script_lang.specs.Bodies.{Body}
 use Rattle.script_runs.specs.declared.ends.StopCause.TheVariants.{Down, Unsettled, Worn}
-use Rattle.run_promises.specs.Completing.{IsWanted, SessionEnded}
-use Rattle.run_promises.specs.Promises.{RunPromised}
-use Rattle.run_promises.specs.Sessions.{Went, Begun}
+use Rattle.cluster_runs.specs.Completing.{IsWanted, SessionEnded}
+use Rattle.cluster_runs.specs.Promises.{RunPromised}
+use Rattle.cluster_runs.specs.PromisedSessions.{Went, Begun}
 use Rattle.cluster_runs.specs.Statuses.{StatusTold, FlushesTold}
 
 -- where all was fine, and at least one try is wanted, each transaction of each session has ended

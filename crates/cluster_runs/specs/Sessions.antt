@@ -7,12 +7,12 @@ use Rattle.cluster_opening.specs.Made.{IsNewWalker}
 use Rattle.script_lang.specs.Bodies.{Body}
 use Rattle.script_runs.specs.declared.ends.StopCause.TheVariants.{Worn}
 use Rattle.script_runs.specs.Ran.{stop_in}
-use Rattle.run_status.specs.Running.{End, IsOk}
+use Rattle.command_line.specs.Running.{End, IsOk}
 use Rattle.session_api.specs.declared.progress.Progress.{Progress}
 use Rattle.session_api.specs.declared.progress.Progress.TheVariants.{Idle}
-use Rattle.session_scripts.specs.Standing.{Holds, IsAtRest}
-use Rattle.session_scripts.specs.Grounds.{Grounds}
-use Rattle.run_promises.specs.Sessions.{Went, NotBegun, Begun, SessionWent}
+use Rattle.session_api.specs.Standing.{Holds, IsAtRest}
+use Rattle.session_api.specs.Grounds.{Grounds}
+use Rattle.cluster_runs.specs.PromisedSessions.{Went, NotBegun, Begun, SessionWent}
 
 -- stamps are wanting only past the last one
 abbrev pub HasWornLast : End → Type 0

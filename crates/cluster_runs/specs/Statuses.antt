@@ -1,9 +1,9 @@
 -- What the status of a run that opened its shards tells of its disks and sessions.
 use Rattle.std.specs.Prelude.{◌≡◌, ℕ, ◌<◌, ◌^◌, Bool, true, false, None}
-use Rattle.disk_model.specs.Disk.{Rose}
-use Rattle.run_promises.specs.Sessions.{Went, Begun}
-use Rattle.run_status.specs.declared.status.Status.{Status}
-use Rattle.run_status.specs.declared.status.Status.TheVariants.{Fine, Usage, Script, ReadFault, WriteFault, DiskFault, NotLog, Memory, Worn, Exists, Apart}
+use Rattle.io_model.specs.Disk.{Rose}
+use Rattle.cluster_runs.specs.PromisedSessions.{Went, Begun}
+use Rattle.command_line.specs.declared.status.Status.{Status}
+use Rattle.command_line.specs.declared.status.Status.TheVariants.{Fine, Usage, Script, ReadFault, WriteFault, DiskFault, NotLog, Memory, Worn, Exists, Apart}
 
 -- the counts of the first disks stand
 abbrev pub CountsStand : ℕ → (ℕ → ℕ) → (ℕ → ℕ) → Type 0

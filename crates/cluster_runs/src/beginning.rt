@@ -4,9 +4,9 @@ ghost use Rattle.std.specs.List.{All};
 ghost use Rattle.clv_base.specs.Shards.{shard_count};
 ghost use Rattle.clv_base.specs.Logs.{stands};
 ghost use Rattle.cluster_turns.specs.Walkers.{founds_of};
-ghost use Rattle.disk_model.specs.Story.{Story};
-ghost use Rattle.disks_opening.specs.Houses.{WentOut};
-ghost use Rattle.disks_opening.specs.Opening.{Refuses, CountsOpen};
+ghost use Rattle.io_model.specs.Story.{Story};
+ghost use Rattle.cluster_opening.specs.Houses.{WentOut};
+ghost use Rattle.cluster_opening.specs.Opening.{Refuses, CountsOpen};
 ghost use Rattle.cluster_opening.specs.Made.{IsNewWalker};
 ghost use Rattle.cluster_closing.specs.Room.{HasRoom};
 ghost use Rattle.cluster_runs.specs.Begun.{AreFound, AreLocked, IsTakenBack, LeavesDisks};
@@ -14,20 +14,19 @@ ghost use Rattle.cluster_runs.specs.Begun.{AreFound, AreLocked, IsTakenBack, Lea
 use crate::locking::{Logs, lock_all};
 use crate::rooms::take_rooms;
 use cluster_closing::Room;
-use cluster_opening::{give_back_locks, make_walkers};
+use cluster_opening::{Found, OpenError, give_back_locks, make_walkers, open_disks};
 use cluster_turns::{Home, Shards, Walker};
 use clv_base::logs::LogRecord;
-use disk_model::House;
-use disks_opening::{Found, OpenError, open_disks};
-use key_map::KeyMap;
+use history_replay::KeyMap;
+use io_model::House;
 use lock_table::Locks;
 use log_gate::LogGate;
 use machine_calls::{Machine, OverDisks};
+use machine_laws::{Note, Origin};
 use ordered_store::Store;
 use shard_machine::ShardMachine;
 use std::alloc::Global;
 use std::snapshot::Snapshot;
-use turn_laws::{Note, Origin};
 use turn_lock::{Pass, TurnLock};
 
 /// A cluster that has begun: its shards, its walkers, all memory that its end takes, and what the logs stand for.

@@ -6,12 +6,12 @@ ghost use Rattle.cluster_turns.specs.Walkers.{founds_of};
 ghost use Rattle.cluster_closing.specs.Legal.{AreShards};
 ghost use Rattle.cluster_closing.specs.Room.{HasRoom};
 ghost use Rattle.cluster_closing.specs.Closing.{lists};
-ghost use Rattle.session_scripts.specs.Standing.{IsAtRest};
+ghost use Rattle.session_api.specs.Standing.{IsAtRest};
 ghost use Rattle.cluster_runs.specs.Ends.{IsClosed};
 
 use cluster_closing::{Closed, Room, close};
 use cluster_turns::{Shards, Walker};
-use disk_model::House;
+use io_model::House;
 use machine_calls::OverDisks;
 use std::alloc::Global;
 

@@ -1,13 +1,13 @@
 // The drains of a run.
 ghost use Rattle.std.specs.Prelude.{◌≡◌, ◌^◌, ℕ};
 ghost use Rattle.script_runs.specs.declared.ends.StopCause.TheVariants.{Worn};
-ghost use Rattle.session_scripts.specs.Standing.{IsAtRest};
+ghost use Rattle.session_api.specs.Standing.{IsAtRest};
 ghost use Rattle.cluster_runs.specs.Sessions.{HasWornLast};
 
 use cluster_closing::end_promises::drains_land;
 use cluster_closing::promises::{drains_fetch_none, drains_hold_none};
 use cluster_turns::{DrainError, Home, Shards, Walker, drain};
-use io_edge::Pace;
+use io_model::Pace;
 use machine_calls::Flier;
 use script_runs::StopCause;
 use std::alloc::Global;

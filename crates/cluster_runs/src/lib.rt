@@ -2,7 +2,10 @@
 //! into its lock, the shards are drained, each session runs on a thread of its own, the shards are drained again and closed. What it kept
 //! is a legal history that keeps the whole promise of a run, whatever became of it, and its status tells of disks and sessions.
 //!
-//! It stands on the opening, the drain and the end of a cluster, on a script's sessions on threads, and on `run_promises`.
+//! What the program promises of a run stands here, too, as definitions over its history and over what its disks tell: that the history is legal,
+//! what each disk holds in each image that a crash may leave, and that each choice of what a crash keeps has the whole promise over all
+//! histories (`headline_laws`); for any number of shards and sessions, with laws that give it from a legal history. It stands on the opening
+//! and the end of a cluster, and on a script's sessions on threads.
 #![tactic(auto)]
 
 mod beginning;
@@ -13,10 +16,13 @@ mod locking;
 mod over;
 pub mod promises;
 mod ran;
+pub mod replay;
 mod rooms;
 mod seats;
 mod sessions;
+pub mod shards_statements;
 mod standing;
+pub mod statements;
 mod whole;
 
 pub use beginning::{Opened, open_all};

@@ -1,27 +1,25 @@
 // All shards, from their logs into their locks.
 ghost use Rattle.std.specs.Prelude.{◌≡◌, ◌<◌, ◌≤◌, ℕ, Bool, List, Option, map, vec_len, vec_capacity, IfOk, IfErr};
 ghost use Rattle.clv_base.specs.Shards.{shard_count};
-ghost use Rattle.disk_model.specs.Story.{Story};
+ghost use Rattle.io_model.specs.Story.{Story};
 ghost use Rattle.cluster_turns.specs.Walkers.{founds_of};
-ghost use Rattle.disks_opening.specs.Houses.{WentOut};
+ghost use Rattle.cluster_opening.specs.Houses.{WentOut};
 ghost use Rattle.cluster_opening.specs.Undone.{AreOpened};
 ghost use Rattle.cluster_runs.specs.Begun.{AreFound, AreLocked, IsTakenBack, told_as as telling};
 
-use batch_gate::BatchGate;
-use cluster_opening::{open_shards, undo};
+use cluster_opening::{OpenError, open_shards, undo};
 use cluster_turns::{Home, Shards};
 use clv_base::logs::LogRecord;
 use clv_base::splits::Splits;
-use disk_model::House;
-use disks_opening::OpenError;
-use gate_recovery::RecoverError;
+use io_model::House;
 use log_gate::Gate;
 use machine_calls::OverDisks;
+use machine_laws::{Note, Origin};
+use shard_recovery::RecoverError;
 use std::alloc::Global;
 use std::array;
 use std::snapshot::Snapshot;
-use turn_laws::{Note, Origin};
-use turn_lock::{Pass, TurnLock};
+use turn_lock::{BatchGate, Pass, TurnLock};
 
 // The logs of all shards, each behind a gate of the machine that is to have it.
 pub(crate) struct Logs<G: Gate> {

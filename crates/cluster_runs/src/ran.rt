@@ -1,8 +1,7 @@
 // What a run leaves.
 
-use history_replay::History;
-use key_map::KeyMap;
-use run_status::Status;
+use command_line::Status;
+use history_replay::{History, KeyMap};
 
 /// A run that opened its shards, and closed them.
 #[derive(Drop)]

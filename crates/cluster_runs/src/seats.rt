@@ -2,16 +2,16 @@
 ghost use Rattle.std.specs.Prelude.{◌≡◌, ◌<◌, ◌≤◌, ◌+◌, ℕ, suc, true, length, slice_index_or, vec_len, vec_capacity};
 ghost use Rattle.clv_base.specs.Shards.{are_splits};
 ghost use Rattle.cluster_opening.specs.Made.{IsNewWalker};
-ghost use Rattle.run_status.specs.Running.{IsOk};
+ghost use Rattle.command_line.specs.Running.{IsOk};
 ghost use Rattle.cluster_runs.specs.Sessions.{IsSeated, HasWornLast};
 
 use cluster_turns::{Shards, Walker};
-use io_edge::Pace;
+use command_line::graver;
+use io_model::Pace;
 use machine_calls::Flier;
-use run_status::graver;
 use script_lang::Session;
 use script_runs::{Seat, StopCause};
-use session_scripts::ScriptSession;
+use session_api::ScriptSession;
 use std::sync::Wait;
 
 // A seat for each session, with its walker, which leaves the list of walkers; walker 0 stays.

@@ -3,23 +3,22 @@ ghost use Rattle.std.specs.Prelude.{◌≡◌, ◌<◌, ◌≤◌, ℕ, true, fa
 ghost use Rattle.std.specs.List.{list_all};
 ghost use Rattle.clv_base.specs.Logs.{stands};
 ghost use Rattle.script_lang.specs.Laws.{is_narrow_body};
-ghost use Rattle.disks_opening.specs.Opening.{Refuses, CountsOpen};
+ghost use Rattle.cluster_opening.specs.Opening.{Refuses, CountsOpen};
 ghost use Rattle.cluster_runs.specs.Begun.{LeavesDisks};
 ghost use Rattle.cluster_runs.specs.Ran.{RanAll};
 
 use crate::closing::close_run;
 use crate::ran::Ran;
+use crate::shards_statements::sessions_have_ended;
 use crate::{Opened, open_all, run_over};
 use cluster_closing::Closed;
-use disk_model::House;
-use disks_opening::OpenError;
+use cluster_opening::OpenError;
+use command_line::running_status;
 use history_replay::History;
-use io_edge::Pace;
+use io_model::{House, Pace};
 use lock_table::Locks;
 use log_gate::LogGate;
 use ordered_store::Store;
-use run_promises::shards_statements::sessions_have_ended;
-use run_status::running_status;
 use script_lang::Session;
 use script_runs::Start;
 use shard_machine::ShardMachine;

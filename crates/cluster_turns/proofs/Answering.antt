@@ -18,9 +18,9 @@ use Rattle.turn_lock.specs.Passes.{seen}
 use Rattle.machine_calls.specs.declared.machine.StepError.{StepError}
 use Rattle.machine_calls.specs.declared.machine.StepError.TheVariants.{Worn}
 use Rattle.machine_calls.specs.Steps.{NoEntry, Tells, clock_after}
-use Rattle.turn_laws.specs.declared.notes.Note.{Note}
-use Rattle.turn_laws.specs.declared.notes.Origin.{Origin}
-use Rattle.turn_laws.specs.Homes.{is_turned, state_of}
+use Rattle.machine_laws.specs.declared.notes.Note.{Note}
+use Rattle.machine_laws.specs.declared.notes.Origin.{Origin}
+use Rattle.machine_laws.specs.Homes.{is_turned, state_of}
 use Rattle.cluster_turns.specs.Turns.{Turned, EventTold}
 use Rattle.cluster_turns.specs.Walkers.{Walked, Looked, kept}
 use Rattle.cluster_turns.specs.Flights.{LandTold, landed_as}

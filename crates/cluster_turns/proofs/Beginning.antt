@@ -8,10 +8,10 @@ use Rattle.journal_laws.specs.Walkers.{WalkerKeeps}
 use Rattle.turn_lock.specs.declared.pass.TurnLock.{TurnLock}
 use Rattle.turn_lock.specs.declared.pass.Pass.{Pass}
 use Rattle.turn_lock.specs.Passes.{own}
-use Rattle.turn_laws.specs.declared.notes.Note.{Note}
-use Rattle.turn_laws.specs.declared.notes.Origin.{Origin}
-use Rattle.turn_laws.specs.Homes.{entries_in}
-use Rattle.turn_laws.proofs.Laws.{walkers_begin}
+use Rattle.machine_laws.specs.declared.notes.Note.{Note}
+use Rattle.machine_laws.specs.declared.notes.Origin.{Origin}
+use Rattle.machine_laws.specs.Homes.{entries_in}
+use Rattle.machine_laws.proofs.Laws.{walkers_begin}
 use Rattle.cluster_turns.specs.Walkers.{own_of, own_lists, kept, AreNewPasses, IsWalkerOf}
 
 module _ {T : Type 0} where

@@ -36,11 +36,11 @@ use Rattle.turn_lock.specs.Journals.{GrownByOthers}
 use Rattle.journal_laws.specs.Births.{LeavesBirth, BearsWalker}
 use Rattle.journal_laws.specs.Walkers.{by_walker}
 use Rattle.journal_laws.proofs.Laws.{free_births_stay, others_leave_births, restarts_free, notes_are_runs}
-use Rattle.turn_laws.specs.declared.notes.Note.{Note}
-use Rattle.turn_laws.specs.declared.notes.Origin.{Origin}
-use Rattle.turn_laws.specs.Notes.{noter, told}
-use Rattle.turn_laws.specs.Homes.{entries_in, state_of, holder_of, IsLegal}
-use Rattle.turn_laws.proofs.Laws.{all_bear, nothing_happens, since}
+use Rattle.machine_laws.specs.declared.notes.Note.{Note}
+use Rattle.machine_laws.specs.declared.notes.Origin.{Origin}
+use Rattle.machine_laws.specs.Notes.{noter, told}
+use Rattle.machine_laws.specs.Homes.{entries_in, state_of, holder_of, IsLegal}
+use Rattle.machine_laws.proofs.Laws.{all_bear, nothing_happens, since}
 use Rattle.cluster_turns.specs.Births.{IsFreeFor}
 use Rattle.cluster_turns.specs.Unborn.{is_epoch_of, IsUnbornUnless}
 use Rattle.cluster_turns.proofs.Keeping.{by_notes}

@@ -14,13 +14,13 @@ use Rattle.machine_calls.specs.declared.machine.StepError.{StepError}
 use Rattle.machine_calls.specs.declared.flights.Flight.{Flight}
 use Rattle.machine_calls.specs.Steps.{Made, Tells, clock_after}
 use Rattle.machine_calls.specs.Flights.{outcome_in, Departs}
-use Rattle.turn_laws.specs.declared.notes.Note.{Note}
-use Rattle.turn_laws.specs.declared.notes.Origin.{Origin}
-use Rattle.turn_laws.specs.declared.notes.Mark.{Mark}
-use Rattle.turn_laws.specs.Notes.{plain, notes_of, noted_durable}
-use Rattle.turn_laws.specs.Homes.{IsLegal}
-use Rattle.turn_laws.specs.Sound.{IsSound}
-use Rattle.turn_laws.proofs.Laws.{gone, landing}
+use Rattle.machine_laws.specs.declared.notes.Note.{Note}
+use Rattle.machine_laws.specs.declared.notes.Origin.{Origin}
+use Rattle.machine_laws.specs.declared.notes.Mark.{Mark}
+use Rattle.machine_laws.specs.Notes.{plain, notes_of, noted_durable}
+use Rattle.machine_laws.specs.Homes.{IsLegal}
+use Rattle.machine_laws.specs.Sound.{IsSound}
+use Rattle.machine_laws.proofs.Laws.{gone, landing}
 use Rattle.cluster_turns.specs.Flights.{landed_as, FlightTold, FlightTaken}
 
 module _ {T G : Type 0} (shut : G → Bool) (faults whose : G → ℕ) (logs : G → Option (List LogRecord) → Type 0) where

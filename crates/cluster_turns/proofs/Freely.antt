@@ -24,11 +24,11 @@ use Rattle.journal_laws.specs.Births.{LeavesBirth}
 use Rattle.journal_laws.proofs.Laws.{free_rows, has_none, free_event, free_births_stay, new_births_are_free, notes_are_runs}
 use Rattle.machine_calls.specs.declared.machine.StepError.{StepError}
 use Rattle.machine_calls.specs.Steps.{Tells}
-use Rattle.turn_laws.specs.declared.notes.Note.{Note}
-use Rattle.turn_laws.specs.declared.notes.Origin.{Origin}
-use Rattle.turn_laws.specs.Notes.{told}
-use Rattle.turn_laws.specs.Homes.{entries_in, start, state_of, holder_of, all_named, IsLegal}
-use Rattle.turn_laws.proofs.Laws.{from_does, still_free, since, all_bear, nothing_happens}
+use Rattle.machine_laws.specs.declared.notes.Note.{Note}
+use Rattle.machine_laws.specs.declared.notes.Origin.{Origin}
+use Rattle.machine_laws.specs.Notes.{told}
+use Rattle.machine_laws.specs.Homes.{entries_in, start, state_of, holder_of, all_named, IsLegal}
+use Rattle.machine_laws.proofs.Laws.{from_does, still_free, since, all_bear, nothing_happens}
 use Rattle.journal_laws.specs.Notes.{after_notes}
 use Rattle.cluster_turns.specs.Turns.{Turned, EventTold}
 use Rattle.cluster_turns.specs.Walkers.{Walked}

@@ -4,9 +4,9 @@ use Rattle.clv_base.specs.Journals.{History}
 use Rattle.clv_base.specs.State.{Shard}
 use Rattle.turn_lock.specs.declared.pass.Pass.{Pass}
 use Rattle.machine_calls.specs.Settled.{is_settled}
-use Rattle.turn_laws.specs.declared.notes.Note.{Note}
-use Rattle.turn_laws.specs.declared.notes.Origin.{Origin}
-use Rattle.turn_laws.specs.Homes.{IsLegal, entries_in}
+use Rattle.machine_laws.specs.declared.notes.Note.{Note}
+use Rattle.machine_laws.specs.declared.notes.Origin.{Origin}
+use Rattle.machine_laws.specs.Homes.{IsLegal, entries_in}
 use Rattle.history_replay.specs.Entries.{on_shard}
 use Rattle.cluster_turns.specs.Turns.{SettledTold}
 use Rattle.cluster_turns.specs.Walkers.{Walked, kept}

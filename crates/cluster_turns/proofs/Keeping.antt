@@ -17,12 +17,12 @@ use Rattle.turn_lock.specs.Passes.{seen, own, pass_origin}
 use Rattle.journal_laws.specs.Walkers.{by_walker}
 use Rattle.machine_calls.specs.declared.machine.StepError.{StepError}
 use Rattle.machine_calls.specs.Steps.{Tells, listed}
-use Rattle.turn_laws.specs.declared.notes.Note.{Note}
-use Rattle.turn_laws.specs.declared.notes.Note.TheVariants.{Made, Fetched}
-use Rattle.turn_laws.specs.declared.notes.Origin.{Origin}
-use Rattle.turn_laws.specs.Notes.{noter, plain}
-use Rattle.turn_laws.specs.Homes.{entries_in, state_of, IsLegal}
-use Rattle.turn_laws.proofs.Laws.{entries_append, above}
+use Rattle.machine_laws.specs.declared.notes.Note.{Note}
+use Rattle.machine_laws.specs.declared.notes.Note.TheVariants.{Made, Fetched}
+use Rattle.machine_laws.specs.declared.notes.Origin.{Origin}
+use Rattle.machine_laws.specs.Notes.{noter, plain}
+use Rattle.machine_laws.specs.Homes.{entries_in, state_of, IsLegal}
+use Rattle.machine_laws.proofs.Laws.{entries_append, above}
 use Rattle.cluster_turns.specs.Turns.{Turned, EventTold}
 use Rattle.cluster_turns.specs.Walkers.{Walked}
 use Rattle.cluster_turns.proofs.Walking.{event_rises}

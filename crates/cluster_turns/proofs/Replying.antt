@@ -37,7 +37,7 @@ use Rattle.clv_base.specs.OneShard.{OpReply, OpWaits, OpCrowded, OpDies, OpAnswe
 use Rattle.clv_base.specs.Events.{Reply, QuietBeforeWorn, QuietAfterWorn, Does, finish, op_event, epoch_in, request_by_stage, request_event, look_lost, look_state, look_known, look_event, request_epoch, drop_event, owe_vote, on_prepare, with_votes, on_vote, on_decide, with_done, on_done, on_message, to_of, send_event, reminders, remind_with, out_event, taken, happen_up, happen, Quiet, Worn, Enters, CallAnswer, next_stamp, stamped, step, land_up, land, landed, put_down}
 use Rattle.machine_calls.specs.declared.machine.StepError.{StepError}
 use Rattle.machine_calls.specs.Steps.{Tells}
-use Rattle.turn_laws.specs.Homes.{is_turned}
+use Rattle.machine_laws.specs.Homes.{is_turned}
 use Rattle.cluster_turns.specs.Answers.{is_quiet, is_kept, may_answer, may_come_to}
 use Rattle.law_base.proofs.Shards.{is_done, outcome_in}
 

@@ -12,10 +12,10 @@ use Rattle.clv_base.specs.History.{IsAmong}
 use Rattle.turn_lock.specs.declared.pass.Pass.{Pass}
 use Rattle.machine_calls.specs.declared.machine.StepError.{StepError}
 use Rattle.machine_calls.specs.Steps.{listed, Tells, clock_after}
-use Rattle.turn_laws.specs.declared.notes.Note.{Note}
-use Rattle.turn_laws.specs.declared.notes.Origin.{Origin}
-use Rattle.turn_laws.specs.Notes.{plain}
-use Rattle.turn_laws.specs.Homes.{entries_in}
+use Rattle.machine_laws.specs.declared.notes.Note.{Note}
+use Rattle.machine_laws.specs.declared.notes.Origin.{Origin}
+use Rattle.machine_laws.specs.Notes.{plain}
+use Rattle.machine_laws.specs.Homes.{entries_in}
 use Rattle.history_replay.specs.Entries.{on_shard}
 use Rattle.cluster_turns.specs.Turns.{EventTold}
 use Rattle.cluster_turns.specs.Walkers.{kept, Walked}

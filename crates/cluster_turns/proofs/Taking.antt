@@ -13,11 +13,11 @@ use Rattle.turn_lock.specs.declared.pass.Pass.{Pass}
 use Rattle.turn_lock.specs.Passes.{own}
 use Rattle.machine_calls.specs.declared.machine.StepError.{StepError}
 use Rattle.machine_calls.specs.Steps.{Made, Tells, listed}
-use Rattle.turn_laws.specs.declared.notes.Note.{Note}
-use Rattle.turn_laws.specs.declared.notes.Origin.{Origin}
-use Rattle.turn_laws.specs.Homes.{entries_in}
-use Rattle.turn_laws.specs.Notes.{plain}
-use Rattle.turn_laws.proofs.Laws.{above}
+use Rattle.machine_laws.specs.declared.notes.Note.{Note}
+use Rattle.machine_laws.specs.declared.notes.Origin.{Origin}
+use Rattle.machine_laws.specs.Homes.{entries_in}
+use Rattle.machine_laws.specs.Notes.{plain}
+use Rattle.machine_laws.proofs.Laws.{above}
 use Rattle.cluster_turns.specs.Turns.{EventTold}
 use Rattle.cluster_turns.specs.Walkers.{Walked, Looked, kept, own_of, own_lists}
 use Rattle.cluster_turns.proofs.Walking.{event_rises}

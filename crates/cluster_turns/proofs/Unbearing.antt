@@ -34,11 +34,11 @@ use Rattle.journal_laws.proofs.Laws.{free_rows, has_none, ends_free, inactive_is
 use Rattle.machine_calls.specs.declared.machine.StepError.{StepError}
 use Rattle.machine_calls.specs.declared.machine.StepError.TheVariants.{Memory, Worn}
 use Rattle.machine_calls.specs.Steps.{Tells, NoEntry, listed, is_undropped, may_want_memory}
-use Rattle.turn_laws.specs.declared.notes.Note.{Note}
-use Rattle.turn_laws.specs.declared.notes.Origin.{Origin}
-use Rattle.turn_laws.specs.Notes.{plain, told}
-use Rattle.turn_laws.specs.Homes.{start, state_of, entries_in, IsLegal}
-use Rattle.turn_laws.proofs.Laws.{from_does, still_free, legal_shard, nothing_happens}
+use Rattle.machine_laws.specs.declared.notes.Note.{Note}
+use Rattle.machine_laws.specs.declared.notes.Origin.{Origin}
+use Rattle.machine_laws.specs.Notes.{plain, told}
+use Rattle.machine_laws.specs.Homes.{start, state_of, entries_in, IsLegal}
+use Rattle.machine_laws.proofs.Laws.{from_does, still_free, legal_shard, nothing_happens}
 use Rattle.cluster_turns.specs.Turns.{Turned, EventTold}
 use Rattle.cluster_turns.specs.Walkers.{Walked}
 use Rattle.cluster_turns.specs.Flights.{LandTold, landed_as}

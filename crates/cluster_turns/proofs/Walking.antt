@@ -28,11 +28,11 @@ use Rattle.machine_calls.specs.Steps.{entry, Made as IsMade, Tells, clock_after,
 use Rattle.turn_lock.specs.declared.pass.TurnLock.{TurnLock}
 use Rattle.turn_lock.specs.declared.pass.Pass.{Pass}
 use Rattle.turn_lock.specs.Passes.{number, own, IsPassOf}
-use Rattle.turn_laws.specs.declared.notes.Note.{Note}
-use Rattle.turn_laws.specs.declared.notes.Origin.{Origin}
-use Rattle.turn_laws.specs.Homes.{entries_in, is_single}
-use Rattle.turn_laws.proofs.Laws.{own_entries_go_on, walkers_go_on, entries_append, from_does, above, each_outcome_goes_on, others_keep_sessions}
-use Rattle.turn_laws.specs.Notes.{plain}
+use Rattle.machine_laws.specs.declared.notes.Note.{Note}
+use Rattle.machine_laws.specs.declared.notes.Origin.{Origin}
+use Rattle.machine_laws.specs.Homes.{entries_in, is_single}
+use Rattle.machine_laws.proofs.Laws.{own_entries_go_on, walkers_go_on, entries_append, from_does, above, each_outcome_goes_on, others_keep_sessions}
+use Rattle.machine_laws.specs.Notes.{plain}
 use Rattle.cluster_turns.specs.Turns.{Turned, EventTold}
 use Rattle.cluster_turns.specs.Walkers.{IsPassAt, ArePassesOf, own_of, own_lists, kept, IsWalkerOf, Walked, GoesOn}
 use Rattle.law_base.proofs.Options.{value_or as the}

@@ -14,9 +14,9 @@ use Rattle.clv_base.specs.Sessions.{is_of_session}
 use Rattle.turn_lock.specs.declared.pass.Pass.{Pass}
 use Rattle.turn_lock.specs.Passes.{seen, pass_origin}
 use Rattle.machine_calls.specs.declared.machine.StepError.{StepError}
-use Rattle.turn_laws.specs.declared.notes.Note.{Note}
-use Rattle.turn_laws.specs.declared.notes.Origin.{Origin}
-use Rattle.turn_laws.specs.Homes.{state_of}
+use Rattle.machine_laws.specs.declared.notes.Note.{Note}
+use Rattle.machine_laws.specs.declared.notes.Origin.{Origin}
+use Rattle.machine_laws.specs.Homes.{state_of}
 use Rattle.cluster_turns.specs.Walkers.{kept}
 use Rattle.cluster_turns.specs.CallTurns.{Turn, Took, FoundDown, FoundWorn, entries_made}
 

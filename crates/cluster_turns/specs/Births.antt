@@ -10,10 +10,10 @@ use Rattle.clv_base.specs.State.{Shard}
 use Rattle.turn_lock.specs.declared.pass.Pass.{Pass}
 use Rattle.turn_lock.specs.Journals.{entries_by}
 use Rattle.turn_lock.specs.Passes.{seen, own, pass_origin}
-use Rattle.turn_laws.specs.declared.notes.Note.{Note}
-use Rattle.turn_laws.specs.declared.notes.Origin.{Origin}
-use Rattle.turn_laws.specs.Notes.{noter}
-use Rattle.turn_laws.specs.Homes.{entries_in, state_of, IsFree, IsLegal}
+use Rattle.machine_laws.specs.declared.notes.Note.{Note}
+use Rattle.machine_laws.specs.declared.notes.Origin.{Origin}
+use Rattle.machine_laws.specs.Notes.{noter}
+use Rattle.machine_laws.specs.Homes.{entries_in, state_of, IsFree, IsLegal}
 
 -- while the shard is up, no other transaction has an active part of this birth
 abbrev pub IsFreeFor : TxId → Birth → Shard → Type 0

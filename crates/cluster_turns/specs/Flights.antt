@@ -13,11 +13,11 @@ use Rattle.machine_calls.specs.declared.machine.StepError.{StepError}
 use Rattle.machine_calls.specs.declared.flights.Flight.{Flight}
 use Rattle.machine_calls.specs.Steps.{Made}
 use Rattle.machine_calls.specs.Flights.{is_out}
-use Rattle.turn_laws.specs.declared.notes.Note.{Note}
-use Rattle.turn_laws.specs.declared.notes.Origin.{Origin}
-use Rattle.turn_laws.specs.Notes.{plain}
-use Rattle.turn_laws.specs.Homes.{taker, IsLegal}
-use Rattle.turn_laws.specs.Gates.{InAir}
+use Rattle.machine_laws.specs.declared.notes.Note.{Note}
+use Rattle.machine_laws.specs.declared.notes.Origin.{Origin}
+use Rattle.machine_laws.specs.Notes.{plain}
+use Rattle.machine_laws.specs.Homes.{taker, IsLegal}
+use Rattle.machine_laws.specs.Gates.{InAir}
 
 abbrev pub landed_as : Bool → ℕ → Outcome
 landed_as true upto = Durable upto

@@ -7,8 +7,8 @@ use Rattle.clv_base.specs.declared.logs.LogRecord.{LogRecord}
 use Rattle.journal_laws.specs.Births.{LeavesBirth}
 use Rattle.turn_lock.specs.declared.pass.TurnLock.{TurnLock}
 use Rattle.turn_lock.specs.declared.pass.Pass.{Pass}
-use Rattle.turn_laws.specs.declared.notes.Note.{Note}
-use Rattle.turn_laws.specs.declared.notes.Origin.{Origin}
+use Rattle.machine_laws.specs.declared.notes.Note.{Note}
+use Rattle.machine_laws.specs.declared.notes.Origin.{Origin}
 use Rattle.cluster_turns.specs.Walkers.{AreNewPasses}
 use Rattle.cluster_turns.specs.CallTurns.{Turn, Took}
 use Rattle.cluster_turns.specs.Births.{IsBornBy, AllSeeFree, AreInformed}

@@ -7,9 +7,9 @@ use Rattle.turn_lock.specs.declared.pass.Pass.{Pass}
 use Rattle.turn_lock.specs.Passes.{pass_origin, seen}
 use Rattle.machine_calls.specs.declared.machine.StepError.{StepError}
 use Rattle.machine_calls.specs.Settled.{is_settled}
-use Rattle.turn_laws.specs.declared.notes.Note.{Note}
-use Rattle.turn_laws.specs.declared.notes.Origin.{Origin}
-use Rattle.turn_laws.specs.Homes.{IsLegal}
+use Rattle.machine_laws.specs.declared.notes.Note.{Note}
+use Rattle.machine_laws.specs.declared.notes.Origin.{Origin}
+use Rattle.machine_laws.specs.Homes.{IsLegal}
 use Rattle.cluster_turns.specs.Turns.{EventTold, SettledTold}
 use Rattle.cluster_turns.specs.Walkers.{Walked}
 use Rattle.cluster_turns.specs.declared.flushing.Flushed.{Flushed}

@@ -11,10 +11,10 @@ use Rattle.turn_lock.specs.Passes.{number, pass_origin, seen, own, known}
 use Rattle.machine_calls.specs.declared.machine.StepError.{StepError}
 use Rattle.machine_calls.specs.Steps.{Tells, clock_after, listed}
 use Rattle.machine_calls.specs.Settled.{is_settled}
-use Rattle.turn_laws.specs.declared.notes.Note.{Note}
-use Rattle.turn_laws.specs.declared.notes.Origin.{Origin}
-use Rattle.turn_laws.specs.Notes.{noter, plain}
-use Rattle.turn_laws.specs.Homes.{IsLegal}
+use Rattle.machine_laws.specs.declared.notes.Note.{Note}
+use Rattle.machine_laws.specs.declared.notes.Origin.{Origin}
+use Rattle.machine_laws.specs.Notes.{noter, plain}
+use Rattle.machine_laws.specs.Homes.{IsLegal}
 
 -- an event of the walker w with this clock: the answer and the clock after it, from the state s to t, with the notes that it added
 pub record EventTold (clock w : ℕ) (e : Event) (r : Result Outcome StepError) (clock' : ℕ) (s t : Shard) (added : List Note) : Type 0 where

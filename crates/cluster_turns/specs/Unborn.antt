@@ -14,9 +14,9 @@ use Rattle.clv_base.specs.State.{Shard}
 use Rattle.turn_lock.specs.declared.pass.Pass.{Pass}
 use Rattle.machine_calls.specs.declared.machine.StepError.{StepError}
 use Rattle.machine_calls.specs.declared.machine.StepError.TheVariants.{Memory}
-use Rattle.turn_laws.specs.declared.notes.Note.{Note}
-use Rattle.turn_laws.specs.declared.notes.Origin.{Origin}
-use Rattle.turn_laws.specs.Homes.{state_of}
+use Rattle.machine_laws.specs.declared.notes.Note.{Note}
+use Rattle.machine_laws.specs.declared.notes.Origin.{Origin}
+use Rattle.machine_laws.specs.Homes.{state_of}
 use Rattle.turn_lock.specs.Passes.{seen, pass_origin}
 use Rattle.clv_base.specs.Events.{epoch_in}
 use Rattle.journal_laws.specs.Births.{LeavesBirth}

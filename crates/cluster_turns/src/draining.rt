@@ -8,7 +8,7 @@ use crate::rounds::{are_settled, go_round};
 use crate::tending::DrainError;
 use crate::{Shards, Walker};
 use crossbeam_utils::Backoff;
-use io_edge::Pace;
+use io_model::Pace;
 use machine_calls::Flier;
 use std::alloc::Global;
 use std::sync::Wait;

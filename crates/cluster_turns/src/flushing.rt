@@ -1,7 +1,7 @@
 // One flush of a shard.
 ghost use Rattle.std.specs.Prelude.{◌≡◌, ◌<◌, ◌≤◌, ◌^◌, Bool, true, length};
 ghost use Rattle.machine_calls.specs.Flights.{is_out};
-ghost use Rattle.turn_laws.specs.Gates.{InAir};
+ghost use Rattle.machine_laws.specs.Gates.{InAir};
 ghost use Rattle.cluster_turns.specs.Walkers.{IsWalker, IsSameWalker, Walked};
 ghost use Rattle.cluster_turns.specs.Flights.{AwayAt, KnownAt, LandTold};
 ghost use Rattle.cluster_turns.specs.Told.{FlushTold, stayed, flown};
@@ -9,7 +9,7 @@ ghost use Rattle.cluster_turns.specs.Told.{FlushTold, stayed, flown};
 use crate::flying::{arrive, depart};
 use crate::{Shards, Walker};
 use clv_base::events::Outcome;
-use io_edge::{Pace, Step};
+use io_model::{Pace, Step};
 use log_gate::Gate;
 use machine_calls::{Flier, Flight, StepError};
 use std::alloc::Global;

@@ -2,7 +2,7 @@
 ghost use Rattle.std.specs.Prelude.{◌≡◌, ◌<◌, ◌≤◌, ◌+◌, ◌^◌, true, length};
 ghost use Rattle.clv_base.specs.declared.events.Event.TheVariants.{FlushOut};
 ghost use Rattle.machine_calls.specs.Flights.{outcome_in};
-ghost use Rattle.turn_laws.specs.Gates.{Landable};
+ghost use Rattle.machine_laws.specs.Gates.{Landable};
 ghost use Rattle.cluster_turns.specs.Turns.{EventTold};
 ghost use Rattle.cluster_turns.specs.Walkers.{IsWalker, IsSameWalker, Walked};
 ghost use Rattle.cluster_turns.specs.Flights.{FlightTold, FlightTaken, LandTold, AwayAt, KnownAt};

@@ -4,14 +4,14 @@ ghost use Rattle.clv_base.specs.declared.events.Entry.{Entry as MadeEntry};
 ghost use Rattle.clv_base.specs.Events.{step};
 ghost use Rattle.machine_calls.specs.Events.{event_fits, sends_fit};
 ghost use Rattle.machine_calls.specs.Steps.{Tells, clock_by, clock_after};
-ghost use Rattle.turn_laws.specs.Homes.{is_single, is_named, IsFree};
-ghost use Rattle.turn_laws.specs.Sound.{IsSound};
+ghost use Rattle.machine_laws.specs.Homes.{is_single, is_named, IsFree};
+ghost use Rattle.machine_laws.specs.Sound.{IsSound};
 
 use clv_base::events::{Event, Outcome};
 use log_gate::Gate;
 use machine_calls::{Machine, StepError};
+use machine_laws::{Mark, Note, Origin};
 use std::alloc::Global;
-use turn_laws::{Mark, Note, Origin};
 use turn_lock::Journaled;
 
 // The clock of a walker for whom no event has a stamp any more.
@@ -28,8 +28,8 @@ impl<M: Machine> Journaled for Home<M> {
     type Entry = Note;
 
     ghost use Rattle.std.specs.Prelude.{vec_capacity};
-    ghost use Rattle.turn_laws.specs.Notes.{notes_of, noter, noted_durable};
-    ghost use Rattle.turn_laws.specs.Sound.{IsSound};
+    ghost use Rattle.machine_laws.specs.Notes.{notes_of, noter, noted_durable};
+    ghost use Rattle.machine_laws.specs.Sound.{IsSound};
 
     type Origin = Origin;
 

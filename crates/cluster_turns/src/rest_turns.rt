@@ -3,19 +3,19 @@ ghost use Rattle.std.specs.Prelude.{◌≡◌, ◌<◌, ◌≤◌, ◌+◌, ◌^
 ghost use Rattle.clv_base.specs.declared.events.Event.TheVariants.{FlushOut};
 ghost use Rattle.turn_lock.specs.Journals.{durable_of};
 ghost use Rattle.turn_lock.specs.Passes.{number, seen, known, IsPassOf, IsSamePass};
-ghost use Rattle.turn_laws.specs.Notes.{noted_durable};
+ghost use Rattle.machine_laws.specs.Notes.{noted_durable};
 ghost use Rattle.machine_calls.specs.Steps.{clock_by};
 ghost use Rattle.machine_calls.specs.Flights.{outcome_in};
-ghost use Rattle.turn_laws.specs.Gates.{Landable};
+ghost use Rattle.machine_laws.specs.Gates.{Landable};
 ghost use Rattle.cluster_turns.specs.Turns.{Turned, EventTold};
 ghost use Rattle.cluster_turns.specs.Flights.{FlightTold, LandTold, Away};
 
 use crate::Home;
 use clv_base::events::Outcome;
 use machine_calls::{Flier, Flight, Machine, StepError};
+use machine_laws::{Note, Origin};
 use std::alloc::Global;
 use std::sync::Wait;
-use turn_laws::{Note, Origin};
 use turn_lock::{Pass, TurnLock};
 
 // The clock of a walker for whom no event has a stamp any more.

@@ -5,7 +5,7 @@ ghost use Rattle.cluster_turns.specs.Rounds.{Rounds, Tended, SettledAt};
 
 use crate::tending::{DrainError, Met, await_writer, remind, tend};
 use crate::{Shards, Walker};
-use io_edge::Pace;
+use io_model::Pace;
 use machine_calls::{Flier, Machine};
 use std::alloc::Global;
 use std::sync::Wait;

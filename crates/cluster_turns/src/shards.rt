@@ -5,23 +5,22 @@ ghost use Rattle.clv_base.specs.Restarts.{run_after};
 ghost use Rattle.clv_base.specs.Sessions.{is_of_session, is_session_number};
 ghost use Rattle.journal_laws.specs.Offers.{may_make};
 ghost use Rattle.machine_calls.specs.Events.{event_fits, sends_fit};
-ghost use Rattle.turn_laws.specs.Homes.{is_single};
+ghost use Rattle.machine_laws.specs.Homes.{is_single};
 ghost use Rattle.cluster_turns.specs.Turns.{EventTold, SettledTold};
 ghost use Rattle.cluster_turns.specs.Walkers.{IsWalker, IsSameWalker, Walked, GoesOn, MayBeFree, kept, TellsNext, Looked, AreNewPasses, founds_of};
 
 use crate::home::Home;
 use crate::turns::{survey, turn};
-use batch_gate::BatchGate;
 use clv_base::events::{Event, Outcome};
 use clv_base::logs::LogRecord;
 use clv_base::names::{Birth, TxId};
 use clv_base::splits::Splits;
 use machine_calls::{Machine, StepError};
+use machine_laws::{Note, Origin};
 use std::alloc::Global;
 use std::snapshot::Snapshot;
 use std::sync::Wait;
-use turn_laws::{Note, Origin};
-use turn_lock::{Pass, TurnLock};
+use turn_lock::{BatchGate, Pass, TurnLock};
 
 // The last clock.
 const WORN: u64 = (1 << 48) - 1;

@@ -6,11 +6,11 @@ ghost use Rattle.cluster_turns.specs.Rounds.{CarriedAll, Tended, flush_refusal, 
 use crate::{
     Carry, CarryError, FlushError, Flushed, Shards, Walker, carry_once, flush_once, remind_once,
 };
-use batch_gate::Batch;
-use io_edge::Pace;
+use io_model::Pace;
 use machine_calls::{Flier, Machine};
 use std::alloc::Global;
 use std::sync::Wait;
+use turn_lock::Batch;
 
 /// Why a drain ended before all was settled.
 #[derive(Clone, Copy, Debug, PartialEq, Eq)]

@@ -2,16 +2,16 @@
 ghost use Rattle.std.specs.Prelude.{◌≡◌, true, Some, IfOk};
 ghost use Rattle.turn_lock.specs.Passes.{number, seen, pass_origin, IsPassOf};
 ghost use Rattle.machine_calls.specs.Events.{event_fits, sends_fit};
-ghost use Rattle.turn_laws.specs.declared.notes.Origin.{Origin as OriginIs};
-ghost use Rattle.turn_laws.specs.Homes.{is_single, is_named, IsFree, state_of};
+ghost use Rattle.machine_laws.specs.declared.notes.Origin.{Origin as OriginIs};
+ghost use Rattle.machine_laws.specs.Homes.{is_single, is_named, IsFree, state_of};
 ghost use Rattle.cluster_turns.specs.Turns.{Turned, EventTold, SettledTold};
 
 use crate::home::Home;
 use clv_base::events::{Event, Outcome};
 use machine_calls::{Machine, StepError};
+use machine_laws::{Note, Origin};
 use std::alloc::Global;
 use std::sync::Wait;
-use turn_laws::{Note, Origin};
 use turn_lock::{Pass, TurnLock};
 
 // One event in a turn, with the walker's clock after it.

@@ -1,16 +1,16 @@
 -- A command that is completed.
 use Rattle.std.proofs.Common.{◌≡◌, ap, ◌∙◌, subst, ℕ, List, [], length, Option, Some, None}
 use Rattle.std.specs.Prelude.{IsSomeAnd}
-use Rattle.disk_model.specs.Story.{Story, reads}
-use Rattle.disks_opening.specs.Making.{HasBytes}
-use Rattle.disks_opening.specs.declared.error.OpenError.TheVariants as opening
-use Rattle.disks_opening.specs.Accepted.{GoodLogsAreNotRefused}
-use Rattle.command_words.specs.declared.commands.Command.{Command}
-use Rattle.command_words.specs.declared.commands.Command.TheVariants.{Make, Run, Show, Load}
+use Rattle.io_model.specs.Story.{Story, reads}
+use Rattle.cluster_opening.specs.Making.{HasBytes}
+use Rattle.cluster_opening.specs.declared.error.OpenError.TheVariants as opening
+use Rattle.cluster_opening.specs.Accepted.{GoodLogsAreNotRefused}
+use Rattle.command_line.specs.declared.commands.Command.{Command}
+use Rattle.command_line.specs.declared.commands.Command.TheVariants.{Make, Run, Show, Load}
 use Rattle.history_replay.specs.Entries.{Kept}
 use Rattle.script_lang.specs.Laws.{ScriptsAreNotRefused}
-use Rattle.run_status.specs.declared.status.Status.{Status}
-use Rattle.run_status.specs.declared.status.Status.TheVariants.{Fine, Usage, Script, ReadFault, WriteFault, DiskFault, NotLog, Memory, Worn, Exists, Apart}
+use Rattle.command_line.specs.declared.status.Status.{Status}
+use Rattle.command_line.specs.declared.status.Status.TheVariants.{Fine, Usage, Script, ReadFault, WriteFault, DiskFault, NotLog, Memory, Worn, Exists, Apart}
 use Rattle.clv_shell.specs.Kinds.{IsOfCommand}
 use Rattle.clv_shell.specs.Causes as causes
 use Rattle.clv_shell.specs.Causes.{BreaksBy, BreaksScript, CountsSource, CountsSink, CountsDisks}

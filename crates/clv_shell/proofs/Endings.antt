@@ -4,22 +4,22 @@ use Rattle.std.specs.Prelude.{is_none}
 use Rattle.std.proofs.lemmas.Bool.{and_parts, leb-true}
 use Rattle.std.proofs.lemmas.Bool.{cases_lt}
 use Rattle.clv_base.specs.Shards.{shard_count, are_splits, not_rising}
-use Rattle.disk_model.specs.Story.{Story}
+use Rattle.io_model.specs.Story.{Story}
 use Rattle.cluster_runs.specs.Begun.{LeavesDisks}
 use Rattle.cluster_runs.specs.Ran.{RanAll}
-use Rattle.disks_opening.specs.Opening.{Refuses, CountsOpen}
-use Rattle.disks_opening.specs.declared.error.OpenError.{OpenError}
-use Rattle.disks_opening.specs.declared.error.OpenError.TheVariants as opening
+use Rattle.cluster_opening.specs.Opening.{Refuses, CountsOpen}
+use Rattle.cluster_opening.specs.declared.error.OpenError.{OpenError}
+use Rattle.cluster_opening.specs.declared.error.OpenError.TheVariants as opening
 use Rattle.history_replay.specs.Entries.{Kept}
 use Rattle.report_text.specs.declared.texts.ReportError.{ReportError}
 use Rattle.report_text.specs.declared.texts.ReportError.TheVariants as text
 use Rattle.cluster_runs.specs.Statuses.{StatusTold}
-use Rattle.run_status.specs.Refusals.{of_opening}
-use Rattle.run_status.specs.Running.{with_text}
-use Rattle.run_promises.specs.Sessions.{Went}
+use Rattle.command_line.specs.Refusals.{of_opening}
+use Rattle.command_line.specs.Running.{with_text}
+use Rattle.cluster_runs.specs.PromisedSessions.{Went}
 use Rattle.script_lang.specs.Bodies.{Body}
-use Rattle.run_status.specs.declared.status.Status.{Status}
-use Rattle.run_status.specs.declared.status.Status.TheVariants.{Fine, Usage, Script, ReadFault, WriteFault, DiskFault, NotLog, Memory, Worn, Exists, Apart}
+use Rattle.command_line.specs.declared.status.Status.{Status}
+use Rattle.command_line.specs.declared.status.Status.TheVariants.{Fine, Usage, Script, ReadFault, WriteFault, DiskFault, NotLog, Memory, Worn, Exists, Apart}
 use Rattle.clv_shell.specs.Kinds.{IsOfRun, IsOfShow, IsOfShards}
 use Rattle.clv_shell.specs.Disks.{Closes}
 use Rattle.clv_shell.specs.Sinks.{TookPairs}

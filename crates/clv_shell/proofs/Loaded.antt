@@ -1,12 +1,12 @@
 -- What a workload leaves that went through.
 use Rattle.std.proofs.Common.{subst, ℕ, List, length, Option, None}
 use Rattle.clv_base.specs.Shards.{shard_count}
-use Rattle.disk_model.specs.Story.{Story}
+use Rattle.io_model.specs.Story.{Story}
 use Rattle.cluster_runs.specs.Ran.{RanAll}
 use Rattle.history_replay.specs.Entries.{Kept}
-use Rattle.run_promises.specs.Replays.{RunsReplay}
+use Rattle.cluster_runs.specs.Replays.{RunsReplay}
 use Rattle.cluster_runs.specs.Statuses.{StatusTold}
-use Rattle.run_status.specs.declared.status.Status.{Status}
+use Rattle.command_line.specs.declared.status.Status.{Status}
 use Rattle.script_lang.specs.Bodies.{Body}
 use Rattle.clv_shell.specs.Runs.{EndsAs, HasLoaded}
 

@@ -1,24 +1,24 @@
 -- Words that are refused.
 use Rattle.std.proofs.Common.{◌≡◌, refl, sym, subst, inr, ℕ, List, Option, Some, None}
-use Rattle.disk_model.specs.Story.{Story}
-use Rattle.disk_model.specs.Disk.{Tells}
+use Rattle.io_model.specs.Story.{Story}
+use Rattle.io_model.specs.Disk.{Tells}
 use Rattle.log_gate.specs.Opening.{IsUnchanged}
 use Rattle.cluster_runs.specs.Begun.{AreUnchanged, before}
-use Rattle.command_words.specs.Commands.{IsCommand}
-use Rattle.command_words.specs.declared.commands.Command.{Command}
-use Rattle.command_words.specs.declared.commands.Command.TheVariants.{Make, Run, Show, Load}
-use Rattle.command_words.specs.declared.commands.WordsError.{WordsError}
-use Rattle.command_words.specs.declared.commands.WordsError.TheVariants as words
-use Rattle.disks_opening.specs.Making.{Spares}
-use Rattle.run_status.specs.Refusals.{of_words}
-use Rattle.run_status.specs.declared.status.Status.{Status}
-use Rattle.run_status.specs.declared.status.Status.TheVariants.{Fine, Usage, Script, ReadFault, WriteFault, DiskFault, NotLog, Memory, Worn, Exists, Apart}
+use Rattle.command_line.specs.Commands.{IsCommand}
+use Rattle.command_line.specs.declared.commands.Command.{Command}
+use Rattle.command_line.specs.declared.commands.Command.TheVariants.{Make, Run, Show, Load}
+use Rattle.command_line.specs.declared.commands.WordsError.{WordsError}
+use Rattle.command_line.specs.declared.commands.WordsError.TheVariants as words
+use Rattle.cluster_opening.specs.Making.{Spares}
+use Rattle.command_line.specs.Refusals.{of_words}
+use Rattle.command_line.specs.declared.status.Status.{Status}
+use Rattle.command_line.specs.declared.status.Status.TheVariants.{Fine, Usage, Script, ReadFault, WriteFault, DiskFault, NotLog, Memory, Worn, Exists, Apart}
 use Rattle.clv_shell.specs.Kinds.{IsOfCommand}
 use Rattle.clv_shell.specs.Disks.{ClosedBy}
 use Rattle.clv_shell.specs.Reading.{ReadsBy}
 use Rattle.clv_shell.specs.Completing.{IsCompleted}
 use Rattle.clv_shell.specs.Top.{IsRefusedWords, HasCommand}
-use Rattle.disks_opening.proofs.Laws.{same_story as still}
+use Rattle.cluster_opening.proofs.Laws.{same_story as still}
 
 -- ---- no command
 

@@ -1,11 +1,11 @@
 -- A script that isn't read.
 use Rattle.std.proofs.Common.{◌≡◌, refl, sym, subst, ℕ, ◌<◌, List, length, Option, Some, None, IfSome, Result, Err, Vec, Global}
-use Rattle.io_edge.specs.declared.whole.ReadError.{ReadError}
-use Rattle.io_edge.specs.declared.whole.ReadError.TheVariants as reading
+use Rattle.io_model.specs.declared.whole.ReadError.{ReadError}
+use Rattle.io_model.specs.declared.whole.ReadError.TheVariants as reading
 use Rattle.script_lang.specs.Grammar.{too_long}
-use Rattle.run_status.specs.Refusals.{of_source}
-use Rattle.run_status.specs.declared.status.Status.{Status}
-use Rattle.run_status.specs.declared.status.Status.TheVariants.{Fine, Usage, Script, ReadFault, WriteFault, DiskFault, NotLog, Memory, Worn, Exists, Apart}
+use Rattle.command_line.specs.Refusals.{of_source}
+use Rattle.command_line.specs.declared.status.Status.{Status}
+use Rattle.command_line.specs.declared.status.Status.TheVariants.{Fine, Usage, Script, ReadFault, WriteFault, DiskFault, NotLog, Memory, Worn, Exists, Apart}
 use Rattle.clv_shell.specs.Causes.{ScriptFault, CountsSink, CountsDisks}
 use Rattle.clv_shell.specs.Reading.{ReadsScript}
 

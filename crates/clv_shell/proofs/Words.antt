@@ -1,13 +1,13 @@
 -- Words are one command.
 use Rattle.std.proofs.Common.{◌≡◌, refl, sym, ap, subst, ◌∙◌, ℕ, ◌<◌, ◌≤◌, List, [], ◌∷◌, Option, Some, None, arith}
 use Rattle.clap.specs.Words.{Row, Text}
-use Rattle.command_words.specs.Commands.{IsGiven, AreTries, Says, IsCommand}
-use Rattle.command_words.specs.declared.commands.Command.{Command}
-use Rattle.command_words.specs.declared.commands.Command.TheVariants.{Make, Run, Show, Load}
+use Rattle.command_line.specs.Commands.{IsGiven, AreTries, Says, IsCommand}
+use Rattle.command_line.specs.declared.commands.Command.{Command}
+use Rattle.command_line.specs.declared.commands.Command.TheVariants.{Make, Run, Show, Load}
 use Rattle.clv_shell.specs.Top.{HasCommand, IsWithinBounds}
 use Rattle.law_base.proofs.Numbers.{below_differs as less}
 use Rattle.script_lang.proofs.Laws.{number_once}
-use Rattle.command_words.proofs.Laws.{numbers_once}
+use Rattle.command_line.proofs.Laws.{numbers_once}
 
 given_once : (o : Option Text) (m n : ℕ) → IsGiven o m → IsGiven o n → m ≡ n
 given_once None m n p q = absurd p

@@ -1,17 +1,17 @@
 -- Why each status comes.
 use Rattle.std.specs.Prelude.{◌≡◌, ℕ, ◌<◌, List, Option, Some, None, IfSome, Result, Ok, Err}
 use Rattle.clv_base.specs.Shards.{shard_count}
-use Rattle.command_words.specs.declared.commands.Command.{Command}
-use Rattle.command_words.specs.declared.commands.Command.TheVariants.{Make}
-use Rattle.disk_model.specs.Story.{Story}
-use Rattle.disk_model.specs.Disk.{Rose}
-use Rattle.disks_opening.specs.Making.{ExistsAt}
-use Rattle.disks_opening.specs.Opening.{Refuses}
-use Rattle.disks_opening.specs.declared.error.OpenError.TheVariants as opening
+use Rattle.command_line.specs.declared.commands.Command.{Command}
+use Rattle.command_line.specs.declared.commands.Command.TheVariants.{Make}
+use Rattle.io_model.specs.Story.{Story}
+use Rattle.io_model.specs.Disk.{Rose}
+use Rattle.cluster_opening.specs.Making.{ExistsAt}
+use Rattle.cluster_opening.specs.Opening.{Refuses}
+use Rattle.cluster_opening.specs.declared.error.OpenError.TheVariants as opening
 use Rattle.history_replay.specs.Entries.{Kept}
 use Rattle.script_lang.specs.Grammar.{IsRefused}
-use Rattle.run_status.specs.declared.status.Status.{Status}
-use Rattle.run_status.specs.declared.status.Status.TheVariants.{Fine, Script, ReadFault, WriteFault, DiskFault, NotLog, Memory, Worn, Exists, Apart}
+use Rattle.command_line.specs.declared.status.Status.{Status}
+use Rattle.command_line.specs.declared.status.Status.TheVariants.{Fine, Script, ReadFault, WriteFault, DiskFault, NotLog, Memory, Worn, Exists, Apart}
 
 -- the shard's disk is the lowest that isn't empty, and no disk was written
 abbrev pub HasBytes : Command → Status → (ℕ → Option Story) → (ℕ → Option Story) → Type 0

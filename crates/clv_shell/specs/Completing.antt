@@ -1,15 +1,15 @@
 -- When a command is completed.
 use Rattle.std.specs.Prelude.{◌≡◌, ℕ, ◌<◌, List, [], Option, Some, IsSomeAnd}
 use Rattle.clv_base.specs.Shards.{shard_count}
-use Rattle.command_words.specs.declared.commands.Command.{Command}
-use Rattle.command_words.specs.declared.commands.Command.TheVariants.{Make, Run, Show, Load}
-use Rattle.disk_model.specs.Story.{Story, reads}
-use Rattle.disk_model.specs.Disk.{Rose}
-use Rattle.disks_opening.specs.Accepted.{AreGoodLogs}
+use Rattle.command_line.specs.declared.commands.Command.{Command}
+use Rattle.command_line.specs.declared.commands.Command.TheVariants.{Make, Run, Show, Load}
+use Rattle.io_model.specs.Story.{Story, reads}
+use Rattle.io_model.specs.Disk.{Rose}
+use Rattle.cluster_opening.specs.Accepted.{AreGoodLogs}
 use Rattle.script_lang.specs.Bodies.{Body}
 use Rattle.script_lang.specs.Grammar.{IsScript}
-use Rattle.run_status.specs.declared.status.Status.{Status}
-use Rattle.run_status.specs.declared.status.Status.TheVariants.{Fine, Memory, Worn}
+use Rattle.command_line.specs.declared.status.Status.{Status}
+use Rattle.command_line.specs.declared.status.Status.TheVariants.{Fine, Memory, Worn}
 
 -- the source tells a script; the first disks tell that they have no bytes
 abbrev pub TellsScript : Option (List ℕ) → Type 0

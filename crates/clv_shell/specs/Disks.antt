@@ -1,15 +1,15 @@
 -- What a command that opened no shards leaves of the disks.
 use Rattle.std.specs.Prelude.{◌≡◌, ℕ, ◌<◌, ◌≤◌, List, Option, None}
 use Rattle.clv_base.specs.Shards.{shard_count}
-use Rattle.disk_model.specs.Story.{Story}
-use Rattle.disk_model.specs.Disk.{Tells}
+use Rattle.io_model.specs.Story.{Story}
+use Rattle.io_model.specs.Disk.{Tells}
 use Rattle.cluster_runs.specs.Begun.{AreUnchanged, MayBeLeft}
-use Rattle.command_words.specs.declared.commands.Command.{Command}
-use Rattle.command_words.specs.declared.commands.Command.TheVariants.{Make, Run, Show, Load}
-use Rattle.disks_opening.specs.Making.{IsMade, Spares}
+use Rattle.command_line.specs.declared.commands.Command.{Command}
+use Rattle.command_line.specs.declared.commands.Command.TheVariants.{Make, Run, Show, Load}
+use Rattle.cluster_opening.specs.Making.{IsMade, Spares}
 use Rattle.history_replay.specs.Entries.{Kept}
-use Rattle.run_status.specs.declared.status.Status.{Status}
-use Rattle.run_status.specs.declared.status.Status.TheVariants.{Fine, DiskFault, Memory}
+use Rattle.command_line.specs.declared.status.Status.{Status}
+use Rattle.command_line.specs.declared.status.Status.TheVariants.{Fine, DiskFault, Memory}
 
 -- no disk was written; or, where one failed or memory was wanting, an opening may have begun to undo what the logs had left open
 abbrev pub Closes : Status → (ℕ → Option Story) → (ℕ → Option Story) → Type 0

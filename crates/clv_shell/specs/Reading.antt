@@ -1,13 +1,13 @@
 -- What was read of the source.
 use Rattle.std.specs.Prelude.{◌≡◌, ℕ, List, Option, None}
-use Rattle.command_words.specs.declared.commands.Command.{Command}
-use Rattle.command_words.specs.declared.commands.Command.TheVariants.{Run}
+use Rattle.command_line.specs.declared.commands.Command.{Command}
+use Rattle.command_line.specs.declared.commands.Command.TheVariants.{Run}
 use Rattle.history_replay.specs.Entries.{Kept}
-use Rattle.io_edge.specs.Streams.{Ends}
+use Rattle.io_model.specs.Streams.{Ends}
 use Rattle.script_lang.specs.Bodies.{Body}
 use Rattle.script_lang.specs.Grammar.{IsScript}
-use Rattle.run_status.specs.declared.status.Status.{Status}
-use Rattle.run_status.specs.declared.status.Status.TheVariants.{Script, ReadFault, Memory}
+use Rattle.command_line.specs.declared.status.Status.{Status}
+use Rattle.command_line.specs.declared.status.Status.TheVariants.{Script, ReadFault, Memory}
 
 -- all of the source was read, and it is a script
 abbrev pub IsRead : Option (List ℕ) → Option (List ℕ) → Type 0

@@ -1,18 +1,18 @@
 -- What a history promises that a command leaves.
 use Rattle.std.specs.Prelude.{◌≡◌, ℕ, List, [], Option, Some, None, IfSome, Result}
 use Rattle.cluster_runs.specs.Ran.{RanAll}
-use Rattle.command_words.specs.declared.commands.Command.{Command}
-use Rattle.command_words.specs.declared.commands.Command.TheVariants.{Make, Run, Show, Load}
-use Rattle.disk_model.specs.Story.{Story}
+use Rattle.command_line.specs.declared.commands.Command.{Command}
+use Rattle.command_line.specs.declared.commands.Command.TheVariants.{Make, Run, Show, Load}
+use Rattle.io_model.specs.Story.{Story}
 use Rattle.history_replay.specs.Entries.{Kept}
-use Rattle.run_promises.specs.Replays.{LeavesReplayed}
+use Rattle.cluster_runs.specs.Replays.{LeavesReplayed}
 use Rattle.report_text.specs.declared.texts.ReportError.{ReportError}
 use Rattle.script_lang.specs.Bodies.{Body}
 use Rattle.script_lang.specs.Grammar.{IsScript}
-use Rattle.workload.specs.Loads.{load}
-use Rattle.run_status.specs.Running.{with_text}
-use Rattle.run_status.specs.declared.status.Status.{Status}
-use Rattle.run_status.specs.declared.status.Status.TheVariants.{Fine, WriteFault}
+use Rattle.script_lang.specs.Loads.{load}
+use Rattle.command_line.specs.Running.{with_text}
+use Rattle.command_line.specs.declared.status.Status.{Status}
+use Rattle.command_line.specs.declared.status.Status.TheVariants.{Fine, WriteFault}
 
 -- the script that the source's bytes are, where it tells them
 abbrev pub HasScript : Option (List ℕ) → List (List Body) → Type 0

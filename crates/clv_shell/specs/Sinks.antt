@@ -1,18 +1,18 @@
 -- What the sink took.
 use Rattle.std.specs.Prelude.{◌≡◌, ◌⊎◌, ℕ, ◌+◌, ◌-◌, ◌*◌, List, take, Option, Some}
-use Rattle.acknowledged_replay.specs.Replayed.{replayed}
+use Rattle.history_replay.specs.Replayed.{replayed}
 use Rattle.clv_base.specs.Logs.{stands}
 use Rattle.clv_base.specs.Maps.{KeyMap, map_between}
-use Rattle.command_words.specs.declared.commands.Command.{Command}
-use Rattle.command_words.specs.declared.commands.Command.TheVariants.{Run, Show, Load}
-use Rattle.disk_model.specs.Disk.{Rose}
+use Rattle.command_line.specs.declared.commands.Command.{Command}
+use Rattle.command_line.specs.declared.commands.Command.TheVariants.{Run, Show, Load}
+use Rattle.io_model.specs.Disk.{Rose}
 use Rattle.history_replay.specs.Entries.{Kept}
-use Rattle.io_edge.specs.Streams.{Grows}
+use Rattle.io_model.specs.Streams.{Grows}
 use Rattle.report_text.specs.Loads.{values_sum, load_text}
 use Rattle.report_text.specs.Report.{report, pairs_text}
-use Rattle.run_promises.specs.Histories.{entries}
-use Rattle.run_status.specs.declared.status.Status.{Status}
-use Rattle.run_status.specs.declared.status.Status.TheVariants.{Fine, WriteFault, DiskFault, Worn}
+use Rattle.cluster_runs.specs.Histories.{entries}
+use Rattle.command_line.specs.declared.status.Status.{Status}
+use Rattle.command_line.specs.declared.status.Status.TheVariants.{Fine, WriteFault, DiskFault, Worn}
 
 -- all of the text; or a front of it where the sink failed
 abbrev pub TookText : List ℕ → ℕ → ℕ → Option (List ℕ) → Option (List ℕ) → Type 0

@@ -1,10 +1,10 @@
 -- What the top call promises by its words.
 use Rattle.std.specs.Prelude.{◌≤◌, ℕ, List}
-use Rattle.command_words.specs.Commands.{IsCommand}
-use Rattle.command_words.specs.declared.commands.Command.{Command}
-use Rattle.command_words.specs.declared.commands.Command.TheVariants.{Run, Load}
-use Rattle.run_status.specs.declared.status.Status.{Status}
-use Rattle.run_status.specs.declared.status.Status.TheVariants.{Usage, Memory}
+use Rattle.command_line.specs.Commands.{IsCommand}
+use Rattle.command_line.specs.declared.commands.Command.{Command}
+use Rattle.command_line.specs.declared.commands.Command.TheVariants.{Run, Load}
+use Rattle.command_line.specs.declared.status.Status.{Status}
+use Rattle.command_line.specs.declared.status.Status.TheVariants.{Usage, Memory}
 
 -- whatever command the words are, it has P
 abbrev pub HasCommand : List (List ℕ) → (Command → Type 0) → Type 0

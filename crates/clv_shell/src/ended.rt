@@ -1,7 +1,7 @@
 // How a run of the program ended.
 
+use command_line::Status;
 use history_replay::History;
-use run_status::Status;
 
 /// How a run of the program ended: its status, and the history where the shards were opened.
 #[derive(Drop)]

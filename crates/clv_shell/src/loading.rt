@@ -2,13 +2,13 @@
 
 ghost use Rattle.std.specs.Prelude.{◌≡◌, ◌<◌, ◌≤◌, ◌+◌, ◌*◌, ◌^◌, ℕ, Some, None, false, true, length, IfSome, IfOk, IfErr};
 ghost use Rattle.std.specs.List.{list_all};
-ghost use Rattle.acknowledged_replay.specs.Replayed.{replayed as after_all};
+ghost use Rattle.history_replay.specs.Replayed.{replayed as after_all};
 ghost use Rattle.clv_base.specs.Logs.{stands};
-ghost use Rattle.command_words.specs.declared.commands.Command.TheVariants as commands;
+ghost use Rattle.command_line.specs.declared.commands.Command.TheVariants as commands;
 ghost use Rattle.report_text.specs.Loads.{values_sum};
 ghost use Rattle.report_text.specs.Sinks.{TakesText, Causes};
 ghost use Rattle.script_lang.specs.Laws.{is_narrow_body};
-ghost use Rattle.workload.specs.Loads.{load as script_by};
+ghost use Rattle.script_lang.specs.Loads.{load as script_by};
 ghost use Rattle.clv_shell.specs.Kinds.{IsOfShow, IsOfShards};
 ghost use Rattle.clv_shell.specs.Disks.{Closes};
 ghost use Rattle.clv_shell.specs.Sinks.{accounts_sum as sum_of, line_of, Took, TookPairs};
@@ -16,24 +16,20 @@ ghost use Rattle.clv_shell.specs.Causes.{BreaksLogs, CountsSink, CountsDisks};
 ghost use Rattle.clv_shell.specs.Runs.{EndsAs, HasLoaded, Opened};
 
 use crate::ended::Ended;
-use acknowledged_replay::replayed;
+use cluster_opening::OpenError;
+use cluster_runs::replay::runs_replay;
 use cluster_runs::{Ran, Start, run_script};
-use disk_model::House;
-use disks_opening::OpenError;
-use history_replay::{History, Memory};
-use io_edge::{Pace, Sink, write_all};
-use key_map::KeyMap;
+use command_line::{Status, after_text};
+use history_replay::{History, KeyMap, Memory, replayed};
+use io_model::{House, Pace, Sink, write_all};
 use lock_index::HashedLocks;
+use ordered_store::BlockStore;
 use report_text::{ReportError, load_text};
-use run_promises::replay::runs_replay;
-use run_status::{Status, after_text};
-use script_lang::Script;
+use script_lang::workload_laws::{loads_are_narrow, loads_have_their_sessions};
+use script_lang::{Script, generate};
 use std::alloc::{AllocError, Global};
 use std::sync::Wait;
 use std::thread::Threads;
-use store_blocks::BlockStore;
-use workload::generate;
-use workload::laws::{loads_are_narrow, loads_have_their_sessions};
 
 /// What a workload is made from: a number, so many sessions and accounts, and so many transfers of each session.
 #[derive(Clone, Copy, Debug)]

@@ -2,8 +2,8 @@
 //! over them, or shows what they hold.
 //!
 //! `run` is the top call, over any source, sink and house of disks; its contract is the promise of the program. `main` makes the real ones:
-//! standard input, standard output, and the files of the working folder. It stands on `command_words` and `script_lang` for what it reads, on
-//! `disks_opening` and `cluster_runs` for the disks, and on `report_text` and `run_status` for what it answers.
+//! standard input, standard output, and the files of the working folder. It stands on `command_line` and `script_lang` for what it reads, on
+//! `cluster_opening` and `cluster_runs` for the disks, and on `report_text` and `command_line` for what it answers.
 #![tactic(auto)]
 
 mod ended;
@@ -15,10 +15,9 @@ mod showing;
 mod tests;
 mod top;
 
-use disk_model::FileHouse;
+use command_line::Status;
 pub use ended::Ended;
-use io_edge::{NoPace, ReadSource, WriteSink};
-use run_status::Status;
+use io_model::{FileHouse, NoPace, ReadSource, WriteSink};
 use std::alloc::Global;
 use std::env;
 use std::io::ErrorKind;

@@ -1,15 +1,15 @@
 // The command `make`.
 
 ghost use Rattle.std.specs.Prelude.{◌≡◌, ◌<◌, ℕ, false, None};
-ghost use Rattle.command_words.specs.declared.commands.Command.TheVariants as commands;
+ghost use Rattle.command_line.specs.declared.commands.Command.TheVariants as commands;
 ghost use Rattle.clv_shell.specs.Kinds.{IsOfMake};
 ghost use Rattle.clv_shell.specs.Disks.{SparesDisks, Makes};
 ghost use Rattle.clv_shell.specs.Causes.{HasBytes, CountsDisks};
 
+use cluster_opening::make_all;
 use clv_base::splits::Splits;
-use disk_model::House;
-use disks_opening::make_all;
-use run_status::Status;
+use command_line::Status;
+use io_model::House;
 use std::alloc::Global;
 
 /// Makes the logs of the shards that these splits part.

@@ -2,8 +2,8 @@
 
 ghost use Rattle.std.specs.Prelude.{◌≡◌, ◌<◌, ◌≤◌, ◌^◌, ℕ, Some, None, length, true, false, IfSome, IfErr, IfOk, OnOk};
 ghost use Rattle.std.specs.List.{list_all};
-ghost use Rattle.command_words.specs.declared.commands.Command.TheVariants as commands;
-ghost use Rattle.run_promises.specs.Histories.{entries};
+ghost use Rattle.command_line.specs.declared.commands.Command.TheVariants as commands;
+ghost use Rattle.cluster_runs.specs.Histories.{entries};
 ghost use Rattle.report_text.specs.Report.{report};
 ghost use Rattle.script_lang.specs.Laws.{is_narrow_body};
 ghost use Rattle.clv_shell.specs.Kinds.{IsOfRun, IsOfShards};
@@ -14,20 +14,19 @@ ghost use Rattle.clv_shell.specs.Reading.{IsRead, ReadsScript};
 ghost use Rattle.clv_shell.specs.Runs.{HasScript, EndsAs, PromisedBy, Opened};
 
 use crate::ended::Ended;
+use cluster_opening::OpenError;
 use cluster_runs::{Ran, Start, run_script};
-use disk_model::House;
-use disks_opening::OpenError;
+use command_line::{Status, after_text};
 use history_replay::History;
-use io_edge::{Pace, Sink, Source, read_all};
+use io_model::{House, Pace, Sink, Source, read_all};
 use lock_index::HashedLocks;
+use ordered_store::BlockStore;
 use report_text::report_into;
-use run_status::{Status, after_text};
 use script_lang::statements::{scripts_are_narrow, scripts_have_few_sessions};
 use script_lang::{MOST_BYTES, Script, parse};
 use std::alloc::Global;
 use std::sync::Wait;
 use std::thread::Threads;
-use store_blocks::BlockStore;
 
 // Reads the script to its end.
 fn read_script<S: Source>(alloc: Global, source: &mut S) -> Result<Script, Status>

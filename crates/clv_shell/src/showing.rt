@@ -2,7 +2,7 @@
 
 ghost use Rattle.std.specs.Prelude.{◌≡◌, ◌<◌, ℕ, [], Some, None, false, IfSome, IfOk};
 ghost use Rattle.clv_base.specs.Logs.{stands as stands_for};
-ghost use Rattle.command_words.specs.declared.commands.Command.TheVariants as commands;
+ghost use Rattle.command_line.specs.declared.commands.Command.TheVariants as commands;
 ghost use Rattle.report_text.specs.Report.{pairs_text as text_of_pairs};
 ghost use Rattle.report_text.specs.Sinks.{TakesText, Causes};
 ghost use Rattle.clv_shell.specs.Kinds.{IsOfShow, IsOfShards};
@@ -12,19 +12,17 @@ ghost use Rattle.clv_shell.specs.Causes.{BreaksLogs, CountsSink, CountsDisks};
 ghost use Rattle.clv_shell.specs.Runs.{EndsAs, HasRun, Opened};
 
 use crate::ended::Ended;
+use cluster_opening::OpenError;
 use cluster_runs::{Ran, Start, run_script};
-use disk_model::House;
-use disks_opening::OpenError;
-use history_replay::History;
-use io_edge::{Pace, Sink, write_all};
-use key_map::KeyMap;
+use command_line::{Status, after_text};
+use history_replay::{History, KeyMap};
+use io_model::{House, Pace, Sink, write_all};
 use lock_index::HashedLocks;
+use ordered_store::BlockStore;
 use report_text::{ReportError, pairs_text};
-use run_status::{Status, after_text};
 use std::alloc::Global;
 use std::sync::Wait;
 use std::thread::Threads;
-use store_blocks::BlockStore;
 
 // Writes the pairs.
 fn pairs_into<K: Sink>(alloc: Global, pairs: &KeyMap, sink: &mut K) -> Result<(), ReportError>

@@ -5,12 +5,11 @@ ghost use Rattle.std.specs.Prelude.{◌≡◌, ◌<◌, ◌≤◌, ℕ, length, 
 
 use self::held::HeldHouse;
 use crate::run;
+use cluster_opening::At;
 use clv_base::names::TxId;
+use command_line::Status;
 use disk_memory::{Choice, MemoryDisk, MemoryHouse};
-use disk_model::House;
-use disks_opening::At;
-use io_edge::{MemorySink, MemorySource, NoPace, Pace, Step};
-use run_status::Status;
+use io_model::{House, MemorySink, MemorySource, NoPace, Pace, Step};
 use std::alloc::{AllocError, Global};
 use std::sync::Wait;
 use std::sync::atomic::{AtomicU64, Ordering};

@@ -31,9 +31,9 @@ use Rattle.history_laws.specs.Continuing.{serial_left}
 use Rattle.shard_laws.specs.OneShard.{items_of, ops_by, answers_by, place, found_asked}
 use Rattle.shard_laws.proofs.Serial.{Once, once_filter, serial_of}
 use Rattle.shard_laws.proofs.Histories.{held}
-use Rattle.session_laws.specs.Places.{transactions_of, StandsBefore}
+use Rattle.history_laws.specs.Places.{transactions_of, StandsBefore}
 use Rattle.fate_laws.specs.Members.{is_member}
-use Rattle.fall_laws.specs.Leading.{requests_of}
+use Rattle.fate_laws.specs.Leading.{requests_of}
 use Rattle.headline_laws.proofs.Members.{chosen, chosen_are_members}
 use Rattle.headline_laws.proofs.Replaying.{leads}
 use Rattle.headline_laws.specs.Found.{MembersReplay}

@@ -23,10 +23,10 @@ use Rattle.law_base.specs.Items.{Item, AllLater, Clash}
 use Rattle.shard_laws.specs.OneShard.{found_asked, place}
 use Rattle.shard_laws.proofs.Serial.{in_kept}
 use Rattle.shard_laws.proofs.Leaving.{in_more}
-use Rattle.session_laws.specs.Places.{transactions_of, StandsBefore}
-use Rattle.session_laws.proofs.Placing.{placed_before}
-use Rattle.fall_laws.specs.Leading.{deeds_before, requests_of}
-use Rattle.fall_laws.proofs.Doubted.{asked_are_old}
+use Rattle.history_laws.specs.Places.{transactions_of, StandsBefore}
+use Rattle.history_laws.proofs.Placing.{placed_before}
+use Rattle.fate_laws.specs.Leading.{deeds_before, requests_of}
+use Rattle.fate_laws.proofs.FallDoubted.{asked_are_old}
 use Rattle.headline_laws.specs.Shares.{LiesIn}
 use Rattle.headline_laws.proofs.Spans.{one_shard, between}
 use Rattle.headline_laws.proofs.Members.{chosen, chosen_are_members}

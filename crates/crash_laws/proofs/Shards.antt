@@ -24,12 +24,12 @@ use Rattle.law_base.proofs.Lists.{all_mono, filters_swap, all_filter}
 use Rattle.law_base.proofs.Running.{fold_writers}
 use Rattle.shard_laws.specs.OneShard.{found_asked, map_found, place}
 use Rattle.shard_laws.proofs.Acting.{chosen_act}
-use Rattle.session_laws.proofs.Cutting.{cut_above}
+use Rattle.history_laws.proofs.Cutting.{cut_above}
 use Rattle.fate_laws.specs.Members.{is_member}
 use Rattle.fate_laws.proofs.Deciding.{commits_are_members}
 use Rattle.history_laws.proofs.Doubts.{doubted_is_old}
 use Rattle.history_laws.proofs.Offers.{OffersBy, Offers, offered}
-use Rattle.fall_laws.specs.Leading.{deeds_before, with_found, requests_of}
+use Rattle.fate_laws.specs.Leading.{deeds_before, with_found, requests_of}
 use Rattle.headline_laws.specs.Shares.{LiesIn, share_of}
 use Rattle.headline_laws.proofs.Members.{chosen, Chosen, of_chosen, is_chosen}
 use Rattle.headline_laws.proofs.Replaying.{leads, fronts, left_is, may_choose, writers_chosen}

@@ -13,7 +13,7 @@ use Rattle.clv_base.specs.State.{Shard}
 use Rattle.clv_base.specs.Journals.{History, journal_of, start_of, after_entry}
 use Rattle.law_base.specs.Items.{Item}
 use Rattle.shard_laws.specs.OneShard.{Deeds, no_deeds, with_one, new_item}
-use Rattle.fall_laws.specs.Leading.{deeds_with, deeds_after, deeds_before}
+use Rattle.fate_laws.specs.Leading.{deeds_with, deeds_after, deeds_before}
 use Rattle.crash_laws.specs.Acts.{Act, act_of, with_act, acts}
 
 abbrev pub told : ℕ → Item → Act

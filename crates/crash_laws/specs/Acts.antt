@@ -18,7 +18,7 @@ use Rattle.clv_base.specs.Journals.{History}
 use Rattle.clv_base.specs.History.{Legal, logs_left, serial_ops, serial_answers}
 use Rattle.law_base.specs.Items.{AllLater}
 use Rattle.history_laws.specs.Continuing.{serial_left}
-use Rattle.session_laws.specs.Places.{transactions_of, StandsBefore}
+use Rattle.history_laws.specs.Places.{transactions_of, StandsBefore}
 use Rattle.fate_laws.specs.Members.{is_member}
 use Rattle.headline_laws.specs.Shares.{ShardOp}
 

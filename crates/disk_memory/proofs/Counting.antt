@@ -1,7 +1,7 @@
 -- What the notes count is what the calls count.
 use Rattle.std.proofs.Common.{◌≡◌, ℕ, ◌+◌, ◌≤◌, List, [], ◌∷◌, ◌++◌, length, drop, refl, sym, ◌∙◌, ap, arith, append_assoc, length-drop}
 use Rattle.std.proofs.lemmas.List.{append-nil, length-take}
-use Rattle.disk_model.specs.Story.{Call}
+use Rattle.io_model.specs.Story.{Call}
 use Rattle.disk_memory.specs.declared.noted.Noted.{Noted}
 use Rattle.disk_memory.specs.declared.noted.Noted.TheVariants.{Len, Read, Write, Cut, Sync, FailedWrite, FailedCut, FailedSync}
 use Rattle.disk_memory.specs.Noted.{size, total, call_of, calls_after, note_of, notes_of}

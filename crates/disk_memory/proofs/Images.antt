@@ -1,7 +1,7 @@
 -- What a crash leaves by choice is what it may leave.
 use Rattle.std.proofs.Common.{◌≡◌, ◌⊎◌, inl, inr, ℕ, ◌+◌, ◌-◌, ◌≤◌, ◌<◌, min, List, [], ◌∷◌, ◌++◌, length, take, drop, replicate, refl, sym, ◌∙◌, ap, subst, arith, length-append, length-drop, append_assoc}
 use Rattle.std.proofs.lemmas.List.{take_at, take_all, drop_at, drop_all, length-take, length-replicate, take_min}
-use Rattle.disk_model.specs.Story.{Call, Len, Read, Write, Cut, Sync, Write_failed, Cut_failed, Sync_failed, put, reads_after, IsTorn, IsCut, IsImageAfter, IsImage}
+use Rattle.io_model.specs.Story.{Call, Len, Read, Write, Cut, Sync, Write_failed, Cut_failed, Sync_failed, put, reads_after, IsTorn, IsCut, IsImageAfter, IsImage}
 use Rattle.disk_memory.specs.declared.noted.Choice.{Choice}
 use Rattle.disk_memory.specs.declared.noted.Choice.TheVariants.{Before, Written, Fill}
 use Rattle.disk_memory.specs.declared.noted.Noted.{Noted}

@@ -1,7 +1,7 @@
 -- One note more.
 use Rattle.std.proofs.Common.{◌≡◌, ℕ, ◌+◌, ◌≤◌, List, [], ◌∷◌, ◌++◌, length, drop, refl, ◌∙◌, ap, arith}
 use Rattle.std.proofs.lemmas.List.{take-append-le, drop-append-le, length-drop}
-use Rattle.disk_model.specs.Story.{Call, Write as Write_call, after}
+use Rattle.io_model.specs.Story.{Call, Write as Write_call, after}
 use Rattle.disk_memory.specs.declared.noted.Noted.{Noted}
 use Rattle.disk_memory.specs.declared.noted.Noted.TheVariants.{Len, Read, Write, Cut, Sync, FailedWrite, FailedCut, FailedSync}
 use Rattle.disk_memory.specs.Noted.{size, total, call_of, calls_after}

@@ -1,7 +1,7 @@
 -- A tape after one note more.
 use Rattle.std.proofs.Common.{nat_le, ◌≡◌, ℕ, ◌+◌, ◌*◌, ◌≤◌, max, List, [], ◌∷◌, ◌++◌, length, take, drop, refl, sym, ◌∙◌, ap, arith, length-append, length-drop}
 use Rattle.std.proofs.lemmas.List.{append-nil, take_all, length-take}
-use Rattle.disk_model.specs.Story.{Call, Write as Write_call, after, put, reads, reads_after}
+use Rattle.io_model.specs.Story.{Call, Write as Write_call, after, put, reads, reads_after}
 use Rattle.disk_memory.specs.declared.noted.Noted.{Noted}
 use Rattle.disk_memory.specs.declared.noted.Noted.TheVariants.{Len, Read, Write, Cut, Sync, FailedWrite, FailedCut, FailedSync}
 use Rattle.disk_memory.specs.Noted.{notes_of, size, total, call_of, calls_after}

@@ -1,7 +1,7 @@
 -- Which calls of a disk in memory fail, and which it keeps in its list.
 use Rattle.std.specs.Prelude.{◌≡◌, ◌+◌, ◌*◌, ◌^◌, ◌-◌, ℕ, List, [], ◌∷◌, length, min, Bool, nat_lt, nat_le, ◌&&◌, ◌||◌, ◌==◌, if◌then◌else◌}
 use Rattle.std.specs.List.{list_any}
-use Rattle.disk_model.specs.Story.{Call, Len, Read, Write, Cut, Sync, Write_failed, Cut_failed, Sync_failed, Story, after, reads}
+use Rattle.io_model.specs.Story.{Call, Len, Read, Write, Cut, Sync, Write_failed, Cut_failed, Sync_failed, Story, after, reads}
 
 -- what is seen of a disk in memory: its story, its faults, the calls that were made, those that are told to fail, and its room
 pub record DiskState : Type 0 where

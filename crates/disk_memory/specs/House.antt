@@ -1,6 +1,6 @@
 -- A house of disks in memory.
 use Rattle.std.specs.Prelude.{◌≡◌, ◌+◌, ◌-◌, ◌^◌, ℕ, min, List, Bool, true, false, Option, Some, None, Result, Ok, Err, slice_get}
-use Rattle.disk_model.specs.Story.{Story}
+use Rattle.io_model.specs.Story.{Story}
 use Rattle.disk_memory.specs.declared.memory.MemoryDisk.{MemoryDisk}
 use Rattle.disk_memory.specs.declared.house.Slot.{Slot}
 use Rattle.disk_memory.specs.declared.house.State.{State}

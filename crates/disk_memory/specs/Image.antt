@@ -1,6 +1,6 @@
 -- What a crash leaves of a disk in memory, by choice.
 use Rattle.std.specs.Prelude.{ℕ, ◌-◌, List, [], ◌∷◌, ◌++◌, length, take, drop, replicate}
-use Rattle.disk_model.specs.Story.{Call, Len, Read, Write, Cut, Sync, Write_failed, Cut_failed, Sync_failed, Story, put, reads, reads_after}
+use Rattle.io_model.specs.Story.{Call, Len, Read, Write, Cut, Sync, Write_failed, Cut_failed, Sync_failed, Story, put, reads, reads_after}
 use Rattle.disk_memory.specs.declared.noted.Choice.{Choice}
 use Rattle.disk_memory.specs.declared.noted.Choice.TheVariants.{Before, Written, Fill}
 

@@ -1,6 +1,6 @@
 -- The story of a disk in memory: its notes in order, and the bytes that were written, one after another.
 use Rattle.std.specs.Prelude.{ℕ, ◌+◌, List, [], ◌∷◌, ◌++◌, length, take, drop}
-use Rattle.disk_model.specs.Story.{Call, Len as Length_call, Read as Read_call, Write as Write_call, Cut as Cut_call, Sync as Sync_call, Write_failed, Cut_failed, Sync_failed, reads_after}
+use Rattle.io_model.specs.Story.{Call, Len as Length_call, Read as Read_call, Write as Write_call, Cut as Cut_call, Sync as Sync_call, Write_failed, Cut_failed, Sync_failed, reads_after}
 use Rattle.disk_memory.specs.declared.noted.Noted.{Noted}
 use Rattle.disk_memory.specs.declared.noted.Noted.TheVariants.{Len, Read, Write, Cut, Sync, FailedWrite, FailedCut, FailedSync}
 

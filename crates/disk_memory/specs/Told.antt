@@ -1,6 +1,6 @@
 -- What a disk in memory tells.
 use Rattle.std.specs.Prelude.{◌≡◌, ◌≤◌, ◌<◌, ◌+◌, ◌*◌, ℕ, List, [], length}
-use Rattle.disk_model.specs.Story.{Story, reads_after}
+use Rattle.io_model.specs.Story.{Story, reads_after}
 use Rattle.disk_memory.specs.declared.noted.Noted.{Noted}
 use Rattle.disk_memory.specs.declared.noted.Noted.TheVariants.{Len, Read, Write, Cut, Sync, FailedWrite, FailedCut, FailedSync}
 use Rattle.disk_memory.specs.Noted.{total, calls_after}

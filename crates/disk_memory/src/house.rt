@@ -1,10 +1,10 @@
 // A house of disks in memory.
 ghost use Rattle.std.specs.Prelude.{◌≡◌, ◌≢◌, ◌+◌, ◌-◌, ◌^◌, ◌<◌, ℕ, min, length, false, true, Some, None, IfOk, MatchOption};
-ghost use Rattle.disk_model.specs.Disk.{HasCause, Adds};
+ghost use Rattle.io_model.specs.Disk.{HasCause, Adds};
 ghost use Rattle.disk_memory.specs.House.{faults_at, is_out_at, story_at, story_in_state, GoesOut};
 
 use crate::memory::MemoryDisk;
-use disk_model::{Failed, House};
+use io_model::{Failed, House};
 use std::alloc::{AllocError, Global};
 use std::mem;
 

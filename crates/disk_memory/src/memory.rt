@@ -1,7 +1,7 @@
 // The disk.
 ghost use Rattle.std.specs.Prelude.{◌≡◌, ◌≤◌, ◌<◌, ◌+◌, ◌^◌, ◌-◌, [], length, min, max, Some, true, false, not, ◌&&◌, ◌||◌, is_ok, IfOk, OnOk, OnErr};
-ghost use Rattle.disk_model.specs.Story.{IsImage, Len, Read, Write_failed, Cut_failed, Sync_failed, reads};
-ghost use Rattle.disk_model.specs.Disk.{Rose, Tells, Measures, Reads, Writes, Cuts, Syncs, HasCause};
+ghost use Rattle.io_model.specs.Story.{IsImage, Len, Read, Write_failed, Cut_failed, Sync_failed, reads};
+ghost use Rattle.io_model.specs.Disk.{Rose, Tells, Measures, Reads, Writes, Cuts, Syncs, HasCause};
 ghost use Rattle.disk_memory.specs.Fails.{is_told, fits, fits_call, is_past, story_after_failing, next_number, IsCounted};
 ghost use Rattle.disk_memory.specs.Noted.{call_of, notes_of};
 ghost use Rattle.disk_memory.specs.Told.{IsQuiet};
@@ -9,7 +9,7 @@ ghost use Rattle.disk_memory.specs.Image.{left_by};
 
 use crate::noted::{Choice, Noted};
 use crate::tape::Tape;
-use disk_model::{Disk, Failed};
+use io_model::{Disk, Failed};
 use std::alloc::{AllocError, Global};
 use std::marker::Model;
 

@@ -1,6 +1,6 @@
 // The notes of a disk in memory, with what a read gives.
 ghost use Rattle.std.specs.Prelude.{false, ◌≡◌, ◌≤◌, ◌<◌, ◌+◌, ◌*◌, ◌^◌, ℕ, [], List, length, max, take, drop, true, IfOk, OnOk, vec_capacity, nat_le};
-ghost use Rattle.disk_model.specs.Story.{IsImage, Write, Cut, after, reads};
+ghost use Rattle.io_model.specs.Story.{IsImage, Write, Cut, after, reads};
 ghost use Rattle.disk_memory.specs.Noted.{call_of, notes_of};
 ghost use Rattle.disk_memory.specs.Fails.{bytes_written};
 ghost use Rattle.disk_memory.specs.Told.{IsQuiet};

@@ -7,9 +7,9 @@ use Rattle.clv_base.specs.declared.logs.LogRecord.TheVariants.{Update, Clr, Prep
 use Rattle.clv_base.specs.Orders.{tx_same, tx_in}
 use Rattle.clv_base.proofs.SameNames.{or_left, or_right, tx_flip}
 use Rattle.protocol_laws.specs.UndoLaws.{is_pair}
-use Rattle.due_laws.specs.Changes.{successors_of, landed_txs}
-use Rattle.due_laws.proofs.Laws.{in_append}
-use Rattle.due_laws.proofs.Laws.{flushes_cover}
+use Rattle.protocol_laws.specs.Changes.{successors_of, landed_txs}
+use Rattle.protocol_laws.proofs.Laws.{in_append}
+use Rattle.protocol_laws.proofs.Laws.{flushes_cover}
 use Rattle.txn_core.specs.Landed.{concern}
 use Rattle.due_step.specs.Landing.{LandedCovers}
 

@@ -6,8 +6,8 @@ use Rattle.std.specs.Map.{keys_of}
 use Rattle.clv_base.specs.declared.names.TxId.{TxId}
 use Rattle.clv_base.specs.Orders.{Table, tx_same, tx_in}
 use Rattle.clv_base.proofs.SameNames.{or_left, tx_true}
-use Rattle.due_laws.proofs.Laws.{in_append}
-use Rattle.due_candidates.specs.Held.{AreAmong}
+use Rattle.protocol_laws.proofs.Laws.{in_append}
+use Rattle.tx_table.specs.Held.{AreAmong}
 use Rattle.due_step.specs.Noting.{known_keys, KnownHaveRoom}
 use Rattle.due_step.proofs.Noted.{doomed_have_room}
 

@@ -11,9 +11,9 @@ use Rattle.clv_base.proofs.SameNames.{or_left, or_right, in_insert, tx_flip}
 use Rattle.protocol_laws.specs.UndoLaws.{is_pair}
 use Rattle.protocol_laws.proofs.Laws.{doomed_is_closure}
 use Rattle.law_base.proofs.Sets.{in_filter}
-use Rattle.due_laws.specs.Changes.{successors_of}
-use Rattle.due_laws.proofs.Laws.{in_append}
-use Rattle.due_candidates.specs.Held.{Candidates, HasRoomBy}
+use Rattle.protocol_laws.specs.Changes.{successors_of}
+use Rattle.protocol_laws.proofs.Laws.{in_append}
+use Rattle.tx_table.specs.Held.{Candidates, HasRoomBy}
 use Rattle.due_step.specs.declared.finding.Due.{Due}
 use Rattle.due_step.specs.declared.finding.Due.TheVariants.{Commit, Vote as DueVote, Ruling as DueRuling}
 use Rattle.due_step.specs.Covering.{touched}

@@ -12,8 +12,8 @@ use Rattle.clv_base.specs.declared.state.Ruling.TheVariants.{Commit as CommitVer
 use Rattle.clv_base.specs.Orders.{tx_get}
 use Rattle.clv_base.specs.State.{Shard}
 use Rattle.clv_base.specs.Due.{commit_messages, finish_reader}
-use Rattle.vote_participant.specs.Voting.{home_by}
-use Rattle.commit_coordinator.specs.Coordinated.{parts_of, told_by}
+use Rattle.two_phase_commit.specs.Voting.{home_by}
+use Rattle.two_phase_commit.specs.Coordinated.{parts_of, told_by}
 use Rattle.due_step.specs.Found.{vote_sent}
 use Rattle.due_step.specs.declared.finding.Due.TheVariants.{Commit, Vote as DueVote, Ruling as DueRuling}
 use Rattle.due_step.specs.Sent.{decide_all, told, CarriesMessages}

@@ -15,8 +15,8 @@ use Rattle.clv_base.specs.Facts.{facts_in}
 use Rattle.clv_base.specs.Participant.{voted}
 use Rattle.clv_base.specs.OneShard.{purge}
 use Rattle.clv_base.specs.Due.{finish_reader}
-use Rattle.vote_participant.specs.Voting.{Voting, home_by, voters_by}
-use Rattle.commit_coordinator.specs.Coordinated.{Coordination, told_by}
+use Rattle.two_phase_commit.specs.Voting.{Voting, home_by, voters_by}
+use Rattle.two_phase_commit.specs.Coordinated.{Coordination, told_by}
 use Rattle.txn_core.specs.State.{TxState, IsSameBut}
 use Rattle.due_step.specs.Found.{vote_sent, voters_after, requests_after, carried}
 use Rattle.due_step.specs.declared.finding.Due.{Due}

@@ -13,12 +13,12 @@ use Rattle.clv_base.specs.Undo.{doomed_here}
 use Rattle.clv_base.specs.Coordinator.{ruled_request}
 use Rattle.clv_base.specs.OneShard.{purge}
 use Rattle.clv_base.specs.Due.{with_commit_done, finish_reader, do_ruling}
-use Rattle.commit_coordinator.specs.Coordinated.{requests_by}
-use Rattle.due_laws.specs.Changes.{ChangesDue, successors_of}
-use Rattle.due_laws.specs.Steps.{ruled_touch}
-use Rattle.due_laws.proofs.Laws.{cover_grows}
-use Rattle.due_laws.proofs.Laws.{releases_change, roll_backs_change, commits_change, ends_change}
-use Rattle.due_laws.proofs.Laws.{commits_touch, votes_touch, set_other, other_in, rest_out}
+use Rattle.two_phase_commit.specs.Coordinated.{requests_by}
+use Rattle.protocol_laws.specs.Changes.{ChangesDue, successors_of}
+use Rattle.protocol_laws.specs.Steps.{ruled_touch}
+use Rattle.protocol_laws.proofs.Laws.{cover_grows}
+use Rattle.protocol_laws.proofs.Laws.{releases_change, roll_backs_change, commits_change, ends_change}
+use Rattle.protocol_laws.proofs.Laws.{commits_touch, votes_touch, set_other, other_in, rest_out}
 use Rattle.due_step.specs.Found.{vote_sent, with_tables, carried}
 use Rattle.due_step.specs.declared.finding.Due.{Due}
 use Rattle.due_step.specs.declared.finding.Due.TheVariants.{Commit, Vote as DueVote, Ruling as DueRuling}

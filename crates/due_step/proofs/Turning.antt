@@ -9,11 +9,11 @@ use Rattle.clv_base.specs.OneShard.{purge}
 use Rattle.clv_base.specs.Events.{finish}
 use Rattle.clv_base.specs.Due.{due_of, next_due, work}
 use Rattle.clv_base.proofs.Settling.{each_leaves_less}
-use Rattle.due_laws.specs.Candidates.{Cover}
-use Rattle.due_laws.proofs.Laws.{least_is_next, others_cover, none_is_nothing}
-use Rattle.due_laws.proofs.Laws.{doing_goes_on, nothing_to_do}
-use Rattle.due_laws.specs.Purging.{WritesAreLocked}
-use Rattle.due_laws.proofs.Laws.{purges_dont_matter}
+use Rattle.protocol_laws.specs.Candidates.{Cover}
+use Rattle.protocol_laws.proofs.Laws.{least_is_next, others_cover, none_is_nothing}
+use Rattle.protocol_laws.proofs.Laws.{doing_goes_on, nothing_to_do}
+use Rattle.protocol_laws.specs.Purging.{WritesAreLocked}
+use Rattle.protocol_laws.proofs.Laws.{purges_dont_matter}
 use Rattle.due_step.specs.Ready.{IsReady, IsDone, least, but_least, left}
 
 pub split : (txs : List TxId) (tx : TxId) → least txs ≡ Some tx → txs ≡ tx ∷ but_least txs

@@ -3,8 +3,8 @@ use Rattle.std.specs.Prelude.{List, [], ◌∷◌, ◌++◌}
 use Rattle.clv_base.specs.declared.names.TxId.{TxId}
 use Rattle.clv_base.specs.State.{Local, Shard, with_local}
 use Rattle.clv_base.specs.OneShard.{purge}
-use Rattle.due_laws.specs.Candidates.{Cover}
-use Rattle.due_laws.specs.Steps.{ruled_touch}
+use Rattle.protocol_laws.specs.Candidates.{Cover}
+use Rattle.protocol_laws.specs.Steps.{ruled_touch}
 use Rattle.due_step.specs.Found.{carried}
 use Rattle.due_step.specs.declared.finding.Due.{Due}
 use Rattle.due_step.specs.declared.finding.Due.TheVariants.{Commit, Vote as DueVote, Ruling as DueRuling}

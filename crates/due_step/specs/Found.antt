@@ -9,8 +9,8 @@ use Rattle.clv_base.specs.Orders.{Table, tx_get}
 use Rattle.clv_base.specs.State.{Shard}
 use Rattle.clv_base.specs.Facts.{is_closed_state, has_durable_commit}
 use Rattle.clv_base.specs.Due.{with_commit_done, with_vote, finish_reader, do_ruling, due_of}
-use Rattle.vote_participant.specs.Voting.{voters_by}
-use Rattle.commit_coordinator.specs.Coordinated.{requests_by}
+use Rattle.two_phase_commit.specs.Voting.{voters_by}
+use Rattle.two_phase_commit.specs.Coordinated.{requests_by}
 use Rattle.due_step.specs.declared.finding.Due.{Due}
 use Rattle.due_step.specs.declared.finding.Due.TheVariants.{Commit, Vote as DueVote, Ruling as DueRuling}
 

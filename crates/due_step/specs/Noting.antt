@@ -9,9 +9,9 @@ use Rattle.clv_base.specs.State.{Local, Shard, with_local}
 use Rattle.clv_base.specs.Undo.{doomed_by}
 use Rattle.clv_base.specs.OneShard.{purge}
 use Rattle.protocol_laws.specs.UndoLaws.{is_pair}
-use Rattle.due_laws.specs.Candidates.{Cover}
-use Rattle.due_laws.specs.Depending.{DependentsHaveParts}
-use Rattle.due_candidates.specs.Held.{Candidates, AreAmong, HasRoomBy}
+use Rattle.protocol_laws.specs.Candidates.{Cover}
+use Rattle.protocol_laws.specs.Depending.{DependentsHaveParts}
+use Rattle.tx_table.specs.Held.{Candidates, AreAmong, HasRoomBy}
 use Rattle.due_step.specs.Found.{carried}
 use Rattle.due_step.specs.declared.finding.Due.{Due}
 use Rattle.due_step.specs.declared.finding.Due.TheVariants.{Ruling as DueRuling}

@@ -6,8 +6,8 @@ use Rattle.clv_base.specs.declared.messages.Message.TheVariants.{Vote as VoteMes
 use Rattle.clv_base.specs.declared.state.Ruling.TheVariants.{Commit as CommitVerdict, Acknowledge, Abort as AbortVerdict, End as EndVerdict}
 use Rattle.clv_base.specs.Orders.{tx_get}
 use Rattle.clv_base.specs.State.{Shard}
-use Rattle.vote_participant.specs.Voting.{home_by}
-use Rattle.commit_coordinator.specs.Coordinated.{told_by}
+use Rattle.two_phase_commit.specs.Voting.{home_by}
+use Rattle.two_phase_commit.specs.Coordinated.{told_by}
 use Rattle.due_step.specs.Found.{carried}
 use Rattle.due_step.specs.declared.finding.Due.{Due}
 use Rattle.due_step.specs.declared.finding.Due.TheVariants.{Commit, Vote as DueVote, Ruling as DueRuling}

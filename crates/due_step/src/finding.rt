@@ -9,8 +9,7 @@ use clv_base::causes::Vote;
 use clv_base::names::TxId;
 use clv_base::parts::{PartFacts, PartState};
 use clv_base::state::Ruling;
-use commit_coordinator::Coordinator;
-use vote_participant::Participant;
+use two_phase_commit::{Coordinator, Participant};
 
 /// What is due for a transaction.
 #[derive(Drop, Debug)]

@@ -3,15 +3,15 @@ ghost use Rattle.std.specs.Prelude.{◌≡◌, ◌||◌};
 ghost use Rattle.clv_base.specs.declared.names.TxId.{TxId as Tx};
 ghost use Rattle.clv_base.specs.Orders.{tx_in};
 ghost use Rattle.clv_base.specs.Undo.{doomed_by};
-ghost use Rattle.due_candidates.specs.Held.{HasRoomBy};
+ghost use Rattle.tx_table.specs.Held.{HasRoomBy};
 ghost use Rattle.due_step.specs.Noting.{ruled_touches, touches};
 
 use crate::Due;
 use clv_base::names::TxId;
 use clv_base::state::Ruling;
-use due_candidates::Candidates;
 use lock_table::Locks;
 use ordered_store::Store;
+use tx_table::Candidates;
 use txn_core::ShardTx;
 
 /// Whom a ruling touches besides are candidates besides.

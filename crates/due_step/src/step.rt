@@ -5,18 +5,16 @@ ghost use Rattle.txn_core.specs.Sound.{HasSpare, SpendsSpare};
 ghost use Rattle.due_step.specs.Carried.{IsPurged};
 ghost use Rattle.clv_base.specs.Orders.{tx_in};
 ghost use Rattle.clv_base.specs.Undo.{doomed_by};
-ghost use Rattle.due_candidates.specs.Held.{HasRoomBy};
+ghost use Rattle.tx_table.specs.Held.{HasRoomBy};
 ghost use Rattle.due_step.specs.Steps.{IsSeen, ArePrepares, Steps, Notes};
 
 use crate::{Due, Outbox, carry, find_due, note_touched, tell};
 use clv_base::names::TxId;
-use commit_coordinator::Coordinator;
-use due_candidates::Candidates;
 use lock_table::Locks;
 use ordered_store::Store;
-use tx_table::TxTable;
+use two_phase_commit::{Coordinator, Participant};
+use tx_table::{Candidates, TxTable};
 use txn_core::ShardTx;
-use vote_participant::Participant;
 
 /// Does what is due for the transaction, if anything is, and gives it. Takes no memory.
 pub fn do_one<S: Store + Drop, L: Locks + Drop>(

@@ -1,8 +1,8 @@
 //! What is due, told.
 ghost use Rattle.std.specs.Prelude.{◌≡◌, ◌≤◌, ◌<◌, ◌+◌, ◌++◌, ℕ, List, length};
 ghost use Rattle.clv_base.specs.Orders.{tx_get};
-ghost use Rattle.vote_participant.specs.Voting.{home_by};
-ghost use Rattle.commit_coordinator.specs.Coordinated.{told_by};
+ghost use Rattle.two_phase_commit.specs.Voting.{home_by};
+ghost use Rattle.two_phase_commit.specs.Coordinated.{told_by};
 ghost use Rattle.due_step.specs.Sent.{decide_all, told, CarriesMessages};
 
 use crate::Due;
@@ -11,8 +11,7 @@ use clv_base::messages::Message;
 use clv_base::names::TxId;
 use clv_base::parts::ShardList;
 use clv_base::state::Ruling;
-use commit_coordinator::Coordinator;
-use vote_participant::Participant;
+use two_phase_commit::{Coordinator, Participant};
 
 /// The decision goes to each of the shards.
 fn tell_all(outbox: &mut Outbox, tx: TxId, home: u32, commit: bool, parts: &ShardList)

@@ -36,7 +36,7 @@ use Rattle.law_base.proofs.Stages.{stage_own, active_back, closed_back, gone_out
 use Rattle.law_base.proofs.Stages.{stage_closed, closed_other}
 use Rattle.law_base.proofs.Stages.{stage_marked}
 use Rattle.law_base.proofs.Stages.{other_part}
-use Rattle.session_laws.proofs.Replying.{OpIs, dies, rolls, performs, reply_is}
+use Rattle.history_laws.proofs.Replying.{OpIs, dies, rolls, performs, reply_is}
 use Rattle.history_cases.proofs.Stepping.{Due, commits, votes, rules, KeptByDue, settled, Step, op_dies, op_answers, request_closes, drops, prepare_closes, decision_comes}
 use Rattle.protocol_laws.proofs.Growing.{same}
 use Rattle.fate_laws.proofs.Inside.{Inside, inside_self, inside_then, inside_due, inside_step}

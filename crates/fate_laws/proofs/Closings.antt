@@ -31,7 +31,7 @@ use Rattle.law_base.proofs.Stages.{closed_back}
 use Rattle.law_base.proofs.Stages.{stage_closed, closed_other}
 use Rattle.law_base.proofs.Stages.{stage_marked}
 use Rattle.law_base.proofs.Stages.{other_part}
-use Rattle.session_laws.proofs.Replying.{OpIs, dies, rolls, performs, reply_is}
+use Rattle.history_laws.proofs.Replying.{OpIs, dies, rolls, performs, reply_is}
 use Rattle.history_cases.proofs.Stepping.{Step, op_dies, op_answers, request_closes, drops, prepare_closes, decision_comes}
 use Rattle.history_cases.proofs.Uncommitting.{with_more, rolled as rolled_commits, dropped as dropped_commits, op_dying as dying_commits, op_answering as answering_commits}
 use Rattle.fate_laws.proofs.Prepares.{plain_more, prepare_new, rolled, dropped, op_dying, op_answering}

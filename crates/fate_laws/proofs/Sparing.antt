@@ -43,8 +43,8 @@ use Rattle.clv_base.specs.declared.names.Birth.{Birth}
 use Rattle.clv_base.specs.declared.ops.Op.{Op}
 use Rattle.history_cases.proofs.Worlds.{state_at, journal_append, other_journal}
 use Rattle.history_laws.proofs.Staying.{walker_of, together}
-use Rattle.session_laws.proofs.Dropping.{drop_after_request}
-use Rattle.session_laws.proofs.Looking.{IllOf, ill, ill_happens}
+use Rattle.history_laws.proofs.Dropping.{drop_after_request}
+use Rattle.history_laws.proofs.Looking.{IllOf, ill, ill_happens}
 use Rattle.fate_laws.specs.Aborts.{DoomedAreUncommitted, AbortedAreCommittedNowhere}
 use Rattle.fate_laws.specs.Decisions.{is_left}
 use Rattle.fate_laws.proofs.Homes.{Alone}

@@ -5,3 +5,12 @@ pub mod Downwards
 pub mod Aborts
 pub mod Votes
 pub mod Earlier
+pub mod Origins
+pub mod Waiting
+pub mod Causes
+pub mod Falls
+pub mod FallMembers
+pub mod Leading
+pub mod Ordering
+pub mod FallTelling
+pub mod Settling

@@ -15,7 +15,7 @@ use Rattle.clv_base.specs.History.{Member, answered_op, ops_in}
 use Rattle.clv_base.proofs.SameNames.{tx_true, tx_self}
 use Rattle.law_base.specs.Items.{Item}
 use Rattle.shard_laws.specs.OneShard.{items_of, ops_by, answers_by}
-use Rattle.fall_laws.specs.Telling.{own_entries}
+use Rattle.fate_laws.specs.FallTelling.{own_entries}
 use Rattle.headline_laws.specs.Shares.{ShardOp, on_shard, all_ops, all_answers, parts_on}
 use Rattle.headline_laws.specs.Parts.{op_on, shard_ops_in, member_ops}
 use Rattle.headline_laws.proofs.Parts.{firsts, seconds, told}

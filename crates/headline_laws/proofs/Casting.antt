@@ -49,7 +49,7 @@ use Rattle.fate_laws.proofs.Closings.{Closes, by_request, by_prepare, step_close
 use Rattle.fate_laws.proofs.PartsEvents.{Tables, same, coordinates, owes, counts, done, sent, again, answers, reminds, step_tables, reader_tables}
 use Rattle.fate_laws.proofs.Homes.{still_not}
 use Rattle.fate_laws.proofs.Writing.{wrote_grown}
-use Rattle.cause_laws.proofs.Starting.{set_row}
+use Rattle.fate_laws.proofs.Starting.{set_row}
 use Rattle.headline_laws.proofs.Staying.{Fewer, fewer_same, fewer_finished, present_back, rolled_doomed}
 use Rattle.headline_laws.proofs.Writing.{due_updates}
 use Rattle.history_laws.proofs.Rows.{put_row}

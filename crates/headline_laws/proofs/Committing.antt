@@ -33,15 +33,15 @@ use Rattle.history_cases.proofs.OldRuns.{none_of_this_run}
 use Rattle.history_cases.proofs.TellingEvents.{front_committed}
 use Rattle.history_cases.proofs.Uncommitting.{rolled, with_more, opening_adds, restarts_add}
 use Rattle.history_cases.proofs.Worlds.{state_at}
-use Rattle.origin_laws.proofs.Origins.{RowFrom, OwnRequest}
-use Rattle.origin_laws.proofs.Sessions.{Requested}
-use Rattle.origin_laws.proofs.Entries.{IsOld, requested_more, traced_front}
+use Rattle.fate_laws.proofs.Origins.{RowFrom, OwnRequest}
+use Rattle.fate_laws.proofs.Sessions.{Requested}
+use Rattle.fate_laws.proofs.Entries.{IsOld, requested_more, traced_front}
 use Rattle.fate_laws.proofs.Arriving.{commits_come_due}
 use Rattle.fate_laws.proofs.Closings.{Commits, alone, decided, step_commits}
 use Rattle.fate_laws.proofs.Inside.{Inside, inside_self, inside_due, inside_step}
 use Rattle.fate_laws.proofs.Prefixes.{Next, next_at, each_shard}
 use Rattle.fate_laws.proofs.Homes.{new_commit}
-use Rattle.fall_laws.proofs.Falling.{walk_on}
+use Rattle.fate_laws.proofs.Falling.{walk_on}
 
 -- ---- what is due
 

@@ -23,7 +23,7 @@ use Rattle.history_laws.proofs.Serials.{committed_front}
 use Rattle.fate_laws.proofs.Deciding.{left_committed}
 use Rattle.fate_laws.proofs.Writing.{restart_writes_none}
 use Rattle.fate_laws.proofs.Earlier.{earlier_commits_are_of_opening}
-use Rattle.fall_laws.proofs.Ordering.{logs_left_are_in_order}
+use Rattle.fate_laws.proofs.Ordering.{logs_left_are_in_order}
 use Rattle.headline_laws.proofs.Shares.{at_somewhere}
 use Rattle.law_base.proofs.Bools.{and_first as front}
 use Rattle.law_base.proofs.Logs.{last_restart_push as last_new}

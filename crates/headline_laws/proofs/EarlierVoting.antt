@@ -23,9 +23,9 @@ use Rattle.fate_laws.proofs.Binding.{Bound, Reads}
 use Rattle.fate_laws.proofs.Bindings.{FineAt, bindings_front}
 use Rattle.fate_laws.specs.Earlier.{IsEarlier, WasCommitted}
 use Rattle.fate_laws.proofs.Elders.{elders_front, found_there}
-use Rattle.fall_laws.specs.Falls.{Fell}
-use Rattle.fall_laws.proofs.Falling.{WasOut, stands_front}
-use Rattle.fall_laws.proofs.Finding.{fell_out}
+use Rattle.fate_laws.specs.Falls.{Fell}
+use Rattle.fate_laws.proofs.Falling.{WasOut, stands_front}
+use Rattle.fate_laws.proofs.Finding.{fell_out}
 use Rattle.headline_laws.specs.Unfallen.{EarlierMembersNeverFell}
 use Rattle.headline_laws.proofs.Losing.{LostAt, all_lost}
 use Rattle.headline_laws.proofs.Holding.{holds_front}

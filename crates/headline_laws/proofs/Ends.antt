@@ -28,8 +28,8 @@ use Rattle.history_laws.proofs.Records.{Passes, passes_all, all_pass}
 use Rattle.fate_laws.proofs.Bindings.{bindings_front}
 use Rattle.fate_laws.proofs.Prepares.{prepare_more}
 use Rattle.headline_laws.proofs.Ended.{part_below}
-use Rattle.fall_laws.specs.Leading.{deeds_before, with_found}
-use Rattle.fall_laws.proofs.Leading.{each_shard_leads}
+use Rattle.fate_laws.specs.Leading.{deeds_before, with_found}
+use Rattle.fate_laws.proofs.Leading.{each_shard_leads}
 use Rattle.headline_laws.proofs.Earlier.{follows_behind}
 use Rattle.fate_laws.proofs.HomesFound.{home_of}
 use Rattle.headline_laws.proofs.Homes.{doubted}

@@ -30,7 +30,7 @@ use Rattle.headline_laws.specs.Acknowledged.{OnlyRead}
 use Rattle.headline_laws.proofs.MembersStanding.{acknowledged_stand}
 use Rattle.headline_laws.proofs.Passing.{reader_passes, home_passes, unnamed_passes}
 use Rattle.headline_laws.proofs.Doubting.{yes_is_here}
-use Rattle.fall_laws.proofs.Here.{in_others}
+use Rattle.fate_laws.proofs.Here.{in_others}
 
 module _ (splits : List ℕ) (before : List (List LogRecord)) (h : History) (after : List (List LogRecord)) (choice : ℕ → Bool) (o : may_open splits before ≡ true) (l : Legal splits before h after) (n : ℕ) (i : n < shard_count splits)
     (t : TxId) (home : ℕ) (e : Entry) (touched : List (ℕ × ℕ)) (a : IsAmong home e h) (ev : e.event ≡ RequestEvent t touched) (out : e.outcome ≡ Asked) where

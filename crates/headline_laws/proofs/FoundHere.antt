@@ -19,7 +19,7 @@ use Rattle.history_laws.proofs.Serials.{committed_front}
 use Rattle.fate_laws.proofs.Opening.{opening_settled, opening_home}
 use Rattle.fate_laws.proofs.Prepares.{prepare_more, front_prepare}
 use Rattle.fate_laws.specs.Earlier.{IsEarlier, WasCommitted}
-use Rattle.fall_laws.specs.Falls.{Fell}
+use Rattle.fate_laws.specs.Falls.{Fell}
 use Rattle.headline_laws.proofs.Going.{aborted_take}
 use Rattle.headline_laws.proofs.StrikingFronts.{struck_front}
 use Rattle.headline_laws.proofs.EarlierVoting.{never_out, earlier_members_never_fell}

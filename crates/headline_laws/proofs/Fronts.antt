@@ -33,10 +33,10 @@ use Rattle.fate_laws.proofs.Binding.{ordered_wrote}
 use Rattle.fate_laws.proofs.Bindings.{asked_not_own, bindings_front}
 use Rattle.fate_laws.proofs.Prefixes.{Next, next_at, stays_as_it_was}
 use Rattle.fate_laws.proofs.Standing.{NotOwn}
-use Rattle.fall_laws.specs.Falls.{Fell}
-use Rattle.fall_laws.proofs.Falling.{stands_front, walk_on, empty_front, same_last}
-use Rattle.fall_laws.proofs.Falling.{last_front}
-use Rattle.fall_laws.proofs.Finding.{fell_out}
+use Rattle.fate_laws.specs.Falls.{Fell}
+use Rattle.fate_laws.proofs.Falling.{stands_front, walk_on, empty_front, same_last}
+use Rattle.fate_laws.proofs.Falling.{last_front}
+use Rattle.fate_laws.proofs.Finding.{fell_out}
 use Rattle.headline_laws.proofs.Quiet.{Quiet, quiet_absent, quiet_undoomed, quiet_made}
 use Rattle.headline_laws.proofs.VotesAgreeing.{Told, Ends, RowIs}
 use Rattle.headline_laws.proofs.Starting.{IsFinished, IsIdle, Begins, Owes, rows_made}

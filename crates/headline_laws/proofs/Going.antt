@@ -33,8 +33,8 @@ use Rattle.fate_laws.proofs.Prepares.{prepare_more, front_prepare, restarts_add}
 use Rattle.fate_laws.proofs.Calm.{due_prepares}
 use Rattle.fate_laws.proofs.Closings.{step_prepares}
 use Rattle.fate_laws.proofs.Binding.{front_same}
-use Rattle.fall_laws.proofs.Ahead.{Ahead, Why, ahead_take, not_in_doubt, listed_front}
-use Rattle.fall_laws.proofs.Barred.{Absent}
+use Rattle.fate_laws.proofs.Ahead.{Ahead, Why, ahead_take, not_in_doubt, listed_front}
+use Rattle.fate_laws.proofs.Barred.{Absent}
 use Rattle.protocol_laws.proofs.Records.{prepared_there}
 
 -- ---- a PREPARE after an entry stood before it, or the part was active

@@ -27,8 +27,8 @@ use Rattle.history_laws.proofs.Serials.{committed_front}
 use Rattle.history_laws.proofs.Staying.{walker_of, one_request, log_now}
 use Rattle.history_cases.proofs.Worlds.{in_a_shard}
 use Rattle.shard_laws.proofs.Following.{from_disorder}
-use Rattle.origin_laws.proofs.Sessions.{Requested}
-use Rattle.origin_laws.proofs.Entries.{DidOrOld, IsOld, OriginsAt, traced_front}
+use Rattle.fate_laws.proofs.Sessions.{Requested}
+use Rattle.fate_laws.proofs.Entries.{DidOrOld, IsOld, OriginsAt, traced_front}
 use Rattle.fate_laws.specs.Decisions.{is_left}
 use Rattle.fate_laws.proofs.Binding.{Bound}
 use Rattle.fate_laws.proofs.Bindings.{Bindings, bindings_front}
@@ -37,12 +37,12 @@ use Rattle.fate_laws.proofs.Deciding.{left_committed}
 use Rattle.fate_laws.proofs.Prefixes.{one_home}
 use Rattle.fate_laws.proofs.Prepares.{front_prepare, prepare_more}
 use Rattle.fate_laws.proofs.Writing.{wrote_take}
-use Rattle.fall_laws.proofs.Falling.{WasOut, stands_front}
-use Rattle.fall_laws.proofs.Here.{in_others}
+use Rattle.fate_laws.proofs.Falling.{WasOut, stands_front}
+use Rattle.fate_laws.proofs.Here.{in_others}
 use Rattle.headline_laws.proofs.Ended.{part_below, ended_are_committed}
 use Rattle.headline_laws.proofs.Polling.{in_picked}
 use Rattle.headline_laws.proofs.Polled.{parts_are_the_yes_voters}
-use Rattle.fall_laws.proofs.Records.{wrote_from}
+use Rattle.fate_laws.proofs.Records.{wrote_from}
 use Rattle.headline_laws.proofs.StrikingFronts.{struck_front}
 use Rattle.headline_laws.proofs.Naming.{names_shard}
 use Rattle.headline_laws.proofs.Sparing.{bound_never_out}

@@ -29,8 +29,8 @@ use Rattle.fate_laws.proofs.Inside.{inside_self, inside_step}
 use Rattle.fate_laws.proofs.Prepares.{prepare_more}
 use Rattle.fate_laws.proofs.Prefixes.{Next, next_at, each_shard}
 use Rattle.fate_laws.specs.Earlier.{IsEarlier}
-use Rattle.fall_laws.proofs.Known.{DoesNow, none_made}
-use Rattle.fall_laws.proofs.Falling.{walk_on}
+use Rattle.fate_laws.proofs.Known.{DoesNow, none_made}
+use Rattle.fate_laws.proofs.Falling.{walk_on}
 use Rattle.headline_laws.proofs.Going.{inside_finish}
 use Rattle.history_laws.proofs.Doubts.{doubt_prepared}
 use Rattle.protocol_laws.proofs.Records.{prepared_there}

@@ -10,7 +10,7 @@ use Rattle.clv_base.specs.Logs.{is_record_of, committed_in, aborted_in, ended_in
 use Rattle.clv_base.specs.LogRules.{log_of, any_log_from, home_is, part_agrees, agrees_at, is_home_of, committed_of, committed_of_all, first_apart, apart}
 use Rattle.clv_base.proofs.SameNames.{tx_self, in_insert}
 use Rattle.fate_laws.proofs.HomesFound.{nat_at, named_part}
-use Rattle.origin_laws.proofs.Waiting.{in_union}
+use Rattle.fate_laws.proofs.Waiting.{in_union}
 use Rattle.law_base.proofs.Logs.{all_logs}
 
 -- ---- a home

@@ -24,13 +24,13 @@ use Rattle.fate_laws.proofs.Prefixes.{Next, next_at, each_shard}
 use Rattle.fate_laws.proofs.Fates.{Fated, dead_later}
 use Rattle.fate_laws.proofs.Bindings.{bindings_front}
 use Rattle.fate_laws.specs.Earlier.{WasCommitted}
-use Rattle.fall_laws.proofs.Ahead.{Why, follows_ahead, not_in_doubt}
-use Rattle.fall_laws.proofs.Barred.{Absent, Out, Lost, lost_inactive}
-use Rattle.fall_laws.proofs.Falling.{Denied, Met, WasOut, empty_front, last_front, Stands, stands_front, walk_on}
+use Rattle.fate_laws.proofs.Ahead.{Why, follows_ahead, not_in_doubt}
+use Rattle.fate_laws.proofs.Barred.{Absent, Out, Lost, lost_inactive}
+use Rattle.fate_laws.proofs.Falling.{Denied, Met, WasOut, empty_front, last_front, Stands, stands_front, walk_on}
 use Rattle.headline_laws.proofs.StrikingFronts.{struck_front}
 use Rattle.headline_laws.proofs.Going.{opening_doubts, WasPrepared, GoesBy, prepares_made, goes_made, aborted_take}
 use Rattle.protocol_laws.proofs.Records.{prepared_there}
-use Rattle.origin_laws.proofs.Opening.{found_follows as log_follows}
+use Rattle.fate_laws.proofs.OriginOpening.{found_follows as log_follows}
 
 -- ---- why it is lost
 

@@ -19,7 +19,7 @@ use Rattle.history_cases.proofs.Merging.{Placed, Among}
 use Rattle.history_laws.proofs.Staying.{walker_of, one_request, is_request}
 use Rattle.fate_laws.specs.Members.{is_member}
 use Rattle.fate_laws.proofs.Deciding.{commits_are_members}
-use Rattle.fall_laws.specs.Leading.{requests_of}
+use Rattle.fate_laws.specs.Leading.{requests_of}
 use Rattle.history_laws.proofs.Doubts.{doubted_is_old}
 use Rattle.law_base.proofs.Bools.{same_truth as same_test}
 use Rattle.law_base.proofs.Logs.{is_in as counts}

@@ -30,7 +30,7 @@ use Rattle.fate_laws.proofs.Entering.{durable_front}
 use Rattle.fate_laws.proofs.Fates.{fated}
 use Rattle.fate_laws.proofs.Bindings.{bindings_front}
 use Rattle.fate_laws.proofs.Prefixes.{Next, next_at, walk, Counts, counts_next, DurableIn, durable_later, one_home}
-use Rattle.fall_laws.proofs.Finding.{members_never_fell_at_home}
+use Rattle.fate_laws.proofs.Finding.{members_never_fell_at_home}
 use Rattle.headline_laws.specs.Acknowledged.{OnlyRead, AcknowledgedStand, AcknowledgedAtHome, AcknowledgementsHaveRequests, AcknowledgedAreMembers, AcknowledgedNeverFellAtHome}
 use Rattle.headline_laws.proofs.Quiet.{quiet_absent}
 use Rattle.headline_laws.proofs.Looking.{is_look, told_at_home}

@@ -18,7 +18,7 @@ use Rattle.history_laws.proofs.Staying.{Together, together}
 use Rattle.history_laws.proofs.Walkers.{has, nothing_follows, request_names}
 use Rattle.headline_laws.specs.Named.{RequestsNameTheirShards}
 use Rattle.fate_laws.specs.Decisions.{IsHome}
-use Rattle.origin_laws.proofs.Entries.{DidOrOld}
+use Rattle.fate_laws.proofs.Entries.{DidOrOld}
 
 has_in : (n : ℕ) (ts : List (ℕ × ℕ)) → has n ts ≡ true → nat_in n (map (λ t. t.0) ts) ≡ true
 has_in n [] h = absurd (both_ways false refl h)

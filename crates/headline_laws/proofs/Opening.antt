@@ -25,7 +25,7 @@ use Rattle.fate_laws.proofs.RecordKinds.{commit_is}
 use Rattle.fate_laws.proofs.Homes.{new_commit}
 use Rattle.headline_laws.proofs.PartsEnded.{parts_back, EndsFrom, Tell}
 use Rattle.law_base.proofs.Bools.{and_first as front, and_second as last}
-use Rattle.origin_laws.proofs.Opening.{found_follows as in_order}
+use Rattle.fate_laws.proofs.OriginOpening.{found_follows as in_order}
 
 -- ---- a log in order
 

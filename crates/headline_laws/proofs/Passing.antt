@@ -24,19 +24,19 @@ use Rattle.history_laws.proofs.Staying.{walker_of}
 use Rattle.shard_laws.specs.OneShard.{Passes}
 use Rattle.shard_laws.proofs.Following.{from_disorder}
 use Rattle.shard_laws.proofs.OrderKept.{order_is_kept}
-use Rattle.origin_laws.proofs.Sessions.{Requested}
-use Rattle.origin_laws.proofs.Origins.{OwnRequest}
-use Rattle.origin_laws.proofs.Entries.{DidAny, DidOrOld, IsOld, Traced, traced_front}
+use Rattle.fate_laws.proofs.Sessions.{Requested}
+use Rattle.fate_laws.proofs.Origins.{OwnRequest}
+use Rattle.fate_laws.proofs.Entries.{DidAny, DidOrOld, IsOld, Traced, traced_front}
 use Rattle.fate_laws.proofs.Prefixes.{one_home}
 use Rattle.fate_laws.proofs.Voting.{votes_bind}
-use Rattle.fall_laws.specs.Falls.{Fell}
-use Rattle.fall_laws.specs.Leading.{deeds_before, with_found, requests_of}
-use Rattle.fall_laws.proofs.Deeds.{request_is_in}
-use Rattle.fall_laws.proofs.Delivering.{committed_wrote}
-use Rattle.fall_laws.proofs.Fallen.{fell_is}
-use Rattle.fall_laws.proofs.Leading.{at_front, each_shard_leads, restored_front}
-use Rattle.fall_laws.proofs.Records.{wrote_from}
-use Rattle.fall_laws.proofs.Remembering.{part_did, none_present}
+use Rattle.fate_laws.specs.Falls.{Fell}
+use Rattle.fate_laws.specs.Leading.{deeds_before, with_found, requests_of}
+use Rattle.fate_laws.proofs.Deeds.{request_is_in}
+use Rattle.fate_laws.proofs.Delivering.{committed_wrote}
+use Rattle.fate_laws.proofs.Fallen.{fell_is}
+use Rattle.fate_laws.proofs.Leading.{at_front, each_shard_leads, restored_front}
+use Rattle.fate_laws.proofs.Records.{wrote_from}
+use Rattle.fate_laws.proofs.Remembering.{part_did, none_present}
 use Rattle.headline_laws.proofs.Readers.{readers_pass}
 use Rattle.headline_laws.proofs.Readers.{readers_never_fell}
 use Rattle.headline_laws.specs.Acknowledged.{OnlyRead}

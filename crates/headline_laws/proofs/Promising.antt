@@ -1,8 +1,8 @@
 -- The laws over all histories, gathered.
 use Rattle.history_laws.proofs.Staying.{never_taken_back}
 use Rattle.history_laws.proofs.InTurn.{sessions_keep_their_order, outcomes_are_one}
-use Rattle.cause_laws.proofs.Telling.{causes_stand}
-use Rattle.origin_laws.proofs.Waiting.{waits_go_down, waits_have_no_cycle}
+use Rattle.fate_laws.proofs.Telling.{causes_stand}
+use Rattle.fate_laws.proofs.Waiting.{waits_go_down, waits_have_no_cycle}
 use Rattle.headline_laws.proofs.MembersStanding.{acknowledged_are_members}
 use Rattle.headline_laws.proofs.Reopening.{logs_left_may_be_opened}
 use Rattle.headline_laws.proofs.Ends.{logs_at_the_end_may_be_opened}

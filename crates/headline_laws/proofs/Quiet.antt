@@ -46,7 +46,7 @@ use Rattle.shard_laws.proofs.Prepared.{prepared_append}
 use Rattle.shard_laws.proofs.Restoring.{restored_none}
 use Rattle.shard_laws.proofs.Sound.{waiting_here}
 use Rattle.shard_laws.proofs.Ordered.{prepare_some}
-use Rattle.session_laws.proofs.Replying.{OpIs, dies, rolls, performs, reply_is}
+use Rattle.history_laws.proofs.Replying.{OpIs, dies, rolls, performs, reply_is}
 use Rattle.history_cases.proofs.Stepping.{Due, commits, votes, rules, settled, Step, op_dies, op_answers, request_closes, drops, prepare_closes, decision_comes, finishes, stops}
 use Rattle.history_cases.proofs.Entering.{Makes, by_event, by_flush, by_failure, by_restart}
 use Rattle.history_cases.proofs.TellingEvents.{front_committed}

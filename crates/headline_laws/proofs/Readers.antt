@@ -12,15 +12,15 @@ use Rattle.clv_base.specs.Journals.{History}
 use Rattle.clv_base.specs.History.{Legal}
 use Rattle.history_cases.proofs.Merging.{Among, among_left, is_among}
 use Rattle.history_cases.proofs.Worlds.{state_at}
-use Rattle.origin_laws.proofs.Sessions.{Requested}
-use Rattle.origin_laws.proofs.Entries.{DidOrOld, traced_front}
+use Rattle.fate_laws.proofs.Sessions.{Requested}
+use Rattle.fate_laws.proofs.Entries.{DidOrOld, traced_front}
 use Rattle.fate_laws.specs.Decisions.{IsHome, is_left}
 use Rattle.fate_laws.proofs.Deciding.{commits_stand_at_home}
 use Rattle.fate_laws.proofs.Prefixes.{one_home}
-use Rattle.fall_laws.specs.Falls.{Fell}
-use Rattle.fall_laws.proofs.Leading.{restored_front}
-use Rattle.fall_laws.proofs.Remembering.{part_did, none_doomed, none_present}
-use Rattle.fall_laws.proofs.Restored.{RestoredArePrepared}
+use Rattle.fate_laws.specs.Falls.{Fell}
+use Rattle.fate_laws.proofs.Leading.{restored_front}
+use Rattle.fate_laws.proofs.Remembering.{part_did, none_doomed, none_present}
+use Rattle.fate_laws.proofs.FallRestored.{RestoredArePrepared}
 use Rattle.headline_laws.proofs.Naming.{names_shard}
 use Rattle.headline_laws.proofs.Reading.{only_readers_may_fall}
 use Rattle.headline_laws.specs.Passing.{ReadersPass}

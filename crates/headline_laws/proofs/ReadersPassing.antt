@@ -28,17 +28,17 @@ use Rattle.history_cases.proofs.Merging.{Placed, Among, among_append}
 use Rattle.history_laws.proofs.Staying.{walker_of}
 use Rattle.history_cases.proofs.Worlds.{state_at}
 use Rattle.history_laws.proofs.Walking.{behind_of}
-use Rattle.origin_laws.proofs.Sessions.{Requested}
-use Rattle.origin_laws.proofs.Entries.{IsOld, Brings, traced_front, brought, requested_more}
+use Rattle.fate_laws.proofs.Sessions.{Requested}
+use Rattle.fate_laws.proofs.Entries.{IsOld, Brings, traced_front, brought, requested_more}
 use Rattle.fate_laws.proofs.Binding.{Reads, ordered_wrote}
 use Rattle.fate_laws.proofs.Bindings.{WasTaken, Sought, FineAt, SaysOut, says_made, Bindings, bindings_front, asked_not_own, noted_reads}
 use Rattle.fate_laws.proofs.Prefixes.{Next, next_at, each_shard}
 use Rattle.fate_laws.proofs.Standing.{NotOwn, reads_made}
 use Rattle.fate_laws.proofs.Voting.{absent}
-use Rattle.fall_laws.specs.Falls.{Fell}
-use Rattle.fall_laws.proofs.Falling.{walk_on, same_last}
-use Rattle.fall_laws.proofs.Falling.{last_front}
-use Rattle.fall_laws.proofs.Finding.{fell_out}
+use Rattle.fate_laws.specs.Falls.{Fell}
+use Rattle.fate_laws.proofs.Falling.{walk_on, same_last}
+use Rattle.fate_laws.proofs.Falling.{last_front}
+use Rattle.fate_laws.proofs.Finding.{fell_out}
 use Rattle.headline_laws.proofs.Staying.{doomed_was}
 use Rattle.headline_laws.proofs.Returning.{out_prepared}
 use Rattle.headline_laws.proofs.Writing.{made_updates}

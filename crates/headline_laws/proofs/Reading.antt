@@ -13,9 +13,9 @@ use Rattle.clv_base.specs.History.{IsAmong}
 use Rattle.protocol_laws.specs.SessionLaws.{tx_of}
 use Rattle.history_cases.proofs.Merging.{is_among}
 use Rattle.history_laws.proofs.Staying.{walker_of}
-use Rattle.fall_laws.specs.Falls.{Fell}
-use Rattle.fall_laws.proofs.Finding.{members_never_fell_at_home}
-use Rattle.fall_laws.proofs.Here.{in_others}
+use Rattle.fate_laws.specs.Falls.{Fell}
+use Rattle.fate_laws.proofs.Finding.{members_never_fell_at_home}
+use Rattle.fate_laws.proofs.Here.{in_others}
 use Rattle.headline_laws.specs.Readers.{OnlyReadersMayFall}
 use Rattle.headline_laws.proofs.Sparing.{yes_voters_never_fell}
 use Rattle.headline_laws.proofs.Voting.{members_are_voted_for}

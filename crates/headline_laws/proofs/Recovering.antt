@@ -22,15 +22,15 @@ use Rattle.shard_laws.specs.OneShard.{Deeds, MayChoose, has_met, place, found_as
 use Rattle.shard_laws.proofs.Choosing.{chosen_stand_before}
 use Rattle.shard_laws.proofs.Leaving.{in_more}
 use Rattle.shard_laws.proofs.Serial.{in_kept}
-use Rattle.session_laws.specs.Places.{transactions_of, StandsBefore}
-use Rattle.session_laws.proofs.Placing.{placed_before}
-use Rattle.session_laws.proofs.Cutting.{cut_above}
+use Rattle.history_laws.specs.Places.{transactions_of, StandsBefore}
+use Rattle.history_laws.proofs.Placing.{placed_before}
+use Rattle.history_laws.proofs.Cutting.{cut_above}
 use Rattle.history_laws.specs.Continuing.{serial_left}
 use Rattle.fate_laws.specs.Members.{is_member}
-use Rattle.origin_laws.proofs.Entries.{IsOld}
-use Rattle.fall_laws.specs.Leading.{deeds_before, with_found, requests_of}
-use Rattle.fall_laws.proofs.Doubted.{ordered_is, asked_are_old}
-use Rattle.fall_laws.proofs.Telling.{deeds_are_told}
+use Rattle.fate_laws.proofs.Entries.{IsOld}
+use Rattle.fate_laws.specs.Leading.{deeds_before, with_found, requests_of}
+use Rattle.fate_laws.proofs.FallDoubted.{ordered_is, asked_are_old}
+use Rattle.fate_laws.proofs.FallTelling.{deeds_are_told}
 use Rattle.headline_laws.specs.ReplayingHere.{IsHere}
 use Rattle.headline_laws.specs.RecoveringHere.{PredecessorsStandBeforeWhereHere}
 use Rattle.headline_laws.proofs.Earlier.{somewhere_at_opening}

@@ -15,15 +15,15 @@ use Rattle.protocol_laws.specs.SessionLaws.{tx_of}
 use Rattle.history_laws.proofs.Staying.{walker_of}
 use Rattle.history_cases.proofs.Worlds.{in_a_shard}
 use Rattle.history_cases.proofs.Merging.{is_among}
-use Rattle.origin_laws.proofs.Sessions.{Requested}
-use Rattle.origin_laws.proofs.Origins.{SomeRequest}
-use Rattle.origin_laws.proofs.Entries.{DidOrOld, IsOld, traced_front}
+use Rattle.fate_laws.proofs.Sessions.{Requested}
+use Rattle.fate_laws.proofs.Origins.{SomeRequest}
+use Rattle.fate_laws.proofs.Entries.{DidOrOld, IsOld, traced_front}
 use Rattle.fate_laws.specs.Decisions.{is_left}
 use Rattle.fate_laws.proofs.Deciding.{left_committed, commits_stand_at_home}
 use Rattle.history_laws.proofs.Passing.{logs_left_pass, left_length}
 use Rattle.headline_laws.proofs.PartsEnded.{parts_there}
-use Rattle.fall_laws.proofs.Ordering.{logs_left_are_in_order}
-use Rattle.fall_laws.proofs.Records.{committed_from}
+use Rattle.fate_laws.proofs.Ordering.{logs_left_are_in_order}
+use Rattle.fate_laws.proofs.Records.{committed_from}
 use Rattle.headline_laws.specs.Reopening.{LogsLeftAgree, LogsLeftMayBeOpened}
 use Rattle.headline_laws.proofs.LogsAgreeing.{HasHome, agree}
 use Rattle.headline_laws.proofs.Left.{InOrder}

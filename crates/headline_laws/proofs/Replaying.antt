@@ -25,19 +25,19 @@ use Rattle.shard_laws.specs.OneShard.{Leads, MayChoose, Passes, ops_by, answers_
 use Rattle.shard_laws.proofs.Changes.{wrote_append}
 use Rattle.shard_laws.proofs.Leaving.{in_more}
 use Rattle.shard_laws.proofs.Splitting.{later_replay}
-use Rattle.session_laws.proofs.Cutting.{cut_above}
+use Rattle.history_laws.proofs.Cutting.{cut_above}
 use Rattle.fate_laws.specs.Members.{is_member}
 use Rattle.fate_laws.proofs.Deciding.{commits_are_members, left_committed}
-use Rattle.origin_laws.proofs.Sessions.{Requested}
-use Rattle.origin_laws.proofs.Origins.{SomeRequest}
-use Rattle.origin_laws.proofs.Entries.{DidOrOld, IsOld, traced_front}
-use Rattle.fall_laws.specs.Falls.{Fell}
-use Rattle.fall_laws.specs.Leading.{deeds_before, with_found, requests_of}
-use Rattle.fall_laws.proofs.Doubted.{items_are_old}
-use Rattle.fall_laws.proofs.Fallen.{fell_is}
-use Rattle.fall_laws.proofs.Leading.{at_front, each_shard_leads}
-use Rattle.fall_laws.proofs.Records.{committed_from}
-use Rattle.fall_laws.proofs.Telling.{deeds_are_told}
+use Rattle.fate_laws.proofs.Sessions.{Requested}
+use Rattle.fate_laws.proofs.Origins.{SomeRequest}
+use Rattle.fate_laws.proofs.Entries.{DidOrOld, IsOld, traced_front}
+use Rattle.fate_laws.specs.Falls.{Fell}
+use Rattle.fate_laws.specs.Leading.{deeds_before, with_found, requests_of}
+use Rattle.fate_laws.proofs.FallDoubted.{items_are_old}
+use Rattle.fate_laws.proofs.Fallen.{fell_is}
+use Rattle.fate_laws.proofs.Leading.{at_front, each_shard_leads}
+use Rattle.fate_laws.proofs.Records.{committed_from}
+use Rattle.fate_laws.proofs.FallTelling.{deeds_are_told}
 use Rattle.headline_laws.specs.Shares.{all_ops, parts_on, share_of, ReplaysTo}
 use Rattle.headline_laws.specs.Parts.{member_ops}
 use Rattle.headline_laws.proofs.Parts.{members_replay_by_parts}

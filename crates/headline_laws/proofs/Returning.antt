@@ -37,17 +37,17 @@ use Rattle.history_cases.proofs.Stepping.{commits, votes, rules, KeptByDue, sett
 use Rattle.history_cases.proofs.Worlds.{state_at}
 use Rattle.history_laws.proofs.Walking.{behind_of}
 use Rattle.history_laws.proofs.Doubts.{doubt_prepared}
-use Rattle.session_laws.proofs.Replying.{OpIs, dies, rolls, performs, reply_is}
-use Rattle.origin_laws.proofs.Sessions.{same_epoch, turn_of}
-use Rattle.origin_laws.proofs.Entries.{DidNow, traced_front}
+use Rattle.history_laws.proofs.Replying.{OpIs, dies, rolls, performs, reply_is}
+use Rattle.fate_laws.proofs.Sessions.{same_epoch, turn_of}
+use Rattle.fate_laws.proofs.Entries.{DidNow, traced_front}
 use Rattle.fate_laws.proofs.Bindings.{asked_not_own}
 use Rattle.fate_laws.proofs.Calm.{Calm, calm_step, calm_finish, calm_self, was_there}
 use Rattle.fate_laws.proofs.Inside.{inside_step}
 use Rattle.fate_laws.proofs.Prefixes.{Next, next_at, each_shard}
 use Rattle.fate_laws.proofs.Prepares.{prepare_more}
 use Rattle.fate_laws.proofs.Standing.{NotOwn}
-use Rattle.fall_laws.proofs.Falling.{Met, WasOut, walk_on, none_held}
-use Rattle.fall_laws.proofs.Falling.{last_front}
+use Rattle.fate_laws.proofs.Falling.{Met, WasOut, walk_on, none_held}
+use Rattle.fate_laws.proofs.Falling.{last_front}
 use Rattle.headline_laws.proofs.Staying.{present_back}
 use Rattle.headline_laws.proofs.Committing.{finish_prefix}
 use Rattle.protocol_laws.proofs.Records.{prepared_there}

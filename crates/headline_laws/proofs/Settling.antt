@@ -37,14 +37,14 @@ use Rattle.shard_laws.proofs.Renewing.{writer_wrote}
 use Rattle.shard_laws.proofs.Settled.{writer_committed}
 use Rattle.history_laws.proofs.Passing.{logs_left_pass, left_length}
 use Rattle.history_laws.proofs.Doubts.{doubt_prepared, doubt_undecided}
-use Rattle.origin_laws.proofs.Sessions.{Requested}
-use Rattle.origin_laws.proofs.Entries.{DidOrOld, IsOld, traced_front}
+use Rattle.fate_laws.proofs.Sessions.{Requested}
+use Rattle.fate_laws.proofs.Entries.{DidOrOld, IsOld, traced_front}
 use Rattle.fate_laws.specs.Decisions.{IsHome, is_left}
 use Rattle.fate_laws.proofs.Deciding.{commits_stand_at_home}
 use Rattle.fate_laws.proofs.Voting.{votes_bind}
-use Rattle.fall_laws.specs.Leading.{deeds_before, with_found}
-use Rattle.fall_laws.proofs.Records.{wrote_from}
-use Rattle.fall_laws.proofs.Settling.{left_whole, quiet_shards_are_their_maps}
+use Rattle.fate_laws.specs.Leading.{deeds_before, with_found}
+use Rattle.fate_laws.proofs.Records.{wrote_from}
+use Rattle.fate_laws.proofs.Settling.{left_whole, quiet_shards_are_their_maps}
 use Rattle.headline_laws.proofs.Going.{aborted_take}
 use Rattle.headline_laws.proofs.Sparing.{yes_voters_never_fell, yes_voters_unaborted}
 use Rattle.headline_laws.proofs.Voting.{members_are_voted_for}
@@ -56,7 +56,7 @@ use Rattle.headline_laws.proofs.Shares.{writer_known, at_somewhere, somewhere_at
 use Rattle.headline_laws.proofs.Earlier.{wrote_at_opening, committed_still, somewhere_at_opening}
 use Rattle.headline_laws.proofs.FoundHere.{still_known}
 use Rattle.headline_laws.proofs.Replaying.{leads, left_is, within, left_run, wrote_last, fell_there}
-use Rattle.fall_laws.proofs.Here.{in_others}
+use Rattle.fate_laws.proofs.Here.{in_others}
 use Rattle.law_base.proofs.Bools.{same_truth as same_test}
 
 -- ---- a part that is here on a quiet shard is committed

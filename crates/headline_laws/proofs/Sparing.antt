@@ -27,10 +27,10 @@ use Rattle.fate_laws.proofs.Binding.{Bound, Reads}
 use Rattle.fate_laws.proofs.Bindings.{FineAt, bindings_front}
 use Rattle.fate_laws.proofs.Casting.{casts_front}
 use Rattle.clv_base.specs.declared.causes.Vote.TheVariants.{Yes}
-use Rattle.fall_laws.specs.Falls.{Fell}
-use Rattle.fall_laws.proofs.Falling.{WasOut, stands_front}
-use Rattle.fall_laws.proofs.Finding.{fell_out, members_never_fell_at_home}
-use Rattle.fall_laws.proofs.Here.{in_others}
+use Rattle.fate_laws.specs.Falls.{Fell}
+use Rattle.fate_laws.proofs.Falling.{WasOut, stands_front}
+use Rattle.fate_laws.proofs.Finding.{fell_out, members_never_fell_at_home}
+use Rattle.fate_laws.proofs.Here.{in_others}
 use Rattle.headline_laws.specs.Unfallen.{PreparedMembersNeverFell, YesVotersNeverFell}
 use Rattle.headline_laws.proofs.Losing.{LostAt, all_lost}
 use Rattle.headline_laws.proofs.StrikingFronts.{struck_front}

@@ -48,11 +48,11 @@ use Rattle.history_cases.proofs.Stepping.{commits, votes, rules, KeptByDue, sett
 use Rattle.history_cases.proofs.Entering.{Makes, by_event, by_flush, by_failure, by_restart, makes}
 use Rattle.history_cases.proofs.Merging.{Placed}
 use Rattle.history_cases.proofs.Worlds.{state_at}
-use Rattle.session_laws.proofs.Replying.{OpIs, dies, rolls, performs, reply_is}
+use Rattle.history_laws.proofs.Replying.{OpIs, dies, rolls, performs, reply_is}
 use Rattle.fate_laws.proofs.Prefixes.{Next, next_at, each_shard}
-use Rattle.cause_laws.proofs.Starting.{IsCalm}
-use Rattle.cause_laws.proofs.Within.{RuledBy, commit, acknowledge, abort, end, ruled_by, opposed}
-use Rattle.cause_laws.proofs.Fronts.{caused_front}
+use Rattle.fate_laws.proofs.Starting.{IsCalm}
+use Rattle.fate_laws.proofs.Within.{RuledBy, commit, acknowledge, abort, end, ruled_by, opposed}
+use Rattle.fate_laws.proofs.Fronts.{caused_front}
 
 -- its part was gone by an abort, or here
 abbrev pub WasHere : Shard → TxId → Type 0

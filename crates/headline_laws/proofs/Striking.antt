@@ -45,7 +45,7 @@ use Rattle.law_base.proofs.Stages.{absent_go, own_go}
 use Rattle.law_base.proofs.Stages.{stage_marked}
 use Rattle.shard_laws.proofs.Rebuilding.{loser_out}
 use Rattle.shard_laws.proofs.Restoring.{restored_none}
-use Rattle.session_laws.proofs.Replying.{OpIs, dies, rolls, performs, reply_is}
+use Rattle.history_laws.proofs.Replying.{OpIs, dies, rolls, performs, reply_is}
 use Rattle.fate_laws.proofs.Homes.{still_not, new_commit}
 use Rattle.fate_laws.proofs.HomesEvents.{awaits}
 use Rattle.fate_laws.proofs.Arriving.{taken_closed}
@@ -53,8 +53,8 @@ use Rattle.fate_laws.proofs.Parts.{commit_agreed}
 use Rattle.fate_laws.proofs.Downwards.{Down, Owes as OwesDown}
 use Rattle.fate_laws.proofs.Dooming.{Kept, doomed_open, agreed_waits, refused_open, kept_due}
 use Rattle.fate_laws.proofs.DoomingEvents.{Owes, kept_step}
-use Rattle.fall_laws.proofs.Barred.{Absent}
-use Rattle.fall_laws.proofs.BarredStep.{performed_other}
+use Rattle.fate_laws.proofs.Barred.{Absent}
+use Rattle.fate_laws.proofs.BarredStep.{performed_other}
 use Rattle.headline_laws.proofs.Going.{aborted_take}
 use Rattle.history_laws.proofs.Doubts.{doubt_undecided}
 use Rattle.clv_base.proofs.Folding.{or_left as or_false_left}

@@ -18,14 +18,14 @@ use Rattle.history_cases.proofs.Entering.{makes}
 use Rattle.history_cases.proofs.Merging.{Placed}
 use Rattle.history_cases.proofs.Worlds.{state_at}
 use Rattle.shard_laws.proofs.Listing.{order_of}
-use Rattle.origin_laws.proofs.Origins.{AllFrom}
-use Rattle.origin_laws.proofs.Entries.{DidOrOld}
+use Rattle.fate_laws.proofs.Origins.{AllFrom}
+use Rattle.fate_laws.proofs.Entries.{DidOrOld}
 use Rattle.fate_laws.proofs.Prefixes.{each_shard}
 use Rattle.fate_laws.proofs.Downwards.{owed as owed_down}
 use Rattle.fate_laws.proofs.Sparing.{owed as owed_kept}
-use Rattle.fall_laws.proofs.Falling.{Met, At, entry_at, Stands, stands_front, no_return, walk_on}
+use Rattle.fate_laws.proofs.Falling.{Met, At, entry_at, Stands, stands_front, no_return, walk_on}
 use Rattle.headline_laws.proofs.Striking.{Struck, NoAnswer, struck_opened, struck_made}
-use Rattle.origin_laws.proofs.Opening.{found_follows as log_follows}
+use Rattle.fate_laws.proofs.OriginOpening.{found_follows as log_follows}
 
 -- whose ABORT stands in a log did an operation there, or is of an earlier run
 aborts_from : (A : TxId → Type 0) (Q : TxId → ℕ → Type 0) (O : TxId → Type 0) (n : ℕ) (rs : List LogRecord) (t : TxId) → AllFrom A Q O n rs → aborted_in rs t ≡ true → A t

@@ -11,11 +11,11 @@ use Rattle.clv_base.specs.Restarts.{run_after, log_left}
 use Rattle.clv_base.specs.Journals.{History, final_of}
 use Rattle.clv_base.specs.History.{Legal, logs_left}
 use Rattle.shard_laws.proofs.Doubting.{prepared_cut}
-use Rattle.origin_laws.proofs.Sessions.{Requested}
-use Rattle.origin_laws.proofs.Entries.{DidOrOld, IsOld, traced_front}
+use Rattle.fate_laws.proofs.Sessions.{Requested}
+use Rattle.fate_laws.proofs.Entries.{DidOrOld, IsOld, traced_front}
 use Rattle.fate_laws.proofs.Deciding.{commits_stand_at_home}
-use Rattle.fall_laws.specs.Falls.{Fell}
-use Rattle.fall_laws.proofs.Records.{prepared_from}
+use Rattle.fate_laws.specs.Falls.{Fell}
+use Rattle.fate_laws.proofs.Records.{prepared_from}
 use Rattle.headline_laws.proofs.Naming.{names_shard}
 use Rattle.headline_laws.proofs.Sparing.{prepared_members_never_fell}
 use Rattle.history_laws.proofs.Doubts.{doubt_prepared}

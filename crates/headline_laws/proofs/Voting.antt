@@ -32,7 +32,7 @@ use Rattle.fate_laws.proofs.Bindings.{WasTaken, Sought, Bindings, once, sought_l
 use Rattle.fate_laws.proofs.Deciding.{left_committed}
 use Rattle.history_cases.proofs.Merging.{among_left, among_is}
 use Rattle.clv_base.specs.Coordinator.{is_good}
-use Rattle.fall_laws.proofs.Falling.{walk_on}
+use Rattle.fate_laws.proofs.Falling.{walk_on}
 use Rattle.fate_laws.proofs.Prefixes.{next_at}
 use Rattle.std.proofs.Common.{append-nil, append_assoc}
 use Rattle.headline_laws.specs.Voted.{MembersAreVotedFor}

@@ -18,7 +18,7 @@ use Rattle.clv_base.specs.Journals.{History, final_of}
 use Rattle.clv_base.specs.History.{Legal, IsAmong, is_acknowledgement, acknowledged_in}
 use Rattle.fate_laws.specs.Decisions.{IsHome, is_left}
 use Rattle.fate_laws.specs.Members.{is_member}
-use Rattle.fall_laws.specs.Falls.{Fell}
+use Rattle.fate_laws.specs.Falls.{Fell}
 
 -- the shard sent a vote of read on the transaction
 abbrev pub VotedRead : History → TxId → ℕ → Type 0

@@ -12,7 +12,7 @@ use Rattle.clv_base.specs.Restarts.{run_after}
 use Rattle.clv_base.specs.Journals.{History}
 use Rattle.clv_base.specs.History.{Legal, IsAmong}
 use Rattle.fate_laws.specs.Decisions.{is_left}
-use Rattle.fall_laws.specs.Falls.{Fell}
+use Rattle.fate_laws.specs.Falls.{Fell}
 
 -- where a shard voted read on a transaction, its part there never fell, before the vote or after it
 abbrev pub ReadersNeverFell : Type 0

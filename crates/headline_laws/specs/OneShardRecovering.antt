@@ -7,7 +7,7 @@ use Rattle.clv_base.specs.FileRules.{may_open}
 use Rattle.clv_base.specs.Journals.{History}
 use Rattle.clv_base.specs.History.{Legal}
 use Rattle.history_laws.specs.Continuing.{serial_left}
-use Rattle.session_laws.specs.Places.{transactions_of, StandsBefore, predecessors_on}
+use Rattle.history_laws.specs.Places.{transactions_of, StandsBefore, predecessors_on}
 
 -- each predecessor of a member is a member too, at an earlier place
 abbrev pub PredecessorsStandBefore : Type 0

@@ -15,10 +15,10 @@ use Rattle.clv_base.specs.History.{Legal, IsSettled, CauseStands, Waits, logs_le
 use Rattle.history_laws.specs.Continuing.{IsSublistOf, GoesOn, serial_now, serial_left}
 use Rattle.history_laws.specs.Ordering.{AreInSessionOrder}
 use Rattle.history_laws.specs.Outcomes.{aborted_in_history}
-use Rattle.session_laws.specs.Places.{transactions_of, StandsBefore, predecessors_on}
+use Rattle.history_laws.specs.Places.{transactions_of, StandsBefore, predecessors_on}
 use Rattle.fate_laws.specs.Members.{is_member}
-use Rattle.cause_laws.specs.Causes.{TellsCause, IsOfAnother}
-use Rattle.origin_laws.specs.Waiting.{WithoutRequest, WithRequest, WaitsThrough, birth_waiting}
+use Rattle.fate_laws.specs.Causes.{TellsCause, IsOfAnother}
+use Rattle.fate_laws.specs.Waiting.{WithoutRequest, WithRequest, WaitsThrough, birth_waiting}
 use Rattle.headline_laws.specs.SettlingHere.{live_pairs_of_all}
 
 -- what a legal history h over these splits promises, from the logs found to the logs at the end, where a crash keeps what the choice says of what is in

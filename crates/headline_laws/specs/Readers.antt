@@ -13,7 +13,7 @@ use Rattle.clv_base.specs.FileRules.{may_open}
 use Rattle.clv_base.specs.Journals.{History}
 use Rattle.clv_base.specs.History.{Legal, IsAmong}
 use Rattle.fate_laws.specs.Decisions.{is_left}
-use Rattle.fall_laws.specs.Falls.{Fell}
+use Rattle.fate_laws.specs.Falls.{Fell}
 
 -- where a COMMIT of a transaction is left on any shard, and its part on a shard that its request names fell there, that shard voted read on it
 abbrev pub OnlyReadersMayFall : Type 0

@@ -10,7 +10,7 @@ use Rattle.clv_base.specs.FileRules.{may_open}
 use Rattle.clv_base.specs.Journals.{History}
 use Rattle.clv_base.specs.History.{Legal}
 use Rattle.history_laws.specs.Continuing.{serial_left}
-use Rattle.session_laws.specs.Places.{transactions_of, StandsBefore, predecessors_on}
+use Rattle.history_laws.specs.Places.{transactions_of, StandsBefore, predecessors_on}
 use Rattle.fate_laws.specs.Members.{is_member}
 use Rattle.headline_laws.specs.ReplayingHere.{IsHere}
 

@@ -14,7 +14,7 @@ use Rattle.clv_base.specs.History.{Legal, logs_left, serial_ops, serial_answers}
 use Rattle.history_laws.specs.Continuing.{serial_left}
 use Rattle.fate_laws.specs.Members.{is_member}
 use Rattle.shard_laws.specs.OneShard.{Passes, map_found}
-use Rattle.fall_laws.specs.Leading.{deeds_before}
+use Rattle.fate_laws.specs.Leading.{deeds_before}
 use Rattle.headline_laws.specs.Shares.{share_of}
 
 -- ---- what a log has of the map

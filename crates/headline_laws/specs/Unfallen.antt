@@ -16,7 +16,7 @@ use Rattle.clv_base.specs.Journals.{History}
 use Rattle.clv_base.specs.History.{Legal, IsAmong, state_before}
 use Rattle.fate_laws.specs.Decisions.{is_left}
 use Rattle.fate_laws.specs.Earlier.{IsEarlier, WasCommitted}
-use Rattle.fall_laws.specs.Falls.{Fell}
+use Rattle.fate_laws.specs.Falls.{Fell}
 
 -- where a COMMIT of a transaction is left on any shard, its part on a shard that its request names never fell there, where its PREPARE is in
 -- the log

@@ -4,7 +4,7 @@
 //! opened again. `promise` gathers all laws over all histories in one record.
 //!
 //! Each law is the clause of a function with an empty body; the statements stand in specs/. An operation meets keys of one shard alone,
-//! so members whose parts replay on each shard replay; by `fall_laws` the laws of one shard hold of each; and a member is here on each
+//! so members whose parts replay on each shard replay; by `fate_laws` the laws of one shard hold of each; and a member is here on each
 //! shard, as it voted yes there, or read, or was never there.
 #![tactic(auto)]
 

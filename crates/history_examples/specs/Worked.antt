@@ -20,7 +20,7 @@ use Rattle.history_laws.specs.Continuing.{GoesOn, serial_now, serial_left}
 use Rattle.history_laws.specs.Outcomes.{aborted_in_history}
 use Rattle.clv_base.specs.declared.names.TxId.{TxId}
 use Rattle.clv_base.specs.declared.names.Birth.{Birth}
-use Rattle.session_laws.specs.Places.{predecessors_on}
+use Rattle.history_laws.specs.Places.{predecessors_on}
 
 -- a disk that was made and never used: one shard, whose log has no record
 abbrev pub new_log : List (List LogRecord)

@@ -13,4 +13,13 @@ pub mod Passing
 pub mod Found
 pub mod Doubts
 pub mod Rows
+pub mod SessionWalking
+pub mod Naming
+pub mod Dropping
+pub mod Replying
+pub mod Looking
+pub mod Adding
+pub mod Placing
+pub mod Cutting
+pub mod Turns
 pub mod Laws

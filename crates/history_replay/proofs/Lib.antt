@@ -1,1 +1,3 @@
 pub mod Merging
+pub mod Trees
+mod Telling

@@ -1,4 +1,6 @@
 pub mod Entries
-pub mod Laws
 pub mod Transactions
 pub mod Located
+pub mod Replayed
+pub mod Tables
+pub mod Laws

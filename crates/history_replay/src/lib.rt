@@ -1,21 +1,32 @@
-//! Serial runs over a map, what a set of logs stands for, and the history that the shards' journals make.
+//! Maps from keys to values, serial runs over them, what a set of logs stands for, and the history that the shards' journals make.
 //!
-//! `replay` gives each transaction the answers that it has when all run one after another, and the last map; `stands` gives the map of
-//! the committed transactions' updates. Both are exactly the definitions of `clv_base`. It stands on these and on the maps of `key_map`.
+//! `KeyMap` is a list of pairs with rising keys, as the definitions see it, in a map of std. `replay` gives each transaction the answers that it
+//! has when all run one after another, and the last map; `stands` gives the map of the committed transactions' updates; `replayed` runs the
+//! acknowledged ones of a history in the order of their requests, from the map that the logs found stand for. It stands on `clv_base`.
 #![tactic(auto)]
 
+#[cfg(test)]
+mod acknowledged_tests;
 mod all_entries;
 mod history;
 mod laws;
+mod map;
+#[cfg(test)]
+mod map_tests;
+mod replaying;
 mod replays;
 mod standing;
+mod tables;
 #[cfg(test)]
 mod tests;
+mod told;
 mod transactions;
 
 pub use all_entries::entries;
 pub use history::History;
 pub use laws::{one_journal, one_shard};
+pub use map::KeyMap;
+pub use replaying::replayed;
 pub use replays::replay;
 pub use standing::stands;
 

@@ -3,9 +3,8 @@
 ghost use Rattle.std.specs.Prelude.{◌≡◌, map, IfOk, OnOk};
 ghost use Rattle.clv_base.specs.Maps.{ops_answers, ops_after, replay_answers, replay_map};
 
-use crate::Memory;
+use crate::{KeyMap, Memory};
 use clv_base::ops::{Answer, Op};
-use key_map::KeyMap;
 use std::alloc::Global;
 
 // Does the operations of one transaction.

@@ -1,12 +1,11 @@
 // The calls, with memory at hand. Expected values are worked out by hand.
 
-use crate::{History, entries, replay, stands};
+use crate::{History, KeyMap, entries, replay, stands};
 use clv_base::events::{Entry, Event, Outcome};
 use clv_base::logs::LogRecord;
 use clv_base::names::TxId;
 use clv_base::ops::{Answer, Op};
 use clv_base::parts::ShardList;
-use key_map::KeyMap;
 use std::alloc::{AllocError, Global};
 use std::snapshot::Snapshot;
 use std::test::Fail;

@@ -15,9 +15,9 @@ use Rattle.journal_laws.specs.Worlds.{Steady, empty_logs}
 use Rattle.interleaving_core.specs.Listed.{Listed}
 use Rattle.machine_calls.specs.Events.{sends_fit}
 use Rattle.interleaving_core.specs.declared.seat.Seat.{Seat}
-use Rattle.world_laws.specs.Moves.{Moves}
-use Rattle.world_laws.specs.Running.{run_step, is_offered}
-use Rattle.world_laws.proofs.Laws.{empty_run, refused_step, rival_step, idle_step, no_shard, taken_step, steady_step, put_tests, stands}
+use Rattle.crash_laws.specs.Moves.{Moves}
+use Rattle.crash_laws.specs.Running.{run_step, is_offered}
+use Rattle.crash_laws.proofs.Laws.{empty_run, refused_step, rival_step, idle_step, no_shard, taken_step, steady_step, put_tests, stands}
 use Rattle.interleaving_core.specs.Making.{MakesEntry}
 use Rattle.interleaving_core.specs.Sound.{shards_of, world_by, IsSeat, AreSound}
 

@@ -11,7 +11,7 @@ use Rattle.journal_laws.specs.Worlds.{Steady, empty_logs}
 use Rattle.interleaving_core.specs.Listed.{Listed}
 use Rattle.machine_calls.specs.Events.{sends_fit}
 use Rattle.interleaving_core.specs.declared.seat.Seat.{Seat}
-use Rattle.world_laws.proofs.Laws.{new_steady}
+use Rattle.crash_laws.proofs.Laws.{new_steady}
 use Rattle.interleaving_core.specs.Sound.{shards_of, world_by, IsSeat, AreSound}
 
 module _ {M : Type 0} (shard : M → Shard) (gate : M → Option Listed) where

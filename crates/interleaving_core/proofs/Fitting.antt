@@ -9,7 +9,7 @@ use Rattle.clv_base.specs.declared.events.Entry.{Entry}
 use Rattle.clv_base.specs.Journals.{History}
 use Rattle.clv_base.specs.History.{IsAmong}
 use Rattle.clv_base.specs.Runs.{was_sent}
-use Rattle.world_laws.proofs.Laws.{was_sent_before}
+use Rattle.crash_laws.proofs.Laws.{was_sent_before}
 use Rattle.machine_calls.specs.Events.{message_fits, event_fits, sends_fit}
 use Rattle.interleaving_core.specs.Naming.{names_fit}
 use Rattle.interleaving_core.specs.Sound.{AllFit}

@@ -21,12 +21,12 @@ use Rattle.machine_calls.specs.declared.machine.StepError.{StepError}
 use Rattle.machine_calls.specs.declared.flights.Flight.{Flight}
 use Rattle.machine_calls.specs.Flights.{Leaves, flying, is_out}
 use Rattle.machine_calls.specs.Steps.{Tells}
-use Rattle.world_laws.specs.Fronts.{FrontsFit}
-use Rattle.world_laws.specs.Moves.{is_idle}
+use Rattle.crash_laws.specs.Fronts.{FrontsFit}
+use Rattle.crash_laws.specs.Moves.{is_idle}
 use Rattle.interleaving_core.specs.declared.seat.Air.{Air}
 use Rattle.interleaving_core.specs.declared.seat.Air.TheVariants.{Home, Away, Lost}
 use Rattle.interleaving_core.specs.Seated.{HasLog, IsInFlight, IsHome, IsAway, IsLost, IsSeated}
-use Rattle.world_laws.proofs.Laws.{Framed, framed_finish, grows_settled, same_outcome, same_after, take_grown}
+use Rattle.crash_laws.proofs.Laws.{Framed, framed_finish, grows_settled, same_outcome, same_after, take_grown}
 use Rattle.law_base.proofs.Logs.{spelled_append as all_spelled}
 use Rattle.law_base.proofs.Shards.{same_out, up_or_down}
 

@@ -7,8 +7,8 @@ use Rattle.clv_base.specs.State.{Shard}
 use Rattle.clv_base.specs.Restarts.{log_left}
 use Rattle.interleaving_core.specs.Listed.{Listed}
 use Rattle.machine_calls.specs.Events.{is_stepped}
-use Rattle.world_laws.specs.Fronts.{FrontsFit}
-use Rattle.world_laws.proofs.Laws.{Keeps, Stepped, left_same}
+use Rattle.crash_laws.specs.Fronts.{FrontsFit}
+use Rattle.crash_laws.proofs.Laws.{Keeps, Stepped, left_same}
 use Rattle.interleaving_core.specs.declared.seat.Air.{Air}
 use Rattle.interleaving_core.specs.declared.seat.Air.TheVariants.{Home, Away, Lost}
 use Rattle.interleaving_core.specs.Seated.{HasLog, IsInFlight, IsSeated}

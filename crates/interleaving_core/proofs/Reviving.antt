@@ -19,7 +19,7 @@ use Rattle.machine_calls.specs.Events.{sends_fit}
 use Rattle.machine_calls.specs.Steps.{Tells}
 use Rattle.machine_calls.specs.Restored.{revives}
 use Rattle.interleaving_core.specs.Seated.{IsHome}
-use Rattle.world_laws.proofs.Laws.{misfit_is_exact, same_after, same_outcome}
+use Rattle.crash_laws.proofs.Laws.{misfit_is_exact, same_after, same_outcome}
 
 pub no_misfit : (s : Shard) (found : List LogRecord) (kept : Bool) (epoch : ℕ) → found ≡ log_left s kept → epoch ≡ next_epoch s found → misfit s (log_after_restart s.shard found s.run epoch) epoch ≡ None
 no_misfit s found kept epoch e n =

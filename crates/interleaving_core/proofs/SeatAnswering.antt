@@ -8,7 +8,7 @@ use Rattle.clv_base.specs.Events.{CallAnswer, Enters}
 use Rattle.machine_calls.specs.declared.machine.StepError.{StepError}
 use Rattle.machine_calls.specs.declared.machine.StepError.TheVariants.{Worn as IsWorn}
 use Rattle.machine_calls.specs.Steps.{Tells}
-use Rattle.world_laws.specs.Moves.{is_idle}
+use Rattle.crash_laws.specs.Moves.{is_idle}
 
 same_ok : {p q : Outcome} → ◌≡◌ {A = Result Outcome StepError} (Ok p) (Ok q) → p ≡ q
 same_ok e = cc

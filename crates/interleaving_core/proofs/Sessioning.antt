@@ -7,7 +7,7 @@ use Rattle.clv_base.specs.Sessions.{SessionState, session_after, is_session, is_
 use Rattle.journal_laws.specs.Offers.{hoped_for, may_make}
 use Rattle.cluster_turns.specs.States.{session_of}
 use Rattle.cluster_turns.proofs.Laws.{sessions_have_states, states_tell_may_make, states_bear_walkers}
-use Rattle.world_laws.specs.Running.{session_may}
+use Rattle.crash_laws.specs.Running.{session_may}
 use Rattle.law_base.proofs.Options.{some_of}
 
 -- its state

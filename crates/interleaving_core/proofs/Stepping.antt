@@ -6,7 +6,7 @@ use Rattle.std.proofs.lemmas.List.{drop_all}
 use Rattle.clv_base.specs.declared.events.CoreStep.{CoreStep}
 use Rattle.clv_base.specs.Core.{World}
 use Rattle.clv_base.specs.Runs.{run_from}
-use Rattle.world_laws.specs.Running.{run_step}
+use Rattle.crash_laws.specs.Running.{run_step}
 
 -- what holds of a call that succeeded
 pub when_ok : {A E : Type 0} (r : Result A E) (P : Type 0) → false ≡ is_err r → OnOk r P → P

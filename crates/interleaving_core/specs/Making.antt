@@ -6,7 +6,7 @@ use Rattle.clv_base.specs.State.{Shard}
 use Rattle.clv_base.specs.Events.{CallAnswer}
 use Rattle.clv_base.specs.Core.{entry_of}
 use Rattle.machine_calls.specs.Events.{sends_fit}
-use Rattle.world_laws.specs.Moves.{Moves}
+use Rattle.crash_laws.specs.Moves.{Moves}
 
 -- from s to t, where this is the definitions' answer: its entry, or none
 abbrev pub MakesEntry : CallAnswer → CoreStep → Shard → Option Entry → Shard → Type 0

@@ -3,8 +3,8 @@ ghost use Rattle.std.specs.Prelude.{◌≡◌, ◌<◌, ◌+◌, ◌^◌, true, 
 ghost use Rattle.clv_base.specs.declared.events.Event.TheVariants.{FlushOut};
 ghost use Rattle.clv_base.specs.Events.{step as step_of, land as land_of};
 ghost use Rattle.machine_calls.specs.Events.{sends_fit};
-ghost use Rattle.world_laws.specs.Moves.{Moves};
-ghost use Rattle.world_laws.specs.Fronts.{FrontsFit, LandsBy};
+ghost use Rattle.crash_laws.specs.Moves.{Moves};
+ghost use Rattle.crash_laws.specs.Fronts.{FrontsFit, LandsBy};
 ghost use Rattle.interleaving_core.specs.Seated.{IsSeated, IsAway};
 ghost use Rattle.interleaving_core.specs.declared.seat.Air.TheVariants.{Home, Lost};
 

@@ -1,7 +1,7 @@
 // The gate.
 ghost use Rattle.std.specs.Prelude.{◌≡◌, ◌≤◌, ◌++◌, List, [], true, false, Some, Err, OnOk, OnErr, IsErrOf};
 ghost use Rattle.clv_base.specs.declared.logs.LogRecord.{LogRecord as RecordIs};
-ghost use Rattle.disk_model.specs.Disk.{Rose};
+ghost use Rattle.io_model.specs.Disk.{Rose};
 ghost use Rattle.log_gate.specs.Image.{SpellAll, IsBatch};
 ghost use Rattle.log_gate.specs.Errors.{Counts};
 

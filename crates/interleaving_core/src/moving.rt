@@ -6,8 +6,8 @@ ghost use Rattle.clv_base.specs.LogRules.{disorder};
 ghost use Rattle.clv_base.specs.Restarts.{log_left};
 ghost use Rattle.machine_calls.specs.Events.{event_fits, is_stepped, sends_fit};
 ghost use Rattle.interleaving_core.specs.Seated.{IsSeated};
-ghost use Rattle.world_laws.specs.Fronts.{FrontsFit, LandsBy};
-ghost use Rattle.world_laws.specs.Moves.{Moves};
+ghost use Rattle.crash_laws.specs.Fronts.{FrontsFit, LandsBy};
+ghost use Rattle.crash_laws.specs.Moves.{Moves};
 ghost use Rattle.interleaving_core.specs.Making.{MakesEntry};
 
 use crate::{ListGate, Seat, flush_in, flush_out, restart, step};

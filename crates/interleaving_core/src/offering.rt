@@ -6,7 +6,7 @@ ghost use Rattle.clv_base.specs.Runs.{was_sent as was_sent_in};
 ghost use Rattle.clv_base.specs.Sessions.{is_session, is_of_session as of_session, is_session_number as number_of};
 ghost use Rattle.machine_calls.specs.Events.{event_fits};
 ghost use Rattle.interleaving_core.specs.Naming.{names_fit};
-ghost use Rattle.world_laws.specs.Running.{session_may as session_may_in, is_offered as offered};
+ghost use Rattle.crash_laws.specs.Running.{session_may as session_may_in, is_offered as offered};
 ghost use Rattle.interleaving_core.specs.Sound.{AllFit};
 
 use crate::{session_of, was_sent};

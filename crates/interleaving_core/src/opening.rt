@@ -5,9 +5,9 @@ ghost use Rattle.interleaving_core.specs.Seated.{IsSeated};
 
 use crate::ListGate;
 use crate::seat::{Air, Seat};
-use gate_recovery::recover;
 use machine_calls::{Machine, Maker};
 use ordered_store::Store;
+use shard_recovery::recover;
 use std::alloc::{AllocError, Global};
 
 /// The shard as it opens an empty log in run 1. An `Err` is want of memory.

@@ -9,7 +9,7 @@ ghost use Rattle.clv_base.specs.FileRules.{has_spelling};
 ghost use Rattle.clv_base.specs.LogRules.{disorder};
 ghost use Rattle.clv_base.specs.Restarts.{greatest_epoch, log_left, next_epoch, revive};
 ghost use Rattle.machine_calls.specs.Events.{sends_fit};
-ghost use Rattle.world_laws.specs.Moves.{Moves};
+ghost use Rattle.crash_laws.specs.Moves.{Moves};
 ghost use Rattle.interleaving_core.specs.Seated.{IsSeated, HasLog};
 ghost use Rattle.interleaving_core.specs.declared.seat.Air.TheVariants.{Home};
 
@@ -17,10 +17,9 @@ use crate::ListGate;
 use crate::seat::{Air, Seat};
 use clv_base::events::Outcome;
 use clv_base::logs::LogRecord;
-use gate_recovery::recover;
 use machine_calls::{Flight, Machine, Restarter};
 use ordered_store::Store;
-use restart_misfit::copy_log;
+use shard_recovery::{copy_log, recover};
 use std::alloc::{AllocError, Global};
 use std::mem::replace;
 

@@ -7,7 +7,7 @@ ghost use Rattle.clv_base.specs.Shards.{shard_count, are_splits};
 ghost use Rattle.journal_laws.specs.Worlds.{empty_logs, logs_now};
 ghost use Rattle.headline_laws.specs.Promise.{Promised};
 ghost use Rattle.clv_base.specs.Runs.{run_events as world_after};
-ghost use Rattle.world_laws.specs.Running.{run_step};
+ghost use Rattle.crash_laws.specs.Running.{run_step};
 ghost use Rattle.interleaving_core.specs.Sound.{as_world, IsSeat, IsSound};
 
 use crate::moving::{has_rival, make_entry};
@@ -17,10 +17,10 @@ use crate::world::World;
 use crate::{ListGate, Seat, clock_of, open};
 use clv_base::events::CoreStep;
 use clv_base::splits::Splits;
+use crash_laws::run_worlds::{logs_stay_in_order, worlds_keep_promise};
 use journal_laws::statements::run_events_is_legal;
 use machine_calls::{Flier, Machine, Maker, Restarter};
 use std::alloc::{AllocError, Global};
-use world_laws::promise::{logs_stay_in_order, worlds_keep_promise};
 
 // All shards as they open empty logs. An `Err` is want of memory.
 fn begin<M: Maker + Machine<Gate = ListGate>>(

@@ -3,8 +3,8 @@ ghost use Rattle.std.specs.Prelude.{◌≡◌, true, IfOk, IfSome};
 ghost use Rattle.clv_base.specs.Events.{step as step_of};
 ghost use Rattle.clv_base.specs.Journals.{has_no_equal_active_birth};
 ghost use Rattle.machine_calls.specs.Events.{is_stepped, event_fits, sends_fit};
-ghost use Rattle.world_laws.specs.Moves.{Moves};
-ghost use Rattle.world_laws.specs.Fronts.{FrontsFit};
+ghost use Rattle.crash_laws.specs.Moves.{Moves};
+ghost use Rattle.crash_laws.specs.Fronts.{FrontsFit};
 ghost use Rattle.interleaving_core.specs.Seated.{IsSeated};
 
 use crate::ListGate;

@@ -8,7 +8,7 @@ ghost use Rattle.lock_index.specs.Writes.{take_here, leave as without};
 
 use clv_base::modes::{Holder, Part};
 use clv_base::names::TxId;
-use range_modes::join;
+use lock_table::join;
 
 /// Whether a holder holds the gap.
 pub(crate) fn is_gap_held(holder: &Holder) -> bool

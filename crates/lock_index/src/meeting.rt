@@ -11,8 +11,7 @@ use crate::key::Key;
 use clv_base::modes::{Anchor, Decision, Holder, Mode, Need};
 use clv_base::names::{Birth, TxId};
 use indexmap::IndexMap;
-use lock_table::Memory;
-use range_modes::{compatible, writes};
+use lock_table::{Memory, compatible, writes};
 use std::alloc::Global;
 use std::cmp::Ordering;
 

@@ -8,9 +8,9 @@ ghost use Rattle.clv_base.specs.Orders.{tx_cmp, tx_insert};
 
 use crate::locks::Memory;
 use crate::rows::Row;
+use crate::{compatible, writes};
 use clv_base::modes::{Decision, Holder, Need};
 use clv_base::names::{Birth, TxId};
-use range_modes::{compatible, writes};
 use std::alloc::Global;
 
 /// Whether a row doesn't fit some need on its anchor.

@@ -3,9 +3,9 @@ ghost use Rattle.std.specs.Prelude.{◌≡◌, ◌≤◌, ◌<◌, ◌+◌, leng
 ghost use Rattle.std.specs.Ordering.{is_gt};
 ghost use Rattle.clv_base.specs.Locks.{row_cmp, take_one as with_lock, take_all as with_locks};
 
+use crate::join;
 use clv_base::modes::{Anchor, Holder, Need};
 use clv_base::names::{Birth, TxId};
-use range_modes::join;
 use std::cmp::Ordering;
 
 /// An anchor, and who holds what on it.

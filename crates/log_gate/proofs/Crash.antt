@@ -2,9 +2,9 @@
 use Rattle.std.proofs.Common.{◌≡◌, ◌≢◌, inl, inr, ℕ, ◌+◌, List, [], ◌∷◌, ◌++◌, length, get_or, drop, Result, Ok, Err, refl, sym, ◌∙◌, ap, subst, arith, length-append}
 use Rattle.std.specs.List.{AllByRecursion}
 use Rattle.std.proofs.lemmas.Bool.{cases_eq}
-use Rattle.disk_model.specs.Story.{Story, Write, Sync, Write_failed, Sync_failed, put, reads, IsImage, IsTorn}
-use Rattle.disk_model.specs.Crash.{AtEachMoment}
-use Rattle.disk_model.proofs.Laws.Moments.{moments_start, moments_call}
+use Rattle.io_model.specs.Story.{Story, Write, Sync, Write_failed, Sync_failed, put, reads, IsImage, IsTorn}
+use Rattle.io_model.specs.Crash.{AtEachMoment}
+use Rattle.io_model.proofs.Laws.Moments.{moments_start, moments_call}
 use Rattle.log_gate.specs.Payloads.{IsPayload, batch, opened}
 use Rattle.log_gate.specs.Gate.{Stands, StandsOrMore, EachNow, IsSettled}
 use Rattle.log_gate.specs.Push.{staged, written, opening, pushed, Pushes}

@@ -1,8 +1,8 @@
 -- After a push that was made.
 use Rattle.std.proofs.Common.{◌≡◌, ℕ, ◌+◌, ◌<◌, ◌^◌, List, [], ◌∷◌, ◌++◌, length, Option, Some, None, IfSome, sym, ◌∙◌, ap, subst}
 use Rattle.clv_base.specs.declared.logs.LogRecord.{LogRecord}
-use Rattle.disk_model.specs.Story.{Story}
-use Rattle.disk_model.specs.Disk.{Tells}
+use Rattle.io_model.specs.Story.{Story}
+use Rattle.io_model.specs.Disk.{Tells}
 use Rattle.log_gate.specs.Payloads.{IsPayload, batch}
 use Rattle.log_gate.specs.Image.{SpellAll, HasLog}
 use Rattle.log_gate.specs.Gate.{EachNow}

@@ -1,10 +1,10 @@
 -- What a gate stands for, by its logs.
 use Rattle.std.proofs.Common.{◌≡◌, ◌⊎◌, inl, inr, ℕ, List, ◌++◌, Option, Some, None, IfSome, refl, sym, ◌∙◌, subst}
 use Rattle.clv_base.specs.declared.logs.LogRecord.{LogRecord}
-use Rattle.disk_model.specs.Story.{Story, reads, IsImage}
-use Rattle.disk_model.specs.Disk.{Tells}
-use Rattle.disk_model.specs.Crash.{AtEachMoment}
-use Rattle.disk_model.proofs.Laws.Moments.{moments_now}
+use Rattle.io_model.specs.Story.{Story, reads, IsImage}
+use Rattle.io_model.specs.Disk.{Tells}
+use Rattle.io_model.specs.Crash.{AtEachMoment}
+use Rattle.io_model.proofs.Laws.Moments.{moments_now}
 use Rattle.log_gate.specs.Image.{log_of, records_of, HasLog, HasLogOrMore}
 use Rattle.log_gate.specs.Gate.{EachNow}
 use Rattle.log_gate.specs.View.{View, IsLogOf, logs_told, logs_of, Only, OnlyOrMore}

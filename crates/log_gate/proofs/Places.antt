@@ -1,7 +1,7 @@
 -- A list of bytes with one byte at a place, and what a torn write behind it or over it leaves.
 use Rattle.std.proofs.Common.{◌≡◌, ℕ, ◌+◌, min, List, [], ◌∷◌, ◌++◌, length, get_or, take, drop, sym, ◌∙◌, ap, arith, append_assoc, length-append, take-append-drop}
 use Rattle.std.proofs.lemmas.List.{take_at, drop_at, drop_more, drop-drop}
-use Rattle.disk_model.specs.Story.{IsTorn, put}
+use Rattle.io_model.specs.Story.{IsTorn, put}
 
 module _ (front : List ℕ) (gate : ℕ) (rest : List ℕ) (at : ℕ) (size : at ≡ length front) where
   abbrev whole : List ℕ

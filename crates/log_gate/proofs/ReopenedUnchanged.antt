@@ -1,9 +1,9 @@
 -- A disk that wasn't changed has no log that it hadn't.
 use Rattle.std.proofs.Common.{◌≡◌, inl, inr, ⊎_elim, ℕ, List, Option, Some, None, ◌∙◌, subst}
 use Rattle.clv_base.specs.declared.logs.LogRecord.{LogRecord}
-use Rattle.disk_model.specs.Story.{Story, reads, IsImage}
-use Rattle.disk_model.specs.Disk.{Tells}
-use Rattle.disk_model.proofs.Laws.Moments.{moments_now}
+use Rattle.io_model.specs.Story.{Story, reads, IsImage}
+use Rattle.io_model.specs.Disk.{Tells}
+use Rattle.io_model.proofs.Laws.Moments.{moments_now}
 use Rattle.log_gate.specs.Opening.{IsUnchanged}
 use Rattle.log_gate.specs.View.{logs_told}
 

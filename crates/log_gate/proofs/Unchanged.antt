@@ -2,9 +2,9 @@
 use Rattle.std.proofs.Common.{◌≡◌, ◌⊎◌, inl, inr, ℕ, ◌<◌, ◌^◌, List, length, Vec, Option, Some, None, IfSome, Result, Ok, Err, refl, sym, ◌∙◌, ap, subst, arith}
 use Rattle.std.specs.declared.alloc.Global.{Global}
 use Rattle.clv_base.specs.declared.logs.LogRecord.{LogRecord}
-use Rattle.disk_model.specs.Story.{Story, Len, Read, Sync, Sync_failed, after, reads, IsImage}
-use Rattle.disk_model.specs.Disk.{Tells}
-use Rattle.disk_model.proofs.Laws.Moments.{moments_start, moments_call}
+use Rattle.io_model.specs.Story.{Story, Len, Read, Sync, Sync_failed, after, reads, IsImage}
+use Rattle.io_model.specs.Disk.{Tells}
+use Rattle.io_model.proofs.Laws.Moments.{moments_start, moments_call}
 use Rattle.log_gate.specs.declared.header.Header.{Header}
 use Rattle.log_gate.specs.declared.error.OpenLogError.{OpenLogError}
 use Rattle.log_gate.specs.declared.error.OpenLogError.TheVariants.{NotLog, Failed, Memory}

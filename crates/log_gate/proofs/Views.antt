@@ -2,10 +2,10 @@
 use Rattle.std.proofs.Common.{◌≡◌, inl, inr, ℕ, ◌+◌, ◌≤◌, ◌<◌, ◌^◌, List, [], ◌∷◌, ◌++◌, length, Option, Some, None, Result, Ok, true, IfSome, refl, sym, ◌∙◌, ap, subst, append_assoc}
 use Rattle.std.proofs.lemmas.List.{append-nil}
 use Rattle.clv_base.specs.declared.logs.LogRecord.{LogRecord}
-use Rattle.disk_model.specs.Story.{Story, reads}
-use Rattle.disk_model.specs.Disk.{Tells}
-use Rattle.disk_model.specs.Crash.{AtEachMoment}
-use Rattle.disk_model.proofs.Laws.Moments.{moments_weaker}
+use Rattle.io_model.specs.Story.{Story, reads}
+use Rattle.io_model.specs.Disk.{Tells}
+use Rattle.io_model.specs.Crash.{AtEachMoment}
+use Rattle.io_model.proofs.Laws.Moments.{moments_weaker}
 use Rattle.log_gate.specs.Payloads.{IsPayload, batch, opened, payload_log}
 use Rattle.log_gate.specs.Records.{record_log, AllRead}
 use Rattle.log_gate.specs.Header.{header_bytes, header_size, header_of, Rise}

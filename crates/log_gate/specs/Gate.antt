@@ -1,7 +1,7 @@
 -- What stands on the disk of a gate.
 use Rattle.std.specs.Prelude.{◌≡◌, ◌≢◌, ◌⊎◌, ℕ, ◌+◌, ◌≤◌, List, [], ◌∷◌, ◌++◌, length, take}
 use Rattle.std.specs.List.{AllByRecursion}
-use Rattle.disk_model.specs.Story.{Story, reads, IsImage}
+use Rattle.io_model.specs.Story.{Story, reads, IsImage}
 use Rattle.log_gate.specs.Payloads.{IsPayload, opened}
 
 -- a front, these payloads behind open gates, a closed gate and anything

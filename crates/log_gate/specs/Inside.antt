@@ -1,7 +1,7 @@
 -- What holds of each gate.
 use Rattle.std.specs.Prelude.{◌≡◌, ℕ, ◌<◌, ◌≤◌, ◌^◌, Bool, false, List, length, Option, IfSome}
 use Rattle.clv_base.specs.declared.logs.LogRecord.{LogRecord}
-use Rattle.disk_model.specs.Story.{Story}
+use Rattle.io_model.specs.Story.{Story}
 use Rattle.log_gate.specs.Header.{header_bytes, Rise}
 use Rattle.log_gate.specs.Image.{AllSpelled}
 use Rattle.log_gate.specs.Gate.{IsSettled}

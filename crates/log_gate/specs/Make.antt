@@ -1,7 +1,7 @@
 -- What making a log does.
 use Rattle.std.specs.Prelude.{◌≡◌, ◌≢◌, ◌⊎◌, ◌≤◌, ℕ, List, [], ◌∷◌, ◌++◌, length, Result, Ok, Err}
-use Rattle.disk_model.specs.Story.{Story, Len, after, reads}
-use Rattle.disk_model.specs.Disk.{Rose, MayNote}
+use Rattle.io_model.specs.Story.{Story, Len, after, reads}
+use Rattle.io_model.specs.Disk.{Rose, MayNote}
 use Rattle.log_gate.specs.Gate.{EachNow}
 use Rattle.log_gate.specs.declared.error.MakeError.{MakeError}
 use Rattle.log_gate.specs.declared.error.MakeError.TheVariants.{Exists, Failed, Memory}

@@ -4,9 +4,9 @@ use Rattle.std.specs.List.{list_all}
 use Rattle.std.specs.declared.alloc.Global.{Global}
 use Rattle.clv_base.specs.declared.logs.LogRecord.{LogRecord}
 use Rattle.clv_base.specs.FileRules.{passes_file_rules}
-use Rattle.disk_model.specs.Story.{Story, Len, Read, Sync, Sync_failed, after, reads, IsImage}
-use Rattle.disk_model.specs.Disk.{Rose}
-use Rattle.disk_model.specs.Crash.{AtEachMoment}
+use Rattle.io_model.specs.Story.{Story, Len, Read, Sync, Sync_failed, after, reads, IsImage}
+use Rattle.io_model.specs.Disk.{Rose}
+use Rattle.io_model.specs.Crash.{AtEachMoment}
 use Rattle.clv_base.specs.Logs.{record_size}
 use Rattle.log_records.specs.Spelling.{BeginsWith}
 use Rattle.log_records.specs.Reading.{record_at}

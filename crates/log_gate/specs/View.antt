@@ -1,7 +1,7 @@
 -- What callers see of a gate.
 use Rattle.std.specs.Prelude.{◌≡◌, ◌⊎◌, ℕ, List, ◌++◌, Bool, Option, Some, None, IfSome}
 use Rattle.clv_base.specs.declared.logs.LogRecord.{LogRecord}
-use Rattle.disk_model.specs.Story.{Story, reads, IsImage}
+use Rattle.io_model.specs.Story.{Story, reads, IsImage}
 use Rattle.log_gate.specs.Image.{log_of, records_of, HasLog, HasHeader}
 use Rattle.log_gate.specs.Gate.{EachNow}
 

@@ -4,7 +4,7 @@ ghost use Rattle.log_gate.specs.declared.error.OpenLogError.TheVariants.{Memory 
 ghost use Rattle.log_gate.specs.declared.error.MakeError.TheVariants.{Failed as making_failed};
 ghost use Rattle.log_gate.specs.declared.error.ParseError.TheVariants.{Memory as none_to_parse};
 
-use disk_model::Failed;
+use io_model::Failed;
 use std::alloc::{AllocError, AllocFailed};
 
 /// Why a log wasn't made.

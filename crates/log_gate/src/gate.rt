@@ -1,9 +1,9 @@
 // The gate, and its push.
 ghost use Rattle.std.specs.Prelude.{◌≡◌, ◌≤◌, ◌+◌, ℕ, List, [], ◌∷◌, ◌++◌, length, take, Bool, true, false, Ok, Err, OnOk, IsErrOf};
 ghost use Rattle.clv_base.specs.declared.logs.LogRecord.{LogRecord};
-ghost use Rattle.disk_model.specs.Story.{reads, put};
-ghost use Rattle.disk_model.specs.Disk.{Tells};
-ghost use Rattle.disk_model.specs.Crash.{AtEachMoment};
+ghost use Rattle.io_model.specs.Story.{reads, put};
+ghost use Rattle.io_model.specs.Disk.{Tells};
+ghost use Rattle.io_model.specs.Crash.{AtEachMoment};
 ghost use Rattle.log_gate.specs.Payloads.{IsPayload, batch};
 ghost use Rattle.log_gate.specs.Image.{SpellAll, IsBatch, HasLogOrMore, HasHeader};
 ghost use Rattle.log_gate.specs.Push.{pushed};
@@ -13,7 +13,7 @@ ghost use Rattle.log_gate.specs.Inside.{IsSound};
 
 use crate::calls::write_batch;
 use byteorder::{ByteOrder, LittleEndian};
-use disk_model::Disk;
+use io_model::Disk;
 use std::alloc::Global;
 use std::marker::Model;
 

@@ -6,7 +6,7 @@ ghost use Rattle.log_gate.specs.View.{Only, OnlyOrMore, logs_of};
 ghost use Rattle.log_gate.specs.Errors.{Counts};
 
 use crate::gate::{LogGate, PushError};
-use disk_model::Disk;
+use io_model::Disk;
 
 /// A log to which batches are pushed.
 pub trait Gate {

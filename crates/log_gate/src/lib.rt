@@ -1,6 +1,6 @@
 //! A shard's log on its disk, whose batches stand behind gates. After a crash at any moment of a push the log is the old
 //! one, or the old one with the whole batch; after `Ok` it is the latter. Opening finds the header and all records, or
-//! the first place that breaks the format. It stands on disks (`disk_model`) and on the spelling of records
+//! the first place that breaks the format. It stands on disks (`io_model`) and on the spelling of records
 //! (`log_records`).
 #![tactic(auto)]
 

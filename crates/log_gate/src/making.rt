@@ -2,14 +2,14 @@
 ghost use Rattle.std.specs.Prelude.{◌≡◌, ◌≤◌, ◌<◌, ◌+◌, ◌^◌, ◌++◌, [], ◌∷◌, ℕ, List, length, IfOk, OnOk};
 ghost use Rattle.std.specs.List.{flat_map};
 ghost use Rattle.byteorder.specs.Endian.{little_bytes};
-ghost use Rattle.disk_model.specs.Disk.{Tells};
+ghost use Rattle.io_model.specs.Disk.{Tells};
 ghost use Rattle.log_gate.specs.Header.{header_bytes, magic};
 ghost use Rattle.log_gate.specs.Make.{Makes, CountsMaking};
 
 use crate::error::MakeError;
 use crate::header::Header;
 use byteorder::{ByteOrder, LittleEndian};
-use disk_model::Disk;
+use io_model::Disk;
 use std::alloc::{AllocError, Global};
 
 fn put_magic(out: &mut Vec<u8>) -> Result<(), AllocError>

@@ -3,8 +3,8 @@ ghost use Rattle.std.specs.Prelude.{◌≡◌, ◌<◌, ◌≤◌, ◌+◌, ◌^
 ghost use Rattle.std.specs.List.{list_all};
 ghost use Rattle.std.specs.Option.{option_map};
 ghost use Rattle.clv_base.specs.FileRules.{has_spelling, passes_file_rules};
-ghost use Rattle.disk_model.specs.Story.{reads};
-ghost use Rattle.disk_model.specs.Disk.{Tells};
+ghost use Rattle.io_model.specs.Story.{reads};
+ghost use Rattle.io_model.specs.Disk.{Tells};
 ghost use Rattle.log_gate.specs.Image.{checked_log, HasLog, HasHeader};
 ghost use Rattle.log_gate.specs.Opening.{Looks, Finds, IsUnchanged, CountsOpening};
 ghost use Rattle.log_gate.specs.View.{IsLogOf, IsHeaderOf};
@@ -15,7 +15,7 @@ use crate::gate::LogGate;
 use crate::header::Header;
 use crate::parse::read_image;
 use clv_base::logs::LogRecord;
-use disk_model::Disk;
+use io_model::Disk;
 use std::alloc::{AllocError, Global};
 
 // Syncs the disk, and reads all of it.

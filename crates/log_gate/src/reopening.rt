@@ -3,7 +3,7 @@ ghost use Rattle.std.specs.Prelude.{◌≡◌, List, Option, Some, Ok, Err, fals
 ghost use Rattle.std.specs.List.{list_all};
 ghost use Rattle.clv_base.specs.declared.logs.LogRecord.{LogRecord as RecordIs};
 ghost use Rattle.clv_base.specs.FileRules.{has_spelling};
-ghost use Rattle.disk_model.specs.Story.{reads};
+ghost use Rattle.io_model.specs.Story.{reads};
 ghost use Rattle.log_gate.specs.Image.{checked_log, HasLog};
 ghost use Rattle.log_gate.specs.Opening.{CountsOpening};
 ghost use Rattle.log_gate.specs.View.{Only, logs_of, logs_told};
@@ -11,7 +11,7 @@ ghost use Rattle.log_gate.specs.declared.error.OpenLogError.TheVariants.{NotLog}
 
 use crate::{Header, LogGate, OpenLogError, open_log};
 use clv_base::logs::LogRecord;
-use disk_model::Disk;
+use io_model::Disk;
 use std::alloc::Global;
 
 /// The disk of a gate as it stands: its logs are the gate's. Takes no memory.

@@ -2,7 +2,7 @@
 
 use crate::rows::Row::{self, Abort, Commit, End, Prepare, Restart, Update};
 use crate::rows::{log_of, tx};
-use logs_apart::apart;
+use log_rules::apart;
 use std::test::Fail;
 
 const START: Row = Restart(1, 0);

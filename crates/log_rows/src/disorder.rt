@@ -2,7 +2,7 @@
 
 use crate::rows::Row::{self, Abort, Clr, Commit, End, Prepare, Restart, Update};
 use crate::rows::log_of;
-use log_disorder::disorder;
+use log_rules::disorder;
 use std::test::Fail;
 
 const P: u32 = 1;

@@ -2,8 +2,8 @@
 
 use crate::rows::Row::{self, Abort, Clr, Commit, End, Prepare, Restart, Update};
 use crate::rows::{log_of, tx};
-use log_facts::lists::{home_at, listed_at, parts_at};
-use log_facts::{LogFacts, TxSet};
+use log_analysis::lists::{home_at, listed_at, parts_at};
+use log_analysis::{LogFacts, TxSet};
 use std::test::Fail;
 
 const LOG: &[Row] = &[

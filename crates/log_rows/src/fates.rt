@@ -2,7 +2,7 @@
 
 use crate::rows::Row::{self, Abort, Clr, Commit, End, Prepare, Restart, Update};
 use crate::rows::{log_of, tx};
-use restart_analysis::analyse;
+use log_analysis::analyse;
 use std::test::Fail;
 
 // On shard 1: 9 is committed; 8 is in doubt, and 7, which lists both, too. 6 wrote and made no request; 5 is home here, and 4

@@ -3,10 +3,10 @@ use Rattle.std.proofs.Common.{◌≡◌, ◌⊎◌, ℕ, zero, suc, ◌+◌, Lis
 use Rattle.std.proofs.lemmas.List.{take_all}
 use Rattle.clv_base.specs.declared.logs.LogRecord.{LogRecord}
 use Rattle.clv_base.specs.Restarts.{log_after_restart, restart_records}
-use Rattle.disk_model.specs.Story.{Story, reads}
-use Rattle.gate_recovery.specs.declared.recovering.RecoverError.{RecoverError}
-use Rattle.gate_recovery.specs.declared.recovering.RecoverError.TheVariants.{Failed, Memory}
-use Rattle.gate_recovery.specs.Recovering.{IsBegun}
+use Rattle.io_model.specs.Story.{Story, reads}
+use Rattle.shard_recovery.specs.declared.recovering.RecoverError.{RecoverError}
+use Rattle.shard_recovery.specs.declared.recovering.RecoverError.TheVariants.{Failed, Memory}
+use Rattle.shard_recovery.specs.Recovering.{IsBegun}
 use Rattle.log_gate.specs.Gate.{EachNow}
 use Rattle.log_gate.specs.View.{Only, logs_told}
 use Rattle.machine_calls.specs.Recovered.{HasBegun, IsLeft, unwritten, begun}

@@ -12,7 +12,7 @@ use Rattle.clv_base.specs.Needs.{Records}
 use Rattle.clv_base.specs.State.{Shard}
 use Rattle.clv_base.specs.Events.{Does, CallAnswer, stamped, next_stamp}
 use Rattle.clv_base.specs.Restarts.{log_after_restart, local_after, homes_of, restored_pairs, unended_in, revived}
-use Rattle.gate_recovery.specs.declared.recovering.Recovered.{Recovered}
+use Rattle.shard_recovery.specs.declared.recovering.Recovered.{Recovered}
 use Rattle.machine_calls.specs.declared.machine.StepError.{StepError}
 
 -- these records and what recovery found are the restart state of one log, whose records have spellings and which is a log in order with what a restart adds

@@ -4,7 +4,7 @@ ghost use Rattle.clv_base.specs.Restarts.{state_after};
 ghost use Rattle.machine_calls.specs.Restored.{IsRestored};
 
 use crate::machine::Machine;
-use gate_recovery::Recovered;
+use shard_recovery::Recovered;
 use std::alloc::Global;
 
 /// A machine that is made of what recovery gives.

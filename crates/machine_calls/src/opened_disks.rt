@@ -2,11 +2,11 @@
 
 ghost use Rattle.std.specs.Prelude.{◌≡◌, List, Option};
 ghost use Rattle.clv_base.specs.declared.logs.LogRecord.{LogRecord};
-ghost use Rattle.disk_model.specs.Story.{Story};
+ghost use Rattle.io_model.specs.Story.{Story};
 ghost use Rattle.log_gate.specs.View.{logs_told};
 
 use crate::Maker;
-use disk_model::Disk;
+use io_model::Disk;
 
 /// A machine whose gates lie on such disks.
 pub trait OverDisks<D: Disk>: Maker {

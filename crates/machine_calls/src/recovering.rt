@@ -5,17 +5,17 @@ ghost use Rattle.std.specs.List.{list_all};
 ghost use Rattle.clv_base.specs.declared.logs.LogRecord.{LogRecord as Rec};
 ghost use Rattle.clv_base.specs.FileRules.{has_spelling};
 ghost use Rattle.clv_base.specs.LogRules.{disorder};
-ghost use Rattle.disk_model.specs.Story.{Story};
+ghost use Rattle.io_model.specs.Story.{Story};
 ghost use Rattle.log_gate.specs.View.{Only};
 ghost use Rattle.machine_calls.specs.Recovered.{IsLeft, CountsLeft, IsMachineAt};
 
 use crate::opened_disks::OverDisks;
 use crate::{Machine, Maker, Parts};
 use clv_base::logs::LogRecord;
-use disk_model::Disk;
-use gate_recovery::{RecoverError, recover};
+use io_model::Disk;
 use log_gate::Gate;
 use ordered_store::Store;
+use shard_recovery::{RecoverError, recover};
 use std::alloc::Global;
 
 /// Recovers a shard from its log, which is in order, and makes its machine. What a restart adds to the log is durable at `Ok`. An `Err` gives the disk back.

@@ -9,8 +9,8 @@ ghost use Rattle.machine_calls.specs.Restored.{IsRestored, revives, down_gate_of
 use crate::machine::{Machine, StepError};
 use clv_base::events::Outcome;
 use clv_base::logs::LogRecord;
-use gate_recovery::Recovered;
 use log_buffer::LogBuffer;
+use shard_recovery::Recovered;
 use std::alloc::{AllocError, Global};
 
 /// A machine that is restarted after it went down.

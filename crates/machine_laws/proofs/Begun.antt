@@ -11,7 +11,7 @@ use Rattle.clv_base.specs.Logs.{in_doubt_from, in_doubt, doubt_by, prepare_of, e
 use Rattle.clv_base.specs.Participant.{restored_voters}
 use Rattle.clv_base.specs.Coordinator.{restored_requests}
 use Rattle.clv_base.specs.Restarts.{home_by, homes_of, unended_with, unended_in}
-use Rattle.spelling_laws.proofs.Laws.{Named, named_insert, restarts_are_spelled}
+use Rattle.protocol_laws.proofs.Laws.{Named, named_insert, restarts_are_spelled}
 use Rattle.machine_laws.specs.Fitting.{voter_fits, request_fits, RestartsAreNamed}
 use Rattle.machine_laws.proofs.Rows.{put_passes}
 

@@ -48,13 +48,13 @@ use Rattle.clv_base.specs.Coordinator.{vote_from, others, is_agreed, yes_shards,
 use Rattle.clv_base.specs.Orders.{tx_set, nat_in}
 use Rattle.clv_base.specs.Due.{send, finish_part, with_vote, with_ruling, commit_messages}
 use Rattle.clv_base.specs.Events.{is_alone, coordinate, owe_vote, with_votes, with_done, with_outbox, ask_messages, durable_requests, waiting_voters}
-use Rattle.due_laws.specs.Rooms.{parts_of}
-use Rattle.spelling_laws.specs.Spelled.{IsSpelled, fits_op}
+use Rattle.protocol_laws.specs.Rooms.{parts_of}
+use Rattle.protocol_laws.specs.Spelled.{IsSpelled, fits_op}
 use Rattle.machine_calls.specs.Events.{message_fits, event_fits, touched_fit, sends_fit as sent_fits}
 use Rattle.machine_laws.specs.Fitting.{shards_fit, voter_fits, request_fits, IsFitting, IsNamed, IsShort, FewUndecided, op_fits, FinishesKeepNames, EventsKeepNames, LandingsKeepNames, SendsFit}
 use Rattle.machine_laws.proofs.Shards.{AreParts, all_append, all_filter, others_low, some_others}
 use Rattle.machine_laws.proofs.Rows.{get_passes, put_passes, set_passes}
-use Rattle.spelling_laws.proofs.Laws.{operations_keep, closings_keep, aborts_keep, drops_keep, ends_keep, records_keep, purges_keep}
+use Rattle.protocol_laws.proofs.Laws.{operations_keep, closings_keep, aborts_keep, drops_keep, ends_keep, records_keep, purges_keep}
 use Rattle.law_base.proofs.Names.{by_state}
 use Rattle.law_base.proofs.Bools.{and_three as three}
 

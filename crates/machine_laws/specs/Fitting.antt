@@ -14,8 +14,8 @@ use Rattle.clv_base.specs.State.{Local, Shard}
 use Rattle.clv_base.specs.Facts.{undecided_of}
 use Rattle.clv_base.specs.Events.{Does, finish, landed, happen}
 use Rattle.clv_base.specs.Restarts.{state_after}
-use Rattle.due_laws.specs.Rooms.{parts_of}
-use Rattle.spelling_laws.specs.Spelled.{IsSpelled, fits_op}
+use Rattle.protocol_laws.specs.Rooms.{parts_of}
+use Rattle.protocol_laws.specs.Spelled.{IsSpelled, fits_op}
 use Rattle.machine_calls.specs.Events.{message_fits, event_fits, sends_fit}
 
 -- ---- tables and the outbox

@@ -1,3 +1,8 @@
 pub mod Frame
 pub mod Undropped
 pub mod Fitting
+pub mod Notes
+pub mod Homes
+pub mod Gates
+pub mod Sound
+pub mod Laws

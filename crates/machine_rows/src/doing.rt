@@ -5,6 +5,7 @@ ghost use Rattle.machine_calls.specs.Events.{message_fits, touched_fit};
 ghost use Rattle.machine_calls.specs.Restored.{IsRestored};
 
 use crate::fixture::{Machine, splits};
+use crate::flush;
 use crate::steps::{Step, Told, birth, in_words, is_named, of_error, of_outcome};
 use cluster_closing::{Ready, recover_disk};
 use clv_base::lists::Touched;
@@ -14,10 +15,8 @@ use clv_base::ops::Op;
 use clv_base::splits::Splits;
 use disk_memory::MemoryDisk;
 use log_gate::{LogGate, disk_of};
-use machine_runs::flush;
-use ordered_store::Store;
+use ordered_store::{BlockStore, Store};
 use std::alloc::{AllocError, Global};
-use store_blocks::BlockStore;
 
 fn operate(
     machine: &mut Machine,

@@ -6,18 +6,18 @@ ghost use Rattle.clv_base.specs.FileRules.{has_spelling};
 ghost use Rattle.clv_base.specs.LogRules.{disorder as first_disorder};
 ghost use Rattle.log_gate.specs.View.{Only, logs_of};
 
+use crate::begin;
 use clv_base::logs::LogRecord;
 use clv_base::splits::Splits;
 use disk_memory::MemoryDisk;
 use lock_table::ListLocks;
-use log_disorder::disorder;
 use log_gate::{Header, LogGate, disk_of, make, open_log};
+use log_rules::disorder;
 use machine_calls::Parts;
-use machine_runs::begin;
+use ordered_store::BlockStore;
 use shard_machine::ShardMachine;
 use std::alloc::{AllocError, Global};
 use std::test::Fail;
-use store_blocks::BlockStore;
 
 pub type Disk = LogGate<MemoryDisk>;
 

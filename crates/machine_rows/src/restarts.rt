@@ -3,9 +3,9 @@
 use crate::doing::{restart_other, wrong};
 use crate::fixture::{Machine, disk, first, let_go, made, open};
 use crate::steps::{Step, Told, by};
+use crate::{come_back, take_off};
 use clv_base::causes::AbortCause;
 use clv_base::ops::Op;
-use machine_runs::{come_back, take_off};
 use std::alloc::Global;
 use std::test::Fail;
 

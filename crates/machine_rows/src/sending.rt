@@ -1,9 +1,9 @@
 //! What threads may hand to each other.
-use disk_model::Disk;
+use io_model::Disk;
 use lock_table::ListLocks;
 use log_gate::LogGate;
+use ordered_store::BlockStore;
 use shard_machine::ShardMachine;
-use store_blocks::BlockStore;
 
 fn may_be_sent<T: Send>() {}
 

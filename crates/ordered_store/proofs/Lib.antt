@@ -3,4 +3,9 @@ pub mod Finding
 pub mod Writing
 pub mod Ranging
 pub mod Placed
+pub mod Chains
+pub mod Splicing
+pub mod Between
+pub mod Halving
+pub mod Counted
 pub mod Laws

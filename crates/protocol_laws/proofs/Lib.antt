@@ -10,4 +10,24 @@ pub mod Records
 pub mod Runs
 pub mod Writes
 pub mod LogsInOrder
+pub mod Deciding
+pub mod Least
+pub mod Going
+pub mod DueFacts
+pub mod Landing
+pub mod Purging
+pub mod Touching
+pub mod Spending
+pub mod Dependents
+pub mod Keys
+pub mod Finished
+pub mod Counting
+pub mod Naming
+pub mod Remaining
+pub mod Open
+pub mod Undoing
+mod Rows
+mod Lists
+pub mod SpellingChanges
+pub mod Closure
 pub mod Laws

@@ -5,3 +5,12 @@ pub mod FactLaws
 pub mod UndoLaws
 pub mod RestartLaws
 pub mod Order
+pub mod Candidates
+pub mod Changes
+pub mod Purging
+pub mod Steps
+pub mod Rooms
+pub mod Depending
+pub mod Left
+pub mod Open
+pub mod Spelled

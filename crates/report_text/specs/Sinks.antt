@@ -1,7 +1,7 @@
 -- What a sink takes of a text, and when it fails.
 use Rattle.std.specs.Prelude.{◌≡◌, ◌≤◌, ℕ, List, take, Option, Result, Ok, Err}
-use Rattle.disk_model.specs.Disk.{Rose}
-use Rattle.io_edge.specs.Streams.{Grows}
+use Rattle.io_model.specs.Disk.{Rose}
+use Rattle.io_model.specs.Streams.{Grows}
 use Rattle.report_text.specs.declared.texts.ReportError.{ReportError}
 use Rattle.report_text.specs.declared.texts.ReportError.TheVariants.{Failed, Memory}
 

@@ -1,7 +1,7 @@
 //! The texts that the program prints: the report of a history, and the pairs of a map.
 //!
 //! Each is exactly its definition, as compact JSON with a line feed after each line. A report is made whole before any of it is written.
-//! It stands on the definitions of `clv_base`, the histories of `history_replay`, the sinks of `io_edge` and the writer of `serde_json`.
+//! It stands on the definitions of `clv_base`, the histories of `history_replay`, the sinks of `io_model` and the writer of `serde_json`.
 #![tactic(auto)]
 
 mod counts;

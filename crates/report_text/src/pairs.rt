@@ -5,7 +5,7 @@ ghost use Rattle.report_text.specs.Report.{pairs_text as text_of_pairs};
 
 use crate::Memory;
 use crate::lines::{line, pair};
-use key_map::KeyMap;
+use history_replay::KeyMap;
 use std::alloc::Global;
 
 fn text_of(alloc: Global, pairs: &[(u64, u64)]) -> Result<Vec<u8>, Memory>

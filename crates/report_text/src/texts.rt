@@ -16,9 +16,8 @@ use crate::lines::{line, transaction};
 use crate::sets::TxSet;
 use crate::told::{ToldTable, acknowledged, all_told, requested_by};
 use clv_base::events::Entry;
-use disk_model::Failed;
 use history_replay::{History, entries};
-use io_edge::{Sink, write_all};
+use io_model::{Failed, Sink, write_all};
 use std::alloc::Global;
 
 /// Why a report wasn't written.

@@ -5,4 +5,7 @@ pub mod Steps
 pub mod Unique
 pub mod Sizes
 pub mod Progress
+pub mod Lists
+pub mod Bounds
+mod Narrow
 pub mod Laws

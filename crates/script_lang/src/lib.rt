@@ -1,22 +1,31 @@
-//! Scripts: text that says what the sessions of a run do, line by line.
+//! Scripts: text that says what the sessions of a run do, line by line; and workloads made from a number.
 //!
 //! `parse` meets the grammar both ways: what it accepts is the script's one meaning, and what it refuses names the first line
-//! outside the grammar at its place. `Following` tells what a transaction does next, given its answers so far. It stands on the
-//! operations of `clv_base`.
+//! outside the grammar at its place. `Following` tells what a transaction does next, given its answers so far. `generate` gives exactly the script
+//! of a workload's definition: it fills accounts, and then has each session move amounts between them. It stands on the operations of `clv_base`.
 #![tactic(auto)]
 
 mod actions;
 mod following;
+mod generating;
 mod lines;
+mod numbers;
 mod parsing;
 mod reader;
 mod script;
 pub mod statements;
 #[cfg(test)]
 mod tests;
+pub mod workload_laws;
+#[cfg(test)]
+mod workload_tests;
 
 pub use actions::{Action, Ending};
 pub use following::Following;
+pub use generating::generate;
 pub use lines::{Line, number_of};
 pub use parsing::{MOST_BYTES, ScriptError, parse};
 pub use script::{Script, Session, Transaction};
+
+/// Want of memory.
+pub type Memory = std::alloc::AllocError;

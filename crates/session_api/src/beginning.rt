@@ -6,7 +6,7 @@ ghost use Rattle.session_api.specs.Sessions.{IsSession, BeginCalled, BegunNext};
 use crate::progress::Progress;
 use crate::session::Session;
 use clv_base::names::TxId;
-use io_edge::{Pace, Step};
+use io_model::{Pace, Step};
 use machine_calls::Flier;
 use session_ops::begin;
 use std::sync::Wait;

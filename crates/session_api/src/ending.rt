@@ -11,7 +11,7 @@ use crate::session::Session;
 use cluster_turns::{Place, WornClock};
 use clv_base::causes::AbortCause;
 use clv_base::names::Point;
-use io_edge::Pace;
+use io_model::Pace;
 use machine_calls::Flier;
 use session_ops::{CommitError as Failure, SettleError, Settled, abort, commit, finish};
 use std::alloc::Global;

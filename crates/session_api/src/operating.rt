@@ -14,7 +14,7 @@ use cluster_turns::Place;
 use clv_base::causes::AbortCause;
 use clv_base::lists::Pairs;
 use clv_base::ops::Op;
-use io_edge::{Pace, Step};
+use io_model::{Pace, Step};
 use machine_calls::Flier;
 use session_ops::{OpError as Failure, at_key, scan};
 use std::alloc::Global;

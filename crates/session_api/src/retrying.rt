@@ -8,7 +8,7 @@ use crate::progress::Progress;
 use crate::session::Session;
 use cluster_turns::Place;
 use clv_base::names::TxId;
-use io_edge::{Pace, Step};
+use io_model::{Pace, Step};
 use machine_calls::Flier;
 use session_ops::retry;
 use std::mem;

@@ -5,7 +5,7 @@ ghost use Rattle.session_api.specs.declared.progress.Progress.TheVariants.{Idle}
 
 use crate::progress::Progress;
 use cluster_turns::{Shards, Walker};
-use io_edge::Pace;
+use io_model::Pace;
 use machine_calls::Flier;
 use std::sync::Wait;
 

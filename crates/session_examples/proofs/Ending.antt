@@ -6,8 +6,8 @@ use Rattle.clv_base.specs.declared.events.Entry.{Entry}
 use Rattle.clv_base.specs.State.{Shard}
 use Rattle.clv_base.specs.Shards.{shard_count}
 use Rattle.clv_base.specs.Journals.{History}
-use Rattle.disk_model.specs.Story.{Story}
-use Rattle.disks_opening.specs.Houses.{WentOut}
+use Rattle.io_model.specs.Story.{Story}
+use Rattle.cluster_opening.specs.Houses.{WentOut}
 use Rattle.history_replay.specs.Entries.{Kept, entries_of}
 use Rattle.journal_laws.specs.Gathered.{MakesHistory}
 use Rattle.script_runs.specs.Sessions.{session_entries}
@@ -18,10 +18,10 @@ use Rattle.cluster_turns.specs.Walkers.{own_lists, kept}
 use Rattle.cluster_runs.specs.Begun.{AreLocked}
 use Rattle.cluster_runs.specs.Ends.{end_of, walked_by, IsClosed}
 use Rattle.cluster_runs.proofs.Laws.{clusters_end}
-use Rattle.session_rows.specs.declared.transfers.Transferred.TheVariants.{Moved, Refused, GivenUp}
-use Rattle.session_rows.specs.declared.transfers.Transferred.{Transferred}
-use Rattle.session_rows.specs.declared.transfers.Stop.{Stop}
-use Rattle.session_rows.specs.Moves.{MovesAs}
+use Rattle.session_examples.specs.declared.transfers.Transferred.TheVariants.{Moved, Refused, GivenUp}
+use Rattle.session_examples.specs.declared.transfers.Transferred.{Transferred}
+use Rattle.session_examples.specs.declared.transfers.Stop.{Stop}
+use Rattle.session_examples.specs.Moves.{MovesAs}
 use Rattle.session_examples.specs.Programs.{HasRun, HasMade}
 
 -- what is so whichever element is named is so where a list has one

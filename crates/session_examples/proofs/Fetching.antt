@@ -1,6 +1,6 @@
 -- A walker that fetches the disk of a shard and restarts it.
 use Rattle.std.proofs.Common.{◌≡◌, ◌∙◌, sym, subst, ℕ, Option, Some, None, Result, Ok, Err}
-use Rattle.disk_model.specs.Story.{Story}
+use Rattle.io_model.specs.Story.{Story}
 use Rattle.cluster_closing.specs.declared.error.RestartError.{RestartError}
 use Rattle.cluster_turns.specs.declared.shards.Shards.{Shards}
 use Rattle.cluster_turns.specs.declared.shards.Walker.{Walker}

@@ -3,9 +3,9 @@ use Rattle.std.proofs.Common.{◌≡◌, refl, ap, true, None, Ok}
 use Rattle.session_api.specs.declared.progress.Progress.{Progress}
 use Rattle.session_api.specs.declared.progress.Progress.TheVariants.{Idle, Active, Worn, Asked, Ended}
 use Rattle.session_api.specs.Progresses.{active_tx}
-use Rattle.session_rows.specs.declared.transfers.Transferred.{Transferred}
-use Rattle.session_rows.specs.declared.transfers.Transferred.TheVariants.{Moved, Refused, GivenUp}
-use Rattle.session_rows.specs.Ends.{has_ended, EndsAs}
+use Rattle.session_examples.specs.declared.transfers.Transferred.{Transferred}
+use Rattle.session_examples.specs.declared.transfers.Transferred.TheVariants.{Moved, Refused, GivenUp}
+use Rattle.session_examples.specs.Ends.{has_ended, EndsAs}
 
 -- none is active after a transfer that wasn't stopped
 pub ended_idle : (t : Progress) → has_ended t ≡ true → active_tx t ≡ None

@@ -6,3 +6,7 @@ mod Seats
 mod Sending
 mod Turning
 mod Walking
+pub mod Following
+pub mod Trying
+pub mod Moving
+pub mod Two

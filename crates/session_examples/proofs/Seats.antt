@@ -3,7 +3,7 @@ use Rattle.std.proofs.Common.{arith, ◌≡◌, ◌∙◌, refl, subst, ℕ, ◌
 use Rattle.cluster_turns.specs.declared.shards.Shards.{Shards}
 use Rattle.cluster_turns.specs.declared.shards.Walker.{Walker}
 use Rattle.session_api.specs.declared.progress.Progress.{Progress}
-use Rattle.session_scripts.specs.Standing.{IsAtRest}
+use Rattle.session_api.specs.Standing.{IsAtRest}
 use Rattle.session_examples.specs.Walkers.{IsSeated}
 
 module _ {M S G : Type 0} where

@@ -7,10 +7,10 @@ use denote.Struct.Declared.{shape}
 use Rattle.std.proofs.Crossing.{crosses, Vec-send}
 use Rattle.turn_lock.proofs.pass.Pass.TheSendSync as pass
 use Rattle.turn_lock.proofs.pass.TurnLock.TheSendSync as lock
-use Rattle.batch_gate.proofs.gate.BatchGate.TheSendSync as gate
+use Rattle.turn_lock.proofs.gate.BatchGate.TheSendSync as gate
 use Rattle.std.specs.contracts.option.Option as option
-use Rattle.turn_laws.specs.contracts.notes.Origin as Origin
-use Rattle.turn_laws.specs.contracts.notes.Note as Note
+use Rattle.machine_laws.specs.contracts.notes.Origin as Origin
+use Rattle.machine_laws.specs.contracts.notes.Note as Note
 use Rattle.turn_lock.specs.contracts.pass.Pass as Pass
 use Rattle.cluster_turns.specs.contracts.home.Home as home
 use Rattle.cluster_turns.specs.contracts.shards.Walker as walker

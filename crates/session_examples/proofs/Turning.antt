@@ -8,8 +8,8 @@ use Rattle.clv_base.specs.declared.messages.Message.{Message}
 use Rattle.clv_base.specs.Events.{to_of}
 use Rattle.turn_lock.specs.declared.pass.Pass.{Pass}
 use Rattle.machine_calls.specs.declared.machine.StepError.{StepError}
-use Rattle.turn_laws.specs.declared.notes.Note.{Note}
-use Rattle.turn_laws.specs.declared.notes.Origin.{Origin}
+use Rattle.machine_laws.specs.declared.notes.Note.{Note}
+use Rattle.machine_laws.specs.declared.notes.Origin.{Origin}
 use Rattle.cluster_turns.specs.declared.shards.Shards.{Shards}
 use Rattle.cluster_turns.specs.declared.shards.Walker.{Walker}
 use Rattle.cluster_turns.specs.Turns.{EventTold}
@@ -26,7 +26,7 @@ use Rattle.cluster_closing.specs.Held.{HoldsNone}
 use Rattle.cluster_closing.proofs.Laws.{turns_hold_none, turns_fetch_none}
 use Rattle.cluster_turns.specs.CallTurns.{Turn, Took, no_turn, event_turn, flush_turns, horizon_look, takes_no_flight}
 use Rattle.session_ops.proofs.Laws.{turns_land}
-use Rattle.session_scripts.specs.Standing.{IsAtRest}
+use Rattle.session_api.specs.Standing.{IsAtRest}
 
 module _ {T : Type 0} where
   -- the walker w took some turns

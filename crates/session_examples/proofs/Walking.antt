@@ -15,9 +15,9 @@ use Rattle.cluster_opening.specs.Made.{IsNewWalker}
 use Rattle.session_api.specs.declared.progress.Progress.{Progress}
 use Rattle.session_api.specs.declared.progress.Progress.TheVariants.{Idle}
 use Rattle.session_api.specs.Sessions.{IsSession}
-use Rattle.session_scripts.specs.Standing.{Holds, IsAtRest}
-use Rattle.session_scripts.proofs.Laws.{sessions_rest, new_walkers_are_sessions, new_walkers_rest}
-use Rattle.session_rows.specs.Later.{IsLater}
+use Rattle.session_api.specs.Standing.{Holds, IsAtRest}
+use Rattle.session_api.proofs.Laws.{sessions_rest, new_walkers_are_sessions, new_walkers_rest}
+use Rattle.session_examples.specs.Later.{IsLater}
 use Rattle.session_examples.specs.Walkers.{AreNew, IsAtHome, AreAtHome, AreAtRest}
 use Rattle.session_examples.proofs.Lists.{each_back, each_at}
 

@@ -2,14 +2,14 @@
 use Rattle.std.specs.Prelude.{◌≡◌, ⊤, ℕ, List, ◌++◌, Option, Result, Ok, Err}
 use Rattle.clv_base.specs.State.{Shard}
 use Rattle.clv_base.specs.Journals.{History}
-use Rattle.disk_model.specs.Story.{Story}
+use Rattle.io_model.specs.Story.{Story}
 use Rattle.history_replay.specs.Entries.{Kept}
 use Rattle.script_runs.specs.Sessions.{session_entries}
-use Rattle.run_promises.specs.Ended.{ClusterEnded}
-use Rattle.session_rows.specs.declared.transfers.Transferred.{Transferred}
-use Rattle.session_rows.specs.declared.transfers.Transferred.TheVariants.{Moved, Refused, GivenUp}
-use Rattle.session_rows.specs.declared.transfers.Stop.{Stop}
-use Rattle.session_rows.specs.Moves.{Moves}
+use Rattle.cluster_runs.specs.Ended.{ClusterEnded}
+use Rattle.session_examples.specs.declared.transfers.Transferred.{Transferred}
+use Rattle.session_examples.specs.declared.transfers.Transferred.TheVariants.{Moved, Refused, GivenUp}
+use Rattle.session_examples.specs.declared.transfers.Stop.{Stop}
+use Rattle.session_examples.specs.Moves.{Moves}
 
 -- the disks of a house held logs that may be opened together, under these splits; what the shards did from there on is a legal history to whatever they may
 -- leave, each disk holds its shard's records, and a disk's count rose exactly where a flush failed. P is of the splits and of each walker's own entries

@@ -8,7 +8,7 @@ use Rattle.cluster_closing.specs.Held.{HoldsNone}
 use Rattle.cluster_opening.specs.Made.{IsNewWalker}
 use Rattle.session_api.specs.declared.progress.Progress.{Progress}
 use Rattle.session_api.specs.Progresses.{active_tx}
-use Rattle.session_scripts.specs.Standing.{Holds, IsAtRest}
+use Rattle.session_api.specs.Standing.{Holds, IsAtRest}
 
 module _ {M S G : Type 0} where
   -- each is new, and its number is its place

@@ -1,27 +1,26 @@
 // Calls of a session, from the disks to the disks.
 ghost use Rattle.std.specs.Prelude.{◌≡◌, ◌<◌, ◌≤◌, ◌+◌, ℕ, true, false, length, vec_len, vec_capacity, IfOk, IfErr};
 ghost use Rattle.clv_base.specs.Shards.{are_splits};
-ghost use Rattle.disks_opening.specs.Opening.{Refuses, CountsOpen};
-ghost use Rattle.session_scripts.specs.Standing.{Holds, IsAtRest};
+ghost use Rattle.cluster_opening.specs.Opening.{Refuses, CountsOpen};
+ghost use Rattle.session_api.specs.Standing.{Holds, IsAtRest};
 ghost use Rattle.session_examples.specs.Walkers.{AreNew, AreAtRest};
 ghost use Rattle.session_examples.specs.Programs.{HasRun, AnyMade};
 
 use crate::closing::{Left, close_all};
 use crate::sitting::{leave, sit};
+use crate::{Call, Said, make_call};
+use cluster_opening::OpenError;
 use cluster_runs::{Opened, open_all};
 use cluster_turns::{
     Carry, CarryError, FlushError, Flushed, Reminding, Shards, Walker, carry_once, flush_once,
     remind_once,
 };
-use disk_model::House;
-use disks_opening::OpenError;
-use io_edge::Pace;
+use io_model::{House, Pace};
 use lock_table::Locks;
 use log_gate::LogGate;
 use machine_calls::Flier;
 use ordered_store::Store;
 use session_api::Session;
-use session_rows::{Call, Said, make_call};
 use shard_machine::ShardMachine;
 use std::alloc::Global;
 use std::sync::Wait;

@@ -1,24 +1,23 @@
 // A shard that falls and comes back, from the disks to the disks.
 ghost use Rattle.std.specs.Prelude.{◌≡◌, ◌<◌, ◌≤◌, ◌+◌, ℕ, true, false, length, vec_len, vec_capacity, IfOk, IfErr};
 ghost use Rattle.clv_base.specs.Shards.{are_splits};
-ghost use Rattle.disks_opening.specs.Opening.{Refuses};
-ghost use Rattle.session_scripts.specs.Standing.{IsAtRest};
+ghost use Rattle.cluster_opening.specs.Opening.{Refuses};
+ghost use Rattle.session_api.specs.Standing.{IsAtRest};
 ghost use Rattle.session_examples.specs.Walkers.{AreNew, IsAtHome, AreAtHome};
 
 use crate::calling::call_all;
 use crate::closing::{Left, close_all};
 use crate::sitting::{leave, sit};
+use crate::{Call, Said};
 use cluster_closing::{FetchError, Fetched, fetch, restart};
+use cluster_opening::OpenError;
 use cluster_runs::{Opened, open_all};
 use cluster_turns::{Shards, Walker};
-use disk_model::House;
-use disks_opening::OpenError;
-use io_edge::Pace;
+use io_model::{House, Pace};
 use lock_table::Locks;
 use log_gate::LogGate;
 use machine_calls::{Flier, Reopener};
 use ordered_store::Store;
-use session_rows::{Call, Said};
 use shard_machine::ShardMachine;
 use std::alloc::Global;
 use std::sync::Wait;

@@ -1,10 +1,10 @@
 // Sessions and their walkers.
 ghost use Rattle.std.specs.Prelude.{◌≡◌, ◌<◌, ◌-◌, ◌++◌, ◌∷◌, [], take, slice_index_or, vec_len, vec_capacity};
 ghost use Rattle.session_api.specs.declared.progress.Progress.TheVariants.{Idle};
-ghost use Rattle.session_scripts.specs.Standing.{Holds};
+ghost use Rattle.session_api.specs.Standing.{Holds};
 
 use cluster_turns::{Shards, Walker};
-use io_edge::Pace;
+use io_model::Pace;
 use machine_calls::Flier;
 use session_api::Session;
 use std::sync::Wait;

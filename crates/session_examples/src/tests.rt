@@ -9,20 +9,18 @@ use self::houses::{failing_house, house_of};
 use self::model::{calls_of, expected};
 use self::texts::text_of;
 use crate::{
-    Quiet, Revival, open_call_close, open_revive_close, open_transfer_close,
-    open_transfer_together_close,
+    Call, Quiet, Refusal, Revival, Said, Transferred, open_call_close, open_revive_close,
+    open_transfer_close, open_transfer_together_close,
 };
 use cluster_closing::FetchError;
 use cluster_turns::{Carry, Flushed, Reminding};
 use disk_memory::MemoryHouse;
-use disk_model::House;
-use io_edge::NoPace;
+use io_model::{House, NoPace};
 use lock_index::HashedLocks;
-use session_rows::{Call, Refusal, Said, Transferred};
+use ordered_store::BlockStore;
 use std::alloc::Global;
 use std::sync::Wait;
 use std::test::Fail;
-use store_blocks::BlockStore;
 
 // The clock at its end, but for one transaction.
 const LAST: u64 = (1 << 48) - 2;

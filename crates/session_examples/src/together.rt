@@ -1,26 +1,25 @@
 // Sessions that transfer beside each other, from the disks to the disks.
 ghost use Rattle.std.specs.Prelude.{◌≡◌, ◌≢◌, ◌<◌, ◌≤◌, ◌+◌, ℕ, suc, true, false, length, slice_index_or, vec_len, vec_capacity, IfOk, IfErr};
 ghost use Rattle.clv_base.specs.Shards.{are_splits};
-ghost use Rattle.disks_opening.specs.Opening.{Refuses, CountsOpen};
-ghost use Rattle.session_scripts.specs.Standing.{Holds, IsAtRest};
+ghost use Rattle.cluster_opening.specs.Opening.{Refuses, CountsOpen};
+ghost use Rattle.session_api.specs.Standing.{Holds, IsAtRest};
 ghost use Rattle.session_api.specs.Progresses.{active_tx};
 ghost use Rattle.session_examples.specs.Walkers.{AreNew, AreAtRest, IsSeated};
 ghost use Rattle.session_examples.specs.Programs.{HasRun, AnyMade};
 
 use crate::closing::{Left, close_all};
 use crate::sitting::{leave, sit};
+use crate::{Transferred, transfer};
 use cluster_closing::end_promises::drains_land;
+use cluster_opening::OpenError;
 use cluster_runs::{Opened, open_all};
 use cluster_turns::{Home, Shards, Walker, drain};
-use disk_model::House;
-use disks_opening::OpenError;
-use io_edge::Pace;
+use io_model::{House, Pace};
 use lock_table::Locks;
 use log_gate::LogGate;
 use machine_calls::Flier;
 use ordered_store::Store;
 use session_api::Session;
-use session_rows::{Transferred, transfer};
 use shard_machine::ShardMachine;
 use std::alloc::Global;
 use std::sync::Wait;

@@ -1,7 +1,7 @@
 // A transfer, from the disks to the disks.
 ghost use Rattle.std.specs.Prelude.{◌≡◌, ◌≢◌, ◌<◌, ℕ, true, false, vec_len, IfOk, IfErr};
 ghost use Rattle.clv_base.specs.Shards.{are_splits};
-ghost use Rattle.disks_opening.specs.Opening.{Refuses, CountsOpen};
+ghost use Rattle.cluster_opening.specs.Opening.{Refuses, CountsOpen};
 ghost use Rattle.cluster_runs.specs.Begun.{LeavesDisks};
 ghost use Rattle.cluster_runs.specs.Ends.{walked_by};
 ghost use Rattle.session_examples.specs.Walkers.{AreNew, AreAtRest};
@@ -9,16 +9,15 @@ ghost use Rattle.session_examples.specs.Programs.{HasRun, HasMade};
 
 use crate::closing::{Left, close_all};
 use crate::sitting::{leave, sit};
+use crate::{Stop, Transferred, transfer};
+use cluster_opening::OpenError;
 use cluster_runs::{Opened, open_all};
 use cluster_turns::{Shards, Walker};
-use disk_model::House;
-use disks_opening::OpenError;
-use io_edge::Pace;
+use io_model::{House, Pace};
 use lock_table::Locks;
 use log_gate::LogGate;
 use machine_calls::Flier;
 use ordered_store::Store;
-use session_rows::{Stop, Transferred, transfer};
 use shard_machine::ShardMachine;
 use std::alloc::Global;
 use std::sync::Wait;

@@ -8,8 +8,8 @@ use Rattle.clv_base.specs.declared.names.Point.{Point}
 use Rattle.clv_base.specs.declared.events.Event.TheVariants.{Look, Drop}
 use Rattle.clv_base.specs.Sessions.{SessionState, Phase, Standing, Told, Refused, is_of_session, may_drop, after_drop}
 use Rattle.turn_lock.specs.declared.pass.Pass.{Pass}
-use Rattle.turn_laws.specs.declared.notes.Note.{Note}
-use Rattle.turn_laws.specs.declared.notes.Origin.{Origin}
+use Rattle.machine_laws.specs.declared.notes.Note.{Note}
+use Rattle.machine_laws.specs.declared.notes.Origin.{Origin}
 use Rattle.cluster_turns.specs.declared.shards.Shards.{Shards}
 use Rattle.cluster_turns.specs.declared.shards.Walker.{Walker}
 use Rattle.cluster_turns.specs.declared.shards.WornClock.{WornClock}

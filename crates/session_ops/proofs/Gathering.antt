@@ -13,8 +13,8 @@ use Rattle.clv_base.specs.declared.events.Event.TheVariants.{Op as OpEvent}
 use Rattle.clv_base.specs.Shards.{span, lies_within}
 use Rattle.clv_base.specs.Sessions.{SessionState, is_number, goes_on_scan, is_of_session, lies_in}
 use Rattle.turn_lock.specs.declared.pass.Pass.{Pass}
-use Rattle.turn_laws.specs.declared.notes.Note.{Note}
-use Rattle.turn_laws.specs.declared.notes.Origin.{Origin}
+use Rattle.machine_laws.specs.declared.notes.Note.{Note}
+use Rattle.machine_laws.specs.declared.notes.Origin.{Origin}
 use Rattle.cluster_turns.specs.CallTurns.{Turn, no_turn, AnyTurn}
 use Rattle.cluster_turns.proofs.Laws.{turns_follow}
 use Rattle.session_ops.specs.declared.operating.OpError.{OpError}

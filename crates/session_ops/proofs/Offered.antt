@@ -27,7 +27,7 @@ use Rattle.clv_base.proofs.SameNames.{tx_self}
 use Rattle.journal_laws.specs.Offers.{may_make}
 use Rattle.machine_calls.specs.declared.machine.StepError.{StepError}
 use Rattle.machine_calls.specs.Steps.{Tells, clock_after}
-use Rattle.turn_laws.proofs.Laws.{from_does, above}
+use Rattle.machine_laws.proofs.Laws.{from_does, above}
 use Rattle.cluster_turns.specs.declared.shards.Shards.{Shards}
 use Rattle.cluster_turns.specs.declared.shards.Walker.{Walker}
 use Rattle.cluster_turns.specs.Turns.{EventTold}

@@ -10,8 +10,8 @@ use Rattle.clv_base.specs.declared.events.Outcome.TheVariants.{Dropped}
 use Rattle.clv_base.specs.Sessions.{SessionState, Phase, Touching, Ended, Standing, Told, Refused, after_drop}
 use Rattle.turn_lock.specs.declared.pass.Pass.{Pass}
 use Rattle.machine_calls.specs.declared.machine.StepError.{StepError}
-use Rattle.turn_laws.specs.declared.notes.Note.{Note}
-use Rattle.turn_laws.specs.declared.notes.Origin.{Origin}
+use Rattle.machine_laws.specs.declared.notes.Note.{Note}
+use Rattle.machine_laws.specs.declared.notes.Origin.{Origin}
 use Rattle.cluster_turns.specs.declared.shards.WornClock.{WornClock}
 use Rattle.cluster_turns.specs.CallTurns.{Turn, no_turn, AnyTurn}
 use Rattle.cluster_turns.proofs.Laws.{turns_follow}

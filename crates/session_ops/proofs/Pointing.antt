@@ -19,8 +19,8 @@ use Rattle.clv_base.specs.declared.causes.AbortCause.TheVariants.{Restarted}
 use Rattle.turn_lock.specs.declared.pass.Pass.{Pass}
 use Rattle.machine_calls.specs.declared.machine.StepError.{StepError}
 use Rattle.machine_calls.specs.Steps.{Tells, clock_after}
-use Rattle.turn_laws.specs.declared.notes.Note.{Note}
-use Rattle.turn_laws.specs.declared.notes.Origin.{Origin}
+use Rattle.machine_laws.specs.declared.notes.Note.{Note}
+use Rattle.machine_laws.specs.declared.notes.Origin.{Origin}
 use Rattle.cluster_turns.specs.CallTurns.{Turn, Took, no_turn, event_turn, flush_turns, horizon_look}
 use Rattle.law_base.proofs.Shards.{is_done, is_told}
 use Rattle.session_ops.proofs.Seeing.{Fits}

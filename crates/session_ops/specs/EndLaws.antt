@@ -1,8 +1,8 @@
 -- Gates through a walker's turns.
 use Rattle.std.specs.Prelude.{ℕ, List, Option}
 use Rattle.turn_lock.specs.declared.pass.Pass.{Pass}
-use Rattle.turn_laws.specs.declared.notes.Note.{Note}
-use Rattle.turn_laws.specs.declared.notes.Origin.{Origin}
+use Rattle.machine_laws.specs.declared.notes.Note.{Note}
+use Rattle.machine_laws.specs.declared.notes.Origin.{Origin}
 use Rattle.cluster_turns.specs.Walkers.{Looked}
 use Rattle.cluster_closing.specs.Landed.{HasLanded}
 use Rattle.cluster_turns.specs.CallTurns.{Turn, Took}

@@ -12,8 +12,8 @@ use Rattle.clv_base.specs.declared.events.Event.TheVariants.{Op as OpEvent}
 use Rattle.clv_base.specs.Shards.{shard_of}
 use Rattle.clv_base.specs.Sessions.{SessionState}
 use Rattle.turn_lock.specs.declared.pass.Pass.{Pass}
-use Rattle.turn_laws.specs.declared.notes.Note.{Note}
-use Rattle.turn_laws.specs.declared.notes.Origin.{Origin}
+use Rattle.machine_laws.specs.declared.notes.Note.{Note}
+use Rattle.machine_laws.specs.declared.notes.Origin.{Origin}
 use Rattle.cluster_turns.specs.declared.shards.Shards.{Shards}
 use Rattle.cluster_turns.specs.declared.shards.Walker.{Walker}
 use Rattle.cluster_turns.specs.CallTurns.{Turn, Took}

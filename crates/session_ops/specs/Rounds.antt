@@ -1,8 +1,8 @@
 -- What a round, or a part of it, tells by its turns.
 use Rattle.std.specs.Prelude.{⊤, ℕ, List, Option, Result, Ok, Err}
 use Rattle.turn_lock.specs.declared.pass.Pass.{Pass}
-use Rattle.turn_laws.specs.declared.notes.Note.{Note}
-use Rattle.turn_laws.specs.declared.notes.Origin.{Origin}
+use Rattle.machine_laws.specs.declared.notes.Note.{Note}
+use Rattle.machine_laws.specs.declared.notes.Origin.{Origin}
 use Rattle.cluster_turns.specs.CallTurns.{Turn, Took, AreOthers, FoundDown, FoundWorn}
 use Rattle.cluster_turns.specs.declared.carrying.CarryError.{CarryError}
 use Rattle.cluster_turns.specs.declared.carrying.CarryError.TheVariants.{Down as CarryDown, Worn as CarryWorn, Memory as NoMemory}

@@ -12,8 +12,8 @@ use Rattle.clv_base.specs.declared.events.Outcome.TheVariants.{Answered, Dead, W
 use Rattle.clv_base.specs.Shards.{span}
 use Rattle.clv_base.specs.Sessions.{SessionState, is_of_session}
 use Rattle.turn_lock.specs.declared.pass.Pass.{Pass}
-use Rattle.turn_laws.specs.declared.notes.Note.{Note}
-use Rattle.turn_laws.specs.declared.notes.Origin.{Origin}
+use Rattle.machine_laws.specs.declared.notes.Note.{Note}
+use Rattle.machine_laws.specs.declared.notes.Origin.{Origin}
 use Rattle.cluster_turns.specs.CallTurns.{Turn, Took, AnyTurn, FoundDown, FoundWorn}
 use Rattle.session_ops.specs.declared.operating.OpError.{OpError}
 use Rattle.session_ops.specs.declared.operating.OpError.TheVariants.{Aborted, Down, Worn, Memory}

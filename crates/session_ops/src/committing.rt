@@ -13,7 +13,7 @@ use cluster_turns::{Place, Shards, Walker};
 use clv_base::causes::AbortCause;
 use clv_base::events::Outcome;
 use clv_base::names::Point;
-use io_edge::Pace;
+use io_model::Pace;
 use machine_calls::{Flier, StepError};
 use std::alloc::Global;
 use std::sync::Wait;

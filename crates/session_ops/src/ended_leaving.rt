@@ -10,7 +10,7 @@ ghost use Rattle.session_ops.specs.Decided.{Leaving, LeavesIf, IsLeftOver, Decid
 use crate::{SettleError, drop_parts, settle};
 use cluster_turns::{Place, Shards, Walker};
 use clv_base::names::Point;
-use io_edge::Pace;
+use io_model::Pace;
 use machine_calls::{Flier, Machine};
 use std::alloc::Global;
 use std::sync::Wait;

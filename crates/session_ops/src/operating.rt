@@ -16,7 +16,7 @@ use clv_base::causes::AbortCause;
 use clv_base::events::Outcome;
 use clv_base::ops::{Answer, Op};
 use crossbeam_utils::Backoff;
-use io_edge::Pace;
+use io_model::Pace;
 use machine_calls::{Flier, Machine, StepError};
 use std::alloc::Global;
 use std::sync::Wait;

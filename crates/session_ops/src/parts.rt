@@ -3,14 +3,14 @@ ghost use Rattle.std.specs.Prelude.{◌≡◌, ◌<◌, length};
 ghost use Rattle.cluster_turns.specs.Walkers.{IsWalker, IsSameWalker};
 ghost use Rattle.session_ops.specs.Rounds.{Rounded, refusal_of};
 
-use batch_gate::Batch;
 use cluster_turns::{
     Carry, CarryError, FlushError, Flushed, Shards, Walker, carry_once, flush_once, remind_once,
 };
-use io_edge::Pace;
+use io_model::Pace;
 use machine_calls::{Flier, Machine};
 use std::alloc::Global;
 use std::sync::Wait;
+use turn_lock::Batch;
 
 /// Why a round ended early.
 #[derive(Clone, Copy, Debug, PartialEq, Eq)]

@@ -12,7 +12,7 @@ use crate::scanned_parts::perform;
 use cluster_turns::{Place, Shards, Walker};
 use clv_base::ops::{Answer, Op};
 use clv_base::splits::Splits;
-use io_edge::Pace;
+use io_model::Pace;
 use machine_calls::Flier;
 use std::alloc::Global;
 use std::sync::Wait;

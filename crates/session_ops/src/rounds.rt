@@ -5,7 +5,7 @@ ghost use Rattle.session_ops.specs.Rounds.{Rounded};
 
 use crate::parts::{Met, RoundError, await_writer, carry_all, flush, remind};
 use cluster_turns::{Shards, Walker};
-use io_edge::Pace;
+use io_model::Pace;
 use machine_calls::{Flier, Machine};
 use std::alloc::Global;
 use std::sync::Wait;

@@ -12,7 +12,7 @@ ghost use Rattle.session_ops.specs.Parts.{Performing, StandsUnless, has_died};
 use crate::{OpError, leave_if, operate};
 use cluster_turns::{Place, Shards, Walker};
 use clv_base::ops::{Answer, Op};
-use io_edge::Pace;
+use io_model::Pace;
 use machine_calls::Flier;
 use std::alloc::Global;
 use std::sync::Wait;

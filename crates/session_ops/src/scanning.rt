@@ -13,7 +13,7 @@ use cluster_turns::{Place, Shards, Walker};
 use clv_base::lists::Pairs;
 use clv_base::ops::{Answer, Op};
 use clv_base::splits::Splits;
-use io_edge::Pace;
+use io_model::Pace;
 use machine_calls::Flier;
 use std::alloc::Global;
 use std::sync::Wait;

@@ -10,7 +10,7 @@ use crate::settled_looking::{SettleError, look_once};
 use crate::waiting::{give_way, horizon_at, pass_round};
 use cluster_turns::{Place, Shards, Walker};
 use clv_base::names::Point;
-use io_edge::Pace;
+use io_model::Pace;
 use machine_calls::Flier;
 use std::alloc::Global;
 use std::sync::Wait;

@@ -7,7 +7,7 @@ ghost use Rattle.session_ops.specs.Requested.{IsStanding};
 use crate::{RoundError, round_for};
 use cluster_turns::{Place, Shards, Walker};
 use crossbeam_utils::Backoff;
-use io_edge::Pace;
+use io_model::Pace;
 use machine_calls::{Flier, Machine};
 use std::alloc::Global;
 use std::array;

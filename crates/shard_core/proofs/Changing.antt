@@ -10,11 +10,11 @@ use Rattle.clv_base.specs.Undo.{stage_of, doomed_here, roll_back}
 use Rattle.clv_base.specs.OneShard.{purge, rolled_back_if, without_part, dropped_part, drop_part}
 use Rattle.clv_base.specs.Due.{total, part_work}
 use Rattle.clv_base.specs.Events.{finish}
-use Rattle.due_laws.specs.Candidates.{Cover}
-use Rattle.due_laws.specs.Changes.{ChangesDue}
-use Rattle.due_laws.specs.Purging.{WritesAreLocked}
-use Rattle.due_laws.specs.Left.{left}
-use Rattle.due_laws.proofs.Laws.{cover_grows, purges_dont_matter, gone_le, parts_le, rolled_stay, without_stay, dropped_stay}
+use Rattle.protocol_laws.specs.Candidates.{Cover}
+use Rattle.protocol_laws.specs.Changes.{ChangesDue}
+use Rattle.protocol_laws.specs.Purging.{WritesAreLocked}
+use Rattle.protocol_laws.specs.Left.{left}
+use Rattle.protocol_laws.proofs.Laws.{cover_grows, purges_dont_matter, gone_le, parts_le, rolled_stay, without_stay, dropped_stay}
 use Rattle.due_step.specs.Ready.{IsReady}
 use Rattle.due_step.specs.Sent.{Waiting}
 use Rattle.txn_core.specs.State.{TxState}

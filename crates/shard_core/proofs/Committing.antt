@@ -11,11 +11,11 @@ use Rattle.clv_base.specs.Due.{append_log}
 use Rattle.clv_base.specs.Events.{decided}
 use Rattle.clv_base.proofs.SameNames.{or_left, or_right, tx_true}
 use Rattle.protocol_laws.specs.UndoLaws.{is_pair}
-use Rattle.due_laws.specs.Changes.{successors_of}
-use Rattle.due_laws.specs.Depending.{DependentsHaveParts}
-use Rattle.due_laws.specs.Left.{left}
-use Rattle.due_laws.proofs.Laws.{decisions_touch}
-use Rattle.due_candidates.specs.Held.{Candidates}
+use Rattle.protocol_laws.specs.Changes.{successors_of}
+use Rattle.protocol_laws.specs.Depending.{DependentsHaveParts}
+use Rattle.protocol_laws.specs.Left.{left}
+use Rattle.protocol_laws.proofs.Laws.{decisions_touch}
+use Rattle.tx_table.specs.Held.{Candidates}
 use Rattle.due_step.specs.Noting.{known_keys}
 use Rattle.due_step.proofs.Laws.{pair_of}
 use Rattle.txn_core.specs.State.{TxState, IsSameBut}

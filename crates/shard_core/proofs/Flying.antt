@@ -6,8 +6,8 @@ use Rattle.clv_base.specs.declared.names.TxId.{TxId}
 use Rattle.clv_base.specs.Orders.{tx_in}
 use Rattle.clv_base.specs.State.{Shard}
 use Rattle.clv_base.specs.Events.{with_durable}
-use Rattle.due_laws.specs.Depending.{DependentsHaveParts}
-use Rattle.due_candidates.specs.Held.{Candidates, HasRoomBy}
+use Rattle.protocol_laws.specs.Depending.{DependentsHaveParts}
+use Rattle.tx_table.specs.Held.{Candidates, HasRoomBy}
 use Rattle.due_step.specs.Noting.{known_keys}
 use Rattle.due_step.proofs.Laws.{keys_length}
 use Rattle.txn_core.specs.Landed.{concern}

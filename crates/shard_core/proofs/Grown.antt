@@ -22,20 +22,20 @@ use Rattle.clv_base.specs.Due.{total, part_work}
 use Rattle.clv_base.specs.Events.{coordinate, owe_vote}
 use Rattle.clv_base.proofs.SameNames.{or_left, or_right, in_insert, tx_true}
 use Rattle.protocol_laws.specs.UndoLaws.{is_pair}
-use Rattle.due_laws.specs.Changes.{ChangesDue, successors_of}
-use Rattle.due_laws.specs.Depending.{DependentsHaveParts}
-use Rattle.due_laws.specs.Left.{is_finished, is_idle, is_lone, left_by, left_request, left}
-use Rattle.due_laws.proofs.Laws.{keys_stay, close_keeps, parts_more, put_total_by, PartsStay, stay_same, closed_stay}
+use Rattle.protocol_laws.specs.Changes.{ChangesDue, successors_of}
+use Rattle.protocol_laws.specs.Depending.{DependentsHaveParts}
+use Rattle.protocol_laws.specs.Left.{is_finished, is_idle, is_lone, left_by, left_request, left}
+use Rattle.protocol_laws.proofs.Laws.{keys_stay, close_keeps, parts_more, put_total_by, PartsStay, stay_same, closed_stay}
 use Rattle.due_step.specs.Ready.{IsReady}
-use Rattle.due_candidates.specs.Held.{Candidates, HasRoomFor, HasRoomBy}
+use Rattle.tx_table.specs.Held.{Candidates, HasRoomFor, HasRoomBy}
 use Rattle.due_step.specs.Sent.{Waiting}
 use Rattle.due_step.specs.Noting.{known_keys}
 use Rattle.due_step.proofs.Laws.{keys_length, known_have_room, pair_of}
 use Rattle.due_step.specs.Steps.{ArePrepares}
 use Rattle.txn_core.specs.State.{TxState, IsSameBut}
 use Rattle.txn_core.specs.Sound.{is_here, owed_by, KeepsSpare, SpendsSpare}
-use Rattle.vote_participant.specs.Voting.{Voting}
-use Rattle.commit_coordinator.specs.Coordinated.{Coordination}
+use Rattle.two_phase_commit.specs.Voting.{Voting}
+use Rattle.two_phase_commit.specs.Coordinated.{Coordination}
 use Rattle.shard_core.specs.Requesting.{HasStayed, HasMade}
 use Rattle.shard_core.specs.Whole.{HasRoom, AreKnown, IsAtRest}
 use Rattle.shard_core.proofs.Seeing.{part_known, pair_has}

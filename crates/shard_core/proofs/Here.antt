@@ -14,9 +14,9 @@ use Rattle.clv_base.specs.State.{Shard, is_present}
 use Rattle.clv_base.specs.Facts.{facts_of, is_closed_state, is_waiting, state_by}
 use Rattle.clv_base.proofs.SameNames.{or_left, or_right, tx_flip}
 use Rattle.law_base.proofs.Changed.{none_some, some_same}
-use Rattle.tx_index.specs.Index.{index_of}
-use Rattle.tx_index.specs.Parts.{is_here, parts_here}
-use Rattle.vote_participant.specs.Voting.{asks_by}
+use Rattle.tx_table.specs.Index.{index_of}
+use Rattle.tx_table.specs.Parts.{is_here, parts_here}
+use Rattle.two_phase_commit.specs.Voting.{asks_by}
 
 -- a row that passes is in the index
 index_finds : {V : Type 0} (test : V → Bool) (t : TxId) (v : V) (rows : Table V) → tx_get t rows ≡ Some v → test v ≡ true → tx_in t (index_of test rows) ≡ true

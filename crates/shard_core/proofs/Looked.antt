@@ -7,7 +7,7 @@ use Rattle.clv_base.specs.Logs.{place_from}
 use Rattle.clv_base.specs.State.{with_local}
 use Rattle.clv_base.specs.OneShard.{purge}
 use Rattle.clv_base.specs.Events.{finish}
-use Rattle.due_laws.proofs.Laws.{none_is_nothing, nothing_to_do}
+use Rattle.protocol_laws.proofs.Laws.{none_is_nothing, nothing_to_do}
 use Rattle.shard_core.specs.Core.{Core}
 use Rattle.shard_core.specs.Whole.{IsAtRest}
 

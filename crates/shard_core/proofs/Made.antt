@@ -14,10 +14,10 @@ use Rattle.clv_base.specs.declared.state.Held.{Held}
 use Rattle.clv_base.specs.Coordinator.{restored_request, restored_requests}
 use Rattle.clv_base.specs.Participant.{restored_voter, restored_voters}
 use Rattle.clv_base.specs.Restarts.{restored_part, restored_parts, homes_of, unended_in, local_after, state_after}
-use Rattle.commit_coordinator.specs.Unended.{UnendedRise}
-use Rattle.due_laws.specs.Depending.{DependentsHaveParts, RestartsHaveParts}
-use Rattle.due_laws.specs.Left.{is_finished, is_idle, left_voter, left_request, total_by, left}
-use Rattle.due_laws.proofs.Laws.{at_rest_none}
+use Rattle.two_phase_commit.specs.Unended.{UnendedRise}
+use Rattle.protocol_laws.specs.Depending.{DependentsHaveParts, RestartsHaveParts}
+use Rattle.protocol_laws.specs.Left.{is_finished, is_idle, left_voter, left_request, total_by, left}
+use Rattle.protocol_laws.proofs.Laws.{at_rest_none}
 use Rattle.due_step.specs.Ready.{IsReady}
 use Rattle.due_step.specs.Noting.{known_keys}
 use Rattle.due_step.specs.Steps.{ArePrepares}

@@ -21,9 +21,9 @@ use Rattle.clv_base.specs.OneShard.{OpReply, OpDies, OpAnswers, op_reply, new_pa
 use Rattle.clv_base.specs.Events.{finish}
 use Rattle.clv_base.specs.Due.{total, part_work}
 use Rattle.clv_base.proofs.SameNames.{or_left, or_right, tx_true}
-use Rattle.due_laws.specs.Depending.{HasPart}
-use Rattle.due_laws.proofs.Laws.{operations_touch, performed_keeps, without_keeps, put_keeps, put_has, get_has}
-use Rattle.due_candidates.specs.Held.{Candidates}
+use Rattle.protocol_laws.specs.Depending.{HasPart}
+use Rattle.protocol_laws.proofs.Laws.{operations_touch, performed_keeps, without_keeps, put_keeps, put_has, get_has}
+use Rattle.tx_table.specs.Held.{Candidates}
 use Rattle.due_step.specs.Noting.{known_keys}
 use Rattle.txn_core.specs.State.{TxState, IsSameBut}
 use Rattle.txn_core.specs.Replies.{Replies}
@@ -37,8 +37,8 @@ use Rattle.shard_core.proofs.Seeing.{single, part_known, doomed_known}
 use Rattle.shard_core.proofs.Logged.{All, logged_more, logged_known, logged_without}
 use Rattle.shard_core.proofs.Changing.{room_kept, without_le, cover_purged}
 use Rattle.clv_base.specs.declared.state.Request.{Request}
-use Rattle.commit_coordinator.specs.Coordinated.{state_by}
-use Rattle.due_laws.proofs.Laws.{performed_le}
+use Rattle.two_phase_commit.specs.Coordinated.{state_by}
+use Rattle.protocol_laws.proofs.Laws.{performed_le}
 use Rattle.shard_core.proofs.Taking.{here_in, without_keys, without_prepares, stage_known, known_doomed}
 use Rattle.shard_core.proofs.Committing.{idle_holds, idle_ready}
 use Rattle.shard_core.proofs.Replied.{Leaves, reply_leaves}

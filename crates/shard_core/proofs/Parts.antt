@@ -12,17 +12,17 @@ use Rattle.clv_base.specs.Logs.{prepare_lsn}
 use Rattle.clv_base.specs.State.{Shard, Local, with_local}
 use Rattle.clv_base.specs.OneShard.{purge}
 use Rattle.clv_base.specs.Events.{finish}
-use Rattle.due_laws.specs.Candidates.{Cover}
-use Rattle.due_laws.specs.Changes.{ChangesDue}
-use Rattle.due_laws.specs.Depending.{DependentsHaveParts}
+use Rattle.protocol_laws.specs.Candidates.{Cover}
+use Rattle.protocol_laws.specs.Changes.{ChangesDue}
+use Rattle.protocol_laws.specs.Depending.{DependentsHaveParts}
 use Rattle.due_step.specs.Ready.{IsReady}
-use Rattle.due_candidates.specs.Held.{Candidates}
+use Rattle.tx_table.specs.Held.{Candidates}
 use Rattle.due_step.specs.Sent.{Waiting}
 use Rattle.due_step.specs.Steps.{ArePrepares}
 use Rattle.txn_core.specs.State.{TxState}
 use Rattle.txn_core.specs.Sound.{IsSound}
-use Rattle.vote_participant.specs.Voting.{Voting}
-use Rattle.commit_coordinator.specs.Coordinated.{Coordination}
+use Rattle.two_phase_commit.specs.Voting.{Voting}
+use Rattle.two_phase_commit.specs.Coordinated.{Coordination}
 use Rattle.shard_core.specs.Core.{Core, seen_as}
 use Rattle.shard_core.specs.Whole.{HasRoom, AreKnown, IsWhole, IsAtRest}
 use Rattle.due_step.specs.Noting.{known_keys}

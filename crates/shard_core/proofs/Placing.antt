@@ -7,7 +7,7 @@ use Rattle.clv_base.specs.declared.logs.LogRecord.TheVariants.{Prepare, Commit}
 use Rattle.clv_base.specs.Orders.{tx_same}
 use Rattle.clv_base.specs.Logs.{place_from, prepare_lsn, is_prepare_of}
 use Rattle.clv_base.proofs.SameNames.{tx_flip}
-use Rattle.due_laws.proofs.Laws.{place_more}
+use Rattle.protocol_laws.proofs.Laws.{place_more}
 use Rattle.txn_core.specs.Closings.{IsClosing}
 use Rattle.txn_core.specs.declared.plans.Closing.{Closing}
 use Rattle.txn_core.specs.declared.plans.Closing.TheVariants.{Commit as CommitWritten, Prepare as PrepareWritten, Silent as NothingWritten}

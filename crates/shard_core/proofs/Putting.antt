@@ -13,10 +13,10 @@ use Rattle.clv_base.specs.Orders.{Table, tx_cmp, tx_same, tx_in, tx_get, tx_put}
 use Rattle.clv_base.specs.Participant.{asked_voter, voters_asked}
 use Rattle.clv_base.specs.OneShard.{closed_part, closed_in}
 use Rattle.clv_base.specs.Due.{total, part_work}
-use Rattle.due_laws.specs.Left.{left_voter, total_by}
+use Rattle.protocol_laws.specs.Left.{left_voter, total_by}
 use Rattle.clv_base.proofs.SameNames.{or_left, or_right, tx_true, tx_self, tx_eq}
 use Rattle.law_base.proofs.Sets.{tx_total, AllAbove as Above}
-use Rattle.due_laws.proofs.Laws.{in_append}
+use Rattle.protocol_laws.proofs.Laws.{in_append}
 use Rattle.law_base.proofs.Names.{in_first as in_left, in_second as in_right, not_above as above_none}
 
 -- ---- who is in it

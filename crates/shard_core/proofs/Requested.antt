@@ -14,15 +14,15 @@ use Rattle.clv_base.specs.Orders.{nat_in}
 use Rattle.clv_base.specs.Events.{is_alone}
 use Rattle.clv_base.specs.Coordinator.{others, first_no, counts_vote, takes_vote, with_vote_of, takes_done, with_done_of}
 use Rattle.clv_base.proofs.SameNames.{tx_true, in_insert, insert_has}
-use Rattle.due_laws.specs.Changes.{ChangesDue}
-use Rattle.due_laws.specs.Left.{is_idle, left_by, left_request, left}
-use Rattle.due_laws.proofs.Laws.{total_by_at, set_keys, answers_touch}
+use Rattle.protocol_laws.specs.Changes.{ChangesDue}
+use Rattle.protocol_laws.specs.Left.{is_idle, left_by, left_request, left}
+use Rattle.protocol_laws.proofs.Laws.{total_by_at, set_keys, answers_touch}
 use Rattle.shard_core.proofs.Changing.{room_kept}
-use Rattle.due_candidates.specs.Held.{Candidates, HasRoomFor}
+use Rattle.tx_table.specs.Held.{Candidates, HasRoomFor}
 use Rattle.due_step.specs.Noting.{known_keys}
 use Rattle.due_step.proofs.Laws.{keys_length}
 use Rattle.txn_core.specs.Sound.{HasSpare}
-use Rattle.commit_coordinator.specs.Coordinated.{Coordination, counts_by, done_by, requests_with, requests_done}
+use Rattle.two_phase_commit.specs.Coordinated.{Coordination, counts_by, done_by, requests_with, requests_done}
 use Rattle.shard_core.specs.Replying.{vote_taken, done_taken}
 use Rattle.shard_core.specs.Whole.{HasRoom, AreKnown, IsAtRest}
 use Rattle.shard_core.proofs.Logged.{logged_known}

@@ -20,11 +20,11 @@ use Rattle.clv_base.specs.Due.{due_of, finish_reader}
 use Rattle.clv_base.proofs.SameNames.{or_left, tx_true, tx_self}
 use Rattle.protocol_laws.specs.UndoLaws.{is_pair}
 use Rattle.protocol_laws.proofs.Laws.{doomed_is_closure}
-use Rattle.due_laws.specs.Depending.{HasPart, DependentsHaveParts}
-use Rattle.due_laws.specs.Purging.{IsLocked, WritesAreLocked}
-use Rattle.due_laws.proofs.Laws.{place_more, undone_none, due_keeps_keys}
+use Rattle.protocol_laws.specs.Depending.{HasPart, DependentsHaveParts}
+use Rattle.protocol_laws.specs.Purging.{IsLocked, WritesAreLocked}
+use Rattle.protocol_laws.proofs.Laws.{place_more, undone_none, due_keeps_keys}
 use Rattle.due_step.specs.Ready.{least}
-use Rattle.due_candidates.specs.Held.{AreAmong}
+use Rattle.tx_table.specs.Held.{AreAmong}
 use Rattle.due_step.specs.Found.{carried, vote_sent}
 use Rattle.due_step.specs.declared.finding.Due.{Due}
 use Rattle.due_step.specs.declared.finding.Due.TheVariants.{Commit, Vote as DueVote, Ruling as DueRuling}
@@ -34,8 +34,8 @@ use Rattle.due_step.proofs.Laws.{own_doomed, ruled_doomed, keys_length}
 use Rattle.due_step.specs.Steps.{IsSeen}
 use Rattle.txn_core.specs.State.{TxState}
 use Rattle.txn_core.specs.Sound.{IsHeld, IsSound}
-use Rattle.vote_participant.specs.Voting.{Voting}
-use Rattle.commit_coordinator.specs.Coordinated.{Coordination}
+use Rattle.two_phase_commit.specs.Voting.{Voting}
+use Rattle.two_phase_commit.specs.Coordinated.{Coordination}
 use Rattle.shard_core.specs.Core.{flight_by, seen_as}
 use Rattle.law_base.proofs.Lists.{all_mono as all_weaker}
 use Rattle.law_base.proofs.Names.{in_first}

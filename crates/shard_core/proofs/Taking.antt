@@ -10,9 +10,9 @@ use Rattle.clv_base.specs.State.{Shard, Local, is_present}
 use Rattle.clv_base.specs.Undo.{stage_of, doomed_by, doomed_here, roll_back}
 use Rattle.clv_base.specs.OneShard.{rolled_back_if, without_part, drop_part}
 use Rattle.law_base.proofs.Sets.{in_filter}
-use Rattle.due_laws.specs.Depending.{HasPart, DependentsHaveParts}
-use Rattle.due_laws.proofs.Laws.{keys_stay, get_has}
-use Rattle.due_candidates.specs.Held.{Candidates}
+use Rattle.protocol_laws.specs.Depending.{HasPart, DependentsHaveParts}
+use Rattle.protocol_laws.proofs.Laws.{keys_stay, get_has}
+use Rattle.tx_table.specs.Held.{Candidates}
 use Rattle.due_step.specs.Noting.{known_keys}
 use Rattle.due_step.proofs.Laws.{keys_length}
 use Rattle.shard_core.specs.Whole.{AreKnown}

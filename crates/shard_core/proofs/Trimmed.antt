@@ -12,13 +12,13 @@ use Rattle.clv_base.specs.Orders.{Table, tx_get, tx_cmp}
 use Rattle.clv_base.specs.State.{Shard}
 use Rattle.clv_base.specs.Coordinator.{others}
 use Rattle.clv_base.specs.Events.{is_alone}
-use Rattle.commit_coordinator.specs.Waiting.{waits_in as waits_here, waits, waiting_in}
-use Rattle.due_laws.specs.Rooms.{voter_of}
-use Rattle.due_laws.specs.Left.{left}
-use Rattle.tx_index.specs.Parts.{parts_here}
-use Rattle.vote_participant.specs.Voting.{owed_by}
-use Rattle.due_laws.specs.Open.{txs_here, votes_owed, waits_in, count_waiting, open_work}
-use Rattle.due_laws.proofs.Laws.{none_is_nothing, left_by_open}
+use Rattle.two_phase_commit.specs.Waiting.{waits_in as waits_here, waits, waiting_in}
+use Rattle.protocol_laws.specs.Rooms.{voter_of}
+use Rattle.protocol_laws.specs.Left.{left}
+use Rattle.tx_table.specs.Parts.{parts_here}
+use Rattle.two_phase_commit.specs.Voting.{owed_by}
+use Rattle.protocol_laws.specs.Open.{txs_here, votes_owed, waits_in, count_waiting, open_work}
+use Rattle.protocol_laws.proofs.Laws.{none_is_nothing, left_by_open}
 use Rattle.due_step.specs.Sent.{Waiting}
 use Rattle.txn_core.specs.State.{TxState}
 use Rattle.txn_core.specs.Sound.{is_here, owed_by as undo_owed_by, trimmed}

@@ -10,12 +10,12 @@ use Rattle.clv_base.specs.State.{Shard, Local, with_local}
 use Rattle.clv_base.specs.Undo.{doomed_by}
 use Rattle.clv_base.specs.OneShard.{purge}
 use Rattle.clv_base.specs.Due.{due_of, next_due}
-use Rattle.due_laws.specs.Candidates.{Cover}
-use Rattle.due_laws.specs.Depending.{DependentsHaveParts}
-use Rattle.due_laws.specs.Left.{left}
-use Rattle.due_laws.proofs.Laws.{least_is_next, left_falls, due_keeps_parts, due_keeps_keys}
+use Rattle.protocol_laws.specs.Candidates.{Cover}
+use Rattle.protocol_laws.specs.Depending.{DependentsHaveParts}
+use Rattle.protocol_laws.specs.Left.{left}
+use Rattle.protocol_laws.proofs.Laws.{least_is_next, left_falls, due_keeps_parts, due_keeps_keys}
 use Rattle.due_step.specs.Ready.{IsReady, IsDone, least, but_least}
-use Rattle.due_candidates.specs.Held.{Candidates, AreAmong, HasRoomBy}
+use Rattle.tx_table.specs.Held.{Candidates, AreAmong, HasRoomBy}
 use Rattle.due_step.specs.Found.{carried}
 use Rattle.due_step.specs.declared.finding.Due.{Due}
 use Rattle.due_step.specs.Sent.{Waiting}
@@ -25,8 +25,8 @@ use Rattle.due_step.specs.Steps.{Steps, Notes}
 use Rattle.due_step.proofs.Laws.{kept}
 use Rattle.txn_core.specs.State.{TxState}
 use Rattle.txn_core.specs.Sound.{is_here, owed_by, IsSound, SpendsSpare}
-use Rattle.vote_participant.specs.Voting.{Voting}
-use Rattle.commit_coordinator.specs.Coordinated.{Coordination}
+use Rattle.two_phase_commit.specs.Voting.{Voting}
+use Rattle.two_phase_commit.specs.Coordinated.{Coordination}
 use Rattle.shard_core.specs.Core.{seen_as}
 use Rattle.shard_core.specs.Whole.{HasRoom, AreKnown, IsOfKnown, IsWhole}
 use Rattle.shard_core.proofs.Logged.{logged_carried}

@@ -4,8 +4,8 @@ use Rattle.std.specs.Prelude.{ℕ, cond, true, ◌==◌, List, [], Option, Some,
 use Rattle.clv_base.specs.declared.names.TxId.{TxId}
 use Rattle.clv_base.specs.State.{Shard}
 use Rattle.txn_core.specs.State.{TxState}
-use Rattle.vote_participant.specs.Voting.{Voting}
-use Rattle.commit_coordinator.specs.Coordinated.{Coordination}
+use Rattle.two_phase_commit.specs.Voting.{Voting}
+use Rattle.two_phase_commit.specs.Coordinated.{Coordination}
 use Rattle.due_step.specs.Sent.{Waiting}
 
 pub record Core : Type 0 where

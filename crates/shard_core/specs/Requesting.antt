@@ -6,7 +6,7 @@ use Rattle.clv_base.specs.declared.events.Outcome.{Outcome}
 use Rattle.clv_base.specs.declared.events.Outcome.TheVariants.{Asked, Dead}
 use Rattle.clv_base.specs.Orders.{tx_get}
 use Rattle.clv_base.specs.Coordinator.{doom_cause}
-use Rattle.due_candidates.specs.Held.{Candidates}
+use Rattle.tx_table.specs.Held.{Candidates}
 use Rattle.due_step.specs.Sent.{Waiting}
 use Rattle.txn_core.specs.State.{TxState, IsSameBut}
 use Rattle.txn_core.specs.Sound.{HasSpare}

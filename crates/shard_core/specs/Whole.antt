@@ -6,16 +6,16 @@ use Rattle.clv_base.specs.declared.logs.LogRecord.{LogRecord}
 use Rattle.clv_base.specs.declared.logs.LogRecord.TheVariants.{Prepare, Commit}
 use Rattle.clv_base.specs.Orders.{Table, tx_in}
 use Rattle.clv_base.specs.State.{Shard}
-use Rattle.due_laws.specs.Depending.{DependentsHaveParts}
-use Rattle.due_laws.specs.Left.{left}
+use Rattle.protocol_laws.specs.Depending.{DependentsHaveParts}
+use Rattle.protocol_laws.specs.Left.{left}
 use Rattle.due_step.specs.Ready.{IsReady}
-use Rattle.due_candidates.specs.Held.{Candidates, AreAmong}
+use Rattle.tx_table.specs.Held.{Candidates, AreAmong}
 use Rattle.due_step.specs.Noting.{known_keys}
 use Rattle.due_step.specs.Steps.{ArePrepares}
 use Rattle.txn_core.specs.State.{TxState}
 use Rattle.txn_core.specs.Sound.{HasSpare}
-use Rattle.vote_participant.specs.Voting.{Voting}
-use Rattle.commit_coordinator.specs.Coordinated.{Coordination}
+use Rattle.two_phase_commit.specs.Voting.{Voting}
+use Rattle.two_phase_commit.specs.Coordinated.{Coordination}
 use Rattle.due_step.specs.Sent.{Waiting}
 use Rattle.shard_core.specs.Core.{Core}
 

@@ -4,8 +4,8 @@ ghost use Rattle.std.specs.List.Sorted.{IsStrictlySortedBy};
 ghost use Rattle.clv_base.specs.Orders.{tx_cmp, tx_get, tx_insert};
 ghost use Rattle.clv_base.specs.OneShard.{purge};
 ghost use Rattle.clv_base.specs.Events.{finish};
-ghost use Rattle.commit_coordinator.specs.Coordinated.{counts_by, done_by, requests_with, requests_done};
-ghost use Rattle.due_candidates.specs.Held.{HasRoomFor};
+ghost use Rattle.two_phase_commit.specs.Coordinated.{counts_by, done_by, requests_with, requests_done};
+ghost use Rattle.tx_table.specs.Held.{HasRoomFor};
 ghost use Rattle.due_step.specs.Ready.{IsReady};
 ghost use Rattle.txn_core.specs.Sound.{IsSound};
 ghost use Rattle.shard_core.specs.Replying.{vote_taken, done_taken};
@@ -14,10 +14,10 @@ ghost use Rattle.shard_core.specs.Whole.{IsAtRest};
 use crate::shard::ShardCore;
 use clv_base::causes::Vote;
 use clv_base::names::TxId;
-use due_candidates::Candidates;
 use due_step::settle_due;
 use lock_table::Locks;
 use ordered_store::Store;
+use tx_table::Candidates;
 use txn_core::ShardTx;
 
 /// One more is a candidate.

@@ -10,7 +10,7 @@ ghost use Rattle.clv_base.specs.Undo.{stage_of as stage_in, doomed_by};
 ghost use Rattle.clv_base.specs.Facts.{undecided_of};
 ghost use Rattle.clv_base.specs.OneShard.{close_part as closed_by, closing as closed_with, purge};
 ghost use Rattle.protocol_laws.specs.UndoLaws.{is_pair};
-ghost use Rattle.due_candidates.specs.Held.{HasRoomBy};
+ghost use Rattle.tx_table.specs.Held.{HasRoomBy};
 ghost use Rattle.due_step.specs.Steps.{ArePrepares};
 ghost use Rattle.txn_core.specs.State.{IsSameBut};
 ghost use Rattle.txn_core.specs.Sound.{IsSound, HasSpare, SpendsSpare};
@@ -20,11 +20,10 @@ ghost use Rattle.shard_core.specs.Requesting.{HasStayed, HasMade, place_after};
 use clv_base::names::TxId;
 use clv_base::parts::ShardList;
 use clv_base::state::Ruling;
-use due_candidates::Candidates;
 use due_step::{Due, Outbox, note_touched};
 use lock_table::Locks;
 use ordered_store::Store;
-use tx_table::TxTable;
+use tx_table::{Candidates, TxTable};
 use txn_core::{Closing, ClosingPlan, Memory, ShardTx};
 
 /// Makes room for so many things more that may become due, and for a record, so many messages and a transaction besides. Where there is no

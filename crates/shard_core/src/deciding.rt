@@ -9,7 +9,7 @@ ghost use Rattle.clv_base.specs.OneShard.{purge};
 ghost use Rattle.clv_base.specs.Due.{append_log, send};
 ghost use Rattle.clv_base.specs.Events.{finish, decided};
 ghost use Rattle.protocol_laws.specs.UndoLaws.{is_pair};
-ghost use Rattle.due_candidates.specs.Held.{HasRoomBy};
+ghost use Rattle.tx_table.specs.Held.{HasRoomBy};
 ghost use Rattle.due_step.specs.Ready.{IsReady};
 ghost use Rattle.due_step.specs.Noting.{known_keys};
 ghost use Rattle.txn_core.specs.State.{IsSameBut};
@@ -21,10 +21,10 @@ use clv_base::messages::Message;
 use clv_base::names::TxId;
 use clv_base::parts::ShardList;
 use clv_base::state::Ruling;
-use due_candidates::Candidates;
 use due_step::{Due, Outbox, note_touched, settle_due};
 use lock_table::Locks;
 use ordered_store::Store;
+use tx_table::Candidates;
 use txn_core::{Memory, ShardTx};
 
 /// A COMMIT is written, and the transaction with its successors are candidates besides.

@@ -7,7 +7,7 @@ ghost use Rattle.clv_base.specs.State.{with_local};
 ghost use Rattle.clv_base.specs.Undo.{stage_of as stage_in, doomed_by};
 ghost use Rattle.clv_base.specs.OneShard.{drop_part as dropped_from, purge};
 ghost use Rattle.clv_base.specs.Events.{finish};
-ghost use Rattle.due_candidates.specs.Held.{HasRoomBy};
+ghost use Rattle.tx_table.specs.Held.{HasRoomBy};
 ghost use Rattle.due_step.specs.Ready.{IsReady};
 ghost use Rattle.txn_core.specs.State.{IsSameBut};
 ghost use Rattle.txn_core.specs.Sound.{IsSound, KeepsSpare};
@@ -15,10 +15,10 @@ ghost use Rattle.shard_core.specs.Whole.{IsAtRest};
 
 use crate::shard::ShardCore;
 use clv_base::names::TxId;
-use due_candidates::Candidates;
 use due_step::settle_due;
 use lock_table::Locks;
 use ordered_store::Store;
+use tx_table::Candidates;
 use txn_core::ShardTx;
 
 /// The part is dropped, and those that it takes away are candidates besides.

@@ -6,17 +6,17 @@ ghost use Rattle.clv_base.specs.Logs.{fitting};
 ghost use Rattle.clv_base.specs.Orders.{tx_cmp, tx_in};
 ghost use Rattle.clv_base.specs.OneShard.{purge};
 ghost use Rattle.clv_base.specs.Events.{finish, taken, with_flight, with_durable};
-ghost use Rattle.due_candidates.specs.Held.{HasRoomBy};
+ghost use Rattle.tx_table.specs.Held.{HasRoomBy};
 ghost use Rattle.due_step.specs.Ready.{IsReady};
 ghost use Rattle.txn_core.specs.Landed.{concern};
 ghost use Rattle.txn_core.specs.Sound.{IsSound};
 ghost use Rattle.shard_core.specs.Whole.{IsAtRest};
 
 use crate::shard::ShardCore;
-use due_candidates::Candidates;
 use due_step::settle_due;
 use lock_table::Locks;
 use ordered_store::Store;
+use tx_table::Candidates;
 use txn_core::ShardTx;
 
 /// The greatest batch, in bytes.

@@ -1,13 +1,13 @@
 //! Room that nothing open may want is given back.
 ghost use Rattle.std.specs.Prelude.{◌≡◌, ◌≤◌, ◌+◌, ◌*◌, IfSome, IfOk, OnOk};
-ghost use Rattle.due_laws.specs.Open.{votes_owed as owed_in, open_work};
+ghost use Rattle.protocol_laws.specs.Open.{votes_owed as owed_in, open_work};
 ghost use Rattle.shard_core.specs.Whole.{IsAtRest};
 
 use crate::shard::ShardCore;
 use clv_base::names::TxId;
-use due_laws::left::left_by_open;
 use lock_table::Locks;
 use ordered_store::Store;
+use protocol_laws::left::left_by_open;
 use std::alloc::Global;
 use txn_core::Memory;
 

@@ -4,7 +4,7 @@ ghost use Rattle.clv_base.specs.Facts.{facts_of, has_durable_commit as is_durabl
 ghost use Rattle.clv_base.specs.Logs.{committed_in, fitting, is_below as below};
 ghost use Rattle.clv_base.specs.Orders.{tx_get};
 ghost use Rattle.clv_base.specs.Events.{finish, taken as taken_upto};
-ghost use Rattle.commit_coordinator.specs.Coordinated.{state_by};
+ghost use Rattle.two_phase_commit.specs.Coordinated.{state_by};
 ghost use Rattle.shard_core.specs.Core.{flight_by as flies_by};
 ghost use Rattle.shard_core.specs.Whole.{IsAtRest};
 

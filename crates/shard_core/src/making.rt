@@ -13,20 +13,19 @@ use crate::prepares_of;
 use crate::shard::ShardCore;
 use clv_base::names::TxId;
 use clv_base::parts::ShardList;
-use commit_coordinator::Coordinator;
-use commit_coordinator::laws::unended_rise;
-use due_candidates::Candidates;
-use due_laws::depending::restarts_have_parts;
 use due_step::Outbox;
-use gate_recovery::Recovered;
 use lock_table::Locks;
 use ordered_store::Store;
+use protocol_laws::depending::restarts_have_parts;
 use protocol_laws::events::restarts_end_at_rest;
+use shard_recovery::Recovered;
 use shard_restoring::restored;
 use std::alloc::Global;
+use two_phase_commit::coordinator_laws::unended_rise;
+use two_phase_commit::doubts::doubtful_rise;
+use two_phase_commit::{Coordinator, Participant};
+use tx_table::Candidates;
 use txn_core::Memory;
-use vote_participant::Participant;
-use vote_participant::doubts::doubtful_rise;
 
 /// How much may be left to do where so many are in doubt and so many commits without an END, and one thing more.
 fn room_for(in_doubt: usize, unended: usize) -> Option<usize>

@@ -5,8 +5,8 @@ ghost use Rattle.clv_base.specs.declared.names.TxId.{TxId as Tx};
 ghost use Rattle.clv_base.specs.Orders.{tx_cmp, tx_get, tx_in};
 ghost use Rattle.clv_base.specs.Undo.{stage_of as stage_in, doomed_by};
 ghost use Rattle.clv_base.specs.OneShard.{op_reply, purge};
-ghost use Rattle.commit_coordinator.specs.Coordinated.{state_by};
-ghost use Rattle.due_candidates.specs.Held.{Candidates as Held, HasRoomBy};
+ghost use Rattle.two_phase_commit.specs.Coordinated.{state_by};
+ghost use Rattle.tx_table.specs.Held.{Candidates as Held, HasRoomBy};
 ghost use Rattle.due_step.specs.Ready.{IsReady};
 ghost use Rattle.txn_core.specs.State.{IsSameBut};
 ghost use Rattle.txn_core.specs.Replies.{Replies};
@@ -17,11 +17,11 @@ ghost use Rattle.shard_core.specs.Whole.{IsAtRest};
 use crate::shard::ShardCore;
 use clv_base::names::{Birth, TxId};
 use clv_base::ops::Op;
-use due_candidates::Candidates;
 use due_step::settle_due;
 use lock_table::Locks;
 use ordered_store::Store;
 use std::alloc::Global;
+use tx_table::Candidates;
 use txn_core::{Memory, Reply, ShardTx};
 
 /// Those whom the death of the transaction takes away are candidates, where its part is known; else there is room for one more that is known.

@@ -8,20 +8,20 @@ ghost use Rattle.clv_base.specs.Coordinator.{home_reminders as reminders_of_home
 ghost use Rattle.clv_base.specs.Participant.{asks};
 ghost use Rattle.clv_base.specs.Due.{send};
 ghost use Rattle.clv_base.specs.Events.{finish, durable_requests, waiting_voters, reminders as reminders_of};
-ghost use Rattle.vote_participant.specs.Voting.{asks_by};
+ghost use Rattle.two_phase_commit.specs.Voting.{asks_by};
 ghost use Rattle.due_step.specs.Ready.{IsReady};
 ghost use Rattle.shard_core.specs.Whole.{IsAtRest};
 
 use crate::shard::ShardCore;
 use clv_base::messages::Message;
 use clv_base::names::TxId;
-use commit_coordinator::laws::reminders_by_waiting;
 use due_step::{Outbox, settle_due};
 use lock_table::Locks;
 use ordered_store::Store;
 use std::alloc::Global;
+use two_phase_commit::coordinator_laws::reminders_by_waiting;
+use two_phase_commit::doubts::waiting_among;
 use txn_core::Memory;
-use vote_participant::doubts::waiting_among;
 
 /// These messages go behind the others.
 fn tell_these(outbox: &mut Outbox, messages: &[Message]) -> Result<(), Memory>

@@ -1,14 +1,12 @@
 //! The core.
 
-use commit_coordinator::Coordinator;
-use due_candidates::Candidates;
 use due_step::Outbox;
 use lock_table::Locks;
 use ordered_store::Store;
 use std::marker::Model;
-use tx_table::TxTable;
+use two_phase_commit::{Coordinator, Participant};
+use tx_table::{Candidates, TxTable};
 use txn_core::ShardTx;
-use vote_participant::Participant;
 
 /// The parts of one shard, in one epoch.
 #[derive(Drop)]

@@ -7,10 +7,10 @@ use Rattle.clv_base.specs.Logs.{fitting}
 use Rattle.clv_base.specs.State.{Shard, with_local}
 use Rattle.clv_base.specs.OneShard.{purge}
 use Rattle.clv_base.specs.Events.{QuietBeforeWorn, Does, finish, with_flight, taken, out_event, happen_up}
-use Rattle.log_flush.proofs.Laws.{few_fit}
+use Rattle.log_buffer.proofs.Laws.{few_fit}
 use Rattle.machine_calls.specs.Flights.{flying}
-use Rattle.due_laws.specs.Candidates.{Cover}
-use Rattle.due_laws.proofs.Laws.{nobody_is_touched, cover_grows, none_is_nothing, nothing_to_do}
+use Rattle.protocol_laws.specs.Candidates.{Cover}
+use Rattle.protocol_laws.proofs.Laws.{nobody_is_touched, cover_grows, none_is_nothing, nothing_to_do}
 use Rattle.shard_core.specs.Core.{Core}
 use Rattle.shard_core.specs.Whole.{IsAtRest}
 use Rattle.shard_machine.specs.Journaled.{Journaled}

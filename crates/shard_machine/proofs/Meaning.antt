@@ -19,7 +19,7 @@ use Rattle.clv_base.specs.declared.state.Request.{Request}
 use Rattle.clv_base.specs.declared.events.Outcome.TheVariants.{Taken, Stale}
 use Rattle.clv_base.specs.Coordinator.{takes_vote, takes_done}
 use Rattle.clv_base.specs.Events.{on_vote, on_done}
-use Rattle.commit_coordinator.specs.Coordinated.{counts_by, done_by}
+use Rattle.two_phase_commit.specs.Coordinated.{counts_by, done_by}
 use Rattle.shard_core.specs.Replying.{vote_taken, done_taken}
 use Rattle.due_step.specs.Sent.{first_of}
 use Rattle.shard_core.specs.Operating.{Ends}

@@ -5,7 +5,7 @@ use Rattle.clv_base.specs.Logs.{in_doubt, prepare_of}
 use Rattle.clv_base.specs.Needs.{Records}
 use Rattle.clv_base.specs.State.{Shard}
 use Rattle.clv_base.specs.Restarts.{state_after, home_by}
-use Rattle.gate_recovery.specs.declared.recovering.Recovered.{Recovered}
+use Rattle.shard_recovery.specs.declared.recovering.Recovered.{Recovered}
 use Rattle.machine_calls.specs.Restored.{IsRestored}
 use Rattle.shard_core.specs.Core.{Core}
 use Rattle.shard_core.specs.Whole.{IsAtRest}

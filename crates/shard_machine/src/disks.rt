@@ -4,7 +4,7 @@ ghost use Rattle.clv_base.specs.declared.logs.LogRecord.{LogRecord};
 ghost use Rattle.log_gate.specs.View.{logs_of, logs_told};
 
 use crate::machine::ShardMachine;
-use disk_model::Disk;
+use io_model::Disk;
 use lock_table::Locks;
 use log_gate::LogGate;
 use machine_calls::OverDisks;

@@ -15,7 +15,7 @@ use crate::machine::ShardMachine;
 use crate::stamps::{enter, place};
 use clv_base::events::{Event, Outcome};
 use lock_table::Locks;
-use log_flush::batch_bytes;
+use log_buffer::batch_bytes;
 use log_gate::Gate;
 use machine_calls::{Flight, StepError};
 use ordered_store::Store;

@@ -6,12 +6,12 @@ ghost use Rattle.machine_calls.specs.Restored.{IsRestored};
 use crate::Journal;
 use crate::machine::ShardMachine;
 use crate::stamps::has_room;
-use gate_recovery::Recovered;
 use lock_table::Locks;
 use log_gate::Gate;
 use machine_calls::Maker;
 use ordered_store::Store;
 use shard_core::ShardCore;
+use shard_recovery::Recovered;
 use std::alloc::Global;
 
 impl<S: Store + Drop, L: Locks + Drop, G: Gate> ShardMachine<S, L, G> {

@@ -7,7 +7,7 @@ ghost use Rattle.clv_base.specs.FileRules.{tx_has_spelling};
 ghost use Rattle.clv_base.specs.Undo.{stage_of};
 ghost use Rattle.machine_calls.specs.Steps.{Tells};
 ghost use Rattle.machine_laws.specs.Undropped.{new_part_by};
-ghost use Rattle.spelling_laws.specs.Spelled.{fits_op};
+ghost use Rattle.protocol_laws.specs.Spelled.{fits_op};
 
 use crate::machine::ShardMachine;
 use crate::stamps::{enter, place};

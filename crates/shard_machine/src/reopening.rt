@@ -2,7 +2,7 @@
 
 use crate::machine::ShardMachine;
 use clv_base::logs::LogRecord;
-use disk_model::Disk;
+use io_model::Disk;
 use lock_table::Locks;
 use log_gate::{Header, LogGate, OpenLogError, disk_of, open_gate};
 use machine_calls::Reopener;

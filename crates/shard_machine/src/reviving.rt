@@ -10,14 +10,13 @@ use crate::machine::ShardMachine;
 use crate::stamps::{enter, place};
 use clv_base::events::{Event, Outcome};
 use clv_base::logs::LogRecord;
-use gate_recovery::Recovered;
 use lock_table::Locks;
 use log_buffer::LogBuffer;
 use log_gate::Gate;
 use machine_calls::{Restarter, StepError};
 use ordered_store::Store;
-use restart_misfit::Fallen;
 use shard_core::ShardCore;
+use shard_recovery::{Fallen, Recovered};
 use std::alloc::{AllocError, Global};
 
 impl<S: Store + Drop, L: Locks + Drop, G: Gate> ShardMachine<S, L, G> {
@@ -52,7 +51,7 @@ impl<S: Store + Drop, L: Locks + Drop, G: Gate> ShardMachine<S, L, G> {
             durable: self.core.durable() as usize,
             taken: self.core.taken() as usize,
         };
-        restart_misfit::misfit(alloc, fallen, buffer.records(0, buffer.end()), epoch)
+        shard_recovery::misfit(alloc, fallen, buffer.records(0, buffer.end()), epoch)
     }
 
     /// The shard is up again, with this gate, these records and what recovery found. The gate comes back where it isn't.

@@ -18,8 +18,8 @@ use Rattle.clv_base.specs.Maps.{KeyMap, map_set}
 use Rattle.clv_base.specs.Logs.{is_commit_of, committed_in, is_winner, in_doubt, fold_updates}
 use Rattle.clv_base.specs.Needs.{Records, found_at, found_by, record_set}
 use Rattle.clv_base.specs.Restarts.{records_of, with_ghosts, ghost_if_absent}
-use Rattle.log_facts.specs.declared.facts.TxFacts.{TxFacts}
-use Rattle.log_facts.specs.Facts.{Knows, known}
+use Rattle.log_analysis.specs.declared.facts.TxFacts.{TxFacts}
+use Rattle.log_analysis.specs.Facts.{Knows, known}
 use Rattle.cascade_undo.proofs.Laws.{both}
 use Rattle.shard_recovery.specs.Winning.{wins_in, records_after}
 use Rattle.law_base.proofs.Logs.{place_is as is_some_place}

@@ -3,3 +3,8 @@ pub mod Whole
 pub mod Folded
 pub mod Lasting
 pub mod Rooms
+mod Prefixes
+mod Rising
+mod MisfitWhole
+pub mod Spelled
+pub mod Begun

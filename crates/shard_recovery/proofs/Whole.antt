@@ -8,8 +8,8 @@ use Rattle.clv_base.specs.Orders.{Table}
 use Rattle.clv_base.specs.Logs.{StandingUpdate, standing, aborted_in}
 use Rattle.clv_base.specs.Undo.{clrs_of}
 use Rattle.clv_base.specs.Restarts.{losers, log_after_restart}
-use Rattle.log_facts.specs.declared.facts.TxFacts.{TxFacts}
-use Rattle.log_facts.specs.Facts.{Knows, known}
+use Rattle.log_analysis.specs.declared.facts.TxFacts.{TxFacts}
+use Rattle.log_analysis.specs.Facts.{Knows, known}
 use Rattle.law_base.proofs.Doubts.{standing_more}
 use Rattle.law_base.proofs.Sets.{filter_alike}
 use Rattle.shard_recovery.specs.Aborting.{unaborted, aborts}

@@ -1,2 +1,4 @@
 pub mod Aborting
 pub mod Winning
+pub mod Fallen
+pub mod Recovering

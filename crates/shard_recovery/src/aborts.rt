@@ -1,13 +1,13 @@
 //! The ABORTs of the losers.
 ghost use Rattle.std.specs.Prelude.{◌≡◌, ◌≤◌, ◌+◌, ◌++◌, length, not, IfOk};
 ghost use Rattle.std.specs.List.{filter};
-ghost use Rattle.log_facts.specs.Facts.{known};
+ghost use Rattle.log_analysis.specs.Facts.{known};
 ghost use Rattle.shard_recovery.specs.Aborting.{aborts};
 
 use clv_base::logs::LogRecord;
 use clv_base::names::TxId;
+use log_analysis::LogFacts;
 use log_buffer::LogBuffer;
-use log_facts::LogFacts;
 use std::alloc::{AllocError, Global};
 
 /// Whether the log that is known has no ABORT of the transaction.

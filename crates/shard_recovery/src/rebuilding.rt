@@ -10,8 +10,8 @@ use crate::aborts::{append_aborts, unaborted};
 use cascade_undo::compensate;
 use clv_base::logs::LogRecord;
 use clv_base::names::TxId;
+use log_analysis::LogFacts;
 use log_buffer::LogBuffer;
-use log_facts::LogFacts;
 use std::alloc::{AllocError, Global};
 
 /// How many UPDATEs these transactions have together. No more of their writes stand.

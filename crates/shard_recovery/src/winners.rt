@@ -5,14 +5,14 @@ ghost use Rattle.clv_base.specs.Maps.{KeyMap, map_set};
 ghost use Rattle.clv_base.specs.Logs.{fold_updates, in_doubt};
 ghost use Rattle.clv_base.specs.Needs.{record_set};
 ghost use Rattle.clv_base.specs.Restarts.{records_of, with_ghosts};
-ghost use Rattle.log_facts.specs.Facts.{Knows};
+ghost use Rattle.log_analysis.specs.Facts.{Knows};
 ghost use Rattle.shard_recovery.specs.Winning.{wins_in, writes_after, records_after};
 
 use crate::writes::{Write, by_key};
 use clv_base::logs::LogRecord;
 use clv_base::modes::Found;
 use clv_base::names::TxId;
-use log_facts::{LogFacts, TxSet};
+use log_analysis::{LogFacts, TxSet};
 use ordered_store::Store;
 use std::alloc::{AllocError, Global};
 

@@ -3,12 +3,12 @@ ghost use Rattle.std.specs.Prelude.{◌≡◌, List, [], IfOk};
 ghost use Rattle.std.specs.List.Sorted.{IsNonDecreasingBy};
 ghost use Rattle.clv_base.specs.Logs.{fold_updates};
 ghost use Rattle.clv_base.specs.declared.logs.LogRecord.{LogRecord as Record};
-ghost use Rattle.log_facts.specs.Facts.{Knows};
+ghost use Rattle.log_analysis.specs.Facts.{Knows};
 ghost use Rattle.shard_recovery.specs.Winning.{wins_in, kept_write, kept_writes, writes_after};
 
 use clv_base::logs::LogRecord;
 use clv_base::names::TxId;
-use log_facts::{LogFacts, TxSet};
+use log_analysis::{LogFacts, TxSet};
 use std::alloc::{AllocError, Global};
 
 /// The value that an UPDATE leaves at its key, if it leaves one.

@@ -12,7 +12,7 @@ use Rattle.clv_base.specs.declared.state.Held.{Held}
 use Rattle.clv_base.specs.Orders.{Table, tx_cmp, tx_insert}
 use Rattle.clv_base.specs.Logs.{doubt_by, in_doubt_from, in_doubt}
 use Rattle.clv_base.specs.Restarts.{restored_part, restored_parts}
-use Rattle.log_facts.proofs.Laws.Rising.{nothing_rises, insert_rises, tx_total}
+use Rattle.log_analysis.proofs.Laws.Rising.{nothing_rises, insert_rises, tx_total}
 use Rattle.law_base.proofs.Names.{Rise as Rises, keys_restored}
 use Rattle.law_base.proofs.Sets.{AllAbove as Above}
 

@@ -17,7 +17,7 @@ use Rattle.clv_base.specs.Facts.{predecessors_of}
 use Rattle.clv_base.specs.FileRules.{has_spelling, tx_has_spelling, txs_rise}
 use Rattle.clv_base.specs.Restarts.{pairs_of_listed, restored_pairs}
 use Rattle.clv_base.proofs.SameNames.{tx_true, tx_self}
-use Rattle.log_facts.proofs.Laws.Rising.{tx_total}
+use Rattle.log_analysis.proofs.Laws.Rising.{tx_total}
 use Rattle.txn_core.specs.Sound.{FewUndecided}
 use Rattle.law_base.proofs.Names.{Rise as Rises}
 use Rattle.law_base.proofs.Sets.{AllAbove as Above}

@@ -7,10 +7,10 @@ ghost use Rattle.txn_core.specs.State.{AreSettled};
 ghost use Rattle.shard_restoring.specs.Opened.{first_of, place_if, is_commit as commits, commits_in};
 ghost use Rattle.clv_base.specs.Logs.{is_commit_of};
 
+use cascade_undo::Deps;
 use clv_base::logs::LogRecord;
 use clv_base::names::TxId;
 use std::alloc::{AllocError, Global};
-use violation_deps::Deps;
 
 /// The pairs, which rise, are added where there are none. Takes no memory.
 fn add_pairs(deps: &mut Deps, pairs: &[(TxId, TxId)])

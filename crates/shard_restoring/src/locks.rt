@@ -12,7 +12,7 @@ use clv_base::logs::LogRecord;
 use clv_base::modes::{Anchor, Mode, Need, Part};
 use clv_base::names::TxId;
 use lock_table::{Locks, Memory};
-use log_facts::TxSet;
+use log_analysis::TxSet;
 use std::alloc::Global;
 
 /// Takes key X on a record.

@@ -7,7 +7,7 @@ ghost use Rattle.clv_base.specs.Restarts.{old_birth as birth_of_old, restored_pa
 use clv_base::names::{Birth, TxId};
 use clv_base::state::{Held, Stage};
 use std::alloc::{AllocError, Global};
-use tx_index::PartTable;
+use tx_table::PartTable;
 
 /// The age of a restored part.
 pub(crate) fn old_birth(tx: TxId) -> Birth

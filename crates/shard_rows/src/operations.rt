@@ -1,8 +1,9 @@
 // Operations on a shard that begins empty, or with three values, with memory at hand.
 ghost use Rattle.std.specs.Prelude.{◌≡◌, [], Some, OnOk};
 ghost use Rattle.clv_base.specs.Needs.{record_set};
-ghost use Rattle.lock_release.specs.Ghosts.{GhostsAreLocked};
+ghost use Rattle.shard_ops.specs.Ghosts.{GhostsAreLocked};
 
+use cascade_undo::Deps;
 use clv_base::causes::AbortCause;
 use clv_base::logs::LogRecord;
 use clv_base::modes::{Anchor, Found, Mode, Need, Part};
@@ -14,9 +15,8 @@ use log_buffer::LogBuffer;
 use ordered_store::{SortedStore, Store};
 use std::alloc::{AllocError, Global};
 use std::test::Fail;
-use tx_index::PartTable;
+use tx_table::PartTable;
 use txn_core::{Reply, ShardTx};
-use violation_deps::Deps;
 
 type Shard = ShardTx<SortedStore, ListLocks>;
 

@@ -6,9 +6,9 @@ use clv_base::lists::Touched;
 use clv_base::names::TxId;
 use clv_base::parts::{PartFacts, PartState};
 use clv_base::state::Ruling;
-use commit_coordinator::Coordinator;
 use std::alloc::{AllocError, Global};
 use std::test::Fail;
+use two_phase_commit::Coordinator;
 
 fn by(session: u32) -> TxId {
     TxId {

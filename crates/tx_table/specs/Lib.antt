@@ -1,2 +1,5 @@
 pub mod Rows
 pub mod Keys
+pub mod Held
+pub mod Index
+pub mod Parts

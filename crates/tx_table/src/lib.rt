@@ -1,11 +1,24 @@
-//! What is known by transaction: a value for each of some transactions, in a hash map.
-//! It promises that a transaction has the value that was set last, and that neither `set`, where room was reserved, nor `replace` takes memory.
-//! It stands on the names of `clv_base` and on std's `HashMap`.
+//! What is known by transaction: a value for each of some transactions; which of them pass a test; and for which something may be due.
+//! `TxTable` promises that a transaction has the value that was set last, and that neither `set`, where room was reserved, nor `replace` takes
+//! memory. `TxIndex` is a set of transactions, seen as the list of its members, which rises, and `PartTable` a table of a shard's parts with the
+//! index of those that are here, so that nobody has to go over the others; that an index is one of a table is the invariant of whoever keeps
+//! both. `Candidates` rise, each once; no call of them but `new` and `reserve` takes memory. It stands on the names of `clv_base`.
 #![tactic(auto)]
 
+mod candidates;
+mod index;
 mod key;
+#[cfg(test)]
+mod part_tests;
+mod sorted;
 mod table;
 #[cfg(test)]
 mod tests;
+mod tx_index_table;
+#[cfg(test)]
+mod tx_index_tests;
 
+pub use candidates::Candidates;
+pub use index::TxIndex;
 pub use table::TxTable;
+pub use tx_index_table::PartTable;

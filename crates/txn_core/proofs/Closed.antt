@@ -24,7 +24,7 @@ use Rattle.law_base.proofs.LockRows.{close_holds}
 use Rattle.law_base.proofs.Stages.{stage_closed, closed_other as stage_other}
 use Rattle.law_base.proofs.Stages.{own_go, stage_other as other_stays}
 use Rattle.cascade_undo.proofs.Laws.{all_mono}
-use Rattle.lock_release.specs.Ghosts.{GhostsAreLocked}
+use Rattle.shard_ops.specs.Ghosts.{GhostsAreLocked}
 use Rattle.txn_core.specs.State.{TxState}
 use Rattle.txn_core.specs.Sound.{is_here, has_lock, IsHeld, owed_by, IsSound, SpendsSpare, UsesSpare}
 use Rattle.txn_core.proofs.Writers.{NoUpdate}

@@ -6,8 +6,8 @@ use Rattle.std.specs.List.{filter}
 use Rattle.clv_base.specs.declared.names.TxId.{TxId}
 use Rattle.clv_base.specs.declared.logs.LogRecord.{LogRecord}
 use Rattle.clv_base.specs.declared.logs.LogRecord.TheVariants.{Update}
-use Rattle.op_needs.specs.declared.plan.Write.{Write}
-use Rattle.op_effects.specs.Effects.{log_after}
+use Rattle.shard_ops.specs.declared.plan.Write.{Write}
+use Rattle.shard_ops.specs.Effects.{log_after}
 use Rattle.clv_base.specs.Orders.{tx_same, tx_in, tx_insert, tx_union, pair_insert}
 use Rattle.clv_base.specs.Logs.{committed_in, is_commit_of}
 use Rattle.clv_base.specs.Facts.{predecessors_of}
@@ -16,8 +16,8 @@ use Rattle.clv_base.specs.OneShard.{add_pairs}
 use Rattle.clv_base.proofs.SameNames.{tx_true, tx_self}
 use Rattle.protocol_laws.specs.UndoLaws.{is_pair}
 use Rattle.law_base.proofs.Tables.{pair_in, in_pair, add_keeps, add_has, insert_from}
-use Rattle.violation_deps.proofs.Laws.{same_list}
-use Rattle.op_needs.proofs.Laws.{predecessors_rise, union_rises, in_union}
+use Rattle.cascade_undo.proofs.Laws.{same_list}
+use Rattle.shard_ops.proofs.Laws.{predecessors_rise, union_rises, in_union}
 use Rattle.txn_core.specs.Sound.{FewUndecided}
 use Rattle.txn_core.proofs.Counting.{count-fewer}
 use Rattle.law_base.proofs.Bools.{same_truth as same_bits}

@@ -36,10 +36,10 @@ use Rattle.law_base.proofs.Undoing.{standing_append}
 use Rattle.law_base.proofs.LockRows.{holds, asks, need_asks, anchor_self, all_keeps, all_gives, split_keeps}
 use Rattle.law_base.proofs.Stages.{other_part}
 use Rattle.cascade_undo.proofs.Laws.{IsIn, in_log}
-use Rattle.op_needs.specs.declared.plan.Insert.{Insert}
-use Rattle.op_needs.specs.declared.plan.Write.{Write}
-use Rattle.op_needs.specs.Planned.{insert_by, write_by, insert_of, write_of}
-use Rattle.op_effects.specs.Effects.{performed_by, locks_after, records_after, log_after, new_key}
+use Rattle.shard_ops.specs.declared.plan.Insert.{Insert}
+use Rattle.shard_ops.specs.declared.plan.Write.{Write}
+use Rattle.shard_ops.specs.Planned.{insert_by, write_by, insert_of, write_of}
+use Rattle.shard_ops.specs.Effects.{performed_by, locks_after, records_after, log_after, new_key}
 use Rattle.txn_core.specs.Sound.{is_here, has_lock, IsHeld, owed_by, owed_more, IsSound, may_work, has_need, IsCovered}
 use Rattle.txn_core.proofs.Owing.{owed-one, owed-own, owed_of_others, count_owed_fewer}
 use Rattle.txn_core.proofs.Undoing.{lock_is_held}

@@ -11,8 +11,8 @@ use Rattle.clv_base.specs.declared.state.Held.{Held}
 use Rattle.clv_base.specs.Orders.{Table, tx_cmp, tx_same, tx_in, tx_get}
 use Rattle.clv_base.specs.Undo.{gone_in, gone_part}
 use Rattle.clv_base.proofs.SameNames.{tx_true}
-use Rattle.tx_index.specs.Parts.{IsNoReturn, is_here as part_is_here}
-use Rattle.violation_deps.proofs.Laws.{tx_total}
+use Rattle.tx_table.specs.Parts.{IsNoReturn, is_here as part_is_here}
+use Rattle.cascade_undo.proofs.Laws.{tx_total}
 use Rattle.law_base.proofs.Sets.{AllAbove as Above}
 
 -- ---- parts

@@ -21,11 +21,11 @@ use Rattle.clv_base.proofs.SameNames.{or_left, or_right, tx_self, nat_cmp_true}
 use Rattle.law_base.proofs.Anchors.{record_kept}
 use Rattle.law_base.proofs.LockRows.{holds, held_not_free}
 use Rattle.cascade_undo.proofs.Laws.{all_mono}
-use Rattle.lock_release.specs.Ghosts.{GhostsAreLocked}
-use Rattle.lock_release.proofs.Laws.{all_pass, all_stay}
-use Rattle.op_needs.specs.declared.plan.Insert.{Insert}
-use Rattle.op_needs.specs.declared.plan.Write.{Write}
-use Rattle.op_effects.specs.Effects.{locks_after, records_after}
+use Rattle.shard_ops.specs.Ghosts.{GhostsAreLocked}
+use Rattle.shard_ops.proofs.Laws.{all_pass, all_stay}
+use Rattle.shard_ops.specs.declared.plan.Insert.{Insert}
+use Rattle.shard_ops.specs.declared.plan.Write.{Write}
+use Rattle.shard_ops.specs.Effects.{locks_after, records_after}
 use Rattle.txn_core.specs.State.{TxState, IsSameBut}
 use Rattle.txn_core.specs.Sound.{is_here, has_lock, IsHeld, IsSound, IsCovered}
 use Rattle.txn_core.proofs.Undoing.{lock_is_held}

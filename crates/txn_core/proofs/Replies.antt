@@ -15,9 +15,9 @@ use Rattle.clv_base.specs.Locks.{decide, violated}
 use Rattle.clv_base.specs.State.{Local, is_present}
 use Rattle.clv_base.specs.Undo.{stage_of}
 use Rattle.clv_base.specs.OneShard.{OpDies, OpCrowded, op_active, op_decided, op_granted, without_part, rolled_back_if, undecided_after, undecided_with, performed, OpAnswers}
-use Rattle.violation_deps.specs.Dependencies.{Dependencies}
-use Rattle.violation_deps.proofs.Laws.{AreInLog, undecided_like_log}
-use Rattle.op_needs.specs.Met.{undecided_by_grant}
+use Rattle.cascade_undo.specs.Dependencies.{Dependencies}
+use Rattle.cascade_undo.proofs.Laws.{AreInLog, undecided_like_log}
+use Rattle.shard_ops.specs.Met.{undecided_by_grant}
 use Rattle.txn_core.specs.declared.deciding.Decided.{Decided}
 use Rattle.txn_core.specs.declared.deciding.Decided.TheVariants.{Grant as GrantedSo, Wait as ToWait, Die as ToDie, Crowded as TooCrowded}
 use Rattle.txn_core.specs.Sound.{may_work}

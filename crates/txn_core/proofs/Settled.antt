@@ -7,8 +7,8 @@ use Rattle.clv_base.specs.declared.logs.LogRecord.TheVariants.{Update, Clr, Abor
 use Rattle.clv_base.specs.Orders.{tx_in}
 use Rattle.clv_base.specs.Logs.{StandingUpdate, place_from, is_commit_of, commit_lsn, wrote_in}
 use Rattle.clv_base.specs.Undo.{aborts_of, clrs_of, newest_lsn}
-use Rattle.op_needs.specs.declared.plan.Write.{Write}
-use Rattle.op_effects.specs.Effects.{log_after}
+use Rattle.shard_ops.specs.declared.plan.Write.{Write}
+use Rattle.shard_ops.specs.Effects.{log_after}
 use Rattle.law_base.proofs.Logs.{place_more as place_from-more}
 
 place_from-update : (n : ℕ) (t tx : TxId) (k : ℕ) (before after : Option ℕ) (log : List LogRecord)

@@ -13,9 +13,9 @@ use Rattle.clv_base.specs.Logs.{wrote_in, is_update_of}
 use Rattle.clv_base.specs.Orders.{tx_cmp, tx_same, tx_in, tx_get}
 use Rattle.clv_base.specs.State.{Local, is_present}
 use Rattle.clv_base.proofs.SameNames.{tx_true}
-use Rattle.tx_index.specs.Parts.{is_here as here_by, parts_here}
-use Rattle.tx_index.specs.Index.{passes}
-use Rattle.tx_index.proofs.Laws.{index_has}
+use Rattle.tx_table.specs.Parts.{is_here as here_by, parts_here}
+use Rattle.tx_table.specs.Index.{passes}
+use Rattle.tx_table.proofs.Laws.{index_has}
 use Rattle.txn_core.specs.Sound.{is_here, is_update_by, updates_by, writers, writers_by, owed_by, IsSound}
 use Rattle.txn_core.proofs.Counting.{count-first, count-unless, in_set}
 use Rattle.txn_core.proofs.Owing.{count_owed_fewer}

@@ -21,15 +21,15 @@ use Rattle.clv_base.specs.Orders.{Table}
 use Rattle.clv_base.specs.OneShard.{marked_in, mark_dropped}
 use Rattle.clv_base.proofs.SameNames.{tx_true, tx_self}
 use Rattle.law_base.proofs.Sets.{in_filter}
-use Rattle.violation_deps.proofs.Laws.{filter_rises}
+use Rattle.cascade_undo.proofs.Laws.{filter_rises}
 use Rattle.law_base.proofs.Cells.{record_at}
 use Rattle.law_base.proofs.Undoing.{record_undone, reset, standing_undone}
 use Rattle.law_base.specs.Undone.{stays_of}
 use Rattle.law_base.proofs.LockRows.{holds, row_holds, release_holds}
 use Rattle.law_base.proofs.Stages.{stage_other, own_go}
 use Rattle.law_base.proofs.Stages.{stage_marked}
-use Rattle.violation_deps.proofs.Laws.{tx_total}
-use Rattle.violation_deps.proofs.Laws.{insert_key-rises}
+use Rattle.cascade_undo.proofs.Laws.{tx_total}
+use Rattle.cascade_undo.proofs.Laws.{insert_key-rises}
 use Rattle.cascade_undo.specs.Writes.{writes_of, HaveRecords}
 use Rattle.cascade_undo.proofs.Laws.{all_mono}
 use Rattle.txn_core.specs.State.{TxState}

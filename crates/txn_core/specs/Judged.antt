@@ -13,12 +13,12 @@ use Rattle.clv_base.specs.Undo.{stage_of, roll_back}
 use Rattle.clv_base.specs.OneShard.{OpReply, OpWaits, OpCrowded, OpDies, OpAnswers, performed, undecided_with}
 use Rattle.clv_base.specs.declared.state.Stage.{Stage}
 use Rattle.clv_base.specs.declared.state.Stage.TheVariants.{Active, Closed, Gone}
-use Rattle.violation_deps.specs.Dependencies.{Dependencies}
-use Rattle.op_needs.specs.Planned.{IsPlanOf}
-use Rattle.op_needs.specs.Met.{undecided_by_grant}
-use Rattle.op_needs.specs.declared.plan.Plan.{Plan}
-use Rattle.op_needs.specs.declared.meeting.Meeting.{Meeting}
-use Rattle.op_needs.specs.declared.meeting.Meeting.TheVariants.{Grant as MeetsGrant, Wait as MeetsWait, Die as MeetsDie, Crowded as MeetsCrowd}
+use Rattle.cascade_undo.specs.Dependencies.{Dependencies}
+use Rattle.shard_ops.specs.Planned.{IsPlanOf}
+use Rattle.shard_ops.specs.Met.{undecided_by_grant}
+use Rattle.shard_ops.specs.declared.plan.Plan.{Plan}
+use Rattle.shard_ops.specs.declared.meeting.Meeting.{Meeting}
+use Rattle.shard_ops.specs.declared.meeting.Meeting.TheVariants.{Grant as MeetsGrant, Wait as MeetsWait, Die as MeetsDie, Crowded as MeetsCrowd}
 use Rattle.txn_core.specs.declared.deciding.Decided.{Decided}
 use Rattle.txn_core.specs.declared.deciding.Decided.TheVariants.{Grant as GrantedSo, Wait as ToWait, Die as ToDie, Crowded as TooCrowded}
 use Rattle.txn_core.specs.Sound.{may_work}

@@ -16,9 +16,9 @@ use Rattle.clv_base.specs.Locks.{Locks}
 use Rattle.clv_base.specs.Needs.{found_at, is_there}
 use Rattle.clv_base.specs.State.{Local, is_present}
 use Rattle.clv_base.specs.Undo.{stage_of}
-use Rattle.lock_release.specs.Ghosts.{GhostsAreLocked}
-use Rattle.op_needs.specs.declared.plan.Insert.{Insert}
-use Rattle.op_needs.specs.declared.plan.Write.{Write}
+use Rattle.shard_ops.specs.Ghosts.{GhostsAreLocked}
+use Rattle.shard_ops.specs.declared.plan.Insert.{Insert}
+use Rattle.shard_ops.specs.declared.plan.Write.{Write}
 use Rattle.txn_core.specs.State.{TxState, AreSettled}
 
 -- whether the transaction's part here is active or closed

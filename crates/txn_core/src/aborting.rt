@@ -4,21 +4,20 @@ ghost use Rattle.std.specs.List.{filter};
 ghost use Rattle.clv_base.specs.Orders.{tx_same};
 ghost use Rattle.clv_base.specs.Undo.{roll_back as without};
 ghost use Rattle.clv_base.specs.OneShard.{purge};
-ghost use Rattle.violation_deps.specs.Dependencies.{doomed};
+ghost use Rattle.cascade_undo.specs.Dependencies.{doomed};
 ghost use Rattle.txn_core.specs.State.{IsSameBut};
 ghost use Rattle.txn_core.specs.Sound.{is_in, KeepsSpare};
 
 use crate::ending::end_parts;
 use crate::shard::ShardTx;
 use crate::trimming::room_beyond;
-use cascade_undo::roll_back;
+use cascade_undo::{Deps, roll_back};
 use clv_base::names::TxId;
 use clv_base::state::{Held, Stage};
-use lock_release::release_all;
 use lock_table::Locks;
 use ordered_store::Store;
-use tx_index::PartTable;
-use violation_deps::Deps;
+use shard_ops::release_all;
+use tx_table::PartTable;
 
 /// Whether the transaction's part is active or closed.
 pub(crate) fn is_here(parts: &PartTable, tx: TxId) -> bool

@@ -3,7 +3,7 @@ ghost use Rattle.std.specs.Prelude.{◌≡◌, ◌≤◌, true, length, IfOk, On
 ghost use Rattle.clv_base.specs.Needs.{needs_of};
 ghost use Rattle.clv_base.specs.Locks.{violated as violated_by};
 ghost use Rattle.clv_base.specs.OneShard.{OpAnswers, op_reply, performed, undecided_with};
-ghost use Rattle.op_needs.specs.Planned.{IsPlanOf};
+ghost use Rattle.shard_ops.specs.Planned.{IsPlanOf};
 ghost use Rattle.clv_base.specs.Undo.{stage_of as stage_in};
 ghost use Rattle.txn_core.specs.Sound.{may_work, KeepsSpare};
 ghost use Rattle.txn_core.specs.State.{IsSameBut};
@@ -15,9 +15,8 @@ use clv_base::causes::AbortCause;
 use clv_base::names::{Birth, TxId};
 use clv_base::ops::{Answer, Op};
 use lock_table::{Locks, Memory};
-use op_effects::performed_by_plan;
-use op_needs::Plan;
 use ordered_store::Store;
+use shard_ops::{Plan, performed_by_plan};
 use std::alloc::Global;
 
 /// What an operation comes to.

@@ -6,11 +6,11 @@ ghost use Rattle.clv_base.specs.Orders.{tx_same, tx_get};
 ghost use Rattle.txn_core.specs.State.{AreSettled};
 ghost use Rattle.txn_core.specs.Committed.{place_or};
 
+use cascade_undo::Deps;
 use clv_base::logs::LogRecord;
 use clv_base::names::TxId;
 use clv_base::parts::ShardList;
 use log_buffer::LogBuffer;
-use violation_deps::Deps;
 
 /// The transaction is settled at this LSN, unless it was before. Takes no memory.
 fn settle_first(deps: &mut Deps, tx: TxId, lsn: u64)

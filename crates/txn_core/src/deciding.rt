@@ -2,13 +2,13 @@
 ghost use Rattle.std.specs.Prelude.{◌≡◌, IfOk};
 ghost use Rattle.txn_core.specs.Judged.{IsDecided, decided_by};
 
+use cascade_undo::Deps;
 use clv_base::names::{Birth, TxId};
 use clv_base::ops::Op;
 use lock_table::{Locks, Memory};
-use op_needs::{Meeting, Plan, meet, plan_of};
 use ordered_store::Store;
+use shard_ops::{Meeting, Plan, meet, plan_of};
 use std::alloc::Global;
-use violation_deps::Deps;
 
 /// What is decided on an operation.
 #[derive(Drop, Debug)]

@@ -6,7 +6,7 @@ ghost use Rattle.txn_core.specs.Sound.{is_in};
 
 use clv_base::names::TxId;
 use clv_base::state::{Held, Stage};
-use tx_index::PartTable;
+use tx_table::PartTable;
 
 /// The part, taken away by this abort.
 fn gone(part: Held, doom: TxId) -> Held

@@ -14,9 +14,9 @@ use crate::trimming::room_without;
 use clv_base::logs::LogRecord;
 use clv_base::names::TxId;
 use clv_base::parts::ShardList;
-use lock_release::release_all;
 use lock_table::Locks;
 use ordered_store::Store;
+use shard_ops::release_all;
 
 impl<S: Store + Drop, L: Locks + Drop> ShardTx<S, L> {
     /// A COMMIT of the transaction, with the shards that acknowledge it, goes to the log's end. Takes no memory.

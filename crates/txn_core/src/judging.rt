@@ -13,8 +13,8 @@ use clv_base::names::{Birth, TxId};
 use clv_base::ops::Op;
 use clv_base::state::Stage;
 use lock_table::{Locks, Memory};
-use op_needs::Plan;
 use ordered_store::Store;
+use shard_ops::Plan;
 use std::alloc::Global;
 
 /// What is found of an operation.

@@ -2,7 +2,7 @@
 //! It promises that what an operation comes to, and the records with their ghosts, the locks, the parts, the predecessors and the log after
 //! it, are the protocol's definition, for each operation and each decision; a quiet answer and want of memory change nothing. Ghosts go with
 //! the last lock on them.
-//! It stands on `op_needs`, `op_effects` and `lock_release`, and on the traits of `ordered_store` and `lock_table`, so with each store and
+//! It stands on `shard_ops`, and on the traits of `ordered_store` and `lock_table`, so with each store and
 //! each lock table.
 #![tactic(auto)]
 

@@ -4,16 +4,16 @@ ghost use Rattle.clv_base.specs.declared.names.TxId.{TxId as Tx};
 ghost use Rattle.clv_base.specs.Orders.{tx_in};
 ghost use Rattle.clv_base.specs.Undo.{doomed_by};
 ghost use Rattle.protocol_laws.specs.UndoLaws.{is_pair};
-ghost use Rattle.due_candidates.specs.Held.{HasRoomBy};
+ghost use Rattle.tx_table.specs.Held.{HasRoomBy};
 ghost use Rattle.txn_core.specs.Landed.{concern, concerns};
 
 use crate::shard::ShardTx;
+use cascade_undo::Deps;
 use clv_base::logs::LogRecord;
 use clv_base::names::TxId;
-use due_candidates::Candidates;
 use lock_table::Locks;
 use ordered_store::Store;
-use violation_deps::Deps;
+use tx_table::Candidates;
 
 impl<S: Store + Drop, L: Locks + Drop> ShardTx<S, L> {
     /// Those that depend on the transaction here are candidates besides. Takes no memory.

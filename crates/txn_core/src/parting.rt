@@ -3,14 +3,14 @@ ghost use Rattle.std.specs.Prelude.{◌≡◌};
 ghost use Rattle.txn_core.specs.State.{AreSettled};
 
 use crate::shard::ShardTx;
+use cascade_undo::Deps;
 use clv_base::logs::LogRecord;
 use clv_base::names::TxId;
 use clv_base::state::Held;
 use lock_table::Locks;
 use log_buffer::LogBuffer;
 use ordered_store::Store;
-use tx_index::PartTable;
-use violation_deps::Deps;
+use tx_table::PartTable;
 
 /// What the transactions of a shard work on.
 #[derive(Drop)]

@@ -2,7 +2,7 @@
 ghost use Rattle.std.specs.Prelude.{◌≡◌, true, ◌≤◌, ◌+◌, ◌&&◌, length, is_none, OnOk, OnErr};
 ghost use Rattle.clv_base.specs.declared.names.TxId.{TxId as Tx};
 ghost use Rattle.clv_base.specs.Orders.{tx_get};
-ghost use Rattle.op_effects.specs.Effects.{record_count, CanWrite, performed_by};
+ghost use Rattle.shard_ops.specs.Effects.{record_count, CanWrite, performed_by};
 ghost use Rattle.txn_core.specs.State.{IsSameBut};
 ghost use Rattle.clv_base.specs.Logs.{wrote_in};
 ghost use Rattle.clv_base.specs.Undo.{stage_of as stage_in};
@@ -10,17 +10,16 @@ ghost use Rattle.clv_base.specs.OneShard.{undecided_with};
 ghost use Rattle.txn_core.specs.Sound.{may_work, owed_more, IsCovered, KeepsSpare};
 
 use crate::shard::ShardTx;
+use cascade_undo::Deps;
 use clv_base::logs::LogRecord;
 use clv_base::names::{Birth, TxId};
 use clv_base::state::Held;
 use lock_table::{Locks, Memory};
 use log_buffer::LogBuffer;
-use op_effects::{add_predecessors, enter_part, reserve_locks, take_locks, write_down};
-use op_needs::{Plan, Write};
 use ordered_store::Store;
+use shard_ops::{Plan, Write, add_predecessors, enter_part, reserve_locks, take_locks, write_down};
 use std::alloc::Global;
-use tx_index::PartTable;
-use violation_deps::Deps;
+use tx_table::PartTable;
 
 /// Whether a transaction has no part here, and yet an UPDATE in the log, from before a restart. Its session is told of the restart before it
 /// may come again, so what is made of it doesn't matter.

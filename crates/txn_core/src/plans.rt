@@ -5,11 +5,12 @@ ghost use Rattle.std.specs.List.{filter};
 ghost use Rattle.clv_base.specs.Orders.{tx_get};
 ghost use Rattle.clv_base.specs.Logs.{wrote_in};
 ghost use Rattle.clv_base.specs.OneShard.{closing};
-ghost use Rattle.violation_deps.specs.Dependencies.{undecided_by};
+ghost use Rattle.cascade_undo.specs.Dependencies.{undecided_by};
 ghost use Rattle.txn_core.specs.Closings.{planned, IsClosing};
 ghost use Rattle.txn_core.specs.State.{AreSettled};
 
 use crate::committing::write_commit;
+use cascade_undo::Deps;
 use clv_base::lists::TxList;
 use clv_base::logs::LogRecord;
 use clv_base::names::TxId;
@@ -17,7 +18,6 @@ use clv_base::parts::ShardList;
 use lock_table::Memory;
 use log_buffer::LogBuffer;
 use std::alloc::{AllocError, Global};
-use violation_deps::Deps;
 
 /// The record that closed a part.
 #[derive(Clone, Copy, PartialEq, Eq, Debug)]

@@ -11,9 +11,9 @@ use crate::trimming::room_beyond;
 use cascade_undo::roll_back;
 use clv_base::names::TxId;
 use clv_base::state::Stage;
-use lock_release::release_all;
 use lock_table::Locks;
 use ordered_store::Store;
+use shard_ops::release_all;
 
 impl<S: Store + Drop, L: Locks + Drop> ShardTx<S, L> {
     /// The transaction and all that depend on it are rolled back: the log gets their ABORTs and CLRs, their keys the values before, their locks

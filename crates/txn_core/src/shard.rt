@@ -2,6 +2,7 @@
 ghost use Rattle.std.specs.Prelude.{◌≡◌};
 ghost use Rattle.clv_base.specs.Undo.{stage_of as stage_in};
 
+use cascade_undo::Deps;
 use clv_base::logs::LogRecord;
 use clv_base::names::TxId;
 use clv_base::state::{Held, Stage};
@@ -9,8 +10,7 @@ use lock_table::Locks;
 use log_buffer::LogBuffer;
 use ordered_store::Store;
 use std::marker::Model;
-use tx_index::PartTable;
-use violation_deps::Deps;
+use tx_table::PartTable;
 
 /// The records, locks, log, dependencies and parts of one shard, in one epoch.
 #[derive(Drop)]

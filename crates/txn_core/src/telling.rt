@@ -8,7 +8,7 @@ ghost use Rattle.clv_base.specs.Facts.{state_by, doom_by, is_restored_by};
 ghost use Rattle.txn_core.specs.State.{stage_by};
 ghost use Rattle.clv_base.specs.Logs.{committed_in};
 ghost use Rattle.clv_base.specs.Orders.{tx_cmp, tx_get, tx_same, birth_cmp};
-ghost use Rattle.tx_index.specs.Parts.{parts_here};
+ghost use Rattle.tx_table.specs.Parts.{parts_here};
 ghost use Rattle.clv_base.specs.State.{is_closed_stage, is_active_stage};
 ghost use Rattle.clv_base.specs.Journals.{has_equal_active_birth as has_equal_birth_in};
 

@@ -12,7 +12,7 @@ use lock_table::{Locks, Memory};
 use log_buffer::LogBuffer;
 use ordered_store::Store;
 use std::alloc::Global;
-use tx_index::PartTable;
+use tx_table::PartTable;
 
 /// How many records the undo of these transactions, each of which is named once, may write: a CLR for each of their UPDATEs, and an ABORT for
 /// each that wrote.

@@ -1,16 +1,26 @@
 //! The program `world_runner`: tries seeds, one after another, and prints what was met.
 //!
 //! With no words it tries eight seeds, which meet something of everything; with `FIRST COUNT` so many from that one on. Status 1 where a seed shows a difference from the serial run, 2 where
-//! the words aren't such, 8 for want of memory. It stands on `world_steps` and `world_machines`.
+//! the words aren't such, 8 for want of memory. Its tests are worked examples, as lists of steps over the machine of a shard itself, with
+//! logs in memory. It promises nothing beside the runs of `world_steps`, on which it stands beside `shard_machine`.
 #![tactic(auto)]
 
 #[cfg(test)]
+mod examples;
+#[cfg(test)]
+mod histories;
+mod machines;
+#[cfg(test)]
+mod playing;
+#[cfg(test)]
+mod steps;
+#[cfg(test)]
 mod trials;
 
+use machines::Blocks;
 use std::alloc::{AllocError, Global};
 use std::process::ExitCode;
 use std::{env, io};
-use world_machines::Blocks;
 use world_steps::{Difference, Tally, try_seed};
 
 /// The seeds that are tried.

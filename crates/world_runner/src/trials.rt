@@ -1,10 +1,10 @@
 // A few seeds, and a runner that forgets.
 
+use crate::machines::Lists;
 use clv_base::events::CoreStep;
 use clv_base::splits::Splits;
 use std::alloc::{AllocError, Global};
 use std::test::Fail;
-use world_machines::Lists;
 use world_steps::{Difference, Left, Runner, try_seed};
 
 // Leaves out a pair of the lowest shard.

@@ -5,8 +5,7 @@ use crate::serial::{Serial, serial_of};
 use clv_base::events::{Entry, Event, Outcome};
 use clv_base::names::TxId;
 use clv_base::ops::Answer;
-use history_replay::{replay, stands};
-use key_map::KeyMap;
+use history_replay::{KeyMap, replay, stands};
 use std::alloc::{AllocError, Global};
 
 /// What isn't as in the serial run.

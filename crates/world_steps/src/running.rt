@@ -10,7 +10,7 @@ use clv_base::splits::Splits;
 use interleaving_core::{Air, ListGate, Seat, World, run_events};
 use machine_calls::{Flier, Flight, Machine, Maker, Parts, Restarter};
 use ordered_store::Store;
-use restart_misfit::copy_log;
+use shard_recovery::copy_log;
 use std::alloc::{AllocError, Global};
 
 // What a shard's machine is made of, at its end.

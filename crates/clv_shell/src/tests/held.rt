@@ -1,7 +1,7 @@
 // A disk whose third write waits, and a house with such a disk.
 use super::Meeting;
 use disk_memory::{MemoryDisk, MemoryHouse};
-use disk_model::{Disk, Failed, House};
+use io_model::{Disk, Failed, House};
 
 /// A disk in memory. Its third write is out until session 2 is answered.
 #[derive(Drop)]

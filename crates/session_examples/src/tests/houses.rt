@@ -1,10 +1,10 @@
 // Houses of disks in memory.
 ghost use Rattle.std.specs.Prelude.{◌≡◌, ◌<◌, ℕ, false, IfOk};
 
+use cluster_opening::make_all;
 use clv_base::splits::Splits;
 use disk_memory::{MemoryDisk, MemoryHouse};
-use disk_model::House;
-use disks_opening::make_all;
+use io_model::House;
 use std::alloc::{AllocError, Global};
 use std::test::Fail;
 

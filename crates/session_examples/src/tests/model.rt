@@ -1,5 +1,5 @@
 // A plain model of one session that is alone, and lists of calls for it.
-use session_rows::Call;
+use crate::Call;
 use std::alloc::{AllocError, Global};
 use std::collections::BTreeMap;
 

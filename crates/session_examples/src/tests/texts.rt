@@ -1,8 +1,8 @@
 // What a session was answered, in words.
+use crate::Said;
 use clv_base::names::TxId;
 use session_api::{AbortError, BeginError, CommitError, OpError, RetryError};
 use session_ops::Settled;
-use session_rows::Said;
 use std::alloc::{AllocError, Global};
 
 fn begun(alloc: Global, answer: &Result<TxId, BeginError>) -> Result<String, AllocError> {

@@ -1,6 +1,6 @@
 use Rattle.std.proofs.Common.{◌∙◌}
 use Rattle.law_base.proofs.Sets.{tx_total}
-use Rattle.violation_deps.proofs.Laws.{search_there}
+use Rattle.cascade_undo.proofs.Laws.{search_there}
 use Rattle.cascade_undo.proofs.marks.contains.Goals as goal
 
 pub returns : goal.returns

@@ -4,8 +4,8 @@ use Rattle.clv_base.specs.Shards.{shard_count}
 use Rattle.clv_base.specs.Journals.{MayLeave}
 use Rattle.history_replay.specs.Entries.{entries_of}
 use Rattle.journal_laws.specs.Gathered.{MakesHistory}
-use Rattle.turn_laws.specs.Notes.{notes_of}
-use Rattle.turn_laws.specs.Homes.{never_stops, holder_of, IsLegal}
+use Rattle.machine_laws.specs.Notes.{notes_of}
+use Rattle.machine_laws.specs.Homes.{never_stops, holder_of, IsLegal}
 use Rattle.cluster_turns.specs.Walkers.{founds_of}
 use Rattle.cluster_closing.specs.Ending.{ClosedAt}
 use Rattle.cluster_closing.specs.Legal.{state_at, views_of}

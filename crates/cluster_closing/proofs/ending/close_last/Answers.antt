@@ -1,7 +1,7 @@
 use Rattle.std.proofs.Common.{arith, ◌≡◌, ◌∙◌, ◌<◌, ◌-◌, length, get_or, vec_len, None, Some, sym, ap, subst, length-take}
 use Rattle.turn_lock.specs.Journals.{StartsWith, entries_by}
 use Rattle.turn_lock.specs.Passes.{number}
-use Rattle.turn_laws.specs.Notes.{noter, notes_of}
+use Rattle.machine_laws.specs.Notes.{noter, notes_of}
 use Rattle.cluster_closing.specs.Ending.{seen_of, own_notes, origin_of}
 use Rattle.cluster_closing.proofs.ending.close_last.Goals as goal
 use Rattle.law_base.proofs.Options.{value_or as the}

@@ -1,7 +1,7 @@
 use Rattle.std.proofs.Common.{arith, get_or, None, ◌∙◌}
-use Rattle.turn_laws.specs.Homes.{holder_of}
-use Rattle.turn_laws.proofs.Laws.{fits_leaves, none_stops, gate_at_home, legal_shard}
-use Rattle.turn_laws.specs.Notes.{notes_of}
+use Rattle.machine_laws.specs.Homes.{holder_of}
+use Rattle.machine_laws.proofs.Laws.{fits_leaves, none_stops, gate_at_home, legal_shard}
+use Rattle.machine_laws.specs.Notes.{notes_of}
 use Rattle.cluster_closing.proofs.Together.{makes_history, origin_is}
 use Rattle.cluster_closing.proofs.lock_ends.close.Goals as goal
 

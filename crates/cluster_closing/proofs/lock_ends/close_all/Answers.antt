@@ -1,8 +1,8 @@
 use Rattle.std.proofs.Common.{rules, arith, ◌≡◌, ◌∙◌, ◌≤◌, ◌+◌, ◌-◌, length, get_or, vec_len, vec_capacity, None, sym, ap, subst, length-take, get_or-set_other}
 use Rattle.std.proofs.lemmas.List.{get_or_default, get_or-take}
 use Rattle.turn_lock.specs.Passes.{IsPassOf, passes_of}
-use Rattle.turn_laws.specs.Notes.{notes_of}
-use Rattle.turn_laws.specs.Sound.{IsSound}
+use Rattle.machine_laws.specs.Notes.{notes_of}
+use Rattle.machine_laws.specs.Sound.{IsSound}
 use Rattle.cluster_closing.specs.Ending.{ClosedAt}
 use Rattle.cluster_closing.proofs.Gathering.{closed_same, pushed_each}
 use Rattle.cluster_closing.proofs.lock_ends.close_all.Goals as goal

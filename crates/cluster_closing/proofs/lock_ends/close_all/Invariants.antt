@@ -1,6 +1,6 @@
 use Rattle.std.proofs.Common.{◌≡◌, ◌<◌, ◌≤◌, ◌+◌, ℕ, get_or, All, vec_len, vec_capacity}
-use Rattle.turn_laws.specs.Notes.{notes_of}
-use Rattle.turn_laws.specs.Sound.{IsSound}
+use Rattle.machine_laws.specs.Notes.{notes_of}
+use Rattle.machine_laws.specs.Sound.{IsSound}
 use Rattle.cluster_closing.specs.Ending.{ClosedAt}
 use Rattle.cluster_closing.proofs.lock_ends.close_all.Given as goal
 

@@ -32,7 +32,7 @@ loop-held-preserved g c =
           (λ here. subst (λ z. Returned g.H.Disk.Disk.story g.H.Disk.Disk.faults z.disk (g.H.House.faults c.args.house.now z.shard) (g.H.House.faults c.give_back.new.self z.shard) (g.H.House.is_out c.give_back.new.self z.shard) (g.H.House.story c.give_back.new.self z.shard))
           (is f ∙ ap (λ m. get_or V.items m f) (sym here))
           (record {
-            adds = subst (λ m. Rattle.disk_model.specs.Disk.Adds m (g.H.Disk.Disk.faults x.disk) (g.H.House.faults c.give_back.new.self x.shard)) (subst (λ z. g.H.House.faults c.loop-held.house z.shard ≡ g.H.House.faults c.args.house.now z.shard) (sym (is x)) (inv.todo k x (omega arith)).1) back.adds;
+            adds = subst (λ m. Rattle.io_model.specs.Disk.Adds m (g.H.Disk.Disk.faults x.disk) (g.H.House.faults c.give_back.new.self x.shard)) (subst (λ z. g.H.House.faults c.loop-held.house z.shard ≡ g.H.House.faults c.args.house.now z.shard) (sym (is x)) (inv.todo k x (omega arith)).1) back.adds;
             is_in = back.back;
             story_is = back.story;
           }))

@@ -2,9 +2,9 @@ use Rattle.std.proofs.Common.{◌≡◌, ◌++◌, ◌∷◌, [], sym, ap, subst
 use Rattle.clv_base.specs.declared.events.Event.TheVariants.{Restart}
 use Rattle.machine_calls.specs.Steps.{Tells}
 use Rattle.machine_calls.specs.Restored.{revives, error_in}
-use Rattle.turn_laws.specs.declared.notes.Mark.TheVariants.{Left}
-use Rattle.turn_laws.specs.Notes.{notes_of}
-use Rattle.turn_laws.specs.Sound.{IsSound}
+use Rattle.machine_laws.specs.declared.notes.Mark.TheVariants.{Left}
+use Rattle.machine_laws.specs.Notes.{notes_of}
+use Rattle.machine_laws.specs.Sound.{IsSound}
 use Rattle.cluster_closing.proofs.Bringing.{gate_away, up_again}
 use Rattle.cluster_closing.proofs.reviving.revive.Goals as goal
 

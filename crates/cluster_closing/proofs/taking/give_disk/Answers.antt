@@ -1,8 +1,8 @@
 use Rattle.std.proofs.Common.{◌≡◌, ◌∙◌, ◌++◌, false, Some, None, length, sym, ap, subst, refl, vec_capacity}
-use Rattle.turn_laws.specs.Notes.{notes_of}
-use Rattle.turn_laws.specs.Homes.{holder_of}
-use Rattle.turn_laws.specs.Gates.{GateStands}
-use Rattle.turn_laws.proofs.Laws.{down_disk, legal_shard}
+use Rattle.machine_laws.specs.Notes.{notes_of}
+use Rattle.machine_laws.specs.Homes.{holder_of}
+use Rattle.machine_laws.specs.Gates.{GateStands}
+use Rattle.machine_laws.proofs.Laws.{down_disk, legal_shard}
 use Rattle.cluster_closing.proofs.Giving.{gate_given, none_left, sound_given}
 use Rattle.cluster_closing.proofs.taking.give_disk.Goals as goal
 use Rattle.law_base.proofs.Bools.{not_true as is_down}

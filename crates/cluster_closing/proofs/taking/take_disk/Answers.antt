@@ -1,9 +1,9 @@
 use Rattle.std.proofs.Common.{arith, ◌∙◌, ◌++◌, ap, subst, length, drop}
 use Rattle.turn_lock.specs.Passes.{seen, own, turn_seen}
 use Rattle.turn_lock.specs.Journals.{GrownByOthers}
-use Rattle.turn_laws.specs.Notes.{noter, notes_of}
-use Rattle.turn_laws.specs.Homes.{IsLegal}
-use Rattle.turn_laws.proofs.Laws.{added_notes}
+use Rattle.machine_laws.specs.Notes.{noter, notes_of}
+use Rattle.machine_laws.specs.Homes.{IsLegal}
+use Rattle.machine_laws.proofs.Laws.{added_notes}
 use Rattle.cluster_closing.proofs.Giving.{adds_own, pass_taken}
 use Rattle.cluster_closing.proofs.taking.take_disk.Goals as goal
 

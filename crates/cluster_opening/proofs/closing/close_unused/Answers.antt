@@ -1,6 +1,6 @@
 use Rattle.std.proofs.Common.{◌<◌, get_or, length, vec_capacity, arith}
 use Rattle.turn_lock.specs.Passes.{pass_origin}
-use Rattle.turn_laws.specs.Notes.{notes_of}
+use Rattle.machine_laws.specs.Notes.{notes_of}
 use Rattle.cluster_opening.proofs.Unused.{all_empty, unused, same_origin, by_origin, gate_there}
 use Rattle.cluster_opening.proofs.closing.close_unused.Goals as goal
 use Rattle.law_base.proofs.Lists.{elem_at as some_elem}

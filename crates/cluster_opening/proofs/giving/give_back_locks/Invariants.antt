@@ -1,7 +1,7 @@
 use Rattle.std.proofs.Common.{◌≡◌, ◌<◌, ◌≤◌, ℕ, true, false, take, vec_len, List, Option}
 use Rattle.clv_base.specs.declared.logs.LogRecord.{LogRecord}
 use Rattle.clv_base.specs.LogRules.{log_of}
-use Rattle.disk_model.specs.Story.{Story}
+use Rattle.io_model.specs.Story.{Story}
 use Rattle.machine_calls.specs.Recovered.{IsLeft}
 use Rattle.cluster_opening.specs.Undone.{AreOpened}
 use Rattle.cluster_opening.proofs.giving.give_back_locks.Given as goal

@@ -1,6 +1,6 @@
 use Rattle.std.proofs.Common.{◌∙◌, ◌<◌, ◌^◌, sym, subst, arith}
 use Rattle.cluster_turns.specs.Walkers.{founds_of}
-use Rattle.disks_opening.proofs.Laws.{few_shards}
+use Rattle.cluster_opening.proofs.Laws.{few_shards}
 use Rattle.cluster_opening.specs.Undone.{AreOpened}
 use Rattle.cluster_runs.proofs.Taking.{wanting, went_on, of_splits}
 use Rattle.cluster_runs.proofs.beginning.begin.Goals as goal

@@ -2,8 +2,8 @@ use Rattle.std.proofs.Common.{◌≡◌, ◌∙◌, ◌<◌, ◌^◌, true, map,
 use Rattle.clv_base.specs.LogRules.{log_of}
 use Rattle.clv_base.specs.FileRules.{may_open}
 use Rattle.clv_base.specs.Restarts.{run_after}
-use Rattle.disks_opening.specs.Logs.{LogsOfAll}
-use Rattle.disks_opening.proofs.Laws.{few_shards}
+use Rattle.cluster_opening.specs.Logs.{LogsOfAll}
+use Rattle.cluster_opening.proofs.Laws.{few_shards}
 use Rattle.cluster_opening.specs.AllOpened.{IsOpenedAt}
 use Rattle.cluster_runs.specs.Begun.{told_as, IsTakenBack}
 use Rattle.cluster_runs.proofs.Dealing.{passes_each}

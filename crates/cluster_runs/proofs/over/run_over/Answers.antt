@@ -1,8 +1,8 @@
 use Rattle.std.proofs.Common.{arith, ◌≡◌, ◌∙◌, suc, true, sym, subst, Ok, Err}
 use Rattle.std.specs.Result.{is_err}
-use Rattle.run_status.specs.Running.{End, IsOk}
-use Rattle.session_scripts.specs.Standing.{IsAtRest}
-use Rattle.run_promises.specs.Sessions.{NotBegun}
+use Rattle.command_line.specs.Running.{End, IsOk}
+use Rattle.session_api.specs.Standing.{IsAtRest}
+use Rattle.cluster_runs.specs.PromisedSessions.{NotBegun}
 use Rattle.script_runs.specs.declared.ends.StopCause.TheVariants.{Memory}
 use Rattle.cluster_runs.proofs.Gone.{none_gone, new_rest, all_rest, goes_on}
 use Rattle.cluster_runs.proofs.over.run_over.Goals as goal

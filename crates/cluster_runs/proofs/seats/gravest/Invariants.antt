@@ -1,5 +1,5 @@
 use Rattle.std.proofs.Common.{◌<◌, ℕ, get_or}
-use Rattle.run_status.specs.Running.{IsOk}
+use Rattle.command_line.specs.Running.{IsOk}
 use Rattle.cluster_runs.specs.Sessions.{HasWornLast}
 use Rattle.cluster_runs.proofs.seats.gravest.Given as goal
 

@@ -1,8 +1,8 @@
 use Rattle.std.proofs.Common.{arith, ◌≡◌, ◌∙◌, ◌+◌, ◌-◌, ℕ, suc, length, get_or, vec_len, sym, ap, subst, length-take}
 use Rattle.std.proofs.lemmas.List.{get_or-take}
 use Rattle.cluster_opening.specs.Made.{IsNewWalker}
-use Rattle.session_scripts.proofs.Laws.{new_walkers_are_sessions}
-use Rattle.session_scripts.specs.Standing.{Holds}
+use Rattle.session_api.proofs.Laws.{new_walkers_are_sessions}
+use Rattle.session_api.specs.Standing.{Holds}
 use Rattle.cluster_runs.specs.Sessions.{IsSeated}
 use Rattle.cluster_runs.proofs.Steps.{pushed_each, bodies_at}
 use Rattle.cluster_runs.proofs.seats.take_seats.Goals as goal

@@ -1,9 +1,9 @@
 use Rattle.std.proofs.Common.{arith, ◌∙◌, suc, get_or, map, sym, subst}
 use Rattle.std.proofs.lemmas.List.{get_or-map, length-map}
 use Rattle.script_runs.specs.declared.ends.StopCause.TheVariants.{Memory}
-use Rattle.run_status.specs.Running.{IsOk}
-use Rattle.session_scripts.specs.Standing.{IsAtRest}
-use Rattle.run_promises.specs.Sessions.{NotBegun}
+use Rattle.command_line.specs.Running.{IsOk}
+use Rattle.session_api.specs.Standing.{IsAtRest}
+use Rattle.cluster_runs.specs.PromisedSessions.{NotBegun}
 use Rattle.cluster_runs.specs.Sessions.{HasSat, went_by}
 use Rattle.cluster_runs.proofs.Gone.{gone, none_gone, new_rest}
 use Rattle.cluster_runs.proofs.sessions.run_sessions.Goals as goal

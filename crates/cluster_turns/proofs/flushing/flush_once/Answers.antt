@@ -2,7 +2,7 @@ use Rattle.std.proofs.Common.{rules, arith, ◌≡◌, ◌∙◌, ◌<◌, ◌^�
 use Rattle.clv_base.specs.declared.events.Event.TheVariants.{FlushOut}
 use Rattle.cluster_turns.specs.Turns.{EventTold}
 use Rattle.cluster_turns.specs.Walkers.{Walked}
-use Rattle.turn_laws.specs.Gates.{InAir}
+use Rattle.machine_laws.specs.Gates.{InAir}
 use Rattle.cluster_turns.specs.Flights.{FlightTaken, AwayAt, LandTold}
 use Rattle.cluster_turns.specs.Told.{FlushTold, one_turn, two_turns}
 use Rattle.cluster_turns.proofs.flushing.flush_once.Goals as goal

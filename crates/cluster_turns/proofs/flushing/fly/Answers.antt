@@ -1,7 +1,7 @@
 use Rattle.std.proofs.Common.{sym, subst}
 use Rattle.turn_lock.specs.Passes.{seen}
-use Rattle.turn_laws.specs.Gates.{InAir, Landable}
-use Rattle.turn_laws.proofs.Laws.{pushes}
+use Rattle.machine_laws.specs.Gates.{InAir, Landable}
+use Rattle.machine_laws.proofs.Laws.{pushes}
 use Rattle.cluster_turns.proofs.flushing.fly.Goals as goal
 
 pub arrive-requires-clause-away : goal.arrive-requires-clause-away

@@ -4,9 +4,9 @@ use Rattle.clv_base.specs.declared.events.Event.TheVariants.{FlushIn}
 use Rattle.clv_base.specs.Events.{land}
 use Rattle.clv_base.specs.Restarts.{run_after}
 use Rattle.turn_lock.specs.Passes.{number, IsPassOf}
-use Rattle.turn_laws.specs.Homes.{entries_in}
-use Rattle.turn_laws.specs.Gates.{Landable}
-use Rattle.turn_laws.proofs.Laws.{above}
+use Rattle.machine_laws.specs.Homes.{entries_in}
+use Rattle.machine_laws.specs.Gates.{Landable}
+use Rattle.machine_laws.proofs.Laws.{above}
 use Rattle.cluster_turns.specs.Turns.{Turned}
 use Rattle.cluster_turns.specs.Walkers.{IsWalkerOf, Walked, kept, founds_of}
 use Rattle.cluster_turns.proofs.Walking.{Adds, walks, still_pass, made_adds}

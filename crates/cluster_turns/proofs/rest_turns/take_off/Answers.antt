@@ -5,9 +5,9 @@ use Rattle.machine_calls.specs.Steps.{listed, clock_by}
 use Rattle.machine_calls.specs.Flights.{outcome_in}
 use Rattle.turn_lock.specs.Passes.{seen, own, turn_seen}
 use Rattle.turn_lock.specs.Journals.{GrownByOthers}
-use Rattle.turn_laws.specs.Notes.{noter, plain, notes_of}
-use Rattle.turn_laws.specs.Homes.{IsLegal}
-use Rattle.turn_laws.proofs.Laws.{grown_by, added_notes, notes_step, grows, clock_is, sound_departs}
+use Rattle.machine_laws.specs.Notes.{noter, plain, notes_of}
+use Rattle.machine_laws.specs.Homes.{IsLegal}
+use Rattle.machine_laws.proofs.Laws.{grown_by, added_notes, notes_step, grows, clock_is, sound_departs}
 use Rattle.cluster_turns.proofs.Flights.{flight_told}
 use Rattle.cluster_turns.proofs.rest_turns.take_off.Goals as goal
 

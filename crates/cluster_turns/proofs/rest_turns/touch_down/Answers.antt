@@ -3,10 +3,10 @@ use Rattle.clv_base.specs.declared.events.Event.TheVariants.{FlushIn}
 use Rattle.clv_base.specs.Events.{land}
 use Rattle.turn_lock.specs.Passes.{seen, own, turn_seen}
 use Rattle.turn_lock.specs.Journals.{GrownByOthers, durable_of}
-use Rattle.turn_laws.specs.Notes.{noter, plain, notes_of, noted_durable}
-use Rattle.turn_laws.specs.Homes.{IsLegal}
-use Rattle.turn_laws.specs.Sound.{IsSound}
-use Rattle.turn_laws.proofs.Laws.{grown_by, added_notes, notes_step, still_flying, still_landable, sound_lands}
+use Rattle.machine_laws.specs.Notes.{noter, plain, notes_of, noted_durable}
+use Rattle.machine_laws.specs.Homes.{IsLegal}
+use Rattle.machine_laws.specs.Sound.{IsSound}
+use Rattle.machine_laws.proofs.Laws.{grown_by, added_notes, notes_step, still_flying, still_landable, sound_lands}
 use Rattle.law_base.proofs.Options.{some_inj}
 use Rattle.cluster_turns.proofs.Flights.{land_is, told_durable}
 use Rattle.cluster_turns.proofs.rest_turns.touch_down.Goals as goal

@@ -3,10 +3,10 @@ use Rattle.clv_base.specs.Events.{step}
 use Rattle.machine_calls.specs.Steps.{listed}
 use Rattle.turn_lock.specs.Passes.{seen, own, turn_seen}
 use Rattle.turn_lock.specs.Journals.{GrownByOthers}
-use Rattle.turn_laws.specs.Notes.{noter, plain, notes_of}
-use Rattle.turn_laws.specs.Homes.{IsLegal}
-use Rattle.turn_laws.proofs.Laws.{still_free, grown_by, added_notes}
-use Rattle.turn_laws.proofs.Laws.{notes_step, grows}
+use Rattle.machine_laws.specs.Notes.{noter, plain, notes_of}
+use Rattle.machine_laws.specs.Homes.{IsLegal}
+use Rattle.machine_laws.proofs.Laws.{still_free, grown_by, added_notes}
+use Rattle.machine_laws.proofs.Laws.{notes_step, grows}
 use Rattle.cluster_turns.proofs.turns.turn.Goals as goal
 
 pub event-clock-requires-clause-fits : goal.event-clock-requires-clause-fits

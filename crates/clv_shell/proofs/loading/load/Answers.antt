@@ -1,6 +1,6 @@
 use Rattle.std.proofs.Common.{rules, ◌≡◌, None, subst}
 use Rattle.cluster_runs.specs.Ran.{RanAll}
-use Rattle.workload.specs.Loads.{load as script_by}
+use Rattle.script_lang.specs.Loads.{load as script_by}
 use Rattle.clv_shell.proofs.Loaded.{loaded}
 use Rattle.clv_shell.proofs.loading.load.Goals as goal
 

@@ -2,7 +2,7 @@
 use Rattle.std.proofs.Common.{◌||◌, sym, ap, ◌∙◌}
 use Rattle.clv_base.specs.Orders.{tx_in, tx_same}
 use Rattle.clv_base.specs.Undo.{doomed_by}
-use Rattle.due_candidates.proofs.Laws.{room_own, insert_in}
+use Rattle.tx_table.proofs.Laws.{room_own, insert_in}
 use Rattle.due_step.specs.Noting.{ruled_touches, touches}
 use Rattle.due_step.proofs.Noted.{room_more, own_doomed, ruled_doomed}
 use Rattle.due_step.proofs.noting.note_touched.Goals as goal

@@ -1,7 +1,7 @@
 use Rattle.std.proofs.Common.{ap, subst, ◌∙◌}
 use Rattle.std.specs.Prelude.{IfOk}
 use Rattle.clv_base.specs.Events.{step}
-use Rattle.world_laws.specs.Moves.{Moves}
+use Rattle.crash_laws.specs.Moves.{Moves}
 use Rattle.interleaving_core.proofs.Answering.{answer_is}
 use Rattle.interleaving_core.proofs.moving.take_step.Goals as goal
 

@@ -6,9 +6,9 @@ use Rattle.clv_base.specs.Core.{clock_of, put_entry}
 use Rattle.clv_base.specs.Journals.{own, has_no_equal_active_birth}
 use Rattle.clv_base.specs.Sessions.{is_session}
 use Rattle.journal_laws.specs.Worlds.{empty_logs}
-use Rattle.world_laws.specs.Fronts.{LandsBy}
-use Rattle.world_laws.proofs.Laws.{stands, lands_by}
-use Rattle.world_laws.specs.Running.{is_offered, run_step}
+use Rattle.crash_laws.specs.Fronts.{LandsBy}
+use Rattle.crash_laws.proofs.Laws.{stands, lands_by}
+use Rattle.crash_laws.specs.Running.{is_offered, run_step}
 use Rattle.interleaving_core.specs.Sound.{world_by, AreSound}
 use Rattle.interleaving_core.proofs.Advancing.{shard_there, seat_at, session_one, refused, rival, few_shards, free_there, one_not, made_none, made_some}
 use Rattle.interleaving_core.proofs.running.advance.Goals as goal

@@ -3,7 +3,7 @@ use Rattle.clv_base.specs.Shards.{shard_count}
 use Rattle.journal_laws.specs.Worlds.{empty_logs, logs_now}
 use Rattle.headline_laws.specs.Promise.{Promised}
 use Rattle.clv_base.specs.Runs.{run_from, run_events}
-use Rattle.world_laws.specs.Running.{run_step}
+use Rattle.crash_laws.specs.Running.{run_step}
 use Rattle.interleaving_core.specs.Sound.{as_world, AreSound}
 use Rattle.interleaving_core.proofs.Beginning.{sound_new}
 use Rattle.interleaving_core.proofs.Stepping.{when_ok, steps_more, steps_all}

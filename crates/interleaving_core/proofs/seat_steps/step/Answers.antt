@@ -1,6 +1,6 @@
 use Rattle.std.proofs.Common.{sym, subst, ◌∙◌}
 use Rattle.clv_base.specs.Events.{step}
-use Rattle.world_laws.proofs.Laws.{step_keeps}
+use Rattle.crash_laws.proofs.Laws.{step_keeps}
 use Rattle.interleaving_core.specs.Seated.{IsSeated}
 use Rattle.interleaving_core.proofs.SeatAnswering.{made_some}
 use Rattle.interleaving_core.proofs.Keeping.{no_flush, seated_still}

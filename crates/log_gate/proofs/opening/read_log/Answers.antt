@@ -1,4 +1,4 @@
-use Rattle.disk_model.proofs.Laws.Told.{tells_weaker}
+use Rattle.io_model.proofs.Laws.Told.{tells_weaker}
 use Rattle.log_gate.proofs.Batches.{spelled_in_bounds}
 use Rattle.log_gate.proofs.Unchanged.{unchanged, refused, found_told, refused_told}
 use Rattle.std.proofs.Common.{Ok}

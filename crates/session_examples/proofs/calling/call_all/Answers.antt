@@ -1,5 +1,5 @@
 use Rattle.std.proofs.Common.{◌∙◌, sym, subst, arith}
-use Rattle.session_scripts.specs.Standing.{Holds}
+use Rattle.session_api.specs.Standing.{Holds}
 use Rattle.session_examples.proofs.Walking.{holds_later}
 use Rattle.session_examples.proofs.calling.call_all.Goals as goal
 

@@ -1,5 +1,5 @@
 use Rattle.std.proofs.Common.{◌≡◌, ◌+◌, vec_len, vec_capacity}
-use Rattle.session_scripts.specs.Standing.{Holds}
+use Rattle.session_api.specs.Standing.{Holds}
 use Rattle.session_examples.proofs.calling.call_all.Given as goal
 
 abbrev pub invariant-loop-call : goal.invariant-loop-call

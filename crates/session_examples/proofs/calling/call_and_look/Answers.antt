@@ -1,5 +1,5 @@
 use Rattle.std.proofs.Common.{◌∙◌, sym, ap, subst, arith, ◌-◌, get_or, vec_len}
-use Rattle.session_scripts.specs.Standing.{Holds, IsAtRest}
+use Rattle.session_api.specs.Standing.{Holds, IsAtRest}
 use Rattle.session_examples.proofs.Lists.{length_back}
 use Rattle.session_examples.proofs.Walking.{holds_new, rests_as, sat_number, all_new, all_rest, rest_at, own_rest, renumbered}
 use Rattle.session_examples.proofs.calling.call_and_look.Goals as goal

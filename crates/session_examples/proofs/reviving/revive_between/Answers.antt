@@ -1,5 +1,5 @@
 use Rattle.std.proofs.Common.{◌∙◌, sym, ap, subst, arith, ◌-◌, get_or, vec_len}
-use Rattle.session_scripts.specs.Standing.{Holds, IsAtRest}
+use Rattle.session_api.specs.Standing.{Holds, IsAtRest}
 use Rattle.std.proofs.lemmas.List.{get_or-take}
 use Rattle.session_examples.proofs.Walking.{holds_new, rest_new, rests_as, home_of, sat_number, two_home}
 use Rattle.session_examples.proofs.reviving.revive_between.Goals as goal

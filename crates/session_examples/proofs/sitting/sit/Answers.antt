@@ -1,6 +1,6 @@
 use Rattle.std.proofs.Common.{◌∙◌, sym, ap, subst, arith}
 use Rattle.session_api.specs.declared.progress.Progress.TheVariants.{Idle}
-use Rattle.session_scripts.specs.Standing.{Holds}
+use Rattle.session_api.specs.Standing.{Holds}
 use Rattle.session_examples.proofs.sitting.sit.Goals as goal
 use Rattle.law_base.proofs.Options.{value_or as the}
 

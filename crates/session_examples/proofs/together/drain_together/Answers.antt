@@ -3,7 +3,7 @@ use denote.Ref.{NamedLft}
 use denote.Param.{param}
 use denote.Param.Send.{param_send}
 use Rattle.std.proofs.Common.{sym, subst, slice_index_or}
-use Rattle.session_scripts.specs.Standing.{IsAtRest}
+use Rattle.session_api.specs.Standing.{IsAtRest}
 use Rattle.session_examples.proofs.Sending.{seat_row_send}
 use Rattle.session_examples.proofs.together.drain_together.Goals as goal
 

@@ -4,7 +4,7 @@ use denote.Param.{param}
 use denote.Param.Send.{param_send}
 use Rattle.std.proofs.Common.{◌≡◌, sym, subst, slice_index_or, None}
 use Rattle.session_api.specs.Progresses.{active_tx}
-use Rattle.session_scripts.specs.Standing.{Holds}
+use Rattle.session_api.specs.Standing.{Holds}
 use Rattle.session_examples.proofs.Sending.{seat_row_send}
 use Rattle.session_examples.proofs.together.run_together.Goals as goal
 

@@ -1,5 +1,5 @@
 use Rattle.std.proofs.Common.{◌∙◌, ◌<◌, sym, ap, subst, refl, arith, suc, length, get_or, slice_index_or, vec_len}
-use Rattle.session_scripts.specs.Standing.{IsAtRest}
+use Rattle.session_api.specs.Standing.{IsAtRest}
 use Rattle.session_examples.specs.Walkers.{IsSeated}
 use Rattle.session_examples.proofs.Walking.{rests_as, rest_new, all_behind}
 use Rattle.session_examples.proofs.Seats.{seat_rests}

@@ -1,6 +1,6 @@
 use Rattle.std.proofs.Common.{◌≡◌, ◌≤◌, None}
 use Rattle.session_api.specs.Progresses.{active_tx}
-use Rattle.session_scripts.specs.Standing.{Holds}
+use Rattle.session_api.specs.Standing.{Holds}
 use Rattle.session_examples.proofs.together.transfer_often.Given as goal
 
 abbrev pub invariant-loop-step : goal.invariant-loop-step

@@ -1,9 +1,9 @@
 use Rattle.std.proofs.Common.{◌≡◌, ◌∙◌, sym, ap, subst, arith, ◌-◌, [], get_or, vec_len}
 use Rattle.cluster_turns.specs.Walkers.{kept}
 use Rattle.cluster_runs.specs.Ends.{walked_by}
-use Rattle.session_scripts.specs.Standing.{Holds}
-use Rattle.session_scripts.proofs.Laws.{new_walkers_keep_none}
-use Rattle.session_rows.specs.Moves.{MovesAs}
+use Rattle.session_api.specs.Standing.{Holds}
+use Rattle.session_api.proofs.Laws.{new_walkers_keep_none}
+use Rattle.session_examples.specs.Moves.{MovesAs}
 use Rattle.session_examples.proofs.Lists.{length_back, second_back}
 use Rattle.session_examples.proofs.Walking.{holds_new, holds_later, rests_as, sat_number, all_new, all_rest}
 use Rattle.session_examples.proofs.Ending.{walked_second, has_made}

@@ -2,7 +2,7 @@
 use Rattle.std.proofs.Common.{◌∷◌, [], ap, arith}
 use Rattle.std.proofs.lemmas.Bool.{both_ways}
 use Rattle.clv_base.specs.Orders.{tx_in}
-use Rattle.due_candidates.specs.Held.{Candidates}
+use Rattle.tx_table.specs.Held.{Candidates}
 use Rattle.shard_core.proofs.operating.keep_noted.Goals as goal
 
 pub insert-requires : goal.insert-requires

@@ -1,5 +1,5 @@
 use Rattle.std.proofs.Common.{◌≡◌, ◌++◌, not, length, ap, subst, ◌∙◌, arith}
-use Rattle.log_facts.specs.Facts.{Knows, known}
+use Rattle.log_analysis.specs.Facts.{Knows, known}
 use Rattle.cascade_undo.specs.Writes.{writes_of}
 use Rattle.shard_recovery.specs.Aborting.{aborts, unaborted}
 use Rattle.shard_recovery.proofs.Whole.{open_is, fewer, stands, log_whole}

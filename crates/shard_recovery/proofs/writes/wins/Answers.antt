@@ -1,6 +1,6 @@
 use Rattle.std.proofs.Common.{rules, ◌≡◌, true, false, ◌||◌, is_some, sym, ap, ◌∙◌}
 use Rattle.clv_base.specs.Orders.{tx_in}
-use Rattle.log_facts.specs.Facts.{known}
+use Rattle.log_analysis.specs.Facts.{known}
 use Rattle.shard_recovery.proofs.Folded.{wins_known}
 use Rattle.shard_recovery.proofs.writes.wins.Goals as goal
 

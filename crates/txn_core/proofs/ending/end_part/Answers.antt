@@ -4,7 +4,7 @@ use Rattle.clv_base.specs.Orders.{tx_cmp, tx_get}
 use Rattle.clv_base.specs.Undo.{gone_part}
 use Rattle.std.specs.BTreeMap.{insert_entry}
 use Rattle.std.proofs.lemmas.Bool.{both_ways}
-use Rattle.tx_index.specs.Parts.{is_here as part_is_here}
+use Rattle.tx_table.specs.Parts.{is_here as part_is_here}
 use Rattle.txn_core.proofs.Ends.{no_return, changed-none, changed-found, gone_in-changed}
 use Rattle.txn_core.proofs.ending.end_part.Goals as goal
 

@@ -3,7 +3,7 @@ use Rattle.std.proofs.Common.{◌≡◌, true, subst, Some, None, sym, ap, ◌�
 use Rattle.clv_base.specs.Orders.{tx_cmp, tx_get}
 use Rattle.clv_base.specs.OneShard.{dropped_part}
 use Rattle.std.specs.BTreeMap.{insert_entry}
-use Rattle.tx_index.specs.Parts.{is_here as part_is_here}
+use Rattle.tx_table.specs.Parts.{is_here as part_is_here}
 use Rattle.txn_core.proofs.Ends.{no_return, changed-none, changed-found}
 use Rattle.txn_core.proofs.ending.mark_dropped.Goals as goal
 

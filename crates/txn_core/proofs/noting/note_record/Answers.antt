@@ -4,8 +4,8 @@ use Rattle.clv_base.specs.declared.logs.LogRecord.TheVariants.{Commit}
 use Rattle.clv_base.specs.Orders.{tx_in, tx_same}
 use Rattle.clv_base.proofs.SameNames.{tx_self, or_left, or_right}
 use Rattle.protocol_laws.specs.UndoLaws.{is_pair}
-use Rattle.due_candidates.specs.Held.{HasRoomBy}
-use Rattle.due_candidates.proofs.Laws.{room_then, insert_in}
+use Rattle.tx_table.specs.Held.{HasRoomBy}
+use Rattle.tx_table.proofs.Laws.{room_then, insert_in}
 use Rattle.txn_core.specs.Landed.{concerns}
 use Rattle.txn_core.proofs.Joins.{swapped}
 use Rattle.txn_core.proofs.noting.note_record.Goals as goal

@@ -2,7 +2,7 @@
 use Rattle.std.proofs.Common.{◌≡◌, ◌||◌, drop}
 use Rattle.clv_base.specs.declared.names.TxId.{TxId}
 use Rattle.clv_base.specs.Orders.{tx_in}
-use Rattle.due_candidates.specs.Held.{HasRoomBy}
+use Rattle.tx_table.specs.Held.{HasRoomBy}
 use Rattle.txn_core.specs.Landed.{concern}
 use Rattle.txn_core.proofs.noting.note_records.Given as goal
 

@@ -1,12 +1,12 @@
 use Rattle.std.proofs.Common.{◌≡◌, ◌∙◌, true, sym, subst, vec_capacity}
 use Rattle.machine_calls.specs.Events.{event_fits}
 use Rattle.machine_calls.specs.Steps.{clock_by}
-use Rattle.turn_laws.specs.Notes.{notes_of}
-use Rattle.turn_laws.specs.Sound.{IsSound}
-use Rattle.turn_laws.proofs.Laws.{clock_is}
-use Rattle.turn_laws.proofs.Laws.{legal_shard}
-use Rattle.turn_laws.proofs.Laws.{sound_step}
-use Rattle.turn_laws.proofs.Laws.{singly}
+use Rattle.machine_laws.specs.Notes.{notes_of}
+use Rattle.machine_laws.specs.Sound.{IsSound}
+use Rattle.machine_laws.proofs.Laws.{clock_is}
+use Rattle.machine_laws.proofs.Laws.{legal_shard}
+use Rattle.machine_laws.proofs.Laws.{sound_step}
+use Rattle.machine_laws.proofs.Laws.{singly}
 use Rattle.cluster_turns.proofs.home.Home.event.Goals as goal
 
 pub step-answer-requires-clause-stepped : goal.step-answer-requires-clause-stepped

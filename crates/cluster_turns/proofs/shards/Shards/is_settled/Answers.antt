@@ -2,7 +2,7 @@ use Rattle.std.proofs.Common.{rules, arith, ◌≡◌, ◌∙◌, ◌<◌, Some,
 use Rattle.std.proofs.lemmas.List.{get_or_default, set-set}
 use Rattle.clv_base.specs.Restarts.{run_after}
 use Rattle.turn_lock.specs.Passes.{number, IsPassOf}
-use Rattle.turn_laws.specs.Homes.{entries_in}
+use Rattle.machine_laws.specs.Homes.{entries_in}
 use Rattle.cluster_turns.specs.Turns.{Turned, SettledTold}
 use Rattle.cluster_turns.specs.Walkers.{IsWalkerOf, Walked, kept, founds_of}
 use Rattle.cluster_turns.proofs.Walking.{Adds, none, walks, still_pass}

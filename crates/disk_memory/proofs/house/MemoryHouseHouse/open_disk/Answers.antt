@@ -1,7 +1,7 @@
 use Rattle.std.proofs.Common.{◌≡◌, ℕ, length, refl, sym, ap, subst, arith}
 use Rattle.std.specs.List.{slice_set}
 use Rattle.std.proofs.lemmas.Option.{slice_get_read}
-use Rattle.disk_model.specs.Disk.{HasCause}
+use Rattle.io_model.specs.Disk.{HasCause}
 use Rattle.disk_memory.specs.House.{faults_of, is_out_of, story_of_slot, faults_at}
 use Rattle.disk_memory.proofs.Slots.{get_same, get_other}
 use Rattle.disk_memory.proofs.house.MemoryHouseHouse.open_disk.Goals as goal

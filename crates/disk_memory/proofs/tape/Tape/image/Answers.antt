@@ -1,5 +1,5 @@
 use Rattle.std.proofs.Common.{sym, subst}
-use Rattle.disk_model.specs.Story.{IsImage}
+use Rattle.io_model.specs.Story.{IsImage}
 use Rattle.disk_memory.specs.Told.{View}
 use Rattle.disk_memory.specs.Image.{left_by}
 use Rattle.disk_memory.proofs.Images.{left_image}

@@ -1,5 +1,5 @@
 use Rattle.std.proofs.Common.{arith, ◌≡◌, ◌+◌, ◌*◌, ◌≤◌, [], length, sym, subst}
-use Rattle.disk_model.specs.Story.{after, reads}
+use Rattle.io_model.specs.Story.{after, reads}
 use Rattle.disk_memory.specs.Noted.{call_of}
 use Rattle.disk_memory.specs.Told.{View, story_of}
 use Rattle.disk_memory.specs.Fails.{bytes_written}

@@ -1,5 +1,5 @@
 use Rattle.std.proofs.Common.{arith, ◌≡◌, ◌+◌, ◌*◌, ◌≤◌, max, length, sym, subst}
-use Rattle.disk_model.specs.Story.{Write, after, reads}
+use Rattle.io_model.specs.Story.{Write, after, reads}
 use Rattle.disk_memory.specs.Told.{View, story_of}
 use Rattle.disk_memory.specs.Fails.{bytes_written}
 use Rattle.disk_memory.proofs.Sound.{in_fields_write, push_write, sound_write}

@@ -1,8 +1,8 @@
 use Rattle.std.proofs.Common.{◌≡◌, ℕ, ◌+◌, List, [], ◌∷◌, ◌++◌, length, take, IfSome, ◌∙◌, ap, subst, arith, length-append}
 use Rattle.clv_base.specs.declared.logs.LogRecord.{LogRecord}
-use Rattle.disk_model.specs.Story.{reads}
-use Rattle.disk_model.specs.Disk.{Tells}
-use Rattle.disk_model.specs.Crash.{AtEachMoment}
+use Rattle.io_model.specs.Story.{reads}
+use Rattle.io_model.specs.Disk.{Tells}
+use Rattle.io_model.specs.Crash.{AtEachMoment}
 use Rattle.log_gate.specs.Payloads.{batch}
 use Rattle.log_gate.specs.Push.{pushed}
 use Rattle.log_gate.specs.Image.{SpellAll, HasLog, HasLogOrMore, HasHeader}

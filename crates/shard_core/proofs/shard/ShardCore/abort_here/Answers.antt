@@ -6,7 +6,7 @@ use Rattle.clv_base.specs.Logs.{prepare_lsn}
 use Rattle.clv_base.specs.Undo.{doomed_here, doomed_by, roll_back}
 use Rattle.clv_base.specs.Events.{finish, decided}
 use Rattle.clv_base.proofs.SameNames.{or_left}
-use Rattle.due_laws.proofs.Laws.{rolled_keeps, decisions_touch}
+use Rattle.protocol_laws.proofs.Laws.{rolled_keeps, decisions_touch}
 use Rattle.due_step.proofs.Laws.{known_have_room}
 use Rattle.txn_core.specs.State.{TxState}
 use Rattle.shard_core.specs.Core.{Core, seen_as}

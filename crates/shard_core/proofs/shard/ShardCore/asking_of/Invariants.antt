@@ -3,7 +3,7 @@ use Rattle.std.proofs.Common.{◌≡◌, ◌++◌, drop}
 use Rattle.std.specs.List.{filter}
 use Rattle.clv_base.specs.Facts.{facts_of}
 use Rattle.clv_base.specs.Orders.{tx_get}
-use Rattle.vote_participant.specs.Voting.{asks_by}
+use Rattle.two_phase_commit.specs.Voting.{asks_by}
 use Rattle.shard_core.proofs.shard.ShardCore.asking_of.Given as goal
 
 abbrev pub invariant-loop-tx : goal.invariant-loop-tx

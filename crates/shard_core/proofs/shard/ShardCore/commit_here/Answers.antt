@@ -1,6 +1,6 @@
 -- A COMMIT touches its transaction and its successors.
 use Rattle.std.proofs.Common.{◌≡◌, sym, ap, subst, ◌∙◌, true, arith}
-use Rattle.due_candidates.specs.Held.{Candidates}
+use Rattle.tx_table.specs.Held.{Candidates}
 use Rattle.clv_base.specs.Orders.{tx_in}
 use Rattle.due_step.specs.Noting.{known_keys}
 use Rattle.due_step.proofs.Laws.{known_have_room}

@@ -7,7 +7,7 @@ use Rattle.clv_base.specs.Undo.{stage_of, doomed_here, doomed_by}
 use Rattle.clv_base.specs.OneShard.{drop_part}
 use Rattle.clv_base.specs.Events.{finish}
 use Rattle.clv_base.proofs.SameNames.{or_left}
-use Rattle.due_laws.proofs.Laws.{drop_keeps, drops_touch}
+use Rattle.protocol_laws.proofs.Laws.{drop_keeps, drops_touch}
 use Rattle.due_step.proofs.Laws.{known_have_room}
 use Rattle.txn_core.specs.State.{TxState}
 use Rattle.shard_core.specs.Core.{Core, seen_as}

@@ -1,7 +1,7 @@
 -- What may still be done keeps its room.
 use Rattle.std.proofs.Common.{◌≡◌, ap, sym, subst, ◌∙◌, ◌+◌, ◌*◌, ◌≤◌, min, arith}
-use Rattle.due_laws.specs.Left.{left}
-use Rattle.due_laws.specs.Open.{open_work}
+use Rattle.protocol_laws.specs.Left.{left}
+use Rattle.protocol_laws.specs.Open.{open_work}
 use Rattle.due_step.specs.Sent.{Waiting}
 use Rattle.shard_core.specs.Core.{Core}
 use Rattle.shard_core.proofs.Parts.{Parts, seen, viewed, rest_of}

@@ -9,7 +9,7 @@ use Rattle.clv_base.specs.Orders.{tx_cmp}
 use Rattle.clv_base.specs.Facts.{facts_of, has_durable_commit}
 use Rattle.clv_base.specs.Coordinator.{home_reminders}
 use Rattle.clv_base.specs.Events.{durable_requests}
-use Rattle.commit_coordinator.specs.Waiting.{waiting_in}
+use Rattle.two_phase_commit.specs.Waiting.{waiting_in}
 use Rattle.shard_core.specs.Core.{Core}
 use Rattle.shard_core.proofs.shard.ShardCore.home_reminders.Goals as goal
 

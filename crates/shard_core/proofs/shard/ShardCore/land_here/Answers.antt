@@ -4,7 +4,7 @@ use Rattle.clv_base.specs.State.{Shard}
 use Rattle.clv_base.specs.Events.{finish, with_durable}
 use Rattle.clv_base.specs.OneShard.{purge}
 use Rattle.due_step.specs.Steps.{ArePrepares}
-use Rattle.due_laws.specs.Candidates.{Cover}
+use Rattle.protocol_laws.specs.Candidates.{Cover}
 use Rattle.due_step.specs.Noting.{known_keys}
 use Rattle.due_step.proofs.Laws.{landed_covers}
 use Rattle.txn_core.specs.State.{TxState}

@@ -2,7 +2,7 @@
 use Rattle.std.proofs.Common.{◌≡◌, sym, subst, ◌&&◌, is_none, is_some}
 use Rattle.clv_base.specs.Orders.{tx_get}
 use Rattle.clv_base.specs.Undo.{stage_of}
-use Rattle.commit_coordinator.specs.Coordinated.{state_by}
+use Rattle.two_phase_commit.specs.Coordinated.{state_by}
 use Rattle.clv_base.specs.OneShard.{op_reply}
 use Rattle.due_step.proofs.Laws.{known_have_room}
 use Rattle.shard_core.specs.Core.{Core}

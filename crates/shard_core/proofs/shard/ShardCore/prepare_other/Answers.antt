@@ -2,7 +2,7 @@
 use Rattle.std.proofs.Common.{◌≡◌, ap, ◌∙◌, ◌+◌, [], ◌∷◌, arith}
 use Rattle.clv_base.specs.State.{Shard}
 use Rattle.clv_base.specs.Events.{finish, owe_vote}
-use Rattle.due_laws.proofs.Laws.{prepares_touch}
+use Rattle.protocol_laws.proofs.Laws.{prepares_touch}
 use Rattle.shard_core.specs.Core.{Core}
 use Rattle.shard_core.proofs.Requested.{own_within}
 use Rattle.shard_core.proofs.Parts.{Parts, seen, Changed, rest_of}

@@ -8,8 +8,8 @@ use Rattle.clv_base.specs.Orders.{tx_cmp, tx_get}
 use Rattle.clv_base.specs.Facts.{facts_of}
 use Rattle.clv_base.specs.Participant.{asks}
 use Rattle.clv_base.specs.Events.{waiting_voters}
-use Rattle.tx_index.specs.Parts.{parts_here}
-use Rattle.vote_participant.specs.Voting.{asks_by}
+use Rattle.tx_table.specs.Parts.{parts_here}
+use Rattle.two_phase_commit.specs.Voting.{asks_by}
 use Rattle.shard_core.specs.Core.{Core}
 use Rattle.shard_core.proofs.Here.{asker_here}
 use Rattle.shard_core.proofs.shard.ShardCore.questions.Goals as goal

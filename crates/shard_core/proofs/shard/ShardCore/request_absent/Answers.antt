@@ -4,7 +4,7 @@ use Rattle.clv_base.specs.declared.messages.Message.{Message}
 use Rattle.clv_base.specs.State.{Shard}
 use Rattle.clv_base.specs.Coordinator.{prepares}
 use Rattle.clv_base.specs.Events.{finish, coordinate}
-use Rattle.due_laws.proofs.Laws.{requests_touch}
+use Rattle.protocol_laws.proofs.Laws.{requests_touch}
 use Rattle.shard_core.specs.Core.{Core}
 use Rattle.shard_core.proofs.Requested.{own_within}
 use Rattle.shard_core.proofs.Parts.{Parts, seen, Changed, rest_of}

@@ -7,8 +7,8 @@ use Rattle.clv_base.specs.Undo.{stage_of}
 use Rattle.clv_base.specs.Coordinator.{prepares, others}
 use Rattle.clv_base.specs.OneShard.{close_part}
 use Rattle.clv_base.specs.Events.{finish, is_alone, coordinate}
-use Rattle.due_laws.specs.Changes.{ChangesDue, successors_of}
-use Rattle.due_laws.proofs.Laws.{requests_touch}
+use Rattle.protocol_laws.specs.Changes.{ChangesDue, successors_of}
+use Rattle.protocol_laws.proofs.Laws.{requests_touch}
 use Rattle.shard_core.specs.Core.{Core}
 use Rattle.shard_core.proofs.Parts.{Parts, seen, Changed, rest_of}
 use Rattle.shard_core.proofs.Grown.{like_closed, turns_closed, asked_changed, room_doomed, within_closed, rising_before}

@@ -2,8 +2,8 @@
 use Rattle.std.proofs.Common.{refl, sym, ap, subst, ◌∙◌, ◌*◌, ◌+◌, ◌≤◌, drop}
 use Rattle.clv_base.specs.State.{Shard}
 use Rattle.clv_base.specs.Events.{finish, with_outbox}
-use Rattle.due_laws.proofs.Laws.{nobody_is_touched}
-use Rattle.due_laws.specs.Left.{left}
+use Rattle.protocol_laws.proofs.Laws.{nobody_is_touched}
+use Rattle.protocol_laws.specs.Left.{left}
 use Rattle.shard_core.proofs.Parts.{Parts, seen, Changed, rest_of, rest_kept, same_left}
 use Rattle.shard_core.specs.Core.{Core}
 use Rattle.shard_core.proofs.shard.ShardCore.send_here.Given as given

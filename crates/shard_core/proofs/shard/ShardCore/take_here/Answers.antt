@@ -3,7 +3,7 @@ use Rattle.std.proofs.Common.{◌≡◌, refl, sym, ap, subst, ◌∙◌, ◌+�
 use Rattle.clv_base.specs.Logs.{fitting}
 use Rattle.clv_base.specs.State.{Shard}
 use Rattle.clv_base.specs.Events.{finish, taken, with_flight}
-use Rattle.due_laws.proofs.Laws.{nobody_is_touched}
+use Rattle.protocol_laws.proofs.Laws.{nobody_is_touched}
 use Rattle.txn_core.specs.State.{TxState}
 use Rattle.due_step.specs.Noting.{known_keys}
 use Rattle.shard_core.specs.Whole.{HasRoom}

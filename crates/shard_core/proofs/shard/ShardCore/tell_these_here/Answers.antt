@@ -2,7 +2,7 @@
 use Rattle.std.proofs.Common.{refl, ap, arith}
 use Rattle.clv_base.specs.State.{Shard}
 use Rattle.clv_base.specs.Due.{send}
-use Rattle.due_laws.proofs.Laws.{nobody_is_touched}
+use Rattle.protocol_laws.proofs.Laws.{nobody_is_touched}
 use Rattle.shard_core.proofs.Parts.{Parts, seen, rest_of, rest_kept, same_left}
 use Rattle.shard_core.proofs.shard.ShardCore.tell_these_here.Goals as goal
 

@@ -2,7 +2,7 @@
 use Rattle.std.proofs.Common.{◌≡◌, refl, sym, ap, subst, ◌∙◌, true}
 use Rattle.clv_base.specs.Orders.{tx_get}
 use Rattle.clv_base.specs.Events.{finish}
-use Rattle.commit_coordinator.specs.Coordinated.{counts_by}
+use Rattle.two_phase_commit.specs.Coordinated.{counts_by}
 use Rattle.shard_core.specs.Core.{Core}
 use Rattle.shard_core.specs.Replying.{vote_taken}
 use Rattle.shard_core.proofs.Parts.{Parts, seen, Changed, rest_of}

@@ -1,5 +1,5 @@
 use Rattle.std.proofs.Common.{◌≡◌, take}
-use Rattle.due_laws.specs.Open.{votes_owed}
+use Rattle.protocol_laws.specs.Open.{votes_owed}
 use Rattle.shard_core.proofs.shard.ShardCore.votes_owed.Given as goal
 
 abbrev pub invariant-loop-tx : goal.invariant-loop-tx

@@ -16,7 +16,7 @@ use Rattle.txn_core.specs.State.{TxState}
 use Rattle.txn_core.specs.Sound.{is_here, owed_by, KeepsSpare}
 use Rattle.txn_core.proofs.Settled.{commit_lsn-undone}
 use Rattle.txn_core.proofs.Undoing.{undoable_here, each_doomed_here, doomed_here_rise, marked_is_doomed, sound_away, spare_away, spare_like, sound_more, local_same, state_same}
-use Rattle.lock_release.proofs.Laws.{purged_are_locked}
+use Rattle.shard_ops.proofs.Laws.{purged_are_locked}
 use Rattle.txn_core.proofs.Locked.{undone_ghosts_are_locked, sound_purged, ghosts_same}
 use Rattle.txn_core.proofs.Counting.{in_set}
 use Rattle.txn_core.proofs.Owing.{count_owed_fewer, undo_at_most}

@@ -6,7 +6,7 @@ use Rattle.clv_base.specs.declared.parts.PartFacts.{PartFacts}
 use Rattle.clv_base.specs.State.{Local}
 use Rattle.clv_base.specs.Undo.{stage_of}
 use Rattle.clv_base.specs.Facts.{facts_in, state_by, doom_by, is_restored_by}
-use Rattle.violation_deps.proofs.Laws.{undecided_by-log, due_of-log}
+use Rattle.cascade_undo.proofs.Laws.{undecided_by-log, due_of-log}
 use Rattle.txn_core.specs.State.{TxState, stage_by}
 use Rattle.txn_core.proofs.shard.ShardTx.facts.Goals as goal
 

@@ -9,7 +9,7 @@ use Rattle.clv_base.specs.Needs.{without_ghosts}
 use Rattle.clv_base.specs.State.{Local}
 use Rattle.clv_base.specs.Undo.{release_parts, pairs_without}
 use Rattle.clv_base.specs.OneShard.{purge}
-use Rattle.lock_release.proofs.Laws.{purged_are_locked}
+use Rattle.shard_ops.proofs.Laws.{purged_are_locked}
 use Rattle.txn_core.specs.State.{TxState}
 use Rattle.txn_core.specs.Sound.{KeepsSpare}
 use Rattle.txn_core.proofs.Undoing.{local_same, state_same, sound_more, spare_like}

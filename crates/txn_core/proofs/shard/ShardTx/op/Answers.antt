@@ -2,7 +2,7 @@
 use Rattle.std.proofs.Common.{ap, subst, ◌∙◌}
 use Rattle.clv_base.specs.Undo.{roll_back}
 use Rattle.clv_base.specs.OneShard.{purge}
-use Rattle.lock_release.specs.Ghosts.{GhostsAreLocked}
+use Rattle.shard_ops.specs.Ghosts.{GhostsAreLocked}
 use Rattle.txn_core.specs.State.{TxState, IsSameBut}
 use Rattle.txn_core.proofs.Locked.{same_purged, known_purged}
 use Rattle.txn_core.proofs.shard.ShardTx.op.Goals as goal

@@ -5,7 +5,7 @@ use Rattle.clv_base.specs.Logs.{commit_lsn, wrote_in}
 use Rattle.clv_base.specs.State.{Local}
 use Rattle.clv_base.specs.Undo.{stage_of}
 use Rattle.clv_base.specs.OneShard.{add_pairs, undecided_with}
-use Rattle.op_effects.specs.Effects.{performed_by, locks_after, records_after, log_after, record_count}
+use Rattle.shard_ops.specs.Effects.{performed_by, locks_after, records_after, log_after, record_count}
 use Rattle.txn_core.specs.State.{TxState}
 use Rattle.txn_core.specs.Sound.{may_work, owed_more, KeepsSpare}
 use Rattle.txn_core.proofs.Settled.{commit_lsn-log_after}

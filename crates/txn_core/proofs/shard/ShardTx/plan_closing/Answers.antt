@@ -6,7 +6,7 @@ use Rattle.clv_base.specs.Logs.{wrote_in}
 use Rattle.clv_base.specs.State.{Local}
 use Rattle.clv_base.specs.Facts.{undecided_of}
 use Rattle.clv_base.specs.OneShard.{closing}
-use Rattle.violation_deps.proofs.Laws.{undecided_by-log}
+use Rattle.cascade_undo.proofs.Laws.{undecided_by-log}
 use Rattle.txn_core.specs.State.{TxState}
 use Rattle.txn_core.specs.Closings.{planned}
 use Rattle.txn_core.proofs.shard.ShardTx.plan_closing.Goals as goal

@@ -4,9 +4,9 @@ use Rattle.std.proofs.Math.Nat.{le-min}
 use Rattle.clv_base.specs.declared.names.TxId.{TxId}
 use Rattle.clv_base.specs.declared.logs.LogRecord.{LogRecord}
 use Rattle.clv_base.specs.State.{Local}
-use Rattle.tx_index.specs.Parts.{parts_here}
+use Rattle.tx_table.specs.Parts.{parts_here}
 use Rattle.log_buffer.specs.Buffers.{Buffer}
-use Rattle.violation_deps.specs.Dependencies.{Dependencies}
+use Rattle.cascade_undo.specs.Dependencies.{Dependencies}
 use Rattle.txn_core.specs.State.{TxState}
 use Rattle.txn_core.specs.Sound.{is_here, owed_by, IsKept, trimmed}
 use Rattle.txn_core.proofs.Counting.{in_set}

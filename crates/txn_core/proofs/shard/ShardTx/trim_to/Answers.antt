@@ -4,7 +4,7 @@ use Rattle.std.proofs.Math.Nat.{le-min}
 use Rattle.clv_base.specs.declared.logs.LogRecord.{LogRecord}
 use Rattle.clv_base.specs.State.{Local}
 use Rattle.log_buffer.specs.Buffers.{Buffer}
-use Rattle.violation_deps.specs.Dependencies.{Dependencies}
+use Rattle.cascade_undo.specs.Dependencies.{Dependencies}
 use Rattle.txn_core.specs.State.{TxState}
 use Rattle.txn_core.specs.Sound.{is_here, owed_by, IsKept}
 use Rattle.txn_core.proofs.Totals.{still_sound}

@@ -1,0 +1,46 @@
+use Rattle.std.proofs.Common.{◌≡◌, ◌∙◌, ◌+◌, [], ◌∷◌, ◌++◌, map, length, Some, None, refl, ap, sym, subst, arith}
+use Rattle.std.proofs.lemmas.List.{length_push, length-map, map-append}
+use Rattle.cluster_opening.specs.Logs.{IsGateAt}
+use Rattle.cluster_opening.specs.Houses.{AreGates, IsStopped}
+use Rattle.cluster_opening.proofs.Growing.{no_gates, none_out, grown, one_out}
+use Rattle.cluster_opening.proofs.DisksStopping.{agreed_later, stopped}
+use Rattle.cluster_opening.proofs.disks_opening.open_logs.Goals as goal
+
+pub returns-in-Err-clause-stopped : goal.returns-in-Err-clause-stopped
+returns-in-Err-clause-stopped g c =
+    let h = c.args.house.now in let h1 = c.open_one.new.house in let F = g.H.House.faults in let O = g.H.House.is_out in let S = g.H.House.story in
+    let e = c.in-Err.ensures in
+    subst (λ z. IsStopped z (F h) (F h1) (O h1) (S h) (S h1) c.in-Err.error) (sym c.requires.empty.0)
+    (stopped [] [] [] (F h) (F h) (F h1) (O h) (O h) (O h1) (S h) (S h) (S h1) c.requires.inside (no_gates [] (S h)) (omega arith) 0 refl (none_out (F h) (F h) (F h) (O h) (O h) (O h) (S h) (S h) (S h)) (omega arith) (omega arith) None refl
+    c.in-Err.error e.refused e.unchanged e.back e.cause e.others)
+
+pub returns-in-Err-open_one-clause-stopped : goal.returns-in-Err-open_one-clause-stopped
+returns-in-Err-open_one-clause-stopped g c =
+    let h = c.args.house.now in let h1 = c.loop-shard.house in let h2 = c.open_one-in-loop-shard.new.house in let F = g.H.House.faults in let O = g.H.House.is_out in let S = g.H.House.story in
+    let inv = c.loop-shard.invariant in let e = c.in-Err-open_one.ensures in let k = c.loop-shard.shard in let splits = c.in-Ok.found.1.splits in
+    let L = map (λ v. v.items) c.loop-shard.logs.items in
+    let long : length L ≡ k = length-map c.loop-shard.logs.items (λ v. v.items) ∙ inv.count in
+    let low = c.loop-shard-test.true in let first = c.loop-shard.auto.shard in let end = c.shards-shard-end.ensures.shards in let most = c.shards-shard-end.ensures.most in
+    stopped splits L c.loop-shard.gates.items (F h) (F h1) (F h2) (O h) (O h1) (O h2) (S h) (S h1) (S h2) c.requires.inside inv.gates (omega arith) k long inv.out (omega arith) (omega arith) (Some splits) (agreed_later k splits (omega arith))
+    c.in-Err-open_one.error e.refused e.unchanged e.back e.cause e.others
+
+pub loop-shard-preserved : goal.loop-shard-preserved
+loop-shard-preserved g c =
+    let h = c.args.house.now in let h1 = c.loop-shard.house in let h2 = c.open_one-in-loop-shard.new.house in let F = g.H.House.faults in let O = g.H.House.is_out in let S = g.H.House.story in
+    let inv = c.loop-shard.invariant in let e = c.in-Ok-open_one.ensures in let k = c.loop-shard.shard in let splits = c.in-Ok.found.1.splits in
+    let L = map (λ v. v.items) c.loop-shard.logs.items in
+    let long : length L ≡ k = length-map c.loop-shard.logs.items (λ v. v.items) ∙ inv.count in
+    let put = c.push_reserved-in-Ok-open_one.ensures in let put2 = c.push_reserved-in-Ok-open_one-2.ensures in
+    let here = (inv.out.rest k (omega arith)).1 in
+    let gate : IsGateAt splits k c.in-Ok-open_one.log.items (S h k) c.in-Ok-open_one.gate =
+    subst (λ z. IsGateAt splits k c.in-Ok-open_one.log.items z c.in-Ok-open_one.gate) here (subst (λ z. IsGateAt z k c.in-Ok-open_one.log.items (S h1 k) c.in-Ok-open_one.gate) e.agreed e.found) in
+    let logs : map (λ v. v.items) c.push_reserved-in-Ok-open_one-2.new.self.items ≡ L ++ c.in-Ok-open_one.log.items ∷ [] = ap (map (λ v. v.items)) put2.items ∙ map-append (λ v. v.items) c.loop-shard.logs.items (c.in-Ok-open_one.log ∷ []) in
+    let more = length_push c.loop-shard.logs.items c.in-Ok-open_one.log in let count = inv.count in let room = inv.room in let room2 = inv.room_too in let cap = put.capacity in let cap2 = put2.capacity in
+    record {
+      gates = subst (λ z. AreGates splits z c.push_reserved-in-Ok-open_one.new.self.items (S h)) (sym logs) (subst (λ z. AreGates splits (L ++ c.in-Ok-open_one.log.items ∷ []) z (S h)) (sym put.items)
+          (grown splits L c.loop-shard.gates.items (S h) c.in-Ok-open_one.log.items c.in-Ok-open_one.gate k long inv.gates gate));
+      count = ap length put2.items ∙ more ∙ ap (λ n. n + 1) count;
+      room = omega arith;
+      room_too = omega arith;
+      out = one_out (F h) (F h1) (F h2) (O h) (O h1) (O h2) (S h) (S h1) (S h2) k inv.out e.out.0 e.out.1 e.others;
+    }

@@ -1,0 +1,30 @@
+use Rattle.std.proofs.Common.{◌∙◌, ap, sym}
+use Rattle.clv_base.specs.LogRules.{disorder}
+use Rattle.cluster_opening.proofs.OneDisk.{told_own, first_of, faults_refuse, refused_as}
+use Rattle.cluster_opening.proofs.finding.find.Goals as goal
+
+pub returns-in-Ok-judge-clause-found : goal.returns-in-Ok-judge-clause-found
+returns-in-Ok-judge-clause-found g c =
+    let found = c.in-Ok.ensures in
+    record {
+      holds = record {
+        in_order = ap (disorder c.args.shard) (sym c.deref.ensures.value) ∙ c.in-Ok-judge.ensures.fine.1;
+        fits = found.fits;
+        spelled = found.spelled;
+        told = told_own c.args.shard _ c.in-Ok.header.splits c.in-Ok.log.items (g.D.Disk.story c.args.disk) c.in-Ok-judge.ensures.fine.0 found.found;
+        read_as = first_of (g.D.Disk.story c.args.disk) _ _ found.before;
+      };
+      is_open = found.opened.0;
+      shard = found.opened.1;
+      fine = found.faults ∙ c.requires.fine;
+      log_is = found.log;
+      header = found.header;
+      unchanged = found.unchanged;
+    }
+
+pub returns-in-Err-judge-clause-refused : goal.returns-in-Err-judge-clause-refused
+returns-in-Err-judge-clause-refused g c =
+    faults_refuse c.args.shard _ c.in-Ok.header.splits c.in-Ok.log.items (g.D.Disk.story c.args.disk) c.in-Ok.ensures.found c.in-Err-judge.error (rw c.deref.ensures.value at c.in-Err-judge.ensures.fault)
+
+pub returns-in-Err-clause-refused : goal.returns-in-Err-clause-refused
+returns-in-Err-clause-refused g c = refused_as c.args.shard _ (g.D.Disk.story c.args.disk) c.in-Err.error c.told_as.result c.told_as.ensures c.in-Err.ensures.not_log

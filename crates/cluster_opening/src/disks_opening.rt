@@ -1,0 +1,139 @@
+// The disks of all shards.
+
+ghost use Rattle.std.specs.Prelude.{◌≡◌, ◌<◌, ◌≤◌, ℕ, false, [], map, length, vec_capacity, IfOk, IfErr, OnErr};
+ghost use Rattle.clv_base.specs.Shards.{shard_count};
+ghost use Rattle.clv_base.specs.Logs.{stands as stands_for};
+ghost use Rattle.io_model.specs.Disk.{Tells};
+ghost use Rattle.log_gate.specs.Opening.{IsUnchanged};
+ghost use Rattle.cluster_opening.specs.Logs.{IsFound};
+ghost use Rattle.cluster_opening.specs.Opening.{Refuses, CountsOpen};
+ghost use Rattle.cluster_opening.specs.Houses.{WentOut, AreGates, IsStopped};
+
+use crate::disks_giving::give_back_all;
+use crate::error::OpenError;
+use crate::finding::open_one;
+use crate::judging::judge_all;
+use clv_base::logs::LogRecord;
+use clv_base::splits::Splits;
+use history_replay::KeyMap;
+use io_model::{Disk, House};
+use log_gate::{Header, LogGate};
+use std::alloc::Global;
+
+// The most shards.
+const SHARDS: usize = 16;
+
+/// The logs of all shards, each behind the gate of its disk.
+#[derive(Drop)]
+pub struct Found<D: Disk> {
+    /// The splits that all headers have.
+    pub splits: Splits,
+    /// The gate of each shard.
+    pub gates: Vec<LogGate<D>>,
+    /// Its log.
+    pub logs: Vec<Vec<LogRecord>>,
+    /// The run that goes on from all logs.
+    pub run: u32,
+    /// The map that the logs stand for.
+    pub pairs: KeyMap,
+}
+
+// Opens disk by disk, and puts the gates and logs into what has room for them. After an `Err` the disks of the gates are still out.
+fn open_logs<H: House>(
+    alloc: Global,
+    house: &mut H,
+    gates: &mut Vec<LogGate<H::Disk>>,
+    logs: &mut Vec<Vec<LogRecord>>,
+) -> Result<Header, OpenError>
+    requires inside { (n : ℕ) → n < 16 → H.is_out house.old n ≡ false }
+    requires empty { (gates.old.items ≡ []) × (logs.old.items ≡ []) }
+    requires room { (16 ≤ vec_capacity gates.old) × (16 ≤ vec_capacity logs.old) }
+    ensures gates { IfOk result (λ h. AreGates h.splits (map (λ l. l.items) logs.new.items) gates.new.items (H.story house.old)) }
+    ensures count { IfOk result (λ h. length logs.new.items ≡ shard_count h.splits) }
+    ensures out { IfOk result (λ h. WentOut (shard_count h.splits) (H.faults house.old) (H.faults house.new) (H.is_out house.old) (H.is_out house.new) (H.story house.old) (H.story house.new)) }
+    ensures stopped { IfErr result (IsStopped gates.new.items (H.faults house.old) (H.faults house.new) (H.is_out house.new) (H.story house.old) (H.story house.new)) }
+{
+    let (gate, header, log) = match open_one(alloc, house, 0, None) {
+        Ok(found) => found,
+        Err(error) => return Err(error),
+    };
+    gates.push_reserved(gate);
+    logs.push_reserved(log);
+    for shard in 1..header.splits.shards() {
+        match open_one(alloc, house, shard, Some(&header)) {
+            Ok((gate, _header, log)) => {
+                gates.push_reserved(gate);
+                logs.push_reserved(log);
+            }
+            Err(error) => return Err(error),
+        }
+    }
+    Ok(header)
+}
+
+// Opens all disks, and judges their logs together.
+fn open_and_judge<H: House>(
+    alloc: Global,
+    house: &mut H,
+    gates: &mut Vec<LogGate<H::Disk>>,
+    logs: &mut Vec<Vec<LogRecord>>,
+) -> Result<(Splits, u32, KeyMap), OpenError>
+    requires inside { (n : ℕ) → n < 16 → H.is_out house.old n ≡ false }
+    requires empty { (gates.old.items ≡ []) × (logs.old.items ≡ []) }
+    requires room { (16 ≤ vec_capacity gates.old) × (16 ≤ vec_capacity logs.old) }
+    ensures found { IfOk result (λ r. IsFound r.0 (map (λ l. l.items) logs.new.items) r.1 gates.new.items (H.story house.old)) }
+    ensures pairs { IfOk result (λ r. r.2 ≡ stands_for (map (λ l. l.items) logs.new.items)) }
+    ensures out { IfOk result (λ r. WentOut (shard_count r.0) (H.faults house.old) (H.faults house.new) (H.is_out house.old) (H.is_out house.new) (H.story house.old) (H.story house.new)) }
+    ensures stopped { IfErr result (IsStopped gates.new.items (H.faults house.old) (H.faults house.new) (H.is_out house.new) (H.story house.old) (H.story house.new)) }
+{
+    let header = match open_logs(alloc, house, gates, logs) {
+        Ok(header) => header,
+        Err(error) => return Err(error),
+    };
+    match judge_all(alloc, logs) {
+        Ok((run, pairs)) => {
+            let Header { shard: _, splits } = header;
+            Ok((splits, run, pairs))
+        }
+        Err(error) => Err(error),
+    }
+}
+
+/// Opens the disks of all shards in rising order, and judges their logs: each disk's header, batches and order of records, then all logs together, then the
+/// next run. Nothing is written.
+///
+/// An `Err` is the first refusal; then every disk is back.
+pub fn open_disks<H: House>(alloc: Global, house: &mut H) -> Result<Found<H::Disk>, OpenError>
+    requires inside { (n : ℕ) → n < 16 → H.is_out house.old n ≡ false }
+
+    // The gate of each shard is open over its disk, whose log is the one found; the logs may be opened together.
+    ensures found { IfOk result (λ f. IsFound f.splits (map (λ l. l.items) f.logs.items) f.run f.gates.items (H.story house.old)) }
+    ensures pairs { IfOk result (λ f. f.pairs ≡ stands_for (map (λ l. l.items) f.logs.items)) }
+    ensures out { IfOk result (λ f. WentOut (shard_count f.splits) (H.faults house.old) (H.faults house.new) (H.is_out house.old) (H.is_out house.new) (H.story house.old) (H.story house.new)) }
+
+    // Where the disks are refused.
+    ensures refused { IfErr result (Refuses (H.story house.old)) }
+    ensures back { OnErr result ((n : ℕ) → n < 16 → H.is_out house.new n ≡ false) }
+    ensures unchanged { OnErr result ((n : ℕ) → Tells (H.story house.old n) (H.story house.new n) IsUnchanged) }
+    ensures cause { IfErr result (CountsOpen (H.faults house.old) (H.faults house.new)) }
+{
+    let Ok(mut logs) = Vec::with_capacity(alloc, SHARDS) else {
+        return Err(OpenError::Memory);
+    };
+    let Ok(mut gates) = Vec::with_capacity(alloc, SHARDS) else {
+        return Err(OpenError::Memory);
+    };
+    match open_and_judge(alloc, house, &mut gates, &mut logs) {
+        Ok((splits, run, pairs)) => Ok(Found {
+            splits,
+            gates,
+            logs,
+            run,
+            pairs,
+        }),
+        Err(error) => {
+            give_back_all(house, gates);
+            Err(error)
+        }
+    }
+}

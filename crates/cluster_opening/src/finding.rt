@@ -1,0 +1,121 @@
+// One shard's disk.
+
+ghost use Rattle.std.specs.Prelude.{◌≡◌, ◌≢◌, ◌<◌, ℕ, true, false, None, IfOk, IfErr, OnOk, OnErr};
+ghost use Rattle.std.specs.Option.{option_map};
+ghost use Rattle.clv_base.specs.LogRules.{disorder as first_disorder};
+ghost use Rattle.io_model.specs.Disk.{Tells};
+ghost use Rattle.log_gate.specs.Opening.{IsUnchanged};
+ghost use Rattle.cluster_opening.specs.Logs.{IsGateAt};
+ghost use Rattle.cluster_opening.specs.Judging.{Agrees, Disagrees, told_as as telling, Faults, RefusesOne, CountsOne};
+
+use crate::error::{At, OpenError};
+use clv_base::logs::LogRecord;
+use io_model::{Disk, House};
+use log_gate::{Header, LogGate, OpenLogError, open_log};
+use log_rules::disorder;
+use std::alloc::Global;
+
+// The place of a header's number of shards.
+const COUNT_AT: u64 = 16;
+
+// Whether a header has the splits that were agreed on.
+fn is_agreed(agreed: Option<&Header>, header: &Header) -> bool
+    ensures yes { result ≡ true → Agrees (option_map (λ h. h.now.splits) agreed.entry) header.now.splits }
+    ensures no { result ≡ false → Disagrees (option_map (λ h. h.now.splits) agreed.entry) header.now.splits }
+{
+    match agreed {
+        None => true,
+        Some(first) => first.splits.as_slice() == header.splits.as_slice(),
+    }
+}
+
+// Why a log that was read is refused. `open_log` refuses a header with other splits itself, but says so only of a disk that tells what it holds: so they
+// are compared again.
+fn judge(
+    alloc: Global,
+    shard: u32,
+    agreed: Option<&Header>,
+    header: &Header,
+    log: &[LogRecord],
+) -> Result<(), OpenError>
+    ensures fine { OnOk result (Agrees (option_map (λ h. h.now.splits) agreed.entry) header.now.splits × (first_disorder shard log.now ≡ None)) }
+    ensures fault { IfErr result (Faults shard (option_map (λ h. h.now.splits) agreed.entry) header.now.splits log.now) }
+{
+    if !is_agreed(agreed, header) {
+        let at = At::Byte(COUNT_AT);
+        return Err(OpenError::NotLog { shard, at });
+    }
+    match disorder(alloc, log, shard)? {
+        Some(lsn) => {
+            let at = At::Record(lsn);
+            Err(OpenError::NotLog { shard, at })
+        }
+        None => Ok(()),
+    }
+}
+
+fn told_as(shard: u32, error: OpenLogError) -> OpenError
+    ensures { result ≡ telling shard error }
+{
+    match error {
+        OpenLogError::NotLog { offset } => OpenError::NotLog {
+            shard,
+            at: At::Byte(offset),
+        },
+        OpenLogError::Failed => OpenError::Failed { shard },
+        OpenLogError::Memory => OpenError::Memory,
+    }
+}
+
+// Opens the log of a shard's disk, which has no faults yet, and judges it.
+fn find<D: Disk>(
+    alloc: Global,
+    disk: D,
+    shard: u32,
+    agreed: Option<&Header>,
+) -> Result<(LogGate<D>, Header, Vec<LogRecord>), (OpenError, D)>
+    requires fine { D.faults disk ≡ 0 }
+    ensures found { IfOk result (λ r. IsGateAt r.1.splits shard r.2.items (D.story disk) r.0) }
+    ensures agreed { IfOk result (λ r. Agrees (option_map (λ h. h.now.splits) agreed.entry) r.1.splits) }
+    ensures refused { IfErr result (λ e. RefusesOne shard (option_map (λ h. h.now.splits) agreed.entry) (D.story disk) e.0) }
+    ensures unchanged { IfErr result (λ e. Tells (D.story disk) (D.story e.1) IsUnchanged) }
+    ensures cause { IfErr result (λ e. CountsOne 0 (D.faults e.1) e.0) }
+{
+    match open_log(alloc, disk, shard, agreed) {
+        Ok((gate, header, log)) => match judge(alloc, shard, agreed, &header, &log) {
+            Ok(()) => Ok((gate, header, log)),
+            Err(error) => Err((error, gate.into_disk())),
+        },
+        Err((error, disk)) => Err((told_as(shard, error), disk)),
+    }
+}
+
+// Takes a shard's disk out and opens its log. An `Err` puts the disk back.
+pub(crate) fn open_one<H: House>(
+    alloc: Global,
+    house: &mut H,
+    shard: u32,
+    agreed: Option<&Header>,
+) -> Result<(LogGate<H::Disk>, Header, Vec<LogRecord>), OpenError>
+    requires shard { shard < 16 }
+    requires inside { H.is_out house.old shard ≡ false }
+    ensures found { IfOk result (λ r. IsGateAt r.1.splits shard r.2.items (H.story house.old shard) r.0) }
+    ensures agreed { IfOk result (λ r. Agrees (option_map (λ h. h.now.splits) agreed.entry) r.1.splits) }
+    ensures out { OnOk result ((H.is_out house.new shard ≡ true) × (H.faults house.new shard ≡ H.faults house.old shard)) }
+    ensures refused { IfErr result (RefusesOne shard (option_map (λ h. h.now.splits) agreed.entry) (H.story house.old shard)) }
+    ensures unchanged { OnErr result (Tells (H.story house.old shard) (H.story house.new shard) IsUnchanged) }
+    ensures back { OnErr result (H.is_out house.new shard ≡ false) }
+    ensures cause { IfErr result (CountsOne (H.faults house.old shard) (H.faults house.new shard)) }
+    ensures others { (other : ℕ) → other ≢ shard → (H.faults house.new other ≡ H.faults house.old other) × (H.is_out house.new other ≡ H.is_out house.old other) × (H.story house.new other ≡ H.story house.old other) }
+{
+    let Ok(disk) = house.open_disk(shard) else {
+        return Err(OpenError::Failed { shard });
+    };
+    match find(alloc, disk, shard, agreed) {
+        Ok(found) => Ok(found),
+        Err((error, disk)) => {
+            house.give_back(shard, disk);
+            Err(error)
+        }
+    }
+}

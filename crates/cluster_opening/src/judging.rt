@@ -1,0 +1,59 @@
+// All logs together.
+
+ghost use Rattle.std.specs.Prelude.{◌≡◌, ◌<◌, ◌^◌, None, map, IfOk, IfErr, MatchOption};
+ghost use Rattle.clv_base.specs.LogRules.{apart as first_apart};
+ghost use Rattle.clv_base.specs.Logs.{stands as stands_for};
+ghost use Rattle.clv_base.specs.Restarts.{greatest_run, run_after};
+ghost use Rattle.cluster_opening.specs.Judging.{FaultsOfAll};
+
+use crate::error::OpenError;
+use clv_base::logs::LogRecord;
+use history_replay::{KeyMap, stands};
+use log_rules::apart;
+use std::alloc::Global;
+
+// Runs end below it.
+const RUNS_END: u64 = 1 << 32;
+
+// The greatest run of a RESTART, or 0 where there is none.
+fn greatest(log: &[LogRecord]) -> u32
+    ensures { result ≡ greatest_run log.now }
+{
+    let mut most = 0;
+    for record in log {
+        if let LogRecord::Restart { run, .. } = record {
+            most = most.max(*run);
+        }
+    }
+    most
+}
+
+// The next run; none where it would be 2^32.
+fn next_run(logs: &[Vec<LogRecord>]) -> Option<u32>
+    ensures { MatchOption result (run_after (map (λ l. l.items) logs.now) ≡ 2 ^ 32) (λ run. run ≡ run_after (map (λ l. l.items) logs.now)) }
+{
+    let mut most = 0;
+    for log in logs {
+        most = most.max(greatest(log));
+    }
+    most.checked_add(1)
+}
+
+// The next run and what the logs stand for, where they agree; or why there is none.
+pub(crate) fn judge_all(alloc: Global, logs: &[Vec<LogRecord>]) -> Result<(u32, KeyMap), OpenError>
+    ensures run { IfOk result (λ r. (r.0 ≡ run_after (map (λ l. l.items) logs.now)) × (r.0 < 2 ^ 32)) }
+    ensures agree { IfOk result (λ r. first_apart (map (λ l. l.items) logs.now) ≡ None) }
+    ensures pairs { IfOk result (λ r. r.1 ≡ stands_for (map (λ l. l.items) logs.now)) }
+    ensures fault { IfErr result (FaultsOfAll (map (λ l. l.items) logs.now)) }
+{
+    if let Some(tx) = apart(alloc, logs)? {
+        return Err(OpenError::Apart { tx });
+    }
+    match next_run(logs) {
+        Some(run) => {
+            let pairs = stands(alloc, logs)?;
+            Ok((run, pairs))
+        }
+        None => Err(OpenError::Worn { at: RUNS_END }),
+    }
+}

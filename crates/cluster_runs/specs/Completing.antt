@@ -1,0 +1,59 @@
+-- What the history tells of the transactions of a session that went through.
+use Rattle.std.specs.Prelude.{◌≡◌, ◌≢◌, ⊤, ℕ, suc, ◌≤◌, true, List, [], ◌∷◌, ◌++◌, map, length, Option, Some, None, slice_get}
+use Rattle.std.specs.List.{AllByRecursion}
+use Rattle.clv_base.specs.declared.causes.AbortCause.{AbortCause}
+use Rattle.clv_base.specs.declared.causes.AbortCause.TheVariants.{Asked}
+use Rattle.clv_base.specs.Journals.{History, own}
+use Rattle.clv_base.specs.History.{acknowledged_in, ops_in}
+use Rattle.io_model.specs.Story.{Story}
+use Rattle.history_replay.specs.Entries.{Kept}
+use Rattle.script_lang.specs.declared.actions.Ending.TheVariants as line
+use Rattle.script_lang.specs.Bodies.{Body}
+use Rattle.script_lang.specs.Following.{all_ops, next_op}
+use Rattle.script_runs.specs.declared.ends.TryEnd.TheVariants as end
+use Rattle.script_runs.specs.TriesLaws.{all_parts}
+use Rattle.script_runs.specs.Tries.{Try}
+use Rattle.script_runs.specs.Sessions.{Transaction, tries_of, entries_of, session_entries}
+use Rattle.cluster_runs.specs.Histories.{entries}
+use Rattle.cluster_runs.specs.PromisedSessions.{Went, Begun}
+use Rattle.cluster_runs.specs.Promises.{RunPromised}
+
+-- the history tells of the acknowledgement, and of the transaction's operations: those of its lines, under these answers, on each shard that they meet
+pub record IsAcknowledged (splits : List ℕ) (h : History) (body : Body) (t : Try) : Type 0 where
+  pub told : acknowledged_in h t.tx ≡ true
+  pub operations : map (λ p. p.0) (ops_in t.tx h) ≡ all_parts splits (all_ops body.actions t.answers)
+
+-- how a transaction of this many tries ended, by its last one
+pub data HasEnded (splits : List ℕ) (h : History) (most : Option ℕ) (body : Body) (count : ℕ) (last : Try) : Type 0 where
+  -- its line `commit` was done
+  acknowledged : body.ending ≡ line.Commit → last.end ≡ end.Acknowledged → IsAcknowledged splits h body last → HasEnded splits h most body count last
+  -- it had nothing to commit
+  empty : body.ending ≡ line.Commit → last.end ≡ end.Empty → next_op body.actions [] ≡ None → HasEnded splits h most body count last
+  -- its line `abort` was done, after all operations
+  by_line : body.ending ≡ line.Abort → last.end ≡ end.Asked → next_op body.actions last.answers ≡ None → HasEnded splits h most body count last
+  -- as many tries as are wanted were aborted, each for a cause of its own
+  given_up : (cause : AbortCause) → last.end ≡ end.Aborted cause → cause ≢ Asked → most ≡ Some count → HasEnded splits h most body count last
+
+pub record TransactionEnded (splits : List ℕ) (h : History) (most : Option ℕ) (tr : Transaction) : Type 0 where
+  pub front : List Try
+  pub last : Try
+  pub tries_are : tr.tries ≡ front ++ last ∷ []
+  pub ended : HasEnded splits h most tr.body (length tr.tries) last
+
+-- each transaction of the session has ended so, and what its walker made of the session is their tries
+pub record SessionEnded (splits : List ℕ) (h : History) (walker : ℕ) (most : Option ℕ) (bodies : List Body) : Type 0 where
+  pub transactions : List Transaction
+  pub bodies_are : map (λ tr. tr.body) transactions ≡ bodies
+  pub each : AllByRecursion (TransactionEnded splits h most) transactions
+  pub entries_are : session_entries (own walker h) ≡ entries_of (tries_of transactions)
+
+-- at least one try is wanted
+abbrev pub IsWanted : Option ℕ → Type 0
+IsWanted None = ⊤
+IsWanted (Some n) = 1 ≤ n
+
+-- where a session of a run went through, each of its transactions has ended
+abbrev pub SessionsHaveEnded : Type 0
+SessionsHaveEnded =
+    (splits : List ℕ) (before now : ℕ → Option Story) (counts counts_now : ℕ → ℕ) (most : Option ℕ) (script : List (List Body)) (went : ℕ → Went) (kept : Kept) (k : ℕ) (bodies : List Body)
+    → IsWanted most → RunPromised splits before now counts counts_now most script went kept → slice_get script k ≡ Some bodies → went k ≡ Begun None → SessionEnded splits (entries kept) (suc k) most bodies

@@ -1,0 +1,31 @@
+// Laws of the promise.
+
+ghost use Rattle.cluster_runs.specs.Promises.{RunsArePromised};
+ghost use Rattle.cluster_runs.specs.Completing.{SessionsHaveEnded};
+ghost use Rattle.cluster_runs.specs.Down.{FailedAreDown, DownStays, LowestDownIsFault};
+
+/// The end of a cluster, with how its sessions went, is a run that keeps the promise.
+pub fn runs_are_promised()
+    ensures { RunsArePromised }
+{}
+
+/// Each transaction of a session that went through has ended: it is acknowledged with the operations of its lines, it had nothing to
+/// commit, its line `abort` was done after all operations, or as many tries as are wanted were aborted.
+pub fn sessions_have_ended()
+    ensures { SessionsHaveEnded }
+{}
+
+/// Where no shard is stopped or restarted, a shard is down exactly where a flush has failed, which was its last one.
+pub fn failed_are_down()
+    ensures { FailedAreDown }
+{}
+
+/// And once it is down it stays so.
+pub fn down_stays()
+    ensures { DownStays }
+{}
+
+/// The lowest shard that is down at the end of a cluster is the lowest whose disk's count rose.
+pub fn lowest_down_is_fault()
+    ensures { LowestDownIsFault }
+{}

@@ -1,7 +1,0 @@
-use Rattle.std.proofs.Common.{take}
-use Rattle.command_words.specs.Commands.{AreNumbers}
-use Rattle.command_words.specs.Steps.{texts}
-use Rattle.command_words.proofs.meanings.numbers_of.Given as goal
-
-abbrev pub invariant-loop-place : goal.invariant-loop-place
-invariant-loop-place l = AreNumbers (texts (take l.place l.words)) l.list.items

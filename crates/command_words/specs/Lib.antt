@@ -1,3 +1,0 @@
-pub mod Apps
-pub mod Commands
-pub mod Steps

@@ -1,0 +1,5 @@
+use Rattle.crash_laws.proofs.Crashing.{crashes_keep}
+use Rattle.crash_laws.proofs.statements.crashes_keep.Goals as goal
+
+pub returns : goal.returns
+returns c = crashes_keep

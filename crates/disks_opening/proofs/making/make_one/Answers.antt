@@ -1,6 +1,0 @@
-use Rattle.log_gate.specs.Header.{header_bytes}
-use Rattle.disks_opening.proofs.Disks.{by_making}
-use Rattle.disks_opening.proofs.making.make_one.Goals as goal
-
-pub returns-in-Err-clause-spares : goal.returns-in-Err-clause-spares
-returns-in-Err-clause-spares g c = by_making (header_bytes c.args.header.now.shard c.args.header.now.splits) c.in-Err.error _ _ _ _ c.in-Ok.ensures.opened.1 c.give_back-in-Err.ensures.story c.in-Err.ensures.told

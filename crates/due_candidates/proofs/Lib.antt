@@ -1,4 +1,0 @@
-pub mod Rising
-pub mod Keeping
-pub mod Counting
-pub mod Laws

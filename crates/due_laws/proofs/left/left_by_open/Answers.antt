@@ -1,5 +1,0 @@
-use Rattle.due_laws.proofs.Open.{left_by_open}
-use Rattle.due_laws.proofs.left.left_by_open.Goals as goal
-
-pub returns : goal.returns
-returns c = left_by_open

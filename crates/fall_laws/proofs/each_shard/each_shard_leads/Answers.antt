@@ -1,5 +1,0 @@
-use Rattle.fall_laws.proofs.Leading.{each_shard_leads}
-use Rattle.fall_laws.proofs.each_shard.each_shard_leads.Goals as goal
-
-pub returns : goal.returns
-returns c = each_shard_leads

@@ -1,5 +1,0 @@
-use Rattle.fall_laws.proofs.Ordering.{logs_left_are_in_order}
-use Rattle.fall_laws.proofs.each_shard.logs_left_are_in_order.Goals as goal
-
-pub returns : goal.returns
-returns c = logs_left_are_in_order

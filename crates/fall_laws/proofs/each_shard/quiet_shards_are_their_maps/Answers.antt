@@ -1,5 +1,0 @@
-use Rattle.fall_laws.proofs.Settling.{quiet_shards_are_their_maps}
-use Rattle.fall_laws.proofs.each_shard.quiet_shards_are_their_maps.Goals as goal
-
-pub returns : goal.returns
-returns c = quiet_shards_are_their_maps

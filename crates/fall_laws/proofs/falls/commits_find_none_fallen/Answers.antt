@@ -1,5 +1,0 @@
-use Rattle.fall_laws.proofs.Counting.{commits_find_none_fallen}
-use Rattle.fall_laws.proofs.falls.commits_find_none_fallen.Goals as goal
-
-pub returns : goal.returns
-returns c = commits_find_none_fallen

@@ -1,5 +1,0 @@
-use Rattle.fall_laws.proofs.Finding.{commits_find_the_unfallen}
-use Rattle.fall_laws.proofs.falls.commits_find_the_unfallen.Goals as goal
-
-pub returns : goal.returns
-returns c = commits_find_the_unfallen

@@ -1,5 +1,0 @@
-use Rattle.fall_laws.proofs.Finding.{committed_never_fell}
-use Rattle.fall_laws.proofs.falls.committed_never_fell.Goals as goal
-
-pub returns : goal.returns
-returns c = committed_never_fell

@@ -1,5 +1,0 @@
-use Rattle.fall_laws.proofs.Finding.{fallen_are_uncommitted}
-use Rattle.fall_laws.proofs.falls.fallen_are_uncommitted.Goals as goal
-
-pub returns : goal.returns
-returns c = fallen_are_uncommitted

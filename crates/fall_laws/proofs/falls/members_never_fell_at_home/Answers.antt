@@ -1,5 +1,0 @@
-use Rattle.fall_laws.proofs.Finding.{members_never_fell_at_home}
-use Rattle.fall_laws.proofs.falls.members_never_fell_at_home.Goals as goal
-
-pub returns : goal.returns
-returns c = members_never_fell_at_home

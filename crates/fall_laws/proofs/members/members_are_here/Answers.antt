@@ -1,5 +1,0 @@
-use Rattle.fall_laws.proofs.Here.{members_are_here}
-use Rattle.fall_laws.proofs.members.members_are_here.Goals as goal
-
-pub returns : goal.returns
-returns c = members_are_here

@@ -1,9 +1,0 @@
-// Where a member is found.
-
-ghost use Rattle.fall_laws.specs.Members.{MembersAreHere};
-
-/// Where a COMMIT is left on any shard and a part is left prepared on a shard that the request names, its home among them, that part is
-/// committed, or what its PREPARE lists is.
-pub fn members_are_here()
-    ensures { MembersAreHere }
-{}

@@ -1,0 +1,5 @@
+use Rattle.fate_laws.proofs.Settling.{quiet_shards_are_their_maps}
+use Rattle.fate_laws.proofs.each_shard.quiet_shards_are_their_maps.Goals as goal
+
+pub returns : goal.returns
+returns c = quiet_shards_are_their_maps

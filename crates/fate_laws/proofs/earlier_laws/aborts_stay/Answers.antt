@@ -1,5 +1,0 @@
-use Rattle.fate_laws.proofs.Earlier.{aborts_stay}
-use Rattle.fate_laws.proofs.earlier_laws.aborts_stay.Goals as goal
-
-pub returns : goal.returns
-returns c = aborts_stay

@@ -1,5 +1,0 @@
-use Rattle.fate_laws.proofs.Earlier.{earlier_commits_are_known}
-use Rattle.fate_laws.proofs.earlier_laws.earlier_commits_are_known.Goals as goal
-
-pub returns : goal.returns
-returns c = earlier_commits_are_known

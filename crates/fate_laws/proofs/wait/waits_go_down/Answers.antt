@@ -1,0 +1,5 @@
+use Rattle.fate_laws.proofs.Waiting.{waits_go_down}
+use Rattle.fate_laws.proofs.wait.waits_go_down.Goals as goal
+
+pub returns : goal.returns
+returns c = waits_go_down

@@ -1,0 +1,5 @@
+use Rattle.fate_laws.proofs.Waiting.{waits_have_no_cycle}
+use Rattle.fate_laws.proofs.wait.waits_have_no_cycle.Goals as goal
+
+pub returns : goal.returns
+returns c = waits_have_no_cycle

@@ -1,3 +1,0 @@
-pub mod Streams
-pub mod States
-pub mod Steps

@@ -1,0 +1,5 @@
+use Rattle.std.proofs.Common.{◌≡◌, ◌++◌, take, vec_capacity}
+use Rattle.io_model.proofs.memory.append.Given as goal
+
+abbrev pub invariant-loop-byte : goal.invariant-loop-byte
+invariant-loop-byte l = record { items : l.into.items ≡ l.fn.into.items ++ take l.byte-index l.bytes; capacity : vec_capacity l.into ≡ vec_capacity l.fn.into }

@@ -1,0 +1,6 @@
+pub mod Story
+pub mod Disk
+pub mod Crash
+pub mod Streams
+pub mod States
+pub mod Steps

@@ -1,6 +1,0 @@
-use Rattle.std.proofs.Common.{◌∙◌}
-use Rattle.key_map.proofs.Trees.{set_is_insert}
-use Rattle.key_map.proofs.map.put_at.Goals as goal
-
-pub returns-clause-set : goal.returns-clause-set
-returns-clause-set c = c.in_ok-insert.ensures.entries ∙ set_is_insert c.args.key c.args.value c.args.pairs.now.entries

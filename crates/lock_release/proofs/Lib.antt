@@ -1,3 +1,0 @@
-pub mod Purged
-pub mod Giving
-pub mod Laws

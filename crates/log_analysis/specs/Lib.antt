@@ -1,0 +1,6 @@
+pub mod Facts
+pub mod Lists
+pub mod Standing
+pub mod Doubt
+pub mod Unended
+pub mod Restarting

@@ -1,0 +1,80 @@
+// What a log says of one transaction.
+
+ghost use Rattle.std.specs.Prelude.{◌≡◌};
+ghost use Rattle.clv_base.specs.Logs.{own_tx};
+ghost use Rattle.log_analysis.specs.Facts.{first_place, nothing_known, facts_with};
+
+use clv_base::logs::LogRecord;
+use clv_base::names::TxId;
+
+/// What a log says of one transaction: the LSNs of its first and last UPDATE, of its first PREPARE and its first COMMIT;
+/// whether it has an ABORT, an END, and any record of its own.
+#[derive(Clone, Copy, Debug)]
+pub struct TxFacts {
+    pub first_update: Option<usize>,
+    pub last_update: Option<usize>,
+    pub prepare: Option<usize>,
+    pub commit: Option<usize>,
+    pub is_aborted: bool,
+    pub is_ended: bool,
+    pub is_named: bool,
+}
+
+// The LSN so far, or this one where there is none.
+fn first_of(lsn: usize, so_far: Option<usize>) -> Option<usize>
+    ensures { result ≡ first_place lsn so_far }
+{
+    Some(so_far.unwrap_or(lsn))
+}
+
+// Whose record it is.
+pub(crate) fn owner(r: &LogRecord) -> Option<TxId>
+    ensures { result ≡ own_tx r.now }
+{
+    match r {
+        LogRecord::Update { tx, .. }
+        | LogRecord::Clr { tx, .. }
+        | LogRecord::Prepare { tx, .. }
+        | LogRecord::Commit { tx, .. }
+        | LogRecord::Abort { tx }
+        | LogRecord::End { tx } => Some(*tx),
+        LogRecord::Restart { .. } => None,
+    }
+}
+
+impl TxFacts {
+    // Of a transaction that the log doesn't name.
+    pub(crate) fn unnamed() -> Self
+        ensures { result ≡ nothing_known }
+    {
+        TxFacts {
+            first_update: None,
+            last_update: None,
+            prepare: None,
+            commit: None,
+            is_aborted: false,
+            is_ended: false,
+            is_named: false,
+        }
+    }
+
+    // With one more record of the transaction, at this LSN.
+    pub(crate) fn with(self, lsn: usize, r: &LogRecord) -> Self
+        ensures { result ≡ facts_with lsn r.now self }
+    {
+        let mut facts = self;
+        facts.is_named = true;
+        match r {
+            LogRecord::Update { .. } => {
+                facts.first_update = first_of(lsn, self.first_update);
+                facts.last_update = Some(lsn);
+            }
+            LogRecord::Prepare { .. } => facts.prepare = first_of(lsn, self.prepare),
+            LogRecord::Commit { .. } => facts.commit = first_of(lsn, self.commit),
+            LogRecord::Abort { .. } => facts.is_aborted = true,
+            LogRecord::End { .. } => facts.is_ended = true,
+            LogRecord::Clr { .. } | LogRecord::Restart { .. } => {}
+        }
+        facts
+    }
+}

@@ -1,0 +1,33 @@
+use Rattle.std.proofs.Common.{◌≡◌, refl, ap, ◌∙◌, ◌-◌, ◌<◌, length, arith}
+use Rattle.clv_base.specs.declared.logs.LogRecord.{LogRecord}
+use Rattle.log_buffer.specs.Buffers.{Buffer}
+use Rattle.log_buffer.specs.Flushing.{ByBatches, none, landed}
+use Rattle.log_buffer.proofs.Flying.{goes_on}
+use Rattle.log_buffer.proofs.flushing.flush_all.Goals as goal
+
+pub returns-in_default-clause-batches : goal.returns-in_default-clause-batches
+returns-in_default-clause-batches g c = none
+
+pub loop-alloc-init : goal.loop-alloc-init
+loop-alloc-init g c = (refl, refl, none, c.requires.rest, c.in-Ok.ensures.room, refl, refl)
+
+pub loop-alloc-smaller : goal.loop-alloc-smaller
+loop-alloc-smaller g c =
+    let before = c.loop-alloc.buffer in
+    let after = c.flush_next.new.buffer in
+    let records : length after.records ≡ length before.records = ap (λ (x : Buffer LogRecord). length x.records) c.in-Ok-flush_next.ensures.ok in
+    let rest = (c.loop-alloc.invariant).3 in
+    let less : length after.records - after.durable < length before.records - before.durable =
+    omega (arith, records, c.in-Ok-flush_next.ensures.grows, c.taken.ensures.taken, c.end.ensures.end, rest.nothing_flies, c.loop-alloc-test.true) in
+    less
+
+pub loop-alloc-preserved : goal.loop-alloc-preserved
+loop-alloc-preserved g c =
+    let kept = c.loop-alloc.invariant in
+    let before = c.loop-alloc.buffer in
+    let first = c.args.buffer.now in
+    let is : c.flush_next.new.buffer ≡ landed before = c.in-Ok-flush_next.ensures.ok in
+    let records : c.flush_next.new.buffer.records ≡ first.records = ap (λ (x : Buffer LogRecord). x.records) is ∙ kept.0 in
+    let room : c.flush_next.new.buffer.room ≡ first.room = ap (λ (x : Buffer LogRecord). x.room) is ∙ kept.1 in
+    let batches : ByBatches first.records first.durable c.flush_next.new.buffer.durable = goes_on first before c.flush_next.new.buffer kept.0 kept.2 is in
+    (records, room, batches, c.in-Ok-flush_next.ensures.rest, omega (arith, kept.4, c.flush_next.ensures.room), c.in-Ok-flush_next.ensures.cause ∙ kept.5, c.flush_next.ensures.shard ∙ kept.6)

@@ -1,4 +1,0 @@
-pub mod Writes
-pub mod Listers
-pub mod Rules
-pub mod Adding

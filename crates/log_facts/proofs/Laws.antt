@@ -1,8 +1,0 @@
--- Lemmas that this crate offers to the proofs of the crates above it.
-pub mod Bools
-pub mod Growing
-pub mod Names
-pub mod Places
-pub mod Rising
-pub mod Whole
-pub mod Pushes

@@ -1,4 +1,0 @@
-pub mod Flying
-mod BatchSizes
-mod Fitting
-pub mod Laws

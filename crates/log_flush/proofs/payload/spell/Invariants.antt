@@ -1,7 +1,0 @@
-use Rattle.std.proofs.Common.{◌≡◌, ◌≤◌, ◌++◌, take, vec_capacity}
-use Rattle.log_flush.specs.Flushing.{spellings}
-use Rattle.log_flush.proofs.payload.spell.Given as goal
-
-abbrev pub invariant-loop-record : goal.invariant-loop-record
-invariant-loop-record l =
-    (l.out.items ≡ (l.initial.out).items ++ spellings (take l.record-index l.fn.records)) × (vec_capacity l.initial.out ≤ vec_capacity l.out)

@@ -1,0 +1,97 @@
+// The calls, with memory at hand.
+
+use cascade_undo::Deps;
+use clv_base::names::TxId;
+use std::alloc::{AllocError, Global};
+use std::test::Fail;
+
+fn tx(session: u32) -> TxId {
+    TxId {
+        run: 1,
+        session,
+        serial: 1,
+    }
+}
+
+/// Makes a transaction a successor of another, for which it makes room.
+fn add(deps: &mut Deps, tx: TxId, pred: TxId) -> Result<(), AllocError> {
+    deps.reserve(1)?;
+    deps.add(tx, pred);
+    Ok(())
+}
+
+fn settle(deps: &mut Deps, pred: TxId, lsn: u64) -> Result<(), AllocError> {
+    deps.reserve(1)?;
+    deps.settle(pred, lsn);
+    Ok(())
+}
+
+/// 2 and 3 after 1, 4 after 3 and 2, 6 after 5, and 1 after 4 (which no run has).
+fn filled(alloc: Global) -> Result<Deps, AllocError> {
+    let mut deps = Deps::new(alloc)?;
+    for (successor, predecessor) in [(4, 3), (2, 1), (6, 5), (3, 1), (4, 2), (3, 1), (1, 4)] {
+        add(&mut deps, tx(successor), tx(predecessor))?;
+    }
+    Ok(deps)
+}
+
+#[test]
+fn predecessors_are_settled(rt: HostRuntime) -> Result<(), Fail> {
+    let mut deps = filled(rt.alloc())?;
+    assert!(rt; deps.predecessors(tx(4)) == [(tx(4), tx(2)), (tx(4), tx(3))].as_slice());
+    assert!(rt; deps.predecessors(tx(3)) == [(tx(3), tx(1))].as_slice());
+    assert_eq!(rt; (deps.undecided(tx(4)), deps.due_lsn(tx(4))), (2, None));
+    settle(&mut deps, tx(3), 9)?;
+    assert_eq!(rt; (deps.undecided(tx(4)), deps.due_lsn(tx(4))), (1, None));
+    settle(&mut deps, tx(2), 7)?;
+    assert_eq!(rt; (deps.undecided(tx(4)), deps.due_lsn(tx(4))), (0, Some(9)));
+    assert_eq!(rt; (deps.undecided(tx(5)), deps.due_lsn(tx(5))), (0, None));
+    assert_eq!(rt;
+        (deps.settled_at(tx(2)), deps.settled_at(tx(1))),
+        (Some(7), None)
+    );
+    Ok(())
+}
+
+#[test]
+fn all_that_depend_are_marked(rt: HostRuntime) -> Result<(), Fail> {
+    let mut deps = filled(rt.alloc())?;
+    assert_eq!(rt; deps.mark_dependents(tx(3)), 4);
+    assert!(rt; deps.marks() == [tx(1), tx(2), tx(3), tx(4)].as_slice());
+    assert!(rt; deps.marked(tx(2)) && !deps.marked(tx(5)) && !deps.marked(tx(6)));
+    assert_eq!(rt; deps.mark_dependents(tx(7)), 1);
+    assert!(rt; deps.marks() == [tx(7)].as_slice());
+    deps.forget(tx(1));
+    assert_eq!(rt; deps.mark_dependents(tx(3)), 2);
+    assert!(rt; deps.marks() == [tx(3), tx(4)].as_slice());
+    deps.forget_marked();
+    assert_eq!(rt; deps.marks().len(), 0);
+    assert_eq!(rt; deps.predecessors(tx(4)).len(), 0);
+    assert_eq!(rt; deps.mark_dependents(tx(1)), 2);
+    assert!(rt; deps.marks() == [tx(1), tx(2)].as_slice());
+    Ok(())
+}
+
+#[test]
+fn a_first_mark_needs_no_room(rt: HostRuntime) -> Result<(), Fail> {
+    let mut deps = Deps::new(rt.alloc())?;
+    assert_eq!(rt; deps.mark_dependents(tx(1)), 1);
+    assert!(rt; deps.marked(tx(1)) && !deps.marked(tx(2)));
+    Ok(())
+}
+
+#[test]
+fn what_is_reserved_is_told(rt: HostRuntime) -> Result<(), Fail> {
+    let mut deps = Deps::new(rt.alloc())?;
+    assert_eq!(rt; deps.room(), 0);
+    deps.reserve(3)?;
+    deps.add(tx(2), tx(1));
+    assert_eq!(rt; deps.room(), 2);
+    deps.reserve(1)?;
+    assert_eq!(rt; deps.room(), 2);
+    deps.settle(tx(1), 5);
+    assert_eq!(rt; deps.room(), 1);
+    deps.trim(0);
+    assert_eq!(rt; deps.room(), 0);
+    Ok(())
+}

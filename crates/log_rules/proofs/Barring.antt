@@ -1,0 +1,46 @@
+-- Who bars a RESTART, after some of a list were put in.
+use Rattle.std.proofs.Common.{◌≡◌, Bool, true, false, ◌&&◌, ◌||◌, List, [], ◌∷◌, ◌++◌, is_some, not, ⊎_elim, refl, sym, ap, ◌∙◌}
+use Rattle.std.proofs.lemmas.Bool.{cases_Bool}
+use Rattle.clv_base.specs.declared.names.TxId.{TxId}
+use Rattle.clv_base.specs.Orders.{tx_same, tx_in}
+use Rattle.clv_base.proofs.SameNames.{tx_true}
+use Rattle.log_analysis.specs.Facts.{known}
+use Rattle.log_rules.specs.declared.index.Index.{Index}
+use Rattle.log_rules.specs.Writes.{newest_by}
+use Rattle.log_rules.specs.Adding.{bars_after_abort, BarsOne, BarsAll}
+use Rattle.log_rules.proofs.Listing.{in_push}
+
+or_none : (a : Bool) → a ≡ a || false
+or_none true = refl
+or_none false = refl
+
+pub bars_none : (x : Index) → BarsAll x x []
+bars_none x = record { keeps = record { shard = refl; last = refl; restart_at = refl; facts = refl }; writes = refl; listers = refl; barring = λ t. or_none (tx_in t x.barring) }
+
+same_bars : (old mid : Index) (tx t : TxId) → mid.writes ≡ old.writes → mid.facts ≡ old.facts → tx_same tx t && bars_after_abort mid tx ≡ tx_same tx t && bars_after_abort old t
+same_bars old mid tx t writes facts =
+    let same : bars_after_abort mid tx ≡ bars_after_abort old tx = ap (λ w. is_some (newest_by w tx) && not (is_some (known mid.facts tx).commit)) writes ∙ ap (λ f. is_some (newest_by old.writes tx) && not (is_some (known f tx).commit)) facts in
+    ⊎_elim (λ e. ap (λ b. tx_same tx t && b) (same ∙ ap (bars_after_abort old) (tx_true tx t e)))
+    (λ e. ap (λ b. b && bars_after_abort mid tx) e ∙ sym (ap (λ b. b && bars_after_abort old t) e)) (cases_Bool (tx_same tx t))
+
+gather_or : (a b c s : Bool) → (a || (b && c)) || (s && c) ≡ a || ((b || s) && c)
+gather_or true b c s = refl
+gather_or false true true s = refl
+gather_or false true false true = refl
+gather_or false true false false = refl
+gather_or false false c s = refl
+
+pub bars_more : (old mid new : Index) (tx : TxId) (txs : List TxId) → BarsAll old mid txs → BarsOne mid new tx → BarsAll old new (txs ++ tx ∷ [])
+bars_more old mid new tx txs so_far one = record {
+  keeps = record {
+    shard = one.keeps.shard ∙ so_far.keeps.shard;
+    last = one.keeps.last ∙ so_far.keeps.last;
+    restart_at = one.keeps.restart_at ∙ so_far.keeps.restart_at;
+    facts = one.keeps.facts ∙ so_far.keeps.facts;
+  };
+  writes = one.writes ∙ so_far.writes;
+  listers = one.listers ∙ so_far.listers;
+  barring = λ t. one.barring t ∙ ap (λ b. b || (tx_same tx t && bars_after_abort mid tx)) (so_far.barring t)
+      ∙ ap (λ b. (tx_in t old.barring || (tx_in t txs && bars_after_abort old t)) || b) (same_bars old mid tx t so_far.writes so_far.keeps.facts)
+      ∙ gather_or (tx_in t old.barring) (tx_in t txs) (bars_after_abort old t) (tx_same tx t) ∙ ap (λ b. tx_in t old.barring || (b && bars_after_abort old t)) (sym (in_push t tx txs));
+}

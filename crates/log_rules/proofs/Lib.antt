@@ -1,0 +1,17 @@
+pub mod Barring
+pub mod Below
+pub mod Doubt
+pub mod Fitting
+pub mod Growing
+pub mod Held
+pub mod IndexGrows
+pub mod IndexOf
+pub mod Links
+pub mod Listing
+pub mod RuleParts
+pub mod Steps
+pub mod Walking
+pub mod Walks
+pub mod Committing
+pub mod Homes
+pub mod SoundLogs

@@ -1,0 +1,6 @@
+pub mod Writes
+pub mod Listers
+pub mod Rules
+pub mod Adding
+pub mod Committed
+pub mod Agreement

@@ -1,0 +1,143 @@
+-- The order rules by an index of the records so far.
+use Rattle.std.specs.Prelude.{ℕ, zero, suc, Bool, true, false, not, ◌&&◌, ◌||◌, ◌==◌, nat_lt, List, [], ◌∷◌, Option, Some, None, is_some}
+use Rattle.std.specs.List.{list_all}
+use Rattle.clv_base.specs.declared.names.TxId.{TxId}
+use Rattle.clv_base.specs.declared.logs.LogRecord.{LogRecord}
+use Rattle.clv_base.specs.declared.logs.LogRecord.TheVariants.{Update, Clr, Prepare, Commit, Abort, End, Restart}
+use Rattle.clv_base.specs.Orders.{tx_same, tx_in, nat_in}
+use Rattle.clv_base.specs.LogRules.{same_option, some_parts}
+use Rattle.log_analysis.specs.declared.facts.TxFacts.{TxFacts}
+use Rattle.log_analysis.specs.Facts.{known}
+use Rattle.log_analysis.specs.Lists.{home_at, listed_at, parts_at}
+use Rattle.log_rules.specs.declared.index.Index.{Index}
+use Rattle.log_rules.specs.Writes.{Write, write_at, top_at, newest_by}
+
+-- run and epoch are above the last ones
+abbrev pub is_above : ℕ → ℕ → Option (ℕ × ℕ) → Bool
+is_above run epoch None = true
+is_above run epoch (Some p) = nat_lt p.0 run || ((p.0 == run) && nat_lt p.1 epoch)
+
+-- the run is the last one
+abbrev pub is_last_run : ℕ → Option (ℕ × ℕ) → Bool
+is_last_run run None = false
+is_last_run run (Some p) = run == p.0
+
+-- an LSN that is there and below another, and one that is there and not below it
+abbrev pub is_before : ℕ → Option ℕ → Bool
+is_before at None = false
+is_before at (Some n) = nat_lt n at
+
+abbrev pub is_since : ℕ → Option ℕ → Bool
+is_since at None = false
+is_since at (Some n) = not (nat_lt n at)
+
+-- the value that a write leaves
+abbrev pub value_of : Option Write → Option ℕ
+value_of None = None
+value_of (Some w) = w.after
+
+abbrev pub facts_in : Index → TxId → TxFacts
+facts_in x tx = known x.facts tx
+
+-- what the log says of a transaction, by the index
+abbrev pub has_commit : Index → TxId → Bool
+has_commit x tx = is_some (facts_in x tx).commit
+
+abbrev pub has_no_fate : Index → TxId → Bool
+has_no_fate x tx = not (is_some (facts_in x tx).prepare) && not (is_some (facts_in x tx).commit) && not (facts_in x tx).is_aborted
+
+-- another transaction's write may be covered
+abbrev pub may_be_covered : Index → TxId → Option Write → Bool
+may_be_covered x tx None = true
+may_be_covered x tx (Some w) =
+    tx_same tx w.tx || ((is_some (facts_in x w.tx).prepare || is_some (facts_in x w.tx).commit) && not (facts_in x w.tx).is_aborted)
+
+-- another transaction may be listed
+abbrev pub may_be_listed : Index → TxId → TxId → Bool
+may_be_listed x tx p = not (tx_same p tx) && is_some (facts_in x p).prepare && not (is_some (facts_in x p).commit) && not (facts_in x p).is_aborted
+
+-- the writer is the transaction, or one of a list
+abbrev pub is_own_or_one_of : TxId → List TxId → TxId → Bool
+is_own_or_one_of tx listed writer = tx_same writer tx || tx_in writer listed
+
+-- down from a write, in at most so many steps, up to one that is committed: all others' are listed
+abbrev pub is_clear : Index → TxId → List TxId → ℕ → Option ℕ → Bool
+is_clear x tx listed zero at = true
+is_clear x tx listed (suc n) at =
+    elim (write_at x.writes at) [ None ↦ true | Some w ↦ has_commit x w.tx || (is_own_or_one_of tx listed w.tx && is_clear x tx listed n w.foreign) ]
+
+-- so below a write of the transaction; where its own write lies right below, that one is asked in its place
+abbrev pub is_clear_under : Index → TxId → List TxId → ℕ → Write → Bool
+is_clear_under x tx listed lsn w = not w.covers || is_clear x tx listed lsn w.foreign
+
+-- so below each of a transaction's writes, from one of them back
+abbrev pub all_clear_from : Index → TxId → List TxId → ℕ → ℕ → Option ℕ → Bool
+all_clear_from x tx listed lsn zero at = true
+all_clear_from x tx listed lsn (suc n) at =
+    elim (write_at x.writes at) [ None ↦ true | Some w ↦ is_clear_under x tx listed lsn w && all_clear_from x tx listed lsn n w.earlier ]
+
+abbrev pub all_clear : Index → TxId → List TxId → ℕ → Bool
+all_clear x tx listed lsn = all_clear_from x tx listed lsn lsn (newest_by x.writes tx)
+
+-- ---- each kind
+
+abbrev pub is_empty : List TxId → Bool
+is_empty [] = true
+is_empty (t ∷ ts) = false
+
+abbrev pub restart_fits : Index → ℕ → ℕ → Bool
+restart_fits x run epoch = is_above run epoch x.last && is_empty x.barring
+
+abbrev pub update_fits : Index → TxId → ℕ → Option ℕ → Option ℕ → Bool
+update_fits x tx key before after =
+    is_last_run tx.run x.last && has_no_fate x tx && not (is_before x.restart_at (facts_in x tx).first_update)
+    && same_option before (value_of (write_at x.writes (top_at x.writes key))) && (is_some before || is_some after)
+    && may_be_covered x tx (write_at x.writes (top_at x.writes key))
+
+-- the list and the set of those whom a PREPARE lists
+abbrev pub prepare_fits_by : Index → ℕ → TxId → List TxId → List TxId → Bool
+prepare_fits_by x lsn tx predecessors listed =
+    is_some x.last && is_since x.restart_at (facts_in x tx).last_update && has_no_fate x tx && list_all (may_be_listed x tx) predecessors
+    && all_clear x tx listed lsn
+
+abbrev pub prepare_fits : Index → ℕ → TxId → List TxId → Bool
+prepare_fits x lsn tx predecessors = prepare_fits_by x lsn tx predecessors predecessors
+
+abbrev pub home_allows : Index → List LogRecord → TxFacts → TxId → List ℕ → Bool
+home_allows x records facts tx parts =
+    elim (home_at records facts.prepare) [ None ↦ is_last_run tx.run x.last | Some home ↦ (home == x.shard) || not (some_parts parts) ]
+
+abbrev pub commit_fits : Index → List LogRecord → ℕ → TxId → List ℕ → Bool
+commit_fits x records lsn tx parts =
+    is_some x.last && not (is_some (facts_in x tx).commit) && not (facts_in x tx).is_aborted && not (nat_in x.shard parts)
+    && list_all (has_commit x) (listed_at records (facts_in x tx).prepare) && all_clear x tx [] lsn && home_allows x records (facts_in x tx) tx parts
+    && (is_some (facts_in x tx).first_update || some_parts parts)
+
+abbrev pub abort_fits : Index → TxId → Bool
+abort_fits x tx = is_some x.last && is_some (facts_in x tx).first_update && not (is_some (facts_in x tx).commit) && not (facts_in x tx).is_aborted
+
+abbrev pub is_at : ℕ → Option ℕ → Bool
+is_at n None = false
+is_at n (Some m) = m == n
+
+abbrev pub compensates_write : Index → TxId → Option ℕ → ℕ → Option ℕ → Option Write → Bool
+compensates_write x tx undo_next key after None = false
+compensates_write x tx undo_next key after (Some w) =
+    (w.key == key) && same_option w.before after && is_at w.lsn (top_at x.writes key) && same_option undo_next w.earlier
+
+abbrev pub clr_fits : Index → TxId → Option ℕ → ℕ → Option ℕ → Bool
+clr_fits x tx undo_next key after =
+    is_some x.last && (facts_in x tx).is_aborted && compensates_write x tx undo_next key after (write_at x.writes (newest_by x.writes tx))
+
+abbrev pub end_fits : Index → List LogRecord → TxId → Bool
+end_fits x records tx = is_some x.last && not (facts_in x tx).is_ended && some_parts (parts_at records (facts_in x tx).commit)
+
+-- whether the record fits behind those of the index, which are the records below this LSN
+abbrev pub fits : Index → List LogRecord → ℕ → LogRecord → Bool
+fits x records lsn (Restart run epoch) = restart_fits x run epoch
+fits x records lsn (Update tx key before after) = update_fits x tx key before after
+fits x records lsn (Clr tx undo_next key after) = clr_fits x tx undo_next key after
+fits x records lsn (Prepare tx home predecessors) = prepare_fits x lsn tx predecessors
+fits x records lsn (Commit tx parts) = commit_fits x records lsn tx parts
+fits x records lsn (Abort tx) = abort_fits x tx
+fits x records lsn (End tx) = end_fits x records tx

@@ -1,0 +1,117 @@
+// A log with an index.
+
+ghost use Rattle.std.specs.Prelude.{◌≡◌, ℕ, [], is_some, unwrap_or, IfOk};
+ghost use Rattle.std.specs.List.{list_any, list_all};
+ghost use Rattle.clv_base.specs.Logs.{is_record_of, committed_in, ended_in, prepare_of, commit_parts};
+ghost use Rattle.clv_base.specs.LogRules.{home_is, listed_in, part_agrees};
+ghost use Rattle.log_analysis.specs.Facts.{facts_of};
+
+use crate::Memory;
+use clv_base::logs::LogRecord;
+use clv_base::names::TxId;
+use log_analysis::LogFacts;
+use log_analysis::facts::TxFacts;
+use log_analysis::lists::{home_at, listed_at, parts_at};
+use std::alloc::Global;
+use std::marker::Model;
+
+// A log with what it says of each transaction, seen as the log.
+#[derive(Drop)]
+pub struct IndexedLog<'a> {
+    records: &'a [LogRecord],
+    facts: LogFacts,
+}
+
+impl<'a> Model for IndexedLog<'a> {
+    ghost use Rattle.std.specs.Prelude.{List};
+    ghost use Rattle.clv_base.specs.declared.logs.LogRecord.{LogRecord as Record};
+    ghost use Rattle.log_analysis.specs.Facts.{Knows};
+
+    ghost Value = { List Record };
+
+    ghost view = { λ i. i.records.now };
+
+    ghost invariant = { λ i. Knows i.facts i.records.now };
+}
+
+impl<'a> IndexedLog<'a> {
+    pub fn new(alloc: Global, records: &'a [LogRecord]) -> Result<Self, Memory>
+        ensures { IfOk result (λ i. i ≡ records.now) }
+    {
+        Ok(IndexedLog {
+            records,
+            facts: LogFacts::of_log(alloc, records)?,
+        })
+    }
+
+    fn says(&self, tx: TxId) -> TxFacts
+        ensures { result ≡ facts_of self.now tx }
+    {
+        self.facts.get(tx)
+    }
+
+    pub fn is_committed(&self, tx: TxId) -> bool
+        ensures { result ≡ committed_in self.now tx }
+    {
+        self.says(tx).commit.is_some()
+    }
+
+    pub fn is_ended(&self, tx: TxId) -> bool
+        ensures { result ≡ ended_in self.now tx }
+    {
+        self.says(tx).is_ended
+    }
+
+    // Whether the log has any record of the transaction.
+    pub fn names(&self, tx: TxId) -> bool
+        ensures { result ≡ list_any (is_record_of tx) self.now }
+    {
+        self.says(tx).is_named
+    }
+
+    // The shards that the transaction's COMMIT names, none where there is no COMMIT.
+    pub fn parts(&self, tx: TxId) -> &[u32]
+        ensures { result.now ≡ unwrap_or (commit_parts self.now tx) [] }
+    {
+        parts_at(self.records, self.says(tx).commit)
+    }
+
+    fn listed(&self, tx: TxId) -> &[TxId]
+        ensures { result.now ≡ listed_in self.now tx }
+    {
+        listed_at(self.records, self.says(tx).prepare)
+    }
+
+    fn is_prepared(&self, tx: TxId) -> bool
+        ensures { result ≡ is_some (prepare_of self.now tx) }
+    {
+        self.says(tx).prepare.is_some()
+    }
+
+    // Whether the transaction's PREPARE, if there is one, names this home.
+    pub fn allows_home(&self, tx: TxId, home: usize) -> bool
+        ensures { result ≡ home_is home (prepare_of self.now tx) }
+    {
+        match home_at(self.records, self.says(tx).prepare) {
+            None => true,
+            Some(named) => named as usize == home,
+        }
+    }
+
+    // Whether each predecessor that the transaction's PREPARE lists is committed here.
+    fn has_predecessors(&self, tx: TxId) -> bool
+        ensures { result ≡ list_all (committed_in self.now) (listed_in self.now tx) }
+    {
+        self.listed(tx).iter().all(|p| self.is_committed(*p))
+    }
+
+    // Whether this may be the log of a part of the transaction's commit at this home.
+    pub fn agrees(&self, tx: TxId, home: usize) -> bool
+        ensures { result ≡ part_agrees tx home self.now }
+    {
+        self.is_prepared(tx)
+            && self.allows_home(tx, home)
+            && !self.says(tx).is_aborted
+            && self.has_predecessors(tx)
+    }
+}

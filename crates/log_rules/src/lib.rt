@@ -1,0 +1,23 @@
+//! The rules of logs: which record may follow which in one log, and whether the logs of all shards agree on each commit.
+//!
+//! `disorder` finds the first record of a log that breaks its rule. It reads the log once, with an index of what it read: what the log says of
+//! each transaction, the UPDATEs that stand, linked by key and by transaction, and who bars a RESTART. `apart` finds the least transaction that
+//! has no home in the logs, for every list of logs. It stands on the definitions of `clv_base` and on `log_analysis`.
+
+#![tactic(auto)]
+
+mod adding;
+mod agreement;
+mod committed;
+mod index;
+mod indexed;
+mod listers;
+mod order;
+mod rules;
+mod writes;
+
+pub use agreement::apart;
+pub use order::disorder;
+
+/// Want of memory.
+pub type Memory = std::alloc::AllocError;

@@ -1,6 +1,0 @@
-use Rattle.std.proofs.Common.{is_some, ap, ◌∙◌}
-use Rattle.log_facts.proofs.Laws.Whole.{commit_there}
-use Rattle.logs_apart.proofs.indexed.IndexedLog.is_committed.Goals as goal
-
-pub returns : goal.returns
-returns c = c.is_some.ensures ∙ ap (λ f. is_some f.commit) c.says.ensures ∙ commit_there c.args.self.now c.args.tx

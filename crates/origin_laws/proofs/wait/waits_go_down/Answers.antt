@@ -1,5 +1,0 @@
-use Rattle.origin_laws.proofs.Waiting.{waits_go_down}
-use Rattle.origin_laws.proofs.wait.waits_go_down.Goals as goal
-
-pub returns : goal.returns
-returns c = waits_go_down

@@ -1,5 +1,0 @@
-use Rattle.origin_laws.proofs.Waiting.{waits_have_no_cycle}
-use Rattle.origin_laws.proofs.wait.waits_have_no_cycle.Goals as goal
-
-pub returns : goal.returns
-returns c = waits_have_no_cycle

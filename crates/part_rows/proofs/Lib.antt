@@ -1,0 +1,3 @@
+pub mod LocksAlike
+pub mod LocksLonger
+pub mod StoreLonger

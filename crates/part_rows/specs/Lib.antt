@@ -1,0 +1,2 @@
+pub mod LockRuns
+pub mod StoreRuns

@@ -1,0 +1,5 @@
+use Rattle.protocol_laws.proofs.Least.{at_rest_none}
+use Rattle.protocol_laws.proofs.candidates.at_rest_none.Goals as goal
+
+pub returns : goal.returns
+returns c = at_rest_none

@@ -1,0 +1,5 @@
+use Rattle.protocol_laws.proofs.Deciding.{due_by_facts}
+use Rattle.protocol_laws.proofs.candidates.due_by_facts.Goals as goal
+
+pub returns : goal.returns
+returns c = due_by_facts

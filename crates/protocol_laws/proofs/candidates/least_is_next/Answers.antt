@@ -1,0 +1,5 @@
+use Rattle.protocol_laws.proofs.Least.{least_is_next}
+use Rattle.protocol_laws.proofs.candidates.least_is_next.Goals as goal
+
+pub returns : goal.returns
+returns c = least_is_next

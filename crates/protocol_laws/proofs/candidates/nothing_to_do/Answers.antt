@@ -1,0 +1,5 @@
+use Rattle.protocol_laws.proofs.Going.{nothing_to_do}
+use Rattle.protocol_laws.proofs.candidates.nothing_to_do.Goals as goal
+
+pub returns : goal.returns
+returns c = nothing_to_do

@@ -1,0 +1,5 @@
+use Rattle.protocol_laws.proofs.Landing.{flushes_cover}
+use Rattle.protocol_laws.proofs.changes.flushes_cover.Goals as goal
+
+pub returns : goal.returns
+returns c = flushes_cover

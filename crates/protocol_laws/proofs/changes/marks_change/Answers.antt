@@ -1,0 +1,5 @@
+use Rattle.protocol_laws.proofs.DueFacts.{marks_change}
+use Rattle.protocol_laws.proofs.changes.marks_change.Goals as goal
+
+pub returns : goal.returns
+returns c = marks_change

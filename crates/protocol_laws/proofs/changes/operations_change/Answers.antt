@@ -1,0 +1,5 @@
+use Rattle.protocol_laws.proofs.DueFacts.{operations_change}
+use Rattle.protocol_laws.proofs.changes.operations_change.Goals as goal
+
+pub returns : goal.returns
+returns c = operations_change

@@ -1,0 +1,5 @@
+use Rattle.protocol_laws.proofs.DueFacts.{purges_change}
+use Rattle.protocol_laws.proofs.changes.purges_change.Goals as goal
+
+pub returns : goal.returns
+returns c = purges_change

@@ -1,0 +1,5 @@
+use Rattle.protocol_laws.proofs.Purging.{purges_dont_matter}
+use Rattle.protocol_laws.proofs.changes.purges_dont_matter.Goals as goal
+
+pub returns : goal.returns
+returns c = purges_dont_matter

@@ -1,0 +1,5 @@
+use Rattle.protocol_laws.proofs.DueFacts.{releases_change}
+use Rattle.protocol_laws.proofs.changes.releases_change.Goals as goal
+
+pub returns : goal.returns
+returns c = releases_change

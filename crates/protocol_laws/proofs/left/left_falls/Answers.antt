@@ -1,0 +1,5 @@
+use Rattle.protocol_laws.proofs.Remaining.{left_falls}
+use Rattle.protocol_laws.proofs.left.left_falls.Goals as goal
+
+pub returns : goal.returns
+returns c = left_falls

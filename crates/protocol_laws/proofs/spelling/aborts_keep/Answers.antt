@@ -1,0 +1,8 @@
+use Rattle.protocol_laws.proofs.SpellingChanges.{aborts_keep, drops_keep}
+use Rattle.protocol_laws.proofs.spelling.aborts_keep.Goals as goal
+
+pub returns-clause-aborts : goal.returns-clause-aborts
+returns-clause-aborts c = aborts_keep
+
+pub returns-clause-drops : goal.returns-clause-drops
+returns-clause-drops c = drops_keep

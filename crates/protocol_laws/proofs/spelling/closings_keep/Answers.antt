@@ -1,0 +1,5 @@
+use Rattle.protocol_laws.proofs.SpellingChanges.{closings_keep}
+use Rattle.protocol_laws.proofs.spelling.closings_keep.Goals as goal
+
+pub returns : goal.returns
+returns c = closings_keep

@@ -1,0 +1,5 @@
+use Rattle.protocol_laws.proofs.Touching.{answers_touch}
+use Rattle.protocol_laws.proofs.steps.answers_touch.Goals as goal
+
+pub returns : goal.returns
+returns c = answers_touch

@@ -1,0 +1,5 @@
+use Rattle.protocol_laws.proofs.Touching.{commits_touch}
+use Rattle.protocol_laws.proofs.steps.commits_touch.Goals as goal
+
+pub returns : goal.returns
+returns c = commits_touch

@@ -1,0 +1,5 @@
+use Rattle.protocol_laws.proofs.Touching.{decisions_touch}
+use Rattle.protocol_laws.proofs.steps.decisions_touch.Goals as goal
+
+pub returns : goal.returns
+returns c = decisions_touch

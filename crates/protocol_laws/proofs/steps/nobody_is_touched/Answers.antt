@@ -1,0 +1,5 @@
+use Rattle.protocol_laws.proofs.Touching.{nobody_is_touched}
+use Rattle.protocol_laws.proofs.steps.nobody_is_touched.Goals as goal
+
+pub returns : goal.returns
+returns c = nobody_is_touched

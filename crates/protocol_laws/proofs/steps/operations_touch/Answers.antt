@@ -1,0 +1,5 @@
+use Rattle.protocol_laws.proofs.Touching.{operations_touch}
+use Rattle.protocol_laws.proofs.steps.operations_touch.Goals as goal
+
+pub returns : goal.returns
+returns c = operations_touch

@@ -1,0 +1,5 @@
+use Rattle.protocol_laws.proofs.Touching.{votes_touch}
+use Rattle.protocol_laws.proofs.steps.votes_touch.Goals as goal
+
+pub returns : goal.returns
+returns c = votes_touch

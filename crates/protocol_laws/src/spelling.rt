@@ -1,0 +1,30 @@
+//! What each change keeps.
+ghost use Rattle.protocol_laws.specs.Spelled.{AbortsKeep, ClosingsKeep, DropsKeep, EndsKeep, OperationsKeep, PurgesKeep, RecordsKeep, RestartsAreSpelled};
+
+/// A granted operation of a transaction with a spelling, on keys and values of 64 bits.
+pub fn operations_keep()
+    ensures { OperationsKeep }
+{}
+
+/// Closing a part, for a home below 16, where the transaction has at most 1,024 undecided predecessors.
+pub fn closings_keep()
+    ensures { ClosingsKeep }
+{}
+
+/// An abort, where the log has fewer than 2^64 records; and a Drop.
+pub fn aborts_keep()
+    ensures aborts { AbortsKeep }
+    ensures drops { DropsKeep }
+{}
+
+/// The end of parts, more records that have spellings, and ghosts that go.
+pub fn others_keep()
+    ensures ends { EndsKeep }
+    ensures records { RecordsKeep }
+    ensures purges { PurgesKeep }
+{}
+
+/// A restart whose log has spellings.
+pub fn restarts_are_spelled()
+    ensures { RestartsAreSpelled }
+{}

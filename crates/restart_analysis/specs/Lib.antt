@@ -1,4 +1,0 @@
-pub mod Standing
-pub mod Doubt
-pub mod Unended
-pub mod Restarting

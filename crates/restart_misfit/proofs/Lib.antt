@@ -1,3 +1,0 @@
-mod Prefixes
-mod Rising
-mod Whole

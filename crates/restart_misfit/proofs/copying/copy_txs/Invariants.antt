@@ -1,5 +1,0 @@
-use Rattle.std.proofs.Common.{◌≡◌, take}
-use Rattle.restart_misfit.proofs.copying.copy_txs.Given as goal
-
-abbrev pub invariant-loop-tx : goal.invariant-loop-tx
-invariant-loop-tx l = l.txs.items ≡ take l.tx-index l.list

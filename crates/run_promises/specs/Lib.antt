@@ -1,9 +1,0 @@
-pub mod Disks
-pub mod Histories
-pub mod Ended
-pub mod Sessions
-pub mod Promises
-pub mod Completing
-pub mod Down
-pub mod Replays
-pub mod Laws

@@ -1,0 +1,59 @@
+// What the session's calls promise to whoever runs a script.
+ghost use Rattle.std.specs.Prelude.{◌≡◌, ◌<◌, ◌^◌};
+ghost use Rattle.session_api.specs.Standing.{Holds, seen_in};
+ghost use Rattle.session_api.specs.Grounds.{Grounds};
+
+use crate::ends::{aborted, begun, committed, pairs_told, retried, value_told};
+use crate::script_session::ScriptSession;
+use cluster_turns::Shards;
+use clv_base::ops::{Answer, Op};
+use io_model::Pace;
+use machine_calls::Flier;
+use script_runs::{SessionCalls, StopCause, TryEnd};
+use std::alloc::Global;
+use std::sync::Wait;
+
+// The upper end of a range is a number of 64 bits.
+fn bound(key: u64) -> u64
+    ensures same { result ≡ key }
+    ensures small { key < 2 ^ 64 }
+{
+    key
+}
+
+impl<'a, M: Flier, P: Pace, R: Wait> SessionCalls for ScriptSession<'a, M, P, R> {
+    type Base = Shards<M>;
+
+    ghost base = { λ s. s.session.shards.now };
+
+    ghost seen = { λ s. seen_in s.session.shards.now s.session.walker s.session.progress };
+
+    ghost holds = { λ s. Holds s.session.shards.now s.session.walker s.session.progress };
+
+    ghost grounds = { λ s cause. Grounds s.session.walker cause };
+
+    fn begin(&mut self) -> Result<(), StopCause> {
+        begun(self.session.begin())
+    }
+
+    fn retry(&mut self) -> Result<(), StopCause> {
+        retried(self.session.retry())
+    }
+
+    fn operate(&mut self, alloc: Global, op: Op) -> Result<Answer, TryEnd> {
+        match op {
+            Op::Get(key) => value_told(self.session.get(alloc, key)),
+            Op::Put(key, value) => value_told(self.session.put(alloc, key, value)),
+            Op::Del(key) => value_told(self.session.del(alloc, key)),
+            Op::Scan(lo, hi) => pairs_told(self.session.scan(alloc, lo, bound(hi))),
+        }
+    }
+
+    fn commit(&mut self, alloc: Global) -> TryEnd {
+        committed(self.session.commit(alloc))
+    }
+
+    fn abort(&mut self, alloc: Global) -> Result<(), StopCause> {
+        aborted(self.session.abort(alloc))
+    }
+}

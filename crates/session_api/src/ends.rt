@@ -1,0 +1,108 @@
+// What a session's answers are to a try.
+ghost use Rattle.std.specs.Prelude.{◌≡◌, ◌≢◌, ℕ, List, Option, Result, Err};
+ghost use Rattle.clv_base.specs.declared.names.TxId.{TxId as TxIdIs};
+ghost use Rattle.cluster_turns.specs.declared.shards.WornClock.{WornClock};
+ghost use Rattle.session_ops.specs.declared.operating.OpError.{OpError as Failure};
+ghost use Rattle.session_ops.specs.declared.committing.Settled.{Settled as SettledIs};
+ghost use Rattle.session_ops.specs.declared.committing.CommitError.{CommitError as CommitFailure};
+ghost use Rattle.session_api.specs.Progresses.{failure_told, answer_told, commit_told, abort_told};
+ghost use Rattle.session_api.specs.Seeing.{op_end, value_end, pairs_end, commit_end, abort_end};
+ghost use Rattle.session_api.specs.Ends.{BeginEnds, RetryEnds};
+
+use crate::{AbortError, BeginError, CommitError, OpError, RetryError, Settled};
+use clv_base::lists::Pairs;
+use clv_base::names::TxId;
+use clv_base::ops::Answer;
+use script_runs::{StopCause, TryEnd};
+
+// None is active.
+pub(crate) fn begun(answer: Result<TxId, BeginError>) -> Result<(), StopCause>
+    requires idle { (tx : TxIdIs) → answer ≢ Err (BeginError.Active tx) }
+    ensures { BeginEnds answer result }
+{
+    match answer {
+        Ok(_tx) => Ok(()),
+        Err(BeginError::Worn { at }) => Err(StopCause::Worn { at }),
+        Err(BeginError::Active { .. }) => unreachable!(),
+    }
+}
+
+// The last one ended by an abort.
+pub(crate) fn retried(answer: Result<TxId, RetryError>) -> Result<(), StopCause>
+    requires idle { (tx : TxIdIs) → answer ≢ Err (RetryError.Active tx) }
+    requires ended { answer ≢ Err RetryError.NoRetry }
+    ensures { RetryEnds answer result }
+{
+    match answer {
+        Ok(_tx) => Ok(()),
+        Err(RetryError::Worn { at }) => Err(StopCause::Worn { at }),
+        Err(RetryError::Active { .. }) => unreachable!(),
+        Err(RetryError::NoRetry) => unreachable!(),
+    }
+}
+
+// An operation that was made has failed.
+fn failed(error: OpError) -> TryEnd
+    requires made { (e : Failure) × (error ≡ failure_told e) }
+    ensures told { (e : Failure) → error ≡ failure_told e → result ≡ op_end e }
+{
+    match error {
+        OpError::Aborted(cause) => TryEnd::Aborted(cause),
+        OpError::Down { shard } => TryEnd::Stopped(StopCause::Down { shard }),
+        OpError::Worn { at } => TryEnd::Stopped(StopCause::Worn { at }),
+        OpError::Memory => TryEnd::Stopped(StopCause::Memory),
+        OpError::NoTx => unreachable!(),
+        OpError::BadRange { .. } => unreachable!(),
+    }
+}
+
+// An operation at a key was made.
+pub(crate) fn value_told(answer: Result<Option<u64>, OpError>) -> Result<Answer, TryEnd>
+    requires made { (e : Result (Option ℕ) Failure) × (answer ≡ answer_told e) }
+    ensures told { (e : Result (Option ℕ) Failure) → answer ≡ answer_told e → result ≡ value_end e }
+{
+    match answer {
+        Ok(value) => Ok(Answer::Value(value)),
+        Err(error) => Err(failed(error)),
+    }
+}
+
+// A scan was made.
+pub(crate) fn pairs_told(answer: Result<Pairs, OpError>) -> Result<Answer, TryEnd>
+    requires made { (e : Result (List (ℕ × ℕ)) Failure) × (answer ≡ answer_told e) }
+    ensures told { (e : Result (List (ℕ × ℕ)) Failure) → answer ≡ answer_told e → result ≡ pairs_end e }
+{
+    match answer {
+        Ok(pairs) => Ok(Answer::Pairs(pairs)),
+        Err(error) => Err(failed(error)),
+    }
+}
+
+// A commit was made.
+pub(crate) fn committed(answer: Result<Settled, CommitError>) -> TryEnd
+    requires made { (e : Result SettledIs CommitFailure) × (answer ≡ commit_told e) }
+    ensures told { (e : Result SettledIs CommitFailure) → answer ≡ commit_told e → result ≡ commit_end e }
+{
+    match answer {
+        Ok(Settled::Committed { .. }) => TryEnd::Acknowledged,
+        Ok(Settled::Empty) => TryEnd::Empty,
+        Err(CommitError::Aborted(cause)) => TryEnd::Aborted(cause),
+        Err(CommitError::Down { shard }) => TryEnd::Stopped(StopCause::Down { shard }),
+        Err(CommitError::Unsettled { shard }) => TryEnd::Stopped(StopCause::Unsettled { shard }),
+        Err(CommitError::Worn { at }) => TryEnd::Stopped(StopCause::Worn { at }),
+        Err(CommitError::Memory) => TryEnd::Stopped(StopCause::Memory),
+        Err(CommitError::NoTx) => unreachable!(),
+    }
+}
+
+// An abort was made.
+pub(crate) fn aborted(answer: Result<(), AbortError>) -> Result<(), StopCause>
+    requires made { (e : Result Unit WornClock) × (answer ≡ abort_told e) }
+    ensures told { (e : Result Unit WornClock) → answer ≡ abort_told e → result ≡ abort_end e }
+{
+    match answer {
+        Ok(()) => Ok(()),
+        Err(AbortError::Worn { at }) => Err(StopCause::Worn { at }),
+        Err(AbortError::NoTx) => unreachable!(),
+    }
+}

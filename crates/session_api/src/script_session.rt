@@ -1,0 +1,46 @@
+// A session that a script may drive.
+ghost use Rattle.std.specs.Prelude.{◌≡◌, None};
+ghost use Rattle.session_api.specs.declared.progress.Progress.TheVariants.{Idle};
+ghost use Rattle.session_api.specs.Seeing.{seen_as};
+ghost use Rattle.script_runs.specs.Seen.{Idle as NoneActive};
+ghost use Rattle.session_api.specs.Standing.{Holds, seen_in};
+
+use crate::Session;
+use cluster_turns::{Shards, Walker};
+use io_model::Pace;
+use machine_calls::Flier;
+use std::sync::Wait;
+
+/// A session that a script may drive.
+#[derive(Drop)]
+pub struct ScriptSession<'a, M: Flier, P: Pace, R: Wait> {
+    pub session: Session<'a, M, P, R>,
+}
+
+impl<'a, M: Flier, P: Pace, R: Wait> ScriptSession<'a, M, P, R> {
+    /// A session without a transaction, of a walker that never took a disk.
+    pub fn new(
+        rt: &'a R,
+        shards: &'a Shards<M>,
+        pace: &'a P,
+        walker: Walker<M>,
+    ) -> ScriptSession<'a, M, P, R>
+        requires session { Holds shards.now walker Idle }
+        ensures session { Holds result.session.shards.now result.session.walker result.session.progress }
+        ensures shards { result.session.shards.now ≡ shards.now }
+        ensures begins { (result.session.walker ≡ walker) × (result.session.progress ≡ Idle) }
+        ensures seen { seen_in result.session.shards.now result.session.walker result.session.progress ≡ seen_as shards.now walker (NoneActive None) }
+    {
+        ScriptSession {
+            session: Session::new(rt, shards, pace, walker),
+        }
+    }
+
+    /// The session's end, and its walker.
+    pub fn into_walker(self) -> Walker<M>
+        ensures { result ≡ self.entry.session.walker }
+    {
+        let ScriptSession { session } = self;
+        session.into_walker()
+    }
+}

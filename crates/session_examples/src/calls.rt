@@ -1,0 +1,69 @@
+// Any call of a session, as a value.
+ghost use Rattle.std.specs.Prelude.{◌≡◌, ◌<◌, ◌^◌};
+ghost use Rattle.session_api.specs.Sessions.{IsSession};
+ghost use Rattle.session_examples.specs.Later.{IsLater};
+ghost use Rattle.session_examples.specs.Calls.{Called};
+
+use clv_base::lists::Pairs;
+use clv_base::names::TxId;
+use io_model::Pace;
+use machine_calls::Flier;
+use session_api::{AbortError, BeginError, CommitError, OpError, RetryError, Session, Settled};
+use std::alloc::Global;
+use std::sync::Wait;
+
+/// A call of a session.
+#[derive(Clone, Copy, Debug, PartialEq, Eq)]
+pub enum Call {
+    Begin,
+    Retry,
+    Get { key: u64 },
+    Put { key: u64, value: u64 },
+    Del { key: u64 },
+    Scan { lo: u64, hi: u64 },
+    Commit,
+    Abort,
+}
+
+/// What a call was answered.
+#[derive(Drop, Debug)]
+pub enum Said {
+    Begun(Result<TxId, BeginError>),
+    Retried(Result<TxId, RetryError>),
+    Value(Result<Option<u64>, OpError>),
+    Pairs(Result<Pairs, OpError>),
+    Settled(Result<Settled, CommitError>),
+    Aborted(Result<(), AbortError>),
+}
+
+// The upper end of a range is a number of 64 bits.
+fn bound(key: u64) -> u64
+    ensures same { result ≡ key }
+    ensures small { key < 2 ^ 64 }
+{
+    key
+}
+
+/// Makes a call of a session, however its last transaction stands, and gives what that was answered.
+pub fn make_call<M: Flier, P: Pace, R: Wait>(
+    alloc: Global,
+    session: &mut Session<'_, M, P, R>,
+    call: Call,
+) -> Said
+    requires session { IsSession session.old.shards.now session.old.walker session.old.progress }
+    ensures session { IsSession session.new.shards.now session.new.walker session.new.progress }
+    ensures shards { session.new.shards ≡ session.old.shards }
+    ensures later { IsLater session.old.walker session.new.walker }
+    ensures told { Called session.old.shards.now session.old.walker session.old.progress call result session.new.walker session.new.progress }
+{
+    match call {
+        Call::Begin => Said::Begun(session.begin()),
+        Call::Retry => Said::Retried(session.retry()),
+        Call::Get { key } => Said::Value(session.get(alloc, key)),
+        Call::Put { key, value } => Said::Value(session.put(alloc, key, value)),
+        Call::Del { key } => Said::Value(session.del(alloc, key)),
+        Call::Scan { lo, hi } => Said::Pairs(session.scan(alloc, lo, bound(hi))),
+        Call::Commit => Said::Settled(session.commit(alloc)),
+        Call::Abort => Said::Aborted(session.abort(alloc)),
+    }
+}

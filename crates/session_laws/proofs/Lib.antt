@@ -1,9 +1,0 @@
-pub mod Walking
-pub mod Naming
-pub mod Dropping
-pub mod Replying
-pub mod Looking
-pub mod Adding
-pub mod Placing
-pub mod Cutting
-pub mod Turns

@@ -1,4 +1,0 @@
-pub mod Places
-pub mod Turns
-pub mod Dropping
-pub mod Naming

@@ -1,4 +1,0 @@
-pub mod Later
-pub mod Calls
-pub mod Ends
-pub mod Moves

@@ -1,5 +1,0 @@
-use Rattle.session_scripts.proofs.New.{new_walkers_are_sessions}
-use Rattle.session_scripts.proofs.promises.new_walkers_are_sessions.Goals as goal
-
-pub returns : goal.returns
-returns g c = new_walkers_are_sessions _ _ _

@@ -1,5 +1,0 @@
-use Rattle.session_scripts.proofs.New.{new_walkers_keep_none}
-use Rattle.session_scripts.proofs.promises.new_walkers_keep_none.Goals as goal
-
-pub returns : goal.returns
-returns g c = new_walkers_keep_none _ _ _

@@ -1,5 +1,0 @@
-use Rattle.session_scripts.proofs.New.{scripts_follow}
-use Rattle.session_scripts.proofs.promises.scripts_follow.Goals as goal
-
-pub returns : goal.returns
-returns g c = scripts_follow _ _ _

@@ -1,5 +1,0 @@
-use Rattle.session_scripts.proofs.New.{sessions_rest}
-use Rattle.session_scripts.proofs.promises.sessions_rest.Goals as goal
-
-pub returns : goal.returns
-returns g c = sessions_rest _ _ _

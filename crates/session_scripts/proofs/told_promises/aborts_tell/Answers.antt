@@ -1,5 +1,0 @@
-use Rattle.session_scripts.proofs.Leaving.{aborts_tell}
-use Rattle.session_scripts.proofs.told_promises.aborts_tell.Goals as goal
-
-pub returns : goal.returns
-returns g c = aborts_tell _ _ _ _

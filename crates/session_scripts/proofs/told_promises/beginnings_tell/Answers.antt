@@ -1,5 +1,0 @@
-use Rattle.session_scripts.proofs.Leaving.{beginnings_tell}
-use Rattle.session_scripts.proofs.told_promises.beginnings_tell.Goals as goal
-
-pub returns : goal.returns
-returns g c = beginnings_tell _ _ _

@@ -1,5 +1,0 @@
-use Rattle.session_scripts.proofs.Committing.{commits_tell}
-use Rattle.session_scripts.proofs.told_promises.commits_tell.Goals as goal
-
-pub returns : goal.returns
-returns g c = commits_tell _ _ _

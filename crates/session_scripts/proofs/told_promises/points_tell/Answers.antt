@@ -1,5 +1,0 @@
-use Rattle.session_scripts.proofs.Pointing.{points_tell}
-use Rattle.session_scripts.proofs.told_promises.points_tell.Goals as goal
-
-pub returns : goal.returns
-returns g c = points_tell _ _ _

@@ -1,5 +1,0 @@
-use Rattle.session_scripts.proofs.Leaving.{retries_tell}
-use Rattle.session_scripts.proofs.told_promises.retries_tell.Goals as goal
-
-pub returns : goal.returns
-returns g c = retries_tell _ _ _

@@ -1,5 +1,0 @@
-use Rattle.session_scripts.proofs.Scanning.{scans_tell}
-use Rattle.session_scripts.proofs.told_promises.scans_tell.Goals as goal
-
-pub returns : goal.returns
-returns g c = scans_tell _ _ _

@@ -1,0 +1,6 @@
+pub mod Counting
+pub mod Ranges
+pub mod Planned
+pub mod Purged
+pub mod Giving
+pub mod Laws

@@ -1,0 +1,4 @@
+pub mod Planned
+pub mod Met
+pub mod Effects
+pub mod Ghosts

@@ -1,0 +1,153 @@
+//! All that an operation does, before it does anything.
+ghost use Rattle.std.specs.Prelude.{◌≡◌, ℕ, IfOk};
+ghost use Rattle.clv_base.specs.Needs.{needs_of, answer_of, live_of, inserts, writes_of};
+ghost use Rattle.shard_ops.specs.Planned.{insert_of, write_of, insert_by, write_by, IsPlanOf};
+
+use crate::needs::{del_need, get_need, put_need};
+use crate::scan::{pairs_of, scan_needs};
+use clv_base::lists::Pairs;
+use clv_base::modes::{Anchor, Found, Need};
+use clv_base::ops::{Answer, Op};
+use lock_table::Memory;
+use ordered_store::Store;
+use std::alloc::{AllocError, Global};
+
+/// A record that is inserted: its key, and the anchor whose gap it splits.
+#[derive(Clone, Copy, PartialEq, Eq, Debug)]
+pub struct Insert {
+    pub key: u64,
+    pub lower: Anchor,
+}
+
+/// A key that is written, with its value before and after.
+#[derive(Clone, Copy, PartialEq, Eq, Debug)]
+pub struct Write {
+    pub key: u64,
+    pub before: Option<u64>,
+    pub after: Option<u64>,
+}
+
+/// What an operation comes to where it is granted: the locks that it needs, its answer, the record that it inserts, and what it writes.
+#[derive(Drop, Debug)]
+pub struct Plan {
+    pub needs: Vec<Need>,
+    pub answer: Answer,
+    pub insert: Option<Insert>,
+    pub write: Option<Write>,
+}
+
+fn live(found: Found) -> Option<u64>
+    ensures { result ≡ live_of found }
+{
+    match found {
+        Found::Live(value) => Some(value),
+        Found::Ghost | Found::Absent => None,
+    }
+}
+
+fn plan_get<S: Store>(alloc: Global, store: &S, key: u64) -> Result<Plan, AllocError>
+    ensures { IfOk result (IsPlanOf (Op.Get key) (S.records store.now)) }
+{
+    let found = store.get(key);
+    Ok(Plan {
+        needs: vec![in alloc; get_need(store, key, found)]?,
+        answer: Answer::Value(live(found)),
+        insert: None,
+        write: None,
+    })
+}
+
+/// The record that a Put inserts, where there is none.
+fn put_insert<S: Store>(store: &S, key: u64, found: Found) -> Option<Insert>
+    ensures { (value : ℕ) → result ≡ insert_by (S.records store.now) (inserts (Op.Put key value) found) }
+{
+    match found {
+        Found::Live(_) | Found::Ghost => None,
+        Found::Absent => Some(Insert {
+            key,
+            lower: store.anchor_of(key),
+        }),
+    }
+}
+
+fn plan_put<S: Store>(alloc: Global, store: &S, key: u64, value: u64) -> Result<Plan, AllocError>
+    ensures { IfOk result (IsPlanOf (Op.Put key value) (S.records store.now)) }
+{
+    let found = store.get(key);
+    let before = live(found);
+    Ok(Plan {
+        needs: vec![in alloc; put_need(store, key, found)]?,
+        answer: Answer::Value(before),
+        insert: put_insert(store, key, found),
+        write: Some(Write {
+            key,
+            before,
+            after: Some(value),
+        }),
+    })
+}
+
+/// What a Del writes, where there is a value.
+fn del_write(key: u64, before: Option<u64>) -> Option<Write>
+    ensures { result ≡ write_by (writes_of (Op.Del key) before) }
+{
+    match before {
+        Some(_) => Some(Write {
+            key,
+            before,
+            after: None,
+        }),
+        None => None,
+    }
+}
+
+fn plan_del<S: Store>(alloc: Global, store: &S, key: u64) -> Result<Plan, AllocError>
+    ensures { IfOk result (IsPlanOf (Op.Del key) (S.records store.now)) }
+{
+    let found = store.get(key);
+    let before = live(found);
+    Ok(Plan {
+        needs: vec![in alloc; del_need(store, key, found)]?,
+        answer: Answer::Value(before),
+        insert: None,
+        write: del_write(key, before),
+    })
+}
+
+fn plan_scan<S: Store>(alloc: Global, store: &S, low: u64, high: u64) -> Result<Plan, AllocError>
+    ensures { IfOk result (IsPlanOf (Op.Scan low high) (S.records store.now)) }
+{
+    let rows = store.range(alloc, low, high)?;
+    let needs = scan_needs(alloc, store, low, &rows)?;
+    let pairs = pairs_of(alloc, &rows)?;
+    Ok(Plan {
+        needs,
+        answer: Answer::Pairs(Pairs::new(pairs)),
+        insert: None,
+        write: None,
+    })
+}
+
+fn plan_by<S: Store>(alloc: Global, store: &S, op: Op) -> Result<Plan, AllocError>
+    ensures { IfOk result (IsPlanOf op (S.records store.now)) }
+{
+    match op {
+        Op::Get(key) => plan_get(alloc, store, key),
+        Op::Put(key, value) => plan_put(alloc, store, key, value),
+        Op::Del(key) => plan_del(alloc, store, key),
+        Op::Scan(low, high) => plan_scan(alloc, store, low, high),
+    }
+}
+
+/// What an operation comes to on these records, where it is granted. The store isn't changed; the only error is want of memory.
+pub fn plan_of<S: Store>(alloc: Global, store: &S, op: Op) -> Result<Plan, Memory>
+    ensures needs { IfOk result (λ p. p.needs.items ≡ needs_of op (S.records store.now)) }
+    ensures answer { IfOk result (λ p. p.answer ≡ answer_of op (S.records store.now)) }
+    ensures insert { IfOk result (λ p. p.insert ≡ insert_of op (S.records store.now)) }
+    ensures write { IfOk result (λ p. p.write ≡ write_of op (S.records store.now)) }
+{
+    match plan_by(alloc, store, op) {
+        Ok(plan) => Ok(plan),
+        Err(_) => Err(Memory),
+    }
+}

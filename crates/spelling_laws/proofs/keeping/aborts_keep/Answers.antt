@@ -1,8 +1,0 @@
-use Rattle.spelling_laws.proofs.Changes.{aborts_keep, drops_keep}
-use Rattle.spelling_laws.proofs.keeping.aborts_keep.Goals as goal
-
-pub returns-clause-aborts : goal.returns-clause-aborts
-returns-clause-aborts c = aborts_keep
-
-pub returns-clause-drops : goal.returns-clause-drops
-returns-clause-drops c = drops_keep

@@ -1,5 +1,0 @@
-use Rattle.turn_laws.proofs.Beginning.{sound_opened}
-use Rattle.turn_laws.proofs.promises.openings_are_sound.Goals as goal
-
-pub returns : goal.returns
-returns g c = λ o capacity a. sound_opened g.G.Gate.is_shut g.G.Gate.faults g.G.Gate.shard g.G.Gate.logs o capacity a

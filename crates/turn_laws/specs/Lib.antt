@@ -1,5 +1,0 @@
-pub mod Notes
-pub mod Homes
-pub mod Gates
-pub mod Sound
-pub mod Laws

@@ -1,0 +1,13 @@
+pub mod Setting
+pub mod Restored
+pub mod Doubtful
+pub mod Waiting
+pub mod Parts
+pub mod Requests
+pub mod Acked
+pub mod HomesRestored
+pub mod Few
+pub mod Unended
+pub mod Over
+pub mod Silent
+pub mod Laws

@@ -1,0 +1,11 @@
+-- Those so far, and those of the rest, are all.
+use Rattle.std.proofs.Common.{◌≡◌, ◌++◌, ◌≤◌, drop, length}
+use Rattle.std.specs.List.{filter}
+use Rattle.clv_base.specs.Coordinator.{others, vote_from, is_open}
+use Rattle.two_phase_commit.proofs.votes.open_shards.Given as goal
+
+abbrev pub invariant-loop-part : goal.invariant-loop-part
+invariant-loop-part l = record {
+  same : l.list ++ filter (λ p. is_open (vote_from p l.votes)) (others l.shard (drop l.part-index l.touched)) ≡ filter (λ p. is_open (vote_from p l.votes)) (others l.shard l.touched);
+  few : length (filter (λ p. is_open (vote_from p l.votes)) (others l.shard l.touched)) ≤ 15;
+}

@@ -1,0 +1,453 @@
+//! The coordinator.
+ghost use Rattle.std.specs.Prelude.{◌≡◌, ◌≤◌, ◌<◌, ◌++◌, [], true, length, map, cond, IfOk, OnOk, OnErr};
+ghost use Rattle.std.specs.List.{AllByRecursion};
+ghost use Rattle.std.specs.List.Sorted.{IsStrictlySortedBy};
+ghost use Rattle.std.specs.Map.{keys_of};
+ghost use Rattle.std.specs.Ordering.{nat_cmp};
+ghost use Rattle.clv_base.specs.declared.state.RequestState.TheVariants.{Undecided};
+ghost use Rattle.clv_base.specs.Orders.{nat_in, tx_cmp, tx_get, tx_put};
+ghost use Rattle.clv_base.specs.Coordinator.{new_request, restored_request as request_restored, restored_requests, home_reminders, ask_answer, ruling_by, takes_vote, with_vote_of, takes_done, with_done_of};
+ghost use Rattle.two_phase_commit.specs.Coordinated.{IsFit, ruling_of, requests_by, counts_by, requests_with, done_by, requests_done, ruled, undecided, parts_of, told_by, state_by};
+ghost use Rattle.two_phase_commit.specs.Reminding.{each_at, of_one, votes_of, dones_of};
+ghost use Rattle.two_phase_commit.specs.Waiting.{waiting_in};
+
+use crate::kept::Kept;
+use crate::memory::Memory;
+use crate::reminding::{contains, remind_dones, remind_votes};
+use crate::ruling::{answer, due_ruling};
+use crate::votes::is_other;
+use crate::waiting_homes::{put_request, waits};
+use clv_base::causes::Vote;
+use clv_base::lists::{Touched, Votes};
+use clv_base::messages::Message;
+use clv_base::names::TxId;
+use clv_base::parts::{PartFacts, ShardList};
+use clv_base::state::{Request, RequestState, Ruling};
+use std::alloc::Global;
+use std::collections::BTreeMap;
+use std::collections::btree_map::Iter;
+use std::marker::Model;
+use tx_table::{TxIndex, TxTable};
+
+/// The requests that a shard coordinates as their home.
+#[derive(Drop)]
+pub struct Coordinator {
+    alloc: Global,
+    shard: u32,
+    requests: BTreeMap<TxId, Kept>,
+    /// Those that wait for a vote or an acknowledgement.
+    waiting: TxIndex,
+    /// All that have a request here. Who isn't among them has none: a look into a hash map tells that whatever requests are over.
+    asked: TxTable<()>,
+}
+
+impl Model for Coordinator {
+    ghost use Rattle.std.specs.Prelude.{◌≡◌};
+    ghost use Rattle.two_phase_commit.specs.Coordinated.{Coordination, AreFit};
+    ghost use Rattle.two_phase_commit.specs.Asked.{AreAsked};
+    ghost use Rattle.two_phase_commit.specs.Waiting.{waits};
+    ghost use Rattle.tx_table.specs.Index.{IsIndex};
+
+    ghost Value = { Coordination };
+
+    ghost view = { λ c. record { shard = c.shard; requests = c.requests.entries } };
+
+    ghost invariant = { λ c. AreFit c.shard c.requests.entries × IsIndex (waits c.shard) c.requests.entries c.waiting × AreAsked c.asked.rows c.requests.entries };
+}
+
+/// Whether a vote counts: it is the first of another part of an undecided request.
+fn counts_vote(shard: u32, request: &Request, from: u32) -> bool
+    ensures { result ≡ takes_vote shard from request.now }
+{
+    is_undecided(&request.state)
+        && is_other(shard, request.touched.as_slice(), from)
+        && request.votes.get(from).is_none()
+}
+
+/// The first vote of another part of an undecided request counts.
+fn take_vote(shard: u32, request: &mut Request, from: u32, vote: Vote) -> bool
+    requires { IsFit shard request.old }
+    ensures taken { result ≡ takes_vote shard from request.old }
+    ensures request { request.new ≡ cond result (with_vote_of from vote request.old) request.old }
+    ensures fit { IsFit shard request.new }
+{
+    if !is_undecided(&request.state)
+        || !is_other(shard, request.touched.as_slice(), from)
+        || request.votes.get(from).is_some()
+    {
+        return false;
+    }
+    request.votes.set(from, vote);
+    true
+}
+
+/// Whether the shard is a part of a commit, of which there are at most 15.
+fn is_part(parts: &ShardList, from: u32) -> bool
+    ensures part { result ≡ nat_in from parts.now }
+    ensures few { length parts.now ≤ 15 }
+{
+    parts.as_slice().iter().any(|part| from == *part)
+}
+
+/// Whether an acknowledgement counts: it is the first of a part of a commit that isn't ended.
+fn counts_done(request: &Request, from: u32) -> bool
+    ensures counts { result ≡ takes_done from request.now }
+    ensures few { length (parts_of (request.now).state) ≤ 15 }
+{
+    match &request.state {
+        RequestState::Committed { parts } => {
+            is_part(parts, from) && !request.acknowledged_by.contains(from) && !request.is_ended
+        }
+        RequestState::Undecided | RequestState::Finished | RequestState::Refused { .. } => false,
+    }
+}
+
+/// The first acknowledgement of a part of a commit that isn't ended counts.
+fn take_done(shard: u32, request: &mut Request, from: u32) -> bool
+    requires { IsFit shard request.old }
+    ensures taken { result ≡ takes_done from request.old }
+    ensures request { request.new ≡ cond result (with_done_of from request.old) request.old }
+    ensures fit { IsFit shard request.new }
+{
+    if !counts_done(request, from) {
+        return false;
+    }
+    request.acknowledged_by = request.acknowledged_by.with(from);
+    true
+}
+
+/// The ruling that is due of a request is made.
+fn rule(shard: u32, tx: TxId, request: &mut Request, facts: &PartFacts) -> Option<Ruling>
+    requires { IsFit shard request.old }
+    ensures ruling { result ≡ ruling_by shard tx request.old facts.entry.now }
+    ensures request { request.new ≡ ruled result request.old }
+    ensures fit { IsFit shard request.new }
+{
+    let ruling = due_ruling(shard, tx, request, facts);
+    match &ruling {
+        None => {}
+        Some(Ruling::Commit { parts }) => {
+            request.state = RequestState::Committed {
+                parts: parts.copied(),
+            }
+        }
+        Some(Ruling::Acknowledge) => request.state = RequestState::Finished,
+        Some(Ruling::Abort { cause, .. }) => {
+            request.state = RequestState::Refused { cause: *cause }
+        }
+        Some(Ruling::End) => request.is_ended = true,
+    }
+    ruling
+}
+
+fn is_undecided(state: &RequestState) -> bool
+    ensures { result ≡ undecided state.now }
+{
+    match state {
+        RequestState::Undecided => true,
+        RequestState::Committed { .. } | RequestState::Finished | RequestState::Refused { .. } =>
+            false,
+    }
+}
+
+impl Coordinator {
+    /// A home without a request. Takes no memory.
+    pub fn new(alloc: Global, shard: u32) -> Self
+        ensures shard { result.shard ≡ shard }
+        ensures requests { result.requests ≡ [] }
+    {
+        Coordinator {
+            alloc,
+            shard,
+            requests: BTreeMap::new(alloc),
+            waiting: TxIndex::new(alloc),
+            asked: TxTable::new(alloc),
+        }
+    }
+
+    /// After a restart: the commits that it found without an END, each with its parts, are coordinated again. Where there is no memory all stays.
+    pub fn restored(&mut self, alloc: Global, unended: &[(TxId, ShardList)]) -> Result<(), Memory>
+        requires empty { self.old.requests ≡ [] }
+        requires rising { IsStrictlySortedBy tx_cmp (keys_of unended.now) }
+        ensures ok { OnOk result (self.new ≡ record self.old { requests = restored_requests unended.now }) }
+        ensures err { OnErr result (self.new ≡ self.old) }
+    {
+        let shard = self.shard;
+        let mut requests = BTreeMap::new(alloc);
+        let mut waiting = TxIndex::new(alloc);
+        let mut asked = TxTable::new(alloc);
+        for commit in unended {
+            let request = restored_request(alloc, &commit.1);
+            match put_request(
+                alloc,
+                &mut requests,
+                &mut waiting,
+                &mut asked,
+                shard,
+                commit.0,
+                request,
+            ) {
+                Ok(()) => {}
+                Err(memory) => return Err(memory),
+            }
+        }
+        self.requests = requests;
+        self.waiting = waiting;
+        self.asked = asked;
+        Ok(())
+    }
+
+    /// What a question about a transaction is answered: commit where that is durable, nothing while the request stands or its COMMIT is buffered,
+    /// else abort.
+    pub fn on_ask(&self, tx: TxId, facts: &PartFacts) -> Option<bool>
+        ensures { result ≡ ask_answer (tx_get tx self.now.requests) facts.entry.now }
+    {
+        answer(self.requests.get(&tx), facts)
+    }
+
+    /// How far the transaction's request is, where it has one here. Takes no memory.
+    pub fn state_of(&self, tx: TxId) -> Option<RequestState>
+        ensures { result ≡ state_by (tx_get tx self.now.requests) }
+    {
+        if self.asked.get(tx).is_none() {
+            return None;
+        }
+        match self.requests.get(&tx) {
+            Some(request) => Some(copied(&request.state)),
+            None => None,
+        }
+    }
+
+    /// The shards that are told of a commit of the transaction: none where it has no request here, and no shard where that isn't committed.
+    pub fn told(&self, tx: TxId) -> Option<ShardList>
+        ensures { result ≡ told_by (tx_get tx self.now.requests) }
+    {
+        match self.requests.get(&tx) {
+            Some(request) => Some(told_parts(&request.state)),
+            None => None,
+        }
+    }
+
+    /// The requests, by rising transactions.
+    pub fn requests(&self) -> Iter<'_, TxId, Kept>
+        ensures { result ≡ self.now.requests }
+    {
+        self.requests.iter()
+    }
+
+    /// The transactions with a request here, which rise.
+    pub fn transactions(&self, alloc: Global) -> Result<Vec<TxId>, Memory>
+        ensures txs { IfOk result (λ txs. txs.items ≡ keys_of self.now.requests) }
+        ensures rising { IsStrictlySortedBy tx_cmp (keys_of self.now.requests) }
+    {
+        let mut txs = Vec::new(alloc);
+        for (tx, _) in self.requests.iter() {
+            match txs.push(*tx) {
+                Ok(()) => {}
+                Err(_) => return Err(Memory),
+            }
+        }
+        Ok(txs)
+    }
+
+    /// The transactions whose requests wait for a vote or an acknowledgement, which rise. Those that are over cost nothing.
+    pub fn waiting(&self, alloc: Global) -> Result<Vec<TxId>, Memory>
+        ensures txs { IfOk result (λ txs. txs.items ≡ waiting_in self.now.shard self.now.requests) }
+        ensures rising { IsStrictlySortedBy tx_cmp (waiting_in self.now.shard self.now.requests) }
+    {
+        let _all = self.requests.len();
+        match self.waiting.to_vec(alloc) {
+            Ok(txs) => Ok(txs),
+            Err(_) => Err(Memory),
+        }
+    }
+
+    /// A Prepare for each vote that the transaction's request misses, if it has one.
+    fn ask_of(&self, tx: TxId, list: &mut Vec<Message>) -> Result<(), Memory>
+        ensures { OnOk result (list.new.items ≡ list.old.items ++ of_one (votes_of self.now.shard) tx (tx_get tx self.now.requests)) }
+    {
+        match self.requests.get(&tx) {
+            Some(request) => remind_votes(self.shard, tx, request, list),
+            None => Ok(()),
+        }
+    }
+
+    /// A Prepare for each vote that the request of one of these transactions misses.
+    fn ask_for_votes(&self, txs: &[TxId], list: &mut Vec<Message>) -> Result<(), Memory>
+        ensures { OnOk result (list.new.items ≡ list.old.items ++ each_at (votes_of self.now.shard) self.now.requests txs.now) }
+    {
+        for tx in txs {
+            self.ask_of(*tx, list)?;
+        }
+        Ok(())
+    }
+
+    /// A Decide for each acknowledgement that the request of one of these transactions misses, where its COMMIT is durable.
+    fn tell_commits(
+        &self,
+        txs: &[TxId],
+        durable: &[TxId],
+        list: &mut Vec<Message>,
+    ) -> Result<(), Memory>
+        requires rising { IsStrictlySortedBy tx_cmp durable.now }
+        ensures { OnOk result (list.new.items ≡ list.old.items ++ each_at (dones_of self.now.shard durable.now) self.now.requests txs.now) }
+    {
+        for tx in txs {
+            if contains(durable, tx) {
+                if let Some(request) = self.requests.get(tx) {
+                    remind_dones(self.shard, *tx, request, list)?;
+                }
+            }
+        }
+        Ok(())
+    }
+
+    /// What the home reminds of: a Prepare for each missing vote of an undecided request, then a Decide for each missing acknowledgement of
+    /// these transactions, whose COMMITs are durable. It goes over the requests that wait.
+    pub fn reminders(&self, alloc: Global, durable: &[TxId]) -> Result<Vec<Message>, Memory>
+        requires rising { IsStrictlySortedBy tx_cmp durable.now }
+        ensures { IfOk result (λ list. list.items ≡ home_reminders self.now.shard self.now.requests durable.now) }
+    {
+        let _all = self.requests.len();
+        let waiting = match self.waiting(alloc) {
+            Ok(waiting) => waiting,
+            Err(memory) => return Err(memory),
+        };
+        let mut list = Vec::new(alloc);
+        self.ask_for_votes(&waiting, &mut list)?;
+        self.tell_commits(&waiting, durable, &mut list)?;
+        Ok(list)
+    }
+
+    /// Whether a vote that comes would count.
+    pub fn awaits_vote(&self, tx: TxId, from: u32) -> bool
+        ensures { result ≡ counts_by self.now.shard from (tx_get tx self.now.requests) }
+    {
+        match self.requests.get(&tx) {
+            Some(request) => counts_vote(self.shard, request, from),
+            None => false,
+        }
+    }
+
+    /// Whether an acknowledgement that comes would count.
+    pub fn awaits_done(&self, tx: TxId, from: u32) -> bool
+        ensures { result ≡ done_by from (tx_get tx self.now.requests) }
+    {
+        match self.requests.get(&tx) {
+            Some(request) => counts_done(request, from),
+            None => false,
+        }
+    }
+
+    /// A vote came: whether it counts. Takes no memory.
+    pub fn on_vote(&mut self, tx: TxId, from: u32, vote: Vote) -> bool
+        ensures taken { result ≡ counts_by self.old.shard from (tx_get tx self.old.requests) }
+        ensures requests { self.new ≡ record self.old { requests = requests_with tx self.old.shard from vote (tx_get tx self.old.requests) self.old.requests } }
+    {
+        let shard = self.shard;
+        let Some(request) = self.requests.get_mut(&tx) else {
+            return false;
+        };
+        take_vote(shard, request.as_mut(), from, vote)
+    }
+
+    /// An acknowledgement came: whether it counts. Takes no memory.
+    pub fn on_done(&mut self, tx: TxId, from: u32) -> bool
+        ensures taken { result ≡ done_by from (tx_get tx self.old.requests) }
+        ensures requests { self.new ≡ record self.old { requests = requests_done tx from (tx_get tx self.old.requests) self.old.requests } }
+    {
+        let shard = self.shard;
+        let Some(request) = self.requests.get_mut(&tx) else {
+            return false;
+        };
+        let taken = take_done(shard, request.as_mut(), from);
+        let stays = waits(shard, request);
+        self.waiting.keep_if(tx, stays);
+        taken
+    }
+
+    /// What is due of a transaction at its home; each ruling is given once and kept. Takes no memory.
+    pub fn decision_due(&mut self, tx: TxId, facts: &PartFacts) -> Option<Ruling>
+        ensures ruling { result ≡ ruling_of self.old.shard tx facts.entry.now (tx_get tx self.old.requests) }
+        ensures requests { self.new ≡ record self.old { requests = requests_by tx (tx_get tx self.old.requests) result self.old.requests } }
+    {
+        if self.asked.get(tx).is_none() {
+            return None;
+        }
+        let shard = self.shard;
+        let Some(request) = self.requests.get_mut(&tx) else {
+            return None;
+        };
+        let ruling = rule(shard, tx, request.as_mut(), facts);
+        let stays = waits(shard, request);
+        self.waiting.keep_if(tx, stays);
+        ruling
+    }
+
+    /// A request is kept, undecided, with the shards that it touched and their epochs. Where there is no memory all stays.
+    pub fn ask_commit(&mut self, tx: TxId, touched: Touched) -> Result<(), Memory>
+        requires rising { IsStrictlySortedBy nat_cmp (map (λ t. t.0) touched) }
+        requires low { AllByRecursion (λ t. t.0 < 16) touched }
+        requires own { nat_in self.old.shard (map (λ t. t.0) touched) ≡ true }
+        ensures ok { OnOk result (self.new ≡ record self.old { requests = tx_put tx (new_request touched Undecided) self.old.requests }) }
+        ensures err { OnErr result (self.new ≡ self.old) }
+        ensures keys { OnOk result (IsStrictlySortedBy tx_cmp (keys_of self.new.requests)) }
+    {
+        let request = Request {
+            touched,
+            votes: Votes::new(),
+            state: RequestState::Undecided,
+            acknowledged_by: ShardList::new(),
+            is_ended: false,
+        };
+        put_request(
+            self.alloc,
+            &mut self.requests,
+            &mut self.waiting,
+            &mut self.asked,
+            self.shard,
+            tx,
+            request,
+        )
+    }
+}
+
+/// The request of a commit that a restart found without an END. Takes no memory.
+fn restored_request(alloc: Global, parts: &ShardList) -> Request
+    ensures { result ≡ request_restored parts.now }
+{
+    Request {
+        touched: Touched::new(Vec::new(alloc)),
+        votes: Votes::new(),
+        state: RequestState::Committed {
+            parts: parts.copied(),
+        },
+        acknowledged_by: ShardList::new(),
+        is_ended: false,
+    }
+}
+
+/// The same state. Takes no memory.
+fn copied(state: &RequestState) -> RequestState
+    ensures { result ≡ state.now }
+{
+    match state {
+        RequestState::Undecided => RequestState::Undecided,
+        RequestState::Committed { parts } => RequestState::Committed {
+            parts: parts.copied(),
+        },
+        RequestState::Finished => RequestState::Finished,
+        RequestState::Refused { cause } => RequestState::Refused { cause: *cause },
+    }
+}
+
+/// The parts of a commit.
+fn told_parts(state: &RequestState) -> ShardList
+    ensures { result ≡ parts_of state.now }
+{
+    match state {
+        RequestState::Committed { parts } => parts.copied(),
+        RequestState::Undecided | RequestState::Finished | RequestState::Refused { .. } =>
+            ShardList::new(),
+    }
+}

@@ -1,0 +1,81 @@
+// Which requests wait, and the table of requests with its index of those and the names of all that have one.
+ghost use Rattle.std.specs.Prelude.{◌≡◌, ◌==◌, not, OnOk, OnErr};
+ghost use Rattle.std.specs.List.{list_any};
+ghost use Rattle.std.specs.List.Sorted.{IsStrictlySortedBy};
+ghost use Rattle.std.specs.Map.{keys_of};
+ghost use Rattle.clv_base.specs.Orders.{tx_cmp, tx_put};
+ghost use Rattle.two_phase_commit.specs.Asked.{AreAsked};
+ghost use Rattle.two_phase_commit.specs.Waiting.{waits as request_waits};
+ghost use Rattle.tx_table.specs.Index.{IsIndex};
+
+use crate::kept::Kept;
+use crate::memory::Memory;
+use crate::ruling::are_in;
+use clv_base::names::TxId;
+use clv_base::state::{Request, RequestState};
+use std::alloc::Global;
+use std::collections::BTreeMap;
+use tx_table::{TxIndex, TxTable};
+
+/// Whether one of these shards is another than this.
+fn touches_others(shard: u32, touched: &[(u32, u64)]) -> bool
+    ensures { result ≡ list_any (λ t. not (t.0 == shard)) touched.now }
+{
+    touched.iter().any(|part| part.0 != shard)
+}
+
+/// Whether a request waits: for votes of other shards, or for the acknowledgement of a part.
+pub(crate) fn waits(shard: u32, request: &Request) -> bool
+    ensures { result ≡ request_waits shard request.now }
+{
+    match &request.state {
+        RequestState::Undecided => touches_others(shard, request.touched.as_slice()),
+        RequestState::Committed { parts } => !are_in(parts, &request.acknowledged_by),
+        RequestState::Finished | RequestState::Refused { .. } => false,
+    }
+}
+
+/// Puts a request into the table, the transaction among those with one, and it into the index if it waits. Where there is no memory all stays.
+pub(crate) fn put_request(
+    alloc: Global,
+    requests: &mut BTreeMap<TxId, Kept>,
+    waiting: &mut TxIndex,
+    asked: &mut TxTable<()>,
+    shard: u32,
+    tx: TxId,
+    request: Request,
+) -> Result<(), Memory>
+    requires index { IsIndex (request_waits shard) requests.old.entries waiting.old }
+    requires asked { AreAsked asked.old.rows requests.old.entries }
+    ensures ok { OnOk result (requests.new.entries ≡ tx_put tx request requests.old.entries) }
+    ensures err { OnErr result (requests.new.entries ≡ requests.old.entries) }
+    ensures index { IsIndex (request_waits shard) requests.new.entries waiting.new }
+    ensures asked { AreAsked asked.new.rows requests.new.entries }
+    ensures keys { IsStrictlySortedBy tx_cmp (keys_of requests.new.entries) }
+{
+    let waits = waits(shard, &request);
+    let _all = requests.len();
+    let kept = match Kept::new(alloc, request) {
+        Ok(kept) => kept,
+        Err(memory) => return Err(memory),
+    };
+    match asked.reserve(1) {
+        Ok(()) => {}
+        Err(_) => return Err(Memory),
+    }
+    match waiting.insert_if(tx, waits) {
+        Ok(()) => {}
+        Err(_) => return Err(Memory),
+    }
+    asked.set(tx, ());
+    match requests.insert(tx, kept) {
+        Ok(_) => {
+            waiting.keep_if(tx, waits);
+            Ok(())
+        }
+        Err(_) => {
+            waiting.keep_if(tx, false);
+            Err(Memory)
+        }
+    }
+}

@@ -1,0 +1,135 @@
+//! The candidates.
+ghost use Rattle.std.specs.Prelude.{◌≡◌, ◌≤◌, ◌+◌, ◌||◌, [], ◌∷◌, length, map, max, OnOk, OnErr};
+ghost use Rattle.std.specs.List.Sorted.{IsStrictlySortedBy};
+ghost use Rattle.clv_base.specs.Orders.{tx_cmp, tx_in, tx_insert};
+ghost use Rattle.clv_base.specs.declared.names.TxId.{TxId as Tx};
+ghost use Rattle.tx_table.specs.Held.{HasRoomFor, least, but_least};
+
+use crate::sorted::{contains, insert};
+use clv_base::names::TxId;
+use std::alloc::{AllocError, Global};
+use std::marker::Model;
+
+/// Transactions, rising.
+#[derive(Drop)]
+pub struct Candidates {
+    txs: Vec<TxId>,
+    limit: usize,
+}
+
+impl Model for Candidates {
+    ghost use Rattle.std.specs.Prelude.{◌≤◌, vec_capacity, vec_len};
+    ghost use Rattle.std.specs.List.Sorted.{IsStrictlySortedBy};
+    ghost use Rattle.clv_base.specs.Orders.{tx_cmp};
+    ghost use Rattle.tx_table.specs.Held.{Candidates};
+
+    ghost Value = { Candidates };
+
+    ghost view = { λ c. record { txs = c.txs.items; limit = c.limit } };
+
+    ghost invariant = { λ c. IsStrictlySortedBy tx_cmp c.txs.items × (vec_len c.txs ≤ c.limit) × (c.limit ≤ vec_capacity c.txs) };
+}
+
+impl Candidates {
+    /// No candidate, and no room. Takes no memory.
+    pub fn new(alloc: Global) -> Self
+        ensures { (result.txs ≡ []) × (result.limit ≡ 0) }
+    {
+        Candidates {
+            txs: Vec::new(alloc),
+            limit: 0,
+        }
+    }
+
+    /// Makes room for so many candidates in all. Where there is no memory all stays.
+    pub fn reserve(&mut self, limit: usize) -> Result<(), AllocError>
+        ensures ok { OnOk result (self.new ≡ record self.old { limit = max self.old.limit limit }) }
+        ensures err { OnErr result (self.new ≡ self.old) }
+    {
+        if limit <= self.limit {
+            return Ok(());
+        }
+        let more = limit - self.txs.len();
+        self.txs.reserve(more)?;
+        self.limit = limit;
+        Ok(())
+    }
+
+    /// Makes room for so many candidates more. Where there is no memory all stays.
+    pub fn reserve_more(&mut self, count: usize) -> Result<(), AllocError>
+        ensures ok { OnOk result (self.new ≡ record self.old { limit = self.old.limit + count }) }
+        ensures err { OnErr result (self.new ≡ self.old) }
+    {
+        let Some(limit) = self.limit.checked_add(count) else {
+            return Err(AllocError);
+        };
+        let more = limit - self.txs.len();
+        self.txs.reserve(more)?;
+        self.limit = limit;
+        Ok(())
+    }
+
+    /// The least candidate.
+    pub fn first(&self) -> Option<TxId>
+        ensures first { result ≡ least self.now.txs }
+        ensures rise { IsStrictlySortedBy tx_cmp self.now.txs }
+        ensures few { length self.now.txs ≤ self.now.limit }
+    {
+        self.txs.first().copied()
+    }
+
+    /// The least candidate goes. Takes no memory.
+    pub fn leave_first(&mut self)
+        ensures { self.new ≡ record self.old { txs = but_least self.old.txs } }
+    {
+        if !self.txs.is_empty() {
+            self.txs.remove(0);
+        }
+    }
+
+    /// Nobody is a candidate any more. Takes no memory.
+    pub fn clear(&mut self)
+        ensures { self.new ≡ record self.old { txs = [] } }
+    {
+        self.txs.clear();
+    }
+
+    /// Whether the transaction is a candidate.
+    pub fn contains(&self, tx: TxId) -> bool
+        ensures { result ≡ tx_in tx self.now.txs }
+    {
+        contains(&self.txs, &tx)
+    }
+
+    /// The transaction is a candidate besides. Takes no memory.
+    pub fn insert(&mut self, tx: TxId)
+        requires { HasRoomFor (tx ∷ []) self.old }
+        ensures { self.new ≡ record self.old { txs = tx_insert tx self.old.txs } }
+    {
+        if !contains(&self.txs, &tx) {
+            insert(&mut self.txs, tx);
+        }
+    }
+
+    /// The transactions are candidates besides. Takes no memory.
+    pub fn insert_all(&mut self, txs: &[TxId])
+        requires { HasRoomFor txs.now self.old }
+        ensures txs { (x : Tx) → tx_in x self.new.txs ≡ (tx_in x txs.now || tx_in x self.old.txs) }
+        ensures limit { self.new.limit ≡ self.old.limit }
+    {
+        for tx in txs {
+            self.insert(*tx);
+        }
+    }
+
+    /// The second transactions of the pairs are candidates besides. Takes no memory.
+    pub fn insert_seconds(&mut self, pairs: &[(TxId, TxId)])
+        requires { HasRoomFor (map (λ p. p.1) pairs.now) self.old }
+        ensures txs { (x : Tx) → tx_in x self.new.txs ≡ (tx_in x (map (λ p. p.1) pairs.now) || tx_in x self.old.txs) }
+        ensures limit { self.new.limit ≡ self.old.limit }
+    {
+        for pair in pairs {
+            self.insert(pair.1);
+        }
+    }
+}

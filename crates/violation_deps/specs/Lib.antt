@@ -1,4 +1,0 @@
-pub mod Dependencies
-pub mod Pairs
-pub mod Marking
-pub mod Kept

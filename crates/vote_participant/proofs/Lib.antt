@@ -1,5 +1,0 @@
-pub mod Setting
-pub mod Restored
-pub mod Doubtful
-pub mod Waiting
-pub mod Laws

@@ -1,9 +1,0 @@
-use Rattle.std.proofs.Common.{◌+◌, ◌-◌, ◌++◌, ◌∙◌, ap, arith}
-use Rattle.workload.specs.Loads.{fill}
-use Rattle.workload.proofs.Lists.{grown, fill_more}
-use Rattle.workload.proofs.generating.filling.Goals as goal
-
-pub loop-account-preserved : goal.loop-account-preserved
-loop-account-preserved c =
-    ap (λ items. items ++ fill (c.loop-account.account + 1) (c.args.accounts - (c.loop-account.account + 1))) c.in_ok-push.ensures.items
-    ∙ grown _ _ _ _ _ c.loop-account.invariant (fill_more c.args.accounts c.loop-account.account (omega arith))

@@ -1,6 +1,0 @@
-use Rattle.std.proofs.Common.{◌≡◌, ◌++◌, ◌-◌}
-use Rattle.workload.specs.Loads.{fill}
-use Rattle.workload.proofs.generating.filling.Given as goal
-
-abbrev pub invariant-loop-account : goal.invariant-loop-account
-invariant-loop-account l = l.actions.items ++ fill l.account (l.accounts - l.account) ≡ fill 0 l.accounts

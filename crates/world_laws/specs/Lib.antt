@@ -1,5 +1,0 @@
-pub mod Moves
-pub mod Fronts
-pub mod Running
-pub mod PromiseLaws
-pub mod Laws
