@@ -238,11 +238,10 @@ each_leaves_less s t e = from_less s t (subst (λ o. LessWork s o) e (next s))
 
 -- ---- the end
 
-do_due_at : ℕ → Shard → Option Shard → Shard
+abbrev pub do_due_at : ℕ → Shard → Option Shard → Shard
 do_due_at n s o = elim o [ Some t ↦ do_due n t | None ↦ s ]
 
 settled_by : (n : ℕ) (s : Shard) (o : Option Shard) → next_due s ≡ o → LessWork s o → work s ≤ suc n → ((t : Shard) → work t ≤ n → next_due (do_due n t) ≡ None) → next_due (do_due_at n s o) ≡ None
-unfolding do_due_at
 settled_by n s None e l h k = e
 settled_by n s (Some t) e (less w) h k = k t (omega arith)
 
@@ -251,7 +250,6 @@ nothing_at_zero s None e l h = e
 nothing_at_zero s (Some t) e (less w) h = absurd (omega arith)
 
 settles : (n : ℕ) (s : Shard) → work s ≤ n → next_due (do_due n s) ≡ None
-unfolding do_due_at
 settles zero s h = nothing_at_zero s (next_due s) refl (next s) h
 settles (suc n) s h = settled_by n s (next_due s) refl (next s) h (settles n)
 

@@ -33,7 +33,7 @@ use Rattle.clv_base.specs.Coordinator.{others, takes_vote, takes_done, ask_answe
 use Rattle.clv_base.specs.OneShard.{OpReply, OpWaits, OpCrowded, OpDies, OpAnswers, op_reply, seen_fits, close_part, drop_part}
 use Rattle.clv_base.specs.Due.{send, or_else, with_commit_done, commit_due, with_vote, finish_reader, give_vote, vote_due, with_ruling, do_ruling, rule, request_due, due_of, first_due, known_txs, next_due, do_due, with_due_done, work}
 use Rattle.clv_base.specs.Events.{Reply, QuietBeforeWorn, QuietAfterWorn, Does, finish, op_event, is_alone, epoch_in, coordinate, request_by_stage, request_event, request_epoch, look_lost, look_state, look_known, drop_event, owe_vote, on_prepare, with_votes, on_vote, decided, on_decide, with_done, on_done, ask_messages, on_message, to_of, with_outbox, send_event, remind_with, reminders, taken, with_flight, out_event, put_down, happen_up, happen}
-use Rattle.law_base.proofs.Due.{do_due_at}
+use Rattle.clv_base.proofs.Settling.{do_due_at}
 
 -- ---- what is due
 

@@ -11,11 +11,11 @@ pub mod Anchors
 pub mod Changed
 pub mod Rows
 pub mod LockRows
+pub mod Rising
 pub mod Sets
 pub mod Successors
 pub mod Doubts
 pub mod Stages
-pub mod Due
 pub mod Names
 pub mod Shards
 pub mod Numbers

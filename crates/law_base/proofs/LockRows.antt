@@ -169,9 +169,6 @@ all_gives f p a tx birth (n ∷ ns) locks e =
 
 -- ---- a gap is split
 
-copy_row : Anchor → Anchor → Anchor × Holder → Locks → Locks
-copy_row lower new r locks = cond (holds_gap lower r) (take_one new (gap_alone r.1) locks) locks
-
 copy_keeps : (f : Bool) (p : Part) (b : Anchor) (u : TxId) (lower new : Anchor) (rs locks : Locks) → holds f p b u locks ≡ true → holds f p b u (copy_gaps lower new rs locks) ≡ true
 copy_keeps f p b u lower new [] locks e = e
 copy_keeps f p b u lower new (r ∷ rs) locks e =

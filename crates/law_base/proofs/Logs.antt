@@ -25,7 +25,7 @@ use Rattle.law_base.proofs.Undoing.{standing_append}
 use Rattle.clv_base.specs.Folding.{IsRising}
 use Rattle.clv_base.proofs.Folding.{rising_set}
 use Rattle.law_base.proofs.Shards.{FromHistory}
-use Rattle.law_base.proofs.Names.{listed_have, all_without, lock_of, lock_case, IsThere, ghost_keeps, own_lock, own_ghost}
+use Rattle.law_base.proofs.Names.{listed_have, all_without, shut_lock, lock_case, IsThere, ghost_keeps, own_lock, own_ghost}
 use Rattle.law_base.proofs.Lists.{all_append}
 use Rattle.clv_base.specs.declared.modes.Part.TheVariants.{X}
 use Rattle.clv_base.specs.declared.modes.Anchor.TheVariants.{At}
@@ -268,7 +268,7 @@ standing_all log n (Restart run epoch ∷ rs) ws h all = standing_all log (suc n
 
 pub locks_keep : (txs : List TxId) (log : List LogRecord) (locks : Locks) (t : TxId) (q : ℕ) → holds true X (At q) t locks ≡ true → holds true X (At q) t (restored_locks txs log locks) ≡ true
 locks_keep txs [] locks t q h = h
-locks_keep txs (Update tx key b a ∷ rs) locks t q h = locks_keep txs rs (cond (tx_in tx txs) (take_one (At key) (lock_of tx) locks) locks) t q (lock_case txs tx key locks t q h)
+locks_keep txs (Update tx key b a ∷ rs) locks t q h = locks_keep txs rs (cond (tx_in tx txs) (take_one (At key) (shut_lock tx) locks) locks) t q (lock_case txs tx key locks t q h)
 locks_keep txs (Clr tx u k a ∷ rs) locks t q h = locks_keep txs rs locks t q h
 locks_keep txs (Prepare tx home ps ∷ rs) locks t q h = locks_keep txs rs locks t q h
 locks_keep txs (Commit tx ps ∷ rs) locks t q h = locks_keep txs rs locks t q h
@@ -293,8 +293,8 @@ standing_updates log = standing_all log 0 log [] (λ t q e. e) tt
 pub locks_hold : (txs : List TxId) (log : List LogRecord) (locks : Locks) (t : TxId) (q : ℕ) → tx_in t txs ≡ true → has_update log t q ≡ true → holds true X (At q) t (restored_locks txs log locks) ≡ true
 locks_hold txs [] locks t q i e = absurd (both_ways false refl e)
 locks_hold txs (Update tx key b a ∷ rs) locks t q i e =
-    ⊎_elim (λ h. locks_keep txs rs (cond (tx_in tx txs) (take_one (At key) (lock_of tx) locks) locks) t q (own_lock txs tx key locks t q i h))
-    (λ h. locks_hold txs rs (cond (tx_in tx txs) (take_one (At key) (lock_of tx) locks) locks) t q i h) (or_cases (tx_same t tx && (q == key)) (has_update rs t q) e)
+    ⊎_elim (λ h. locks_keep txs rs (cond (tx_in tx txs) (take_one (At key) (shut_lock tx) locks) locks) t q (own_lock txs tx key locks t q i h))
+    (λ h. locks_hold txs rs (cond (tx_in tx txs) (take_one (At key) (shut_lock tx) locks) locks) t q i h) (or_cases (tx_same t tx && (q == key)) (has_update rs t q) e)
 locks_hold txs (Clr tx u k a ∷ rs) locks t q i e = locks_hold txs rs locks t q i e
 locks_hold txs (Prepare tx home ps ∷ rs) locks t q i e = locks_hold txs rs locks t q i e
 locks_hold txs (Commit tx ps ∷ rs) locks t q i e = locks_hold txs rs locks t q i e

@@ -1,7 +1,6 @@
 -- Lemmas of names, locks and parts.
-use Rattle.std.proofs.Common.{◌≡◌, Option, Some, List, ◌∷◌, None, [], ap, true, ℕ, map, ◌==◌, refl, ◌∙◌, eq-eqb, false, subst, ◌<◌, sym, cond, Bool, ◌⊎◌, ⊎_elim, ◌||◌, ◌++◌, not, ◌&&◌, length, ◌+◌, ◌≤◌, arith, eqb-true}
+use Rattle.std.proofs.Common.{◌≡◌, Option, Some, List, ◌∷◌, None, [], ap, true, ℕ, map, ◌==◌, refl, ◌∙◌, eq-eqb, false, subst, ◌<◌, sym, cond, Bool, ◌⊎◌, ⊎_elim, ◌||◌, ◌++◌, not, ◌&&◌, length, ◌≤◌, arith, eqb-true}
 use Rattle.clv_base.specs.declared.names.Birth.{Birth}
-use Rattle.std.specs.List.Sorted.{IsStrictlySortedBy}
 use Rattle.clv_base.specs.declared.names.TxId.{TxId}
 use Rattle.clv_base.specs.Orders.{tx_cmp, tx_same, tx_in, Table, tx_get, tx_insert, pair_cmp, pair_insert, anchor_same, anchor_cmp, birth_cmp}
 use Rattle.clv_base.specs.declared.ops.Op.{Op}
@@ -13,7 +12,7 @@ use Rattle.std.specs.declared.cmp.Ordering.TheVariants.{Less, Equal, Greater}
 use Rattle.std.specs.Ordering.{is_eq, match_ordering, nat_cmp, ordering_then}
 use Rattle.clv_base.proofs.SameNames.{tx_self, or_left, or_right, tx_true, tx_eq, in_insert, insert_keeps, insert_has, tx_flip}
 use Rattle.law_base.proofs.Lists.{all_mono}
-use Rattle.law_base.proofs.Sets.{same_flip as tx_symmetric}
+pub use Rattle.law_base.proofs.Sets.{Rise, one_rises, in_flipped}
 use Rattle.clv_base.specs.declared.messages.Message.{Message}
 use Rattle.clv_base.specs.declared.messages.Message.TheVariants.{Decide}
 use Rattle.clv_base.specs.declared.state.RequestState.{RequestState}
@@ -57,9 +56,6 @@ use Rattle.clv_base.specs.declared.modes.Found.TheVariants.{Live, Ghost, Absent}
 
 pub birth_same : (a b : Birth) → ◌≡◌ {A = Option Birth} (Some a) (Some b) → a ≡ b
 birth_same a b h = cc
-
-abbrev pub Rise : List TxId → Type 0
-Rise ts = IsStrictlySortedBy tx_cmp ts
 
 abbrev pub with_op : Option (Op × Answer) → List (Op × Answer) → List (Op × Answer)
 with_op o ps = elim o as (λ z. List (Op × Answer)) [ Some p ↦ p ∷ ps | None ↦ ps ]
@@ -254,9 +250,6 @@ restored_there (x ∷ xs) t i = at (tx_same t x) refl (restored_there xs t)
     at true e k = ap (λ z. Some (restored_part z)) (sym (tx_true t x e))
     at false e k = k (⊎_elim (λ h. absurd (both_ways _ e (tx_flip x t h))) (λ h. h) (or_cases (tx_same x t) (tx_in t xs) i))
 
-abbrev pub lock_of : TxId → Holder
-lock_of t = record { tx = t; birth = old_birth t; mode = on_key X; closed = true }
-
 abbrev pub IsThere : ℕ → Records → Type 0
 IsThere q rs = record_at q rs ≡ None → ⊥
 
@@ -264,13 +257,18 @@ pub set_some : (q k : ℕ) (rs : Records) (b : Bool) (o : Option (Option ℕ)) �
 set_some q k rs true o h e = absurd cc
 set_some q k rs false o h e = h refl e
 
-pub one_rises : (tx : TxId) → IsStrictlySortedBy tx_cmp (tx ∷ [])
-unfolding IsStrictlySortedBy
-one_rises tx = (tt, tt)
-
 pub not_above : {V : Type 0} (t : TxId) (rs : Table V) → AllAbove t (keys_of rs) → tx_get t rs ≡ None
 not_above t [] a = refl
 not_above t (p ∷ ps) a = ap (λ c. cond (is_eq c) (Some p.1) (tx_get t ps)) a.0 ∙ not_above t ps a.1
+
+pub falls_weaker : (n m : ℕ) (ws : List StandingUpdate) → n ≤ m → Falls n ws → Falls m ws
+falls_weaker n m [] le falls = tt
+falls_weaker n m (w ∷ ws) le falls = (omega arith, falls.1)
+
+pub falls_without : (tx : TxId) (n : ℕ) (ws : List StandingUpdate) → Falls n ws → Falls n (without_newest tx ws)
+falls_without tx n [] falls = tt
+falls_without tx n (w ∷ ws) falls =
+    cond_both (tx_same tx w.tx) ws (w ∷ without_newest tx ws) (Falls n) (λ e. falls_weaker w.lsn n ws (omega arith) falls.1) (λ e. (falls.0, falls_without tx w.lsn ws falls.1))
 
 pub falls_length : (n : ℕ) (ws : List StandingUpdate) → Falls n ws → length ws ≤ n
 falls_length n [] f = omega arith
@@ -280,26 +278,16 @@ pub preds_add : (x tx : TxId) (qs : List TxId) (pairs : List (TxId × TxId)) →
 preds_add x tx [] pairs other = refl
 preds_add x tx (q ∷ qs) pairs other = preds_add x tx qs (pair_insert (tx, q) pairs) other ∙ preds_insert x tx q pairs other
 
-pub above_all_in : (t x : TxId) (ts : List TxId) → AllAbove t ts → tx_in x ts ≡ true → tx_cmp t x ≡ Less
-above_all_in t x [] a i = absurd (both_ways false refl i)
-above_all_in t x (u ∷ us) a i = ⊎_elim (λ h. subst (λ z. tx_cmp t z ≡ Less) (tx_true u x h) a.0) (λ h. above_all_in t x us a.1 h) (or_cases (tx_same u x) (tx_in x us) i)
+pub lock_case : (txs : List TxId) (tx : TxId) (key : ℕ) (locks : Locks) (t : TxId) (q : ℕ) → holds true X (At q) t locks ≡ true → holds true X (At q) t (cond (tx_in tx txs) (take_one (At key) (shut_lock tx) locks) locks) ≡ true
+lock_case txs tx key locks t q h = cond_both (tx_in tx txs) (take_one (At key) (shut_lock tx) locks) locks (λ l. holds true X (At q) t l ≡ true) (λ e. take_keeps true X (At q) t (At key) (shut_lock tx) locks h) (λ e. h)
 
-pub above_out : (t : TxId) (xs : List TxId) → AllAbove t xs → tx_in t xs ≡ false
-above_out t [] a = refl
-above_out t (x ∷ xs) a = false_from_ne_true _ (λ i. ⊎_elim
-    (λ s. both_ways _ (ap is_eq a.0) (tx_flip x t s))
-    (λ j. both_ways _ (above_out t xs a.1) j) (or_cases (tx_same x t) (tx_in t xs) i))
-
-pub lock_case : (txs : List TxId) (tx : TxId) (key : ℕ) (locks : Locks) (t : TxId) (q : ℕ) → holds true X (At q) t locks ≡ true → holds true X (At q) t (cond (tx_in tx txs) (take_one (At key) (lock_of tx) locks) locks) ≡ true
-lock_case txs tx key locks t q h = cond_both (tx_in tx txs) (take_one (At key) (lock_of tx) locks) locks (λ l. holds true X (At q) t l ≡ true) (λ e. take_keeps true X (At q) t (At key) (lock_of tx) locks h) (λ e. h)
-
-pub own_lock : (txs : List TxId) (tx : TxId) (key : ℕ) (locks : Locks) (t : TxId) (q : ℕ) → tx_in t txs ≡ true → (tx_same t tx && (q == key)) ≡ true → holds true X (At q) t (cond (tx_in tx txs) (take_one (At key) (lock_of tx) locks) locks) ≡ true
+pub own_lock : (txs : List TxId) (tx : TxId) (key : ℕ) (locks : Locks) (t : TxId) (q : ℕ) → tx_in t txs ≡ true → (tx_same t tx && (q == key)) ≡ true → holds true X (At q) t (cond (tx_in tx txs) (take_one (At key) (shut_lock tx) locks) locks) ≡ true
 own_lock txs tx key locks t q i e =
     let p = and_parts (tx_same t tx) (q == key) e in
     let same : t ≡ tx = tx_true t tx p.0 in
     let at : q ≡ key = eqb-true q key p.1 in
-    subst (λ l. holds true X (At q) t l ≡ true) (sym (cond-true (tx_in tx txs) (take_one (At key) (lock_of tx) locks) locks (subst (λ z. tx_in z txs ≡ true) same i)))
-    (subst (λ z. holds true X (At q) z (take_one (At key) (lock_of tx) locks) ≡ true) (sym same) (subst (λ k. holds true X (At k) tx (take_one (At key) (lock_of tx) locks) ≡ true) (sym at) (take_gives true X (At key) (lock_of tx) locks refl)))
+    subst (λ l. holds true X (At q) t l ≡ true) (sym (cond-true (tx_in tx txs) (take_one (At key) (shut_lock tx) locks) locks (subst (λ z. tx_in z txs ≡ true) same i)))
+    (subst (λ z. holds true X (At q) z (take_one (At key) (shut_lock tx) locks) ≡ true) (sym same) (subst (λ k. holds true X (At k) tx (take_one (At key) (shut_lock tx) locks) ≡ true) (sym at) (take_gives true X (At key) (shut_lock tx) locks refl)))
 
 pub ghost_keeps : (k q : ℕ) (rs : Records) (f : Found) → IsThere q rs → IsThere q (ghost_if_absent k rs f)
 ghost_keeps k q rs (Live v) h = h
@@ -322,11 +310,6 @@ own_ghost txs tx key rs t q i e =
     let p = and_parts (tx_same t tx) (q == key) e in
     subst (IsThere q) (sym (cond-true (tx_in tx txs) (ghost_if_absent key rs (found_at key rs)) rs (subst (λ z. tx_in z txs ≡ true) (tx_true t tx p.0) i)))
     (subst (λ k. IsThere k (ghost_if_absent key rs (found_at key rs))) (sym (eqb-true q key p.1)) (ghost_there key rs (found_at key rs) refl))
-
--- the two ways in which members are asked for
-pub in_flipped : (t : TxId) (xs : List TxId) → list_any (tx_same t) xs ≡ tx_in t xs
-in_flipped t [] = refl
-in_flipped t (x ∷ xs) = ap (λ b. b || list_any (tx_same t) xs) (tx_symmetric t x) ∙ ap (λ b. tx_same x t || b) (in_flipped t xs)
 
 or_cond : (a b : Bool) → (a || b) ≡ cond a true b
 or_cond true b = refl

@@ -1,5 +1,5 @@
 -- An Option that is none, and Options of numbers that are the same.
-use Rattle.std.proofs.Common.{◌≡◌, refl, false, Option, Some, None, is_none, true, ℕ, ◌-◌, ap, eqb-true, eq-eqb, ◌∙◌, sym, Result, Ok, Err, ◌≤◌, arith, subst}
+use Rattle.std.proofs.Common.{◌≡◌, refl, false, Option, Some, None, is_none, true, ℕ, ap, eqb-true, eq-eqb, ◌∙◌, sym, Result, Ok, Err, ◌≤◌, arith, subst}
 use Rattle.std.proofs.lemmas.Bool.{both_ways}
 use Rattle.clv_base.specs.LogRules.{same_option}
 use Rattle.std.specs.Prelude.{OnOk, is_some}
@@ -30,6 +30,9 @@ some_once {A} x y o a b = let k : ◌≡◌ {A = Option A} (Some x) (Some y) = s
 
 pub some_inj : {A : Type 0} (x y : A) → Some x ≡ Some y → x ≡ y
 some_inj x y h = cc
+
+pub ok_inj : {A E : Type 0} (x y : A) → ◌≡◌ {A = Result A E} (Ok x) (Ok y) → x ≡ y
+ok_inj x y h = cc
 
 pub on_success : {A E : Type 0} (r : Result A E) (P Q : Type 0) → (P → Q) → OnOk r P → OnOk r Q
 on_success (Ok a) P Q f p = f p

@@ -1,17 +1,25 @@
 -- Lists of transactions that rise, what is in one, and what a filter keeps of it.
-use Rattle.std.proofs.Common.{◌≡◌, ⊎_elim, Bool, true, false, cond, not, ◌&&◌, List, [], ◌∷◌, refl, sym, ap, subst, ◌∙◌, ◌⊎◌}
-use Rattle.std.specs.List.{AllByRecursion, filter, list_all}
-use Rattle.std.specs.declared.cmp.Ordering.{Ordering}
-use Rattle.std.specs.declared.cmp.Ordering.TheVariants.{Less, Equal, Greater}
-use Rattle.std.specs.Ordering.{match_ordering, is_eq, ordering_reverse}
+use Rattle.std.proofs.Common.{◌≡◌, ⊎_elim, Bool, true, false, cond, not, ◌&&◌, ◌||◌, ℕ, zero, suc, List, [], ◌∷◌, refl, sym, ap, subst, ◌∙◌}
+use Rattle.std.specs.List.{AllByRecursion, filter, list_all, list_any}
+use Rattle.std.specs.List.Sorted.{IsStrictlySortedBy}
+use Rattle.std.specs.declared.cmp.Ordering.TheVariants.{Less, Greater}
+use Rattle.std.specs.Ordering.{is_eq, ordering_reverse}
 use Rattle.std.specs.Cmp.{IsTotalOrder}
 use Rattle.std.proofs.lemmas.Cmp.{then_total, on_total, nat_cmp_total}
 use Rattle.std.proofs.lemmas.Bool.{both_ways, or_cases, cond_both, false_from_ne_true, and_parts}
+use Rattle.std.proofs.lemmas.List.Kept.{IsStrictlySortedBy-filter}
+use Rattle.std.proofs.lemmas.Map.Lookups.{btree_set_from_contains}
 use Rattle.clv_base.specs.declared.names.TxId.{TxId}
+use Rattle.clv_base.specs.declared.logs.LogRecord.{LogRecord}
+use Rattle.clv_base.specs.declared.logs.LogRecord.TheVariants.{Update, Clr, Prepare, Commit, Abort, End, Restart}
 use Rattle.clv_base.specs.Orders.{tx_cmp, tx_same, tx_in, tx_insert, tx_union}
-use Rattle.clv_base.specs.Logs.{StandingUpdate, writers, without_newest}
+use Rattle.clv_base.specs.Logs.{StandingUpdate, writers, without_newest, standing, is_winner, doubt_by, in_doubt_from, in_doubt}
+use Rattle.clv_base.specs.Facts.{predecessors_of}
+use Rattle.clv_base.specs.Restarts.{losers}
+use Rattle.clv_base.specs.Undo.{with_successors, successors_through}
 use Rattle.clv_base.proofs.SameNames.{or_left, or_right, tx_true, tx_self, in_insert, insert_keeps, insert_has, tx_flip}
 use Rattle.law_base.proofs.Lists.{all_mono}
+use Rattle.law_base.proofs.Rising.{insert_key-rises}
 
 -- ---- the order of transactions
 
@@ -26,46 +34,68 @@ less_from_greater a b e = tx_total.antisymm b a ∙ ap ordering_reverse e
 abbrev pub AllAbove : TxId → List TxId → Type 0
 AllAbove t xs = AllByRecursion (λ x. tx_cmp t x ≡ Less) xs
 
-abbrev pub Rises : List TxId → Type 0
-Rises [] = Unit {0}
-Rises (x ∷ xs) = AllAbove x xs × Rises xs
+abbrev pub Rise : List TxId → Type 0
+Rise ts = IsStrictlySortedBy tx_cmp ts
 
 pub above_more : (a b : TxId) (xs : List TxId) → tx_cmp a b ≡ Less → AllAbove b xs → AllAbove a xs
-above_more a b [] l h = tt
-above_more a b (x ∷ xs) l h = (tx_total.trans a b x l h.0, above_more a b xs l h.1)
+above_more a b xs l h = all_mono _ _ (λ x k. tx_total.trans a b x l k) xs h
 
-above_case : (o : Ordering) (a t y : TxId) (xs ys : List TxId) → tx_cmp a t ≡ Less → AllAbove a (y ∷ xs) → AllAbove a ys → AllAbove a (match_ordering o (t ∷ y ∷ xs) (y ∷ xs) (y ∷ ys))
-above_case Less a t y xs ys l h k = (l, h)
-above_case Equal a t y xs ys l h k = h
-above_case Greater a t y xs ys l h k = (h.0, k)
+pub nothing_rises : Rise []
+unfolding IsStrictlySortedBy
+nothing_rises = tt
 
-pub above_insert : (a t : TxId) (xs : List TxId) → tx_cmp a t ≡ Less → AllAbove a xs → AllAbove a (tx_insert t xs)
-above_insert a t [] l h = (l, tt)
-above_insert a t (y ∷ ys) l h = above_case (tx_cmp t y) a t y ys (tx_insert t ys) l h (above_insert a t ys l h.1)
+pub one_rises : (tx : TxId) → Rise (tx ∷ [])
+unfolding IsStrictlySortedBy
+one_rises tx = (tt, tt)
 
-rises_case : (o : Ordering) (t y : TxId) (xs ys : List TxId) → tx_cmp t y ≡ o → Rises (y ∷ xs) → (o ≡ Greater → AllAbove y ys) → Rises ys → Rises (match_ordering o (t ∷ y ∷ xs) (y ∷ xs) (y ∷ ys))
-rises_case Less t y xs ys e h k r = ((e, above_more t y xs e h.0), h)
-rises_case Equal t y xs ys e h k r = h
-rises_case Greater t y xs ys e h k r = (k refl, r)
+pub insert_rises : (t : TxId) (xs : List TxId) → Rise xs → Rise (tx_insert t xs)
+insert_rises t xs h = insert_key-rises tx_total t xs h
 
-pub insert_rises : (t : TxId) (xs : List TxId) → Rises xs → Rises (tx_insert t xs)
-insert_rises t [] h = (tt, tt)
-insert_rises t (y ∷ ys) h =
-    rises_case (tx_cmp t y) t y ys (tx_insert t ys) refl h (λ g. above_insert y t ys (less_from_greater t y g) h.0) (insert_rises t ys h.1)
+pub union_rises : (xs ys : List TxId) → Rise ys → Rise (tx_union xs ys)
+union_rises [] ys h = h
+union_rises (x ∷ xs) ys h = insert_rises x (tx_union xs ys) (union_rises xs ys h)
 
-pub writers_rise : (ws : List StandingUpdate) → Rises (writers ws)
-writers_rise [] = tt
+pub writers_rise : (ws : List StandingUpdate) → Rise (writers ws)
+writers_rise [] = nothing_rises
 writers_rise (w ∷ ws) = insert_rises w.tx (writers ws) (writers_rise ws)
 
-above_filter : (f : TxId → Bool) (a : TxId) (xs : List TxId) → AllAbove a xs → AllAbove a (filter f xs)
-above_filter f a [] h = tt
-above_filter f a (x ∷ xs) h = cond_both (f x) (x ∷ filter f xs) (filter f xs) (AllAbove a) (λ e. (h.0, above_filter f a xs h.1)) (λ e. above_filter f a xs h.1)
+pub losers_rise : (shard : ℕ) (log : List LogRecord) → Rise (losers shard log)
+losers_rise shard log = IsStrictlySortedBy-filter tx_cmp (λ t. not (is_winner shard log t)) (writers (standing log)) (writers_rise (standing log))
 
-pub filter_rises : (f : TxId → Bool) (xs : List TxId) → Rises xs → Rises (filter f xs)
-filter_rises f [] h = tt
-filter_rises f (x ∷ xs) h = cond_both (f x) (x ∷ filter f xs) (filter f xs) Rises (λ e. (above_filter f x xs h.0, filter_rises f xs h.1)) (λ e. filter_rises f xs h.1)
+insert_if : (b : Bool) (t : TxId) (xs : List TxId) → Rise xs → Rise (cond b (tx_insert t xs) xs)
+insert_if true t xs h = insert_rises t xs h
+insert_if false t xs h = h
 
-less_not_same : (a b : TxId) → tx_cmp a b ≡ Less → tx_same b a ≡ false
+doubts_from : (log : List LogRecord) (shard : ℕ) (rs : List LogRecord) (ts : List TxId) → Rise ts → Rise (in_doubt_from log shard rs ts)
+doubts_from log shard [] ts h = h
+doubts_from log shard (Prepare tx home ps ∷ rs) ts h = doubts_from log shard rs _ (insert_if (doubt_by log shard tx home ps ts) tx ts h)
+doubts_from log shard (Update tx k b a ∷ rs) ts h = doubts_from log shard rs ts h
+doubts_from log shard (Clr tx u k a ∷ rs) ts h = doubts_from log shard rs ts h
+doubts_from log shard (Commit tx ps ∷ rs) ts h = doubts_from log shard rs ts h
+doubts_from log shard (Abort tx ∷ rs) ts h = doubts_from log shard rs ts h
+doubts_from log shard (End tx ∷ rs) ts h = doubts_from log shard rs ts h
+doubts_from log shard (Restart run epoch ∷ rs) ts h = doubts_from log shard rs ts h
+
+pub doubts_rise : (shard : ℕ) (log : List LogRecord) → Rise (in_doubt shard log)
+doubts_rise shard log = doubts_from log shard log [] nothing_rises
+
+pub with_successors_rise : (ps : List (TxId × TxId)) (set so_far : List TxId) → Rise so_far → Rise (with_successors ps set so_far)
+with_successors_rise [] set so_far h = h
+with_successors_rise (p ∷ ps) set so_far h = with_successors_rise ps set _ (insert_if (tx_in p.1 set) p.0 so_far h)
+
+pub through_rises : (n : ℕ) (ps : List (TxId × TxId)) (set : List TxId) → Rise set → Rise (successors_through n ps set)
+through_rises zero ps set h = h
+through_rises (suc n) ps set h = through_rises n ps (with_successors ps set set) (with_successors_rise ps set set h)
+
+pub predecessors_rise : (pairs : List (TxId × TxId)) (tx : TxId) → Rise (predecessors_of pairs tx)
+predecessors_rise [] tx = nothing_rises
+predecessors_rise (p ∷ ps) tx = at (tx_same tx p.0) (predecessors_rise ps tx)
+  where
+    at : (b : Bool) → Rise (predecessors_of ps tx) → Rise (elim b [ true ↦ tx_insert p.1 (predecessors_of ps tx) | false ↦ predecessors_of ps tx ])
+    at true h = insert_rises p.1 (predecessors_of ps tx) h
+    at false h = h
+
+pub less_not_same : (a b : TxId) → tx_cmp a b ≡ Less → tx_same b a ≡ false
 less_not_same a b l = false_from_ne_true _ (λ e. both_ways _ (ap is_eq l) (subst (λ z. tx_same a z ≡ true) (sym (tx_true b a e)) (tx_self a)))
 
 -- the first of a list that rises stands nowhere later in it
@@ -169,3 +199,13 @@ each_writer (w ∷ ws) = (insert_has w.tx (writers ws), all_mono _ _ (λ v h. in
 pub union_right : (x : TxId) (xs ys : List TxId) → tx_in x ys ≡ true → tx_in x (tx_union xs ys) ≡ true
 union_right x [] ys i = i
 union_right x (u ∷ us) ys i = insert_keeps u x (tx_union us ys) (union_right x us ys i)
+
+-- the two ways in which members are asked for
+pub in_flipped : (t : TxId) (xs : List TxId) → list_any (tx_same t) xs ≡ tx_in t xs
+in_flipped t [] = refl
+in_flipped t (x ∷ xs) = ap (λ b. b || list_any (tx_same t) xs) (same_flip t x) ∙ ap (λ b. tx_same x t || b) (in_flipped t xs)
+
+-- two that rise and have the same members
+pub same_list : (xs ys : List TxId) → Rise xs → Rise ys → ((t : TxId) → tx_in t xs ≡ tx_in t ys) → xs ≡ ys
+same_list xs ys s r same =
+    btree_set_from_contains tx_total (record { keys = xs }) (record { keys = ys }) s r (λ q. in_flipped q xs ∙ same q ∙ sym (in_flipped q ys)) (λ a b e. tx_true a b (ap is_eq e))

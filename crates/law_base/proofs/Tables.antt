@@ -1,9 +1,13 @@
 -- Tables by transactions, and pairs of successors and predecessors.
-use Rattle.std.proofs.Common.{◌≡◌, ◌⊎◌, inl, inr, ⊎_elim, Bool, true, false, cond, not, ◌&&◌, ◌||◌, List, [], ◌∷◌, map, Option, Some, None, refl, sym, ap, subst, ◌∙◌}
+use Rattle.std.proofs.Common.{◌≡◌, ◌⊎◌, inl, inr, ⊎_elim, Bool, true, false, cond, not, ◌&&◌, ◌||◌, List, [], ◌∷◌, ◌++◌, map, Option, Some, None, refl, sym, ap, subst, ◌∙◌}
 use Rattle.std.specs.List.{list_any}
 use Rattle.std.specs.declared.cmp.Ordering.{Ordering}
 use Rattle.std.specs.declared.cmp.Ordering.TheVariants.{Less, Equal, Greater}
-use Rattle.std.specs.Ordering.{ordering_then, match_ordering, is_eq}
+use Rattle.std.specs.Ordering.{ordering_then, match_ordering, ordering_reverse, is_eq}
+use Rattle.std.specs.List.Sorted.{IsStrictlySortedBy}
+use Rattle.std.specs.Map.{keys_of}
+use Rattle.std.specs.BTreeMap.{insert_entry}
+use Rattle.law_base.proofs.Sets.{tx_total, AllAbove}
 use Rattle.std.proofs.lemmas.Bool.{both_ways, cond_both, cond-true, or_cases, and_parts, and_from}
 use Rattle.clv_base.specs.declared.names.TxId.{TxId}
 use Rattle.clv_base.specs.Orders.{Table, pair_cmp, pair_insert, tx_cmp, tx_same, tx_in, tx_insert, tx_get, tx_put}
@@ -40,6 +44,20 @@ cmp_apart a b e s = both_ways (tx_same a b) (ap is_eq e) (tx_eq a b s)
 pub get_put : {V : Type 0} (t u : TxId) (x : V) (rs : Table V) → tx_get u (tx_put t x rs) ≡ cond (tx_same u t) (Some x) (tx_get u rs)
 get_put t u x [] = refl
 get_put t u x (r ∷ rs) = put_case (tx_cmp t r.0) t u x r rs (tx_put t x rs) (cmp_same t r.0) (cmp_apart t r.0) (get_put t u x rs)
+
+-- ---- rising rows put in one after another stand in their order
+
+above_one : {V : Type 0} (p t : TxId) (v : V) (xs rest : Table V) → AllAbove p (keys_of (xs ++ (t, v) ∷ rest)) → tx_cmp t p ≡ Greater
+above_one p t v [] rest a = tx_total.antisymm t p ∙ ap ordering_reverse a.0
+above_one p t v (x ∷ xs) rest a = above_one p t v xs rest a.1
+
+-- where the next one goes behind all that are in
+pub put_last : {V : Type 0} (t : TxId) (v : V) (xs rest : Table V) → IsStrictlySortedBy tx_cmp (keys_of (xs ++ (t, v) ∷ rest)) → insert_entry tx_cmp xs t v ++ rest ≡ xs ++ (t, v) ∷ rest
+unfolding IsStrictlySortedBy
+put_last t v [] rest s = refl
+put_last t v (p ∷ ps) rest s =
+    ap (λ o. match_ordering o ((t, v) ∷ p ∷ ps) ((p.0, v) ∷ ps) (p ∷ insert_entry tx_cmp ps t v) ++ rest) (above_one p.0 t v ps rest s.0)
+    ∙ ap (λ l. p ∷ l) (put_last t v ps rest s.1)
 
 -- ---- stages
 

@@ -8,17 +8,16 @@ use Rattle.clv_base.specs.declared.ops.Op.TheVariants.{Get, Put, Del, Scan}
 use Rattle.clv_base.specs.declared.logs.LogRecord.{LogRecord}
 use Rattle.clv_base.specs.declared.logs.LogRecord.TheVariants.{Clr, Abort}
 use Rattle.clv_base.specs.Orders.{tx_same, tx_in}
-use Rattle.clv_base.specs.Maps.{KeyMap, map_get, op_answer, op_after}
 use Rattle.clv_base.specs.Logs.{StandingUpdate, standing, standing_from, standing_after, without_newest, newest_at, wrote_in}
 use Rattle.clv_base.specs.Undo.{value_before, records_without, aborts_of, clrs_of, newest_lsn}
 use Rattle.clv_base.specs.Needs.{Records, value_at, writes_of}
 use Rattle.law_base.proofs.Cells.{record_at, live_by, live_some}
 use Rattle.clv_base.specs.Folding.{meets_key}
 use Rattle.law_base.specs.Undone.{stays_of}
-use Rattle.law_base.specs.Items.{Item, told, wrote, is_write_at, writes, meets, Runs, AllLater, on_top, pile}
+use Rattle.law_base.specs.Items.{Item, told, wrote, is_write_at, writes, meets, on_top, pile}
 use Rattle.clv_base.proofs.SameNames.{tx_self, tx_true}
-use Rattle.law_base.proofs.Lists.{all_mono, all_both, all_push}
-use Rattle.law_base.proofs.Running.{top_value, after_of, Keeps, item_value, on_top_value, with_write}
+use Rattle.law_base.proofs.Lists.{all_mono, all_push}
+use Rattle.law_base.proofs.Running.{top_value, after_of}
 
 -- ---- the standing UPDATEs of a longer log
 
@@ -89,10 +88,6 @@ nothing_before set k (w ∷ ws) all =
     at true true h = absurd (both_ways true (h refl) refl)
     at true false h = refl
     at false b h = refl
-
-unwrap_some : (o : Option (Option ℕ)) (v : Option ℕ) → unwrap_or (before_with o true v) v ≡ unwrap_or o v
-unwrap_some None v = refl
-unwrap_some (Some x) v = refl
 
 before_none : (o : Option (Option ℕ)) (v : Option ℕ) → before_with o false v ≡ o
 before_none None v = refl
@@ -198,56 +193,3 @@ write_met x k e = at x.op (told x.answer) e
 pub filter_all : (set : List TxId) (ws : List StandingUpdate) → AllByRecursion (λ v. tx_in v.tx set ≡ false) ws → filter (stays_of set) ws ≡ ws
 filter_all set [] all = refl
 filter_all set (w ∷ ws) all = cond-true _ _ _ (ap not all.0) ∙ ap (λ l. w ∷ l) (filter_all set ws all.1)
-
-chain_top : (x : Item) (m : KeyMap) (ws : List StandingUpdate) → x.answer ≡ op_answer x.op m → ((k : ℕ) → map_get k m ≡ top_value k ws) → Chain ws → Chain (on_top x.tx x.lsn (wrote x) ws)
-chain_top x m ws a same chain = subst (λ v. Chain (on_top x.tx x.lsn (writes_of x.op (told v)) ws)) (sym a) (at x.op)
-  where
-    del_at : (k : ℕ) (f : Option ℕ) → map_get k m ≡ f → Chain (on_top x.tx x.lsn (writes_of (Del k) f) ws)
-    del_at k None e = chain
-    del_at k (Some v) e = (sym e ∙ same k, chain)
-
-    at : (o : Op) → Chain (on_top x.tx x.lsn (writes_of o (told (op_answer o m))) ws)
-    at (Get k) = chain
-    at (Put k v) = (same k, chain)
-    at (Del k) = del_at k (map_get k m) refl
-    at (Scan lo hi) = chain
-
-pub chain_pile : (xs : List Item) (m : KeyMap) (ws : List StandingUpdate) → Runs m xs → ((k : ℕ) → map_get k m ≡ top_value k ws) → Chain ws → Chain (pile xs ws)
-chain_pile [] m ws r same chain = chain
-chain_pile (x ∷ xs) m ws r same chain =
-    chain_pile xs (op_after x.op m) (on_top x.tx x.lsn (wrote x) ws) r.1 (λ k. item_value x m k r.0 ∙ ap (with_write (wrote x) k) (same k) ∙ sym (on_top_value x ws k))
-    (chain_top x m ws r.0 same chain)
-
--- an item that stays meets none of these writes of the set
-abbrev Clear : List TxId → List StandingUpdate → Item → Type 0
-Clear set ws y = tx_in y.tx set ≡ false → AllByRecursion (λ v. meets y v.key ≡ true → tx_in v.tx set ≡ false) ws
-
-upward_top : (set : List TxId) (x : Item) (w : ℕ × Option ℕ × Option ℕ) (ws : List StandingUpdate) → wrote x ≡ Some w → Clear set ws x → Upward set ws → Upward set (on_top x.tx x.lsn (Some w) ws)
-upward_top set x w ws e clear up = (
-  λ out. all_mono _ _ (λ v h same. h (subst (λ k. meets x k ≡ true) (sym same) (write_met x w.0 (ap (λ o. is_write_at o w.0) e ∙ eq-eqb w.0 w.0 refl)))) ws (clear out),
-  up,
-)
-
-upward_any : (set : List TxId) (x : Item) (o : Option (ℕ × Option ℕ × Option ℕ)) (ws : List StandingUpdate) → wrote x ≡ o → Clear set ws x → Upward set ws → Upward set (on_top x.tx x.lsn o ws)
-upward_any set x None ws e clear up = up
-upward_any set x (Some w) ws e clear up = upward_top set x w ws e clear up
-
-clear_any : (set : List TxId) (x y : Item) (o : Option (ℕ × Option ℕ × Option ℕ)) (ws : List StandingUpdate) → wrote x ≡ o → Keeps (keeps_of set) x y → Clear set ws y → Clear set (on_top x.tx x.lsn o ws) y
-clear_any set x y None ws e keeps clear = clear
-clear_any set x y (Some w) ws e keeps clear = λ out. (λ met. not-true _ (keeps (w.0, ap (λ o. is_write_at o w.0) e ∙ eq-eqb w.0 w.0 refl, met) (ap not out)), clear out)
-
-pub upward_pile : (set : List TxId) (xs : List Item) (ws : List StandingUpdate) → AllLater (Keeps (keeps_of set)) xs → AllByRecursion (Clear set ws) xs → Upward set ws → Upward set (pile xs ws)
-upward_pile set [] ws later clear up = up
-upward_pile set (x ∷ xs) ws later clear up =
-    upward_pile set xs (on_top x.tx x.lsn (wrote x) ws) later.1
-    (all_mono _ _ (λ y h. clear_any set x y (wrote x) ws refl h.0 h.1) xs (all_both _ _ xs later.0 clear.1))
-    (upward_any set x (wrote x) ws refl clear.0 up)
-
--- where the base has none of the set
-pub clear_base : (set : List TxId) (xs : List Item) (ws : List StandingUpdate) → AllByRecursion (λ v. tx_in v.tx set ≡ false) ws → AllByRecursion (Clear set ws) xs
-clear_base set [] ws all = tt
-clear_base set (x ∷ xs) ws all = (λ out. all_mono _ _ (λ v h met. h) ws all, clear_base set xs ws all)
-
-pub upward_base : (set : List TxId) (ws : List StandingUpdate) → AllByRecursion (λ v. tx_in v.tx set ≡ false) ws → Upward set ws
-upward_base set [] all = tt
-upward_base set (w ∷ ws) all = (λ out. all_mono _ _ (λ v h same. h) ws all.1, upward_base set ws all.1)

@@ -3,7 +3,7 @@ use Rattle.std.proofs.Common.{◌≡◌, refl, sym, ap, ◌∙◌, ℕ, zero, su
 use Rattle.clv_base.specs.State.{Shard}
 use Rattle.clv_base.specs.Due.{next_due, do_due, work}
 use Rattle.clv_base.proofs.Settling.{each_leaves_less}
-use Rattle.law_base.proofs.Due.{do_due_at}
+use Rattle.clv_base.proofs.Settling.{do_due_at}
 use Rattle.protocol_laws.specs.Candidates.{DoingGoesOn, NothingToDo}
 
 idle : (n : ℕ) (s : Shard) → next_due s ≡ None → do_due n s ≡ s

@@ -16,7 +16,7 @@ use Rattle.clv_base.specs.Facts.{facts_of}
 use Rattle.clv_base.specs.Participant.{vote_by}
 use Rattle.clv_base.specs.Coordinator.{ruling_by}
 use Rattle.clv_base.specs.Due.{or_else, commit_due, vote_due, give_vote, request_due, rule, due_of, first_due, known_txs, next_due, do_due, with_due_done, work}
-use Rattle.law_base.proofs.Due.{do_due_at}
+use Rattle.clv_base.proofs.Settling.{do_due_at}
 
 pub same : {A : Type 0} (xs : List A) → IsPrefixOf xs xs
 same xs = ([], append-nil xs)

@@ -19,7 +19,7 @@ use Rattle.clv_base.proofs.SameNames.{or_left, or_right, tx_true, tx_flip, inser
 use Rattle.law_base.proofs.Sets.{tx_total, less_from_greater, above_more, above_insert, AllAbove, union_right}
 use Rattle.protocol_laws.specs.Candidates.{is_commit_due, is_vote_due, is_ruling_due, is_due, Cover, LeastIsNext, OthersCover, NoneIsNothing, AtRestNone}
 use Rattle.protocol_laws.proofs.Deciding.{due_by_facts}
-use Rattle.law_base.proofs.Names.{Rise, not_less, above_all_in as above_in}
+use Rattle.law_base.proofs.Names.{Rise, not_less, above_in}
 use Rattle.law_base.proofs.Shards.{rest_of}
 
 -- ---- lists that rise

@@ -31,7 +31,7 @@ use Rattle.law_base.specs.Undone.{stays_of}
 use Rattle.law_base.proofs.Undoing.{standing_append, standing_undone}
 use Rattle.law_base.proofs.Stages.{stage_other, own_go}
 use Rattle.law_base.proofs.Lists.{all_mono, all_kept}
-use Rattle.law_base.proofs.Due.{do_due_at}
+use Rattle.clv_base.proofs.Settling.{do_due_at}
 use Rattle.protocol_laws.specs.Purging.{has_lock, IsLocked, WritesAreLocked, PurgesDontMatter}
 use Rattle.law_base.proofs.Names.{is_held_at}
 

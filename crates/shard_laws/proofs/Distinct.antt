@@ -8,11 +8,11 @@ use Rattle.clv_base.specs.State.{Local}
 use Rattle.clv_base.specs.Undo.{with_successors, successors_through, doomed_by, doomed_here}
 use Rattle.law_base.proofs.Sets.{insert_rises, Rises as RiseOnce}
 use Rattle.shard_laws.proofs.Serial.{Once, once_filter}
-use Rattle.law_base.proofs.Names.{above_out}
+use Rattle.law_base.proofs.Names.{above_not_in}
 
 pub rises_once : (xs : List TxId) → RiseOnce xs → Once xs
 rises_once [] h = tt
-rises_once (x ∷ xs) h = (above_out x xs h.0, rises_once xs h.1)
+rises_once (x ∷ xs) h = (above_not_in x xs h.0, rises_once xs h.1)
 
 writers_rise : (ws : List StandingUpdate) → RiseOnce (writers ws)
 writers_rise [] = tt

@@ -20,7 +20,7 @@ use Rattle.law_base.proofs.Anchors.{Rising, record_at_set, rising_set}
 use Rattle.law_base.proofs.Tables.{stage_in, stage_by}
 use Rattle.law_base.proofs.LockRows.{Rows, rows_take}
 use Rattle.shard_laws.proofs.Kept.{Belongs}
-use Rattle.law_base.proofs.Names.{lock_of, restored_there}
+use Rattle.law_base.proofs.Names.{shut_lock, restored_there}
 use Rattle.law_base.proofs.Options.{absent_is}
 use Rattle.law_base.proofs.Logs.{has_update}
 
@@ -64,9 +64,9 @@ restored_none txs t i = at (stage_in (restored_parts txs) t) refl
 pub rows_restored : (txs : List TxId) (log : List LogRecord) (locks : Locks) → Rows (Belongs (restored_parts txs)) locks → Rows (Belongs (restored_parts txs)) (restored_locks txs log locks)
 rows_restored txs [] locks h = h
 rows_restored txs (Update tx key b a ∷ rs) locks h =
-    rows_restored txs rs (cond (tx_in tx txs) (take_one (At key) (lock_of tx) locks) locks)
-    (cond_both (tx_in tx txs) (take_one (At key) (lock_of tx) locks) locks (Rows (Belongs (restored_parts txs)))
-    (λ i. rows_take (Belongs (restored_parts txs)) (At key) (lock_of tx) locks (restored_part tx, restored_there txs tx i, refl, tt) h) (λ i. h))
+    rows_restored txs rs (cond (tx_in tx txs) (take_one (At key) (shut_lock tx) locks) locks)
+    (cond_both (tx_in tx txs) (take_one (At key) (shut_lock tx) locks) locks (Rows (Belongs (restored_parts txs)))
+    (λ i. rows_take (Belongs (restored_parts txs)) (At key) (shut_lock tx) locks (restored_part tx, restored_there txs tx i, refl, tt) h) (λ i. h))
 rows_restored txs (Clr tx u k a ∷ rs) locks h = rows_restored txs rs locks h
 rows_restored txs (Prepare tx home ps ∷ rs) locks h = rows_restored txs rs locks h
 rows_restored txs (Commit tx ps ∷ rs) locks h = rows_restored txs rs locks h

@@ -61,7 +61,7 @@ use Rattle.shard_laws.proofs.Leaving.{keeps_finish, keeps_taken, MayGo, Done, no
 use Rattle.law_base.proofs.Stages.{absent_go, stage_own, stage_other, gone_by}
 use Rattle.law_base.proofs.Sets.{in_filter, none_listed}
 use Rattle.law_base.proofs.Changed.{get_set, set_none}
-use Rattle.law_base.proofs.Due.{do_due_at}
+use Rattle.clv_base.proofs.Settling.{do_due_at}
 use Rattle.shard_laws.specs.OneShard.{items_of}
 use Rattle.law_base.proofs.Shards.{Before}
 

@@ -29,7 +29,7 @@ use Rattle.clv_base.specs.OneShard.{OpReply, OpWaits, OpCrowded, OpDies, OpAnswe
 use Rattle.clv_base.specs.Logs.{committed_in}
 use Rattle.clv_base.specs.Due.{send, or_else, commit_due, give_vote, vote_due, rule, request_due, due_of, first_due, known_txs, next_due, do_due, work}
 use Rattle.clv_base.specs.Events.{Reply, QuietBeforeWorn, QuietAfterWorn, Does, finish, is_alone, coordinate, owe_vote, with_votes, with_done, decided, ask_messages, with_outbox, with_flight, with_durable, op_event, epoch_in, request_by_stage, request_event, look_lost, look_state, look_known, look_event, request_epoch, drop_event, on_prepare, on_vote, on_decide, on_done, on_message, to_of, send_event, remind_with, reminders, out_event, landed, happen_up, happen}
-use Rattle.law_base.proofs.Due.{do_due_at}
+use Rattle.clv_base.proofs.Settling.{do_due_at}
 
 -- ---- what is due
 

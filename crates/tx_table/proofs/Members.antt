@@ -12,7 +12,7 @@ use Rattle.clv_base.specs.Orders.{Table, tx_cmp, tx_same, tx_get, tx_in}
 use Rattle.clv_base.proofs.SameNames.{or_left, tx_true, tx_self, tx_eq}
 use Rattle.law_base.proofs.Sets.{tx_total, AllAbove as Above}
 use Rattle.tx_table.specs.Index.{IsIndex, index_of, passes}
-use Rattle.law_base.proofs.Names.{above_all_in as above_in, above_out}
+use Rattle.law_base.proofs.Names.{above_in, above_not_in}
 
 -- who is below all of them is none of them, nor is one of them the lower
 not_same : (a b : TxId) → tx_cmp a b ≡ Less → tx_same b a ≡ false
@@ -39,7 +39,7 @@ same_tails : (x : TxId) (xs ys : List TxId) → Above x xs → Above x ys → Al
 same_tails x xs ys a b h t = at (tx_same x t) refl (h t)
   where
     at : (c : Bool) → tx_same x t ≡ c → (c || tx_in t xs) ≡ (c || tx_in t ys) → tx_in t xs ≡ tx_in t ys
-    at true s e = subst (λ z. tx_in z xs ≡ tx_in z ys) (tx_true x t s) (above_out x xs a ∙ sym (above_out x ys b))
+    at true s e = subst (λ z. tx_in z xs ≡ tx_in z ys) (tx_true x t s) (above_not_in x xs a ∙ sym (above_not_in x ys b))
     at false s e = e
 
 nothing_alike : (y : TxId) (ys : List TxId) → Alike [] (y ∷ ys) → ⊥
@@ -93,7 +93,7 @@ index_has test (r ∷ rs) s t = at (test r.1) refl (tx_same r.0 t) refl (index_h
     at : (b : Bool) → test r.1 ≡ b → (c : Bool) → tx_same r.0 t ≡ c → tx_in t (keys_of (kept test rs)) ≡ passes test (tx_get t rs) → tx_in t (keys_of (cond b (r ∷ kept test rs) (kept test rs))) ≡ passes test (tx_get t (r ∷ rs))
     at true e true f more = or_left _ _ f ∙ sym (found true f ∙ e)
     at true e false f more = ap (λ c. c || tx_in t (keys_of (kept test rs))) f ∙ more ∙ sym (found false f)
-    at false e true f more = subst (λ z. tx_in z (keys_of (kept test rs)) ≡ false) (tx_true r.0 t f) (above_out r.0 (keys_of (kept test rs)) (above_kept test r.0 rs s.0)) ∙ sym (found true f ∙ e)
+    at false e true f more = subst (λ z. tx_in z (keys_of (kept test rs)) ≡ false) (tx_true r.0 t f) (above_not_in r.0 (keys_of (kept test rs)) (above_kept test r.0 rs s.0)) ∙ sym (found true f ∙ e)
     at false e false f more = more ∙ sym (found false f)
 
 -- an index that rises is its table's

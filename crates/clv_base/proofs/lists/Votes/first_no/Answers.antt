@@ -1,7 +1,6 @@
 -- At the first place all votes are before us.
 use Rattle.std.proofs.Common.{ap}
 use Rattle.clv_base.specs.Coordinator.{first_no}
-use Rattle.clv_base.proofs.FirstNo.{goes_on, is_found, at_end}
 use Rattle.clv_base.proofs.lists.Votes.first_no.Goals as goal
 
 pub loop-shard-init : goal.loop-shard-init

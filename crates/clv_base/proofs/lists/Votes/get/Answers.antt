@@ -1,5 +1,5 @@
 -- What stands at the shard's place.
-use Rattle.std.proofs.Common.{◌≡◌, ℕ, Option, Some, None, slice_get, sym, ap, ◌∙◌, arith}
+use Rattle.std.proofs.Common.{◌≡◌, Some, None, slice_get, sym, ap, ◌∙◌, arith}
 use Rattle.clv_base.specs.Coordinator.{vote_from}
 use Rattle.clv_base.proofs.Arrays.{present_lookup, flat, get_some, get_none}
 use Rattle.clv_base.proofs.lists.Votes.get.Goals as goal
