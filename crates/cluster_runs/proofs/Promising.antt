@@ -72,7 +72,7 @@ runs_are_promised splits before now counts counts_now most script went kept stat
                 λ n l.
                 subst (λ s. IfSome (now n) (EachNow (HoldsLog (flush_failed (journal_of n h)) s n))) (sym (made.same_states n l))
                 (subst (λ j. IfSome (now n) (EachNow (HoldsLog (flush_failed j) (states n) n))) (sym (made.same_journals n l)) (ended.holds n l));
-            promised = λ by. promise splits kept.found h logs by ended.opens made.legal;
+            promised = λ by. promise splits kept.found h logs by (record { opens = ended.opens; legal = made.legal });
           };
       sessions =
           record {

@@ -55,6 +55,6 @@ runs_replay splits before now counts counts_now most script went kept may p gone
     let known : (e : ℕ × Entry) → Among e h → IsKnown logs h e =
     λ e m t some committed.
     ⊎_elim (λ a. a)
-    (λ b. absurd (both_ways (committed_in (log_of logs e.0) t) (aborted_are_committed_nowhere splits kept.found h left choice e.0 t may legal (in_a_shard splits kept.found left h e legal m) b) committed))
+    (λ b. absurd (both_ways (committed_in (log_of logs e.0) t) (aborted_are_committed_nowhere splits kept.found h left choice e.0 t (record { opens = may; legal = legal }) (in_a_shard splits kept.found left h e legal m) b) committed))
     (told e.0 e.1 t (among_is e.0 e.1 h m) some) in
     sym ((p.keeps).promised choice).map ∙ ap (replay_map (stands kept.found)) (members_are logs h h known)

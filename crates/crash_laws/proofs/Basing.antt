@@ -55,21 +55,21 @@ done_lie splits before [] a = tt
 done_lie splits before (x ∷ xs) a = ((a.0).1, done_lie splits before xs a.1)
 
 pub answers_are_of_earlier : AnswersAreOfEarlier
-answers_are_of_earlier splits before h after_ choice o l =
+answers_are_of_earlier splits before h after_ choice l =
     let left = logs_left splits before h after_ choice in
     let ms = member_acts splits before h after_ choice in
-    let r = replay_by_shards splits before left (ops_done ms ∷ []) l.splits_rise
-    ((l.each_log).0, only_passes splits 0 before (and_parts (all_logs_from 0 (log_passes splits) before) (is_none (apart before)) o).0)
-    (left_length splits before h after_ choice, logs_left_pass splits before h after_ choice o l)
-    (done_lie splits before ms (members_are_fine splits before h after_ choice l), tt)
+    let r = replay_by_shards splits before left (ops_done ms ∷ []) l.legal.splits_rise
+    (l.legal.each_log.0, only_passes splits 0 before (and_parts (all_logs_from 0 (log_passes splits) before) (is_none (apart before)) l.opens).0)
+    (left_length splits before h after_ choice, logs_left_pass splits before h after_ choice l)
+    (done_lie splits before ms (members_are_fine splits before h after_ choice l.legal), tt)
     on_each in
     to_answers (stands before) ms (stands left) (one_of _ _ r.0) r.1
   where
     here : (n : ℕ) → n < shard_count splits → AnswersFrom (share_of before n) (filter (λ a. (a.done).shard == n) (member_acts splits before h after_ choice)) (share_of (logs_left splits before h after_ choice) n)
     here n i =
-        let r = acted splits before h after_ choice o l n i in
-        subst (λ m. AnswersFrom m (filter (λ a. (a.done).shard == n) (member_acts splits before h after_ choice)) (share_of (logs_left splits before h after_ choice) n)) (sym (starts splits before h after_ choice o l n i))
-        (subst (λ as_. AnswersFrom (map_found n (log_of before n) (chosen splits before h after_ choice n)) as_ (share_of (logs_left splits before h after_ choice) n)) (chosen_acts splits before h after_ choice o l n i)
+        let r = acted splits before h after_ choice l n i in
+        subst (λ m. AnswersFrom m (filter (λ a. (a.done).shard == n) (member_acts splits before h after_ choice)) (share_of (logs_left splits before h after_ choice) n)) (sym (starts splits before h after_ choice l n i))
+        (subst (λ as_. AnswersFrom (map_found n (log_of before n) (chosen splits before h after_ choice n)) as_ (share_of (logs_left splits before h after_ choice) n)) (chosen_acts splits before h after_ choice l n i)
         (of_runs n (map_found n (log_of before n) (chosen splits before h after_ choice n)) (filter (λ x. chosen splits before h after_ choice n x.tx) (deeds_before before h after_ n).items) (share_of (logs_left splits before h after_ choice) n) r.0 r.1))
 
     on_each : (n : ℕ) → n < shard_count splits → ReplaysTo (share_of before n) (on_shard n (ops_done (member_acts splits before h after_ choice)) ∷ []) (share_of (logs_left splits before h after_ choice) n)

@@ -218,26 +218,26 @@ once_second [] ys d = d
 once_second (x ∷ xs) ys d = once_second xs ys d.1
 
 pub members_have_their_acts : MembersHaveTheirActs
-members_have_their_acts splits before h after_ choice o l =
+members_have_their_acts splits before h after_ choice l =
     let left = logs_left splits before h after_ choice in
     let ms = serial_left splits before h after_ choice in
     let first : 0 < shard_count splits = omega arith in
-    let b = held 0 (run_after before) (log_of before 0) _ _ (leads splits before h after_ choice o l 0 first) in
+    let b = held 0 (run_after before) (log_of before 0) _ _ (leads splits before h after_ choice l 0 first) in
     let once = once_filter (chosen splits before h after_ choice 0) (requests_of h) (once_second (found_asked 0 (log_of before 0)) (requests_of h) b.5) in
     let own = members_ops h (is_member splits before h after_ choice) ms (from_history left h h) (λ t i. i) in
-    (of_once _ (subst Once (sym (chosen_are_members splits before h after_ choice 0 o l first)) once), own.0, own.1)
+    (of_once _ (subst Once (sym (chosen_are_members splits before h after_ choice 0 l first)) once), own.0, own.1)
 
 -- ---- so they replay
 
 pub members_replay_by_acts : MembersReplay
-members_replay_by_acts splits before h after_ choice o l =
+members_replay_by_acts splits before h after_ choice l =
     let left = logs_left splits before h after_ choice in
     let ms = serial_left splits before h after_ choice in
-    let own = members_have_their_acts splits before h after_ choice o l in
+    let own = members_have_their_acts splits before h after_ choice l in
     let within = all_mono _ _ (λ a p. p.1) (member_acts splits before h after_ choice) (all_filter (λ a. Unit {0}) (λ a. is_member splits before h after_ choice a.tx) (acts h) (each (acts h))) in
     let r = acts_replay (stands before) (stands left) (transactions_of ms) (member_acts splits before h after_ choice)
-    (logs_agree splits before l.splits_rise ((l.each_log).0, only_passes splits 0 before (and_parts (all_logs_from 0 (log_passes splits) before) (is_none (apart before)) o).0)).whole own.0 within
-    (answers_are_of_earlier splits before h after_ choice o l) (meetings_follow_places splits before h after_ choice o l) in
+    (logs_agree splits before l.legal.splits_rise (l.legal.each_log.0, only_passes splits 0 before (and_parts (all_logs_from 0 (log_passes splits) before) (is_none (apart before)) l.opens).0)).whole own.0 within
+    (answers_are_of_earlier splits before h after_ choice l) (meetings_follow_places splits before h after_ choice l) in
     (ap (replay_answers (stands before)) (sym own.1) ∙ r.0 ∙ own.2, ap (replay_map (stands before)) (sym own.1) ∙ r.1)
   where
     each : (as_ : List Act) → AllByRecursion (λ a. Unit {0}) as_

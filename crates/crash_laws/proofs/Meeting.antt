@@ -12,12 +12,11 @@ use Rattle.clv_base.specs.Folding.{meets_key}
 use Rattle.clv_base.specs.Shards.{shard_count, are_splits, span, in_span}
 use Rattle.clv_base.specs.Sessions.{lies_in}
 use Rattle.clv_base.specs.LogRules.{log_of}
-use Rattle.clv_base.specs.FileRules.{may_open}
 use Rattle.clv_base.specs.Restarts.{run_after}
 use Rattle.clv_base.specs.Journals.{History}
-use Rattle.clv_base.specs.History.{Legal}
 use Rattle.law_base.proofs.Sets.{in_filter}
 use Rattle.law_base.proofs.Lists.{all_mono, all_filter}
+use Rattle.history_laws.specs.Openings.{LegalFrom}
 use Rattle.history_laws.specs.Continuing.{serial_left}
 use Rattle.law_base.specs.Items.{Item, AllLater, Clash}
 use Rattle.shard_laws.specs.OneShard.{found_asked, place}
@@ -58,7 +57,7 @@ meet_apart splits a b s p q n (k, x, y, w) =
 
 -- ---- who is none of the first ones stands behind them
 
-module _ (splits : List ℕ) (before : List (List LogRecord)) (h : History) (after : List (List LogRecord)) (choice : ℕ → Bool) (o : may_open splits before ≡ true) (l : Legal splits before h after) where
+module _ (splits : List ℕ) (before : List (List LogRecord)) (h : History) (after : List (List LogRecord)) (choice : ℕ → Bool) (l : LegalFrom splits before h after) where
   abbrev Follows : Act → Act → Type 0
   Follows a b = Meet a b → (a.tx ≡ b.tx) ⊎ StandsBefore a.tx b.tx (transactions_of (serial_left splits before h after choice))
 
@@ -70,30 +69,30 @@ module _ (splits : List ℕ) (before : List (List LogRecord)) (h : History) (aft
   by_place n i p t rp rt k less =
       let pick = chosen splits before h after choice n in
       let found = found_asked n (log_of before n) in
-      let names = chosen_are_members splits before h after choice n o l i in
+      let names = chosen_are_members splits before h after choice n l i in
       let q = in_filter pick t (requests_of h) (subst (λ ts. tx_in t ts ≡ true) names k) in
       let there = in_kept pick (found ++ requests_of h) t (in_more found (requests_of h) t q.0) q.1 in
       let b = subst (StandsBefore p t) (filter-append pick found (requests_of h)) (placed_before p t (filter pick (found ++ requests_of h)) less there) in
       subst (StandsBefore p t) (sym names)
       (stands_later p t (filter pick found) (filter pick (requests_of h))
-      (false_from_ne_true _ (λ j. absurd (let old = asked_are_old splits before n o (inside splits before h after choice o l n i) p (in_filter pick p found j).0 in omega (arith, old, rp)))) b)
+      (false_from_ne_true _ (λ j. absurd (let old = asked_are_old splits before n l.opens (inside splits before h after choice l n i) p (in_filter pick p found j).0 in omega (arith, old, rp)))) b)
 
   on_one : (n : ℕ) → n < shard_count splits → AllLater Follows (filter (λ a. (a.done).shard == n) (member_acts splits before h after choice))
   on_one n i =
-      subst (AllLater Follows) (chosen_acts splits before h after choice o l n i)
+      subst (AllLater Follows) (chosen_acts splits before h after choice l n i)
       (later_told (λ x. ((x.tx).run ≡ run_after before) × (tx_in x.tx (transactions_of (serial_left splits before h after choice)) ≡ true)) _ Follows (told n)
       (λ x y p q r m. ⊎_elim (λ e. inl e) (λ less. inr (by_place n i x.tx y.tx p.0 q.0 q.1 less)) (r (clash_of n x y m)))
       (filter (λ x. chosen splits before h after choice n x.tx) (deeds_before before h after n).items)
-      (all_mono _ _ (λ x p. (p.0, subst (λ b. b ≡ true) (chosen_member splits before h after choice o l n i x.tx p.0) p.1)) (filter (λ x. chosen splits before h after choice n x.tx) (deeds_before before h after n).items)
-      (all_filter (λ x. (x.tx).run ≡ run_after before) (λ x. chosen splits before h after choice n x.tx) (deeds_before before h after n).items (deeds_run splits before h after choice o l n i)))
-      (acted splits before h after choice o l n i).2)
+      (all_mono _ _ (λ x p. (p.0, subst (λ b. b ≡ true) (chosen_member splits before h after choice l n i x.tx p.0) p.1)) (filter (λ x. chosen splits before h after choice n x.tx) (deeds_before before h after n).items)
+      (all_filter (λ x. (x.tx).run ≡ run_after before) (λ x. chosen splits before h after choice n x.tx) (deeds_before before h after n).items (deeds_run splits before h after choice l n i)))
+      (acted splits before h after choice l n i).2)
 
   -- ---- on all
 
   on_all : AllLater Follows (member_acts splits before h after choice)
   on_all =
-      later_by_shard (λ a. (a.done).shard) (λ a. LiesIn splits a.done) Follows (λ a b p q n m. absurd (meet_apart splits a b l.splits_rise p q n m)) (shard_count splits) (member_acts splits before h after choice)
-      (all_mono (IsFine splits before) _ (λ a p. (p.1, (p.1).0)) (member_acts splits before h after choice) (members_are_fine splits before h after choice l)) on_one
+      later_by_shard (λ a. (a.done).shard) (λ a. LiesIn splits a.done) Follows (λ a b p q n m. absurd (meet_apart splits a b l.legal.splits_rise p q n m)) (shard_count splits) (member_acts splits before h after choice)
+      (all_mono (IsFine splits before) _ (λ a p. (p.1, (p.1).0)) (member_acts splits before h after choice) (members_are_fine splits before h after choice l.legal)) on_one
 
 pub meetings_follow_places : MeetingsFollowPlaces
-meetings_follow_places splits before h after choice o l = on_all splits before h after choice o l
+meetings_follow_places splits before h after choice l = on_all splits before h after choice l

@@ -9,6 +9,7 @@ use Rattle.clv_base.specs.Restarts.{opened, run_after, log_left}
 use Rattle.clv_base.specs.Core.{World}
 use Rattle.clv_base.specs.Journals.{journal_of, final_of, logs_left_from}
 use Rattle.clv_base.specs.History.{logs_left}
+use Rattle.history_laws.specs.Openings.{LegalFrom}
 use Rattle.history_laws.proofs.Serials.{left_at}
 use Rattle.fate_laws.proofs.Ordering.{logs_left_are_in_order}
 use Rattle.headline_laws.proofs.Promising.{promise}
@@ -23,7 +24,7 @@ there : (w : World) (n : ℕ) (s : Shard) → slice_get w.shards n ≡ Some s �
 there w n s h = ap (λ o. elim o [ Some x ↦ x | None ↦ opened n 1 [] ]) h
 
 pub logs_stay_in_order : LogsStayInOrder
-logs_stay_in_order splits w n s kept few k g = ap (disorder n) (sym log_is) ∙ logs_left_are_in_order splits before w.history now (λ m. kept) n (empty_logs_may_be_opened splits (shard_count splits)).0 legal low
+logs_stay_in_order splits w n s kept few k g = ap (disorder n) (sym log_is) ∙ logs_left_are_in_order splits before w.history now (λ m. kept) n legal low
   where
     before : List (List LogRecord)
     before = empty_logs (shard_count splits)
@@ -31,8 +32,8 @@ logs_stay_in_order splits w n s kept few k g = ap (disorder n) (sym log_is) ∙ 
     now : List (List LogRecord)
     now = logs_now splits w (λ m. kept)
 
-    legal : Rattle.clv_base.specs.History.Legal splits (empty_logs (shard_count splits)) w.history (logs_now splits w (λ m. kept))
-    legal = steady_is_legal splits (empty_logs (shard_count splits)) w (λ m. kept) few (empty_count (shard_count splits)) (empty_fits (shard_count splits)) k
+    legal : LegalFrom splits before w.history now
+    legal = record { opens = (empty_logs_may_be_opened splits (shard_count splits)).0; legal = steady_is_legal splits before w (λ m. kept) few (empty_count (shard_count splits)) (empty_fits (shard_count splits)) k }
 
     low : n < shard_count splits
     low = subst (λ m. n < m) k.shards (within w.shards n s g)
@@ -55,4 +56,4 @@ logs_stay_in_order splits w n s kept few k g = ap (disorder n) (sym log_is) ∙ 
 pub worlds_keep_promise : WorldsKeepPromise
 worlds_keep_promise splits cs left choice few =
     promise splits (empty_logs (shard_count splits)) (run_events splits cs).history (logs_now splits (run_events splits cs) left) choice
-    (empty_logs_may_be_opened splits (shard_count splits)).0 (run_events_is_legal splits cs left few)
+    (record { opens = (empty_logs_may_be_opened splits (shard_count splits)).0; legal = run_events_is_legal splits cs left few })

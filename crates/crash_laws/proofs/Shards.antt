@@ -11,13 +11,13 @@ use Rattle.clv_base.specs.declared.events.Outcome.TheVariants.{Answered}
 use Rattle.clv_base.specs.Logs.{fold_updates, committed_somewhere}
 use Rattle.clv_base.specs.LogRules.{log_of}
 use Rattle.clv_base.specs.Shards.{shard_count}
-use Rattle.clv_base.specs.FileRules.{may_open}
 use Rattle.clv_base.specs.Restarts.{run_after}
 use Rattle.clv_base.specs.Journals.{History, final_of}
 use Rattle.clv_base.specs.History.{Legal, logs_left}
 use Rattle.protocol_laws.specs.SessionLaws.{tx_of}
 use Rattle.history_cases.proofs.Merging.{Placed, Among}
 use Rattle.history_cases.proofs.Worlds.{in_a_shard}
+use Rattle.history_laws.specs.Openings.{LegalFrom}
 use Rattle.history_laws.proofs.Staying.{walker_of}
 use Rattle.law_base.specs.Items.{Item, Runs, after, AllLater, Clash}
 use Rattle.law_base.proofs.Lists.{all_mono, filters_swap, all_filter}
@@ -64,17 +64,17 @@ pub members_are_fine : (splits : List ℕ) (before : List (List LogRecord)) (h :
 members_are_fine splits before h after choice l =
     all_mono _ (IsFine splits before) (λ a p. p.0) (member_acts splits before h after choice) (all_filter (IsFine splits before) (λ a. is_member splits before h after choice a.tx) (acts h) (acts_are_fine splits before h after l))
 
-module _ (splits : List ℕ) (before : List (List LogRecord)) (h : History) (after_ : List (List LogRecord)) (choice : ℕ → Bool) (o : may_open splits before ≡ true) (l : Legal splits before h after_) (n : ℕ) (i : n < shard_count splits) where
+module _ (splits : List ℕ) (before : List (List LogRecord)) (h : History) (after_ : List (List LogRecord)) (choice : ℕ → Bool) (l : LegalFrom splits before h after_) (n : ℕ) (i : n < shard_count splits) where
   -- of this run the chosen ones are the members
   pub chosen_member : (t : TxId) → t.run ≡ run_after before → chosen splits before h after_ choice n t ≡ is_member splits before h after_ choice t
   chosen_member t r = same_test (chosen splits before h after_ choice n t) (is_member splits before h after_ choice t) (λ c. back (of_chosen splits before h after_ choice n t c)) (λ k. is_chosen splits before h after_ choice n t (inl k))
     where
       back : Chosen splits before h after_ choice n t → is_member splits before h after_ choice t ≡ true
       back (inl a) = a
-      back (inr (inl a)) = commits_are_members splits before h after_ choice n t o l i r a
+      back (inr (inl a)) = commits_are_members splits before h after_ choice n t l i r a
       back (inr (inr a)) =
-          let e = (l.each_log).0 in
-          let d = doubted_is_old splits before n o (omega (arith, e, i)) t a.0 in
+          let e = l.legal.each_log.0 in
+          let d = doubted_is_old splits before n l.opens (omega (arith, e, i)) t a.0 in
           absurd (omega (arith, r, d))
 
   pub deeds_run : AllByRecursion (λ x. (x.tx).run ≡ run_after before) (deeds_before before h after_ n).items
@@ -82,7 +82,7 @@ module _ (splits : List ℕ) (before : List (List LogRecord)) (h : History) (aft
       all_mono _ (λ x. (x.tx).run ≡ run_after before) (λ x p. p) (deeds_before before h after_ n).items
       (all_of_map (λ a. (a.tx).run ≡ run_after before) (told n) (deeds_before before h after_ n).items
       (subst (AllByRecursion (λ a. (a.tx).run ≡ run_after before)) (sym (deeds_are_acts before h after_ n))
-      (all_mono _ (λ a. (a.tx).run ≡ run_after before) (λ a p. (p.0).0) (filter (λ a. (a.done).shard == n) (acts h)) (all_filter (IsFine splits before) (λ a. (a.done).shard == n) (acts h) (acts_are_fine splits before h after_ l)))))
+      (all_mono _ (λ a. (a.tx).run ≡ run_after before) (λ a p. (p.0).0) (filter (λ a. (a.done).shard == n) (acts h)) (all_filter (IsFine splits before) (λ a. (a.done).shard == n) (acts h) (acts_are_fine splits before h after_ l.legal)))))
 
   -- what the chosen ones did here is what the members did
   pub chosen_acts : map (told n) (filter (λ x. chosen splits before h after_ choice n x.tx) (deeds_before before h after_ n).items) ≡ filter (λ a. (a.done).shard == n) (member_acts splits before h after_ choice)
@@ -105,8 +105,8 @@ module _ (splits : List ℕ) (before : List (List LogRecord)) (h : History) (aft
       let d = deeds_before before h after_ n in
       let found = log_of before n in
       let pick = chosen splits before h after_ choice n in
-      let here : (m : ℕ) (t : TxId) → m < shard_count splits → is_member splits before h after_ choice t ≡ true → _ = λ m t j k. members_are_found splits before h after_ choice m t o l j k in
-      let r = chosen_act n (run_after before) found (with_found n found d) s (cond (choice n) (unwrap_or s.flight s.durable) s.durable) pick d.items (leads splits before h after_ choice o l n i)
-      (cut_above s (choice n) (fronts splits before h after_ choice o l n i).counted) (may_choose splits before h after_ choice o l here n i) refl in
-      let ends = ap (λ z. fold_updates pick z []) (sym (left_is splits before h after_ choice o l n i)) ∙ fold_writers pick (committed_somewhere (logs_left splits before h after_ choice)) (log_of (logs_left splits before h after_ choice) n) [] (λ t w. writers_chosen splits before h after_ choice o l here n t i w) in
+      let here : (m : ℕ) (t : TxId) → m < shard_count splits → is_member splits before h after_ choice t ≡ true → _ = λ m t j k. members_are_found splits before h after_ choice m t l j k in
+      let r = chosen_act n (run_after before) found (with_found n found d) s (cond (choice n) (unwrap_or s.flight s.durable) s.durable) pick d.items (leads splits before h after_ choice l n i)
+      (cut_above s (choice n) (fronts splits before h after_ choice l n i).counted) (may_choose splits before h after_ choice l here n i) refl in
+      let ends = ap (λ z. fold_updates pick z []) (sym (left_is splits before h after_ choice l n i)) ∙ fold_writers pick (committed_somewhere (logs_left splits before h after_ choice)) (log_of (logs_left splits before h after_ choice) n) [] (λ t w. writers_chosen splits before h after_ choice l here n t i w) in
       (r.0, r.1 ∙ ends, r.2)

@@ -13,10 +13,10 @@ use Rattle.clv_base.specs.Orders.{tx_same, tx_in}
 use Rattle.clv_base.specs.Maps.{KeyMap, op_answer, op_after, replay_map, replay_answers}
 use Rattle.clv_base.specs.Folding.{IsRising, meets_key, key_written}
 use Rattle.clv_base.specs.Logs.{stands}
-use Rattle.clv_base.specs.FileRules.{may_open}
 use Rattle.clv_base.specs.Journals.{History}
-use Rattle.clv_base.specs.History.{Legal, logs_left, serial_ops, serial_answers}
+use Rattle.clv_base.specs.History.{logs_left, serial_ops, serial_answers}
 use Rattle.law_base.specs.Items.{AllLater}
+use Rattle.history_laws.specs.Openings.{LegalFrom}
 use Rattle.history_laws.specs.Continuing.{serial_left}
 use Rattle.history_laws.specs.Places.{transactions_of, StandsBefore}
 use Rattle.fate_laws.specs.Members.{is_member}
@@ -59,14 +59,14 @@ Meet a b =
 abbrev pub AnswersAreOfEarlier : Type 0
 AnswersAreOfEarlier =
     (splits : List ℕ) (before : List (List LogRecord)) (h : History) (after : List (List LogRecord)) (choice : ℕ → Bool)
-    → may_open splits before ≡ true → Legal splits before h after
+    → LegalFrom splits before h after
     → AnswersFrom (stands before) (member_acts splits before h after choice) (stands (logs_left splits before h after choice))
 
 -- of each two, the first of which stands earlier in the history
 abbrev pub MeetingsFollowPlaces : Type 0
 MeetingsFollowPlaces =
     (splits : List ℕ) (before : List (List LogRecord)) (h : History) (after : List (List LogRecord)) (choice : ℕ → Bool)
-    → may_open splits before ≡ true → Legal splits before h after
+    → LegalFrom splits before h after
     → AllLater (λ a b. Meet a b → (a.tx ≡ b.tx) ⊎ StandsBefore a.tx b.tx (transactions_of (serial_left splits before h after choice))) (member_acts splits before h after choice)
 
 -- ---- and that is all that a serial history needs
@@ -95,7 +95,7 @@ ActsReplay =
 abbrev pub MembersHaveTheirActs : Type 0
 MembersHaveTheirActs =
     (splits : List ℕ) (before : List (List LogRecord)) (h : History) (after : List (List LogRecord)) (choice : ℕ → Bool)
-    → may_open splits before ≡ true → Legal splits before h after
+    → LegalFrom splits before h after
     → AreDistinct (transactions_of (serial_left splits before h after choice))
     × (ops_of_each (transactions_of (serial_left splits before h after choice)) (member_acts splits before h after choice) ≡ serial_ops (serial_left splits before h after choice))
     × (answers_of_each (transactions_of (serial_left splits before h after choice)) (member_acts splits before h after choice) ≡ serial_answers (serial_left splits before h after choice))

@@ -114,9 +114,9 @@ due_at splits before after h pre e tx to home stamp w b q n =
     (λ k. subst (λ m. Touched (WasTaken h) m tx) (w.split).shard k) ((b.parted e.0 w.inside).base.closed tx closed r)))
 
 pub commits_come_due : CommitsComeDue
-commits_come_due splits before so_far n e later after tx to home stamp o l q t u =
-    due_at splits before after (so_far ++ (n, e) ∷ later) so_far (n, e) tx to home stamp (next_at splits before after (so_far ++ (n, e) ∷ later) so_far (n, e) later l refl)
-    (bindings_front splits before after (so_far ++ (n, e) ∷ later) so_far ((n, e) ∷ later) o l refl) q u
+commits_come_due splits before so_far n e later after tx to home stamp l q t u =
+    due_at splits before after (so_far ++ (n, e) ∷ later) so_far (n, e) tx to home stamp (next_at splits before after (so_far ++ (n, e) ∷ later) so_far (n, e) later l.legal refl)
+    (bindings_front splits before after (so_far ++ (n, e) ∷ later) so_far ((n, e) ∷ later) l refl) q u
 
 -- ---- what is left of the parts of a commit
 
@@ -141,8 +141,8 @@ part_left splits before after h choice m tx i f (a, inr (inr d)) =
     inl (committed_front (log_left s false) (log_left s (choice m)) tx (left_front s (choice m) ((f.counts).counted m i)) d)
 
 pub commits_have_their_parts : CommitsHaveTheirParts
-commits_have_their_parts splits before h after choice n m home e ts tx o l i j among ev out there c =
-    let b = bindings_front splits before after h h [] o l (append-nil h) in
+commits_have_their_parts splits before h after choice n m home e ts tx l i j among ev out there c =
+    let b = bindings_front splits before after h h [] l (append-nil h) in
     let good = (b.parted n i).log tx (left_committed splits before h after choice n tx i c) in
     let w : WasTaken h tx home ts = (e, is_among home e h among, (ev, out)) in
     subst (λ z. HasItsPart z tx) (sym (log_now splits before h after choice m j)) (part_left splits before after h choice m tx j b.fated (good m (λ r. (home, ts, w, there))))

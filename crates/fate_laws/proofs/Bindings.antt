@@ -40,6 +40,7 @@ use Rattle.history_cases.proofs.Stepping.{Step, sends, Happens, finishes, stops}
 use Rattle.history_cases.proofs.Entering.{Makes, by_event, by_flush, by_failure, by_restart, makes}
 use Rattle.history_cases.proofs.Durability.{Counted}
 use Rattle.history_cases.proofs.Merging.{Placed, in_order, not_before_itself, before_then, Among, among_append, is_among, in_turn, precedes_before, own_in_order}
+use Rattle.history_laws.specs.Openings.{LegalFrom}
 use Rattle.history_laws.proofs.Walkers.{nothing_follows}
 use Rattle.history_cases.proofs.Telling.{IsRequest}
 use Rattle.history_cases.proofs.OldRuns.{none_of_this_run}
@@ -412,21 +413,21 @@ opening_fine splits before after n m tx o c r = ((λ q. absurd (r q)), at (prepa
         inr (inl (reads_state m (run_after before) 0 (log_after_restart m (log_of before m) (run_after before) 0) 0 [] tx
         (false_from_ne_true _ (λ h. let x = prepare_some (log_after_restart m (log_of before m) (run_after before) 0) tx h in both_ways _ p (prepared_there (log_of before m) tx x.0 (opening_prepares m (log_of before m) (run_after before) 0 tx x.0 x.1))))))
 
-pub bindings_start : (splits : List ℕ) (before after : List (List LogRecord)) (h : History) → may_open splits before ≡ true → Legal splits before h after → Bindings splits before after h []
-bindings_start splits before after h o l =
+pub bindings_start : (splits : List ℕ) (before after : List (List LogRecord)) (h : History) → LegalFrom splits before h after → Bindings splits before after h []
+bindings_start splits before after h l =
     record {
-      fated = fated_start splits before after h o l;
+      fated = fated_start splits before after h l;
       parted = λ n i.
-          let k : n < length before = let e = l.each_log.0 in omega (arith, e, i) in
+          let k : n < length before = let e = l.legal.each_log.0 in omega (arith, e, i) in
           let log = log_of before n in
           let run = run_after before in
           parted_state run (WasTaken h) (Sought before []) (FineAt before after []) n run 0 (log_after_restart n log run 0) 0 []
-          (added_ordered log (log_after_restart n log run 0) (more log _) (λ t p e. opening_prepares n log run 0 t p e) (ordered_opening splits before n o k))
-          (λ tx p r. let x = prepare_some (log_after_restart n log run 0) tx p in absurd (none_prepared splits before n tx o k (prepared_there log tx x.0 (opening_prepares n log run 0 tx x.0 x.1)) r))
-          (λ tx c m d. let b = opening_adds n log run 0 tx c in opening_fine splits before after n m tx o b (λ r. none_of_this_run splits before n tx o k b r));
+          (added_ordered log (log_after_restart n log run 0) (more log _) (λ t p e. opening_prepares n log run 0 t p e) (ordered_opening splits before n l.opens k))
+          (λ tx p r. let x = prepare_some (log_after_restart n log run 0) tx p in absurd (none_prepared splits before n tx l.opens k (prepared_there log tx x.0 (opening_prepares n log run 0 tx x.0 x.1)) r))
+          (λ tx c m d. let b = opening_adds n log run 0 tx c in opening_fine splits before after n m tx l.opens b (λ r. none_of_this_run splits before n tx l.opens k b r));
       said = λ x i. elim i [ ];
     }
 
 -- after each front of a legal history
-pub bindings_front : (splits : List ℕ) (before after : List (List LogRecord)) (h pre post : History) → may_open splits before ≡ true → Legal splits before h after → pre ++ post ≡ h → Bindings splits before after h pre
-bindings_front splits before after h pre post o l q = walk_front (Bindings splits before after h) splits before after h [] pre post l q (bindings_next splits before after h) (bindings_start splits before after h o l)
+pub bindings_front : (splits : List ℕ) (before after : List (List LogRecord)) (h pre post : History) → LegalFrom splits before h after → pre ++ post ≡ h → Bindings splits before after h pre
+bindings_front splits before after h pre post l q = walk_front (Bindings splits before after h) splits before after h [] pre post l.legal q (bindings_next splits before after h) (bindings_start splits before after h l)

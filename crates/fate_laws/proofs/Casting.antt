@@ -7,15 +7,14 @@ use Rattle.clv_base.specs.declared.causes.Vote.{Vote}
 use Rattle.clv_base.specs.declared.causes.Vote.TheVariants.{Yes, Read, No}
 use Rattle.clv_base.specs.declared.messages.Message.TheVariants.{Vote as VoteMessage}
 use Rattle.clv_base.specs.declared.events.Outcome.TheVariants.{Sent}
-use Rattle.clv_base.specs.FileRules.{may_open}
 use Rattle.clv_base.specs.LogRules.{log_of}
 use Rattle.clv_base.specs.State.{Shard}
 use Rattle.clv_base.specs.Restarts.{run_after}
 use Rattle.clv_base.specs.Journals.{History, event_state}
-use Rattle.clv_base.specs.History.{Legal}
 use Rattle.history_cases.proofs.Entering.{Makes, makes}
 use Rattle.history_cases.proofs.Merging.{Placed, Among, among_append}
 use Rattle.history_cases.proofs.Worlds.{state_at}
+use Rattle.history_laws.specs.Openings.{LegalFrom}
 use Rattle.fate_laws.proofs.Binding.{Bound, Reads}
 use Rattle.fate_laws.proofs.Bindings.{WasTaken, Sought, FineAt, SaysOut, says_made, Bindings, bindings_next, bindings_start, sought_not_own, sought_later, noted_bound, noted_reads}
 use Rattle.fate_laws.proofs.Fates.{Fated}
@@ -86,6 +85,6 @@ casts_next splits before after h pre e w k =
         subst (λ m. Cast before after pre m tx vote) (sym (t.0 ∙ (w.split).shard)) (voted_cast before after pre e.0 tx vote t.1)
     last x home from tx vote (inr z) q = elim z [ ]
 
-pub casts_front : (splits : List ℕ) (before after : List (List LogRecord)) (h pre post : History) → may_open splits before ≡ true → Legal splits before h after → pre ++ post ≡ h → Casts splits before after h pre
-casts_front splits before after h pre post o l q =
-    walk_front (Casts splits before after h) splits before after h [] pre post l q (casts_next splits before after h) (record { bindings = bindings_start splits before after h o l; cast = λ x home from tx vote i. elim i [ ] })
+pub casts_front : (splits : List ℕ) (before after : List (List LogRecord)) (h pre post : History) → LegalFrom splits before h after → pre ++ post ≡ h → Casts splits before after h pre
+casts_front splits before after h pre post l q =
+    walk_front (Casts splits before after h) splits before after h [] pre post l.legal q (casts_next splits before after h) (record { bindings = bindings_start splits before after h l; cast = λ x home from tx vote i. elim i [ ] })

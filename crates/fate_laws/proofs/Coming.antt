@@ -149,11 +149,11 @@ comes_of run h n s k =
     }
 
 pub all_comes_of_entries : AllComesOfEntries
-all_comes_of_entries splits before h after so_far rest n m l q i = comes_of (run_after before) so_far n _ ((traced_front splits before after h so_far rest m l q).states n i)
+all_comes_of_entries splits before h after so_far rest n l q i = comes_of (run_after before) so_far n _ ((traced_front splits before after h so_far rest l q).states n i)
 
 pub prepares_come_of_requests : PreparesComeOfRequests
-prepares_come_of_requests splits before h after so_far rest n e to home seen stamp t m l q v =
-    let w = traced_front splits before after h so_far ((n, e) ∷ rest) m l q in
-    let x = next_entry splits before after h so_far (n, e) rest l q in
+prepares_come_of_requests splits before h after so_far rest n e to home seen stamp t l q v =
+    let w = traced_front splits before after h so_far ((n, e) ∷ rest) l q in
+    let x = next_entry splits before after h so_far (n, e) rest l.legal q in
     let b = brought splits before after h so_far (n, e) x.behind w (Deliver (Prepare to t home seen) stamp) (subst (WasSent so_far) v x.sent) in
     (was_asked_at so_far home t b.0, b.1)

@@ -93,5 +93,5 @@ unfolding Counted
 counted_fell before after n pre tx i = walk_on (Counted before after n) pre [] pre [] (append-nil pre) (λ f e r z k. counted_next before after n f e k) (counted_start before after n) tx i
 
 pub commits_find_none_fallen : CommitsFindNoneFallen
-commits_find_none_fallen splits before so_far n e later after tx to home stamp o l q t u =
-    false_from_ne_true _ (λ i. commits_find_the_unfallen splits before so_far n e later after tx to home stamp o l q t u (counted_fell before after n so_far tx i))
+commits_find_none_fallen splits before so_far n e later after tx to home stamp l q t u =
+    false_from_ne_true _ (λ i. commits_find_the_unfallen splits before so_far n e later after tx to home stamp l q t u (counted_fell before after n so_far tx i))

@@ -48,11 +48,11 @@ is_home : (h : History) (tx : TxId) (n : ℕ) → AskedIn h tx n → IsHome h tx
 is_home h tx n (r, ts, i, a) = (r, ts, among_is n r h i, a.0, a.1)
 
 pub commits_stand_at_home : CommitsStandAtHome
-commits_stand_at_home splits before h after choice n tx m l i r c =
-    let f = fated splits before after h m l in
+commits_stand_at_home splits before h after choice n tx l i r c =
+    let f = fated splits before after h l in
     ⊎_elim
     (λ a. let e = (f.counts).shard n i in (n, is_home h tx n (subst (AskedIn h tx) e a), c))
-    (λ k. (k.0, is_home h tx k.0 k.1, durable_left splits before h after choice k.0 tx (home_in splits before after h tx k.0 l k.1) f k.2))
+    (λ k. (k.0, is_home h tx k.0 k.1, durable_left splits before h after choice k.0 tx (home_in splits before after h tx k.0 l.legal k.1) f k.2))
     ((f.homed n i).log tx (left_committed splits before h after choice n tx i c) r)
 
 -- ---- what was told
@@ -61,23 +61,23 @@ told : (splits : List ℕ) (before after : List (List LogRecord)) (h : History) 
 told splits before after h tx commit f (n, e, to, home, i, o) = f.said (n, e) (is_among n e h i)
 
 pub told_commits_stay : ToldCommitsStay
-told_commits_stay splits before h after choice home tx m l r t (b, us, j, q, o) =
-    let f = fated splits before after h m l in
+told_commits_stay splits before h after choice home tx l r t (b, us, j, q, o) =
+    let f = fated splits before after h l in
     let k : Known (AskedIn h) (DurableIn before after h) tx = subst (Said before after h) t.5 (told splits before after h tx true f t) r in
-    let e = one_home splits before after h tx k.0 home (k.1).0 b (k.1).1 us l (k.1).2 (k.1).3 (is_among home b h j) (q, o) in
-    subst (λ n. committed_in (log_of (logs_left splits before h after choice) n) tx ≡ true) e (durable_left splits before h after choice k.0 tx (home_in splits before after h tx k.0 l k.1) f k.2)
+    let e = one_home splits before after h tx k.0 home (k.1).0 b (k.1).1 us l.legal (k.1).2 (k.1).3 (is_among home b h j) (q, o) in
+    subst (λ n. committed_in (log_of (logs_left splits before h after choice) n) tx ≡ true) e (durable_left splits before h after choice k.0 tx (home_in splits before after h tx k.0 l.legal k.1) f k.2)
 
 pub told_aborts_stay : ToldAbortsStay
-told_aborts_stay splits before h after choice n tx m l i r t =
+told_aborts_stay splits before h after choice n tx l i r t =
     false_from_ne_true _
     (λ c.
-    let f = fated splits before after h m l in
+    let f = fated splits before after h l in
     let d = subst (Said before after h) t.5 (told splits before after h tx false f t) r in
-    let k = commits_stand_at_home splits before h after choice n tx m l i r c in
+    let k = commits_stand_at_home splits before h after choice n tx l i r c in
     let a = d.0 in
     let b = k.1 in
-    let e = one_home splits before after h tx k.0 t.3 b.0 a.0 b.1 a.1 l (is_among k.0 b.0 h b.2) (b.3, b.4) a.2 a.3 in
-    let j = home_in splits before after h tx t.3 l a in
+    let e = one_home splits before after h tx k.0 t.3 b.0 a.0 b.1 a.1 l.legal (is_among k.0 b.0 h b.2) (b.3, b.4) a.2 a.3 in
+    let j = home_in splits before after h tx t.3 l.legal a in
     both_ways _ (d.1).0 (left_committed splits before h after choice t.3 tx j (subst (λ z. committed_in (log_of (logs_left splits before h after choice) z) tx ≡ true) e k.2)))
 
 -- ---- members
@@ -119,7 +119,7 @@ is_member_by logs h x (y ∷ es) t ts (inl q) r c = subst (λ z. tx_in t (map (�
 is_member_by logs h x (y ∷ es) t ts (inr i) r c = more_members logs h y es t (is_member_by logs h x es t ts i r c)
 
 pub commits_are_members : CommitsAreMembers
-commits_are_members splits before h after choice n tx m l i r c =
-    let k = commits_stand_at_home splits before h after choice n tx m l i r c in
+commits_are_members splits before h after choice n tx l i r c =
+    let k = commits_stand_at_home splits before h after choice n tx l i r c in
     let b = k.1 in
     is_member_by (logs_left splits before h after choice) h (k.0, b.0) h tx b.1 (is_among k.0 b.0 h b.2) (b.3, b.4) (or_left _ (acknowledged_in h tx) k.2)

@@ -16,7 +16,6 @@ use Rattle.clv_base.specs.declared.events.Event.TheVariants.{Op as OpEvent, Deli
 use Rattle.clv_base.specs.declared.events.Outcome.{Outcome}
 use Rattle.clv_base.specs.declared.events.Entry.{Entry}
 use Rattle.clv_base.specs.Shards.{shard_count}
-use Rattle.clv_base.specs.FileRules.{may_open}
 use Rattle.clv_base.specs.Logs.{committed_in, in_doubt}
 use Rattle.clv_base.specs.LogRules.{log_of}
 use Rattle.clv_base.specs.State.{Shard}
@@ -25,9 +24,9 @@ use Rattle.clv_base.specs.Coordinator.{others, vote_from, is_good}
 use Rattle.clv_base.specs.Events.{finish, with_durable}
 use Rattle.clv_base.specs.Restarts.{run_after, state_after, log_after_restart}
 use Rattle.clv_base.specs.Journals.{History, up_to_restart}
-use Rattle.clv_base.specs.History.{Legal}
 use Rattle.law_base.proofs.Tables.{is_pair, pair_in, in_pair}
 use Rattle.law_base.proofs.Sets.{list_all_at}
+use Rattle.history_laws.specs.Openings.{LegalFrom}
 use Rattle.shard_laws.proofs.Sound.{agreed_before}
 use Rattle.shard_laws.proofs.Relisting.{pair_of}
 use Rattle.history_cases.proofs.Stepping.{Due, commits, votes, rules, KeptByDue, settled, Step, Happens, finishes, stops}
@@ -148,11 +147,11 @@ lowered_next splits before after h pre e w k =
           (down_made (log_of after e.0) s _ (makes (log_of after e.0) s (e.1).event (e.1).outcome ((w.split).enters).event) (owed splits before after h pre e (e.1).event refl w k.bindings) (k.down e.0 w.inside))) n (k.down n i);
     }
 
-pub lowered_front : (splits : List ℕ) (before after : List (List LogRecord)) (h pre post : History) → may_open splits before ≡ true → Legal splits before h after → pre ++ post ≡ h → Lowered splits before after h pre
-lowered_front splits before after h pre post o l q =
-    walk_front (Lowered splits before after h) splits before after h [] pre post l q (lowered_next splits before after h)
-    (record { bindings = bindings_start splits before after h o l; down = λ n i. down_state n (run_after before) 0 (log_after_restart n (log_of before n) (run_after before) 0) 0 [] })
+pub lowered_front : (splits : List ℕ) (before after : List (List LogRecord)) (h pre post : History) → LegalFrom splits before h after → pre ++ post ≡ h → Lowered splits before after h pre
+lowered_front splits before after h pre post l q =
+    walk_front (Lowered splits before after h) splits before after h [] pre post l.legal q (lowered_next splits before after h)
+    (record { bindings = bindings_start splits before after h l; down = λ n i. down_state n (run_after before) 0 (log_after_restart n (log_of before n) (run_after before) 0) 0 [] })
 
 pub commits_go_downwards : CommitsGoDownwards
-commits_go_downwards splits before so_far later after n tx p o l i c j =
-    (lowered_front splits before after (so_far ++ later) so_far later o l refl).down n i tx p c (in_pair (state_at before after n so_far).local.pairs tx p j)
+commits_go_downwards splits before so_far later after n tx p l i c j =
+    (lowered_front splits before after (so_far ++ later) so_far later l refl).down n i tx p c (in_pair (state_at before after n so_far).local.pairs tx p j)

@@ -10,17 +10,17 @@ use Rattle.clv_base.specs.declared.events.Outcome.{Outcome}
 use Rattle.clv_base.specs.declared.events.Outcome.TheVariants.{Sent}
 use Rattle.clv_base.specs.declared.events.Entry.{Entry}
 use Rattle.clv_base.specs.Shards.{shard_count}
-use Rattle.clv_base.specs.FileRules.{may_open}
 use Rattle.clv_base.specs.Logs.{committed_in}
 use Rattle.clv_base.specs.LogRules.{log_of}
 use Rattle.clv_base.specs.State.{Shard}
 use Rattle.clv_base.specs.Restarts.{run_after, log_after_restart}
 use Rattle.clv_base.specs.Journals.{History, event_state, after_entry}
-use Rattle.clv_base.specs.History.{Legal, WasSent}
+use Rattle.clv_base.specs.History.{WasSent}
 use Rattle.law_base.proofs.Commits.{committed_keeps}
 use Rattle.protocol_laws.specs.SessionLaws.{tx_of}
 use Rattle.history_cases.proofs.Entering.{Makes, makes}
 use Rattle.history_cases.proofs.Merging.{Placed, Among, among_append, is_among}
+use Rattle.history_laws.specs.Openings.{LegalFrom}
 use Rattle.history_laws.proofs.Staying.{walker_of}
 use Rattle.history_cases.proofs.TellingEvents.{front_committed}
 use Rattle.history_cases.proofs.Worlds.{state_at}
@@ -107,16 +107,16 @@ module _ (splits : List ℕ) (before after : List (List LogRecord)) (h pre : His
 
 -- ---- the whole front
 
-pub elders_start : (splits : List ℕ) (before after : List (List LogRecord)) (h : History) → may_open splits before ≡ true → Legal splits before h after → Elders splits before after []
-elders_start splits before after h m l =
+pub elders_start : (splits : List ℕ) (before after : List (List LogRecord)) (h : History) → LegalFrom splits before h after → Elders splits before after []
+elders_start splits before after h l =
     record {
       counts = counts_start splits before after;
       elder = λ n i.
-          let k : n < length before = let e = l.each_log.0 in omega (arith, e, i) in
-          elder_opened (OfRun before) (WasCommitted before) (WasCommittedOn before) n (run_after before) (log_of before n) (λ t c. inr (n, c)) (λ t p e. inr (λ c. opening_home splits before t c.0 n p m c.1 k e));
+          let k : n < length before = let e = l.legal.each_log.0 in omega (arith, e, i) in
+          elder_opened (OfRun before) (WasCommitted before) (WasCommittedOn before) n (run_after before) (log_of before n) (λ t c. inr (n, c)) (λ t p e. inr (λ c. opening_home splits before t c.0 n p l.opens c.1 k e));
       said = λ x i. elim i [ ];
       stays = λ n tx d. d;
     }
 
-pub elders_front : (splits : List ℕ) (before after : List (List LogRecord)) (h pre post : History) → may_open splits before ≡ true → Legal splits before h after → pre ++ post ≡ h → Elders splits before after pre
-elders_front splits before after h pre post m l q = walk_front (Elders splits before after) splits before after h [] pre post l q (λ f e w k. elders_next splits before after h f e w k) (elders_start splits before after h m l)
+pub elders_front : (splits : List ℕ) (before after : List (List LogRecord)) (h pre post : History) → LegalFrom splits before h after → pre ++ post ≡ h → Elders splits before after pre
+elders_front splits before after h pre post l q = walk_front (Elders splits before after) splits before after h [] pre post l.legal q (λ f e w k. elders_next splits before after h f e w k) (elders_start splits before after h l)

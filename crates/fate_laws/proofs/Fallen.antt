@@ -8,11 +8,11 @@ use Rattle.clv_base.specs.declared.events.Event.TheVariants.{Deliver, Restart}
 use Rattle.clv_base.specs.declared.events.Outcome.TheVariants.{Taken}
 use Rattle.clv_base.specs.declared.events.Entry.{Entry}
 use Rattle.clv_base.specs.Logs.{committed_in}
-use Rattle.clv_base.specs.FileRules.{may_open}
 use Rattle.clv_base.specs.State.{Shard, is_present}
 use Rattle.clv_base.specs.Undo.{stage_of}
 use Rattle.clv_base.specs.Journals.{History}
-use Rattle.clv_base.specs.History.{Legal, state_before}
+use Rattle.clv_base.specs.History.{state_before}
+use Rattle.history_laws.specs.Openings.{LegalFrom}
 use Rattle.shard_laws.specs.OneShard.{is_doomed}
 use Rattle.fate_laws.specs.Falls.{Fell}
 use Rattle.fate_laws.proofs.Finding.{commits_find_the_unfallen}
@@ -43,8 +43,8 @@ fell_is before so_far after n tx (front, rest, q, inr (e, more, r, v, o)) =
     is_not true e = absurd (both_ways false refl e)
     is_not false e = refl
 
-pub commits_spare_the_fallen : (splits : List ℕ) (before after : List (List LogRecord)) (h : History) → may_open splits before ≡ true → Legal splits before h after
+pub commits_spare_the_fallen : (splits : List ℕ) (before after : List (List LogRecord)) (h : History) → LegalFrom splits before h after
     → (so_far : History) (n : ℕ) (e : Entry) (later : History) (tx : TxId) (to home stamp : ℕ) → so_far ++ (n, e) ∷ later ≡ h → e.event ≡ Deliver (Decide to tx home true) stamp → e.outcome ≡ Taken
     → committed_in (state_before before so_far after n).local.log tx ≡ false → FellOn before so_far after n tx → ⊥
-commits_spare_the_fallen splits before after h m l so_far n e later tx to home stamp q v o u f =
-    commits_find_the_unfallen splits before so_far n e later after tx to home stamp m (subst (λ z. Legal splits before z after) (sym q) l) v o u (fell_is before so_far after n tx f)
+commits_spare_the_fallen splits before after h l so_far n e later tx to home stamp q v o u f =
+    commits_find_the_unfallen splits before so_far n e later after tx to home stamp (subst (λ z. LegalFrom splits before z after) (sym q) l) v o u (fell_is before so_far after n tx f)

@@ -40,6 +40,7 @@ use Rattle.protocol_laws.specs.SessionLaws.{tx_of}
 use Rattle.history_cases.proofs.Entering.{Makes, by_event, by_flush, by_failure, by_restart, makes}
 use Rattle.history_cases.proofs.Merging.{Placed, Among, among_append, among_left}
 use Rattle.history_cases.proofs.Worlds.{state_at}
+use Rattle.history_laws.specs.Openings.{LegalFrom}
 use Rattle.history_laws.proofs.Staying.{walker_of}
 use Rattle.history_cases.proofs.TellingEvents.{front_committed}
 use Rattle.shard_laws.proofs.Restoring.{restored_closed}
@@ -465,17 +466,17 @@ all_tied (RestartRecord run epoch ∷ rs) = (tt, all_tied rs)
 log_ahead : (splits : List ℕ) (before : List (List LogRecord)) (n : ℕ) → may_open splits before ≡ true → n < length before → Ahead [] (log_of before n)
 log_ahead splits before n m l = follows_ahead n [] (log_of before n) (log_follows splits before n m l)
 
-opens : (splits : List ℕ) (before after : List (List LogRecord)) (h : History) (n : ℕ) → may_open splits before ≡ true → Legal splits before h after → n < shard_count splits → Stands before after h [] n (state_at before after n [])
-opens splits before after h n o l i =
+opens : (splits : List ℕ) (before after : List (List LogRecord)) (h : History) (n : ℕ) → LegalFrom splits before h after → n < shard_count splits → Stands before after h [] n (state_at before after n [])
+opens splits before after h n l i =
     let run = run_after before in
     let log = log_after_restart n (log_of before n) (run_after before) 0 in
-    let bs = bindings_front splits before after h [] h o l refl in
+    let bs = bindings_front splits before after h [] h l refl in
     record {
       tied = tied_opened (λ t p. ⊤) n (run_after before) (log_of before n) (all_tied (log_of before n));
       barred = barred_state (Denied before after []) (WasOut before after [] n) (Met before [] [] n) (HomeHere h n) n (run_after before) 0 log 0 []
-          (whole_ahead n (log_of before n) (run_after before) 0 (log_ahead splits before n o (let e = (l.each_log).0 in omega (arith, e, i))))
+          (whole_ahead n (log_of before n) (run_after before) 0 (log_ahead splits before n l.opens (let e = l.legal.each_log.0 in omega (arith, e, i))))
           (λ u c. ordered_wrote log u ((bs.parted n i).base).ordered c)
-          (λ u p c. let r = prepared_asked splits before after h [] n l (λ y j. elim j [ ]) bs.fated i u p c in (inl r.0, r.1))
+          (λ u p c. let r = prepared_asked splits before after h [] n l.legal (λ y j. elim j [ ]) bs.fated i u p c in (inl r.0, r.1))
           (λ u v. (first u v).1)
           (λ u p v j c. absurd (both_ways _ (first u v).0 (ap is_present (restored_closed (in_doubt n log) u j))));
     }
@@ -496,31 +497,31 @@ StandsAll : (splits : List ℕ) (before after : List (List LogRecord)) (h pre : 
 StandsAll splits before after h pre = (n : ℕ) → n < shard_count splits → Stands before after h pre n (state_at before after n pre)
 
 -- what is known of an entry, and of the fronts before and behind it
-pub entry_at : (splits : List ℕ) (before after : List (List LogRecord)) (h pre : History) (e : Placed) (post : History) → may_open splits before ≡ true → Legal splits before h after → pre ++ e ∷ post ≡ h → At splits before after h pre e
-entry_at splits before after h pre e post o l q =
-    let w = next_at splits before after h pre e post l q in
+pub entry_at : (splits : List ℕ) (before after : List (List LogRecord)) (h pre : History) (e : Placed) (post : History) → LegalFrom splits before h after → pre ++ e ∷ post ≡ h → At splits before after h pre e
+entry_at splits before after h pre e post l q =
+    let w = next_at splits before after h pre e post l.legal q in
     let later : (pre ++ e ∷ []) ++ post ≡ h = append_assoc pre (e ∷ []) post ∙ q in
     record {
       next = w;
-      behind = (next_entry splits before after h pre e post l q).behind;
+      behind = (next_entry splits before after h pre e post l.legal q).behind;
       inside = λ y j. subst (Among y) later (among_left y (pre ++ e ∷ []) post j);
-      was = spared_front splits before after h pre (e ∷ post) o l q;
-      is = spared_front splits before after h (pre ++ e ∷ []) post o l later;
-      traced = (traced_front splits before after h pre (e ∷ post) o l q).states e.0 w.inside;
-      elders = elders_front splits before after h pre (e ∷ post) o l q;
+      was = spared_front splits before after h pre (e ∷ post) l q;
+      is = spared_front splits before after h (pre ++ e ∷ []) post l later;
+      traced = (traced_front splits before after h pre (e ∷ post) l q).states e.0 w.inside;
+      elders = elders_front splits before after h pre (e ∷ post) l q;
     }
 
-next_stands : (splits : List ℕ) (before after : List (List LogRecord)) (h pre : History) (e : Placed) (post : History) → may_open splits before ≡ true → Legal splits before h after → pre ++ e ∷ post ≡ h → StandsAll splits before after h pre → StandsAll splits before after h (pre ++ e ∷ [])
+next_stands : (splits : List ℕ) (before after : List (List LogRecord)) (h pre : History) (e : Placed) (post : History) → LegalFrom splits before h after → pre ++ e ∷ post ≡ h → StandsAll splits before after h pre → StandsAll splits before after h (pre ++ e ∷ [])
 unfolding StandsAll
-next_stands splits before after h pre e post o l q k n i = at (e.0 == n) refl
+next_stands splits before after h pre e post l q k n i = at (e.0 == n) refl
   where
     x : At splits before after h pre e
-    x = entry_at splits before after h pre e post o l q
+    x = entry_at splits before after h pre e post l q
 
     at : (b : Bool) → (e.0 == n) ≡ b → Stands before after h (pre ++ e ∷ []) n (state_at before after n (pre ++ e ∷ []))
     at true f = subst (λ m. Stands before after h (pre ++ e ∷ []) m (state_at before after m (pre ++ e ∷ []))) (eqb-true e.0 n f) (stands_here splits before after h pre e x (k e.0 (x.next).inside))
     at false f = stands_there splits before after h pre e x (k e.0 (x.next).inside) n f (k n i)
 
-pub stands_front : (splits : List ℕ) (before after : List (List LogRecord)) (h pre post : History) → may_open splits before ≡ true → Legal splits before h after → pre ++ post ≡ h → (n : ℕ) → n < shard_count splits → Stands before after h pre n (state_at before after n pre)
+pub stands_front : (splits : List ℕ) (before after : List (List LogRecord)) (h pre post : History) → LegalFrom splits before h after → pre ++ post ≡ h → (n : ℕ) → n < shard_count splits → Stands before after h pre n (state_at before after n pre)
 unfolding StandsAll
-stands_front splits before after h pre post o l q n i = walk_on (StandsAll splits before after h) h [] pre post q (λ f e r z k. next_stands splits before after h f e r o l z k) (λ m j. opens splits before after h m o l j) n i
+stands_front splits before after h pre post l q n i = walk_on (StandsAll splits before after h) h [] pre post q (λ f e r z k. next_stands splits before after h f e r l z k) (λ m j. opens splits before after h m l j) n i

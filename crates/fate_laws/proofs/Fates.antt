@@ -23,7 +23,7 @@ use Rattle.clv_base.specs.FileRules.{may_open, log_passes, passes_file_rules}
 use Rattle.clv_base.specs.State.{Shard}
 use Rattle.clv_base.specs.Restarts.{run_after, log_left, greatest_run}
 use Rattle.clv_base.specs.Journals.{History, event_state, after_entry}
-use Rattle.clv_base.specs.History.{Legal, WasSent}
+use Rattle.clv_base.specs.History.{WasSent}
 use Rattle.law_base.proofs.Commits.{durable_committed}
 use Rattle.law_base.proofs.Options.{none_of}
 use Rattle.protocol_laws.proofs.Records.{own_prepare}
@@ -34,6 +34,7 @@ use Rattle.history_cases.proofs.Merging.{Placed, Among, among_append, among_righ
 use Rattle.history_cases.proofs.TellingEvents.{front_committed}
 use Rattle.history_cases.proofs.OldRuns.{below_next_run, none_of_this_run}
 use Rattle.history_cases.proofs.Worlds.{state_at}
+use Rattle.history_laws.specs.Openings.{LegalFrom}
 use Rattle.fate_laws.proofs.Homes.{Known, Dead, Tells, Alone, Homed, words_on, MayCommit}
 use Rattle.fate_laws.proofs.HomesEvents.{Fresh, Owes, homed_opened}
 use Rattle.fate_laws.proofs.Entering.{Enters, ToldDead, SaysOut, homed_mono, durable_front, homed_made, says_made}
@@ -227,18 +228,18 @@ none_prepared splits before n t m l c r =
     let g = below_next_run before n in
     omega (arith, f, g, r)
 
-pub fated_start : (splits : List ℕ) (before after : List (List LogRecord)) (h : History) → may_open splits before ≡ true → Legal splits before h after → Fated splits before after []
-fated_start splits before after h m l =
+pub fated_start : (splits : List ℕ) (before after : List (List LogRecord)) (h : History) → LegalFrom splits before h after → Fated splits before after []
+fated_start splits before after h l =
     record {
       counts = counts_start splits before after;
       homed = λ n i.
-          let k : n < length before = let e = l.each_log.0 in omega (arith, e, i) in
-          homed_opened (run_after before) (AskedIn []) (AskedIn []) (DurableIn before after []) n (log_of before n) (λ t. none_of_this_run splits before n t m k) (λ t. none_prepared splits before n t m k);
+          let k : n < length before = let e = l.legal.each_log.0 in omega (arith, e, i) in
+          homed_opened (run_after before) (AskedIn []) (AskedIn []) (DurableIn before after []) n (log_of before n) (λ t. none_of_this_run splits before n t l.opens k) (λ t. none_prepared splits before n t l.opens k);
       said = λ x i. elim i [ ];
     }
 
-pub fated : (splits : List ℕ) (before after : List (List LogRecord)) (h : History) → may_open splits before ≡ true → Legal splits before h after → Fated splits before after h
-fated splits before after h m l = walk (Fated splits before after) splits before after h [] h l refl (fated_next splits before after h) (fated_start splits before after h m l)
+pub fated : (splits : List ℕ) (before after : List (List LogRecord)) (h : History) → LegalFrom splits before h after → Fated splits before after h
+fated splits before after h l = walk (Fated splits before after) splits before after h [] h l.legal refl (fated_next splits before after h) (fated_start splits before after h l)
 
 -- who is committed on a shard asked, and is committed where it asked
 pub committed_asked : (splits : List ℕ) (before after : List (List LogRecord)) (h pre : History) (n : ℕ) (tx : TxId) → n < shard_count splits → Fated splits before after pre → tx.run ≡ run_after before → committed_in (state_at before after n pre).local.log tx ≡ true

@@ -9,7 +9,6 @@ use Rattle.clv_base.specs.declared.state.Stage.TheVariants.{Active, Closed, Gone
 use Rattle.clv_base.specs.declared.events.Event.TheVariants.{Deliver}
 use Rattle.clv_base.specs.declared.events.Outcome.TheVariants.{Taken, Stale, Down}
 use Rattle.clv_base.specs.Shards.{shard_count}
-use Rattle.clv_base.specs.FileRules.{may_open}
 use Rattle.clv_base.specs.LogRules.{log_of}
 use Rattle.clv_base.specs.Logs.{committed_in}
 use Rattle.clv_base.specs.declared.state.Taken.{Taken as DecisionTaken}
@@ -20,10 +19,10 @@ use Rattle.clv_base.specs.Facts.{facts_of, is_waiting, has_durable_commit}
 use Rattle.clv_base.specs.Participant.{taken_if, taken_by}
 use Rattle.clv_base.specs.Events.{Reply, QuietBeforeWorn, Does, on_decide, deliver_event}
 use Rattle.clv_base.specs.Journals.{History, EventMay}
-use Rattle.clv_base.specs.History.{Legal}
 use Rattle.law_base.proofs.Commits.{durable_committed}
 use Rattle.history_cases.proofs.Merging.{Placed, among_left, is_among}
 use Rattle.history_cases.proofs.Worlds.{state_at}
+use Rattle.history_laws.specs.Openings.{LegalFrom}
 use Rattle.fate_laws.proofs.Prefixes.{Next, next_at, asked_later, one_home}
 use Rattle.fate_laws.specs.Decisions.{is_left}
 use Rattle.fate_laws.proofs.Deciding.{left_committed, commits_stand_at_home}
@@ -38,8 +37,8 @@ use Rattle.fate_laws.proofs.Falling.{Met, met_front, WasOut, decision_finds, sta
 
 -- ---- who fell was out
 
-pub fell_out : (splits : List ℕ) (before after : List (List LogRecord)) (h pre post : History) (n : ℕ) (tx : TxId) → may_open splits before ≡ true → Legal splits before h after → pre ++ post ≡ h → n < shard_count splits → Fell before pre after n tx → WasOut before after pre n tx
-fell_out splits before after h pre post n tx o l q i (inl (f, e, rest, z, ev, (there, gone, open_))) =
+pub fell_out : (splits : List ℕ) (before after : List (List LogRecord)) (h pre post : History) (n : ℕ) (tx : TxId) → LegalFrom splits before h after → pre ++ post ≡ h → n < shard_count splits → Fell before pre after n tx → WasOut before after pre n tx
+fell_out splits before after h pre post n tx l q i (inl (f, e, rest, z, ev, (there, gone, open_))) =
     (f ++ (n, e) ∷ [], rest, append_assoc f ((n, e) ∷ []) rest ∙ z, (gone, open_, met (stage_of (state_at before after n f).local tx) refl there))
   where
     whole : f ++ ((n, e) ∷ rest ++ post) ≡ h
@@ -48,8 +47,8 @@ fell_out splits before after h pre post n tx o l q i (inl (f, e, rest, z, ev, (t
     met : (o2 : Option Stage) → stage_of (state_at before after n f).local tx ≡ o2 → is_present o2 ≡ true → Met before (f ++ (n, e) ∷ []) (f ++ (n, e) ∷ []) n tx
     met None g y = absurd (both_ways false refl y)
     met (Some st) g y =
-        met_front before f f (f ++ (n, e) ∷ []) (f ++ (n, e) ∷ []) n tx (λ j a. asked_later f (n, e) tx j a) (λ v j. among_left v f ((n, e) ∷ []) j) (parts_met splits before after h f ((n, e) ∷ rest ++ post) o l whole n i tx st g)
-fell_out splits before after h pre post n tx o l q i (inr (f, rest, z, d)) = by_stage (stage_of (state_at before after n f).local tx) refl d
+        met_front before f f (f ++ (n, e) ∷ []) (f ++ (n, e) ∷ []) n tx (λ j a. asked_later f (n, e) tx j a) (λ v j. among_left v f ((n, e) ∷ []) j) (parts_met splits before after h f ((n, e) ∷ rest ++ post) l whole n i tx st g)
+fell_out splits before after h pre post n tx l q i (inr (f, rest, z, d)) = by_stage (stage_of (state_at before after n f).local tx) refl d
   where
     whole : f ++ (rest ++ post) ≡ h
     whole = sym (append_assoc f rest post) ∙ ap (λ y. y ++ post) z ∙ q
@@ -61,8 +60,8 @@ fell_out splits before after h pre post n tx o l q i (inr (f, rest, z, d)) = by_
       z,
       (
         subst (λ v. is_present v ≡ false) (sym g) refl,
-        ((spared_front splits before after h f (rest ++ post) o l whole).kept n i).gone tx doom g,
-        parts_met splits before after h f (rest ++ post) o l whole n i tx (Gone (Some doom)) g,
+        ((spared_front splits before after h f (rest ++ post) l whole).kept n i).gone tx doom g,
+        parts_met splits before after h f (rest ++ post) l whole n i tx (Gone (Some doom)) g,
       ),
     )
     by_stage (Some (Gone None)) g y = absurd (both_ways false refl y)
@@ -71,9 +70,9 @@ fell_out splits before after h pre post n tx o l q i (inr (f, rest, z, d)) = by_
     by_stage None g y = absurd (both_ways false refl y)
 
 pub fallen_are_uncommitted : FallenAreUncommitted
-fallen_are_uncommitted splits before so_far later after n tx o l i f =
+fallen_are_uncommitted splits before so_far later after n tx l i f =
     let h = so_far ++ later in
-    ((stands_front splits before after h so_far later o l refl n i).barred).open_ tx (fell_out splits before after h so_far later n tx o l refl i f)
+    ((stands_front splits before after h so_far later l refl n i).barred).open_ tx (fell_out splits before after h so_far later n tx l refl i f)
 
 -- ---- a commit that is taken comes to a closed part
 
@@ -103,22 +102,22 @@ taken_at splits before after h pre e tx to home stamp w q o n =
     by_up s m.0 tx to home s.is_up n m.1
 
 pub commits_find_the_unfallen : CommitsFindTheUnfallen
-commits_find_the_unfallen splits before so_far n e later after tx to home stamp o l q t u f =
+commits_find_the_unfallen splits before so_far n e later after tx to home stamp l q t u f =
     let h = so_far ++ (n, e) ∷ later in
-    let w = next_at splits before after h so_far (n, e) later l refl in
-    decision_finds splits before after h so_far (n, e) tx to home stamp (Met before so_far so_far n) w (bindings_front splits before after h so_far ((n, e) ∷ later) o l refl) (elders_front splits before after h so_far ((n, e) ∷ later) o l refl) q
-    (stands_front splits before after h so_far ((n, e) ∷ later) o l refl n w.inside) u (taken_at splits before after h so_far (n, e) tx to home stamp w q t u)
-    (inl (fell_out splits before after h so_far ((n, e) ∷ later) n tx o l refl w.inside f))
+    let w = next_at splits before after h so_far (n, e) later l.legal refl in
+    decision_finds splits before after h so_far (n, e) tx to home stamp (Met before so_far so_far n) w (bindings_front splits before after h so_far ((n, e) ∷ later) l refl) (elders_front splits before after h so_far ((n, e) ∷ later) l refl) q
+    (stands_front splits before after h so_far ((n, e) ∷ later) l refl n w.inside) u (taken_at splits before after h so_far (n, e) tx to home stamp w q t u)
+    (inl (fell_out splits before after h so_far ((n, e) ∷ later) n tx l refl w.inside f))
 
 -- ---- what is left
 
 pub committed_never_fell : CommittedNeverFell
-committed_never_fell splits before h after choice n tx o l i left f =
-    both_ways _ (((stands_front splits before after h h [] o l (append-nil h) n i).barred).open_ tx (fell_out splits before after h h [] n tx o l (append-nil h) i f)) (left_committed splits before h after choice n tx i left)
+committed_never_fell splits before h after choice n tx l i left f =
+    both_ways _ (((stands_front splits before after h h [] l (append-nil h) n i).barred).open_ tx (fell_out splits before after h h [] n tx l (append-nil h) i f)) (left_committed splits before h after choice n tx i left)
 
 pub members_never_fell_at_home : MembersNeverFellAtHome
-members_never_fell_at_home splits before h after choice n home tx o l i j r left (e, ts, a, ev, out) f =
-    let k = commits_stand_at_home splits before h after choice n tx o l i r left in
+members_never_fell_at_home splits before h after choice n home tx l i j r left (e, ts, a, ev, out) f =
+    let k = commits_stand_at_home splits before h after choice n tx l i r left in
     let b = k.1 in
-    let same = one_home splits before after h tx k.0 home b.0 e b.1 ts l (is_among k.0 b.0 h b.2) (b.3, b.4) (is_among home e h a) (ev, out) in
-    committed_never_fell splits before h after choice home tx o l j (subst (λ m. is_left splits before h after choice m tx ≡ true) same k.2) f
+    let same = one_home splits before after h tx k.0 home b.0 e b.1 ts l.legal (is_among k.0 b.0 h b.2) (b.3, b.4) (is_among home e h a) (ev, out) in
+    committed_never_fell splits before h after choice home tx l j (subst (λ m. is_left splits before h after choice m tx ≡ true) same k.2) f

@@ -5,17 +5,16 @@ use Rattle.clv_base.specs.declared.events.Event.{Event}
 use Rattle.clv_base.specs.declared.events.Outcome.{Outcome}
 use Rattle.clv_base.specs.Shards.{shard_count}
 use Rattle.clv_base.specs.LogRules.{log_of}
-use Rattle.clv_base.specs.FileRules.{may_open}
 use Rattle.clv_base.specs.State.{Shard}
 use Rattle.clv_base.specs.Events.{finish, with_durable, put_down, with_entry}
 use Rattle.clv_base.specs.Restarts.{run_after, log_after_restart, revived}
 use Rattle.clv_base.specs.Journals.{History, event_state, up_to_restart}
-use Rattle.clv_base.specs.History.{Legal}
 use Rattle.protocol_laws.proofs.Resting.{rests}
 use Rattle.history_cases.proofs.Entering.{Makes, by_event, by_flush, by_failure, by_restart, makes}
 use Rattle.history_cases.proofs.Merging.{Placed}
 use Rattle.history_cases.proofs.Stepping.{Happens, finishes, stops}
 use Rattle.history_cases.proofs.Worlds.{state_at}
+use Rattle.history_laws.specs.Openings.{LegalFrom}
 use Rattle.history_laws.proofs.Walking.{behind_of}
 use Rattle.fate_laws.proofs.Entries.{traced_front, brought}
 use Rattle.fate_laws.proofs.Prefixes.{next_at, each_shard}
@@ -63,42 +62,42 @@ made_at run before after pre e log _ stamp walker {ev} {o} (by_restart epoch kep
 
 -- ---- the whole of it
 
-pub before_entry : (splits : List ℕ) (before after : List (List LogRecord)) (h pre : History) (e : Placed) (post : History) → may_open splits before ≡ true → Legal splits before h after → pre ++ e ∷ post ≡ h → Before_entry splits before after h pre e
-before_entry splits before after h pre e post m l q =
-    let x = next_at splits before after h pre e post l q in
+pub before_entry : (splits : List ℕ) (before after : List (List LogRecord)) (h pre : History) (e : Placed) (post : History) → LegalFrom splits before h after → pre ++ e ∷ post ≡ h → Before_entry splits before after h pre e
+before_entry splits before after h pre e post l q =
+    let x = next_at splits before after h pre e post l.legal q in
     record {
-      legal = l;
-      behind = behind_of splits before after h pre e post l q;
-      spared = spared_front splits before after h pre (e ∷ post) m l q;
-      traced = (traced_front splits before after h pre (e ∷ post) m l q).states e.0 x.inside;
+      legal = l.legal;
+      behind = behind_of splits before after h pre e post l.legal q;
+      spared = spared_front splits before after h pre (e ∷ post) l q;
+      traced = (traced_front splits before after h pre (e ∷ post) l q).states e.0 x.inside;
     }
 
 AllCaused : List ℕ → List (List LogRecord) → List (List LogRecord) → History → Type 0
 AllCaused splits before after pre = (n : ℕ) → n < shard_count splits → Caused (run_after before) before after pre n (state_at before after n pre)
 
-caused_next : (splits : List ℕ) (before after : List (List LogRecord)) (h pre : History) (e : Placed) (post : History) → may_open splits before ≡ true → Legal splits before h after → pre ++ e ∷ post ≡ h → AllCaused splits before after pre → AllCaused splits before after (pre ++ e ∷ [])
+caused_next : (splits : List ℕ) (before after : List (List LogRecord)) (h pre : History) (e : Placed) (post : History) → LegalFrom splits before h after → pre ++ e ∷ post ≡ h → AllCaused splits before after pre → AllCaused splits before after (pre ++ e ∷ [])
 unfolding AllCaused
-caused_next splits before after h pre e post m l q k n i =
+caused_next splits before after h pre e post l q k n i =
     let run = run_after before in
     let s = state_at before after e.0 pre in
-    let x = next_at splits before after h pre e post l q in
-    let w = before_entry splits before after h pre e post m l q in
-    let b = brought splits before after h pre e w.behind (traced_front splits before after h pre (e ∷ post) m l q) (e.1).event x.sent in
+    let x = next_at splits before after h pre e post l.legal q in
+    let w = before_entry splits before after h pre e post l q in
+    let b = brought splits before after h pre e w.behind (traced_front splits before after h pre (e ∷ post) l q) (e.1).event x.sent in
     let d = owes splits before after h pre e (e.1).event (e.1).outcome w refl refl b in
     let g = made_at run before after pre e (log_of after e.0) (event_state (log_of after e.0) s (e.1).event (e.1).outcome) (e.1).stamp (e.1).walker (makes (log_of after e.0) s (e.1).event (e.1).outcome ((x.split).enters).event) (x.split).next d (k e.0 x.inside) in
     each_shard (λ j z. Caused run before after (pre ++ e ∷ []) j z) before after e pre (subst (Caused run before after (pre ++ e ∷ []) e.0) (sym (x.split).next) g) n (caused_other run before after pre e n (state_at before after n pre) (k n i))
 
-along : (splits : List ℕ) (before after : List (List LogRecord)) (h done pre post : History) → may_open splits before ≡ true → Legal splits before h after → (done ++ pre) ++ post ≡ h → AllCaused splits before after done → AllCaused splits before after (done ++ pre)
-along splits before after h done [] post m l q k = subst (AllCaused splits before after) (sym (append-nil done)) k
-along splits before after h done (e ∷ pre) post m l q k =
+along : (splits : List ℕ) (before after : List (List LogRecord)) (h done pre post : History) → LegalFrom splits before h after → (done ++ pre) ++ post ≡ h → AllCaused splits before after done → AllCaused splits before after (done ++ pre)
+along splits before after h done [] post l q k = subst (AllCaused splits before after) (sym (append-nil done)) k
+along splits before after h done (e ∷ pre) post l q k =
     let a : done ++ e ∷ (pre ++ post) ≡ h = sym (append_assoc done (e ∷ pre) post) ∙ q in
     subst (AllCaused splits before after) (append_assoc done (e ∷ []) pre)
-    (along splits before after h (done ++ e ∷ []) pre post m l (ap (λ z. z ++ post) (append_assoc done (e ∷ []) pre) ∙ q) (caused_next splits before after h done e (pre ++ post) m l a k))
+    (along splits before after h (done ++ e ∷ []) pre post l (ap (λ z. z ++ post) (append_assoc done (e ∷ []) pre) ∙ q) (caused_next splits before after h done e (pre ++ post) l a k))
 
 start_caused : (splits : List ℕ) (before after : List (List LogRecord)) → AllCaused splits before after []
 unfolding AllCaused
 start_caused splits before after n i = caused_restored (run_after before) before after [] n n (run_after before) 0 0 (log_after_restart n (log_of before n) (run_after before) 0) []
 
-pub caused_front : (splits : List ℕ) (before after : List (List LogRecord)) (h pre post : History) (n : ℕ) → may_open splits before ≡ true → Legal splits before h after → pre ++ post ≡ h → n < shard_count splits → Caused (run_after before) before after pre n (state_at before after n pre)
+pub caused_front : (splits : List ℕ) (before after : List (List LogRecord)) (h pre post : History) (n : ℕ) → LegalFrom splits before h after → pre ++ post ≡ h → n < shard_count splits → Caused (run_after before) before after pre n (state_at before after n pre)
 unfolding AllCaused
-caused_front splits before after h pre post n m l q i = along splits before after h [] pre post m l q (start_caused splits before after) n i
+caused_front splits before after h pre post n l q i = along splits before after h [] pre post l q (start_caused splits before after) n i

@@ -27,14 +27,14 @@ in_others m home (x ∷ xs) i n = at (x == home) refl (or_cases (m == x) (nat_in
     at false e (inr f) k = or_right (m == x) _ (k f)
 
 pub members_are_here : MembersAreHere
-members_are_here splits before h after choice n m home e touched tx o l i j a ev out there left = at (m == home) refl
+members_are_here splits before h after choice n m home e touched tx l i j a ev out there left = at (m == home) refl
   where
     at : (b : Bool) → (m == home) ≡ b → HasItsPart (log_of (logs_left splits before h after choice) m) tx
-    at false f = commits_have_their_parts splits before h after choice n m home e touched tx o l i j a ev out (in_others m home (map (λ t. t.0) touched) there f) left
+    at false f = commits_have_their_parts splits before h after choice n m home e touched tx l i j a ev out (in_others m home (map (λ t. t.0) touched) there f) left
     at true f =
         let x = is_among home e h a in
-        let run = (walker_of splits before after h (home, e) tx l x (ap tx_of ev)).0 in
-        let k = commits_stand_at_home splits before h after choice n tx o l i run left in
+        let run = (walker_of splits before after h (home, e) tx l.legal x (ap tx_of ev)).0 in
+        let k = commits_stand_at_home splits before h after choice n tx l i run left in
         let b = k.1 in
-        let same = one_home splits before after h tx k.0 home b.0 e b.1 touched l (is_among k.0 b.0 h b.2) (b.3, b.4) x (ev, out) in
+        let same = one_home splits before after h tx k.0 home b.0 e b.1 touched l.legal (is_among k.0 b.0 h b.2) (b.3, b.4) x (ev, out) in
         inl (subst (λ z. is_left splits before h after choice z tx ≡ true) (same ∙ sym (eqb-true m home f)) k.2)

@@ -16,7 +16,6 @@ use Rattle.clv_base.specs.declared.events.Event.TheVariants.{Op as OpEvent}
 use Rattle.clv_base.specs.declared.events.Outcome.{Outcome}
 use Rattle.clv_base.specs.declared.events.Outcome.TheVariants.{Answered}
 use Rattle.clv_base.specs.Shards.{shard_count}
-use Rattle.clv_base.specs.FileRules.{may_open}
 use Rattle.clv_base.specs.LogRules.{log_of}
 use Rattle.clv_base.specs.Orders.{Table, tx_same, tx_in}
 use Rattle.clv_base.specs.Logs.{prepared_in, in_doubt}
@@ -26,7 +25,6 @@ use Rattle.clv_base.specs.OneShard.{OpDies, OpAnswers, rolled_back_if, closed_in
 use Rattle.clv_base.specs.Events.{finish, with_durable}
 use Rattle.clv_base.specs.Restarts.{run_after, log_after_restart, revived}
 use Rattle.clv_base.specs.Journals.{History, event_state, up_to_restart}
-use Rattle.clv_base.specs.History.{Legal}
 use Rattle.clv_base.proofs.SameNames.{tx_true}
 use Rattle.law_base.proofs.Changed.{none_some}
 use Rattle.law_base.proofs.Tables.{stage_in}
@@ -37,6 +35,7 @@ use Rattle.history_cases.proofs.Worlds.{state_at}
 use Rattle.law_base.proofs.Stages.{closed_other}
 use Rattle.law_base.proofs.Stages.{stage_own, stage_other, gone_by}
 use Rattle.law_base.proofs.Stages.{stage_marked}
+use Rattle.history_laws.specs.Openings.{LegalFrom}
 use Rattle.shard_laws.proofs.Restoring.{restored_none}
 use Rattle.shard_laws.proofs.Ordered.{prepare_some}
 use Rattle.history_laws.proofs.Replying.{OpIs, dies, rolls, performs, reply_is}
@@ -122,12 +121,12 @@ none_made log s _ {e} {o} t (by_restart epoch kept u r) h = at (tx_in t (in_doub
 AllMet : (splits : List ℕ) (before after : List (List LogRecord)) (pre : History) → Type 0
 AllMet splits before after pre = (n : ℕ) → n < shard_count splits → (t : TxId) (st : Stage) → stage_of (state_at before after n pre).local t ≡ Some st → Met before pre pre n t
 
-met_next : (splits : List ℕ) (before after : List (List LogRecord)) (h pre : History) (e : Placed) (post : History) → may_open splits before ≡ true → Legal splits before h after → pre ++ e ∷ post ≡ h → AllMet splits before after pre → AllMet splits before after (pre ++ e ∷ [])
+met_next : (splits : List ℕ) (before after : List (List LogRecord)) (h pre : History) (e : Placed) (post : History) → LegalFrom splits before h after → pre ++ e ∷ post ≡ h → AllMet splits before after pre → AllMet splits before after (pre ++ e ∷ [])
 unfolding AllMet
-met_next splits before after h pre e post o l q k n i t st c = at (e.0 == n) refl c
+met_next splits before after h pre e post l q k n i t st c = at (e.0 == n) refl c
   where
     w : Next splits before after h pre e
-    w = next_at splits before after h pre e post l q
+    w = next_at splits before after h pre e post l.legal q
 
     later : (pre ++ e ∷ []) ++ post ≡ h
     later = append_assoc pre (e ∷ []) post ∙ q
@@ -140,9 +139,9 @@ met_next splits before after h pre e post o l q k n i t st c = at (e.0 == n) ref
     by_entry (inl z) d = absurd (none_some st (sym z ∙ d))
     by_entry (inr (inl z)) d =
         let p = prepare_some (state_at before after e.0 (pre ++ e ∷ [])).local.log t z in
-        inl (prepared_asked splits before after h (pre ++ e ∷ []) e.0 l (λ y j. subst (Among y) later (among_left y (pre ++ e ∷ []) post j)) (bindings_front splits before after h (pre ++ e ∷ []) post o l later).fated w.inside t p.0 p.1).0
+        inl (prepared_asked splits before after h (pre ++ e ∷ []) e.0 l.legal (λ y j. subst (Among y) later (among_left y (pre ++ e ∷ []) post j)) (bindings_front splits before after h (pre ++ e ∷ []) post l later).fated w.inside t p.0 p.1).0
     by_entry (inr (inr (birth, nth, seen, op, a, ep, z, y))) d =
-        let tr = (traced_front splits before after h (pre ++ e ∷ []) post o l later).states e.0 w.inside in
+        let tr = (traced_front splits before after h (pre ++ e ∷ []) post l later).states e.0 w.inside in
         let mine : Among e (pre ++ e ∷ []) = among_right e pre (e ∷ []) (inl refl) in
         inr (ep, (birth, (e, mine, refl, record { seen = seen; answer = a; at = record { nth = nth; op = op; is = z }; outcome = y; saw = (tr.epochs e t birth nth seen op a ep mine refl z y).1 })))
 
@@ -160,18 +159,18 @@ met_next splits before after h pre e post o l q k n i t st c = at (e.0 == n) ref
         subst (λ z. Met before (pre ++ e ∷ []) (pre ++ e ∷ []) z t) m (here (stage_of (state_at before after e.0 pre).local t) refl (subst (λ z. stage_of (state_at before after z (pre ++ e ∷ [])).local t ≡ Some st) (sym m) d))
     at false f d = more n (k n i t st (subst (λ (z : Shard). stage_of z.local t ≡ Some st) (stays_as_it_was before after n e pre f) d))
 
-met_start : (splits : List ℕ) (before after : List (List LogRecord)) (h : History) → may_open splits before ≡ true → Legal splits before h after → AllMet splits before after []
+met_start : (splits : List ℕ) (before after : List (List LogRecord)) (h : History) → LegalFrom splits before h after → AllMet splits before after []
 unfolding AllMet
-met_start splits before after h o l n i t st c = at (tx_in t (in_doubt n (log_after_restart n (log_of before n) (run_after before) 0))) refl
+met_start splits before after h l n i t st c = at (tx_in t (in_doubt n (log_after_restart n (log_of before n) (run_after before) 0))) refl
   where
     at : (b : Bool) → tx_in t (in_doubt n (log_after_restart n (log_of before n) (run_after before) 0)) ≡ b → Met before [] [] n t
     at false j = absurd (none_some st (sym (restored_none (in_doubt n (log_after_restart n (log_of before n) (run_after before) 0)) t j) ∙ c))
     at true j =
         let p = prepare_some (log_after_restart n (log_of before n) (run_after before) 0) t (doubt_prepared n (log_after_restart n (log_of before n) (run_after before) 0) t j) in
-        inl (prepared_asked splits before after h [] n l (λ y k. elim k [ ]) (bindings_front splits before after h [] h o l refl).fated i t p.0 p.1).0
+        inl (prepared_asked splits before after h [] n l.legal (λ y k. elim k [ ]) (bindings_front splits before after h [] h l refl).fated i t p.0 p.1).0
 
-pub parts_met : (splits : List ℕ) (before after : List (List LogRecord)) (h pre post : History) → may_open splits before ≡ true → Legal splits before h after → pre ++ post ≡ h → (n : ℕ) → n < shard_count splits → (t : TxId) (st : Stage) → stage_of (state_at before after n pre).local t ≡ Some st
+pub parts_met : (splits : List ℕ) (before after : List (List LogRecord)) (h pre post : History) → LegalFrom splits before h after → pre ++ post ≡ h → (n : ℕ) → n < shard_count splits → (t : TxId) (st : Stage) → stage_of (state_at before after n pre).local t ≡ Some st
     → Met before pre pre n t
 unfolding AllMet
-parts_met splits before after h pre post o l q n i t st c =
-    walk_on (AllMet splits before after) h [] pre post q (λ f e r z k. met_next splits before after h f e r o l z k) (met_start splits before after h o l) n i t st c
+parts_met splits before after h pre post l q n i t st c =
+    walk_on (AllMet splits before after) h [] pre post q (λ f e r z k. met_next splits before after h f e r l z k) (met_start splits before after h l) n i t st c

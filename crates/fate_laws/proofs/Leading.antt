@@ -22,6 +22,7 @@ use Rattle.clv_base.specs.Journals.{History, start_of, event_state, after_entry}
 use Rattle.clv_base.specs.History.{Legal, request_of, state_before}
 use Rattle.law_base.proofs.Lists.{all_mono}
 use Rattle.protocol_laws.specs.SessionLaws.{tx_of}
+use Rattle.history_laws.specs.Openings.{LegalFrom}
 use Rattle.shard_laws.specs.OneShard.{Deeds, deeds_found, Leads, opens, happens, lands, revives, MayServe, MayHappen, MayDeliver, with_one, new_item, new_told, new_met, doomed_in, found_items, found_asked}
 use Rattle.history_cases.proofs.Entering.{Makes, by_event, by_flush, by_failure, by_restart, makes}
 use Rattle.history_cases.proofs.Merging.{Placed}
@@ -108,12 +109,12 @@ asked_more found pre y = one_after found (requests_of pre) (request_of (y.1).eve
     at None = sym (append-nil (requests_of pre))
     at (Some t) = refl
 
-module _ (splits : List ℕ) (before after : List (List LogRecord)) (h pre : History) (y : Placed) (post : History) (n : ℕ) (opens_ : may_open splits before ≡ true) (legal : Legal splits before h after) (finds : AllFound before h after) (spares : DropsSpared before h after) (q : pre ++ y ∷ post ≡ h) (inside : n < shard_count splits) (a : At before after pre n) where
+module _ (splits : List ℕ) (before after : List (List LogRecord)) (h pre : History) (y : Placed) (post : History) (n : ℕ) (legal : LegalFrom splits before h after) (finds : AllFound before h after) (spares : DropsSpared before h after) (q : pre ++ y ∷ post ≡ h) (inside : n < shard_count splits) (a : At before after pre n) where
   abbrev found : List TxId
   found = found_asked n (log_of before n)
 
   from : AskedFrom (run_after before) pre (found_asked n (log_of before n) ++ requests_of pre)
-  from = asked_from (run_after before) pre (found_asked n (log_of before n)) (asked_are_old splits before n opens_ (let e = (legal.each_log).0 in omega (arith, e, inside)))
+  from = asked_from (run_after before) pre (found_asked n (log_of before n)) (asked_are_old splits before n legal.opens (let e = legal.legal.each_log.0 in omega (arith, e, inside)))
 
   own_step : y.0 ≡ n → At before after (pre ++ (n, y.1) ∷ []) n
   own_step z =
@@ -124,14 +125,14 @@ module _ (splits : List ℕ) (before after : List (List LogRecord)) (h pre : His
       let log0 = log_of before n in
       let d = with_found n log0 (own_deeds before pre after n) in
       let run = run_after before in
-      let w = traced_front splits before after h pre ((n, x) ∷ post) opens_ legal q2 in
-      let w2 = traced_front splits before after h (pre ++ (n, x) ∷ []) post opens_ legal (append_assoc pre ((n, x) ∷ []) post ∙ q2) in
-      let p = next_entry splits before after h pre (n, x) post legal q2 in
-      let here : Here splits before after h pre n x s = record { legal = legal; behind = p.behind; traced = w.states n inside } in
+      let w = traced_front splits before after h pre ((n, x) ∷ post) legal q2 in
+      let w2 = traced_front splits before after h (pre ++ (n, x) ∷ []) post legal (append_assoc pre ((n, x) ∷ []) post ∙ q2) in
+      let p = next_entry splits before after h pre (n, x) post legal.legal q2 in
+      let here : Here splits before after h pre n x s = record { legal = legal.legal; behind = p.behind; traced = w.states n inside } in
       let b = brought splits before after h pre (n, x) p.behind w x.event p.sent in
       let l0 =
       made n run log0 log (found ++ requests_of pre) d s (event_state log s x.event x.outcome) x.stamp x.walker (makes log s x.event x.outcome ((p.split).enters).event) a.leads
-      (λ u f. may splits before after h pre n x post finds spares q2 here d found from a.remembers a.leads x.event u refl b f) (new_request splits before after h pre (n, x) (found ++ requests_of pre) legal p.behind from) in
+      (λ u f. may splits before after h pre n x post finds spares q2 here d found from a.remembers a.leads x.event u refl b f) (new_request splits before after h pre (n, x) (found ++ requests_of pre) legal.legal p.behind from) in
       let t = after_entry log s x in
       let l : LeadsAs n run log0 (found ++ requests_of (pre ++ (n, x) ∷ [])) (deeds_with d s t x) t = subst (λ asked. LeadsAs n run log0 asked (deeds_with d s t x) t) (asked_more found pre (n, x)) l0 in
       let r = restored_prepared n run log0 (record d { asked = found ++ requests_of pre }) s a.leads in
@@ -150,10 +151,10 @@ module _ (splits : List ℕ) (before after : List (List LogRecord)) (h pre : His
       let log0 = log_of before n in
       let d = with_found n log0 (own_deeds before pre after n) in
       let run = run_after before in
-      let p = next_entry splits before after h pre y post legal q in
+      let p = next_entry splits before after h pre y post legal.legal q in
       let e : d ≡ with_found n log0 (own_deeds before (pre ++ y ∷ []) after n) = ap (with_found n log0) (sym (deeds_other before after n y pre b)) in
       let f : state_before before (pre ++ y ∷ []) after n ≡ s = state_other before after n y pre b in
-      let l0 = with_others n run log0 (record d { asked = found ++ requests_of pre }) s (request_of (y.1).event (y.1).outcome) (new_request splits before after h pre y (found ++ requests_of pre) legal p.behind from) a.leads in
+      let l0 = with_others n run log0 (record d { asked = found ++ requests_of pre }) s (request_of (y.1).event (y.1).outcome) (new_request splits before after h pre y (found ++ requests_of pre) legal.legal p.behind from) a.leads in
       let l : LeadsAs n run log0 (found ++ requests_of (pre ++ y ∷ [])) d s = subst (λ asked. LeadsAs n run log0 asked d s) (asked_more found pre y) l0 in
       record {
         leads = subst (λ c. LeadsAs n run log0 (found ++ requests_of (pre ++ y ∷ [])) c (state_before before (pre ++ y ∷ []) after n)) e
@@ -170,12 +171,12 @@ module _ (splits : List ℕ) (before after : List (List LogRecord)) (h pre : His
 
 -- ---- the whole front
 
-walk : (splits : List ℕ) (before after : List (List LogRecord)) (h pre so_far rest : History) (n : ℕ) → may_open splits before ≡ true → Legal splits before h after → AllFound before h after → DropsSpared before h after → pre ++ (so_far ++ rest) ≡ h → n < shard_count splits → At before after pre n
+walk : (splits : List ℕ) (before after : List (List LogRecord)) (h pre so_far rest : History) (n : ℕ) → LegalFrom splits before h after → AllFound before h after → DropsSpared before h after → pre ++ (so_far ++ rest) ≡ h → n < shard_count splits → At before after pre n
     → At before after (pre ++ so_far) n
-walk splits before after h pre [] rest n m l k g q i a = subst (λ z. At before after z n) (sym (append-nil pre)) a
-walk splits before after h pre (y ∷ ys) rest n m l k g q i a =
+walk splits before after h pre [] rest n l k g q i a = subst (λ z. At before after z n) (sym (append-nil pre)) a
+walk splits before after h pre (y ∷ ys) rest n l k g q i a =
     subst (λ z. At before after z n) (append_assoc pre (y ∷ []) ys)
-    (walk splits before after h (pre ++ y ∷ []) ys rest n m l k g (append_assoc pre (y ∷ []) (ys ++ rest) ∙ q) i (step splits before after h pre y (ys ++ rest) n m l k g q i a))
+    (walk splits before after h (pre ++ y ∷ []) ys rest n l k g (append_assoc pre (y ∷ []) (ys ++ rest) ∙ q) i (step splits before after h pre y (ys ++ rest) n l k g q i a))
 
 may_serve : (splits : List ℕ) (before : List (List LogRecord)) (n : ℕ) → may_open splits before ≡ true → n < length before → MayServe n (run_after before) (log_of before n)
 may_serve splits before n m l = (found_in_order splits before n m l, below_next_run before n)
@@ -194,17 +195,17 @@ begins splits before after n m l =
       };
     }
 
-pub at_front : (splits : List ℕ) (before : List (List LogRecord)) (h : History) (after : List (List LogRecord)) (so_far rest : History) (n : ℕ) → may_open splits before ≡ true → Legal splits before h after → so_far ++ rest ≡ h → n < shard_count splits → At before after so_far n
-at_front splits before h after so_far rest n m l q i =
-    walk splits before after h [] so_far rest n m l (all_found splits before after h m l) (drops_spared splits before after h m l) q i (begins splits before after n m (let e = (l.each_log).0 in omega (arith, e, i)))
+pub at_front : (splits : List ℕ) (before : List (List LogRecord)) (h : History) (after : List (List LogRecord)) (so_far rest : History) (n : ℕ) → LegalFrom splits before h after → so_far ++ rest ≡ h → n < shard_count splits → At before after so_far n
+at_front splits before h after so_far rest n l q i =
+    walk splits before after h [] so_far rest n l (all_found splits before after h l) (drops_spared splits before after h l) q i (begins splits before after n l.opens (let e = l.legal.each_log.0 in omega (arith, e, i)))
 
 pub each_shard_leads : EachShardLeads
-each_shard_leads splits before h after so_far rest n m l q i = (at_front splits before h after so_far rest n m l q i).leads
+each_shard_leads splits before h after so_far rest n l q i = (at_front splits before h after so_far rest n l q i).leads
 
 -- a part that a restart brought back is prepared
-pub restored_front : (splits : List ℕ) (before : List (List LogRecord)) (h : History) (after : List (List LogRecord)) (so_far rest : History) (n : ℕ) → may_open splits before ≡ true → Legal splits before h after → so_far ++ rest ≡ h → n < shard_count splits
+pub restored_front : (splits : List ℕ) (before : List (List LogRecord)) (h : History) (after : List (List LogRecord)) (so_far rest : History) (n : ℕ) → LegalFrom splits before h after → so_far ++ rest ≡ h → n < shard_count splits
     → RestoredArePrepared (state_before before so_far after n).local
-restored_front splits before h after so_far rest n m l q i =
+restored_front splits before h after so_far rest n l q i =
     let log = log_of before n in
     let d = with_found n log (own_deeds before so_far after n) in
-    restored_prepared n (run_after before) log (record d { asked = found_asked n log ++ requests_of so_far }) (state_before before so_far after n) (each_shard_leads splits before h after so_far rest n m l q i)
+    restored_prepared n (run_after before) log (record d { asked = found_asked n log ++ requests_of so_far }) (state_before before so_far after n) (each_shard_leads splits before h after so_far rest n l q i)

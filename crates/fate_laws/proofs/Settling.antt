@@ -20,9 +20,9 @@ left_whole s true q = ap (λ f. take (unwrap_or f s.durable) s.local.log) q.2 �
 left_whole s false q = ap (λ n. take n s.local.log) q.1 ∙ take_all (length s.local.log) s.local.log (omega arith)
 
 pub quiet_shards_are_their_maps : QuietShardsAreTheirMaps
-quiet_shards_are_their_maps splits before h after choice n m l i q =
+quiet_shards_are_their_maps splits before h after choice n l i q =
     let s = final_of before h after n in
     let log = log_of before n in
     let e = deeds_before before h after n in
-    quiet_is_settled n (run_after before) log (with_found n log e) s (each_shard_leads splits before h after h [] n m l (append-nil h) i) q
+    quiet_is_settled n (run_after before) log (with_found n log e) s (each_shard_leads splits before h after h [] n l (append-nil h) i) q
     ∙ ap (λ z. stands (z ∷ [])) (sym (log_now splits before h after choice n i ∙ left_whole s (choice n) q))

@@ -11,11 +11,11 @@ use Rattle.clv_base.specs.declared.events.Outcome.TheVariants.{Taken}
 use Rattle.clv_base.specs.declared.events.Entry.{Entry}
 use Rattle.clv_base.specs.Orders.{tx_get}
 use Rattle.clv_base.specs.Logs.{committed_in, wrote_in}
-use Rattle.clv_base.specs.FileRules.{may_open}
 use Rattle.clv_base.specs.Journals.{History}
-use Rattle.clv_base.specs.History.{Legal, WasSent, state_before}
+use Rattle.clv_base.specs.History.{WasSent, state_before}
 use Rattle.law_base.proofs.Rows.{rows_get}
 use Rattle.protocol_laws.specs.SessionLaws.{tx_of}
+use Rattle.history_laws.specs.Openings.{LegalFrom}
 use Rattle.shard_laws.specs.OneShard.{predecessors_committed}
 use Rattle.history_laws.proofs.Staying.{walker_of}
 use Rattle.fate_laws.proofs.Prefixes.{Next, next_at, one_home}
@@ -54,27 +54,27 @@ undecided_away splits before after h pre n e tx to home stamp q w b v c g u =
     let z : WasSent pre (Deliver (Decide to tx home true) stamp) = subst (WasSent pre) v w.sent in
     both_ways _ c (home_committed splits before after h pre (n, e) tx q.touched w (delivered splits before after pre (Decide to tx home true) stamp b.fated z r) a)
 
-pub all_found : (splits : List ℕ) (before after : List (List LogRecord)) (h : History) → may_open splits before ≡ true → Legal splits before h after → AllFound before h after
-all_found splits before after h m l pre n e later tx to home stamp q v o c =
-    let w = next_at splits before after h pre (n, e) later l q in
-    let b = bindings_front splits before after h pre ((n, e) ∷ later) m l q in
+pub all_found : (splits : List ℕ) (before after : List (List LogRecord)) (h : History) → LegalFrom splits before h after → AllFound before h after
+all_found splits before after h l pre n e later tx to home stamp q v o c =
+    let w = next_at splits before after h pre (n, e) later l.legal q in
+    let b = bindings_front splits before after h pre ((n, e) ∷ later) l q in
     let first = due_at splits before after h pre (n, e) tx to home stamp w b v c in
     record {
       due = first.0;
-      unfallen = commits_spare_the_fallen splits before after h m l pre n e later tx to home stamp q v o c;
+      unfallen = commits_spare_the_fallen splits before after h l pre n e later tx to home stamp q v o c;
       wrote = first.1;
       decided = λ r x u. undecided_away splits before after h pre n e tx to home stamp r w b v c x u;
     }
 
 -- ---- a drop
 
-pub drops_spared : (splits : List ℕ) (before after : List (List LogRecord)) (h : History) → may_open splits before ≡ true → Legal splits before h after → DropsSpared before h after
-drops_spared splits before after h m l pre n e later tx q v =
-    let w = next_at splits before after h pre (n, e) later l q in
-    let k = spared_front splits before after h pre ((n, e) ∷ later) m l q in
-    let r = (walker_of splits before after h (n, e) tx l w.among (ap tx_of v)).0 in
+pub drops_spared : (splits : List ℕ) (before after : List (List LogRecord)) (h : History) → LegalFrom splits before h after → DropsSpared before h after
+drops_spared splits before after h l pre n e later tx q v =
+    let w = next_at splits before after h pre (n, e) later l.legal q in
+    let k = spared_front splits before after h pre ((n, e) ∷ later) l q in
+    let r = (walker_of splits before after h (n, e) tx l.legal w.among (ap tx_of v)).0 in
     false_from_ne_true _ (λ c.
-    let a = committed_asked splits before after h pre n tx w.inside (bindings_front splits before after h pre ((n, e) ∷ later) m l q).fated r c in
+    let a = committed_asked splits before after h pre n tx w.inside (bindings_front splits before after h pre ((n, e) ∷ later) l q).fated r c in
     let d = dropped_dead splits before after h pre (n, e) tx a.0 w k v r a.1 in
-    let z = one_home splits before after h tx a.0 d.0 (a.1).0 ((d.1).0).0 (a.1).1 ((d.1).0).1 l (w.earlier (a.0, (a.1).0) (a.1).2).0 (a.1).3 (w.earlier (d.0, ((d.1).0).0) ((d.1).0).2).0 ((d.1).0).3 in
+    let z = one_home splits before after h tx a.0 d.0 (a.1).0 ((d.1).0).0 (a.1).1 ((d.1).0).1 l.legal (w.earlier (a.0, (a.1).0) (a.1).2).0 (a.1).3 (w.earlier (d.0, ((d.1).0).0) ((d.1).0).2).0 ((d.1).0).3 in
     both_ways _ ((d.1).1).0 (subst (λ i. committed_in (state_before before pre after i).local.log tx ≡ true) z a.2))

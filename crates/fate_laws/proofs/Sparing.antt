@@ -14,7 +14,6 @@ use Rattle.clv_base.specs.declared.events.Outcome.{Outcome}
 use Rattle.clv_base.specs.declared.events.Outcome.TheVariants.{Asked, Aborted, Dead as DeadOutcome, Dropped}
 use Rattle.clv_base.specs.declared.events.Entry.{Entry}
 use Rattle.clv_base.specs.Shards.{shard_count}
-use Rattle.clv_base.specs.FileRules.{may_open}
 use Rattle.clv_base.specs.Orders.{tx_same, tx_get, nat_in}
 use Rattle.clv_base.specs.Logs.{committed_in}
 use Rattle.clv_base.specs.LogRules.{log_of}
@@ -33,6 +32,7 @@ use Rattle.history_cases.proofs.Entering.{Makes, by_event, by_flush, by_failure,
 use Rattle.history_cases.proofs.Durability.{framed_finish, happens_steps}
 use Rattle.history_cases.proofs.Merging.{Placed, in_order, not_before_itself, before_then, Among, among_append, from_journal, in_turn, precedes_before, own_in_order, is_among}
 use Rattle.history_cases.proofs.TellingEvents.{front_committed}
+use Rattle.history_laws.specs.Openings.{LegalFrom}
 use Rattle.history_laws.specs.Outcomes.{is_abort}
 use Rattle.history_laws.proofs.Walkers.{nothing_follows}
 use Rattle.history_laws.proofs.Endings.{names, nothing_after_end}
@@ -255,28 +255,28 @@ spared_next splits before after h pre e w k =
         (dead_later splits before after h pre e w (((k.lowered).bindings).fated) e.0 tx r (found_dead splits before after h pre e.0 tx c w.inside k r f))
     last y tx c (inr z) q o r = elim z [ ]
 
-pub spared_front : (splits : List ℕ) (before after : List (List LogRecord)) (h pre post : History) → may_open splits before ≡ true → Legal splits before h after → pre ++ post ≡ h → Spared splits before after h pre
-spared_front splits before after h pre post o l q =
-    walk_front (Spared splits before after h) splits before after h [] pre post l q (spared_next splits before after h)
+pub spared_front : (splits : List ℕ) (before after : List (List LogRecord)) (h pre post : History) → LegalFrom splits before h after → pre ++ post ≡ h → Spared splits before after h pre
+spared_front splits before after h pre post l q =
+    walk_front (Spared splits before after h) splits before after h [] pre post l.legal q (spared_next splits before after h)
     (record {
-      lowered = lowered_front splits before after h [] h o l refl;
+      lowered = lowered_front splits before after h [] h l refl;
       kept = λ n i. kept_state n (run_after before) 0 (log_after_restart n (log_of before n) (run_after before) 0) 0 [];
       journal = λ n i. refl;
       looks = λ x tx c i. elim i [ ];
     })
 
 pub doomed_are_uncommitted : DoomedAreUncommitted
-doomed_are_uncommitted splits before so_far later after n tx doom o l i g = ((spared_front splits before after (so_far ++ later) so_far later o l refl).kept n i).gone tx doom g
+doomed_are_uncommitted splits before so_far later after n tx doom l i g = ((spared_front splits before after (so_far ++ later) so_far later l refl).kept n i).gone tx doom g
 
 -- whom a look found aborted
-looked_nowhere : (splits : List ℕ) (before : List (List LogRecord)) (h : History) (after : List (List LogRecord)) (choice : ℕ → Bool) (n : ℕ) (x : Placed) (tx : TxId) (cause : AbortCause) → may_open splits before ≡ true → Legal splits before h after → n < shard_count splits
+looked_nowhere : (splits : List ℕ) (before : List (List LogRecord)) (h : History) (after : List (List LogRecord)) (choice : ℕ → Bool) (n : ℕ) (x : Placed) (tx : TxId) (cause : AbortCause) → LegalFrom splits before h after → n < shard_count splits
     → Among x h → (x.1).event ≡ Look tx → (x.1).outcome ≡ Aborted cause → is_left splits before h after choice n tx ≡ true → ⊥
-looked_nowhere splits before h after choice n x tx cause o l i j q a c =
-    let k = spared_front splits before after h h [] o l (append-nil h) in
-    let r = (walker_of splits before after h x tx l j (ap tx_of q)).0 in
+looked_nowhere splits before h after choice n x tx cause l i j q a c =
+    let k = spared_front splits before after h h [] l (append-nil h) in
+    let r = (walker_of splits before after h x tx l.legal j (ap tx_of q)).0 in
     let d = k.looks x tx cause j q a r in
     let z = committed_asked splits before after h h n tx i k r (left_committed splits before h after choice n tx i c) in
-    let same = one_home splits before after h tx z.0 x.0 (z.1).0 (d.0).0 (z.1).1 (d.0).1 l (z.1).2 (z.1).3 (d.0).2 (d.0).3 in
+    let same = one_home splits before after h tx z.0 x.0 (z.1).0 (d.0).0 (z.1).1 (d.0).1 l.legal (z.1).2 (z.1).3 (d.0).2 (d.0).3 in
     both_ways _ (d.1).0 (subst (λ v. committed_in (state_at before after v h).local.log tx ≡ true) same z.2)
 
 -- who died made no request
@@ -292,30 +292,30 @@ died_unasked splits before after h x tx n l i t w a u (r, ts, j, q) =
     (λ b. both_ways _ (nothing_after_end splits v (no_session (run_after before) r.walker) x (n, r) tx p.session b (or_right (is_acknowledgement tx (x.1).event (x.1).outcome) _ a)) (ap (names false tx) q.0 ∙ tx_self tx)) z)
     (in_turn (n, r) x v p.first p.second)
 
-died_nowhere : (splits : List ℕ) (before : List (List LogRecord)) (h : History) (after : List (List LogRecord)) (choice : ℕ → Bool) (n : ℕ) (x : Placed) (tx : TxId) → may_open splits before ≡ true → Legal splits before h after → n < shard_count splits
+died_nowhere : (splits : List ℕ) (before : List (List LogRecord)) (h : History) (after : List (List LogRecord)) (choice : ℕ → Bool) (n : ℕ) (x : Placed) (tx : TxId) → LegalFrom splits before h after → n < shard_count splits
     → Among x h → tx_of (x.1).event ≡ Some tx → works_on tx.serial (x.1).event ≡ true → is_abort tx (x.1).event (x.1).outcome ≡ true → ((x.1).outcome ≡ Asked → ⊥) → is_left splits before h after choice n tx ≡ true → ⊥
-died_nowhere splits before h after choice n x tx o l i j t w a u c =
-    let r = (walker_of splits before after h x tx l j t).0 in
-    let k = commits_stand_at_home splits before h after choice n tx o l i r c in
+died_nowhere splits before h after choice n x tx l i j t w a u c =
+    let r = (walker_of splits before after h x tx l.legal j t).0 in
+    let k = commits_stand_at_home splits before h after choice n tx l i r c in
     let b = k.1 in
-    died_unasked splits before after h x tx k.0 l j t w a u (b.0, b.1, is_among k.0 b.0 h b.2, (b.3, b.4))
+    died_unasked splits before after h x tx k.0 l.legal j t w a u (b.0, b.1, is_among k.0 b.0 h b.2, (b.3, b.4))
 
 -- who was dropped made no request, or a look found it aborted before
-dropped_nowhere : (splits : List ℕ) (before : List (List LogRecord)) (h : History) (after : List (List LogRecord)) (choice : ℕ → Bool) (n : ℕ) (x : Placed) (tx : TxId) → may_open splits before ≡ true → Legal splits before h after → n < shard_count splits
+dropped_nowhere : (splits : List ℕ) (before : List (List LogRecord)) (h : History) (after : List (List LogRecord)) (choice : ℕ → Bool) (n : ℕ) (x : Placed) (tx : TxId) → LegalFrom splits before h after → n < shard_count splits
     → Among x h → (x.1).event ≡ Drop tx → is_abort tx (x.1).event (x.1).outcome ≡ true → is_left splits before h after choice n tx ≡ true → ⊥
-dropped_nowhere splits before h after choice n x tx o l i j q a c =
-    let run = (walker_of splits before after h x tx l j (ap tx_of q)).0 in
-    let k = commits_stand_at_home splits before h after choice n tx o l i run c in
+dropped_nowhere splits before h after choice n x tx l i j q a c =
+    let run = (walker_of splits before after h x tx l.legal j (ap tx_of q)).0 in
+    let k = commits_stand_at_home splits before h after choice n tx l i run c in
     let r : Placed = (k.0, (k.1).0) in
     let asked : (((k.1).0).event ≡ RequestEvent tx (k.1).1) × (((k.1).0).outcome ≡ Asked) = ((k.1).3, (k.1).4) in
-    let p = together splits before after h r x tx l (is_among k.0 (k.1).0 h (k.1).2) j (ap tx_of asked.0) (ap tx_of q) in
+    let p = together splits before after h r x tx l.legal (is_among k.0 (k.1).0 h (k.1).2) j (ap tx_of asked.0) (ap tx_of q) in
     let v = own ((k.1).0).walker h in
     let start = no_session (run_after before) ((k.1).0).walker in
     ⊎_elim (λ z. differ (k.1).1 (sym asked.0 ∙ ap (λ y. (y.1).event) z ∙ q))
     (λ z. ⊎_elim
     (λ b.
     let y = drop_after_request splits v start r x tx (k.1).1 p.session b asked.0 asked.1 q in
-    looked_nowhere splits before h after choice n y.0 tx y.1 o l i (from_own ((k.1).0).walker y.0 h (first_among y.0 x v y.2)) y.3 y.4 c)
+    looked_nowhere splits before h after choice n y.0 tx y.1 l i (from_own ((k.1).0).walker y.0 h (first_among y.0 x v y.2)) y.3 y.4 c)
     (λ b. both_ways _ (nothing_after_end splits v start x r tx p.session b (or_right (is_acknowledgement tx (x.1).event (x.1).outcome) _ a)) (ap (names false tx) asked.0 ∙ tx_self tx)) z)
     (in_turn r x v p.first p.second)
   where
@@ -337,23 +337,23 @@ tells_abort tx (Drop u) Dropped a = subst (λ v. TellsAbort tx (Drop v) Dropped)
 tells_abort tx _ _ a = absurd (both_ways false refl a)
 
 told_nowhere : (splits : List ℕ) (before : List (List LogRecord)) (h : History) (after : List (List LogRecord)) (choice : ℕ → Bool) (n : ℕ) (x : Placed) (tx : TxId) {e : Event} {o : Outcome} → (x.1).event ≡ e → (x.1).outcome ≡ o → TellsAbort tx e o
-    → may_open splits before ≡ true → Legal splits before h after → n < shard_count splits → Among x h → is_abort tx (x.1).event (x.1).outcome ≡ true → is_left splits before h after choice n tx ≡ true → ⊥
-told_nowhere splits before h after choice n x tx f g (operated birth nth seen op cause) o l i j a c =
-    died_nowhere splits before h after choice n x tx o l i j (ap tx_of f) (ap (works_on tx.serial) f ∙ eq-eqb tx.serial tx.serial refl) a (λ z. differ (sym g ∙ z)) c
+    → LegalFrom splits before h after → n < shard_count splits → Among x h → is_abort tx (x.1).event (x.1).outcome ≡ true → is_left splits before h after choice n tx ≡ true → ⊥
+told_nowhere splits before h after choice n x tx f g (operated birth nth seen op cause) l i j a c =
+    died_nowhere splits before h after choice n x tx l i j (ap tx_of f) (ap (works_on tx.serial) f ∙ eq-eqb tx.serial tx.serial refl) a (λ z. differ (sym g ∙ z)) c
   where
     differ : DeadOutcome cause ≡ Asked → ⊥
     differ z = absurd cc
-told_nowhere splits before h after choice n x tx f g (requested ts cause) o l i j a c =
-    died_nowhere splits before h after choice n x tx o l i j (ap tx_of f) (ap (works_on tx.serial) f ∙ eq-eqb tx.serial tx.serial refl) a (λ z. differ (sym g ∙ z)) c
+told_nowhere splits before h after choice n x tx f g (requested ts cause) l i j a c =
+    died_nowhere splits before h after choice n x tx l i j (ap tx_of f) (ap (works_on tx.serial) f ∙ eq-eqb tx.serial tx.serial refl) a (λ z. differ (sym g ∙ z)) c
   where
     differ : DeadOutcome cause ≡ Asked → ⊥
     differ z = absurd cc
-told_nowhere splits before h after choice n x tx f g (looked cause) o l i j a c = looked_nowhere splits before h after choice n x tx cause o l i j f g c
-told_nowhere splits before h after choice n x tx f g dropped o l i j a c = dropped_nowhere splits before h after choice n x tx o l i j f a c
+told_nowhere splits before h after choice n x tx f g (looked cause) l i j a c = looked_nowhere splits before h after choice n x tx cause l i j f g c
+told_nowhere splits before h after choice n x tx f g dropped l i j a c = dropped_nowhere splits before h after choice n x tx l i j f a c
 
 pub aborted_are_committed_nowhere : AbortedAreCommittedNowhere
-aborted_are_committed_nowhere splits before h after choice n tx o l i a =
+aborted_are_committed_nowhere splits before h after choice n tx l i a =
     false_from_ne_true _
     (λ c.
     let x = any_among (λ e. is_abort tx (e.1).event (e.1).outcome) h a in
-    told_nowhere splits before h after choice n x.0 tx refl refl (tells_abort tx ((x.0).1).event ((x.0).1).outcome x.2) o l i x.1 x.2 c)
+    told_nowhere splits before h after choice n x.0 tx refl refl (tells_abort tx ((x.0).1).event ((x.0).1).outcome x.2) l i x.1 x.2 c)

@@ -50,8 +50,8 @@ cast_keeps before after pre n tx Read c = ((c.1).unprepared, absent (stage_of (s
 cast_keeps before after pre n tx (No why) c = tt
 
 pub votes_bind : VotesBind
-votes_bind splits before so_far later after n e home from tx vote o l i j q =
-    cast_keeps before after so_far from tx vote ((casts_front splits before after (so_far ++ later) so_far later o l refl).cast (n, e) home from tx vote (is_among n e so_far j) q)
+votes_bind splits before so_far later after n e home from tx vote l i j q =
+    cast_keeps before after so_far from tx vote ((casts_front splits before after (so_far ++ later) so_far later l refl).cast (n, e) home from tx vote (is_among n e so_far j) q)
 
 -- ---- aborts of others
 
@@ -68,9 +68,9 @@ taken s u t d o i =
 
 pub others_aborts_spare_it : OthersAbortsSpareIt
 unfolding Taken
-others_aborts_spare_it splits before so_far later after n tx other o l i c ne u =
+others_aborts_spare_it splits before so_far later after n tx other l i c ne u =
     let s = state_at before after n so_far in
-    let k = lowered_front splits before after (so_far ++ later) so_far later o l refl in
+    let k = lowered_front splits before after (so_far ++ later) so_far later l refl in
     false_from_ne_true _
     (λ j.
     let t = taken s other tx (k.down n i) u j in

@@ -36,6 +36,7 @@ use Rattle.history_cases.proofs.Merging.{Placed, Before, Among, among_append, am
 use Rattle.history_cases.proofs.OldRuns.{below_next_run}
 use Rattle.history_cases.proofs.Telling.{IsRequest}
 use Rattle.history_cases.proofs.Worlds.{state_at}
+use Rattle.history_laws.specs.Openings.{LegalFrom}
 use Rattle.history_laws.proofs.Replying.{OpIs, performs, reply_is}
 use Rattle.history_laws.proofs.Walking.{Behind, Walked, Steps, walked}
 use Rattle.history_laws.proofs.Found.{found_in_order}
@@ -175,15 +176,15 @@ pub record Depends (splits : List ℕ) (before : List (List LogRecord)) (pre : H
 of_traced : (splits : List ℕ) (before after : List (List LogRecord)) (h pre : History) → Walked (Depends splits before) (Says (run_after before) h) splits before after pre → Walked (Traced (run_after before)) (Says (run_after before) h) splits before after pre
 of_traced splits before after h pre w = record { states = λ n i. (w.states n i).traced; said = w.said }
 
-depends_steps : (splits : List ℕ) (before after : List (List LogRecord)) (h : History) → may_open splits before ≡ true → Legal splits before h after → Steps (Depends splits before) (Says (run_after before) h) splits before after h
-depends_steps splits before after h m l pre e w x =
+depends_steps : (splits : List ℕ) (before after : List (List LogRecord)) (h : History) → LegalFrom splits before h after → Steps (Depends splits before) (Says (run_after before) h) splits before after h
+depends_steps splits before after h l pre e w x =
     let log = log_of after e.0 in
     let s = state_at before after e.0 pre in
     let t = event_state log s (e.1).event (e.1).outcome in
     let k = w.states e.0 x.below in
-    let g = traced_steps splits before after h l pre e (of_traced splits before after h pre w) x in
-    let o = opened_entry splits before after h e.0 e.1 log s m (let c = (l.each_log).0 in let i = x.below in omega (arith, c, i)) l (x.behind).here (x.split).shard (k.traced).counted (x.split).enters k.opened in
-    let d = tied_made splits before after h pre e.0 e.1 log s t l x.behind x.below k.traced k.opened refl (makes log s (e.1).event (e.1).outcome ((x.split).enters).event)
+    let g = traced_steps splits before after h l.legal pre e (of_traced splits before after h pre w) x in
+    let o = opened_entry splits before after h e.0 e.1 log s l.opens (let c = l.legal.each_log.0 in let i = x.below in omega (arith, c, i)) l.legal (x.behind).here (x.split).shard (k.traced).counted (x.split).enters k.opened in
+    let d = tied_made splits before after h pre e.0 e.1 log s t l.legal x.behind x.below k.traced k.opened refl (makes log s (e.1).event (e.1).outcome ((x.split).enters).event)
     (tied_mono (Earlier splits before pre) (Earlier splits before (pre ++ e ∷ [])) s (earlier_more splits before h pre e x.behind) k.tied) in (
       record {
         traced = g.0;
@@ -198,10 +199,10 @@ depends_steps splits before after h m l pre e w x =
       }),
     )
 
-pub depends : (splits : List ℕ) (before after : List (List LogRecord)) (h : History) → may_open splits before ≡ true → Legal splits before h after → Walked (Depends splits before) (Says (run_after before) h) splits before after h
-depends splits before after h m l =
-    walked (Depends splits before) (Says (run_after before) h) splits before after h l
+pub depends : (splits : List ℕ) (before after : List (List LogRecord)) (h : History) → LegalFrom splits before h after → Walked (Depends splits before) (Says (run_after before) h) splits before after h
+depends splits before after h l =
+    walked (Depends splits before) (Says (run_after before) h) splits before after h l.legal
     (λ n i.
-    let c = (l.each_log).0 in
-    record { traced = traced_opens splits before after h m l n i; opened = opened_opens splits before n m (omega (arith, c, i)); tied = tied_opens splits before n m (omega (arith, c, i)) })
-    (depends_steps splits before after h m l)
+    let c = l.legal.each_log.0 in
+    record { traced = traced_opens splits before after h l n i; opened = opened_opens splits before n l.opens (omega (arith, c, i)); tied = tied_opens splits before n l.opens (omega (arith, c, i)) })
+    (depends_steps splits before after h l)

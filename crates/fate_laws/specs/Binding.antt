@@ -11,12 +11,12 @@ use Rattle.clv_base.specs.Orders.{nat_in}
 use Rattle.clv_base.specs.Shards.{shard_count}
 use Rattle.clv_base.specs.Logs.{wrote_in, committed_in, prepared_in}
 use Rattle.clv_base.specs.LogRules.{log_of, listed_in}
-use Rattle.clv_base.specs.FileRules.{may_open}
 use Rattle.clv_base.specs.State.{Shard}
 use Rattle.clv_base.specs.Facts.{predecessors_of}
 use Rattle.clv_base.specs.Coordinator.{others}
 use Rattle.clv_base.specs.Journals.{History}
-use Rattle.clv_base.specs.History.{Legal, IsAmong, logs_left, state_before}
+use Rattle.clv_base.specs.History.{IsAmong, logs_left, state_before}
+use Rattle.history_laws.specs.Openings.{LegalFrom}
 use Rattle.fate_laws.specs.Decisions.{is_left}
 
 -- on the shard the transaction wrote, and all its predecessors there have COMMITs
@@ -27,7 +27,7 @@ IsDue s tx = (list_all (committed_in s.local.log) (predecessors_of s.local.pairs
 abbrev pub CommitsComeDue : Type 0
 CommitsComeDue =
     (splits : List ℕ) (before : List (List LogRecord)) (so_far : History) (n : ℕ) (e : Entry) (later : History) (after : List (List LogRecord)) (tx : TxId) (to home stamp : ℕ)
-    → may_open splits before ≡ true → Legal splits before (so_far ++ (n, e) ∷ later) after
+    → LegalFrom splits before (so_far ++ (n, e) ∷ later) after
     → e.event ≡ Deliver (Decide to tx home true) stamp → e.outcome ≡ Taken → committed_in (state_before before so_far after n).local.log tx ≡ false
     → IsDue (state_before before so_far after n) tx
 
@@ -39,6 +39,6 @@ HasItsPart log tx = (committed_in log tx ≡ true) ⊎ (((prepared_in log tx ≡
 abbrev pub CommitsHaveTheirParts : Type 0
 CommitsHaveTheirParts =
     (splits : List ℕ) (before : List (List LogRecord)) (h : History) (after : List (List LogRecord)) (choice : ℕ → Bool) (n m home : ℕ) (e : Entry) (touched : List (ℕ × ℕ)) (tx : TxId)
-    → may_open splits before ≡ true → Legal splits before h after → n < shard_count splits → m < shard_count splits
+    → LegalFrom splits before h after → n < shard_count splits → m < shard_count splits
     → IsAmong home e h → e.event ≡ RequestEvent tx touched → e.outcome ≡ Asked → nat_in m (others home touched) ≡ true
     → is_left splits before h after choice n tx ≡ true → HasItsPart (log_of (logs_left splits before h after choice) m) tx

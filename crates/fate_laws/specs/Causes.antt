@@ -11,9 +11,9 @@ use Rattle.clv_base.specs.declared.events.Event.TheVariants.{Op, Request, Look}
 use Rattle.clv_base.specs.declared.events.Outcome.{Outcome}
 use Rattle.clv_base.specs.declared.events.Outcome.TheVariants.{Dead, Aborted}
 use Rattle.clv_base.specs.declared.events.Entry.{Entry}
-use Rattle.clv_base.specs.FileRules.{may_open}
 use Rattle.clv_base.specs.Journals.{History}
-use Rattle.clv_base.specs.History.{Legal, CauseStands}
+use Rattle.clv_base.specs.History.{CauseStands}
+use Rattle.history_laws.specs.Openings.{LegalFrom}
 
 -- the entry tells the transaction this cause: an operation or a request that died, or a look that found it aborted
 pub data TellsCause : Event → Outcome → TxId → AbortCause → Type 0 where
@@ -30,4 +30,4 @@ IsOfAnother tx _ = ⊤
 abbrev pub CausesStand : Type 0
 CausesStand =
     (splits : List ℕ) (before : List (List LogRecord)) (h : History) (after : List (List LogRecord)) (so_far rest : History) (e : ℕ × Entry) (tx : TxId) (cause : AbortCause)
-    → may_open splits before ≡ true → Legal splits before h after → so_far ++ e ∷ rest ≡ h → TellsCause (e.1).event (e.1).outcome tx cause → CauseStands before so_far after e tx cause × IsOfAnother tx cause
+    → LegalFrom splits before h after → so_far ++ e ∷ rest ≡ h → TellsCause (e.1).event (e.1).outcome tx cause → CauseStands before so_far after e tx cause × IsOfAnother tx cause

@@ -9,10 +9,10 @@ use Rattle.clv_base.specs.declared.events.Entry.{Entry}
 use Rattle.clv_base.specs.Shards.{shard_count}
 use Rattle.clv_base.specs.Logs.{committed_in}
 use Rattle.clv_base.specs.LogRules.{log_of}
-use Rattle.clv_base.specs.FileRules.{may_open}
 use Rattle.clv_base.specs.Restarts.{run_after}
 use Rattle.clv_base.specs.Journals.{History}
-use Rattle.clv_base.specs.History.{Legal, IsAmong, logs_left}
+use Rattle.clv_base.specs.History.{IsAmong, logs_left}
+use Rattle.history_laws.specs.Openings.{LegalFrom}
 
 -- some shard sent word of the decision on the transaction to another: a commit, or an abort
 abbrev pub IsTold : History → TxId → Bool → Type 0
@@ -30,19 +30,19 @@ is_left splits before h after choice n tx = committed_in (log_of (logs_left spli
 abbrev pub CommitsStandAtHome : Type 0
 CommitsStandAtHome =
     (splits : List ℕ) (before : List (List LogRecord)) (h : History) (after : List (List LogRecord)) (choice : ℕ → Bool) (n : ℕ) (tx : TxId)
-    → may_open splits before ≡ true → Legal splits before h after → n < shard_count splits → tx.run ≡ run_after before
+    → LegalFrom splits before h after → n < shard_count splits → tx.run ≡ run_after before
     → is_left splits before h after choice n tx ≡ true → (home : ℕ) × IsHome h tx home × (is_left splits before h after choice home tx ≡ true)
 
 -- where a commit of a transaction of this run is told, the COMMIT at the home stays, whatever a crash keeps
 abbrev pub ToldCommitsStay : Type 0
 ToldCommitsStay =
     (splits : List ℕ) (before : List (List LogRecord)) (h : History) (after : List (List LogRecord)) (choice : ℕ → Bool) (home : ℕ) (tx : TxId)
-    → may_open splits before ≡ true → Legal splits before h after → tx.run ≡ run_after before
+    → LegalFrom splits before h after → tx.run ≡ run_after before
     → IsTold h tx true → IsHome h tx home → is_left splits before h after choice home tx ≡ true
 
 -- where an abort of one is told, no shard has a COMMIT of it then or ever after
 abbrev pub ToldAbortsStay : Type 0
 ToldAbortsStay =
     (splits : List ℕ) (before : List (List LogRecord)) (h : History) (after : List (List LogRecord)) (choice : ℕ → Bool) (n : ℕ) (tx : TxId)
-    → may_open splits before ≡ true → Legal splits before h after → n < shard_count splits → tx.run ≡ run_after before
+    → LegalFrom splits before h after → n < shard_count splits → tx.run ≡ run_after before
     → IsTold h tx false → is_left splits before h after choice n tx ≡ false

@@ -8,9 +8,9 @@ use Rattle.clv_base.specs.declared.events.Entry.{Entry}
 use Rattle.clv_base.specs.Orders.{nat_in}
 use Rattle.clv_base.specs.Shards.{shard_count}
 use Rattle.clv_base.specs.LogRules.{log_of}
-use Rattle.clv_base.specs.FileRules.{may_open}
 use Rattle.clv_base.specs.Journals.{History}
-use Rattle.clv_base.specs.History.{Legal, IsAmong, logs_left}
+use Rattle.clv_base.specs.History.{IsAmong, logs_left}
+use Rattle.history_laws.specs.Openings.{LegalFrom}
 use Rattle.fate_laws.specs.Binding.{HasItsPart}
 use Rattle.fate_laws.specs.Decisions.{is_left}
 
@@ -19,6 +19,6 @@ use Rattle.fate_laws.specs.Decisions.{is_left}
 abbrev pub MembersAreHere : Type 0
 MembersAreHere =
     (splits : List ℕ) (before : List (List LogRecord)) (h : History) (after : List (List LogRecord)) (choice : ℕ → Bool) (n m home : ℕ) (e : Entry) (touched : List (ℕ × ℕ)) (tx : TxId)
-    → may_open splits before ≡ true → Legal splits before h after → n < shard_count splits → m < shard_count splits
+    → LegalFrom splits before h after → n < shard_count splits → m < shard_count splits
     → IsAmong home e h → e.event ≡ RequestEvent tx touched → e.outcome ≡ Asked → nat_in m (map (λ t. t.0) touched) ≡ true
     → is_left splits before h after choice n tx ≡ true → HasItsPart (log_of (logs_left splits before h after choice) m) tx

@@ -11,12 +11,12 @@ use Rattle.clv_base.specs.declared.events.Outcome.TheVariants.{Taken}
 use Rattle.clv_base.specs.declared.events.Entry.{Entry}
 use Rattle.clv_base.specs.Shards.{shard_count}
 use Rattle.clv_base.specs.Logs.{committed_in}
-use Rattle.clv_base.specs.FileRules.{may_open}
 use Rattle.clv_base.specs.State.{Shard, is_present}
 use Rattle.clv_base.specs.Undo.{stage_of}
 use Rattle.clv_base.specs.Journals.{History, start_of, after_entry, journal_of}
-use Rattle.clv_base.specs.History.{Legal, state_before}
+use Rattle.clv_base.specs.History.{state_before}
 use Rattle.clv_base.specs.Restarts.{run_after}
+use Rattle.history_laws.specs.Openings.{LegalFrom}
 use Rattle.fate_laws.specs.Decisions.{IsHome, is_left}
 use Rattle.shard_laws.specs.OneShard.{is_doomed, doomed_in, left_out}
 
@@ -56,14 +56,14 @@ fallen_on before so_far after n = fallen_in (log_of after n) (start_of before n)
 abbrev pub FallenAreUncommitted : Type 0
 FallenAreUncommitted =
     (splits : List ℕ) (before : List (List LogRecord)) (so_far later : History) (after : List (List LogRecord)) (n : ℕ) (tx : TxId)
-    → may_open splits before ≡ true → Legal splits before (so_far ++ later) after → n < shard_count splits
+    → LegalFrom splits before (so_far ++ later) after → n < shard_count splits
     → Fell before so_far after n tx → committed_in (state_before before so_far after n).local.log tx ≡ false
 
 -- a commit that is decided, and is taken where it isn't in the log yet, finds a part that never fell there
 abbrev pub CommitsFindTheUnfallen : Type 0
 CommitsFindTheUnfallen =
     (splits : List ℕ) (before : List (List LogRecord)) (so_far : History) (n : ℕ) (e : Entry) (later : History) (after : List (List LogRecord)) (tx : TxId) (to home stamp : ℕ)
-    → may_open splits before ≡ true → Legal splits before (so_far ++ (n, e) ∷ later) after
+    → LegalFrom splits before (so_far ++ (n, e) ∷ later) after
     → e.event ≡ Deliver (Decide to tx home true) stamp → e.outcome ≡ Taken → committed_in (state_before before so_far after n).local.log tx ≡ false
     → Fell before so_far after n tx → ⊥
 
@@ -71,7 +71,7 @@ CommitsFindTheUnfallen =
 abbrev pub CommitsFindNoneFallen : Type 0
 CommitsFindNoneFallen =
     (splits : List ℕ) (before : List (List LogRecord)) (so_far : History) (n : ℕ) (e : Entry) (later : History) (after : List (List LogRecord)) (tx : TxId) (to home stamp : ℕ)
-    → may_open splits before ≡ true → Legal splits before (so_far ++ (n, e) ∷ later) after
+    → LegalFrom splits before (so_far ++ (n, e) ∷ later) after
     → e.event ≡ Deliver (Decide to tx home true) stamp → e.outcome ≡ Taken → committed_in (state_before before so_far after n).local.log tx ≡ false
     → tx_in tx (fallen_on before so_far after n) ≡ false
 
@@ -79,12 +79,12 @@ CommitsFindNoneFallen =
 abbrev pub CommittedNeverFell : Type 0
 CommittedNeverFell =
     (splits : List ℕ) (before : List (List LogRecord)) (h : History) (after : List (List LogRecord)) (choice : ℕ → Bool) (n : ℕ) (tx : TxId)
-    → may_open splits before ≡ true → Legal splits before h after → n < shard_count splits
+    → LegalFrom splits before h after → n < shard_count splits
     → is_left splits before h after choice n tx ≡ true → Fell before h after n tx → ⊥
 
 -- nor at its home, where a COMMIT of it is left on any shard
 abbrev pub MembersNeverFellAtHome : Type 0
 MembersNeverFellAtHome =
     (splits : List ℕ) (before : List (List LogRecord)) (h : History) (after : List (List LogRecord)) (choice : ℕ → Bool) (n home : ℕ) (tx : TxId)
-    → may_open splits before ≡ true → Legal splits before h after → n < shard_count splits → home < shard_count splits → tx.run ≡ run_after before
+    → LegalFrom splits before h after → n < shard_count splits → home < shard_count splits → tx.run ≡ run_after before
     → is_left splits before h after choice n tx ≡ true → IsHome h tx home → Fell before h after home tx → ⊥

@@ -7,11 +7,11 @@ use Rattle.clv_base.specs.declared.events.Event.TheVariants.{Restart}
 use Rattle.clv_base.specs.declared.events.Entry.{Entry}
 use Rattle.clv_base.specs.Shards.{shard_count}
 use Rattle.clv_base.specs.LogRules.{log_of}
-use Rattle.clv_base.specs.FileRules.{may_open}
 use Rattle.clv_base.specs.State.{Shard}
 use Rattle.clv_base.specs.Restarts.{run_after}
 use Rattle.clv_base.specs.Journals.{History, journal_of, start_of, after_entry}
-use Rattle.clv_base.specs.History.{Legal, request_of, state_before}
+use Rattle.clv_base.specs.History.{request_of, state_before}
+use Rattle.history_laws.specs.Openings.{LegalFrom}
 use Rattle.shard_laws.specs.OneShard.{Deeds, no_deeds, Leads, with_one, new_item, new_told, new_met, doomed_in, left_out, found_items, found_asked, found_met}
 
 -- ---- what a shard did
@@ -57,5 +57,5 @@ with_found n log d = record { items = found_items n log ++ d.items; asked = foun
 abbrev pub EachShardLeads : Type 0
 EachShardLeads =
     (splits : List ℕ) (before : List (List LogRecord)) (h : History) (after : List (List LogRecord)) (so_far rest : History) (n : ℕ)
-    → may_open splits before ≡ true → Legal splits before h after → so_far ++ rest ≡ h → n < shard_count splits
+    → LegalFrom splits before h after → so_far ++ rest ≡ h → n < shard_count splits
     → Leads n (run_after before) (log_of before n) (with_found n (log_of before n) (deeds_before before so_far after n)) (state_before before so_far after n)

@@ -3,14 +3,14 @@ use Rattle.std.specs.Prelude.{◌≡◌, ℕ, ◌<◌, Bool, true, List, None}
 use Rattle.clv_base.specs.declared.logs.LogRecord.{LogRecord}
 use Rattle.clv_base.specs.Shards.{shard_count}
 use Rattle.clv_base.specs.LogRules.{log_of, disorder}
-use Rattle.clv_base.specs.FileRules.{may_open}
 use Rattle.clv_base.specs.Journals.{History}
-use Rattle.clv_base.specs.History.{Legal, logs_left}
+use Rattle.clv_base.specs.History.{logs_left}
+use Rattle.history_laws.specs.Openings.{LegalFrom}
 
 -- whatever a crash keeps, the log left on each shard is in order
 abbrev pub LogsLeftAreInOrder : Type 0
 LogsLeftAreInOrder =
     (splits : List ℕ) (before : List (List LogRecord)) (h : History) (after : List (List LogRecord)) (choice : ℕ → Bool) (n : ℕ)
-    → may_open splits before ≡ true → Legal splits before h after
+    → LegalFrom splits before h after
     → n < shard_count splits
     → disorder n (log_of (logs_left splits before h after choice) n) ≡ None

@@ -16,12 +16,12 @@ use Rattle.clv_base.specs.declared.events.Entry.{Entry}
 use Rattle.clv_base.specs.Orders.{tx_same, tx_get}
 use Rattle.clv_base.specs.Shards.{shard_count}
 use Rattle.clv_base.specs.Logs.{wrote_in, prepared_in, committed_in}
-use Rattle.clv_base.specs.FileRules.{may_open}
 use Rattle.clv_base.specs.State.{Shard}
 use Rattle.clv_base.specs.Undo.{stage_of}
 use Rattle.clv_base.specs.Restarts.{run_after}
 use Rattle.clv_base.specs.Journals.{History}
-use Rattle.clv_base.specs.History.{Legal, IsAmong, request_of, state_before}
+use Rattle.clv_base.specs.History.{IsAmong, request_of, state_before}
+use Rattle.history_laws.specs.Openings.{LegalFrom}
 
 -- the birth and the epoch of an operation of the transaction that was answered
 abbrev pub answered_as : TxId → Event → Outcome → Option (Birth × ℕ)
@@ -66,11 +66,11 @@ pub record ComesOf (run : ℕ) (so_far : History) (n : ℕ) (s : Shard) : Type 0
 abbrev pub AllComesOfEntries : Type 0
 AllComesOfEntries =
     (splits : List ℕ) (before : List (List LogRecord)) (h : History) (after : List (List LogRecord)) (so_far rest : History) (n : ℕ)
-    → may_open splits before ≡ true → Legal splits before h after → so_far ++ rest ≡ h → n < shard_count splits → ComesOf (run_after before) so_far n (state_before before so_far after n)
+    → LegalFrom splits before h after → so_far ++ rest ≡ h → n < shard_count splits → ComesOf (run_after before) so_far n (state_before before so_far after n)
 
 -- a Prepare that is delivered comes of its request, which was taken before at the home that it names, on another shard
 abbrev pub PreparesComeOfRequests : Type 0
 PreparesComeOfRequests =
     (splits : List ℕ) (before : List (List LogRecord)) (h : History) (after : List (List LogRecord)) (so_far rest : History) (n : ℕ) (e : Entry) (to home seen stamp : ℕ) (t : TxId)
-    → may_open splits before ≡ true → Legal splits before h after → so_far ++ (n, e) ∷ rest ≡ h → e.event ≡ Deliver (Prepare to t home seen) stamp
+    → LegalFrom splits before h after → so_far ++ (n, e) ∷ rest ≡ h → e.event ≡ Deliver (Prepare to t home seen) stamp
     → WasAskedAt so_far home t × (to ≡ home → ⊥)

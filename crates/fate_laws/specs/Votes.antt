@@ -12,13 +12,13 @@ use Rattle.clv_base.specs.Orders.{tx_same, tx_in}
 use Rattle.clv_base.specs.Shards.{shard_count}
 use Rattle.clv_base.specs.Logs.{committed_in, prepared_in}
 use Rattle.clv_base.specs.LogRules.{listed_in}
-use Rattle.clv_base.specs.FileRules.{may_open}
 use Rattle.clv_base.specs.State.{Shard, is_present}
 use Rattle.clv_base.specs.Undo.{stage_of, doomed_here}
 use Rattle.clv_base.specs.Facts.{predecessors_of}
 use Rattle.clv_base.specs.Restarts.{log_left}
 use Rattle.clv_base.specs.Journals.{History}
-use Rattle.clv_base.specs.History.{Legal, IsAmong, state_before}
+use Rattle.clv_base.specs.History.{IsAmong, state_before}
+use Rattle.history_laws.specs.Openings.{LegalFrom}
 
 -- in these records the transaction is prepared, and all that its PREPARE lists is committed
 abbrev pub IsPrepared : List LogRecord → TxId → Type 0
@@ -39,13 +39,13 @@ Keeps s tx (No why) = ⊤
 abbrev pub VotesBind : Type 0
 VotesBind =
     (splits : List ℕ) (before : List (List LogRecord)) (so_far later : History) (after : List (List LogRecord)) (n : ℕ) (e : Entry) (home from : ℕ) (tx : TxId) (vote : Vote)
-    → may_open splits before ≡ true → Legal splits before (so_far ++ later) after → from < shard_count splits
+    → LegalFrom splits before (so_far ++ later) after → from < shard_count splits
     → IsAmong n e so_far → e.outcome ≡ Sent (VoteMessage home tx from vote) → Keeps (state_before before so_far after from) tx vote
 
 -- at each moment, where all predecessors of a transaction are committed, no abort of another one that isn't committed takes it away
 abbrev pub OthersAbortsSpareIt : Type 0
 OthersAbortsSpareIt =
     (splits : List ℕ) (before : List (List LogRecord)) (so_far later : History) (after : List (List LogRecord)) (n : ℕ) (tx other : TxId)
-    → may_open splits before ≡ true → Legal splits before (so_far ++ later) after → n < shard_count splits
+    → LegalFrom splits before (so_far ++ later) after → n < shard_count splits
     → are_committed (state_before before so_far after n) tx ≡ true → tx_same other tx ≡ false → committed_in (state_before before so_far after n).local.log other ≡ false
     → tx_in tx (doomed_here (state_before before so_far after n).local other) ≡ false

@@ -11,9 +11,9 @@ use Rattle.clv_base.specs.Logs.{in_doubt}
 use Rattle.clv_base.specs.LogRules.{log_of}
 use Rattle.clv_base.specs.Shards.{shard_count}
 use Rattle.clv_base.specs.State.{Shard}
-use Rattle.clv_base.specs.FileRules.{may_open}
 use Rattle.clv_base.specs.Journals.{History, comes_before, final_of}
-use Rattle.clv_base.specs.History.{Legal, IsAmong, request_of, has_request, Waits, for_lock, for_room, for_commit}
+use Rattle.clv_base.specs.History.{IsAmong, request_of, has_request, Waits, for_lock, for_room, for_commit}
+use Rattle.history_laws.specs.Openings.{LegalFrom}
 
 -- the transaction's request was taken by this entry
 abbrev pub IsRequestOf : History → TxId → ℕ × Entry → Type 0
@@ -52,7 +52,7 @@ WithRequest splits before h t u = AskedBefore h u t ⊎ OpenedInDoubt splits bef
 abbrev pub WaitsGoDown : Type 0
 WaitsGoDown =
     (splits : List ℕ) (before : List (List LogRecord)) (h : History) (after : List (List LogRecord)) (t u : TxId)
-    → may_open splits before ≡ true → Legal splits before h after → (w : Waits splits h (final_of before h after) t u)
+    → LegalFrom splits before h after → (w : Waits splits h (final_of before h after) t u)
     → (has_request t h ≡ false → WithoutRequest splits before h (final_of before h after) (birth_waiting w) u) × (has_request t h ≡ true → WithRequest splits before h t u)
 
 -- one waits for another, through any number
@@ -63,4 +63,4 @@ pub data WaitsThrough (splits : List ℕ) (h : History) (states : ℕ → Shard)
 abbrev pub WaitsHaveNoCycle : Type 0
 WaitsHaveNoCycle =
     (splits : List ℕ) (before : List (List LogRecord)) (h : History) (after : List (List LogRecord)) (t : TxId)
-    → may_open splits before ≡ true → Legal splits before h after → WaitsThrough splits h (final_of before h after) t t → ⊥
+    → LegalFrom splits before h after → WaitsThrough splits h (final_of before h after) t t → ⊥

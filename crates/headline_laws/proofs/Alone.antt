@@ -12,14 +12,14 @@ use Rattle.headline_laws.specs.OneShardSettling.{SettledIsTheMap}
 use Rattle.headline_laws.proofs.OneDoubting.{none_in_doubt}
 
 pub members_replay : MembersReplay
-members_replay before h after choice may l = all_replay [] (before ∷ []) h after choice may l
+members_replay before h after choice l = all_replay [] (before ∷ []) h after choice l
 
 -- nothing was in doubt in the log found, so each predecessor is a member
 pub predecessors_stand_before : PredecessorsStandBefore
-predecessors_stand_before before h after choice t p may l k e =
-    ⊎_elim (λ b. b) (λ d. absurd (both_ways false refl (subst (λ ts. tx_in p ts ≡ true) (none_in_doubt before may) d.0)))
-    (all_stand_before [] (before ∷ []) h after choice 0 t p may l (omega arith) k e)
+predecessors_stand_before before h after choice t p l k e =
+    ⊎_elim (λ b. b) (λ d. absurd (both_ways false refl (subst (λ ts. tx_in p ts ≡ true) (none_in_doubt before l.opens) d.0)))
+    (all_stand_before [] (before ∷ []) h after choice 0 t p l (omega arith) k e)
 
 -- its live records are those of all shards
 pub settled_is_the_map : SettledIsTheMap
-settled_is_the_map before h after choice may l q = sym (append-nil (live_pairs (final_of (before ∷ []) h after 0).local.records)) ∙ all_are_the_map [] (before ∷ []) h after choice may l q
+settled_is_the_map before h after choice l q = sym (append-nil (live_pairs (final_of (before ∷ []) h after 0).local.records)) ∙ all_are_the_map [] (before ∷ []) h after choice l q

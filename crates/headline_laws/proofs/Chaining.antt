@@ -8,9 +8,9 @@ use Rattle.headline_laws.specs.Chaining.{MembersReplayToTheEnd}
 use Rattle.headline_laws.proofs.Found.{members_replay}
 
 pub members_replay_to_the_end : MembersReplayToTheEnd
-members_replay_to_the_end splits before h after o l =
-    let e = logs_at_the_end_are_what_is_left splits before h after o l in
-    let r = members_replay splits before h after e.0 o l in (
+members_replay_to_the_end splits before h after l =
+    let e = logs_at_the_end_are_what_is_left splits before h after l in
+    let r = members_replay splits before h after e.0 l in (
       subst (λ (ms : List Member). replay_answers (stands before) (serial_ops ms) ≡ serial_answers ms) (sym (e.1).members) r.0,
       subst (λ (ms : List Member). replay_map (stands before) (serial_ops ms) ≡ stands after) (sym (e.1).members) (r.1 ∙ sym (e.1).map),
     )

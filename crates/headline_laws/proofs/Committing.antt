@@ -13,7 +13,6 @@ use Rattle.clv_base.specs.declared.state.Request.{Request}
 use Rattle.clv_base.specs.declared.state.Ruling.TheVariants.{Commit as CommitVerdict, Acknowledge, Abort as AbortVerdict, End as EndVerdict}
 use Rattle.clv_base.specs.Orders.{Table, tx_same, tx_get, tx_set}
 use Rattle.clv_base.specs.Shards.{shard_count}
-use Rattle.clv_base.specs.FileRules.{may_open}
 use Rattle.clv_base.specs.LogRules.{log_of}
 use Rattle.clv_base.specs.Logs.{wrote_in, committed_in}
 use Rattle.clv_base.specs.State.{Shard}
@@ -21,13 +20,13 @@ use Rattle.clv_base.specs.Coordinator.{ruled_request}
 use Rattle.clv_base.specs.Events.{finish, with_durable}
 use Rattle.clv_base.specs.Restarts.{run_after, log_left, log_after_restart}
 use Rattle.clv_base.specs.Journals.{History, event_state, up_to_restart}
-use Rattle.clv_base.specs.History.{Legal}
 use Rattle.law_base.proofs.Rows.{rows_get}
 use Rattle.protocol_laws.specs.Growth.{IsPrefixOf}
 use Rattle.history_cases.proofs.Durability.{restarts_front}
 use Rattle.history_cases.proofs.Stepping.{Due, commits, votes, rules, KeptByDue, settled, finishes, stops}
 use Rattle.history_cases.proofs.Entering.{Makes, by_event, by_flush, by_failure, by_restart, makes}
 use Rattle.history_cases.proofs.Merging.{Placed, among_right}
+use Rattle.history_laws.specs.Openings.{LegalFrom}
 use Rattle.shard_laws.proofs.Changes.{wrote_keeps}
 use Rattle.history_cases.proofs.OldRuns.{none_of_this_run}
 use Rattle.history_cases.proofs.TellingEvents.{front_committed}
@@ -188,7 +187,7 @@ made_marks Q log s x t (by_restart epoch keeps u r) n m =
 AllMarked : (splits : List ℕ) (before after : List (List LogRecord)) (pre : History) → Type 0
 AllMarked splits before after pre = (n : ℕ) → n < shard_count splits → (t : TxId) → t.run ≡ run_after before → Marks (Requested pre t n) t (state_at before after n pre).local.log
 
-module _ (splits : List ℕ) (before after : List (List LogRecord)) (h pre : History) (e : Placed) (post : History) (o : may_open splits before ≡ true) (l : Legal splits before h after) (q : pre ++ e ∷ post ≡ h) (t : TxId) (run : t.run ≡ run_after before) where
+module _ (splits : List ℕ) (before after : List (List LogRecord)) (h pre : History) (e : Placed) (post : History) (l : LegalFrom splits before h after) (q : pre ++ e ∷ post ≡ h) (t : TxId) (run : t.run ≡ run_after before) where
   abbrev New : History
   New = pre ++ e ∷ []
 
@@ -199,7 +198,7 @@ module _ (splits : List ℕ) (before after : List (List LogRecord)) (h pre : His
   T = event_state (log_of after e.0) (state_at before after e.0 pre) (e.1).event (e.1).outcome
 
   w : Next splits before after h pre e
-  w = next_at splits before after h pre e post l q
+  w = next_at splits before after h pre e post l.legal q
 
   by_row : HasRow T t → Requested (pre ++ e ∷ []) t e.0
   by_row k = at (tx_get t (state_at before after e.0 (pre ++ e ∷ [])).requests) refl
@@ -214,12 +213,12 @@ module _ (splits : List ℕ) (before after : List (List LogRecord)) (h pre : His
       at : (r : Option Request) → tx_get t (state_at before after e.0 (pre ++ e ∷ [])).requests ≡ r → Requested (pre ++ e ∷ []) t e.0
       at None g = absurd (row g)
       at (Some r) g =
-          let k = (traced_front splits before after h (pre ++ e ∷ []) post o l (append_assoc pre (e ∷ []) post ∙ q)).states e.0 w.inside in
+          let k = (traced_front splits before after h (pre ++ e ∷ []) post l (append_assoc pre (e ∷ []) post ∙ q)).states e.0 w.inside in
           of_own (rows_get (λ x. RowFrom (Requested (pre ++ e ∷ [])) (IsOld (run_after before)) e.0 x.0 x.1) t r (state_at before after e.0 (pre ++ e ∷ [])).requests (k.origins).requests g).0
 
   by_commit : (ev : Event) (out : Outcome) → (e.1).event ≡ ev → (e.1).outcome ≡ out → Commits S t ev out → committed_in S.local.log t ≡ false → (wrote_in S.local.log t ≡ true) ⊎ Requested (pre ++ e ∷ []) t e.0
   by_commit _ _ a b (alone ts x y) d = inr (e, ts, among_right e pre (e ∷ []) (inl refl), (a, b), refl)
-  by_commit _ _ a b (decided home stamp) d = inl (commits_come_due splits before pre e.0 e.1 post after t S.shard home stamp o (subst (λ z. Legal splits before z after) (sym q) l) a b d).1
+  by_commit _ _ a b (decided home stamp) d = inl (commits_come_due splits before pre e.0 e.1 post after t S.shard home stamp (subst (λ z. LegalFrom splits before z after) (sym q) l) a b d).1
 
   marked_here : Marks (Requested pre t e.0) t S.local.log → Marks (Requested (pre ++ e ∷ []) t e.0) t (state_at before after e.0 (pre ++ e ∷ [])).local.log
   marked_here m =
@@ -229,21 +228,21 @@ module _ (splits : List ℕ) (before after : List (List LogRecord)) (h pre : His
       (λ x d. ⊎_elim (λ y. inr (by_row y)) (λ y. by_commit (e.1).event (e.1).outcome refl refl y d) x)
       (marks_more (Requested pre t e.0) Q t S.local.log (requested_more pre e t e.0) m))
 
-marked_next : (splits : List ℕ) (before after : List (List LogRecord)) (h pre : History) (e : Placed) (post : History) → may_open splits before ≡ true → Legal splits before h after → pre ++ e ∷ post ≡ h → AllMarked splits before after pre → AllMarked splits before after (pre ++ e ∷ [])
+marked_next : (splits : List ℕ) (before after : List (List LogRecord)) (h pre : History) (e : Placed) (post : History) → LegalFrom splits before h after → pre ++ e ∷ post ≡ h → AllMarked splits before after pre → AllMarked splits before after (pre ++ e ∷ [])
 unfolding AllMarked
-marked_next splits before after h pre e post o l q k n i t r =
-    each_shard (λ m z. Marks (Requested (pre ++ e ∷ []) t m) t z.local.log) before after e pre (marked_here splits before after h pre e post o l q t r (k e.0 (next_at splits before after h pre e post l q).inside t r)) n
+marked_next splits before after h pre e post l q k n i t r =
+    each_shard (λ m z. Marks (Requested (pre ++ e ∷ []) t m) t z.local.log) before after e pre (marked_here splits before after h pre e post l q t r (k e.0 (next_at splits before after h pre e post l.legal q).inside t r)) n
     (marks_more (Requested pre t n) (Requested (pre ++ e ∷ []) t n) t (state_at before after n pre).local.log (requested_more pre e t n) (k n i t r))
 
 -- who is committed on a shard, and is of this run, wrote there or made its request there
-pub committed_by : (splits : List ℕ) (before after : List (List LogRecord)) (h pre post : History) → may_open splits before ≡ true → Legal splits before h after → pre ++ post ≡ h → (n : ℕ) → n < shard_count splits → (t : TxId) → t.run ≡ run_after before
+pub committed_by : (splits : List ℕ) (before after : List (List LogRecord)) (h pre post : History) → LegalFrom splits before h after → pre ++ post ≡ h → (n : ℕ) → n < shard_count splits → (t : TxId) → t.run ≡ run_after before
     → committed_in (state_at before after n pre).local.log t ≡ true → (wrote_in (state_at before after n pre).local.log t ≡ true) ⊎ Requested pre t n
 unfolding AllMarked
-committed_by splits before after h pre post o l q n i t r =
-    marks_whole (Requested pre t n) t (state_at before after n pre).local.log (walk_on (AllMarked splits before after) h [] pre post q (λ f e z y k. marked_next splits before after h f e z o l y k) first n i t r)
+committed_by splits before after h pre post l q n i t r =
+    marks_whole (Requested pre t n) t (state_at before after n pre).local.log (walk_on (AllMarked splits before after) h [] pre post q (λ f e z y k. marked_next splits before after h f e z l y k) first n i t r)
   where
     first : AllMarked splits before after []
     first n i t r k c =
         absurd
-        (none_of_this_run splits before n t o (let e = (l.each_log).0 in omega (arith, e, i))
+        (none_of_this_run splits before n t l.opens (let e = l.legal.each_log.0 in omega (arith, e, i))
         (opening_adds n (log_of before n) (run_after before) 0 t (front_committed k (log_after_restart n (log_of before n) (run_after before) 0) t c)) r)

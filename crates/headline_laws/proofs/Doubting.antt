@@ -13,17 +13,17 @@ use Rattle.clv_base.specs.declared.events.Entry.{Entry}
 use Rattle.clv_base.specs.Orders.{tx_in, nat_in}
 use Rattle.clv_base.specs.Coordinator.{others}
 use Rattle.clv_base.specs.Shards.{shard_count}
-use Rattle.clv_base.specs.FileRules.{may_open}
 use Rattle.clv_base.specs.Logs.{committed_in, aborted_in, prepared_in, prepare_of, in_doubt}
 use Rattle.clv_base.specs.LogRules.{log_of, listed_in}
 use Rattle.clv_base.specs.State.{Shard}
 use Rattle.clv_base.specs.Restarts.{run_after, log_left}
 use Rattle.clv_base.specs.Journals.{History, final_of}
-use Rattle.clv_base.specs.History.{Legal, IsAmong, logs_left}
+use Rattle.clv_base.specs.History.{IsAmong, logs_left}
 use Rattle.protocol_laws.specs.Growth.{IsPrefixOf}
 use Rattle.protocol_laws.specs.SessionLaws.{tx_of}
 use Rattle.history_cases.proofs.Durability.{left_front}
 use Rattle.history_cases.proofs.Merging.{is_among}
+use Rattle.history_laws.specs.Openings.{LegalFrom}
 use Rattle.history_laws.proofs.Staying.{walker_of, log_now}
 use Rattle.history_cases.proofs.Worlds.{in_a_shard}
 use Rattle.fate_laws.specs.Binding.{HasItsPart}
@@ -41,29 +41,29 @@ use Rattle.headline_laws.proofs.Homes.{doubted}
 use Rattle.headline_laws.proofs.Shares.{at_somewhere}
 use Rattle.protocol_laws.proofs.Records.{prepared_there}
 
-module _ (splits : List ℕ) (before : List (List LogRecord)) (h : History) (after : List (List LogRecord)) (choice : ℕ → Bool) (o : may_open splits before ≡ true) (l : Legal splits before h after) (n : ℕ) (i : n < shard_count splits)
+module _ (splits : List ℕ) (before : List (List LogRecord)) (h : History) (after : List (List LogRecord)) (choice : ℕ → Bool) (l : LegalFrom splits before h after) (n : ℕ) (i : n < shard_count splits)
     (t : TxId) (home : ℕ) (e : Entry) (touched : List (ℕ × ℕ)) (a : IsAmong home e h) (ev : e.event ≡ RequestEvent t touched) (out : e.outcome ≡ Asked)
     (left : is_left splits before h after choice home t ≡ true) (away : (n == home) ≡ false) where
   abbrev s : Shard
   s = final_of before h after n
 
   run_is : t.run ≡ run_after before
-  run_is = (walker_of splits before after h (home, e) t l (is_among home e h a) (ap tx_of ev)).0
+  run_is = (walker_of splits before after h (home, e) t l.legal (is_among home e h a) (ap tx_of ev)).0
 
   inside : home < shard_count splits
-  inside = in_a_shard splits before after h (home, e) l (is_among home e h a)
+  inside = in_a_shard splits before after h (home, e) l.legal (is_among home e h a)
 
   bound_to : Bindings splits before after h h
-  bound_to = bindings_front splits before after h h [] o l (append-nil h)
+  bound_to = bindings_front splits before after h h [] l (append-nil h)
 
   -- ---- its part is there still
 
   home_of : (p : ℕ × List TxId) → prepare_of (final_of before h after n).local.log t ≡ Some p → p.0 ≡ home
-  home_of p k = let y = ((bound_to.fated).homed n i).prepares t p k run_is in one_home splits before after h t p.0 home y.0 e y.1 touched l y.2 y.3 (is_among home e h a) (ev, out)
+  home_of p k = let y = ((bound_to.fated).homed n i).prepares t p k run_is in one_home splits before after h t p.0 home y.0 e y.1 touched l.legal y.2 y.3 (is_among home e h a) (ev, out)
 
   -- no ABORT of it is in the log
   unaborted : Bound (final_of before h after n) t → aborted_in (final_of before h after n).local.log t ≡ true → ⊥
-  unaborted b k = bound_unaborted splits before h after choice home n t o l inside i run_is left b k
+  unaborted b k = bound_unaborted splits before h after choice home n t l inside i run_is left b k
 
   -- ---- in what is left
 
@@ -82,10 +82,10 @@ module _ (splits : List ℕ) (before : List (List LogRecord)) (h : History) (aft
       (subst (λ (z : Option (ℕ × List TxId)). list_all (committed_in log) (elim z [ Some y ↦ y.1 | None ↦ [] ]) ≡ true) p listed)
 
   pub yes_is_here : (k : ℕ) (x : Entry) (to : ℕ) → IsAmong k x h → x.outcome ≡ Sent (VoteMessage to t n Yes) → nat_in n (others home touched) ≡ true → IsHere splits before h after choice n t
-  yes_is_here k x to m sent there = by_part (commits_have_their_parts splits before h after choice home n home e touched t o l inside i a ev out there left)
+  yes_is_here k x to m sent there = by_part (commits_have_their_parts splits before h after choice home n home e touched t l inside i a ev out there left)
     where
       bound : Bound (final_of before h after n) t
-      bound = ((casts_front splits before after h h [] o l (append-nil h)).cast (k, x) to n t Yes (is_among k x h m) sent).1
+      bound = ((casts_front splits before after h h [] l (append-nil h)).cast (k, x) to n t Yes (is_among k x h m) sent).1
 
       now : log_of (logs_left splits before h after choice) n ≡ log_left (final_of before h after n) (choice n)
       now = log_now splits before h after choice n i

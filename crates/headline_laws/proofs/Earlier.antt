@@ -8,7 +8,6 @@ use Rattle.clv_base.specs.declared.logs.LogRecord.TheVariants.{Update, Clr, Prep
 use Rattle.clv_base.specs.Logs.{is_update_of, wrote_in, committed_in, committed_somewhere}
 use Rattle.clv_base.specs.LogRules.{log_of, last_restart, above_restarts, in_last_run, may_follow, disorder}
 use Rattle.clv_base.specs.Shards.{shard_count}
-use Rattle.clv_base.specs.FileRules.{may_open}
 use Rattle.clv_base.specs.Restarts.{run_after, log_left, undo_records, restart_records, log_after_restart}
 use Rattle.clv_base.specs.Journals.{History, start_of, final_of, journal_of}
 use Rattle.clv_base.specs.History.{Legal, logs_left}
@@ -16,6 +15,7 @@ use Rattle.clv_base.proofs.SameNames.{tx_true}
 use Rattle.law_base.proofs.Changed.{none_some, some_same}
 use Rattle.protocol_laws.specs.Growth.{IsPrefixOf}
 use Rattle.protocol_laws.proofs.Growing.{chain, more}
+use Rattle.history_laws.specs.Openings.{LegalFrom}
 use Rattle.shard_laws.proofs.Following.{Follows, Plainly, from_disorder, last_push}
 use Rattle.shard_laws.proofs.Changes.{wrote_append}
 use Rattle.history_cases.proofs.Durability.{fronts_entries, opened_counted, left_front}
@@ -115,11 +115,11 @@ none_of_earlier splits before n left t o d p w =
     (or_cases (wrote_in opened t) (wrote_in p.0 t) (sym (wrote_append opened p.0 t) ∙ ap (λ z. wrote_in z t) p.1 ∙ w))
 
 -- who is of an earlier run and wrote in what is left on a shard wrote there in the log found at opening
-pub wrote_at_opening : (splits : List ℕ) (before : List (List LogRecord)) (h : History) (after : List (List LogRecord)) (choice : ℕ → Bool) (n : ℕ) (t : TxId) → may_open splits before ≡ true → Legal splits before h after → n < shard_count splits
+pub wrote_at_opening : (splits : List ℕ) (before : List (List LogRecord)) (h : History) (after : List (List LogRecord)) (choice : ℕ → Bool) (n : ℕ) (t : TxId) → LegalFrom splits before h after → n < shard_count splits
     → t.run < run_after before → wrote_in (log_of (logs_left splits before h after choice) n) t ≡ true → wrote_in (log_of before n) t ≡ true
-wrote_at_opening splits before h after choice n t m l i o w =
-    none_of_earlier splits before n (log_of (logs_left splits before h after choice) n) t o (logs_left_are_in_order splits before h after choice n m l i)
-    (subst (IsPrefixOf (log_after_restart n (log_of before n) (run_after before) 0)) (sym (log_now splits before h after choice n i)) (left_begins splits before h after (choice n) n l i)) w
+wrote_at_opening splits before h after choice n t l i o w =
+    none_of_earlier splits before n (log_of (logs_left splits before h after choice) n) t o (logs_left_are_in_order splits before h after choice n l i)
+    (subst (IsPrefixOf (log_after_restart n (log_of before n) (run_after before) 0)) (sym (log_now splits before h after choice n i)) (left_begins splits before h after (choice n) n l.legal i)) w
 
 -- who is committed in the log found at opening is so in what is left
 pub committed_still : (splits : List ℕ) (before : List (List LogRecord)) (h : History) (after : List (List LogRecord)) (choice : ℕ → Bool) (n : ℕ) (t : TxId) → Legal splits before h after → n < shard_count splits → committed_in (log_of before n) t ≡ true
@@ -132,10 +132,10 @@ committed_still splits before h after choice n t l i c =
 -- ---- no transaction of an earlier run is committed anew
 
 -- who is of an earlier run and is committed in what is left was so in some log at opening
-pub somewhere_at_opening : (splits : List ℕ) (before : List (List LogRecord)) (h : History) (after : List (List LogRecord)) (choice : ℕ → Bool) (n : ℕ) (t : TxId) → may_open splits before ≡ true → Legal splits before h after → n < shard_count splits
+pub somewhere_at_opening : (splits : List ℕ) (before : List (List LogRecord)) (h : History) (after : List (List LogRecord)) (choice : ℕ → Bool) (n : ℕ) (t : TxId) → LegalFrom splits before h after → n < shard_count splits
     → t.run < run_after before → committed_in (log_of (logs_left splits before h after choice) n) t ≡ true → committed_somewhere before t ≡ true
-somewhere_at_opening splits before h after choice n t m l i o w =
+somewhere_at_opening splits before h after choice n t l i o w =
     let c =
-    earlier_commits_are_of_opening splits before h [] after n t m (subst (λ z. Legal splits before z after) (sym (append-nil h)) l) i (λ e. absurd (omega (arith, e, o)))
+    earlier_commits_are_of_opening splits before h [] after n t (subst (λ z. LegalFrom splits before z after) (sym (append-nil h)) l) i (λ e. absurd (omega (arith, e, o)))
     (left_committed splits before h after choice n t i w) in
     at_somewhere before c.0 t c.1

@@ -9,14 +9,14 @@ use Rattle.clv_base.specs.declared.logs.LogRecord.TheVariants.{Commit}
 use Rattle.clv_base.specs.Shards.{shard_count}
 use Rattle.clv_base.specs.Logs.{is_record_of, is_commit_of, is_prepare_of, wrote_in, committed_in, prepared_in, aborted_in, prepare_of, commit_parts}
 use Rattle.clv_base.specs.LogRules.{log_of, home_is, may_follow, commit_by_prepare}
-use Rattle.clv_base.specs.FileRules.{may_open}
 use Rattle.clv_base.specs.Restarts.{run_after, log_after_restart}
 use Rattle.clv_base.specs.Journals.{History, final_of}
-use Rattle.clv_base.specs.History.{Legal, logs_left}
+use Rattle.clv_base.specs.History.{logs_left}
 use Rattle.clv_base.proofs.SameNames.{tx_true}
 use Rattle.law_base.proofs.Commits.{committed_append, parts_keep}
 use Rattle.protocol_laws.proofs.Records.{committed_there, prepared_there}
 use Rattle.history_cases.proofs.Uncommitting.{opening_adds}
+use Rattle.history_laws.specs.Openings.{LegalFrom}
 use Rattle.shard_laws.proofs.Following.{Follows, from_disorder}
 use Rattle.shard_laws.proofs.Listing.{prepared_wrote}
 use Rattle.fate_laws.proofs.Deciding.{left_committed}
@@ -56,13 +56,13 @@ commits_behind shard run log (r ∷ rs) t l k f c =
     ⊎_elim (λ a. list_any-append (is_prepare_of t) log (r ∷ rs) ∙ or_left _ _ (commit_prepared shard run log r t l k f.0 a))
     (λ a. subst (λ z. prepared_in z t ≡ true) (append_assoc log (r ∷ []) rs) (commits_behind shard run (log ++ r ∷ []) rs t l (last_next shard run log r k f.0) f.1 a)) (or_cases (is_commit_of t r) (committed_in rs t) c)
 
-module _ (splits : List ℕ) (before : List (List LogRecord)) (h : History) (after : List (List LogRecord)) (choice : ℕ → Bool) (t : TxId) (o : may_open splits before ≡ true) (l : Legal splits before h after) (orders : InOrder splits before h after choice)
+module _ (splits : List ℕ) (before : List (List LogRecord)) (h : History) (after : List (List LogRecord)) (choice : ℕ → Bool) (t : TxId) (l : LegalFrom splits before h after) (orders : InOrder splits before h after choice)
     (old : t.run < run_after before) where
   abbrev left : List (List LogRecord)
   left = logs_left splits before h after choice
 
   found_length : (n : ℕ) → n < shard_count splits → n < length before
-  found_length n i = let e = (l.each_log).0 in omega (arith, e, i)
+  found_length n i = let e = l.legal.each_log.0 in omega (arith, e, i)
 
   in_left : (n : ℕ) → n < length left → n < shard_count splits
   in_left n i = let e = left_length splits before h after choice in omega (arith, e, i)
@@ -76,12 +76,12 @@ module _ (splits : List ℕ) (before : List (List LogRecord)) (h : History) (aft
   -- ---- whose record is left had one at opening
 
   by_write : (n : ℕ) → n < shard_count splits → wrote_in (log_of left n) t ≡ true → list_any (is_record_of t) (log_of before n) ≡ true
-  by_write n i w = update_is (log_of before n) t (none_of_earlier splits before n (log_of left n) t old (orders n i) (left_opened splits before h after choice n l i) w)
+  by_write n i w = update_is (log_of before n) t (none_of_earlier splits before n (log_of left n) t old (orders n i) (left_opened splits before h after choice n l.legal i) w)
 
   by_commit : (n : ℕ) → n < shard_count splits → committed_in (log_of left n) t ≡ true → list_any (is_record_of t) (log_of before n) ≡ true
   by_commit n i w =
       let opened = log_after_restart n (log_of before n) (run_after before) 0 in
-      let p = left_opened splits before h after choice n l i in
+      let p = left_opened splits before h after choice n l.legal i in
       let behind = follows_behind n [] opened p.0 (subst (Follows n []) (sym p.1) (follows n i)) in
       ⊎_elim (λ a. commit_is (log_of before n) t (opening_adds n (log_of before n) (run_after before) 0 t a))
       (λ a. by_write n i (prepared_wrote n (log_of left n) (follows n i) t (subst (λ z. prepared_in z t ≡ true) p.1 (commits_behind n (run_after before) opened p.0 t old (opened_last before n) behind a))))
@@ -97,14 +97,14 @@ module _ (splits : List ℕ) (before : List (List LogRecord)) (h : History) (aft
     committed_first = committed_there (log_of before k) t ps at_opening.commits
 
     inside : k < shard_count splits
-    inside = let e = (l.each_log).0 in let j = committed_within before k t committed_first in omega (arith, e, j)
+    inside = let e = l.legal.each_log.0 in let j = committed_within before k t committed_first in omega (arith, e, j)
 
     commits_left : commit_parts (log_of left k) t ≡ Some ps
-    commits_left = let g = left_grows splits before h after choice k l inside in subst (λ z. commit_parts z t ≡ Some ps) g.1 (parts_keep (log_of before k) g.0 t ps at_opening.commits)
+    commits_left = let g = left_grows splits before h after choice k l.legal inside in subst (λ z. commit_parts z t ≡ Some ps) g.1 (parts_keep (log_of before k) g.0 t ps at_opening.commits)
 
     home_left : home_is k (prepare_of (log_of left k) t) ≡ true
     home_left =
-        let g = left_grows splits before h after choice k l inside in
+        let g = left_grows splits before h after choice k l.legal inside in
         let f = follows_behind k [] (log_of before k) g.0 (subst (Follows k []) (sym g.1) (follows k inside)) in
         subst (λ z. home_is k (prepare_of z t) ≡ true) g.1 (home_behind k k (log_of before k) g.0 t f committed_first at_opening.home)
 
@@ -114,12 +114,12 @@ module _ (splits : List ℕ) (before : List (List LogRecord)) (h : History) (aft
         let log = (final_of before h after n).local.log in
         let prepared = prepared_there log t p (front_prepare _ log t p (subst (λ z. prepare_of z t ≡ Some p) (log_now splits before h after choice n i) q)) in
         false_from_ne_true _ (λ x.
-        let z = struck_front splits before after h h [] o l (append-nil h) n i t (left_aborted splits before h after choice n t i x) in
-        never_out splits before after h n t o l i earlier (k, committed_first) h [] (append-nil h) prepared (h, [], append-nil h, (z.0, z.1, inl (λ e. absurd (earlier e)))))
+        let z = struck_front splits before after h h [] l (append-nil h) n i t (left_aborted splits before h after choice n t i x) in
+        never_out splits before after h n t l i earlier (k, committed_first) h [] (append-nil h) prepared (h, [], append-nil h, (z.0, z.1, inl (λ e. absurd (earlier e)))))
 
     part_left : (n : ℕ) → n < shard_count splits → PartIs (log_of before n) t k → PartIs (log_of left n) t k
     part_left n i p =
-        let g = left_grows splits before h after choice n l i in
+        let g = left_grows splits before h after choice n l.legal i in
         let q = subst (λ z. prepare_of z t ≡ Some p.listed) g.1 (prepare_more (log_of before n) g.0 t p.listed p.prepare) in
         record {
           listed = p.listed;
@@ -135,17 +135,17 @@ module _ (splits : List ℕ) (before : List (List LogRecord)) (h : History) (aft
           commits = commits_left;
           home = home_left;
           named = λ n i a r. let j = in_left n i in at_opening.named n (found_length n j) a (recorded n j r);
-          parts = λ n i. part_here (log_of left n) t k (part_left n (part_below splits before h after choice k n t ps o l inside commits_left i) (part_from (log_of before n) t k (at_opening.parts n i)));
-          ended = λ e n i. ended_are_committed splits before h after choice k n t ps o l inside e commits_left i;
+          parts = λ n i. part_here (log_of left n) t k (part_left n (part_below splits before h after choice k n t ps l inside commits_left i) (part_from (log_of before n) t k (at_opening.parts n i)));
+          ended = λ e n i. ended_are_committed splits before h after choice k n t ps l inside e commits_left i;
         }
 
   known : (n : ℕ) → n < shard_count splits → committed_in (log_of left n) t ≡ true → WasCommitted before t
-  known n i w = earlier_commits_are_of_opening splits before h [] after n t o (subst (λ z. Legal splits before z after) (sym (append-nil h)) l) i earlier (left_committed splits before h after choice n t i w)
+  known n i w = earlier_commits_are_of_opening splits before h [] after n t (subst (λ z. LegalFrom splits before z after) (sym (append-nil h)) l) i earlier (left_committed splits before h after choice n t i w)
 
   pub earlier_home : (n : ℕ) → n < shard_count splits → committed_in (log_of left n) t ≡ true → HasHome left t
   earlier_home n i w =
       let c = known n i w in
-      let a = home_of splits before c.0 t o c.1 in
+      let a = home_of splits before c.0 t l.opens c.1 in
       let b = home_from before t a.0 a.1 in
       let e = left_length splits before h after choice in
       let j = inside a.0 b.0 b.1 in

@@ -14,9 +14,10 @@ use Rattle.clv_base.specs.FileRules.{may_open, log_passes, passes_file_rules}
 use Rattle.clv_base.specs.State.{Shard}
 use Rattle.clv_base.specs.Restarts.{run_after, log_left, greatest_run, FailedRestarts}
 use Rattle.clv_base.specs.Journals.{History, final_of}
-use Rattle.clv_base.specs.History.{Legal, Member, logs_left, request_of, acknowledged_in, members}
+use Rattle.clv_base.specs.History.{Member, logs_left, request_of, acknowledged_in, members}
 use Rattle.law_base.proofs.Commits.{parts_keep}
 use Rattle.protocol_laws.proofs.Records.{committed_there}
+use Rattle.history_laws.specs.Openings.{LegalFrom}
 use Rattle.shard_laws.proofs.Following.{Follows, to_disorder, follows_take, greatest_front}
 use Rattle.shard_laws.proofs.Histories.{held}
 use Rattle.shard_laws.proofs.Listing.{order_of}
@@ -62,7 +63,7 @@ same_members c xs ys h (e ∷ es) a k = let p = and_parts (nat_lt e.0 c) _ a in 
 
 -- ---- the logs at the end
 
-module _ (splits : List ℕ) (before : List (List LogRecord)) (h : History) (after : List (List LogRecord)) (o : may_open splits before ≡ true) (l : Legal splits before h after) where
+module _ (splits : List ℕ) (before : List (List LogRecord)) (h : History) (after : List (List LogRecord)) (l : LegalFrom splits before h after) where
   abbrev last : ℕ → Shard
   last n = final_of before h after n
 
@@ -71,27 +72,27 @@ module _ (splits : List ℕ) (before : List (List LogRecord)) (h : History) (aft
 
   -- the choice by which each was left
   abbrev pick : (n : ℕ) (b : Bool) → nat_lt n (shard_count splits) ≡ b → Bool
-  pick n true e = (l.leaves n (ltb-true n (shard_count splits) e)).0
+  pick n true e = (l.legal.leaves n (ltb-true n (shard_count splits) e)).0
   pick n false e = false
 
   abbrev choice : ℕ → Bool
   choice n = pick n (nat_lt n (shard_count splits)) refl
 
   picked : (n : ℕ) (b : Bool) (e : nat_lt n (shard_count splits) ≡ b) → n < shard_count splits → LeavesBy n (pick n b e)
-  picked n true e i = (l.leaves n (ltb-true n (shard_count splits) e)).1
+  picked n true e i = (l.legal.leaves n (ltb-true n (shard_count splits) e)).1
   picked n false e i = absurd (both_ways _ e (lt-ltb n (shard_count splits) i))
 
   abbrev left : List (List LogRecord)
   left = logs_left splits before h after choice
 
   lengths : length after ≡ length left
-  lengths = (l.each_log).1 ∙ sym (left_length splits before h after choice)
+  lengths = l.legal.each_log.1 ∙ sym (left_length splits before h after choice)
 
   fine : (n : ℕ) → n < shard_count splits → Fine (last n) (last n).local.log
   fine n i =
       let d = deeds_before before h after n in
       let found = log_of before n in
-      let b = held n (run_after before) found (with_found n found d) (last n) (each_shard_leads splits before h after h [] n o l (append-nil h) i) in
+      let b = held n (run_after before) found (with_found n found d) (last n) (each_shard_leads splits before h after h [] n l (append-nil h) i) in
       ((b.1).order.ordered.follows, (b.1).order.ordered.latest)
 
   fine_left : (n k : ℕ) → n < shard_count splits → Fine (last n) (take k (last n).local.log)
@@ -101,13 +102,13 @@ module _ (splits : List ℕ) (before : List (List LogRecord)) (h : History) (aft
       (follows_take (last n).shard k [] log f.0, greatest_front (take k log) (drop k log) (last n).run (subst (λ z. greatest_run z ≤ (last n).run) (sym (take-append-drop k log)) f.1))
 
   is_shard : (n : ℕ) → n < shard_count splits → (last n).shard ≡ n
-  is_shard n i = (((bindings_front splits before after h h [] o l (append-nil h)).fated).counts).shard n i
+  is_shard n i = (((bindings_front splits before after h h [] l (append-nil h)).fated).counts).shard n i
 
   left_passes : (n : ℕ) → n < shard_count splits → Passes splits n (log_of left n)
   left_passes n i =
       let e = left_length splits before h after choice in
       passes_all splits n (log_of left n)
-      (subst (λ k. list_all (passes_file_rules splits k) (log_of left n) ≡ true) (omega arith) (each_passes (λ k log. list_all (passes_file_rules splits k) log) 0 n left (logs_left_pass splits before h after choice o l) (omega (arith, i, e))))
+      (subst (λ k. list_all (passes_file_rules splits k) (log_of left n) ≡ true) (omega arith) (each_passes (λ k log. list_all (passes_file_rules splits k) log) 0 n left (logs_left_pass splits before h after choice l) (omega (arith, i, e))))
 
   abbrev cut : ℕ → List LogRecord
   cut n = log_left (last n) (choice n)
@@ -138,7 +139,7 @@ module _ (splits : List ℕ) (before : List (List LogRecord)) (h : History) (aft
       ∙ same_fold (committed_somewhere after) (committed_somewhere left) (λ t. same_somewhere after left t lengths (λ k j. commits k t (below k j))) (log_of left n) g.more m g.kinds)
 
   pub tell : TellTheSame splits before h after choice
-  tell = record { map = map; members = same_members (shard_count splits) after left h h l.in_shards commits; commits = commits }
+  tell = record { map = map; members = same_members (shard_count splits) after left h h l.legal.in_shards commits; commits = commits }
 
   -- ---- who has a home in what is left has it at the end
 
@@ -178,7 +179,7 @@ module _ (splits : List ℕ) (before : List (List LogRecord)) (h : History) (aft
         }
 
     part_inside : (n : ℕ) → nat_in n ps ≡ true → n < shard_count splits
-    part_inside n i = part_below splits before h after choice home n t ps o l inside k.commits i
+    part_inside n i = part_below splits before h after choice home n t ps l inside k.commits i
 
     home_kept : HomeIs after t home ps
     home_kept =
@@ -193,7 +194,7 @@ module _ (splits : List ℕ) (before : List (List LogRecord)) (h : History) (aft
 
   at_home : (n : ℕ) (t : TxId) → n < shard_count splits → committed_in (log_of after n) t ≡ true → HasHome after t
   at_home n t i w =
-      let a = home_of splits left n t (logs_left_may_be_opened splits before h after choice o l) (sym (commits n t i) ∙ w) in
+      let a = home_of splits left n t (logs_left_may_be_opened splits before h after choice l) (sym (commits n t i) ∙ w) in
       let b = home_from left t a.0 a.1 in
       let j = committed_within left a.0 t (committed_there (log_of left a.0) t b.0 (b.1).commits) in
       let e = lengths in
@@ -212,7 +213,7 @@ module _ (splits : List ℕ) (before : List (List LogRecord)) (h : History) (aft
           subst (λ k. log_passes splits k (log_of after n) ≡ true) (omega arith) (and_from _ _ (all_pass splits n (log_of after n) g.passes) (ap is_none (to_disorder n 0 [] (log_of after n) g.follows)))
 
 pub logs_at_the_end_may_be_opened : LogsAtTheEndMayBeOpened
-logs_at_the_end_may_be_opened splits before h after o l = may_open_after splits before h after o l
+logs_at_the_end_may_be_opened splits before h after l = may_open_after splits before h after l
 
 pub logs_at_the_end_are_what_is_left : LogsAtTheEndAreWhatIsLeft
-logs_at_the_end_are_what_is_left splits before h after o l = (choice splits before h after o l, tell splits before h after o l)
+logs_at_the_end_are_what_is_left splits before h after l = (choice splits before h after l, tell splits before h after l)

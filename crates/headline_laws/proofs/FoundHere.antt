@@ -9,12 +9,11 @@ use Rattle.clv_base.specs.Orders.{tx_in}
 use Rattle.clv_base.specs.Logs.{committed_in, aborted_in, committed_somewhere, in_doubt, prepare_of}
 use Rattle.clv_base.specs.LogRules.{log_of, listed_in}
 use Rattle.clv_base.specs.Shards.{shard_count}
-use Rattle.clv_base.specs.FileRules.{may_open}
 use Rattle.clv_base.specs.Restarts.{run_after, restart_records, log_after_restart, log_left}
 use Rattle.clv_base.specs.Journals.{History, final_of}
-use Rattle.clv_base.specs.History.{Legal}
 use Rattle.protocol_laws.specs.Growth.{IsPrefixOf}
 use Rattle.protocol_laws.proofs.Growing.{chain, more}
+use Rattle.history_laws.specs.Openings.{LegalFrom}
 use Rattle.history_laws.proofs.Serials.{committed_front}
 use Rattle.fate_laws.proofs.Opening.{opening_settled, opening_home}
 use Rattle.fate_laws.proofs.Prepares.{prepare_more, front_prepare}
@@ -35,13 +34,13 @@ use Rattle.law_base.proofs.Names.{all_from}
 abbrev pub IsDoubted : ℕ → List LogRecord → TxId → Type 0
 IsDoubted n log t = (tx_in t (in_doubt n log) ≡ true) × (list_all (committed_in log) (listed_in log t) ≡ true)
 
-module _ (splits : List ℕ) (before : List (List LogRecord)) (h : History) (after : List (List LogRecord)) (kept : Bool) (n : ℕ) (t : TxId) (o : may_open splits before ≡ true) (l : Legal splits before h after) (i : n < shard_count splits)
+module _ (splits : List ℕ) (before : List (List LogRecord)) (h : History) (after : List (List LogRecord)) (kept : Bool) (n : ℕ) (t : TxId) (l : LegalFrom splits before h after) (i : n < shard_count splits)
     (doubt : tx_in t (in_doubt n (log_of before n)) ≡ true) (there : committed_somewhere before t ≡ true) where
   inside : n < length before
-  inside = let e = (l.each_log).0 in omega (arith, e, i)
+  inside = let e = l.legal.each_log.0 in omega (arith, e, i)
 
   old : t.run < run_after before
-  old = doubted_is_old splits before n o inside t doubt
+  old = doubted_is_old splits before n l.opens inside t doubt
 
   earlier : IsEarlier before t
   earlier e = let k = old in omega (arith, e, k)
@@ -55,7 +54,7 @@ module _ (splits : List ℕ) (before : List (List LogRecord)) (h : History) (aft
   begun : IsPrefixOf (log_of before n) (log_left (final_of before h after n) kept)
   begun =
       chain (log_of before n) (log_after_restart n (log_of before n) (run_after before) 0) (log_left (final_of before h after n) kept) (more (log_of before n) (restart_records n (log_of before n) (run_after before) 0))
-      (left_begins splits before h after kept n l i)
+      (left_begins splits before h after kept n l.legal i)
 
   prepared : prepare_of (log_left (final_of before h after n) kept) t ≡ Some p.0
   prepared = subst (λ z. prepare_of z t ≡ Some p.0) begun.1 (prepare_more (log_of before n) begun.0 t p.0 p.1)
@@ -64,20 +63,20 @@ module _ (splits : List ℕ) (before : List (List LogRecord)) (h : History) (aft
   elsewhere : (n == (p.0).0) ≡ false
   elsewhere =
       false_from_ne_true _
-      (λ e. both_ways _ (doubt_undecided n (log_of before n) t doubt).1 (subst (λ k. committed_in (log_of before k) t ≡ true) (sym (eqb-true n (p.0).0 e)) (opening_home splits before t was.0 n p.0 o was.1 inside p.1)))
+      (λ e. both_ways _ (doubt_undecided n (log_of before n) t doubt).1 (subst (λ k. committed_in (log_of before k) t ≡ true) (sym (eqb-true n (p.0).0 e)) (opening_home splits before t was.0 n p.0 l.opens was.1 inside p.1)))
 
   listed : (q : TxId) → tx_in q (p.0).1 ≡ true → committed_in (log_left (final_of before h after n) kept) q ≡ true
   listed q j =
       committed_front (log_of before n) (log_left (final_of before h after n) kept) q begun
-      (⊎_elim (λ c. absurd (both_ways _ (doubt_undecided n (log_of before n) t doubt).1 c)) (λ k. k q j) (opening_settled splits before t was.0 n p.0 o was.1 inside p.1))
+      (⊎_elim (λ c. absurd (both_ways _ (doubt_undecided n (log_of before n) t doubt).1 c)) (λ k. k q j) (opening_settled splits before t was.0 n p.0 l.opens was.1 inside p.1))
 
   unaborted : aborted_in (log_left (final_of before h after n) kept) t ≡ true → ⊥
   unaborted a =
       let s = final_of before h after n in
       let k = cond kept (unwrap_or s.flight s.durable) s.durable in
-      let b = struck_front splits before after h h [] o l (append-nil h) n i t (aborted_take k s.local.log t a) in
+      let b = struck_front splits before after h h [] l (append-nil h) n i t (aborted_take k s.local.log t a) in
       let e = prepared_there s.local.log t p.0 (front_prepare k s.local.log t p.0 prepared) in
-      never_out splits before after h n t o l i earlier was h [] (append-nil h) e (h, [], append-nil h, (b.0, b.1, inl (λ r. absurd (earlier r))))
+      never_out splits before after h n t l i earlier was h [] (append-nil h) e (h, [], append-nil h, (b.0, b.1, inl (λ r. absurd (earlier r))))
 
   all_listed : list_all (committed_in (log_left (final_of before h after n) kept)) (p.0).1 ≡ true
   all_listed = all_from (committed_in (log_left (final_of before h after n) kept)) (p.0).1 listed
@@ -95,4 +94,4 @@ module _ (splits : List ℕ) (before : List (List LogRecord)) (h : History) (aft
           )
 
   pub never_fell : Fell before h after n t → ⊥
-  never_fell f = earlier_members_never_fell splits before h [] after n t o (subst (λ z. Legal splits before z after) (sym (append-nil h)) l) i earlier was f
+  never_fell f = earlier_members_never_fell splits before h [] after n t (subst (λ z. LegalFrom splits before z after) (sym (append-nil h)) l) i earlier was f

@@ -15,14 +15,14 @@ use Rattle.clv_base.specs.declared.events.Outcome.TheVariants.{Asked, Sent}
 use Rattle.clv_base.specs.declared.events.Entry.{Entry}
 use Rattle.clv_base.specs.Orders.{Table, tx_get, nat_in}
 use Rattle.clv_base.specs.Shards.{shard_count}
-use Rattle.clv_base.specs.FileRules.{may_open}
 use Rattle.clv_base.specs.LogRules.{log_of}
 use Rattle.clv_base.specs.State.{Shard, is_present}
 use Rattle.clv_base.specs.Undo.{stage_of}
 use Rattle.clv_base.specs.Coordinator.{others, restored_request, restored_requests}
 use Rattle.clv_base.specs.Restarts.{run_after, unended_in, log_after_restart}
 use Rattle.clv_base.specs.Journals.{History, event_state}
-use Rattle.clv_base.specs.History.{Legal, WasSent}
+use Rattle.clv_base.specs.History.{WasSent}
+use Rattle.history_laws.specs.Openings.{LegalFrom}
 use Rattle.shard_laws.specs.OneShard.{is_doomed}
 use Rattle.law_base.proofs.Rows.{rows_get}
 use Rattle.history_cases.proofs.Entering.{Makes, makes}
@@ -96,7 +96,7 @@ fell_before before after pre e n t k r (inr (f, rest, z, d)) = at (last_front f 
 
 -- ---- one entry more
 
-module _ (splits : List ℕ) (before after : List (List LogRecord)) (h pre : History) (e : Placed) (post : History) (o : may_open splits before ≡ true) (l : Legal splits before h after) (q : pre ++ e ∷ post ≡ h) (k : Knows splits before after pre) where
+module _ (splits : List ℕ) (before after : List (List LogRecord)) (h pre : History) (e : Placed) (post : History) (l : LegalFrom splits before h after) (q : pre ++ e ∷ post ≡ h) (k : Knows splits before after pre) where
   abbrev New : History
   New = pre ++ e ∷ []
 
@@ -107,7 +107,7 @@ module _ (splits : List ℕ) (before after : List (List LogRecord)) (h pre : His
   T = event_state (log_of after e.0) (state_at before after e.0 pre) (e.1).event (e.1).outcome
 
   w : Next splits before after h pre e
-  w = next_at splits before after h pre e post l q
+  w = next_at splits before after h pre e post l.legal q
 
   made : Makes (log_of after e.0) S (e.1).event (e.1).outcome T
   made = makes (log_of after e.0) S (e.1).event (e.1).outcome ((w.split).enters).event
@@ -121,7 +121,7 @@ module _ (splits : List ℕ) (before after : List (List LogRecord)) (h pre : His
   begins =
       record {
         shard = (w.split).shard;
-        wrote = λ t c. ordered_wrote S.local.log t (((bindings_front splits before after h pre (e ∷ post) o l q).parted e.0 w.inside).base).ordered c;
+        wrote = λ t c. ordered_wrote S.local.log t (((bindings_front splits before after h pre (e ∷ post) l q).parted e.0 w.inside).base).ordered c;
         open_ = λ t r g u. let p = k.open_ e.0 w.inside t r g u in (taken_later pre e e.0 t r.touched p.0, told_later pre e t r.votes p.1);
       }
 
@@ -148,8 +148,8 @@ module _ (splits : List ℕ) (before after : List (List LogRecord)) (h pre : His
   -- who is idle did not fall
   idle_unfallen : (t : TxId) → IsIdle (e.1).event S t → Fell before pre after e.0 t → ⊥
   idle_unfallen t d f =
-      let b = (stands_front splits before after h pre (e ∷ post) o l q e.0 w.inside).barred in
-      let x = b.here t (fell_out splits before after h pre (e ∷ post) e.0 t o l q w.inside f) d.1 in
+      let b = (stands_front splits before after h pre (e ∷ post) l q e.0 w.inside).barred in
+      let x = b.here t (fell_out splits before after h pre (e ∷ post) e.0 t l q w.inside f) d.1 in
       both_ways _ d.2 ((b.lined).wrote t (prepared_there S.local.log t x.0 x.1))
 
   -- who is finished by this entry
@@ -251,5 +251,5 @@ knows_start splits before after =
 
 -- ---- the whole history
 
-pub knows_front : (splits : List ℕ) (before after : List (List LogRecord)) (h pre post : History) → may_open splits before ≡ true → Legal splits before h after → pre ++ post ≡ h → Knows splits before after pre
-knows_front splits before after h pre post o l q = walk_on (Knows splits before after) h [] pre post q (λ f e r z k. knows_next splits before after h f e r o l z k) (knows_start splits before after)
+pub knows_front : (splits : List ℕ) (before after : List (List LogRecord)) (h pre post : History) → LegalFrom splits before h after → pre ++ post ≡ h → Knows splits before after pre
+knows_front splits before after h pre post l q = walk_on (Knows splits before after) h [] pre post q (λ f e r z k. knows_next splits before after h f e r l z k) (knows_start splits before after)

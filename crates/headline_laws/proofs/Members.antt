@@ -8,12 +8,12 @@ use Rattle.clv_base.specs.Orders.{tx_same, tx_in}
 use Rattle.clv_base.specs.Logs.{committed_in, committed_somewhere, in_doubt}
 use Rattle.clv_base.specs.LogRules.{log_of}
 use Rattle.clv_base.specs.Shards.{shard_count}
-use Rattle.clv_base.specs.FileRules.{may_open}
 use Rattle.clv_base.specs.Restarts.{run_after}
 use Rattle.clv_base.specs.Journals.{History}
 use Rattle.clv_base.specs.History.{Legal, Member, members, request_of, logs_left}
 use Rattle.clv_base.proofs.SameNames.{tx_true, tx_self}
 use Rattle.protocol_laws.specs.SessionLaws.{tx_of}
+use Rattle.history_laws.specs.Openings.{LegalFrom}
 use Rattle.history_laws.specs.Continuing.{serial_left}
 use Rattle.history_cases.proofs.Merging.{Placed, Among}
 use Rattle.history_laws.proofs.Staying.{walker_of, one_request, is_request}
@@ -129,20 +129,20 @@ is_chosen splits before h after choice n t (inr (inl a)) = or_left _ _ (or_right
 is_chosen splits before h after choice n t (inr (inr a)) = or_right (is_member splits before h after choice t || committed_in (log_of (logs_left splits before h after choice) n) t) _ (and_from _ _ a.0 a.1)
 
 -- those that asked are the members
-pub chosen_are_members : (splits : List ℕ) (before : List (List LogRecord)) (h : History) (after : List (List LogRecord)) (choice : ℕ → Bool) (n : ℕ) → may_open splits before ≡ true → Legal splits before h after → n < shard_count splits
+pub chosen_are_members : (splits : List ℕ) (before : List (List LogRecord)) (h : History) (after : List (List LogRecord)) (choice : ℕ → Bool) (n : ℕ) → LegalFrom splits before h after → n < shard_count splits
     → map (λ m. m.tx) (serial_left splits before h after choice) ≡ filter (chosen splits before h after choice n) (requests_of h)
-chosen_are_members splits before h after choice n m l i =
+chosen_are_members splits before h after choice n l i =
     picked (logs_left splits before h after choice) h h (chosen splits before h after choice n)
     (λ x j t q. same_test (counts (logs_left splits before h after choice) h x.0 t) (chosen splits before h after choice n t) (λ c. is_chosen splits before h after choice n t (inl (counted (logs_left splits before h after choice) h h x t j q c)))
     (λ c. back x j t q (of_chosen splits before h after choice n t c)))
   where
     member : (x : Placed) → Among x h → (t : TxId) → request_of (x.1).event (x.1).outcome ≡ Some t → Chosen splits before h after choice n t → is_member splits before h after choice t ≡ true
     member x j t q (inl a) = a
-    member x j t q (inr (inl a)) = commits_are_members splits before h after choice n t m l i (request_run splits before after h x t l j q) a
+    member x j t q (inr (inl a)) = commits_are_members splits before h after choice n t l i (request_run splits before after h x t l.legal j q) a
     member x j t q (inr (inr a)) =
-        let k = request_run splits before after h x t l j q in
-        let e = (l.each_log).0 in
-        let d = doubted_is_old splits before n m (omega (arith, e, i)) t a.0 in
+        let k = request_run splits before after h x t l.legal j q in
+        let e = l.legal.each_log.0 in
+        let d = doubted_is_old splits before n l.opens (omega (arith, e, i)) t a.0 in
         absurd (omega (arith, k, d))
 
     back : (x : Placed) → Among x h → (t : TxId) → request_of (x.1).event (x.1).outcome ≡ Some t → Chosen splits before h after choice n t → counts (logs_left splits before h after choice) h x.0 t ≡ true
@@ -150,7 +150,7 @@ chosen_are_members splits before h after choice n m l i =
         let y = asks (logs_left splits before h after choice) h h t (member x j t q c) in
         let r = is_request t (x.1).event (x.1).outcome q in
         let s = is_request t ((y.0).1).event ((y.0).1).outcome y.2 in
-        let e : x ≡ y.0 = one_request splits before after h x y.0 t r.0 s.0 l j y.1 (r.1, r.2) (s.1, s.2) in
+        let e : x ≡ y.0 = one_request splits before after h x y.0 t r.0 s.0 l.legal j y.1 (r.1, r.2) (s.1, s.2) in
         subst (λ (z : Placed). counts (logs_left splits before h after choice) h z.0 t ≡ true) (sym e) y.3
 
 -- a member is of this run

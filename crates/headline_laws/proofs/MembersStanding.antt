@@ -11,7 +11,6 @@ use Rattle.clv_base.specs.declared.events.Outcome.{Outcome}
 use Rattle.clv_base.specs.declared.events.Outcome.TheVariants.{Asked, Acknowledged}
 use Rattle.clv_base.specs.declared.events.Entry.{Entry}
 use Rattle.clv_base.specs.Shards.{shard_count}
-use Rattle.clv_base.specs.FileRules.{may_open}
 use Rattle.clv_base.specs.LogRules.{log_of}
 use Rattle.clv_base.specs.State.{Shard}
 use Rattle.clv_base.specs.Restarts.{run_after}
@@ -21,6 +20,7 @@ use Rattle.protocol_laws.specs.SessionLaws.{tx_of}
 use Rattle.history_cases.proofs.Stepping.{FindsWell, Step, looks_well, Happens, finishes, stops}
 use Rattle.history_cases.proofs.Entering.{Makes, by_event, by_flush, by_failure, by_restart, makes}
 use Rattle.history_cases.proofs.Merging.{Placed, Among, is_among, among_is}
+use Rattle.history_laws.specs.Openings.{LegalFrom}
 use Rattle.history_laws.proofs.Serials.{any_among}
 use Rattle.history_laws.proofs.Staying.{walker_of, one_request}
 use Rattle.history_cases.proofs.Worlds.{state_at, in_a_shard}
@@ -81,9 +81,9 @@ record Where (splits : List ℕ) (before after : List (List LogRecord)) (h : His
   home : IsHome h t shard
   found : DurableIn before after h shard t ⊎ Finishes splits before after h shard t
 
-where_is : (splits : List ℕ) (before after : List (List LogRecord)) (h : History) (t : TxId) → may_open splits before ≡ true → Legal splits before h after → acknowledged_in h t ≡ true → Where splits before after h t
-where_is splits before after h t o l a =
-    record { run = (walker_of splits before after h y t l mine (ap tx_of look.0)).0; shard = y.0; inside = w.inside; home = told_at_home splits before h after y t l mine any.2; found = found (subst (λ v. Finds s v Acknowledged) look.0 (subst (Finds s (y.1).event) look.1 told)) }
+where_is : (splits : List ℕ) (before after : List (List LogRecord)) (h : History) (t : TxId) → LegalFrom splits before h after → acknowledged_in h t ≡ true → Where splits before after h t
+where_is splits before after h t l a =
+    record { run = (walker_of splits before after h y t l.legal mine (ap tx_of look.0)).0; shard = y.0; inside = w.inside; home = told_at_home splits before h after y t l.legal mine any.2; found = found (subst (λ v. Finds s v Acknowledged) look.0 (subst (Finds s (y.1).event) look.1 told)) }
   where
     any : (x : Placed) × Among x h × (is_acknowledgement t (x.1).event (x.1).outcome ≡ true)
     any = any_among (λ e. is_acknowledgement t (e.1).event (e.1).outcome) h a
@@ -104,7 +104,7 @@ where_is splits before after h t o l a =
     pre = parts.0
 
     w : Next splits before after h pre y
-    w = next_at splits before after h pre y parts.1 l parts.2
+    w = next_at splits before after h pre y parts.1 l.legal parts.2
 
     s : Shard
     s = state_at before after y.0 pre
@@ -113,12 +113,12 @@ where_is splits before after h t o l a =
     told = finds_made (log_of after y.0) s _ (makes (log_of after y.0) s (y.1).event (y.1).outcome ((w.split).enters).event)
 
     found : FindsWell s t → DurableIn before after h y.0 t ⊎ Finishes splits before after h y.0 t
-    found (inl d) = inl (durable_on splits before after h pre (y ∷ parts.1) y.0 t l parts.2 ((bindings_front splits before after h pre (y ∷ parts.1) o l parts.2).fated.counts) (durable_front s.local.log s.durable t d))
-    found (inr (q, g, f)) = inr ((knows_front splits before after h h [] o l (append-nil h)).finished y.0 w.inside t (pre, y ∷ parts.1, parts.2, (q, g, f)))
+    found (inl d) = inl (durable_on splits before after h pre (y ∷ parts.1) y.0 t l.legal parts.2 ((bindings_front splits before after h pre (y ∷ parts.1) l parts.2).fated.counts) (durable_front s.local.log s.durable t d))
+    found (inr (q, g, f)) = inr ((knows_front splits before after h h [] l (append-nil h)).finished y.0 w.inside t (pre, y ∷ parts.1, parts.2, (q, g, f)))
 
 -- ---- the laws
 
-module _ (splits : List ℕ) (before : List (List LogRecord)) (h : History) (after : List (List LogRecord)) (t : TxId) (o : may_open splits before ≡ true) (l : Legal splits before h after) (k : Where splits before after h t) where
+module _ (splits : List ℕ) (before : List (List LogRecord)) (h : History) (after : List (List LogRecord)) (t : TxId) (l : LegalFrom splits before h after) (k : Where splits before after h t) where
   only_read : (p : Finishes splits before after h k.shard t) → OnlyRead before h after k.shard p.touched t
   only_read p =
       record {
@@ -133,11 +133,11 @@ module _ (splits : List ℕ) (before : List (List LogRecord)) (h : History) (aft
       → (is_left splits before h after choice home t ≡ true) ⊎ OnlyRead before h after home touched t
   stands choice home e touched a ev out (inl d) =
       let (b, us, i, x, y) = k.home in
-      let same = one_home splits before after h t k.shard home b e us touched l (is_among k.shard b h i) (x, y) a (ev, out) in
-      inl (subst (λ m. is_left splits before h after choice m t ≡ true) same (durable_left splits before h after choice k.shard t k.inside (fated splits before after h o l) d))
+      let same = one_home splits before after h t k.shard home b e us touched l.legal (is_among k.shard b h i) (x, y) a (ev, out) in
+      inl (subst (λ m. is_left splits before h after choice m t ≡ true) same (durable_left splits before h after choice k.shard t k.inside (fated splits before after h l) d))
   stands choice home e touched a ev out (inr p) =
       let r = p.taken in
-      let same = one_request splits before after h (k.shard, r.0) (home, e) t p.touched touched l r.1 a r.2 (ev, out) in
+      let same = one_request splits before after h (k.shard, r.0) (home, e) t p.touched touched l.legal r.1 a r.2 (ev, out) in
       let names = named (sym (r.2).0 ∙ ap (λ z. (z.1).event) same ∙ ev) in
       inr (subst (λ m. OnlyRead before h after m touched t) (ap (λ z. z.0) same) (subst (λ ts. OnlyRead before h after k.shard ts t) names (only_read p)))
     where
@@ -145,8 +145,8 @@ module _ (splits : List ℕ) (before : List (List LogRecord)) (h : History) (aft
       named z = cc
 
 pub acknowledged_stand : AcknowledgedStand
-acknowledged_stand splits before h after choice home e touched t o l i k a ev out =
-    let z = where_is splits before after h t o l k in stands splits before h after t o l z choice home e touched (is_among home e h a) ev out z.found
+acknowledged_stand splits before h after choice home e touched t l i k a ev out =
+    let z = where_is splits before after h t l k in stands splits before h after t l z choice home e touched (is_among home e h a) ev out z.found
 
 pub acknowledged_at_home : AcknowledgedAtHome
 acknowledged_at_home splits before h after n e t l i a = told_at_home splits before h after (n, e) t l (is_among n e h i) a
@@ -162,11 +162,11 @@ acknowledged_are_members splits before h after choice t l k =
     is_member_by (logs_left splits before h after choice) h (r.0, b.0) h t b.1 (is_among r.0 b.0 h b.2) (b.3, b.4) (or_right (committed_in (log_of (logs_left splits before h after choice) r.0) t) _ k)
 
 pub acknowledged_never_fell_at_home : AcknowledgedNeverFellAtHome
-acknowledged_never_fell_at_home splits before h after home t o l k m f = at (acknowledged_stand splits before h after (λ n. false) home m.0 m.1 t o l i k m.2 m.3 m.4)
+acknowledged_never_fell_at_home splits before h after home t l k m f = at (acknowledged_stand splits before h after (λ n. false) home m.0 m.1 t l i k m.2 m.3 m.4)
   where
     i : home < shard_count splits
-    i = in_a_shard splits before after h (home, m.0) l (is_among home m.0 h m.2)
+    i = in_a_shard splits before after h (home, m.0) l.legal (is_among home m.0 h m.2)
 
     at : (is_left splits before h after (λ n. false) home t ≡ true) ⊎ OnlyRead before h after home m.1 t → ⊥
-    at (inl left) = members_never_fell_at_home splits before h after (λ n. false) home home t o l i i (where_is splits before after h t o l k).run left m f
+    at (inl left) = members_never_fell_at_home splits before h after (λ n. false) home home t l i i (where_is splits before after h t l k).run left m f
     at (inr r) = r.unfallen f

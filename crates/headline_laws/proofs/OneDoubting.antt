@@ -39,4 +39,4 @@ none_in_doubt log may =
 
 -- and what a crash leaves may be opened
 pub nothing_in_doubt : NothingInDoubt
-nothing_in_doubt before may = (none_in_doubt before may, λ h after choice l. none_in_doubt (log_of (logs_left [] (before ∷ []) h after choice) 0) (logs_left_may_be_opened [] (before ∷ []) h after choice may l))
+nothing_in_doubt before may = (none_in_doubt before may, λ h after choice l. none_in_doubt (log_of (logs_left [] (before ∷ []) h after choice) 0) (logs_left_may_be_opened [] (before ∷ []) h after choice (record { opens = may; legal = l })))

@@ -88,12 +88,12 @@ all_lie splits h (m ∷ ms) k = (ops_lie splits m.tx h k, all_lie splits h ms k)
 -- ---- logs
 
 pub members_replay_by_parts : MembersReplayByParts
-members_replay_by_parts splits before h after choice m l k =
+members_replay_by_parts splits before h after choice l k =
     let ms = serial_left splits before h after choice in
     let left = logs_left splits before h after choice in
     let f = from_history left h h in
-    let r = replay_by_shards splits before left (member_ops h ms) l.splits_rise
-    ((l.each_log).0, only_passes splits 0 before (and_parts (all_logs_from 0 (log_passes splits) before) (is_none (apart before)) m).0)
-    (left_length splits before h after choice, logs_left_pass splits before h after choice m l)
-    (all_lie splits h ms (λ e i. (in_a_shard splits before after h e l i, offered splits before after h e l i))) k in
+    let r = replay_by_shards splits before left (member_ops h ms) l.legal.splits_rise
+    (l.legal.each_log.0, only_passes splits 0 before (and_parts (all_logs_from 0 (log_passes splits) before) (is_none (apart before)) l.opens).0)
+    (left_length splits before h after choice, logs_left_pass splits before h after choice l)
+    (all_lie splits h ms (λ e i. (in_a_shard splits before after h e l.legal i, offered splits before after h e l.legal i))) k in
     (ap (replay_answers (stands before)) (serial_is h ms f) ∙ r.0 ∙ sym (answers_are h ms f), ap (replay_map (stands before)) (serial_is h ms f) ∙ r.1)

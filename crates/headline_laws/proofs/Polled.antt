@@ -13,15 +13,15 @@ use Rattle.clv_base.specs.declared.events.Entry.{Entry}
 use Rattle.clv_base.specs.Shards.{shard_count}
 use Rattle.clv_base.specs.Logs.{committed_in, commit_parts}
 use Rattle.clv_base.specs.LogRules.{log_of}
-use Rattle.clv_base.specs.FileRules.{may_open}
 use Rattle.clv_base.specs.Restarts.{run_after}
 use Rattle.clv_base.specs.Journals.{History, final_of}
-use Rattle.clv_base.specs.History.{Legal, WasSent}
+use Rattle.clv_base.specs.History.{WasSent}
 use Rattle.history_cases.proofs.Entering.{makes}
 use Rattle.history_cases.proofs.Merging.{Placed, Among, among_left, among_is, is_among}
 use Rattle.history_cases.proofs.OldRuns.{none_of_this_run}
 use Rattle.history_cases.proofs.TellingEvents.{front_committed}
 use Rattle.history_cases.proofs.Worlds.{state_at, in_a_shard}
+use Rattle.history_laws.specs.Openings.{LegalFrom}
 use Rattle.fate_laws.proofs.Bindings.{WasTaken, once}
 use Rattle.fate_laws.proofs.Fates.{Fated, fated_next, fated_start, delivered}
 use Rattle.fate_laws.proofs.Prefixes.{Next, walk, each_shard, one_home, DurableIn}
@@ -84,24 +84,24 @@ polled_next splits before after h pre e w p =
 
 -- ---- the whole history
 
-polled : (splits : List ℕ) (before after : List (List LogRecord)) (h : History) → may_open splits before ≡ true → Legal splits before h after → Polled splits before after h h
-polled splits before after h o l =
-    walk (Polled splits before after h) splits before after h [] h l refl (polled_next splits before after h)
+polled : (splits : List ℕ) (before after : List (List LogRecord)) (h : History) → LegalFrom splits before h after → Polled splits before after h h
+polled splits before after h l =
+    walk (Polled splits before after h) splits before after h [] h l.legal refl (polled_next splits before after h)
     (record {
-      fated = fated_start splits before after h o l;
+      fated = fated_start splits before after h l;
       polls = λ n i.
-          polls_opened (run_after before) (WasTaken h) (VotedTo []) (once splits before after h l) n (log_of before n) (λ t. none_of_this_run splits before n t o (let e = (l.each_log).0 in omega (arith, e, i)));
+          polls_opened (run_after before) (WasTaken h) (VotedTo []) (once splits before after h l.legal) n (log_of before n) (λ t. none_of_this_run splits before n t l.opens (let e = l.legal.each_log.0 in omega (arith, e, i)));
     })
 
 was_voted : (h : History) (home : ℕ) (tx : TxId) (m : ℕ) (v : Vote) → VotedTo h home tx m v → WasVoted h home tx m v
 was_voted h home tx m v (k, x, i, o) = (k, x, among_is k x h i, o)
 
 pub parts_are_the_yes_voters : PartsAreTheYesVoters
-parts_are_the_yes_voters splits before h after choice m home e touched tx parts o l a ev out c =
+parts_are_the_yes_voters splits before h after choice m home e touched tx parts l a ev out c =
     let j = is_among home e h a in
-    let i = in_a_shard splits before after h (home, e) l j in
+    let i = in_a_shard splits before after h (home, e) l.legal j in
     let s = final_of before h after home in
-    let p = polled splits before after h o l in
+    let p = polled splits before after h l in
     let q = ((p.fated).counts).shard home i in
     let t = parts_front _ s.local.log tx parts (subst (λ z. commit_parts z tx ≡ Some parts) (log_now splits before h after choice home i) c) in
     let k = subst (λ n. Chosen (VotedTo h) n tx touched parts) q ((p.polls home i).log tx touched parts (subst (λ n. WasTaken h tx n touched) (sym q) (e, j, (ev, out))) t) m in

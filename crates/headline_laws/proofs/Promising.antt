@@ -11,20 +11,20 @@ use Rattle.headline_laws.proofs.Found.{members_replay}
 use Rattle.headline_laws.proofs.Headline.{predecessors_stand_before, settled_is_the_map}
 
 pub promise : Promise
-promise splits before h after choice m l =
-    let replays = members_replay splits before h after choice m l in
+promise splits before h after choice l =
+    let replays = members_replay splits before h after choice l in
     record {
       answers = replays.0;
       map = replays.1;
-      acknowledged = λ t a. acknowledged_are_members splits before h after choice t l a;
-      stay = λ h' after' later l' on. never_taken_back splits before h after h' after' later m l l' on;
-      predecessors = λ n t p i member is. predecessors_stand_before splits before h after choice n t p m l i member is;
-      sessions = sessions_keep_their_order splits before h after choice l;
-      causes = λ so_far rest e t cause is tells. causes_stand splits before h after so_far rest e t cause m l is tells;
-      one_outcome = λ t a. outcomes_are_one splits before h after t l a;
-      waits = λ t u w. waits_go_down splits before h after t u m l w;
-      no_cycle = λ t w. waits_have_no_cycle splits before h after t m l w;
-      settled = λ q. settled_is_the_map splits before h after choice m l q;
-      opens = logs_left_may_be_opened splits before h after choice m l;
-      opens_at_the_end = logs_at_the_end_may_be_opened splits before h after m l;
+      acknowledged = λ t a. acknowledged_are_members splits before h after choice t l.legal a;
+      stay = λ h' after' later l' on. never_taken_back splits before h after h' after' later l l' on;
+      predecessors = λ n t p i member is. predecessors_stand_before splits before h after choice n t p l i member is;
+      sessions = sessions_keep_their_order splits before h after choice l.legal;
+      causes = λ so_far rest e t cause is tells. causes_stand splits before h after so_far rest e t cause l is tells;
+      one_outcome = λ t a. outcomes_are_one splits before h after t l.legal a;
+      waits = λ t u w. waits_go_down splits before h after t u l w;
+      no_cycle = λ t w. waits_have_no_cycle splits before h after t l w;
+      settled = λ q. settled_is_the_map splits before h after choice l q;
+      opens = logs_left_may_be_opened splits before h after choice l;
+      opens_at_the_end = logs_at_the_end_may_be_opened splits before h after l;
     }

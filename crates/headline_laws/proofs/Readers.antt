@@ -5,13 +5,12 @@ use Rattle.clv_base.specs.declared.names.TxId.{TxId}
 use Rattle.clv_base.specs.declared.logs.LogRecord.{LogRecord}
 use Rattle.clv_base.specs.Orders.{nat_in}
 use Rattle.clv_base.specs.Shards.{shard_count}
-use Rattle.clv_base.specs.FileRules.{may_open}
 use Rattle.clv_base.specs.Undo.{stage_of}
 use Rattle.clv_base.specs.Restarts.{run_after}
 use Rattle.clv_base.specs.Journals.{History}
-use Rattle.clv_base.specs.History.{Legal}
 use Rattle.history_cases.proofs.Merging.{Among, among_left, is_among}
 use Rattle.history_cases.proofs.Worlds.{state_at}
+use Rattle.history_laws.specs.Openings.{LegalFrom}
 use Rattle.fate_laws.proofs.Sessions.{Requested}
 use Rattle.fate_laws.proofs.Entries.{DidOrOld, traced_front}
 use Rattle.fate_laws.specs.Decisions.{IsHome, is_left}
@@ -31,29 +30,29 @@ use Rattle.headline_laws.proofs.Committing.{committed_by}
 -- ---- who voted read
 
 pub readers_pass : ReadersPass
-readers_pass splits before so_far later after n e home from tx o l i j q = (
+readers_pass splits before so_far later after n e home from tx l i j q = (
   p.unwritten,
-  false_from_ne_true _ (λ c. ⊎_elim (λ w. both_ways _ p.unwritten w) (λ r. elsewhere r) (committed_by splits before after (so_far ++ later) so_far later o l refl from i tx (p.asked).0 c)),
+  false_from_ne_true _ (λ c. ⊎_elim (λ w. both_ways _ p.unwritten w) (λ r. elsewhere r) (committed_by splits before after (so_far ++ later) so_far later l refl from i tx (p.asked).0 c)),
 )
   where
     p : Passed splits before after so_far from tx
-    p = (passing_front splits before after (so_far ++ later) so_far later o l refl).sent (n, e) home from tx i (is_among n e so_far j) q
+    p = (passing_front splits before after (so_far ++ later) so_far later l refl).sent (n, e) home from tx i (is_among n e so_far j) q
 
     elsewhere : Requested so_far tx from → ⊥
     elsewhere (y, ts, k, a, z) = apart (p.asked).1
       where
         apart : (m : ℕ) × (m ≡ from → ⊥) × Requested so_far tx m → ⊥
         apart (m, d, (x, us, g, b, v)) =
-            d (sym v ∙ one_home splits before after (so_far ++ later) tx x.0 y.0 x.1 y.1 us ts l (among_left x so_far later g) b (among_left y so_far later k) a ∙ z)
+            d (sym v ∙ one_home splits before after (so_far ++ later) tx x.0 y.0 x.1 y.1 us ts l.legal (among_left x so_far later g) b (among_left y so_far later k) a ∙ z)
 
 pub readers_never_fell : ReadersNeverFell
-readers_never_fell splits before h after m k to x tx o l i j q f = ((passing_front splits before after h h [] o l (append-nil h)).sent (k, x) to m tx i (is_among k x h j) q).unfallen f
+readers_never_fell splits before h after m k to x tx l i j q f = ((passing_front splits before after h h [] l (append-nil h)).sent (k, x) to m tx i (is_among k x h j) q).unfallen f
 
 -- ---- who fell was answered there
 
-module _ (splits : List ℕ) (before : List (List LogRecord)) (h : History) (after : List (List LogRecord)) (m : ℕ) (tx : TxId) (o : may_open splits before ≡ true) (l : Legal splits before h after) (j : m < shard_count splits) where
+module _ (splits : List ℕ) (before : List (List LogRecord)) (h : History) (after : List (List LogRecord)) (m : ℕ) (tx : TxId) (l : LegalFrom splits before h after) (j : m < shard_count splits) where
   restored : (front rest : History) → front ++ rest ≡ h → RestoredArePrepared (state_at before after m front).local
-  restored front rest q = restored_front splits before h after front rest m o l q j
+  restored front rest q = restored_front splits before h after front rest m l q j
 
   did_later : (front rest : History) → front ++ rest ≡ h → DidOrOld (run_after before) front m tx → DidOrOld (run_after before) h m tx
   did_later front rest q (inl (ep, (b, (y, i, p, a)))) = inl (ep, (b, (y, subst (Among y) q (among_left y front rest i), p, a)))
@@ -62,7 +61,7 @@ module _ (splits : List ℕ) (before : List (List LogRecord)) (h : History) (aft
   part_at : (front rest : History) → front ++ rest ≡ h → (stage_of (state_at before after m front).local tx ≡ None → ⊥) → DidOrOld (run_after before) h m tx
   part_at front rest q n =
       let s = state_at before after m front in
-      did_later front rest q (part_did (run_after before) front m s tx (stage_of s.local tx) ((traced_front splits before after h front rest o l q).states m j) (restored front rest q) refl n)
+      did_later front rest q (part_did (run_after before) front m s tx (stage_of s.local tx) ((traced_front splits before after h front rest l q).states m j) (restored front rest q) refl n)
 
   fell_did : Fell before h after m tx → DidOrOld (run_after before) h m tx
   fell_did (inl (front, x, rest, z, ev, y)) = part_at front ((m, x) ∷ rest) z (none_present (stage_of (state_at before after m front).local tx) y.0)
@@ -71,15 +70,15 @@ module _ (splits : List ℕ) (before : List (List LogRecord)) (h : History) (aft
 -- ---- members
 
 pub members_never_fell : MembersNeverFell
-members_never_fell splits before h after choice n m tx o l i j run left f = by_home k.1
+members_never_fell splits before h after choice n m tx l i j run left f = by_home k.1
   where
     k : (home : ℕ) × IsHome h tx home × (is_left splits before h after choice home tx ≡ true)
-    k = commits_stand_at_home splits before h after choice n tx o l i run left
+    k = commits_stand_at_home splits before h after choice n tx l i run left
 
     named : (home : ℕ) (r : IsHome h tx home) → DidOrOld (run_after before) h m tx → nat_in m (map (λ t. t.0) r.1) ≡ true
-    named home r d = names_shard splits before after h m home tx r l run d
+    named home r d = names_shard splits before after h m home tx r l.legal run d
 
     by_home : IsHome h tx k.0 → ⊥
     by_home r =
-        let v = only_readers_may_fall splits before h after choice n m k.0 r.0 r.1 tx o l i j r.2 r.3 r.4 (named k.0 r (fell_did splits before h after m tx o l j f)) left f in
-        readers_never_fell splits before h after m v.0 v.2 v.1 tx o l j v.3 v.4 f
+        let v = only_readers_may_fall splits before h after choice n m k.0 r.0 r.1 tx l i j r.2 r.3 r.4 (named k.0 r (fell_did splits before h after m tx l j f)) left f in
+        readers_never_fell splits before h after m v.0 v.2 v.1 tx l j v.3 v.4 f

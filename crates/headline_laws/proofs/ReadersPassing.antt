@@ -12,15 +12,14 @@ use Rattle.clv_base.specs.declared.events.Event.TheVariants.{Deliver, Restart}
 use Rattle.clv_base.specs.declared.events.Outcome.{Outcome}
 use Rattle.clv_base.specs.declared.events.Outcome.TheVariants.{Sent}
 use Rattle.clv_base.specs.Shards.{shard_count}
-use Rattle.clv_base.specs.FileRules.{may_open}
 use Rattle.clv_base.specs.LogRules.{log_of}
 use Rattle.clv_base.specs.Logs.{wrote_in}
 use Rattle.clv_base.specs.State.{Shard, is_present}
 use Rattle.clv_base.specs.Undo.{stage_of}
 use Rattle.clv_base.specs.Restarts.{run_after, log_after_restart}
 use Rattle.clv_base.specs.Journals.{History, event_state, after_entry}
-use Rattle.clv_base.specs.History.{Legal}
 use Rattle.protocol_laws.specs.SessionLaws.{tx_of}
+use Rattle.history_laws.specs.Openings.{LegalFrom}
 use Rattle.shard_laws.specs.OneShard.{is_doomed}
 use Rattle.history_cases.proofs.Stepping.{Step, sends, finishes, stops}
 use Rattle.history_cases.proofs.Entering.{Makes, by_event, by_flush, by_failure, by_restart, makes}
@@ -85,7 +84,7 @@ said_read P o home from t a q = subst (SaidIs P) q a
 
 -- ---- one entry more
 
-module _ (splits : List ℕ) (before after : List (List LogRecord)) (h pre : History) (e : Placed) (post : History) (o : may_open splits before ≡ true) (l : Legal splits before h after) (q : pre ++ e ∷ post ≡ h) where
+module _ (splits : List ℕ) (before after : List (List LogRecord)) (h pre : History) (e : Placed) (post : History) (l : LegalFrom splits before h after) (q : pre ++ e ∷ post ≡ h) where
   abbrev New : History
   New = pre ++ e ∷ []
 
@@ -99,16 +98,16 @@ module _ (splits : List ℕ) (before after : List (List LogRecord)) (h pre : His
   later = append_assoc pre (e ∷ []) post ∙ q
 
   w : Next splits before after h pre e
-  w = next_at splits before after h pre e post l q
+  w = next_at splits before after h pre e post l.legal q
 
   made : Makes (log_of after e.0) (state_at before after e.0 pre) (e.1).event (e.1).outcome (event_state (log_of after e.0) (state_at before after e.0 pre) (e.1).event (e.1).outcome)
   made = makes (log_of after e.0) (state_at before after e.0 pre) (e.1).event (e.1).outcome ((w.split).enters).event
 
   was : Bindings splits before after h pre
-  was = bindings_front splits before after h pre (e ∷ post) o l q
+  was = bindings_front splits before after h pre (e ∷ post) l q
 
   is : Bindings splits before after h (pre ++ e ∷ [])
-  is = bindings_front splits before after h (pre ++ e ∷ []) post o l later
+  is = bindings_front splits before after h (pre ++ e ∷ []) post l later
 
   away_more : (n : ℕ) (t : TxId) → Away before pre n t → Away before (pre ++ e ∷ []) n t
   away_more n t (r, (m, d, k)) = (r, (m, d, requested_more pre e t m k))
@@ -142,7 +141,7 @@ module _ (splits : List ℕ) (before after : List (List LogRecord)) (h pre : His
         asked = away_more n t p.asked;
         unwritten = unwritten_on n t (not_own n t p.asked) p.unwritten;
         reads = reads_on n t (not_own n t p.asked) p.reads;
-        unfallen = unfallen_by n t p.unfallen (λ d. ⊎_elim (λ y. p.unfallen (inr (pre, [], append-nil pre, y))) (λ y. both_ways _ gone y) (doomed_was splits before after h pre e post o l q n i t d)) (λ y z. both_ways _ gone y);
+        unfallen = unfallen_by n t p.unfallen (λ d. ⊎_elim (λ y. p.unfallen (inr (pre, [], append-nil pre, y))) (λ y. both_ways _ gone y) (doomed_was splits before after h pre e post l q n i t d)) (λ y z. both_ways _ gone y);
       }
     where
       gone : is_present (stage_of (state_at before after n pre).local t) ≡ false
@@ -172,13 +171,13 @@ module _ (splits : List ℕ) (before after : List (List LogRecord)) (h pre : His
       undoomed = subst (λ (z : Shard). is_doomed (stage_of z.local t) ≡ false) (sym (w.split).next) c.undoomed
 
       past : Fell before pre after e.0 t → ⊥
-      past f = both_ways _ c.fresh (ordered_wrote S.local.log t ((was.parted e.0 w.inside).base).ordered (out_prepared splits before after h pre (e ∷ post) o l q e.0 w.inside t (fell_out splits before after h pre (e ∷ post) e.0 t o l q w.inside f) c.here))
+      past f = both_ways _ c.fresh (ordered_wrote S.local.log t ((was.parted e.0 w.inside).base).ordered (out_prepared splits before after h pre (e ∷ post) l q e.0 w.inside t (fell_out splits before after h pre (e ∷ post) e.0 t l q w.inside f) c.here))
 
   asks_of : (ev : Event) → Brings (Requested pre) (IsOld (run_after before)) ev → Asks (Away before (pre ++ e ∷ []) e.0) S ev
   asks_of (Deliver (Prepare to t home seen) stamp) b = λ z. from b.0 (λ y. b.1 (z ∙ (w.split).shard ∙ sym y))
     where
       from : Requested pre t home → (home ≡ e.0 → ⊥) → Away before (pre ++ e ∷ []) e.0 t
-      from (r, ts, i, a, y) d = ((walker_of splits before after h r t l (w.earlier r i).0 (ap tx_of a.0)).0, (home, d, requested_more pre e t home (r, ts, i, a, y)))
+      from (r, ts, i, a, y) d = ((walker_of splits before after h r t l.legal (w.earlier r i).0 (ap tx_of a.0)).0, (home, d, requested_more pre e t home (r, ts, i, a, y)))
   asks_of _ b = tt
 
   voters_here : Voters (Away before pre e.0) (Passed splits before after pre e.0) S → Voters (Away before (pre ++ e ∷ []) e.0) (Passed splits before after (pre ++ e ∷ []) e.0) (state_at before after e.0 (pre ++ e ∷ []))
@@ -186,7 +185,7 @@ module _ (splits : List ℕ) (before after : List (List LogRecord)) (h pre : His
       let R = Away before (pre ++ e ∷ []) e.0 in
       let P = Passed splits before after pre e.0 in
       let Q = Passed splits before after (pre ++ e ∷ []) e.0 in
-      let b = brought splits before after h pre e (behind_of splits before after h pre e post l q) (traced_front splits before after h pre (e ∷ post) o l q) (e.1).event w.sent in
+      let b = brought splits before after h pre e (behind_of splits before after h pre e post l.legal q) (traced_front splits before after h pre (e ∷ post) l q) (e.1).event w.sent in
       let m = voters_made R P (log_of after e.0) S T made (asks_of (e.1).event b) (voters_mono (Away before pre e.0) R P P S (away_more e.0) (λ t p. p) k) in
       let x = voters_mono R R (ReadAt R P S T (e.1).event) Q T (λ t r. r) (λ t y. ⊎_elim (λ p. kept e.0 t w.inside p) (λ c. cast t c.0 c.1) y) m in
       subst (Voters R Q) (sym (w.split).next) (voters_on R R Q Q T (after_entry (log_of after e.0) S e.1) refl x.out (λ t r. r) (λ t p. p) x)
@@ -209,8 +208,8 @@ module _ (splits : List ℕ) (before after : List (List LogRecord)) (h pre : His
 
 -- ---- the whole history
 
-pub passing_front : (splits : List ℕ) (before after : List (List LogRecord)) (h pre post : History) → may_open splits before ≡ true → Legal splits before h after → pre ++ post ≡ h → Passing splits before after pre
-passing_front splits before after h pre post o l q = walk_on (Passing splits before after) h [] pre post q (λ f e r z k. passing_next splits before after h f e r o l z k) first
+pub passing_front : (splits : List ℕ) (before after : List (List LogRecord)) (h pre post : History) → LegalFrom splits before h after → pre ++ post ≡ h → Passing splits before after pre
+passing_front splits before after h pre post l q = walk_on (Passing splits before after) h [] pre post q (λ f e r z k. passing_next splits before after h f e r l z k) first
   where
     first : Passing splits before after []
     first =

@@ -21,20 +21,20 @@ use Rattle.headline_laws.proofs.Sparing.{yes_voters_never_fell}
 use Rattle.headline_laws.proofs.Voting.{members_are_voted_for}
 
 pub only_readers_may_fall : OnlyReadersMayFall
-only_readers_may_fall splits before h after choice n m home e touched tx o l i j a ev out there left f = at (m == home) refl
+only_readers_may_fall splits before h after choice n m home e touched tx l i j a ev out there left f = at (m == home) refl
   where
     run : tx.run ≡ run_after before
-    run = (walker_of splits before after h (home, e) tx l (is_among home e h a) (ap tx_of ev)).0
+    run = (walker_of splits before after h (home, e) tx l.legal (is_among home e h a) (ap tx_of ev)).0
 
     by_vote : (k : ℕ) (x : Entry) (to : ℕ) (v : Vote) → IsAmong k x h → x.outcome ≡ Sent (VoteMessage to tx m v) → is_good (Some v) ≡ true → (k : ℕ) × (x : Entry) × (to : ℕ) × IsAmong k x h × (x.outcome ≡ Sent (VoteMessage to tx m Read))
-    by_vote k x to Yes y s g = absurd (yes_voters_never_fell splits before h after choice n m k x to tx o l i j run y s left f)
+    by_vote k x to Yes y s g = absurd (yes_voters_never_fell splits before h after choice n m k x to tx l i j run y s left f)
     by_vote k x to Read y s g = (k, x, to, y, s)
     by_vote k x to (No why) y s g = absurd (both_ways false refl g)
 
     at : (b : Bool) → (m == home) ≡ b → (k : ℕ) × (x : Entry) × (to : ℕ) × IsAmong k x h × (x.outcome ≡ Sent (VoteMessage to tx m Read))
     at true d =
         let z = eqb-true m home d in
-        absurd (members_never_fell_at_home splits before h after choice n home tx o l i (subst (λ v. v < shard_count splits) z j) run left (e, touched, a, ev, out) (subst (λ v. Fell before h after v tx) z f))
+        absurd (members_never_fell_at_home splits before h after choice n home tx l i (subst (λ v. v < shard_count splits) z j) run left (e, touched, a, ev, out) (subst (λ v. Fell before h after v tx) z f))
     at false d =
-        let v = members_are_voted_for splits before h after choice n m home e touched tx o l i a ev out (in_others m home (map (λ t. t.0) touched) there d) left in
+        let v = members_are_voted_for splits before h after choice n m home e touched tx l i a ev out (in_others m home (map (λ t. t.0) touched) there d) left in
         by_vote v.0 v.1 v.2 v.3 v.4 v.5 v.6

@@ -11,13 +11,13 @@ use Rattle.clv_base.specs.Maps.{replay_map, replay_answers}
 use Rattle.clv_base.specs.Logs.{committed_in, wrote_in, committed_somewhere, in_doubt, fold_updates}
 use Rattle.clv_base.specs.LogRules.{log_of, listed_in}
 use Rattle.clv_base.specs.Shards.{shard_count}
-use Rattle.clv_base.specs.FileRules.{may_open}
 use Rattle.clv_base.specs.Restarts.{run_after, log_left}
 use Rattle.clv_base.specs.Journals.{History, start_of, final_of, journal_of}
-use Rattle.clv_base.specs.History.{Legal, logs_left}
+use Rattle.clv_base.specs.History.{logs_left}
 use Rattle.protocol_laws.specs.SessionLaws.{tx_of}
 use Rattle.law_base.proofs.Sets.{in_filter}
 use Rattle.law_base.proofs.Running.{fold_writers}
+use Rattle.history_laws.specs.Openings.{LegalFrom}
 use Rattle.history_laws.specs.Continuing.{serial_left}
 use Rattle.history_cases.proofs.Durability.{Fronts, fronts_entries, opened_counted}
 use Rattle.history_laws.proofs.Staying.{walker_of, log_now}
@@ -52,13 +52,13 @@ use Rattle.history_laws.proofs.Passing.{left_length}
 use Rattle.history_laws.proofs.Doubts.{doubted_is_old}
 use Rattle.law_base.proofs.Bools.{same_truth as same_test}
 
-module _ (splits : List ℕ) (before : List (List LogRecord)) (h : History) (after : List (List LogRecord)) (choice : ℕ → Bool) (o : may_open splits before ≡ true) (l : Legal splits before h after) where
+module _ (splits : List ℕ) (before : List (List LogRecord)) (h : History) (after : List (List LogRecord)) (choice : ℕ → Bool) (l : LegalFrom splits before h after) where
   pub leads : (n : ℕ) → n < shard_count splits
       → Leads n (run_after before) (log_of before n) (with_found n (log_of before n) (deeds_before before h after n)) (final_of before h after n)
-  leads n i = each_shard_leads splits before h after h [] n o l (append-nil h) i
+  leads n i = each_shard_leads splits before h after h [] n l (append-nil h) i
 
   pub fronts : (n : ℕ) → n < shard_count splits → Fronts (start_of before n) (final_of before h after n)
-  fronts n i = fronts_entries (log_of after n) (start_of before n) (journal_of n h) (opened_counted n (run_after before) (log_of before n)) (l.runs n i)
+  fronts n i = fronts_entries (log_of after n) (start_of before n) (journal_of n h) (opened_counted n (run_after before) (log_of before n)) (l.legal.runs n i)
 
   pub left_is : (n : ℕ) → n < shard_count splits → log_of (logs_left splits before h after choice) n ≡ log_left (final_of before h after n) (choice n)
   left_is n i = log_now splits before h after choice n i
@@ -67,29 +67,29 @@ module _ (splits : List ℕ) (before : List (List LogRecord)) (h : History) (aft
   within m j = let e = left_length splits before h after choice in omega (arith, e, j)
 
   found_within : (m : ℕ) → m < length before → m < shard_count splits
-  found_within m j = let e = (l.each_log).0 in omega (arith, e, j)
+  found_within m j = let e = l.legal.each_log.0 in omega (arith, e, j)
 
   pub inside : (n : ℕ) → n < shard_count splits → n < length before
-  inside n i = let e = (l.each_log).0 in omega (arith, e, i)
+  inside n i = let e = l.legal.each_log.0 in omega (arith, e, i)
 
   -- whose COMMIT is left is of this run or of an earlier one
   pub left_run : (n : ℕ) (t : TxId) → n < shard_count splits → committed_in (log_of (logs_left splits before h after choice) n) t ≡ true → (t.run ≡ run_after before) ⊎ (t.run < run_after before)
   left_run n t i k =
       by_request
-      (committed_from (DidOrOld (run_after before) h n) (Requested h) (IsOld (run_after before)) n (final_of before h after n).local.log (((traced_front splits before after h h [] o l (append-nil h)).states n i).origins).log t
+      (committed_from (DidOrOld (run_after before) h n) (Requested h) (IsOld (run_after before)) n (final_of before h after n).local.log (((traced_front splits before after h h [] l (append-nil h)).states n i).origins).log t
       (left_committed splits before h after choice n t i k))
     where
       by_request : SomeRequest (Requested h) (IsOld (run_after before)) t → (t.run ≡ run_after before) ⊎ (t.run < run_after before)
-      by_request (inl (m, (r, ts, j, a, q))) = inl (walker_of splits before after h r t l j (ap tx_of a.0)).0
+      by_request (inl (m, (r, ts, j, a, q))) = inl (walker_of splits before after h r t l.legal j (ap tx_of a.0)).0
       by_request (inr old) = inr old
 
   -- who wrote on a shard, and has a COMMIT left on any, is chosen there
   somewhere_chosen : (n m : ℕ) (t : TxId) → n < shard_count splits → m < shard_count splits → wrote_in (log_of (logs_left splits before h after choice) n) t ≡ true → committed_in (log_of (logs_left splits before h after choice) m) t ≡ true → Chosen splits before h after choice n t
   somewhere_chosen n m t i j w k =
-      ⊎_elim (λ r. inl (commits_are_members splits before h after choice m t o l j r k))
+      ⊎_elim (λ r. inl (commits_are_members splits before h after choice m t l j r k))
       (λ r.
-      let c = somewhere_at_opening splits before h after choice m t o l j r k in
-      ⊎_elim (λ a. inr (inl (committed_still splits before h after choice n t l i a))) (λ a. inr (inr (a, c))) (writer_known splits before n t o (wrote_at_opening splits before h after choice n t o l i r w) c))
+      let c = somewhere_at_opening splits before h after choice m t l j r k in
+      ⊎_elim (λ a. inr (inl (committed_still splits before h after choice n t l.legal i a))) (λ a. inr (inr (a, c))) (writer_known splits before n t l.opens (wrote_at_opening splits before h after choice n t l i r w) c))
       (left_run m t j k)
 
   pub wrote_last : (n : ℕ) (t : TxId) → n < shard_count splits → wrote_in (log_of (logs_left splits before h after choice) n) t ≡ true → wrote_in (final_of before h after n).local.log t ≡ true
@@ -105,7 +105,7 @@ module _ (splits : List ℕ) (before : List (List LogRecord)) (h : History) (aft
 
   -- who is committed in a log found is so in what is left
   pub found_somewhere : (t : TxId) → committed_somewhere before t ≡ true → committed_somewhere (logs_left splits before h after choice) t ≡ true
-  found_somewhere t c = let m = somewhere_at before t c in at_somewhere (logs_left splits before h after choice) m.0 t (committed_still splits before h after choice m.0 t l (found_within m.0 m.1) m.2)
+  found_somewhere t c = let m = somewhere_at before t c in at_somewhere (logs_left splits before h after choice) m.0 t (committed_still splits before h after choice m.0 t l.legal (found_within m.0 m.1) m.2)
 
   -- ---- a chosen one is here as the laws of one shard want it
 
@@ -120,7 +120,7 @@ module _ (splits : List ℕ) (before : List (List LogRecord)) (h : History) (aft
 
   -- who is of the fallen that a shard counts fell
   pub fell_there : (n : ℕ) (t : TxId) → n < shard_count splits → tx_in t (deeds_before before h after n).fell ≡ true → Fell before h after n t
-  fell_there n t i f = fell_is before h after n t (((at_front splits before h after h [] n o l (append-nil h) i).remembers).fell t f).1
+  fell_there n t i f = fell_is before h after n t (((at_front splits before h after h [] n l (append-nil h) i).remembers).fell t f).1
 
   -- who is in doubt in what is left, and did not fall
   doubted_here : (n : ℕ) (t : TxId) → n < shard_count splits → IsDoubted n (log_left (final_of before h after n) (choice n)) t → (Fell before h after n t → ⊥) → IsHereByCut n t
@@ -137,7 +137,7 @@ module _ (splits : List ℕ) (before : List (List LogRecord)) (h : History) (aft
       let doubt = subst (λ z. tx_in t (in_doubt n z) ≡ true) (left_is n i) d.0 in
       let listed = subst (λ z. list_all (committed_in z) (listed_in z t) ≡ true) (left_is n i) d.1 in
       let m = somewhere_at (logs_left splits before h after choice) t d.2 in
-      doubted_here n t i (doubt, listed) (unfallen splits before h after choice n m.0 t o l i (within m.0 m.1) (member_run splits before h after choice t l k) doubt m.2)
+      doubted_here n t i (doubt, listed) (unfallen splits before h after choice n m.0 t l i (within m.0 m.1) (member_run splits before h after choice t l.legal k) doubt m.2)
   member_here n t i k (inr (inr p)) =
       inr (inr (record {
         has_asked = in_more (found_asked n (log_of before n)) (requests_of h) t p.has_asked;
@@ -149,15 +149,15 @@ module _ (splits : List ℕ) (before : List (List LogRecord)) (h : History) (aft
 
   pub found_here : (n : ℕ) (t : TxId) → n < shard_count splits → tx_in t (in_doubt n (log_of before n)) ≡ true → committed_somewhere before t ≡ true → IsHereByCut n t
   found_here n t i d c =
-      ⊎_elim (λ a. inl (or_left _ _ a)) (λ a. doubted_here n t i a (never_fell splits before h after (choice n) n t o l i d c)) (still_known splits before h after (choice n) n t o l i d c)
+      ⊎_elim (λ a. inl (or_left _ _ a)) (λ a. doubted_here n t i a (never_fell splits before h after (choice n) n t l i d c)) (still_known splits before h after (choice n) n t l i d c)
 
   -- ---- those found did nothing of what the members did
 
   idle : (n : ℕ) → n < shard_count splits → AllIdle (filter (chosen splits before h after choice n) (requests_of h)) (found_items n (log_of before n))
   idle n i t j =
       let y = asked_by h t (in_filter (chosen splits before h after choice n) t (requests_of h) j).0 in
-      let run = request_run splits before after h y.0 t l y.1 y.2 in
-      idle_among (IsOld (run_after before)) t (found_items n (log_of before n)) (items_are_old splits before n o (inside n i)) (λ old. omega (arith, old, run))
+      let run = request_run splits before after h y.0 t l.legal y.1 y.2 in
+      idle_among (IsOld (run_after before)) t (found_items n (log_of before n)) (items_are_old splits before n l.opens (inside n i)) (λ old. omega (arith, old, run))
 
   -- the map that a shard's chosen ones begin from is its share
   pub starts : (n : ℕ) → n < shard_count splits → share_of before n ≡ map_found n (log_of before n) (chosen splits before h after choice n)
@@ -165,13 +165,13 @@ module _ (splits : List ℕ) (before : List (List LogRecord)) (h : History) (aft
       let log = log_of before n in
       fold_writers (committed_somewhere before) (λ t. committed_in log t || (tx_in t (in_doubt n log) && chosen splits before h after choice n t)) log []
       (λ t w. same_test (committed_somewhere before t) (committed_in log t || (tx_in t (in_doubt n log) && chosen splits before h after choice n t))
-      (λ c. ⊎_elim (λ a. or_left (committed_in log t) _ a) (λ a. or_right (committed_in log t) _ (and_from _ _ a (is_chosen splits before h after choice n t (inr (inr (a, c)))))) (writer_known splits before n t o w c))
+      (λ c. ⊎_elim (λ a. or_left (committed_in log t) _ a) (λ a. or_right (committed_in log t) _ (and_from _ _ a (is_chosen splits before h after choice n t (inr (inr (a, c)))))) (writer_known splits before n t l.opens w c))
       (λ c. ⊎_elim (λ a. at_somewhere before n t a) (λ a. let d = and_parts (tx_in t (in_doubt n log)) _ a in somewhere n t i d.0 (of_chosen splits before h after choice n t d.1))
       (or_cases (committed_in log t) (tx_in t (in_doubt n log) && chosen splits before h after choice n t) c)))
     where
       somewhere : (m : ℕ) (t : TxId) → m < shard_count splits → tx_in t (in_doubt m (log_of before m)) ≡ true → Chosen splits before h after choice m t → committed_somewhere before t ≡ true
-      somewhere m t j d (inl a) = let k = doubted_is_old splits before m o (inside m j) t d in let r = member_run splits before h after choice t l a in absurd (omega (arith, k, r))
-      somewhere m t j d (inr (inl a)) = somewhere_at_opening splits before h after choice m t o l j (doubted_is_old splits before m o (inside m j) t d) a
+      somewhere m t j d (inl a) = let k = doubted_is_old splits before m l.opens (inside m j) t d in let r = member_run splits before h after choice t l.legal a in absurd (omega (arith, k, r))
+      somewhere m t j d (inr (inl a)) = somewhere_at_opening splits before h after choice m t l j (doubted_is_old splits before m l.opens (inside m j) t d) a
       somewhere m t j d (inr (inr a)) = a.1
 
   module _ (here : (n : ℕ) (t : TxId) → n < shard_count splits → is_member splits before h after choice t ≡ true → IsHere splits before h after choice n t) where
@@ -210,7 +210,7 @@ module _ (splits : List ℕ) (before : List (List LogRecord)) (h : History) (aft
         let r = later_replay n (run_after before) found (with_found n found d) s (cond (choice n) (unwrap_or s.flight s.durable) s.durable) pick (requests_of h) (leads n i)
         (cut_above s (choice n) (fronts n i).counted) (may_choose n i) refl in
         let share = starts n i in
-        let names = chosen_are_members splits before h after choice n o l i in
+        let names = chosen_are_members splits before h after choice n l i in
         let ops = part_ops n h d.items ms (λ t. (deeds_are_told before h after n t).0) ∙ ap (λ ts. ops_by ts d.items) names ∙ sym (ops_later (filter pick (requests_of h)) (found_items n found) d.items (idle n i)) in
         let answers = part_answers n h d.items ms (λ t. (deeds_are_told before h after n t).0) ∙ ap (λ ts. answers_by ts d.items) names ∙ sym (answers_later (filter pick (requests_of h)) (found_items n found) d.items (idle n i)) in
         let ends = ap (λ z. fold_updates pick z []) (sym (left_is n i)) ∙ fold_writers pick (committed_somewhere (logs_left splits before h after choice)) (log_of (logs_left splits before h after choice) n) [] (λ t w. writers_chosen n t i w) in (
@@ -219,4 +219,4 @@ module _ (splits : List ℕ) (before : List (List LogRecord)) (h : History) (aft
         )
 
 pub members_replay_where_here : MembersReplayWhereHere
-members_replay_where_here splits before h after choice o l here = members_replay_by_parts splits before h after choice o l (λ n i. replays_on splits before h after choice o l here n i)
+members_replay_where_here splits before h after choice l here = members_replay_by_parts splits before h after choice l (λ n i. replays_on splits before h after choice l here n i)

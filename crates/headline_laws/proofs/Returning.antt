@@ -14,7 +14,6 @@ use Rattle.clv_base.specs.declared.events.Outcome.{Outcome}
 use Rattle.clv_base.specs.declared.state.Ruling.TheVariants.{Commit as CommitVerdict, Acknowledge, Abort as AbortVerdict, End as EndVerdict}
 use Rattle.clv_base.specs.Orders.{tx_same, tx_in, tx_get}
 use Rattle.clv_base.specs.Shards.{shard_count}
-use Rattle.clv_base.specs.FileRules.{may_open}
 use Rattle.clv_base.specs.LogRules.{log_of}
 use Rattle.clv_base.specs.Logs.{prepared_in, prepare_of, in_doubt}
 use Rattle.clv_base.specs.State.{Shard, Local, is_present}
@@ -23,11 +22,11 @@ use Rattle.clv_base.specs.OneShard.{OpDies, OpAnswers, seen_fits}
 use Rattle.clv_base.specs.Events.{finish, with_durable}
 use Rattle.clv_base.specs.Restarts.{run_after, log_after_restart, revived}
 use Rattle.clv_base.specs.Journals.{History, event_state, up_to_restart}
-use Rattle.clv_base.specs.History.{Legal}
 use Rattle.clv_base.proofs.SameNames.{tx_true, tx_self}
 use Rattle.protocol_laws.specs.Growth.{IsPrefixOf}
 use Rattle.protocol_laws.specs.SessionLaws.{tx_of}
 use Rattle.protocol_laws.proofs.Growing.{same as same_log}
+use Rattle.history_laws.specs.Openings.{LegalFrom}
 use Rattle.shard_laws.proofs.Restoring.{restored_none}
 use Rattle.shard_laws.proofs.Ordered.{prepare_some}
 use Rattle.history_cases.proofs.Entering.{Makes, by_event, by_flush, by_failure, by_restart, makes}
@@ -127,7 +126,7 @@ Again before after pre n s = (t : TxId) → WasOut before after pre n t → is_p
 AllAgain : (splits : List ℕ) (before after : List (List LogRecord)) (pre : History) → Type 0
 AllAgain splits before after pre = (n : ℕ) → n < shard_count splits → Again before after pre n (state_at before after n pre)
 
-module _ (splits : List ℕ) (before after : List (List LogRecord)) (h pre : History) (e : Placed) (post : History) (o : may_open splits before ≡ true) (l : Legal splits before h after) (q : pre ++ e ∷ post ≡ h) where
+module _ (splits : List ℕ) (before after : List (List LogRecord)) (h pre : History) (e : Placed) (post : History) (l : LegalFrom splits before h after) (q : pre ++ e ∷ post ≡ h) where
   abbrev S : Shard
   S = state_at before after e.0 pre
 
@@ -135,7 +134,7 @@ module _ (splits : List ℕ) (before after : List (List LogRecord)) (h pre : His
   T = event_state (log_of after e.0) (state_at before after e.0 pre) (e.1).event (e.1).outcome
 
   w : Next splits before after h pre e
-  w = next_at splits before after h pre e post l q
+  w = next_at splits before after h pre e post l.legal q
 
   -- who was met here does no first operation again
   not_first : (t : TxId) (birth : Birth) (nth : ℕ) (seen : Option ℕ) (op : Op) → (e.1).event ≡ OpEvent t birth nth seen op → First S t seen → WasOut before after pre e.0 t → ⊥
@@ -145,12 +144,12 @@ module _ (splits : List ℕ) (before after : List (List LogRecord)) (h pre : His
       more y i = subst (Among y) z (among_left y front rest i)
 
       by_met : Met before front front e.0 t → ⊥
-      by_met (inl a) = let k = a (walker_of splits before after h e t l w.among (ap tx_of ev)).0 in asked_not_own splits before after h pre e t birth nth seen op k.0 w ev ((k.1).0, (k.1).1, more (k.0, (k.1).0) (k.1).2, (k.1).3)
+      by_met (inl a) = let k = a (walker_of splits before after h e t l.legal w.among (ap tx_of ev)).0 in asked_not_own splits before after h pre e t birth nth seen op k.0 w ev ((k.1).0, (k.1).1, more (k.0, (k.1).0) (k.1).2, (k.1).3)
       by_met (inr (ep, (b, (y, i, p, a)))) =
           let j = more y i in
-          let g = same_epoch splits before after h y e t b birth ep seen l (turn_of h pre e y (behind_of splits before after h pre e post l q) j) p a (record { nth = nth; op = op; is = ev }) in
+          let g = same_epoch splits before after h y e t b birth ep seen l.legal (turn_of h pre e y (behind_of splits before after h pre e post l.legal q) j) p a (record { nth = nth; op = op; is = ev }) in
           let same : ep ≡ S.local.epoch = eqb-true ep S.local.epoch (subst (λ v. seen_fits S.local.epoch v ≡ true) g.0 f.0) in
-          (((traced_front splits before after h pre (e ∷ post) o l q).states e.0 w.inside).origins).known t (subst (λ v. DidNow pre e.0 v t) same (b, (y, j, p, a))) (none_held (tx_get t S.local.parts) f.1)
+          (((traced_front splits before after h pre (e ∷ post) l q).states e.0 w.inside).origins).known t (subst (λ v. DidNow pre e.0 v t) same (b, (y, j, p, a))) (none_held (tx_get t S.local.parts) f.1)
 
   again_here : Again before after pre e.0 S → Again before after pre e.0 T
   again_here k t v p = by_own (own_or_not t (e.1).event)
@@ -179,10 +178,10 @@ module _ (splits : List ℕ) (before after : List (List LogRecord)) (h pre : His
       ⊎_elim (λ f. absurd (both_ways _ (subst (λ x. is_present (stage_of (state_at before after n x).local t) ≡ false) f v.0) p)) (λ f. again_new n k t (front, f.0, f.1, v) p) (last_front front rest pre e z)
 
 -- who was out on a shard and is here again is prepared there
-pub out_prepared : (splits : List ℕ) (before after : List (List LogRecord)) (h pre post : History) → may_open splits before ≡ true → Legal splits before h after → pre ++ post ≡ h → (n : ℕ) → n < shard_count splits → (t : TxId) → WasOut before after pre n t
+pub out_prepared : (splits : List ℕ) (before after : List (List LogRecord)) (h pre post : History) → LegalFrom splits before h after → pre ++ post ≡ h → (n : ℕ) → n < shard_count splits → (t : TxId) → WasOut before after pre n t
     → is_present (stage_of (state_at before after n pre).local t) ≡ true → prepared_in (state_at before after n pre).local.log t ≡ true
 unfolding AllAgain
-out_prepared splits before after h pre post o l q n i = walk_on (AllAgain splits before after) h [] pre post q (λ f e r z k m j. again_next splits before after h f e r o l z m (k m j)) first n i
+out_prepared splits before after h pre post l q n i = walk_on (AllAgain splits before after) h [] pre post q (λ f e r z k m j. again_next splits before after h f e r l z m (k m j)) first n i
   where
     first : AllAgain splits before after []
     first n i t v p = at (tx_in t (in_doubt n (log_after_restart n (log_of before n) (run_after before) 0))) refl

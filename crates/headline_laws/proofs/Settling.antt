@@ -17,17 +17,17 @@ use Rattle.clv_base.specs.LogRules.{log_of}
 use Rattle.clv_base.specs.Needs.{live_pairs}
 use Rattle.clv_base.specs.Shards.{shard_count}
 use Rattle.clv_base.specs.Coordinator.{is_good}
-use Rattle.clv_base.specs.FileRules.{may_open}
 use Rattle.clv_base.specs.State.{Shard, is_gone_stage, is_present}
 use Rattle.clv_base.specs.Undo.{stage_of}
 use Rattle.clv_base.specs.Restarts.{run_after}
 use Rattle.clv_base.specs.Journals.{History, final_of}
-use Rattle.clv_base.specs.History.{Legal, IsAmong, IsQuiet, IsSettled, logs_left}
+use Rattle.clv_base.specs.History.{IsAmong, IsQuiet, IsSettled, logs_left}
 use Rattle.clv_base.proofs.SameNames.{tx_self}
 use Rattle.law_base.proofs.Lists.{all_mono}
 use Rattle.law_base.proofs.Rows.{rows_get}
 use Rattle.law_base.proofs.Tables.{stage_by}
 use Rattle.law_base.proofs.Running.{fold_writers}
+use Rattle.history_laws.specs.Openings.{LegalFrom}
 use Rattle.shard_laws.proofs.Doubting.{prepared_cut}
 use Rattle.shard_laws.specs.OneShard.{Deeds, Leads}
 use Rattle.shard_laws.proofs.Histories.{held}
@@ -90,7 +90,7 @@ undoubted shard run before d s n t leads q i =
     (λ u. both_ways _ undecided.2 ((order_of s.shard log follows).undone t u))
     (wrote_stands s.shard log follows t (prepared_wrote s.shard log follows t (doubt_prepared n log t i)))
 
-module _ (splits : List ℕ) (before : List (List LogRecord)) (h : History) (after : List (List LogRecord)) (choice : ℕ → Bool) (o : may_open splits before ≡ true) (l : Legal splits before h after)
+module _ (splits : List ℕ) (before : List (List LogRecord)) (h : History) (after : List (List LogRecord)) (choice : ℕ → Bool) (l : LegalFrom splits before h after)
     (pass : ReadersWroteNothing splits before h after) (quiet : IsSettled splits before h after) where
   -- ---- who voted yes for a commit is committed
 
@@ -100,7 +100,7 @@ module _ (splits : List ℕ) (before : List (List LogRecord)) (h : History) (aft
     where
       fallen : tx_in t (deeds_before before h after n).fell ≡ true → ⊥
       fallen f =
-          yes_voters_never_fell splits before h after choice m n k x home t o l j i run a v left (fell_there splits before h after choice o l n t i f)
+          yes_voters_never_fell splits before h after choice m n k x home t l j i run a v left (fell_there splits before h after choice l n t i f)
 
       at : (b d : Bool) → committed_in (final_of before h after n).local.log t ≡ b → is_present (stage_of (final_of before h after n).local t) ≡ d → committed_in (final_of before h after n).local.log t ≡ true
       at true d e p = e
@@ -109,10 +109,10 @@ module _ (splits : List ℕ) (before : List (List LogRecord)) (h : History) (aft
           let s = final_of before h after n in
           let d = deeds_before before h after n in
           let found = log_of before n in
-          let b = held n (run_after before) found (with_found n found d) s (leads splits before h after choice o l n i) in
-          let bound = votes_bind splits before h [] after k x home n t Yes o (subst (λ z. Legal splits before z after) (sym (append-nil h)) l) i a v in
+          let b = held n (run_after before) found (with_found n found d) s (leads splits before h after choice l n i) in
+          let bound = votes_bind splits before h [] after k x home n t Yes (subst (λ z. LegalFrom splits before z after) (sym (append-nil h)) l) i a v in
           absurd
-          (⊎_elim (λ f. fallen (subst (λ z. tx_in t z ≡ true) b.8 (⊎_elim (λ y. y) (λ y. b.9 t y) f))) (λ r. yes_voters_unaborted splits before h after choice m n k x home t o l j i run a v left (aborted_take s.durable s.local.log t r))
+          (⊎_elim (λ f. fallen (subst (λ z. tx_in t z ≡ true) b.8 (⊎_elim (λ y. y) (λ y. b.9 t y) f))) (λ r. yes_voters_unaborted splits before h after choice m n k x home t l j i run a v left (aborted_take s.durable s.local.log t r))
           (b.1.falls.gone t (prepared_cut s.durable s.local.log t (bound.0).0) e p))
 
   by_vote : (n m k home : ℕ) (x : Entry) (v : Vote) (t : TxId) → n < shard_count splits → m < shard_count splits → t.run ≡ run_after before → wrote_in (final_of before h after n).local.log t ≡ true → IsAmong k x h → x.outcome ≡ Sent (VoteMessage home t n v) → is_good (Some v) ≡ true
@@ -124,27 +124,27 @@ module _ (splits : List ℕ) (before : List (List LogRecord)) (h : History) (aft
   -- ---- who wrote on a shard, and has a COMMIT left on any, has one there
 
   left_last : (n : ℕ) (t : TxId) → n < shard_count splits → committed_in (final_of before h after n).local.log t ≡ true → committed_in (log_of (logs_left splits before h after choice) n) t ≡ true
-  left_last n t i e = subst (λ z. committed_in z t ≡ true) (sym (left_is splits before h after choice o l n i ∙ left_whole (final_of before h after n) (choice n) (quiet n i))) e
+  left_last n t i e = subst (λ z. committed_in z t ≡ true) (sym (left_is splits before h after choice l n i ∙ left_whole (final_of before h after n) (choice n) (quiet n i))) e
 
   this_run : (n m : ℕ) (t : TxId) → n < shard_count splits → m < shard_count splits → t.run ≡ run_after before → wrote_in (final_of before h after n).local.log t ≡ true → committed_in (log_of (logs_left splits before h after choice) m) t ≡ true
       → committed_in (log_of (logs_left splits before h after choice) n) t ≡ true
   this_run n m t i j run w left = at (n == home) refl
     where
       z : (home : ℕ) × IsHome h t home × (is_left splits before h after choice home t ≡ true)
-      z = commits_stand_at_home splits before h after choice m t o l j run left
+      z = commits_stand_at_home splits before h after choice m t l j run left
 
       home : ℕ
       home = z.0
 
       named : nat_in n (map (λ p. p.0) (z.1).1) ≡ true
       named =
-          names_shard splits before after h n z.0 t z.1 l run
-          (wrote_from (DidOrOld (run_after before) h n) (Requested h) (IsOld (run_after before)) n (final_of before h after n).local.log (((traced_front splits before after h h [] o l (append-nil h)).states n i).origins).log t w)
+          names_shard splits before after h n z.0 t z.1 l.legal run
+          (wrote_from (DidOrOld (run_after before) h n) (Requested h) (IsOld (run_after before)) n (final_of before h after n).local.log (((traced_front splits before after h h [] l (append-nil h)).states n i).origins).log t w)
 
       at : (b : Bool) → (n == home) ≡ b → committed_in (log_of (logs_left splits before h after choice) n) t ≡ true
       at true e = subst (λ k. committed_in (log_of (logs_left splits before h after choice) k) t ≡ true) (sym (eqb-true n z.0 e)) z.2
       at false e =
-          let v = members_are_voted_for splits before h after choice m n z.0 (z.1).0 (z.1).1 t o l j (z.1).2 (z.1).3 (z.1).4 (in_others n z.0 (map (λ p. p.0) (z.1).1) named e) left in
+          let v = members_are_voted_for splits before h after choice m n z.0 (z.1).0 (z.1).1 t l j (z.1).2 (z.1).3 (z.1).4 (in_others n z.0 (map (λ p. p.0) (z.1).1) named e) left in
           left_last n t i (by_vote n m v.0 v.2 v.1 v.3 t i j run w v.4 v.5 v.6 left)
 
   -- who was in doubt in the log found, and is committed in some log found, is committed there now
@@ -153,20 +153,20 @@ module _ (splits : List ℕ) (before : List (List LogRecord)) (h : History) (aft
       let s = final_of before h after n in
       let e = deeds_before before h after n in
       let found = log_of before n in
-      ⊎_elim (λ a. subst (λ z. committed_in z t ≡ true) (sym (left_is splits before h after choice o l n i)) a)
+      ⊎_elim (λ a. subst (λ z. committed_in z t ≡ true) (sym (left_is splits before h after choice l n i)) a)
       (λ a. absurd
-      (undoubted n (run_after before) found (with_found n found e) s n t (leads splits before h after choice o l n i) (quiet n i)
+      (undoubted n (run_after before) found (with_found n found e) s n t (leads splits before h after choice l n i) (quiet n i)
       (subst (λ z. tx_in t (in_doubt n z) ≡ true) (left_whole s (choice n) (quiet n i)) a.0)))
-      (still_known splits before h after (choice n) n t o l i d c)
+      (still_known splits before h after (choice n) n t l i d c)
 
   has_commit : (n m : ℕ) (t : TxId) → n < shard_count splits → m < shard_count splits → wrote_in (log_of (logs_left splits before h after choice) n) t ≡ true → committed_in (log_of (logs_left splits before h after choice) m) t ≡ true
       → committed_in (log_of (logs_left splits before h after choice) n) t ≡ true
   has_commit n m t i j w k =
-      ⊎_elim (λ r. this_run n m t i j r (wrote_last splits before h after choice o l n t i w) k)
+      ⊎_elim (λ r. this_run n m t i j r (wrote_last splits before h after choice l n t i w) k)
       (λ r.
-      let c = somewhere_at_opening splits before h after choice m t o l j r k in
-      ⊎_elim (λ a. committed_still splits before h after choice n t l i a) (λ a. found_left n t i a c) (writer_known splits before n t o (wrote_at_opening splits before h after choice n t o l i r w) c))
-      (left_run splits before h after choice o l m t j k)
+      let c = somewhere_at_opening splits before h after choice m t l j r k in
+      ⊎_elim (λ a. committed_still splits before h after choice n t l.legal i a) (λ a. found_left n t i a c) (writer_known splits before n t l.opens (wrote_at_opening splits before h after choice n t l i r w) c))
+      (left_run splits before h after choice l m t j k)
 
   -- ---- the shards' records
 
@@ -176,13 +176,13 @@ module _ (splits : List ℕ) (before : List (List LogRecord)) (h : History) (aft
       let left = logs_left splits before h after choice in
       same_test (committed_somewhere left t) (committed_somewhere (log_of left n ∷ []) t)
       (λ k. let m = somewhere_at left t k in
-      or_left _ false (has_commit n m.0 t i (within splits before h after choice o l m.0 m.1) w m.2))
+      or_left _ false (has_commit n m.0 t i (within splits before h after choice l m.0 m.1) w m.2))
       (λ k. ⊎_elim (λ a. at_somewhere left n t a) (λ a. absurd (both_ways false refl a)) (or_cases (committed_in (log_of left n) t) false k))
 
   live_is_share : (n : ℕ) → n < shard_count splits → live_pairs (final_of before h after n).local.records ≡ share_of (logs_left splits before h after choice) n
   live_is_share n i =
       let left = logs_left splits before h after choice in
-      quiet_shards_are_their_maps splits before h after choice n o l i (quiet n i)
+      quiet_shards_are_their_maps splits before h after choice n l i (quiet n i)
       ∙ sym (fold_writers (committed_somewhere left) (committed_somewhere (log_of left n ∷ [])) (log_of left n) [] (λ t w. writers_committed n t i w))
 
 turns_alike : (f g : ℕ → KeyMap) (count n k : ℕ) → n + k ≡ count → ((j : ℕ) → j < count → f j ≡ g j) → in_turn f n k ≡ in_turn g n k
@@ -190,10 +190,10 @@ turns_alike f g count n zero e a = refl
 turns_alike f g count n (suc k) e a = ap (λ m. m ++ in_turn f (suc n) k) (a n (omega (arith, e))) ∙ ap (λ m. g n ++ m) (turns_alike f g count (suc n) k (omega (arith, e)) a)
 
 pub settled_is_the_map_where_readers_wrote_nothing : SettledIsTheMapWhereReadersWroteNothing
-settled_is_the_map_where_readers_wrote_nothing splits before h after choice o l pass quiet =
+settled_is_the_map_where_readers_wrote_nothing splits before h after choice l pass quiet =
     let left = logs_left splits before h after choice in
-    turns_alike (λ n. live_pairs (final_of before h after n).local.records) (share_of left) (shard_count splits) 0 (shard_count splits) (omega arith) (live_is_share splits before h after choice o l pass quiet)
-    ∙ shares_make_the_map splits left l.splits_rise (left_length splits before h after choice, logs_left_pass splits before h after choice o l)
+    turns_alike (λ n. live_pairs (final_of before h after n).local.records) (share_of left) (shard_count splits) 0 (shard_count splits) (omega arith) (live_is_share splits before h after choice l pass quiet)
+    ∙ shares_make_the_map splits left l.legal.splits_rise (left_length splits before h after choice, logs_left_pass splits before h after choice l)
 
 -- ---- nothing is in doubt in what a quiet shard leaves
 
@@ -202,10 +202,10 @@ none_in [] k = refl
 none_in (t ∷ ts) k = absurd (k t (or_left (tx_same t t) _ (tx_self t)))
 
 pub settled_opens_clear : SettledOpensClear
-settled_opens_clear splits before h after choice n o l quiet i =
+settled_opens_clear splits before h after choice n l quiet i =
     let s = final_of before h after n in
     let d = deeds_before before h after n in
     let found = log_of before n in
     none_in (in_doubt n (log_of (logs_left splits before h after choice) n)) (λ t k.
-    undoubted n (run_after before) found (with_found n found d) s n t (leads splits before h after choice o l n i) (quiet n i)
-    (subst (λ z. tx_in t (in_doubt n z) ≡ true) (left_is splits before h after choice o l n i ∙ left_whole s (choice n) (quiet n i)) k))
+    undoubted n (run_after before) found (with_found n found d) s n t (leads splits before h after choice l n i) (quiet n i)
+    (subst (λ z. tx_in t (in_doubt n z) ≡ true) (left_is splits before h after choice l n i ∙ left_whole s (choice n) (quiet n i)) k))

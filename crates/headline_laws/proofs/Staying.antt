@@ -23,7 +23,6 @@ use Rattle.clv_base.specs.Orders.{Table, tx_same, tx_in, tx_get, tx_put}
 use Rattle.clv_base.specs.Logs.{in_doubt}
 use Rattle.clv_base.specs.LogRules.{log_of}
 use Rattle.clv_base.specs.Shards.{shard_count}
-use Rattle.clv_base.specs.FileRules.{may_open}
 use Rattle.clv_base.specs.State.{Shard, Local, with_local, is_present}
 use Rattle.clv_base.specs.Undo.{stage_of, gone_in, doomed_by, doomed_here, roll_back}
 use Rattle.clv_base.specs.Facts.{doom_by}
@@ -34,11 +33,11 @@ use Rattle.clv_base.specs.Due.{finish_reader, with_vote, with_ruling, do_ruling}
 use Rattle.clv_base.specs.Events.{finish, with_durable}
 use Rattle.clv_base.specs.Restarts.{revived}
 use Rattle.clv_base.specs.Journals.{History, event_state, up_to_restart}
-use Rattle.clv_base.specs.History.{Legal}
 use Rattle.clv_base.proofs.SameNames.{tx_true}
 use Rattle.law_base.proofs.Changed.{none_some, Set_or_old, get_set}
 use Rattle.law_base.proofs.Tables.{stage_by, stage_in, get_put}
 use Rattle.law_base.proofs.Sets.{in_filter}
+use Rattle.history_laws.specs.Openings.{LegalFrom}
 use Rattle.shard_laws.specs.OneShard.{is_doomed}
 use Rattle.law_base.proofs.Stages.{stage_closed, closed_other, written_parts}
 use Rattle.law_base.proofs.Stages.{gone_by, stage_own, stage_other, absent_go}
@@ -283,16 +282,16 @@ doomed_made log s _ t (by_restart epoch kept u r) c d = absurd (doomed_restored 
 
 -- ---- along a history
 
-pub doomed_was : (splits : List ℕ) (before after : List (List LogRecord)) (h pre : History) (e : Placed) (post : History) → may_open splits before ≡ true → Legal splits before h after → pre ++ e ∷ post ≡ h → (n : ℕ) → n < shard_count splits → (t : TxId)
+pub doomed_was : (splits : List ℕ) (before after : List (List LogRecord)) (h pre : History) (e : Placed) (post : History) → LegalFrom splits before h after → pre ++ e ∷ post ≡ h → (n : ℕ) → n < shard_count splits → (t : TxId)
     → is_doomed (stage_of (state_at before after n (pre ++ e ∷ [])).local t) ≡ true → WasHere (state_at before after n pre) t
-doomed_was splits before after h pre e post m l q n i t =
+doomed_was splits before after h pre e post l q n i t =
     each_shard (λ k z. is_doomed (stage_of z.local t) ≡ true → WasHere (state_at before after k pre) t) before after e pre here n (λ d. inl d)
   where
     w : Next splits before after h pre e
-    w = next_at splits before after h pre e post l q
+    w = next_at splits before after h pre e post l.legal q
 
     here : is_doomed (stage_of (state_at before after e.0 (pre ++ e ∷ [])).local t) ≡ true → WasHere (state_at before after e.0 pre) t
     here d =
         let s = state_at before after e.0 pre in
         doomed_made (log_of after e.0) s (event_state (log_of after e.0) s (e.1).event (e.1).outcome) t (makes (log_of after e.0) s (e.1).event (e.1).outcome ((w.split).enters).event)
-        (caused_front splits before after h pre (e ∷ post) e.0 m l q w.inside).calm (subst (λ (z : Shard). is_doomed (stage_of z.local t) ≡ true) (w.split).next d)
+        (caused_front splits before after h pre (e ∷ post) e.0 l q w.inside).calm (subst (λ (z : Shard). is_doomed (stage_of z.local t) ≡ true) (w.split).next d)

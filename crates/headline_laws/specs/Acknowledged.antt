@@ -10,12 +10,12 @@ use Rattle.clv_base.specs.declared.events.Entry.{Entry}
 use Rattle.clv_base.specs.Orders.{nat_in}
 use Rattle.clv_base.specs.Shards.{shard_count}
 use Rattle.clv_base.specs.Logs.{wrote_in, committed_in}
-use Rattle.clv_base.specs.FileRules.{may_open}
 use Rattle.clv_base.specs.State.{is_present}
 use Rattle.clv_base.specs.Undo.{stage_of}
 use Rattle.clv_base.specs.Coordinator.{others}
 use Rattle.clv_base.specs.Journals.{History, final_of}
 use Rattle.clv_base.specs.History.{Legal, IsAmong, is_acknowledgement, acknowledged_in}
+use Rattle.history_laws.specs.Openings.{LegalFrom}
 use Rattle.fate_laws.specs.Decisions.{IsHome, is_left}
 use Rattle.fate_laws.specs.Members.{is_member}
 use Rattle.fate_laws.specs.Falls.{Fell}
@@ -39,7 +39,7 @@ pub record OnlyRead (before : List (List LogRecord)) (h : History) (after : List
 abbrev pub AcknowledgedStand : Type 0
 AcknowledgedStand =
     (splits : List ℕ) (before : List (List LogRecord)) (h : History) (after : List (List LogRecord)) (choice : ℕ → Bool) (home : ℕ) (e : Entry) (touched : List (ℕ × ℕ)) (t : TxId)
-    → may_open splits before ≡ true → Legal splits before h after → home < shard_count splits
+    → LegalFrom splits before h after → home < shard_count splits
     → acknowledged_in h t ≡ true → IsAmong home e h → e.event ≡ RequestEvent t touched → e.outcome ≡ Asked
     → (is_left splits before h after choice home t ≡ true) ⊎ OnlyRead before h after home touched t
 
@@ -59,7 +59,7 @@ AcknowledgementsHaveRequests =
 abbrev pub AcknowledgedNeverFellAtHome : Type 0
 AcknowledgedNeverFellAtHome =
     (splits : List ℕ) (before : List (List LogRecord)) (h : History) (after : List (List LogRecord)) (home : ℕ) (t : TxId)
-    → may_open splits before ≡ true → Legal splits before h after
+    → LegalFrom splits before h after
     → acknowledged_in h t ≡ true → IsHome h t home → Fell before h after home t → ⊥
 
 -- and it is a member, whatever a crash keeps

@@ -7,14 +7,15 @@ use Rattle.clv_base.specs.LogRules.{log_of}
 use Rattle.clv_base.specs.Shards.{shard_count}
 use Rattle.clv_base.specs.FileRules.{may_open}
 use Rattle.clv_base.specs.Journals.{History}
-use Rattle.clv_base.specs.History.{Legal, logs_left, serial}
+use Rattle.clv_base.specs.History.{logs_left, serial}
+use Rattle.history_laws.specs.Openings.{LegalFrom}
 use Rattle.history_laws.specs.Continuing.{serial_left}
 
 -- the logs at the end of a legal history may be opened
 abbrev pub LogsAtTheEndMayBeOpened : Type 0
 LogsAtTheEndMayBeOpened =
     (splits : List ℕ) (before : List (List LogRecord)) (h : History) (after : List (List LogRecord))
-    → may_open splits before ≡ true → Legal splits before h after
+    → LegalFrom splits before h after
     → may_open splits after ≡ true
 
 -- the logs at the end and those that a crash leaves tell the same: the map, the members, and on each shard who is committed
@@ -27,5 +28,5 @@ pub record TellTheSame (splits : List ℕ) (before : List (List LogRecord)) (h :
 abbrev pub LogsAtTheEndAreWhatIsLeft : Type 0
 LogsAtTheEndAreWhatIsLeft =
     (splits : List ℕ) (before : List (List LogRecord)) (h : History) (after : List (List LogRecord))
-    → may_open splits before ≡ true → Legal splits before h after
+    → LegalFrom splits before h after
     → (choice : ℕ → Bool) × TellTheSame splits before h after choice

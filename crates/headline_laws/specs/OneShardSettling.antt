@@ -3,13 +3,13 @@ use Rattle.std.specs.Prelude.{◌≡◌, ℕ, Bool, true, List, [], ◌∷◌}
 use Rattle.clv_base.specs.declared.logs.LogRecord.{LogRecord}
 use Rattle.clv_base.specs.Logs.{stands}
 use Rattle.clv_base.specs.Needs.{live_pairs}
-use Rattle.clv_base.specs.FileRules.{may_open}
 use Rattle.clv_base.specs.Journals.{History, final_of}
-use Rattle.clv_base.specs.History.{Legal, IsSettled, logs_left}
+use Rattle.clv_base.specs.History.{IsSettled, logs_left}
+use Rattle.history_laws.specs.Openings.{LegalFrom}
 
 -- where a history is settled the live records are the map that the log left stands for, whatever a crash would keep
 abbrev pub SettledIsTheMap : Type 0
 SettledIsTheMap =
     (before : List LogRecord) (h : History) (after : List (List LogRecord)) (choice : ℕ → Bool)
-    → may_open [] (before ∷ []) ≡ true → Legal [] (before ∷ []) h after → IsSettled [] (before ∷ []) h after
+    → LegalFrom [] (before ∷ []) h after → IsSettled [] (before ∷ []) h after
     → live_pairs (final_of (before ∷ []) h after 0).local.records ≡ stands (logs_left [] (before ∷ []) h after choice)

@@ -10,9 +10,9 @@ use Rattle.clv_base.specs.Orders.{tx_same}
 use Rattle.clv_base.specs.Maps.{replay_map, replay_answers}
 use Rattle.clv_base.specs.Logs.{stands}
 use Rattle.clv_base.specs.Shards.{shard_count}
-use Rattle.clv_base.specs.FileRules.{may_open}
 use Rattle.clv_base.specs.Journals.{History}
-use Rattle.clv_base.specs.History.{Legal, Member, serial_ops, serial_answers, logs_left}
+use Rattle.clv_base.specs.History.{Member, serial_ops, serial_answers, logs_left}
+use Rattle.history_laws.specs.Openings.{LegalFrom}
 use Rattle.history_laws.specs.Continuing.{serial_left}
 use Rattle.headline_laws.specs.Shares.{ShardOp, parts_on, share_of, ReplaysTo}
 
@@ -35,7 +35,7 @@ member_ops h ms = map (λ m. shard_ops_in m.tx h) ms
 abbrev pub MembersReplayByParts : Type 0
 MembersReplayByParts =
     (splits : List ℕ) (before : List (List LogRecord)) (h : History) (after : List (List LogRecord)) (choice : ℕ → Bool)
-    → may_open splits before ≡ true → Legal splits before h after
+    → LegalFrom splits before h after
     → ((n : ℕ) → n < shard_count splits → ReplaysTo (share_of before n) (parts_on n (member_ops h (serial_left splits before h after choice))) (share_of (logs_left splits before h after choice) n))
     → (replay_answers (stands before) (serial_ops (serial_left splits before h after choice)) ≡ serial_answers (serial_left splits before h after choice))
     × (replay_map (stands before) (serial_ops (serial_left splits before h after choice)) ≡ stands (logs_left splits before h after choice))

@@ -8,10 +8,10 @@ use Rattle.clv_base.specs.declared.events.Outcome.TheVariants.{Sent}
 use Rattle.clv_base.specs.declared.events.Entry.{Entry}
 use Rattle.clv_base.specs.Shards.{shard_count}
 use Rattle.clv_base.specs.Logs.{wrote_in, committed_in}
-use Rattle.clv_base.specs.FileRules.{may_open}
 use Rattle.clv_base.specs.State.{Shard}
 use Rattle.clv_base.specs.Journals.{History}
-use Rattle.clv_base.specs.History.{Legal, IsAmong, state_before}
+use Rattle.clv_base.specs.History.{IsAmong, state_before}
+use Rattle.history_laws.specs.Openings.{LegalFrom}
 
 -- the transaction has neither an UPDATE nor a COMMIT in the shard's log
 abbrev pub LeftNoMark : Shard → TxId → Type 0
@@ -21,5 +21,5 @@ LeftNoMark s tx = (wrote_in s.local.log tx ≡ false) × (committed_in s.local.l
 abbrev pub ReadersPass : Type 0
 ReadersPass =
     (splits : List ℕ) (before : List (List LogRecord)) (so_far later : History) (after : List (List LogRecord)) (n : ℕ) (e : Entry) (home from : ℕ) (tx : TxId)
-    → may_open splits before ≡ true → Legal splits before (so_far ++ later) after → from < shard_count splits
+    → LegalFrom splits before (so_far ++ later) after → from < shard_count splits
     → IsAmong n e so_far → e.outcome ≡ Sent (VoteMessage home tx from Read) → LeftNoMark (state_before before so_far after from) tx

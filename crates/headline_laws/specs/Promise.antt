@@ -12,6 +12,7 @@ use Rattle.clv_base.specs.LogRules.{log_of}
 use Rattle.clv_base.specs.FileRules.{may_open}
 use Rattle.clv_base.specs.Journals.{History, final_of}
 use Rattle.clv_base.specs.History.{Legal, IsSettled, CauseStands, Waits, logs_left, acknowledged_in, has_request, serial_ops, serial_answers}
+use Rattle.history_laws.specs.Openings.{LegalFrom}
 use Rattle.history_laws.specs.Continuing.{IsSublistOf, GoesOn, serial_now, serial_left}
 use Rattle.history_laws.specs.Ordering.{AreInSessionOrder}
 use Rattle.history_laws.specs.Outcomes.{aborted_in_history}
@@ -60,4 +61,4 @@ pub record Promised (splits : List ℕ) (before : List (List LogRecord)) (h : Hi
 abbrev pub Promise : Type 0
 Promise =
     (splits : List ℕ) (before : List (List LogRecord)) (h : History) (after : List (List LogRecord)) (choice : ℕ → Bool)
-    → may_open splits before ≡ true → Legal splits before h after → Promised splits before h after choice
+    → LegalFrom splits before h after → Promised splits before h after choice

@@ -9,9 +9,9 @@ use Rattle.clv_base.specs.declared.events.Outcome.TheVariants.{Asked, Sent}
 use Rattle.clv_base.specs.declared.events.Entry.{Entry}
 use Rattle.clv_base.specs.Orders.{nat_in}
 use Rattle.clv_base.specs.Shards.{shard_count}
-use Rattle.clv_base.specs.FileRules.{may_open}
 use Rattle.clv_base.specs.Journals.{History}
-use Rattle.clv_base.specs.History.{Legal, IsAmong}
+use Rattle.clv_base.specs.History.{IsAmong}
+use Rattle.history_laws.specs.Openings.{LegalFrom}
 use Rattle.fate_laws.specs.Decisions.{is_left}
 use Rattle.fate_laws.specs.Falls.{Fell}
 
@@ -19,7 +19,7 @@ use Rattle.fate_laws.specs.Falls.{Fell}
 abbrev pub OnlyReadersMayFall : Type 0
 OnlyReadersMayFall =
     (splits : List ℕ) (before : List (List LogRecord)) (h : History) (after : List (List LogRecord)) (choice : ℕ → Bool) (n m home : ℕ) (e : Entry) (touched : List (ℕ × ℕ)) (tx : TxId)
-    → may_open splits before ≡ true → Legal splits before h after → n < shard_count splits → m < shard_count splits
+    → LegalFrom splits before h after → n < shard_count splits → m < shard_count splits
     → IsAmong home e h → e.event ≡ RequestEvent tx touched → e.outcome ≡ Asked → nat_in m (map (λ t. t.0) touched) ≡ true
     → is_left splits before h after choice n tx ≡ true → Fell before h after m tx
     → (k : ℕ) × (x : Entry) × (to : ℕ) × IsAmong k x h × (x.outcome ≡ Sent (VoteMessage to tx m Read))

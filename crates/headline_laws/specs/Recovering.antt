@@ -6,9 +6,8 @@ use Rattle.clv_base.specs.Orders.{tx_in}
 use Rattle.clv_base.specs.Logs.{in_doubt, committed_somewhere}
 use Rattle.clv_base.specs.LogRules.{log_of}
 use Rattle.clv_base.specs.Shards.{shard_count}
-use Rattle.clv_base.specs.FileRules.{may_open}
 use Rattle.clv_base.specs.Journals.{History}
-use Rattle.clv_base.specs.History.{Legal}
+use Rattle.history_laws.specs.Openings.{LegalFrom}
 use Rattle.history_laws.specs.Continuing.{serial_left}
 use Rattle.history_laws.specs.Places.{transactions_of, StandsBefore, predecessors_on}
 use Rattle.fate_laws.specs.Members.{is_member}
@@ -18,6 +17,6 @@ use Rattle.fate_laws.specs.Members.{is_member}
 abbrev pub PredecessorsStandBefore : Type 0
 PredecessorsStandBefore =
     (splits : List ℕ) (before : List (List LogRecord)) (h : History) (after : List (List LogRecord)) (choice : ℕ → Bool) (n : ℕ) (t p : TxId)
-    → may_open splits before ≡ true → Legal splits before h after
+    → LegalFrom splits before h after
     → n < shard_count splits → is_member splits before h after choice t ≡ true → tx_in p (predecessors_on before h after n t) ≡ true
     → StandsBefore p t (transactions_of (serial_left splits before h after choice)) ⊎ ((tx_in p (in_doubt n (log_of before n)) ≡ true) × (committed_somewhere before p ≡ true))

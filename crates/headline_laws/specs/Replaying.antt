@@ -3,9 +3,9 @@ use Rattle.std.specs.Prelude.{◌≡◌, ℕ, Bool, true, List, [], ◌∷◌}
 use Rattle.clv_base.specs.declared.logs.LogRecord.{LogRecord}
 use Rattle.clv_base.specs.Maps.{replay_map, replay_answers}
 use Rattle.clv_base.specs.Logs.{stands}
-use Rattle.clv_base.specs.FileRules.{may_open}
 use Rattle.clv_base.specs.Journals.{History}
-use Rattle.clv_base.specs.History.{Legal, Member, serial_ops, serial_answers, logs_left}
+use Rattle.clv_base.specs.History.{Member, serial_ops, serial_answers, logs_left}
+use Rattle.history_laws.specs.Openings.{LegalFrom}
 use Rattle.history_laws.specs.Continuing.{serial_left}
 
 -- one after another, from what the logs at opening stand for, they give their answers and the map that the logs left stand for
@@ -17,5 +17,5 @@ Replays before ms left =
 abbrev pub MembersReplay : Type 0
 MembersReplay =
     (before : List LogRecord) (h : History) (after : List (List LogRecord)) (choice : ℕ → Bool)
-    → may_open [] (before ∷ []) ≡ true → Legal [] (before ∷ []) h after
+    → LegalFrom [] (before ∷ []) h after
     → Replays (before ∷ []) (serial_left [] (before ∷ []) h after choice) (logs_left [] (before ∷ []) h after choice)

@@ -10,7 +10,8 @@ use Rattle.clv_base.specs.LogRules.{log_of, listed_in}
 use Rattle.clv_base.specs.Shards.{shard_count}
 use Rattle.clv_base.specs.FileRules.{may_open}
 use Rattle.clv_base.specs.Journals.{History, final_of}
-use Rattle.clv_base.specs.History.{Legal, logs_left, serial_ops, serial_answers}
+use Rattle.clv_base.specs.History.{logs_left, serial_ops, serial_answers}
+use Rattle.history_laws.specs.Openings.{LegalFrom}
 use Rattle.history_laws.specs.Continuing.{serial_left}
 use Rattle.fate_laws.specs.Members.{is_member}
 use Rattle.shard_laws.specs.OneShard.{Passes, map_found}
@@ -42,7 +43,7 @@ IsHere splits before h after choice n t =
 abbrev pub MembersReplayWhereHere : Type 0
 MembersReplayWhereHere =
     (splits : List ℕ) (before : List (List LogRecord)) (h : History) (after : List (List LogRecord)) (choice : ℕ → Bool)
-    → may_open splits before ≡ true → Legal splits before h after
+    → LegalFrom splits before h after
     → ((n : ℕ) (t : TxId) → n < shard_count splits → is_member splits before h after choice t ≡ true → IsHere splits before h after choice n t)
     → (replay_answers (stands before) (serial_ops (serial_left splits before h after choice)) ≡ serial_answers (serial_left splits before h after choice))
     × (replay_map (stands before) (serial_ops (serial_left splits before h after choice)) ≡ stands (logs_left splits before h after choice))

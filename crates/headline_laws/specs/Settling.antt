@@ -2,14 +2,14 @@
 use Rattle.std.specs.Prelude.{◌≡◌, ℕ, Bool, true, List}
 use Rattle.clv_base.specs.declared.logs.LogRecord.{LogRecord}
 use Rattle.clv_base.specs.Logs.{stands}
-use Rattle.clv_base.specs.FileRules.{may_open}
 use Rattle.clv_base.specs.Journals.{History}
-use Rattle.clv_base.specs.History.{Legal, IsSettled, logs_left}
+use Rattle.clv_base.specs.History.{IsSettled, logs_left}
+use Rattle.history_laws.specs.Openings.{LegalFrom}
 use Rattle.headline_laws.specs.SettlingHere.{live_pairs_of_all}
 
 -- where the history is settled, the live records, one shard after another, are the map that the logs left stand for, whatever a crash would keep
 abbrev pub SettledIsTheMap : Type 0
 SettledIsTheMap =
     (splits : List ℕ) (before : List (List LogRecord)) (h : History) (after : List (List LogRecord)) (choice : ℕ → Bool)
-    → may_open splits before ≡ true → Legal splits before h after → IsSettled splits before h after
+    → LegalFrom splits before h after → IsSettled splits before h after
     → live_pairs_of_all splits before h after ≡ stands (logs_left splits before h after choice)

@@ -11,9 +11,9 @@ use Rattle.clv_base.specs.Logs.{wrote_in, in_doubt, stands}
 use Rattle.clv_base.specs.LogRules.{log_of}
 use Rattle.clv_base.specs.Needs.{live_pairs}
 use Rattle.clv_base.specs.Shards.{shard_count}
-use Rattle.clv_base.specs.FileRules.{may_open}
 use Rattle.clv_base.specs.Journals.{History, final_of}
-use Rattle.clv_base.specs.History.{Legal, IsAmong, IsSettled, logs_left}
+use Rattle.clv_base.specs.History.{IsAmong, IsSettled, logs_left}
+use Rattle.history_laws.specs.Openings.{LegalFrom}
 use Rattle.headline_laws.specs.Shares.{in_turn}
 
 -- whom a shard voted read on wrote nothing there
@@ -29,7 +29,7 @@ live_pairs_of_all splits before h after = in_turn (λ n. live_pairs (final_of be
 abbrev pub SettledIsTheMapWhereReadersWroteNothing : Type 0
 SettledIsTheMapWhereReadersWroteNothing =
     (splits : List ℕ) (before : List (List LogRecord)) (h : History) (after : List (List LogRecord)) (choice : ℕ → Bool)
-    → may_open splits before ≡ true → Legal splits before h after
+    → LegalFrom splits before h after
     → ReadersWroteNothing splits before h after
     → IsSettled splits before h after
     → live_pairs_of_all splits before h after ≡ stands (logs_left splits before h after choice)
@@ -38,6 +38,6 @@ SettledIsTheMapWhereReadersWroteNothing =
 abbrev pub SettledOpensClear : Type 0
 SettledOpensClear =
     (splits : List ℕ) (before : List (List LogRecord)) (h : History) (after : List (List LogRecord)) (choice : ℕ → Bool) (n : ℕ)
-    → may_open splits before ≡ true → Legal splits before h after
+    → LegalFrom splits before h after
     → IsSettled splits before h after → n < shard_count splits
     → in_doubt n (log_of (logs_left splits before h after choice) n) ≡ []

@@ -11,10 +11,10 @@ use Rattle.clv_base.specs.declared.events.Entry.{Entry}
 use Rattle.clv_base.specs.Orders.{nat_in}
 use Rattle.clv_base.specs.Logs.{commit_parts}
 use Rattle.clv_base.specs.LogRules.{log_of}
-use Rattle.clv_base.specs.FileRules.{may_open}
 use Rattle.clv_base.specs.Coordinator.{others}
 use Rattle.clv_base.specs.Journals.{History}
-use Rattle.clv_base.specs.History.{Legal, IsAmong, logs_left}
+use Rattle.clv_base.specs.History.{IsAmong, logs_left}
+use Rattle.history_laws.specs.Openings.{LegalFrom}
 
 -- this vote of the shard m on the transaction was sent to the home
 abbrev pub WasVoted : History → ℕ → TxId → ℕ → Vote → Type 0
@@ -25,7 +25,7 @@ WasVoted h home tx m vote = (k : ℕ) × (x : Entry) × IsAmong k x h × (x.outc
 abbrev pub PartsAreTheYesVoters : Type 0
 PartsAreTheYesVoters =
     (splits : List ℕ) (before : List (List LogRecord)) (h : History) (after : List (List LogRecord)) (choice : ℕ → Bool) (m home : ℕ) (e : Entry) (touched : List (ℕ × ℕ)) (tx : TxId) (parts : List ℕ)
-    → may_open splits before ≡ true → Legal splits before h after
+    → LegalFrom splits before h after
     → IsAmong home e h → e.event ≡ RequestEvent tx touched → e.outcome ≡ Asked
     → commit_parts (log_of (logs_left splits before h after choice) home) tx ≡ Some parts
     → (nat_in m parts ≡ true → (nat_in m (others home touched) ≡ true) × WasVoted h home tx m Yes)

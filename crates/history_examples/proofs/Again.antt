@@ -14,7 +14,7 @@ part_runs : MayRun (log_of reopened_logs 1) (start_of wide_logs 1) (journal_of 1
 part_runs = (enters _ _ _ refl (refl, (_, refl)), (enters _ _ _ refl (_, refl), (enters _ _ _ refl (_, refl), (enters _ _ _ refl (_, refl), (enters _ _ _ refl (refl, refl), (enters _ _ _ refl (_, refl), (enters _ _ _ refl (_, refl), tt)))))))
 
 pub reopened_is_legal : ReopenedIsLegal
-reopened_is_legal = (refl, refl, legal wide_logs reopened reopened_logs (refl, refl, refl, refl, refl, refl, refl, refl) home_runs part_runs (false, inl refl) (false, inl refl) (tt, (tt, (tt, (tt, ((0, _, inr (inr (inr (inl refl))), refl, refl), (tt, (tt, (tt, (tt, ((1, _, inr (inr (inr (inr (inr (inr (inr (inr (inl refl)))))))), refl, refl), (tt, (tt, tt)))))))))))))
+reopened_is_legal = (refl, record { opens = refl; legal = legal wide_logs reopened reopened_logs (refl, refl, refl, refl, refl, refl, refl, refl) home_runs part_runs (false, inl refl) (false, inl refl) (tt, (tt, (tt, (tt, ((0, _, inr (inr (inr (inl refl))), refl, refl), (tt, (tt, (tt, (tt, ((1, _, inr (inr (inr (inr (inr (inr (inr (inr (inl refl)))))))), refl, refl), (tt, (tt, tt)))))))))))) })
 
 home_durable : (final_of wide_logs reopened reopened_logs 0).durable ≡ 6
 home_durable = refl

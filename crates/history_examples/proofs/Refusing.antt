@@ -14,7 +14,7 @@ part_runs : MayRun (log_of refused_logs 1) (start_of new_logs 1) (journal_of 1 r
 part_runs = (enters _ _ _ refl (refl, (_, refl)), (enters _ _ _ refl (refl, (_, refl)), (enters _ _ _ refl (_, refl), (enters _ _ _ refl (refl, (false, (_, untouched, refl, refl))), (enters _ _ _ refl (_, refl), (enters _ _ _ refl (_, refl), tt))))))
 
 pub refused_is_legal : RefusedIsLegal
-refused_is_legal = (refl, legal new_logs refused refused_logs (refl, refl, refl, refl, refl, refl, refl, refl) home_runs part_runs (false, inl refl) (false, inl refl) (tt, (tt, (tt, (tt, (tt, (tt, (tt, (tt, (tt, ((0, _, inr (inr (inr (inr (inr (inr (inr (inr (inl refl)))))))), refl, refl), (tt, ((1, _, inr (inr (inr (inr (inr (inr (inr (inr (inr (inr (inl refl)))))))))), refl, refl), (tt, (tt, tt)))))))))))))))
+refused_is_legal = record { opens = refl; legal = legal new_logs refused refused_logs (refl, refl, refl, refl, refl, refl, refl, refl) home_runs part_runs (false, inl refl) (false, inl refl) (tt, (tt, (tt, (tt, (tt, (tt, (tt, (tt, (tt, ((0, _, inr (inr (inr (inr (inr (inr (inr (inr (inl refl)))))))), refl, refl), (tt, ((1, _, inr (inr (inr (inr (inr (inr (inr (inr (inr (inr (inl refl)))))))))), refl, refl), (tt, (tt, tt)))))))))))))) }
 
 pub refused_has_causes : RefusedHasCauses
 refused_has_causes = (refl, (11, refl, refl), (_, inr (inr (inr (inr (inr (inr (inr (inr (inr (inr (inr (inl refl))))))))))), refl))

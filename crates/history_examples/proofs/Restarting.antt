@@ -14,7 +14,7 @@ part_runs : MayRun (log_of restarted_logs 1) (start_of new_logs 1) (journal_of 1
 part_runs = (enters _ _ _ refl (refl, (_, refl)), (enters _ _ _ refl (_, refl), (enters _ _ _ refl (refl, (_, refl)), (enters _ _ _ refl (_, refl), (enters _ _ _ refl (refl, refl), (enters _ _ _ refl (_, refl), (enters _ _ _ refl (_, refl), (enters _ _ _ refl (refl, (false, (failed_log, failed_first 3 untouched, refl, refl))), tt))))))))
 
 pub restarted_is_legal : RestartedIsLegal
-restarted_is_legal = (refl, legal new_logs restarted restarted_logs (refl, refl, refl, refl, refl, refl, refl, refl) home_runs part_runs (false, inl refl) (false, inl refl) (tt, (tt, (tt, (tt, ((0, _, inr (inr (inr (inl refl))), refl, refl), (tt, (tt, (tt, (tt, (tt, (tt, ((1, _, inr (inr (inr (inr (inr (inr (inr (inr (inl refl)))))))), refl, refl), (tt, (tt, (tt, tt))))))))))))))))
+restarted_is_legal = record { opens = refl; legal = legal new_logs restarted restarted_logs (refl, refl, refl, refl, refl, refl, refl, refl) home_runs part_runs (false, inl refl) (false, inl refl) (tt, (tt, (tt, (tt, ((0, _, inr (inr (inr (inl refl))), refl, refl), (tt, (tt, (tt, (tt, (tt, (tt, ((1, _, inr (inr (inr (inr (inr (inr (inr (inr (inl refl)))))))), refl, refl), (tt, (tt, (tt, tt))))))))))))))) }
 
 home_stays : MayRun (log_of down_logs 0) (start_of new_logs 0) (journal_of 0 down)
 home_stays = (enters _ _ _ refl (refl, (_, refl)), (enters _ _ _ refl (_, refl), (enters _ _ _ refl (_, refl), tt)))

@@ -13,7 +13,7 @@ part_runs : MayRun (log_of undone_logs 1) (start_of doubt_logs 1) (journal_of 1 
 part_runs = (enters _ _ _ refl (refl, (_, refl)), (enters _ _ _ refl (_, refl), (enters _ _ _ refl (_, refl), (enters _ _ _ refl (_, refl), (enters _ _ _ refl (_, refl), (enters _ _ _ refl (_, refl), (enters _ _ _ refl (_, refl), (enters _ _ _ refl (refl, refl), tt))))))))
 
 pub undone_is_legal : UndoneIsLegal
-undone_is_legal = (refl, refl, legal doubt_logs undone undone_logs (refl, refl, refl, refl, refl, refl, refl, refl) home_runs part_runs (false, inl refl) (false, inl refl) (tt, (tt, (tt, (tt, ((1, _, inr (inr (inr (inl refl))), refl, refl), (tt, ((0, _, inr (inr (inr (inr (inr (inl refl))))), refl, refl), (tt, (tt, (tt, tt)))))))))))
+undone_is_legal = (refl, record { opens = refl; legal = legal doubt_logs undone undone_logs (refl, refl, refl, refl, refl, refl, refl, refl) home_runs part_runs (false, inl refl) (false, inl refl) (tt, (tt, (tt, (tt, ((1, _, inr (inr (inr (inl refl))), refl, refl), (tt, ((0, _, inr (inr (inr (inr (inr (inl refl))))), refl, refl), (tt, (tt, (tt, tt)))))))))) })
 
 pub undone_has_cause : UndoneHasCause
 undone_has_cause = ((6, refl, refl), refl, refl)

@@ -133,9 +133,9 @@ found_runs = (
 )
 
 pub found_is_legal : FoundIsLegal
-found_is_legal = (
-  refl,
-  record {
+found_is_legal = record {
+  opens = refl;
+  legal = record {
     splits_rise = refl;
     ordered = refl;
     each_log = (refl, refl);
@@ -147,8 +147,8 @@ found_is_legal = (
     sessions = refl;
     numbered = refl;
     messages = (tt, (tt, (tt, (tt, (tt, (tt, tt))))));
-  },
-)
+  };
+}
 
 pub opened_is_settled : OpenedIsSettled
 opened_is_settled = (

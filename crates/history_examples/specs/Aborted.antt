@@ -12,9 +12,9 @@ use Rattle.clv_base.specs.declared.logs.LogRecord.TheVariants.{Restart as Restar
 use Rattle.clv_base.specs.declared.events.Event.TheVariants.{Op as OpEvent, Request, Look, Send, Deliver, Stop, Restart}
 use Rattle.clv_base.specs.declared.events.Outcome.TheVariants.{Answered, Asked, Aborted, Dead, Sent, Taken, Stopped, Up}
 use Rattle.clv_base.specs.declared.events.Entry.{Entry}
-use Rattle.clv_base.specs.FileRules.{may_open}
 use Rattle.clv_base.specs.Journals.{History}
-use Rattle.clv_base.specs.History.{Legal, CauseStands}
+use Rattle.clv_base.specs.History.{CauseStands}
+use Rattle.history_laws.specs.Openings.{LegalFrom}
 use Rattle.history_laws.specs.Continuing.{serial_left}
 use Rattle.history_laws.specs.Outcomes.{aborted_in_history}
 use Rattle.history_examples.specs.Noted.{splits, new_logs, tx, born, writer, on_0, on_1}
@@ -57,7 +57,7 @@ abbrev pub refused_logs : List (List LogRecord)
 refused_logs = (RestartRecord 1 0 ∷ []) ∷ (RestartRecord 1 0 ∷ RestartRecord 1 1 ∷ []) ∷ []
 
 abbrev pub RefusedIsLegal : Type 0
-RefusedIsLegal = (may_open splits new_logs ≡ true) × Legal splits new_logs refused refused_logs
+RefusedIsLegal = LegalFrom splits new_logs refused refused_logs
 
 -- each is told the cause that stands: the older one in the way, the abort of its predecessor, the no of the shard that restarted
 abbrev pub RefusedHasCauses : Type 0

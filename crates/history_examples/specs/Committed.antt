@@ -13,7 +13,8 @@ use Rattle.clv_base.specs.Logs.{stands, in_doubt}
 use Rattle.clv_base.specs.LogRules.{log_of}
 use Rattle.clv_base.specs.FileRules.{may_open}
 use Rattle.clv_base.specs.Journals.{History}
-use Rattle.clv_base.specs.History.{Legal, Member, logs_left, acknowledged_in, serial_ops, serial_answers}
+use Rattle.clv_base.specs.History.{Member, logs_left, acknowledged_in, serial_ops, serial_answers}
+use Rattle.history_laws.specs.Openings.{LegalFrom}
 use Rattle.history_laws.specs.Continuing.{serial_left}
 use Rattle.history_examples.specs.Noted.{splits, new_logs, born, writer, on_0, on_1}
 
@@ -47,7 +48,7 @@ abbrev pub wide_logs : List (List LogRecord)
 wide_logs = home_log ∷ part_log ∷ []
 
 abbrev pub WideIsLegal : Type 0
-WideIsLegal = (may_open splits new_logs ≡ true) × Legal splits new_logs wide wide_logs
+WideIsLegal = LegalFrom splits new_logs wide wide_logs
 
 abbrev pub wide_member : Member
 wide_member = record { tx = writer; point = record { stamp = 4; shard = 0 }; ops = (Put 3 30, Value None) ∷ (Put 5 50, Value None) ∷ [] }

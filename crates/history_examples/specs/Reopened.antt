@@ -11,10 +11,10 @@ use Rattle.clv_base.specs.declared.events.Outcome.TheVariants.{Answered, Asked, 
 use Rattle.clv_base.specs.Maps.{replay_map, replay_answers}
 use Rattle.clv_base.specs.Logs.{stands, in_doubt, committed_somewhere}
 use Rattle.clv_base.specs.LogRules.{log_of}
-use Rattle.clv_base.specs.FileRules.{may_open}
 use Rattle.clv_base.specs.Needs.{live_pairs}
 use Rattle.clv_base.specs.Journals.{History, start_of, final_of, journal_of, predecessors_in}
-use Rattle.clv_base.specs.History.{Legal, Member, serial_ops, serial_answers, IsSettled}
+use Rattle.clv_base.specs.History.{Member, serial_ops, serial_answers, IsSettled}
+use Rattle.history_laws.specs.Openings.{LegalFrom}
 use Rattle.history_laws.specs.Continuing.{serial_left}
 use Rattle.history_examples.specs.Noted.{splits, tx, born, writer, on_0, on_1}
 use Rattle.history_examples.specs.Committed.{home_log, part_log, wide_logs}
@@ -42,7 +42,7 @@ abbrev pub reopened_logs : List (List LogRecord)
 reopened_logs = (home_log ++ RestartRecord 2 0 ∷ End writer ∷ []) ∷ (part_log ++ RestartRecord 2 0 ∷ Commit writer [] ∷ []) ∷ []
 
 abbrev pub ReopenedIsLegal : Type 0
-ReopenedIsLegal = (may_open splits wide_logs ≡ true) × (in_doubt 1 (log_of wide_logs 1) ≡ writer ∷ []) × Legal splits wide_logs reopened reopened_logs
+ReopenedIsLegal = (in_doubt 1 (log_of wide_logs 1) ≡ writer ∷ []) × LegalFrom splits wide_logs reopened reopened_logs
 
 abbrev pub reader_member : Member
 reader_member = record { tx = reader; point = record { stamp = 3; shard = 1 }; ops = (Get 5, Value (Some 50)) ∷ [] }

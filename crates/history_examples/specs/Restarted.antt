@@ -16,6 +16,7 @@ use Rattle.clv_base.specs.LogRules.{log_of}
 use Rattle.clv_base.specs.FileRules.{may_open}
 use Rattle.clv_base.specs.Journals.{History, final_of}
 use Rattle.clv_base.specs.History.{Legal, Member, logs_left}
+use Rattle.history_laws.specs.Openings.{LegalFrom}
 use Rattle.history_laws.specs.Continuing.{serial_left}
 use Rattle.history_examples.specs.Noted.{splits, new_logs, tx, born, writer, on_0, on_1}
 
@@ -65,7 +66,7 @@ abbrev pub down_logs : List (List LogRecord)
 down_logs = (RestartRecord 1 0 ∷ []) ∷ (stopped_log ++ Abort loser ∷ []) ∷ []
 
 abbrev pub RestartedIsLegal : Type 0
-RestartedIsLegal = (may_open splits new_logs ≡ true) × Legal splits new_logs restarted restarted_logs
+RestartedIsLegal = LegalFrom splits new_logs restarted restarted_logs
 
 abbrev pub restarted_member : Member
 restarted_member = record { tx = writer; point = record { stamp = 4; shard = 0 }; ops = (Put 3 30, Value None) ∷ (Put 5 50, Value None) ∷ [] }

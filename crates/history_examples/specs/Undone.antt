@@ -12,10 +12,10 @@ use Rattle.clv_base.specs.declared.events.Outcome.TheVariants.{Answered, Asked, 
 use Rattle.clv_base.specs.declared.events.Entry.{Entry}
 use Rattle.clv_base.specs.Logs.{stands, in_doubt}
 use Rattle.clv_base.specs.LogRules.{log_of}
-use Rattle.clv_base.specs.FileRules.{may_open}
 use Rattle.clv_base.specs.Needs.{live_pairs}
 use Rattle.clv_base.specs.Journals.{History, final_of}
-use Rattle.clv_base.specs.History.{Legal, CauseStands, IsSettled}
+use Rattle.clv_base.specs.History.{CauseStands, IsSettled}
+use Rattle.history_laws.specs.Openings.{LegalFrom}
 use Rattle.history_laws.specs.Continuing.{serial_left}
 use Rattle.history_laws.specs.Outcomes.{aborted_in_history}
 use Rattle.history_examples.specs.Noted.{splits, tx, born, writer, on_0, on_1}
@@ -53,7 +53,7 @@ abbrev pub undone_logs : List (List LogRecord)
 undone_logs = (home_log ++ Abort writer ∷ Clr writer None 3 None ∷ RestartRecord 2 0 ∷ []) ∷ (part_log ++ RestartRecord 2 0 ∷ Abort writer ∷ Clr writer None 5 None ∷ []) ∷ []
 
 abbrev pub UndoneIsLegal : Type 0
-UndoneIsLegal = (may_open splits doubt_logs ≡ true) × (in_doubt 1 (log_of doubt_logs 1) ≡ writer ∷ []) × Legal splits doubt_logs undone undone_logs
+UndoneIsLegal = (in_doubt 1 (log_of doubt_logs 1) ≡ writer ∷ []) × LegalFrom splits doubt_logs undone undone_logs
 
 -- the reader's cause stands, and there is no member
 abbrev pub UndoneHasCause : Type 0

@@ -12,10 +12,10 @@ use Rattle.clv_base.specs.declared.events.Outcome.TheVariants.{Answered, Asked, 
 use Rattle.clv_base.specs.declared.events.Entry.{Entry}
 use Rattle.clv_base.specs.Logs.{stands}
 use Rattle.clv_base.specs.Journals.{History}
-use Rattle.clv_base.specs.FileRules.{may_open}
 use Rattle.clv_base.specs.Needs.{live_pairs}
 use Rattle.clv_base.specs.Journals.{final_of}
 use Rattle.clv_base.specs.History.{Legal, Member, IsSettled}
+use Rattle.history_laws.specs.Openings.{LegalFrom}
 use Rattle.history_laws.specs.Continuing.{GoesOn, serial_now, serial_left}
 use Rattle.history_laws.specs.Outcomes.{aborted_in_history}
 use Rattle.clv_base.specs.declared.names.TxId.{TxId}
@@ -113,7 +113,7 @@ found_left =
     found_log ++ Abort loser ∷ Clr loser (Some 3) 6 None ∷ Clr loser None 5 (Some 10) ∷ RestartRecord 2 0 ∷ Update (tx_of 2 1) 5 (Some 10) (Some 12) ∷ Commit (tx_of 2 1) [] ∷ []
 
 abbrev pub FoundIsLegal : Type 0
-FoundIsLegal = (may_open [] (found_log ∷ []) ≡ true) × Legal [] (found_log ∷ []) from_found (found_left ∷ [])
+FoundIsLegal = LegalFrom [] (found_log ∷ []) from_found (found_left ∷ [])
 
 abbrev pub new_member : Member
 new_member = record { tx = tx_of 2 1; point = record { stamp = 4; shard = 0 }; ops = (Get 6, Value None) ∷ (Put 5 12, Value (Some 10)) ∷ [] }

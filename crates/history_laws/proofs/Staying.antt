@@ -26,6 +26,7 @@ use Rattle.clv_base.specs.History.{Legal, is_acknowledgement, acknowledged_in, a
 use Rattle.clv_base.proofs.SameNames.{tx_true}
 use Rattle.protocol_laws.specs.SessionLaws.{tx_of, works_on, ended_by}
 use Rattle.protocol_laws.proofs.InOrder.{sessions_keep_order}
+use Rattle.history_laws.specs.Openings.{LegalFrom}
 use Rattle.history_laws.specs.Continuing.{IsSublistOf, GoesOn, NeverTakenBack}
 use Rattle.history_cases.proofs.Durability.{opened_counted}
 use Rattle.history_laws.proofs.Continuing.{later_front}
@@ -140,15 +141,14 @@ is_op t _ o p e = absurd cc
 -- ---- the law
 
 record Both (splits : List ℕ) (before : List (List LogRecord)) (h : History) (after : List (List LogRecord)) (h' : History) (after' : List (List LogRecord)) : Type 0 where
-  opens : may_open splits before ≡ true
-  legal : Legal splits before h after
+  first : LegalFrom splits before h after
   later : Legal splits before h' after'
   on : GoesOn splits before h after h' after'
 
 stands_later : (splits : List ℕ) (before : List (List LogRecord)) (h : History) (after : List (List LogRecord)) (h' : History) (after' : List (List LogRecord)) → Both splits before h after h' after'
     → (z : Placed) → Among z h → Among z h'
 stands_later splits before h after h' after' c z i =
-    from_journal z.0 z.1 h' (among_front z.1 (journal_of z.0 h) (journal_of z.0 h') (c.on.journals z.0 (in_a_shard splits before after h z c.legal i)) (in_journal z h i))
+    from_journal z.0 z.1 h' (among_front z.1 (journal_of z.0 h) (journal_of z.0 h') (c.on.journals z.0 (in_a_shard splits before after h z c.first.legal i)) (in_journal z h i))
 
 -- what stands behind the front of a shard's journal is later than all in it
 behind : (n : ℕ) (h h' : History) (g f : Entry) (rest : List Entry) → journal_of n h ++ rest ≡ journal_of n h' → InOrder h' → Among (n, g) h → Among f rest → g.stamp < f.stamp
@@ -168,7 +168,7 @@ op_before splits before h after h' after' c x tx ts i r v y j t l =
     (λ q.
     let k = behind y.0 h h' x.1 y.1 front.0 front.1 order (subst (λ z. Among (z, x.1) h) (sym q) i) b in omega (arith, k, l))
     (λ q. let k = behind y.0 h h' q.0 y.1 front.0 front.1 order q.1 b in let m = q.2 in omega (arith, k, l, m))
-    (touched_entry splits before after h x tx ts y.0 c.legal i r v t)))
+    (touched_entry splits before after h x tx ts y.0 c.first.legal i r v t)))
     (among_append y.1 (journal_of y.0 h) front.0 (subst (Among y.1) (sym front.1) (in_journal y h' j)))
 
 op_by : (splits : List ℕ) (before : List (List LogRecord)) (h : History) (after : List (List LogRecord)) (h' : History) (after' : List (List LogRecord)) → Both splits before h after h' after'
@@ -215,12 +215,12 @@ pub log_now : (splits : List ℕ) (before : List (List LogRecord)) (h : History)
     → log_of (logs_left splits before h after choice) n ≡ log_left (final_of before h after n) (choice n)
 log_now splits before h after choice n l = left_at (final_of before h after) choice 0 (shard_count splits) n l ∙ ap (λ m. log_left (final_of before h after m) (choice m)) (omega arith)
 
-pub member_voted : (splits : List ℕ) (before : List (List LogRecord)) (h : History) (after : List (List LogRecord)) (choice : ℕ → Bool) → may_open splits before ≡ true → Legal splits before h after
+pub member_voted : (splits : List ℕ) (before : List (List LogRecord)) (h : History) (after : List (List LogRecord)) (choice : ℕ → Bool) → LegalFrom splits before h after
     → (x : Placed) (t : TxId) → Among x h → tx_of (x.1).event ≡ Some t → is_in (logs_left splits before h after choice) h x.0 t ≡ true → Voted h t
-member_voted splits before h after choice m l x t i e k =
-    let w = world splits before after h m l in
-    let n = in_a_shard splits before after h x l i in
-    let r = (walker_of splits before after h x t l i e).0 in
+member_voted splits before h after choice l x t i e k =
+    let w = world splits before after h l.opens l.legal in
+    let n = in_a_shard splits before after h x l.legal i in
+    let r = (walker_of splits before after h x t l.legal i e).0 in
     ⊎_elim
     (λ c. (w.states x.0 n).log t (front_committed _ (final_of before h after x.0).local.log t (subst (λ z. committed_in z t ≡ true) (log_now splits before h after choice x.0 n) c)) r)
     (λ a. let z = any_among (λ e. is_acknowledgement t (e.1).event (e.1).outcome) h a in told_well h (run_after before) t ((z.0).1).event ((z.0).1).outcome z.2 (w.said z.0 z.1).well r)
@@ -230,7 +230,7 @@ commit_stays : (splits : List ℕ) (before : List (List LogRecord)) (h : History
     → (n : ℕ) (t : TxId) → n < shard_count splits → committed_in (log_of (logs_left splits before h after (λ m. false)) n) t ≡ true → committed_in (log_of (logs_left splits before h' after' choice) n) t ≡ true
 commit_stays splits before h after h' after' choice c n t i k =
     let front = later_front (log_of after n) (log_of after' n) (start_of before n) (journal_of n h) (journal_of n h') (choice n) (opened_counted n (run_after before) (log_of before n))
-    (c.legal.runs n i) (c.later.runs n i) (c.on.restarts n i) (c.on.journals n i) in
+    (c.first.legal.runs n i) (c.later.runs n i) (c.on.restarts n i) (c.on.journals n i) in
     subst (λ z. committed_in z t ≡ true) (sym (log_now splits before h' after' choice n i))
     (committed_front (log_left (final_of before h after n) false) (log_left (final_of before h' after' n) (choice n)) t front
     (subst (λ z. committed_in z t ≡ true) (log_now splits before h after (λ m. false) n i) k))
@@ -247,15 +247,15 @@ stays : (splits : List ℕ) (before : List (List LogRecord)) (h : History) (afte
     → Stays (logs_left splits before h after (λ n. false)) h (logs_left splits before h' after' choice) h' x t
 stays splits before h after h' after' choice c s x t i e k =
     let q = is_request t (x.1).event (x.1).outcome e in
-    let v = member_voted splits before h after (λ n. false) c.opens c.legal x t i (ap tx_of q.1) k in
-    let n = in_a_shard splits before after h x c.legal i in (
+    let v = member_voted splits before h after (λ n. false) c.first x t i (ap tx_of q.1) k in
+    let n = in_a_shard splits before after h x c.first.legal i in (
       either (committed_in (log_of (logs_left splits before h after (λ n. false)) x.0) t) (acknowledged_in h t) (committed_in (log_of (logs_left splits before h' after' choice) x.0) t) (acknowledged_in h' t)
           (commit_stays splits before h after h' after' choice c x.0 t n) (any_in (λ e. is_acknowledgement t (e.1).event (e.1).outcome) h h' s) k,
       same_ops t h h' s (in_order h' c.later.ordered) (op_stands splits before h after h' after' c x t q.0 i (q.1, q.2) v),
     )
 
 pub never_taken_back : NeverTakenBack
-never_taken_back splits before h after h' after' choice m l k g =
-    let c : Both splits before h after h' after' = record { opens = m; legal = l; later = k; on = g } in
-    let s = sublist h' h (in_order h l.ordered) (in_order h' k.ordered) (stands_later splits before h after h' after' c) in
+never_taken_back splits before h after h' after' choice l k g =
+    let c : Both splits before h after h' after' = record { first = l; later = k; on = g } in
+    let s = sublist h' h (in_order h l.legal.ordered) (in_order h' k.ordered) (stands_later splits before h after h' after' c) in
     members_stay (logs_left splits before h after (λ n. false)) (logs_left splits before h' after' choice) h h' h h' s (stays splits before h after h' after' choice c s)

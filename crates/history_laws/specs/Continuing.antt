@@ -7,12 +7,12 @@ use Rattle.clv_base.specs.declared.events.Outcome.{Outcome}
 use Rattle.clv_base.specs.declared.events.Outcome.TheVariants.{Up}
 use Rattle.clv_base.specs.declared.events.Entry.{Entry}
 use Rattle.clv_base.specs.Shards.{shard_count}
-use Rattle.clv_base.specs.FileRules.{may_open}
 use Rattle.clv_base.specs.LogRules.{log_of}
 use Rattle.clv_base.specs.Restarts.{run_after}
 use Rattle.clv_base.specs.Journals.{History, journal_of, up_to_restart}
 use Rattle.clv_base.specs.History.{Legal, Member, serial, logs_left}
 use Rattle.protocol_laws.specs.Growth.{IsPrefixOf}
+use Rattle.history_laws.specs.Openings.{LegalFrom}
 
 -- the first list is the second with elements left out: those that are in both stand in the same order
 pub data IsSublistOf {A : Type 0} : List A → List A → Type 0 where
@@ -47,5 +47,5 @@ serial_left splits before h after choice = serial (logs_left splits before h aft
 abbrev pub NeverTakenBack : Type 0
 NeverTakenBack =
     (splits : List ℕ) (before : List (List LogRecord)) (h : History) (after : List (List LogRecord)) (h' : History) (after' : List (List LogRecord)) (choice : ℕ → Bool)
-    → may_open splits before ≡ true → Legal splits before h after → Legal splits before h' after' → GoesOn splits before h after h' after'
+    → LegalFrom splits before h after → Legal splits before h' after' → GoesOn splits before h after h' after'
     → IsSublistOf (serial_now splits before h after) (serial_left splits before h' after' choice)

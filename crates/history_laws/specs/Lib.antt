@@ -1,3 +1,4 @@
+pub mod Openings
 pub mod Continuing
 pub mod Ordering
 pub mod Outcomes
