@@ -1,34 +1,24 @@
 -- Marking, followed to its end: the marks are the doomed set.
 use Rattle.std.proofs.Common.{◌≡◌, ℕ, zero, suc, ◌+◌, ◌<◌, ◌≤◌, ⊎_elim, Bool, true, false, cond, ◌&&◌, ◌||◌, List, [], ◌∷◌, ◌++◌, length, map, get_or, take, drop, drop-cons, append_assoc, refl, sym, ap, subst, ◌∙◌, arith, length-append}
-use Rattle.std.proofs.lemmas.Bool.{both_ways, or_cases, cond_both}
+use Rattle.std.proofs.lemmas.Bool.{both_ways, or_cases}
 use Rattle.std.proofs.lemmas.List.{take_more, take-append-le}
 use Rattle.std.specs.List.Sorted.{IsStrictlySortedBy}
 use Rattle.std.specs.Cmp.{both_ways as same_tests}
 use Rattle.clv_base.specs.declared.names.TxId.{TxId}
 use Rattle.clv_base.specs.Orders.{tx_cmp, tx_same, tx_in, tx_insert}
 use Rattle.clv_base.specs.State.{Local}
-use Rattle.clv_base.specs.Undo.{with_successors, successors_through}
 use Rattle.clv_base.proofs.SameNames.{or_left, or_right, tx_true, tx_self, insert_keeps, insert_has}
 use Rattle.protocol_laws.specs.UndoLaws.{is_pair, IsClosed}
 use Rattle.protocol_laws.proofs.Laws.{doomed_is_closure}
 use Rattle.cascade_undo.specs.Dependencies.{doomed}
 use Rattle.cascade_undo.specs.Pairs.{AreTurned}
 use Rattle.cascade_undo.specs.Marking.{marks_with, new_marks, unmarked}
-use Rattle.cascade_undo.proofs.Rising.{insert_key-rises, insert_there, length-insert_key}
-use Rattle.cascade_undo.proofs.Runs.{tx_total}
-use Rattle.cascade_undo.proofs.Members.{Within, tx_in-more, marks_keep, marks_have, marks_from, queue_has, successors, tx_in-successors, same_list}
+use Rattle.law_base.proofs.Rising.{insert_key-rises, insert_there, length-insert_key}
+use Rattle.cascade_undo.proofs.Members.{Within, tx_in-more, marks_keep, marks_have, marks_from, queue_has, successors, tx_in-successors}
 use Rattle.law_base.proofs.Names.{one_rises}
+use Rattle.law_base.proofs.Sets.{tx_total, same_list, through_rises}
 
 -- ---- the doomed set rises
-
-with_successors_rise : (ps : List (TxId × TxId)) (set so_far : List TxId) → IsStrictlySortedBy tx_cmp so_far → IsStrictlySortedBy tx_cmp (with_successors ps set so_far)
-with_successors_rise [] set so_far s = s
-with_successors_rise (p ∷ ps) set so_far s =
-    with_successors_rise ps set _ (cond_both (tx_in p.1 set) (tx_insert p.0 so_far) so_far (IsStrictlySortedBy tx_cmp) (λ e. insert_key-rises tx_total p.0 so_far s) (λ e. s))
-
-through_rises : (n : ℕ) (ps : List (TxId × TxId)) (set : List TxId) → IsStrictlySortedBy tx_cmp set → IsStrictlySortedBy tx_cmp (successors_through n ps set)
-through_rises zero ps set s = s
-through_rises (suc n) ps set s = through_rises n ps (with_successors ps set set) (with_successors_rise ps set set s)
 
 doomed_rises : (pairs : List (TxId × TxId)) (tx : TxId) → IsStrictlySortedBy tx_cmp (doomed pairs tx)
 doomed_rises pairs tx = through_rises (length pairs) pairs (tx ∷ []) (one_rises tx)

@@ -1,5 +1,5 @@
 -- What a caller keeps: each write that stands has a record, and there is room to undo all.
-use Rattle.std.proofs.Common.{◌≡◌, ℕ, ◌+◌, ◌≤◌, ◌<◌, Bool, true, false, cond, ◌==◌, List, [], ◌∷◌, ◌++◌, map, length, Option, Some, refl, sym, ap, subst, ◌∙◌, arith}
+use Rattle.std.proofs.Common.{◌≡◌, ℕ, ◌+◌, ◌≤◌, Bool, true, false, cond, ◌==◌, List, [], ◌∷◌, ◌++◌, map, length, Option, Some, refl, sym, ap, subst, ◌∙◌, arith}
 use Rattle.std.specs.List.{filter}
 use Rattle.std.specs.Map.{lookup}
 use Rattle.std.specs.declared.cmp.Ordering.{Ordering}
@@ -15,10 +15,11 @@ use Rattle.clv_base.specs.Undo.{aborts_of}
 use Rattle.clv_base.specs.Needs.{Records, found_at, found_by, is_there, record_set}
 use Rattle.law_base.proofs.Doubts.{standing_more}
 use Rattle.cascade_undo.specs.Writes.{writes_of, HaveRecords}
-use Rattle.cascade_undo.proofs.Standing.{falls, all_mono}
+use Rattle.cascade_undo.proofs.Standing.{falls}
 use Rattle.cascade_undo.proofs.Restoring.{there_by}
 use Rattle.law_base.proofs.Bools.{by_bool as both}
 use Rattle.law_base.proofs.Names.{set_has as set_is_there, falls_length}
+use Rattle.law_base.proofs.Lists.{all_mono}
 
 -- a record that is there stays so when one is set
 pub there_set : (k j : ℕ) (v : Option ℕ) (rs : Records) → is_there (found_at j rs) ≡ true → is_there (found_at j (record_set k v rs)) ≡ true

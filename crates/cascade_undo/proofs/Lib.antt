@@ -6,7 +6,6 @@ pub mod Stepping
 pub mod Aborting
 pub mod Growing
 pub mod Keeping
-pub mod Rising
 pub mod Runs
 pub mod Members
 pub mod Following
@@ -14,5 +13,4 @@ pub mod Preceding
 pub mod Turning
 pub mod InLog
 pub mod Succeeding
-pub mod Fewer
 pub mod Laws

@@ -2,7 +2,6 @@
 use Rattle.std.proofs.Common.{◌≡◌, ℕ, zero, suc, ◌<◌, ◌⊎◌, inl, inr, ⊎_elim, Bool, true, false, cond, ◌&&◌, ◌||◌, List, [], ◌∷◌, ◌++◌, length, map, get_or, refl, sym, ap, subst, ◌∙◌, append_assoc, arith}
 use Rattle.std.proofs.lemmas.Bool.{both_ways, or_cases}
 use Rattle.std.specs.List.{list_any}
-use Rattle.std.specs.List.Sorted.{IsStrictlySortedBy}
 use Rattle.std.specs.Ordering.{is_eq}
 use Rattle.std.specs.Cmp.{both_ways as same_tests}
 use Rattle.clv_base.specs.declared.names.TxId.{TxId}
@@ -11,9 +10,9 @@ use Rattle.clv_base.specs.Facts.{predecessors_of}
 use Rattle.clv_base.proofs.SameNames.{or_left, or_right, tx_true, tx_self, tx_eq, in_insert, insert_keeps, insert_has}
 use Rattle.protocol_laws.specs.UndoLaws.{is_pair}
 use Rattle.cascade_undo.specs.Marking.{marks_with, new_marks}
-use Rattle.cascade_undo.proofs.Runs.{of_tx, tx_total}
+use Rattle.cascade_undo.proofs.Runs.{of_tx}
 use Rattle.law_base.proofs.Sets.{same_flip as tx_symmetric}
-use Rattle.law_base.proofs.Names.{not_less as not_below_itself, above_in as not_in_above, in_append as tx_in-append, tx_in-insert}
+use Rattle.law_base.proofs.Names.{in_append as tx_in-append, tx_in-insert}
 use Rattle.law_base.proofs.Bools.{or_none, then_tied}
 
 abbrev pub Within : List TxId → List TxId → Type 0
@@ -89,24 +88,6 @@ pair_at p (q ∷ qs) i d l = at (tx_same p q.0) i l (pair_at p qs)
     at true zero l more = or_left _ _ (tx_self q.1)
     at true (suc i) l more = or_right _ _ (more i d (omega arith))
     at false i l more = more i d l
-
--- ---- lists that rise and have the same members
-
-pub same_list : (xs ys : List TxId) → IsStrictlySortedBy tx_cmp xs → IsStrictlySortedBy tx_cmp ys → ((t : TxId) → tx_in t xs ≡ tx_in t ys) → xs ≡ ys
-unfolding IsStrictlySortedBy
-same_list [] [] s r same = refl
-same_list [] (y ∷ ys) s r same = absurd (both_ways false refl (same y ∙ or_left _ _ (tx_self y)))
-same_list (x ∷ xs) [] s r same = absurd (both_ways false refl (sym (same x) ∙ or_left _ _ (tx_self x)))
-same_list (x ∷ xs) (y ∷ ys) s r same =
-    let first : x ≡ y =
-    ⊎_elim (λ e. sym (tx_true y x e))
-    (λ m. ⊎_elim (λ e. tx_true x y e) (λ n. absurd (not_below_itself x (tx_total.trans x y x (not_in_above x y xs s.0 n) (not_in_above y x ys r.0 m)))) (or_cases (tx_same x y) (tx_in y xs) (same y ∙ or_left _ _ (tx_self y))))
-    (or_cases (tx_same y x) (tx_in x ys) (sym (same x) ∙ or_left _ _ (tx_self x))) in
-    let forth : (t : TxId) → tx_in t xs ≡ true → tx_in t ys ≡ true =
-    λ t e. ⊎_elim (λ q. absurd (not_below_itself x (ap (tx_cmp x) (first ∙ tx_true y t q) ∙ not_in_above x t xs s.0 e))) (λ m. m) (or_cases (tx_same y t) (tx_in t ys) (sym (same t) ∙ or_right _ _ e)) in
-    let back : (t : TxId) → tx_in t ys ≡ true → tx_in t xs ≡ true =
-    λ t e. ⊎_elim (λ q. absurd (not_below_itself y (ap (tx_cmp y) (sym first ∙ tx_true x t q) ∙ not_in_above y t ys r.0 e))) (λ m. m) (or_cases (tx_same x t) (tx_in t xs) (same t ∙ or_right _ _ e)) in
-    ap (λ z. z ∷ xs) first ∙ ap (λ l. y ∷ l) (same_list xs ys s.1 r.1 (λ t. same_tests _ _ (forth t) (back t)))
 
 -- ---- a pair, and the predecessors
 

@@ -1,7 +1,7 @@
 -- The pairs of one first transaction stand together in a list of pairs that rises.
 use Rattle.std.proofs.Common.{◌≡◌, ℕ, zero, suc, ◌+◌, ◌<◌, ◌≤◌, Bool, true, false, cond, not, ◌||◌, List, [], ◌∷◌, ◌++◌, length, get_or, take, drop, drop-cons, refl, sym, ap, ◌∙◌, arith}
 use Rattle.std.proofs.lemmas.Bool.{both_ways, not-true, not_from_false, false_from_ne_true}
-use Rattle.std.proofs.lemmas.Cmp.{then_total, on_total, nat_cmp_total, tied_itself, upto}
+use Rattle.std.proofs.lemmas.Cmp.{then_total, on_total, tied_itself, upto}
 use Rattle.std.specs.List.{AllByRecursion, filter}
 use Rattle.std.specs.List.Sorted.{IsStrictlySortedBy, IsPartitionedBy, IsPartitionPoint}
 use Rattle.std.specs.declared.cmp.Ordering.{Ordering}
@@ -13,9 +13,7 @@ use Rattle.clv_base.specs.Orders.{tx_cmp, tx_same, tx_in, pair_cmp}
 use Rattle.clv_base.specs.Undo.{pairs_without}
 use Rattle.clv_base.proofs.SameNames.{tx_true}
 use Rattle.law_base.proofs.Bools.{less_is as is_less}
-
-pub tx_total : IsTotalOrder tx_cmp
-tx_total = then_total (on_total (λ t. t.run) nat_cmp_total) (then_total (on_total (λ t. t.session) nat_cmp_total) (on_total (λ t. t.serial) nat_cmp_total))
+use Rattle.law_base.proofs.Sets.{tx_total}
 
 pub pair_total : IsTotalOrder pair_cmp
 pair_total = then_total (on_total (λ p. p.0) tx_total) (on_total (λ p. p.1) tx_total)

@@ -1,27 +1,15 @@
 -- The UPDATEs that stand are records of the log, and their LSNs fall.
-use Rattle.std.proofs.Common.{◌≡◌, ℕ, suc, ◌+◌, ◌<◌, ◌≤◌, cond, List, [], ◌∷◌, ◌++◌, length, Some, refl, sym, ap, subst, ◌∙◌, append_assoc, arith}
+use Rattle.std.proofs.Common.{◌≡◌, ℕ, suc, ◌+◌, List, [], ◌∷◌, ◌++◌, length, Some, refl, sym, ap, subst, ◌∙◌, append_assoc, arith}
 use Rattle.std.specs.Prelude.{slice_get}
 use Rattle.std.specs.List.{AllByRecursion}
 use Rattle.std.proofs.lemmas.List.{length_push}
-use Rattle.clv_base.specs.declared.names.TxId.{TxId}
 use Rattle.clv_base.specs.declared.logs.LogRecord.{LogRecord}
 use Rattle.clv_base.specs.declared.logs.LogRecord.TheVariants.{Update, Clr, Prepare, Commit, Abort, End, Restart}
-use Rattle.clv_base.specs.Orders.{tx_same}
 use Rattle.clv_base.specs.Logs.{StandingUpdate, without_newest, standing_after, standing_from, standing}
-use Rattle.law_base.proofs.Bools.{by_bool as both}
-use Rattle.law_base.proofs.Names.{Falls, all_without}
+use Rattle.law_base.proofs.Names.{Falls, all_without, falls_weaker, falls_without}
 use Rattle.law_base.proofs.Logs.{get_seam}
 
 -- ---- LSNs fall
-
-pub falls_weaker : (n m : ℕ) (ws : List StandingUpdate) → n ≤ m → Falls n ws → Falls m ws
-falls_weaker n m [] le falls = tt
-falls_weaker n m (w ∷ ws) le falls = (omega arith, falls.1)
-
-falls_without : (t : TxId) (n : ℕ) (ws : List StandingUpdate) → Falls n ws → Falls n (without_newest t ws)
-falls_without t n [] falls = tt
-falls_without t n (w ∷ ws) falls =
-    both (λ b. Falls n (cond b ws (w ∷ without_newest t ws))) (tx_same t w.tx) (λ _. falls_weaker w.lsn n ws (omega (arith, falls.0)) falls.1) (λ _. (falls.0, falls_without t w.lsn ws falls.1))
 
 falls_after : (n : ℕ) (r : LogRecord) (ws : List StandingUpdate) → Falls n ws → Falls (suc n) (standing_after n r ws)
 falls_after n (Update tx key before after) ws falls = (omega arith, falls)
@@ -44,10 +32,6 @@ falls log = subst (λ m. Falls m (standing log)) (omega arith) (falls_from 0 log
 
 abbrev pub IsIn : List LogRecord → StandingUpdate → Type 0
 IsIn log w = slice_get log w.lsn ≡ Some (Update w.tx w.key w.before w.after)
-
-pub all_mono : (P Q : StandingUpdate → Type 0) → ((w : StandingUpdate) → P w → Q w) → (ws : List StandingUpdate) → AllByRecursion P ws → AllByRecursion Q ws
-all_mono P Q h [] a = tt
-all_mono P Q h (w ∷ ws) a = (h w a.0, all_mono P Q h ws a.1)
 
 in_after : (all : List LogRecord) (n : ℕ) (r : LogRecord) (ws : List StandingUpdate) → slice_get all n ≡ Some r → AllByRecursion (IsIn all) ws → AllByRecursion (IsIn all) (standing_after n r ws)
 in_after all n (Update tx key before after) ws at a = (at, a)

@@ -11,11 +11,12 @@ use Rattle.law_base.proofs.Doubts.{standing_more}
 use Rattle.cascade_undo.specs.declared.write.Write.{Write}
 use Rattle.cascade_undo.specs.Writes.{writes_of, HaveRecords}
 use Rattle.cascade_undo.specs.Steps.{AreBelow, IsNewestIn}
-use Rattle.cascade_undo.proofs.Standing.{falls, all_mono}
+use Rattle.cascade_undo.proofs.Standing.{falls}
 use Rattle.cascade_undo.proofs.Splitting.{SplitAt, split_at, without_it, clrs_with_it, writes_with_it, before_with_it, others_stay, all_above}
 use Rattle.cascade_undo.proofs.Newest.{below_left}
 use Rattle.cascade_undo.proofs.Restoring.{set_back, set_there, there_stays}
 use Rattle.law_base.proofs.Names.{Falls}
+use Rattle.law_base.proofs.Lists.{all_mono}
 
 module _ (set : List TxId) (log : List LogRecord) (w : Write) (newest : IsNewestIn set (standing log) w) where
   abbrev it : StandingUpdate

@@ -14,7 +14,7 @@ use Rattle.clv_base.proofs.SameNames.{tx_true}
 use Rattle.protocol_laws.specs.UndoLaws.{is_pair}
 use Rattle.cascade_undo.specs.Pairs.{AreTurned}
 use Rattle.cascade_undo.specs.Kept.{AreKept}
-use Rattle.cascade_undo.proofs.Rising.{insert_key-rises}
+use Rattle.law_base.proofs.Rising.{insert_key-rises}
 use Rattle.cascade_undo.proofs.Runs.{pair_total, of_tx}
 use Rattle.cascade_undo.proofs.Succeeding.{in_run}
 use Rattle.law_base.proofs.Sets.{same_flip as tx_symmetric}

@@ -55,14 +55,17 @@ pub union_rises : (xs ys : List TxId) → Rise ys → Rise (tx_union xs ys)
 union_rises [] ys h = h
 union_rises (x ∷ xs) ys h = insert_rises x (tx_union xs ys) (union_rises xs ys h)
 
+pub filter_rises : (f : TxId → Bool) (xs : List TxId) → Rise xs → Rise (filter f xs)
+filter_rises f xs h = IsStrictlySortedBy-filter tx_cmp f xs h
+
 pub writers_rise : (ws : List StandingUpdate) → Rise (writers ws)
 writers_rise [] = nothing_rises
 writers_rise (w ∷ ws) = insert_rises w.tx (writers ws) (writers_rise ws)
 
 pub losers_rise : (shard : ℕ) (log : List LogRecord) → Rise (losers shard log)
-losers_rise shard log = IsStrictlySortedBy-filter tx_cmp (λ t. not (is_winner shard log t)) (writers (standing log)) (writers_rise (standing log))
+losers_rise shard log = filter_rises (λ t. not (is_winner shard log t)) (writers (standing log)) (writers_rise (standing log))
 
-insert_if : (b : Bool) (t : TxId) (xs : List TxId) → Rise xs → Rise (cond b (tx_insert t xs) xs)
+pub insert_if : (b : Bool) (t : TxId) (xs : List TxId) → Rise xs → Rise (cond b (tx_insert t xs) xs)
 insert_if true t xs h = insert_rises t xs h
 insert_if false t xs h = h
 

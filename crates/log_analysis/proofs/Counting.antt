@@ -8,7 +8,7 @@ use Rattle.clv_base.specs.Orders.{tx_same, tx_in, tx_insert}
 use Rattle.clv_base.specs.Logs.{StandingUpdate, is_update_of, wrote_in, without_newest, standing_after, standing_from, standing, writers}
 use Rattle.clv_base.proofs.SameNames.{tx_true}
 use Rattle.law_base.proofs.Names.{in_inserted}
-use Rattle.log_analysis.proofs.Laws.Rising.{insert_rises, nothing_rises, same_list}
+use Rattle.law_base.proofs.Sets.{insert_rises, nothing_rises, same_list, writers_rise}
 use Rattle.log_analysis.specs.Standing.{number_of, count_after, with_writer, writers_by}
 use Rattle.law_base.proofs.Bools.{by_bool as both, or_false, or_yes as or_true}
 use Rattle.law_base.proofs.Sets.{same_flip as tx_symmetric}
@@ -127,10 +127,6 @@ in_writers t (w ∷ ws) =
   where
     above : (n : ℕ) → true ≡ nat_lt 0 (n + 1)
     above n = grind arith
-
-pub writers_rise : (ws : List StandingUpdate) → Rises (writers ws)
-writers_rise [] = nothing_rises
-writers_rise (w ∷ ws) = insert_rises w.tx (writers ws) (writers_rise ws)
 
 module _ (count : TxId → ℕ) where
   with_rises : (r : LogRecord) (txs : List TxId) → Rises txs → Rises (with_writer count r txs)

@@ -7,9 +7,9 @@ use Rattle.clv_base.specs.Orders.{tx_same, tx_in, tx_insert, tx_union}
 use Rattle.clv_base.specs.Logs.{is_commit_of, committed_in, committed_somewhere}
 use Rattle.clv_base.specs.LogRules.{committed_of, committed_of_all}
 use Rattle.law_base.proofs.Names.{in_inserted}
-use Rattle.log_analysis.proofs.Laws.Rising.{insert_rises, nothing_rises, same_list}
+
 use Rattle.log_rules.specs.Committed.{with_commit, with_commits, with_all_commits}
-use Rattle.law_base.proofs.Sets.{same_flip as tx_symmetric}
+use Rattle.law_base.proofs.Sets.{same_flip as tx_symmetric, insert_rises, nothing_rises, same_list, union_rises}
 use Rattle.law_base.proofs.Names.{Rise as Rises}
 use Rattle.law_base.proofs.Bools.{or_false}
 
@@ -40,10 +40,6 @@ in_committed_all : (t : TxId) (logs : List (List LogRecord)) → tx_in t (commit
 in_committed_all t [] = refl
 in_committed_all t (log ∷ logs) =
     in_union t (committed_of log) (committed_of_all logs) ∙ ap (λ b. b || tx_in t (committed_of_all logs)) (in_committed t log) ∙ ap (λ b. committed_in log t || b) (in_committed_all t logs)
-
-union_rises : (xs ys : List TxId) → Rises ys → Rises (tx_union xs ys)
-union_rises [] ys s = s
-union_rises (x ∷ xs) ys s = insert_rises x (tx_union xs ys) (union_rises xs ys s)
 
 committed_rises : (logs : List (List LogRecord)) → Rises (committed_of_all logs)
 committed_rises [] = nothing_rises

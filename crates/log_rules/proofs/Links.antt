@@ -1,5 +1,5 @@
 -- The UPDATEs that stand, and their links.
-use Rattle.std.proofs.Common.{◌≡◌, ℕ, ◌<◌, ◌≤◌, Bool, true, false, cond, not, ◌&&◌, ◌==◌, List, [], ◌∷◌, Option, Some, None, refl, sym, ap, subst, ◌∙◌, eqb-true, arith}
+use Rattle.std.proofs.Common.{◌≡◌, ℕ, ◌<◌, Bool, true, false, cond, not, ◌&&◌, ◌==◌, List, [], ◌∷◌, Option, Some, None, refl, sym, ap, subst, ◌∙◌, eqb-true, arith}
 use Rattle.std.proofs.lemmas.Bool.{both_ways}
 use Rattle.clv_base.specs.declared.names.TxId.{TxId}
 use Rattle.clv_base.specs.Orders.{tx_same}
@@ -8,7 +8,7 @@ use Rattle.clv_base.proofs.SameNames.{tx_true}
 use Rattle.log_rules.specs.Writes.{Write, Writes, write_at, top_at, newest_by, foreign_below, covers_foreign, linked}
 use Rattle.log_rules.proofs.Below.{is_others}
 use Rattle.law_base.proofs.Sets.{same_flip as tx_symmetric}
-use Rattle.law_base.proofs.Names.{Falls}
+use Rattle.law_base.proofs.Names.{Falls, falls_weaker}
 use Rattle.law_base.proofs.Bools.{by_bool as both}
 use Rattle.law_base.proofs.Numbers.{unequal_flip as key_differs}
 
@@ -61,15 +61,6 @@ at_newest m tx (w ∷ ws) l =
     both (λ b. write_at m (lsn_of (cond b (Some w) (newest_of tx ws))) ≡ cond b (Some (link_of w ws)) (link_newest tx ws)) (tx_same tx w.tx) (λ _. l.0) (λ _. at_newest m tx ws l.1)
 
 -- ---- LSNs fall
-
-pub falls_weaker : (n m : ℕ) (ws : List StandingUpdate) → n ≤ m → Falls n ws → Falls m ws
-falls_weaker n m [] le falls = tt
-falls_weaker n m (w ∷ ws) le falls = (omega arith, falls.1)
-
-pub falls_without : (tx : TxId) (n : ℕ) (ws : List StandingUpdate) → Falls n ws → Falls n (without_newest tx ws)
-falls_without tx n [] falls = tt
-falls_without tx n (w ∷ ws) falls =
-    both (λ b. Falls n (cond b ws (w ∷ without_newest tx ws))) (tx_same tx w.tx) (λ _. falls_weaker w.lsn n ws (omega arith) falls.1) (λ _. (falls.0, falls_without tx w.lsn ws falls.1))
 
 -- ---- one UPDATE more
 

@@ -1,5 +1,5 @@
 -- What one voter and one request count: less where nothing comes of their part any more, and less once what is due of them is done.
-use Rattle.std.proofs.Common.{◌≡◌, refl, sym, ◌∙◌, ap, subst, ℕ, zero, suc, pred, ◌<◌, ◌≤◌, true, false, cond, Bool, List, [], ◌∷◌, Option, Some, None, not, ◌&&◌, ◌==◌, arith}
+use Rattle.std.proofs.Common.{◌≡◌, refl, sym, ◌∙◌, ap, subst, ℕ, pred, ◌<◌, ◌≤◌, true, false, cond, Bool, List, [], ◌∷◌, Option, Some, None, not, ◌&&◌, ◌==◌, arith}
 use Rattle.std.proofs.lemmas.Bool.{both_ways}
 use Rattle.std.specs.List.{list_all}
 use Rattle.clv_base.specs.declared.names.TxId.{TxId}

@@ -1,5 +1,5 @@
 -- What is due for a transaction is told by its facts, and by what is kept of it as a voter and as a request.
-use Rattle.std.proofs.Common.{◌≡◌, refl, sym, ap, ◌∙◌, true, false, cond, Bool, ◌&&◌, ◌||◌, List, ◌++◌, Option, Some, None, is_some, ⊎_elim}
+use Rattle.std.proofs.Common.{◌≡◌, refl, sym, ap, ◌∙◌, true, false, cond, Bool, ◌&&◌, ◌||◌, List, Option, Some, None, is_some, ⊎_elim}
 use Rattle.std.proofs.lemmas.Bool.{cases_Bool}
 use Rattle.clv_base.specs.declared.names.TxId.{TxId}
 use Rattle.clv_base.specs.declared.causes.Vote.{Vote}

@@ -3,9 +3,7 @@ use Rattle.std.proofs.Common.{◌≡◌, ◌⊎◌, inl, inr, ⊎_elim, refl, sy
 use Rattle.std.proofs.lemmas.Bool.{both_ways, or_cases, and_parts}
 use Rattle.std.specs.List.Sorted.{IsStrictlySortedBy}
 use Rattle.std.specs.Map.{keys_of}
-use Rattle.std.specs.declared.cmp.Ordering.{Ordering}
-use Rattle.std.specs.declared.cmp.Ordering.TheVariants.{Less, Equal, Greater}
-use Rattle.std.specs.Ordering.{match_ordering}
+use Rattle.std.specs.declared.cmp.Ordering.TheVariants.{Less}
 use Rattle.clv_base.specs.declared.names.TxId.{TxId}
 use Rattle.clv_base.specs.declared.state.Held.{Held}
 use Rattle.clv_base.specs.declared.state.Voter.{Voter}
@@ -16,28 +14,13 @@ use Rattle.clv_base.specs.declared.parts.PartFacts.{PartFacts}
 use Rattle.clv_base.specs.Facts.{state_by, facts_of, is_closed_state}
 use Rattle.clv_base.specs.Due.{due_of, first_due, known_txs}
 use Rattle.clv_base.proofs.SameNames.{or_left, or_right, tx_true, tx_flip, insert_keeps, insert_has}
-use Rattle.law_base.proofs.Sets.{tx_total, less_from_greater, above_more, above_insert, AllAbove, union_right}
+use Rattle.law_base.proofs.Sets.{tx_total, union_right, union_rises}
 use Rattle.protocol_laws.specs.Candidates.{is_commit_due, is_vote_due, is_ruling_due, is_due, Cover, LeastIsNext, OthersCover, NoneIsNothing, AtRestNone}
 use Rattle.protocol_laws.proofs.Deciding.{due_by_facts}
 use Rattle.law_base.proofs.Names.{Rise, not_less, above_in}
 use Rattle.law_base.proofs.Shards.{rest_of}
 
 -- ---- lists that rise
-
-rise_case : (o : Ordering) (t y : TxId) (xs ys : List TxId) → tx_cmp t y ≡ o → Rise (y ∷ xs) → (o ≡ Greater → AllAbove y ys) → Rise ys → Rise (match_ordering o (t ∷ y ∷ xs) (y ∷ xs) (y ∷ ys))
-unfolding IsStrictlySortedBy
-rise_case Less t y xs ys e h k r = ((e, above_more t y xs e h.0), h)
-rise_case Equal t y xs ys e h k r = h
-rise_case Greater t y xs ys e h k r = (k refl, r)
-
-pub insert_rises : (t : TxId) (xs : List TxId) → Rise xs → Rise (tx_insert t xs)
-unfolding IsStrictlySortedBy
-insert_rises t [] h = (tt, tt)
-insert_rises t (y ∷ ys) h = rise_case (tx_cmp t y) t y ys (tx_insert t ys) refl h (λ g. above_insert y t ys (less_from_greater t y g) h.0) (insert_rises t ys h.1)
-
-union_rises : (xs ys : List TxId) → Rise ys → Rise (tx_union xs ys)
-union_rises [] ys h = h
-union_rises (x ∷ xs) ys h = insert_rises x (tx_union xs ys) (union_rises xs ys h)
 
 union_left : (x : TxId) (xs ys : List TxId) → tx_in x xs ≡ true → tx_in x (tx_union xs ys) ≡ true
 union_left x [] ys i = absurd (both_ways false refl i)

@@ -23,7 +23,7 @@ use Rattle.clv_base.specs.Needs.{Records, found_at}
 use Rattle.clv_base.specs.OneShard.{closing_record, closing}
 use Rattle.clv_base.specs.Restarts.{records_of, ghost_if_absent, with_ghosts, pairs_of_listed, restored_pairs}
 use Rattle.clv_base.proofs.SameNames.{tx_true}
-use Rattle.log_analysis.proofs.Laws.Rising.{nothing_rises, insert_rises}
+use Rattle.law_base.proofs.Sets.{predecessors_rise}
 use Rattle.protocol_laws.proofs.Undoing.{Named, named_insert}
 use Rattle.protocol_laws.proofs.Rows.{Seconds, Values, set_value}
 use Rattle.law_base.proofs.Names.{Rise as Rises}
@@ -50,14 +50,6 @@ preds_named (p ∷ ps) t all = at (tx_same t p.0) (preds_named ps t all.1)
   where
     at : (b : Bool) → Named (predecessors_of ps t) → Named (elim b [ true ↦ tx_insert p.1 (predecessors_of ps t) | false ↦ predecessors_of ps t ])
     at true more = named_insert p.1 (predecessors_of ps t) all.0 more
-    at false more = more
-
-preds_rise : (pairs : List (TxId × TxId)) (t : TxId) → Rises (predecessors_of pairs t)
-preds_rise [] t = nothing_rises
-preds_rise (p ∷ ps) t = at (tx_same t p.0) (preds_rise ps t)
-  where
-    at : (b : Bool) → Rises (predecessors_of ps t) → Rises (elim b [ true ↦ tx_insert p.1 (predecessors_of ps t) | false ↦ predecessors_of ps t ])
-    at true more = insert_rises p.1 (predecessors_of ps t) more
     at false more = more
 
 rise_test : (ts : List TxId) → Rises ts → txs_rise ts ≡ true
@@ -95,7 +87,7 @@ pub undecided_spelled : (log : List LogRecord) (pairs : List (TxId × TxId)) (tx
 undecided_spelled log pairs tx home one spelled named h few =
     closing_spelled (wrote_in log tx) one tx home (filter (λ p. not (committed_in log p)) (predecessors_of pairs tx)) (wrote_named log tx spelled) h few
     (all_filter (λ t. tx_has_spelling t ≡ true) (λ p. not (committed_in log p)) (predecessors_of pairs tx) (preds_named pairs tx named))
-    (IsStrictlySortedBy-filter tx_cmp (λ p. not (committed_in log p)) (predecessors_of pairs tx) (preds_rise pairs tx))
+    (IsStrictlySortedBy-filter tx_cmp (λ p. not (committed_in log p)) (predecessors_of pairs tx) (predecessors_rise pairs tx))
 
 -- ---- the pairs after a restart
 

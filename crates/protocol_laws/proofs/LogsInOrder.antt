@@ -1,5 +1,5 @@
 -- What holds of a log in order, record by record.
-use Rattle.std.proofs.Common.{◌≡◌, ⊎_elim, refl, sym, ap, subst, ◌∙◌, ℕ, zero, suc, true, false, List, [], ◌∷◌, ◌++◌, length, Some, None, arith, append-nil, append_assoc}
+use Rattle.std.proofs.Common.{◌≡◌, ⊎_elim, refl, sym, ap, subst, ◌∙◌, ℕ, zero, suc, true, false, List, [], ◌∷◌, ◌++◌, length, Some, None, append-nil, append_assoc}
 use Rattle.std.specs.Prelude.{⊤, take}
 use Rattle.std.specs.List.{AllByRecursion}
 use Rattle.std.proofs.lemmas.Bool.{both_ways, not-true, false_from_ne_true}

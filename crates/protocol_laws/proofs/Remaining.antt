@@ -3,20 +3,19 @@ use Rattle.std.proofs.Common.{◌≡◌, refl, sym, ap, ◌∙◌, subst, ℕ, z
 use Rattle.clv_base.specs.declared.names.TxId.{TxId}
 use Rattle.clv_base.specs.declared.causes.Vote.{Vote}
 use Rattle.clv_base.specs.declared.causes.Vote.TheVariants.{Yes, Read, No}
-use Rattle.clv_base.specs.Orders.{Table, tx_same, tx_get}
+use Rattle.clv_base.specs.Orders.{tx_same, tx_get}
 use Rattle.clv_base.specs.declared.state.Ruling.TheVariants.{Commit as CommitVerdict, Acknowledge, Abort as AbortVerdict, End as EndVerdict}
 use Rattle.clv_base.specs.State.{Shard, Local, with_local}
 use Rattle.clv_base.specs.declared.state.Stage.{Stage}
 use Rattle.clv_base.specs.declared.state.Stage.TheVariants.{Active, Closed, Gone}
-use Rattle.clv_base.specs.declared.state.Held.{Held}
 use Rattle.clv_base.specs.declared.state.Voter.{Voter}
 use Rattle.clv_base.specs.declared.state.Request.{Request}
 use Rattle.clv_base.specs.declared.state.Ruling.{Ruling}
-use Rattle.clv_base.specs.Undo.{stage_of, roll_back, doomed_here, gone_in, gone_part}
+use Rattle.clv_base.specs.Undo.{stage_of, roll_back, doomed_here, gone_in}
 use Rattle.clv_base.specs.Facts.{facts_of, has_durable_commit}
 use Rattle.clv_base.specs.Participant.{vote_by, voted}
 use Rattle.clv_base.specs.Coordinator.{ruling_by, ruled_request}
-use Rattle.clv_base.specs.Due.{total, stage_work, part_work, or_else, finish_part, with_commit_done, commit_due, vote_due, give_vote, with_vote, finish_reader, with_ruling, do_ruling, rule, request_due, due_of, first_due, known_txs, next_due}
+use Rattle.clv_base.specs.Due.{total, part_work, or_else, finish_part, with_commit_done, commit_due, vote_due, give_vote, with_vote, finish_reader, with_ruling, do_ruling, rule, request_due, due_of, first_due, known_txs, next_due}
 use Rattle.protocol_laws.specs.Candidates.{is_ruling_due}
 use Rattle.protocol_laws.specs.Candidates.{is_commit_due, is_vote_due}
 use Rattle.protocol_laws.specs.Rooms.{decisions}
@@ -37,36 +36,12 @@ use Rattle.std.proofs.lemmas.Bool.{or_cases, and_parts}
 use Rattle.std.proofs.Common.{length, ⊎_elim, is_some}
 use Rattle.std.proofs.lemmas.Bool.{both_ways}
 use Rattle.clv_base.specs.Facts.{is_closed_state}
-use Rattle.law_base.proofs.Tables.{stage_by as stage_in}
 use Rattle.clv_base.proofs.Settling.{owes, gone_closed, gone_le}
 
 -- where there is a next state, less is left in it
 data LessLeft (s : Shard) : Option Shard → Type 0 where
   nothing : LessLeft s None
   less : {t : Shard} → left t < left s → LessLeft s (Some t)
-
--- ---- parts that go
-
--- by the stage that the transaction's part has
-GoneLess : Table Held → Table Held → Option Stage → Type 0
-GoneLess parts gone None = Unit {0}
-GoneLess parts gone (Some st) = total part_work gone + stage_work st ≤ total part_work parts
-
-gone_later : (h : TxId × Held) (ps gs : Table Held) (o : Option Held) → GoneLess ps gs (stage_in o) → GoneLess (h ∷ ps) (h ∷ gs) (stage_in o)
-unfolding GoneLess
-gone_later h ps gs None g = tt
-gone_later h ps gs (Some x) g = omega arith
-
-gone_here : (p : TxId × Held) (ps gs : Table Held) (d : Option TxId) (b : Bool) (o : Option Held) → total part_work gs ≤ total part_work ps → GoneLess ps gs (stage_in o)
-    → GoneLess (p ∷ ps) ((p.0, cond (b || false) (gone_part d p.1) p.1) ∷ gs) (stage_in (cond b (Some p.1) o))
-unfolding GoneLess
-gone_here p ps gs d true o h g = omega arith
-gone_here p ps gs d false o h g = gone_later p ps gs o g
-
-gone_less : (tx : TxId) (d : Option TxId) (parts : Table Held) → GoneLess parts (gone_in (tx ∷ []) d parts) (stage_in (tx_get tx parts))
-unfolding GoneLess
-gone_less tx d [] = tt
-gone_less tx d (p ∷ ps) = gone_here p ps (gone_in (tx ∷ []) d ps) d (tx_same tx p.0) (tx_get tx ps) (gone_le (tx ∷ []) d ps) (gone_less tx d ps)
 
 -- ---- voters and requests whose parts change
 

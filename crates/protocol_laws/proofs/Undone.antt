@@ -13,9 +13,10 @@ use Rattle.clv_base.specs.State.{Shard}
 use Rattle.clv_base.specs.Undo.{clrs_of, newest_lsn}
 use Rattle.clv_base.specs.Restarts.{losers, undo_records, greatest_epoch, next_epoch}
 use Rattle.clv_base.proofs.SameNames.{or_left, tx_true, tx_self}
-use Rattle.law_base.proofs.Sets.{Rises, writers_rise, filter_rises, without_first, filter_alike, filter_both, in_filter, filter_in, in_passes, none_pass, none_passed, writers_without, each_writer}
+use Rattle.law_base.proofs.Sets.{Rise, writers_rise, without_first, filter_alike, filter_both, in_filter, filter_in, in_passes, none_pass, none_passed, writers_without, each_writer, filter_rises}
 use Rattle.law_base.proofs.Doubts.{Unlike, is_it, nobody, abort_unlike, clr_unlike, restart_unlike, aborted_more, winners_more, standing_more}
 use Rattle.law_base.proofs.Names.{other_name as other_writer}
+use Rattle.std.specs.List.Sorted.{IsStrictlySortedBy}
 
 -- the losers that have no ABORT
 abbrev pub unaborted : ℕ → List LogRecord → List TxId
@@ -48,11 +49,12 @@ spares shard log t i u h = false_from_ne_true _ (λ e. both_ways _ (loser_doubt 
 first_in : (shard : ℕ) (log : List LogRecord) (t : TxId) (ts : List TxId) → unaborted shard log ≡ t ∷ ts → tx_in t (losers shard log) ≡ true
 first_in shard log t ts e = (in_filter (λ x. not (aborted_in log x)) t (losers shard log) (subst (λ l. tx_in t l ≡ true) (sym e) (or_left _ _ (tx_self t)))).0
 
-rest_rises : (shard : ℕ) (log : List LogRecord) (t : TxId) (ts : List TxId) → unaborted shard log ≡ t ∷ ts → Rises (t ∷ ts)
-rest_rises shard log t ts e = subst Rises e (filter_rises (λ x. not (aborted_in log x)) (losers shard log) (filter_rises (loses shard log) (writers (standing log)) (writers_rise (standing log))))
+rest_rises : (shard : ℕ) (log : List LogRecord) (t : TxId) (ts : List TxId) → unaborted shard log ≡ t ∷ ts → Rise (t ∷ ts)
+rest_rises shard log t ts e = subst Rise e (filter_rises (λ x. not (aborted_in log x)) (losers shard log) (filter_rises (loses shard log) (writers (standing log)) (writers_rise (standing log))))
 
 -- the ABORT of the first: the others stay
 fewer : (shard : ℕ) (log : List LogRecord) (t : TxId) (ts : List TxId) → unaborted shard log ≡ t ∷ ts → losers shard (log ++ Abort t ∷ []) ≡ losers shard log → unaborted shard (log ++ Abort t ∷ []) ≡ ts
+unfolding IsStrictlySortedBy
 fewer shard log t ts e same =
     ap (λ l. filter (λ x. not (aborted_in (log ++ Abort t ∷ []) x)) l) same
     ∙ filter_alike (λ x. not (aborted_in (log ++ Abort t ∷ []) x)) (λ x. not (aborted_in log x) && not (tx_same x t)) (losers shard log)

@@ -4,7 +4,6 @@ pub mod Folded
 pub mod Lasting
 pub mod Rooms
 mod Prefixes
-mod Rising
 mod MisfitWhole
 pub mod Spelled
 pub mod Begun

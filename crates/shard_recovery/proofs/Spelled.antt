@@ -1,18 +1,14 @@
 -- What a restart adds to a log whose records have spellings has spellings.
 use Rattle.std.proofs.Common.{◌≡◌, ℕ, ◌-◌, ◌^◌, ◌≤◌, true, not, List, [], ◌∷◌, map, length, refl}
 use Rattle.std.proofs.lemmas.Bool.{and_from}
-use Rattle.std.proofs.lemmas.List.Kept.{IsStrictlySortedBy-filter}
 use Rattle.std.specs.List.{list_all, filter}
 use Rattle.clv_base.specs.declared.logs.LogRecord.{LogRecord}
 use Rattle.clv_base.specs.declared.logs.LogRecord.TheVariants.{Abort, Restart}
-use Rattle.clv_base.specs.Orders.{tx_cmp}
 use Rattle.clv_base.specs.Logs.{standing, writers, aborted_in, is_winner}
 use Rattle.clv_base.specs.FileRules.{has_spelling, tx_has_spelling}
 use Rattle.clv_base.specs.Undo.{clrs_of}
 use Rattle.clv_base.specs.Restarts.{losers, undo_records, restart_records, log_after_restart}
 use Rattle.protocol_laws.proofs.Laws.{all_filter, AreFit, fit_standing, clrs_spelled, Named, writers_named, aborts_spelled, all_append}
-use Rattle.law_base.proofs.Names.{Rise as Rises}
-use Rattle.log_analysis.proofs.Laws.{writers_rise}
 
 module _ (shard run epoch : ℕ) (log : List LogRecord) (h : list_all has_spelling log ≡ true) (few : length log ≤ 2 ^ 64 - 1) where
   fit : AreFit (length log) (standing log)
@@ -31,6 +27,3 @@ module _ (shard run epoch : ℕ) (log : List LogRecord) (h : list_all has_spelli
   restart_spelled last = all_append log (restart_records shard log run epoch) h (all_append (undo_records shard log) (Restart run epoch ∷ []) undo_spelled (and_from _ _ last refl))
 
 -- ---- the losers rise
-
-pub losers_rise : (shard : ℕ) (log : List LogRecord) → Rises (losers shard log)
-losers_rise shard log = IsStrictlySortedBy-filter tx_cmp (λ t. not (is_winner shard log t)) (writers (standing log)) (writers_rise (standing log))

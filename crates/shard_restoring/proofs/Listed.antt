@@ -7,7 +7,7 @@ use Rattle.std.proofs.lemmas.Bool.Decides.{nat_tests}
 use Rattle.std.proofs.lemmas.List.Kept.{IsStrictlySortedBy-filter}
 use Rattle.std.specs.declared.cmp.Ordering.{Ordering}
 use Rattle.std.specs.declared.cmp.Ordering.TheVariants.{Less, Equal, Greater}
-use Rattle.std.specs.Ordering.{is_eq, is_lt, ordering_then, match_ordering}
+use Rattle.std.specs.Ordering.{is_eq, is_lt, ordering_then}
 use Rattle.clv_base.specs.declared.names.TxId.{TxId}
 use Rattle.clv_base.specs.declared.logs.LogRecord.{LogRecord}
 use Rattle.clv_base.specs.declared.logs.LogRecord.TheVariants.{Update, Clr, Prepare, Commit, Abort, End, Restart}
@@ -17,13 +17,13 @@ use Rattle.clv_base.specs.Facts.{predecessors_of}
 use Rattle.clv_base.specs.FileRules.{has_spelling, tx_has_spelling, txs_rise}
 use Rattle.clv_base.specs.Restarts.{pairs_of_listed, restored_pairs}
 use Rattle.clv_base.proofs.SameNames.{tx_true, tx_self}
-use Rattle.log_analysis.proofs.Laws.Rising.{tx_total}
 use Rattle.txn_core.specs.Sound.{FewUndecided}
 use Rattle.law_base.proofs.Names.{Rise as Rises}
-use Rattle.law_base.proofs.Sets.{AllAbove as Above}
+use Rattle.law_base.proofs.Sets.{AllAbove as Above, above_more, tx_total}
 use Rattle.law_base.proofs.Lists.{all_append, all_mono, filter-few as filter_shorter}
 use Rattle.law_base.proofs.Bools.{less_is}
 use Rattle.law_base.proofs.Logs.{of_listed, restored_have}
+use Rattle.law_base.proofs.Rising.{length-insert_key}
 
 -- ---- whose they are
 
@@ -62,11 +62,8 @@ listed_at (Restart run epoch ∷ rs) t h = listed_at rs t (and_parts (has_spelli
 
 -- ---- they rise
 
-above_all : (t x : TxId) (ys : List TxId) → tx_cmp t x ≡ Less → Above x ys → Above t ys
-above_all t x ys below a = all_mono (λ y. tx_cmp x y ≡ Less) (λ y. tx_cmp t y ≡ Less) (λ y h. tx_total.trans t x y below h) ys a
-
 above_first : (t u : TxId) (us : List TxId) → tx_cmp t u ≡ Less → Above u us → Above t (u ∷ us)
-above_first t u us below a = (below, above_all t u us below a)
+above_first t u us below a = (below, above_more t u us below a)
 
 rises_by : (ts : List TxId) → txs_rise ts ≡ true → Rises ts
 unfolding IsStrictlySortedBy
@@ -136,18 +133,9 @@ own t p = tx_same t p.0
 abbrev pairs_with : TxId → List (TxId × TxId) → ℕ
 pairs_with t ps = length (filter (own t) ps)
 
-insert_more : (t : TxId) (xs : List TxId) → length (tx_insert t xs) ≤ length xs + 1
-insert_more t [] = omega arith
-insert_more t (x ∷ xs) = at (tx_cmp t x) (insert_more t xs)
-  where
-    at : (o : Ordering) → length (tx_insert t xs) ≤ length xs + 1 → length (match_ordering o (t ∷ x ∷ xs) (x ∷ xs) (x ∷ tx_insert t xs)) ≤ length (x ∷ xs) + 1
-    at Less more = omega arith
-    at Equal more = omega arith
-    at Greater more = omega (arith, more)
-
 preds_at_most : (ps : List (TxId × TxId)) (t : TxId) → length (predecessors_of ps t) ≤ pairs_with t ps
 preds_at_most [] t = omega arith
-preds_at_most (p ∷ ps) t = at (tx_same t p.0) (preds_at_most ps t) (insert_more p.1 (predecessors_of ps t))
+preds_at_most (p ∷ ps) t = at (tx_same t p.0) (preds_at_most ps t) (length-insert_key tx_total p.1 (predecessors_of ps t))
   where
     at : (b : Bool) → length (predecessors_of ps t) ≤ pairs_with t ps → length (tx_insert p.1 (predecessors_of ps t)) ≤ length (predecessors_of ps t) + 1
         → length {A = TxId} (elim b [ true ↦ tx_insert p.1 (predecessors_of ps t) | false ↦ predecessors_of ps t ]) ≤ length (cond b (p ∷ filter (own t) ps) (filter (own t) ps))

@@ -10,8 +10,8 @@ use Rattle.clv_base.specs.declared.names.TxId.{TxId}
 use Rattle.clv_base.specs.declared.logs.LogRecord.{LogRecord}
 use Rattle.clv_base.specs.Orders.{pair_cmp, pair_insert}
 use Rattle.clv_base.specs.Logs.{place_from}
-use Rattle.log_analysis.proofs.Laws.Rising.{tx_total}
 use Rattle.shard_restoring.specs.Opened.{first_of, place_if}
+use Rattle.law_base.proofs.Sets.{tx_total}
 
 -- ---- rising pairs put in one after another
 

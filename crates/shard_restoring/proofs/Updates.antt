@@ -1,5 +1,5 @@
 -- What a restart restores of those in doubt: a part, and a lock and a record at each key that they wrote.
-use Rattle.std.proofs.Common.{◌≡◌, ◌||◌, refl, ◌∙◌, suc, Bool, true, false, cond, ◌&&◌, ◌==◌, List, [], ◌∷◌, Some, None}
+use Rattle.std.proofs.Common.{◌≡◌, ◌||◌, refl, Bool, true, false, cond, List, [], ◌∷◌, Some, None}
 use Rattle.std.proofs.lemmas.Bool.{both_ways}
 use Rattle.clv_base.specs.declared.names.TxId.{TxId}
 use Rattle.clv_base.specs.Orders.{tx_same, tx_in, tx_get}

@@ -1,5 +1,5 @@
 -- The state after a restart, of its parts.
-use Rattle.std.proofs.Common.{◌≡◌, ◌≤◌, ◌∙◌, ap, ℕ, true, List, [], ◌-◌, arith}
+use Rattle.std.proofs.Common.{◌≡◌, ◌≤◌, ◌∙◌, ap, ℕ, true, List, [], ◌-◌}
 use Rattle.std.specs.List.{list_all}
 use Rattle.clv_base.specs.declared.names.TxId.{TxId}
 use Rattle.clv_base.specs.declared.logs.LogRecord.{LogRecord}
@@ -14,7 +14,7 @@ use Rattle.clv_base.specs.Restarts.{local_after}
 use Rattle.protocol_laws.specs.Resting.{RestartsEndAtRest}
 use Rattle.txn_core.specs.Sound.{owed_by, IsKept}
 use Rattle.txn_core.specs.State.{AreSettled}
-use Rattle.shard_restoring.proofs.Doubted.{doubt_rises}
+use Rattle.law_base.proofs.Sets.{doubts_rise}
 use Rattle.shard_restoring.proofs.Listed.{few_restored}
 use Rattle.shard_restoring.proofs.Kept.{restored_sound}
 
@@ -37,5 +37,5 @@ module _ (shard epoch : ℕ) (log : List LogRecord) where
     settled = settled;
     sound = restored_sound shard epoch log ss room same enough;
     ghosts = (rest shard 0 epoch 0 log []).1;
-    few = few_restored log spelled (in_doubt shard log) (doubt_rises shard log);
+    few = few_restored log spelled (in_doubt shard log) (doubts_rise shard log);
   }

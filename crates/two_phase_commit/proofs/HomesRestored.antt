@@ -11,7 +11,7 @@ use Rattle.clv_base.specs.declared.state.Request.{Request}
 use Rattle.clv_base.specs.Orders.{Table, tx_cmp}
 use Rattle.clv_base.specs.Coordinator.{restored_request, restored_requests}
 use Rattle.two_phase_commit.specs.Coordinated.{IsFit}
-use Rattle.two_phase_commit.proofs.Laws.{put_last}
+use Rattle.law_base.proofs.Tables.{put_last}
 use Rattle.law_base.proofs.Names.{request_keys as keys_restored}
 
 pub step_restored : (i : ℕ) (commits : Table (List ℕ)) (x : TxId × List ℕ) (now : Table Request) → IsStrictlySortedBy tx_cmp (keys_of commits) → i < length commits → x ≡ get_or commits i x

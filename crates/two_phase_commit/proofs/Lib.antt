@@ -10,4 +10,3 @@ pub mod Few
 pub mod Unended
 pub mod Over
 pub mod Silent
-pub mod Laws

@@ -3,26 +3,11 @@ use Rattle.std.proofs.Common.{◌≡◌, List, [], ◌∷◌, ◌++◌, refl, sy
 use Rattle.std.specs.List.Sorted.{IsStrictlySortedBy}
 use Rattle.std.specs.Map.{keys_of}
 use Rattle.std.specs.BTreeMap.{insert_entry}
-use Rattle.std.specs.declared.cmp.Ordering.TheVariants.{Greater}
-use Rattle.std.specs.Ordering.{match_ordering, ordering_reverse}
 use Rattle.clv_base.specs.declared.names.TxId.{TxId}
 use Rattle.clv_base.specs.declared.state.Voter.{Voter}
 use Rattle.clv_base.specs.Orders.{Table, tx_cmp}
 use Rattle.clv_base.specs.Participant.{restored_voter, restored_voters}
-use Rattle.two_phase_commit.proofs.Setting.{tx_total}
-use Rattle.law_base.proofs.Sets.{AllAbove as Above}
-
-above_one : {V : Type 0} (p t : TxId) (v : V) (xs rest : Table V) → Above p (keys_of (xs ++ (t, v) ∷ rest)) → tx_cmp t p ≡ Greater
-above_one p t v [] rest a = tx_total.antisymm t p ∙ ap ordering_reverse a.0
-above_one p t v (x ∷ xs) rest a = above_one p t v xs rest a.1
-
--- where the next one goes behind all that are in
-pub put_last : {V : Type 0} (t : TxId) (v : V) (xs rest : Table V) → IsStrictlySortedBy tx_cmp (keys_of (xs ++ (t, v) ∷ rest)) → insert_entry tx_cmp xs t v ++ rest ≡ xs ++ (t, v) ∷ rest
-unfolding IsStrictlySortedBy
-put_last t v [] rest s = refl
-put_last t v (p ∷ ps) rest s =
-    ap (λ o. match_ordering o ((t, v) ∷ p ∷ ps) ((p.0, v) ∷ ps) (p ∷ insert_entry tx_cmp ps t v) ++ rest) (above_one p.0 t v ps rest s.0)
-    ∙ ap (λ l. p ∷ l) (put_last t v ps rest s.1)
+use Rattle.law_base.proofs.Tables.{put_last}
 
 keys_restored : (homes : List (TxId × ℕ)) → keys_of (restored_voters homes) ≡ keys_of homes
 keys_restored [] = refl

@@ -12,15 +12,11 @@ use Rattle.clv_base.specs.Orders.{Table, tx_cmp, tx_put, tx_insert}
 use Rattle.clv_base.specs.Logs.{ended_in}
 use Rattle.clv_base.specs.Restarts.{unended_with, unended_in}
 use Rattle.tx_table.proofs.Laws.{insert_key-rises}
-use Rattle.law_base.proofs.Sets.{tx_total}
+use Rattle.law_base.proofs.Sets.{tx_total, nothing_rises}
 use Rattle.two_phase_commit.specs.Unended.{UnendedRise}
 
 abbrev Rise : Table (List ℕ) → Type 0
 Rise rows = IsStrictlySortedBy tx_cmp (keys_of rows)
-
-nothing_rises : Rise []
-unfolding IsStrictlySortedBy
-nothing_rises = tt
 
 keys_put : (t : TxId) (v : List ℕ) (rs : Table (List ℕ)) → keys_of (tx_put t v rs) ≡ tx_insert t (keys_of rs)
 keys_put t v [] = refl

@@ -14,8 +14,8 @@ use Rattle.clv_base.specs.Participant.{asks_home}
 use Rattle.clv_base.specs.Events.{waiting_voters}
 use Rattle.clv_base.specs.State.{Shard}
 use Rattle.clv_base.proofs.SameNames.{or_left, or_right, tx_flip}
-use Rattle.law_base.proofs.Sets.{filter_in, in_filter}
-use Rattle.tx_table.proofs.Laws.{HasOwn, rows_own, same_members}
+use Rattle.law_base.proofs.Sets.{filter_in, in_filter, same_list}
+use Rattle.tx_table.proofs.Laws.{HasOwn, rows_own}
 use Rattle.two_phase_commit.specs.Voting.{asks_by}
 use Rattle.two_phase_commit.specs.Doubtful.{WaitingAmong}
 
@@ -55,5 +55,5 @@ pub waiting_among : WaitingAmong
 waiting_among s txs rising txs_rise all =
     let test : TxId → Bool = λ t. asks_by (facts_of s t) (tx_get t s.voters) in
     by_keys s rising
-    ∙ same_members (filter test (keys_of s.voters)) (filter test txs) (IsStrictlySortedBy-filter tx_cmp test (keys_of s.voters) rising) (IsStrictlySortedBy-filter tx_cmp test txs txs_rise)
+    ∙ same_list (filter test (keys_of s.voters)) (filter test txs) (IsStrictlySortedBy-filter tx_cmp test (keys_of s.voters) rising) (IsStrictlySortedBy-filter tx_cmp test txs txs_rise)
     (λ t. passing test t (keys_of s.voters) (is_voter (facts_of s t) t s.voters) ∙ sym (passing test t txs (all t)))

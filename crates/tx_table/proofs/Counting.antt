@@ -9,8 +9,8 @@ use Rattle.clv_base.specs.declared.names.TxId.{TxId}
 use Rattle.clv_base.specs.Orders.{tx_cmp, tx_same, tx_in, tx_insert}
 use Rattle.clv_base.proofs.SameNames.{or_left, or_right, tx_true, tx_self, in_insert}
 use Rattle.tx_table.specs.Held.{Candidates, AreAmong, HasRoomFor, HasRoomBy}
-use Rattle.tx_table.proofs.Keeping.{tx_total}
-use Rattle.tx_table.proofs.Rising.{insert_key-rises}
+use Rattle.law_base.proofs.Sets.{tx_total}
+use Rattle.law_base.proofs.Rising.{insert_key-rises}
 use Rattle.law_base.proofs.Names.{not_less, above_in, tx_in-insert as insert_in}
 
 without : TxId → List TxId → List TxId

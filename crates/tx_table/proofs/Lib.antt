@@ -1,7 +1,6 @@
 pub mod Lookups
-pub mod Rising
 pub mod Keeping
 pub mod Counting
 pub mod Members
-pub mod TxIndexKeeping
+pub mod IndexKeeping
 pub mod Laws

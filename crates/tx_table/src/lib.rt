@@ -7,18 +7,18 @@
 
 mod candidates;
 mod index;
+#[cfg(test)]
+mod index_tests;
 mod key;
+mod part_table;
 #[cfg(test)]
 mod part_tests;
 mod sorted;
 mod table;
 #[cfg(test)]
 mod tests;
-mod tx_index_table;
-#[cfg(test)]
-mod tx_index_tests;
 
 pub use candidates::Candidates;
 pub use index::TxIndex;
+pub use part_table::PartTable;
 pub use table::TxTable;
-pub use tx_index_table::PartTable;

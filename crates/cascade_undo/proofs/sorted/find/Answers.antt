@@ -1,4 +1,4 @@
-use Rattle.cascade_undo.proofs.Rising.{search_there, search_ok, search_err, search_within, search_found, search_absent}
+use Rattle.law_base.proofs.Rising.{search_there, search_ok, search_err, search_within, search_found, search_absent}
 use Rattle.cascade_undo.proofs.sorted.find.Goals as goal
 
 pub returns-clause-there : goal.returns-clause-there

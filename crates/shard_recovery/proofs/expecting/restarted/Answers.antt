@@ -1,6 +1,6 @@
 use Rattle.std.proofs.Common.{◌≡◌, sym, ◌∙◌, ap, subst}
 use Rattle.clv_base.specs.Restarts.{losers}
-use Rattle.shard_recovery.proofs.Rising.{losers_rise}
+use Rattle.law_base.proofs.Sets.{losers_rise}
 use Rattle.shard_recovery.proofs.expecting.restarted.Goals as goal
 use Rattle.law_base.proofs.Names.{Rise as Rises}
 

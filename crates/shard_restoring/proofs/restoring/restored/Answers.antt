@@ -9,7 +9,7 @@ use Rattle.clv_base.specs.Restarts.{restored_locks, restored_parts}
 use Rattle.std.specs.List.Sorted.{IsStrictlySortedBy}
 use Rattle.txn_core.specs.Sound.{IsKept}
 use Rattle.txn_core.specs.State.{AreSettled}
-use Rattle.shard_restoring.proofs.Doubted.{doubt_rises}
+use Rattle.law_base.proofs.Sets.{doubts_rise}
 use Rattle.shard_restoring.proofs.Listed.{restored_rise}
 use Rattle.shard_restoring.proofs.Whole.{local_is, kept_is}
 use Rattle.shard_restoring.proofs.restoring.restored.Goals as goal
@@ -21,12 +21,12 @@ pub parts_of-requires : goal.parts_of-requires
 parts_of-requires g c =
     let log = c.args.buffer.records in let shard = c.args.shard in
     let names : c.in-Ok.txs.items ≡ in_doubt shard log = c.in-Ok.ensures ∙ ap (map (λ d. d.0)) c.requires.in_doubt ∙ firsts_are log (in_doubt shard log) in
-    record { rising = subst Rises (sym (c.deref-3.ensures.value ∙ names)) (doubt_rises shard log) }
+    record { rising = subst Rises (sym (c.deref-3.ensures.value ∙ names)) (doubts_rise shard log) }
 
 pub deps_of-requires : goal.deps_of-requires
 deps_of-requires g c =
     let log = c.args.buffer.records in let shard = c.args.shard in
-    record { rising = subst (λ (ps : List (TxId × TxId)). IsStrictlySortedBy pair_cmp ps) (sym c.requires.pairs) (restored_rise log c.requires.spelled (in_doubt shard log) (doubt_rises shard log)) }
+    record { rising = subst (λ (ps : List (TxId × TxId)). IsStrictlySortedBy pair_cmp ps) (sym c.requires.pairs) (restored_rise log c.requires.spelled (in_doubt shard log) (doubts_rise shard log)) }
 
 pub new-requires : goal.new-requires
 new-requires g c =

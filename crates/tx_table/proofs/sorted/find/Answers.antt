@@ -1,4 +1,4 @@
-use Rattle.tx_table.proofs.Rising.{search_there, search_ok, search_err}
+use Rattle.law_base.proofs.Rising.{search_there, search_ok, search_err}
 use Rattle.tx_table.proofs.sorted.find.Goals as goal
 
 pub returns-clause-there : goal.returns-clause-there

@@ -2,7 +2,7 @@ use Rattle.std.proofs.Common.{◌≡◌, sym, ◌∙◌, subst}
 use Rattle.std.specs.List.{insert}
 use Rattle.std.specs.List.Sorted.{IsStrictlySortedBy}
 use Rattle.std.specs.BTreeSet.{insert_key}
-use Rattle.tx_table.proofs.Rising.{insert_key-rises}
+use Rattle.law_base.proofs.Rising.{insert_key-rises}
 use Rattle.tx_table.proofs.sorted.insert.Goals as goal
 
 pub returns-in-Ok-insert-clause-rising : goal.returns-in-Ok-insert-clause-rising

@@ -3,7 +3,7 @@ use Rattle.std.proofs.Common.{List, not, sym, subst, arith}
 use Rattle.std.specs.List.Sorted.{IsStrictlySortedBy}
 use Rattle.clv_base.specs.declared.names.TxId.{TxId}
 use Rattle.clv_base.specs.Orders.{tx_cmp, tx_same}
-use Rattle.cascade_undo.proofs.Fewer.{filter_rises}
+use Rattle.law_base.proofs.Sets.{filter_rises}
 use Rattle.cascade_undo.proofs.deps.Deps.unmark.Goals as goal
 
 pub invariant_of-self : goal.invariant_of-self

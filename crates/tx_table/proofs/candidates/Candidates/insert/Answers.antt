@@ -3,8 +3,9 @@ use Rattle.clv_base.specs.declared.names.TxId.{TxId}
 use Rattle.clv_base.specs.Orders.{tx_in, tx_insert}
 use Rattle.tx_table.specs.Held.{Candidates, HasRoomFor}
 use Rattle.tx_table.proofs.Counting.{room_one}
-use Rattle.tx_table.proofs.Keeping.{insert_same}
+use Rattle.law_base.proofs.Rising.{insert_there}
 use Rattle.tx_table.proofs.candidates.Candidates.insert.Goals as goal
+use Rattle.law_base.proofs.Sets.{tx_total}
 
 abbrev held : List TxId → ℕ → Candidates
 held l n = record { txs = l; limit = n }
@@ -28,4 +29,4 @@ returns-else-not-contains c =
     let xs = c.self.inside.txs.items in let n = c.self.inside.limit in
     let there : tx_in c.args.tx xs ≡ true = sym (c.contains.ensures ∙ ap (tx_in c.args.tx) c.deref.ensures.value) ∙ c.if-not-contains.false in
     subst (λ (v : Candidates). ◌≡◌ {A = Candidates} v (record { txs = tx_insert c.args.tx v.txs; limit = v.limit })) c.self.view_is
-    (ap (λ (l : List TxId). held l n) (sym (insert_same c.args.tx xs c.self.invariant.0 there)))
+    (ap (λ (l : List TxId). held l n) (sym (insert_there tx_total c.args.tx xs c.self.invariant.0 there)))

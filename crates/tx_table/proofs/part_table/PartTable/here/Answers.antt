@@ -5,7 +5,7 @@ use Rattle.std.specs.Map.{keys_of}
 use Rattle.clv_base.specs.Orders.{tx_cmp}
 use Rattle.tx_table.specs.Parts.{PartRows, is_here, parts_here}
 use Rattle.tx_table.proofs.Members.{in_order, index_rises}
-use Rattle.tx_table.proofs.tx_index_table.PartTable.here.Goals as goal
+use Rattle.tx_table.proofs.part_table.PartTable.here.Goals as goal
 
 pub returns-clause-rising : goal.returns-clause-rising
 returns-clause-rising c = index_rises is_here c.args.self.now.entries c.rising.ensures

@@ -1,2 +1,0 @@
--- Lemmas that this crate offers to the proofs of the crates above it.
-pub use Rattle.two_phase_commit.proofs.Restored.{put_last}
