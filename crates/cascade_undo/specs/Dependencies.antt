@@ -15,6 +15,8 @@ pub record Dependencies : Type 0 where
   pub marked : List TxId
   -- for how many pairs and settled transactions more room is reserved
   pub room : ℕ
+  -- for how many settled transactions more, beside those
+  pub settled_room : ℕ
 
 -- the predecessors of the transaction that aren't settled
 abbrev pub undecided_by : Dependencies → TxId → List TxId

@@ -14,8 +14,9 @@ pub record AreKept (pairs turned : List (TxId × TxId)) (marks : List TxId) (mar
   pub marks_room : length turned + 1 < marks_capacity
   pub queue_room : length turned + 1 < queue_capacity
 
--- places for so many pairs more in both lists of them, for as many COMMITs, and to mark and to follow each successor
-abbrev pub HavePlaces : ℕ → ℕ → ℕ → ℕ → ℕ → ℕ → ℕ → ℕ → Type 0
-HavePlaces reserved pairs pairs_capacity turned turned_capacity marks_capacity queue_capacity commits_left =
+-- places for so many pairs more in both lists of them, for as many COMMITs and for those that have room of their own, and to mark and to follow
+-- each successor
+abbrev pub HavePlaces : ℕ → ℕ → ℕ → ℕ → ℕ → ℕ → ℕ → ℕ → ℕ → Type 0
+HavePlaces reserved settled pairs pairs_capacity turned turned_capacity marks_capacity queue_capacity commits_left =
     (pairs + reserved ≤ pairs_capacity) × (turned + reserved ≤ turned_capacity)
-    × (turned + 2 + reserved ≤ marks_capacity) × (turned + 2 + reserved ≤ queue_capacity) × (reserved ≤ commits_left)
+    × (turned + 2 + reserved ≤ marks_capacity) × (turned + 2 + reserved ≤ queue_capacity) × (reserved + settled ≤ commits_left)

@@ -33,6 +33,8 @@ pub struct Deps {
     // For how many pairs and settled transactions room was reserved that isn't used. What is free beyond that was promised to nobody, so a call
     // that asks for room on top of what is reserved doesn't ask for it again.
     reserved: usize,
+    // For how many settled transactions more, beside those, the table alone has places.
+    reserved_settled: usize,
 }
 
 impl Model for Deps {
@@ -47,10 +49,11 @@ impl Model for Deps {
       commits = s.commits.rows;
       marked = s.marks.items;
       room = s.reserved;
+      settled_room = s.reserved_settled;
     } };
 
     ghost invariant = { λ s. AreKept s.pairs.items s.turned.items s.marks.items (vec_capacity s.marks) (vec_capacity s.queue)
-        × HavePlaces s.reserved (vec_len s.pairs) (vec_capacity s.pairs) (vec_len s.turned) (vec_capacity s.turned) (vec_capacity s.marks) (vec_capacity s.queue) s.commits.room };
+        × HavePlaces s.reserved s.reserved_settled (vec_len s.pairs) (vec_capacity s.pairs) (vec_len s.turned) (vec_capacity s.turned) (vec_capacity s.marks) (vec_capacity s.queue) s.commits.room };
 }
 
 impl Deps {
@@ -60,6 +63,7 @@ impl Deps {
         ensures commits { IfOk result (λ d. (t : Tx) → tx_get t d.commits ≡ None) }
         ensures marked { IfOk result (λ d. d.marked ≡ []) }
         ensures room { IfOk result (λ d. d.room ≡ 0) }
+        ensures settled_room { IfOk result (λ d. d.settled_room ≡ 0) }
     {
         let marks = with_places(alloc, 2)?;
         let queue = with_places(alloc, 2)?;
@@ -70,6 +74,7 @@ impl Deps {
             marks,
             queue,
             reserved: 0,
+            reserved_settled: 0,
         })
     }
 
@@ -90,14 +95,36 @@ impl Deps {
         ensures marked { self.new.marked ≡ self.old.marked }
         ensures reserved { OnOk result (self.new.room ≡ max self.old.room count) }
         ensures refused { OnErr result (self.new.room ≡ self.old.room) }
+        ensures settled_room { self.new.settled_room ≡ self.old.settled_room }
     {
+        let Some(rows) = count.checked_add(self.reserved_settled) else {
+            return Err(AllocError);
+        };
         self.pairs.reserve(count)?;
         self.turned.reserve(count)?;
-        self.commits.reserve(count)?;
+        self.commits.reserve(rows)?;
         let places = self.turned.len() + count + 2;
         hold(&mut self.marks, places)?;
         hold(&mut self.queue, places)?;
         self.reserved = self.reserved.max(count);
+        Ok(())
+    }
+
+    /// Makes room for so many settled transactions more, and for no pairs, beside what `reserve` made: afterwards there is the greater of this and
+    /// of what was reserved so before. That room alone changes; an `Err` changes nothing.
+    pub fn reserve_settled(&mut self, count: usize) -> Result<(), AllocError>
+        ensures ok { OnOk result (self.new.settled_room ≡ max self.old.settled_room count) }
+        ensures refused { OnErr result (self.new.settled_room ≡ self.old.settled_room) }
+        ensures pairs { self.new.pairs ≡ self.old.pairs }
+        ensures commits { (t : Tx) → tx_get t self.new.commits ≡ tx_get t self.old.commits }
+        ensures marked { self.new.marked ≡ self.old.marked }
+        ensures room { self.new.room ≡ self.old.room }
+    {
+        let Some(rows) = self.reserved.checked_add(count) else {
+            return Err(AllocError);
+        };
+        self.commits.reserve(rows)?;
+        self.reserved_settled = self.reserved_settled.max(count);
         Ok(())
     }
 
@@ -116,6 +143,7 @@ impl Deps {
         ensures commits { self.new.commits ≡ self.old.commits }
         ensures marked { self.new.marked ≡ self.old.marked }
         ensures room { self.old.room ≡ self.new.room + 1 }
+        ensures settled_room { self.new.settled_room ≡ self.old.settled_room }
     {
         insert(&mut self.pairs, (tx, pred));
         insert(&mut self.turned, (pred, tx));
@@ -129,9 +157,24 @@ impl Deps {
         ensures pairs { self.new.pairs ≡ self.old.pairs }
         ensures marked { self.new.marked ≡ self.old.marked }
         ensures room { self.old.room ≡ self.new.room + 1 }
+        ensures settled_room { self.new.settled_room ≡ self.old.settled_room }
     {
         self.commits.set(pred, lsn);
         self.reserved -= 1;
+    }
+
+    /// The transaction's COMMIT is found in a log that is there already, at this LSN: what was reserved for settled transactions alone is used.
+    /// Takes no memory.
+    pub fn settle_found(&mut self, pred: TxId, lsn: u64)
+        requires { 0 < self.old.settled_room }
+        ensures commits { (t : Tx) → tx_get t self.new.commits ≡ (if tx_same pred t then Some lsn else tx_get t self.old.commits) }
+        ensures pairs { self.new.pairs ≡ self.old.pairs }
+        ensures marked { self.new.marked ≡ self.old.marked }
+        ensures room { self.new.room ≡ self.old.room }
+        ensures settled_room { self.old.settled_room ≡ self.new.settled_room + 1 }
+    {
+        self.commits.set(pred, lsn);
+        self.reserved_settled -= 1;
     }
 
     /// The LSN at which the transaction was settled.
@@ -187,6 +230,7 @@ impl Deps {
         ensures pairs { self.new.pairs ≡ self.old.pairs }
         ensures commits { self.new.commits ≡ self.old.commits }
         ensures room { self.new.room ≡ self.old.room }
+        ensures settled_room { self.new.settled_room ≡ self.old.settled_room }
     {
         mark_from(&self.turned, tx, &mut self.marks, &mut self.queue);
         self.marks.len()
@@ -198,6 +242,7 @@ impl Deps {
         ensures pairs { self.new.pairs ≡ self.old.pairs }
         ensures commits { self.new.commits ≡ self.old.commits }
         ensures room { self.new.room ≡ self.old.room }
+        ensures settled_room { self.new.settled_room ≡ self.old.settled_room }
     {
         drop_one(&mut self.marks, tx);
     }
@@ -224,6 +269,7 @@ impl Deps {
         ensures commits { self.new.commits ≡ self.old.commits }
         ensures marked { self.new.marked ≡ self.old.marked }
         ensures room { self.new.room ≡ self.old.room }
+        ensures settled_room { self.new.settled_room ≡ self.old.settled_room }
     {
         drop_own(&mut self.pairs, &mut self.turned, tx);
     }
@@ -235,6 +281,7 @@ impl Deps {
         ensures commits { self.new.commits ≡ self.old.commits }
         ensures marked { self.new.marked ≡ [] }
         ensures room { self.new.room ≡ self.old.room }
+        ensures settled_room { self.new.settled_room ≡ self.old.settled_room }
     {
         drop_all(&mut self.pairs, &mut self.turned, &self.marks);
         self.marks.clear();

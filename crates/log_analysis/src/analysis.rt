@@ -63,9 +63,32 @@ fn losers(
     without_winners(alloc, facts, in_doubt, writers.as_slice())
 }
 
-/// What becomes of the transactions of a log at a restart of this shard: the four lists are exactly those of the
-/// definitions, for every log, in order or not. `Memory` comes for want of memory alone. Takes time linear in the log and
-/// in what its PREPAREs list, times a logarithm.
+/// What becomes of the transactions of a log at a restart of this shard, where it is known already what the log says of each: the four lists
+/// are exactly those of the definitions, for every log, in order or not. `Memory` comes for want of memory alone. Takes time linear in the log
+/// and in what its PREPAREs list, times a logarithm.
+pub fn analyse_by(
+    alloc: Global,
+    facts: &LogFacts,
+    records: &[LogRecord],
+    shard: u32,
+) -> Result<Analysis, Memory>
+    requires { Knows facts.now records.now }
+    ensures losers { IfOk result (λ a. a.losers.items ≡ losers_in shard records.now) }
+    ensures in_doubt { IfOk result (λ a. a.in_doubt.items ≡ homes_of records.now (in_doubt_in shard records.now)) }
+    ensures pairs { IfOk result (λ a. a.pairs.items ≡ restored_pairs records.now (in_doubt_in shard records.now)) }
+    ensures unended { IfOk result (λ a. a.unended.items ≡ unended_in records.now records.now) }
+{
+    let in_doubt = doubted(alloc, facts, records, shard)?;
+    let doubted = in_doubt.to_vec(alloc)?;
+    Ok(Analysis {
+        losers: losers(alloc, facts, records, shard, &in_doubt)?,
+        in_doubt: with_homes(alloc, facts, records, doubted.as_slice())?,
+        pairs: pairs_of(alloc, facts, records, doubted.as_slice())?,
+        unended: unended(alloc, facts, records)?,
+    })
+}
+
+/// The same of a log of which nothing is known yet.
 pub fn analyse(alloc: Global, records: &[LogRecord], shard: u32) -> Result<Analysis, Memory>
     ensures losers { IfOk result (λ a. a.losers.items ≡ losers_in shard records.now) }
     ensures in_doubt { IfOk result (λ a. a.in_doubt.items ≡ homes_of records.now (in_doubt_in shard records.now)) }
@@ -73,12 +96,5 @@ pub fn analyse(alloc: Global, records: &[LogRecord], shard: u32) -> Result<Analy
     ensures unended { IfOk result (λ a. a.unended.items ≡ unended_in records.now records.now) }
 {
     let facts = LogFacts::of_log(alloc, records)?;
-    let in_doubt = doubted(alloc, &facts, records, shard)?;
-    let doubted = in_doubt.to_vec(alloc)?;
-    Ok(Analysis {
-        losers: losers(alloc, &facts, records, shard, &in_doubt)?,
-        in_doubt: with_homes(alloc, &facts, records, doubted.as_slice())?,
-        pairs: pairs_of(alloc, &facts, records, doubted.as_slice())?,
-        unended: unended(alloc, &facts, records)?,
-    })
+    analyse_by(alloc, &facts, records, shard)
 }

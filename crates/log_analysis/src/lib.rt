@@ -18,7 +18,7 @@ pub mod statements;
 mod table;
 mod unended;
 
-pub use analysis::{Analysis, analyse};
+pub use analysis::{Analysis, analyse, analyse_by};
 pub use set::TxSet;
 pub use table::LogFacts;
 

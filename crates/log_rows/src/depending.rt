@@ -92,6 +92,8 @@ fn what_is_reserved_is_told(rt: HostRuntime) -> Result<(), Fail> {
     deps.settle(tx(1), 5);
     assert_eq!(rt; deps.room(), 1);
     deps.trim(0);
-    assert_eq!(rt; deps.room(), 0);
+    deps.reserve_settled(1)?;
+    deps.settle_found(tx(3), 6);
+    assert_eq!(rt; (deps.room(), deps.settled_at(tx(3))), (0, Some(6)));
     Ok(())
 }

@@ -4,6 +4,7 @@ ghost use Rattle.std.specs.List.Sorted.{IsStrictlySortedBy};
 ghost use Rattle.clv_base.specs.Orders.{tx_cmp};
 ghost use Rattle.clv_base.specs.Logs.{standing};
 ghost use Rattle.clv_base.specs.Restarts.{losers as losers_of, log_after_restart};
+ghost use Rattle.log_analysis.specs.Facts.{Knows};
 ghost use Rattle.cascade_undo.specs.Writes.{writes_of};
 
 use crate::aborts::{append_aborts, unaborted};
@@ -72,17 +73,19 @@ pub(crate) fn add_restart(
 /// that has none, the CLRs of their writes that stand, from the greatest LSN down, and the RESTART.
 pub(crate) fn rebuild(
     alloc: Global,
+    facts: LogFacts,
     records: Vec<LogRecord>,
     losers: &[TxId],
     run: u32,
     epoch: u64,
 ) -> Result<LogBuffer<LogRecord>, AllocError>
+    requires knows { Knows facts records.items }
     requires rising { IsStrictlySortedBy tx_cmp losers.now }
     ensures log { IfOk result (λ b. (shard : ℕ) → losers.now ≡ losers_of shard records.items → b.records ≡ log_after_restart shard records.items run epoch) }
     ensures fronts { IfOk result (λ b. (b.durable ≡ length records.items) × (b.taken ≡ length records.items)) }
 {
-    let facts = LogFacts::of_log(alloc, &records)?;
     let fresh = unaborted(alloc, &facts, losers)?;
+    drop(facts);
     let mut buffer = buffer_of(alloc, records, losers)?;
     append_aborts(&mut buffer, &fresh);
     compensate(&mut buffer, losers);

@@ -7,12 +7,12 @@ ghost use Rattle.clv_base.specs.Restarts.{homes_of, local_after, log_after_resta
 ghost use Rattle.log_gate.specs.View.{Only};
 ghost use Rattle.shard_recovery.specs.Recovering.{CountsRecovery, IsBegun, recover_error};
 
-use crate::restart;
+use crate::restarting::restart_by;
 use clv_base::logs::LogRecord;
 use clv_base::names::TxId;
 use clv_base::parts::ShardList;
 use log_analysis::statements::a_restart_keeps_the_lists;
-use log_analysis::{Analysis, analyse};
+use log_analysis::{Analysis, LogFacts, analyse_by};
 use log_buffer::{FlushError, LogBuffer, flush_all};
 use log_gate::Gate;
 use ordered_store::Store;
@@ -69,14 +69,15 @@ fn begin<S: Store>(
     ensures pairs { IfOk result (λ r. r.pairs.items ≡ restored_pairs records.items (in_doubt_in shard records.items)) }
     ensures unended { IfOk result (λ r. r.unended.items ≡ unended_in records.items records.items) }
 {
+    let facts = LogFacts::of_log(alloc, &records)?;
     let Analysis {
         losers,
         in_doubt,
         pairs,
         unended,
-    } = analyse(alloc, &records, shard)?;
+    } = analyse_by(alloc, &facts, &records, shard)?;
     let doubtful = firsts(alloc, &in_doubt)?;
-    let buffer = restart(alloc, store, records, &losers, &doubtful, run, epoch)?;
+    let buffer = restart_by(alloc, store, facts, records, &losers, &doubtful, run, epoch)?;
     Ok(Recovered {
         buffer,
         in_doubt,

@@ -121,20 +121,21 @@ fn haunt<S: Store>(store: &mut S, doubtful: &TxSet, log: &[LogRecord]) -> Result
     haunt_all(store, doubtful, log)
 }
 
-/// Puts the records of a shard whose log is this into an empty store, as a restart leaves them: the values that the UPDATEs of the committed
+/// Puts the records of a shard whose log is this, and known, into an empty store, as a restart leaves them: the values that the UPDATEs of the committed
 /// and of those in doubt leave, in the log's order, and ghosts at the keys that those in doubt wrote and that have no value. An `Err` leaves
 /// the store in the middle of it. Besides the store it takes a list of what those write, which goes at the return.
 pub(crate) fn fill<S: Store>(
     alloc: Global,
     store: &mut S,
+    facts: &LogFacts,
     log: &[LogRecord],
     doubtful: &[TxId],
 ) -> Result<(), AllocError>
+    requires knows { Knows facts.now log.now }
     requires empty { S.records store.old ≡ [] }
     ensures ok { OnOk result ((shard : ℕ) → doubtful.now ≡ in_doubt shard log.now → S.records store.new ≡ records_after shard log.now) }
 {
-    let facts = LogFacts::of_log(alloc, log)?;
     let names = TxSet::of(alloc, doubtful)?;
-    fold(alloc, store, &facts, &names, log)?;
+    fold(alloc, store, facts, &names, log)?;
     haunt(store, &names, log)
 }

@@ -44,14 +44,14 @@ fn count_commits(log: &[LogRecord]) -> usize
 
 /// The transaction of a COMMIT is settled at its LSN, unless it was before. Takes no memory.
 fn note_commit(deps: &mut Deps, lsn: usize, found: &LogRecord)
-    requires { commits found.now ≡ true → 0 < deps.old.room }
+    requires { commits found.now ≡ true → 0 < deps.old.settled_room }
     ensures commits { (t : Tx) → tx_get t deps.new.commits ≡ first_of (tx_get t deps.old.commits) (place_if (is_commit_of t found.now) lsn) }
     ensures pairs { deps.new.pairs ≡ deps.old.pairs }
-    ensures room { deps.old.room ≤ deps.new.room + (if commits found.now then 1 else 0) }
+    ensures room { deps.old.settled_room ≤ deps.new.settled_room + (if commits found.now then 1 else 0) }
 {
     if let LogRecord::Commit { tx, .. } = found {
         if deps.settled_at(*tx).is_none() {
-            deps.settle(*tx, lsn as u64);
+            deps.settle_found(*tx, lsn as u64);
         }
     }
 }
@@ -59,7 +59,7 @@ fn note_commit(deps: &mut Deps, lsn: usize, found: &LogRecord)
 /// Each transaction with a COMMIT in the log is settled at its first one's LSN. Takes no memory.
 fn note_commits(deps: &mut Deps, log: &[LogRecord])
     requires none { (t : Tx) → tx_get t deps.old.commits ≡ None }
-    requires room { commits_in log.now ≤ deps.old.room }
+    requires room { commits_in log.now ≤ deps.old.settled_room }
     ensures settled { AreSettled deps.new.commits log.now }
     ensures pairs { deps.new.pairs ≡ deps.old.pairs }
 {
@@ -79,11 +79,9 @@ pub(crate) fn deps_of(
     ensures settled { IfOk result (λ d. AreSettled d.commits log.now) }
 {
     let mut deps = Deps::new(alloc)?;
-    let Some(room) = pairs.len().checked_add(count_commits(log)) else {
-        return Err(AllocError);
-    };
-    deps.reserve(room)?;
+    deps.reserve(pairs.len())?;
     add_pairs(&mut deps, pairs);
+    deps.reserve_settled(count_commits(log))?;
     note_commits(&mut deps, log);
     Ok(deps)
 }

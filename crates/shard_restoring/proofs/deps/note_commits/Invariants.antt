@@ -8,4 +8,4 @@ use Rattle.shard_restoring.proofs.deps.note_commits.Given as goal
 abbrev pub invariant-loop-lsn : goal.invariant-loop-lsn
 invariant-loop-lsn l =
     ((t : TxId) → first_of (tx_get t l.deps.commits) (place_from l.lsn (is_commit_of t) (drop l.lsn l.log)) ≡ commit_lsn l.log t)
-    × (l.deps.pairs ≡ l.initial.deps.pairs) × (commits_in (drop l.lsn l.log) ≤ l.deps.room)
+    × (l.deps.pairs ≡ l.initial.deps.pairs) × (commits_in (drop l.lsn l.log) ≤ l.deps.settled_room)

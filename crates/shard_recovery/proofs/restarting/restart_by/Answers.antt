@@ -6,7 +6,7 @@ use Rattle.clv_base.specs.Logs.{in_doubt}
 use Rattle.clv_base.specs.Restarts.{log_after_restart}
 use Rattle.shard_recovery.specs.Winning.{records_after}
 use Rattle.shard_recovery.proofs.Lasting.{restart_leaves}
-use Rattle.shard_recovery.proofs.restarting.restart.Goals as goal
+use Rattle.shard_recovery.proofs.restarting.restart_by.Goals as goal
 
 always : {X E : Type 0} (P : Type 0) (r : Result X E) → P → IfOk r (λ _. P)
 always P (Ok x) p = p
