@@ -1,5 +1,5 @@
 -- What the turn of a fetch and that of a restart add.
-use Rattle.std.proofs.Common.{◌≡◌, ◌∙◌, refl, sym, ap, subst, ℕ, ◌≤◌, ◌==◌, Bool, true, false, List, [], ◌∷◌, arith, Option, Result, Ok, Err}
+use Rattle.std.proofs.Common.{◌≡◌, refl, sym, ap, subst, ℕ, ◌≤◌, List, [], ◌∷◌, arith, Option, Result, Ok, Err}
 use Rattle.std.specs.List.{AllByRecursion}
 use Rattle.clv_base.specs.declared.logs.LogRecord.{LogRecord}
 use Rattle.clv_base.specs.declared.events.Event.TheVariants.{Restart}
@@ -7,7 +7,6 @@ use Rattle.clv_base.specs.declared.events.Outcome.TheVariants.{Up as IsUp}
 use Rattle.clv_base.specs.declared.events.Entry.{Entry}
 use Rattle.clv_base.specs.State.{Shard}
 use Rattle.clv_base.specs.Restarts.{log_after_restart}
-use Rattle.journal_laws.specs.Notes.{ends_holding}
 use Rattle.turn_lock.specs.Journals.{entries_by}
 use Rattle.machine_calls.specs.Restored.{revives}
 use Rattle.machine_laws.specs.declared.notes.Note.{Note}
@@ -21,7 +20,7 @@ use Rattle.cluster_closing.specs.EndHeld.{FetchTold}
 use Rattle.cluster_closing.specs.declared.error.RestartError.{RestartError}
 use Rattle.cluster_closing.specs.declared.error.RestartError.TheVariants.{Failed, NotLog, Worn, Memory}
 use Rattle.cluster_turns.specs.Births.{IsBornBy}
-use Rattle.cluster_closing.specs.Revived.{Revives, Rests, ReviveTold, clock_at}
+use Rattle.cluster_closing.specs.Revived.{ReviveTold, clock_at}
 use Rattle.cluster_turns.proofs.Laws.{by_one}
 
 -- the notes are the walker's, they give no gate, and none is an operation's with a birth past the clock

@@ -1,5 +1,5 @@
 -- What the turn of a restart makes of a value in a lock.
-use Rattle.std.proofs.Common.{◌≡◌, ℕ, ◌+◌, ◌≤◌, ◌^◌, Bool, true, false, List, [], ◌∷◌, ◌++◌, length, length-append, nat_lt, sym, ap, refl, ◌∙◌, subst, arith, append-nil, Option, Some, None, Result, Ok, Err}
+use Rattle.std.proofs.Common.{◌≡◌, ℕ, ◌+◌, ◌≤◌, ◌^◌, Bool, true, false, List, [], ◌∷◌, ◌++◌, length, length-append, nat_lt, sym, ap, refl, ◌∙◌, subst, arith, Option, Some, None, Result, Ok, Err}
 use Rattle.std.specs.Prelude.{is_some}
 use Rattle.std.proofs.lemmas.Bool.{both_ways}
 use Rattle.clv_base.specs.declared.logs.LogRecord.{LogRecord}
@@ -8,7 +8,7 @@ use Rattle.clv_base.specs.declared.events.Outcome.{Outcome}
 use Rattle.clv_base.specs.declared.events.Outcome.TheVariants.{Up}
 use Rattle.clv_base.specs.declared.events.Entry.{Entry}
 use Rattle.clv_base.specs.State.{Shard}
-use Rattle.clv_base.specs.Events.{CallAnswer, Does, Quiet, Enters, stamped, next_stamp}
+use Rattle.clv_base.specs.Events.{Does, Quiet, Enters, stamped, next_stamp}
 use Rattle.clv_base.specs.Restarts.{log_after_restart, misfit, next_epoch, revived}
 use Rattle.machine_calls.specs.declared.machine.StepError.{StepError}
 use Rattle.machine_calls.specs.declared.machine.StepError.TheVariants.{Memory as NoMemory, Worn as WornAt}
@@ -37,9 +37,6 @@ outcome_is stamp w true o p t u h = cc
 outcome_is stamp w false o p t u h = absurd cc
 
 module _ (s t : Shard) (clock w epoch : ℕ) (log : List LogRecord) where
-  answer : CallAnswer
-  answer = revives s clock w epoch log
-
   pub made_up : (o : Outcome) (made : Option Entry) → Tells (revives s clock w epoch log) s clock w Restart (Ok o) t made → (x : Entry) × IsMade (revives s clock w epoch log) s clock w Restart (Up epoch) t x
   made_up o None h = absurd (no_quiet (next_stamp s clock Restart) w (nat_lt (next_stamp s clock Restart) (2 ^ 48)) (Up epoch) o (revived s epoch log) h.0)
   made_up o (Some x) h =
@@ -79,14 +76,6 @@ module _ {G : Type 0} (shut : G → Bool) (faults whose : G → ℕ) (logs : G �
   pub gate_away : (o : Origin) (marks : List Mark) (capacity : ℕ) (s : Shard) (gate : Option G) (w : ℕ) → IsSound shut faults whose logs o marks capacity s gate → s.is_up ≡ false → holder_of (notes_of s.journal marks) ≡ Some w → gate ≡ None
   gate_away o marks capacity s gate w l down held = away s (holder_of (notes_of s.journal marks)) gate w down held l.gated
 
-  -- more room, and the same state and gate
-  pub still_sound : (o : Origin) (marks marks' : List Mark) (capacity capacity' : ℕ) (s t : Shard) (gate gate' : Option G) (w : ℕ) → IsSound shut faults whose logs o marks capacity s gate → holder_of (notes_of s.journal marks) ≡ Some w
-      → marks' ≡ marks → t ≡ s → gate' ≡ gate → IsSound shut faults whose logs o marks' capacity' t gate'
-  still_sound o marks marks' capacity capacity' s t gate gate' w l held same state home =
-      let k : IsSound shut faults whose logs o marks capacity' s gate = record { marked = l.marked; legal = l.legal; gated = l.gated; room = λ free. absurd (let e : Some w ≡ None = sym held ∙ free in cc) } in
-      subst (λ y. IsSound shut faults whose logs o marks' capacity' t y) (sym home)
-      (subst (λ u. IsSound shut faults whose logs o marks' capacity' u gate) (sym state) (subst (λ ms. IsSound shut faults whose logs o ms capacity' s gate) (sym same) k))
-
 module _ {G : Type 0} (shut : G → Bool) (faults whose : G → ℕ) (logs : G → Option (List LogRecord) → Type 0) where
   -- the shard is up again
   pub up_again : (o : Origin) (marks : List Mark) (capacity more : ℕ) (s t : Shard) (clock w epoch clock' : ℕ) (found log : List LogRecord) (out : Outcome) (made : Option Entry) (m : Mark) (g : G) → IsSound shut faults whose logs o marks capacity s None
@@ -113,6 +102,3 @@ module _ {G : Type 0} (shut : G → Bool) (faults whose : G → ℕ) (logs : G �
           k.1 ∙ ap (λ rs. notes_of s.journal marks ++ Made x.0 rs ∷ []) is,
         ),
       )
-
-pub still_noted : (marks marks' : List Mark) (s t : Shard) → marks' ≡ marks → t ≡ s → notes_of t.journal marks' ≡ notes_of s.journal marks ++ []
-still_noted marks marks' s t same state = ap (λ u. notes_of u.journal marks') state ∙ ap (notes_of s.journal) same ∙ sym (append-nil (notes_of s.journal marks))

@@ -1,14 +1,10 @@
 -- What comes back, shard by shard.
-use Rattle.std.proofs.Common.{◌≡◌, ◌∙◌, sym, ap, subst, refl, ℕ, zero, suc, ◌+◌, ◌<◌, ◌≤◌, Bool, true, false, List, [], ◌∷◌, ◌++◌, map, length, get_or, arith, Option, Some, None, Vec, Global}
+use Rattle.std.proofs.Common.{◌≡◌, ◌∙◌, sym, ap, subst, refl, ℕ, suc, ◌<◌, Bool, true, false, List, [], ◌∷◌, map, length, get_or, arith, Option, Some, None, Vec, Global}
 use Rattle.std.proofs.lemmas.Bool.{both_ways}
-use Rattle.std.proofs.lemmas.List.{get_or_default, get_or_append_left, get_or_at}
-use mathlib.Core.Logic.{dite}
-use native.Mathlib.Decide.{ℕ_discrete}
+use Rattle.std.proofs.lemmas.List.{get_or_default}
 use Rattle.clv_base.specs.declared.logs.LogRecord.{LogRecord}
 use Rattle.clv_base.specs.declared.events.Entry.{Entry}
-use Rattle.clv_base.specs.LogRules.{log_of}
 use Rattle.clv_base.specs.State.{Shard}
-use Rattle.clv_base.specs.Journals.{MayLeave}
 use Rattle.io_model.specs.Story.{Story}
 use Rattle.io_model.specs.Disk.{Adds, Rose}
 use Rattle.log_gate.specs.View.{logs_told}
@@ -23,19 +19,10 @@ use Rattle.cluster_turns.specs.Walkers.{IsWalker}
 use Rattle.cluster_closing.specs.Landed.{HasLanded}
 use Rattle.cluster_closing.specs.declared.fetching.Fetched.{Fetched}
 use Rattle.cluster_closing.specs.Ends.{shard_at, IsNotAmong, HasDisk, HaveDisks, EndsWith, its_gate, a_disk, HasNoGate}
-use Rattle.cluster_closing.specs.Closing.{lists, CountsBack, IsLeft, IsBack, Returned, CameFrom}
+use Rattle.cluster_closing.specs.Closing.{lists, CountsBack, IsBack, Returned, CameFrom}
 use Rattle.law_base.proofs.Lists.{some_inside as inside, elem_at as some_elem}
-use Rattle.law_base.proofs.Options.{value_or as the}
 
 -- ---- one disk
-
-pub came_from : (counts whose : ℕ) (logs : Option (List LogRecord) → Type 0) (f f1 count : ℕ) (o : Bool) (st st0 : Option Story) → Adds f count f1 → count ≡ counts → o ≡ false → st ≡ st0 → ((log : Option (List LogRecord)) → logs_told st0 whose log → logs log)
-    → CameFrom counts whose logs f f1 o st
-came_from counts whose logs f f1 count o st st0 adds same is_in story told = record {
-  adds = subst (λ (n : ℕ). Adds f n f1) same adds;
-  is_in = is_in;
-  logs_are = λ log has. told log (subst (λ (x : Option Story). logs_told x whose log) story has);
-}
 
 pub from_before : (counts whose : ℕ) (logs : Option (List LogRecord) → Type 0) (f f1 f2 : ℕ) (o : Bool) (st : Option Story) → CameFrom counts whose logs f1 f2 o st → f1 ≡ f → CameFrom counts whose logs f f2 o st
 from_before counts whose logs f f1 f2 o st b same = subst (λ (m : ℕ). CameFrom counts whose logs m f2 o st) same b
@@ -120,10 +107,3 @@ lists_are [] [] f len same = refl
 lists_are [] (y ∷ ys) f len same = absurd (omega arith)
 lists_are (x ∷ xs) [] f len same = absurd (omega arith)
 lists_are (x ∷ xs) (y ∷ ys) f len same = ap (λ l. x.items ∷ l) (lists_are xs ys f (omega arith) (λ n d e l. same (suc n) d e (omega arith))) ∙ ap (λ l. l ∷ map f ys) (same 0 x y (omega arith))
-
--- the logs found, one of each shard
-module _ {X : Type 0} (P : ℕ → X → Type 0) where
-  pub pushed_each : (xs : List X) (x : X) (n : ℕ) → length xs ≡ n → ((j : ℕ) (e : X) → j < n → P j (get_or xs j e)) → P n x → (j : ℕ) (e : X) → j < n + 1 → P j (get_or (xs ++ x ∷ []) j e)
-  pushed_each xs x n len old new j e l = dite (ℕ_discrete j n)
-      (λ same. subst (λ (y : X). P j y) (sym (ap (λ (i : ℕ). get_or (xs ++ x ∷ []) i e) same ∙ get_or_at xs x [] e n len)) (subst (λ (i : ℕ). P i x) (sym same) new))
-      (λ other. let low : j < n = omega arith in subst (λ (y : X). P j y) (sym (get_or_append_left xs (x ∷ []) e j (omega arith))) (old j e low))

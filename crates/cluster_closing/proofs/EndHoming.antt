@@ -10,7 +10,7 @@ use Rattle.clv_base.specs.declared.events.Event.TheVariants.{Op, Request, Look, 
 use Rattle.clv_base.specs.declared.events.Outcome.{Outcome}
 use Rattle.clv_base.specs.declared.events.Outcome.TheVariants.{Durable, Failed}
 use Rattle.clv_base.specs.State.{Shard}
-use Rattle.clv_base.specs.Events.{Does, happen, with_durable, put_down}
+use Rattle.clv_base.specs.Events.{Does, happen, with_durable}
 use Rattle.clv_base.specs.Journals.{after_entry, flush_state, FlushMay}
 use Rattle.clv_base.specs.Machines.{BecomesBy}
 use Rattle.turn_lock.specs.Journals.{entries_by}

@@ -1,6 +1,5 @@
 -- Lists that are filled or changed place by place.
-use Rattle.std.proofs.Common.{◌≡◌, ℕ, zero, suc, ◌+◌, ◌<◌, List, [], ◌∷◌, ◌++◌, length, get_or, set, sym, ap, ◌∙◌, subst, arith, None, get_or-set_same, get_or-set_other}
-use Rattle.std.proofs.lemmas.List.{get_or_append_left, get_or_at}
+use Rattle.std.proofs.Common.{◌≡◌, ℕ, ◌+◌, ◌<◌, List, [], length, get_or, set, sym, ap, ◌∙◌, subst, arith, None, get_or-set_same, get_or-set_other}
 use mathlib.Core.Logic.{dite}
 use Rattle.turn_lock.specs.Journals.{StartsWith, entries_by}
 use Rattle.machine_laws.specs.declared.notes.Note.{Note}
@@ -11,11 +10,6 @@ use Rattle.cluster_closing.specs.Ending.{ClosedAt, seen_of, own_notes, origin_of
 use native.Mathlib.Decide.{ℕ_discrete}
 
 module _ {X : Type 0} (P : ℕ → X → Type 0) where
-  pub pushed_each : (xs : List X) (x : X) (n : ℕ) → length xs ≡ n → ((j : ℕ) (e : X) → j < n → P j (get_or xs j e)) → P n x → (j : ℕ) (e : X) → j < n + 1 → P j (get_or (xs ++ x ∷ []) j e)
-  pushed_each xs x n len old new j e l = dite (ℕ_discrete j n)
-      (λ same. subst (λ (y : X). P j y) (sym (ap (λ (i : ℕ). get_or (xs ++ x ∷ []) i e) same ∙ get_or_at xs x [] e n len)) (subst (λ (i : ℕ). P i x) (sym same) new))
-      (λ other. let low : j < n = omega arith in subst (λ (y : X). P j y) (sym (get_or_append_left xs (x ∷ []) e j (omega arith))) (old j e low))
-
   pub set_each : (xs : List X) (x : X) (n : ℕ) → n < length xs → ((j : ℕ) (e : X) → j < n → P j (get_or xs j e)) → P n x → (j : ℕ) (e : X) → j < n + 1 → P j (get_or (set xs n x) j e)
   set_each xs x n len old new j e l = dite (ℕ_discrete j n)
       (λ same. subst (λ (y : X). P j y) (sym (ap (λ (i : ℕ). get_or (set xs n x) i e) same ∙ get_or-set_same xs n x e len)) (subst (λ (i : ℕ). P i x) (sym same) new))

@@ -1,15 +1,13 @@
 -- Who has a disk, through the turns of a walker and of others.
-use Rattle.std.proofs.Common.{◌≡◌, ◌≢◌, ◌∙◌, refl, sym, ap, subst, ℕ, ◌<◌, ◌==◌, Bool, true, false, cond, List, [], ◌∷◌, ◌++◌, map, length, arith, Option, Some, None, Result, Ok, Err}
+use Rattle.std.proofs.Common.{◌≡◌, ◌≢◌, ◌∙◌, refl, sym, ap, subst, ℕ, ◌==◌, Bool, true, false, cond, List, [], ◌∷◌, ◌++◌, map, Option, Some, None, Result, Ok, Err}
 use Rattle.std.proofs.lemmas.Bool.{both_ways, eq-eqb}
 use Rattle.std.proofs.lemmas.List.{map-append}
-use Rattle.clv_base.specs.declared.logs.LogRecord.{LogRecord}
 use Rattle.clv_base.specs.declared.events.Event.{Event}
 use Rattle.clv_base.specs.declared.events.Outcome.{Outcome}
 use Rattle.clv_base.specs.declared.events.Entry.{Entry}
 use Rattle.clv_base.specs.State.{Shard}
 use Rattle.journal_laws.specs.Notes.{Note as Told, holder, ends_holding}
 use Rattle.turn_lock.specs.Journals.{entries_by}
-use Rattle.turn_lock.specs.declared.pass.TurnLock.{TurnLock}
 use Rattle.turn_lock.specs.declared.pass.Pass.{Pass}
 use Rattle.turn_lock.specs.Passes.{seen, own}
 use Rattle.machine_calls.specs.declared.machine.StepError.{StepError}
@@ -20,7 +18,7 @@ use Rattle.machine_laws.specs.declared.notes.Origin.{Origin}
 use Rattle.machine_laws.specs.Notes.{noter, told, plain}
 use Rattle.machine_laws.specs.Homes.{holder_of}
 use Rattle.cluster_turns.specs.Turns.{Turned, EventTold, SettledTold}
-use Rattle.cluster_turns.specs.Walkers.{Walked, Looked, AreNewPasses}
+use Rattle.cluster_turns.specs.Walkers.{Walked, Looked}
 use Rattle.cluster_turns.specs.declared.flushing.Flushed.{Flushed}
 use Rattle.cluster_turns.specs.declared.flushing.FlushError.{FlushError}
 use Rattle.cluster_turns.specs.Flights.{LandTold}
@@ -30,12 +28,9 @@ use Rattle.cluster_turns.specs.declared.carrying.CarryError.{CarryError}
 use Rattle.cluster_turns.specs.Carried.{BringTold, is_lost, is_brought, CarryTold, none_sent, one_sent}
 use Rattle.cluster_turns.specs.declared.tending.DrainError.{DrainError}
 use Rattle.cluster_turns.specs.Rounds.{Rounds, no_turn as no_round, flushes, carries, reminds, looks, Refused, no_flush, no_message, no_reminder, DrainTold}
-use Rattle.cluster_closing.specs.Landed.{EachPass}
 use Rattle.machine_laws.proofs.Laws.{other_first as first_other}
 use Rattle.cluster_closing.proofs.Landing.{walked_each, new_pass, looked_each}
-use Rattle.cluster_closing.specs.declared.fetching.FetchError.{FetchError}
 use Rattle.cluster_closing.specs.declared.fetching.FetchError.TheVariants.{Up, Away}
-use Rattle.cluster_closing.specs.EndHeld.{FetchTold}
 use Rattle.cluster_turns.specs.CallTurns.{Turn, Took, no_turn, event_turn, flush_turns, horizon_look}
 use Rattle.cluster_closing.specs.Held.{AreMade, HasNoDisk, HoldsNoneBut, FetchedNone}
 use Rattle.cluster_closing.specs.Laws.{NewWalkersHoldNone, TurnsHoldNone, DrainsHoldNone, LooksHoldNone, NewWalkersFetchedNone, TurnsFetchNone, DrainsFetchNone, FetchesHoldOne, RefusedFetchesHoldNone}

@@ -1,6 +1,6 @@
 -- Who has a disk at the end.
-use Rattle.std.proofs.Common.{◌≡◌, ◌≢◌, ℕ, zero, suc, ◌<◌, Bool, true, false, List, [], ◌∷◌, ◌++◌, length, get_or, sym, ap, refl, ◌∙◌, subst, arith, inl, inr, ⊎_elim, Option, Some, None}
-use Rattle.std.specs.Prelude.{◌⊎◌, is_some}
+use Rattle.std.proofs.Common.{◌≡◌, ◌≢◌, ℕ, zero, suc, ◌<◌, Bool, true, false, List, [], ◌∷◌, length, get_or, sym, ap, refl, ◌∙◌, subst, arith, inl, inr, ⊎_elim, Option, Some, None}
+use Rattle.std.specs.Prelude.{◌⊎◌}
 use Rattle.std.proofs.lemmas.Bool.{both_ways}
 use Rattle.std.proofs.lemmas.List.{get_or_default}
 use mathlib.Core.Logic.{dite}
@@ -23,9 +23,7 @@ use Rattle.cluster_closing.specs.Ending.{ClosedAt, seen_of, own_notes, origin_of
 use Rattle.cluster_closing.specs.Home.{IsThere}
 use Rattle.cluster_closing.proofs.EndHoming.{gates_come_home, Has, find, first_of, rest_none}
 use Rattle.cluster_closing.specs.declared.fetching.Fetched.{Fetched}
-use Rattle.cluster_closing.specs.EndHeld.{Holds}
-use Rattle.cluster_closing.specs.Held.{HoldsNone}
-use Rattle.cluster_closing.specs.Ends.{shard_at, IsAmong, IsNotAmong, HasDisk, HaveDisks, EndsWith, its_gate, a_disk, HasNoGate, DisksAreFound, NoDisksAreHeld, FetchedAreHeld}
+use Rattle.cluster_closing.specs.Ends.{shard_at, IsAmong, IsNotAmong, HasDisk, EndsWith, its_gate, a_disk, HasNoGate, DisksAreFound, NoDisksAreHeld, FetchedAreHeld}
 use Rattle.cluster_closing.proofs.Holding.{holder_split, others_hold}
 use Rattle.cluster_closing.proofs.Staying.{some_origin}
 

@@ -1,17 +1,12 @@
 -- What passes know of births, through a fetch, a restart and a look.
-use Rattle.std.proofs.Common.{◌≡◌, ◌∙◌, refl, sym, ap, subst, ℕ, ◌≤◌, List, ◌∷◌, ◌++◌, append-nil, arith, Option, Result}
+use Rattle.std.proofs.Common.{◌≡◌, ◌∙◌, sym, ap, subst, ℕ, List, ◌++◌, Option}
 use Rattle.std.specs.List.{AllByRecursion}
-use Rattle.clv_base.specs.declared.events.Event.{Event}
-use Rattle.clv_base.specs.declared.events.Event.TheVariants.{Op, Request, Look, Drop, Send, Deliver, Remind, FlushOut, FlushIn, Stop, Restart}
-use Rattle.clv_base.specs.declared.events.Entry.{Entry}
 use Rattle.clv_base.specs.State.{Shard}
-use Rattle.law_base.proofs.Lists.{all_mono, all_append}
-use Rattle.turn_lock.specs.Journals.{entries_by}
+use Rattle.law_base.proofs.Lists.{all_append}
 use Rattle.turn_lock.specs.declared.pass.Pass.{Pass}
-use Rattle.turn_lock.specs.Passes.{seen, own, pass_origin}
+use Rattle.turn_lock.specs.Passes.{seen, own}
 use Rattle.machine_laws.specs.declared.notes.Note.{Note}
 use Rattle.machine_laws.specs.declared.notes.Origin.{Origin}
-use Rattle.machine_laws.specs.Notes.{noter}
 use Rattle.machine_laws.specs.Homes.{entries_in, state_of, IsLegal}
 use Rattle.machine_laws.proofs.Laws.{entries_append}
 use Rattle.cluster_turns.specs.Turns.{Turned}

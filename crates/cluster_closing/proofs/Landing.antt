@@ -1,6 +1,5 @@
 -- Who has a gate, through the turns of a walker and of others.
 use Rattle.std.proofs.Common.{◌≡◌, ◌≢◌, ℕ, Bool, true, false, cond, ◌==◌, List, [], ◌∷◌, ◌++◌, map, length, get_or, set, sym, ap, refl, ◌∙◌, subst, append-nil, arith, Option, Some, None, Result, Ok, Err, get_or-set_same, get_or-set_other}
-use Rattle.std.specs.Prelude.{slice_index_or}
 use Rattle.std.proofs.lemmas.Bool.{both_ways}
 use mathlib.Core.Logic.{dite}
 use native.Mathlib.Decide.{ℕ_discrete}

@@ -1,5 +1,5 @@
 -- The shard whose disk a walker has, and what was recovered of it.
-use Rattle.std.proofs.Common.{◌≡◌, ℕ, suc, ◌≤◌, ◌<◌, Bool, List, ◌∷◌, length, get_or, sym, ap, ◌∙◌, subst, arith, Option, Some, None}
+use Rattle.std.proofs.Common.{◌≡◌, ℕ, suc, ◌≤◌, ◌<◌, Bool, List, length, get_or, sym, ap, ◌∙◌, subst, arith, Option, Some, None}
 use Rattle.clv_base.specs.declared.logs.LogRecord.{LogRecord}
 use Rattle.clv_base.specs.Needs.{Records}
 use Rattle.clv_base.specs.State.{Shard}

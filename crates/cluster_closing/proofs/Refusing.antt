@@ -1,21 +1,17 @@
 -- Why a disk is refused.
-use Rattle.std.proofs.Common.{◌≡◌, ℕ, suc, List, refl, sym, ◌∙◌, ap, subst, Option, Some, None, Err}
+use Rattle.std.proofs.Common.{◌≡◌, ℕ, suc, List, refl, sym, subst, Option, Some, Err}
 use Rattle.std.specs.Prelude.{IfSome}
 use Rattle.clv_base.specs.declared.logs.LogRecord.{LogRecord}
 use Rattle.clv_base.specs.Restarts.{greatest_epoch}
 use Rattle.io_model.specs.Story.{Story, reads}
-use Rattle.cluster_opening.specs.declared.error.At.TheVariants.{Byte, Record}
 use Rattle.shard_recovery.specs.declared.recovering.RecoverError.{RecoverError}
 use Rattle.shard_recovery.specs.declared.recovering.RecoverError.TheVariants.{Failed as DiskFailed, Memory as NoMemory}
 use Rattle.log_gate.specs.Image.{checked_log}
-use Rattle.log_gate.specs.Opening.{CountsOpening}
 use Rattle.log_gate.specs.View.{Only, logs_told}
 use Rattle.log_gate.specs.declared.error.OpenLogError.{OpenLogError}
 use Rattle.log_gate.specs.declared.error.OpenLogError.TheVariants.{NotLog as NoLog, Failed as ReadFailed, Memory as NoneToRead}
-use Rattle.shard_recovery.specs.Recovering.{CountsRecovery, IsBegun}
-use Rattle.cluster_closing.specs.declared.error.RestartError.{RestartError}
-use Rattle.cluster_closing.specs.declared.error.RestartError.TheVariants.{Failed, NotLog, Worn, Memory}
-use Rattle.cluster_closing.specs.Judging.{Bars, RefusesDisk, CountsRestart, opening_error, recovery_error, IsRecoveryError}
+use Rattle.shard_recovery.specs.Recovering.{IsBegun}
+use Rattle.cluster_closing.specs.Judging.{RefusesDisk, opening_error}
 use Rattle.cluster_closing.specs.Left.{WasRead, HasBegun, IsLeftBy, begun}
 use Rattle.cluster_closing.proofs.ReviveLeaving.{at_start, in_between, under}
 
@@ -23,40 +19,6 @@ pub refused_open : (splits agreed : List ℕ) (n run own : ℕ) (story : Option 
 refused_open splits agreed n run own story (NoLog offset) same h = subst (λ (z : List ℕ). IfSome story (λ s. checked_log n (Some z) (reads s) ≡ Err offset)) same (h offset refl)
 refused_open splits agreed n run own story ReadFailed same h = record {}
 refused_open splits agreed n run own story NoneToRead same h = record {}
-
-pub refused_log : (splits : List ℕ) (n run own : ℕ) (story : Option Story) (log : List LogRecord) (e : RestartError) → WasRead story n log → Bars n run own log e → RefusesDisk splits n run own story e
-refused_log splits n run own story log Failed read h = absurd h
-refused_log splits n run own story log (NotLog (Byte offset)) read h = absurd h
-refused_log splits n run own story log (NotLog (Record lsn)) read h = (log, read, h)
-refused_log splits n run own story log (Worn at) read h = absurd h
-refused_log splits n run own story log Memory read h = h
-
-pub refused_recovery : (splits : List ℕ) (n run own : ℕ) (story : Option Story) (e : RestartError) → IsRecoveryError e → RefusesDisk splits n run own story e
-refused_recovery splits n run own story Failed h = h
-refused_recovery splits n run own story (NotLog at) h = absurd h
-refused_recovery splits n run own story (Worn at) h = absurd h
-refused_recovery splits n run own story Memory h = h
-
--- ---- the counts
-
-pub counts_open : (before now : ℕ) (e : OpenLogError) → CountsOpening {A = Unit {0}} before now (Err e) → CountsRestart before now (opening_error e)
-counts_open before now (NoLog offset) h = h
-counts_open before now ReadFailed h = h
-counts_open before now NoneToRead h = h
-
-pub counts_bars : (n run own : ℕ) (log : List LogRecord) (before now : ℕ) (e : RestartError) → Bars n run own log e → now ≡ before → CountsRestart before now e
-counts_bars n run own log before now Failed h same = absurd h
-counts_bars n run own log before now (NotLog at) h same = same
-counts_bars n run own log before now (Worn at) h same = same
-counts_bars n run own log before now Memory h same = same
-
-pub counts_recovery : (before now : ℕ) (e : RecoverError) → CountsRecovery {A = Unit {0}} before now (Err e) → CountsRestart before now (recovery_error e)
-counts_recovery before now DiskFailed h = h
-counts_recovery before now NoMemory h = h
-
-pub is_recovery : (e : RecoverError) → IsRecoveryError (recovery_error e)
-is_recovery DiskFailed = record {}
-is_recovery NoMemory = record {}
 
 -- ---- what is left
 

@@ -1,19 +1,19 @@
 -- A shard of which no walker ever took the disk.
-use Rattle.std.proofs.Common.{◌≡◌, ◌≢◌, refl, sym, ap, subst, ℕ, ◌<◌, ◌==◌, Bool, true, false, not, cond, ◌&&◌, List, [], ◌∷◌, map, length, get_or, inl, inr, ⊎_elim, Option, Some, None}
+use Rattle.std.proofs.Common.{◌≡◌, refl, sym, subst, ℕ, ◌<◌, ◌==◌, Bool, true, false, not, cond, List, [], ◌∷◌, map, length, get_or, ⊎_elim, Option, Some, None}
 use Rattle.std.specs.Prelude.{◌⊎◌}
-use Rattle.std.proofs.lemmas.Bool.{both_ways, eq-eqb, and_from}
+use Rattle.std.proofs.lemmas.Bool.{eq-eqb, and_from}
 use Rattle.clv_base.specs.declared.events.Event.{Event}
 use Rattle.clv_base.specs.declared.events.Event.TheVariants.{Op, Request, Look, Drop, Send, Deliver, Remind, FlushOut, FlushIn, Stop, Restart}
 use Rattle.clv_base.specs.State.{Shard}
 use Rattle.clv_base.specs.Journals.{after_entry}
-use Rattle.journal_laws.specs.Notes.{Note as Told, made, fetched, MayNotes, RestartsByHolder, ends_holding, entries_of_notes}
+use Rattle.journal_laws.specs.Notes.{MayNotes, RestartsByHolder, ends_holding, entries_of_notes}
 use Rattle.turn_lock.specs.Journals.{entries_by}
-use Rattle.turn_lock.specs.Passes.{seen, own}
+use Rattle.turn_lock.specs.Passes.{seen}
 use Rattle.machine_laws.specs.declared.notes.Note.{Note}
 use Rattle.machine_laws.specs.declared.notes.Note.TheVariants.{Made, Fetched}
 use Rattle.machine_laws.specs.declared.notes.Origin.{Origin}
 use Rattle.machine_laws.specs.Notes.{noter, told}
-use Rattle.machine_laws.specs.Homes.{start, IsLegal}
+use Rattle.machine_laws.specs.Homes.{start}
 use Rattle.cluster_turns.specs.declared.shards.Walker.{Walker}
 use Rattle.cluster_closing.specs.Ending.{ClosedAt, HasPassAt, own_notes}
 use Rattle.cluster_closing.proofs.EndHoming.{Has, find, first_of}

@@ -1,16 +1,9 @@
 -- Who has the disk after a restart.
-use Rattle.std.proofs.Common.{◌≡◌, ◌≢◌, ◌∙◌, refl, sym, ap, subst, ℕ, true, cond, List, [], ◌∷◌, map, Option, Some, None, Result, Ok, Err}
-use Rattle.std.proofs.lemmas.Bool.{both_ways}
-use mathlib.Core.Logic.{dite}
-use native.Mathlib.Decide.{ℕ_discrete}
-use Rattle.clv_base.specs.declared.events.Event.TheVariants.{Restart}
+use Rattle.std.proofs.Common.{◌≡◌, ◌≢◌, ◌∙◌, sym, ap, subst, ℕ, cond, [], ◌∷◌, Some, None, Ok, Err}
 use Rattle.clv_base.specs.Restarts.{log_after_restart}
-use Rattle.journal_laws.specs.Notes.{holder, ends_holding}
-use Rattle.turn_lock.specs.declared.pass.Pass.{Pass}
+use Rattle.journal_laws.specs.Notes.{ends_holding}
 use Rattle.turn_lock.specs.Passes.{seen}
-use Rattle.machine_laws.specs.declared.notes.Note.{Note}
 use Rattle.machine_laws.specs.declared.notes.Note.TheVariants.{Made}
-use Rattle.machine_laws.specs.declared.notes.Origin.{Origin}
 use Rattle.machine_laws.specs.Notes.{told}
 use Rattle.machine_laws.specs.Homes.{holder_of}
 use Rattle.cluster_closing.proofs.Landing.{walked_each}

@@ -1,5 +1,5 @@
 -- Gates through a fetch, a restart and a look.
-use Rattle.std.proofs.Common.{◌≡◌, ◌∙◌, ap, ℕ, Bool, List, Option, None, Result}
+use Rattle.std.proofs.Common.{◌∙◌, ap, ℕ, List, Option, None}
 use Rattle.clv_base.specs.State.{Shard}
 use Rattle.turn_lock.specs.declared.pass.Pass.{Pass}
 use Rattle.machine_laws.specs.declared.notes.Note.{Note}

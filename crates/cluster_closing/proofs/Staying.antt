@@ -1,5 +1,5 @@
 -- A disk that a walker has, through its turns.
-use Rattle.std.proofs.Common.{◌≡◌, ◌∙◌, refl, sym, ap, subst, ℕ, Bool, true, false, List, [], ◌∷◌, ◌++◌, map, append-nil, get_or, set, Option, Some, None, Result, get_or-set_same, get_or-set_other}
+use Rattle.std.proofs.Common.{◌≡◌, ◌∙◌, refl, sym, ap, subst, ℕ, Bool, false, List, [], ◌++◌, map, append-nil, get_or, set, Option, Some, None, Result, get_or-set_same, get_or-set_other}
 use Rattle.std.proofs.lemmas.Bool.{both_ways}
 use mathlib.Core.Logic.{dite}
 use native.Mathlib.Decide.{ℕ_discrete}
@@ -7,7 +7,7 @@ use Rattle.clv_base.specs.declared.events.Event.{Event}
 use Rattle.clv_base.specs.declared.events.Outcome.{Outcome}
 use Rattle.clv_base.specs.declared.events.Entry.{Entry}
 use Rattle.clv_base.specs.State.{Shard}
-use Rattle.clv_base.specs.Events.{step, land}
+use Rattle.clv_base.specs.Events.{step}
 use Rattle.turn_lock.specs.declared.pass.Pass.{Pass}
 use Rattle.turn_lock.specs.Passes.{seen}
 use Rattle.machine_calls.specs.declared.machine.StepError.{StepError}

@@ -1,9 +1,9 @@
 -- Disks that come back.
-use Rattle.std.proofs.Common.{◌≡◌, ℕ, zero, suc, ◌+◌, ◌<◌, ◌≤◌, List, [], ◌∷◌, length, get_or, sym, ap, ◌∙◌, subst, arith, Option, Some, None, Vec, Global, Bool, false, refl, MatchOption}
+use Rattle.std.proofs.Common.{◌≡◌, ℕ, ◌<◌, List, [], length, get_or, sym, ◌∙◌, subst, Option, Some, None, Vec, Global, Bool, false, MatchOption}
 use Rattle.clv_base.specs.declared.logs.LogRecord.{LogRecord}
 use Rattle.clv_base.specs.LogRules.{log_of}
 use Rattle.io_model.specs.Story.{Story}
-use Rattle.io_model.specs.Disk.{Adds, Rose}
+use Rattle.io_model.specs.Disk.{Adds}
 use Rattle.turn_lock.specs.declared.pass.TurnLock.{TurnLock}
 use Rattle.turn_lock.specs.declared.pass.Pass.{Pass}
 use Rattle.machine_laws.specs.declared.notes.Note.{Note}

@@ -1,8 +1,6 @@
 -- The passes of locks, taken one of each at a time.
-use Rattle.std.proofs.Common.{◌≡◌, ℕ, ◌+◌, ◌<◌, List, [], ◌∷◌, ◌++◌, length, get_or, set, sym, ap, ◌∙◌, subst, arith, get_or-set_same, get_or-set_other, Option, Some, Vec, Global}
-use Rattle.std.proofs.lemmas.List.{get_or_append_left, get_or_at, get_or_default}
-use mathlib.Core.Logic.{dite}
-use native.Mathlib.Decide.{ℕ_discrete}
+use Rattle.std.proofs.Common.{◌≡◌, ℕ, ◌<◌, List, [], length, get_or, ◌∙◌, subst, arith, Option, Some, Vec, Global}
+use Rattle.std.proofs.lemmas.List.{get_or_default}
 use Rattle.clv_base.specs.declared.logs.LogRecord.{LogRecord}
 use Rattle.clv_base.specs.LogRules.{log_of}
 use Rattle.clv_base.specs.Restarts.{run_after}
@@ -15,17 +13,6 @@ use Rattle.cluster_turns.specs.Walkers.{AreNewPasses}
 use Rattle.cluster_opening.specs.AllOpened.{IsOpenedAt}
 use Rattle.law_base.proofs.Lists.{elem_at as some_elem}
 use Rattle.law_base.proofs.Options.{value_or as the}
-
-module _ {X : Type 0} (P : ℕ → X → Type 0) where
-  pub pushed_each : (xs : List X) (x : X) (n : ℕ) → length xs ≡ n → ((j : ℕ) (e : X) → j < n → P j (get_or xs j e)) → P n x → (j : ℕ) (e : X) → j < n + 1 → P j (get_or (xs ++ x ∷ []) j e)
-  pushed_each xs x n len old new j e l = dite (ℕ_discrete j n)
-      (λ same. subst (λ (y : X). P j y) (sym (ap (λ (i : ℕ). get_or (xs ++ x ∷ []) i e) same ∙ get_or_at xs x [] e n len)) (subst (λ (i : ℕ). P i x) (sym same) new))
-      (λ other. let low : j < n = omega arith in subst (λ (y : X). P j y) (sym (get_or_append_left xs (x ∷ []) e j (omega arith))) (old j e low))
-
-  pub set_each : (xs : List X) (x : X) (n : ℕ) → n < length xs → ((j : ℕ) (e : X) → j < n → P j (get_or xs j e)) → P n x → (j : ℕ) (e : X) → j < n + 1 → P j (get_or (set xs n x) j e)
-  set_each xs x n len old new j e l = dite (ℕ_discrete j n)
-      (λ same. subst (λ (y : X). P j y) (sym (ap (λ (i : ℕ). get_or (set xs n x) i e) same ∙ get_or-set_same xs n x e len)) (subst (λ (i : ℕ). P i x) (sym same) new))
-      (λ other. let low : j < n = omega arith in subst (λ (y : X). P j y) (sym (get_or-set_other xs n j x e other)) (old j e low))
 
 module _ {T : Type 0} where
   -- the passes of one number, one of each lock, are new ones

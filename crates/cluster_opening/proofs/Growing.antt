@@ -1,6 +1,6 @@
 -- Disks that are opened one after another.
-use Rattle.std.proofs.Common.{◌≡◌, ◌≢◌, ℕ, zero, suc, ◌+◌, ◌<◌, ◌^◌, List, [], ◌∷◌, ◌++◌, length, get_or, Bool, true, false, ◌&&◌, Option, None, is_none, refl, sym, ◌∙◌, ap, subst, arith}
-use Rattle.std.proofs.lemmas.List.{get_or_append_left, get_or_at, length_push}
+use Rattle.std.proofs.Common.{◌≡◌, ◌≢◌, ℕ, zero, suc, ◌+◌, ◌<◌, ◌^◌, List, [], ◌∷◌, ◌++◌, length, get_or, Bool, true, Option, None, is_none, refl, sym, ◌∙◌, ap, subst, arith}
+use Rattle.std.proofs.lemmas.List.{length_push}
 use mathlib.Core.Logic.{dite}
 use native.Mathlib.Decide.{ℕ_discrete}
 use Rattle.std.specs.List.{list_all}
@@ -15,6 +15,7 @@ use Rattle.cluster_opening.specs.Logs.{HoldsLog, IsGateAt, LogsOfAll, IsFound}
 use Rattle.cluster_opening.specs.Houses.{WentOut, AreGates}
 use Rattle.law_base.proofs.Logs.{all_logs as all_from}
 use Rattle.law_base.proofs.Bools.{and_true}
+use Rattle.law_base.proofs.Lists.{pushed_each}
 
 -- ---- one more
 
@@ -26,11 +27,6 @@ log_before (x ∷ xs) log (suc n) l = log_before xs log n (omega arith)
 pub log_last : (logs : List (List LogRecord)) (log : List LogRecord) → log_of (logs ++ log ∷ []) (length logs) ≡ log
 log_last [] log = refl
 log_last (x ∷ xs) log = log_last xs log
-
-pub pushed_each : {X : Type 0} (P : ℕ → X → Type 0) (xs : List X) (x : X) (n : ℕ) → length xs ≡ n → ((j : ℕ) (e : X) → j < n → P j (get_or xs j e)) → P n x → (j : ℕ) (e : X) → j < n + 1 → P j (get_or (xs ++ x ∷ []) j e)
-pushed_each {X} P xs x n len old new j e l = dite (ℕ_discrete j n)
-    (λ same. subst (λ (y : X). P j y) (sym (ap (λ (i : ℕ). get_or (xs ++ x ∷ []) i e) same ∙ get_or_at xs x [] e n len)) (subst (λ (i : ℕ). P i x) (sym same) new))
-    (λ other. let low : j < n = omega arith in subst (λ (y : X). P j y) (sym (get_or_append_left xs (x ∷ []) e j (omega arith))) (old j e low))
 
 pub no_gates : (splits : List ℕ) (stories : ℕ → Option Story) → AreGates splits [] [] stories
 no_gates splits stories = record { count = refl; each = λ n d l. absurd (omega arith) }

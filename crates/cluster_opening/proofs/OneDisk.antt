@@ -1,5 +1,5 @@
 -- What one disk's opening finds.
-use Rattle.std.proofs.Common.{◌≡◌, ℕ, ◌^◌, ◌≤◌, ◌<◌, ◌+◌, inl, inr, suc, MatchOption, List, ◌∷◌, Option, Some, None, IfSome, Ok, Err, refl, sym, ◌∙◌, subst, arith, Bool, false}
+use Rattle.std.proofs.Common.{◌≡◌, ℕ, ◌^◌, ◌<◌, ◌+◌, inl, inr, suc, MatchOption, List, Option, Some, None, IfSome, Ok, Err, refl, sym, ◌∙◌, subst, arith, Bool, false}
 use Rattle.std.proofs.lemmas.Bool.{cases_lt}
 use Rattle.std.specs.Option.{SomeIff}
 use Rattle.clv_base.specs.declared.logs.LogRecord.{LogRecord}

@@ -1,18 +1,17 @@
 -- The answers of turns, one after another.
-use Rattle.std.proofs.Common.{◌≡◌, ◌∙◌, refl, sym, ap, subst, ℕ, zero, suc, ◌<◌, ◌≤◌, ◌^◌, ◌-◌, Bool, true, false, cond, ◌⊎◌, inl, inr, List, [], ◌∷◌, ◌++◌, get_or, set, get_or-set_same, append_assoc, Option, Some, None, Result, Ok, Err, arith}
+use Rattle.std.proofs.Common.{◌≡◌, ◌∙◌, refl, sym, ap, subst, ℕ, ◌≤◌, ◌^◌, ◌-◌, Bool, true, false, cond, inl, inr, List, [], ◌∷◌, ◌++◌, get_or, get_or-set_same, append_assoc, Option, Some, None, Result, Ok, Err, arith}
 use Rattle.std.specs.Prelude.{is_some}
-use Rattle.std.specs.List.{AllByRecursion, filter}
+use Rattle.std.specs.List.{AllByRecursion}
 use Rattle.std.proofs.lemmas.Bool.{both_ways}
 use Rattle.std.proofs.lemmas.List.Elements.{filter-append}
 use Rattle.clv_base.specs.declared.events.Event.{Event}
 use Rattle.clv_base.specs.declared.events.Event.TheVariants.{Op, Request, Look, Drop, Send, Deliver, Remind, FlushOut, FlushIn, Stop, Restart}
 use Rattle.clv_base.specs.declared.events.Outcome.{Outcome}
-use Rattle.clv_base.specs.declared.events.Outcome.TheVariants.{Failed, Out, Down}
+use Rattle.clv_base.specs.declared.events.Outcome.TheVariants.{Failed, Out}
 use Rattle.clv_base.specs.declared.events.Entry.{Entry}
 use Rattle.clv_base.specs.Sessions.{is_of_session}
 use Rattle.clv_base.specs.State.{Shard}
 use Rattle.clv_base.specs.Events.{step}
-use Rattle.clv_base.specs.Journals.{History}
 use Rattle.turn_lock.specs.declared.pass.Pass.{Pass}
 use Rattle.turn_lock.specs.Passes.{seen}
 use Rattle.machine_calls.specs.declared.machine.StepError.{StepError}
@@ -21,10 +20,10 @@ use Rattle.machine_calls.specs.Steps.{NoEntry, Tells, clock_after}
 use Rattle.machine_laws.specs.declared.notes.Note.{Note}
 use Rattle.machine_laws.specs.declared.notes.Origin.{Origin}
 use Rattle.machine_laws.specs.Homes.{is_turned, state_of}
-use Rattle.cluster_turns.specs.Turns.{Turned, EventTold}
-use Rattle.cluster_turns.specs.Walkers.{Walked, Looked, kept}
+use Rattle.cluster_turns.specs.Turns.{EventTold}
+use Rattle.cluster_turns.specs.Walkers.{Walked, kept}
 use Rattle.cluster_turns.specs.Flights.{LandTold, landed_as}
-use Rattle.cluster_turns.specs.CallTurns.{Turn, Took, no_turn, event_turn, flush_turns, horizon_look, takes_no_flight, IsMadeBy, FindsDown, FoundDown, entry_on, entries_made}
+use Rattle.cluster_turns.specs.CallTurns.{Turn, Took, no_turn, event_turn, flush_turns, horizon_look, takes_no_flight, IsMadeBy, FindsDown, entry_on, entries_made}
 use Rattle.cluster_turns.specs.Answers.{is_kept, may_come_to, HasItsEntry, HasItsOutcome, SeesDown, SawDown, AnswersHaveEntries, OutcomesFit, DownIsSeen, WornIsLast, SessionsGrow, entries_of_session, turns_of_session}
 use Rattle.cluster_turns.proofs.Replying.{Told, told_by, failed_down}
 use Rattle.cluster_turns.proofs.Taking.{kept_grows, entries_are_made, clock_rises}

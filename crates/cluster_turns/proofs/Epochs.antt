@@ -41,7 +41,6 @@ use Rattle.machine_laws.specs.declared.notes.Origin.{Origin}
 use Rattle.machine_laws.specs.Notes.{noter, told}
 use Rattle.machine_laws.specs.Homes.{entries_in, state_of, holder_of, IsLegal}
 use Rattle.machine_laws.proofs.Laws.{all_bear, nothing_happens, since}
-use Rattle.cluster_turns.specs.Births.{IsFreeFor}
 use Rattle.cluster_turns.specs.Unborn.{is_epoch_of, IsUnbornUnless}
 use Rattle.cluster_turns.proofs.Keeping.{by_notes}
 use Rattle.law_base.proofs.Bools.{not_true}

@@ -6,7 +6,7 @@ use Rattle.clv_base.specs.declared.events.Outcome.{Outcome}
 use Rattle.clv_base.specs.declared.events.Outcome.TheVariants.{Durable}
 use Rattle.clv_base.specs.declared.events.Entry.{Entry}
 use Rattle.clv_base.specs.State.{Shard}
-use Rattle.clv_base.specs.Events.{step, land, landed, next_stamp}
+use Rattle.clv_base.specs.Events.{step, land, landed}
 use Rattle.turn_lock.specs.Journals.{durable_of}
 use Rattle.turn_lock.specs.declared.pass.Pass.{Pass}
 use Rattle.turn_lock.specs.Passes.{pass_origin, seen}

@@ -18,7 +18,7 @@ use Rattle.clv_base.specs.State.{Shard}
 use Rattle.clv_base.specs.Events.{Does, step, happen, next_stamp}
 use Rattle.clv_base.specs.Journals.{has_equal_active_birth}
 use Rattle.turn_lock.specs.declared.pass.Pass.{Pass}
-use Rattle.turn_lock.specs.Passes.{seen, own, pass_origin}
+use Rattle.turn_lock.specs.Passes.{seen, own}
 use Rattle.journal_laws.specs.Walkers.{by_walker}
 use Rattle.journal_laws.specs.Births.{LeavesBirth}
 use Rattle.journal_laws.proofs.Laws.{free_rows, has_none, free_event, free_births_stay, new_births_are_free, notes_are_runs}

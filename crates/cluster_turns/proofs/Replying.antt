@@ -34,7 +34,7 @@ use Rattle.clv_base.specs.Facts.{facts_of, has_durable_commit}
 use Rattle.clv_base.specs.Participant.{taken_by}
 use Rattle.clv_base.specs.Coordinator.{takes_vote, takes_done}
 use Rattle.clv_base.specs.OneShard.{OpReply, OpWaits, OpCrowded, OpDies, OpAnswers, seen_fits, op_reply, op_seen, op_by_stage, op_decided, op_granted}
-use Rattle.clv_base.specs.Events.{Reply, QuietBeforeWorn, QuietAfterWorn, Does, finish, op_event, epoch_in, request_by_stage, request_event, look_lost, look_state, look_known, look_event, request_epoch, drop_event, owe_vote, on_prepare, with_votes, on_vote, on_decide, with_done, on_done, on_message, to_of, send_event, reminders, remind_with, out_event, taken, happen_up, happen, Quiet, Worn, Enters, CallAnswer, next_stamp, stamped, step, land_up, land, landed, put_down}
+use Rattle.clv_base.specs.Events.{Reply, QuietBeforeWorn, QuietAfterWorn, Does, finish, op_event, epoch_in, request_by_stage, request_event, look_lost, look_state, look_known, look_event, request_epoch, drop_event, on_prepare, on_vote, on_decide, on_done, on_message, to_of, send_event, reminders, remind_with, out_event, taken, happen_up, happen, Quiet, Enters, next_stamp, stamped, step, land_up, land, put_down}
 use Rattle.machine_calls.specs.declared.machine.StepError.{StepError}
 use Rattle.machine_calls.specs.Steps.{Tells}
 use Rattle.machine_laws.specs.Homes.{is_turned}

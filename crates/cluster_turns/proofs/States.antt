@@ -19,10 +19,6 @@ use Rattle.journal_laws.specs.Offers.{hoped_for}
 use Rattle.cluster_turns.specs.States.{after_from, SessionsHaveStates, StatesGoOn, StatesTellMayMake, OthersLeaveStates, StatesBearWalkers}
 use Rattle.law_base.proofs.Shards.{none_session as none_some, some_session as some_same}
 
-none_stays : (splits : List ℕ) (es : History) → after_from splits None es ≡ None
-none_stays splits [] = refl
-none_stays splits (e ∷ es) = refl
-
 made : (splits : List ℕ) (v : Option SessionState) (es : History) → makes_from splits v es ≡ is_some (after_from splits v es)
 made splits None [] = refl
 made splits None (e ∷ es) = refl

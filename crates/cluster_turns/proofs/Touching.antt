@@ -1,5 +1,5 @@
 -- A touch written into the array of epochs.
-use Rattle.std.proofs.Common.{◌≡◌, refl, ap, ◌∙◌, ℕ, zero, suc, ◌<◌, Bool, true, false, not, cond, List, [], ◌∷◌, length, get_or, Option, Some, None, ◌==◌, slice_get, slice_set, arith, map, nat_lt, drop, drop-cons, add-one, ◌+◌, ◌≤◌}
+use Rattle.std.proofs.Common.{◌≡◌, refl, ap, ◌∙◌, ℕ, zero, suc, ◌<◌, Bool, true, false, not, cond, List, [], ◌∷◌, length, get_or, Option, Some, None, ◌==◌, slice_get, slice_set, arith, map, nat_lt, ◌+◌, ◌≤◌}
 use Rattle.std.specs.Prelude.{is_some}
 use Rattle.std.proofs.lemmas.Bool.{both_ways, and_from, lt-ltb}
 use Rattle.std.specs.List.{list_all}
@@ -39,22 +39,6 @@ some_there (Some v) b e h k = k v refl
 abbrev pub front : ℕ → Option ℕ → List (ℕ × ℕ) → List (ℕ × ℕ)
 front n None rest = rest
 front n (Some epoch) rest = (n, epoch) ∷ rest
-
-first_one : (n : ℕ) (v : Option ℕ) (vs : List (Option ℕ)) → present_from n (v ∷ vs) ≡ front n v (present_from (suc n) vs)
-first_one n None vs = refl
-first_one n (Some epoch) vs = refl
-
-pub place_step : (xs : List (Option ℕ)) (i : ℕ) (d : Option ℕ) → i < length xs → present_from i (drop i xs) ≡ front i (get_or xs i d) (present_from (i + 1) (drop (i + 1) xs))
-place_step xs i d l = rw (add-one, drop-cons xs i d) (first_one i (get_or xs i d) (drop (suc i) xs))
-
-pub past_end : (xs : List (Option ℕ)) (i : ℕ) → length xs ≤ i → present_from i (drop i xs) ≡ []
-past_end xs i l = ap (present_from i) (none_left xs i l)
-  where
-    none_left : (xs : List (Option ℕ)) (i : ℕ) → length xs ≤ i → drop i xs ≡ []
-    none_left [] zero l = refl
-    none_left [] (suc i) l = refl
-    none_left (x ∷ xs) zero l = absurd (omega arith)
-    none_left (x ∷ xs) (suc i) l = none_left xs i (omega arith)
 
 -- ---- the touched shards rise
 

@@ -1,5 +1,5 @@
 -- A birth of which no transaction has an active part on a shard.
-use Rattle.std.proofs.Common.{◌≡◌, ◌≢◌, ◌⊎◌, inl, inr, ◌∙◌, refl, sym, ap, subst, ℕ, ◌<◌, ◌^◌, nat_lt, Bool, true, false, not, List, [], ◌∷◌, ◌++◌, get_or, set, map, Option, Some, None, Result, Ok, Err, get_or-set_same, get_or-set_other}
+use Rattle.std.proofs.Common.{◌≡◌, ◌≢◌, ◌⊎◌, inl, inr, ◌∙◌, refl, sym, ap, subst, ℕ, ◌^◌, nat_lt, Bool, true, false, not, List, [], ◌∷◌, get_or, set, map, Option, Some, None, Result, Ok, Err, get_or-set_same, get_or-set_other}
 use Rattle.std.specs.List.{AllByRecursion}
 use Rattle.std.specs.Prelude.{is_some, unwrap_or}
 use Rattle.std.proofs.lemmas.Bool.{both_ways, eq-eqb}
@@ -12,9 +12,9 @@ use Rattle.clv_base.specs.declared.ops.Op.TheVariants.{Get}
 use Rattle.clv_base.specs.declared.ops.Answer.{Answer}
 use Rattle.clv_base.specs.declared.causes.AbortCause.{AbortCause}
 use Rattle.clv_base.specs.declared.events.Event.{Event}
-use Rattle.clv_base.specs.declared.events.Event.TheVariants.{Op, Request, Look, Drop, Send, Deliver, Remind, FlushOut, FlushIn, Stop, Restart}
+use Rattle.clv_base.specs.declared.events.Event.TheVariants.{Op, Request, Drop, FlushOut}
 use Rattle.clv_base.specs.declared.events.Outcome.{Outcome}
-use Rattle.clv_base.specs.declared.events.Outcome.TheVariants.{Answered, Dead, Asked, Out, Down}
+use Rattle.clv_base.specs.declared.events.Outcome.TheVariants.{Answered, Dead, Asked, Down}
 use Rattle.clv_base.specs.declared.events.Entry.{Entry}
 use Rattle.clv_base.specs.declared.state.Held.{Held}
 use Rattle.clv_base.specs.declared.state.Stage.{Stage}
@@ -23,14 +23,13 @@ use Rattle.clv_base.specs.Orders.{tx_get}
 use Rattle.clv_base.specs.State.{Shard}
 use Rattle.clv_base.specs.Undo.{stage_of}
 use Rattle.clv_base.specs.OneShard.{OpReply, OpWaits, OpCrowded, OpDies, OpAnswers, seen_fits, op_seen}
-use Rattle.clv_base.specs.Events.{Reply, QuietBeforeWorn, QuietAfterWorn, Does, CallAnswer, Quiet, stamped, step, happen, happen_up, op_event, epoch_in, request_by_stage, request_event, drop_event, next_stamp}
+use Rattle.clv_base.specs.Events.{QuietBeforeWorn, Does, CallAnswer, Quiet, stamped, step, happen, happen_up, op_event, epoch_in, request_by_stage, request_event, drop_event, next_stamp}
 use Rattle.clv_base.specs.Journals.{has_equal_active_birth}
-use Rattle.clv_base.proofs.SameNames.{tx_self}
 use Rattle.turn_lock.specs.declared.pass.Pass.{Pass}
 use Rattle.turn_lock.specs.Passes.{seen, pass_origin}
 use Rattle.journal_laws.specs.Births.{LeavesBirth}
 use Rattle.journal_laws.specs.Endings.{ActiveAreFound, EndsHere}
-use Rattle.journal_laws.proofs.Laws.{free_rows, has_none, ends_free, inactive_is_free, runs_find_active, notes_are_runs}
+use Rattle.journal_laws.proofs.Laws.{ends_free, inactive_is_free, runs_find_active, notes_are_runs}
 use Rattle.machine_calls.specs.declared.machine.StepError.{StepError}
 use Rattle.machine_calls.specs.declared.machine.StepError.TheVariants.{Memory, Worn}
 use Rattle.machine_calls.specs.Steps.{Tells, NoEntry, listed, is_undropped, may_want_memory}
@@ -41,12 +40,12 @@ use Rattle.machine_laws.specs.Homes.{start, state_of, entries_in, IsLegal}
 use Rattle.machine_laws.proofs.Laws.{from_does, still_free, legal_shard, nothing_happens}
 use Rattle.cluster_turns.specs.Turns.{Turned, EventTold}
 use Rattle.cluster_turns.specs.Walkers.{Walked}
-use Rattle.cluster_turns.specs.Flights.{LandTold, landed_as}
+use Rattle.cluster_turns.specs.Flights.{LandTold}
 use Rattle.cluster_turns.specs.CallTurns.{Turn, Took, no_turn, event_turn, flush_turns, horizon_look}
 use Rattle.cluster_turns.specs.Answers.{is_quiet, is_kept, HasItsEntry}
 use Rattle.cluster_turns.proofs.Answering.{answers_have_entries}
 use Rattle.cluster_turns.specs.Births.{IsFreeFor, SeesFree, AllSeeFree}
-use Rattle.cluster_turns.specs.Unborn.{SeesUnborn, UnbornAt, is_epoch_of, IsUnbornUnless, SeesUnless, UnbornUnless, HasShard, LeavesUnborn, AllLeaveUnborn, EndsPart, EndsThere, UnbornStays, UnlessStays, AnsweredIsInEpoch, DiesAtRequest, EndsUnbear, NewIsUnborn, UnbornIsFree, UnbornUnlessNone, UnbornUnlessAny}
+use Rattle.cluster_turns.specs.Unborn.{SeesUnborn, UnbornAt, is_epoch_of, IsUnbornUnless, SeesUnless, UnbornUnless, HasShard, LeavesUnborn, AllLeaveUnborn, EndsPart, UnbornStays, UnlessStays, AnsweredIsInEpoch, DiesAtRequest, EndsUnbear, NewIsUnborn, UnbornIsFree, UnbornUnlessNone, UnbornUnlessAny}
 use Rattle.cluster_turns.proofs.Dropping.{dropped_inactive}
 use Rattle.cluster_turns.proofs.Epochs.{epoch_stays, others_unless, added_unless}
 use Rattle.cluster_turns.proofs.Freely.{event_frees, turn_frees, event_leaves, landing_leaves, free_stays, new_is_free}

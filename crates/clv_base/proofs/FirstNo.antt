@@ -1,6 +1,5 @@
 -- The first no among votes at their places.
-use Rattle.std.proofs.Common.{◌≡◌, refl, sym, ap, ◌∙◌, ℕ, suc, ◌+◌, ◌<◌, ◌≤◌, List, [], ◌∷◌, length, Option, Some, None, get_or, drop, drop-cons, add-one}
-use Rattle.std.proofs.lemmas.List.{drop_all}
+use Rattle.std.proofs.Common.{◌≡◌, refl, sym, ap, ◌∙◌, ℕ, suc, ◌+◌, ◌<◌, List, [], ◌∷◌, length, Option, Some, None, get_or, drop, drop-cons, add-one}
 use Rattle.clv_base.specs.declared.causes.AbortCause.{AbortCause}
 use Rattle.clv_base.specs.declared.causes.Vote.{Vote}
 use Rattle.clv_base.specs.declared.causes.Vote.TheVariants.{Yes, Read, No}
@@ -24,9 +23,3 @@ step i vs d h =
 
 pub goes_on : (i : ℕ) (vs : List (Option Vote)) (d : Option Vote) → i < length vs → no_by i (get_or vs i d) ≡ None → first_no (present_from (i + 1) (drop (i + 1) vs)) ≡ first_no (present_from i (drop i vs))
 goes_on i vs d h e = sym (step i vs d h ∙ ap (λ c. or_cause c (first_no (present_from (i + 1) (drop (i + 1) vs)))) e)
-
-pub is_found : (i : ℕ) (vs : List (Option Vote)) (d : Option Vote) (c : AbortCause) → i < length vs → no_by i (get_or vs i d) ≡ Some c → first_no (present_from i (drop i vs)) ≡ Some c
-is_found i vs d c h e = step i vs d h ∙ ap (λ x. or_cause x (first_no (present_from (i + 1) (drop (i + 1) vs)))) e
-
-pub at_end : (i : ℕ) (vs : List (Option Vote)) → length vs ≤ i → first_no (present_from i (drop i vs)) ≡ None
-at_end i vs h = ap (λ l. first_no (present_from i l)) (drop_all i vs h)

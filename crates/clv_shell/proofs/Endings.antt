@@ -1,20 +1,13 @@
 -- How a command ends that opened the shards, and one that did not.
-use Rattle.std.proofs.Common.{◌≡◌, refl, sym, subst, ⊎_elim, ℕ, ◌<◌, ◌≤◌, ◌^◌, true, nat_le, List, length, Option, Some, None, Result, Ok, Err, arith}
-use Rattle.std.specs.Prelude.{is_none}
-use Rattle.std.proofs.lemmas.Bool.{and_parts, leb-true}
+use Rattle.std.proofs.Common.{◌≡◌, refl, sym, subst, ⊎_elim, ℕ, ◌<◌, ◌≤◌, List, length, Option, Some, None, Result, Ok, Err}
 use Rattle.std.proofs.lemmas.Bool.{cases_lt}
-use Rattle.clv_base.specs.Shards.{shard_count, are_splits, not_rising}
+use Rattle.clv_base.specs.Shards.{shard_count}
 use Rattle.io_model.specs.Story.{Story}
-use Rattle.cluster_runs.specs.Begun.{LeavesDisks}
 use Rattle.cluster_runs.specs.Ran.{RanAll}
-use Rattle.cluster_opening.specs.Opening.{Refuses, CountsOpen}
-use Rattle.cluster_opening.specs.declared.error.OpenError.{OpenError}
-use Rattle.cluster_opening.specs.declared.error.OpenError.TheVariants as opening
 use Rattle.history_replay.specs.Entries.{Kept}
 use Rattle.report_text.specs.declared.texts.ReportError.{ReportError}
 use Rattle.report_text.specs.declared.texts.ReportError.TheVariants as text
 use Rattle.cluster_runs.specs.Statuses.{StatusTold}
-use Rattle.command_line.specs.Refusals.{of_opening}
 use Rattle.command_line.specs.Running.{with_text}
 use Rattle.cluster_runs.specs.PromisedSessions.{Went}
 use Rattle.script_lang.specs.Bodies.{Body}
@@ -24,35 +17,10 @@ use Rattle.clv_shell.specs.Kinds.{IsOfRun, IsOfShow, IsOfShards}
 use Rattle.clv_shell.specs.Disks.{Closes}
 use Rattle.clv_shell.specs.Sinks.{TookPairs}
 use Rattle.clv_shell.specs.Causes.{BreaksLogs, BreaksScript, CountsSource, CountsSink, CountsDisks, Stand}
-use Rattle.clv_shell.specs.Reading.{IsRead, ReadsScript}
 use Rattle.clv_shell.specs.Runs.{EndsAs, Opened}
 use Rattle.law_base.proofs.Numbers.{below_differs as below}
 
 -- ---- the shards were opened
-
-told_of : (shards : ℕ) (counts counts_now : ℕ → ℕ) (sessions : ℕ) (went : ℕ → Went) (status : Status) → StatusTold shards counts counts_now sessions went status → IsOfShards status
-told_of shards counts counts_now sessions went Fine h = tt
-told_of shards counts counts_now sessions went Usage h = h
-told_of shards counts counts_now sessions went (Script line) h = h
-told_of shards counts counts_now sessions went ReadFault h = h
-told_of shards counts counts_now sessions went WriteFault h = h
-told_of shards counts counts_now sessions went (DiskFault shard) h = tt
-told_of shards counts counts_now sessions went (NotLog shard at) h = h
-told_of shards counts counts_now sessions went Memory h = tt
-told_of shards counts counts_now sessions went (Worn at) h = tt
-told_of shards counts counts_now sessions went (Exists shard len) h = h
-told_of shards counts counts_now sessions went (Apart tx) h = h
-
-pub of_shards : (before now : ℕ → Option Story) (counts counts_now : ℕ → ℕ) (most : Option ℕ) (script : List (List Body)) (kept : Kept) (running : Status)
-    → RanAll before now counts counts_now most script kept running → IsOfShards running
-of_shards before now counts counts_now most script kept running r = told_of _ counts counts_now _ r.went running r.told
-
-few_splits : (splits : List ℕ) → are_splits splits ≡ true → length splits ≤ 15
-few_splits splits h = let p = and_parts (nat_le (length splits) 15) (is_none (not_rising splits)) h in leb-true (length splits) 15 p.0
-
-pub few_journals : (before now : ℕ → Option Story) (counts counts_now : ℕ → ℕ) (most : Option ℕ) (script : List (List Body)) (kept : Kept) (running : Status)
-    → RanAll before now counts counts_now most script kept running → length kept.journals < 2 ^ 32
-few_journals before now counts counts_now most script kept running r = omega (arith, r.shards, few_splits r.splits r.promised.keeps.legal.legal.splits_rise)
 
 -- what an ended command's status tells by itself
 pub record Tells (counts counts_now : ℕ → ℕ) (stories : ℕ → Option Story) (kept : Kept) (left : Option (List ℕ)) (faults faults' : ℕ) (status : Status) : Type 0 where
@@ -107,28 +75,6 @@ pub record Refused (counts counts_now : ℕ → ℕ) (stories stories' : ℕ →
   pub source : CountsSource faults faults' status
   pub sink : CountsSink None taken taken status
   pub disks : CountsDisks None counts counts_now status
-
-module _ (counts counts_now : ℕ → ℕ) (stories stories' : ℕ → Option Story) (left : Option (List ℕ)) (faults faults' taken : ℕ) where
-  refused : (e : OpenError) → Refuses stories e → CountsOpen counts counts_now e → LeavesDisks stories stories' e → faults' ≡ faults
-      → Refused counts counts_now stories stories' left faults faults' taken (of_opening e)
-  refused (opening.Failed shard) r c l s = record { runs = tt; shows = tt; opened = tt; closed = l; logs = r; script = tt; source = s; sink = refl; disks = (c.0, (λ n l. c.2 n (below n shard l))) }
-  refused (opening.NotLog shard at) r c l s = record { runs = tt; shows = tt; opened = tt; closed = l; logs = r; script = tt; source = s; sink = refl; disks = c }
-  refused (opening.Apart tx) r c l s = record { runs = tt; shows = tt; opened = tt; closed = l; logs = r; script = tt; source = s; sink = refl; disks = c }
-  refused (opening.Worn at) r c l s = record { runs = tt; shows = tt; opened = tt; closed = l; logs = r; script = tt; source = s; sink = refl; disks = c }
-  refused opening.Memory r c l s = record { runs = tt; shows = tt; opened = tt; closed = l; logs = tt; script = tt; source = s; sink = refl; disks = c }
-
-  pub refused_so : (e : OpenError) (status : Status) → status ≡ of_opening e → Refuses stories e → CountsOpen counts counts_now e → LeavesDisks stories stories' e → faults' ≡ faults
-      → Refused counts counts_now stories stories' left faults faults' taken status
-  refused_so e status is r c l s = subst (Refused counts counts_now stories stories' left faults faults' taken) (sym is) (refused e r c l s)
-
--- ---- the script was read
-
-pub read_so : (e : OpenError) (status : Status) (left left' : Option (List ℕ)) → status ≡ of_opening e → IsRead left left' → ReadsScript None status left left'
-read_so (opening.Failed shard) status left left' is read = subst (λ (s : Status). ReadsScript None s left left') (sym is) read
-read_so (opening.NotLog shard at) status left left' is read = subst (λ (s : Status). ReadsScript None s left left') (sym is) read
-read_so (opening.Apart tx) status left left' is read = subst (λ (s : Status). ReadsScript None s left left') (sym is) read
-read_so (opening.Worn at) status left left' is read = subst (λ (s : Status). ReadsScript None s left left') (sym is) read
-read_so opening.Memory status left left' is read = subst (λ (s : Status). ReadsScript None s left left') (sym is) tt
 
 -- ---- pairs that aren't written
 

@@ -5,7 +5,7 @@ use Rattle.io_model.specs.declared.whole.ReadError.TheVariants as reading
 use Rattle.script_lang.specs.Grammar.{too_long}
 use Rattle.command_line.specs.Refusals.{of_source}
 use Rattle.command_line.specs.declared.status.Status.{Status}
-use Rattle.command_line.specs.declared.status.Status.TheVariants.{Fine, Usage, Script, ReadFault, WriteFault, DiskFault, NotLog, Memory, Worn, Exists, Apart}
+use Rattle.command_line.specs.declared.status.Status.TheVariants.{Script, Memory}
 use Rattle.clv_shell.specs.Causes.{ScriptFault, CountsSink, CountsDisks}
 use Rattle.clv_shell.specs.Reading.{ReadsScript}
 
@@ -23,16 +23,3 @@ pub record Unopened (left left' : Option (List ℕ)) (faults : ℕ) (counts : �
   pub read : ReadsScript None status left left'
   pub sink : CountsSink None faults faults status
   pub disks : CountsDisks None counts counts status
-
-pub unopened : (status : Status) (left left' : Option (List ℕ)) (faults : ℕ) (counts : ℕ → ℕ) → ScriptFault left status → Unopened left left' faults counts status
-unopened (Script line) left left' faults counts h = record { read = tt; sink = refl; disks = λ n. refl }
-unopened ReadFault left left' faults counts h = record { read = tt; sink = refl; disks = λ n. refl }
-unopened Memory left left' faults counts h = record { read = tt; sink = refl; disks = λ n. refl }
-unopened Fine left left' faults counts h = absurd h
-unopened Usage left left' faults counts h = absurd h
-unopened WriteFault left left' faults counts h = absurd h
-unopened (DiskFault shard) left left' faults counts h = absurd h
-unopened (NotLog shard at) left left' faults counts h = absurd h
-unopened (Worn at) left left' faults counts h = absurd h
-unopened (Exists shard len) left left' faults counts h = absurd h
-unopened (Apart tx) left left' faults counts h = absurd h

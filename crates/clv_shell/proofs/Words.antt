@@ -1,10 +1,10 @@
 -- Words are one command.
-use Rattle.std.proofs.Common.{◌≡◌, refl, sym, ap, subst, ◌∙◌, ℕ, ◌<◌, ◌≤◌, List, [], ◌∷◌, Option, Some, None, arith}
+use Rattle.std.proofs.Common.{◌≡◌, refl, sym, ap, subst, ◌∙◌, ℕ, List, [], ◌∷◌, Option, Some, None, arith}
 use Rattle.clap.specs.Words.{Row, Text}
 use Rattle.command_line.specs.Commands.{IsGiven, AreTries, Says, IsCommand}
 use Rattle.command_line.specs.declared.commands.Command.{Command}
 use Rattle.command_line.specs.declared.commands.Command.TheVariants.{Make, Run, Show, Load}
-use Rattle.clv_shell.specs.Top.{HasCommand, IsWithinBounds}
+use Rattle.clv_shell.specs.Top.{HasCommand}
 use Rattle.law_base.proofs.Numbers.{below_differs as less}
 use Rattle.script_lang.proofs.Laws.{number_once}
 use Rattle.command_line.proofs.Laws.{numbers_once}
@@ -56,13 +56,3 @@ one_command words c d (fine, name, rows, sub, p) (fine', name', rows', sub', q) 
 -- what holds of one command that the words are holds of each
 pub shown : (words : List (List ℕ)) (c : Command) (P : Command → Type 0) → IsCommand words c → P c → HasCommand words P
 shown words c P is p d also = subst P (one_command words c d is also) p
-
-few : (o : Option Text) (n : ℕ) → AreTries o n → n ≤ 1000
-few None n p = omega (arith, p)
-few (Some word) n p = p.2
-
-pub within_bounds : (words : List (List ℕ)) (c : Command) → IsCommand words c → IsWithinBounds c
-within_bounds words (Make splits) is = tt
-within_bounds words (Run tries) (fine, name, rows, sub, p) = few _ tries p.1
-within_bounds words Show is = tt
-within_bounds words (Load s n a t) (fine, name, rows, sub, p) = (p.5, p.6, p.7, p.8, p.9)

@@ -7,9 +7,6 @@ use Rattle.clap.proofs.WalkLemmas.{first_value-rows}
 use Rattle.script_lang.specs.Grammar.{IsNumber}
 use Rattle.command_line.specs.Commands.{IsGiven, AreTries}
 
-now_of : Option (Bor (List ℕ)) → Option Text
-now_of = option_map (λ s. s.now)
-
 pub found_is : (f : Found) (id : Text) (result : Option (Bor (List ℕ))) → option_map (λ s. s.now) result ≡ first_value f id → first_of id (rows_of f) ≡ option_map (λ s. s.now) result
 found_is f id result e = sym (first_value-rows f id) ∙ sym e
 

@@ -1,11 +1,11 @@
 -- What a subcommand says.
-use Rattle.std.proofs.Common.{◌≡◌, ◌≢◌, ℕ, List, map, Option, option_map, codes, true, refl, sym, ◌∙◌, subst, arith}
+use Rattle.std.proofs.Common.{◌≡◌, ℕ, List, map, Option, option_map, codes, true, refl, sym, ◌∙◌, subst, arith}
 use Rattle.std.specs.Borrow.{Bor}
-use Rattle.clap.specs.Words.{Row, Text, first_of, all_of, rows_of, matched_of, raw_values}
+use Rattle.clap.specs.Words.{Row, Text, all_of, rows_of, matched_of, raw_values}
 use Rattle.clap.specs.declared.parser.matches.Found.{Found}
 use Rattle.clap.proofs.WalkLemmas.{raw_values-rows}
 use Rattle.clv_base.specs.Shards.{are_splits}
-use Rattle.command_line.specs.Commands.{Command, Make, Run, Show, Load, AreTries, AreNumbers, listed, Says}
+use Rattle.command_line.specs.Commands.{Command, Make, Run, Show, Load, AreNumbers, listed, Says}
 use Rattle.law_base.proofs.Lists.{unequal}
 
 pub all_is : (f : Found) (id : Text) (result : Option (Bor (List (Bor (List ℕ))))) (list : Option (List Text))
@@ -23,15 +23,3 @@ make_not rows words e none (Make splits) says = none splits (subst (λ (ws : Lis
 make_not rows words e none (Run tries) says = unequal (codes "make") (codes "run") (omega arith) says.0
 make_not rows words e none Show says = unequal (codes "make") (codes "show") (omega arith) says
 make_not rows words e none (Load a b c d) says = unequal (codes "make") (codes "load") (omega arith) says.0
-
-pub run_not : (name : Text) (rows : List Row) → name ≡ codes "run" → ((n : ℕ) → AreTries (first_of (codes "tries") rows) n → ⊥) → (command : Command) → Says name rows command → ⊥
-run_not name rows e none (Make splits) says = unequal (codes "run") (codes "make") (omega arith) (sym e ∙ says.0)
-run_not name rows e none (Run tries) says = none tries says.1
-run_not name rows e none Show says = unequal (codes "run") (codes "show") (omega arith) (sym e ∙ says)
-run_not name rows e none (Load a b c d) says = unequal (codes "run") (codes "load") (omega arith) (sym e ∙ says.0)
-
-pub none_says : (name : Text) (rows : List Row) → name ≢ codes "make" → name ≢ codes "run" → name ≢ codes "show" → name ≢ codes "load" → (command : Command) → Says name rows command → ⊥
-none_says name rows make run show load (Make splits) says = make says.0
-none_says name rows make run show load (Run tries) says = run says.0
-none_says name rows make run show load Show says = show says
-none_says name rows make run show load (Load a b c d) says = load says.0

@@ -1,9 +1,8 @@
 -- One slot is changed.
-use Rattle.std.proofs.Common.{◌++◌, false, ◌≡◌, ◌≢◌, ℕ, zero, suc, ◌<◌, List, [], ◌∷◌, length, Some, None, refl, ap, arith}
+use Rattle.std.proofs.Common.{false, ◌≡◌, ◌≢◌, ℕ, zero, suc, ◌<◌, List, [], ◌∷◌, length, Some, None, refl, ap, arith}
 use Rattle.std.specs.List.{slice_get, slice_set}
 use Rattle.disk_memory.specs.declared.house.Slot.{Slot}
-use Rattle.disk_memory.specs.declared.house.State.TheVariants.{Absent}
-use Rattle.disk_memory.specs.House.{is_out_state, story_in_state, faults_at, is_out_at, story_at}
+use Rattle.disk_memory.specs.House.{faults_at, is_out_at, story_at}
 
 pub get_same : {X : Type 0} (xs : List X) (i : ℕ) (v : X) → i < length xs → slice_get (slice_set xs i v) i ≡ Some v
 get_same [] i v inside = absurd (omega arith)
@@ -21,13 +20,3 @@ get_other (x ∷ xs) (suc i) (suc k) v other = get_other xs i k v (λ e. other (
 -- no disk is there, and none was
 abbrev pub IsEmptyAt : List Slot → ℕ → Type 0
 IsEmptyAt slots shard = (story_at slots shard ≡ None) × (is_out_at slots shard ≡ false) × (faults_at slots shard ≡ 0)
-
-pub empty_none : (shard : ℕ) → IsEmptyAt [] shard
-empty_none zero = (refl, refl, refl)
-empty_none (suc shard) = (refl, refl, refl)
-
-pub empty_push : (slots : List Slot) (slot : Slot) → slot.state ≡ Absent → slot.faults ≡ 0 → ((shard : ℕ) → IsEmptyAt slots shard) → (shard : ℕ) → IsEmptyAt (slots ++ slot ∷ []) shard
-empty_push [] slot absent none all zero = (ap story_in_state absent, ap is_out_state absent, none)
-empty_push [] slot absent none all (suc shard) = empty_none shard
-empty_push (s ∷ slots) slot absent none all zero = all zero
-empty_push (s ∷ slots) slot absent none all (suc shard) = empty_push slots slot absent none (λ k. all (suc k)) shard

@@ -71,10 +71,6 @@ home_same : (tx : TxId) (vote : Vote) (voters : Table Voter) (o : Option Voter) 
 home_same tx vote voters None e = ap home_by e
 home_same tx vote voters (Some v) e = ap home_by (get_own tx (voted vote v) v voters e)
 
-vote_told : (tx : TxId) (shard : ℕ) (vote : Vote) (home : Option ℕ) (a b : Option (List ℕ)) → told tx shard (DueVote vote) home a ≡ told tx shard (DueVote vote) home b
-vote_told tx shard vote None a b = refl
-vote_told tx shard vote (Some h) a b = refl
-
 pub told_same : (s : Shard) (tx : TxId) (due : Due)
     → told tx s.shard due (home_by (tx_get tx (voters_after s tx due))) (told_by (tx_get tx (requests_after s tx due))) ≡ told tx s.shard due (home_by (tx_get tx s.voters)) (told_by (tx_get tx s.requests))
 told_same s tx Commit = refl

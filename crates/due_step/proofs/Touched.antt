@@ -1,5 +1,5 @@
 -- Case by case.
-use Rattle.std.proofs.Common.{◌≡◌, refl, sym, ap, ◌∙◌, Bool, true, false, cond, List, [], ◌∷◌, Option, Some, None}
+use Rattle.std.proofs.Common.{◌≡◌, refl, false, List, [], ◌∷◌, Option, Some, None}
 use Rattle.clv_base.specs.declared.names.TxId.{TxId}
 use Rattle.clv_base.specs.declared.causes.Vote.{Vote}
 use Rattle.clv_base.specs.declared.causes.Vote.TheVariants.{Yes, Read, No}
@@ -7,12 +7,12 @@ use Rattle.clv_base.specs.declared.state.Voter.{Voter}
 use Rattle.clv_base.specs.declared.state.Request.{Request}
 use Rattle.clv_base.specs.declared.state.Ruling.{Ruling}
 use Rattle.clv_base.specs.declared.state.Ruling.TheVariants.{Commit as CommitVerdict, Acknowledge, Abort as AbortVerdict, End as EndVerdict}
-use Rattle.clv_base.specs.Orders.{Table, tx_same, tx_in, tx_get}
+use Rattle.clv_base.specs.Orders.{Table, tx_same, tx_get}
 use Rattle.clv_base.specs.State.{Shard, with_local}
 use Rattle.clv_base.specs.Undo.{doomed_here}
 use Rattle.clv_base.specs.Coordinator.{ruled_request}
 use Rattle.clv_base.specs.OneShard.{purge}
-use Rattle.clv_base.specs.Due.{with_commit_done, finish_reader, do_ruling}
+use Rattle.clv_base.specs.Due.{finish_reader, do_ruling}
 use Rattle.two_phase_commit.specs.Coordinated.{requests_by}
 use Rattle.protocol_laws.specs.Changes.{ChangesDue, successors_of}
 use Rattle.protocol_laws.specs.Steps.{ruled_touch}

@@ -56,10 +56,6 @@ ready_rest s (t ∷ ts) limit tx r e d =
     let h : t ≡ tx = cc in let few = r.few in
     record { requests = r.requests; rise = r.rise.1; few = omega (arith, few); cover = others_cover s t ts r.cover (ap (due_of s) h ∙ d); purged = r.purged }
 
-pub less_left : (s : Shard) (txs : List TxId) (limit : ℕ) (tx : TxId) → least txs ≡ Some tx → left s (but_least txs) limit < left s txs limit
-less_left s [] limit tx e = absurd cc
-less_left s (t ∷ ts) limit tx e = omega arith
-
 -- ---- the end
 
 pub none_left : (s : Shard) (txs : List TxId) (limit : ℕ) → IsReady s txs limit → txs ≡ [] → finish s ≡ s

@@ -75,9 +75,6 @@ pub record Stepped (s t : Shard) : Type 0 where
   pub journal : t.journal ≡ s.journal
   pub flight : FlightIs s t
 
-stepped : {s t : Shard} → Framed s t → Stepped s t
-stepped {s} {t} p = record { shard = p.shard; run = p.run; durable = p.durable; last = p.last; journal = p.journal; flight = as_it_was p.flight }
-
 plain : (s t : Shard) → t.shard ≡ s.shard → t.run ≡ s.run → t.durable ≡ s.durable → t.last ≡ s.last → t.journal ≡ s.journal → t.flight ≡ s.flight → Stepped s t
 plain s t a b c d e f = record { shard = a; run = b; durable = c; last = d; journal = e; flight = as_it_was f }
 
@@ -123,10 +120,6 @@ fronts_of m n xs ys l k p = subst (λ z. IsPrefixOf z (take n ys)) (take_of_more
 
 pub grown_length : {A : Type 0} (xs ys : List A) → IsPrefixOf xs ys → length xs ≤ length ys
 grown_length xs ys p = let e = ap length p.1 in let f = length-append xs p.0 in omega (arith, e, f)
-
-fitting_by : (r : LogRecord) (rs : List LogRecord) (n : ℕ) (b : Bool) → n ≤ length rs → elim b [ true ↦ 0 | false ↦ suc n ] ≤ length (r ∷ rs)
-fitting_by r rs n true h = omega arith
-fitting_by r rs n false h = omega (arith, h)
 
 -- up to where records fly, after an event
 flying_after : (s t : Shard) → Counted s → FlightIs s t → length s.local.log ≤ length t.local.log → (n : ℕ) → t.flight ≡ Some n → (s.durable ≤ n) × (n ≤ length t.local.log)

@@ -6,17 +6,13 @@ use Rattle.std.specs.declared.cmp.Ordering.TheVariants.{Less, Equal, Greater}
 use Rattle.std.specs.BTreeMap.{is_at, insert_entry}
 use Rattle.std.specs.BTreeMap.Range.{range_contains, entries_between}
 use Rattle.std.specs.declared.ops.Bound.TheVariants.{Included}
-use Rattle.std.specs.Map.{lookup, remove_entry, keys_of}
+use Rattle.std.specs.Map.{remove_entry, keys_of}
 use Rattle.std.specs.List.{AllByRecursion}
 use Rattle.std.specs.List.Sorted.{IsStrictlySortedBy}
 use Rattle.std.specs.FinMap.{put}
 use Rattle.std.specs.FinMap.Entries.{by_order}
 use Rattle.std.proofs.lemmas.Bool.Decides.{nat_tests}
-use Rattle.clv_base.specs.Maps.{map_get, map_set, map_between, lies_between}
-
-pub get_is_lookup : (k : ℕ) (es : List (ℕ × ℕ)) → lookup (is_at (nat_cmp k)) es ≡ map_get k es
-get_is_lookup k [] = refl
-get_is_lookup k (e ∷ es) = ap (cond (is_at (nat_cmp k) e.0) (Some e.1)) (get_is_lookup k es)
+use Rattle.clv_base.specs.Maps.{map_set, map_between, lies_between}
 
 pub set_is_insert : (k v : ℕ) (es : List (ℕ × ℕ)) → insert_entry nat_cmp es k v ≡ map_set k (Some v) es
 set_is_insert k v [] = refl

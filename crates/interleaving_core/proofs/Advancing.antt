@@ -17,7 +17,7 @@ use Rattle.machine_calls.specs.Events.{sends_fit}
 use Rattle.interleaving_core.specs.declared.seat.Seat.{Seat}
 use Rattle.crash_laws.specs.Moves.{Moves}
 use Rattle.crash_laws.specs.Running.{run_step, is_offered}
-use Rattle.crash_laws.proofs.Laws.{empty_run, refused_step, rival_step, idle_step, no_shard, taken_step, steady_step, put_tests, stands}
+use Rattle.crash_laws.proofs.Laws.{empty_run, refused_step, rival_step, idle_step, taken_step, steady_step, put_tests, stands}
 use Rattle.interleaving_core.specs.Making.{MakesEntry}
 use Rattle.interleaving_core.specs.Sound.{shards_of, world_by, IsSeat, AreSound}
 
@@ -73,16 +73,6 @@ module _ {M : Type 0} (shard : M → Shard) (gate : M → Option Listed) where
   shard_there (y ∷ ys) zero x l e = ap (λ z. Some (shard z.machine)) (sym e)
   shard_there (y ∷ ys) (suc n) x l e = shard_there ys n x (omega (arith, l)) e
 
-  pub no_shard_there : (seats : List (Seat M)) (n : ℕ) → (n < length seats → ⊥) → slice_get (shards_of shard seats) n ≡ None
-  no_shard_there [] n l = refl
-  no_shard_there (y ∷ ys) zero l = absurd (l (omega arith))
-  no_shard_there (y ∷ ys) (suc n) l = no_shard_there ys n (λ k. l (omega (arith, k)))
-
-  pub seat_there : (seats : List (Seat M)) (n : ℕ) (x : Seat M) → AllByRecursion (IsSeat shard gate) seats → n < length seats → x ≡ get_or seats n x → IsSeat shard gate x
-  seat_there [] n x a l e = absurd (omega (arith, l))
-  seat_there (y ∷ ys) zero x a l e = subst (IsSeat shard gate) (sym e) a.0
-  seat_there (y ∷ ys) (suc n) x a l e = seat_there ys n x a.1 (omega (arith, l)) e
-
   seats_set : (seats : List (Seat M)) (n : ℕ) (x : Seat M) → AllByRecursion (IsSeat shard gate) seats → IsSeat shard gate x → AllByRecursion (IsSeat shard gate) (slice_set seats n x)
   seats_set [] n x a k = tt
   seats_set (y ∷ ys) zero x a k = (k, a.1)
@@ -96,10 +86,6 @@ module _ {M : Type 0} (shard : M → Shard) (gate : M → Option Listed) where
   -- each walker's entries are a session's of run 1
   pub session_one : (splits : List ℕ) (seats : List (Seat M)) (h : History) (walker : ℕ) → AreSound shard gate splits seats h → is_session splits 1 walker (own walker h) ≡ true
   session_one splits seats h walker k = subst (λ r. is_session splits r walker (own walker h) ≡ true) (empty_run (shard_count splits)) (k.steady.sessions walker)
-
-  -- there is no such shard, or the step isn't offered
-  pub passed_over : (splits : List ℕ) (seats : List (Seat M)) (h : History) (c : CoreStep) → AreSound shard gate splits seats h → (c.shard < length seats → ⊥) → Advanced splits seats h c seats h
-  passed_over splits seats h c k l = record { step = sym (no_shard splits (world_by shard seats h) c (no_shard_there seats c.shard l)); sound = k }
 
   pub refused : (splits : List ℕ) (seats : List (Seat M)) (h : History) (c : CoreStep) (x : Seat M) → AreSound shard gate splits seats h → c.shard < length seats → x ≡ get_or seats c.shard x
       → is_offered splits h c.walker c.shard c.event ≡ false → Advanced splits seats h c seats h

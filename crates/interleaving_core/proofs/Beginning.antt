@@ -1,7 +1,6 @@
 -- A world of shards that open empty logs, one after another.
 use Rattle.std.proofs.Common.{◌≡◌, refl, sym, ap, subst, ◌∙◌, ℕ, suc, ◌+◌, ◌-◌, ◌<◌, List, [], ◌∷◌, ◌++◌, append_assoc, arith, Option}
 use Rattle.std.specs.List.{AllByRecursion, list_all}
-use Rattle.std.proofs.lemmas.List.{append-nil}
 use Rattle.clv_base.specs.Shards.{shard_count}
 use Rattle.clv_base.specs.State.{Shard}
 use Rattle.clv_base.specs.Restarts.{opened}
@@ -28,9 +27,6 @@ module _ {M : Type 0} (shard : M → Shard) (gate : M → Option Listed) where
     pub new : shards_of shard seats ++ opened_from n (count - n) ≡ opened_from 0 count
     pub each_seat : AllByRecursion (IsSeat shard gate) seats
 
-  pub begun_none : (count : ℕ) → Begun [] 0 count
-  begun_none count = record { new = (let e : count - 0 ≡ count = omega arith in ap (opened_from 0) e); each_seat = tt }
-
   pub begun_more : (seats : List (Seat M)) (n count : ℕ) (x : Seat M) → n < count → Begun seats n count → shard x.machine ≡ opened n 1 [] → IsSeat shard gate x → Begun (seats ++ x ∷ []) (n + 1) count
   begun_more seats n count x l b is k =
       let one : n + 1 ≡ suc n = omega arith in
@@ -42,12 +38,6 @@ module _ {M : Type 0} (shard : M → Shard) (gate : M → Option Listed) where
             ∙ append_assoc (shards_of shard seats) (opened n 1 [] ∷ []) rest ∙ sym (ap (λ m. shards_of shard seats ++ opened_from n m) left) ∙ b.new;
         each_seat = seats_more seats x b.each_seat k;
       }
-
-  pub begun_all : (seats : List (Seat M)) (count : ℕ) (h : History) → Begun seats count count → h ≡ [] → world_by shard seats h ≡ new_world count
-  begun_all seats count h b e =
-      let none : count - count ≡ 0 = omega arith in
-      let all : shards_of shard seats ≡ opened_from 0 count = sym (ap (λ m. shards_of shard seats ++ opened_from count m) none ∙ append-nil (shards_of shard seats)) ∙ b.new in
-      ap (λ ss. record { shards = ss; history = h }) all ∙ ap (λ x. record { shards = opened_from 0 count; history = x }) e
 
   -- then it is sound
   pub sound_new : (splits : List ℕ) (seats : List (Seat M)) (h : History) → world_by shard seats h ≡ new_world (shard_count splits) → AllByRecursion (IsSeat shard gate) seats → AreSound shard gate splits seats h

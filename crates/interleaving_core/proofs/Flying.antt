@@ -1,5 +1,5 @@
 -- The two events of a flush, by what the machine tells of them.
-use Rattle.std.proofs.Common.{◌≡◌, refl, sym, ap, subst, ◌∙◌, ℕ, zero, suc, ◌+◌, ◌≤◌, true, false, Bool, List, ◌∷◌, ◌++◌, take, arith, nat_lt, Option, Some, None, Result, Ok}
+use Rattle.std.proofs.Common.{◌≡◌, refl, sym, ap, subst, ◌∙◌, ℕ, zero, suc, ◌+◌, ◌≤◌, true, false, Bool, List, ◌++◌, take, arith, nat_lt, Option, Some, None, Ok}
 use Rattle.std.specs.Prelude.{drop, ◌^◌, unwrap_or}
 use Rattle.std.proofs.lemmas.Bool.{both_ways}
 use Rattle.std.proofs.lemmas.List.{take-append-drop, take-take}
@@ -17,7 +17,6 @@ use Rattle.clv_base.specs.Restarts.{log_left}
 use Rattle.protocol_laws.specs.Growth.{IsPrefixOf}
 use Rattle.log_gate.specs.Image.{SpellAll}
 use Rattle.interleaving_core.specs.Listed.{Listed}
-use Rattle.machine_calls.specs.declared.machine.StepError.{StepError}
 use Rattle.machine_calls.specs.declared.flights.Flight.{Flight}
 use Rattle.machine_calls.specs.Flights.{Leaves, flying, is_out}
 use Rattle.machine_calls.specs.Steps.{Tells}
@@ -29,6 +28,7 @@ use Rattle.interleaving_core.specs.Seated.{HasLog, IsInFlight, IsHome, IsAway, I
 use Rattle.crash_laws.proofs.Laws.{Framed, framed_finish, grows_settled, same_outcome, same_after, take_grown}
 use Rattle.law_base.proofs.Logs.{spelled_append as all_spelled}
 use Rattle.law_base.proofs.Shards.{same_out, up_or_down}
+use Rattle.law_base.proofs.Options.{ok_inj}
 
 -- ---- the start of a flush
 
@@ -53,14 +53,11 @@ by_up : (s : Shard) (clock w n : ℕ) (t : Shard) (b : Bool) → s.is_up ≡ b
 by_up s clock w n t false up h = absurd cc
 by_up s clock w n t true up h = outs s (next_stamp s clock FlushOut) w (nat_lt (next_stamp s clock FlushOut) (2 ^ 48)) s.flight (fitting 1048576 (drop (taken s) s.local.log)) n t up refl h
 
-same_ok : {p q : Outcome} → ◌≡◌ {A = Result Outcome StepError} (Ok p) (Ok q) → p ≡ q
-same_ok e = cc
-
 -- where there is a flight, the entry was made
 pub departed : {G : Type 0} (s t : Shard) (clock w : ℕ) (before after : Option G) (o : Outcome) (f : Flight G) (x : Option Entry) → Tells (step s clock w FlushOut) s clock w FlushOut (Ok o) t x → Leaves t before after o f → step s clock w FlushOut ≡ Enters o t
 departed s t clock w before after o f None h d =
     absurd (up_or_down s (next_stamp s clock FlushOut) w (nat_lt (next_stamp s clock FlushOut) (2 ^ 48)) f.upto s.is_up (h.0 ∙ ap (λ p. Quiet p) d.outcome))
-departed s t clock w before after o f (Some x) h d = h.2.enters ∙ ap (λ p. Enters p t) (sym (same_ok h.1))
+departed s t clock w before after o f (Some x) h d = h.2.enters ∙ ap (λ p. Enters p t) (sym (ok_inj _ _ h.1))
 
 -- every entry of it is Out
 outs_in : (s : Shard) (stamp w : ℕ) (room : Bool) (f : Option ℕ) (k : ℕ) (o : Outcome) (t : Shard) → stamped stamp w FlushOut room (out_event s f k) ≡ Enters o t → is_out o ≡ true
@@ -77,7 +74,7 @@ outs_up s stamp w room o t false h = absurd cc
 pub stayed : (s t : Shard) (clock w : ℕ) (o : Outcome) (x : Option Entry) → Tells (step s clock w FlushOut) s clock w FlushOut (Ok o) t x → is_out o ≡ false → (is_idle (step s clock w FlushOut) ≡ true) × (t ≡ s)
 stayed s t clock w o None h d = (ap is_idle h.0, h.1)
 stayed s t clock w o (Some x) h d =
-    absurd (both_ways (is_out o) d (ap is_out (same_ok h.1) ∙ outs_up s (next_stamp s clock FlushOut) w (nat_lt (next_stamp s clock FlushOut) (2 ^ 48)) h.0 t s.is_up h.2.enters))
+    absurd (both_ways (is_out o) d (ap is_out (ok_inj _ _ h.1) ∙ outs_up s (next_stamp s clock FlushOut) w (nat_lt (next_stamp s clock FlushOut) (2 ^ 48)) h.0 t s.is_up h.2.enters))
 
 kept_front : (m n : ℕ) (xs : List LogRecord) → m ≤ n → take n xs ≡ take m xs ++ drop m (take n xs)
 kept_front m n xs l = sym (ap (λ z. z ++ drop m (take n xs)) (sym (take-take m n xs l)) ∙ take-append-drop m (take n xs))

@@ -1,5 +1,5 @@
 -- The place at which an entry is put.
-use Rattle.std.proofs.Common.{◌≡◌, refl, sym, ap, subst, ◌∙◌, ℕ, suc, ◌+◌, ◌<◌, true, false, cond, [], ◌∷◌, length, drop, get_or, drop-cons, arith}
+use Rattle.std.proofs.Common.{◌≡◌, sym, ap, subst, ◌∙◌, ℕ, suc, ◌+◌, ◌<◌, true, false, cond, [], ◌∷◌, length, drop, get_or, drop-cons, arith}
 use Rattle.std.specs.List.{insert}
 use Rattle.clv_base.specs.declared.events.Entry.{Entry}
 use Rattle.clv_base.specs.Core.{put_entry}
@@ -11,9 +11,6 @@ PutsBehind e h i = (k : ℕ) → insert (drop i h) k e ≡ put_entry e (drop i h
 
 cut : (h : History) (i : ℕ) (f : ℕ × Entry) → i < length h → f ≡ get_or h i f → drop i h ≡ f ∷ drop (suc i) h
 cut h i f l is = drop-cons h i f l ∙ ap (λ x. x ∷ drop (suc i) h) (sym is)
-
-pub puts_first : (e : ℕ × Entry) (h : History) → PutsBehind e h 0
-puts_first e h k p = (let z : 0 + k ≡ k = omega arith in ap (λ n. insert h n e) z) ∙ p
 
 pub puts_next : (e : ℕ × Entry) (h : History) (i : ℕ) (f : ℕ × Entry) → i < length h → f ≡ get_or h i f → comes_before e f ≡ false → PutsBehind e h i → PutsBehind e h (i + 1)
 puts_next e h i f l is c b k p =
@@ -29,12 +26,3 @@ puts_here e h i f l is c b =
     let r : insert (f ∷ drop (suc i) h) 0 e ≡ put_entry e (f ∷ drop (suc i) h) = sym (ap (λ x. cond x (e ∷ f ∷ drop (suc i) h) (f ∷ put_entry e (drop (suc i) h))) c) in
     let z : i ≡ i + 0 = omega arith in
     ap (λ n. insert h n e) z ∙ b 0 (subst (λ t. insert t 0 e ≡ put_entry e t) (sym (cut h i f l is)) r)
-
-nothing_left : (h : History) → drop (length h) h ≡ []
-nothing_left [] = refl
-nothing_left (x ∷ xs) = nothing_left xs
-
-pub puts_last : (e : ℕ × Entry) (h : History) → PutsBehind e h (length h) → insert h (length h) e ≡ put_entry e h
-puts_last e h b =
-    let z : length h ≡ length h + 0 = omega arith in
-    ap (λ n. insert h n e) z ∙ b 0 (subst (λ t. insert t 0 e ≡ put_entry e t) (sym (nothing_left h)) refl)

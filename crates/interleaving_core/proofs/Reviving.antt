@@ -1,5 +1,5 @@
 -- A restart, by what the machine tells of it.
-use Rattle.std.proofs.Common.{◌≡◌, refl, sym, ap, subst, ◌∙◌, ℕ, ◌<◌, true, false, Bool, List, length, arith, Option, Some, None, Result, Ok}
+use Rattle.std.proofs.Common.{◌≡◌, refl, sym, ap, subst, ◌∙◌, ℕ, ◌<◌, true, false, Bool, List, length, arith, Option, Some, None, Ok}
 use Rattle.std.specs.Prelude.{◌^◌}
 use Rattle.std.specs.List.{list_all}
 use Rattle.std.proofs.lemmas.Bool.{lt-ltb}
@@ -14,12 +14,11 @@ use Rattle.clv_base.specs.State.{Shard}
 use Rattle.clv_base.specs.Events.{Does, Quiet, Enters, next_stamp, stamped, with_entry}
 use Rattle.clv_base.specs.Restarts.{log_left, log_after_restart, next_epoch, revived, revive, revive_down, Restarts, untouched, misfit}
 use Rattle.interleaving_core.specs.Listed.{Listed}
-use Rattle.machine_calls.specs.declared.machine.StepError.{StepError}
-use Rattle.machine_calls.specs.Events.{sends_fit}
 use Rattle.machine_calls.specs.Steps.{Tells}
 use Rattle.machine_calls.specs.Restored.{revives}
 use Rattle.interleaving_core.specs.Seated.{IsHome}
-use Rattle.crash_laws.proofs.Laws.{misfit_is_exact, same_after, same_outcome}
+use Rattle.crash_laws.proofs.Laws.{misfit_is_exact, same_after}
+use Rattle.law_base.proofs.Options.{ok_inj}
 
 pub no_misfit : (s : Shard) (found : List LogRecord) (kept : Bool) (epoch : ℕ) → found ≡ log_left s kept → epoch ≡ next_epoch s found → misfit s (log_after_restart s.shard found s.run epoch) epoch ≡ None
 no_misfit s found kept epoch e n =
@@ -41,21 +40,15 @@ roomy s clock w epoch log l = ap (λ b. stamped (next_stamp s clock Restart) w R
 no_quiet : {X : Type 0} {o p : Outcome} {t : Shard} → Enters o t ≡ Quiet p → X
 no_quiet e = absurd cc
 
-same_ok : {p q : Outcome} → ◌≡◌ {A = Result Outcome StepError} (Ok p) (Ok q) → p ≡ q
-same_ok e = cc
-
 -- it made its entry
 pub revived_enters : (s t : Shard) (clock w epoch : ℕ) (log : List LogRecord) (o : Outcome) (x : Option Entry) → next_stamp s clock Restart < 2 ^ 48 → Tells (revives s clock w epoch log) s clock w Restart (Ok o) t x
     → revives s clock w epoch log ≡ Enters o t
 revived_enters s t clock w epoch log o None l h = no_quiet (sym (roomy s clock w epoch log l) ∙ h.0)
-revived_enters s t clock w epoch log o (Some x) l h = h.2.enters ∙ ap (λ p. Enters p t) (sym (same_ok h.1))
+revived_enters s t clock w epoch log o (Some x) l h = h.2.enters ∙ ap (λ p. Enters p t) (sym (ok_inj _ _ h.1))
 
 pub revived_is : (s t : Shard) (clock w epoch : ℕ) (log : List LogRecord) (o : Outcome) → next_stamp s clock Restart < 2 ^ 48 → revives s clock w epoch log ≡ Enters o t
     → t ≡ with_entry (next_stamp s clock Restart) w Restart (Up epoch) (revived s epoch log)
 revived_is s t clock w epoch log o l h = sym (same_after (sym (roomy s clock w epoch log l) ∙ h))
-
-pub revived_sends : (s t : Shard) (clock w epoch : ℕ) (log : List LogRecord) (o : Outcome) → next_stamp s clock Restart < 2 ^ 48 → revives s clock w epoch log ≡ Enters o t → sends_fit o ≡ true
-revived_sends s t clock w epoch log o l h = sym (ap sends_fit (same_outcome (sym (roomy s clock w epoch log l) ∙ h)))
 
 -- the gate has the log that the shard has
 pub seated_revived : (s t : Shard) (clock w epoch : ℕ) (log : List LogRecord) (o : Outcome) (g : Listed) → next_stamp s clock Restart < 2 ^ 48 → revives s clock w epoch log ≡ Enters o t → Some g.records ≡ Some log → g.is_shut ≡ false

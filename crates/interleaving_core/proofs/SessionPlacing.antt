@@ -8,10 +8,6 @@ pub session_is : (walker : ℕ) (scanned : Option ℕ) (place : Option SessionSt
 session_is walker scanned None i = refl
 session_is walker scanned (Some t) i = i.bears.1
 
-pub run_is : (walker : ℕ) (scanned : Option ℕ) (place : Option SessionState) → IsPlaced walker scanned place → ((place_or walker place).tx).run ≡ 1
-run_is walker scanned None i = refl
-run_is walker scanned (Some t) i = i.bears.0
-
 -- with serial 0 it has made nothing
 pub serial_zero : (walker : ℕ) (scanned : Option ℕ) (place : Option SessionState) → IsPlaced walker scanned place → ((place_or walker place).tx).serial ≡ 0 → (place_or walker place).phase ≡ Ended
 serial_zero walker scanned None i e = refl

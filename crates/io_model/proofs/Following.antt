@@ -1,35 +1,7 @@
 -- One read or write after another.
-use Rattle.std.proofs.Common.{◌≡◌, ℕ, ◌+◌, ◌-◌, ◌<◌, ◌≤◌, List, [], ◌∷◌, ◌++◌, length, take, drop, take-append-drop, Option, Some, None, IfSome, refl, sym, ◌∙◌, ap, arith, append_assoc, length-append}
-use Rattle.std.proofs.lemmas.List.{append-nil, take_rest, drop-drop, length-take-le}
-use Rattle.io_model.specs.Streams.{Consumes, Ends, Grows}
-
-pub consumes_none : (o : Option (List ℕ)) → Consumes o o []
-consumes_none None = refl
-consumes_none (Some left) = (left, refl, refl)
-
-pub consumes_more : (o m n : Option (List ℕ)) (first more : List ℕ) → Consumes o m first → Consumes m n more → Consumes o n (first ++ more)
-consumes_more None None n first more one two = two
-consumes_more None (Some l) n first more one two = let no : ◌≡◌ {A = Option (List ℕ)} (Some l) None = one in absurd (cc)
-consumes_more (Some left) None n first more one two = let no : ◌≡◌ {A = Option (List ℕ)} None (Some one.0) = one.1 in absurd (cc)
-consumes_more (Some left) (Some l) n first more one two =
-    let same : l ≡ one.0 = let e : ◌≡◌ {A = Option (List ℕ)} (Some l) (Some one.0) = one.1 in cc in
-    (two.0, two.1, one.2 ∙ ap (λ (x : List ℕ). first ++ x) (sym same ∙ two.2) ∙ sym (append_assoc first more two.0))
-
-pub consumes_all : (o m n : Option (List ℕ)) (all : List ℕ) → Consumes o m all → Ends m n [] → Ends o n all
-consumes_all None None n all one two = two
-consumes_all None (Some l) n all one two = let no : ◌≡◌ {A = Option (List ℕ)} (Some l) None = one in absurd (cc)
-consumes_all (Some left) None n all one two = let no : ◌≡◌ {A = Option (List ℕ)} None (Some one.0) = one.1 in absurd (cc)
-consumes_all (Some left) (Some l) n all one two =
-    let same : l ≡ one.0 = let e : ◌≡◌ {A = Option (List ℕ)} (Some l) (Some one.0) = one.1 in cc in
-    (two.0, one.2 ∙ ap (λ (x : List ℕ). all ++ x) (sym same ∙ two.1) ∙ append-nil all)
-
-pub longer_than : (o m : Option (List ℕ)) (all : List ℕ) (limit : ℕ) → Consumes o m all → limit < length all → IfSome o (λ left. limit < length left)
-longer_than None m all limit one long = tt
-longer_than (Some left) m all limit one long = omega (arith, ap length one.2, length-append all one.0)
-
-pub grows_none : (o : Option (List ℕ)) → Grows o o []
-grows_none None = refl
-grows_none (Some taken) = ap (λ (x : List ℕ). Some x) (sym (append-nil taken))
+use Rattle.std.proofs.Common.{◌≡◌, ℕ, ◌+◌, ◌-◌, ◌≤◌, List, [], ◌∷◌, ◌++◌, length, take, drop, take-append-drop, Option, Some, None, refl, sym, ◌∙◌, ap, arith, append_assoc}
+use Rattle.std.proofs.lemmas.List.{take_rest, drop-drop, length-take-le}
+use Rattle.io_model.specs.Streams.{Grows}
 
 pub grows_more : (o m n : Option (List ℕ)) (first more : List ℕ) → Grows o m first → Grows m n more → Grows o n (first ++ more)
 grows_more None None n first more one two = two

@@ -42,9 +42,6 @@ fits_happens s _ (stops u) = refl
 
 -- ---- a session goes on by each
 
-no_more : (splits : List ℕ) {X : Type 0} → makes_from splits None [] ≡ true → X
-no_more splits h = absurd (both_ways false refl h)
-
 op_goes : (splits : List ℕ) (n nth : ℕ) (op : Operation) (t : SessionState) (o : Outcome) → fits_op o ≡ true → is_some (op_answered n nth op t o) ≡ true
 op_goes splits n nth op t (Answered answer epoch) h = refl
 op_goes splits n nth op t (Dead cause) h = refl

@@ -17,7 +17,7 @@ use Rattle.clv_base.specs.declared.modes.Holder.{Holder}
 use Rattle.clv_base.specs.declared.modes.Decision.{Decision}
 use Rattle.clv_base.specs.declared.modes.Decision.TheVariants.{Grant, Wait, Die}
 use Rattle.clv_base.specs.Modes.{compatible}
-use Rattle.clv_base.specs.Orders.{tx_cmp, tx_same, birth_cmp, is_older, anchor_cmp}
+use Rattle.clv_base.specs.Orders.{tx_same, birth_cmp, is_older, anchor_cmp}
 use Rattle.clv_base.specs.Locks.{Locks, meets, conflicting_holders, older_of, oldest_by, wait_by, die_by, decide}
 use Rattle.clv_base.proofs.SameNames.{tx_true}
 use Rattle.lock_index.specs.Groups.{Groups, rows_of, Apart}
@@ -26,11 +26,9 @@ use Rattle.lock_index.specs.Meeting.{visit, oldest_step, older_row, age_cmp, dec
 use Rattle.lock_index.proofs.Sums.{Row, In, visited}
 use Rattle.law_base.proofs.Names.{anchor_less as anchor_goes_on}
 use Rattle.law_base.proofs.Bools.{less_is}
+use Rattle.law_base.proofs.Sets.{tx_total}
 
 -- ---- the orders
-
-tx_order : IsTotalOrder tx_cmp
-tx_order = then_total (on_total (λ t. t.run) nat_cmp_total) (then_total (on_total (λ t. t.session) nat_cmp_total) (on_total (λ t. t.serial) nat_cmp_total))
 
 birth_order : IsTotalOrder birth_cmp
 birth_order = then_total (on_total (λ t. t.stamp) nat_cmp_total) (then_total (on_total (λ t. t.session) nat_cmp_total) (on_total (λ t. t.serial) nat_cmp_total))
@@ -52,7 +50,7 @@ pub anchor_order : IsTotalOrder anchor_cmp
 anchor_order = record { antisymm = anchor_turns; trans = anchor_goes_on; congr = anchor_agrees }
 
 pub row_total : IsTotalOrder row_order
-row_total = then_total (on_total (λ (r : Row). r.0) anchor_order) (on_total (λ (r : Row). (r.1).tx) tx_order)
+row_total = then_total (on_total (λ (r : Row). r.0) anchor_order) (on_total (λ (r : Row). (r.1).tx) tx_total)
 
 age_total : IsTotalOrder age_cmp
 age_total = then_total (on_total (λ (r : Row). (r.1).birth) birth_order) row_total

@@ -1,17 +1,14 @@
 -- Rows rise still after a lock is taken.
-use Rattle.std.proofs.Common.{◌≡◌, refl, ap, ◌∙◌, Bool, true, false, cond, List, [], ◌∷◌}
+use Rattle.std.proofs.Common.{◌≡◌, refl, ap, ◌∙◌, Bool, true, false, cond, [], ◌∷◌}
 use Rattle.std.specs.List.{filter}
 use Rattle.std.specs.declared.cmp.Ordering.{Ordering}
 use Rattle.std.specs.declared.cmp.Ordering.TheVariants.{Less, Equal, Greater}
 use Rattle.std.specs.Ordering.{match_ordering, ordering_then, ordering_reverse, is_eq}
-use Rattle.clv_base.specs.declared.names.TxId.{TxId}
-use Rattle.clv_base.specs.declared.names.Birth.{Birth}
 use Rattle.clv_base.specs.declared.modes.Mode.{Mode}
 use Rattle.clv_base.specs.declared.modes.Anchor.{Anchor}
-use Rattle.clv_base.specs.declared.modes.Need.{Need}
 use Rattle.clv_base.specs.declared.modes.Holder.{Holder}
 use Rattle.clv_base.specs.Orders.{tx_cmp, anchor_cmp}
-use Rattle.clv_base.specs.Locks.{Locks, row_cmp, with_mode, take_one, take_all, holder_of}
+use Rattle.clv_base.specs.Locks.{Locks, row_cmp, with_mode, take_one}
 use Rattle.lock_index.proofs.Sums.{Row}
 use Rattle.lock_index.proofs.Oldest.{row_order, row_total, Behind, Rising}
 use Rattle.law_base.proofs.LockRows.{anchor_true}
@@ -48,10 +45,6 @@ module _ (a : Anchor) (h : Holder) where
       go Less e more = ((e, behind_more (a, h) r rs e s.0), s)
       go Equal e more = (behind_joined a r h.mode rs (anchor_true a r.0 (first_level (anchor_cmp a r.0) (tx_cmp h.tx (r.1).tx) e)) s.0, s.1)
       go Greater e more = (behind_take r rs (row_total.antisymm r (a, h) ∙ ap ordering_reverse e) s.0, more)
-
-pub rising_take_all : (tx : TxId) (birth : Birth) (ns : List Need) (rows : Locks) → Rising rows → Rising (take_all tx birth ns rows)
-rising_take_all tx birth [] rows s = s
-rising_take_all tx birth (n ∷ ns) rows s = rising_take_all tx birth ns _ (rising_take_one n.anchor (holder_of tx birth n.mode) rows s)
 
 behind_filter : (p : Row → Bool) (x : Row) (rows : Locks) → Behind x rows → Behind x (filter p rows)
 behind_filter p x [] b = tt

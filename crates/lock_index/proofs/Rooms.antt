@@ -54,12 +54,6 @@ room_for c k es (n ∷ ns) p = let q = of_least c (spare_at n.anchor (spares es)
 pub half : (c s : ℕ) → c ≤ s / 2 → 2 * c ≤ s
 half c s p = omega (arith, p)
 
-pub half_up : (c s : ℕ) → 2 * c ≤ s → c ≤ s / 2
-half_up c s p = omega (arith, p)
-
-pub half_falls : (d s t : ℕ) → s ≤ t + 2 * d → s / 2 ≤ t / 2 + d
-half_falls d s t p = omega (arith, p)
-
 -- ---- what changes of it
 
 pub room_stays : (k l : ℕ) (es fs : Entries) → k ≤ l → ((a : Anchor) → spare_on a es ≤ spare_on a fs) → (on : List Anchor) → room_at k (spares es) on ≤ room_at l (spares fs) on

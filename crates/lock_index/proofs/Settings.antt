@@ -76,9 +76,6 @@ module _ (a : Anchor) (v w : Vec Holder Global) where
 pub room_is : (a : Anchor) (es : Entries) (v : Vec Holder Global) → lookup (eq-value.it (key_of a)) es ≡ Some v → spare_on a es ≡ vec_capacity v - vec_len v
 room_is a es v e = ap (λ o. option_map_or (λ u. vec_capacity u - vec_len u) o 0) (sym (found_same a es) ∙ e)
 
-pub no_room : (a : Anchor) (es : Entries) → lookup (eq-value.it (key_of a)) es ≡ None → spare_on a es ≡ 0
-no_room a es e = ap (λ o. option_map_or (λ u. vec_capacity u - vec_len u) o 0) (sym (found_same a es) ∙ e)
-
 -- there is none on an anchor without a group
 pub no_spare : (a : Anchor) (es : Entries) → NoneAt a (groups es) → spare_on a es ≡ 0
 no_spare a [] n = refl

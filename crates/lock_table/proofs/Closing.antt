@@ -1,5 +1,5 @@
 -- A loop that closes the rows one after another.
-use Rattle.std.proofs.Common.{◌≡◌, refl, ap, ◌∙◌, ℕ, zero, suc, ◌+◌, ◌<◌, ◌∷◌, ◌++◌, length, get_or, set, take, drop, arith}
+use Rattle.std.proofs.Common.{◌≡◌, ap, ◌∙◌, ℕ, ◌+◌, ◌<◌, ◌++◌, length, get_or, set, take, drop, arith}
 use Rattle.std.proofs.lemmas.List.Edits.{map_over_more}
 use Rattle.clv_base.specs.declared.names.TxId.{TxId}
 use Rattle.clv_base.specs.declared.modes.Anchor.{Anchor}

@@ -1,10 +1,8 @@
 -- To copy the gap parts is to take a lock for each of them.
-use Rattle.std.proofs.Common.{◌≡◌, refl, cond, true, false, Bool, List, [], ◌∷◌, map, length}
-use Rattle.std.proofs.lemmas.List.{length-map}
+use Rattle.std.proofs.Common.{◌≡◌, refl, cond, true, false, Bool, List, [], ◌∷◌, map}
 use Rattle.std.specs.List.{filter}
 use Rattle.clv_base.specs.declared.modes.Anchor.{Anchor}
 use Rattle.clv_base.specs.declared.modes.Holder.{Holder}
-use Rattle.lock_table.specs.Rows.{gaps_held}
 use Rattle.clv_base.specs.Locks.{Locks, take_one, copy_gaps, gap_alone, holds_gap}
 
 -- the locks with each of these on the anchor
@@ -23,6 +21,3 @@ copy_gaps-take_each lower new (r ∷ rs) locks = go (holds_gap lower r) (copy_ga
         → copy_gaps lower new rs (cond b (take_one new (gap_alone r.1) locks) locks) ≡ take_each new (map (λ r. gap_alone r.1) (cond b (r ∷ filter (holds_gap lower) rs) (filter (holds_gap lower) rs))) locks
     go true more = more (take_one new (gap_alone r.1) locks)
     go false more = more locks
-
-pub length-gap_parts : (lower : Anchor) (rows : Locks) → length (gap_parts lower rows) ≡ gaps_held lower rows
-length-gap_parts lower rows = length-map (filter (holds_gap lower) rows) (λ r. gap_alone r.1)

@@ -1,5 +1,5 @@
 -- By how many the gap parts that are held on an anchor can grow.
-use Rattle.std.proofs.Common.{◌≡◌, ℕ, ◌+◌, ◌≤◌, cond, true, false, Bool, List, [], ◌∷◌, length, arith}
+use Rattle.std.proofs.Common.{◌≡◌, ◌+◌, ◌≤◌, cond, true, false, Bool, List, [], ◌∷◌, length, arith}
 use Rattle.std.specs.List.{filter}
 use Rattle.std.specs.declared.cmp.Ordering.{Ordering}
 use Rattle.std.specs.declared.cmp.Ordering.TheVariants.{Less, Equal, Greater}
@@ -11,22 +11,16 @@ use Rattle.clv_base.specs.declared.modes.Need.{Need}
 use Rattle.clv_base.specs.declared.modes.Holder.{Holder}
 use Rattle.clv_base.specs.Locks.{Locks, row_cmp, with_mode, take_one, take_all, holder_of, holds_gap}
 use Rattle.lock_table.specs.Rows.{gaps_held}
+use Rattle.law_base.proofs.Numbers.{one_if}
 
--- one for a row that holds the gap
-one_for : Bool → ℕ
-one_for true = 1
-one_for false = 0
-
-at_most_one : (b : Bool) → one_for b ≤ 1
-unfolding one_for
+at_most_one : (b : Bool) → one_if b ≤ 1
 at_most_one true = omega arith
 at_most_one false = omega arith
 
-gaps_held-cons : (x : Anchor) (r : Anchor × Holder) (rs : Locks) → gaps_held x (r ∷ rs) ≡ one_for (holds_gap x r) + gaps_held x rs
-unfolding one_for
+gaps_held-cons : (x : Anchor) (r : Anchor × Holder) (rs : Locks) → gaps_held x (r ∷ rs) ≡ one_if (holds_gap x r) + gaps_held x rs
 gaps_held-cons x r rs = go (holds_gap x r)
   where
-    go : (b : Bool) → length (cond b (r ∷ filter (holds_gap x) rs) (filter (holds_gap x) rs)) ≡ one_for b + gaps_held x rs
+    go : (b : Bool) → length (cond b (r ∷ filter (holds_gap x) rs) (filter (holds_gap x) rs)) ≡ one_if b + gaps_held x rs
     go true = omega arith
     go false = omega arith
 

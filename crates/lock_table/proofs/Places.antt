@@ -1,5 +1,5 @@
 -- Where an element is put into a list that is in order.
-use Rattle.std.proofs.Common.{◌≡◌, refl, sym, ap, ◌∙◌, ℕ, zero, suc, ◌+◌, cond, true, false, Bool, not, List, [], ◌∷◌, ◌++◌, get_or, set, Some, None, subst, arith}
+use Rattle.std.proofs.Common.{◌≡◌, refl, sym, ap, ◌∙◌, ℕ, suc, ◌+◌, cond, true, false, Bool, not, List, [], ◌∷◌, ◌++◌, get_or, set, Some, None, subst, arith}
 use Rattle.std.specs.List.{position, position_from, insert}
 use Rattle.std.proofs.lemmas.Iterator.Adapters.{position_from-zero}
 use Rattle.std.specs.declared.cmp.Ordering.{Ordering}

@@ -1,5 +1,5 @@
 -- The next batch of a buffer whose records have spellings.
-use Rattle.std.proofs.Common.{◌≡◌, refl, ap, sym, ◌∙◌, subst, ℕ, zero, suc, ◌+◌, ◌-◌, ◌≤◌, ◌<◌, Bool, true, false, Option, List, ◌∷◌, ◌++◌, length, take, drop, slice_range, arith, length-drop}
+use Rattle.std.proofs.Common.{◌≡◌, refl, ap, sym, ◌∙◌, subst, ℕ, ◌+◌, ◌-◌, ◌≤◌, ◌<◌, Bool, true, false, Option, List, ◌++◌, length, take, drop, slice_range, arith, length-drop}
 use Rattle.std.proofs.Math.Seq.{take-add}
 use Rattle.std.specs.List.{list_all}
 use Rattle.clv_base.specs.declared.logs.LogRecord.{LogRecord}

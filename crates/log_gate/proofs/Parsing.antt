@@ -1,5 +1,5 @@
 -- Reading a log gate by gate.
-use Rattle.std.proofs.Common.{◌≡◌, ◌≢◌, ℕ, zero, suc, ◌+◌, ◌*◌, ◌/◌, ◌%◌, ◌≤◌, ◌<◌, List, [], ◌∷◌, ◌++◌, length, get_or, take, drop, Result, Ok, Err, Bool, true, false, cond, nat_eq, refl, sym, ◌∙◌, ap, subst, arith, append_assoc, length-append, length-drop, take-append-drop}
+use Rattle.std.proofs.Common.{◌≡◌, ◌≢◌, ℕ, zero, suc, ◌+◌, ◌*◌, ◌/◌, ◌%◌, ◌≤◌, ◌<◌, List, [], ◌∷◌, ◌++◌, length, get_or, take, drop, Result, Ok, Err, Bool, true, false, cond, refl, sym, ◌∙◌, ap, subst, arith, append_assoc, length-append, length-drop, take-append-drop}
 use Rattle.std.specs.List.{AllByRecursion}
 use Rattle.std.proofs.lemmas.List.{append-nil, drop_more, drop_all, drop-drop, length-take, get_or-drop}
 use Rattle.std.proofs.lemmas.Bool.Decides.{nat_tests}
@@ -33,12 +33,6 @@ none : (k place : ℕ) (rest : List ℕ) → holds_batch (little_number 4 rest) 
 unfolding payloads_from
 none k place rest fails =
     ap (λ (b : Bool). cond b (with_first (take (little_number 4 rest) (drop 4 rest)) (payloads_from k (place + 5 + little_number 4 rest) (drop (4 + little_number 4 rest) rest))) (Err (place + 1))) fails
-
-closed : (k place gate : ℕ) (rest : List ℕ) → gate ≢ 1 → payloads_from (suc k) place (gate ∷ rest) ≡ Ok []
-unfolding payloads_from
-closed k place gate rest shut =
-    let fails : nat_eq gate 1 ≡ false = grind (arith, nat_tests) in
-    ap (λ (b : Bool). cond b (cond (holds_batch (little_number 4 rest) rest) (with_first (take (little_number 4 rest) (drop 4 rest)) (payloads_from k (place + 5 + little_number 4 rest) (drop (4 + little_number 4 rest) rest))) (Err (place + 1))) (Ok [])) fails
 
 missing : (k place : ℕ) → payloads_from k place [] ≡ Err place
 unfolding payloads_from

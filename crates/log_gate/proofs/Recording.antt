@@ -1,6 +1,5 @@
 -- A log of payloads that are read as records is a log of these records.
-use Rattle.std.proofs.Common.{◌≡◌, ◌⊎◌, inl, inr, ℕ, zero, suc, ◌+◌, List, [], ◌∷◌, ◌++◌, length, take, drop, Result, Ok, Err, Bool, true, false, cond, nat_eq, refl, sym, ◌∙◌, ap, subst, append_assoc}
-use Rattle.std.proofs.lemmas.List.{append-nil}
+use Rattle.std.proofs.Common.{◌≡◌, ◌⊎◌, inl, inr, ℕ, zero, suc, ◌+◌, List, [], ◌∷◌, length, take, drop, Result, Ok, Err, Bool, true, false, cond, nat_eq, refl, sym, ◌∙◌, ap, subst}
 use Rattle.byteorder.specs.Endian.{little_number}
 use Rattle.log_gate.specs.Payloads.{holds_batch, with_first, payloads_from, payload_log}
 use Rattle.log_gate.specs.Records.{both, records_from, record_log, AllRead}
@@ -58,8 +57,3 @@ module _ {X : Type 0} (read : ℕ → List ℕ → Result (List X) ℕ) where
   pub record_log_follows : (head : ℕ) (image : List ℕ) (ps : List (List ℕ)) (records : List X) → payload_log head image ≡ Ok ps → AllRead read ps records → record_log read head image ≡ Ok records
   unfolding payload_log record_log
   record_log_follows head image ps records is all = records_follow_from (suc (length image)) head (drop head image) ps records is all
-
-  -- one payload more, with its records
-  pub all_read_push : (ps : List (List ℕ)) (p : List ℕ) (records more : List X) → AllRead read ps records → ((place : ℕ) → read place p ≡ Ok more) → AllRead read (ps ++ p ∷ []) (records ++ more)
-  all_read_push [] p records more all one = (more, [], one, refl, ap (λ (l : List X). l ++ more) all ∙ sym (append-nil more))
-  all_read_push (q ∷ ps) p records more all one = (all.0, all.1 ++ more, all.2, all_read_push ps p all.1 more all.3 one, ap (λ (l : List X). l ++ more) all.4 ∙ append_assoc all.0 all.1 more)

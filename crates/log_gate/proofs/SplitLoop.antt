@@ -10,10 +10,6 @@ abbrev pub with_splits : List ℕ → Result (List ℕ) ℕ → Result (List ℕ
 with_splits front (Ok splits) = Ok (front ++ splits)
 with_splits front (Err place) = Err place
 
-pub with_none : (r : Result (List ℕ) ℕ) → with_splits [] r ≡ r
-with_none (Ok splits) = refl
-with_none (Err place) = refl
-
 with_one : (front : List ℕ) (split : ℕ) (r : Result (List ℕ) ℕ) → with_splits front (with_split split r) ≡ with_splits (front ++ split ∷ []) r
 with_one front split (Ok splits) = ap (λ (l : List ℕ). Ok l) (sym (append_assoc front (split ∷ []) splits))
 with_one front split (Err place) = refl

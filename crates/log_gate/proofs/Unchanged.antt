@@ -83,10 +83,6 @@ module _ (shard : ℕ) (agreed : Option (List ℕ)) (small : shard < 2 ^ 32) (fo
   abbrev Opens : Story → Story → Type 0
   Opens s t = IsUnchanged s t × Finds shard agreed (Ok found) s t
 
-  pub opened_holds : (o n : Option Story) → Tells o n Opens → IfSome n (Holds shard found.2)
-  opened_holds None n told = subst (λ (v : Option Story). IfSome v (Holds shard found.2)) (sym told) tt
-  opened_holds (Some s) n (t, is, (same, (f, looks))) = subst (λ (v : Option Story). IfSome v (Holds shard found.2)) (sym is) (subst (Holds shard found.2) (sym looks) (found_holds shard agreed s found.0.splits found.1.items found.2 f))
-
   log_now : (s : Story) → Found shard agreed (reads s) found.0.splits found.1.items found.2 → EachNow (HasLog shard found.1.items) (looked s)
   log_now s f = holds_log shard found.2 small (looked s) (found_holds shard agreed s found.0.splits found.1.items found.2 f)
 
@@ -104,11 +100,3 @@ module _ (shard : ℕ) (agreed : Option (List ℕ)) (small : shard < 2 ^ 32) (fo
   pub opened_before : (o n : Option Story) → Tells o n Opens → IfSome o (λ s. HasLog shard found.1.items (reads s) × HasHeader shard found.0.splits (reads s))
   opened_before None n told = tt
   opened_before (Some s) n (t, is, (same, (f, looks))) = ((log_now s f).read, (header_now s f).read)
-
-  pub opened_found : (o n : Option Story) → Tells o n Opens → IfSome o (λ s. checked_log shard agreed (reads s) ≡ Ok (found.0.splits, found.1.items))
-  opened_found None n told = tt
-  opened_found (Some s) n (t, is, (same, (f, looks))) = f.is
-
-pub opened_refused : (shard : ℕ) (agreed : Option (List ℕ)) (o n : Option Story) (e : OpenLogError) (offset : ℕ) → e ≡ NotLog offset → Tells o n (λ s t. IsUnchanged s t × Finds shard agreed (Err e) s t) → IfSome o (λ s. checked_log shard agreed (reads s) ≡ Err offset)
-opened_refused shard agreed None n e offset is told = tt
-opened_refused shard agreed (Some s) n e offset is told = (subst (λ (x : OpenLogError). Tells (Some s) n (λ s t. IsUnchanged s t × Finds shard agreed (Err x) s t)) is told).2.1

@@ -10,13 +10,6 @@ use Rattle.log_rules.specs.Writes.{newest_by}
 use Rattle.log_rules.specs.Adding.{bars_after_abort, BarsOne, BarsAll}
 use Rattle.log_rules.proofs.Listing.{in_push}
 
-or_none : (a : Bool) → a ≡ a || false
-or_none true = refl
-or_none false = refl
-
-pub bars_none : (x : Index) → BarsAll x x []
-bars_none x = record { keeps = record { shard = refl; last = refl; restart_at = refl; facts = refl }; writes = refl; listers = refl; barring = λ t. or_none (tx_in t x.barring) }
-
 same_bars : (old mid : Index) (tx t : TxId) → mid.writes ≡ old.writes → mid.facts ≡ old.facts → tx_same tx t && bars_after_abort mid tx ≡ tx_same tx t && bars_after_abort old t
 same_bars old mid tx t writes facts =
     let same : bars_after_abort mid tx ≡ bars_after_abort old tx = ap (λ w. is_some (newest_by w tx) && not (is_some (known mid.facts tx).commit)) writes ∙ ap (λ f. is_some (newest_by old.writes tx) && not (is_some (known f tx).commit)) facts in

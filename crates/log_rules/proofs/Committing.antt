@@ -7,7 +7,6 @@ use Rattle.clv_base.specs.Orders.{tx_same, tx_in, tx_insert, tx_union}
 use Rattle.clv_base.specs.Logs.{is_commit_of, committed_in, committed_somewhere}
 use Rattle.clv_base.specs.LogRules.{committed_of, committed_of_all}
 use Rattle.law_base.proofs.Names.{in_inserted}
-
 use Rattle.log_rules.specs.Committed.{with_commit, with_commits, with_all_commits}
 use Rattle.law_base.proofs.Sets.{same_flip as tx_symmetric, insert_rises, nothing_rises, same_list, union_rises}
 use Rattle.law_base.proofs.Names.{Rise as Rises}

@@ -22,10 +22,6 @@ use Rattle.law_base.proofs.Bools.{by_bool as both, or_false}
 use Rattle.law_base.proofs.Logs.{place_is as is_some_place}
 use Rattle.law_base.proofs.Names.{falls_length}
 
-and_assoc : (a b c : Bool) → a && (b && c) ≡ (a && b) && c
-and_assoc true b c = refl
-and_assoc false b c = refl
-
 and_assoc4 : (a b c d : Bool) → a && (b && c && d) ≡ a && b && c && d
 and_assoc4 true b c d = refl
 and_assoc4 false b c d = refl

@@ -1,6 +1,5 @@
 -- An index stays that of its records as both grow.
 use Rattle.std.proofs.Common.{◌≡◌, ℕ, suc, ◌+◌, ◌<◌, ◌≤◌, Bool, true, false, cond, not, ◌||◌, nat_lt, List, [], ◌∷◌, ◌++◌, length, Option, Some, None, is_some, refl, sym, ap, ◌∙◌, arith}
-use Rattle.std.specs.List.{list_any}
 use Rattle.std.proofs.lemmas.Bool.{lt-ltb, le-ltb}
 use Rattle.std.proofs.lemmas.List.{length_push}
 use Rattle.clv_base.specs.declared.names.TxId.{TxId}
@@ -42,16 +41,6 @@ last_within n test (r ∷ log) so_far m is early =
     last_within (suc n) test log (cond (test r) (Some n) so_far) m is
     (λ k. both (λ b. cond b (Some n) so_far ≡ Some k → k < suc n) (test r) (λ _ e. let same : n ≡ k = cc in omega arith) (λ _ e. let before : k < n = early k e in omega arith)) in
     omega arith
-
-no_last : (n : ℕ) (test : LogRecord → Bool) (log : List LogRecord) (so_far : Option ℕ) → is_some (last_place_from n test log so_far) ≡ is_some so_far || list_any test log
-no_last n test [] so_far = sym (or_false (is_some so_far))
-no_last n test (r ∷ log) so_far =
-    no_last (suc n) test log (cond (test r) (Some n) so_far)
-    ∙ both (λ b. is_some (cond b (Some n) so_far) || list_any test log ≡ is_some so_far || (b || list_any test log)) (test r) (λ _. sym (or_yes (is_some so_far))) (λ _. refl)
-  where
-    or_yes : (a : Bool) → a || true ≡ true
-    or_yes true = refl
-    or_yes false = refl
 
 before_all : (n : ℕ) (o : Option ℕ) → ((m : ℕ) → o ≡ Some m → m < n) → is_before n o ≡ is_some o
 before_all n None within = refl

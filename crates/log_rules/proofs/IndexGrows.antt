@@ -15,7 +15,7 @@ use Rattle.log_analysis.proofs.Laws.Bools.{and_first, and_second}
 use Rattle.log_analysis.proofs.Laws.Pushes.{and_true, any_push, last_restart_other, above_push}
 use Rattle.log_rules.specs.declared.index.Index.{Index}
 use Rattle.log_rules.specs.Writes.{Write, write_at, top_at, newest_by, Pushes, Pops}
-use Rattle.log_rules.specs.Listers.{Descends, last_of, listers_from, listers_in}
+use Rattle.log_rules.specs.Listers.{Descends, listers_in}
 use Rattle.log_rules.specs.Rules.{is_above, has_commit}
 use Rattle.log_rules.specs.Adding.{KeepsRestart, AddsRestart, AddsUpdate, AddsClr, AddsPrepare, AddsCommit, AddsAbort, AddsEnd, Adds, Places, bars_after_abort}
 use Rattle.log_rules.proofs.Doubt.{is_held, bars}
@@ -444,21 +444,3 @@ pub grows : (shard : ℕ) (x y : Index) (log : List LogRecord) (r : LogRecord) �
 grows shard x y log r s i at may a =
     let knows : Knows y.facts (log ++ r ∷ []) = a.facts log refl (subst (λ f. Knows f log) (sym (same_facts x a.between (length log) r a.places)) i.facts) in
     subst (λ v. IsIndexOf shard v (log ++ r ∷ [])) (sym a.rest) (grows_between shard x y a.between log r s i at may (above_last shard x log r i may) a.places knows)
-
--- ---- of no record
-
-pub index_of_none : (shard : ℕ) (x : Index) → x.shard ≡ shard → x.last ≡ None → x.restart_at ≡ 0 → Knows x.facts [] → ((k : ℕ) → top_at x.writes k ≡ None) → ((t : TxId) → newest_by x.writes t ≡ None)
-    → x.listers.all.items ≡ [] → ((t : TxId) → last_of x.listers t ≡ None) → x.barring ≡ [] → IsIndexOf shard x []
-index_of_none shard x here last restart_at facts tops newest all starts barring = record {
-  here = here;
-  last = last;
-  above = λ run epoch. rw last refl;
-  restart_at = rw restart_at (record { within = omega arith; before = λ t. refl; since = λ t. refl });
-  facts = facts;
-  tops = tops;
-  newest = newest;
-  linked = tt;
-  descends = record { steps = λ n l is. absurd (let none : None ≡ Some l = sym (ap (λ xs. slice_get xs n) all) ∙ is in cc); starts = λ q. rw (starts q) tt };
-  listers = λ q t. ap (λ xs. tx_in t (listers_from xs (length xs) (last_of x.listers q))) all;
-  barring = λ t. ap (tx_in t) barring;
-}

@@ -60,8 +60,6 @@ at_newest m tx [] l = refl
 at_newest m tx (w ∷ ws) l =
     both (λ b. write_at m (lsn_of (cond b (Some w) (newest_of tx ws))) ≡ cond b (Some (link_of w ws)) (link_newest tx ws)) (tx_same tx w.tx) (λ _. l.0) (λ _. at_newest m tx ws l.1)
 
--- ---- LSNs fall
-
 -- ---- one UPDATE more
 
 -- what lies below it, by the table

@@ -122,9 +122,6 @@ module _ (old new : Listers) (tx p : TxId) (d : Descends old) (one : ListsOne ol
 
 -- ---- all of a list
 
-pub lists_none : (m : Listers) (tx : TxId) → ListsAll m m tx []
-lists_none m tx d = record { descends = d; who = λ q t. or_nothing (tx_in t (listers_in m q)) (tx_same tx t) }
-
 pub in_push : (q p : TxId) (ps : List TxId) → tx_in q (ps ++ p ∷ []) ≡ tx_in q ps || tx_same p q
 in_push q p [] = or_swap (tx_same p q) false
 in_push q p (x ∷ ps) = ap (λ b. tx_same x q || b) (in_push q p ps) ∙ sym (or_assoc (tx_same x q) (tx_in q ps) (tx_same p q))

@@ -14,10 +14,10 @@ use Rattle.log_analysis.proofs.Laws.Bools.{and_first, and_second, and_both, all_
 use Rattle.log_analysis.proofs.Laws.Pushes.{any_push}
 use Rattle.log_rules.proofs.Below.{Sinks, each_passes, below_is, others_pass}
 use Rattle.log_rules.proofs.RuleParts.{update_rule, prepare_rule, commit_rule, abort_rule, clr_rule}
-use Rattle.log_rules.proofs.Links.{falls_weaker, falls_without, of_other}
+use Rattle.log_rules.proofs.Links.{of_other}
 use Rattle.law_base.proofs.Sets.{same_flip as tx_symmetric}
 use Rattle.law_base.proofs.Bools.{by_bool as both, or_false, or_assoc}
-use Rattle.law_base.proofs.Names.{Falls}
+use Rattle.law_base.proofs.Names.{Falls, falls_weaker, falls_without}
 use Rattle.law_base.proofs.Logs.{standing_push, push_left as any_more, no_prepare}
 
 -- so it is of each PREPARE
@@ -250,14 +250,3 @@ module _ (shard : ℕ) (log : List LogRecord) (s : Sound log) where
     once = once_after r may;
     earlier = earlier_push [] log r s.earlier (earlier_new r may);
   }
-
-pub sound_none : Sound []
-sound_none = record {
-  falls = tt;
-  sinks = tt;
-  fates = λ t e. absurd (both_ways _ refl e);
-  stands = λ t wrote unaborted. absurd (both_ways _ refl wrote);
-  wrote = λ t e. absurd (both_ways _ refl e);
-  once = tt;
-  earlier = tt;
-}

@@ -20,28 +20,16 @@ by_write_is : (x : Index) (tx : TxId) (listed : List TxId) (n : ℕ) (o : Option
 by_write_is x tx listed n None = refl
 by_write_is x tx listed n (Some w) = refl
 
-pub clear_end : (x : Index) (tx : TxId) (listed : List TxId) (n k : ℕ) (at : Option ℕ) (total : Bool) → is_clear x tx listed (n - k) at ≡ total → n ≤ k → true ≡ total
-clear_end x tx listed n k at total so_far le = sym (ap (λ m. is_clear x tx listed m at) (none_left n k le)) ∙ so_far
-
 clear_step : (x : Index) (tx : TxId) (listed : List TxId) (n k : ℕ) (at : Option ℕ) (total : Bool) → is_clear x tx listed (n - k) at ≡ total → k < n
     → (o : Option Write) → write_at x.writes at ≡ o → by_write x tx listed (n - (k + 1)) o ≡ total
 clear_step x tx listed n k at total so_far lt o is =
     sym (ap (by_write x tx listed (n - (k + 1))) is) ∙ sym (by_write_is x tx listed (n - (k + 1)) (write_at x.writes at)) ∙ sym (ap (λ m. is_clear x tx listed m at) (left n k lt)) ∙ so_far
 
 module _ (x : Index) (tx : TxId) (listed : List TxId) (n k : ℕ) (at : Option ℕ) (total : Bool) (so_far : is_clear x tx listed (n - k) at ≡ total) (lt : k < n) where
-  pub clear_none : write_at x.writes at ≡ None → true ≡ total
-  clear_none none = clear_step x tx listed n k at total so_far lt None none
-
-  pub clear_committed : (w : Write) → write_at x.writes at ≡ Some w → has_commit x w.tx ≡ true → true ≡ total
-  clear_committed w is c = sym (ap (λ b. b || (is_own_or_one_of tx listed w.tx && is_clear x tx listed (n - (k + 1)) w.foreign)) c) ∙ clear_step x tx listed n k at total so_far lt (Some w) is
-
   clear_other : (w : Write) → write_at x.writes at ≡ Some w → has_commit x w.tx ≡ false → (b : Bool) → is_own_or_one_of tx listed w.tx ≡ b → b && is_clear x tx listed (n - (k + 1)) w.foreign ≡ total
   clear_other w is c b own =
       sym (ap (λ a. a || (b && is_clear x tx listed (n - (k + 1)) w.foreign)) c) ∙ sym (ap (λ a. has_commit x w.tx || (a && is_clear x tx listed (n - (k + 1)) w.foreign)) own)
       ∙ clear_step x tx listed n k at total so_far lt (Some w) is
-
-  pub clear_stops : (w : Write) → write_at x.writes at ≡ Some w → has_commit x w.tx ≡ false → is_own_or_one_of tx listed w.tx ≡ false → false ≡ total
-  clear_stops w is c own = clear_other w is c false own
 
   pub clear_on : (w : Write) → write_at x.writes at ≡ Some w → has_commit x w.tx ≡ false → is_own_or_one_of tx listed w.tx ≡ true → is_clear x tx listed (n - (k + 1)) w.foreign ≡ total
   clear_on w is c own = clear_other w is c true own
@@ -57,23 +45,14 @@ by_own_is : (x : Index) (tx : TxId) (listed : List TxId) (lsn n : ℕ) (o : Opti
 by_own_is x tx listed lsn n None = refl
 by_own_is x tx listed lsn n (Some w) = refl
 
-pub all_end : (x : Index) (tx : TxId) (listed : List TxId) (lsn n k : ℕ) (at : Option ℕ) (total : Bool) → all_clear_from x tx listed lsn (n - k) at ≡ total → n ≤ k → true ≡ total
-all_end x tx listed lsn n k at total so_far le = sym (ap (λ m. all_clear_from x tx listed lsn m at) (none_left n k le)) ∙ so_far
-
 all_step : (x : Index) (tx : TxId) (listed : List TxId) (lsn n k : ℕ) (at : Option ℕ) (total : Bool) → all_clear_from x tx listed lsn (n - k) at ≡ total → k < n
     → (o : Option Write) → write_at x.writes at ≡ o → by_own x tx listed lsn (n - (k + 1)) o ≡ total
 all_step x tx listed lsn n k at total so_far lt o is =
     sym (ap (by_own x tx listed lsn (n - (k + 1))) is) ∙ sym (by_own_is x tx listed lsn (n - (k + 1)) (write_at x.writes at)) ∙ sym (ap (λ m. all_clear_from x tx listed lsn m at) (left n k lt)) ∙ so_far
 
 module _ (x : Index) (tx : TxId) (listed : List TxId) (lsn n k : ℕ) (at : Option ℕ) (total : Bool) (so_far : all_clear_from x tx listed lsn (n - k) at ≡ total) (lt : k < n) where
-  pub all_none : write_at x.writes at ≡ None → true ≡ total
-  all_none none = all_step x tx listed lsn n k at total so_far lt None none
-
   all_other : (w : Write) → write_at x.writes at ≡ Some w → (b : Bool) → is_clear_under x tx listed lsn w ≡ b → b && all_clear_from x tx listed lsn (n - (k + 1)) w.earlier ≡ total
   all_other w is b own = sym (ap (λ a. a && all_clear_from x tx listed lsn (n - (k + 1)) w.earlier) own) ∙ all_step x tx listed lsn n k at total so_far lt (Some w) is
-
-  pub all_stops : (w : Write) → write_at x.writes at ≡ Some w → is_clear_under x tx listed lsn w ≡ false → false ≡ total
-  all_stops w is own = all_other w is false own
 
   pub all_on : (w : Write) → write_at x.writes at ≡ Some w → is_clear_under x tx listed lsn w ≡ true → all_clear_from x tx listed lsn (n - (k + 1)) w.earlier ≡ total
   all_on w is own = all_other w is true own

@@ -1,6 +1,6 @@
 -- Reading a log record by record, as the loop does.
-use Rattle.std.proofs.Common.{◌≡◌, ℕ, suc, ◌+◌, ◌<◌, ◌≤◌, Bool, true, false, List, [], ◌∷◌, ◌++◌, length, take, drop, get_or, Option, Some, None, slice_get, refl, sym, ap, subst, ◌∙◌, add-one, drop-cons, arith}
-use Rattle.std.proofs.lemmas.List.{take_more, drop_all, length-take}
+use Rattle.std.proofs.Common.{◌≡◌, ℕ, suc, ◌+◌, ◌<◌, ◌≤◌, Bool, true, false, List, [], ◌∷◌, ◌++◌, length, take, drop, get_or, Option, Some, slice_get, refl, sym, ap, subst, ◌∙◌, add-one, drop-cons, arith}
+use Rattle.std.proofs.lemmas.List.{take_more, length-take}
 use Rattle.std.proofs.lemmas.Option.{slice_get_read}
 use Rattle.clv_base.specs.declared.logs.LogRecord.{LogRecord}
 use Rattle.clv_base.specs.LogRules.{may_follow, disorder_from, disorder}
@@ -57,6 +57,3 @@ module _ (shard : ℕ) (records : List LogRecord) (x : Index) (lsn : ℕ) (so_fa
         index = subst (IsIndexOf shard y) next grown;
         same = rw add-one (ap (λ (l : List LogRecord). disorder_from shard (suc lsn) l (drop (suc lsn) records)) (sym (next ∙ ap (λ (n : ℕ). take n records) (add-one lsn))) ∙ here true fit);
       }
-
-pub ends_here : (shard : ℕ) (records : List LogRecord) (x : Index) (lsn : ℕ) → SoFar shard records x lsn → length records ≤ lsn → None ≡ disorder shard records
-ends_here shard records x lsn so_far le = sym (ap (disorder_from shard lsn (take lsn records)) (drop_all lsn records le)) ∙ so_far.same

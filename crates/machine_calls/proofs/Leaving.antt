@@ -1,5 +1,5 @@
 -- What recovery leaves of a disk.
-use Rattle.std.proofs.Common.{◌≡◌, ◌⊎◌, ℕ, zero, suc, ◌+◌, List, ◌∷◌, ◌++◌, take, drop, length, Option, Some, None, IfSome, refl, inl, inr, sym, ◌∙◌, ap, subst, append_assoc, arith}
+use Rattle.std.proofs.Common.{◌≡◌, ◌⊎◌, ℕ, ◌+◌, List, ◌++◌, take, drop, length, Option, Some, None, IfSome, refl, inl, inr, sym, ◌∙◌, ap, subst, append_assoc, arith}
 use Rattle.std.proofs.lemmas.List.{take_all}
 use Rattle.clv_base.specs.declared.logs.LogRecord.{LogRecord}
 use Rattle.clv_base.specs.Restarts.{log_after_restart, restart_records}
@@ -41,5 +41,3 @@ module _ (n : ℕ) (found : List LogRecord) (run : ℕ) (logs : Option (List Log
 pub left_by : (n : ℕ) (found : List LogRecord) (run : ℕ) (before now : Option Story) (e : RecoverError) → (e ≡ Failed → IsLeft n found run before now) → (e ≡ Memory → now ≡ before) → IsLeft n found run before now
 left_by n found run before now Failed failed memory = failed refl
 left_by n found run before now Memory failed memory = unwritten (memory refl)
-
--- ---- a machine that is taken apart

@@ -1,5 +1,5 @@
 -- A gate that leaves for a flush, and comes back.
-use Rattle.std.proofs.Common.{◌≡◌, ℕ, zero, suc, ◌+◌, ◌<◌, ◌^◌, Bool, true, false, ◌||◌, List, [], ◌∷◌, take, sym, ap, refl, ◌∙◌, subst, arith, nat_lt, Option, Some, None, Result, Ok, Err}
+use Rattle.std.proofs.Common.{◌≡◌, ℕ, ◌+◌, ◌<◌, ◌^◌, Bool, true, false, ◌||◌, List, [], ◌∷◌, take, sym, ap, refl, ◌∙◌, subst, arith, nat_lt, Option, Some, None, Result, Ok, Err}
 use Rattle.std.specs.Prelude.{drop, unwrap_or}
 use Rattle.std.proofs.lemmas.Bool.{both_ways, ltb-true}
 use Rattle.clv_base.specs.declared.logs.LogRecord.{LogRecord}

@@ -1,5 +1,5 @@
 -- A shard that is down, whose disk a walker takes.
-use Rattle.std.proofs.Common.{◌≡◌, ℕ, ◌<◌, ◌≤◌, Bool, true, false, ◌||◌, List, [], ◌∷◌, ◌++◌, map, length, sym, ap, refl, ◌∙◌, subst, arith, append-nil, inl, inr, ⊎_elim, Option, Some, None}
+use Rattle.std.proofs.Common.{◌≡◌, ℕ, ◌<◌, ◌≤◌, Bool, true, false, ◌||◌, List, [], ◌∷◌, ◌++◌, map, length, sym, ap, refl, ◌∙◌, subst, append-nil, inl, inr, ⊎_elim, Option, Some, None}
 use Rattle.std.specs.Prelude.{is_some, ◌⊎◌}
 use Rattle.std.proofs.lemmas.Bool.{both_ways, and_parts}
 use Rattle.clv_base.specs.declared.logs.LogRecord.{LogRecord}
@@ -35,10 +35,6 @@ use Rattle.law_base.proofs.Options.{found_none as none_held}
 use Rattle.clv_base.proofs.SameNames.{or_right}
 
 -- ---- a shard is down only after a failed flush
-
--- after an entry of a shard it is up, or its flush has failed
-abbrev Fine : Shard → Type 0
-Fine s = s.is_up ≡ false → has_failed s.journal ≡ true
 
 up_still : (s t : Shard) (o : Outcome) → (s.is_up ≡ true) → t.is_up ≡ s.is_up → t.is_up ≡ false → is_failed o ≡ true
 up_still s t o up same down = absurd (both_ways t.is_up down (same ∙ up))

@@ -337,9 +337,6 @@ fin s n short = finishes_keep_names s short n
 with_spelled : (s : Shard) (l : Local) → IsSpelled l → IsNamed s → IsNamed (record s { local = l })
 with_spelled s l h n = record { fitting = other_local s l n.fitting; spelled = h }
 
-with_fitting : (s t : Shard) → IsSpelled t.local → IsFitting t → IsNamed t
-with_fitting s t h f = record { fitting = f; spelled = h }
-
 NamedOp : OpReply → Type 0
 NamedOp (OpWaits t) = Unit {0}
 NamedOp (OpCrowded k) = Unit {0}

@@ -1,5 +1,5 @@
 -- The push between the turns of a flush.
-use Rattle.std.proofs.Common.{◌≡◌, ℕ, ◌+◌, ◌≤◌, Bool, true, false, List, ◌++◌, length, take, sym, ap, ◌∙◌, subst, arith, take-append-drop, min, Option, Some, None, Result, Ok, Err, OnOk}
+use Rattle.std.proofs.Common.{◌≡◌, ℕ, ◌+◌, ◌≤◌, Bool, true, false, List, ◌++◌, take, sym, ap, ◌∙◌, subst, arith, take-append-drop, Option, Some, Result, Ok, Err, OnOk}
 use Rattle.std.specs.Prelude.{is_ok, unwrap_or, IsErrOf}
 use Rattle.std.proofs.lemmas.List.{take-take}
 use Rattle.std.proofs.lemmas.Bool.{both_ways}

@@ -103,9 +103,6 @@ pub record AreParts (ps : List ℕ) : Type 0 where
   pub low : list_all (λ p. nat_lt p 16) ps ≡ true
   pub rise : numbers_rise ps ≡ true
 
-pub no_parts : AreParts []
-no_parts = record { few = refl; low = refl; rise = refl }
-
 pub others_low : (shard : ℕ) (touched : List (ℕ × ℕ)) → list_all (λ t. nat_lt t.0 16) touched ≡ true → list_all (λ p. nat_lt p 16) (others shard touched) ≡ true
 others_low shard touched low = all_filter (λ p. nat_lt p 16) (λ p. not (p == shard)) (map (λ t. t.0) touched) (all_map (λ (t : ℕ × ℕ). t.0) (λ p. nat_lt p 16) touched low)
 

@@ -1,5 +1,5 @@
 -- A flush that began, by what the machine tells of it.
-use Rattle.std.proofs.Common.{◌≡◌, refl, ℕ, zero, suc, ◌+◌, ◌<◌, ◌^◌, max, Bool, true, false, nat_lt, sym, ap, ◌∙◌, arith, Option, Some, None, Result, Ok}
+use Rattle.std.proofs.Common.{◌≡◌, refl, ℕ, zero, suc, ◌+◌, ◌<◌, ◌^◌, max, Bool, true, false, nat_lt, sym, ap, ◌∙◌, arith, Option, Some, None, Ok}
 use Rattle.std.specs.Prelude.{drop}
 use Rattle.std.proofs.lemmas.Bool.{ltb-true}
 use Rattle.clv_base.specs.declared.events.Event.TheVariants.{FlushOut}
@@ -9,12 +9,12 @@ use Rattle.clv_base.specs.declared.events.Entry.{Entry}
 use Rattle.clv_base.specs.Logs.{fitting}
 use Rattle.clv_base.specs.State.{Shard}
 use Rattle.clv_base.specs.Events.{QuietBeforeWorn, Quiet, Enters, next_stamp, step, stamped, happen_up, out_event, taken, finish, with_entry, with_flight}
-use Rattle.machine_calls.specs.declared.machine.StepError.{StepError}
 use Rattle.machine_calls.specs.declared.flights.Flight.{Flight}
 use Rattle.machine_calls.specs.Steps.{Tells}
 use Rattle.machine_calls.specs.Flights.{Leaves}
 use Rattle.machine_laws.proofs.Laws.{finishes_alike, finishes_stay}
 use Rattle.law_base.proofs.Shards.{same_out, up_or_down}
+use Rattle.law_base.proofs.Options.{ok_inj}
 
 -- the shard is up, its records are in flight, and there are stamps
 pub record Flown (t : Shard) (clock upto : ℕ) : Type 0 where
@@ -22,9 +22,6 @@ pub record Flown (t : Shard) (clock upto : ℕ) : Type 0 where
   pub flies : t.flight ≡ Some upto
   pub last : t.last < 2 ^ 48
   pub early : clock < 2 ^ 48
-
-same_ok : {p q : Outcome} → ◌≡◌ {A = Result Outcome StepError} (Ok p) (Ok q) → p ≡ q
-same_ok e = cc
 
 stays_up : (u : Shard) → (finish u).is_up ≡ u.is_up
 stays_up u = ap (λ (x : Shard). x.is_up) (finishes_alike u.is_up u.last u.journal u)
@@ -57,4 +54,4 @@ pub flown : {G : Type 0} (s t : Shard) (clock w : ℕ) (before after : Option G)
     → Flown t clock f.upto
 flown s t clock w before after o f None h d =
     absurd (up_or_down s (next_stamp s clock FlushOut) w (nat_lt (next_stamp s clock FlushOut) (2 ^ 48)) f.upto s.is_up (h.0 ∙ ap (λ p. Quiet p) d.outcome))
-flown s t clock w before after o f (Some x) h d = entered s clock w f.upto t s.is_up refl (h.2.enters ∙ ap (λ p. Enters p t) (sym (same_ok h.1) ∙ d.outcome))
+flown s t clock w before after o f (Some x) h d = entered s clock w f.upto t s.is_up refl (h.2.enters ∙ ap (λ p. Enters p t) (sym (ok_inj _ _ h.1) ∙ d.outcome))

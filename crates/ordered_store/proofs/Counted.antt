@@ -76,13 +76,6 @@ rest_climbs bs h = subst (λ xs. (i j : ℕ) (d : Block) → i < j → j < lengt
     at [] h = absurd h
     at (b ∷ bs) h = fences_climb b bs h.1
 
-pub rest_length : (bs : List Block) → Chained bs → length (take (length bs - 1) (drop 1 bs)) + 1 ≡ length bs
-rest_length bs h = ap (λ xs. length xs + 1) (rest_is bs) ∙ at bs h
-  where
-    at : (bs : List Block) → Chained bs → length (drop 1 bs) + 1 ≡ length bs
-    at [] h = absurd h
-    at (b ∷ bs) h = omega arith
-
 slot_by : (k : ℕ) (bs : List Block) (i : ℕ) → i ≤ length (take (length bs - 1) (drop 1 bs))
     → ((j : ℕ) (d : Block) → j < i → (get_or (take (length bs - 1) (drop 1 bs)) j d).fence ≤ k)
     → ((j : ℕ) (d : Block) → i ≤ j → j < length (take (length bs - 1) (drop 1 bs)) → k < (get_or (take (length bs - 1) (drop 1 bs)) j d).fence) → i ≡ slot_of k bs

@@ -1,10 +1,10 @@
 -- What stands at the place of a key, and what stands below it.
 use Rattle.std.proofs.Common.{◌≡◌, ℕ, zero, suc, ◌<◌, ◌≤◌, Bool, true, false, cond, ◌==◌, nat_lt, [], ◌∷◌, length, get_or, Option, Some, None, refl, sym, ap, ◌∙◌, arith}
-use Rattle.std.proofs.lemmas.Bool.{both_ways, ltb-true, ltb-false, le-ltb, eqb-true, eq-eqb}
+use Rattle.std.proofs.lemmas.Bool.{ltb-true, ltb-false, le-ltb, eq-eqb}
 use Rattle.std.specs.Map.{lookup}
 use Rattle.clv_base.specs.declared.modes.Anchor.{Anchor}
 use Rattle.clv_base.specs.declared.modes.Anchor.TheVariants.{Low, At}
-use Rattle.clv_base.specs.Needs.{Records, found_at, found_by, is_there, anchor_from, lower_anchor}
+use Rattle.clv_base.specs.Needs.{Records, anchor_from, lower_anchor}
 use Rattle.ordered_store.proofs.Rising.{Above, Rises, above_less, lows}
 use Rattle.law_base.proofs.Numbers.{unequal_test as other}
 
@@ -37,22 +37,6 @@ module _ (k : ℕ) (d : ℕ × Option ℕ) where
           let differ : k ≡ r.0 → ⊥ = λ e. n (omega arith) (sym e) in
           let up : k ≤ r.0 = ltb-false r.0 k w in
           ap (λ b. cond b (Some r.1) (lookup (◌==◌ k) rs)) (other k r.0 differ) ∙ none_above k rs (above_less k r.0 rs up h.0)
-
-  -- a key that is there is at its place
-  pub there_at_place : (rs : Records) → Rises rs → is_there (found_at k rs) ≡ true → (lows k rs < length rs) × ((get_or rs (lows k rs) d).0 ≡ k)
-  there_at_place [] h e = absurd (both_ways false refl e)
-  there_at_place (r ∷ rs) h e = at (nat_lt r.0 k) refl (k == r.0) refl (there_at_place rs h.1) e
-    where
-      at : (b : Bool) → nat_lt r.0 k ≡ b → (c : Bool) → (k == r.0) ≡ c → (is_there (found_at k rs) ≡ true → (lows k rs < length rs) × ((get_or rs (lows k rs) d).0 ≡ k))
-          → is_there (found_by (cond c (Some r.1) (lookup (◌==◌ k) rs))) ≡ true
-          → (cond b (suc (lows k rs)) zero < length (r ∷ rs)) × ((get_or (r ∷ rs) (cond b (suc (lows k rs)) zero) d).0 ≡ k)
-      at true w true v more e = let s = ltb-true r.0 k w in let q = eqb-true k r.0 v in absurd (omega arith)
-      at true w false v more e = let p = more e in (omega (arith, p.0), p.1)
-      at false w true v more e = (omega arith, sym (eqb-true k r.0 v))
-      at false w false v more e =
-          let up : k ≤ r.0 = ltb-false r.0 k w in
-          let none : lookup (◌==◌ k) rs ≡ None = none_above k rs (above_less k r.0 rs up h.0) in
-          absurd (both_ways false refl (ap (λ o. is_there (found_by o)) (sym none) ∙ e))
 
 -- ---- the greatest record below a key
 

@@ -37,12 +37,6 @@ insert_next (a ∷ bs) (suc i) b c l = ap (λ ys. a ∷ ys) (insert_next bs i b 
 pub insert_splice : (bs : List Block) (i j : ℕ) (b c : Block) → i < length bs → j ≡ suc i → insert (set bs i b) j c ≡ splice bs i (b ∷ c ∷ [])
 insert_splice bs i j b c l e = ap (λ n. insert (set bs i b) n c) e ∙ insert_next bs i b c l
 
-pub remove_splice : (bs : List Block) (i : ℕ) → i < length bs → remove bs i ≡ splice bs i []
-unfolding splice
-remove_splice [] i l = absurd (omega arith)
-remove_splice (c ∷ bs) zero l = refl
-remove_splice (c ∷ bs) (suc i) l = ap (λ ys. c ∷ ys) (remove_splice bs i (omega arith))
-
 -- ---- what is changed at a key
 
 append_assoc : (xs ys zs : Records) → (xs ++ ys) ++ zs ≡ xs ++ (ys ++ zs)
@@ -417,13 +411,6 @@ excess_most (b ∷ bs) h = let m = excess_most bs h.1 in let n = h.0.0 in omega 
 -- a change that cuts c times and puts at most n new keys
 pub room_kept : (bs cs : List Block) (p q c n : ℕ) → excess cs + 32 * c ≤ excess bs + n → p ≡ q + c → p ≤ q + n → room_of bs p ≤ room_of cs q + n
 room_kept bs cs p q c n e s l = omega arith
-
-pub room_some : (bs : List Block) (p : ℕ) → 0 < room_of bs p → (p ≡ 0 → ⊥) ⊎ (excess bs < 31)
-room_some bs p h = by_test (nat_lt 0 p) refl
-  where
-    by_test : (b : Bool) → nat_lt 0 p ≡ b → (p ≡ 0 → ⊥) ⊎ (excess bs < 31)
-    by_test true w = let l = ltb-true 0 p w in inl (λ e. absurd (omega (arith, l, e)))
-    by_test false w = let l = ltb-false 0 p w in inr (omega (arith, l, h))
 
 pub room_enough : (bs : List Block) (p n w : ℕ) → Sized bs → (n ≤ w) ⊎ (n / 32 + length bs + 1 ≤ w) → w ≤ p → n ≤ room_of bs p
 room_enough bs p n w h (inl l) m = omega (arith, l, m)

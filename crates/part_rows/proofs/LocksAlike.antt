@@ -1,5 +1,5 @@
 -- Calls that leave no choice have one answer over the same rows.
-use Rattle.std.proofs.Common.{◌≡◌, sym, ap, ◌∙◌, subst, true, false, ◌||◌, [], ◌∷◌}
+use Rattle.std.proofs.Common.{◌≡◌, sym, ap, ◌∙◌, subst, false, [], ◌∷◌}
 use Rattle.std.specs.List.{list_any}
 use Rattle.clv_base.specs.Locks.{Locks}
 use Rattle.part_rows.specs.declared.lock_calls.LockCall.{LockCall}

@@ -14,7 +14,6 @@ use Rattle.clv_base.specs.declared.state.Voter.{Voter}
 use Rattle.clv_base.specs.declared.state.Request.{Request}
 use Rattle.clv_base.specs.declared.state.RequestState.{RequestState}
 use Rattle.clv_base.specs.declared.state.RequestState.TheVariants.{Undecided, Committed, Finished, Refused}
-use Rattle.clv_base.specs.declared.state.Ruling.{Ruling}
 use Rattle.clv_base.specs.declared.state.Ruling.TheVariants.{End as EndVerdict}
 use Rattle.clv_base.specs.Orders.{Table, tx_same, tx_in, tx_get, nat_in}
 use Rattle.clv_base.proofs.SameNames.{or_left, or_right, tx_flip}
@@ -90,10 +89,6 @@ here_has (p ∷ ps) tx e = at (tx_same tx p.0) refl e (here_has ps tx)
 
 -- ---- votes
 
-no_vote : (o : Option Vote) → is_some o ≡ false → o ≡ None
-no_vote None e = refl
-no_vote (Some v) e = absurd (both_ways _ e refl)
-
 -- where none is due of a voter that owes one, its part is here or it is finished and gave none
 module _ (f : PartFacts) (v : Voter) (none : is_some (vote_by f v) ≡ false) (owes : 0 < v.owed) where
   first_none : is_some (first_vote f v.seen v.vote) ≡ false
@@ -144,10 +139,6 @@ voter_here s tx v e due some =
         ∙ by h none (sym (ap (λ o. is_some (vote_in_state (record (facts_of s tx) { state = state_by (stage o); doom = doom_by (stage o) }) v.seen (state_by (stage o)))) g) ∙ e) (subst (λ o. 0 < left_voter (is_over false o) v) g some)
 
 -- ---- requests
-
-no_ruling : (o : Option Ruling) → is_some o ≡ false → o ≡ None
-no_ruling None e = refl
-no_ruling (Some r) e = absurd (both_ways _ e refl)
 
 none_both : (tx : TxId) (c : Option AbortCause) (d : Option TxId) → is_some (cause_by tx c d) ≡ false → (c ≡ None) × (d ≡ None)
 none_both tx None None e = (refl, refl)

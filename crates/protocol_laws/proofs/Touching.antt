@@ -40,14 +40,8 @@ put_other x tx w rs o = get_put tx x w rs ∙ cond-false (tx_same x tx) (Some w)
 
 -- ---- a change of what transactions work on
 
-more_facts : (tx : TxId) (set : List TxId) (l m : Local) → ChangesOnly set l m → ChangesOnly (tx ∷ set) l m
-more_facts tx set l m h x out durable = h x (rest_out x tx set out) durable
-
 none_facts : (set : List TxId) (l : Local) → ChangesOnly set l l
 none_facts set l x out durable = refl
-
-widen : (set : List TxId) (l m : Local) → ChangesOnly [] l m → ChangesOnly set l m
-widen set l m h x out durable = h x refl durable
 
 pub commits_touch : CommitsTouch
 commits_touch s tx = record {

@@ -98,5 +98,3 @@ writers_named n (w ∷ ws) f = named_insert w.tx (writers ws) f.0.1 (writers_nam
 pub aborts_spelled : (txs : List TxId) → Named txs → list_all has_spelling (map (λ t. Abort t) txs) ≡ true
 aborts_spelled [] h = refl
 aborts_spelled (t ∷ ts) h = and_from _ _ h.0 (aborts_spelled ts h.1)
-
--- ---- both

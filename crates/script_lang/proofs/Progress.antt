@@ -4,12 +4,12 @@ use Rattle.clv_base.specs.declared.ops.Op.{Op}
 use Rattle.clv_base.specs.declared.ops.Op.TheVariants.{Get}
 use Rattle.clv_base.specs.declared.ops.Answer.{Answer}
 use Rattle.script_lang.specs.Bodies.{Action}
-use Rattle.script_lang.specs.Grammar.{Do, Move}
+use Rattle.script_lang.specs.Grammar.{Move}
 use Rattle.script_lang.specs.Following.{value_of, first_value, puts, all_ops, next_op}
 use Rattle.script_lang.specs.Places.{StandsAt, StepsTo, rest_of, rest_from, after_looks}
 use Rattle.script_lang.specs.declared.following.Following.{Following}
 use Rattle.script_lang.specs.declared.following.Stage.{Stage}
-use Rattle.script_lang.specs.declared.following.Stage.TheVariants.{AtLine, Second, Puts, LastPut}
+use Rattle.script_lang.specs.declared.following.Stage.TheVariants.{AtLine, Second}
 
 -- ---- one step
 
@@ -18,9 +18,6 @@ drop_one_more zero more = refl
 drop_one_more (suc n) [] = refl
 drop_one_more (suc n) (a ∷ more) = refl
 
-pub step_do : (op : Op) (behind : List Action) (answer : Answer) → StepsTo AtLine (Do op ∷ behind) answer AtLine behind
-step_do op behind answer = λ some. (op, λ more. refl)
-
 pub step_move : (from to amount : ℕ) (behind : List Action) (answer : Answer) → StepsTo AtLine (Move from to amount ∷ behind) answer (Second from to amount (value_of answer)) behind
 step_move from to amount behind answer = λ some. (
   Get from,
@@ -28,9 +25,6 @@ step_move from to amount behind answer = λ some. (
       let ops = puts from to amount (value_of answer) (first_value more) in
       ap (λ (as_left : List Answer). Get from ∷ Get to ∷ (ops ++ all_ops behind as_left)) (drop_one_more (length ops) more),
 )
-
-pub step_none : (answer : Answer) → StepsTo AtLine [] answer AtLine []
-step_none answer = λ some. absurd (let no : ⊥ = omega arith in no)
 
 pub step_second : (from to amount : ℕ) (found : Option ℕ) (left : List Action) (answer : Answer) (next : Stage)
     → ((behind : List Action) (more : List Answer) → after_looks (puts from to amount found (value_of answer)) behind more ≡ rest_from next behind more)
@@ -49,15 +43,6 @@ pub step_move_by : (left : List Action) (from to amount : ℕ) (behind : List Ac
 step_move_by left from to amount behind found answer is value =
     let h = subst (λ (v : Option ℕ). StepsTo AtLine (Move from to amount ∷ behind) answer (Second from to amount v) behind) (sym value) (step_move from to amount behind answer) in
     subst (λ (l : List Action). StepsTo AtLine l answer (Second from to amount found) behind) (sym is) h
-
-pub step_puts : (one two : Op) (left : List Action) (answer : Answer) → StepsTo (Puts one two) left answer (LastPut two) left
-step_puts one two left answer = λ some. (one, λ more. refl)
-
-pub step_last : (two : Op) (left : List Action) (answer : Answer) → StepsTo (LastPut two) left answer AtLine left
-step_last two left answer = λ some. (two, λ more. refl)
-
-pub looks_by : (ops others : List Op) (next : Stage) → ops ≡ others → ((left : List Action) (more : List Answer) → after_looks others left more ≡ rest_from next left more) → (left : List Action) (more : List Answer) → after_looks ops left more ≡ rest_from next left more
-looks_by ops others next e h left more = ap (λ (o : List Op). after_looks o left more) e ∙ h left more
 
 -- ---- where the transaction stands
 

@@ -1,7 +1,7 @@
 -- The parser's steps, line by line.
 use Rattle.std.proofs.Common.{◌≡◌, refl, ℕ, suc, ◌+◌, ◌≤◌, List, [], ◌∷◌, ◌++◌, length, Option, Some, None, subst, ap, sym, ◌∙◌, arith, append-nil, append_assoc, length-append, Bool, true, false}
 use Rattle.script_lang.specs.Bodies.{Action}
-use Rattle.script_lang.specs.Grammar.{Line, Reading, nothing_read, Leads, lines_of, after_line, IsLine, IsScript, IsRefused, at_line, at_end, HasNoPlace, most_bytes, with_last}
+use Rattle.script_lang.specs.Grammar.{Line, Reading, nothing_read, Leads, lines_of, after_line, IsLine, IsRefused, at_line, at_end, HasNoPlace, most_bytes}
 use Rattle.script_lang.proofs.Meanings.{one_meaning}
 use Rattle.script_lang.specs.Reading.{Goes}
 
@@ -51,12 +51,6 @@ all_lead bytes [] number reading empty (front, len, is, leads) =
     let e : front ≡ lines_of bytes = sym (is ∙ append-nil front) in
     (omega (arith, ap length e), subst (λ (ls : List (List ℕ)). Leads nothing_read ls reading) e leads)
 all_lead bytes (x ∷ xs) number reading empty taken = absurd (let no : ⊥ = omega arith in no)
-
-pub ends_as_script : (bytes rest : List ℕ) (number : ℕ) (reading : Reading) → length bytes ≤ most_bytes → length rest ≡ 0 → Taken bytes rest number reading → reading.current ≡ None → IsScript bytes (with_last reading.finished reading.session)
-ends_as_script bytes rest number reading short empty taken closed =
-    let all = all_lead bytes rest number reading empty taken in
-    let is : reading ≡ record { finished = reading.finished; session = reading.session; current = None } = ap (λ (o : Option (List Action)). record { finished = reading.finished; session = reading.session; current = o }) closed in
-    (reading.finished, reading.session, short, refl, subst (λ (r : Reading). Leads nothing_read (lines_of bytes) r) is all.1)
 
 pub ends_open : (bytes rest : List ℕ) (number : ℕ) (reading : Reading) → length bytes ≤ most_bytes → length rest ≡ 0 → Taken bytes rest number reading → ((actions : List Action) × (reading.current ≡ Some actions)) → (n : ℕ) → n ≡ number + 1 → IsRefused bytes n
 ends_open bytes rest number reading short empty taken (actions, open_) n same =

@@ -45,16 +45,6 @@ active_where_down tx birth nth touched Empty u v t = tt
 active_where_down tx birth nth touched Asked u v t = tt
 active_where_down tx birth nth touched (Aborted cause) u v t = tt
 
-pub active_after_lines : (tx : TxId) (birth : Birth) (nth : ℕ) (touched : ℕ → Bool) (op : Op) (end : TryEnd) (u v : Seen) → OperateTold tx birth nth touched op (Err end) u v → IsActiveWhereDown end v
-active_after_lines tx birth nth touched op (Stopped (Down n)) u v t = (tx, birth, t.5.0, t.1, t.5.1)
-active_after_lines tx birth nth touched op (Stopped (Unsettled n)) u v t = tt
-active_after_lines tx birth nth touched op (Stopped (Worn at)) u v t = tt
-active_after_lines tx birth nth touched op (Stopped Memory) u v t = tt
-active_after_lines tx birth nth touched op Acknowledged u v t = tt
-active_after_lines tx birth nth touched op Empty u v t = tt
-active_after_lines tx birth nth touched op Asked u v t = tt
-active_after_lines tx birth nth touched op (Aborted cause) u v t = tt
-
 -- ---- the tries that they make
 
 drops_as : (tx : TxId) (touched : ℕ → Bool) (es : History) (left_out : Option ℕ) (drops : History) → ((n : ℕ) → touched n ≡ true → is_touched es n ≡ true) → AreDropsOf tx touched left_out drops → AreDrops tx es left_out drops

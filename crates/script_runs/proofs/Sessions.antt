@@ -1,5 +1,5 @@
 -- A session's transactions, one after another.
-use Rattle.std.proofs.Common.{◌≡◌, refl, sym, ap, subst, ◌∙◌, ◌⊎◌, inl, inr, ℕ, ◌+◌, ◌<◌, ◌≤◌, true, ◌&&◌, List, [], ◌∷◌, ◌++◌, take, drop, length, get_or, append_assoc, append-nil, Option, Some, None, arith}
+use Rattle.std.proofs.Common.{◌≡◌, refl, sym, ap, subst, ◌∙◌, ◌⊎◌, inl, inr, ℕ, ◌+◌, ◌<◌, ◌≤◌, true, ◌&&◌, List, [], ◌∷◌, ◌++◌, take, drop, length, get_or, append_assoc, append-nil, Option, Some, None}
 use Rattle.std.proofs.lemmas.Bool.{lt-ltb}
 use Rattle.std.proofs.lemmas.List.{map-append, take-append-drop, take_more, take_all}
 use Rattle.clv_base.specs.FileRules.{numbers_rise}
@@ -10,7 +10,7 @@ use Rattle.script_runs.specs.Sessions.{Transaction, IsTransaction, AreTransactio
 use Rattle.script_runs.specs.Seen.{Seen, Grows}
 use Rattle.script_runs.specs.Ran.{Rise, serials, stamps, Ran, NotBegun, Follows}
 use Rattle.script_runs.specs.Laws.{SessionsGoOn, SessionsStop}
-use Rattle.script_runs.proofs.Doing.{grows_on, grows_none}
+use Rattle.script_runs.proofs.Doing.{grows_on}
 use Rattle.script_runs.proofs.Tries.{rise_later, rise_on, entries_more}
 
 risen : (lo : ℕ) (ns : List ℕ) (hi : ℕ) → Rise lo ns hi → numbers_rise ns ≡ true
@@ -30,9 +30,6 @@ pub record Running (bodies : List Body) (most : Option ℕ) (u v : Seen) : Type 
   pub grows : Grows (entries_of (tries_of transactions)) u v
   pub births_rise : Rise u.clock (stamps transactions) v.clock
   pub serials_rise : Rise u.serial (serials (tries_of transactions)) v.serial
-
-pub none_run : (most : Option ℕ) (u : Seen) → Running [] most u u
-none_run most u = record { transactions = []; front = λ more trs cause h. h; grows = grows_none u; births_rise = omega arith; serials_rise = omega arith }
 
 -- with one transaction more, however it ended
 record HasRun (u w : Seen) (trs : List Transaction) : Type 0 where

@@ -14,9 +14,9 @@ use Rattle.script_runs.specs.Sessions.{InTries, last, none_left, worn, further, 
 use Rattle.script_runs.specs.declared.retrying.Next.{Next}
 use Rattle.script_runs.specs.declared.retrying.Next.TheVariants.{Again, Done, Stop}
 use Rattle.script_runs.specs.Seen.{Standing, Idle, Active, Seen, Grows, untouched}
-use Rattle.script_runs.specs.Told.{Begins, BeginTold, RetryTold}
+use Rattle.script_runs.specs.Told.{Begins, RetryTold}
 use Rattle.script_runs.specs.Tried.{Tried, LeftBy}
-use Rattle.script_runs.specs.Ran.{Rise, serials, NextIs, IsIdle, InTriesTold, Ran, NotBegun}
+use Rattle.script_runs.specs.Ran.{Rise, serials, NextIs, IsIdle, InTriesTold, Ran}
 use Rattle.script_runs.proofs.Doing.{grows_on, grows_none}
 use Rattle.law_base.proofs.Lists.{all_append as all_more}
 
@@ -219,9 +219,3 @@ ran body most cause birth u v w born later earlier b t =
       earlier = let y = (t.grows).clock_rises in omega arith;
       serials_rise = t.serials_rise u.serial (let s = b.serial_is in let y = b.rises in omega arith);
     }
-
-pub not_begun : (cause : StopCause) (u v : Seen) → BeginTold {A = Unit {0}} (Err cause) u v → NotBegun (Some cause) u v
-not_begun (Worn at) u v grows = (at, refl, grows)
-not_begun Memory u v t = absurd t
-not_begun (Down n) u v t = absurd t
-not_begun (Unsettled n) u v t = absurd t

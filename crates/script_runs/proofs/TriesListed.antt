@@ -81,9 +81,6 @@ acknowledged_did_their_lines splits body birth t is e =
 
 -- ---- what its entries tell
 
-firsts : TxId → History → List Op
-firsts tx es = map (λ p. p.0) (ops_in tx es)
-
 told_one : (tx : TxId) (e : ℕ × Entry) (es : History) (op : Op) (answer : Answer) → answered_op tx (e.1).event (e.1).outcome ≡ Some (op, answer) → ops_in tx (e ∷ es) ≡ (op, answer) ∷ ops_in tx es
 told_one tx e es op answer h = ap (λ o. elim o as (λ z. List (Op × Answer)) [ Some p ↦ p ∷ ops_in tx es | None ↦ ops_in tx es ]) h
 

@@ -6,7 +6,6 @@ use Rattle.clv_base.specs.declared.names.TxId.{TxId}
 use Rattle.clv_base.specs.declared.names.Birth.{Birth}
 use Rattle.clv_base.specs.declared.causes.AbortCause.{AbortCause}
 use Rattle.clv_base.specs.declared.causes.AbortCause.TheVariants.{Asked, Died, Predecessor, NoVote, Restarted}
-use Rattle.clv_base.specs.declared.ops.Op.{Op}
 use Rattle.clv_base.specs.declared.ops.Answer.{Answer}
 use Rattle.clv_base.specs.FileRules.{numbers_rise}
 use Rattle.clv_base.specs.Journals.{History}
@@ -129,11 +128,6 @@ pub sessions_go_through : SessionsGoThrough
 sessions_go_through splits run walker most bodies es f = goes_through splits run walker most bodies f.transactions None f.in_order refl
 
 -- ---- what the whole session tells
-
-told_more : (o : Option (Op × Answer)) (r s q : List (Op × Answer)) → r ≡ s ++ q
-    → elim o as (λ z. List (Op × Answer)) [ Some p ↦ p ∷ r | None ↦ r ] ≡ (elim o as (λ z. List (Op × Answer)) [ Some p ↦ p ∷ s | None ↦ s ]) ++ q
-told_more (Some p) r s q h = ap (λ l. p ∷ l) h
-told_more None r s q h = h
 
 abbrev IsTried : List ℕ → Try → Type 0
 IsTried splits t = (body : Body) × (birth : Birth) × IsTry splits body birth t

@@ -12,12 +12,11 @@ use Rattle.cluster_turns.specs.CallTurns.{Turn, Took}
 use Rattle.cluster_turns.proofs.Laws.{worn_is_last}
 use Rattle.session_ops.proofs.Laws.{turns_land}
 use Rattle.session_ops.specs.declared.operating.OpError.{OpError as Failure}
-use Rattle.session_ops.specs.Beginnings.{IsIdle, Begun}
+use Rattle.session_ops.specs.Beginnings.{IsIdle}
 use Rattle.session_ops.specs.Dropped.{Dropping}
 use Rattle.session_ops.specs.declared.settled_looking.SettleError.{SettleError}
 use Rattle.session_ops.specs.Dropped.{IsLeft}
 use Rattle.session_ops.specs.Standing.{HasBirth}
-use Rattle.session_ops.specs.Retried.{Retried}
 use Rattle.session_ops.proofs.Laws.{ended_are_retriable, aborts_are_retriable}
 use Rattle.session_ops.specs.Parts.{PointTold, StandsUnless, has_died}
 use Rattle.session_ops.specs.declared.committing.Settled.{Settled}
@@ -25,8 +24,7 @@ use Rattle.session_ops.specs.declared.committing.CommitError.{CommitError as Com
 use Rattle.session_ops.specs.Standings.{StandsAt, StandsAs, IsUnasked, IsAborted}
 use Rattle.session_ops.specs.Decided.{Deciding}
 use Rattle.session_ops.specs.Committed.{CommitTold}
-use Rattle.session_api.specs.declared.progress.Progress.{Progress}
-use Rattle.session_api.specs.declared.progress.Progress.TheVariants.{Idle, Active, Worn, Asked, Ended}
+use Rattle.session_api.specs.declared.progress.Progress.TheVariants.{Active, Asked}
 use Rattle.session_api.specs.Progresses.{after_op, after_commit, progress_committed, progress_aborted, is_nothing}
 use Rattle.session_api.specs.Sessions.{StandsIn, IsSession}
 
@@ -38,38 +36,12 @@ module _ {M S G : Type 0} (sh : Shards M S G) where
 
   -- ---- idle
 
-  unasked_idle : (w : Walker M S G) (p : SessionState) → IsUnasked sh w p → IsIdle sh w
-  unasked_idle w p (inl active) = (active.state, active.ready)
-  unasked_idle w p (inr ending) = (p, ending.over.ready)
-
-  -- whatever became of the last transaction
-  pub is_idle : (w : Walker M S G) (s : Progress) → StandsIn sh w s → IsIdle sh w
-  is_idle w Idle h = h
-  is_idle w (Active p) h = (h.state, h.ready)
-  is_idle w (Worn p) h = unasked_idle w p h.0
-  is_idle w (Asked p home) h = (p, h.ready)
-  is_idle w (Ended p) h = (h.state, h.ready)
-
   at_idle : (w : Walker M S G) (p : SessionState) (x : Phase) → StandsAt x sh w p → IsIdle sh w
   at_idle w p Touching h = (h.state, h.ready)
   at_idle w p HasEnded h = (p, h.ending.over.ready)
   at_idle w p (Standing home) h = (p, h.ready)
   at_idle w p Told h = (p, h)
   at_idle w p Refused h = (p, h.ending.over.ready)
-
-  -- ---- beginnings
-
-  pub begun_session : (w v : Walker M S G) (s : Progress) (p : SessionState) → IsSession sh w s → Begun sh w v p → IsSession sh v (Active p)
-  begun_session w v s p h b = record {
-    stands = b.active;
-    landed = subst (λ z. HasLanded z.number z.passes.items) (sym b.walker_is) h.landed;
-  }
-
-  pub retried_session : (w v : Walker M S G) (last p : SessionState) → IsSession sh w (Ended last) → Retried sh w v last p → IsSession sh v (Active p)
-  retried_session w v last p h b = record {
-    stands = b.active;
-    landed = subst (λ z. HasLanded z.number z.passes.items) (sym b.walker_is) h.landed;
-  }
 
   -- ---- operations
 

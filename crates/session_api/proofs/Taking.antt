@@ -1,5 +1,5 @@
 -- What a walker's turns keep: a shard that it saw down, and that it has no disk.
-use Rattle.std.proofs.Common.{◌≡◌, ◌∙◌, sym, ap, subst, ℕ, List, [], ◌∷◌, ◌++◌, append_assoc, append-nil, get_or, set, get_or-set_same, get_or-set_other, Option, Some, None, arith}
+use Rattle.std.proofs.Common.{◌≡◌, ◌∙◌, sym, ap, subst, ℕ, List, [], ◌++◌, append_assoc, append-nil, get_or, set, get_or-set_same, get_or-set_other, Option, Some, None, arith}
 use mathlib.Core.Logic.{dite}
 use native.Mathlib.Decide.{ℕ_discrete}
 use Rattle.clv_base.specs.State.{Shard}

@@ -7,8 +7,6 @@ use Rattle.std.specs.Ordering.{nat_cmp, match_ordering}
 use Rattle.std.specs.declared.cmp.Ordering.{Ordering}
 use Rattle.std.specs.declared.cmp.Ordering.TheVariants.{Less, Equal, Greater}
 use Rattle.std.proofs.lemmas.Bool.{both_ways}
-use Rattle.clv_base.specs.declared.names.TxId.{TxId}
-use Rattle.clv_base.specs.declared.names.Birth.{Birth}
 use Rattle.clv_base.specs.declared.ops.Op.{Op as Operation}
 use Rattle.clv_base.specs.declared.events.Event.{Event}
 use Rattle.clv_base.specs.declared.events.Event.TheVariants.{Op, Request, Look, Drop, Send, Deliver, Remind, FlushOut, FlushIn, Stop, Restart}
@@ -17,7 +15,7 @@ use Rattle.clv_base.specs.declared.events.Outcome.TheVariants.{Answered, Dead, A
 use Rattle.clv_base.specs.Orders.{tx_same}
 use Rattle.clv_base.specs.LogRules.{same_option}
 use Rattle.clv_base.specs.Journals.{History}
-use Rattle.clv_base.specs.Sessions.{SessionState, no_session, begun, begins, is_number, lies_in, goes_on, session_for, op_answered, op_in_session, is_touching, same_touched, is_lowest, requested, stands_at, looked, touch, after_drop, session_after}
+use Rattle.clv_base.specs.Sessions.{SessionState, no_session, is_number, lies_in, session_for, op_answered, op_in_session, is_touching, same_touched, is_lowest, requested, stands_at, looked, touch, after_drop, session_after}
 use Rattle.cluster_turns.specs.declared.shards.Shards.{Shards}
 use Rattle.cluster_turns.specs.declared.shards.Walker.{Walker}
 use Rattle.cluster_turns.specs.Walkers.{kept}
@@ -51,13 +49,6 @@ numbered_if false t h = tt
 
 over : (t : SessionState) → is_touching t.phase ≡ false → Numbered t
 over t not_so k e = absurd (both_ways (is_touching t.phase) not_so k)
-
-numbered_for : (t : SessionState) (tx : TxId) (birth : Birth) → Numbered t → NumberedIn (session_for t tx birth)
-numbered_for t tx birth h = at (tx_same tx t.tx)
-  where
-    at : (b : Bool) → NumberedIn (cond b (cond (goes_on t tx birth) (Some t) None) (cond (begins t tx birth) (Some (begun t tx birth)) None))
-    at true = numbered_if (goes_on t tx birth) (Some t) h
-    at false = numbered_if (begins t tx birth) (Some (begun t tx birth)) (λ k e. refl)
 
 numbered_answered : (n nth : ℕ) (op : Operation) (t : SessionState) (o : Outcome) → NumberedIn (op_answered n nth op t o)
 numbered_answered n nth op t (Answered answer epoch) = λ k e. absurd (touch_some n epoch t.touched e)

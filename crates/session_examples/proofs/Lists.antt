@@ -34,13 +34,3 @@ each_at P (x ∷ xs) zero v each new zero d l = new
 each_at P (x ∷ xs) zero v each new (suc k) d l = each (suc k) d l
 each_at P (x ∷ xs) (suc n) v each new zero d l = each 0 d (omega arith)
 each_at P (x ∷ xs) (suc n) v each new (suc k) d l = each_at (λ j. P (suc j)) xs n v (λ j e i. each (suc j) e (omega arith)) new k d (omega arith)
-
--- one is put behind the others
-pushed : {A : Type 0} (P : ℕ → A → Type 0) (xs : List A) (x : A) → ((j : ℕ) (d : A) → j < length xs → P j (get_or xs j d)) → P (length xs) x → (j : ℕ) (d : A) → j < length xs + 1 → P j (get_or (xs ++ x ∷ []) j d)
-pushed P [] x each new zero d l = new
-pushed P [] x each new (suc j) d l = absurd (omega arith)
-pushed P (y ∷ xs) x each new zero d l = each 0 d (omega arith)
-pushed P (y ∷ xs) x each new (suc j) d l = pushed (λ i. P (suc i)) xs x (λ i e k. each (suc i) e (omega arith)) new j d (omega arith)
-
-pub pushed_each : {A : Type 0} (P : ℕ → A → Type 0) (xs : List A) (x : A) (n : ℕ) → length xs ≡ n → ((j : ℕ) (d : A) → j < n → P j (get_or xs j d)) → P n x → (j : ℕ) (d : A) → j < n + 1 → P j (get_or (xs ++ x ∷ []) j d)
-pushed_each P xs x n many each new j d l = pushed P xs x (λ i e k. each i e (omega arith)) (subst (λ m. P m x) (sym many) new) j d (omega arith)

@@ -13,7 +13,6 @@ use Rattle.cluster_turns.specs.declared.shards.Shards.{Shards}
 use Rattle.cluster_turns.specs.declared.shards.Walker.{Walker}
 use Rattle.cluster_turns.specs.Walkers.{kept}
 use Rattle.session_ops.specs.declared.operating.OpError.{OpError as OpFailure}
-use Rattle.session_ops.specs.declared.operating.OpError.TheVariants as failed
 use Rattle.session_ops.specs.Standing.{IsActive}
 use Rattle.session_ops.specs.Parts.{has_died}
 use Rattle.session_ops.specs.declared.committing.Settled.{Settled}

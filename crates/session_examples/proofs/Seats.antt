@@ -1,5 +1,5 @@
 -- Sessions that transfer, each in its seat.
-use Rattle.std.proofs.Common.{arith, ◌≡◌, ◌∙◌, refl, subst, ℕ, ◌<◌, true, false, ◌∷◌, ◌++◌}
+use Rattle.std.proofs.Common.{◌≡◌, ◌∙◌, subst, ℕ}
 use Rattle.cluster_turns.specs.declared.shards.Shards.{Shards}
 use Rattle.cluster_turns.specs.declared.shards.Walker.{Walker}
 use Rattle.session_api.specs.declared.progress.Progress.{Progress}

@@ -25,9 +25,6 @@ use Rattle.session_examples.specs.contracts.together.Seat as seat
 pub origin_send : IsSend Origin.the_field.row
 origin_send = struct_send (shape Origin.the_type) (search sendable, (search sendable, (search (sendable, crosses) depth 20, tt)))
 
-pub home_send : (M S G : RattleType) → IsSend M → IsSend (home.the_field M S G).row
-home_send M S G m = search (origin_send, sendable, crosses) depth 30 fits 20000
-
 pub home_row_send : (M S G : RattleType) → IsSend M → IsSend (home.the_row M S G)
 home_row_send M S G m = search (origin_send, sendable, crosses) depth 30 fits 20000
 
@@ -60,9 +57,6 @@ session_send l M P R S G a b c m p r =
     let w = walker_send M S G m in
     let W = session.the_type l M P R S G a b c in
     struct_send (shape W) (search sendable, (search (shards_row_sync, sendable), (search sendable, (w, (progress.the_field_send, tt)))))
-
-pub session_row_send : (l : NamedLft) (M P R S G : RattleType) (a : _) (b : _) (c : _) → IsSend M → IsSync P → IsSync R → IsSend (session.the_row l M P R S G a b c)
-session_row_send l M P R S G a b c m p r = let W = session.the_type l M P R S G a b c in recorded_send (Struct (shape W)) W.D W.to W.to_one (session_send l M P R S G a b c m p r)
 
 pub seat_send : (l : NamedLft) (M P R S G : RattleType) (a : _) (b : _) (c : _) → IsSend M → IsSync P → IsSync R → IsSend (seat.the_field l M P R S G a b c).row
 seat_send l M P R S G a b c m p r = struct_send (shape (seat.the_type l M P R S G a b c)) (session_send l M P R S G a b c m p r, (search sendable, tt))

@@ -30,9 +30,6 @@ follows_again t p birth (inr (b, begins_so, other, begins_next)) may is =
     subst (λ x. follows_birth t.birth x t.phase ≡ true) (some_birth b birth (sym (ap (λ s. s.birth) begins_so) ∙ is)) (and_parts _ _ begins_next).1
 
 module _ {M S G : Type 0} (sh : Shards M S G) (w v : Walker M S G) (p : SessionState) (tx : TxId) (a : IsRetriable sh w p) where
-  abbrev next : SessionState → SessionState
-  next t = begun t tx a.born.birth
-
   -- the next transaction may have operations
   active_again : IsWalker sh v → tx ≡ record { run = sh.run; session = w.number; serial = suc w.serial } → v ≡ record w { clock = suc w.clock; serial = suc w.serial } → tx.run < 2 ^ 32 → tx.serial < 2 ^ 64
       → AllUnborn a.born.birth w.passes.items → IsActive sh v (begun p tx a.born.birth)

@@ -1,6 +1,5 @@
 -- One look at a request, and a round after it.
 use Rattle.std.proofs.Common.{◌≡◌, ◌∙◌, refl, ap, subst, ℕ, true, false, List, [], ◌∷◌, ◌++◌, Option, Some, None, Result, Ok, Err, inl, inr}
-use Rattle.std.specs.Prelude.{◌⊎◌}
 use Rattle.std.proofs.lemmas.Bool.{both_ways}
 use Rattle.clv_base.specs.declared.names.TxId.{TxId}
 use Rattle.clv_base.specs.declared.names.Point.{Point}
@@ -22,7 +21,6 @@ use Rattle.session_ops.specs.declared.parts.RoundError.{RoundError}
 use Rattle.session_ops.specs.declared.parts.RoundError.TheVariants.{Down as RoundDown, Worn as RoundWorn, Memory as RoundMemory}
 use Rattle.session_ops.specs.Rounds.{EndedBy, Rounded}
 use Rattle.session_ops.specs.Standing.{AskTold}
-use Rattle.session_ops.specs.Requested.{IsStanding}
 use Rattle.session_ops.specs.Looked.{is_look_outcome, place_looked, LookStands}
 use Rattle.session_ops.specs.declared.settled_looking.SettleError.{SettleError}
 use Rattle.session_ops.specs.declared.settled_looking.SettleError.TheVariants.{Aborted, Unsettled, Worn, Memory}
@@ -124,17 +122,7 @@ module _ {T : Type 0} where
     told = round_told A n tx x a.turns b.turns a.told b.ended;
   }
 
-pub refused_placed : (p q : SessionState) (x : RoundError) → q ≡ p → PlacedBy p (Err (refusal_of x)) q
-refused_placed p q (RoundDown m) h = h
-refused_placed p q (RoundWorn at) h = h
-refused_placed p q RoundMemory h = h
-
 module _ {M S G : Type 0} where
-  pub refused_stands : (sh : Shards M S G) (w : Walker M S G) (q : SessionState) (n : ℕ) (x : RoundError) → IsStanding sh w q n → StandsBy sh w q n (Err (refusal_of x))
-  refused_stands sh w q n (RoundDown m) h = h
-  refused_stands sh w q n (RoundWorn at) h = h
-  refused_stands sh w q n RoundMemory h = h
-
   -- more turns at the same request, by the same walker
   pub more_settled : (w u v : Walker M S G) (n : ℕ) (p q : SessionState) (r x : Result (Option Point) SettleError) → u.number ≡ w.number → q ≡ p → Settling w.number w.clock w.passes.items n p.tx r u.clock u.passes.items
       → Settling u.number u.clock u.passes.items n q.tx x v.clock v.passes.items → Settling w.number w.clock w.passes.items n p.tx x v.clock v.passes.items

@@ -1,8 +1,7 @@
 -- A scan, shard by shard.
-use Rattle.std.proofs.Common.{◌≡◌, ◌∙◌, refl, sym, ap, subst, ℕ, zero, suc, ◌<◌, ◌+◌, ◌==◌, nat_le, Bool, true, false, cond, ◌&&◌, ◌||◌, List, [], ◌∷◌, ◌++◌, append-nil, Option, Some, None, Result, Ok, Err, arith, inl, inr, eq-eqb}
-use Rattle.std.specs.Prelude.{◌⊎◌, is_some, max, min, IfOk}
+use Rattle.std.proofs.Common.{◌≡◌, ◌∙◌, refl, sym, ap, subst, ℕ, zero, suc, ◌+◌, true, false, List, [], ◌∷◌, ◌++◌, append-nil, Option, Some, None, Result, Ok, Err, arith, inl, inr}
+use Rattle.std.specs.Prelude.{◌⊎◌, is_some}
 use Rattle.std.specs.List.{AllByRecursion}
-use Rattle.std.proofs.lemmas.Bool.{and_from, lt-ltb, leb-true, le-leb}
 use Rattle.clv_base.specs.declared.names.TxId.{TxId}
 use Rattle.clv_base.specs.declared.names.Birth.{Birth}
 use Rattle.clv_base.specs.declared.ops.Op.{Op}
@@ -10,8 +9,7 @@ use Rattle.clv_base.specs.declared.ops.Op.TheVariants.{Scan}
 use Rattle.clv_base.specs.declared.ops.Answer.{Answer}
 use Rattle.clv_base.specs.declared.events.Event.{Event}
 use Rattle.clv_base.specs.declared.events.Event.TheVariants.{Op as OpEvent}
-use Rattle.clv_base.specs.Shards.{span, lies_within}
-use Rattle.clv_base.specs.Sessions.{SessionState, is_number, goes_on_scan, is_of_session, lies_in}
+use Rattle.clv_base.specs.Sessions.{SessionState, is_of_session}
 use Rattle.turn_lock.specs.declared.pass.Pass.{Pass}
 use Rattle.machine_laws.specs.declared.notes.Note.{Note}
 use Rattle.machine_laws.specs.declared.notes.Origin.{Origin}
@@ -24,52 +22,8 @@ use Rattle.session_ops.specs.Dropped.{Drops}
 use Rattle.session_ops.specs.Decided.{DropsOthers}
 use Rattle.session_ops.proofs.Parting.{any_before, any_after}
 use Rattle.session_ops.specs.Parts.{has_died, LeftBy, Performing}
-use Rattle.session_ops.specs.Scanned.{part_within, part_on, Range, IsPartScan, IsScanWait, pairs_in, GivesPairs, DiesOfScan, PartGiven, Gathered, IsOfScan, ScanFailed, Scanning, StepTold, Stepping, IsBelow, IsUnder, IsSameTx, TakesPairs}
+use Rattle.session_ops.specs.Scanned.{part_on, Range, IsPartScan, IsScanWait, pairs_in, GivesPairs, DiesOfScan, PartGiven, Gathered, IsOfScan, ScanFailed, Scanning, StepTold, Stepping, TakesPairs}
 use Rattle.session_ops.proofs.Parting.{all_append}
-
--- ---- parts of a range
-
-some_part : (a b : ℕ × ℕ) → ◌≡◌ {A = Option (ℕ × ℕ)} (Some a) (Some b) → a ≡ b
-some_part a b h = cc
-
-within_bounds : (lo hi : ℕ) (s part : ℕ × ℕ) → part_within lo hi (Some s) ≡ Some part → (lies_within (Some s) part.0 && lies_within (Some s) part.1) ≡ true
-within_bounds lo hi s part h = at (nat_le (max lo s.0) (min hi s.1)) refl h
-  where
-    at : (b : Bool) → nat_le (max lo s.0) (min hi s.1) ≡ b → cond b (Some (max lo s.0, min hi s.1)) None ≡ Some part → (lies_within (Some s) part.0 && lies_within (Some s) part.1) ≡ true
-    at false is k = absurd cc
-    at true is k =
-        let l = leb-true (max lo s.0) (min hi s.1) is in
-        subst (λ (p : ℕ × ℕ). (lies_within (Some s) p.0 && lies_within (Some s) p.1) ≡ true) (some_part (max lo s.0, min hi s.1) part k)
-        (and_from _ _ (and_from _ _ (le-leb s.0 (max lo s.0) (omega arith)) (le-leb (max lo s.0) s.1 (omega arith))) (and_from _ _ (le-leb s.0 (min hi s.1) (omega arith)) (le-leb (min hi s.1) s.1 (omega arith))))
-
-part_bounds : (lo hi : ℕ) (o : Option (ℕ × ℕ)) (part : ℕ × ℕ) → part_within lo hi o ≡ Some part → (lies_within o part.0 && lies_within o part.1) ≡ true
-part_bounds lo hi None part h = absurd cc
-part_bounds lo hi (Some s) part h = within_bounds lo hi s part h
-
-pub part_lies : (splits : List ℕ) (n lo hi : ℕ) (part : ℕ × ℕ) → part_on splits n lo hi ≡ Some part → lies_in splits n (Scan part.0 part.1) ≡ true
-part_lies splits n lo hi part h = part_bounds lo hi (span splits n) part h
-
--- ---- the number
-
-below_so : (n : ℕ) (o : Option ℕ) → IsBelow n o → goes_on_scan o (Some n) ≡ true
-below_so n None h = absurd h
-below_so n (Some a) h = lt-ltb a n h
-
-pub under_number : (n nth a b : ℕ) (p : SessionState) → IsUnder n nth p → is_number p n nth (Scan a b) ≡ true
-under_number n nth a b p (inl h) = ap (λ c. c || ((nth == p.nth) && goes_on_scan p.scanned (Some n))) (eq-eqb nth (suc p.nth) (omega arith))
-under_number n nth a b p (inr h) = or_so (nth == suc p.nth) ((nth == p.nth) && goes_on_scan p.scanned (Some n)) (and_from (nth == p.nth) (goes_on_scan p.scanned (Some n)) (eq-eqb nth p.nth h.0) (below_so n p.scanned h.1))
-  where
-    or_so : (x y : Bool) → y ≡ true → (x || y) ≡ true
-    or_so true y k = refl
-    or_so false y k = k
-
-below_next : (n : ℕ) (o : Option ℕ) → IsBelow n o → IsBelow (n + 1) o
-below_next n None h = h
-below_next n (Some a) h = omega arith
-
-pub under_next : (n nth : ℕ) (p : SessionState) → IsUnder n nth p → IsUnder (n + 1) nth p
-under_next n nth p (inl h) = inl h
-under_next n nth p (inr h) = inr (h.0, below_next n p.scanned h.1)
 
 -- ---- turns
 
@@ -119,32 +73,6 @@ module _ (splits : List ℕ) (x : Range) (n : ℕ) (seen : Option ℕ) (part : �
   failed count touched Memory ts us h left = tt
 
 -- ---- one shard
-
-pub same_after : (n nth : ℕ) (op : Op) (p q : SessionState) (r : Result Answer OpError) → PlacedBy n nth op p (answered_in r) q → IsSameTx p q
-same_after n nth op p q (Ok answer) h = (ap (λ z. z.tx) h.1, ap (λ z. z.birth) h.1)
-same_after n nth op p q (Err (Aborted cause)) h = (ap (λ z. z.tx) h, ap (λ z. z.birth) h)
-same_after n nth op p q (Err (Down m)) h = (ap (λ z. z.tx) h, ap (λ z. z.birth) h)
-same_after n nth op p q (Err (Worn at)) h = (ap (λ z. z.tx) h, ap (λ z. z.birth) h)
-same_after n nth op p q (Err Memory) h = (ap (λ z. z.tx) h, ap (λ z. z.birth) h)
-
--- after an answer
-pub answered_under : (n nth a b : ℕ) (p q : SessionState) (answer : Answer) → PlacedBy n nth (Scan a b) p (Ok (Some answer)) q → IsUnder (n + 1) nth q
-answered_under n nth a b p q answer h = inr (sym (ap (λ z. z.nth) h.1), subst (IsBelow (n + 1)) (sym (ap (λ z. z.scanned) h.1)) (let l : n < n + 1 = omega arith in l))
-
-pub taken_under : (n nth a b : ℕ) (p q : SessionState) (answer : Result Answer OpError) (r : Result Unit OpError) (ps qs : List (ℕ × ℕ)) → PlacedBy n nth (Scan a b) p (answered_in answer) q → TakesPairs ps answer r qs
-    → IfOk r (λ u. IsUnder (n + 1) nth q)
-taken_under n nth a b p q answer (Err e) ps qs h t = tt
-taken_under n nth a b p q (Ok answer) (Ok u) ps qs h t = answered_under n nth a b p q answer h
-taken_under n nth a b p q (Err e) (Ok u) ps qs h t = absurd cc
-
--- an end of a scan for want of memory alone is no death
-pub taken_died : (answer : Result Answer OpError) (r : Result Unit OpError) (ps qs : List (ℕ × ℕ)) → TakesPairs ps answer r qs → has_died answer ≡ has_died r
-taken_died (Ok answer) (Ok u) ps qs t = refl
-taken_died (Ok answer) (Err e) ps qs t = sym (ap (λ z. has_died {A = Unit {0}} (Err z)) t)
-taken_died (Err (Aborted cause)) r ps qs t = sym (ap has_died t)
-taken_died (Err (Down m)) r ps qs t = sym (ap has_died t)
-taken_died (Err (Worn at)) r ps qs t = sym (ap has_died t)
-taken_died (Err Memory) r ps qs t = sym (ap has_died t)
 
 -- the touched shards when a transaction died
 died_touched : (count n nth : ℕ) (op : Op) (p q : SessionState) (e : OpError) (tx : TxId) (ts : List Turn) → PlacedBy n nth op p (Err e) q → LeftBy count n tx p.touched (has_died {A = Answer} (Err e)) ts → LeftBy count n tx q.touched (has_died {A = Answer} (Err e)) ts

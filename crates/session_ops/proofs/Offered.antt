@@ -22,7 +22,7 @@ use Rattle.clv_base.specs.Orders.{birth_cmp}
 use Rattle.clv_base.specs.State.{Shard}
 use Rattle.clv_base.specs.OneShard.{OpReply, OpWaits, OpCrowded, OpDies, OpAnswers, op_reply}
 use Rattle.clv_base.specs.Events.{QuietBeforeWorn, happen, happen_up, step, next_stamp, op_event}
-use Rattle.clv_base.specs.Sessions.{SessionState, is_number, goes_on_scan, scan_shard, lies_in, op_answered, op_in_session, is_touching, touch, session_after}
+use Rattle.clv_base.specs.Sessions.{SessionState, is_number, goes_on_scan, scan_shard, lies_in, op_answered, op_in_session, touch, session_after}
 use Rattle.clv_base.proofs.SameNames.{tx_self}
 use Rattle.journal_laws.specs.Offers.{may_make}
 use Rattle.machine_calls.specs.declared.machine.StepError.{StepError}

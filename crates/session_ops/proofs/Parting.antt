@@ -1,22 +1,17 @@
 -- Drops shard by shard.
-use Rattle.std.proofs.Common.{◌≡◌, ◌∙◌, refl, sym, ap, subst, ℕ, ◌<◌, ◌≤◌, true, false, List, [], ◌∷◌, ◌++◌, Option, Result, Ok, Err, arith, inl, inr}
+use Rattle.std.proofs.Common.{◌≡◌, ◌∙◌, refl, ap, ℕ, ◌<◌, ◌≤◌, true, false, List, [], ◌∷◌, ◌++◌, Option, Result, Ok, Err, inl, inr}
 use Rattle.std.specs.Prelude.{◌⊎◌, ◌+◌}
 use Rattle.std.specs.List.{AllByRecursion}
 use Rattle.std.proofs.lemmas.Bool.{cases_lt}
 use Rattle.clv_base.specs.declared.names.TxId.{TxId}
-use Rattle.clv_base.specs.declared.events.Event.TheVariants.{Drop}
-use Rattle.clv_base.specs.declared.events.Outcome.{Outcome}
-use Rattle.clv_base.specs.declared.events.Outcome.TheVariants.{Dropped}
 use Rattle.clv_base.specs.Sessions.{SessionState, Phase, Touching, Ended, Standing, Told, Refused, after_drop}
 use Rattle.turn_lock.specs.declared.pass.Pass.{Pass}
-use Rattle.machine_calls.specs.declared.machine.StepError.{StepError}
 use Rattle.machine_laws.specs.declared.notes.Note.{Note}
 use Rattle.machine_laws.specs.declared.notes.Origin.{Origin}
 use Rattle.cluster_turns.specs.declared.shards.WornClock.{WornClock}
 use Rattle.cluster_turns.specs.CallTurns.{Turn, no_turn, AnyTurn}
 use Rattle.cluster_turns.proofs.Laws.{turns_follow}
-use Rattle.session_ops.specs.Standing.{AskTold}
-use Rattle.session_ops.specs.Dropped.{is_to_drop, is_worn, WornBy, worse, Dropping, place_dropped, IsLeft}
+use Rattle.session_ops.specs.Dropped.{is_to_drop, is_worn, WornBy, worse, Dropping, IsLeft}
 
 pub any_after : (P : Turn → Type 0) (xs ys : List Turn) → AnyTurn P ys → AnyTurn P (xs ++ ys)
 any_after P [] ys h = h
@@ -55,25 +50,7 @@ module _ {T A : Type 0} where
       by i l u h (inl less) = any_before _ a.turns b.turns (a.each i l less h)
       by i l u h (inr more) = any_after _ a.turns b.turns (b.each i more u h)
 
-  pub one_dropped : (w c d : ℕ) (ps qs : List (Option (Pass T Note Origin))) (tx : TxId) (touched : List (ℕ × ℕ)) (except : Option ℕ) (n : ℕ) (x : Result Outcome StepError) (r : Result A WornClock)
-      → is_to_drop touched except n ≡ true → ((t : Turn) → t.answer ≡ x → WornBy r (t ∷ [])) → AskTold w c ps n (Drop tx) x d qs → Dropping w c ps tx touched except n (n + 1) r d qs
-  one_dropped w c d ps qs tx touched except n x r h worn a = record {
-    turns = a.turn ∷ [];
-    took = a.took;
-    only = (record { event = a.event_is; shard = subst (λ k. is_to_drop touched except k ≡ true) (sym a.shard_is) h }, tt);
-    each = λ i l u k. inl (a.shard_is ∙ (omega arith));
-    told = worn a.turn a.answer_is;
-  }
-
 -- ---- the place
-
-same_but_dropped : (p : SessionState) (r : Result Outcome StepError) → IsLeft p (place_dropped p r)
-same_but_dropped p (Ok Dropped) = inr refl
-same_but_dropped p (Ok o) = inl refl
-same_but_dropped p (Err e) = inl refl
-
-pub so_dropped : (p q : SessionState) (r : Result Outcome StepError) → q ≡ place_dropped p r → IsLeft p q
-so_dropped p q r is = subst (IsLeft p) (sym is) (same_but_dropped p r)
 
 pub same_but_self : (p : SessionState) → IsLeft p p
 same_but_self p = inl refl

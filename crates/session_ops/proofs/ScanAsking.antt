@@ -4,7 +4,6 @@ use Rattle.std.specs.Prelude.{IfOk}
 use Rattle.std.specs.List.{AllByRecursion}
 use Rattle.std.proofs.lemmas.Bool.{both_ways}
 use Rattle.clv_base.specs.declared.names.Point.{Point}
-use Rattle.clv_base.specs.declared.causes.AbortCause.{AbortCause}
 use Rattle.clv_base.specs.declared.events.Event.TheVariants.{Request}
 use Rattle.clv_base.specs.declared.events.Outcome.{Outcome}
 use Rattle.clv_base.specs.declared.events.Outcome.TheVariants.{Asked, Dead, Down as DownOut}
@@ -28,13 +27,12 @@ use Rattle.session_ops.specs.declared.settled_looking.SettleError.{SettleError}
 use Rattle.session_ops.specs.declared.settled_looking.SettleError.TheVariants.{Aborted as SettleAborted, Unsettled as SettleUnsettled, Worn as SettleWorn, Memory as SettleMemory}
 use Rattle.session_ops.specs.declared.committing.Settled.{Settled}
 use Rattle.session_ops.specs.declared.committing.CommitError.{CommitError}
-use Rattle.session_ops.specs.declared.committing.CommitError.TheVariants.{Aborted}
 use Rattle.session_ops.specs.declared.committing.Next.{Next}
-use Rattle.session_ops.specs.declared.committing.Next.TheVariants.{Looks, Leaves, Refuses}
+use Rattle.session_ops.specs.declared.committing.Next.TheVariants.{Refuses}
 use Rattle.session_ops.specs.Standings.{StandsAs}
-use Rattle.session_ops.specs.Decided.{Leaving, DecidedBy, Deciding, IsLookOrDrop, committed_as}
+use Rattle.session_ops.specs.Decided.{DecidedBy, IsLookOrDrop}
 use Rattle.session_ops.specs.Committed.{CommittedBy, next_as, FollowedBy, Following, Committing, Answering}
-use Rattle.session_ops.proofs.Deciding.{stands_in, only_drops}
+use Rattle.session_ops.proofs.Deciding.{stands_in}
 use Rattle.law_base.proofs.Lists.{lowest_some as some_touched}
 use Rattle.law_base.proofs.Shards.{touching_is}
 
@@ -73,19 +71,6 @@ module _ {M S G : Type 0} (sh : Shards M S G) where
 
   abbrev Follows : Walker M S G → Walker M S G → ℕ → SessionState → Next → Result Settled CommitError → SessionState → Type 0
   Follows w v n p x r q = Following (length sh.locks.items) w.number w.clock w.passes.items n p x r v.clock v.passes.items q
-
-  pub follows_decided : (w v : Walker M S G) (n : ℕ) (p q : SessionState) (d : Result Point SettleError) (r : Result Settled CommitError) → r ≡ committed_as d
-      → Deciding (length sh.locks.items) w.number w.clock w.passes.items n p d v.clock v.passes.items q → Follows w v n p Looks r q
-  follows_decided w v n p q d r is h = record { turns = h.turns; took = h.took; only = h.only; told = (d, is, h.told) }
-
-  pub follows_left : (w v : Walker M S G) (n : ℕ) (p q : SessionState) (cause : AbortCause) → q ≡ p → Leaving (length sh.locks.items) w.number w.clock w.passes.items p.tx p.touched n v.clock v.passes.items
-      → Follows w v n p (Leaves cause) (Err (Aborted cause)) q
-  follows_left w v n p q cause same l = record {
-    turns = l.turns;
-    took = l.took;
-    only = only_drops (length sh.locks.items) w.number w.clock v.clock w.passes.items v.passes.items p.tx p.touched n l;
-    told = (refl, l.each, same);
-  }
 
   -- nothing follows
   pub follows_none : (w : Walker M S G) (n : ℕ) (p : SessionState) (e : CommitError) → Follows w w n p (Refuses e) (Err e) p

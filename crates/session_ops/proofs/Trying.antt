@@ -1,6 +1,5 @@
 -- One try of an operation, and a round after it.
 use Rattle.std.proofs.Common.{◌≡◌, refl, subst, ℕ, ◌==◌, true, false, List, [], ◌∷◌, ◌++◌, Option, Some, None, Result, Ok, Err, inl, inr}
-use Rattle.std.specs.Prelude.{◌⊎◌}
 use Rattle.std.specs.Map.{lookup}
 use Rattle.std.proofs.lemmas.Bool.{both_ways}
 use Rattle.clv_base.specs.declared.names.Birth.{Birth}
@@ -23,7 +22,7 @@ use Rattle.session_ops.specs.declared.parts.RoundError.TheVariants.{Down as Roun
 use Rattle.session_ops.specs.Rounds.{EndedBy, Rounded}
 use Rattle.session_ops.specs.declared.operating.OpError.{OpError}
 use Rattle.session_ops.specs.declared.operating.OpError.TheVariants.{Aborted, Down, Worn, Memory}
-use Rattle.session_ops.specs.Standing.{AskTold, is_op_outcome, place_after, StandsAfter, IsActive}
+use Rattle.session_ops.specs.Standing.{AskTold, is_op_outcome, place_after, StandsAfter}
 use Rattle.session_ops.specs.Operated.{tried, refusal_of, Waits, ToldBy, PlacedBy, OnlyOf, Operated, StandsBy}
 use Rattle.session_ops.proofs.Parting.{all_append, any_after, any_before}
 
@@ -112,17 +111,6 @@ module _ {T : Type 0} where
     only = all_append _ a.turns b.turns a.only (others_only e b.turns b.others);
     told = round_told A n e x a.turns b.turns a.told b.ended;
   }
-
-pub refused_placed : (n nth : ℕ) (op : Operation) (p q : SessionState) (x : RoundError) → q ≡ p → PlacedBy n nth op p (Err (refusal_of x)) q
-refused_placed n nth op p q (RoundDown m) h = h
-refused_placed n nth op p q (RoundWorn at) h = h
-refused_placed n nth op p q RoundMemory h = h
-
-module _ {M S G : Type 0} where
-  pub refused_stands : (sh : Rattle.cluster_turns.specs.declared.shards.Shards.Shards M S G) (w : Rattle.cluster_turns.specs.declared.shards.Walker.Walker M S G) (n : ℕ) (q : SessionState) (x : RoundError) → IsActive sh w q → StandsBy n sh w q (Err (refusal_of x))
-  refused_stands sh w n q (RoundDown m) h = h
-  refused_stands sh w n q (RoundWorn at) h = h
-  refused_stands sh w n q RoundMemory h = h
 
 -- ---- the loop
 

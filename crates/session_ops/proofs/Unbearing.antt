@@ -21,7 +21,7 @@ use Rattle.cluster_turns.specs.Walkers.{IsWalker}
 use Rattle.cluster_turns.specs.CallTurns.{Turn, Took, AnyTurn, FoundWorn}
 use Rattle.cluster_turns.proofs.Laws.{worn_is_last}
 use Rattle.cluster_turns.specs.Births.{AllSeeFree}
-use Rattle.cluster_turns.specs.Unborn.{UnbornAt, AllUnborn, LeavesUnborn, AllLeaveUnborn, EndsPart, EndsThere}
+use Rattle.cluster_turns.specs.Unborn.{UnbornAt, AllUnborn, AllLeaveUnborn, EndsPart, EndsThere}
 use Rattle.cluster_turns.proofs.Laws.{past, unborn_stays, ends_unbear, unborn_unless_none}
 use Rattle.session_ops.specs.Standing.{HasBirth}
 use Rattle.session_ops.specs.Dropped.{is_to_drop, is_excepted, Drops}

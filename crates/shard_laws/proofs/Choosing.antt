@@ -5,7 +5,6 @@ use Rattle.std.specs.List.{AllByRecursion, filter}
 use Rattle.std.proofs.lemmas.Bool.{both_ways, or_cases, and_parts, and_from, false_from_ne_true}
 use Rattle.std.proofs.lemmas.List.{take-append-drop}
 use Rattle.clv_base.specs.declared.names.TxId.{TxId}
-use Rattle.clv_base.specs.declared.logs.LogRecord.{LogRecord}
 use Rattle.clv_base.specs.Orders.{tx_same, tx_in}
 use Rattle.clv_base.specs.Maps.{map_get, replay_map, replay_answers}
 use Rattle.clv_base.specs.Logs.{standing, committed_in, wrote_in, is_commit_of, in_doubt, is_winner, fold_updates, stands}
@@ -46,9 +45,6 @@ and_true false b e = refl
 
 module _ (all : List Item) (g : Past) (s : Shard) (told : List TxId) (cut : ℕ) (chosen : TxId → Bool) (h : Sound all g s) (le : s.durable ≤ cut) (once : Once g.asked) (all_over : (t : TxId) → tx_in t told ≡ true → tx_in t g.over ≡ true)
     (bounded : Bounded g s) (may : MayChoose s cut (did all told g) chosen) where
-  abbrev front : List LogRecord
-  front = take cut s.local.log
-
   abbrev kept : List Item
   kept = filter (λ x. chosen x.tx) g.items
 
@@ -140,9 +136,6 @@ module _ (all : List Item) (g : Past) (s : Shard) (told : List TxId) (cut : ℕ)
   ms_chosen = all_mono _ _ (λ t k. k.1) (filter chosen g.asked) (all_filter (λ t. Unit {0}) chosen g.asked (every g.asked))
 
   -- ---- the map
-
-  abbrev wrote_chosen : TxId → Bool
-  wrote_chosen t = chosen t && wrote_in s.local.log t
 
   -- a chosen one that wrote is committed in the cut, or in doubt there
   wins_here : (t : TxId) → (chosen t && wrote_in s.local.log t) ≡ true → is_winner s.shard (take cut s.local.log) t ≡ true

@@ -1,5 +1,5 @@
 -- A part is closed, and its transaction is the last that asked.
-use Rattle.std.proofs.Common.{◌≡◌, ℕ, zero, suc, ◌≤◌, ◌<◌, inl, inr, ⊎_elim, Bool, true, false, cond, ◌||◌, List, [], ◌∷◌, ◌++◌, length, Option, Some, None, refl, sym, ap, subst, ◌∙◌, arith}
+use Rattle.std.proofs.Common.{◌≡◌, ℕ, zero, suc, ◌<◌, inl, inr, ⊎_elim, Bool, true, false, cond, ◌||◌, List, [], ◌∷◌, ◌++◌, length, Option, Some, None, refl, sym, ap, subst, ◌∙◌, arith}
 use Rattle.std.proofs.lemmas.Bool.{cases_Bool, both_ways, cond-true, cond-false, or_cases, false_from_ne_true}
 use Rattle.std.proofs.lemmas.List.Folds.{list_any-append}
 use Rattle.clv_base.specs.declared.names.TxId.{TxId}
@@ -22,21 +22,13 @@ use Rattle.law_base.proofs.LockRows.{rows_close, close_holds}
 use Rattle.shard_laws.proofs.Asking.{holds_at, holds_by}
 use Rattle.law_base.proofs.Tables.{stage_in, stage_by}
 use Rattle.shard_laws.proofs.Prepared.{prepared_parts}
-use Rattle.shard_laws.proofs.Kept.{View, Past, place, StageFits, Belongs, Known, Kept}
+use Rattle.shard_laws.proofs.Kept.{View, Past, place, Belongs, Known, Kept}
 use Rattle.clv_base.specs.Locks.{close_locks}
 use Rattle.law_base.proofs.Stages.{get_closed, get_closed_other, get_closed_own, stage_closed, closed_other as stage_other, closed_not_active}
 use Rattle.law_base.proofs.Sets.{flip_apart}
 use Rattle.clv_base.proofs.Folding.{or_left as or_false_left, or_right as or_false_right}
 
 -- ---- places
-
-pub place_most : (as_ : List TxId) (t : TxId) → place as_ t ≤ length as_
-place_most [] t = omega arith
-place_most (a ∷ rest) t = at (tx_same t a) (place_most rest t)
-  where
-    at : (b : Bool) → place rest t ≤ length rest → cond b zero (suc (place rest t)) ≤ length (a ∷ rest)
-    at true h = omega arith
-    at false h = omega arith
 
 pub place_push : (as_ : List TxId) (n t u : TxId) → place as_ t < place as_ u → place (as_ ++ n ∷ []) t < place (as_ ++ n ∷ []) u
 place_push [] n t u h = absurd (omega arith)
@@ -79,21 +71,8 @@ stage_back parts t u s act ne e =
     let apart : tx_same t u ≡ false = false_from_ne_true _ (λ h. ne (sym (stage_closed parts t act) ∙ ap (stage_in (closed_in t parts)) (tx_true t u h) ∙ e)) in
     (apart, sym (stage_other parts t u apart) ∙ e)
 
-fits_closed : (c : Bool) (s : Stage) → StageFits c s → s ≡ Active → c ≡ false
-fits_closed c s f e = subst (λ x. StageFits c x → c ≡ false) (sym e) (at c) f
-  where
-    at : (c : Bool) → StageFits c Active → c ≡ false
-    at true f = absurd f
-    at false f = refl
-
-closed_not_gone : ◌≡◌ {A = Option Stage} (Some Closed) (Some (Gone None)) → ⊥
-closed_not_gone e = absurd cc
-
 closed_not_doomed : (d : TxId) → ◌≡◌ {A = Option Stage} (Some Closed) (Some (Gone (Some d))) → ⊥
 closed_not_doomed d e = absurd cc
-
-active_not_gone : ◌≡◌ {A = Option Stage} (Some Active) (Some (Gone None)) → ⊥
-active_not_gone e = absurd cc
 
 pub present_closed : (parts : Table Held) (t u : TxId) → is_present (stage_in parts u) ≡ true → is_present (stage_in (closed_in t parts) u) ≡ true
 present_closed parts t u e = subst (λ o. is_present (stage_by o) ≡ true) (sym (get_closed t u parts)) (at (tx_get u parts) (tx_same t u) e)

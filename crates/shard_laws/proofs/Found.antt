@@ -11,9 +11,8 @@ use Rattle.clv_base.specs.Orders.{tx_same, tx_in}
 use Rattle.clv_base.specs.Maps.{KeyMap, map_get, op_answer}
 use Rattle.clv_base.specs.Needs.{writes_of}
 use Rattle.clv_base.specs.Folding.{meets_key}
-use Rattle.clv_base.specs.Logs.{StandingUpdate, standing, standing_after, committed_in, prepared_in, is_prepare_of, in_doubt}
+use Rattle.clv_base.specs.Logs.{StandingUpdate, standing, standing_after, committed_in, prepared_in, is_prepare_of}
 use Rattle.clv_base.specs.LogRules.{may_follow, listed_in}
-use Rattle.clv_base.specs.Restarts.{restored_pairs, opened}
 use Rattle.clv_base.proofs.SameNames.{or_left, or_right, tx_true, tx_flip}
 use Rattle.law_base.specs.Items.{Item, wrote, meets, Runs, after, AllLater, on_top, pile}
 use Rattle.law_base.proofs.Lists.{all_mono, all_push, later_push}
@@ -21,7 +20,7 @@ use Rattle.law_base.proofs.Running.{top_value, runs_push, pile_value, pile_push}
 use Rattle.law_base.proofs.Undoing.{Chain, standing_append}
 use Rattle.protocol_laws.specs.Order.{LieOnThese}
 use Rattle.protocol_laws.proofs.Records.{push_cases}
-use Rattle.shard_laws.specs.OneShard.{no_deeds, found_op, found_item, items_found, prepared_order, MayServe, Leads, opens}
+use Rattle.shard_laws.specs.OneShard.{found_op, found_item, items_found, prepared_order}
 use Rattle.shard_laws.proofs.AtKeys.{key_writes, SameAtKeys, top_at}
 use Rattle.shard_laws.proofs.Kept.{of_kept, place}
 use Rattle.shard_laws.proofs.Prepared.{listed_keeps}
@@ -115,9 +114,6 @@ key_top : (q : ℕ) (ws vs : List StandingUpdate) → key_writes q ws ≡ key_wr
 key_top q ws vs e = sym (top_at q ws) ∙ ap (top_value q) e ∙ top_at q vs
 
 module _ (done doubt : TxId → Bool) (apart : (t : TxId) → doubt t ≡ true → done t ≡ false) where
-  abbrev Wins : TxId → Bool
-  Wins t = done t || doubt t
-
   not_doubt : (t : TxId) → done t ≡ true → doubt t ≡ false
   not_doubt t e = false_from_ne_true _ (λ d. both_ways _ (apart t d) e)
 
@@ -320,24 +316,3 @@ under_found log doubt open_ ws l = found_later (UnderFound log doubt) doubt ws (
             none : (us : List StandingUpdate) → AllByRecursion (λ w. doubt v.tx ≡ true → doubt w.tx ≡ true → UnderFound log doubt (found_item w) (found_item v)) us
             none [] = tt
             none (u ∷ us) = ((λ a e k x y. absurd (both_ways _ d a)), none us)
-
--- where nothing is in doubt nothing is found
-none_found : (ws : List StandingUpdate) → items_found (λ t. tx_in t []) ws ≡ []
-none_found [] = refl
-none_found (w ∷ ws) = none_found ws
-
-none_ordered : (log : List LogRecord) → prepared_order (λ t. tx_in t []) log ≡ []
-none_ordered [] = refl
-none_ordered (Prepare tx home ps ∷ rs) = none_ordered rs
-none_ordered (Update tx k b a ∷ rs) = none_ordered rs
-none_ordered (Clr tx u k a ∷ rs) = none_ordered rs
-none_ordered (Commit tx ps ∷ rs) = none_ordered rs
-none_ordered (Abort tx ∷ rs) = none_ordered rs
-none_ordered (End tx ∷ rs) = none_ordered rs
-none_ordered (Restart run epoch ∷ rs) = none_ordered rs
-
-pub opens_clear : (shard run : ℕ) (before : List LogRecord) → MayServe shard run before → in_doubt shard before ≡ [] → Leads shard run before no_deeds (opened shard run before)
-opens_clear shard run before may clear =
-    subst (λ xs. Leads shard run before (record no_deeds { items = xs }) (opened shard run before)) (none_found (standing before))
-    (subst (λ ts. Leads shard run before (record no_deeds { items = items_found (λ t. tx_in t []) (standing before); asked = ts }) (opened shard run before)) (none_ordered before)
-    (subst (λ d. Leads shard run before (record no_deeds { items = items_found (λ t. tx_in t d) (standing before); asked = prepared_order (λ t. tx_in t d) before; met = restored_pairs before d }) (opened shard run before)) clear (opens may)))

@@ -318,13 +318,6 @@ module _ (g : Past) (v : View) (tx : TxId) (birth : Birth) (op : Op) (k : Kept g
   stage_same : (u : TxId) → (u ≡ tx → ⊥) → stage_in parts_after u ≡ stage_in v.parts u
   stage_same u ne = ap stage_by (other_part tx birth v.parts u (tx_get tx v.parts) (tx_ne u tx ne))
 
-  -- the stage of the transaction before
-  not_other : (s : Stage) → (Some Active ≡ Some s → ⊥) → stage_in v.parts tx ≡ Some s → ⊥
-  not_other s ne e = ⊎_elim (λ none. none_stage (sym (ap stage_by none) ∙ e)) (λ m. ne (sym (ap stage_by m.1 ∙ ap Some m.3) ∙ e)) may
-    where
-      none_stage : ◌≡◌ {A = Option Stage} None (Some s) → ⊥
-      none_stage e = absurd cc
-
   closed_apart : ◌≡◌ {A = Option Stage} (Some Active) (Some Closed) → ⊥
   closed_apart e = absurd cc
 

@@ -10,7 +10,7 @@ use Rattle.clv_base.specs.declared.modes.Part.{Part}
 use Rattle.clv_base.specs.declared.modes.Part.TheVariants.{S, X}
 use Rattle.clv_base.specs.declared.modes.Anchor.TheVariants.{Low, At}
 use Rattle.clv_base.specs.declared.state.Stage.{Stage}
-use Rattle.clv_base.specs.declared.state.Stage.TheVariants.{Closed, Gone}
+use Rattle.clv_base.specs.declared.state.Stage.TheVariants.{Closed}
 use Rattle.clv_base.specs.declared.state.Held.{Held}
 use Rattle.clv_base.specs.Orders.{Table, tx_same, tx_in}
 use Rattle.clv_base.specs.Logs.{StandingUpdate, standing, committed_in, wrote_in, prepared_in, is_commit_of}
@@ -66,9 +66,6 @@ in_one t = or_left _ _ (tx_self t)
 -- why it may be finished
 abbrev pub Done : View → TxId → Type 0
 Done v t = (commit_durable v.log v.durable t ≡ true) ⊎ ((committed_in v.log t ≡ false) × (wrote_in v.log t ≡ false) × ((p : TxId) → is_pair v.pairs t p ≡ true → commit_durable v.log v.durable p ≡ true))
-
-left_with : List TxId → Option TxId → View → View
-left_with set d v = record v { locks = release set v.locks; parts = gone_in set d v.parts; pairs = pairs_without set v.pairs }
 
 pub keeps_finish : (g : Past) (v : View) (t : TxId) → Kept g v → stage_in v.parts t ≡ Some Closed → Done v t
     → Kept (record g { over = t ∷ g.over }) (record v { locks = release (t ∷ []) v.locks; parts = gone_in (t ∷ []) None v.parts; pairs = pairs_without (t ∷ []) v.pairs })
@@ -158,9 +155,6 @@ pub record MayGo (v : View) (set : List TxId) : Type 0 where
   pub upward : (t p : TxId) → is_pair v.pairs t p ≡ true → tx_in p set ≡ true → tx_in t set ≡ true
   pub undecided : (t : TxId) → tx_in t set ≡ true → committed_in v.log t ≡ false
   pub present : (t : TxId) → tx_in t set ≡ true → is_present (stage_in v.parts t) ≡ true
-
-undone_log : List TxId → List LogRecord → List LogRecord
-undone_log set log = log ++ aborts_of log set ++ clrs_of set (standing log)
 
 pub no_commit_aborts : (t : TxId) (ts : List TxId) → committed_in (map (λ u. Abort u) ts) t ≡ false
 no_commit_aborts t [] = refl
@@ -361,10 +355,6 @@ holds_undone set ws locks rs p u q h =
 reset_none : (b o : Option (Option ℕ)) → reset b o ≡ None → o ≡ None
 reset_none b None e = refl
 reset_none b (Some v) e = absurd cc
-
-gone_gone : (d : TxId) (o : Option Stage) → gone_by (Some d) o ≡ Some (Gone None) → ⊥
-gone_gone d None e = absurd cc
-gone_gone d (Some s) e = absurd cc
 
 module _ (g : Past) (v : View) (set : List TxId) (d : TxId) (k : Kept g v) (may : MayGo v set) (chain_here : Chain (standing v.log)) (upward_here : Upward set (standing v.log)) where
   Taken : List LogRecord → View

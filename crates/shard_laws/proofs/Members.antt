@@ -77,12 +77,6 @@ filter_alike f h [] all = refl
 filter_alike f h (w ∷ ws) all = ap (λ b. cond b (w ∷ filter (of_kept f) ws) (filter (of_kept f) ws)) all.0 ∙ ap (λ l. cond (h w.tx) (w ∷ l) l) (filter_alike f h ws all.1)
 
 module _ (all : List Item) (g : Past) (s : Shard) (told : List TxId) (cut : ℕ) (h : Sound all g s) (le : s.durable ≤ cut) (once : Once g.asked) (all_over : (t : TxId) → tx_in t told ≡ true → tx_in t g.over ≡ true) where
-  abbrev keep : TxId → Bool
-  keep t = is_member s cut told t
-
-  abbrev keep_item : Item → Bool
-  keep_item x = is_member s cut told x.tx
-
   abbrev ms : List TxId
   ms = filter (is_member s cut told) g.asked
 

@@ -99,10 +99,6 @@ sealed_none before (r ∷ rs) none unp = (no_update before r rs none unp, sealed
 pub sealed_more : (log more : List LogRecord) → Sealed [] log → ((t : TxId) → wrote_in more t ≡ false) → ((t : TxId) → prepared_in more t ≡ false) → Sealed [] (log ++ more)
 sealed_more log more s none unp = sealed_append [] log more s (sealed_none log more none unp)
 
-pub sealed_front : (before xs ys : List LogRecord) → Sealed before (xs ++ ys) → Sealed before xs
-sealed_front before [] ys t = tt
-sealed_front before (x ∷ xs) ys t = (t.0, sealed_front (before ++ x ∷ []) xs ys t.1)
-
 pub sealed_later : (before xs ys : List LogRecord) → Sealed before (xs ++ ys) → Sealed (before ++ xs) ys
 sealed_later before [] ys t = subst (λ l. Sealed l ys) (sym (append-nil before)) t
 sealed_later before (x ∷ xs) ys t = subst (λ l. Sealed l ys) (append_assoc before (x ∷ []) xs) (sealed_later (before ++ x ∷ []) xs ys t.1)

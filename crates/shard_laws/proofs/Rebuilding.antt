@@ -11,7 +11,7 @@ use Rattle.clv_base.specs.Logs.{StandingUpdate, standing, standing_from, without
 use Rattle.clv_base.specs.Undo.{clrs_of, newest_lsn}
 use Rattle.clv_base.specs.State.{Shard}
 use Rattle.clv_base.specs.Restarts.{losers, restart_records, log_after_restart, next_epoch, FailedRestarts, untouched, failed_first, Restarts}
-use Rattle.clv_base.proofs.SameNames.{or_left, or_right, tx_true, tx_self, insert_has}
+use Rattle.clv_base.proofs.SameNames.{or_left, or_right, tx_true, tx_self}
 use Rattle.law_base.proofs.Lists.{all_mono, all_append, all_taken}
 use Rattle.law_base.proofs.Undoing.{standing_append, standing_aborts, standing_clrs}
 use Rattle.law_base.proofs.Commits.{committed_append}
@@ -162,9 +162,6 @@ plain_restart shard log run epoch =
     (record { opens = tt; no_commit = λ u. refl; no_update = λ u. refl; no_prepare = λ u. refl; undoes = λ u e. absurd (both_ways false refl e); whom = nobody; unlike = restart_unlike run epoch; spares = λ u i. refl }, tt)
 
 -- ---- the whole restart leaves the writes of those that win alone
-
-writer_in : (w : StandingUpdate) (ws : List StandingUpdate) → tx_in w.tx (writers (w ∷ ws)) ≡ true
-writer_in w ws = insert_has w.tx (writers ws)
 
 pub loser_alike : (shard : ℕ) (log : List LogRecord) (t : TxId) → tx_in t (writers (standing log)) ≡ true → not (tx_in t (losers shard log)) ≡ is_winner shard log t
 loser_alike shard log t w = at (is_winner shard log t) refl

@@ -85,9 +85,6 @@ restored_committed (r ∷ rs) t = at (tx_same t r.0) (restored_committed rs t)
 
 -- ---- all of it
 
-none_stage : (st : Stage) → ◌≡◌ {A = Option Stage} None (Some st) → ⊥
-none_stage st e = absurd cc
-
 -- the state after a restart, with what is in doubt, its records and its locks given
 unfoldable pub state_with : Shard → ℕ → List LogRecord → List TxId → Records → Locks → Shard
 state_with s epoch log doubt rs ls = record {
@@ -182,10 +179,6 @@ module _ (all : List Item) (g : Past) (s : Shard) (c epoch : ℕ) (log : List Lo
   -- who wrote nothing is not in doubt
   not_doubt : (t : TxId) → wrote_in s.local.log t ≡ false → tx_in t doubt ≡ false
   not_doubt t e = false_from_ne_true _ (λ i. both_ways _ e (prepared_wrote s.shard s.local.log h.order.ordered.follows t (prepared_cut c s.local.log t (doubt_of all g s c h t i).prepared)))
-
-  -- who is left out
-  abbrev out : List TxId
-  out = left_out s (revived s epoch log)
 
   after_stage : (t : TxId) → stage_of (revived s epoch log).local t ≡ stage_in (restored_parts doubt) t
   after_stage t = ap (λ d. stage_in (restored_parts d) t) found.doubts

@@ -1,12 +1,12 @@
 -- The start of a flush.
-use Rattle.std.proofs.Common.{◌≡◌, refl, sym, ◌∙◌, ap, subst, ℕ, zero, suc, ◌+◌, ◌-◌, ◌≤◌, ◌<◌, Bool, true, false, [], drop, take, length, Option, Some, None, is_some, is_none, unwrap_or, length-drop, arith}
+use Rattle.std.proofs.Common.{◌≡◌, refl, sym, ◌∙◌, ap, subst, ℕ, zero, suc, ◌+◌, ◌-◌, ◌≤◌, ◌<◌, Bool, false, [], drop, take, length, Option, Some, None, is_some, is_none, unwrap_or, length-drop, arith}
 use Rattle.std.proofs.lemmas.List.{drop-take}
 use Rattle.clv_base.specs.declared.events.Event.TheVariants.{FlushOut}
-use Rattle.clv_base.specs.declared.events.Outcome.TheVariants.{Out, Nothing, Away}
+use Rattle.clv_base.specs.declared.events.Outcome.TheVariants.{Out}
 use Rattle.clv_base.specs.Logs.{fitting}
 use Rattle.clv_base.specs.State.{Shard, with_local}
 use Rattle.clv_base.specs.OneShard.{purge}
-use Rattle.clv_base.specs.Events.{QuietBeforeWorn, Does, finish, with_flight, taken, out_event, happen_up}
+use Rattle.clv_base.specs.Events.{Does, finish, with_flight, taken, out_event, happen_up}
 use Rattle.log_buffer.proofs.Laws.{few_fit}
 use Rattle.machine_calls.specs.Flights.{flying}
 use Rattle.protocol_laws.specs.Candidates.{Cover}
@@ -46,17 +46,6 @@ departs s none some = at s.flight (next_count s) none some
     at None zero e h = absurd (omega (arith, h))
     at (Some n) k e h = absurd cc
 
-pub none_departs : (s : Shard) → next_count s ≡ 0 → happen_up s FlushOut ≡ QuietBeforeWorn Nothing
-none_departs s e = ap (out_event s s.flight) e
-
-pub one_is_away : (s : Shard) → is_some s.flight ≡ true → 0 < next_count s → happen_up s FlushOut ≡ QuietBeforeWorn Away
-one_is_away s away some = at s.flight (next_count s) away some
-  where
-    at : (f : Option ℕ) (k : ℕ) → is_some f ≡ true → 0 < k → out_event s f k ≡ QuietBeforeWorn Away
-    at None k e h = absurd cc
-    at (Some n) zero e h = absurd (omega (arith, h))
-    at (Some n) (suc k) e h = refl
-
 -- ---- what it leaves
 
 -- at rest nothing becomes due
@@ -79,11 +68,6 @@ kept_flown c d is_up j k owed n has left rest same room r =
       room = room;
       gate = λ up. ap (λ (x : Shard). is_none x.flight) (sym is);
     }
-
--- the gate is here where nothing flies
-pub has_gate : {G : Type 0} (g : Option G) (f : Option ℕ) → is_some g ≡ is_none f → is_some f ≡ false → is_some g ≡ true
-has_gate g None is none = is
-has_gate g (Some n) is none = absurd cc
 
 pub none_flies : (f g : Option ℕ) (b : Bool) → g ≡ f → b ≡ is_some g → b ≡ false → f ≡ None
 none_flies f g b same is none = at f (ap is_some (sym same) ∙ sym is ∙ none)

@@ -1,18 +1,17 @@
 -- What a drop of a part that is known comes to, and a reminder.
-use Rattle.std.proofs.Common.{◌≡◌, refl, sym, ◌∙◌, ap, ℕ, ◌+◌, ◌≤◌, ◌==◌, Bool, true, false, not, List, [], ◌∷◌, length, Option, Some, None, is_some, is_none, eqb-true, arith}
+use Rattle.std.proofs.Common.{◌≡◌, refl, sym, ◌∙◌, ap, ℕ, ◌+◌, ◌≤◌, ◌==◌, Bool, true, false, not, List, [], ◌∷◌, length, Option, Some, None, is_some, eqb-true, arith}
 use Rattle.std.proofs.lemmas.Bool.{both_ways}
 use Rattle.clv_base.specs.declared.names.TxId.{TxId}
 use Rattle.clv_base.specs.declared.messages.Message.{Message}
 use Rattle.clv_base.specs.declared.events.Event.TheVariants.{Drop, Remind}
 use Rattle.clv_base.specs.declared.events.Outcome.TheVariants.{Dropped, Absent, Reminded, Nothing}
-use Rattle.clv_base.specs.declared.state.Stage.{Stage}
 use Rattle.clv_base.specs.declared.state.Held.{Held}
 use Rattle.clv_base.specs.Orders.{tx_get}
 use Rattle.clv_base.specs.State.{Shard, with_local}
 use Rattle.clv_base.specs.Undo.{stage_of}
 use Rattle.clv_base.specs.OneShard.{drop_part}
 use Rattle.clv_base.specs.Due.{send}
-use Rattle.clv_base.specs.Events.{QuietBeforeWorn, Does, finish, drop_event, remind_with, reminders, happen_up, happen}
+use Rattle.clv_base.specs.Events.{QuietBeforeWorn, Does, finish, drop_event, remind_with, reminders, happen_up}
 use Rattle.due_step.specs.Sent.{first_of}
 use Rattle.shard_core.specs.Core.{Core}
 use Rattle.shard_core.specs.Whole.{IsAtRest}
@@ -86,13 +85,6 @@ reminded s t missing none are some ends = ap (remind_with s s.outbox) (sym are) 
     at [] [] e some = absurd (some refl)
     at [] (m ∷ ms) e some = refl
     at (o ∷ os) ms e some = absurd cc
-
-pub waits_already : (s : Shard) → is_some (first_of s.outbox) ≡ true → happen_up s Remind ≡ QuietBeforeWorn Nothing
-waits_already s some = at s.outbox (reminders s) some
-  where
-    at : (waiting ms : List Message) → is_some (first_of waiting) ≡ true → remind_with s waiting ms ≡ QuietBeforeWorn Nothing
-    at [] ms e = absurd cc
-    at (o ∷ os) ms e = refl
 
 pub none_missing : (s : Shard) → first_of s.outbox ≡ None → reminders s ≡ [] → happen_up s Remind ≡ QuietBeforeWorn Nothing
 none_missing s none are = ap (remind_with s s.outbox) are ∙ at s.outbox none

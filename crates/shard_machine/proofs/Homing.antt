@@ -1,11 +1,11 @@
 -- The end of a flush.
-use Rattle.std.proofs.Common.{◌≡◌, refl, sym, ◌∙◌, ap, subst, ℕ, ◌+◌, ◌≤◌, Bool, true, false, ◌++◌, ◌∷◌, [], List, Option, Some, None, is_some, is_none, arith}
+use Rattle.std.proofs.Common.{◌≡◌, refl, sym, ◌∙◌, ap, subst, ℕ, ◌+◌, ◌≤◌, Bool, true, false, ◌++◌, ◌∷◌, [], List, Some, None, is_none, arith}
 use Rattle.clv_base.specs.declared.events.Event.TheVariants.{FlushIn}
 use Rattle.clv_base.specs.declared.events.Entry.{Entry}
 use Rattle.clv_base.specs.declared.events.Outcome.{Outcome}
-use Rattle.clv_base.specs.declared.events.Outcome.TheVariants.{Durable, Failed, Down}
+use Rattle.clv_base.specs.declared.events.Outcome.TheVariants.{Durable, Down}
 use Rattle.clv_base.specs.State.{Shard}
-use Rattle.clv_base.specs.Events.{Does, Quiet, Enters, finish, with_durable, put_down, landed, land, land_up, next_stamp, stamped, with_entry}
+use Rattle.clv_base.specs.Events.{Does, Quiet, Enters, finish, with_durable, landed, land, land_up, next_stamp, stamped, with_entry}
 use Rattle.shard_core.specs.Core.{Core}
 use Rattle.shard_core.specs.Whole.{IsAtRest}
 use Rattle.shard_machine.specs.Journaled.{Journaled}
@@ -43,12 +43,6 @@ made_durable s t n clock w stamp o up flies at same is =
     (made_by s t (finish (with_durable n s)) n clock w true (Durable n) up flies refl (journal_stays (with_durable n s))
     (is ∙ ap (λ k. with_entry k w FlushIn (Durable n) (finish (with_durable n s))) at))
 
-pub made_failed : (s t : Shard) (n clock w stamp : ℕ) (o : Outcome) → s.is_up ≡ true → s.flight ≡ Some n → stamp ≡ next_stamp s clock FlushIn → o ≡ Failed
-    → t ≡ with_entry stamp w FlushIn Failed (put_down s) → (made : Entry) × Made (land s clock w false) s clock w FlushIn o t made
-made_failed s t n clock w stamp o up flies at same is =
-    subst (λ p. (made : Entry) × Made (land s clock w false) s clock w FlushIn p t made) (sym same)
-    (made_by s t (put_down s) n clock w false Failed up flies refl refl (is ∙ ap (λ k. with_entry k w FlushIn Failed (put_down s)) at))
-
 -- ---- the state after it
 
 pub durable_as : (is_up : Bool) (l stamp : ℕ) (j k : List Entry) (s d : Shard) (n w : ℕ) → d ≡ finish (with_durable n s) → k ≡ j ++ entry stamp w FlushIn (Durable n) ∷ []
@@ -73,23 +67,6 @@ kept_durable c d is_up j k owed less n has up flies landed rest short same one r
       gate = λ u. ap is_none (sym home);
     }
 
-pub kept_failed : (c : Core) (is_up : Bool) (j k : Journaled) (owed less : ℕ) (has : Bool) → k.shard ≡ j.shard → less ≤ k.room → IsRunning c is_up j owed has → IsRunning c false k less true
-kept_failed c is_up j k owed less has same room r = record {
-  rest = r.rest;
-  named = r.named;
-  index = same ∙ r.index;
-  places = λ u. absurd cc;
-  room = room;
-  gate = λ u. absurd cc;
-}
-
 -- while records are in flight a place is kept for their end, and the gate is away
 pub one_owed : (c : Core) (is_up : Bool) (j : Journaled) (owed n : ℕ) (has : Bool) → is_up ≡ true → c.shard.flight ≡ Some n → IsRunning c is_up j owed has → 1 ≤ owed
 one_owed c is_up j owed n has up flies r = let places = r.places up in let was : flights c.shard.flight ≡ 1 = ap flights flies in omega (arith, places, was)
-
-pub is_away : {G : Type 0} (c : Core) (is_up : Bool) (j : Journaled) (owed n : ℕ) (g : Option G) → is_up ≡ true → c.shard.flight ≡ Some n → IsRunning c is_up j owed (is_some g) → g ≡ None
-is_away {G = G} c is_up j owed n g up flies r = at g (r.gate up ∙ ap is_none flies)
-  where
-    at : (h : Option G) → is_some h ≡ false → h ≡ None
-    at None e = refl
-    at (Some x) e = absurd cc

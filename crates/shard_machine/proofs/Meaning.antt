@@ -1,17 +1,13 @@
 -- What the core's answers say of the protocol's events.
-use Rattle.std.proofs.Common.{◌≡◌, refl, sym, ◌∙◌, ap, subst, ℕ, true, false, List, [], ◌∷◌, drop, Option, Some, None, is_some}
+use Rattle.std.proofs.Common.{◌≡◌, refl, sym, ◌∙◌, ap, subst, ℕ, true, false, [], Option, Some, None}
 use Rattle.clv_base.specs.declared.names.TxId.{TxId}
 use Rattle.clv_base.specs.declared.ops.Answer.{Answer}
 use Rattle.clv_base.specs.declared.causes.AbortCause.{AbortCause}
-use Rattle.clv_base.specs.declared.messages.Message.{Message}
-use Rattle.clv_base.specs.declared.events.Event.TheVariants.{Drop as DropEvent, Send}
 use Rattle.clv_base.specs.declared.events.Outcome.{Outcome}
-use Rattle.clv_base.specs.declared.events.Outcome.TheVariants.{Answered, Dead, Dropped, Sent, Wait, Crowded, Nothing, Absent}
-use Rattle.clv_base.specs.State.{Shard, with_local}
-use Rattle.clv_base.specs.declared.state.Stage.{Stage}
-use Rattle.clv_base.specs.Undo.{stage_of}
-use Rattle.clv_base.specs.OneShard.{OpReply, drop_part}
-use Rattle.clv_base.specs.Events.{Reply, QuietBeforeWorn, QuietAfterWorn, Does, finish, op_event, drop_event, send_event, with_outbox, happen_up}
+use Rattle.clv_base.specs.declared.events.Outcome.TheVariants.{Answered, Dead, Wait, Crowded}
+use Rattle.clv_base.specs.State.{Shard}
+use Rattle.clv_base.specs.OneShard.{OpReply}
+use Rattle.clv_base.specs.Events.{Reply, QuietBeforeWorn, QuietAfterWorn, Does, finish, op_event}
 use Rattle.txn_core.specs.declared.op.Reply.TheVariants.{Answered as CoreAnswered, Dead as CoreDead, Wait as CoreWait, Crowded as CoreCrowded}
 use Rattle.std.proofs.lemmas.Bool.{cond-true, cond-false}
 use Rattle.clv_base.specs.declared.causes.Vote.{Vote}
@@ -21,7 +17,6 @@ use Rattle.clv_base.specs.Coordinator.{takes_vote, takes_done}
 use Rattle.clv_base.specs.Events.{on_vote, on_done}
 use Rattle.two_phase_commit.specs.Coordinated.{counts_by, done_by}
 use Rattle.shard_core.specs.Replying.{vote_taken, done_taken}
-use Rattle.due_step.specs.Sent.{first_of}
 use Rattle.shard_core.specs.Operating.{Ends}
 use Rattle.shard_machine.specs.declared.happening.Happened.TheVariants.{Quiet, Done}
 use Rattle.shard_machine.specs.Happening.{IsQuiet, Happens}
@@ -50,9 +45,6 @@ crowded reply s t count (is, same) = quiet_late (op_event s reply) s t (Crowded 
 
 -- ---- messages that come
 
-pub heard : (r : Reply) (s t : Shard) → r ≡ Does Taken t → Happens r s (Done Taken Taken) t
-heard r s t e = (e, refl)
-
 pub vote_counts : (s t : Shard) (tx : TxId) (from : ℕ) (vote : Vote) (q : Option Request) → counts_by s.shard from q ≡ true → t ≡ finish (vote_taken tx from vote q s) → Happens (on_vote s tx from vote q) s (Done Taken Taken) t
 vote_counts s t tx from vote None e ends = absurd cc
 vote_counts s t tx from vote (Some q) e ends = (cond-true (takes_vote s.shard from q) _ _ e ∙ ap (λ u. Does Taken u) (sym ends), refl)
@@ -68,7 +60,3 @@ done_counts s t tx from (Some q) e ends = (cond-true (takes_done from q) _ _ e �
 pub done_stale : (s t : Shard) (tx : TxId) (from : ℕ) (q : Option Request) → done_by from q ≡ false → t ≡ s → Happens (on_done s tx from q) s (Quiet Stale) t
 done_stale s t tx from None e same = (refl, same)
 done_stale s t tx from (Some q) e same = quiet (on_done s tx from (Some q)) s t Stale (cond-false (takes_done from q) _ _ e) same
-
--- a quiet answer that comes before a worn clock is one
-pub heard_nothing : (r : Reply) (s t : Shard) (o : Outcome) → (r ≡ QuietBeforeWorn o) × (t ≡ s) → Happens r s (Quiet o) t
-heard_nothing r s t o h = quiet r s t o h.0 h.1

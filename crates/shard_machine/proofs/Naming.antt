@@ -5,9 +5,6 @@ use Rattle.clv_base.specs.declared.events.Entry.{Entry}
 use Rattle.clv_base.specs.Events.{request_epoch}
 use Rattle.shard_machine.specs.Journaled.{named_by, first_or}
 
-first_nothing : (o : Option ℕ) → first_or None o ≡ o
-first_nothing o = refl
-
 one : (shard : ℕ) (tx : TxId) (e : Entry) → request_epoch shard tx (e ∷ []) ≡ named_by shard tx e
 one shard tx e = at (named_by shard tx e)
   where

@@ -19,15 +19,15 @@ use Rattle.clv_base.specs.declared.state.RequestState.TheVariants.{Undecided, Co
 use Rattle.clv_base.specs.declared.state.Taken.{Taken as DecisionTaken}
 use Rattle.clv_base.specs.declared.state.Taken.TheVariants.{Done as IsDone, Waiting as IsAwaited, Stale as IsStale}
 use Rattle.clv_base.specs.Orders.{tx_get}
-use Rattle.clv_base.specs.Logs.{committed_in, fitting}
+use Rattle.clv_base.specs.Logs.{committed_in}
 use Rattle.clv_base.specs.State.{Shard}
 use Rattle.clv_base.specs.Undo.{stage_of}
 use Rattle.clv_base.specs.Facts.{facts_of, has_durable_commit}
 use Rattle.clv_base.specs.Participant.{taken_by}
 use Rattle.clv_base.specs.Coordinator.{takes_vote, takes_done}
 use Rattle.clv_base.specs.OneShard.{OpReply, OpWaits, OpCrowded, OpDies, OpAnswers, seen_fits, op_reply}
-use Rattle.clv_base.specs.Events.{Reply, QuietBeforeWorn, QuietAfterWorn, Does, op_event, request_by_stage, request_event, epoch_in, request_epoch, look_lost, look_state, look_known, look_event, drop_event, on_prepare, on_vote, with_votes, on_decide, on_done, with_done, on_message, to_of, deliver_event, finish, owe_vote, remind_with, reminders, out_event, happen_up, happen, next_stamp, CallAnswer, Quiet, Worn, Enters, stamped, step}
-use Rattle.clv_base.specs.declared.events.Outcome.TheVariants.{NotYet, Taken, Acknowledged, Down}
+use Rattle.clv_base.specs.Events.{Reply, QuietBeforeWorn, QuietAfterWorn, Does, op_event, request_by_stage, request_event, epoch_in, request_epoch, look_lost, look_state, look_known, look_event, drop_event, on_prepare, on_vote, on_decide, on_done, on_message, to_of, finish, remind_with, reminders, out_event, happen_up, happen, next_stamp, CallAnswer, Quiet, Worn, Enters, stamped, step}
+use Rattle.clv_base.specs.declared.events.Outcome.TheVariants.{NotYet, Acknowledged, Down}
 use Rattle.machine_calls.specs.declared.machine.StepError.{StepError}
 use Rattle.machine_calls.specs.declared.machine.StepError.TheVariants.{Memory, Worn as WornError}
 use Rattle.due_step.specs.Sent.{first_of}

@@ -1,5 +1,5 @@
 -- Which events go on to a stamp and a place in the journal, and which are quiet before.
-use Rattle.std.proofs.Common.{◌≡◌, refl, sym, ap, ℕ, Bool, true, false, cond, ◌==◌, Option, Some, None, List}
+use Rattle.std.proofs.Common.{◌≡◌, refl, sym, ap, ℕ, Bool, true, false, cond, ◌==◌, Option, Some, None}
 use Rattle.clv_base.specs.declared.names.TxId.{TxId}
 use Rattle.clv_base.specs.declared.messages.Message.{Message}
 use Rattle.clv_base.specs.declared.messages.Message.TheVariants.{Prepare, Vote as VoteMessage, Decide, Done, Ask}
@@ -22,7 +22,7 @@ use Rattle.clv_base.specs.Facts.{facts_of, has_durable_commit}
 use Rattle.clv_base.specs.Participant.{taken_by}
 use Rattle.clv_base.specs.Coordinator.{takes_vote, takes_done}
 use Rattle.clv_base.specs.OneShard.{OpReply, OpWaits, OpCrowded, OpDies, OpAnswers}
-use Rattle.clv_base.specs.Events.{Reply, QuietBeforeWorn, Does, finish, op_event, request_by_stage, request_event, look_lost, look_state, on_prepare, owe_vote, on_vote, with_votes, on_decide, on_done, with_done, on_message, to_of, deliver_event}
+use Rattle.clv_base.specs.Events.{Reply, QuietBeforeWorn, Does, finish, op_event, look_lost, look_state, on_prepare, owe_vote, on_vote, with_votes, on_decide, on_done, with_done, on_message, to_of, deliver_event}
 use Rattle.machine_laws.specs.Frame.{look_unknown, look_by}
 use Rattle.shard_machine.specs.Happening.{IsQuiet, comes_early}
 use Rattle.shard_machine.specs.Answers.{goes_on}
@@ -34,17 +34,6 @@ ops_go_on s (OpWaits younger) = refl
 ops_go_on s (OpCrowded count) = refl
 ops_go_on s (OpDies cause l) = refl
 ops_go_on s (OpAnswers answer l) = refl
-
-pub requests_go_on : (s : Shard) (tx : TxId) (touched : List (ℕ × ℕ)) (b : Bool) → goes_on (request_event s tx touched b) ≡ true
-requests_go_on s tx touched false = refl
-requests_go_on s tx touched true = at (stage_of s.local tx)
-  where
-    at : (st : Option Stage) → goes_on (request_by_stage s tx touched st) ≡ true
-    at None = refl
-    at (Some Active) = refl
-    at (Some Closed) = refl
-    at (Some (Gone None)) = refl
-    at (Some (Gone (Some doom))) = refl
 
 -- ---- looks
 

@@ -1,5 +1,5 @@
 -- What the restart of a shard that is down tells.
-use Rattle.std.proofs.Common.{◌≡◌, refl, sym, ◌∙◌, ap, subst, ℕ, suc, Bool, true, List, ◌++◌, ◌∷◌, [], Option, Some, None, Ok, Err}
+use Rattle.std.proofs.Common.{◌≡◌, refl, sym, ◌∙◌, ap, subst, ℕ, suc, true, List, ◌++◌, ◌∷◌, [], Option, Some, Ok}
 use Rattle.clv_base.specs.declared.logs.LogRecord.{LogRecord}
 use Rattle.clv_base.specs.declared.events.Event.TheVariants.{Restart}
 use Rattle.clv_base.specs.declared.events.Entry.{Entry}
@@ -7,14 +7,11 @@ use Rattle.clv_base.specs.declared.events.Outcome.TheVariants.{Up}
 use Rattle.clv_base.specs.State.{Shard}
 use Rattle.clv_base.specs.Events.{Does, Enters, stamped, with_entry}
 use Rattle.clv_base.specs.Restarts.{state_after, revived}
-use Rattle.machine_calls.specs.declared.machine.StepError.{StepError}
-use Rattle.machine_calls.specs.declared.machine.StepError.TheVariants.{Memory, Worn}
 use Rattle.machine_calls.specs.Restored.{revives}
-use Rattle.machine_calls.specs.Steps.{entry, may_want_memory, Tells}
+use Rattle.machine_calls.specs.Steps.{entry, Tells}
 use Rattle.machine_laws.specs.Frame.{stamped_as}
 use Rattle.shard_machine.specs.Stamps.{newest, stamp_by}
-use Rattle.shard_machine.specs.Answers.{Refuses}
-use Rattle.shard_machine.proofs.Telling.{has_stamp, no_stamp}
+use Rattle.shard_machine.proofs.Telling.{has_stamp}
 
 -- where there is a stamp the entry may be made
 goes : (s : Shard) (clock w epoch n : ℕ) (log : List LogRecord) → stamp_by (newest s.last clock 0) ≡ Some n → revives s clock w epoch log ≡ Enters (Up epoch) (with_entry (suc (newest s.last clock 0)) w Restart (Up epoch) (revived s epoch log))
@@ -35,25 +32,11 @@ told_up s clock w epoch n log stamp =
       },
     )
 
--- no entry was made, since there was no stamp or no memory
-pub told_not_up : (s : Shard) (clock w epoch : ℕ) (log : List LogRecord) (err : StepError) (m : Option ℕ) → stamp_by (newest s.last clock 0) ≡ m → Refuses m err
-    → Tells (revives s clock w epoch log) s clock w Restart (Err err) s None
-told_not_up s clock w epoch log (Worn at) None stamp why = (
-  (ap (λ b. stamped (suc (newest s.last clock 0)) w Restart b (Does (Up epoch) (revived s epoch log))) (no_stamp (newest s.last clock 0) stamp), why),
-  refl,
-)
-told_not_up s clock w epoch log Memory None stamp why = absurd why
-told_not_up s clock w epoch log (Worn at) (Some n) stamp why = absurd why
-told_not_up s clock w epoch log Memory (Some n) stamp why = (ap (may_want_memory s Restart) (goes s clock w epoch n log stamp), refl)
-
 -- ---- by the parts of a machine
 
 -- what a restart tells of a shard that is down, with an outcome
 abbrev pub Revived : Shard → ℕ → ℕ → ℕ → List LogRecord → Shard → Type 0
 Revived s clock w epoch log t = (made : Option Entry) × Tells (revives s clock w epoch log) s clock w Restart (Ok (Up epoch)) t made
-
-abbrev pub Unrevived : Shard → ℕ → ℕ → ℕ → List LogRecord → StepError → Shard → Type 0
-Unrevived s clock w epoch log err t = (made : Option Entry) × Tells (revives s clock w epoch log) s clock w Restart (Err err) t made
 
 -- the new core is what the restart of the old shard's log leaves, and the journal has grown
 pub revived_by : (s d : Shard) (clock w epoch n shard run : ℕ) (log : List LogRecord) (k : List Entry) → d ≡ state_after shard run epoch log 0 [] → shard ≡ s.shard → run ≡ s.run
@@ -65,12 +48,3 @@ revived_by s d clock w epoch n shard run log k is number same stamp grown =
       Some (entry n w Restart (Up epoch)),
       subst (λ (x : Shard). Tells (revives s clock w epoch log) s clock w Restart (Ok (Up epoch)) x (Some (entry n w Restart (Up epoch)))) (sym t) (told_up s clock w epoch n log stamp),
     )
-
--- the core stays, and of the journal the entries do
-pub unrevived_by : (up : Bool) (l : ℕ) (j k : List Entry) (s : Shard) (clock w epoch : ℕ) (log : List LogRecord) (err : StepError) (m : Option ℕ) → stamp_by (newest l clock 0) ≡ m → Refuses m err → k ≡ j
-    → Unrevived (stamped_as up l j s) clock w epoch log err (stamped_as up l k s)
-unrevived_by up l j k s clock w epoch log err m stamp why kept = (
-  None,
-  subst (λ x. Tells (revives (stamped_as up l j s) clock w epoch log) (stamped_as up l j s) clock w Restart (Err err) (stamped_as up l x s) None) (sym kept)
-      (told_not_up (stamped_as up l j s) clock w epoch log err m stamp why),
-)

@@ -1,5 +1,5 @@
 -- What holds of the machine's parts holds after an event of the core that makes no part, with its entry.
-use Rattle.std.proofs.Common.{◌≡◌, refl, sym, ◌∙◌, ap, subst, ℕ, ◌+◌, ◌≤◌, Bool, true, [], drop, ◌∷◌, List, Some, None, is_none, arith}
+use Rattle.std.proofs.Common.{◌≡◌, refl, sym, ◌∙◌, ap, ℕ, ◌+◌, ◌≤◌, Bool, true, [], drop, ◌∷◌, List, Some, None, is_none, arith}
 use Rattle.clv_base.specs.declared.messages.Message.{Message}
 use Rattle.clv_base.specs.declared.events.Event.{Event}
 use Rattle.clv_base.specs.declared.events.Event.TheVariants.{Send}
@@ -70,17 +70,6 @@ nothing s none = at s.outbox none
     at (n ∷ ns) e = absurd cc
 
 -- ---- other events
-
--- the same core, with another journal
-pub kept_same : (c d : Core) (is_up : Bool) (j k : Journaled) (owed : ℕ) (has : Bool) → d.shard ≡ c.shard → IsAtRest d → k.shard ≡ j.shard → owed ≤ k.room → IsRunning c is_up j owed has → IsRunning d is_up k owed has
-kept_same c d is_up j k owed has same rest index room r = record {
-  rest = rest;
-  named = subst (λ (s : Shard). IsNamed s) (sym same) r.named;
-  index = index ∙ r.index ∙ ap (λ (s : Shard). s.shard) (sym same);
-  places = subst (λ (s : Shard). is_up ≡ true → undropped s + flights s.flight ≤ owed) (sym same) r.places;
-  room = room;
-  gate = subst (λ (s : Shard). is_up ≡ true → has ≡ is_none s.flight) (sym same) r.gate;
-}
 
 -- an event that may make parts
 pub kept_more : (c d : Core) (is_up : Bool) (j k : Journaled) (owed more : ℕ) (has : Bool) (e : Event) (o : Outcome) → is_plain e ≡ true → is_grounded e ≡ true → owed + new_parts c.shard.local e ≤ more

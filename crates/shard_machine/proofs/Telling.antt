@@ -67,10 +67,6 @@ told_memory s u clock w e o n does stamp other =
     wants : (a : CallAnswer) → a ≡ Enters o (with_entry (suc (newest s.last clock (message_stamp e))) w e o u) → may_want_memory s e a ≡ true
     wants a is = ap (may_want_memory s e) is ∙ ap not other
 
--- a shard that is down
-pub told_down : (s : Shard) (clock w : ℕ) (e : Event) → s.is_up ≡ false → Tells (step s clock w e) s clock w e (Ok Down) s None
-told_down s clock w e down = told_early s clock w e Down (ap (λ b. elim b [ true ↦ happen_up s e | false ↦ QuietBeforeWorn Down ]) down)
-
 -- what one comes to that is up
 pub goes_up : (s : Shard) (e : Event) → s.is_up ≡ true → happen s e ≡ happen_up s e
 goes_up s e up = ap (λ b. elim b [ true ↦ happen_up s e | false ↦ QuietBeforeWorn Down ]) up

@@ -1,5 +1,5 @@
 -- Touched shards that fit, as the core wants them.
-use Rattle.std.proofs.Common.{◌≡◌, refl, sym, ap, ℕ, ◌<◌, ⊎_elim, eqb-true, true, ◌&&◌, ◌||◌, false, cond, ◌==◌, List, [], ◌∷◌, map, nat_lt}
+use Rattle.std.proofs.Common.{◌≡◌, sym, ap, ℕ, ◌<◌, ⊎_elim, eqb-true, true, ◌&&◌, cond, ◌==◌, List, [], ◌∷◌, map, nat_lt}
 use Rattle.std.proofs.lemmas.Bool.{and_parts, or_cases, or_left, ltb-true, eq-eqb}
 use Rattle.std.specs.List.{AllByRecursion, list_all, list_any}
 use Rattle.std.specs.List.Sorted.{IsStrictlySortedBy}

@@ -117,15 +117,6 @@ fold_alike f g h (Abort tx ∷ xs) m = fold_alike f g h xs m
 fold_alike f g h (End tx ∷ xs) m = fold_alike f g h xs m
 fold_alike f g h (Restart run epoch ∷ xs) m = fold_alike f g h xs m
 
-pub ghosts_first : (txs : List TxId) (r : LogRecord) (xs : List LogRecord) (rs : Records) → with_ghosts txs (r ∷ xs) rs ≡ with_ghosts txs xs (with_ghosts txs (r ∷ []) rs)
-ghosts_first txs (Update tx key before after) xs rs = refl
-ghosts_first txs (Clr tx undo_next key after) xs rs = refl
-ghosts_first txs (Prepare tx home predecessors) xs rs = refl
-ghosts_first txs (Commit tx parts) xs rs = refl
-ghosts_first txs (Abort tx) xs rs = refl
-ghosts_first txs (End tx) xs rs = refl
-ghosts_first txs (Restart run epoch) xs rs = refl
-
 pub ghosts_alike : (ts us : List TxId) → ((t : TxId) → tx_in t ts ≡ tx_in t us) → (xs : List LogRecord) (rs : Records) → with_ghosts ts xs rs ≡ with_ghosts us xs rs
 ghosts_alike ts us h [] rs = refl
 ghosts_alike ts us h (Update tx key before after ∷ xs) rs =

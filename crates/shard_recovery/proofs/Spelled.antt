@@ -25,5 +25,3 @@ module _ (shard run epoch : ℕ) (log : List LogRecord) (h : list_all has_spelli
 
   pub restart_spelled : has_spelling (Restart run epoch) ≡ true → list_all has_spelling (log_after_restart shard log run epoch) ≡ true
   restart_spelled last = all_append log (restart_records shard log run epoch) h (all_append (undo_records shard log) (Restart run epoch ∷ []) undo_spelled (and_from _ _ last refl))
-
--- ---- the losers rise

@@ -25,8 +25,6 @@ use Rattle.law_base.proofs.Bools.{less_is}
 use Rattle.law_base.proofs.Logs.{of_listed, restored_have}
 use Rattle.law_base.proofs.Rising.{length-insert_key}
 
--- ---- whose they are
-
 -- ---- what a PREPARE lists rises, and is not too long
 
 IsListed : List TxId → Type 0

@@ -6,8 +6,6 @@ use Rattle.clv_base.specs.Orders.{tx_same, tx_in, tx_get}
 use Rattle.clv_base.specs.Restarts.{restored_parts, restored_part}
 use Rattle.clv_base.proofs.SameNames.{or_left, tx_flip}
 
--- ---- the UPDATEs of a log, by transaction and key
-
 -- ---- parts
 
 pub restored_away : (txs : List TxId) (t : TxId) → tx_in t txs ≡ false → tx_get t (restored_parts txs) ≡ None
@@ -21,7 +19,3 @@ restored_away (x ∷ xs) t i = at (tx_same t x) refl (restored_away xs t)
     at : (b : Bool) → tx_same t x ≡ b → (tx_in t xs ≡ false → tx_get t (restored_parts xs) ≡ None) → cond b (Some (restored_part x)) (tx_get t (restored_parts xs)) ≡ None
     at true e k = absurd (both_ways _ i (or_left _ _ (tx_flip t x e)))
     at false e k = k (rest (tx_same x t) (tx_in t xs) i)
-
--- ---- locks
-
--- ---- records

@@ -1,5 +1,5 @@
 -- For callers: what a turn may leave behind.
-use Rattle.std.proofs.Common.{◌≡◌, ℕ, List, [], ◌∷◌, ◌++◌, sym, ap, ◌∙◌, append-nil, Option, Some, None, Result, Ok, Err, IfOk, OnErr, MatchOption}
+use Rattle.std.proofs.Common.{◌≡◌, ℕ, List, [], ◌∷◌, ◌++◌, sym, ap, ◌∙◌, append-nil, Option, Some, None, MatchOption}
 use Rattle.std.proofs.lemmas.List.Elements.{All-cons, All-nil}
 use Rattle.turn_lock.specs.Journals.{GrownBy}
 
@@ -9,10 +9,6 @@ module _ {E : Type 0} (maker : E → ℕ) (w : ℕ) (seen before after : List E)
 
   pub grown_one : seen ≡ before → after ≡ before ++ e ∷ [] → maker e ≡ w → GrownBy maker w seen after
   grown_one is more made = (e ∷ [], more ∙ ap (λ l. l ++ e ∷ []) (sym is), All-cons (λ x. maker x ≡ w) e [] made (All-nil (λ x. maker x ≡ w)))
-
-  pub grown_ok : {A B : Type 0} (r : Result A B) → seen ≡ before → IfOk r (λ _. after ≡ before ++ e ∷ []) → OnErr r (after ≡ before) → maker e ≡ w → GrownBy maker w seen after
-  grown_ok (Ok a) is more same made = grown_one is more made
-  grown_ok (Err b) is more same made = grown_same is same
 
   pub grown_option : {A : Type 0} (r : Option A) → seen ≡ before → MatchOption r (after ≡ before) (λ _. after ≡ before ++ e ∷ []) → maker e ≡ w → GrownBy maker w seen after
   grown_option (Some a) is more made = grown_one is more made

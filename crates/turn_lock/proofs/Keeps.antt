@@ -97,9 +97,6 @@ module _ {E O : Type 0} (log : List E) (place : ℕ → ℕ) (seat : ℕ) (rs : 
   line_one served drawn (Turn k) s = let l = s.3 in omega arith
 
 module _ {E O : Type 0} (n : ℕ) (maker : E → ℕ) (o : O) where
-  abbrev D : Type 0
-  D = View E O
-
   fresh_fits : (k m : ℕ) → k + m ≤ n → All (Fits n maker o []) (new_records o k m)
   fresh_fits k zero l = All-nil (Fits n maker o [])
   fresh_fits k (suc m) l = All-cons (Fits n maker o []) (record { number = k; origin = o; seen = []; own = [] }) (new_records o (suc k) m) record { origin = refl; small = omega arith; seen = ([], refl); own = refl; known = refl } (fresh_fits (suc k) m (omega arith))
@@ -153,10 +150,6 @@ module _ {T E O : Type 0} (journal : T → List E) (origin : T → O) (maker dur
   }
   slot_stays log homes vs id v w at was now (inr h) = let apart : h.holder ≢ id = λ e. let same : h.view ≡ v = some-injective h.view v (sym h.there ∙ (ap (get_elem? vs) e ∙ at)) in
       let t : true ≡ false = sym h.turn ∙ (ap (λ (u : V). is_turn u.stage) same ∙ was) in absurd cc in inr record { slot = h.slot; holder = h.holder; view = h.view; there = set_else vs id h.holder w apart ∙ h.there; turn = h.turn }
-
-  some_there : (rs : List (Record E O)) → 0 < length (take 1 rs) → 0 < length rs
-  some_there [] l = l
-  some_there (x ∷ xs) l = omega arith
 
   -- one more view, of a seat that is not at the value
   slot_longer : (log : List E) (homes : Homes) (vs : List V) (w : V) → is_turn w.stage ≡ false → Slot log homes vs → Slot log homes (vs ++ w ∷ [])

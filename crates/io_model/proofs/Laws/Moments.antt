@@ -1,5 +1,5 @@
 -- How a run of calls goes on, moment by moment.
-use Rattle.std.proofs.Common.{ℕ, List, [], ◌∷◌, ◌++◌, refl, sym, ◌∙◌, ap, subst, append_assoc}
+use Rattle.std.proofs.Common.{ℕ, List, [], ◌∷◌, ◌++◌, refl, sym, ap, subst}
 use Rattle.io_model.specs.Story.{Call, Story, after, IsImage, IsImageAfter}
 use Rattle.io_model.specs.Crash.{AllImages, AtEachMoment}
 
@@ -23,20 +23,6 @@ all_weaker start (call ∷ newer) calls P Q f all = (all_weaker start newer call
 
 pub moments_weaker : (old new : Story) (P Q : List ℕ → Type 0) → ((image : List ℕ) → P image → Q image) → AtEachMoment old new P → AtEachMoment old new Q
 moments_weaker old new P Q f all = record { start = all.start; newer = all.newer; calls = all.calls; images = all_weaker old.start all.newer old.calls P Q f all.images }
-
-join : (start : List ℕ) (late early calls : List Call) (P : List ℕ → Type 0) → AllImages start early calls P → AllImages start late (early ++ calls) P → AllImages start (late ++ early) calls P
-join start [] early calls P first next = first
-join start (call ∷ late) early calls P first next =
-    (join start late early calls P first next.0, λ image is. next.1 image (subst (λ (l : List Call). IsImageAfter start (call ∷ l) image) (append_assoc late early calls) is))
-
--- two runs, one after the other
-pub moments_then : (old mid new : Story) (P : List ℕ → Type 0) → AtEachMoment old mid P → AtEachMoment mid new P → AtEachMoment old new P
-moments_then old mid new P first next = record {
-  start = next.start ∙ first.start;
-  newer = next.newer ++ first.newer;
-  calls = next.calls ∙ ap (λ (l : List Call). next.newer ++ l) first.calls ∙ sym (append_assoc next.newer first.newer old.calls);
-  images = join old.start next.newer first.newer old.calls P first.images (subst (λ (l : List Call). AllImages old.start next.newer l P) first.calls (subst (λ (b : List ℕ). AllImages b next.newer mid.calls P) first.start next.images));
-}
 
 -- what held at each moment holds at the last
 pub moments_now : (old new : Story) (P : List ℕ → Type 0) → AtEachMoment old new P → (image : List ℕ) → IsImage new image → P image

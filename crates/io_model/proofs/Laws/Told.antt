@@ -7,10 +7,6 @@ use Rattle.io_model.specs.Disk.{Tells}
 abbrev pub Then : (Story → Story → Type 0) → (Story → Story → Type 0) → Story → Story → Type 0
 Then R Q old new = (mid : Story) × R old mid × Q mid new
 
-pub tells_same : (old new : Option Story) → new ≡ old → Tells old new (λ s t. t ≡ s)
-tells_same None new is = is
-tells_same (Some s) new is = (s, is, refl)
-
 pub tells_then : (old mid new : Option Story) (R Q : Story → Story → Type 0) → Tells old mid R → Tells mid new Q → Tells old new (Then R Q)
 tells_then None None new R Q first next = next
 tells_then None (Some s) new R Q first next = absurd (cc)

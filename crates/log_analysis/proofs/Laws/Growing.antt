@@ -10,10 +10,6 @@ use Rattle.log_analysis.specs.Facts.{TxFacts, first_place, last_place_from, fact
 
 -- ---- of a list with one more at its end
 
-cond_true : (b : Bool) → cond b true false ≡ b
-cond_true true = refl
-cond_true false = refl
-
 pub any_push : (test : LogRecord → Bool) (log : List LogRecord) (r : LogRecord) → list_any test (log ++ r ∷ []) ≡ cond (test r) true (list_any test log)
 any_push test [] r = any_one (test r)
   where

@@ -12,9 +12,6 @@ use Rattle.law_base.proofs.Sets.{same_flip as tx_symmetric}
 pub record_of_owner : (r : LogRecord) (t tx : TxId) → own_tx r ≡ Some tx → is_record_of t r ≡ tx_same t tx
 record_of_owner r t tx e = ap (λ o. elim o [ Some u ↦ tx_same t u | None ↦ false ]) e
 
-pub record_of_none : (r : LogRecord) (t : TxId) → own_tx r ≡ None → is_record_of t r ≡ false
-record_of_none r t e = ap (λ o. elim o [ Some u ↦ tx_same t u | None ↦ false ]) e
-
 -- what is written at the owner's name, read at any name
 pub at_owner : {X : Type 0} (f z : TxId → X) (r : LogRecord) (t tx : TxId) (y : X) → own_tx r ≡ Some tx → y ≡ z tx → cond (tx_same tx t) y (f t) ≡ cond (is_record_of t r) (z t) (f t)
 at_owner f z r t tx y e same =

@@ -1,9 +1,8 @@
 -- What one more record at the end of a log changes.
-use Rattle.std.proofs.Common.{◌≡◌, ℕ, suc, ◌+◌, Bool, true, false, ◌&&◌, ◌||◌, List, [], ◌∷◌, ◌++◌, length, None, refl, sym, ap, ◌∙◌, append_assoc, add-zero, nat_lt, ◌==◌, arith}
-use Rattle.std.specs.List.{list_any, list_all}
+use Rattle.std.proofs.Common.{◌≡◌, ℕ, ◌+◌, Bool, true, false, ◌&&◌, ◌||◌, List, [], ◌∷◌, ◌++◌, None, refl, sym, ap, ◌∙◌, append_assoc, nat_lt, ◌==◌}
+use Rattle.std.specs.List.{list_any}
 use Rattle.clv_base.specs.declared.logs.LogRecord.{LogRecord}
 use Rattle.clv_base.specs.declared.logs.LogRecord.TheVariants.{Restart}
-use Rattle.clv_base.specs.Logs.{StandingUpdate, standing_from, standing_after}
 use Rattle.clv_base.specs.LogRules.{last_restart, above_restarts, before_restart}
 use Rattle.law_base.proofs.Bools.{or_assoc, or_false}
 
@@ -18,10 +17,6 @@ and_assoc false b c = refl
 pub any_push : {X : Type 0} (test : X → Bool) (xs : List X) (y : X) → list_any test (xs ++ y ∷ []) ≡ list_any test xs || test y
 any_push test [] y = or_false (test y)
 any_push test (x ∷ xs) y = ap (λ (b : Bool). test x || b) (any_push test xs y) ∙ sym (or_assoc (test x) (list_any test xs) (test y))
-
-pub all_push : {X : Type 0} (test : X → Bool) (xs : List X) (y : X) → list_all test (xs ++ y ∷ []) ≡ list_all test xs && test y
-all_push test [] y = and_true (test y)
-all_push test (x ∷ xs) y = ap (λ (b : Bool). test x && b) (all_push test xs y) ∙ sym (and_assoc (test x) (list_all test xs) (test y))
 
 -- ---- RESTARTs
 
@@ -46,13 +41,3 @@ pub before_restart_other : (so_far log : List LogRecord) (r : LogRecord) → ((s
 before_restart_other so_far [] r other = other so_far
 before_restart_other so_far (Restart run epoch ∷ rs) r other = ap (λ (l : List LogRecord). so_far ++ l) (before_restart_other (Restart run epoch ∷ []) rs r other)
 before_restart_other so_far (h ∷ rs) r other = before_restart_other (so_far ++ h ∷ []) rs r other
-
--- ---- UPDATEs that stand
-
-standing_from_push : (n : ℕ) (log : List LogRecord) (r : LogRecord) (ws : List StandingUpdate) → standing_from n (log ++ r ∷ []) ws ≡ standing_after (n + length log) r (standing_from n log ws)
-standing_from_push n [] r ws = ap (λ (k : ℕ). standing_after k r ws) (sym (add-zero n))
-standing_from_push n (h ∷ rs) r ws =
-    let place : suc n + length rs ≡ n + suc (length rs) = omega arith in
-    standing_from_push (suc n) rs r (standing_after n h ws) ∙ ap (λ (k : ℕ). standing_after k r (standing_from (suc n) rs (standing_after n h ws))) place
-
--- ---- falling LSNs

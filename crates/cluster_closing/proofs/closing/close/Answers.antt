@@ -1,16 +1,16 @@
-use Rattle.std.proofs.Common.{◌≡◌, ◌∙◌, refl, true, ℕ, ap, sym, subst, arith, get_or, length, map, vec_len, ◌<◌}
+use Rattle.std.proofs.Common.{◌≡◌, ◌∙◌, refl, true, ℕ, sym, subst, arith, get_or, length, map, ◌<◌}
 use Rattle.clv_base.specs.LogRules.{log_of}
 use Rattle.clv_base.specs.Shards.{shard_count}
 use Rattle.clv_base.specs.Journals.{MayLeave}
 use Rattle.history_replay.specs.Entries.{entries_of}
 use Rattle.journal_laws.specs.Gathered.{MakesHistory}
 use Rattle.machine_laws.specs.Notes.{notes_of}
-use Rattle.machine_laws.specs.Homes.{never_stops, holder_of, IsLegal}
+use Rattle.machine_laws.specs.Homes.{never_stops, IsLegal}
 use Rattle.cluster_turns.specs.Walkers.{founds_of}
 use Rattle.cluster_closing.specs.Ending.{ClosedAt}
 use Rattle.cluster_closing.specs.Legal.{state_at, views_of}
 use Rattle.cluster_closing.specs.Held.{never_restarts}
-use Rattle.cluster_closing.specs.Ends.{shard_at, IsNotAmong}
+use Rattle.cluster_closing.specs.Ends.{shard_at}
 use Rattle.cluster_closing.proofs.Homing.{disks_are_found}
 use Rattle.cluster_closing.proofs.Restarting.{unfetched_never_restart}
 use Rattle.cluster_closing.specs.Closing.{IsBack, IsLowestDown, lists, Returned}

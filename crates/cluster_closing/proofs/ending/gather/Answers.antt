@@ -1,8 +1,9 @@
 use Rattle.std.proofs.Common.{arith, ◌≡◌, ◌∙◌, ◌<◌, length, get_or, set, vec_len, None, Some, sym, ap}
 use Rattle.std.proofs.lemmas.List.{get_or_default}
 use Rattle.std.proofs.Common.{get_or-set_other}
-use Rattle.cluster_closing.proofs.Gathering.{pushed_each, set_each}
+use Rattle.cluster_closing.proofs.Gathering.{set_each}
 use Rattle.cluster_closing.proofs.ending.gather.Goals as goal
+use Rattle.law_base.proofs.Lists.{pushed_each}
 
 pub take_pass-requires : goal.take_pass-requires
 take_pass-requires g c = let W = c.args.walkers.now in let k = c.loop-k.k in let v = c.index_mut.result.now in let inv = c.loop-k.invariant in

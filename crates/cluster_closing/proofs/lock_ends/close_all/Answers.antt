@@ -4,9 +4,10 @@ use Rattle.turn_lock.specs.Passes.{IsPassOf, passes_of}
 use Rattle.machine_laws.specs.Notes.{notes_of}
 use Rattle.machine_laws.specs.Sound.{IsSound}
 use Rattle.cluster_closing.specs.Ending.{ClosedAt}
-use Rattle.cluster_closing.proofs.Gathering.{closed_same, pushed_each}
+use Rattle.cluster_closing.proofs.Gathering.{closed_same}
 use Rattle.cluster_closing.proofs.lock_ends.close_all.Goals as goal
 use Rattle.law_base.proofs.Options.{value_or as the}
+use Rattle.law_base.proofs.Lists.{pushed_each}
 
 pub unwrap-room-requires : goal.unwrap-room-requires
 unwrap-room-requires g c = let inv = c.loop-i.invariant in let low = c.loop-i-test.true in let h = inv.rooms in let is = c.pop.ensures.variant in search rules

@@ -1,11 +1,12 @@
-use Rattle.std.proofs.Common.{◌≡◌, ◌∙◌, ℕ, ◌<◌, ◌≤◌, ◌+◌, ◌-◌, true, ap, sym, subst, arith, get_or, vec_len, vec_capacity, length, take, length-take}
+use Rattle.std.proofs.Common.{◌≡◌, ◌∙◌, ℕ, ◌+◌, ◌-◌, true, ap, sym, subst, arith, get_or, vec_len, length, length-take}
 use Rattle.std.proofs.lemmas.List.{get_or-take, get_or_default}
 use mathlib.Core.Logic.{dite}
 use native.Mathlib.Decide.{ℕ_discrete}
 use Rattle.cluster_closing.specs.Closing.{CameFrom}
-use Rattle.cluster_closing.proofs.ComingBack.{from_before, still_from, pushed_each}
+use Rattle.cluster_closing.proofs.ComingBack.{from_before, still_from}
 use Rattle.cluster_closing.proofs.parting.part_all.Goals as goal
 use Rattle.law_base.proofs.Options.{value_or as the}
+use Rattle.law_base.proofs.Lists.{pushed_each}
 
 pub part_home-journal-requires : goal.part_home-journal-requires
 part_home-journal-requires g c =

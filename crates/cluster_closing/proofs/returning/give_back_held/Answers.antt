@@ -1,8 +1,8 @@
 use Rattle.std.proofs.Common.{◌≡◌, ◌∙◌, ◌<◌, ◌-◌, ap, sym, subst, arith, take, get_or, vec_len, get_or-take}
-use Rattle.std.proofs.lemmas.List.{take-take, get_or_default}
+use Rattle.std.proofs.lemmas.List.{take-take}
 use mathlib.Core.Logic.{dite}
 use native.Mathlib.Decide.{ℕ_discrete}
-use Rattle.cluster_closing.specs.Ends.{shard_at, IsNotAmong}
+use Rattle.cluster_closing.specs.Ends.{shard_at}
 use Rattle.cluster_closing.specs.Closing.{Returned}
 use Rattle.cluster_closing.proofs.ComingBack.{still_returned}
 use Rattle.cluster_closing.proofs.returning.give_back_held.Goals as goal

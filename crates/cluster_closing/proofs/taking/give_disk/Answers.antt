@@ -1,4 +1,4 @@
-use Rattle.std.proofs.Common.{◌≡◌, ◌∙◌, ◌++◌, false, Some, None, length, sym, ap, subst, refl, vec_capacity}
+use Rattle.std.proofs.Common.{◌≡◌, ◌∙◌, false, Some, sym, subst, vec_capacity}
 use Rattle.machine_laws.specs.Notes.{notes_of}
 use Rattle.machine_laws.specs.Homes.{holder_of}
 use Rattle.machine_laws.specs.Gates.{GateStands}

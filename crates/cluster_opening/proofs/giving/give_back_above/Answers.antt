@@ -1,4 +1,4 @@
-use Rattle.std.proofs.Common.{◌≡◌, ◌∙◌, ◌<◌, ◌-◌, ◌+◌, suc, ap, sym, subst, arith, take, get_or, vec_len, get_or-take}
+use Rattle.std.proofs.Common.{◌≡◌, ◌∙◌, ◌<◌, ◌-◌, ◌+◌, ap, sym, subst, arith, take, get_or, vec_len, get_or-take}
 use Rattle.std.proofs.lemmas.List.{take-take}
 use mathlib.Core.Logic.{dite}
 use native.Mathlib.Decide.{ℕ_discrete}

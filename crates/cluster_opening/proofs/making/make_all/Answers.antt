@@ -2,10 +2,10 @@ use Rattle.std.proofs.Common.{rules, arith, ◌≡◌, ◌∙◌, ◌≤◌, ◌
 use Rattle.std.proofs.lemmas.List.{get_or-take}
 use Rattle.cluster_turns.specs.Walkers.{AreNewPasses, founds_of}
 use Rattle.cluster_opening.specs.Made.{IsNewWalker}
-use Rattle.cluster_opening.proofs.Columns.{pushed_each, column_is_new}
+use Rattle.cluster_opening.proofs.Columns.{column_is_new}
 use Rattle.cluster_opening.proofs.making.make_all.Goals as goal
 use Rattle.law_base.proofs.Options.{value_or as the}
-use Rattle.law_base.proofs.Lists.{elem_at as some_elem}
+use Rattle.law_base.proofs.Lists.{elem_at as some_elem, pushed_each}
 
 pub unwrap-room-requires : goal.unwrap-room-requires
 unwrap-room-requires g c = let inv = c.loop-i.invariant in let low = c.loop-i-test.true in let h = inv.rooms in let is = c.pop.ensures.variant in search rules

@@ -1,4 +1,4 @@
-use Rattle.std.proofs.Common.{◌≡◌, ◌∙◌, ◌<◌, ◌+◌, ℕ, suc, arith, vec_len, length, inl, inr}
+use Rattle.std.proofs.Common.{◌∙◌, arith, inl, inr}
 use Rattle.std.proofs.lemmas.Bool.{cases_lt}
 use Rattle.cluster_opening.proofs.Stopping.{all_back, counts_back}
 use Rattle.cluster_opening.proofs.undoing.undo.Goals as goal

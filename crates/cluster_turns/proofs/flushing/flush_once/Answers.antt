@@ -1,4 +1,4 @@
-use Rattle.std.proofs.Common.{rules, arith, ◌≡◌, ◌∙◌, ◌<◌, ◌^◌, true, false, Ok, Err, Some, None, sym, ap, subst}
+use Rattle.std.proofs.Common.{true, false, Ok, Err, sym, ap, subst}
 use Rattle.clv_base.specs.declared.events.Event.TheVariants.{FlushOut}
 use Rattle.cluster_turns.specs.Turns.{EventTold}
 use Rattle.cluster_turns.specs.Walkers.{Walked}

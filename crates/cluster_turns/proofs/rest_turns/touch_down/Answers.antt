@@ -1,4 +1,4 @@
-use Rattle.std.proofs.Common.{arith, ◌≡◌, ◌∙◌, ◌++◌, ◌∷◌, [], List, sym, ap, subst, length, drop, map, refl, vec_capacity, Some, Ok}
+use Rattle.std.proofs.Common.{arith, ◌∙◌, ◌++◌, ◌∷◌, [], sym, ap, subst, length, drop, refl, vec_capacity, Some, Ok}
 use Rattle.clv_base.specs.declared.events.Event.TheVariants.{FlushIn}
 use Rattle.clv_base.specs.Events.{land}
 use Rattle.turn_lock.specs.Passes.{seen, own, turn_seen}

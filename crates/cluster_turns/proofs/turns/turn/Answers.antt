@@ -1,4 +1,4 @@
-use Rattle.std.proofs.Common.{arith, ◌≡◌, ◌∙◌, ◌++◌, List, sym, ap, subst, length, drop, true, map}
+use Rattle.std.proofs.Common.{arith, ◌≡◌, ◌∙◌, ◌++◌, ap, subst, length, drop, map}
 use Rattle.clv_base.specs.Events.{step}
 use Rattle.machine_calls.specs.Steps.{listed}
 use Rattle.turn_lock.specs.Passes.{seen, own, turn_seen}

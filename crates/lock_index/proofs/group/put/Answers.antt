@@ -1,6 +1,7 @@
 use Rattle.std.proofs.Common.{sym, ◌∙◌, ap, ◌≡◌, None, Some, position, is_eq, if◌then◌else◌, is_ok, set}
 use Rattle.std.specs.List.{insert}
-use Rattle.lock_index.proofs.Places.{reached, put_last, put_merged, put_before, side_of, merged, take_here-put}
+use Rattle.lock_table.proofs.Laws.{reached, put_last, put_merged, put_before}
+use Rattle.lock_index.proofs.Places.{side_of, merged, take_here-put}
 use Rattle.lock_index.proofs.group.put.Goals as goal
 
 pub returns-in_default-clause-holders : goal.returns-in_default-clause-holders

@@ -1,6 +1,6 @@
 use Rattle.std.proofs.Common.{sym, ◌∙◌, ap, ◌≡◌, None, Some, position, is_eq, if◌then◌else◌, is_ok, ◌++◌, ◌∷◌, []}
 use Rattle.std.specs.List.{insert}
-use Rattle.lock_index.proofs.Places.{reached, put_last, put_merged, put_before, tx_side, tx_insert-put}
+use Rattle.lock_table.proofs.Laws.{reached, put_last, put_merged, put_before, tx_side, tx_insert-put}
 use Rattle.lock_index.proofs.meeting.insert.Goals as goal
 use Rattle.law_base.proofs.Lists.{set_same}
 

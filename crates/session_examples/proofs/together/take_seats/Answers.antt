@@ -4,7 +4,7 @@ use Rattle.session_api.specs.Standing.{Holds}
 use Rattle.session_api.specs.declared.progress.Progress.TheVariants.{Idle}
 use Rattle.session_api.specs.Progresses.{active_tx}
 use Rattle.session_examples.specs.Walkers.{IsSeated}
-use Rattle.session_examples.proofs.Lists.{pushed_each}
+use Rattle.law_base.proofs.Lists.{pushed_each}
 use Rattle.session_examples.proofs.Walking.{holds_new}
 use Rattle.session_examples.proofs.together.take_seats.Goals as goal
 

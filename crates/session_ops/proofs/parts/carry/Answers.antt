@@ -1,4 +1,4 @@
-use Rattle.std.proofs.Common.{Bool, length, Ok, Err, sym, ap, subst}
+use Rattle.std.proofs.Common.{Bool, length, Ok, Err, sym, subst}
 use Rattle.session_ops.specs.Rounds.{Rounded}
 use Rattle.session_ops.proofs.Rounding.{carry_rounds}
 use Rattle.session_ops.proofs.parts.carry.Goals as goal

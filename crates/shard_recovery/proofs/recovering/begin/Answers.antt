@@ -1,7 +1,7 @@
 use Rattle.std.proofs.Common.{◌≡◌, ap, sym, ◌∙◌, subst, map}
 use Rattle.clv_base.specs.Logs.{in_doubt}
 use Rattle.clv_base.specs.Restarts.{losers, homes_of}
-use Rattle.shard_recovery.proofs.Spelled.{losers_rise}
+use Rattle.law_base.proofs.Sets.{losers_rise}
 use Rattle.shard_recovery.proofs.recovering.begin.Goals as goal
 use Rattle.law_base.proofs.Names.{Rise as Rises}
 use Rattle.law_base.proofs.Logs.{firsts_are}

@@ -1,4 +1,4 @@
-use Rattle.std.proofs.Common.{◌≡◌, Some, ap, ◌∙◌}
+use Rattle.std.proofs.Common.{ap, ◌∙◌}
 use Rattle.clv_base.specs.Sessions.{op_answered, session_for}
 use Rattle.interleaving_core.proofs.Entries.{op_goes_on}
 use Rattle.interleaving_core.proofs.sessions.Session.follow_op.Goals as goal

@@ -1,11 +1,9 @@
 -- A first drop, and its entry in the place that was kept for it.
-use Rattle.std.proofs.Common.{◌≡◌, refl, sym, ◌∙◌, ap, subst, ◌++◌, ◌∷◌, [], ◌+◌, ◌-◌, ◌≤◌, ◌<◌, true, false, Some, is_some, arith}
+use Rattle.std.proofs.Common.{◌≡◌, refl, sym, ◌∙◌, subst, [], ◌-◌, true, false, Some, is_some, arith}
 use Rattle.clv_base.specs.declared.events.Event.TheVariants.{Drop}
 use Rattle.clv_base.specs.declared.events.Outcome.TheVariants.{Dropped}
 use Rattle.clv_base.specs.State.{Shard}
 use Rattle.clv_base.specs.Events.{happen_up, Does}
-use Rattle.shard_machine.specs.Journaled.{Journaled}
-use Rattle.machine_calls.specs.Steps.{entry}
 use Rattle.machine_laws.specs.Frame.{stamped_as}
 use Rattle.machine_laws.proofs.Laws.{events_alike}
 use Rattle.shard_machine.specs.Machined.{Machined}

@@ -1,5 +1,5 @@
 -- Each event by its own call.
-use Rattle.std.proofs.Common.{◌≡◌, refl, sym, subst, Option}
+use Rattle.std.proofs.Common.{refl, sym, subst, Option}
 use Rattle.clv_base.specs.declared.events.Event.{Event}
 use Rattle.clv_base.specs.declared.events.Event.TheVariants.{Deliver}
 use Rattle.clv_base.specs.declared.events.Entry.{Entry}

@@ -1,4 +1,4 @@
-use Rattle.std.proofs.Common.{rules, arith, ◌≡◌, ◌++◌, ◌<◌, [], ◌∷◌, length, sym, ap, subst, ◌∙◌, append-nil, append_assoc, Some}
+use Rattle.std.proofs.Common.{arith, ◌≡◌, ◌++◌, [], ◌∷◌, length, sym, ap, subst, ◌∙◌, append-nil, append_assoc, Some}
 use mathlib.Core.Option.{some-injective}
 use Rattle.turn_lock.specs.Passes.{IsPassOf}
 use Rattle.turn_lock.proofs.Sums.{no_one}
