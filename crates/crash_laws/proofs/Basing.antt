@@ -1,5 +1,5 @@
 -- Each answer of a member is that of the map with the members' earlier writes.
-use Rattle.std.proofs.Common.{◌≡◌, refl, sym, ap, subst, ◌∙◌, ℕ, suc, ◌<◌, true, false, ◌&&◌, List, [], ◌∷◌, map, ◌==◌}
+use Rattle.std.proofs.Common.{◌≡◌, refl, sym, ap, subst, ◌∙◌, ℕ, ◌<◌, List, [], ◌∷◌, map, ◌==◌}
 use Rattle.std.specs.Prelude.{is_none}
 use Rattle.std.specs.List.{AllByRecursion, filter}
 use Rattle.std.proofs.lemmas.Bool.{and_parts}
@@ -67,9 +67,9 @@ answers_are_of_earlier splits before h after_ choice l =
   where
     here : (n : ℕ) → n < shard_count splits → AnswersFrom (share_of before n) (filter (λ a. (a.done).shard == n) (member_acts splits before h after_ choice)) (share_of (logs_left splits before h after_ choice) n)
     here n i =
-        let r = acted splits before h after_ choice l n i in
-        subst (λ m. AnswersFrom m (filter (λ a. (a.done).shard == n) (member_acts splits before h after_ choice)) (share_of (logs_left splits before h after_ choice) n)) (sym (starts splits before h after_ choice l n i))
-        (subst (λ as_. AnswersFrom (map_found n (log_of before n) (chosen splits before h after_ choice n)) as_ (share_of (logs_left splits before h after_ choice) n)) (chosen_acts splits before h after_ choice l n i)
+        let r = acted l choice n i in
+        subst (λ m. AnswersFrom m (filter (λ a. (a.done).shard == n) (member_acts splits before h after_ choice)) (share_of (logs_left splits before h after_ choice) n)) (sym (starts l choice n i))
+        (subst (λ as_. AnswersFrom (map_found n (log_of before n) (chosen splits before h after_ choice n)) as_ (share_of (logs_left splits before h after_ choice) n)) (chosen_acts l choice n i)
         (of_runs n (map_found n (log_of before n) (chosen splits before h after_ choice n)) (filter (λ x. chosen splits before h after_ choice n x.tx) (deeds_before before h after_ n).items) (share_of (logs_left splits before h after_ choice) n) r.0 r.1))
 
     on_each : (n : ℕ) → n < shard_count splits → ReplaysTo (share_of before n) (on_shard n (ops_done (member_acts splits before h after_ choice)) ∷ []) (share_of (logs_left splits before h after_ choice) n)

@@ -1,5 +1,5 @@
 -- Operations that keep both rules are a serial run; so the members replay.
-use Rattle.std.proofs.Common.{◌≡◌, ◌⊎◌, inl, inr, ⊎_elim, refl, sym, ap, subst, ◌∙◌, ℕ, zero, suc, ◌<◌, true, false, cond, Bool, ◌||◌, List, [], ◌∷◌, ◌++◌, map, Option, Some, None, arith, eqb-true}
+use Rattle.std.proofs.Common.{◌≡◌, ◌⊎◌, inl, inr, ⊎_elim, refl, sym, ap, subst, ◌∙◌, ℕ, zero, suc, ◌<◌, true, false, cond, Bool, List, [], ◌∷◌, ◌++◌, map, Option, Some, None, arith, eqb-true}
 use Rattle.std.specs.List.{AllByRecursion, filter}
 use Rattle.std.specs.Prelude.{is_none}
 use Rattle.std.proofs.lemmas.Bool.{cases_Bool, both_ways, and_parts, or_left, or_right}
@@ -20,7 +20,7 @@ use Rattle.clv_base.specs.declared.ops.Op.TheVariants.{Get, Put, Del, Scan}
 use Rattle.clv_base.specs.declared.ops.Answer.TheVariants.{Value, Pairs}
 use Rattle.clv_base.specs.Logs.{stands}
 use Rattle.clv_base.specs.Journals.{History}
-use Rattle.clv_base.specs.History.{Member, members, answered_op, ops_in, logs_left, serial_ops, serial_answers}
+use Rattle.clv_base.specs.History.{Member, answered_op, ops_in, logs_left, serial_ops, serial_answers}
 use Rattle.clv_base.specs.LogRules.{log_of, all_logs_from, apart}
 use Rattle.clv_base.specs.Restarts.{run_after}
 use Rattle.clv_base.proofs.SameNames.{tx_true, tx_self}
@@ -222,10 +222,10 @@ members_have_their_acts splits before h after_ choice l =
     let left = logs_left splits before h after_ choice in
     let ms = serial_left splits before h after_ choice in
     let first : 0 < shard_count splits = omega arith in
-    let b = held 0 (run_after before) (log_of before 0) _ _ (leads splits before h after_ choice l 0 first) in
+    let b = held 0 (run_after before) (log_of before 0) _ _ (leads l choice 0 first) in
     let once = once_filter (chosen splits before h after_ choice 0) (requests_of h) (once_second (found_asked 0 (log_of before 0)) (requests_of h) b.5) in
     let own = members_ops h (is_member splits before h after_ choice) ms (from_history left h h) (λ t i. i) in
-    (of_once _ (subst Once (sym (chosen_are_members splits before h after_ choice 0 l first)) once), own.0, own.1)
+    (of_once _ (subst Once (sym (chosen_are_members l choice 0 first)) once), own.0, own.1)
 
 -- ---- so they replay
 

@@ -93,8 +93,7 @@ step_keeps s clock w e o t h f =
 -- what a crash leaves of the log stays
 pub left_same : (s t : Shard) (kept : Bool) → FrontsFit s → Keeps s t → log_left t kept ≡ log_left s kept
 left_same s t false f k = take_grown s.durable t.durable s.local.log t.local.log f.within k.durable k.grown
-left_same s t true f k =
-    ap (λ x. take (unwrap_or x t.durable) t.local.log) k.flight ∙ at s.flight (λ n e. f.flying n e)
+left_same s t true f k = ap (λ x. take (unwrap_or x t.durable) t.local.log) k.flight ∙ at s.flight (λ n e. f.flying n e)
   where
     at : (x : Option ℕ) → ((n : ℕ) → x ≡ Some n → (s.durable ≤ n) × (n ≤ length s.local.log)) → take (unwrap_or x t.durable) t.local.log ≡ take (unwrap_or x s.durable) s.local.log
     at None g = take_grown s.durable t.durable s.local.log t.local.log f.within k.durable k.grown

@@ -1,5 +1,5 @@
 -- Where two operations of members meet, the earlier is of the same member or of one at an earlier place.
-use Rattle.std.proofs.Common.{◌≡◌, ◌⊎◌, inl, inr, ⊎_elim, sym, subst, ℕ, ◌<◌, true, false, Bool, List, ◌∷◌, ◌++◌, ◌==◌, eqb-true, arith}
+use Rattle.std.proofs.Common.{◌≡◌, ◌⊎◌, inl, inr, ⊎_elim, sym, subst, ℕ, ◌<◌, true, Bool, List, ◌++◌, ◌==◌, eqb-true, arith}
 use Rattle.std.specs.List.{filter}
 use Rattle.std.proofs.lemmas.Bool.{both_ways, and_parts, false_from_ne_true}
 use Rattle.std.proofs.lemmas.List.Elements.{filter-append}
@@ -29,7 +29,7 @@ use Rattle.fate_laws.proofs.FallDoubted.{asked_are_old}
 use Rattle.headline_laws.specs.Shares.{LiesIn}
 use Rattle.headline_laws.proofs.Spans.{one_shard, between}
 use Rattle.headline_laws.proofs.Members.{chosen, chosen_are_members}
-use Rattle.headline_laws.proofs.Replaying.{inside}
+use Rattle.history_laws.proofs.Found.{log_found}
 use Rattle.crash_laws.specs.Acts.{Act, Meet, member_acts, MeetingsFollowPlaces}
 use Rattle.crash_laws.proofs.Lists.{later_told, later_by_shard}
 use Rattle.crash_laws.proofs.Telling.{told}
@@ -57,7 +57,8 @@ meet_apart splits a b s p q n (k, x, y, w) =
 
 -- ---- who is none of the first ones stands behind them
 
-module _ (splits : List ℕ) (before : List (List LogRecord)) (h : History) (after : List (List LogRecord)) (choice : ℕ → Bool) (l : LegalFrom splits before h after) where
+module _ {splits : List ℕ} {before after : List (List LogRecord)} {h : History} (l : LegalFrom splits before h after) (choice : ℕ → Bool)
+    where
   abbrev Follows : Act → Act → Type 0
   Follows a b = Meet a b → (a.tx ≡ b.tx) ⊎ StandsBefore a.tx b.tx (transactions_of (serial_left splits before h after choice))
 
@@ -69,23 +70,22 @@ module _ (splits : List ℕ) (before : List (List LogRecord)) (h : History) (aft
   by_place n i p t rp rt k less =
       let pick = chosen splits before h after choice n in
       let found = found_asked n (log_of before n) in
-      let names = chosen_are_members splits before h after choice n l i in
+      let names = chosen_are_members l choice n i in
       let q = in_filter pick t (requests_of h) (subst (λ ts. tx_in t ts ≡ true) names k) in
       let there = in_kept pick (found ++ requests_of h) t (in_more found (requests_of h) t q.0) q.1 in
       let b = subst (StandsBefore p t) (filter-append pick found (requests_of h)) (placed_before p t (filter pick (found ++ requests_of h)) less there) in
-      subst (StandsBefore p t) (sym names)
-      (stands_later p t (filter pick found) (filter pick (requests_of h))
-      (false_from_ne_true _ (λ j. absurd (let old = asked_are_old splits before n l.opens (inside splits before h after choice l n i) p (in_filter pick p found j).0 in omega (arith, old, rp)))) b)
+      subst (StandsBefore p t) (sym names) (stands_later p t (filter pick found) (filter pick (requests_of h))
+      (false_from_ne_true _ (λ j. absurd (let old = asked_are_old splits before n l.opens (log_found l n i) p (in_filter pick p found j).0 in omega (arith, old, rp)))) b)
 
   on_one : (n : ℕ) → n < shard_count splits → AllLater Follows (filter (λ a. (a.done).shard == n) (member_acts splits before h after choice))
   on_one n i =
-      subst (AllLater Follows) (chosen_acts splits before h after choice l n i)
+      subst (AllLater Follows) (chosen_acts l choice n i)
       (later_told (λ x. ((x.tx).run ≡ run_after before) × (tx_in x.tx (transactions_of (serial_left splits before h after choice)) ≡ true)) _ Follows (told n)
       (λ x y p q r m. ⊎_elim (λ e. inl e) (λ less. inr (by_place n i x.tx y.tx p.0 q.0 q.1 less)) (r (clash_of n x y m)))
       (filter (λ x. chosen splits before h after choice n x.tx) (deeds_before before h after n).items)
-      (all_mono _ _ (λ x p. (p.0, subst (λ b. b ≡ true) (chosen_member splits before h after choice l n i x.tx p.0) p.1)) (filter (λ x. chosen splits before h after choice n x.tx) (deeds_before before h after n).items)
-      (all_filter (λ x. (x.tx).run ≡ run_after before) (λ x. chosen splits before h after choice n x.tx) (deeds_before before h after n).items (deeds_run splits before h after choice l n i)))
-      (acted splits before h after choice l n i).2)
+      (all_mono _ _ (λ x p. (p.0, subst (λ b. b ≡ true) (chosen_member l choice n i x.tx p.0) p.1)) (filter (λ x. chosen splits before h after choice n x.tx) (deeds_before before h after n).items)
+      (all_filter (λ x. (x.tx).run ≡ run_after before) (λ x. chosen splits before h after choice n x.tx) (deeds_before before h after n).items (deeds_run l choice n i)))
+      (acted l choice n i).2)
 
   -- ---- on all
 
@@ -95,4 +95,4 @@ module _ (splits : List ℕ) (before : List (List LogRecord)) (h : History) (aft
       (all_mono (IsFine splits before) _ (λ a p. (p.1, (p.1).0)) (member_acts splits before h after choice) (members_are_fine splits before h after choice l.legal)) on_one
 
 pub meetings_follow_places : MeetingsFollowPlaces
-meetings_follow_places splits before h after choice l = on_all splits before h after choice l
+meetings_follow_places splits before h after choice l = on_all l choice

@@ -1,19 +1,19 @@
 -- A steady world's history is legal, so it has the promise.
-use Rattle.std.proofs.Common.{◌≡◌, inl, refl, sym, ap, subst, ◌∙◌, ℕ, zero, suc, ◌+◌, ◌<◌, true, Bool, List, [], ◌∷◌, Some, None, arith}
+use Rattle.std.proofs.Common.{◌≡◌, inl, sym, ap, subst, ◌∙◌, ℕ, ◌+◌, ◌<◌, List, [], Some, None, arith}
 use Rattle.std.specs.Prelude.{slice_get}
 use Rattle.clv_base.specs.declared.logs.LogRecord.{LogRecord}
-use Rattle.clv_base.specs.Shards.{shard_count, are_splits}
+use Rattle.clv_base.specs.Shards.{shard_count}
 use Rattle.clv_base.specs.LogRules.{log_of, disorder}
 use Rattle.clv_base.specs.State.{Shard}
 use Rattle.clv_base.specs.Restarts.{opened, run_after, log_left}
 use Rattle.clv_base.specs.Core.{World}
-use Rattle.clv_base.specs.Journals.{journal_of, final_of, logs_left_from}
+use Rattle.clv_base.specs.Journals.{journal_of, final_of}
 use Rattle.clv_base.specs.History.{logs_left}
 use Rattle.history_laws.specs.Openings.{LegalFrom}
 use Rattle.history_laws.proofs.Serials.{left_at}
 use Rattle.fate_laws.proofs.Ordering.{logs_left_are_in_order}
 use Rattle.headline_laws.proofs.Promising.{promise}
-use Rattle.journal_laws.specs.Worlds.{Steady, empty_logs, shard_at, logs_now}
+use Rattle.journal_laws.specs.Worlds.{empty_logs, shard_at, logs_now}
 use Rattle.journal_laws.proofs.Running.{runs_fit}
 use Rattle.journal_laws.proofs.Steadily.{steady_is_legal, empty_count, empty_fits, empty_logs_may_be_opened, run_events_is_legal}
 use Rattle.clv_base.specs.Runs.{run_events}

@@ -18,6 +18,7 @@ use Rattle.protocol_laws.specs.SessionLaws.{tx_of}
 use Rattle.history_cases.proofs.Merging.{Placed, Among}
 use Rattle.history_cases.proofs.Worlds.{in_a_shard}
 use Rattle.history_laws.specs.Openings.{LegalFrom}
+use Rattle.history_laws.proofs.Found.{log_found}
 use Rattle.history_laws.proofs.Staying.{walker_of}
 use Rattle.law_base.specs.Items.{Item, Runs, after, AllLater, Clash}
 use Rattle.law_base.proofs.Lists.{all_mono, filters_swap, all_filter}
@@ -64,7 +65,8 @@ pub members_are_fine : (splits : List ℕ) (before : List (List LogRecord)) (h :
 members_are_fine splits before h after choice l =
     all_mono _ (IsFine splits before) (λ a p. p.0) (member_acts splits before h after choice) (all_filter (IsFine splits before) (λ a. is_member splits before h after choice a.tx) (acts h) (acts_are_fine splits before h after l))
 
-module _ (splits : List ℕ) (before : List (List LogRecord)) (h : History) (after_ : List (List LogRecord)) (choice : ℕ → Bool) (l : LegalFrom splits before h after_) (n : ℕ) (i : n < shard_count splits) where
+module _ {splits : List ℕ} {before after_ : List (List LogRecord)} {h : History} (l : LegalFrom splits before h after_) (choice : ℕ → Bool)
+    (n : ℕ) (i : n < shard_count splits) where
   -- of this run the chosen ones are the members
   pub chosen_member : (t : TxId) → t.run ≡ run_after before → chosen splits before h after_ choice n t ≡ is_member splits before h after_ choice t
   chosen_member t r = same_test (chosen splits before h after_ choice n t) (is_member splits before h after_ choice t) (λ c. back (of_chosen splits before h after_ choice n t c)) (λ k. is_chosen splits before h after_ choice n t (inl k))
@@ -73,9 +75,7 @@ module _ (splits : List ℕ) (before : List (List LogRecord)) (h : History) (aft
       back (inl a) = a
       back (inr (inl a)) = commits_are_members splits before h after_ choice n t l i r a
       back (inr (inr a)) =
-          let e = l.legal.each_log.0 in
-          let d = doubted_is_old splits before n l.opens (omega (arith, e, i)) t a.0 in
-          absurd (omega (arith, r, d))
+          let d = doubted_is_old splits before n l.opens (log_found l n i) t a.0 in absurd (omega (arith, r, d))
 
   pub deeds_run : AllByRecursion (λ x. (x.tx).run ≡ run_after before) (deeds_before before h after_ n).items
   deeds_run =
@@ -106,7 +106,7 @@ module _ (splits : List ℕ) (before : List (List LogRecord)) (h : History) (aft
       let found = log_of before n in
       let pick = chosen splits before h after_ choice n in
       let here : (m : ℕ) (t : TxId) → m < shard_count splits → is_member splits before h after_ choice t ≡ true → _ = λ m t j k. members_are_found splits before h after_ choice m t l j k in
-      let r = chosen_act n (run_after before) found (with_found n found d) s (cond (choice n) (unwrap_or s.flight s.durable) s.durable) pick d.items (leads splits before h after_ choice l n i)
-      (cut_above s (choice n) (fronts splits before h after_ choice l n i).counted) (may_choose splits before h after_ choice l here n i) refl in
-      let ends = ap (λ z. fold_updates pick z []) (sym (left_is splits before h after_ choice l n i)) ∙ fold_writers pick (committed_somewhere (logs_left splits before h after_ choice)) (log_of (logs_left splits before h after_ choice) n) [] (λ t w. writers_chosen splits before h after_ choice l here n t i w) in
+      let r = chosen_act n (run_after before) found (with_found n found d) s (cond (choice n) (unwrap_or s.flight s.durable) s.durable) pick d.items (leads l choice n i)
+      (cut_above s (choice n) (fronts l choice n i).counted) (may_choose l choice here n i) refl in
+      let ends = ap (λ z. fold_updates pick z []) (sym (left_is l choice n i)) ∙ fold_writers pick (committed_somewhere (logs_left splits before h after_ choice)) (log_of (logs_left splits before h after_ choice) n) [] (λ t w. writers_chosen l choice here n t i w) in
       (r.0, r.1 ∙ ends, r.2)

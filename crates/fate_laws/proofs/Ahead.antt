@@ -1,7 +1,6 @@
 -- Each PREPARE of a log is its transaction's only one, and lists ones that were prepared or committed before it.
-use Rattle.std.proofs.Common.{◌≡◌, ◌⊎◌, inl, inr, ⊎_elim, refl, sym, ap, subst, ◌∙◌, ℕ, true, false, cond, not, Bool, ◌&&◌, ◌||◌, ◌==◌, List, [], ◌∷◌, ◌++◌, map, take, Some, append_assoc, append-nil, eqb-true, eq-eqb}
+use Rattle.std.proofs.Common.{◌≡◌, ◌⊎◌, inl, inr, ⊎_elim, refl, sym, ap, subst, ◌∙◌, ℕ, true, false, cond, not, Bool, ◌&&◌, ◌||◌, ◌==◌, List, [], ◌∷◌, ◌++◌, map, take, Some, append_assoc, append-nil, eqb-true, eq-eqb, take-append-drop}
 use Rattle.std.specs.Prelude.{⊤, drop}
-use Rattle.std.proofs.Common.{take-append-drop}
 use Rattle.std.specs.List.{filter, list_all}
 use Rattle.std.proofs.lemmas.Bool.{both_ways, and_parts, or_cases, or_left, or_right, not-true, false_from_ne_true, or_parts}
 use Rattle.clv_base.specs.declared.names.TxId.{TxId}

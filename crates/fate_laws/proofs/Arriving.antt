@@ -116,7 +116,7 @@ due_at splits before after h pre e tx to home stamp w b q n =
 pub commits_come_due : CommitsComeDue
 commits_come_due splits before so_far n e later after tx to home stamp l q t u =
     due_at splits before after (so_far ++ (n, e) ∷ later) so_far (n, e) tx to home stamp (next_at splits before after (so_far ++ (n, e) ∷ later) so_far (n, e) later l.legal refl)
-    (bindings_front splits before after (so_far ++ (n, e) ∷ later) so_far ((n, e) ∷ later) l refl) q u
+    (bindings_front l so_far ((n, e) ∷ later) refl) q u
 
 -- ---- what is left of the parts of a commit
 
@@ -142,7 +142,7 @@ part_left splits before after h choice m tx i f (a, inr (inr d)) =
 
 pub commits_have_their_parts : CommitsHaveTheirParts
 commits_have_their_parts splits before h after choice n m home e ts tx l i j among ev out there c =
-    let b = bindings_front splits before after h h [] l (append-nil h) in
+    let b = bindings_front l h [] (append-nil h) in
     let good = (b.parted n i).log tx (left_committed splits before h after choice n tx i c) in
     let w : WasTaken h tx home ts = (e, is_among home e h among, (ev, out)) in
     subst (λ z. HasItsPart z tx) (sym (log_now splits before h after choice m j)) (part_left splits before after h choice m tx j b.fated (good m (λ r. (home, ts, w, there))))

@@ -86,19 +86,18 @@ lost_next K V O Q s x t p n i stay away w (inr (inr (inr (q, m, inl v)))) = inr 
 lost_next K V O Q s x t p n i stay away w (inr (inr (inr (q, m, inr o)))) = inr (inr (inr (q, m, inr (still_not _ _ (away q (inr o)) o.0, stay q (inr o), o.2))))
 
 pub barred_next : (K V O Q : TxId → Type 0) (s x : Shard) → Barred K V O Q s → Change K V O Q s x → Barred K V O Q x
-barred_next K V O Q s x b c =
-    record {
-      lined = c.lined;
-      down = c.down;
-      counted = let l = grown s.local.log x.local.log (c.inside).log in let d = (c.inside).durable in omega (arith, l, d, b.counted);
-      sought = λ t h. let p = prepare_some x.local.log t h in (c.sought t p.0 p.1).0;
-      homes = λ t p q h. (c.sought t p h).1 q ∙ sym (c.inside).shard;
-      rows = c.rows;
-      readers = c.readers;
-      open_ = λ t v. c.stay t (inl v);
-      here = λ t v h. let o = b.here t v (c.away t (inl v) h) in (o.0, keeps t o.0 o.1, (λ e. o.2 (e ∙ (c.inside).shard)));
-      why = λ t p w h. reason t p w h;
-    }
+barred_next K V O Q s x b c = record {
+  lined = c.lined;
+  down = c.down;
+  counted = let l = grown s.local.log x.local.log (c.inside).log in let d = (c.inside).durable in omega (arith, l, d, b.counted);
+  sought = λ t h. let p = prepare_some x.local.log t h in (c.sought t p.0 p.1).0;
+  homes = λ t p q h. (c.sought t p h).1 q ∙ sym (c.inside).shard;
+  rows = c.rows;
+  readers = c.readers;
+  open_ = λ t v. c.stay t (inl v);
+  here = λ t v h. let o = b.here t v (c.away t (inl v) h) in (o.0, keeps t o.0 o.1, (λ e. o.2 (e ∙ (c.inside).shard)));
+  why = λ t p w h. reason t p w h;
+}
   where
     grown : (xs ys : List LogRecord) → IsPrefixOf xs ys → length xs ≤ length ys
     grown xs ys p = let e = ap length p.1 in let f = length-append xs p.0 in omega (arith, e, f)

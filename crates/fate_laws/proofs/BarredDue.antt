@@ -30,7 +30,7 @@ use Rattle.law_base.proofs.Changed.{none_some, some_same, get_set}
 use Rattle.law_base.proofs.Commits.{durable_committed}
 use Rattle.history_laws.proofs.Serials.{committed_front}
 use Rattle.history_cases.proofs.Stepping.{Due, commits, votes, rules, KeptByDue, settled}
-use Rattle.history_cases.proofs.Uncommitting.{rolled as rolled_commits}
+use Rattle.history_cases.proofs.Uncommitting.{rolled as rolled_commits, with_more}
 use Rattle.shard_laws.proofs.Sound.{waiting_here}
 use Rattle.shard_laws.proofs.Ordered.{prepare_some}
 use Rattle.shard_laws.proofs.Leaving.{no_write_aborts, no_write_clrs}
@@ -41,7 +41,6 @@ use Rattle.fate_laws.proofs.Binding.{VoteIs, kept, yes, read, no, vote_is}
 use Rattle.fate_laws.proofs.Calm.{calm_one, due_prepares, was_there}
 use Rattle.fate_laws.proofs.Downwards.{down_due}
 use Rattle.fate_laws.proofs.Rulings.{ack_refused, ack_end}
-use Rattle.history_cases.proofs.Uncommitting.{with_more}
 use Rattle.fate_laws.proofs.Ahead.{aborts_ahead, clrs_ahead}
 use Rattle.fate_laws.proofs.Lined.{Lined, Plainly, lined_more, lined_gone}
 use Rattle.fate_laws.proofs.Barred.{Absent, Out, Lost, Barred, Change, barred_next, rolled_goes, finished_goes}
@@ -107,21 +106,20 @@ out_open K V O Q s t b (inr o) = o.1
 due_change : (K V O Q : TxId → Type 0) (s x : Shard) → Due s (Some x) → Barred K V O Q s → Lined x.local → ((t : TxId) (q : Request) → tx_get t x.requests ≡ Some q → q.state ≡ Undecided → Q t)
     → ((t : TxId) (v : Voter) → tx_get t x.voters ≡ Some v → v.vote ≡ Some Read → (prepared_in s.local.log t ≡ false) × (stage_of s.local t ≡ Some Active → ⊥)) → ((t : TxId) → V t ⊎ Out O s t → committed_in x.local.log t ≡ true → committed_in s.local.log t ≡ true)
     → ((t : TxId) (p : ℕ × List TxId) → is_present (stage_of s.local t) ≡ true → Out O x t → prepare_of s.local.log t ≡ Some p → Lost K V O x t p) → Change K V O Q s x
-due_change K V O Q s x d b li rw rd nc go =
-    record {
-      inside = inside_due s s x d (inside_self s);
-      lined = li;
-      down = down_due s x d b.down;
-      found = λ t p h. inl (due_prepares s x d t p h);
-      sought = λ t p h. let g = due_prepares s x d t p h in (b.sought t (prepared_there s.local.log t p g), (λ q. b.homes t p q g));
-      rows = rw;
-      readers = λ t v g r.
-          let k = rd t v g r in
-          (false_from_ne_true _ (λ h. let z = prepare_some x.local.log t h in both_ways _ k.0 (prepared_there s.local.log t z.0 (due_prepares s x d t z.0 z.1))), (λ a. k.1 ((calm_one s x t d).active a)));
-      stay = λ t w. false_from_ne_true _ (λ c. both_ways _ (out_open K V O Q s t b w) (nc t w c));
-      away = λ t w h. was_there s x t (calm_one s x t d) (stage_of x.local t) refl h;
-      goes = go;
-    }
+due_change K V O Q s x d b li rw rd nc go = record {
+  inside = inside_due s s x d (inside_self s);
+  lined = li;
+  down = down_due s x d b.down;
+  found = λ t p h. inl (due_prepares s x d t p h);
+  sought = λ t p h. let g = due_prepares s x d t p h in (b.sought t (prepared_there s.local.log t p g), (λ q. b.homes t p q g));
+  rows = rw;
+  readers = λ t v g r.
+      let k = rd t v g r in
+      (false_from_ne_true _ (λ h. let z = prepare_some x.local.log t h in both_ways _ k.0 (prepared_there s.local.log t z.0 (due_prepares s x d t z.0 z.1))), (λ a. k.1 ((calm_one s x t d).active a)));
+  stay = λ t w. false_from_ne_true _ (λ c. both_ways _ (out_open K V O Q s t b w) (nc t w c));
+  away = λ t w h. was_there s x t (calm_one s x t d) (stage_of x.local t) refl h;
+  goes = go;
+}
 
 here_still : (K V O : TxId → Type 0) (s x : Shard) → x.local ≡ s.local → (t : TxId) (p : ℕ × List TxId) → is_present (stage_of s.local t) ≡ true → Out O x t → prepare_of s.local.log t ≡ Some p → Lost K V O x t p
 here_still K V O s x e t p h o f = absurd (both_ways _ (subst (λ (l : Local). is_present (stage_of l t) ≡ false) e o.0) h)
@@ -239,8 +237,7 @@ barred_due K V O Q s _ (rules u q Acknowledge g e) b =
     (due_change K V O Q s _ (rules u q Acknowledge g e) b (lined_gone s.local (do_ruling u Acknowledge (with_ruling u q Acknowledge s)).local (u ∷ []) None refl refl refl refl b.lined) (ruled_rows K V O Q s u (record q { state = Finished }) b (λ z. absurd cc)) b.readers (λ t w k. k)
     (finished_goes K V O s (do_ruling u Acknowledge (with_ruling u q Acknowledge s)) u refl refl
     (inr (false_from_ne_true _ (λ h. both_ways _ (ack_in s.shard u q (facts_of s u) q.state e) ((b.lined).wrote u h)))))))
-barred_due K V O Q s _ (rules u q (AbortVerdict cause to) g e) b =
-    by_commit (committed_in s.local.log u) refl
+barred_due K V O Q s _ (rules u q (AbortVerdict cause to) g e) b = by_commit (committed_in s.local.log u) refl
   where
     x : Shard
     x = do_ruling u (AbortVerdict cause to) (with_ruling u q (AbortVerdict cause to) s)

@@ -10,19 +10,19 @@ use Rattle.clv_base.specs.declared.state.Voter.{Voter}
 use Rattle.clv_base.specs.declared.state.Request.{Request}
 use Rattle.clv_base.specs.declared.state.RequestState.TheVariants.{Undecided}
 use Rattle.clv_base.specs.declared.state.Stage.TheVariants.{Active, Closed}
-use Rattle.clv_base.specs.Orders.{tx_same, tx_get, tx_set}
+use Rattle.clv_base.specs.Orders.{tx_same, tx_get, tx_set, tx_put}
 use Rattle.clv_base.specs.Logs.{committed_in, prepared_in, prepare_of}
 use Rattle.clv_base.specs.State.{Shard, Local, is_present, with_local}
 use Rattle.clv_base.specs.Undo.{stage_of, doomed_here, roll_back}
 use Rattle.clv_base.specs.Facts.{facts_of, has_durable_commit, is_waiting}
-use Rattle.clv_base.specs.Coordinator.{others}
+use Rattle.clv_base.specs.Coordinator.{others, new_request, with_vote_of, with_done_of}
 use Rattle.clv_base.specs.Due.{append_log}
 use Rattle.clv_base.proofs.SameNames.{tx_true}
 use Rattle.law_base.proofs.Changed.{none_some, some_same, get_set}
 use Rattle.law_base.proofs.Commits.{committed_keeps}
-use Rattle.law_base.proofs.Tables.{stage_in, is_pair}
+use Rattle.law_base.proofs.Tables.{stage_in, is_pair, get_put}
 use Rattle.history_cases.proofs.Uncommitting.{rolled as rolled_commits}
-use Rattle.law_base.proofs.Stages.{absent_go}
+use Rattle.law_base.proofs.Stages.{absent_go, stage_closed, closed_other}
 use Rattle.fate_laws.proofs.Homes.{still_not, new_commit}
 use Rattle.fate_laws.proofs.Prepares.{prepare_from}
 use Rattle.clv_base.specs.declared.names.Birth.{Birth}
@@ -33,15 +33,11 @@ use Rattle.clv_base.specs.declared.events.Event.{Event}
 use Rattle.clv_base.specs.declared.events.Event.TheVariants.{Op as OpEvent, Request as RequestEvent, Drop, Deliver}
 use Rattle.clv_base.specs.declared.events.Outcome.{Outcome}
 use Rattle.clv_base.specs.declared.events.Outcome.TheVariants.{Answered, Asked}
-use Rattle.clv_base.specs.Orders.{tx_put}
-use Rattle.clv_base.specs.Coordinator.{new_request, with_vote_of, with_done_of}
 use Rattle.clv_base.specs.Participant.{asked_voter}
 use Rattle.clv_base.specs.OneShard.{OpDies, rolled_back_if, close_part, closed_in, without_part}
-use Rattle.clv_base.specs.Events.{is_alone, coordinate, owe_vote}
-use Rattle.law_base.proofs.Tables.{get_put}
+use Rattle.clv_base.specs.Events.{is_alone, coordinate, owe_vote, with_votes, with_done}
 use Rattle.history_cases.proofs.Stepping.{Step, op_dies, op_answers, request_refused, request_doomed, request_again, request_new, request_closes, looks_well, looks_ill, drops, prepare_closes, prepare_again, vote_counts, decision_comes, done_counts}
 use Rattle.law_base.proofs.LockRows.{Rows}
-use Rattle.law_base.proofs.Stages.{stage_closed, closed_other}
 use Rattle.shard_laws.proofs.Ordered.{prepare_some}
 use Rattle.history_laws.proofs.Replying.{OpIs, dies, rolls, reply_is}
 use Rattle.fate_laws.proofs.Inside.{inside_step}
@@ -51,7 +47,6 @@ use Rattle.fate_laws.proofs.Downwards.{down_step, Owes as OwesDown}
 use Rattle.fate_laws.proofs.HomesEvents.{put_get, awaits}
 use Rattle.fate_laws.proofs.Arriving.{taken_closed}
 use Rattle.fate_laws.proofs.DoomingEvents.{whose_request}
-use Rattle.clv_base.specs.Events.{with_votes, with_done}
 use Rattle.fate_laws.proofs.Lined.{Lined, lined_more, lined_closed}
 use Rattle.fate_laws.proofs.Barred.{Absent, Out, Lost, Barred, lost_inactive, barred_next}
 use Rattle.fate_laws.proofs.BarredDue.{plain_commit, out_open}

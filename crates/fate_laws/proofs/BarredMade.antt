@@ -1,15 +1,12 @@
 -- Each entry of a shard keeps that who is out is never committed.
 use Rattle.clv_base.specs.Coordinator.{restored_request, restored_requests}
 use Rattle.clv_base.specs.Due.{with_due_done}
-use Rattle.clv_base.specs.Events.{finish, with_durable}
-use Rattle.clv_base.specs.Events.{put_down}
+use Rattle.clv_base.specs.Events.{finish, with_durable, put_down}
 use Rattle.clv_base.specs.Journals.{up_to_restart}
-use Rattle.clv_base.specs.Logs.{committed_in, prepared_in, wrote_in, aborted_in, prepare_of}
-use Rattle.clv_base.specs.Logs.{in_doubt}
+use Rattle.clv_base.specs.Logs.{committed_in, prepared_in, wrote_in, aborted_in, prepare_of, in_doubt}
 use Rattle.clv_base.specs.Orders.{tx_in}
 use Rattle.clv_base.specs.Participant.{restored_voter, restored_voters}
-use Rattle.clv_base.specs.Restarts.{log_left}
-use Rattle.clv_base.specs.Restarts.{state_after, log_left, revived, restored_parts, homes_of, unended_in, Restarts}
+use Rattle.clv_base.specs.Restarts.{log_left, state_after, revived, restored_parts, homes_of, unended_in, Restarts}
 use Rattle.clv_base.specs.State.{Shard, is_present}
 use Rattle.clv_base.specs.Undo.{stage_of}
 use Rattle.clv_base.specs.declared.causes.Vote.TheVariants.{Read}
@@ -29,16 +26,13 @@ use Rattle.fate_laws.proofs.BarredDue.{Refuses, barred_finish}
 use Rattle.fate_laws.proofs.BarredEvents.{Owes, barred_step}
 use Rattle.fate_laws.proofs.BarredStep.{barred_same}
 use Rattle.fate_laws.proofs.Dooming.{RowKeeps, Kept}
-use Rattle.fate_laws.proofs.Downwards.{down_state}
-use Rattle.fate_laws.proofs.Downwards.{Owes as OwesDown}
+use Rattle.fate_laws.proofs.Downwards.{down_state, Owes as OwesDown}
 use Rattle.fate_laws.proofs.Inside.{Inside, inside_self, inside_due}
-use Rattle.fate_laws.proofs.Prepares.{front_prepare, restarts_add as restarts_prepare}
-use Rattle.fate_laws.proofs.Prepares.{prepare_more}
+use Rattle.fate_laws.proofs.Prepares.{front_prepare, restarts_add as restarts_prepare, prepare_more}
 use Rattle.fate_laws.proofs.Returning.{pair_from}
 use Rattle.history_cases.proofs.Durability.{Counted, left_front, restarts_front}
 use Rattle.history_cases.proofs.Entering.{Makes, by_event, by_flush, by_failure, by_restart}
-use Rattle.history_cases.proofs.Stepping.{settled}
-use Rattle.history_cases.proofs.Stepping.{finishes, stops}
+use Rattle.history_cases.proofs.Stepping.{settled, finishes, stops}
 use Rattle.history_cases.proofs.Telling.{all_map}
 use Rattle.history_cases.proofs.TellingEvents.{front_committed}
 use Rattle.history_cases.proofs.Uncommitting.{restarts_add}
@@ -64,19 +58,18 @@ longer_front : (d n : ℕ) (log : List LogRecord) → d ≤ n → IsPrefixOf (ta
 longer_front d n log l = (drop d (take n log), ap (λ z. z ++ drop d (take n log)) (sym (take-take d n log l)) ∙ take-append-drop d (take n log))
 
 barred_flushed : (K V O Q : TxId → Type 0) (s : Shard) (n : ℕ) → s.durable ≤ n → n ≤ length s.local.log → Barred K V O Q s → Barred K V O Q (with_durable n s)
-barred_flushed K V O Q s n l m b =
-    record {
-      lined = b.lined;
-      down = b.down;
-      counted = m;
-      sought = b.sought;
-      homes = b.homes;
-      rows = b.rows;
-      readers = b.readers;
-      open_ = b.open_;
-      here = b.here;
-      why = λ t p w e. moved t p (b.why t p w e);
-    }
+barred_flushed K V O Q s n l m b = record {
+  lined = b.lined;
+  down = b.down;
+  counted = m;
+  sought = b.sought;
+  homes = b.homes;
+  rows = b.rows;
+  readers = b.readers;
+  open_ = b.open_;
+  here = b.here;
+  why = λ t p w e. moved t p (b.why t p w e);
+}
   where
     moved : (t : TxId) (p : ℕ × List TxId) → Lost K V O s t p → Lost K V O (with_durable n s) t p
     moved t p (inl (a, c)) = inl (aborted_front (take s.durable s.local.log) (take n s.local.log) t (longer_front s.durable n s.local.log l) a, c)

@@ -14,14 +14,14 @@ use Rattle.clv_base.specs.State.{Shard, Local, is_present, with_local}
 use Rattle.clv_base.specs.Undo.{stage_of, doomed_here, roll_back}
 use Rattle.clv_base.proofs.SameNames.{tx_true, tx_self}
 use Rattle.law_base.proofs.Changed.{none_some}
-use Rattle.law_base.proofs.Tables.{stage_in, is_pair}
+use Rattle.law_base.proofs.Tables.{stage_in, is_pair, stage_by, get_put, without_pairs}
 use Rattle.protocol_laws.specs.Growth.{IsPrefixOf}
 use Rattle.history_laws.proofs.Serials.{committed_front}
 use Rattle.history_cases.proofs.Uncommitting.{rolled as rolled_commits}
-use Rattle.law_base.proofs.Stages.{was_present, written_parts}
+use Rattle.law_base.proofs.Stages.{was_present, written_parts, active_back, stage_marked, other_part}
 use Rattle.fate_laws.proofs.Homes.{still_not}
-use Rattle.fate_laws.proofs.Prepares.{rolled}
-use Rattle.fate_laws.proofs.Downwards.{Down}
+use Rattle.fate_laws.proofs.Prepares.{rolled, op_answering}
+use Rattle.fate_laws.proofs.Downwards.{Down, down_step}
 use Rattle.clv_base.specs.declared.names.Birth.{Birth}
 use Rattle.clv_base.specs.declared.ops.Op.{Op}
 use Rattle.clv_base.specs.declared.ops.Answer.{Answer}
@@ -30,19 +30,13 @@ use Rattle.clv_base.specs.declared.events.Event.TheVariants.{Op as OpEvent}
 use Rattle.clv_base.specs.declared.events.Outcome.{Outcome}
 use Rattle.clv_base.specs.Needs.{writes_of, value_at, key_of}
 use Rattle.clv_base.specs.OneShard.{op_reply, OpAnswers, active_part, new_part, locked, performed, marked_in, mark_dropped}
-use Rattle.law_base.proofs.Tables.{stage_by, get_put, without_pairs}
 use Rattle.protocol_laws.proofs.Growing.{same, more_twice}
 use Rattle.history_cases.proofs.Stepping.{Step}
 use Rattle.law_base.proofs.LockRows.{Rows}
-use Rattle.law_base.proofs.Stages.{active_back}
-use Rattle.law_base.proofs.Stages.{stage_marked}
-use Rattle.law_base.proofs.Stages.{other_part}
 use Rattle.shard_laws.proofs.Ordered.{prepare_some}
 use Rattle.history_laws.proofs.Replying.{OpIs, performs}
 use Rattle.fate_laws.proofs.Inside.{inside_step}
-use Rattle.fate_laws.proofs.Prepares.{op_answering}
 use Rattle.fate_laws.proofs.Closings.{Commits, alone, decided, step_commits}
-use Rattle.fate_laws.proofs.Downwards.{down_step}
 use Rattle.fate_laws.proofs.Lined.{Lined, lined_performed}
 use Rattle.fate_laws.proofs.Barred.{Out, Lost, Barred, barred_next, rolled_goes}
 use Rattle.fate_laws.proofs.BarredDue.{lined_rolled, out_open}
@@ -98,16 +92,15 @@ barred_rolled K V O Q s u c root b =
 -- ---- a part is marked
 
 lined_marked : (l : Local) (u : TxId) → Lined l → Lined (mark_dropped u l)
-lined_marked l u p =
-    record {
-      writers = p.writers;
-      decided = λ t c w. p.decided t (sym (stage_marked u t l.parts) ∙ c) w;
-      paired = p.paired;
-      met = p.met;
-      wrote = p.wrote;
-      unprepared = λ t a. p.unprepared t (sym (stage_marked u t l.parts) ∙ a);
-      ahead = p.ahead;
-    }
+lined_marked l u p = record {
+  writers = p.writers;
+  decided = λ t c w. p.decided t (sym (stage_marked u t l.parts) ∙ c) w;
+  paired = p.paired;
+  met = p.met;
+  wrote = p.wrote;
+  unprepared = λ t a. p.unprepared t (sym (stage_marked u t l.parts) ∙ a);
+  ahead = p.ahead;
+}
 
 pub barred_marked : (K V O Q : TxId → Type 0) (s : Shard) (u : TxId) → Barred K V O Q s → Barred K V O Q (with_local (mark_dropped u) s)
 barred_marked K V O Q s u b =

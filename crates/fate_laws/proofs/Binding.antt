@@ -61,14 +61,13 @@ bound_calm s t tx c l b =
     }
 
 pub reads_calm : (s t : Shard) (tx : TxId) → Calm s t tx → Reads s tx → Reads t tx
-reads_calm s t tx c r =
-    record {
-      unprepared = false_from_ne_true _ (λ h.
-          let p = prepare_some t.local.log tx h in
-          ⊎_elim (λ e. both_ways _ r.unprepared (prepared_there s.local.log tx p.0 e)) (λ n. r.inactive n.0) (c.prepares p.0 p.1));
-      inactive = λ h. r.inactive (c.active h);
-      unclosed = λ h. ⊎_elim (λ k. r.unclosed k) (λ k. r.inactive k) (c.closed h);
-    }
+reads_calm s t tx c r = record {
+  unprepared = false_from_ne_true _ (λ h.
+      let p = prepare_some t.local.log tx h in
+      ⊎_elim (λ e. both_ways _ r.unprepared (prepared_there s.local.log tx p.0 e)) (λ n. r.inactive n.0) (c.prepares p.0 p.1));
+  inactive = λ h. r.inactive (c.active h);
+  unclosed = λ h. ⊎_elim (λ k. r.unclosed k) (λ k. r.inactive k) (c.closed h);
+}
 
 -- ---- a PREPARE stands behind a write of its transaction
 

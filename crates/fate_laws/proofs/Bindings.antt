@@ -41,6 +41,7 @@ use Rattle.history_cases.proofs.Entering.{Makes, by_event, by_flush, by_failure,
 use Rattle.history_cases.proofs.Durability.{Counted}
 use Rattle.history_cases.proofs.Merging.{Placed, in_order, not_before_itself, before_then, Among, among_append, is_among, in_turn, precedes_before, own_in_order}
 use Rattle.history_laws.specs.Openings.{LegalFrom}
+use Rattle.history_laws.proofs.Found.{log_found}
 use Rattle.history_laws.proofs.Walkers.{nothing_follows}
 use Rattle.history_cases.proofs.Telling.{IsRequest}
 use Rattle.history_cases.proofs.OldRuns.{none_of_this_run}
@@ -203,13 +204,12 @@ pub record Bindings (splits : List ℕ) (before after : List (List LogRecord)) (
   pub said : (x : Placed) → Among x pre → Said before after h pre (x.1).outcome
 
 pub once : (splits : List ℕ) (before after : List (List LogRecord)) (h : History) → Legal splits before h after → Once (run_after before) (WasTaken h)
-once splits before after h l =
-    record {
-      one = λ tx m n ts us a b.
-          let e = one_request splits before after h (m, a.0) (n, b.0) tx ts us l a.1 b.1 a.2 b.2 in
-          (ap (λ z. z.0) e, names (sym (a.2).0 ∙ ap (λ z. (z.1).event) e ∙ (b.2).0));
-      mine = λ tx m ts a. (walker_of splits before after h (m, a.0) tx l a.1 (ap tx_of (a.2).0)).0;
-    }
+once splits before after h l = record {
+  one = λ tx m n ts us a b.
+      let e = one_request splits before after h (m, a.0) (n, b.0) tx ts us l a.1 b.1 a.2 b.2 in
+      (ap (λ z. z.0) e, names (sym (a.2).0 ∙ ap (λ z. (z.1).event) e ∙ (b.2).0));
+  mine = λ tx m ts a. (walker_of splits before after h (m, a.0) tx l a.1 (ap tx_of (a.2).0)).0;
+}
   where
     names : {tx : TxId} {ts us : List (ℕ × ℕ)} → RequestEvent tx ts ≡ RequestEvent tx us → ts ≡ us
     names q = cc
@@ -413,21 +413,20 @@ opening_fine splits before after n m tx o c r = ((λ q. absurd (r q)), at (prepa
         inr (inl (reads_state m (run_after before) 0 (log_after_restart m (log_of before m) (run_after before) 0) 0 [] tx
         (false_from_ne_true _ (λ h. let x = prepare_some (log_after_restart m (log_of before m) (run_after before) 0) tx h in both_ways _ p (prepared_there (log_of before m) tx x.0 (opening_prepares m (log_of before m) (run_after before) 0 tx x.0 x.1))))))
 
-pub bindings_start : (splits : List ℕ) (before after : List (List LogRecord)) (h : History) → LegalFrom splits before h after → Bindings splits before after h []
-bindings_start splits before after h l =
-    record {
-      fated = fated_start splits before after h l;
-      parted = λ n i.
-          let k : n < length before = let e = l.legal.each_log.0 in omega (arith, e, i) in
-          let log = log_of before n in
-          let run = run_after before in
-          parted_state run (WasTaken h) (Sought before []) (FineAt before after []) n run 0 (log_after_restart n log run 0) 0 []
-          (added_ordered log (log_after_restart n log run 0) (more log _) (λ t p e. opening_prepares n log run 0 t p e) (ordered_opening splits before n l.opens k))
-          (λ tx p r. let x = prepare_some (log_after_restart n log run 0) tx p in absurd (none_prepared splits before n tx l.opens k (prepared_there log tx x.0 (opening_prepares n log run 0 tx x.0 x.1)) r))
-          (λ tx c m d. let b = opening_adds n log run 0 tx c in opening_fine splits before after n m tx l.opens b (λ r. none_of_this_run splits before n tx l.opens k b r));
-      said = λ x i. elim i [ ];
-    }
+module _ {splits : List ℕ} {before after : List (List LogRecord)} {h : History} (l : LegalFrom splits before h after) where
+  pub bindings_start : Bindings splits before after h []
+  bindings_start = record {
+    fated = fated_start l;
+    parted = λ n i.
+        let log = log_of before n in
+        let run = run_after before in
+        parted_state run (WasTaken h) (Sought before []) (FineAt before after []) n run 0 (log_after_restart n log run 0) 0 []
+        (added_ordered log (log_after_restart n log run 0) (more log _) (λ t p e. opening_prepares n log run 0 t p e) (ordered_opening splits before n l.opens (log_found l n i)))
+        (λ tx p r. let x = prepare_some (log_after_restart n log run 0) tx p in absurd (none_prepared splits before n tx l.opens (log_found l n i) (prepared_there log tx x.0 (opening_prepares n log run 0 tx x.0 x.1)) r))
+        (λ tx c m d. let b = opening_adds n log run 0 tx c in opening_fine splits before after n m tx l.opens b (λ r. none_of_this_run splits before n tx l.opens (log_found l n i) b r));
+    said = λ x i. elim i [ ];
+  }
 
--- after each front of a legal history
-pub bindings_front : (splits : List ℕ) (before after : List (List LogRecord)) (h pre post : History) → LegalFrom splits before h after → pre ++ post ≡ h → Bindings splits before after h pre
-bindings_front splits before after h pre post l q = walk_front (Bindings splits before after h) splits before after h [] pre post l.legal q (bindings_next splits before after h) (bindings_start splits before after h l)
+  -- after each front of a legal history
+  pub bindings_front : (pre post : History) → pre ++ post ≡ h → Bindings splits before after h pre
+  bindings_front pre post q = walk_front (Bindings splits before after h) splits before after h [] pre post l.legal q (bindings_next splits before after h) bindings_start

@@ -32,10 +32,7 @@ use Rattle.clv_base.specs.Due.{finish_reader, with_vote, do_ruling, with_ruling,
 use Rattle.clv_base.specs.Events.{is_alone, finish}
 use Rattle.clv_base.proofs.SameNames.{tx_true, tx_self}
 use Rattle.law_base.proofs.Tables.{stage_by, stage_in, is_pair, add_from, add_keeps, without_pairs, pairs_stay}
-use Rattle.law_base.proofs.Stages.{stage_own, active_back, closed_back, gone_out}
-use Rattle.law_base.proofs.Stages.{stage_closed, closed_other}
-use Rattle.law_base.proofs.Stages.{stage_marked}
-use Rattle.law_base.proofs.Stages.{other_part}
+use Rattle.law_base.proofs.Stages.{stage_own, active_back, closed_back, gone_out, stage_closed, closed_other, stage_marked, other_part}
 use Rattle.history_laws.proofs.Replying.{OpIs, dies, rolls, performs, reply_is}
 use Rattle.history_cases.proofs.Stepping.{Due, commits, votes, rules, KeptByDue, settled, Step, op_dies, op_answers, request_closes, drops, prepare_closes, decision_comes}
 use Rattle.protocol_laws.proofs.Growing.{same}
@@ -68,41 +65,38 @@ was_there s t tx c (Some Closed) e h = ⊎_elim (λ k. there_closed (stage_of s.
 was_there s t tx c (Some (Gone d)) e h = absurd (both_ways false refl h)
 
 pub calm_then : (s t u : Shard) (tx : TxId) → Calm s t tx → Calm t u tx → Calm s u tx
-calm_then s t u tx a b =
-    record {
-      inside = inside_then s t u a.inside b.inside;
-      pairs = λ q i. a.pairs q (b.pairs q i);
-      keeps = λ q c i. b.keeps q c (a.keeps q (was_there t u tx b (stage_of u.local tx) refl c) i);
-      prepares = λ p e. ⊎_elim (λ f. ⊎_elim (λ g. inl g) (λ n. inr (n.0, λ h. n.1 (b.active h))) (a.prepares p f)) (λ n. inr (a.active n.0, n.1)) (b.prepares p e);
-      active = λ h. a.active (b.active h);
-      closed = λ h. ⊎_elim (λ c. a.closed c) (λ c. inr (a.active c)) (b.closed h);
-    }
+calm_then s t u tx a b = record {
+  inside = inside_then s t u a.inside b.inside;
+  pairs = λ q i. a.pairs q (b.pairs q i);
+  keeps = λ q c i. b.keeps q c (a.keeps q (was_there t u tx b (stage_of u.local tx) refl c) i);
+  prepares = λ p e. ⊎_elim (λ f. ⊎_elim (λ g. inl g) (λ n. inr (n.0, λ h. n.1 (b.active h))) (a.prepares p f)) (λ n. inr (a.active n.0, n.1)) (b.prepares p e);
+  active = λ h. a.active (b.active h);
+  closed = λ h. ⊎_elim (λ c. a.closed c) (λ c. inr (a.active c)) (b.closed h);
+}
 
 -- ---- kinds of changes
 
 pub calm_same : (s t : Shard) (tx : TxId) → Inside s t → t.local.parts ≡ s.local.parts → t.local.pairs ≡ s.local.pairs → NoMorePrepares s.local.log t.local.log → Calm s t tx
-calm_same s t tx i e f k =
-    record {
-      inside = i;
-      pairs = λ q h. subst (λ l. is_pair l tx q ≡ true) f h;
-      keeps = λ q c h. subst (λ l. is_pair l tx q ≡ true) (sym f) h;
-      prepares = λ p h. inl (k tx p h);
-      active = λ h. subst (λ l. stage_in l tx ≡ Some Active) e h;
-      closed = λ h. inl (subst (λ l. stage_in l tx ≡ Some Closed) e h);
-    }
+calm_same s t tx i e f k = record {
+  inside = i;
+  pairs = λ q h. subst (λ l. is_pair l tx q ≡ true) f h;
+  keeps = λ q c h. subst (λ l. is_pair l tx q ≡ true) (sym f) h;
+  prepares = λ p h. inl (k tx p h);
+  active = λ h. subst (λ l. stage_in l tx ≡ Some Active) e h;
+  closed = λ h. inl (subst (λ l. stage_in l tx ≡ Some Closed) e h);
+}
 
 calm_gone : (s t : Shard) (tx : TxId) (set : List TxId) (d : Option TxId) → Inside s t → t.local.parts ≡ gone_in set d s.local.parts → t.local.pairs ≡ pairs_without set s.local.pairs → NoMorePrepares s.local.log t.local.log → Calm s t tx
-calm_gone s t tx set d i e f k =
-    record {
-      inside = i;
-      pairs = λ q h. (without_pairs set s.local.pairs tx q (subst (λ l. is_pair l tx q ≡ true) f h)).0;
-      keeps = λ q c h. subst (λ l. is_pair l tx q ≡ true) (sym f)
-          (pairs_stay set s.local.pairs tx q
-          (false_from_ne_true (tx_in tx set) (λ m. both_ways _ (ap is_present (stage_own set d tx s.local.parts m) ∙ gone_out d (stage_in s.local.parts tx)) (subst (λ l. is_present (stage_in l tx) ≡ true) e c))) h);
-      prepares = λ p h. inl (k tx p h);
-      active = λ h. (active_back set d tx s.local.parts (subst (λ l. stage_in l tx ≡ Some Active) e h)).1;
-      closed = λ h. inl (closed_back set d tx s.local.parts (subst (λ l. stage_in l tx ≡ Some Closed) e h));
-    }
+calm_gone s t tx set d i e f k = record {
+  inside = i;
+  pairs = λ q h. (without_pairs set s.local.pairs tx q (subst (λ l. is_pair l tx q ≡ true) f h)).0;
+  keeps = λ q c h. subst (λ l. is_pair l tx q ≡ true) (sym f)
+      (pairs_stay set s.local.pairs tx q
+      (false_from_ne_true (tx_in tx set) (λ m. both_ways _ (ap is_present (stage_own set d tx s.local.parts m) ∙ gone_out d (stage_in s.local.parts tx)) (subst (λ l. is_present (stage_in l tx) ≡ true) e c))) h);
+  prepares = λ p h. inl (k tx p h);
+  active = λ h. (active_back set d tx s.local.parts (subst (λ l. stage_in l tx ≡ Some Active) e h)).1;
+  closed = λ h. inl (closed_back set d tx s.local.parts (subst (λ l. stage_in l tx ≡ Some Closed) e h));
+}
 
 calm_rolled : (s : Shard) (tx u : TxId) → Inside s (with_local (roll_back u) s) → Calm s (with_local (roll_back u) s) tx
 calm_rolled s tx u i = calm_gone s (with_local (roll_back u) s) tx (doomed_here s.local u) (Some u) i refl refl (rolled u s.local)

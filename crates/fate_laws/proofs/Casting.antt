@@ -70,11 +70,10 @@ voted_cast before after pre n tx Read v = v
 voted_cast before after pre n tx (No why) v = tt
 
 casts_next : (splits : List ℕ) (before after : List (List LogRecord)) (h pre : History) (e : Placed) → Next splits before after h pre e → Casts splits before after h pre → Casts splits before after h (pre ++ e ∷ [])
-casts_next splits before after h pre e w k =
-    record {
-      bindings = bindings_next splits before after h pre e w k.bindings;
-      cast = λ x home from tx vote i q. cast_later splits before after h pre e from tx vote w (k.bindings).fated (⊎_elim (λ j. k.cast x home from tx vote j q) (λ j. last x home from tx vote j q) (among_append x pre (e ∷ []) i));
-    }
+casts_next splits before after h pre e w k = record {
+  bindings = bindings_next splits before after h pre e w k.bindings;
+  cast = λ x home from tx vote i q. cast_later splits before after h pre e from tx vote w (k.bindings).fated (⊎_elim (λ j. k.cast x home from tx vote j q) (λ j. last x home from tx vote j q) (among_append x pre (e ∷ []) i));
+}
   where
     last : (x : Placed) (home from : ℕ) (tx : TxId) (vote : Vote) → Among x (e ∷ []) → (x.1).outcome ≡ Sent (VoteMessage home tx from vote) → Cast before after pre from tx vote
     last x home from tx vote (inl z) q =
@@ -85,6 +84,6 @@ casts_next splits before after h pre e w k =
         subst (λ m. Cast before after pre m tx vote) (sym (t.0 ∙ (w.split).shard)) (voted_cast before after pre e.0 tx vote t.1)
     last x home from tx vote (inr z) q = elim z [ ]
 
-pub casts_front : (splits : List ℕ) (before after : List (List LogRecord)) (h pre post : History) → LegalFrom splits before h after → pre ++ post ≡ h → Casts splits before after h pre
-casts_front splits before after h pre post l q =
-    walk_front (Casts splits before after h) splits before after h [] pre post l.legal q (casts_next splits before after h) (record { bindings = bindings_start splits before after h l; cast = λ x home from tx vote i. elim i [ ] })
+pub casts_front : {splits : List ℕ} {before after : List (List LogRecord)} {h : History} → LegalFrom splits before h after → (pre post : History) → pre ++ post ≡ h → Casts splits before after h pre
+casts_front {splits} {before} {after} {h} l pre post q =
+    walk_front (Casts splits before after h) splits before after h [] pre post l.legal q (casts_next splits before after h) (record { bindings = bindings_start l; cast = λ x home from tx vote i. elim i [ ] })

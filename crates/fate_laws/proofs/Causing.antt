@@ -113,13 +113,12 @@ state_more run before after pre e n s t (Refused c) k = refused_more before afte
 
 -- another shard's entry
 pub caused_other : (run : ℕ) (before after : List (List LogRecord)) (pre : History) (e : Placed) (n : ℕ) (s : Shard) → Caused run before after pre n s → Caused run before after (pre ++ e ∷ []) n s
-caused_other run before after pre e n s k =
-    record {
-      gone = λ t d g. gone_more run before after pre e n t d (k.gone t d g);
-      rows = λ t q g. row t q (k.rows t q g);
-      read = k.read;
-      calm = k.calm;
-    }
+caused_other run before after pre e n s k = record {
+  gone = λ t d g. gone_more run before after pre e n t d (k.gone t d g);
+  rows = λ t q g. row t q (k.rows t q g);
+  read = k.read;
+  calm = k.calm;
+}
   where
     row : (t : TxId) (q : Request) → RowHow run before after pre n s t q → RowHow run before after (pre ++ e ∷ []) n s t q
     row t q r = record { votes = votes_mono (others s.shard q.touched) (Took pre n t) (Took (pre ++ e ∷ []) n t) q.votes (took_more pre e n t) r.votes; state = state_more run before after pre e n s t q.state r.state }
@@ -131,13 +130,12 @@ abbrev pub AtEntry : ℕ → List (List LogRecord) → List (List LogRecord) →
 AtEntry run before after pre e s t = Within (Ended run (pre ++ e ∷ [])) (Took (pre ++ e ∷ []) e.0) (Fallen before after (pre ++ e ∷ []) e.0) s t
 
 pub enters : (run : ℕ) (before after : List (List LogRecord)) (pre : History) (e : Placed) (s : Shard) → Caused run before after pre e.0 s → AtEntry run before after pre e s s
-enters run before after pre e s k =
-    record {
-      linked = inl (λ a b x. x);
-      gone = λ t d g. inl g;
-      rows = λ t q g. row t q (k.rows t q g);
-      read = k.read;
-    }
+enters run before after pre e s k = record {
+  linked = inl (λ a b x. x);
+  gone = λ t d g. inl g;
+  rows = λ t q g. row t q (k.rows t q g);
+  read = k.read;
+}
   where
     new : History
     new = pre ++ e ∷ []
@@ -163,13 +161,12 @@ take_more (x ∷ xs) e = ap (λ z. x ∷ z) (take_more xs e)
 -- the shard after the entry is this one, with the entry noted
 pub leaves : (run : ℕ) (before after : List (List LogRecord)) (pre : History) (e : Placed) (u : Shard) (stamp walker : ℕ) (ev : Event) (o : Outcome) → state_at before after e.0 (pre ++ e ∷ []) ≡ with_entry stamp walker ev o u → Caused run before after pre e.0 (state_at before after e.0 pre)
     → IsCalm u → AtEntry run before after pre e (state_at before after e.0 pre) u → Caused run before after (pre ++ e ∷ []) e.0 (with_entry stamp walker ev o u)
-leaves run before after pre e u stamp walker ev o q k c w =
-    record {
-      gone = λ t d g. how t d g (w.gone t d g);
-      rows = λ t r g. row t r (w.rows t r g);
-      read = w.read;
-      calm = c;
-    }
+leaves run before after pre e u stamp walker ev o q k c w = record {
+  gone = λ t d g. how t d g (w.gone t d g);
+  rows = λ t r g. row t r (w.rows t r g);
+  read = w.read;
+  calm = c;
+}
   where
     new : History
     new = pre ++ e ∷ []
@@ -224,13 +221,12 @@ restored_closed [] = tt
 restored_closed (t ∷ ts) = (refl, restored_closed ts)
 
 pub caused_restored : (run : ℕ) (before after : List (List LogRecord)) (pre : History) (n shard r epoch last : ℕ) (log : List LogRecord) (journal : List Entry) → Caused run before after pre n (state_after shard r epoch log last journal)
-caused_restored run before after pre n shard r epoch last log journal =
-    record {
-      gone = λ t d g. absurd (no_doom t d g);
-      rows = λ t q g. row t q (restored t q g);
-      read = λ t v g e. absurd (none_some Read (sym (rows_get (λ x. (x.1).vote ≡ None) t v s.voters (restored_votes (homes_of log (in_doubt shard log))) g) ∙ e));
-      calm = λ t q g e. absurd (decided q (restored t q g) e);
-    }
+caused_restored run before after pre n shard r epoch last log journal = record {
+  gone = λ t d g. absurd (no_doom t d g);
+  rows = λ t q g. row t q (restored t q g);
+  read = λ t v g e. absurd (none_some Read (sym (rows_get (λ x. (x.1).vote ≡ None) t v s.voters (restored_votes (homes_of log (in_doubt shard log))) g) ∙ e));
+  calm = λ t q g e. absurd (decided q (restored t q g) e);
+}
   where
     s : Shard
     s = state_after shard r epoch log last journal
@@ -255,8 +251,7 @@ caused_restored run before after pre n shard r epoch last log journal =
             differ z = absurd cc
 
     row : (t : TxId) (q : Request) → IsRestored q → RowHow run before after pre n s t q
-    row t q (v, (ps, f)) =
-        record {
-          votes = subst (λ z. VotesFit (others s.shard q.touched) (Took pre n t) z) (sym v) tt;
-          state = subst (StateHow run before after pre n s t) (sym f) tt;
-        }
+    row t q (v, (ps, f)) = record {
+      votes = subst (λ z. VotesFit (others s.shard q.touched) (Took pre n t) z) (sym v) tt;
+      state = subst (StateHow run before after pre n s t) (sym f) tt;
+    }

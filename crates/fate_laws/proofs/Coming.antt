@@ -62,15 +62,14 @@ an_op t b ep (OpEvent tx birth nth seen op) (Answered answer epoch) q = at (tx_s
     epochs p r z = ap (λ w. w.1) (some_same p r z)
 
     at : (c : Bool) → tx_same t tx ≡ c → ◌≡◌ {A = Option (Birth × ℕ)} (cond c (Some (birth, epoch)) None) (Some (b, ep)) → AnOp t b ep (OpEvent tx birth nth seen op) (Answered answer epoch)
-    at true s z =
-        record {
-          nth = nth;
-          seen = seen;
-          op = op;
-          answer = answer;
-          event = ap (λ u. OpEvent u birth nth seen op) (sym (tx_true t tx s)) ∙ ap (λ u. OpEvent t u nth seen op) (births (birth, epoch) (b, ep) z);
-          outcome = ap (Answered answer) (epochs (birth, epoch) (b, ep) z);
-        }
+    at true s z = record {
+      nth = nth;
+      seen = seen;
+      op = op;
+      answer = answer;
+      event = ap (λ u. OpEvent u birth nth seen op) (sym (tx_true t tx s)) ∙ ap (λ u. OpEvent t u nth seen op) (births (birth, epoch) (b, ep) z);
+      outcome = ap (Answered answer) (epochs (birth, epoch) (b, ep) z);
+    }
     at false s z = absurd (none_some _ z)
 an_op t b ep (OpEvent tx birth nth seen op) _ q = absurd (none_some _ q)
 an_op t b ep _ o q = absurd (none_some _ q)
@@ -149,11 +148,11 @@ comes_of run h n s k =
     }
 
 pub all_comes_of_entries : AllComesOfEntries
-all_comes_of_entries splits before h after so_far rest n l q i = comes_of (run_after before) so_far n _ ((traced_front splits before after h so_far rest l q).states n i)
+all_comes_of_entries splits before h after so_far rest n l q i = comes_of (run_after before) so_far n _ ((traced_front l so_far rest q).states n i)
 
 pub prepares_come_of_requests : PreparesComeOfRequests
 prepares_come_of_requests splits before h after so_far rest n e to home seen stamp t l q v =
-    let w = traced_front splits before after h so_far ((n, e) ∷ rest) l q in
+    let w = traced_front l so_far ((n, e) ∷ rest) q in
     let x = next_entry splits before after h so_far (n, e) rest l.legal q in
     let b = brought splits before after h so_far (n, e) x.behind w (Deliver (Prepare to t home seen) stamp) (subst (WasSent so_far) v x.sent) in
     (was_asked_at so_far home t b.0, b.1)

@@ -1,5 +1,5 @@
 -- What is decided once is decided for good, and who is committed anywhere is a member.
-use Rattle.std.proofs.Common.{◌≡◌, inl, inr, ⊎_elim, sym, ap, subst, ◌∙◌, ℕ, ◌<◌, true, false, cond, Bool, ◌||◌, List, [], ◌∷◌, map, Option, Some, None, arith}
+use Rattle.std.proofs.Common.{◌≡◌, inl, inr, ⊎_elim, sym, ap, subst, ◌∙◌, ℕ, ◌<◌, true, false, cond, Bool, ◌||◌, List, [], ◌∷◌, map, Option, Some, None}
 use Rattle.std.proofs.lemmas.Bool.{both_ways, or_left, or_right, false_from_ne_true}
 use Rattle.clv_base.specs.declared.names.TxId.{TxId}
 use Rattle.clv_base.specs.declared.logs.LogRecord.{LogRecord}
@@ -49,7 +49,7 @@ is_home h tx n (r, ts, i, a) = (r, ts, among_is n r h i, a.0, a.1)
 
 pub commits_stand_at_home : CommitsStandAtHome
 commits_stand_at_home splits before h after choice n tx l i r c =
-    let f = fated splits before after h l in
+    let f = fated l in
     ⊎_elim
     (λ a. let e = (f.counts).shard n i in (n, is_home h tx n (subst (AskedIn h tx) e a), c))
     (λ k. (k.0, is_home h tx k.0 k.1, durable_left splits before h after choice k.0 tx (home_in splits before after h tx k.0 l.legal k.1) f k.2))
@@ -62,7 +62,7 @@ told splits before after h tx commit f (n, e, to, home, i, o) = f.said (n, e) (i
 
 pub told_commits_stay : ToldCommitsStay
 told_commits_stay splits before h after choice home tx l r t (b, us, j, q, o) =
-    let f = fated splits before after h l in
+    let f = fated l in
     let k : Known (AskedIn h) (DurableIn before after h) tx = subst (Said before after h) t.5 (told splits before after h tx true f t) r in
     let e = one_home splits before after h tx k.0 home (k.1).0 b (k.1).1 us l.legal (k.1).2 (k.1).3 (is_among home b h j) (q, o) in
     subst (λ n. committed_in (log_of (logs_left splits before h after choice) n) tx ≡ true) e (durable_left splits before h after choice k.0 tx (home_in splits before after h tx k.0 l.legal k.1) f k.2)
@@ -71,7 +71,7 @@ pub told_aborts_stay : ToldAbortsStay
 told_aborts_stay splits before h after choice n tx l i r t =
     false_from_ne_true _
     (λ c.
-    let f = fated splits before after h l in
+    let f = fated l in
     let d = subst (Said before after h) t.5 (told splits before after h tx false f t) r in
     let k = commits_stand_at_home splits before h after choice n tx l i r c in
     let a = d.0 in

@@ -1,6 +1,6 @@
 -- What a shard did, by one entry more.
 use Rattle.std.proofs.Common.{◌≡◌, inl, inr, ⊎_elim, refl, ap, ◌∙◌, ℕ, true, false, cond, Bool, List, [], ◌∷◌, ◌++◌, Option, Some, None, ◌==◌}
-use Rattle.std.proofs.lemmas.Bool.{both_ways, or_cases, eq-eqb}
+use Rattle.std.proofs.lemmas.Bool.{both_ways, or_cases, eq-eqb, or_left, or_right}
 use Rattle.clv_base.specs.declared.names.TxId.{TxId}
 use Rattle.clv_base.specs.declared.logs.LogRecord.{LogRecord}
 use Rattle.clv_base.specs.declared.events.Event.TheVariants.{Request as RequestEvent}
@@ -11,7 +11,6 @@ use Rattle.clv_base.specs.State.{Shard}
 use Rattle.clv_base.specs.Journals.{History, journal_of, start_of, after_entry, after_entries}
 use Rattle.clv_base.specs.History.{request_of, state_before}
 use Rattle.clv_base.proofs.SameNames.{tx_true, tx_self}
-use Rattle.std.proofs.lemmas.Bool.{or_left, or_right}
 use Rattle.history_cases.proofs.Merging.{Placed, Among}
 use Rattle.history_cases.proofs.Telling.{IsRequest}
 use Rattle.history_laws.proofs.Staying.{is_request}

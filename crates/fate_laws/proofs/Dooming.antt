@@ -184,12 +184,11 @@ kept_due s _ (rules u q (CommitVerdict parts) g e) p =
       gone = λ v d x. commit_apart s u v d parts w.0 p x;
       rows = set_rows s (s.local.log ++ Commit u parts ∷ []) u (ruled_request (CommitVerdict parts) q) tt (λ v n c. ⊎_elim (λ a. a) (λ a. absurd (n a)) (new_commit s.local.log u parts v c)) p;
     }
-kept_due s _ (rules u q Acknowledge g e) p =
-    record {
-      down = down_due s _ (rules u q Acknowledge g e) p.down;
-      gone = λ v d x. p.gone v d (finished_back u v d s.local.parts x);
-      rows = set_rows s s.local.log u (ruled_request Acknowledge q) tt (λ v n c. c) p;
-    }
+kept_due s _ (rules u q Acknowledge g e) p = record {
+  down = down_due s _ (rules u q Acknowledge g e) p.down;
+  gone = λ v d x. p.gone v d (finished_back u v d s.local.parts x);
+  rows = set_rows s s.local.log u (ruled_request Acknowledge q) tt (λ v n c. c) p;
+}
 kept_due s _ (rules u q (AbortVerdict cause to) g e) p =
     let o = refused_open s u q cause to p g e in
     record {
@@ -197,10 +196,9 @@ kept_due s _ (rules u q (AbortVerdict cause to) g e) p =
       gone = λ v d x. gone_rolled s u v d o p x;
       rows = set_rows s (roll_back u s.local).log u (ruled_request (AbortVerdict cause to) q) (still_not (committed_in s.local.log u) (committed_in (roll_back u s.local).log u) (rolled u s.local u) o) (λ v n c. rolled u s.local v c) p;
     }
-kept_due s _ (rules u q EndVerdict g e) p =
-    record {
-      down = down_due s _ (rules u q EndVerdict g e) p.down;
-      gone = λ v d x. still_not (committed_in s.local.log v) _ (with_more s.local.log (End u ∷ []) ((λ t. refl), tt) v) (p.gone v d x);
-      rows = set_rows s (s.local.log ++ End u ∷ []) u (ruled_request EndVerdict q) (row_log s.local.log (s.local.log ++ End u ∷ []) u (record q { is_ended = true }) q.state (with_more s.local.log (End u ∷ []) ((λ t. refl), tt) u) (ended_keeps s.local.log u q q.state (rows_got s u q p g)))
-          (λ v n c. with_more s.local.log (End u ∷ []) ((λ t. refl), tt) v c) p;
-    }
+kept_due s _ (rules u q EndVerdict g e) p = record {
+  down = down_due s _ (rules u q EndVerdict g e) p.down;
+  gone = λ v d x. still_not (committed_in s.local.log v) _ (with_more s.local.log (End u ∷ []) ((λ t. refl), tt) v) (p.gone v d x);
+  rows = set_rows s (s.local.log ++ End u ∷ []) u (ruled_request EndVerdict q) (row_log s.local.log (s.local.log ++ End u ∷ []) u (record q { is_ended = true }) q.state (with_more s.local.log (End u ∷ []) ((λ t. refl), tt) u) (ended_keeps s.local.log u q q.state (rows_got s u q p g)))
+      (λ v n c. with_more s.local.log (End u ∷ []) ((λ t. refl), tt) v c) p;
+}

@@ -37,9 +37,7 @@ use Rattle.clv_base.specs.Journals.{up_to_restart}
 use Rattle.clv_base.proofs.SameNames.{tx_true, tx_self}
 use Rattle.law_base.proofs.Changed.{some_same, get_set}
 use Rattle.law_base.proofs.Tables.{stage_by, stage_in, get_put}
-use Rattle.law_base.proofs.Stages.{stage_closed, closed_other, written_parts}
-use Rattle.law_base.proofs.Stages.{stage_marked}
-use Rattle.law_base.proofs.Stages.{other_part}
+use Rattle.law_base.proofs.Stages.{stage_closed, closed_other, written_parts, stage_marked, other_part}
 use Rattle.shard_laws.proofs.Restoring.{restored_stage}
 use Rattle.history_laws.proofs.Replying.{OpIs, dies, rolls, performs, reply_is}
 use Rattle.history_cases.proofs.Stepping.{settled, Step, op_dies, op_answers, request_new, request_closes, drops, prepare_closes, vote_counts, decision_comes, done_counts, Happens, finishes, stops}
@@ -248,12 +246,11 @@ kept_finish : (s : Shard) → Kept s → Kept (finish s)
 kept_finish s p = let q = settled Kept s kept_due p in record { down = q.down; gone = q.gone; rows = q.rows }
 
 pub kept_state : (shard own epoch : ℕ) (log : List LogRecord) (last : ℕ) (journal : List Entry) → Kept (state_after shard own epoch log last journal)
-kept_state shard own epoch log last journal =
-    record {
-      down = down_state shard own epoch log last journal;
-      gone = λ v d h. absurd (differ d (restored_stage (in_doubt shard log) v (Gone (Some d)) h).0);
-      rows = λ v q g. rows_get (λ r. RowKeeps log r.0 r.1 (r.1).state) v q (restored_requests (unended_in log log)) (all_map _ (λ n. (n.0, restored_request n.1)) (unended_in log log) (λ n. tt)) g;
-    }
+kept_state shard own epoch log last journal = record {
+  down = down_state shard own epoch log last journal;
+  gone = λ v d h. absurd (differ d (restored_stage (in_doubt shard log) v (Gone (Some d)) h).0);
+  rows = λ v q g. rows_get (λ r. RowKeeps log r.0 r.1 (r.1).state) v q (restored_requests (unended_in log log)) (all_map _ (λ n. (n.0, restored_request n.1)) (unended_in log log) (λ n. tt)) g;
+}
   where
     differ : (d : TxId) → Gone (Some d) ≡ Closed → ⊥
     differ d z = absurd cc

@@ -147,11 +147,11 @@ lowered_next splits before after h pre e w k =
           (down_made (log_of after e.0) s _ (makes (log_of after e.0) s (e.1).event (e.1).outcome ((w.split).enters).event) (owed splits before after h pre e (e.1).event refl w k.bindings) (k.down e.0 w.inside))) n (k.down n i);
     }
 
-pub lowered_front : (splits : List ℕ) (before after : List (List LogRecord)) (h pre post : History) → LegalFrom splits before h after → pre ++ post ≡ h → Lowered splits before after h pre
-lowered_front splits before after h pre post l q =
+pub lowered_front : {splits : List ℕ} {before after : List (List LogRecord)} {h : History} → LegalFrom splits before h after → (pre post : History) → pre ++ post ≡ h → Lowered splits before after h pre
+lowered_front {splits} {before} {after} {h} l pre post q =
     walk_front (Lowered splits before after h) splits before after h [] pre post l.legal q (lowered_next splits before after h)
-    (record { bindings = bindings_start splits before after h l; down = λ n i. down_state n (run_after before) 0 (log_after_restart n (log_of before n) (run_after before) 0) 0 [] })
+    (record { bindings = bindings_start l; down = λ n i. down_state n (run_after before) 0 (log_after_restart n (log_of before n) (run_after before) 0) 0 [] })
 
 pub commits_go_downwards : CommitsGoDownwards
 commits_go_downwards splits before so_far later after n tx p l i c j =
-    (lowered_front splits before after (so_far ++ later) so_far later l refl).down n i tx p c (in_pair (state_at before after n so_far).local.pairs tx p j)
+    (lowered_front l so_far later refl).down n i tx p c (in_pair (state_at before after n so_far).local.pairs tx p j)

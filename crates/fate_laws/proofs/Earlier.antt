@@ -23,15 +23,15 @@ told splits before after h tx commit f (n, e, to, home, i, o) = f.said (n, e) (i
 
 pub earlier_commits_are_of_opening : EarlierCommitsAreOfOpening
 earlier_commits_are_of_opening splits before so_far later after n tx l i r c =
-    others before tx r (((elders_front splits before after _ so_far later l refl).elder n i).log tx c)
+    others before tx r (((elders_front l so_far later refl).elder n i).log tx c)
 
 pub earlier_commits_are_known : EarlierCommitsAreKnown
 earlier_commits_are_known splits before h after tx l r t =
-    others before tx r (subst (Says before) t.5 (told splits before after h tx true (elders_front splits before after h h [] l (append-nil h)) t))
+    others before tx r (subst (Says before) t.5 (told splits before after h tx true (elders_front l h [] (append-nil h)) t))
 
 pub earlier_aborts_are_known : EarlierAbortsAreKnown
 earlier_aborts_are_known splits before h after tx l r t c =
-    others before tx r (subst (Says before) t.5 (told splits before after h tx false (elders_front splits before after h h [] l (append-nil h)) t)) c
+    others before tx r (subst (Says before) t.5 (told splits before after h tx false (elders_front l h [] (append-nil h)) t)) c
 
 pub aborts_stay : AbortsStay
 aborts_stay splits before h after choice n tx l i t = at (tx.run == run_after before) refl
@@ -40,7 +40,7 @@ aborts_stay splits before h after choice n tx l i t = at (tx.run == run_after be
     earlier r =
         false_from_ne_true _
         (λ c. earlier_aborts_are_known splits before h after tx l r t
-        (others before tx r (((elders_front splits before after h h [] l (append-nil h)).elder n i).log tx (left_committed splits before h after choice n tx i c))))
+        (others before tx r (((elders_front l h [] (append-nil h)).elder n i).log tx (left_committed splits before h after choice n tx i c))))
 
     at : (b : Bool) → (tx.run == run_after before) ≡ b → committed_in (log_of (logs_left splits before h after choice) n) tx ≡ false
     at true e = told_aborts_stay splits before h after choice n tx l i (eqb-true tx.run (run_after before) e) t

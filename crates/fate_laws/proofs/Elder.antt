@@ -79,24 +79,22 @@ module _ (R O : TxId → Type 0) (H : ℕ → TxId → Type 0) where
 
   -- a COMMIT is written, or a PREPARE
   pub elder_commit : (s : Shard) (l : Local) (tx : TxId) (parts : List ℕ) → l.log ≡ s.local.log ++ Commit tx parts ∷ [] → MayHave R O tx → Elder R O H s → Elder R O H (record s { local = l })
-  elder_commit s l tx parts e a p =
-      record {
-        log = λ u h. ⊎_elim (λ b. p.log u b) (λ q. subst (MayHave R O) (sym q) a) (new_commit s.local.log tx parts u (subst (λ x. committed_in x u ≡ true) e h));
-        prepares = λ u q h. p.prepares u q (plain_more s.local.log (Commit tx parts ∷ []) ((λ v. refl), tt) u q (subst (λ x. prepare_of x u ≡ Some q) e h));
-        voters = p.voters;
-        rows = p.rows;
-        out = p.out;
-      }
+  elder_commit s l tx parts e a p = record {
+    log = λ u h. ⊎_elim (λ b. p.log u b) (λ q. subst (MayHave R O) (sym q) a) (new_commit s.local.log tx parts u (subst (λ x. committed_in x u ≡ true) e h));
+    prepares = λ u q h. p.prepares u q (plain_more s.local.log (Commit tx parts ∷ []) ((λ v. refl), tt) u q (subst (λ x. prepare_of x u ≡ Some q) e h));
+    voters = p.voters;
+    rows = p.rows;
+    out = p.out;
+  }
 
   pub elder_prepare : (s : Shard) (l : Local) (tx : TxId) (home : ℕ) (us : List TxId) → l.log ≡ s.local.log ++ PrepareRecord tx home us ∷ [] → R tx → Elder R O H s → Elder R O H (record s { local = l })
-  elder_prepare s l tx home us e a p =
-      record {
-        log = λ u h. p.log u (with_more s.local.log (PrepareRecord tx home us ∷ []) ((λ t. refl), tt) u (subst (λ x. committed_in x u ≡ true) e h));
-        prepares = λ u q h. ⊎_elim (λ b. p.prepares u q b) (λ b. inl (subst R (sym b.0) a)) (prepare_new s.local.log tx home us u q (subst (λ x. prepare_of x u ≡ Some q) e h));
-        voters = p.voters;
-        rows = p.rows;
-        out = p.out;
-      }
+  elder_prepare s l tx home us e a p = record {
+    log = λ u h. p.log u (with_more s.local.log (PrepareRecord tx home us ∷ []) ((λ t. refl), tt) u (subst (λ x. committed_in x u ≡ true) e h));
+    prepares = λ u q h. ⊎_elim (λ b. p.prepares u q b) (λ b. inl (subst R (sym b.0) a)) (prepare_new s.local.log tx home us u q (subst (λ x. prepare_of x u ≡ Some q) e h));
+    voters = p.voters;
+    rows = p.rows;
+    out = p.out;
+  }
 
   -- messages are put into the outbox
   pub elder_send : (s : Shard) (ms : List Message) → AllByRecursion (Tells R O H) ms → Elder R O H s → Elder R O H (send ms s)
@@ -129,14 +127,13 @@ module _ (R O : TxId → Type 0) (H : ℕ → TxId → Type 0) where
   elder_reader s tx (No why) p = p
 
   elder_vote : (s : Shard) (tx : TxId) (v : Voter) (vote : Vote) → tx_get tx s.voters ≡ Some v → Elder R O H s → Elder R O H (with_vote s tx v vote)
-  elder_vote s tx v vote g p =
-      record {
-        log = p.log;
-        prepares = p.prepares;
-        voters = rows_set (λ r. MayAnswer R O H r.0 (r.1).home) tx (voted vote v) s.voters (rows_get (λ r. MayAnswer R O H r.0 (r.1).home) tx v s.voters p.voters g) p.voters;
-        rows = p.rows;
-        out = all_append (Tells R O H) s.outbox (VoteMessage v.home tx s.shard vote ∷ []) p.out (tt, tt);
-      }
+  elder_vote s tx v vote g p = record {
+    log = p.log;
+    prepares = p.prepares;
+    voters = rows_set (λ r. MayAnswer R O H r.0 (r.1).home) tx (voted vote v) s.voters (rows_get (λ r. MayAnswer R O H r.0 (r.1).home) tx v s.voters p.voters g) p.voters;
+    rows = p.rows;
+    out = all_append (Tells R O H) s.outbox (VoteMessage v.home tx s.shard vote ∷ []) p.out (tt, tt);
+  }
 
   elder_ruling : (s : Shard) (tx : TxId) (q : Request) (r : Ruling) → tx_get tx s.requests ≡ Some q → ruling_by s.shard tx q (facts_of s tx) ≡ Some r → Elder R O H s → Elder R O H (do_ruling tx r (with_ruling tx q r s))
   elder_ruling s tx q (CommitVerdict parts) g e p =

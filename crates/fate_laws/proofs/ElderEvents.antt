@@ -71,15 +71,14 @@ module _ (R O : TxId → Type 0) (H : ℕ → TxId → Type 0) where
   home_of tx home seen (Some v) a k = k v refl
 
   elder_owe : (s : Shard) (tx : TxId) (home seen : ℕ) → R tx → Elder R O H s → Elder R O H (owe_vote tx home seen s)
-  elder_owe s tx home seen a p =
-      record {
-        log = p.log;
-        prepares = p.prepares;
-        voters = rows_put (λ r. MayAnswer R O H r.0 (r.1).home) tx (asked_voter home seen (tx_get tx s.voters)) s.voters
-            (home_of tx home seen (tx_get tx s.voters) a (λ v g. rows_get (λ r. MayAnswer R O H r.0 (r.1).home) tx v s.voters p.voters g)) p.voters;
-        rows = p.rows;
-        out = p.out;
-      }
+  elder_owe s tx home seen a p = record {
+    log = p.log;
+    prepares = p.prepares;
+    voters = rows_put (λ r. MayAnswer R O H r.0 (r.1).home) tx (asked_voter home seen (tx_get tx s.voters)) s.voters
+        (home_of tx home seen (tx_get tx s.voters) a (λ v g. rows_get (λ r. MayAnswer R O H r.0 (r.1).home) tx v s.voters p.voters g)) p.voters;
+    rows = p.rows;
+    out = p.out;
+  }
 
   -- ---- decisions, and questions
 

@@ -21,6 +21,7 @@ use Rattle.protocol_laws.specs.SessionLaws.{tx_of}
 use Rattle.history_cases.proofs.Entering.{Makes, makes}
 use Rattle.history_cases.proofs.Merging.{Placed, Among, among_append, is_among}
 use Rattle.history_laws.specs.Openings.{LegalFrom}
+use Rattle.history_laws.proofs.Found.{log_found}
 use Rattle.history_laws.proofs.Staying.{walker_of}
 use Rattle.history_cases.proofs.TellingEvents.{front_committed}
 use Rattle.history_cases.proofs.Worlds.{state_at}
@@ -91,13 +92,12 @@ module _ (splits : List ℕ) (before after : List (List LogRecord)) (h pre : His
       (λ u c. found_there splits before after pre e.0 u f (subst (λ n. WasCommittedOn before n u) (w.split).shard c)) made (owed splits before after h pre e (e.1).event refl w f w.sent) (f.elder e.0 w.inside)))
 
   pub elders_next : Elders splits before after (pre ++ e ∷ [])
-  elders_next =
-      record {
-        counts = counts_next splits before after h pre e w f.counts;
-        elder = λ n i. each_shard (λ m s. ElderAt before s) before after e pre elder_here n (f.elder n i);
-        said = λ x i. ⊎_elim (λ j. f.said x j) (λ j. last x j) (among_append x pre (e ∷ []) i);
-        stays = λ n tx d. durable_later splits before after h pre e w f.counts n tx (f.stays n tx d);
-      }
+  elders_next = record {
+    counts = counts_next splits before after h pre e w f.counts;
+    elder = λ n i. each_shard (λ m s. ElderAt before s) before after e pre elder_here n (f.elder n i);
+    said = λ x i. ⊎_elim (λ j. f.said x j) (λ j. last x j) (among_append x pre (e ∷ []) i);
+    stays = λ n tx d. durable_later splits before after h pre e w f.counts n tx (f.stays n tx d);
+  }
     where
       last : (x : Placed) → Among x (e ∷ []) → Says before (x.1).outcome
       last x (inl q) =
@@ -107,16 +107,15 @@ module _ (splits : List ℕ) (before after : List (List LogRecord)) (h pre : His
 
 -- ---- the whole front
 
-pub elders_start : (splits : List ℕ) (before after : List (List LogRecord)) (h : History) → LegalFrom splits before h after → Elders splits before after []
-elders_start splits before after h l =
-    record {
-      counts = counts_start splits before after;
-      elder = λ n i.
-          let k : n < length before = let e = l.legal.each_log.0 in omega (arith, e, i) in
-          elder_opened (OfRun before) (WasCommitted before) (WasCommittedOn before) n (run_after before) (log_of before n) (λ t c. inr (n, c)) (λ t p e. inr (λ c. opening_home splits before t c.0 n p l.opens c.1 k e));
-      said = λ x i. elim i [ ];
-      stays = λ n tx d. d;
-    }
+module _ {splits : List ℕ} {before after : List (List LogRecord)} {h : History} (l : LegalFrom splits before h after) where
+  pub elders_start : Elders splits before after []
+  elders_start = record {
+    counts = counts_start splits before after;
+    elder = λ n i.
+        elder_opened (OfRun before) (WasCommitted before) (WasCommittedOn before) n (run_after before) (log_of before n) (λ t c. inr (n, c)) (λ t p e. inr (λ c. opening_home splits before t c.0 n p l.opens c.1 (log_found l n i) e));
+    said = λ x i. elim i [ ];
+    stays = λ n tx d. d;
+  }
 
-pub elders_front : (splits : List ℕ) (before after : List (List LogRecord)) (h pre post : History) → LegalFrom splits before h after → pre ++ post ≡ h → Elders splits before after pre
-elders_front splits before after h pre post l q = walk_front (Elders splits before after) splits before after h [] pre post l.legal q (λ f e w k. elders_next splits before after h f e w k) (elders_start splits before after h l)
+  pub elders_front : (pre post : History) → pre ++ post ≡ h → Elders splits before after pre
+  elders_front pre post q = walk_front (Elders splits before after) splits before after h [] pre post l.legal q (elders_next splits before after h) elders_start

@@ -53,15 +53,14 @@ opens_mono A A' shard tx (Refused cause) a p = tt
 
 pub homed_mono : (run : ℕ) (A A' Z Z' : TxId → ℕ → Type 0) (K K' : ℕ → TxId → Type 0) (D D' : TxId → Type 0) (s : Shard) → ((u : TxId) (n : ℕ) → A u n → A' u n) → ((u : TxId) (n : ℕ) → Z u n → Z' u n) → ((n : ℕ) (u : TxId) → K n u → K' n u)
     → ((u : TxId) → D' u → (u.run ≡ run) × Z' u s.shard × Dead s u) → Homed run A Z K D s → Homed run A' Z' K' D' s
-homed_mono run A A' Z Z' K K' D D' s a z k d p =
-    record {
-      log = λ u h r. ⊎_elim (λ b. inl (a u s.shard b)) (λ b. inr (b.0, a u b.0 b.1, k b.0 u b.2)) (p.log u h r);
-      prepares = λ u x h r. a u x.0 (p.prepares u x h r);
-      voters = all_mono (λ r. (r.0).run ≡ run → A r.0 (r.1).home) (λ r. (r.0).run ≡ run → A' r.0 (r.1).home) (λ r f e. a r.0 (r.1).home (f e)) s.voters p.voters;
-      requests = λ u q g r. alone_mono A A' s u q q.state a (p.requests u q g r);
-      rows = all_mono (λ r. (r.0).run ≡ run → Opens A s.shard r.0 (r.1).state) (λ r. (r.0).run ≡ run → Opens A' s.shard r.0 (r.1).state) (λ r f e. opens_mono A A' s.shard r.0 (r.1).state a (f e)) s.requests p.rows;
-      words = record { out = all_mono (Tells run A Z K s) (Tells run A' Z' K' s) (λ m. tells_mono run A A' Z Z' K K' s m a z k) s.outbox (p.words).out; dead = d };
-    }
+homed_mono run A A' Z Z' K K' D D' s a z k d p = record {
+  log = λ u h r. ⊎_elim (λ b. inl (a u s.shard b)) (λ b. inr (b.0, a u b.0 b.1, k b.0 u b.2)) (p.log u h r);
+  prepares = λ u x h r. a u x.0 (p.prepares u x h r);
+  voters = all_mono (λ r. (r.0).run ≡ run → A r.0 (r.1).home) (λ r. (r.0).run ≡ run → A' r.0 (r.1).home) (λ r f e. a r.0 (r.1).home (f e)) s.voters p.voters;
+  requests = λ u q g r. alone_mono A A' s u q q.state a (p.requests u q g r);
+  rows = all_mono (λ r. (r.0).run ≡ run → Opens A s.shard r.0 (r.1).state) (λ r. (r.0).run ≡ run → Opens A' s.shard r.0 (r.1).state) (λ r f e. opens_mono A A' s.shard r.0 (r.1).state a (f e)) s.requests p.rows;
+  words = record { out = all_mono (Tells run A Z K s) (Tells run A' Z' K' s) (λ m. tells_mono run A A' Z Z' K K' s m a z k) s.outbox (p.words).out; dead = d };
+}
 
 -- ---- what is durable stands in the front
 

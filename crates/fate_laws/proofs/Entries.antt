@@ -45,6 +45,7 @@ use Rattle.protocol_laws.proofs.LogsInOrder.{runs_in_order}
 use Rattle.protocol_laws.specs.Order.{RunFits}
 use Rattle.history_cases.proofs.Worlds.{state_at}
 use Rattle.history_laws.specs.Openings.{LegalFrom}
+use Rattle.history_laws.proofs.Found.{log_found}
 use Rattle.history_laws.proofs.SessionWalking.{SeenIs, AnswersAt}
 use Rattle.history_laws.proofs.Replying.{OpIs, performs, reply_is, answered_epoch}
 use Rattle.history_laws.proofs.Walking.{Behind, Walked, Steps, walked_front}
@@ -114,15 +115,14 @@ other_entry pre x y n d i e = at (among_append y pre (x ∷ []) i)
     at (inr (inr q)) = elim q [ ]
 
 traced_other : (run : ℕ) (pre : History) (x : Placed) (n : ℕ) (s : Shard) → (x.0 == n) ≡ false → Traced run pre n s → Traced run (pre ++ x ∷ []) n s
-traced_other run pre x n s d k =
-    record {
-      run_is = k.run_is;
-      counted = k.counted;
-      origins = from_known n s.local.epoch _ _ _ _ (DidNow pre n s.local.epoch) (DidNow (pre ++ x ∷ []) n s.local.epoch) s
-          (λ t w. let y = w.1 in (k.origins).known t (w.0, (y.0, other_entry pre x y.0 n d y.1 y.2, y.2, y.3)))
-          (raised run pre x n s.local.epoch (DidNow pre n s.local.epoch) s k.origins);
-      epochs = λ y t b nth seen op a m i e f g. k.epochs y t b nth seen op a m (other_entry pre x y n d i e) e f g;
-    }
+traced_other run pre x n s d k = record {
+  run_is = k.run_is;
+  counted = k.counted;
+  origins = from_known n s.local.epoch _ _ _ _ (DidNow pre n s.local.epoch) (DidNow (pre ++ x ∷ []) n s.local.epoch) s
+      (λ t w. let y = w.1 in (k.origins).known t (w.0, (y.0, other_entry pre x y.0 n d y.1 y.2, y.2, y.3)))
+      (raised run pre x n s.local.epoch (DidNow pre n s.local.epoch) s k.origins);
+  epochs = λ y t b nth seen op a m i e f g. k.epochs y t b nth seen op a m (other_entry pre x y n d i e) e f g;
+}
 
 -- ---- the entry of a shard that was up
 
@@ -375,16 +375,16 @@ old_log splits before n m l =
     let d = none_of (disorder (0 + n) (log_of before n)) (and_parts (list_all (passes_file_rules splits (0 + n)) (log_of before n)) _ q).1 in
     all_mono (RunFits (greatest_run (log_of before n))) _ (λ r. old_record (greatest_run (log_of before n)) (run_after before) n (DidAny [] n) (Requested []) r (below_next_run before n)) (log_of before n) (runs_in_order (0 + n) (log_of before n) d)
 
-pub traced_opens : (splits : List ℕ) (before after : List (List LogRecord)) (h : History) → LegalFrom splits before h after → (n : ℕ) → n < shard_count splits → Traced (run_after before) [] n (start_of before n)
-traced_opens splits before after h l n i =
-    record {
-      run_is = refl;
-      counted = opened_counted n (run_after before) (log_of before n);
-      origins = from_opened n (run_after before) (Did [] n 0) (DidOrOld (run_after before) [] n) (Requested []) (IsOld (run_after before)) (DidNow [] n 0) (log_of before n) (λ t d. elim (d.1).1 [ ])
-          (old_log splits before n l.opens (let e = l.legal.each_log.0 in omega (arith, e, i)));
-      epochs = λ y t b nth seen op a k j. elim j [ ];
-    }
+module _ {splits : List ℕ} {before after : List (List LogRecord)} {h : History} (l : LegalFrom splits before h after) where
+  pub traced_opens : (n : ℕ) → n < shard_count splits → Traced (run_after before) [] n (start_of before n)
+  traced_opens n i = record {
+    run_is = refl;
+    counted = opened_counted n (run_after before) (log_of before n);
+    origins = from_opened n (run_after before) (Did [] n 0) (DidOrOld (run_after before) [] n) (Requested []) (IsOld (run_after before)) (DidNow [] n 0) (log_of before n) (λ t d. elim (d.1).1 [ ])
+        (old_log splits before n l.opens (log_found l n i));
+    epochs = λ y t b nth seen op a k j. elim j [ ];
+  }
 
--- along each front of a legal history
-pub traced_front : (splits : List ℕ) (before after : List (List LogRecord)) (h pre rest : History) → LegalFrom splits before h after → pre ++ rest ≡ h → Walked (Traced (run_after before)) (Says (run_after before) h) splits before after pre
-traced_front splits before after h pre rest l q = walked_front (Traced (run_after before)) (Says (run_after before) h) splits before after h pre rest l.legal q (traced_opens splits before after h l) (traced_steps splits before after h l.legal)
+  -- along each front of a legal history
+  pub traced_front : (pre rest : History) → pre ++ rest ≡ h → Walked (Traced (run_after before)) (Says (run_after before) h) splits before after pre
+  traced_front pre rest q = walked_front (Traced (run_after before)) (Says (run_after before) h) splits before after h pre rest l.legal q traced_opens (traced_steps splits before after h l.legal)

@@ -164,17 +164,16 @@ not_here_too : (shard : ℕ) (t : ℕ × ℕ) (b : Bool) → (not (t.0 == shard)
 not_here_too shard t b e = not_here shard t (and_parts (not (t.0 == shard)) b e).0
 
 from_coordinate : (n ep : ℕ) (D : TxId → Birth → Type 0) (A : TxId → Type 0) (Q : TxId → ℕ → Type 0) (O K : TxId → Type 0) (s : Shard) (tx : TxId) (ts : List (ℕ × ℕ)) → Q tx n → Origins n ep D A Q O K s → Origins n ep D A Q O K (coordinate tx ts s)
-from_coordinate n ep D A Q O K s tx ts q p =
-    record {
-      shard = p.shard;
-      epoch = p.epoch;
-      out = all_append (MessageFrom Q O) s.outbox (prepares s.shard tx ts) p.out (to_others Q O s.shard tx (λ t. not (t.0 == s.shard)) ts (subst (Q tx) (sym p.shard) q) (not_here s.shard));
-      voters = p.voters;
-      parts = p.parts;
-      known = p.known;
-      log = p.log;
-      requests = rows_put (λ x. RowFrom Q O n x.0 x.1) tx (new_request ts Undecided) s.requests (inl q, q) p.requests;
-    }
+from_coordinate n ep D A Q O K s tx ts q p = record {
+  shard = p.shard;
+  epoch = p.epoch;
+  out = all_append (MessageFrom Q O) s.outbox (prepares s.shard tx ts) p.out (to_others Q O s.shard tx (λ t. not (t.0 == s.shard)) ts (subst (Q tx) (sym p.shard) q) (not_here s.shard));
+  voters = p.voters;
+  parts = p.parts;
+  known = p.known;
+  log = p.log;
+  requests = rows_put (λ x. RowFrom Q O n x.0 x.1) tx (new_request ts Undecided) s.requests (inl q, q) p.requests;
+}
 
 -- ---- a drop
 
@@ -190,17 +189,16 @@ marked_known : (tx : TxId) (parts : Table Held) (t : TxId) → tx_get t (marked_
 marked_known tx parts t e = none_changed (tx_get t parts) (λ h. cond (tx_same tx t) (dropped_part h) h) (sym (get_changed (λ u. tx_same tx u) dropped_part t parts) ∙ e)
 
 from_marked : (n ep : ℕ) (D : TxId → Birth → Type 0) (A : TxId → Type 0) (Q : TxId → ℕ → Type 0) (O K : TxId → Type 0) (s : Shard) (tx : TxId) → Origins n ep D A Q O K s → Origins n ep D A Q O K (with_local (mark_dropped tx) s)
-from_marked n ep D A Q O K s tx p =
-    record {
-      shard = p.shard;
-      epoch = p.epoch;
-      out = p.out;
-      voters = p.voters;
-      parts = marked_rows D (SomeRequest Q O) tx s.local.parts p.parts;
-      known = λ t k e. p.known t k (marked_known tx s.local.parts t e);
-      log = p.log;
-      requests = p.requests;
-    }
+from_marked n ep D A Q O K s tx p = record {
+  shard = p.shard;
+  epoch = p.epoch;
+  out = p.out;
+  voters = p.voters;
+  parts = marked_rows D (SomeRequest Q O) tx s.local.parts p.parts;
+  known = λ t k e. p.known t k (marked_known tx s.local.parts t e);
+  log = p.log;
+  requests = p.requests;
+}
 
 from_rolled_if : (n ep : ℕ) (D : TxId → Birth → Type 0) (A : TxId → Type 0) (Q : TxId → ℕ → Type 0) (O K : TxId → Type 0) (s : Shard) (tx : TxId) (b : Bool) → Origins n ep D A Q O K s → Origins n ep D A Q O K (with_local (rolled_back_if b tx) s)
 from_rolled_if n ep D A Q O K s tx true p = from_rolled n ep D A Q O K s tx p
@@ -417,17 +415,16 @@ from_opened n run D A Q O K log k a =
 
 pub from_more : (n ep : ℕ) (D D' : TxId → Birth → Type 0) (A A' : TxId → Type 0) (Q Q' : TxId → ℕ → Type 0) (O K : TxId → Type 0) (s : Shard) → ((t : TxId) (b : Birth) → D t b → D' t b) → ((t : TxId) → A t → A' t) → ((t : TxId) (m : ℕ) → Q t m → Q' t m) → Origins n ep D A Q O K s
     → Origins n ep D' A' Q' O K s
-from_more n ep D D' A A' Q Q' O K s d a q p =
-    record {
-      shard = p.shard;
-      epoch = p.epoch;
-      out = all_mono (MessageFrom Q O) (MessageFrom Q' O) messages s.outbox p.out;
-      voters = all_mono (λ r. AwayRequest Q O n r.0) (λ r. AwayRequest Q' O n r.0) (λ r x. away n r.0 x) s.voters p.voters;
-      parts = all_mono (λ r. PartFrom D (SomeRequest Q O) r.0 r.1) (λ r. PartFrom D' (SomeRequest Q' O) r.0 r.1) (λ r x. (births (r.1).is_restored r.0 (r.1).birth x.0, stages (r.1).is_restored r.0 (r.1).stage x.1)) s.local.parts p.parts;
-      known = p.known;
-      log = all_mono (RecordFrom A Q O n) (RecordFrom A' Q' O n) records s.local.log p.log;
-      requests = all_mono (λ r. RowFrom Q O n r.0 r.1) (λ r. RowFrom Q' O n r.0 r.1) (λ r x. (own r.0 x.0, states r.0 (r.1).state x.1)) s.requests p.requests;
-    }
+from_more n ep D D' A A' Q Q' O K s d a q p = record {
+  shard = p.shard;
+  epoch = p.epoch;
+  out = all_mono (MessageFrom Q O) (MessageFrom Q' O) messages s.outbox p.out;
+  voters = all_mono (λ r. AwayRequest Q O n r.0) (λ r. AwayRequest Q' O n r.0) (λ r x. away n r.0 x) s.voters p.voters;
+  parts = all_mono (λ r. PartFrom D (SomeRequest Q O) r.0 r.1) (λ r. PartFrom D' (SomeRequest Q' O) r.0 r.1) (λ r x. (births (r.1).is_restored r.0 (r.1).birth x.0, stages (r.1).is_restored r.0 (r.1).stage x.1)) s.local.parts p.parts;
+  known = p.known;
+  log = all_mono (RecordFrom A Q O n) (RecordFrom A' Q' O n) records s.local.log p.log;
+  requests = all_mono (λ r. RowFrom Q O n r.0 r.1) (λ r. RowFrom Q' O n r.0 r.1) (λ r x. (own r.0 x.0, states r.0 (r.1).state x.1)) s.requests p.requests;
+}
   where
     own_at : (m : ℕ) (t : TxId) → OwnRequest Q O m t → OwnRequest Q' O m t
     own_at m t (inl x) = inl (q t m x)

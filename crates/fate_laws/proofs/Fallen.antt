@@ -43,8 +43,8 @@ fell_is before so_far after n tx (front, rest, q, inr (e, more, r, v, o)) =
     is_not true e = absurd (both_ways false refl e)
     is_not false e = refl
 
-pub commits_spare_the_fallen : (splits : List ℕ) (before after : List (List LogRecord)) (h : History) → LegalFrom splits before h after
-    → (so_far : History) (n : ℕ) (e : Entry) (later : History) (tx : TxId) (to home stamp : ℕ) → so_far ++ (n, e) ∷ later ≡ h → e.event ≡ Deliver (Decide to tx home true) stamp → e.outcome ≡ Taken
-    → committed_in (state_before before so_far after n).local.log tx ≡ false → FellOn before so_far after n tx → ⊥
-commits_spare_the_fallen splits before after h l so_far n e later tx to home stamp q v o u f =
+pub commits_spare_the_fallen : {splits : List ℕ} {before after : List (List LogRecord)} {h : History} → LegalFrom splits before h after
+    → (so_far : History) (n : ℕ) (e : Entry) (later : History) (tx : TxId) (to home stamp : ℕ) → so_far ++ (n, e) ∷ later ≡ h → e.event ≡ Deliver (Decide to tx home true) stamp
+    → e.outcome ≡ Taken → committed_in (state_before before so_far after n).local.log tx ≡ false → FellOn before so_far after n tx → ⊥
+commits_spare_the_fallen {splits} {before} {after} l so_far n e later tx to home stamp q v o u f =
     commits_find_the_unfallen splits before so_far n e later after tx to home stamp (subst (λ z. LegalFrom splits before z after) (sym q) l) v o u (fell_is before so_far after n tx f)

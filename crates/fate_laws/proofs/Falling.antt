@@ -1,5 +1,5 @@
 -- Along a history: who was out on a shard is never committed there.
-use Rattle.std.proofs.Common.{◌≡◌, ◌⊎◌, inl, inr, ⊎_elim, refl, sym, ap, subst, ◌∙◌, ℕ, ◌<◌, true, false, Bool, ◌==◌, List, [], ◌∷◌, ◌++◌, length, Option, Some, None, append-nil, append_assoc, eqb-true, arith}
+use Rattle.std.proofs.Common.{◌≡◌, ◌⊎◌, inl, inr, ⊎_elim, refl, sym, ap, subst, ◌∙◌, ℕ, ◌<◌, true, false, Bool, ◌==◌, List, [], ◌∷◌, ◌++◌, length, Option, Some, None, append-nil, append_assoc, eqb-true}
 use Rattle.std.specs.Prelude.{⊤}
 use Rattle.std.specs.List.{AllByRecursion}
 use Rattle.std.proofs.lemmas.Bool.{both_ways, false_from_ne_true, eq-eqb}
@@ -41,6 +41,7 @@ use Rattle.history_cases.proofs.Entering.{Makes, by_event, by_flush, by_failure,
 use Rattle.history_cases.proofs.Merging.{Placed, Among, among_append, among_left}
 use Rattle.history_cases.proofs.Worlds.{state_at}
 use Rattle.history_laws.specs.Openings.{LegalFrom}
+use Rattle.history_laws.proofs.Found.{log_found}
 use Rattle.history_laws.proofs.Staying.{walker_of}
 use Rattle.history_cases.proofs.TellingEvents.{front_committed}
 use Rattle.shard_laws.proofs.Restoring.{restored_closed}
@@ -105,19 +106,18 @@ lost_more K K' V V' O O' s t p k v o (inr (inr (inr (q, m, inl a)))) = inr (inr 
 lost_more K K' V V' O O' s t p k v o (inr (inr (inr (q, m, inr a)))) = inr (inr (inr (q, m, inr (a.0, a.1, o q a.2))))
 
 barred_more : (K K' V V' O O' Q : TxId → Type 0) (s : Shard) → ((u : TxId) → K u → K' u) → ((u : TxId) → V u → V' u) → ((u : TxId) → V' u → V u ⊎ Out O' s u) → ((u : TxId) → O u → O' u) → Barred K V O Q s → Barred K' V' O' Q s
-barred_more K K' V V' O O' Q s k v w o b =
-    record {
-      lined = b.lined;
-      down = b.down;
-      counted = b.counted;
-      sought = λ t h. o t (b.sought t h);
-      homes = b.homes;
-      rows = b.rows;
-      readers = b.readers;
-      open_ = λ t x. ⊎_elim (λ y. b.open_ t y) (λ y. y.1) (w t x);
-      here = λ t x h. ⊎_elim (λ y. b.here t y h) (λ y. absurd (both_ways _ y.0 h)) (w t x);
-      why = λ t p x e. lost_more K K' V V' O O' s t p k v o (⊎_elim (λ y. ⊎_elim (λ z. b.why t p (inl z) e) (λ z. out t p z e) (w t y)) (λ y. out t p y e) x);
-    }
+barred_more K K' V V' O O' Q s k v w o b = record {
+  lined = b.lined;
+  down = b.down;
+  counted = b.counted;
+  sought = λ t h. o t (b.sought t h);
+  homes = b.homes;
+  rows = b.rows;
+  readers = b.readers;
+  open_ = λ t x. ⊎_elim (λ y. b.open_ t y) (λ y. y.1) (w t x);
+  here = λ t x h. ⊎_elim (λ y. b.here t y h) (λ y. absurd (both_ways _ y.0 h)) (w t x);
+  why = λ t p x e. lost_more K K' V V' O O' s t p k v o (⊎_elim (λ y. ⊎_elim (λ z. b.why t p (inl z) e) (λ z. out t p z e) (w t y)) (λ y. out t p y e) x);
+}
   where
     out : (t : TxId) (p : ℕ × List TxId) → Out O' s t → prepare_of s.local.log t ≡ Some p → Lost K V O s t p
     out t p x e = b.why t p (inr (x.0, x.1, b.sought t (prepared_there s.local.log t p e))) e
@@ -393,15 +393,14 @@ module _ (splits : List ℕ) (before after : List (List LogRecord)) (h pre : His
       (inl r.0, (λ q. r.1 q ∙ sym ((x.next).split).shard))
 
   framed : Frame (Met before New pre e.0) (HomeHere h e.0) S T (LockOf S.local.parts)
-  framed =
-      record {
-        counted = ((((x.was).lowered).bindings).fated.counts).counted e.0 (x.next).inside;
-        rows = (k.tied).rows;
-        closed = lock_closed S;
-        kept = kept_then;
-        wrote = wrote_then;
-        sought = sought_then;
-      }
+  framed = record {
+    counted = ((((x.was).lowered).bindings).fated.counts).counted e.0 (x.next).inside;
+    rows = (k.tied).rows;
+    closed = lock_closed S;
+    kept = kept_then;
+    wrote = wrote_then;
+    sought = sought_then;
+  }
 
   more_met : (u : TxId) → Met before pre pre e.0 u → Met before New pre e.0 u
   more_met u m = met_front before pre pre New pre e.0 u (λ j a. asked_later pre e u j a) (λ y i. i) m
@@ -429,12 +428,11 @@ module _ (splits : List ℕ) (before after : List (List LogRecord)) (h pre : His
   out_split n u (front, rest, q, o) = ⊎_elim (λ f. inr (subst (λ z. Out (Met before z z n) (state_at before after n z) u) f o)) (λ r. inl (front, r.0, r.1, o)) (last_front front rest pre e q)
 
   pub stands_here : Stands before after h New e.0 (state_at before after e.0 New)
-  stands_here =
-      record {
-        tied = tied_as (λ t p. ⊤) T (state_at before after e.0 New) (ap (λ (z : Shard). z.local) ((x.next).split).next) (tied_made (log_of after e.0) S T made (op_owes splits before after h pre e (e.1).event (e.1).outcome x refl refl) k.tied);
-        barred = barred_more (Denied before after pre) (Denied before after New) (WasOut before after pre e.0) (WasOut before after New e.0) (Met before New pre e.0) (Met before New New e.0) (HomeHere h e.0) (state_at before after e.0 New) denied_more (out_more e.0) (out_split e.0)
-            (λ u m. met_front before New pre New New e.0 u (λ j a. a) (λ y i. among_left y pre (e ∷ []) i) m) barred_state_then;
-      }
+  stands_here = record {
+    tied = tied_as (λ t p. ⊤) T (state_at before after e.0 New) (ap (λ (z : Shard). z.local) ((x.next).split).next) (tied_made (log_of after e.0) S T made (op_owes splits before after h pre e (e.1).event (e.1).outcome x refl refl) k.tied);
+    barred = barred_more (Denied before after pre) (Denied before after New) (WasOut before after pre e.0) (WasOut before after New e.0) (Met before New pre e.0) (Met before New New e.0) (HomeHere h e.0) (state_at before after e.0 New) denied_more (out_more e.0) (out_split e.0)
+        (λ u m. met_front before New pre New New e.0 u (λ j a. a) (λ y i. among_left y pre (e ∷ []) i) m) barred_state_then;
+  }
 
   pub stands_there : (n : ℕ) → (e.0 == n) ≡ false → Stands before after h pre n (state_at before after n pre) → Stands before after h New n (state_at before after n New)
   stands_there n d o =
@@ -466,19 +464,18 @@ all_tied (RestartRecord run epoch ∷ rs) = (tt, all_tied rs)
 log_ahead : (splits : List ℕ) (before : List (List LogRecord)) (n : ℕ) → may_open splits before ≡ true → n < length before → Ahead [] (log_of before n)
 log_ahead splits before n m l = follows_ahead n [] (log_of before n) (log_follows splits before n m l)
 
-opens : (splits : List ℕ) (before after : List (List LogRecord)) (h : History) (n : ℕ) → LegalFrom splits before h after → n < shard_count splits → Stands before after h [] n (state_at before after n [])
-opens splits before after h n l i =
+opens : {splits : List ℕ} {before after : List (List LogRecord)} {h : History} → LegalFrom splits before h after → (n : ℕ) → n < shard_count splits → Stands before after h [] n (state_at before after n [])
+opens {splits} {before} {after} {h} l n i =
     let run = run_after before in
     let log = log_after_restart n (log_of before n) (run_after before) 0 in
-    let bs = bindings_front splits before after h [] h l refl in
+    let bs = bindings_front l [] h refl in
     record {
       tied = tied_opened (λ t p. ⊤) n (run_after before) (log_of before n) (all_tied (log_of before n));
       barred = barred_state (Denied before after []) (WasOut before after [] n) (Met before [] [] n) (HomeHere h n) n (run_after before) 0 log 0 []
-          (whole_ahead n (log_of before n) (run_after before) 0 (log_ahead splits before n l.opens (let e = l.legal.each_log.0 in omega (arith, e, i))))
+          (whole_ahead n (log_of before n) (run_after before) 0 (log_ahead splits before n l.opens (log_found l n i)))
           (λ u c. ordered_wrote log u ((bs.parted n i).base).ordered c)
           (λ u p c. let r = prepared_asked splits before after h [] n l.legal (λ y j. elim j [ ]) bs.fated i u p c in (inl r.0, r.1))
-          (λ u v. (first u v).1)
-          (λ u p v j c. absurd (both_ways _ (first u v).0 (ap is_present (restored_closed (in_doubt n log) u j))));
+          (λ u v. (first u v).1) (λ u p v j c. absurd (both_ways _ (first u v).0 (ap is_present (restored_closed (in_doubt n log) u j))));
     }
   where
     first : (u : TxId) → WasOut before after [] n u → Out (Met before [] [] n) (state_at before after n []) u
@@ -497,31 +494,32 @@ StandsAll : (splits : List ℕ) (before after : List (List LogRecord)) (h pre : 
 StandsAll splits before after h pre = (n : ℕ) → n < shard_count splits → Stands before after h pre n (state_at before after n pre)
 
 -- what is known of an entry, and of the fronts before and behind it
-pub entry_at : (splits : List ℕ) (before after : List (List LogRecord)) (h pre : History) (e : Placed) (post : History) → LegalFrom splits before h after → pre ++ e ∷ post ≡ h → At splits before after h pre e
-entry_at splits before after h pre e post l q =
-    let w = next_at splits before after h pre e post l.legal q in
-    let later : (pre ++ e ∷ []) ++ post ≡ h = append_assoc pre (e ∷ []) post ∙ q in
-    record {
-      next = w;
-      behind = (next_entry splits before after h pre e post l.legal q).behind;
-      inside = λ y j. subst (Among y) later (among_left y (pre ++ e ∷ []) post j);
-      was = spared_front splits before after h pre (e ∷ post) l q;
-      is = spared_front splits before after h (pre ++ e ∷ []) post l later;
-      traced = (traced_front splits before after h pre (e ∷ post) l q).states e.0 w.inside;
-      elders = elders_front splits before after h pre (e ∷ post) l q;
-    }
+module _ {splits : List ℕ} {before after : List (List LogRecord)} {h : History} (l : LegalFrom splits before h after) where
+  pub entry_at : (pre : History) (e : Placed) (post : History) → pre ++ e ∷ post ≡ h → At splits before after h pre e
+  entry_at pre e post q =
+      let w = next_at splits before after h pre e post l.legal q in
+      let later : (pre ++ e ∷ []) ++ post ≡ h = append_assoc pre (e ∷ []) post ∙ q in
+      record {
+        next = w;
+        behind = (next_entry splits before after h pre e post l.legal q).behind;
+        inside = λ y j. subst (Among y) later (among_left y (pre ++ e ∷ []) post j);
+        was = spared_front l pre (e ∷ post) q;
+        is = spared_front l (pre ++ e ∷ []) post later;
+        traced = (traced_front l pre (e ∷ post) q).states e.0 w.inside;
+        elders = elders_front l pre (e ∷ post) q;
+      }
 
-next_stands : (splits : List ℕ) (before after : List (List LogRecord)) (h pre : History) (e : Placed) (post : History) → LegalFrom splits before h after → pre ++ e ∷ post ≡ h → StandsAll splits before after h pre → StandsAll splits before after h (pre ++ e ∷ [])
-unfolding StandsAll
-next_stands splits before after h pre e post l q k n i = at (e.0 == n) refl
-  where
-    x : At splits before after h pre e
-    x = entry_at splits before after h pre e post l q
+  next_stands : (pre : History) (e : Placed) (post : History) → pre ++ e ∷ post ≡ h → StandsAll splits before after h pre → StandsAll splits before after h (pre ++ e ∷ [])
+  unfolding StandsAll
+  next_stands pre e post q k n i = at (e.0 == n) refl
+    where
+      x : At splits before after h pre e
+      x = entry_at pre e post q
 
-    at : (b : Bool) → (e.0 == n) ≡ b → Stands before after h (pre ++ e ∷ []) n (state_at before after n (pre ++ e ∷ []))
-    at true f = subst (λ m. Stands before after h (pre ++ e ∷ []) m (state_at before after m (pre ++ e ∷ []))) (eqb-true e.0 n f) (stands_here splits before after h pre e x (k e.0 (x.next).inside))
-    at false f = stands_there splits before after h pre e x (k e.0 (x.next).inside) n f (k n i)
+      at : (b : Bool) → (e.0 == n) ≡ b → Stands before after h (pre ++ e ∷ []) n (state_at before after n (pre ++ e ∷ []))
+      at true f = subst (λ m. Stands before after h (pre ++ e ∷ []) m (state_at before after m (pre ++ e ∷ []))) (eqb-true e.0 n f) (stands_here splits before after h pre e x (k e.0 (x.next).inside))
+      at false f = stands_there splits before after h pre e x (k e.0 (x.next).inside) n f (k n i)
 
-pub stands_front : (splits : List ℕ) (before after : List (List LogRecord)) (h pre post : History) → LegalFrom splits before h after → pre ++ post ≡ h → (n : ℕ) → n < shard_count splits → Stands before after h pre n (state_at before after n pre)
-unfolding StandsAll
-stands_front splits before after h pre post l q n i = walk_on (StandsAll splits before after h) h [] pre post q (λ f e r z k. next_stands splits before after h f e r l z k) (λ m j. opens splits before after h m l j) n i
+  pub stands_front : (pre post : History) → pre ++ post ≡ h → (n : ℕ) → n < shard_count splits → Stands before after h pre n (state_at before after n pre)
+  unfolding StandsAll
+  stands_front pre post q n i = walk_on (StandsAll splits before after h) h [] pre post q next_stands (opens l) n i

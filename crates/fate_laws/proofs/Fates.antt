@@ -35,6 +35,7 @@ use Rattle.history_cases.proofs.TellingEvents.{front_committed}
 use Rattle.history_cases.proofs.OldRuns.{below_next_run, none_of_this_run}
 use Rattle.history_cases.proofs.Worlds.{state_at}
 use Rattle.history_laws.specs.Openings.{LegalFrom}
+use Rattle.history_laws.proofs.Found.{log_found}
 use Rattle.fate_laws.proofs.Homes.{Known, Dead, Tells, Alone, Homed, words_on, MayCommit}
 use Rattle.fate_laws.proofs.HomesEvents.{Fresh, Owes, homed_opened}
 use Rattle.fate_laws.proofs.Entering.{Enters, ToldDead, SaysOut, homed_mono, durable_front, homed_made, says_made}
@@ -228,18 +229,17 @@ none_prepared splits before n t m l c r =
     let g = below_next_run before n in
     omega (arith, f, g, r)
 
-pub fated_start : (splits : List ℕ) (before after : List (List LogRecord)) (h : History) → LegalFrom splits before h after → Fated splits before after []
-fated_start splits before after h l =
-    record {
-      counts = counts_start splits before after;
-      homed = λ n i.
-          let k : n < length before = let e = l.legal.each_log.0 in omega (arith, e, i) in
-          homed_opened (run_after before) (AskedIn []) (AskedIn []) (DurableIn before after []) n (log_of before n) (λ t. none_of_this_run splits before n t l.opens k) (λ t. none_prepared splits before n t l.opens k);
-      said = λ x i. elim i [ ];
-    }
+module _ {splits : List ℕ} {before after : List (List LogRecord)} {h : History} (l : LegalFrom splits before h after) where
+  pub fated_start : Fated splits before after []
+  fated_start = record {
+    counts = counts_start splits before after;
+    homed = λ n i.
+        homed_opened (run_after before) (AskedIn []) (AskedIn []) (DurableIn before after []) n (log_of before n) (λ t. none_of_this_run splits before n t l.opens (log_found l n i)) (λ t. none_prepared splits before n t l.opens (log_found l n i));
+    said = λ x i. elim i [ ];
+  }
 
-pub fated : (splits : List ℕ) (before after : List (List LogRecord)) (h : History) → LegalFrom splits before h after → Fated splits before after h
-fated splits before after h l = walk (Fated splits before after) splits before after h [] h l.legal refl (fated_next splits before after h) (fated_start splits before after h l)
+  pub fated : Fated splits before after h
+  fated = walk (Fated splits before after) splits before after h [] h l.legal refl (fated_next splits before after h) fated_start
 
 -- who is committed on a shard asked, and is committed where it asked
 pub committed_asked : (splits : List ℕ) (before after : List (List LogRecord)) (h pre : History) (n : ℕ) (tx : TxId) → n < shard_count splits → Fated splits before after pre → tx.run ≡ run_after before → committed_in (state_at before after n pre).local.log tx ≡ true

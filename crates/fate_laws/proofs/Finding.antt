@@ -37,8 +37,8 @@ use Rattle.fate_laws.proofs.Falling.{Met, met_front, WasOut, decision_finds, sta
 
 -- ---- who fell was out
 
-pub fell_out : (splits : List ℕ) (before after : List (List LogRecord)) (h pre post : History) (n : ℕ) (tx : TxId) → LegalFrom splits before h after → pre ++ post ≡ h → n < shard_count splits → Fell before pre after n tx → WasOut before after pre n tx
-fell_out splits before after h pre post n tx l q i (inl (f, e, rest, z, ev, (there, gone, open_))) =
+pub fell_out : {splits : List ℕ} {before after : List (List LogRecord)} {h : History} → LegalFrom splits before h after → (pre post : History) (n : ℕ) (tx : TxId) → pre ++ post ≡ h → n < shard_count splits → Fell before pre after n tx → WasOut before after pre n tx
+fell_out {before} {after} {h} l pre post n tx q i (inl (f, e, rest, z, ev, (there, gone, open_))) =
     (f ++ (n, e) ∷ [], rest, append_assoc f ((n, e) ∷ []) rest ∙ z, (gone, open_, met (stage_of (state_at before after n f).local tx) refl there))
   where
     whole : f ++ ((n, e) ∷ rest ++ post) ≡ h
@@ -47,8 +47,8 @@ fell_out splits before after h pre post n tx l q i (inl (f, e, rest, z, ev, (the
     met : (o2 : Option Stage) → stage_of (state_at before after n f).local tx ≡ o2 → is_present o2 ≡ true → Met before (f ++ (n, e) ∷ []) (f ++ (n, e) ∷ []) n tx
     met None g y = absurd (both_ways false refl y)
     met (Some st) g y =
-        met_front before f f (f ++ (n, e) ∷ []) (f ++ (n, e) ∷ []) n tx (λ j a. asked_later f (n, e) tx j a) (λ v j. among_left v f ((n, e) ∷ []) j) (parts_met splits before after h f ((n, e) ∷ rest ++ post) l whole n i tx st g)
-fell_out splits before after h pre post n tx l q i (inr (f, rest, z, d)) = by_stage (stage_of (state_at before after n f).local tx) refl d
+        met_front before f f (f ++ (n, e) ∷ []) (f ++ (n, e) ∷ []) n tx (λ j a. asked_later f (n, e) tx j a) (λ v j. among_left v f ((n, e) ∷ []) j) (parts_met l f ((n, e) ∷ rest ++ post) whole n i tx st g)
+fell_out {before} {after} {h} l pre post n tx q i (inr (f, rest, z, d)) = by_stage (stage_of (state_at before after n f).local tx) refl d
   where
     whole : f ++ (rest ++ post) ≡ h
     whole = sym (append_assoc f rest post) ∙ ap (λ y. y ++ post) z ∙ q
@@ -60,8 +60,8 @@ fell_out splits before after h pre post n tx l q i (inr (f, rest, z, d)) = by_st
       z,
       (
         subst (λ v. is_present v ≡ false) (sym g) refl,
-        ((spared_front splits before after h f (rest ++ post) l whole).kept n i).gone tx doom g,
-        parts_met splits before after h f (rest ++ post) l whole n i tx (Gone (Some doom)) g,
+        ((spared_front l f (rest ++ post) whole).kept n i).gone tx doom g,
+        parts_met l f (rest ++ post) whole n i tx (Gone (Some doom)) g,
       ),
     )
     by_stage (Some (Gone None)) g y = absurd (both_ways false refl y)
@@ -72,7 +72,7 @@ fell_out splits before after h pre post n tx l q i (inr (f, rest, z, d)) = by_st
 pub fallen_are_uncommitted : FallenAreUncommitted
 fallen_are_uncommitted splits before so_far later after n tx l i f =
     let h = so_far ++ later in
-    ((stands_front splits before after h so_far later l refl n i).barred).open_ tx (fell_out splits before after h so_far later n tx l refl i f)
+    ((stands_front l so_far later refl n i).barred).open_ tx (fell_out l so_far later n tx refl i f)
 
 -- ---- a commit that is taken comes to a closed part
 
@@ -105,15 +105,15 @@ pub commits_find_the_unfallen : CommitsFindTheUnfallen
 commits_find_the_unfallen splits before so_far n e later after tx to home stamp l q t u f =
     let h = so_far ++ (n, e) ∷ later in
     let w = next_at splits before after h so_far (n, e) later l.legal refl in
-    decision_finds splits before after h so_far (n, e) tx to home stamp (Met before so_far so_far n) w (bindings_front splits before after h so_far ((n, e) ∷ later) l refl) (elders_front splits before after h so_far ((n, e) ∷ later) l refl) q
-    (stands_front splits before after h so_far ((n, e) ∷ later) l refl n w.inside) u (taken_at splits before after h so_far (n, e) tx to home stamp w q t u)
-    (inl (fell_out splits before after h so_far ((n, e) ∷ later) n tx l refl w.inside f))
+    decision_finds splits before after h so_far (n, e) tx to home stamp (Met before so_far so_far n) w (bindings_front l so_far ((n, e) ∷ later) refl) (elders_front l so_far ((n, e) ∷ later) refl) q
+    (stands_front l so_far ((n, e) ∷ later) refl n w.inside) u (taken_at splits before after h so_far (n, e) tx to home stamp w q t u)
+    (inl (fell_out l so_far ((n, e) ∷ later) n tx refl w.inside f))
 
 -- ---- what is left
 
 pub committed_never_fell : CommittedNeverFell
 committed_never_fell splits before h after choice n tx l i left f =
-    both_ways _ (((stands_front splits before after h h [] l (append-nil h) n i).barred).open_ tx (fell_out splits before after h h [] n tx l (append-nil h) i f)) (left_committed splits before h after choice n tx i left)
+    both_ways _ (((stands_front l h [] (append-nil h) n i).barred).open_ tx (fell_out l h [] n tx (append-nil h) i f)) (left_committed splits before h after choice n tx i left)
 
 pub members_never_fell_at_home : MembersNeverFellAtHome
 members_never_fell_at_home splits before h after choice n home tx l i j r left (e, ts, a, ev, out) f =

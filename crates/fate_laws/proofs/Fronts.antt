@@ -1,5 +1,5 @@
 -- Along a legal history: each shard has what causes stand on after each front.
-use Rattle.std.proofs.Common.{◌≡◌, refl, sym, ap, subst, ◌∙◌, ℕ, ◌<◌, true, List, [], ◌∷◌, ◌++◌, append_assoc, append-nil}
+use Rattle.std.proofs.Common.{◌≡◌, refl, sym, ap, subst, ◌∙◌, ℕ, ◌<◌, List, [], ◌∷◌, ◌++◌, append_assoc, append-nil}
 use Rattle.clv_base.specs.declared.logs.LogRecord.{LogRecord}
 use Rattle.clv_base.specs.declared.events.Event.{Event}
 use Rattle.clv_base.specs.declared.events.Outcome.{Outcome}
@@ -62,42 +62,43 @@ made_at run before after pre e log _ stamp walker {ev} {o} (by_restart epoch kep
 
 -- ---- the whole of it
 
-pub before_entry : (splits : List ℕ) (before after : List (List LogRecord)) (h pre : History) (e : Placed) (post : History) → LegalFrom splits before h after → pre ++ e ∷ post ≡ h → Before_entry splits before after h pre e
-before_entry splits before after h pre e post l q =
+pub before_entry : {splits : List ℕ} {before after : List (List LogRecord)} {h : History} → LegalFrom splits before h after → (pre : History) (e : Placed) (post : History) → pre ++ e ∷ post ≡ h → Before_entry splits before after h pre e
+before_entry {splits} {before} {after} {h} l pre e post q =
     let x = next_at splits before after h pre e post l.legal q in
     record {
       legal = l.legal;
       behind = behind_of splits before after h pre e post l.legal q;
-      spared = spared_front splits before after h pre (e ∷ post) l q;
-      traced = (traced_front splits before after h pre (e ∷ post) l q).states e.0 x.inside;
+      spared = spared_front l pre (e ∷ post) q;
+      traced = (traced_front l pre (e ∷ post) q).states e.0 x.inside;
     }
 
 AllCaused : List ℕ → List (List LogRecord) → List (List LogRecord) → History → Type 0
 AllCaused splits before after pre = (n : ℕ) → n < shard_count splits → Caused (run_after before) before after pre n (state_at before after n pre)
 
-caused_next : (splits : List ℕ) (before after : List (List LogRecord)) (h pre : History) (e : Placed) (post : History) → LegalFrom splits before h after → pre ++ e ∷ post ≡ h → AllCaused splits before after pre → AllCaused splits before after (pre ++ e ∷ [])
-unfolding AllCaused
-caused_next splits before after h pre e post l q k n i =
-    let run = run_after before in
-    let s = state_at before after e.0 pre in
-    let x = next_at splits before after h pre e post l.legal q in
-    let w = before_entry splits before after h pre e post l q in
-    let b = brought splits before after h pre e w.behind (traced_front splits before after h pre (e ∷ post) l q) (e.1).event x.sent in
-    let d = owes splits before after h pre e (e.1).event (e.1).outcome w refl refl b in
-    let g = made_at run before after pre e (log_of after e.0) (event_state (log_of after e.0) s (e.1).event (e.1).outcome) (e.1).stamp (e.1).walker (makes (log_of after e.0) s (e.1).event (e.1).outcome ((x.split).enters).event) (x.split).next d (k e.0 x.inside) in
-    each_shard (λ j z. Caused run before after (pre ++ e ∷ []) j z) before after e pre (subst (Caused run before after (pre ++ e ∷ []) e.0) (sym (x.split).next) g) n (caused_other run before after pre e n (state_at before after n pre) (k n i))
+module _ {splits : List ℕ} {before after : List (List LogRecord)} {h : History} (l : LegalFrom splits before h after) where
+  caused_next : (pre : History) (e : Placed) (post : History) → pre ++ e ∷ post ≡ h → AllCaused splits before after pre → AllCaused splits before after (pre ++ e ∷ [])
+  unfolding AllCaused
+  caused_next pre e post q k n i =
+      let run = run_after before in
+      let s = state_at before after e.0 pre in
+      let x = next_at splits before after h pre e post l.legal q in
+      let w = before_entry l pre e post q in
+      let b = brought splits before after h pre e w.behind (traced_front l pre (e ∷ post) q) (e.1).event x.sent in
+      let d = owes splits before after h pre e (e.1).event (e.1).outcome w refl refl b in
+      let g = made_at run before after pre e (log_of after e.0) (event_state (log_of after e.0) s (e.1).event (e.1).outcome) (e.1).stamp (e.1).walker (makes (log_of after e.0) s (e.1).event (e.1).outcome ((x.split).enters).event) (x.split).next d (k e.0 x.inside) in
+      each_shard (λ j z. Caused run before after (pre ++ e ∷ []) j z) before after e pre (subst (Caused run before after (pre ++ e ∷ []) e.0) (sym (x.split).next) g) n (caused_other run before after pre e n (state_at before after n pre) (k n i))
 
-along : (splits : List ℕ) (before after : List (List LogRecord)) (h done pre post : History) → LegalFrom splits before h after → (done ++ pre) ++ post ≡ h → AllCaused splits before after done → AllCaused splits before after (done ++ pre)
-along splits before after h done [] post l q k = subst (AllCaused splits before after) (sym (append-nil done)) k
-along splits before after h done (e ∷ pre) post l q k =
-    let a : done ++ e ∷ (pre ++ post) ≡ h = sym (append_assoc done (e ∷ pre) post) ∙ q in
-    subst (AllCaused splits before after) (append_assoc done (e ∷ []) pre)
-    (along splits before after h (done ++ e ∷ []) pre post l (ap (λ z. z ++ post) (append_assoc done (e ∷ []) pre) ∙ q) (caused_next splits before after h done e (pre ++ post) l a k))
+  along : (done pre post : History) → (done ++ pre) ++ post ≡ h → AllCaused splits before after done → AllCaused splits before after (done ++ pre)
+  along done [] post q k = subst (AllCaused splits before after) (sym (append-nil done)) k
+  along done (e ∷ pre) post q k =
+      let a : done ++ e ∷ (pre ++ post) ≡ h = sym (append_assoc done (e ∷ pre) post) ∙ q in
+      subst (AllCaused splits before after) (append_assoc done (e ∷ []) pre)
+      (along (done ++ e ∷ []) pre post (ap (λ z. z ++ post) (append_assoc done (e ∷ []) pre) ∙ q) (caused_next done e (pre ++ post) a k))
 
 start_caused : (splits : List ℕ) (before after : List (List LogRecord)) → AllCaused splits before after []
 unfolding AllCaused
 start_caused splits before after n i = caused_restored (run_after before) before after [] n n (run_after before) 0 0 (log_after_restart n (log_of before n) (run_after before) 0) []
 
-pub caused_front : (splits : List ℕ) (before after : List (List LogRecord)) (h pre post : History) (n : ℕ) → LegalFrom splits before h after → pre ++ post ≡ h → n < shard_count splits → Caused (run_after before) before after pre n (state_at before after n pre)
+pub caused_front : {splits : List ℕ} {before after : List (List LogRecord)} {h : History} → LegalFrom splits before h after → (pre post : History) (n : ℕ) → pre ++ post ≡ h → n < shard_count splits → Caused (run_after before) before after pre n (state_at before after n pre)
 unfolding AllCaused
-caused_front splits before after h pre post n l q i = along splits before after h [] pre post l q (start_caused splits before after) n i
+caused_front {splits} {before} {after} l pre post n q i = along l [] pre post q (start_caused splits before after) n i

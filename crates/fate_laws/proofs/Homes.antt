@@ -105,11 +105,10 @@ tells_on run A Z K s t e k (m ∷ ms) a = (one m a.0, tells_on run A Z K s t e k
 -- where it sends nothing
 pub words_on : (run : ℕ) (A Z : TxId → ℕ → Type 0) (K : ℕ → TxId → Type 0) (D : TxId → Type 0) (s t : Shard) → t.shard ≡ s.shard → t.outbox ≡ s.outbox → ((tx : TxId) → tx.run ≡ run → Z tx s.shard → Dead s tx → Dead t tx)
     → Words run A Z K D s → Words run A Z K D t
-words_on run A Z K D s t e f k p =
-    record {
-      out = subst (λ l. AllByRecursion (Tells run A Z K t) l) (sym f) (tells_on run A Z K s t e k s.outbox p.out);
-      dead = λ tx d. let q = p.dead tx d in (q.0, subst (Z tx) (sym e) q.1, k tx q.0 q.1 q.2);
-    }
+words_on run A Z K D s t e f k p = record {
+  out = subst (λ l. AllByRecursion (Tells run A Z K t) l) (sym f) (tells_on run A Z K s t e k s.outbox p.out);
+  dead = λ tx d. let q = p.dead tx d in (q.0, subst (Z tx) (sym e) q.1, k tx q.0 q.1 q.2);
+}
 
 -- the log has no COMMITs and no PREPAREs but those that it had
 pub alone_log : (A : TxId → ℕ → Type 0) (s : Shard) (l : Local) (tx : TxId) (q : Request) (st : RequestState) → (committed_in l.log tx ≡ true → committed_in s.local.log tx ≡ true) → Alone A s tx q st
@@ -182,15 +181,14 @@ homed_commit run A Z K D s l tx parts e a m z p =
 
 -- messages are put into the outbox
 pub homed_send : (run : ℕ) (A Z : TxId → ℕ → Type 0) (K : ℕ → TxId → Type 0) (D : TxId → Type 0) (s : Shard) (ms : List Message) → AllByRecursion (Tells run A Z K s) ms → Homed run A Z K D s → Homed run A Z K D (send ms s)
-homed_send run A Z K D s ms a p =
-    record {
-      log = p.log;
-      prepares = p.prepares;
-      voters = p.voters;
-      requests = p.requests;
-      rows = p.rows;
-      words = record { out = tells_on run A Z K s (send ms s) refl (λ tx r z d. d) (s.outbox ++ ms) (all_append _ s.outbox ms (p.words).out a); dead = (p.words).dead };
-    }
+homed_send run A Z K D s ms a p = record {
+  log = p.log;
+  prepares = p.prepares;
+  voters = p.voters;
+  requests = p.requests;
+  rows = p.rows;
+  words = record { out = tells_on run A Z K s (send ms s) refl (λ tx r z d. d) (s.outbox ++ ms) (all_append _ s.outbox ms (p.words).out a); dead = (p.words).dead };
+}
 
 -- a request that stands open is changed
 pub open_set : (tx u : TxId) (w : Request) (s : Shard) → stands_open (tx_get tx s.requests) ≡ true → stands_open (tx_get u s.requests) ≡ false → stands_open (tx_get u (tx_set tx w s.requests)) ≡ false
@@ -361,18 +359,17 @@ homed_reader run A K D s tx Read p = homed_same run A A K D s _ refl p
 homed_reader run A K D s tx (No why) p = p
 
 homed_vote : (run : ℕ) (A : TxId → ℕ → Type 0) (K : ℕ → TxId → Type 0) (D : TxId → Type 0) (s : Shard) (tx : TxId) (v : Voter) (vote : Vote) → tx_get tx s.voters ≡ Some v → Homed run A A K D s → Homed run A A K D (with_vote s tx v vote)
-homed_vote run A K D s tx v vote g p =
-    record {
-      log = p.log;
-      prepares = p.prepares;
-      voters = rows_set (λ r. (r.0).run ≡ run → A r.0 (r.1).home) tx (voted vote v) s.voters (rows_get (λ r. (r.0).run ≡ run → A r.0 (r.1).home) tx v s.voters p.voters g) p.voters;
-      requests = p.requests;
-      rows = p.rows;
-      words = record {
-        out = all_append _ s.outbox (VoteMessage v.home tx s.shard vote ∷ []) (tells_on run A A K s (with_vote s tx v vote) refl (λ u r z d. d) s.outbox (p.words).out) (tt, tt);
-        dead = (p.words).dead;
-      };
-    }
+homed_vote run A K D s tx v vote g p = record {
+  log = p.log;
+  prepares = p.prepares;
+  voters = rows_set (λ r. (r.0).run ≡ run → A r.0 (r.1).home) tx (voted vote v) s.voters (rows_get (λ r. (r.0).run ≡ run → A r.0 (r.1).home) tx v s.voters p.voters g) p.voters;
+  requests = p.requests;
+  rows = p.rows;
+  words = record {
+    out = all_append _ s.outbox (VoteMessage v.home tx s.shard vote ∷ []) (tells_on run A A K s (with_vote s tx v vote) refl (λ u r z d. d) s.outbox (p.words).out) (tt, tt);
+    dead = (p.words).dead;
+  };
+}
 
 -- what holds within an entry that began with this state
 pub record Within (run : ℕ) (A : TxId → ℕ → Type 0) (K : ℕ → TxId → Type 0) (D : TxId → Type 0) (s0 s : Shard) : Type 0 where

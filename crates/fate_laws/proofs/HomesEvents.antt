@@ -142,16 +142,15 @@ home_of run A tx home seen None a k r = a r
 home_of run A tx home seen (Some v) a k r = k v refl r
 
 homed_owe : (run : ℕ) (A Z : TxId → ℕ → Type 0) (K : ℕ → TxId → Type 0) (D : TxId → Type 0) (s : Shard) (tx : TxId) (home seen : ℕ) → (tx.run ≡ run → A tx home) → Homed run A Z K D s → Homed run A Z K D (owe_vote tx home seen s)
-homed_owe run A Z K D s tx home seen a p =
-    record {
-      log = p.log;
-      prepares = p.prepares;
-      voters = rows_put (λ r. (r.0).run ≡ run → A r.0 (r.1).home) tx (asked_voter home seen (tx_get tx s.voters)) s.voters
-          (home_of run A tx home seen (tx_get tx s.voters) a (λ v g. rows_get (λ r. (r.0).run ≡ run → A r.0 (r.1).home) tx v s.voters p.voters g)) p.voters;
-      requests = p.requests;
-      rows = p.rows;
-      words = words_on run A Z K D s _ refl refl (λ u r z d. d) p.words;
-    }
+homed_owe run A Z K D s tx home seen a p = record {
+  log = p.log;
+  prepares = p.prepares;
+  voters = rows_put (λ r. (r.0).run ≡ run → A r.0 (r.1).home) tx (asked_voter home seen (tx_get tx s.voters)) s.voters
+      (home_of run A tx home seen (tx_get tx s.voters) a (λ v g. rows_get (λ r. (r.0).run ≡ run → A r.0 (r.1).home) tx v s.voters p.voters g)) p.voters;
+  requests = p.requests;
+  rows = p.rows;
+  words = words_on run A Z K D s _ refl refl (λ u r z d. d) p.words;
+}
 
 pub counts_undecided : (shard from : ℕ) (q : Request) (st : RequestState) → counts_vote shard from q st ≡ true → st ≡ Undecided
 counts_undecided shard from q Undecided c = refl
@@ -268,15 +267,14 @@ reminders_told run A Z K D s now p =
 -- ---- each step
 
 homed_outbox : (run : ℕ) (A Z : TxId → ℕ → Type 0) (K : ℕ → TxId → Type 0) (D : TxId → Type 0) (s : Shard) (m : Message) (ms : List Message) → s.outbox ≡ m ∷ ms → Homed run A Z K D s → Homed run A Z K D (with_outbox ms s)
-homed_outbox run A Z K D s m ms e p =
-    record {
-      log = p.log;
-      prepares = p.prepares;
-      voters = p.voters;
-      requests = p.requests;
-      rows = p.rows;
-      words = record { out = tells_on run A Z K s (with_outbox ms s) refl (λ u r z d. d) ms (subst (AllByRecursion (Tells run A Z K s)) e (p.words).out).1; dead = (p.words).dead };
-    }
+homed_outbox run A Z K D s m ms e p = record {
+  log = p.log;
+  prepares = p.prepares;
+  voters = p.voters;
+  requests = p.requests;
+  rows = p.rows;
+  words = record { out = tells_on run A Z K s (with_outbox ms s) refl (λ u r z d. d) ms (subst (AllByRecursion (Tells run A Z K s)) e (p.words).out).1; dead = (p.words).dead };
+}
 
 pub homed_step : (run : ℕ) (A Z : TxId → ℕ → Type 0) (K : ℕ → TxId → Type 0) (D : TxId → Type 0) (s t : Shard) {e : Event} {o : Outcome} → ((u : TxId) (n : ℕ) → Z u n → A u n) → Now K s → Step s e o t → Owes run A Z K s e o → Homed run A Z K D s → Homed run A Z K D t
 homed_step run A Z K D s _ za now (op_dies tx birth nth seen op cause l g) w p = homed_log run A Z K D s l (op_dying s.shard s.local l tx birth seen op cause g) (dying_prepares s.shard s.local l tx birth seen op cause g) p

@@ -18,10 +18,9 @@ use Rattle.clv_base.specs.declared.events.Event.{Event}
 use Rattle.clv_base.specs.declared.events.Outcome.{Outcome}
 use Rattle.clv_base.specs.Logs.{place_from, is_commit_of}
 use Rattle.clv_base.specs.Needs.{writes_of, value_at, key_of}
-use Rattle.clv_base.specs.State.{Shard, Local}
+use Rattle.clv_base.specs.State.{Shard, Local, is_present}
 use Rattle.clv_base.specs.OneShard.{OpDies, OpAnswers, locked}
 use Rattle.clv_base.specs.Undo.{stage_of}
-use Rattle.clv_base.specs.State.{is_present}
 use Rattle.clv_base.specs.Due.{finish_reader, with_vote, do_ruling, with_ruling}
 use Rattle.law_base.proofs.Commits.{place_keeps, place_some, commit_durable, durable_parts, durable_from}
 use Rattle.protocol_laws.specs.Growth.{IsPrefixOf}

@@ -32,9 +32,7 @@ use Rattle.history_cases.proofs.Stepping.{commits, votes, rules, KeptByDue, sett
 use Rattle.history_cases.proofs.Entering.{Makes, by_event, by_flush, by_failure, by_restart, makes}
 use Rattle.history_cases.proofs.Merging.{Placed, Among, among_left, among_right}
 use Rattle.history_cases.proofs.Worlds.{state_at}
-use Rattle.law_base.proofs.Stages.{closed_other}
-use Rattle.law_base.proofs.Stages.{stage_own, stage_other, gone_by}
-use Rattle.law_base.proofs.Stages.{stage_marked}
+use Rattle.law_base.proofs.Stages.{closed_other, stage_own, stage_other, gone_by, stage_marked}
 use Rattle.history_laws.specs.Openings.{LegalFrom}
 use Rattle.shard_laws.proofs.Restoring.{restored_none}
 use Rattle.shard_laws.proofs.Ordered.{prepare_some}
@@ -121,56 +119,56 @@ none_made log s _ {e} {o} t (by_restart epoch kept u r) h = at (tx_in t (in_doub
 AllMet : (splits : List ℕ) (before after : List (List LogRecord)) (pre : History) → Type 0
 AllMet splits before after pre = (n : ℕ) → n < shard_count splits → (t : TxId) (st : Stage) → stage_of (state_at before after n pre).local t ≡ Some st → Met before pre pre n t
 
-met_next : (splits : List ℕ) (before after : List (List LogRecord)) (h pre : History) (e : Placed) (post : History) → LegalFrom splits before h after → pre ++ e ∷ post ≡ h → AllMet splits before after pre → AllMet splits before after (pre ++ e ∷ [])
-unfolding AllMet
-met_next splits before after h pre e post l q k n i t st c = at (e.0 == n) refl c
-  where
-    w : Next splits before after h pre e
-    w = next_at splits before after h pre e post l.legal q
+module _ {splits : List ℕ} {before after : List (List LogRecord)} {h : History} (l : LegalFrom splits before h after) where
+  met_next : (pre : History) (e : Placed) (post : History) → pre ++ e ∷ post ≡ h → AllMet splits before after pre → AllMet splits before after (pre ++ e ∷ [])
+  unfolding AllMet
+  met_next pre e post q k n i t st c = at (e.0 == n) refl c
+    where
+      w : Next splits before after h pre e
+      w = next_at splits before after h pre e post l.legal q
 
-    later : (pre ++ e ∷ []) ++ post ≡ h
-    later = append_assoc pre (e ∷ []) post ∙ q
+      later : (pre ++ e ∷ []) ++ post ≡ h
+      later = append_assoc pre (e ∷ []) post ∙ q
 
-    more : (m : ℕ) → Met before pre pre m t → Met before (pre ++ e ∷ []) (pre ++ e ∷ []) m t
-    more m y = met_front before pre pre (pre ++ e ∷ []) (pre ++ e ∷ []) m t (λ j a. asked_later pre e t j a) (λ y i. among_left y pre (e ∷ []) i) y
+      more : (m : ℕ) → Met before pre pre m t → Met before (pre ++ e ∷ []) (pre ++ e ∷ []) m t
+      more m y = met_front before pre pre (pre ++ e ∷ []) (pre ++ e ∷ []) m t (λ j a. asked_later pre e t j a) (λ y i. among_left y pre (e ∷ []) i) y
 
-    by_entry : (stage_of (state_at before after e.0 (pre ++ e ∷ [])).local t ≡ None) ⊎ ((prepared_in (state_at before after e.0 (pre ++ e ∷ [])).local.log t ≡ true) ⊎ DoesNow t (e.1).event (e.1).outcome)
-        → stage_of (state_at before after e.0 (pre ++ e ∷ [])).local t ≡ Some st → Met before (pre ++ e ∷ []) (pre ++ e ∷ []) e.0 t
-    by_entry (inl z) d = absurd (none_some st (sym z ∙ d))
-    by_entry (inr (inl z)) d =
-        let p = prepare_some (state_at before after e.0 (pre ++ e ∷ [])).local.log t z in
-        inl (prepared_asked splits before after h (pre ++ e ∷ []) e.0 l.legal (λ y j. subst (Among y) later (among_left y (pre ++ e ∷ []) post j)) (bindings_front splits before after h (pre ++ e ∷ []) post l later).fated w.inside t p.0 p.1).0
-    by_entry (inr (inr (birth, nth, seen, op, a, ep, z, y))) d =
-        let tr = (traced_front splits before after h (pre ++ e ∷ []) post l later).states e.0 w.inside in
-        let mine : Among e (pre ++ e ∷ []) = among_right e pre (e ∷ []) (inl refl) in
-        inr (ep, (birth, (e, mine, refl, record { seen = seen; answer = a; at = record { nth = nth; op = op; is = z }; outcome = y; saw = (tr.epochs e t birth nth seen op a ep mine refl z y).1 })))
+      by_entry : (stage_of (state_at before after e.0 (pre ++ e ∷ [])).local t ≡ None) ⊎ ((prepared_in (state_at before after e.0 (pre ++ e ∷ [])).local.log t ≡ true) ⊎ DoesNow t (e.1).event (e.1).outcome)
+          → stage_of (state_at before after e.0 (pre ++ e ∷ [])).local t ≡ Some st → Met before (pre ++ e ∷ []) (pre ++ e ∷ []) e.0 t
+      by_entry (inl z) d = absurd (none_some st (sym z ∙ d))
+      by_entry (inr (inl z)) d =
+          let p = prepare_some (state_at before after e.0 (pre ++ e ∷ [])).local.log t z in
+          inl (prepared_asked splits before after h (pre ++ e ∷ []) e.0 l.legal (λ y j. subst (Among y) later (among_left y (pre ++ e ∷ []) post j)) (bindings_front l (pre ++ e ∷ []) post later).fated w.inside t p.0 p.1).0
+      by_entry (inr (inr (birth, nth, seen, op, a, ep, z, y))) d =
+          let tr = (traced_front l (pre ++ e ∷ []) post later).states e.0 w.inside in
+          let mine : Among e (pre ++ e ∷ []) = among_right e pre (e ∷ []) (inl refl) in
+          inr (ep, (birth, (e, mine, refl, record { seen = seen; answer = a; at = record { nth = nth; op = op; is = z }; outcome = y; saw = (tr.epochs e t birth nth seen op a ep mine refl z y).1 })))
 
-    here : (so : Option Stage) → stage_of (state_at before after e.0 pre).local t ≡ so → stage_of (state_at before after e.0 (pre ++ e ∷ [])).local t ≡ Some st → Met before (pre ++ e ∷ []) (pre ++ e ∷ []) e.0 t
-    here (Some old) b d = more e.0 (k e.0 w.inside t old b)
-    here None b d =
-        let s = state_at before after e.0 pre in
-        by_entry
-        (subst (λ (z : Shard). (stage_of z.local t ≡ None) ⊎ ((prepared_in z.local.log t ≡ true) ⊎ DoesNow t (e.1).event (e.1).outcome)) (sym (w.split).next)
-        (none_made (log_of after e.0) s (event_state (log_of after e.0) s (e.1).event (e.1).outcome) t (makes (log_of after e.0) s (e.1).event (e.1).outcome ((w.split).enters).event) b)) d
+      here : (so : Option Stage) → stage_of (state_at before after e.0 pre).local t ≡ so → stage_of (state_at before after e.0 (pre ++ e ∷ [])).local t ≡ Some st → Met before (pre ++ e ∷ []) (pre ++ e ∷ []) e.0 t
+      here (Some old) b d = more e.0 (k e.0 w.inside t old b)
+      here None b d =
+          let s = state_at before after e.0 pre in
+          by_entry
+          (subst (λ (z : Shard). (stage_of z.local t ≡ None) ⊎ ((prepared_in z.local.log t ≡ true) ⊎ DoesNow t (e.1).event (e.1).outcome)) (sym (w.split).next)
+          (none_made (log_of after e.0) s (event_state (log_of after e.0) s (e.1).event (e.1).outcome) t (makes (log_of after e.0) s (e.1).event (e.1).outcome ((w.split).enters).event) b)) d
 
-    at : (b : Bool) → (e.0 == n) ≡ b → stage_of (state_at before after n (pre ++ e ∷ [])).local t ≡ Some st → Met before (pre ++ e ∷ []) (pre ++ e ∷ []) n t
-    at true f d =
-        let m = eqb-true e.0 n f in
-        subst (λ z. Met before (pre ++ e ∷ []) (pre ++ e ∷ []) z t) m (here (stage_of (state_at before after e.0 pre).local t) refl (subst (λ z. stage_of (state_at before after z (pre ++ e ∷ [])).local t ≡ Some st) (sym m) d))
-    at false f d = more n (k n i t st (subst (λ (z : Shard). stage_of z.local t ≡ Some st) (stays_as_it_was before after n e pre f) d))
+      at : (b : Bool) → (e.0 == n) ≡ b → stage_of (state_at before after n (pre ++ e ∷ [])).local t ≡ Some st → Met before (pre ++ e ∷ []) (pre ++ e ∷ []) n t
+      at true f d =
+          let m = eqb-true e.0 n f in
+          subst (λ z. Met before (pre ++ e ∷ []) (pre ++ e ∷ []) z t) m (here (stage_of (state_at before after e.0 pre).local t) refl (subst (λ z. stage_of (state_at before after z (pre ++ e ∷ [])).local t ≡ Some st) (sym m) d))
+      at false f d = more n (k n i t st (subst (λ (z : Shard). stage_of z.local t ≡ Some st) (stays_as_it_was before after n e pre f) d))
 
-met_start : (splits : List ℕ) (before after : List (List LogRecord)) (h : History) → LegalFrom splits before h after → AllMet splits before after []
-unfolding AllMet
-met_start splits before after h l n i t st c = at (tx_in t (in_doubt n (log_after_restart n (log_of before n) (run_after before) 0))) refl
-  where
-    at : (b : Bool) → tx_in t (in_doubt n (log_after_restart n (log_of before n) (run_after before) 0)) ≡ b → Met before [] [] n t
-    at false j = absurd (none_some st (sym (restored_none (in_doubt n (log_after_restart n (log_of before n) (run_after before) 0)) t j) ∙ c))
-    at true j =
-        let p = prepare_some (log_after_restart n (log_of before n) (run_after before) 0) t (doubt_prepared n (log_after_restart n (log_of before n) (run_after before) 0) t j) in
-        inl (prepared_asked splits before after h [] n l.legal (λ y k. elim k [ ]) (bindings_front splits before after h [] h l refl).fated i t p.0 p.1).0
+  met_start : AllMet splits before after []
+  unfolding AllMet
+  met_start n i t st c = at (tx_in t (in_doubt n (log_after_restart n (log_of before n) (run_after before) 0))) refl
+    where
+      at : (b : Bool) → tx_in t (in_doubt n (log_after_restart n (log_of before n) (run_after before) 0)) ≡ b → Met before [] [] n t
+      at false j = absurd (none_some st (sym (restored_none (in_doubt n (log_after_restart n (log_of before n) (run_after before) 0)) t j) ∙ c))
+      at true j =
+          let p = prepare_some (log_after_restart n (log_of before n) (run_after before) 0) t (doubt_prepared n (log_after_restart n (log_of before n) (run_after before) 0) t j) in
+          inl (prepared_asked splits before after h [] n l.legal (λ y k. elim k [ ]) (bindings_front l [] h refl).fated i t p.0 p.1).0
 
-pub parts_met : (splits : List ℕ) (before after : List (List LogRecord)) (h pre post : History) → LegalFrom splits before h after → pre ++ post ≡ h → (n : ℕ) → n < shard_count splits → (t : TxId) (st : Stage) → stage_of (state_at before after n pre).local t ≡ Some st
-    → Met before pre pre n t
-unfolding AllMet
-parts_met splits before after h pre post l q n i t st c =
-    walk_on (AllMet splits before after) h [] pre post q (λ f e r z k. met_next splits before after h f e r l z k) (met_start splits before after h l) n i t st c
+  pub parts_met : (pre post : History) → pre ++ post ≡ h → (n : ℕ) → n < shard_count splits → (t : TxId) (st : Stage)
+      → stage_of (state_at before after n pre).local t ≡ Some st → Met before pre pre n t
+  unfolding AllMet
+  parts_met pre post q n i t st c = walk_on (AllMet splits before after) h [] pre post q met_next met_start n i t st c

@@ -1,5 +1,5 @@
 -- Along a legal history each shard's entries are steps of the laws of one shard.
-use Rattle.std.proofs.Common.{◌≡◌, inr, refl, sym, ap, subst, ◌∙◌, ℕ, ◌<◌, true, false, Bool, List, [], ◌∷◌, ◌++◌, Option, Some, None, ◌==◌, eqb-true, append-nil, append_assoc, length, arith}
+use Rattle.std.proofs.Common.{◌≡◌, inr, refl, sym, ap, subst, ◌∙◌, ℕ, ◌<◌, true, false, Bool, List, [], ◌∷◌, ◌++◌, Option, Some, None, ◌==◌, eqb-true, append-nil, append_assoc, length}
 use Rattle.std.specs.List.{AllByRecursion}
 use Rattle.std.proofs.lemmas.Bool.{both_ways, false_from_ne_true, or_right}
 use Rattle.std.proofs.lemmas.List.Folds.{list_any-append}
@@ -29,7 +29,7 @@ use Rattle.history_cases.proofs.Merging.{Placed}
 use Rattle.history_cases.proofs.OldRuns.{below_next_run}
 use Rattle.history_laws.proofs.Staying.{is_request, walker_of}
 use Rattle.history_laws.proofs.Walking.{Behind, next_entry}
-use Rattle.history_laws.proofs.Found.{found_in_order}
+use Rattle.history_laws.proofs.Found.{found_in_order, log_found}
 use Rattle.fate_laws.proofs.Sessions.{Requested, request_no_request}
 use Rattle.fate_laws.proofs.Entries.{IsOld, DidOrOld, Traced, Brings, brought, traced_front}
 use Rattle.fate_laws.specs.Leading.{deeds_with, own_deeds, with_found, falling, requests_of, EachShardLeads}
@@ -109,12 +109,14 @@ asked_more found pre y = one_after found (requests_of pre) (request_of (y.1).eve
     at None = sym (append-nil (requests_of pre))
     at (Some t) = refl
 
-module _ (splits : List ℕ) (before after : List (List LogRecord)) (h pre : History) (y : Placed) (post : History) (n : ℕ) (legal : LegalFrom splits before h after) (finds : AllFound before h after) (spares : DropsSpared before h after) (q : pre ++ y ∷ post ≡ h) (inside : n < shard_count splits) (a : At before after pre n) where
+module _ {splits : List ℕ} {before after : List (List LogRecord)} {h : History} (legal : LegalFrom splits before h after) (pre : History)
+    (y : Placed) (post : History) (n : ℕ) (finds : AllFound before h after) (spares : DropsSpared before h after) (q : pre ++ y ∷ post ≡ h)
+    (inside : n < shard_count splits) (a : At before after pre n) where
   abbrev found : List TxId
   found = found_asked n (log_of before n)
 
   from : AskedFrom (run_after before) pre (found_asked n (log_of before n) ++ requests_of pre)
-  from = asked_from (run_after before) pre (found_asked n (log_of before n)) (asked_are_old splits before n legal.opens (let e = legal.legal.each_log.0 in omega (arith, e, inside)))
+  from = asked_from (run_after before) pre (found_asked n (log_of before n)) (asked_are_old splits before n legal.opens (log_found legal n inside))
 
   own_step : y.0 ≡ n → At before after (pre ++ (n, y.1) ∷ []) n
   own_step z =
@@ -125,8 +127,8 @@ module _ (splits : List ℕ) (before after : List (List LogRecord)) (h pre : His
       let log0 = log_of before n in
       let d = with_found n log0 (own_deeds before pre after n) in
       let run = run_after before in
-      let w = traced_front splits before after h pre ((n, x) ∷ post) legal q2 in
-      let w2 = traced_front splits before after h (pre ++ (n, x) ∷ []) post legal (append_assoc pre ((n, x) ∷ []) post ∙ q2) in
+      let w = traced_front legal pre ((n, x) ∷ post) q2 in
+      let w2 = traced_front legal (pre ++ (n, x) ∷ []) post (append_assoc pre ((n, x) ∷ []) post ∙ q2) in
       let p = next_entry splits before after h pre (n, x) post legal.legal q2 in
       let here : Here splits before after h pre n x s = record { legal = legal.legal; behind = p.behind; traced = w.states n inside } in
       let b = brought splits before after h pre (n, x) p.behind w x.event p.sent in
@@ -171,12 +173,12 @@ module _ (splits : List ℕ) (before after : List (List LogRecord)) (h pre : His
 
 -- ---- the whole front
 
-walk : (splits : List ℕ) (before after : List (List LogRecord)) (h pre so_far rest : History) (n : ℕ) → LegalFrom splits before h after → AllFound before h after → DropsSpared before h after → pre ++ (so_far ++ rest) ≡ h → n < shard_count splits → At before after pre n
-    → At before after (pre ++ so_far) n
-walk splits before after h pre [] rest n l k g q i a = subst (λ z. At before after z n) (sym (append-nil pre)) a
-walk splits before after h pre (y ∷ ys) rest n l k g q i a =
+walk : {splits : List ℕ} {before after : List (List LogRecord)} {h : History} → LegalFrom splits before h after → (pre so_far rest : History) (n : ℕ) → AllFound before h after
+    → DropsSpared before h after → pre ++ (so_far ++ rest) ≡ h → n < shard_count splits → At before after pre n → At before after (pre ++ so_far) n
+walk {before} {after} l pre [] rest n k g q i a = subst (λ z. At before after z n) (sym (append-nil pre)) a
+walk {before} {after} l pre (y ∷ ys) rest n k g q i a =
     subst (λ z. At before after z n) (append_assoc pre (y ∷ []) ys)
-    (walk splits before after h (pre ++ y ∷ []) ys rest n l k g (append_assoc pre (y ∷ []) (ys ++ rest) ∙ q) i (step splits before after h pre y (ys ++ rest) n l k g q i a))
+    (walk l (pre ++ y ∷ []) ys rest n k g (append_assoc pre (y ∷ []) (ys ++ rest) ∙ q) i (step l pre y (ys ++ rest) n k g q i a))
 
 may_serve : (splits : List ℕ) (before : List (List LogRecord)) (n : ℕ) → may_open splits before ≡ true → n < length before → MayServe n (run_after before) (log_of before n)
 may_serve splits before n m l = (found_in_order splits before n m l, below_next_run before n)
@@ -195,17 +197,17 @@ begins splits before after n m l =
       };
     }
 
-pub at_front : (splits : List ℕ) (before : List (List LogRecord)) (h : History) (after : List (List LogRecord)) (so_far rest : History) (n : ℕ) → LegalFrom splits before h after → so_far ++ rest ≡ h → n < shard_count splits → At before after so_far n
-at_front splits before h after so_far rest n l q i =
-    walk splits before after h [] so_far rest n l (all_found splits before after h l) (drops_spared splits before after h l) q i (begins splits before after n l.opens (let e = l.legal.each_log.0 in omega (arith, e, i)))
+pub at_front : {splits : List ℕ} {before after : List (List LogRecord)} {h : History} → LegalFrom splits before h after → (so_far rest : History) (n : ℕ) → so_far ++ rest ≡ h → n < shard_count splits → At before after so_far n
+at_front {splits} {before} {after} l so_far rest n q i =
+    walk l [] so_far rest n (all_found l) (drops_spared l) q i (begins splits before after n l.opens (log_found l n i))
 
 pub each_shard_leads : EachShardLeads
-each_shard_leads splits before h after so_far rest n l q i = (at_front splits before h after so_far rest n l q i).leads
+each_shard_leads splits before h after so_far rest n l q i = (at_front l so_far rest n q i).leads
 
 -- a part that a restart brought back is prepared
-pub restored_front : (splits : List ℕ) (before : List (List LogRecord)) (h : History) (after : List (List LogRecord)) (so_far rest : History) (n : ℕ) → LegalFrom splits before h after → so_far ++ rest ≡ h → n < shard_count splits
-    → RestoredArePrepared (state_before before so_far after n).local
-restored_front splits before h after so_far rest n l q i =
+pub restored_front : {splits : List ℕ} {before after : List (List LogRecord)} {h : History} → LegalFrom splits before h after
+    → (so_far rest : History) (n : ℕ) → so_far ++ rest ≡ h → n < shard_count splits → RestoredArePrepared (state_before before so_far after n).local
+restored_front {splits} {before} {after} {h} l so_far rest n q i =
     let log = log_of before n in
     let d = with_found n log (own_deeds before so_far after n) in
     restored_prepared n (run_after before) log (record d { asked = found_asked n log ++ requests_of so_far }) (state_before before so_far after n) (each_shard_leads splits before h after so_far rest n l q i)

@@ -26,9 +26,7 @@ use Rattle.law_base.proofs.LockRows.{Rows, violated_row}
 use Rattle.shard_laws.proofs.Writers.{Writers, writers_more, writers_all, writers_insert, writers_close, writers_release, needs_write, violated_wrote}
 use Rattle.shard_laws.proofs.Prepared.{prepared_append, prepare_here}
 use Rattle.shard_laws.proofs.Changes.{wrote_keeps, wrote_append}
-use Rattle.law_base.proofs.Stages.{stage_closed, closed_other}
-use Rattle.law_base.proofs.Stages.{closed_back, active_back}
-use Rattle.law_base.proofs.Stages.{other_part}
+use Rattle.law_base.proofs.Stages.{stage_closed, closed_other, closed_back, active_back, other_part}
 use Rattle.fate_laws.proofs.Prepares.{prepare_from, prepare_new}
 use Rattle.fate_laws.proofs.Closings.{new_active}
 use Rattle.fate_laws.proofs.Ahead.{Ahead, ahead_append}
@@ -62,31 +60,29 @@ or_first : (a b : Bool) → b ≡ false → (a || b) ≡ true → a ≡ true
 or_first a b e f = ⊎_elim (λ h. h) (λ h. absurd (both_ways _ e h)) (or_cases a b f)
 
 pub lined_more : (l : Local) (more : List LogRecord) → Plainly l.log more → Lined l → Lined (record l { log = l.log ++ more })
-lined_more l more k p =
-    record {
-      writers = writers_more (λ t. wrote_in l.log t ≡ true) (λ t. wrote_in (l.log ++ more) t ≡ true) (λ t w. wrote_keeps l.log more t w) l.locks p.writers;
-      decided = λ t c w. decided_more l.log more t (p.decided t c (or_first (wrote_in l.log t) (wrote_in more t) (k.updates t) (sym (wrote_append l.log more t) ∙ w)));
-      paired = λ t q i. decided_more l.log more q (p.paired t q i);
-      met = λ t q o i e. ⊎_elim (λ h. inl h) (λ h. inr (committed_keeps l.log more q h)) (p.met t q o i (prepare_from l.log more t o (k.prepares t) e));
-      wrote = λ t e. wrote_keeps l.log more t (p.wrote t (back t e));
-      unprepared = λ t a. false_from_ne_true _ (λ e. both_ways _ (p.unprepared t a) (back t e));
-      ahead = ahead_append [] l.log more p.ahead k.ahead;
-    }
+lined_more l more k p = record {
+  writers = writers_more (λ t. wrote_in l.log t ≡ true) (λ t. wrote_in (l.log ++ more) t ≡ true) (λ t w. wrote_keeps l.log more t w) l.locks p.writers;
+  decided = λ t c w. decided_more l.log more t (p.decided t c (or_first (wrote_in l.log t) (wrote_in more t) (k.updates t) (sym (wrote_append l.log more t) ∙ w)));
+  paired = λ t q i. decided_more l.log more q (p.paired t q i);
+  met = λ t q o i e. ⊎_elim (λ h. inl h) (λ h. inr (committed_keeps l.log more q h)) (p.met t q o i (prepare_from l.log more t o (k.prepares t) e));
+  wrote = λ t e. wrote_keeps l.log more t (p.wrote t (back t e));
+  unprepared = λ t a. false_from_ne_true _ (λ e. both_ways _ (p.unprepared t a) (back t e));
+  ahead = ahead_append [] l.log more p.ahead k.ahead;
+}
   where
     back : (t : TxId) → prepared_in (l.log ++ more) t ≡ true → prepared_in l.log t ≡ true
     back t e = or_first (prepared_in l.log t) (prepared_in more t) (k.prepares t) (sym (prepared_append l.log more t) ∙ e)
 
 pub lined_gone : (l m : Local) (set : List TxId) (d : Option TxId) → m.locks ≡ release set l.locks → m.parts ≡ gone_in set d l.parts → m.pairs ≡ pairs_without set l.pairs → m.log ≡ l.log → Lined l → Lined m
-lined_gone l m set d e f g h p =
-    record {
-      writers = subst (λ z. Writers (λ t. wrote_in z t ≡ true) m.locks) (sym h) (subst (Writers (λ t. wrote_in l.log t ≡ true)) (sym e) (writers_release (λ t. wrote_in l.log t ≡ true) set l.locks p.writers));
-      decided = λ t c w. subst (λ z. Decided z t) (sym h) (p.decided t (closed_back set d t l.parts (subst (λ z. stage_in z t ≡ Some Closed) f c)) (subst (λ z. wrote_in z t ≡ true) h w));
-      paired = λ t q i. subst (λ z. Decided z q) (sym h) (p.paired t q (old t q i));
-      met = λ t q o i k. subst (λ z. (tx_in q o.1 ≡ true) ⊎ (committed_in z q ≡ true)) (sym h) (p.met t q o (old t q i) (subst (λ z. prepare_of z t ≡ Some o) h k));
-      wrote = λ t k. subst (λ z. wrote_in z t ≡ true) (sym h) (p.wrote t (subst (λ z. prepared_in z t ≡ true) h k));
-      unprepared = λ t a. subst (λ z. prepared_in z t ≡ false) (sym h) (p.unprepared t (active_back set d t l.parts (subst (λ z. stage_in z t ≡ Some Active) f a)).1);
-      ahead = subst (Ahead []) (sym h) p.ahead;
-    }
+lined_gone l m set d e f g h p = record {
+  writers = subst (λ z. Writers (λ t. wrote_in z t ≡ true) m.locks) (sym h) (subst (Writers (λ t. wrote_in l.log t ≡ true)) (sym e) (writers_release (λ t. wrote_in l.log t ≡ true) set l.locks p.writers));
+  decided = λ t c w. subst (λ z. Decided z t) (sym h) (p.decided t (closed_back set d t l.parts (subst (λ z. stage_in z t ≡ Some Closed) f c)) (subst (λ z. wrote_in z t ≡ true) h w));
+  paired = λ t q i. subst (λ z. Decided z q) (sym h) (p.paired t q (old t q i));
+  met = λ t q o i k. subst (λ z. (tx_in q o.1 ≡ true) ⊎ (committed_in z q ≡ true)) (sym h) (p.met t q o (old t q i) (subst (λ z. prepare_of z t ≡ Some o) h k));
+  wrote = λ t k. subst (λ z. wrote_in z t ≡ true) (sym h) (p.wrote t (subst (λ z. prepared_in z t ≡ true) h k));
+  unprepared = λ t a. subst (λ z. prepared_in z t ≡ false) (sym h) (p.unprepared t (active_back set d t l.parts (subst (λ z. stage_in z t ≡ Some Active) f a)).1);
+  ahead = subst (Ahead []) (sym h) p.ahead;
+}
   where
     old : (t q : TxId) → is_pair m.pairs t q ≡ true → is_pair l.pairs t q ≡ true
     old t q i = (without_pairs set l.pairs t q (subst (λ z. is_pair z t q ≡ true) g i)).0
@@ -155,16 +151,15 @@ lined_performed l tx birth op P rows closed st u p = by_write (writes_of op (val
         insert_writes log mine k e = let w = inserting op l.records (value_at (key_of op) l.records) k e in mine w.0 w.1
 
     by_write : (w : Option (ℕ × Option ℕ × Option ℕ)) → writes_of op (value_at (key_of op) l.records) ≡ w → Lined (written tx w (locked tx birth op l))
-    by_write None e =
-        record {
-          writers = locks_by l.log (λ t k. k) (λ w f. absurd (none_some w (sym e ∙ f)));
-          decided = λ t c w. p.decided t (was_closed t c).1 w;
-          paired = λ t q i. is_paired l.log (λ q k. k) t q i;
-          met = is_met;
-          wrote = p.wrote;
-          unprepared = was_active;
-          ahead = p.ahead;
-        }
+    by_write None e = record {
+      writers = locks_by l.log (λ t k. k) (λ w f. absurd (none_some w (sym e ∙ f)));
+      decided = λ t c w. p.decided t (was_closed t c).1 w;
+      paired = λ t q i. is_paired l.log (λ q k. k) t q i;
+      met = is_met;
+      wrote = p.wrote;
+      unprepared = was_active;
+      ahead = p.ahead;
+    }
     by_write (Some w) e =
         let more = Update tx w.0 w.1 w.2 ∷ [] in
         record {
@@ -188,16 +183,15 @@ record Closing (l : Local) (tx : TxId) (more : List LogRecord) : Type 0 where
   ahead : Ahead l.log more
 
 closed_by : (l : Local) (tx : TxId) (more : List LogRecord) → stage_of l tx ≡ Some Active → Closing l tx more → Lined l → Lined (record l { locks = close_locks tx l.locks; parts = closed_in tx l.parts; log = l.log ++ more })
-closed_by l tx more a k p =
-    record {
-      writers = writers_close (λ t. wrote_in (l.log ++ more) t ≡ true) tx l.locks (writers_more (λ t. wrote_in l.log t ≡ true) (λ t. wrote_in (l.log ++ more) t ≡ true) (λ t w. wrote_keeps l.log more t w) l.locks p.writers);
-      decided = λ t c w. is_decided t (tx_same tx t) refl c (or_first (wrote_in l.log t) (wrote_in more t) (k.updates t) (sym (wrote_append l.log more t) ∙ w));
-      paired = λ t q i. decided_more l.log more q (p.paired t q i);
-      met = λ t q o i e. ⊎_elim (λ f. ⊎_elim (λ h. inl h) (λ h. inr (committed_keeps l.log more q h)) (p.met t q o i f)) (λ f. new_met q o (subst (λ z. is_pair l.pairs z q ≡ true) f.0 i) f.1 (committed_in l.log q) refl) (k.prepares t o e);
-      wrote = λ t e. wrote_keeps l.log more t (⊎_elim (λ f. p.wrote t f) (λ f. subst (λ z. wrote_in l.log z ≡ true) (sym f.0) f.1) (k.prepared t e));
-      unprepared = λ t b. false_from_ne_true _ (λ e. by_name t (tx_same tx t) refl b e);
-      ahead = ahead_append [] l.log more p.ahead k.ahead;
-    }
+closed_by l tx more a k p = record {
+  writers = writers_close (λ t. wrote_in (l.log ++ more) t ≡ true) tx l.locks (writers_more (λ t. wrote_in l.log t ≡ true) (λ t. wrote_in (l.log ++ more) t ≡ true) (λ t w. wrote_keeps l.log more t w) l.locks p.writers);
+  decided = λ t c w. is_decided t (tx_same tx t) refl c (or_first (wrote_in l.log t) (wrote_in more t) (k.updates t) (sym (wrote_append l.log more t) ∙ w));
+  paired = λ t q i. decided_more l.log more q (p.paired t q i);
+  met = λ t q o i e. ⊎_elim (λ f. ⊎_elim (λ h. inl h) (λ h. inr (committed_keeps l.log more q h)) (p.met t q o i f)) (λ f. new_met q o (subst (λ z. is_pair l.pairs z q ≡ true) f.0 i) f.1 (committed_in l.log q) refl) (k.prepares t o e);
+  wrote = λ t e. wrote_keeps l.log more t (⊎_elim (λ f. p.wrote t f) (λ f. subst (λ z. wrote_in l.log z ≡ true) (sym f.0) f.1) (k.prepared t e));
+  unprepared = λ t b. false_from_ne_true _ (λ e. by_name t (tx_same tx t) refl b e);
+  ahead = ahead_append [] l.log more p.ahead k.ahead;
+}
   where
     differ : Some Active ≡ Some Closed → ⊥
     differ z = absurd cc
@@ -230,14 +224,13 @@ closing_prepare l tx home us a w e p =
     own_list q f = sym (ap (λ (z : ℕ × List TxId). z.1) (some_same (home, us) q (sym (prepare_here l.log [] tx home us (p.unprepared tx a)) ∙ f)))
 
 closing_plain : (l : Local) (tx : TxId) (more : List LogRecord) → (wrote_in l.log tx ≡ true → Decided (l.log ++ more) tx) → ((t : TxId) → prepared_in more t ≡ false) → ((t : TxId) → wrote_in more t ≡ false) → Ahead l.log more → Closing l tx more
-closing_plain l tx more m n w a =
-    record {
-      mine = m;
-      prepares = λ t p e. inl (prepare_from l.log more t p (n t) e);
-      prepared = λ t e. inl (or_first (prepared_in l.log t) (prepared_in more t) (n t) (sym (prepared_append l.log more t) ∙ e));
-      updates = w;
-      ahead = a;
-    }
+closing_plain l tx more m n w a = record {
+  mine = m;
+  prepares = λ t p e. inl (prepare_from l.log more t p (n t) e);
+  prepared = λ t e. inl (or_first (prepared_in l.log t) (prepared_in more t) (n t) (sym (prepared_append l.log more t) ∙ e));
+  updates = w;
+  ahead = a;
+}
 
 closing_kind : (l : Local) (tx : TxId) (home : ℕ) (b one : Bool) (us : List TxId) → stage_of l tx ≡ Some Active → wrote_in l.log tx ≡ b → us ≡ undecided_of l tx → Lined l → Closing l tx (closing b one tx home us)
 closing_kind l tx home false one us a w e p = closing_plain l tx [] (λ x. absurd (both_ways _ w x)) (λ t. refl) (λ t. refl) tt

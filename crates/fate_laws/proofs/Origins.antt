@@ -207,33 +207,31 @@ undone_all A Q O n log set a = push_records A Q O n (log ++ aborts_of log set) (
 -- ---- changes
 
 pub from_rolled : (n ep : ℕ) (D : TxId → Birth → Type 0) (A : TxId → Type 0) (Q : TxId → ℕ → Type 0) (O K : TxId → Type 0) (s : Shard) (tx : TxId) → Origins n ep D A Q O K s → Origins n ep D A Q O K (with_local (roll_back tx) s)
-from_rolled n ep D A Q O K s tx p =
-    record {
-      shard = p.shard;
-      epoch = p.epoch;
-      out = p.out;
-      voters = p.voters;
-      parts = gone_rows D (SomeRequest Q O) (doomed_here s.local tx) (Some tx) s.local.parts (λ t b i. tt) p.parts;
-      known = λ t k e. p.known t k (gone_known (doomed_here s.local tx) (Some tx) s.local.parts t e);
-      log = undone_all A Q O n s.local.log (doomed_here s.local tx) p.log;
-      requests = p.requests;
-    }
+from_rolled n ep D A Q O K s tx p = record {
+  shard = p.shard;
+  epoch = p.epoch;
+  out = p.out;
+  voters = p.voters;
+  parts = gone_rows D (SomeRequest Q O) (doomed_here s.local tx) (Some tx) s.local.parts (λ t b i. tt) p.parts;
+  known = λ t k e. p.known t k (gone_known (doomed_here s.local tx) (Some tx) s.local.parts t e);
+  log = undone_all A Q O n s.local.log (doomed_here s.local tx) p.log;
+  requests = p.requests;
+}
 
 pub in_one : (t u : TxId) → tx_in t (u ∷ []) ≡ true → t ≡ u
 in_one t u e = ⊎_elim (λ a. sym (tx_true u t a)) (λ a. absurd (both_ways false refl a)) (or_cases (tx_same u t) false e)
 
 pub from_finished : (n ep : ℕ) (D : TxId → Birth → Type 0) (A : TxId → Type 0) (Q : TxId → ℕ → Type 0) (O K : TxId → Type 0) (s : Shard) (tx : TxId) → SomeRequest Q O tx → Origins n ep D A Q O K s → Origins n ep D A Q O K (finish_part tx s)
-from_finished n ep D A Q O K s tx r p =
-    record {
-      shard = p.shard;
-      epoch = p.epoch;
-      out = p.out;
-      voters = p.voters;
-      parts = gone_rows D (SomeRequest Q O) (tx ∷ []) None s.local.parts (λ t b i. subst (SomeRequest Q O) (sym (in_one t tx i)) r) p.parts;
-      known = λ t k e. p.known t k (gone_known (tx ∷ []) None s.local.parts t e);
-      log = p.log;
-      requests = p.requests;
-    }
+from_finished n ep D A Q O K s tx r p = record {
+  shard = p.shard;
+  epoch = p.epoch;
+  out = p.out;
+  voters = p.voters;
+  parts = gone_rows D (SomeRequest Q O) (tx ∷ []) None s.local.parts (λ t b i. subst (SomeRequest Q O) (sym (in_one t tx i)) r) p.parts;
+  known = λ t k e. p.known t k (gone_known (tx ∷ []) None s.local.parts t e);
+  log = p.log;
+  requests = p.requests;
+}
 
 pub from_send : (n ep : ℕ) (D : TxId → Birth → Type 0) (A : TxId → Type 0) (Q : TxId → ℕ → Type 0) (O K : TxId → Type 0) (s : Shard) (ms : List Message) → AllByRecursion (MessageFrom Q O) ms → Origins n ep D A Q O K s → Origins n ep D A Q O K (send ms s)
 from_send n ep D A Q O K s ms a p =

@@ -96,32 +96,31 @@ pub base_next : (run : ℕ) (W : TxId → ℕ → List (ℕ × ℕ) → Type 0) 
     → ((tx : TxId) → stage_of t.local tx ≡ Some Closed → (stage_of s.local tx ≡ Some Closed) ⊎ ((stage_of s.local tx ≡ Some Active) × (tx.run ≡ run → HomeOr W s.shard tx)))
     → ((tx q : TxId) → stage_of t.local tx ≡ Some Closed → is_pair s.local.pairs tx q ≡ true → is_pair t.local.pairs tx q ≡ true)
     → ((tx : TxId) → stage_of t.local tx ≡ Some Active → prepared_in s.local.log tx ≡ false) → Base run W s → Base run W t
-base_next run W s t i prep clo keep act b =
-    record {
-      counted = let l = grown_length s.local.log t.local.log i.log in let d = i.durable in omega (arith, l, d, b.counted);
-      ordered = λ tx k h.
-          let x = prepare_some t.local.log tx (place_there 0 (is_prepare_of tx) t.local.log k h) in
-          ⊎_elim (λ e. longer_ordered s.local.log t.local.log tx k i.log b.ordered (prepared_there s.local.log tx x.0 e) h) (λ c. new_ordered s t tx k c (b.unprepared tx c.was) h) (prep tx x.0 x.1);
-      listed = λ tx p q c h m.
-          ⊎_elim
-          (λ e. ⊎_elim
-          (λ st. ⊎_elim
-          (λ d. inl (grown_durable s t q i d))
-          (λ r. inr (keep tx q c r))
-          (b.listed tx p q st e m))
-          (λ st. absurd (both_ways _ (b.unprepared tx st.0) (prepared_there s.local.log tx p e)))
-          (clo tx c))
-          (λ n. inr (subst (λ l. is_pair l tx q ≡ true) (sym n.pairs)
-          (in_pair s.local.pairs tx q (in_filter (λ z. not (committed_in s.local.log z)) q (predecessors_of s.local.pairs tx) (subst (λ l. tx_in q l ≡ true) (new_list s t tx p n (b.unprepared tx n.was) h) m)).0)))
-          (prep tx p h);
-      unprepared = λ tx a. false_from_ne_true _ (λ h.
-          let x = prepare_some t.local.log tx h in
-          ⊎_elim (λ e. both_ways _ (act tx a) (prepared_there s.local.log tx x.0 e)) (λ n. differ (sym a ∙ n.now)) (prep tx x.0 x.1));
-      seen = λ tx h r.
-          let x = prepare_some t.local.log tx h in
-          ⊎_elim (λ e. moved tx (b.seen tx (prepared_there s.local.log tx x.0 e) r)) (λ n. ⊎_elim (λ st. moved tx (b.closed tx st r)) (λ st. moved tx (st.1 r)) (clo tx n.now)) (prep tx x.0 x.1);
-      closed = λ tx h r. ⊎_elim (λ st. moved tx (b.closed tx st r)) (λ st. moved tx (st.1 r)) (clo tx h);
-    }
+base_next run W s t i prep clo keep act b = record {
+  counted = let l = grown_length s.local.log t.local.log i.log in let d = i.durable in omega (arith, l, d, b.counted);
+  ordered = λ tx k h.
+      let x = prepare_some t.local.log tx (place_there 0 (is_prepare_of tx) t.local.log k h) in
+      ⊎_elim (λ e. longer_ordered s.local.log t.local.log tx k i.log b.ordered (prepared_there s.local.log tx x.0 e) h) (λ c. new_ordered s t tx k c (b.unprepared tx c.was) h) (prep tx x.0 x.1);
+  listed = λ tx p q c h m.
+      ⊎_elim
+      (λ e. ⊎_elim
+      (λ st. ⊎_elim
+      (λ d. inl (grown_durable s t q i d))
+      (λ r. inr (keep tx q c r))
+      (b.listed tx p q st e m))
+      (λ st. absurd (both_ways _ (b.unprepared tx st.0) (prepared_there s.local.log tx p e)))
+      (clo tx c))
+      (λ n. inr (subst (λ l. is_pair l tx q ≡ true) (sym n.pairs)
+      (in_pair s.local.pairs tx q (in_filter (λ z. not (committed_in s.local.log z)) q (predecessors_of s.local.pairs tx) (subst (λ l. tx_in q l ≡ true) (new_list s t tx p n (b.unprepared tx n.was) h) m)).0)))
+      (prep tx p h);
+  unprepared = λ tx a. false_from_ne_true _ (λ h.
+      let x = prepare_some t.local.log tx h in
+      ⊎_elim (λ e. both_ways _ (act tx a) (prepared_there s.local.log tx x.0 e)) (λ n. differ (sym a ∙ n.now)) (prep tx x.0 x.1));
+  seen = λ tx h r.
+      let x = prepare_some t.local.log tx h in
+      ⊎_elim (λ e. moved tx (b.seen tx (prepared_there s.local.log tx x.0 e) r)) (λ n. ⊎_elim (λ st. moved tx (b.closed tx st r)) (λ st. moved tx (st.1 r)) (clo tx n.now)) (prep tx x.0 x.1);
+  closed = λ tx h r. ⊎_elim (λ st. moved tx (b.closed tx st r)) (λ st. moved tx (st.1 r)) (clo tx h);
+}
   where
     differ : Some Active ≡ Some Closed → ⊥
     differ z = absurd cc

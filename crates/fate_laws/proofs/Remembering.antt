@@ -49,12 +49,11 @@ fell_more before after pre y n t (front, rest, q, inr (e, more, r, k, d)) =
     (front, rest ++ y ∷ [], sym (append_assoc front rest (y ∷ [])) ∙ ap (λ l. l ++ y ∷ []) q, inr (e, more ++ y ∷ [], ap (λ l. l ++ y ∷ []) r, k, d))
 
 pub remembers_more : (before after : List (List LogRecord)) (pre : History) (y : Placed) (n : ℕ) (d : Deeds) → Remembers before after pre n d → Remembers before after (pre ++ y ∷ []) n d
-remembers_more before after pre y n d m =
-    record {
-      items = all_mono (λ z. DidOrOld (run_after before) pre n z.tx) (λ z. DidOrOld (run_after before) (pre ++ y ∷ []) n z.tx) (λ z. old_more (run_after before) pre y n z.tx) d.items m.items;
-      met = λ t p e. old_more (run_after before) pre y n t (m.met t p e);
-      fell = λ t i. let f = m.fell t i in (old_more (run_after before) pre y n t f.0, fell_more before after pre y n t f.1);
-    }
+remembers_more before after pre y n d m = record {
+  items = all_mono (λ z. DidOrOld (run_after before) pre n z.tx) (λ z. DidOrOld (run_after before) (pre ++ y ∷ []) n z.tx) (λ z. old_more (run_after before) pre y n z.tx) d.items m.items;
+  met = λ t p e. old_more (run_after before) pre y n t (m.met t p e);
+  fell = λ t i. let f = m.fell t i in (old_more (run_after before) pre y n t f.0, fell_more before after pre y n t f.1);
+}
 
 -- ---- whose part is here did an operation here, or is of an earlier run
 

@@ -140,12 +140,11 @@ bound_state shard own epoch log last journal tx p e k =
     }
 
 pub reads_state : (shard own epoch : ℕ) (log : List LogRecord) (last : ℕ) (journal : List Entry) (tx : TxId) → prepared_in log tx ≡ false → Reads (state_after shard own epoch log last journal) tx
-reads_state shard own epoch log last journal tx u =
-    record {
-      unprepared = u;
-      inactive = λ a. differ (restored_stage (in_doubt shard log) tx Active a).0;
-      unclosed = λ c. both_ways _ u (doubt_prepared shard log tx (restored_stage (in_doubt shard log) tx Closed c).1);
-    }
+reads_state shard own epoch log last journal tx u = record {
+  unprepared = u;
+  inactive = λ a. differ (restored_stage (in_doubt shard log) tx Active a).0;
+  unclosed = λ c. both_ways _ u (doubt_prepared shard log tx (restored_stage (in_doubt shard log) tx Closed c).1);
+}
   where
     differ : Active ≡ Closed → ⊥
     differ z = absurd cc

@@ -54,27 +54,28 @@ undecided_away splits before after h pre n e tx to home stamp q w b v c g u =
     let z : WasSent pre (Deliver (Decide to tx home true) stamp) = subst (WasSent pre) v w.sent in
     both_ways _ c (home_committed splits before after h pre (n, e) tx q.touched w (delivered splits before after pre (Decide to tx home true) stamp b.fated z r) a)
 
-pub all_found : (splits : List ℕ) (before after : List (List LogRecord)) (h : History) → LegalFrom splits before h after → AllFound before h after
-all_found splits before after h l pre n e later tx to home stamp q v o c =
-    let w = next_at splits before after h pre (n, e) later l.legal q in
-    let b = bindings_front splits before after h pre ((n, e) ∷ later) l q in
-    let first = due_at splits before after h pre (n, e) tx to home stamp w b v c in
-    record {
-      due = first.0;
-      unfallen = commits_spare_the_fallen splits before after h l pre n e later tx to home stamp q v o c;
-      wrote = first.1;
-      decided = λ r x u. undecided_away splits before after h pre n e tx to home stamp r w b v c x u;
-    }
+module _ {splits : List ℕ} {before after : List (List LogRecord)} {h : History} (l : LegalFrom splits before h after) where
+  pub all_found : AllFound before h after
+  all_found pre n e later tx to home stamp q v o c =
+      let w = next_at splits before after h pre (n, e) later l.legal q in
+      let b = bindings_front l pre ((n, e) ∷ later) q in
+      let first = due_at splits before after h pre (n, e) tx to home stamp w b v c in
+      record {
+        due = first.0;
+        unfallen = commits_spare_the_fallen l pre n e later tx to home stamp q v o c;
+        wrote = first.1;
+        decided = λ r x u. undecided_away splits before after h pre n e tx to home stamp r w b v c x u;
+      }
 
--- ---- a drop
+  -- ---- a drop
 
-pub drops_spared : (splits : List ℕ) (before after : List (List LogRecord)) (h : History) → LegalFrom splits before h after → DropsSpared before h after
-drops_spared splits before after h l pre n e later tx q v =
-    let w = next_at splits before after h pre (n, e) later l.legal q in
-    let k = spared_front splits before after h pre ((n, e) ∷ later) l q in
-    let r = (walker_of splits before after h (n, e) tx l.legal w.among (ap tx_of v)).0 in
-    false_from_ne_true _ (λ c.
-    let a = committed_asked splits before after h pre n tx w.inside (bindings_front splits before after h pre ((n, e) ∷ later) l q).fated r c in
-    let d = dropped_dead splits before after h pre (n, e) tx a.0 w k v r a.1 in
-    let z = one_home splits before after h tx a.0 d.0 (a.1).0 ((d.1).0).0 (a.1).1 ((d.1).0).1 l.legal (w.earlier (a.0, (a.1).0) (a.1).2).0 (a.1).3 (w.earlier (d.0, ((d.1).0).0) ((d.1).0).2).0 ((d.1).0).3 in
-    both_ways _ ((d.1).1).0 (subst (λ i. committed_in (state_before before pre after i).local.log tx ≡ true) z a.2))
+  pub drops_spared : DropsSpared before h after
+  drops_spared pre n e later tx q v =
+      let w = next_at splits before after h pre (n, e) later l.legal q in
+      let k = spared_front l pre ((n, e) ∷ later) q in
+      let r = (walker_of splits before after h (n, e) tx l.legal w.among (ap tx_of v)).0 in
+      false_from_ne_true _ (λ c.
+      let a = committed_asked splits before after h pre n tx w.inside (bindings_front l pre ((n, e) ∷ later) q).fated r c in
+      let d = dropped_dead splits before after h pre (n, e) tx a.0 w k v r a.1 in
+      let z = one_home splits before after h tx a.0 d.0 (a.1).0 ((d.1).0).0 (a.1).1 ((d.1).0).1 l.legal (w.earlier (a.0, (a.1).0) (a.1).2).0 (a.1).3 (w.earlier (d.0, ((d.1).0).0) ((d.1).0).2).0 ((d.1).0).3 in
+      both_ways _ ((d.1).1).0 (subst (λ i. committed_in (state_before before pre after i).local.log tx ≡ true) z a.2))

@@ -23,7 +23,7 @@ use Rattle.clv_base.specs.Events.{is_asked_outcome, entry_request, request_epoch
 use Rattle.clv_base.specs.Restarts.{run_after, log_after_restart}
 use Rattle.clv_base.specs.Sessions.{no_session}
 use Rattle.clv_base.specs.Journals.{History, own, journal_of}
-use Rattle.clv_base.specs.History.{Legal, WasSent}
+use Rattle.clv_base.specs.History.{Legal, WasSent, is_acknowledgement}
 use Rattle.clv_base.proofs.SameNames.{tx_true, tx_self}
 use Rattle.law_base.proofs.Changed.{none_some}
 use Rattle.protocol_laws.specs.SessionLaws.{tx_of, works_on, ended_by}
@@ -38,7 +38,6 @@ use Rattle.history_laws.proofs.Walkers.{nothing_follows}
 use Rattle.history_laws.proofs.Endings.{names, nothing_after_end}
 use Rattle.history_laws.proofs.Serials.{any_among}
 use Rattle.protocol_laws.proofs.InOrder.{sessions_keep_order}
-use Rattle.clv_base.specs.History.{is_acknowledgement}
 use Rattle.clv_base.specs.declared.names.Birth.{Birth}
 use Rattle.clv_base.specs.declared.ops.Op.{Op}
 use Rattle.history_cases.proofs.Worlds.{state_at, journal_append, other_journal}
@@ -255,24 +254,23 @@ spared_next splits before after h pre e w k =
         (dead_later splits before after h pre e w (((k.lowered).bindings).fated) e.0 tx r (found_dead splits before after h pre e.0 tx c w.inside k r f))
     last y tx c (inr z) q o r = elim z [ ]
 
-pub spared_front : (splits : List ℕ) (before after : List (List LogRecord)) (h pre post : History) → LegalFrom splits before h after → pre ++ post ≡ h → Spared splits before after h pre
-spared_front splits before after h pre post l q =
-    walk_front (Spared splits before after h) splits before after h [] pre post l.legal q (spared_next splits before after h)
-    (record {
-      lowered = lowered_front splits before after h [] h l refl;
+pub spared_front : {splits : List ℕ} {before after : List (List LogRecord)} {h : History} → LegalFrom splits before h after → (pre post : History) → pre ++ post ≡ h → Spared splits before after h pre
+spared_front {splits} {before} {after} {h} l pre post q =
+    walk_front (Spared splits before after h) splits before after h [] pre post l.legal q (spared_next splits before after h) (record {
+      lowered = lowered_front l [] h refl;
       kept = λ n i. kept_state n (run_after before) 0 (log_after_restart n (log_of before n) (run_after before) 0) 0 [];
       journal = λ n i. refl;
       looks = λ x tx c i. elim i [ ];
     })
 
 pub doomed_are_uncommitted : DoomedAreUncommitted
-doomed_are_uncommitted splits before so_far later after n tx doom l i g = ((spared_front splits before after (so_far ++ later) so_far later l refl).kept n i).gone tx doom g
+doomed_are_uncommitted splits before so_far later after n tx doom l i g = ((spared_front l so_far later refl).kept n i).gone tx doom g
 
 -- whom a look found aborted
-looked_nowhere : (splits : List ℕ) (before : List (List LogRecord)) (h : History) (after : List (List LogRecord)) (choice : ℕ → Bool) (n : ℕ) (x : Placed) (tx : TxId) (cause : AbortCause) → LegalFrom splits before h after → n < shard_count splits
-    → Among x h → (x.1).event ≡ Look tx → (x.1).outcome ≡ Aborted cause → is_left splits before h after choice n tx ≡ true → ⊥
-looked_nowhere splits before h after choice n x tx cause l i j q a c =
-    let k = spared_front splits before after h h [] l (append-nil h) in
+looked_nowhere : {splits : List ℕ} {before after : List (List LogRecord)} {h : History} → LegalFrom splits before h after → (choice : ℕ → Bool) (n : ℕ) (x : Placed) (tx : TxId) (cause : AbortCause)
+    → n < shard_count splits → Among x h → (x.1).event ≡ Look tx → (x.1).outcome ≡ Aborted cause → is_left splits before h after choice n tx ≡ true → ⊥
+looked_nowhere {splits} {before} {after} {h} l choice n x tx cause i j q a c =
+    let k = spared_front l h [] (append-nil h) in
     let r = (walker_of splits before after h x tx l.legal j (ap tx_of q)).0 in
     let d = k.looks x tx cause j q a r in
     let z = committed_asked splits before after h h n tx i k r (left_committed splits before h after choice n tx i c) in
@@ -292,35 +290,34 @@ died_unasked splits before after h x tx n l i t w a u (r, ts, j, q) =
     (λ b. both_ways _ (nothing_after_end splits v (no_session (run_after before) r.walker) x (n, r) tx p.session b (or_right (is_acknowledgement tx (x.1).event (x.1).outcome) _ a)) (ap (names false tx) q.0 ∙ tx_self tx)) z)
     (in_turn (n, r) x v p.first p.second)
 
-died_nowhere : (splits : List ℕ) (before : List (List LogRecord)) (h : History) (after : List (List LogRecord)) (choice : ℕ → Bool) (n : ℕ) (x : Placed) (tx : TxId) → LegalFrom splits before h after → n < shard_count splits
-    → Among x h → tx_of (x.1).event ≡ Some tx → works_on tx.serial (x.1).event ≡ true → is_abort tx (x.1).event (x.1).outcome ≡ true → ((x.1).outcome ≡ Asked → ⊥) → is_left splits before h after choice n tx ≡ true → ⊥
-died_nowhere splits before h after choice n x tx l i j t w a u c =
-    let r = (walker_of splits before after h x tx l.legal j t).0 in
-    let k = commits_stand_at_home splits before h after choice n tx l i r c in
-    let b = k.1 in
-    died_unasked splits before after h x tx k.0 l.legal j t w a u (b.0, b.1, is_among k.0 b.0 h b.2, (b.3, b.4))
+module _ {splits : List ℕ} {before after : List (List LogRecord)} {h : History} (l : LegalFrom splits before h after) where
+  died_nowhere : (choice : ℕ → Bool) (n : ℕ) (x : Placed) (tx : TxId) → n < shard_count splits → Among x h → tx_of (x.1).event ≡ Some tx → works_on tx.serial (x.1).event ≡ true
+      → is_abort tx (x.1).event (x.1).outcome ≡ true → ((x.1).outcome ≡ Asked → ⊥) → is_left splits before h after choice n tx ≡ true → ⊥
+  died_nowhere choice n x tx i j t w a u c =
+      let r = (walker_of splits before after h x tx l.legal j t).0 in
+      let k = commits_stand_at_home splits before h after choice n tx l i r c in
+      let b = k.1 in
+      died_unasked splits before after h x tx k.0 l.legal j t w a u (b.0, b.1, is_among k.0 b.0 h b.2, (b.3, b.4))
 
--- who was dropped made no request, or a look found it aborted before
-dropped_nowhere : (splits : List ℕ) (before : List (List LogRecord)) (h : History) (after : List (List LogRecord)) (choice : ℕ → Bool) (n : ℕ) (x : Placed) (tx : TxId) → LegalFrom splits before h after → n < shard_count splits
-    → Among x h → (x.1).event ≡ Drop tx → is_abort tx (x.1).event (x.1).outcome ≡ true → is_left splits before h after choice n tx ≡ true → ⊥
-dropped_nowhere splits before h after choice n x tx l i j q a c =
-    let run = (walker_of splits before after h x tx l.legal j (ap tx_of q)).0 in
-    let k = commits_stand_at_home splits before h after choice n tx l i run c in
-    let r : Placed = (k.0, (k.1).0) in
-    let asked : (((k.1).0).event ≡ RequestEvent tx (k.1).1) × (((k.1).0).outcome ≡ Asked) = ((k.1).3, (k.1).4) in
-    let p = together splits before after h r x tx l.legal (is_among k.0 (k.1).0 h (k.1).2) j (ap tx_of asked.0) (ap tx_of q) in
-    let v = own ((k.1).0).walker h in
-    let start = no_session (run_after before) ((k.1).0).walker in
-    ⊎_elim (λ z. differ (k.1).1 (sym asked.0 ∙ ap (λ y. (y.1).event) z ∙ q))
-    (λ z. ⊎_elim
-    (λ b.
-    let y = drop_after_request splits v start r x tx (k.1).1 p.session b asked.0 asked.1 q in
-    looked_nowhere splits before h after choice n y.0 tx y.1 l i (from_own ((k.1).0).walker y.0 h (first_among y.0 x v y.2)) y.3 y.4 c)
-    (λ b. both_ways _ (nothing_after_end splits v start x r tx p.session b (or_right (is_acknowledgement tx (x.1).event (x.1).outcome) _ a)) (ap (names false tx) asked.0 ∙ tx_self tx)) z)
-    (in_turn r x v p.first p.second)
-  where
-    differ : (ts : List (ℕ × ℕ)) → RequestEvent tx ts ≡ Drop tx → ⊥
-    differ ts z = absurd cc
+  -- who was dropped made no request, or a look found it aborted before
+  dropped_nowhere : (choice : ℕ → Bool) (n : ℕ) (x : Placed) (tx : TxId) → n < shard_count splits → Among x h → (x.1).event ≡ Drop tx
+      → is_abort tx (x.1).event (x.1).outcome ≡ true → is_left splits before h after choice n tx ≡ true → ⊥
+  dropped_nowhere choice n x tx i j q a c =
+      let run = (walker_of splits before after h x tx l.legal j (ap tx_of q)).0 in
+      let k = commits_stand_at_home splits before h after choice n tx l i run c in
+      let r : Placed = (k.0, (k.1).0) in
+      let asked : (((k.1).0).event ≡ RequestEvent tx (k.1).1) × (((k.1).0).outcome ≡ Asked) = ((k.1).3, (k.1).4) in
+      let p = together splits before after h r x tx l.legal (is_among k.0 (k.1).0 h (k.1).2) j (ap tx_of asked.0) (ap tx_of q) in
+      let v = own ((k.1).0).walker h in
+      let start = no_session (run_after before) ((k.1).0).walker in
+      ⊎_elim (λ z. differ (k.1).1 (sym asked.0 ∙ ap (λ y. (y.1).event) z ∙ q)) (λ z. ⊎_elim (λ b.
+      let y = drop_after_request splits v start r x tx (k.1).1 p.session b asked.0 asked.1 q in
+      looked_nowhere l choice n y.0 tx y.1 i (from_own ((k.1).0).walker y.0 h (first_among y.0 x v y.2)) y.3 y.4 c)
+      (λ b. both_ways _ (nothing_after_end splits v start x r tx p.session b (or_right (is_acknowledgement tx (x.1).event (x.1).outcome) _ a)) (ap (names false tx) asked.0 ∙ tx_self tx)) z)
+      (in_turn r x v p.first p.second)
+    where
+      differ : (ts : List (ℕ × ℕ)) → RequestEvent tx ts ≡ Drop tx → ⊥
+      differ ts z = absurd cc
 
 -- an entry that tells of an abort
 data TellsAbort (tx : TxId) : Event → Outcome → Type 0 where
@@ -336,24 +333,23 @@ tells_abort tx (Look u) (Aborted cause) a = subst (λ v. TellsAbort tx (Look v) 
 tells_abort tx (Drop u) Dropped a = subst (λ v. TellsAbort tx (Drop v) Dropped) (tx_true tx u a) dropped
 tells_abort tx _ _ a = absurd (both_ways false refl a)
 
-told_nowhere : (splits : List ℕ) (before : List (List LogRecord)) (h : History) (after : List (List LogRecord)) (choice : ℕ → Bool) (n : ℕ) (x : Placed) (tx : TxId) {e : Event} {o : Outcome} → (x.1).event ≡ e → (x.1).outcome ≡ o → TellsAbort tx e o
-    → LegalFrom splits before h after → n < shard_count splits → Among x h → is_abort tx (x.1).event (x.1).outcome ≡ true → is_left splits before h after choice n tx ≡ true → ⊥
-told_nowhere splits before h after choice n x tx f g (operated birth nth seen op cause) l i j a c =
-    died_nowhere splits before h after choice n x tx l i j (ap tx_of f) (ap (works_on tx.serial) f ∙ eq-eqb tx.serial tx.serial refl) a (λ z. differ (sym g ∙ z)) c
+told_nowhere : {splits : List ℕ} {before after : List (List LogRecord)} {h : History} → LegalFrom splits before h after → (choice : ℕ → Bool) (n : ℕ) (x : Placed) (tx : TxId) {e : Event} {o : Outcome}
+    → (x.1).event ≡ e → (x.1).outcome ≡ o → TellsAbort tx e o → n < shard_count splits → Among x h → is_abort tx (x.1).event (x.1).outcome ≡ true → is_left splits before h after choice n tx ≡ true → ⊥
+told_nowhere l choice n x tx f g (operated birth nth seen op cause) i j a c =
+    died_nowhere l choice n x tx i j (ap tx_of f) (ap (works_on tx.serial) f ∙ eq-eqb tx.serial tx.serial refl) a (λ z. differ (sym g ∙ z)) c
   where
     differ : DeadOutcome cause ≡ Asked → ⊥
     differ z = absurd cc
-told_nowhere splits before h after choice n x tx f g (requested ts cause) l i j a c =
-    died_nowhere splits before h after choice n x tx l i j (ap tx_of f) (ap (works_on tx.serial) f ∙ eq-eqb tx.serial tx.serial refl) a (λ z. differ (sym g ∙ z)) c
+told_nowhere l choice n x tx f g (requested ts cause) i j a c =
+    died_nowhere l choice n x tx i j (ap tx_of f) (ap (works_on tx.serial) f ∙ eq-eqb tx.serial tx.serial refl) a (λ z. differ (sym g ∙ z)) c
   where
     differ : DeadOutcome cause ≡ Asked → ⊥
     differ z = absurd cc
-told_nowhere splits before h after choice n x tx f g (looked cause) l i j a c = looked_nowhere splits before h after choice n x tx cause l i j f g c
-told_nowhere splits before h after choice n x tx f g dropped l i j a c = dropped_nowhere splits before h after choice n x tx l i j f a c
+told_nowhere l choice n x tx f g (looked cause) i j a c = looked_nowhere l choice n x tx cause i j f g c
+told_nowhere l choice n x tx f g dropped i j a c = dropped_nowhere l choice n x tx i j f a c
 
 pub aborted_are_committed_nowhere : AbortedAreCommittedNowhere
 aborted_are_committed_nowhere splits before h after choice n tx l i a =
-    false_from_ne_true _
-    (λ c.
+    false_from_ne_true _ (λ c.
     let x = any_among (λ e. is_abort tx (e.1).event (e.1).outcome) h a in
-    told_nowhere splits before h after choice n x.0 tx refl refl (tells_abort tx ((x.0).1).event ((x.0).1).outcome x.2) l i x.1 x.2 c)
+    told_nowhere l choice n x.0 tx refl refl (tells_abort tx ((x.0).1).event ((x.0).1).outcome x.2) i x.1 x.2 c)

@@ -34,8 +34,7 @@ use Rattle.clv_base.specs.Events.{is_alone, coordinate, owe_vote, decided}
 use Rattle.clv_base.proofs.SameNames.{tx_true}
 use Rattle.law_base.proofs.Changed.{none_some, Set_or_old, get_set}
 use Rattle.law_base.proofs.Tables.{stage_by, stage_in, is_pair, get_put}
-use Rattle.law_base.proofs.Stages.{stage_closed, closed_other as stage_other, written_parts}
-use Rattle.law_base.proofs.Stages.{stage_marked}
+use Rattle.law_base.proofs.Stages.{stage_closed, closed_other as stage_other, written_parts, stage_marked}
 use Rattle.history_cases.proofs.Stepping.{with_work, Step, op_dies, op_answers, request_refused, request_doomed, request_again, request_new, request_closes, looks_well, looks_ill, drops, prepare_closes, prepare_again, vote_counts, decision_comes, done_counts}
 use Rattle.history_laws.proofs.Replying.{OpIs, dies, rolls, performs, reply_is}
 use Rattle.fate_laws.proofs.CauseVotes.{votes_more}
@@ -100,13 +99,12 @@ abbrev SameOrThere : Option Stage → Option Stage → Type 0
 SameOrThere a b = (b ≡ a) ⊎ (NotGone a × NotGone b)
 
 dooms_by : (s u : Shard) → u.shard ≡ s.shard → ((t : TxId) → SameOrThere (stage_of s.local t) (stage_of u.local t)) → Dooms s u
-dooms_by s u z k =
-    record {
-      shard = z;
-      to = λ t d e. to t (Some d) e (k t);
-      back = λ t d e. back t (Some d) e (k t);
-      none = λ t e. back t None e (k t);
-    }
+dooms_by s u z k = record {
+  shard = z;
+  to = λ t d e. to t (Some d) e (k t);
+  back = λ t d e. back t (Some d) e (k t);
+  none = λ t e. back t None e (k t);
+}
   where
     to : (t : TxId) (d : Option TxId) → stage_of u.local t ≡ Some (Gone d) → SameOrThere (stage_of s.local t) (stage_of u.local t) → stage_of s.local t ≡ Some (Gone d)
     to t d e (inl q) = sym q ∙ e

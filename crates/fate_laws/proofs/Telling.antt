@@ -212,26 +212,26 @@ look_stands splits before after h pre e t c w i k (inr (epoch, none, open_, foun
 
 -- ---- the law
 
-tells : (splits : List ℕ) (before after : List (List LogRecord)) (h pre : History) (e : Placed) (post : History) (t : TxId) (c : AbortCause) (ev : Event) (o : Outcome) → LegalFrom splits before h after → pre ++ e ∷ post ≡ h → (e.1).event ≡ ev → (e.1).outcome ≡ o
-    → TellsCause ev o t c → Holds before pre after e t c
-tells splits before after h pre e post _ _ _ _ l q p r (op_died t b nth seen op c) =
+tells : {splits : List ℕ} {before after : List (List LogRecord)} {h : History} → LegalFrom splits before h after → (pre : History) (e : Placed) (post : History) (t : TxId) (c : AbortCause) (ev : Event) (o : Outcome) → pre ++ e ∷ post ≡ h
+    → (e.1).event ≡ ev → (e.1).outcome ≡ o → TellsCause ev o t c → Holds before pre after e t c
+tells {splits} {before} {after} {h} l pre e post _ _ _ _ q p r (op_died t b nth seen op c) =
     let s = state_at before after e.0 pre in
     let x = next_at splits before after h pre e post l.legal q in
-    let w = before_entry splits before after h pre e post l q in
+    let w = before_entry l pre e post q in
     let d = op_made (log_of after e.0) s _ t b nth seen op c (makes (log_of after e.0) s (e.1).event (e.1).outcome ((x.split).enters).event) p r in
-    op_stands splits before after h pre e t b nth seen op c w (caused_front splits before after h pre (e ∷ post) e.0 l q x.inside) p (op_why s.shard s.local d.0 t b seen op c d.1)
-tells splits before after h pre e post _ _ _ _ l q p r (request_died t ts c) =
+    op_stands splits before after h pre e t b nth seen op c w (caused_front l pre (e ∷ post) e.0 q x.inside) p (op_why s.shard s.local d.0 t b seen op c d.1)
+tells {splits} {before} {after} {h} l pre e post _ _ _ _ q p r (request_died t ts c) =
     let s = state_at before after e.0 pre in
     let x = next_at splits before after h pre e post l.legal q in
-    let w = before_entry splits before after h pre e post l q in
+    let w = before_entry l pre e post q in
     let d : EventMay (log_of after e.0) s (RequestEvent t ts) (Dead c) = subst (λ z. EventMay (log_of after e.0) s (RequestEvent t ts) z) r (subst (λ z. EventMay (log_of after e.0) s z (e.1).outcome) p ((x.split).enters).event) in
-    request_stands splits before after h pre e t ts c w (caused_front splits before after h pre (e ∷ post) e.0 l q x.inside) p (request_why s d.0 t ts c d.1)
-tells splits before after h pre e post _ _ _ _ l q p r (look_found t c) =
+    request_stands splits before after h pre e t ts c w (caused_front l pre (e ∷ post) e.0 q x.inside) p (request_why s d.0 t ts c d.1)
+tells {splits} {before} {after} {h} l pre e post _ _ _ _ q p r (look_found t c) =
     let s = state_at before after e.0 pre in
     let x = next_at splits before after h pre e post l.legal q in
-    let w = before_entry splits before after h pre e post l q in
-    look_stands splits before after h pre e t c w x.inside (caused_front splits before after h pre (e ∷ post) e.0 l q x.inside)
+    let w = before_entry l pre e post q in
+    look_stands splits before after h pre e t c w x.inside (caused_front l pre (e ∷ post) e.0 q x.inside)
     (look_made (log_of after e.0) s _ t c (makes (log_of after e.0) s (e.1).event (e.1).outcome ((x.split).enters).event) p r)
 
 pub causes_stand : CausesStand
-causes_stand splits before h after so_far rest e tx cause l q c = tells splits before after h so_far e rest tx cause (e.1).event (e.1).outcome l q refl refl c
+causes_stand splits before h after so_far rest e tx cause l q c = tells l so_far e rest tx cause (e.1).event (e.1).outcome q refl refl c

@@ -1,5 +1,5 @@
 -- Whose locks a shard has, and who depends on whom: each pair's predecessor asked before its successor.
-use Rattle.std.proofs.Common.{◌≡◌, ◌⊎◌, inl, inr, ⊎_elim, refl, sym, ap, subst, ◌∙◌, ℕ, zero, suc, Bool, true, false, cond, not, ◌&&◌, List, [], ◌∷◌, ◌++◌, map, Option, Some, None}
+use Rattle.std.proofs.Common.{◌≡◌, inl, inr, ⊎_elim, refl, sym, ap, subst, ◌∙◌, ℕ, zero, suc, Bool, true, false, cond, not, ◌&&◌, List, [], ◌∷◌, ◌++◌, map, Option, Some, None}
 use Rattle.std.specs.Prelude.{take}
 use Rattle.std.specs.List.{AllByRecursion, filter}
 use Rattle.std.proofs.lemmas.Bool.{both_ways, and_parts, or_left, or_right, or_cases, cond-true}
@@ -100,24 +100,22 @@ tied_rolled E s tx k =
     }
 
 tied_finished : (E : TxId → TxId → Type 0) (s : Shard) (tx : TxId) → Tied E s → Tied E (finish_part tx s)
-tied_finished E s tx k =
-    record {
-      rows = rows_left (tx ∷ []) None s.local.parts s.local.locks k.rows;
-      pairs = λ t p e. k.pairs t p (without_pairs (tx ∷ []) s.local.pairs t p e).0;
-      listed = k.listed;
-    }
+tied_finished E s tx k = record {
+  rows = rows_left (tx ∷ []) None s.local.parts s.local.locks k.rows;
+  pairs = λ t p e. k.pairs t p (without_pairs (tx ∷ []) s.local.pairs t p e).0;
+  listed = k.listed;
+}
 
 tied_push : (E : TxId → TxId → Type 0) (s : Shard) (r : LogRecord) → ListsAre E r → Tied E s → Tied E (record s { local = record s.local { log = s.local.log ++ r ∷ [] } })
 tied_push E s r a k = record { rows = k.rows; pairs = k.pairs; listed = all_append (ListsAre E) s.local.log (r ∷ []) k.listed (a, tt) }
 
 -- the same but for what is around
 pub tied_as : (E : TxId → TxId → Type 0) (s t : Shard) → t.local ≡ s.local → Tied E s → Tied E t
-tied_as E s t e k =
-    record {
-      rows = subst (λ (l : Local). Rows (LockOf l.parts) l.locks) (sym e) k.rows;
-      pairs = subst (λ (l : Local). (t p : TxId) → is_pair l.pairs t p ≡ true → E t p) (sym e) k.pairs;
-      listed = subst (λ (l : Local). AllByRecursion (ListsAre E) l.log) (sym e) k.listed;
-    }
+tied_as E s t e k = record {
+  rows = subst (λ (l : Local). Rows (LockOf l.parts) l.locks) (sym e) k.rows;
+  pairs = subst (λ (l : Local). (t p : TxId) → is_pair l.pairs t p ≡ true → E t p) (sym e) k.pairs;
+  listed = subst (λ (l : Local). AllByRecursion (ListsAre E) l.log) (sym e) k.listed;
+}
 
 -- ---- what is due
 
@@ -213,15 +211,14 @@ closing_listed E true true tx home (u ∷ us) a = (a, tt)
 closing_listed E true false tx home us a = (a, tt)
 
 tied_close : (E : TxId → TxId → Type 0) (s : Shard) (tx : TxId) (home : ℕ) (one : Bool) → Tied E s → Tied E (with_local (close_part tx home one) s)
-tied_close E s tx home one k =
-    record {
-      rows = rows_close (LockOf s.local.parts) (LockOf (closed_in tx s.local.parts)) tx s.local.locks
-          (λ u b c h e. (closed_part h.0, get_closed_own tx u s.local.parts h.0 e h.1, h.2, refl))
-          (λ u b c h e. (h.0, closed_other tx u s.local.parts h.0 e h.1, h.2, h.3)) k.rows;
-      pairs = k.pairs;
-      listed = all_append (ListsAre E) s.local.log (closing (wrote_in s.local.log tx) one tx home (undecided_of s.local tx)) k.listed
-          (closing_listed E (wrote_in s.local.log tx) one tx home (undecided_of s.local tx) (all_pred (E tx) (λ p. not (committed_in s.local.log p)) (predecessors_of s.local.pairs tx) (λ p i. k.pairs tx p (in_pair s.local.pairs tx p i))));
-    }
+tied_close E s tx home one k = record {
+  rows = rows_close (LockOf s.local.parts) (LockOf (closed_in tx s.local.parts)) tx s.local.locks
+      (λ u b c h e. (closed_part h.0, get_closed_own tx u s.local.parts h.0 e h.1, h.2, refl))
+      (λ u b c h e. (h.0, closed_other tx u s.local.parts h.0 e h.1, h.2, h.3)) k.rows;
+  pairs = k.pairs;
+  listed = all_append (ListsAre E) s.local.log (closing (wrote_in s.local.log tx) one tx home (undecided_of s.local tx)) k.listed
+      (closing_listed E (wrote_in s.local.log tx) one tx home (undecided_of s.local tx) (all_pred (E tx) (λ p. not (committed_in s.local.log p)) (predecessors_of s.local.pairs tx) (λ p i. k.pairs tx p (in_pair s.local.pairs tx p i))));
+}
 
 -- ---- a drop
 
@@ -236,12 +233,11 @@ marked_get tx u parts h f = at (tx_same tx u) refl
     at false e = (h, is false e, refl, refl)
 
 tied_marked : (E : TxId → TxId → Type 0) (s : Shard) (tx : TxId) → Tied E s → Tied E (with_local (mark_dropped tx) s)
-tied_marked E s tx k =
-    record {
-      rows = rows_mono (LockOf s.local.parts) (LockOf (marked_in tx s.local.parts)) s.local.locks (λ u b c h. let g = marked_get tx u s.local.parts h.0 h.1 in (g.0, g.1, g.2 ∙ h.2, g.3 ∙ h.3)) k.rows;
-      pairs = k.pairs;
-      listed = k.listed;
-    }
+tied_marked E s tx k = record {
+  rows = rows_mono (LockOf s.local.parts) (LockOf (marked_in tx s.local.parts)) s.local.locks (λ u b c h. let g = marked_get tx u s.local.parts h.0 h.1 in (g.0, g.1, g.2 ∙ h.2, g.3 ∙ h.3)) k.rows;
+  pairs = k.pairs;
+  listed = k.listed;
+}
 
 tied_rolled_if : (E : TxId → TxId → Type 0) (s : Shard) (tx : TxId) (b : Bool) → Tied E s → Tied E (with_local (rolled_back_if b tx) s)
 tied_rolled_if E s tx true k = tied_rolled E s tx k
@@ -371,12 +367,11 @@ restarts_listed : (E : TxId → TxId → Type 0) (s : Shard) (found : List LogRe
 restarts_listed E s found epoch after (left, f, e, q) a = subst (AllByRecursion (ListsAre E)) (sym q) (opened_listed E s.shard left s.run epoch (failed_listed E s found left f a))
 
 tied_log : (E : TxId → TxId → Type 0) (s : Shard) (epoch : ℕ) (log : List LogRecord) → AllByRecursion (ListsAre E) log → Tied E (revived s epoch log)
-tied_log E s epoch log a =
-    record {
-      rows = rows_of_restored (in_doubt s.shard log) log [] tt;
-      pairs = λ t p e. tie_of E (restored_pairs log (in_doubt s.shard log)) t p (restored_ties E log (in_doubt s.shard log) a) e;
-      listed = a;
-    }
+tied_log E s epoch log a = record {
+  rows = rows_of_restored (in_doubt s.shard log) log [] tt;
+  pairs = λ t p e. tie_of E (restored_pairs log (in_doubt s.shard log)) t p (restored_ties E log (in_doubt s.shard log) a) e;
+  listed = a;
+}
 
 pub tied_revived : (E : TxId → TxId → Type 0) (s : Shard) (kept : Bool) (epoch : ℕ) (after : List LogRecord) → Restarts s (log_left s kept) epoch after → Tied E s → Tied E (revived s epoch after)
 tied_revived E s kept epoch after r k = tied_log E s epoch after (restarts_listed E s (log_left s kept) epoch after r (front_listed E _ s.local.log k.listed))

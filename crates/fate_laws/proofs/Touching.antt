@@ -131,24 +131,23 @@ module _ (splits : List ℕ) (before after : List (List LogRecord)) (h pre : His
   birth_is p false q r g d = (earlier p.birth s.local.epoch d).1
 
   pub may_touch : (d : Deeds) (asked : List TxId) → AskedFrom (run_after before) pre asked → Remembers before after pre n d → RestoredArePrepared s.local → MayTouch (record d { asked = asked }) s t birth seen
-  may_touch d asked from m r =
-      record {
-        of_run = of_run ∙ sym (here.traced).run_is;
-        not_closed = λ c. none (part_of n s.local.epoch _ _ _ _ _ s t Closed (here.traced).origins c).3;
-        not_asked = λ f. not_asked (run_after before) pre asked t from of_run first;
-        fresh = λ f g.
-            let k = no_old (no_did f g) in
-            let log = ((here.traced).origins).log in
-            record {
-              unwritten = false_from_ne_true _ (λ c. k (wrote_from (DidOrOld (run_after before) pre n) (Requested pre) (IsOld (run_after before)) n s.local.log log t c));
-              unprepared = false_from_ne_true _ (λ c. k (prepared_from (DidOrOld (run_after before) pre n) (Requested pre) (IsOld (run_after before)) n s.local.log log t c).0);
-              uncommitted = false_from_ne_true _ (λ c. none (committed_from (DidOrOld (run_after before) pre n) (Requested pre) (IsOld (run_after before)) n s.local.log log t c));
-              unaborted = false_from_ne_true _ (λ c. k (aborted_from (DidOrOld (run_after before) pre n) (Requested pre) (IsOld (run_after before)) n s.local.log log t c));
-              idle = idle (run_after before) pre n t d.items m.items k;
-              unmet = λ p z. k (m.met t p z);
-              unfallen = false_from_ne_true _ (λ c. k (m.fell t c).0);
-            };
-        same_birth = λ p g.
-            let q = rows_get (λ y. PartFrom (Did pre n s.local.epoch) (SomeRequest (Requested pre) (IsOld (run_after before))) y.0 y.1) t p s.local.parts ((here.traced).origins).parts g in
-            birth_is p p.is_restored refl r g q.0;
-      }
+  may_touch d asked from m r = record {
+    of_run = of_run ∙ sym (here.traced).run_is;
+    not_closed = λ c. none (part_of n s.local.epoch _ _ _ _ _ s t Closed (here.traced).origins c).3;
+    not_asked = λ f. not_asked (run_after before) pre asked t from of_run first;
+    fresh = λ f g.
+        let k = no_old (no_did f g) in
+        let log = ((here.traced).origins).log in
+        record {
+          unwritten = false_from_ne_true _ (λ c. k (wrote_from (DidOrOld (run_after before) pre n) (Requested pre) (IsOld (run_after before)) n s.local.log log t c));
+          unprepared = false_from_ne_true _ (λ c. k (prepared_from (DidOrOld (run_after before) pre n) (Requested pre) (IsOld (run_after before)) n s.local.log log t c).0);
+          uncommitted = false_from_ne_true _ (λ c. none (committed_from (DidOrOld (run_after before) pre n) (Requested pre) (IsOld (run_after before)) n s.local.log log t c));
+          unaborted = false_from_ne_true _ (λ c. k (aborted_from (DidOrOld (run_after before) pre n) (Requested pre) (IsOld (run_after before)) n s.local.log log t c));
+          idle = idle (run_after before) pre n t d.items m.items k;
+          unmet = λ p z. k (m.met t p z);
+          unfallen = false_from_ne_true _ (λ c. k (m.fell t c).0);
+        };
+    same_birth = λ p g.
+        let q = rows_get (λ y. PartFrom (Did pre n s.local.epoch) (SomeRequest (Requested pre) (IsOld (run_after before))) y.0 y.1) t p s.local.parts ((here.traced).origins).parts g in
+        birth_is p p.is_restored refl r g q.0;
+  }

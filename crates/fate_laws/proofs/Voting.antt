@@ -1,5 +1,5 @@
 -- What a vote binds, and what no other's abort takes away.
-use Rattle.std.proofs.Common.{◌≡◌, ◌⊎◌, inl, inr, ⊎_elim, refl, sym, subst, ℕ, true, false, List, [], ◌∷◌, ◌++◌, Option, Some, None, length}
+use Rattle.std.proofs.Common.{◌≡◌, ◌⊎◌, inl, inr, ⊎_elim, refl, sym, subst, ℕ, true, false, List, [], ◌∷◌, Option, Some, None, length}
 use Rattle.std.specs.List.{list_all}
 use Rattle.std.proofs.lemmas.Bool.{both_ways, or_cases, false_from_ne_true}
 use Rattle.clv_base.specs.declared.names.TxId.{TxId}
@@ -51,7 +51,7 @@ cast_keeps before after pre n tx (No why) c = tt
 
 pub votes_bind : VotesBind
 votes_bind splits before so_far later after n e home from tx vote l i j q =
-    cast_keeps before after so_far from tx vote ((casts_front splits before after (so_far ++ later) so_far later l refl).cast (n, e) home from tx vote (is_among n e so_far j) q)
+    cast_keeps before after so_far from tx vote ((casts_front l so_far later refl).cast (n, e) home from tx vote (is_among n e so_far j) q)
 
 -- ---- aborts of others
 
@@ -70,7 +70,7 @@ pub others_aborts_spare_it : OthersAbortsSpareIt
 unfolding Taken
 others_aborts_spare_it splits before so_far later after n tx other l i c ne u =
     let s = state_at before after n so_far in
-    let k = lowered_front splits before after (so_far ++ later) so_far later l refl in
+    let k = lowered_front l so_far later refl in
     false_from_ne_true _
     (λ j.
     let t = taken s other tx (k.down n i) u j in

@@ -39,7 +39,7 @@ use Rattle.history_cases.proofs.Worlds.{state_at}
 use Rattle.history_laws.specs.Openings.{LegalFrom}
 use Rattle.history_laws.proofs.Replying.{OpIs, performs, reply_is}
 use Rattle.history_laws.proofs.Walking.{Behind, Walked, Steps, walked}
-use Rattle.history_laws.proofs.Found.{found_in_order}
+use Rattle.history_laws.proofs.Found.{found_in_order, log_found}
 use Rattle.fate_laws.proofs.Sessions.{Requested, turn_of, same_epoch, op_no_request}
 use Rattle.fate_laws.proofs.Origins.{SomeRequest, StageFrom, PartFrom, part_of}
 use Rattle.fate_laws.proofs.Events.{active_done}
@@ -176,33 +176,32 @@ pub record Depends (splits : List ℕ) (before : List (List LogRecord)) (pre : H
 of_traced : (splits : List ℕ) (before after : List (List LogRecord)) (h pre : History) → Walked (Depends splits before) (Says (run_after before) h) splits before after pre → Walked (Traced (run_after before)) (Says (run_after before) h) splits before after pre
 of_traced splits before after h pre w = record { states = λ n i. (w.states n i).traced; said = w.said }
 
-depends_steps : (splits : List ℕ) (before after : List (List LogRecord)) (h : History) → LegalFrom splits before h after → Steps (Depends splits before) (Says (run_after before) h) splits before after h
-depends_steps splits before after h l pre e w x =
-    let log = log_of after e.0 in
-    let s = state_at before after e.0 pre in
-    let t = event_state log s (e.1).event (e.1).outcome in
-    let k = w.states e.0 x.below in
-    let g = traced_steps splits before after h l.legal pre e (of_traced splits before after h pre w) x in
-    let o = opened_entry splits before after h e.0 e.1 log s l.opens (let c = l.legal.each_log.0 in let i = x.below in omega (arith, c, i)) l.legal (x.behind).here (x.split).shard (k.traced).counted (x.split).enters k.opened in
-    let d = tied_made splits before after h pre e.0 e.1 log s t l.legal x.behind x.below k.traced k.opened refl (makes log s (e.1).event (e.1).outcome ((x.split).enters).event)
-    (tied_mono (Earlier splits before pre) (Earlier splits before (pre ++ e ∷ [])) s (earlier_more splits before h pre e x.behind) k.tied) in (
-      record {
-        traced = g.0;
-        opened = subst (Opened before e.0) (sym (x.split).next) o;
-        tied = tied_as (Earlier splits before (pre ++ e ∷ [])) t (state_at before after e.0 (pre ++ e ∷ [])) (ap (λ z. z.local) (x.split).next) d;
-      },
-      g.1,
-      (λ n i c q. record {
-        traced = g.2 n i c q.traced;
-        opened = q.opened;
-        tied = tied_mono (Earlier splits before pre) (Earlier splits before (pre ++ e ∷ [])) (state_at before after n pre) (earlier_more splits before h pre e x.behind) q.tied;
-      }),
-    )
+module _ {splits : List ℕ} {before after : List (List LogRecord)} {h : History} (l : LegalFrom splits before h after) where
+  depends_steps : Steps (Depends splits before) (Says (run_after before) h) splits before after h
+  depends_steps pre e w x =
+      let log = log_of after e.0 in
+      let s = state_at before after e.0 pre in
+      let t = event_state log s (e.1).event (e.1).outcome in
+      let k = w.states e.0 x.below in
+      let g = traced_steps splits before after h l.legal pre e (of_traced splits before after h pre w) x in
+      let o = opened_entry splits before after h e.0 e.1 log s l.opens (log_found l e.0 x.below) l.legal (x.behind).here (x.split).shard (k.traced).counted (x.split).enters k.opened in
+      let d = tied_made splits before after h pre e.0 e.1 log s t l.legal x.behind x.below k.traced k.opened refl (makes log s (e.1).event (e.1).outcome ((x.split).enters).event)
+      (tied_mono (Earlier splits before pre) (Earlier splits before (pre ++ e ∷ [])) s (earlier_more splits before h pre e x.behind) k.tied) in (
+        record {
+          traced = g.0;
+          opened = subst (Opened before e.0) (sym (x.split).next) o;
+          tied = tied_as (Earlier splits before (pre ++ e ∷ [])) t (state_at before after e.0 (pre ++ e ∷ [])) (ap (λ z. z.local) (x.split).next) d;
+        },
+        g.1,
+        (λ n i c q. record {
+          traced = g.2 n i c q.traced;
+          opened = q.opened;
+          tied = tied_mono (Earlier splits before pre) (Earlier splits before (pre ++ e ∷ [])) (state_at before after n pre) (earlier_more splits before h pre e x.behind) q.tied;
+        }),
+      )
 
-pub depends : (splits : List ℕ) (before after : List (List LogRecord)) (h : History) → LegalFrom splits before h after → Walked (Depends splits before) (Says (run_after before) h) splits before after h
-depends splits before after h l =
-    walked (Depends splits before) (Says (run_after before) h) splits before after h l.legal
-    (λ n i.
-    let c = l.legal.each_log.0 in
-    record { traced = traced_opens splits before after h l n i; opened = opened_opens splits before n l.opens (omega (arith, c, i)); tied = tied_opens splits before n l.opens (omega (arith, c, i)) })
-    (depends_steps splits before after h l)
+  pub depends : Walked (Depends splits before) (Says (run_after before) h) splits before after h
+  depends =
+      walked (Depends splits before) (Says (run_after before) h) splits before after h l.legal (λ n i.
+      record { traced = traced_opens l n i; opened = opened_opens splits before n l.opens (log_found l n i); tied = tied_opens splits before n l.opens (log_found l n i) })
+      depends_steps

@@ -40,6 +40,7 @@ use Rattle.protocol_laws.proofs.InOrder.{sessions_keep_order}
 use Rattle.law_base.proofs.LockRows.{violated_row}
 use Rattle.history_cases.proofs.Merging.{Placed, Before, before_then, not_before_itself, Among, among_is, is_among, in_own, among_right, Precedes, front_precedes}
 use Rattle.history_laws.specs.Openings.{LegalFrom}
+use Rattle.history_laws.proofs.Found.{log_found}
 use Rattle.history_laws.proofs.Walkers.{of_session, nothing_follows}
 use Rattle.history_cases.proofs.Telling.{IsRequest}
 use Rattle.history_laws.proofs.Staying.{walker_of, one_request, is_request}
@@ -266,31 +267,28 @@ asked_before h t p q us i w (r, ts, j, v, k) =
 
 -- ---- each edge
 
-nothing_outside : (splits : List ℕ) (before after : List (List LogRecord)) (h : History) (n : ℕ) {X : Type 0} → LegalFrom splits before h after → (n < shard_count splits → Depends splits before h n (final_of before h after n) → X) → (final_of before h after n ≡ opened n (run_after before) [] → X) → X
-nothing_outside splits before after h n {X} l k f = ⊎_elim (λ i. k i ((depends splits before after h l).states n i)) (λ i. f (outside splits before after h n l.legal i)) (cases_lt n (shard_count splits))
+nothing_outside : {splits : List ℕ} {before after : List (List LogRecord)} {h : History} → LegalFrom splits before h after → (n : ℕ) {X : Type 0} → (n < shard_count splits → Depends splits before h n (final_of before h after n) → X) → (final_of before h after n ≡ opened n (run_after before) [] → X) → X
+nothing_outside {splits} {before} {after} {h} l n {X} k f = ⊎_elim (λ i. k i ((depends l).states n i)) (λ i. f (outside splits before after h n l.legal i)) (cases_lt n (shard_count splits))
 
 of_offer : (splits : List ℕ) (before after : List (List LogRecord)) (h : History) (n walker : ℕ) (s : Shard) (e : Event) → s.run ≡ run_after before → MayOffer splits h n s walker e → Offer splits (run_after before) walker h (offered n walker s e)
 of_offer splits before after h n walker s e r m = record { session = subst (λ z. is_session splits z walker (own walker h ++ offered n walker s e ∷ []) ≡ true) r m.1 }
 
 pub waits_go_down : WaitsGoDown
 waits_go_down splits before h after t u l (for_lock {younger = y} n walker nth birth seen op may q i) =
-    nothing_outside splits before after h n l
-    (λ below k.
+    nothing_outside l n (λ below k.
     let s = final_of before h after n in
     let o = of_offer splits before after h n walker s (OpEvent t birth nth seen op) (k.traced).run_is may in
     let r = younger_in_way splits before after h n walker nth t u y birth seen op k may q i in
     ((λ e. inl (birth, r.0, refl, r.1, r.2)), (λ e. absurd (unasked splits before after h (offered n walker s (OpEvent t birth nth seen op)) walker t birth nth seen op l.legal o refl e))))
     (λ z. absurd (both_ways false refl (subst (λ (w : Shard). is_active_in_way t op w u ≡ true) z i)))
 waits_go_down splits before h after t u l (for_room n walker nth count birth seen op may q i) =
-    nothing_outside splits before after h n l
-    (λ below k.
+    nothing_outside l n (λ below k.
     let s = final_of before h after n in
     let o = of_offer splits before after h n walker s (OpEvent t birth nth seen op) (k.traced).run_is may in
     ((λ e. inr (crowding splits before h n s t u op below (of_this_run splits before h (offered n walker s (OpEvent t birth nth seen op)) walker t o refl) k i)), (λ e. absurd (unasked splits before after h (offered n walker s (OpEvent t birth nth seen op)) walker t birth nth seen op l.legal o refl e))))
     (λ z. absurd (both_ways false refl (subst (λ (w : Shard). tx_in u (undecided_after w.local t op) ≡ true) z i)))
 waits_go_down splits before h after t u l (for_commit n r w i d) =
-    nothing_outside splits before after h n l
-    (λ below k.
+    nothing_outside l n (λ below k.
     let s = final_of before h after n in
     let p = has_one t h r in
     let run = (walker_of splits before after h p.0 t l.legal p.2 (ap tx_of (p.3).0)).0 in
@@ -305,46 +303,46 @@ waits_go_down splits before h after t u l (for_commit n r w i d) =
 -- ---- no circle
 
 -- who was in doubt at opening is of an earlier run
-doubted : (splits : List ℕ) (before after : List (List LogRecord)) (h : History) (u : TxId) → LegalFrom splits before h after → OpenedInDoubt splits before u → u.run < run_after before
-doubted splits before after h u l (n, i, d) = let c = l.legal.each_log.0 in doubted_is_old splits before n l.opens (omega (arith, c, i)) u d
+module _ {splits : List ℕ} {before after : List (List LogRecord)} {h : History} (l : LegalFrom splits before h after) where
+  doubted : (u : TxId) → OpenedInDoubt splits before u → u.run < run_after before
+  doubted u (n, i, d) = doubted_is_old splits before n l.opens (log_found l n i) u d
 
--- an operation that may be done is of this run
-of_now : (splits : List ℕ) (before after : List (List LogRecord)) (h : History) (n walker : ℕ) (t : TxId) (birth : Birth) (nth : ℕ) (seen : Option ℕ) (op : Op) → LegalFrom splits before h after → MayOffer splits h n (final_of before h after n) walker (OpEvent t birth nth seen op)
-    → Offer splits (run_after before) walker h (offered n walker (final_of before h after n) (OpEvent t birth nth seen op))
-of_now splits before after h n walker t birth nth seen op l may =
-    let s = final_of before h after n in
-    of_offer splits before after h n walker s (OpEvent t birth nth seen op) (nothing_outside splits before after h n l (λ below k. (k.traced).run_is) (λ z. ap (λ (w : Shard). w.run) z)) may
+  -- an operation that may be done is of this run
+  of_now : (n walker : ℕ) (t : TxId) (birth : Birth) (nth : ℕ) (seen : Option ℕ) (op : Op) → MayOffer splits h n (final_of before h after n) walker (OpEvent t birth nth seen op)
+      → Offer splits (run_after before) walker h (offered n walker (final_of before h after n) (OpEvent t birth nth seen op))
+  of_now n walker t birth nth seen op may =
+      let s = final_of before h after n in
+      of_offer splits before after h n walker s (OpEvent t birth nth seen op) (nothing_outside l n (λ below k. (k.traced).run_is) (λ z. ap (λ (w : Shard). w.run) z)) may
 
-not_old : (splits : List ℕ) (before after : List (List LogRecord)) (h : History) (n walker : ℕ) (t : TxId) (birth : Birth) (nth : ℕ) (seen : Option ℕ) (op : Op) → LegalFrom splits before h after → MayOffer splits h n (final_of before h after n) walker (OpEvent t birth nth seen op)
-    → t.run < run_after before → ⊥
-not_old splits before after h n walker t birth nth seen op l may o =
-    let q = of_this_run splits before h (offered n walker (final_of before h after n) (OpEvent t birth nth seen op)) walker t (of_now splits before after h n walker t birth nth seen op l may) refl in omega (arith, o, q)
+  not_old : (n walker : ℕ) (t : TxId) (birth : Birth) (nth : ℕ) (seen : Option ℕ) (op : Op)
+      → MayOffer splits h n (final_of before h after n) walker (OpEvent t birth nth seen op) → t.run < run_after before → ⊥
+  not_old n walker t birth nth seen op may o =
+      let q = of_this_run splits before h (offered n walker (final_of before h after n) (OpEvent t birth nth seen op)) walker t (of_now n walker t birth nth seen op may) refl in omega (arith, o, q)
 
--- one of an earlier run waits for nobody
-old_waits_not : (splits : List ℕ) (before after : List (List LogRecord)) (h : History) (t u : TxId) → LegalFrom splits before h after → t.run < run_after before → Waits splits h (final_of before h after) t u → ⊥
-old_waits_not splits before after h t u l o (for_lock n walker nth birth seen op may q i) = not_old splits before after h n walker t birth nth seen op l may o
-old_waits_not splits before after h t u l o (for_room n walker nth count birth seen op may q i) = not_old splits before after h n walker t birth nth seen op l may o
-old_waits_not splits before after h t u l o (for_commit n r w i d) = let p = has_one t h r in let q = (walker_of splits before after h p.0 t l.legal p.2 (ap tx_of (p.3).0)).0 in omega (arith, o, q)
+  -- one of an earlier run waits for nobody
+  old_waits_not : (t u : TxId) → t.run < run_after before → Waits splits h (final_of before h after) t u → ⊥
+  old_waits_not t u o (for_lock n walker nth birth seen op may q i) = not_old n walker t birth nth seen op may o
+  old_waits_not t u o (for_room n walker nth count birth seen op may q i) = not_old n walker t birth nth seen op may o
+  old_waits_not t u o (for_commit n r w i d) = let p = has_one t h r in let q = (walker_of splits before after h p.0 t l.legal p.2 (ap tx_of (p.3).0)).0 in omega (arith, o, q)
 
-first_edge : (splits : List ℕ) (before after : List (List LogRecord)) (h : History) (t u : TxId) → LegalFrom splits before h after → OpenedInDoubt splits before t → WaitsThrough splits h (final_of before h after) t u → ⊥
-first_edge splits before after h t u l d (at_once w) = old_waits_not splits before after h t u l (doubted splits before after h t l d) w
-first_edge splits before after h t u l d (through {u = v} w c) = old_waits_not splits before after h t v l (doubted splits before after h t l d) w
+  first_edge : (t u : TxId) → OpenedInDoubt splits before t → WaitsThrough splits h (final_of before h after) t u → ⊥
+  first_edge t u d (at_once w) = old_waits_not t u (doubted t d) w
+  first_edge t u d (through {u = v} w c) = old_waits_not t v (doubted t d) w
 
 -- an operation that the transaction's session may make now on some shard is of this birth
 abbrev MayDo : List ℕ → History → (ℕ → Shard) → TxId → Birth → Type 0
 MayDo splits h states t birth = (n : ℕ) × (walker : ℕ) × (nth : ℕ) × (seen : Option ℕ) × (op : Op) × MayOffer splits h n (states n) walker (OpEvent t birth nth seen op)
 
 -- the active part of one that may do operations is of their birth
-born_alike : (splits : List ℕ) (before after : List (List LogRecord)) (h : History) (u : TxId) (a b : Birth) → LegalFrom splits before h after → MayDo splits h (final_of before h after) u a → IsActiveAs (final_of before h after) u b → b ≡ a
-born_alike splits before after h u a b l (j, walker, nth, seen, op, may) (n, g, e, st, f) =
-    nothing_outside splits before after h n l
-    (λ below k.
+born_alike : {splits : List ℕ} {before after : List (List LogRecord)} {h : History} → LegalFrom splits before h after → (u : TxId) (a b : Birth) → MayDo splits h (final_of before h after) u a → IsActiveAs (final_of before h after) u b → b ≡ a
+born_alike {splits} {before} {after} {h} l u a b (j, walker, nth, seen, op, may) (n, g, e, st, f) =
+    nothing_outside l n (λ below k.
     let s = final_of before h after n in
     let run = run_after before in
     let w = rows_get (λ y. PartFrom (Did h n s.local.epoch) (SomeRequest (Requested h) (IsOld run)) y.0 y.1) u g s.local.parts ((k.traced).origins).parts e in
     let d = active_done (Did h n s.local.epoch) g.is_restored u g.birth w.0 (subst (StageFrom (SomeRequest (Requested h) (IsOld run)) g.is_restored u) st w.1) in
     let x = offered j walker (final_of before h after j) (OpEvent u a nth seen op) in
-    let o = of_now splits before after h j walker u a nth seen op l may in
+    let o = of_now l j walker u a nth seen op may in
     let y = d.0 in
     let at = (d.3).at in
     let p = same_walker splits before after h y x walker u l.legal o refl d.1 (ap tx_of at.is) in
@@ -394,46 +392,47 @@ without splits before h states t u w (inr r) = inr r
 abbrev Downwards : List ℕ → List (List LogRecord) → List (List LogRecord) → History → TxId → TxId → Type 0
 Downwards splits before after h t u = (has_request t h ≡ false → Without splits before h (final_of before h after) t u) × (has_request t h ≡ true → WithRequest splits before h t u)
 
-with_then : (splits : List ℕ) (before after : List (List LogRecord)) (h : History) (t u v : TxId) → LegalFrom splits before h after → WithRequest splits before h t u → WaitsThrough splits h (final_of before h after) u v → Downwards splits before after h u v → WithRequest splits before h t v
-with_then splits before after h t u v l (inr o) c d = absurd (first_edge splits before after h u v l o c)
-with_then splits before after h t u v l (inl a) c d = ⊎_elim (λ b. inl (asked_then splits before after h v u t l.legal b a)) (λ b. inr b) (d.1 (has_asked h u t a))
+with_then : {splits : List ℕ} {before after : List (List LogRecord)} {h : History} → LegalFrom splits before h after → (t u v : TxId) → WithRequest splits before h t u → WaitsThrough splits h (final_of before h after) u v → Downwards splits before after h u v → WithRequest splits before h t v
+with_then l t u v (inr o) c d = absurd (first_edge l u v o c)
+with_then {splits} {before} {after} {h} l t u v (inl a) c d = ⊎_elim (λ b. inl (asked_then splits before after h v u t l.legal b a)) (λ b. inr b) (d.1 (has_asked h u t a))
 
 asks_on : (splits : List ℕ) (before : List (List LogRecord)) (h : History) (u v : TxId) → WithRequest splits before h u v → (has_request v h ≡ true) ⊎ OpenedInDoubt splits before v
 asks_on splits before h u v (inl a) = inl (has_asked h v u a)
 asks_on splits before h u v (inr o) = inr o
 
-younger_then : (splits : List ℕ) (before after : List (List LogRecord)) (h : History) (t u v : TxId) → LegalFrom splits before h after → IsAbove splits h (final_of before h after) t u → Without splits before h (final_of before h after) u v
-    → Without splits before h (final_of before h after) t v
-younger_then splits before after h t u v l w (inr d) = inr d
-younger_then splits before after h t u v l (a, b, may, is, o) (inl (c, d, may2, is2, o2)) =
-    let same = born_alike splits before after h u c b l may2 is in
-    inl (a, d, may, is2, older_is_told a d (older_then a b d (older_of_test a b o) (subst (λ z. Older z d) (sym same) (older_of_test c d o2))))
+module _ {splits : List ℕ} {before after : List (List LogRecord)} {h : History} (l : LegalFrom splits before h after) where
+  younger_then : (t u v : TxId) → IsAbove splits h (final_of before h after) t u → Without splits before h (final_of before h after) u v
+      → Without splits before h (final_of before h after) t v
+  younger_then t u v w (inr d) = inr d
+  younger_then t u v (a, b, may, is, o) (inl (c, d, may2, is2, o2)) =
+      let same = born_alike l u c b may2 is in
+      inl (a, d, may, is2, older_is_told a d (older_then a b d (older_of_test a b o) (subst (λ z. Older z d) (sym same) (older_of_test c d o2))))
 
-without_then : (splits : List ℕ) (before after : List (List LogRecord)) (h : History) (t u v : TxId) → LegalFrom splits before h after → Without splits before h (final_of before h after) t u → WaitsThrough splits h (final_of before h after) u v → Downwards splits before after h u v
-    → Without splits before h (final_of before h after) t v
-without_then splits before after h t u v l (inr (inr o)) c d = absurd (first_edge splits before after h u v l o c)
-without_then splits before after h t u v l (inr (inl a)) c d = inr (asks_on splits before h u v (d.1 a))
-without_then splits before after h t u v l (inl w) c d = at (has_request u h) refl
-  where
-    at : (b : Bool) → has_request u h ≡ b → Without splits before h (final_of before h after) t v
-    at true e = inr (asks_on splits before h u v (d.1 e))
-    at false e = younger_then splits before after h t u v l w (d.0 e)
+  without_then : (t u v : TxId) → Without splits before h (final_of before h after) t u → WaitsThrough splits h (final_of before h after) u v
+      → Downwards splits before after h u v → Without splits before h (final_of before h after) t v
+  without_then t u v (inr (inr o)) c d = absurd (first_edge l u v o c)
+  without_then t u v (inr (inl a)) c d = inr (asks_on splits before h u v (d.1 a))
+  without_then t u v (inl w) c d = at (has_request u h) refl
+    where
+      at : (b : Bool) → has_request u h ≡ b → Without splits before h (final_of before h after) t v
+      at true e = inr (asks_on splits before h u v (d.1 e))
+      at false e = younger_then t u v w (d.0 e)
 
-down_through : (splits : List ℕ) (before after : List (List LogRecord)) (h : History) (t v : TxId) → LegalFrom splits before h after → WaitsThrough splits h (final_of before h after) t v → Downwards splits before after h t v
-down_through splits before after h t v l (at_once w) = let a = waits_go_down splits before h after t v l w in ((λ e. without splits before h (final_of before h after) t v w (a.0 e)), a.1)
-down_through splits before after h t v l (through {u = u} w c) =
-    let a = waits_go_down splits before h after t u l w in
-    let d = down_through splits before after h u v l c in
-    ((λ e. without_then splits before after h t u v l (without splits before h (final_of before h after) t u w (a.0 e)) c d), (λ e. with_then splits before after h t u v l (a.1 e) c d))
+  down_through : (t v : TxId) → WaitsThrough splits h (final_of before h after) t v → Downwards splits before after h t v
+  down_through t v (at_once w) = let a = waits_go_down splits before h after t v l w in ((λ e. without splits before h (final_of before h after) t v w (a.0 e)), a.1)
+  down_through t v (through {u = u} w c) =
+      let a = waits_go_down splits before h after t u l w in
+      let d = down_through u v c in
+      ((λ e. without_then t u v (without splits before h (final_of before h after) t u w (a.0 e)) c d), (λ e. with_then l t u v (a.1 e) c d))
 
-no_circle : (splits : List ℕ) (before after : List (List LogRecord)) (h : History) (t : TxId) → LegalFrom splits before h after → WaitsThrough splits h (final_of before h after) t t → (b : Bool) → has_request t h ≡ b → Downwards splits before after h t t → ⊥
-no_circle splits before after h t l c true e d = ⊎_elim (λ a. not_before_self splits before after h t l.legal a) (λ o. first_edge splits before after h t t l o c) (d.1 e)
-no_circle splits before after h t l c false e d = at (d.0 e)
-  where
-    at : Without splits before h (final_of before h after) t t → ⊥
-    at (inl (a, b, may, is, o)) = not_older_itself a (subst (Older a) (born_alike splits before after h t a b l may is) (older_of_test a b o))
-    at (inr (inl r)) = both_ways _ e r
-    at (inr (inr o)) = first_edge splits before after h t t l o c
+  no_circle : (t : TxId) → WaitsThrough splits h (final_of before h after) t t → (b : Bool) → has_request t h ≡ b → Downwards splits before after h t t → ⊥
+  no_circle t c true e d = ⊎_elim (λ a. not_before_self splits before after h t l.legal a) (λ o. first_edge l t t o c) (d.1 e)
+  no_circle t c false e d = at (d.0 e)
+    where
+      at : Without splits before h (final_of before h after) t t → ⊥
+      at (inl (a, b, may, is, o)) = not_older_itself a (subst (Older a) (born_alike l t a b may is) (older_of_test a b o))
+      at (inr (inl r)) = both_ways _ e r
+      at (inr (inr o)) = first_edge l t t o c
 
 pub waits_have_no_cycle : WaitsHaveNoCycle
-waits_have_no_cycle splits before h after t l c = no_circle splits before after h t l c (has_request t h) refl (down_through splits before after h t t l c)
+waits_have_no_cycle splits before h after t l c = no_circle l t c (has_request t h) refl (down_through l t t c)

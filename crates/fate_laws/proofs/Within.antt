@@ -110,23 +110,21 @@ linked_alike s0 s u a k (inr f) = inr (λ t q g e. let p = k t q g e in let w = 
 
 -- with the same requests and voters
 pub within_alike : (E : TxId → Type 0) (T : TxId → ℕ → NoWhy → Type 0) (W : TxId → TxId → Type 0) (s0 s u : Shard) → Alike s u → u.requests ≡ s.requests → u.voters ≡ s.voters → Within E T W s0 s → Within E T W s0 u
-within_alike E T W s0 s u a r v k =
-    record {
-      linked = linked_alike s0 s u a (λ t q g e. (q, subst (λ z. tx_get t z ≡ Some q) r g, e, refl)) k.linked;
-      gone = λ t d e. k.gone t d ((a.0).to t d e);
-      rows = λ t q g. row_alike E T W s u t q a.0 (k.rows t q (subst (λ z. tx_get t z ≡ Some q) r g));
-      read = λ t w g e. (a.0).none t (k.read t w (subst (λ z. tx_get t z ≡ Some w) v g) e);
-    }
+within_alike E T W s0 s u a r v k = record {
+  linked = linked_alike s0 s u a (λ t q g e. (q, subst (λ z. tx_get t z ≡ Some q) r g, e, refl)) k.linked;
+  gone = λ t d e. k.gone t d ((a.0).to t d e);
+  rows = λ t q g. row_alike E T W s u t q a.0 (k.rows t q (subst (λ z. tx_get t z ≡ Some q) r g));
+  read = λ t w g e. (a.0).none t (k.read t w (subst (λ z. tx_get t z ≡ Some w) v g) e);
+}
 
 -- with other links
 pub relinked : (E : TxId → Type 0) (T : TxId → ℕ → NoWhy → Type 0) (W : TxId → TxId → Type 0) (s0 s u : Shard) → Dooms s u → u.requests ≡ s.requests → u.voters ≡ s.voters → Linked s0 u → Within E T W s0 s → Within E T W s0 u
-relinked E T W s0 s u a r v l k =
-    record {
-      linked = l;
-      gone = λ t d e. k.gone t d (a.to t d e);
-      rows = λ t q g. row_alike E T W s u t q a (k.rows t q (subst (λ z. tx_get t z ≡ Some q) r g));
-      read = λ t w g e. a.none t (k.read t w (subst (λ z. tx_get t z ≡ Some w) v g) e);
-    }
+relinked E T W s0 s u a r v l k = record {
+  linked = l;
+  gone = λ t d e. k.gone t d (a.to t d e);
+  rows = λ t q g. row_alike E T W s u t q a (k.rows t q (subst (λ z. tx_get t z ≡ Some q) r g));
+  read = λ t w g e. a.none t (k.read t w (subst (λ z. tx_get t z ≡ Some w) v g) e);
+}
 
 pub as_it_is : (s u : Shard) → u.shard ≡ s.shard → u.local.parts ≡ s.local.parts → u.local.pairs ≡ s.local.pairs → Alike s u
 as_it_is s u z e f = (
@@ -143,13 +141,12 @@ as_it_is s u z e f = (
 
 pub within_set : (E : TxId → Type 0) (T : TxId → ℕ → NoWhy → Type 0) (W : TxId → TxId → Type 0) (s0 s : Shard) (tx : TxId) (w : Request) → RowFits E T W s tx w → (w.state ≡ Undecided → (p : Request) × (tx_get tx s.requests ≡ Some p) × (p.state ≡ Undecided) × (first_no p.votes ≡ first_no w.votes)) → Within E T W s0 s
     → Within E T W s0 (record s { requests = tx_set tx w s.requests })
-within_set E T W s0 s tx w f k b =
-    record {
-      linked = linked_alike s0 s (record s { requests = tx_set tx w s.requests }) (as_it_is s (record s { requests = tx_set tx w s.requests }) refl refl refl) (λ t q g e. at t q e (get_set tx t w q s.requests g)) b.linked;
-      gone = b.gone;
-      rows = λ t q g. row t q (get_set tx t w q s.requests g);
-      read = b.read;
-    }
+within_set E T W s0 s tx w f k b = record {
+  linked = linked_alike s0 s (record s { requests = tx_set tx w s.requests }) (as_it_is s (record s { requests = tx_set tx w s.requests }) refl refl refl) (λ t q g e. at t q e (get_set tx t w q s.requests g)) b.linked;
+  gone = b.gone;
+  rows = λ t q g. row t q (get_set tx t w q s.requests g);
+  read = b.read;
+}
   where
     at : (t : TxId) (q : Request) → q.state ≡ Undecided → Set_or_old tx t w q (tx_get t s.requests) → (p : Request) × (tx_get t s.requests ≡ Some p) × (p.state ≡ Undecided) × (first_no p.votes ≡ first_no q.votes)
     at t q e (inl c) = let p = k (ap (λ z. z.state) (sym c.1) ∙ e) in (p.0, subst (λ z. tx_get z s.requests ≡ Some p.0) (sym c.0) p.1, p.2, p.3 ∙ ap (λ z. first_no z.votes) (sym c.1))
@@ -243,13 +240,12 @@ stays_gone l tx t o e = stage_other (doomed_here l tx) (Some tx) t l.parts (not_
 
 pub within_rolled : (E : TxId → Type 0) (T : TxId → ℕ → NoWhy → Type 0) (W : TxId → TxId → Type 0) (s0 s : Shard) (tx : TxId) → E tx → ((a b : TxId) → is_pair s.local.pairs a b ≡ true → is_pair s0.local.pairs a b ≡ true)
     → ((q : Request) → tx_get tx s.requests ≡ Some q → q.state ≡ Undecided → ⊥) → Within E T W s0 s → Within E T W s0 (with_local (roll_back tx) s)
-within_rolled E T W s0 s tx e p nr k =
-    record {
-      linked = inl (λ a b x. p a b (without_pairs (doomed_here s.local tx) s.local.pairs a b x).0);
-      gone = λ t d x. gone t d (rolled_stage s tx t d x);
-      rows = λ t q g. let r = k.rows t q g in record { votes = r.votes; state = state t q q.state g refl r.state };
-      read = λ t v g x. stays_gone s.local tx t None (k.read t v g x);
-    }
+within_rolled E T W s0 s tx e p nr k = record {
+  linked = inl (λ a b x. p a b (without_pairs (doomed_here s.local tx) s.local.pairs a b x).0);
+  gone = λ t d x. gone t d (rolled_stage s tx t d x);
+  rows = λ t q g. let r = k.rows t q g in record { votes = r.votes; state = state t q q.state g refl r.state };
+  read = λ t v g x. stays_gone s.local tx t None (k.read t v g x);
+}
   where
     gone : (t d : TxId) → (stage_of s.local t ≡ Some (Gone (Some d))) ⊎ ((d ≡ tx) × (tx_in t (doomed_by s.local tx) ≡ true)) → GoneBy E s0 t d
     gone t d (inl x) = k.gone t d x

@@ -1,5 +1,5 @@
 -- What a shard of a history of many did, and that the laws of one shard hold of it.
-use Rattle.std.specs.Prelude.{◌≡◌, ℕ, ◌<◌, true, List, [], ◌∷◌, ◌++◌, Some, None}
+use Rattle.std.specs.Prelude.{◌≡◌, ℕ, ◌<◌, List, [], ◌∷◌, ◌++◌, Some, None}
 use Rattle.clv_base.specs.declared.names.TxId.{TxId}
 use Rattle.clv_base.specs.declared.logs.LogRecord.{LogRecord}
 use Rattle.clv_base.specs.declared.events.Event.{Event}

@@ -84,12 +84,11 @@ out_mono P Q k (m ∷ ms) a = (one m a.0, out_mono P Q k ms a.1)
     one (Ask to tx from) p = tt
 
 pub voters_on : (R R' P Q : TxId → Type 0) (s u : Shard) → u.voters ≡ s.voters → AllByRecursion (OutIs Q) u.outbox → ((t : TxId) → R t → R' t) → ((t : TxId) → P t → Q t) → Voters R P s → Voters R' Q u
-voters_on R R' P Q s u e o r k p =
-    record {
-      owing = λ t v g w. r t (p.owing t v (subst (λ z. tx_get t z ≡ Some v) e g) w);
-      rows = λ t v g w. k t (p.rows t v (subst (λ z. tx_get t z ≡ Some v) e g) w);
-      out = o;
-    }
+voters_on R R' P Q s u e o r k p = record {
+  owing = λ t v g w. r t (p.owing t v (subst (λ z. tx_get t z ≡ Some v) e g) w);
+  rows = λ t v g w. k t (p.rows t v (subst (λ z. tx_get t z ≡ Some v) e g) w);
+  out = o;
+}
 
 pub voters_mono : (R R' P Q : TxId → Type 0) (s : Shard) → ((t : TxId) → R t → R' t) → ((t : TxId) → P t → Q t) → Voters R P s → Voters R' Q s
 voters_mono R R' P Q s r k p = voters_on R R' P Q s s refl (out_mono P Q k s.outbox p.out) r k p
@@ -198,12 +197,11 @@ carry R P s0 s u d t (inl p) = inl p
 carry R P s0 s u d t (inr c) = inr (casts_due R s0 s u t d c)
 
 casting_by : (R P : TxId → Type 0) (s0 s u : Shard) → Due s (Some u) → Voters R (ReadBy R P s0 u) u → Casting R P s0 s → Casting R P s0 u
-casting_by R P s0 s u d w k =
-    record {
-      closed = λ t c. k.closed t (due_closed s u t d c);
-      grown = λ t h. wrote_grown s.local.log u.local.log t ((inside_due s s u d (inside_self s)).log) (k.grown t h);
-      voters = w;
-    }
+casting_by R P s0 s u d w k = record {
+  closed = λ t c. k.closed t (due_closed s u t d c);
+  grown = λ t h. wrote_grown s.local.log u.local.log t ((inside_due s s u d (inside_self s)).log) (k.grown t h);
+  voters = w;
+}
 
 -- nothing changes in the table, and no vote is sent
 casting_more : (R P : TxId → Type 0) (s0 s u : Shard) (ms : List Message) → Due s (Some u) → u.voters ≡ s.voters → u.outbox ≡ s.outbox ++ ms → AllByRecursion (OutIs (ReadBy R P s0 u)) ms → Casting R P s0 s → Casting R P s0 u
@@ -222,12 +220,11 @@ casting_same R P s0 s u d e f k =
 -- a vote is given
 voters_voted : (R P Q : TxId → Type 0) (s u : Shard) (tx : TxId) (v : Voter) (vote : Vote) → u.voters ≡ tx_set tx (voted vote v) s.voters → u.outbox ≡ s.outbox ++ VoteMessage v.home tx s.shard vote ∷ [] → tx_get tx s.voters ≡ Some v → (v.owed == 0) ≡ false
     → ((t : TxId) → P t → Q t) → (vote ≡ Read → Q tx) → Voters R P s → Voters R Q u
-voters_voted R P Q s u tx v vote e f g w k r p =
-    record {
-      owing = λ t x a b. ⊎_elim (λ c. subst R (sym c.0) (p.owing tx v g w)) (λ c. p.owing t x c b) (set_row t tx (voted vote v) x s.voters (subst (λ z. tx_get t z ≡ Some x) e a));
-      rows = λ t x a b. ⊎_elim (λ c. subst Q (sym c.0) (r (one_vote (ap (λ z. z.vote) (sym c.1) ∙ b)))) (λ c. k t (p.rows t x c b)) (set_row t tx (voted vote v) x s.voters (subst (λ z. tx_get t z ≡ Some x) e a));
-      out = subst (AllByRecursion (OutIs Q)) (sym f) (all_append (OutIs Q) s.outbox (VoteMessage v.home tx s.shard vote ∷ []) (out_mono P Q k s.outbox p.out) (said vote r, tt));
-    }
+voters_voted R P Q s u tx v vote e f g w k r p = record {
+  owing = λ t x a b. ⊎_elim (λ c. subst R (sym c.0) (p.owing tx v g w)) (λ c. p.owing t x c b) (set_row t tx (voted vote v) x s.voters (subst (λ z. tx_get t z ≡ Some x) e a));
+  rows = λ t x a b. ⊎_elim (λ c. subst Q (sym c.0) (r (one_vote (ap (λ z. z.vote) (sym c.1) ∙ b)))) (λ c. k t (p.rows t x c b)) (set_row t tx (voted vote v) x s.voters (subst (λ z. tx_get t z ≡ Some x) e a));
+  out = subst (AllByRecursion (OutIs Q)) (sym f) (all_append (OutIs Q) s.outbox (VoteMessage v.home tx s.shard vote ∷ []) (out_mono P Q k s.outbox p.out) (said vote r, tt));
+}
   where
     one_vote : Some vote ≡ Some Read → vote ≡ Read
     one_vote z = cc
@@ -321,12 +318,11 @@ closes_here s t (by_request ts a) = there (stage_of s.local t) Active a refl
 closes_here s t (by_prepare home seen stamp a) = there (stage_of s.local t) Active a refl
 
 casting_step : (R P : TxId → Type 0) (s x : Shard) {e : Event} {o : Outcome} → Step s e o x → Asks R s e → Voters R P s → Casting R P s x
-casting_step R P s x h w p =
-    record {
-      closed = λ t c. ⊎_elim (λ k. there (stage_of s.local t) Closed k refl) (λ k. closes_here s t k) (step_closed s x t h c);
-      grown = λ t k. wrote_grown s.local.log x.local.log t ((inside_step s x h).log) k;
-      voters = voters_step R P (ReadBy R P s x) s x (step_tables s x h) w (λ t k. inl k) p;
-    }
+casting_step R P s x h w p = record {
+  closed = λ t c. ⊎_elim (λ k. there (stage_of s.local t) Closed k refl) (λ k. closes_here s t k) (step_closed s x t h c);
+  grown = λ t k. wrote_grown s.local.log x.local.log t ((inside_step s x h).log) k;
+  voters = voters_step R P (ReadBy R P s x) s x (step_tables s x h) w (λ t k. inl k) p;
+}
 
 -- ---- an entry
 
@@ -350,12 +346,11 @@ restored_votes [] = tt
 restored_votes (h ∷ hs) = ((refl, refl), restored_votes hs)
 
 pub voters_restored : (R P : TxId → Type 0) (shard run epoch : ℕ) (log : List LogRecord) (last : ℕ) (journal : List Entry) → Voters R P (state_after shard run epoch log last journal)
-voters_restored R P shard run epoch log last journal =
-    record {
-      owing = λ t v g w. absurd (both_ways _ w (row t v g).1);
-      rows = λ t v g e. absurd (none_some Read (sym (row t v g).0 ∙ e));
-      out = tt;
-    }
+voters_restored R P shard run epoch log last journal = record {
+  owing = λ t v g w. absurd (both_ways _ w (row t v g).1);
+  rows = λ t v g e. absurd (none_some Read (sym (row t v g).0 ∙ e));
+  out = tt;
+}
   where
     row : (t : TxId) (v : Voter) → tx_get t (state_after shard run epoch log last journal).voters ≡ Some v → (v.vote ≡ None) × ((v.owed == 0) ≡ true)
     row t v g = rows_get (λ (r : TxId × Voter). ((r.1).vote ≡ None) × (((r.1).owed == 0) ≡ true)) t v (state_after shard run epoch log last journal).voters (restored_votes (homes_of log (in_doubt shard log))) g

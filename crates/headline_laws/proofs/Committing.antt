@@ -27,6 +27,7 @@ use Rattle.history_cases.proofs.Stepping.{Due, commits, votes, rules, KeptByDue,
 use Rattle.history_cases.proofs.Entering.{Makes, by_event, by_flush, by_failure, by_restart, makes}
 use Rattle.history_cases.proofs.Merging.{Placed, among_right}
 use Rattle.history_laws.specs.Openings.{LegalFrom}
+use Rattle.history_laws.proofs.Found.{log_found}
 use Rattle.shard_laws.proofs.Changes.{wrote_keeps}
 use Rattle.history_cases.proofs.OldRuns.{none_of_this_run}
 use Rattle.history_cases.proofs.TellingEvents.{front_committed}
@@ -187,7 +188,8 @@ made_marks Q log s x t (by_restart epoch keeps u r) n m =
 AllMarked : (splits : List ℕ) (before after : List (List LogRecord)) (pre : History) → Type 0
 AllMarked splits before after pre = (n : ℕ) → n < shard_count splits → (t : TxId) → t.run ≡ run_after before → Marks (Requested pre t n) t (state_at before after n pre).local.log
 
-module _ (splits : List ℕ) (before after : List (List LogRecord)) (h pre : History) (e : Placed) (post : History) (l : LegalFrom splits before h after) (q : pre ++ e ∷ post ≡ h) (t : TxId) (run : t.run ≡ run_after before) where
+module _ {splits : List ℕ} {before after : List (List LogRecord)} {h : History} (l : LegalFrom splits before h after) (pre : History)
+    (e : Placed) (post : History) (q : pre ++ e ∷ post ≡ h) (t : TxId) (run : t.run ≡ run_after before) where
   abbrev New : History
   New = pre ++ e ∷ []
 
@@ -213,7 +215,7 @@ module _ (splits : List ℕ) (before after : List (List LogRecord)) (h pre : His
       at : (r : Option Request) → tx_get t (state_at before after e.0 (pre ++ e ∷ [])).requests ≡ r → Requested (pre ++ e ∷ []) t e.0
       at None g = absurd (row g)
       at (Some r) g =
-          let k = (traced_front splits before after h (pre ++ e ∷ []) post l (append_assoc pre (e ∷ []) post ∙ q)).states e.0 w.inside in
+          let k = (traced_front l (pre ++ e ∷ []) post (append_assoc pre (e ∷ []) post ∙ q)).states e.0 w.inside in
           of_own (rows_get (λ x. RowFrom (Requested (pre ++ e ∷ [])) (IsOld (run_after before)) e.0 x.0 x.1) t r (state_at before after e.0 (pre ++ e ∷ [])).requests (k.origins).requests g).0
 
   by_commit : (ev : Event) (out : Outcome) → (e.1).event ≡ ev → (e.1).outcome ≡ out → Commits S t ev out → committed_in S.local.log t ≡ false → (wrote_in S.local.log t ≡ true) ⊎ Requested (pre ++ e ∷ []) t e.0
@@ -228,21 +230,21 @@ module _ (splits : List ℕ) (before after : List (List LogRecord)) (h pre : His
       (λ x d. ⊎_elim (λ y. inr (by_row y)) (λ y. by_commit (e.1).event (e.1).outcome refl refl y d) x)
       (marks_more (Requested pre t e.0) Q t S.local.log (requested_more pre e t e.0) m))
 
-marked_next : (splits : List ℕ) (before after : List (List LogRecord)) (h pre : History) (e : Placed) (post : History) → LegalFrom splits before h after → pre ++ e ∷ post ≡ h → AllMarked splits before after pre → AllMarked splits before after (pre ++ e ∷ [])
-unfolding AllMarked
-marked_next splits before after h pre e post l q k n i t r =
-    each_shard (λ m z. Marks (Requested (pre ++ e ∷ []) t m) t z.local.log) before after e pre (marked_here splits before after h pre e post l q t r (k e.0 (next_at splits before after h pre e post l.legal q).inside t r)) n
-    (marks_more (Requested pre t n) (Requested (pre ++ e ∷ []) t n) t (state_at before after n pre).local.log (requested_more pre e t n) (k n i t r))
+module _ {splits : List ℕ} {before after : List (List LogRecord)} {h : History} (l : LegalFrom splits before h after) where
+  marked_next : (pre : History) (e : Placed) (post : History) → pre ++ e ∷ post ≡ h → AllMarked splits before after pre → AllMarked splits before after (pre ++ e ∷ [])
+  unfolding AllMarked
+  marked_next pre e post q k n i t r =
+      each_shard (λ m z. Marks (Requested (pre ++ e ∷ []) t m) t z.local.log) before after e pre (marked_here l pre e post q t r (k e.0 (next_at splits before after h pre e post l.legal q).inside t r)) n
+      (marks_more (Requested pre t n) (Requested (pre ++ e ∷ []) t n) t (state_at before after n pre).local.log (requested_more pre e t n) (k n i t r))
 
--- who is committed on a shard, and is of this run, wrote there or made its request there
-pub committed_by : (splits : List ℕ) (before after : List (List LogRecord)) (h pre post : History) → LegalFrom splits before h after → pre ++ post ≡ h → (n : ℕ) → n < shard_count splits → (t : TxId) → t.run ≡ run_after before
-    → committed_in (state_at before after n pre).local.log t ≡ true → (wrote_in (state_at before after n pre).local.log t ≡ true) ⊎ Requested pre t n
-unfolding AllMarked
-committed_by splits before after h pre post l q n i t r =
-    marks_whole (Requested pre t n) t (state_at before after n pre).local.log (walk_on (AllMarked splits before after) h [] pre post q (λ f e z y k. marked_next splits before after h f e z l y k) first n i t r)
-  where
-    first : AllMarked splits before after []
-    first n i t r k c =
-        absurd
-        (none_of_this_run splits before n t l.opens (let e = l.legal.each_log.0 in omega (arith, e, i))
-        (opening_adds n (log_of before n) (run_after before) 0 t (front_committed k (log_after_restart n (log_of before n) (run_after before) 0) t c)) r)
+  -- who is committed on a shard, and is of this run, wrote there or made its request there
+  pub committed_by : (pre post : History) → pre ++ post ≡ h → (n : ℕ) → n < shard_count splits → (t : TxId) → t.run ≡ run_after before
+      → committed_in (state_at before after n pre).local.log t ≡ true → (wrote_in (state_at before after n pre).local.log t ≡ true) ⊎ Requested pre t n
+  unfolding AllMarked
+  committed_by pre post q n i t r =
+      marks_whole (Requested pre t n) t (state_at before after n pre).local.log (walk_on (AllMarked splits before after) h [] pre post q marked_next first n i t r)
+    where
+      first : AllMarked splits before after []
+      first n i t r k c =
+          absurd (none_of_this_run splits before n t l.opens (log_found l n i)
+          (opening_adds n (log_of before n) (run_after before) 0 t (front_committed k (log_after_restart n (log_of before n) (run_after before) 0) t c)) r)

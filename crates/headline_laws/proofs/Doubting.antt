@@ -41,9 +41,10 @@ use Rattle.headline_laws.proofs.Homes.{doubted}
 use Rattle.headline_laws.proofs.Shares.{at_somewhere}
 use Rattle.protocol_laws.proofs.Records.{prepared_there}
 
-module _ (splits : List ℕ) (before : List (List LogRecord)) (h : History) (after : List (List LogRecord)) (choice : ℕ → Bool) (l : LegalFrom splits before h after) (n : ℕ) (i : n < shard_count splits)
-    (t : TxId) (home : ℕ) (e : Entry) (touched : List (ℕ × ℕ)) (a : IsAmong home e h) (ev : e.event ≡ RequestEvent t touched) (out : e.outcome ≡ Asked)
-    (left : is_left splits before h after choice home t ≡ true) (away : (n == home) ≡ false) where
+module _ {splits : List ℕ} {before after : List (List LogRecord)} {h : History} (l : LegalFrom splits before h after) (choice : ℕ → Bool)
+    (n : ℕ) (i : n < shard_count splits) (t : TxId) (home : ℕ) (e : Entry) (touched : List (ℕ × ℕ)) (a : IsAmong home e h)
+    (ev : e.event ≡ RequestEvent t touched) (out : e.outcome ≡ Asked) (left : is_left splits before h after choice home t ≡ true)
+    (away : (n == home) ≡ false) where
   abbrev s : Shard
   s = final_of before h after n
 
@@ -54,7 +55,7 @@ module _ (splits : List ℕ) (before : List (List LogRecord)) (h : History) (aft
   inside = in_a_shard splits before after h (home, e) l.legal (is_among home e h a)
 
   bound_to : Bindings splits before after h h
-  bound_to = bindings_front splits before after h h [] l (append-nil h)
+  bound_to = bindings_front l h [] (append-nil h)
 
   -- ---- its part is there still
 
@@ -63,7 +64,7 @@ module _ (splits : List ℕ) (before : List (List LogRecord)) (h : History) (aft
 
   -- no ABORT of it is in the log
   unaborted : Bound (final_of before h after n) t → aborted_in (final_of before h after n).local.log t ≡ true → ⊥
-  unaborted b k = bound_unaborted splits before h after choice home n t l inside i run_is left b k
+  unaborted b k = bound_unaborted l choice home n t inside i run_is left b k
 
   -- ---- in what is left
 
@@ -85,7 +86,7 @@ module _ (splits : List ℕ) (before : List (List LogRecord)) (h : History) (aft
   yes_is_here k x to m sent there = by_part (commits_have_their_parts splits before h after choice home n home e touched t l inside i a ev out there left)
     where
       bound : Bound (final_of before h after n) t
-      bound = ((casts_front splits before after h h [] l (append-nil h)).cast (k, x) to n t Yes (is_among k x h m) sent).1
+      bound = ((casts_front l h [] (append-nil h)).cast (k, x) to n t Yes (is_among k x h m) sent).1
 
       now : log_of (logs_left splits before h after choice) n ≡ log_left (final_of before h after n) (choice n)
       now = log_now splits before h after choice n i

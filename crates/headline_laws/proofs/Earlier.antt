@@ -115,9 +115,9 @@ none_of_earlier splits before n left t o d p w =
     (or_cases (wrote_in opened t) (wrote_in p.0 t) (sym (wrote_append opened p.0 t) ∙ ap (λ z. wrote_in z t) p.1 ∙ w))
 
 -- who is of an earlier run and wrote in what is left on a shard wrote there in the log found at opening
-pub wrote_at_opening : (splits : List ℕ) (before : List (List LogRecord)) (h : History) (after : List (List LogRecord)) (choice : ℕ → Bool) (n : ℕ) (t : TxId) → LegalFrom splits before h after → n < shard_count splits
-    → t.run < run_after before → wrote_in (log_of (logs_left splits before h after choice) n) t ≡ true → wrote_in (log_of before n) t ≡ true
-wrote_at_opening splits before h after choice n t l i o w =
+pub wrote_at_opening : {splits : List ℕ} {before after : List (List LogRecord)} {h : History} → LegalFrom splits before h after → (choice : ℕ → Bool) (n : ℕ) (t : TxId)
+    → n < shard_count splits → t.run < run_after before → wrote_in (log_of (logs_left splits before h after choice) n) t ≡ true → wrote_in (log_of before n) t ≡ true
+wrote_at_opening {splits} {before} {after} {h} l choice n t i o w =
     none_of_earlier splits before n (log_of (logs_left splits before h after choice) n) t o (logs_left_are_in_order splits before h after choice n l i)
     (subst (IsPrefixOf (log_after_restart n (log_of before n) (run_after before) 0)) (sym (log_now splits before h after choice n i)) (left_begins splits before h after (choice n) n l.legal i)) w
 
@@ -132,9 +132,9 @@ committed_still splits before h after choice n t l i c =
 -- ---- no transaction of an earlier run is committed anew
 
 -- who is of an earlier run and is committed in what is left was so in some log at opening
-pub somewhere_at_opening : (splits : List ℕ) (before : List (List LogRecord)) (h : History) (after : List (List LogRecord)) (choice : ℕ → Bool) (n : ℕ) (t : TxId) → LegalFrom splits before h after → n < shard_count splits
-    → t.run < run_after before → committed_in (log_of (logs_left splits before h after choice) n) t ≡ true → committed_somewhere before t ≡ true
-somewhere_at_opening splits before h after choice n t l i o w =
+pub somewhere_at_opening : {splits : List ℕ} {before after : List (List LogRecord)} {h : History} → LegalFrom splits before h after → (choice : ℕ → Bool) (n : ℕ) (t : TxId)
+    → n < shard_count splits → t.run < run_after before → committed_in (log_of (logs_left splits before h after choice) n) t ≡ true → committed_somewhere before t ≡ true
+somewhere_at_opening {splits} {before} {after} {h} l choice n t i o w =
     let c =
     earlier_commits_are_of_opening splits before h [] after n t (subst (λ z. LegalFrom splits before z after) (sym (append-nil h)) l) i (λ e. absurd (omega (arith, e, o)))
     (left_committed splits before h after choice n t i w) in

@@ -17,6 +17,7 @@ use Rattle.law_base.proofs.Commits.{committed_append, parts_keep}
 use Rattle.protocol_laws.proofs.Records.{committed_there, prepared_there}
 use Rattle.history_cases.proofs.Uncommitting.{opening_adds}
 use Rattle.history_laws.specs.Openings.{LegalFrom}
+use Rattle.history_laws.proofs.Found.{log_found}
 use Rattle.shard_laws.proofs.Following.{Follows, from_disorder}
 use Rattle.shard_laws.proofs.Listing.{prepared_wrote}
 use Rattle.fate_laws.proofs.Deciding.{left_committed}
@@ -56,13 +57,10 @@ commits_behind shard run log (r ∷ rs) t l k f c =
     ⊎_elim (λ a. list_any-append (is_prepare_of t) log (r ∷ rs) ∙ or_left _ _ (commit_prepared shard run log r t l k f.0 a))
     (λ a. subst (λ z. prepared_in z t ≡ true) (append_assoc log (r ∷ []) rs) (commits_behind shard run (log ++ r ∷ []) rs t l (last_next shard run log r k f.0) f.1 a)) (or_cases (is_commit_of t r) (committed_in rs t) c)
 
-module _ (splits : List ℕ) (before : List (List LogRecord)) (h : History) (after : List (List LogRecord)) (choice : ℕ → Bool) (t : TxId) (l : LegalFrom splits before h after) (orders : InOrder splits before h after choice)
-    (old : t.run < run_after before) where
+module _ {splits : List ℕ} {before after : List (List LogRecord)} {h : History} (l : LegalFrom splits before h after) (choice : ℕ → Bool)
+    (t : TxId) (orders : InOrder splits before h after choice) (old : t.run < run_after before) where
   abbrev left : List (List LogRecord)
   left = logs_left splits before h after choice
-
-  found_length : (n : ℕ) → n < shard_count splits → n < length before
-  found_length n i = let e = l.legal.each_log.0 in omega (arith, e, i)
 
   in_left : (n : ℕ) → n < length left → n < shard_count splits
   in_left n i = let e = left_length splits before h after choice in omega (arith, e, i)
@@ -114,8 +112,8 @@ module _ (splits : List ℕ) (before : List (List LogRecord)) (h : History) (aft
         let log = (final_of before h after n).local.log in
         let prepared = prepared_there log t p (front_prepare _ log t p (subst (λ z. prepare_of z t ≡ Some p) (log_now splits before h after choice n i) q)) in
         false_from_ne_true _ (λ x.
-        let z = struck_front splits before after h h [] l (append-nil h) n i t (left_aborted splits before h after choice n t i x) in
-        never_out splits before after h n t l i earlier (k, committed_first) h [] (append-nil h) prepared (h, [], append-nil h, (z.0, z.1, inl (λ e. absurd (earlier e)))))
+        let z = struck_front l h [] (append-nil h) n i t (left_aborted splits before h after choice n t i x) in
+        never_out l n t i earlier (k, committed_first) h [] (append-nil h) prepared (h, [], append-nil h, (z.0, z.1, inl (λ e. absurd (earlier e)))))
 
     part_left : (n : ℕ) → n < shard_count splits → PartIs (log_of before n) t k → PartIs (log_of left n) t k
     part_left n i p =
@@ -130,14 +128,13 @@ module _ (splits : List ℕ) (before : List (List LogRecord)) (h : History) (aft
         }
 
     home_still : HomeIs left t k ps
-    home_still =
-        record {
-          commits = commits_left;
-          home = home_left;
-          named = λ n i a r. let j = in_left n i in at_opening.named n (found_length n j) a (recorded n j r);
-          parts = λ n i. part_here (log_of left n) t k (part_left n (part_below splits before h after choice k n t ps l inside commits_left i) (part_from (log_of before n) t k (at_opening.parts n i)));
-          ended = λ e n i. ended_are_committed splits before h after choice k n t ps l inside e commits_left i;
-        }
+    home_still = record {
+      commits = commits_left;
+      home = home_left;
+      named = λ n i a r. let j = in_left n i in at_opening.named n (log_found l n j) a (recorded n j r);
+      parts = λ n i. part_here (log_of left n) t k (part_left n (part_below l choice k n t ps inside commits_left i) (part_from (log_of before n) t k (at_opening.parts n i)));
+      ended = λ e n i. ended_are_committed splits before h after choice k n t ps l inside e commits_left i;
+    }
 
   known : (n : ℕ) → n < shard_count splits → committed_in (log_of left n) t ≡ true → WasCommitted before t
   known n i w = earlier_commits_are_of_opening splits before h [] after n t (subst (λ z. LegalFrom splits before z after) (sym (append-nil h)) l) i earlier (left_committed splits before h after choice n t i w)

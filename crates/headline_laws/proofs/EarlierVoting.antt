@@ -43,27 +43,28 @@ present_stage : (o : Option Stage) → is_present o ≡ true → (st : Stage) ×
 present_stage None d = absurd (both_ways false refl d)
 present_stage (Some st) d = (st, refl)
 
-module _ (splits : List ℕ) (before after : List (List LogRecord)) (h : History) (n : ℕ) (tx : TxId) (l : LegalFrom splits before h after) (i : n < shard_count splits) (r : IsEarlier before tx) (c : WasCommitted before tx) where
+module _ {splits : List ℕ} {before after : List (List LogRecord)} {h : History} (l : LegalFrom splits before h after) (n : ℕ) (tx : TxId)
+    (i : n < shard_count splits) (r : IsEarlier before tx) (c : WasCommitted before tx) where
   -- after each front its part is bound, or has none, or is committed
   fine : (f rest : History) → f ++ rest ≡ h → FineAt before after f n tx
   fine f rest q =
       let m : c.0 < shard_count splits = let e = l.legal.each_log.0 in let k = committed_within before c.0 tx c.1 in omega (arith, e, k) in
-      let there = found_there splits before after f c.0 tx (elders_front splits before after h f rest l q) c.1 in
-      ((bindings_front splits before after h f rest l q).parted c.0 m).log tx there n (λ z. absurd (r z))
+      let there = found_there splits before after f c.0 tx (elders_front l f rest q) c.1 in
+      ((bindings_front l f rest q).parted c.0 m).log tx there n (λ z. absurd (r z))
 
   -- whose part is prepared was never out
   pub never_out : (f rest : History) → f ++ rest ≡ h → prepared_in (state_at before after n f).local.log tx ≡ true → WasOut before after f n tx → ⊥
   never_out f rest q k v = by_fine (fine f rest q).1
     where
       open_ : (u : TxId) → WasOut before after f n u → committed_in (state_at before after n f).local.log u ≡ false
-      open_ = ((stands_front splits before after h f rest l q n i).barred).open_
+      open_ = ((stands_front l f rest q n i).barred).open_
 
       at_home : (p : ℕ × List TxId) → p.0 ≡ n → (tx.run ≡ run_after before) ⊎ (WasCommitted before tx → committed_in (log_of before p.0) tx ≡ true) → ⊥
       at_home p z (inl e) = r e
-      at_home p z (inr e) = both_ways _ (open_ tx v) (found_there splits before after f n tx (elders_front splits before after h f rest l q) (subst (λ m. committed_in (log_of before m) tx ≡ true) z (e c)))
+      at_home p z (inr e) = both_ways _ (open_ tx v) (found_there splits before after f n tx (elders_front l f rest q) (subst (λ m. committed_in (log_of before m) tx ≡ true) z (e c)))
 
       by_lost : (b : Bound (state_at before after n f) tx) → prepare_of (state_at before after n f).local.log tx ≡ Some b.listed → LostAt before after f n tx b.listed → ⊥
-      by_lost b e (inl z) = at_home b.listed z (((elders_front splits before after h f rest l q).elder n i).prepares tx b.listed e)
+      by_lost b e (inl z) = at_home b.listed z (((elders_front l f rest q).elder n i).prepares tx b.listed e)
       by_lost b e (inr (inl (inl d))) = r d.0
       by_lost b e (inr (inl (inr z))) = z.1 c
       by_lost b e (inr (inr (u, j, w))) = let s = state_at before after n f in both_ways _ (open_ u w) (front_committed s.durable s.local.log u (b.durable u j))
@@ -72,7 +73,7 @@ module _ (splits : List ℕ) (before after : List (List LogRecord)) (h : History
       by_fine (inl b) =
           let s = state_at before after n f in
           let e = front_prepare s.durable s.local.log tx b.listed b.prepare in
-          by_lost b e (all_lost splits before after h f rest l q n i tx b.listed (inr c) v e)
+          by_lost b e (all_lost l f rest q n i tx b.listed (inr c) v e)
       by_fine (inr (inl z)) = both_ways _ z.unprepared k
       by_fine (inr (inr d)) = let s = state_at before after n f in both_ways _ (open_ tx v) (front_committed s.durable s.local.log tx d)
 
@@ -87,14 +88,14 @@ module _ (splits : List ℕ) (before after : List (List LogRecord)) (h : History
       by_fine : Bound (state_at before after n f) tx ⊎ (Reads (state_at before after n f) tx ⊎ (committed_in (log_left (state_at before after n f) false) tx ≡ true)) → prepared_in (state_at before after n (f ++ (n, e) ∷ [])).local.log tx ≡ true
       by_fine (inl b) =
           let x = state_at before after n (f ++ (n, e) ∷ []) in
-          let p = (fronts_next splits before after h f (n, e) w ((elders_front splits before after h f ((n, e) ∷ rest) l q).counts)).front in
+          let p = (fronts_next splits before after h f (n, e) w ((elders_front l f ((n, e) ∷ rest) q).counts)).front in
           prepared_there x.local.log tx b.listed (front_prepare x.durable x.local.log tx b.listed (subst (λ z. prepare_of z tx ≡ Some b.listed) p.1 (prepare_more (log_left (state_at before after n f) false) p.0 tx b.listed b.prepare)))
       by_fine (inr (inl z)) =
           let g = present_stage (stage_of (state_at before after n f).local tx) there in
           absurd (both_ways _ z.unprepared (holds_front splits before after h f ((n, e) ∷ rest) l.legal q n i tx g.0 r g.1))
       by_fine (inr (inr d)) =
           let x = state_at before after n (f ++ (n, e) ∷ []) in
-          let k = durable_later splits before after h f (n, e) w ((elders_front splits before after h f ((n, e) ∷ rest) l q).counts) n tx d in
+          let k = durable_later splits before after h f (n, e) w ((elders_front l f ((n, e) ∷ rest) q).counts) n tx d in
           absurd (both_ways _ unc (front_committed x.durable x.local.log tx k))
 
   never_fell : (pre post : History) → pre ++ post ≡ h → Fell before pre after n tx → ⊥
@@ -102,11 +103,11 @@ module _ (splits : List ℕ) (before after : List (List LogRecord)) (h : History
       let whole : f ++ (n, e) ∷ (rest ++ post) ≡ h = sym (append_assoc f ((n, e) ∷ rest) post) ∙ ap (λ y. y ++ post) z ∙ q in
       let later : (f ++ (n, e) ∷ []) ++ (rest ++ post) ≡ h = append_assoc f ((n, e) ∷ []) (rest ++ post) ∙ whole in
       never_out (f ++ (n, e) ∷ []) (rest ++ post) later (still_prepared f e (rest ++ post) whole there unc)
-      (fell_out splits before after h (f ++ (n, e) ∷ []) (rest ++ post) n tx l later i (inl (f, e, [], refl, ev, (there, gone, unc))))
+      (fell_out l (f ++ (n, e) ∷ []) (rest ++ post) n tx later i (inl (f, e, [], refl, ev, (there, gone, unc))))
   never_fell pre post q (inr (f, rest, z, d)) =
       let whole : f ++ (rest ++ post) ≡ h = sym (append_assoc f rest post) ∙ ap (λ y. y ++ post) z ∙ q in
       let g = doomed_stage (stage_of (state_at before after n f).local tx) d in
-      never_out f (rest ++ post) whole (holds_front splits before after h f (rest ++ post) l.legal whole n i tx g.0 r g.1) (fell_out splits before after h f (rest ++ post) n tx l whole i (inr (f, [], append-nil f, d)))
+      never_out f (rest ++ post) whole (holds_front splits before after h f (rest ++ post) l.legal whole n i tx g.0 r g.1) (fell_out l f (rest ++ post) n tx whole i (inr (f, [], append-nil f, d)))
 
 pub earlier_members_never_fell : EarlierMembersNeverFell
-earlier_members_never_fell splits before so_far later after n tx l i r c f = never_fell splits before after (so_far ++ later) n tx l i r c so_far later refl f
+earlier_members_never_fell splits before so_far later after n tx l i r c f = never_fell l n tx i r c so_far later refl f

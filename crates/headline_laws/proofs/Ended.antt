@@ -23,6 +23,7 @@ use Rattle.history_cases.proofs.Entering.{makes}
 use Rattle.history_cases.proofs.Merging.{Placed, Among, among_append, is_among}
 use Rattle.history_cases.proofs.Worlds.{state_at}
 use Rattle.history_laws.specs.Openings.{LegalFrom}
+use Rattle.history_laws.proofs.Found.{log_found}
 use Rattle.history_laws.proofs.Passing.{logs_left_pass, left_length}
 use Rattle.fate_laws.proofs.Deciding.{durable_left}
 use Rattle.fate_laws.proofs.Entering.{durable_front}
@@ -103,17 +104,17 @@ heard_next splits before after h pre e w f =
 
 -- ---- the whole history
 
-heard_start : (splits : List ℕ) (before after : List (List LogRecord)) (h : History) → LegalFrom splits before h after → Heard splits before after []
-heard_start splits before after h l =
-    record {
-      counts = counts_start splits before after;
-      hears = λ n i.
-          hears_opened (DurableIn before after []) n (run_after before) (log_of before n) (opening_tells splits before after n l.opens (let e = l.legal.each_log.0 in omega (arith, e, i)));
-      said = λ x i. elim i [ ];
-    }
+module _ {splits : List ℕ} {before after : List (List LogRecord)} {h : History} (l : LegalFrom splits before h after) where
+  heard_start : Heard splits before after []
+  heard_start = record {
+    counts = counts_start splits before after;
+    hears = λ n i.
+        hears_opened (DurableIn before after []) n (run_after before) (log_of before n) (opening_tells splits before after n l.opens (log_found l n i));
+    said = λ x i. elim i [ ];
+  }
 
-heard : (splits : List ℕ) (before after : List (List LogRecord)) (h : History) → LegalFrom splits before h after → Heard splits before after h
-heard splits before after h l = walk (Heard splits before after) splits before after h [] h l.legal refl (heard_next splits before after h) (heard_start splits before after h l)
+  heard : Heard splits before after h
+  heard = walk (Heard splits before after) splits before after h [] h l.legal refl (heard_next splits before after h) heard_start
 
 -- ---- the parts of a COMMIT that is left are shards
 
@@ -135,9 +136,9 @@ parts_below splits shard (Abort tx ∷ rs) t ps a e = parts_below splits shard r
 parts_below splits shard (End tx ∷ rs) t ps a e = parts_below splits shard rs t ps a e
 parts_below splits shard (Restart run epoch ∷ rs) t ps a e = parts_below splits shard rs t ps a e
 
-pub part_below : (splits : List ℕ) (before : List (List LogRecord)) (h : History) (after : List (List LogRecord)) (choice : ℕ → Bool) (n m : ℕ) (tx : TxId) (parts : List ℕ) → LegalFrom splits before h after → n < shard_count splits
-    → commit_parts (log_of (logs_left splits before h after choice) n) tx ≡ Some parts → nat_in m parts ≡ true → m < shard_count splits
-part_below splits before h after choice n m tx parts l i c k =
+pub part_below : {splits : List ℕ} {before after : List (List LogRecord)} {h : History} → LegalFrom splits before h after → (choice : ℕ → Bool) (n m : ℕ) (tx : TxId) (parts : List ℕ)
+    → n < shard_count splits → commit_parts (log_of (logs_left splits before h after choice) n) tx ≡ Some parts → nat_in m parts ≡ true → m < shard_count splits
+part_below {splits} {before} {after} {h} l choice n m tx parts i c k =
     let logs = logs_left splits before h after choice in
     let e = left_length splits before h after choice in
     let a = each_passes (λ s log. list_all (passes_file_rules splits s) log) 0 n logs (logs_left_pass splits before h after choice l) (omega (arith, e, i)) in
@@ -147,6 +148,6 @@ pub ended_are_committed : EndedAreCommitted
 ended_are_committed splits before h after choice n m tx parts l i e c k =
     let s = final_of before h after n in
     let q = log_now splits before h after choice n i in
-    let t = tell_front (DurableIn before after h) _ s.local.log (((heard splits before after h l).hears n i).log) in
-    durable_left splits before h after choice m tx (part_below splits before h after choice n m tx parts l i c k) (fated splits before after h l)
+    let t = tell_front (DurableIn before after h) _ s.local.log (((heard l).hears n i).log) in
+    durable_left splits before h after choice m tx (part_below l choice n m tx parts i c k) (fated l)
     (t.parts tx parts m (subst (λ z. ended_in z tx ≡ true) q e) (subst (λ z. commit_parts z tx ≡ Some parts) q c) k)

@@ -1,5 +1,5 @@
 -- The logs at the end of a history: what a crash leaves by some choice for each shard, and behind it what failed restarts added.
-use Rattle.std.proofs.Common.{◌≡◌, ◌⊎◌, inl, inr, ⊎_elim, refl, sym, ap, subst, ◌∙◌, ℕ, suc, ◌+◌, ◌<◌, ◌≤◌, true, false, cond, Bool, ◌||◌, ◌==◌, nat_lt, List, [], ◌∷◌, Option, Some, None, length, arith, append-nil, eqb-true}
+use Rattle.std.proofs.Common.{◌≡◌, ◌⊎◌, inl, inr, ⊎_elim, refl, sym, ap, subst, ◌∙◌, ℕ, ◌+◌, ◌<◌, ◌≤◌, true, false, cond, Bool, ◌||◌, ◌==◌, nat_lt, List, [], ◌∷◌, Option, Some, None, length, arith, append-nil, eqb-true}
 use Rattle.std.specs.Prelude.{is_none, take, drop}
 use Rattle.std.specs.List.{list_any, list_all}
 use Rattle.std.proofs.lemmas.Bool.{both_ways, and_parts, and_from, false_from_ne_true, ltb-true, lt-ltb}
@@ -24,7 +24,7 @@ use Rattle.shard_laws.proofs.Listing.{order_of}
 use Rattle.shard_laws.proofs.Renewing.{Fine}
 use Rattle.history_cases.proofs.Merging.{Placed}
 use Rattle.history_laws.proofs.Serials.{member_at}
-use Rattle.history_laws.proofs.Passing.{logs_left_pass}
+use Rattle.history_laws.proofs.Passing.{logs_left_pass, left_length}
 use Rattle.history_laws.proofs.Records.{Passes, passes_all, all_pass}
 use Rattle.fate_laws.proofs.Bindings.{bindings_front}
 use Rattle.fate_laws.proofs.Prepares.{prepare_more}
@@ -38,7 +38,6 @@ use Rattle.headline_laws.specs.Ends.{LogsAtTheEndMayBeOpened, TellTheSame, LogsA
 use Rattle.headline_laws.proofs.LogsAgreeing.{HomeIs, HasHome, PartIs, home_from, part_here, part_from, agree}
 use Rattle.fate_laws.proofs.RecordKinds.{update_is, commit_is}
 use Rattle.headline_laws.proofs.Keeping.{wrote_or_committed, home_behind, all_committed}
-use Rattle.history_laws.proofs.Passing.{left_length}
 use Rattle.headline_laws.proofs.EarlierVoting.{committed_within}
 use Rattle.headline_laws.proofs.Reopening.{logs_left_may_be_opened}
 use Rattle.headline_laws.proofs.Failed.{Stays, stays_same, stays_failed, same_wrote, same_committed, same_ended}
@@ -63,7 +62,7 @@ same_members c xs ys h (e ∷ es) a k = let p = and_parts (nat_lt e.0 c) _ a in 
 
 -- ---- the logs at the end
 
-module _ (splits : List ℕ) (before : List (List LogRecord)) (h : History) (after : List (List LogRecord)) (l : LegalFrom splits before h after) where
+module _ {splits : List ℕ} {before after : List (List LogRecord)} {h : History} (l : LegalFrom splits before h after) where
   abbrev last : ℕ → Shard
   last n = final_of before h after n
 
@@ -102,7 +101,7 @@ module _ (splits : List ℕ) (before : List (List LogRecord)) (h : History) (aft
       (follows_take (last n).shard k [] log f.0, greatest_front (take k log) (drop k log) (last n).run (subst (λ z. greatest_run z ≤ (last n).run) (sym (take-append-drop k log)) f.1))
 
   is_shard : (n : ℕ) → n < shard_count splits → (last n).shard ≡ n
-  is_shard n i = (((bindings_front splits before after h h [] l (append-nil h)).fated).counts).shard n i
+  is_shard n i = (((bindings_front l h [] (append-nil h)).fated).counts).shard n i
 
   left_passes : (n : ℕ) → n < shard_count splits → Passes splits n (log_of left n)
   left_passes n i =
@@ -179,7 +178,7 @@ module _ (splits : List ℕ) (before : List (List LogRecord)) (h : History) (aft
         }
 
     part_inside : (n : ℕ) → nat_in n ps ≡ true → n < shard_count splits
-    part_inside n i = part_below splits before h after choice home n t ps l inside k.commits i
+    part_inside n i = part_below l choice home n t ps inside k.commits i
 
     home_kept : HomeIs after t home ps
     home_kept =
@@ -213,7 +212,7 @@ module _ (splits : List ℕ) (before : List (List LogRecord)) (h : History) (aft
           subst (λ k. log_passes splits k (log_of after n) ≡ true) (omega arith) (and_from _ _ (all_pass splits n (log_of after n) g.passes) (ap is_none (to_disorder n 0 [] (log_of after n) g.follows)))
 
 pub logs_at_the_end_may_be_opened : LogsAtTheEndMayBeOpened
-logs_at_the_end_may_be_opened splits before h after l = may_open_after splits before h after l
+logs_at_the_end_may_be_opened splits before h after l = may_open_after l
 
 pub logs_at_the_end_are_what_is_left : LogsAtTheEndAreWhatIsLeft
-logs_at_the_end_are_what_is_left splits before h after l = (choice splits before h after l, tell splits before h after l)
+logs_at_the_end_are_what_is_left splits before h after l = (choice l, tell l)

@@ -32,24 +32,25 @@ use Rattle.headline_laws.proofs.Passing.{reader_passes, home_passes, unnamed_pas
 use Rattle.headline_laws.proofs.Doubting.{yes_is_here}
 use Rattle.fate_laws.proofs.Here.{in_others}
 
-module _ (splits : List ℕ) (before : List (List LogRecord)) (h : History) (after : List (List LogRecord)) (choice : ℕ → Bool) (l : LegalFrom splits before h after) (n : ℕ) (i : n < shard_count splits)
-    (t : TxId) (home : ℕ) (e : Entry) (touched : List (ℕ × ℕ)) (a : IsAmong home e h) (ev : e.event ≡ RequestEvent t touched) (out : e.outcome ≡ Asked) where
+module _ {splits : List ℕ} {before after : List (List LogRecord)} {h : History} (l : LegalFrom splits before h after) (choice : ℕ → Bool)
+    (n : ℕ) (i : n < shard_count splits) (t : TxId) (home : ℕ) (e : Entry) (touched : List (ℕ × ℕ)) (a : IsAmong home e h)
+    (ev : e.event ≡ RequestEvent t touched) (out : e.outcome ≡ Asked) where
   -- on another shard that the request names, where the COMMIT is left at home
   by_vote : is_left splits before h after choice home t ≡ true → (n == home) ≡ false → nat_in n (others home touched) ≡ true → (k : ℕ) (x : Entry) (to : ℕ) (v : Vote) → IsAmong k x h → x.outcome ≡ Sent (VoteMessage to t n v) → is_good (Some v) ≡ true
       → IsHere splits before h after choice n t
-  by_vote left away there k x to Yes m s g = yes_is_here splits before h after choice l n i t home e touched a ev out left away k x to m s there
-  by_vote left away there k x to Read m s g = inr (inr (reader_passes splits before h after l n i t home e touched a ev out k x to m s))
+  by_vote left away there k x to Yes m s g = yes_is_here l choice n i t home e touched a ev out left away k x to m s there
+  by_vote left away there k x to Read m s g = inr (inr (reader_passes l n i t home e touched a ev out k x to m s))
   by_vote left away there k x to (No why) m s g = absurd (both_ways false refl g)
 
   elsewhere : (is_left splits before h after choice home t ≡ true) ⊎ OnlyRead before h after home touched t → (n == home) ≡ false → nat_in n (others home touched) ≡ true → IsHere splits before h after choice n t
   elsewhere (inl left) away there =
       let v = members_are_voted_for splits before h after choice home n home e touched t l (in_a_shard splits before after h (home, e) l.legal (is_among home e h a)) a ev out there left in
       by_vote left away there v.0 v.1 v.2 v.3 v.4 v.5 v.6
-  elsewhere (inr r) away there = let v = r.voted n there in inr (inr (reader_passes splits before h after l n i t home e touched a ev out v.0 v.1 v.2 v.3 v.4))
+  elsewhere (inr r) away there = let v = r.voted n there in inr (inr (reader_passes l n i t home e touched a ev out v.0 v.1 v.2 v.3 v.4))
 
   at_home : (is_left splits before h after choice home t ≡ true) ⊎ OnlyRead before h after home touched t → n ≡ home → IsHere splits before h after choice n t
   at_home (inl left) z = inl (subst (λ m. is_left splits before h after choice m t ≡ true) (sym z) left)
-  at_home (inr r) z = inr (inr (home_passes splits before h after l n i t home e touched a ev out z r))
+  at_home (inr r) z = inr (inr (home_passes l n i t home e touched a ev out z r))
 
   found : (is_left splits before h after choice home t ≡ true) ⊎ OnlyRead before h after home touched t → IsHere splits before h after choice n t
   found w = at (n == home) (nat_in n (map (λ r. r.0) touched)) refl refl
@@ -57,7 +58,7 @@ module _ (splits : List ℕ) (before : List (List LogRecord)) (h : History) (aft
       at : (b d : Bool) → (n == home) ≡ b → nat_in n (map (λ r. r.0) touched) ≡ d → IsHere splits before h after choice n t
       at true d q j = at_home w (eqb-true n home q)
       at false true q j = elsewhere w q (in_others n home (map (λ r. r.0) touched) j q)
-      at false false q j = inr (inr (unnamed_passes splits before h after l n i t home e touched a ev out j (λ z. both_ways _ q (eq-eqb n home z))))
+      at false false q j = inr (inr (unnamed_passes l n i t home e touched a ev out j (λ z. both_ways _ q (eq-eqb n home z))))
 
 pub members_are_found : MembersAreFound
 members_are_found splits before h after choice n t l i k =
@@ -66,8 +67,7 @@ members_are_found splits before h after choice n t l i k =
     let e = (y.0).1 in
     let r = is_request t e.event e.outcome y.2 in
     let a = among_is home e h y.1 in
-    found splits before h after choice l n i t home e r.0 a r.1 r.2
-    (⊎_elim (λ left. inl left)
+    found l choice n i t home e r.0 a r.1 r.2 (⊎_elim (λ left. inl left)
     (λ told. acknowledged_stand splits before h after choice home e r.0 t l (in_a_shard splits before after h (home, e) l.legal y.1) told a r.1 r.2)
     (or_cases (committed_in (log_of (logs_left splits before h after choice) home) t) (acknowledged_in h t) y.3))
 

@@ -1,5 +1,5 @@
 -- Who was in doubt in a log found, and is committed in some log found, is committed in what is left, or in doubt there as before; and it never fell.
-use Rattle.std.proofs.Common.{◌≡◌, ◌⊎◌, inl, inr, ⊎_elim, refl, sym, subst, ℕ, ◌<◌, true, false, cond, Bool, ◌==◌, List, [], length, Option, Some, None, append-nil, arith, eqb-true}
+use Rattle.std.proofs.Common.{◌≡◌, ◌⊎◌, inl, inr, ⊎_elim, refl, sym, subst, ℕ, ◌<◌, true, false, cond, Bool, ◌==◌, List, [], Option, Some, None, append-nil, arith, eqb-true}
 use Rattle.std.specs.Prelude.{unwrap_or}
 use Rattle.std.specs.List.{list_all}
 use Rattle.std.proofs.lemmas.Bool.{both_ways, false_from_ne_true}
@@ -14,6 +14,7 @@ use Rattle.clv_base.specs.Journals.{History, final_of}
 use Rattle.protocol_laws.specs.Growth.{IsPrefixOf}
 use Rattle.protocol_laws.proofs.Growing.{chain, more}
 use Rattle.history_laws.specs.Openings.{LegalFrom}
+use Rattle.history_laws.proofs.Found.{log_found}
 use Rattle.history_laws.proofs.Serials.{committed_front}
 use Rattle.fate_laws.proofs.Opening.{opening_settled, opening_home}
 use Rattle.fate_laws.proofs.Prepares.{prepare_more, front_prepare}
@@ -34,13 +35,11 @@ use Rattle.law_base.proofs.Names.{all_from}
 abbrev pub IsDoubted : ℕ → List LogRecord → TxId → Type 0
 IsDoubted n log t = (tx_in t (in_doubt n log) ≡ true) × (list_all (committed_in log) (listed_in log t) ≡ true)
 
-module _ (splits : List ℕ) (before : List (List LogRecord)) (h : History) (after : List (List LogRecord)) (kept : Bool) (n : ℕ) (t : TxId) (l : LegalFrom splits before h after) (i : n < shard_count splits)
-    (doubt : tx_in t (in_doubt n (log_of before n)) ≡ true) (there : committed_somewhere before t ≡ true) where
-  inside : n < length before
-  inside = let e = l.legal.each_log.0 in omega (arith, e, i)
-
+module _ {splits : List ℕ} {before after : List (List LogRecord)} {h : History} (l : LegalFrom splits before h after) (kept : Bool) (n : ℕ)
+    (t : TxId) (i : n < shard_count splits) (doubt : tx_in t (in_doubt n (log_of before n)) ≡ true)
+    (there : committed_somewhere before t ≡ true) where
   old : t.run < run_after before
-  old = doubted_is_old splits before n l.opens inside t doubt
+  old = doubted_is_old splits before n l.opens (log_found l n i) t doubt
 
   earlier : IsEarlier before t
   earlier e = let k = old in omega (arith, e, k)
@@ -63,20 +62,20 @@ module _ (splits : List ℕ) (before : List (List LogRecord)) (h : History) (aft
   elsewhere : (n == (p.0).0) ≡ false
   elsewhere =
       false_from_ne_true _
-      (λ e. both_ways _ (doubt_undecided n (log_of before n) t doubt).1 (subst (λ k. committed_in (log_of before k) t ≡ true) (sym (eqb-true n (p.0).0 e)) (opening_home splits before t was.0 n p.0 l.opens was.1 inside p.1)))
+      (λ e. both_ways _ (doubt_undecided n (log_of before n) t doubt).1 (subst (λ k. committed_in (log_of before k) t ≡ true) (sym (eqb-true n (p.0).0 e)) (opening_home splits before t was.0 n p.0 l.opens was.1 (log_found l n i) p.1)))
 
   listed : (q : TxId) → tx_in q (p.0).1 ≡ true → committed_in (log_left (final_of before h after n) kept) q ≡ true
   listed q j =
       committed_front (log_of before n) (log_left (final_of before h after n) kept) q begun
-      (⊎_elim (λ c. absurd (both_ways _ (doubt_undecided n (log_of before n) t doubt).1 c)) (λ k. k q j) (opening_settled splits before t was.0 n p.0 l.opens was.1 inside p.1))
+      (⊎_elim (λ c. absurd (both_ways _ (doubt_undecided n (log_of before n) t doubt).1 c)) (λ k. k q j) (opening_settled splits before t was.0 n p.0 l.opens was.1 (log_found l n i) p.1))
 
   unaborted : aborted_in (log_left (final_of before h after n) kept) t ≡ true → ⊥
   unaborted a =
       let s = final_of before h after n in
       let k = cond kept (unwrap_or s.flight s.durable) s.durable in
-      let b = struck_front splits before after h h [] l (append-nil h) n i t (aborted_take k s.local.log t a) in
+      let b = struck_front l h [] (append-nil h) n i t (aborted_take k s.local.log t a) in
       let e = prepared_there s.local.log t p.0 (front_prepare k s.local.log t p.0 prepared) in
-      never_out splits before after h n t l i earlier was h [] (append-nil h) e (h, [], append-nil h, (b.0, b.1, inl (λ r. absurd (earlier r))))
+      never_out l n t i earlier was h [] (append-nil h) e (h, [], append-nil h, (b.0, b.1, inl (λ r. absurd (earlier r))))
 
   all_listed : list_all (committed_in (log_left (final_of before h after n) kept)) (p.0).1 ≡ true
   all_listed = all_from (committed_in (log_left (final_of before h after n) kept)) (p.0).1 listed

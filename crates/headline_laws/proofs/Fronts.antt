@@ -34,8 +34,7 @@ use Rattle.fate_laws.proofs.Bindings.{asked_not_own, bindings_front}
 use Rattle.fate_laws.proofs.Prefixes.{Next, next_at, stays_as_it_was}
 use Rattle.fate_laws.proofs.Standing.{NotOwn}
 use Rattle.fate_laws.specs.Falls.{Fell}
-use Rattle.fate_laws.proofs.Falling.{stands_front, walk_on, empty_front, same_last}
-use Rattle.fate_laws.proofs.Falling.{last_front}
+use Rattle.fate_laws.proofs.Falling.{stands_front, walk_on, empty_front, same_last, last_front}
 use Rattle.fate_laws.proofs.Finding.{fell_out}
 use Rattle.headline_laws.proofs.Quiet.{Quiet, quiet_absent, quiet_undoomed, quiet_made}
 use Rattle.headline_laws.proofs.VotesAgreeing.{Told, Ends, RowIs}
@@ -96,7 +95,8 @@ fell_before before after pre e n t k r (inr (f, rest, z, d)) = at (last_front f 
 
 -- ---- one entry more
 
-module _ (splits : List ℕ) (before after : List (List LogRecord)) (h pre : History) (e : Placed) (post : History) (l : LegalFrom splits before h after) (q : pre ++ e ∷ post ≡ h) (k : Knows splits before after pre) where
+module _ {splits : List ℕ} {before after : List (List LogRecord)} {h : History} (l : LegalFrom splits before h after) (pre : History)
+    (e : Placed) (post : History) (q : pre ++ e ∷ post ≡ h) (k : Knows splits before after pre) where
   abbrev New : History
   New = pre ++ e ∷ []
 
@@ -118,26 +118,24 @@ module _ (splits : List ℕ) (before after : List (List LogRecord)) (h pre : His
   owed _ out a b s = tt
 
   begins : Begins (TakenIn New e.0) (VotedIn New) e.0 S
-  begins =
-      record {
-        shard = (w.split).shard;
-        wrote = λ t c. ordered_wrote S.local.log t (((bindings_front splits before after h pre (e ∷ post) l q).parted e.0 w.inside).base).ordered c;
-        open_ = λ t r g u. let p = k.open_ e.0 w.inside t r g u in (taken_later pre e e.0 t r.touched p.0, told_later pre e t r.votes p.1);
-      }
+  begins = record {
+    shard = (w.split).shard;
+    wrote = λ t c. ordered_wrote S.local.log t (((bindings_front l pre (e ∷ post) q).parted e.0 w.inside).base).ordered c;
+    open_ = λ t r g u. let p = k.open_ e.0 w.inside t r g u in (taken_later pre e e.0 t r.touched p.0, told_later pre e t r.votes p.1);
+  }
 
   rows_now : (t : TxId) (r : Request) → tx_get t (state_at before after e.0 New).requests ≡ Some r → RowIs (IsFinished S) (IsIdle (e.1).event S) (TakenIn New e.0) (VotedIn New) e.0 T.local t r r.state
   rows_now t r g = rows_made (TakenIn New e.0) (VotedIn New) e.0 (log_of after e.0) S T made (owed (e.1).event (e.1).outcome refl refl w.sent) begins t r (subst (λ (z : Shard). tx_get t z.requests ≡ Some r) (w.split).next g)
 
   -- who was finished before
   carry : (t : TxId) → Finishes splits before after pre e.0 t → Finishes splits before after New e.0 t
-  carry t p =
-      record {
-        quiet = now;
-        unfallen = λ f. p.unfallen (fell_before before after pre e e.0 t now (λ v there. both_ways _ (quiet_absent S.local t p.quiet) there) f);
-        touched = p.touched;
-        taken = taken_later pre e e.0 t p.touched p.taken;
-        read = λ m i. voted_later pre e t m Read (p.read m i);
-      }
+  carry t p = record {
+    quiet = now;
+    unfallen = λ f. p.unfallen (fell_before before after pre e e.0 t now (λ v there. both_ways _ (quiet_absent S.local t p.quiet) there) f);
+    touched = p.touched;
+    taken = taken_later pre e e.0 t p.touched p.taken;
+    read = λ m i. voted_later pre e t m Read (p.read m i);
+  }
     where
       not_own : NotOwn t (e.1).event
       not_own birth nth seen op z = asked_not_own splits before after h pre e t birth nth seen op e.0 w z ((p.taken).0, p.touched, (p.taken).1, (p.taken).2)
@@ -148,8 +146,8 @@ module _ (splits : List ℕ) (before after : List (List LogRecord)) (h pre : His
   -- who is idle did not fall
   idle_unfallen : (t : TxId) → IsIdle (e.1).event S t → Fell before pre after e.0 t → ⊥
   idle_unfallen t d f =
-      let b = (stands_front splits before after h pre (e ∷ post) l q e.0 w.inside).barred in
-      let x = b.here t (fell_out splits before after h pre (e ∷ post) e.0 t l q w.inside f) d.1 in
+      let b = (stands_front l pre (e ∷ post) q e.0 w.inside).barred in
+      let x = b.here t (fell_out l pre (e ∷ post) e.0 t q w.inside f) d.1 in
       both_ways _ d.2 ((b.lined).wrote t (prepared_there S.local.log t x.0 x.1))
 
   -- who is finished by this entry
@@ -237,11 +235,10 @@ not_finished q (parts, c) e = differ (sym c ∙ e)
     differ z = absurd cc
 
 knows_start : (splits : List ℕ) (before after : List (List LogRecord)) → Knows splits before after []
-knows_start splits before after =
-    record {
-      open_ = λ n i t q g u. absurd (not_open q (restored_state (unended n) t q g) u);
-      finished = λ n i t w. absurd (never n t (subst (λ v. IsFinished (state_at before after n v) t) (empty_front w.0 w.1 w.2) w.3));
-    }
+knows_start splits before after = record {
+  open_ = λ n i t q g u. absurd (not_open q (restored_state (unended n) t q g) u);
+  finished = λ n i t w. absurd (never n t (subst (λ v. IsFinished (state_at before after n v) t) (empty_front w.0 w.1 w.2) w.3));
+}
   where
     unended : ℕ → Table (List ℕ)
     unended n = let log = log_after_restart n (log_of before n) (run_after before) 0 in unended_in log log
@@ -251,5 +248,5 @@ knows_start splits before after =
 
 -- ---- the whole history
 
-pub knows_front : (splits : List ℕ) (before after : List (List LogRecord)) (h pre post : History) → LegalFrom splits before h after → pre ++ post ≡ h → Knows splits before after pre
-knows_front splits before after h pre post l q = walk_on (Knows splits before after) h [] pre post q (λ f e r z k. knows_next splits before after h f e r l z k) (knows_start splits before after)
+pub knows_front : {splits : List ℕ} {before after : List (List LogRecord)} {h : History} → LegalFrom splits before h after → (pre post : History) → pre ++ post ≡ h → Knows splits before after pre
+knows_front {splits} {before} {after} {h} l pre post q = walk_on (Knows splits before after) h [] pre post q (knows_next l) (knows_start splits before after)

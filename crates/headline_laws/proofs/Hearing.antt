@@ -81,20 +81,18 @@ hears_local K s l g p =
     record { log = tell_on K s.local.log l.log g p.log; rows = λ tx q e. let r = p.rows tx q e in (r.0, awaits_on s.local.log l.log tx q.state g r.1); out = p.out }
 
 pub hears_set : (K : ℕ → TxId → Type 0) (s : Shard) (tx : TxId) (w : Request) → Row K s.local.log tx w → Hears K s → Hears K (record s { requests = tx_set tx w s.requests })
-hears_set K s tx w r p =
-    record {
-      log = p.log;
-      rows = λ u q e. ⊎_elim (λ a. subst (λ v. Row K s.local.log v q) (sym a.0) (subst (Row K s.local.log tx) (sym a.1) r)) (λ b. p.rows u q b.1) (get_set tx u w q s.requests e);
-      out = p.out;
-    }
+hears_set K s tx w r p = record {
+  log = p.log;
+  rows = λ u q e. ⊎_elim (λ a. subst (λ v. Row K s.local.log v q) (sym a.0) (subst (Row K s.local.log tx) (sym a.1) r)) (λ b. p.rows u q b.1) (get_set tx u w q s.requests e);
+  out = p.out;
+}
 
 pub hears_put : (K : ℕ → TxId → Type 0) (s : Shard) (tx : TxId) (w : Request) → Row K s.local.log tx w → Hears K s → Hears K (record s { requests = tx_put tx w s.requests })
-hears_put K s tx w r p =
-    record {
-      log = p.log;
-      rows = λ u q e. ⊎_elim (λ a. subst (λ v. Row K s.local.log v q) (sym a.0) (subst (Row K s.local.log tx) (sym a.1) r)) (λ b. p.rows u q b) (put_row u tx w q s.requests e);
-      out = p.out;
-    }
+hears_put K s tx w r p = record {
+  log = p.log;
+  rows = λ u q e. ⊎_elim (λ a. subst (λ v. Row K s.local.log v q) (sym a.0) (subst (Row K s.local.log tx) (sym a.1) r)) (λ b. p.rows u q b) (put_row u tx w q s.requests e);
+  out = p.out;
+}
 
 pub hears_send : (K : ℕ → TxId → Type 0) (s : Shard) (ms : List Message) → AllByRecursion (Says K) ms → Hears K s → Hears K (send ms s)
 hears_send K s ms a p = record { log = p.log; rows = p.rows; out = all_append (Says K) s.outbox ms p.out a }

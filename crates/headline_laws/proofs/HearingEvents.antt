@@ -51,12 +51,11 @@ says_mono K L k (Done to tx from) p = k from tx p
 says_mono K L k _ p = tt
 
 pub hears_mono : (K L : ℕ → TxId → Type 0) (s : Shard) → ((n : ℕ) (u : TxId) → K n u → L n u) → Hears K s → Hears L s
-hears_mono K L s k p =
-    record {
-      log = tell_mono K L s.local.log k p.log;
-      rows = λ tx q g. let r = p.rows tx q g in ((λ m i. k m tx (r.0 m i)), r.1);
-      out = all_mono (Says K) (Says L) (says_mono K L k) s.outbox p.out;
-    }
+hears_mono K L s k p = record {
+  log = tell_mono K L s.local.log k p.log;
+  rows = λ tx q g. let r = p.rows tx q g in ((λ m i. k m tx (r.0 m i)), r.1);
+  out = all_mono (Says K) (Says L) (says_mono K L k) s.outbox p.out;
+}
 
 -- ---- reminders say nothing of it
 

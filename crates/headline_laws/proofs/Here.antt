@@ -58,8 +58,9 @@ use Rattle.law_base.proofs.Names.{all_from}
 not_home : (home : ℕ) (xs : List ℕ) → nat_in home (filter (λ p. not (p == home)) xs) ≡ true → ⊥
 not_home home xs i = both_ways false refl (subst (λ b. not b ≡ true) (eq-eqb home home refl) (in_picked (λ p. not (p == home)) home xs i).1)
 
-module _ (splits : List ℕ) (before : List (List LogRecord)) (h : History) (after : List (List LogRecord)) (choice : ℕ → Bool) (home : ℕ) (e : Entry) (touched : List (ℕ × ℕ)) (t : TxId) (ps : List ℕ) (l : LegalFrom splits before h after)
-    (orders : InOrder splits before h after choice) (a : IsAmong home e h) (ev : e.event ≡ RequestEvent t touched) (out : e.outcome ≡ Asked) where
+module _ {splits : List ℕ} {before after : List (List LogRecord)} {h : History} (l : LegalFrom splits before h after) (choice : ℕ → Bool)
+    (home : ℕ) (e : Entry) (touched : List (ℕ × ℕ)) (t : TxId) (ps : List ℕ) (orders : InOrder splits before h after choice)
+    (a : IsAmong home e h) (ev : e.event ≡ RequestEvent t touched) (out : e.outcome ≡ Asked) where
   abbrev left : List (List LogRecord)
   left = logs_left splits before h after choice
 
@@ -79,10 +80,10 @@ module _ (splits : List ℕ) (before : List (List LogRecord)) (h : History) (aft
   not_old q = let r = run in absurd (omega (arith, q, r))
 
   bindings : Bindings splits before after h h
-  bindings = bindings_front splits before after h h [] l (append-nil h)
+  bindings = bindings_front l h [] (append-nil h)
 
   origins : (n : ℕ) → n < shard_count splits → OriginsAt (run_after before) h n (last n).local.epoch (last n)
-  origins n i = ((traced_front splits before after h h [] l (append-nil h)).states n i).origins
+  origins n i = ((traced_front l h [] (append-nil h)).states n i).origins
 
   -- the request that was taken on a shard is this one
   at_home : (n : ℕ) → Requested h t n → n ≡ home
@@ -99,7 +100,7 @@ module _ (splits : List ℕ) (before : List (List LogRecord)) (h : History) (aft
   wrote_there : (n : ℕ) → n < shard_count splits → (n == home) ≡ false → list_any (is_record_of t) (log_of left n) ≡ true → wrote_in (last n).local.log t ≡ true
   wrote_there n i d r =
       ⊎_elim (λ w. wrote_take _ (last n).local.log t (subst (λ z. wrote_in z t ≡ true) (log_now splits before h after choice n i) w))
-      (λ w. ⊎_elim (λ x. x) (λ x. absurd (both_ways _ d (eq-eqb n home (at_home n x)))) (committed_by splits before after h h [] l (append-nil h) n i t run (left_committed splits before h after choice n t i w)))
+      (λ w. ⊎_elim (λ x. x) (λ x. absurd (both_ways _ d (eq-eqb n home (at_home n x)))) (committed_by l h [] (append-nil h) n i t run (left_committed splits before h after choice n t i w)))
       (wrote_or_committed n (log_of left n) (from_disorder n 0 [] (log_of left n) (orders n i)) t r)
 
   touches : (n : ℕ) → n < shard_count splits → (n == home) ≡ false → wrote_in (last n).local.log t ≡ true → nat_in n (others home touched) ≡ true
@@ -111,15 +112,15 @@ module _ (splits : List ℕ) (before : List (List LogRecord)) (h : History) (aft
   left_more n i = subst (IsPrefixOf (log_left (last n) false)) (sym (log_now splits before h after choice n i)) (left_front (last n) (choice n) (((bindings.fated).counts).counted n i))
 
   unaborted : (n : ℕ) → n < shard_count splits → (n ≡ home → ⊥) → is_left splits before h after choice home t ≡ true → (b : Bound (last n) t) → aborted_in (log_of left n) t ≡ false
-  unaborted n i d there b = false_from_ne_true _ (λ x. bound_never_out splits before h after choice home n t l inside i run there b (λ z. d (sym z ∙ prepare_home n b.listed i prepared)) (out_of x))
+  unaborted n i d there b = false_from_ne_true _ (λ x. bound_never_out l choice home n t inside i run there b (λ z. d (sym z ∙ prepare_home n b.listed i prepared)) (out_of x))
     where
       prepared : prepare_of (last n).local.log t ≡ Some b.listed
       prepared = front_prepare (last n).durable (last n).local.log t b.listed b.prepare
 
       out_of : aborted_in (log_of left n) t ≡ true → WasOut before after h n t
       out_of x =
-          let z = struck_front splits before after h h [] l (append-nil h) n i t (left_aborted splits before h after choice n t i x) in
-          (h, [], append-nil h, (z.0, z.1, ((stands_front splits before after h h [] l (append-nil h) n i).barred).sought t (prepared_there (last n).local.log t b.listed prepared)))
+          let z = struck_front l h [] (append-nil h) n i t (left_aborted splits before h after choice n t i x) in
+          (h, [], append-nil h, (z.0, z.1, ((stands_front l h [] (append-nil h) n i).barred).sought t (prepared_there (last n).local.log t b.listed prepared)))
 
   part_is : (n : ℕ) → n < shard_count splits → (n ≡ home → ⊥) → is_left splits before h after choice home t ≡ true → Bound (last n) t → PartIs (log_of left n) t home
   part_is n i d there b =
@@ -156,18 +157,17 @@ module _ (splits : List ℕ) (before : List (List LogRecord)) (h : History) (aft
 
     part : (n : ℕ) → nat_in n ps ≡ true → PartIs (log_of left n) t home
     part n i =
-        let j = part_below splits before h after choice home n t ps l inside commits i in
+        let j = part_below l choice home n t ps inside commits i in
         let v = (parts_are_the_yes_voters splits before h after choice n home e touched t ps l a ev out commits).0 i in
         let x = v.1 in
-        let b = (casts_front splits before after h h [] l (append-nil h)).cast (x.0, x.1) home n t Yes (is_among x.0 x.1 h x.2) x.3 in
+        let b = (casts_front l h [] (append-nil h)).cast (x.0, x.1) home n t Yes (is_among x.0 x.1 h x.2) x.3 in
         part_is n j (λ z. not_home home (map (λ r. r.0) touched) (subst (λ k. nat_in k (others home touched) ≡ true) z v.0)) there b.1
 
     pub home_here : HomeIs left t home ps
-    home_here =
-        record {
-          commits = commits;
-          home = home_named (prepare_of (log_of left home) t) refl;
-          named = λ n i d r. let e = left_length splits before h after choice in named n (omega (arith, e, i)) d r;
-          parts = λ n i. part_here (log_of left n) t home (part n i);
-          ended = λ x n i. ended_are_committed splits before h after choice home n t ps l inside x commits i;
-        }
+    home_here = record {
+      commits = commits;
+      home = home_named (prepare_of (log_of left home) t) refl;
+      named = λ n i d r. let e = left_length splits before h after choice in named n (omega (arith, e, i)) d r;
+      parts = λ n i. part_here (log_of left n) t home (part n i);
+      ended = λ x n i. ended_are_committed splits before h after choice home n t ps l inside x commits i;
+    }

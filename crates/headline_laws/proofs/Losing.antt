@@ -1,6 +1,6 @@
 -- Along a history: who is of this run, or was committed in some log at opening, and was out on a shard where it is prepared, has its home there,
 -- or an abort of it is told, or its PREPARE lists one that was out as well.
-use Rattle.std.proofs.Common.{◌≡◌, ◌⊎◌, inl, inr, ⊎_elim, refl, sym, ap, subst, ◌∙◌, ℕ, ◌<◌, true, false, List, [], ◌∷◌, ◌++◌, length, Some, append-nil, append_assoc, arith}
+use Rattle.std.proofs.Common.{◌≡◌, ◌⊎◌, inl, inr, ⊎_elim, refl, sym, ap, subst, ◌∙◌, ℕ, ◌<◌, true, false, List, [], ◌∷◌, ◌++◌, Some, append-nil, append_assoc}
 use Rattle.std.proofs.lemmas.Bool.{both_ways, false_from_ne_true}
 use Rattle.clv_base.specs.declared.names.TxId.{TxId}
 use Rattle.clv_base.specs.declared.logs.LogRecord.{LogRecord}
@@ -16,6 +16,7 @@ use Rattle.history_cases.proofs.Entering.{Makes, makes}
 use Rattle.history_cases.proofs.Merging.{Placed}
 use Rattle.history_cases.proofs.Worlds.{state_at}
 use Rattle.history_laws.specs.Openings.{LegalFrom}
+use Rattle.history_laws.proofs.Found.{log_found}
 use Rattle.shard_laws.proofs.Restoring.{restored_closed}
 use Rattle.fate_laws.proofs.Prepares.{opening_adds as opening_prepares}
 use Rattle.fate_laws.proofs.Opening.{opening_settled, opening_home, opening_unaborted}
@@ -44,13 +45,10 @@ abbrev pub AllLost : List (List LogRecord) → List (List LogRecord) → ℕ →
 AllLost before after n pre = (t : TxId) (p : ℕ × List TxId) → Followed before t → WasOut before after pre n t → prepare_of (state_at before after n pre).local.log t ≡ Some p → LostAt before after pre n t p
 
 -- who was committed in some log at opening, and is prepared here, is here when the shard opens, or committed
-here_at_opening : (splits : List ℕ) (before after : List (List LogRecord)) (h : History) (n : ℕ) (t : TxId) (p : ℕ × List TxId) → LegalFrom splits before h after → n < shard_count splits → WasCommitted before t
-    → WasOut before after [] n t → prepare_of (state_at before after n []).local.log t ≡ Some p → ⊥
-here_at_opening splits before after h n t p l i c (front, rest, z, y) k = by_why (not_in_doubt n (log_of before n) t p (follows_ahead n [] (log_of before n) (log_follows splits before n l.opens inside)) was undoubted unc)
+here_at_opening : {splits : List ℕ} {before after : List (List LogRecord)} {h : History} → LegalFrom splits before h after → (n : ℕ) (t : TxId) (p : ℕ × List TxId)
+    → n < shard_count splits → WasCommitted before t → WasOut before after [] n t → prepare_of (state_at before after n []).local.log t ≡ Some p → ⊥
+here_at_opening {splits} {before} {after} l n t p i c (front, rest, z, y) k = by_why (not_in_doubt n (log_of before n) t p (follows_ahead n [] (log_of before n) (log_follows splits before n l.opens (log_found l n i))) was undoubted unc)
   where
-    inside : n < length before
-    inside = let e = l.legal.each_log.0 in omega (arith, e, i)
-
     out : Out (Met before [] [] n) (state_at before after n []) t
     out = subst (λ f. Out (Met before f f n) (state_at before after n f) t) (empty_front front rest z) y
 
@@ -66,14 +64,14 @@ here_at_opening splits before after h n t p l i c (front, rest, z, y) k = by_why
         (false_from_ne_true _ (λ d. both_ways _ out.0 (ap is_present (restored_closed (in_doubt n (log_after_restart n (log_of before n) (run_after before) 0)) t d))))
 
     by_why : Why (log_of before n) n (in_doubt n (log_of before n)) t p → ⊥
-    by_why (inl a) = ⊎_elim (λ d. both_ways _ unc d) (λ d. both_ways _ d a) (opening_unaborted splits before t c.0 n p l.opens c.1 inside was)
-    by_why (inr (inl e)) = both_ways _ unc (subst (λ m. committed_in (log_of before m) t ≡ true) e (opening_home splits before t c.0 n p l.opens c.1 inside was))
-    by_why (inr (inr (q, m, d, u))) = ⊎_elim (λ x. both_ways _ unc x) (λ x. both_ways _ d (x q m)) (opening_settled splits before t c.0 n p l.opens c.1 inside was)
+    by_why (inl a) = ⊎_elim (λ d. both_ways _ unc d) (λ d. both_ways _ d a) (opening_unaborted splits before t c.0 n p l.opens c.1 (log_found l n i) was)
+    by_why (inr (inl e)) = both_ways _ unc (subst (λ m. committed_in (log_of before m) t ≡ true) e (opening_home splits before t c.0 n p l.opens c.1 (log_found l n i) was))
+    by_why (inr (inr (q, m, d, u))) = ⊎_elim (λ x. both_ways _ unc x) (λ x. both_ways _ d (x q m)) (opening_settled splits before t c.0 n p l.opens c.1 (log_found l n i) was)
 
 -- ---- one entry more
 
-module _ (splits : List ℕ) (before after : List (List LogRecord)) (h pre : History) (e : Placed) (post : History) (l : LegalFrom splits before h after) (q : pre ++ e ∷ post ≡ h) (n : ℕ) (i : n < shard_count splits)
-    (a : AllLost before after n pre) where
+module _ {splits : List ℕ} {before after : List (List LogRecord)} {h : History} (l : LegalFrom splits before h after) (pre : History)
+    (e : Placed) (post : History) (q : pre ++ e ∷ post ≡ h) (n : ℕ) (i : n < shard_count splits) (a : AllLost before after n pre) where
   abbrev New : History
   New = pre ++ e ∷ []
 
@@ -84,13 +82,13 @@ module _ (splits : List ℕ) (before after : List (List LogRecord)) (h pre : His
   w = next_at splits before after h pre e post l.legal q
 
   fated : Fated splits before after pre
-  fated = (bindings_front splits before after h pre (e ∷ post) l q).fated
+  fated = (bindings_front l pre (e ∷ post) q).fated
 
   old : (m : ℕ) → m < shard_count splits → Stands before after h pre m (state_at before after m pre)
-  old m j = stands_front splits before after h pre (e ∷ post) l q m j
+  old m j = stands_front l pre (e ∷ post) q m j
 
   new : Stands before after h (pre ++ e ∷ []) n (state_at before after n (pre ++ e ∷ []))
-  new = stands_front splits before after h (pre ++ e ∷ []) post l later n i
+  new = stands_front l (pre ++ e ∷ []) post later n i
 
   more : (t : TxId) (p : ℕ × List TxId) → LostAt before after pre n t p → LostAt before after (pre ++ e ∷ []) n t p
   more t p (inl z) = inl z
@@ -114,12 +112,12 @@ module _ (splits : List ℕ) (before after : List (List LogRecord)) (h pre : His
   struck t p r b k = ⊎_elim (λ f. carry t p r (out f) k) (λ z. absurd (both_ways _ gone (subst (λ g. is_present g ≡ true) (sym z) refl))) (found t p k)
     where
       gone : Absent (state_at before after n pre) t
-      gone = (struck_front splits before after h pre (e ∷ post) l q n i t b).0
+      gone = (struck_front l pre (e ∷ post) q n i t b).0
 
       out : prepare_of (state_at before after n pre).local.log t ≡ Some p → WasOut before after pre n t
       out f =
           let s = state_at before after n pre in
-          let k = struck_front splits before after h pre (e ∷ post) l q n i t b in
+          let k = struck_front l pre (e ∷ post) q n i t b in
           (pre, [], append-nil pre, (k.0, k.1, ((old n i).barred).sought t (prepared_there s.local.log t p f)))
 
   goes : (t : TxId) (p : ℕ × List TxId) → Absent (state_at before after n (pre ++ e ∷ [])) t → prepare_of (state_at before after n (pre ++ e ∷ [])).local.log t ≡ Some p → committed_in (state_at before after n (pre ++ e ∷ [])).local.log t ≡ false
@@ -138,7 +136,7 @@ module _ (splits : List ℕ) (before after : List (List LogRecord)) (h pre : His
       whole u z = (pre ++ e ∷ [], [], append-nil (pre ++ e ∷ []), z)
 
       shard : (state_at before after n (pre ++ e ∷ [])).shard ≡ n
-      shard = ((bindings_front splits before after h (pre ++ e ∷ []) post l later).fated.counts).shard n i
+      shard = ((bindings_front l (pre ++ e ∷ []) post later).fated.counts).shard n i
 
       by_goes : GoesBy (state_at before after n pre) (state_at before after n (pre ++ e ∷ [])) t p → LostAt before after (pre ++ e ∷ []) n t p
       by_goes (inl b) = struck t p r b k
@@ -158,9 +156,9 @@ module _ (splits : List ℕ) (before after : List (List LogRecord)) (h pre : His
 
 -- ---- the whole history
 
-pub all_lost : (splits : List ℕ) (before after : List (List LogRecord)) (h pre post : History) → LegalFrom splits before h after → pre ++ post ≡ h → (n : ℕ) → n < shard_count splits → AllLost before after n pre
-all_lost splits before after h pre post l q n i = walk_on (AllLost before after n) h [] pre post q (λ f e r z k. lost_next splits before after h f e r l z n i k) first
+pub all_lost : {splits : List ℕ} {before after : List (List LogRecord)} {h : History} → LegalFrom splits before h after → (pre post : History) → pre ++ post ≡ h → (n : ℕ) → n < shard_count splits → AllLost before after n pre
+all_lost {before} {after} {h} l pre post q n i = walk_on (AllLost before after n) h [] pre post q (λ f e r z k. lost_next l f e r z n i k) first
   where
     first : AllLost before after n []
-    first t p (inr c) v k = absurd (here_at_opening splits before after h n t p l i c v k)
-    first t p (inl r) v k = let z = ((bindings_front splits before after h [] h l refl).fated.homed n i).prepares t p k r in absurd (elim z.2 [ ])
+    first t p (inr c) v k = absurd (here_at_opening l n t p i c v k)
+    first t p (inl r) v k = let z = ((bindings_front l [] h refl).fated.homed n i).prepares t p k r in absurd (elim z.2 [ ])

@@ -16,6 +16,7 @@ use Rattle.protocol_laws.specs.SessionLaws.{tx_of}
 use Rattle.history_laws.specs.Openings.{LegalFrom}
 use Rattle.history_laws.specs.Continuing.{serial_left}
 use Rattle.history_cases.proofs.Merging.{Placed, Among}
+use Rattle.history_laws.proofs.Found.{log_found}
 use Rattle.history_laws.proofs.Staying.{walker_of, one_request, is_request}
 use Rattle.fate_laws.specs.Members.{is_member}
 use Rattle.fate_laws.proofs.Deciding.{commits_are_members}
@@ -129,9 +130,9 @@ is_chosen splits before h after choice n t (inr (inl a)) = or_left _ _ (or_right
 is_chosen splits before h after choice n t (inr (inr a)) = or_right (is_member splits before h after choice t || committed_in (log_of (logs_left splits before h after choice) n) t) _ (and_from _ _ a.0 a.1)
 
 -- those that asked are the members
-pub chosen_are_members : (splits : List ℕ) (before : List (List LogRecord)) (h : History) (after : List (List LogRecord)) (choice : ℕ → Bool) (n : ℕ) → LegalFrom splits before h after → n < shard_count splits
-    → map (λ m. m.tx) (serial_left splits before h after choice) ≡ filter (chosen splits before h after choice n) (requests_of h)
-chosen_are_members splits before h after choice n l i =
+pub chosen_are_members : {splits : List ℕ} {before after : List (List LogRecord)} {h : History} → LegalFrom splits before h after → (choice : ℕ → Bool) (n : ℕ)
+    → n < shard_count splits → map (λ m. m.tx) (serial_left splits before h after choice) ≡ filter (chosen splits before h after choice n) (requests_of h)
+chosen_are_members {splits} {before} {after} {h} l choice n i =
     picked (logs_left splits before h after choice) h h (chosen splits before h after choice n)
     (λ x j t q. same_test (counts (logs_left splits before h after choice) h x.0 t) (chosen splits before h after choice n t) (λ c. is_chosen splits before h after choice n t (inl (counted (logs_left splits before h after choice) h h x t j q c)))
     (λ c. back x j t q (of_chosen splits before h after choice n t c)))
@@ -141,8 +142,7 @@ chosen_are_members splits before h after choice n l i =
     member x j t q (inr (inl a)) = commits_are_members splits before h after choice n t l i (request_run splits before after h x t l.legal j q) a
     member x j t q (inr (inr a)) =
         let k = request_run splits before after h x t l.legal j q in
-        let e = l.legal.each_log.0 in
-        let d = doubted_is_old splits before n l.opens (omega (arith, e, i)) t a.0 in
+        let d = doubted_is_old splits before n l.opens (log_found l n i) t a.0 in
         absurd (omega (arith, k, d))
 
     back : (x : Placed) → Among x h → (t : TxId) → request_of (x.1).event (x.1).outcome ≡ Some t → Chosen splits before h after choice n t → counts (logs_left splits before h after choice) h x.0 t ≡ true

@@ -81,8 +81,8 @@ record Where (splits : List ℕ) (before after : List (List LogRecord)) (h : His
   home : IsHome h t shard
   found : DurableIn before after h shard t ⊎ Finishes splits before after h shard t
 
-where_is : (splits : List ℕ) (before after : List (List LogRecord)) (h : History) (t : TxId) → LegalFrom splits before h after → acknowledged_in h t ≡ true → Where splits before after h t
-where_is splits before after h t l a =
+where_is : {splits : List ℕ} {before after : List (List LogRecord)} {h : History} → LegalFrom splits before h after → (t : TxId) → acknowledged_in h t ≡ true → Where splits before after h t
+where_is {splits} {before} {after} {h} l t a =
     record { run = (walker_of splits before after h y t l.legal mine (ap tx_of look.0)).0; shard = y.0; inside = w.inside; home = told_at_home splits before h after y t l.legal mine any.2; found = found (subst (λ v. Finds s v Acknowledged) look.0 (subst (Finds s (y.1).event) look.1 told)) }
   where
     any : (x : Placed) × Among x h × (is_acknowledgement t (x.1).event (x.1).outcome ≡ true)
@@ -113,28 +113,28 @@ where_is splits before after h t l a =
     told = finds_made (log_of after y.0) s _ (makes (log_of after y.0) s (y.1).event (y.1).outcome ((w.split).enters).event)
 
     found : FindsWell s t → DurableIn before after h y.0 t ⊎ Finishes splits before after h y.0 t
-    found (inl d) = inl (durable_on splits before after h pre (y ∷ parts.1) y.0 t l.legal parts.2 ((bindings_front splits before after h pre (y ∷ parts.1) l parts.2).fated.counts) (durable_front s.local.log s.durable t d))
-    found (inr (q, g, f)) = inr ((knows_front splits before after h h [] l (append-nil h)).finished y.0 w.inside t (pre, y ∷ parts.1, parts.2, (q, g, f)))
+    found (inl d) = inl (durable_on splits before after h pre (y ∷ parts.1) y.0 t l.legal parts.2 ((bindings_front l pre (y ∷ parts.1) parts.2).fated.counts) (durable_front s.local.log s.durable t d))
+    found (inr (q, g, f)) = inr ((knows_front l h [] (append-nil h)).finished y.0 w.inside t (pre, y ∷ parts.1, parts.2, (q, g, f)))
 
 -- ---- the laws
 
-module _ (splits : List ℕ) (before : List (List LogRecord)) (h : History) (after : List (List LogRecord)) (t : TxId) (l : LegalFrom splits before h after) (k : Where splits before after h t) where
+module _ {splits : List ℕ} {before after : List (List LogRecord)} {h : History} (l : LegalFrom splits before h after) (t : TxId)
+    (k : Where splits before after h t) where
   only_read : (p : Finishes splits before after h k.shard t) → OnlyRead before h after k.shard p.touched t
-  only_read p =
-      record {
-        unwritten = (p.quiet).unwritten;
-        uncommitted = (p.quiet).uncommitted;
-        absent = quiet_absent (final_of before h after k.shard).local t p.quiet;
-        unfallen = p.unfallen;
-        voted = λ m i. let v = p.read m i in ((v.0).0, (v.0).1, v.1, among_is (v.0).0 (v.0).1 h v.2, v.3);
-      }
+  only_read p = record {
+    unwritten = (p.quiet).unwritten;
+    uncommitted = (p.quiet).uncommitted;
+    absent = quiet_absent (final_of before h after k.shard).local t p.quiet;
+    unfallen = p.unfallen;
+    voted = λ m i. let v = p.read m i in ((v.0).0, (v.0).1, v.1, among_is (v.0).0 (v.0).1 h v.2, v.3);
+  }
 
   stands : (choice : ℕ → Bool) (home : ℕ) (e : Entry) (touched : List (ℕ × ℕ)) → Among (home, e) h → e.event ≡ RequestEvent t touched → e.outcome ≡ Asked → DurableIn before after h k.shard t ⊎ Finishes splits before after h k.shard t
       → (is_left splits before h after choice home t ≡ true) ⊎ OnlyRead before h after home touched t
   stands choice home e touched a ev out (inl d) =
       let (b, us, i, x, y) = k.home in
       let same = one_home splits before after h t k.shard home b e us touched l.legal (is_among k.shard b h i) (x, y) a (ev, out) in
-      inl (subst (λ m. is_left splits before h after choice m t ≡ true) same (durable_left splits before h after choice k.shard t k.inside (fated splits before after h l) d))
+      inl (subst (λ m. is_left splits before h after choice m t ≡ true) same (durable_left splits before h after choice k.shard t k.inside (fated l) d))
   stands choice home e touched a ev out (inr p) =
       let r = p.taken in
       let same = one_request splits before after h (k.shard, r.0) (home, e) t p.touched touched l.legal r.1 a r.2 (ev, out) in
@@ -146,7 +146,7 @@ module _ (splits : List ℕ) (before : List (List LogRecord)) (h : History) (aft
 
 pub acknowledged_stand : AcknowledgedStand
 acknowledged_stand splits before h after choice home e touched t l i k a ev out =
-    let z = where_is splits before after h t l k in stands splits before h after t l z choice home e touched (is_among home e h a) ev out z.found
+    let z = where_is l t k in stands l t z choice home e touched (is_among home e h a) ev out z.found
 
 pub acknowledged_at_home : AcknowledgedAtHome
 acknowledged_at_home splits before h after n e t l i a = told_at_home splits before h after (n, e) t l (is_among n e h i) a
@@ -168,5 +168,5 @@ acknowledged_never_fell_at_home splits before h after home t l k m f = at (ackno
     i = in_a_shard splits before after h (home, m.0) l.legal (is_among home m.0 h m.2)
 
     at : (is_left splits before h after (λ n. false) home t ≡ true) ⊎ OnlyRead before h after home m.1 t → ⊥
-    at (inl left) = members_never_fell_at_home splits before h after (λ n. false) home home t l i i (where_is splits before after h t l k).run left m f
+    at (inl left) = members_never_fell_at_home splits before h after (λ n. false) home home t l i i (where_is l t k).run left m f
     at (inr r) = r.unfallen f

@@ -134,8 +134,7 @@ durable_opened before after m t c =
     subst (λ z. committed_in z t ≡ true) (sym (take_all (length log) log (omega arith))) (committed_keeps (log_of before m) _ t c)
 
 pub opening_tells : (splits : List ℕ) (before after : List (List LogRecord)) (n : ℕ) → may_open splits before ≡ true → n < length before → Tell (DurableIn before after []) (log_of before n)
-opening_tells splits before after n o l =
-    record {
-      behind = ends_follow n [] (log_of before n) (in_order splits before n o l);
-      parts = λ t ps m e c i. durable_opened before after m t (opening_ended splits before n m t ps o l e c i);
-    }
+opening_tells splits before after n o l = record {
+  behind = ends_follow n [] (log_of before n) (in_order splits before n o l);
+  parts = λ t ps m e c i. durable_opened before after m t (opening_ended splits before n m t ps o l e c i);
+}

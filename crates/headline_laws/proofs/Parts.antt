@@ -1,5 +1,5 @@
 -- Members by their parts.
-use Rattle.std.proofs.Common.{◌≡◌, inl, inr, refl, sym, ap, ◌∙◌, ℕ, suc, ◌<◌, true, false, cond, Bool, List, [], ◌∷◌, map, Option, Some, None, ◌&&◌, ◌||◌}
+use Rattle.std.proofs.Common.{◌≡◌, inl, inr, refl, sym, ap, ◌∙◌, ℕ, ◌<◌, true, false, cond, Bool, List, [], ◌∷◌, map, Option, Some, None}
 use Rattle.std.specs.Prelude.{is_none}
 use Rattle.std.specs.List.{AllByRecursion}
 use Rattle.std.proofs.lemmas.Bool.{and_parts}
@@ -15,7 +15,7 @@ use Rattle.clv_base.specs.Shards.{shard_count}
 use Rattle.clv_base.specs.LogRules.{all_logs_from, apart}
 use Rattle.clv_base.specs.FileRules.{log_passes}
 use Rattle.clv_base.specs.Journals.{History}
-use Rattle.clv_base.specs.History.{Member, members, answered_op, ops_in, logs_left}
+use Rattle.clv_base.specs.History.{Member, answered_op, ops_in, logs_left}
 use Rattle.clv_base.specs.Logs.{stands}
 use Rattle.history_laws.specs.Continuing.{serial_left}
 use Rattle.clv_base.specs.Maps.{replay_map, replay_answers}

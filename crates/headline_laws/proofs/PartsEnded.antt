@@ -223,10 +223,9 @@ end_of log tx t e =
 
 -- an END of a commit whose parts are all durable
 pub tell_end : (K : ℕ → TxId → Type 0) (log : List LogRecord) (tx : TxId) → committed_in log tx ≡ true → ((ps : List ℕ) (m : ℕ) → commit_parts log tx ≡ Some ps → nat_in m ps ≡ true → K m tx) → Tell K log → Tell K (log ++ End tx ∷ [])
-tell_end K log tx c k p =
-    record {
-      behind = ends_more [] log (End tx ∷ []) p.behind ((λ t e. subst (λ z. committed_in log z ≡ true) (sym (tx_true t tx e)) c), tt);
-      parts = λ t ps m h d i.
-          ⊎_elim (λ a. p.parts t ps m a (parts_back log (End tx ∷ []) t ps (ended_committed [] log t p.behind a) d) i)
-          (λ a. subst (K m) (sym a) (k ps m (parts_back log (End tx ∷ []) tx ps c (subst (λ z. commit_parts (log ++ End tx ∷ []) z ≡ Some ps) a d)) i)) (end_of log tx t h);
-    }
+tell_end K log tx c k p = record {
+  behind = ends_more [] log (End tx ∷ []) p.behind ((λ t e. subst (λ z. committed_in log z ≡ true) (sym (tx_true t tx e)) c), tt);
+  parts = λ t ps m h d i.
+      ⊎_elim (λ a. p.parts t ps m a (parts_back log (End tx ∷ []) t ps (ended_committed [] log t p.behind a) d) i)
+      (λ a. subst (K m) (sym a) (k ps m (parts_back log (End tx ∷ []) tx ps c (subst (λ z. commit_parts (log ++ End tx ∷ []) z ≡ Some ps) a d)) i)) (end_of log tx t h);
+}

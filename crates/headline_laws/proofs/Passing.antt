@@ -16,7 +16,7 @@ use Rattle.clv_base.specs.State.{Shard, is_present}
 use Rattle.clv_base.specs.Undo.{stage_of}
 use Rattle.clv_base.specs.Restarts.{run_after}
 use Rattle.clv_base.specs.Journals.{History, final_of}
-use Rattle.clv_base.specs.History.{Legal, IsAmong}
+use Rattle.clv_base.specs.History.{IsAmong}
 use Rattle.protocol_laws.specs.SessionLaws.{tx_of}
 use Rattle.history_cases.proofs.Merging.{is_among}
 use Rattle.history_laws.specs.Openings.{LegalFrom}
@@ -37,13 +37,13 @@ use Rattle.fate_laws.proofs.Fallen.{fell_is}
 use Rattle.fate_laws.proofs.Leading.{at_front, each_shard_leads, restored_front}
 use Rattle.fate_laws.proofs.Records.{wrote_from}
 use Rattle.fate_laws.proofs.Remembering.{part_did, none_present}
-use Rattle.headline_laws.proofs.Readers.{readers_pass}
-use Rattle.headline_laws.proofs.Readers.{readers_never_fell}
+use Rattle.headline_laws.proofs.Readers.{readers_pass, readers_never_fell}
 use Rattle.headline_laws.specs.Acknowledged.{OnlyRead}
 use Rattle.headline_laws.proofs.Naming.{names_shard}
 
-module _ (splits : List ℕ) (before : List (List LogRecord)) (h : History) (after : List (List LogRecord)) (l : LegalFrom splits before h after) (n : ℕ) (i : n < shard_count splits)
-    (t : TxId) (home : ℕ) (e : Entry) (touched : List (ℕ × ℕ)) (a : IsAmong home e h) (ev : e.event ≡ RequestEvent t touched) (out : e.outcome ≡ Asked) where
+module _ {splits : List ℕ} {before after : List (List LogRecord)} {h : History} (l : LegalFrom splits before h after) (n : ℕ)
+    (i : n < shard_count splits) (t : TxId) (home : ℕ) (e : Entry) (touched : List (ℕ × ℕ)) (a : IsAmong home e h)
+    (ev : e.event ≡ RequestEvent t touched) (out : e.outcome ≡ Asked) where
   run_is : t.run ≡ run_after before
   run_is = (walker_of splits before after h (home, e) t l.legal (is_among home e h a) (ap tx_of ev)).0
 
@@ -52,7 +52,7 @@ module _ (splits : List ℕ) (before : List (List LogRecord)) (h : History) (aft
 
   -- who never fell is none of the fallen that the shard counts
   uncounted : (Fell before h after n t → ⊥) → tx_in t (deeds_before before h after n).fell ≡ false
-  uncounted k = false_from_ne_true _ (λ f. k (fell_is before h after n t (((at_front splits before h after h [] n l (append-nil h) i).remembers).fell t f).1))
+  uncounted k = false_from_ne_true _ (λ f. k (fell_is before h after n t (((at_front l h [] n (append-nil h) i).remembers).fell t f).1))
 
   -- ---- who voted read
 
@@ -71,14 +71,13 @@ module _ (splits : List ℕ) (before : List (List LogRecord)) (h : History) (aft
   -- ---- who only read, at its home
 
   pub home_passes : n ≡ home → OnlyRead before h after home touched t → Passes (deeds_before before h after n) (final_of before h after n) t
-  home_passes z r =
-      record {
-        has_asked = asked;
-        unwritten = subst (λ m. wrote_in (final_of before h after m).local.log t ≡ false) (sym z) r.unwritten;
-        uncommitted = subst (λ m. committed_in (final_of before h after m).local.log t ≡ false) (sym z) r.uncommitted;
-        absent = subst (λ m. is_present (stage_of (final_of before h after m).local t) ≡ false) (sym z) r.absent;
-        unfallen = uncounted (subst (λ m. Fell before h after m t → ⊥) (sym z) r.unfallen);
-      }
+  home_passes z r = record {
+    has_asked = asked;
+    unwritten = subst (λ m. wrote_in (final_of before h after m).local.log t ≡ false) (sym z) r.unwritten;
+    uncommitted = subst (λ m. committed_in (final_of before h after m).local.log t ≡ false) (sym z) r.uncommitted;
+    absent = subst (λ m. is_present (stage_of (final_of before h after m).local t) ≡ false) (sym z) r.absent;
+    unfallen = uncounted (subst (λ m. Fell before h after m t → ⊥) (sym z) r.unfallen);
+  }
 
   -- ---- whom its request doesn't name
 
@@ -102,7 +101,7 @@ module _ (splits : List ℕ) (before : List (List LogRecord)) (h : History) (aft
         order_is_kept n (run_after before) found (with_found n found d) s (each_shard_leads splits before h after h [] n l (append-nil h) i)
 
     traced : Traced (run_after before) h n (final_of before h after n)
-    traced = (traced_front splits before after h h [] l (append-nil h)).states n i
+    traced = (traced_front l h [] (append-nil h)).states n i
 
     undone : DidAny h n t → ⊥
     undone d = both_ways _ unnamed (names_shard splits before after h n home t (e, touched, a, ev, out) l.legal run_is (inl d))
@@ -123,6 +122,6 @@ module _ (splits : List ℕ) (before : List (List LogRecord)) (h : History) (aft
           unwritten = false_from_ne_true _ (λ w. not_there (wrote_from A Q O n s.local.log log t w));
           uncommitted = false_from_ne_true _ (λ k. ⊎_elim (λ w. not_there (wrote_from A Q O n s.local.log log t w)) (λ r. not_its_home r)
               (committed_wrote A Q O n s.local.log t log (from_disorder n 0 [] s.local.log ordered) k));
-          absent = false_from_ne_true _ (λ p. not_there (part_did (run_after before) h n s t (stage_of s.local t) traced (restored_front splits before h after h [] n l (append-nil h) i) refl (none_present (stage_of s.local t) p)));
-          unfallen = false_from_ne_true _ (λ f. not_there (((at_front splits before h after h [] n l (append-nil h) i).remembers).fell t f).0);
+          absent = false_from_ne_true _ (λ p. not_there (part_did (run_after before) h n s t (stage_of s.local t) traced (restored_front l h [] n (append-nil h) i) refl (none_present (stage_of s.local t) p)));
+          unfallen = false_from_ne_true _ (λ f. not_there (((at_front l h [] n (append-nil h) i).remembers).fell t f).0);
         }

@@ -1,5 +1,5 @@
 -- The parts of a COMMIT are the shards that voted yes, along a history.
-use Rattle.std.proofs.Common.{◌≡◌, refl, sym, subst, ◌∙◌, ℕ, ◌<◌, true, List, [], ◌∷◌, ◌++◌, Some, arith}
+use Rattle.std.proofs.Common.{◌≡◌, refl, sym, subst, ◌∙◌, ℕ, ◌<◌, true, List, [], ◌∷◌, ◌++◌, Some}
 use Rattle.clv_base.specs.declared.names.TxId.{TxId}
 use Rattle.clv_base.specs.declared.logs.LogRecord.{LogRecord}
 use Rattle.clv_base.specs.declared.causes.Vote.{Vote}
@@ -22,6 +22,7 @@ use Rattle.history_cases.proofs.OldRuns.{none_of_this_run}
 use Rattle.history_cases.proofs.TellingEvents.{front_committed}
 use Rattle.history_cases.proofs.Worlds.{state_at, in_a_shard}
 use Rattle.history_laws.specs.Openings.{LegalFrom}
+use Rattle.history_laws.proofs.Found.{log_found}
 use Rattle.fate_laws.proofs.Bindings.{WasTaken, once}
 use Rattle.fate_laws.proofs.Fates.{Fated, fated_next, fated_start, delivered}
 use Rattle.fate_laws.proofs.Prefixes.{Next, walk, each_shard, one_home, DurableIn}
@@ -84,13 +85,12 @@ polled_next splits before after h pre e w p =
 
 -- ---- the whole history
 
-polled : (splits : List ℕ) (before after : List (List LogRecord)) (h : History) → LegalFrom splits before h after → Polled splits before after h h
-polled splits before after h l =
-    walk (Polled splits before after h) splits before after h [] h l.legal refl (polled_next splits before after h)
-    (record {
-      fated = fated_start splits before after h l;
+polled : {splits : List ℕ} {before after : List (List LogRecord)} {h : History} → LegalFrom splits before h after → Polled splits before after h h
+polled {splits} {before} {after} {h} l =
+    walk (Polled splits before after h) splits before after h [] h l.legal refl (polled_next splits before after h) (record {
+      fated = fated_start l;
       polls = λ n i.
-          polls_opened (run_after before) (WasTaken h) (VotedTo []) (once splits before after h l.legal) n (log_of before n) (λ t. none_of_this_run splits before n t l.opens (let e = l.legal.each_log.0 in omega (arith, e, i)));
+          polls_opened (run_after before) (WasTaken h) (VotedTo []) (once splits before after h l.legal) n (log_of before n) (λ t. none_of_this_run splits before n t l.opens (log_found l n i));
     })
 
 was_voted : (h : History) (home : ℕ) (tx : TxId) (m : ℕ) (v : Vote) → VotedTo h home tx m v → WasVoted h home tx m v
@@ -101,7 +101,7 @@ parts_are_the_yes_voters splits before h after choice m home e touched tx parts 
     let j = is_among home e h a in
     let i = in_a_shard splits before after h (home, e) l.legal j in
     let s = final_of before h after home in
-    let p = polled splits before after h l in
+    let p = polled l in
     let q = ((p.fated).counts).shard home i in
     let t = parts_front _ s.local.log tx parts (subst (λ z. commit_parts z tx ≡ Some parts) (log_now splits before h after choice home i) c) in
     let k = subst (λ n. Chosen (VotedTo h) n tx touched parts) q ((p.polls home i).log tx touched parts (subst (λ n. WasTaken h tx n touched) (sym q) (e, j, (ev, out))) t) m in

@@ -126,23 +126,21 @@ plain_rolled tx l = (more_twice l.log _ _, rolled tx l)
 
 polls_set : (W : TxId → ℕ → List (ℕ × ℕ) → Type 0) (V : ℕ → TxId → ℕ → Vote → Type 0) (s : Shard) (tx : TxId) (w : Request) → (w.state ≡ Undecided → W tx s.shard w.touched × Votes V s.shard tx w.votes) → Polls W V s
     → Polls W V (record s { requests = tx_set tx w s.requests })
-polls_set W V s tx w k p =
-    record {
-      log = p.log;
-      rows = λ u q e.
-          ⊎_elim (λ a. subst (λ v. q.state ≡ Undecided → W v s.shard q.touched × Votes V s.shard v q.votes) (sym a.0) (subst (λ r. r.state ≡ Undecided → W tx s.shard r.touched × Votes V s.shard tx r.votes) (sym a.1) k))
-          (λ b. p.rows u q b.1) (get_set tx u w q s.requests e);
-    }
+polls_set W V s tx w k p = record {
+  log = p.log;
+  rows = λ u q e.
+      ⊎_elim (λ a. subst (λ v. q.state ≡ Undecided → W v s.shard q.touched × Votes V s.shard v q.votes) (sym a.0) (subst (λ r. r.state ≡ Undecided → W tx s.shard r.touched × Votes V s.shard tx r.votes) (sym a.1) k))
+      (λ b. p.rows u q b.1) (get_set tx u w q s.requests e);
+}
 
 polls_put : (W : TxId → ℕ → List (ℕ × ℕ) → Type 0) (V : ℕ → TxId → ℕ → Vote → Type 0) (s : Shard) (tx : TxId) (w : Request) → (w.state ≡ Undecided → W tx s.shard w.touched × Votes V s.shard tx w.votes) → Polls W V s
     → Polls W V (record s { requests = tx_put tx w s.requests })
-polls_put W V s tx w k p =
-    record {
-      log = p.log;
-      rows = λ u q e.
-          ⊎_elim (λ a. subst (λ v. q.state ≡ Undecided → W v s.shard q.touched × Votes V s.shard v q.votes) (sym a.0) (subst (λ r. r.state ≡ Undecided → W tx s.shard r.touched × Votes V s.shard tx r.votes) (sym a.1) k)) (λ b. p.rows u q b)
-          (put_row u tx w q s.requests e);
-    }
+polls_put W V s tx w k p = record {
+  log = p.log;
+  rows = λ u q e.
+      ⊎_elim (λ a. subst (λ v. q.state ≡ Undecided → W v s.shard q.touched × Votes V s.shard v q.votes) (sym a.0) (subst (λ r. r.state ≡ Undecided → W tx s.shard r.touched × Votes V s.shard tx r.votes) (sym a.1) k)) (λ b. p.rows u q b)
+      (put_row u tx w q s.requests e);
+}
 
 -- ---- rulings
 
@@ -279,11 +277,10 @@ module _ (run : ℕ) (W : TxId → ℕ → List (ℕ × ℕ) → Type 0) (V : �
       }
 
   pub polls_opened : (shard : ℕ) (log : List LogRecord) → ((t : TxId) → committed_in log t ≡ true → t.run ≡ run → ⊥) → Polls W V (opened shard run log)
-  polls_opened shard log n =
-      record {
-        log = λ tx ts ps w e. absurd (n tx (opening_adds shard log run 0 tx (committed_there (log_after_restart shard log run 0) tx ps e)) (once.mine tx shard ts w));
-        rows = restored shard (log_after_restart shard log run 0);
-      }
+  polls_opened shard log n = record {
+    log = λ tx ts ps w e. absurd (n tx (opening_adds shard log run 0 tx (committed_there (log_after_restart shard log run 0) tx ps e)) (once.mine tx shard ts w));
+    rows = restored shard (log_after_restart shard log run 0);
+  }
 
   -- ---- each entry
 
@@ -300,11 +297,10 @@ module _ (run : ℕ) (W : TxId → ℕ → List (ℕ × ℕ) → Type 0) (V : �
 -- ---- more is known
 
 pub polls_mono : (W : TxId → ℕ → List (ℕ × ℕ) → Type 0) (V U : ℕ → TxId → ℕ → Vote → Type 0) (s : Shard) → ((home : ℕ) (tx : TxId) (m : ℕ) (v : Vote) → V home tx m v → U home tx m v) → Polls W V s → Polls W U s
-polls_mono W V U s k p =
-    record {
-      log = λ tx ts ps w e m. let c = p.log tx ts ps w e m in ((λ i. let y = c.0 i in (y.0, k s.shard tx m Yes y.1)), (λ i n. k s.shard tx m Read (c.1 i n)));
-      rows = λ tx q g u. let r = p.rows tx q g u in (r.0, all_mono (λ v. V s.shard tx v.0 v.1) (λ v. U s.shard tx v.0 v.1) (λ v. k s.shard tx v.0 v.1) q.votes r.1);
-    }
+polls_mono W V U s k p = record {
+  log = λ tx ts ps w e m. let c = p.log tx ts ps w e m in ((λ i. let y = c.0 i in (y.0, k s.shard tx m Yes y.1)), (λ i n. k s.shard tx m Read (c.1 i n)));
+  rows = λ tx q g u. let r = p.rows tx q g u in (r.0, all_mono (λ v. V s.shard tx v.0 v.1) (λ v. U s.shard tx v.0 v.1) (λ v. k s.shard tx v.0 v.1) q.votes r.1);
+}
 
 pub polls_noted : (W : TxId → ℕ → List (ℕ × ℕ) → Type 0) (V : ℕ → TxId → ℕ → Vote → Type 0) (log : List LogRecord) (s : Shard) (x : Entry) → Polls W V (event_state log s x.event x.outcome) → Polls W V (after_entry log s x)
 polls_noted W V log s x p = record { log = p.log; rows = p.rows }

@@ -37,11 +37,8 @@ use Rattle.law_base.proofs.Tables.{stage_by, stage_in}
 use Rattle.law_base.proofs.Sets.{in_filter}
 use Rattle.shard_laws.specs.OneShard.{is_doomed}
 use Rattle.shard_laws.proofs.Changes.{wrote_append}
-use Rattle.law_base.proofs.Stages.{closed_other}
-use Rattle.law_base.proofs.Stages.{other_part}
+use Rattle.law_base.proofs.Stages.{closed_other, other_part, gone_by, stage_own, stage_other, stage_marked}
 use Rattle.shard_laws.proofs.Leaving.{no_write_aborts, no_write_clrs}
-use Rattle.law_base.proofs.Stages.{gone_by, stage_own, stage_other}
-use Rattle.law_base.proofs.Stages.{stage_marked}
 use Rattle.shard_laws.proofs.Prepared.{prepared_append}
 use Rattle.shard_laws.proofs.Restoring.{restored_none}
 use Rattle.shard_laws.proofs.Sound.{waiting_here}
@@ -103,13 +100,12 @@ record Foreign (rs : List LogRecord) (t : TxId) : Type 0 where
   commits : committed_in rs t ≡ false
 
 quiet_more : (l m : Local) (more : List LogRecord) (t : TxId) → m.log ≡ l.log ++ more → Foreign more t → IsOut (stage_of m t) → Quiet l t → Quiet m t
-quiet_more l m more t e f o k =
-    record {
-      out = o;
-      unwritten = subst (λ z. wrote_in z t ≡ false) (sym e) (wrote_append l.log more t ∙ or_from _ _ k.unwritten f.writes);
-      unprepared = subst (λ z. prepared_in z t ≡ false) (sym e) (prepared_append l.log more t ∙ or_from _ _ k.unprepared f.prepares);
-      uncommitted = subst (λ z. committed_in z t ≡ false) (sym e) (committed_append l.log more t ∙ or_from _ _ k.uncommitted f.commits);
-    }
+quiet_more l m more t e f o k = record {
+  out = o;
+  unwritten = subst (λ z. wrote_in z t ≡ false) (sym e) (wrote_append l.log more t ∙ or_from _ _ k.unwritten f.writes);
+  unprepared = subst (λ z. prepared_in z t ≡ false) (sym e) (prepared_append l.log more t ∙ or_from _ _ k.unprepared f.prepares);
+  uncommitted = subst (λ z. committed_in z t ≡ false) (sym e) (committed_append l.log more t ∙ or_from _ _ k.uncommitted f.commits);
+}
 
 foreign_none : (t : TxId) → Foreign [] t
 foreign_none t = record { writes = refl; prepares = refl; commits = refl }
@@ -244,13 +240,12 @@ restarts_write s found epoch log t (left, f, e, a) h =
     failed_writes s found left t f (wrote_first left (restart_records s.shard left s.run epoch) t (λ w. both_ways _ (restart_writes_none s.shard left s.run epoch t) w) (subst (λ z. wrote_in z t ≡ true) a h))
 
 quiet_revived : (s : Shard) (kept : Bool) (epoch : ℕ) (log : List LogRecord) (t : TxId) → Restarts s (log_left s kept) epoch log → Quiet s.local t → Quiet (revived s epoch log).local t
-quiet_revived s kept epoch log t r k =
-    record {
-      out = inl (restored_none (in_doubt s.shard log) t (false_from_ne_true _ (λ i. both_ways _ k.unprepared (revived_prepares s kept epoch log r t (doubt_prepared s.shard log t i)))));
-      unwritten = still_not (wrote_in s.local.log t) (wrote_in log t) (λ h. wrote_take _ s.local.log t (restarts_write s (log_left s kept) epoch log t r h)) k.unwritten;
-      unprepared = still_not (prepared_in s.local.log t) (prepared_in log t) (revived_prepares s kept epoch log r t) k.unprepared;
-      uncommitted = still_not (committed_in s.local.log t) (committed_in log t) (λ h. front_committed _ s.local.log t (restarts_add s (log_left s kept) epoch log r t h)) k.uncommitted;
-    }
+quiet_revived s kept epoch log t r k = record {
+  out = inl (restored_none (in_doubt s.shard log) t (false_from_ne_true _ (λ i. both_ways _ k.unprepared (revived_prepares s kept epoch log r t (doubt_prepared s.shard log t i)))));
+  unwritten = still_not (wrote_in s.local.log t) (wrote_in log t) (λ h. wrote_take _ s.local.log t (restarts_write s (log_left s kept) epoch log t r h)) k.unwritten;
+  unprepared = still_not (prepared_in s.local.log t) (prepared_in log t) (revived_prepares s kept epoch log r t) k.unprepared;
+  uncommitted = still_not (committed_in s.local.log t) (committed_in log t) (λ h. front_committed _ s.local.log t (restarts_add s (log_left s kept) epoch log r t h)) k.uncommitted;
+}
 
 -- ---- each entry that is no operation of it
 

@@ -32,11 +32,11 @@ use Rattle.headline_laws.proofs.Committing.{committed_by}
 pub readers_pass : ReadersPass
 readers_pass splits before so_far later after n e home from tx l i j q = (
   p.unwritten,
-  false_from_ne_true _ (λ c. ⊎_elim (λ w. both_ways _ p.unwritten w) (λ r. elsewhere r) (committed_by splits before after (so_far ++ later) so_far later l refl from i tx (p.asked).0 c)),
+  false_from_ne_true _ (λ c. ⊎_elim (λ w. both_ways _ p.unwritten w) (λ r. elsewhere r) (committed_by l so_far later refl from i tx (p.asked).0 c)),
 )
   where
     p : Passed splits before after so_far from tx
-    p = (passing_front splits before after (so_far ++ later) so_far later l refl).sent (n, e) home from tx i (is_among n e so_far j) q
+    p = (passing_front l so_far later refl).sent (n, e) home from tx i (is_among n e so_far j) q
 
     elsewhere : Requested so_far tx from → ⊥
     elsewhere (y, ts, k, a, z) = apart (p.asked).1
@@ -46,13 +46,14 @@ readers_pass splits before so_far later after n e home from tx l i j q = (
             d (sym v ∙ one_home splits before after (so_far ++ later) tx x.0 y.0 x.1 y.1 us ts l.legal (among_left x so_far later g) b (among_left y so_far later k) a ∙ z)
 
 pub readers_never_fell : ReadersNeverFell
-readers_never_fell splits before h after m k to x tx l i j q f = ((passing_front splits before after h h [] l (append-nil h)).sent (k, x) to m tx i (is_among k x h j) q).unfallen f
+readers_never_fell splits before h after m k to x tx l i j q f = ((passing_front l h [] (append-nil h)).sent (k, x) to m tx i (is_among k x h j) q).unfallen f
 
 -- ---- who fell was answered there
 
-module _ (splits : List ℕ) (before : List (List LogRecord)) (h : History) (after : List (List LogRecord)) (m : ℕ) (tx : TxId) (l : LegalFrom splits before h after) (j : m < shard_count splits) where
+module _ {splits : List ℕ} {before after : List (List LogRecord)} {h : History} (l : LegalFrom splits before h after) (m : ℕ) (tx : TxId)
+    (j : m < shard_count splits) where
   restored : (front rest : History) → front ++ rest ≡ h → RestoredArePrepared (state_at before after m front).local
-  restored front rest q = restored_front splits before h after front rest m l q j
+  restored front rest q = restored_front l front rest m q j
 
   did_later : (front rest : History) → front ++ rest ≡ h → DidOrOld (run_after before) front m tx → DidOrOld (run_after before) h m tx
   did_later front rest q (inl (ep, (b, (y, i, p, a)))) = inl (ep, (b, (y, subst (Among y) q (among_left y front rest i), p, a)))
@@ -61,7 +62,7 @@ module _ (splits : List ℕ) (before : List (List LogRecord)) (h : History) (aft
   part_at : (front rest : History) → front ++ rest ≡ h → (stage_of (state_at before after m front).local tx ≡ None → ⊥) → DidOrOld (run_after before) h m tx
   part_at front rest q n =
       let s = state_at before after m front in
-      did_later front rest q (part_did (run_after before) front m s tx (stage_of s.local tx) ((traced_front splits before after h front rest l q).states m j) (restored front rest q) refl n)
+      did_later front rest q (part_did (run_after before) front m s tx (stage_of s.local tx) ((traced_front l front rest q).states m j) (restored front rest q) refl n)
 
   fell_did : Fell before h after m tx → DidOrOld (run_after before) h m tx
   fell_did (inl (front, x, rest, z, ev, y)) = part_at front ((m, x) ∷ rest) z (none_present (stage_of (state_at before after m front).local tx) y.0)
@@ -80,5 +81,5 @@ members_never_fell splits before h after choice n m tx l i j run left f = by_hom
 
     by_home : IsHome h tx k.0 → ⊥
     by_home r =
-        let v = only_readers_may_fall splits before h after choice n m k.0 r.0 r.1 tx l i j r.2 r.3 r.4 (named k.0 r (fell_did splits before h after m tx l j f)) left f in
+        let v = only_readers_may_fall splits before h after choice n m k.0 r.0 r.1 tx l i j r.2 r.3 r.4 (named k.0 r (fell_did l m tx j f)) left f in
         readers_never_fell splits before h after m v.0 v.2 v.1 tx l j v.3 v.4 f

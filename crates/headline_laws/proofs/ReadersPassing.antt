@@ -35,8 +35,7 @@ use Rattle.fate_laws.proofs.Prefixes.{Next, next_at, each_shard}
 use Rattle.fate_laws.proofs.Standing.{NotOwn, reads_made}
 use Rattle.fate_laws.proofs.Voting.{absent}
 use Rattle.fate_laws.specs.Falls.{Fell}
-use Rattle.fate_laws.proofs.Falling.{walk_on, same_last}
-use Rattle.fate_laws.proofs.Falling.{last_front}
+use Rattle.fate_laws.proofs.Falling.{walk_on, same_last, last_front}
 use Rattle.fate_laws.proofs.Finding.{fell_out}
 use Rattle.headline_laws.proofs.Staying.{doomed_was}
 use Rattle.headline_laws.proofs.Returning.{out_prepared}
@@ -84,7 +83,8 @@ said_read P o home from t a q = subst (SaidIs P) q a
 
 -- ---- one entry more
 
-module _ (splits : List ℕ) (before after : List (List LogRecord)) (h pre : History) (e : Placed) (post : History) (l : LegalFrom splits before h after) (q : pre ++ e ∷ post ≡ h) where
+module _ {splits : List ℕ} {before after : List (List LogRecord)} {h : History} (l : LegalFrom splits before h after) (pre : History)
+    (e : Placed) (post : History) (q : pre ++ e ∷ post ≡ h) where
   abbrev New : History
   New = pre ++ e ∷ []
 
@@ -104,10 +104,10 @@ module _ (splits : List ℕ) (before after : List (List LogRecord)) (h pre : His
   made = makes (log_of after e.0) (state_at before after e.0 pre) (e.1).event (e.1).outcome ((w.split).enters).event
 
   was : Bindings splits before after h pre
-  was = bindings_front splits before after h pre (e ∷ post) l q
+  was = bindings_front l pre (e ∷ post) q
 
   is : Bindings splits before after h (pre ++ e ∷ [])
-  is = bindings_front splits before after h (pre ++ e ∷ []) post l later
+  is = bindings_front l (pre ++ e ∷ []) post later
 
   away_more : (n : ℕ) (t : TxId) → Away before pre n t → Away before (pre ++ e ∷ []) n t
   away_more n t (r, (m, d, k)) = (r, (m, d, requested_more pre e t m k))
@@ -136,30 +136,28 @@ module _ (splits : List ℕ) (before after : List (List LogRecord)) (h pre : His
       here f = p (subst (λ g. is_present (stage_of (state_at before after n g).local t) ≡ true) f.0 y.0) (ap (λ (g : Placed). (g.1).event) (sym f.1) ∙ ev)
 
   kept : (n : ℕ) (t : TxId) → n < shard_count splits → Passed splits before after pre n t → Passed splits before after (pre ++ e ∷ []) n t
-  kept n t i p =
-      record {
-        asked = away_more n t p.asked;
-        unwritten = unwritten_on n t (not_own n t p.asked) p.unwritten;
-        reads = reads_on n t (not_own n t p.asked) p.reads;
-        unfallen = unfallen_by n t p.unfallen (λ d. ⊎_elim (λ y. p.unfallen (inr (pre, [], append-nil pre, y))) (λ y. both_ways _ gone y) (doomed_was splits before after h pre e post l q n i t d)) (λ y z. both_ways _ gone y);
-      }
+  kept n t i p = record {
+    asked = away_more n t p.asked;
+    unwritten = unwritten_on n t (not_own n t p.asked) p.unwritten;
+    reads = reads_on n t (not_own n t p.asked) p.reads;
+    unfallen = unfallen_by n t p.unfallen (λ d. ⊎_elim (λ y. p.unfallen (inr (pre, [], append-nil pre, y))) (λ y. both_ways _ gone y) (doomed_was l pre e post q n i t d)) (λ y z. both_ways _ gone y);
+  }
     where
       gone : is_present (stage_of (state_at before after n pre).local t) ≡ false
       gone = absent (stage_of (state_at before after n pre).local t) (p.reads).inactive (p.reads).unclosed
 
   -- a vote of read that the entry casts
   cast : (t : TxId) → Casts (Away before (pre ++ e ∷ []) e.0) S T t → ((e.1).event ≡ Restart → ⊥) → Passed splits before after (pre ++ e ∷ []) e.0 t
-  cast t c n =
-      record {
-        asked = c.asked;
-        unwritten = unwritten;
-        reads = record {
-          unprepared = false_from_ne_true _ (λ y. both_ways _ unwritten (ordered_wrote (state_at before after e.0 (pre ++ e ∷ [])).local.log t ((is.parted e.0 w.inside).base).ordered y));
-          inactive = λ y. both_ways _ gone (subst (λ z. is_present z ≡ true) (sym y) refl);
-          unclosed = λ y. both_ways _ gone (subst (λ z. is_present z ≡ true) (sym y) refl);
-        };
-        unfallen = unfallen_by e.0 t past (λ d. both_ways _ undoomed d) (λ y z. n z);
-      }
+  cast t c n = record {
+    asked = c.asked;
+    unwritten = unwritten;
+    reads = record {
+      unprepared = false_from_ne_true _ (λ y. both_ways _ unwritten (ordered_wrote (state_at before after e.0 (pre ++ e ∷ [])).local.log t ((is.parted e.0 w.inside).base).ordered y));
+      inactive = λ y. both_ways _ gone (subst (λ z. is_present z ≡ true) (sym y) refl);
+      unclosed = λ y. both_ways _ gone (subst (λ z. is_present z ≡ true) (sym y) refl);
+    };
+    unfallen = unfallen_by e.0 t past (λ d. both_ways _ undoomed d) (λ y z. n z);
+  }
     where
       unwritten : wrote_in (state_at before after e.0 (pre ++ e ∷ [])).local.log t ≡ false
       unwritten = subst (λ (z : Shard). wrote_in z.local.log t ≡ false) (sym (w.split).next) c.unwritten
@@ -171,7 +169,7 @@ module _ (splits : List ℕ) (before after : List (List LogRecord)) (h pre : His
       undoomed = subst (λ (z : Shard). is_doomed (stage_of z.local t) ≡ false) (sym (w.split).next) c.undoomed
 
       past : Fell before pre after e.0 t → ⊥
-      past f = both_ways _ c.fresh (ordered_wrote S.local.log t ((was.parted e.0 w.inside).base).ordered (out_prepared splits before after h pre (e ∷ post) l q e.0 w.inside t (fell_out splits before after h pre (e ∷ post) e.0 t l q w.inside f) c.here))
+      past f = both_ways _ c.fresh (ordered_wrote S.local.log t ((was.parted e.0 w.inside).base).ordered (out_prepared l pre (e ∷ post) q e.0 w.inside t (fell_out l pre (e ∷ post) e.0 t q w.inside f) c.here))
 
   asks_of : (ev : Event) → Brings (Requested pre) (IsOld (run_after before)) ev → Asks (Away before (pre ++ e ∷ []) e.0) S ev
   asks_of (Deliver (Prepare to t home seen) stamp) b = λ z. from b.0 (λ y. b.1 (z ∙ (w.split).shard ∙ sym y))
@@ -185,18 +183,17 @@ module _ (splits : List ℕ) (before after : List (List LogRecord)) (h pre : His
       let R = Away before (pre ++ e ∷ []) e.0 in
       let P = Passed splits before after pre e.0 in
       let Q = Passed splits before after (pre ++ e ∷ []) e.0 in
-      let b = brought splits before after h pre e (behind_of splits before after h pre e post l.legal q) (traced_front splits before after h pre (e ∷ post) l q) (e.1).event w.sent in
+      let b = brought splits before after h pre e (behind_of splits before after h pre e post l.legal q) (traced_front l pre (e ∷ post) q) (e.1).event w.sent in
       let m = voters_made R P (log_of after e.0) S T made (asks_of (e.1).event b) (voters_mono (Away before pre e.0) R P P S (away_more e.0) (λ t p. p) k) in
       let x = voters_mono R R (ReadAt R P S T (e.1).event) Q T (λ t r. r) (λ t y. ⊎_elim (λ p. kept e.0 t w.inside p) (λ c. cast t c.0 c.1) y) m in
       subst (Voters R Q) (sym (w.split).next) (voters_on R R Q Q T (after_entry (log_of after e.0) S e.1) refl x.out (λ t r. r) (λ t p. p) x)
 
   passing_next : Passing splits before after pre → Passing splits before after (pre ++ e ∷ [])
-  passing_next k =
-      record {
-        voters = λ n i. each_shard (λ m z. Voters (Away before (pre ++ e ∷ []) m) (Passed splits before after (pre ++ e ∷ []) m) z) before after e pre (voters_here (k.voters e.0 w.inside)) n
-            (voters_mono (Away before pre n) (Away before (pre ++ e ∷ []) n) (Passed splits before after pre n) (Passed splits before after (pre ++ e ∷ []) n) (state_at before after n pre) (away_more n) (λ t p. kept n t i p) (k.voters n i));
-        sent = λ x home from t i j g. ⊎_elim (λ y. kept from t i (k.sent x home from t i y g)) (λ y. last x home from t y g) (among_append x pre (e ∷ []) j);
-      }
+  passing_next k = record {
+    voters = λ n i. each_shard (λ m z. Voters (Away before (pre ++ e ∷ []) m) (Passed splits before after (pre ++ e ∷ []) m) z) before after e pre (voters_here (k.voters e.0 w.inside)) n
+        (voters_mono (Away before pre n) (Away before (pre ++ e ∷ []) n) (Passed splits before after pre n) (Passed splits before after (pre ++ e ∷ []) n) (state_at before after n pre) (away_more n) (λ t p. kept n t i p) (k.voters n i));
+    sent = λ x home from t i j g. ⊎_elim (λ y. kept from t i (k.sent x home from t i y g)) (λ y. last x home from t y g) (among_append x pre (e ∷ []) j);
+  }
     where
       last : (x : Placed) (home from : ℕ) (t : TxId) → Among x (e ∷ []) → (x.1).outcome ≡ Sent (VoteMessage home t from Read) → Passed splits before after (pre ++ e ∷ []) from t
       last x home from t (inl z) g =
@@ -208,12 +205,11 @@ module _ (splits : List ℕ) (before after : List (List LogRecord)) (h pre : His
 
 -- ---- the whole history
 
-pub passing_front : (splits : List ℕ) (before after : List (List LogRecord)) (h pre post : History) → LegalFrom splits before h after → pre ++ post ≡ h → Passing splits before after pre
-passing_front splits before after h pre post l q = walk_on (Passing splits before after) h [] pre post q (λ f e r z k. passing_next splits before after h f e r l z k) first
+pub passing_front : {splits : List ℕ} {before after : List (List LogRecord)} {h : History} → LegalFrom splits before h after → (pre post : History) → pre ++ post ≡ h → Passing splits before after pre
+passing_front {splits} {before} {after} {h} l pre post q = walk_on (Passing splits before after) h [] pre post q (passing_next l) first
   where
     first : Passing splits before after []
-    first =
-        record {
-          voters = λ n i. voters_restored (Away before [] n) (Passed splits before after [] n) n (run_after before) 0 (log_after_restart n (log_of before n) (run_after before) 0) 0 [];
-          sent = λ x home from t i j. elim j [ ];
-        }
+    first = record {
+      voters = λ n i. voters_restored (Away before [] n) (Passed splits before after [] n) n (run_after before) 0 (log_after_restart n (log_of before n) (run_after before) 0) 0 [];
+      sent = λ x home from t i j. elim j [ ];
+    }

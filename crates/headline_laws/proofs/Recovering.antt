@@ -18,6 +18,7 @@ use Rattle.clv_base.specs.History.{logs_left}
 use Rattle.clv_base.proofs.SameNames.{tx_true, tx_self}
 use Rattle.law_base.proofs.Sets.{in_filter}
 use Rattle.history_laws.specs.Openings.{LegalFrom}
+use Rattle.history_laws.proofs.Found.{log_found}
 use Rattle.shard_laws.specs.OneShard.{Deeds, MayChoose, has_met, place, found_asked, found_met}
 use Rattle.shard_laws.proofs.Choosing.{chosen_stand_before}
 use Rattle.shard_laws.proofs.Leaving.{in_more}
@@ -35,7 +36,7 @@ use Rattle.headline_laws.specs.ReplayingHere.{IsHere}
 use Rattle.headline_laws.specs.RecoveringHere.{PredecessorsStandBeforeWhereHere}
 use Rattle.headline_laws.proofs.Earlier.{somewhere_at_opening}
 use Rattle.headline_laws.proofs.Members.{chosen, is_chosen, chosen_are_members, member_run}
-use Rattle.headline_laws.proofs.Replaying.{leads, fronts, left_is, inside, IsHereByCut, left_here, member_here}
+use Rattle.headline_laws.proofs.Replaying.{leads, fronts, left_is, IsHereByCut, left_here, member_here}
 use Rattle.clv_base.proofs.Folding.{or_right as or_false_right}
 
 -- ---- who stands before another among some stands before it among more
@@ -62,7 +63,8 @@ stands_later p t (x ∷ xs) ys n (inr b) = stands_later p t xs ys (or_false_righ
 
 -- ---- of a shard: those whose COMMITs are left there, and one more
 
-module _ (splits : List ℕ) (before : List (List LogRecord)) (h : History) (after : List (List LogRecord)) (choice : ℕ → Bool) (l : LegalFrom splits before h after) (n : ℕ) (t : TxId) (i : n < shard_count splits) (k : is_member splits before h after choice t ≡ true)
+module _ {splits : List ℕ} {before after : List (List LogRecord)} {h : History} (l : LegalFrom splits before h after) (choice : ℕ → Bool)
+    (n : ℕ) (t : TxId) (i : n < shard_count splits) (k : is_member splits before h after choice t ≡ true)
     (here : IsHere splits before h after choice n t) where
   abbrev with_it : TxId → Bool
   with_it u = committed_in (log_of (logs_left splits before h after choice) n) u || tx_same t u
@@ -76,20 +78,19 @@ module _ (splits : List ℕ) (before : List (List LogRecord)) (h : History) (aft
 
   may_choose : MayChoose (final_of before h after n) (cond (choice n) (unwrap_or (final_of before h after n).flight (final_of before h after n).durable) (final_of before h after n).durable) (with_found n (log_of before n) (deeds_before before h after n))
       (λ u. committed_in (log_of (logs_left splits before h after choice) n) u || tx_same t u)
-  may_choose =
-      record {
-        commits = λ u e. or_left _ (tx_same t u) (subst (λ z. committed_in z u ≡ true) (sym (left_is splits before h after choice l n i)) e);
-        are_here = λ u e. ⊎_elim (λ a. left_here splits before h after choice l n u i a) (λ a. subst (IsHereByCut splits before h after choice l n) (tx_true t u a) (member_here splits before h after choice l n t i k here)) (or_cases (committed_in (log_of (logs_left splits before h after choice) n) u) (tx_same t u) e);
-      }
+  may_choose = record {
+    commits = λ u e. or_left _ (tx_same t u) (subst (λ z. committed_in z u ≡ true) (sym (left_is l choice n i)) e);
+    are_here = λ u e. ⊎_elim (λ a. left_here l choice n u i a) (λ a. subst (IsHereByCut l choice n) (tx_true t u a) (member_here l choice n t i k here)) (or_cases (committed_in (log_of (logs_left splits before h after choice) n) u) (tx_same t u) e);
+  }
 
   -- a chosen one of those found was in doubt there, and has a COMMIT
   of_found : (p : TxId) → tx_in p (filter with_it (found_asked n (log_of before n))) ≡ true → (tx_in p (in_doubt n (log_of before n)) ≡ true) × (committed_somewhere before p ≡ true)
   of_found p j =
       let q = in_filter with_it p (found_asked n (log_of before n)) j in
-      (ordered_is (λ u. tx_in u (in_doubt n (log_of before n))) (log_of before n) p q.0, by_case (asked_are_old splits before n l.opens (inside splits before h after choice l n i) p q.0) (or_cases (committed_in (log_of (logs_left splits before h after choice) n) p) (tx_same t p) q.1))
+      (ordered_is (λ u. tx_in u (in_doubt n (log_of before n))) (log_of before n) p q.0, by_case (asked_are_old splits before n l.opens (log_found l n i) p q.0) (or_cases (committed_in (log_of (logs_left splits before h after choice) n) p) (tx_same t p) q.1))
     where
       by_case : IsOld (run_after before) p → (committed_in (log_of (logs_left splits before h after choice) n) p ≡ true) ⊎ (tx_same t p ≡ true) → committed_somewhere before p ≡ true
-      by_case old (inl a) = somewhere_at_opening splits before h after choice n p l i old a
+      by_case old (inl a) = somewhere_at_opening l choice n p i old a
       by_case old (inr a) = let run = subst (λ z. z.run ≡ run_after before) (tx_true t p a) (member_run splits before h after choice t l.legal k) in absurd (omega (arith, old, run))
 
   stands_before : (p : TxId) → has_met ((deeds_before before h after n).met ++ found_met n (log_of before n)) t p ≡ true
@@ -109,15 +110,15 @@ module _ (splits : List ℕ) (before : List (List LogRecord)) (h : History) (aft
       own = or_right (committed_in (log_of (logs_left splits before h after choice) n) t) (tx_same t t) (tx_self t)
 
       names : transactions_of (serial_left splits before h after choice) ≡ filter (chosen splits before h after choice n) (requests_of h)
-      names = chosen_are_members splits before h after choice n l i
+      names = chosen_are_members l choice n i
 
       asked : tx_in t (requests_of h) ≡ true
       asked = (in_filter (chosen splits before h after choice n) t (requests_of h) (subst (λ ts. tx_in t ts ≡ true) names k)).0
 
       earlier_place : place (filter with_it (found_asked n found ++ requests_of h)) p < place (filter with_it (found_asked n found ++ requests_of h)) t
       earlier_place =
-          (chosen_stand_before n (run_after before) found (with_found n found d) s (cond (choice n) (unwrap_or s.flight s.durable) s.durable) with_it t p (leads splits before h after choice l n i)
-          (cut_above s (choice n) (fronts splits before h after choice l n i).counted) may_choose met own).1
+          (chosen_stand_before n (run_after before) found (with_found n found d) s (cond (choice n) (unwrap_or s.flight s.durable) s.durable) with_it t p (leads l choice n i)
+          (cut_above s (choice n) (fronts l choice n i).counted) may_choose met own).1
 
       at : (b : Bool) → tx_in p (filter with_it (found_asked n found)) ≡ b → StandsBefore p t (transactions_of (serial_left splits before h after choice)) ⊎ ((tx_in p (in_doubt n found) ≡ true) × (committed_somewhere before p ≡ true))
       at true j = inr (of_found p j)
@@ -132,4 +133,4 @@ met_among xs ys t p m = list_any-append (λ q. tx_same t q.0 && tx_same p q.1) x
 
 pub predecessors_stand_before_where_here : PredecessorsStandBeforeWhereHere
 predecessors_stand_before_where_here splits before h after choice n t p l i k here e =
-    stands_before splits before h after choice l n t i k here p (met_among (deeds_before before h after n).met (found_met n (log_of before n)) t p ((deeds_are_told before h after n t).2 p e))
+    stands_before l choice n t i k here p (met_among (deeds_before before h after n).met (found_met n (log_of before n)) t p ((deeds_are_told before h after n t).2 p e))

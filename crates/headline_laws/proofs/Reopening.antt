@@ -32,7 +32,8 @@ use Rattle.headline_laws.proofs.EarlierLogs.{earlier_home}
 use Rattle.headline_laws.proofs.Here.{home_here}
 use Rattle.law_base.proofs.Logs.{passes_at as each_passes, all_logs}
 
-module _ (splits : List ℕ) (before : List (List LogRecord)) (h : History) (after : List (List LogRecord)) (choice : ℕ → Bool) (l : LegalFrom splits before h after) (orders : InOrder splits before h after choice) where
+module _ {splits : List ℕ} {before after : List (List LogRecord)} {h : History} (l : LegalFrom splits before h after) (choice : ℕ → Bool)
+    (orders : InOrder splits before h after choice) where
   abbrev left : List (List LogRecord)
   left = logs_left splits before h after choice
 
@@ -43,24 +44,24 @@ module _ (splits : List ℕ) (before : List (List LogRecord)) (h : History) (aft
       let p = parts_there (log_of left z.0) t z.2 in
       let j = in_a_shard splits before after h (z.0, b.0) l.legal (is_among z.0 b.0 h b.2) in
       let e = left_length splits before h after choice in
-      (z.0, omega (arith, j, e), p.0, home_here splits before h after choice z.0 b.0 b.1 t p.0 l orders b.2 b.3 b.4 p.1)
+      (z.0, omega (arith, j, e), p.0, home_here l choice z.0 b.0 b.1 t p.0 orders b.2 b.3 b.4 p.1)
 
   has_home : (n : ℕ) (t : TxId) → n < shard_count splits → is_left splits before h after choice n t ≡ true → HasHome left t
   has_home n t i w =
       by_run
-      (committed_from (DidOrOld (run_after before) h n) (Requested h) (IsOld (run_after before)) n (final_of before h after n).local.log (((traced_front splits before after h h [] l (append-nil h)).states n i).origins).log t
+      (committed_from (DidOrOld (run_after before) h n) (Requested h) (IsOld (run_after before)) n (final_of before h after n).local.log (((traced_front l h [] (append-nil h)).states n i).origins).log t
       (left_committed splits before h after choice n t i w))
     where
       by_run : SomeRequest (Requested h) (IsOld (run_after before)) t → HasHome left t
       by_run (inl (k, (r, ts, j, q, p))) = here n t i (walker_of splits before after h r t l.legal j (ap tx_of q.0)).0 w
-      by_run (inr old) = earlier_home splits before h after choice t l orders old n i w
+      by_run (inr old) = earlier_home l choice t orders old n i w
 
-in_order : (splits : List ℕ) (before : List (List LogRecord)) (h : History) (after : List (List LogRecord)) (choice : ℕ → Bool) → LegalFrom splits before h after → InOrder splits before h after choice
-in_order splits before h after choice l n i = logs_left_are_in_order splits before h after choice n l i
+in_order : {splits : List ℕ} {before after : List (List LogRecord)} {h : History} → LegalFrom splits before h after → (choice : ℕ → Bool) → InOrder splits before h after choice
+in_order {splits} {before} {after} {h} l choice n i = logs_left_are_in_order splits before h after choice n l i
 
 pub logs_left_agree : LogsLeftAgree
 logs_left_agree splits before h after choice l =
-    agree (logs_left splits before h after choice) (λ n t i w. has_home splits before h after choice l (in_order splits before h after choice l) n t (let e = left_length splits before h after choice in omega (arith, i, e)) w)
+    agree (logs_left splits before h after choice) (λ n t i w. has_home l choice (in_order l choice) n t (let e = left_length splits before h after choice in omega (arith, i, e)) w)
 
 pub logs_left_may_be_opened : LogsLeftMayBeOpened
 logs_left_may_be_opened splits before h after choice l =
@@ -73,4 +74,4 @@ logs_left_may_be_opened splits before h after choice l =
         let e = left_length splits before h after choice in
         let j : n < shard_count splits = omega (arith, i, e) in
         and_from _ _ (each_passes (λ k log. list_all (passes_file_rules splits k) log) 0 n left (logs_left_pass splits before h after choice l) i)
-        (subst (λ k. is_none (disorder k (log_of left n)) ≡ true) (omega arith) (ap is_none (in_order splits before h after choice l n j)))
+        (subst (λ k. is_none (disorder k (log_of left n)) ≡ true) (omega arith) (ap is_none (in_order l choice n j)))

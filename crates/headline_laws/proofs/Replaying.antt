@@ -20,6 +20,7 @@ use Rattle.law_base.proofs.Running.{fold_writers}
 use Rattle.history_laws.specs.Openings.{LegalFrom}
 use Rattle.history_laws.specs.Continuing.{serial_left}
 use Rattle.history_cases.proofs.Durability.{Fronts, fronts_entries, opened_counted}
+use Rattle.history_laws.proofs.Found.{log_found}
 use Rattle.history_laws.proofs.Staying.{walker_of, log_now}
 use Rattle.shard_laws.specs.OneShard.{Leads, MayChoose, Passes, ops_by, answers_by, found_items, found_asked, map_found}
 use Rattle.shard_laws.proofs.Changes.{wrote_append}
@@ -52,7 +53,8 @@ use Rattle.history_laws.proofs.Passing.{left_length}
 use Rattle.history_laws.proofs.Doubts.{doubted_is_old}
 use Rattle.law_base.proofs.Bools.{same_truth as same_test}
 
-module _ (splits : List ℕ) (before : List (List LogRecord)) (h : History) (after : List (List LogRecord)) (choice : ℕ → Bool) (l : LegalFrom splits before h after) where
+module _ {splits : List ℕ} {before after : List (List LogRecord)} {h : History} (l : LegalFrom splits before h after) (choice : ℕ → Bool)
+    where
   pub leads : (n : ℕ) → n < shard_count splits
       → Leads n (run_after before) (log_of before n) (with_found n (log_of before n) (deeds_before before h after n)) (final_of before h after n)
   leads n i = each_shard_leads splits before h after h [] n l (append-nil h) i
@@ -69,14 +71,11 @@ module _ (splits : List ℕ) (before : List (List LogRecord)) (h : History) (aft
   found_within : (m : ℕ) → m < length before → m < shard_count splits
   found_within m j = let e = l.legal.each_log.0 in omega (arith, e, j)
 
-  pub inside : (n : ℕ) → n < shard_count splits → n < length before
-  inside n i = let e = l.legal.each_log.0 in omega (arith, e, i)
-
   -- whose COMMIT is left is of this run or of an earlier one
   pub left_run : (n : ℕ) (t : TxId) → n < shard_count splits → committed_in (log_of (logs_left splits before h after choice) n) t ≡ true → (t.run ≡ run_after before) ⊎ (t.run < run_after before)
   left_run n t i k =
       by_request
-      (committed_from (DidOrOld (run_after before) h n) (Requested h) (IsOld (run_after before)) n (final_of before h after n).local.log (((traced_front splits before after h h [] l (append-nil h)).states n i).origins).log t
+      (committed_from (DidOrOld (run_after before) h n) (Requested h) (IsOld (run_after before)) n (final_of before h after n).local.log (((traced_front l h [] (append-nil h)).states n i).origins).log t
       (left_committed splits before h after choice n t i k))
     where
       by_request : SomeRequest (Requested h) (IsOld (run_after before)) t → (t.run ≡ run_after before) ⊎ (t.run < run_after before)
@@ -86,10 +85,9 @@ module _ (splits : List ℕ) (before : List (List LogRecord)) (h : History) (aft
   -- who wrote on a shard, and has a COMMIT left on any, is chosen there
   somewhere_chosen : (n m : ℕ) (t : TxId) → n < shard_count splits → m < shard_count splits → wrote_in (log_of (logs_left splits before h after choice) n) t ≡ true → committed_in (log_of (logs_left splits before h after choice) m) t ≡ true → Chosen splits before h after choice n t
   somewhere_chosen n m t i j w k =
-      ⊎_elim (λ r. inl (commits_are_members splits before h after choice m t l j r k))
-      (λ r.
-      let c = somewhere_at_opening splits before h after choice m t l j r k in
-      ⊎_elim (λ a. inr (inl (committed_still splits before h after choice n t l.legal i a))) (λ a. inr (inr (a, c))) (writer_known splits before n t l.opens (wrote_at_opening splits before h after choice n t l i r w) c))
+      ⊎_elim (λ r. inl (commits_are_members splits before h after choice m t l j r k)) (λ r.
+      let c = somewhere_at_opening l choice m t j r k in
+      ⊎_elim (λ a. inr (inl (committed_still splits before h after choice n t l.legal i a))) (λ a. inr (inr (a, c))) (writer_known splits before n t l.opens (wrote_at_opening l choice n t i r w) c))
       (left_run m t j k)
 
   pub wrote_last : (n : ℕ) (t : TxId) → n < shard_count splits → wrote_in (log_of (logs_left splits before h after choice) n) t ≡ true → wrote_in (final_of before h after n).local.log t ≡ true
@@ -120,7 +118,7 @@ module _ (splits : List ℕ) (before : List (List LogRecord)) (h : History) (aft
 
   -- who is of the fallen that a shard counts fell
   pub fell_there : (n : ℕ) (t : TxId) → n < shard_count splits → tx_in t (deeds_before before h after n).fell ≡ true → Fell before h after n t
-  fell_there n t i f = fell_is before h after n t (((at_front splits before h after h [] n l (append-nil h) i).remembers).fell t f).1
+  fell_there n t i f = fell_is before h after n t (((at_front l h [] n (append-nil h) i).remembers).fell t f).1
 
   -- who is in doubt in what is left, and did not fall
   doubted_here : (n : ℕ) (t : TxId) → n < shard_count splits → IsDoubted n (log_left (final_of before h after n) (choice n)) t → (Fell before h after n t → ⊥) → IsHereByCut n t
@@ -137,7 +135,7 @@ module _ (splits : List ℕ) (before : List (List LogRecord)) (h : History) (aft
       let doubt = subst (λ z. tx_in t (in_doubt n z) ≡ true) (left_is n i) d.0 in
       let listed = subst (λ z. list_all (committed_in z) (listed_in z t) ≡ true) (left_is n i) d.1 in
       let m = somewhere_at (logs_left splits before h after choice) t d.2 in
-      doubted_here n t i (doubt, listed) (unfallen splits before h after choice n m.0 t l i (within m.0 m.1) (member_run splits before h after choice t l.legal k) doubt m.2)
+      doubted_here n t i (doubt, listed) (unfallen l choice n m.0 t i (within m.0 m.1) (member_run splits before h after choice t l.legal k) doubt m.2)
   member_here n t i k (inr (inr p)) =
       inr (inr (record {
         has_asked = in_more (found_asked n (log_of before n)) (requests_of h) t p.has_asked;
@@ -149,7 +147,7 @@ module _ (splits : List ℕ) (before : List (List LogRecord)) (h : History) (aft
 
   pub found_here : (n : ℕ) (t : TxId) → n < shard_count splits → tx_in t (in_doubt n (log_of before n)) ≡ true → committed_somewhere before t ≡ true → IsHereByCut n t
   found_here n t i d c =
-      ⊎_elim (λ a. inl (or_left _ _ a)) (λ a. doubted_here n t i a (never_fell splits before h after (choice n) n t l i d c)) (still_known splits before h after (choice n) n t l i d c)
+      ⊎_elim (λ a. inl (or_left _ _ a)) (λ a. doubted_here n t i a (never_fell l (choice n) n t i d c)) (still_known l (choice n) n t i d c)
 
   -- ---- those found did nothing of what the members did
 
@@ -157,7 +155,7 @@ module _ (splits : List ℕ) (before : List (List LogRecord)) (h : History) (aft
   idle n i t j =
       let y = asked_by h t (in_filter (chosen splits before h after choice n) t (requests_of h) j).0 in
       let run = request_run splits before after h y.0 t l.legal y.1 y.2 in
-      idle_among (IsOld (run_after before)) t (found_items n (log_of before n)) (items_are_old splits before n l.opens (inside n i)) (λ old. omega (arith, old, run))
+      idle_among (IsOld (run_after before)) t (found_items n (log_of before n)) (items_are_old splits before n l.opens (log_found l n i)) (λ old. omega (arith, old, run))
 
   -- the map that a shard's chosen ones begin from is its share
   pub starts : (n : ℕ) → n < shard_count splits → share_of before n ≡ map_found n (log_of before n) (chosen splits before h after choice n)
@@ -170,8 +168,8 @@ module _ (splits : List ℕ) (before : List (List LogRecord)) (h : History) (aft
       (or_cases (committed_in log t) (tx_in t (in_doubt n log) && chosen splits before h after choice n t) c)))
     where
       somewhere : (m : ℕ) (t : TxId) → m < shard_count splits → tx_in t (in_doubt m (log_of before m)) ≡ true → Chosen splits before h after choice m t → committed_somewhere before t ≡ true
-      somewhere m t j d (inl a) = let k = doubted_is_old splits before m l.opens (inside m j) t d in let r = member_run splits before h after choice t l.legal a in absurd (omega (arith, k, r))
-      somewhere m t j d (inr (inl a)) = somewhere_at_opening splits before h after choice m t l j (doubted_is_old splits before m l.opens (inside m j) t d) a
+      somewhere m t j d (inl a) = let k = doubted_is_old splits before m l.opens (log_found l m j) t d in let r = member_run splits before h after choice t l.legal a in absurd (omega (arith, k, r))
+      somewhere m t j d (inr (inl a)) = somewhere_at_opening l choice m t j (doubted_is_old splits before m l.opens (log_found l m j) t d) a
       somewhere m t j d (inr (inr a)) = a.1
 
   module _ (here : (n : ℕ) (t : TxId) → n < shard_count splits → is_member splits before h after choice t ≡ true → IsHere splits before h after choice n t) where
@@ -194,11 +192,10 @@ module _ (splits : List ℕ) (before : List (List LogRecord)) (h : History) (aft
 
     pub may_choose : (n : ℕ) → n < shard_count splits
         → MayChoose (final_of before h after n) (cond (choice n) (unwrap_or (final_of before h after n).flight (final_of before h after n).durable) (final_of before h after n).durable) (with_found n (log_of before n) (deeds_before before h after n)) (chosen splits before h after choice n)
-    may_choose n i =
-        record {
-          commits = λ t k. is_chosen splits before h after choice n t (inr (inl (subst (λ z. committed_in z t ≡ true) (sym (left_is n i)) k)));
-          are_here = λ t k. chosen_here n t i (of_chosen splits before h after choice n t k);
-        }
+    may_choose n i = record {
+      commits = λ t k. is_chosen splits before h after choice n t (inr (inl (subst (λ z. committed_in z t ≡ true) (sym (left_is n i)) k)));
+      are_here = λ t k. chosen_here n t i (of_chosen splits before h after choice n t k);
+    }
 
     pub replays_on : (n : ℕ) → n < shard_count splits → ReplaysTo (share_of before n) (parts_on n (member_ops h (serial_left splits before h after choice))) (share_of (logs_left splits before h after choice) n)
     replays_on n i =
@@ -210,7 +207,7 @@ module _ (splits : List ℕ) (before : List (List LogRecord)) (h : History) (aft
         let r = later_replay n (run_after before) found (with_found n found d) s (cond (choice n) (unwrap_or s.flight s.durable) s.durable) pick (requests_of h) (leads n i)
         (cut_above s (choice n) (fronts n i).counted) (may_choose n i) refl in
         let share = starts n i in
-        let names = chosen_are_members splits before h after choice n l i in
+        let names = chosen_are_members l choice n i in
         let ops = part_ops n h d.items ms (λ t. (deeds_are_told before h after n t).0) ∙ ap (λ ts. ops_by ts d.items) names ∙ sym (ops_later (filter pick (requests_of h)) (found_items n found) d.items (idle n i)) in
         let answers = part_answers n h d.items ms (λ t. (deeds_are_told before h after n t).0) ∙ ap (λ ts. answers_by ts d.items) names ∙ sym (answers_later (filter pick (requests_of h)) (found_items n found) d.items (idle n i)) in
         let ends = ap (λ z. fold_updates pick z []) (sym (left_is n i)) ∙ fold_writers pick (committed_somewhere (logs_left splits before h after choice)) (log_of (logs_left splits before h after choice) n) [] (λ t w. writers_chosen n t i w) in (
@@ -219,4 +216,4 @@ module _ (splits : List ℕ) (before : List (List LogRecord)) (h : History) (aft
         )
 
 pub members_replay_where_here : MembersReplayWhereHere
-members_replay_where_here splits before h after choice l here = members_replay_by_parts splits before h after choice l (λ n i. replays_on splits before h after choice l here n i)
+members_replay_where_here splits before h after choice l here = members_replay_by_parts splits before h after choice l (λ n i. replays_on l choice here n i)

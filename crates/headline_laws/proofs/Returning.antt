@@ -45,8 +45,7 @@ use Rattle.fate_laws.proofs.Inside.{inside_step}
 use Rattle.fate_laws.proofs.Prefixes.{Next, next_at, each_shard}
 use Rattle.fate_laws.proofs.Prepares.{prepare_more}
 use Rattle.fate_laws.proofs.Standing.{NotOwn}
-use Rattle.fate_laws.proofs.Falling.{Met, WasOut, walk_on, none_held}
-use Rattle.fate_laws.proofs.Falling.{last_front}
+use Rattle.fate_laws.proofs.Falling.{Met, WasOut, walk_on, none_held, last_front}
 use Rattle.headline_laws.proofs.Staying.{present_back}
 use Rattle.headline_laws.proofs.Committing.{finish_prefix}
 use Rattle.protocol_laws.proofs.Records.{prepared_there}
@@ -126,7 +125,8 @@ Again before after pre n s = (t : TxId) → WasOut before after pre n t → is_p
 AllAgain : (splits : List ℕ) (before after : List (List LogRecord)) (pre : History) → Type 0
 AllAgain splits before after pre = (n : ℕ) → n < shard_count splits → Again before after pre n (state_at before after n pre)
 
-module _ (splits : List ℕ) (before after : List (List LogRecord)) (h pre : History) (e : Placed) (post : History) (l : LegalFrom splits before h after) (q : pre ++ e ∷ post ≡ h) where
+module _ {splits : List ℕ} {before after : List (List LogRecord)} {h : History} (l : LegalFrom splits before h after) (pre : History)
+    (e : Placed) (post : History) (q : pre ++ e ∷ post ≡ h) where
   abbrev S : Shard
   S = state_at before after e.0 pre
 
@@ -149,7 +149,7 @@ module _ (splits : List ℕ) (before after : List (List LogRecord)) (h pre : His
           let j = more y i in
           let g = same_epoch splits before after h y e t b birth ep seen l.legal (turn_of h pre e y (behind_of splits before after h pre e post l.legal q) j) p a (record { nth = nth; op = op; is = ev }) in
           let same : ep ≡ S.local.epoch = eqb-true ep S.local.epoch (subst (λ v. seen_fits S.local.epoch v ≡ true) g.0 f.0) in
-          (((traced_front splits before after h pre (e ∷ post) l q).states e.0 w.inside).origins).known t (subst (λ v. DidNow pre e.0 v t) same (b, (y, j, p, a))) (none_held (tx_get t S.local.parts) f.1)
+          (((traced_front l pre (e ∷ post) q).states e.0 w.inside).origins).known t (subst (λ v. DidNow pre e.0 v t) same (b, (y, j, p, a))) (none_held (tx_get t S.local.parts) f.1)
 
   again_here : Again before after pre e.0 S → Again before after pre e.0 T
   again_here k t v p = by_own (own_or_not t (e.1).event)
@@ -178,10 +178,10 @@ module _ (splits : List ℕ) (before after : List (List LogRecord)) (h pre : His
       ⊎_elim (λ f. absurd (both_ways _ (subst (λ x. is_present (stage_of (state_at before after n x).local t) ≡ false) f v.0) p)) (λ f. again_new n k t (front, f.0, f.1, v) p) (last_front front rest pre e z)
 
 -- who was out on a shard and is here again is prepared there
-pub out_prepared : (splits : List ℕ) (before after : List (List LogRecord)) (h pre post : History) → LegalFrom splits before h after → pre ++ post ≡ h → (n : ℕ) → n < shard_count splits → (t : TxId) → WasOut before after pre n t
-    → is_present (stage_of (state_at before after n pre).local t) ≡ true → prepared_in (state_at before after n pre).local.log t ≡ true
+pub out_prepared : {splits : List ℕ} {before after : List (List LogRecord)} {h : History} → LegalFrom splits before h after → (pre post : History) → pre ++ post ≡ h → (n : ℕ) → n < shard_count splits
+    → (t : TxId) → WasOut before after pre n t → is_present (stage_of (state_at before after n pre).local t) ≡ true → prepared_in (state_at before after n pre).local.log t ≡ true
 unfolding AllAgain
-out_prepared splits before after h pre post l q n i = walk_on (AllAgain splits before after) h [] pre post q (λ f e r z k m j. again_next splits before after h f e r l z m (k m j)) first n i
+out_prepared {splits} {before} {after} {h} l pre post q n i = walk_on (AllAgain splits before after) h [] pre post q (λ f e r z k m j. again_next l f e r z m (k m j)) first n i
   where
     first : AllAgain splits before after []
     first n i t v p = at (tx_in t (in_doubt n (log_after_restart n (log_of before n) (run_after before) 0))) refl

@@ -90,7 +90,7 @@ undoubted shard run before d s n t leads q i =
     (λ u. both_ways _ undecided.2 ((order_of s.shard log follows).undone t u))
     (wrote_stands s.shard log follows t (prepared_wrote s.shard log follows t (doubt_prepared n log t i)))
 
-module _ (splits : List ℕ) (before : List (List LogRecord)) (h : History) (after : List (List LogRecord)) (choice : ℕ → Bool) (l : LegalFrom splits before h after)
+module _ {splits : List ℕ} {before after : List (List LogRecord)} {h : History} (l : LegalFrom splits before h after) (choice : ℕ → Bool)
     (pass : ReadersWroteNothing splits before h after) (quiet : IsSettled splits before h after) where
   -- ---- who voted yes for a commit is committed
 
@@ -99,8 +99,7 @@ module _ (splits : List ℕ) (before : List (List LogRecord)) (h : History) (aft
   yes_committed n m k home x t i j run a v left = at (committed_in (final_of before h after n).local.log t) (is_present (stage_of (final_of before h after n).local t)) refl refl
     where
       fallen : tx_in t (deeds_before before h after n).fell ≡ true → ⊥
-      fallen f =
-          yes_voters_never_fell splits before h after choice m n k x home t l j i run a v left (fell_there splits before h after choice l n t i f)
+      fallen f = yes_voters_never_fell splits before h after choice m n k x home t l j i run a v left (fell_there l choice n t i f)
 
       at : (b d : Bool) → committed_in (final_of before h after n).local.log t ≡ b → is_present (stage_of (final_of before h after n).local t) ≡ d → committed_in (final_of before h after n).local.log t ≡ true
       at true d e p = e
@@ -109,10 +108,10 @@ module _ (splits : List ℕ) (before : List (List LogRecord)) (h : History) (aft
           let s = final_of before h after n in
           let d = deeds_before before h after n in
           let found = log_of before n in
-          let b = held n (run_after before) found (with_found n found d) s (leads splits before h after choice l n i) in
+          let b = held n (run_after before) found (with_found n found d) s (leads l choice n i) in
           let bound = votes_bind splits before h [] after k x home n t Yes (subst (λ z. LegalFrom splits before z after) (sym (append-nil h)) l) i a v in
           absurd
-          (⊎_elim (λ f. fallen (subst (λ z. tx_in t z ≡ true) b.8 (⊎_elim (λ y. y) (λ y. b.9 t y) f))) (λ r. yes_voters_unaborted splits before h after choice m n k x home t l j i run a v left (aborted_take s.durable s.local.log t r))
+          (⊎_elim (λ f. fallen (subst (λ z. tx_in t z ≡ true) b.8 (⊎_elim (λ y. y) (λ y. b.9 t y) f))) (λ r. yes_voters_unaborted l choice m n k x home t j i run a v left (aborted_take s.durable s.local.log t r))
           (b.1.falls.gone t (prepared_cut s.durable s.local.log t (bound.0).0) e p))
 
   by_vote : (n m k home : ℕ) (x : Entry) (v : Vote) (t : TxId) → n < shard_count splits → m < shard_count splits → t.run ≡ run_after before → wrote_in (final_of before h after n).local.log t ≡ true → IsAmong k x h → x.outcome ≡ Sent (VoteMessage home t n v) → is_good (Some v) ≡ true
@@ -124,7 +123,7 @@ module _ (splits : List ℕ) (before : List (List LogRecord)) (h : History) (aft
   -- ---- who wrote on a shard, and has a COMMIT left on any, has one there
 
   left_last : (n : ℕ) (t : TxId) → n < shard_count splits → committed_in (final_of before h after n).local.log t ≡ true → committed_in (log_of (logs_left splits before h after choice) n) t ≡ true
-  left_last n t i e = subst (λ z. committed_in z t ≡ true) (sym (left_is splits before h after choice l n i ∙ left_whole (final_of before h after n) (choice n) (quiet n i))) e
+  left_last n t i e = subst (λ z. committed_in z t ≡ true) (sym (left_is l choice n i ∙ left_whole (final_of before h after n) (choice n) (quiet n i))) e
 
   this_run : (n m : ℕ) (t : TxId) → n < shard_count splits → m < shard_count splits → t.run ≡ run_after before → wrote_in (final_of before h after n).local.log t ≡ true → committed_in (log_of (logs_left splits before h after choice) m) t ≡ true
       → committed_in (log_of (logs_left splits before h after choice) n) t ≡ true
@@ -139,7 +138,7 @@ module _ (splits : List ℕ) (before : List (List LogRecord)) (h : History) (aft
       named : nat_in n (map (λ p. p.0) (z.1).1) ≡ true
       named =
           names_shard splits before after h n z.0 t z.1 l.legal run
-          (wrote_from (DidOrOld (run_after before) h n) (Requested h) (IsOld (run_after before)) n (final_of before h after n).local.log (((traced_front splits before after h h [] l (append-nil h)).states n i).origins).log t w)
+          (wrote_from (DidOrOld (run_after before) h n) (Requested h) (IsOld (run_after before)) n (final_of before h after n).local.log (((traced_front l h [] (append-nil h)).states n i).origins).log t w)
 
       at : (b : Bool) → (n == home) ≡ b → committed_in (log_of (logs_left splits before h after choice) n) t ≡ true
       at true e = subst (λ k. committed_in (log_of (logs_left splits before h after choice) k) t ≡ true) (sym (eqb-true n z.0 e)) z.2
@@ -153,20 +152,17 @@ module _ (splits : List ℕ) (before : List (List LogRecord)) (h : History) (aft
       let s = final_of before h after n in
       let e = deeds_before before h after n in
       let found = log_of before n in
-      ⊎_elim (λ a. subst (λ z. committed_in z t ≡ true) (sym (left_is splits before h after choice l n i)) a)
-      (λ a. absurd
-      (undoubted n (run_after before) found (with_found n found e) s n t (leads splits before h after choice l n i) (quiet n i)
-      (subst (λ z. tx_in t (in_doubt n z) ≡ true) (left_whole s (choice n) (quiet n i)) a.0)))
-      (still_known splits before h after (choice n) n t l i d c)
+      ⊎_elim (λ a. subst (λ z. committed_in z t ≡ true) (sym (left_is l choice n i)) a) (λ a. absurd
+      (undoubted n (run_after before) found (with_found n found e) s n t (leads l choice n i) (quiet n i)
+      (subst (λ z. tx_in t (in_doubt n z) ≡ true) (left_whole s (choice n) (quiet n i)) a.0))) (still_known l (choice n) n t i d c)
 
   has_commit : (n m : ℕ) (t : TxId) → n < shard_count splits → m < shard_count splits → wrote_in (log_of (logs_left splits before h after choice) n) t ≡ true → committed_in (log_of (logs_left splits before h after choice) m) t ≡ true
       → committed_in (log_of (logs_left splits before h after choice) n) t ≡ true
   has_commit n m t i j w k =
-      ⊎_elim (λ r. this_run n m t i j r (wrote_last splits before h after choice l n t i w) k)
-      (λ r.
-      let c = somewhere_at_opening splits before h after choice m t l j r k in
-      ⊎_elim (λ a. committed_still splits before h after choice n t l.legal i a) (λ a. found_left n t i a c) (writer_known splits before n t l.opens (wrote_at_opening splits before h after choice n t l i r w) c))
-      (left_run splits before h after choice l m t j k)
+      ⊎_elim (λ r. this_run n m t i j r (wrote_last l choice n t i w) k) (λ r.
+      let c = somewhere_at_opening l choice m t j r k in
+      ⊎_elim (λ a. committed_still splits before h after choice n t l.legal i a) (λ a. found_left n t i a c) (writer_known splits before n t l.opens (wrote_at_opening l choice n t i r w) c))
+      (left_run l choice m t j k)
 
   -- ---- the shards' records
 
@@ -174,9 +170,8 @@ module _ (splits : List ℕ) (before : List (List LogRecord)) (h : History) (aft
       → committed_somewhere (logs_left splits before h after choice) t ≡ committed_somewhere (log_of (logs_left splits before h after choice) n ∷ []) t
   writers_committed n t i w =
       let left = logs_left splits before h after choice in
-      same_test (committed_somewhere left t) (committed_somewhere (log_of left n ∷ []) t)
-      (λ k. let m = somewhere_at left t k in
-      or_left _ false (has_commit n m.0 t i (within splits before h after choice l m.0 m.1) w m.2))
+      same_test (committed_somewhere left t) (committed_somewhere (log_of left n ∷ []) t) (λ k. let m = somewhere_at left t k in
+      or_left _ false (has_commit n m.0 t i (within l choice m.0 m.1) w m.2))
       (λ k. ⊎_elim (λ a. at_somewhere left n t a) (λ a. absurd (both_ways false refl a)) (or_cases (committed_in (log_of left n) t) false k))
 
   live_is_share : (n : ℕ) → n < shard_count splits → live_pairs (final_of before h after n).local.records ≡ share_of (logs_left splits before h after choice) n
@@ -192,7 +187,7 @@ turns_alike f g count n (suc k) e a = ap (λ m. m ++ in_turn f (suc n) k) (a n (
 pub settled_is_the_map_where_readers_wrote_nothing : SettledIsTheMapWhereReadersWroteNothing
 settled_is_the_map_where_readers_wrote_nothing splits before h after choice l pass quiet =
     let left = logs_left splits before h after choice in
-    turns_alike (λ n. live_pairs (final_of before h after n).local.records) (share_of left) (shard_count splits) 0 (shard_count splits) (omega arith) (live_is_share splits before h after choice l pass quiet)
+    turns_alike (λ n. live_pairs (final_of before h after n).local.records) (share_of left) (shard_count splits) 0 (shard_count splits) (omega arith) (live_is_share l choice pass quiet)
     ∙ shares_make_the_map splits left l.legal.splits_rise (left_length splits before h after choice, logs_left_pass splits before h after choice l)
 
 -- ---- nothing is in doubt in what a quiet shard leaves
@@ -207,5 +202,5 @@ settled_opens_clear splits before h after choice n l quiet i =
     let d = deeds_before before h after n in
     let found = log_of before n in
     none_in (in_doubt n (log_of (logs_left splits before h after choice) n)) (λ t k.
-    undoubted n (run_after before) found (with_found n found d) s n t (leads splits before h after choice l n i) (quiet n i)
-    (subst (λ z. tx_in t (in_doubt n z) ≡ true) (left_is splits before h after choice l n i ∙ left_whole s (choice n) (quiet n i)) k))
+    undoubted n (run_after before) found (with_found n found d) s n t (leads l choice n i) (quiet n i)
+    (subst (λ z. tx_in t (in_doubt n z) ≡ true) (left_is l choice n i ∙ left_whole s (choice n) (quiet n i)) k))

@@ -38,8 +38,9 @@ use Rattle.protocol_laws.proofs.Records.{prepared_there}
 
 -- ---- a part that is bound
 
-module _ (splits : List ℕ) (before : List (List LogRecord)) (h : History) (after : List (List LogRecord)) (choice : ℕ → Bool) (n m : ℕ) (tx : TxId) (l : LegalFrom splits before h after)
-    (i : n < shard_count splits) (j : m < shard_count splits) (run : tx.run ≡ run_after before) (left : is_left splits before h after choice n tx ≡ true) where
+module _ {splits : List ℕ} {before after : List (List LogRecord)} {h : History} (l : LegalFrom splits before h after) (choice : ℕ → Bool)
+    (n m : ℕ) (tx : TxId) (i : n < shard_count splits) (j : m < shard_count splits) (run : tx.run ≡ run_after before)
+    (left : is_left splits before h after choice n tx ≡ true) where
   dead : (k : ℕ) → DeadIn before after h k tx → ⊥
   dead k d =
       let z = commits_stand_at_home splits before h after choice n tx l i run left in
@@ -49,7 +50,7 @@ module _ (splits : List ℕ) (before : List (List LogRecord)) (h : History) (aft
       both_ways _ (d.1).0 (subst (λ v. committed_in (state_at before after v h).local.log tx ≡ true) same (left_committed splits before h after choice z.0 tx (in_a_shard splits before after h (z.0, b.0) l.legal g) z.2))
 
   opened : (u : TxId) → WasOut before after h m u → committed_in (state_at before after m h).local.log u ≡ false
-  opened u v = ((stands_front splits before after h h [] l (append-nil h) m j).barred).open_ u v
+  opened u v = ((stands_front l h [] (append-nil h) m j).barred).open_ u v
 
   by_lost : (p : ℕ × List TxId) → ((u : TxId) → tx_in u p.1 ≡ true → committed_in (log_left (state_at before after m h) false) u ≡ true) → (p.0 ≡ m → ⊥) → LostAt before after h m tx p → ⊥
   by_lost p g away (inl z) = away z
@@ -63,14 +64,14 @@ module _ (splits : List ℕ) (before : List (List LogRecord)) (h : History) (aft
 
   -- where its PREPARE names another shard as its home, it never was out
   pub bound_never_out : (b : Bound (state_at before after m h) tx) → ((b.listed).0 ≡ m → ⊥) → WasOut before after h m tx → ⊥
-  bound_never_out b away v = by_lost b.listed b.durable away (all_lost splits before after h h [] l (append-nil h) m j tx b.listed (inl run) v (prepared b))
+  bound_never_out b away v = by_lost b.listed b.durable away (all_lost l h [] (append-nil h) m j tx b.listed (inl run) v (prepared b))
 
   -- else this is its home
   home_here : (b : Bound (state_at before after m h) tx) → (b.listed).0 ≡ m → IsHome h tx m
-  home_here b z = let y = ((bindings_front splits before after h h [] l (append-nil h)).fated.homed m j).prepares tx b.listed (prepared b) run in (y.0, y.1, among_is m y.0 h (subst (λ v. Among (v, y.0) h) z y.2), (y.3).0, (y.3).1)
+  home_here b z = let y = ((bindings_front l h [] (append-nil h)).fated.homed m j).prepares tx b.listed (prepared b) run in (y.0, y.1, among_is m y.0 h (subst (λ v. Among (v, y.0) h) z y.2), (y.3).0, (y.3).1)
 
   pub bound_never_fell : Bound (state_at before after m h) tx → Fell before h after m tx → ⊥
-  bound_never_fell b f = bound_never_out b (λ z. members_never_fell_at_home splits before h after choice n m tx l i j run left (home_here b z) f) (fell_out splits before after h h [] m tx l (append-nil h) j f)
+  bound_never_fell b f = bound_never_out b (λ z. members_never_fell_at_home splits before h after choice n m tx l i j run left (home_here b z) f) (fell_out l h [] m tx (append-nil h) j f)
 
   -- at its home its COMMIT stands
   at_home : IsHome h tx m → committed_in (state_at before after m h).local.log tx ≡ true
@@ -83,22 +84,22 @@ module _ (splits : List ℕ) (before : List (List LogRecord)) (h : History) (aft
   -- so no ABORT of it is in the log
   pub bound_unaborted : Bound (state_at before after m h) tx → aborted_in (state_at before after m h).local.log tx ≡ true → ⊥
   bound_unaborted b k =
-      let z = struck_front splits before after h h [] l (append-nil h) m j tx k in
-      let asked = ((stands_front splits before after h h [] l (append-nil h) m j).barred).sought tx (prepared_there (state_at before after m h).local.log tx b.listed (prepared b)) in
+      let z = struck_front l h [] (append-nil h) m j tx k in
+      let asked = ((stands_front l h [] (append-nil h) m j).barred).sought tx (prepared_there (state_at before after m h).local.log tx b.listed (prepared b)) in
       bound_never_out b (λ y. both_ways _ z.1 (at_home (home_here b y))) (h, [], append-nil h, (z.0, z.1, asked))
 
 -- ---- members, and who voted yes
 
 pub yes_voters_never_fell : YesVotersNeverFell
 yes_voters_never_fell splits before h after choice n m k e home tx l i j run a sent left f =
-    let b = (casts_front splits before after h h [] l (append-nil h)).cast (k, e) home m tx Yes (is_among k e h a) sent in
-    bound_never_fell splits before h after choice n m tx l i j run left b.1 f
+    let b = (casts_front l h [] (append-nil h)).cast (k, e) home m tx Yes (is_among k e h a) sent in
+    bound_never_fell l choice n m tx i j run left b.1 f
 
-pub yes_voters_unaborted : (splits : List ℕ) (before : List (List LogRecord)) (h : History) (after : List (List LogRecord)) (choice : ℕ → Bool) (n m k : ℕ) (e : Entry) (home : ℕ) (tx : TxId) → LegalFrom splits before h after → n < shard_count splits → m < shard_count splits → tx.run ≡ run_after before
-    → IsAmong k e h → e.outcome ≡ Sent (VoteMessage home tx m Yes) → is_left splits before h after choice n tx ≡ true → aborted_in (state_at before after m h).local.log tx ≡ true → ⊥
-yes_voters_unaborted splits before h after choice n m k e home tx l i j run a sent left f =
-    let b = (casts_front splits before after h h [] l (append-nil h)).cast (k, e) home m tx Yes (is_among k e h a) sent in
-    bound_unaborted splits before h after choice n m tx l i j run left b.1 f
+pub yes_voters_unaborted : {splits : List ℕ} {before after : List (List LogRecord)} {h : History} → LegalFrom splits before h after → (choice : ℕ → Bool) (n m k : ℕ) (e : Entry) (home : ℕ) (tx : TxId) → n < shard_count splits
+    → m < shard_count splits → tx.run ≡ run_after before → IsAmong k e h → e.outcome ≡ Sent (VoteMessage home tx m Yes) → is_left splits before h after choice n tx ≡ true → aborted_in (state_at before after m h).local.log tx ≡ true → ⊥
+yes_voters_unaborted {h} l choice n m k e home tx i j run a sent left f =
+    let b = (casts_front l h [] (append-nil h)).cast (k, e) home m tx Yes (is_among k e h a) sent in
+    bound_unaborted l choice n m tx i j run left b.1 f
 
 pub prepared_members_never_fell : PreparedMembersNeverFell
 prepared_members_never_fell splits before h after choice n m home e touched tx l i j a ev out there left prep f = at (m == home) refl
@@ -111,15 +112,15 @@ prepared_members_never_fell splits before h after choice n m home e touched tx l
 
     fine : (m == home) ≡ false → FineAt before after h m tx
     fine d =
-        let bs = bindings_front splits before after h h [] l (append-nil h) in
+        let bs = bindings_front l h [] (append-nil h) in
         (bs.parted n i).log tx (left_committed splits before h after choice n tx i left) m (λ r. (home, touched, (e, mine, (ev, out)), in_others m home (map (λ t. t.0) touched) there d))
 
     by_fine : Bound (state_at before after m h) tx ⊎ (Reads (state_at before after m h) tx ⊎ (committed_in (log_left (state_at before after m h) false) tx ≡ true)) → ⊥
-    by_fine (inl b) = bound_never_fell splits before h after choice n m tx l i j run left b f
+    by_fine (inl b) = bound_never_fell l choice n m tx i j run left b f
     by_fine (inr (inl r)) = both_ways _ r.unprepared prep
     by_fine (inr (inr k)) =
         let s = state_at before after m h in
-        both_ways _ (opened splits before h after choice n m tx l i j run left tx (fell_out splits before after h h [] m tx l (append-nil h) j f)) (front_committed s.durable s.local.log tx k)
+        both_ways _ (opened l choice n m tx i j run left tx (fell_out l h [] m tx (append-nil h) j f)) (front_committed s.durable s.local.log tx k)
 
     at : (b : Bool) → (m == home) ≡ b → ⊥
     at true d =

@@ -131,13 +131,12 @@ module _ (W : TxId → List (ℕ × ℕ) → Type 0) (V : TxId → ℕ → Vote 
   -- ---- an entry
 
   flush_begins : (s : Shard) (n : ℕ) → Begins W V home s → Within (IsFinished s) (IsIdle FlushIn s) W V home (with_durable n s)
-  flush_begins s n b =
-      record {
-        shard = b.shard;
-        closed = λ t c u. ((λ q. absurd (differ q)), closed_here s.local t c, u);
-        wrote = b.wrote;
-        rows = λ t q g. old_row (IsIdle FlushIn s) s s.local t q g b;
-      }
+  flush_begins s n b = record {
+    shard = b.shard;
+    closed = λ t c u. ((λ q. absurd (differ q)), closed_here s.local t c, u);
+    wrote = b.wrote;
+    rows = λ t q g. old_row (IsIdle FlushIn s) s s.local t q g b;
+  }
     where
       differ : FlushIn ≡ Restart → ⊥
       differ q = absurd cc

@@ -39,9 +39,7 @@ use Rattle.law_base.proofs.Tables.{stage_by, stage_in, get_put}
 use Rattle.law_base.proofs.Sets.{in_filter}
 use Rattle.history_laws.specs.Openings.{LegalFrom}
 use Rattle.shard_laws.specs.OneShard.{is_doomed}
-use Rattle.law_base.proofs.Stages.{stage_closed, closed_other, written_parts}
-use Rattle.law_base.proofs.Stages.{gone_by, stage_own, stage_other, absent_go}
-use Rattle.law_base.proofs.Stages.{stage_marked}
+use Rattle.law_base.proofs.Stages.{stage_closed, closed_other, written_parts, gone_by, stage_own, stage_other, absent_go, stage_marked}
 use Rattle.shard_laws.proofs.Restoring.{restored_closed, restored_none}
 use Rattle.history_cases.proofs.Stepping.{commits, votes, rules, KeptByDue, settled, Step, op_dies, op_answers, request_refused, request_doomed, request_again, request_closes, looks_well, looks_ill, drops, prepare_closes, decision_comes, finishes, stops}
 use Rattle.history_cases.proofs.Entering.{Makes, by_event, by_flush, by_failure, by_restart, makes}
@@ -64,11 +62,10 @@ pub record Fewer (s u : Shard) : Type 0 where
   pub doomed : (t : TxId) → is_doomed (stage_of u.local t) ≡ true → is_doomed (stage_of s.local t) ≡ true
 
 pub fewer_same : (s u : Shard) → u.local.parts ≡ s.local.parts → Fewer s u
-fewer_same s u e =
-    record {
-      present = λ t h. subst (λ z. is_present (stage_in z t) ≡ true) e h;
-      doomed = λ t h. subst (λ z. is_doomed (stage_in z t) ≡ true) e h;
-    }
+fewer_same s u e = record {
+  present = λ t h. subst (λ z. is_present (stage_in z t) ≡ true) e h;
+  doomed = λ t h. subst (λ z. is_doomed (stage_in z t) ≡ true) e h;
+}
 
 pub present_back : (set : List TxId) (d : Option TxId) (parts : Table Held) (t : TxId) → is_present (stage_in (gone_in set d parts) t) ≡ true → is_present (stage_in parts t) ≡ true
 present_back set d parts t h = at (is_present (stage_in parts t)) refl
@@ -89,11 +86,10 @@ doomed_back set parts t h = at (tx_in t set) refl
     at false i = subst (λ o. is_doomed o ≡ true) (stage_other set None t parts i) h
 
 pub fewer_finished : (s u : Shard) (tx : TxId) → u.local.parts ≡ gone_in (tx ∷ []) None s.local.parts → Fewer s u
-fewer_finished s u tx e =
-    record {
-      present = λ t h. present_back (tx ∷ []) None s.local.parts t (subst (λ z. is_present (stage_in z t) ≡ true) e h);
-      doomed = λ t h. doomed_back (tx ∷ []) s.local.parts t (subst (λ z. is_doomed (stage_in z t) ≡ true) e h);
-    }
+fewer_finished s u tx e = record {
+  present = λ t h. present_back (tx ∷ []) None s.local.parts t (subst (λ z. is_present (stage_in z t) ≡ true) e h);
+  doomed = λ t h. doomed_back (tx ∷ []) s.local.parts t (subst (λ z. is_doomed (stage_in z t) ≡ true) e h);
+}
 
 -- who is taken away by an abort was here
 pub rolled_doomed : (l : Local) (u t : TxId) → is_doomed (stage_of (roll_back u l) t) ≡ true → (is_doomed (stage_of l t) ≡ true) ⊎ (is_present (stage_of l t) ≡ true)
@@ -137,18 +133,16 @@ pub record Stays (s0 s : Shard) : Type 0 where
   pub doomed : (t : TxId) → is_doomed (stage_of s.local t) ≡ true → WasHere s0 t
 
 stays_fewer : (s0 s u : Shard) → Fewer s u → Requests s u → Stays s0 s → Stays s0 u
-stays_fewer s0 s u f r k =
-    record {
-      here = ⊎_elim (λ p. inl (λ t h. p t (f.present t h))) (λ c. inr (calm_still s u f.doomed r c)) k.here;
-      doomed = λ t h. k.doomed t (f.doomed t h);
-    }
+stays_fewer s0 s u f r k = record {
+  here = ⊎_elim (λ p. inl (λ t h. p t (f.present t h))) (λ c. inr (calm_still s u f.doomed r c)) k.here;
+  doomed = λ t h. k.doomed t (f.doomed t h);
+}
 
 stays_rolled : (s0 s u : Shard) (tx : TxId) → u.local ≡ roll_back tx s.local → ((t : TxId) → is_present (stage_of s.local t) ≡ true → is_present (stage_of s0.local t) ≡ true) → Stays s0 s → Stays s0 u
-stays_rolled s0 s u tx e p k =
-    record {
-      here = inl (λ t h. p t (present_back (doomed_here s.local tx) (Some tx) s.local.parts t (subst (λ (l : Local). is_present (stage_of l t) ≡ true) e h)));
-      doomed = λ t h. ⊎_elim (λ d. k.doomed t d) (λ i. inr (p t i)) (rolled_doomed s.local tx t (subst (λ (l : Local). is_doomed (stage_of l t) ≡ true) e h));
-    }
+stays_rolled s0 s u tx e p k = record {
+  here = inl (λ t h. p t (present_back (doomed_here s.local tx) (Some tx) s.local.parts t (subst (λ (l : Local). is_present (stage_of l t) ≡ true) e h)));
+  doomed = λ t h. ⊎_elim (λ d. k.doomed t d) (λ i. inr (p t i)) (rolled_doomed s.local tx t (subst (λ (l : Local). is_doomed (stage_of l t) ≡ true) e h));
+}
 
 -- ---- what is due
 
@@ -201,11 +195,10 @@ rolled_by s u tx e = stays_rolled s s u tx e (λ t h. h) (stays_self s)
 
 -- a part that closes
 fewer_closed : (s u : Shard) (tx : TxId) → stage_of s.local tx ≡ Some Active → u.local.parts ≡ closed_in tx s.local.parts → Fewer s u
-fewer_closed s u tx a e =
-    record {
-      present = λ t h. by_name (λ o. is_present o ≡ true) t (λ z. z) (λ z. subst (λ o. is_present o ≡ true) (sym a) refl) (subst (λ z. is_present (stage_in z t) ≡ true) e h);
-      doomed = λ t h. by_name (λ o. is_doomed o ≡ true) t (λ z. z) (λ z. absurd (both_ways false refl z)) (subst (λ z. is_doomed (stage_in z t) ≡ true) e h);
-    }
+fewer_closed s u tx a e = record {
+  present = λ t h. by_name (λ o. is_present o ≡ true) t (λ z. z) (λ z. subst (λ o. is_present o ≡ true) (sym a) refl) (subst (λ z. is_present (stage_in z t) ≡ true) e h);
+  doomed = λ t h. by_name (λ o. is_doomed o ≡ true) t (λ z. z) (λ z. absurd (both_ways false refl z)) (subst (λ z. is_doomed (stage_in z t) ≡ true) e h);
+}
   where
     by_name : (P : Option Stage → Type 0) (t : TxId) → (P (stage_of s.local t) → P (stage_of s.local t)) → (P (Some Closed) → P (stage_of s.local tx)) → P (stage_in (closed_in tx s.local.parts) t) → P (stage_of s.local t)
     by_name P t k c p = at (tx_same tx t) refl
@@ -282,9 +275,9 @@ doomed_made log s _ t (by_restart epoch kept u r) c d = absurd (doomed_restored 
 
 -- ---- along a history
 
-pub doomed_was : (splits : List ℕ) (before after : List (List LogRecord)) (h pre : History) (e : Placed) (post : History) → LegalFrom splits before h after → pre ++ e ∷ post ≡ h → (n : ℕ) → n < shard_count splits → (t : TxId)
-    → is_doomed (stage_of (state_at before after n (pre ++ e ∷ [])).local t) ≡ true → WasHere (state_at before after n pre) t
-doomed_was splits before after h pre e post l q n i t =
+pub doomed_was : {splits : List ℕ} {before after : List (List LogRecord)} {h : History} → LegalFrom splits before h after → (pre : History) (e : Placed) (post : History) → pre ++ e ∷ post ≡ h
+    → (n : ℕ) → n < shard_count splits → (t : TxId) → is_doomed (stage_of (state_at before after n (pre ++ e ∷ [])).local t) ≡ true → WasHere (state_at before after n pre) t
+doomed_was {splits} {before} {after} {h} l pre e post q n i t =
     each_shard (λ k z. is_doomed (stage_of z.local t) ≡ true → WasHere (state_at before after k pre) t) before after e pre here n (λ d. inl d)
   where
     w : Next splits before after h pre e
@@ -294,4 +287,4 @@ doomed_was splits before after h pre e post l q n i t =
     here d =
         let s = state_at before after e.0 pre in
         doomed_made (log_of after e.0) s (event_state (log_of after e.0) s (e.1).event (e.1).outcome) t (makes (log_of after e.0) s (e.1).event (e.1).outcome ((w.split).enters).event)
-        (caused_front splits before after h pre (e ∷ post) e.0 l q w.inside).calm (subst (λ (z : Shard). is_doomed (stage_of z.local t) ≡ true) (w.split).next d)
+        (caused_front l pre (e ∷ post) e.0 q w.inside).calm (subst (λ (z : Shard). is_doomed (stage_of z.local t) ≡ true) (w.split).next d)

@@ -40,9 +40,7 @@ use Rattle.history_laws.proofs.Serials.{committed_front}
 use Rattle.history_cases.proofs.TellingEvents.{front_committed}
 use Rattle.history_cases.proofs.Uncommitting.{NoMoreCommits, rolled as rolled_commits, with_more, op_answering, opening_adds}
 use Rattle.shard_laws.proofs.Sound.{waiting_here}
-use Rattle.law_base.proofs.Stages.{closed_other}
-use Rattle.law_base.proofs.Stages.{absent_go, own_go}
-use Rattle.law_base.proofs.Stages.{stage_marked}
+use Rattle.law_base.proofs.Stages.{closed_other, absent_go, own_go, stage_marked}
 use Rattle.shard_laws.proofs.Rebuilding.{loser_out}
 use Rattle.shard_laws.proofs.Restoring.{restored_none}
 use Rattle.history_laws.proofs.Replying.{OpIs, dies, rolls, performs, reply_is}

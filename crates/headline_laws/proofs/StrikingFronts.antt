@@ -16,6 +16,7 @@ use Rattle.history_cases.proofs.Entering.{makes}
 use Rattle.history_cases.proofs.Merging.{Placed}
 use Rattle.history_cases.proofs.Worlds.{state_at}
 use Rattle.history_laws.specs.Openings.{LegalFrom}
+use Rattle.history_laws.proofs.Found.{log_found}
 use Rattle.shard_laws.proofs.Listing.{order_of}
 use Rattle.fate_laws.proofs.Origins.{AllFrom}
 use Rattle.fate_laws.proofs.Entries.{DidOrOld}
@@ -51,25 +52,26 @@ answers_none splits before after h pre e x st k u birth nth seen op a ep q r b =
     let p = k u b in
     no_return splits before after h pre e u birth nth seen op a ep x q r st (inl (pre, [], append-nil pre, (p.0, p.1, met_of before pre e.0 u (aborts_from _ _ _ e.0 (state_at before after e.0 pre).local.log u ((x.traced).origins).log b))))
 
-struck_next : (splits : List ℕ) (before after : List (List LogRecord)) (h pre : History) (e : Placed) (post : History) → LegalFrom splits before h after → pre ++ e ∷ post ≡ h → AllStruck splits before after pre → AllStruck splits before after (pre ++ e ∷ [])
-unfolding AllStruck
-struck_next splits before after h pre e post l q k n i t = each_shard (λ m z. Struck z t) before after e pre (subst (λ (z : Shard). Struck z t) (sym ((x.next).split).next) here) n (k n i t)
-  where
-    x : At splits before after h pre e
-    x = entry_at splits before after h pre e post l q
+module _ {splits : List ℕ} {before after : List (List LogRecord)} {h : History} (l : LegalFrom splits before h after) where
+  struck_next : (pre : History) (e : Placed) (post : History) → pre ++ e ∷ post ≡ h → AllStruck splits before after pre → AllStruck splits before after (pre ++ e ∷ [])
+  unfolding AllStruck
+  struck_next pre e post q k n i t = each_shard (λ m z. Struck z t) before after e pre (subst (λ (z : Shard). Struck z t) (sym ((x.next).split).next) here) n (k n i t)
+    where
+      x : At splits before after h pre e
+      x = entry_at l pre e post q
 
-    here : Struck (event_state (log_of after e.0) (state_at before after e.0 pre) (e.1).event (e.1).outcome) t
-    here =
-        let s = state_at before after e.0 pre in
-        let w = x.next in
-        struck_made (log_of after e.0) s _ t (makes (log_of after e.0) s (e.1).event (e.1).outcome ((w.split).enters).event) (owed_down splits before after h pre e (e.1).event refl w (((x.was).lowered).bindings))
-        (owed_kept splits before after h pre e (e.1).event refl w x.was w.sent) (answers_none splits before after h pre e x (stands_front splits before after h pre (e ∷ post) l q e.0 w.inside) (k e.0 w.inside)) ((x.was).kept e.0 w.inside) (k e.0 w.inside t)
+      here : Struck (event_state (log_of after e.0) (state_at before after e.0 pre) (e.1).event (e.1).outcome) t
+      here =
+          let s = state_at before after e.0 pre in
+          let w = x.next in
+          struck_made (log_of after e.0) s _ t (makes (log_of after e.0) s (e.1).event (e.1).outcome ((w.split).enters).event) (owed_down splits before after h pre e (e.1).event refl w (((x.was).lowered).bindings))
+          (owed_kept splits before after h pre e (e.1).event refl w x.was w.sent) (answers_none splits before after h pre e x (stands_front l pre (e ∷ post) q e.0 w.inside) (k e.0 w.inside)) ((x.was).kept e.0 w.inside) (k e.0 w.inside t)
 
-struck_start : (splits : List ℕ) (before after : List (List LogRecord)) (h : History) → LegalFrom splits before h after → AllStruck splits before after []
-unfolding AllStruck
-struck_start splits before after h l n i t =
-    struck_opened n (run_after before) (log_of before n) t (λ u c. (order_of n (log_of before n) (log_follows splits before n l.opens (let e = l.legal.each_log.0 in omega (arith, e, i)))).apart u c)
+  struck_start : AllStruck splits before after []
+  unfolding AllStruck
+  struck_start n i t =
+      struck_opened n (run_after before) (log_of before n) t (λ u c. (order_of n (log_of before n) (log_follows splits before n l.opens (log_found l n i))).apart u c)
 
-pub struck_front : (splits : List ℕ) (before after : List (List LogRecord)) (h pre post : History) → LegalFrom splits before h after → pre ++ post ≡ h → (n : ℕ) → n < shard_count splits → (t : TxId) → Struck (state_at before after n pre) t
-unfolding AllStruck
-struck_front splits before after h pre post l q n i t = walk_on (AllStruck splits before after) h [] pre post q (λ f e r z k. struck_next splits before after h f e r l z k) (struck_start splits before after h l) n i t
+  pub struck_front : (pre post : History) → pre ++ post ≡ h → (n : ℕ) → n < shard_count splits → (t : TxId) → Struck (state_at before after n pre) t
+  unfolding AllStruck
+  struck_front pre post q n i t = walk_on (AllStruck splits before after) h [] pre post q struck_next struck_start n i t

@@ -20,12 +20,12 @@ use Rattle.headline_laws.proofs.Naming.{names_shard}
 use Rattle.headline_laws.proofs.Sparing.{prepared_members_never_fell}
 use Rattle.history_laws.proofs.Doubts.{doubt_prepared}
 
-pub unfallen : (splits : List ℕ) (before : List (List LogRecord)) (h : History) (after : List (List LogRecord)) (choice : ℕ → Bool) (n m : ℕ) (t : TxId) → LegalFrom splits before h after → n < shard_count splits → m < shard_count splits → t.run ≡ run_after before
+pub unfallen : {splits : List ℕ} {before after : List (List LogRecord)} {h : History} → LegalFrom splits before h after → (choice : ℕ → Bool) (n m : ℕ) (t : TxId) → n < shard_count splits → m < shard_count splits → t.run ≡ run_after before
     → tx_in t (in_doubt n (log_left (final_of before h after n) (choice n))) ≡ true → committed_in (log_of (logs_left splits before h after choice) m) t ≡ true → Fell before h after n t → ⊥
-unfallen splits before h after choice n m t l i j run doubt commit f =
+unfallen {splits} {before} {after} {h} l choice n m t i j run doubt commit f =
     let s = final_of before h after n in
     let z = commits_stand_at_home splits before h after choice m t l j run commit in
     let r = z.1 in
     let prepared = prepared_cut _ s.local.log t (doubt_prepared n (log_left s (choice n)) t doubt) in
-    let did = (prepared_from (DidOrOld (run_after before) h n) (Requested h) (IsOld (run_after before)) n s.local.log (((traced_front splits before after h h [] l (append-nil h)).states n i).origins).log t prepared).0 in
+    let did = (prepared_from (DidOrOld (run_after before) h n) (Requested h) (IsOld (run_after before)) n s.local.log (((traced_front l h [] (append-nil h)).states n i).origins).log t prepared).0 in
     prepared_members_never_fell splits before h after choice m n z.0 r.0 r.1 t l j i r.2 r.3 r.4 (names_shard splits before after h n z.0 t r l.legal run did) commit prepared f

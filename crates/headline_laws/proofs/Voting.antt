@@ -1,5 +1,5 @@
 -- Of whose COMMIT each other shard that its request names voted yes or read.
-use Rattle.std.proofs.Common.{◌≡◌, inl, inr, ⊎_elim, refl, sym, ap, subst, ◌∙◌, ℕ, ◌<◌, true, List, [], ◌∷◌, ◌++◌, Some, length, arith}
+use Rattle.std.proofs.Common.{◌≡◌, inl, inr, ⊎_elim, refl, sym, ap, subst, ◌∙◌, ℕ, ◌<◌, true, List, [], ◌∷◌, ◌++◌, Some, append-nil, append_assoc}
 use Rattle.clv_base.specs.declared.names.TxId.{TxId}
 use Rattle.clv_base.specs.declared.logs.LogRecord.{LogRecord}
 use Rattle.clv_base.specs.declared.causes.Vote.{Vote}
@@ -17,24 +17,22 @@ use Rattle.clv_base.specs.Journals.{History}
 use Rattle.clv_base.specs.History.{WasSent}
 use Rattle.protocol_laws.specs.SessionLaws.{tx_of}
 use Rattle.history_cases.proofs.Entering.{makes}
-use Rattle.history_cases.proofs.Merging.{Placed, Among, among_append, is_among}
+use Rattle.history_cases.proofs.Merging.{Placed, Among, among_append, is_among, among_left, among_is}
 use Rattle.history_cases.proofs.OldRuns.{none_of_this_run}
 use Rattle.history_cases.proofs.Uncommitting.{opening_adds}
 use Rattle.history_cases.proofs.Worlds.{state_at}
 use Rattle.history_laws.specs.Openings.{LegalFrom}
+use Rattle.history_laws.proofs.Found.{log_found}
 use Rattle.history_laws.proofs.Staying.{walker_of}
-use Rattle.fate_laws.proofs.Prefixes.{Next, each_shard, asked_later}
+use Rattle.fate_laws.proofs.Prefixes.{Next, each_shard, asked_later, next_at}
 use Rattle.fate_laws.proofs.Fates.{delivered}
 use Rattle.fate_laws.proofs.Parts.{Good, VoteTells, Parted}
 use Rattle.fate_laws.proofs.PartsEvents.{Owes}
 use Rattle.fate_laws.proofs.Returning.{parted_state}
 use Rattle.fate_laws.proofs.Bindings.{WasTaken, Sought, Bindings, once, sought_later, bound_message, says_made, SaysOut, bindings_front, parted_mono, parted_made, noted, op_asks_none, op_unprepared}
 use Rattle.fate_laws.proofs.Deciding.{left_committed}
-use Rattle.history_cases.proofs.Merging.{among_left, among_is}
 use Rattle.clv_base.specs.Coordinator.{is_good}
 use Rattle.fate_laws.proofs.Falling.{walk_on}
-use Rattle.fate_laws.proofs.Prefixes.{next_at}
-use Rattle.std.proofs.Common.{append-nil, append_assoc}
 use Rattle.headline_laws.specs.Voted.{MembersAreVotedFor}
 
 -- ---- what is known after a front of the history
@@ -107,28 +105,27 @@ voting_next splits before after h pre e w bs k =
         (makes (log_of after e.0) (state_at before after e.0 pre) (e.1).event (e.1).outcome ((w.split).enters).event) (k.parted e.0 w.inside))
     last x to home tx (inr q) o = elim q [ ]
 
-voting_start : (splits : List ℕ) (before after : List (List LogRecord)) (h : History) → LegalFrom splits before h after → Voting splits before after h []
-voting_start splits before after h l =
-    record {
-      parted = λ n i.
-          let k : n < length before = let e = l.legal.each_log.0 in omega (arith, e, i) in
-          let log = log_of before n in
-          let run = run_after before in
-          let bs = (bindings_front splits before after h [] h l refl).parted n i in
-          parted_state run (WasTaken h) (Sought before []) (Votes before []) n run 0 (log_after_restart n log run 0) 0 [] (bs.base).ordered (λ tx p r. (bs.base).seen tx p r)
-          (λ tx c m d r. absurd (none_of_this_run splits before n tx l.opens k (opening_adds n log run 0 tx c) r));
-      said = λ x to home tx i. elim i [ ];
-      bindings = bindings_front splits before after h [] h l refl;
-    }
+module _ {splits : List ℕ} {before after : List (List LogRecord)} {h : History} (l : LegalFrom splits before h after) where
+  voting_start : Voting splits before after h []
+  voting_start = record {
+    parted = λ n i.
+        let log = log_of before n in
+        let run = run_after before in
+        let bs = (bindings_front l [] h refl).parted n i in
+        parted_state run (WasTaken h) (Sought before []) (Votes before []) n run 0 (log_after_restart n log run 0) 0 [] (bs.base).ordered (λ tx p r. (bs.base).seen tx p r)
+        (λ tx c m d r. absurd (none_of_this_run splits before n tx l.opens (log_found l n i) (opening_adds n log run 0 tx c) r));
+    said = λ x to home tx i. elim i [ ];
+    bindings = bindings_front l [] h refl;
+  }
 
-pub voting_front : (splits : List ℕ) (before after : List (List LogRecord)) (h : History) → LegalFrom splits before h after → Voting splits before after h h
-voting_front splits before after h l =
-    walk_on (Voting splits before after h) h [] h [] (append-nil h)
-    (λ pre e post q k. voting_next splits before after h pre e (next_at splits before after h pre e post l.legal q) (bindings_front splits before after h (pre ++ e ∷ []) post l (append_assoc pre (e ∷ []) post ∙ q)) k) (voting_start splits before after h l)
+  pub voting_front : Voting splits before after h h
+  voting_front =
+      walk_on (Voting splits before after h) h [] h [] (append-nil h)
+      (λ pre e post q k. voting_next splits before after h pre e (next_at splits before after h pre e post l.legal q) (bindings_front l (pre ++ e ∷ []) post (append_assoc pre (e ∷ []) post ∙ q)) k) voting_start
 
 pub members_are_voted_for : MembersAreVotedFor
 members_are_voted_for splits before h after choice n m home e touched tx l i a ev out there left =
     let j = is_among home e h a in
     let run = (walker_of splits before after h (home, e) tx l.legal j (ap tx_of ev)).0 in
-    let v = ((voting_front splits before after h l).parted n i).log tx (left_committed splits before h after choice n tx i left) m (λ r. (home, touched, (e, j, (ev, out)), there)) run in
+    let v = ((voting_front l).parted n i).log tx (left_committed splits before h after choice n tx i left) m (λ r. (home, touched, (e, j, (ev, out)), there)) run in
     (v.0, v.1, v.2, v.3, among_is v.0 v.1 h v.4, v.5, v.6)

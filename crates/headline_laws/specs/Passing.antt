@@ -1,5 +1,5 @@
 -- Who voted read wrote nothing, and has no COMMIT.
-use Rattle.std.specs.Prelude.{◌≡◌, ℕ, ◌<◌, true, false, List, ◌++◌}
+use Rattle.std.specs.Prelude.{◌≡◌, ℕ, ◌<◌, false, List, ◌++◌}
 use Rattle.clv_base.specs.declared.names.TxId.{TxId}
 use Rattle.clv_base.specs.declared.causes.Vote.TheVariants.{Read}
 use Rattle.clv_base.specs.declared.logs.LogRecord.{LogRecord}

@@ -1,5 +1,5 @@
 -- What the members of a history of one shard replay to.
-use Rattle.std.specs.Prelude.{◌≡◌, ℕ, Bool, true, List, [], ◌∷◌}
+use Rattle.std.specs.Prelude.{◌≡◌, ℕ, Bool, List, [], ◌∷◌}
 use Rattle.clv_base.specs.declared.logs.LogRecord.{LogRecord}
 use Rattle.clv_base.specs.Maps.{replay_map, replay_answers}
 use Rattle.clv_base.specs.Logs.{stands}

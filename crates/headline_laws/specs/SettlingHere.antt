@@ -1,5 +1,5 @@
 -- What the records of all shards hold where nothing is left to do.
-use Rattle.std.specs.Prelude.{◌≡◌, ℕ, ◌<◌, Bool, true, false, List, []}
+use Rattle.std.specs.Prelude.{◌≡◌, ℕ, ◌<◌, Bool, false, List, []}
 use Rattle.clv_base.specs.declared.names.TxId.{TxId}
 use Rattle.clv_base.specs.declared.causes.Vote.TheVariants.{Read}
 use Rattle.clv_base.specs.declared.logs.LogRecord.{LogRecord}

@@ -11,9 +11,8 @@ use Rattle.clv_base.specs.declared.events.Outcome.{Outcome}
 use Rattle.clv_base.specs.declared.events.Outcome.TheVariants.{Answered, Asked, Acknowledged, Aborted, Out, Durable, Stopped, Up}
 use Rattle.clv_base.specs.declared.events.Entry.{Entry}
 use Rattle.clv_base.specs.Logs.{stands}
-use Rattle.clv_base.specs.Journals.{History}
+use Rattle.clv_base.specs.Journals.{History, final_of}
 use Rattle.clv_base.specs.Needs.{live_pairs}
-use Rattle.clv_base.specs.Journals.{final_of}
 use Rattle.clv_base.specs.History.{Legal, Member, IsSettled}
 use Rattle.history_laws.specs.Openings.{LegalFrom}
 use Rattle.history_laws.specs.Continuing.{GoesOn, serial_now, serial_left}

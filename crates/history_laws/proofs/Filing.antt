@@ -229,13 +229,12 @@ answer_names splits s tx from None = tt
 answer_names splits s tx from (Some b) = (tt, tt)
 
 filed_coordinate : (splits : List ℕ) (s : Shard) (tx : TxId) (ts : List (ℕ × ℕ)) → AreShards splits ts → Filed splits s → Filed splits (coordinate tx ts s)
-filed_coordinate splits s tx ts a p =
-    record {
-      here = p.here;
-      log = p.log;
-      out = all_append _ s.outbox (prepares s.shard tx ts) p.out (all_map _ (prepare_for s.shard tx) (filter (λ t. not (t.0 == s.shard)) ts) (λ t. p.here));
-      requests = rows_put (λ r. AreShards splits (r.1).touched) tx (new_request ts Undecided) s.requests a p.requests;
-    }
+filed_coordinate splits s tx ts a p = record {
+  here = p.here;
+  log = p.log;
+  out = all_append _ s.outbox (prepares s.shard tx ts) p.out (all_map _ (prepare_for s.shard tx) (filter (λ t. not (t.0 == s.shard)) ts) (λ t. p.here));
+  requests = rows_put (λ r. AreShards splits (r.1).touched) tx (new_request ts Undecided) s.requests a p.requests;
+}
 
 filed_close : (splits : List ℕ) (s : Shard) (tx : TxId) (home : ℕ) (one : Bool) → home < shard_count splits → Filed splits s → Filed splits (with_local (close_part tx home one) s)
 filed_close splits s tx home one l p = filed_log splits s (close_part tx home one s.local) (closed_pass splits s.shard s.local.log (wrote_in s.local.log tx) one tx home (undecided_of s.local tx) l p.log) p
@@ -271,13 +270,12 @@ filed_happens splits s _ (finishes {t = t} u g) k b p = filed_finish splits t (f
 filed_happens splits s _ (stops u) k b p = record { here = p.here; log = p.log; out = p.out; requests = p.requests }
 
 filed_revived : (splits : List ℕ) (s : Shard) (kept : Bool) (epoch : ℕ) (after : List LogRecord) → Restarts s (log_left s kept) epoch after → Filed splits s → Filed splits (revived s epoch after)
-filed_revived splits s kept epoch after r p =
-    record {
-      here = p.here;
-      log = restarts_pass splits s.shard s (log_left s kept) epoch after r (passes_front splits s.shard _ s.local.log p.log);
-      out = tt;
-      requests = all_map _ (λ n. (n.0, restored_request n.1)) (unended_in after after) (λ n. tt);
-    }
+filed_revived splits s kept epoch after r p = record {
+  here = p.here;
+  log = restarts_pass splits s.shard s (log_left s kept) epoch after r (passes_front splits s.shard _ s.local.log p.log);
+  out = tt;
+  requests = all_map _ (λ n. (n.0, restored_request n.1)) (unended_in after after) (λ n. tt);
+}
 
 filed_made : (splits : List ℕ) (log : List LogRecord) (s t : Shard) {e : Event} {o : Outcome} → Makes log s e o t → OffersBy splits s.shard e o → BringsNames splits e → Filed splits s → Filed splits t
 filed_made splits log s t (by_event g m) k b p = filed_happens splits s t m k b p

@@ -18,7 +18,8 @@ use Rattle.history_cases.proofs.Merging.{Placed, is_among}
 use Rattle.history_cases.proofs.Worlds.{state_at}
 use Rattle.history_cases.proofs.Durability.{Counted, fronts_entry, opened_counted}
 use Rattle.history_laws.specs.Openings.{LegalFrom}
-use Rattle.history_laws.specs.Passing.{pass_file_rules}
+use Rattle.history_laws.specs.Passing.{LogsLeftPass}
+use Rattle.history_laws.proofs.Found.{log_found}
 use Rattle.history_laws.proofs.Walking.{Walked, Steps, walked}
 use Rattle.history_laws.proofs.Offers.{OffersBy, offered}
 use Rattle.history_laws.proofs.Records.{Passes, passes_all, passes_front, all_pass}
@@ -60,8 +61,8 @@ steps splits before after h l pre e w x =
     let c = fronts_entry (log_of after e.0) s e.1 p.1 (x.split).enters in
     (subst (FiledAt splits (pre ++ e ∷ []) e.0) (sym (x.split).next) (c.shard ∙ p.0, c.counted, f), sends_entry splits (log_of after e.0) s e.1 (x.split).enters p.2, (λ n m d q. q))
 
-opens : (splits : List ℕ) (before after : List (List LogRecord)) (h : History) → LegalFrom splits before h after → (n : ℕ) → n < shard_count splits → FiledAt splits [] n (start_of before n)
-opens splits before after h l n i = (refl, opened_counted n (run_after before) (log_of before n), filed_opened splits n (run_after before) (log_of before n) i (found_passes splits before n l.opens (let e = l.legal.each_log.0 in omega (arith, e, i))))
+opens : {splits : List ℕ} {before after : List (List LogRecord)} {h : History} → LegalFrom splits before h after → (n : ℕ) → n < shard_count splits → FiledAt splits [] n (start_of before n)
+opens {splits} {before} l n i = (refl, opened_counted n (run_after before) (log_of before n), filed_opened splits n (run_after before) (log_of before n) i (found_passes splits before n l.opens (log_found l n i)))
 
 -- ---- the logs left
 
@@ -78,7 +79,7 @@ left_from splits finals choice n (suc k) h =
     (all_pass splits (finals n).shard (log_left (finals n) (choice n)) (passes_front splits (finals n).shard _ (finals n).local.log (p.2).log)))
     (left_from splits finals choice (suc n) k (λ m a b. h m (omega (arith, a)) (omega (arith, b))))
 
-pub logs_left_pass : (splits : List ℕ) (before : List (List LogRecord)) (h : History) (after : List (List LogRecord)) (choice : ℕ → Bool) → LegalFrom splits before h after → pass_file_rules splits (logs_left splits before h after choice) ≡ true
+pub logs_left_pass : LogsLeftPass
 logs_left_pass splits before h after choice l =
-    let w = walked (FiledAt splits) (Told splits) splits before after h l.legal (opens splits before after h l) (steps splits before after h l.legal) in
+    let w = walked (FiledAt splits) (Told splits) splits before after h l.legal (opens l) (steps splits before after h l.legal) in
     left_from splits (final_of before h after) choice 0 (shard_count splits) (λ n a b. w.states n (omega (arith, b)))

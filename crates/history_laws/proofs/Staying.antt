@@ -15,7 +15,6 @@ use Rattle.clv_base.specs.declared.events.Outcome.TheVariants.{Answered, Asked, 
 use Rattle.clv_base.specs.declared.events.Entry.{Entry}
 use Rattle.clv_base.specs.Orders.{tx_same, nat_in}
 use Rattle.clv_base.specs.Shards.{shard_count}
-use Rattle.clv_base.specs.FileRules.{may_open}
 use Rattle.clv_base.specs.Logs.{committed_in}
 use Rattle.clv_base.specs.LogRules.{log_of}
 use Rattle.clv_base.specs.Coordinator.{others}
@@ -215,9 +214,9 @@ pub log_now : (splits : List ℕ) (before : List (List LogRecord)) (h : History)
     → log_of (logs_left splits before h after choice) n ≡ log_left (final_of before h after n) (choice n)
 log_now splits before h after choice n l = left_at (final_of before h after) choice 0 (shard_count splits) n l ∙ ap (λ m. log_left (final_of before h after m) (choice m)) (omega arith)
 
-pub member_voted : (splits : List ℕ) (before : List (List LogRecord)) (h : History) (after : List (List LogRecord)) (choice : ℕ → Bool) → LegalFrom splits before h after
-    → (x : Placed) (t : TxId) → Among x h → tx_of (x.1).event ≡ Some t → is_in (logs_left splits before h after choice) h x.0 t ≡ true → Voted h t
-member_voted splits before h after choice l x t i e k =
+pub member_voted : {splits : List ℕ} {before after : List (List LogRecord)} {h : History} → LegalFrom splits before h after → (choice : ℕ → Bool) (x : Placed) (t : TxId)
+    → Among x h → tx_of (x.1).event ≡ Some t → is_in (logs_left splits before h after choice) h x.0 t ≡ true → Voted h t
+member_voted {splits} {before} {after} {h} l choice x t i e k =
     let w = world splits before after h l.opens l.legal in
     let n = in_a_shard splits before after h x l.legal i in
     let r = (walker_of splits before after h x t l.legal i e).0 in
@@ -247,7 +246,7 @@ stays : (splits : List ℕ) (before : List (List LogRecord)) (h : History) (afte
     → Stays (logs_left splits before h after (λ n. false)) h (logs_left splits before h' after' choice) h' x t
 stays splits before h after h' after' choice c s x t i e k =
     let q = is_request t (x.1).event (x.1).outcome e in
-    let v = member_voted splits before h after (λ n. false) c.first x t i (ap tx_of q.1) k in
+    let v = member_voted c.first (λ n. false) x t i (ap tx_of q.1) k in
     let n = in_a_shard splits before after h x c.first.legal i in (
       either (committed_in (log_of (logs_left splits before h after (λ n. false)) x.0) t) (acknowledged_in h t) (committed_in (log_of (logs_left splits before h' after' choice) x.0) t) (acknowledged_in h' t)
           (commit_stays splits before h after h' after' choice c x.0 t n) (any_in (λ e. is_acknowledgement t (e.1).event (e.1).outcome) h h' s) k,

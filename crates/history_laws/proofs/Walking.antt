@@ -63,11 +63,10 @@ Steps S M splits before after h =
 
 next_walked : (S : History → ℕ → Shard → Type 0) (M : Placed → Type 0) (splits : List ℕ) (before after : List (List LogRecord)) (h pre : History) (e : Placed)
     → Walked S M splits before after pre → Steps S M splits before after h → Entry_next splits before after h pre e → Walked S M splits before after (pre ++ e ∷ [])
-next_walked S M splits before after h pre e w k x =
-    record {
-      states = λ n m. at n m (e.0 == n) refl;
-      said = λ y m. ⊎_elim (λ a. w.said y a) (λ b. last y b) (among_append y pre (e ∷ []) m);
-    }
+next_walked S M splits before after h pre e w k x = record {
+  states = λ n m. at n m (e.0 == n) refl;
+  said = λ y m. ⊎_elim (λ a. w.said y a) (λ b. last y b) (among_append y pre (e ∷ []) m);
+}
   where
     at : (n : ℕ) → n < shard_count splits → (b : Bool) → (e.0 == n) ≡ b → S (pre ++ e ∷ []) n (state_at before after n (pre ++ e ∷ []))
     at n m true c = subst (λ j. S (pre ++ e ∷ []) j (state_at before after j (pre ++ e ∷ []))) (eqb-true e.0 n c) (k pre e w x).0
