@@ -6,16 +6,16 @@
 
 mod gaps;
 mod holding;
-mod laws;
 mod list_locks;
 mod locks;
 mod meeting;
 mod part;
 mod range;
 mod rows;
+mod statements;
 
 pub use clv_base::modes::{Mode, Part};
-pub use laws::takes_few_gaps;
 pub use list_locks::ListLocks;
 pub use locks::{Locks, Memory};
 pub use range::{compatible, join, writes};
+pub use statements::takes_few_gaps;

@@ -1,6 +1,7 @@
 // One list of calls over each table.
 
-use crate::{LockAnswer, LockCall, run_calls};
+use crate::lock_running::run_calls;
+use crate::{LockAnswer, LockCall};
 use clv_base::modes::{Anchor, Decision, Holder, Mode, Need, Part};
 use clv_base::names::{Birth, TxId};
 use lock_index::HashedLocks;

@@ -1,6 +1,7 @@
 // One list of calls over each store.
 
-use crate::{StoreAnswer, StoreCall, run_calls};
+use crate::store_running::run_calls;
+use crate::{StoreAnswer, StoreCall};
 use clv_base::modes::{Anchor, Found};
 use ordered_store::{BlockStore, SortedStore, Store};
 use std::alloc::{AllocError, Global};
