@@ -95,7 +95,6 @@ ActsReplay =
 abbrev pub MembersHaveTheirActs : Type 0
 MembersHaveTheirActs =
     (splits : List ℕ) (before : List (List LogRecord)) (h : History) (after : List (List LogRecord)) (choice : ℕ → Bool)
-    → LegalFrom splits before h after
-    → AreDistinct (transactions_of (serial_left splits before h after choice))
+    → LegalFrom splits before h after → AreDistinct (transactions_of (serial_left splits before h after choice))
     × (ops_of_each (transactions_of (serial_left splits before h after choice)) (member_acts splits before h after choice) ≡ serial_ops (serial_left splits before h after choice))
     × (answers_of_each (transactions_of (serial_left splits before h after choice)) (member_acts splits before h after choice) ≡ serial_answers (serial_left splits before h after choice))

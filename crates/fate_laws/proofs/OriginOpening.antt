@@ -10,6 +10,7 @@ use Rattle.clv_base.specs.declared.events.Outcome.TheVariants.{Answered}
 use Rattle.clv_base.specs.declared.events.Entry.{Entry}
 use Rattle.clv_base.specs.Orders.{tx_in}
 use Rattle.clv_base.specs.Logs.{prepared_in, in_doubt}
+use Rattle.clv_base.specs.Shards.{shard_count}
 use Rattle.clv_base.specs.LogRules.{log_of}
 use Rattle.clv_base.specs.FileRules.{may_open}
 use Rattle.clv_base.specs.State.{Shard}
@@ -23,10 +24,11 @@ use Rattle.shard_laws.proofs.Following.{Follows, from_disorder}
 use Rattle.history_cases.proofs.Durability.{Counted, fronts_entry, left_front, restarts_front}
 use Rattle.history_cases.proofs.Entering.{Makes, by_event, by_flush, by_failure, by_restart, makes}
 use Rattle.history_cases.proofs.Merging.{Among}
+use Rattle.history_laws.specs.Openings.{LegalFrom}
 use Rattle.history_laws.proofs.Staying.{walker_of}
 use Rattle.fate_laws.proofs.Entries.{IsOld}
 use Rattle.fate_laws.proofs.Doubted.{Has, AnswersOf, doubt_found, opening_prepares, left_prepares, has_as, has_happens, has_flushed, has_down, has_revived, has_opened}
-use Rattle.history_laws.proofs.Found.{found_in_order}
+use Rattle.history_laws.proofs.Found.{found_in_order, log_found}
 use Rattle.history_laws.proofs.Doubts.{doubt_undecided}
 
 -- of this run, or in doubt in the log found; or prepared in it
@@ -86,12 +88,14 @@ has_made splits before n log s _ m l e c (by_failure i u f) w k = has_down (MayH
 has_made splits before n log s _ m l e c (by_restart epoch kept u r) w k =
     has_revived (MayHave before n) (MayPrepare before n) s kept epoch (up_to_restart s.run epoch log) r (doubted_still splits before n s kept epoch (up_to_restart s.run epoch log) m l e c r k) k.has
 
-pub opened_entry : (splits : List ℕ) (before after : List (List LogRecord)) (h : History) (n : ℕ) (x : Entry) (log : List LogRecord) (s : Shard) → may_open splits before ≡ true → n < length before → Legal splits before h after → Among (n, x) h → s.shard ≡ n → Counted s → MayEnter log s x → Opened before n s
-    → Opened before n (after_entry log s x)
-opened_entry splits before after h n x log s m l q i e c g k =
+pub opened_entry : {splits : List ℕ} {before after : List (List LogRecord)} {h : History} → LegalFrom splits before h after
+    → (n : ℕ) (x : Entry) (log : List LogRecord) (s : Shard) → n < shard_count splits → Among (n, x) h → s.shard ≡ n → Counted s
+    → MayEnter log s x → Opened before n s → Opened before n (after_entry log s x)
+opened_entry {splits} {before} {after} {h} l n x log s below i e c g k =
     let t = event_state log s x.event x.outcome in
     record {
       has = has_as (MayHave before n) (MayPrepare before n) t (after_entry log s x) refl
-          (has_made splits before n log s t m l e c (makes log s x.event x.outcome g.event) (own_op splits before after h n x x.event x.outcome q i refl) k);
+          (has_made splits before n log s t l.opens (log_found l n below) e c (makes log s x.event x.outcome g.event)
+          (own_op splits before after h n x x.event x.outcome l.legal i refl) k);
       begins = chain (log_opened before n) (log_left s false) (log_left (after_entry log s x) false) k.begins (fronts_entry log s x c g).front;
     }

@@ -184,7 +184,7 @@ module _ {splits : List ℕ} {before after : List (List LogRecord)} {h : History
       let t = event_state log s (e.1).event (e.1).outcome in
       let k = w.states e.0 x.below in
       let g = traced_steps splits before after h l.legal pre e (of_traced splits before after h pre w) x in
-      let o = opened_entry splits before after h e.0 e.1 log s l.opens (log_found l e.0 x.below) l.legal (x.behind).here (x.split).shard (k.traced).counted (x.split).enters k.opened in
+      let o = opened_entry l e.0 e.1 log s x.below (x.behind).here (x.split).shard (k.traced).counted (x.split).enters k.opened in
       let d = tied_made splits before after h pre e.0 e.1 log s t l.legal x.behind x.below k.traced k.opened refl (makes log s (e.1).event (e.1).outcome ((x.split).enters).event)
       (tied_mono (Earlier splits before pre) (Earlier splits before (pre ++ e ∷ [])) s (earlier_more splits before h pre e x.behind) k.tied) in (
         record {

@@ -42,5 +42,4 @@ EarlierAbortsAreKnown =
 abbrev pub AbortsStay : Type 0
 AbortsStay =
     (splits : List ℕ) (before : List (List LogRecord)) (h : History) (after : List (List LogRecord)) (choice : ℕ → Bool) (n : ℕ) (tx : TxId)
-    → LegalFrom splits before h after → n < shard_count splits
-    → IsTold h tx false → is_left splits before h after choice n tx ≡ false
+    → LegalFrom splits before h after → n < shard_count splits → IsTold h tx false → is_left splits before h after choice n tx ≡ false

@@ -11,6 +11,4 @@ use Rattle.history_laws.specs.Openings.{LegalFrom}
 abbrev pub LogsLeftAreInOrder : Type 0
 LogsLeftAreInOrder =
     (splits : List ℕ) (before : List (List LogRecord)) (h : History) (after : List (List LogRecord)) (choice : ℕ → Bool) (n : ℕ)
-    → LegalFrom splits before h after
-    → n < shard_count splits
-    → disorder n (log_of (logs_left splits before h after choice) n) ≡ None
+    → LegalFrom splits before h after → n < shard_count splits → disorder n (log_of (logs_left splits before h after choice) n) ≡ None

@@ -13,6 +13,5 @@ use Rattle.history_laws.specs.Openings.{LegalFrom}
 abbrev pub QuietShardsAreTheirMaps : Type 0
 QuietShardsAreTheirMaps =
     (splits : List ℕ) (before : List (List LogRecord)) (h : History) (after : List (List LogRecord)) (choice : ℕ → Bool) (n : ℕ)
-    → LegalFrom splits before h after
-    → n < shard_count splits → IsQuiet (final_of before h after n)
+    → LegalFrom splits before h after → n < shard_count splits → IsQuiet (final_of before h after n)
     → live_pairs (final_of before h after n).local.records ≡ stands (log_of (logs_left splits before h after choice) n ∷ [])

@@ -59,8 +59,7 @@ AcknowledgementsHaveRequests =
 abbrev pub AcknowledgedNeverFellAtHome : Type 0
 AcknowledgedNeverFellAtHome =
     (splits : List ℕ) (before : List (List LogRecord)) (h : History) (after : List (List LogRecord)) (home : ℕ) (t : TxId)
-    → LegalFrom splits before h after
-    → acknowledged_in h t ≡ true → IsHome h t home → Fell before h after home t → ⊥
+    → LegalFrom splits before h after → acknowledged_in h t ≡ true → IsHome h t home → Fell before h after home t → ⊥
 
 -- and it is a member, whatever a crash keeps
 abbrev pub AcknowledgedAreMembers : Type 0

@@ -15,8 +15,7 @@ use Rattle.history_laws.specs.Continuing.{serial_left}
 abbrev pub LogsAtTheEndMayBeOpened : Type 0
 LogsAtTheEndMayBeOpened =
     (splits : List ℕ) (before : List (List LogRecord)) (h : History) (after : List (List LogRecord))
-    → LegalFrom splits before h after
-    → may_open splits after ≡ true
+    → LegalFrom splits before h after → may_open splits after ≡ true
 
 -- the logs at the end and those that a crash leaves tell the same: the map, the members, and on each shard who is committed
 pub record TellTheSame (splits : List ℕ) (before : List (List LogRecord)) (h : History) (after : List (List LogRecord)) (choice : ℕ → Bool) : Type 0 where
@@ -28,5 +27,4 @@ pub record TellTheSame (splits : List ℕ) (before : List (List LogRecord)) (h :
 abbrev pub LogsAtTheEndAreWhatIsLeft : Type 0
 LogsAtTheEndAreWhatIsLeft =
     (splits : List ℕ) (before : List (List LogRecord)) (h : History) (after : List (List LogRecord))
-    → LegalFrom splits before h after
-    → (choice : ℕ → Bool) × TellTheSame splits before h after choice
+    → LegalFrom splits before h after → (choice : ℕ → Bool) × TellTheSame splits before h after choice

@@ -11,12 +11,10 @@ use Rattle.history_laws.specs.Openings.{LegalFrom}
 abbrev pub LogsLeftAgree : Type 0
 LogsLeftAgree =
     (splits : List ℕ) (before : List (List LogRecord)) (h : History) (after : List (List LogRecord)) (choice : ℕ → Bool)
-    → LegalFrom splits before h after
-    → apart (logs_left splits before h after choice) ≡ None
+    → LegalFrom splits before h after → apart (logs_left splits before h after choice) ≡ None
 
 -- so they may be opened again
 abbrev pub LogsLeftMayBeOpened : Type 0
 LogsLeftMayBeOpened =
     (splits : List ℕ) (before : List (List LogRecord)) (h : History) (after : List (List LogRecord)) (choice : ℕ → Bool)
-    → LegalFrom splits before h after
-    → may_open splits (logs_left splits before h after choice) ≡ true
+    → LegalFrom splits before h after → may_open splits (logs_left splits before h after choice) ≡ true

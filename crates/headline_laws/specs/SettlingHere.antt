@@ -29,15 +29,12 @@ live_pairs_of_all splits before h after = in_turn (λ n. live_pairs (final_of be
 abbrev pub SettledIsTheMapWhereReadersWroteNothing : Type 0
 SettledIsTheMapWhereReadersWroteNothing =
     (splits : List ℕ) (before : List (List LogRecord)) (h : History) (after : List (List LogRecord)) (choice : ℕ → Bool)
-    → LegalFrom splits before h after
-    → ReadersWroteNothing splits before h after
-    → IsSettled splits before h after
+    → LegalFrom splits before h after → ReadersWroteNothing splits before h after → IsSettled splits before h after
     → live_pairs_of_all splits before h after ≡ stands (logs_left splits before h after choice)
 
 -- where a history is settled, nothing is in doubt in what is left, whatever a crash would keep: the next opening finds nothing in doubt
 abbrev pub SettledOpensClear : Type 0
 SettledOpensClear =
     (splits : List ℕ) (before : List (List LogRecord)) (h : History) (after : List (List LogRecord)) (choice : ℕ → Bool) (n : ℕ)
-    → LegalFrom splits before h after
-    → IsSettled splits before h after → n < shard_count splits
+    → LegalFrom splits before h after → IsSettled splits before h after → n < shard_count splits
     → in_doubt n (log_of (logs_left splits before h after choice) n) ≡ []

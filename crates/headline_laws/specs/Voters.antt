@@ -25,8 +25,7 @@ WasVoted h home tx m vote = (k : ℕ) × (x : Entry) × IsAmong k x h × (x.outc
 abbrev pub PartsAreTheYesVoters : Type 0
 PartsAreTheYesVoters =
     (splits : List ℕ) (before : List (List LogRecord)) (h : History) (after : List (List LogRecord)) (choice : ℕ → Bool) (m home : ℕ) (e : Entry) (touched : List (ℕ × ℕ)) (tx : TxId) (parts : List ℕ)
-    → LegalFrom splits before h after
-    → IsAmong home e h → e.event ≡ RequestEvent tx touched → e.outcome ≡ Asked
+    → LegalFrom splits before h after → IsAmong home e h → e.event ≡ RequestEvent tx touched → e.outcome ≡ Asked
     → commit_parts (log_of (logs_left splits before h after choice) home) tx ≡ Some parts
     → (nat_in m parts ≡ true → (nat_in m (others home touched) ≡ true) × WasVoted h home tx m Yes)
     × (nat_in m (others home touched) ≡ true → nat_in m parts ≡ false → WasVoted h home tx m Read)
