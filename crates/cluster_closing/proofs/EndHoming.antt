@@ -24,9 +24,10 @@ use Rattle.machine_laws.specs.Gates.{is_gate_away}
 use Rattle.machine_laws.proofs.Laws.{framed_finish, does_calm, entries_append, taker_append}
 use Rattle.cluster_turns.specs.declared.shards.Walker.{Walker}
 use Rattle.cluster_closing.specs.Landed.{HasLanded}
-use Rattle.cluster_closing.proofs.Landing.{by_append, others_take}
+use Rattle.cluster_closing.proofs.Landing.{others_take}
 use Rattle.cluster_closing.specs.Ending.{ClosedAt, HasPassAt, seen_of, own_notes}
 use Rattle.cluster_closing.specs.Home.{GatesComeHome}
+use Rattle.cluster_turns.proofs.Laws.{by_append}
 
 -- ---- while records are in flight somebody has the gate
 

@@ -18,7 +18,7 @@ use Rattle.machine_laws.specs.Gates.{GateStands}
 use Rattle.machine_laws.proofs.Laws.{held_rests, gate_of_down}
 use Rattle.cluster_turns.specs.declared.shards.Walker.{Walker}
 use Rattle.cluster_closing.specs.Landed.{HasLanded}
-use Rattle.cluster_closing.proofs.Landing.{by_append}
+use Rattle.cluster_turns.proofs.Laws.{by_append}
 use Rattle.cluster_closing.specs.Ending.{ClosedAt, seen_of, own_notes, origin_of}
 use Rattle.cluster_closing.specs.Home.{IsThere}
 use Rattle.cluster_closing.proofs.EndHoming.{gates_come_home, Has, find, first_of, rest_none}

@@ -35,17 +35,9 @@ use Rattle.cluster_turns.specs.declared.tending.DrainError.{DrainError}
 use Rattle.cluster_turns.specs.Rounds.{Rounds, no_turn, flushes, carries, reminds, looks, Refused, no_flush, no_message, no_reminder, DrainTold}
 use Rattle.cluster_closing.specs.Landed.{EachPass, HasOwn, IsHome, HasLanded}
 use Rattle.clv_base.proofs.Folding.{eq_self as self}
+use Rattle.cluster_turns.proofs.Laws.{by_append}
 
 -- ---- notes of one walker among others'
-
-pub by_append : (w : ℕ) (xs ys : List Note) → entries_by noter w (xs ++ ys) ≡ entries_by noter w xs ++ entries_by noter w ys
-by_append w [] ys = refl
-by_append w (x ∷ xs) ys = at (noter x == w) (by_append w xs ys)
-  where
-    at : (b : Bool) → entries_by noter w (xs ++ ys) ≡ entries_by noter w xs ++ entries_by noter w ys
-        → cond b (x ∷ entries_by noter w (xs ++ ys)) (entries_by noter w (xs ++ ys)) ≡ cond b (x ∷ entries_by noter w xs) (entries_by noter w xs) ++ entries_by noter w ys
-    at true h = ap (λ l. x ∷ l) h
-    at false h = h
 
 takes_not : (t : Option ℕ) (w v : ℕ) (e : Event) → (v == w) ≡ false → is_taker t w ≡ false → is_taker (taker_after t v e) w ≡ false
 takes_not t w v FlushOut d h = d

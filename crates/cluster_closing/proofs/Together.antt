@@ -16,7 +16,6 @@ use Rattle.turn_lock.specs.Journals.{entries_by}
 use Rattle.turn_lock.specs.declared.pass.Pass.{Pass}
 use Rattle.turn_lock.specs.Passes.{pass_origin}
 use Rattle.machine_laws.specs.declared.notes.Note.{Note}
-use Rattle.machine_laws.specs.declared.notes.Note.TheVariants.{Made, Fetched}
 use Rattle.machine_laws.specs.declared.notes.Origin.{Origin}
 use Rattle.machine_laws.specs.Notes.{noter, told}
 use Rattle.machine_laws.specs.Homes.{start, state_of, entries_in, IsLegal}
@@ -24,25 +23,10 @@ use Rattle.machine_laws.proofs.Laws.{views_are_legal, notes_are_runs, walkers_be
 use Rattle.cluster_turns.specs.declared.shards.Shards.{Shards}
 use Rattle.cluster_turns.specs.declared.shards.Walker.{Walker}
 use Rattle.cluster_turns.specs.Walkers.{IsOriginAt, IsWalker, own_lists, kept, founds_of}
-use Rattle.cluster_turns.proofs.Laws.{some_inj}
+use Rattle.cluster_turns.proofs.Laws.{some_inj, by_notes}
 use Rattle.cluster_closing.specs.Ending.{ClosedAt, own_notes, origin_of}
 use Rattle.cluster_closing.specs.Legal.{AreShards, state_at, views_of}
 use Rattle.law_base.proofs.Lists.{elem_at as some_elem, some_at}
-
--- a walker's entries of notes
-shared_by : (w : ℕ) (ns : List Note) → by_walker w (entries_in ns) ≡ entries_in (entries_by noter w ns)
-shared_by w [] = refl
-shared_by w (Made e log ∷ ns) = at (e.walker == w) (shared_by w ns)
-  where
-    at : (b : Bool) → by_walker w (entries_in ns) ≡ entries_in (entries_by noter w ns)
-        → cond b (e ∷ by_walker w (entries_in ns)) (by_walker w (entries_in ns)) ≡ entries_in (cond b (Made e log ∷ entries_by noter w ns) (entries_by noter w ns))
-    at true h = ap (λ l. e ∷ l) h
-    at false h = h
-shared_by w (Fetched v ∷ ns) = at (v == w) (shared_by w ns)
-  where
-    at : (b : Bool) → by_walker w (entries_in ns) ≡ entries_in (entries_by noter w ns) → by_walker w (entries_in ns) ≡ entries_in (cond b (Fetched v ∷ entries_by noter w ns) (entries_by noter w ns))
-    at true h = h
-    at false h = h
 
 pub map_at : {X : Type 0} (f : X → List Entry) (xs : List X) (n : ℕ) (d : X) → n < length xs → journal_at (map f xs) n ≡ f (get_or xs n d)
 map_at f [] n d l = absurd (omega arith)
@@ -66,7 +50,7 @@ module _ {M S G : Type 0} where
   -- a number's own entries on a shard are those that its walker kept there
   shared : (vs : List (Walker M S G)) (w n : ℕ) (notes : List Note) → ((k : ℕ) (d : Walker M S G) → k < length vs → entries_by noter (get_or vs k d).number notes ≡ own_notes (get_or (get_or vs k d).passes.items n None))
       → (((k : ℕ) (d : Walker M S G) → k < length vs → (get_or vs k d).number ≢ w) → entries_by noter w notes ≡ []) → by_walker w (entries_in notes) ≡ journal_at (views_of vs w) n
-  shared [] w n notes each none = shared_by w notes ∙ ap entries_in (none (λ k d l. absurd (omega arith)))
+  shared [] w n notes each none = by_notes w notes ∙ ap entries_in (none (λ k d l. absurd (omega arith)))
   shared (v ∷ vs) w n notes each none = at (v.number == w) refl (λ h. shared vs w n notes (λ k d l. each (suc k) d (omega arith)) h)
     where
       skip : (v.number == w) ≡ false → ((k : ℕ) (d : Walker M S G) → k < length vs → (get_or vs k d).number ≢ w) → (k : ℕ) (d : Walker M S G) → k < length (v ∷ vs) → (get_or (v ∷ vs) k d).number ≢ w
@@ -75,7 +59,7 @@ module _ {M S G : Type 0} where
 
       at : (b : Bool) → (v.number == w) ≡ b → ((((k : ℕ) (d : Walker M S G) → k < length vs → (get_or vs k d).number ≢ w) → entries_by noter w notes ≡ []) → by_walker w (entries_in notes) ≡ journal_at (views_of vs w) n)
           → by_walker w (entries_in notes) ≡ journal_at (cond b (own_lists v.passes.items) (views_of vs w)) n
-      at true q rest = shared_by w notes ∙ ap (λ m. entries_in (entries_by noter m notes)) (sym (eqb-true v.number w q)) ∙ ap entries_in (each 0 v (omega arith)) ∙ sym (at_own v.passes.items n)
+      at true q rest = by_notes w notes ∙ ap (λ m. entries_in (entries_by noter m notes)) (sym (eqb-true v.number w q)) ∙ ap entries_in (each 0 v (omega arith)) ∙ sym (at_own v.passes.items n)
       at false q rest = rest (λ h. none (skip q h))
 
   keeps : (sh : Shards M S G) (vs : List (Walker M S G)) (w : ℕ) → ((k : ℕ) (d : Walker M S G) → k < length vs → IsWalker sh (get_or vs k d)) → WalkerKeeps sh.splits (run_after (founds_of sh)) w (entries_of (views_of vs w))

@@ -43,7 +43,7 @@ module _ {T : Type 0} where
 
 -- ---- notes of a number
 
-by_append : (w : ℕ) (xs ys : List Note) → entries_by noter w (xs ++ ys) ≡ entries_by noter w xs ++ entries_by noter w ys
+pub by_append : (w : ℕ) (xs ys : List Note) → entries_by noter w (xs ++ ys) ≡ entries_by noter w xs ++ entries_by noter w ys
 by_append w [] ys = refl
 by_append w (x ∷ xs) ys = at (noter x == w) (by_append w xs ys)
   where

@@ -29,7 +29,7 @@ is_less a b true eq l h = ltb-true a b l
 is_less a b false true l h = absurd (both_ways false refl h)
 is_less a b false false l h = absurd (both_ways false refl h)
 
-before_of : (a b : Placed) → comes_before a b ≡ true → Before a b
+pub before_of : (a b : Placed) → comes_before a b ≡ true → Before a b
 before_of a b h =
     ⊎_elim (λ l. inl l) (λ p. inr (p.0, is_less a.0 b.0 (nat_lt a.0 b.0) (a.0 == b.0) refl p.1))
     (cmp_less (a.1).stamp (b.1).stamp (nat_lt (a.1).stamp (b.1).stamp) ((a.1).stamp == (b.1).stamp) (nat_cmp a.0 b.0) refl refl h)
@@ -60,7 +60,7 @@ abbrev pub InOrder : History → Type 0
 InOrder [] = Unit {0}
 InOrder (e ∷ es) = AllByRecursion (Before e) es × InOrder es
 
-all_after : (e f : Placed) (es : History) → Before e f → AllByRecursion (Before f) es → AllByRecursion (Before e) es
+pub all_after : (e f : Placed) (es : History) → Before e f → AllByRecursion (Before f) es → AllByRecursion (Before e) es
 all_after e f [] b a = tt
 all_after e f (g ∷ gs) b a = (before_then e f g b a.0, all_after e f gs b a.1)
 

@@ -29,10 +29,10 @@ use Rattle.clv_base.specs.Needs.{needs_of}
 use Rattle.clv_base.specs.State.{Local, Shard, with_local, is_present}
 use Rattle.clv_base.specs.Undo.{stage_of}
 use Rattle.clv_base.specs.Facts.{facts_of, has_durable_commit}
-use Rattle.clv_base.specs.Participant.{vote_by, taken_by}
+use Rattle.clv_base.specs.Participant.{taken_by}
 use Rattle.clv_base.specs.Coordinator.{takes_vote, takes_done, ruling_by}
 use Rattle.clv_base.specs.OneShard.{OpReply, OpWaits, OpCrowded, OpDies, OpAnswers, seen_fits, op_reply, op_seen, op_by_stage, op_active, op_decided, op_granted, rolled_back_if, without_part, drop_part}
-use Rattle.clv_base.specs.Due.{or_else, with_commit_done, commit_due, give_vote, vote_due, rule, request_due, due_of, first_due, known_txs, next_due, do_due, work}
+use Rattle.clv_base.specs.Due.{with_commit_done, due_of, do_due, work, finish_reader, with_vote, do_ruling, with_ruling}
 use Rattle.clv_base.specs.Events.{Reply, QuietBeforeWorn, QuietAfterWorn, Does, finish, op_event, epoch_in, request_by_stage, request_event, look_lost, look_state, look_known, request_epoch, drop_event, on_prepare, on_vote, decided, on_decide, on_done, on_message, to_of, send_event, reminders, remind_with, out_event, taken, landed, happen_up, happen}
 use Rattle.clv_base.specs.declared.logs.LogRecord.{LogRecord}
 use Rattle.clv_base.specs.declared.logs.LogRecord.TheVariants.{Commit as CommitRecord, End as EndRecord}
@@ -57,6 +57,7 @@ use Rattle.machine_laws.proofs.Rows.{get_passes, put_passes, set_passes}
 use Rattle.protocol_laws.proofs.Laws.{operations_keep, closings_keep, aborts_keep, drops_keep, ends_keep, records_keep, purges_keep}
 use Rattle.law_base.proofs.Names.{by_state}
 use Rattle.law_base.proofs.Bools.{and_three as three}
+use Rattle.protocol_laws.proofs.DueCases.{IfDue, due_holds, do_holds}
 
 -- ---- messages
 
@@ -171,20 +172,6 @@ record Next (s t : Shard) : Type 0 where
   grows : length s.local.log ≤ length t.local.log
   named : IsShort t.local → IsNamed s → IsNamed t
 
-NextBy : Shard → Option Shard → Type 0
-NextBy s None = Unit {0}
-NextBy s (Some t) = Next s t
-
-next_if : (s t : Shard) (b : Bool) → Next s t → NextBy s (cond b (Some t) None)
-unfolding NextBy
-next_if s t true h = h
-next_if s t false h = tt
-
-next_or : (s : Shard) (x y : Option Shard) → NextBy s x → NextBy s y → NextBy s (or_else x y)
-unfolding NextBy
-next_or s None y p q = q
-next_or s (Some t) y p q = p
-
 commit_says : (s : Shard) (tx : TxId) (q : Option Request) (v : Option Voter) → tx_get tx s.requests ≡ q → tx_get tx s.voters ≡ v → IsFitting s → list_all message_fits (commit_messages s tx q v) ≡ true
 commit_says s tx (Some q) v e d f = let r = request_at s tx q f e in at q.state r.parts r.name
   where
@@ -196,20 +183,14 @@ commit_says s tx (Some q) v e d f = let r = request_at s tx q f e in at q.state 
 commit_says s tx None (Some v) e d f = let r = voter_at s tx v f d in and_from _ _ (and_from _ _ (and_from _ _ r.name r.home) f.shard) refl
 commit_says s tx None None e d f = refl
 
-commit_next : (s : Shard) (tx : TxId) (st : Option Stage) → NextBy s (commit_due s tx st)
-unfolding NextBy
-commit_next s tx None = tt
-commit_next s tx (Some Active) = tt
-commit_next s tx (Some Closed) =
-    next_if s (with_commit_done s tx) (has_durable_commit (facts_of s tx))
-    (record {
-      grows = omega arith;
-      named = λ short n. record {
-        fitting = more_messages (finish_part tx s) _ (commit_says s tx (tx_get tx s.requests) (tx_get tx s.voters) refl refl n.fitting) (other_local s _ n.fitting);
-        spelled = ends_keep (tx ∷ []) None s.local n.spelled;
-      };
-    })
-commit_next s tx (Some (Gone d)) = tt
+commit_next : (s : Shard) (tx : TxId) → Next s (with_commit_done s tx)
+commit_next s tx = record {
+  grows = omega arith;
+  named = λ short n. record {
+    fitting = more_messages (finish_part tx s) _ (commit_says s tx (tx_get tx s.requests) (tx_get tx s.voters) refl refl n.fitting) (other_local s _ n.fitting);
+    spelled = ends_keep (tx ∷ []) None s.local n.spelled;
+  };
+}
 
 voted_fits : (s : Shard) (tx : TxId) (v : Voter) (vote : Vote) → tx_get tx s.voters ≡ Some v → IsFitting s → IsFitting (with_vote s tx v vote)
 voted_fits s tx v vote e f =
@@ -217,18 +198,11 @@ voted_fits s tx v vote e f =
     more_messages _ (VoteMessage v.home tx s.shard vote ∷ []) (and_from _ _ (and_from _ _ (and_from _ _ r.name r.home) f.shard) refl)
     (other_voters s (tx_set tx (voted vote v) s.voters) (set_passes voter_fits tx (voted vote v) s.voters (and_from _ _ r.name r.home) f.voters) f)
 
-give_next : (s : Shard) (tx : TxId) (v : Voter) (o : Option Vote) → tx_get tx s.voters ≡ Some v → NextBy s (give_vote s tx v o)
-unfolding NextBy
-give_next s tx v None e = tt
-give_next s tx v (Some Yes) e = record { grows = omega arith; named = λ short n. record { fitting = voted_fits s tx v Yes e n.fitting; spelled = n.spelled } }
-give_next s tx v (Some Read) e =
+give_next : (s : Shard) (tx : TxId) (v : Voter) (x : Vote) → tx_get tx s.voters ≡ Some v → Next s (finish_reader tx x (with_vote s tx v x))
+give_next s tx v Yes e = record { grows = omega arith; named = λ short n. record { fitting = voted_fits s tx v Yes e n.fitting; spelled = n.spelled } }
+give_next s tx v Read e =
     record { grows = omega arith; named = λ short n. record { fitting = other_local _ _ (voted_fits s tx v Read e n.fitting); spelled = ends_keep (tx ∷ []) None s.local n.spelled } }
-give_next s tx v (Some (No why)) e = record { grows = omega arith; named = λ short n. record { fitting = voted_fits s tx v (No why) e n.fitting; spelled = n.spelled } }
-
-vote_next : (s : Shard) (tx : TxId) (o : Option Voter) → tx_get tx s.voters ≡ o → NextBy s (vote_due s tx o)
-unfolding NextBy
-vote_next s tx None e = tt
-vote_next s tx (Some v) e = give_next s tx v (vote_by (facts_of s tx) v) e
+give_next s tx v (No why) e = record { grows = omega arith; named = λ short n. record { fitting = voted_fits s tx v (No why) e n.fitting; spelled = n.spelled } }
 
 -- the request with its ruling
 ruled_fits : (s : Shard) (tx : TxId) (q : Request) (ruling : Ruling) → RequestFits tx q → list_all (λ p. nat_lt p 16) (parts_of (ruled_request ruling q).state) ≡ true
@@ -243,10 +217,9 @@ longer xs ys = let a = length-append xs ys in omega (arith, a)
 longer_twice : (xs ys zs : List LogRecord) → length xs ≤ length (xs ++ ys ++ zs)
 longer_twice xs ys zs = let a = longer xs ys in let b = longer (xs ++ ys) zs in omega (arith, a, b)
 
-rule_next : (s : Shard) (tx : TxId) (q : Request) (o : Option Ruling) → (IsFitting s → RequestFits tx q) → (IsFitting s → RulingFits o) → NextBy s (rule s tx q o)
-unfolding NextBy RulingFits
-rule_next s tx q None is fits = tt
-rule_next s tx q (Some (CommitVerdict parts)) is fits =
+rule_next : (s : Shard) (tx : TxId) (q : Request) (r : Ruling) → (IsFitting s → RequestFits tx q) → (IsFitting s → RulingFits (Some r)) → Next s (do_ruling tx r (with_ruling tx q r s))
+unfolding RulingFits
+rule_next s tx q (CommitVerdict parts) is fits =
     record {
       grows = longer s.local.log (CommitRecord tx parts ∷ []);
       named = λ short n. let r = is n.fitting in let g = fits n.fitting in record {
@@ -254,9 +227,9 @@ rule_next s tx q (Some (CommitVerdict parts)) is fits =
         spelled = records_keep (CommitRecord tx parts ∷ []) s.local (and_from _ _ (and_from _ _ (and_from _ _ (and_from _ _ r.name g.few) g.low) g.rise) refl) n.spelled;
       };
     }
-rule_next s tx q (Some Acknowledge) is fits =
+rule_next s tx q Acknowledge is fits =
     record { grows = omega arith; named = λ short n. let r = is n.fitting in let g = fits n.fitting in record { fitting = other_local _ _ (ruled_fits s tx q Acknowledge r refl refl n.fitting); spelled = ends_keep (tx ∷ []) None s.local n.spelled } }
-rule_next s tx q (Some (AbortVerdict cause to)) is fits =
+rule_next s tx q (AbortVerdict cause to) is fits =
     record {
       grows = longer_twice s.local.log _ _;
       named = λ short n. let r = is n.fitting in let g = fits n.fitting in record {
@@ -267,7 +240,7 @@ rule_next s tx q (Some (AbortVerdict cause to)) is fits =
   where
     shorter : (xs ys : List LogRecord) → length xs ≤ length ys → length ys < 2 ^ 64 → length xs < 2 ^ 64
     shorter xs ys h k = omega (arith, h, k)
-rule_next s tx q (Some EndVerdict) is fits =
+rule_next s tx q EndVerdict is fits =
     record {
       grows = longer s.local.log (EndRecord tx ∷ []);
       named = λ short n. let r = is n.fitting in let g = fits n.fitting in record {
@@ -276,25 +249,10 @@ rule_next s tx q (Some EndVerdict) is fits =
       };
     }
 
-request_next : (s : Shard) (tx : TxId) (o : Option Request) → tx_get tx s.requests ≡ o → NextBy s (request_due s tx o)
-unfolding NextBy
-request_next s tx None e = tt
-request_next s tx (Some q) e =
-    rule_next s tx q (ruling_by s.shard tx q (facts_of s tx)) (λ f. request_at s tx q f e) (λ f. ruling_fits s.shard tx q (facts_of s tx) f.shard (request_at s tx q f e))
-
-due_next : (s : Shard) (tx : TxId) → NextBy s (due_of s tx)
+due_next : (s : Shard) (tx : TxId) → IfDue (Next s) (due_of s tx)
 due_next s tx =
-    next_or s (commit_due s tx (stage_of s.local tx)) (or_else (vote_due s tx (tx_get tx s.voters)) (request_due s tx (tx_get tx s.requests))) (commit_next s tx (stage_of s.local tx))
-    (next_or s (vote_due s tx (tx_get tx s.voters)) (request_due s tx (tx_get tx s.requests)) (vote_next s tx (tx_get tx s.voters) refl) (request_next s tx (tx_get tx s.requests) refl))
-
-first_next : (s : Shard) (txs : List TxId) → NextBy s (first_due s txs)
-unfolding NextBy
-first_next s [] = tt
-first_next s (tx ∷ txs) = at (due_of s tx) (due_next s tx) (first_next s txs)
-  where
-    at : (o : Option Shard) → NextBy s o → NextBy s (first_due s txs) → NextBy s (elim o [ Some t ↦ Some t | None ↦ first_due s txs ])
-    at (Some t) k more = k
-    at None k more = more
+    due_holds (Next s) s tx (λ e. commit_next s tx) (λ v x e f. give_next s tx v x e)
+    (λ q r e f. rule_next s tx q r (λ g. request_at s tx q g e) (λ g. subst RulingFits f (ruling_fits s.shard tx q (facts_of s tx) g.shard (request_at s tx q g e))))
 
 chain : (s t u : Shard) → Next s t → Next t u → Next s u
 chain s t u p q = let a = p.grows in let b = q.grows in record {
@@ -306,13 +264,7 @@ chain s t u p q = let a = p.grows in let b = q.grows in record {
     shorter t u h k = omega (arith, h, k)
 
 do_next : (n : ℕ) (s : Shard) → Next s (do_due n s)
-unfolding NextBy
-do_next zero s = record { grows = omega arith; named = λ short n. n }
-do_next (suc n) s = at (next_due s) (first_next s (known_txs s)) (do_next n)
-  where
-    at : (o : Option Shard) → NextBy s o → ((t : Shard) → Next t (do_due n t)) → Next s (elim o [ Some t ↦ do_due n t | None ↦ s ])
-    at (Some t) k more = chain s t (do_due n t) k (more t)
-    at None k more = record { grows = omega arith; named = λ short n. n }
+do_next = do_holds Next (λ s. record { grows = omega arith; named = λ short n. n }) chain due_next
 
 pub finishes_keep_names : FinishesKeepNames
 finishes_keep_names s short n =

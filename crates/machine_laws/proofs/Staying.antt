@@ -1,5 +1,5 @@
 -- The shard's number and what is in flight, through what is due and through each event.
-use Rattle.std.proofs.Common.{◌≡◌, refl, ◌∙◌, subst, ℕ, zero, suc, Bool, true, false, cond, ◌==◌, List, [], ◌∷◌, Option, Some, None}
+use Rattle.std.proofs.Common.{◌≡◌, refl, ◌∙◌, subst, ℕ, Bool, true, false, cond, ◌==◌, List, [], ◌∷◌, Option, Some, None}
 use Rattle.std.proofs.lemmas.Bool.{both_ways}
 use Rattle.clv_base.specs.declared.names.TxId.{TxId}
 use Rattle.clv_base.specs.declared.causes.Vote.{Vote}
@@ -23,16 +23,17 @@ use Rattle.clv_base.specs.Logs.{committed_in}
 use Rattle.clv_base.specs.State.{Shard, with_local}
 use Rattle.clv_base.specs.Undo.{stage_of}
 use Rattle.clv_base.specs.Facts.{facts_of, has_durable_commit}
-use Rattle.clv_base.specs.Participant.{vote_by, taken_by}
-use Rattle.clv_base.specs.Coordinator.{takes_vote, takes_done, ruling_by}
+use Rattle.clv_base.specs.Participant.{taken_by}
+use Rattle.clv_base.specs.Coordinator.{takes_vote, takes_done}
 use Rattle.clv_base.specs.OneShard.{OpReply, OpWaits, OpCrowded, OpDies, OpAnswers, seen_fits, op_reply, drop_part}
-use Rattle.clv_base.specs.Due.{or_else, with_commit_done, commit_due, give_vote, vote_due, rule, request_due, due_of, first_due, known_txs, next_due, do_due, work}
+use Rattle.clv_base.specs.Due.{due_of, do_due, work, finish_reader, with_vote, do_ruling, with_ruling}
 use Rattle.clv_base.specs.Events.{Reply, QuietBeforeWorn, QuietAfterWorn, Does, finish, op_event, epoch_in, request_by_stage, request_event, look_lost, look_state, look_known, request_epoch, drop_event, on_prepare, on_vote, decided, on_decide, on_done, on_message, to_of, send_event, reminders, remind_with, happen_up}
 use Rattle.clv_base.specs.Coordinator.{others, ask_answer}
 use Rattle.clv_base.specs.OneShard.{close_part}
 use Rattle.clv_base.specs.Due.{send}
 use Rattle.clv_base.specs.Events.{is_alone, coordinate, owe_vote, with_votes, with_done, with_outbox, ask_messages}
 use Rattle.machine_laws.specs.Frame.{FinishesStay, EventsStay, is_grounded}
+use Rattle.protocol_laws.proofs.DueCases.{IfDue, due_holds, do_holds}
 
 -- the same number, and the same in flight
 record Stays (s t : Shard) : Type 0 where
@@ -47,74 +48,22 @@ chain s t u p q = record { number = q.number ∙ p.number; flight = q.flight ∙
 
 -- ---- what is due
 
-StaysBy : Shard → Option Shard → Type 0
-StaysBy s None = Unit {0}
-StaysBy s (Some t) = Stays s t
+vote_stays : (s : Shard) (tx : TxId) (v : Voter) (x : Vote) → Stays s (finish_reader tx x (with_vote s tx v x))
+vote_stays s tx v Yes = record { number = refl; flight = refl }
+vote_stays s tx v Read = record { number = refl; flight = refl }
+vote_stays s tx v (No why) = record { number = refl; flight = refl }
 
-stays_if : (s t : Shard) (b : Bool) → Stays s t → StaysBy s (cond b (Some t) None)
-unfolding StaysBy
-stays_if s t true h = h
-stays_if s t false h = tt
+rule_stays : (s : Shard) (tx : TxId) (q : Request) (r : Ruling) → Stays s (do_ruling tx r (with_ruling tx q r s))
+rule_stays s tx q (CommitVerdict parts) = record { number = refl; flight = refl }
+rule_stays s tx q Acknowledge = record { number = refl; flight = refl }
+rule_stays s tx q (AbortVerdict cause to) = record { number = refl; flight = refl }
+rule_stays s tx q EndVerdict = record { number = refl; flight = refl }
 
-stays_or : (s : Shard) (x y : Option Shard) → StaysBy s x → StaysBy s y → StaysBy s (or_else x y)
-unfolding StaysBy
-stays_or s None y p q = q
-stays_or s (Some t) y p q = p
-
-commit_stays : (s : Shard) (tx : TxId) (st : Option Stage) → StaysBy s (commit_due s tx st)
-unfolding StaysBy
-commit_stays s tx None = tt
-commit_stays s tx (Some Active) = tt
-commit_stays s tx (Some Closed) = stays_if s (with_commit_done s tx) (has_durable_commit (facts_of s tx)) (record { number = refl; flight = refl })
-commit_stays s tx (Some (Gone d)) = tt
-
-give_stays : (s : Shard) (tx : TxId) (v : Voter) (o : Option Vote) → StaysBy s (give_vote s tx v o)
-unfolding StaysBy
-give_stays s tx v None = tt
-give_stays s tx v (Some Yes) = record { number = refl; flight = refl }
-give_stays s tx v (Some Read) = record { number = refl; flight = refl }
-give_stays s tx v (Some (No why)) = record { number = refl; flight = refl }
-
-vote_stays : (s : Shard) (tx : TxId) (o : Option Voter) → StaysBy s (vote_due s tx o)
-unfolding StaysBy
-vote_stays s tx None = tt
-vote_stays s tx (Some v) = give_stays s tx v (vote_by (facts_of s tx) v)
-
-rule_stays : (s : Shard) (tx : TxId) (q : Request) (o : Option Ruling) → StaysBy s (rule s tx q o)
-unfolding StaysBy
-rule_stays s tx q None = tt
-rule_stays s tx q (Some (CommitVerdict parts)) = record { number = refl; flight = refl }
-rule_stays s tx q (Some Acknowledge) = record { number = refl; flight = refl }
-rule_stays s tx q (Some (AbortVerdict cause to)) = record { number = refl; flight = refl }
-rule_stays s tx q (Some EndVerdict) = record { number = refl; flight = refl }
-
-request_stays : (s : Shard) (tx : TxId) (o : Option Request) → StaysBy s (request_due s tx o)
-unfolding StaysBy
-request_stays s tx None = tt
-request_stays s tx (Some q) = rule_stays s tx q (ruling_by s.shard tx q (facts_of s tx))
-
-due_stays : (s : Shard) (tx : TxId) → StaysBy s (due_of s tx)
-due_stays s tx =
-    stays_or s (commit_due s tx (stage_of s.local tx)) (or_else (vote_due s tx (tx_get tx s.voters)) (request_due s tx (tx_get tx s.requests))) (commit_stays s tx (stage_of s.local tx))
-    (stays_or s (vote_due s tx (tx_get tx s.voters)) (request_due s tx (tx_get tx s.requests)) (vote_stays s tx (tx_get tx s.voters)) (request_stays s tx (tx_get tx s.requests)))
-
-first_stays : (s : Shard) (txs : List TxId) → StaysBy s (first_due s txs)
-unfolding StaysBy
-first_stays s [] = tt
-first_stays s (tx ∷ txs) = at (due_of s tx) (due_stays s tx) (first_stays s txs)
-  where
-    at : (o : Option Shard) → StaysBy s o → StaysBy s (first_due s txs) → StaysBy s (elim o [ Some t ↦ Some t | None ↦ first_due s txs ])
-    at (Some t) k more = k
-    at None k more = more
+due_stays : (s : Shard) (tx : TxId) → IfDue (Stays s) (due_of s tx)
+due_stays s tx = due_holds (Stays s) s tx (λ e. record { number = refl; flight = refl }) (λ v x e f. vote_stays s tx v x) (λ q r e f. rule_stays s tx q r)
 
 do_stays : (n : ℕ) (s : Shard) → Stays s (do_due n s)
-unfolding StaysBy
-do_stays zero s = stays s
-do_stays (suc n) s = at (next_due s) (first_stays s (known_txs s)) (do_stays n)
-  where
-    at : (o : Option Shard) → StaysBy s o → ((t : Shard) → Stays t (do_due n t)) → Stays s (elim o [ Some t ↦ do_due n t | None ↦ s ])
-    at (Some t) k more = chain s t (do_due n t) k (more t)
-    at None k more = stays s
+do_stays = do_holds Stays stays chain due_stays
 
 finish_stays : (s t : Shard) → Stays s t → Stays s (finish t)
 finish_stays s t p = let q = do_stays (work t) t in record { number = q.number ∙ p.number; flight = q.flight ∙ p.flight }

@@ -33,13 +33,14 @@ use Rattle.clv_base.specs.Needs.{needs_of, writes_of, value_at, key_of}
 use Rattle.clv_base.specs.State.{Local, Shard, with_local, is_present}
 use Rattle.clv_base.specs.Undo.{stage_of, gone_in, gone_part, roll_back, doomed_here}
 use Rattle.clv_base.specs.Facts.{facts_of, has_durable_commit}
-use Rattle.clv_base.specs.Participant.{vote_by, taken_by}
-use Rattle.clv_base.specs.Coordinator.{takes_vote, takes_done, ruling_by}
+use Rattle.clv_base.specs.Participant.{taken_by}
+use Rattle.clv_base.specs.Coordinator.{takes_vote, takes_done}
 use Rattle.clv_base.specs.OneShard.{OpReply, OpWaits, OpCrowded, OpDies, OpAnswers, seen_fits, op_reply, op_seen, op_by_stage, op_active, op_decided, op_granted, written, locked, performed, active_part, new_part, rolled_back_if, without_part, closed_in, closed_part, marked_in, dropped_part, drop_part}
-use Rattle.clv_base.specs.Due.{total, or_else, with_commit_done, commit_due, give_vote, vote_due, rule, request_due, due_of, first_due, known_txs, next_due, do_due, work}
+use Rattle.clv_base.specs.Due.{total, due_of, do_due, work, finish_reader, with_vote, do_ruling, with_ruling}
 use Rattle.clv_base.specs.Events.{Reply, QuietBeforeWorn, QuietAfterWorn, Does, finish, op_event, epoch_in, request_by_stage, request_event, look_lost, look_state, look_known, request_epoch, drop_event, on_prepare, on_vote, decided, on_decide, on_done, on_message, to_of, send_event, reminders, remind_with, out_event, taken, landed, happen_up, happen}
 use Rattle.clv_base.specs.Restarts.{restored_parts}
 use Rattle.machine_laws.specs.Undropped.{to_drop, undropped, new_part_by, new_parts, FinishesKeepParts, EventsAddParts, LandingsKeepParts, FirstDropsTake, RestartsHaveDoubtful}
+use Rattle.protocol_laws.proofs.DueCases.{IfDue, due_holds, do_holds}
 
 abbrev count : Table Held → ℕ
 count parts = total to_drop parts
@@ -129,65 +130,25 @@ performed_adds tx birth op l =
 
 -- ---- what is due
 
-abbrev Same : Shard → Option Shard → Type 0
-Same s None = Unit {0}
-Same s (Some t) = undropped t ≡ undropped s
+abbrev Same : Shard → Shard → Type 0
+Same s t = undropped t ≡ undropped s
 
-same_if : (s t : Shard) (b : Bool) → Same s (Some t) → Same s (cond b (Some t) None)
-same_if s t true h = h
-same_if s t false h = tt
+vote_same : (s : Shard) (tx : TxId) (v : Voter) (x : Vote) → Same s (finish_reader tx x (with_vote s tx v x))
+vote_same s tx v Yes = refl
+vote_same s tx v Read = gone_same (tx ∷ []) None s.local.parts
+vote_same s tx v (No why) = refl
 
-same_or : (s : Shard) (x y : Option Shard) → Same s x → Same s y → Same s (or_else x y)
-same_or s None y p q = q
-same_or s (Some t) y p q = p
+rule_same : (s : Shard) (tx : TxId) (q : Request) (r : Ruling) → Same s (do_ruling tx r (with_ruling tx q r s))
+rule_same s tx q (CommitVerdict parts) = refl
+rule_same s tx q Acknowledge = gone_same (tx ∷ []) None s.local.parts
+rule_same s tx q (AbortVerdict cause to) = rolled_same tx s.local
+rule_same s tx q EndVerdict = refl
 
-commit_same : (s : Shard) (tx : TxId) (st : Option Stage) → Same s (commit_due s tx st)
-commit_same s tx None = tt
-commit_same s tx (Some Active) = tt
-commit_same s tx (Some Closed) = same_if s (with_commit_done s tx) (has_durable_commit (facts_of s tx)) (gone_same (tx ∷ []) None s.local.parts)
-commit_same s tx (Some (Gone d)) = tt
-
-give_same : (s : Shard) (tx : TxId) (v : Voter) (o : Option Vote) → Same s (give_vote s tx v o)
-give_same s tx v None = tt
-give_same s tx v (Some Yes) = refl
-give_same s tx v (Some Read) = gone_same (tx ∷ []) None s.local.parts
-give_same s tx v (Some (No why)) = refl
-
-vote_same : (s : Shard) (tx : TxId) (o : Option Voter) → Same s (vote_due s tx o)
-vote_same s tx None = tt
-vote_same s tx (Some v) = give_same s tx v (vote_by (facts_of s tx) v)
-
-rule_same : (s : Shard) (tx : TxId) (q : Request) (o : Option Ruling) → Same s (rule s tx q o)
-rule_same s tx q None = tt
-rule_same s tx q (Some (CommitVerdict parts)) = refl
-rule_same s tx q (Some Acknowledge) = gone_same (tx ∷ []) None s.local.parts
-rule_same s tx q (Some (AbortVerdict cause to)) = rolled_same tx s.local
-rule_same s tx q (Some EndVerdict) = refl
-
-request_same : (s : Shard) (tx : TxId) (o : Option Request) → Same s (request_due s tx o)
-request_same s tx None = tt
-request_same s tx (Some q) = rule_same s tx q (ruling_by s.shard tx q (facts_of s tx))
-
-due_same : (s : Shard) (tx : TxId) → Same s (due_of s tx)
-due_same s tx =
-    same_or s (commit_due s tx (stage_of s.local tx)) (or_else (vote_due s tx (tx_get tx s.voters)) (request_due s tx (tx_get tx s.requests))) (commit_same s tx (stage_of s.local tx))
-    (same_or s (vote_due s tx (tx_get tx s.voters)) (request_due s tx (tx_get tx s.requests)) (vote_same s tx (tx_get tx s.voters)) (request_same s tx (tx_get tx s.requests)))
-
-first_same : (s : Shard) (txs : List TxId) → Same s (first_due s txs)
-first_same s [] = tt
-first_same s (tx ∷ txs) = at (due_of s tx) (due_same s tx) (first_same s txs)
-  where
-    at : (o : Option Shard) → Same s o → Same s (first_due s txs) → Same s (elim o [ Some t ↦ Some t | None ↦ first_due s txs ])
-    at (Some t) k more = k
-    at None k more = more
+due_same : (s : Shard) (tx : TxId) → IfDue (Same s) (due_of s tx)
+due_same s tx = due_holds (Same s) s tx (λ e. gone_same (tx ∷ []) None s.local.parts) (λ v x e f. vote_same s tx v x) (λ q r e f. rule_same s tx q r)
 
 do_same : (n : ℕ) (s : Shard) → undropped (do_due n s) ≡ undropped s
-do_same zero s = refl
-do_same (suc n) s = at (next_due s) (first_same s (known_txs s)) (do_same n)
-  where
-    at : (o : Option Shard) → Same s o → ((t : Shard) → undropped (do_due n t) ≡ undropped t) → undropped (elim o [ Some t ↦ do_due n t | None ↦ s ]) ≡ undropped s
-    at (Some t) k more = more t ∙ k
-    at None k more = refl
+do_same = do_holds Same (λ s. refl) (λ s t u p q. q ∙ p) due_same
 
 pub finishes_keep_parts : FinishesKeepParts
 finishes_keep_parts s = do_same (work s) s

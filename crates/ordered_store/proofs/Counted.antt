@@ -7,23 +7,19 @@ use Rattle.std.specs.FinMap.{is_sorted}
 use Rattle.std.proofs.Math.Nat.{pow-le-pow_right}
 use Rattle.clv_base.specs.declared.modes.Found.TheVariants.{Absent}
 use Rattle.clv_base.specs.Needs.{Records, found_at, found_by}
-use Rattle.ordered_store.proofs.Laws.{Above, Rises, rises_from}
+use Rattle.ordered_store.proofs.Laws.{Rises, rises_from}
 use Rattle.ordered_store.specs.declared.block.Block.{Block}
 use Rattle.ordered_store.specs.Records.{Under, Begins}
 use Rattle.ordered_store.specs.Blocks.{Chain, Chained, slot_of}
 use Rattle.ordered_store.proofs.Chains.{point_reached, reached_slot, rest_is}
+use Rattle.ordered_store.proofs.Rising.{above_at}
 
 -- ---- the rows of one block
-
-row_above : (k : ℕ) (rs : Records) (j : ℕ) (d : ℕ × Option ℕ) → Above k rs → j < length rs → k < (get_or rs j d).0
-row_above k [] j d h l = absurd (omega arith)
-row_above k (r ∷ rs) zero d h l = h.0
-row_above k (r ∷ rs) (suc j) d h l = row_above k rs j d h.1 (omega arith)
 
 rows_rise : (rs : Records) → Rises rs → (i j : ℕ) (d : ℕ × Option ℕ) → i < j → j < length rs → (get_or rs i d).0 < (get_or rs j d).0
 rows_rise [] h i j d l m = absurd (omega arith)
 rows_rise (r ∷ rs) h zero zero d l m = absurd (omega arith)
-rows_rise (r ∷ rs) h zero (suc j) d l m = row_above r.0 rs j d h.0 (omega arith)
+rows_rise (r ∷ rs) h zero (suc j) d l m = above_at r.0 rs j d h.0 (omega arith)
 rows_rise (r ∷ rs) h (suc i) zero d l m = absurd (omega arith)
 rows_rise (r ∷ rs) h (suc i) (suc j) d l m = rows_rise rs h.1 i j d (omega arith) (omega arith)
 
@@ -34,7 +30,7 @@ lookup_here : (k : ℕ) (rs : Records) (i : ℕ) (d : ℕ × Option ℕ) → Ris
 lookup_here k [] i d h l e = absurd (omega arith)
 lookup_here k (r ∷ rs) zero d h l e = ap (λ b. cond b (Some r.1) (lookup (◌==◌ k) rs)) (eq-eqb k r.0 (sym e))
 lookup_here k (r ∷ rs) (suc i) d h l e =
-    let up : r.0 < (get_or rs i d).0 = row_above r.0 rs i d h.0 (omega arith) in
+    let up : r.0 < (get_or rs i d).0 = above_at r.0 rs i d h.0 (omega arith) in
     ap (λ b. cond b (Some r.1) (lookup (◌==◌ k) rs)) (ne_eqb k r.0 (λ q. absurd (omega (arith, up, e, q)))) ∙ lookup_here k rs i d h.1 (omega arith) e
 
 lookup_none : (k : ℕ) (rs : Records) → ((j : ℕ) (d : ℕ × Option ℕ) → j < length rs → (get_or rs j d).0 ≡ k → ⊥) → lookup (◌==◌ k) rs ≡ None

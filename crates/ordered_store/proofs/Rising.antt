@@ -50,7 +50,7 @@ pub count_below-lows : (k : ℕ) (rs : Records) → count_below k rs ≡ lows k 
 count_below-lows k [] = refl
 count_below-lows k (r ∷ rs) = let e : 1 + count_below k rs ≡ suc (lows k rs) = let h = count_below-lows k rs in omega arith in ap (λ n. cond (nat_lt r.0 k) n 0) e
 
-above_at : (k : ℕ) (rs : Records) (j : ℕ) (d : ℕ × Option ℕ) → Above k rs → j < length rs → k < (get_or rs j d).0
+pub above_at : (k : ℕ) (rs : Records) (j : ℕ) (d : ℕ × Option ℕ) → Above k rs → j < length rs → k < (get_or rs j d).0
 above_at k [] j d h l = absurd (omega arith)
 above_at k (r ∷ rs) zero d h l = h.0
 above_at k (r ∷ rs) (suc j) d h l = above_at k rs j d h.1 (omega arith)

@@ -15,6 +15,7 @@ use Rattle.ordered_store.specs.declared.block.Block.{Block}
 use Rattle.ordered_store.specs.Records.{Under, Begins, Starts}
 use Rattle.ordered_store.specs.Blocks.{flat, Chain, Chained, Leads, Sized, Empties, excess, room_of, reached, slot_of}
 use Rattle.ordered_store.proofs.Chains.{Least, above_least, flat_least, begun, sorted_of, lookup_among}
+use Rattle.ordered_store.proofs.Writing.{all_others}
 
 -- the blocks with others in place of the one at i
 pub splice : List Block → ℕ → List Block → List Block
@@ -106,16 +107,10 @@ stay_under k j (x ∷ xs) u l =
     ap (λ b. cond (not b) (x ∷ filter (λ (r : ℕ × Option ℕ). not (r.0 == k)) xs) (filter (λ (r : ℕ × Option ℕ). not (r.0 == k)) xs)) (ne_eqb x.0 k (λ e. absurd (omega (arith, u.0))))
     ∙ ap (λ rs. x ∷ rs) (stay_under k j xs u.1 l)
 
-stay_above : (k : ℕ) (xs : Records) → Above k xs → filter (λ (r : ℕ × Option ℕ). not (r.0 == k)) xs ≡ xs
-stay_above k [] h = refl
-stay_above k (x ∷ xs) h =
-    ap (λ b. cond (not b) (x ∷ filter (λ (r : ℕ × Option ℕ). not (r.0 == k)) xs) (filter (λ (r : ℕ × Option ℕ). not (r.0 == k)) xs)) (ne_eqb x.0 k (λ e. absurd (omega (arith, h.0))))
-    ∙ ap (λ rs. x ∷ rs) (stay_above k xs h.1)
-
 pub take_local : (k : ℕ) → IsLocal k (filter (λ (r : ℕ × Option ℕ). not (r.0 == k)))
 take_local k = record {
   past = λ j xs ys u l. filter-append (λ (r : ℕ × Option ℕ). not (r.0 == k)) xs ys ∙ ap (λ rs. rs ++ filter (λ (r : ℕ × Option ℕ). not (r.0 == k)) ys) (stay_under k j xs u l);
-  before = λ xs ys h. filter-append (λ (r : ℕ × Option ℕ). not (r.0 == k)) xs ys ∙ ap (λ rs. filter (λ (r : ℕ × Option ℕ). not (r.0 == k)) xs ++ rs) (stay_above k ys h);
+  before = λ xs ys h. filter-append (λ (r : ℕ × Option ℕ). not (r.0 == k)) xs ys ∙ ap (λ rs. filter (λ (r : ℕ × Option ℕ). not (r.0 == k)) xs ++ rs) (all_others k ys h);
 }
 
 -- ---- order

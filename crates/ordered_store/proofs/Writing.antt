@@ -70,7 +70,7 @@ rises_filter p (r ∷ rs) h = cond_both (p r) (r ∷ filter p rs) (filter p rs) 
 
 -- ---- taking away
 
-all_others : (k : ℕ) (rs : Records) → Above k rs → filter (λ (r : ℕ × Option ℕ). not (r.0 == k)) rs ≡ rs
+pub all_others : (k : ℕ) (rs : Records) → Above k rs → filter (λ (r : ℕ × Option ℕ). not (r.0 == k)) rs ≡ rs
 all_others k [] h = refl
 all_others k (r ∷ rs) h =
     ap (λ b. cond (not b) (r ∷ filter (λ (r : ℕ × Option ℕ). not (r.0 == k)) rs) (filter (λ (r : ℕ × Option ℕ). not (r.0 == k)) rs)) (ne_eqb r.0 k (λ e. let l : k < r.0 = h.0 in absurd (omega arith)))

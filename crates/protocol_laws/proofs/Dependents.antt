@@ -36,10 +36,10 @@ use Rattle.clv_base.specs.declared.state.Taken.TheVariants.{Done as IsDone, Wait
 use Rattle.clv_base.specs.State.{Local, Shard, with_local, is_present}
 use Rattle.clv_base.specs.Undo.{stage_of, pairs_without, release_parts, roll_back, doomed_here, undo}
 use Rattle.clv_base.specs.Facts.{facts_of, has_durable_commit}
-use Rattle.clv_base.specs.Participant.{vote_by, taken_by}
-use Rattle.clv_base.specs.Coordinator.{others, takes_vote, takes_done, ruling_by}
+use Rattle.clv_base.specs.Participant.{taken_by}
+use Rattle.clv_base.specs.Coordinator.{others, takes_vote, takes_done}
 use Rattle.clv_base.specs.OneShard.{OpReply, OpWaits, OpCrowded, OpDies, OpAnswers, seen_fits, op_reply, op_seen, op_by_stage, op_active, op_decided, op_granted, written, locked, performed, active_part, new_part, add_pairs, rolled_back_if, without_part, close_part, drop_part}
-use Rattle.clv_base.specs.Due.{or_else, with_commit_done, commit_due, give_vote, vote_due, rule, request_due, due_of, first_due, known_txs, next_due, do_due, work}
+use Rattle.clv_base.specs.Due.{due_of, do_due, work, finish_reader, with_vote, do_ruling, with_ruling}
 use Rattle.clv_base.specs.Events.{Reply, QuietBeforeWorn, QuietAfterWorn, Does, finish, op_event, is_alone, epoch_in, coordinate, request_by_stage, request_event, look_lost, look_state, look_known, request_epoch, drop_event, owe_vote, on_prepare, with_votes, on_vote, decided, on_decide, with_done, on_done, on_message, to_of, with_outbox, send_event, reminders, remind_with, with_durable, out_event, taken, landed, happen_up, happen, CallAnswer, Quiet, Worn, Enters, next_stamp, stamped, step, land_up, land}
 use Rattle.clv_base.specs.Restarts.{restored_parts, log_left, next_epoch, log_after_restart, revived, revive_down, revive}
 use Rattle.clv_base.proofs.SameNames.{or_left, or_right, tx_true, tx_self, tx_eq}
@@ -47,6 +47,7 @@ use Rattle.law_base.proofs.Lists.{all_mono, all_kept}
 use Rattle.protocol_laws.specs.Depending.{HasPart, DependentsHaveParts, RestartsHaveParts, DueKeepsParts, EventsKeepParts, LandingKeepsParts}
 use Rattle.law_base.proofs.Names.{keys_restored, own_in}
 use Rattle.law_base.proofs.Logs.{restored_have}
+use Rattle.protocol_laws.proofs.DueCases.{IfDue, due_holds, do_holds}
 
 -- ---- parts stay in the table
 
@@ -135,74 +136,34 @@ drop_keeps tx l d = changed _ (without_part tx l).parts (without_part tx l).pair
 
 -- ---- what is due
 
-abbrev Kept : Option Shard → Type 0
-Kept None = Unit {0}
-Kept (Some t) = DependentsHaveParts t.local
-
-kept_if : (t : Shard) (b : Bool) → DependentsHaveParts t.local → Kept (cond b (Some t) None)
-kept_if t true d = d
-kept_if t false d = tt
-
-kept_or : (x y : Option Shard) → Kept x → Kept y → Kept (or_else x y)
-kept_or None y p q = q
-kept_or (Some t) y p q = p
-
-commit_keeps : (s : Shard) (tx : TxId) (st : Option Stage) → DependentsHaveParts s.local → Kept (commit_due s tx st)
-commit_keeps s tx None d = tt
-commit_keeps s tx (Some Active) d = tt
-commit_keeps s tx (Some Closed) d = kept_if (with_commit_done s tx) (has_durable_commit (facts_of s tx)) (released_keeps (tx ∷ []) None s.local d)
-commit_keeps s tx (Some (Gone x)) d = tt
-
-give_keeps : (s : Shard) (tx : TxId) (v : Voter) (o : Option Vote) → DependentsHaveParts s.local → Kept (give_vote s tx v o)
-give_keeps s tx v None d = tt
-give_keeps s tx v (Some Yes) d = d
-give_keeps s tx v (Some Read) d = released_keeps (tx ∷ []) None s.local d
-give_keeps s tx v (Some (No why)) d = d
-
-vote_keeps : (s : Shard) (tx : TxId) (o : Option Voter) → DependentsHaveParts s.local → Kept (vote_due s tx o)
-vote_keeps s tx None d = tt
-vote_keeps s tx (Some v) d = give_keeps s tx v (vote_by (facts_of s tx) v) d
-
-rule_keeps : (s : Shard) (tx : TxId) (q : Request) (o : Option Ruling) → DependentsHaveParts s.local → Kept (rule s tx q o)
-rule_keeps s tx q None d = tt
-rule_keeps s tx q (Some (CommitVerdict parts)) d = d
-rule_keeps s tx q (Some Acknowledge) d = released_keeps (tx ∷ []) None s.local d
-rule_keeps s tx q (Some (AbortVerdict cause to)) d = rolled_keeps tx s.local d
-rule_keeps s tx q (Some EndVerdict) d = d
-
-request_keeps : (s : Shard) (tx : TxId) (o : Option Request) → DependentsHaveParts s.local → Kept (request_due s tx o)
-request_keeps s tx None d = tt
-request_keeps s tx (Some q) d = rule_keeps s tx q (ruling_by s.shard tx q (facts_of s tx)) d
-
-due_keeps : (s : Shard) (tx : TxId) → DependentsHaveParts s.local → Kept (due_of s tx)
-due_keeps s tx d =
-    kept_or (commit_due s tx (stage_of s.local tx)) (or_else (vote_due s tx (tx_get tx s.voters)) (request_due s tx (tx_get tx s.requests))) (commit_keeps s tx (stage_of s.local tx) d)
-    (kept_or (vote_due s tx (tx_get tx s.voters)) (request_due s tx (tx_get tx s.requests)) (vote_keeps s tx (tx_get tx s.voters) d) (request_keeps s tx (tx_get tx s.requests) d))
-
-first_keeps : (s : Shard) (txs : List TxId) → DependentsHaveParts s.local → Kept (first_due s txs)
-first_keeps s [] d = tt
-first_keeps s (tx ∷ txs) d = at (due_of s tx) (due_keeps s tx d) (first_keeps s txs d)
-  where
-    at : (o : Option Shard) → Kept o → Kept (first_due s txs) → Kept (elim o [ Some t ↦ Some t | None ↦ first_due s txs ])
-    at (Some t) k more = k
-    at None k more = more
-
 abbrev IsKept : Shard → Type 0
 IsKept s = DependentsHaveParts s.local
 
+vote_keeps : (s : Shard) (tx : TxId) (v : Voter) (x : Vote) → IsKept s → IsKept (finish_reader tx x (with_vote s tx v x))
+vote_keeps s tx v Yes d = d
+vote_keeps s tx v Read d = released_keeps (tx ∷ []) None s.local d
+vote_keeps s tx v (No why) d = d
+
+rule_keeps : (s : Shard) (tx : TxId) (q : Request) (r : Ruling) → IsKept s → IsKept (do_ruling tx r (with_ruling tx q r s))
+rule_keeps s tx q (CommitVerdict parts) d = d
+rule_keeps s tx q Acknowledge d = released_keeps (tx ∷ []) None s.local d
+rule_keeps s tx q (AbortVerdict cause to) d = rolled_keeps tx s.local d
+rule_keeps s tx q EndVerdict d = d
+
+abbrev Keeps : Shard → Shard → Type 0
+Keeps s t = IsKept s → IsKept t
+
+due_keeps : (s : Shard) (tx : TxId) → IfDue (Keeps s) (due_of s tx)
+due_keeps s tx = due_holds (Keeps s) s tx (λ e d. released_keeps (tx ∷ []) None s.local d) (λ v x e f. vote_keeps s tx v x) (λ q r e f. rule_keeps s tx q r)
+
 do_keeps : (n : ℕ) (s : Shard) → DependentsHaveParts s.local → DependentsHaveParts (do_due n s).local
-do_keeps zero s d = d
-do_keeps (suc n) s d = at (next_due s) (first_keeps s (known_txs s) d) (do_keeps n)
-  where
-    at : (o : Option Shard) → Kept o → ((t : Shard) → DependentsHaveParts t.local → DependentsHaveParts (do_due n t).local) → IsKept (elim o [ Some t ↦ do_due n t | None ↦ s ])
-    at (Some t) k more = more t k
-    at None k more = d
+do_keeps = do_holds Keeps (λ s d. d) (λ s t u f g d. g (f d)) due_keeps
 
 finish_keeps : (s : Shard) → DependentsHaveParts s.local → DependentsHaveParts (finish s).local
 finish_keeps s d = do_keeps (work s) s d
 
 pub due_keeps_parts : DueKeepsParts
-due_keeps_parts = (λ s t tx e d. subst Kept e (due_keeps s tx d), λ s d. do_keeps (work s) s d)
+due_keeps_parts = (λ s t tx e. subst (IfDue (Keeps s)) e (due_keeps s tx), λ s d. do_keeps (work s) s d)
 
 -- ---- events
 

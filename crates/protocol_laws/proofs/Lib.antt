@@ -19,6 +19,7 @@ pub mod Purging
 pub mod Touching
 pub mod Spending
 pub mod Dependents
+pub mod DueCases
 pub mod Keys
 pub mod Finished
 pub mod Counting

@@ -1,21 +1,20 @@
 -- Each thing that is done leaves less that may still be done: what is over counts for nothing.
-use Rattle.std.proofs.Common.{◌≡◌, refl, sym, ap, ◌∙◌, subst, ℕ, zero, suc, pred, ◌+◌, ◌<◌, ◌≤◌, true, false, cond, Bool, List, [], ◌∷◌, Option, Some, None, ◌||◌, ◌==◌, arith, is_some}
+use Rattle.std.proofs.Common.{◌≡◌, refl, sym, ap, ◌∙◌, subst, ℕ, zero, suc, pred, ◌+◌, ◌<◌, ◌≤◌, true, false, Bool, [], ◌∷◌, Some, None, ◌||◌, ◌==◌, arith, is_some}
 use Rattle.clv_base.specs.declared.names.TxId.{TxId}
 use Rattle.clv_base.specs.declared.causes.Vote.{Vote}
 use Rattle.clv_base.specs.declared.causes.Vote.TheVariants.{Yes, Read, No}
 use Rattle.clv_base.specs.Orders.{tx_same, tx_get}
 use Rattle.clv_base.specs.declared.state.Ruling.TheVariants.{Commit as CommitVerdict, Acknowledge, Abort as AbortVerdict, End as EndVerdict}
 use Rattle.clv_base.specs.State.{Shard, Local, with_local}
-use Rattle.clv_base.specs.declared.state.Stage.{Stage}
-use Rattle.clv_base.specs.declared.state.Stage.TheVariants.{Active, Closed, Gone}
+use Rattle.clv_base.specs.declared.state.Stage.TheVariants.{Closed}
 use Rattle.clv_base.specs.declared.state.Voter.{Voter}
 use Rattle.clv_base.specs.declared.state.Request.{Request}
 use Rattle.clv_base.specs.declared.state.Ruling.{Ruling}
 use Rattle.clv_base.specs.Undo.{stage_of, roll_back, doomed_here, gone_in}
 use Rattle.clv_base.specs.Facts.{facts_of, has_durable_commit}
 use Rattle.clv_base.specs.Participant.{vote_by, voted}
-use Rattle.clv_base.specs.Coordinator.{ruling_by, ruled_request}
-use Rattle.clv_base.specs.Due.{total, part_work, or_else, finish_part, with_commit_done, commit_due, vote_due, give_vote, with_vote, finish_reader, with_ruling, do_ruling, rule, request_due, due_of, first_due, known_txs, next_due}
+use Rattle.clv_base.specs.Coordinator.{ruled_request}
+use Rattle.clv_base.specs.Due.{total, part_work, finish_part, with_commit_done, with_vote, finish_reader, with_ruling, do_ruling, due_of, known_txs}
 use Rattle.protocol_laws.specs.Candidates.{is_ruling_due}
 use Rattle.protocol_laws.specs.Candidates.{is_commit_due, is_vote_due}
 use Rattle.protocol_laws.specs.Rooms.{decisions}
@@ -37,11 +36,7 @@ use Rattle.std.proofs.Common.{length, ⊎_elim, is_some}
 use Rattle.std.proofs.lemmas.Bool.{both_ways}
 use Rattle.clv_base.specs.Facts.{is_closed_state}
 use Rattle.clv_base.proofs.Settling.{owes, gone_closed, gone_le}
-
--- where there is a next state, less is left in it
-data LessLeft (s : Shard) : Option Shard → Type 0 where
-  nothing : LessLeft s None
-  less : {t : Shard} → left t < left s → LessLeft s (Some t)
+use Rattle.protocol_laws.proofs.DueCases.{IfDue, due_holds, first_holds}
 
 -- ---- voters and requests whose parts change
 
@@ -88,26 +83,12 @@ performed_le s tx birth op rising parts none = omega (arith, parts, voters, requ
 
 -- ---- the rules
 
-at_test : (s : Shard) (b : Bool) (x y : Option Shard) → LessLeft s x → LessLeft s y → LessLeft s (cond b x y)
-at_test s true x y p q = p
-at_test s false x y p q = q
-
-at_or_else : (s : Shard) (x y : Option Shard) → LessLeft s x → LessLeft s y → LessLeft s (or_else x y)
-at_or_else s None y p q = q
-at_or_else s (Some t) y p q = p
-
 commit_less : (s : Shard) (tx : TxId) → stage_of s.local tx ≡ Some Closed → left (with_commit_done s tx) < left s
 commit_less s tx e =
     let stay = finish_stay (tx ∷ []) s.local.parts in let m = gone_in (tx ∷ []) None s.local.parts in
     let voters = stay_total left_voter (is_finished s.local.parts) (is_finished m) s.voters voter_falls stay.finished in
     let requests = stay_total (left_request s.shard) (is_idle s.local.parts) (is_idle m) s.requests (request_falls s.shard) stay.idle in
     omega (arith, gone_closed s.local tx e, voters, requests)
-
-commit : (s : Shard) (tx : TxId) (st : Option Stage) → stage_of s.local tx ≡ st → LessLeft s (commit_due s tx st)
-commit s tx None e = nothing
-commit s tx (Some Active) e = nothing
-commit s tx (Some Closed) e = at_test s (has_durable_commit (facts_of s tx)) (Some (with_commit_done s tx)) None (less (commit_less s tx e)) nothing
-commit s tx (Some (Gone d)) e = nothing
 
 finish_le : (s : Shard) (tx : TxId) → left (finish_part tx s) ≤ left s
 finish_le s tx = parts_le s (finish_part tx s).local (gone_le (tx ∷ []) None s.local.parts) (finish_stay (tx ∷ []) s.local.parts)
@@ -130,51 +111,24 @@ reader s tx Yes = omega arith
 reader s tx Read = finish_le s tx
 reader s tx (No why) = omega arith
 
-give : (s : Shard) (tx : TxId) (v : Voter) (o : Option Vote) → tx_get tx s.voters ≡ Some v → vote_by (facts_of s tx) v ≡ o → LessLeft s (give_vote s tx v o)
-give s tx v None e a = nothing
-give s tx v (Some vote) e a = less (omega (arith, vote_less s tx v vote e a, reader (with_vote s tx v vote) tx vote))
-
-vote : (s : Shard) (tx : TxId) (o : Option Voter) → tx_get tx s.voters ≡ o → LessLeft s (vote_due s tx o)
-vote s tx None e = nothing
-vote s tx (Some v) e = give s tx v (vote_by (facts_of s tx) v) e refl
-
 done_le : (s : Shard) (tx : TxId) (r : Ruling) → left (do_ruling tx r s) ≤ left s
 done_le s tx (CommitVerdict ps) = omega arith
 done_le s tx Acknowledge = finish_le s tx
 done_le s tx (AbortVerdict c to) = rolled_le s tx
 done_le s tx EndVerdict = omega arith
 
-rules : (s : Shard) (tx : TxId) (q : Request) (o : Option Ruling) → tx_get tx s.requests ≡ Some q → RulingLess s.shard (is_idle s.local.parts tx) q o → LessLeft s (rule s tx q o)
+ruled_less : (s : Shard) (tx : TxId) (q : Request) (r : Ruling) → tx_get tx s.requests ≡ Some q → RulingLess s.shard (is_idle s.local.parts tx) q (Some r) → left (do_ruling tx r (with_ruling tx q r s)) < left s
 unfolding RulingLess
-rules s tx q None e l = nothing
-rules s tx q (Some r) e l = less (omega (arith, total_by_at (left_request s.shard) (is_idle s.local.parts) tx s.requests q (ruled_request r q) e, l, done_le (with_ruling tx q r s) tx r))
+ruled_less s tx q r e l = omega (arith, total_by_at (left_request s.shard) (is_idle s.local.parts) tx s.requests q (ruled_request r q) e, l, done_le (with_ruling tx q r s) tx r)
 
-request : (s : Shard) (tx : TxId) (o : Option Request) → tx_get tx s.requests ≡ o → LessLeft s (request_due s tx o)
-request s tx None e = nothing
-request s tx (Some q) e = rules s tx q (ruling_by s.shard tx q (facts_of s tx)) e (less_in s.shard (is_idle s.local.parts tx) q tx (facts_of s tx) q.state (idle_facts s tx) refl)
-
-due : (s : Shard) (tx : TxId) → LessLeft s (due_of s tx)
+due : (s : Shard) (tx : TxId) → IfDue (λ t. left t < left s) (due_of s tx)
 due s tx =
-    at_or_else s (commit_due s tx (stage_of s.local tx)) (or_else (vote_due s tx (tx_get tx s.voters)) (request_due s tx (tx_get tx s.requests)))
-    (commit s tx (stage_of s.local tx) refl)
-    (at_or_else s (vote_due s tx (tx_get tx s.voters)) (request_due s tx (tx_get tx s.requests)) (vote s tx (tx_get tx s.voters) refl) (request s tx (tx_get tx s.requests) refl))
-
-found : (s : Shard) (o rest : Option Shard) → LessLeft s o → LessLeft s rest → LessLeft s (elim o [ Some t ↦ Some t | None ↦ rest ])
-found s None rest g h = h
-found s (Some t) rest g h = g
-
-first : (s : Shard) (txs : List TxId) → LessLeft s (first_due s txs)
-first s [] = nothing
-first s (tx ∷ txs) = found s (due_of s tx) (first_due s txs) (due s tx) (first s txs)
-
-next : (s : Shard) → LessLeft s (next_due s)
-next s = first s (known_txs s)
-
-from_less : (s t : Shard) → LessLeft s (Some t) → left t < left s
-from_less s t (less h) = h
+    due_holds (λ t. left t < left s) s tx (commit_less s tx) (λ v x e a. omega (arith, vote_less s tx v x e a, reader (with_vote s tx v x) tx x))
+    (λ q r e f. let l : RulingLess s.shard (is_idle s.local.parts tx) q (Some r) = subst (RulingLess s.shard (is_idle s.local.parts tx) q) f (less_in s.shard (is_idle s.local.parts tx) q tx (facts_of s tx) q.state (idle_facts s tx) refl) in
+    ruled_less s tx q r e l)
 
 pub left_falls : LeftFalls
-left_falls s t e = from_less s t (subst (λ o. LessLeft s o) e (next s))
+left_falls s t e = subst (IfDue (λ u. left u < left s)) e (first_holds (λ u. left u < left s) s (due s) (known_txs s))
 
 -- ---- who has something due has something left
 
@@ -191,8 +145,8 @@ only_left_is_due s tx e =
 
 pub messages_by_left : MessagesByLeft
 messages_by_left s t few e =
-    let fewer = left_falls s t e in let sent : length t.outbox ≤ length s.outbox + 15 = subst (Sends s) e (sends_first s (known_txs s) few) in omega (arith, fewer, sent)
+    let fewer = left_falls s t e in let sent : length t.outbox ≤ length s.outbox + 15 = subst (IfDue (Sends s)) e (sends_first s (known_txs s) few) in omega (arith, fewer, sent)
 
 pub records_by_left : RecordsByLeft
 records_by_left s t e =
-    let fewer = left_falls s t e in let written : decisions t.local.log ≤ decisions s.local.log + 1 = subst (Writes s) e (writes_first s (known_txs s)) in omega (arith, fewer, written)
+    let fewer = left_falls s t e in let written : decisions t.local.log ≤ decisions s.local.log + 1 = subst (IfDue (Writes s)) e (writes_first s (known_txs s)) in omega (arith, fewer, written)

@@ -25,15 +25,16 @@ use Rattle.clv_base.specs.Logs.{StandingUpdate, standing, wrote_in}
 use Rattle.clv_base.specs.State.{Shard}
 use Rattle.clv_base.specs.Undo.{stage_of, doomed_here, aborts_of, clrs_of, newest_lsn}
 use Rattle.clv_base.specs.Facts.{facts_of, state_by, is_closed_state, has_durable_commit, has_durable_predecessors}
-use Rattle.clv_base.specs.Participant.{vote_by, vote_owed}
-use Rattle.clv_base.specs.Coordinator.{others, open_shards, is_agreed, agreed_ruling, yes_shards, undecided_ruling, refused_ruling, refusal, ruling_in, ruling_by}
-use Rattle.clv_base.specs.Due.{or_else, commit_messages, with_commit_done, commit_due, give_vote, vote_due, rule, request_due, due_of, first_due, known_txs, state_work, request_work}
+use Rattle.clv_base.specs.Participant.{vote_owed}
+use Rattle.clv_base.specs.Coordinator.{others, open_shards, is_agreed, agreed_ruling, yes_shards, undecided_ruling, refused_ruling, refusal, ruling_in}
+use Rattle.clv_base.specs.Due.{commit_messages, with_commit_done, first_due, known_txs, state_work, request_work, finish_reader, with_vote, do_ruling, with_ruling}
 use Rattle.clv_base.proofs.Settling.{each_leaves_less}
 use Rattle.protocol_laws.specs.Candidates.{is_commit_due, is_vote_due, is_ruling_due}
 use Rattle.protocol_laws.specs.Rooms.{part_of, voter_of, request_of, OnlyWorkIsDue, parts_of, FewParts, MessagesByWork, is_decision, decisions, RecordsByWork}
 use Rattle.protocol_laws.proofs.Deciding.{due_by_facts}
 use Rattle.law_base.proofs.Names.{by_state}
 use Rattle.law_base.proofs.Lists.{filter_fewer as fewer}
+use Rattle.protocol_laws.proofs.DueCases.{IfDue, due_holds, first_holds}
 
 -- ---- who has something due has work
 
@@ -83,17 +84,8 @@ only_work_is_due s tx e =
 
 -- ---- messages
 
-abbrev pub Sends : Shard → Option Shard → Type 0
-Sends s None = Unit {0}
-Sends s (Some t) = length t.outbox ≤ length s.outbox + 15
-
-sends_if : (s t : Shard) (b : Bool) → length t.outbox ≤ length s.outbox + 15 → Sends s (cond b (Some t) None)
-sends_if s t true h = h
-sends_if s t false h = tt
-
-sends_or : (s : Shard) (x y : Option Shard) → Sends s x → Sends s y → Sends s (or_else x y)
-sends_or s None y p q = q
-sends_or s (Some t) y p q = p
+abbrev pub Sends : Shard → Shard → Type 0
+Sends s t = length t.outbox ≤ length s.outbox + 15
 
 told : {B : Type 0} (f : ℕ → B) (ps : List ℕ) → length (map f ps) ≡ length ps
 told f [] = refl
@@ -110,27 +102,18 @@ commit_few s tx (Some q) v h = at q.state (h q refl)
 commit_few s tx None (Some v) h = omega arith
 commit_few s tx None None h = omega arith
 
-sends_commit : (s : Shard) (tx : TxId) (st : Option Stage) → FewParts s → Sends s (commit_due s tx st)
-sends_commit s tx None few = tt
-sends_commit s tx (Some Active) few = tt
-sends_commit s tx (Some Closed) few =
+sends_commit : (s : Shard) (tx : TxId) → FewParts s → Sends s (with_commit_done s tx)
+sends_commit s tx few =
     let ms = commit_messages s tx (tx_get tx s.requests) (tx_get tx s.voters) in let a = length-append s.outbox ms in
-    let b = commit_few s tx (tx_get tx s.requests) (tx_get tx s.voters) (λ q e. (few tx q e).1) in
-    sends_if s (with_commit_done s tx) (has_durable_commit (facts_of s tx)) (omega (arith, a, b))
-sends_commit s tx (Some (Gone d)) few = tt
+    let b = commit_few s tx (tx_get tx s.requests) (tx_get tx s.voters) (λ q e. (few tx q e).1) in omega (arith, a, b)
 
 one_more : (ms : List Message) (m : Message) → length (ms ++ m ∷ []) ≤ length ms + 15
 one_more ms m = let a = length-append ms (m ∷ []) in omega (arith, a)
 
-sends_give : (s : Shard) (tx : TxId) (v : Voter) (o : Option Vote) → Sends s (give_vote s tx v o)
-sends_give s tx v None = tt
-sends_give s tx v (Some Yes) = one_more s.outbox _
-sends_give s tx v (Some Read) = one_more s.outbox _
-sends_give s tx v (Some (No why)) = one_more s.outbox _
-
-sends_vote : (s : Shard) (tx : TxId) (o : Option Voter) → Sends s (vote_due s tx o)
-sends_vote s tx None = tt
-sends_vote s tx (Some v) = sends_give s tx v (vote_by (facts_of s tx) v)
+sends_vote : (s : Shard) (tx : TxId) (v : Voter) (x : Vote) → Sends s (finish_reader tx x (with_vote s tx v x))
+sends_vote s tx v Yes = one_more s.outbox _
+sends_vote s tx v Read = one_more s.outbox _
+sends_vote s tx v (No why) = one_more s.outbox _
 
 -- whom an abort is told
 abbrev Told : Option Ruling → Type 0
@@ -167,41 +150,28 @@ told_in n tx q f (Committed (p ∷ ps)) h = told_if (not q.is_ended && list_all 
 told_in n tx q f Finished h = tt
 told_in n tx q f (Refused c) h = tt
 
-sends_rule : (s : Shard) (tx : TxId) (q : Request) (o : Option Ruling) → Told o → Sends s (rule s tx q o)
-sends_rule s tx q None h = tt
-sends_rule s tx q (Some (CommitVerdict parts)) h = omega arith
-sends_rule s tx q (Some Acknowledge) h = omega arith
-sends_rule s tx q (Some (AbortVerdict cause to)) h =
+sends_rule : (s : Shard) (tx : TxId) (q : Request) (r : Ruling) → Told (Some r) → Sends s (do_ruling tx r (with_ruling tx q r s))
+sends_rule s tx q (CommitVerdict parts) h = omega arith
+sends_rule s tx q Acknowledge h = omega arith
+sends_rule s tx q (AbortVerdict cause to) h =
     let e = told (λ p. Decide p tx s.shard false) to in let a = length-append s.outbox (map (λ p. Decide p tx s.shard false) to) in omega (arith, e, a, h)
-sends_rule s tx q (Some EndVerdict) h = omega arith
+sends_rule s tx q EndVerdict h = omega arith
 
-sends_request : (s : Shard) (tx : TxId) (o : Option Request) → ((q : Request) → o ≡ Some q → length (others s.shard q.touched) ≤ 15) → Sends s (request_due s tx o)
-sends_request s tx None h = tt
-sends_request s tx (Some q) h = sends_rule s tx q (ruling_by s.shard tx q (facts_of s tx)) (told_in s.shard tx q (facts_of s tx) q.state (h q refl))
-
-sends_due : (s : Shard) (tx : TxId) → FewParts s → Sends s (due_of s tx)
-sends_due s tx few =
-    sends_or s (commit_due s tx (stage_of s.local tx)) (or_else (vote_due s tx (tx_get tx s.voters)) (request_due s tx (tx_get tx s.requests)))
-    (sends_commit s tx (stage_of s.local tx) few)
-    (sends_or s (vote_due s tx (tx_get tx s.voters)) (request_due s tx (tx_get tx s.requests)) (sends_vote s tx (tx_get tx s.voters)) (sends_request s tx (tx_get tx s.requests) (λ q e. (few tx q e).0)))
-
-sends_found : (s : Shard) (o rest : Option Shard) → Sends s o → Sends s rest → Sends s (elim o [ Some t ↦ Some t | None ↦ rest ])
-sends_found s None rest p q = q
-sends_found s (Some t) rest p q = p
-
-pub sends_first : (s : Shard) (txs : List TxId) → FewParts s → Sends s (first_due s txs)
-sends_first s [] few = tt
-sends_first s (tx ∷ txs) few = sends_found s (due_of s tx) (first_due s txs) (sends_due s tx few) (sends_first s txs few)
+pub sends_first : (s : Shard) (txs : List TxId) → FewParts s → IfDue (Sends s) (first_due s txs)
+sends_first s txs few =
+    first_holds (Sends s) s
+    (λ tx. due_holds (Sends s) s tx (λ e. sends_commit s tx few) (λ v x e f. sends_vote s tx v x)
+    (λ q r e f. sends_rule s tx q r (subst Told f (told_in s.shard tx q (facts_of s tx) q.state (few tx q e).0))))
+    txs
 
 pub messages_by_work : MessagesByWork
 messages_by_work s t few e =
-    let less = each_leaves_less s t e in let sent : length t.outbox ≤ length s.outbox + 15 = subst (Sends s) e (sends_first s (known_txs s) few) in omega (arith, less, sent)
+    let less = each_leaves_less s t e in let sent : length t.outbox ≤ length s.outbox + 15 = subst (IfDue (Sends s)) e (sends_first s (known_txs s) few) in omega (arith, less, sent)
 
 -- ---- records
 
-abbrev pub Writes : Shard → Option Shard → Type 0
-Writes s None = Unit {0}
-Writes s (Some t) = decisions t.local.log ≤ decisions s.local.log + 1
+abbrev pub Writes : Shard → Shard → Type 0
+Writes s t = decisions t.local.log ≤ decisions s.local.log + 1
 
 decisions-append : (xs ys : List LogRecord) → decisions (xs ++ ys) ≡ decisions xs + decisions ys
 decisions-append [] ys = omega arith
@@ -223,58 +193,23 @@ none_clrs set (w ∷ ws) = at (tx_in w.tx set) (none_clrs set ws)
     at true h = h
     at false h = h
 
-writes_if : (s t : Shard) (b : Bool) → decisions t.local.log ≤ decisions s.local.log + 1 → Writes s (cond b (Some t) None)
-writes_if s t true h = h
-writes_if s t false h = tt
+writes_vote : (s : Shard) (tx : TxId) (v : Voter) (x : Vote) → Writes s (finish_reader tx x (with_vote s tx v x))
+writes_vote s tx v Yes = omega arith
+writes_vote s tx v Read = omega arith
+writes_vote s tx v (No why) = omega arith
 
-writes_or : (s : Shard) (x y : Option Shard) → Writes s x → Writes s y → Writes s (or_else x y)
-writes_or s None y p q = q
-writes_or s (Some t) y p q = p
-
-writes_commit : (s : Shard) (tx : TxId) (st : Option Stage) → Writes s (commit_due s tx st)
-writes_commit s tx None = tt
-writes_commit s tx (Some Active) = tt
-writes_commit s tx (Some Closed) = writes_if s (with_commit_done s tx) (has_durable_commit (facts_of s tx)) (omega arith)
-writes_commit s tx (Some (Gone d)) = tt
-
-writes_give : (s : Shard) (tx : TxId) (v : Voter) (o : Option Vote) → Writes s (give_vote s tx v o)
-writes_give s tx v None = tt
-writes_give s tx v (Some Yes) = omega arith
-writes_give s tx v (Some Read) = omega arith
-writes_give s tx v (Some (No why)) = omega arith
-
-writes_vote : (s : Shard) (tx : TxId) (o : Option Voter) → Writes s (vote_due s tx o)
-writes_vote s tx None = tt
-writes_vote s tx (Some v) = writes_give s tx v (vote_by (facts_of s tx) v)
-
-writes_rule : (s : Shard) (tx : TxId) (q : Request) (o : Option Ruling) → Writes s (rule s tx q o)
-writes_rule s tx q None = tt
-writes_rule s tx q (Some (CommitVerdict parts)) = let a = decisions-append s.local.log (Commit tx parts ∷ []) in let one : decisions (Commit tx parts ∷ []) ≤ 1 = omega arith in omega (arith, a, one)
-writes_rule s tx q (Some Acknowledge) = omega arith
-writes_rule s tx q (Some (AbortVerdict cause to)) =
+writes_rule : (s : Shard) (tx : TxId) (q : Request) (r : Ruling) → Writes s (do_ruling tx r (with_ruling tx q r s))
+writes_rule s tx q (CommitVerdict parts) = let a = decisions-append s.local.log (Commit tx parts ∷ []) in let one : decisions (Commit tx parts ∷ []) ≤ 1 = omega arith in omega (arith, a, one)
+writes_rule s tx q Acknowledge = omega arith
+writes_rule s tx q (AbortVerdict cause to) =
     let set = doomed_here s.local tx in let ws = standing s.local.log in
     let a = decisions-append (s.local.log ++ aborts_of s.local.log set) (clrs_of set ws) in let b = decisions-append s.local.log (aborts_of s.local.log set) in
     let c = none_aborts (filter (wrote_in s.local.log) set) in let d = none_clrs set ws in omega (arith, a, b, c, d)
-writes_rule s tx q (Some EndVerdict) = let a = decisions-append s.local.log (End tx ∷ []) in let one : decisions (End tx ∷ []) ≤ 1 = omega arith in omega (arith, a, one)
+writes_rule s tx q EndVerdict = let a = decisions-append s.local.log (End tx ∷ []) in let one : decisions (End tx ∷ []) ≤ 1 = omega arith in omega (arith, a, one)
 
-writes_request : (s : Shard) (tx : TxId) (o : Option Request) → Writes s (request_due s tx o)
-writes_request s tx None = tt
-writes_request s tx (Some q) = writes_rule s tx q (ruling_by s.shard tx q (facts_of s tx))
-
-writes_due : (s : Shard) (tx : TxId) → Writes s (due_of s tx)
-writes_due s tx =
-    writes_or s (commit_due s tx (stage_of s.local tx)) (or_else (vote_due s tx (tx_get tx s.voters)) (request_due s tx (tx_get tx s.requests)))
-    (writes_commit s tx (stage_of s.local tx))
-    (writes_or s (vote_due s tx (tx_get tx s.voters)) (request_due s tx (tx_get tx s.requests)) (writes_vote s tx (tx_get tx s.voters)) (writes_request s tx (tx_get tx s.requests)))
-
-writes_found : (s : Shard) (o rest : Option Shard) → Writes s o → Writes s rest → Writes s (elim o [ Some t ↦ Some t | None ↦ rest ])
-writes_found s None rest p q = q
-writes_found s (Some t) rest p q = p
-
-pub writes_first : (s : Shard) (txs : List TxId) → Writes s (first_due s txs)
-writes_first s [] = tt
-writes_first s (tx ∷ txs) = writes_found s (due_of s tx) (first_due s txs) (writes_due s tx) (writes_first s txs)
+pub writes_first : (s : Shard) (txs : List TxId) → IfDue (Writes s) (first_due s txs)
+writes_first s txs = first_holds (Writes s) s (λ tx. due_holds (Writes s) s tx (λ e. omega arith) (λ v x e f. writes_vote s tx v x) (λ q r e f. writes_rule s tx q r)) txs
 
 pub records_by_work : RecordsByWork
 records_by_work s t e =
-    let less = each_leaves_less s t e in let written : decisions t.local.log ≤ decisions s.local.log + 1 = subst (Writes s) e (writes_first s (known_txs s)) in omega (arith, less, written)
+    let less = each_leaves_less s t e in let written : decisions t.local.log ≤ decisions s.local.log + 1 = subst (IfDue (Writes s)) e (writes_first s (known_txs s)) in omega (arith, less, written)

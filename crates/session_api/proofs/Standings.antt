@@ -1,5 +1,5 @@
 -- How a session's last transaction stands, as whoever runs a script reads it.
-use Rattle.std.proofs.Common.{◌≡◌, refl, sym, ap, subst, ℕ, ◌≤◌, ◌^◌, ◌-◌, Bool, [], append-nil, Option, Some, None, inl, inr, arith}
+use Rattle.std.proofs.Common.{◌≡◌, sym, ap, subst, ℕ, ◌≤◌, ◌^◌, ◌-◌, Bool, [], Option, Some, None, inl, inr}
 use Rattle.clv_base.specs.declared.names.TxId.{TxId}
 use Rattle.clv_base.specs.declared.names.Birth.{Birth}
 use Rattle.clv_base.specs.Sessions.{SessionState}
@@ -7,10 +7,11 @@ use Rattle.cluster_turns.specs.declared.shards.Shards.{Shards}
 use Rattle.cluster_turns.specs.declared.shards.Walker.{Walker}
 use Rattle.session_ops.specs.Standing.{HasBirth}
 use Rattle.session_ops.specs.Standings.{IsUnasked}
-use Rattle.script_runs.specs.Seen.{Idle, Active, Asked, Seen, Grows}
+use Rattle.script_runs.specs.Seen.{Idle, Active, Asked, Grows}
 use Rattle.session_api.specs.declared.progress.Progress.{Progress}
 use Rattle.session_api.specs.Seeing.{touched_in}
 use Rattle.session_api.specs.Standing.{active_as, seen_in}
+use Rattle.script_runs.proofs.Laws.{grows_none}
 
 -- ---- what is read
 
@@ -53,25 +54,13 @@ idle_again a b h = cc
 pub none_again : {X : Type 0} (birth : Birth) → Idle None ≡ Idle (Some birth) → X
 none_again birth h = absurd cc
 
--- ---- a call that adds nothing
-
-pub same_grows : (u : Seen) → Grows [] u u
-same_grows u = record {
-  splits_are = refl;
-  run_is = refl;
-  walker_is = refl;
-  entries_are = sym (append-nil u.entries);
-  clock_rises = (omega arith);
-  serial_rises = (omega arith);
-}
-
 module _ {M S G : Type 0} (sh : Shards M S G) where
   pub unasked_born : (w : Walker M S G) (p : SessionState) → IsUnasked sh w p → HasBirth w p
   unasked_born w p (inl active) = active.born
   unasked_born w p (inr ending) = ending.over.born
 
   pub stays_grown : (w v : Walker M S G) (s t : Progress) → v ≡ w → t ≡ s → Grows [] (seen_in sh w s) (seen_in sh v t)
-  stays_grown w v s t is same = subst (λ z. Grows [] (seen_in sh w s) (seen_in sh z t)) (sym is) (subst (λ x. Grows [] (seen_in sh w s) (seen_in sh w x)) (sym same) (same_grows (seen_in sh w s)))
+  stays_grown w v s t is same = subst (λ z. Grows [] (seen_in sh w s) (seen_in sh z t)) (sym is) (subst (λ x. Grows [] (seen_in sh w s) (seen_in sh w x)) (sym same) (grows_none (seen_in sh w s)))
 
 module _ {M S G : Type 0} where
   -- the clock is at its end still

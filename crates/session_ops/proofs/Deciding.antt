@@ -76,8 +76,6 @@ left_as_over p q over (inl same) = same
 left_as_over p q over (inr same) = same ∙ ap (λ (x : Phase). record p { phase = x }) over
 
 module _ {T : Type 0} where
-  pub only_drops : (count w c d : ℕ) (ps qs : List (Option (Pass T Note Origin))) (tx : TxId) (touched : List (ℕ × ℕ)) (n : ℕ) (l : Leaving count w c ps tx touched n d qs) → AllByRecursion (IsLookOrDrop tx touched n) l.turns
-  only_drops count w c d ps qs tx touched n l = drops_only tx touched n l.turns l.only
 
 some_number : (a b : ℕ) → ◌≡◌ {A = Option ℕ} (Some a) (Some b) → a ≡ b
 some_number a b h = cc

@@ -6,6 +6,7 @@ pub mod Outcomes
 pub mod Rounding
 pub mod First
 pub mod New
+pub mod AfterTurn
 pub mod Making
 pub mod Seeing
 pub mod Going

@@ -1,17 +1,14 @@
 -- What a request's answer makes of a session.
-use Rattle.std.proofs.Common.{◌≡◌, ◌∙◌, refl, sym, ap, subst, ℕ, ◌≤◌, ◌^◌, ◌==◌, nat_lt, Bool, true, false, cond, ◌&&◌, map, List, [], ◌∷◌, ◌++◌, append-nil, Option, Some, None, Result, Ok, Err, arith, inl, inr, eq-eqb}
+use Rattle.std.proofs.Common.{◌≡◌, ◌∙◌, refl, sym, ap, subst, ℕ, ◌==◌, nat_lt, Bool, true, false, cond, ◌&&◌, map, List, [], ◌∷◌, Option, Some, None, Result, Ok, Err, arith, inl, inr, eq-eqb}
 use Rattle.std.specs.Prelude.{is_some, IfOk}
 use Rattle.std.specs.List.{list_all}
-use Rattle.std.specs.Map.{lookup}
 use Rattle.std.proofs.lemmas.Bool.{both_ways, and_from}
 use Rattle.clv_base.specs.declared.names.TxId.{TxId}
-use Rattle.clv_base.specs.declared.names.Birth.{Birth}
 use Rattle.clv_base.specs.declared.causes.AbortCause.{AbortCause}
 use Rattle.clv_base.specs.declared.events.Event.{Event}
 use Rattle.clv_base.specs.declared.events.Event.TheVariants.{Request}
 use Rattle.clv_base.specs.declared.events.Outcome.{Outcome}
 use Rattle.clv_base.specs.declared.events.Outcome.TheVariants.{Asked, Dead, Down}
-use Rattle.clv_base.specs.declared.events.Entry.{Entry}
 use Rattle.clv_base.specs.FileRules.{numbers_rise}
 use Rattle.clv_base.specs.Orders.{tx_same}
 use Rattle.clv_base.specs.State.{Shard}
@@ -19,8 +16,8 @@ use Rattle.clv_base.specs.declared.state.Stage.{Stage}
 use Rattle.clv_base.specs.declared.state.Stage.TheVariants.{Active, Closed, Gone}
 use Rattle.clv_base.specs.Undo.{stage_of}
 use Rattle.clv_base.specs.OneShard.{seen_fits}
-use Rattle.clv_base.specs.Events.{Reply, QuietBeforeWorn, happen, happen_up, step, next_stamp, request_event, request_by_stage, epoch_in}
-use Rattle.clv_base.specs.Sessions.{SessionState, is_touching, same_touched, is_lowest, requested, session_after, is_session_number}
+use Rattle.clv_base.specs.Events.{Reply, QuietBeforeWorn, happen, happen_up, step, request_event, request_by_stage, epoch_in}
+use Rattle.clv_base.specs.Sessions.{SessionState, is_touching, same_touched, is_lowest, requested, session_after}
 use Rattle.clv_base.proofs.SameNames.{tx_self}
 use Rattle.journal_laws.specs.Offers.{may_make}
 use Rattle.machine_calls.specs.declared.machine.StepError.{StepError}
@@ -29,23 +26,19 @@ use Rattle.machine_calls.specs.Events.{touched_fit}
 use Rattle.machine_calls.specs.Steps.{Tells}
 use Rattle.cluster_turns.specs.declared.shards.Shards.{Shards}
 use Rattle.cluster_turns.specs.declared.shards.Walker.{Walker}
-use Rattle.cluster_turns.specs.Turns.{EventTold}
 use Rattle.turn_lock.specs.Passes.{pass_origin}
-use Rattle.cluster_turns.specs.Walkers.{IsWalker, IsSameWalker, Walked, kept}
-use Rattle.cluster_turns.proofs.Laws.{event_rises}
-use Rattle.cluster_turns.specs.States.{session_of}
-use Rattle.cluster_turns.proofs.Laws.{states_go_on, states_tell_may_make, touched_are_last, enters_so, ok_same, quiet_so}
-use Rattle.cluster_turns.specs.CallTurns.{Turn, Took, no_turn, event_turn, entry_on}
-use Rattle.cluster_turns.proofs.Laws.{kept_grows}
-use Rattle.cluster_turns.specs.Births.{AreInformed}
+use Rattle.cluster_turns.specs.Walkers.{IsWalker, IsSameWalker, kept}
+use Rattle.cluster_turns.proofs.Laws.{states_tell_may_make, touched_are_last}
+use Rattle.cluster_turns.specs.CallTurns.{no_turn}
 use Rattle.cluster_turns.specs.Unborn.{UnbornAt, HasShard, EndsPart}
-use Rattle.cluster_turns.proofs.Laws.{informed_stay, free_stays, unless_stays, ends_unbear, dies_at_request}
-use Rattle.session_ops.specs.Standing.{IsOld, IsReady, HasBirth, IsActive, IsGoneAt}
+use Rattle.cluster_turns.proofs.Laws.{ends_unbear, dies_at_request}
+use Rattle.session_ops.specs.Standing.{IsOld, IsReady, IsActive, IsGoneAt}
 use Rattle.session_ops.specs.Requested.{is_request_outcome, place_requested, RequestTold, RequestStands}
 use Rattle.law_base.proofs.Names.{birth_same}
 use Rattle.law_base.proofs.Shards.{is_done, fits_request as is_told, outcome_in}
 use Rattle.law_base.proofs.Lists.{lowest_any as lowest_among, some_inside as past}
 use Rattle.law_base.proofs.Options.{some_inj as some_same}
+use Rattle.session_ops.proofs.AfterTurn.{IsEntered, told_enters, quiet_none, told_fits, error_none, IsAsked, turn_of, took_turn, rises, born_after, ready_still, ready_then}
 
 -- ---- an entry is made exactly where the request stands or died
 
@@ -70,42 +63,6 @@ happens_fits s tx ts = at s.is_up
     at : (u : Bool) → Fits (elim u [ true ↦ happen_up s (Request tx ts) | false ↦ QuietBeforeWorn Down ])
     at true = by_seen s tx ts (seen_fits s.local.epoch (epoch_in s.shard ts))
     at false = (refl, refl)
-
--- an entry of this event and outcome
-pub record IsEntered (e : Event) (o : Outcome) (made : Option Entry) : Type 0 where
-  pub entry : Entry
-  pub is : made ≡ Some entry
-  pub event_is : entry.event ≡ e
-  pub outcome_is : entry.outcome ≡ o
-
-module _ (tx : TxId) (ts : List (ℕ × ℕ)) where
-  told_enters : (s t : Shard) (clock w : ℕ) (o : Outcome) (made : Option Entry) → Tells (step s clock w (Request tx ts)) s clock w (Request tx ts) (Ok o) t made → is_told o ≡ true → IsEntered (Request tx ts) o made
-  told_enters s t clock w o None h k =
-      let e = Request tx ts in
-      let q = quiet_so (next_stamp s clock e) w e (nat_lt (next_stamp s clock e) (2 ^ 48)) (happen s e) o h.0 in
-      absurd (both_ways (is_done (happen s e)) q.1 (sym (happens_fits s tx ts).0 ∙ ap is_told q.0 ∙ k))
-  told_enters s t clock w o (Some x) (p, is, m) k =
-      record { entry = x; is = refl; event_is = ap (λ y. y.event) m.entry_is; outcome_is = ap (λ y. y.outcome) m.entry_is ∙ sym (ok_same o p is) }
-
-  quiet_none : (s t : Shard) (clock w : ℕ) (o : Outcome) (made : Option Entry) → Tells (step s clock w (Request tx ts)) s clock w (Request tx ts) (Ok o) t made → is_told o ≡ false → made ≡ None
-  quiet_none s t clock w o None h k = refl
-  quiet_none s t clock w o (Some x) (p, is, m) k =
-      let e = Request tx ts in
-      let q = enters_so (next_stamp s clock e) w e (nat_lt (next_stamp s clock e) (2 ^ 48)) (happen s e) p t m.enters in
-      absurd (both_ways (is_done (happen s e)) (sym (happens_fits s tx ts).0 ∙ ap is_told (q.0 ∙ sym (ok_same o p is)) ∙ k) q.1)
-
-  error_none : (s t : Shard) (clock w : ℕ) (x : StepError) (made : Option Entry) → Tells (step s clock w (Request tx ts)) s clock w (Request tx ts) (Err x) t made → made ≡ None
-  error_none s t clock w x None h = refl
-  error_none s t clock w x (Some y) (p, is, m) = absurd cc
-
-  told_fits : (s t : Shard) (clock w : ℕ) (r : Result Outcome StepError) (made : Option Entry) → Tells (step s clock w (Request tx ts)) s clock w (Request tx ts) r t made → IfOk r (λ o. is_request_outcome o ≡ true)
-  told_fits s t clock w (Err e) made h = tt
-  told_fits s t clock w (Ok o) None h =
-      let e = Request tx ts in
-      let q = quiet_so (next_stamp s clock e) w e (nat_lt (next_stamp s clock e) (2 ^ 48)) (happen s e) o h.0 in ap is_request_outcome (sym q.0) ∙ (happens_fits s tx ts).1
-  told_fits s t clock w (Ok o) (Some x) (p, is, m) =
-      let e = Request tx ts in
-      let q = enters_so (next_stamp s clock e) w e (nat_lt (next_stamp s clock e) (2 ^ 48)) (happen s e) p t m.enters in ap is_request_outcome (ok_same o p is ∙ sym q.0) ∙ (happens_fits s tx ts).1
 
 -- ---- passes
 
@@ -147,76 +104,34 @@ module _ {M S G : Type 0} (sh : Shards M S G) (w : Walker M S G) (p : SessionSta
 -- ---- after one turn
 
 module _ {M S G : Type 0} (sh : Shards M S G) (w v : Walker M S G) (p : SessionState) (a : IsActive sh w p) (n : ℕ) (r : Result Outcome StepError) where
-  abbrev IsAsked : Type 0
-  IsAsked = Walked (EventTold w.clock w.number (Request p.tx p.touched) r v.clock) n w.number w.passes.items v.passes.items
+  pub request_told : IsAsked w v n (Request p.tx p.touched) r → RequestTold w.number w.clock w.passes.items n (Request p.tx p.touched) r v.clock v.passes.items
+  request_told walked = record { turns = turn_of w v n (Request p.tx p.touched) r walked ∷ []; took = took_turn w v n (Request p.tx p.touched) r walked; is = inr (turn_of w v n (Request p.tx p.touched) r walked, refl, refl, refl, refl) }
 
-  abbrev turn_of : IsAsked → Turn
-  turn_of walked = record { shard = n; event = Request p.tx p.touched; answer = r; made = walked.turned.told.made }
-
-  took_turn : (walked : IsAsked) → Took w.number w.clock w.passes.items (turn_of walked ∷ []) v.clock v.passes.items
-  took_turn walked = event_turn w.clock v.clock v.clock w.passes.items v.passes.items v.passes.items (turn_of walked) [] walked refl refl (no_turn v.clock v.passes.items)
-
-  pub request_told : IsAsked → RequestTold w.number w.clock w.passes.items n (Request p.tx p.touched) r v.clock v.passes.items
-  request_told walked = record { turns = turn_of walked ∷ []; took = took_turn walked; is = inr (turn_of walked, refl, refl, refl, refl) }
-
-  pub request_fits : IsAsked → IfOk r (λ o. is_request_outcome o ≡ true)
-  request_fits walked = told_fits p.tx p.touched walked.turned.s walked.turned.t w.clock w.number r walked.turned.told.made walked.turned.told.tells
-
-  rises : IsAsked → w.clock ≤ v.clock
-  rises walked = event_rises w.clock w.number (Request p.tx p.touched) r v.clock walked.turned.s walked.turned.t walked.turned.added walked.turned.told
-
-  informed_after : (walked : IsAsked) → v.number ≡ w.number → AreInformed v.number v.clock v.passes.items
-  informed_after walked same =
-      subst (λ k. AreInformed k v.clock v.passes.items) (sym same)
-      (informed_stay w.number w.clock v.clock w.passes.items v.passes.items (turn_of walked ∷ []) (took_turn walked) (tt, tt) a.ready.informed)
-
-  kept_after : (walked : IsAsked) → kept v.passes.items ≡ kept w.passes.items ++ (entry_on n walked.turned.told.made ++ [])
-  kept_after walked = kept_grows w.number w.clock v.clock w.passes.items v.passes.items (turn_of walked ∷ []) (took_turn walked)
-
-  old_after : w.clock ≤ v.clock → (b : Option Birth) → IsOld w.clock b → IsOld v.clock b
-  old_after l None h = tt
-  old_after l (Some b) h = omega arith
-
-  born_after : (walked : IsAsked) → v.number ≡ w.number → HasBirth v p
-  born_after walked same = record {
-    birth = a.born.birth;
-    is = a.born.is;
-    bears = a.born.bears ∙ sym same;
-    old = (let l = rises walked in let o = a.born.old in omega arith);
-    free = free_stays w.number w.clock v.clock w.passes.items v.passes.items (turn_of walked ∷ []) p.tx a.born.birth (took_turn walked) a.born.bears (tt, tt) a.born.free;
-    parts = λ m. unless_stays m w.number w.clock v.clock w.passes.items v.passes.items (turn_of walked ∷ []) (lookup (◌==◌ m) p.touched) a.born.birth (took_turn walked) a.born.bears ((λ here. inr (λ u. tt)), tt) (a.born.parts m);
-  }
+  pub request_fits : IsAsked w v n (Request p.tx p.touched) r → IfOk r (λ o. is_request_outcome o ≡ true)
+  request_fits walked = told_fits (Request p.tx p.touched) is_told is_request_outcome (λ s. happens_fits s p.tx p.touched) walked.turned.s walked.turned.t w.clock w.number r walked.turned.told.made walked.turned.told.tells
 
   -- where it stands or died, it has no active part at its home
-  gone_asked : (walked : IsAsked) → r ≡ Ok Asked → IsGoneAt n v p
+  gone_asked : (walked : IsAsked w v n (Request p.tx p.touched) r) → r ≡ Ok Asked → IsGoneAt n v p
   gone_asked walked is birth had =
       subst (λ b. UnbornAt n b v.passes.items) (birth_same a.born.birth birth (sym a.born.is ∙ had))
-      (ends_unbear n w.number w.clock v.clock w.passes.items v.passes.items (turn_of walked ∷ []) p.tx a.born.birth (took_turn walked) a.born.bears (tt, tt) a.born.free
+      (ends_unbear n w.number w.clock v.clock w.passes.items v.passes.items (turn_of w v n (Request p.tx p.touched) r walked ∷ []) p.tx a.born.birth (took_turn w v n (Request p.tx p.touched) r walked) a.born.bears (tt, tt) a.born.free
       (inl (refl, subst (EndsPart p.tx (Request p.tx p.touched)) (sym is) refl, tt)))
 
-  gone_dead : (walked : IsAsked) (cause : AbortCause) → r ≡ Ok (Dead cause) → IsGoneAt n v p
+  gone_dead : (walked : IsAsked w v n (Request p.tx p.touched) r) (cause : AbortCause) → r ≡ Ok (Dead cause) → IsGoneAt n v p
   gone_dead walked cause is birth had =
       subst (λ b. UnbornAt n b v.passes.items) (birth_same a.born.birth birth (sym a.born.is ∙ had))
-      (dies_at_request n w.number w.clock v.clock w.passes.items v.passes.items (turn_of walked) p.tx a.born.birth p.touched cause (took_turn walked) a.born.bears refl refl is (has_shard sh w a.ready.walker n) a.born.free (a.born.parts n))
+      (dies_at_request n w.number w.clock v.clock w.passes.items v.passes.items (turn_of w v n (Request p.tx p.touched) r walked) p.tx a.born.birth p.touched cause (took_turn w v n (Request p.tx p.touched) r walked) a.born.bears refl refl is (has_shard sh w a.ready.walker n) a.born.free (a.born.parts n))
 
   -- no entry was made
-  active_still : (walked : IsAsked) → IsWalker sh v → IsSameWalker w v → walked.turned.told.made ≡ None → IsActive sh v p
+  active_still : (walked : IsAsked w v n (Request p.tx p.touched) r) → IsWalker sh v → IsSameWalker w v → walked.turned.told.made ≡ None → IsActive sh v p
   active_still walked is_walker same none =
-      let l = rises walked in
-      let kept_same : kept v.passes.items ≡ kept w.passes.items = kept_after walked ∙ ap (λ m. kept w.passes.items ++ (entry_on n m ++ [])) none ∙ append-nil (kept w.passes.items) in
+      let l = rises w v n (Request p.tx p.touched) r walked in
       record {
         state = a.state;
-        ready = record {
-          walker = is_walker;
-          number = subst (λ k. is_session_number k ≡ true) (sym same.0) a.ready.number;
-          state = subst (λ k. session_of sh.splits sh.run k (kept v.passes.items) ≡ Some a.state) (sym same.0) (ap (session_of sh.splits sh.run w.number) kept_same ∙ a.ready.state);
-          serial = (let s = same.1 in let h = a.ready.serial in omega arith);
-          old = old_after l (a.state).birth a.ready.old;
-          informed = informed_after walked same.0;
-        };
+        ready = ready_still w v n (Request p.tx p.touched) r walked sh a.state tt is_walker same none a.ready;
         goes = a.goes;
         touching = a.touching;
-        born = born_after walked same.0;
+        born = born_after w v n (Request p.tx p.touched) r walked p a.born (λ tx. tt) same.0;
         serial = (let s = same.1 in let h = a.serial in omega arith);
         spelled = a.spelled;
         counted = (let h = a.counted in omega arith);
@@ -224,24 +139,15 @@ module _ {M S G : Type 0} (sh : Shards M S G) (w v : Walker M S G) (p : SessionS
       }
 
   -- one was
-  ready_then : (walked : IsAsked) (o : Outcome) (q : SessionState) → IsWalker sh v → IsSameWalker w v → is_lowest n p.touched ≡ true → IsEntered (Request p.tx p.touched) o walked.turned.told.made → requested n p o ≡ Some q → (q.tx ≡ p.tx) → (q.birth ≡ p.birth)
-      → IsReady sh v q
-  ready_then walked o q is_walker same lowest x goes name birth = record {
-    walker = is_walker;
-    number = subst (λ k. is_session_number k ≡ true) (sym same.0) a.ready.number;
-    state = subst (λ k. session_of sh.splits sh.run k (kept v.passes.items) ≡ Some q) (sym same.0)
-        (ap (session_of sh.splits sh.run w.number) (kept_after walked ∙ ap (λ m. kept w.passes.items ++ (entry_on n m ++ [])) x.is)
-        ∙ states_go_on sh.splits sh.run w.number (kept w.passes.items) a.state (n, x.entry) a.ready.state
-        ∙ ap (λ e. session_after sh.splits n a.state e (x.entry).outcome) x.event_is ∙ ap (session_after sh.splits n a.state (Request p.tx p.touched)) x.outcome_is
-        ∙ asks_home sh w p a n o lowest ∙ goes);
-    serial = (let s = same.1 in let h = a.serial in let k = ap (λ (t : TxId). t.serial) name in omega arith);
-    old = subst (IsOld v.clock) (sym (birth ∙ a.born.is)) (let l = rises walked in let h = a.born.old in omega arith);
-    informed = informed_after walked same.0;
-  }
+  made_ready : (walked : IsAsked w v n (Request p.tx p.touched) r) (o : Outcome) (q : SessionState) → IsWalker sh v → IsSameWalker w v → is_lowest n p.touched ≡ true → IsEntered (Request p.tx p.touched) o walked.turned.told.made → requested n p o ≡ Some q
+      → (q.tx ≡ p.tx) → (q.birth ≡ p.birth) → IsReady sh v q
+  made_ready walked o q is_walker same lowest x goes name birth =
+      ready_then w v n (Request p.tx p.touched) r walked sh a.state q o tt is_walker same x (asks_home sh w p a n o lowest ∙ goes) (let h = a.serial in let k = ap (λ (t : TxId). t.serial) name in omega arith)
+      (subst (IsOld w.clock) (sym (birth ∙ a.born.is)) a.born.old) a.ready
 
-  pub request_stands : (walked : IsAsked) → IsWalker sh v → IsSameWalker w v → is_lowest n p.touched ≡ true → (x : Result Outcome StepError) → r ≡ x → RequestStands sh v (place_requested n p x) n x
+  pub request_stands : (walked : IsAsked w v n (Request p.tx p.touched) r) → IsWalker sh v → IsSameWalker w v → is_lowest n p.touched ≡ true → (x : Result Outcome StepError) → r ≡ x → RequestStands sh v (place_requested n p x) n x
   request_stands walked is_walker same lowest (Err e) is =
-      active_still walked is_walker same (error_none p.tx p.touched walked.turned.s walked.turned.t w.clock w.number e walked.turned.told.made
+      active_still walked is_walker same (error_none (Request p.tx p.touched) walked.turned.s walked.turned.t w.clock w.number e walked.turned.told.made
       (subst (λ y. Tells (step walked.turned.s w.clock w.number (Request p.tx p.touched)) walked.turned.s w.clock w.number (Request p.tx p.touched) y walked.turned.t walked.turned.told.made) is walked.turned.told.tells))
   request_stands walked is_walker same lowest (Ok o) is = at o refl
     where
@@ -249,25 +155,25 @@ module _ {M S G : Type 0} (sh : Shards M S G) (w v : Walker M S G) (p : SessionS
       tells = subst (λ y. Tells (step walked.turned.s w.clock w.number (Request p.tx p.touched)) walked.turned.s w.clock w.number (Request p.tx p.touched) y walked.turned.t walked.turned.told.made) is walked.turned.told.tells
 
       quiet : is_told o ≡ false → IsActive sh v p
-      quiet k = active_still walked is_walker same (quiet_none p.tx p.touched walked.turned.s walked.turned.t w.clock w.number o walked.turned.told.made tells k)
+      quiet k = active_still walked is_walker same (quiet_none (Request p.tx p.touched) is_told is_request_outcome (λ s. happens_fits s p.tx p.touched) walked.turned.s walked.turned.t w.clock w.number o walked.turned.told.made tells k)
 
       entered : is_told o ≡ true → IsEntered (Request p.tx p.touched) o walked.turned.told.made
-      entered k = told_enters p.tx p.touched walked.turned.s walked.turned.t w.clock w.number o walked.turned.told.made tells k
+      entered k = told_enters (Request p.tx p.touched) is_told is_request_outcome (λ s. happens_fits s p.tx p.touched) walked.turned.s walked.turned.t w.clock w.number o walked.turned.told.made tells k
 
       at : (z : Outcome) → o ≡ z → RequestStands sh v (place_requested n p (Ok z)) n (Ok z)
       at Asked q =
-          let b = born_after walked same.0 in
+          let b = born_after w v n (Request p.tx p.touched) r walked p a.born (λ tx. tt) same.0 in
           record {
-            ready = ready_then walked o (place_requested n p (Ok Asked)) is_walker same lowest (entered (ap is_told q)) (ap (requested n p) q) refl refl;
+            ready = made_ready walked o (place_requested n p (Ok Asked)) is_walker same lowest (entered (ap is_told q)) (ap (requested n p) q) refl refl;
             stands = refl;
             born = record { birth = b.birth; is = b.is; bears = b.bears; old = b.old; free = b.free; parts = b.parts };
             spelled = a.spelled;
             gone = gone_asked walked (is ∙ ap (λ y. Ok y) q);
           }
       at (Dead cause) q =
-          let b = born_after walked same.0 in (
+          let b = born_after w v n (Request p.tx p.touched) r walked p a.born (λ tx. tt) same.0 in (
             record {
-              ready = ready_then walked o (place_requested n p (Ok (Dead cause))) is_walker same lowest (entered (ap is_told q)) (ap (requested n p) q) refl refl;
+              ready = made_ready walked o (place_requested n p (Ok (Dead cause))) is_walker same lowest (entered (ap is_told q)) (ap (requested n p) q) refl refl;
               born = record { birth = b.birth; is = b.is; bears = b.bears; old = b.old; free = b.free; parts = b.parts };
               spelled = a.spelled;
             },

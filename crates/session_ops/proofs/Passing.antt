@@ -73,7 +73,7 @@ state_stays splits run w es s (t ∷ ts) o m h = at t.made refl (λ fs k. state_
         ap (session_of splits run w) (sym (append_assoc es ((t.shard, x) ∷ []) (entries_made ts))) ∙ rest (es ++ (t.shard, x) ∷ []) one
 
 module _ {M S G : Type 0} (sh : Shards M S G) (w v : Walker M S G) where
-  still_ready : (t : SessionState) (ts : List Turn) → Took w.number w.clock w.passes.items ts v.clock v.passes.items → AreOthers ts → IsWalker sh v → IsSameWalker w v → IsReady sh w t → IsReady sh v t
+  pub still_ready : (t : SessionState) (ts : List Turn) → Took w.number w.clock w.passes.items ts v.clock v.passes.items → AreOthers ts → IsWalker sh v → IsSameWalker w v → IsReady sh w t → IsReady sh v t
   still_ready t ts took others is_walker same a =
       let l = clock_rises w.number w.clock v.clock w.passes.items v.passes.items ts took in
       record {
@@ -92,7 +92,7 @@ module _ {M S G : Type 0} (sh : Shards M S G) (w v : Walker M S G) where
       later l None h = tt
       later l (Some b) h = omega arith
 
-  still_born : (p : SessionState) (ts : List Turn) → Took w.number w.clock w.passes.items ts v.clock v.passes.items → AreOthers ts → IsSameWalker w v → HasBirth w p → HasBirth v p
+  pub still_born : (p : SessionState) (ts : List Turn) → Took w.number w.clock w.passes.items ts v.clock v.passes.items → AreOthers ts → IsSameWalker w v → HasBirth w p → HasBirth v p
   still_born p ts took others same b =
       let l = clock_rises w.number w.clock v.clock w.passes.items v.passes.items ts took in
       record {

@@ -1,21 +1,14 @@
 -- The entry of an acknowledgement.
-use Rattle.std.proofs.Common.{◌≡◌, ◌∙◌, refl, sym, ap, subst, ℕ, ◌^◌, ◌==◌, nat_lt, Bool, true, false, cond, List, [], ◌∷◌, Option, Some, None, Result, Ok}
+use Rattle.std.proofs.Common.{◌≡◌, ◌∙◌, refl, sym, ap, subst, ℕ, ◌^◌, nat_lt, List, [], ◌∷◌, Option, Some, None, Result, Ok}
 use Rattle.std.proofs.lemmas.Bool.{both_ways}
 use Rattle.clv_base.specs.declared.names.TxId.{TxId}
 use Rattle.clv_base.specs.declared.events.Event.{Event}
 use Rattle.clv_base.specs.declared.events.Event.TheVariants.{Look}
 use Rattle.clv_base.specs.declared.events.Outcome.{Outcome}
-use Rattle.clv_base.specs.declared.events.Outcome.TheVariants.{Acknowledged, Aborted, NotYet, Down}
+use Rattle.clv_base.specs.declared.events.Outcome.TheVariants.{Acknowledged}
 use Rattle.clv_base.specs.declared.events.Entry.{Entry}
-use Rattle.clv_base.specs.Orders.{tx_get}
-use Rattle.clv_base.specs.Logs.{committed_in}
 use Rattle.clv_base.specs.State.{Shard}
-use Rattle.clv_base.specs.declared.state.Request.{Request}
-use Rattle.clv_base.specs.declared.state.RequestState.{RequestState}
-use Rattle.clv_base.specs.declared.state.RequestState.TheVariants.{Undecided, Committed, Finished, Refused}
-use Rattle.clv_base.specs.Facts.{facts_of, has_durable_commit}
-use Rattle.clv_base.specs.Events.{QuietBeforeWorn, Does, happen, happen_up, step, next_stamp, request_epoch, look_lost, look_state, look_known, look_event, finish}
-use Rattle.clv_base.specs.declared.causes.AbortCause.TheVariants.{Restarted}
+use Rattle.clv_base.specs.Events.{happen, step, next_stamp}
 use Rattle.turn_lock.specs.declared.pass.Pass.{Pass}
 use Rattle.machine_calls.specs.declared.machine.StepError.{StepError}
 use Rattle.machine_calls.specs.Steps.{Tells, clock_after}
@@ -23,44 +16,8 @@ use Rattle.machine_laws.specs.declared.notes.Note.{Note}
 use Rattle.machine_laws.specs.declared.notes.Origin.{Origin}
 use Rattle.cluster_turns.specs.CallTurns.{Turn, Took, no_turn, event_turn, flush_turns, horizon_look}
 use Rattle.law_base.proofs.Shards.{is_done, is_told}
-use Rattle.session_ops.proofs.Seeing.{Fits}
+use Rattle.session_ops.proofs.Seeing.{happens_fits}
 use Rattle.cluster_turns.proofs.Laws.{head_same, quiet_so, tail_same}
-
-by_state : (s : Shard) (q : RequestState) → Fits (look_state s q)
-by_state s Undecided = (refl, refl)
-by_state s (Committed parts) = (refl, refl)
-by_state s Finished = (refl, refl)
-by_state s (Refused cause) = (refl, refl)
-
-by_lost : (s : Shard) (tx : TxId) (e : Option ℕ) → Fits (look_lost s tx e)
-by_lost s tx None = (refl, refl)
-by_lost s tx (Some e) = at (e == s.local.epoch)
-  where
-    at : (b : Bool) → Fits (cond b (QuietBeforeWorn NotYet) (Does (Aborted (Restarted s.shard e s.local.epoch)) (finish s)))
-    at true = (refl, refl)
-    at false = (refl, refl)
-
-by_known : (s : Shard) (tx : TxId) (q : Option Request) → Fits (look_known s tx q)
-by_known s tx (Some q) = by_state s q.state
-by_known s tx None = at (committed_in s.local.log tx) (by_lost s tx (request_epoch s.shard tx s.journal))
-  where
-    at : (b : Bool) → Fits (look_lost s tx (request_epoch s.shard tx s.journal)) → Fits (cond b (QuietBeforeWorn NotYet) (look_lost s tx (request_epoch s.shard tx s.journal)))
-    at true h = (refl, refl)
-    at false h = h
-
-by_look : (s : Shard) (tx : TxId) → Fits (look_event s tx)
-by_look s tx = at (has_durable_commit (facts_of s tx)) (by_known s tx (tx_get tx s.requests))
-  where
-    at : (b : Bool) → Fits (look_known s tx (tx_get tx s.requests)) → Fits (cond b (Does Acknowledged (finish s)) (look_known s tx (tx_get tx s.requests)))
-    at true h = (refl, refl)
-    at false h = h
-
-happens_fits : (s : Shard) (tx : TxId) → Fits (happen s (Look tx))
-happens_fits s tx = at s.is_up (by_look s tx)
-  where
-    at : (u : Bool) → Fits (happen_up s (Look tx)) → Fits (elim u [ true ↦ happen_up s (Look tx) | false ↦ QuietBeforeWorn Down ])
-    at true h = h
-    at false h = (refl, refl)
 
 -- ---- the entry
 

@@ -1,5 +1,5 @@
 -- From a request's answer to what a commit tells.
-use Rattle.std.proofs.Common.{◌≡◌, ◌≢◌, refl, sym, ap, subst, ℕ, ◌<◌, true, false, List, [], ◌∷◌, length, Option, Result, Ok, Err, arith, inl, eqb-true}
+use Rattle.std.proofs.Common.{◌≡◌, refl, sym, ap, subst, ℕ, ◌<◌, true, false, List, [], ◌∷◌, length, Option, Result, Ok, Err, arith, inl, eqb-true}
 use Rattle.std.specs.Prelude.{IfOk}
 use Rattle.std.specs.List.{AllByRecursion}
 use Rattle.std.proofs.lemmas.Bool.{both_ways}
@@ -8,7 +8,7 @@ use Rattle.clv_base.specs.declared.events.Event.TheVariants.{Request}
 use Rattle.clv_base.specs.declared.events.Outcome.{Outcome}
 use Rattle.clv_base.specs.declared.events.Outcome.TheVariants.{Asked, Dead, Down as DownOut}
 use Rattle.clv_base.specs.Shards.{shard_count}
-use Rattle.clv_base.specs.Sessions.{SessionState, Phase, Touching, Ended, Standing, is_lowest, may_drop}
+use Rattle.clv_base.specs.Sessions.{SessionState, Phase, Ended, Standing, is_lowest, may_drop}
 use Rattle.turn_lock.specs.declared.pass.Pass.{Pass}
 use Rattle.machine_calls.specs.declared.machine.StepError.{StepError}
 use Rattle.machine_calls.specs.declared.machine.StepError.TheVariants.{Memory as NoMemory, Worn as IsWorn}
@@ -20,21 +20,17 @@ use Rattle.cluster_turns.specs.Walkers.{kept}
 use Rattle.cluster_turns.proofs.Laws.{touched_are_last, touched_are_shards}
 use Rattle.cluster_turns.specs.CallTurns.{Turn, no_turn}
 use Rattle.cluster_turns.proofs.Laws.{turns_follow}
-use Rattle.session_ops.specs.Standing.{IsReady, IsActive}
+use Rattle.session_ops.specs.Standing.{IsActive}
 use Rattle.session_ops.specs.Requested.{is_request_outcome, place_requested, RequestTold, RequestStands}
-use Rattle.session_ops.specs.Dropped.{IsEnding}
 use Rattle.session_ops.specs.declared.settled_looking.SettleError.{SettleError}
 use Rattle.session_ops.specs.declared.settled_looking.SettleError.TheVariants.{Aborted as SettleAborted, Unsettled as SettleUnsettled, Worn as SettleWorn, Memory as SettleMemory}
 use Rattle.session_ops.specs.declared.committing.Settled.{Settled}
 use Rattle.session_ops.specs.declared.committing.CommitError.{CommitError}
 use Rattle.session_ops.specs.declared.committing.Next.{Next}
 use Rattle.session_ops.specs.declared.committing.Next.TheVariants.{Refuses}
-use Rattle.session_ops.specs.Standings.{StandsAs}
 use Rattle.session_ops.specs.Decided.{DecidedBy, IsLookOrDrop}
 use Rattle.session_ops.specs.Committed.{CommittedBy, next_as, FollowedBy, Following, Committing, Answering}
-use Rattle.session_ops.proofs.Deciding.{stands_in}
 use Rattle.law_base.proofs.Lists.{lowest_some as some_touched}
-use Rattle.law_base.proofs.Shards.{touching_is}
 
 -- ---- which shards
 
@@ -49,15 +45,6 @@ module _ {M S G : Type 0} (sh : Shards M S G) where
       let all = touched_are_shards sh.splits sh.run w.number (kept w.passes.items) a.state a.ready.state in
       let l : n < shard_count sh.splits = lowest_within sh.splits n (a.state).touched (subst (λ (z : SessionState). is_lowest n z.touched ≡ true) same low) all in
       let c = a.ready.walker.count in omega arith
-
-  -- once something was touched, an active transaction may be dropped
-  pub active_ends : (w : Walker M S G) (p : SessionState) → IsActive sh w p → p.touched ≢ [] → IsEnding sh w p
-  active_ends w p a some =
-      let same : p ≡ a.state = touched_are_last a.state p a.goes (inl some) in
-      record { over = record { ready = subst (IsReady sh w) (sym same) a.ready; born = a.born; spelled = a.spelled }; may = ap may_drop (touching_is p.phase a.touching) }
-
-  pub active_stands : (w : Walker M S G) (p : SessionState) → IsActive sh w p → StandsAs sh w p
-  active_stands w p a = stands_in sh w p Touching (touching_is p.phase a.touching) a
 
   -- ---- what the request was answered
 

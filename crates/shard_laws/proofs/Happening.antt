@@ -402,10 +402,6 @@ lists_all s tx ps e p pair =
 met_deps : (all : List Item) (g : Past) (s : Shard) (tx : TxId) → Sound all g s → stage_of s.local tx ≡ Some Active → (p : TxId) → is_pair g.met tx p ≡ true → Dep (view_of s) tx p
 met_deps all g s tx h act p e = ⊎_elim (λ o. absurd (o.1 act)) (λ d. d.0) (h.kept.recover tx p e)
 
--- an active part did not fall
-unfallen_active : (all : List Item) (g : Past) (s : Shard) (tx : TxId) → Sound all g s → stage_of s.local tx ≡ Some Active → tx_in tx g.fell ≡ false
-unfallen_active all g s tx h act = false_from_ne_true _ (λ i. both_ways _ (h.kept.prepared.unprepared tx act) (h.falls.back tx i (ap is_present act)))
-
 closing_prepares : (all : List Item) (g : Past) (s : Shard) (tx : TxId) (home : ℕ) (ps : List TxId) → Sound all g s → stage_of s.local tx ≡ Some Active → tx_in tx g.asked ≡ true → undecided_of s.local tx ≡ ps → Falls g.asked g.fell g.lost g.over s.local.parts s.local.pairs (s.local.log ++ Prepare tx home ps ∷ []) s.durable
 closing_prepares all g s tx home ps h act asks e = falls_prepare g.asked g.fell g.lost g.over s.local.parts s.local.pairs s.local.log s.durable tx home ps h.falls (ap is_present act) asks (ap by_prepare (prepare_here s.local.log [] tx home ps (h.kept.prepared.unprepared tx act)))
     (λ p i. in_pair s.local.pairs tx p (in_filter (λ q. not (committed_in s.local.log q)) p (predecessors_of s.local.pairs tx) (subst (λ l. tx_in p l ≡ true) (sym e) i)).0) (lists_all s tx ps e)
@@ -414,7 +410,7 @@ closing_falls : (all : List Item) (g : Past) (s : Shard) (tx : TxId) (home : ℕ
     → Falls g.asked g.fell g.lost g.over s.local.parts s.local.pairs (s.local.log ++ closing wrote one tx home ps) s.durable
 closing_falls all g s tx home false one ps h act asks e = subst (λ l. Falls g.asked g.fell g.lost g.over s.local.parts s.local.pairs l s.durable) (sym (append-nil s.local.log)) h.falls
 closing_falls all g s tx home true true [] h act asks e = falls_more g.asked g.fell g.lost g.over s.local.parts s.local.pairs s.local.log (Commit tx [] ∷ []) s.durable h.falls (λ u. refl)
-    (λ u c. ⊎_elim (λ i. let same = tx_true u tx i in (ap is_present (ap (stage_of s.local) same ∙ act), ap (λ z. tx_in z g.lost) same ∙ here_alive all g s tx h (ap is_present act) (unfallen_active all g s tx h act) (agreed_before s tx (ap (λ l. length l == 0) e)))) (λ i. absurd (both_ways false refl i)) (or_cases (tx_same u tx) false c))
+    (λ u c. ⊎_elim (λ i. let same = tx_true u tx i in (ap is_present (ap (stage_of s.local) same ∙ act), ap (λ z. tx_in z g.lost) same ∙ here_alive all g s tx h (ap is_present act) (unfallen_now all g s tx h act) (agreed_before s tx (ap (λ l. length l == 0) e)))) (λ i. absurd (both_ways false refl i)) (or_cases (tx_same u tx) false c))
 closing_falls all g s tx home true true (p ∷ ps) h act asks e = closing_prepares all g s tx home (p ∷ ps) h act asks e
 closing_falls all g s tx home true false ps h act asks e = closing_prepares all g s tx home ps h act asks e
 
@@ -502,11 +498,8 @@ closed_sound all g s tx home one h act asks no_request no_vote = record {
     active_gone : ◌≡◌ {A = Option Stage} (Some Active) (Some (Gone None)) → ⊥
     active_gone e = absurd cc
 
-asks_sound : (all : List Item) (g : Past) (s : Shard) (tx : TxId) → Sound all g s → Sound all (record g { asked = g.asked ++ tx ∷ [] }) s
+pub asks_sound : (all : List Item) (g : Past) (s : Shard) (tx : TxId) → Sound all g s → Sound all (record g { asked = g.asked ++ tx ∷ [] }) s
 asks_sound all g s tx h = record { kept = keeps_asked g (view_of s) tx h.kept; answers = h.answers; requests = h.requests; voters = h.voters; asked = λ u c. ⊎_elim (λ a. inl (in_push g.asked tx u ∙ or_left _ _ a)) (λ l. inr l) (h.asked u c); falls = falls_asked g.asked g.fell g.lost g.over s.local.parts s.local.pairs s.local.log s.durable tx h.falls; order = order_asked g.asked s.shard s.run s.local.locks s.local.parts s.local.pairs s.local.log s.requests tx h.order }
-
-pub others_asked : (all : List Item) (g : Past) (s : Shard) (tx : TxId) → Sound all g s → Sound all (record g { asked = g.asked ++ tx ∷ [] }) s
-others_asked all g s tx h = asks_sound all g s tx h
 
 -- a request here: no voter of it, and no request yet
 -- a new request is undecided
@@ -580,7 +573,7 @@ asked_sound all g s tx touched h act no_vote no_request run_is =
     (λ u q e un. tx_ne u tx (λ same. none_request q (sym no_request ∙ ap (λ z. tx_get z s.requests) (sym same) ∙ e))) (λ v e. absurd (no_vote v e)))
     (new_open s tx touched (others s.shard touched) refl (h.kept.uncommitted tx act)) no_vote
     (new_ruled s.shard s.run (s.local.log ++ closing (wrote_in s.local.log tx) (is_alone (others s.shard touched)) tx s.shard (undecided_of s.local tx)) tx touched run_is
-    (λ p e. home_here s.local.log tx s.shard (wrote_in s.local.log tx) (is_alone (others s.shard touched)) (undecided_of s.local tx) p (h.kept.prepared.unprepared tx act) e)) (λ e. unfallen_active all g s tx h act)
+    (λ p e. home_here s.local.log tx s.shard (wrote_in s.local.log tx) (is_alone (others s.shard touched)) (undecided_of s.local tx) p (h.kept.prepared.unprepared tx act) e)) (λ e. unfallen_now all g s tx h act)
   where
     none_request : (q : Request) → ◌≡◌ {A = Option Request} None (Some q) → ⊥
     none_request q e = absurd cc

@@ -38,7 +38,7 @@ use Rattle.shard_laws.proofs.Leaving.{in_first, in_more, in_two, none_two}
 use Rattle.clv_base.specs.State.{is_present}
 use Rattle.std.proofs.lemmas.Bool.{false_from_ne_true}
 use Rattle.std.proofs.lemmas.Option.{none-some as none_tx, same_Some}
-use Rattle.shard_laws.proofs.Happening.{happen_sound, landed_sound, failed_sound, others_asked}
+use Rattle.shard_laws.proofs.Happening.{happen_sound, landed_sound, failed_sound, asks_sound}
 use Rattle.shard_laws.proofs.Serial.{Once, once_push}
 use Rattle.shard_laws.proofs.Members.{serial_run, recovered}
 
@@ -178,7 +178,7 @@ held shard run log0 _ _ (lands {d} {s} n pushed o t stamp walker before flies eq
     )
 held shard run log0 _ _ (others_ask {d} {s} t before new) =
     let b = held shard run log0 d s before in
-    (record b.0 { asked = (b.0).asked ++ t ∷ [] }, others_asked d.items b.0 s t b.1, b.2, b.3, ap (λ l. l ++ t ∷ []) b.4, once_push d.asked t b.5 new, b.6, b.7, b.8, b.9)
+    (record b.0 { asked = (b.0).asked ++ t ∷ [] }, asks_sound d.items b.0 s t b.1, b.2, b.3, ap (λ l. l ++ t ∷ []) b.4, once_push d.asked t b.5 new, b.6, b.7, b.8, b.9)
 held shard run log0 _ _ (revives {d} {s} kept epoch log stamp walker before down leads) =
     let b = held shard run log0 d s before in
     let later = revived_sound d.items d.told b.0 s kept epoch log b.1 b.9 (subst Once (sym b.4) b.5) b.6 leads in

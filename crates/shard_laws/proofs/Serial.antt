@@ -1,13 +1,13 @@
 -- The members of a cut are a serial run.
 use Rattle.std.proofs.Common.{◌≡◌, ℕ, zero, suc, ◌<◌, ◌⊎◌, ⊎_elim, Bool, true, false, cond, ◌||◌, List, [], ◌∷◌, ◌++◌, map, length, Option, Some, None, ◌==◌, refl, sym, ap, subst, ◌∙◌, arith, append_assoc, eqb-true, eq-eqb}
 use Rattle.std.specs.List.{AllByRecursion, filter}
-use Rattle.std.proofs.lemmas.Bool.{cases_Bool, both_ways, cond_both, cond-true, cond-false, or_cases, false_from_ne_true}
+use Rattle.std.proofs.lemmas.Bool.{cases_Bool, both_ways, cond_both, cond-true, cond-false, or_cases, false_from_ne_true, or_from}
 use Rattle.std.proofs.lemmas.List.Folds.{list_any-append}
 use Rattle.clv_base.specs.declared.names.TxId.{TxId}
 use Rattle.clv_base.specs.Orders.{tx_same, tx_in}
 use Rattle.clv_base.specs.Maps.{KeyMap}
 use Rattle.law_base.specs.Items.{Item, Runs, after, AllLater, Clash}
-use Rattle.clv_base.proofs.SameNames.{or_left, or_right, tx_true, tx_eq, tx_ne}
+use Rattle.clv_base.proofs.SameNames.{or_left, or_right, tx_true}
 use Rattle.shard_laws.proofs.Kept.{place}
 use Rattle.std.proofs.lemmas.Bool.{ltb-true}
 use Rattle.clv_base.specs.declared.ops.Op.{Op}
@@ -18,6 +18,8 @@ use Rattle.shard_laws.specs.OneShard.{items_of, ops_by, answers_by}
 use Rattle.law_base.proofs.Undoing.{write_met}
 use Rattle.shard_laws.proofs.Closing.{place_in}
 use Rattle.law_base.proofs.Names.{written_at as written_some}
+use Rattle.law_base.proofs.Bools.{none_or}
+use Rattle.law_base.proofs.Sets.{flip_apart}
 
 -- ---- items at places
 
@@ -105,23 +107,8 @@ once_filter keep (a ∷ rest) o = cond_both (keep a) (a ∷ filter keep rest) (f
 pub once_push : (as_ : List TxId) (t : TxId) → Once as_ → tx_in t as_ ≡ false → Once (as_ ++ t ∷ [])
 once_push [] t o e = (refl, tt)
 once_push (a ∷ rest) t o e =
-    (list_any-append (λ x. tx_same x a) rest (t ∷ []) ∙ both (tx_in a rest) (tx_same t a) o.0 (flip (left (tx_same a t) (tx_in t rest) e)), once_push rest t o.1 (right (tx_same a t) (tx_in t rest) e))
-  where
-    both : (p q : Bool) → p ≡ false → q ≡ false → (p || (q || false)) ≡ false
-    both true q e f = e
-    both false true e f = f
-    both false false e f = refl
-
-    left : (a b : Bool) → (a || b) ≡ false → a ≡ false
-    left true b e = e
-    left false b e = refl
-
-    right : (a b : Bool) → (a || b) ≡ false → b ≡ false
-    right true b e = absurd (both_ways true e refl)
-    right false b e = e
-
-    flip : tx_same a t ≡ false → tx_same t a ≡ false
-    flip e = tx_ne t a (λ s. both_ways _ e (tx_eq a t (sym s)))
+    let p = none_or (tx_same a t) (tx_in t rest) e in
+    (list_any-append (λ x. tx_same x a) rest (t ∷ []) ∙ or_from (tx_in a rest) (tx_same t a || false) o.0 (or_from (tx_same t a) false (flip_apart a t p.0) refl), once_push rest t o.1 p.1)
 
 -- ---- the groups are the members' operations
 
@@ -143,21 +130,13 @@ place_first t u rest = at (tx_same u t)
 
 place_at : (done : List TxId) (t u : TxId) (rest : List TxId) → tx_in t done ≡ false → (place (done ++ t ∷ rest) u == length done) ≡ tx_same u t
 place_at [] t u rest out = place_first t u rest
-place_at (d ∷ ds) t u rest out = at (tx_same u d) refl (place_at ds t u rest (right (tx_same d t) (tx_in t ds) out))
+place_at (d ∷ ds) t u rest out = at (tx_same u d) refl (place_at ds t u rest (none_or (tx_same d t) (tx_in t ds) out).1)
   where
-    right : (a b : Bool) → (a || b) ≡ false → b ≡ false
-    right true b e = absurd (both_ways true e refl)
-    right false b e = e
-
-    left : (a b : Bool) → (a || b) ≡ false → a ≡ false
-    left true b e = e
-    left false b e = refl
-
     len : length (d ∷ ds) ≡ suc (length ds)
     len = omega arith
 
     at : (b : Bool) → tx_same u d ≡ b → (place (ds ++ t ∷ rest) u == length ds) ≡ tx_same u t → (cond b zero (suc (place (ds ++ t ∷ rest) u)) == length (d ∷ ds)) ≡ tx_same u t
-    at true e ih = ap (λ n. zero == n) len ∙ zero_suc (length ds) ∙ sym (ap (λ z. tx_same z t) (tx_true u d e) ∙ left (tx_same d t) (tx_in t ds) out)
+    at true e ih = ap (λ n. zero == n) len ∙ zero_suc (length ds) ∙ sym (ap (λ z. tx_same z t) (tx_true u d e) ∙ (none_or (tx_same d t) (tx_in t ds) out).0)
     at false e ih = ap (λ n. suc (place (ds ++ t ∷ rest) u) == n) len ∙ suc_eq (place (ds ++ t ∷ rest) u) (length ds) ∙ ih
 
 at_items : (done : List TxId) (t : TxId) (rest : List TxId) (xs : List Item) → tx_in t done ≡ false → at_place (length done) (map (placed (done ++ t ∷ rest)) xs) ≡ map (placed (done ++ t ∷ rest)) (items_of t xs)
@@ -180,23 +159,8 @@ NoneIn done (t ∷ ts) = (tx_in t done ≡ false) × NoneIn done ts
 none_more : (done : List TxId) (a : TxId) (ts : List TxId) → NoneIn done ts → tx_in a ts ≡ false → NoneIn (done ++ a ∷ []) ts
 none_more done a [] n out = tt
 none_more done a (t ∷ ts) n out =
-    (list_any-append (λ x. tx_same x t) done (a ∷ []) ∙ both (tx_in t done) (tx_same a t) n.0 (flip (left (tx_same t a) (tx_in a ts) out)), none_more done a ts n.1 (right (tx_same t a) (tx_in a ts) out))
-  where
-    both : (p q : Bool) → p ≡ false → q ≡ false → (p || (q || false)) ≡ false
-    both true q e f = e
-    both false true e f = f
-    both false false e f = refl
-
-    left : (a b : Bool) → (a || b) ≡ false → a ≡ false
-    left true b e = e
-    left false b e = refl
-
-    right : (a b : Bool) → (a || b) ≡ false → b ≡ false
-    right true b e = absurd (both_ways true e refl)
-    right false b e = e
-
-    flip : tx_same t a ≡ false → tx_same a t ≡ false
-    flip e = tx_ne a t (λ s. both_ways _ e (tx_eq t a (sym s)))
+    let p = none_or (tx_same t a) (tx_in a ts) out in
+    (list_any-append (λ x. tx_same x t) done (a ∷ []) ∙ or_from (tx_in t done) (tx_same a t || false) n.0 (or_from (tx_same a t) false (flip_apart t a p.0) refl), none_more done a ts n.1 p.1)
 
 groups_from : (done rest : List TxId) (xs : List Item) → NoneIn done rest → Once rest → grouped_from (length done) (length rest) (map (placed (done ++ rest)) xs) ≡ map (λ t. map (placed (done ++ rest)) (items_of t xs)) rest
 groups_from done [] xs n o = refl
