@@ -10,7 +10,7 @@ use Rattle.clv_base.specs.State.{Shard}
 use Rattle.clv_base.specs.Facts.{is_closed_state, has_durable_commit}
 use Rattle.clv_base.specs.Due.{with_commit_done, with_vote, finish_reader, do_ruling, due_of}
 use Rattle.two_phase_commit.specs.Voting.{voters_by}
-use Rattle.two_phase_commit.specs.Coordinated.{requests_by}
+use Rattle.two_phase_commit.specs.Coordinated.{requests_by, IsSpelledRuling}
 use Rattle.due_step.specs.declared.finding.Due.{Due}
 use Rattle.due_step.specs.declared.finding.Due.TheVariants.{Commit, Vote as DueVote, Ruling as DueRuling}
 
@@ -42,6 +42,12 @@ abbrev pub carried : Shard → TxId → Due → Shard
 carried s tx Commit = with_commit_done s tx
 carried s tx (DueVote vote) = finish_reader tx vote (vote_sent s tx vote (tx_get tx s.voters))
 carried s tx (DueRuling r) = do_ruling tx r (with_tables s.voters (requests_after s tx (DueRuling r)) s)
+
+-- the record that carrying it out writes has a spelling
+abbrev pub IsSpelledDue : TxId → Due → Type 0
+IsSpelledDue tx Commit = Unit {0}
+IsSpelledDue tx (DueVote vote) = Unit {0}
+IsSpelledDue tx (DueRuling r) = IsSpelledRuling tx r
 
 -- what is found is what the definition does for the transaction, and the tables are those after it
 abbrev pub Finds : Shard → TxId → Option Due → Table Voter → Table Request → Type 0

@@ -3,6 +3,8 @@ ghost use Rattle.std.specs.Prelude.{◌≤◌, ◌<◌, ◌+◌};
 ghost use Rattle.clv_base.specs.OneShard.{purge};
 ghost use Rattle.txn_core.specs.State.{IsSameBut};
 ghost use Rattle.txn_core.specs.Sound.{HasSpare, SpendsSpare};
+ghost use Rattle.two_phase_commit.specs.Coordinated.{IsSpelledRuling};
+ghost use Rattle.due_step.specs.Found.{IsSpelledDue};
 ghost use Rattle.due_step.specs.Carried.{local_after, ruled, voted, IsPurged, CarriesLocal};
 
 use crate::Due;
@@ -38,6 +40,7 @@ fn carry_ruling<S: Store + Drop, L: Locks + Drop>(
 )
     requires room { HasSpare 1 transactions.old × (0 < transactions.old.pairs_room) }
     requires purged { IsPurged transactions.old.local }
+    requires spelled { IsSpelledRuling tx ruling.now }
     ensures after { IsSameBut transactions.old (purge (ruled transactions.old.local tx ruling.now)) transactions.new }
     ensures room { SpendsSpare 1 transactions.old transactions.new }
     ensures pairs_room { transactions.old.pairs_room ≤ transactions.new.pairs_room + 1 }
@@ -60,6 +63,7 @@ pub fn carry<S: Store + Drop, L: Locks + Drop>(
 )
     requires room { HasSpare 1 transactions.old × (0 < transactions.old.pairs_room) }
     requires purged { IsPurged transactions.old.local }
+    requires spelled { IsSpelledDue tx due.now }
     ensures after { IsSameBut transactions.old (purge (local_after transactions.old.local tx due.now)) transactions.new }
     ensures room { SpendsSpare 1 transactions.old transactions.new }
     ensures pairs_room { transactions.old.pairs_room ≤ transactions.new.pairs_room + 1 }

@@ -1,9 +1,9 @@
 //! Finding it.
-ghost use Rattle.std.specs.Prelude.{◌≡◌};
+ghost use Rattle.std.specs.Prelude.{◌≡◌, IfSome};
 ghost use Rattle.clv_base.specs.State.{Shard};
 ghost use Rattle.clv_base.specs.Facts.{facts_of};
 ghost use Rattle.clv_base.specs.Logs.{is_below as below};
-ghost use Rattle.due_step.specs.Found.{is_commit_due as commit_is_due, Finds};
+ghost use Rattle.due_step.specs.Found.{is_commit_due as commit_is_due, Finds, IsSpelledDue};
 
 use clv_base::causes::Vote;
 use clv_base::names::TxId;
@@ -46,6 +46,7 @@ pub fn find_due(
     coordinator: &mut Coordinator,
 ) -> Option<Due>
     ensures found { (s : Shard) → s.shard ≡ coordinator.old.shard → s.voters ≡ participant.old.voters → s.requests ≡ coordinator.old.requests → facts_of s tx ≡ facts.entry.now → Finds s tx result participant.new.voters coordinator.new.requests }
+    ensures spelled { IfSome result (IsSpelledDue tx) }
     ensures shards { (participant.new.shard ≡ participant.old.shard) × (coordinator.new.shard ≡ coordinator.old.shard) }
 {
     if is_commit_due(facts) {

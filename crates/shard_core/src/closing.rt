@@ -88,6 +88,7 @@ pub(crate) fn close_noted<S: Store + Drop, L: Locks + Drop>(
     candidates: &mut Candidates,
 )
     requires active { stage_in transactions.old.local tx ≡ Some Active }
+    requires home { home < 16 }
     requires spare { HasSpare 1 transactions.old × (0 < transactions.old.pairs_room) }
     requires plan { planned tx home plan ≡ closed_with (wrote_in (transactions.old.local).log tx) one_shard tx home (undecided_of transactions.old.local tx) }
     requires place { 0 < prepares.old.room }

@@ -3,6 +3,7 @@ ghost use Rattle.std.specs.Prelude.{◌≡◌, ◌≤◌, ◌++◌, ◌||◌, []
 ghost use Rattle.std.specs.List.Sorted.{IsStrictlySortedBy};
 ghost use Rattle.clv_base.specs.declared.names.TxId.{TxId as Tx};
 ghost use Rattle.clv_base.specs.declared.logs.LogRecord.TheVariants.{Commit};
+ghost use Rattle.clv_base.specs.FileRules.{tx_has_spelling};
 ghost use Rattle.clv_base.specs.Orders.{tx_cmp, tx_in, tx_same};
 ghost use Rattle.clv_base.specs.Undo.{roll_back, doomed_by};
 ghost use Rattle.clv_base.specs.OneShard.{purge};
@@ -33,7 +34,8 @@ fn commit_noted<S: Store + Drop, L: Locks + Drop>(
     transactions: &mut ShardTx<S, L>,
     candidates: &mut Candidates,
 ) -> Result<(), Memory>
-    requires { HasRoomBy (λ t. tx_in t (doomed_by transactions.old.local tx)) candidates.old }
+    requires room { HasRoomBy (λ t. tx_in t (doomed_by transactions.old.local tx)) candidates.old }
+    requires name { tx_has_spelling tx ≡ true }
     ensures ok { OnOk result (IsSameBut transactions.old (append_log (Commit tx [] ∷ []) transactions.old.local) transactions.new) }
     ensures txs { OnOk result ((x : Tx) → tx_in x candidates.new.txs ≡ (is_pair (transactions.old.local).pairs x tx || tx_same tx x || tx_in x candidates.old.txs)) }
     ensures err { OnErr result (IsSameBut transactions.old transactions.old.local transactions.new) }
@@ -129,6 +131,7 @@ impl<S: Store + Drop, L: Locks + Drop> ShardCore<S, L> {
     fn commit_here(&mut self, tx: TxId) -> Result<(), Memory>
         requires rest { IsAtRest self.old }
         requires known { tx_in tx (known_keys self.old.shard) ≡ true }
+        requires name { tx_has_spelling tx ≡ true }
         ensures ready { OnOk result (IsReady self.new.shard self.new.candidates self.new.limit) }
         ensures finished { OnOk result (finish self.new.shard ≡ finish (decided self.old.shard tx true)) }
         ensures err { OnErr result (self.new ≡ self.old) }
@@ -144,6 +147,7 @@ impl<S: Store + Drop, L: Locks + Drop> ShardCore<S, L> {
     pub fn take_commit(&mut self, tx: TxId) -> Result<(), Memory>
         requires rest { IsAtRest self.old }
         requires known { tx_in tx (known_keys self.old.shard) ≡ true }
+        requires name { tx_has_spelling tx ≡ true }
         ensures taken { OnOk result (self.new.shard ≡ finish (decided self.old.shard tx true)) }
         ensures err { OnErr result (self.new ≡ self.old) }
         ensures rest { IsAtRest self.new }

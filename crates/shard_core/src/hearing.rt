@@ -3,6 +3,7 @@ ghost use Rattle.std.specs.Prelude.{◌≡◌, [], ◌∷◌, true, IfOk, OnOk, 
 ghost use Rattle.clv_base.specs.declared.events.Outcome.TheVariants.{Taken as TakenOutcome};
 ghost use Rattle.clv_base.specs.declared.messages.Message.TheVariants.{Done as DoneMessage};
 ghost use Rattle.clv_base.specs.Facts.{facts_of};
+ghost use Rattle.clv_base.specs.FileRules.{tx_has_spelling};
 ghost use Rattle.clv_base.specs.Orders.{tx_in};
 ghost use Rattle.clv_base.specs.Participant.{taken_by};
 ghost use Rattle.clv_base.specs.Due.{send};
@@ -45,6 +46,7 @@ impl<S: Store + Drop, L: Locks + Drop> ShardCore<S, L> {
     fn carry_out(&mut self, tx: TxId, commit: bool) -> Result<(), Memory>
         requires rest { IsAtRest self.old }
         requires known { tx_in tx (known_keys self.old.shard) ≡ true }
+        requires name { tx_has_spelling tx ≡ true }
         ensures taken { OnOk result (self.new.shard ≡ finish (decided self.old.shard tx commit)) }
         ensures err { OnErr result (self.new ≡ self.old) }
         ensures rest { IsAtRest self.new }
@@ -70,7 +72,8 @@ impl<S: Store + Drop, L: Locks + Drop> ShardCore<S, L> {
     /// A decision of the home is taken, and it is true: the part that waited for it carries it out, and one that has carried out a commit tells the
     /// home again. Else the decision is stale, it is false, and all stays. Where there is no memory all stays.
     pub fn take_decision(&mut self, tx: TxId, home: u32, commit: bool) -> Result<bool, Memory>
-        requires { IsAtRest self.old }
+        requires rest { IsAtRest self.old }
+        requires name { tx_has_spelling tx ≡ true }
         ensures ok { IfOk result (λ taken. Hears (on_decide self.old.shard tx home commit (taken_by (facts_of self.old.shard tx) commit)) self.old.shard taken self.new.shard) }
         ensures err { OnErr result (self.new ≡ self.old) }
         ensures rest { IsAtRest self.new }

@@ -6,6 +6,7 @@ ghost use Rattle.clv_base.specs.Orders.{tx_cmp};
 ghost use Rattle.clv_base.specs.Coordinator.{restored_requests};
 ghost use Rattle.clv_base.specs.Participant.{restored_voters};
 ghost use Rattle.clv_base.specs.Restarts.{state_after};
+ghost use Rattle.two_phase_commit.specs.Coordinated.{AreNamed};
 ghost use Rattle.machine_calls.specs.Restored.{IsRestored};
 ghost use Rattle.shard_core.specs.Whole.{IsAtRest};
 
@@ -39,7 +40,8 @@ fn room_for(in_doubt: usize, unended: usize) -> Option<usize>
 
 /// A home with the commits that have no END.
 fn home_of(alloc: Global, shard: u32, unended: &[(TxId, ShardList)]) -> Result<Coordinator, Memory>
-    requires { IsStrictlySortedBy tx_cmp (keys_of unended.now) }
+    requires rising { IsStrictlySortedBy tx_cmp (keys_of unended.now) }
+    requires named { AreNamed unended.now }
     ensures shard { IfOk result (λ c. c.shard ≡ shard) }
     ensures requests { IfOk result (λ c. c.requests ≡ restored_requests unended.now) }
 {

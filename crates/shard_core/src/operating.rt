@@ -2,6 +2,7 @@
 ghost use Rattle.std.specs.Prelude.{◌≡◌, ◌≤◌, ◌<◌, ◌+◌, ◌&&◌, [], true, false, cond, length, is_none, is_some, IfOk, OnOk, OnErr};
 ghost use Rattle.std.specs.List.Sorted.{IsStrictlySortedBy};
 ghost use Rattle.clv_base.specs.declared.names.TxId.{TxId as Tx};
+ghost use Rattle.clv_base.specs.FileRules.{tx_has_spelling};
 ghost use Rattle.clv_base.specs.Orders.{tx_cmp, tx_get, tx_in};
 ghost use Rattle.clv_base.specs.Undo.{stage_of as stage_in, doomed_by};
 ghost use Rattle.clv_base.specs.OneShard.{op_reply, purge};
@@ -78,6 +79,7 @@ fn op_noted<S: Store + Drop, L: Locks + Drop>(
     requires none { candidates.old.txs ≡ [] }
     requires room { is_some (stage_in transactions.old.local tx) ≡ true → HasRoomBy (λ t. tx_in t (doomed_by transactions.old.local tx)) candidates.old }
     requires seat { is_some (stage_in transactions.old.local tx) ≡ true → 0 < candidates.old.limit }
+    requires name { tx_has_spelling tx ≡ true }
     ensures ok { IfOk result (λ r. Replies (op_reply transactions.old.shard transactions.old.local tx birth seen op) transactions.old r transactions.new) }
     ensures stay { IfOk result (λ r. (noted : Held) × ((x : Tx) → tx_in x noted.txs ≡ cond (is_some (stage_in transactions.old.local tx)) (tx_in x (doomed_by transactions.old.local tx)) false) × StayBy tx r noted.txs candidates.new.txs) }
     ensures limit { OnOk result (candidates.new.limit ≡ candidates.old.limit + cond (is_some (stage_in transactions.old.local tx)) 0 1) }
@@ -129,7 +131,8 @@ impl<S: Store + Drop, L: Locks + Drop> ShardCore<S, L> {
         seen: Option<u64>,
         op: Op,
     ) -> Result<Reply, Memory>
-        requires { IsAtRest self.old }
+        requires rest { IsAtRest self.old }
+        requires name { tx_has_spelling tx ≡ true }
         ensures ready { IsReady self.new.shard self.new.candidates self.new.limit }
         ensures ok { IfOk result (λ r. Comes (op_reply (self.old.shard).shard (self.old.shard).local tx birth seen op) self.old.shard r self.new.shard) }
         ensures err { OnErr result (self.new.shard ≡ self.old.shard) }
@@ -162,7 +165,8 @@ impl<S: Store + Drop, L: Locks + Drop> ShardCore<S, L> {
         seen: Option<u64>,
         op: Op,
     ) -> Result<Reply, Memory>
-        requires { IsAtRest self.old }
+        requires rest { IsAtRest self.old }
+        requires name { tx_has_spelling tx ≡ true }
         ensures ok { IfOk result (λ r. Ends (op_reply (self.old.shard).shard (self.old.shard).local tx birth seen op) self.old.shard r self.new.shard) }
         ensures err { OnErr result (self.new.shard ≡ self.old.shard) }
         ensures rest { IsAtRest self.new }

@@ -1,5 +1,7 @@
 //! What a machine takes from the core.
-ghost use Rattle.std.specs.Prelude.{◌≡◌, ◌<◌, ◌^◌, drop, take, length};
+ghost use Rattle.std.specs.Prelude.{◌≡◌, ◌<◌, ◌^◌, true, drop, take, length};
+ghost use Rattle.std.specs.List.{list_all};
+ghost use Rattle.clv_base.specs.FileRules.{has_spelling};
 ghost use Rattle.clv_base.specs.Logs.{fitting};
 ghost use Rattle.clv_base.specs.Events.{taken as taken_upto};
 ghost use Rattle.txn_core.specs.Sound.{FewUndecided};
@@ -16,6 +18,13 @@ impl<S: Store + Drop, L: Locks + Drop> ShardCore<S, L> {
         ensures { FewUndecided ((self.now.shard).local).log ((self.now.shard).local).pairs }
     {
         self.transactions.few_undecided();
+    }
+
+    /// A law: each record of the log has a spelling.
+    pub fn log_is_spelled(&self)
+        ensures { list_all has_spelling ((self.now.shard).local).log ≡ true }
+    {
+        self.transactions.log_is_spelled();
     }
 
     /// How many records the log has: a vector holds them.

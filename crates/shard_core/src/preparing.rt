@@ -1,5 +1,5 @@
 //! Prepares that come: the home of a transaction asks this shard for its vote.
-ghost use Rattle.std.specs.Prelude.{◌≡◌, false, IfOk, OnOk, OnErr, Some};
+ghost use Rattle.std.specs.Prelude.{◌≡◌, ◌<◌, false, IfOk, OnOk, OnErr, Some};
 ghost use Rattle.clv_base.specs.declared.state.Stage.TheVariants.{Active};
 ghost use Rattle.clv_base.specs.State.{with_local};
 ghost use Rattle.clv_base.specs.Undo.{stage_of as stage_in};
@@ -31,6 +31,7 @@ impl<S: Store + Drop, L: Locks + Drop> ShardCore<S, L> {
     ) -> Result<(), Memory>
         requires rest { IsAtRest self.old }
         requires active { stage_in (self.old.shard).local tx ≡ Some Active }
+        requires home { home < 16 }
         ensures ready { OnOk result (IsReady self.new.shard self.new.candidates self.new.limit) }
         ensures finished { OnOk result (finish self.new.shard ≡ finish (owe_vote tx home seen (with_local (closed_by tx home false) self.old.shard))) }
         ensures err { OnErr result (self.new.shard ≡ self.old.shard) }
@@ -98,7 +99,8 @@ impl<S: Store + Drop, L: Locks + Drop> ShardCore<S, L> {
     /// closed, and a vote is owed. It is stale, which the answer false says, exactly where no part is known and the epoch is still that one; then
     /// all stays, and so it does where there is no memory.
     pub fn prepare(&mut self, alloc: Global, tx: TxId, home: u32, seen: u64) -> Result<bool, Memory>
-        requires { IsAtRest self.old }
+        requires rest { IsAtRest self.old }
+        requires home { home < 16 }
         ensures ok { IfOk result (λ is_taken. Hears (on_prepare self.old.shard tx home seen (stage_in (self.old.shard).local tx)) self.old.shard is_taken self.new.shard) }
         ensures err { OnErr result (self.new.shard ≡ self.old.shard) }
         ensures still { IsAtRest self.new }

@@ -4,6 +4,7 @@ ghost use Rattle.std.specs.List.{AllByRecursion};
 ghost use Rattle.std.specs.List.Sorted.{IsStrictlySortedBy};
 ghost use Rattle.std.specs.Ordering.{nat_cmp};
 ghost use Rattle.clv_base.specs.declared.state.Stage.TheVariants.{Active};
+ghost use Rattle.clv_base.specs.FileRules.{tx_has_spelling};
 ghost use Rattle.clv_base.specs.Orders.{nat_in};
 ghost use Rattle.clv_base.specs.State.{with_local};
 ghost use Rattle.clv_base.specs.Undo.{stage_of as stage_in};
@@ -101,6 +102,7 @@ impl<S: Store + Drop, L: Locks + Drop> ShardCore<S, L> {
     fn request_active(&mut self, alloc: Global, tx: TxId, touched: Touched) -> Result<(), Memory>
         requires rest { IsAtRest self.old }
         requires active { stage_in (self.old.shard).local tx ≡ Some Active }
+        requires name { tx_has_spelling tx ≡ true }
         requires rising { IsStrictlySortedBy nat_cmp (map (λ t. t.0) touched) }
         requires low { AllByRecursion (λ t. t.0 < 16) touched }
         requires own { nat_in (self.old.shard).shard (map (λ t. t.0) touched) ≡ true }
@@ -150,6 +152,7 @@ impl<S: Store + Drop, L: Locks + Drop> ShardCore<S, L> {
     /// The request is kept and the others are asked, before what is due then is done. Where there is no memory all stays.
     fn request_absent(&mut self, alloc: Global, tx: TxId, touched: Touched) -> Result<(), Memory>
         requires rest { IsAtRest self.old }
+        requires name { tx_has_spelling tx ≡ true }
         requires rising { IsStrictlySortedBy nat_cmp (map (λ t. t.0) touched) }
         requires low { AllByRecursion (λ t. t.0 < 16) touched }
         requires own { nat_in (self.old.shard).shard (map (λ t. t.0) touched) ≡ true }
@@ -192,6 +195,7 @@ impl<S: Store + Drop, L: Locks + Drop> ShardCore<S, L> {
         touched: Touched,
     ) -> Result<RequestAnswer, Memory>
         requires rest { IsAtRest self.old }
+        requires name { tx_has_spelling tx ≡ true }
         requires rising { IsStrictlySortedBy nat_cmp (map (λ t. t.0) touched) }
         requires low { AllByRecursion (λ t. t.0 < 16) touched }
         requires own { nat_in (self.old.shard).shard (map (λ t. t.0) touched) ≡ true }

@@ -1,5 +1,6 @@
 //! Votes, decisions, acknowledgements and questions that come.
-ghost use Rattle.std.specs.Prelude.{◌≡◌, IfOk, OnErr};
+ghost use Rattle.std.specs.Prelude.{◌≡◌, true, IfOk, OnErr};
+ghost use Rattle.clv_base.specs.FileRules.{tx_has_spelling};
 ghost use Rattle.clv_base.specs.Orders.{tx_get};
 ghost use Rattle.clv_base.specs.Facts.{facts_of};
 ghost use Rattle.clv_base.specs.Participant.{taken_by};
@@ -66,7 +67,8 @@ pub fn take_decision<S: Store + Drop, L: Locks + Drop>(
     home: u32,
     commit: bool,
 ) -> Result<Happened, Memory>
-    requires { IsAtRest core.old }
+    requires rest { IsAtRest core.old }
+    requires name { tx_has_spelling tx ≡ true }
     ensures ok { IfOk result (λ h. Happens (on_decide core.old.shard tx home commit (taken_by (facts_of core.old.shard tx) commit)) core.old.shard h core.new.shard) }
     ensures err { OnErr result (core.new.shard ≡ core.old.shard) }
     ensures rest { IsAtRest core.new }

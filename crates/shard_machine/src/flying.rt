@@ -1,10 +1,8 @@
 //! The gate leaves for a flush.
-ghost use Rattle.std.specs.Prelude.{◌≡◌, ◌<◌, ◌+◌, true, None, Option, IfOk, drop, take};
-ghost use Rattle.std.specs.List.{list_all};
+ghost use Rattle.std.specs.Prelude.{◌≡◌, ◌<◌, ◌+◌, None, Option, IfOk, drop, take};
 ghost use Rattle.clv_base.specs.declared.events.Entry.{Entry};
 ghost use Rattle.clv_base.specs.declared.events.Event.TheVariants.{FlushOut};
 ghost use Rattle.clv_base.specs.Events.{step, taken};
-ghost use Rattle.clv_base.specs.FileRules.{has_spelling};
 ghost use Rattle.clv_base.specs.Logs.{fitting};
 ghost use Rattle.log_gate.specs.Image.{IsBatch, SpellAll};
 ghost use Rattle.machine_calls.specs.Flights.{outcome_in, Departs, flying};
@@ -36,11 +34,11 @@ fn next_batch<S: Store + Drop, L: Locks + Drop>(
 ) -> Result<Batch, AllocError>
     requires none { (core.now.shard).flight ≡ None }
     requires some { 0 < fitting 1048576 (drop (taken core.now.shard) ((core.now.shard).local).log) }
-    requires spelled { list_all has_spelling ((core.now.shard).local).log ≡ true }
     ensures upto { IfOk result (λ b. b.upto ≡ (core.now.shard).durable + fitting 1048576 (drop (taken core.now.shard) ((core.now.shard).local).log)) }
     ensures batch { IfOk result (λ b. IsBatch b.payload.items) }
     ensures spelled { IfOk result (λ b. SpellAll (flying core.now.shard b.upto) b.payload.items) }
 {
+    core.log_is_spelled();
     let _end = core.log_end();
     let upto = core.durable() + core.next_count() as u64;
     let payload = batch_bytes(alloc, core.next_records())?;

@@ -1,7 +1,8 @@
 //! Any message that is for this shard.
-ghost use Rattle.std.specs.Prelude.{◌≡◌, IfOk, OnErr};
+ghost use Rattle.std.specs.Prelude.{◌≡◌, ◌<◌, true, IfOk, OnErr};
 ghost use Rattle.clv_base.specs.Undo.{stage_of};
 ghost use Rattle.clv_base.specs.Events.{on_prepare, on_message};
+ghost use Rattle.machine_calls.specs.Events.{message_fits};
 ghost use Rattle.shard_core.specs.Whole.{IsAtRest};
 ghost use Rattle.shard_machine.specs.Happening.{Happens};
 
@@ -23,7 +24,8 @@ fn take_prepare<S: Store + Drop, L: Locks + Drop>(
     home: u32,
     seen: u64,
 ) -> Result<Happened, Memory>
-    requires { IsAtRest core.old }
+    requires rest { IsAtRest core.old }
+    requires home { home < 16 }
     ensures ok { IfOk result (λ h. Happens (on_prepare core.old.shard tx home seen (stage_of (core.old.shard).local tx)) core.old.shard h core.new.shard) }
     ensures err { OnErr result (core.new.shard ≡ core.old.shard) }
     ensures rest { IsAtRest core.new }
@@ -44,7 +46,8 @@ pub(crate) fn hear<S: Store + Drop, L: Locks + Drop>(
     alloc: Global,
     message: Message,
 ) -> Result<Happened, Memory>
-    requires { IsAtRest core.old }
+    requires rest { IsAtRest core.old }
+    requires fits { message_fits message ≡ true }
     ensures ok { IfOk result (λ h. Happens (on_message core.old.shard message) core.old.shard h core.new.shard) }
     ensures err { OnErr result (core.new.shard ≡ core.old.shard) }
     ensures rest { IsAtRest core.new }

@@ -7,7 +7,6 @@ ghost use Rattle.clv_base.specs.FileRules.{tx_has_spelling};
 ghost use Rattle.clv_base.specs.Undo.{stage_of};
 ghost use Rattle.machine_calls.specs.Steps.{Tells};
 ghost use Rattle.machine_laws.specs.Undropped.{new_part_by};
-ghost use Rattle.protocol_laws.specs.Spelled.{fits_op};
 
 use crate::machine::ShardMachine;
 use crate::stamps::{enter, place};
@@ -21,6 +20,7 @@ use machine_calls::StepError;
 use ordered_store::Store;
 use shard_core::ShardCore;
 use std::alloc::Global;
+use txn_core::fits;
 
 /// How many parts an operation of the transaction would make.
 fn new_parts<S: Store + Drop, L: Locks + Drop>(core: &ShardCore<S, L>, tx: TxId) -> usize
@@ -30,18 +30,6 @@ fn new_parts<S: Store + Drop, L: Locks + Drop>(core: &ShardCore<S, L>, tx: TxId)
     match core.stage_of(tx) {
         None => 1,
         Some(_) => 0,
-    }
-}
-
-/// A law: the operation's keys and values have 64 bits.
-fn fits(op: Op)
-    ensures { fits_op op ≡ true }
-{
-    match op {
-        Op::Get(_) => {}
-        Op::Put(_key, _value) => {}
-        Op::Del(_key) => {}
-        Op::Scan(_, _) => {}
     }
 }
 

@@ -1,7 +1,8 @@
 //! What a session asks of one shard.
-ghost use Rattle.std.specs.Prelude.{◌≡◌, IfOk, OnErr};
+ghost use Rattle.std.specs.Prelude.{◌≡◌, true, IfOk, OnErr};
 ghost use Rattle.clv_base.specs.declared.events.Event.TheVariants.{Op as OpEvent};
 ghost use Rattle.clv_base.specs.Events.{happen_up};
+ghost use Rattle.clv_base.specs.FileRules.{tx_has_spelling};
 ghost use Rattle.shard_core.specs.Whole.{IsAtRest};
 ghost use Rattle.shard_machine.specs.Happening.{Happens};
 
@@ -25,7 +26,8 @@ pub fn operate<S: Store + Drop, L: Locks + Drop>(
     seen: Option<u64>,
     op: Op,
 ) -> Result<Happened, Memory>
-    requires { IsAtRest core.old }
+    requires rest { IsAtRest core.old }
+    requires name { tx_has_spelling tx ≡ true }
     ensures ok { IfOk result (λ h. Happens (happen_up core.old.shard (OpEvent tx birth nth seen op)) core.old.shard h core.new.shard) }
     ensures err { OnErr result (core.new.shard ≡ core.old.shard) }
     ensures rest { IsAtRest core.new }

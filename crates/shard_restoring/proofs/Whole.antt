@@ -12,6 +12,7 @@ use Rattle.clv_base.specs.Needs.{Records}
 use Rattle.clv_base.specs.State.{Local}
 use Rattle.clv_base.specs.Restarts.{local_after}
 use Rattle.protocol_laws.specs.Resting.{RestartsEndAtRest}
+use Rattle.protocol_laws.proofs.Laws.{restarts_are_spelled}
 use Rattle.txn_core.specs.Sound.{owed_by, IsKept}
 use Rattle.txn_core.specs.State.{AreSettled}
 use Rattle.law_base.proofs.Sets.{doubts_rise}
@@ -38,4 +39,5 @@ module _ (shard epoch : ℕ) (log : List LogRecord) where
     sound = restored_sound shard epoch log ss room same enough;
     ghosts = (rest shard 0 epoch 0 log []).1;
     few = few_restored log spelled (in_doubt shard log) (doubts_rise shard log);
+    spelled = restarts_are_spelled shard epoch log spelled;
   }

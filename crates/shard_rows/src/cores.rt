@@ -6,6 +6,7 @@ ghost use Rattle.clv_base.specs.FileRules.{has_spelling as is_spelled};
 ghost use Rattle.clv_base.specs.LogRules.{disorder as first_disorder};
 ghost use Rattle.shard_core.specs.Whole.{IsAtRest};
 
+use crate::names::by;
 use clv_base::lists::TxList;
 use clv_base::logs::LogRecord;
 use clv_base::messages::Message;
@@ -43,14 +44,6 @@ impl Gate for Taking {
 
     fn push(&mut self, payload: &[u8]) -> Result<(), PushError> {
         Ok(())
-    }
-}
-
-fn by(session: u32) -> TxId {
-    TxId {
-        run: 1,
-        session,
-        serial: 1,
     }
 }
 

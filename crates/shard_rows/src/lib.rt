@@ -7,6 +7,8 @@
 #[cfg(test)]
 mod cores;
 #[cfg(test)]
+mod names;
+#[cfg(test)]
 mod operations;
 #[cfg(test)]
 mod outboxes;

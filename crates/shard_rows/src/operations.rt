@@ -1,16 +1,19 @@
 // Operations on a shard that begins empty, or with three values, with memory at hand.
-ghost use Rattle.std.specs.Prelude.{◌≡◌, [], Some, OnOk};
+ghost use Rattle.std.specs.Prelude.{◌≡◌, [], true, Some, OnOk};
+ghost use Rattle.std.specs.List.{AllByRecursion};
+ghost use Rattle.clv_base.specs.FileRules.{is_value, tx_has_spelling};
 ghost use Rattle.clv_base.specs.Needs.{record_set};
 ghost use Rattle.shard_ops.specs.Ghosts.{GhostsAreLocked};
 
+use crate::names::{by, named};
 use cascade_undo::Deps;
 use clv_base::causes::AbortCause;
 use clv_base::logs::LogRecord;
-use clv_base::modes::{Anchor, Found, Mode, Need, Part};
+use clv_base::modes::Found;
 use clv_base::names::{Birth, TxId};
 use clv_base::ops::{Answer, Op};
 use clv_base::state::Stage;
-use lock_table::{ListLocks, Locks};
+use lock_table::ListLocks;
 use log_buffer::LogBuffer;
 use ordered_store::{SortedStore, Store};
 use std::alloc::{AllocError, Global};
@@ -20,62 +23,28 @@ use txn_core::{Reply, ShardTx};
 
 type Shard = ShardTx<SortedStore, ListLocks>;
 
-/// The transaction of a session; the session with the smaller number is older.
-fn tx(session: u32) -> TxId {
-    TxId {
-        run: 1,
-        session,
-        serial: 1,
-    }
-}
-
-fn birth(session: u32) -> Birth {
+/// The transaction's birth; the session with the smaller number is older.
+fn birth(tx: TxId) -> Birth {
     Birth {
-        stamp: u64::from(session),
-        session,
-        serial: 1,
+        stamp: u64::from(tx.session),
+        session: tx.session,
+        serial: tx.serial,
     }
 }
 
-/// Shard 3 in epoch 2, with these records, of which each ghost bears one of these locks.
-fn over(alloc: Global, store: SortedStore, locks: ListLocks) -> Result<Shard, AllocError>
-    requires { GhostsAreLocked (⟦<ListLocks as Locks>⟧.rows locks) (⟦<SortedStore as Store>⟧.records store) }
+/// Shard 3 in epoch 2, with these records, none of which is a ghost, and no locks.
+fn over(alloc: Global, store: SortedStore) -> Result<Shard, AllocError>
+    requires locked { GhostsAreLocked [] (⟦<SortedStore as Store>⟧.records store) }
+    requires values { AllByRecursion (λ r. is_value r.1 ≡ true) (⟦<SortedStore as Store>⟧.records store) }
 {
     let deps = Deps::new(alloc)?;
     let buffer = LogBuffer::<LogRecord>::new(alloc);
+    let locks = ListLocks::new(alloc);
     Ok(ShardTx::new(3, 2, store, locks, PartTable::new(alloc), deps, buffer))
 }
 
 fn empty(alloc: Global) -> Result<Shard, AllocError> {
-    over(alloc, SortedStore::new(alloc), ListLocks::new(alloc))
-}
-
-/// The transaction of a session takes the gap above the place below all records for writing, and its lock is closed.
-fn close_over_gap<L: Locks>(locks: &mut L, session: u32) -> Result<(), AllocError> {
-    let need = Need {
-        anchor: Anchor::Low,
-        mode: Mode {
-            key: Part::N,
-            gap: Part::X,
-        },
-    };
-    let tx = tx(session);
-    match locks.reserve(tx, &[Anchor::Low], 1) {
-        Ok(()) => {}
-        Err(_) => return Err(AllocError),
-    }
-    locks.take(tx, birth(session), &[need]);
-    locks.close_part(tx);
-    Ok(())
-}
-
-/// A shard with no records, over whose only gap so many closed transactions have a lock for writing.
-fn closed_over(alloc: Global, count: u32) -> Result<Shard, AllocError> {
-    let mut locks = ListLocks::new(alloc);
-    for session in 0..count {
-        close_over_gap(&mut locks, session)?;
-    }
-    over(alloc, SortedStore::new(alloc), locks)
+    over(alloc, SortedStore::new(alloc))
 }
 
 /// Puts a value at a key, for which it makes room.
@@ -93,7 +62,7 @@ fn filled(alloc: Global) -> Result<Shard, AllocError> {
     put(&mut store, 10, 1)?;
     put(&mut store, 20, 2)?;
     put(&mut store, 30, 3)?;
-    over(alloc, store, ListLocks::new(alloc))
+    over(alloc, store)
 }
 
 /// What an operation of a session comes to, in a few words.
@@ -120,11 +89,56 @@ fn in_words(reply: Reply) -> Told {
     }
 }
 
-fn ask(alloc: Global, shard: &mut Shard, session: u32, op: Op) -> Result<Told, AllocError> {
-    match shard.op(alloc, tx(session), birth(session), None, op) {
+fn ask_as(alloc: Global, shard: &mut Shard, tx: TxId, op: Op) -> Result<Told, AllocError>
+    requires { tx_has_spelling tx ≡ true }
+{
+    match shard.op(alloc, tx, birth(tx), None, op) {
         Ok(reply) => Ok(in_words(reply)),
         Err(_) => Err(AllocError),
     }
+}
+
+fn ask(alloc: Global, shard: &mut Shard, session: u32, op: Op) -> Result<Told, AllocError> {
+    ask_as(alloc, shard, by(session), op)
+}
+
+/// The transaction's part is closed.
+fn close(
+    alloc: Global,
+    shard: &mut Shard,
+    tx: TxId,
+    one_shard: bool,
+) -> Result<(), AllocError> {
+    match shard.stage_of(tx) {
+        Some(Stage::Active) => {}
+        _ => return Err(AllocError),
+    }
+    match shard.close_part(alloc, tx, 3, one_shard) {
+        Ok(_) => Ok(()),
+        Err(_) => Err(AllocError),
+    }
+}
+
+/// A shard with 1,025 values, whose writer is over.
+fn full(alloc: Global) -> Result<Shard, AllocError> {
+    let mut shard = empty(alloc)?;
+    for key in 0..1025 {
+        ask(alloc, &mut shard, 2, Op::Put(key, 1))?;
+    }
+    close(alloc, &mut shard, by(2), true)?;
+    shard.finish_part(by(2));
+    Ok(shard)
+}
+
+/// The same, where so many of the values were written since, each by a transaction that is closed and undecided.
+fn crowded(alloc: Global, count: u64) -> Result<Shard, AllocError> {
+    let mut shard = full(alloc)?;
+    for key in 0..count {
+        let tx = named(1, key.saturating_add(1));
+        ask_as(alloc, &mut shard, tx, Op::Put(key, 2))?;
+        close(alloc, &mut shard, tx, false)?;
+    }
+    Ok(shard)
 }
 
 #[test]
@@ -148,13 +162,13 @@ fn an_older_one_waits_and_a_younger_one_dies(rt: HostRuntime) -> Result<(), Fail
 fn an_operation_past_1024_undecided_predecessors_is_crowded(rt: HostRuntime) -> Result<(), Fail> {
     let alloc = rt.alloc();
     let rows = [
-        (1024, Told::Value(None), Some(Stage::Active)),
+        (1024, Told::Pairs(1025), Some(Stage::Active)),
         (1025, Told::Crowded(1025), None),
     ];
     for (count, want, stage) in rows {
-        let mut shard = closed_over(alloc, count)?;
-        assert_eq!(rt; ask(alloc, &mut shard, 2000, Op::Get(5))?, want);
-        assert_eq!(rt; shard.stage_of(tx(2000)), stage);
+        let mut shard = crowded(alloc, count)?;
+        assert_eq!(rt; ask(alloc, &mut shard, 5, Op::Scan(0, 2000))?, want);
+        assert_eq!(rt; shard.stage_of(by(5)), stage);
     }
     Ok(())
 }
@@ -181,7 +195,7 @@ fn a_scanned_gap_is_closed_to_others(rt: HostRuntime) -> Result<(), Fail> {
 fn another_epoch_is_told(rt: HostRuntime) -> Result<(), Fail> {
     let alloc = rt.alloc();
     let mut shard = empty(alloc)?;
-    let old = shard.op(alloc, tx(1), birth(1), Some(1), Op::Get(5));
+    let old = shard.op(alloc, by(1), birth(by(1)), Some(1), Op::Get(5));
     let Ok(Reply::Dead(cause)) = old else {
         return Err(AllocError.into());
     };
@@ -193,7 +207,7 @@ fn another_epoch_is_told(rt: HostRuntime) -> Result<(), Fail> {
             now: 2
         }
     );
-    let fits = shard.op(alloc, tx(1), birth(1), Some(2), Op::Get(5));
+    let fits = shard.op(alloc, by(1), birth(by(1)), Some(2), Op::Get(5));
     let Ok(Reply::Answered { epoch, .. }) = fits else {
         return Err(AllocError.into());
     };
@@ -217,8 +231,8 @@ fn a_part_that_dies_is_rolled_back(rt: HostRuntime) -> Result<(), Fail> {
         assert_eq!(rt; ask(alloc, &mut shard, session, op)?, want);
     }
     assert_eq!(rt;
-        shard.stage_of(tx(2)),
-        Some(Stage::Gone { doom: Some(tx(2)) })
+        shard.stage_of(by(2)),
+        Some(Stage::Gone { doom: Some(by(2)) })
     );
     assert_eq!(rt; shard.end(), 4);
     Ok(())
@@ -249,28 +263,21 @@ fn a_drop_undoes_and_ghosts_go_with_their_locks(rt: HostRuntime) -> Result<(), F
         ask(alloc, &mut shard, 1, Op::Put(25, 5))?,
         Told::Value(None)
     );
-    assert!(rt; shard.drop_part(tx(1)));
-    assert!(rt; !shard.drop_part(tx(2)));
+    assert!(rt; shard.drop_part(by(1)));
+    assert!(rt; !shard.drop_part(by(2)));
     let parts = shard.into_parts();
     assert_eq!(rt; parts.store.get(10), Found::Live(1));
     assert_eq!(rt; parts.store.get(25), Found::Absent);
     Ok(())
 }
 
-/// So many sessions, one after another, put a value at the same key, commit and are over.
-fn pass_by(alloc: Global, shard: &mut Shard, count: u32) -> Result<(), AllocError> {
-    for session in 0..count {
-        let session = session.saturating_add(1000);
-        ask(alloc, shard, session, Op::Put(5000, 1))?;
-        let done = tx(session);
-        match shard.stage_of(done) {
-            Some(Stage::Active) => {}
-            _ => return Err(AllocError),
-        }
-        match shard.close_part(alloc, done, 3, true) {
-            Ok(_) => shard.finish_part(done),
-            Err(_) => return Err(AllocError),
-        }
+/// So many transactions, one after another, put a value at the same key, commit and are over.
+fn pass_by(alloc: Global, shard: &mut Shard, count: u64) -> Result<(), AllocError> {
+    for nth in 0..count {
+        let tx = named(3, nth.saturating_add(1));
+        ask_as(alloc, shard, tx, Op::Put(5000, 1))?;
+        close(alloc, shard, tx, true)?;
+        shard.finish_part(tx);
     }
     Ok(())
 }
@@ -281,7 +288,7 @@ fn many_writes_find_room(rt: HostRuntime) -> Result<(), Fail> {
     let alloc = rt.alloc();
     let mut store = SortedStore::new(alloc);
     put(&mut store, 5000, 1)?;
-    let mut shard = over(alloc, store, ListLocks::new(alloc))?;
+    let mut shard = over(alloc, store)?;
     for key in 0..100 {
         assert_eq!(rt;
             ask(alloc, &mut shard, 1, Op::Put(key, key))?,

@@ -1,6 +1,7 @@
 // One request from its asking to the last acknowledgement, with memory at hand.
 ghost use Rattle.std.specs.Prelude.{◌≡◌, [], ◌∷◌, IfOk};
 
+use crate::names::by;
 use clv_base::causes::Vote;
 use clv_base::lists::Touched;
 use clv_base::names::TxId;
@@ -9,14 +10,6 @@ use clv_base::state::Ruling;
 use std::alloc::{AllocError, Global};
 use std::test::Fail;
 use two_phase_commit::Coordinator;
-
-fn by(session: u32) -> TxId {
-    TxId {
-        run: 1,
-        session,
-        serial: 1,
-    }
-}
 
 /// Shard 0 alone.
 fn one_shard(alloc: Global) -> Result<Touched, AllocError>

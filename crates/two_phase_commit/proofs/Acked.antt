@@ -1,5 +1,5 @@
 -- Acknowledgements that come from the parts of a commit, each once, are no more than the parts.
-use Rattle.std.proofs.Common.{◌≡◌, refl, sym, ap, subst, ◌∙◌, ℕ, ◌+◌, ◌<◌, ◌≤◌, ◌⊎◌, ⊎_elim, Bool, true, false, cond, not, ◌||◌, ◌==◌, List, [], ◌∷◌, length, eqb-true, eq-eqb, arith}
+use Rattle.std.proofs.Common.{◌≡◌, refl, sym, ap, subst, ◌∙◌, ℕ, ◌+◌, ◌<◌, ◌≤◌, ◌⊎◌, ⊎_elim, Bool, true, false, cond, not, ◌||◌, ◌==◌, List, [], ◌∷◌, map, length, eqb-true, eq-eqb, arith}
 use Rattle.std.proofs.lemmas.Bool.{both_ways, or_cases, or_parts, and_parts, false_from_ne_true}
 use Rattle.std.specs.List.{AllByRecursion}
 use Rattle.std.specs.List.Sorted.{IsStrictlySortedBy}
@@ -125,7 +125,7 @@ parts_again from q Finished acked h e = tt
 parts_again from q (Refused c) acked h e = tt
 
 pub still_fit : (shard from : ℕ) (q : Request) → IsFit shard q → takes_done from q ≡ true → IsFit shard (with_done_of from q)
-still_fit shard from q fit e = record { few = fit.few; low = fit.low; acked = insert_rises from q.acknowledged_by fit.acked; parts = parts_again from q q.state q.acknowledged_by fit.parts e }
+still_fit shard from q fit e = record { few = fit.few; low = fit.low; rise = fit.rise; acked = insert_rises from q.acknowledged_by fit.acked; parts = parts_again from q q.state q.acknowledged_by fit.parts e }
 
 -- ---- a new one
 
@@ -134,5 +134,5 @@ unfolding IsStrictlySortedBy
 none_rise [] e = tt
 none_rise (n ∷ ns) e = absurd cc
 
-pub new_fit : (shard : ℕ) (q : Request) → length (others shard q.touched) ≤ 15 → AllByRecursion (λ t. t.0 < 16) q.touched → q.acknowledged_by ≡ [] → q.state ≡ Undecided → IsFit shard q
-new_fit shard q few low none st = record { few = few; low = low; acked = none_rise q.acknowledged_by none; parts = subst (λ (s : RequestState). AreParts s q.acknowledged_by) (sym st) (ap length none) }
+pub new_fit : (shard : ℕ) (q : Request) → length (others shard q.touched) ≤ 15 → AllByRecursion (λ t. t.0 < 16) q.touched → IsStrictlySortedBy nat_cmp (map (λ t. t.0) q.touched) → q.acknowledged_by ≡ [] → q.state ≡ Undecided → IsFit shard q
+new_fit shard q few low rise none st = record { few = few; low = low; rise = rise; acked = none_rise q.acknowledged_by none; parts = subst (λ (s : RequestState). AreParts s q.acknowledged_by) (sym st) (ap length none) }

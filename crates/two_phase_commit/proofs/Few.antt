@@ -26,7 +26,8 @@ in_below k (suc n) h = at (k == n) refl (in_below k n)
     at true e more = refl
     at false e more = more (let ne : k ≡ n → ⊥ = λ s. both_ways (k == n) e (eq-eqb k n s) in omega (arith, h, ne))
 
-low_in : (k : ℕ) (ts : List (ℕ × ℕ)) → AllByRecursion (λ t. t.0 < 16) ts → nat_in k (map (λ t. t.0) ts) ≡ true → k < 16
+-- one of touched shards that are low is low
+pub low_in : (k : ℕ) (ts : List (ℕ × ℕ)) → AllByRecursion (λ t. t.0 < 16) ts → nat_in k (map (λ t. t.0) ts) ≡ true → k < 16
 low_in k [] a e = absurd (both_ways false refl e)
 low_in k (t ∷ ts) a e = ⊎_elim (λ s. subst (λ n. n < 16) (sym (eqb-true k t.0 s)) a.0) (λ h. low_in k ts a.1 h) (or_cases (k == t.0) (nat_in k (map (λ t. t.0) ts)) e)
 

@@ -10,3 +10,5 @@ pub mod Few
 pub mod Unended
 pub mod Over
 pub mod Silent
+pub mod Spelling
+pub mod Laws

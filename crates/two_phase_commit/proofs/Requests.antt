@@ -4,11 +4,12 @@ use Rattle.clv_base.specs.declared.names.TxId.{TxId}
 use Rattle.clv_base.specs.declared.state.Request.{Request}
 use Rattle.clv_base.specs.declared.state.Ruling.{Ruling}
 use Rattle.clv_base.specs.Orders.{Table, tx_same, tx_get, tx_put, tx_set}
+use Rattle.std.specs.List.{AllByRecursion}
 use Rattle.std.specs.Result.{OnOk, OnErr}
 use Rattle.std.specs.declared.result.Result.{Result}
 use Rattle.std.specs.declared.result.Result.TheVariants.{Ok, Err}
 use Rattle.law_base.proofs.Rows.{rows_put}
-use Rattle.two_phase_commit.specs.Coordinated.{Coordination, IsFit, AreFit, ruled, requests_by}
+use Rattle.two_phase_commit.specs.Coordinated.{Coordination, ruled, requests_by}
 
 pub set_same : {V : Type 0} (t : TxId) (q : V) (rs : Table V) → tx_get t rs ≡ Some q → tx_set t q rs ≡ rs
 set_same t q [] e = absurd cc
@@ -26,10 +27,10 @@ pub set_ruled : (t : TxId) (r : Option Ruling) (q : Request) (rs : Table Request
 set_ruled t None q rs e = set_same t q rs e
 set_ruled t (Some r) q rs e = refl
 
--- a fit request that is put among fit ones, unless there was no memory for it
-pub put_fit : {E : Type 0} (r : Result (Unit {0}) E) (shard : ℕ) (t : TxId) (q : Request) (old new : Table Request) → IsFit shard q → AreFit shard old → OnOk r (new ≡ tx_put t q old) → OnErr r (new ≡ old) → AreFit shard new
-put_fit (Ok u) shard t q old new fit all ok err = subst (λ (rs : Table Request). AreFit shard rs) (sym ok) (rows_put (λ p. IsFit shard p.1) t q old fit all)
-put_fit (Err e) shard t q old new fit all ok err = subst (λ (rs : Table Request). AreFit shard rs) (sym err) all
+-- a request that passes is put among those that do, unless there was no memory for it
+pub put_passing : {E : Type 0} (r : Result (Unit {0}) E) (P : TxId × Request → Type 0) (t : TxId) (q : Request) (old new : Table Request) → P (t, q) → AllByRecursion P old → OnOk r (new ≡ tx_put t q old) → OnErr r (new ≡ old) → AllByRecursion P new
+put_passing (Ok u) P t q old new one all ok err = subst (λ (rs : Table Request). AllByRecursion P rs) (sym ok) (rows_put P t q old one all)
+put_passing (Err e) P t q old new one all ok err = subst (λ (rs : Table Request). AllByRecursion P rs) (sym err) all
 
 abbrev pub state_of : ℕ → Table Request → Coordination
 state_of n rs = record { shard = n; requests = rs }

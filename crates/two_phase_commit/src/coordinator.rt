@@ -1,13 +1,14 @@
 //! The coordinator.
-ghost use Rattle.std.specs.Prelude.{◌≡◌, ◌≤◌, ◌<◌, ◌++◌, [], true, length, map, cond, IfOk, OnOk, OnErr};
+ghost use Rattle.std.specs.Prelude.{◌≡◌, ◌≤◌, ◌<◌, ◌++◌, [], true, length, map, cond, IfOk, IfSome, OnOk, OnErr};
 ghost use Rattle.std.specs.List.{AllByRecursion};
 ghost use Rattle.std.specs.List.Sorted.{IsStrictlySortedBy};
 ghost use Rattle.std.specs.Map.{keys_of};
 ghost use Rattle.std.specs.Ordering.{nat_cmp};
 ghost use Rattle.clv_base.specs.declared.state.RequestState.TheVariants.{Undecided};
+ghost use Rattle.clv_base.specs.FileRules.{tx_has_spelling};
 ghost use Rattle.clv_base.specs.Orders.{nat_in, tx_cmp, tx_get, tx_put};
 ghost use Rattle.clv_base.specs.Coordinator.{new_request, restored_request as request_restored, restored_requests, home_reminders, ask_answer, ruling_by, takes_vote, with_vote_of, takes_done, with_done_of};
-ghost use Rattle.two_phase_commit.specs.Coordinated.{IsFit, ruling_of, requests_by, counts_by, requests_with, done_by, requests_done, ruled, undecided, parts_of, told_by, state_by};
+ghost use Rattle.two_phase_commit.specs.Coordinated.{AreNamed, IsFit, IsSpelledRuling, ruling_of, requests_by, counts_by, requests_with, done_by, requests_done, ruled, undecided, parts_of, told_by, state_by};
 ghost use Rattle.two_phase_commit.specs.Reminding.{each_at, of_one, votes_of, dones_of};
 ghost use Rattle.two_phase_commit.specs.Waiting.{waiting_in};
 
@@ -43,7 +44,7 @@ pub struct Coordinator {
 
 impl Model for Coordinator {
     ghost use Rattle.std.specs.Prelude.{◌≡◌};
-    ghost use Rattle.two_phase_commit.specs.Coordinated.{Coordination, AreFit};
+    ghost use Rattle.two_phase_commit.specs.Coordinated.{Coordination, AreFit, AreNamed};
     ghost use Rattle.two_phase_commit.specs.Asked.{AreAsked};
     ghost use Rattle.two_phase_commit.specs.Waiting.{waits};
     ghost use Rattle.tx_table.specs.Index.{IsIndex};
@@ -52,7 +53,7 @@ impl Model for Coordinator {
 
     ghost view = { λ c. record { shard = c.shard; requests = c.requests.entries } };
 
-    ghost invariant = { λ c. AreFit c.shard c.requests.entries × IsIndex (waits c.shard) c.requests.entries c.waiting × AreAsked c.asked.rows c.requests.entries };
+    ghost invariant = { λ c. AreFit c.shard c.requests.entries × IsIndex (waits c.shard) c.requests.entries c.waiting × AreAsked c.asked.rows c.requests.entries × AreNamed c.requests.entries };
 }
 
 /// Whether a vote counts: it is the first of another part of an undecided request.
@@ -169,6 +170,7 @@ impl Coordinator {
     pub fn restored(&mut self, alloc: Global, unended: &[(TxId, ShardList)]) -> Result<(), Memory>
         requires empty { self.old.requests ≡ [] }
         requires rising { IsStrictlySortedBy tx_cmp (keys_of unended.now) }
+        requires named { AreNamed unended.now }
         ensures ok { OnOk result (self.new ≡ record self.old { requests = restored_requests unended.now }) }
         ensures err { OnErr result (self.new ≡ self.old) }
     {
@@ -370,6 +372,7 @@ impl Coordinator {
     pub fn decision_due(&mut self, tx: TxId, facts: &PartFacts) -> Option<Ruling>
         ensures ruling { result ≡ ruling_of self.old.shard tx facts.entry.now (tx_get tx self.old.requests) }
         ensures requests { self.new ≡ record self.old { requests = requests_by tx (tx_get tx self.old.requests) result self.old.requests } }
+        ensures spelled { IfSome result (IsSpelledRuling tx) }
     {
         if self.asked.get(tx).is_none() {
             return None;
@@ -386,6 +389,7 @@ impl Coordinator {
 
     /// A request is kept, undecided, with the shards that it touched and their epochs. Where there is no memory all stays.
     pub fn ask_commit(&mut self, tx: TxId, touched: Touched) -> Result<(), Memory>
+        requires name { tx_has_spelling tx ≡ true }
         requires rising { IsStrictlySortedBy nat_cmp (map (λ t. t.0) touched) }
         requires low { AllByRecursion (λ t. t.0 < 16) touched }
         requires own { nat_in self.old.shard (map (λ t. t.0) touched) ≡ true }

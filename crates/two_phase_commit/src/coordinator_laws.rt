@@ -1,11 +1,12 @@
 // The laws.
 
-ghost use Rattle.two_phase_commit.specs.Unended.{UnendedRise};
+ghost use Rattle.two_phase_commit.specs.Unended.{UnendedAreNamed, UnendedRise};
 ghost use Rattle.two_phase_commit.specs.Waiting.{RemindersByWaiting};
 
-/// The condition of `Coordinator::restored`, for the commits that a restart finds without an END.
+/// The conditions of `Coordinator::restored`, for the commits that a restart finds without an END.
 pub fn unended_rise()
-    ensures { UnendedRise }
+    ensures rise { UnendedRise }
+    ensures named { UnendedAreNamed }
 {}
 
 /// The durable ones among those that wait are enough for `Coordinator::reminders`.

@@ -13,6 +13,7 @@ pub mod Settling
 pub mod Closed
 pub mod Joins
 mod Crowds
+mod Spelling
 pub mod Totals
 pub mod Returning
 mod Births

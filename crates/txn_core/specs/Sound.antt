@@ -16,6 +16,7 @@ use Rattle.clv_base.specs.Locks.{Locks}
 use Rattle.clv_base.specs.Needs.{found_at, is_there}
 use Rattle.clv_base.specs.State.{Local, is_present}
 use Rattle.clv_base.specs.Undo.{stage_of}
+use Rattle.protocol_laws.specs.Spelled.{IsSpelled}
 use Rattle.shard_ops.specs.Ghosts.{GhostsAreLocked}
 use Rattle.shard_ops.specs.declared.plan.Insert.{Insert}
 use Rattle.shard_ops.specs.declared.plan.Write.{Write}
@@ -76,12 +77,15 @@ pub record IsSound (l : Local) (spare : ℕ) : Type 0 where
 abbrev pub FewUndecided : List LogRecord → List (TxId × TxId) → Type 0
 FewUndecided log pairs = (t : TxId) → length (filter (λ p. not (committed_in log p)) (predecessors_of pairs t)) ≤ 1024
 
--- that, each ghost bears a lock, nobody has too many undecided predecessors, and the COMMITs of the log are known to the dependencies, each at its place
+-- that, each ghost bears a lock, nobody has too many undecided predecessors, each record of the log has a spelling, and the COMMITs of the log are known
+-- to the dependencies, each at its place
 pub record IsKept (commits : Table ℕ) (l : Local) (spare : ℕ) : Type 0 where
   pub settled : AreSettled commits l.log
   pub sound : IsSound l spare
   pub ghosts : GhostsAreLocked l.locks l.records
   pub few : FewUndecided l.log l.pairs
+  -- the records, and all that those to come are made of
+  pub spelled : IsSpelled l
 
 -- room beyond a CLR for each UPDATE of a part that is here, and an ABORT for each that wrote, never shrinks: what was reserved for more stays
 -- reserved. The other way round it never grows: what was reserved for an undo that isn't wanted any more is given back

@@ -1,8 +1,10 @@
 //! An operation, up to the rolling back of a part that dies.
 ghost use Rattle.std.specs.Prelude.{◌≡◌, ◌≤◌, true, length, IfOk, OnErr};
+ghost use Rattle.clv_base.specs.FileRules.{tx_has_spelling};
 ghost use Rattle.clv_base.specs.Needs.{needs_of};
 ghost use Rattle.clv_base.specs.Locks.{violated as violated_by};
 ghost use Rattle.clv_base.specs.OneShard.{OpAnswers, op_reply, performed, undecided_with};
+ghost use Rattle.protocol_laws.specs.Spelled.{fits_op};
 ghost use Rattle.shard_ops.specs.Planned.{IsPlanOf};
 ghost use Rattle.clv_base.specs.Undo.{stage_of as stage_in};
 ghost use Rattle.txn_core.specs.Sound.{may_work, KeepsSpare};
@@ -34,6 +36,18 @@ pub(crate) enum Attempt {
     Crowded { count: usize },
 }
 
+/// A law: the operation's keys and values have 64 bits.
+pub fn fits(op: Op)
+    ensures { fits_op op ≡ true }
+{
+    match op {
+        Op::Get(_) => {}
+        Op::Put(_key, _value) => {}
+        Op::Del(_key) => {}
+        Op::Scan(_, _) => {}
+    }
+}
+
 impl<S: Store + Drop, L: Locks + Drop> ShardTx<S, L> {
     /// Does what was granted. Where there is no memory, what was reserved for it is given back.
     fn grant(
@@ -49,6 +63,7 @@ impl<S: Store + Drop, L: Locks + Drop> ShardTx<S, L> {
         requires work { may_work (stage_in self.old.local tx) ≡ true }
         requires violated { violated.now ≡ violated_by tx (needs_of op (self.old.local).records) (self.old.local).locks }
         requires few { length (undecided_with self.old.local tx violated.now) ≤ 1024 }
+        requires name { tx_has_spelling tx ≡ true }
         ensures ok { IfOk result (λ a. ComesTo (OpAnswers plan.answer (performed tx birth op self.old.local)) tx self.old a self.new) }
         ensures err { OnErr result (IsSameBut self.old self.old.local self.new) }
         ensures room { KeepsSpare self.old self.new }
@@ -57,6 +72,7 @@ impl<S: Store + Drop, L: Locks + Drop> ShardTx<S, L> {
         ensures pairs_given_back { self.new.pairs_room ≤ self.old.pairs_room }
     {
         performed_by_plan();
+        fits(op);
         let Ok(copy) = plan.answer.clone() else {
             return Err(Memory);
         };
@@ -85,6 +101,7 @@ impl<S: Store + Drop, L: Locks + Drop> ShardTx<S, L> {
         seen: Option<u64>,
         op: Op,
     ) -> Result<Attempt, Memory>
+        requires { tx_has_spelling tx ≡ true }
         ensures ok { IfOk result (λ a. ComesTo (op_reply self.old.shard self.old.local tx birth seen op) tx self.old a self.new) }
         ensures err { OnErr result (IsSameBut self.old self.old.local self.new) }
         ensures room { KeepsSpare self.old self.new }

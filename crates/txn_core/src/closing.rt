@@ -56,7 +56,8 @@ impl<S: Store + Drop, L: Locks + Drop> ShardTx<S, L> {
         home: u32,
         one_shard: bool,
     ) -> Result<Closing, Memory>
-        requires { stage_in self.old.local tx ≡ Some Active }
+        requires active { stage_in self.old.local tx ≡ Some Active }
+        requires home { home < 16 }
         ensures ok { OnOk result (IsSameBut self.old (closed_by tx home one_shard self.old.local) self.new) }
         ensures written { IfOk result (IsClosing (self.old.local).log tx home (closing (wrote_in (self.old.local).log tx) one_shard tx home (undecided_of self.old.local tx))) }
         ensures err { OnErr result (IsSameBut self.old self.old.local self.new) }
@@ -95,6 +96,7 @@ impl<S: Store + Drop, L: Locks + Drop> ShardTx<S, L> {
     /// The transaction's part, which is active, is closed by this record, for which there is room. Takes no memory.
     pub fn close_as(&mut self, tx: TxId, home: u32, one_shard: bool, plan: ClosingPlan) -> Closing
         requires active { stage_in self.old.local tx ≡ Some Active }
+        requires home { home < 16 }
         requires room { HasSpare 1 self.old × (0 < self.old.pairs_room) }
         requires plan { planned tx home plan ≡ closing (wrote_in (self.old.local).log tx) one_shard tx home (undecided_of self.old.local tx) }
         ensures closed { IsSameBut self.old (closed_by tx home one_shard self.old.local) self.new }

@@ -1,6 +1,7 @@
 //! What decides a transaction here, and the end of its part.
-ghost use Rattle.std.specs.Prelude.{◌≡◌, ◌≤◌, ◌<◌, ◌+◌, [], ◌∷◌, ◌++◌, length, None};
+ghost use Rattle.std.specs.Prelude.{◌≡◌, ◌≤◌, ◌<◌, ◌+◌, [], ◌∷◌, ◌++◌, true, length, None};
 ghost use Rattle.clv_base.specs.declared.logs.LogRecord.TheVariants.{Commit, End};
+ghost use Rattle.clv_base.specs.FileRules.{has_spelling};
 ghost use Rattle.clv_base.specs.Undo.{release_parts};
 ghost use Rattle.clv_base.specs.OneShard.{purge};
 ghost use Rattle.clv_base.specs.Due.{append_log};
@@ -21,7 +22,8 @@ use shard_ops::release_all;
 impl<S: Store + Drop, L: Locks + Drop> ShardTx<S, L> {
     /// A COMMIT of the transaction, with the shards that acknowledge it, goes to the log's end. Takes no memory.
     pub fn commit_part(&mut self, tx: TxId, parts: ShardList) -> u64
-        requires { HasSpare 1 self.old × (0 < self.old.pairs_room) }
+        requires room { HasSpare 1 self.old × (0 < self.old.pairs_room) }
+        requires spelled { has_spelling (Commit tx parts) ≡ true }
         ensures lsn { result ≡ length (self.old.local).log }
         ensures committed { IsSameBut self.old (append_log (Commit tx parts ∷ []) self.old.local) self.new }
         ensures room { SpendsSpare 1 self.old self.new }
@@ -34,7 +36,8 @@ impl<S: Store + Drop, L: Locks + Drop> ShardTx<S, L> {
 
     /// An END of the transaction goes to the log's end. Takes no memory.
     pub fn end_transaction(&mut self, tx: TxId)
-        requires { HasSpare 1 self.old }
+        requires room { HasSpare 1 self.old }
+        requires spelled { has_spelling (End tx) ≡ true }
         ensures ended { IsSameBut self.old (append_log (End tx ∷ []) self.old.local) self.new }
         ensures room { SpendsSpare 1 self.old self.new }
         ensures spent { UsesSpare 1 self.old self.new }

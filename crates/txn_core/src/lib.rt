@@ -27,6 +27,7 @@ mod shard;
 mod telling;
 mod trimming;
 
+pub use attempt::fits;
 pub use lock_table::Memory;
 pub use op::Reply;
 pub use parting::TxParts;

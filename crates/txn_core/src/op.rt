@@ -1,5 +1,6 @@
 //! An operation.
-ghost use Rattle.std.specs.Prelude.{◌≡◌, ◌≤◌, IfOk, OnErr};
+ghost use Rattle.std.specs.Prelude.{◌≡◌, ◌≤◌, true, IfOk, OnErr};
+ghost use Rattle.clv_base.specs.FileRules.{tx_has_spelling};
 ghost use Rattle.clv_base.specs.OneShard.{op_reply};
 ghost use Rattle.txn_core.specs.State.{IsSameBut};
 ghost use Rattle.txn_core.specs.Replies.{Replies};
@@ -49,6 +50,7 @@ impl<S: Store + Drop, L: Locks + Drop> ShardTx<S, L> {
         seen: Option<u64>,
         op: Op,
     ) -> Result<Reply, Memory>
+        requires { tx_has_spelling tx ≡ true }
         ensures ok { IfOk result (λ r. Replies (op_reply self.old.shard self.old.local tx birth seen op) self.old r self.new) }
         ensures err { OnErr result (IsSameBut self.old self.old.local self.new) }
         ensures room { KeepsSpare self.old self.new }

@@ -7,6 +7,7 @@ ghost use Rattle.txn_core.specs.State.{IsSameBut};
 ghost use Rattle.clv_base.specs.Logs.{wrote_in};
 ghost use Rattle.clv_base.specs.Undo.{stage_of as stage_in};
 ghost use Rattle.clv_base.specs.OneShard.{undecided_with};
+ghost use Rattle.protocol_laws.specs.Spelled.{IsSpelled};
 ghost use Rattle.txn_core.specs.Sound.{may_work, owed_more, IsCovered, KeepsSpare};
 
 use crate::shard::ShardTx;
@@ -109,6 +110,7 @@ impl<S: Store + Drop, L: Locks + Drop> ShardTx<S, L> {
         requires covered { IsCovered plan.now.needs.items plan.now.insert plan.now.write }
         requires work { may_work (stage_in self.old.local tx) ≡ true }
         requires few { length (undecided_with self.old.local tx violated.now) ≤ 1024 }
+        requires spelled { IsSpelled (performed_by tx birth plan.now.needs.items plan.now.insert plan.now.write violated.now self.old.local) }
         ensures ok { OnOk result (IsSameBut self.old (performed_by tx birth plan.now.needs.items plan.now.insert plan.now.write violated.now self.old.local) self.new) }
         ensures err { OnErr result (IsSameBut self.old self.old.local self.new) }
         ensures room { KeepsSpare self.old self.new }

@@ -27,6 +27,7 @@ impl<S: Store + Drop, L: Locks + Drop> ShardTx<S, L> {
         ensures pairs_room { self.old.pairs_room ≤ self.new.pairs_room }
         ensures pairs_given_back { self.new.pairs_room ≤ self.old.pairs_room }
     {
+        let _end = self.buffer.end();
         self.deps.mark_dependents(tx);
         let kept = room_beyond(&self.buffer, self.deps.marks());
         roll_back(&mut self.store, &mut self.buffer, &self.deps);

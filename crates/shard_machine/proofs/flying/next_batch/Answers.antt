@@ -20,7 +20,7 @@ overflow_add-upto g c =
 pub batch_bytes-requires-clause-spelled : goal.batch_bytes-requires-clause-spelled
 batch_bytes-requires-clause-spelled g c =
     let s : Shard = c.args.core.now.shard in
-    subst (λ (rs : List LogRecord). list_all has_spelling rs ≡ true) (sym c.next_records.ensures) (all_taken (next_count s) (drop (taken s) s.local.log) (all_dropped (taken s) s.local.log c.requires.spelled))
+    subst (λ (rs : List LogRecord). list_all has_spelling rs ≡ true) (sym c.next_records.ensures) (all_taken (next_count s) (drop (taken s) s.local.log) (all_dropped (taken s) s.local.log c.log_is_spelled.ensures))
 
 pub batch_bytes-requires-clause-fits : goal.batch_bytes-requires-clause-fits
 batch_bytes-requires-clause-fits g c =

@@ -9,8 +9,8 @@ use Rattle.shard_core.proofs.Committing.{commit_changed, idle_holds}
 use Rattle.shard_core.proofs.Parts.{Parts, seen, rest_of}
 use Rattle.shard_core.proofs.shard.ShardCore.commit_here.Goals as goal
 
-pub commit_noted-requires : goal.commit_noted-requires
-commit_noted-requires g c =
+pub commit_noted-requires-clause-room : goal.commit_noted-requires-clause-room
+commit_noted-requires-clause-room g c =
     let i = c.self.inside in let a : Parts = record { shard = i.shard; run = i.run; transactions = i.transactions; participant = i.participant; coordinator = i.coordinator; prepares = i.prepares; outbox = i.outbox; candidates = i.candidates } in
     known_have_room (seen a) c.args.tx i.candidates c.self.invariant.dependents c.self.invariant.candidates.known (subst (λ (v : Core). tx_in c.args.tx (known_keys v.shard) ≡ true) (sym c.self.view_is) c.requires.known) c.self.invariant.candidates.places
 

@@ -1,7 +1,8 @@
 -- The part is closed and the request is kept, and the transaction and its successors are candidates.
-use Rattle.std.proofs.Common.{◌≡◌, sym, ap, subst, ◌∙◌, ◌+◌, ◌++◌, List, ◌∷◌, Some, arith}
+use Rattle.std.proofs.Common.{◌≡◌, sym, ap, subst, ◌∙◌, ℕ, ◌+◌, ◌++◌, true, map, List, ◌∷◌, Some, arith}
 use Rattle.clv_base.specs.declared.messages.Message.{Message}
 use Rattle.clv_base.specs.declared.state.Stage.TheVariants.{Active}
+use Rattle.clv_base.specs.Orders.{nat_in}
 use Rattle.clv_base.specs.State.{Shard, with_local}
 use Rattle.clv_base.specs.Undo.{stage_of}
 use Rattle.clv_base.specs.Coordinator.{prepares, others}
@@ -9,6 +10,7 @@ use Rattle.clv_base.specs.OneShard.{close_part}
 use Rattle.clv_base.specs.Events.{finish, is_alone, coordinate}
 use Rattle.protocol_laws.specs.Changes.{ChangesDue, successors_of}
 use Rattle.protocol_laws.proofs.Laws.{requests_touch}
+use Rattle.two_phase_commit.proofs.Laws.{low_in}
 use Rattle.shard_core.specs.Core.{Core}
 use Rattle.shard_core.proofs.Parts.{Parts, seen, Changed, rest_of}
 use Rattle.shard_core.proofs.Grown.{like_closed, turns_closed, asked_changed, room_doomed, within_closed, rising_before}
@@ -32,6 +34,11 @@ close_noted-requires-clause-room g c =
     let i = c.self.inside in let stay = c.make_room.ensures.stay in
     let a : Parts = record { shard = i.shard; run = i.run; transactions = i.transactions; participant = i.participant; coordinator = i.coordinator; prepares = i.prepares; outbox = i.outbox; candidates = i.candidates } in
     room_doomed a c.args.tx c.make_room.new.transactions c.make_room.new.candidates c.self.invariant (subst (λ (v : Core). stage_of v.shard.local c.args.tx ≡ Some Active) (sym c.self.view_is) c.requires.active) stay.transactions stay.candidates stay.limit
+
+pub close_noted-requires-clause-home : goal.close_noted-requires-clause-home
+close_noted-requires-clause-home g c =
+    let home : c.self.inside.shard ≡ c.args.self.now.shard.shard = c.self.invariant.transactions ∙ ap (λ (v : Core). v.shard.shard) c.self.view_is in
+    low_in c.self.inside.shard c.args.touched c.requires.low (subst (λ n. nat_in n (map (λ (t : ℕ × ℕ). t.0) c.args.touched) ≡ true) (sym home) c.requires.own)
 
 the_change : (g : given.Over) (c : goal.After-drop-messages-2 g)
     → Changed (record (before g c) { transactions = c.close_noted.new.transactions; coordinator = c.ask_commit.new.self; prepares = c.close_noted.new.prepares; outbox = c.push_these.new.outbox; candidates = c.close_noted.new.candidates })

@@ -1,11 +1,13 @@
 -- The parts are those that a restart makes.
-use Rattle.std.proofs.Common.{◌≡◌, refl, sym, ap, ◌∙◌, ◌+◌, ◌≤◌, List, length, arith}
+use Rattle.std.proofs.Common.{◌≡◌, refl, sym, ap, subst, ◌∙◌, ℕ, ◌+◌, ◌≤◌, List, length, arith}
 use Rattle.clv_base.specs.declared.names.TxId.{TxId}
 use Rattle.clv_base.specs.declared.logs.LogRecord.{LogRecord}
 use Rattle.clv_base.specs.Logs.{in_doubt, prepare_lsn}
 use Rattle.clv_base.specs.Coordinator.{restored_requests}
 use Rattle.clv_base.specs.Participant.{restored_voters}
 use Rattle.clv_base.specs.Restarts.{homes_of, unended_in}
+use Rattle.clv_base.specs.Orders.{Table}
+use Rattle.two_phase_commit.specs.Coordinated.{AreNamed}
 use Rattle.txn_core.specs.State.{TxState}
 use Rattle.shard_core.proofs.Made.{AreMade, made_is, made_rests, made_holds}
 use Rattle.shard_core.proofs.Parts.{Parts}
@@ -46,13 +48,18 @@ made g c =
       places = c.in-Ok-candidates_for.ensures.places;
     }
 
+pub home_of-requires-clause-named : goal.home_of-requires-clause-named
+home_of-requires-clause-named g c =
+    let log = c.args.recovered.buffer.records in
+    subst (λ (rows : Table (List ℕ)). AreNamed rows) (sym (c.deref-2.ensures.value ∙ c.requires.unended)) (c.unended_rise.ensures.named log log c.requires.spelled)
+
 pub invariant_of-result : goal.invariant_of-result
 unfolding after
 invariant_of-result g c = made_holds c.args.shard c.args.epoch c.in-Some.count c.args.recovered.buffer.records (after g c) (made g c) c.restarts_have_parts.ensures
 
 pub returns-clause-rest : goal.returns-clause-rest
 unfolding after
-returns-clause-rest g c = made_rests c.args.shard c.args.epoch c.in-Some.count c.args.recovered.buffer.records (after g c.before.before.before) (made g c.before.before.before) c.restarts_end_at_rest.ensures c.unended_rise.ensures
+returns-clause-rest g c = made_rests c.args.shard c.args.epoch c.in-Some.count c.args.recovered.buffer.records (after g c.before.before.before) (made g c.before.before.before) c.restarts_end_at_rest.ensures c.unended_rise.ensures.rise
 
 pub returns-clause-shard : goal.returns-clause-shard
 unfolding after

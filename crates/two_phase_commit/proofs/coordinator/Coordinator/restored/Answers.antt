@@ -4,7 +4,7 @@ use Rattle.std.specs.BTreeMap.{insert_entry}
 use Rattle.clv_base.specs.declared.state.Request.{Request}
 use Rattle.clv_base.specs.Orders.{Table, tx_cmp}
 use Rattle.clv_base.specs.Coordinator.{restored_requests}
-use Rattle.two_phase_commit.proofs.HomesRestored.{step_restored, so_far_fit}
+use Rattle.two_phase_commit.proofs.HomesRestored.{step_restored, so_far_fit, so_far_named}
 use Rattle.two_phase_commit.proofs.coordinator.Coordinator.restored.Goals as goal
 
 pub loop-commit-preserved : goal.loop-commit-preserved
@@ -19,7 +19,12 @@ loop-commit-preserved c =
 
 pub invariant_of-self : goal.invariant_of-self
 invariant_of-self c =
-    (so_far_fit c.self.inside.shard c.loop-commit.requests.entries (restored_requests (drop c.loop-commit.commit-index c.args.unended.now)) c.args.unended.now c.loop-commit.invariant.all, c.loop-commit.invariant.index, c.loop-commit.invariant.asked)
+    let now = c.loop-commit.requests.entries in let rest = restored_requests (drop c.loop-commit.commit-index c.args.unended.now) in (
+      so_far_fit c.self.inside.shard now rest c.args.unended.now c.loop-commit.invariant.all,
+      c.loop-commit.invariant.index,
+      c.loop-commit.invariant.asked,
+      so_far_named now rest c.args.unended.now c.requires.named c.loop-commit.invariant.all,
+    )
 
 pub put_request-requires-clause-index : goal.put_request-requires-clause-index
 put_request-requires-clause-index c = c.loop-commit.invariant.index

@@ -14,6 +14,7 @@ use Rattle.txn_core.proofs.Undoing.{local_same, state_same, sound_more}
 use Rattle.txn_core.proofs.Locked.{ghosts_same}
 use Rattle.txn_core.proofs.Closed.{closed_sound, closed_fewer, closed_back, closed_ghosts, spends_like, uses_like}
 use Rattle.txn_core.proofs.Crowds.{few_same, few_grows}
+use Rattle.txn_core.proofs.Spelling.{spelled_same, spelled_closed}
 use Rattle.txn_core.proofs.shard.ShardTx.close_as.Goals as goal
 
 pub close_in-requires : goal.close_in-requires
@@ -29,14 +30,15 @@ invariant_of-self g c =
     let view : TxState = record { shard = s.shard; local = l; durable = s.buffer.durable; taken = s.buffer.taken; room = s.buffer.room; pairs_room = s.deps.room } in
     let spare : HasSpare 1 view = subst (λ (v : TxState). HasSpare 1 v) (sym c.self.view_is) c.requires.room.0 in
     let spent = c.write_closing.ensures.room.0 in
+    let left = local_same _ _ _ _ _ (close_part tx home one l) refl c.close_part.ensures.rows c.close_in.ensures c.write_closing.ensures.pairs log in
     record {
       settled = c.write_closing.ensures.settled;
-      sound = sound_more (close_part tx home one l) _ c.write_closing.new.buffer.room c.write_closing.new.buffer.room
-          (local_same _ _ _ _ _ (close_part tx home one l) refl c.close_part.ensures.rows c.close_in.ensures c.write_closing.ensures.pairs log) (omega arith)
+      sound = sound_more (close_part tx home one l) _ c.write_closing.new.buffer.room c.write_closing.new.buffer.room left (omega arith)
           (closed_sound l tx home one s.buffer.room c.write_closing.new.buffer.room active c.self.invariant.sound (omega (arith, spare, spent)));
       ghosts = ghosts_same _ _ _ _ c.close_part.ensures.rows refl (closed_ghosts tx l.locks l.records c.self.invariant.ghosts);
       few = few_same (close_part tx home one l).log c.write_closing.new.buffer.records l.pairs _ log c.write_closing.ensures.pairs
           (few_grows l.log (closing (wrote_in l.log tx) one tx home (undecided_of l tx)) l.pairs c.self.invariant.few);
+      spelled = spelled_same _ (close_part tx home one l) left (spelled_closed tx home one l c.requires.home c.self.invariant.few c.self.invariant.spelled);
     }
 
 pub returns-clause-closed : goal.returns-clause-closed

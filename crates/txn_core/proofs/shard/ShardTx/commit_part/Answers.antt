@@ -7,6 +7,7 @@ use Rattle.txn_core.specs.Sound.{HasSpare, SpendsSpare, UsesSpare}
 use Rattle.txn_core.proofs.Undoing.{local_same, sound_more}
 use Rattle.txn_core.proofs.Closed.{plain_commit, more_sound, more_owed, spends_like, uses_like}
 use Rattle.txn_core.proofs.Crowds.{few_same, few_grows}
+use Rattle.txn_core.proofs.Spelling.{spelled_same, spelled_more}
 use Rattle.txn_core.proofs.shard.ShardTx.commit_part.Goals as goal
 
 pub invariant_of-self : goal.invariant_of-self
@@ -14,15 +15,16 @@ invariant_of-self g c =
     let s = c.self.inside in let more = Commit c.args.tx c.args.parts ∷ [] in let now = c.write_commit.new.buffer in
     let l : Local = record { records = g.S.Store.records s.store; locks = g.L.Locks.rows s.locks; parts = s.parts.entries; pairs = s.deps.pairs; log = s.buffer.records; epoch = s.epoch } in
     let view : TxState = record { shard = s.shard; local = l; durable = s.buffer.durable; taken = s.buffer.taken; room = s.buffer.room; pairs_room = s.deps.room } in
-    let spare : HasSpare 1 view = subst (λ (v : TxState). HasSpare 1 v) (sym c.self.view_is) c.requires.0 in
+    let spare : HasSpare 1 view = subst (λ (v : TxState). HasSpare 1 v) (sym c.self.view_is) c.requires.room.0 in
     let spent = c.write_commit.ensures.room.0 in
+    let left = local_same _ _ _ _ _ (record l { log = l.log ++ more }) refl refl refl c.write_commit.ensures.pairs c.write_commit.ensures.records in
     record {
       settled = c.write_commit.ensures.settled;
-      sound = sound_more (record l { log = l.log ++ more }) _ now.room now.room
-          (local_same _ _ _ _ _ (record l { log = l.log ++ more }) refl refl refl c.write_commit.ensures.pairs c.write_commit.ensures.records) (omega arith)
+      sound = sound_more (record l { log = l.log ++ more }) _ now.room now.room left (omega arith)
           (more_sound l more s.buffer.room now.room (plain_commit c.args.tx c.args.parts) c.self.invariant.sound (omega (arith, spare, spent)));
       ghosts = c.self.invariant.ghosts;
       few = few_same (l.log ++ more) now.records l.pairs _ c.write_commit.ensures.records c.write_commit.ensures.pairs (few_grows l.log more l.pairs c.self.invariant.few);
+      spelled = spelled_same _ (record l { log = l.log ++ more }) left (spelled_more (Commit c.args.tx c.args.parts) l c.requires.spelled c.self.invariant.spelled);
     }
 
 pub returns-clause-room : goal.returns-clause-room

@@ -4,6 +4,7 @@ use Rattle.clv_base.specs.State.{Local}
 use Rattle.clv_base.specs.OneShard.{mark_dropped}
 use Rattle.txn_core.proofs.Undoing.{marked_sound, sound_more, local_same, spare_marked, spare_through}
 use Rattle.txn_core.proofs.Returning.{back_marked}
+use Rattle.txn_core.proofs.Spelling.{spelled_parts}
 use Rattle.txn_core.specs.State.{TxState}
 use Rattle.txn_core.specs.Sound.{KeepsSpare}
 use Rattle.txn_core.proofs.shard.ShardTx.drop_part.Goals.{in-Some-Active, in-Some-Gone}
@@ -18,6 +19,7 @@ invariant_of-self g c =
       sound = sound_more (mark_dropped tx l) _ s.buffer.room s.buffer.room (local_same _ _ _ _ _ (mark_dropped tx l) refl refl c.mark_dropped.ensures refl refl) (omega arith) (marked_sound l tx s.buffer.room c.self-2.invariant.sound);
       ghosts = c.self-2.invariant.ghosts;
       few = c.self-2.invariant.few;
+      spelled = spelled_parts c.mark_dropped.new.parts.entries l c.self-2.invariant.spelled;
     }
 
 pub returns-clause-room : goal.returns-clause-room

@@ -18,6 +18,7 @@ use Rattle.txn_core.proofs.Closed.{sound_finished}
 use Rattle.txn_core.proofs.Totals.{still_sound}
 use Rattle.txn_core.proofs.Returning.{Kept, finished_own, back_like}
 use Rattle.txn_core.proofs.Crowds.{few_same, few_without}
+use Rattle.txn_core.proofs.Spelling.{spelled_same, spelled_finished}
 use Rattle.txn_core.proofs.shard.ShardTx.finish_part.Goals as goal
 
 pub invariant_of-self : goal.invariant_of-self
@@ -28,13 +29,15 @@ invariant_of-self g c =
     let records = c.release_all.ensures.records ∙ ap (λ (k : Locks). without_ghosts k (g.S.Store.records s.store)) c.release_all.ensures.rows in
     let split = finished_own tx l in
     let back : c.trim.new.self ≡ record s.buffer { room = kept } = c.trim.ensures ∙ ap (λ n. record s.buffer { room = n }) (min-eq_right (omega (arith, c.room_without-kept.ensures))) in
+    let left = local_same _ _ _ _ _ after records c.release_all.ensures.rows c.finish_in.ensures c.forget.ensures.pairs refl in
     let base : Kept c.forget.new.self.commits (record { records = g.S.Store.records c.release_all.new.store; locks = g.L.Locks.rows c.release_all.new.locks; parts = c.finish_in.new.parts.entries; pairs = c.forget.new.self.pairs; log = s.buffer.records; epoch = s.epoch }) (record s.buffer { room = kept }) = record {
       settled = λ t. ap (tx_get t) c.forget.ensures.commits ∙ c.self.invariant.settled t;
-      sound = sound_more after _ kept kept (local_same _ _ _ _ _ after records c.release_all.ensures.rows c.finish_in.ensures c.forget.ensures.pairs refl) (omega arith)
+      sound = sound_more after _ kept kept left (omega arith)
           (sound_purged (release_parts (tx ∷ []) None l) kept
           (still_sound (release_parts (tx ∷ []) None l) s.buffer.room kept (sound_finished tx l s.buffer.room c.self.invariant.sound) (omega (arith, split, c.room_without-kept.ensures, c.self.invariant.sound.room))));
       ghosts = ghosts_same _ _ _ _ c.release_all.ensures.rows records (purged_are_locked (release (tx ∷ []) l.locks) l.records);
       few = few_same l.log l.log (pairs_without (tx ∷ []) l.pairs) _ refl c.forget.ensures.pairs (few_without (tx ∷ []) l.log l.pairs c.self.invariant.few);
+      spelled = spelled_same _ after left (spelled_finished tx l c.self.invariant.spelled);
     } in
     subst (λ (b : Buffer LogRecord). Kept c.forget.new.self.commits (record { records = g.S.Store.records c.release_all.new.store; locks = g.L.Locks.rows c.release_all.new.locks; parts = c.finish_in.new.parts.entries; pairs = c.forget.new.self.pairs; log = s.buffer.records; epoch = s.epoch }) b) (sym back) base
 

@@ -5,6 +5,7 @@ use Rattle.clv_base.specs.Logs.{commit_lsn, wrote_in}
 use Rattle.clv_base.specs.State.{Local}
 use Rattle.clv_base.specs.Undo.{stage_of}
 use Rattle.clv_base.specs.OneShard.{add_pairs, undecided_with}
+use Rattle.protocol_laws.specs.Spelled.{IsSpelled}
 use Rattle.shard_ops.specs.Effects.{performed_by, locks_after, records_after, log_after, record_count}
 use Rattle.txn_core.specs.State.{TxState}
 use Rattle.txn_core.specs.Sound.{may_work, owed_more, KeepsSpare}
@@ -14,6 +15,7 @@ use Rattle.txn_core.proofs.Doing.{sound_performed, spare_performed, back_perform
 use Rattle.txn_core.proofs.Returning.{back_like}
 use Rattle.txn_core.proofs.Locked.{granted_ghosts_are_locked, ghosts_same}
 use Rattle.txn_core.proofs.Crowds.{few_same, few_written, few_add}
+use Rattle.txn_core.proofs.Spelling.{spelled_same}
 use Rattle.txn_core.proofs.shard.ShardTx.perform.Goals as goal
 
 pub invariant_of-self-2 : goal.invariant_of-self-2
@@ -31,15 +33,19 @@ invariant_of-self-2 g c =
     let log = c.write_down.ensures.log ∙ ap (λ b. log_after tx write b.records) c.reserve_log.ensures.same in
     let locked = granted_ghosts_are_locked tx birth needs plan.insert l.locks write l.records c.requires.covered c.self.invariant.ghosts in
     let own : length (undecided_with l tx c.args.violated.now) ≤ 1024 = subst (λ (v : TxState). length (undecided_with v.local tx c.args.violated.now) ≤ 1024) (sym c.self.view_is) c.requires.few in
+    let done = local_same _ _ _ _ _ (performed_by tx birth needs plan.insert write c.args.violated.now l) records locks c.in-Ok-enter_part.ensures.ok pairs log in
     record {
       settled = λ t.
           ap (tx_get t) c.add_predecessors.ensures.commits ∙ c.reserve_rest.ensures.commits t ∙ c.self.invariant.settled t
           ∙ sym (ap (λ m. commit_lsn m t) log ∙ commit_lsn-log_after t tx write l.log);
-      sound = sound_more (performed_by tx birth needs plan.insert write c.args.violated.now l) _ left left (local_same _ _ _ _ _ (performed_by tx birth needs plan.insert write c.args.violated.now l) records locks c.in-Ok-enter_part.ensures.ok pairs log) (omega arith) after;
+      sound = sound_more (performed_by tx birth needs plan.insert write c.args.violated.now l) _ left left done (omega arith) after;
       ghosts = ghosts_same _ _ _ _ locks records locked;
       few =
           few_same (log_after tx write l.log) c.write_down.new.buffer.records (add_pairs tx c.args.violated.now l.pairs) _ log pairs
           (few_written tx write l.log (add_pairs tx c.args.violated.now l.pairs) (few_add tx c.args.violated.now l.log l.pairs c.self.invariant.few own));
+      spelled =
+          spelled_same _ (performed_by tx birth needs plan.insert write c.args.violated.now l) done
+          (subst (λ (v : TxState). IsSpelled (performed_by tx birth needs plan.insert write c.args.violated.now v.local)) (sym c.self.view_is) c.requires.spelled);
     }
 
 pub returns-clause-room : goal.returns-clause-room

@@ -22,6 +22,7 @@ use Rattle.txn_core.proofs.Counting.{in_set}
 use Rattle.txn_core.proofs.Owing.{count_owed_fewer, undo_at_most}
 use Rattle.txn_core.proofs.Returning.{Kept, spare_back, back_like}
 use Rattle.txn_core.proofs.Crowds.{few_same, few_undone, few_without}
+use Rattle.txn_core.proofs.Spelling.{spelled_same, spelled_aborted}
 use Rattle.txn_core.proofs.shard.ShardTx.roll_back_part.Goals as goal
 use Rattle.std.specs.Prelude.{◌++◌}
 
@@ -76,16 +77,19 @@ invariant_of-self g c =
     let pairs = c.forget_marked.ensures.pairs ∙ ap (pairs_without c.mark_dependents.new.self.marked) c.mark_dependents.ensures.pairs ∙ ap (λ (m : List TxId). pairs_without m l.pairs) marked in
     let log = c.roll_back.ensures.log ∙ ap (λ (m : List TxId). l.log ++ aborts_of l.log m ++ clrs_of m (standing l.log)) marked in
     let m : Local = record { records = g.S.Store.records c.release_all.new.store; locks = g.L.Locks.rows c.release_all.new.locks; parts = c.end_parts.new.parts.entries; pairs = c.forget_marked.new.self.pairs; log = c.roll_back.new.buffer.records; epoch = s.epoch } in
+    let away = local_same _ _ _ _ _ (purge (take_away set tx l)) records locks parts pairs log in
     let base : Kept c.forget_marked.new.self.commits m (record c.roll_back.new.buffer { room = kept }) =
     record {
       settled = λ t.
           ap (tx_get t) (c.forget_marked.ensures.commits ∙ c.mark_dependents.ensures.commits) ∙ c.self.invariant.settled t
           ∙ sym (ap (λ m. commit_lsn m t) c.roll_back.ensures.log ∙ commit_lsn-undone t c.mark_dependents.new.self.marked (standing l.log) l.log);
-      sound = sound_more (purge (take_away set tx l)) _ kept kept (local_same _ _ _ _ _ (purge (take_away set tx l)) records locks parts pairs log) (omega arith)
+      sound = sound_more (purge (take_away set tx l)) _ kept kept away (omega arith)
           (sound_purged (take_away set tx l) kept left);
       ghosts = ghosts_same _ _ _ _ locks records (purged_are_locked (release set l.locks) (records_without set (standing l.log) l.records));
       few = few_same (take_away set tx l).log c.roll_back.new.buffer.records (pairs_without set l.pairs) _ log pairs
           (few_undone l.log (aborts_of l.log set) (clrs_of set (standing l.log)) (pairs_without set l.pairs) (few_without set l.log l.pairs c.self.invariant.few));
+      spelled = spelled_same _ (purge (roll_back tx l)) (away ∙ ap (λ (m : List TxId). purge (take_away m tx l)) (sym (doomed_are_here l s.buffer.room sound tx here)))
+          (spelled_aborted tx l (omega (arith, c.end-end.ensures.end, c.end-end.type_inv)) c.self.invariant.spelled);
     }
     in subst (λ (b : Buffer LogRecord). Kept c.forget_marked.new.self.commits m b) (sym back) base
 

@@ -47,6 +47,7 @@ invariant_of-self g c =
       sound = still_sound l s.buffer.room (min s.buffer.room keep) c.self.invariant.sound enough;
       ghosts = c.self.invariant.ghosts;
       few = c.self.invariant.few;
+      spelled = c.self.invariant.spelled;
     } in
     subst (λ (b : Buffer LogRecord). kept b c.trim-2.new.self) (sym c.trim.ensures) (subst (λ (d : Dependencies). kept (record s.buffer { room = min s.buffer.room keep }) d) (sym c.trim-2.ensures) base)
 

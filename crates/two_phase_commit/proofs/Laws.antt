@@ -1,0 +1,2 @@
+-- Lemmas that this crate offers to the proofs of the crates above it.
+pub use Rattle.two_phase_commit.proofs.Few.{low_in}
