@@ -58,41 +58,41 @@ meet_apart splits a b s p q n (k, x, y, w) =
 -- ---- who is none of the first ones stands behind them
 
 module _ {splits : List ℕ} {before after : List (List LogRecord)} {h : History} (l : LegalFrom splits before h after) (choice : ℕ → Bool)
-    where
-  abbrev Follows : Act → Act → Type 0
-  Follows a b = Meet a b → (a.tx ≡ b.tx) ⊎ StandsBefore a.tx b.tx (transactions_of (serial_left splits before h after choice))
+  where
+    abbrev Follows : Act → Act → Type 0
+    Follows a b = Meet a b → (a.tx ≡ b.tx) ⊎ StandsBefore a.tx b.tx (transactions_of (serial_left splits before h after choice))
 
-  -- ---- on one shard
+    -- ---- on one shard
 
-  by_place : (n : ℕ) → n < shard_count splits → (p t : TxId) → p.run ≡ run_after before → t.run ≡ run_after before → tx_in t (transactions_of (serial_left splits before h after choice)) ≡ true
-      → place (filter (chosen splits before h after choice n) (found_asked n (log_of before n) ++ requests_of h)) p < place (filter (chosen splits before h after choice n) (found_asked n (log_of before n) ++ requests_of h)) t
-      → StandsBefore p t (transactions_of (serial_left splits before h after choice))
-  by_place n i p t rp rt k less =
-      let pick = chosen splits before h after choice n in
-      let found = found_asked n (log_of before n) in
-      let names = chosen_are_members l choice n i in
-      let q = in_filter pick t (requests_of h) (subst (λ ts. tx_in t ts ≡ true) names k) in
-      let there = in_kept pick (found ++ requests_of h) t (in_more found (requests_of h) t q.0) q.1 in
-      let b = subst (StandsBefore p t) (filter-append pick found (requests_of h)) (placed_before p t (filter pick (found ++ requests_of h)) less there) in
-      subst (StandsBefore p t) (sym names) (stands_later p t (filter pick found) (filter pick (requests_of h))
-      (false_from_ne_true _ (λ j. absurd (let old = asked_are_old splits before n l.opens (log_found l n i) p (in_filter pick p found j).0 in omega (arith, old, rp)))) b)
+    by_place : (n : ℕ) → n < shard_count splits → (p t : TxId) → p.run ≡ run_after before → t.run ≡ run_after before → tx_in t (transactions_of (serial_left splits before h after choice)) ≡ true
+        → place (filter (chosen splits before h after choice n) (found_asked n (log_of before n) ++ requests_of h)) p < place (filter (chosen splits before h after choice n) (found_asked n (log_of before n) ++ requests_of h)) t
+        → StandsBefore p t (transactions_of (serial_left splits before h after choice))
+    by_place n i p t rp rt k less =
+        let pick = chosen splits before h after choice n in
+        let found = found_asked n (log_of before n) in
+        let names = chosen_are_members l choice n i in
+        let q = in_filter pick t (requests_of h) (subst (λ ts. tx_in t ts ≡ true) names k) in
+        let there = in_kept pick (found ++ requests_of h) t (in_more found (requests_of h) t q.0) q.1 in
+        let b = subst (StandsBefore p t) (filter-append pick found (requests_of h)) (placed_before p t (filter pick (found ++ requests_of h)) less there) in
+        subst (StandsBefore p t) (sym names) (stands_later p t (filter pick found) (filter pick (requests_of h))
+        (false_from_ne_true _ (λ j. absurd (let old = asked_are_old splits before n l.opens (log_found l n i) p (in_filter pick p found j).0 in omega (arith, old, rp)))) b)
 
-  on_one : (n : ℕ) → n < shard_count splits → AllLater Follows (filter (λ a. (a.done).shard == n) (member_acts splits before h after choice))
-  on_one n i =
-      subst (AllLater Follows) (chosen_acts l choice n i)
-      (later_told (λ x. ((x.tx).run ≡ run_after before) × (tx_in x.tx (transactions_of (serial_left splits before h after choice)) ≡ true)) _ Follows (told n)
-      (λ x y p q r m. ⊎_elim (λ e. inl e) (λ less. inr (by_place n i x.tx y.tx p.0 q.0 q.1 less)) (r (clash_of n x y m)))
-      (filter (λ x. chosen splits before h after choice n x.tx) (deeds_before before h after n).items)
-      (all_mono _ _ (λ x p. (p.0, subst (λ b. b ≡ true) (chosen_member l choice n i x.tx p.0) p.1)) (filter (λ x. chosen splits before h after choice n x.tx) (deeds_before before h after n).items)
-      (all_filter (λ x. (x.tx).run ≡ run_after before) (λ x. chosen splits before h after choice n x.tx) (deeds_before before h after n).items (deeds_run l choice n i)))
-      (acted l choice n i).2)
+    on_one : (n : ℕ) → n < shard_count splits → AllLater Follows (filter (λ a. (a.done).shard == n) (member_acts splits before h after choice))
+    on_one n i =
+        subst (AllLater Follows) (chosen_acts l choice n i)
+        (later_told (λ x. ((x.tx).run ≡ run_after before) × (tx_in x.tx (transactions_of (serial_left splits before h after choice)) ≡ true)) _ Follows (told n)
+        (λ x y p q r m. ⊎_elim (λ e. inl e) (λ less. inr (by_place n i x.tx y.tx p.0 q.0 q.1 less)) (r (clash_of n x y m)))
+        (filter (λ x. chosen splits before h after choice n x.tx) (deeds_before before h after n).items)
+        (all_mono _ _ (λ x p. (p.0, subst (λ b. b ≡ true) (chosen_member l choice n i x.tx p.0) p.1)) (filter (λ x. chosen splits before h after choice n x.tx) (deeds_before before h after n).items)
+        (all_filter (λ x. (x.tx).run ≡ run_after before) (λ x. chosen splits before h after choice n x.tx) (deeds_before before h after n).items (deeds_run l choice n i)))
+        (acted l choice n i).2)
 
-  -- ---- on all
+    -- ---- on all
 
-  on_all : AllLater Follows (member_acts splits before h after choice)
-  on_all =
-      later_by_shard (λ a. (a.done).shard) (λ a. LiesIn splits a.done) Follows (λ a b p q n m. absurd (meet_apart splits a b l.legal.splits_rise p q n m)) (shard_count splits) (member_acts splits before h after choice)
-      (all_mono (IsFine splits before) _ (λ a p. (p.1, (p.1).0)) (member_acts splits before h after choice) (members_are_fine splits before h after choice l.legal)) on_one
+    on_all : AllLater Follows (member_acts splits before h after choice)
+    on_all =
+        later_by_shard (λ a. (a.done).shard) (λ a. LiesIn splits a.done) Follows (λ a b p q n m. absurd (meet_apart splits a b l.legal.splits_rise p q n m)) (shard_count splits) (member_acts splits before h after choice)
+        (all_mono (IsFine splits before) _ (λ a p. (p.1, (p.1).0)) (member_acts splits before h after choice) (members_are_fine splits before h after choice l.legal)) on_one
 
 pub meetings_follow_places : MeetingsFollowPlaces
 meetings_follow_places splits before h after choice l = on_all l choice

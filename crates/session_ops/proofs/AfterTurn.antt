@@ -19,7 +19,7 @@ use Rattle.cluster_turns.specs.declared.shards.Walker.{Walker}
 use Rattle.cluster_turns.specs.Turns.{EventTold}
 use Rattle.cluster_turns.specs.Walkers.{IsWalker, IsSameWalker, Walked, kept}
 use Rattle.cluster_turns.specs.States.{session_of}
-use Rattle.cluster_turns.specs.CallTurns.{Turn, Took, no_turn, event_turn, entry_on}
+use Rattle.cluster_turns.specs.CallTurns.{Turn, Took, no_turn, event_turn, entry_on, takes_no_flight}
 use Rattle.cluster_turns.specs.Births.{AreInformed, IsBornBy}
 use Rattle.cluster_turns.proofs.Laws.{event_rises, states_go_on, enters_so, ok_same, quiet_so, kept_grows, informed_stay, free_stays, unless_stays}
 use Rattle.session_ops.specs.Standing.{IsOld, IsReady, HasBirth}
@@ -63,31 +63,32 @@ module _ {M S G : Type 0} (w v : Walker M S G) (n : ℕ) (e : Event) (r : Result
     abbrev pub turn_of : Turn
     turn_of = record { shard = n; event = e; answer = r; made = walked.turned.told.made }
 
-    pub took_turn : Took w.number w.clock w.passes.items (turn_of ∷ []) v.clock v.passes.items
-    took_turn = event_turn w.clock v.clock v.clock w.passes.items v.passes.items v.passes.items turn_of [] walked refl refl (no_turn v.clock v.passes.items)
-
     pub rises : w.clock ≤ v.clock
     rises = event_rises w.clock w.number e r v.clock walked.turned.s walked.turned.t walked.turned.added walked.turned.told
 
+  module _ (walked : IsAsked) (plain : takes_no_flight e r ≡ true) where
+    pub took_turn : Took w.number w.clock w.passes.items (turn_of walked ∷ []) v.clock v.passes.items
+    took_turn = event_turn w.clock v.clock v.clock w.passes.items v.passes.items v.passes.items (turn_of walked) [] walked refl plain (no_turn v.clock v.passes.items)
+
     kept_after : kept v.passes.items ≡ kept w.passes.items ++ (entry_on n walked.turned.told.made ++ [])
-    kept_after = kept_grows w.number w.clock v.clock w.passes.items v.passes.items (turn_of ∷ []) took_turn
+    kept_after = kept_grows w.number w.clock v.clock w.passes.items v.passes.items (turn_of walked ∷ []) took_turn
 
     old_after : (b : Option Birth) → IsOld w.clock b → IsOld v.clock b
     old_after None h = tt
-    old_after (Some b) h = let l = rises in omega arith
+    old_after (Some b) h = let l = rises walked in omega arith
 
     informed_after : IsBornBy w.clock e → v.number ≡ w.number → AreInformed w.number w.clock w.passes.items → AreInformed v.number v.clock v.passes.items
     informed_after born same i =
-        subst (λ k. AreInformed k v.clock v.passes.items) (sym same) (informed_stay w.number w.clock v.clock w.passes.items v.passes.items (turn_of ∷ []) took_turn (born, tt) i)
+        subst (λ k. AreInformed k v.clock v.passes.items) (sym same) (informed_stay w.number w.clock v.clock w.passes.items v.passes.items (turn_of walked ∷ []) took_turn (born, tt) i)
 
     pub born_after : (p : SessionState) (b : HasBirth w p) → ((tx : TxId) → LeavesBirth tx b.birth e) → v.number ≡ w.number → HasBirth v p
     born_after p b leaves same = record {
       birth = b.birth;
       is = b.is;
       bears = b.bears ∙ sym same;
-      old = (let l = rises in let o = b.old in omega arith);
-      free = free_stays w.number w.clock v.clock w.passes.items v.passes.items (turn_of ∷ []) p.tx b.birth took_turn b.bears (leaves p.tx, tt) b.free;
-      parts = λ m. unless_stays m w.number w.clock v.clock w.passes.items v.passes.items (turn_of ∷ []) (lookup (◌==◌ m) p.touched) b.birth took_turn b.bears ((λ here. inr leaves), tt) (b.parts m);
+      old = (let l = rises walked in let o = b.old in omega arith);
+      free = free_stays w.number w.clock v.clock w.passes.items v.passes.items (turn_of walked ∷ []) p.tx b.birth took_turn b.bears (leaves p.tx, tt) b.free;
+      parts = λ m. unless_stays m w.number w.clock v.clock w.passes.items v.passes.items (turn_of walked ∷ []) (lookup (◌==◌ m) p.touched) b.birth took_turn b.bears ((λ here. inr leaves), tt) (b.parts m);
     }
 
     -- no entry was made

@@ -79,7 +79,7 @@ drops_again Refused h = refl
 
 module _ {M S G : Type 0} (sh : Shards M S G) (w v : Walker M S G) (p : SessionState) (n : ℕ) (a : IsEnding sh w p) (r : Result Outcome StepError) where
   pub drop_told : IsAsked w v n (Drop p.tx) r → AskTold w.number w.clock w.passes.items n (Drop p.tx) r v.clock v.passes.items
-  drop_told walked = record { turn = turn_of w v n (Drop p.tx) r walked; took = took_turn w v n (Drop p.tx) r walked; shard_is = refl; event_is = refl; answer_is = refl }
+  drop_told walked = record { turn = turn_of w v n (Drop p.tx) r walked; took = took_turn w v n (Drop p.tx) r walked refl; shard_is = refl; event_is = refl; answer_is = refl }
 
   pub drop_fits : IsAsked w v n (Drop p.tx) r → IfOk r (λ o. is_drop_outcome o ≡ true)
   drop_fits walked = told_fits (Drop p.tx) is_told is_drop_outcome (λ s. happens_fits s p.tx) walked.turned.s walked.turned.t w.clock w.number r walked.turned.told.made walked.turned.told.tells
@@ -89,8 +89,8 @@ module _ {M S G : Type 0} (sh : Shards M S G) (w v : Walker M S G) (p : SessionS
   ends_still walked is_walker same none =
       record {
         over = record {
-          ready = ready_still w v n (Drop p.tx) r walked sh p tt is_walker same none a.over.ready;
-          born = born_after w v n (Drop p.tx) r walked p a.over.born (λ tx. tt) same.0;
+          ready = ready_still w v n (Drop p.tx) r walked refl sh p tt is_walker same none a.over.ready;
+          born = born_after w v n (Drop p.tx) r walked refl p a.over.born (λ tx. tt) same.0;
           spelled = a.over.spelled;
         };
         may = a.may;
@@ -99,10 +99,10 @@ module _ {M S G : Type 0} (sh : Shards M S G) (w v : Walker M S G) (p : SessionS
   -- one was
   ends_then : (walked : IsAsked w v n (Drop p.tx) r) (o : Outcome) → IsWalker sh v → IsSameWalker w v → IsEntered (Drop p.tx) o walked.turned.told.made → IsEnding sh v (record p { phase = after_drop p.phase })
   ends_then walked o is_walker same x =
-      let b = born_after w v n (Drop p.tx) r walked p a.over.born (λ tx. tt) same.0 in
+      let b = born_after w v n (Drop p.tx) r walked refl p a.over.born (λ tx. tt) same.0 in
       record {
         over = record {
-          ready = ready_then w v n (Drop p.tx) r walked sh p (record p { phase = after_drop p.phase }) o tt is_walker same x (leaves sh w p n a o) a.over.ready.serial a.over.ready.old a.over.ready;
+          ready = ready_then w v n (Drop p.tx) r walked refl sh p (record p { phase = after_drop p.phase }) o tt is_walker same x (leaves sh w p n a o) a.over.ready.serial a.over.ready.old a.over.ready;
           born = record { birth = b.birth; is = b.is; bears = b.bears; old = b.old; free = b.free; parts = b.parts };
           spelled = a.over.spelled;
         };

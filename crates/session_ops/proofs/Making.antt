@@ -105,7 +105,7 @@ module _ {M S G : Type 0} (sh : Shards M S G) (w : Walker M S G) (p : SessionSta
 
 module _ {M S G : Type 0} (sh : Shards M S G) (w v : Walker M S G) (p : SessionState) (a : IsActive sh w p) (n : ℕ) (r : Result Outcome StepError) where
   pub request_told : IsAsked w v n (Request p.tx p.touched) r → RequestTold w.number w.clock w.passes.items n (Request p.tx p.touched) r v.clock v.passes.items
-  request_told walked = record { turns = turn_of w v n (Request p.tx p.touched) r walked ∷ []; took = took_turn w v n (Request p.tx p.touched) r walked; is = inr (turn_of w v n (Request p.tx p.touched) r walked, refl, refl, refl, refl) }
+  request_told walked = record { turns = turn_of w v n (Request p.tx p.touched) r walked ∷ []; took = took_turn w v n (Request p.tx p.touched) r walked refl; is = inr (turn_of w v n (Request p.tx p.touched) r walked, refl, refl, refl, refl) }
 
   pub request_fits : IsAsked w v n (Request p.tx p.touched) r → IfOk r (λ o. is_request_outcome o ≡ true)
   request_fits walked = told_fits (Request p.tx p.touched) is_told is_request_outcome (λ s. happens_fits s p.tx p.touched) walked.turned.s walked.turned.t w.clock w.number r walked.turned.told.made walked.turned.told.tells
@@ -114,13 +114,13 @@ module _ {M S G : Type 0} (sh : Shards M S G) (w v : Walker M S G) (p : SessionS
   gone_asked : (walked : IsAsked w v n (Request p.tx p.touched) r) → r ≡ Ok Asked → IsGoneAt n v p
   gone_asked walked is birth had =
       subst (λ b. UnbornAt n b v.passes.items) (birth_same a.born.birth birth (sym a.born.is ∙ had))
-      (ends_unbear n w.number w.clock v.clock w.passes.items v.passes.items (turn_of w v n (Request p.tx p.touched) r walked ∷ []) p.tx a.born.birth (took_turn w v n (Request p.tx p.touched) r walked) a.born.bears (tt, tt) a.born.free
+      (ends_unbear n w.number w.clock v.clock w.passes.items v.passes.items (turn_of w v n (Request p.tx p.touched) r walked ∷ []) p.tx a.born.birth (took_turn w v n (Request p.tx p.touched) r walked refl) a.born.bears (tt, tt) a.born.free
       (inl (refl, subst (EndsPart p.tx (Request p.tx p.touched)) (sym is) refl, tt)))
 
   gone_dead : (walked : IsAsked w v n (Request p.tx p.touched) r) (cause : AbortCause) → r ≡ Ok (Dead cause) → IsGoneAt n v p
   gone_dead walked cause is birth had =
       subst (λ b. UnbornAt n b v.passes.items) (birth_same a.born.birth birth (sym a.born.is ∙ had))
-      (dies_at_request n w.number w.clock v.clock w.passes.items v.passes.items (turn_of w v n (Request p.tx p.touched) r walked) p.tx a.born.birth p.touched cause (took_turn w v n (Request p.tx p.touched) r walked) a.born.bears refl refl is (has_shard sh w a.ready.walker n) a.born.free (a.born.parts n))
+      (dies_at_request n w.number w.clock v.clock w.passes.items v.passes.items (turn_of w v n (Request p.tx p.touched) r walked) p.tx a.born.birth p.touched cause (took_turn w v n (Request p.tx p.touched) r walked refl) a.born.bears refl refl is (has_shard sh w a.ready.walker n) a.born.free (a.born.parts n))
 
   -- no entry was made
   active_still : (walked : IsAsked w v n (Request p.tx p.touched) r) → IsWalker sh v → IsSameWalker w v → walked.turned.told.made ≡ None → IsActive sh v p
@@ -128,10 +128,10 @@ module _ {M S G : Type 0} (sh : Shards M S G) (w v : Walker M S G) (p : SessionS
       let l = rises w v n (Request p.tx p.touched) r walked in
       record {
         state = a.state;
-        ready = ready_still w v n (Request p.tx p.touched) r walked sh a.state tt is_walker same none a.ready;
+        ready = ready_still w v n (Request p.tx p.touched) r walked refl sh a.state tt is_walker same none a.ready;
         goes = a.goes;
         touching = a.touching;
-        born = born_after w v n (Request p.tx p.touched) r walked p a.born (λ tx. tt) same.0;
+        born = born_after w v n (Request p.tx p.touched) r walked refl p a.born (λ tx. tt) same.0;
         serial = (let s = same.1 in let h = a.serial in omega arith);
         spelled = a.spelled;
         counted = (let h = a.counted in omega arith);
@@ -142,7 +142,7 @@ module _ {M S G : Type 0} (sh : Shards M S G) (w v : Walker M S G) (p : SessionS
   made_ready : (walked : IsAsked w v n (Request p.tx p.touched) r) (o : Outcome) (q : SessionState) → IsWalker sh v → IsSameWalker w v → is_lowest n p.touched ≡ true → IsEntered (Request p.tx p.touched) o walked.turned.told.made → requested n p o ≡ Some q
       → (q.tx ≡ p.tx) → (q.birth ≡ p.birth) → IsReady sh v q
   made_ready walked o q is_walker same lowest x goes name birth =
-      ready_then w v n (Request p.tx p.touched) r walked sh a.state q o tt is_walker same x (asks_home sh w p a n o lowest ∙ goes) (let h = a.serial in let k = ap (λ (t : TxId). t.serial) name in omega arith)
+      ready_then w v n (Request p.tx p.touched) r walked refl sh a.state q o tt is_walker same x (asks_home sh w p a n o lowest ∙ goes) (let h = a.serial in let k = ap (λ (t : TxId). t.serial) name in omega arith)
       (subst (IsOld w.clock) (sym (birth ∙ a.born.is)) a.born.old) a.ready
 
   pub request_stands : (walked : IsAsked w v n (Request p.tx p.touched) r) → IsWalker sh v → IsSameWalker w v → is_lowest n p.touched ≡ true → (x : Result Outcome StepError) → r ≡ x → RequestStands sh v (place_requested n p x) n x
@@ -162,7 +162,7 @@ module _ {M S G : Type 0} (sh : Shards M S G) (w v : Walker M S G) (p : SessionS
 
       at : (z : Outcome) → o ≡ z → RequestStands sh v (place_requested n p (Ok z)) n (Ok z)
       at Asked q =
-          let b = born_after w v n (Request p.tx p.touched) r walked p a.born (λ tx. tt) same.0 in
+          let b = born_after w v n (Request p.tx p.touched) r walked refl p a.born (λ tx. tt) same.0 in
           record {
             ready = made_ready walked o (place_requested n p (Ok Asked)) is_walker same lowest (entered (ap is_told q)) (ap (requested n p) q) refl refl;
             stands = refl;
@@ -171,7 +171,7 @@ module _ {M S G : Type 0} (sh : Shards M S G) (w v : Walker M S G) (p : SessionS
             gone = gone_asked walked (is ∙ ap (λ y. Ok y) q);
           }
       at (Dead cause) q =
-          let b = born_after w v n (Request p.tx p.touched) r walked p a.born (λ tx. tt) same.0 in (
+          let b = born_after w v n (Request p.tx p.touched) r walked refl p a.born (λ tx. tt) same.0 in (
             record {
               ready = made_ready walked o (place_requested n p (Ok (Dead cause))) is_walker same lowest (entered (ap is_told q)) (ap (requested n p) q) refl refl;
               born = record { birth = b.birth; is = b.is; bears = b.bears; old = b.old; free = b.free; parts = b.parts };

@@ -89,23 +89,23 @@ module _ {M S G : Type 0} (sh : Shards M S G) (w : Walker M S G) (p : SessionSta
 
 module _ {M S G : Type 0} (sh : Shards M S G) (w v : Walker M S G) (p : SessionState) (n : ℕ) (a : IsStanding sh w p n) (r : Result Outcome StepError) where
   pub look_told : IsAsked w v n (Look p.tx) r → AskTold w.number w.clock w.passes.items n (Look p.tx) r v.clock v.passes.items
-  look_told walked = record { turn = turn_of w v n (Look p.tx) r walked; took = took_turn w v n (Look p.tx) r walked; shard_is = refl; event_is = refl; answer_is = refl }
+  look_told walked = record { turn = turn_of w v n (Look p.tx) r walked; took = took_turn w v n (Look p.tx) r walked refl; shard_is = refl; event_is = refl; answer_is = refl }
 
   pub look_fits : IsAsked w v n (Look p.tx) r → IfOk r (λ o. is_look_outcome o ≡ true)
   look_fits walked = told_fits (Look p.tx) is_told is_look_outcome (λ s. happens_fits s p.tx) walked.turned.s walked.turned.t w.clock w.number r walked.turned.told.made walked.turned.told.tells
 
   gone_after : (walked : IsAsked w v n (Look p.tx) r) → IsGoneAt n v p
   gone_after walked birth had =
-      unborn_stays n w.number w.clock v.clock w.passes.items v.passes.items (turn_of w v n (Look p.tx) r walked ∷ []) birth (took_turn w v n (Look p.tx) r walked) (ap (λ x. x.session) (birth_same birth a.born.birth (sym had ∙ a.born.is)) ∙ a.born.bears) ((λ here. inr (λ u. tt)), tt)
+      unborn_stays n w.number w.clock v.clock w.passes.items v.passes.items (turn_of w v n (Look p.tx) r walked ∷ []) birth (took_turn w v n (Look p.tx) r walked refl) (ap (λ x. x.session) (birth_same birth a.born.birth (sym had ∙ a.born.is)) ∙ a.born.bears) ((λ here. inr (λ u. tt)), tt)
       (a.gone birth had)
 
   -- no entry was made
   stands_still : (walked : IsAsked w v n (Look p.tx) r) → IsWalker sh v → IsSameWalker w v → walked.turned.told.made ≡ None → IsStanding sh v p n
   stands_still walked is_walker same none =
       record {
-        ready = ready_still w v n (Look p.tx) r walked sh p tt is_walker same none a.ready;
+        ready = ready_still w v n (Look p.tx) r walked refl sh p tt is_walker same none a.ready;
         stands = a.stands;
-        born = born_after w v n (Look p.tx) r walked p a.born (λ tx. tt) same.0;
+        born = born_after w v n (Look p.tx) r walked refl p a.born (λ tx. tt) same.0;
         spelled = a.spelled;
         gone = gone_after walked;
       }
@@ -113,7 +113,7 @@ module _ {M S G : Type 0} (sh : Shards M S G) (w v : Walker M S G) (p : SessionS
   -- one was
   seen_ready : (walked : IsAsked w v n (Look p.tx) r) (o : Outcome) (q : SessionState) → IsWalker sh v → IsSameWalker w v → IsEntered (Look p.tx) o walked.turned.told.made → looked p o ≡ Some q → (q.tx ≡ p.tx) → (q.birth ≡ p.birth) → IsReady sh v q
   seen_ready walked o q is_walker same x goes name birth =
-      ready_then w v n (Look p.tx) r walked sh p q o tt is_walker same x (sees_home sh w p n a o ∙ goes) (let h = a.ready.serial in let k = ap (λ (t : TxId). t.serial) name in omega arith)
+      ready_then w v n (Look p.tx) r walked refl sh p q o tt is_walker same x (sees_home sh w p n a o ∙ goes) (let h = a.ready.serial in let k = ap (λ (t : TxId). t.serial) name in omega arith)
       (subst (IsOld w.clock) (sym (birth ∙ a.born.is)) a.born.old) a.ready
 
   pub look_stands : (walked : IsAsked w v n (Look p.tx) r) → IsWalker sh v → IsSameWalker w v → (x : Result Outcome StepError) → r ≡ x → LookStands sh v (place_looked p x) n x
@@ -134,7 +134,7 @@ module _ {M S G : Type 0} (sh : Shards M S G) (w v : Walker M S G) (p : SessionS
       at : (z : Outcome) → o ≡ z → LookStands sh v (place_looked p (Ok z)) n (Ok z)
       at Acknowledged q = seen_ready walked o (place_looked p (Ok Acknowledged)) is_walker same (entered (ap is_told q)) (ap (looked p) q) refl refl
       at (Aborted cause) q =
-          let b = born_after w v n (Look p.tx) r walked p a.born (λ tx. tt) same.0 in (
+          let b = born_after w v n (Look p.tx) r walked refl p a.born (λ tx. tt) same.0 in (
             record {
               ready = seen_ready walked o (place_looked p (Ok (Aborted cause))) is_walker same (entered (ap is_told q)) (ap (looked p) q) refl refl;
               born = record { birth = b.birth; is = b.is; bears = b.bears; old = b.old; free = b.free; parts = b.parts };

@@ -103,12 +103,7 @@ fn ask(alloc: Global, shard: &mut Shard, session: u32, op: Op) -> Result<Told, A
 }
 
 /// The transaction's part is closed.
-fn close(
-    alloc: Global,
-    shard: &mut Shard,
-    tx: TxId,
-    one_shard: bool,
-) -> Result<(), AllocError> {
+fn close(alloc: Global, shard: &mut Shard, tx: TxId, one_shard: bool) -> Result<(), AllocError> {
     match shard.stage_of(tx) {
         Some(Stage::Active) => {}
         _ => return Err(AllocError),

@@ -13,7 +13,7 @@ invariant_of-self c =
     let shard = c.self.inside.shard in let own = subst (λ (v : Coordination). nat_in v.shard (map (λ (t : ℕ × ℕ). t.0) c.args.touched) ≡ true) (sym c.self.view_is) c.requires.own in
     let few = few_others shard c.args.touched c.requires.rising c.requires.low own in (
       put_passing c.put_request.result (λ p. IsFit shard p.1) c.args.tx _ c.self.inside.requests.entries c.put_request.new.requests.entries (new_fit shard _ few c.requires.low c.requires.rising c.new-2.ensures refl) c.self.invariant.0
-      c.put_request.ensures.ok c.put_request.ensures.err,
+          c.put_request.ensures.ok c.put_request.ensures.err,
       c.put_request.ensures.index,
       c.put_request.ensures.asked,
       put_passing c.put_request.result (λ p. tx_has_spelling p.0 ≡ true) c.args.tx _ c.self.inside.requests.entries c.put_request.new.requests.entries c.requires.name c.self.invariant.3 c.put_request.ensures.ok c.put_request.ensures.err,
