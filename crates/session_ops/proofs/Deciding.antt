@@ -75,8 +75,6 @@ pub left_as_over : (p q : SessionState) → after_drop p.phase ≡ p.phase → I
 left_as_over p q over (inl same) = same
 left_as_over p q over (inr same) = same ∙ ap (λ (x : Phase). record p { phase = x }) over
 
-module _ {T : Type 0} where
-
 some_number : (a b : ℕ) → ◌≡◌ {A = Option ℕ} (Some a) (Some b) → a ≡ b
 some_number a b h = cc
 

@@ -1,7 +1,8 @@
 -- What a home rules writes a record that has a spelling.
-use Rattle.std.proofs.Common.{◌≡◌, refl, ℕ, ◌<◌, Bool, true, false, cond, not, ◌&&◌, ◌==◌, List, [], ◌∷◌, map, length, nat_lt, nat_le, Option, Some, None}
+use Rattle.std.proofs.Common.{◌≡◌, refl, ℕ, ◌<◌, Bool, true, false, cond, not, ◌&&◌, ◌==◌, List, [], ◌∷◌, map, length, nat_lt, Option, Some, None}
 use Rattle.std.proofs.lemmas.Bool.{and_from, and_parts, cond_both, lt-ltb, le-leb}
-use Rattle.std.specs.List.{AllByRecursion, filter, list_all}
+use Rattle.std.proofs.lemmas.List.Kept.{IsStrictlySortedBy-filter}
+use Rattle.std.specs.List.{AllByRecursion, list_all}
 use Rattle.std.specs.List.Sorted.{IsStrictlySortedBy}
 use Rattle.std.specs.Option.{IfSome}
 use Rattle.std.specs.Ordering.{nat_cmp}
@@ -30,12 +31,6 @@ use Rattle.two_phase_commit.proofs.Parts.{few_pass}
 
 -- ---- the parts of a COMMIT
 
-filter_rises : (f : ℕ → Bool) (xs : List ℕ) → IsStrictlySortedBy nat_cmp xs → IsStrictlySortedBy nat_cmp (filter f xs)
-unfolding IsStrictlySortedBy
-filter_rises f [] s = tt
-filter_rises f (x ∷ xs) s =
-    cond_both (f x) (x ∷ filter f xs) (filter f xs) (IsStrictlySortedBy nat_cmp) (λ e. (all_kept (λ m. nat_cmp x m ≡ Less) f xs s.0, filter_rises f xs s.1)) (λ e. filter_rises f xs s.1)
-
 numbers_are : (ns : List ℕ) → IsStrictlySortedBy nat_cmp ns → numbers_rise ns ≡ true
 unfolding IsStrictlySortedBy
 numbers_are [] s = refl
@@ -63,7 +58,7 @@ commit_spelled tx shard q fit n =
     let yes : ℕ → Bool = λ p. is_yes_vote (vote_from p q.votes) in let others_of : ℕ → Bool = λ p. not (p == shard) in let all : List ℕ = map (λ t. t.0) q.touched in
     let few = le-leb (length (yes_shards shard q)) 15 (few_pass yes (others shard q.touched) fit.few) in
     let low = low_are (yes_shards shard q) (all_kept (λ n. n < 16) yes (others shard q.touched) (all_kept (λ n. n < 16) others_of all (firsts_low q.touched fit.low))) in
-    let rise = numbers_are (yes_shards shard q) (filter_rises yes (others shard q.touched) (filter_rises others_of all fit.rise)) in
+    let rise = numbers_are (yes_shards shard q) (IsStrictlySortedBy-filter nat_cmp yes (others shard q.touched) (IsStrictlySortedBy-filter nat_cmp others_of all fit.rise)) in
     and_from _ _ (and_from _ _ (and_from _ _ n few) low) rise
 
 -- ---- rulings

@@ -1,5 +1,5 @@
 -- What each change here leaves of the spellings.
-use Rattle.std.proofs.Common.{◌≡◌, ◌<◌, ◌^◌, ◌≤◌, ℕ, Bool, true, refl, sym, subst, [], ◌∷◌, ◌++◌, length, None}
+use Rattle.std.proofs.Common.{◌≡◌, ◌<◌, ◌^◌, ℕ, Bool, true, refl, sym, subst, [], ◌∷◌, ◌++◌, length, None}
 use Rattle.std.proofs.lemmas.Bool.{and_from}
 use Rattle.clv_base.specs.declared.names.TxId.{TxId}
 use Rattle.clv_base.specs.declared.logs.LogRecord.{LogRecord}

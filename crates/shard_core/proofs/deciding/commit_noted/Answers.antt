@@ -1,5 +1,5 @@
 -- A COMMIT without parts has a spelling where its transaction's name has.
-use Rattle.std.proofs.Common.{◌≡◌, refl, sym, subst, true, ℕ, List, []}
+use Rattle.std.proofs.Common.{◌≡◌, refl, sym, subst, true, ℕ, List}
 use Rattle.std.proofs.lemmas.Bool.{and_from}
 use Rattle.clv_base.specs.declared.logs.LogRecord.TheVariants.{Commit}
 use Rattle.clv_base.specs.FileRules.{has_spelling}

@@ -1,5 +1,5 @@
 -- What a message that fits names is as its call wants it.
-use Rattle.std.proofs.Common.{◌≡◌, subst, true, ◌&&◌, nat_lt}
+use Rattle.std.proofs.Common.{◌≡◌, subst, true, nat_lt}
 use Rattle.std.proofs.lemmas.Bool.{and_parts, ltb-true}
 use Rattle.clv_base.specs.declared.messages.Message.{Message}
 use Rattle.clv_base.specs.FileRules.{tx_has_spelling}
