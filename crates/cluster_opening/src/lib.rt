@@ -31,6 +31,7 @@ mod undoing;
 pub use all_opening::{Stopped, open_shards};
 pub use closing::close_unused;
 pub use disks_giving::give_back_all;
+pub use disks_opening::{Found, open_disks};
 pub use durable::restarts_are_durable;
 pub use error::{At, OpenError};
 pub use giving::give_back_locks;

@@ -1,6 +1,6 @@
-// The types of a sharded transactional store, and the definitions of its protocol: every crate above cites them in its contracts.
-// The definitions stand in specs/, one topic a file; the only code is `Splits`, which tells the shard of a key and the span of a shard.
-// Promises: `Splits::new` takes exactly the lists of splits, and a span is exactly the keys of its shard. Stands on std alone.
+//! The types of a sharded transactional store, and the definitions of its protocol: every crate above cites them in its contracts.
+//! The definitions stand in specs/, one topic a file; the only code is `Splits`, which tells the shard of a key and the span of a shard.
+//! Promises: `Splits::new` takes exactly the lists of splits, and a span is exactly the keys of its shard. Stands on std alone.
 #![tactic(auto)]
 
 pub mod causes;

@@ -4,7 +4,7 @@
 //! record of a log keeps a spelling, so that a batch of the log always has its bytes.
 //!
 //! Each law is the clause of a function with an empty body; the statements stand in specs/, by topic. They stand on the definitions of
-//! `clv_base` alone. Proofs over whole histories cite these laws.
+//! `clv_base` and on `law_base`. Proofs over whole histories cite these laws.
 #![tactic(auto)]
 
 pub mod candidates;

@@ -2,7 +2,7 @@
 //! `TxTable` promises that a transaction has the value that was set last, and that neither `set`, where room was reserved, nor `replace` takes
 //! memory. `TxIndex` is a set of transactions, seen as the list of its members, which rises, and `PartTable` a table of a shard's parts with the
 //! index of those that are here, so that nobody has to go over the others; that an index is one of a table is the invariant of whoever keeps
-//! both. `Candidates` rise, each once; no call of them but `new` and `reserve` takes memory. It stands on the names of `clv_base`.
+//! both. `Candidates` rise, each once; no call of them but `new`, `reserve` and `reserve_more` takes memory. It stands on the names of `clv_base`.
 #![tactic(auto)]
 
 mod candidates;
