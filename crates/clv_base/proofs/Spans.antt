@@ -7,11 +7,11 @@ use Rattle.clv_base.specs.Shards.{shard_of, first_key, span_between, span, lies_
 
 -- ---- lists that rise
 
-abbrev RisesFrom : ℕ → List ℕ → Type 0
+abbrev pub RisesFrom : ℕ → List ℕ → Type 0
 RisesFrom before [] = Unit {0}
 RisesFrom before (s ∷ ss) = (before < s) × RisesFrom s ss
 
-rises_from : (n before : ℕ) (ss : List ℕ) → is_none (not_rising_from n before ss) ≡ true → RisesFrom before ss
+pub rises_from : (n before : ℕ) (ss : List ℕ) → is_none (not_rising_from n before ss) ≡ true → RisesFrom before ss
 rises_from n before [] e = tt
 rises_from n before (s ∷ ss) e = at (nat_lt before s) refl e (rises_from (suc n) s ss)
   where
@@ -19,11 +19,11 @@ rises_from n before (s ∷ ss) e = at (nat_lt before s) refl e (rises_from (suc 
     at true l h ih = (ltb-true before s l, ih h)
     at false l h ih = absurd (both_ways false refl h)
 
-abbrev Rises : List ℕ → Type 0
+abbrev pub Rises : List ℕ → Type 0
 Rises [] = Unit {0}
 Rises (s ∷ ss) = RisesFrom s ss
 
-rises : (splits : List ℕ) → IsTrue (are_splits splits) → Rises splits
+pub rises : (splits : List ℕ) → IsTrue (are_splits splits) → Rises splits
 rises [] h = tt
 rises (s ∷ ss) h = rises_from 2 s ss (and_parts (nat_le (length (s ∷ ss)) 15) (is_none (not_rising (s ∷ ss))) h).1
 
@@ -64,7 +64,7 @@ first_split : (s key n : ℕ) (ss : List ℕ) (b : Bool) → nat_le s key ≡ b 
 first_split s key n ss true e f r o = passed s key n ss (leb-true s key e) (o n)
 first_split s key n ss false e f r o = let l : key < s = leb-false s key e in kept s key n ss l (none_passed s key (shard_of ss key) ss f l r (o 1)) (o n)
 
-others_rise : (s : ℕ) (ss : List ℕ) → RisesFrom s ss → Rises ss
+pub others_rise : (s : ℕ) (ss : List ℕ) → RisesFrom s ss → Rises ss
 others_rise s [] r = tt
 others_rise s (t ∷ ts) r = r.1
 

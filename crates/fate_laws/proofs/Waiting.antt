@@ -38,7 +38,7 @@ use Rattle.law_base.proofs.Tables.{stage_by, in_pair}
 use Rattle.protocol_laws.specs.SessionLaws.{tx_of, works_on, ended_by}
 use Rattle.protocol_laws.proofs.InOrder.{sessions_keep_order}
 use Rattle.law_base.proofs.LockRows.{violated_row}
-use Rattle.history_cases.proofs.Merging.{Placed, Before, before_then, not_before_itself, Among, among_is, is_among, in_own, among_right, Precedes, front_precedes}
+use Rattle.history_cases.proofs.Merging.{Placed, Before, before_of, before_then, not_before_itself, Among, among_is, is_among, in_own, among_right, Precedes, front_precedes}
 use Rattle.history_laws.specs.Openings.{LegalFrom}
 use Rattle.history_laws.proofs.Found.{log_found}
 use Rattle.history_laws.proofs.Walkers.{of_session, nothing_follows}
@@ -50,14 +50,13 @@ use Rattle.fate_laws.proofs.Events.{active_done}
 use Rattle.fate_laws.proofs.Entries.{Did, IsOld}
 use Rattle.law_base.proofs.Rows.{rows_get}
 use Rattle.fate_laws.specs.Waiting.{OpenedInDoubt, IsRequestOf, AskedBefore, birth_waiting, IsActiveAs, WithoutRequest, WithRequest, WaitsGoDown, WaitsThrough, at_once, through, WaitsHaveNoCycle}
-use Rattle.fate_laws.proofs.OriginDeciding.{Older, less_or_equal, older_of_test, older_is_told, either, older_then, not_older_itself, in_way}
+use Rattle.fate_laws.proofs.OriginDeciding.{Older, older_of_test, older_is_told, either, older_then, not_older_itself, in_way}
 use Rattle.fate_laws.proofs.Doubted.{has_stage}
 use Rattle.fate_laws.proofs.OriginOpening.{MayHave, MayPrepare}
 use Rattle.fate_laws.proofs.Tied.{LockOf}
 use Rattle.fate_laws.proofs.Births.{one_birth}
 use Rattle.fate_laws.proofs.WaitEntries.{AskedFirst, Earlier, Depends, depends}
 use Rattle.history_laws.proofs.Doubts.{doubted_is_old}
-use Rattle.law_base.proofs.Numbers.{lt_from as is_less}
 use Rattle.clv_base.proofs.Arrays.{is_less as less_cmp, is_equal as equal_cmp}
 
 -- ---- an operation that is to wait
@@ -350,9 +349,6 @@ born_alike {splits} {before} {after} {h} l u a b (j, walker, nth, seen, op, may)
     (λ z. absurd (none_some g (subst (λ (v : Shard). tx_get u v.local.parts ≡ Some g) z e)))
 
 -- ---- orders
-
-before_of : (a b : Placed) → comes_before a b ≡ true → Before a b
-before_of a b e = ⊎_elim (λ l. inl l) (λ p. inr (p.0, is_less a.0 b.0 p.1)) (less_or_equal (a.1).stamp (b.1).stamp (nat_cmp a.0 b.0) e)
 
 before_told : (h : History) (t : TxId) (x : Placed) → IsRequestOf h t x → (ts : List (ℕ × ℕ)) × Among x h × IsRequest t ts x
 before_told h t x (i, q) = let r = is_request t (x.1).event (x.1).outcome q in (r.0, is_among x.0 x.1 h i, (r.1, r.2))

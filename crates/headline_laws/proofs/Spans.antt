@@ -1,35 +1,10 @@
 -- The spans of shards have no key in common.
 use Rattle.std.proofs.Common.{◌≡◌, ℕ, zero, suc, pred, ◌<◌, ◌≤◌, ◌⊎◌, inl, inr, ⊎_elim, Bool, true, false, cond, ◌&&◌, List, [], ◌∷◌, length, Option, Some, None, nat_lt, nat_le, refl, sym, subst, arith}
-use Rattle.std.specs.Prelude.{is_none}
 use Rattle.std.proofs.lemmas.Bool.{both_ways, cases_order, ltb-true, leb-true, le-leb, and_parts, and_from}
-use Rattle.clv_base.specs.Shards.{first_key, lies_within, in_span, shard_count, not_rising_from, not_rising, are_splits}
-use Rattle.clv_base.proofs.Spans.{start, span_is}
+use Rattle.clv_base.specs.Shards.{first_key, lies_within, in_span, shard_count, are_splits}
+use Rattle.clv_base.proofs.Spans.{start, span_is, RisesFrom, Rises, rises, others_rise as others}
 
 -- ---- splits rise
-
-abbrev RisesFrom : ℕ → List ℕ → Type 0
-RisesFrom before [] = Unit {0}
-RisesFrom before (s ∷ ss) = (before < s) × RisesFrom s ss
-
-rises_from : (n before : ℕ) (ss : List ℕ) → is_none (not_rising_from n before ss) ≡ true → RisesFrom before ss
-rises_from n before [] e = tt
-rises_from n before (s ∷ ss) e = at (nat_lt before s) refl e (rises_from (suc n) s ss)
-  where
-    at : (b : Bool) → nat_lt before s ≡ b → is_none (cond b (not_rising_from (suc n) s ss) (Some n)) ≡ true → (is_none (not_rising_from (suc n) s ss) ≡ true → RisesFrom s ss) → RisesFrom before (s ∷ ss)
-    at true l h ih = (ltb-true before s l, ih h)
-    at false l h ih = absurd (both_ways false refl h)
-
-abbrev Rises : List ℕ → Type 0
-Rises [] = Unit {0}
-Rises (s ∷ ss) = RisesFrom s ss
-
-rises : (splits : List ℕ) → are_splits splits ≡ true → Rises splits
-rises [] h = tt
-rises (s ∷ ss) h = rises_from 2 s ss (and_parts (nat_le (length (s ∷ ss)) 15) (is_none (not_rising (s ∷ ss))) h).1
-
-others : (s : ℕ) (ss : List ℕ) → RisesFrom s ss → Rises ss
-others s [] r = tt
-others s (t ∷ ts) r = r.1
 
 beyond : (before : ℕ) (ss : List ℕ) (m : ℕ) → RisesFrom before ss → m < length ss → before < first_key ss m
 beyond before [] m r l = absurd (omega (arith, l))

@@ -8,6 +8,10 @@ use Rattle.law_base.proofs.Bools.{eq_by}
 abbrev pub one_if : Bool → ℕ
 one_if b = cond b 1 0
 
+pub one_at_most : (b : Bool) → one_if b ≤ 1
+one_at_most true = omega arith
+one_at_most false = omega arith
+
 pub below_differs : (m n : ℕ) → m < n → m ≡ n → ⊥
 below_differs m n l e = omega (arith, l, e)
 

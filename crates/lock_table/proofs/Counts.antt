@@ -11,11 +11,7 @@ use Rattle.clv_base.specs.declared.modes.Need.{Need}
 use Rattle.clv_base.specs.declared.modes.Holder.{Holder}
 use Rattle.clv_base.specs.Locks.{Locks, row_cmp, with_mode, take_one, take_all, holder_of, holds_gap}
 use Rattle.lock_table.specs.Rows.{gaps_held}
-use Rattle.law_base.proofs.Numbers.{one_if}
-
-at_most_one : (b : Bool) → one_if b ≤ 1
-at_most_one true = omega arith
-at_most_one false = omega arith
+use Rattle.law_base.proofs.Numbers.{one_if, one_at_most as at_most_one}
 
 gaps_held-cons : (x : Anchor) (r : Anchor × Holder) (rs : Locks) → gaps_held x (r ∷ rs) ≡ one_if (holds_gap x r) + gaps_held x rs
 gaps_held-cons x r rs = go (holds_gap x r)

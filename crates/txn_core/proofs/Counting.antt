@@ -56,10 +56,6 @@ count-covered p q r (x ∷ xs) h =
     at false true true h = omega arith
     at false false true h = absurd (both_ways false refl (h refl refl))
 
-pub one_at_most : (b : Bool) → one_if b ≤ 1
-one_at_most true = omega arith
-one_at_most false = omega arith
-
 -- one that is put in front unless something holds
 pub count-unless : {A : Type 0} (q : A → Bool) (b : Bool) (x : A) (xs : List A) → length (filter q (cond b xs (x ∷ xs))) ≡ one_if (not b && q x) + length (filter q xs)
 count-unless q true x xs = omega arith

@@ -12,9 +12,9 @@ use Rattle.clv_base.specs.Logs.{StandingUpdate, wrote_in, without_newest, standi
 use Rattle.clv_base.specs.Undo.{aborts_of, clrs_of}
 use Rattle.cascade_undo.specs.Writes.{writes_of}
 use Rattle.txn_core.specs.Sound.{is_update_by, updates_by, writers, owed_by}
-use Rattle.txn_core.proofs.Counting.{one_at_most, count-first, count-fewer, count-apart, count-covered, in_set}
+use Rattle.txn_core.proofs.Counting.{count-first, count-fewer, count-apart, count-covered, in_set}
 use Rattle.txn_core.proofs.Writers.{NoUpdate, wrote_at_most, writers-still, writers-one, writers_of_others}
-use Rattle.law_base.proofs.Numbers.{one_if}
+use Rattle.law_base.proofs.Numbers.{one_if, one_at_most}
 use Rattle.law_base.proofs.Bools.{none_or}
 
 -- ---- CLRs
