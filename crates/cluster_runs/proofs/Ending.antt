@@ -51,7 +51,8 @@ use Rattle.script_runs.specs.Sessions.{session_entries}
 use Rattle.cluster_runs.specs.Ended.{ClusterEnded, runs_on}
 use Rattle.cluster_runs.specs.PromisedSessions.{Went, Begun, SessionWent, SessionsWent}
 use Rattle.cluster_runs.specs.Down.{IsLowestDown, IsLowestFault}
-use Rattle.cluster_runs.proofs.Laws.{runs_are_promised, failed_are_down, down_stays, lowest_down_is_fault}
+use Rattle.cluster_runs.proofs.Promising.{runs_are_promised}
+use Rattle.cluster_runs.proofs.Down.{failed_are_down, down_stays, lowest_down_is_fault}
 use Rattle.command_line.specs.Running.{End, IsOk, status_by}
 use Rattle.cluster_runs.specs.Ends.{end_of, walked_by, IsClosedRun}
 use Rattle.cluster_runs.specs.Statuses.{StatusTold, FlushesTold}
