@@ -6,17 +6,29 @@ use Rattle.clv_base.specs.State.{Local}
 use Rattle.clv_base.specs.Undo.{stage_of}
 use Rattle.clv_base.specs.OneShard.{add_pairs, undecided_with}
 use Rattle.protocol_laws.specs.Spelled.{IsSpelled}
-use Rattle.shard_ops.specs.Effects.{performed_by, locks_after, records_after, log_after, record_count}
+use Rattle.shard_ops.specs.Effects.{performed_by, locks_after, records_after, log_after, record_count, CanWrite}
 use Rattle.txn_core.specs.State.{TxState}
 use Rattle.txn_core.specs.Sound.{may_work, owed_more, KeepsSpare}
 use Rattle.txn_core.proofs.Settled.{commit_lsn-log_after}
 use Rattle.txn_core.proofs.Undoing.{sound_more, local_same, spare_like}
-use Rattle.txn_core.proofs.Doing.{sound_performed, spare_performed, back_performed, known_from}
+use Rattle.txn_core.proofs.Doing.{sound_performed, spare_performed, back_performed, known_from, known_alike, can_write}
 use Rattle.txn_core.proofs.Returning.{back_like}
 use Rattle.txn_core.proofs.Locked.{granted_ghosts_are_locked, ghosts_same}
 use Rattle.txn_core.proofs.Crowds.{few_same, few_written, few_add}
 use Rattle.txn_core.proofs.Spelling.{spelled_same}
 use Rattle.txn_core.proofs.shard.ShardTx.perform.Goals as goal
+
+pub enter_part-requires : goal.enter_part-requires
+enter_part-requires g c =
+    let s = c.self.inside in let tx = c.args.tx in
+    let l : Local = record { records = g.S.Store.records s.store; locks = g.L.Locks.rows s.locks; parts = s.parts.entries; pairs = s.deps.pairs; log = s.buffer.records; epoch = s.epoch } in
+    c.is_some.ensures ∙ known_alike l tx c.args.stage (subst (λ (v : TxState). c.args.stage ≡ stage_of v.local tx) (sym c.self.view_is) c.requires.stage)
+
+pub write_down-requires-clause-store : goal.write_down-requires-clause-store
+write_down-requires-clause-store g c =
+    let write = c.args.plan.now.write in
+    let can = subst (λ (v : TxState). CanWrite write 1 (v.local).records) (sym c.self.view_is) c.requires.write in
+    can_write write _ _ c.in-Ok-reserve_rest.ensures.store (subst (CanWrite write 1) (sym c.reserve_rest.ensures.records) can)
 
 pub invariant_of-self-2 : goal.invariant_of-self-2
 invariant_of-self-2 g c =
@@ -24,7 +36,8 @@ invariant_of-self-2 g c =
     let l : Local = record { records = g.S.Store.records s.store; locks = g.L.Locks.rows s.locks; parts = s.parts.entries; pairs = s.deps.pairs; log = s.buffer.records; epoch = s.epoch } in
     let write = plan.write in let needs = plan.needs.items in let left = c.write_down.new.buffer.room in
     let work : may_work (stage_of l tx) ≡ true = subst (λ (v : TxState). may_work (stage_of v.local tx) ≡ true) (sym c.self.view_is) c.requires.work in
-    let known = known_from l tx work (sym c.was_before.ensures ∙ c.if-was_before.false) in
+    let stage = subst (λ (v : TxState). c.args.stage ≡ stage_of v.local tx) (sym c.self.view_is) c.requires.stage in
+    let known = known_from l tx c.args.stage stage work (sym c.was_before.ensures ∙ c.if-was_before.false) in
     let reserved : c.reserve_log.new.buffer.room ≡ s.buffer.room + record_count write + owed_more (wrote_in s.buffer.records tx) write = c.in-Ok-reserve_log.ensures.ok in
     let after = sound_performed tx birth needs plan.insert write c.args.violated.now l s.buffer.room left c.self.invariant.sound work known c.requires.covered (omega (arith, reserved, c.write_down.ensures.room)) in
     let records = c.write_down.ensures.records ∙ ap (records_after write) c.reserve_rest.ensures.records in
@@ -54,7 +67,8 @@ returns-clause-room g c =
     let l : Local = record { records = g.S.Store.records s.store; locks = g.L.Locks.rows s.locks; parts = s.parts.entries; pairs = s.deps.pairs; log = s.buffer.records; epoch = s.epoch } in
     let write = plan.write in let needs = plan.needs.items in let violated = c.args.violated.now in let now = c.write_down.new.buffer in
     let work : may_work (stage_of l tx) ≡ true = subst (λ (v : TxState). may_work (stage_of v.local tx) ≡ true) (sym c.self.view_is) c.requires.work in
-    let known = known_from l tx work (sym c.was_before.ensures ∙ c.if-was_before.false) in
+    let stage = subst (λ (v : TxState). c.args.stage ≡ stage_of v.local tx) (sym c.self.view_is) c.requires.stage in
+    let known = known_from l tx c.args.stage stage work (sym c.was_before.ensures ∙ c.if-was_before.false) in
     let reserved : c.reserve_log.new.buffer.room ≡ s.buffer.room + record_count write + owed_more (wrote_in s.buffer.records tx) write = c.in-Ok-reserve_log.ensures.ok in
     let spare = spare_performed tx birth needs plan.insert write violated l s.buffer.room now.room known (omega (arith, reserved, c.write_down.ensures.room)) in
     let log = c.write_down.ensures.log ∙ ap (λ b. log_after tx write b.records) c.reserve_log.ensures.same in

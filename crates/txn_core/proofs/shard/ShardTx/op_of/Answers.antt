@@ -5,7 +5,7 @@ use Rattle.clv_base.specs.OneShard.{purge}
 use Rattle.shard_ops.specs.Ghosts.{GhostsAreLocked}
 use Rattle.txn_core.specs.State.{TxState, IsSameBut}
 use Rattle.txn_core.proofs.Locked.{same_purged, known_purged}
-use Rattle.txn_core.proofs.shard.ShardTx.op.Goals as goal
+use Rattle.txn_core.proofs.shard.ShardTx.op_of.Goals as goal
 
 pub returns-in-Answered-clause-ok : goal.returns-in-Answered-clause-ok
 returns-in-Answered-clause-ok g c =
