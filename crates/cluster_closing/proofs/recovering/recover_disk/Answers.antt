@@ -18,6 +18,6 @@ returns-in-Err-judge-clause-left g c = let G = g.M.Gate.Gate in let gate = c.in-
 
 pub returns-in-Err-recover_log-clause-left : goal.returns-in-Err-recover_log-clause-left
 returns-in-Err-recover_log-clause-left g c = let G = g.M.Gate.Gate in let gate = c.in-Err-recover_log.gate in let log = c.in-Ok.opened.1.items in let e = c.in-Ok.ensures in
-    let next : c.in-Ok-judge.epoch ≡ suc (greatest_epoch c.args.run c.args.own log) = c.in-Ok-judge.ensures.epoch ∙ ap (λ (l : List LogRecord). suc (greatest_epoch c.args.run c.args.own l)) c.deref.ensures.value in
-    left_begun c.args.shard c.args.run c.args.own c.in-Ok-judge.epoch (G.shard gate) log (G.logs gate) (g.M.Disk.Disk.story c.args.disk) (g.M.Disk.Disk.story c.disk_of-in-Err-recover_log.result) e.before next (c.in-Err-recover_log.ensures.shard ∙ e.opened.1)
+    let next : c.in-Ok-judge.judged.0 ≡ suc (greatest_epoch c.args.run c.args.own log) = c.in-Ok-judge.ensures.epoch ∙ ap (λ (l : List LogRecord). suc (greatest_epoch c.args.run c.args.own l)) c.deref.ensures.value in
+    left_begun c.args.shard c.args.run c.args.own c.in-Ok-judge.judged.0 (G.shard gate) log (G.logs gate) (g.M.Disk.Disk.story c.args.disk) (g.M.Disk.Disk.story c.disk_of-in-Err-recover_log.result) e.before next (c.in-Err-recover_log.ensures.shard ∙ e.opened.1)
     c.disk_of-in-Err-recover_log.ensures.logs c.in-Err-recover_log.ensures.left
