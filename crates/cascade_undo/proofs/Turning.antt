@@ -8,11 +8,13 @@ use Rattle.std.specs.declared.cmp.Ordering.{Ordering}
 use Rattle.std.specs.declared.cmp.Ordering.TheVariants.{Less, Equal, Greater}
 use Rattle.std.specs.Ordering.{is_eq, ordering_then, match_ordering}
 use Rattle.clv_base.specs.declared.names.TxId.{TxId}
-use Rattle.clv_base.specs.Orders.{tx_cmp, tx_same, tx_in, pair_cmp, pair_insert}
+use Rattle.clv_base.specs.Orders.{Table, tx_cmp, tx_same, tx_in, pair_cmp, pair_insert}
 use Rattle.clv_base.specs.Undo.{pairs_without}
 use Rattle.clv_base.proofs.SameNames.{tx_true}
 use Rattle.protocol_laws.specs.UndoLaws.{is_pair}
 use Rattle.cascade_undo.specs.Pairs.{AreTurned}
+use Rattle.cascade_undo.specs.declared.waiting.Waiting.{Waiting}
+use Rattle.cascade_undo.specs.Counts.{AreCounted}
 use Rattle.cascade_undo.specs.Kept.{AreKept}
 use Rattle.law_base.proofs.Rising.{insert_key-rises}
 use Rattle.cascade_undo.proofs.Runs.{pair_total, of_tx}
@@ -146,25 +148,61 @@ turned_own tx pairs turned h t p =
 
 -- ---- what is kept
 
-kept_none : (m q : ℕ) → 2 ≤ m → 2 ≤ q → AreKept [] [] [] m q
-unfolding IsStrictlySortedBy
-kept_none m q l k = record { pairs_rise = tt; turned_rise = tt; turned_round = λ t p. refl; marks_rise = tt; marks_room = omega arith; queue_room = omega arith }
+module _ (m q : ℕ) (commits : Table ℕ) (rows : Table Waiting) (counted : AreCounted [] commits rows) where
+  kept_none : 2 ≤ m → 2 ≤ q → AreKept [] [] [] m q commits rows
+  unfolding IsStrictlySortedBy
+  kept_none l k =
+      record { pairs_rise = tt; turned_rise = tt; turned_round = λ t p. refl; marks_rise = tt; marks_room = omega arith; queue_room = omega arith; counted = counted }
 
-pub kept_new : (pairs turned : List (TxId × TxId)) (marks : List TxId) (m q : ℕ) → pairs ≡ [] → turned ≡ [] → marks ≡ [] → 2 ≤ m → 2 ≤ q → AreKept pairs turned marks m q
-kept_new pairs turned marks m q e f g l k =
-    subst (λ x. AreKept x turned marks m q) (sym e) (subst (λ x. AreKept [] x marks m q) (sym f) (subst (λ x. AreKept [] [] x m q) (sym g) (kept_none m q l k)))
+  pub kept_new : (pairs turned : List (TxId × TxId)) (marks : List TxId) → pairs ≡ [] → turned ≡ [] → marks ≡ [] → 2 ≤ m → 2 ≤ q → AreKept pairs turned marks m q commits rows
+  kept_new pairs turned marks e f g l k =
+      subst (λ x. AreKept x turned marks m q commits rows) (sym e)
+      (subst (λ x. AreKept [] x marks m q commits rows) (sym f) (subst (λ x. AreKept [] [] x m q commits rows) (sym g) (kept_none l k)))
 
-module _ (pairs turned : List (TxId × TxId)) (marks : List TxId) (m q : ℕ) (h : AreKept pairs turned marks m q) (pairs_now turned_now : List (TxId × TxId)) where
-  pub kept_more : (tx pred : TxId) → pairs_now ≡ pair_insert (tx, pred) pairs → turned_now ≡ pair_insert (pred, tx) turned → length turned_now + 1 < m → length turned_now + 1 < q → AreKept pairs_now turned_now marks m q
-  kept_more tx pred e f l k = record {
+module _ (pairs turned : List (TxId × TxId)) (marks : List TxId) (m q : ℕ) (commits : Table ℕ) (rows : Table Waiting) (h : AreKept pairs turned marks m q commits rows) (pairs_now turned_now : List (TxId × TxId)) where
+  pub kept_more : (tx pred : TxId) → pairs_now ≡ pair_insert (tx, pred) pairs → turned_now ≡ pair_insert (pred, tx) turned → length turned_now + 1 < m → length turned_now + 1 < q
+      → (after : Table Waiting) → AreCounted pairs_now commits after → AreKept pairs_now turned_now marks m q commits after
+  kept_more tx pred e f l k after counted = record {
     pairs_rise = subst (IsStrictlySortedBy pair_cmp) (sym e) (insert_key-rises pair_total (tx, pred) pairs h.pairs_rise);
     turned_rise = subst (IsStrictlySortedBy pair_cmp) (sym f) (insert_key-rises pair_total (pred, tx) turned h.turned_rise);
     turned_round = subst (λ x. AreTurned x turned_now) (sym e) (subst (AreTurned (pair_insert (tx, pred) pairs)) (sym f) (turned_more tx pred pairs turned h.turned_round));
     marks_rise = h.marks_rise;
     marks_room = l;
     queue_room = k;
+    counted = counted;
   }
+
+-- with other COMMITs, and rows that count by them
+pub kept_settled : (pairs turned : List (TxId × TxId)) (marks : List TxId) (m q : ℕ) (commits : Table ℕ) (rows : Table Waiting) → AreKept pairs turned marks m q commits rows
+    → (now : Table ℕ) (after : Table Waiting) → AreCounted pairs now after → AreKept pairs turned marks m q now after
+kept_settled pairs turned marks m q commits rows h now after counted = record {
+  pairs_rise = h.pairs_rise;
+  turned_rise = h.turned_rise;
+  turned_round = h.turned_round;
+  marks_rise = h.marks_rise;
+  marks_room = h.marks_room;
+  queue_room = h.queue_room;
+  counted = counted;
+}
 
 pub none_rise : IsStrictlySortedBy tx_cmp []
 unfolding IsStrictlySortedBy
 none_rise = tt
+
+-- with the same pairs and marks, places that aren't fewer, and COMMITs and rows that are read alike
+pub kept_alike : (pairs turned : List (TxId × TxId)) (marks : List TxId) (m q : ℕ) (commits : Table ℕ) (rows : Table Waiting) → AreKept pairs turned marks m q commits rows
+    → (pairs_now turned_now : List (TxId × TxId)) (marks_now : List TxId) (m_now q_now : ℕ) (now : Table ℕ) (after : Table Waiting) → pairs_now ≡ pairs → turned_now ≡ turned → marks_now ≡ marks
+    → m ≤ m_now → q ≤ q_now → AreCounted pairs now after → AreKept pairs_now turned_now marks_now m_now q_now now after
+kept_alike pairs turned marks m q commits rows h pairs_now turned_now marks_now m_now q_now now after e f g more longer counted =
+    subst (λ x. AreKept x turned_now marks_now m_now q_now now after) (sym e)
+    (subst (λ x. AreKept pairs x marks_now m_now q_now now after) (sym f)
+        (subst (λ x. AreKept pairs turned x m_now q_now now after) (sym g)
+            (record {
+              pairs_rise = h.pairs_rise;
+              turned_rise = h.turned_rise;
+              turned_round = h.turned_round;
+              marks_rise = h.marks_rise;
+              marks_room = let room = h.marks_room in omega (arith, room, more);
+              queue_room = let room = h.queue_room in omega (arith, room, longer);
+              counted = counted;
+            })))

@@ -13,20 +13,23 @@ ghost use Rattle.cascade_undo.specs.Dependencies.{doomed, undecided_by, due_of};
 use crate::marking::mark_from;
 use crate::pairs::{Pair, drop_all, drop_own, run_of};
 use crate::room::{hold, with_places};
-use crate::settled::{count_open, greatest};
 use crate::sorted::{contains, insert};
+use crate::waiting::{Waiting, count_new, drop_rows, row_of, settle_rows};
 use clv_base::names::TxId;
 use std::alloc::{AllocError, Global};
 use std::marker::Model;
 use tx_table::TxTable;
 
 /// Who depends on whom on a shard. A transaction is a successor of those that it violated. The pairs stand in two sorted lists, by successor and
-/// by predecessor, so a look-up is a binary search. In both lists a new pair, and one that goes, moves what lies above it.
+/// by predecessor, so a look-up is a binary search. In both lists a new pair, and one that goes, moves what lies above it. How many of a
+/// successor's predecessors aren't settled, and when the last of the others was, stands in a row of its own: to ask for it takes one look into a
+/// hash map, and to settle a transaction a look for each of its successors.
 #[derive(Drop)]
 pub struct Deps {
     pairs: Vec<Pair>,
     turned: Vec<Pair>,
     commits: TxTable<u64>,
+    waits: TxTable<Waiting>,
     marks: Vec<TxId>,
     // Where marking gathers whom it still has to follow.
     queue: Vec<TxId>,
@@ -52,8 +55,8 @@ impl Model for Deps {
       settled_room = s.reserved_settled;
     } };
 
-    ghost invariant = { λ s. AreKept s.pairs.items s.turned.items s.marks.items (vec_capacity s.marks) (vec_capacity s.queue)
-        × HavePlaces s.reserved s.reserved_settled (vec_len s.pairs) (vec_capacity s.pairs) (vec_len s.turned) (vec_capacity s.turned) (vec_capacity s.marks) (vec_capacity s.queue) s.commits.room };
+    ghost invariant = { λ s. AreKept s.pairs.items s.turned.items s.marks.items (vec_capacity s.marks) (vec_capacity s.queue) s.commits.rows s.waits.rows
+        × HavePlaces s.reserved s.reserved_settled (vec_len s.pairs) (vec_capacity s.pairs) (vec_len s.turned) (vec_capacity s.turned) (vec_capacity s.marks) (vec_capacity s.queue) s.commits.room s.waits.room };
 }
 
 impl Deps {
@@ -71,6 +74,7 @@ impl Deps {
             pairs: Vec::new(alloc),
             turned: Vec::new(alloc),
             commits: TxTable::new(alloc),
+            waits: TxTable::new(alloc),
             marks,
             queue,
             reserved: 0,
@@ -87,6 +91,7 @@ impl Deps {
 
     /// Makes room for so many pairs and settled transactions more: afterwards there is the greater of this and of what was reserved before. Room
     /// alone changes, and never shrinks; an `Err` changes nothing.
+    #[tactic(auto, using(crate::proofs::Counting::counted_alike))]
     pub fn reserve(&mut self, count: usize) -> Result<(), AllocError>
         ensures ok { OnOk result (count ≤ self.new.room) }
         ensures room { self.old.room ≤ self.new.room }
@@ -103,6 +108,7 @@ impl Deps {
         self.pairs.reserve(count)?;
         self.turned.reserve(count)?;
         self.commits.reserve(rows)?;
+        self.waits.reserve(count)?;
         let places = self.turned.len() + count + 2;
         hold(&mut self.marks, places)?;
         hold(&mut self.queue, places)?;
@@ -112,6 +118,7 @@ impl Deps {
 
     /// Makes room for so many settled transactions more, and for no pairs, beside what `reserve` made: afterwards there is the greater of this and
     /// of what was reserved so before. That room alone changes; an `Err` changes nothing.
+    #[tactic(auto, using(crate::proofs::Counting::counted_alike))]
     pub fn reserve_settled(&mut self, count: usize) -> Result<(), AllocError>
         ensures ok { OnOk result (self.new.settled_room ≡ max self.old.settled_room count) }
         ensures refused { OnErr result (self.new.settled_room ≡ self.old.settled_room) }
@@ -145,14 +152,17 @@ impl Deps {
         ensures room { self.old.room ≡ self.new.room + 1 }
         ensures settled_room { self.new.settled_room ≡ self.old.settled_room }
     {
+        let is_new = insert(&mut self.turned, (pred, tx));
+        let commit = self.commits.get(pred);
+        count_new(&mut self.waits, &self.pairs, tx, commit, is_new);
         insert(&mut self.pairs, (tx, pred));
-        insert(&mut self.turned, (pred, tx));
         self.reserved -= 1;
     }
 
-    /// The transaction's COMMIT is in the log, at this LSN. Takes no memory.
+    /// The transaction's COMMIT, which it hadn't before, is in the log, at this LSN. Takes no memory; each of its successors is told.
     pub fn settle(&mut self, pred: TxId, lsn: u64)
-        requires { 0 < self.old.room }
+        requires room { 0 < self.old.room }
+        requires fresh { tx_get pred self.old.commits ≡ None }
         ensures commits { (t : Tx) → tx_get t self.new.commits ≡ (if tx_same pred t then Some lsn else tx_get t self.old.commits) }
         ensures pairs { self.new.pairs ≡ self.old.pairs }
         ensures marked { self.new.marked ≡ self.old.marked }
@@ -160,13 +170,15 @@ impl Deps {
         ensures settled_room { self.new.settled_room ≡ self.old.settled_room }
     {
         self.commits.set(pred, lsn);
+        settle_rows(&mut self.waits, run_of(&self.turned, pred), lsn);
         self.reserved -= 1;
     }
 
-    /// The transaction's COMMIT is found in a log that is there already, at this LSN: what was reserved for settled transactions alone is used.
-    /// Takes no memory.
+    /// The transaction's COMMIT, which it hadn't before, is found in a log that is there already, at this LSN: what was reserved for settled
+    /// transactions alone is used. Takes no memory; each of its successors is told.
     pub fn settle_found(&mut self, pred: TxId, lsn: u64)
-        requires { 0 < self.old.settled_room }
+        requires room { 0 < self.old.settled_room }
+        requires fresh { tx_get pred self.old.commits ≡ None }
         ensures commits { (t : Tx) → tx_get t self.new.commits ≡ (if tx_same pred t then Some lsn else tx_get t self.old.commits) }
         ensures pairs { self.new.pairs ≡ self.old.pairs }
         ensures marked { self.new.marked ≡ self.old.marked }
@@ -174,6 +186,7 @@ impl Deps {
         ensures settled_room { self.old.settled_room ≡ self.new.settled_room + 1 }
     {
         self.commits.set(pred, lsn);
+        settle_rows(&mut self.waits, run_of(&self.turned, pred), lsn);
         self.reserved_settled -= 1;
     }
 
@@ -205,22 +218,22 @@ impl Deps {
         contains(&self.pairs, &(tx, pred))
     }
 
-    /// How many of its predecessors aren't settled.
+    /// How many of its predecessors aren't settled, by one look.
     pub fn undecided(&self, tx: TxId) -> usize
         ensures { result ≡ length (undecided_by self.now tx) }
     {
-        count_open(&self.commits, run_of(&self.pairs, tx))
+        row_of(&self.waits, tx).undecided
     }
 
-    /// The greatest LSN of its predecessors' COMMITs: none while one isn't settled, or where it has none.
+    /// The greatest LSN of its predecessors' COMMITs, by one look: none while one isn't settled, or where it has none.
     pub fn due_lsn(&self, tx: TxId) -> Option<u64>
         ensures { result ≡ due_of self.now tx }
     {
-        let run = run_of(&self.pairs, tx);
-        if count_open(&self.commits, run) > 0 {
+        let row = row_of(&self.waits, tx);
+        if row.undecided > 0 {
             return None;
         }
-        greatest(&self.commits, run)
+        row.due
     }
 
     /// Marks the transaction and all that are its successors through any number, and no other; gives how many these are. Takes no memory.
@@ -272,6 +285,7 @@ impl Deps {
         ensures settled_room { self.new.settled_room ≡ self.old.settled_room }
     {
         drop_own(&mut self.pairs, &mut self.turned, tx);
+        self.waits.remove(tx);
     }
 
     /// The pairs of all marked transactions with their predecessors go, one transaction after another, and then the marks. What lies above
@@ -284,6 +298,7 @@ impl Deps {
         ensures settled_room { self.new.settled_room ≡ self.old.settled_room }
     {
         drop_all(&mut self.pairs, &mut self.turned, &self.marks);
+        drop_rows(&mut self.waits, &self.marks);
         self.marks.clear();
     }
 }

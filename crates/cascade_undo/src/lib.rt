@@ -14,9 +14,9 @@ mod marks;
 mod pairs;
 mod rolling;
 mod room;
-mod settled;
 mod sorted;
 mod undoing;
+mod waiting;
 mod write;
 
 pub use compensating::compensate;

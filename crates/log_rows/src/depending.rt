@@ -22,7 +22,17 @@ fn add(deps: &mut Deps, tx: TxId, pred: TxId) -> Result<(), AllocError> {
 
 fn settle(deps: &mut Deps, pred: TxId, lsn: u64) -> Result<(), AllocError> {
     deps.reserve(1)?;
-    deps.settle(pred, lsn);
+    if deps.settled_at(pred).is_none() {
+        deps.settle(pred, lsn);
+    }
+    Ok(())
+}
+
+fn settle_found(deps: &mut Deps, pred: TxId, lsn: u64) -> Result<(), AllocError> {
+    deps.reserve_settled(1)?;
+    if deps.settled_at(pred).is_none() {
+        deps.settle_found(pred, lsn);
+    }
     Ok(())
 }
 
@@ -45,6 +55,11 @@ fn predecessors_are_settled(rt: HostRuntime) -> Result<(), Fail> {
     assert_eq!(rt; (deps.undecided(tx(4)), deps.due_lsn(tx(4))), (1, None));
     settle(&mut deps, tx(2), 7)?;
     assert_eq!(rt; (deps.undecided(tx(4)), deps.due_lsn(tx(4))), (0, Some(9)));
+    add(&mut deps, tx(4), tx(3))?;
+    add(&mut deps, tx(5), tx(2))?;
+    assert_eq!(rt; (deps.undecided(tx(4)), deps.due_lsn(tx(4))), (0, Some(9)));
+    assert_eq!(rt; (deps.undecided(tx(5)), deps.due_lsn(tx(5))), (0, Some(7)));
+    deps.forget(tx(5));
     assert_eq!(rt; (deps.undecided(tx(5)), deps.due_lsn(tx(5))), (0, None));
     assert_eq!(rt;
         (deps.settled_at(tx(2)), deps.settled_at(tx(1))),
@@ -89,11 +104,10 @@ fn what_is_reserved_is_told(rt: HostRuntime) -> Result<(), Fail> {
     assert_eq!(rt; deps.room(), 2);
     deps.reserve(1)?;
     assert_eq!(rt; deps.room(), 2);
-    deps.settle(tx(1), 5);
+    settle(&mut deps, tx(1), 5)?;
     assert_eq!(rt; deps.room(), 1);
     deps.trim(0);
-    deps.reserve_settled(1)?;
-    deps.settle_found(tx(3), 6);
+    settle_found(&mut deps, tx(3), 6)?;
     assert_eq!(rt; (deps.room(), deps.settled_at(tx(3))), (0, Some(6)));
     Ok(())
 }

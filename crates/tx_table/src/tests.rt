@@ -30,5 +30,7 @@ fn a_table_answers(rt: HostRuntime) -> Result<(), Fail> {
     assert_eq!(rt; table.get(second), None);
     replace(&mut table, first, 20);
     assert_eq!(rt; table.get(first), Some(20));
+    table.remove(first);
+    assert_eq!(rt; table.get(first), None);
     Ok(())
 }
