@@ -14,17 +14,15 @@ use Rattle.clv_base.specs.Facts.{predecessors_of, greater_place}
 use Rattle.clv_base.specs.Undo.{pairs_without}
 use Rattle.clv_base.proofs.SameNames.{tx_true, tx_self, tx_flip}
 use Rattle.protocol_laws.specs.UndoLaws.{is_pair}
-use Rattle.law_base.proofs.Bools.{same_truth, none_or, was_true, or_none}
+use Rattle.law_base.proofs.Bools.{same_truth, none_or, or_none}
 use Rattle.law_base.proofs.Names.{above_not_in, preds_insert, preds_without, tx_in-insert}
-use Rattle.law_base.proofs.Rising.{insert_there, length-insert_key}
-use Rattle.law_base.proofs.Sets.{Rise, tx_total, same_flip, flip_apart, predecessors_rise, insert_rises, same_list, filter_alike}
+use Rattle.law_base.proofs.Sets.{Rise, same_flip, flip_apart, predecessors_rise, insert_rises, same_list, filter_alike}
 use Rattle.law_base.proofs.Tables.{pair_in, in_pair}
 use Rattle.cascade_undo.specs.declared.waiting.Waiting.{Waiting}
 use Rattle.cascade_undo.specs.Dependencies.{greatest_of}
 use Rattle.cascade_undo.specs.Pairs.{AreTurned}
 use Rattle.cascade_undo.specs.Counts.{as_row, row_at, open_among, waiting_for, AreCounted, with_one, with_settled, settled_row, settled_through}
-use Rattle.cascade_undo.proofs.Runs.{of_tx, pair_total}
-use Rattle.cascade_undo.proofs.Members.{has_pair, in_predecessors}
+use Rattle.cascade_undo.proofs.Runs.{of_tx}
 use Rattle.cascade_undo.proofs.Preceding.{predecessors_of-run}
 use Rattle.cascade_undo.proofs.Succeeding.{in_run}
 use Rattle.cascade_undo.proofs.Turning.{is_pair-insert}
@@ -51,12 +49,11 @@ pub row_set : (b : Bool) (w : Waiting) (o : Option Waiting) → unwrap_or (cond 
 row_set true w o = refl
 row_set false w o = refl
 
-pub settled_next : (lsn : ℕ) (ps : List (TxId × TxId)) (i : ℕ) (d : TxId × TxId) → i < length ps → (t : TxId) (row now : Option Waiting) → now ≡ cond (tx_same (get_or ps i d).1 t) (settled_row lsn row) row
-    → settled_through lsn (map (λ p. p.1) (drop (i + 1) ps)) t now ≡ settled_through lsn (map (λ p. p.1) (drop i ps)) t row
-settled_next lsn ps i d l t row now e =
+pub settled_next : (lsn : ℕ) (xs : List TxId) (i : ℕ) (d : TxId) → i < length xs → (t : TxId) (row now : Option Waiting) → now ≡ cond (tx_same (get_or xs i d) t) (settled_row lsn row) row
+    → settled_through lsn (drop (i + 1) xs) t now ≡ settled_through lsn (drop i xs) t row
+settled_next lsn xs i d l t row now e =
     let next : suc i ≡ i + 1 = omega arith in
-    ap (settled_through lsn (map (λ p. p.1) (drop (i + 1) ps)) t) e
-    ∙ sym (ap (λ xs. settled_through lsn (map (λ p. p.1) xs) t row) (drop-cons ps i d l ∙ ap (λ n. get_or ps i d ∷ drop n ps) next))
+    ap (settled_through lsn (drop (i + 1) xs) t) e ∙ sym (ap (λ ys. settled_through lsn ys t row) (drop-cons xs i d l ∙ ap (λ n. get_or xs i d ∷ drop n xs) next))
 
 pub dropped_next : {X : Type 0} (set : List TxId) (i : ℕ) (d : TxId) → i < length set → (t : TxId) (row now : Option X) → now ≡ cond (tx_same (get_or set i d) t) None row
     → cond (tx_in t (drop (i + 1) set)) None now ≡ cond (tx_in t (drop i set)) None row
@@ -214,7 +211,7 @@ module _ (commits now : Table ℕ) (pred : TxId) (lsn : ℕ) (set : (t : TxId) �
 pub preds_in : (pairs : List (TxId × TxId)) (t p : TxId) → tx_in p (predecessors_of pairs t) ≡ is_pair pairs t p
 preds_in pairs t p = same_truth _ _ (in_pair pairs t p) (pair_in pairs t p)
 
-preds_own : (tx q : TxId) (pairs : List (TxId × TxId)) → predecessors_of (pair_insert (tx, q) pairs) tx ≡ tx_insert q (predecessors_of pairs tx)
+pub preds_own : (tx q : TxId) (pairs : List (TxId × TxId)) → predecessors_of (pair_insert (tx, q) pairs) tx ≡ tx_insert q (predecessors_of pairs tx)
 preds_own tx q pairs =
     same_list (predecessors_of (pair_insert (tx, q) pairs) tx) (tx_insert q (predecessors_of pairs tx)) (predecessors_rise (pair_insert (tx, q) pairs) tx) (insert_rises q (predecessors_of pairs tx) (predecessors_rise pairs tx))
     (λ t. preds_in (pair_insert (tx, q) pairs) tx t ∙ is_pair-insert (tx, q) pairs tx t ∙ ap (λ b. (b && tx_same t q) || is_pair pairs tx t) (tx_self tx)
@@ -230,14 +227,6 @@ preds_gone set t (p ∷ ps) i = at (tx_in p.0 set) refl (preds_gone set t ps i)
         let apart : tx_same t p.0 ≡ false = false_from_ne_true _ (λ s. both_ways _ e (subst (λ z. tx_in z set ≡ true) (tx_true t p.0 s) i)) in
         ap (λ b. elim b [ true ↦ tx_insert p.1 (predecessors_of (pairs_without set ps) t) | false ↦ predecessors_of (pairs_without set ps) t ]) apart ∙ more
 
-pub preds_few : (pairs : List (TxId × TxId)) (t : TxId) → length (predecessors_of pairs t) ≤ length pairs
-preds_few [] t = omega arith
-preds_few (p ∷ ps) t = at (tx_same t p.0) (preds_few ps t)
-  where
-    at : (b : Bool) → length (predecessors_of ps t) ≤ length ps → length (elim b [ true ↦ tx_insert p.1 (predecessors_of ps t) | false ↦ predecessors_of ps t ]) ≤ length (p ∷ ps)
-    at true l = let more = length-insert_key tx_total p.1 (predecessors_of ps t) in omega arith
-    at false l = omega arith
-
 -- ---- the rows count still
 
 pub counted_none : (pairs : List (TxId × TxId)) (commits : Table ℕ) (rows : Table Waiting) → pairs ≡ [] → ((t : TxId) → tx_get t rows ≡ None) → AreCounted pairs commits rows
@@ -247,13 +236,14 @@ pub counted_alike : (pairs : List (TxId × TxId)) (commits now : Table ℕ) (row
     → AreCounted pairs commits rows → AreCounted pairs now after
 counted_alike pairs commits now rows after same alike h t = ap (λ o. unwrap_or o (as_row 0 None)) (alike t) ∙ h t ∙ sym (waiting_alike commits now same (predecessors_of pairs t))
 
-pub counted_few : (pairs : List (TxId × TxId)) (commits : Table ℕ) (rows : Table Waiting) (t : TxId) → AreCounted pairs commits rows → (row_at t rows).undecided ≤ length pairs
+pub counted_few : (pairs : List (TxId × TxId)) (commits : Table ℕ) (rows : Table Waiting) (t : TxId) → AreCounted pairs commits rows → (row_at t rows).undecided ≤ length (predecessors_of pairs t)
 counted_few pairs commits rows t h =
     let own : (row_at t rows).undecided ≡ open_among commits (predecessors_of pairs t) = ap (λ (w : Waiting). w.undecided) (h t) in
-    let some = open_few commits (predecessors_of pairs t) in let few = preds_few pairs t in omega (arith, own, some, few)
+    let some = open_few commits (predecessors_of pairs t) in omega (arith, own, some)
 
 module _ (pairs : List (TxId × TxId)) (commits : Table ℕ) (rows after : Table Waiting) (h : AreCounted pairs commits rows) where
-  counted_more : (tx pred : TxId) → tx_in pred (predecessors_of pairs tx) ≡ false
+  -- with a new pair
+  pub counted_more : (tx pred : TxId) → tx_in pred (predecessors_of pairs tx) ≡ false
       → ((t : TxId) → row_at t after ≡ cond (tx_same tx t) (with_one (tx_get pred commits) (row_at tx rows)) (row_at t rows)) → AreCounted (pair_insert (tx, pred) pairs) commits after
   counted_more tx pred out now t = now t ∙ at (tx_same tx t) refl
     where
@@ -262,18 +252,6 @@ module _ (pairs : List (TxId × TxId)) (commits : Table ℕ) (rows after : Table
           ap (with_one (tx_get pred commits)) (h tx) ∙ sym (waiting_more commits pred (predecessors_of pairs tx) out) ∙ ap (waiting_for commits) (sym (preds_own tx pred pairs))
           ∙ ap (λ z. waiting_for commits (predecessors_of (pair_insert (tx, pred) pairs) z)) (tx_true tx t e)
       at false e = h t ∙ sym (ap (waiting_for commits) (preds_insert t tx pred pairs (flip_apart tx t e)))
-
-  -- with a pair, which may be new
-  pub counted_added : IsStrictlySortedBy pair_cmp pairs → (tx pred : TxId) (is_new : Bool) → is_new ≡ not (tx_in pred (predecessors_of pairs tx))
-      → ((t : TxId) → row_at t after ≡ cond (is_new && tx_same tx t) (with_one (tx_get pred commits) (row_at tx rows)) (row_at t rows)) → AreCounted (pair_insert (tx, pred) pairs) commits after
-  counted_added s tx pred true e now = counted_more tx pred (out (tx_in pred (predecessors_of pairs tx)) e) now
-    where
-      out : (b : Bool) → true ≡ not b → b ≡ false
-      out true e = absurd (both_ways true (sym e) refl)
-      out false e = refl
-  counted_added s tx pred false e now =
-      let there = in_predecessors tx pred pairs ∙ was_true (tx_in pred (predecessors_of pairs tx)) (sym e) in
-      subst (λ ps. AreCounted ps commits after) (sym (insert_there pair_total (tx, pred) pairs s there)) (λ t. now t ∙ h t)
 
   pub counted_without : (set : List TxId) → ((t : TxId) → tx_get t after ≡ cond (tx_in t set) None (tx_get t rows)) → AreCounted (pairs_without set pairs) commits after
   counted_without set now t = ap (λ o. unwrap_or o (as_row 0 None)) (now t) ∙ at (tx_in t set) refl
@@ -284,10 +262,6 @@ module _ (pairs : List (TxId × TxId)) (commits : Table ℕ) (rows after : Table
 
   pub counted_without_one : (tx : TxId) → ((t : TxId) → tx_get t after ≡ cond (tx_same tx t) None (tx_get t rows)) → AreCounted (pairs_without (tx ∷ []) pairs) commits after
   counted_without_one tx now = counted_without (tx ∷ []) (λ t. now t ∙ ap (λ b. cond b None (tx_get t rows)) (sym (or_none (tx_same tx t))))
-
--- whether a pair that is put in turned round is new
-pub is_new_pair : (tx pred : TxId) (pairs turned : List (TxId × TxId)) → AreTurned pairs turned → has_pair pred tx turned ≡ tx_in pred (predecessors_of pairs tx)
-is_new_pair tx pred pairs turned h = in_predecessors pred tx turned ∙ preds_in turned pred tx ∙ h tx pred ∙ sym (preds_in pairs tx pred)
 
 -- each row of a list that rises is settled once
 settled_once : (lsn : ℕ) (xs : List TxId) (t : TxId) (row : Option Waiting) → Rise xs → settled_through lsn xs t row ≡ cond (tx_in t xs) (settled_row lsn row) row

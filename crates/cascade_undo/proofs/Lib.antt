@@ -14,4 +14,5 @@ pub mod Turning
 pub mod InLog
 pub mod Succeeding
 pub mod Counting
+pub mod Listed
 pub mod Laws

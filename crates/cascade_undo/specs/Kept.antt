@@ -17,10 +17,8 @@ pub record AreKept (pairs turned : List (TxId × TxId)) (marks : List TxId) (mar
   pub queue_room : length turned + 1 < queue_capacity
   pub counted : AreCounted pairs commits rows
 
--- places for so many pairs more in both lists of them, for as many COMMITs and for those that have room of their own, to mark and to follow each
--- successor, and for the row of each new one
-abbrev pub HavePlaces : ℕ → ℕ → ℕ → ℕ → ℕ → ℕ → ℕ → ℕ → ℕ → ℕ → Type 0
-HavePlaces reserved settled pairs pairs_capacity turned turned_capacity marks_capacity queue_capacity commits_left rows_left =
-    (pairs + reserved ≤ pairs_capacity) × (turned + reserved ≤ turned_capacity)
-    × (turned + 2 + reserved ≤ marks_capacity) × (turned + 2 + reserved ≤ queue_capacity) × (reserved + settled ≤ commits_left)
-    × (reserved ≤ rows_left)
+-- there are no more pairs than this; and there are places to mark and to follow the successors of so many pairs more, rows for these, and places
+-- for so many COMMITs and for those that have room of their own
+abbrev pub HavePlaces : ℕ → ℕ → ℕ → ℕ → ℕ → ℕ → ℕ → ℕ → ℕ → Type 0
+HavePlaces pairs count places marks_capacity queue_capacity rows_left reserved settled commits_left =
+    (pairs ≤ count) × (count + 2 + places ≤ marks_capacity) × (count + 2 + places ≤ queue_capacity) × (places ≤ rows_left) × (reserved + settled ≤ commits_left)

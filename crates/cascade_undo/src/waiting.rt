@@ -1,11 +1,10 @@
 //! For whom each successor waits.
-ghost use Rattle.std.specs.Prelude.{◌≡◌, ◌≤◌, ◌<◌, ◌+◌, ◌&&◌, None, Some, length, map, if◌then◌else◌};
+ghost use Rattle.std.specs.Prelude.{◌≡◌, ◌≤◌, ◌<◌, ◌+◌, None, Some, length, if◌then◌else◌};
 ghost use Rattle.clv_base.specs.declared.names.TxId.{TxId as Tx};
 ghost use Rattle.clv_base.specs.Facts.{greater_place};
 ghost use Rattle.clv_base.specs.Orders.{tx_same, tx_in, tx_get};
 ghost use Rattle.cascade_undo.specs.Counts.{row_at, with_one, with_settled, settled_row, settled_through};
 
-use crate::pairs::Pair;
 use clv_base::names::TxId;
 use tx_table::TxTable;
 
@@ -39,9 +38,9 @@ fn greater(a: Option<u64>, b: Option<u64>) -> Option<u64>
     }
 }
 
-/// The row of a successor in these pairs, with one predecessor more.
-fn one_more(row: Waiting, pairs: &[Pair], commit: Option<u64>) -> Waiting
-    requires { row.undecided ≤ length pairs.now }
+/// The row of a successor of these, with one predecessor more.
+fn one_more(row: Waiting, preds: &[TxId], commit: Option<u64>) -> Waiting
+    requires { row.undecided ≤ length preds.now }
     ensures { result ≡ with_one commit row }
 {
     match commit {
@@ -56,33 +55,15 @@ fn one_more(row: Waiting, pairs: &[Pair], commit: Option<u64>) -> Waiting
     }
 }
 
-/// Beside its predecessors by these pairs the transaction has one more, settled at this LSN or not at all. Takes no memory.
-fn count_one(rows: &mut TxTable<Waiting>, pairs: &[Pair], tx: TxId, commit: Option<u64>)
-    requires few { (row_at tx rows.old.rows).undecided ≤ length pairs.now }
+/// Beside these predecessors the transaction has one more, settled at this LSN or not at all. Takes no memory.
+pub(crate) fn count_one(rows: &mut TxTable<Waiting>, preds: &[TxId], tx: TxId, commit: Option<u64>)
+    requires few { (row_at tx rows.old.rows).undecided ≤ length preds.now }
     requires room { 0 < rows.old.room }
     ensures rows { (t : Tx) → row_at t rows.new.rows ≡ (if tx_same tx t then with_one commit (row_at tx rows.old.rows) else row_at t rows.old.rows) }
     ensures room { rows.old.room ≤ rows.new.room + 1 }
 {
     let row = row_of(rows, tx);
-    rows.set(tx, one_more(row, pairs, commit));
-}
-
-/// Where a predecessor of the transaction is new beside these pairs, it is counted. Takes no memory.
-pub(crate) fn count_new(
-    rows: &mut TxTable<Waiting>,
-    pairs: &[Pair],
-    tx: TxId,
-    commit: Option<u64>,
-    is_new: bool,
-)
-    requires few { (row_at tx rows.old.rows).undecided ≤ length pairs.now }
-    requires room { 0 < rows.old.room }
-    ensures rows { (t : Tx) → row_at t rows.new.rows ≡ (if is_new && tx_same tx t then with_one commit (row_at tx rows.old.rows) else row_at t rows.old.rows) }
-    ensures room { rows.old.room ≤ rows.new.room + 1 }
-{
-    if is_new {
-        count_one(rows, pairs, tx, commit);
-    }
+    rows.set(tx, one_more(row, preds, commit));
 }
 
 /// The row of a successor, one of whose open predecessors gets its COMMIT at this LSN.
@@ -106,13 +87,13 @@ fn settle_one(rows: &mut TxTable<Waiting>, tx: TxId, lsn: u64)
     }
 }
 
-/// An open predecessor of the second transactions of these pairs gets its COMMIT at this LSN. Takes no memory.
-pub(crate) fn settle_rows(rows: &mut TxTable<Waiting>, run: &[Pair], lsn: u64)
-    ensures rows { (t : Tx) → tx_get t rows.new.rows ≡ settled_through lsn (map (λ p. p.1) run.now) t (tx_get t rows.old.rows) }
+/// An open predecessor of these transactions gets its COMMIT at this LSN. Takes no memory.
+pub(crate) fn settle_rows(rows: &mut TxTable<Waiting>, succs: &[TxId], lsn: u64)
+    ensures rows { (t : Tx) → tx_get t rows.new.rows ≡ settled_through lsn succs.now t (tx_get t rows.old.rows) }
     ensures room { rows.new.room ≡ rows.old.room }
 {
-    for pair in run {
-        settle_one(rows, pair.1, lsn);
+    for tx in succs {
+        settle_one(rows, *tx, lsn);
     }
 }
 

@@ -15,8 +15,9 @@ fn tx(session: u32) -> TxId {
 
 /// Makes a transaction a successor of another, for which it makes room.
 fn add(deps: &mut Deps, tx: TxId, pred: TxId) -> Result<(), AllocError> {
-    deps.reserve(1)?;
-    deps.add(tx, pred);
+    let preds = [pred];
+    deps.reserve_pairs(tx, &preds)?;
+    deps.follow(tx, &preds);
     Ok(())
 }
 
@@ -48,8 +49,8 @@ fn filled(alloc: Global) -> Result<Deps, AllocError> {
 #[test]
 fn predecessors_are_settled(rt: HostRuntime) -> Result<(), Fail> {
     let mut deps = filled(rt.alloc())?;
-    assert!(rt; deps.predecessors(tx(4)) == [(tx(4), tx(2)), (tx(4), tx(3))].as_slice());
-    assert!(rt; deps.predecessors(tx(3)) == [(tx(3), tx(1))].as_slice());
+    assert!(rt; deps.predecessors(tx(4)) == [tx(2), tx(3)].as_slice());
+    assert!(rt; deps.predecessors(tx(3)) == [tx(1)].as_slice());
     assert_eq!(rt; (deps.undecided(tx(4)), deps.due_lsn(tx(4))), (2, None));
     settle(&mut deps, tx(3), 9)?;
     assert_eq!(rt; (deps.undecided(tx(4)), deps.due_lsn(tx(4))), (1, None));
@@ -100,12 +101,12 @@ fn what_is_reserved_is_told(rt: HostRuntime) -> Result<(), Fail> {
     let mut deps = Deps::new(rt.alloc())?;
     assert_eq!(rt; deps.room(), 0);
     deps.reserve(3)?;
-    deps.add(tx(2), tx(1));
-    assert_eq!(rt; deps.room(), 2);
+    add(&mut deps, tx(2), tx(1))?;
+    assert_eq!(rt; deps.room(), 3);
     deps.reserve(1)?;
-    assert_eq!(rt; deps.room(), 2);
+    assert_eq!(rt; deps.room(), 3);
     settle(&mut deps, tx(1), 5)?;
-    assert_eq!(rt; deps.room(), 1);
+    assert_eq!(rt; deps.room(), 2);
     deps.trim(0);
     settle_found(&mut deps, tx(3), 6)?;
     assert_eq!(rt; (deps.room(), deps.settled_at(tx(3))), (0, Some(6)));

@@ -83,8 +83,9 @@ fn record_at(buffer: &LogBuffer<LogRecord>, lsn: u64) -> Shown {
 }
 
 fn depends(deps: &mut Deps, session: u32, on: u32) -> Result<(), AllocError> {
-    deps.reserve(1)?;
-    deps.add(tx(session), tx(on));
+    let preds = [tx(on)];
+    deps.reserve_pairs(tx(session), &preds)?;
+    deps.follow(tx(session), &preds);
     Ok(())
 }
 

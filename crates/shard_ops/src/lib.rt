@@ -8,7 +8,6 @@
 
 #![tactic(auto)]
 
-mod dependencies;
 mod locks;
 mod meeting;
 mod needs;
@@ -24,7 +23,6 @@ mod scan;
 mod tests;
 mod writes;
 
-pub use dependencies::add_predecessors;
 pub use lock_table::Memory;
 pub use locks::{reserve_locks, take_locks};
 pub use meeting::{CROWD, Meeting, meet};

@@ -7,6 +7,7 @@ ghost use Rattle.txn_core.specs.State.{IsSameBut};
 ghost use Rattle.clv_base.specs.Logs.{wrote_in};
 ghost use Rattle.clv_base.specs.Undo.{stage_of as stage_in};
 ghost use Rattle.clv_base.specs.OneShard.{undecided_with};
+ghost use Rattle.cascade_undo.specs.Dependencies.{MayFollow};
 ghost use Rattle.protocol_laws.specs.Spelled.{IsSpelled};
 ghost use Rattle.txn_core.specs.Sound.{may_work, owed_more, IsCovered, KeepsSpare};
 
@@ -18,7 +19,7 @@ use clv_base::state::Held;
 use lock_table::{Locks, Memory};
 use log_buffer::LogBuffer;
 use ordered_store::Store;
-use shard_ops::{Plan, Write, add_predecessors, enter_part, reserve_locks, take_locks, write_down};
+use shard_ops::{Plan, Write, enter_part, reserve_locks, take_locks, write_down};
 use std::alloc::Global;
 use tx_table::PartTable;
 
@@ -79,11 +80,16 @@ pub(crate) fn reserve_pairs(deps: &mut Deps, count: usize) -> Result<(), Memory>
     }
 }
 
-/// Makes room for a record, and for so many predecessors. An `Err` leaves the dependencies as they were.
-fn reserve_rest<S: Store>(store: &mut S, deps: &mut Deps, preds: usize) -> Result<(), Memory>
+/// Makes room for a record, and for the transaction to become a successor of these. Dependencies and records stay.
+fn reserve_rest<S: Store>(
+    store: &mut S,
+    deps: &mut Deps,
+    tx: TxId,
+    preds: &[TxId],
+) -> Result<(), Memory>
     ensures store { OnOk result (1 ≤ S.room store.new) }
-    ensures deps { OnOk result (deps.new.room ≡ deps.old.room + preds) }
-    ensures refused { OnErr result (deps.new.room ≡ deps.old.room) }
+    ensures deps { OnOk result (MayFollow tx preds.now deps.new) }
+    ensures room { deps.new.room ≡ deps.old.room }
     ensures records { S.records store.new ≡ S.records store.old }
     ensures pairs { deps.new.pairs ≡ deps.old.pairs }
     ensures commits { (t : Tx) → tx_get t deps.new.commits ≡ tx_get t deps.old.commits }
@@ -92,7 +98,10 @@ fn reserve_rest<S: Store>(store: &mut S, deps: &mut Deps, preds: usize) -> Resul
         Ok(()) => {}
         Err(_) => return Err(Memory),
     }
-    reserve_pairs(deps, preds)
+    match deps.reserve_pairs(tx, preds) {
+        Ok(()) => Ok(()),
+        Err(_) => Err(Memory),
+    }
 }
 
 impl<S: Store + Drop, L: Locks + Drop> ShardTx<S, L> {
@@ -125,7 +134,7 @@ impl<S: Store + Drop, L: Locks + Drop> ShardTx<S, L> {
             Ok(()) => {}
             Err(memory) => return Err(memory),
         }
-        match reserve_rest(&mut self.store, &mut self.deps, violated.len()) {
+        match reserve_rest(&mut self.store, &mut self.deps, tx, violated) {
             Ok(()) => {}
             Err(memory) => return Err(memory),
         }
@@ -138,7 +147,7 @@ impl<S: Store + Drop, L: Locks + Drop> ShardTx<S, L> {
             Err(memory) => return Err(memory),
         }
         take_locks(&mut self.locks, tx, birth, &plan.needs, plan.insert);
-        add_predecessors(&mut self.deps, tx, violated);
+        self.deps.follow(tx, violated);
         write_down(&mut self.store, &mut self.buffer, tx, plan.write);
         Ok(())
     }

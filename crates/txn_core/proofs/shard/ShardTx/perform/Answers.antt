@@ -29,14 +29,14 @@ invariant_of-self-2 g c =
     let after = sound_performed tx birth needs plan.insert write c.args.violated.now l s.buffer.room left c.self.invariant.sound work known c.requires.covered (omega (arith, reserved, c.write_down.ensures.room)) in
     let records = c.write_down.ensures.records ∙ ap (records_after write) c.reserve_rest.ensures.records in
     let locks = c.take_locks.ensures ∙ ap (λ n. locks_after tx birth n plan.insert (g.L.Locks.rows c.reserve_locks.new.locks)) c.deref-2.ensures.value ∙ ap (locks_after tx birth needs plan.insert) c.reserve_locks.ensures.rows in
-    let pairs = c.add_predecessors.ensures.pairs ∙ ap (add_pairs tx c.args.violated.now) c.reserve_rest.ensures.pairs in
+    let pairs = c.follow.ensures.pairs ∙ ap (add_pairs tx c.args.violated.now) c.reserve_rest.ensures.pairs in
     let log = c.write_down.ensures.log ∙ ap (λ b. log_after tx write b.records) c.reserve_log.ensures.same in
     let locked = granted_ghosts_are_locked tx birth needs plan.insert l.locks write l.records c.requires.covered c.self.invariant.ghosts in
     let own : length (undecided_with l tx c.args.violated.now) ≤ 1024 = subst (λ (v : TxState). length (undecided_with v.local tx c.args.violated.now) ≤ 1024) (sym c.self.view_is) c.requires.few in
     let done = local_same _ _ _ _ _ (performed_by tx birth needs plan.insert write c.args.violated.now l) records locks c.in-Ok-enter_part.ensures.ok pairs log in
     record {
       settled = λ t.
-          ap (tx_get t) c.add_predecessors.ensures.commits ∙ c.reserve_rest.ensures.commits t ∙ c.self.invariant.settled t
+          ap (tx_get t) c.follow.ensures.commits ∙ c.reserve_rest.ensures.commits t ∙ c.self.invariant.settled t
           ∙ sym (ap (λ m. commit_lsn m t) log ∙ commit_lsn-log_after t tx write l.log);
       sound = sound_more (performed_by tx birth needs plan.insert write c.args.violated.now l) _ left left done (omega arith) after;
       ghosts = ghosts_same _ _ _ _ locks records locked;
@@ -59,8 +59,8 @@ returns-clause-room g c =
     let spare = spare_performed tx birth needs plan.insert write violated l s.buffer.room now.room known (omega (arith, reserved, c.write_down.ensures.room)) in
     let log = c.write_down.ensures.log ∙ ap (λ b. log_after tx write b.records) c.reserve_log.ensures.same in
     let view : TxState = record { shard = s.shard; local = l; durable = s.buffer.durable; taken = s.buffer.taken; room = s.buffer.room; pairs_room = s.deps.room } in
-    let m : Local = record { records = g.S.Store.records c.write_down.new.store; locks = g.L.Locks.rows c.take_locks.new.locks; parts = c.enter_part.new.parts.entries; pairs = c.add_predecessors.new.deps.pairs; log = now.records; epoch = s.epoch } in
-    let left : TxState = record { shard = s.shard; local = m; durable = now.durable; taken = now.taken; room = now.room; pairs_room = c.add_predecessors.new.deps.room } in
+    let m : Local = record { records = g.S.Store.records c.write_down.new.store; locks = g.L.Locks.rows c.take_locks.new.locks; parts = c.enter_part.new.parts.entries; pairs = c.follow.new.self.pairs; log = now.records; epoch = s.epoch } in
+    let left : TxState = record { shard = s.shard; local = m; durable = now.durable; taken = now.taken; room = now.room; pairs_room = c.follow.new.self.room } in
     let inside : KeepsSpare view left = spare_like view left (performed_by tx birth needs plan.insert write violated l) c.in-Ok-enter_part.ensures.ok log spare in
     subst (λ (v : TxState). KeepsSpare v left) c.self.view_is inside
 
@@ -74,7 +74,7 @@ returns-clause-given_back g c =
     let back = back_performed tx birth needs plan.insert write violated l s.buffer.room now.room work (omega (arith, reserved, c.write_down.ensures.room)) in
     let log = c.write_down.ensures.log ∙ ap (λ b. log_after tx write b.records) c.reserve_log.ensures.same in
     let view : TxState = record { shard = s.shard; local = l; durable = s.buffer.durable; taken = s.buffer.taken; room = s.buffer.room; pairs_room = s.deps.room } in
-    let m : Local = record { records = g.S.Store.records c.write_down.new.store; locks = g.L.Locks.rows c.take_locks.new.locks; parts = c.enter_part.new.parts.entries; pairs = c.add_predecessors.new.deps.pairs; log = now.records; epoch = s.epoch } in
-    let left : TxState = record { shard = s.shard; local = m; durable = now.durable; taken = now.taken; room = now.room; pairs_room = c.add_predecessors.new.deps.room } in
+    let m : Local = record { records = g.S.Store.records c.write_down.new.store; locks = g.L.Locks.rows c.take_locks.new.locks; parts = c.enter_part.new.parts.entries; pairs = c.follow.new.self.pairs; log = now.records; epoch = s.epoch } in
+    let left : TxState = record { shard = s.shard; local = m; durable = now.durable; taken = now.taken; room = now.room; pairs_room = c.follow.new.self.room } in
     let inside : KeepsSpare left view = back_like view left (performed_by tx birth needs plan.insert write violated l) c.in-Ok-enter_part.ensures.ok log back in
     subst (λ (v : TxState). KeepsSpare left v) c.self.view_is inside
