@@ -9,7 +9,7 @@ use crate::Store;
 use crate::block::{Block, MOST};
 use crate::block_finding::{anchor_below, get};
 use crate::block_ranging::between;
-use crate::block_rows::Row;
+use crate::rows::Row;
 use crate::block_writing::{put, take};
 use crate::counting::get_counting;
 use crate::growing::make_room;
