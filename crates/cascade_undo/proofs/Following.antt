@@ -1,5 +1,5 @@
 -- Marking, followed to its end: the marks are the doomed set.
-use Rattle.std.proofs.Common.{◌≡◌, ℕ, zero, suc, ◌+◌, ◌<◌, ◌≤◌, ⊎_elim, Bool, true, false, cond, ◌&&◌, ◌||◌, List, [], ◌∷◌, ◌++◌, length, map, get_or, take, drop, drop-cons, append_assoc, refl, sym, ap, subst, ◌∙◌, arith, length-append}
+use Rattle.std.proofs.Common.{◌≡◌, ℕ, zero, suc, ◌+◌, ◌<◌, ◌≤◌, ⊎_elim, Bool, true, false, cond, ◌&&◌, ◌||◌, List, [], ◌∷◌, ◌++◌, length, get_or, take, drop, drop-cons, append_assoc, refl, sym, ap, subst, ◌∙◌, arith, length-append}
 use Rattle.std.proofs.lemmas.Bool.{both_ways, or_cases}
 use Rattle.std.proofs.lemmas.List.{take_more, take-append-le}
 use Rattle.std.specs.List.Sorted.{IsStrictlySortedBy}
@@ -108,12 +108,12 @@ followed_none turned tx = record {
   followed = λ p t e i. absurd (both_ways false refl i);
 }
 
-module _ (turned : List (TxId × TxId)) (tx : TxId) (marks queue : List TxId) (n : ℕ) (f : Followed turned tx marks queue n) where
-  member_at : (xs : List TxId) (i : ℕ) (d : TxId) → i < length xs → tx_in (get_or xs i d) xs ≡ true
-  member_at [] i d l = absurd (omega arith)
-  member_at (x ∷ xs) zero d l = or_left _ _ (tx_self x)
-  member_at (x ∷ xs) (suc i) d l = or_right _ _ (member_at xs i d (omega arith))
+pub member_at : (xs : List TxId) (i : ℕ) (d : TxId) → i < length xs → tx_in (get_or xs i d) xs ≡ true
+member_at [] i d l = absurd (omega arith)
+member_at (x ∷ xs) zero d l = or_left _ _ (tx_self x)
+member_at (x ∷ xs) (suc i) d l = or_right _ _ (member_at xs i d (omega arith))
 
+module _ (turned : List (TxId × TxId)) (tx : TxId) (marks queue : List TxId) (n : ℕ) (f : Followed turned tx marks queue n) where
   pub followed_more : (d : TxId) → n < length queue
       → let next = get_or queue n d in Followed turned tx (marks_with (successors next turned) marks) (queue ++ new_marks (successors next turned) marks) (n + 1)
   followed_more d l =
@@ -153,27 +153,21 @@ marks_are_doomed turned tx marks queue n f l pairs turn =
 
 -- ---- one pair after another
 
-module _ (ps : List (TxId × TxId)) (i : ℕ) (d : TxId × TxId) (l : i < length ps) (marks now : List TxId) (e : now ≡ tx_insert (get_or ps i d).1 marks) where
-  seconds_from : (n : ℕ) → List TxId
-  seconds_from n = map (λ p. p.1) (drop n ps)
+module _ (xs : List TxId) (i : ℕ) (d : TxId) (l : i < length xs) (marks now : List TxId) (e : now ≡ tx_insert (get_or xs i d) marks) where
+  next_one : drop i xs ≡ get_or xs i d ∷ drop (i + 1) xs
+  next_one = drop-cons xs i d l ∙ ap (λ n. get_or xs i d ∷ drop n xs) (let s : suc i ≡ i + 1 = omega arith in s)
 
-  next_second : seconds_from i ≡ (get_or ps i d).1 ∷ seconds_from (i + 1)
-  unfolding seconds_from
-  next_second = ap (map (λ p. p.1)) (drop-cons ps i d l) ∙ ap (λ n. (get_or ps i d).1 ∷ map (λ p. p.1) (drop n ps)) (let s : suc i ≡ i + 1 = omega arith in s)
+  pub marks_next : marks_with (drop (i + 1) xs) now ≡ marks_with (drop i xs) marks
+  marks_next = ap (marks_with (drop (i + 1) xs)) e ∙ sym (ap (λ ys. marks_with ys marks) next_one)
 
-  pub marks_next : marks_with (map (λ p. p.1) (drop (i + 1) ps)) now ≡ marks_with (map (λ p. p.1) (drop i ps)) marks
-  unfolding seconds_from
-  marks_next = ap (marks_with (seconds_from (i + 1))) e ∙ sym (ap (λ xs. marks_with xs marks) next_second)
-
-  pub queue_next : (queue after : List TxId) → after ≡ cond (tx_in (get_or ps i d).1 marks) queue (queue ++ (get_or ps i d).1 ∷ [])
-      → after ++ new_marks (map (λ p. p.1) (drop (i + 1) ps)) now ≡ queue ++ new_marks (map (λ p. p.1) (drop i ps)) marks
-  unfolding seconds_from
+  pub queue_next : (queue after : List TxId) → after ≡ cond (tx_in (get_or xs i d) marks) queue (queue ++ get_or xs i d ∷ [])
+      → after ++ new_marks (drop (i + 1) xs) now ≡ queue ++ new_marks (drop i xs) marks
   queue_next queue after q =
-      ap (λ m. after ++ new_marks (seconds_from (i + 1)) m) e ∙ ap (λ a. a ++ rest) q ∙ at (tx_in (get_or ps i d).1 marks) ∙ sym (ap (λ xs. queue ++ new_marks xs marks) next_second)
+      ap (λ m. after ++ new_marks (drop (i + 1) xs) m) e ∙ ap (λ a. a ++ rest) q ∙ at (tx_in (get_or xs i d) marks) ∙ sym (ap (λ ys. queue ++ new_marks ys marks) next_one)
     where
       rest : List TxId
-      rest = new_marks (seconds_from (i + 1)) (tx_insert (get_or ps i d).1 marks)
+      rest = new_marks (drop (i + 1) xs) (tx_insert (get_or xs i d) marks)
 
-      at : (b : Bool) → cond b queue (queue ++ (get_or ps i d).1 ∷ []) ++ rest ≡ queue ++ cond b rest ((get_or ps i d).1 ∷ rest)
+      at : (b : Bool) → cond b queue (queue ++ get_or xs i d ∷ []) ++ rest ≡ queue ++ cond b rest (get_or xs i d ∷ rest)
       at true = refl
-      at false = append_assoc queue ((get_or ps i d).1 ∷ []) rest
+      at false = append_assoc queue (get_or xs i d ∷ []) rest

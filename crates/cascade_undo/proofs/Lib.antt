@@ -13,4 +13,6 @@ pub mod Preceding
 pub mod Turning
 pub mod InLog
 pub mod Succeeding
+pub mod Counting
+pub mod Listed
 pub mod Laws

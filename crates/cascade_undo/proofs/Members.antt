@@ -1,5 +1,5 @@
 -- Who is a member of a list of transactions, and of the marks with more.
-use Rattle.std.proofs.Common.{◌≡◌, ℕ, zero, suc, ◌<◌, ◌⊎◌, inl, inr, ⊎_elim, Bool, true, false, cond, ◌&&◌, ◌||◌, List, [], ◌∷◌, ◌++◌, length, map, get_or, refl, sym, ap, subst, ◌∙◌, append_assoc, arith}
+use Rattle.std.proofs.Common.{◌≡◌, ◌⊎◌, inl, inr, ⊎_elim, Bool, true, false, cond, ◌&&◌, ◌||◌, List, [], ◌∷◌, ◌++◌, map, refl, sym, ap, subst, ◌∙◌, append_assoc}
 use Rattle.std.proofs.lemmas.Bool.{both_ways, or_cases}
 use Rattle.std.specs.List.{list_any}
 use Rattle.std.specs.Ordering.{is_eq}
@@ -7,7 +7,7 @@ use Rattle.std.specs.Cmp.{both_ways as same_tests}
 use Rattle.clv_base.specs.declared.names.TxId.{TxId}
 use Rattle.clv_base.specs.Orders.{tx_cmp, tx_same, tx_in, tx_insert, pair_cmp}
 use Rattle.clv_base.specs.Facts.{predecessors_of}
-use Rattle.clv_base.proofs.SameNames.{or_left, or_right, tx_true, tx_self, tx_eq, in_insert, insert_keeps, insert_has}
+use Rattle.clv_base.proofs.SameNames.{or_left, or_right, tx_true, tx_eq, in_insert, insert_keeps, insert_has}
 use Rattle.protocol_laws.specs.UndoLaws.{is_pair}
 use Rattle.cascade_undo.specs.Marking.{marks_with, new_marks}
 use Rattle.cascade_undo.proofs.Runs.{of_tx}
@@ -77,17 +77,6 @@ tx_in-successors p t (q ∷ qs) = at (tx_same p q.0) (tx_in-successors p t qs)
     at : (b : Bool) → tx_in t (successors p qs) ≡ is_pair qs p t → tx_in t (map (λ q. q.1) (cond b (q ∷ of_tx p qs) (of_tx p qs))) ≡ ((b && tx_same t q.1) || is_pair qs p t)
     at true more = ap (λ b. b || tx_in t (successors p qs)) (tx_symmetric q.1 t) ∙ ap (λ b. tx_same t q.1 || b) more
     at false more = more
-
--- each of its pairs is one
-pub pair_at : (p : TxId) (turned : List (TxId × TxId)) (i : ℕ) (d : TxId × TxId) → i < length (of_tx p turned) → is_pair turned p (get_or (of_tx p turned) i d).1 ≡ true
-pair_at p [] i d l = absurd (omega arith)
-pair_at p (q ∷ qs) i d l = at (tx_same p q.0) i l (pair_at p qs)
-  where
-    at : (b : Bool) (i : ℕ) → i < length (cond b (q ∷ of_tx p qs) (of_tx p qs)) → ((i : ℕ) (d : TxId × TxId) → i < length (of_tx p qs) → is_pair qs p (get_or (of_tx p qs) i d).1 ≡ true)
-        → ((b && tx_same (get_or (cond b (q ∷ of_tx p qs) (of_tx p qs)) i d).1 q.1) || is_pair qs p (get_or (cond b (q ∷ of_tx p qs) (of_tx p qs)) i d).1) ≡ true
-    at true zero l more = or_left _ _ (tx_self q.1)
-    at true (suc i) l more = or_right _ _ (more i d (omega arith))
-    at false i l more = more i d l
 
 -- ---- a pair, and the predecessors
 

@@ -1,8 +1,7 @@
 -- The predecessors of a transaction are those of its pairs.
 use Rattle.std.proofs.Common.{◌≡◌, ℕ, Bool, true, false, cond, List, [], ◌∷◌, map, length, Option, None, refl, sym, ap, ◌∙◌}
 use Rattle.std.proofs.lemmas.Bool.{both_ways}
-use Rattle.std.proofs.lemmas.List.{length-map}
-use Rattle.std.specs.List.{AllByRecursion, filter}
+use Rattle.std.specs.List.{AllByRecursion}
 use Rattle.std.specs.List.Sorted.{IsStrictlySortedBy}
 use Rattle.std.specs.declared.cmp.Ordering.{Ordering}
 use Rattle.std.specs.declared.cmp.Ordering.TheVariants.{Less, Equal, Greater}
@@ -40,21 +39,6 @@ predecessors_of-run tx (p ∷ ps) s = at (tx_same tx p.0) refl (predecessors_of-
         → elim b [ true ↦ tx_insert p.1 (predecessors_of ps tx) | false ↦ predecessors_of ps tx ] ≡ map (λ p. p.1) (cond b (p ∷ of_tx tx ps) (of_tx tx ps))
     at true w more = ap (tx_insert p.1) more ∙ insert_first p.1 (map (λ q. q.1) (of_tx tx ps)) (seconds_above tx p ps w s.0)
     at false w more = more
-
-filter-seconds : (f : TxId → Bool) (ps : List (TxId × TxId)) → filter f (map (λ p. p.1) ps) ≡ map (λ p. p.1) (filter (λ p. f p.1) ps)
-filter-seconds f [] = refl
-filter-seconds f (p ∷ ps) = at (f p.1) (filter-seconds f ps)
-  where
-    at : (b : Bool) → filter f (map (λ p. p.1) ps) ≡ map (λ p. p.1) (filter (λ p. f p.1) ps)
-        → cond b (p.1 ∷ filter f (map (λ p. p.1) ps)) (filter f (map (λ p. p.1) ps)) ≡ map (λ p. p.1) (cond b (p ∷ filter (λ p. f p.1) ps) (filter (λ p. f p.1) ps))
-    at true more = ap (λ l. p.1 ∷ l) more
-    at false more = more
-
-module _ (f : TxId → Bool) (tx : TxId) (pairs : List (TxId × TxId)) (s : IsStrictlySortedBy pair_cmp pairs) where
-  -- those that pass, counted over its pairs
-  pub length-passing : length (filter (λ p. f p.1) (of_tx tx pairs)) ≡ length (filter f (predecessors_of pairs tx))
-  length-passing =
-      sym (length-map (filter (λ p. f p.1) (of_tx tx pairs)) (λ p. p.1)) ∙ ap length (sym (filter-seconds f (of_tx tx pairs)) ∙ ap (filter f) (sym (predecessors_of-run tx pairs s)))
 
 pub due_with : (xs : List TxId) (n : Option ℕ) → length xs ≡ 0 → due_by xs n ≡ n
 due_with [] n e = refl

@@ -1,5 +1,5 @@
 -- Pairs and the same pairs turned round, with more and with fewer.
-use Rattle.std.proofs.Common.{◌≡◌, ℕ, suc, ◌+◌, ◌<◌, ◌≤◌, Bool, true, false, cond, not, ◌&&◌, ◌||◌, List, [], ◌∷◌, length, map, get_or, drop, drop-cons, refl, sym, ap, subst, ◌∙◌, arith}
+use Rattle.std.proofs.Common.{◌≡◌, ℕ, ◌+◌, ◌<◌, ◌≤◌, Bool, true, false, cond, not, ◌&&◌, ◌||◌, List, [], ◌∷◌, length, refl, sym, ap, subst, ◌∙◌, arith}
 use Rattle.std.proofs.lemmas.Bool.{both_ways}
 use Rattle.std.proofs.lemmas.List.Kept.{IsStrictlySortedBy-filter}
 use Rattle.std.specs.List.{filter}
@@ -8,20 +8,20 @@ use Rattle.std.specs.declared.cmp.Ordering.{Ordering}
 use Rattle.std.specs.declared.cmp.Ordering.TheVariants.{Less, Equal, Greater}
 use Rattle.std.specs.Ordering.{is_eq, ordering_then, match_ordering}
 use Rattle.clv_base.specs.declared.names.TxId.{TxId}
-use Rattle.clv_base.specs.Orders.{tx_cmp, tx_same, tx_in, pair_cmp, pair_insert}
+use Rattle.clv_base.specs.Orders.{Table, tx_cmp, tx_same, tx_in, pair_cmp, pair_insert}
 use Rattle.clv_base.specs.Undo.{pairs_without}
 use Rattle.clv_base.proofs.SameNames.{tx_true}
 use Rattle.protocol_laws.specs.UndoLaws.{is_pair}
 use Rattle.cascade_undo.specs.Pairs.{AreTurned}
+use Rattle.cascade_undo.specs.declared.waiting.Waiting.{Waiting}
+use Rattle.cascade_undo.specs.Counts.{AreCounted}
 use Rattle.cascade_undo.specs.Kept.{AreKept}
 use Rattle.law_base.proofs.Rising.{insert_key-rises}
-use Rattle.cascade_undo.proofs.Runs.{pair_total, of_tx}
-use Rattle.cascade_undo.proofs.Succeeding.{in_run}
-use Rattle.law_base.proofs.Sets.{same_flip as tx_symmetric}
-use Rattle.law_base.proofs.Bools.{then_tied, flip_and as and_flip, or_swap as swap_first, or_twice as twice}
+use Rattle.cascade_undo.proofs.Runs.{pair_total}
+use Rattle.law_base.proofs.Bools.{flip_and as and_flip, or_swap as swap_first, or_twice as twice}
 use Rattle.law_base.proofs.Tables.{row_pairs as is_row}
 
-tied_pairs : (p q : TxId × TxId) → pair_cmp p q ≡ Equal → (p.0 ≡ q.0) × (p.1 ≡ q.1)
+pub tied_pairs : (p q : TxId × TxId) → pair_cmp p q ≡ Equal → (p.0 ≡ q.0) × (p.1 ≡ q.1)
 tied_pairs p q e = at (tx_cmp p.0 q.0) (tx_cmp p.1 q.1) (tx_true p.0 q.0) (tx_true p.1 q.1) e
   where
     at : (a b : Ordering) → (is_eq a ≡ true → p.0 ≡ q.0) → (is_eq b ≡ true → p.1 ≡ q.1) → ordering_then a b ≡ Equal → (p.0 ≡ q.0) × (p.1 ≡ q.1)
@@ -64,7 +64,7 @@ drop_row false true rest false h b e = e ∙ none rest
 drop_row false false rest keeps h b e = e
 
 -- a pair is one of those that pass where it is one and passes
-is_pair-filter : (f : TxId × TxId → Bool) (ps : List (TxId × TxId)) (t p : TxId) → is_pair (filter f ps) t p ≡ (is_pair ps t p && f (t, p))
+pub is_pair-filter : (f : TxId × TxId → Bool) (ps : List (TxId × TxId)) (t p : TxId) → is_pair (filter f ps) t p ≡ (is_pair ps t p && f (t, p))
 is_pair-filter f [] t p = refl
 is_pair-filter f (q ∷ qs) t p = pushed (f q) ∙ drop_row (f q) (is_row t p q) (is_pair qs t p) (f (t, p)) (same (tx_same t q.0) (tx_same p q.1) refl refl) (is_pair (filter f qs) t p) (is_pair-filter f qs t p)
   where
@@ -77,94 +77,66 @@ is_pair-filter f (q ∷ qs) t p = pushed (f q) ∙ drop_row (f q) (is_row t p q)
     same true false e h = refl
     same false c e h = refl
 
--- ---- without the pairs of one successor
-
--- the pairs of predecessors and successors without those of the successor with the predecessors of these pairs, one after another
-abbrev pub turned_without : TxId → List (TxId × TxId) → List (TxId × TxId) → List (TxId × TxId)
-turned_without tx [] turned = turned
-turned_without tx (p ∷ ps) turned = turned_without tx ps (filter (λ q. not (is_eq (pair_cmp q (p.1, tx)))) turned)
-
--- the same at once
-abbrev pub own_gone : TxId → List (TxId × TxId) → List (TxId × TxId) → List (TxId × TxId)
-own_gone tx ps turned = filter (λ q. not (tx_same tx q.1 && tx_in q.0 (map (λ p. p.1) ps))) turned
-
-none_gone : (tx : TxId) (turned : List (TxId × TxId)) → turned ≡ own_gone tx [] turned
-none_gone tx [] = refl
-none_gone tx (q ∷ qs) = at (tx_same tx q.1) (none_gone tx qs)
-  where
-    at : (b : Bool) → qs ≡ own_gone tx [] qs → q ∷ qs ≡ cond (not (b && false)) (q ∷ own_gone tx [] qs) (own_gone tx [] qs)
-    at true more = ap (λ l. q ∷ l) more
-    at false more = ap (λ l. q ∷ l) more
-
-abbrev one_gone : TxId × TxId → List (TxId × TxId) → List (TxId × TxId)
-one_gone a qs = filter (λ q. not (is_eq (pair_cmp q a))) qs
-
-one_more_gone : (tx : TxId) (p : TxId × TxId) (ps turned : List (TxId × TxId)) → own_gone tx ps (filter (λ q. not (is_eq (pair_cmp q (p.1, tx)))) turned) ≡ own_gone tx (p ∷ ps) turned
-one_more_gone tx p ps [] = refl
-one_more_gone tx p ps (q ∷ qs) =
-    ap (λ b. own_gone tx ps (cond (not b) (q ∷ one_gone (p.1, tx) qs) (one_gone (p.1, tx) qs))) (then_tied (tx_cmp q.0 p.1) (tx_cmp q.1 tx) ∙ ap (λ b. b && tx_same q.1 tx) (tx_symmetric q.0 p.1) ∙ ap (λ b. tx_same p.1 q.0 && b) (tx_symmetric q.1 tx))
-    ∙ at (tx_same p.1 q.0) (tx_same tx q.1) refl (one_more_gone tx p ps qs)
-  where
-    at : (d c : Bool) → tx_same tx q.1 ≡ c → own_gone tx ps (one_gone (p.1, tx) qs) ≡ own_gone tx (p ∷ ps) qs
-        → own_gone tx ps (cond (not (d && c)) (q ∷ one_gone (p.1, tx) qs) (one_gone (p.1, tx) qs)) ≡ cond (not (c && (d || tx_in q.0 (map (λ r. r.1) ps)))) (q ∷ own_gone tx (p ∷ ps) qs) (own_gone tx (p ∷ ps) qs)
-    at true true e more = more
-    at true false e more = ap (λ b. cond (not (b && tx_in q.0 (map (λ r. r.1) ps))) (q ∷ own_gone tx ps (one_gone (p.1, tx) qs)) (own_gone tx ps (one_gone (p.1, tx) qs))) e ∙ ap (λ l. q ∷ l) more
-    at false c e more = ap (λ b. cond (not (b && tx_in q.0 (map (λ r. r.1) ps))) (q ∷ own_gone tx ps (one_gone (p.1, tx) qs)) (own_gone tx ps (one_gone (p.1, tx) qs))) e ∙ ap (λ l. cond (not (c && tx_in q.0 (map (λ r. r.1) ps))) (q ∷ l) l) more
-
-pub each_gone : (tx : TxId) (ps turned : List (TxId × TxId)) → turned_without tx ps turned ≡ own_gone tx ps turned
-each_gone tx [] turned = none_gone tx turned
-each_gone tx (p ∷ ps) turned = each_gone tx ps (filter (λ q. not (is_eq (pair_cmp q (p.1, tx)))) turned) ∙ one_more_gone tx p ps turned
-
-pub turned_next : (tx : TxId) (ps : List (TxId × TxId)) (i : ℕ) (d : TxId × TxId) → i < length ps → (turned now : List (TxId × TxId))
-    → now ≡ filter (λ q. not (is_eq (pair_cmp q ((get_or ps i d).1, tx)))) turned → turned_without tx (drop (i + 1) ps) now ≡ turned_without tx (drop i ps) turned
-turned_next tx ps i d l turned now e =
-    let next : suc i ≡ i + 1 = omega arith in
-    ap (turned_without tx (drop (i + 1) ps)) e ∙ sym (ap (λ xs. turned_without tx xs turned) (drop-cons ps i d l ∙ ap (λ n. get_or ps i d ∷ drop n ps) next))
-
-pub own_gone-rises : (tx : TxId) (ps turned : List (TxId × TxId)) → IsStrictlySortedBy pair_cmp turned → IsStrictlySortedBy pair_cmp (own_gone tx ps turned)
-own_gone-rises tx ps turned s = IsStrictlySortedBy-filter pair_cmp (λ q. not (tx_same tx q.1 && tx_in q.0 (map (λ p. p.1) ps))) turned s
-
 pub without_rises : (set : List TxId) (pairs : List (TxId × TxId)) → IsStrictlySortedBy pair_cmp pairs → IsStrictlySortedBy pair_cmp (pairs_without set pairs)
 without_rises set pairs s = IsStrictlySortedBy-filter pair_cmp (λ p. not (tx_in p.0 set)) pairs s
 
--- the lists without a transaction's pairs are turned round still
-pub turned_own : (tx : TxId) (pairs turned : List (TxId × TxId)) → AreTurned pairs turned → AreTurned (pairs_without (tx ∷ []) pairs) (own_gone tx (of_tx tx pairs) turned)
-turned_own tx pairs turned h t p =
-    is_pair-filter (λ q. not (tx_same tx q.1 && tx_in q.0 (map (λ r. r.1) (of_tx tx pairs)))) turned p t
-    ∙ ap (λ b. b && not (tx_same tx t && tx_in p (map (λ q. q.1) (of_tx tx pairs)))) (h t p)
-    ∙ ap (λ b. is_pair pairs t p && not (tx_same tx t && b)) (in_run tx p pairs)
-    ∙ at (tx_same tx t) refl
-    ∙ sym (is_pair-filter (λ q. not (tx_in q.0 (tx ∷ []))) pairs t p)
-  where
-    gone : (x : Bool) → (x && not x) ≡ (x && false)
-    gone true = refl
-    gone false = refl
-
-    at : (b : Bool) → tx_same tx t ≡ b → (is_pair pairs t p && not (b && is_pair pairs tx p)) ≡ (is_pair pairs t p && not (b || false))
-    at true e = ap (λ u. is_pair pairs t p && not (is_pair pairs u p)) (tx_true tx t e) ∙ gone (is_pair pairs t p)
-    at false e = refl
-
 -- ---- what is kept
 
-kept_none : (m q : ℕ) → 2 ≤ m → 2 ≤ q → AreKept [] [] [] m q
-unfolding IsStrictlySortedBy
-kept_none m q l k = record { pairs_rise = tt; turned_rise = tt; turned_round = λ t p. refl; marks_rise = tt; marks_room = omega arith; queue_room = omega arith }
+module _ (m q : ℕ) (commits : Table ℕ) (rows : Table Waiting) (counted : AreCounted [] commits rows) where
+  kept_none : 2 ≤ m → 2 ≤ q → AreKept [] [] [] m q commits rows
+  unfolding IsStrictlySortedBy
+  kept_none l k =
+      record { pairs_rise = tt; turned_rise = tt; turned_round = λ t p. refl; marks_rise = tt; marks_room = omega arith; queue_room = omega arith; counted = counted }
 
-pub kept_new : (pairs turned : List (TxId × TxId)) (marks : List TxId) (m q : ℕ) → pairs ≡ [] → turned ≡ [] → marks ≡ [] → 2 ≤ m → 2 ≤ q → AreKept pairs turned marks m q
-kept_new pairs turned marks m q e f g l k =
-    subst (λ x. AreKept x turned marks m q) (sym e) (subst (λ x. AreKept [] x marks m q) (sym f) (subst (λ x. AreKept [] [] x m q) (sym g) (kept_none m q l k)))
+  pub kept_new : (pairs turned : List (TxId × TxId)) (marks : List TxId) → pairs ≡ [] → turned ≡ [] → marks ≡ [] → 2 ≤ m → 2 ≤ q → AreKept pairs turned marks m q commits rows
+  kept_new pairs turned marks e f g l k =
+      subst (λ x. AreKept x turned marks m q commits rows) (sym e)
+      (subst (λ x. AreKept [] x marks m q commits rows) (sym f) (subst (λ x. AreKept [] [] x m q commits rows) (sym g) (kept_none l k)))
 
-module _ (pairs turned : List (TxId × TxId)) (marks : List TxId) (m q : ℕ) (h : AreKept pairs turned marks m q) (pairs_now turned_now : List (TxId × TxId)) where
-  pub kept_more : (tx pred : TxId) → pairs_now ≡ pair_insert (tx, pred) pairs → turned_now ≡ pair_insert (pred, tx) turned → length turned_now + 1 < m → length turned_now + 1 < q → AreKept pairs_now turned_now marks m q
-  kept_more tx pred e f l k = record {
+module _ (pairs turned : List (TxId × TxId)) (marks : List TxId) (m q : ℕ) (commits : Table ℕ) (rows : Table Waiting) (h : AreKept pairs turned marks m q commits rows) (pairs_now turned_now : List (TxId × TxId)) where
+  pub kept_more : (tx pred : TxId) → pairs_now ≡ pair_insert (tx, pred) pairs → turned_now ≡ pair_insert (pred, tx) turned → length turned_now + 1 < m → length turned_now + 1 < q
+      → (after : Table Waiting) → AreCounted pairs_now commits after → AreKept pairs_now turned_now marks m q commits after
+  kept_more tx pred e f l k after counted = record {
     pairs_rise = subst (IsStrictlySortedBy pair_cmp) (sym e) (insert_key-rises pair_total (tx, pred) pairs h.pairs_rise);
     turned_rise = subst (IsStrictlySortedBy pair_cmp) (sym f) (insert_key-rises pair_total (pred, tx) turned h.turned_rise);
     turned_round = subst (λ x. AreTurned x turned_now) (sym e) (subst (AreTurned (pair_insert (tx, pred) pairs)) (sym f) (turned_more tx pred pairs turned h.turned_round));
     marks_rise = h.marks_rise;
     marks_room = l;
     queue_room = k;
+    counted = counted;
   }
+
+-- with other COMMITs, and rows that count by them
+pub kept_settled : (pairs turned : List (TxId × TxId)) (marks : List TxId) (m q : ℕ) (commits : Table ℕ) (rows : Table Waiting) → AreKept pairs turned marks m q commits rows
+    → (now : Table ℕ) (after : Table Waiting) → AreCounted pairs now after → AreKept pairs turned marks m q now after
+kept_settled pairs turned marks m q commits rows h now after counted = record {
+  pairs_rise = h.pairs_rise;
+  turned_rise = h.turned_rise;
+  turned_round = h.turned_round;
+  marks_rise = h.marks_rise;
+  marks_room = h.marks_room;
+  queue_room = h.queue_room;
+  counted = counted;
+}
 
 pub none_rise : IsStrictlySortedBy tx_cmp []
 unfolding IsStrictlySortedBy
 none_rise = tt
+
+-- with the same pairs and marks, places that aren't fewer, and COMMITs and rows that are read alike
+pub kept_alike : (pairs turned : List (TxId × TxId)) (marks : List TxId) (m q : ℕ) (commits : Table ℕ) (rows : Table Waiting) → AreKept pairs turned marks m q commits rows
+    → (pairs_now turned_now : List (TxId × TxId)) (marks_now : List TxId) (m_now q_now : ℕ) (now : Table ℕ) (after : Table Waiting) → pairs_now ≡ pairs → turned_now ≡ turned → marks_now ≡ marks
+    → m ≤ m_now → q ≤ q_now → AreCounted pairs now after → AreKept pairs_now turned_now marks_now m_now q_now now after
+kept_alike pairs turned marks m q commits rows h pairs_now turned_now marks_now m_now q_now now after e f g more longer counted =
+    subst (λ x. AreKept x turned_now marks_now m_now q_now now after) (sym e)
+    (subst (λ x. AreKept pairs x marks_now m_now q_now now after) (sym f)
+    (subst (λ x. AreKept pairs turned x m_now q_now now after) (sym g)
+    (record {
+      pairs_rise = h.pairs_rise;
+      turned_rise = h.turned_rise;
+      turned_round = h.turned_round;
+      marks_rise = h.marks_rise;
+      marks_room = let room = h.marks_room in omega (arith, room, more);
+      queue_room = let room = h.queue_room in omega (arith, room, longer);
+      counted = counted;
+    })))

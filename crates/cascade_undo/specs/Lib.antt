@@ -4,3 +4,4 @@ pub mod Dependencies
 pub mod Pairs
 pub mod Marking
 pub mod Kept
+pub mod Counts

@@ -2,7 +2,7 @@
 //! successor, and goes where it goes. Dependencies are seen as a list of pairs, the LSNs of the COMMITs of settled transactions, marks, and room.
 //! It promises that marking gives exactly the set that an abort takes along; and of the undo of the marked (an ABORT for each that wrote here, a CLR
 //! for each of their writes, from the newest one down, while the store goes back to the values before) exactly the records and the log of the
-//! protocol's definition. No call but `new`, `reserve` and `reserve_settled` takes memory. The CLRs follow from the log alone: a call of its own appends them and
+//! protocol's definition. No call but `new` and those that reserve takes memory. The CLRs follow from the log alone: a call of its own appends them and
 //! touches no store. It stands on `log_buffer` and `ordered_store`, and on the law of `protocol_laws` that the set is the least closed one.
 #![tactic(auto)]
 
@@ -12,11 +12,12 @@ mod deps;
 mod marking;
 mod marks;
 mod pairs;
+mod reserving;
 mod rolling;
 mod room;
-mod settled;
 mod sorted;
 mod undoing;
+mod waiting;
 mod write;
 
 pub use compensating::compensate;

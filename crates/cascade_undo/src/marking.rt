@@ -3,14 +3,14 @@ ghost use Rattle.std.specs.Prelude.{◌≡◌, ◌≤◌, ◌<◌, ◌+◌, ◌�
 ghost use Rattle.std.specs.List.{filter};
 ghost use Rattle.std.specs.List.Sorted.{IsStrictlySortedBy};
 ghost use Rattle.clv_base.specs.declared.names.TxId.{TxId as Tx};
-ghost use Rattle.clv_base.specs.Orders.{tx_cmp, tx_same, tx_in, tx_insert, pair_cmp};
+ghost use Rattle.clv_base.specs.Orders.{tx_cmp, tx_same, tx_in, tx_insert};
 ghost use Rattle.cascade_undo.specs.Dependencies.{doomed};
-ghost use Rattle.cascade_undo.specs.Pairs.{AreTurned};
+ghost use Rattle.cascade_undo.specs.Pairs.{AreTurned, pairs_in};
 ghost use Rattle.cascade_undo.specs.Marking.{marks_with, new_marks, unmarked};
 
-use crate::pairs::{Pair, run_of};
 use crate::sorted::insert;
 use clv_base::names::TxId;
+use tx_table::TxLists;
 
 /// Marks a transaction, and queues it where it is new.
 fn mark(tx: TxId, marks: &mut Vec<TxId>, queue: &mut Vec<TxId>)
@@ -27,31 +27,29 @@ fn mark(tx: TxId, marks: &mut Vec<TxId>, queue: &mut Vec<TxId>)
     }
 }
 
-/// Marks the successors of a transaction, over pairs of predecessors and successors.
-fn mark_successors(turned: &[Pair], tx: TxId, marks: &mut Vec<TxId>, queue: &mut Vec<TxId>)
-    requires turned { IsStrictlySortedBy pair_cmp turned.now }
+/// Marks the successors of a transaction, by lists of successors.
+fn mark_successors(turned: &TxLists, tx: TxId, marks: &mut Vec<TxId>, queue: &mut Vec<TxId>)
     requires rising { IsStrictlySortedBy tx_cmp marks.old.items }
-    requires marks { vec_len marks.old + unmarked turned.now marks.old.items < vec_capacity marks.old }
-    requires queue { vec_len queue.old + unmarked turned.now marks.old.items < vec_capacity queue.old }
+    requires marks { vec_len marks.old + unmarked (pairs_in turned.now.lists) marks.old.items < vec_capacity marks.old }
+    requires queue { vec_len queue.old + unmarked (pairs_in turned.now.lists) marks.old.items < vec_capacity queue.old }
     ensures rising { IsStrictlySortedBy tx_cmp marks.new.items }
-    ensures marks { marks.new.items ≡ marks_with (map (λ p. p.1) (filter (λ p. tx_same tx p.0) turned.now)) marks.old.items }
-    ensures queue { queue.new.items ≡ queue.old.items ++ new_marks (map (λ p. p.1) (filter (λ p. tx_same tx p.0) turned.now)) marks.old.items }
+    ensures marks { marks.new.items ≡ marks_with (map (λ p. p.1) (filter (λ p. tx_same tx p.0) (pairs_in turned.now.lists))) marks.old.items }
+    ensures queue { queue.new.items ≡ queue.old.items ++ new_marks (map (λ p. p.1) (filter (λ p. tx_same tx p.0) (pairs_in turned.now.lists))) marks.old.items }
     ensures room { (vec_capacity marks.new ≡ vec_capacity marks.old) × (vec_capacity queue.new ≡ vec_capacity queue.old) }
-    ensures marks_room { vec_len marks.new + unmarked turned.now marks.new.items ≤ vec_len marks.old + unmarked turned.now marks.old.items }
-    ensures queue_room { vec_len queue.new + unmarked turned.now marks.new.items ≤ vec_len queue.old + unmarked turned.now marks.old.items }
+    ensures marks_room { vec_len marks.new + unmarked (pairs_in turned.now.lists) marks.new.items ≤ vec_len marks.old + unmarked (pairs_in turned.now.lists) marks.old.items }
+    ensures queue_room { vec_len queue.new + unmarked (pairs_in turned.now.lists) marks.new.items ≤ vec_len queue.old + unmarked (pairs_in turned.now.lists) marks.old.items }
 {
-    for pair in run_of(turned, tx) {
-        mark(pair.1, marks, queue);
+    for next in turned.get(tx) {
+        mark(*next, marks, queue);
     }
 }
 
-/// Marks a transaction and all that are its successors through any number, over pairs of predecessors and successors.
-pub(crate) fn mark_from(turned: &[Pair], tx: TxId, marks: &mut Vec<TxId>, queue: &mut Vec<TxId>)
-    requires turned { IsStrictlySortedBy pair_cmp turned.now }
-    requires marks { length turned.now + 1 < vec_capacity marks.old }
-    requires queue { length turned.now + 1 < vec_capacity queue.old }
+/// Marks a transaction and all that are its successors through any number, by lists of successors.
+pub(crate) fn mark_from(turned: &TxLists, tx: TxId, marks: &mut Vec<TxId>, queue: &mut Vec<TxId>)
+    requires marks { length (pairs_in turned.now.lists) + 1 < vec_capacity marks.old }
+    requires queue { length (pairs_in turned.now.lists) + 1 < vec_capacity queue.old }
     ensures rising { IsStrictlySortedBy tx_cmp marks.new.items }
-    ensures marks { (pairs : List (Tx × Tx)) → AreTurned pairs turned.now → marks.new.items ≡ doomed pairs tx }
+    ensures marks { (pairs : List (Tx × Tx)) → AreTurned pairs (pairs_in turned.now.lists) → marks.new.items ≡ doomed pairs tx }
     ensures room { (vec_capacity marks.new ≡ vec_capacity marks.old) × (vec_capacity queue.new ≡ vec_capacity queue.old) }
 {
     marks.clear();

@@ -1,84 +1,62 @@
-//! Pairs of transactions that rise by the first, then the second.
-ghost use Rattle.std.specs.Prelude.{◌≡◌, ◌≤◌, [], ◌∷◌, ◌&&◌, length, map, not, slice_range, vec_len, vec_capacity};
-ghost use Rattle.std.specs.List.{filter, remove_range};
-ghost use Rattle.std.specs.List.Sorted.{IsStrictlySortedBy};
-ghost use Rattle.clv_base.specs.Orders.{tx_same, tx_in, pair_cmp};
+//! Pairs of transactions, in lists by the first and in lists by the second.
+ghost use Rattle.std.specs.Prelude.{◌≡◌, ◌≤◌, [], ◌∷◌, length};
+ghost use Rattle.std.specs.Option.{option_map_or};
+ghost use Rattle.clv_base.specs.declared.names.TxId.{TxId as Tx};
 ghost use Rattle.clv_base.specs.Undo.{pairs_without};
-ghost use Rattle.cascade_undo.specs.Pairs.{AreTurned};
+ghost use Rattle.tx_table.specs.Lists.{list_in};
+ghost use Rattle.cascade_undo.specs.Pairs.{AreTurned, pairs_in, left_by};
 
-use crate::sorted::remove;
 use clv_base::names::TxId;
+use tx_table::TxLists;
 
-/// Two transactions.
-pub(crate) type Pair = (TxId, TxId);
-
-/// Where the pairs of a first transaction begin, and where they end.
-fn bounds_of(pairs: &[Pair], first: TxId) -> (usize, usize)
-    requires { IsStrictlySortedBy pair_cmp pairs.now }
-    ensures order { (result.0 ≤ result.1) × (result.1 ≤ length pairs.now) }
-    ensures run { slice_range pairs.now result.0 result.1 ≡ filter (λ p. tx_same first p.0) pairs.now }
-    ensures others { remove_range pairs.now result.0 result.1 ≡ filter (λ p. not (tx_same first p.0)) pairs.now }
+/// A transaction leaves the lists of these.
+fn leave_each(turned: &mut TxLists, preds: &[TxId], tx: TxId)
+    ensures { (p : Tx) → list_in p turned.new.lists ≡ left_by tx preds.now p (list_in p turned.old.lists) }
 {
-    let from = pairs.partition_point(|pair| pair.0 < first);
-    let upto = pairs.partition_point(|pair| pair.0 <= first);
-    (from, upto)
-}
-
-/// The pairs of a first transaction.
-pub(crate) fn run_of(pairs: &[Pair], first: TxId) -> &[Pair]
-    requires { IsStrictlySortedBy pair_cmp pairs.now }
-    ensures { result.now ≡ filter (λ p. tx_same first p.0) pairs.now }
-{
-    let (from, upto) = bounds_of(pairs, first);
-    &pairs[from..upto]
-}
-
-/// Takes away the pairs of a first transaction; what lies above them moves.
-fn drop_run(pairs: &mut Vec<Pair>, first: TxId)
-    requires { IsStrictlySortedBy pair_cmp pairs.old.items }
-    ensures pairs { pairs.new.items ≡ filter (λ p. not (tx_same first p.0)) pairs.old.items }
-    ensures room { vec_capacity pairs.new ≡ vec_capacity pairs.old }
-{
-    let (from, upto) = bounds_of(pairs, first);
-    pairs.drain(from..upto);
-}
-
-/// Takes away, of pairs of predecessors and successors, those of a successor with these predecessors.
-fn drop_turned(turned: &mut Vec<Pair>, run: &[Pair], tx: TxId)
-    requires { IsStrictlySortedBy pair_cmp turned.old.items }
-    ensures pairs { turned.new.items ≡ filter (λ q. not (tx_same tx q.1 && tx_in q.0 (map (λ p. p.1) run.now))) turned.old.items }
-    ensures room { (vec_capacity turned.new ≡ vec_capacity turned.old) × (vec_len turned.new ≤ vec_len turned.old) }
-{
-    for pair in run {
-        remove(turned, &(pair.1, tx));
+    for pred in preds {
+        turned.leave(*pred, tx);
     }
 }
 
-/// Takes away the pairs of a transaction with its predecessors, in both lists of them.
-pub(crate) fn drop_own(pairs: &mut Vec<Pair>, turned: &mut Vec<Pair>, tx: TxId)
-    requires rising { IsStrictlySortedBy pair_cmp pairs.old.items × IsStrictlySortedBy pair_cmp turned.old.items }
-    requires turned { AreTurned pairs.old.items turned.old.items }
-    ensures pairs { pairs.new.items ≡ pairs_without (tx ∷ []) pairs.old.items }
-    ensures rising { IsStrictlySortedBy pair_cmp pairs.new.items × IsStrictlySortedBy pair_cmp turned.new.items }
-    ensures turned { AreTurned pairs.new.items turned.new.items }
-    ensures pairs_room { (vec_capacity pairs.new ≡ vec_capacity pairs.old) × (vec_len pairs.new ≤ vec_len pairs.old) }
-    ensures turned_room { (vec_capacity turned.new ≡ vec_capacity turned.old) × (vec_len turned.new ≤ vec_len turned.old) }
+/// A transaction leaves the lists of those in its own; gives how many these are.
+fn leave_all(turned: &mut TxLists, own: Option<Vec<TxId>>, tx: TxId) -> usize
+    ensures lists { (p : Tx) → list_in p turned.new.lists ≡ left_by tx (option_map_or (λ v. v.items) own []) p (list_in p turned.old.lists) }
+    ensures count { result ≡ length (option_map_or (λ v. v.items) own []) }
 {
-    drop_turned(turned, run_of(pairs, tx), tx);
-    drop_run(pairs, tx);
+    match own {
+        Some(preds) => {
+            leave_each(turned, &preds, tx);
+            preds.len()
+        }
+        None => 0,
+    }
 }
 
-/// Takes away the pairs of these transactions with their predecessors, in both lists of them.
-pub(crate) fn drop_all(pairs: &mut Vec<Pair>, turned: &mut Vec<Pair>, set: &[TxId])
-    requires rising { IsStrictlySortedBy pair_cmp pairs.old.items × IsStrictlySortedBy pair_cmp turned.old.items }
-    requires turned { AreTurned pairs.old.items turned.old.items }
-    ensures pairs { pairs.new.items ≡ pairs_without set.now pairs.old.items }
-    ensures rising { IsStrictlySortedBy pair_cmp pairs.new.items × IsStrictlySortedBy pair_cmp turned.new.items }
-    ensures turned { AreTurned pairs.new.items turned.new.items }
-    ensures pairs_room { (vec_capacity pairs.new ≡ vec_capacity pairs.old) × (vec_len pairs.new ≤ vec_len pairs.old) }
-    ensures turned_room { (vec_capacity turned.new ≡ vec_capacity turned.old) × (vec_len turned.new ≤ vec_len turned.old) }
+/// Takes away the pairs of a transaction with its predecessors, in both lists of them, and from their count.
+pub(crate) fn drop_own(pairs: &mut TxLists, turned: &mut TxLists, count: &mut usize, tx: TxId)
+    requires turned { AreTurned (pairs_in pairs.old.lists) (pairs_in turned.old.lists) }
+    requires few { length (pairs_in pairs.old.lists) ≤ count.old }
+    ensures pairs { pairs_in pairs.new.lists ≡ pairs_without (tx ∷ []) (pairs_in pairs.old.lists) }
+    ensures turned { AreTurned (pairs_in pairs.new.lists) (pairs_in turned.new.lists) }
+    ensures few { length (pairs_in pairs.new.lists) ≤ count.new }
+    ensures less { count.new ≤ count.old }
+{
+    let own = pairs.take(tx);
+    let gone = leave_all(turned, own, tx);
+    turned.drop_empty(tx);
+    *count -= gone;
+}
+
+/// Takes away the pairs of these transactions with their predecessors, in both lists of them, and from their count.
+pub(crate) fn drop_all(pairs: &mut TxLists, turned: &mut TxLists, count: &mut usize, set: &[TxId])
+    requires turned { AreTurned (pairs_in pairs.old.lists) (pairs_in turned.old.lists) }
+    requires few { length (pairs_in pairs.old.lists) ≤ count.old }
+    ensures pairs { pairs_in pairs.new.lists ≡ pairs_without set.now (pairs_in pairs.old.lists) }
+    ensures turned { AreTurned (pairs_in pairs.new.lists) (pairs_in turned.new.lists) }
+    ensures few { length (pairs_in pairs.new.lists) ≤ count.new }
+    ensures less { count.new ≤ count.old }
 {
     for tx in set {
-        drop_own(pairs, turned, *tx);
+        drop_own(pairs, turned, count, *tx);
     }
 }

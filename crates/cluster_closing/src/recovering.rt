@@ -4,6 +4,7 @@ ghost use Rattle.std.specs.List.{list_all};
 ghost use Rattle.clv_base.specs.FileRules.{has_spelling};
 ghost use Rattle.clv_base.specs.LogRules.{disorder};
 ghost use Rattle.clv_base.specs.Restarts.{first_barred, greatest_epoch};
+ghost use Rattle.log_analysis.specs.Facts.{Knows};
 ghost use Rattle.log_gate.specs.View.{Only};
 ghost use Rattle.cluster_closing.specs.Judging.{RefusesDisk, CountsRestart, IsRecoveryError, opening_error, recovery_error};
 ghost use Rattle.cluster_closing.specs.Left.{IsLeftBy, HasBegun, WasRead};
@@ -15,6 +16,7 @@ use cluster_opening::At;
 use clv_base::logs::LogRecord;
 use clv_base::splits::Splits;
 use io_model::Disk;
+use log_analysis::LogFacts;
 use log_gate::{Gate, Header, OpenLogError};
 use machine_calls::{Machine, Reopener};
 use ordered_store::Store;
@@ -66,10 +68,12 @@ fn recover_log<M: Reopener>(
     alloc: Global,
     mut gate: M::Gate,
     log: Vec<LogRecord>,
+    facts: LogFacts,
     shard: u32,
     run: u32,
     epoch: u64,
 ) -> Result<Ready<M::Store, M::Gate>, (RestartError, M::Gate)>
+    requires knows { Knows facts log.items }
     requires run { 1 ≤ run }
     requires open { M.Gate.is_shut gate ≡ false }
     requires log { Only log.items (M.Gate.logs gate) }
@@ -87,7 +91,7 @@ fn recover_log<M: Reopener>(
         return Err((RestartError::Memory, gate));
     };
     let found = Snapshot::of(&log);
-    match recover(alloc, &mut store, &mut gate, log, shard, run, epoch) {
+    match recover(alloc, &mut store, &mut gate, log, facts, shard, run, epoch) {
         Ok(recovered) => Ok(Ready {
             gate,
             store,
@@ -129,11 +133,11 @@ pub fn recover_disk<M: Reopener>(
         Ok(opened) => opened,
         Err((error, disk)) => return Err((told_as(error), disk)),
     };
-    let epoch = match judge(alloc, &log, shard, run, own) {
-        Ok(epoch) => epoch,
+    let (epoch, facts) = match judge(alloc, &log, shard, run, own) {
+        Ok(judged) => judged,
         Err(error) => return Err((error, M::disk_of(gate))),
     };
-    match recover_log::<M>(alloc, gate, log, shard, run, epoch) {
+    match recover_log::<M>(alloc, gate, log, facts, shard, run, epoch) {
         Ok(ready) => Ok(ready),
         Err((error, gate)) => Err((error, M::disk_of(gate))),
     }

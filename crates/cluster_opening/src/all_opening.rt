@@ -1,12 +1,14 @@
 // All shards, one after another.
 ghost use Rattle.std.specs.Prelude.{◌≡◌, ◌<◌, ◌≤◌, ℕ, [], map, length, vec_len, vec_capacity, slice_index_or, OnOk, IfErr};
 ghost use Rattle.clv_base.specs.LogRules.{log_of};
+ghost use Rattle.log_analysis.specs.Facts.{KnowAll};
 ghost use Rattle.cluster_opening.specs.AllOpened.{IsOpenedAt, AreOpenGates, StoppedAt};
 
 use crate::open_shard;
 use cluster_turns::Home;
 use clv_base::logs::LogRecord;
 use io_model::Disk;
+use log_analysis::LogFacts;
 use log_gate::Gate;
 use machine_calls::OverDisks;
 use machine_laws::{Note, Origin};
@@ -22,18 +24,20 @@ pub struct Stopped<D: Disk, G: Gate> {
     pub rest: Vec<G>,
 }
 
-/// Takes all shards from the logs found into their locks, in rising order, and puts locks and passes into what has room for them. At `Ok` what a restart adds to
-/// each log is durable. At `Err` the shards below have their locks.
+/// Takes all shards from the logs found, with what each says of each transaction, into their locks, in rising order, and puts locks and passes into what has room
+/// for them. At `Ok` what a restart adds to each log is durable. At `Err` the shards below have their locks.
 pub fn open_shards<D: Disk, M: OverDisks<D>>(
     alloc: Global,
     gates: Vec<M::Gate>,
     logs: Vec<Vec<LogRecord>>,
+    facts: Vec<LogFacts>,
     run: u32,
     walkers: usize,
     locks: &mut Vec<TurnLock<Home<M>>>,
     passes: &mut Vec<Vec<Pass<Home<M>, Note, Origin>>>,
 ) -> Result<(), Stopped<D, M::Gate>>
     requires gates { AreOpenGates M.Gate.is_shut M.Gate.faults M.Gate.shard M.Gate.logs (map (λ l. l.items) logs.items) gates.items }
+    requires known { KnowAll facts.items (map (λ l. l.items) logs.items) }
     requires run { 1 ≤ run }
     requires few { vec_len gates ≤ 16 }
     requires some { 0 < walkers }
@@ -47,12 +51,14 @@ pub fn open_shards<D: Disk, M: OverDisks<D>>(
     let count = gates.len() as u32;
     let mut rest = gates;
     let mut later = logs;
+    let mut said = facts;
     rest.reverse();
     later.reverse();
     for shard in 0..count {
         let gate = rest.pop().unwrap();
         let log = later.pop().unwrap();
-        match open_shard(alloc, gate, log, shard, run, walkers) {
+        let facts = said.remove(0);
+        match open_shard(alloc, gate, log, facts, shard, run, walkers) {
             Ok((lock, mine)) => {
                 locks.push_reserved(lock);
                 passes.push_reserved(mine);

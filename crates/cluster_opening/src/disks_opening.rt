@@ -4,6 +4,7 @@ ghost use Rattle.std.specs.Prelude.{◌≡◌, ◌<◌, ◌≤◌, ℕ, false, [
 ghost use Rattle.clv_base.specs.Shards.{shard_count};
 ghost use Rattle.clv_base.specs.Logs.{stands as stands_for};
 ghost use Rattle.io_model.specs.Disk.{Tells};
+ghost use Rattle.log_analysis.specs.Facts.{KnowAll};
 ghost use Rattle.log_gate.specs.Opening.{IsUnchanged};
 ghost use Rattle.cluster_opening.specs.Logs.{IsFound};
 ghost use Rattle.cluster_opening.specs.Opening.{Refuses, CountsOpen};
@@ -17,6 +18,7 @@ use clv_base::logs::LogRecord;
 use clv_base::splits::Splits;
 use history_replay::KeyMap;
 use io_model::{Disk, House};
+use log_analysis::LogFacts;
 use log_gate::{Header, LogGate};
 use std::alloc::Global;
 
@@ -32,38 +34,46 @@ pub struct Found<D: Disk> {
     pub gates: Vec<LogGate<D>>,
     /// Its log.
     pub logs: Vec<Vec<LogRecord>>,
+    /// What its log says of each transaction.
+    pub facts: Vec<LogFacts>,
     /// The run that goes on from all logs.
     pub run: u32,
     /// The map that the logs stand for.
     pub pairs: KeyMap,
 }
 
-// Opens disk by disk, and puts the gates and logs into what has room for them. After an `Err` the disks of the gates are still out.
+// Opens disk by disk, and puts the gates, the logs and what these say into what has room for them. After an `Err` the disks of the gates are still out.
 fn open_logs<H: House>(
     alloc: Global,
     house: &mut H,
     gates: &mut Vec<LogGate<H::Disk>>,
     logs: &mut Vec<Vec<LogRecord>>,
+    facts: &mut Vec<LogFacts>,
 ) -> Result<Header, OpenError>
     requires inside { (n : ℕ) → n < 16 → H.is_out house.old n ≡ false }
     requires empty { (gates.old.items ≡ []) × (logs.old.items ≡ []) }
+    requires no_facts { facts.old.items ≡ [] }
     requires room { (16 ≤ vec_capacity gates.old) × (16 ≤ vec_capacity logs.old) }
+    requires room_of_facts { 16 ≤ vec_capacity facts.old }
+    ensures known { IfOk result (λ h. KnowAll facts.new.items (map (λ l. l.items) logs.new.items)) }
     ensures gates { IfOk result (λ h. AreGates h.splits (map (λ l. l.items) logs.new.items) gates.new.items (H.story house.old)) }
     ensures count { IfOk result (λ h. length logs.new.items ≡ shard_count h.splits) }
     ensures out { IfOk result (λ h. WentOut (shard_count h.splits) (H.faults house.old) (H.faults house.new) (H.is_out house.old) (H.is_out house.new) (H.story house.old) (H.story house.new)) }
     ensures stopped { IfErr result (IsStopped gates.new.items (H.faults house.old) (H.faults house.new) (H.is_out house.new) (H.story house.old) (H.story house.new)) }
 {
-    let (gate, header, log) = match open_one(alloc, house, 0, None) {
+    let (gate, header, log, said) = match open_one(alloc, house, 0, None) {
         Ok(found) => found,
         Err(error) => return Err(error),
     };
     gates.push_reserved(gate);
     logs.push_reserved(log);
+    facts.push_reserved(said);
     for shard in 1..header.splits.shards() {
         match open_one(alloc, house, shard, Some(&header)) {
-            Ok((gate, _header, log)) => {
+            Ok((gate, _header, log, said)) => {
                 gates.push_reserved(gate);
                 logs.push_reserved(log);
+                facts.push_reserved(said);
             }
             Err(error) => return Err(error),
         }
@@ -77,20 +87,24 @@ fn open_and_judge<H: House>(
     house: &mut H,
     gates: &mut Vec<LogGate<H::Disk>>,
     logs: &mut Vec<Vec<LogRecord>>,
+    facts: &mut Vec<LogFacts>,
 ) -> Result<(Splits, u32, KeyMap), OpenError>
     requires inside { (n : ℕ) → n < 16 → H.is_out house.old n ≡ false }
     requires empty { (gates.old.items ≡ []) × (logs.old.items ≡ []) }
+    requires no_facts { facts.old.items ≡ [] }
     requires room { (16 ≤ vec_capacity gates.old) × (16 ≤ vec_capacity logs.old) }
+    requires room_of_facts { 16 ≤ vec_capacity facts.old }
+    ensures known { IfOk result (λ r. KnowAll facts.new.items (map (λ l. l.items) logs.new.items)) }
     ensures found { IfOk result (λ r. IsFound r.0 (map (λ l. l.items) logs.new.items) r.1 gates.new.items (H.story house.old)) }
     ensures pairs { IfOk result (λ r. r.2 ≡ stands_for (map (λ l. l.items) logs.new.items)) }
     ensures out { IfOk result (λ r. WentOut (shard_count r.0) (H.faults house.old) (H.faults house.new) (H.is_out house.old) (H.is_out house.new) (H.story house.old) (H.story house.new)) }
     ensures stopped { IfErr result (IsStopped gates.new.items (H.faults house.old) (H.faults house.new) (H.is_out house.new) (H.story house.old) (H.story house.new)) }
 {
-    let header = match open_logs(alloc, house, gates, logs) {
+    let header = match open_logs(alloc, house, gates, logs, facts) {
         Ok(header) => header,
         Err(error) => return Err(error),
     };
-    match judge_all(alloc, logs) {
+    match judge_all(alloc, logs, facts) {
         Ok((run, pairs)) => {
             let Header { shard: _, splits } = header;
             Ok((splits, run, pairs))
@@ -108,6 +122,7 @@ pub fn open_disks<H: House>(alloc: Global, house: &mut H) -> Result<Found<H::Dis
 
     // The gate of each shard is open over its disk, whose log is the one found; the logs may be opened together.
     ensures found { IfOk result (λ f. IsFound f.splits (map (λ l. l.items) f.logs.items) f.run f.gates.items (H.story house.old)) }
+    ensures known { IfOk result (λ f. KnowAll f.facts.items (map (λ l. l.items) f.logs.items)) }
     ensures pairs { IfOk result (λ f. f.pairs ≡ stands_for (map (λ l. l.items) f.logs.items)) }
     ensures out { IfOk result (λ f. WentOut (shard_count f.splits) (H.faults house.old) (H.faults house.new) (H.is_out house.old) (H.is_out house.new) (H.story house.old) (H.story house.new)) }
 
@@ -120,14 +135,18 @@ pub fn open_disks<H: House>(alloc: Global, house: &mut H) -> Result<Found<H::Dis
     let Ok(mut logs) = Vec::with_capacity(alloc, SHARDS) else {
         return Err(OpenError::Memory);
     };
+    let Ok(mut facts) = Vec::with_capacity(alloc, SHARDS) else {
+        return Err(OpenError::Memory);
+    };
     let Ok(mut gates) = Vec::with_capacity(alloc, SHARDS) else {
         return Err(OpenError::Memory);
     };
-    match open_and_judge(alloc, house, &mut gates, &mut logs) {
+    match open_and_judge(alloc, house, &mut gates, &mut logs, &mut facts) {
         Ok((splits, run, pairs)) => Ok(Found {
             splits,
             gates,
             logs,
+            facts,
             run,
             pairs,
         }),

@@ -4,6 +4,7 @@ ghost use Rattle.std.specs.Prelude.{◌≡◌, ◌≢◌, ◌<◌, ℕ, true, fa
 ghost use Rattle.std.specs.Option.{option_map};
 ghost use Rattle.clv_base.specs.LogRules.{disorder as first_disorder};
 ghost use Rattle.io_model.specs.Disk.{Tells};
+ghost use Rattle.log_analysis.specs.Facts.{Knows};
 ghost use Rattle.log_gate.specs.Opening.{IsUnchanged};
 ghost use Rattle.cluster_opening.specs.Logs.{IsGateAt};
 ghost use Rattle.cluster_opening.specs.Judging.{Agrees, Disagrees, told_as as telling, Faults, RefusesOne, CountsOne};
@@ -11,8 +12,9 @@ ghost use Rattle.cluster_opening.specs.Judging.{Agrees, Disagrees, told_as as te
 use crate::error::{At, OpenError};
 use clv_base::logs::LogRecord;
 use io_model::{Disk, House};
+use log_analysis::LogFacts;
 use log_gate::{Header, LogGate, OpenLogError, open_log};
-use log_rules::disorder;
+use log_rules::{OrderError, in_order};
 use std::alloc::Global;
 
 // The place of a header's number of shards.
@@ -29,28 +31,30 @@ fn is_agreed(agreed: Option<&Header>, header: &Header) -> bool
     }
 }
 
-// Why a log that was read is refused. `open_log` refuses a header with other splits itself, but says so only of a disk that tells what it holds: so they
-// are compared again.
+// What a log that was read says of each transaction, or why it is refused. `open_log` refuses a header with other splits itself, but says so only of a
+// disk that tells what it holds: so they are compared again.
 fn judge(
     alloc: Global,
     shard: u32,
     agreed: Option<&Header>,
     header: &Header,
     log: &[LogRecord],
-) -> Result<(), OpenError>
+) -> Result<LogFacts, OpenError>
     ensures fine { OnOk result (Agrees (option_map (λ h. h.now.splits) agreed.entry) header.now.splits × (first_disorder shard log.now ≡ None)) }
+    ensures knows { IfOk result (λ facts. Knows facts log.now) }
     ensures fault { IfErr result (Faults shard (option_map (λ h. h.now.splits) agreed.entry) header.now.splits log.now) }
 {
     if !is_agreed(agreed, header) {
         let at = At::Byte(COUNT_AT);
         return Err(OpenError::NotLog { shard, at });
     }
-    match disorder(alloc, log, shard)? {
-        Some(lsn) => {
+    match in_order(alloc, log, shard) {
+        Ok(facts) => Ok(facts),
+        Err(OrderError::Breaks(lsn)) => {
             let at = At::Record(lsn);
             Err(OpenError::NotLog { shard, at })
         }
-        None => Ok(()),
+        Err(OrderError::Memory) => Err(OpenError::Memory),
     }
 }
 
@@ -67,15 +71,16 @@ fn told_as(shard: u32, error: OpenLogError) -> OpenError
     }
 }
 
-// Opens the log of a shard's disk, which has no faults yet, and judges it.
+// Opens the log of a shard's disk, which has no faults yet, and judges it. With the log comes what it says of each transaction.
 fn find<D: Disk>(
     alloc: Global,
     disk: D,
     shard: u32,
     agreed: Option<&Header>,
-) -> Result<(LogGate<D>, Header, Vec<LogRecord>), (OpenError, D)>
+) -> Result<(LogGate<D>, Header, Vec<LogRecord>, LogFacts), (OpenError, D)>
     requires fine { D.faults disk ≡ 0 }
     ensures found { IfOk result (λ r. IsGateAt r.1.splits shard r.2.items (D.story disk) r.0) }
+    ensures knows { IfOk result (λ r. Knows r.3 r.2.items) }
     ensures agreed { IfOk result (λ r. Agrees (option_map (λ h. h.now.splits) agreed.entry) r.1.splits) }
     ensures refused { IfErr result (λ e. RefusesOne shard (option_map (λ h. h.now.splits) agreed.entry) (D.story disk) e.0) }
     ensures unchanged { IfErr result (λ e. Tells (D.story disk) (D.story e.1) IsUnchanged) }
@@ -83,7 +88,7 @@ fn find<D: Disk>(
 {
     match open_log(alloc, disk, shard, agreed) {
         Ok((gate, header, log)) => match judge(alloc, shard, agreed, &header, &log) {
-            Ok(()) => Ok((gate, header, log)),
+            Ok(facts) => Ok((gate, header, log, facts)),
             Err(error) => Err((error, gate.into_disk())),
         },
         Err((error, disk)) => Err((told_as(shard, error), disk)),
@@ -96,10 +101,11 @@ pub(crate) fn open_one<H: House>(
     house: &mut H,
     shard: u32,
     agreed: Option<&Header>,
-) -> Result<(LogGate<H::Disk>, Header, Vec<LogRecord>), OpenError>
+) -> Result<(LogGate<H::Disk>, Header, Vec<LogRecord>, LogFacts), OpenError>
     requires shard { shard < 16 }
     requires inside { H.is_out house.old shard ≡ false }
     ensures found { IfOk result (λ r. IsGateAt r.1.splits shard r.2.items (H.story house.old shard) r.0) }
+    ensures knows { IfOk result (λ r. Knows r.3 r.2.items) }
     ensures agreed { IfOk result (λ r. Agrees (option_map (λ h. h.now.splits) agreed.entry) r.1.splits) }
     ensures out { OnOk result ((H.is_out house.new shard ≡ true) × (H.faults house.new shard ≡ H.faults house.old shard)) }
     ensures refused { IfErr result (RefusesOne shard (option_map (λ h. h.now.splits) agreed.entry) (H.story house.old shard)) }

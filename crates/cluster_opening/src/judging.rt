@@ -4,12 +4,14 @@ ghost use Rattle.std.specs.Prelude.{◌≡◌, ◌<◌, ◌^◌, None, map, IfOk
 ghost use Rattle.clv_base.specs.LogRules.{apart as first_apart};
 ghost use Rattle.clv_base.specs.Logs.{stands as stands_for};
 ghost use Rattle.clv_base.specs.Restarts.{greatest_run, run_after};
+ghost use Rattle.log_analysis.specs.Facts.{KnowAll};
 ghost use Rattle.cluster_opening.specs.Judging.{FaultsOfAll};
 
 use crate::error::OpenError;
 use clv_base::logs::LogRecord;
 use history_replay::{KeyMap, stands};
-use log_rules::apart;
+use log_analysis::LogFacts;
+use log_rules::apart_by;
 use std::alloc::Global;
 
 // Runs end below it.
@@ -39,14 +41,19 @@ fn next_run(logs: &[Vec<LogRecord>]) -> Option<u32>
     most.checked_add(1)
 }
 
-// The next run and what the logs stand for, where they agree; or why there is none.
-pub(crate) fn judge_all(alloc: Global, logs: &[Vec<LogRecord>]) -> Result<(u32, KeyMap), OpenError>
+// The next run and what the logs stand for, where they agree, by what each says of each transaction; or why there is none.
+pub(crate) fn judge_all(
+    alloc: Global,
+    logs: &[Vec<LogRecord>],
+    facts: &[LogFacts],
+) -> Result<(u32, KeyMap), OpenError>
+    requires { KnowAll facts.now (map (λ l. l.items) logs.now) }
     ensures run { IfOk result (λ r. (r.0 ≡ run_after (map (λ l. l.items) logs.now)) × (r.0 < 2 ^ 32)) }
     ensures agree { IfOk result (λ r. first_apart (map (λ l. l.items) logs.now) ≡ None) }
     ensures pairs { IfOk result (λ r. r.1 ≡ stands_for (map (λ l. l.items) logs.now)) }
     ensures fault { IfErr result (FaultsOfAll (map (λ l. l.items) logs.now)) }
 {
-    if let Some(tx) = apart(alloc, logs)? {
+    if let Some(tx) = apart_by(alloc, logs, facts)? {
         return Err(OpenError::Apart { tx });
     }
     match next_run(logs) {

@@ -3,8 +3,8 @@
 //! back, with every disk.
 //!
 //! `make_all` writes nothing where a disk has bytes. `open_disks` gives a gate for each shard, over a disk to which nothing was written,
-//! with the log found; or it names the first fault, and puts every disk back unchanged; logs that may be opened are not refused. It
-//! stands on `log_gate` and `log_rules` for the logs, on `machine_calls` for the recovery and on `turn_lock`.
+//! with the log found and what it says of each transaction; or it names the first fault, and puts every disk back unchanged; logs that may be
+//! opened are not refused. It stands on `log_gate` and `log_rules` for the logs, on `machine_calls` for the recovery and on `turn_lock`.
 #![tactic(auto)]
 
 mod all_opening;

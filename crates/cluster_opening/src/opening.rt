@@ -3,6 +3,7 @@ ghost use Rattle.std.specs.Prelude.{◌≡◌, ◌<◌, ◌≤◌, ℕ, false, t
 ghost use Rattle.std.specs.List.{list_all};
 ghost use Rattle.clv_base.specs.FileRules.{has_spelling};
 ghost use Rattle.clv_base.specs.LogRules.{disorder};
+ghost use Rattle.log_analysis.specs.Facts.{Knows};
 ghost use Rattle.log_gate.specs.View.{Only};
 ghost use Rattle.turn_lock.specs.Passes.{passes_of, IsNewPass};
 ghost use Rattle.machine_laws.specs.declared.notes.Origin.{Origin as OriginIs};
@@ -13,6 +14,7 @@ use crate::locking::lock_shard;
 use cluster_turns::Home;
 use clv_base::logs::LogRecord;
 use io_model::Disk;
+use log_analysis::LogFacts;
 use log_gate::Gate;
 use machine_calls::{OverDisks, recover_shard, take_apart};
 use machine_laws::{Note, Origin};
@@ -21,17 +23,19 @@ use std::alloc::Global;
 use std::snapshot::Snapshot;
 use turn_lock::{Pass, TurnLock};
 
-/// Recovers a shard from its log, which is in order, and puts its machine into a lock with so many passes, numbered from 0. What a restart adds to the log is
-/// durable at `Ok`. An `Err` gives the disk back.
+/// Recovers a shard from its log, which is in order, and of which it is known what it says of each transaction, and puts its machine into a lock with so many
+/// passes, numbered from 0. What a restart adds to the log is durable at `Ok`. An `Err` gives the disk back.
 pub fn open_shard<D: Disk, M: OverDisks<D>>(
     alloc: Global,
     gate: M::Gate,
     log: Vec<LogRecord>,
+    facts: LogFacts,
     shard: u32,
     run: u32,
     walkers: usize,
 ) -> Result<(TurnLock<Home<M>>, Vec<Pass<Home<M>, Note, Origin>>), (RecoverError, D)>
     requires some { 0 < walkers }
+    requires knows { Knows facts log.items }
     requires shard { (shard < 16) × (M.Gate.shard gate ≡ shard) }
     requires run { 1 ≤ run }
     requires open { (M.Gate.is_shut gate ≡ false) × (M.Gate.faults gate ≡ 0) }
@@ -44,7 +48,7 @@ pub fn open_shard<D: Disk, M: OverDisks<D>>(
     ensures cause { IfErr result (λ e. CountsLeft 0 (D.faults e.1) e.0) }
 {
     let found = Snapshot::of(&log);
-    let machine: M = match recover_shard(alloc, gate, log, shard, run) {
+    let machine: M = match recover_shard(alloc, gate, log, facts, shard, run) {
         Ok(machine) => machine,
         Err(error) => return Err(error),
     };

@@ -1,7 +1,7 @@
 mod Promised
 mod Drained
 mod Gone
-mod Sending
+pub mod Sending
 mod Sitting
 mod Steps
 pub mod Ending

@@ -1,3 +1,4 @@
+-- Walkers, shards and sessions may be sent to threads.
 use denote.RattleType.{RattleType}
 use denote.Ref.{NamedLft}
 use denote.Param.Send.{IsSend, IsSync, sendable, recorded_send, struct_send}

@@ -5,6 +5,7 @@ ghost use Rattle.clv_base.specs.Shards.{shard_count};
 ghost use Rattle.clv_base.specs.Logs.{stands};
 ghost use Rattle.cluster_turns.specs.Walkers.{founds_of};
 ghost use Rattle.io_model.specs.Story.{Story};
+ghost use Rattle.log_analysis.specs.Facts.{KnowAll};
 ghost use Rattle.cluster_opening.specs.Houses.{WentOut};
 ghost use Rattle.cluster_opening.specs.Opening.{Refuses, CountsOpen};
 ghost use Rattle.cluster_opening.specs.Made.{IsNewWalker};
@@ -59,6 +60,7 @@ fn begin<H: House, M: OverDisks<H::Disk>>(
     passes: Vec<Vec<Pass<Home<M>, Note, Origin>>>,
 ) -> Result<Begun<M>, OpenError>
     requires found { (c : ℕ → ℕ) × (o : ℕ → Bool) × (s : ℕ → Option Story) × AreFound M.Gate.is_shut M.Gate.faults M.Gate.shard M.Gate.logs M.story found.splits (map (λ l. l.items) found.logs.items) found.run found.gates.items c (H.faults house.old) o (H.is_out house.old) s (H.story house.old) }
+    requires known { KnowAll found.facts.items (map (λ l. l.items) found.logs.items) }
     requires some { (0 < walkers) × (walkers ≤ 65) }
     requires empty { (vec_len locks ≡ 0) × (vec_len passes ≡ 0) }
     requires room { (16 ≤ vec_capacity locks) × (16 ≤ vec_capacity passes) }
@@ -132,6 +134,7 @@ fn open_and_begin<S: Store + Drop, L: Locks + Drop, H: House>(
         splits,
         gates,
         logs,
+        facts,
         run,
         pairs,
     } = opened;
@@ -140,6 +143,7 @@ fn open_and_begin<S: Store + Drop, L: Locks + Drop, H: House>(
         splits,
         gates,
         logs,
+        facts,
         run,
     };
     match begin::<H, ShardMachine<S, L, LogGate<H::Disk>>>(

@@ -2,6 +2,7 @@
 ghost use Rattle.std.specs.Prelude.{◌≡◌, ◌<◌, ◌≤◌, ℕ, Bool, List, Option, map, vec_len, vec_capacity, IfOk, IfErr};
 ghost use Rattle.clv_base.specs.Shards.{shard_count};
 ghost use Rattle.io_model.specs.Story.{Story};
+ghost use Rattle.log_analysis.specs.Facts.{KnowAll};
 ghost use Rattle.cluster_turns.specs.Walkers.{founds_of};
 ghost use Rattle.cluster_opening.specs.Houses.{WentOut};
 ghost use Rattle.cluster_opening.specs.Undone.{AreOpened};
@@ -12,6 +13,7 @@ use cluster_turns::{Home, Shards};
 use clv_base::logs::LogRecord;
 use clv_base::splits::Splits;
 use io_model::House;
+use log_analysis::LogFacts;
 use log_gate::Gate;
 use machine_calls::OverDisks;
 use machine_laws::{Note, Origin};
@@ -21,11 +23,12 @@ use std::array;
 use std::snapshot::Snapshot;
 use turn_lock::{BatchGate, Pass, TurnLock};
 
-// The logs of all shards, each behind a gate of the machine that is to have it.
+// The logs of all shards, each behind a gate of the machine that is to have it, and what each says of each transaction.
 pub(crate) struct Logs<G: Gate> {
     pub(crate) splits: Splits,
     pub(crate) gates: Vec<G>,
     pub(crate) logs: Vec<Vec<LogRecord>>,
+    pub(crate) facts: Vec<LogFacts>,
     pub(crate) run: u32,
 }
 
@@ -53,6 +56,7 @@ pub(crate) fn lock_all<H: House, M: OverDisks<H::Disk>>(
     mut passes: Vec<Vec<Pass<Home<M>, Note, Origin>>>,
 ) -> Result<(Shards<M>, Vec<Vec<Pass<Home<M>, Note, Origin>>>), OpenError>
     requires found { (c : ℕ → ℕ) × (o : ℕ → Bool) × (s : ℕ → Option Story) × AreFound M.Gate.is_shut M.Gate.faults M.Gate.shard M.Gate.logs M.story found.splits (map (λ l. l.items) found.logs.items) found.run found.gates.items c (H.faults house.old) o (H.is_out house.old) s (H.story house.old) }
+    requires known { KnowAll found.facts.items (map (λ l. l.items) found.logs.items) }
     requires some { 0 < walkers }
     requires empty { (vec_len locks ≡ 0) × (vec_len passes ≡ 0) }
     requires room { (16 ≤ vec_capacity locks) × (16 ≤ vec_capacity passes) }
@@ -68,10 +72,20 @@ pub(crate) fn lock_all<H: House, M: OverDisks<H::Disk>>(
         splits,
         gates,
         logs,
+        facts,
         run,
     } = found;
     let found = Snapshot::of(&logs);
-    match open_shards::<H::Disk, M>(alloc, gates, logs, run, walkers, &mut locks, &mut passes) {
+    match open_shards::<H::Disk, M>(
+        alloc,
+        gates,
+        logs,
+        facts,
+        run,
+        walkers,
+        &mut locks,
+        &mut passes,
+    ) {
         Ok(()) => {
             let shards = Shards {
                 locks,

@@ -5,6 +5,7 @@ ghost use Rattle.interleaving_core.specs.Seated.{IsSeated};
 
 use crate::ListGate;
 use crate::seat::{Air, Seat};
+use log_analysis::LogFacts;
 use machine_calls::{Machine, Maker};
 use ordered_store::Store;
 use shard_recovery::recover;
@@ -24,7 +25,8 @@ pub fn open<M: Maker + Machine<Gate = ListGate>>(
     };
     let mut gate = ListGate::new(alloc, shard);
     let log = Vec::new(alloc);
-    let Ok(recovered) = recover(alloc, &mut store, &mut gate, log, shard, 1, 0) else {
+    let facts = LogFacts::new(alloc);
+    let Ok(recovered) = recover(alloc, &mut store, &mut gate, log, facts, shard, 1, 0) else {
         return Err(AllocError);
     };
     match M::new(alloc, gate, store, recovered, shard, 1, 0) {

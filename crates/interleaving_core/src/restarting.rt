@@ -17,6 +17,7 @@ use crate::ListGate;
 use crate::seat::{Air, Seat};
 use clv_base::events::Outcome;
 use clv_base::logs::LogRecord;
+use log_analysis::LogFacts;
 use machine_calls::{Flight, Machine, Restarter};
 use ordered_store::Store;
 use shard_recovery::{copy_log, recover};
@@ -126,7 +127,8 @@ fn revive_from<M: Restarter + Machine<Gate = ListGate>>(
     let Ok(mut store) = M::Store::empty(alloc) else {
         return Err(AllocError);
     };
-    let Ok(recovered) = recover(alloc, &mut store, &mut gate, found, shard, 1, epoch) else {
+    let facts = LogFacts::of_log(alloc, &found)?;
+    let Ok(recovered) = recover(alloc, &mut store, &mut gate, found, facts, shard, 1, epoch) else {
         return Err(AllocError);
     };
     match machine.revive(alloc, gate, store, recovered, epoch, clock, walker) {

@@ -5,3 +5,4 @@ pub mod Names
 pub mod Places
 pub mod Whole
 pub mod Pushes
+pub mod Tables

@@ -49,6 +49,13 @@ with_newest (Some newest) rows = newest ∷ rows
 abbrev pub Knows : Table TxFacts → List LogRecord → Type 0
 Knows m log = (tx : TxId) → known m tx ≡ facts_of log tx
 
+-- so do tables, one for each log
+abbrev pub KnowAll : List (Table TxFacts) → List (List LogRecord) → Type 0
+KnowAll [] [] = Unit {0}
+KnowAll [] (log ∷ logs) = ⊥
+KnowAll (m ∷ ms) [] = ⊥
+KnowAll (m ∷ ms) (log ∷ logs) = Knows m log × KnowAll ms logs
+
 -- the place so far, or this one
 abbrev pub first_place : ℕ → Option ℕ → Option ℕ
 first_place n so_far = Some (unwrap_or so_far n)

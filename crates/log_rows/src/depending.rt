@@ -13,16 +13,31 @@ fn tx(session: u32) -> TxId {
     }
 }
 
+/// Makes a transaction a successor of these, for which it makes room.
+fn add_all(deps: &mut Deps, tx: TxId, preds: &[TxId]) -> Result<(), AllocError> {
+    deps.reserve_pairs(tx, preds)?;
+    deps.follow(tx, preds);
+    Ok(())
+}
+
 /// Makes a transaction a successor of another, for which it makes room.
 fn add(deps: &mut Deps, tx: TxId, pred: TxId) -> Result<(), AllocError> {
-    deps.reserve(1)?;
-    deps.add(tx, pred);
-    Ok(())
+    add_all(deps, tx, &[pred])
 }
 
 fn settle(deps: &mut Deps, pred: TxId, lsn: u64) -> Result<(), AllocError> {
     deps.reserve(1)?;
-    deps.settle(pred, lsn);
+    if deps.settled_at(pred).is_none() {
+        deps.settle(pred, lsn);
+    }
+    Ok(())
+}
+
+fn settle_found(deps: &mut Deps, pred: TxId, lsn: u64) -> Result<(), AllocError> {
+    deps.reserve_settled(1)?;
+    if deps.settled_at(pred).is_none() {
+        deps.settle_found(pred, lsn);
+    }
     Ok(())
 }
 
@@ -38,18 +53,38 @@ fn filled(alloc: Global) -> Result<Deps, AllocError> {
 #[test]
 fn predecessors_are_settled(rt: HostRuntime) -> Result<(), Fail> {
     let mut deps = filled(rt.alloc())?;
-    assert!(rt; deps.predecessors(tx(4)) == [(tx(4), tx(2)), (tx(4), tx(3))].as_slice());
-    assert!(rt; deps.predecessors(tx(3)) == [(tx(3), tx(1))].as_slice());
+    assert!(rt; deps.predecessors(tx(4)) == [tx(2), tx(3)].as_slice());
+    assert!(rt; deps.predecessors(tx(3)) == [tx(1)].as_slice());
     assert_eq!(rt; (deps.undecided(tx(4)), deps.due_lsn(tx(4))), (2, None));
     settle(&mut deps, tx(3), 9)?;
     assert_eq!(rt; (deps.undecided(tx(4)), deps.due_lsn(tx(4))), (1, None));
     settle(&mut deps, tx(2), 7)?;
     assert_eq!(rt; (deps.undecided(tx(4)), deps.due_lsn(tx(4))), (0, Some(9)));
+    add(&mut deps, tx(4), tx(3))?;
+    add(&mut deps, tx(5), tx(2))?;
+    assert_eq!(rt; (deps.undecided(tx(4)), deps.due_lsn(tx(4))), (0, Some(9)));
+    assert_eq!(rt; (deps.undecided(tx(5)), deps.due_lsn(tx(5))), (0, Some(7)));
+    deps.forget(tx(5));
     assert_eq!(rt; (deps.undecided(tx(5)), deps.due_lsn(tx(5))), (0, None));
     assert_eq!(rt;
         (deps.settled_at(tx(2)), deps.settled_at(tx(1))),
         (Some(7), None)
     );
+    Ok(())
+}
+
+#[test]
+fn many_are_followed_at_once(rt: HostRuntime) -> Result<(), Fail> {
+    let mut deps = Deps::new(rt.alloc())?;
+    add_all(&mut deps, tx(4), &[tx(3), tx(1), tx(3)])?;
+    add_all(&mut deps, tx(4), &[tx(2), tx(1)])?;
+    add_all(&mut deps, tx(3), &[])?;
+    assert!(rt; deps.predecessors(tx(4)) == [tx(1), tx(2), tx(3)].as_slice());
+    assert!(rt; deps.successors(tx(3)) == [tx(4)].as_slice());
+    assert!(rt; deps.predecessors(tx(3)).is_empty() && deps.successors(tx(4)).is_empty());
+    assert_eq!(rt; (deps.undecided(tx(4)), deps.undecided(tx(3))), (3, 0));
+    deps.forget(tx(4));
+    assert!(rt; deps.predecessors(tx(4)).is_empty() && deps.successors(tx(3)).is_empty());
     Ok(())
 }
 
@@ -85,15 +120,14 @@ fn what_is_reserved_is_told(rt: HostRuntime) -> Result<(), Fail> {
     let mut deps = Deps::new(rt.alloc())?;
     assert_eq!(rt; deps.room(), 0);
     deps.reserve(3)?;
-    deps.add(tx(2), tx(1));
-    assert_eq!(rt; deps.room(), 2);
+    add(&mut deps, tx(2), tx(1))?;
+    assert_eq!(rt; deps.room(), 3);
     deps.reserve(1)?;
+    assert_eq!(rt; deps.room(), 3);
+    settle(&mut deps, tx(1), 5)?;
     assert_eq!(rt; deps.room(), 2);
-    deps.settle(tx(1), 5);
-    assert_eq!(rt; deps.room(), 1);
     deps.trim(0);
-    deps.reserve_settled(1)?;
-    deps.settle_found(tx(3), 6);
+    settle_found(&mut deps, tx(3), 6)?;
     assert_eq!(rt; (deps.room(), deps.settled_at(tx(3))), (0, Some(6)));
     Ok(())
 }

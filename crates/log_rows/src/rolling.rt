@@ -83,8 +83,10 @@ fn record_at(buffer: &LogBuffer<LogRecord>, lsn: u64) -> Shown {
 }
 
 fn depends(deps: &mut Deps, session: u32, on: u32) -> Result<(), AllocError> {
-    deps.reserve(1)?;
-    deps.add(tx(session), tx(on));
+    let successor = tx(session);
+    let preds = [tx(on)];
+    deps.reserve_pairs(successor, &preds)?;
+    deps.follow(successor, &preds);
     Ok(())
 }
 

@@ -1,9 +1,12 @@
 -- Reading a log record by record, as the loop does.
-use Rattle.std.proofs.Common.{◌≡◌, ℕ, suc, ◌+◌, ◌<◌, ◌≤◌, Bool, true, false, List, [], ◌∷◌, ◌++◌, length, take, drop, get_or, Option, Some, slice_get, refl, sym, ap, subst, ◌∙◌, add-one, drop-cons, arith}
-use Rattle.std.proofs.lemmas.List.{take_more, length-take}
+use Rattle.std.proofs.Common.{◌≡◌, ℕ, suc, ◌+◌, ◌<◌, ◌≤◌, Bool, true, false, List, [], ◌∷◌, ◌++◌, length, take, drop, get_or, Option, Some, None, slice_get, refl, sym, ap, subst, ◌∙◌, add-one, drop-cons, arith}
+use Rattle.std.proofs.lemmas.List.{take_more, take_all, at_drop_all, length-take}
 use Rattle.std.proofs.lemmas.Option.{slice_get_read}
 use Rattle.clv_base.specs.declared.logs.LogRecord.{LogRecord}
+use Rattle.clv_base.specs.Orders.{Table}
 use Rattle.clv_base.specs.LogRules.{may_follow, disorder_from, disorder}
+use Rattle.log_analysis.specs.declared.facts.TxFacts.{TxFacts}
+use Rattle.log_analysis.specs.Facts.{Knows}
 use Rattle.log_rules.specs.declared.index.Index.{Index}
 use Rattle.log_rules.specs.Rules.{fits}
 use Rattle.log_rules.specs.Adding.{Adds}
@@ -57,3 +60,11 @@ module _ (shard : ℕ) (records : List LogRecord) (x : Index) (lsn : ℕ) (so_fa
         index = subst (IsIndexOf shard y) next grown;
         same = rw add-one (ap (λ (l : List LogRecord). disorder_from shard (suc lsn) l (drop (suc lsn) records)) (sym (next ∙ ap (λ (n : ℕ). take n records) (add-one lsn))) ∙ here true fit);
       }
+
+-- once all is read the log is in order, and the index has what it says
+module _ (shard : ℕ) (records : List LogRecord) (x : Index) (lsn : ℕ) (so_far : SoFar shard records x lsn) (over : length records ≤ lsn) where
+  pub in_order_to_end : disorder shard records ≡ None
+  in_order_to_end = sym so_far.same ∙ at_drop_all (disorder_from shard lsn (take lsn records)) records lsn over
+
+  pub known_to_end : (m : Table TxFacts) → m ≡ x.facts → Knows m records
+  known_to_end m is = subst (λ (t : Table TxFacts). Knows t records) (sym is) (subst (Knows x.facts) (take_all lsn records over) so_far.index.facts)

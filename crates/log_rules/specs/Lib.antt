@@ -4,3 +4,4 @@ pub mod Rules
 pub mod Adding
 pub mod Committed
 pub mod Agreement
+pub mod Order

@@ -4,6 +4,7 @@ ghost use Rattle.std.specs.Prelude.{◌≡◌, ◌<◌, map, length, slice_get, 
 ghost use Rattle.std.specs.List.{list_all};
 ghost use Rattle.clv_base.specs.Orders.{nat_in};
 ghost use Rattle.clv_base.specs.LogRules.{all_logs_from, any_log_from, agrees_at, is_home_of, first_apart, apart as apart_in};
+ghost use Rattle.log_analysis.specs.Facts.{KnowAll};
 ghost use Rattle.log_rules.specs.Agreement.{is_part_or_silent, agrees_on, commits_on};
 
 use crate::Memory;
@@ -11,14 +12,34 @@ use crate::committed::committed;
 use crate::indexed::IndexedLog;
 use clv_base::logs::LogRecord;
 use clv_base::names::TxId;
+use log_analysis::LogFacts;
 use std::alloc::Global;
 
-fn index_all<'a>(alloc: Global, logs: &'a [Vec<LogRecord>]) -> Result<Vec<IndexedLog<'a>>, Memory>
+// What each log says of each transaction.
+fn facts_of(alloc: Global, logs: &[Vec<LogRecord>]) -> Result<Vec<LogFacts>, Memory>
+    ensures { IfOk result (λ facts. KnowAll facts.items (map (λ l. l.items) logs.now)) }
+{
+    let mut facts = Vec::new(alloc);
+    for log in logs {
+        let known = LogFacts::of_log(alloc, log.as_slice())?;
+        facts.push(known)?;
+    }
+    Ok(facts)
+}
+
+// Each log with what it says.
+fn index_all<'a>(
+    alloc: Global,
+    logs: &'a [Vec<LogRecord>],
+    facts: &'a [LogFacts],
+) -> Result<Vec<IndexedLog<'a>>, Memory>
+    requires { KnowAll facts.now (map (λ l. l.items) logs.now) }
     ensures { IfOk result (λ indexed. indexed.items ≡ map (λ l. l.items) logs.now) }
 {
     let mut indexed = Vec::new(alloc);
-    for log in logs {
-        indexed.push(IndexedLog::new(alloc, log.as_slice())?)?;
+    for at in 0..logs.len() {
+        let known = IndexedLog::new(logs[at].as_slice(), &facts[at]);
+        indexed.push(known)?;
     }
     Ok(indexed)
 }
@@ -117,17 +138,31 @@ fn first_homeless(logs: &[IndexedLog], txs: &[TxId]) -> Option<TxId>
     None
 }
 
-/// The least transaction on which the logs disagree, the log of shard i at place i; none where they agree. They agree on a
-/// transaction that has a COMMIT where one shard is its home: its log has the COMMIT, and no PREPARE for another home; each
-/// other log with a record of it is that of a part of this COMMIT; each part's log has a PREPARE for this home, no ABORT,
-/// and the COMMITs of the predecessors that it lists; and where the home's log has an END, each part's log has a COMMIT.
+/// The least transaction on which the logs disagree, the log of shard i at place i, by what each says of each transaction; none
+/// where they agree. They agree on a transaction that has a COMMIT where one shard is its home: its log has the COMMIT, and no
+/// PREPARE for another home; each other log with a record of it is that of a part of this COMMIT; each part's log has a PREPARE for
+/// this home, no ABORT, and the COMMITs of the predecessors that it lists; and where the home's log has an END, each part's log has
+/// a COMMIT.
 ///
 /// `Memory` comes for want of memory alone. Takes time linear in the records and in what their PREPAREs list, times a
 /// logarithm and the number of logs.
-pub fn apart(alloc: Global, logs: &[Vec<LogRecord>]) -> Result<Option<TxId>, Memory>
+pub fn apart_by(
+    alloc: Global,
+    logs: &[Vec<LogRecord>],
+    facts: &[LogFacts],
+) -> Result<Option<TxId>, Memory>
+    requires { KnowAll facts.now (map (λ l. l.items) logs.now) }
     ensures { IfOk result (λ tx. tx ≡ apart_in (map (λ l. l.items) logs.now)) }
 {
     let txs = committed(alloc, logs)?;
-    let indexed = index_all(alloc, logs)?;
+    let indexed = index_all(alloc, logs, facts)?;
     Ok(first_homeless(indexed.as_slice(), txs.as_slice()))
+}
+
+/// The same of logs of which nothing is known yet.
+pub fn apart(alloc: Global, logs: &[Vec<LogRecord>]) -> Result<Option<TxId>, Memory>
+    ensures { IfOk result (λ tx. tx ≡ apart_in (map (λ l. l.items) logs.now)) }
+{
+    let facts = facts_of(alloc, logs)?;
+    apart_by(alloc, logs, &facts)
 }

@@ -52,4 +52,20 @@ impl<'a> Index<'a> {
             barring: TxSet::new(alloc),
         })
     }
+
+    // What the log says of each transaction; all else goes.
+    pub fn into_facts(self) -> LogFacts
+        ensures { result ≡ self.entry.facts }
+    {
+        let Index {
+            shard: _,
+            last: _,
+            restart_at: _,
+            facts,
+            writes: _,
+            listers: _,
+            barring: _,
+        } = self;
+        facts
+    }
 }

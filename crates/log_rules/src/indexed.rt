@@ -1,25 +1,23 @@
 // A log with an index.
 
-ghost use Rattle.std.specs.Prelude.{◌≡◌, ℕ, [], is_some, unwrap_or, IfOk};
+ghost use Rattle.std.specs.Prelude.{◌≡◌, ℕ, [], is_some, unwrap_or};
 ghost use Rattle.std.specs.List.{list_any, list_all};
 ghost use Rattle.clv_base.specs.Logs.{is_record_of, committed_in, ended_in, prepare_of, commit_parts};
 ghost use Rattle.clv_base.specs.LogRules.{home_is, listed_in, part_agrees};
-ghost use Rattle.log_analysis.specs.Facts.{facts_of};
+ghost use Rattle.log_analysis.specs.Facts.{Knows, facts_of};
 
-use crate::Memory;
 use clv_base::logs::LogRecord;
 use clv_base::names::TxId;
 use log_analysis::LogFacts;
 use log_analysis::facts::TxFacts;
 use log_analysis::lists::{home_at, listed_at, parts_at};
-use std::alloc::Global;
 use std::marker::Model;
 
 // A log with what it says of each transaction, seen as the log.
 #[derive(Drop)]
 pub struct IndexedLog<'a> {
     records: &'a [LogRecord],
-    facts: LogFacts,
+    facts: &'a LogFacts,
 }
 
 impl<'a> Model for IndexedLog<'a> {
@@ -31,17 +29,15 @@ impl<'a> Model for IndexedLog<'a> {
 
     ghost view = { λ i. i.records.now };
 
-    ghost invariant = { λ i. Knows i.facts i.records.now };
+    ghost invariant = { λ i. Knows i.facts.now i.records.now };
 }
 
 impl<'a> IndexedLog<'a> {
-    pub fn new(alloc: Global, records: &'a [LogRecord]) -> Result<Self, Memory>
-        ensures { IfOk result (λ i. i ≡ records.now) }
+    pub fn new(records: &'a [LogRecord], facts: &'a LogFacts) -> Self
+        requires { Knows facts.now records.now }
+        ensures { result ≡ records.now }
     {
-        Ok(IndexedLog {
-            records,
-            facts: LogFacts::of_log(alloc, records)?,
-        })
+        IndexedLog { records, facts }
     }
 
     fn says(&self, tx: TxId) -> TxFacts

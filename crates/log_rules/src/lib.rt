@@ -1,14 +1,16 @@
 //! The rules of logs: which record may follow which in one log, and whether the logs of all shards agree on each commit.
 //!
-//! `disorder` finds the first record of a log that breaks its rule. It reads the log once, with an index of what it read: what the log says of
-//! each transaction, the UPDATEs that stand, linked by key and by transaction, and who bars a RESTART. `apart` finds the least transaction that
-//! has no home in the logs, for every list of logs. It stands on the definitions of `clv_base` and on `log_analysis`.
+//! `in_order` finds the first record of a log that breaks its rule. It reads the log once, with an index of what it read: what the log says of
+//! each transaction, which it gives of a log in order, the UPDATEs that stand, linked by key and by transaction, and who bars a RESTART.
+//! `disorder` tells the place alone. `apart_by` finds the least transaction that has no home in the logs, for every list of logs, by what each
+//! says; `apart` asks each first. It stands on the definitions of `clv_base` and on `log_analysis`.
 
 #![tactic(auto)]
 
 mod adding;
 mod agreement;
 mod committed;
+mod error;
 mod index;
 mod indexed;
 mod listers;
@@ -16,8 +18,9 @@ mod order;
 mod rules;
 mod writes;
 
-pub use agreement::apart;
-pub use order::disorder;
+pub use agreement::{apart, apart_by};
+pub use error::OrderError;
+pub use order::{disorder, in_order};
 
 /// Want of memory.
 pub type Memory = std::alloc::AllocError;

@@ -1,29 +1,46 @@
 // The first record of a log that breaks its rule.
 
-ghost use Rattle.std.specs.Prelude.{◌≡◌, IfOk};
+ghost use Rattle.std.specs.Prelude.{◌≡◌, None, IfOk, IfErr, OnOk};
 ghost use Rattle.clv_base.specs.LogRules.{disorder as first_disorder};
+ghost use Rattle.log_analysis.specs.Facts.{Knows};
+ghost use Rattle.log_rules.specs.Order.{Refuses};
 
 use crate::Memory;
+use crate::error::OrderError;
 use crate::index::Index;
 use clv_base::logs::LogRecord;
-use std::alloc::Global;
+use log_analysis::LogFacts;
+use std::alloc::{AllocError, Global};
 
-/// The first LSN whose record breaks its rule, given the records before it; none where the log is in order on this shard.
-/// `Memory` comes for want of memory alone.
+/// What a log that is in order on this shard says of each transaction; else the first LSN whose record breaks its rule, given the records
+/// before it. `Memory` comes for want of memory alone.
 ///
 /// Each record takes some looks into hash maps and time logarithmic in the number of transactions, and a PREPARE and its
 /// COMMIT that for each transaction that it lists. Beside that a PREPARE takes, for each key that its transaction wrote over
-/// others' writes, one step for each transaction without a COMMIT that wrote the key before.
-pub fn disorder(alloc: Global, records: &[LogRecord], shard: u32) -> Result<Option<u64>, Memory>
-    ensures { IfOk result (λ lsn. lsn ≡ first_disorder shard records.now) }
+/// others' writes, one step for each transaction without a COMMIT that wrote the key before. Of what that needs the answer alone is kept.
+pub fn in_order(alloc: Global, records: &[LogRecord], shard: u32) -> Result<LogFacts, OrderError>
+    ensures in_order { OnOk result (first_disorder shard records.now ≡ None) }
+    ensures knows { IfOk result (λ facts. Knows facts records.now) }
+    ensures refused { IfErr result (Refuses shard records.now) }
 {
     let mut index = Index::new(alloc, shard, records)?;
     for lsn in 0..records.len() {
         let r = &records[lsn];
         if !index.takes(alloc, records, lsn, r)? {
-            return Ok(Some(lsn as u64));
+            return Err(OrderError::Breaks(lsn as u64));
         }
         index.add(alloc, lsn, r)?;
     }
-    Ok(None)
+    Ok(index.into_facts())
+}
+
+/// The first LSN whose record breaks its rule; none where the log is in order on this shard. Takes the time of `in_order`.
+pub fn disorder(alloc: Global, records: &[LogRecord], shard: u32) -> Result<Option<u64>, Memory>
+    ensures { IfOk result (λ lsn. lsn ≡ first_disorder shard records.now) }
+{
+    match in_order(alloc, records, shard) {
+        Ok(_facts) => Ok(None),
+        Err(OrderError::Breaks(lsn)) => Ok(Some(lsn)),
+        Err(OrderError::Memory) => Err(AllocError),
+    }
 }

@@ -6,6 +6,7 @@ ghost use Rattle.clv_base.specs.declared.logs.LogRecord.{LogRecord as Rec};
 ghost use Rattle.clv_base.specs.FileRules.{has_spelling};
 ghost use Rattle.clv_base.specs.LogRules.{disorder};
 ghost use Rattle.io_model.specs.Story.{Story};
+ghost use Rattle.log_analysis.specs.Facts.{Knows};
 ghost use Rattle.log_gate.specs.View.{Only};
 ghost use Rattle.machine_calls.specs.Recovered.{IsLeft, CountsLeft, IsMachineAt};
 
@@ -13,19 +14,23 @@ use crate::opened_disks::OverDisks;
 use crate::{Machine, Maker, Parts};
 use clv_base::logs::LogRecord;
 use io_model::Disk;
+use log_analysis::LogFacts;
 use log_gate::Gate;
 use ordered_store::Store;
 use shard_recovery::{RecoverError, recover};
 use std::alloc::Global;
 
-/// Recovers a shard from its log, which is in order, and makes its machine. What a restart adds to the log is durable at `Ok`. An `Err` gives the disk back.
+/// Recovers a shard from its log, which is in order, and of which it is known what it says of each transaction, and makes its machine. What a restart adds to
+/// the log is durable at `Ok`. An `Err` gives the disk back.
 pub fn recover_shard<D: Disk, M: OverDisks<D>>(
     alloc: Global,
     mut gate: M::Gate,
     log: Vec<LogRecord>,
+    facts: LogFacts,
     shard: u32,
     run: u32,
 ) -> Result<M, (RecoverError, D)>
+    requires knows { Knows facts log.items }
     requires shard { (shard < 16) × (M.Gate.shard gate ≡ shard) }
     requires run { 1 ≤ run }
     requires open { (M.Gate.is_shut gate ≡ false) × (M.Gate.faults gate ≡ 0) }
@@ -39,7 +44,7 @@ pub fn recover_shard<D: Disk, M: OverDisks<D>>(
     let Ok(mut store) = M::Store::empty(alloc) else {
         return Err((RecoverError::Memory, M::disk_under(gate)));
     };
-    match recover(alloc, &mut store, &mut gate, log, shard, run, 0) {
+    match recover(alloc, &mut store, &mut gate, log, facts, shard, run, 0) {
         Ok(recovered) => match M::new(alloc, gate, store, recovered, shard, run, 0) {
             Ok(machine) => Ok(machine),
             Err(gate) => Err((RecoverError::Memory, M::disk_under(gate))),

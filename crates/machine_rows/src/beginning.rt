@@ -6,6 +6,7 @@ ghost use Rattle.clv_base.specs.LogRules.{disorder};
 ghost use Rattle.log_gate.specs.View.{Only};
 
 use clv_base::logs::LogRecord;
+use log_analysis::LogFacts;
 use log_gate::Gate;
 use machine_calls::{Machine, Maker};
 use ordered_store::Store;
@@ -30,7 +31,10 @@ where
     let Ok(mut store) = M::Store::empty(alloc) else {
         return None;
     };
-    let Ok(recovered) = recover(alloc, &mut store, &mut gate, log, shard, 1, 0) else {
+    let Ok(facts) = LogFacts::of_log(alloc, &log) else {
+        return None;
+    };
+    let Ok(recovered) = recover(alloc, &mut store, &mut gate, log, facts, shard, 1, 0) else {
         return None;
     };
     M::new(alloc, gate, store, recovered, shard, 1, 0).ok()

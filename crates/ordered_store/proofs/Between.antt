@@ -5,7 +5,7 @@ use Rattle.std.proofs.Math.Seq.{take-length}
 use Rattle.std.specs.Ordering.{nat_cmp}
 use Rattle.std.specs.FinMap.{is_sorted}
 use Rattle.clv_base.specs.Needs.{Records, records_between}
-use Rattle.ordered_store.proofs.Laws.{rises_from}
+use Rattle.ordered_store.proofs.Rising.{rises_from}
 use Rattle.ordered_store.specs.declared.block.Block.{Block}
 use Rattle.ordered_store.specs.Records.{Under, Begins, Starts}
 use Rattle.ordered_store.specs.Blocks.{flat, Chain, Chained, reached, slot_of}

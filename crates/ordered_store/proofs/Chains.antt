@@ -10,8 +10,8 @@ use Rattle.std.specs.Map.{lookup}
 use Rattle.clv_base.specs.declared.modes.Anchor.{Anchor}
 use Rattle.clv_base.specs.declared.modes.Anchor.TheVariants.{Low, At}
 use Rattle.clv_base.specs.Needs.{Records, found_at, found_by, anchor_from, lower_anchor}
-use Rattle.ordered_store.proofs.Laws.{Above, Rises, rises_from, rises_to}
-use Rattle.ordered_store.proofs.Laws.{none_above}
+use Rattle.ordered_store.proofs.Rising.{Above, Rises, rises_from, rises_to}
+use Rattle.ordered_store.proofs.Finding.{none_above}
 use Rattle.ordered_store.specs.declared.block.Block.{Block}
 use Rattle.ordered_store.specs.Records.{Under, Begins}
 use Rattle.ordered_store.specs.Blocks.{flat, Chain, Chained, reached, passed, slot_of, slot_below}

@@ -7,12 +7,11 @@ use Rattle.std.specs.FinMap.{is_sorted}
 use Rattle.std.proofs.Math.Nat.{pow-le-pow_right}
 use Rattle.clv_base.specs.declared.modes.Found.TheVariants.{Absent}
 use Rattle.clv_base.specs.Needs.{Records, found_at, found_by}
-use Rattle.ordered_store.proofs.Laws.{Rises, rises_from}
+use Rattle.ordered_store.proofs.Rising.{Rises, rises_from, above_at}
 use Rattle.ordered_store.specs.declared.block.Block.{Block}
 use Rattle.ordered_store.specs.Records.{Under, Begins}
 use Rattle.ordered_store.specs.Blocks.{Chain, Chained, slot_of}
 use Rattle.ordered_store.proofs.Chains.{point_reached, reached_slot, rest_is}
-use Rattle.ordered_store.proofs.Rising.{above_at}
 
 -- ---- the rows of one block
 

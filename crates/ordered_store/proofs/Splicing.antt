@@ -10,7 +10,7 @@ use Rattle.std.specs.Ordering.{nat_cmp, match_ordering}
 use Rattle.std.specs.FinMap.{is_sorted}
 use Rattle.std.proofs.lemmas.Bool.Decides.{nat_tests}
 use Rattle.clv_base.specs.Needs.{Records, found_at, record_set}
-use Rattle.ordered_store.proofs.Laws.{Above, Rises, rises_from, rises_to}
+use Rattle.ordered_store.proofs.Rising.{Above, Rises, rises_from, rises_to}
 use Rattle.ordered_store.specs.declared.block.Block.{Block}
 use Rattle.ordered_store.specs.Records.{Under, Begins, Starts}
 use Rattle.ordered_store.specs.Blocks.{flat, Chain, Chained, Leads, Sized, Empties, excess, room_of, reached, slot_of}

@@ -6,7 +6,7 @@ ghost use Rattle.std.specs.FinMap.{is_sorted};
 ghost use Rattle.clv_base.specs.Needs.{found_at, is_there, value_at, record_set};
 ghost use Rattle.ordered_store.specs.Records.{Begins, Starts};
 
-use crate::block_rows::{self as rows, Row};
+use crate::rows::{self, Row};
 
 /// How many records a block may have. It has room for one more.
 pub(crate) const MOST: usize = 64;

@@ -4,7 +4,7 @@ ghost use Rattle.clv_base.specs.Needs.{found_at, lower_anchor};
 ghost use Rattle.ordered_store.specs.Blocks.{Chained, flat, slot_of, slot_below};
 
 use crate::block::Block;
-use crate::block_rows as rows;
+use crate::rows;
 use clv_base::modes::{Anchor, Found};
 
 /// Which block has the place of a key.

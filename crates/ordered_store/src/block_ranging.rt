@@ -5,7 +5,7 @@ ghost use Rattle.ordered_store.specs.Blocks.{Chained, flat};
 
 use crate::block::Block;
 use crate::block_finding::slot;
-use crate::block_rows as rows;
+use crate::rows;
 use clv_base::modes::Found;
 use std::alloc::{AllocError, Global};
 

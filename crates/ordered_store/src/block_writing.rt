@@ -9,7 +9,7 @@ ghost use Rattle.ordered_store.specs.Blocks.{Chain, Chained, Sized, Empties, exc
 
 use crate::block::{Block, MOST, cut_off, put_in, take_out};
 use crate::block_finding::slot;
-use crate::block_rows::Row;
+use crate::rows::Row;
 
 /// Puts a value or a ghost at a key, and gives the live value before. The 65th record cuts the block, and the upper part is given.
 fn put_and_cut(

@@ -6,7 +6,7 @@ ghost use Rattle.clv_base.specs.Needs.{found_at};
 ghost use Rattle.ordered_store.specs.Blocks.{Chained, Sized, flat, slot_of};
 
 use crate::block::Block;
-use crate::block_rows::{Row, found};
+use crate::rows::{Row, found};
 use crate::search::search;
 use crate::steps::Steps;
 use clv_base::modes::Found;

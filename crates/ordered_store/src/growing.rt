@@ -3,7 +3,7 @@ ghost use Rattle.std.specs.Prelude.{◌≡◌, ◌≤◌, ◌<◌, ◌+◌, ◌/
 ghost use Rattle.ordered_store.specs.Blocks.{Empties, Sized, room_of};
 
 use crate::block::{Block, MOST};
-use crate::block_rows::Row;
+use crate::rows::Row;
 use std::alloc::{AllocError, Global};
 
 /// How many cuts so many new keys can make in so many blocks, and one more.

@@ -7,7 +7,6 @@
 mod block;
 mod block_finding;
 mod block_ranging;
-mod block_rows;
 mod block_store;
 mod block_writing;
 mod counting;

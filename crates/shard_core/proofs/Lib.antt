@@ -8,6 +8,7 @@ pub mod Requested
 pub mod Flying
 pub mod Committing
 pub mod Replied
+pub mod Granting
 pub mod Operated
 pub mod Putting
 pub mod Placing

@@ -1,5 +1,5 @@
 -- The parts that a restart leaves are the protocol's state after it, at rest, and hold together.
-use Rattle.std.proofs.Common.{◌≡◌, refl, sym, ap, subst, ◌∙◌, ℕ, ◌+◌, ◌*◌, ◌≤◌, ◌==◌, ◌-◌, Bool, true, false, Some, None, List, [], ◌∷◌, length, drop, eq-eqb, arith}
+use Rattle.std.proofs.Common.{◌≡◌, refl, sym, ap, subst, ◌∙◌, ℕ, ◌+◌, ◌*◌, ◌≤◌, ◌==◌, Bool, true, false, Some, None, List, [], ◌∷◌, length, drop, eq-eqb, arith}
 use Rattle.std.proofs.Math.Seq.{drop-length}
 use Rattle.std.proofs.lemmas.Bool.{both_ways, cond-true}
 use Rattle.std.proofs.lemmas.List.{length-map}
@@ -8,12 +8,11 @@ use Rattle.clv_base.specs.declared.names.TxId.{TxId}
 use Rattle.clv_base.specs.declared.logs.LogRecord.{LogRecord}
 use Rattle.clv_base.specs.Orders.{Table, tx_cmp, tx_in}
 use Rattle.clv_base.specs.Logs.{in_doubt, prepare_lsn}
-use Rattle.clv_base.specs.State.{Shard, Local, with_local}
+use Rattle.clv_base.specs.State.{Shard, Local}
 use Rattle.clv_base.specs.Due.{total, part_work}
-use Rattle.clv_base.specs.declared.state.Held.{Held}
 use Rattle.clv_base.specs.Coordinator.{restored_request, restored_requests}
 use Rattle.clv_base.specs.Participant.{restored_voter, restored_voters}
-use Rattle.clv_base.specs.Restarts.{restored_part, restored_parts, homes_of, unended_in, local_after, state_after}
+use Rattle.clv_base.specs.Restarts.{restored_parts, homes_of, unended_in, local_after, state_after}
 use Rattle.two_phase_commit.specs.Unended.{UnendedRise}
 use Rattle.protocol_laws.specs.Depending.{DependentsHaveParts, RestartsHaveParts}
 use Rattle.protocol_laws.specs.Left.{is_finished, is_idle, left_voter, left_request, total_by, left}
@@ -23,7 +22,7 @@ use Rattle.due_step.specs.Noting.{known_keys}
 use Rattle.due_step.specs.Steps.{ArePrepares}
 use Rattle.protocol_laws.specs.Resting.{RestartsEndAtRest}
 use Rattle.txn_core.specs.Sound.{HasSpare}
-use Rattle.shard_core.specs.Core.{Core, flight_by}
+use Rattle.shard_core.specs.Core.{flight_by}
 use Rattle.shard_core.specs.Whole.{HasRoom, AreKnown, IsAtRest}
 use Rattle.shard_core.proofs.Logged.{All}
 use Rattle.shard_core.proofs.Seeing.{same_shard}

@@ -15,25 +15,26 @@ use Rattle.clv_base.specs.Logs.{prepare_lsn}
 use Rattle.clv_base.specs.Needs.{writes_of, value_at, key_of}
 use Rattle.clv_base.specs.declared.causes.AbortCause.{AbortCause}
 use Rattle.clv_base.specs.declared.state.Stage.{Stage}
-use Rattle.clv_base.specs.State.{Shard, Local, is_present}
+use Rattle.clv_base.specs.State.{Shard, Local, is_present, with_local}
 use Rattle.clv_base.specs.Undo.{stage_of, doomed_by, doomed_here}
 use Rattle.clv_base.specs.OneShard.{OpReply, OpDies, OpAnswers, op_reply, new_part, active_part, written, locked, performed, rolled_back_if, without_part, purge}
 use Rattle.clv_base.specs.Events.{finish}
 use Rattle.clv_base.specs.Due.{total, part_work}
-use Rattle.clv_base.proofs.SameNames.{or_left, or_right, tx_true}
+use Rattle.clv_base.proofs.SameNames.{or_left, or_right}
+use Rattle.protocol_laws.specs.Candidates.{Cover}
 use Rattle.protocol_laws.specs.Depending.{HasPart}
-use Rattle.protocol_laws.proofs.Laws.{operations_touch, performed_keeps, without_keeps, put_keeps, put_has, get_has}
+use Rattle.protocol_laws.proofs.Laws.{operations_touch, performed_keeps, without_keeps, put_keeps}
 use Rattle.tx_table.specs.Held.{Candidates}
 use Rattle.due_step.specs.Noting.{known_keys}
 use Rattle.txn_core.specs.State.{TxState, IsSameBut}
 use Rattle.txn_core.specs.Replies.{Replies}
 use Rattle.txn_core.specs.declared.op.Reply.{Reply}
 use Rattle.txn_core.specs.declared.op.Reply.TheVariants.{Answered, Dead, Wait, Crowded}
-use Rattle.txn_core.specs.Sound.{KeepsSpare}
+use Rattle.txn_core.specs.Sound.{may_work, KeepsSpare}
 use Rattle.due_step.specs.Ready.{IsReady}
 use Rattle.shard_core.specs.Operating.{StayBy, Comes, Ends}
 use Rattle.shard_core.specs.Whole.{IsAtRest}
-use Rattle.shard_core.proofs.Seeing.{single, part_known, doomed_known}
+use Rattle.shard_core.proofs.Seeing.{single, doomed_known}
 use Rattle.shard_core.proofs.Logged.{All, logged_more, logged_known, logged_without}
 use Rattle.shard_core.proofs.Changing.{room_kept, without_le, cover_purged}
 use Rattle.clv_base.specs.declared.state.Request.{Request}
@@ -42,6 +43,7 @@ use Rattle.protocol_laws.proofs.Laws.{performed_le}
 use Rattle.shard_core.proofs.Taking.{here_in, without_keys, without_prepares, stage_known, known_doomed}
 use Rattle.shard_core.proofs.Committing.{idle_holds, idle_ready}
 use Rattle.shard_core.proofs.Replied.{Leaves, reply_leaves}
+use Rattle.shard_core.proofs.Granting.{grant_covers}
 use Rattle.shard_core.proofs.Parts.{Parts, seen, viewed, Holds, Changed, changed, covered, AreKept}
 use Rattle.law_base.proofs.Bools.{or_none}
 use Rattle.law_base.proofs.Stages.{written_parts}
@@ -73,12 +75,11 @@ stage_in o = is_some (elim o [ Some h ↦ Some h.stage | None ↦ None ])
 record New (tx : TxId) (parts more : Table Held) (known : Bool) : Type 0 where
   pub work : total part_work more ≤ total part_work parts
   pub count : length more ≤ length parts + cond known 0 1
-  pub own : HasPart more tx
   pub stay : (x : TxId) → HasPart parts x → HasPart more x
 
 new_is : (tx : TxId) (birth : Birth) (parts : Table Held) (o : Option Held) → tx_get tx parts ≡ o → New tx parts (new_part tx birth o parts) (stage_in o)
-new_is tx birth parts None e = record { work = put_le tx birth parts; count = put_length tx (active_part birth) parts; own = put_has tx (active_part birth) parts; stay = λ x h. put_keeps tx (active_part birth) x parts h }
-new_is tx birth parts (Some h) e = record { work = omega arith; count = omega arith; own = get_has tx h parts e; stay = λ x i. i }
+new_is tx birth parts None e = record { work = put_le tx birth parts; count = put_length tx (active_part birth) parts; stay = λ x h. put_keeps tx (active_part birth) x parts h }
+new_is tx birth parts (Some h) e = record { work = omega arith; count = omega arith; stay = λ x i. i }
 
 performed_new : (tx : TxId) (birth : Birth) (op : Op) (l : Local) → New tx l.parts (performed tx birth op l).parts (is_some (stage_of l tx))
 performed_new tx birth op l =
@@ -111,24 +112,23 @@ in_more x ks ms rest h e = ⊎_elim (λ i. first ms (h x i)) (λ i. second ms i)
 
 -- ---- a grant
 
-pub granted_changed : (a : Parts) (tx : TxId) (birth : Birth) (op : Op) (u : TxState) (f : Candidates) → IsAtRest (viewed a) → Holds a → (is_some (stage_of a.transactions.local tx) ≡ false → tx_get tx a.coordinator.requests ≡ None) → IsSameBut a.transactions (purge (performed tx birth op a.transactions.local)) u → f.txs ≡ tx ∷ []
+pub granted_changed : (a : Parts) (tx : TxId) (birth : Birth) (op : Op) (u : TxState) (f : Candidates) → IsAtRest (viewed a) → Holds a → (is_some (stage_of a.transactions.local tx) ≡ false → tx_get tx a.coordinator.requests ≡ None) → may_work (stage_of a.transactions.local tx) ≡ true → IsSameBut a.transactions (purge (performed tx birth op a.transactions.local)) u → f.txs ≡ []
     → f.limit ≡ a.candidates.limit + cond (is_some (stage_of a.transactions.local tx)) 0 1 → KeepsSpare a.transactions u → a.transactions.pairs_room ≤ u.pairs_room → AreKept (record a { transactions = u; candidates = f })
     → Changed (record a { transactions = u; candidates = f }) (record (seen a) { local = performed tx birth op a.transactions.local })
-granted_changed a tx birth op u f rest whole fresh e put limit room pairs kept =
+granted_changed a tx birth op u f rest whole fresh work e put limit room pairs kept =
     let s : Shard = seen a in let t = a.transactions in let l = t.local in let V : Shard = record s { local = performed tx birth op l } in let b : Parts = record a { transactions = u; candidates = f } in
     let new = performed_new tx birth op l in let count = new.count in let places = whole.candidates.places in
     let w = writes_of op (value_at (key_of op) l.records) in
     let stay = λ (x : TxId) (i : tx_in x (known_keys s) ≡ true). in_more x (keys_of l.parts) (keys_of V.local.parts) (keys_of s.voters ++ keys_of s.requests) new.stay i in
-    changed a b V (tx ∷ []) rest whole
+    covered a b V whole
     (ap (λ (x : TxState). seen (record a { transactions = x })) e)
-    (operations_touch.0 s tx birth op)
-    (λ x i. ap (tx_in x) put ∙ i)
+    (subst (λ (xs : List TxId). Cover xs (with_local purge V)) (sym put) (cover_purged V [] (grant_covers s tx birth op work rest.ready.cover)))
     (record { shard = refl; transactions = ap (λ (x : TxState). x.shard) e; participant = refl; coordinator = refl })
     (λ x. whole.prepares x ∙ sym (written_prepares tx w (locked tx birth op l) x) ∙ ap (λ (y : TxState). prepare_lsn (y.local).log x) (sym e))
     (performed_keeps tx birth op l whole.dependents)
     (subst (λ (x : TxState). All (known_keys V) (drop x.durable (x.local).log)) (sym e) (written_logged (known_keys V) t.durable tx w (locked tx birth op l) (logged_known (known_keys s) (known_keys V) stay (drop t.durable l.log) whole.logged)))
     (record {
-      known = λ x i. part_known V x (subst (HasPart V.local.parts) (tx_true tx x (⊎_elim (λ h. h) (λ h. absurd (both_ways false refl h)) (or_cases (tx_same tx x) false (sym (ap (tx_in x) put) ∙ i)))) new.own);
+      known = λ x i. absurd (both_ways false refl (sym (ap (tx_in x) put) ∙ i));
       places = omega (arith, count, places, limit);
     })
     (room_kept s V t u a.outbox a.outbox (performed_le s tx birth op rest.ready.requests new.work fresh) room pairs (omega arith) whole.room)
@@ -235,11 +235,11 @@ module _ (a : Parts) (tx : TxId) (birth : Birth) (seen_epoch : Option ℕ) (op :
           by true here = subst (λ (l : Local). Changed after (record (seen a) { local = l })) (sym h) (dying_changed a tx u f rest whole here (subst (λ (l : Local). IsSameBut a.transactions (purge l) u) h e) put limit room pairs kept)
           by false gone = same (h ∙ nothing_there tx a.transactions.local gone)
 
-  pub operated : (r : Reply) → Replies reply a.transactions r u → (noted : Candidates) × ((x : TxId) → tx_in x noted.txs ≡ noted_by a.transactions.local tx x) × StayBy tx r noted.txs f.txs → Operated a after reply r
+  pub operated : (r : Reply) → Replies reply a.transactions r u → (noted : Candidates) × ((x : TxId) → tx_in x noted.txs ≡ noted_by a.transactions.local tx x) × StayBy r noted.txs f.txs → Operated a after reply r
   operated (Answered answer copy epoch) x n =
       let is = leaves (OpAnswers answer x.0) x.1 in
-      let c = granted_changed a tx birth op u f rest whole fresh (subst (λ (l : Local). IsSameBut a.transactions (purge l) u) is x.3) n.2 limit room pairs kept in
-      record { whole = c.whole; ready = c.ready; comes = (x.0, x.1, x.2, c.finished ∙ ap (λ (l : Local). finish (record (seen a) { local = l })) (sym is), x.4) }
+      let c = granted_changed a tx birth op u f rest whole fresh is.1 (subst (λ (l : Local). IsSameBut a.transactions (purge l) u) is.0 x.3) n.2 limit room pairs kept in
+      record { whole = c.whole; ready = c.ready; comes = (x.0, x.1, x.2, c.finished ∙ ap (λ (l : Local). finish (record (seen a) { local = l })) (sym is.0), x.4) }
   operated (Dead cause) x n =
       let c = dead cause x.0 x.1 x.2 (λ y. ap (tx_in y) n.2 ∙ n.1 y) in
       record { whole = c.whole; ready = c.ready; comes = (x.0, x.1, c.finished) }

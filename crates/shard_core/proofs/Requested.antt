@@ -1,5 +1,5 @@
 -- One request changes, with no more left to do.
-use Rattle.std.proofs.Common.{◌≡◌, refl, sym, ap, subst, ◌∙◌, ⊎_elim, ℕ, ◌+◌, ◌≤◌, Bool, true, false, ◌&&◌, is_none, List, [], ◌∷◌, ◌++◌, length, length-append, drop, ◌*◌, Option, Some, None, arith}
+use Rattle.std.proofs.Common.{◌≡◌, refl, sym, ap, subst, ◌∙◌, ⊎_elim, ℕ, ◌≤◌, Bool, true, false, ◌&&◌, is_none, List, [], ◌∷◌, ◌++◌, length, length-append, drop, Option, Some, None, arith}
 use Rattle.std.proofs.lemmas.Bool.{both_ways, or_cases, and_parts, cond-true}
 use Rattle.std.specs.List.Sorted.{IsStrictlySortedBy}
 use Rattle.std.specs.Map.{keys_of}
@@ -21,10 +21,9 @@ use Rattle.shard_core.proofs.Changing.{room_kept}
 use Rattle.tx_table.specs.Held.{Candidates, HasRoomFor}
 use Rattle.due_step.specs.Noting.{known_keys}
 use Rattle.due_step.proofs.Laws.{keys_length}
-use Rattle.txn_core.specs.Sound.{HasSpare}
 use Rattle.two_phase_commit.specs.Coordinated.{Coordination, counts_by, done_by, requests_with, requests_done}
 use Rattle.shard_core.specs.Replying.{vote_taken, done_taken}
-use Rattle.shard_core.specs.Whole.{HasRoom, AreKnown, IsAtRest}
+use Rattle.shard_core.specs.Whole.{AreKnown, IsAtRest}
 use Rattle.shard_core.proofs.Logged.{logged_known}
 use Rattle.shard_core.proofs.Parts.{Parts, seen, viewed, Holds, Changed, changed, AreKept}
 use Rattle.law_base.proofs.Names.{has_key as get_key, in_second}

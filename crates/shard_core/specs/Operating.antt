@@ -1,5 +1,5 @@
 -- What an operation is answered by the core, before what is due then is done.
-use Rattle.std.specs.Prelude.{◌≡◌, List, [], ◌∷◌}
+use Rattle.std.specs.Prelude.{◌≡◌, List, []}
 use Rattle.clv_base.specs.declared.names.TxId.{TxId}
 use Rattle.clv_base.specs.State.{Local, Shard}
 use Rattle.clv_base.specs.OneShard.{OpReply, OpWaits, OpCrowded, OpDies, OpAnswers}
@@ -7,12 +7,12 @@ use Rattle.clv_base.specs.Events.{finish}
 use Rattle.txn_core.specs.declared.op.Reply.{Reply}
 use Rattle.txn_core.specs.declared.op.Reply.TheVariants.{Answered, Dead, Wait, Crowded}
 
--- of those that were noted for a death: none stays but after a death, and who was answered is one
-abbrev pub StayBy : TxId → Reply → List TxId → List TxId → Type 0
-StayBy tx (Answered answer copy epoch) before after = after ≡ tx ∷ []
-StayBy tx (Dead cause) before after = after ≡ before
-StayBy tx (Wait younger) before after = after ≡ []
-StayBy tx (Crowded count) before after = after ≡ []
+-- those that were noted for a death stay after a death alone
+abbrev pub StayBy : Reply → List TxId → List TxId → Type 0
+StayBy (Answered answer copy epoch) before after = after ≡ []
+StayBy (Dead cause) before after = after ≡ before
+StayBy (Wait younger) before after = after ≡ []
+StayBy (Crowded count) before after = after ≡ []
 
 -- the protocol's reply is this one, and what comes of the state in the end is what comes of the reply's; a quiet answer changes nothing
 abbrev pub Comes : OpReply → Shard → Reply → Shard → Type 0

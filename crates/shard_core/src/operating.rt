@@ -1,5 +1,5 @@
 //! Operations.
-ghost use Rattle.std.specs.Prelude.{◌≡◌, ◌≤◌, ◌<◌, ◌+◌, ◌&&◌, [], true, false, cond, length, is_none, is_some, IfOk, OnOk, OnErr};
+ghost use Rattle.std.specs.Prelude.{◌≡◌, ◌≤◌, ◌+◌, ◌&&◌, [], true, false, cond, length, is_none, is_some, IfOk, OnOk, OnErr};
 ghost use Rattle.std.specs.List.Sorted.{IsStrictlySortedBy};
 ghost use Rattle.clv_base.specs.declared.names.TxId.{TxId as Tx};
 ghost use Rattle.clv_base.specs.FileRules.{tx_has_spelling};
@@ -18,6 +18,7 @@ ghost use Rattle.shard_core.specs.Whole.{IsAtRest};
 use crate::shard::ShardCore;
 use clv_base::names::{Birth, TxId};
 use clv_base::ops::Op;
+use clv_base::state::Stage;
 use due_step::settle_due;
 use lock_table::Locks;
 use ordered_store::Store;
@@ -26,21 +27,22 @@ use tx_table::Candidates;
 use txn_core::{Memory, Reply, ShardTx};
 
 /// Those whom the death of the transaction takes away are candidates, where its part is known; else there is room for one more that is known.
+/// `stage` is how far the part is.
 fn note_dying<S: Store + Drop, L: Locks + Drop>(
+    stage: Option<Stage>,
     tx: TxId,
     transactions: &mut ShardTx<S, L>,
     candidates: &mut Candidates,
 ) -> Result<(), Memory>
+    requires stage { stage ≡ stage_in transactions.old.local tx }
     requires none { candidates.old.txs ≡ [] }
     requires room { is_some (stage_in transactions.old.local tx) ≡ true → HasRoomBy (λ t. tx_in t (doomed_by transactions.old.local tx)) candidates.old }
-    requires seat { is_some (stage_in transactions.old.local tx) ≡ true → 0 < candidates.old.limit }
     ensures same { transactions.new ≡ transactions.old }
     ensures txs { OnOk result ((x : Tx) → tx_in x candidates.new.txs ≡ cond (is_some (stage_in transactions.old.local tx)) (tx_in x (doomed_by transactions.old.local tx)) false) }
     ensures limit { OnOk result (candidates.new.limit ≡ candidates.old.limit + cond (is_some (stage_in transactions.old.local tx)) 0 1) }
-    ensures seat { OnOk result (0 < candidates.new.limit) }
     ensures err { OnErr result (candidates.new ≡ candidates.old) }
 {
-    if transactions.stage_of(tx).is_some() {
+    if stage.is_some() {
         transactions.note_doomed(tx, candidates);
         return Ok(());
     }
@@ -50,25 +52,21 @@ fn note_dying<S: Store + Drop, L: Locks + Drop>(
     }
 }
 
-/// After the answer who may have something due stays a candidate.
-fn keep_noted(tx: TxId, reply: &Reply, candidates: &mut Candidates)
-    requires { 0 < candidates.old.limit }
-    ensures stay { StayBy tx reply.now candidates.old.txs candidates.new.txs }
+/// After the answer who may have something due stays a candidate. What is granted makes nothing due: its part is active.
+fn keep_noted(reply: &Reply, candidates: &mut Candidates)
+    ensures stay { StayBy reply.now candidates.old.txs candidates.new.txs }
     ensures limit { candidates.new.limit ≡ candidates.old.limit }
 {
     match reply {
-        Reply::Answered { .. } => {
-            candidates.clear();
-            candidates.insert(tx);
-        }
         Reply::Dead(_) => {}
-        Reply::Wait { .. } | Reply::Crowded { .. } => candidates.clear(),
+        Reply::Answered { .. } | Reply::Wait { .. } | Reply::Crowded { .. } => candidates.clear(),
     }
 }
 
-/// The operation, with those noted for whom something may be due then.
+/// The operation, with those noted for whom something may be due then; `stage` is how far the part is.
 fn op_noted<S: Store + Drop, L: Locks + Drop>(
     alloc: Global,
+    stage: Option<Stage>,
     tx: TxId,
     birth: Birth,
     seen: Option<u64>,
@@ -76,12 +74,12 @@ fn op_noted<S: Store + Drop, L: Locks + Drop>(
     transactions: &mut ShardTx<S, L>,
     candidates: &mut Candidates,
 ) -> Result<Reply, Memory>
+    requires stage { stage ≡ stage_in transactions.old.local tx }
     requires none { candidates.old.txs ≡ [] }
     requires room { is_some (stage_in transactions.old.local tx) ≡ true → HasRoomBy (λ t. tx_in t (doomed_by transactions.old.local tx)) candidates.old }
-    requires seat { is_some (stage_in transactions.old.local tx) ≡ true → 0 < candidates.old.limit }
     requires name { tx_has_spelling tx ≡ true }
     ensures ok { IfOk result (λ r. Replies (op_reply transactions.old.shard transactions.old.local tx birth seen op) transactions.old r transactions.new) }
-    ensures stay { IfOk result (λ r. (noted : Held) × ((x : Tx) → tx_in x noted.txs ≡ cond (is_some (stage_in transactions.old.local tx)) (tx_in x (doomed_by transactions.old.local tx)) false) × StayBy tx r noted.txs candidates.new.txs) }
+    ensures stay { IfOk result (λ r. (noted : Held) × ((x : Tx) → tx_in x noted.txs ≡ cond (is_some (stage_in transactions.old.local tx)) (tx_in x (doomed_by transactions.old.local tx)) false) × StayBy r noted.txs candidates.new.txs) }
     ensures limit { OnOk result (candidates.new.limit ≡ candidates.old.limit + cond (is_some (stage_in transactions.old.local tx)) 0 1) }
     ensures err { OnErr result (IsSameBut transactions.old transactions.old.local transactions.new) }
     ensures clear { OnErr result (candidates.new.txs ≡ []) }
@@ -95,11 +93,11 @@ fn op_noted<S: Store + Drop, L: Locks + Drop>(
 {
     transactions.kept();
     let _least = candidates.first();
-    match note_dying(tx, transactions, candidates) {
+    match note_dying(stage, tx, transactions, candidates) {
         Ok(()) => {}
         Err(memory) => return Err(memory),
     }
-    let reply = match transactions.op(alloc, tx, birth, seen, op) {
+    let reply = match transactions.op_of(alloc, stage, tx, birth, seen, op) {
         Ok(reply) => reply,
         Err(memory) => {
             candidates.clear();
@@ -108,18 +106,20 @@ fn op_noted<S: Store + Drop, L: Locks + Drop>(
             return Err(memory);
         }
     };
-    keep_noted(tx, &reply, candidates);
+    keep_noted(&reply, candidates);
     transactions.kept();
     let _least = candidates.first();
     Ok(reply)
 }
 
 impl<S: Store + Drop, L: Locks + Drop> ShardCore<S, L> {
-    /// Whether a request of the transaction stands and no part of it is known here. For a part that begins after its request there is no room.
-    fn is_late(&self, tx: TxId) -> bool
+    /// Whether a request of the transaction stands and no part of it is known here; `stage` is how far that is. For a part that begins after its
+    /// request there is no room.
+    fn is_late(&self, stage: Option<Stage>, tx: TxId) -> bool
+        requires { stage ≡ stage_in (self.now.shard).local tx }
         ensures { result ≡ (is_none (stage_in (self.now.shard).local tx) && is_some (state_by (tx_get tx (self.now.shard).requests))) }
     {
-        self.transactions.stage_of(tx).is_none() && self.coordinator.state_of(tx).is_some()
+        stage.is_none() && self.coordinator.state_of(tx).is_some()
     }
 
     /// An operation, before what is due then is done. A quiet answer leaves the shard as it was, and so does want of memory.
@@ -137,11 +137,13 @@ impl<S: Store + Drop, L: Locks + Drop> ShardCore<S, L> {
         ensures ok { IfOk result (λ r. Comes (op_reply (self.old.shard).shard (self.old.shard).local tx birth seen op) self.old.shard r self.new.shard) }
         ensures err { OnErr result (self.new.shard ≡ self.old.shard) }
     {
-        if self.is_late(tx) {
+        let stage = self.stage_of(tx);
+        if self.is_late(stage, tx) {
             return Err(Memory);
         }
         let reply = match op_noted(
             alloc,
+            stage,
             tx,
             birth,
             seen,

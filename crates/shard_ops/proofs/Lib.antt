@@ -4,3 +4,4 @@ pub mod Planned
 pub mod Purged
 pub mod Giving
 pub mod Laws
+pub mod Entering

@@ -1,5 +1,5 @@
 -- What is told of a range's records is told of the records.
-use Rattle.std.proofs.Common.{◌≡◌, ℕ, List, [], ◌∷◌, map, Option, Some, None, refl, ap}
+use Rattle.std.proofs.Common.{◌≡◌, ℕ, List, [], ◌∷◌, map, Some, None, refl, ap}
 use Rattle.std.specs.List.{filter_map}
 use Rattle.clv_base.specs.declared.modes.Part.TheVariants.{S}
 use Rattle.clv_base.specs.declared.modes.Anchor.TheVariants.{At}

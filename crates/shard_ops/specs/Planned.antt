@@ -11,6 +11,8 @@ use Rattle.clv_base.specs.Needs.{Records, found_at, lower_anchor, need, key_of, 
 use Rattle.shard_ops.specs.declared.plan.Insert.{Insert}
 use Rattle.shard_ops.specs.declared.plan.Write.{Write}
 use Rattle.shard_ops.specs.declared.plan.Plan.{Plan}
+use Rattle.shard_ops.specs.declared.plan.Needs.{Needs}
+use Rattle.shard_ops.specs.declared.plan.Needs.TheVariants.{One, Several}
 
 -- a lock on the record at the key, where there is one, else on the gap of the anchor below
 abbrev pub lock_at : ℕ → Records → Part → Part → Found → Need
@@ -43,9 +45,14 @@ write_by (Some w) = Some (record { key = w.0; before = w.1; after = w.2 })
 abbrev pub write_of : Op → Records → Option Write
 write_of op rs = write_by (writes_of op (value_at (key_of op) rs))
 
+-- the locks, in order
+abbrev pub needed : Needs → List Need
+needed (One n) = n ∷ []
+needed (Several ns) = ns.items
+
 -- what an operation needs, answers, inserts and writes
 pub record IsPlanOf (op : Op) (rs : Records) (p : Plan) : Type 0 where
-  pub needs : p.needs.items ≡ needs_of op rs
+  pub needs : needed p.needs ≡ needs_of op rs
   pub answer : p.answer ≡ answer_of op rs
   pub insert : p.insert ≡ insert_of op rs
   pub write : p.write ≡ write_of op rs

@@ -8,7 +8,6 @@
 
 #![tactic(auto)]
 
-mod dependencies;
 mod locks;
 mod meeting;
 mod needs;
@@ -24,12 +23,11 @@ mod scan;
 mod tests;
 mod writes;
 
-pub use dependencies::add_predecessors;
 pub use lock_table::Memory;
 pub use locks::{reserve_locks, take_locks};
 pub use meeting::{CROWD, Meeting, meet};
 pub use parts::enter_part;
 pub use performed::performed_by_plan;
-pub use plan::{Insert, Plan, Write, plan_of};
+pub use plan::{Insert, Needs, Plan, Write, plan_of};
 pub use releasing::release_all;
 pub use writes::write_down;

@@ -12,6 +12,7 @@ use clv_base::modes::{Anchor, Mode, Need, Part};
 use clv_base::names::{Birth, TxId};
 use lock_table::{Locks, Memory, takes_few_gaps};
 use std::alloc::{AllocError, Global};
+use std::slice::from_ref;
 
 /// Puts the anchors of the needs behind the others.
 fn push_anchors(anchors: &mut Vec<Anchor>, needs: &[Need]) -> Result<(), AllocError>
@@ -41,7 +42,7 @@ fn insert_count(needs: usize, gaps: usize) -> Option<usize>
     all.checked_add(1)
 }
 
-/// Makes room for the locks of an operation that inserts no record.
+/// Makes room for the locks of an operation that inserts no record. For one lock no list is made.
 fn reserve_needed<L: Locks>(
     alloc: Global,
     locks: &mut L,
@@ -52,6 +53,9 @@ fn reserve_needed<L: Locks>(
     ensures rows { L.rows locks.new ≡ L.rows locks.old }
     ensures room { (t : Tx) (on : List Place) → L.room locks.old t on ≤ L.room locks.new t on }
 {
+    if let [need] = needs {
+        return locks.reserve(tx, from_ref(&need.anchor), 1);
+    }
     match needed_anchors(alloc, needs) {
         Ok(anchors) => locks.reserve(tx, &anchors, needs.len()),
         Err(_) => Err(Memory),

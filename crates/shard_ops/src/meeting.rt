@@ -48,8 +48,8 @@ fn count_new(deps: &Deps, tx: TxId, preds: &[TxId]) -> usize
 }
 
 /// The sum of two counts, of which each is at most as many as a list has.
-fn both(pairs: &[(TxId, TxId)], preds: &[TxId], some: usize, more: usize) -> usize
-    requires { (some ≤ length pairs.now) × (more ≤ length preds.now) }
+fn both(known: &[TxId], preds: &[TxId], some: usize, more: usize) -> usize
+    requires { (some ≤ length known.now) × (more ≤ length preds.now) }
     ensures { result ≡ some + more }
 {
     some + more

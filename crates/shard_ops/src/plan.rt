@@ -1,7 +1,7 @@
 //! All that an operation does, before it does anything.
 ghost use Rattle.std.specs.Prelude.{◌≡◌, ℕ, IfOk};
 ghost use Rattle.clv_base.specs.Needs.{needs_of, answer_of, live_of, inserts, writes_of};
-ghost use Rattle.shard_ops.specs.Planned.{insert_of, write_of, insert_by, write_by, IsPlanOf};
+ghost use Rattle.shard_ops.specs.Planned.{needed, insert_of, write_of, insert_by, write_by, IsPlanOf};
 
 use crate::needs::{del_need, get_need, put_need};
 use crate::scan::{pairs_of, scan_needs};
@@ -11,6 +11,7 @@ use clv_base::ops::{Answer, Op};
 use lock_table::Memory;
 use ordered_store::Store;
 use std::alloc::{AllocError, Global};
+use std::slice::from_ref;
 
 /// A record that is inserted: its key, and the anchor whose gap it splits.
 #[derive(Clone, Copy, PartialEq, Eq, Debug)]
@@ -27,10 +28,29 @@ pub struct Write {
     pub after: Option<u64>,
 }
 
+/// The locks that an operation needs, in order. One on a key needs one lock, for which no list is made.
+#[derive(Drop, Debug)]
+pub enum Needs {
+    One(Need),
+    Several(Vec<Need>),
+}
+
+impl Needs {
+    /// The locks.
+    pub fn as_slice(&self) -> &[Need]
+        ensures { result.now ≡ needed self.now }
+    {
+        match self {
+            Needs::One(need) => from_ref(need),
+            Needs::Several(needs) => needs,
+        }
+    }
+}
+
 /// What an operation comes to where it is granted: the locks that it needs, its answer, the record that it inserts, and what it writes.
 #[derive(Drop, Debug)]
 pub struct Plan {
-    pub needs: Vec<Need>,
+    pub needs: Needs,
     pub answer: Answer,
     pub insert: Option<Insert>,
     pub write: Option<Write>,
@@ -45,16 +65,16 @@ fn live(found: Found) -> Option<u64>
     }
 }
 
-fn plan_get<S: Store>(alloc: Global, store: &S, key: u64) -> Result<Plan, AllocError>
-    ensures { IfOk result (IsPlanOf (Op.Get key) (S.records store.now)) }
+fn plan_get<S: Store>(store: &S, key: u64) -> Plan
+    ensures { IsPlanOf (Op.Get key) (S.records store.now) result }
 {
     let found = store.get(key);
-    Ok(Plan {
-        needs: vec![in alloc; get_need(store, key, found)]?,
+    Plan {
+        needs: Needs::One(get_need(store, key, found)),
         answer: Answer::Value(live(found)),
         insert: None,
         write: None,
-    })
+    }
 }
 
 /// The record that a Put inserts, where there is none.
@@ -70,13 +90,13 @@ fn put_insert<S: Store>(store: &S, key: u64, found: Found) -> Option<Insert>
     }
 }
 
-fn plan_put<S: Store>(alloc: Global, store: &S, key: u64, value: u64) -> Result<Plan, AllocError>
-    ensures { IfOk result (IsPlanOf (Op.Put key value) (S.records store.now)) }
+fn plan_put<S: Store>(store: &S, key: u64, value: u64) -> Plan
+    ensures { IsPlanOf (Op.Put key value) (S.records store.now) result }
 {
     let found = store.get(key);
     let before = live(found);
-    Ok(Plan {
-        needs: vec![in alloc; put_need(store, key, found)]?,
+    Plan {
+        needs: Needs::One(put_need(store, key, found)),
         answer: Answer::Value(before),
         insert: put_insert(store, key, found),
         write: Some(Write {
@@ -84,7 +104,7 @@ fn plan_put<S: Store>(alloc: Global, store: &S, key: u64, value: u64) -> Result<
             before,
             after: Some(value),
         }),
-    })
+    }
 }
 
 /// What a Del writes, where there is a value.
@@ -101,17 +121,17 @@ fn del_write(key: u64, before: Option<u64>) -> Option<Write>
     }
 }
 
-fn plan_del<S: Store>(alloc: Global, store: &S, key: u64) -> Result<Plan, AllocError>
-    ensures { IfOk result (IsPlanOf (Op.Del key) (S.records store.now)) }
+fn plan_del<S: Store>(store: &S, key: u64) -> Plan
+    ensures { IsPlanOf (Op.Del key) (S.records store.now) result }
 {
     let found = store.get(key);
     let before = live(found);
-    Ok(Plan {
-        needs: vec![in alloc; del_need(store, key, found)]?,
+    Plan {
+        needs: Needs::One(del_need(store, key, found)),
         answer: Answer::Value(before),
         insert: None,
         write: del_write(key, before),
-    })
+    }
 }
 
 fn plan_scan<S: Store>(alloc: Global, store: &S, low: u64, high: u64) -> Result<Plan, AllocError>
@@ -121,7 +141,7 @@ fn plan_scan<S: Store>(alloc: Global, store: &S, low: u64, high: u64) -> Result<
     let needs = scan_needs(alloc, store, low, &rows)?;
     let pairs = pairs_of(alloc, &rows)?;
     Ok(Plan {
-        needs,
+        needs: Needs::Several(needs),
         answer: Answer::Pairs(Pairs::new(pairs)),
         insert: None,
         write: None,
@@ -132,16 +152,16 @@ fn plan_by<S: Store>(alloc: Global, store: &S, op: Op) -> Result<Plan, AllocErro
     ensures { IfOk result (IsPlanOf op (S.records store.now)) }
 {
     match op {
-        Op::Get(key) => plan_get(alloc, store, key),
-        Op::Put(key, value) => plan_put(alloc, store, key, value),
-        Op::Del(key) => plan_del(alloc, store, key),
+        Op::Get(key) => Ok(plan_get(store, key)),
+        Op::Put(key, value) => Ok(plan_put(store, key, value)),
+        Op::Del(key) => Ok(plan_del(store, key)),
         Op::Scan(low, high) => plan_scan(alloc, store, low, high),
     }
 }
 
-/// What an operation comes to on these records, where it is granted. The store isn't changed; the only error is want of memory.
+/// What an operation comes to on these records, where it is granted. The store isn't changed; the only error is want of memory, of a scan alone.
 pub fn plan_of<S: Store>(alloc: Global, store: &S, op: Op) -> Result<Plan, Memory>
-    ensures needs { IfOk result (λ p. p.needs.items ≡ needs_of op (S.records store.now)) }
+    ensures needs { IfOk result (λ p. needed p.needs ≡ needs_of op (S.records store.now)) }
     ensures answer { IfOk result (λ p. p.answer ≡ answer_of op (S.records store.now)) }
     ensures insert { IfOk result (λ p. p.insert ≡ insert_of op (S.records store.now)) }
     ensures write { IfOk result (λ p. p.write ≡ write_of op (S.records store.now)) }

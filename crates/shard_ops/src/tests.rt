@@ -1,6 +1,6 @@
 // What operations need over three records, and what requests meet.
 
-use crate::{Insert, Meeting, Plan, Write, meet, plan_of};
+use crate::{Insert, Meeting, Needs, Plan, Write, meet, plan_of};
 use cascade_undo::Deps;
 use clv_base::modes::{Anchor, Mode, Need, Part};
 use clv_base::names::{Birth, TxId};
@@ -86,7 +86,7 @@ fn hold<L: Locks>(table: &mut L, session: u32, at: u64) -> Result<(), lock_table
 }
 
 /// The needs of an operation and what it answers.
-fn asked(alloc: Global, store: &SortedStore, op: Op) -> Result<(Vec<Need>, Answer), AllocError> {
+fn asked(alloc: Global, store: &SortedStore, op: Op) -> Result<(Needs, Answer), AllocError> {
     let Plan {
         needs,
         answer,

@@ -8,6 +8,7 @@ use crate::{RecoverError, recover};
 use clv_base::logs::LogRecord;
 use clv_base::modes::Found;
 use clv_base::names::TxId;
+use log_analysis::LogFacts;
 use log_gate::{Gate, PushError};
 use ordered_store::{SortedStore, Store};
 use std::alloc::{AllocError, Global};
@@ -98,7 +99,8 @@ fn a_loser_is_undone(rt: HostRuntime) -> Result<(), Fail> {
     let mut store = SortedStore::new(alloc);
     let mut gate = gate(false);
     let log = found(alloc)?;
-    let Ok(shard) = recover(alloc, &mut store, &mut gate, log, 0, 2, 0) else {
+    let facts = LogFacts::of_log(alloc, &log)?;
+    let Ok(shard) = recover(alloc, &mut store, &mut gate, log, facts, 0, 2, 0) else {
         return Err(AllocError.into());
     };
     assert_eq!(rt; (gate.batches, gate.bytes), (1, 64));
@@ -114,7 +116,8 @@ fn a_disk_that_fails_is_told(rt: HostRuntime) -> Result<(), Fail> {
     let mut store = SortedStore::new(alloc);
     let mut gate = gate(true);
     let log = found(alloc)?;
-    let got = recover(alloc, &mut store, &mut gate, log, 0, 2, 0);
+    let facts = LogFacts::of_log(alloc, &log)?;
+    let got = recover(alloc, &mut store, &mut gate, log, facts, 0, 2, 0);
     assert!(rt; matches!(got, Err(RecoverError::Failed)));
     Ok(())
 }

@@ -4,6 +4,7 @@ ghost use Rattle.std.specs.List.{list_all};
 ghost use Rattle.clv_base.specs.FileRules.{has_spelling};
 ghost use Rattle.clv_base.specs.Logs.{in_doubt as in_doubt_in};
 ghost use Rattle.clv_base.specs.Restarts.{homes_of, local_after, log_after_restart, restored_pairs, unended_in};
+ghost use Rattle.log_analysis.specs.Facts.{Knows};
 ghost use Rattle.log_gate.specs.View.{Only};
 ghost use Rattle.shard_recovery.specs.Recovering.{CountsRecovery, IsBegun, recover_error};
 
@@ -57,10 +58,12 @@ fn begin<S: Store>(
     alloc: Global,
     store: &mut S,
     records: Vec<LogRecord>,
+    facts: LogFacts,
     shard: u32,
     run: u32,
     epoch: u64,
 ) -> Result<Recovered, AllocError>
+    requires knows { Knows facts records.items }
     requires empty { S.records store.old ≡ [] }
     ensures log { IfOk result (λ r. r.buffer.records ≡ log_after_restart shard records.items run epoch) }
     ensures fronts { IfOk result (λ r. (r.buffer.durable ≡ length records.items) × (r.buffer.taken ≡ length records.items)) }
@@ -69,7 +72,6 @@ fn begin<S: Store>(
     ensures pairs { IfOk result (λ r. r.pairs.items ≡ restored_pairs records.items (in_doubt_in shard records.items)) }
     ensures unended { IfOk result (λ r. r.unended.items ≡ unended_in records.items records.items) }
 {
-    let facts = LogFacts::of_log(alloc, &records)?;
     let Analysis {
         losers,
         in_doubt,
@@ -95,9 +97,9 @@ fn error_of(error: FlushError) -> RecoverError
     }
 }
 
-/// Recovers a shard from the log that was found: the store, which is empty, gets the records of the state after a restart, and what the restart
-/// adds to the log (an ABORT for each loser that has none, the CLRs of the losers' writes that stand, and the RESTART) is durable when it returns.
-/// Takes time linear in the log, times a logarithm.
+/// Recovers a shard from the log that was found, of which it is known what it says of each transaction: the store, which is empty, gets the
+/// records of the state after a restart, and what the restart adds to the log (an ABORT for each loser that has none, the CLRs of the losers'
+/// writes that stand, and the RESTART) is durable when it returns. Takes time linear in the log, times a logarithm.
 ///
 /// `Failed` comes where the disk failed, `Memory` before anything is written. After either the store is in the middle of it: drop it, and begin
 /// again with an empty one.
@@ -106,10 +108,12 @@ pub fn recover<S: Store, G: Gate>(
     store: &mut S,
     gate: &mut G,
     records: Vec<LogRecord>,
+    facts: LogFacts,
     shard: u32,
     run: u32,
     epoch: u64,
 ) -> Result<Recovered, RecoverError>
+    requires knows { Knows facts records.items }
     requires empty { S.records store.old ≡ [] }
     requires open { G.is_shut gate.old ≡ false }
     requires log { Only records.items (G.logs gate.old) }
@@ -130,7 +134,7 @@ pub fn recover<S: Store, G: Gate>(
     ensures shard { G.shard gate.new ≡ G.shard gate.old }
 {
     a_restart_keeps_the_lists();
-    let mut recovered = match begin(alloc, store, records, shard, run, epoch) {
+    let mut recovered = match begin(alloc, store, records, facts, shard, run, epoch) {
         Ok(recovered) => recovered,
         Err(_) => return Err(RecoverError::Memory),
     };

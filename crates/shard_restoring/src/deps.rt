@@ -1,7 +1,8 @@
 //! The dependencies of those in doubt, and the COMMITs of the log.
-ghost use Rattle.std.specs.Prelude.{◌≡◌, ◌≤◌, ◌<◌, ◌+◌, [], None, true, length, IfOk, if◌then◌else◌};
+ghost use Rattle.std.specs.Prelude.{◌≡◌, ◌≤◌, ◌<◌, ◌+◌, [], None, true, IfOk, OnOk, if◌then◌else◌};
 ghost use Rattle.std.specs.List.Sorted.{IsStrictlySortedBy};
 ghost use Rattle.clv_base.specs.declared.names.TxId.{TxId as Tx};
+ghost use Rattle.clv_base.specs.OneShard.{add_pairs};
 ghost use Rattle.clv_base.specs.Orders.{tx_get, pair_cmp};
 ghost use Rattle.txn_core.specs.State.{AreSettled};
 ghost use Rattle.shard_restoring.specs.Opened.{first_of, place_if, is_commit as commits, commits_in};
@@ -12,18 +13,27 @@ use clv_base::logs::LogRecord;
 use clv_base::names::TxId;
 use std::alloc::{AllocError, Global};
 
-/// The pairs, which rise, are added where there are none. Takes no memory.
-fn add_pairs(deps: &mut Deps, pairs: &[(TxId, TxId)])
+/// The transaction is a successor of these.
+fn add(deps: &mut Deps, tx: TxId, preds: &[TxId]) -> Result<(), AllocError>
+    ensures pairs { OnOk result (deps.new.pairs ≡ add_pairs tx preds.now deps.old.pairs) }
+    ensures commits { deps.new.commits ≡ deps.old.commits }
+{
+    deps.reserve_pairs(tx, preds)?;
+    deps.follow(tx, preds);
+    Ok(())
+}
+
+/// The pairs, which rise, are added where there are none.
+fn add_all(deps: &mut Deps, pairs: &[(TxId, TxId)]) -> Result<(), AllocError>
     requires rising { IsStrictlySortedBy pair_cmp pairs.now }
     requires empty { deps.old.pairs ≡ [] }
-    requires room { length pairs.now ≤ deps.old.room }
-    ensures pairs { deps.new.pairs ≡ pairs.now }
+    ensures pairs { OnOk result (deps.new.pairs ≡ pairs.now) }
     ensures commits { deps.new.commits ≡ deps.old.commits }
-    ensures room { deps.old.room ≤ deps.new.room + length pairs.now }
 {
     for pair in pairs {
-        deps.add(pair.0, pair.1);
+        add(deps, pair.0, &[pair.1])?;
     }
+    Ok(())
 }
 
 fn is_commit(found: &LogRecord) -> bool
@@ -79,8 +89,7 @@ pub(crate) fn deps_of(
     ensures settled { IfOk result (λ d. AreSettled d.commits log.now) }
 {
     let mut deps = Deps::new(alloc)?;
-    deps.reserve(pairs.len())?;
-    add_pairs(&mut deps, pairs);
+    add_all(&mut deps, pairs)?;
     deps.reserve_settled(count_commits(log))?;
     note_commits(&mut deps, log);
     Ok(deps)

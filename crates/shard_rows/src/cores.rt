@@ -15,6 +15,7 @@ use clv_base::ops::Op;
 use clv_base::parts::ShardList;
 use clv_base::state::Stage;
 use lock_table::ListLocks;
+use log_analysis::LogFacts;
 use log_gate::{Gate, PushError};
 use log_records::has_spelling;
 use log_rules::disorder;
@@ -64,7 +65,8 @@ fn opened(alloc: Global, found: Vec<LogRecord>) -> Result<Core, Fail>
 {
     let mut store = SortedStore::new(alloc);
     let mut gate = Taking { faults: 0 };
-    let Ok(recovered) = recover(alloc, &mut store, &mut gate, found, 0, 2, 0) else {
+    let facts = LogFacts::of_log(alloc, &found)?;
+    let Ok(recovered) = recover(alloc, &mut store, &mut gate, found, facts, 0, 2, 0) else {
         return Err(AllocError.into());
     };
     match Core::restored(alloc, store, recovered, 0, 2, 0) {

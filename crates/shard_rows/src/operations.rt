@@ -296,7 +296,7 @@ fn many_writes_find_room(rt: HostRuntime) -> Result<(), Fail> {
     Ok(())
 }
 
-/// A shard with one write, and room for five records and pairs more than that wants.
+/// A shard with one write, and room for five records and settled transactions more than that wants.
 fn with_room(alloc: Global) -> Result<Shard, AllocError> {
     let mut shard = filled(alloc)?;
     match ask(alloc, &mut shard, 1, Op::Del(10)) {

@@ -11,6 +11,7 @@ use clv_base::logs::LogRecord;
 use clv_base::names::TxId;
 use clv_base::parts::ShardList;
 use lock_table::Locks;
+use log_analysis::LogFacts;
 use log_gate::Gate;
 use ordered_store::Store;
 use shard_recovery::{RecoverError, recover};
@@ -59,7 +60,10 @@ pub fn restart<S: Store + Drop, L: Locks + Drop, G: Gate>(
     let Ok(mut store) = S::empty(alloc) else {
         return Err(RecoverError::Memory);
     };
-    let recovered = match recover(alloc, &mut store, gate, records, shard, run, epoch) {
+    let Ok(facts) = LogFacts::of_log(alloc, &records) else {
+        return Err(RecoverError::Memory);
+    };
+    let recovered = match recover(alloc, &mut store, gate, records, facts, shard, run, epoch) {
         Ok(recovered) => recovered,
         Err(error) => return Err(error),
     };

@@ -1,5 +1,5 @@
 -- A list that rises has no more than a list that holds all of it.
-use Rattle.std.proofs.Common.{◌≡◌, refl, sym, ap, subst, ◌∙◌, ⊎_elim, ℕ, zero, suc, ◌+◌, ◌<◌, ◌≤◌, Bool, true, false, cond, ◌||◌, List, [], ◌∷◌, length, drop, get_or, drop-cons, add-one, map, arith}
+use Rattle.std.proofs.Common.{◌≡◌, refl, sym, ap, subst, ◌∙◌, ⊎_elim, ℕ, zero, suc, ◌+◌, ◌<◌, ◌≤◌, Bool, true, false, cond, ◌||◌, List, [], ◌∷◌, length, drop, get_or, drop-cons, add-one, arith}
 use Rattle.std.proofs.lemmas.Bool.{both_ways, or_cases, or_parts}
 use Rattle.std.specs.List.Sorted.{IsStrictlySortedBy}
 use Rattle.std.specs.declared.cmp.Ordering.{Ordering}
@@ -91,31 +91,6 @@ room_next i ts d before now r same limit h = (
 
 pub step_more : (i : ℕ) (ts : List TxId) (d x : TxId) (now : List TxId) (more : List TxId) → more ≡ tx_insert (get_or ts i d) now → i < length ts → (tx_in x (drop (i + 1) ts) || tx_in x more) ≡ (tx_in x (drop i ts) || tx_in x now)
 step_more i ts d x now more e h = ap (λ l. tx_in x (drop (i + 1) ts) || tx_in x l) e ∙ ap (λ b. tx_in x (drop (i + 1) ts) || b) (insert_in (get_or ts i d) x now) ∙ sym (step_in i ts d x (tx_in x now) h)
-
--- ---- the second ones of pairs
-
-abbrev seconds : List (TxId × TxId) → List TxId
-seconds ps = map (λ p. p.1) ps
-
-get_second : (i : ℕ) (ps : List (TxId × TxId)) (d : TxId × TxId) → get_or (seconds ps) i d.1 ≡ (get_or ps i d).1
-get_second i [] d = refl
-get_second zero (p ∷ ps) d = refl
-get_second (suc i) (p ∷ ps) d = get_second i ps d
-
-seconds_length : (ps : List (TxId × TxId)) → length (seconds ps) ≡ length ps
-seconds_length [] = refl
-seconds_length (p ∷ ps) = let h = seconds_length ps in omega (arith, h)
-
-within : (i : ℕ) (ps : List (TxId × TxId)) → i < length ps → i < length (seconds ps)
-within i ps h = let e = seconds_length ps in omega (arith, e, h)
-
-pub room_second : (i : ℕ) (ps : List (TxId × TxId)) (d : TxId × TxId) (before now : Candidates) → HasRoomFor (seconds ps) before → ((x : TxId) → (tx_in x (drop i (seconds ps)) || tx_in x now.txs) ≡ (tx_in x (seconds ps) || tx_in x before.txs))
-    → now.limit ≡ before.limit → i < length ps → HasRoomFor ((get_or ps i d).1 ∷ []) now
-room_second i ps d before now r same limit h = subst (λ (t : TxId). HasRoomFor (t ∷ []) now) (get_second i ps d) (room_next i (seconds ps) d.1 before now r same limit (within i ps h))
-
-pub second_more : (i : ℕ) (ps : List (TxId × TxId)) (d : TxId × TxId) (x : TxId) (now : List TxId) (more : List TxId) → more ≡ tx_insert (get_or ps i d).1 now → i < length ps
-    → (tx_in x (drop (i + 1) (seconds ps)) || tx_in x more) ≡ (tx_in x (drop i (seconds ps)) || tx_in x now)
-second_more i ps d x now more e h = step_more i (seconds ps) d.1 x now more (e ∙ ap (λ (t : TxId). tx_insert t now) (sym (get_second i ps d))) (within i ps h)
 
 -- ---- for those that pass
 

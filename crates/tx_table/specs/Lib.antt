@@ -3,3 +3,4 @@ pub mod Keys
 pub mod Held
 pub mod Index
 pub mod Parts
+pub mod Lists

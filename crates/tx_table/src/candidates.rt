@@ -1,5 +1,5 @@
 //! The candidates.
-ghost use Rattle.std.specs.Prelude.{◌≡◌, ◌≤◌, ◌+◌, ◌||◌, [], ◌∷◌, length, map, max, OnOk, OnErr};
+ghost use Rattle.std.specs.Prelude.{◌≡◌, ◌≤◌, ◌+◌, ◌||◌, [], ◌∷◌, length, max, OnOk, OnErr};
 ghost use Rattle.std.specs.List.Sorted.{IsStrictlySortedBy};
 ghost use Rattle.clv_base.specs.Orders.{tx_cmp, tx_in, tx_insert};
 ghost use Rattle.clv_base.specs.declared.names.TxId.{TxId as Tx};
@@ -119,17 +119,6 @@ impl Candidates {
     {
         for tx in txs {
             self.insert(*tx);
-        }
-    }
-
-    /// The second transactions of the pairs are candidates besides. Takes no memory.
-    pub fn insert_seconds(&mut self, pairs: &[(TxId, TxId)])
-        requires { HasRoomFor (map (λ p. p.1) pairs.now) self.old }
-        ensures txs { (x : Tx) → tx_in x self.new.txs ≡ (tx_in x (map (λ p. p.1) pairs.now) || tx_in x self.old.txs) }
-        ensures limit { self.new.limit ≡ self.old.limit }
-    {
-        for pair in pairs {
-            self.insert(pair.1);
         }
     }
 }

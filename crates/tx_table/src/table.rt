@@ -82,4 +82,12 @@ impl<V: Copy> TxTable<V> {
         };
         *row = value;
     }
+
+    /// A transaction has no value any more. Takes no memory; there is no less room.
+    pub fn remove(&mut self, tx: TxId)
+        ensures rows { (t : Tx) → tx_get t self.new.rows ≡ (if tx_same tx t then None else tx_get t self.old.rows) }
+        ensures room { self.old.room ≤ self.new.room }
+    {
+        self.rows.remove(&Key::new(tx));
+    }
 }

@@ -1,5 +1,5 @@
 -- What is granted leaves a state of which all can still be taken away.
-use Rattle.std.proofs.Common.{◌≡◌, ℕ, suc, ◌+◌, ◌≤◌, ◌⊎◌, inl, inr, ⊎_elim, Bool, true, false, cond, ◌&&◌, ◌||◌, ◌==◌, List, [], ◌∷◌, length, zero, Option, Some, None, is_none, refl, sym, ap, subst, ◌∙◌, arith}
+use Rattle.std.proofs.Common.{◌≡◌, ℕ, suc, ◌+◌, ◌≤◌, ◌⊎◌, inl, inr, ⊎_elim, Bool, true, false, cond, ◌&&◌, ◌||◌, ◌==◌, List, [], ◌∷◌, length, zero, Option, Some, None, is_none, is_some, refl, sym, ap, subst, ◌∙◌, arith}
 use Rattle.std.specs.Prelude.{slice_get}
 use Rattle.std.proofs.lemmas.Bool.{both_ways, cases_Bool, cond-true, false_from_ne_true}
 use Rattle.std.specs.List.{AllByRecursion, list_any}
@@ -39,7 +39,7 @@ use Rattle.cascade_undo.proofs.Laws.{IsIn, in_log}
 use Rattle.shard_ops.specs.declared.plan.Insert.{Insert}
 use Rattle.shard_ops.specs.declared.plan.Write.{Write}
 use Rattle.shard_ops.specs.Planned.{insert_by, write_by, insert_of, write_of}
-use Rattle.shard_ops.specs.Effects.{performed_by, locks_after, records_after, log_after, new_key}
+use Rattle.shard_ops.specs.Effects.{performed_by, locks_after, records_after, log_after, new_key, record_count, CanSet, CanWrite}
 use Rattle.txn_core.specs.Sound.{is_here, has_lock, IsHeld, owed_by, owed_more, IsSound, may_work, has_need, IsCovered}
 use Rattle.txn_core.proofs.Owing.{owed-one, owed-own, owed_of_others, count_owed_fewer}
 use Rattle.txn_core.proofs.Undoing.{lock_is_held}
@@ -235,11 +235,26 @@ sound_performed tx birth needs insert write preds l spare left sound work known 
   room = let a = spare_performed tx birth needs insert write preds l spare left known room in omega (arith, a, sound.room);
 }
 
+-- ---- room for what is written
+
+pub can_write : (write : Option Write) (room : ℕ) (rs : Records) → record_count write ≤ room → CanWrite write 1 rs → CanWrite write room rs
+can_write None room rs enough can = can
+can_write (Some w) room rs enough can = at w.after can
+  where
+    at : (v : Option ℕ) → CanSet w.key v 1 rs → CanSet w.key v room rs
+    at (Some v) can = omega (arith, enough)
+    at None can = can
+
 -- ---- what is known of a transaction that may work
 
-pub known_from : (l : Local) (tx : TxId) → may_work (stage_of l tx) ≡ true → (is_none (tx_get tx l.parts) && wrote_in l.log tx) ≡ false → (is_here l tx ≡ true) ⊎ (wrote_in l.log tx ≡ false)
-known_from l tx m e = at (tx_get tx l.parts) m e
+pub known_from : (l : Local) (tx : TxId) (stage : Option Stage) → stage ≡ stage_of l tx → may_work (stage_of l tx) ≡ true → (is_none stage && wrote_in l.log tx) ≡ false → (is_here l tx ≡ true) ⊎ (wrote_in l.log tx ≡ false)
+known_from l tx None same work e = inr e
+known_from l tx (Some s) same work e = inl (subst (λ o. is_present o ≡ true) same (work_here s (ap may_work same ∙ work)))
+
+-- who has a part has a stage
+pub known_alike : (l : Local) (tx : TxId) (stage : Option Stage) → stage ≡ stage_of l tx → is_some stage ≡ is_some (tx_get tx l.parts)
+known_alike l tx stage same = ap is_some same ∙ at (tx_get tx l.parts)
   where
-    at : (o : Option Held) → may_work (stage_at o) ≡ true → (is_none o && wrote_in l.log tx) ≡ false → (is_present (stage_at o) ≡ true) ⊎ (wrote_in l.log tx ≡ false)
-    at None m e = inr e
-    at (Some h) m e = inl (work_here h.stage m)
+    at : (o : Option Held) → is_some (stage_at o) ≡ is_some o
+    at None = refl
+    at (Some h) = refl

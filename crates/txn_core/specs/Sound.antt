@@ -105,7 +105,7 @@ abbrev pub UsesSpare : ℕ → TxState → TxState → Type 0
 UsesSpare n s t = n + t.room + owed_by (is_here s.local) (s.local).log ≡ s.room + owed_by (is_here t.local) (t.local).log
 
 -- without the room that is beyond so many records, beside a CLR for each UPDATE of a part that is here and an ABORT for each that wrote, and
--- beyond so many pairs
+-- beyond so many settled transactions
 abbrev pub trimmed : ℕ → TxState → TxState
 trimmed n s = record s { room = min s.room (n + owed_by (is_here s.local) (s.local).log); pairs_room = min s.pairs_room n }
 

@@ -16,7 +16,7 @@ pub record TxState : Type 0 where
   pub taken : ℕ
   -- for how many records more room is reserved in the log
   pub room : ℕ
-  -- for how many pairs and settled transactions more room is reserved in the dependencies
+  -- for how many settled transactions more room is reserved in the dependencies
   pub pairs_room : ℕ
 
 -- the fronts of the log stand in their order

@@ -16,10 +16,11 @@ use crate::shard::ShardTx;
 use clv_base::causes::AbortCause;
 use clv_base::names::{Birth, TxId};
 use clv_base::ops::{Answer, Op};
+use clv_base::state::Stage;
 use lock_table::{Locks, Memory};
 use ordered_store::Store;
 use shard_ops::{Plan, performed_by_plan};
-use std::alloc::Global;
+use std::alloc::{AllocError, Global};
 
 /// What an operation comes to.
 #[derive(Drop, Debug)]
@@ -48,17 +49,26 @@ pub fn fits(op: Op)
     }
 }
 
+/// A copy of an answer.
+fn copied(answer: &Answer) -> Result<Answer, AllocError>
+    ensures { IfOk result (λ copy. copy ≡ answer.now) }
+{
+    answer.clone()
+}
+
 impl<S: Store + Drop, L: Locks + Drop> ShardTx<S, L> {
-    /// Does what was granted. Where there is no memory, what was reserved for it is given back.
+    /// Does what was granted; `stage` is how far the part here is. Where there is no memory, what was reserved for it is given back.
     fn grant(
         &mut self,
         alloc: Global,
+        stage: Option<Stage>,
         tx: TxId,
         birth: Birth,
         op: Op,
         plan: Plan,
         violated: &[TxId],
     ) -> Result<Attempt, Memory>
+        requires stage { stage ≡ stage_in self.old.local tx }
         requires plan { IsPlanOf op (self.old.local).records plan }
         requires work { may_work (stage_in self.old.local tx) ≡ true }
         requires violated { violated.now ≡ violated_by tx (needs_of op (self.old.local).records) (self.old.local).locks }
@@ -73,12 +83,12 @@ impl<S: Store + Drop, L: Locks + Drop> ShardTx<S, L> {
     {
         performed_by_plan();
         fits(op);
-        let Ok(copy) = plan.answer.clone() else {
+        let Ok(copy) = copied(&plan.answer) else {
             return Err(Memory);
         };
         let room = self.buffer.room();
         let pairs = self.deps.room();
-        match self.perform(alloc, tx, birth, &plan, violated) {
+        match self.perform(alloc, stage, tx, birth, &plan, violated) {
             Ok(()) => Ok(Attempt::Answered {
                 answer: plan.answer,
                 copy,
@@ -91,17 +101,19 @@ impl<S: Store + Drop, L: Locks + Drop> ShardTx<S, L> {
     }
 
     /// An operation of a transaction with this birth; `seen` is the epoch that its session was answered here at its first touch, none at the
-    /// first. It comes to what the protocol says, and leaves the state that the protocol says; a part that dies is still to be rolled back. After
-    /// a quiet answer, and where there is no memory, all is as before.
+    /// first; `stage` is how far the part here is. It comes to what the protocol says, and leaves the state that the protocol says; a part that
+    /// dies is still to be rolled back. After a quiet answer, and where there is no memory, all is as before.
     pub(crate) fn attempt(
         &mut self,
         alloc: Global,
+        stage: Option<Stage>,
         tx: TxId,
         birth: Birth,
         seen: Option<u64>,
         op: Op,
     ) -> Result<Attempt, Memory>
-        requires { tx_has_spelling tx ≡ true }
+        requires stage { stage ≡ stage_in self.old.local tx }
+        requires name { tx_has_spelling tx ≡ true }
         ensures ok { IfOk result (λ a. ComesTo (op_reply self.old.shard self.old.local tx birth seen op) tx self.old a self.new) }
         ensures err { OnErr result (IsSameBut self.old self.old.local self.new) }
         ensures room { KeepsSpare self.old self.new }
@@ -109,13 +121,13 @@ impl<S: Store + Drop, L: Locks + Drop> ShardTx<S, L> {
         ensures pairs_room { self.old.pairs_room ≤ self.new.pairs_room }
         ensures pairs_given_back { self.new.pairs_room ≤ self.old.pairs_room }
     {
-        let found = match self.judge(alloc, tx, birth, seen, op) {
+        let found = match self.judge(alloc, stage, tx, birth, seen, op) {
             Ok(found) => found,
             Err(memory) => return Err(memory),
         };
         match found {
             Judged::Grant { plan, violated } => {
-                self.grant(alloc, tx, birth, op, plan, &violated)
+                self.grant(alloc, stage, tx, birth, op, plan, &violated)
             }
             Judged::Wait { younger } => Ok(Attempt::Wait { younger }),
             Judged::Crowded { count } => Ok(Attempt::Crowded { count }),

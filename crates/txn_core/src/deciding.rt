@@ -51,7 +51,7 @@ pub(crate) fn decide<S: Store, L: Locks>(
         Ok(plan) => plan,
         Err(memory) => return Err(memory),
     };
-    match meet(alloc, locks, deps, tx, birth, &plan.needs) {
+    match meet(alloc, locks, deps, tx, birth, plan.needs.as_slice()) {
         Ok(meeting) => Ok(with_plan(plan, meeting)),
         Err(memory) => Err(memory),
     }

@@ -76,29 +76,38 @@ fn outcome_of(stage: Option<Stage>, decided: Decided) -> Judged
 }
 
 impl<S: Store + Drop, L: Locks + Drop> ShardTx<S, L> {
-    /// What the locks say of an operation.
-    fn judge_locks(&self, alloc: Global, tx: TxId, birth: Birth, op: Op) -> Result<Judged, Memory>
-        requires { may_work (stage_in self.now.local tx) ≡ true }
+    /// What the locks say of an operation; `stage` is how far its part here is.
+    fn judge_locks(
+        &self,
+        alloc: Global,
+        stage: Option<Stage>,
+        tx: TxId,
+        birth: Birth,
+        op: Op,
+    ) -> Result<Judged, Memory>
+        requires stage { stage ≡ stage_in self.now.local tx }
+        requires work { may_work (stage_in self.now.local tx) ≡ true }
         ensures { IfOk result (IsJudged self.now.local tx birth op (op_active self.now.local tx birth op)) }
     {
         match decide(alloc, &self.store, &self.locks, &self.deps, tx, birth, op) {
-            Ok(decided) => Ok(outcome_of(self.stage_of(tx), decided)),
+            Ok(decided) => Ok(outcome_of(stage, decided)),
             Err(memory) => Err(memory),
         }
     }
 
-    /// What is found of an operation.
+    /// What is found of an operation; `stage` is how far its part here is.
     pub(crate) fn judge(
         &self,
         alloc: Global,
+        stage: Option<Stage>,
         tx: TxId,
         birth: Birth,
         seen: Option<u64>,
         op: Op,
     ) -> Result<Judged, Memory>
+        requires { stage ≡ stage_in self.now.local tx }
         ensures { IfOk result (IsJudged self.now.local tx birth op (op_reply self.now.shard self.now.local tx birth seen op)) }
     {
-        let stage = self.stage_of(tx);
         if !seen_fits(self.epoch, seen) {
             let cause = AbortCause::Restarted {
                 shard: self.shard,
@@ -108,7 +117,7 @@ impl<S: Store + Drop, L: Locks + Drop> ShardTx<S, L> {
             return Ok(death(stage, cause));
         }
         match stage {
-            None | Some(Stage::Active) => self.judge_locks(alloc, tx, birth, op),
+            None | Some(Stage::Active) => self.judge_locks(alloc, stage, tx, birth, op),
             Some(Stage::Closed | Stage::Gone { doom: None }) => Ok(Judged::Dead(AbortCause::Asked)),
             Some(Stage::Gone { doom: Some(doom) }) => Ok(Judged::Dead(doom_cause(tx, doom))),
         }

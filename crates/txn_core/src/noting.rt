@@ -22,7 +22,7 @@ impl<S: Store + Drop, L: Locks + Drop> ShardTx<S, L> {
         ensures txs { (t : Tx) → tx_in t candidates.new.txs ≡ (is_pair (self.now.local).pairs t tx || tx_in t candidates.old.txs) }
         ensures limit { candidates.new.limit ≡ candidates.old.limit }
     {
-        candidates.insert_seconds(self.deps.successors(tx));
+        candidates.insert_all(self.deps.successors(tx));
     }
 
     /// The transaction and all that depend on it here, through any number, are candidates besides. Takes no memory.
@@ -58,7 +58,7 @@ fn note_record(deps: &Deps, one: &LogRecord, candidates: &mut Candidates)
     match one {
         LogRecord::Commit { tx, .. } => {
             candidates.insert(*tx);
-            candidates.insert_seconds(deps.successors(*tx));
+            candidates.insert_all(deps.successors(*tx));
         }
         LogRecord::Prepare { tx, .. } => candidates.insert(*tx),
         _ => {}

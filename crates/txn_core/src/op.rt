@@ -2,6 +2,7 @@
 ghost use Rattle.std.specs.Prelude.{◌≡◌, ◌≤◌, true, IfOk, OnErr};
 ghost use Rattle.clv_base.specs.FileRules.{tx_has_spelling};
 ghost use Rattle.clv_base.specs.OneShard.{op_reply};
+ghost use Rattle.clv_base.specs.Undo.{stage_of as stage_in};
 ghost use Rattle.txn_core.specs.State.{IsSameBut};
 ghost use Rattle.txn_core.specs.Replies.{Replies};
 ghost use Rattle.txn_core.specs.Sound.{KeepsSpare};
@@ -11,6 +12,7 @@ use crate::shard::ShardTx;
 use clv_base::causes::AbortCause;
 use clv_base::names::{Birth, TxId};
 use clv_base::ops::{Answer, Op};
+use clv_base::state::Stage;
 use lock_table::{Locks, Memory};
 use ordered_store::Store;
 use std::alloc::Global;
@@ -58,7 +60,30 @@ impl<S: Store + Drop, L: Locks + Drop> ShardTx<S, L> {
         ensures pairs_room { self.old.pairs_room ≤ self.new.pairs_room }
         ensures pairs_given_back { self.new.pairs_room ≤ self.old.pairs_room }
     {
-        let attempt = match self.attempt(alloc, tx, birth, seen, op) {
+        let stage = self.stage_of(tx);
+        self.op_of(alloc, stage, tx, birth, seen, op)
+    }
+
+    /// The same; `stage` is how far the transaction's part here is, as `stage_of` tells, so that it isn't looked up again.
+    pub fn op_of(
+        &mut self,
+        alloc: Global,
+        stage: Option<Stage>,
+        tx: TxId,
+        birth: Birth,
+        seen: Option<u64>,
+        op: Op,
+    ) -> Result<Reply, Memory>
+        requires stage { stage ≡ stage_in self.old.local tx }
+        requires name { tx_has_spelling tx ≡ true }
+        ensures ok { IfOk result (λ r. Replies (op_reply self.old.shard self.old.local tx birth seen op) self.old r self.new) }
+        ensures err { OnErr result (IsSameBut self.old self.old.local self.new) }
+        ensures room { KeepsSpare self.old self.new }
+        ensures given_back { KeepsSpare self.new self.old }
+        ensures pairs_room { self.old.pairs_room ≤ self.new.pairs_room }
+        ensures pairs_given_back { self.new.pairs_room ≤ self.old.pairs_room }
+    {
+        let attempt = match self.attempt(alloc, stage, tx, birth, seen, op) {
             Ok(attempt) => attempt,
             Err(memory) => return Err(memory),
         };

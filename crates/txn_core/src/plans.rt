@@ -1,5 +1,5 @@
 //! Which record closes a part.
-ghost use Rattle.std.specs.Prelude.{◌≡◌, ◌≤◌, ◌<◌, ◌+◌, ◌++◌, ℕ, true, length, map, is_none, IfOk};
+ghost use Rattle.std.specs.Prelude.{◌≡◌, ◌≤◌, ◌<◌, ◌+◌, ◌++◌, ℕ, true, length, is_none, IfOk};
 ghost use Rattle.clv_base.specs.declared.names.TxId.{TxId as Tx};
 ghost use Rattle.std.specs.List.{filter};
 ghost use Rattle.clv_base.specs.Orders.{tx_get};
@@ -48,13 +48,12 @@ fn is_open(deps: &Deps, pred: TxId) -> bool
     deps.settled_at(pred).is_none()
 }
 
-/// The second transactions of pairs, where they aren't settled.
-fn open_among(alloc: Global, deps: &Deps, pairs: &[(TxId, TxId)]) -> Result<Vec<TxId>, AllocError>
-    ensures { IfOk result (λ list. list.items ≡ filter (λ p. is_none (tx_get p deps.now.commits)) (map (λ q. q.1) pairs.now)) }
+/// Those of the transactions that aren't settled.
+fn open_among(alloc: Global, deps: &Deps, txs: &[TxId]) -> Result<Vec<TxId>, AllocError>
+    ensures { IfOk result (λ list. list.items ≡ filter (λ p. is_none (tx_get p deps.now.commits)) txs.now) }
 {
-    pairs
-        .iter()
-        .map(|pair| pair.1)
+    txs.iter()
+        .copied()
         .filter(|pred| is_open(deps, *pred))
         .collect(alloc)
 }

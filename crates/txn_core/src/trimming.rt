@@ -53,7 +53,7 @@ pub(crate) fn room_without(buffer: &LogBuffer<LogRecord>, parts: &PartTable, tx:
 
 impl<S: Store + Drop, L: Locks + Drop> ShardTx<S, L> {
     /// Gives back the room that is beyond so many records, beside a CLR for each UPDATE of a part that is here and an ABORT for each that wrote,
-    /// and beyond so many pairs and settled transactions. It costs what is here. Where there is no memory to list that, all is as before.
+    /// and beyond so many settled transactions. It costs what is here. Where there is no memory to list that, all is as before.
     pub fn trim(&mut self, alloc: Global, count: usize) -> Result<(), Memory>
         ensures ok { OnOk result (self.new ≡ trimmed count self.old) }
         ensures err { OnErr result (self.new ≡ self.old) }
@@ -71,8 +71,8 @@ impl<S: Store + Drop, L: Locks + Drop> ShardTx<S, L> {
         Ok(())
     }
 
-    /// Gives back the room that is beyond so many records, into which the undo of the parts that are here fits, and beyond so many pairs
-    /// and settled transactions. Takes no memory.
+    /// Gives back the room that is beyond so many records, into which the undo of the parts that are here fits, and beyond so many
+    /// settled transactions. Takes no memory.
     pub(crate) fn trim_to(&mut self, room: usize, pairs: usize)
         requires { owed_by (here_in self.old.local) (self.old.local).log ≤ room }
         ensures { self.new ≡ record self.old { room = min self.old.room room; pairs_room = min self.old.pairs_room pairs } }

@@ -1,4 +1,5 @@
 use Rattle.std.proofs.Common.{◌≡◌, ◌≤◌, ◌+◌, ◌<◌, ◌++◌, ◌∷◌, [], length, length-append, refl, sym, ap, subst, ◌∙◌, arith}
+use Rattle.cascade_undo.specs.Pairs.{pairs_in}
 use Rattle.cascade_undo.specs.Marking.{marks_with, new_marks}
 use Rattle.cascade_undo.proofs.Members.{successors}
 use Rattle.cascade_undo.proofs.Following.{Followed, followed_none, followed_more, marks_are_doomed, unmarked_most}
@@ -6,7 +7,7 @@ use Rattle.cascade_undo.proofs.marking.mark_from.Goals as goal
 
 pub loop-next-init : goal.loop-next-init
 loop-next-init c =
-    let tx = c.args.tx in let turned = c.args.turned.now in
+    let tx = c.args.tx in let turned = pairs_in c.args.turned.now.lists in
     let marks : c.push_reserved.new.self.items ≡ tx ∷ [] = c.push_reserved.ensures.items ∙ ap (λ l. l ++ tx ∷ []) c.clear.ensures.items in
     let queue : c.push_reserved-2.new.self.items ≡ tx ∷ [] = c.push_reserved-2.ensures.items ∙ ap (λ l. l ++ tx ∷ []) c.clear-2.ensures.items in
     let most = unmarked_most turned c.push_reserved.new.self.items in
@@ -21,7 +22,7 @@ loop-next-init c =
 
 pub loop-next-preserved : goal.loop-next-preserved
 loop-next-preserved c =
-    let tx = c.args.tx in let turned = c.args.turned.now in let n = c.loop-next.next in
+    let tx = c.args.tx in let turned = pairs_in c.args.turned.now.lists in let n = c.loop-next.next in
     let marks = c.loop-next.marks.items in let queue = c.loop-next.queue.items in let next = c.index-followed.result.now in
     let len = c.loop-next.queue.ok.0 in
     let within : n < length queue = omega arith in
@@ -44,4 +45,4 @@ pub returns-clause-marks : goal.returns-clause-marks
 returns-clause-marks c = λ pairs turned.
     let len = c.loop-next.queue.ok.0 in
     let all : length c.loop-next.queue.items ≤ c.loop-next.next = omega arith in
-    marks_are_doomed c.args.turned.now c.args.tx c.loop-next.marks.items c.loop-next.queue.items c.loop-next.next c.loop-next.invariant.followed all pairs turned
+    marks_are_doomed (pairs_in c.args.turned.now.lists) c.args.tx c.loop-next.marks.items c.loop-next.queue.items c.loop-next.next c.loop-next.invariant.followed all pairs turned

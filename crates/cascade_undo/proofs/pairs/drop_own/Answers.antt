@@ -1,30 +1,27 @@
-use Rattle.std.proofs.Common.{◌∷◌, [], List, length, not, refl, arith, sym, subst, ◌∙◌, ap}
-use Rattle.std.proofs.lemmas.List.Filters.{length-filter_both}
-use Rattle.std.specs.List.Sorted.{IsStrictlySortedBy}
+use Rattle.std.proofs.Common.{◌≡◌, List, length, sym, subst, ◌∙◌, ap, arith}
 use Rattle.clv_base.specs.declared.names.TxId.{TxId}
-use Rattle.clv_base.specs.Orders.{pair_cmp, tx_same}
-use Rattle.cascade_undo.specs.Pairs.{AreTurned}
-use Rattle.cascade_undo.proofs.Runs.{of_tx, others-set}
-use Rattle.cascade_undo.proofs.Turning.{own_gone, own_gone-rises, turned_own, without_rises}
+use Rattle.tx_table.specs.Lists.{list_in}
+use Rattle.cascade_undo.specs.Pairs.{AreTurned, pairs_in, left_by}
+use Rattle.cascade_undo.proofs.Listed.{pairs_less, left_turned, own_and_others}
 use Rattle.cascade_undo.proofs.pairs.drop_own.Goals as goal
 
 pub returns-clause-pairs : goal.returns-clause-pairs
-returns-clause-pairs c = c.drop_run.ensures.pairs ∙ others-set c.args.tx c.args.pairs.now.items
-
-pub returns-clause-rising : goal.returns-clause-rising
-returns-clause-rising c = let tx = c.args.tx in let ps = c.args.pairs.now.items in let ts = c.args.turned.now.items in (
-  subst (IsStrictlySortedBy pair_cmp) (sym (c.drop_run.ensures.pairs ∙ others-set tx ps)) (without_rises (tx ∷ []) ps c.requires.rising.0),
-  subst (IsStrictlySortedBy pair_cmp) (sym c.drop_turned.ensures.pairs) (own_gone-rises tx c.run_of.result.now ts c.requires.rising.1),
-)
+returns-clause-pairs c = pairs_less c.args.pairs.now.lists c.take-own.new.self.lists c.args.tx c.take-own.ensures.lists
 
 pub returns-clause-turned : goal.returns-clause-turned
-returns-clause-turned c = let tx = c.args.tx in let ps = c.args.pairs.now.items in let ts = c.args.turned.now.items in
-    let run = c.run_of.ensures ∙ ap (of_tx tx) c.deref.ensures.value in
-    subst (λ (l : List (TxId × TxId)). AreTurned l c.drop_turned.new.turned.items) (sym (c.drop_run.ensures.pairs ∙ others-set tx ps))
-    (subst (AreTurned _) (sym (c.drop_turned.ensures.pairs ∙ ap (λ (l : List (TxId × TxId)). own_gone tx l ts) run)) (turned_own tx ps ts c.requires.turned))
+returns-clause-turned c = let tx = c.args.tx in let lists = c.args.pairs.now.lists in let turned = c.args.turned.now.lists in let after = c.drop_empty.new.self.lists in
+    subst (λ (ps : List (TxId × TxId)). AreTurned ps (pairs_in after)) (sym (pairs_less lists c.take-own.new.self.lists tx c.take-own.ensures.lists))
+    (left_turned lists turned after tx c.requires.turned
+    (λ p. c.drop_empty.ensures p ∙ c.leave_all-gone.ensures.lists p ∙ ap (λ (xs : List TxId). left_by tx xs p (list_in p turned)) c.take-own.ensures.taken))
 
-pub returns-clause-pairs_room : goal.returns-clause-pairs_room
-returns-clause-pairs_room c = let tx = c.args.tx in let ps = c.args.pairs.now.items in
-    let gone = ap length c.drop_run.ensures.pairs in let all = length-filter_both (λ (p : TxId × TxId). tx_same tx p.0) (λ (p : TxId × TxId). not (tx_same tx p.0)) (λ p. refl) ps in
-    let before = c.args.pairs.now.ok.0 in let now = c.drop_run.new.pairs.ok.0 in
-    (c.drop_run.ensures.room, omega (arith, gone, all, before, now))
+pub returns-clause-few : goal.returns-clause-few
+returns-clause-few c = let tx = c.args.tx in let lists = c.args.pairs.now.lists in
+    let all = own_and_others lists tx c.take-own.ensures.rising in let now = ap length (pairs_less lists c.take-own.new.self.lists tx c.take-own.ensures.lists) in
+    let gone : c.leave_all-gone.result ≡ length (list_in tx lists) = c.leave_all-gone.ensures.count ∙ ap length c.take-own.ensures.taken in
+    let few = c.requires.few in omega (arith, all, now, gone, few)
+
+pub overflow_sub-count : goal.overflow_sub-count
+overflow_sub-count c = let tx = c.args.tx in let lists = c.args.pairs.now.lists in
+    let all = own_and_others lists tx c.take-own.ensures.rising in
+    let gone : c.leave_all-gone.result ≡ length (list_in tx lists) = c.leave_all-gone.ensures.count ∙ ap length c.take-own.ensures.taken in
+    let few = c.requires.few in omega (arith, all, gone, few)

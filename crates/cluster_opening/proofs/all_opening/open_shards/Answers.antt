@@ -1,11 +1,20 @@
 use Rattle.std.proofs.Common.{◌≡◌, ◌∙◌, ◌+◌, ◌-◌, [], ◌∷◌, ◌++◌, length-take, map, length, get_or, vec_len, sym, ap, subst, arith}
 use Rattle.std.proofs.lemmas.List.{get_or_default, get_or-take, length_push, length-map}
 use Rattle.clv_base.specs.LogRules.{log_of}
+use Rattle.log_analysis.specs.Facts.{Knows}
+use Rattle.log_analysis.proofs.Laws.Tables.{know_left, know_some, know_first}
 use Rattle.machine_calls.specs.Recovered.{IsLeft}
 use Rattle.cluster_opening.specs.AllOpened.{IsOpenedAt, IsOpenGate}
 use Rattle.cluster_opening.proofs.Taking.{log_at, pushed_two}
 use Rattle.cluster_opening.proofs.all_opening.open_shards.Goals as goal
 use Rattle.law_base.proofs.Options.{some_once as some_same}
+
+pub remove-facts-requires : goal.remove-facts-requires
+remove-facts-requires g c =
+    let k = c.loop-shard.shard in let W = c.args.logs in let okW = W.ok in let okS = c.loop-shard.said.ok in let low = c.loop-shard-test.true in let cnt = c.len-count.ensures in
+    let fc = c.requires.gates.count in let lm = length-map W.items (λ v. v.items) in let okV = c.args.gates.ok in let few = c.requires.few in
+    let h1 = c.loop-shard.invariant.gates in let y = c.unwrap-log.result in
+    let some = know_some c.loop-shard.said.items _ _ (know_left c.loop-shard.said.items W.items k y (omega arith) c.loop-shard.invariant.known) in omega arith
 
 pub open_shard-requires : goal.open_shard-requires
 open_shard-requires g c =
@@ -16,9 +25,12 @@ open_shard-requires g c =
     let gate_is : x ≡ get_or V.items k x = some_same x _ c.pop.result c.unwrap-gate.ensures (c.pop.ensures.value x (omega arith)) ∙ inv.gate k (vec_len c.loop-shard.rest - 1) x (omega arith) (omega arith) in
     let log_is : y ≡ get_or W.items k y = some_same y _ c.pop-in-loop-shard.result c.unwrap-log.ensures (c.pop-in-loop-shard.ensures.value y (omega arith)) ∙ inv.log k (vec_len c.loop-shard.later - 1) y (omega arith) (omega arith) in
     let log_same : log_of L k ≡ y.items = log_at W.items k y (omega arith) ∙ ap (λ v. v.items) (sym log_is) in
+    let facts = know_first c.loop-shard.said.items c.remove-facts.result c.remove-facts.new.self.items _ _ c.remove-facts.ensures.value c.remove-facts.ensures.by_index.2
+    (know_left c.loop-shard.said.items W.items k y (omega arith) inv.known) in
     let at : IsOpenGate G.is_shut G.faults G.shard G.logs k y.items x = subst (λ z. IsOpenGate G.is_shut G.faults G.shard G.logs k z x) log_same (subst (λ z. IsOpenGate G.is_shut G.faults G.shard G.logs k (log_of L k) z) (sym gate_is) (F.each k x (omega arith))) in
     record {
       some = c.requires.some;
+      knows = subst (λ v. Knows c.remove-facts.result v.items) (sym log_is) facts.0;
       shard = (omega arith, at.own);
       run = c.requires.run;
       «open» = (at.is_open, at.fine);
@@ -60,6 +72,8 @@ loop-shard-preserved g c =
     let fewer = ap length c.pop.ensures.rest in let most = length-take last c.loop-shard.rest.items in let fewer2 = ap length c.pop-in-loop-shard.ensures.rest in let most2 = length-take last2 c.loop-shard.later.items in
     let log_is : y ≡ get_or W.items k y = some_same y _ c.pop-in-loop-shard.result c.unwrap-log.ensures (c.pop-in-loop-shard.ensures.value y (omega arith)) ∙ inv.log k last2 y (omega arith) (omega arith) in
     let log_same : log_of L k ≡ y.items = log_at W.items k y (omega arith) ∙ ap (λ v. v.items) (sym log_is) in
+    let facts = know_first c.loop-shard.said.items c.remove-facts.result c.remove-facts.new.self.items _ _ c.remove-facts.ensures.value c.remove-facts.ensures.by_index.2
+    (know_left c.loop-shard.said.items W.items k y (omega arith) inv.known) in
     let made = c.in-Ok.ensures.passes in let okM = c.in-Ok.mine.ok in let put = c.push_reserved.ensures in let put2 = c.push_reserved-in-Ok.ensures in
     let here : IsOpenedAt c.args.run c.args.walkers k (log_of L k) c.in-Ok.lock c.in-Ok.mine.items = record {
       many = c.in-Ok.ensures.lock;
@@ -73,6 +87,7 @@ loop-shard-preserved g c =
       logs = omega arith;
       gate = λ n j d h l. ap (λ z. get_or z j d) c.pop.ensures.rest ∙ get_or-take last c.loop-shard.rest.items j d (omega arith) ∙ inv.gate n j d h (omega arith);
       log = λ n j d h l. ap (λ z. get_or z j d) c.pop-in-loop-shard.ensures.rest ∙ get_or-take last2 c.loop-shard.later.items j d (omega arith) ∙ inv.log n j d h (omega arith);
+      known = facts.1;
       locks = ap length put.items ∙ length_push c.loop-shard.locks.items c.in-Ok.lock ∙ ap (λ n. n + 1) il;
       passes = ap length put2.items ∙ length_push c.loop-shard.passes.items c.in-Ok.mine ∙ ap (λ n. n + 1) ip;
       room = omega arith;

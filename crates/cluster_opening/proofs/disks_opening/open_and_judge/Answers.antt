@@ -3,11 +3,16 @@ use Rattle.std.proofs.lemmas.List.{length-map}
 use Rattle.clv_base.specs.Shards.{shard_count}
 use Rattle.clv_base.specs.LogRules.{apart}
 use Rattle.clv_base.specs.Restarts.{run_after}
+use Rattle.log_analysis.specs.Facts.{KnowAll}
 use Rattle.cluster_opening.specs.Judging.{FaultsOfAll}
 use Rattle.cluster_opening.proofs.Growing.{found}
 use Rattle.cluster_opening.proofs.DisksStopping.{all_stopped}
 use Rattle.cluster_opening.proofs.disks_opening.open_and_judge.Goals as goal
 use Rattle.law_base.proofs.Lists.{few_shards}
+
+pub judge_all-requires : goal.judge_all-requires
+judge_all-requires g c =
+    subst (λ z. KnowAll z (map (λ v. v.items) c.deref.result.now)) (sym c.deref-2.ensures.value) (subst (λ z. KnowAll c.open_logs.new.facts.items (map (λ v. v.items) z)) (sym c.deref.ensures.value) c.in-Ok.ensures.known)
 
 pub returns-in-Ok-judge_all-clause-found : goal.returns-in-Ok-judge_all-clause-found
 returns-in-Ok-judge_all-clause-found g c =

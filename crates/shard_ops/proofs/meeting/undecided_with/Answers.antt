@@ -1,6 +1,5 @@
 -- Those undecided already, and those that are new.
-use Rattle.std.proofs.Common.{◌≡◌, ◌≤◌, ◌+◌, ◌&&◌, Bool, not, refl, ap, sym, is_none, length, map, arith}
-use Rattle.std.proofs.lemmas.List.{length-map}
+use Rattle.std.proofs.Common.{◌&&◌, not, refl, ap, is_none, length, arith}
 use Rattle.std.proofs.lemmas.List.Filters.{length-filter_both}
 use Rattle.clv_base.specs.declared.names.TxId.{TxId}
 use Rattle.clv_base.specs.Orders.{tx_get, tx_in}
@@ -15,8 +14,7 @@ both-requires c =
     let some = length-filter_both open_one (λ p. not (open_one p)) (λ p. refl) known in
     let more = length-filter_both new_one (λ p. not (new_one p)) (λ p. refl) c.args.preds.now in
     let same = ap length c.predecessors-known.ensures in
-    let of_pairs = length-map c.predecessors-known.result.now (λ p. p.1) in
-    (omega (arith, some, c.undecided.ensures, same, of_pairs), omega (arith, more, c.count_new.ensures))
+    (omega (arith, some, c.undecided.ensures, same), omega (arith, more, c.count_new.ensures))
 
 pub returns : goal.returns
 returns c =

@@ -9,7 +9,7 @@ use Rattle.shard_ops.proofs.plan.plan_put.Goals as goal
 pub returns : goal.returns
 returns g c = let rs = g.S.Store.records c.args.store.now in let put = Put c.args.key c.args.value in
     record {
-      needs = c.in_ok-vec.ensures.items ∙ c.put_need.ensures c.args.value ∙ ap (needs_by put rs) c.get-found.ensures;
+      needs = c.put_need.ensures c.args.value ∙ ap (needs_by put rs) c.get-found.ensures;
       answer = ap Value (c.live-before.ensures ∙ ap live_of c.get-found.ensures);
       insert = c.put_insert.ensures c.args.value ∙ ap (λ f. insert_by rs (inserts put f)) c.get-found.ensures;
       write = ap (λ b. write_by (Some (c.args.key, b, Some c.args.value))) (c.live-before.ensures ∙ ap live_of c.get-found.ensures);

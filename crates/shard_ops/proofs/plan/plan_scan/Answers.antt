@@ -1,5 +1,5 @@
 -- What a scan comes to, by the records of its range.
-use Rattle.std.proofs.Common.{refl, ap, ◌∙◌, ◌++◌, sym}
+use Rattle.std.proofs.Common.{refl, ap, ◌∙◌, ◌++◌}
 use Rattle.std.specs.List.{filter_map}
 use Rattle.clv_base.specs.declared.ops.Answer.TheVariants.{Pairs}
 use Rattle.clv_base.specs.Needs.{records_between, gap_below, found_at}

@@ -1,5 +1,6 @@
 use Rattle.std.proofs.Common.{◌≡◌, ap, sym, ◌∙◌, subst, ℕ, ◌^◌, ◌-◌, ◌≤◌, true, List, length, take, Err, arith}
 use Rattle.std.proofs.lemmas.Bool.Decides.{nat_tests}
+use Rattle.std.proofs.lemmas.List.{take_all}
 use Rattle.std.specs.List.{list_all}
 use Rattle.clv_base.specs.declared.logs.LogRecord.{LogRecord}
 use Rattle.clv_base.specs.declared.logs.LogRecord.TheVariants.{Restart}
@@ -52,3 +53,9 @@ returns-in-Ok-flush_all-clause-spelled g c =
     let few : length c.args.records.items ≤ 2 ^ 64 - 1 = omega (arith, c.args.records.ok.0, c.args.records.ok.1, c.args.records.small) in
     subst (λ (rs : List LogRecord). list_all has_spelling rs ≡ true) (sym (c.in-Ok-flush_all.ensures.records.0 ∙ c.in-Ok.ensures.log))
     (restart_spelled c.args.shard c.args.run c.args.epoch c.args.records.items c.requires.spelled few last)
+
+pub returns-in-Ok-flush_all-clause-gate : goal.returns-in-Ok-flush_all-clause-gate
+returns-in-Ok-flush_all-clause-gate g c =
+    let e = c.in-Ok-flush_all.ensures in let buffer = c.flush_all.new.buffer in let same = ap length e.records.0 in let all = e.all in
+    let whole : take buffer.durable buffer.records ≡ buffer.records = take_all buffer.durable buffer.records (omega arith) in
+    (e.rest.is_open, subst (λ (rs : List LogRecord). Only rs (g.G.Gate.logs c.flush_all.new.gate)) whole e.rest.log)

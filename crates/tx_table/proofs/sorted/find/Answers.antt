@@ -1,4 +1,4 @@
-use Rattle.law_base.proofs.Rising.{search_there, search_ok, search_err}
+use Rattle.law_base.proofs.Rising.{search_there, search_ok, search_err, search_within, search_found, search_absent}
 use Rattle.tx_table.proofs.sorted.find.Goals as goal
 
 pub returns-clause-there : goal.returns-clause-there
@@ -9,3 +9,12 @@ returns-clause-ok g c = search_ok g.met.T.Ord.total c.args.item.now c.args.items
 
 pub returns-clause-err : goal.returns-clause-err
 returns-clause-err g c = search_err g.met.T.Ord.total c.args.item.now c.args.items.now c.binary_search.result c.requires c.binary_search.ensures.bound c.binary_search.ensures.position
+
+pub returns-clause-found : goal.returns-clause-found
+returns-clause-found g c = search_found g.met.T.Ord.total c.args.item.now c.args.items.now c.binary_search.result c.requires c.binary_search.ensures.bound c.binary_search.ensures.position
+
+pub returns-clause-absent : goal.returns-clause-absent
+returns-clause-absent g c = search_absent g.met.T.Ord.total c.args.item.now c.args.items.now c.binary_search.result c.requires c.binary_search.ensures.bound c.binary_search.ensures.position
+
+pub returns-clause-within : goal.returns-clause-within
+returns-clause-within g c = search_within g.met.T.Ord.total c.args.item.now c.args.items.now c.binary_search.result c.binary_search.ensures.bound

@@ -16,6 +16,7 @@ invariant_of-self c =
         marks_rise = subst (λ (l : List TxId). IsStrictlySortedBy tx_cmp l) (sym e.items) (filter_rises (λ t. not (tx_same c.args.tx t)) c.self.inside.marks.items k.marks_rise);
         marks_room = omega (arith, k.marks_room, e.room);
         queue_room = k.queue_room;
+        counted = k.counted;
       },
-      (p.0, p.1, omega (arith, p.2, e.room), p.3, p.4),
+      (p.0, omega (arith, p.1, e.room), p.2, p.3, p.4),
     )

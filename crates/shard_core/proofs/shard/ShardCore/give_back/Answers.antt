@@ -1,10 +1,8 @@
 -- What may still be done keeps its room.
-use Rattle.std.proofs.Common.{◌≡◌, ap, sym, subst, ◌∙◌, ◌+◌, ◌*◌, ◌≤◌, min, arith}
-use Rattle.protocol_laws.specs.Left.{left}
+use Rattle.std.proofs.Common.{◌≡◌, ap, ◌∙◌, ◌*◌, min, arith}
 use Rattle.protocol_laws.specs.Open.{open_work}
-use Rattle.due_step.specs.Sent.{Waiting}
 use Rattle.shard_core.specs.Core.{Core}
-use Rattle.shard_core.proofs.Parts.{Parts, seen, viewed, rest_of}
+use Rattle.shard_core.proofs.Parts.{Parts, viewed, rest_of}
 use Rattle.shard_core.proofs.Trimmed.{open_enough, trimmed_holds}
 use Rattle.shard_core.proofs.shard.ShardCore.give_back.Goals as goal
 

@@ -1,5 +1,5 @@
 -- It is what is open, and one more.
-use Rattle.std.proofs.Common.{◌≡◌, ap, ◌∙◌, ◌+◌, ◌*◌, arith}
+use Rattle.std.proofs.Common.{ap, ◌∙◌, arith}
 use Rattle.protocol_laws.specs.Open.{votes_owed}
 use Rattle.shard_core.proofs.Parts.{Parts}
 use Rattle.shard_core.proofs.Trimmed.{need_is}

@@ -13,6 +13,10 @@ use Rattle.shard_core.proofs.Parts.{Parts, seen, rest_of}
 use Rattle.shard_core.proofs.Taking.{stage_known}
 use Rattle.shard_core.proofs.shard.ShardCore.op_here.Goals as goal
 
+pub op_noted-requires-clause-stage : goal.op_noted-requires-clause-stage
+op_noted-requires-clause-stage g c =
+    subst (λ (v : Core). c.stage_of-stage.result ≡ stage_of v.shard.local c.args.tx) (sym c.self.view_is) c.stage_of-stage.ensures
+
 pub op_noted-requires-clause-room : goal.op_noted-requires-clause-room
 op_noted-requires-clause-room g c = λ here.
     let i = c.self.inside in let a : Parts = record { shard = i.shard; run = i.run; transactions = i.transactions; participant = i.participant; coordinator = i.coordinator; prepares = i.prepares; outbox = i.outbox; candidates = i.candidates } in

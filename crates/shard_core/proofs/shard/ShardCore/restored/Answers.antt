@@ -1,11 +1,9 @@
 -- The parts are those that a restart makes.
-use Rattle.std.proofs.Common.{◌≡◌, refl, sym, ap, subst, ◌∙◌, ℕ, ◌+◌, ◌≤◌, List, length, arith}
-use Rattle.clv_base.specs.declared.names.TxId.{TxId}
+use Rattle.std.proofs.Common.{◌≡◌, refl, sym, ap, subst, ◌∙◌, ℕ, List, length, arith}
 use Rattle.clv_base.specs.declared.logs.LogRecord.{LogRecord}
-use Rattle.clv_base.specs.Logs.{in_doubt, prepare_lsn}
+use Rattle.clv_base.specs.Logs.{prepare_lsn}
 use Rattle.clv_base.specs.Coordinator.{restored_requests}
 use Rattle.clv_base.specs.Participant.{restored_voters}
-use Rattle.clv_base.specs.Restarts.{homes_of, unended_in}
 use Rattle.clv_base.specs.Orders.{Table}
 use Rattle.two_phase_commit.specs.Coordinated.{AreNamed}
 use Rattle.txn_core.specs.State.{TxState}

@@ -1,5 +1,5 @@
 -- Up to where records were taken, between those that are durable and the log's end.
-use Rattle.std.proofs.Common.{◌≡◌, sym, ap, subst, ◌∙◌, ◌≤◌, length}
+use Rattle.std.proofs.Common.{sym, ap, ◌∙◌}
 use Rattle.clv_base.specs.Events.{taken}
 use Rattle.shard_core.specs.Core.{Core}
 use Rattle.shard_core.proofs.shard.ShardCore.taken.Goals as goal

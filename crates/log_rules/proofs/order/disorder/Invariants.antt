@@ -1,5 +1,0 @@
-use Rattle.log_rules.proofs.Walking.{SoFar}
-use Rattle.log_rules.proofs.order.disorder.Given as goal
-
-abbrev pub invariant-loop-lsn : goal.invariant-loop-lsn
-invariant-loop-lsn l = SoFar l.shard l.records l.index l.lsn

@@ -1,0 +1,6 @@
+use Rattle.tx_table.specs.Lists.{lists_of}
+use Rattle.tx_table.proofs.Reading.{rise_alike}
+use Rattle.tx_table.proofs.lists.TxLists.drop_empty.Goals as goal
+
+pub invariant_of-self : goal.invariant_of-self
+invariant_of-self c = rise_alike (lists_of c.self.inside.lists.entries) (lists_of c.drop_empty.new.lists.entries) c.drop_empty.ensures c.self.invariant
