@@ -46,7 +46,7 @@ pub struct Walker<M: Machine> {
 }
 
 /// A walker's clock ends at 2^48 - 1.
-#[derive(Clone, Copy, Debug, PartialEq, Eq)]
+#[derive(Clone, Copy, PartialEq, Eq)]
 pub struct WornClock {
     pub at: u64,
 }

@@ -15,7 +15,7 @@ use std::mem;
 use std::sync::Wait;
 
 /// Why the last transaction wasn't tried again. All is as before.
-#[derive(Clone, Copy, Debug, PartialEq, Eq)]
+#[derive(Clone, Copy, PartialEq, Eq)]
 pub enum RetryError {
     /// This one is active.
     Active { tx: TxId },

@@ -22,7 +22,7 @@ use std::alloc::Global;
 use std::sync::Wait;
 
 /// Why an operation wasn't answered.
-#[derive(Clone, Copy, Debug, PartialEq, Eq)]
+#[derive(Clone, Copy, PartialEq, Eq)]
 pub enum OpError {
     /// The transaction died of it.
     Aborted(AbortCause),
