@@ -44,7 +44,7 @@ impl<'a, M: Flier, P: Pace, R: Wait> Session<'a, M, P, R> {
         ensures shards { self.new.shards ≡ self.old.shards }
         ensures told { RetriedNext self.old.shards.now self.old.walker last result self.new.walker self.new.progress }
     {
-        match retry(self.shards, &mut self.walker, &last) {
+        match retry(self.rt, self.shards, &mut self.walker, &last) {
             Ok(place) => {
                 let session = self.walker.number;
                 self.pace.pass(Step::Begun { session });

@@ -167,6 +167,9 @@ pub fn operate<M: Flier, P: Pace, R: Wait>(
     let backoff = Backoff::new();
     let mut waits: u64 = 0;
     for _ in rt.forever() {
+        if shards.is_lacking() {
+            return Err(OpError::Memory);
+        }
         waits = waits.wrapping_add(1);
         let is_time = waits % WAITS_PER_ROUND == 0;
         match try_and_pass(
