@@ -1,4 +1,4 @@
-use Rattle.std.proofs.Common.{arith, ◌≡◌, ◌+◌, ap, length, sym, subst, vec_len, vec_capacity}
+use Rattle.std.proofs.Common.{arith, ◌+◌, ap, length, sym, subst, vec_capacity}
 use Rattle.lock_table.proofs.Gathering.{Gathers, has_room, takes, passes, begins, has_all}
 use Rattle.lock_table.proofs.gaps.gather.Goals.{then-is_gap_held, else-is_gap_held}
 use Rattle.lock_table.proofs.gaps.gather.Goals as goal
