@@ -26,14 +26,14 @@ const MOST: u64 = 64;
 // So many tries give way to whoever is ready to run; later ones sleep, so that they leave the processors to those that hold the locks.
 const YIELDING: u64 = 4;
 
-// The longest sleep, in microseconds.
-const LONGEST: u64 = 1_000;
+// The longest sleep, in microseconds. Many sessions over few keys sleep so long that the oldest gets on.
+const LONGEST: u64 = 20_000;
 
 // Gives way, ever longer after each try, so that those that hold the locks get on.
 fn give_way<R: Wait>(rt: &R, tries: u64) {
     let tries = tries.min(MOST);
     if tries > YIELDING {
-        let nap = Duration::from_micros(LONGEST.min(4 * tries * tries));
+        let nap = Duration::from_micros(LONGEST.min(10 * tries * tries));
         AtomicU64::new(0).park_timeout(rt, 0, nap);
         return;
     }
@@ -43,7 +43,7 @@ fn give_way<R: Wait>(rt: &R, tries: u64) {
 }
 
 /// Begins the next transaction of a session with the birth of its last one, which ended by an abort. It gives way before, longer
-/// after each try and from the fifth on asleep, for a millisecond at most, so that an older one that holds its locks gets on. `WornClock` comes exactly where the walker's clock is at its end.
+/// after each try and from the fifth on asleep, for 20 milliseconds at most, so that an older one that holds its locks gets on. `WornClock` comes exactly where the walker's clock is at its end.
 pub fn retry<M: Machine, R: Wait>(
     rt: &R,
     shards: &Shards<M>,
