@@ -342,7 +342,7 @@ def refuses_logs(checks, program):
 def loads(checks, program):
     """The script of `load`: what it draws was worked out apart for one seed; for others the model of its numbers tells the map."""
     checks.check("the first number of seed 0 and session 1", next(reports.draws(0, 1)) == 908834774, next(reports.draws(0, 1)))
-    for seed, sessions, accounts, transfers in ((0, 1, 3, 40), (7, 4, 100, 20), (LAST, 2, 2, 40), (12, 64, 5, 1), (3, 1, 2, 0)):
+    for seed, sessions, accounts, transfers in ((0, 1, 3, 40), (7, 4, 100, 20), (LAST, 2, 2, 40), (12, 64, 1000, 1), (3, 1, 2, 0)):
         with Folder(program) as folder:
             folder.run("make", "1", "50")
             numbers = ("--seed", seed, "--sessions", sessions, "--accounts", accounts, "--transfers", transfers)
