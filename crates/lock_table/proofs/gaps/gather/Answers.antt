@@ -14,9 +14,9 @@ pub loop-row-preserved : goal.loop-row-preserved
 loop-row-preserved c =
     let capacity = vec_capacity c.args.copies.now in
     elim c.if-is_gap_held.branch [
-      then-is_gap_held w ↦ subst (Gathers c.args.lower c.args.rows.now capacity (c.loop-row.row-index + 1)) (sym w.copies-is)
+      | then-is_gap_held w ↦ subst (Gathers c.args.lower c.args.rows.now capacity (c.loop-row.row-index + 1)) (sym w.copies-is)
           (takes c.args.lower c.args.rows.now capacity c.loop-row.row-index _ c.loop-row-test.true c.loop-row.copies c.loop-row.invariant w.if-is_gap_held.ensures w.push_reserved.new.self w.push_reserved.ensures.items w.push_reserved.ensures.len w.push_reserved.ensures.capacity)
-    | else-is_gap_held w ↦ subst (Gathers c.args.lower c.args.rows.now capacity (c.loop-row.row-index + 1)) (sym w.copies-is)
+      | else-is_gap_held w ↦ subst (Gathers c.args.lower c.args.rows.now capacity (c.loop-row.row-index + 1)) (sym w.copies-is)
           (passes c.args.lower c.args.rows.now capacity c.loop-row.row-index _ c.loop-row-test.true c.loop-row.copies c.loop-row.invariant w.if-is_gap_held.ensures)
     ]
 

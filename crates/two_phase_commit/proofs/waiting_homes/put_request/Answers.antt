@@ -29,6 +29,6 @@ returns-in-Ok-insert-clause-index c =
     let tx = c.args.tx in let rows = c.args.requests.now.entries in let old = c.args.waiting.now in let mid = c.insert_if.new.self in
     let put : c.insert.new.self.entries ≡ tx_put tx c.args.request rows = c.in-Ok-insert.ensures.entries ∙ ap (λ (r : Request). tx_put tx r rows) c.in-Ok.ensures in
     subst (λ (es : Table Request). IsIndex (waits c.args.shard) es c.keep_if.new.self) (sym put)
-        (index_renewed (waits c.args.shard) tx c.args.request rows old mid c.keep_if.new.self c.requires.index
-            (λ t. c.in-Ok-insert_if.ensures.members t ∙ ap (λ b. cond (tx_same tx t) (b || tx_in t old) (tx_in t old)) c.waits-waits.ensures)
-            (λ t. c.keep_if.ensures.members t ∙ ap (λ b. cond (tx_same tx t) (b && tx_in t mid) (tx_in t mid)) c.waits-waits.ensures))
+    (index_renewed (waits c.args.shard) tx c.args.request rows old mid c.keep_if.new.self c.requires.index
+    (λ t. c.in-Ok-insert_if.ensures.members t ∙ ap (λ b. cond (tx_same tx t) (b || tx_in t old) (tx_in t old)) c.waits-waits.ensures)
+    (λ t. c.keep_if.ensures.members t ∙ ap (λ b. cond (tx_same tx t) (b && tx_in t mid) (tx_in t mid)) c.waits-waits.ensures))
