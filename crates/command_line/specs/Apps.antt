@@ -1,11 +1,16 @@
 -- The command line as `clap` is told of it.
-use Rattle.std.specs.Prelude.{Bool, true, false, [], codes, Some}
+use Rattle.std.specs.Prelude.{Bool, true, false, List, [], ◌∷◌, codes, Some}
 use Rattle.clap.specs.Words.{App, Rule, Text, new_app, new_rule, with_rule, with_subcommand}
 use Rattle.clap.specs.declared.builder.ArgAction.TheVariants.{Append}
 
 -- `--name VALUE`
 abbrev pub option_rule : Text → Bool → Rule
 option_rule name required = record (new_rule name) { long = Some name; required = required }
+
+-- a command with an option more for each of the names, which must be given
+abbrev pub with_required : App → List Text → App
+with_required app [] = app
+with_required app (name ∷ names) = with_required (with_rule app (option_rule name true)) names
 
 -- [SPLIT]..
 abbrev pub split_rule : Rule

@@ -1,9 +1,9 @@
 // The command line as `clap` is told of it.
 
 ghost use Rattle.std.specs.Prelude.{◌≡◌, ◌≢◌, [], IfOk, IfErr, codes, true, false};
-ghost use Rattle.clap.specs.Words.{app_of, with_rule, rule_of, fault_of, subcommand_of, subcommand_rows_of};
+ghost use Rattle.clap.specs.Words.{app_of, with_subcommand, rule_of, fault_of, subcommand_of, subcommand_rows_of};
 ghost use Rattle.clap.specs.declared.builder.Command.TheViews.{out-Command as fields_of};
-ghost use Rattle.command_line.specs.Apps.{option_rule, make_app, run_app, show_app, load_app, bare_app, the_app};
+ghost use Rattle.command_line.specs.Apps.{with_required, make_app, run_app, load_app, bare_app, the_app};
 ghost use Rattle.command_line.specs.Steps.{texts};
 
 use crate::commands::WordsError;
@@ -11,45 +11,49 @@ use clap::error::ErrorKind;
 use clap::{Arg, ArgAction, ArgMatches, Command};
 use std::alloc::{AllocError, Global};
 
-fn make_command<'a>(alloc: Global) -> Result<Command<'a>, AllocError>
-    ensures app { IfOk result (λ c. app_of c ≡ make_app) }
-    ensures globals { IfOk result (λ c. (fields_of c).has_globals ≡ false) }
+// A program with one more subcommand, which makes logs: `make [SPLIT]..`.
+fn with_make<'a>(alloc: Global, program: Command<'a>) -> Result<Command<'a>, AllocError>
+    ensures { IfOk result (λ c. app_of c ≡ with_subcommand (app_of program.entry) make_app.top) }
 {
     let split = Arg::new(alloc, "split").action(ArgAction::Append);
-    Command::new(alloc, "make").arg(split)
+    let make = Command::new(alloc, "make").arg(split)?;
+    program.subcommand(make)
 }
 
-fn run_command<'a>(alloc: Global) -> Result<Command<'a>, AllocError>
-    ensures app { IfOk result (λ c. app_of c ≡ run_app) }
-    ensures globals { IfOk result (λ c. (fields_of c).has_globals ≡ false) }
+// With one that runs a script: `run [--tries N]`.
+fn with_run<'a>(alloc: Global, program: Command<'a>) -> Result<Command<'a>, AllocError>
+    ensures { IfOk result (λ c. app_of c ≡ with_subcommand (app_of program.entry) run_app.top) }
 {
     let tries = Arg::new(alloc, "tries").long("tries");
-    Command::new(alloc, "run").arg(tries)
+    let run = Command::new(alloc, "run").arg(tries)?;
+    program.subcommand(run)
 }
 
-// A command with one more option, which must be given.
-fn with_option<'a>(
+// A command with an option more for each of the names, which must be given.
+fn with_options<'a>(
     alloc: Global,
     command: Command<'a>,
-    name: &'a str,
+    names: &[&'a str],
 ) -> Result<Command<'a>, AllocError>
     requires { (fields_of command).has_globals ≡ false }
-    ensures app { IfOk result (λ c. app_of c ≡ with_rule (app_of command.entry) (option_rule name.entry.now true)) }
+    ensures app { IfOk result (λ c. app_of c ≡ with_required (app_of command.entry) (texts names.now)) }
     ensures globals { IfOk result (λ c. (fields_of c).has_globals ≡ false) }
 {
-    let option = Arg::new(alloc, name).long(name).required(true);
-    command.arg(option)
+    let mut whole = command;
+    for name in names {
+        let option = Arg::new(alloc, name).long(name).required(true);
+        whole = whole.arg(option)?;
+    }
+    Ok(whole)
 }
 
-fn load_command<'a>(alloc: Global) -> Result<Command<'a>, AllocError>
-    ensures app { IfOk result (λ c. app_of c ≡ load_app) }
-    ensures globals { IfOk result (λ c. (fields_of c).has_globals ≡ false) }
+// With one that runs a workload: `load --seed S --sessions N --accounts A --transfers T`.
+fn with_load<'a>(alloc: Global, program: Command<'a>) -> Result<Command<'a>, AllocError>
+    ensures { IfOk result (λ c. app_of c ≡ with_subcommand (app_of program.entry) load_app.top) }
 {
-    let one = with_option(alloc, Command::new(alloc, "load"), "seed")?;
-    let two = with_option(alloc, one, "sessions")?;
-    let three = with_option(alloc, two, "accounts")?;
-    let four = with_option(alloc, three, "transfers")?;
-    Ok(four)
+    let names = ["seed", "sessions", "accounts", "transfers"];
+    let load = with_options(alloc, Command::new(alloc, "load"), &names)?;
+    program.subcommand(load)
 }
 
 // The program without its subcommands.
@@ -64,11 +68,10 @@ fn bare<'a>(alloc: Global) -> Command<'a>
 fn program<'a>(alloc: Global) -> Result<Command<'a>, AllocError>
     ensures { IfOk result (λ c. app_of c ≡ the_app) }
 {
-    let one = bare(alloc).subcommand(make_command(alloc)?)?;
-    let two = one.subcommand(run_command(alloc)?)?;
+    let one = with_make(alloc, bare(alloc))?;
+    let two = with_run(alloc, one)?;
     let three = two.subcommand(Command::new(alloc, "show"))?;
-    let four = three.subcommand(load_command(alloc)?)?;
-    Ok(four)
+    with_load(alloc, three)
 }
 
 // What `clap` makes of the words, where it finds no fault in them.

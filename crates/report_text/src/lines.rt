@@ -1,6 +1,6 @@
 // The line of a transaction.
 
-ghost use Rattle.std.specs.Prelude.{◌≡◌, ◌++◌, ◌∷◌, IfOk, OnOk, map, take, length, ◌≤◌, string_bytes, false};
+ghost use Rattle.std.specs.Prelude.{◌≡◌, ◌++◌, ◌∷◌, IfOk, OnOk, map, take, length, ◌≤◌, false};
 ghost use Rattle.serde_json.specs.Data.{string};
 ghost use Rattle.serde_json.specs.Written.{has_float};
 ghost use Rattle.clv_base.specs.declared.ops.Op.TheVariants.{Scan};
@@ -14,14 +14,15 @@ use clv_base::ops::{Answer, Op};
 use serde_json::{Value, json};
 use std::alloc::Global;
 
-// A value as compact JSON, with a line feed.
-pub fn line(alloc: Global, value: &Value) -> Result<String, Memory>
-    requires { has_float (view value.now) ≡ false }
-    ensures { IfOk result (λ text. string_bytes text ≡ line_of (view value.now)) }
+// A value as compact JSON, with a line feed, is added to a text.
+pub fn add_line(alloc: Global, text: &mut Vec<u8>, value: Value) -> Result<(), Memory>
+    requires { has_float (view value) ≡ false }
+    ensures { OnOk result (text.new.items ≡ text.old.items ++ line_of (view value)) }
 {
-    let mut text = value.to_string(alloc)?;
-    text.push('\n')?;
-    Ok(text)
+    let next = value.to_string(alloc)?;
+    text.extend_from_slice(next.as_bytes())?;
+    text.push(b'\n')?;
+    Ok(())
 }
 
 fn optional(value: Option<u64>) -> Value

@@ -5,7 +5,7 @@ ghost use Rattle.serde_json.specs.View.{view};
 ghost use Rattle.report_text.specs.Loads.{load_object, load_text as text_of_load};
 
 use crate::Memory;
-use crate::lines::line;
+use crate::lines::add_line;
 use serde_json::{Value, json};
 use std::alloc::Global;
 
@@ -24,8 +24,8 @@ pub fn load_text(
 ) -> Result<Vec<u8>, Memory>
     ensures { IfOk result (λ text. text.items ≡ text_of_load accounts acknowledged sum) }
 {
-    let next = line(alloc, &object(alloc, accounts, acknowledged, sum)?)?;
+    let value = object(alloc, accounts, acknowledged, sum)?;
     let mut text = Vec::new(alloc);
-    text.extend_from_slice(next.as_bytes())?;
+    add_line(alloc, &mut text, value)?;
     Ok(text)
 }

@@ -4,7 +4,7 @@ ghost use Rattle.std.specs.Prelude.{◌≡◌, IfOk};
 ghost use Rattle.report_text.specs.Report.{pairs_text as text_of_pairs};
 
 use crate::Memory;
-use crate::lines::{line, pair};
+use crate::lines::{add_line, pair};
 use history_replay::KeyMap;
 use std::alloc::Global;
 
@@ -13,8 +13,8 @@ fn text_of(alloc: Global, pairs: &[(u64, u64)]) -> Result<Vec<u8>, Memory>
 {
     let mut text = Vec::new(alloc);
     for entry in pairs {
-        let next = line(alloc, &pair(alloc, entry.0, entry.1)?)?;
-        text.extend_from_slice(next.as_bytes())?;
+        let value = pair(alloc, entry.0, entry.1)?;
+        add_line(alloc, &mut text, value)?;
     }
     Ok(text)
 }

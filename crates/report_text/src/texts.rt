@@ -1,20 +1,18 @@
 // The report of a history.
 
-ghost use Rattle.std.specs.Prelude.{◌≡◌, ◌++◌, [], ◌∷◌, ◌<◌, ◌^◌, IfOk, length, ℕ, string_bytes};
+ghost use Rattle.std.specs.Prelude.{◌≡◌, ◌++◌, [], ◌∷◌, ◌<◌, ◌^◌, IfOk, length, ℕ};
 ghost use Rattle.clv_base.specs.declared.names.TxId.{TxId as Tx};
 ghost use Rattle.clv_base.specs.History.{acknowledged_in};
 ghost use Rattle.history_replay.specs.Entries.{entries_of};
 ghost use Rattle.history_replay.specs.Located.{located_all};
 ghost use Rattle.report_text.specs.Told.{told_in};
-ghost use Rattle.report_text.specs.Lines.{line as line_of};
-ghost use Rattle.report_text.specs.Counts.{counts_in, summary as summary_value};
 ghost use Rattle.report_text.specs.Report.{report as report_bytes, lines_in};
 ghost use Rattle.report_text.specs.Sets.{has_tx, told_at};
 ghost use Rattle.report_text.specs.Sinks.{TakesText, Causes};
 
 use crate::Memory;
 use crate::counts::{summary, tally};
-use crate::lines::{line, transaction};
+use crate::lines::{add_line, transaction};
 use crate::sets::TxSet;
 use crate::told::{ToldTable, acknowledged, all_told, requested_by};
 use clv_base::events::Entry;
@@ -47,8 +45,8 @@ fn lines(
         let entry = one.1;
         if let Some(tx) = requested_by(entry) {
             if acknowledged.contains(tx) {
-                let next = line(alloc, &transaction(alloc, tx, table.get(tx))?)?;
-                text.extend_from_slice(next.as_bytes())?;
+                let value = transaction(alloc, tx, table.get(tx))?;
+                add_line(alloc, &mut text, value)?;
             }
         }
     }
@@ -68,24 +66,14 @@ fn transactions(
     lines(alloc, acknowledged, &table, list)
 }
 
-// The line of the counts.
-fn last_line(alloc: Global, acknowledged: &TxSet, list: &[(u32, &Entry)]) -> Result<String, Memory>
-    requires { (t : Tx) → has_tx acknowledged.now t ≡ acknowledged_in (located_all list.now) t }
-    ensures { IfOk result (λ text. string_bytes text ≡ line_of (summary_value (counts_in (located_all list.now) (located_all list.now)))) }
-{
-    let counts = tally(alloc, acknowledged, list)?;
-    let object = summary(alloc, counts)?;
-    line(alloc, &object)
-}
-
 // The report of these entries.
 fn report_of(alloc: Global, list: &[(u32, &Entry)]) -> Result<Vec<u8>, Memory>
     ensures { IfOk result (λ text. text.items ≡ report_bytes (located_all list.now)) }
 {
     let set = acknowledged(alloc, list)?;
+    let counts = tally(alloc, &set, list)?;
     let mut text = transactions(alloc, &set, list)?;
-    let last = last_line(alloc, &set, list)?;
-    text.extend_from_slice(last.as_bytes())?;
+    add_line(alloc, &mut text, summary(alloc, counts)?)?;
     Ok(text)
 }
 

@@ -1,13 +1,13 @@
 use Rattle.std.proofs.Common.{ap, ap₂, ◌∙◌}
+use Rattle.std.proofs.lemmas.Result.{IfOk-weaker}
 use Rattle.clap.specs.Words.{App, with_subcommand}
-use Rattle.command_line.specs.Apps.{the_app}
+use Rattle.command_line.specs.Apps.{make_app, run_app, load_app, the_app}
 use Rattle.command_line.proofs.grammar.program.Goals as goal
 
 pub returns : goal.returns
 unfolding the_app
 returns c =
-    let top = λ (a : App). a.top in
-    let one = c.in_ok-one.ensures.shape c.in_ok-make_command.ensures.globals ∙ ap₂ with_subcommand c.bare.ensures (ap top c.in_ok-make_command.ensures.app) in
-    let two = c.in_ok-two.ensures.shape c.in_ok-run_command.ensures.globals ∙ ap₂ with_subcommand one (ap top c.in_ok-run_command.ensures.app) in
-    let three = c.in_ok-three.ensures.shape c.new.ensures.local ∙ ap₂ with_subcommand two (ap top c.new.ensures.app) in
-    c.in_ok-four.ensures.shape c.in_ok-load_command.ensures.globals ∙ ap₂ with_subcommand three (ap top c.in_ok-load_command.ensures.app)
+    let one = c.in_ok-one.ensures ∙ ap (λ (a : App). with_subcommand a make_app.top) c.bare.ensures in
+    let two = c.in_ok-two.ensures ∙ ap (λ (a : App). with_subcommand a run_app.top) one in
+    let three = c.in_ok-three.ensures.shape c.new.ensures.local ∙ ap₂ with_subcommand two (ap (λ (a : App). a.top) c.new.ensures.app) in
+    IfOk-weaker c.with_load.result _ _ (λ whole is. is ∙ ap (λ (a : App). with_subcommand a load_app.top) three) c.with_load.ensures

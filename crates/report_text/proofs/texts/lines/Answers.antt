@@ -1,6 +1,7 @@
-use Rattle.std.proofs.Common.{rules}
+use Rattle.std.proofs.Common.{ap, ◌∙◌}
+use Rattle.serde_json.specs.Written.{has_float}
 use Rattle.report_text.proofs.NoFloats.{in_transaction}
 use Rattle.report_text.proofs.texts.lines.Goals as goal
 
-pub line-requires : goal.line-requires
-line-requires c = rw c.in_ok-transaction.ensures (search (rules, in_transaction))
+pub add_line-requires : goal.add_line-requires
+add_line-requires c = ap has_float c.in_ok-value.ensures ∙ in_transaction c.in-Some.tx c.get.result.now
