@@ -140,7 +140,13 @@ impl<S: Store + Drop, L: Locks + Drop, G: Gate> ShardMachine<S, L, G> {
             Err(error) => return Err((error, gate)),
         };
         let outcome = Outcome::Up(epoch);
-        enter(&mut self.journal, risen.stamp, walker, Event::Restart, outcome);
+        enter(
+            &mut self.journal,
+            risen.stamp,
+            walker,
+            Event::Restart,
+            outcome,
+        );
         self.core = risen.core;
         self.last = risen.stamp;
         self.owed = risen.doubtful;
