@@ -1,5 +1,5 @@
 -- What holds of the machine's parts holds after an event of the core that makes no part, with its entry.
-use Rattle.std.proofs.Common.{◌≡◌, refl, sym, ◌∙◌, ap, ℕ, ◌+◌, ◌≤◌, Bool, true, [], drop, ◌∷◌, List, Some, None, is_none, arith}
+use Rattle.std.proofs.Common.{◌≡◌, refl, sym, ◌∙◌, ap, subst, ℕ, ◌+◌, ◌≤◌, Bool, true, [], drop, ◌∷◌, List, Some, None, is_none, arith}
 use Rattle.clv_base.specs.declared.messages.Message.{Message}
 use Rattle.clv_base.specs.declared.events.Event.{Event}
 use Rattle.clv_base.specs.declared.events.Event.TheVariants.{Send}
@@ -52,6 +52,17 @@ kept c d is_up j k owed has e o plain grounded none does rest fits ops few short
       room = room;
       gate = λ up. r.gate up ∙ ap is_none (sym stay.1);
     }
+
+-- the same where the core's shard stays
+pub stays : (c d : Core) (is_up : Bool) (j k : Journaled) (owed : ℕ) (has : Bool) → IsAtRest d → d.shard ≡ c.shard → k.shard ≡ j.shard → owed ≤ k.room → IsRunning c is_up j owed has → IsRunning d is_up k owed has
+stays c d is_up j k owed has rest same number room r = record {
+  rest = rest;
+  named = subst (λ (s : Shard). IsNamed s) (sym same) r.named;
+  index = number ∙ r.index ∙ ap (λ (s : Shard). s.shard) (sym same);
+  places = λ up. subst (λ (s : Shard). undropped s + flights s.flight ≤ owed) (sym same) (r.places up);
+  room = room;
+  gate = λ up. r.gate up ∙ ap (λ (s : Shard). is_none s.flight) (sym same);
+}
 
 -- ---- the oldest message leaves
 

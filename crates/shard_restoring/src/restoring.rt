@@ -124,6 +124,31 @@ fn left_of<L: Locks + Drop>(
     Ok(Left { locks, parts, deps })
 }
 
+/// The same of those in doubt, whose names rise, by the log itself, which gets room to undo them.
+fn left_in<L: Locks + Drop>(
+    alloc: Global,
+    buffer: &mut LogBuffer<LogRecord>,
+    in_doubt: &[(TxId, u32)],
+    pairs: &[(TxId, TxId)],
+) -> Result<Left<L>, Memory>
+    requires rising { IsStrictlySortedBy tx_cmp (map (λ d. d.0) in_doubt.now) }
+    requires pairs { IsStrictlySortedBy pair_cmp pairs.now }
+    ensures locks { IfOk result (λ m. L.rows m.locks ≡ restored_locks (map (λ d. d.0) in_doubt.now) buffer.old.records []) }
+    ensures parts { IfOk result (λ m. m.parts.entries ≡ restored_parts (map (λ d. d.0) in_doubt.now)) }
+    ensures pairs { IfOk result (λ m. m.deps.pairs ≡ pairs.now) }
+    ensures settled { IfOk result (λ m. AreSettled m.deps.commits buffer.old.records) }
+    ensures room { OnOk result (owed_by (λ t. tx_in t (map (λ d. d.0) in_doubt.now)) buffer.old.records ≤ buffer.new.room) }
+    ensures records { buffer.new.records ≡ buffer.old.records }
+    ensures fronts { (buffer.new.durable ≡ buffer.old.durable) × (buffer.new.taken ≡ buffer.old.taken) }
+{
+    let doubtful = doubtful_of(alloc, in_doubt)?;
+    let Ok(()) = reserve_undo(buffer, &doubtful.txs, &doubtful.set) else {
+        return Err(Memory);
+    };
+    let log = buffer.records(0, buffer.end());
+    left_of(alloc, &doubtful.txs, &doubtful.set, pairs, log)
+}
+
 /// The transactions of a shard whose log, which ends with a restart's records, is the buffer's, as the restart leaves them: those in doubt have
 /// their parts, closed, their locks, key X on each key that they wrote, and their predecessors without a COMMIT. The log has room to undo them.
 /// The store has the records after the restart; the lists are those that recovery tells.
@@ -145,12 +170,7 @@ pub fn restored<S: Store + Drop, L: Locks + Drop>(
     ensures fronts { IfOk result (λ t. (t.durable ≡ buffer.durable) × (t.taken ≡ buffer.taken)) }
 {
     restarts_end_at_rest();
-    let doubtful = doubtful_of(alloc, in_doubt)?;
-    let Ok(()) = reserve_undo(&mut buffer, &doubtful.txs, &doubtful.set) else {
-        return Err(Memory);
-    };
-    let log = buffer.records(0, buffer.end());
-    let left = left_of(alloc, &doubtful.txs, &doubtful.set, pairs, log)?;
+    let left = left_in(alloc, &mut buffer, in_doubt, pairs)?;
     Ok(ShardTx::new(
         shard, epoch, store, left.locks, left.parts, left.deps, buffer,
     ))

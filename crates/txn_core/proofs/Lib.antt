@@ -14,6 +14,7 @@ pub mod Closed
 pub mod Joins
 mod Crowds
 mod Spelling
+mod Roomier
 pub mod Totals
 pub mod Returning
 mod Births

@@ -42,4 +42,11 @@ impl<S: Store + Drop, L: Locks + Drop> ShardTx<S, L> {
             buffer: self.buffer,
         }
     }
+
+    /// The records, given away. Takes no memory.
+    pub fn into_store(self) -> S
+        ensures { S.records result ≡ (self.local).records }
+    {
+        self.store
+    }
 }

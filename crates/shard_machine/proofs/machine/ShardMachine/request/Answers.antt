@@ -12,7 +12,7 @@ use Rattle.machine_calls.specs.Steps.{entry}
 use Rattle.machine_laws.specs.Frame.{stamped_as}
 use Rattle.machine_laws.proofs.Laws.{events_alike}
 use Rattle.shard_machine.specs.Machined.{Machined}
-use Rattle.shard_machine.proofs.Running.{kept}
+use Rattle.shard_machine.proofs.Running.{kept, stays}
 use Rattle.shard_machine.proofs.Answering.{Told, entered, twice, on_up}
 use Rattle.shard_machine.proofs.Touching.{touched_as}
 use Rattle.shard_machine.proofs.machine.ShardMachine.request.Goals as goal
@@ -50,3 +50,19 @@ returns-in-Ok-request-clause-told g c =
     (on_up i.is_up (λ b. Told (stamped_as b i.last j s) c.args.clock c.args.walker e o (stamped_as b n k d)) c.if-not-self.false
     (entered i.last j k s d c.args.clock c.args.walker e (happen_up s e) o p n (events_alike i.last j s e refl)
     (twice (happen_up s e) s d (requested c.in-Ok-request.answer) o p does c.outcome_of-outcome.ensures c.outcome_of-copy.ensures) c.in-Ok.ensures.ok grown))
+
+-- where there is no memory there is only more room in the journal
+pub invariant_of-self : goal.invariant_of-self
+invariant_of-self g c =
+    let i = c.self.inside in let k = c.place.new.journal in let more = c.place.ensures.grown in let has = c.self.invariant.room in
+    stays i.core i.core i.is_up i.journal k i.owed (is_some i.gate) c.self.invariant.rest refl (ap (λ (x : Journaled). x.shard) c.place.ensures.same) (omega (arith, more, has)) c.self.invariant
+
+pub invariant_of-self-in_default : goal.invariant_of-self-in_default
+invariant_of-self-in_default g c =
+    let i = c.self.inside in let k = c.place.new.journal in let more = c.place.ensures.grown in let has = c.self.invariant.room in
+    stays i.core i.core i.is_up i.journal k i.owed (is_some i.gate) c.self.invariant.rest refl (ap (λ (x : Journaled). x.shard) c.place.ensures.same) (omega (arith, more, has)) c.self.invariant
+
+pub invariant_of-self-in-Err-request : goal.invariant_of-self-in-Err-request
+invariant_of-self-in-Err-request g c =
+    let i = c.self.inside in let k = c.place.new.journal in let more = c.place.ensures.grown in let has = c.self.invariant.room in
+    stays i.core c.request.new.self i.is_up i.journal k i.owed (is_some i.gate) c.request.ensures.still c.in-Err-request.ensures.err (ap (λ (x : Journaled). x.shard) c.place.ensures.same) (omega (arith, more, has)) c.self.invariant

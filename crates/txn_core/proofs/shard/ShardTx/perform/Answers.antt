@@ -1,5 +1,5 @@
 -- The log has an UPDATE more, so what is settled stays so; what was done is locked, so all can still be taken away; and its undo has room of its own.
-use Rattle.std.proofs.Common.{◌≡◌, ◌+◌, ◌≤◌, true, length, sym, ap, subst, ◌∙◌, arith}
+use Rattle.std.proofs.Common.{◌≡◌, ◌+◌, ◌≤◌, true, length, sym, ap, subst, ◌∙◌, arith, refl}
 use Rattle.clv_base.specs.Orders.{tx_get}
 use Rattle.clv_base.specs.Logs.{commit_lsn, wrote_in}
 use Rattle.clv_base.specs.State.{Local}
@@ -8,10 +8,13 @@ use Rattle.clv_base.specs.OneShard.{add_pairs, undecided_with}
 use Rattle.protocol_laws.specs.Spelled.{IsSpelled}
 use Rattle.shard_ops.specs.Planned.{needed}
 use Rattle.shard_ops.specs.Effects.{performed_by, locks_after, records_after, log_after, record_count, CanWrite}
-use Rattle.txn_core.specs.State.{TxState}
+use Rattle.clv_base.specs.declared.logs.LogRecord.{LogRecord}
+use Rattle.log_buffer.specs.Buffers.{Buffer}
+use Rattle.txn_core.proofs.Roomier.{kept_still, same_still, spare_still}
+use Rattle.txn_core.specs.State.{TxState, IsSameBut}
 use Rattle.txn_core.specs.Sound.{may_work, owed_more, KeepsSpare}
 use Rattle.txn_core.proofs.Settled.{commit_lsn-log_after}
-use Rattle.txn_core.proofs.Undoing.{sound_more, local_same, spare_like}
+use Rattle.txn_core.proofs.Undoing.{sound_more, local_same, spare_like, state_same}
 use Rattle.txn_core.proofs.Doing.{sound_performed, spare_performed, back_performed, known_from, known_alike, can_write}
 use Rattle.txn_core.proofs.Returning.{back_like}
 use Rattle.txn_core.proofs.Locked.{granted_ghosts_are_locked, ghosts_same}
@@ -93,3 +96,122 @@ returns-clause-given_back g c =
     let left : TxState = record { shard = s.shard; local = m; durable = now.durable; taken = now.taken; room = now.room; pairs_room = c.follow.new.self.room } in
     let inside : KeepsSpare left view = back_like view left (performed_by tx birth needs plan.insert write violated l) c.in-Ok-enter_part.ensures.ok log back in
     subst (λ (v : TxState). KeepsSpare left v) c.self.view_is inside
+
+pub returns-clause-ok : goal.returns-clause-ok
+returns-clause-ok g c =
+    let s = c.self.inside in let tx = c.args.tx in let birth = c.args.birth in let plan = c.args.plan.now in let violated = c.args.violated.now in
+    let l : Local = record { records = g.S.Store.records s.store; locks = g.L.Locks.rows s.locks; parts = s.parts.entries; pairs = s.deps.pairs; log = s.buffer.records; epoch = s.epoch } in
+    let write = plan.write in let needs = needed plan.needs in let now = c.write_down.new.buffer in let same = c.reserve_log.ensures.same in
+    let records = c.write_down.ensures.records ∙ ap (records_after write) c.reserve_rest.ensures.records in
+    let locks = c.take_locks.ensures ∙ ap (λ n. locks_after tx birth n plan.insert (g.L.Locks.rows c.reserve_locks.new.locks)) c.as_slice-2.ensures ∙ ap (locks_after tx birth needs plan.insert) c.reserve_locks.ensures.rows in
+    let pairs = c.follow.ensures.pairs ∙ ap (add_pairs tx violated) c.reserve_rest.ensures.pairs in
+    let log = c.write_down.ensures.log ∙ ap (λ b. log_after tx write b.records) same in
+    let m : Local = record { records = g.S.Store.records c.write_down.new.store; locks = g.L.Locks.rows c.take_locks.new.locks; parts = c.enter_part.new.parts.entries; pairs = c.follow.new.self.pairs; log = now.records; epoch = s.epoch } in
+    let left : TxState = record { shard = s.shard; local = m; durable = now.durable; taken = now.taken; room = now.room; pairs_room = c.follow.new.self.room } in
+    let done : m ≡ performed_by tx birth needs plan.insert write violated l = local_same _ _ _ _ _ (performed_by tx birth needs plan.insert write violated l) records locks c.in-Ok-enter_part.ensures.ok pairs log in
+    subst (λ (v : TxState). IsSameBut v (performed_by tx birth needs plan.insert write violated v.local) left) c.self.view_is
+    (state_same s.shard m (performed_by tx birth needs plan.insert write violated l) now.durable s.buffer.durable now.taken s.buffer.taken now.room c.follow.new.self.room done
+    (c.write_down.ensures.fronts.0 ∙ ap (λ (b : Buffer LogRecord). b.durable) same) (c.write_down.ensures.fronts.1 ∙ ap (λ (b : Buffer LogRecord). b.taken) same))
+
+-- where there is no memory only room was made
+pub invariant_of-self : goal.invariant_of-self
+invariant_of-self g c =
+    let s = c.self.inside in
+    let l : Local = record { records = g.S.Store.records s.store; locks = g.L.Locks.rows s.locks; parts = s.parts.entries; pairs = s.deps.pairs; log = s.buffer.records; epoch = s.epoch } in
+    let m : Local = record { records = g.S.Store.records s.store; locks = g.L.Locks.rows c.reserve_locks.new.locks; parts = s.parts.entries; pairs = s.deps.pairs; log = s.buffer.records; epoch = s.epoch } in
+    let is : m ≡ l = local_same _ _ _ _ _ l refl c.reserve_locks.ensures.rows refl refl refl in
+    kept_still l m s.deps.commits s.deps.commits s.buffer.room s.buffer.room is (λ t. refl) (omega arith) c.self.invariant
+
+pub returns-in-Err-clause-err : goal.returns-in-Err-clause-err
+returns-in-Err-clause-err g c =
+    let s = c.self.inside in
+    let l : Local = record { records = g.S.Store.records s.store; locks = g.L.Locks.rows s.locks; parts = s.parts.entries; pairs = s.deps.pairs; log = s.buffer.records; epoch = s.epoch } in
+    let m : Local = record { records = g.S.Store.records s.store; locks = g.L.Locks.rows c.reserve_locks.new.locks; parts = s.parts.entries; pairs = s.deps.pairs; log = s.buffer.records; epoch = s.epoch } in
+    let is : m ≡ l = local_same _ _ _ _ _ l refl c.reserve_locks.ensures.rows refl refl refl in
+    same_still s.shard l m s.buffer.durable s.buffer.taken s.buffer.room s.buffer.room s.deps.room s.deps.room c.args.self.now c.self.view_is is s.buffer.durable s.buffer.taken refl refl
+
+pub returns-in-Err-clause-room : goal.returns-in-Err-clause-room
+returns-in-Err-clause-room g c =
+    let s = c.self.inside in
+    let l : Local = record { records = g.S.Store.records s.store; locks = g.L.Locks.rows s.locks; parts = s.parts.entries; pairs = s.deps.pairs; log = s.buffer.records; epoch = s.epoch } in
+    let m : Local = record { records = g.S.Store.records s.store; locks = g.L.Locks.rows c.reserve_locks.new.locks; parts = s.parts.entries; pairs = s.deps.pairs; log = s.buffer.records; epoch = s.epoch } in
+    let is : m ≡ l = local_same _ _ _ _ _ l refl c.reserve_locks.ensures.rows refl refl refl in
+    spare_still s.shard l m s.buffer.durable s.buffer.taken s.buffer.room s.buffer.room s.deps.room s.deps.room c.args.self.now c.self.view_is is s.buffer.durable s.buffer.taken (omega arith)
+
+pub invariant_of-self-in-Err-reserve_rest : goal.invariant_of-self-in-Err-reserve_rest
+invariant_of-self-in-Err-reserve_rest g c =
+    let s = c.self.inside in
+    let l : Local = record { records = g.S.Store.records s.store; locks = g.L.Locks.rows s.locks; parts = s.parts.entries; pairs = s.deps.pairs; log = s.buffer.records; epoch = s.epoch } in
+    let m : Local = record { records = g.S.Store.records c.reserve_rest.new.store; locks = g.L.Locks.rows c.reserve_locks.new.locks; parts = s.parts.entries; pairs = c.reserve_rest.new.deps.pairs; log = s.buffer.records; epoch = s.epoch } in
+    let is : m ≡ l = local_same _ _ _ _ _ l c.reserve_rest.ensures.records c.reserve_locks.ensures.rows refl c.reserve_rest.ensures.pairs refl in
+    kept_still l m s.deps.commits c.reserve_rest.new.deps.commits s.buffer.room s.buffer.room is c.reserve_rest.ensures.commits (omega arith) c.self.invariant
+
+pub returns-in-Err-reserve_rest-clause-err : goal.returns-in-Err-reserve_rest-clause-err
+returns-in-Err-reserve_rest-clause-err g c =
+    let s = c.self.inside in
+    let l : Local = record { records = g.S.Store.records s.store; locks = g.L.Locks.rows s.locks; parts = s.parts.entries; pairs = s.deps.pairs; log = s.buffer.records; epoch = s.epoch } in
+    let m : Local = record { records = g.S.Store.records c.reserve_rest.new.store; locks = g.L.Locks.rows c.reserve_locks.new.locks; parts = s.parts.entries; pairs = c.reserve_rest.new.deps.pairs; log = s.buffer.records; epoch = s.epoch } in
+    let is : m ≡ l = local_same _ _ _ _ _ l c.reserve_rest.ensures.records c.reserve_locks.ensures.rows refl c.reserve_rest.ensures.pairs refl in
+    same_still s.shard l m s.buffer.durable s.buffer.taken s.buffer.room s.buffer.room s.deps.room c.reserve_rest.new.deps.room c.args.self.now c.self.view_is is s.buffer.durable s.buffer.taken refl refl
+
+pub returns-in-Err-reserve_rest-clause-room : goal.returns-in-Err-reserve_rest-clause-room
+returns-in-Err-reserve_rest-clause-room g c =
+    let s = c.self.inside in
+    let l : Local = record { records = g.S.Store.records s.store; locks = g.L.Locks.rows s.locks; parts = s.parts.entries; pairs = s.deps.pairs; log = s.buffer.records; epoch = s.epoch } in
+    let m : Local = record { records = g.S.Store.records c.reserve_rest.new.store; locks = g.L.Locks.rows c.reserve_locks.new.locks; parts = s.parts.entries; pairs = c.reserve_rest.new.deps.pairs; log = s.buffer.records; epoch = s.epoch } in
+    let is : m ≡ l = local_same _ _ _ _ _ l c.reserve_rest.ensures.records c.reserve_locks.ensures.rows refl c.reserve_rest.ensures.pairs refl in
+    spare_still s.shard l m s.buffer.durable s.buffer.taken s.buffer.room s.buffer.room s.deps.room c.reserve_rest.new.deps.room c.args.self.now c.self.view_is is s.buffer.durable s.buffer.taken (omega arith)
+
+pub invariant_of-self-in-Err-reserve_log : goal.invariant_of-self-in-Err-reserve_log
+invariant_of-self-in-Err-reserve_log g c =
+    let s = c.self.inside in
+    let l : Local = record { records = g.S.Store.records s.store; locks = g.L.Locks.rows s.locks; parts = s.parts.entries; pairs = s.deps.pairs; log = s.buffer.records; epoch = s.epoch } in
+    let m : Local = record { records = g.S.Store.records c.reserve_rest.new.store; locks = g.L.Locks.rows c.reserve_locks.new.locks; parts = s.parts.entries; pairs = c.reserve_rest.new.deps.pairs; log = c.reserve_log.new.buffer.records; epoch = s.epoch } in
+    let is : m ≡ l = local_same _ _ _ _ _ l c.reserve_rest.ensures.records c.reserve_locks.ensures.rows refl c.reserve_rest.ensures.pairs (ap (λ (b : Buffer LogRecord). b.records) c.reserve_log.ensures.same) in
+    let kept = ap (λ (b : Buffer LogRecord). b.room) c.in-Err-reserve_log.ensures.refused in
+    kept_still l m s.deps.commits c.reserve_rest.new.deps.commits s.buffer.room c.reserve_log.new.buffer.room is c.reserve_rest.ensures.commits (omega (arith, kept)) c.self.invariant
+
+pub returns-in-Err-reserve_log-clause-err : goal.returns-in-Err-reserve_log-clause-err
+returns-in-Err-reserve_log-clause-err g c =
+    let s = c.self.inside in
+    let l : Local = record { records = g.S.Store.records s.store; locks = g.L.Locks.rows s.locks; parts = s.parts.entries; pairs = s.deps.pairs; log = s.buffer.records; epoch = s.epoch } in
+    let m : Local = record { records = g.S.Store.records c.reserve_rest.new.store; locks = g.L.Locks.rows c.reserve_locks.new.locks; parts = s.parts.entries; pairs = c.reserve_rest.new.deps.pairs; log = c.reserve_log.new.buffer.records; epoch = s.epoch } in
+    let is : m ≡ l = local_same _ _ _ _ _ l c.reserve_rest.ensures.records c.reserve_locks.ensures.rows refl c.reserve_rest.ensures.pairs (ap (λ (b : Buffer LogRecord). b.records) c.reserve_log.ensures.same) in
+    let kept = ap (λ (b : Buffer LogRecord). b.room) c.in-Err-reserve_log.ensures.refused in
+    same_still s.shard l m s.buffer.durable s.buffer.taken s.buffer.room c.reserve_log.new.buffer.room s.deps.room c.reserve_rest.new.deps.room c.args.self.now c.self.view_is is c.reserve_log.new.buffer.durable c.reserve_log.new.buffer.taken (ap (λ (b : Buffer LogRecord). b.durable) c.reserve_log.ensures.same) (ap (λ (b : Buffer LogRecord). b.taken) c.reserve_log.ensures.same)
+
+pub returns-in-Err-reserve_log-clause-room : goal.returns-in-Err-reserve_log-clause-room
+returns-in-Err-reserve_log-clause-room g c =
+    let s = c.self.inside in
+    let l : Local = record { records = g.S.Store.records s.store; locks = g.L.Locks.rows s.locks; parts = s.parts.entries; pairs = s.deps.pairs; log = s.buffer.records; epoch = s.epoch } in
+    let m : Local = record { records = g.S.Store.records c.reserve_rest.new.store; locks = g.L.Locks.rows c.reserve_locks.new.locks; parts = s.parts.entries; pairs = c.reserve_rest.new.deps.pairs; log = c.reserve_log.new.buffer.records; epoch = s.epoch } in
+    let is : m ≡ l = local_same _ _ _ _ _ l c.reserve_rest.ensures.records c.reserve_locks.ensures.rows refl c.reserve_rest.ensures.pairs (ap (λ (b : Buffer LogRecord). b.records) c.reserve_log.ensures.same) in
+    let kept = ap (λ (b : Buffer LogRecord). b.room) c.in-Err-reserve_log.ensures.refused in
+    spare_still s.shard l m s.buffer.durable s.buffer.taken s.buffer.room c.reserve_log.new.buffer.room s.deps.room c.reserve_rest.new.deps.room c.args.self.now c.self.view_is is c.reserve_log.new.buffer.durable c.reserve_log.new.buffer.taken (omega (arith, kept))
+
+pub invariant_of-self-in-Err-enter_part : goal.invariant_of-self-in-Err-enter_part
+invariant_of-self-in-Err-enter_part g c =
+    let s = c.self.inside in
+    let l : Local = record { records = g.S.Store.records s.store; locks = g.L.Locks.rows s.locks; parts = s.parts.entries; pairs = s.deps.pairs; log = s.buffer.records; epoch = s.epoch } in
+    let m : Local = record { records = g.S.Store.records c.reserve_rest.new.store; locks = g.L.Locks.rows c.reserve_locks.new.locks; parts = c.enter_part.new.parts.entries; pairs = c.reserve_rest.new.deps.pairs; log = c.reserve_log.new.buffer.records; epoch = s.epoch } in
+    let is : m ≡ l = local_same _ _ _ _ _ l c.reserve_rest.ensures.records c.reserve_locks.ensures.rows c.in-Err-enter_part.ensures.err c.reserve_rest.ensures.pairs (ap (λ (b : Buffer LogRecord). b.records) c.reserve_log.ensures.same) in
+    let made = c.in-Ok-reserve_log.ensures.ok in
+    kept_still l m s.deps.commits c.reserve_rest.new.deps.commits s.buffer.room c.reserve_log.new.buffer.room is c.reserve_rest.ensures.commits (omega (arith, made)) c.self.invariant
+
+pub returns-in-Err-enter_part-clause-err : goal.returns-in-Err-enter_part-clause-err
+returns-in-Err-enter_part-clause-err g c =
+    let s = c.self.inside in
+    let l : Local = record { records = g.S.Store.records s.store; locks = g.L.Locks.rows s.locks; parts = s.parts.entries; pairs = s.deps.pairs; log = s.buffer.records; epoch = s.epoch } in
+    let m : Local = record { records = g.S.Store.records c.reserve_rest.new.store; locks = g.L.Locks.rows c.reserve_locks.new.locks; parts = c.enter_part.new.parts.entries; pairs = c.reserve_rest.new.deps.pairs; log = c.reserve_log.new.buffer.records; epoch = s.epoch } in
+    let is : m ≡ l = local_same _ _ _ _ _ l c.reserve_rest.ensures.records c.reserve_locks.ensures.rows c.in-Err-enter_part.ensures.err c.reserve_rest.ensures.pairs (ap (λ (b : Buffer LogRecord). b.records) c.reserve_log.ensures.same) in
+    let made = c.in-Ok-reserve_log.ensures.ok in
+    same_still s.shard l m s.buffer.durable s.buffer.taken s.buffer.room c.reserve_log.new.buffer.room s.deps.room c.reserve_rest.new.deps.room c.args.self.now c.self.view_is is c.reserve_log.new.buffer.durable c.reserve_log.new.buffer.taken (ap (λ (b : Buffer LogRecord). b.durable) c.reserve_log.ensures.same) (ap (λ (b : Buffer LogRecord). b.taken) c.reserve_log.ensures.same)
+
+pub returns-in-Err-enter_part-clause-room : goal.returns-in-Err-enter_part-clause-room
+returns-in-Err-enter_part-clause-room g c =
+    let s = c.self.inside in
+    let l : Local = record { records = g.S.Store.records s.store; locks = g.L.Locks.rows s.locks; parts = s.parts.entries; pairs = s.deps.pairs; log = s.buffer.records; epoch = s.epoch } in
+    let m : Local = record { records = g.S.Store.records c.reserve_rest.new.store; locks = g.L.Locks.rows c.reserve_locks.new.locks; parts = c.enter_part.new.parts.entries; pairs = c.reserve_rest.new.deps.pairs; log = c.reserve_log.new.buffer.records; epoch = s.epoch } in
+    let is : m ≡ l = local_same _ _ _ _ _ l c.reserve_rest.ensures.records c.reserve_locks.ensures.rows c.in-Err-enter_part.ensures.err c.reserve_rest.ensures.pairs (ap (λ (b : Buffer LogRecord). b.records) c.reserve_log.ensures.same) in
+    let made = c.in-Ok-reserve_log.ensures.ok in
+    spare_still s.shard l m s.buffer.durable s.buffer.taken s.buffer.room c.reserve_log.new.buffer.room s.deps.room c.reserve_rest.new.deps.room c.args.self.now c.self.view_is is c.reserve_log.new.buffer.durable c.reserve_log.new.buffer.taken (omega (arith, made))
