@@ -11,7 +11,7 @@ use clv_base::names::TxId;
 use log_buffer::LogBuffer;
 
 /// An UPDATE at its LSN: the transaction, the key, and its value before.
-#[derive(Clone, Copy, PartialEq, Eq, Debug)]
+#[derive(Clone, Copy, PartialEq, Eq)]
 pub(crate) struct Write {
     pub(crate) lsn: u64,
     pub(crate) tx: TxId,

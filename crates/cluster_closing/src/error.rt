@@ -2,7 +2,7 @@
 use cluster_opening::At;
 
 /// Why a shard wasn't restarted.
-#[derive(Clone, Copy, Debug, PartialEq, Eq)]
+#[derive(Clone, Copy, PartialEq, Eq)]
 pub enum RestartError {
     /// The disk failed.
     Failed,

@@ -16,7 +16,7 @@ pub struct Fetched<D> {
 }
 
 /// Why no disk was taken.
-#[derive(Clone, Copy, Debug, PartialEq, Eq)]
+#[derive(Clone, Copy, PartialEq, Eq)]
 pub enum FetchError {
     /// The shard isn't down.
     Up,

@@ -43,6 +43,7 @@ fn close_all<M: Machine>(
         splits: _,
         run: _,
         batches: _,
+        lacking: _,
         found: _,
     } = shards;
     let count = locks.len();

@@ -7,7 +7,7 @@ use clv_base::names::TxId;
 use std::alloc::AllocError;
 
 /// Where the first fault of a log stands.
-#[derive(Clone, Copy, Debug, PartialEq, Eq)]
+#[derive(Clone, Copy, PartialEq, Eq)]
 pub enum At {
     /// The field at this place of the disk is not as it should be.
     Byte(u64),
@@ -16,7 +16,7 @@ pub enum At {
 }
 
 /// Why the disks of a house weren't opened as the logs of all shards.
-#[derive(Clone, Copy, Debug, PartialEq, Eq)]
+#[derive(Clone, Copy, PartialEq, Eq)]
 pub enum OpenError {
     /// The shard's disk failed.
     Failed { shard: u32 },

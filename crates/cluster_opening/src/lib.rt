@@ -20,12 +20,8 @@ mod locking;
 mod logs_making;
 mod making;
 mod making_error;
-#[cfg(test)]
-mod making_tests;
 mod opening;
 pub mod opening_laws;
-#[cfg(test)]
-mod tests;
 mod undoing;
 
 pub use all_opening::{Stopped, open_shards};

@@ -87,6 +87,7 @@ fn begin<H: House, M: OverDisks<H::Disk>>(
                 splits: _,
                 run: _,
                 batches: _,
+                lacking: _,
                 found: _,
             } = shards;
             give_back_locks::<H, M>(house, locks, passes);

@@ -21,6 +21,7 @@ use shard_recovery::RecoverError;
 use std::alloc::Global;
 use std::array;
 use std::snapshot::Snapshot;
+use std::sync::atomic::AtomicU64;
 use turn_lock::{BatchGate, Pass, TurnLock};
 
 // The logs of all shards, each behind a gate of the machine that is to have it, and what each says of each transaction.
@@ -92,6 +93,7 @@ pub(crate) fn lock_all<H: House, M: OverDisks<H::Disk>>(
                 splits,
                 run,
                 batches: new_gates(),
+                lacking: AtomicU64::new(0),
                 found,
             };
             Ok((shards, passes))

@@ -17,7 +17,7 @@ use std::alloc::Global;
 use std::sync::Wait;
 
 /// Whether there was a message.
-#[derive(Clone, Copy, Debug, PartialEq, Eq)]
+#[derive(Clone, Copy, PartialEq, Eq)]
 pub enum Carry {
     /// It was taken out, and its receiver had it, or it is for no shard.
     Carried,
@@ -25,7 +25,7 @@ pub enum Carry {
 }
 
 /// Why none came: a message whose delivery meets it is lost.
-#[derive(Clone, Copy, Debug, PartialEq, Eq)]
+#[derive(Clone, Copy, PartialEq, Eq)]
 pub enum CarryError {
     /// The sender, or the receiver.
     Down { shard: u32 },

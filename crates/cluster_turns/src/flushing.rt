@@ -16,7 +16,7 @@ use std::alloc::Global;
 use std::sync::Wait;
 
 /// What a flush came to.
-#[derive(Clone, Copy, Debug, PartialEq, Eq)]
+#[derive(Clone, Copy, PartialEq, Eq)]
 pub enum Flushed {
     /// The first so many records are durable.
     Durable(u64),
@@ -27,7 +27,7 @@ pub enum Flushed {
 }
 
 /// Why nothing more is durable.
-#[derive(Clone, Copy, Debug, PartialEq, Eq)]
+#[derive(Clone, Copy, PartialEq, Eq)]
 pub enum FlushError {
     /// The disk failed, and the shard is down.
     Failed,

@@ -16,7 +16,7 @@ use std::alloc::{AllocError, Global};
 use std::marker::Model;
 
 /// How far a transaction is.
-#[derive(Clone, Copy, PartialEq, Eq, Debug)]
+#[derive(Clone, Copy, PartialEq, Eq)]
 pub enum Stage {
     /// It may have operations.
     Touching,
@@ -32,7 +32,7 @@ pub enum Stage {
 
 /// A transaction of a session: its name and birth, the number of its last operation and the shard of that where it was a part scan, the touched shards
 /// with the epochs that were answered, and how far it is.
-#[derive(Drop, Debug)]
+#[derive(Drop)]
 pub struct Place {
     tx: TxId,
     birth: Birth,

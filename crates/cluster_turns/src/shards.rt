@@ -20,6 +20,7 @@ use machine_laws::{Note, Origin};
 use std::alloc::Global;
 use std::snapshot::Snapshot;
 use std::sync::Wait;
+use std::sync::atomic::{AtomicU64, Ordering};
 use turn_lock::{BatchGate, Pass, TurnLock};
 
 // The last clock.
@@ -32,6 +33,8 @@ pub struct Shards<M: Machine> {
     pub run: u32,
     /// By shard: who writes a batch, and who sleeps until it is written.
     pub batches: [BatchGate; 16],
+    /// Not 0 once a session was stopped for want of memory: its transaction may stand in others' way for ever, so nobody waits from then on.
+    pub lacking: AtomicU64,
     /// Each shard's log as opening found it.
     pub found: Snapshot<Vec<Vec<LogRecord>>>,
 }
@@ -46,7 +49,7 @@ pub struct Walker<M: Machine> {
 }
 
 /// A walker's clock ends at 2^48 - 1.
-#[derive(Clone, Copy, Debug, PartialEq, Eq)]
+#[derive(Clone, Copy, PartialEq, Eq)]
 pub struct WornClock {
     pub at: u64,
 }
@@ -74,6 +77,16 @@ impl<M: Machine> Walker<M> {
 }
 
 impl<M: Machine> Shards<M> {
+    /// Tells all sessions that one was stopped for want of memory.
+    pub fn tell_lack(&self) {
+        self.lacking.store(1, Ordering::SeqCst);
+    }
+
+    /// Whether one was, as far as this thread knows.
+    pub fn is_lacking(&self) -> bool {
+        self.lacking.load(Ordering::SeqCst) != 0
+    }
+
     /// One event of a walker on a shard, in one turn.
     pub fn event<R: Wait>(
         &self,

@@ -13,7 +13,7 @@ use std::sync::Wait;
 use turn_lock::Batch;
 
 /// Why a drain ended before all was settled.
-#[derive(Clone, Copy, Debug, PartialEq, Eq)]
+#[derive(Clone, Copy, PartialEq, Eq)]
 pub enum DrainError {
     /// A turn found the shard down, or its flush failed.
     Down { shard: u32 },

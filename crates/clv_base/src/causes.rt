@@ -3,7 +3,7 @@
 use crate::names::TxId;
 
 /// Why a part votes no.
-#[derive(Clone, Copy, PartialEq, Eq, Debug)]
+#[derive(Clone, Copy, PartialEq, Eq)]
 pub enum NoWhy {
     /// The abort of this transaction took the part away.
     Doomed { tx: TxId },
@@ -12,7 +12,7 @@ pub enum NoWhy {
 }
 
 /// Why a transaction is aborted.
-#[derive(Clone, Copy, PartialEq, Eq, Debug)]
+#[derive(Clone, Copy, PartialEq, Eq)]
 pub enum AbortCause {
     /// Its session asked for it.
     Asked,
@@ -27,7 +27,7 @@ pub enum AbortCause {
 }
 
 /// The vote of a part.
-#[derive(Clone, Copy, PartialEq, Eq, Debug)]
+#[derive(Clone, Copy, PartialEq, Eq)]
 pub enum Vote {
     /// It wrote, and can commit.
     Yes,

@@ -7,7 +7,7 @@ use crate::names::{Birth, TxId};
 use crate::ops::{Answer, Op};
 
 /// One event of a shard.
-#[derive(Clone, Drop, Debug)]
+#[derive(Drop)]
 pub enum Event {
     /// A session asks for its operation number `nth`; `seen` is the epoch that it was answered at its first touch of the shard, if it touched it.
     Op {
@@ -50,7 +50,7 @@ pub enum Event {
 }
 
 /// What an event comes to. Those from `Wait` on are quiet.
-#[derive(Clone, Drop, Debug)]
+#[derive(Drop)]
 pub enum Outcome {
     /// The operation was done; the shard has this epoch.
     Answered { answer: Answer, epoch: u64 },
@@ -99,7 +99,7 @@ pub enum Outcome {
 }
 
 /// One entry of a shard's journal: when, by which walker (a session's number, or another thread's), what, and what came of it.
-#[derive(Clone, Drop, Debug)]
+#[derive(Drop)]
 pub struct Entry {
     pub stamp: u64,
     pub walker: u32,
@@ -109,7 +109,7 @@ pub struct Entry {
 
 /// One step of all shards together: an event of a walker on a shard. Of the end of a flush `kept` tells whether it is durable,
 /// and of a restart whether it finds the records in flight.
-#[derive(Clone, Drop, Debug)]
+#[derive(Drop)]
 pub struct CoreStep {
     pub walker: u32,
     pub shard: u32,

@@ -10,7 +10,7 @@ use crate::names::TxId;
 use std::marker::Model;
 
 /// Pairs of a key and its value.
-#[derive(Clone, Drop, Debug)]
+#[derive(Clone, Drop)]
 pub struct Pairs {
     items: Vec<(u64, u64)>,
 }
@@ -38,7 +38,7 @@ impl Pairs {
 }
 
 /// Transactions, in rising order.
-#[derive(Clone, Drop, Debug)]
+#[derive(Drop)]
 pub struct TxList {
     items: Vec<TxId>,
 }
@@ -73,7 +73,7 @@ impl TxList {
 }
 
 /// Touched shards, each with its epoch.
-#[derive(Clone, Drop, Debug)]
+#[derive(Clone, Drop)]
 pub struct Touched {
     items: Vec<(u32, u64)>,
 }
@@ -101,7 +101,7 @@ impl Touched {
 }
 
 /// Votes by shard, each at its place.
-#[derive(Clone, Drop, Debug)]
+#[derive(Drop)]
 pub struct Votes {
     pub(crate) given: [Option<Vote>; 16],
 }

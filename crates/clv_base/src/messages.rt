@@ -4,7 +4,7 @@ use crate::causes::Vote;
 use crate::names::TxId;
 
 /// A message; `to` is the shard that it is sent to.
-#[derive(Clone, Copy, PartialEq, Eq, Debug)]
+#[derive(Clone, Copy, PartialEq, Eq)]
 pub enum Message {
     /// The home asks for a vote; `seen` is the epoch that the session was answered at its first touch.
     Prepare {

@@ -3,7 +3,7 @@
 use crate::names::{Birth, TxId};
 
 /// What is held of a key or of a gap: nothing, a shared or an exclusive lock.
-#[derive(Clone, Copy, PartialEq, Eq, Debug)]
+#[derive(Clone, Copy, PartialEq, Eq)]
 pub enum Part {
     N,
     S,
@@ -11,14 +11,14 @@ pub enum Part {
 }
 
 /// What is held of a record and of the gap above it.
-#[derive(Clone, Copy, PartialEq, Eq, Debug)]
+#[derive(Clone, Copy, PartialEq, Eq)]
 pub struct Mode {
     pub key: Part,
     pub gap: Part,
 }
 
 /// What a lock is on: a record, or the place below the first one.
-#[derive(Clone, Copy, PartialEq, Eq, PartialOrd, Ord, Debug)]
+#[derive(Clone, Copy, PartialEq, Eq, PartialOrd, Ord)]
 pub enum Anchor {
     /// The place below all records of the shard.
     Low,
@@ -27,14 +27,14 @@ pub enum Anchor {
 }
 
 /// A mode that is asked for on an anchor.
-#[derive(Clone, Copy, PartialEq, Eq, Debug)]
+#[derive(Clone, Copy, PartialEq, Eq)]
 pub struct Need {
     pub anchor: Anchor,
     pub mode: Mode,
 }
 
 /// Who holds what on an anchor. A closed holder's transaction has made its request, so its locks may be violated.
-#[derive(Clone, Copy, PartialEq, Eq, Debug)]
+#[derive(Clone, Copy, PartialEq, Eq)]
 pub struct Holder {
     pub tx: TxId,
     pub birth: Birth,
@@ -43,7 +43,7 @@ pub struct Holder {
 }
 
 /// What is decided on a request for locks.
-#[derive(Clone, Copy, PartialEq, Eq, Debug)]
+#[derive(Clone, Copy, PartialEq, Eq)]
 pub enum Decision {
     /// Every holder in the way is closed.
     Grant,
@@ -54,7 +54,7 @@ pub enum Decision {
 }
 
 /// What stands at a key.
-#[derive(Clone, Copy, PartialEq, Eq, Debug)]
+#[derive(Clone, Copy, PartialEq, Eq)]
 pub enum Found {
     /// A record with this value.
     Live(u64),

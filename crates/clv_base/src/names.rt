@@ -8,7 +8,7 @@ pub type Value = u64;
 
 /// A transaction: the run of the store that it belongs to (from 1), its session (1 to 64), and its number there (from 1).
 /// Transactions are ordered by these fields, in this order.
-#[derive(Clone, Copy, PartialEq, Eq, PartialOrd, Ord, Debug)]
+#[derive(Clone, Copy, PartialEq, Eq, PartialOrd, Ord)]
 pub struct TxId {
     pub run: u32,
     pub session: u32,
@@ -17,7 +17,7 @@ pub struct TxId {
 
 /// The age of a transaction: the stamp at which its first try began, the session, and a number. Births are ordered by these fields, in this
 /// order; the smaller is older. A transaction that is tried again keeps its birth.
-#[derive(Clone, Copy, PartialEq, Eq, PartialOrd, Ord, Debug)]
+#[derive(Clone, Copy, PartialEq, Eq, PartialOrd, Ord)]
 pub struct Birth {
     pub stamp: u64,
     pub session: u32,
@@ -25,7 +25,7 @@ pub struct Birth {
 }
 
 /// A place in a history: the stamp of an entry, and its shard.
-#[derive(Clone, Copy, PartialEq, Eq, PartialOrd, Ord, Debug)]
+#[derive(Clone, Copy, PartialEq, Eq, PartialOrd, Ord)]
 pub struct Point {
     pub stamp: u64,
     pub shard: u32,

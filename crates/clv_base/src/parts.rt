@@ -6,7 +6,7 @@ use crate::names::TxId;
 use std::marker::Model;
 
 /// How far the part of a transaction is.
-#[derive(Clone, Copy, PartialEq, Eq, Debug)]
+#[derive(Clone, Copy, PartialEq, Eq)]
 pub enum PartState {
     Unknown,
     Active,
@@ -15,7 +15,7 @@ pub enum PartState {
 }
 
 /// What votes and decisions depend on.
-#[derive(Clone, Copy, PartialEq, Eq, Debug)]
+#[derive(Clone, Copy, PartialEq, Eq)]
 pub struct PartFacts {
     pub state: PartState,
     pub now: u64,
@@ -30,7 +30,7 @@ pub struct PartFacts {
 }
 
 /// The shards of a commit.
-#[derive(Clone, Drop, Debug)]
+#[derive(Clone, Drop)]
 pub struct ShardList {
     pub(crate) shards: [u32; 15],
     pub(crate) count: usize,

@@ -7,7 +7,7 @@ ghost use Rattle.clv_base.specs.declared.splits.SplitsError.TheVariants.{TooMany
 use std::marker::Model;
 
 /// Why a list is not one of splits.
-#[derive(Clone, Copy, PartialEq, Eq, Debug)]
+#[derive(Clone, Copy, PartialEq, Eq)]
 pub enum SplitsError {
     /// There are more than fifteen.
     TooMany { count: usize },
@@ -16,7 +16,7 @@ pub enum SplitsError {
 }
 
 /// The keys at which the shards above the first begin: at most fifteen, rising.
-#[derive(Clone, Debug, Drop)]
+#[derive(Drop)]
 pub struct Splits {
     keys: [u64; 15],
     count: usize,
@@ -120,68 +120,5 @@ fn range_at(splits: &[u64], place: usize) -> Option<(u64, u64)>
         Some((first, next - 1))
     } else {
         None
-    }
-}
-
-#[cfg(test)]
-mod tests {
-    use super::*;
-
-    /// Fifteen numbers that rise by ten.
-    const TENS: [u64; 15] = [
-        10, 20, 30, 40, 50, 60, 70, 80, 90, 100, 110, 120, 130, 140, 150,
-    ];
-
-    #[test]
-    fn takes_rising_lists_alone(rt: HostRuntime) {
-        let sixteen = [1, 2, 3, 4, 5, 6, 7, 8, 9, 10, 11, 12, 13, 14, 15, 16];
-        assert!(rt; Splits::new(&[]).is_ok());
-        assert!(rt; Splits::new(&TENS).is_ok());
-        let refused = [
-            (
-                Splits::new(&[20, 10]).err(),
-                SplitsError::NotRising { place: 2 },
-            ),
-            (
-                Splits::new(&[10, 20, 20, 5]).err(),
-                SplitsError::NotRising { place: 3 },
-            ),
-            (
-                Splits::new(&sixteen).err(),
-                SplitsError::TooMany { count: 16 },
-            ),
-        ];
-        for (answer, error) in refused {
-            assert_eq!(rt; answer, Some(error));
-        }
-    }
-
-    #[test]
-    fn finds_shards_and_spans(rt: HostRuntime) -> Result<(), SplitsError> {
-        let splits = Splits::new(&[10, 20])?;
-        assert_eq!(rt; splits.shards(), 3);
-        assert!(rt; splits.as_slice() == [10, 20].as_slice());
-        for (key, shard) in [(0, 0), (9, 0), (10, 1), (19, 1), (20, 2), (u64::MAX, 2)] {
-            assert_eq!(rt; splits.shard_of(key), shard, "key {key}");
-        }
-        let spans = [Some((0, 9)), Some((10, 19)), Some((20, u64::MAX)), None];
-        for (shard, span) in (0..4).zip(spans) {
-            assert_eq!(rt; splits.span(shard), span, "shard {shard}");
-        }
-        Ok(())
-    }
-
-    #[test]
-    fn edges_of_the_key_space(rt: HostRuntime) -> Result<(), SplitsError> {
-        let whole = Splits::new(&[])?;
-        assert_eq!(rt; (whole.shards(), whole.shard_of(u64::MAX)), (1, 0));
-        assert_eq!(rt; whole.span(0), Some((0, u64::MAX)));
-        let from_zero = Splits::new(&[0, u64::MAX])?;
-        assert_eq!(rt; from_zero.span(0), None);
-        assert_eq!(rt; from_zero.span(1), Some((0, u64::MAX - 1)));
-        assert_eq!(rt; from_zero.span(2), Some((u64::MAX, u64::MAX)));
-        let most = Splits::new(&TENS)?;
-        assert_eq!(rt; (most.shards(), most.shard_of(150)), (16, 15));
-        Ok(())
     }
 }

@@ -6,7 +6,7 @@ use crate::names::{Birth, TxId};
 use crate::parts::ShardList;
 
 /// How far a part is. One that is gone names the transaction whose abort took it away, if one did.
-#[derive(Clone, Copy, PartialEq, Eq, Debug)]
+#[derive(Clone, Copy, PartialEq, Eq)]
 pub enum Stage {
     /// It may have more operations.
     Active,
@@ -17,7 +17,7 @@ pub enum Stage {
 }
 
 /// The part of a transaction on a shard: whether a restart found it in doubt, and whether a Drop of it came.
-#[derive(Clone, Copy, PartialEq, Eq, Debug)]
+#[derive(Clone, Copy, PartialEq, Eq)]
 pub struct Held {
     pub birth: Birth,
     pub stage: Stage,
@@ -26,7 +26,7 @@ pub struct Held {
 }
 
 /// What is known of a part as one that votes: how many votes it owes, one for each Prepare that came, and the one given first.
-#[derive(Clone, Copy, PartialEq, Eq, Debug)]
+#[derive(Clone, Copy, PartialEq, Eq)]
 pub struct Voter {
     pub home: u32,
     pub seen: u64,
@@ -35,7 +35,7 @@ pub struct Voter {
 }
 
 /// What the home has ruled of a request.
-#[derive(Clone, Drop, Debug)]
+#[derive(Drop)]
 pub enum RequestState {
     /// Nothing yet.
     Undecided,
@@ -48,7 +48,7 @@ pub enum RequestState {
 }
 
 /// A request at its home: the touched shards with their epochs, the votes that came, the ruling, and the acknowledgements of its commit.
-#[derive(Clone, Drop, Debug)]
+#[derive(Drop)]
 pub struct Request {
     pub touched: Touched,
     pub votes: Votes,
@@ -58,7 +58,7 @@ pub struct Request {
 }
 
 /// What becomes due of a request at its home.
-#[derive(Clone, Drop, Debug)]
+#[derive(Drop)]
 pub enum Ruling {
     /// A COMMIT with the shards that voted yes.
     Commit { parts: ShardList },
@@ -71,7 +71,7 @@ pub enum Ruling {
 }
 
 /// What a part makes of a decision that comes: it is done already, it waited for it, or the decision is stale.
-#[derive(Clone, Copy, PartialEq, Eq, Debug)]
+#[derive(Clone, Copy, PartialEq, Eq)]
 pub enum Taken {
     Done,
     Waiting,

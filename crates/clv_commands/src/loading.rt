@@ -32,7 +32,7 @@ use std::sync::Wait;
 use std::thread::Threads;
 
 /// What a workload is made from: a number, so many sessions and accounts, and so many transfers of each session.
-#[derive(Clone, Copy, Debug)]
+#[derive(Clone, Copy)]
 pub struct Work {
     pub seed: u64,
     pub sessions: u64,

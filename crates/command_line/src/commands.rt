@@ -3,7 +3,7 @@
 use clv_base::splits::Splits;
 
 /// A command.
-#[derive(Clone, Debug, Drop)]
+#[derive(Drop)]
 pub enum Command {
     /// Makes the empty logs of the shards that these splits part.
     Make {
@@ -25,7 +25,7 @@ pub enum Command {
 }
 
 /// Why words are no command.
-#[derive(Clone, Copy, PartialEq, Eq, Debug)]
+#[derive(Clone, Copy, PartialEq, Eq)]
 pub enum WordsError {
     /// They aren't one.
     Usage,

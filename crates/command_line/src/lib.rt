@@ -14,10 +14,6 @@ mod meanings;
 mod refusals;
 mod running;
 mod status;
-#[cfg(test)]
-mod status_tests;
-#[cfg(test)]
-mod tests;
 
 pub use commands::{Command, WordsError};
 pub use meanings::command_of;

@@ -8,7 +8,7 @@ use clv_base::names::TxId;
 use std::alloc::{AllocError, Global};
 
 /// How the program ends, with its number in the order of the system's exit statuses.
-#[derive(Clone, Copy, Debug, PartialEq, Eq)]
+#[derive(Clone, Copy, PartialEq, Eq)]
 pub enum Status {
     /// 0: all was done.
     Fine,

@@ -1,7 +1,7 @@
 // What a disk in memory notes.
 
 /// A call that was made, with its place and how many bytes it read or wrote.
-#[derive(Clone, Copy, Debug, PartialEq, Eq)]
+#[derive(Clone, Copy, PartialEq, Eq)]
 pub enum Noted {
     Len,
     Read { at: usize, count: usize },
@@ -15,7 +15,7 @@ pub enum Noted {
 
 /// What a crash leaves of bytes that aren't synced: what they were at the last sync (0 past its end), what a read
 /// gives, or one byte.
-#[derive(Clone, Copy, Debug, PartialEq, Eq)]
+#[derive(Clone, Copy, PartialEq, Eq)]
 pub enum Choice {
     Before,
     Written,

@@ -12,7 +12,7 @@ use clv_base::state::Ruling;
 use two_phase_commit::{Coordinator, Participant};
 
 /// What is due for a transaction.
-#[derive(Drop, Debug)]
+#[derive(Drop)]
 pub enum Due {
     /// Its COMMIT became durable: its part is finished, and those are told that wait for it.
     Commit,

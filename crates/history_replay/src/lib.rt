@@ -5,20 +5,14 @@
 //! acknowledged ones of a history in the order of their requests, from the map that the logs found stand for. It stands on `clv_base`.
 #![tactic(auto)]
 
-#[cfg(test)]
-mod acknowledged_tests;
 mod all_entries;
 mod history;
 mod laws;
 mod map;
-#[cfg(test)]
-mod map_tests;
 mod replaying;
 mod replays;
 mod standing;
 mod tables;
-#[cfg(test)]
-mod tests;
 mod told;
 mod transactions;
 

@@ -4,7 +4,7 @@ ghost use Rattle.io_model.specs.Story.{Story, reads};
 ghost use Rattle.io_model.specs.Disk.{Tells, Measures, Reads, Writes, Cuts, Syncs, HasCause};
 
 /// The disk, or the house of disks, refused a call.
-#[derive(Clone, Copy, Debug, PartialEq, Eq)]
+#[derive(Clone, Copy, PartialEq, Eq)]
 pub struct Failed;
 
 /// A disk of at most 2^62 bytes. Between two syncs that succeed a crash may leave any bytes in the ranges that were

@@ -12,11 +12,7 @@ mod file_house;
 mod house;
 mod memory;
 mod pace;
-#[cfg(test)]
-mod stream_tests;
 mod streams;
-#[cfg(test)]
-mod tests;
 mod whole;
 
 pub use adapters::{ReadSource, WriteSink};

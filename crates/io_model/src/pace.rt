@@ -1,7 +1,7 @@
 // Points at which a run may be held.
 
 /// Where a run has come.
-#[derive(Clone, Copy, Debug, PartialEq, Eq)]
+#[derive(Clone, Copy, PartialEq, Eq)]
 pub enum Step {
     /// A session is about to make a transaction's first event.
     Begun { session: u32 },
@@ -17,7 +17,7 @@ pub trait Pace {
 }
 
 /// Holds nothing.
-#[derive(Clone, Copy, Debug, PartialEq, Eq)]
+#[derive(Clone, Copy, PartialEq, Eq)]
 pub struct NoPace;
 
 impl Pace for NoPace {

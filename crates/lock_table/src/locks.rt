@@ -13,7 +13,7 @@ use clv_base::names::{Birth, TxId};
 use std::alloc::Global;
 
 /// There was no memory for it.
-#[derive(Drop, Debug)]
+#[derive(Drop)]
 pub struct Memory;
 
 /// The locks of a shard.

@@ -9,7 +9,7 @@ use clv_base::names::TxId;
 
 /// What a log says of one transaction: the LSNs of its first and last UPDATE, of its first PREPARE and its first COMMIT;
 /// whether it has an ABORT, an END, and any record of its own.
-#[derive(Clone, Copy, Debug)]
+#[derive(Clone, Copy)]
 pub struct TxFacts {
     pub first_update: Option<usize>,
     pub last_update: Option<usize>,

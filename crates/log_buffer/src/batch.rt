@@ -5,7 +5,7 @@ ghost use Rattle.log_buffer.specs.Buffers.{fitting_by, sizes};
 use crate::measured::Measured;
 
 /// How much a batch holds: so many records, which have together so many bytes.
-#[derive(Clone, Copy, PartialEq, Eq, Debug)]
+#[derive(Clone, Copy, PartialEq, Eq)]
 pub struct Extent {
     pub count: usize,
     pub bytes: usize,

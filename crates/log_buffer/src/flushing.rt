@@ -15,7 +15,7 @@ use std::alloc::Global;
 const BATCH_LIMIT: usize = 1_048_576;
 
 /// Why not all records became durable.
-#[derive(Clone, Copy, Debug, PartialEq, Eq)]
+#[derive(Clone, Copy, PartialEq, Eq)]
 pub enum FlushError {
     /// The disk failed. Whether a crash now leaves the batch in flight is open, and the gate is shut.
     Failed,

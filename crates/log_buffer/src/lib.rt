@@ -8,8 +8,6 @@
 #![tactic(auto)]
 
 mod batch;
-#[cfg(test)]
-mod batch_tests;
 mod buffer;
 mod bytes;
 mod chain;
@@ -18,8 +16,6 @@ mod making;
 mod measured;
 mod payload;
 mod spelling;
-#[cfg(test)]
-mod tests;
 mod undoing;
 
 pub use batch::Extent;

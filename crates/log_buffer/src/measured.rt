@@ -8,7 +8,7 @@ use clv_base::logs::LogRecord;
 use clv_base::names::TxId;
 
 /// What a record is to the writes of a transaction.
-#[derive(Clone, Copy, PartialEq, Eq, Debug)]
+#[derive(Clone, Copy, PartialEq, Eq)]
 pub enum Link {
     /// A write of the transaction.
     Writes(TxId),

@@ -8,7 +8,7 @@ use io_model::Failed;
 use std::alloc::{AllocError, AllocFailed};
 
 /// Why a log wasn't made.
-#[derive(Clone, Copy, Debug, PartialEq, Eq)]
+#[derive(Clone, Copy, PartialEq, Eq)]
 pub enum MakeError {
     /// The disk has so many bytes already.
     Exists { len: u64 },
@@ -26,7 +26,7 @@ impl From<Failed> for MakeError {
 }
 
 /// Why a log wasn't opened.
-#[derive(Clone, Copy, Debug, PartialEq, Eq)]
+#[derive(Clone, Copy, PartialEq, Eq)]
 pub enum OpenLogError {
     /// The first field that is not as it should be stands at this place.
     NotLog { offset: u64 },
@@ -52,7 +52,7 @@ impl From<Failed> for OpenLogError {
 }
 
 /// Why bytes weren't read.
-#[derive(Clone, Copy, Debug, PartialEq, Eq)]
+#[derive(Clone, Copy, PartialEq, Eq)]
 pub enum ParseError {
     /// The first field that is not as it should be stands at this place.
     NotLog(usize),

@@ -108,7 +108,6 @@ fn read_count(agreed: Option<&Header>, bytes: &[u8]) -> Option<usize>
 }
 
 // The splits of the header of a shard, or the first place that breaks the format.
-#[tactic(auto, unfolding(crate::specs::Header::header_of))]
 fn read_header(
     alloc: Global,
     shard: u32,

@@ -9,7 +9,7 @@ use std::alloc::{AllocError, AllocFailed};
 pub type Memory = AllocError;
 
 /// Why no record was read.
-#[derive(Clone, Copy, Debug, PartialEq, Eq)]
+#[derive(Clone, Copy, PartialEq, Eq)]
 pub enum DecodeError {
     /// No record's spelling stands at the front.
     Bad,

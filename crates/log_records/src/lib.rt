@@ -21,5 +21,3 @@ pub use spelling::{
 };
 pub use writing::encode;
 
-#[cfg(test)]
-mod tests;

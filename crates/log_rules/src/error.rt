@@ -6,7 +6,7 @@ ghost use Rattle.log_rules.specs.declared.error.OrderError.TheVariants.{Memory a
 use std::alloc::AllocError;
 
 /// Why a log isn't taken.
-#[derive(Clone, Copy, Debug, PartialEq, Eq)]
+#[derive(Clone, Copy, PartialEq, Eq)]
 pub enum OrderError {
     /// The record at this LSN breaks its rule, and none before it does.
     Breaks(u64),

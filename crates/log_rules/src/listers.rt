@@ -7,7 +7,7 @@ use std::alloc::{AllocError, Global};
 use std::collections::BTreeMap;
 
 // A transaction that lists another one, and the place of the one that listed it before.
-#[derive(Clone, Copy, Debug)]
+#[derive(Clone, Copy)]
 pub struct Lister {
     pub tx: TxId,
     pub next: Option<usize>,

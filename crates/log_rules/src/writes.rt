@@ -10,7 +10,7 @@ use std::collections::HashMap;
 use tx_table::TxTable;
 
 // An UPDATE, and where others of its key and of its transaction stand when it is written.
-#[derive(Clone, Copy, Debug)]
+#[derive(Clone, Copy)]
 pub struct Write {
     pub lsn: u64,
     pub tx: TxId,
@@ -27,7 +27,7 @@ pub struct Write {
 
 // The links of an UPDATE, each kept as the number above its LSN, 0 for none. There is a row for each record of the log, and options
 // would take twice the room.
-#[derive(Clone, Copy, Debug)]
+#[derive(Clone, Copy)]
 pub struct Links {
     pub below: u64,
     pub foreign: u64,
@@ -35,7 +35,7 @@ pub struct Links {
 }
 
 // What is kept of a record at its place: of an UPDATE its links, since all else stands in the record.
-#[derive(Clone, Copy, Debug)]
+#[derive(Clone, Copy)]
 pub enum Row {
     // No UPDATE.
     Empty,

@@ -15,7 +15,7 @@ use ordered_store::Store;
 use std::alloc::Global;
 
 /// Why no event was made. The machine is as before.
-#[derive(Clone, Copy, Debug, PartialEq, Eq)]
+#[derive(Clone, Copy, PartialEq, Eq)]
 pub enum StepError {
     Memory,
     /// The entry's stamp would be `at` or more, and stamps end below it.

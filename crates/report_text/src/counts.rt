@@ -18,7 +18,7 @@ use serde_json::{Value, json};
 use std::alloc::Global;
 
 // How many transactions were acknowledged, are unsettled, and were aborted.
-#[derive(Clone, Copy, Debug)]
+#[derive(Clone, Copy)]
 pub struct Counts {
     pub acknowledged: u64,
     pub unsettled: u64,

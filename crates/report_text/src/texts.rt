@@ -21,7 +21,7 @@ use io_model::{Failed, Sink, write_all};
 use std::alloc::Global;
 
 /// Why a report wasn't written.
-#[derive(Clone, Copy, PartialEq, Eq, Debug)]
+#[derive(Clone, Copy, PartialEq, Eq)]
 pub enum ReportError {
     /// The sink failed.
     Failed,

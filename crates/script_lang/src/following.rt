@@ -10,7 +10,7 @@ use crate::actions::Action;
 use clv_base::ops::{Answer, Op};
 
 // What of a move is still to be done.
-#[derive(Clone, Copy, Debug)]
+#[derive(Clone, Copy)]
 pub enum Stage {
     // Nothing: the next line begins.
     AtLine,
@@ -30,7 +30,7 @@ pub enum Stage {
 
 /// A transaction on its way through its lines: what it does next, given its answers so far. It keeps no answers, and each call takes constant
 /// time and no memory.
-#[derive(Drop, Debug)]
+#[derive(Drop)]
 pub struct Following<'a> {
     stage: Stage,
     left: &'a [Action],

@@ -14,11 +14,7 @@ mod parsing;
 mod reader;
 mod script;
 pub mod statements;
-#[cfg(test)]
-mod tests;
 pub mod workload_laws;
-#[cfg(test)]
-mod workload_tests;
 
 pub use actions::{Action, Ending};
 pub use following::Following;

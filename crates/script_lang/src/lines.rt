@@ -11,7 +11,7 @@ use clv_base::ops::Op;
 use std::str;
 
 /// What a line says.
-#[derive(Clone, Copy, PartialEq, Eq, Debug)]
+#[derive(Clone, Copy, PartialEq, Eq)]
 pub enum Line {
     /// Nothing: an empty line, or a comment.
     Blank,
@@ -26,7 +26,7 @@ pub enum Line {
 }
 
 // The word that an action begins with.
-#[derive(Clone, Copy, PartialEq, Eq, Debug)]
+#[derive(Clone, Copy, PartialEq, Eq)]
 pub enum Verb {
     Get,
     Put,

@@ -12,7 +12,7 @@ use std::alloc::Global;
 pub const MOST_BYTES: usize = 16_777_216;
 
 /// Why a text is no script.
-#[derive(Clone, Copy, PartialEq, Eq, Debug)]
+#[derive(Clone, Copy, PartialEq, Eq)]
 pub enum ScriptError {
     /// This line, counted from 1, is the first outside the grammar at its place; 0 where there are too many bytes.
     Refused { line: u64 },

@@ -8,7 +8,7 @@ use std::alloc::AllocError;
 use std::marker::Model;
 
 /// The lines of a transaction, in order, and how it is to end.
-#[derive(Drop, Debug)]
+#[derive(Drop)]
 pub struct Transaction {
     actions: Vec<Action>,
     ending: Ending,
@@ -46,7 +46,7 @@ impl Transaction {
 }
 
 /// The transactions of a session, in order.
-#[derive(Drop, Debug)]
+#[derive(Drop)]
 pub struct Session {
     transactions: Vec<Transaction>,
 }
@@ -85,7 +85,7 @@ impl Session {
 }
 
 /// The sessions of a script, in order.
-#[derive(Drop, Debug)]
+#[derive(Drop)]
 pub struct Script {
     sessions: Vec<Session>,
 }

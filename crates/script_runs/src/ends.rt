@@ -3,7 +3,7 @@
 use clv_base::causes::AbortCause;
 
 /// What stops a session.
-#[derive(Clone, Copy, PartialEq, Eq, Debug)]
+#[derive(Clone, Copy, PartialEq, Eq)]
 pub enum StopCause {
     /// A shard was found down before the transaction's request.
     Down { shard: u32 },
@@ -16,7 +16,7 @@ pub enum StopCause {
 }
 
 /// How a try of a transaction ended.
-#[derive(Clone, Copy, PartialEq, Eq, Debug)]
+#[derive(Clone, Copy, PartialEq, Eq)]
 pub enum TryEnd {
     /// It was told of its acknowledgement.
     Acknowledged,

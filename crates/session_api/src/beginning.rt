@@ -12,7 +12,7 @@ use session_ops::begin;
 use std::sync::Wait;
 
 /// Why no transaction was begun. All is as before.
-#[derive(Clone, Copy, Debug, PartialEq, Eq)]
+#[derive(Clone, Copy, PartialEq, Eq)]
 pub enum BeginError {
     /// This one is active.
     Active { tx: TxId },

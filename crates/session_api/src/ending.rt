@@ -19,7 +19,7 @@ use std::mem;
 use std::sync::Wait;
 
 /// Why a commit didn't go well.
-#[derive(Clone, Copy, Debug, PartialEq, Eq)]
+#[derive(Clone, Copy, PartialEq, Eq)]
 pub enum CommitError {
     /// No transaction is active, and no request stands.
     NoTx,
@@ -35,7 +35,7 @@ pub enum CommitError {
 }
 
 /// Why an abort didn't go well.
-#[derive(Clone, Copy, Debug, PartialEq, Eq)]
+#[derive(Clone, Copy, PartialEq, Eq)]
 pub enum AbortError {
     /// No transaction is active.
     NoTx,

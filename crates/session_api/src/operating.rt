@@ -22,7 +22,7 @@ use std::mem;
 use std::sync::Wait;
 
 /// Why an operation wasn't answered.
-#[derive(Clone, Copy, Debug, PartialEq, Eq)]
+#[derive(Clone, Copy, PartialEq, Eq)]
 pub enum OpError {
     /// No transaction is active.
     NoTx,

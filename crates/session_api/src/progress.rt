@@ -6,7 +6,7 @@ use cluster_turns::{Place, Stage};
 use clv_base::names::TxId;
 
 /// How a session's last transaction stands.
-#[derive(Drop, Debug)]
+#[derive(Drop)]
 pub enum Progress {
     /// There is none, or it was acknowledged, or touched nothing when it was committed.
     Idle,

@@ -15,7 +15,7 @@ use std::mem;
 use std::sync::Wait;
 
 /// Why the last transaction wasn't tried again. All is as before.
-#[derive(Clone, Copy, Debug, PartialEq, Eq)]
+#[derive(Clone, Copy, PartialEq, Eq)]
 pub enum RetryError {
     /// This one is active.
     Active { tx: TxId },
@@ -44,7 +44,7 @@ impl<'a, M: Flier, P: Pace, R: Wait> Session<'a, M, P, R> {
         ensures shards { self.new.shards ≡ self.old.shards }
         ensures told { RetriedNext self.old.shards.now self.old.walker last result self.new.walker self.new.progress }
     {
-        match retry(self.shards, &mut self.walker, &last) {
+        match retry(self.rt, self.shards, &mut self.walker, &last) {
             Ok(place) => {
                 let session = self.walker.number;
                 self.pace.pass(Step::Begun { session });

@@ -26,7 +26,7 @@ use std::alloc::Global;
 use std::sync::Wait;
 
 /// What the first shard answers a walker that has nothing to do there.
-#[derive(Drop, Clone, Copy, Debug, PartialEq, Eq)]
+#[derive(Drop, Clone, Copy, PartialEq, Eq)]
 pub struct Quiet {
     /// How many records are durable at least.
     pub horizon: u64,

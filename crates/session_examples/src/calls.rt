@@ -13,7 +13,7 @@ use std::alloc::Global;
 use std::sync::Wait;
 
 /// A call of a session.
-#[derive(Clone, Copy, Debug, PartialEq, Eq)]
+#[derive(Clone, Copy, PartialEq, Eq)]
 pub enum Call {
     Begin,
     Retry,
@@ -26,7 +26,7 @@ pub enum Call {
 }
 
 /// What a call was answered.
-#[derive(Drop, Debug)]
+#[derive(Drop)]
 pub enum Said {
     Begun(Result<TxId, BeginError>),
     Retried(Result<TxId, RetryError>),

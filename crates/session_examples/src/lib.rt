@@ -11,20 +11,14 @@ mod calls;
 mod closing;
 mod horizon;
 mod numbers;
-#[cfg(test)]
-mod places;
 mod reviving;
 mod shard;
 mod sitting;
-#[cfg(test)]
-mod tests;
 mod threads;
 mod together;
 mod transferring;
 mod transfers;
 mod turn_lock_closing;
-#[cfg(test)]
-mod turn_lock_tests;
 mod visits;
 
 pub use calling::{Quiet, open_call_close};

@@ -23,7 +23,7 @@ use std::alloc::Global;
 use std::sync::Wait;
 
 /// Why nothing is to be moved.
-#[derive(Clone, Copy, Debug, PartialEq, Eq)]
+#[derive(Clone, Copy, PartialEq, Eq)]
 pub enum Refusal {
     /// There is no value at this key.
     Missing { key: u64 },
@@ -34,7 +34,7 @@ pub enum Refusal {
 }
 
 /// How a transfer went.
-#[derive(Clone, Copy, Debug, PartialEq, Eq)]
+#[derive(Clone, Copy, PartialEq, Eq)]
 pub enum Transferred {
     /// The amount is moved, and that is acknowledged.
     Moved,
@@ -45,7 +45,7 @@ pub enum Transferred {
 }
 
 /// What stopped a transfer.
-#[derive(Clone, Copy, Debug, PartialEq, Eq)]
+#[derive(Clone, Copy, PartialEq, Eq)]
 pub enum Stop {
     /// The shard was down before the request. The transaction was aborted, unless stamps were wanting for that.
     Down { shard: u32 },
@@ -57,7 +57,7 @@ pub enum Stop {
 }
 
 // Why a try isn't acknowledged.
-#[derive(Clone, Copy, Debug)]
+#[derive(Clone, Copy)]
 enum Failure {
     // The transaction is over.
     Aborted(AbortCause),

@@ -19,7 +19,7 @@ use std::alloc::Global;
 use std::sync::Wait;
 
 /// How a commit went well.
-#[derive(Clone, Copy, Debug, PartialEq, Eq)]
+#[derive(Clone, Copy, PartialEq, Eq)]
 pub enum Settled {
     /// It is acknowledged, by the entry at this point.
     Committed { point: Point },
@@ -28,7 +28,7 @@ pub enum Settled {
 }
 
 /// Why a commit didn't.
-#[derive(Clone, Copy, Debug, PartialEq, Eq)]
+#[derive(Clone, Copy, PartialEq, Eq)]
 pub enum CommitError {
     /// The transaction died of its request, or was told that it is aborted.
     Aborted(AbortCause),

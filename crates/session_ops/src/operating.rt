@@ -22,7 +22,7 @@ use std::alloc::Global;
 use std::sync::Wait;
 
 /// Why an operation wasn't answered.
-#[derive(Clone, Copy, Debug, PartialEq, Eq)]
+#[derive(Clone, Copy, PartialEq, Eq)]
 pub enum OpError {
     /// The transaction died of it.
     Aborted(AbortCause),
@@ -167,6 +167,9 @@ pub fn operate<M: Flier, P: Pace, R: Wait>(
     let backoff = Backoff::new();
     let mut waits: u64 = 0;
     for _ in rt.forever() {
+        if shards.is_lacking() {
+            return Err(OpError::Memory);
+        }
         waits = waits.wrapping_add(1);
         let is_time = waits % WAITS_PER_ROUND == 0;
         match try_and_pass(

@@ -13,7 +13,7 @@ use std::sync::Wait;
 use turn_lock::Batch;
 
 /// Why a round ended early.
-#[derive(Clone, Copy, Debug, PartialEq, Eq)]
+#[derive(Clone, Copy, PartialEq, Eq)]
 pub enum RoundError {
     /// A turn found the shard down, or its flush failed.
     Down { shard: u32 },

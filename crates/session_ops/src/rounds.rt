@@ -130,7 +130,7 @@ fn move_own<M: Flier, P: Pace, R: Wait>(
     Ok(())
 }
 
-// Carries the messages of all shards, then flushes those of a request.
+// Flushes the shards of a request, then carries the messages of all shards: so a batch of theirs is written whatever shard is down besides.
 fn carry_and_move<M: Flier, P: Pace, R: Wait>(
     rt: &R,
     alloc: Global,
@@ -145,8 +145,8 @@ fn carry_and_move<M: Flier, P: Pace, R: Wait>(
     ensures walker { IsWalker shards.now walker.new × IsSameWalker walker.old walker.new }
     ensures round { Rounded walker.old.number walker.old.clock walker.old.passes.items result walker.new.clock walker.new.passes.items }
 {
-    match carry_every(rt, alloc, shards, walker, met) {
-        Ok(()) => move_own(rt, alloc, shards, walker, home, own, pace, met),
+    match move_own(rt, alloc, shards, walker, home, own, pace, met) {
+        Ok(()) => carry_every(rt, alloc, shards, walker, met),
         Err(error) => Err(error),
     }
 }

@@ -6,12 +6,16 @@ ghost use Rattle.clv_base.specs.Orders.{tx_cmp};
 ghost use Rattle.clv_base.specs.Coordinator.{restored_requests};
 ghost use Rattle.clv_base.specs.Participant.{restored_voters};
 ghost use Rattle.clv_base.specs.Restarts.{state_after};
+ghost use Rattle.clv_base.specs.Orders.{tx_get};
+ghost use Rattle.clv_base.specs.Logs.{prepare_lsn};
+ghost use Rattle.clv_base.specs.declared.names.TxId.{TxId as Tx};
 ghost use Rattle.two_phase_commit.specs.Coordinated.{AreNamed};
 ghost use Rattle.machine_calls.specs.Restored.{IsRestored};
 ghost use Rattle.shard_core.specs.Whole.{IsAtRest};
 
 use crate::prepares_of;
 use crate::shard::ShardCore;
+use clv_base::logs::LogRecord;
 use clv_base::names::TxId;
 use clv_base::parts::ShardList;
 use due_step::Outbox;
@@ -25,7 +29,7 @@ use std::alloc::Global;
 use two_phase_commit::coordinator_laws::unended_rise;
 use two_phase_commit::doubts::doubtful_rise;
 use two_phase_commit::{Coordinator, Participant};
-use tx_table::Candidates;
+use tx_table::{Candidates, TxTable};
 use txn_core::Memory;
 
 /// How much may be left to do where so many are in doubt and so many commits without an END, and one thing more.
@@ -82,6 +86,68 @@ fn candidates_for(alloc: Global, count: usize) -> Result<Candidates, Memory>
     }
 }
 
+/// Where each PREPARE stands, who votes and who rules, as a restart found them.
+#[derive(Drop)]
+struct Tables {
+    prepares: TxTable<u64>,
+    participant: Participant,
+    coordinator: Coordinator,
+}
+
+fn tables_of(
+    alloc: Global,
+    shard: u32,
+    log: &[LogRecord],
+    in_doubt: &[(TxId, u32)],
+    unended: &[(TxId, ShardList)],
+) -> Result<Tables, Memory>
+    requires doubtful { IsStrictlySortedBy tx_cmp (keys_of in_doubt.now) }
+    requires rising { IsStrictlySortedBy tx_cmp (keys_of unended.now) }
+    requires named { AreNamed unended.now }
+    ensures prepares { IfOk result (λ m. (t : Tx) → tx_get t m.prepares.rows ≡ prepare_lsn log.now t) }
+    ensures participant { IfOk result (λ m. m.participant.shard ≡ shard) }
+    ensures voters { IfOk result (λ m. m.participant.voters ≡ restored_voters in_doubt.now) }
+    ensures coordinator { IfOk result (λ m. m.coordinator.shard ≡ shard) }
+    ensures requests { IfOk result (λ m. m.coordinator.requests ≡ restored_requests unended.now) }
+{
+    let Ok(prepares) = prepares_of(alloc, log) else {
+        return Err(Memory);
+    };
+    let Ok(participant) = Participant::new(alloc, shard, in_doubt) else {
+        return Err(Memory);
+    };
+    let Ok(coordinator) = home_of(alloc, shard, unended) else {
+        return Err(Memory);
+    };
+    Ok(Tables {
+        prepares,
+        participant,
+        coordinator,
+    })
+}
+
+/// Room for what so many things may leave to do.
+#[derive(Drop)]
+struct Rooms {
+    outbox: Outbox,
+    candidates: Candidates,
+}
+
+fn rooms_for(alloc: Global, count: usize) -> Result<Rooms, Memory>
+    ensures messages { IfOk result (λ m. m.outbox.messages ≡ []) }
+    ensures room { IfOk result (λ m. 15 * count ≤ m.outbox.room) }
+    ensures none { IfOk result (λ m. m.candidates.txs ≡ []) }
+    ensures places { IfOk result (λ m. 2 * count ≤ m.candidates.limit) }
+{
+    let Ok(outbox) = outbox_for(alloc, count) else {
+        return Err(Memory);
+    };
+    let Ok(candidates) = candidates_for(alloc, count) else {
+        return Err(Memory);
+    };
+    Ok(Rooms { outbox, candidates })
+}
+
 impl<S: Store + Drop, L: Locks + Drop> ShardCore<S, L> {
     /// The core of a shard that was restarted, from what recovery found: exactly the protocol's state after the restart, with nothing due. Where
     /// there is no memory nothing is made.
@@ -104,20 +170,12 @@ impl<S: Store + Drop, L: Locks + Drop> ShardCore<S, L> {
         let Some(count) = room_for(recovered.in_doubt.len(), recovered.unended.len()) else {
             return Err(Memory);
         };
-        let Ok(prepares) = prepares_of(alloc, recovered.buffer.records(0, recovered.buffer.end()))
+        let log = recovered.buffer.records(0, recovered.buffer.end());
+        let Ok(tables) = tables_of(alloc, shard, log, &recovered.in_doubt, &recovered.unended)
         else {
             return Err(Memory);
         };
-        let Ok(participant) = Participant::new(alloc, shard, &recovered.in_doubt) else {
-            return Err(Memory);
-        };
-        let Ok(coordinator) = home_of(alloc, shard, &recovered.unended) else {
-            return Err(Memory);
-        };
-        let Ok(outbox) = outbox_for(alloc, count) else {
-            return Err(Memory);
-        };
-        let Ok(candidates) = candidates_for(alloc, count) else {
+        let Ok(rooms) = rooms_for(alloc, count) else {
             return Err(Memory);
         };
         let Ok(mut transactions) = restored(
@@ -138,11 +196,11 @@ impl<S: Store + Drop, L: Locks + Drop> ShardCore<S, L> {
             shard,
             run,
             transactions,
-            participant,
-            coordinator,
-            prepares,
-            outbox,
-            candidates,
+            participant: tables.participant,
+            coordinator: tables.coordinator,
+            prepares: tables.prepares,
+            outbox: rooms.outbox,
+            candidates: rooms.candidates,
             needed: 0,
         })
     }

@@ -31,7 +31,7 @@ use std::alloc::{AllocError, Global};
 use txn_core::Memory;
 
 /// What a request is answered.
-#[derive(Clone, Copy, PartialEq, Eq, Debug)]
+#[derive(Clone, Copy, PartialEq, Eq)]
 pub enum RequestAnswer {
     /// It stands.
     Stands,

@@ -15,12 +15,8 @@ mod parts;
 mod performed;
 mod plan;
 mod purging;
-#[cfg(test)]
-mod release_tests;
 mod releasing;
 mod scan;
-#[cfg(test)]
-mod tests;
 mod writes;
 
 pub use lock_table::Memory;

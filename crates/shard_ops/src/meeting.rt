@@ -18,7 +18,7 @@ use std::alloc::Global;
 pub const CROWD: usize = 1024;
 
 /// What a request for locks meets.
-#[derive(Drop, Debug)]
+#[derive(Drop)]
 pub enum Meeting {
     /// Every holder in the way is closed. These are the ones whose writes a grant violates, rising.
     Grant { violated: Vec<TxId> },

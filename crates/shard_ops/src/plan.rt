@@ -14,14 +14,14 @@ use std::alloc::{AllocError, Global};
 use std::slice::from_ref;
 
 /// A record that is inserted: its key, and the anchor whose gap it splits.
-#[derive(Clone, Copy, PartialEq, Eq, Debug)]
+#[derive(Clone, Copy, PartialEq, Eq)]
 pub struct Insert {
     pub key: u64,
     pub lower: Anchor,
 }
 
 /// A key that is written, with its value before and after.
-#[derive(Clone, Copy, PartialEq, Eq, Debug)]
+#[derive(Clone, Copy, PartialEq, Eq)]
 pub struct Write {
     pub key: u64,
     pub before: Option<u64>,
@@ -29,7 +29,7 @@ pub struct Write {
 }
 
 /// The locks that an operation needs, in order. One on a key needs one lock, for which no list is made.
-#[derive(Drop, Debug)]
+#[derive(Drop)]
 pub enum Needs {
     One(Need),
     Several(Vec<Need>),
@@ -48,7 +48,7 @@ impl Needs {
 }
 
 /// What an operation comes to where it is granted: the locks that it needs, its answer, the record that it inserts, and what it writes.
-#[derive(Drop, Debug)]
+#[derive(Drop)]
 pub struct Plan {
     pub needs: Needs,
     pub answer: Answer,

@@ -8,20 +8,14 @@
 
 mod aborts;
 mod agreeing;
-#[cfg(test)]
-mod copy_tests;
 mod copying;
 mod expecting;
-#[cfg(test)]
-mod gate_tests;
 mod misfits;
 mod rebuilding;
 mod records;
 mod recovering;
 mod restarting;
 mod room;
-#[cfg(test)]
-mod tests;
 mod winners;
 mod writes;
 

@@ -20,7 +20,7 @@ use ordered_store::Store;
 use std::alloc::{AllocError, Global};
 
 /// Why a shard isn't recovered.
-#[derive(Clone, Copy, Debug, PartialEq, Eq)]
+#[derive(Clone, Copy, PartialEq, Eq)]
 pub enum RecoverError {
     /// The disk failed, and the gate is shut. Each log that it may have is the log found with some first records of what the restart adds.
     Failed,

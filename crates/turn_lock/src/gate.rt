@@ -28,7 +28,7 @@ pub struct Writer<'a> {
 }
 
 /// A batch that another writes.
-#[derive(Clone, Copy, Debug)]
+#[derive(Clone, Copy)]
 pub struct Batch {
     written: u64,
 }

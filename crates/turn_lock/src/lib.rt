@@ -13,8 +13,6 @@ mod journaled;
 mod lock;
 mod pass;
 mod steps;
-#[cfg(test)]
-mod tests;
 mod view;
 
 pub use gate::{Batch, BatchGate, Writer};

@@ -17,7 +17,7 @@ use std::snapshot::Snapshot;
 use std::sync::Wait;
 
 /// There was no memory for it.
-#[derive(Drop, Debug)]
+#[derive(Drop)]
 pub struct Memory;
 
 impl<T: Journaled> TurnLock<T> {

@@ -9,18 +9,12 @@
 
 mod candidates;
 mod index;
-#[cfg(test)]
-mod index_tests;
 mod key;
 mod listing;
 mod lists;
 mod part_table;
-#[cfg(test)]
-mod part_tests;
 mod sorted;
 mod table;
-#[cfg(test)]
-mod tests;
 
 pub use candidates::Candidates;
 pub use index::TxIndex;

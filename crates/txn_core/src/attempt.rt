@@ -23,7 +23,7 @@ use shard_ops::{Plan, performed_by_plan};
 use std::alloc::{AllocError, Global};
 
 /// What an operation comes to.
-#[derive(Drop, Debug)]
+#[derive(Drop)]
 pub(crate) enum Attempt {
     /// It is done; the answer is there twice.
     Answered { answer: Answer, copy: Answer },

@@ -11,7 +11,7 @@ use shard_ops::{Meeting, Plan, meet, plan_of};
 use std::alloc::Global;
 
 /// What is decided on an operation.
-#[derive(Drop, Debug)]
+#[derive(Drop)]
 pub(crate) enum Decided {
     /// It is granted: it may be done so, and violates the writes of these.
     Grant { plan: Plan, violated: Vec<TxId> },

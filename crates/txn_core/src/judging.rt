@@ -18,7 +18,7 @@ use shard_ops::Plan;
 use std::alloc::Global;
 
 /// What is found of an operation.
-#[derive(Drop, Debug)]
+#[derive(Drop)]
 pub(crate) enum Judged {
     /// It may be done so, and violates the writes of these.
     Grant { plan: Plan, violated: Vec<TxId> },

@@ -18,7 +18,7 @@ use ordered_store::Store;
 use std::alloc::Global;
 
 /// What an operation is answered.
-#[derive(Drop, Debug)]
+#[derive(Drop)]
 pub enum Reply {
     /// It is done; the shard has this epoch. The answer is there twice, once for a journal, so that no memory is asked for after what was done.
     Answered {

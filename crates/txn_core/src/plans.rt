@@ -20,7 +20,7 @@ use log_buffer::LogBuffer;
 use std::alloc::{AllocError, Global};
 
 /// The record that closed a part.
-#[derive(Clone, Copy, PartialEq, Eq, Debug)]
+#[derive(Clone, Copy, PartialEq, Eq)]
 pub enum Closing {
     /// A COMMIT, at this LSN.
     Commit(u64),
@@ -31,7 +31,7 @@ pub enum Closing {
 }
 
 /// The record that is to close a part.
-#[derive(Drop, Debug)]
+#[derive(Drop)]
 pub enum ClosingPlan {
     /// A COMMIT.
     Commit,

@@ -14,7 +14,7 @@ use Rattle.shard_core.proofs.shard.ShardCore.restored.Goals as goal
 use Rattle.law_base.proofs.Lists.{whole_range}
 
 unfoldable after : (g : given.Over) (c : goal.In-Ok-reserve g) → Parts
-after g c = record { shard = c.args.shard; run = c.args.run; transactions = c.reserve.new.self; participant = c.in-Ok-new.participant; coordinator = c.in-Ok-home_of.coordinator; prepares = c.in-Ok.prepares; outbox = c.in-Ok-outbox_for.outbox; candidates = c.in-Ok-candidates_for.candidates }
+after g c = record { shard = c.args.shard; run = c.args.run; transactions = c.reserve.new.self; participant = c.in-Ok.tables.participant; coordinator = c.in-Ok.tables.coordinator; prepares = c.in-Ok.tables.prepares; outbox = c.in-Ok-rooms_for.rooms.outbox; candidates = c.in-Ok-rooms_for.rooms.candidates }
 
 made : (g : given.Over) (c : goal.In-Ok-reserve g) → AreMade c.args.shard c.args.epoch c.in-Some.count c.args.recovered.buffer.records (after g c)
 unfolding after
@@ -25,29 +25,29 @@ made g c =
     let one = ap length doubtful in let two = ap length unended in let n = c.deref.ensures.len in let m = c.deref-2.ensures.len in
     let count = c.in-Some.ensures in let n2 = c.len.ensures in let m2 = c.len-2.ensures in
     let spare = c.in-Ok-reserve.ensures.spare in let room = c.in-Ok-reserve.ensures.ok in
-    let seen : c.records.result.now ≡ log = whole_range _ _ _ c.records.ensures c.end.ensures.end in
+    let seen : c.records-log.result.now ≡ log = whole_range _ _ _ c.records-log.ensures c.end.ensures.end in
     record {
       shard = refl;
       transactions = ap (λ (t : TxState). t.shard) same ∙ c.in-Ok-restored.ensures.shard;
       local = ap (λ (t : TxState). t.local) same ∙ c.in-Ok-restored.ensures.local;
       durable = ap (λ (t : TxState). t.durable) same ∙ c.in-Ok-restored.ensures.fronts.0 ∙ c.requires.durable;
       taken = ap (λ (t : TxState). t.taken) same ∙ c.in-Ok-restored.ensures.fronts.1 ∙ c.requires.taken;
-      participant = c.in-Ok-new.ensures.shard;
-      voters = c.in-Ok-new.ensures.voters ∙ ap restored_voters doubtful;
-      coordinator = c.in-Ok-home_of.ensures.shard;
-      requests = c.in-Ok-home_of.ensures.requests ∙ ap restored_requests unended;
-      prepares = λ t. c.in-Ok.ensures t ∙ ap (λ (rs : List LogRecord). prepare_lsn rs t) seen;
-      messages = c.in-Ok-outbox_for.ensures.messages;
-      none = c.in-Ok-candidates_for.ensures.none;
+      participant = c.in-Ok.ensures.participant;
+      voters = c.in-Ok.ensures.voters ∙ ap restored_voters doubtful;
+      coordinator = c.in-Ok.ensures.coordinator;
+      requests = c.in-Ok.ensures.requests ∙ ap restored_requests unended;
+      prepares = λ t. c.in-Ok.ensures.prepares t ∙ ap (λ (rs : List LogRecord). prepare_lsn rs t) seen;
+      messages = c.in-Ok-rooms_for.ensures.messages;
+      none = c.in-Ok-rooms_for.ensures.none;
       enough = omega (arith, one, two, n, m, n2, m2, count);
       records = spare;
       pairs = omega (arith, room);
-      mail = c.in-Ok-outbox_for.ensures.room;
-      places = c.in-Ok-candidates_for.ensures.places;
+      mail = c.in-Ok-rooms_for.ensures.room;
+      places = c.in-Ok-rooms_for.ensures.places;
     }
 
-pub home_of-requires-clause-named : goal.home_of-requires-clause-named
-home_of-requires-clause-named g c =
+pub tables_of-requires-clause-named : goal.tables_of-requires-clause-named
+tables_of-requires-clause-named g c =
     let log = c.args.recovered.buffer.records in
     subst (λ (rows : Table (List ℕ)). AreNamed rows) (sym (c.deref-2.ensures.value ∙ c.requires.unended)) (c.unended_rise.ensures.named log log c.requires.spelled)
 

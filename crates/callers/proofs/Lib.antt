@@ -1,0 +1,4 @@
+mod Flying
+pub mod LocksAlike
+pub mod LocksLonger
+pub mod StoreLonger

@@ -1,3 +1,0 @@
-pub mod LocksAlike
-pub mod LocksLonger
-pub mod StoreLonger
