@@ -10,7 +10,7 @@ const UNSETTLED: &[u8] = b"{\"aborted\":0,\"acknowledged\":0,\"unsettled\":1}\n"
 // The eleventh call of a disk is its fifth sync, that behind the gate of the transaction's batch.
 const GATE: [&[u64]; 3] = [&[11], &[], &[]];
 
-pub const ROWS: &[Row] = &[
+const ROWS: &[Row] = &[
     Row {
         shows: "a sync that fails",
         disks: &[(0, Given::Bytes(EMPTY))],
@@ -91,3 +91,7 @@ pub const ROWS: &[Row] = &[
         ..ROW
     },
 ];
+
+pub fn rows() -> &'static [Row] {
+    ROWS
+}

@@ -10,7 +10,7 @@ const MAKE: Row = Row {
     ..ROW
 };
 
-pub const ROWS: &[Row] = &[
+const ROWS: &[Row] = &[
     MAKE,
     Row {
         shows: "accounts are filled",
@@ -52,3 +52,7 @@ pub const ROWS: &[Row] = &[
         ..ROW
     },
 ];
+
+pub fn rows() -> &'static [Row] {
+    ROWS
+}

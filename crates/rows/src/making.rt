@@ -6,7 +6,7 @@ use command_line::Status;
 
 const NEW: Given = Given::Bytes(b"");
 
-pub const ROWS: &[Row] = &[
+const ROWS: &[Row] = &[
     Row {
         shows: "one shard",
         disks: &[(0, NEW)],
@@ -108,3 +108,7 @@ pub const ROWS: &[Row] = &[
         ..ROW
     },
 ];
+
+pub fn rows() -> &'static [Row] {
+    ROWS
+}

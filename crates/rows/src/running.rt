@@ -4,7 +4,7 @@ use crate::disks::{EMPTY, NONE, ONE_PUT, PUT, PUT_REPORT};
 use crate::row::{Given, ROW, Row};
 use command_line::Status;
 
-pub const ROWS: &[Row] = &[
+const ROWS: &[Row] = &[
     Row {
         shows: "a put",
         disks: &[(0, Given::Bytes(EMPTY))],
@@ -118,3 +118,7 @@ pub const ROWS: &[Row] = &[
         ..ROW
     },
 ];
+
+pub fn rows() -> &'static [Row] {
+    ROWS
+}

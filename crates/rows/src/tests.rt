@@ -3,7 +3,7 @@
 ghost use Rattle.std.specs.Prelude.{◌≡◌, ◌<◌, ℕ, false};
 
 use crate::row::{Given, Row};
-use crate::{faults, loading, making, opening, running};
+use crate::{broken, faults, loading, making, opening, running};
 use clv_commands::run;
 use disk_memory::{MemoryDisk, MemoryHouse};
 use io_model::{House, MemorySink, MemorySource, NoPace};
@@ -69,7 +69,12 @@ fn put_all(alloc: Global, row: &Row, house: &mut MemoryHouse) -> Result<(), Allo
 }
 
 // Whether the run ends as the row says, and writes what it says.
-fn ends<R: Threads + Wait + Sync>(rt: &R, alloc: Global, row: &Row, house: &mut MemoryHouse) -> Result<bool, AllocError>
+fn ends<R: Threads + Wait + Sync>(
+    rt: &R,
+    alloc: Global,
+    row: &Row,
+    house: &mut MemoryHouse,
+) -> Result<bool, AllocError>
     requires { (n : ℕ) → n < 16 → ⟦<MemoryHouse as House>⟧.is_out house.old n ≡ false }
     ensures { (n : ℕ) → n < 16 → ⟦<MemoryHouse as House>⟧.is_out house.new n ≡ false }
 {
@@ -83,7 +88,11 @@ fn ends<R: Threads + Wait + Sync>(rt: &R, alloc: Global, row: &Row, house: &mut 
 fn is_left(row: &Row, house: &MemoryHouse) -> bool {
     let mut shard = 0u32;
     for len in row.lengths {
-        if shard >= 16 || !house.disk(shard).is_some_and(|disk| disk.bytes().len() == *len) {
+        if shard >= 16
+            || !house
+                .disk(shard)
+                .is_some_and(|disk| disk.bytes().len() == *len)
+        {
             return false;
         }
         shard += 1;
@@ -92,7 +101,12 @@ fn is_left(row: &Row, house: &MemoryHouse) -> bool {
 }
 
 // Tries a row.
-fn try_row<R: Threads + Wait + Sync>(rt: &R, alloc: Global, row: &Row, house: &mut MemoryHouse) -> Result<bool, AllocError>
+fn try_row<R: Threads + Wait + Sync>(
+    rt: &R,
+    alloc: Global,
+    row: &Row,
+    house: &mut MemoryHouse,
+) -> Result<bool, AllocError>
     requires { (n : ℕ) → n < 16 → ⟦<MemoryHouse as House>⟧.is_out house.old n ≡ false }
     ensures { (n : ℕ) → n < 16 → ⟦<MemoryHouse as House>⟧.is_out house.new n ≡ false }
 {
@@ -101,7 +115,11 @@ fn try_row<R: Threads + Wait + Sync>(rt: &R, alloc: Global, row: &Row, house: &m
 }
 
 // What the first row of the table shows that isn't so.
-fn try_all<R: Threads + Wait + Sync>(rt: &R, alloc: Global, rows: &[Row]) -> Result<(), &'static str> {
+fn try_all<R: Threads + Wait + Sync>(
+    rt: &R,
+    alloc: Global,
+    rows: &[Row],
+) -> Result<(), &'static str> {
     let Ok(mut house) = MemoryHouse::new(alloc) else {
         return Err("no memory");
     };
@@ -116,7 +134,15 @@ fn try_all<R: Threads + Wait + Sync>(rt: &R, alloc: Global, rows: &[Row]) -> Res
 
 #[test]
 fn each_row_is_so(rt: HostRuntime) -> Result<(), &'static str> {
-    for rows in [making::ROWS, running::ROWS, opening::ROWS, faults::ROWS, loading::ROWS] {
+    let tables = [
+        making::rows(),
+        running::rows(),
+        broken::rows(),
+        opening::rows(),
+        faults::rows(),
+        loading::rows(),
+    ];
+    for rows in tables {
         try_all(&rt, rt.alloc(), rows)?;
     }
     Ok(())
