@@ -1,7 +1,9 @@
 pub mod Closing
 pub mod Copies
 pub mod Counts
+pub mod Gathering
 pub mod Laws
 pub mod OneLock
+pub mod Oldest
 pub mod Places
 pub mod Rising

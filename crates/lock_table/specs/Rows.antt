@@ -6,8 +6,8 @@ use Rattle.clv_base.specs.declared.names.Birth.{Birth}
 use Rattle.clv_base.specs.declared.modes.Anchor.{Anchor}
 use Rattle.clv_base.specs.declared.modes.Need.{Need}
 use Rattle.clv_base.specs.declared.modes.Holder.{Holder}
-use Rattle.clv_base.specs.Locks.{Locks, holds_gap, take_all, release}
-use Rattle.clv_base.specs.Orders.{tx_same, anchor_same}
+use Rattle.clv_base.specs.Locks.{Locks, holds_gap, take_all, release, oldest_by, conflicting_holders}
+use Rattle.clv_base.specs.Orders.{tx_same, anchor_same, is_older}
 
 -- how many hold the anchor's gap
 abbrev pub gaps_held : Anchor → Locks → ℕ
@@ -43,3 +43,11 @@ without_lock tx a rows = filter (λ r. not (is_lock_of tx a r)) rows
 abbrev pub GivesUpOne : TxId → Option Anchor → Locks → Locks → Type 0
 GivesUpOne tx (Some a) before after = (has_lock_on tx a before ≡ true) × (after ≡ without_lock tx a before)
 GivesUpOne tx None before after = (after ≡ before) × (release (tx ∷ []) before ≡ before)
+
+-- ---- what a request meets
+
+-- the oldest of the active holders in its way on these rows: of those that are older than it, and of all
+abbrev pub AreOldest : TxId → Birth → List Need → Locks → Option Holder → Option Holder → Type 0
+AreOldest tx birth needs rows older active =
+    let ways = conflicting_holders tx needs rows in
+    (older ≡ oldest_by (λ h. not h.closed && is_older h.birth birth) ways) × (active ≡ oldest_by (λ h. not h.closed) ways)

@@ -47,28 +47,60 @@ fn older_of(holder: Holder, other: Option<Holder>) -> Holder
     }
 }
 
+/// The oldest of the active holders in a request's way: of those that are older than it, and of all.
+#[derive(Clone, Copy)]
+struct InWay {
+    older: Option<Holder>,
+    active: Option<Holder>,
+}
+
+impl InWay {
+    ghost use Rattle.std.specs.Prelude.{◌≡◌, ◌∷◌};
+    ghost use Rattle.clv_base.specs.Locks.{Locks as AllRows, die_by, wait_by};
+    ghost use Rattle.lock_table.specs.Rows.{AreOldest};
+
+    /// The oldest with one more row.
+    fn with(self, row: &Row, tx: TxId, birth: Birth, needs: &[Need]) -> InWay
+        ensures { (rows : AllRows) → AreOldest tx birth needs.now rows self.older self.active → AreOldest tx birth needs.now (row.now ∷ rows) result.older result.active }
+    {
+        let holder = row.1;
+        if tx == holder.tx || !conflicts(needs, row) || holder.closed {
+            return self;
+        }
+        let active = Some(older_of(holder, self.active));
+        if holder.birth < birth {
+            let older = Some(older_of(holder, self.older));
+            InWay { older, active }
+        } else {
+            InWay { active, ..self }
+        }
+    }
+
+    fn decision(self) -> Decision
+        ensures { result ≡ die_by self.older (wait_by self.active) }
+    {
+        match (self.older, self.active) {
+            (Some(holder), _) => Decision::Die { older: holder.tx },
+            (None, Some(holder)) => Decision::Wait { younger: holder.tx },
+            (None, None) => Decision::Grant,
+        }
+    }
+}
+
 /// The decision over all rows.
 pub(crate) fn decide(rows: &[Row], tx: TxId, birth: Birth, needs: &[Need]) -> Decision
     ensures { result ≡ decision_on tx birth needs.now rows.now }
 {
-    let mut older = None;
-    let mut active = None;
+    let mut oldest = InWay {
+        older: None,
+        active: None,
+    };
     let mut left = rows.len();
     while left > 0 {
         left -= 1;
-        let holder = rows[left].1;
-        if tx != holder.tx && conflicts(needs, &rows[left]) && !holder.closed {
-            active = Some(older_of(holder, active));
-            if holder.birth < birth {
-                older = Some(older_of(holder, older));
-            }
-        }
+        oldest = oldest.with(&rows[left], tx, birth, needs);
     }
-    match (older, active) {
-        (Some(holder), _) => Decision::Die { older: holder.tx },
-        (None, Some(holder)) => Decision::Wait { younger: holder.tx },
-        (None, None) => Decision::Grant,
-    }
+    oldest.decision()
 }
 
 /// The closed holders whose writes a grant would violate, rising.

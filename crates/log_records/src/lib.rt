@@ -20,4 +20,3 @@ pub use spelling::{
     at_most_one_record, at_most_one_spelling, length_is_size, no_spelling_begins_another,
 };
 pub use writing::encode;
-

@@ -1,5 +1,5 @@
 -- Who bars a RESTART, after some of a list were put in.
-use Rattle.std.proofs.Common.{◌≡◌, Bool, true, false, ◌&&◌, ◌||◌, List, [], ◌∷◌, ◌++◌, is_some, not, ⊎_elim, refl, sym, ap, ◌∙◌}
+use Rattle.std.proofs.Common.{◌≡◌, Bool, true, false, ◌&&◌, ◌||◌, List, [], ◌∷◌, ◌++◌, is_some, not, if◌then◌else◌, ⊎_elim, refl, sym, ap, ◌∙◌}
 use Rattle.std.proofs.lemmas.Bool.{cases_Bool}
 use Rattle.clv_base.specs.declared.names.TxId.{TxId}
 use Rattle.clv_base.specs.Orders.{tx_same, tx_in}
@@ -37,3 +37,14 @@ bars_more old mid new tx txs so_far one = record {
       ∙ ap (λ b. (tx_in t old.barring || (tx_in t txs && bars_after_abort old t)) || b) (same_bars old mid tx t so_far.writes so_far.keeps.facts)
       ∙ gather_or (tx_in t old.barring) (tx_in t txs) (bars_after_abort old t) (tx_same tx t) ∙ ap (λ b. tx_in t old.barring || (b && bars_after_abort old t)) (sym (in_push t tx txs));
 }
+
+-- after a PREPARE: one for another home takes its transaction out
+pub held_elsewhere : (tx t : TxId) (is_home : Bool) (old new : List TxId) → is_home ≡ false → tx_in t new ≡ (if tx_same tx t then false else tx_in t old) → tx_in t new ≡ (if tx_same tx t then is_home && tx_in t old else tx_in t old)
+held_elsewhere tx t is_home old new away is = is ∙ ap (λ (b : Bool). if tx_same tx t then b && tx_in t old else tx_in t old) (sym away)
+
+either_way : (b c : Bool) → c ≡ (if b then true && c else c)
+either_way true c = refl
+either_way false c = refl
+
+pub held_here : (tx t : TxId) (is_home : Bool) (old : List TxId) → is_home ≡ true → tx_in t old ≡ (if tx_same tx t then is_home && tx_in t old else tx_in t old)
+held_here tx t is_home old home = either_way (tx_same tx t) (tx_in t old) ∙ ap (λ (b : Bool). if tx_same tx t then b && tx_in t old else tx_in t old) (sym home)

@@ -10,6 +10,9 @@ use Rattle.log_analysis.specs.Facts.{Knows}
 use Rattle.log_rules.specs.declared.index.Index.{Index}
 use Rattle.log_rules.specs.Rules.{fits}
 use Rattle.log_rules.specs.Adding.{Adds}
+use Rattle.log_rules.specs.declared.error.OrderError.{OrderError}
+use Rattle.log_rules.specs.declared.error.OrderError.TheVariants.{Breaks, Memory}
+use Rattle.log_rules.specs.Order.{Refuses, RefusesAt}
 use Rattle.log_rules.proofs.Fitting.{fits_is}
 use Rattle.log_rules.proofs.IndexGrows.{grows, keeps_records}
 use Rattle.log_rules.proofs.IndexOf.{IsIndexOf}
@@ -60,6 +63,10 @@ module _ (shard : ℕ) (records : List LogRecord) (x : Index) (lsn : ℕ) (so_fa
         index = subst (IsIndexOf shard y) next grown;
         same = rw add-one (ap (λ (l : List LogRecord). disorder_from shard (suc lsn) l (drop (suc lsn) records)) (sym (next ∙ ap (λ (n : ℕ). take n records) (add-one lsn))) ∙ here true fit);
       }
+
+pub refused_at : (shard : ℕ) (records : List LogRecord) (x : Index) (lsn : ℕ) → SoFar shard records x lsn → lsn < length records → (e : OrderError) → RefusesAt x records lsn e → Refuses shard records e
+refused_at shard records x lsn so_far lt (Breaks n) refused = sym (ap (λ (k : ℕ). Some k) refused.0 ∙ stops_here shard records x lsn so_far refused.1 lt refused.2 refused.3)
+refused_at shard records x lsn so_far lt Memory refused = tt
 
 -- once all is read the log is in order, and the index has what it says
 module _ (shard : ℕ) (records : List LogRecord) (x : Index) (lsn : ℕ) (so_far : SoFar shard records x lsn) (over : length records ≤ lsn) where

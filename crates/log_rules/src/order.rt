@@ -1,9 +1,9 @@
 // The first record of a log that breaks its rule.
 
-ghost use Rattle.std.specs.Prelude.{◌≡◌, None, IfOk, IfErr, OnOk};
+ghost use Rattle.std.specs.Prelude.{◌≡◌, ◌<◌, length, None, IfOk, IfErr, OnOk};
 ghost use Rattle.clv_base.specs.LogRules.{disorder as first_disorder};
 ghost use Rattle.log_analysis.specs.Facts.{Knows};
-ghost use Rattle.log_rules.specs.Order.{Refuses};
+ghost use Rattle.log_rules.specs.Order.{Reads, Refuses, RefusesAt};
 
 use crate::Memory;
 use crate::error::OrderError;
@@ -11,6 +11,25 @@ use crate::index::Index;
 use clv_base::logs::LogRecord;
 use log_analysis::LogFacts;
 use std::alloc::{AllocError, Global};
+
+// The record at this LSN goes behind those of the index, if it fits there.
+fn read(
+    index: &mut Index,
+    alloc: Global,
+    records: &[LogRecord],
+    lsn: usize,
+) -> Result<(), OrderError>
+    requires { lsn < length records.now }
+    ensures ok { OnOk result (Reads index.old index.new records.now lsn) }
+    ensures err { IfErr result (RefusesAt index.old records.now lsn) }
+{
+    let r = &records[lsn];
+    if !index.takes(alloc, records, lsn, r)? {
+        return Err(OrderError::Breaks(lsn as u64));
+    }
+    index.add(alloc, lsn, r)?;
+    Ok(())
+}
 
 /// What a log that is in order on this shard says of each transaction; else the first LSN whose record breaks its rule, given the records
 /// before it. `Memory` comes for want of memory alone.
@@ -25,11 +44,7 @@ pub fn in_order(alloc: Global, records: &[LogRecord], shard: u32) -> Result<LogF
 {
     let mut index = Index::new(alloc, shard, records)?;
     for lsn in 0..records.len() {
-        let r = &records[lsn];
-        if !index.takes(alloc, records, lsn, r)? {
-            return Err(OrderError::Breaks(lsn as u64));
-        }
-        index.add(alloc, lsn, r)?;
+        read(&mut index, alloc, records, lsn)?;
     }
     Ok(index.into_facts())
 }

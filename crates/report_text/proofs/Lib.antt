@@ -1,2 +1,4 @@
 pub mod NoFloats
 pub mod Telling
+pub mod Gathering
+pub mod Counting

@@ -20,6 +20,10 @@ num n = number (unsigned n)
 abbrev pub list : List Data → Data
 list ds = array (items_of ds)
 
+-- a word, numbers, and a last value
+abbrev pub row : List ℕ → List ℕ → Data → Data
+row word numbers last = list (string word ∷ map num numbers ++ last ∷ [])
+
 -- a value, or null where there is none
 abbrev pub optional : Option ℕ → Data
 optional None = null

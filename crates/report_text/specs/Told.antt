@@ -54,6 +54,11 @@ try_of _ = None
 abbrev pub same_birth : Birth → Birth → Bool
 same_birth a b = is_eq (birth_cmp a b)
 
+-- whether there is a birth, and it is this one
+abbrev pub is_birth : Birth → Option Birth → Bool
+is_birth b None = false
+is_birth b (Some birth) = same_birth b birth
+
 -- whether it is an operation of this birth
 abbrev pub is_of_birth : Birth → Option (TxId × Birth) → Bool
 is_of_birth b None = false

@@ -6,14 +6,15 @@ ghost use Rattle.clv_base.specs.declared.names.TxId.{TxId as Tx};
 ghost use Rattle.clv_base.specs.History.{acknowledged_in};
 ghost use Rattle.history_replay.specs.Located.{located_all};
 ghost use Rattle.serde_json.specs.View.{view};
-ghost use Rattle.report_text.specs.Told.{has_birth};
+ghost use Rattle.report_text.specs.Told.{is_birth, is_of_birth, try_of as which_try};
 ghost use Rattle.report_text.specs.Counts.{counted as counted_one, counts_in, has_acknowledged_try, summary as summary_value};
-ghost use Rattle.report_text.specs.Sets.{has_tx, has_birth_in};
+ghost use Rattle.report_text.specs.Sets.{has_tx, has_birth_in, birth_among};
 
 use crate::Memory;
 use crate::sets::{BirthSet, TxSet};
 use crate::told::{looked, requested, try_of};
 use clv_base::events::Entry;
+use clv_base::names::{Birth, TxId};
 use serde_json::{Value, json};
 use std::alloc::Global;
 
@@ -23,6 +24,16 @@ pub struct Counts {
     pub acknowledged: u64,
     pub unsettled: u64,
     pub aborted: u64,
+}
+
+// The birth of a try, if its transaction was acknowledged.
+fn acknowledged_birth(acknowledged: &TxSet, entry: &Entry) -> Option<Birth>
+    ensures { result ≡ birth_among acknowledged.now (which_try entry.now.event) }
+{
+    match try_of(entry) {
+        Some((tx, birth)) if acknowledged.contains(tx) => Some(birth),
+        _ => None,
+    }
 }
 
 // The births of which some try was acknowledged.
@@ -36,12 +47,7 @@ fn acknowledged_births(
 {
     let mut set = BirthSet::new(alloc);
     for one in list {
-        let entry = one.1;
-        if let Some((tx, birth)) = try_of(entry) {
-            if acknowledged.contains(tx) {
-                set.insert(birth)?;
-            }
-        }
+        set.extend(acknowledged_birth(acknowledged, one.1))?;
     }
     Ok(set)
 }
@@ -64,14 +70,69 @@ fn counted(acknowledged: bool, unanswered: bool, so_far: Counts) -> Counts
     counts
 }
 
+// What decides the fate of a transaction: the births of which some try was acknowledged, and those who made a request and were looked for.
+#[derive(Drop)]
+pub struct Fates {
+    pub births: BirthSet,
+    pub requests: TxSet,
+    pub looks: TxSet,
+}
+
+impl Fates {
+    ghost use Rattle.std.specs.Prelude.{◌≡◌, ◌<◌, ◌^◌, ◌-◌, IfOk};
+    ghost use Rattle.clv_base.specs.declared.names.TxId.{TxId as Tx};
+    ghost use Rattle.clv_base.specs.History.{acknowledged_in};
+    ghost use Rattle.history_replay.specs.Located.{located_all};
+    ghost use Rattle.report_text.specs.Sets.{has_tx};
+    ghost use Rattle.report_text.specs.Fates.{FatesOf, counted_at};
+
+    // The fates in a journal whose acknowledged transactions are these.
+    fn new(alloc: Global, acknowledged: &TxSet, list: &[(u32, &Entry)]) -> Result<Fates, Memory>
+        requires { (t : Tx) → has_tx acknowledged.now t ≡ acknowledged_in (located_all list.now) t }
+        ensures { IfOk result (FatesOf (located_all list.now)) }
+    {
+        let births = acknowledged_births(alloc, acknowledged, list)?;
+        let requests = requested(alloc, list)?;
+        let looks = looked(alloc, list)?;
+        Ok(Fates {
+            births,
+            requests,
+            looks,
+        })
+    }
+
+    // The counts with an entry more, where these births come later. A birth counts at its last try.
+    fn counted(&self, later: &BirthSet, one: Option<(TxId, Birth)>, so_far: Counts) -> Counts
+        requires acknowledged_fits { so_far.acknowledged < 2 ^ 64 - 1 }
+        requires unsettled_fits { so_far.unsettled < 2 ^ 64 - 1 }
+        requires aborted_fits { so_far.aborted < 2 ^ 64 - 1 }
+        ensures { result ≡ counted_at self.now later.now one so_far }
+    {
+        match one {
+            Some((tx, birth)) if !later.contains(birth) => {
+                let unanswered = self.requests.contains(tx) && !self.looks.contains(tx);
+                counted(self.births.contains(birth), unanswered, so_far)
+            }
+            _ => so_far,
+        }
+    }
+}
+
+fn birth_of(one: Option<(TxId, Birth)>) -> Option<Birth>
+    ensures { (b : Age) → is_birth b result ≡ is_of_birth b one }
+{
+    match one {
+        Some((_, birth)) => Some(birth),
+        None => None,
+    }
+}
+
 // The counts of a journal whose acknowledged transactions are these.
 pub fn tally(alloc: Global, acknowledged: &TxSet, list: &[(u32, &Entry)]) -> Result<Counts, Memory>
     requires { (t : Tx) → has_tx acknowledged.now t ≡ acknowledged_in (located_all list.now) t }
     ensures { IfOk result (λ counts. counts ≡ counts_in (located_all list.now) (located_all list.now)) }
 {
-    let births = acknowledged_births(alloc, acknowledged, list)?;
-    let requests = requested(alloc, list)?;
-    let looks = looked(alloc, list)?;
+    let fates = Fates::new(alloc, acknowledged, list)?;
     let mut later = BirthSet::new(alloc);
     let mut so_far = Counts {
         acknowledged: 0,
@@ -81,13 +142,9 @@ pub fn tally(alloc: Global, acknowledged: &TxSet, list: &[(u32, &Entry)]) -> Res
     let mut place = list.len();
     while place > 0 {
         place -= 1;
-        if let Some((tx, birth)) = try_of(list[place].1) {
-            if !later.contains(birth) {
-                let unanswered = requests.contains(tx) && !looks.contains(tx);
-                so_far = counted(births.contains(birth), unanswered, so_far);
-                later.insert(birth)?;
-            }
-        }
+        let one = try_of(list[place].1);
+        so_far = fates.counted(&later, one, so_far);
+        later.extend(birth_of(one))?;
     }
     Ok(so_far)
 }

@@ -1,10 +1,11 @@
 // The line of a transaction.
 
-ghost use Rattle.std.specs.Prelude.{◌≡◌, ◌++◌, IfOk, OnOk, map, take, length, ◌≤◌, string_bytes, false};
+ghost use Rattle.std.specs.Prelude.{◌≡◌, ◌++◌, ◌∷◌, IfOk, OnOk, map, take, length, ◌≤◌, string_bytes, false};
+ghost use Rattle.serde_json.specs.Data.{string};
 ghost use Rattle.serde_json.specs.Written.{has_float};
 ghost use Rattle.clv_base.specs.declared.ops.Op.TheVariants.{Scan};
 ghost use Rattle.serde_json.specs.View.{view};
-ghost use Rattle.report_text.specs.Lines.{line as line_of, optional as optional_value, pair as pair_value, pairs_of as pairs_in, answer as answer_data, parts_of, upper as upper_end, upper_of as upper_end_of, all_pairs, operation as operation_value, operations_from, operations as operations_values, goes_on as continues, transaction as transaction_value};
+ghost use Rattle.report_text.specs.Lines.{line as line_of, num, list as list_of, row as row_of, optional as optional_value, pair as pair_value, pairs_of as pairs_in, answer as answer_data, parts_of, upper as upper_end, upper_of as upper_end_of, all_pairs, operation as operation_value, operations_from, operations as operations_values, goes_on as continues, transaction as transaction_value};
 
 use crate::Memory;
 use crate::told::Told;
@@ -32,10 +33,22 @@ fn optional(value: Option<u64>) -> Value
     }
 }
 
+// The numbers are added to a list of values.
+fn add_numbers(values: &mut Vec<Value>, numbers: &[u64]) -> Result<(), Memory>
+    ensures { OnOk result (map view values.new.items ≡ map view values.old.items ++ map num numbers.now) }
+{
+    for number in numbers {
+        values.push(Value::from(*number))?;
+    }
+    Ok(())
+}
+
 pub fn pair(alloc: Global, key: u64, value: u64) -> Result<Value, Memory>
     ensures { IfOk result (λ v. view v ≡ pair_value (key, value)) }
 {
-    json!(in alloc; [key, value])
+    let mut values = Vec::new(alloc);
+    add_numbers(&mut values, &[key, value])?;
+    Ok(Value::Array(values))
 }
 
 // The pairs are added to a list of values.
@@ -111,7 +124,48 @@ fn add_all_pairs(alloc: Global, values: &mut Vec<Value>, parts: &[Told]) -> Resu
     Ok(())
 }
 
-fn scan_value(
+// What a row begins with.
+fn head(alloc: Global, word: &str, numbers: &[u64]) -> Result<Vec<Value>, Memory>
+    ensures { IfOk result (λ values. map view values.items ≡ string word.now ∷ map num numbers.now) }
+{
+    let mut values = Vec::new(alloc);
+    values.push(Value::try_from_str(alloc, word)?)?;
+    add_numbers(&mut values, numbers)?;
+    Ok(values)
+}
+
+// A word, numbers, and what was answered.
+fn row(alloc: Global, word: &str, numbers: &[u64], answered: Value) -> Result<Value, Memory>
+    ensures { IfOk result (λ v. view v ≡ row_of word.now numbers.now (view answered)) }
+{
+    let mut values = head(alloc, word, numbers)?;
+    values.push(answered)?;
+    Ok(Value::Array(values))
+}
+
+fn answered_row(
+    alloc: Global,
+    word: &str,
+    numbers: &[u64],
+    answer: &Answer,
+) -> Result<Value, Memory>
+    ensures { IfOk result (λ v. view v ≡ row_of word.now numbers.now (answer_data answer.now)) }
+{
+    let answered = answer_value(alloc, answer)?;
+    row(alloc, word, numbers, answered)
+}
+
+// The pairs of a scan and of its further parts.
+fn scanned_pairs(alloc: Global, answer: &Answer, parts: &[Told]) -> Result<Value, Memory>
+    ensures { IfOk result (λ v. view v ≡ list_of (map pair_value (pairs_in answer.now ++ all_pairs parts.now))) }
+{
+    let mut values = Vec::new(alloc);
+    add_pairs(alloc, &mut values, pairs_of(answer))?;
+    add_all_pairs(alloc, &mut values, parts)?;
+    Ok(Value::Array(values))
+}
+
+fn scan_row(
     alloc: Global,
     low: u64,
     high: u64,
@@ -120,30 +174,18 @@ fn scan_value(
 ) -> Result<Value, Memory>
     ensures { IfOk result (λ v. view v ≡ operation_value (Scan low high) answer.now parts.now) }
 {
-    let mut values = Vec::new(alloc);
-    add_pairs(alloc, &mut values, pairs_of(answer))?;
-    add_all_pairs(alloc, &mut values, parts)?;
-    let end = upper_of(high, parts);
-    json!(in alloc; ["scan", low, end, values])
+    let pairs = scanned_pairs(alloc, answer, parts)?;
+    row(alloc, "scan", &[low, upper_of(high, parts)], pairs)
 }
 
 fn operation(alloc: Global, op: Op, answer: &Answer, parts: &[Told]) -> Result<Value, Memory>
     ensures { IfOk result (λ v. view v ≡ operation_value op answer.now parts.now) }
 {
     match op {
-        Op::Get(key) => {
-            let given = answer_value(alloc, answer)?;
-            json!(in alloc; ["get", key, given])
-        }
-        Op::Put(key, value) => {
-            let given = answer_value(alloc, answer)?;
-            json!(in alloc; ["put", key, value, given])
-        }
-        Op::Del(key) => {
-            let given = answer_value(alloc, answer)?;
-            json!(in alloc; ["del", key, given])
-        }
-        Op::Scan(low, high) => scan_value(alloc, low, high, answer, parts),
+        Op::Get(key) => answered_row(alloc, "get", &[key], answer),
+        Op::Put(key, value) => answered_row(alloc, "put", &[key, value], answer),
+        Op::Del(key) => answered_row(alloc, "del", &[key], answer),
+        Op::Scan(low, high) => scan_row(alloc, low, high, answer, parts),
     }
 }
 

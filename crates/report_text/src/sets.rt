@@ -18,9 +18,10 @@ pub struct BirthSet {
 }
 
 impl TxSet {
-    ghost use Rattle.std.specs.Prelude.{◌≡◌, true, false, OnOk, if◌then◌else◌};
+    ghost use Rattle.std.specs.Prelude.{◌≡◌, ◌||◌, true, false, OnOk, if◌then◌else◌};
     ghost use Rattle.clv_base.specs.declared.names.TxId.{TxId as Tx};
     ghost use Rattle.clv_base.specs.Orders.{tx_same};
+    ghost use Rattle.report_text.specs.Told.{is_tx};
     ghost use Rattle.report_text.specs.Sets.{has_tx};
 
     pub fn new(alloc: Global) -> Self
@@ -37,18 +38,28 @@ impl TxSet {
         self.members.contains(&tx)
     }
 
-    pub fn insert(&mut self, tx: TxId) -> Result<(), Memory>
+    fn insert(&mut self, tx: TxId) -> Result<(), Memory>
         ensures { OnOk result ((t : Tx) → has_tx self.new t ≡ (if tx_same tx t then true else has_tx self.old t)) }
     {
         self.members.insert(tx)?;
         Ok(())
     }
+
+    // Takes in a transaction, if there is one.
+    pub fn extend(&mut self, tx: Option<TxId>) -> Result<(), Memory>
+        ensures { OnOk result ((t : Tx) → has_tx self.new t ≡ (has_tx self.old t || is_tx t tx)) }
+    {
+        match tx {
+            Some(tx) => self.insert(tx),
+            None => Ok(()),
+        }
+    }
 }
 
 impl BirthSet {
-    ghost use Rattle.std.specs.Prelude.{◌≡◌, true, false, OnOk, if◌then◌else◌};
+    ghost use Rattle.std.specs.Prelude.{◌≡◌, ◌||◌, true, false, OnOk, if◌then◌else◌};
     ghost use Rattle.clv_base.specs.declared.names.Birth.{Birth as Age};
-    ghost use Rattle.report_text.specs.Told.{same_birth};
+    ghost use Rattle.report_text.specs.Told.{same_birth, is_birth};
     ghost use Rattle.report_text.specs.Sets.{has_birth_in};
 
     pub fn new(alloc: Global) -> Self
@@ -70,5 +81,15 @@ impl BirthSet {
     {
         self.members.insert(birth)?;
         Ok(())
+    }
+
+    // Takes in a birth, if there is one.
+    pub fn extend(&mut self, birth: Option<Birth>) -> Result<(), Memory>
+        ensures { OnOk result ((b : Age) → has_birth_in self.new b ≡ (has_birth_in self.old b || is_birth b birth)) }
+    {
+        match birth {
+            Some(birth) => self.insert(birth),
+            None => Ok(()),
+        }
     }
 }

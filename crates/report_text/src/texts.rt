@@ -1,11 +1,13 @@
 // The report of a history.
 
-ghost use Rattle.std.specs.Prelude.{◌≡◌, ◌++◌, [], ◌∷◌, ◌<◌, ◌^◌, IfOk, length, ℕ};
+ghost use Rattle.std.specs.Prelude.{◌≡◌, ◌++◌, [], ◌∷◌, ◌<◌, ◌^◌, IfOk, length, ℕ, string_bytes};
 ghost use Rattle.clv_base.specs.declared.names.TxId.{TxId as Tx};
 ghost use Rattle.clv_base.specs.History.{acknowledged_in};
 ghost use Rattle.history_replay.specs.Entries.{entries_of};
 ghost use Rattle.history_replay.specs.Located.{located_all};
 ghost use Rattle.report_text.specs.Told.{told_in};
+ghost use Rattle.report_text.specs.Lines.{line as line_of};
+ghost use Rattle.report_text.specs.Counts.{counts_in, summary as summary_value};
 ghost use Rattle.report_text.specs.Report.{report as report_bytes, lines_in};
 ghost use Rattle.report_text.specs.Sets.{has_tx, told_at};
 ghost use Rattle.report_text.specs.Sinks.{TakesText, Causes};
@@ -53,14 +55,36 @@ fn lines(
     Ok(text)
 }
 
+// The lines of all transactions, each found in a table.
+fn transactions(
+    alloc: Global,
+    acknowledged: &TxSet,
+    list: &[(u32, &Entry)],
+) -> Result<Vec<u8>, Memory>
+    requires { (t : Tx) → has_tx acknowledged.now t ≡ acknowledged_in (located_all list.now) t }
+    ensures { IfOk result (λ text. text.items ≡ lines_in (located_all list.now) (located_all list.now)) }
+{
+    let table = all_told(alloc, list)?;
+    lines(alloc, acknowledged, &table, list)
+}
+
+// The line of the counts.
+fn last_line(alloc: Global, acknowledged: &TxSet, list: &[(u32, &Entry)]) -> Result<String, Memory>
+    requires { (t : Tx) → has_tx acknowledged.now t ≡ acknowledged_in (located_all list.now) t }
+    ensures { IfOk result (λ text. string_bytes text ≡ line_of (summary_value (counts_in (located_all list.now) (located_all list.now)))) }
+{
+    let counts = tally(alloc, acknowledged, list)?;
+    let object = summary(alloc, counts)?;
+    line(alloc, &object)
+}
+
 // The report of these entries.
 fn report_of(alloc: Global, list: &[(u32, &Entry)]) -> Result<Vec<u8>, Memory>
     ensures { IfOk result (λ text. text.items ≡ report_bytes (located_all list.now)) }
 {
     let set = acknowledged(alloc, list)?;
-    let table = all_told(alloc, list)?;
-    let mut text = lines(alloc, &set, &table, list)?;
-    let last = line(alloc, &summary(alloc, tally(alloc, &set, list)?)?)?;
+    let mut text = transactions(alloc, &set, list)?;
+    let last = last_line(alloc, &set, list)?;
     text.extend_from_slice(last.as_bytes())?;
     Ok(text)
 }

@@ -149,10 +149,7 @@ pub fn acknowledged(alloc: Global, list: &[(u32, &Entry)]) -> Result<TxSet, Memo
 {
     let mut set = TxSet::new(alloc);
     for one in list {
-        let entry = one.1;
-        if let Some(tx) = acknowledged_by(entry) {
-            set.insert(tx)?;
-        }
+        set.extend(acknowledged_by(one.1))?;
     }
     Ok(set)
 }
@@ -163,10 +160,7 @@ pub fn requested(alloc: Global, list: &[(u32, &Entry)]) -> Result<TxSet, Memory>
 {
     let mut set = TxSet::new(alloc);
     for one in list {
-        let entry = one.1;
-        if let Some(tx) = requested_by(entry) {
-            set.insert(tx)?;
-        }
+        set.extend(requested_by(one.1))?;
     }
     Ok(set)
 }
@@ -177,10 +171,7 @@ pub fn looked(alloc: Global, list: &[(u32, &Entry)]) -> Result<TxSet, Memory>
 {
     let mut set = TxSet::new(alloc);
     for one in list {
-        let entry = one.1;
-        if let Some(tx) = looked_by(entry) {
-            set.insert(tx)?;
-        }
+        set.extend(looked_by(one.1))?;
     }
     Ok(set)
 }

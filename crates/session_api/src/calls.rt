@@ -41,24 +41,18 @@ impl<'a, M: Flier, P: Pace, R: Wait> SessionCalls for ScriptSession<'a, M, P, R>
     }
 
     fn operate(&mut self, alloc: Global, op: Op) -> Result<Answer, TryEnd> {
-        let told = match op {
-            Op::Get(key) => value_told(self.session.get(alloc, key)),
-            Op::Put(key, value) => value_told(self.session.put(alloc, key, value)),
-            Op::Del(key) => value_told(self.session.del(alloc, key)),
-            Op::Scan(lo, hi) => pairs_told(self.session.scan(alloc, lo, bound(hi))),
-        };
-        if let Err(TryEnd::Stopped(StopCause::Memory)) = &told {
-            self.session.shards.tell_lack();
+        let shards = self.session.shards;
+        match op {
+            Op::Get(key) => value_told(shards, self.session.get(alloc, key)),
+            Op::Put(key, value) => value_told(shards, self.session.put(alloc, key, value)),
+            Op::Del(key) => value_told(shards, self.session.del(alloc, key)),
+            Op::Scan(lo, hi) => pairs_told(shards, self.session.scan(alloc, lo, bound(hi))),
         }
-        told
     }
 
     fn commit(&mut self, alloc: Global) -> TryEnd {
-        let end = committed(self.session.commit(alloc));
-        if let TryEnd::Stopped(StopCause::Memory) = end {
-            self.session.shards.tell_lack();
-        }
-        end
+        let shards = self.session.shards;
+        committed(shards, self.session.commit(alloc))
     }
 
     fn abort(&mut self, alloc: Global) -> Result<(), StopCause> {

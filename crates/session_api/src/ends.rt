@@ -10,9 +10,11 @@ ghost use Rattle.session_api.specs.Seeing.{op_end, value_end, pairs_end, commit_
 ghost use Rattle.session_api.specs.Ends.{BeginEnds, RetryEnds};
 
 use crate::{AbortError, BeginError, CommitError, OpError, RetryError, Settled};
+use cluster_turns::Shards;
 use clv_base::lists::Pairs;
 use clv_base::names::TxId;
 use clv_base::ops::Answer;
+use machine_calls::Machine;
 use script_runs::{StopCause, TryEnd};
 
 // None is active.
@@ -41,8 +43,8 @@ pub(crate) fn retried(answer: Result<TxId, RetryError>) -> Result<(), StopCause>
     }
 }
 
-// An operation that was made has failed.
-fn failed(error: OpError) -> TryEnd
+// An operation that was made has failed. Want of memory is told to all sessions.
+fn failed<M: Machine>(shards: &Shards<M>, error: OpError) -> TryEnd
     requires made { (e : Failure) × (error ≡ failure_told e) }
     ensures told { (e : Failure) → error ≡ failure_told e → result ≡ op_end e }
 {
@@ -50,36 +52,48 @@ fn failed(error: OpError) -> TryEnd
         OpError::Aborted(cause) => TryEnd::Aborted(cause),
         OpError::Down { shard } => TryEnd::Stopped(StopCause::Down { shard }),
         OpError::Worn { at } => TryEnd::Stopped(StopCause::Worn { at }),
-        OpError::Memory => TryEnd::Stopped(StopCause::Memory),
+        OpError::Memory => {
+            shards.tell_lack();
+            TryEnd::Stopped(StopCause::Memory)
+        }
         OpError::NoTx => unreachable!(),
         OpError::BadRange { .. } => unreachable!(),
     }
 }
 
 // An operation at a key was made.
-pub(crate) fn value_told(answer: Result<Option<u64>, OpError>) -> Result<Answer, TryEnd>
+pub(crate) fn value_told<M: Machine>(
+    shards: &Shards<M>,
+    answer: Result<Option<u64>, OpError>,
+) -> Result<Answer, TryEnd>
     requires made { (e : Result (Option ℕ) Failure) × (answer ≡ answer_told e) }
     ensures told { (e : Result (Option ℕ) Failure) → answer ≡ answer_told e → result ≡ value_end e }
 {
     match answer {
         Ok(value) => Ok(Answer::Value(value)),
-        Err(error) => Err(failed(error)),
+        Err(error) => Err(failed(shards, error)),
     }
 }
 
 // A scan was made.
-pub(crate) fn pairs_told(answer: Result<Pairs, OpError>) -> Result<Answer, TryEnd>
+pub(crate) fn pairs_told<M: Machine>(
+    shards: &Shards<M>,
+    answer: Result<Pairs, OpError>,
+) -> Result<Answer, TryEnd>
     requires made { (e : Result (List (ℕ × ℕ)) Failure) × (answer ≡ answer_told e) }
     ensures told { (e : Result (List (ℕ × ℕ)) Failure) → answer ≡ answer_told e → result ≡ pairs_end e }
 {
     match answer {
         Ok(pairs) => Ok(Answer::Pairs(pairs)),
-        Err(error) => Err(failed(error)),
+        Err(error) => Err(failed(shards, error)),
     }
 }
 
-// A commit was made.
-pub(crate) fn committed(answer: Result<Settled, CommitError>) -> TryEnd
+// A commit was made. Want of memory is told to all sessions.
+pub(crate) fn committed<M: Machine>(
+    shards: &Shards<M>,
+    answer: Result<Settled, CommitError>,
+) -> TryEnd
     requires made { (e : Result SettledIs CommitFailure) × (answer ≡ commit_told e) }
     ensures told { (e : Result SettledIs CommitFailure) → answer ≡ commit_told e → result ≡ commit_end e }
 {
@@ -90,7 +104,10 @@ pub(crate) fn committed(answer: Result<Settled, CommitError>) -> TryEnd
         Err(CommitError::Down { shard }) => TryEnd::Stopped(StopCause::Down { shard }),
         Err(CommitError::Unsettled { shard }) => TryEnd::Stopped(StopCause::Unsettled { shard }),
         Err(CommitError::Worn { at }) => TryEnd::Stopped(StopCause::Worn { at }),
-        Err(CommitError::Memory) => TryEnd::Stopped(StopCause::Memory),
+        Err(CommitError::Memory) => {
+            shards.tell_lack();
+            TryEnd::Stopped(StopCause::Memory)
+        }
         Err(CommitError::NoTx) => unreachable!(),
     }
 }

@@ -1,16 +1,19 @@
 //! The transactions of a shard after a restart.
-ghost use Rattle.std.specs.Prelude.{◌≡◌, ◌≤◌, ◌+◌, true, length, OnOk, IfOk};
+ghost use Rattle.std.specs.Prelude.{◌≡◌, ◌≤◌, ◌+◌, [], true, length, map, OnOk, IfOk};
 ghost use Rattle.std.specs.List.{filter, list_all};
+ghost use Rattle.std.specs.List.Sorted.{IsStrictlySortedBy};
 ghost use Rattle.clv_base.specs.declared.names.TxId.{TxId as Tx};
 ghost use Rattle.clv_base.specs.FileRules.{has_spelling};
 ghost use Rattle.clv_base.specs.Logs.{in_doubt as in_doubt_in, wrote_in};
-ghost use Rattle.clv_base.specs.Orders.{tx_in};
-ghost use Rattle.clv_base.specs.Restarts.{homes_of, local_after, restored_pairs};
+ghost use Rattle.clv_base.specs.Orders.{tx_in, tx_cmp, pair_cmp};
+ghost use Rattle.clv_base.specs.Restarts.{homes_of, local_after, restored_locks, restored_pairs, restored_parts};
 ghost use Rattle.txn_core.specs.Sound.{is_update_by, owed_by, updates_by};
+ghost use Rattle.txn_core.specs.State.{AreSettled};
 
 use crate::deps::deps_of;
 use crate::locks::locks_of;
 use crate::parts::{firsts, parts_of};
+use cascade_undo::Deps;
 use clv_base::logs::LogRecord;
 use clv_base::names::TxId;
 use lock_table::{Locks, Memory};
@@ -19,6 +22,7 @@ use log_buffer::LogBuffer;
 use ordered_store::Store;
 use protocol_laws::events::restarts_end_at_rest;
 use std::alloc::{AllocError, Global};
+use tx_table::PartTable;
 use txn_core::ShardTx;
 
 /// Whether a record is an UPDATE of one of these.
@@ -66,6 +70,60 @@ fn reserve_undo(
     buffer.reserve(room)
 }
 
+/// Those in doubt, as a list and as a set.
+#[derive(Drop)]
+struct Doubtful {
+    txs: Vec<TxId>,
+    set: TxSet,
+}
+
+fn doubtful_of(alloc: Global, in_doubt: &[(TxId, u32)]) -> Result<Doubtful, Memory>
+    ensures list { IfOk result (λ d. d.txs.items ≡ map (λ t. t.0) in_doubt.now) }
+    ensures set { IfOk result (λ d. (t : Tx) → tx_in t d.set ≡ tx_in t d.txs.items) }
+{
+    let Ok(txs) = firsts(alloc, in_doubt) else {
+        return Err(Memory);
+    };
+    let Ok(set) = TxSet::of(alloc, &txs) else {
+        return Err(Memory);
+    };
+    Ok(Doubtful { txs, set })
+}
+
+/// What a restart leaves of those in doubt.
+#[derive(Drop)]
+struct Left<L: Locks + Drop> {
+    locks: L,
+    parts: PartTable,
+    deps: Deps,
+}
+
+/// The locks, the parts and the dependencies of those in doubt, which are given as a list and as a set.
+fn left_of<L: Locks + Drop>(
+    alloc: Global,
+    txs: &[TxId],
+    doubtful: &TxSet,
+    pairs: &[(TxId, TxId)],
+    log: &[LogRecord],
+) -> Result<Left<L>, Memory>
+    requires same { (t : Tx) → tx_in t doubtful.now ≡ tx_in t txs.now }
+    requires rising { IsStrictlySortedBy tx_cmp txs.now }
+    requires pairs { IsStrictlySortedBy pair_cmp pairs.now }
+    ensures locks { IfOk result (λ m. L.rows m.locks ≡ restored_locks txs.now log.now []) }
+    ensures parts { IfOk result (λ m. m.parts.entries ≡ restored_parts txs.now) }
+    ensures pairs { IfOk result (λ m. m.deps.pairs ≡ pairs.now) }
+    ensures settled { IfOk result (λ m. AreSettled m.deps.commits log.now) }
+{
+    let Ok(parts) = parts_of(alloc, txs) else {
+        return Err(Memory);
+    };
+    let locks = locks_of(alloc, txs, doubtful, log)?;
+    let Ok(deps) = deps_of(alloc, pairs, log) else {
+        return Err(Memory);
+    };
+    Ok(Left { locks, parts, deps })
+}
+
 /// The transactions of a shard whose log, which ends with a restart's records, is the buffer's, as the restart leaves them: those in doubt have
 /// their parts, closed, their locks, key X on each key that they wrote, and their predecessors without a COMMIT. The log has room to undo them.
 /// The store has the records after the restart; the lists are those that recovery tells.
@@ -87,22 +145,13 @@ pub fn restored<S: Store + Drop, L: Locks + Drop>(
     ensures fronts { IfOk result (λ t. (t.durable ≡ buffer.durable) × (t.taken ≡ buffer.taken)) }
 {
     restarts_end_at_rest();
-    let Ok(txs) = firsts(alloc, in_doubt) else {
-        return Err(Memory);
-    };
-    let Ok(doubtful) = TxSet::of(alloc, &txs) else {
-        return Err(Memory);
-    };
-    let Ok(()) = reserve_undo(&mut buffer, &txs, &doubtful) else {
-        return Err(Memory);
-    };
-    let Ok(parts) = parts_of(alloc, &txs) else {
+    let doubtful = doubtful_of(alloc, in_doubt)?;
+    let Ok(()) = reserve_undo(&mut buffer, &doubtful.txs, &doubtful.set) else {
         return Err(Memory);
     };
     let log = buffer.records(0, buffer.end());
-    let locks = locks_of(alloc, &txs, &doubtful, log)?;
-    let Ok(deps) = deps_of(alloc, pairs, log) else {
-        return Err(Memory);
-    };
-    Ok(ShardTx::new(shard, epoch, store, locks, parts, deps, buffer))
+    let left = left_of(alloc, &doubtful.txs, &doubtful.set, pairs, log)?;
+    Ok(ShardTx::new(
+        shard, epoch, store, left.locks, left.parts, left.deps, buffer,
+    ))
 }

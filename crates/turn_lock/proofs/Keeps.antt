@@ -183,8 +183,8 @@ module _ {T E O : Type 0} (journal : T → List E) (origin : T → O) (maker dur
   spread_one : (h : ℕ → ℕ) (v : V) → sum_by (weight {E = E} {O = O} h) (v ∷ []) ≡ weight h v
   spread_one h v = omega (arith, sum_by-cons (weight {E = E} {O = O} h) v [])
 
-  pub starts : (x : T) → n < 2 ^ 64 → journal x ≡ [] → origin x ≡ o → sound x → Rule (opening (0 ∷ 0 ∷ 0 ∷ []) (Some x ∷ []) (first_view n o))
-  starts x few empty is so = record {
+  opens : (x : T) → n < 2 ^ 64 → journal x ≡ [] → origin x ≡ o → sound x → Rule (opening (0 ∷ 0 ∷ 0 ∷ []) (Some x ∷ []) (first_view n o))
+  opens x few empty is so = record {
     drawn = 0;
     served = 0;
     horizon = 0;
@@ -199,6 +199,9 @@ module _ {T E O : Type 0} (journal : T → List E) (origin : T → O) (maker dur
     strangers = λ w l. refl;
     slot = inl record { value = x; slot = refl; journal_is = empty; origin_is = is; is_sound = so; none_at = λ i v e. first_of_one (λ (w : V). is_turn w.stage ≡ false) i v e refl };
   }
+
+  pub starts : (xs : List (Option T)) (x : T) → xs ≡ Some x ∷ [] → n < 2 ^ 64 → journal x ≡ [] → origin x ≡ o → sound x → Rule (opening (0 ∷ 0 ∷ 0 ∷ []) xs (first_view n o))
+  starts xs x there few empty is so = subst (λ (ys : List (Option T)). Rule (opening (0 ∷ 0 ∷ 0 ∷ []) ys (first_view n o))) (sym there) (opens x few empty is so)
 
   pub draws : (slots id : ℕ) (me : M) → me.0.stage ≡ Idle → length me.0.records ≡ 1 → Allows Rule slots id me 0 (λ x. (x + 1) % 2 ^ 64) (drew (step slots 0 1 0 none) me)
   draws slots id me idle one s r deep at small = let v : V = me.0 in let k : ℕ = r.drawn in let w : V = record { stage = Waiting k; records = v.records; known = v.known } in let known = r.each id v at in

@@ -66,6 +66,9 @@ abbrev value_or : {A : Type 0} → A → Option A → A
 value_or d None = d
 value_or d (Some x) = x
 
+pub one_same : {A : Type 0} (a b : A) → (Some a ∷ []) ≡ (Some b ∷ []) → a ≡ b
+one_same a b e = cc
+
 pub some_inj : {A : Type 0} (x y : A) → Some x ≡ Some y → x ≡ y
 some_inj x y e = ap (value_or x) e
 

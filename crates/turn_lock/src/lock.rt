@@ -1,5 +1,5 @@
 //! The calls of the lock.
-ghost use Rattle.std.specs.Prelude.{◌≡◌, ◌≢◌, ◌++◌, ◌<◌, ℕ, [], length, drop, IfOk, IfErr, vec_len, vec_capacity, slice_index_or, ◌≤◌, max};
+ghost use Rattle.std.specs.Prelude.{◌≡◌, ◌≢◌, ◌++◌, ◌<◌, ℕ, Some, [], ◌∷◌, length, drop, IfOk, IfErr, vec_len, vec_capacity, slice_index_or, ◌≤◌, max};
 ghost use Rattle.std.specs.List.{All};
 ghost use Rattle.turn_lock.specs.Journals.{StartsWith, entries_by, durable_of, GrownBy, GrownByOthers};
 ghost use Rattle.turn_lock.specs.Rule.{first_view};
@@ -19,6 +19,18 @@ use std::sync::Wait;
 /// There was no memory for it.
 #[derive(Drop)]
 pub struct Memory;
+
+// The value of the slots of a table that wasn't made: it was put into the only one.
+fn value_of<T>(mut slots: Vec<Option<T>>) -> T
+    requires { (value : T) × (slots.items ≡ Some value ∷ []) }
+    ensures { slots.items ≡ Some result ∷ [] }
+{
+    let Some(Some(value)) = slots.pop() else {
+        unreachable!()
+    };
+    slots.destroy_empty();
+    value
+}
 
 impl<T: Journaled> TurnLock<T> {
     /// A lock round the value, and its passes, numbered from 0. `Memory` comes for want of memory alone, and the value comes back with it.
@@ -54,13 +66,7 @@ impl<T: Journaled> TurnLock<T> {
                 let all = lock.deal(seat, passes, all);
                 Ok((lock, all))
             }
-            Err(Refused { mut slots }) => {
-                let Some(Some(value)) = slots.pop() else {
-                    unreachable!()
-                };
-                slots.destroy_empty();
-                Err((Memory, value))
-            }
+            Err(Refused { slots }) => Err((Memory, value_of(slots))),
         }
     }
 

@@ -91,3 +91,13 @@ index_undone test tx b rows old mid new none is first second t = second t ∙ ap
     at : (s : Bool) → tx_same tx t ≡ s → cond s false (cond s (b || tx_in t old) (tx_in t old)) ≡ passes test (tx_get t rows)
     at true e = sym (ap (passes test) (subst (λ x. tx_get x rows ≡ None) (tx_true tx t e) none))
     at false e = is t
+
+-- the same, by a test that was made before
+pub index_entered : {V : Type 0} (test : V → Bool) (tx : TxId) (v : V) (b : Bool) (rows : Table V) (old mid new : List TxId) → b ≡ test v → IsIndex test rows old
+    → ((t : TxId) → tx_in t mid ≡ cond (tx_same tx t) (b || tx_in t old) (tx_in t old)) → ((t : TxId) → tx_in t new ≡ cond (tx_same tx t) (b && tx_in t mid) (tx_in t mid)) → IsIndex test (tx_put tx v rows) new
+index_entered test tx v b rows old mid new tested is first second = index_renewed test tx v rows old mid new is
+    (λ t. first t ∙ ap (λ c. cond (tx_same tx t) (c || tx_in t old) (tx_in t old)) tested) (λ t. second t ∙ ap (λ c. cond (tx_same tx t) (c && tx_in t mid) (tx_in t mid)) tested)
+
+-- a value that is put into two tables that are alike
+pub alike_put : {V : Type 0} (tx : TxId) (v : V) (rows old new : Table V) → ((t : TxId) → tx_get t old ≡ tx_get t rows) → ((t : TxId) → tx_get t new ≡ cond (tx_same tx t) (Some v) (tx_get t old)) → (t : TxId) → tx_get t new ≡ tx_get t (tx_put tx v rows)
+alike_put tx v rows old new alike now t = now t ∙ ap (cond (tx_same tx t) (Some v)) (alike t) ∙ sym (get_put tx t v rows ∙ ap (λ b. cond b (Some v) (tx_get t rows)) (tx_symmetric t tx))

@@ -1,4 +1,4 @@
-use Rattle.std.proofs.Common.{◌≡◌, ◌≤◌, drop, ◌+◌, length}
+use Rattle.std.proofs.Common.{◌≡◌, ◌≤◌, drop, length}
 use Rattle.clv_base.specs.declared.names.Birth.{Birth}
 use Rattle.history_replay.specs.Located.{located_all}
 use Rattle.report_text.specs.Told.{has_birth}
@@ -12,9 +12,6 @@ invariant-loop-place l =
       in_range : l.place ≤ length l.list;
       seen : (b : Birth) → has_birth_in l.later b ≡ has_birth b (located_all (drop l.place l.list));
       counted : l.so_far ≡ counts_in (located_all l.list) (located_all (drop l.place l.list));
-      acknowledged : l.so_far.acknowledged + l.place ≤ length l.list;
-      unsettled : l.so_far.unsettled + l.place ≤ length l.list;
-      aborted : l.so_far.aborted + l.place ≤ length l.list;
     }
 
 abbrev pub decreases-loop-place : goal.decreases-loop-place

@@ -8,8 +8,10 @@ use Rattle.clv_base.specs.Events.{finish, owe_vote}
 use Rattle.protocol_laws.specs.Changes.{successors_of}
 use Rattle.protocol_laws.proofs.Laws.{prepares_touch}
 use Rattle.shard_core.specs.Core.{Core}
-use Rattle.shard_core.proofs.Parts.{Parts, seen, Changed, rest_of}
-use Rattle.shard_core.proofs.Grown.{like_closed, turns_closed, owed_changed, room_doomed, within_closed, rising_before}
+use Rattle.two_phase_commit.specs.Voting.{Voting}
+use Rattle.shard_core.specs.Whole.{IsAtRest}
+use Rattle.shard_core.proofs.Parts.{Parts, seen, Changed, rest_of, viewed, Holds}
+use Rattle.shard_core.proofs.Grown.{like_closed, turns_closed, owed_changed, room_doomed, within_closed, rising_before, stayed_same, stayed_holds, stayed_rest}
 use Rattle.shard_core.proofs.shard.ShardCore.prepare_active.Given as given
 use Rattle.shard_core.proofs.shard.ShardCore.prepare_active.Goals as goal
 
@@ -58,3 +60,46 @@ returns-clause-ready g c = (the_change g c).ready
 pub returns-clause-finished : goal.returns-clause-finished
 unfolding before
 returns-clause-finished g c = (the_change g c).finished ∙ ap (λ (v : Core). finish (owe_vote c.args.tx c.args.home c.args.seen (with_local (close_part c.args.tx c.args.home false) v.shard))) c.self.view_is
+
+-- where there is no memory only room was made
+pub invariant_of-self : goal.invariant_of-self
+invariant_of-self g c =
+    let i = c.self.inside in
+    let a : Parts = record { shard = i.shard; run = i.run; transactions = i.transactions; participant = i.participant; coordinator = i.coordinator; prepares = i.prepares; outbox = i.outbox; candidates = i.candidates } in
+    let n = c.make_room.new in let rest = rest_of a c.args.self.now c.self.view_is c.requires.rest in let stay = c.make_room.ensures.stay in
+    stayed_holds a n.transactions n.prepares n.outbox n.candidates rest c.self.invariant stay
+
+pub returns-in-Err-make_room-clause-err : goal.returns-in-Err-make_room-clause-err
+returns-in-Err-make_room-clause-err g c =
+    let i = c.self.inside in
+    let a : Parts = record { shard = i.shard; run = i.run; transactions = i.transactions; participant = i.participant; coordinator = i.coordinator; prepares = i.prepares; outbox = i.outbox; candidates = i.candidates } in
+    let n = c.make_room.new in let rest = rest_of a c.args.self.now c.self.view_is c.requires.rest in let stay = c.make_room.ensures.stay in
+    stayed_same a n.transactions n.prepares n.outbox n.candidates rest c.self.invariant stay ∙ ap (λ (v : Core). v.shard) c.self.view_is
+
+pub returns-in-Err-make_room-clause-still : goal.returns-in-Err-make_room-clause-still
+returns-in-Err-make_room-clause-still g c =
+    let i = c.self.inside in
+    let a : Parts = record { shard = i.shard; run = i.run; transactions = i.transactions; participant = i.participant; coordinator = i.coordinator; prepares = i.prepares; outbox = i.outbox; candidates = i.candidates } in
+    let n = c.make_room.new in let rest = rest_of a c.args.self.now c.self.view_is c.requires.rest in let stay = c.make_room.ensures.stay in
+    stayed_rest a n.transactions n.prepares n.outbox n.candidates rest c.self.invariant stay
+
+pub invariant_of-self-in-Err-on_prepare : goal.invariant_of-self-in-Err-on_prepare
+invariant_of-self-in-Err-on_prepare g c =
+    let i = c.self.inside in
+    let a : Parts = record { shard = i.shard; run = i.run; transactions = i.transactions; participant = i.participant; coordinator = i.coordinator; prepares = i.prepares; outbox = i.outbox; candidates = i.candidates } in
+    let n = c.make_room.new in let rest = rest_of a c.args.self.now c.self.view_is c.requires.rest in let stay = c.make_room.ensures.stay in
+    subst (λ (x : Voting). Holds (record (record a { transactions = n.transactions; prepares = n.prepares; outbox = n.outbox; candidates = n.candidates }) { participant = x })) (sym c.in-Err-on_prepare.ensures.err) (stayed_holds a n.transactions n.prepares n.outbox n.candidates rest c.self.invariant stay)
+
+pub returns-in-Err-on_prepare-clause-err : goal.returns-in-Err-on_prepare-clause-err
+returns-in-Err-on_prepare-clause-err g c =
+    let i = c.self.inside in
+    let a : Parts = record { shard = i.shard; run = i.run; transactions = i.transactions; participant = i.participant; coordinator = i.coordinator; prepares = i.prepares; outbox = i.outbox; candidates = i.candidates } in
+    let n = c.make_room.new in let rest = rest_of a c.args.self.now c.self.view_is c.requires.rest in let stay = c.make_room.ensures.stay in
+    ap (λ (x : Voting). seen (record (record a { transactions = n.transactions; prepares = n.prepares; outbox = n.outbox; candidates = n.candidates }) { participant = x })) c.in-Err-on_prepare.ensures.err ∙ stayed_same a n.transactions n.prepares n.outbox n.candidates rest c.self.invariant stay ∙ ap (λ (v : Core). v.shard) c.self.view_is
+
+pub returns-in-Err-on_prepare-clause-still : goal.returns-in-Err-on_prepare-clause-still
+returns-in-Err-on_prepare-clause-still g c =
+    let i = c.self.inside in
+    let a : Parts = record { shard = i.shard; run = i.run; transactions = i.transactions; participant = i.participant; coordinator = i.coordinator; prepares = i.prepares; outbox = i.outbox; candidates = i.candidates } in
+    let n = c.make_room.new in let rest = rest_of a c.args.self.now c.self.view_is c.requires.rest in let stay = c.make_room.ensures.stay in
+    subst (λ (x : Voting). IsAtRest (viewed (record (record a { transactions = n.transactions; prepares = n.prepares; outbox = n.outbox; candidates = n.candidates }) { participant = x }))) (sym c.in-Err-on_prepare.ensures.err) (stayed_rest a n.transactions n.prepares n.outbox n.candidates rest c.self.invariant stay)

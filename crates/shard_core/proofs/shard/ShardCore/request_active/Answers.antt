@@ -12,8 +12,10 @@ use Rattle.protocol_laws.specs.Changes.{ChangesDue, successors_of}
 use Rattle.protocol_laws.proofs.Laws.{requests_touch}
 use Rattle.two_phase_commit.proofs.Laws.{low_in}
 use Rattle.shard_core.specs.Core.{Core}
-use Rattle.shard_core.proofs.Parts.{Parts, seen, Changed, rest_of}
-use Rattle.shard_core.proofs.Grown.{like_closed, turns_closed, asked_changed, room_doomed, within_closed, rising_before}
+use Rattle.two_phase_commit.specs.Coordinated.{Coordination}
+use Rattle.shard_core.specs.Whole.{IsAtRest}
+use Rattle.shard_core.proofs.Parts.{Parts, seen, Changed, rest_of, viewed, Holds}
+use Rattle.shard_core.proofs.Grown.{like_closed, turns_closed, asked_changed, room_doomed, within_closed, rising_before, stayed_same, stayed_holds, stayed_rest}
 use Rattle.shard_core.proofs.shard.ShardCore.request_active.Given as given
 use Rattle.shard_core.proofs.shard.ShardCore.request_active.Goals as goal
 
@@ -76,3 +78,46 @@ returns-clause-ready g c = (the_change g c).ready
 pub returns-clause-finished : goal.returns-clause-finished
 unfolding before
 returns-clause-finished g c = (the_change g c).finished ∙ ap (λ (v : Core). finish (coordinate c.args.tx c.args.touched (with_local (close_part c.args.tx v.shard.shard (is_alone (others v.shard.shard c.args.touched))) v.shard))) c.self.view_is
+
+-- where there is no memory only room was made
+pub invariant_of-self : goal.invariant_of-self
+invariant_of-self g c =
+    let i = c.self.inside in
+    let a : Parts = record { shard = i.shard; run = i.run; transactions = i.transactions; participant = i.participant; coordinator = i.coordinator; prepares = i.prepares; outbox = i.outbox; candidates = i.candidates } in
+    let n = c.make_room.new in let rest = rest_of a c.args.self.now c.self.view_is c.requires.rest in let stay = c.make_room.ensures.stay in
+    stayed_holds a n.transactions n.prepares n.outbox n.candidates rest c.self.invariant stay
+
+pub returns-in-Err-make_room-clause-err : goal.returns-in-Err-make_room-clause-err
+returns-in-Err-make_room-clause-err g c =
+    let i = c.self.inside in
+    let a : Parts = record { shard = i.shard; run = i.run; transactions = i.transactions; participant = i.participant; coordinator = i.coordinator; prepares = i.prepares; outbox = i.outbox; candidates = i.candidates } in
+    let n = c.make_room.new in let rest = rest_of a c.args.self.now c.self.view_is c.requires.rest in let stay = c.make_room.ensures.stay in
+    stayed_same a n.transactions n.prepares n.outbox n.candidates rest c.self.invariant stay ∙ ap (λ (v : Core). v.shard) c.self.view_is
+
+pub returns-in-Err-make_room-clause-still : goal.returns-in-Err-make_room-clause-still
+returns-in-Err-make_room-clause-still g c =
+    let i = c.self.inside in
+    let a : Parts = record { shard = i.shard; run = i.run; transactions = i.transactions; participant = i.participant; coordinator = i.coordinator; prepares = i.prepares; outbox = i.outbox; candidates = i.candidates } in
+    let n = c.make_room.new in let rest = rest_of a c.args.self.now c.self.view_is c.requires.rest in let stay = c.make_room.ensures.stay in
+    stayed_rest a n.transactions n.prepares n.outbox n.candidates rest c.self.invariant stay
+
+pub invariant_of-self-in-Err-ask_commit : goal.invariant_of-self-in-Err-ask_commit
+invariant_of-self-in-Err-ask_commit g c =
+    let i = c.self.inside in
+    let a : Parts = record { shard = i.shard; run = i.run; transactions = i.transactions; participant = i.participant; coordinator = i.coordinator; prepares = i.prepares; outbox = i.outbox; candidates = i.candidates } in
+    let n = c.make_room.new in let rest = rest_of a c.args.self.now c.self.view_is c.requires.rest in let stay = c.make_room.ensures.stay in
+    subst (λ (x : Coordination). Holds (record (record a { transactions = n.transactions; prepares = n.prepares; outbox = n.outbox; candidates = n.candidates }) { coordinator = x })) (sym c.in-Err-ask_commit.ensures.err) (stayed_holds a n.transactions n.prepares n.outbox n.candidates rest c.self.invariant stay)
+
+pub returns-in-Err-ask_commit-clause-err : goal.returns-in-Err-ask_commit-clause-err
+returns-in-Err-ask_commit-clause-err g c =
+    let i = c.self.inside in
+    let a : Parts = record { shard = i.shard; run = i.run; transactions = i.transactions; participant = i.participant; coordinator = i.coordinator; prepares = i.prepares; outbox = i.outbox; candidates = i.candidates } in
+    let n = c.make_room.new in let rest = rest_of a c.args.self.now c.self.view_is c.requires.rest in let stay = c.make_room.ensures.stay in
+    ap (λ (x : Coordination). seen (record (record a { transactions = n.transactions; prepares = n.prepares; outbox = n.outbox; candidates = n.candidates }) { coordinator = x })) c.in-Err-ask_commit.ensures.err ∙ stayed_same a n.transactions n.prepares n.outbox n.candidates rest c.self.invariant stay ∙ ap (λ (v : Core). v.shard) c.self.view_is
+
+pub returns-in-Err-ask_commit-clause-still : goal.returns-in-Err-ask_commit-clause-still
+returns-in-Err-ask_commit-clause-still g c =
+    let i = c.self.inside in
+    let a : Parts = record { shard = i.shard; run = i.run; transactions = i.transactions; participant = i.participant; coordinator = i.coordinator; prepares = i.prepares; outbox = i.outbox; candidates = i.candidates } in
+    let n = c.make_room.new in let rest = rest_of a c.args.self.now c.self.view_is c.requires.rest in let stay = c.make_room.ensures.stay in
+    subst (λ (x : Coordination). IsAtRest (viewed (record (record a { transactions = n.transactions; prepares = n.prepares; outbox = n.outbox; candidates = n.candidates }) { coordinator = x }))) (sym c.in-Err-ask_commit.ensures.err) (stayed_rest a n.transactions n.prepares n.outbox n.candidates rest c.self.invariant stay)

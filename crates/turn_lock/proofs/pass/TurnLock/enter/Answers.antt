@@ -34,41 +34,15 @@ invariant_of-result g c = let t = c.fetch_add-ticket.ensures.2 in let inv = c.lo
     let e = entered g.T.Journaled.journal g.T.Journaled.origin g.T.Journaled.maker g.T.Journaled.durable g.T.Journaled.sound c.args.pass.seat.me.0 _ _ _ t.0 _ _ (ap (λ m. m.0) inv) got c.exchange.ensures.2 c.unwrap-value.ensures c.exchange.ensures.3 in
     record { served = (e.carried, e.turn, e.one) }
 
-pub returns-then-served-ticket-clause-turn : goal.returns-then-served-ticket-clause-turn
-returns-then-served-ticket-clause-turn g c = let t = c.fetch_add-ticket.ensures.2 in let inv = c.loop.invariant.2 ∙ t.1 in
+pub returns-then-served-ticket : goal.returns-then-served-ticket
+returns-then-served-ticket g c = let t = c.fetch_add-ticket.ensures.2 in let inv = c.loop.invariant.2 ∙ t.1 in
     let hit : c.load-served.result ≡ t.0 % 2 ^ 64 = c.if-served-ticket.true ∙ sym t.2 in
     let got = (c.load-served.ensures.2 t.0 (ap (λ m. m.0.stage) inv)).1 hit in
     let e = entered g.T.Journaled.journal g.T.Journaled.origin g.T.Journaled.maker g.T.Journaled.durable g.T.Journaled.sound c.args.pass.seat.me.0 _ _ _ t.0 _ _ (ap (λ m. m.0) inv) got c.exchange.ensures.2 c.unwrap-value.ensures c.exchange.ensures.3 in
     let table = c.exchange.ensures.0 ∙ (c.load-served.ensures.0 ∙ (c.loop.invariant.0 ∙ (c.fetch_add-ticket.ensures.0 ∙ c.requires))) in
-    (table, e.number_kept, e.own_kept, e.seen_all, e.known_kept, e.origin_kept)
-
-pub returns-then-served-ticket-clause-origin : goal.returns-then-served-ticket-clause-origin
-returns-then-served-ticket-clause-origin g c = let t = c.fetch_add-ticket.ensures.2 in let inv = c.loop.invariant.2 ∙ t.1 in
-    let hit : c.load-served.result ≡ t.0 % 2 ^ 64 = c.if-served-ticket.true ∙ sym t.2 in
-    let got = (c.load-served.ensures.2 t.0 (ap (λ m. m.0.stage) inv)).1 hit in
-    let e = entered g.T.Journaled.journal g.T.Journaled.origin g.T.Journaled.maker g.T.Journaled.durable g.T.Journaled.sound c.args.pass.seat.me.0 _ _ _ t.0 _ _ (ap (λ m. m.0) inv) got c.exchange.ensures.2 c.unwrap-value.ensures c.exchange.ensures.3 in
-    e.origin_is
+    record { turn = (table, e.number_kept, e.own_kept, e.seen_all, e.known_kept, e.origin_kept); origin = e.origin_is; grown = e.grown; durable = e.safe; sound = e.is_sound }
 
 pub loop-preserved : goal.loop-preserved
 loop-preserved g c = let t = c.fetch_add-ticket.ensures.2 in let inv = c.loop.invariant.2 ∙ t.1 in
     let same = (c.load-served.ensures.2 t.0 (ap (λ m. m.0.stage) inv)).0 (λ hit. c.if-served-ticket.false (hit ∙ t.2)) in
     (c.load-served.ensures.0 ∙ c.loop.invariant.0, c.load-served.ensures.1 ∙ c.loop.invariant.1, same ∙ c.loop.invariant.2)
-
-pub returns-then-served-ticket-clause-durable : goal.returns-then-served-ticket-clause-durable
-returns-then-served-ticket-clause-durable g c = let t = c.fetch_add-ticket.ensures.2 in let inv = c.loop.invariant.2 ∙ t.1 in
-    let hit : c.load-served.result ≡ t.0 % 2 ^ 64 = c.if-served-ticket.true ∙ sym t.2 in
-    let got = (c.load-served.ensures.2 t.0 (ap (λ m. m.0.stage) inv)).1 hit in
-    (entered g.T.Journaled.journal g.T.Journaled.origin g.T.Journaled.maker g.T.Journaled.durable g.T.Journaled.sound c.args.pass.seat.me.0 _ _ _ t.0 _ _ (ap (λ m. m.0) inv) got c.exchange.ensures.2 c.unwrap-value.ensures c.exchange.ensures.3).safe
-
-pub returns-then-served-ticket-clause-grown : goal.returns-then-served-ticket-clause-grown
-returns-then-served-ticket-clause-grown g c = let t = c.fetch_add-ticket.ensures.2 in let inv = c.loop.invariant.2 ∙ t.1 in
-    let hit : c.load-served.result ≡ t.0 % 2 ^ 64 = c.if-served-ticket.true ∙ sym t.2 in
-    let got = (c.load-served.ensures.2 t.0 (ap (λ m. m.0.stage) inv)).1 hit in
-    (entered g.T.Journaled.journal g.T.Journaled.origin g.T.Journaled.maker g.T.Journaled.durable g.T.Journaled.sound c.args.pass.seat.me.0 _ _ _ t.0 _ _ (ap (λ m. m.0) inv) got c.exchange.ensures.2 c.unwrap-value.ensures c.exchange.ensures.3).grown
-
-pub returns-then-served-ticket-clause-sound : goal.returns-then-served-ticket-clause-sound
-returns-then-served-ticket-clause-sound g c = let t = c.fetch_add-ticket.ensures.2 in let inv = c.loop.invariant.2 ∙ t.1 in
-    let hit : c.load-served.result ≡ t.0 % 2 ^ 64 = c.if-served-ticket.true ∙ sym t.2 in
-    let got = (c.load-served.ensures.2 t.0 (ap (λ m. m.0.stage) inv)).1 hit in
-    let e = entered g.T.Journaled.journal g.T.Journaled.origin g.T.Journaled.maker g.T.Journaled.durable g.T.Journaled.sound c.args.pass.seat.me.0 _ _ _ t.0 _ _ (ap (λ m. m.0) inv) got c.exchange.ensures.2 c.unwrap-value.ensures c.exchange.ensures.3 in
-    e.is_sound

@@ -1,0 +1,410 @@
+"""Logs as bytes: a writer, a reader that finds the first fault of form, of order and of agreement, and what logs stand for.
+
+Written from docs/FORMAT.md and the rules of logs in docs/PROTOCOL.md, it shares no code with the program; tests compare the program with it.
+A record is a tuple of its kind and its fields, as docs/FORMAT.md has them, with None for none; a transaction is (run, session, serial).
+"""
+
+import struct
+
+BEYOND = 1 << 64
+LONGEST_BATCH = 1048576
+MOST_SHARDS, MOST_PARTS, MOST_PREDECESSORS, MOST_SESSIONS = 16, 15, 1024, 64
+LAST_RUN = (1 << 32) - 1
+NO_UNDO = BEYOND - 1
+KINDS = ("UPDATE", "CLR", "PREPARE", "COMMIT", "ABORT", "END", "RESTART")
+
+
+class Fault(Exception):
+    """A refusal of logs: the program's status, and its text on standard error."""
+
+    def __init__(self, status, text):
+        super().__init__(text)
+        self.status, self.text = status, text
+
+
+def at_byte(shard, place):
+    return Fault(7, f"shard {shard}: not a log at byte {place}")
+
+
+def at_record(shard, lsn):
+    return Fault(7, f"shard {shard}: not a log at record {lsn}")
+
+
+# How logs are written.
+
+
+def spell_transaction(transaction):
+    return struct.pack("<IIQ", *transaction)
+
+
+def spell_value(value):
+    return b"\0" if value is None else b"\1" + struct.pack("<Q", value)
+
+
+def spell_fields(kind, fields):
+    """The bytes behind the kind and, but for a RESTART, the transaction."""
+    if kind == "UPDATE":
+        key, before, after = fields
+        return struct.pack("<Q", key) + spell_value(before) + spell_value(after)
+    if kind == "CLR":
+        undo_next, key, after = fields
+        return struct.pack("<QQ", NO_UNDO if undo_next is None else undo_next, key) + spell_value(after)
+    if kind == "PREPARE":
+        home, predecessors = fields
+        return struct.pack("<II", home, len(predecessors)) + b"".join(map(spell_transaction, predecessors))
+    if kind == "COMMIT":
+        (parts,) = fields
+        return struct.pack(f"<{1 + len(parts)}I", len(parts), *parts)
+    return b""
+
+
+def spell(record):
+    kind = record[0]
+    byte = bytes([1 + KINDS.index(kind)])
+    if kind == "RESTART":
+        return byte + struct.pack("<IQ", *record[1:])
+    return byte + spell_transaction(record[1]) + spell_fields(kind, record[2:])
+
+
+def header(shard, splits):
+    return b"CLVLOG01" + struct.pack(f"<III{len(splits)}Q", 1, shard, len(splits) + 1, *splits)
+
+
+def batch(payload):
+    """An open gate, and a batch of these bytes."""
+    return b"\1" + struct.pack("<I", len(payload)) + payload
+
+
+def log(shard, splits, batches):
+    """The bytes of a log with these batches of records."""
+    return header(shard, splits) + b"".join(batch(b"".join(map(spell, records))) for records in batches) + b"\0"
+
+
+# How they are read.
+
+
+class Cursor:
+    """Reads fields one behind the other. ValueError: no spelling begins here."""
+
+    def __init__(self, data, place, end):
+        self.data, self.place, self.end = data, place, end
+
+    def number(self, size):
+        if self.end - self.place < size:
+            raise ValueError
+        found = int.from_bytes(self.data[self.place : self.place + size], "little")
+        self.place += size
+        return found
+
+    def transaction(self):
+        run, session, serial = self.number(4), self.number(4), self.number(8)
+        if run == 0 or not 1 <= session <= MOST_SESSIONS or serial == 0:
+            raise ValueError
+        return run, session, serial
+
+    def value(self):
+        is_there = self.number(1)
+        if is_there > 1:
+            raise ValueError
+        return self.number(8) if is_there else None
+
+    def shard(self):
+        found = self.number(4)
+        if found >= MOST_SHARDS:
+            raise ValueError
+        return found
+
+    def rising(self, most, read):
+        """A count, and so many items that rise."""
+        count = self.number(4)
+        if count > most:
+            raise ValueError
+        items = [read() for _ in range(count)]
+        if any(low >= high for low, high in zip(items, items[1:])):
+            raise ValueError
+        return tuple(items)
+
+    def record(self):
+        kind = self.number(1)
+        if not 1 <= kind <= len(KINDS):
+            raise ValueError
+        kind = KINDS[kind - 1]
+        if kind == "RESTART":
+            run, epoch = self.number(4), self.number(8)
+            if run == 0:
+                raise ValueError
+            return kind, run, epoch
+        return (kind, self.transaction(), *self.fields(kind))
+
+    def fields(self, kind):
+        if kind == "UPDATE":
+            return self.number(8), self.value(), self.value()
+        if kind == "CLR":
+            undo_next = self.number(8)
+            return None if undo_next == NO_UNDO else undo_next, self.number(8), self.value()
+        if kind == "PREPARE":
+            return self.shard(), self.rising(MOST_PREDECESSORS, self.transaction)
+        if kind == "COMMIT":
+            return (self.rising(MOST_PARTS, self.shard),)
+        return ()
+
+
+def span(shard, splits):
+    """The keys of a shard."""
+    low = splits[shard - 1] if shard else 0
+    high = splits[shard] if shard < len(splits) else BEYOND
+    return range(low, high)
+
+
+def key_of(record):
+    return {"UPDATE": record[2:3], "CLR": record[3:4]}.get(record[0], ())
+
+
+def shards_of(record):
+    return {"PREPARE": record[2:3], "COMMIT": record[2] if record[0] == "COMMIT" else ()}.get(record[0], ())
+
+
+def number_at(data, shard, place, size):
+    if len(data) < place + size:
+        raise at_byte(shard, place)
+    return int.from_bytes(data[place : place + size], "little")
+
+
+def read_header(data, shard, agreed):
+    """The splits in the header. `agreed` are those of shard 0; None for shard 0 itself."""
+    for place, want in ((0, b"CLVLOG01"), (8, struct.pack("<I", 1)), (12, struct.pack("<I", shard))):
+        if data[place : place + len(want)] != want:
+            raise at_byte(shard, place)
+    count = number_at(data, shard, 16, 4)
+    if not 1 <= count <= MOST_SHARDS or (agreed is not None and count != len(agreed) + 1):
+        raise at_byte(shard, 16)
+    splits = []
+    for number in range(count - 1):
+        place = 20 + 8 * number
+        split = number_at(data, shard, place, 8)
+        if (splits and split <= splits[-1]) or (agreed is not None and split != agreed[number]):
+            raise at_byte(shard, place)
+        splits.append(split)
+    return splits
+
+
+def read_batch(data, shard, splits, place, end):
+    """The records of a batch from place to end."""
+    keys, cursor, records = span(shard, splits), Cursor(data, place, end), []
+    while cursor.place < end:
+        begin = cursor.place
+        try:
+            record = cursor.record()
+            is_here = all(key in keys for key in key_of(record)) and all(it <= len(splits) for it in shards_of(record))
+        except ValueError:
+            is_here = False
+        if not is_here:
+            raise at_byte(shard, begin)
+        records.append(record)
+    return records
+
+
+def read_log(data, shard, agreed):
+    """The splits and the batches of records of one file. `agreed` are the splits of shard 0; None for shard 0 itself."""
+    splits = read_header(data, shard, agreed)
+    place, batches = 20 + 8 * len(splits), []
+    while number_at(data, shard, place, 1) == 1:
+        length = number_at(data, shard, place + 1, 4)
+        end = place + 5 + length
+        if not 1 <= length <= LONGEST_BATCH or len(data) < end:
+            raise at_byte(shard, place + 1)
+        batches.append(read_batch(data, shard, splits, place + 5, end))
+        place = end
+    return splits, batches
+
+
+# What records may follow each other, and what they say.
+
+
+class Facts:
+    """What a log says, record by record. Raises the fault of the first record that may not follow those before it."""
+
+    def __init__(self, shard, records):
+        self.shard, self.records = shard, []
+        self.named = set()  # the transactions that have records
+        self.wrote = {}  # transaction: the LSNs of all its UPDATEs
+        self.open = {}  # transaction: those of its UPDATEs that stand
+        self.keys = {}  # key: the LSNs of its UPDATEs that stand
+        self.prepared, self.committed, self.aborted, self.ended = {}, {}, set(), set()
+        self.restarts, self.last_restart = [], None
+        for lsn, record in enumerate(records):
+            if not self.allows(record):
+                raise at_record(shard, lsn)
+            self.add(record)
+
+    def writer(self, lsn):
+        return self.records[lsn][1]
+
+    def value(self, key):
+        stands = self.keys.get(key)
+        return self.records[stands[-1]][4] if stands else None
+
+    def is_in_doubt(self, transaction):
+        """Prepared for another home, neither committed nor aborted; and each that it lists is so too, or committed."""
+        seen, todo = {transaction}, [transaction]
+        while todo:
+            one = todo.pop()
+            if one not in self.prepared or one in self.committed or one in self.aborted or self.prepared[one][0] == self.shard:
+                return False
+            more = {it for it in self.prepared[one][1] if it not in self.committed} - seen
+            seen |= more
+            todo += more
+        return True
+
+    def below(self, transaction):
+        """The other transactions with a standing UPDATE below one of its own."""
+        found = set()
+        for lsn in self.open.get(transaction, ()):
+            found |= {self.writer(it) for it in self.keys[self.records[lsn][2]] if it < lsn}
+        return found - {transaction}
+
+    def losers(self):
+        """The transactions that an opening undoes, rising."""
+        return sorted(it for it in self.open if self.open[it] and it not in self.committed and not self.is_in_doubt(it))
+
+    def is_decided(self, transaction):
+        return transaction in self.committed or transaction in self.aborted
+
+    def allows(self, record):
+        kind = record[0]
+        if kind == "RESTART":
+            return all(earlier < record[1:] for earlier in self.restarts) and not self.losers()
+        if not self.restarts:
+            return False
+        rule = {"UPDATE": self.allows_update, "CLR": self.allows_clr, "PREPARE": self.allows_prepare}
+        rule |= {"COMMIT": self.allows_commit, "ABORT": self.allows_abort, "END": self.allows_end}
+        return rule[kind](*record[1:])
+
+    def allows_update(self, transaction, key, before, after):
+        wrote = self.wrote.get(transaction)
+        is_new = transaction[0] == self.restarts[-1][0] and not self.is_decided(transaction) and transaction not in self.prepared
+        if not is_new or (wrote and wrote[0] < self.last_restart):
+            return False
+        if before != self.value(key) or before is None is after:
+            return False
+        over = self.writer(self.keys[key][-1]) if self.keys.get(key) else transaction
+        return over == transaction or ((over in self.prepared or over in self.committed) and over not in self.aborted)
+
+    def allows_clr(self, transaction, undo_next, key, after):
+        mine = self.open.get(transaction, [])
+        if transaction not in self.aborted or not mine:
+            return False
+        undone = self.records[mine[-1]]
+        is_last = self.keys[undone[2]][-1] == mine[-1]
+        return is_last and (undo_next, key, after) == (mine[-2] if len(mine) > 1 else None, undone[2], undone[3])
+
+    def allows_prepare(self, transaction, _home, predecessors):
+        wrote = self.wrote.get(transaction)
+        if self.is_decided(transaction) or transaction in self.prepared or not wrote or wrote[-1] < self.last_restart:
+            return False
+        if any(it == transaction or it not in self.prepared or self.is_decided(it) for it in predecessors):
+            return False
+        return all(it in self.committed or it in predecessors for it in self.below(transaction))
+
+    def allows_commit(self, transaction, parts):
+        home, predecessors = self.prepared.get(transaction, (self.shard, ()))
+        if self.is_decided(transaction) or self.shard in parts or (home != self.shard and parts):
+            return False
+        if transaction not in self.prepared and transaction[0] != self.restarts[-1][0]:
+            return False
+        is_after = all(it in self.committed for it in (*predecessors, *self.below(transaction)))
+        return is_after and bool(transaction in self.wrote or parts)
+
+    def allows_abort(self, transaction):
+        return transaction in self.wrote and not self.is_decided(transaction)
+
+    def allows_end(self, transaction):
+        return bool(self.committed.get(transaction)) and transaction not in self.ended
+
+    def add(self, record):
+        kind, lsn = record[0], len(self.records)
+        self.records.append(record)
+        if kind == "RESTART":
+            self.restarts.append(record[1:])
+            self.last_restart = lsn
+            return
+        transaction = record[1]
+        self.named.add(transaction)
+        if kind == "UPDATE":
+            for lists, name in ((self.wrote, transaction), (self.open, transaction), (self.keys, record[2])):
+                lists.setdefault(name, []).append(lsn)
+        elif kind == "CLR":
+            self.keys[self.records[self.open[transaction].pop()][2]].pop()
+        elif kind == "PREPARE":
+            self.prepared[transaction] = record[2:]
+        elif kind == "COMMIT":
+            self.committed[transaction] = record[2]
+        else:
+            (self.aborted if kind == "ABORT" else self.ended).add(transaction)
+
+
+# What all logs say together.
+
+
+def is_part(part, transaction, home, has_ended):
+    """Whether a log is as that of a part of a committed transaction has to be."""
+    if part.prepared.get(transaction, (None,))[0] != home or transaction in part.aborted:
+        return False
+    if any(it not in part.committed for it in part.prepared[transaction][1]):
+        return False
+    return not has_ended or transaction in part.committed
+
+
+def is_home(logs, transaction, home):
+    """Whether this shard can be the home of a committed transaction."""
+    own = logs[home]
+    if transaction not in own.committed or own.prepared.get(transaction, (home,))[0] != home:
+        return False
+    parts, has_ended = own.committed[transaction], transaction in own.ended
+    for shard, other in enumerate(logs):
+        if shard in parts:
+            if not is_part(other, transaction, home, has_ended):
+                return False
+        elif shard != home and transaction in other.named:
+            return False
+    return True
+
+
+def opened(files):
+    """The splits, and what each file's log says, judged as an opening does: file by file, all together, the run. None is a missing file."""
+    splits, logs = None, []
+    while splits is None or len(logs) <= len(splits):
+        shard = len(logs)
+        data = (files[shard] if shard < len(files) else None) or b""
+        splits, batches = read_log(data, shard, splits)
+        logs.append(Facts(shard, [record for records in batches for record in records]))
+    for transaction in sorted({it for facts in logs for it in facts.committed}):
+        if not any(is_home(logs, transaction, home) for home in range(len(logs))):
+            raise Fault(11, "transaction {}.{}.{}: logs apart".format(*transaction))
+    if last_run(logs) == LAST_RUN:
+        raise Fault(9, f"worn at {LAST_RUN + 1}")
+    return splits, logs
+
+
+def last_run(logs):
+    """The greatest run that the logs have seen; 0 where they have seen none."""
+    return max([run for facts in logs for run, _ in facts.restarts], default=0)
+
+
+def stands(logs):
+    """The map that logs stand for: what the committed transactions wrote."""
+    done, pairs = {it for facts in logs for it in facts.committed}, {}
+    for facts in logs:
+        for record in facts.records:
+            if record[0] == "UPDATE" and record[1] in done:
+                pairs[record[2]] = record[4]
+    return {key: value for key, value in pairs.items() if value is not None}
+
+
+def map_of(files):
+    return stands(opened(files)[1])
+
+
+def shown(pairs):
+    """What `show` writes of a map."""
+    return "".join(f"[{key},{pairs[key]}]\n" for key in sorted(pairs))
