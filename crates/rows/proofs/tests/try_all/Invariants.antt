@@ -4,4 +4,4 @@ use Rattle.disk_memory.specs.House.{is_out_at}
 use Rattle.rows.proofs.tests.try_all.Given as goal
 
 abbrev pub invariant-loop-row : goal.invariant-loop-row
-invariant-loop-row l = (n : ℕ) → n < 16 → is_out_at l.house.slots.items n ≡ false
+invariant-loop-row g l = (n : ℕ) → n < 16 → is_out_at l.house.slots.items n ≡ false
