@@ -1,28 +1,15 @@
-//! The program `clv_shell`: makes the logs of shards, runs the sessions of a script or of a workload beside each other
-//! over them, or shows what they hold.
+//! The program `clv_shell`: `run` of `clv_commands` over standard input, standard output and the files of the working folder.
 //!
-//! `run` is the top call, over any source, sink and house of disks; its contract is the promise of the program. `main` makes the real ones:
-//! standard input, standard output, and the files of the working folder. It stands on `command_line` and `script_lang` for what it reads, on
-//! `cluster_opening` and `cluster_runs` for the disks, and on `report_text` and `command_line` for what it answers.
+//! It ends with the number of the status, and says its text on standard error.
 #![tactic(auto)]
 
-mod ended;
-mod loading;
-mod making;
-mod running;
-mod showing;
-#[cfg(test)]
-mod tests;
-mod top;
-
+use clv_commands::run;
 use command_line::Status;
-pub use ended::Ended;
 use io_model::{FileHouse, NoPace, ReadSource, WriteSink};
 use std::alloc::Global;
 use std::env;
 use std::io::ErrorKind;
 use std::process::ExitCode;
-pub use top::run;
 
 // The words after the program's name; Usage where one isn't UTF-8.
 fn words_of(rt: &HostRuntime, alloc: Global) -> Result<Vec<String>, Status> {

@@ -1,0 +1,75 @@
+-- A command that is completed.
+use Rattle.std.proofs.Common.{◌≡◌, ap, ◌∙◌, subst, ℕ, List, [], length, Option, Some, None}
+use Rattle.std.specs.Prelude.{IsSomeAnd}
+use Rattle.io_model.specs.Story.{Story, reads}
+use Rattle.cluster_opening.specs.Making.{HasBytes}
+use Rattle.cluster_opening.specs.declared.error.OpenError.TheVariants as opening
+use Rattle.cluster_opening.specs.Accepted.{GoodLogsAreNotRefused}
+use Rattle.command_line.specs.declared.commands.Command.{Command}
+use Rattle.command_line.specs.declared.commands.Command.TheVariants.{Make, Run, Show, Load}
+use Rattle.history_replay.specs.Entries.{Kept}
+use Rattle.script_lang.specs.Laws.{ScriptsAreNotRefused}
+use Rattle.command_line.specs.declared.status.Status.{Status}
+use Rattle.command_line.specs.declared.status.Status.TheVariants.{Fine, Usage, Script, ReadFault, WriteFault, DiskFault, NotLog, Memory, Worn, Exists, Apart}
+use Rattle.clv_commands.specs.Kinds.{IsOfCommand}
+use Rattle.clv_commands.specs.Causes as causes
+use Rattle.clv_commands.specs.Causes.{BreaksBy, BreaksScript, CountsSource, CountsSink, CountsDisks}
+use Rattle.clv_commands.specs.Completing.{TellsScript, IsAccepted, NoneRose, IsCompleted}
+
+-- a disk without bytes has none
+no_bytes : (story : Option Story) (len : ℕ) → IsSomeAnd story (λ s. reads s ≡ []) → HasBytes len story → ⊥
+no_bytes None len empty has = empty
+no_bytes (Some s) len empty has = has.1 (has.0 ∙ ap length empty)
+
+refused_line : ScriptsAreNotRefused → (left : Option (List ℕ)) (line : ℕ) → TellsScript left → BreaksScript (Script line) left → ⊥
+refused_line law left line (bytes, script, is, told) breaks = law bytes script line told (subst (λ (l : Option (List ℕ)). BreaksScript (Script line) l) is breaks)
+
+module _
+    (scripts : ScriptsAreNotRefused) (logs : GoodLogsAreNotRefused) (history : Option Kept) (left : Option (List ℕ)) (stories stories' : ℕ → Option Story) (source source' sink sink' : ℕ) (disks disks' : ℕ → ℕ)
+    (none : NoneRose source source' sink sink' disks disks') where
+  pub completed : (c : Command) (status : Status) → IsOfCommand c status → causes.HasBytes c status stories stories' → BreaksBy c status history stories → BreaksScript status left
+      → CountsSource source source' status → CountsSink history sink sink' status → CountsDisks history disks disks' status → IsAccepted c left stories → IsCompleted c status
+  completed (Make splits) Fine kind has breaks line_is s k d ok = tt
+  completed (Make splits) Usage kind has breaks line_is s k d ok = absurd kind
+  completed (Make splits) (Script line) kind has breaks line_is s k d ok = absurd kind
+  completed (Make splits) ReadFault kind has breaks line_is s k d ok = absurd kind
+  completed (Make splits) WriteFault kind has breaks line_is s k d ok = absurd kind
+  completed (Make splits) (DiskFault shard) kind has breaks line_is s k d ok = absurd (none.of_disks shard d.0)
+  completed (Make splits) (NotLog shard at) kind has breaks line_is s k d ok = absurd kind
+  completed (Make splits) Memory kind has breaks line_is s k d ok = tt
+  completed (Make splits) (Worn at) kind has breaks line_is s k d ok = absurd kind
+  completed (Make splits) (Exists shard len) kind has breaks line_is s k d ok = absurd (no_bytes (stories shard) len (ok shard has.is_shard) has.here)
+  completed (Make splits) (Apart tx) kind has breaks line_is s k d ok = absurd kind
+  completed (Run tries) Fine kind has breaks line_is s k d ok = tt
+  completed (Run tries) Usage kind has breaks line_is s k d ok = absurd kind
+  completed (Run tries) (Script line) kind has breaks line_is s k d ok = absurd (refused_line scripts left line ok.0 line_is)
+  completed (Run tries) ReadFault kind has breaks line_is s k d ok = absurd (none.of_source s)
+  completed (Run tries) WriteFault kind has breaks line_is s k d ok = absurd (none.of_sink k)
+  completed (Run tries) (DiskFault shard) kind has breaks line_is s k d ok = absurd (none.of_disks shard d.0)
+  completed (Run tries) (NotLog shard at) kind has breaks line_is s k d ok = absurd (logs stories (opening.NotLog shard at) ok.1 breaks)
+  completed (Run tries) Memory kind has breaks line_is s k d ok = tt
+  completed (Run tries) (Worn at) kind has breaks line_is s k d ok = tt
+  completed (Run tries) (Exists shard len) kind has breaks line_is s k d ok = absurd kind
+  completed (Run tries) (Apart tx) kind has breaks line_is s k d ok = absurd (logs stories (opening.Apart tx) ok.1 breaks)
+  completed Show Fine kind has breaks line_is s k d ok = tt
+  completed Show Usage kind has breaks line_is s k d ok = absurd kind
+  completed Show (Script line) kind has breaks line_is s k d ok = absurd kind
+  completed Show ReadFault kind has breaks line_is s k d ok = absurd kind
+  completed Show WriteFault kind has breaks line_is s k d ok = absurd (none.of_sink k)
+  completed Show (DiskFault shard) kind has breaks line_is s k d ok = absurd (none.of_disks shard d.0)
+  completed Show (NotLog shard at) kind has breaks line_is s k d ok = absurd (logs stories (opening.NotLog shard at) ok breaks)
+  completed Show Memory kind has breaks line_is s k d ok = tt
+  completed Show (Worn at) kind has breaks line_is s k d ok = tt
+  completed Show (Exists shard len) kind has breaks line_is s k d ok = absurd kind
+  completed Show (Apart tx) kind has breaks line_is s k d ok = absurd (logs stories (opening.Apart tx) ok breaks)
+  completed (Load seed sessions accounts transfers) Fine kind has breaks line_is s k d ok = tt
+  completed (Load seed sessions accounts transfers) Usage kind has breaks line_is s k d ok = absurd kind
+  completed (Load seed sessions accounts transfers) (Script line) kind has breaks line_is s k d ok = absurd kind
+  completed (Load seed sessions accounts transfers) ReadFault kind has breaks line_is s k d ok = absurd kind
+  completed (Load seed sessions accounts transfers) WriteFault kind has breaks line_is s k d ok = absurd (none.of_sink k)
+  completed (Load seed sessions accounts transfers) (DiskFault shard) kind has breaks line_is s k d ok = absurd (none.of_disks shard d.0)
+  completed (Load seed sessions accounts transfers) (NotLog shard at) kind has breaks line_is s k d ok = absurd (logs stories (opening.NotLog shard at) ok breaks)
+  completed (Load seed sessions accounts transfers) Memory kind has breaks line_is s k d ok = tt
+  completed (Load seed sessions accounts transfers) (Worn at) kind has breaks line_is s k d ok = tt
+  completed (Load seed sessions accounts transfers) (Exists shard len) kind has breaks line_is s k d ok = absurd kind
+  completed (Load seed sessions accounts transfers) (Apart tx) kind has breaks line_is s k d ok = absurd (logs stories (opening.Apart tx) ok breaks)

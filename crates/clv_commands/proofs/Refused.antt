@@ -1,0 +1,97 @@
+-- Words that are refused.
+use Rattle.std.proofs.Common.{◌≡◌, refl, sym, subst, inr, ℕ, List, Option, Some, None}
+use Rattle.io_model.specs.Story.{Story}
+use Rattle.io_model.specs.Disk.{Tells}
+use Rattle.log_gate.specs.Opening.{IsUnchanged}
+use Rattle.cluster_runs.specs.Begun.{AreUnchanged, before}
+use Rattle.command_line.specs.Commands.{IsCommand}
+use Rattle.command_line.specs.declared.commands.Command.{Command}
+use Rattle.command_line.specs.declared.commands.Command.TheVariants.{Make, Run, Show, Load}
+use Rattle.command_line.specs.declared.commands.WordsError.{WordsError}
+use Rattle.command_line.specs.declared.commands.WordsError.TheVariants as words
+use Rattle.cluster_opening.specs.Making.{Spares}
+use Rattle.command_line.specs.Refusals.{of_words}
+use Rattle.command_line.specs.declared.status.Status.{Status}
+use Rattle.command_line.specs.declared.status.Status.TheVariants.{Fine, Usage, Script, ReadFault, WriteFault, DiskFault, NotLog, Memory, Worn, Exists, Apart}
+use Rattle.clv_commands.specs.Kinds.{IsOfCommand}
+use Rattle.clv_commands.specs.Disks.{ClosedBy}
+use Rattle.clv_commands.specs.Reading.{ReadsBy}
+use Rattle.clv_commands.specs.Completing.{IsCompleted}
+use Rattle.clv_commands.specs.Top.{IsRefusedWords, HasCommand}
+use Rattle.cluster_opening.proofs.Laws.{same_story as still}
+
+-- ---- no command
+
+pub refused : (texts : List (List ℕ)) (e : WordsError) (status : Status) → status ≡ of_words e → (e ≡ words.Usage → (c : Command) → IsCommand texts c → ⊥) → IsRefusedWords texts status
+refused texts words.Usage status is none = subst (IsRefusedWords texts) (sym is) (λ c also. none refl c also)
+refused texts words.Memory status is none = subst (IsRefusedWords texts) (sym is) tt
+
+wanting : (c : Command) → IsOfCommand c Memory
+wanting (Make splits) = tt
+wanting (Run tries) = tt
+wanting Show = tt
+wanting (Load s n a t) = tt
+
+pub kind : (texts : List (List ℕ)) (e : WordsError) (status : Status) → status ≡ of_words e → (e ≡ words.Usage → (c : Command) → IsCommand texts c → ⊥) → HasCommand texts (λ c. IsOfCommand c status)
+kind texts words.Usage status is none c also = absurd (none refl c also)
+kind texts words.Memory status is none c also = subst (IsOfCommand c) (sym is) (wanting c)
+
+pub unwritten : (stories : ℕ → Option Story) → AreUnchanged stories stories
+unwritten stories n = told (stories n)
+  where
+    told : (s : Option Story) → Tells s s IsUnchanged
+    told None = refl
+    told (Some s) = (s, refl, still s)
+
+spared : (s : Option Story) → Tells s s Spares
+spared None = refl
+spared (Some s) = (s, refl, inr (still s))
+
+left : (stories : ℕ → Option Story) (c : Command) → ClosedBy c Memory None stories stories
+left stories (Make splits) = record { spares = (λ n. spared (stories n)); others = (λ n l. refl) }
+left stories (Run tries) = (λ h. before (unwritten stories))
+left stories Show = (λ h. before (unwritten stories))
+left stories (Load s n a t) = (λ h. before (unwritten stories))
+
+pub closed :
+    (texts : List (List ℕ)) (e : WordsError) (status : Status) (stories : ℕ → Option Story) → status ≡ of_words e → (e ≡ words.Usage → (c : Command) → IsCommand texts c → ⊥)
+    → HasCommand texts (λ c. ClosedBy c status None stories stories)
+closed texts words.Usage status stories is none c also = absurd (none refl c also)
+closed texts words.Memory status stories is none c also = subst (λ (s : Status). ClosedBy c s None stories stories) (sym is) (left stories c)
+
+reads_none : (c : Command) (left : Option (List ℕ)) → ReadsBy c None Memory left left
+reads_none (Make splits) left = refl
+reads_none (Run tries) left = tt
+reads_none Show left = refl
+reads_none (Load s n a t) left = refl
+
+pub unread :
+    (texts : List (List ℕ)) (e : WordsError) (status : Status) (left : Option (List ℕ)) → status ≡ of_words e → (e ≡ words.Usage → (c : Command) → IsCommand texts c → ⊥) → HasCommand texts (λ c. ReadsBy c None status left left)
+unread texts words.Usage status left is none c also = absurd (none refl c also)
+unread texts words.Memory status left is none c also = subst (λ (s : Status). ReadsBy c None s left left) (sym is) (reads_none c left)
+
+pub completed_not : (texts : List (List ℕ)) (e : WordsError) (status : Status) → status ≡ of_words e → (e ≡ words.Usage → (c : Command) → IsCommand texts c → ⊥) → HasCommand texts (λ c. IsCompleted c status)
+completed_not texts words.Usage status is none c also = absurd (none refl c also)
+completed_not texts words.Memory status is none c also = subst (λ (s : Status). IsCompleted c s) (sym is) tt
+
+-- ---- a command
+
+-- none ends so
+never : (c : Command) → IsOfCommand c Usage → ⊥
+never (Make splits) is = is
+never (Run tries) is = is
+never Show is = is
+never (Load s n a t) is = is
+
+pub taken : (texts : List (List ℕ)) (c : Command) (status : Status) → IsCommand texts c → ((d : Command) → IsCommand texts d → IsOfCommand d status) → IsRefusedWords texts status
+taken texts c Fine is kind = (c, is)
+taken texts c Usage is kind = (λ d also. never d (kind d also))
+taken texts c (Script line) is kind = (c, is)
+taken texts c ReadFault is kind = (c, is)
+taken texts c WriteFault is kind = (c, is)
+taken texts c (DiskFault shard) is kind = (c, is)
+taken texts c (NotLog shard at) is kind = (c, is)
+taken texts c Memory is kind = tt
+taken texts c (Worn at) is kind = (c, is)
+taken texts c (Exists shard len) is kind = (c, is)
+taken texts c (Apart tx) is kind = (c, is)

@@ -1,0 +1,25 @@
+-- A script that isn't read.
+use Rattle.std.proofs.Common.{◌≡◌, refl, sym, subst, ℕ, ◌<◌, List, length, Option, Some, None, IfSome, Result, Err, Vec, Global}
+use Rattle.io_model.specs.declared.whole.ReadError.{ReadError}
+use Rattle.io_model.specs.declared.whole.ReadError.TheVariants as reading
+use Rattle.script_lang.specs.Grammar.{too_long}
+use Rattle.command_line.specs.Refusals.{of_source}
+use Rattle.command_line.specs.declared.status.Status.{Status}
+use Rattle.command_line.specs.declared.status.Status.TheVariants.{Script, Memory}
+use Rattle.clv_commands.specs.Causes.{ScriptFault, CountsSink, CountsDisks}
+use Rattle.clv_commands.specs.Reading.{ReadsScript}
+
+too_many : (left : Option (List ℕ)) → IfSome left (λ bytes. 16777216 < length bytes) → ScriptFault left (Script 0)
+too_many None h = tt
+too_many (Some bytes) h = too_long h
+
+pub unread : (e : ReadError) (status : Status) (left : Option (List ℕ)) → status ≡ of_source e → (◌≡◌ {A = Result (Vec ℕ Global) ReadError} (Err e) (Err reading.TooLong) → IfSome left (λ bytes. 16777216 < length bytes)) → ScriptFault left status
+unread reading.Failed status left is long = subst (ScriptFault left) (sym is) tt
+unread reading.TooLong status left is long = subst (ScriptFault left) (sym is) (too_many left (long refl))
+unread reading.Memory status left is long = subst (ScriptFault left) (sym is) tt
+
+-- no shards are opened then, nothing is written, and no disk is called
+pub record Unopened (left left' : Option (List ℕ)) (faults : ℕ) (counts : ℕ → ℕ) (status : Status) : Type 0 where
+  pub read : ReadsScript None status left left'
+  pub sink : CountsSink None faults faults status
+  pub disks : CountsDisks None counts counts status

@@ -1,0 +1,221 @@
+// The command `load`.
+
+ghost use Rattle.std.specs.Prelude.{◌≡◌, ◌<◌, ◌≤◌, ◌+◌, ◌*◌, ◌^◌, ℕ, Some, None, false, true, length, IfSome, IfOk, IfErr};
+ghost use Rattle.std.specs.List.{list_all};
+ghost use Rattle.history_replay.specs.Replayed.{replayed as after_all};
+ghost use Rattle.clv_base.specs.Logs.{stands};
+ghost use Rattle.command_line.specs.declared.commands.Command.TheVariants as commands;
+ghost use Rattle.report_text.specs.Loads.{values_sum};
+ghost use Rattle.report_text.specs.Sinks.{TakesText, Causes};
+ghost use Rattle.script_lang.specs.Laws.{is_narrow_body};
+ghost use Rattle.script_lang.specs.Loads.{load as script_by};
+ghost use Rattle.clv_commands.specs.Kinds.{IsOfShow, IsOfShards};
+ghost use Rattle.clv_commands.specs.Disks.{Closes};
+ghost use Rattle.clv_commands.specs.Sinks.{accounts_sum as sum_of, line_of, Took, TookPairs};
+ghost use Rattle.clv_commands.specs.Causes.{BreaksLogs, CountsSink, CountsDisks};
+ghost use Rattle.clv_commands.specs.Runs.{EndsAs, HasLoaded, Opened};
+
+use crate::ended::Ended;
+use cluster_opening::OpenError;
+use cluster_runs::replay::runs_replay;
+use cluster_runs::{Ran, Start, run_script};
+use command_line::{Status, after_text};
+use history_replay::{History, KeyMap, Memory, replayed};
+use io_model::{House, Pace, Sink, write_all};
+use lock_index::HashedLocks;
+use ordered_store::BlockStore;
+use report_text::{ReportError, load_text};
+use script_lang::workload_laws::{loads_are_narrow, loads_have_their_sessions};
+use script_lang::{Script, generate};
+use std::alloc::{AllocError, Global};
+use std::sync::Wait;
+use std::thread::Threads;
+
+/// What a workload is made from: a number, so many sessions and accounts, and so many transfers of each session.
+#[derive(Clone, Copy)]
+pub struct Work {
+    pub seed: u64,
+    pub sessions: u64,
+    pub accounts: u64,
+    pub transfers: u64,
+}
+
+// Its script.
+fn script_of(alloc: Global, work: Work) -> Result<Script, Memory>
+    requires sessions { (1 ≤ work.sessions) × (work.sessions ≤ 64) }
+    requires accounts { (2 ≤ work.accounts) × (work.accounts ≤ 10000) }
+    requires transfers { work.transfers ≤ 1000 }
+    ensures script { IfOk result (λ script. script ≡ script_by work.seed work.sessions work.accounts work.transfers) }
+    ensures narrow { IfOk result (λ script. list_all (list_all is_narrow_body) script ≡ true) }
+    ensures few { IfOk result (λ script. length script ≤ 64) }
+{
+    loads_are_narrow();
+    loads_have_their_sessions();
+    generate(
+        alloc,
+        work.seed,
+        work.sessions,
+        work.accounts,
+        work.transfers,
+    )
+}
+
+// The sum of the values; none where it is 2^64 or more.
+fn total(pairs: &[(u64, u64)]) -> Option<u64>
+    ensures { IfSome result (λ sum. sum ≡ values_sum pairs.now) }
+{
+    let mut sum: u64 = 0;
+    for pair in pairs {
+        match sum.checked_add(pair.1) {
+            Some(more) => sum = more,
+            None => return None,
+        }
+    }
+    Some(sum)
+}
+
+// What the accounts hold after the acknowledged transactions, in all. Transfers leave it at 1000 for each account, but no clause says so: a sum that has no
+// room in 64 bits is told as want of memory.
+fn accounts_sum(
+    alloc: Global,
+    history: &History,
+    found: KeyMap,
+    accounts: u64,
+) -> Result<u64, Memory>
+    requires found { found ≡ stands history.now.found }
+    requires few { length history.now.journals < 2 ^ 32 }
+    requires some { 1 ≤ accounts }
+    ensures { IfOk result (λ sum. sum ≡ sum_of accounts (after_all history.now)) }
+{
+    let pairs = replayed(alloc, history, found)?.between(alloc, 0, accounts - 1)?;
+    match total(&pairs) {
+        Some(sum) => Ok(sum),
+        None => Err(AllocError),
+    }
+}
+
+// The line of a workload whose transactions were all acknowledged, as bytes.
+fn text_of(alloc: Global, history: &History, found: KeyMap, work: Work) -> Result<Vec<u8>, Memory>
+    requires found { found ≡ stands history.now.found }
+    requires few { length history.now.journals < 2 ^ 32 }
+    requires sessions { work.sessions ≤ 64 }
+    requires accounts { 2 ≤ work.accounts }
+    requires transfers { work.transfers ≤ 1000 }
+    ensures { IfOk result (λ text. text.items ≡ line_of work.sessions work.accounts work.transfers history.now) }
+{
+    let sum = accounts_sum(alloc, history, found, work.accounts)?;
+    let acknowledged = 1 + work.sessions * work.transfers;
+    load_text(alloc, work.accounts, acknowledged, sum)
+}
+
+// Writes it.
+fn line_into<K: Sink>(
+    alloc: Global,
+    history: &History,
+    found: KeyMap,
+    work: Work,
+    sink: &mut K,
+) -> Result<(), ReportError>
+    requires found { found ≡ stands history.now.found }
+    requires few { length history.now.journals < 2 ^ 32 }
+    requires sessions { work.sessions ≤ 64 }
+    requires accounts { 2 ≤ work.accounts }
+    requires transfers { work.transfers ≤ 1000 }
+    ensures took { TakesText (K.taken sink.old) (K.taken sink.new) (line_of work.sessions work.accounts work.transfers history.now) result }
+    ensures cause { Causes (K.faults sink.old) (K.faults sink.new) result }
+{
+    let Ok(text) = text_of(alloc, history, found, work) else {
+        return Err(ReportError::Memory);
+    };
+    match write_all(sink, &text) {
+        Ok(()) => Ok(()),
+        Err(_) => Err(ReportError::Failed),
+    }
+}
+
+// Writes it where all was fine so far, and tells how the program ends.
+fn write_line<K: Sink>(
+    alloc: Global,
+    history: &History,
+    found: KeyMap,
+    work: Work,
+    running: Status,
+    sink: &mut K,
+) -> Status
+    requires found { found ≡ stands history.now.found }
+    requires few { length history.now.journals < 2 ^ 32 }
+    requires sessions { work.sessions ≤ 64 }
+    requires accounts { 2 ≤ work.accounts }
+    requires transfers { work.transfers ≤ 1000 }
+    requires running { IsOfShards running }
+    ensures ends { EndsAs running result }
+    ensures took { TookPairs (line_of work.sessions work.accounts work.transfers history.now) result (K.taken sink.old) (K.taken sink.new) }
+    ensures cause { CountsSink (Some history.now) (K.faults sink.old) (K.faults sink.new) result }
+{
+    match running {
+        Status::Fine => after_text(running, line_into(alloc, history, found, work, sink)),
+        other => other,
+    }
+}
+
+/// Runs the script of a workload: the first session's first transaction fills the accounts, alone, and then all sessions run beside each other. Each
+/// transaction is tried until it is acknowledged. Where all was fine writes one line.
+pub fn load<R: Threads + Wait + Sync, K: Sink, H: House, P: Pace + Sync>(
+    rt: &R,
+    alloc: Global,
+    sink: &mut K,
+    house: &mut H,
+    pace: &P,
+    work: Work,
+) -> Ended
+where
+    H::Disk: Send,
+    requires inside { (n : ℕ) → n < 16 → H.is_out house.old n ≡ false }
+    requires sessions { (1 ≤ work.sessions) × (work.sessions ≤ 64) }
+    requires accounts { (2 ≤ work.accounts) × (work.accounts ≤ 10000) }
+    requires transfers { work.transfers ≤ 1000 }
+    ensures kind { IsOfShow result.status }
+    ensures promised { IfSome result.history (λ kept. HasLoaded (script_by work.seed work.sessions work.accounts work.transfers) (H.story house.old) (H.story house.new) (H.faults house.old) (H.faults house.new) kept result.status) }
+    ensures opened { Opened result.history result.status }
+    ensures took { Took (commands.Load work.seed work.sessions work.accounts work.transfers) result.status result.history (K.faults sink.old) (K.faults sink.new) (K.taken sink.old) (K.taken sink.new) }
+    ensures closed { result.history ≡ None → Closes result.status (H.story house.old) (H.story house.new) }
+    ensures logs { BreaksLogs result.status result.history (H.story house.old) }
+    ensures sink { CountsSink result.history (K.faults sink.old) (K.faults sink.new) result.status }
+    ensures disks { CountsDisks result.history (H.faults house.old) (H.faults house.new) result.status }
+    ensures back { (n : ℕ) → n < 16 → H.is_out house.new n ≡ false }
+{
+    runs_replay();
+    let Ok(script) = script_of(alloc, work) else {
+        return Ended {
+            status: Status::Memory,
+            history: None,
+        };
+    };
+    let ran: Result<Ran<BlockStore>, OpenError> = run_script::<BlockStore, HashedLocks, R, H, P>(
+        rt,
+        alloc,
+        house,
+        pace,
+        script.sessions(),
+        None,
+        Start::FirstAlone,
+    );
+    match ran {
+        Ok(ran) => {
+            let Ran {
+                history,
+                pairs,
+                maps: _,
+                status,
+            } = ran;
+            Ended {
+                status: write_line(alloc, &history, pairs, work, status, sink),
+                history: Some(history),
+            }
+        }
+        Err(error) => Ended {
+            status: error.into(),
+            history: None,
+        },
+    }
+}

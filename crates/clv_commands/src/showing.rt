@@ -1,0 +1,101 @@
+// The command `show`.
+
+ghost use Rattle.std.specs.Prelude.{◌≡◌, ◌<◌, ℕ, [], Some, None, false, IfSome, IfOk};
+ghost use Rattle.clv_base.specs.Logs.{stands as stands_for};
+ghost use Rattle.command_line.specs.declared.commands.Command.TheVariants as commands;
+ghost use Rattle.report_text.specs.Report.{pairs_text as text_of_pairs};
+ghost use Rattle.report_text.specs.Sinks.{TakesText, Causes};
+ghost use Rattle.clv_commands.specs.Kinds.{IsOfShow, IsOfShards};
+ghost use Rattle.clv_commands.specs.Disks.{Closes};
+ghost use Rattle.clv_commands.specs.Sinks.{Took, TookPairs};
+ghost use Rattle.clv_commands.specs.Causes.{BreaksLogs, CountsSink, CountsDisks};
+ghost use Rattle.clv_commands.specs.Runs.{EndsAs, HasRun, Opened};
+
+use crate::ended::Ended;
+use cluster_opening::OpenError;
+use cluster_runs::{Ran, Start, run_script};
+use command_line::{Status, after_text};
+use history_replay::{History, KeyMap};
+use io_model::{House, Pace, Sink, write_all};
+use lock_index::HashedLocks;
+use ordered_store::BlockStore;
+use report_text::{ReportError, pairs_text};
+use std::alloc::Global;
+use std::sync::Wait;
+use std::thread::Threads;
+
+// Writes the pairs.
+fn pairs_into<K: Sink>(alloc: Global, pairs: &KeyMap, sink: &mut K) -> Result<(), ReportError>
+    ensures took { TakesText (K.taken sink.old) (K.taken sink.new) (text_of_pairs pairs.now) result }
+    ensures cause { Causes (K.faults sink.old) (K.faults sink.new) result }
+{
+    let Ok(text) = pairs_text(alloc, pairs) else {
+        return Err(ReportError::Memory);
+    };
+    match write_all(sink, &text) {
+        Ok(()) => Ok(()),
+        Err(_) => Err(ReportError::Failed),
+    }
+}
+
+// Writes the pairs that the logs found stand for, where all was fine so far, and tells how the program ends.
+fn write_pairs<K: Sink>(
+    alloc: Global,
+    history: &History,
+    pairs: &KeyMap,
+    running: Status,
+    sink: &mut K,
+) -> Status
+    requires found { pairs.now ≡ stands_for history.now.found }
+    requires running { IsOfShards running }
+    ensures ends { EndsAs running result }
+    ensures took { TookPairs (text_of_pairs (stands_for history.now.found)) result (K.taken sink.old) (K.taken sink.new) }
+    ensures cause { CountsSink (Some history.now) (K.faults sink.old) (K.faults sink.new) result }
+{
+    match running {
+        Status::Fine => after_text(running, pairs_into(alloc, pairs, sink)),
+        other => other,
+    }
+}
+
+/// Shows all pairs.
+pub fn show<R: Threads + Wait + Sync, K: Sink, H: House, P: Pace + Sync>(
+    rt: &R,
+    alloc: Global,
+    sink: &mut K,
+    house: &mut H,
+    pace: &P,
+) -> Ended
+where
+    H::Disk: Send,
+    requires inside { (n : ℕ) → n < 16 → H.is_out house.old n ≡ false }
+    ensures kind { IsOfShow result.status }
+    ensures promised { IfSome result.history (λ kept. HasRun None [] (H.story house.old) (H.story house.new) (H.faults house.old) (H.faults house.new) kept result.status) }
+    ensures opened { Opened result.history result.status }
+    ensures took { Took commands.Show result.status result.history (K.faults sink.old) (K.faults sink.new) (K.taken sink.old) (K.taken sink.new) }
+    ensures closed { result.history ≡ None → Closes result.status (H.story house.old) (H.story house.new) }
+    ensures logs { BreaksLogs result.status result.history (H.story house.old) }
+    ensures sink { CountsSink result.history (K.faults sink.old) (K.faults sink.new) result.status }
+    ensures disks { CountsDisks result.history (H.faults house.old) (H.faults house.new) result.status }
+    ensures back { (n : ℕ) → n < 16 → H.is_out house.new n ≡ false }
+{
+    let ran: Result<Ran<BlockStore>, OpenError> = run_script::<BlockStore, HashedLocks, R, H, P>(
+        rt,
+        alloc,
+        house,
+        pace,
+        &[],
+        None,
+        Start::Together,
+    );
+    match ran {
+        Ok(ran) => Ended {
+            status: write_pairs(alloc, &ran.history, &ran.pairs, ran.status, sink),
+            history: Some(ran.history),
+        },
+        Err(error) => Ended {
+            status: error.into(),
+            history: None,
+        },
+    }
+}

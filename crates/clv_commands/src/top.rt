@@ -1,0 +1,151 @@
+// The top call.
+
+ghost use Rattle.std.specs.Prelude.{◌≡◌, ◌<◌, ◌≤◌, ℕ, None, false, map, IfSome};
+ghost use Rattle.clv_commands.specs.Kinds.{IsOfCommand};
+ghost use Rattle.clv_commands.specs.Disks.{ClosedBy, Makes};
+ghost use Rattle.clv_commands.specs.Sinks.{Took};
+ghost use Rattle.clv_commands.specs.Causes.{HasBytes, BreaksBy, BreaksScript, CountsSource, CountsSink, CountsDisks};
+ghost use Rattle.clv_commands.specs.Runs.{PromisedBy, OpensByCommand};
+ghost use Rattle.clv_commands.specs.Reading.{ReadsBy};
+ghost use Rattle.clv_commands.specs.Completing.{IsAccepted, NoneRose, IsCompleted};
+ghost use Rattle.clv_commands.specs.Top.{AreRefused, IsRefusedWords, HasCommand, IsWithinBounds};
+
+use crate::ended::Ended;
+use crate::loading::{Work, load};
+use crate::making::make_logs;
+use crate::running;
+use crate::showing::show;
+use cluster_opening::opening_laws::good_logs_are_not_refused;
+use command_line::{Command, Status, command_of};
+use io_model::{House, Pace, Sink, Source};
+use script_lang::statements::scripts_are_not_refused;
+use std::alloc::Global;
+use std::sync::Wait;
+use std::thread::Threads;
+
+// Does a command.
+fn obey<R: Threads + Wait + Sync, S: Source, K: Sink, H: House, P: Pace + Sync>(
+    rt: &R,
+    alloc: Global,
+    command: Command,
+    source: &mut S,
+    sink: &mut K,
+    house: &mut H,
+    pace: &P,
+) -> Ended
+where
+    H::Disk: Send,
+    requires inside { (n : ℕ) → n < 16 → H.is_out house.old n ≡ false }
+    requires bounds { IsWithinBounds command }
+    ensures kind { IsOfCommand command result.status }
+    ensures promised { IfSome result.history (PromisedBy command (S.left source.old) (H.story house.old) (H.story house.new) (H.faults house.old) (H.faults house.new) result.status) }
+    ensures opened { OpensByCommand command result.status result.history }
+    ensures took { Took command result.status result.history (K.faults sink.old) (K.faults sink.new) (K.taken sink.old) (K.taken sink.new) }
+    ensures closed { ClosedBy command result.status result.history (H.story house.old) (H.story house.new) }
+    ensures made { Makes command result.status (H.story house.old) (H.story house.new) }
+    ensures read { ReadsBy command result.history result.status (S.left source.old) (S.left source.new) }
+    ensures exists { HasBytes command result.status (H.story house.old) (H.story house.new) }
+    ensures logs { BreaksBy command result.status result.history (H.story house.old) }
+    ensures script { BreaksScript result.status (S.left source.old) }
+    ensures source { CountsSource (S.faults source.old) (S.faults source.new) result.status }
+    ensures sink { CountsSink result.history (K.faults sink.old) (K.faults sink.new) result.status }
+    ensures disks { CountsDisks result.history (H.faults house.old) (H.faults house.new) result.status }
+    ensures back { (n : ℕ) → n < 16 → H.is_out house.new n ≡ false }
+{
+    match command {
+        Command::Make { splits } => Ended {
+            status: make_logs(alloc, house, splits),
+            history: None,
+        },
+        Command::Run { tries } => running::run(rt, alloc, source, sink, house, pace, tries),
+        Command::Show => show(rt, alloc, sink, house, pace),
+        Command::Load {
+            seed,
+            sessions,
+            accounts,
+            transfers,
+        } => {
+            let work = Work {
+                seed,
+                sessions,
+                accounts,
+                transfers,
+            };
+            load(rt, alloc, sink, house, pace, work)
+        }
+    }
+}
+
+/// The program: does what the words say, those after the program's name, with the bytes of the source, the sink, and the disks of the house.
+///
+/// A clause on content says nothing of a source, a sink or a disk that doesn't tell it (standard input, standard output, a file). Want of
+/// memory may come at any time; what was done until then keeps every clause.
+pub fn run<R: Threads + Wait + Sync, S: Source, K: Sink, H: House, P: Pace + Sync>(
+    rt: &R,
+    alloc: Global,
+    words: &[&str],
+    source: &mut S,
+    sink: &mut K,
+    house: &mut H,
+    pace: &P,
+) -> Ended
+where
+    H::Disk: Send,
+    requires inside { (n : ℕ) → n < 16 → H.is_out house.old n ≡ false }
+
+    // Usage comes exactly where the words are no command.
+    ensures usage { IsRefusedWords (map (λ w. w.now) words.now) result.status }
+
+    // Each command ends with one of its own statuses.
+    ensures kind { HasCommand (map (λ w. w.now) words.now) (λ command. IsOfCommand command result.status) }
+
+    // Where the shards were opened: the history is legal, from the logs that the disks held; each disk that tells its bytes holds its records in each
+    // image that a crash may leave; and whatever a crash keeps of what is in flight stands for a serial history, with all answers, in each session's
+    // order, and may be opened again. What each session made is its transactions in the script's order, each in its tries, as far as the session
+    // came; where all was fine each has ended. The count of a shard's disk rose where a flush of it failed, and else it stands; the status tells
+    // the lowest such shard.
+    ensures promised { HasCommand (map (λ w. w.now) words.now) (λ command. IfSome result.history (PromisedBy command (S.left source.old) (H.story house.old) (H.story house.new) (H.faults house.old) (H.faults house.new) result.status)) }
+
+    // Shards were opened where `run`, `show` or `load` was fine, and not by `make`.
+    ensures opened { HasCommand (map (λ w. w.now) words.now) (λ command. OpensByCommand command result.status result.history) }
+
+    // The sink took the whole text where all was fine; a front of it where the sink failed; where a disk failed or stamps were worn, of `run` that was
+    // opened, the report or, where the sink's count rose, a front of it; else nothing.
+    ensures took { HasCommand (map (λ w. w.now) words.now) (λ command. Took command result.status result.history (K.faults sink.old) (K.faults sink.new) (K.taken sink.old) (K.taken sink.new)) }
+
+    // Where no shards were opened no disk was written, but where one failed or memory was wanting; what is left then is opened again. `make`
+    // writes no disk with bytes. What it makes.
+    ensures closed { HasCommand (map (λ w. w.now) words.now) (λ command. ClosedBy command result.status result.history (H.story house.old) (H.story house.new)) }
+    ensures made { HasCommand (map (λ w. w.now) words.now) (λ command. Makes command result.status (H.story house.old) (H.story house.new)) }
+
+    // Words that are refused do nothing, whatever the status.
+    ensures nothing { AreRefused (map (λ w. w.now) words.now) → (result.history ≡ None) × (source.new ≡ source.old) × (sink.new ≡ sink.old) × (house.new ≡ house.old) }
+
+    // `run` read all of the source, and it is a script, but where that was refused, the source failed or memory was wanting. No other command reads.
+    ensures read { HasCommand (map (λ w. w.now) words.now) (λ command. ReadsBy command result.history result.status (S.left source.old) (S.left source.new)) }
+
+    // Over disks and a source that tell what the command wants, and where no count of a fault rose, all was done, or stamps, runs or memory were
+    // wanting.
+    ensures completes { HasCommand (map (λ w. w.now) words.now) (λ command. IsAccepted command (S.left source.old) (H.story house.old) → NoneRose (S.faults source.old) (S.faults source.new) (K.faults sink.old) (K.faults sink.new) (H.faults house.old) (H.faults house.new) → IsCompleted command result.status) }
+
+    // Each refusal comes only where its cause stands.
+    ensures exists { HasCommand (map (λ w. w.now) words.now) (λ command. HasBytes command result.status (H.story house.old) (H.story house.new)) }
+    ensures logs { HasCommand (map (λ w. w.now) words.now) (λ command. BreaksBy command result.status result.history (H.story house.old)) }
+    ensures script { BreaksScript result.status (S.left source.old) }
+    ensures source { CountsSource (S.faults source.old) (S.faults source.new) result.status }
+    ensures sink { CountsSink result.history (K.faults sink.old) (K.faults sink.new) result.status }
+    ensures disks { CountsDisks result.history (H.faults house.old) (H.faults house.new) result.status }
+
+    // Every disk is back.
+    ensures back { (n : ℕ) → n < 16 → H.is_out house.new n ≡ false }
+{
+    scripts_are_not_refused();
+    good_logs_are_not_refused();
+    match command_of(alloc, words) {
+        Ok(command) => obey(rt, alloc, command, source, sink, house, pace),
+        Err(error) => Ended {
+            status: error.into(),
+            history: None,
+        },
+    }
+}

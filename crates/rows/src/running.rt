@@ -1,0 +1,124 @@
+// Runs of scripts, and what `show` finds behind them.
+
+use crate::disks::{EMPTY, NONE, ONE_PUT, PUT, PUT_REPORT};
+use crate::row::{Given, ROW, Row};
+use command_line::Status;
+
+const ROWS: &[Row] = &[
+    Row {
+        shows: "a put",
+        disks: &[(0, Given::Bytes(EMPTY))],
+        words: &["run"],
+        script: PUT,
+        text: PUT_REPORT,
+        bytes: ONE_PUT,
+        ..ROW
+    },
+    Row {
+        shows: "the pair that was put",
+        words: &["show"],
+        text: b"[5,10]\n",
+        lengths: &[118],
+        ..ROW
+    },
+    Row {
+        shows: "no script",
+        disks: &[(0, Given::Bytes(EMPTY))],
+        words: &["run"],
+        text: NONE,
+        lengths: &[39],
+        ..ROW
+    },
+    Row {
+        shows: "no operation",
+        disks: &[(0, Given::Bytes(EMPTY))],
+        words: &["run"],
+        script: b"session\nbegin\ncommit\n",
+        text: NONE,
+        lengths: &[39],
+        ..ROW
+    },
+    Row {
+        shows: "no transaction",
+        disks: &[(0, Given::Bytes(EMPTY))],
+        words: &["run"],
+        script: b"# nothing\n\nsession",
+        text: NONE,
+        lengths: &[39],
+        ..ROW
+    },
+    Row {
+        shows: "the answers of one key",
+        words: &["run"],
+        script: b"session\nbegin\nput 5 10\nput 5 11\nget 5\ndel 5\nget 5\ncommit\n",
+        text: b"{\"ops\":[[\"put\",5,10,null],[\"put\",5,11,10],[\"get\",5,11],[\"del\",5,11],[\"get\",5,null]],\"serial\":1,\"session\":1}\n{\"aborted\":0,\"acknowledged\":1,\"unsettled\":0}\n",
+        ..ROW
+    },
+    Row {
+        shows: "moves, and a transaction that is ended by abort",
+        disks: &[(0, Given::Bytes(EMPTY))],
+        words: &["run", "--tries", "3"],
+        script: b"session\nbegin\nput 1 100\nput 2 0\ncommit\nbegin\nmove 1 2 30\ncommit\nbegin\nmove 2 9 1\ncommit\nbegin\nput 2 7\nabort\n",
+        text: b"{\"ops\":[[\"put\",1,100,null],[\"put\",2,0,null]],\"serial\":1,\"session\":1}\n{\"ops\":[[\"get\",1,100],[\"get\",2,0],[\"put\",1,70,100],[\"put\",2,30,0]],\"serial\":2,\"session\":1}\n{\"ops\":[[\"get\",2,30],[\"get\",9,null]],\"serial\":3,\"session\":1}\n{\"aborted\":1,\"acknowledged\":3,\"unsettled\":0}\n",
+        ..ROW
+    },
+    Row {
+        shows: "the pairs that were moved",
+        words: &["show"],
+        text: b"[1,70]\n[2,30]\n",
+        ..ROW
+    },
+    Row {
+        shows: "the second of two sessions",
+        disks: &[(0, Given::Bytes(EMPTY))],
+        words: &["run"],
+        script: b"session\nbegin\nget 5\nabort\nsession\nbegin\nput 5 10\ncommit\n",
+        text: b"{\"ops\":[[\"put\",5,10,null]],\"serial\":1,\"session\":2}\n{\"aborted\":1,\"acknowledged\":1,\"unsettled\":0}\n",
+        ..ROW
+    },
+    Row {
+        shows: "three shards",
+        disks: &[
+            (0, Given::Bytes(b"")),
+            (1, Given::Bytes(b"")),
+            (2, Given::Bytes(b"")),
+        ],
+        words: &["make", "10", "20"],
+        lengths: &[37, 37, 37],
+        ..ROW
+    },
+    Row {
+        shows: "a scan over three shards",
+        words: &["run"],
+        script: b"session\nbegin\nput 0 1\nput 10 2\nput 20 3\nput 18446744073709551615 4\ncommit\nbegin\nscan 0 18446744073709551615\ncommit\n",
+        text: b"{\"ops\":[[\"put\",0,1,null],[\"put\",10,2,null],[\"put\",20,3,null],[\"put\",18446744073709551615,4,null]],\"serial\":1,\"session\":1}\n{\"ops\":[[\"scan\",0,18446744073709551615,[[0,1],[10,2],[20,3],[18446744073709551615,4]]]],\"serial\":2,\"session\":1}\n{\"aborted\":0,\"acknowledged\":2,\"unsettled\":0}\n",
+        ..ROW
+    },
+    Row {
+        shows: "the pairs of three shards",
+        words: &["show"],
+        text: b"[0,1]\n[10,2]\n[20,3]\n[18446744073709551615,4]\n",
+        ..ROW
+    },
+    Row {
+        shows: "a line outside the grammar",
+        disks: &[(0, Given::Bytes(EMPTY))],
+        words: &["run"],
+        script: b"session\nbegin\nscan 9 3\n",
+        status: Status::Script { line: 3 },
+        bytes: EMPTY,
+        ..ROW
+    },
+    Row {
+        shows: "a script that ends in a transaction",
+        words: &["run"],
+        script: b"session\nbegin\n",
+        status: Status::Script { line: 3 },
+        bytes: EMPTY,
+        ..ROW
+    },
+];
+
+pub fn rows() -> &'static [Row] {
+    ROWS
+}

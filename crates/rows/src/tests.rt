@@ -1,0 +1,149 @@
+// What each row needs to be tried.
+
+ghost use Rattle.std.specs.Prelude.{◌≡◌, ◌<◌, ℕ, false};
+
+use crate::row::{Given, Row};
+use crate::{broken, faults, loading, making, opening, running};
+use clv_commands::run;
+use disk_memory::{MemoryDisk, MemoryHouse};
+use io_model::{House, MemorySink, MemorySource, NoPace};
+use std::alloc::{AllocError, Global};
+use std::sync::Wait;
+use std::thread::Threads;
+
+const ROOM: usize = 65536;
+
+// What a disk of a row holds.
+fn bytes_of(
+    alloc: Global,
+    house: &MemoryHouse,
+    shard: u32,
+    given: Given,
+) -> Result<Vec<u8>, AllocError>
+    requires { shard < 16 }
+{
+    match given {
+        Given::Bytes(bytes) => bytes.to_vec(alloc),
+        Given::Image(choice) => match house.disk(shard) {
+            Some(disk) => disk.image(alloc, choice),
+            None => Err(AllocError),
+        },
+    }
+}
+
+// A disk of these bytes.
+fn disk_of(alloc: Global, bytes: &[u8], failing: &[u64]) -> Result<MemoryDisk, AllocError> {
+    if bytes.len() > ROOM {
+        return Err(AllocError);
+    }
+    MemoryDisk::new(alloc, bytes, failing, u64::MAX, ROOM as u64)
+}
+
+// Puts a disk into its place.
+fn put(
+    alloc: Global,
+    house: &mut MemoryHouse,
+    shard: u32,
+    given: Given,
+    failing: &[u64],
+) -> Result<(), AllocError>
+    requires { (n : ℕ) → n < 16 → ⟦<MemoryHouse as House>⟧.is_out house.old n ≡ false }
+    ensures { (n : ℕ) → n < 16 → ⟦<MemoryHouse as House>⟧.is_out house.new n ≡ false }
+{
+    if shard < 16 {
+        let bytes = bytes_of(alloc, house, shard, given)?;
+        house.put(shard, disk_of(alloc, &bytes, failing)?);
+    }
+    Ok(())
+}
+
+// Puts all disks of the row into their places.
+fn put_all(alloc: Global, row: &Row, house: &mut MemoryHouse) -> Result<(), AllocError>
+    requires { (n : ℕ) → n < 16 → ⟦<MemoryHouse as House>⟧.is_out house.old n ≡ false }
+    ensures { (n : ℕ) → n < 16 → ⟦<MemoryHouse as House>⟧.is_out house.new n ≡ false }
+{
+    for (shard, given) in row.disks {
+        put(alloc, house, *shard, *given, row.failing[0])?;
+    }
+    Ok(())
+}
+
+// Whether the run ends as the row says, and writes what it says.
+fn ends<R: Threads + Wait + Sync>(
+    rt: &R,
+    alloc: Global,
+    row: &Row,
+    house: &mut MemoryHouse,
+) -> Result<bool, AllocError>
+    requires { (n : ℕ) → n < 16 → ⟦<MemoryHouse as House>⟧.is_out house.old n ≡ false }
+    ensures { (n : ℕ) → n < 16 → ⟦<MemoryHouse as House>⟧.is_out house.new n ≡ false }
+{
+    let mut source = MemorySource::new(alloc, row.script, 7, row.failing[1])?;
+    let mut sink = MemorySink::new(alloc, ROOM, 5, row.failing[2])?;
+    let status = run(rt, alloc, row.words, &mut source, &mut sink, house, &NoPace).status;
+    Ok(status == row.status && sink.taken() == row.text)
+}
+
+// Whether the disks are as the row says.
+fn is_left(row: &Row, house: &MemoryHouse) -> bool {
+    let mut shard = 0u32;
+    for len in row.lengths {
+        if shard >= 16
+            || !house
+                .disk(shard)
+                .is_some_and(|disk| disk.bytes().len() == *len)
+        {
+            return false;
+        }
+        shard += 1;
+    }
+    row.bytes.is_empty() || house.disk(0).is_some_and(|disk| disk.bytes() == row.bytes)
+}
+
+// Tries a row.
+fn try_row<R: Threads + Wait + Sync>(
+    rt: &R,
+    alloc: Global,
+    row: &Row,
+    house: &mut MemoryHouse,
+) -> Result<bool, AllocError>
+    requires { (n : ℕ) → n < 16 → ⟦<MemoryHouse as House>⟧.is_out house.old n ≡ false }
+    ensures { (n : ℕ) → n < 16 → ⟦<MemoryHouse as House>⟧.is_out house.new n ≡ false }
+{
+    put_all(alloc, row, house)?;
+    Ok(ends(rt, alloc, row, house)? && is_left(row, house))
+}
+
+// What the first row of the table shows that isn't so.
+fn try_all<R: Threads + Wait + Sync>(
+    rt: &R,
+    alloc: Global,
+    rows: &[Row],
+) -> Result<(), &'static str> {
+    let Ok(mut house) = MemoryHouse::new(alloc) else {
+        return Err("no memory");
+    };
+    for row in rows {
+        match try_row(rt, alloc, row, &mut house) {
+            Ok(true) => {}
+            _ => return Err(row.shows),
+        }
+    }
+    Ok(())
+}
+
+#[test]
+fn each_row_is_so(rt: HostRuntime) -> Result<(), &'static str> {
+    let tables = [
+        making::rows(),
+        running::rows(),
+        broken::rows(),
+        opening::rows(),
+        faults::rows(),
+        loading::rows(),
+    ];
+    for rows in tables {
+        try_all(&rt, rt.alloc(), rows)?;
+    }
+    Ok(())
+}
