@@ -2,7 +2,7 @@ use Rattle.std.proofs.Common.{◌≡◌, cond, ◌&&◌, ◌||◌, sym, ap, subs
 use Rattle.clv_base.specs.declared.state.Request.{Request}
 use Rattle.clv_base.specs.Orders.{Table, tx_same, tx_in, tx_put}
 use Rattle.tx_table.specs.Index.{IsIndex}
-use Rattle.tx_table.proofs.IndexKeeping.{index_renewed}
+use Rattle.tx_table.proofs.Laws.{index_renewed}
 use Rattle.two_phase_commit.specs.Waiting.{waits}
 use Rattle.two_phase_commit.proofs.waiting_homes.put_request.Goals as goal
 
