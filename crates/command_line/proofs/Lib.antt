@@ -3,3 +3,4 @@ pub mod Lists
 pub mod Programs
 pub mod Sayings
 pub mod Laws
+pub mod Options

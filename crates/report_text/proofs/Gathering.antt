@@ -7,12 +7,11 @@ use Rattle.std.proofs.lemmas.List.Folds.{list_any-append}
 use Rattle.clv_base.specs.declared.names.TxId.{TxId}
 use Rattle.clv_base.specs.declared.names.Birth.{Birth}
 use Rattle.clv_base.specs.declared.events.Entry.{Entry}
-use Rattle.clv_base.specs.Orders.{tx_same}
 use Rattle.clv_base.specs.Journals.{History}
 use Rattle.clv_base.specs.History.{acknowledged_in}
 use Rattle.history_replay.specs.Located.{located, located_all}
 use Rattle.report_text.specs.declared.sets.TxSet.{TxSet}
-use Rattle.report_text.specs.Told.{is_tx, is_birth, same_birth}
+use Rattle.report_text.specs.Told.{is_birth, same_birth}
 use Rattle.report_text.specs.Sets.{has_tx, birth_among}
 use Rattle.report_text.specs.Counts.{is_acknowledged_try}
 
@@ -35,11 +34,6 @@ gathered p before after x now old more e is was tells =
     ∙ ap₂ (λ (a b : Bool). a || b) was (tells ∙ sym (or_false (p (located x))))
     ∙ sym (list_any-append p (located_all before) (located x ∷ []))
     ∙ sym (ap (λ (h : History). list_any p h) (ap located_all e ∙ map-append located before (x ∷ [])))
-
--- whose request it is, as the history says it
-pub asked : (t : TxId) (tx : Option TxId) → is_tx t tx ≡ elim tx [ Some u ↦ tx_same t u | None ↦ false ]
-asked t None = refl
-asked t (Some u) = refl
 
 -- the birth of an acknowledged try
 pub tried : (set : TxSet) (h : History) (b : Birth) (p : Option (TxId × Birth)) → ((t : TxId) → has_tx set t ≡ acknowledged_in h t) → is_birth b (birth_among set p) ≡ is_acknowledged_try h b p

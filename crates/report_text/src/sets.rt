@@ -76,7 +76,7 @@ impl BirthSet {
         self.members.contains(&birth)
     }
 
-    pub fn insert(&mut self, birth: Birth) -> Result<(), Memory>
+    fn insert(&mut self, birth: Birth) -> Result<(), Memory>
         ensures { OnOk result ((b : Age) → has_birth_in self.new b ≡ (if same_birth birth b then true else has_birth_in self.old b)) }
     {
         self.members.insert(birth)?;
