@@ -276,6 +276,7 @@ impl<S: Store + Drop, L: Locks + Drop> ShardCore<S, L> {
             needed: 0,
         })
     }
+
     /// The same shard once more, in place, from what recovery found. Where there is no memory all stays.
     pub fn restart(
         &mut self,
