@@ -27,6 +27,7 @@ use protocol_laws::events::restarts_end_at_rest;
 use shard_recovery::Recovered;
 use shard_restoring::restored;
 use std::alloc::Global;
+use std::mem;
 use two_phase_commit::coordinator_laws::unended_rise;
 use two_phase_commit::doubts::doubtful_rise;
 use two_phase_commit::{Coordinator, Participant};
@@ -294,7 +295,7 @@ impl<S: Store + Drop, L: Locks + Drop> ShardCore<S, L> {
         let run = self.run();
         match Self::restored(alloc, store, recovered, shard, run, epoch) {
             Ok(core) => {
-                *self = core;
+                let _records_before = mem::replace(self, core).into_store();
                 Ok(())
             }
             Err(memory) => Err(memory),
