@@ -49,6 +49,6 @@ impl<S: Store + Drop, L: Locks + Drop> ShardCore<S, L> {
     pub fn into_store(self) -> S
         ensures { S.records result ≡ ((self.shard).local).records }
     {
-        self.transactions.into_parts().store
+        self.transactions.into_store()
     }
 }

@@ -1,15 +1,11 @@
 //! The restart of a shard that went down.
-ghost use Rattle.std.specs.Prelude.{◌≡◌, ◌≤◌, ◌+◌, [], false, length, Option, Some, None, IfOk, IfErr, OnOk};
+ghost use Rattle.std.specs.Prelude.{◌≡◌, false, Option, Some, None, IfOk, IfErr, OnOk};
 ghost use Rattle.clv_base.specs.declared.events.Entry.{Entry};
 ghost use Rattle.clv_base.specs.declared.events.Event.TheVariants.{Restart};
-ghost use Rattle.clv_base.specs.Restarts.{misfit as misfit_of, state_after};
+ghost use Rattle.clv_base.specs.Restarts.{misfit as misfit_of};
 ghost use Rattle.machine_calls.specs.Steps.{Tells};
 ghost use Rattle.machine_calls.specs.Restored.{IsRestored, revives, error_in};
-ghost use Rattle.shard_core.specs.Whole.{IsAtRest};
-ghost use Rattle.shard_machine.specs.Answers.{Refuses};
-ghost use Rattle.shard_machine.specs.Stamps.{newest, stamp_by};
 
-use crate::Journal;
 use crate::machine::ShardMachine;
 use crate::stamps::{enter, place};
 use clv_base::events::{Event, Outcome};
@@ -19,58 +15,8 @@ use log_buffer::LogBuffer;
 use log_gate::Gate;
 use machine_calls::{Restarter, StepError};
 use ordered_store::Store;
-use shard_core::ShardCore;
 use shard_recovery::{Fallen, Recovered};
 use std::alloc::{AllocError, Global};
-
-/// What a shard that comes up again goes on with.
-#[derive(Drop)]
-struct Risen<S: Store + Drop, L: Locks + Drop> {
-    core: ShardCore<S, L>,
-    /// The stamp of its entry.
-    stamp: u64,
-    /// How many parts are in doubt: each may be dropped once.
-    doubtful: usize,
-}
-
-/// The core that recovery found for a shard that fell, where there are places in the journal for the entry of its restart and a drop of each part
-/// that is in doubt.
-fn risen_of<S: Store + Drop, L: Locks + Drop>(
-    alloc: Global,
-    journal: &mut Journal,
-    fallen: &ShardCore<S, L>,
-    last: u64,
-    clock: u64,
-    store: S,
-    recovered: Recovered,
-    epoch: u64,
-) -> Result<Risen<S, L>, StepError>
-    requires { IsRestored (fallen.now.shard).shard (fallen.now.shard).run epoch (S.records store) recovered }
-    ensures core { IfOk result (λ r. r.core.shard ≡ state_after (fallen.now.shard).shard (fallen.now.shard).run epoch recovered.buffer.records 0 []) }
-    ensures rest { IfOk result (λ r. IsAtRest r.core) }
-    ensures stamp { IfOk result (λ r. stamp_by (newest last clock 0) ≡ Some r.stamp) }
-    ensures doubtful { IfOk result (λ r. r.doubtful ≡ length recovered.in_doubt.items) }
-    ensures room { IfOk result (λ r. r.doubtful + 1 ≤ journal.new.room) }
-    ensures grown { journal.old.room ≤ journal.new.room }
-    ensures same { journal.new ≡ record journal.old { room = journal.new.room } }
-    ensures err { IfErr result (λ e. Refuses (stamp_by (newest last clock 0)) e) }
-{
-    let doubtful = recovered.in_doubt.len();
-    let stamp = match place(journal, last, clock, 0, doubtful, 1) {
-        Ok(stamp) => stamp,
-        Err(error) => return Err(error),
-    };
-    let shard = fallen.number();
-    let run = fallen.run();
-    match ShardCore::restored(alloc, store, recovered, shard, run, epoch) {
-        Ok(core) => Ok(Risen {
-            core,
-            stamp,
-            doubtful,
-        }),
-        Err(_) => Err(StepError::Memory),
-    }
-}
 
 impl<S: Store + Drop, L: Locks + Drop, G: Gate> ShardMachine<S, L, G> {
     /// The number of the shard.
@@ -126,30 +72,20 @@ impl<S: Store + Drop, L: Locks + Drop, G: Gate> ShardMachine<S, L, G> {
         ensures up { OnOk result (self.new.gate ≡ Some gate) }
         ensures back { IfErr result (λ e. (e.1 ≡ gate) × (self.new.gate ≡ None)) }
     {
-        let risen = match risen_of(
-            alloc,
-            &mut self.journal,
-            &self.core,
-            self.last,
-            clock,
-            store,
-            recovered,
-            epoch,
-        ) {
-            Ok(risen) => risen,
+        // Each part that is in doubt may be dropped once.
+        let doubtful = recovered.in_doubt.len();
+        let stamp = match place(&mut self.journal, self.last, clock, 0, doubtful, 1) {
+            Ok(stamp) => stamp,
             Err(error) => return Err((error, gate)),
         };
+        match self.core.restart(alloc, store, recovered, epoch) {
+            Ok(()) => {}
+            Err(_) => return Err((StepError::Memory, gate)),
+        }
         let outcome = Outcome::Up(epoch);
-        enter(
-            &mut self.journal,
-            risen.stamp,
-            walker,
-            Event::Restart,
-            outcome,
-        );
-        self.core = risen.core;
-        self.last = risen.stamp;
-        self.owed = risen.doubtful;
+        enter(&mut self.journal, stamp, walker, Event::Restart, outcome);
+        self.last = stamp;
+        self.owed = doubtful;
         self.is_up = true;
         match self.gate.replace(gate) {
             None => Ok(Outcome::Up(epoch)),

@@ -13,7 +13,7 @@ use Rattle.machine_laws.specs.Frame.{stamped_as}
 use Rattle.machine_laws.specs.Undropped.{new_parts}
 use Rattle.machine_laws.proofs.Laws.{events_alike}
 use Rattle.shard_machine.specs.Machined.{Machined}
-use Rattle.shard_machine.proofs.Running.{kept_more}
+use Rattle.shard_machine.proofs.Running.{kept_more, stays}
 use Rattle.shard_machine.proofs.Answering.{Told, entered, quieted, on_up}
 use Rattle.shard_machine.proofs.machine.ShardMachine.operate.Goals as goal
 
@@ -46,3 +46,21 @@ returns-in-Ok-Done-clause-told g c =
     subst (λ (v : Machined _). Told v.shard c.args.clock c.args.walker e w.outcome (stamped_as i.is_up n k d)) c.self.view_is
     (on_up i.is_up (λ b. Told (stamped_as b i.last j s) c.args.clock c.args.walker e w.outcome (stamped_as b n k d)) c.if-not-self.false
     (entered i.last j k s d c.args.clock c.args.walker e (happen_up s e) w.outcome w.copy n (events_alike i.last j s e refl) happens c.in-Ok.ensures.ok grown))
+
+-- where there is no memory, and at a quiet answer, there is only more room in the journal
+pub invariant_of-self : goal.invariant_of-self
+invariant_of-self g c =
+    let i = c.self.inside in let k = c.place.new.journal in let more = c.place.ensures.grown in let has = c.self.invariant.room in
+    stays i.core i.core i.is_up i.journal k i.owed (is_some i.gate) c.self.invariant.rest refl (ap (λ (x : Journaled). x.shard) c.place.ensures.same) (omega (arith, more, has)) c.self.invariant
+
+pub invariant_of-self-in-Err-operate : goal.invariant_of-self-in-Err-operate
+invariant_of-self-in-Err-operate g c =
+    let i = c.self.inside in let k = c.place.new.journal in let more = c.place.ensures.grown in let has = c.self.invariant.room in
+    stays i.core c.operate.new.core i.is_up i.journal k i.owed (is_some i.gate) c.operate.ensures.rest c.in-Err-operate.ensures.err (ap (λ (x : Journaled). x.shard) c.place.ensures.same) (omega (arith, more, has)) c.self.invariant
+
+pub invariant_of-self-in-Ok-Quiet : goal.invariant_of-self-in-Ok-Quiet
+invariant_of-self-in-Ok-Quiet g c =
+    let i = c.self.inside in let k = c.place.new.journal in let more = c.place.ensures.grown in let has = c.self.invariant.room in
+    let s : Shard = i.core.shard in let e : Event = OpEvent c.args.tx c.args.birth c.args.nth c.args.seen c.args.op in let d = c.operate.new.core in let w = c.in-Ok-Quiet in
+    let happens : Happens (happen_up s e) s (Quiet w.outcome) d.shard = subst (λ (h : Happened). Happens (happen_up s e) s h d.shard) w.field-0-is w.ensures.ok in
+    stays i.core d i.is_up i.journal k i.owed (is_some i.gate) c.operate.ensures.rest happens.1 (ap (λ (x : Journaled). x.shard) c.place.ensures.same) (omega (arith, more, has)) c.self.invariant

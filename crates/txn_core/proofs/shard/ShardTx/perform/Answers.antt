@@ -188,30 +188,3 @@ returns-in-Err-reserve_log-clause-room g c =
     let is : m ≡ l = local_same _ _ _ _ _ l c.reserve_rest.ensures.records c.reserve_locks.ensures.rows refl c.reserve_rest.ensures.pairs (ap (λ (b : Buffer LogRecord). b.records) c.reserve_log.ensures.same) in
     let kept = ap (λ (b : Buffer LogRecord). b.room) c.in-Err-reserve_log.ensures.refused in
     spare_still s.shard l m s.buffer.durable s.buffer.taken s.buffer.room c.reserve_log.new.buffer.room s.deps.room c.reserve_rest.new.deps.room c.args.self.now c.self.view_is is c.reserve_log.new.buffer.durable c.reserve_log.new.buffer.taken (omega (arith, kept))
-
-pub invariant_of-self-in-Err-enter_part : goal.invariant_of-self-in-Err-enter_part
-invariant_of-self-in-Err-enter_part g c =
-    let s = c.self.inside in
-    let l : Local = record { records = g.S.Store.records s.store; locks = g.L.Locks.rows s.locks; parts = s.parts.entries; pairs = s.deps.pairs; log = s.buffer.records; epoch = s.epoch } in
-    let m : Local = record { records = g.S.Store.records c.reserve_rest.new.store; locks = g.L.Locks.rows c.reserve_locks.new.locks; parts = c.enter_part.new.parts.entries; pairs = c.reserve_rest.new.deps.pairs; log = c.reserve_log.new.buffer.records; epoch = s.epoch } in
-    let is : m ≡ l = local_same _ _ _ _ _ l c.reserve_rest.ensures.records c.reserve_locks.ensures.rows c.in-Err-enter_part.ensures.err c.reserve_rest.ensures.pairs (ap (λ (b : Buffer LogRecord). b.records) c.reserve_log.ensures.same) in
-    let made = c.in-Ok-reserve_log.ensures.ok in
-    kept_still l m s.deps.commits c.reserve_rest.new.deps.commits s.buffer.room c.reserve_log.new.buffer.room is c.reserve_rest.ensures.commits (omega (arith, made)) c.self.invariant
-
-pub returns-in-Err-enter_part-clause-err : goal.returns-in-Err-enter_part-clause-err
-returns-in-Err-enter_part-clause-err g c =
-    let s = c.self.inside in
-    let l : Local = record { records = g.S.Store.records s.store; locks = g.L.Locks.rows s.locks; parts = s.parts.entries; pairs = s.deps.pairs; log = s.buffer.records; epoch = s.epoch } in
-    let m : Local = record { records = g.S.Store.records c.reserve_rest.new.store; locks = g.L.Locks.rows c.reserve_locks.new.locks; parts = c.enter_part.new.parts.entries; pairs = c.reserve_rest.new.deps.pairs; log = c.reserve_log.new.buffer.records; epoch = s.epoch } in
-    let is : m ≡ l = local_same _ _ _ _ _ l c.reserve_rest.ensures.records c.reserve_locks.ensures.rows c.in-Err-enter_part.ensures.err c.reserve_rest.ensures.pairs (ap (λ (b : Buffer LogRecord). b.records) c.reserve_log.ensures.same) in
-    let made = c.in-Ok-reserve_log.ensures.ok in
-    same_still s.shard l m s.buffer.durable s.buffer.taken s.buffer.room c.reserve_log.new.buffer.room s.deps.room c.reserve_rest.new.deps.room c.args.self.now c.self.view_is is c.reserve_log.new.buffer.durable c.reserve_log.new.buffer.taken (ap (λ (b : Buffer LogRecord). b.durable) c.reserve_log.ensures.same) (ap (λ (b : Buffer LogRecord). b.taken) c.reserve_log.ensures.same)
-
-pub returns-in-Err-enter_part-clause-room : goal.returns-in-Err-enter_part-clause-room
-returns-in-Err-enter_part-clause-room g c =
-    let s = c.self.inside in
-    let l : Local = record { records = g.S.Store.records s.store; locks = g.L.Locks.rows s.locks; parts = s.parts.entries; pairs = s.deps.pairs; log = s.buffer.records; epoch = s.epoch } in
-    let m : Local = record { records = g.S.Store.records c.reserve_rest.new.store; locks = g.L.Locks.rows c.reserve_locks.new.locks; parts = c.enter_part.new.parts.entries; pairs = c.reserve_rest.new.deps.pairs; log = c.reserve_log.new.buffer.records; epoch = s.epoch } in
-    let is : m ≡ l = local_same _ _ _ _ _ l c.reserve_rest.ensures.records c.reserve_locks.ensures.rows c.in-Err-enter_part.ensures.err c.reserve_rest.ensures.pairs (ap (λ (b : Buffer LogRecord). b.records) c.reserve_log.ensures.same) in
-    let made = c.in-Ok-reserve_log.ensures.ok in
-    spare_still s.shard l m s.buffer.durable s.buffer.taken s.buffer.room c.reserve_log.new.buffer.room s.deps.room c.reserve_rest.new.deps.room c.args.self.now c.self.view_is is c.reserve_log.new.buffer.durable c.reserve_log.new.buffer.taken (omega (arith, made))
