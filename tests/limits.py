@@ -112,16 +112,13 @@ def at_random(checks, case, numbers, program):
     memory = (resource.RLIMIT_AS, numbers.randrange(LEAST, 80 * MIB)), WANTING
     files = (resource.RLIMIT_NOFILE, numbers.randrange(4, 12)), {0, 6}
     stacks = (resource.RLIMIT_STACK, numbers.randrange(192 * KIB, 2 * MIB)), WANTING
-    with Folder(program) as folder:
-        folder.run("make", "10", "20")
-        for limit, statuses in (memory, numbers.choice((memory, files, stacks))):
+    for limit, statuses in (memory, numbers.choice((files, stacks))):
+        with Folder(program) as folder:
             folder.run("make", "10", "20")
             bounded(checks, f"{name}, bound {limit}", folder, RUN, script, limit, statuses, case)
-            folder.put([])
 
 
 # Files that are no logs.
-
 
 # What stands in place of a log, how it is put there, and the statuses.
 ODD_FILES = [
@@ -256,26 +253,28 @@ def finds_a_full_pipe(checks, folder):
 
 
 def at_terminals(folder, typed):
-    """A run whose script is typed at a terminal, which hangs up then."""
+    """A run whose script is typed at a terminal, and the terminal's other end, which is to be closed."""
     screen, terminal = pty.openpty()
     run = folder.start("run", stdin=terminal, stdout=subprocess.PIPE, stderr=subprocess.PIPE, start_new_session=True)
     os.close(terminal)
     os.write(screen, typed)
-    time.sleep(0.3)
-    os.close(screen)
-    return ended(run)
+    return run, screen
 
 
 def reads_a_terminal(checks, folder):
-    got = at_terminals(folder, ONE_PUT + b"\x04")
+    run, screen = at_terminals(folder, ONE_PUT + b"\x04")
+    got = ended(run)
+    os.close(screen)
     checks.check("a terminal", got.is_fine() and '"acknowledged":1' in got.out and logs.map_of(folder.logs()) == {5: 10}, got)
 
 
 def loses_its_terminal(checks, folder):
-    made = folder.logs()
-    got = at_terminals(folder, b"session\n")
+    run, screen = at_terminals(folder, b"session\n")
+    time.sleep(0.3)
+    os.close(screen)
+    got = ended(run)
     is_right = got.status == 0 or got.status == -signal.SIGHUP or got.is_refused(4, "read fault")
-    checks.check("a terminal that hangs up", is_right and logs.map_of(folder.logs()) == {}, (got, made))
+    checks.check("a terminal that hangs up", is_right and logs.map_of(folder.logs()) == {}, got)
 
 
 def streams(checks, program):
