@@ -8,6 +8,7 @@ What must hold everywhere: the run ends, with the status and the line that belon
 be opened, and hold each transaction of the script whole or not at all; a report is a serial run that leads there.
 """
 
+import contextlib
 import copy
 import os
 import pty
@@ -202,12 +203,12 @@ def shell_lines(checks, program):
 
 
 def started(folder, script, **streams):
-    """A run that goes on, and has its script."""
+    """A run that goes on, and is given its script. It may be over before it has read it."""
     run = folder.start("run", stdin=subprocess.PIPE, stderr=subprocess.PIPE, **streams)
 
     def feed():
-        run.stdin.write(script)
-        run.stdin.close()
+        with contextlib.suppress(BrokenPipeError), run.stdin:
+            run.stdin.write(script)
 
     threading.Thread(target=feed).start()
     return run
