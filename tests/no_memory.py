@@ -99,27 +99,27 @@ class Command:
             if self.plain.status != 0:
                 self.check(f"{name}: logs", folder.logs() == self.start, "they changed")
             elif self.words[0] != "make":
-                self.judge(name, folder, got, is_wanting)
+                self.judge(name, folder, got)
         return "alloc" in trace.faults
 
-    def judge(self, name, folder, got, is_wanting):
+    def judge(self, name, folder, got):
         try:
             after = logs.map_of(folder.logs())
-            wrong = self.wrong_after(folder, got, is_wanting, after)
+            wrong = self.wrong_after(folder, got, after)
         except (logs.Fault, reports.Wrong, ValueError, KeyError, IndexError) as fault:
             after, wrong = None, str(fault)
         if self.check(f"{name}: what stands", wrong is None, (wrong, got)):
             more = folder.run("show")
             self.check(f"{name}: show", more.is_fine() and more.out == logs.shown(after), (more, after))
 
-    def wrong_after(self, folder, got, is_wanting, after):
+    def wrong_after(self, folder, got, after):
         """What is wrong in what stands after a run, if anything."""
         if self.words[0] == "show":
             return None if after == self.before and got.out in ("", self.plain.out) else "show changed it, or told something else"
         if self.words[0] == "load":
             is_whole = sum(after.values()) in (0, 1000 * 4) and len(after) in (0, 4)
             return None if is_whole and got.out in ("", self.plain.out) else "the sum is another one"
-        if not is_wanting and reports.replay(self.script, got.out, self.before)[0] != after:
+        if got.status == 0 and reports.replay(self.script, got.out, self.before)[0] != after:
             return "the report leads elsewhere"
         return members.wrong_in(self.script, folder.logs(), self.run_number)
 
