@@ -1,5 +1,6 @@
 """Scripts and reports: what one serial run of a script's transactions answers, and whether a report is that of such a run."""
 
+import itertools
 import json
 
 BEYOND = 1 << 64
@@ -85,12 +86,11 @@ class Replay:
         session = told["session"] - 1
         if told["serial"] <= self.serials[session]:
             raise Wrong(f"{line}: its serial isn't above those of its session before it")
-        self.serials[session] = told["serial"]
         for place in range(self.next[session], len(self.sessions[session])):
             transaction = self.sessions[session][place]
             done, after = done_alone(transaction, self.pairs)
             if transaction.commits and done == told["ops"]:
-                self.pairs, self.next[session] = after, place + 1
+                self.pairs, self.next[session], self.serials[session] = after, place + 1, told["serial"]
                 return
         raise Wrong(f"{line}: no transaction of the session that is left does this, alone from {self.pairs}")
 
@@ -101,20 +101,82 @@ def begun(script):
     return len(found), sum(it.commits for it in found)
 
 
-def replay(script, report, pairs):
-    """The map after the transactions of a report, and its counts. Raises Wrong where it isn't the report of a serial run from these pairs."""
+def read(script, report, is_whole):
+    """The lines of a report, and its counts. Where it isn't whole, sessions were stopped, and some transactions never began."""
     lines = report.split("\n")
     if len(lines) < 2 or lines.pop() != "":
         raise Wrong("the report doesn't end with a line feed")
+    last = lines.pop()
+    counts = json.loads(last)
+    if list(counts) != ["aborted", "acknowledged", "unsettled"] or last != json.dumps(counts, separators=(",", ":")):
+        raise Wrong(f"{last}: spelling")
+    most, total = begun(script)[0], sum(counts.values())
+    if counts["acknowledged"] != len(lines) or total > most or (is_whole and total < most):
+        raise Wrong(f"{last}: counts of {len(lines)} lines, and {most} transactions")
+    return lines, counts
+
+
+def replay(script, report, pairs):
+    """The map after the transactions of a report, and its counts. Raises Wrong where it isn't the report of a serial run from these pairs."""
+    lines, counts = read(script, report, is_whole=True)
     run = Replay(script, pairs)
-    for line in lines[:-1]:
+    for line in lines:
         run.follow(line)
-    counts = json.loads(lines[-1])
-    if list(counts) != ["aborted", "acknowledged", "unsettled"] or lines[-1] != json.dumps(counts, separators=(",", ":")):
-        raise Wrong(f"{lines[-1]}: spelling")
-    if counts["acknowledged"] != len(lines) - 1 or sum(counts.values()) != begun(script)[0]:
-        raise Wrong(f"{lines[-1]}: counts of {len(lines) - 1} lines, and {begun(script)[0]} transactions")
     return run.pairs, counts
+
+
+def meets(transaction, line):
+    """Whether a transaction writes where this line of a report has been."""
+    written = {it[1] for it in transaction.lines if it[0] in ("put", "del")}
+    return any(op[1] in written or (op[0] == "scan" and any(op[1] <= key <= op[2] for key in written)) for op in json.loads(line)["ops"])
+
+
+def unsettled(run, line, sessions):
+    """The transactions, as places in the script, that may be unsettled though this line has seen them. Of these sessions more lines come."""
+    found = []
+    for session, transactions in enumerate(run.sessions):
+        if session not in sessions:
+            places = range(run.next[session], len(transactions))
+            found += [(session, place) for place in places if transactions[place].commits and meets(transactions[place], line)]
+    return found
+
+
+# A line sees so many transactions for the first time at most that are unsettled.
+MOST_SEEN = 4
+
+
+def orders(places):
+    """Some of the places in any order, few of them first, of each session one at most."""
+    for count in range(min(len(places), MOST_SEEN) + 1):
+        yield from (it for it in itertools.permutations(places, count) if len(dict(it)) == count)
+
+
+def follow_behind(run, line, places):
+    """Follows a line, behind as few of these transactions as need be. Gives those."""
+    before = run.pairs
+    for chosen in orders(places):
+        run.pairs = before
+        for session, place in chosen:
+            _, run.pairs = done_alone(run.sessions[session][place], run.pairs)
+        try:
+            run.follow(line)
+            return chosen
+        except Wrong:
+            run.pairs = before
+    raise Wrong(f"{line}: no transaction of the session that is left does this, alone from {before}, or from what unsettled ones leave of it")
+
+
+def replay_stopped(script, report, pairs):
+    """The same for a run in which sessions were stopped, of a script without moves. An unsettled transaction isn't told of, but others may have seen
+    it: it stands before the first of them. Gives these, too: by session, from 0, their place in it."""
+    lines, counts = read(script, report, is_whole=False)
+    sessions = [json.loads(line)["session"] - 1 for line in lines]
+    run, seen = Replay(script, pairs), {}
+    for place, line in enumerate(lines):
+        seen.update(follow_behind(run, line, unsettled(run, line, {*sessions[place:], *seen})))
+    if len(seen) > counts["unsettled"]:
+        raise Wrong(f"the transactions saw {len(seen)} unsettled ones, of {counts['unsettled']}")
+    return run.pairs, counts, seen
 
 
 # The script of `load`.

@@ -5,13 +5,15 @@ docs/COMMANDS.md and docs/FORMAT.md are among them, read from these files."""
 import os
 import re
 import struct
+import subprocess
 
 import logs
 import reports
-from program import Checks, Folder, arguments
+from program import Checks, Folder, Ran, arguments
 
 TOP = os.path.dirname(os.path.dirname(os.path.abspath(__file__)))
 LAST = (1 << 64) - 1
+LONGEST_SCRIPT = 16777216
 USAGE = "usage: clv_shell make [SPLIT].. | run [--tries N] | show | load --seed S --sessions N --accounts A --transfers T"
 ONE_PUT = b"session\nbegin\nput 5 10\ncommit\n"
 NOTHING_DONE = '{"aborted":0,"acknowledged":0,"unsettled":0}\n'
@@ -41,11 +43,13 @@ def counts(acknowledged, aborted=0):
     return f'{{"aborted":{aborted},"acknowledged":{acknowledged},"unsettled":0}}\n'
 
 
+DONE = line_of('["put",5,10,null]') + counts(1)
+
 # Splits, a script, and its report, of one session: so no transaction meets another one.
 REPORTS = [
-    ("a put", (), ONE_PUT, line_of('["put",5,10,null]') + counts(1)),
+    ("a put", (), ONE_PUT, DONE),
     ("no session", (), b"", NOTHING_DONE),
-    ("no line feed at the end", (), b"session\nbegin\nput 5 10\ncommit", line_of('["put",5,10,null]') + counts(1)),
+    ("no line feed at the end", (), b"session\nbegin\nput 5 10\ncommit", DONE),
     ("a session without a transaction", (), b"session\n", NOTHING_DONE),
     ("a transaction without an operation", (), b"session\nbegin\ncommit\n", NOTHING_DONE),
     ("a transaction without an operation that is aborted", (), b"session\nbegin\nabort\n", NOTHING_DONE),
@@ -239,7 +243,7 @@ def writes_reports(checks, program):
 
 def refuses_scripts(checks, program):
     remark = b"# " + b"x" * 61 + b"\n"
-    most = remark * (16777216 // len(remark))
+    most = remark * (LONGEST_SCRIPT // len(remark))
     with Folder(program) as folder:
         got = folder.run("run", script=b"get 1\n")
         checks.check("a wrong script where there are no logs", got.is_refused(3, "script line 1") and folder.logs() == [], got)
@@ -254,6 +258,33 @@ def refuses_scripts(checks, program):
         checks.check("a script of 16777216 bytes", got.is_fine() and got.out == NOTHING_DONE, got)
         got = folder.run("run", script=b"session\n" * 64)
         checks.check("64 sessions", got.is_fine() and got.out == NOTHING_DONE, got)
+
+
+def fed(folder, script, size):
+    """A run that is given its script by a pipe, in pieces of this size. It may leave off reading where the script is too long."""
+    pipe = subprocess.PIPE
+    run = folder.start("run", stdin=pipe, stdout=pipe, stderr=pipe, bufsize=0)
+    try:
+        for place in range(0, len(script), size):
+            run.stdin.write(script[place : place + size])
+    except BrokenPipeError:
+        pass
+    out, err = run.communicate()
+    return Ran(run.returncode, out.decode(), err.decode())
+
+
+def reads_pieces(checks, program):
+    """The longest script, and one that is a byte too long, in pieces."""
+    most = ONE_PUT + b"# a remark\n" * ((LONGEST_SCRIPT - len(ONE_PUT)) // 11)
+    most += b"\n" * (LONGEST_SCRIPT - len(most))
+    for size in (1000, 65537, LONGEST_SCRIPT):
+        with Folder(program) as folder:
+            folder.run("make")
+            made = folder.logs()
+            got = fed(folder, most + b"\n", size)
+            checks.check(f"one byte too long, in pieces of {size}", got.is_refused(3, "script line 0") and folder.logs() == made, got)
+            got = fed(folder, most, size)
+            checks.check(f"the longest script, in pieces of {size}", got.is_fine() and got.out == DONE, got)
 
 
 def refuses_words(checks, program):
@@ -449,7 +480,7 @@ def follows_the_format(checks, program):
 def main():
     told = arguments(__doc__)
     checks = Checks(told)
-    tests = (makes_logs, writes_the_worked_log, commits_over_two_shards, writes_reports, refuses_scripts, refuses_words, tells_faults)
+    tests = (makes_logs, writes_the_worked_log, commits_over_two_shards, writes_reports, refuses_scripts, reads_pieces, refuses_words, tells_faults)
     for test in (*tests, refuses_logs, loads, loads_in_any_order, follows_documents, follows_the_format):
         test(checks, told.program)
     checks.end()

@@ -1,0 +1,65 @@
+"""Which transactions of a script stand in logs that a run left: each is there whole or not at all, and no earlier one of its session is missing."""
+
+import logs
+import reports
+
+
+def writes_alone(transaction):
+    """The last value of each key that it writes, None for none."""
+    return {line[1]: line[2] if line[0] == "put" else None for line in transaction.lines if line[0] in ("put", "del")}
+
+
+def writes_of(script):
+    """What the transactions of each session write that commit, but those that write nothing."""
+    sessions = [[writes_alone(it) for it in session if it.commits] for session in reports.sessions_of(script)]
+    return [[it for it in session if it] for session in sessions]
+
+
+def members(opened, run):
+    """The transactions of a run that are committed in some log, with what they wrote in all of them."""
+    found = {it: {} for facts in opened for it in facts.committed if it[0] == run}
+    for facts in opened:
+        for record in facts.records:
+            if record[0] == "UPDATE" and record[1] in found:
+                found[record[1]][record[2]] = record[4]
+    return found
+
+
+def is_of(wrote, wanted):
+    """Whether this is what a transaction wrote that leaves these values. To take away what isn't there writes nothing."""
+    return wrote == {key: value for key, value in wanted.items() if value is not None or key in wrote}
+
+
+def is_passed_over(wanted, may_miss):
+    """Whether a later one of its session may stand where this one doesn't: it only takes away, and so may have written nothing, or was given up."""
+    return may_miss or all(value is None for value in wanted.values())
+
+
+def wrong_in_session(wanted, done, may_miss):
+    """What is wrong in the members of one session, by rising serials, if anything."""
+    left = iter(wanted)
+    for name, wrote in done:
+        other = next((it for it in left if is_of(wrote, it) or not is_passed_over(it, may_miss)), None)
+        if other is None or not is_of(wrote, other):
+            return f"transaction {name} wrote {wrote}; the next of its session was to leave {other}"
+    return None
+
+
+def by_session(script, files, run):
+    """What the members of each session wrote, by rising serials, with their names."""
+    done = sorted(members(logs.opened(files)[1], run).items())
+    return [[it for it in done if it[0][1] == number] for number in range(1, len(reports.sessions_of(script)) + 1)]
+
+
+def wrong_in(script, files, run, may_miss=False):
+    """What is wrong in the members of a run of a script without moves; None where all is well. Earlier ones of a session may be missing where
+    transactions may have been given up."""
+    found = [wrong_in_session(*it, may_miss) for it in zip(writes_of(script), by_session(script, files, run))]
+    return next((it for it in found if it), None)
+
+
+def missing(script, files, run, seen):
+    """Those of these transactions, by session and place, that are no members though they write."""
+    sessions, done = reports.sessions_of(script), by_session(script, files, run)
+    wanted = [(session, writes_alone(sessions[session][place])) for session, place in seen.items()]
+    return [it for session, it in wanted if it and not any(is_of(wrote, it) for _, wrote in done[session])]
