@@ -46,9 +46,9 @@ returns-in-Err-clause-told g c tx birth active serial run session =
     let t = c.run_try-end.ensures.tried d.tx birth d.active in
     tries_worn (g.C.SessionCalls.missed c.retry.new.self) c.args.transaction.now tx birth c.args.most c.loop.tried c.run_try-end.result c.next_after.result c.in-Err.cause (g.C.SessionCalls.seen c.args.session.now) (g.C.SessionCalls.seen c.loop.session)
     (g.C.SessionCalls.seen c.run_try-end.new.session) (g.C.SessionCalls.seen c.retry.new.self)
-      (trying_later (g.C.SessionCalls.missed c.loop.session) (g.C.SessionCalls.missed c.retry.new.self) c.args.transaction.now tx birth c.args.most c.loop.tried (g.C.SessionCalls.seen c.args.session.now) (g.C.SessionCalls.seen c.loop.session) (λ tx n es h. c.in-Err.ensures.misses tx n es (c.run_try-end.ensures.misses tx n es h)) d)
-      (tried_later (g.C.SessionCalls.missed c.run_try-end.new.session) (g.C.SessionCalls.missed c.retry.new.self) c.args.transaction.now d.tx birth c.run_try-end.result (g.C.SessionCalls.seen c.loop.session) (g.C.SessionCalls.seen c.run_try-end.new.session) c.in-Err.ensures.misses t)
-      c.in-Again.is c.next_after.ensures c.in-Err.ensures.told
+    (trying_later (g.C.SessionCalls.missed c.loop.session) (g.C.SessionCalls.missed c.retry.new.self) c.args.transaction.now tx birth c.args.most c.loop.tried (g.C.SessionCalls.seen c.args.session.now) (g.C.SessionCalls.seen c.loop.session) (λ tx n es h. c.in-Err.ensures.misses tx n es (c.run_try-end.ensures.misses tx n es h)) d)
+    (tried_later (g.C.SessionCalls.missed c.run_try-end.new.session) (g.C.SessionCalls.missed c.retry.new.self) c.args.transaction.now d.tx birth c.run_try-end.result (g.C.SessionCalls.seen c.loop.session) (g.C.SessionCalls.seen c.run_try-end.new.session) c.in-Err.ensures.misses t)
+    c.in-Again.is c.next_after.ensures c.in-Err.ensures.told
 
 pub returns-in-Done-clause-told : goal.returns-in-Done-clause-told
 returns-in-Done-clause-told g c tx birth active serial run session =
@@ -56,8 +56,8 @@ returns-in-Done-clause-told g c tx birth active serial run session =
     let t = c.run_try-end.ensures.tried d.tx birth d.active in
     tries_done (g.C.SessionCalls.missed c.run_try-end.new.session) c.args.transaction.now tx birth c.args.most c.loop.tried c.run_try-end.result c.next_after.result (g.C.SessionCalls.seen c.args.session.now) (g.C.SessionCalls.seen c.loop.session)
     (g.C.SessionCalls.seen c.run_try-end.new.session)
-      (trying_later (g.C.SessionCalls.missed c.loop.session) (g.C.SessionCalls.missed c.run_try-end.new.session) c.args.transaction.now tx birth c.args.most c.loop.tried (g.C.SessionCalls.seen c.args.session.now) (g.C.SessionCalls.seen c.loop.session) c.run_try-end.ensures.misses d) t
-      c.in-Done.is c.next_after.ensures
+    (trying_later (g.C.SessionCalls.missed c.loop.session) (g.C.SessionCalls.missed c.run_try-end.new.session) c.args.transaction.now tx birth c.args.most c.loop.tried (g.C.SessionCalls.seen c.args.session.now) (g.C.SessionCalls.seen c.loop.session) c.run_try-end.ensures.misses d) t
+    c.in-Done.is c.next_after.ensures
 
 pub returns-in-Done-clause-idle : goal.returns-in-Done-clause-idle
 returns-in-Done-clause-idle g c =
@@ -72,5 +72,5 @@ returns-in-Stop-clause-told g c tx birth active serial run session =
     let t = c.run_try-end.ensures.tried d.tx birth d.active in
     tries_stopped (g.C.SessionCalls.missed c.run_try-end.new.session) c.args.transaction.now tx birth c.args.most c.loop.tried c.run_try-end.result c.next_after.result c.in-Stop.cause (g.C.SessionCalls.seen c.args.session.now) (g.C.SessionCalls.seen c.loop.session)
     (g.C.SessionCalls.seen c.run_try-end.new.session)
-      (trying_later (g.C.SessionCalls.missed c.loop.session) (g.C.SessionCalls.missed c.run_try-end.new.session) c.args.transaction.now tx birth c.args.most c.loop.tried (g.C.SessionCalls.seen c.args.session.now) (g.C.SessionCalls.seen c.loop.session) c.run_try-end.ensures.misses d) t
-      c.in-Stop.is c.next_after.ensures
+    (trying_later (g.C.SessionCalls.missed c.loop.session) (g.C.SessionCalls.missed c.run_try-end.new.session) c.args.transaction.now tx birth c.args.most c.loop.tried (g.C.SessionCalls.seen c.args.session.now) (g.C.SessionCalls.seen c.loop.session) c.run_try-end.ensures.misses d) t
+    c.in-Stop.is c.next_after.ensures
