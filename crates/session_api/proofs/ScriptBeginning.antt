@@ -22,12 +22,12 @@ use Rattle.session_api.specs.Standing.{Holds, active_as, standing_of, seen_in}
 use Rattle.session_api.specs.Grounds.{Grounds}
 use Rattle.session_api.specs.Ends.{BeginEnds, RetryEnds}
 use Rattle.session_api.proofs.Standings.{unasked_born, never_idle, asked_idle, idle_again, none_again, stays_grown, worn_still}
-use Rattle.session_api.proofs.Taking.{held_so}
+use Rattle.session_api.proofs.Taking.{HoldsOn, held_so}
 
 module _ {M S G : Type 0} (sh : Shards M S G) where
   -- what a beginning leaves, tells, and is stopped by
   abbrev pub BeginDone : Walker M S G → Progress → Result Unit StopCause → Shards M S G → Walker M S G → Progress → Type 0
-  BeginDone w s e after v t = Holds after v t × BeginTold e (seen_in sh w s) (seen_in after v t) × IfErr e (Grounds v)
+  BeginDone w s e after v t = HoldsOn sh w after v t × BeginTold e (seen_in sh w s) (seen_in after v t) × IfErr e (Grounds v)
 
   -- ---- where none is active
 
@@ -72,7 +72,7 @@ module _ {M S G : Type 0} (sh : Shards M S G) where
   -- ---- where the last one ended by an abort
 
   abbrev pub RetryDone : Walker M S G → Progress → Result Unit StopCause → Shards M S G → Walker M S G → Progress → Type 0
-  RetryDone w s e after v t = Holds after v t × ((birth : Birth) → standing_of s ≡ Idle (Some birth) → RetryTold birth e (seen_in sh w s) (seen_in after v t)) × IfErr e (Grounds v)
+  RetryDone w s e after v t = HoldsOn sh w after v t × ((birth : Birth) → standing_of s ≡ Idle (Some birth) → RetryTold birth e (seen_in sh w s) (seen_in after v t)) × IfErr e (Grounds v)
 
   -- it is this one
   abbrev pub LastIs : Walker M S G → Progress → Birth → Result TxId RetryError → Walker M S G → Progress → Type 0

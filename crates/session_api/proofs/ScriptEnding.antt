@@ -19,6 +19,7 @@ use Rattle.cluster_turns.specs.CallTurns.{Turn, Took, FindsDown, FindsWorn, Foun
 use Rattle.cluster_turns.proofs.Laws.{worn_is_last}
 use Rattle.session_ops.specs.Requested.{IsTurnOf}
 use Rattle.session_ops.specs.Dropped.{Dropping, IsLeft}
+use Rattle.session_ops.specs.Standings.{IsUnasked}
 use Rattle.session_ops.specs.declared.settled_looking.SettleError.{SettleError}
 use Rattle.session_ops.specs.declared.settled_looking.SettleError.TheVariants as settle
 use Rattle.session_ops.specs.declared.committing.Settled.{Settled}
@@ -44,9 +45,9 @@ use Rattle.session_api.specs.Seeing.{seen_as, touched_in, is_active, by_phase, a
 use Rattle.session_api.proofs.Committing.{commits_tell}
 use Rattle.session_api.proofs.Leaving.{aborts_tell}
 use Rattle.session_api.specs.Standing.{Holds, active_as, standing_of, seen_in}
-use Rattle.session_api.specs.Grounds.{Grounds}
+use Rattle.session_api.specs.Grounds.{Grounds, HasMissed}
 use Rattle.session_api.proofs.Standings.{read_active, of_this, idle_active, asked_active, stays_grown, worn_still}
-use Rattle.session_api.proofs.Taking.{found_down, grounds_stay, held_after, held_so}
+use Rattle.session_api.proofs.Taking.{HoldsOn, found_down, grounds_stay, held_after, held_so}
 use Rattle.session_api.proofs.ScriptOperating.{IsUnderWay}
 use Rattle.law_base.proofs.Shards.{touching_is as touching_phase}
 use Rattle.session_ops.proofs.Laws.{any_before, any_after as any_behind}
@@ -149,14 +150,14 @@ module _ {M S G : Type 0} (sh : Shards M S G) where
   -- ---- commits
 
   pub record EndsSo (w : Walker M S G) (s : Progress) (e : TryEnd) (after : Shards M S G) (v : Walker M S G) (t : Progress) : Type 0 where
-    pub holds : Holds after v t
+    pub holds : HoldsOn sh w after v t
     pub told : (tx : TxId) (birth : Birth) (nth : ℕ) (touched : ℕ → Bool) → standing_of s ≡ Active tx birth nth touched → CommitTold tx birth nth touched e (seen_in sh w s) (seen_in after v t)
     pub grounds : OnStop (Grounds v) e
 
   abbrev pub CommitDone : Walker M S G → Progress → Result Settled CommitError → Walker M S G → Progress → Type 0
   CommitDone w s r v t = (e : Result Settled CommitFailure) × (r ≡ commit_told e) × EndsSo w s (commit_end e) sh v t
 
-  commit_holds : (w v : Walker M S G) (s t : Progress) (p q : SessionState) (r : Result Settled CommitFailure) → Holds sh w s → IsSession sh v t → IsSameWalker w v → Commits (length sh.locks.items) w p r v q → Holds sh v t
+  commit_holds : (w v : Walker M S G) (s t : Progress) (p q : SessionState) (r : Result Settled CommitFailure) → Holds sh w s → IsSession sh v t → IsSameWalker w v → Commits (length sh.locks.items) w p r v q → HoldsOn sh w sh v t
   commit_holds w v s t p q r h session same (inl c) = held_so sh w v s t h session (ap (λ z. z.number) c.2) (ap (λ z. z.passes.items) c.2)
   commit_holds w v s t p q r h session same (inr c) = held_after sh w v s t ((c.2).asking ++ (c.2).rest) h session same (c.2).took
 
@@ -202,8 +203,8 @@ module _ {M S G : Type 0} (sh : Shards M S G) where
   -- ---- aborts
 
   pub record Aborts (w : Walker M S G) (s : Progress) (e : Result Unit StopCause) (after : Shards M S G) (v : Walker M S G) (t : Progress) : Type 0 where
-    pub holds : Holds after v t
-    pub told : (tx : TxId) (birth : Birth) (nth : ℕ) (touched : ℕ → Bool) → standing_of s ≡ Active tx birth nth touched → AbortTold tx birth touched e (seen_in sh w s) (seen_in after v t)
+    pub holds : HoldsOn sh w after v t
+    pub told : (tx : TxId) (birth : Birth) (nth : ℕ) (touched : ℕ → Bool) → standing_of s ≡ Active tx birth nth touched → AbortTold (HasMissed v) tx birth touched e (seen_in sh w s) (seen_in after v t)
     pub grounds : IfErr e (Grounds v)
     pub keeps : (cause : StopCause) → Grounds w cause → Grounds v cause
 
@@ -224,8 +225,8 @@ module _ {M S G : Type 0} (sh : Shards M S G) where
   abort_grounds w v p (Err worn) d = worn_is_last worn.at w.number w.clock v.clock w.passes.items v.passes.items d.turns d.took d.told
 
   -- of the place p, which the session's standing is
-  abort_made : (w v : Walker M S G) (s : Progress) (p : SessionState) (t : Progress) (r : Result Unit AbortError) → standing_of s ≡ active_as p p.birth → Holds sh w s → IsSession sh v t → AbortMade sh w p r v t → AbortDone w s r v t
-  abort_made w v s p t r stands h session m =
+  abort_made : (w v : Walker M S G) (s : Progress) (p : SessionState) (t : Progress) (r : Result Unit AbortError) → standing_of s ≡ active_as p p.birth → IsUnasked sh w p → Holds sh w s → IsSession sh v t → AbortMade sh w p r v t → AbortDone w s r v t
+  abort_made w v s p t r stands unasked h session m =
       let d = m.drops in (
         m.answer,
         m.is,
@@ -233,10 +234,10 @@ module _ {M S G : Type 0} (sh : Shards M S G) where
           holds = held_after sh w v s t d.turns h session m.walker d.took;
           told = λ tx birth nth touched st. (
               let of = read_active p p.birth tx birth nth touched (sym stands ∙ st) in
-              of_this p p.birth tx birth nth touched of (λ x k f. AbortTold x birth f (abort_end m.answer) (seen_in sh w s) (seen_in sh v t))
-              (subst (λ x. AbortTold p.tx birth (touched_in p.touched) (abort_end m.answer) (seen_as sh w x) (seen_in sh v t)) (sym (stands ∙ ap (active_as p) of.birth_is))
-              (subst (λ x. AbortTold p.tx birth (touched_in p.touched) (abort_end m.answer) (seen_as sh w (is_active p birth)) (seen_as sh v x)) (sym (ap standing_of m.then ∙ abort_leaves_so m.place birth m.answer (left_birth p m.place m.left ∙ of.birth_is)))
-              (aborts_tell M S G Unit sh w v p birth m.answer (active_as m.place (m.place).birth) of.birth_is m.walker d)))
+              of_this p p.birth tx birth nth touched of (λ x k f. AbortTold (HasMissed v) x birth f (abort_end m.answer) (seen_in sh w s) (seen_in sh v t))
+              (subst (λ x. AbortTold (HasMissed v) p.tx birth (touched_in p.touched) (abort_end m.answer) (seen_as sh w x) (seen_in sh v t)) (sym (stands ∙ ap (active_as p) of.birth_is))
+              (subst (λ x. AbortTold (HasMissed v) p.tx birth (touched_in p.touched) (abort_end m.answer) (seen_as sh w (is_active p birth)) (seen_as sh v x)) (sym (ap standing_of m.then ∙ abort_leaves_so m.place birth m.answer (left_birth p m.place m.left ∙ of.birth_is)))
+              (aborts_tell M S G Unit sh w v p birth m.answer (active_as m.place (m.place).birth) unasked of.birth_is m.walker d)))
               );
           grounds = abort_grounds w v p m.answer d;
           keeps = grounds_stay w v d.turns d.took;
@@ -245,8 +246,8 @@ module _ {M S G : Type 0} (sh : Shards M S G) where
 
   pub abort_done : (w v : Walker M S G) (s t : Progress) (r : Result Unit AbortError) → Holds sh w s → IsUnderWay sh s → AbortCalled sh w s r v t → IsSession sh v t → AbortDone w s r v t
   abort_done w v progress.Idle t r h way c session = idle_active None way.0 way.1 way.2 way.3 way.4
-  abort_done w v (progress.Active p) t r h way c session = abort_made w v (progress.Active p) p t r refl h session c
-  abort_done w v (progress.Worn p) t r h way c session = abort_made w v (progress.Worn p) p t r refl h session c
+  abort_done w v (progress.Active p) t r h way c session = abort_made w v (progress.Active p) p t r refl (inl (h.session).stands) h session c
+  abort_done w v (progress.Worn p) t r h way c session = abort_made w v (progress.Worn p) p t r refl ((h.session).stands).0 h session c
   abort_done w v (progress.Asked p home) t r h way c session = asked_active way.0 way.1 way.2 way.3 way.4
   abort_done w v (progress.Ended p) t r h way c session = idle_active p.birth way.0 way.1 way.2 way.3 way.4
 

@@ -37,7 +37,7 @@ use Rattle.session_api.proofs.Scanning.{scans_tell}
 use Rattle.session_api.specs.Standing.{Holds, active_as, standing_of, seen_in}
 use Rattle.session_api.specs.Grounds.{Grounds}
 use Rattle.session_api.proofs.Standings.{IsOf, read_active, of_this, idle_active, asked_active, stays_grown, worn_still}
-use Rattle.session_api.proofs.Taking.{found_down, held_after, held_so}
+use Rattle.session_api.proofs.Taking.{HoldsOn, found_down, held_after, held_so}
 use Rattle.session_api.proofs.Parts.{HasPart, scan_has_part, point_has_part, begun_with_none}
 use Rattle.session_ops.proofs.Laws.{any_before}
 
@@ -58,7 +58,7 @@ module _ {M S G : Type 0} (sh : Shards M S G) where
   -- ---- what an operation leaves, tells, and is stopped by
 
   pub record Done (w : Walker M S G) (s : Progress) (op : Op) (end : Result Answer TryEnd) (after : Shards M S G) (v : Walker M S G) (t : Progress) : Type 0 where
-    pub holds : Holds after v t
+    pub holds : HoldsOn sh w after v t
     pub told : (tx : TxId) (birth : Birth) (nth : ℕ) (touched : ℕ → Bool) → standing_of s ≡ Active tx birth nth touched → OperateTold tx birth nth touched op end (seen_in sh w s) (seen_in after v t)
     pub grounds : OnRefusal (Grounds v) end
 
