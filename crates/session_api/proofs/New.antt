@@ -114,7 +114,7 @@ ready_walker M S G sh w (progress.Worn p) h = unasked_walker h.0
     unasked_walker : IsUnasked sh w p → IsWalker sh w
     unasked_walker (inl active) = (active.ready).walker
     unasked_walker (inr ending) = ((ending.over).ready).walker
-ready_walker M S G sh w (progress.Asked p home) h = (h.ready).walker
+ready_walker M S G sh w (progress.Asked p home stamp) h = (h.0.ready).walker
 ready_walker M S G sh w (progress.Ended p) h = (h.ready).walker
 
 pub sessions_rest : (M S G : Type 0) → SessionsRest M S G

@@ -35,7 +35,7 @@ module _ {M S G : Type 0} (sh : Shards M S G) where
   begun_next w v progress.Idle t again r h idle c = c
   begun_next w v (progress.Active p) t again r h idle c = let b = ((h.session).stands).born in never_idle p p.birth b.birth again b.is idle
   begun_next w v (progress.Worn p) t again r h idle c = let b = unasked_born sh w p ((h.session).stands).0 in never_idle p p.birth b.birth again b.is idle
-  begun_next w v (progress.Asked p home) t again r h idle c = c
+  begun_next w v (progress.Asked p home stamp) t again r h idle c = c
   begun_next w v (progress.Ended p) t again r h idle c = c
 
   none_active : (w v : Walker M S G) (s t : Progress) (r : Result TxId BeginError) (tx : TxId) → BegunNext sh w s r v t → r ≢ Err (begin.Active tx)
@@ -82,7 +82,7 @@ module _ {M S G : Type 0} (sh : Shards M S G) where
   last_is w v progress.Idle t birth r h idle c = none_again birth idle
   last_is w v (progress.Active p) t birth r h idle c = let b = ((h.session).stands).born in never_idle p p.birth b.birth (Some birth) b.is idle
   last_is w v (progress.Worn p) t birth r h idle c = let b = unasked_born sh w p ((h.session).stands).0 in never_idle p p.birth b.birth (Some birth) b.is idle
-  last_is w v (progress.Asked p home) t birth r h idle c = asked_idle (Some birth) idle
+  last_is w v (progress.Asked p home stamp) t birth r h idle c = asked_idle (Some birth) idle
   last_is w v (progress.Ended p) t birth r h idle c = (p, refl, idle_again p.birth (Some birth) idle, c)
 
   none_refused : (w v : Walker M S G) (last : SessionState) (t : Progress) (r : Result TxId RetryError) → RetriedNext sh w last r v t → ((tx : TxId) → r ≢ Err (retry.Active tx)) × (r ≢ Err retry.NoRetry)

@@ -120,7 +120,7 @@ module _ {M S G : Type 0} (sh : Shards M S G) where
   point_done w v progress.Idle t key op r h way is_at c session = idle_active None way.0 way.1 way.2 way.3 way.4
   point_done w v (progress.Active p) t key op r h way is_at c session = point_made w v p t key op r h session is_at c
   point_done w v (progress.Worn p) t key op r h way is_at c session = (Err (failed.Worn (2 ^ 48)), c.0, worn_done w v p t op h session (point_has_part sh.splits key op is_at) c.1 c.2)
-  point_done w v (progress.Asked p home) t key op r h way is_at c session = asked_active way.0 way.1 way.2 way.3 way.4
+  point_done w v (progress.Asked p home stamp) t key op r h way is_at c session = asked_active way.0 way.1 way.2 way.3 way.4
   point_done w v (progress.Ended p) t key op r h way is_at c session = idle_active p.birth way.0 way.1 way.2 way.3 way.4
 
   -- ---- scans
@@ -159,7 +159,7 @@ module _ {M S G : Type 0} (sh : Shards M S G) where
   range_done w v progress.Idle t lo hi r h way falls small c session = idle_active None way.0 way.1 way.2 way.3 way.4
   range_done w v (progress.Active p) t lo hi r h way falls small c session = scan_made w v p t lo hi r h session falls small c
   range_done w v (progress.Worn p) t lo hi r h way falls small c session = (Err (failed.Worn (2 ^ 48)), c.0, worn_done w v p t (Scan lo hi) h session (scan_has_part sh.splits lo hi h.splits falls small) c.1 c.2)
-  range_done w v (progress.Asked p home) t lo hi r h way falls small c session = asked_active way.0 way.1 way.2 way.3 way.4
+  range_done w v (progress.Asked p home stamp) t lo hi r h way falls small c session = asked_active way.0 way.1 way.2 way.3 way.4
   range_done w v (progress.Ended p) t lo hi r h way falls small c session = idle_active p.birth way.0 way.1 way.2 way.3 way.4
 
   -- the bounds don't fall

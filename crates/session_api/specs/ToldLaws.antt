@@ -55,7 +55,7 @@ AbortsTell M S G A =
 -- a commit's are its request, a look that was told its decision, and drops where it was aborted
 abbrev pub CommitsTell : (M S G : Type 0) → Type 0
 CommitsTell M S G =
-    (sh : Shards M S G) (w v : Walker M S G) (p q : SessionState) (birth : Birth) (r : Result Settled CommitError) → IsActive sh w p → p.birth ≡ Some birth → IsSameWalker w v → Commits (length sh.locks.items) w p r v q
+    (sh : Shards M S G) (w v : Walker M S G) (p q : SessionState) (birth : Birth) (stamp : ℕ) (r : Result Settled CommitError) → IsActive sh w p → p.birth ≡ Some birth → IsSameWalker w v → Commits (length sh.locks.items) w p stamp r v q
     → StandsAs sh v q
     → CommitTold p.tx birth p.nth (touched_in p.touched) (commit_end r) (seen_as sh w (is_active p birth)) (seen_as sh v (after_commit q birth r))
 
