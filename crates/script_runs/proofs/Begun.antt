@@ -4,7 +4,7 @@ use Rattle.std.specs.Result.{is_ok}
 use Rattle.std.proofs.lemmas.List.{take_all, get_or_append_left}
 use borrow.Rule.Slice.PartMut.{put_mid}
 use Rattle.script_runs.specs.declared.ends.StopCause.{StopCause}
-use Rattle.script_runs.specs.Seen.{Seen}
+use Rattle.script_runs.specs.Seen.{Seen, Misses, Keeps}
 use Rattle.script_runs.specs.Ran.{stop_in, IsIdle, IdleAfter, Follows}
 use Rattle.script_runs.specs.Laws.{SessionsGoOn, SessionsStop}
 use Rattle.script_runs.specs.declared.seats.Seat.{Seat}
@@ -35,20 +35,22 @@ module _ {X : Type 0} (P : X → Type 0) where
 
 -- ---- seats
 
-module _ {S B : Type 0} (holds : S → Type 0) (base : S → B) (seen : S → Seen) (grounds : S → StopCause → Type 0) (most : Option ℕ) where
+module _ {S B : Type 0} (holds : S → Type 0) (base : S → B) (seen : S → Seen) (grounds : S → StopCause → Type 0) (missed : S → Misses) (most : Option ℕ) where
   -- the session of a seat ran
   pub record Sat (old new : Seat S) : Type 0 where
     pub session : holds new.session
     pub base_is : base new.session ≡ base old.session
+    pub misses : Keeps (missed old.session) (missed new.session)
     pub transactions : new.transactions.now ≡ old.transactions.now
-    pub follows : Follows old.transactions.now most (stop_in new.ended) (seen old.session) (seen new.session)
+    pub follows : Follows (missed new.session) old.transactions.now most (stop_in new.ended) (seen old.session) (seen new.session)
     pub stopped : IfErr new.ended (grounds new.session)
 
   -- it ran its first transaction
   pub record Begun (old new : Seat S) : Type 0 where
     pub session : holds new.session
     pub base_is : base new.session ≡ base old.session
-    pub begun : HasBegun old.transactions.now new.transactions.now most (stop_in new.ended) (seen old.session) (seen new.session)
+    pub misses : Keeps (missed old.session) (missed new.session)
+    pub begun : HasBegun (missed new.session) old.transactions.now new.transactions.now most (stop_in new.ended) (seen old.session) (seen new.session)
     pub stopped : IfErr new.ended (grounds new.session)
 
   abbrev given_back : Seat S → Seat S → Seat S
@@ -58,20 +60,21 @@ module _ {S B : Type 0} (holds : S → Type 0) (base : S → B) (seen : S → Se
   fine (Ok a) h = refl
   fine (Err cause) h = absurd cc
 
-  joined : SessionsGoOn → (x s y : Seat S) → Begun x s → is_ok s.ended ≡ true → Sat s y → Sat x (given_back x y)
+  joined : SessionsGoOn missed → (x s y : Seat S) → Begun x s → is_ok s.ended ≡ true → Sat s y → Sat x (given_back x y)
   joined go_on x s y b ok r =
       record {
         session = r.session;
         base_is = r.base_is ∙ b.base_is;
+        misses = λ tx n es h. r.misses tx n es (b.misses tx n es h);
         transactions = refl;
         follows =
-            subst (λ bodies. Follows bodies most (stop_in y.ended) (seen x.session) (seen y.session)) (sym (b.begun).whole_is)
-            (go_on (b.begun).front s.transactions.now most (stop_in y.ended) (seen x.session) (seen s.session) (seen y.session)
-            (subst (λ c. Follows (b.begun).front most c (seen x.session) (seen s.session)) (fine s.ended ok) (b.begun).follows) r.follows);
+            subst (λ bodies. Follows (missed y.session) bodies most (stop_in y.ended) (seen x.session) (seen y.session)) (sym (b.begun).whole_is)
+            (go_on s.session y.session (b.begun).front s.transactions.now most (stop_in y.ended) (seen x.session) (seen s.session) (seen y.session) r.misses
+            (subst (λ c. Follows (missed s.session) (b.begun).front most c (seen x.session) (seen s.session)) (fine s.ended ok) (b.begun).follows) r.follows);
         stopped = r.stopped;
       }
 
-  pub all_joined : SessionsGoOn → (xs : List (Seat S)) (s : Seat S) (ys : List (Seat S)) (p q r : Seat S) → length ys ≡ length (slice_set xs 0 s) → Begun (slice_index_or xs 0 p) s → is_ok s.ended ≡ true
+  pub all_joined : SessionsGoOn missed → (xs : List (Seat S)) (s : Seat S) (ys : List (Seat S)) (p q r : Seat S) → length ys ≡ length (slice_set xs 0 s) → Begun (slice_index_or xs 0 p) s → is_ok s.ended ≡ true
       → ((k : ℕ) (d : Seat S) → k < length (slice_set xs 0 s) → Sat (slice_index_or (slice_set xs 0 s) k d) (slice_index_or ys k d))
       → (k : ℕ) (d : Seat S) → k < length xs → Sat (slice_index_or xs k d) (slice_index_or (slice_set ys 0 (given_back (slice_index_or xs 0 q) (slice_index_or ys 0 r))) k d)
   all_joined go_on [] s ys p q r len b ok all k d l = absurd (omega arith)
@@ -79,22 +82,22 @@ module _ {S B : Type 0} (holds : S → Type 0) (base : S → B) (seen : S → Se
   all_joined go_on (x ∷ xs) s (y ∷ ys) p q r len b ok all zero d l = joined go_on x s y b ok (all 0 d (omega arith))
   all_joined go_on (x ∷ xs) s (y ∷ ys) p q r len b ok all (suc k) d l = all (suc k) d l
 
-  ended_so : SessionsStop → (x s : Seat S) (e : Result (Unit {0}) StopCause) → s.ended ≡ e → is_ok e ≡ false → Begun x s → Follows x.transactions.now most (stop_in e) (seen x.session) (seen s.session)
+  ended_so : SessionsStop missed → (x s : Seat S) (e : Result (Unit {0}) StopCause) → s.ended ≡ e → is_ok e ≡ false → Begun x s → Follows (missed s.session) x.transactions.now most (stop_in e) (seen x.session) (seen s.session)
   ended_so stop x s (Ok a) is off b = absurd cc
   ended_so stop x s (Err cause) is off b =
-      subst (λ bodies. Follows bodies most (Some cause) (seen x.session) (seen s.session)) (sym (b.begun).whole_is)
-      (stop (b.begun).front s.transactions.now most cause (seen x.session) (seen s.session) (subst (λ e. Follows (b.begun).front most (stop_in e) (seen x.session) (seen s.session)) is (b.begun).follows))
+      subst (λ bodies. Follows (missed s.session) bodies most (Some cause) (seen x.session) (seen s.session)) (sym (b.begun).whole_is)
+      (stop s.session (b.begun).front s.transactions.now most cause (seen x.session) (seen s.session) (subst (λ e. Follows (missed s.session) (b.begun).front most (stop_in e) (seen x.session) (seen s.session)) is (b.begun).follows))
 
-  stopped_at : SessionsStop → (x s : Seat S) → is_ok s.ended ≡ false → Begun x s → Sat x (given_back x s)
-  stopped_at stop x s off b = record { session = b.session; base_is = b.base_is; transactions = refl; follows = ended_so stop x s s.ended refl off b; stopped = b.stopped }
+  stopped_at : SessionsStop missed → (x s : Seat S) → is_ok s.ended ≡ false → Begun x s → Sat x (given_back x s)
+  stopped_at stop x s off b = record { session = b.session; base_is = b.base_is; misses = b.misses; transactions = refl; follows = ended_so stop x s s.ended refl off b; stopped = b.stopped }
 
   -- the others ran, and the first was stopped
-  behind : SessionsStop → (x s : Seat S) (xs ys rest : List (Seat S)) (r : Seat S) → length ys ≡ length xs → Begun x s → is_ok s.ended ≡ false → ((k : ℕ) (d : Seat S) → k < length xs → Sat (slice_index_or xs k d) (slice_index_or ys k d))
+  behind : SessionsStop missed → (x s : Seat S) (xs ys rest : List (Seat S)) (r : Seat S) → length ys ≡ length xs → Begun x s → is_ok s.ended ≡ false → ((k : ℕ) (d : Seat S) → k < length xs → Sat (slice_index_or xs k d) (slice_index_or ys k d))
       → (k : ℕ) (d : Seat S) → k < length (x ∷ xs) → Sat (slice_index_or (x ∷ xs) k d) (slice_index_or (given_back x s ∷ (ys ++ rest)) k d)
   behind stop x s xs ys rest r len b off all zero d l = stopped_at stop x s off b
   behind stop x s xs ys rest r len b off all (suc k) d l = subst (Sat (slice_index_or xs k d)) (sym (get_or_append_left ys rest d k (omega arith))) (all k d (omega arith))
 
-  pub all_behind : SessionsStop → (xs : List (Seat S)) (s : Seat S) (ys zs : List (Seat S)) (p q r : Seat S) → zs ≡ put_mid 1 (length (slice_set xs 0 s) - 1) (slice_set xs 0 s) ys
+  pub all_behind : SessionsStop missed → (xs : List (Seat S)) (s : Seat S) (ys zs : List (Seat S)) (p q r : Seat S) → zs ≡ put_mid 1 (length (slice_set xs 0 s) - 1) (slice_set xs 0 s) ys
       → length ys ≡ length (take (length (slice_set xs 0 s) - 1) (drop 1 (slice_set xs 0 s))) → Begun (slice_index_or xs 0 p) s → is_ok s.ended ≡ false
       → ((k : ℕ) (d : Seat S) → k < length (take (length (slice_set xs 0 s) - 1) (drop 1 (slice_set xs 0 s))) → Sat (slice_index_or (take (length (slice_set xs 0 s) - 1) (drop 1 (slice_set xs 0 s))) k d) (slice_index_or ys k d))
       → (k : ℕ) (d : Seat S) → k < length xs → Sat (slice_index_or xs k d) (slice_index_or (slice_set zs 0 (given_back (slice_index_or xs 0 q) (slice_index_or zs 0 r))) k d)

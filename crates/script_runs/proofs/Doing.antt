@@ -22,7 +22,7 @@ use Rattle.script_lang.specs.declared.following.Stage.TheVariants.{AtLine, Secon
 use Rattle.script_runs.specs.Operations.{IsOperation, AreOperations, no_operation, operation}
 use Rattle.script_runs.specs.Tries.{is_touched, ops_so_far}
 use Rattle.script_runs.specs.Seen.{Active, Seen, Grows, untouched}
-use Rattle.script_runs.specs.Told.{has_range, TouchesBy}
+use Rattle.script_runs.specs.Told.{has_range, TouchesBy, TouchesJust}
 use Rattle.script_runs.specs.Lines.{HasDone}
 
 -- ---- growing
@@ -87,6 +87,17 @@ touches_on touched after es here only by n h =
     at (inl t) = or_left (is_touched es n) (is_touched here n) (only n t)
     at (inr t) = or_right (is_touched es n) (is_touched here n) t
 
+either : (a b : Bool) → (a || b) ≡ true → (a ≡ true) ⊎ (b ≡ true)
+either true b h = inl refl
+either false b h = inr h
+
+pub touches_all : (touched after : ℕ → Bool) (es here : History) → ((n : ℕ) → is_touched es n ≡ true → touched n ≡ true) → TouchesJust touched here after → (n : ℕ) → is_touched (es ++ here) n ≡ true → after n ≡ true
+touches_all touched after es here all by n h = at (either (is_touched es n) (is_touched here n) (sym (list_any-append (λ e. e.0 == n) es here) ∙ h))
+  where
+    at : (is_touched es n ≡ true) ⊎ (is_touched here n ≡ true) → after n ≡ true
+    at (inl t) = by.stay n (all n t)
+    at (inr t) = by.new n t
+
 -- ---- ranges
 
 range_narrow : (op : Op) → is_narrow_op op ≡ true → has_range op ≡ true
@@ -137,12 +148,12 @@ pub nothing_done : (tx : TxId) (birth : Birth) (lines : List Action) (u : Seen) 
 nothing_done tx birth lines u f is place =
     record {
       done =
-          record { answers = []; entries = []; touched = untouched; operations = no_operation 1; grows = grows_none u; standing_is = is; only = λ n h. absurd (both_ways false refl h) };
+          record { answers = []; entries = []; touched = untouched; operations = no_operation 1; grows = grows_none u; standing_is = is; only = λ n h. absurd (both_ways false refl h); all = λ n h. absurd (both_ways false refl h) };
       place = place;
     }
 
 pub one_done : (tx : TxId) (birth : Birth) (lines : List Action) (u v w : Seen) (f g : Following) (op : Op) (answer : Answer) (d : Doing tx birth lines u v f) → next_op lines d.done.answers ≡ Some op
-    → (here : History) (after : ℕ → Bool) → IsOperation v.splits tx birth (suc (length d.done.answers)) op answer here → TouchesBy d.done.touched here after → Grows here v w
+    → (here : History) (after : ℕ → Bool) → IsOperation v.splits tx birth (suc (length d.done.answers)) op answer here → TouchesJust d.done.touched here after → Grows here v w
     → w.standing ≡ Active tx birth (suc (length d.done.answers)) after → StandsAt lines (d.done.answers ++ answer ∷ []) g → Doing tx birth lines u w g
 one_done tx birth lines u v w f g op answer d next here after is by grows standing place =
     let a = d.done.answers in
@@ -158,7 +169,8 @@ one_done tx birth lines u v w f g op answer d next here after is by grows standi
             operations = subst (λ ops. AreOperations u.splits tx birth 1 ops (a ++ answer ∷ []) (d.done.entries ++ here)) (sym (ops_go_on lines a answer op f d.place next)) more;
             grows = grows_on d.done.entries here u v w d.done.grows grows;
             standing_is = standing ∙ ap (λ n. Active tx birth n after) (sym long);
-            only = touches_on d.done.touched after d.done.entries here d.done.only by;
+            only = touches_on d.done.touched after d.done.entries here d.done.only by.only;
+            all = touches_all d.done.touched after d.done.entries here d.done.all by;
           };
       place = place;
     }

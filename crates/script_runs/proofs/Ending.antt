@@ -1,5 +1,5 @@
 -- The end of a try.
-use Rattle.std.proofs.Common.{◌≡◌, refl, sym, ap, subst, ◌∙◌, inl, inr, ℕ, suc, Bool, true, List, [], ◌∷◌, ◌++◌, length, append-nil, Option, Some, None, Result, Ok, Err, arith}
+use Rattle.std.proofs.Common.{◌≡◌, refl, sym, ap, subst, ◌∙◌, ◌⊎◌, inl, inr, ℕ, suc, Bool, true, List, [], ◌∷◌, ◌++◌, length, append-nil, append_assoc, Option, Some, None, Result, Ok, Err, arith}
 use Rattle.clv_base.specs.declared.names.TxId.{TxId}
 use Rattle.clv_base.specs.declared.names.Birth.{Birth}
 use Rattle.clv_base.specs.declared.ops.Op.{Op}
@@ -14,26 +14,31 @@ use Rattle.script_runs.specs.declared.ends.StopCause.TheVariants.{Down, Unsettle
 use Rattle.script_runs.specs.declared.ends.TryEnd.{TryEnd}
 use Rattle.script_runs.specs.declared.ends.TryEnd.TheVariants.{Acknowledged, Empty, Asked, Aborted, Stopped}
 use Rattle.script_runs.specs.Operations.{ArePartsAnswered, IsBegun, IsDeath, parts_of}
-use Rattle.script_runs.specs.Tries.{IsDone, EndsBy, AreDrops, is_touched, operation_begun, request_next, acknowledged, nothing, by_line, in_operation, at_request, at_look, down, unsettled, wanting_before, wanting_behind, unanswered, worn_at_line}
-use Rattle.script_runs.specs.Seen.{Active, Seen, Grows}
-use Rattle.script_runs.specs.Told.{AreDropsOf, OperateTold, CommitTold, AbortTold, GivenUp, IsActiveWhereDown, LineAborts, EndTold}
+use Rattle.script_runs.specs.Tries.{Try, IsDone, EndsBy, AreDrops, is_touched, operation_begun, request_next, acknowledged, nothing, by_line, in_operation, at_request, at_look, down, unsettled, wanting_before, wanting_behind, unanswered, worn_at_line}
+use Rattle.script_runs.specs.Dropped.{HasDropped, LetsGo}
+use Rattle.script_runs.specs.Seen.{Active, Seen, Misses, Grows, IsWornOut}
+use Rattle.script_runs.specs.Told.{AreDropsOf, DropsEach, OperateTold, CommitTold, AbortTold, GivenUp, IsActiveWhereDown, LineAborts, EndTold}
 use Rattle.script_runs.specs.Lines.{HasDone}
 use Rattle.script_runs.specs.Tried.{LeftBy, Tried}
-use Rattle.script_runs.proofs.Doing.{grows_on, touches_on}
+use Rattle.script_runs.proofs.Doing.{grows_on, touches_on, touches_all}
 
 -- ---- a shard that was down
 
-gives_up : (tx : TxId) (birth : Birth) (touched : ℕ → Bool) (answer : Result (Unit {0}) StopCause) (u v : Seen) → AbortTold tx birth touched answer u v → (drops : History) × AreDropsOf tx touched None drops × Grows drops u v
-gives_up tx birth touched (Ok a) u v (drops, are, grows, is) = (drops, are, grows)
-gives_up tx birth touched (Err (Worn at)) u v t = t
-gives_up tx birth touched (Err Memory) u v t = absurd t
-gives_up tx birth touched (Err (Down n)) u v t = absurd t
-gives_up tx birth touched (Err (Unsettled n)) u v t = absurd t
+-- the drops, one on each touched shard unless stamps were wanting
+abbrev LetGo : Misses → TxId → (ℕ → Bool) → Seen → Seen → Type 0
+LetGo missed tx touched u v = (drops : History) × AreDropsOf tx touched None drops × Grows drops u v × (DropsEach touched drops (λ n. missed tx n u.entries) ⊎ IsWornOut v)
 
-pub given_up : (cause : StopCause) (n : ℕ) (answer : Result (Unit {0}) StopCause) (u v : Seen) → cause ≡ Down n
-    → ((tx : TxId) (birth : Birth) (nth : ℕ) (touched : ℕ → Bool) → u.standing ≡ Active tx birth nth touched → AbortTold tx birth touched answer u v) → GivenUp (Stopped cause) u v
-given_up cause n answer u v is t =
-    subst (λ x. GivenUp (Stopped x) u v) (sym is) (λ tx birth nth touched active. gives_up tx birth touched answer u v (t tx birth nth touched active))
+gives_up : (missed : Misses) (tx : TxId) (birth : Birth) (touched : ℕ → Bool) (answer : Result (Unit {0}) StopCause) (u v : Seen) → AbortTold missed tx birth touched answer u v → LetGo missed tx touched u v
+gives_up missed tx birth touched (Ok a) u v (drops, are, grows, is, each) = (drops, are, grows, inl each)
+gives_up missed tx birth touched (Err (Worn at)) u v (drops, are, grows, worn) = (drops, are, grows, inr worn)
+gives_up missed tx birth touched (Err Memory) u v t = absurd t
+gives_up missed tx birth touched (Err (Down n)) u v t = absurd t
+gives_up missed tx birth touched (Err (Unsettled n)) u v t = absurd t
+
+pub given_up : (missed : Misses) (cause : StopCause) (n : ℕ) (answer : Result (Unit {0}) StopCause) (u v : Seen) → cause ≡ Down n
+    → ((tx : TxId) (birth : Birth) (nth : ℕ) (touched : ℕ → Bool) → u.standing ≡ Active tx birth nth touched → AbortTold missed tx birth touched answer u v) → GivenUp missed (Stopped cause) u v
+given_up missed cause n answer u v is t =
+    subst (λ x. GivenUp missed (Stopped x) u v) (sym is) (λ tx birth nth touched active. gives_up missed tx birth touched answer u v (t tx birth nth touched active))
 
 pub active_where_down : (tx : TxId) (birth : Birth) (nth : ℕ) (touched : ℕ → Bool) (end : TryEnd) (u v : Seen) → CommitTold tx birth nth touched end u v → IsActiveWhereDown end v
 active_where_down tx birth nth touched (Stopped (Down n)) u v t = (tx, birth, t.1.0, touched, t.1.1)
@@ -52,16 +57,35 @@ drops_as tx touched es left_out [] only d = tt
 drops_as tx touched es left_out (e ∷ drops) only d =
     (record { event = (d.0).event; outcome = (d.0).outcome; touched = only e.0 (d.0).on_touched; other = (d.0).other }, drops_as tx touched es left_out drops only d.1)
 
+-- each shard that its other entries touched was touched by it
+let_go : (missed : Misses) (touched : ℕ → Bool) (t : Try) (earlier before drops now : History) → t.entries ≡ before ++ drops → AreDrops t.tx before None drops → ((n : ℕ) → is_touched before n ≡ true → touched n ≡ true)
+    → now ≡ earlier ++ before → DropsEach touched drops (λ n. missed t.tx n now) → HasDropped missed t
+let_go missed touched t earlier before drops now entries only all is each = record { before = before; drops = drops; entries_are = entries; only = only; each = λ n h. at n (each n (all n h)) }
+  where
+    at : (n : ℕ) → (is_touched drops n ≡ true) ⊎ missed t.tx n now → (is_touched drops n ≡ true) ⊎ ((earlier : History) × missed t.tx n (earlier ++ before))
+    at n (inl k) = inl k
+    at n (inr k) = inr (earlier, subst (missed t.tx n) is k)
+
+-- unless stamps were wanting
+let_go_or : (missed : Misses) (touched : ℕ → Bool) (t : Try) (earlier before drops now : History) (v : Seen) → t.entries ≡ before ++ drops → AreDrops t.tx before None drops
+    → ((n : ℕ) → is_touched before n ≡ true → touched n ≡ true) → now ≡ earlier ++ before → DropsEach touched drops (λ n. missed t.tx n now) ⊎ IsWornOut v → HasDropped missed t ⊎ IsWornOut v
+let_go_or missed touched t earlier before drops now v entries only all is (inl each) = inl (let_go missed touched t earlier before drops now entries only all is each)
+let_go_or missed touched t earlier before drops now v entries only all is (inr worn) = inr worn
+
 -- with what stands behind its operations the transaction's entries are a try
-tried : (body : Body) (tx : TxId) (birth : Birth) (end : TryEnd) (u w v : Seen) (d : HasDone tx birth body.actions u w) (behind : History) → EndsBy u.splits body tx birth d.answers d.entries end behind → Grows behind w v
-    → LeftBy birth end v.standing → Tried body tx birth end u v
-tried body tx birth end u w v d behind ends grows left =
+abbrev try_with : (body : Body) (tx : TxId) (birth : Birth) (end : TryEnd) (u w : Seen) (d : HasDone tx birth body.actions u w) (behind : History) → Try
+try_with body tx birth end u w d behind = record { tx = tx; answers = d.answers; end = end; entries = d.entries ++ behind }
+
+tried : (missed : Misses) (body : Body) (tx : TxId) (birth : Birth) (end : TryEnd) (u w v : Seen) (d : HasDone tx birth body.actions u w) (behind : History) → EndsBy u.splits body tx birth d.answers d.entries end behind → Grows behind w v
+    → LeftBy birth end v.standing → LetsGo missed v.clock (try_with body tx birth end u w d behind) end → Tried missed body tx birth end u v
+tried missed body tx birth end u w v d behind ends grows left drops =
     record {
       answers = d.answers;
       entries = d.entries ++ behind;
       is_try = record { before = d.entries; behind = behind; entries_are = refl; operations = d.operations; ends = ends };
       grows = grows_on d.entries behind u w v d.grows grows;
       left = left;
+      dropped = drops;
     }
 
 no_answers : (answers : List Answer) → length answers ≡ 0 → answers ≡ []
@@ -74,76 +98,82 @@ more_touched touched es only n h = ap (λ l. is_touched l n) (append-nil es) ∙
 done_as : (body : Body) (ending : Ending) (answers : List Answer) → next_op body.actions answers ≡ None → body.ending ≡ ending → IsDone body ending answers
 done_as body ending answers all is = record { all = all; ending_is = is }
 
-committed : (body : Body) (tx : TxId) (birth : Birth) (end : TryEnd) (u w x v : Seen) (d : HasDone tx birth body.actions u w) → IsDone body Commit d.answers → CommitTold tx birth (length d.answers) d.touched end w x → GivenUp end x v
-    → Tried body tx birth end u v
-committed body tx birth Acknowledged u w x v d all (home, asked, told, a, l, grows, idle) g =
-    tried body tx birth Acknowledged u w v d (asked ∷ told ∷ []) (acknowledged home asked told all a l) (subst (Grows (asked ∷ told ∷ []) w) (sym g) grows) (ap (λ s. s.standing) g ∙ idle)
-committed body tx birth Empty u w x v d all (zero_nth, grows, idle) g =
-    tried body tx birth Empty u w v d [] (nothing all (no_answers d.answers zero_nth)) (subst (Grows [] w) (sym g) grows) (ap (λ s. s.standing) g ∙ idle)
-committed body tx birth Asked u w x v d all t g = absurd t
-committed body tx birth (Aborted cause) u w x v d all (inl (home, asked, drops, a, are, grows), idle) g =
-    tried body tx birth (Aborted cause) u w v d (asked ∷ drops) (at_request home cause asked drops all a (drops_as tx d.touched d.entries (Some home) drops d.only are)) (subst (Grows (asked ∷ drops) w) (sym g) grows)
-    (ap (λ s. s.standing) g ∙ idle)
-committed body tx birth (Aborted cause) u w x v d all (inr (home, asked, told, drops, a, l, are, grows), idle) g =
-    tried body tx birth (Aborted cause) u w v d (asked ∷ told ∷ drops) (at_look home cause asked told drops all a l (drops_as tx d.touched d.entries (Some home) drops d.only are))
-    (subst (Grows (asked ∷ told ∷ drops) w) (sym g) grows) (ap (λ s. s.standing) g ∙ idle)
-committed body tx birth (Stopped (Down n)) u w x v d all (grows, (nth, active)) g =
+committed : (missed : Misses) (body : Body) (tx : TxId) (birth : Birth) (end : TryEnd) (u w x v : Seen) (d : HasDone tx birth body.actions u w) → IsDone body Commit d.answers → CommitTold tx birth (length d.answers) d.touched end w x → GivenUp missed end x v
+    → Tried missed body tx birth end u v
+committed missed body tx birth Acknowledged u w x v d all (home, asked, told, a, l, grows, idle) g =
+    tried missed body tx birth Acknowledged u w v d (asked ∷ told ∷ []) (acknowledged home asked told all a l) (subst (Grows (asked ∷ told ∷ []) w) (sym g) grows) (ap (λ s. s.standing) g ∙ idle) tt
+committed missed body tx birth Empty u w x v d all (zero_nth, grows, idle) g =
+    tried missed body tx birth Empty u w v d [] (nothing all (no_answers d.answers zero_nth)) (subst (Grows [] w) (sym g) grows) (ap (λ s. s.standing) g ∙ idle) tt
+committed missed body tx birth Asked u w x v d all t g = absurd t
+committed missed body tx birth (Aborted cause) u w x v d all (inl (home, asked, drops, a, are, grows), idle) g =
+    tried missed body tx birth (Aborted cause) u w v d (asked ∷ drops) (at_request home cause asked drops all a (drops_as tx d.touched d.entries (Some home) drops d.only are)) (subst (Grows (asked ∷ drops) w) (sym g) grows)
+    (ap (λ s. s.standing) g ∙ idle) tt
+committed missed body tx birth (Aborted cause) u w x v d all (inr (home, asked, told, drops, a, l, are, grows), idle) g =
+    tried missed body tx birth (Aborted cause) u w v d (asked ∷ told ∷ drops) (at_look home cause asked told drops all a l (drops_as tx d.touched d.entries (Some home) drops d.only are))
+    (subst (Grows (asked ∷ told ∷ drops) w) (sym g) grows) (ap (λ s. s.standing) g ∙ idle) tt
+committed missed body tx birth (Stopped (Down n)) u w x v d all (grows, (nth, active)) g =
     let h = g tx birth nth d.touched active in
-    tried body tx birth (Stopped (Down n)) u w v d h.0 (down n [] h.0 (request_next all) (drops_as tx d.touched (d.entries ++ []) None h.0 (more_touched d.touched d.entries d.only) h.1)) (grows_on [] h.0 w x v grows h.2) tt
-committed body tx birth (Stopped (Unsettled n)) u w x v d all (home, asked, a, grows) g =
-    tried body tx birth (Stopped (Unsettled n)) u w v d (asked ∷ []) (unsettled n home asked all a) (subst (Grows (asked ∷ []) w) (sym g) grows) tt
-committed body tx birth (Stopped (Worn at)) u w x v d all (inl grows) g = tried body tx birth (Stopped (Worn at)) u w v d [] (wanting_before (Worn at) [] refl (request_next all)) (subst (Grows [] w) (sym g) grows) tt
-committed body tx birth (Stopped (Worn at)) u w x v d all (inr (home, asked, a, grows)) g =
-    tried body tx birth (Stopped (Worn at)) u w v d (asked ∷ []) (wanting_behind (Worn at) home asked refl all a) (subst (Grows (asked ∷ []) w) (sym g) grows) tt
-committed body tx birth (Stopped Memory) u w x v d all (inl grows) g = tried body tx birth (Stopped Memory) u w v d [] (wanting_before Memory [] refl (request_next all)) (subst (Grows [] w) (sym g) grows) tt
-committed body tx birth (Stopped Memory) u w x v d all (inr (home, asked, a, grows)) g =
-    tried body tx birth (Stopped Memory) u w v d (asked ∷ []) (wanting_behind Memory home asked refl all a) (subst (Grows (asked ∷ []) w) (sym g) grows) tt
+    tried missed body tx birth (Stopped (Down n)) u w v d h.0 (down n [] h.0 (request_next all) (drops_as tx d.touched (d.entries ++ []) None h.0 (more_touched d.touched d.entries d.only) h.1)) (grows_on [] h.0 w x v grows h.2) tt
+    (let_go_or missed d.touched (try_with body tx birth (Stopped (Down n)) u w d h.0) u.entries (d.entries ++ []) h.0 x.entries v (ap (λ es. es ++ h.0) (sym (append-nil d.entries)))
+    (drops_as tx d.touched (d.entries ++ []) None h.0 (more_touched d.touched d.entries d.only) h.1) (λ k t. d.all k (ap (λ l. is_touched l k) (sym (append-nil d.entries)) ∙ t)) (grows_on d.entries [] u w x d.grows grows).entries_are h.3)
+committed missed body tx birth (Stopped (Unsettled n)) u w x v d all (home, asked, a, grows) g =
+    tried missed body tx birth (Stopped (Unsettled n)) u w v d (asked ∷ []) (unsettled n home asked all a) (subst (Grows (asked ∷ []) w) (sym g) grows) tt tt
+committed missed body tx birth (Stopped (Worn at)) u w x v d all (inl grows) g = tried missed body tx birth (Stopped (Worn at)) u w v d [] (wanting_before (Worn at) [] refl (request_next all)) (subst (Grows [] w) (sym g) grows) tt tt
+committed missed body tx birth (Stopped (Worn at)) u w x v d all (inr (home, asked, a, grows)) g =
+    tried missed body tx birth (Stopped (Worn at)) u w v d (asked ∷ []) (wanting_behind (Worn at) home asked refl all a) (subst (Grows (asked ∷ []) w) (sym g) grows) tt tt
+committed missed body tx birth (Stopped Memory) u w x v d all (inl grows) g = tried missed body tx birth (Stopped Memory) u w v d [] (wanting_before Memory [] refl (request_next all)) (subst (Grows [] w) (sym g) grows) tt tt
+committed missed body tx birth (Stopped Memory) u w x v d all (inr (home, asked, a, grows)) g =
+    tried missed body tx birth (Stopped Memory) u w v d (asked ∷ []) (wanting_behind Memory home asked refl all a) (subst (Grows (asked ∷ []) w) (sym g) grows) tt tt
 
-line_aborted : (body : Body) (tx : TxId) (birth : Birth) (end : TryEnd) (u w v : Seen) (d : HasDone tx birth body.actions u w) → IsDone body Abort d.answers → LineAborts tx birth d.touched end w v → Tried body tx birth end u v
-line_aborted body tx birth Asked u w v d all (drops, are, grows, idle) = tried body tx birth Asked u w v d drops (by_line drops all (drops_as tx d.touched d.entries None drops d.only are)) grows idle
-line_aborted body tx birth (Stopped (Worn at)) u w v d all (drops, are, grows) =
-    tried body tx birth (Stopped (Worn at)) u w v d drops (worn_at_line at drops all (drops_as tx d.touched d.entries None drops d.only are)) grows tt
-line_aborted body tx birth (Stopped (Down n)) u w v d all t = absurd t
-line_aborted body tx birth (Stopped (Unsettled n)) u w v d all t = absurd t
-line_aborted body tx birth (Stopped Memory) u w v d all t = absurd t
-line_aborted body tx birth Acknowledged u w v d all t = absurd t
-line_aborted body tx birth Empty u w v d all t = absurd t
-line_aborted body tx birth (Aborted cause) u w v d all t = absurd t
+line_aborted : (missed : Misses) (body : Body) (tx : TxId) (birth : Birth) (end : TryEnd) (u w v : Seen) (d : HasDone tx birth body.actions u w) → IsDone body Abort d.answers → LineAborts missed tx birth d.touched end w v → Tried missed body tx birth end u v
+line_aborted missed body tx birth Asked u w v d all (drops, are, grows, idle, each) =
+    tried missed body tx birth Asked u w v d drops (by_line drops all (drops_as tx d.touched d.entries None drops d.only are)) grows idle
+    (let_go missed d.touched (try_with body tx birth Asked u w d drops) u.entries d.entries drops w.entries refl (drops_as tx d.touched d.entries None drops d.only are) d.all (d.grows).entries_are each)
+line_aborted missed body tx birth (Stopped (Worn at)) u w v d all (drops, are, grows, worn) =
+    tried missed body tx birth (Stopped (Worn at)) u w v d drops (worn_at_line at drops all (drops_as tx d.touched d.entries None drops d.only are)) grows tt tt
+line_aborted missed body tx birth (Stopped (Down n)) u w v d all t = absurd t
+line_aborted missed body tx birth (Stopped (Unsettled n)) u w v d all t = absurd t
+line_aborted missed body tx birth (Stopped Memory) u w v d all t = absurd t
+line_aborted missed body tx birth Acknowledged u w v d all t = absurd t
+line_aborted missed body tx birth Empty u w v d all t = absurd t
+line_aborted missed body tx birth (Aborted cause) u w v d all t = absurd t
 
-ended : (body : Body) (tx : TxId) (birth : Birth) (ending : Ending) (end : TryEnd) (u w v : Seen) (d : HasDone tx birth body.actions u w) → next_op body.actions d.answers ≡ None → body.ending ≡ ending
-    → EndTold tx birth (length d.answers) d.touched ending end w v → Tried body tx birth end u v
-ended body tx birth Commit end u w v d all is (x, t, g) = committed body tx birth end u w x v d (done_as body Commit d.answers all is) t g
-ended body tx birth Abort end u w v d all is t = line_aborted body tx birth end u w v d (done_as body Abort d.answers all is) t
+ended : (missed : Misses) (body : Body) (tx : TxId) (birth : Birth) (ending : Ending) (end : TryEnd) (u w v : Seen) (d : HasDone tx birth body.actions u w) → next_op body.actions d.answers ≡ None → body.ending ≡ ending
+    → EndTold missed tx birth (length d.answers) d.touched ending end w v → Tried missed body tx birth end u v
+ended missed body tx birth Commit end u w v d all is (x, t, g) = committed missed body tx birth end u w x v d (done_as body Commit d.answers all is) t g
+ended missed body tx birth Abort end u w v d all is t = line_aborted missed body tx birth end u w v d (done_as body Abort d.answers all is) t
 
 -- each line was done, and then the end that was asked for
-pub tried_whole : (body : Body) (tx : TxId) (birth : Birth) (ending : Ending) (end : TryEnd) (u w v : Seen) (d : HasDone tx birth body.actions u w) → next_op body.actions d.answers ≡ None → ending ≡ body.ending
-    → ((tx : TxId) (birth : Birth) (nth : ℕ) (touched : ℕ → Bool) → w.standing ≡ Active tx birth nth touched → EndTold tx birth nth touched ending end w v) → Tried body tx birth end u v
-tried_whole body tx birth ending end u w v d all is t = ended body tx birth ending end u w v d all (sym is) (t tx birth (length d.answers) d.touched d.standing_is)
+pub tried_whole : (missed : Misses) (body : Body) (tx : TxId) (birth : Birth) (ending : Ending) (end : TryEnd) (u w v : Seen) (d : HasDone tx birth body.actions u w) → next_op body.actions d.answers ≡ None → ending ≡ body.ending
+    → ((tx : TxId) (birth : Birth) (nth : ℕ) (touched : ℕ → Bool) → w.standing ≡ Active tx birth nth touched → EndTold missed tx birth nth touched ending end w v) → Tried missed body tx birth end u v
+tried_whole missed body tx birth ending end u w v d all is t = ended missed body tx birth ending end u w v d all (sym is) (t tx birth (length d.answers) d.touched d.standing_is)
 
 -- an operation wasn't answered
-pub tried_part : (body : Body) (tx : TxId) (birth : Birth) (end : TryEnd) (u w x v : Seen) (d : HasDone tx birth body.actions u w) (op : Op) → next_op body.actions d.answers ≡ Some op
-    → OperateTold tx birth (length d.answers) d.touched op (Err end) w x → GivenUp end x v → Tried body tx birth end u v
-tried_part body tx birth (Aborted cause) u w x v d op next (here, drops, n, after, died, by, are, grows, idle) g =
-    tried body tx birth (Aborted cause) u w v d (here ++ drops)
+pub tried_part : (missed : Misses) (body : Body) (tx : TxId) (birth : Birth) (end : TryEnd) (u w x v : Seen) (d : HasDone tx birth body.actions u w) (op : Op) → next_op body.actions d.answers ≡ Some op
+    → OperateTold tx birth (length d.answers) d.touched op (Err end) w x → GivenUp missed end x v → Tried missed body tx birth end u v
+tried_part missed body tx birth (Aborted cause) u w x v d op next (here, drops, n, after, died, by, are, grows, idle) g =
+    tried missed body tx birth (Aborted cause) u w v d (here ++ drops)
     (in_operation op cause n here drops next (subst (λ s. IsDeath s tx birth (suc (length d.answers)) op cause n here) (d.grows).splits_are died)
     (drops_as tx after (d.entries ++ here) (Some n) drops (touches_on d.touched after d.entries here d.only by) are))
-    (subst (Grows (here ++ drops) w) (sym g) grows) (ap (λ s. s.standing) g ∙ idle)
-tried_part body tx birth (Stopped (Down n)) u w x v d op next (here, after, begun, by, grows, (nth, active)) g =
+    (subst (Grows (here ++ drops) w) (sym g) grows) (ap (λ s. s.standing) g ∙ idle) tt
+tried_part missed body tx birth (Stopped (Down n)) u w x v d op next (here, after, begun, by, grows, (nth, active)) g =
     let h = g tx birth nth after active in
-    tried body tx birth (Stopped (Down n)) u w v d (here ++ h.0)
+    tried missed body tx birth (Stopped (Down n)) u w v d (here ++ h.0)
     (down n here h.0 (operation_begun op here next (subst (λ s. IsBegun s tx birth (suc (length d.answers)) op here) (d.grows).splits_are begun))
-    (drops_as tx after (d.entries ++ here) None h.0 (touches_on d.touched after d.entries here d.only by) h.1))
+    (drops_as tx after (d.entries ++ here) None h.0 (touches_on d.touched after d.entries here d.only by.only) h.1))
     (grows_on here h.0 w x v grows h.2) tt
-tried_part body tx birth (Stopped (Worn at)) u w x v d op next (here, begun, grows) g =
-    tried body tx birth (Stopped (Worn at)) u w v d here
-    (wanting_before (Worn at) here refl (operation_begun op here next (subst (λ s. IsBegun s tx birth (suc (length d.answers)) op here) (d.grows).splits_are begun))) (subst (Grows here w) (sym g) grows) tt
-tried_part body tx birth (Stopped Memory) u w x v d op next (here, inl begun, grows) g =
-    tried body tx birth (Stopped Memory) u w v d here
-    (wanting_before Memory here refl (operation_begun op here next (subst (λ s. IsBegun s tx birth (suc (length d.answers)) op here) (d.grows).splits_are begun))) (subst (Grows here w) (sym g) grows) tt
-tried_part body tx birth (Stopped Memory) u w x v d op next (here, inr (parts, are), grows) g =
-    tried body tx birth (Stopped Memory) u w v d here
-    (unanswered op parts here next (subst (λ s. ArePartsAnswered tx birth (suc (length d.answers)) (parts_of s op) parts here) (d.grows).splits_are are)) (subst (Grows here w) (sym g) grows) tt
-tried_part body tx birth (Stopped (Unsettled n)) u w x v d op next t g = absurd t
-tried_part body tx birth Acknowledged u w x v d op next t g = absurd t
-tried_part body tx birth Empty u w x v d op next t g = absurd t
-tried_part body tx birth Asked u w x v d op next t g = absurd t
+    (let_go_or missed after (try_with body tx birth (Stopped (Down n)) u w d (here ++ h.0)) u.entries (d.entries ++ here) h.0 x.entries v (sym (append_assoc d.entries here h.0))
+    (drops_as tx after (d.entries ++ here) None h.0 (touches_on d.touched after d.entries here d.only by.only) h.1) (touches_all d.touched after d.entries here d.all by) (grows_on d.entries here u w x d.grows grows).entries_are h.3)
+tried_part missed body tx birth (Stopped (Worn at)) u w x v d op next (here, begun, grows) g =
+    tried missed body tx birth (Stopped (Worn at)) u w v d here
+    (wanting_before (Worn at) here refl (operation_begun op here next (subst (λ s. IsBegun s tx birth (suc (length d.answers)) op here) (d.grows).splits_are begun))) (subst (Grows here w) (sym g) grows) tt tt
+tried_part missed body tx birth (Stopped Memory) u w x v d op next (here, inl begun, grows) g =
+    tried missed body tx birth (Stopped Memory) u w v d here
+    (wanting_before Memory here refl (operation_begun op here next (subst (λ s. IsBegun s tx birth (suc (length d.answers)) op here) (d.grows).splits_are begun))) (subst (Grows here w) (sym g) grows) tt tt
+tried_part missed body tx birth (Stopped Memory) u w x v d op next (here, inr (parts, are), grows) g =
+    tried missed body tx birth (Stopped Memory) u w v d here
+    (unanswered op parts here next (subst (λ s. ArePartsAnswered tx birth (suc (length d.answers)) (parts_of s op) parts here) (d.grows).splits_are are)) (subst (Grows here w) (sym g) grows) tt tt
+tried_part missed body tx birth (Stopped (Unsettled n)) u w x v d op next t g = absurd t
+tried_part missed body tx birth Acknowledged u w x v d op next t g = absurd t
+tried_part missed body tx birth Empty u w x v d op next t g = absurd t
+tried_part missed body tx birth Asked u w x v d op next t g = absurd t

@@ -1,4 +1,5 @@
 mod Doing
+mod Dropped
 mod Ending
 mod Tries
 mod Sessions

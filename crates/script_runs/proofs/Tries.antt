@@ -13,11 +13,13 @@ use Rattle.script_runs.specs.Tries.{Try, IsTry}
 use Rattle.script_runs.specs.Sessions.{InTries, last, none_left, worn, further, IsNamed, is_to_retry, stopped_by, has_left, entries_of}
 use Rattle.script_runs.specs.declared.retrying.Next.{Next}
 use Rattle.script_runs.specs.declared.retrying.Next.TheVariants.{Again, Done, Stop}
-use Rattle.script_runs.specs.Seen.{Standing, Idle, Active, Seen, Grows, untouched}
+use Rattle.script_runs.specs.Dropped.{LetsGo, AllLetGo}
+use Rattle.script_runs.specs.Seen.{Standing, Idle, Active, Seen, Misses, Keeps, Grows, untouched}
 use Rattle.script_runs.specs.Told.{Begins, RetryTold}
 use Rattle.script_runs.specs.Tried.{Tried, LeftBy}
 use Rattle.script_runs.specs.Ran.{Rise, serials, NextIs, IsIdle, InTriesTold, Ran}
 use Rattle.script_runs.proofs.Doing.{grows_on, grows_none}
+use Rattle.script_runs.proofs.Dropped.{kept_so, all_let_go_later}
 use Rattle.law_base.proofs.Lists.{all_append as all_more}
 
 -- ---- numbers that rise
@@ -39,8 +41,12 @@ entries_more (t ∷ ts) us = ap (λ es. t.entries ++ es) (entries_more ts us) �
 
 -- ---- a transaction on its way
 
+-- the try that was told
+abbrev try_of : (missed : Misses) (body : Body) (tx : TxId) (birth : Birth) (end : TryEnd) (v w : Seen) → Tried missed body tx birth end v w → Try
+try_of missed body tx birth end v w t = record { tx = tx; answers = t.answers; end = end; entries = t.entries }
+
 -- the tries so far, of which each calls for a further one, and the next one's name
-pub record Trying (body : Body) (first : TxId) (birth : Birth) (most : Option ℕ) (tried : ℕ) (u v : Seen) : Type 0 where
+pub record Trying (missed : Misses) (body : Body) (first : TxId) (birth : Birth) (most : Option ℕ) (tried : ℕ) (u v : Seen) : Type 0 where
   pub tx : TxId
   pub active : v.standing ≡ Active tx birth 0 untouched
   pub serial_is : tx.serial ≡ v.serial
@@ -54,10 +60,42 @@ pub record Trying (body : Body) (first : TxId) (birth : Birth) (most : Option �
   pub named : AllByRecursion (IsNamed u.run u.walker) tries
   pub grows : Grows (entries_of tries) u v
   pub serials_rise : (lo : ℕ) → lo < first.serial → (hi : ℕ) × Rise lo (serials tries) hi × (hi < tx.serial)
+  pub dropped : AllLetGo missed v.clock tries
 
-pub no_try : (body : Body) (first : TxId) (birth : Birth) (most : Option ℕ) (u : Seen) → u.standing ≡ Active first birth 0 untouched → first.serial ≡ u.serial → first.run ≡ u.run → first.session ≡ u.walker
-    → Trying body first birth most 1 u u
-no_try body first birth most u active serial run session =
+-- what is known of drops stays known
+abbrev pub trying_later : (missed later : Misses) (body : Body) (first : TxId) (birth : Birth) (most : Option ℕ) (tried : ℕ) (u v : Seen) → Keeps missed later → Trying missed body first birth most tried u v → Trying later body first birth most tried u v
+trying_later missed later body first birth most tried u v keeps d =
+    record {
+      tx = d.tx;
+      active = d.active;
+      serial_is = d.serial_is;
+      run_is = d.run_is;
+      session_is = d.session_is;
+      tries = d.tries;
+      n = d.n;
+      count = d.count;
+      front = d.front;
+      each = d.each;
+      named = d.named;
+      grows = d.grows;
+      serials_rise = d.serials_rise;
+      dropped = all_let_go_later missed later v.clock v.clock d.tries keeps (omega arith) d.dropped;
+    }
+
+abbrev pub tried_later : (missed later : Misses) (body : Body) (tx : TxId) (birth : Birth) (end : TryEnd) (v w : Seen) → Keeps missed later → Tried missed body tx birth end v w → Tried later body tx birth end v w
+tried_later missed later body tx birth end v w keeps t =
+    record {
+      answers = t.answers;
+      entries = t.entries;
+      is_try = t.is_try;
+      grows = t.grows;
+      left = t.left;
+      dropped = (all_let_go_later missed later w.clock w.clock (try_of missed body tx birth end v w t ∷ []) keeps (omega arith) (t.dropped, tt)).0;
+    }
+
+pub no_try : (missed : Misses) (body : Body) (first : TxId) (birth : Birth) (most : Option ℕ) (u : Seen) → u.standing ≡ Active first birth 0 untouched → first.serial ≡ u.serial → first.run ≡ u.run → first.session ≡ u.walker
+    → Trying missed body first birth most 1 u u
+no_try missed body first birth most u active serial run session =
     record {
       tx = first;
       active = active;
@@ -72,22 +110,21 @@ no_try body first birth most u active serial run session =
       named = tt;
       grows = grows_none u;
       serials_rise = λ lo h. (lo, omega arith, h);
+      dropped = tt;
     }
 
-abbrev try_of : (body : Body) (tx : TxId) (birth : Birth) (end : TryEnd) (v w : Seen) → Tried body tx birth end v w → Try
-try_of body tx birth end v w t = record { tx = tx; answers = t.answers; end = end; entries = t.entries }
-
 -- the tries up to now
-record HasTried (body : Body) (first : TxId) (birth : Birth) (u w : Seen) (ts : List Try) : Type 0 where
+record HasTried (missed : Misses) (body : Body) (first : TxId) (birth : Birth) (u w : Seen) (ts : List Try) : Type 0 where
   each : AllByRecursion (IsTry u.splits body birth) ts
   named : AllByRecursion (IsNamed u.run u.walker) ts
   grows : Grows (entries_of ts) u w
   serials_rise : (lo : ℕ) → lo < first.serial → Rise lo (serials ts) w.serial
+  dropped : AllLetGo missed w.clock ts
 
-one_more_try : (body : Body) (first : TxId) (birth : Birth) (most : Option ℕ) (tried : ℕ) (end : TryEnd) (u v w : Seen) (d : Trying body first birth most tried u v) (t : Tried body d.tx birth end v w)
-    → HasTried body first birth u w (d.tries ++ try_of body d.tx birth end v w t ∷ [])
-one_more_try body first birth most tried end u v w d t =
-    let new = try_of body d.tx birth end v w t in
+one_more_try : (missed : Misses) (body : Body) (first : TxId) (birth : Birth) (most : Option ℕ) (tried : ℕ) (end : TryEnd) (u v w : Seen) (d : Trying missed body first birth most tried u v) (t : Tried missed body d.tx birth end v w)
+    → HasTried missed body first birth u w (d.tries ++ try_of missed body d.tx birth end v w t ∷ [])
+one_more_try missed body first birth most tried end u v w d t =
+    let new = try_of missed body d.tx birth end v w t in
     record {
       each = all_more (IsTry u.splits body birth) d.tries (new ∷ []) d.each (subst (λ s. IsTry s body birth new) (d.grows).splits_are t.is_try, tt);
       named = all_more (IsNamed u.run u.walker) d.tries (new ∷ []) d.named (record { run_is = d.run_is; session_is = d.session_is }, tt);
@@ -100,10 +137,13 @@ one_more_try body first birth most tried end u v w d t =
           let here = d.serial_is in
           let up = (t.grows).serial_rises in
           subst (λ ns. Rise lo ns w.serial) (sym (map-append (λ x. (x.tx).serial) d.tries (new ∷ []))) (rise_on lo r.0 w.serial (serials d.tries) ((d.tx).serial ∷ []) r.1 (r.2, omega arith));
+      dropped =
+          all_more (λ x. LetsGo missed w.clock x x.end) d.tries (new ∷ []) (all_let_go_later missed missed v.clock w.clock d.tries (kept_so missed) (t.grows).clock_rises d.dropped)
+          (t.dropped, tt);
     }
 
-told_so : (body : Body) (first : TxId) (birth : Birth) (most : Option ℕ) (cause : Option StopCause) (u w : Seen) (ts : List Try) → HasTried body first birth u w ts → InTries most 1 ts cause → InTriesTold body first birth most cause u w
-told_so body first birth most cause u w ts h i = record { tries = ts; each = h.each; named = h.named; in_tries = i; grows = h.grows; serials_rise = h.serials_rise }
+told_so : (missed : Misses) (body : Body) (first : TxId) (birth : Birth) (most : Option ℕ) (cause : Option StopCause) (u w : Seen) (ts : List Try) → HasTried missed body first birth u w ts → InTries most 1 ts cause → InTriesTold missed body first birth most cause u w
+told_so missed body first birth most cause u w ts h i = record { tries = ts; each = h.each; named = h.named; in_tries = i; grows = h.grows; serials_rise = h.serials_rise; dropped = h.dropped }
 
 same_left : (most : Option ℕ) (tried n : ℕ) (b : Bool) → ((k : ℕ) → most ≡ Some k → tried ≡ n) → has_left most tried ≡ b → has_left most n ≡ b
 same_left None tried n b c h = h
@@ -113,38 +153,39 @@ done_in : (most : Option ℕ) (tried n : ℕ) (t : Try) → ((k : ℕ) → most 
 done_in most tried n t c (inl (r, s)) = subst (InTries most n (t ∷ [])) s (last n t r)
 done_in most tried n t c (inr (r, h)) = none_left n t r (same_left most tried n false c h)
 
-pub tries_done : (body : Body) (first : TxId) (birth : Birth) (most : Option ℕ) (tried : ℕ) (end : TryEnd) (next : Next) (u v w : Seen) (d : Trying body first birth most tried u v) → Tried body d.tx birth end v w → next ≡ Done
-    → NextIs end most tried next → InTriesTold body first birth most None u w
-tries_done body first birth most tried end next u v w d t is n =
-    let new = try_of body d.tx birth end v w t in
-    told_so body first birth most None u w (d.tries ++ new ∷ []) (one_more_try body first birth most tried end u v w d t)
+pub tries_done : (missed : Misses) (body : Body) (first : TxId) (birth : Birth) (most : Option ℕ) (tried : ℕ) (end : TryEnd) (next : Next) (u v w : Seen) (d : Trying missed body first birth most tried u v) → Tried missed body d.tx birth end v w → next ≡ Done
+    → NextIs end most tried next → InTriesTold missed body first birth most None u w
+tries_done missed body first birth most tried end next u v w d t is n =
+    let new = try_of missed body d.tx birth end v w t in
+    told_so missed body first birth most None u w (d.tries ++ new ∷ []) (one_more_try missed body first birth most tried end u v w d t)
     (d.front (new ∷ []) None (done_in most tried d.n new d.count (subst (NextIs end most tried) is n)))
 
-pub tries_stopped : (body : Body) (first : TxId) (birth : Birth) (most : Option ℕ) (tried : ℕ) (end : TryEnd) (next : Next) (cause : StopCause) (u v w : Seen) (d : Trying body first birth most tried u v) → Tried body d.tx birth end v w → next ≡ Stop cause
-    → NextIs end most tried next → InTriesTold body first birth most (Some cause) u w
-tries_stopped body first birth most tried end next cause u v w d t is n =
-    let new = try_of body d.tx birth end v w t in
+pub tries_stopped : (missed : Misses) (body : Body) (first : TxId) (birth : Birth) (most : Option ℕ) (tried : ℕ) (end : TryEnd) (next : Next) (cause : StopCause) (u v w : Seen) (d : Trying missed body first birth most tried u v) → Tried missed body d.tx birth end v w → next ≡ Stop cause
+    → NextIs end most tried next → InTriesTold missed body first birth most (Some cause) u w
+tries_stopped missed body first birth most tried end next cause u v w d t is n =
+    let new = try_of missed body d.tx birth end v w t in
     let e : end ≡ Stopped cause = subst (NextIs end most tried) is n in
-    told_so body first birth most (Some cause) u w (d.tries ++ new ∷ []) (one_more_try body first birth most tried end u v w d t)
+    told_so missed body first birth most (Some cause) u w (d.tries ++ new ∷ []) (one_more_try missed body first birth most tried end u v w d t)
     (d.front (new ∷ []) (Some cause) (subst (InTries most d.n (new ∷ [])) (ap stopped_by e) (last d.n new (ap is_to_retry e))))
 
-worn_in : (body : Body) (first : TxId) (birth : Birth) (most : Option ℕ) (tried : ℕ) (end : TryEnd) (cause : StopCause) (u v w x : Seen) (d : Trying body first birth most tried u v) → Tried body d.tx birth end v w → is_to_retry end ≡ true
-    → has_left most tried ≡ true → RetryTold {A = Unit {0}} birth (Err cause) w x → InTriesTold body first birth most (Some cause) u x
-worn_in body first birth most tried end (Worn at) u v w x d t r l grows =
-    let new = try_of body d.tx birth end v w t in
-    let h = one_more_try body first birth most tried end u v w d t in
+worn_in : (missed : Misses) (body : Body) (first : TxId) (birth : Birth) (most : Option ℕ) (tried : ℕ) (end : TryEnd) (cause : StopCause) (u v w x : Seen) (d : Trying missed body first birth most tried u v) → Tried missed body d.tx birth end v w → is_to_retry end ≡ true
+    → has_left most tried ≡ true → RetryTold {A = Unit {0}} birth (Err cause) w x → InTriesTold missed body first birth most (Some cause) u x
+worn_in missed body first birth most tried end (Worn at) u v w x d t r l grows =
+    let new = try_of missed body d.tx birth end v w t in
+    let h = one_more_try missed body first birth most tried end u v w d t in
     let up = grows.serial_rises in
-    told_so body first birth most (Some (Worn at)) u x (d.tries ++ new ∷ [])
+    told_so missed body first birth most (Some (Worn at)) u x (d.tries ++ new ∷ [])
     (record {
       each = h.each;
       named = h.named;
       grows = subst (λ es. Grows es u x) (append-nil (entries_of (d.tries ++ new ∷ []))) (grows_on (entries_of (d.tries ++ new ∷ [])) [] u w x h.grows grows);
       serials_rise = λ lo k. rise_later lo (serials (d.tries ++ new ∷ [])) w.serial x.serial (h.serials_rise lo k) up;
+      dropped = all_let_go_later missed missed w.clock x.clock (d.tries ++ new ∷ []) (kept_so missed) grows.clock_rises h.dropped;
     })
     (d.front (new ∷ []) (Some (Worn at)) (worn d.n at new r (same_left most tried d.n true d.count l)))
-worn_in body first birth most tried end Memory u v w x d t r l told = absurd told
-worn_in body first birth most tried end (Down n) u v w x d t r l told = absurd told
-worn_in body first birth most tried end (Unsettled n) u v w x d t r l told = absurd told
+worn_in missed body first birth most tried end Memory u v w x d t r l told = absurd told
+worn_in missed body first birth most tried end (Down n) u v w x d t r l told = absurd told
+worn_in missed body first birth most tried end (Unsettled n) u v w x d t r l told = absurd told
 
 pub can_retry : (birth : Birth) (end : TryEnd) (st : Standing) → LeftBy birth end st → is_to_retry end ≡ true → st ≡ Idle (Some birth)
 can_retry birth Acknowledged st l h = absurd cc
@@ -153,17 +194,17 @@ can_retry birth Asked st l h = l
 can_retry birth (Aborted cause) st l h = l
 can_retry birth (Stopped cause) st l h = absurd cc
 
-pub tries_worn : (body : Body) (first : TxId) (birth : Birth) (most : Option ℕ) (tried : ℕ) (end : TryEnd) (next : Next) (cause : StopCause) (u v w x : Seen) (d : Trying body first birth most tried u v) → Tried body d.tx birth end v w → next ≡ Again
-    → NextIs end most tried next → ((b : Birth) → w.standing ≡ Idle (Some b) → RetryTold {A = Unit {0}} b (Err cause) w x) → InTriesTold body first birth most (Some cause) u x
-tries_worn body first birth most tried end next cause u v w x d t is n told =
+pub tries_worn : (missed : Misses) (body : Body) (first : TxId) (birth : Birth) (most : Option ℕ) (tried : ℕ) (end : TryEnd) (next : Next) (cause : StopCause) (u v w x : Seen) (d : Trying missed body first birth most tried u v) → Tried missed body d.tx birth end v w → next ≡ Again
+    → NextIs end most tried next → ((b : Birth) → w.standing ≡ Idle (Some b) → RetryTold {A = Unit {0}} b (Err cause) w x) → InTriesTold missed body first birth most (Some cause) u x
+tries_worn missed body first birth most tried end next cause u v w x d t is n told =
     let p = subst (NextIs end most tried) is n in
-    worn_in body first birth most tried end cause u v w x d t p.0 p.1 (told birth (can_retry birth end w.standing t.left p.0))
+    worn_in missed body first birth most tried end cause u v w x d t p.0 p.1 (told birth (can_retry birth end w.standing t.left p.0))
 
-next_tried : (body : Body) (first : TxId) (birth : Birth) (most : Option ℕ) (tried more_tried : ℕ) (end : TryEnd) (u v w x : Seen) (d : Trying body first birth most tried u v) → Tried body d.tx birth end v w → is_to_retry end ≡ true
-    → has_left most tried ≡ true → Begins birth w x → ((k : ℕ) → most ≡ Some k → more_tried ≡ suc tried) → Trying body first birth most more_tried u x
-next_tried body first birth most tried more_tried end u v w x d t r l b number =
-    let new = try_of body d.tx birth end v w t in
-    let h = one_more_try body first birth most tried end u v w d t in
+next_tried : (missed : Misses) (body : Body) (first : TxId) (birth : Birth) (most : Option ℕ) (tried more_tried : ℕ) (end : TryEnd) (u v w x : Seen) (d : Trying missed body first birth most tried u v) → Tried missed body d.tx birth end v w → is_to_retry end ≡ true
+    → has_left most tried ≡ true → Begins birth w x → ((k : ℕ) → most ≡ Some k → more_tried ≡ suc tried) → Trying missed body first birth most more_tried u x
+next_tried missed body first birth most tried more_tried end u v w x d t r l b number =
+    let new = try_of missed body d.tx birth end v w t in
+    let h = one_more_try missed body first birth most tried end u v w d t in
     record {
       tx = b.tx;
       active = b.active;
@@ -180,13 +221,14 @@ next_tried body first birth most tried more_tried end u v w x d t r l b number =
       named = h.named;
       grows = subst (λ es. Grows es u x) (append-nil (entries_of (d.tries ++ new ∷ []))) (grows_on (entries_of (d.tries ++ new ∷ [])) [] u w x h.grows b.grows);
       serials_rise = λ lo k. (w.serial, h.serials_rise lo k, (let s = b.serial_is in let y = b.rises in omega arith));
+      dropped = all_let_go_later missed missed w.clock x.clock (d.tries ++ new ∷ []) (kept_so missed) (b.grows).clock_rises h.dropped;
     }
 
-pub tries_go_on : (body : Body) (first : TxId) (birth : Birth) (most : Option ℕ) (tried more_tried : ℕ) (end : TryEnd) (next : Next) (u v w x : Seen) (d : Trying body first birth most tried u v) → Tried body d.tx birth end v w → next ≡ Again
-    → NextIs end most tried next → ((b : Birth) → w.standing ≡ Idle (Some b) → Begins b w x) → ((k : ℕ) → most ≡ Some k → more_tried ≡ suc tried) → Trying body first birth most more_tried u x
-tries_go_on body first birth most tried more_tried end next u v w x d t is n told number =
+pub tries_go_on : (missed : Misses) (body : Body) (first : TxId) (birth : Birth) (most : Option ℕ) (tried more_tried : ℕ) (end : TryEnd) (next : Next) (u v w x : Seen) (d : Trying missed body first birth most tried u v) → Tried missed body d.tx birth end v w → next ≡ Again
+    → NextIs end most tried next → ((b : Birth) → w.standing ≡ Idle (Some b) → Begins b w x) → ((k : ℕ) → most ≡ Some k → more_tried ≡ suc tried) → Trying missed body first birth most more_tried u x
+tries_go_on missed body first birth most tried more_tried end next u v w x d t is n told number =
     let p = subst (NextIs end most tried) is n in
-    next_tried body first birth most tried more_tried end u v w x d t p.0 p.1 (told birth (can_retry birth end w.standing t.left p.0)) number
+    next_tried missed body first birth most tried more_tried end u v w x d t p.0 p.1 (told birth (can_retry birth end w.standing t.left p.0)) number
 
 pub idle_when_done : (birth : Birth) (end : TryEnd) (most : Option ℕ) (tried : ℕ) (next : Next) (w : Seen) → LeftBy birth end w.standing → next ≡ Done → NextIs end most tried next → IsIdle w
 idle_when_done birth Acknowledged most tried next w l is n = (None, l)
@@ -201,9 +243,9 @@ idle_when_done birth (Stopped cause) most tried next w l is n = at (subst (NextI
 
 -- ---- a transaction
 
-pub ran : (body : Body) (most : Option ℕ) (cause : Option StopCause) (birth : Birth) (u v w : Seen) → birth.session ≡ u.walker → u.clock < birth.stamp → birth.stamp ≤ v.clock → (b : Begins birth u v)
-    → InTriesTold body b.tx birth most cause v w → Ran body most cause u w
-ran body most cause birth u v w born later earlier b t =
+pub ran : (missed : Misses) (body : Body) (most : Option ℕ) (cause : Option StopCause) (birth : Birth) (u v w : Seen) → birth.session ≡ u.walker → u.clock < birth.stamp → birth.stamp ≤ v.clock → (b : Begins birth u v)
+    → InTriesTold missed body b.tx birth most cause v w → Ran missed body most cause u w
+ran missed body most cause birth u v w born later earlier b t =
     record {
       birth = birth;
       tries = t.tries;
@@ -218,4 +260,5 @@ ran body most cause birth u v w born later earlier b t =
       later = later;
       earlier = let y = (t.grows).clock_rises in omega arith;
       serials_rise = t.serials_rise u.serial (let s = b.serial_is in let y = b.rises in omega arith);
+      dropped = t.dropped;
     }

@@ -2,11 +2,11 @@
 use Rattle.std.specs.Prelude.{◌≡◌, ℕ, List, ◌++◌, Option}
 use Rattle.script_lang.specs.Bodies.{Body}
 use Rattle.script_runs.specs.declared.ends.StopCause.{StopCause}
-use Rattle.script_runs.specs.Seen.{Seen}
+use Rattle.script_runs.specs.Seen.{Seen, Misses}
 use Rattle.script_runs.specs.Ran.{Follows}
 
 -- some of the transactions were run, and the others are left
-pub record HasBegun (whole left : List Body) (most : Option ℕ) (cause : Option StopCause) (u v : Seen) : Type 0 where
+pub record HasBegun (missed : Misses) (whole left : List Body) (most : Option ℕ) (cause : Option StopCause) (u v : Seen) : Type 0 where
   pub front : List Body
   pub whole_is : whole ≡ front ++ left
-  pub follows : Follows front most cause u v
+  pub follows : Follows missed front most cause u v

@@ -1,6 +1,7 @@
 pub mod Seen
 pub mod Told
 pub mod Lines
+pub mod Dropped
 pub mod Tried
 pub mod Ran
 pub mod Operations

@@ -22,6 +22,7 @@ pub record HasDone (tx : TxId) (birth : Birth) (lines : List Action) (u v : Seen
   pub grows : Grows entries u v
   pub standing_is : v.standing ≡ Active tx birth (length answers) touched
   pub only : (n : ℕ) → touched n ≡ true → is_touched entries n ≡ true
+  pub all : (n : ℕ) → is_touched entries n ≡ true → touched n ≡ true
 
 -- each line was done; or the next operation wasn't answered, and told this
 abbrev pub LinesTold : {A : Type 0} → TxId → Birth → List Action → Result A TryEnd → Seen → Seen → Type 0

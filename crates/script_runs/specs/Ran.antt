@@ -13,7 +13,8 @@ use Rattle.script_runs.specs.Tries.{Try, IsTry}
 use Rattle.script_runs.specs.Sessions.{Transaction, InTries, IsNamed, IsTransaction, FollowsScript, is_to_retry, stopped_by, has_left, tries_of, entries_of}
 use Rattle.script_runs.specs.declared.retrying.Next.{Next}
 use Rattle.script_runs.specs.declared.retrying.Next.TheVariants.{Again, Done, Stop}
-use Rattle.script_runs.specs.Seen.{Idle, Seen, Grows}
+use Rattle.script_runs.specs.Dropped.{AllLetGo}
+use Rattle.script_runs.specs.Seen.{Idle, Seen, Misses, Grows}
 
 -- numbers that rise, all above lo and up to hi
 abbrev pub Rise : ℕ → List ℕ → ℕ → Type 0
@@ -46,16 +47,17 @@ IdleAfter (Ok a) u = IsIdle u
 IdleAfter (Err cause) u = ⊤
 
 -- the entries that were added are tries of the transaction, of which the first has this name
-pub record InTriesTold (body : Body) (first : TxId) (birth : Birth) (most : Option ℕ) (cause : Option StopCause) (u v : Seen) : Type 0 where
+pub record InTriesTold (missed : Misses) (body : Body) (first : TxId) (birth : Birth) (most : Option ℕ) (cause : Option StopCause) (u v : Seen) : Type 0 where
   pub tries : List Try
   pub each : AllByRecursion (IsTry u.splits body birth) tries
   pub named : AllByRecursion (IsNamed u.run u.walker) tries
   pub in_tries : InTries most 1 tries cause
   pub grows : Grows (entries_of tries) u v
   pub serials_rise : (lo : ℕ) → lo < first.serial → Rise lo (serials tries) v.serial
+  pub dropped : AllLetGo missed v.clock tries
 
 -- they are the transaction's
-pub record Ran (body : Body) (most : Option ℕ) (cause : Option StopCause) (u v : Seen) : Type 0 where
+pub record Ran (missed : Misses) (body : Body) (most : Option ℕ) (cause : Option StopCause) (u v : Seen) : Type 0 where
   pub birth : Birth
   pub tries : List Try
   pub is_transaction : IsTransaction u.splits u.run u.walker most (record { body = body; birth = birth; tries = tries }) cause
@@ -63,13 +65,15 @@ pub record Ran (body : Body) (most : Option ℕ) (cause : Option StopCause) (u v
   pub later : u.clock < birth.stamp
   pub earlier : birth.stamp ≤ v.clock
   pub serials_rise : Rise u.serial (serials tries) v.serial
+  pub dropped : AllLetGo missed v.clock tries
 
 -- it couldn't begin
 abbrev pub NotBegun : Option StopCause → Seen → Seen → Type 0
 NotBegun cause u v = (at : ℕ) × (cause ≡ Some (Worn at)) × Grows [] u v
 
--- the entries that were added are those of the session's transactions, in order, each in its tries, with births and serials past all earlier ones
-abbrev pub Follows : List Body → Option ℕ → Option StopCause → Seen → Seen → Type 0
-Follows bodies most cause u v =
+-- the entries that were added are those of the session's transactions, in order, each in its tries, with births and serials past all earlier ones; and
+-- each try that was given up let go of its parts
+abbrev pub Follows : Misses → List Body → Option ℕ → Option StopCause → Seen → Seen → Type 0
+Follows missed bodies most cause u v =
     (es : History) × (f : FollowsScript u.splits u.run u.walker most bodies cause es) × Grows es u v
-    × Rise u.clock (stamps f.transactions) v.clock × Rise u.serial (serials (tries_of f.transactions)) v.serial
+    × Rise u.clock (stamps f.transactions) v.clock × Rise u.serial (serials (tries_of f.transactions)) v.serial × AllLetGo missed v.clock (tries_of f.transactions)

@@ -1,5 +1,5 @@
 -- What whoever runs a script knows of a session.
-use Rattle.std.specs.Prelude.{◌≡◌, ℕ, ◌≤◌, Bool, false, List, ◌++◌, Option}
+use Rattle.std.specs.Prelude.{◌≡◌, ℕ, ◌≤◌, ◌^◌, ◌-◌, Bool, false, List, ◌++◌, Option}
 use Rattle.clv_base.specs.declared.names.TxId.{TxId}
 use Rattle.clv_base.specs.declared.names.Birth.{Birth}
 use Rattle.clv_base.specs.Journals.{History}
@@ -24,6 +24,17 @@ pub record Seen : Type 0 where
   pub clock : ℕ
   pub serial : ℕ
   pub standing : Standing
+
+-- its clock is at its end
+abbrev pub IsWornOut : Seen → Type 0
+IsWornOut u = 2 ^ 48 - 1 ≤ u.clock
+
+-- of which transaction, on which shard, and behind which entries of the session a drop came to nothing
+abbrev pub Misses : Type 1
+Misses = TxId → ℕ → History → Type 0
+
+abbrev pub Keeps : Misses → Misses → Type 0
+Keeps before after = (tx : TxId) (n : ℕ) (es : History) → before tx n es → after tx n es
 
 -- the same session, with these entries more
 pub record Grows (es : History) (u v : Seen) : Type 0 where

@@ -19,7 +19,7 @@ use Rattle.script_runs.specs.declared.ends.TryEnd.{TryEnd}
 use Rattle.script_runs.specs.declared.ends.TryEnd.TheVariants.{Acknowledged, Empty, Asked, Aborted, Stopped}
 use Rattle.script_runs.specs.Operations.{IsOperation, ArePartsAnswered, IsBegun, IsDeath, parts_of}
 use Rattle.script_runs.specs.Tries.{IsRequest, IsLook, is_touched}
-use Rattle.script_runs.specs.Seen.{Idle, Active, Seen, Grows, untouched}
+use Rattle.script_runs.specs.Seen.{Idle, Active, Seen, Misses, Grows, IsWornOut, untouched}
 
 -- ---- beginnings
 
@@ -64,6 +64,16 @@ AreDropsOf tx touched left_out es = AllByRecursion (IsDropOf tx touched left_out
 abbrev pub TouchesBy : (ℕ → Bool) → History → (ℕ → Bool) → Type 0
 TouchesBy before es after = (n : ℕ) → after n ≡ true → (before n ≡ true) ⊎ (is_touched es n ≡ true)
 
+-- those shards are touched, and no others
+pub record TouchesJust (before : ℕ → Bool) (es : History) (after : ℕ → Bool) : Type 0 where
+  pub only : TouchesBy before es after
+  pub stay : (n : ℕ) → before n ≡ true → after n ≡ true
+  pub new : (n : ℕ) → is_touched es n ≡ true → after n ≡ true
+
+-- each touched shard has one of these drops, or a drop came to nothing there
+abbrev pub DropsEach : (ℕ → Bool) → History → (ℕ → Type 0) → Type 0
+DropsEach touched drops missed = (n : ℕ) → touched n ≡ true → (is_touched drops n ≡ true) ⊎ missed n
+
 -- ---- operations
 
 -- the bounds of a scan don't fall
@@ -84,13 +94,13 @@ IsUnanswered splits tx birth nth op es = (parts : List Answer) × ArePartsAnswer
 -- of the active transaction's operation: the shards touched after it, and its entries
 abbrev pub OperateTold : TxId → Birth → ℕ → (ℕ → Bool) → Op → Result Answer TryEnd → Seen → Seen → Type 0
 OperateTold tx birth nth touched op (Ok answer) u v =
-    (here : History) × (after : ℕ → Bool) × IsOperation u.splits tx birth (suc nth) op answer here × TouchesBy touched here after × Grows here u v
+    (here : History) × (after : ℕ → Bool) × IsOperation u.splits tx birth (suc nth) op answer here × TouchesJust touched here after × Grows here u v
     × (v.standing ≡ Active tx birth (suc nth) after)
 OperateTold tx birth nth touched op (Err (Aborted cause)) u v =
     (here drops : History) × (n : ℕ) × (after : ℕ → Bool) × IsDeath u.splits tx birth (suc nth) op cause n here × TouchesBy touched here after
     × AreDropsOf tx after (Some n) drops × Grows (here ++ drops) u v × (v.standing ≡ Idle (Some birth))
 OperateTold tx birth nth touched op (Err (Stopped (Down n))) u v =
-    (here : History) × (after : ℕ → Bool) × IsBegun u.splits tx birth (suc nth) op here × TouchesBy touched here after × Grows here u v × StaysActive tx birth after v
+    (here : History) × (after : ℕ → Bool) × IsBegun u.splits tx birth (suc nth) op here × TouchesJust touched here after × Grows here u v × StaysActive tx birth after v
 OperateTold tx birth nth touched op (Err (Stopped (Worn at))) u v = (here : History) × IsBegun u.splits tx birth (suc nth) op here × Grows here u v
 OperateTold tx birth nth touched op (Err (Stopped Memory)) u v =
     (here : History) × (IsBegun u.splits tx birth (suc nth) op here ⊎ IsUnanswered u.splits tx birth (suc nth) op here) × Grows here u v
@@ -128,26 +138,27 @@ CommitTold tx birth nth touched (Stopped (Worn at)) u v = Grows [] u v ⊎ Reque
 CommitTold tx birth nth touched (Stopped Memory) u v = Grows [] u v ⊎ RequestStands tx u v
 CommitTold tx birth nth touched Asked u v = ⊥
 
--- of its abort
-abbrev pub AbortTold : {A : Type 0} → TxId → Birth → (ℕ → Bool) → Result A StopCause → Seen → Seen → Type 0
-AbortTold tx birth touched (Ok a) u v = (drops : History) × AreDropsOf tx touched None drops × Grows drops u v × (v.standing ≡ Idle (Some birth))
-AbortTold tx birth touched (Err (Worn at)) u v = (drops : History) × AreDropsOf tx touched None drops × Grows drops u v
-AbortTold tx birth touched (Err Memory) u v = ⊥
-AbortTold tx birth touched (Err (Down n)) u v = ⊥
-AbortTold tx birth touched (Err (Unsettled n)) u v = ⊥
+-- of its abort: each shard that it touched has a drop, or a drop came to nothing there; where stamps were wanting some may have none
+abbrev pub AbortTold : {A : Type 0} → Misses → TxId → Birth → (ℕ → Bool) → Result A StopCause → Seen → Seen → Type 0
+AbortTold missed tx birth touched (Ok a) u v =
+    (drops : History) × AreDropsOf tx touched None drops × Grows drops u v × (v.standing ≡ Idle (Some birth)) × DropsEach touched drops (λ n. missed tx n u.entries)
+AbortTold missed tx birth touched (Err (Worn at)) u v = (drops : History) × AreDropsOf tx touched None drops × Grows drops u v × IsWornOut v
+AbortTold missed tx birth touched (Err Memory) u v = ⊥
+AbortTold missed tx birth touched (Err (Down n)) u v = ⊥
+AbortTold missed tx birth touched (Err (Unsettled n)) u v = ⊥
 
--- where a shard was down the active transaction is dropped, whatever its abort was answered; else nothing more is done
-abbrev pub GivenUp : TryEnd → Seen → Seen → Type 0
-GivenUp (Stopped (Down n)) u v =
+-- where a shard was down the active transaction is dropped on each shard that it touched, unless stamps were wanting; else nothing more is done
+abbrev pub GivenUp : Misses → TryEnd → Seen → Seen → Type 0
+GivenUp missed (Stopped (Down n)) u v =
     (tx : TxId) (birth : Birth) (nth : ℕ) (touched : ℕ → Bool) → u.standing ≡ Active tx birth nth touched
-    → (drops : History) × AreDropsOf tx touched None drops × Grows drops u v
-GivenUp (Stopped (Unsettled n)) u v = v ≡ u
-GivenUp (Stopped (Worn at)) u v = v ≡ u
-GivenUp (Stopped Memory) u v = v ≡ u
-GivenUp Acknowledged u v = v ≡ u
-GivenUp Empty u v = v ≡ u
-GivenUp Asked u v = v ≡ u
-GivenUp (Aborted cause) u v = v ≡ u
+    → (drops : History) × AreDropsOf tx touched None drops × Grows drops u v × (DropsEach touched drops (λ n. missed tx n u.entries) ⊎ IsWornOut v)
+GivenUp missed (Stopped (Unsettled n)) u v = v ≡ u
+GivenUp missed (Stopped (Worn at)) u v = v ≡ u
+GivenUp missed (Stopped Memory) u v = v ≡ u
+GivenUp missed Acknowledged u v = v ≡ u
+GivenUp missed Empty u v = v ≡ u
+GivenUp missed Asked u v = v ≡ u
+GivenUp missed (Aborted cause) u v = v ≡ u
 
 -- the transaction is active where a shard was down
 abbrev pub IsActiveWhereDown : TryEnd → Seen → Type 0
@@ -161,17 +172,18 @@ IsActiveWhereDown Asked u = ⊤
 IsActiveWhereDown (Aborted cause) u = ⊤
 
 -- at the line `abort`: asked for, or worn
-abbrev pub LineAborts : TxId → Birth → (ℕ → Bool) → TryEnd → Seen → Seen → Type 0
-LineAborts tx birth touched Asked u v = (drops : History) × AreDropsOf tx touched None drops × Grows drops u v × (v.standing ≡ Idle (Some birth))
-LineAborts tx birth touched (Stopped (Worn at)) u v = (drops : History) × AreDropsOf tx touched None drops × Grows drops u v
-LineAborts tx birth touched (Stopped (Down n)) u v = ⊥
-LineAborts tx birth touched (Stopped (Unsettled n)) u v = ⊥
-LineAborts tx birth touched (Stopped Memory) u v = ⊥
-LineAborts tx birth touched Acknowledged u v = ⊥
-LineAborts tx birth touched Empty u v = ⊥
-LineAborts tx birth touched (Aborted cause) u v = ⊥
+abbrev pub LineAborts : Misses → TxId → Birth → (ℕ → Bool) → TryEnd → Seen → Seen → Type 0
+LineAborts missed tx birth touched Asked u v =
+    (drops : History) × AreDropsOf tx touched None drops × Grows drops u v × (v.standing ≡ Idle (Some birth)) × DropsEach touched drops (λ n. missed tx n u.entries)
+LineAborts missed tx birth touched (Stopped (Worn at)) u v = (drops : History) × AreDropsOf tx touched None drops × Grows drops u v × IsWornOut v
+LineAborts missed tx birth touched (Stopped (Down n)) u v = ⊥
+LineAborts missed tx birth touched (Stopped (Unsettled n)) u v = ⊥
+LineAborts missed tx birth touched (Stopped Memory) u v = ⊥
+LineAborts missed tx birth touched Acknowledged u v = ⊥
+LineAborts missed tx birth touched Empty u v = ⊥
+LineAborts missed tx birth touched (Aborted cause) u v = ⊥
 
 -- the end that its lines ask for
-abbrev pub EndTold : TxId → Birth → ℕ → (ℕ → Bool) → Ending → TryEnd → Seen → Seen → Type 0
-EndTold tx birth nth touched Commit end u v = (w : Seen) × CommitTold tx birth nth touched end u w × GivenUp end w v
-EndTold tx birth nth touched Abort end u v = LineAborts tx birth touched end u v
+abbrev pub EndTold : Misses → TxId → Birth → ℕ → (ℕ → Bool) → Ending → TryEnd → Seen → Seen → Type 0
+EndTold missed tx birth nth touched Commit end u v = (w : Seen) × CommitTold tx birth nth touched end u w × GivenUp missed end w v
+EndTold missed tx birth nth touched Abort end u v = LineAborts missed tx birth touched end u v

@@ -9,7 +9,8 @@ use Rattle.script_runs.specs.declared.ends.StopCause.{StopCause}
 use Rattle.script_runs.specs.declared.ends.TryEnd.{TryEnd}
 use Rattle.script_runs.specs.declared.ends.TryEnd.TheVariants.{Acknowledged, Empty, Asked, Aborted, Stopped}
 use Rattle.script_runs.specs.Tries.{IsTry}
-use Rattle.script_runs.specs.Seen.{Standing, Idle, Seen, Grows}
+use Rattle.script_runs.specs.Dropped.{LetsGo}
+use Rattle.script_runs.specs.Seen.{Standing, Idle, Seen, Misses, Grows}
 
 -- how a try leaves the session: ready for a next one, with its birth where it was aborted
 abbrev pub LeftBy : Birth → TryEnd → Standing → Type 0
@@ -19,13 +20,14 @@ LeftBy birth Asked st = st ≡ Idle (Some birth)
 LeftBy birth (Aborted cause) st = st ≡ Idle (Some birth)
 LeftBy birth (Stopped cause) st = ⊤
 
--- the entries that were added are a try of the transaction
-pub record Tried (body : Body) (tx : TxId) (birth : Birth) (end : TryEnd) (u v : Seen) : Type 0 where
+-- the entries that were added are a try of the transaction, which let go of its parts where it was given up
+pub record Tried (missed : Misses) (body : Body) (tx : TxId) (birth : Birth) (end : TryEnd) (u v : Seen) : Type 0 where
   pub answers : List Answer
   pub entries : History
   pub is_try : IsTry u.splits body birth (record { tx = tx; answers = answers; end = end; entries = entries })
   pub grows : Grows entries u v
   pub left : LeftBy birth end v.standing
+  pub dropped : LetsGo missed v.clock (record { tx = tx; answers = answers; end = end; entries = entries }) end
 
 -- what holds where a session is stopped
 abbrev pub OnStop : (StopCause → Type 0) → TryEnd → Type 0

@@ -4,6 +4,7 @@ ghost use Rattle.std.specs.List.{list_all};
 ghost use Rattle.script_lang.specs.Laws.{is_narrow_body};
 ghost use Rattle.script_runs.specs.Ran.{stop_in, IsIdle, IdleAfter, Follows};
 ghost use Rattle.script_runs.specs.Begun.{HasBegun};
+ghost use Rattle.script_runs.specs.Seen.{Keeps};
 
 use crate::seats::{Seat, run_together};
 use crate::statements::{sessions_go_on, sessions_stop};
@@ -24,7 +25,8 @@ fn run_first<R: Wait, C: SessionCalls>(
     requires narrow { list_all is_narrow_body seat.old.transactions.now ≡ true }
     ensures session { C.holds seat.new.session }
     ensures base { C.base seat.new.session ≡ C.base seat.old.session }
-    ensures begun { HasBegun seat.old.transactions.now seat.new.transactions.now most (stop_in seat.new.ended) (C.seen seat.old.session) (C.seen seat.new.session) }
+    ensures misses { Keeps (C.missed seat.old.session) (C.missed seat.new.session) }
+    ensures begun { HasBegun (C.missed seat.new.session) seat.old.transactions.now seat.new.transactions.now most (stop_in seat.new.ended) (C.seen seat.old.session) (C.seen seat.new.session) }
     ensures idle { IdleAfter seat.new.ended (C.seen seat.new.session) }
     ensures grounds { IfErr seat.new.ended (C.grounds seat.new.session) }
 {
@@ -47,12 +49,13 @@ pub(crate) fn run_behind_first<R: Threads + Wait + Sync, C: SessionCalls + Send>
     requires narrow { (k : ℕ) (d : _) → k < length seats.old → list_all is_narrow_body (slice_index_or seats.old k d).transactions.now ≡ true }
     ensures session { (k : ℕ) (d : _) → k < length seats.old → C.holds (slice_index_or seats.new k d).session }
     ensures base { (k : ℕ) (d : _) → k < length seats.old → C.base (slice_index_or seats.new k d).session ≡ C.base (slice_index_or seats.old k d).session }
+    ensures misses { (k : ℕ) (d : _) → k < length seats.old → Keeps (C.missed (slice_index_or seats.old k d).session) (C.missed (slice_index_or seats.new k d).session) }
     ensures transactions { (k : ℕ) (d : _) → k < length seats.old → (slice_index_or seats.new k d).transactions.now ≡ (slice_index_or seats.old k d).transactions.now }
-    ensures follows { (k : ℕ) (d : _) → k < length seats.old → Follows (slice_index_or seats.old k d).transactions.now most (stop_in (slice_index_or seats.new k d).ended) (C.seen (slice_index_or seats.old k d).session) (C.seen (slice_index_or seats.new k d).session) }
+    ensures follows { (k : ℕ) (d : _) → k < length seats.old → Follows (C.missed (slice_index_or seats.new k d).session) (slice_index_or seats.old k d).transactions.now most (stop_in (slice_index_or seats.new k d).ended) (C.seen (slice_index_or seats.old k d).session) (C.seen (slice_index_or seats.new k d).session) }
     ensures grounds { (k : ℕ) (d : _) → k < length seats.old → IfErr (slice_index_or seats.new k d).ended (C.grounds (slice_index_or seats.new k d).session) }
 {
-    sessions_go_on();
-    sessions_stop();
+    sessions_go_on::<C>();
+    sessions_stop::<C>();
     if seats.is_empty() {
         return;
     }

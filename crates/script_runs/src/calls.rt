@@ -2,8 +2,9 @@
 ghost use Rattle.std.specs.Prelude.{◌≡◌, ℕ, Bool, Option, Some, IfErr, true};
 ghost use Rattle.clv_base.specs.declared.names.TxId.{TxId};
 ghost use Rattle.clv_base.specs.declared.names.Birth.{Birth as BirthIs};
+ghost use Rattle.clv_base.specs.Journals.{History};
 ghost use Rattle.script_runs.specs.declared.ends.StopCause.{StopCause as CauseIs};
-ghost use Rattle.script_runs.specs.Seen.{Standing, Idle, Active, Seen as SeenIs};
+ghost use Rattle.script_runs.specs.Seen.{Standing, Idle, Active, Seen as SeenIs, Keeps};
 ghost use Rattle.script_runs.specs.Told.{has_range, BeginTold, RetryTold, OperateTold, CommitTold, AbortTold};
 ghost use Rattle.script_runs.specs.Tried.{OnStop, OnRefusal};
 
@@ -26,6 +27,9 @@ pub trait SessionCalls {
     /// What tells that this may stop the session: for a shard that is down, that it was found so; for a worn clock, that it is at its end.
     ghost grounds: { Self → CauseIs → Type 0 };
 
+    /// What tells that behind these entries of the session a drop of this transaction came to nothing on this shard: it was down, or had nothing of it.
+    ghost missed: { Self → TxId → ℕ → History → Type 0 };
+
     /// Begins a transaction; the stamp of its birth is past all earlier ones.
     fn begin(&mut self) -> Result<(), StopCause>
         requires session { holds self.old }
@@ -33,6 +37,7 @@ pub trait SessionCalls {
         ensures session { holds self.new }
         ensures base { base self.new ≡ base self.old }
         ensures told { BeginTold result (seen self.old) (seen self.new) }
+        ensures misses { Keeps (missed self.old) (missed self.new) }
         ensures grounds { IfErr result (grounds self.new) };
 
     /// Tries the last transaction again, which ended by an abort: with its birth, and a name of its own.
@@ -42,6 +47,7 @@ pub trait SessionCalls {
         ensures session { holds self.new }
         ensures base { base self.new ≡ base self.old }
         ensures told { (birth : BirthIs) → (seen self.old).standing ≡ Idle (Some birth) → RetryTold birth result (seen self.old) (seen self.new) }
+        ensures misses { Keeps (missed self.old) (missed self.new) }
         ensures grounds { IfErr result (grounds self.new) };
 
     /// The next operation of the active transaction, on all shards that it meets. Where it died of it, its other parts are dropped.
@@ -52,6 +58,7 @@ pub trait SessionCalls {
         ensures session { holds self.new }
         ensures base { base self.new ≡ base self.old }
         ensures told { (tx : TxId) (birth : BirthIs) (nth : ℕ) (touched : ℕ → Bool) → (seen self.old).standing ≡ Active tx birth nth touched → OperateTold tx birth nth touched op result (seen self.old) (seen self.new) }
+        ensures misses { Keeps (missed self.old) (missed self.new) }
         ensures grounds { OnRefusal (grounds self.new) result };
 
     /// Commits the active transaction. Where it died or was aborted, its other parts are dropped.
@@ -61,15 +68,17 @@ pub trait SessionCalls {
         ensures session { holds self.new }
         ensures base { base self.new ≡ base self.old }
         ensures told { (tx : TxId) (birth : BirthIs) (nth : ℕ) (touched : ℕ → Bool) → (seen self.old).standing ≡ Active tx birth nth touched → CommitTold tx birth nth touched result (seen self.old) (seen self.new) }
+        ensures misses { Keeps (missed self.old) (missed self.new) }
         ensures grounds { OnStop (grounds self.new) result };
 
-    /// Aborts the active transaction: drops its parts.
+    /// Aborts the active transaction: drops it on each shard that it touched.
     fn abort(&mut self, alloc: Global) -> Result<(), StopCause>
         requires session { holds self.old }
         requires active { (tx : TxId) × (birth : BirthIs) × (nth : ℕ) × (touched : ℕ → Bool) × ((seen self.old).standing ≡ Active tx birth nth touched) }
         ensures session { holds self.new }
         ensures base { base self.new ≡ base self.old }
-        ensures told { (tx : TxId) (birth : BirthIs) (nth : ℕ) (touched : ℕ → Bool) → (seen self.old).standing ≡ Active tx birth nth touched → AbortTold tx birth touched result (seen self.old) (seen self.new) }
+        ensures told { (tx : TxId) (birth : BirthIs) (nth : ℕ) (touched : ℕ → Bool) → (seen self.old).standing ≡ Active tx birth nth touched → AbortTold (missed self.new) tx birth touched result (seen self.old) (seen self.new) }
+        ensures misses { Keeps (missed self.old) (missed self.new) }
         ensures grounds { IfErr result (grounds self.new) }
         ensures keeps { (cause : CauseIs) → grounds self.old cause → grounds self.new cause };
 }

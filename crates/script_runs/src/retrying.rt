@@ -5,7 +5,7 @@ ghost use Rattle.clv_base.specs.declared.names.TxId.{TxId};
 ghost use Rattle.clv_base.specs.declared.names.Birth.{Birth as BirthIs};
 ghost use Rattle.script_lang.specs.Laws.{is_narrow};
 ghost use Rattle.script_runs.specs.Sessions.{has_left};
-ghost use Rattle.script_runs.specs.Seen.{Active, untouched};
+ghost use Rattle.script_runs.specs.Seen.{Active, untouched, Keeps};
 ghost use Rattle.script_runs.specs.Ran.{NextIs, stop_in, IsIdle, IdleAfter, InTriesTold, Ran, NotBegun};
 
 use crate::calls::SessionCalls;
@@ -84,7 +84,8 @@ fn run_tries<R: Wait, C: SessionCalls>(
     requires narrow { list_all is_narrow transaction.now.actions ≡ true }
     ensures session { C.holds session.new }
     ensures base { C.base session.new ≡ C.base session.old }
-    ensures told { (tx : TxId) (birth : BirthIs) → (C.seen session.old).standing ≡ Active tx birth 0 untouched → tx.serial ≡ (C.seen session.old).serial → tx.run ≡ (C.seen session.old).run → tx.session ≡ (C.seen session.old).walker → InTriesTold transaction.now tx birth most (stop_in result) (C.seen session.old) (C.seen session.new) }
+    ensures misses { Keeps (C.missed session.old) (C.missed session.new) }
+    ensures told { (tx : TxId) (birth : BirthIs) → (C.seen session.old).standing ≡ Active tx birth 0 untouched → tx.serial ≡ (C.seen session.old).serial → tx.run ≡ (C.seen session.old).run → tx.session ≡ (C.seen session.old).walker → InTriesTold (C.missed session.new) transaction.now tx birth most (stop_in result) (C.seen session.old) (C.seen session.new) }
     ensures idle { IdleAfter result (C.seen session.new) }
     ensures grounds { IfErr result (C.grounds session.new) }
 {
@@ -117,7 +118,8 @@ pub(crate) fn run_transaction<R: Wait, C: SessionCalls>(
     requires narrow { list_all is_narrow transaction.now.actions ≡ true }
     ensures session { C.holds session.new }
     ensures base { C.base session.new ≡ C.base session.old }
-    ensures ran { Ran transaction.now most (stop_in result) (C.seen session.old) (C.seen session.new) ⊎ NotBegun (stop_in result) (C.seen session.old) (C.seen session.new) }
+    ensures misses { Keeps (C.missed session.old) (C.missed session.new) }
+    ensures ran { Ran (C.missed session.new) transaction.now most (stop_in result) (C.seen session.old) (C.seen session.new) ⊎ NotBegun (stop_in result) (C.seen session.old) (C.seen session.new) }
     ensures idle { IdleAfter result (C.seen session.new) }
     ensures grounds { IfErr result (C.grounds session.new) }
 {

@@ -3,6 +3,7 @@ ghost use Rattle.std.specs.Prelude.{◌≡◌, true, IfErr};
 ghost use Rattle.std.specs.List.{list_all};
 ghost use Rattle.script_lang.specs.Laws.{is_narrow_body};
 ghost use Rattle.script_runs.specs.Ran.{stop_in, IsIdle, IdleAfter, Follows};
+ghost use Rattle.script_runs.specs.Seen.{Keeps};
 
 use crate::StopCause;
 use crate::calls::SessionCalls;
@@ -25,7 +26,8 @@ pub fn run_session<R: Wait, C: SessionCalls>(
     requires narrow { list_all is_narrow_body transactions.now ≡ true }
     ensures session { C.holds session.new }
     ensures base { C.base session.new ≡ C.base session.old }
-    ensures follows { Follows transactions.now most (stop_in result) (C.seen session.old) (C.seen session.new) }
+    ensures misses { Keeps (C.missed session.old) (C.missed session.new) }
+    ensures follows { Follows (C.missed session.new) transactions.now most (stop_in result) (C.seen session.old) (C.seen session.new) }
     ensures idle { IdleAfter result (C.seen session.new) }
     ensures grounds { IfErr result (C.grounds session.new) }
 {

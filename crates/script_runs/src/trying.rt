@@ -4,7 +4,7 @@ ghost use Rattle.std.specs.List.{list_all};
 ghost use Rattle.clv_base.specs.declared.names.TxId.{TxId};
 ghost use Rattle.clv_base.specs.declared.names.Birth.{Birth as BirthIs};
 ghost use Rattle.script_lang.specs.Laws.{is_narrow};
-ghost use Rattle.script_runs.specs.Seen.{Active, untouched};
+ghost use Rattle.script_runs.specs.Seen.{Active, untouched, Keeps};
 ghost use Rattle.script_runs.specs.Told.{GivenUp, IsActiveWhereDown, EndTold};
 ghost use Rattle.script_runs.specs.Tried.{OnStop, OnRefusal, Tried};
 ghost use Rattle.script_runs.specs.Lines.{LinesTold};
@@ -27,6 +27,7 @@ fn do_lines<R: Wait, C: SessionCalls>(
     requires narrow { list_all is_narrow lines.now ≡ true }
     ensures session { C.holds session.new }
     ensures base { C.base session.new ≡ C.base session.old }
+    ensures misses { Keeps (C.missed session.old) (C.missed session.new) }
     ensures told { (tx : TxId) (birth : BirthIs) → (C.seen session.old).standing ≡ Active tx birth 0 untouched → LinesTold tx birth lines.now result (C.seen session.old) (C.seen session.new) }
     ensures grounds { OnRefusal (C.grounds session.new) result }
 {
@@ -50,7 +51,8 @@ fn drop_where_down<C: SessionCalls>(alloc: Global, session: &mut C, cause: StopC
     requires grounds { C.grounds session.old cause }
     ensures session { C.holds session.new }
     ensures base { C.base session.new ≡ C.base session.old }
-    ensures told { GivenUp (TryEnd.Stopped cause) (C.seen session.old) (C.seen session.new) }
+    ensures misses { Keeps (C.missed session.old) (C.missed session.new) }
+    ensures told { GivenUp (C.missed session.new) (TryEnd.Stopped cause) (C.seen session.old) (C.seen session.new) }
     ensures grounds { C.grounds session.new cause }
 {
     match cause {
@@ -67,7 +69,8 @@ fn give_up<C: SessionCalls>(alloc: Global, session: &mut C, end: TryEnd)
     requires grounds { OnStop (C.grounds session.old) end }
     ensures session { C.holds session.new }
     ensures base { C.base session.new ≡ C.base session.old }
-    ensures told { GivenUp end (C.seen session.old) (C.seen session.new) }
+    ensures misses { Keeps (C.missed session.old) (C.missed session.new) }
+    ensures told { GivenUp (C.missed session.new) end (C.seen session.old) (C.seen session.new) }
     ensures grounds { OnStop (C.grounds session.new) end }
 {
     match end {
@@ -81,7 +84,8 @@ fn commit<C: SessionCalls>(alloc: Global, session: &mut C) -> TryEnd
     requires active { (tx : TxId) × (birth : BirthIs) × (nth : ℕ) × (touched : ℕ → Bool) × ((C.seen session.old).standing ≡ Active tx birth nth touched) }
     ensures session { C.holds session.new }
     ensures base { C.base session.new ≡ C.base session.old }
-    ensures told { (tx : TxId) (birth : BirthIs) (nth : ℕ) (touched : ℕ → Bool) → (C.seen session.old).standing ≡ Active tx birth nth touched → EndTold tx birth nth touched Ending.Commit result (C.seen session.old) (C.seen session.new) }
+    ensures misses { Keeps (C.missed session.old) (C.missed session.new) }
+    ensures told { (tx : TxId) (birth : BirthIs) (nth : ℕ) (touched : ℕ → Bool) → (C.seen session.old).standing ≡ Active tx birth nth touched → EndTold (C.missed session.new) tx birth nth touched Ending.Commit result (C.seen session.old) (C.seen session.new) }
     ensures grounds { OnStop (C.grounds session.new) result }
 {
     let end = session.commit(alloc);
@@ -94,7 +98,8 @@ fn abort<C: SessionCalls>(alloc: Global, session: &mut C) -> TryEnd
     requires active { (tx : TxId) × (birth : BirthIs) × (nth : ℕ) × (touched : ℕ → Bool) × ((C.seen session.old).standing ≡ Active tx birth nth touched) }
     ensures session { C.holds session.new }
     ensures base { C.base session.new ≡ C.base session.old }
-    ensures told { (tx : TxId) (birth : BirthIs) (nth : ℕ) (touched : ℕ → Bool) → (C.seen session.old).standing ≡ Active tx birth nth touched → EndTold tx birth nth touched Ending.Abort result (C.seen session.old) (C.seen session.new) }
+    ensures misses { Keeps (C.missed session.old) (C.missed session.new) }
+    ensures told { (tx : TxId) (birth : BirthIs) (nth : ℕ) (touched : ℕ → Bool) → (C.seen session.old).standing ≡ Active tx birth nth touched → EndTold (C.missed session.new) tx birth nth touched Ending.Abort result (C.seen session.old) (C.seen session.new) }
     ensures grounds { OnStop (C.grounds session.new) result }
 {
     match session.abort(alloc) {
@@ -109,7 +114,8 @@ fn end_as<C: SessionCalls>(alloc: Global, session: &mut C, ending: Ending) -> Tr
     requires active { (tx : TxId) × (birth : BirthIs) × (nth : ℕ) × (touched : ℕ → Bool) × ((C.seen session.old).standing ≡ Active tx birth nth touched) }
     ensures session { C.holds session.new }
     ensures base { C.base session.new ≡ C.base session.old }
-    ensures told { (tx : TxId) (birth : BirthIs) (nth : ℕ) (touched : ℕ → Bool) → (C.seen session.old).standing ≡ Active tx birth nth touched → EndTold tx birth nth touched ending result (C.seen session.old) (C.seen session.new) }
+    ensures misses { Keeps (C.missed session.old) (C.missed session.new) }
+    ensures told { (tx : TxId) (birth : BirthIs) (nth : ℕ) (touched : ℕ → Bool) → (C.seen session.old).standing ≡ Active tx birth nth touched → EndTold (C.missed session.new) tx birth nth touched ending result (C.seen session.old) (C.seen session.new) }
     ensures grounds { OnStop (C.grounds session.new) result }
 {
     match ending {
@@ -131,7 +137,8 @@ pub(crate) fn run_try<R: Wait, C: SessionCalls>(
     requires narrow { list_all is_narrow transaction.now.actions ≡ true }
     ensures session { C.holds session.new }
     ensures base { C.base session.new ≡ C.base session.old }
-    ensures tried { (tx : TxId) (birth : BirthIs) → (C.seen session.old).standing ≡ Active tx birth 0 untouched → Tried transaction.now tx birth result (C.seen session.old) (C.seen session.new) }
+    ensures misses { Keeps (C.missed session.old) (C.missed session.new) }
+    ensures tried { (tx : TxId) (birth : BirthIs) → (C.seen session.old).standing ≡ Active tx birth 0 untouched → Tried (C.missed session.new) transaction.now tx birth result (C.seen session.old) (C.seen session.new) }
     ensures grounds { OnStop (C.grounds session.new) result }
 {
     match do_lines(rt, alloc, session, transaction.actions()) {

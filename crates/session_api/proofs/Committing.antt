@@ -181,17 +181,17 @@ module _ {M S G : Type 0} (sh : Shards M S G) (w v : Walker M S G) (p q : Sessio
   grown en xs ys a b = grows_by sh w v (is_active p birth) en (asking ++ rest) (xs ++ ys) same took (made_in_more asking rest ∙ ap (λ l. l ++ made_in rest) a ∙ ap (λ l. xs ++ l) b)
 
   -- after a request that stands
-  pub settled_told : (d : Result Point SettleError) (a : AskedSo n (Request p.tx p.touched) out.Asked (made_in asking)) → DecidedSo n p.tx p.touched d (made_in rest)
-      → CommitTold p.tx birth p.nth (touched_in p.touched) (commit_end (committed_as d)) (seen_as sh w (is_active p birth)) (seen_as sh v (after_commit q birth (committed_as d)))
-  settled_told d a h = at d h
+  pub settled_told : (asked : Point) (d : Result Point SettleError) (a : AskedSo n (Request p.tx p.touched) out.Asked (made_in asking)) → DecidedSo n p.tx p.touched d (made_in rest)
+      → CommitTold p.tx birth p.nth (touched_in p.touched) (commit_end (committed_as asked d)) (seen_as sh w (is_active p birth)) (seen_as sh v (after_commit q birth (committed_as asked d)))
+  settled_told asked d a h = at d h
     where
       first : IsRequest p.tx n out.Asked (n, a.entry)
       first = as_request out.Asked a.entry a.event a.outcome
 
       at : (d : Result Point SettleError) → DecidedSo n p.tx p.touched d (made_in rest)
-          → CommitTold p.tx birth p.nth (touched_in p.touched) (commit_end (committed_as d)) (seen_as sh w (is_active p birth)) (seen_as sh v (after_commit q birth (committed_as d)))
+          → CommitTold p.tx birth p.nth (touched_in p.touched) (commit_end (committed_as asked d)) (seen_as sh w (is_active p birth)) (seen_as sh v (after_commit q birth (committed_as asked d)))
       at (Ok point) (e, is, event, outcome) =
-          (n, (n, a.entry), (n, e), first, as_look out.Acknowledged e event outcome, grown (after_commit q birth (Ok (Committed point))) ((n, a.entry) ∷ []) ((n, e) ∷ []) a.is is, refl)
+          (n, (n, a.entry), (n, e), first, as_look out.Acknowledged e event outcome, grown (after_commit q birth (Ok (Committed asked))) ((n, a.entry) ∷ []) ((n, e) ∷ []) a.is is, refl)
       at (Err (settle.Aborted cause)) (e, drops, is, event, outcome, are) = (
         inr (n, (n, a.entry), (n, e), drops, first, as_look (out.Aborted cause) e event outcome, are, grown (after_commit q birth (Err (commit.Aborted cause))) ((n, a.entry) ∷ []) ((n, e) ∷ drops) a.is is),
         refl,
@@ -228,9 +228,9 @@ module _ {M S G : Type 0} (sh : Shards M S G) (w v : Walker M S G) (p q : Sessio
 
 module _ {M S G : Type 0} (sh : Shards M S G) (w v : Walker M S G) (p q : SessionState) (birth : Birth) (n : ℕ) (active : IsActive sh w p) (lowest : is_lowest n p.touched ≡ true) (same : IsSameWalker w v) (stands : StandsAs sh v q) where
   -- by what the request was answered
-  committed : (r : Result Settled CommitError) (c : Committing (length sh.locks.items) w.number w.clock w.passes.items n p r v.clock v.passes.items q)
+  committed : (stamp : ℕ) (r : Result Settled CommitError) (c : Committing (length sh.locks.items) w.number w.clock w.passes.items n p stamp r v.clock v.passes.items q)
       → CommitTold p.tx birth p.nth (touched_in p.touched) (commit_end r) (seen_as sh w (is_active p birth)) (seen_as sh v (after_commit q birth r))
-  committed r c = at c.answer c.asked c.told
+  committed stamp r c = at c.answer c.asked c.told
     where
       last : p ≡ active.state
       last = touched_are_last active.state p active.goes (inl (lowest_some n p.touched lowest))
@@ -256,7 +256,7 @@ module _ {M S G : Type 0} (sh : Shards M S G) (w v : Walker M S G) (p q : Sessio
       middle : (m : SessionState) × (after_from sh.splits (Some active.state) (made_in c.asking) ≡ Some m) × (after_from sh.splits (Some m) (made_in c.rest) ≡ Some end.0)
       middle = between sh.splits active.state end.0 (made_in c.asking) (made_in c.rest) leads
 
-      at : (answer : Result Outcome StepError) → IsTurnOf n (Request p.tx p.touched) answer c.asking → CommittedBy (length sh.locks.items) n p answer r c.rest q
+      at : (answer : Result Outcome StepError) → IsTurnOf n (Request p.tx p.touched) answer c.asking → CommittedBy (length sh.locks.items) n p (record { stamp = stamp; shard = n }) answer r c.rest q
           → CommitTold p.tx birth p.nth (touched_in p.touched) (commit_end r) (seen_as sh w (is_active p birth)) (seen_as sh v (after_commit q birth r))
       at (Ok out.Asked) turn (d, is, told) =
           let a = asked_so w.number n (Request p.tx p.touched) out.Asked c.asking refl refl plain_asking turn in
@@ -264,7 +264,7 @@ module _ {M S G : Type 0} (sh : Shards M S G) (w v : Walker M S G) (p q : Sessio
           let phase : middle.0.phase ≡ IsStanding n = ap (λ z. z.phase) (sym (some_same (record active.state { phase = IsStanding n }) middle.0 m)) in
           let b = behind_request sh.splits w.number n p.tx p.touched middle.0 end.0 (turns_of_session c.rest) phase (behind_it p.tx p.touched n c.rest c.only) (all_session (IsPlain w.number) c.rest plain_rest) middle.2 in
           subst (λ z. CommitTold p.tx birth p.nth (touched_in p.touched) (commit_end z) (seen_as sh w (is_active p birth)) (seen_as sh v (after_commit q birth z))) (sym is)
-          (settled_told sh w v p q birth n c.asking c.rest same c.took d a (decided_so w.number (length sh.locks.items) n p q end.0.phase d c.rest plain_rest b told (λ k. ap (λ z. z.phase) (end.2 k))))
+          (settled_told sh w v p q birth n c.asking c.rest same c.took (record { stamp = stamp; shard = n }) d a (decided_so w.number (length sh.locks.items) n p q end.0.phase d c.rest plain_rest b told (λ k. ap (λ z. z.phase) (end.2 k))))
       at (Ok (out.Dead cause)) turn (is, others, place) =
           let a = asked_so w.number n (Request p.tx p.touched) (out.Dead cause) c.asking refl refl plain_asking turn in
           let m = after_request sh.splits n active.state middle.0 p.tx p.touched (out.Dead cause) (made_in c.asking) a middle.1 in
@@ -284,11 +284,11 @@ module _ {M S G : Type 0} (sh : Shards M S G) (w v : Walker M S G) (p q : Sessio
       at (Ok o) turn told = absurd told
 
 pub commits_tell : (M S G : Type 0) → CommitsTell M S G
-commits_tell M S G sh w v p q birth r active has same (inl (none, is, stays, place)) stands =
+commits_tell M S G sh w v p q birth stamp r active has same (inl (none, is, stays, place)) stands =
     subst (λ z. CommitTold p.tx birth p.nth (touched_in p.touched) (commit_end z) (seen_as sh w (is_active p birth)) (seen_as sh v (after_commit q birth z))) (sym is)
     (subst (λ z. CommitTold p.tx birth p.nth (touched_in p.touched) (commit_end (Ok Empty)) (seen_as sh w (is_active p birth)) (seen_as sh z (after_commit q birth (Ok Empty)))) (sym stays) (
       untouched_unnumbered sh w p active none,
       grows_by sh w w (is_active p birth) (after_commit q birth (Ok Empty)) [] [] (refl, refl) (no_turn w.clock w.passes.items) refl,
       refl,
     ))
-commits_tell M S G sh w v p q birth r active has same (inr (n, lowest, c)) stands = committed sh w v p q birth n active lowest same stands r c
+commits_tell M S G sh w v p q birth stamp r active has same (inr (n, lowest, c)) stands = committed sh w v p q birth n active lowest same stands stamp r c

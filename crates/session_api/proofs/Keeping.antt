@@ -1,5 +1,5 @@
 -- What a session's calls leave.
-use Rattle.std.proofs.Common.{sym, subst, ℕ, Bool, true, false, List, ◌++◌, length, Option, None, Result, Ok, Err, inl, inr}
+use Rattle.std.proofs.Common.{◌≡◌, refl, sym, ap, subst, ℕ, Bool, true, false, List, ◌++◌, length, Option, None, Result, Ok, Err, inl, inr}
 use Rattle.clv_base.specs.declared.names.Point.{Point}
 use Rattle.clv_base.specs.declared.ops.Op.{Op}
 use Rattle.clv_base.specs.Sessions.{SessionState, Phase, Touching, Ended as HasEnded, Standing, Told, Refused}
@@ -23,9 +23,15 @@ use Rattle.session_ops.specs.declared.committing.Settled.{Settled}
 use Rattle.session_ops.specs.declared.committing.CommitError.{CommitError as CommitFailure}
 use Rattle.session_ops.specs.Standings.{StandsAt, StandsAs, IsUnasked, IsAborted}
 use Rattle.session_ops.specs.Decided.{Deciding}
-use Rattle.session_ops.specs.Committed.{CommitTold}
+use Rattle.session_ops.specs.Committed.{CommitTold, PointsAtRequest}
+use Rattle.session_ops.specs.declared.settled_looking.SettleError.TheVariants as settle
+use Rattle.session_ops.specs.declared.committing.Settled.TheVariants.{Committed, Empty}
+use Rattle.session_ops.specs.declared.committing.CommitError.TheVariants as unmade
+use Rattle.session_api.specs.declared.ending.CommitError.{CommitError}
+use Rattle.session_ops.specs.Requested.{HasRequest}
+use Rattle.session_ops.proofs.Laws.{request_stays, decided_asked, commit_asked}
 use Rattle.session_api.specs.declared.progress.Progress.TheVariants.{Active, Asked}
-use Rattle.session_api.specs.Progresses.{after_op, after_commit, progress_committed, progress_aborted, is_nothing}
+use Rattle.session_api.specs.Progresses.{after_op, commit_told, settle_told, after_commit, progress_committed, progress_aborted, is_nothing}
 use Rattle.session_api.specs.Sessions.{StandsIn, IsSession}
 
 module _ {M S G : Type 0} (sh : Shards M S G) where
@@ -62,28 +68,64 @@ module _ {M S G : Type 0} (sh : Shards M S G) where
 
   -- ---- commits
 
-  pub at_stands : (v : Walker M S G) (q : SessionState) (x : Phase) → StandsAt x sh v q → StandsIn sh v (after_commit q x)
-  at_stands v q Touching h = h
-  at_stands v q HasEnded h = ended_are_retriable M S G sh v q h
-  at_stands v q (Standing home) h = h
-  at_stands v q Told h = (q, h)
-  at_stands v q Refused h = ended_are_retriable M S G sh v q h
+  pub at_stands : (v : Walker M S G) (q : SessionState) (stamp : ℕ) (x : Phase) → ((home : ℕ) → x ≡ Standing home → HasRequest v.passes.items q (record { stamp = stamp; shard = home })) → StandsAt x sh v q → StandsIn sh v (after_commit q stamp x)
+  at_stands v q stamp Touching has h = h
+  at_stands v q stamp HasEnded has h = ended_are_retriable M S G sh v q h
+  at_stands v q stamp (Standing home) has h = (h, has home refl)
+  at_stands v q stamp Told has h = (q, h)
+  at_stands v q stamp Refused has h = ended_are_retriable M S G sh v q h
 
-  committed_stands : (v : Walker M S G) (q : SessionState) (empty : Bool) → StandsAs sh v q → StandsIn sh v (progress_committed q empty)
-  committed_stands v q true h = at_idle v q q.phase h
-  committed_stands v q false h = at_stands v q q.phase h
+  abbrev AskedStands : Walker M S G → SessionState → ℕ → Type 0
+  AskedStands v q stamp = (home : ℕ) → q.phase ≡ Standing home → HasRequest v.passes.items q (record { stamp = stamp; shard = home })
 
-  commit_lands : (w v : Walker M S G) (p q : SessionState) (r : Result Settled CommitFailure) → IsSameWalker w v → CommitTold (length sh.locks.items) w p r v q → HasLanded w.number w.passes.items → HasLanded v.number v.passes.items
-  commit_lands w v p q r same (inl (none, is, stays, place)) h = subst (λ z. HasLanded z.number z.passes.items) (sym stays) h
-  commit_lands w v p q r same (inr (home, low, c)) h = landed_after w v (c.asking ++ c.rest) same c.took h
+  committed_stands : (v : Walker M S G) (q : SessionState) (stamp : ℕ) (empty : Bool) → AskedStands v q stamp → StandsAs sh v q → StandsIn sh v (progress_committed q stamp empty)
+  committed_stands v q stamp true has h = at_idle v q q.phase h
+  committed_stands v q stamp false has h = at_stands v q stamp q.phase has h
 
-  pub commit_session : (w v : Walker M S G) (p q : SessionState) (r : Result Settled CommitFailure) → IsSession sh w (Active p) → IsSameWalker w v → CommitTold (length sh.locks.items) w p r v q → StandsAs sh v q
-      → IsSession sh v (progress_committed q (is_nothing r))
-  commit_session w v p q r h same told stands = record { stands = committed_stands v q (is_nothing r) stands; landed = commit_lands w v p q r same told h.landed }
+  commit_lands : (w v : Walker M S G) (p q : SessionState) (stamp : ℕ) (r : Result Settled CommitFailure) → IsSameWalker w v → CommitTold (length sh.locks.items) w p stamp r v q → HasLanded w.number w.passes.items → HasLanded v.number v.passes.items
+  commit_lands w v p q stamp r same (inl (none, is, stays, place)) h = subst (λ z. HasLanded z.number z.passes.items) (sym stays) h
+  commit_lands w v p q stamp r same (inr (home, low, c)) h = landed_after w v (c.asking ++ c.rest) same c.took h
 
-  pub looks_session : (w v : Walker M S G) (p q : SessionState) (home : ℕ) (r : Result Point SettleError) → IsSession sh w (Asked p home) → IsSameWalker w v
-      → Deciding (length sh.locks.items) w.number w.clock w.passes.items home p r v.clock v.passes.items q → StandsAs sh v q → IsSession sh v (after_commit q q.phase)
-  looks_session w v p q home r h same d stands = record { stands = at_stands v q q.phase stands; landed = landed_after w v d.turns same d.took h.landed }
+  pub commit_session : (w v : Walker M S G) (p q : SessionState) (stamp : ℕ) (r : Result Settled CommitFailure) → IsSession sh w (Active p) → IsSameWalker w v → CommitTold (length sh.locks.items) w p stamp r v q → StandsAs sh v q
+      → IsSession sh v (progress_committed q stamp (is_nothing r))
+  commit_session w v p q stamp r h same told stands = record {
+    stands = committed_stands v q stamp (is_nothing r) (λ home is. commit_asked (length sh.locks.items) stamp home w v p q r h.stands.touching told is) stands;
+    landed = commit_lands w v p q stamp r same told h.landed;
+  }
+
+  pub looks_session : (w v : Walker M S G) (p q : SessionState) (home stamp : ℕ) (r : Result Point SettleError) → IsSession sh w (Asked p home stamp) → IsSameWalker w v
+      → Deciding (length sh.locks.items) w.number w.clock w.passes.items home p r v.clock v.passes.items q → StandsAs sh v q → IsSession sh v (after_commit q stamp q.phase)
+  looks_session w v p q home stamp r h same d stands = record {
+    stands = at_stands v q stamp q.phase (λ k is. decided_asked (length sh.locks.items) home k stamp v.passes.items p q r d.turns (request_stays w.number w.clock v.clock w.passes.items v.passes.items d.turns p (record { stamp = stamp; shard = home }) d.took h.stands.1) d.told is) stands;
+    landed = landed_after w v d.turns same d.took h.landed;
+  }
+
+  -- the point that a session answers is that of the request
+
+  pub told_point : (v : Walker M S G) (p : SessionState) (a : Result Settled CommitFailure) (r : Result Settled CommitError) → r ≡ commit_told a → PointsAtRequest v.passes.items p a → PointsAtRequest v.passes.items p r
+  told_point v p a r is h = subst (PointsAtRequest v.passes.items p) (sym is) (at a h)
+    where
+      at : (a : Result Settled CommitFailure) → PointsAtRequest v.passes.items p a → PointsAtRequest v.passes.items p (commit_told a)
+      at (Ok (Committed point)) h = h
+      at (Ok Empty) h = tt
+      at (Err (unmade.Aborted cause)) h = tt
+      at (Err (unmade.Down n)) h = tt
+      at (Err (unmade.Unsettled n)) h = tt
+      at (Err (unmade.Worn t)) h = tt
+      at (Err unmade.Memory) h = tt
+
+  pub looks_point : (w v : Walker M S G) (p q : SessionState) (home stamp : ℕ) (d : Result Point SettleError) (r : Result Settled CommitError) → IsSession sh w (Asked p home stamp)
+      → Deciding (length sh.locks.items) w.number w.clock w.passes.items home p d v.clock v.passes.items q → r ≡ settle_told (record { stamp = stamp; shard = home }) d → PointsAtRequest v.passes.items p r
+  looks_point w v p q home stamp d r h made is =
+      subst (PointsAtRequest v.passes.items p) (sym is)
+      (at d (request_stays w.number w.clock v.clock w.passes.items v.passes.items made.turns p (record { stamp = stamp; shard = home }) made.took h.stands.1))
+    where
+      at : (d : Result Point SettleError) → HasRequest v.passes.items p (record { stamp = stamp; shard = home }) → PointsAtRequest v.passes.items p (settle_told (record { stamp = stamp; shard = home }) d)
+      at (Ok look) h = h
+      at (Err (settle.Aborted cause)) h = tt
+      at (Err (settle.Unsettled n)) h = tt
+      at (Err (settle.Worn t)) h = tt
+      at (Err settle.Memory) h = tt
 
   -- ---- aborts
 

@@ -3,7 +3,13 @@ use Rattle.std.proofs.Common.{◌≡◌, ◌∙◌, refl, sym, ap, subst, ℕ, s
 use Rattle.std.proofs.lemmas.Bool.{lt-ltb, le-leb}
 use Rattle.history_replay.specs.Entries.{on_shard, merged, merged_from}
 use Rattle.clv_base.specs.Sessions.{no_session, is_session_number}
-use Rattle.script_runs.specs.Sessions.{FollowsScript, session_entries}
+use Rattle.clv_base.specs.Journals.{History}
+use Rattle.script_lang.specs.Bodies.{Body}
+use Rattle.script_runs.specs.declared.ends.StopCause.{StopCause}
+use Rattle.script_runs.specs.Sessions.{FollowsScript, session_entries, tries_of}
+use Rattle.script_runs.specs.Seen.{Misses}
+use Rattle.script_runs.specs.Dropped.{AllLetGo}
+use Rattle.session_api.specs.Grounds.{HasMissed}
 use Rattle.turn_lock.specs.declared.pass.Pass.{Pass}
 use Rattle.turn_lock.specs.Passes.{own}
 use Rattle.machine_laws.specs.declared.notes.Note.{Note}
@@ -108,7 +114,7 @@ ready_walker M S G sh w (progress.Worn p) h = unasked_walker h.0
     unasked_walker : IsUnasked sh w p → IsWalker sh w
     unasked_walker (inl active) = (active.ready).walker
     unasked_walker (inr ending) = ((ending.over).ready).walker
-ready_walker M S G sh w (progress.Asked p home) h = (h.ready).walker
+ready_walker M S G sh w (progress.Asked p home stamp) h = (h.0.ready).walker
 ready_walker M S G sh w (progress.Ended p) h = (h.ready).walker
 
 pub sessions_rest : (M S G : Type 0) → SessionsRest M S G
@@ -120,10 +126,17 @@ sessions_rest M S G sh w s h = record {
   disks = h.disks;
 }
 
+-- the session's entries are all that it had
+all_its : (splits : List ℕ) (run walker number clock : ℕ) (most : Option ℕ) (bodies : List Body) (cause : Option StopCause) (missed : Misses) (es fs : History) → walker ≡ number → fs ≡ es
+    → (f : FollowsScript splits run walker most bodies cause es) → AllLetGo missed clock (tries_of f.transactions) → (g : FollowsScript splits run number most bodies cause fs) × AllLetGo missed clock (tries_of g.transactions)
+all_its splits run walker number clock most bodies cause missed es fs is same f dropped =
+    subst (λ k. (g : FollowsScript splits run k most bodies cause fs) × AllLetGo missed clock (tries_of g.transactions)) is
+    (subst (λ l. (g : FollowsScript splits run walker most bodies cause l) × AllLetGo missed clock (tries_of g.transactions)) (sym same) (f, dropped))
+
 pub scripts_follow : (M S G : Type 0) → ScriptsFollow M S G
 scripts_follow M S G sh number first w v s t bodies most cause new f =
     let g = f.2 in (
       g.walker_is ∙ new.number_is,
-      subst (λ k. FollowsScript sh.splits sh.run k most bodies cause (session_entries (kept v.passes.items))) new.number_is
-          (subst (FollowsScript sh.splits sh.run w.number most bodies cause) (sym (g.entries_are ∙ ap (λ l. session_entries l ++ f.0) (keeps_nothing sh number w new.new))) f.1),
+      all_its sh.splits sh.run w.number number v.clock most bodies cause (HasMissed v) f.0 (session_entries (kept v.passes.items)) new.number_is
+          (g.entries_are ∙ ap (λ l. session_entries l ++ f.0) (keeps_nothing sh number w new.new)) f.1 f.5,
     )

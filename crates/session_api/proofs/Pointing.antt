@@ -4,7 +4,8 @@ use Rattle.std.specs.Prelude.{◌⊎◌, is_some, not, IfOk}
 use Rattle.std.specs.List.{AllByRecursion}
 use Rattle.std.specs.Map.{lookup}
 use Rattle.std.specs.BTreeMap.{insert_entry}
-use Rattle.std.specs.Ordering.{nat_cmp, match_ordering}
+use Rattle.std.specs.Ordering.{nat_cmp, match_ordering, is_eq}
+use Rattle.clv_base.proofs.SameNames.{nat_cmp_true}
 use Rattle.std.specs.declared.cmp.Ordering.{Ordering}
 use Rattle.std.specs.declared.cmp.Ordering.TheVariants.{Less, Equal, Greater}
 use Rattle.std.proofs.lemmas.Bool.{both_ways, and_parts}
@@ -37,7 +38,7 @@ use Rattle.session_ops.specs.Parts.{has_died, value_in, LeftBy, Performing, Stan
 use Rattle.script_runs.specs.Operations.{IsBegun, IsPart, ArePartsAnswered, parts_of, answer_of, first_answer, no_part, part}
 use Rattle.script_runs.specs.Tries.{is_touched}
 use Rattle.script_runs.specs.Seen.{Standing, Idle, Active, Grows}
-use Rattle.script_runs.specs.Told.{IsDropOf, AreDropsOf, TouchesBy, OperateTold}
+use Rattle.script_runs.specs.Told.{IsDropOf, AreDropsOf, TouchesBy, TouchesJust, OperateTold}
 use Rattle.session_api.specs.Seeing.{seen_as, touched_in, is_active, unless_dead, value_end}
 use Rattle.session_api.specs.ToldLaws.{IsAt, gets, puts, dels, PointsTell}
 use Rattle.session_api.proofs.Following.{IsPlain, are_plain, all_before, all_behind, made_in, made_in_more, made_of, between, turns_lead}
@@ -94,6 +95,57 @@ touches_one n epoch ts us x is m h = at (touched_by n epoch ts m (subst (λ l. t
     at : (touched_in ts m ≡ true) ⊎ ((m == n) ≡ true) → (touched_in ts m ≡ true) ⊎ (is_touched ((n, x) ∷ []) m ≡ true)
     at (inl k) = inl k
     at (inr k) = inr (ap (λ b. b || false) (eq-eqb n m (sym (eqb-true m n k))))
+
+-- what was touched stays so
+stays_in : (n epoch m : ℕ) (ts : List (ℕ × ℕ)) → touched_in ts m ≡ true → touched_in (insert_entry nat_cmp ts n epoch) m ≡ true
+stays_in n epoch m [] h = absurd (both_ways false refl h)
+stays_in n epoch m (t ∷ ts) h = at (nat_cmp n t.0) (stays_in n epoch m ts)
+  where
+    at : (o : Ordering) → (touched_in ts m ≡ true → touched_in (insert_entry nat_cmp ts n epoch) m ≡ true) → touched_in (match_ordering o ((n, epoch) ∷ t ∷ ts) ((t.0, epoch) ∷ ts) (t ∷ insert_entry nat_cmp ts n epoch)) m ≡ true
+    at Less rest = or_found (m == n) epoch (lookup (◌==◌ m) (t ∷ ts)) (inr h)
+    at Equal rest = or_found (m == t.0) epoch (lookup (◌==◌ m) ts) (found_or (m == t.0) t.1 (lookup (◌==◌ m) ts) h)
+    at Greater rest = by (found_or (m == t.0) t.1 (lookup (◌==◌ m) ts) h)
+      where
+        by : ((m == t.0) ≡ true) ⊎ (touched_in ts m ≡ true) → touched_in (t ∷ insert_entry nat_cmp ts n epoch) m ≡ true
+        by (inl k) = or_found (m == t.0) t.1 (lookup (◌==◌ m) (insert_entry nat_cmp ts n epoch)) (inl k)
+        by (inr k) = or_found (m == t.0) t.1 (lookup (◌==◌ m) (insert_entry nat_cmp ts n epoch)) (inr (rest k))
+
+new_in : (n epoch : ℕ) (ts : List (ℕ × ℕ)) → touched_in (insert_entry nat_cmp ts n epoch) n ≡ true
+new_in n epoch [] = or_found (n == n) epoch None (inl (eq-eqb n n refl))
+new_in n epoch (t ∷ ts) = at (nat_cmp n t.0) refl (new_in n epoch ts)
+  where
+    at : (o : Ordering) → nat_cmp n t.0 ≡ o → touched_in (insert_entry nat_cmp ts n epoch) n ≡ true → touched_in (match_ordering o ((n, epoch) ∷ t ∷ ts) ((t.0, epoch) ∷ ts) (t ∷ insert_entry nat_cmp ts n epoch)) n ≡ true
+    at Less is rest = or_found (n == n) epoch (lookup (◌==◌ n) (t ∷ ts)) (inl (eq-eqb n n refl))
+    at Equal is rest = or_found (n == t.0) epoch (lookup (◌==◌ n) ts) (inl (eq-eqb n t.0 (nat_cmp_true n t.0 (ap is_eq is))))
+    at Greater is rest = or_found (n == t.0) t.1 (lookup (◌==◌ n) (insert_entry nat_cmp ts n epoch)) (inr rest)
+
+pub touch_stays : (n epoch m : ℕ) (ts : List (ℕ × ℕ)) → touched_in ts m ≡ true → touched_in (touch n epoch ts) m ≡ true
+touch_stays n epoch m ts h = at (is_some (lookup (◌==◌ n) ts))
+  where
+    at : (b : Bool) → touched_in (cond b ts (insert_entry nat_cmp ts n epoch)) m ≡ true
+    at true = h
+    at false = stays_in n epoch m ts h
+
+pub touch_new : (n epoch : ℕ) (ts : List (ℕ × ℕ)) → touched_in (touch n epoch ts) n ≡ true
+touch_new n epoch ts = at (is_some (lookup (◌==◌ n) ts)) refl
+  where
+    at : (b : Bool) → is_some (lookup (◌==◌ n) ts) ≡ b → touched_in (cond b ts (insert_entry nat_cmp ts n epoch)) n ≡ true
+    at true is = is
+    at false is = new_in n epoch ts
+
+pub touches_just_one : (n epoch : ℕ) (ts us : List (ℕ × ℕ)) (x : Entry) → us ≡ touch n epoch ts → TouchesJust (touched_in ts) ((n, x) ∷ []) (touched_in us)
+touches_just_one n epoch ts us x is = record {
+  only = touches_one n epoch ts us x is;
+  stay = λ m h. subst (λ l. touched_in l m ≡ true) (sym is) (touch_stays n epoch m ts h);
+  new = λ m h. subst (λ l. touched_in l m ≡ true) (sym is) (subst (λ k. touched_in (touch n epoch ts) k ≡ true) (eqb-true n m (or_none (n == m) h)) (touch_new n epoch ts));
+}
+  where
+    or_none : (b : Bool) → (b || false) ≡ true → b ≡ true
+    or_none true h = refl
+    or_none false h = h
+
+pub touches_just_none : (touched : ℕ → Bool) → TouchesJust touched [] touched
+touches_just_none touched = record { only = λ m h. inl h; stay = λ m h. h; new = λ m h. absurd (both_ways false refl h) }
 
 pub touches_none : (touched : ℕ → Bool) (es : History) → TouchesBy touched es touched
 touches_none touched es m h = inl h
@@ -248,7 +300,7 @@ module _ {M S G : Type 0} (sh : Shards M S G) (w v : Walker M S G) (p q : Sessio
           (part (shard_of sh.splits key, o) (Value value) epoch (shard_of sh.splits key, x) [] [] [] (as_part x (Answered (Value value) epoch) event outcome) no_part);
       whole = sym (at_answer key o (Value value ∷ []) is_at);
     },
-    touches_one (shard_of sh.splits key) epoch' p.touched q.touched x (ap (λ z. z.touched) place),
+    touches_just_one (shard_of sh.splits key) epoch' p.touched q.touched x (ap (λ z. z.touched) place),
     grows_by sh w v (is_active p birth) (is_active q birth) (h.asking ++ h.leaving) ((shard_of sh.splits key, x) ∷ []) same h.took
         (made_asking sh w v (length sh.locks.items) (shard_of sh.splits key) p (Op p.tx birth (p.nth + 1) (lookup (◌==◌ (shard_of sh.splits key)) p.touched) o) (Ok (Value value)) h refl ∙ is),
     ap (λ t. Active t birth q.nth (touched_in q.touched)) (ap (λ z. z.tx) place) ∙ ap (λ k. Active p.tx birth k (touched_in q.touched)) (ap (λ z. z.nth) place ∙ next),
@@ -281,7 +333,7 @@ module _ {M S G : Type 0} (sh : Shards M S G) (w v : Walker M S G) (p q : Sessio
     [],
     touched_in p.touched,
     begun,
-    touches_none (touched_in p.touched) [],
+    touches_just_none (touched_in p.touched),
     grows_by sh w v (is_active p birth) (is_active q birth) (h.asking ++ h.leaving) [] same h.took
         (made_asking sh w v (length sh.locks.items) (shard_of sh.splits key) p (Op p.tx birth (p.nth + 1) (lookup (◌==◌ (shard_of sh.splits key)) p.touched) o) (Err (op.Down m)) h refl ∙ is),
     (p.nth, ap (λ z. is_active z birth) place),

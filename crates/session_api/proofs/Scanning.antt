@@ -32,12 +32,12 @@ use Rattle.script_runs.specs.Operations.{scan_within, part_at, scan_parts, pairs
 use Rattle.script_runs.specs.Sessions.{session_entries}
 use Rattle.script_runs.specs.Tries.{is_touched}
 use Rattle.script_runs.specs.Seen.{Standing, Idle, Active, Grows}
-use Rattle.script_runs.specs.Told.{AreDropsOf, TouchesBy, IsUnanswered, OperateTold}
+use Rattle.script_runs.specs.Told.{AreDropsOf, TouchesBy, TouchesJust, IsUnanswered, OperateTold}
 use Rattle.session_api.specs.Seeing.{seen_as, touched_in, is_active, unless_dead, pairs_end}
 use Rattle.session_api.specs.ToldLaws.{ScansTell}
 use Rattle.session_api.proofs.Following.{made_in, made_in_more}
 use Rattle.session_api.proofs.ToldOperating.{IsLastOn, EntriesBy}
-use Rattle.session_api.proofs.Pointing.{touches_one, touches_none, seen_grows, asked_entries, others_drop, made_asking}
+use Rattle.session_api.proofs.Pointing.{touches_just_one, touches_just_none, touches_none, seen_grows, asked_entries, others_drop, made_asking}
 use Rattle.law_base.proofs.Lists.{is_shard}
 
 -- ---- parts
@@ -145,6 +145,21 @@ then_touches es fs before middle after a b k h = at (b k h)
     at (inl t) = first (a k t)
     at (inr t) = inr (behind (or_right (is_touched es k) (is_touched fs k) t))
 
+then_touches_just : (es fs : History) (before middle after : ℕ → Bool) → TouchesJust before es middle → TouchesJust middle fs after → TouchesJust before (es ++ fs) after
+then_touches_just es fs before middle after a b = record {
+  only = then_touches es fs before middle after a.only b.only;
+  stay = λ k h. b.stay k (a.stay k h);
+  new = λ k h. at k (either (is_touched es k) (is_touched fs k) (sym (list_any-append (λ e. e.0 == k) es fs) ∙ h));
+}
+  where
+    either : (x y : Bool) → (x || y) ≡ true → (x ≡ true) ⊎ (y ≡ true)
+    either true y h = inl refl
+    either false y h = inr h
+
+    at : (k : ℕ) → (is_touched es k ≡ true) ⊎ (is_touched fs k ≡ true) → after k ≡ true
+    at k (inl t) = b.stay k (a.new k t)
+    at k (inr t) = b.new k t
+
 -- ---- the parts so far
 
 module _ {M S G : Type 0} (sh : Shards M S G) (birth : Birth) (lo hi : ℕ) (w : Walker M S G) (p : SessionState) (rise : IsTrue (are_splits sh.splits)) (small : hi < 2 ^ 64) (has : p.birth ≡ Some birth) where
@@ -154,7 +169,7 @@ module _ {M S G : Type 0} (sh : Shards M S G) (birth : Birth) (lo hi : ℕ) (w :
     pub same : IsSameWalker w u
     pub clock : w.clock ≤ u.clock
     pub parts : ArePartsAnswered p.tx birth (suc p.nth) (scan_parts sh.splits lo hi 0 n) answers es
-    pub touches : TouchesBy (touched_in p.touched) es (touched_in m.touched)
+    pub touches : TouchesJust (touched_in p.touched) es (touched_in m.touched)
     pub tx : m.tx ≡ p.tx
     pub born : m.birth ≡ Some birth
     pub numbered : (answers ≡ []) ⊎ (m.nth ≡ suc p.nth)
@@ -211,7 +226,7 @@ module _ {M S G : Type 0} (sh : Shards M S G) (birth : Birth) (lo hi : ℕ) (w :
               parts =
                   subst (λ l. ArePartsAnswered p.tx birth (suc p.nth) l (answers ++ answer ∷ []) (s.es ++ (n, y) ∷ [])) (sym (parts_upto sh.splits lo hi n ∙ ap (λ l. scan_parts sh.splits lo hi 0 n ++ l) (part_is sh.splits n lo hi x meets)))
                   (parts_push p.tx birth (suc p.nth) (scan_parts sh.splits lo hi 0 n) answers s.es (n, Scan x.0 x.1) answer epoch (n, y) s.parts (its_part y (Answered answer epoch) event outcome));
-              touches = then_touches s.es ((n, y) ∷ []) (touched_in p.touched) (touched_in m.touched) (touched_in q.touched) s.touches (touches_one n epoch' m.touched q.touched y (ap (λ z. z.touched) place));
+              touches = then_touches_just s.es ((n, y) ∷ []) (touched_in p.touched) (touched_in m.touched) (touched_in q.touched) s.touches (touches_just_one n epoch' m.touched q.touched y (ap (λ z. z.touched) place));
               tx = ap (λ z. z.tx) place ∙ s.tx;
               born = ap (λ z. z.birth) place ∙ s.born;
               numbered = inr (ap (λ z. z.nth) place ∙ (let e : p.nth + 1 ≡ suc p.nth = omega arith in e));
@@ -225,7 +240,7 @@ module _ {M S G : Type 0} (sh : Shards M S G) (birth : Birth) (lo hi : ℕ) (w :
         same = (refl, refl);
         clock = (omega arith);
         parts = no_part;
-        touches = touches_none (touched_in p.touched) [];
+        touches = touches_just_none (touched_in p.touched);
         tx = refl;
         born = has;
         numbered = inl refl;
@@ -306,7 +321,7 @@ module _ {M S G : Type 0} (sh : Shards M S G) (birth : Birth) (lo hi : ℕ) (w :
         died = its_part n x answers u v m q s meets y (Dead cause) event outcome;
         shard = refl;
       },
-      then_touches s.es ((n, y) ∷ []) (touched_in p.touched) (touched_in m.touched) (touched_in m.touched) s.touches (touches_none (touched_in m.touched) ((n, y) ∷ [])),
+      then_touches s.es ((n, y) ∷ []) (touched_in p.touched) (touched_in m.touched) (touched_in m.touched) s.touches.only (touches_none (touched_in m.touched) ((n, y) ∷ [])),
       subst (λ t. AreDropsOf t (touched_in m.touched) (Some n) (made_in made.turns.leaving)) s.tx
           (others_drop sh u v (length sh.locks.items) n m (Op m.tx birth (p.nth + 1) (lookup (◌==◌ n) m.touched) (Scan x.0 x.1)) (Err (op.Aborted cause)) made.turns),
       subst (λ l. Grows l (seen_as sh w (is_active p birth)) (seen_as sh v (Idle (Some birth)))) (sym (append_assoc s.es ((n, y) ∷ []) (made_in made.turns.leaving)))
@@ -318,7 +333,7 @@ module _ {M S G : Type 0} (sh : Shards M S G) (birth : Birth) (lo hi : ℕ) (w :
       s.es,
       touched_in q.touched,
       begun,
-      subst (λ z. TouchesBy (touched_in p.touched) s.es (touched_in z.touched)) (sym place) s.touches,
+      subst (λ z. TouchesJust (touched_in p.touched) s.es (touched_in z.touched)) (sym place) s.touches,
       unmade (Err (op.Down k)) made (is_active q birth) refl none,
       (q.nth, ap (λ t. Active t birth q.nth (touched_in q.touched)) (ap (λ z. z.tx) place ∙ s.tx)),
     )

@@ -22,12 +22,12 @@ use Rattle.session_api.specs.Standing.{Holds, active_as, standing_of, seen_in}
 use Rattle.session_api.specs.Grounds.{Grounds}
 use Rattle.session_api.specs.Ends.{BeginEnds, RetryEnds}
 use Rattle.session_api.proofs.Standings.{unasked_born, never_idle, asked_idle, idle_again, none_again, stays_grown, worn_still}
-use Rattle.session_api.proofs.Taking.{held_so}
+use Rattle.session_api.proofs.Taking.{HoldsOn, held_so}
 
 module _ {M S G : Type 0} (sh : Shards M S G) where
   -- what a beginning leaves, tells, and is stopped by
   abbrev pub BeginDone : Walker M S G → Progress → Result Unit StopCause → Shards M S G → Walker M S G → Progress → Type 0
-  BeginDone w s e after v t = Holds after v t × BeginTold e (seen_in sh w s) (seen_in after v t) × IfErr e (Grounds v)
+  BeginDone w s e after v t = HoldsOn sh w after v t × BeginTold e (seen_in sh w s) (seen_in after v t) × IfErr e (Grounds v)
 
   -- ---- where none is active
 
@@ -35,7 +35,7 @@ module _ {M S G : Type 0} (sh : Shards M S G) where
   begun_next w v progress.Idle t again r h idle c = c
   begun_next w v (progress.Active p) t again r h idle c = let b = ((h.session).stands).born in never_idle p p.birth b.birth again b.is idle
   begun_next w v (progress.Worn p) t again r h idle c = let b = unasked_born sh w p ((h.session).stands).0 in never_idle p p.birth b.birth again b.is idle
-  begun_next w v (progress.Asked p home) t again r h idle c = c
+  begun_next w v (progress.Asked p home stamp) t again r h idle c = c
   begun_next w v (progress.Ended p) t again r h idle c = c
 
   none_active : (w v : Walker M S G) (s t : Progress) (r : Result TxId BeginError) (tx : TxId) → BegunNext sh w s r v t → r ≢ Err (begin.Active tx)
@@ -72,7 +72,7 @@ module _ {M S G : Type 0} (sh : Shards M S G) where
   -- ---- where the last one ended by an abort
 
   abbrev pub RetryDone : Walker M S G → Progress → Result Unit StopCause → Shards M S G → Walker M S G → Progress → Type 0
-  RetryDone w s e after v t = Holds after v t × ((birth : Birth) → standing_of s ≡ Idle (Some birth) → RetryTold birth e (seen_in sh w s) (seen_in after v t)) × IfErr e (Grounds v)
+  RetryDone w s e after v t = HoldsOn sh w after v t × ((birth : Birth) → standing_of s ≡ Idle (Some birth) → RetryTold birth e (seen_in sh w s) (seen_in after v t)) × IfErr e (Grounds v)
 
   -- it is this one
   abbrev pub LastIs : Walker M S G → Progress → Birth → Result TxId RetryError → Walker M S G → Progress → Type 0
@@ -82,7 +82,7 @@ module _ {M S G : Type 0} (sh : Shards M S G) where
   last_is w v progress.Idle t birth r h idle c = none_again birth idle
   last_is w v (progress.Active p) t birth r h idle c = let b = ((h.session).stands).born in never_idle p p.birth b.birth (Some birth) b.is idle
   last_is w v (progress.Worn p) t birth r h idle c = let b = unasked_born sh w p ((h.session).stands).0 in never_idle p p.birth b.birth (Some birth) b.is idle
-  last_is w v (progress.Asked p home) t birth r h idle c = asked_idle (Some birth) idle
+  last_is w v (progress.Asked p home stamp) t birth r h idle c = asked_idle (Some birth) idle
   last_is w v (progress.Ended p) t birth r h idle c = (p, refl, idle_again p.birth (Some birth) idle, c)
 
   none_refused : (w v : Walker M S G) (last : SessionState) (t : Progress) (r : Result TxId RetryError) → RetriedNext sh w last r v t → ((tx : TxId) → r ≢ Err (retry.Active tx)) × (r ≢ Err retry.NoRetry)

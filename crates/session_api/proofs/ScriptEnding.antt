@@ -19,6 +19,7 @@ use Rattle.cluster_turns.specs.CallTurns.{Turn, Took, FindsDown, FindsWorn, Foun
 use Rattle.cluster_turns.proofs.Laws.{worn_is_last}
 use Rattle.session_ops.specs.Requested.{IsTurnOf}
 use Rattle.session_ops.specs.Dropped.{Dropping, IsLeft}
+use Rattle.session_ops.specs.Standings.{IsUnasked}
 use Rattle.session_ops.specs.declared.settled_looking.SettleError.{SettleError}
 use Rattle.session_ops.specs.declared.settled_looking.SettleError.TheVariants as settle
 use Rattle.session_ops.specs.declared.committing.Settled.{Settled}
@@ -44,9 +45,9 @@ use Rattle.session_api.specs.Seeing.{seen_as, touched_in, is_active, by_phase, a
 use Rattle.session_api.proofs.Committing.{commits_tell}
 use Rattle.session_api.proofs.Leaving.{aborts_tell}
 use Rattle.session_api.specs.Standing.{Holds, active_as, standing_of, seen_in}
-use Rattle.session_api.specs.Grounds.{Grounds}
+use Rattle.session_api.specs.Grounds.{Grounds, HasMissed}
 use Rattle.session_api.proofs.Standings.{read_active, of_this, idle_active, asked_active, stays_grown, worn_still}
-use Rattle.session_api.proofs.Taking.{found_down, grounds_stay, held_after, held_so}
+use Rattle.session_api.proofs.Taking.{HoldsOn, found_down, grounds_stay, held_after, held_so}
 use Rattle.session_api.proofs.ScriptOperating.{IsUnderWay}
 use Rattle.law_base.proofs.Shards.{touching_is as touching_phase}
 use Rattle.session_ops.proofs.Laws.{any_before, any_after as any_behind}
@@ -54,30 +55,30 @@ use Rattle.session_ops.proofs.Laws.{any_before, any_after as any_behind}
 -- ---- how a commit leaves the transaction
 
 -- by how far it is
-phase_stands : (q : SessionState) (birth : Birth) → q.birth ≡ Some birth → (x : Phase) → standing_of (after_commit q x) ≡ by_phase q birth x
-phase_stands q birth is Touching = ap (active_as q) is
-phase_stands q birth is Ended = ap (λ b. Idle b) is
-phase_stands q birth is (IsStanding home) = refl
-phase_stands q birth is Told = refl
-phase_stands q birth is Refused = ap (λ b. Idle b) is
+phase_stands : (q : SessionState) (birth : Birth) → q.birth ≡ Some birth → (stamp : ℕ) (x : Phase) → standing_of (after_commit q stamp x) ≡ by_phase q birth x
+phase_stands q birth is stamp Touching = ap (active_as q) is
+phase_stands q birth is stamp Ended = ap (λ b. Idle b) is
+phase_stands q birth is stamp (IsStanding home) = refl
+phase_stands q birth is stamp Told = refl
+phase_stands q birth is stamp Refused = ap (λ b. Idle b) is
 
 -- what the place is after a commit, whose answer is this
 pub record PlaceIs (p q : SessionState) (r : Result Settled CommitFailure) : Type 0 where
   pub birth : q.birth ≡ p.birth
-  pub stands : (birth : Birth) → q.birth ≡ Some birth → standing_of (progress_committed q (is_nothing r)) ≡ commit_leaves q birth r
+  pub stands : (stamp : ℕ) (birth : Birth) → q.birth ≡ Some birth → standing_of (progress_committed q stamp (is_nothing r)) ≡ commit_leaves q birth r
 
 place_is : (p q : SessionState) (r : Result Settled CommitFailure) (x : Phase) → q.birth ≡ p.birth → q.phase ≡ x → ((birth : Birth) → by_phase q birth x ≡ commit_leaves q birth r) → is_nothing r ≡ false → PlaceIs p q r
 place_is p q r x birth phase leaves made = record {
   birth = birth;
-  stands = λ b is. ap (λ k. standing_of (progress_committed q k)) made ∙ ap (λ y. standing_of (after_commit q y)) phase ∙ phase_stands q b is x ∙ leaves b;
+  stands = λ stamp b is. ap (λ k. standing_of (progress_committed q stamp k)) made ∙ ap (λ y. standing_of (after_commit q stamp y)) phase ∙ phase_stands q b is stamp x ∙ leaves b;
 }
 
-decided_place : (count n : ℕ) (p q : SessionState) (d : Result Point SettleError) (ts : List Turn) → DecidedBy count n p d ts q → PlaceIs p q (committed_as d)
-decided_place count n p q (Ok point) ts h = place_is p q (Ok (Committed point)) Told (ap (λ z. z.birth) h.1) (ap (λ z. z.phase) h.1) (λ b. refl) refl
-decided_place count n p q (Err (settle.Aborted cause)) ts h = place_is p q (Err (unmade.Aborted cause)) Refused (ap (λ z. z.birth) h.2) (ap (λ z. z.phase) h.2) (λ b. refl) refl
-decided_place count n p q (Err (settle.Unsettled m)) ts h = place_is p q (Err (unmade.Unsettled m)) (IsStanding n) (ap (λ z. z.birth) h.2) (ap (λ z. z.phase) h.2) (λ b. refl) refl
-decided_place count n p q (Err (settle.Worn at)) ts h = place_is p q (Err (unmade.Worn at)) (IsStanding n) (ap (λ z. z.birth) h.1) (ap (λ z. z.phase) h.1) (λ b. ap (by_phase q b) (sym (ap (λ z. z.phase) h.1))) refl
-decided_place count n p q (Err settle.Memory) ts h = place_is p q (Err unmade.Memory) (IsStanding n) (ap (λ z. z.birth) h) (ap (λ z. z.phase) h) (λ b. ap (by_phase q b) (sym (ap (λ z. z.phase) h))) refl
+decided_place : (count n : ℕ) (p q : SessionState) (asked : Point) (d : Result Point SettleError) (ts : List Turn) → DecidedBy count n p d ts q → PlaceIs p q (committed_as asked d)
+decided_place count n p q asked (Ok point) ts h = place_is p q (Ok (Committed asked)) Told (ap (λ z. z.birth) h.1) (ap (λ z. z.phase) h.1) (λ b. refl) refl
+decided_place count n p q asked (Err (settle.Aborted cause)) ts h = place_is p q (Err (unmade.Aborted cause)) Refused (ap (λ z. z.birth) h.2) (ap (λ z. z.phase) h.2) (λ b. refl) refl
+decided_place count n p q asked (Err (settle.Unsettled m)) ts h = place_is p q (Err (unmade.Unsettled m)) (IsStanding n) (ap (λ z. z.birth) h.2) (ap (λ z. z.phase) h.2) (λ b. refl) refl
+decided_place count n p q asked (Err (settle.Worn at)) ts h = place_is p q (Err (unmade.Worn at)) (IsStanding n) (ap (λ z. z.birth) h.1) (ap (λ z. z.phase) h.1) (λ b. ap (by_phase q b) (sym (ap (λ z. z.phase) h.1))) refl
+decided_place count n p q asked (Err settle.Memory) ts h = place_is p q (Err unmade.Memory) (IsStanding n) (ap (λ z. z.birth) h) (ap (λ z. z.phase) h) (λ b. ap (by_phase q b) (sym (ap (λ z. z.phase) h))) refl
 
 -- it stands as before
 same_place : (p q : SessionState) (r : Result Settled CommitFailure) → is_touching p.phase ≡ true → q ≡ p → ((birth : Birth) → by_phase q birth q.phase ≡ commit_leaves q birth r) → is_nothing r ≡ false → PlaceIs p q r
@@ -86,18 +87,18 @@ same_place p q r touching is leaves made = place_is p q r q.phase (ap (λ z. z.b
 down_leaves : (n : ℕ) (p q : SessionState) (birth : Birth) → is_touching p.phase ≡ true → q ≡ p → by_phase q birth q.phase ≡ commit_leaves q birth (Err (unmade.Down n))
 down_leaves n p q birth touching is = ap (by_phase q birth) (ap (λ z. z.phase) is ∙ touching_phase p.phase touching)
 
-committed_place : (count n : ℕ) (p q : SessionState) (answer : Result Outcome StepError) (r : Result Settled CommitFailure) (ts : List Turn) → is_touching p.phase ≡ true → CommittedBy count n p answer r ts q → PlaceIs p q r
-committed_place count n p q (Ok out.Asked) r ts touching h = subst (PlaceIs p q) (sym h.1) (decided_place count n p q h.0 ts h.2)
-committed_place count n p q (Ok (out.Dead cause)) r ts touching h =
+committed_place : (count n : ℕ) (p q : SessionState) (asked : Point) (answer : Result Outcome StepError) (r : Result Settled CommitFailure) (ts : List Turn) → is_touching p.phase ≡ true → CommittedBy count n p asked answer r ts q → PlaceIs p q r
+committed_place count n p q asked (Ok out.Asked) r ts touching h = subst (PlaceIs p q) (sym h.1) (decided_place count n p q asked h.0 ts h.2)
+committed_place count n p q asked (Ok (out.Dead cause)) r ts touching h =
     subst (PlaceIs p q) (sym h.0) (place_is p q (Err (unmade.Aborted cause)) Ended (ap (λ z. z.birth) h.2) (ap (λ z. z.phase) h.2) (λ b. refl) refl)
-committed_place count n p q (Ok out.Down) r ts touching h = subst (PlaceIs p q) (sym h.0) (same_place p q (Err (unmade.Down n)) touching h.2 (λ b. down_leaves n p q b touching h.2) refl)
-committed_place count n p q (Err step.Memory) r ts touching h = subst (PlaceIs p q) (sym h.0) (same_place p q (Err unmade.Memory) touching h.2 (λ b. refl) refl)
-committed_place count n p q (Err (step.Worn at)) r ts touching h = subst (PlaceIs p q) (sym h.0) (same_place p q (Err (unmade.Worn at)) touching h.2 (λ b. refl) refl)
-committed_place count n p q (Ok _) r ts touching h = absurd h
+committed_place count n p q asked (Ok out.Down) r ts touching h = subst (PlaceIs p q) (sym h.0) (same_place p q (Err (unmade.Down n)) touching h.2 (λ b. down_leaves n p q b touching h.2) refl)
+committed_place count n p q asked (Err step.Memory) r ts touching h = subst (PlaceIs p q) (sym h.0) (same_place p q (Err unmade.Memory) touching h.2 (λ b. refl) refl)
+committed_place count n p q asked (Err (step.Worn at)) r ts touching h = subst (PlaceIs p q) (sym h.0) (same_place p q (Err (unmade.Worn at)) touching h.2 (λ b. refl) refl)
+committed_place count n p q asked (Ok _) r ts touching h = absurd h
 
-pub place_after_commit : {M S G : Type 0} (count : ℕ) (w v : Walker M S G) (p q : SessionState) (r : Result Settled CommitFailure) → is_touching p.phase ≡ true → Commits count w p r v q → PlaceIs p q r
-place_after_commit count w v p q r touching (inl h) = subst (PlaceIs p q) (sym h.1) (record { birth = ap (λ z. z.birth) h.3; stands = λ b is. refl })
-place_after_commit count w v p q r touching (inr h) = committed_place count h.0 p q (h.2).answer r (h.2).rest touching (h.2).told
+pub place_after_commit : {M S G : Type 0} (count : ℕ) (w v : Walker M S G) (p q : SessionState) (stamp : ℕ) (r : Result Settled CommitFailure) → is_touching p.phase ≡ true → Commits count w p stamp r v q → PlaceIs p q r
+place_after_commit count w v p q stamp r touching (inl h) = subst (PlaceIs p q) (sym h.1) (record { birth = ap (λ z. z.birth) h.3; stands = λ k b is. refl })
+place_after_commit count w v p q stamp r touching (inr h) = committed_place count h.0 p q (record { stamp = stamp; shard = h.0 }) (h.2).answer r (h.2).rest touching (h.2).told
 
 -- ---- what a commit was stopped by
 
@@ -116,20 +117,20 @@ FoundBy ts (stop.Unsettled n) = FoundDown n ts
 FoundBy ts (stop.Worn at) = FoundWorn at ts
 FoundBy ts stop.Memory = ⊤
 
-decided_found : (count n : ℕ) (p q : SessionState) (d : Result Point SettleError) (xs ts : List Turn) → DecidedBy count n p d ts q → OnStop (FoundBy (xs ++ ts)) (commit_end (committed_as d))
-decided_found count n p q (Ok point) xs ts h = tt
-decided_found count n p q (Err (settle.Aborted cause)) xs ts h = tt
-decided_found count n p q (Err (settle.Unsettled m)) xs ts h = any_behind (FindsDown m) xs ts h.0
-decided_found count n p q (Err (settle.Worn at)) xs ts h = any_behind (FindsWorn at) xs ts h.0
-decided_found count n p q (Err settle.Memory) xs ts h = tt
+decided_found : (count n : ℕ) (p q : SessionState) (asked : Point) (d : Result Point SettleError) (xs ts : List Turn) → DecidedBy count n p d ts q → OnStop (FoundBy (xs ++ ts)) (commit_end (committed_as asked d))
+decided_found count n p q asked (Ok point) xs ts h = tt
+decided_found count n p q asked (Err (settle.Aborted cause)) xs ts h = tt
+decided_found count n p q asked (Err (settle.Unsettled m)) xs ts h = any_behind (FindsDown m) xs ts h.0
+decided_found count n p q asked (Err (settle.Worn at)) xs ts h = any_behind (FindsWorn at) xs ts h.0
+decided_found count n p q asked (Err settle.Memory) xs ts h = tt
 
-commit_found : (count n : ℕ) (p q : SessionState) (e : Event) (answer : Result Outcome StepError) (r : Result Settled CommitFailure) (xs ts : List Turn) → IsTurnOf n e answer xs → CommittedBy count n p answer r ts q → OnStop (FoundBy (xs ++ ts)) (commit_end r)
-commit_found count n p q e (Ok out.Asked) r xs ts asked h = subst (λ x. OnStop (FoundBy (xs ++ ts)) (commit_end x)) (sym h.1) (decided_found count n p q h.0 xs ts h.2)
-commit_found count n p q e (Ok (out.Dead cause)) r xs ts asked h = subst (λ x. OnStop (FoundBy (xs ++ ts)) (commit_end x)) (sym h.0) tt
-commit_found count n p q e (Ok out.Down) r xs ts asked h = subst (λ x. OnStop (FoundBy (xs ++ ts)) (commit_end x)) (sym h.0) (any_before (FindsDown n) xs ts (turn_down n e xs asked))
-commit_found count n p q e (Ok _) r xs ts asked h = absurd h
-commit_found count n p q e (Err step.Memory) r xs ts asked h = subst (λ x. OnStop (FoundBy (xs ++ ts)) (commit_end x)) (sym h.0) tt
-commit_found count n p q e (Err (step.Worn at)) r xs ts asked h = subst (λ x. OnStop (FoundBy (xs ++ ts)) (commit_end x)) (sym h.0) (any_before (FindsWorn at) xs ts (turn_worn n at e xs asked))
+commit_found : (count n : ℕ) (p q : SessionState) (asks : Point) (e : Event) (answer : Result Outcome StepError) (r : Result Settled CommitFailure) (xs ts : List Turn) → IsTurnOf n e answer xs → CommittedBy count n p asks answer r ts q → OnStop (FoundBy (xs ++ ts)) (commit_end r)
+commit_found count n p q asks e (Ok out.Asked) r xs ts asked h = subst (λ x. OnStop (FoundBy (xs ++ ts)) (commit_end x)) (sym h.1) (decided_found count n p q asks h.0 xs ts h.2)
+commit_found count n p q asks e (Ok (out.Dead cause)) r xs ts asked h = subst (λ x. OnStop (FoundBy (xs ++ ts)) (commit_end x)) (sym h.0) tt
+commit_found count n p q asks e (Ok out.Down) r xs ts asked h = subst (λ x. OnStop (FoundBy (xs ++ ts)) (commit_end x)) (sym h.0) (any_before (FindsDown n) xs ts (turn_down n e xs asked))
+commit_found count n p q asks e (Ok _) r xs ts asked h = absurd h
+commit_found count n p q asks e (Err step.Memory) r xs ts asked h = subst (λ x. OnStop (FoundBy (xs ++ ts)) (commit_end x)) (sym h.0) tt
+commit_found count n p q asks e (Err (step.Worn at)) r xs ts asked h = subst (λ x. OnStop (FoundBy (xs ++ ts)) (commit_end x)) (sym h.0) (any_before (FindsWorn at) xs ts (turn_worn n at e xs asked))
 
 module _ {M S G : Type 0} where
   cause_grounds : (w v : Walker M S G) (ts : List Turn) → Took w.number w.clock w.passes.items ts v.clock v.passes.items → (cause : StopCause) → FoundBy ts cause → Grounds v cause
@@ -149,38 +150,38 @@ module _ {M S G : Type 0} (sh : Shards M S G) where
   -- ---- commits
 
   pub record EndsSo (w : Walker M S G) (s : Progress) (e : TryEnd) (after : Shards M S G) (v : Walker M S G) (t : Progress) : Type 0 where
-    pub holds : Holds after v t
+    pub holds : HoldsOn sh w after v t
     pub told : (tx : TxId) (birth : Birth) (nth : ℕ) (touched : ℕ → Bool) → standing_of s ≡ Active tx birth nth touched → CommitTold tx birth nth touched e (seen_in sh w s) (seen_in after v t)
     pub grounds : OnStop (Grounds v) e
 
   abbrev pub CommitDone : Walker M S G → Progress → Result Settled CommitError → Walker M S G → Progress → Type 0
   CommitDone w s r v t = (e : Result Settled CommitFailure) × (r ≡ commit_told e) × EndsSo w s (commit_end e) sh v t
 
-  commit_holds : (w v : Walker M S G) (s t : Progress) (p q : SessionState) (r : Result Settled CommitFailure) → Holds sh w s → IsSession sh v t → IsSameWalker w v → Commits (length sh.locks.items) w p r v q → Holds sh v t
-  commit_holds w v s t p q r h session same (inl c) = held_so sh w v s t h session (ap (λ z. z.number) c.2) (ap (λ z. z.passes.items) c.2)
-  commit_holds w v s t p q r h session same (inr c) = held_after sh w v s t ((c.2).asking ++ (c.2).rest) h session same (c.2).took
+  commit_holds : (w v : Walker M S G) (s t : Progress) (p q : SessionState) (stamp : ℕ) (r : Result Settled CommitFailure) → Holds sh w s → IsSession sh v t → IsSameWalker w v → Commits (length sh.locks.items) w p stamp r v q → HoldsOn sh w sh v t
+  commit_holds w v s t p q stamp r h session same (inl c) = held_so sh w v s t h session (ap (λ z. z.number) c.2) (ap (λ z. z.passes.items) c.2)
+  commit_holds w v s t p q stamp r h session same (inr c) = held_after sh w v s t ((c.2).asking ++ (c.2).rest) h session same (c.2).took
 
-  commit_grounds : (w v : Walker M S G) (p q : SessionState) (r : Result Settled CommitFailure) → Commits (length sh.locks.items) w p r v q → OnStop (Grounds v) (commit_end r)
-  commit_grounds w v p q r (inl c) = subst (λ x. OnStop (Grounds v) (commit_end x)) (sym c.1) tt
-  commit_grounds w v p q r (inr c) =
-      let m = c.2 in end_grounds w v (m.asking ++ m.rest) m.took (commit_end r) (commit_found (length sh.locks.items) c.0 p q (Request p.tx p.touched) m.answer r m.asking m.rest m.asked m.told)
+  commit_grounds : (w v : Walker M S G) (p q : SessionState) (stamp : ℕ) (r : Result Settled CommitFailure) → Commits (length sh.locks.items) w p stamp r v q → OnStop (Grounds v) (commit_end r)
+  commit_grounds w v p q stamp r (inl c) = subst (λ x. OnStop (Grounds v) (commit_end x)) (sym c.1) tt
+  commit_grounds w v p q stamp r (inr c) =
+      let m = c.2 in end_grounds w v (m.asking ++ m.rest) m.took (commit_end r) (commit_found (length sh.locks.items) c.0 p q (record { stamp = stamp; shard = c.0 }) (Request p.tx p.touched) m.answer r m.asking m.rest m.asked m.told)
 
   commit_made : (w v : Walker M S G) (p : SessionState) (t : Progress) (r : Result Settled CommitError) → Holds sh w (progress.Active p) → IsSession sh v t → CommitMade sh w p r v t → CommitDone w (progress.Active p) r v t
   commit_made w v p t r h session m =
       let active = (h.session).stands in
-      let place = place_after_commit (length sh.locks.items) w v p m.place m.answer active.touching m.told in (
+      let place = place_after_commit (length sh.locks.items) w v p m.place m.stamp m.answer active.touching m.told in (
         m.answer,
         m.is,
         record {
-          holds = commit_holds w v (progress.Active p) t p m.place m.answer h session m.walker m.told;
+          holds = commit_holds w v (progress.Active p) t p m.place m.stamp m.answer h session m.walker m.told;
           told = λ tx birth nth touched st. (
               let of = read_active p p.birth tx birth nth touched st in
               of_this p p.birth tx birth nth touched of (λ x k f. CommitTold x birth k f (commit_end m.answer) (seen_in sh w (progress.Active p)) (seen_in sh v t))
               (subst (λ x. CommitTold p.tx birth p.nth (touched_in p.touched) (commit_end m.answer) (seen_as sh w x) (seen_in sh v t)) (sym (ap (active_as p) of.birth_is))
-              (subst (λ x. CommitTold p.tx birth p.nth (touched_in p.touched) (commit_end m.answer) (seen_as sh w (is_active p birth)) (seen_as sh v x)) (sym (ap standing_of m.then ∙ place.stands birth (place.birth ∙ of.birth_is)))
-              (commits_tell M S G sh w v p m.place birth m.answer active of.birth_is m.walker m.told m.stands)))
+              (subst (λ x. CommitTold p.tx birth p.nth (touched_in p.touched) (commit_end m.answer) (seen_as sh w (is_active p birth)) (seen_as sh v x)) (sym (ap standing_of m.then ∙ place.stands m.stamp birth (place.birth ∙ of.birth_is)))
+              (commits_tell M S G sh w v p m.place birth m.stamp m.answer active of.birth_is m.walker m.told m.stands)))
               );
-          grounds = commit_grounds w v p m.place m.answer m.told;
+          grounds = commit_grounds w v p m.place m.stamp m.answer m.told;
         },
       )
 
@@ -196,14 +197,14 @@ module _ {M S G : Type 0} (sh : Shards M S G) where
       grounds = (refl, worn_still w v c.1 ((h.session).stands).1);
     },
   )
-  commit_done w v (progress.Asked p home) t r h way c session = asked_active way.0 way.1 way.2 way.3 way.4
+  commit_done w v (progress.Asked p home stamp) t r h way c session = asked_active way.0 way.1 way.2 way.3 way.4
   commit_done w v (progress.Ended p) t r h way c session = idle_active p.birth way.0 way.1 way.2 way.3 way.4
 
   -- ---- aborts
 
   pub record Aborts (w : Walker M S G) (s : Progress) (e : Result Unit StopCause) (after : Shards M S G) (v : Walker M S G) (t : Progress) : Type 0 where
-    pub holds : Holds after v t
-    pub told : (tx : TxId) (birth : Birth) (nth : ℕ) (touched : ℕ → Bool) → standing_of s ≡ Active tx birth nth touched → AbortTold tx birth touched e (seen_in sh w s) (seen_in after v t)
+    pub holds : HoldsOn sh w after v t
+    pub told : (tx : TxId) (birth : Birth) (nth : ℕ) (touched : ℕ → Bool) → standing_of s ≡ Active tx birth nth touched → AbortTold (HasMissed v) tx birth touched e (seen_in sh w s) (seen_in after v t)
     pub grounds : IfErr e (Grounds v)
     pub keeps : (cause : StopCause) → Grounds w cause → Grounds v cause
 
@@ -224,8 +225,8 @@ module _ {M S G : Type 0} (sh : Shards M S G) where
   abort_grounds w v p (Err worn) d = worn_is_last worn.at w.number w.clock v.clock w.passes.items v.passes.items d.turns d.took d.told
 
   -- of the place p, which the session's standing is
-  abort_made : (w v : Walker M S G) (s : Progress) (p : SessionState) (t : Progress) (r : Result Unit AbortError) → standing_of s ≡ active_as p p.birth → Holds sh w s → IsSession sh v t → AbortMade sh w p r v t → AbortDone w s r v t
-  abort_made w v s p t r stands h session m =
+  abort_made : (w v : Walker M S G) (s : Progress) (p : SessionState) (t : Progress) (r : Result Unit AbortError) → standing_of s ≡ active_as p p.birth → IsUnasked sh w p → Holds sh w s → IsSession sh v t → AbortMade sh w p r v t → AbortDone w s r v t
+  abort_made w v s p t r stands unasked h session m =
       let d = m.drops in (
         m.answer,
         m.is,
@@ -233,10 +234,10 @@ module _ {M S G : Type 0} (sh : Shards M S G) where
           holds = held_after sh w v s t d.turns h session m.walker d.took;
           told = λ tx birth nth touched st. (
               let of = read_active p p.birth tx birth nth touched (sym stands ∙ st) in
-              of_this p p.birth tx birth nth touched of (λ x k f. AbortTold x birth f (abort_end m.answer) (seen_in sh w s) (seen_in sh v t))
-              (subst (λ x. AbortTold p.tx birth (touched_in p.touched) (abort_end m.answer) (seen_as sh w x) (seen_in sh v t)) (sym (stands ∙ ap (active_as p) of.birth_is))
-              (subst (λ x. AbortTold p.tx birth (touched_in p.touched) (abort_end m.answer) (seen_as sh w (is_active p birth)) (seen_as sh v x)) (sym (ap standing_of m.then ∙ abort_leaves_so m.place birth m.answer (left_birth p m.place m.left ∙ of.birth_is)))
-              (aborts_tell M S G Unit sh w v p birth m.answer (active_as m.place (m.place).birth) of.birth_is m.walker d)))
+              of_this p p.birth tx birth nth touched of (λ x k f. AbortTold (HasMissed v) x birth f (abort_end m.answer) (seen_in sh w s) (seen_in sh v t))
+              (subst (λ x. AbortTold (HasMissed v) p.tx birth (touched_in p.touched) (abort_end m.answer) (seen_as sh w x) (seen_in sh v t)) (sym (stands ∙ ap (active_as p) of.birth_is))
+              (subst (λ x. AbortTold (HasMissed v) p.tx birth (touched_in p.touched) (abort_end m.answer) (seen_as sh w (is_active p birth)) (seen_as sh v x)) (sym (ap standing_of m.then ∙ abort_leaves_so m.place birth m.answer (left_birth p m.place m.left ∙ of.birth_is)))
+              (aborts_tell M S G Unit sh w v p birth m.answer (active_as m.place (m.place).birth) unasked of.birth_is m.walker d)))
               );
           grounds = abort_grounds w v p m.answer d;
           keeps = grounds_stay w v d.turns d.took;
@@ -245,9 +246,9 @@ module _ {M S G : Type 0} (sh : Shards M S G) where
 
   pub abort_done : (w v : Walker M S G) (s t : Progress) (r : Result Unit AbortError) → Holds sh w s → IsUnderWay sh s → AbortCalled sh w s r v t → IsSession sh v t → AbortDone w s r v t
   abort_done w v progress.Idle t r h way c session = idle_active None way.0 way.1 way.2 way.3 way.4
-  abort_done w v (progress.Active p) t r h way c session = abort_made w v (progress.Active p) p t r refl h session c
-  abort_done w v (progress.Worn p) t r h way c session = abort_made w v (progress.Worn p) p t r refl h session c
-  abort_done w v (progress.Asked p home) t r h way c session = asked_active way.0 way.1 way.2 way.3 way.4
+  abort_done w v (progress.Active p) t r h way c session = abort_made w v (progress.Active p) p t r refl (inl (h.session).stands) h session c
+  abort_done w v (progress.Worn p) t r h way c session = abort_made w v (progress.Worn p) p t r refl ((h.session).stands).0 h session c
+  abort_done w v (progress.Asked p home stamp) t r h way c session = asked_active way.0 way.1 way.2 way.3 way.4
   abort_done w v (progress.Ended p) t r h way c session = idle_active p.birth way.0 way.1 way.2 way.3 way.4
 
   -- ---- the calls, as the session makes them

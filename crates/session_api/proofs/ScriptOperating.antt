@@ -37,7 +37,7 @@ use Rattle.session_api.proofs.Scanning.{scans_tell}
 use Rattle.session_api.specs.Standing.{Holds, active_as, standing_of, seen_in}
 use Rattle.session_api.specs.Grounds.{Grounds}
 use Rattle.session_api.proofs.Standings.{IsOf, read_active, of_this, idle_active, asked_active, stays_grown, worn_still}
-use Rattle.session_api.proofs.Taking.{found_down, held_after, held_so}
+use Rattle.session_api.proofs.Taking.{HoldsOn, found_down, held_after, held_so}
 use Rattle.session_api.proofs.Parts.{HasPart, scan_has_part, point_has_part, begun_with_none}
 use Rattle.session_ops.proofs.Laws.{any_before}
 
@@ -58,7 +58,7 @@ module _ {M S G : Type 0} (sh : Shards M S G) where
   -- ---- what an operation leaves, tells, and is stopped by
 
   pub record Done (w : Walker M S G) (s : Progress) (op : Op) (end : Result Answer TryEnd) (after : Shards M S G) (v : Walker M S G) (t : Progress) : Type 0 where
-    pub holds : Holds after v t
+    pub holds : HoldsOn sh w after v t
     pub told : (tx : TxId) (birth : Birth) (nth : ℕ) (touched : ℕ → Bool) → standing_of s ≡ Active tx birth nth touched → OperateTold tx birth nth touched op end (seen_in sh w s) (seen_in after v t)
     pub grounds : OnRefusal (Grounds v) end
 
@@ -120,7 +120,7 @@ module _ {M S G : Type 0} (sh : Shards M S G) where
   point_done w v progress.Idle t key op r h way is_at c session = idle_active None way.0 way.1 way.2 way.3 way.4
   point_done w v (progress.Active p) t key op r h way is_at c session = point_made w v p t key op r h session is_at c
   point_done w v (progress.Worn p) t key op r h way is_at c session = (Err (failed.Worn (2 ^ 48)), c.0, worn_done w v p t op h session (point_has_part sh.splits key op is_at) c.1 c.2)
-  point_done w v (progress.Asked p home) t key op r h way is_at c session = asked_active way.0 way.1 way.2 way.3 way.4
+  point_done w v (progress.Asked p home stamp) t key op r h way is_at c session = asked_active way.0 way.1 way.2 way.3 way.4
   point_done w v (progress.Ended p) t key op r h way is_at c session = idle_active p.birth way.0 way.1 way.2 way.3 way.4
 
   -- ---- scans
@@ -159,7 +159,7 @@ module _ {M S G : Type 0} (sh : Shards M S G) where
   range_done w v progress.Idle t lo hi r h way falls small c session = idle_active None way.0 way.1 way.2 way.3 way.4
   range_done w v (progress.Active p) t lo hi r h way falls small c session = scan_made w v p t lo hi r h session falls small c
   range_done w v (progress.Worn p) t lo hi r h way falls small c session = (Err (failed.Worn (2 ^ 48)), c.0, worn_done w v p t (Scan lo hi) h session (scan_has_part sh.splits lo hi h.splits falls small) c.1 c.2)
-  range_done w v (progress.Asked p home) t lo hi r h way falls small c session = asked_active way.0 way.1 way.2 way.3 way.4
+  range_done w v (progress.Asked p home stamp) t lo hi r h way falls small c session = asked_active way.0 way.1 way.2 way.3 way.4
   range_done w v (progress.Ended p) t lo hi r h way falls small c session = idle_active p.birth way.0 way.1 way.2 way.3 way.4
 
   -- the bounds don't fall

@@ -21,7 +21,8 @@ use Rattle.script_runs.specs.declared.ends.StopCause.TheVariants.{Down, Unsettle
 use Rattle.session_api.specs.declared.progress.Progress.{Progress}
 use Rattle.session_api.specs.Sessions.{IsSession}
 use Rattle.session_api.specs.Standing.{Holds}
-use Rattle.session_api.specs.Grounds.{HasSeenDown, WasDown, Grounds}
+use Rattle.script_runs.specs.Seen.{Keeps}
+use Rattle.session_api.specs.Grounds.{HasSeenDown, WasDown, Grounds, Leads, further, HasMissedBy, HasMissed}
 
 -- ---- a shard that was seen down
 
@@ -87,23 +88,53 @@ module _ {M S G : Type 0} where
   grounds_stay w v ts took (Worn at) g = (g.0, (let c = clock_rises w.number w.clock v.clock w.passes.items v.passes.items ts took in let l = g.1 in omega arith))
   grounds_stay w v ts took Memory g = tt
 
+module _ {M S G : Type 0} where
+  -- and what a drop came to
+  pub missed_stays : (w v : Walker M S G) (ts : List Turn) → IsSameWalker w v → Took w.number w.clock w.passes.items ts v.clock v.passes.items → Keeps (HasMissed w) (HasMissed v)
+  missed_stays w v ts same took tx n es h =
+      subst (λ k. HasMissedBy k v.passes.items tx n es) (sym same.0)
+      (record {
+        before = h.before;
+        after = h.after;
+        clock = h.clock;
+        clock_after = h.clock_after;
+        turns = h.turns;
+        entries = h.entries;
+        took = h.took;
+        vain = h.vain;
+        later = further w.passes.items v.passes.items w.clock v.clock ts h.later took;
+      })
+
+  pub missed_same : (w v : Walker M S G) → v.number ≡ w.number → v.passes.items ≡ w.passes.items → Keeps (HasMissed w) (HasMissed v)
+  missed_same w v number passes tx n es h = subst (λ k. HasMissedBy k v.passes.items tx n es) (sym number) (subst (λ ps. HasMissedBy w.number ps tx n es) (sym passes) h)
+
 -- ---- the session after a call
 
 module _ {M S G : Type 0} (sh : Shards M S G) where
+  pub record HoldsOn (w : Walker M S G) (after : Shards M S G) (v : Walker M S G) (t : Progress) : Type 0 where
+    pub holds : Holds after v t
+    pub misses : Keeps (HasMissed w) (HasMissed v)
+
   -- turns take no disk
-  pub held_after : (w v : Walker M S G) (s t : Progress) (ts : List Turn) → Holds sh w s → IsSession sh v t → IsSameWalker w v → Took w.number w.clock w.passes.items ts v.clock v.passes.items → Holds sh v t
+  pub held_after : (w v : Walker M S G) (s t : Progress) (ts : List Turn) → Holds sh w s → IsSession sh v t → IsSameWalker w v → Took w.number w.clock w.passes.items ts v.clock v.passes.items → HoldsOn w sh v t
   held_after w v s t ts h session same took = record {
-    session = session;
-    splits = h.splits;
-    fetched = turns_fetch_none w.number w.clock v.clock w.passes.items v.passes.items ts took h.fetched;
-    disks = subst (λ k. HoldsNone k v.passes.items) (sym same.0) (turns_hold_none None w.number w.clock v.clock w.passes.items v.passes.items ts took h.disks);
+    holds = record {
+      session = session;
+      splits = h.splits;
+      fetched = turns_fetch_none w.number w.clock v.clock w.passes.items v.passes.items ts took h.fetched;
+      disks = subst (λ k. HoldsNone k v.passes.items) (sym same.0) (turns_hold_none None w.number w.clock v.clock w.passes.items v.passes.items ts took h.disks);
+    };
+    misses = missed_stays w v ts same took;
   }
 
   -- nor does a call without a turn
-  pub held_so : (w v : Walker M S G) (s t : Progress) → Holds sh w s → IsSession sh v t → v.number ≡ w.number → v.passes.items ≡ w.passes.items → Holds sh v t
+  pub held_so : (w v : Walker M S G) (s t : Progress) → Holds sh w s → IsSession sh v t → v.number ≡ w.number → v.passes.items ≡ w.passes.items → HoldsOn w sh v t
   held_so w v s t h session number passes = record {
-    session = session;
-    splits = h.splits;
-    fetched = subst FetchedNone (sym passes) h.fetched;
-    disks = subst (λ k. HoldsNone k v.passes.items) (sym number) (subst (HoldsNone w.number) (sym passes) h.disks);
+    holds = record {
+      session = session;
+      splits = h.splits;
+      fetched = subst FetchedNone (sym passes) h.fetched;
+      disks = subst (λ k. HoldsNone k v.passes.items) (sym number) (subst (HoldsNone w.number) (sym passes) h.disks);
+    };
+    misses = missed_same w v number passes;
   }

@@ -3,15 +3,17 @@ use Rattle.std.specs.Prelude.{◌≡◌, ℕ, ◌≤◌, IsTrue, List, [], Optio
 use Rattle.clv_base.specs.Shards.{are_splits}
 use Rattle.script_lang.specs.Bodies.{Body}
 use Rattle.script_runs.specs.declared.ends.StopCause.{StopCause}
-use Rattle.script_runs.specs.Sessions.{FollowsScript, session_entries}
+use Rattle.script_runs.specs.Sessions.{FollowsScript, session_entries, tries_of}
 use Rattle.script_runs.specs.Seen.{Standing}
 use Rattle.script_runs.specs.Ran.{Follows}
+use Rattle.script_runs.specs.Dropped.{AllLetGo}
 use Rattle.cluster_turns.specs.declared.shards.Shards.{Shards}
 use Rattle.cluster_turns.specs.declared.shards.Walker.{Walker}
 use Rattle.cluster_turns.specs.Walkers.{kept}
 use Rattle.cluster_opening.specs.Made.{IsNewWalker}
 use Rattle.session_api.specs.declared.progress.Progress.{Progress}
 use Rattle.session_api.specs.declared.progress.Progress.TheVariants.{Idle}
+use Rattle.session_api.specs.Grounds.{HasMissed}
 use Rattle.session_api.specs.Seeing.{seen_as}
 use Rattle.session_api.specs.Standing.{Holds, IsAtRest}
 
@@ -31,8 +33,10 @@ NewWalkersKeepNone M S G = (sh : Shards M S G) (number first : ℕ) (w : Walker 
 abbrev pub SessionsRest : (M S G : Type 0) → Type 0
 SessionsRest M S G = (sh : Shards M S G) (w : Walker M S G) (s : Progress) → Holds sh w s → IsAtRest sh w.number w
 
--- the entries of a session of a new walker that only sessions make are those of its script, as far as it ran
+-- the entries of a session of a new walker that only sessions make are those of its script, as far as it ran, and each
+-- try that was given up let go of its parts
 abbrev pub ScriptsFollow : (M S G : Type 0) → Type 0
 ScriptsFollow M S G =
     (sh : Shards M S G) (number first : ℕ) (w v : Walker M S G) (s t : Standing) (bodies : List Body) (most : Option ℕ) (cause : Option StopCause) → IsNewWalker sh number first w
-    → Follows bodies most cause (seen_as sh w s) (seen_as sh v t) → (v.number ≡ number) × FollowsScript sh.splits sh.run number most bodies cause (session_entries (kept v.passes.items))
+    → Follows (HasMissed v) bodies most cause (seen_as sh w s) (seen_as sh v t) → (v.number ≡ number)
+    × ((f : FollowsScript sh.splits sh.run number most bodies cause (session_entries (kept v.passes.items))) × AllLetGo (HasMissed v) v.clock (tries_of f.transactions))

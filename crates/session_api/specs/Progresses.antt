@@ -1,5 +1,5 @@
 -- How a session's last transaction stands after an answer, and which calls that refuses.
-use Rattle.std.specs.Prelude.{◌^◌, Bool, true, false, Option, Some, None, Result, Ok, Err}
+use Rattle.std.specs.Prelude.{ℕ, ◌^◌, Bool, true, false, Option, Some, None, Result, Ok, Err}
 use Rattle.clv_base.specs.declared.names.TxId.{TxId}
 use Rattle.clv_base.specs.declared.names.Point.{Point}
 use Rattle.clv_base.specs.Sessions.{SessionState, Phase, Touching, Ended as HasEnded, Standing, Told, Refused}
@@ -28,7 +28,7 @@ abbrev pub active_tx : Progress → Option TxId
 active_tx Idle = None
 active_tx (Active p) = Some p.tx
 active_tx (Worn p) = Some p.tx
-active_tx (Asked p home) = None
+active_tx (Asked p home stamp) = None
 active_tx (Ended p) = None
 
 -- ---- other tries
@@ -38,7 +38,7 @@ abbrev pub retry_refusal : Progress → RetryError
 retry_refusal Idle = retry.NoRetry
 retry_refusal (Active p) = retry.Active p.tx
 retry_refusal (Worn p) = retry.Active p.tx
-retry_refusal (Asked p home) = retry.NoRetry
+retry_refusal (Asked p home stamp) = retry.NoRetry
 retry_refusal (Ended p) = retry.NoRetry
 
 -- ---- operations
@@ -58,7 +58,7 @@ abbrev pub refusal_of : Progress → OpError
 refusal_of Idle = op.NoTx
 refusal_of (Active p) = op.NoTx
 refusal_of (Worn p) = op.Worn (2 ^ 48)
-refusal_of (Asked p home) = op.NoTx
+refusal_of (Asked p home stamp) = op.NoTx
 refusal_of (Ended p) = op.NoTx
 
 -- after an operation, of which the transaction died or didn't
@@ -76,19 +76,20 @@ commit_told (Err (unmade.Unsettled n)) = Err (commit.Unsettled n)
 commit_told (Err (unmade.Worn at)) = Err (commit.Worn at)
 commit_told (Err unmade.Memory) = Err commit.Memory
 
-abbrev pub settle_told : Result Point SettleError → Result Settled CommitError
-settle_told (Ok point) = Ok (Committed point)
-settle_told (Err (settle.Aborted cause)) = Err (commit.Aborted cause)
-settle_told (Err (settle.Unsettled n)) = Err (commit.Unsettled n)
-settle_told (Err (settle.Worn at)) = Err (commit.Worn at)
-settle_told (Err settle.Memory) = Err commit.Memory
+-- of a request at this point
+abbrev pub settle_told : Point → Result Point SettleError → Result Settled CommitError
+settle_told asked (Ok look) = Ok (Committed asked)
+settle_told asked (Err (settle.Aborted cause)) = Err (commit.Aborted cause)
+settle_told asked (Err (settle.Unsettled n)) = Err (commit.Unsettled n)
+settle_told asked (Err (settle.Worn at)) = Err (commit.Worn at)
+settle_told asked (Err settle.Memory) = Err commit.Memory
 
 -- without a transaction to commit
 abbrev pub commit_refusal : Progress → CommitError
 commit_refusal Idle = commit.NoTx
 commit_refusal (Active p) = commit.NoTx
 commit_refusal (Worn p) = commit.Worn (2 ^ 48)
-commit_refusal (Asked p home) = commit.NoTx
+commit_refusal (Asked p home stamp) = commit.NoTx
 commit_refusal (Ended p) = commit.NoTx
 
 abbrev pub is_nothing : Result Settled CommitFailure → Bool
@@ -96,17 +97,17 @@ is_nothing (Ok (Committed point)) = false
 is_nothing (Ok Empty) = true
 is_nothing (Err e) = false
 
--- where the transaction is so far
-abbrev pub after_commit : SessionState → Phase → Progress
-after_commit p Touching = Active p
-after_commit p (Standing home) = Asked p home
-after_commit p Told = Idle
-after_commit p HasEnded = Ended p
-after_commit p Refused = Ended p
+-- where the transaction is so far; its request, if one stands, has this stamp
+abbrev pub after_commit : SessionState → ℕ → Phase → Progress
+after_commit p stamp Touching = Active p
+after_commit p stamp (Standing home) = Asked p home stamp
+after_commit p stamp Told = Idle
+after_commit p stamp HasEnded = Ended p
+after_commit p stamp Refused = Ended p
 
-abbrev pub progress_committed : SessionState → Bool → Progress
-progress_committed p true = Idle
-progress_committed p false = after_commit p p.phase
+abbrev pub progress_committed : SessionState → ℕ → Bool → Progress
+progress_committed p stamp true = Idle
+progress_committed p stamp false = after_commit p stamp p.phase
 
 -- ---- aborts
 

@@ -13,7 +13,7 @@ use Rattle.cluster_closing.specs.Landed.{HasLanded}
 use Rattle.session_ops.specs.declared.operating.OpError.{OpError as Failure}
 use Rattle.session_ops.specs.Standing.{IsActive}
 use Rattle.session_ops.specs.Beginnings.{IsIdle, Begun}
-use Rattle.session_ops.specs.Requested.{IsStanding}
+use Rattle.session_ops.specs.Requested.{IsStanding, HasRequest}
 use Rattle.session_ops.specs.Dropped.{Dropping, IsLeft}
 use Rattle.session_ops.specs.declared.settled_looking.SettleError.{SettleError}
 use Rattle.session_ops.specs.Retried.{IsRetriable, Retried}
@@ -24,7 +24,7 @@ use Rattle.session_ops.specs.declared.committing.Settled.{Settled}
 use Rattle.session_ops.specs.declared.committing.CommitError.{CommitError as CommitFailure}
 use Rattle.session_ops.specs.Standings.{StandsAs, IsUnasked}
 use Rattle.session_ops.specs.Decided.{Deciding}
-use Rattle.session_ops.specs.Committed.{CommitTold}
+use Rattle.session_ops.specs.Committed.{CommitTold, PointsAtRequest}
 use Rattle.session_api.specs.declared.progress.Progress.{Progress}
 use Rattle.session_api.specs.declared.progress.Progress.TheVariants.{Idle, Active, Worn, Asked, Ended}
 use Rattle.session_api.specs.declared.beginning.BeginError.{BeginError}
@@ -44,7 +44,7 @@ module _ {M S G : Type 0} where
   StandsIn sh w Idle = IsIdle sh w
   StandsIn sh w (Active p) = IsActive sh w p
   StandsIn sh w (Worn p) = IsUnasked sh w p × (2 ^ 48 - 1 ≤ w.clock)
-  StandsIn sh w (Asked p home) = IsStanding sh w p home
+  StandsIn sh w (Asked p home stamp) = IsStanding sh w p home × HasRequest w.passes.items p (record { stamp = stamp; shard = home })
   StandsIn sh w (Ended p) = IsRetriable sh w p
 
   -- and the walker has the gate of no shard
@@ -84,7 +84,7 @@ module _ {M S G : Type 0} where
   RetryCalled sh w Idle r v t = RetryRefused w Idle r v t
   RetryCalled sh w (Active p) r v t = RetryRefused w (Active p) r v t
   RetryCalled sh w (Worn p) r v t = RetryRefused w (Worn p) r v t
-  RetryCalled sh w (Asked p home) r v t = RetryRefused w (Asked p home) r v t
+  RetryCalled sh w (Asked p home stamp) r v t = RetryRefused w (Asked p home stamp) r v t
 
   -- ---- operations
 
@@ -106,7 +106,7 @@ module _ {M S G : Type 0} where
   PointCalled sh w (Active p) op key r v t = PointMade sh w p op key r v t
   PointCalled sh w Idle op key r v t = OpRefused w Idle r v t
   PointCalled sh w (Worn p) op key r v t = OpRefused w (Worn p) r v t
-  PointCalled sh w (Asked p home) op key r v t = OpRefused w (Asked p home) r v t
+  PointCalled sh w (Asked p home stamp) op key r v t = OpRefused w (Asked p home stamp) r v t
   PointCalled sh w (Ended p) op key r v t = OpRefused w (Ended p) r v t
 
   -- a scan of the active transaction p
@@ -127,7 +127,7 @@ module _ {M S G : Type 0} where
   RangeCalled sh w (Active p) lo hi r v t = ScanMade sh w p lo hi r v t
   RangeCalled sh w Idle lo hi r v t = OpRefused w Idle r v t
   RangeCalled sh w (Worn p) lo hi r v t = OpRefused w (Worn p) r v t
-  RangeCalled sh w (Asked p home) lo hi r v t = OpRefused w (Asked p home) r v t
+  RangeCalled sh w (Asked p home stamp) lo hi r v t = OpRefused w (Asked p home stamp) r v t
   RangeCalled sh w (Ended p) lo hi r v t = OpRefused w (Ended p) r v t
 
   -- where one is active and the bounds fall, the range is bad
@@ -145,28 +145,31 @@ module _ {M S G : Type 0} where
   pub record CommitMade (sh : Shards M S G) (w : Walker M S G) (p : SessionState) (r : Result Settled CommitError) (v : Walker M S G) (t : Progress) : Type 0 where
     pub answer : Result Settled CommitFailure
     pub place : SessionState
-    pub told : CommitTold (length sh.locks.items) w p answer v place
+    pub stamp : ℕ
+    pub told : CommitTold (length sh.locks.items) w p stamp answer v place
     pub walker : IsSameWalker w v
     pub stands : StandsAs sh v place
     pub is : r ≡ commit_told answer
-    pub then : t ≡ progress_committed place (is_nothing answer)
+    pub then : t ≡ progress_committed place stamp (is_nothing answer)
+    pub point : PointsAtRequest v.passes.items p r
 
-  -- of p, whose request stands at this home
-  pub record LooksMade (sh : Shards M S G) (w : Walker M S G) (p : SessionState) (home : ℕ) (r : Result Settled CommitError) (v : Walker M S G) (t : Progress) : Type 0 where
+  -- of p, whose request stands at this home, with this stamp
+  pub record LooksMade (sh : Shards M S G) (w : Walker M S G) (p : SessionState) (home stamp : ℕ) (r : Result Settled CommitError) (v : Walker M S G) (t : Progress) : Type 0 where
     pub answer : Result Point SettleError
     pub place : SessionState
     pub turns : Deciding (length sh.locks.items) w.number w.clock w.passes.items home p answer v.clock v.passes.items place
     pub walker : IsSameWalker w v
     pub stands : StandsAs sh v place
-    pub is : r ≡ settle_told answer
-    pub then : t ≡ after_commit place place.phase
+    pub is : r ≡ settle_told (record { stamp = stamp; shard = home }) answer
+    pub then : t ≡ after_commit place stamp place.phase
+    pub point : PointsAtRequest v.passes.items p r
 
   abbrev pub CommitRefused : Walker M S G → Progress → Result Settled CommitError → Walker M S G → Progress → Type 0
   CommitRefused w s r v t = (r ≡ Err (commit_refusal s)) × (v ≡ w) × (t ≡ s)
 
   abbrev pub CommitCalled : Shards M S G → Walker M S G → Progress → Result Settled CommitError → Walker M S G → Progress → Type 0
   CommitCalled sh w (Active p) r v t = CommitMade sh w p r v t
-  CommitCalled sh w (Asked p home) r v t = LooksMade sh w p home r v t
+  CommitCalled sh w (Asked p home stamp) r v t = LooksMade sh w p home stamp r v t
   CommitCalled sh w Idle r v t = CommitRefused w Idle r v t
   CommitCalled sh w (Worn p) r v t = CommitRefused w (Worn p) r v t
   CommitCalled sh w (Ended p) r v t = CommitRefused w (Ended p) r v t
@@ -190,5 +193,5 @@ module _ {M S G : Type 0} where
   AbortCalled sh w (Active p) r v t = AbortMade sh w p r v t
   AbortCalled sh w (Worn p) r v t = AbortMade sh w p r v t
   AbortCalled sh w Idle r v t = AbortRefused w Idle r v t
-  AbortCalled sh w (Asked p home) r v t = AbortRefused w (Asked p home) r v t
+  AbortCalled sh w (Asked p home stamp) r v t = AbortRefused w (Asked p home stamp) r v t
   AbortCalled sh w (Ended p) r v t = AbortRefused w (Ended p) r v t

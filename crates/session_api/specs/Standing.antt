@@ -24,7 +24,7 @@ abbrev pub standing_of : Progress → Standing
 standing_of progress.Idle = Idle None
 standing_of (progress.Active p) = active_as p p.birth
 standing_of (progress.Worn p) = active_as p p.birth
-standing_of (progress.Asked p home) = Asked
+standing_of (progress.Asked p home stamp) = Asked
 standing_of (progress.Ended p) = Idle p.birth
 
 module _ {M S G : Type 0} where

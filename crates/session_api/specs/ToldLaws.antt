@@ -18,10 +18,11 @@ use Rattle.session_ops.specs.Parts.{PointTold, StandsUnless, has_died}
 use Rattle.session_ops.specs.Dropped.{Dropping}
 use Rattle.session_ops.specs.declared.committing.Settled.{Settled}
 use Rattle.session_ops.specs.declared.committing.CommitError.{CommitError}
-use Rattle.session_ops.specs.Standings.{StandsAs}
+use Rattle.session_ops.specs.Standings.{StandsAs, IsUnasked}
 use Rattle.session_ops.specs.Committed.{CommitTold as Commits}
 use Rattle.script_runs.specs.Seen.{Standing, Idle}
 use Rattle.script_runs.specs.Told.{Begins, OperateTold, CommitTold, AbortTold}
+use Rattle.session_api.specs.Grounds.{HasMissed}
 use Rattle.session_api.specs.Seeing.{seen_as, touched_in, is_active, unless_dead, after_commit, after_abort, value_end, pairs_end, commit_end, abort_end}
 
 -- an operation at this key
@@ -44,17 +45,17 @@ ScansTell M S G =
     → PartsTold sh birth (p.nth + 1) lo hi w p r v q → StandsUnless (has_died r) sh v q
     → OperateTold p.tx birth p.nth (touched_in p.touched) (Scan lo hi) (pairs_end r) (seen_as sh w (is_active p birth)) (seen_as sh v (unless_dead q birth (has_died r)))
 
--- an abort's entries are drops of the transaction
+-- an abort's entries are drops of the transaction; each shard that it touched has one, or the drop came to nothing there
 abbrev pub AbortsTell : (M S G A : Type 0) → Type 0
 AbortsTell M S G A =
-    (sh : Shards M S G) (w v : Walker M S G) (p : SessionState) (birth : Birth) (r : Result A WornClock) (en : Standing) → p.birth ≡ Some birth → IsSameWalker w v
+    (sh : Shards M S G) (w v : Walker M S G) (p : SessionState) (birth : Birth) (r : Result A WornClock) (en : Standing) → IsUnasked sh w p → p.birth ≡ Some birth → IsSameWalker w v
     → Dropping w.number w.clock w.passes.items p.tx p.touched None 0 (length sh.locks.items) r v.clock v.passes.items
-    → AbortTold p.tx birth (touched_in p.touched) (abort_end r) (seen_as sh w (is_active p birth)) (seen_as sh v (after_abort birth r en))
+    → AbortTold (HasMissed v) p.tx birth (touched_in p.touched) (abort_end r) (seen_as sh w (is_active p birth)) (seen_as sh v (after_abort birth r en))
 
 -- a commit's are its request, a look that was told its decision, and drops where it was aborted
 abbrev pub CommitsTell : (M S G : Type 0) → Type 0
 CommitsTell M S G =
-    (sh : Shards M S G) (w v : Walker M S G) (p q : SessionState) (birth : Birth) (r : Result Settled CommitError) → IsActive sh w p → p.birth ≡ Some birth → IsSameWalker w v → Commits (length sh.locks.items) w p r v q
+    (sh : Shards M S G) (w v : Walker M S G) (p q : SessionState) (birth : Birth) (stamp : ℕ) (r : Result Settled CommitError) → IsActive sh w p → p.birth ≡ Some birth → IsSameWalker w v → Commits (length sh.locks.items) w p stamp r v q
     → StandsAs sh v q
     → CommitTold p.tx birth p.nth (touched_in p.touched) (commit_end r) (seen_as sh w (is_active p birth)) (seen_as sh v (after_commit q birth r))
 

@@ -1,7 +1,7 @@
 // What the session's calls promise to whoever runs a script.
 ghost use Rattle.std.specs.Prelude.{◌≡◌, ◌<◌, ◌^◌};
 ghost use Rattle.session_api.specs.Standing.{Holds, seen_in};
-ghost use Rattle.session_api.specs.Grounds.{Grounds};
+ghost use Rattle.session_api.specs.Grounds.{Grounds, HasMissed};
 
 use crate::ends::{aborted, begun, committed, pairs_told, retried, value_told};
 use crate::script_session::ScriptSession;
@@ -31,6 +31,8 @@ impl<'a, M: Flier, P: Pace, R: Wait> SessionCalls for ScriptSession<'a, M, P, R>
     ghost holds = { λ s. Holds s.session.shards.now s.session.walker s.session.progress };
 
     ghost grounds = { λ s cause. Grounds s.session.walker cause };
+
+    ghost missed = { λ s tx n es. HasMissed s.session.walker tx n es };
 
     fn begin(&mut self) -> Result<(), StopCause> {
         begun(self.session.begin())

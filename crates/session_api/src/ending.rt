@@ -59,11 +59,12 @@ fn told(answer: Result<Settled, Failure>) -> Result<Settled, CommitError>
     }
 }
 
-fn settled(answer: Result<Point, SettleError>) -> Result<Settled, CommitError>
-    ensures { result ≡ settle_told answer }
+// Of a request at this point.
+fn settled(asked: Point, answer: Result<Point, SettleError>) -> Result<Settled, CommitError>
+    ensures { result ≡ settle_told asked answer }
 {
     match answer {
-        Ok(point) => Ok(Settled::Committed { point }),
+        Ok(_look) => Ok(Settled::Committed { point: asked }),
         Err(SettleError::Aborted(cause)) => Err(CommitError::Aborted(cause)),
         Err(SettleError::Unsettled { shard }) => Err(CommitError::Unsettled { shard }),
         Err(SettleError::Worn { at }) => Err(CommitError::Worn { at }),
@@ -90,14 +91,14 @@ fn refusal(progress: &Progress) -> CommitError
     }
 }
 
-// After a commit; there is nothing left of a transaction that touched nothing.
-fn after_commit(place: Place, empty: bool) -> Progress
-    ensures { result ≡ progress_committed place empty }
+// After a commit, whose request has this stamp; there is nothing left of a transaction that touched nothing.
+fn after_commit(place: Place, stamp: u64, empty: bool) -> Progress
+    ensures { result ≡ progress_committed place stamp empty }
 {
     if empty {
         Progress::Idle
     } else {
-        after_request(place)
+        after_request(place, stamp)
     }
 }
 
@@ -127,7 +128,7 @@ impl<'a, M: Flier, P: Pace, R: Wait> Session<'a, M, P, R> {
         ensures told { CommitMade self.old.shards.now self.old.walker place result self.new.walker self.new.progress }
     {
         let mut place = place;
-        let answer = commit(
+        let ended = commit(
             self.rt,
             alloc,
             self.shards,
@@ -135,17 +136,23 @@ impl<'a, M: Flier, P: Pace, R: Wait> Session<'a, M, P, R> {
             &mut place,
             self.pace,
         );
-        let empty = is_empty(&answer);
-        self.progress = after_commit(place, empty);
-        told(answer)
+        let empty = is_empty(&ended.answer);
+        self.progress = after_commit(place, ended.stamp, empty);
+        told(ended.answer)
     }
 
-    // The request stands at this home.
-    fn look_again(&mut self, alloc: Global, place: Place, home: u32) -> Result<Settled, CommitError>
-        requires session { IsSession self.old.shards.now self.old.walker (Asked place home) }
+    // The request stands at this home, with this stamp.
+    fn look_again(
+        &mut self,
+        alloc: Global,
+        place: Place,
+        home: u32,
+        stamp: u64,
+    ) -> Result<Settled, CommitError>
+        requires session { IsSession self.old.shards.now self.old.walker (Asked place home stamp) }
         ensures session { IsSession self.new.shards.now self.new.walker self.new.progress }
         ensures shards { self.new.shards ≡ self.old.shards }
-        ensures told { LooksMade self.old.shards.now self.old.walker place home result self.new.walker self.new.progress }
+        ensures told { LooksMade self.old.shards.now self.old.walker place home stamp result self.new.walker self.new.progress }
     {
         let mut place = place;
         let answer = finish(
@@ -157,13 +164,15 @@ impl<'a, M: Flier, P: Pace, R: Wait> Session<'a, M, P, R> {
             home,
             self.pace,
         );
-        self.progress = after_request(place);
-        settled(answer)
+        self.progress = after_request(place, stamp);
+        settled(Point { stamp, shard: home }, answer)
     }
 
     /// Commits the active transaction, or looks again where its request stands. `NoTx` comes exactly where neither is so, `Empty` only
     /// where it touched nothing; every other answer is told by the turns of the call. After `Down` the transaction is active, after
-    /// `Unsettled` its request stands; after `Worn` and `Memory` it stands where it was made, else the transaction is active.
+    /// `Unsettled` its request stands; after `Worn` and `Memory` it stands where it was made, else the transaction is active. The point
+    /// of an acknowledged one is that of its request, which is among the walker's entries: so the points of two sessions' answers order
+    /// as their transactions do in the serial history.
     pub fn commit(&mut self, alloc: Global) -> Result<Settled, CommitError>
         requires session { IsSession self.old.shards.now self.old.walker self.old.progress }
         ensures session { IsSession self.new.shards.now self.new.walker self.new.progress }
@@ -172,7 +181,7 @@ impl<'a, M: Flier, P: Pace, R: Wait> Session<'a, M, P, R> {
     {
         match mem::replace(&mut self.progress, Progress::Idle) {
             Progress::Active(place) => self.commit_active(alloc, place),
-            Progress::Asked { place, home } => self.look_again(alloc, place, home),
+            Progress::Asked { place, home, stamp } => self.look_again(alloc, place, home, stamp),
             other => {
                 let refusal = refusal(&other);
                 self.progress = other;

@@ -14,8 +14,8 @@ pub enum Progress {
     Active(Place),
     /// It is active, but stamps were wanting at its abort: it may only be aborted again.
     Worn(Place),
-    /// Its request stands at its home.
-    Asked { place: Place, home: u32 },
+    /// Its request stands at its home, with this stamp.
+    Asked { place: Place, home: u32, stamp: u64 },
     /// It ended by an abort.
     Ended(Place),
 }
@@ -44,13 +44,13 @@ pub(crate) fn after_operation(place: Place, died: bool) -> Progress
     }
 }
 
-// After a commit, where there was something to commit.
-pub(crate) fn after_request(place: Place) -> Progress
-    ensures { result ≡ after_commit place place.phase }
+// After a commit, where there was something to commit. A request that stands has this stamp.
+pub(crate) fn after_request(place: Place, stamp: u64) -> Progress
+    ensures { result ≡ after_commit place stamp place.phase }
 {
     match place.stage() {
         Stage::Touching => Progress::Active(place),
-        Stage::Standing(home) => Progress::Asked { place, home },
+        Stage::Standing(home) => Progress::Asked { place, home, stamp },
         Stage::Told => Progress::Idle,
         Stage::Ended => Progress::Ended(place),
         Stage::Refused => Progress::Ended(place),

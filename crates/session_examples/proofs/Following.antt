@@ -70,7 +70,7 @@ module _ {M S G : Type 0} (sh : Shards M S G) where
   begin_later w v Idle t r c = begun_later w v Idle t r c
   begin_later w v (Active p) t r c = same_later w v c.1
   begin_later w v (Worn p) t r c = same_later w v c.1
-  begin_later w v (Asked p home) t r c = begun_later w v (Asked p home) t r c
+  begin_later w v (Asked p home stamp) t r c = begun_later w v (Asked p home stamp) t r c
   begin_later w v (Ended p) t r c = begun_later w v (Ended p) t r c
 
   retried_later : (w v : Walker M S G) (last : SessionState) (t : Progress) (r : Result TxId RetryError) → RetriedNext sh w last r v t → IsLater w v
@@ -83,7 +83,7 @@ module _ {M S G : Type 0} (sh : Shards M S G) where
   retry_later w v Idle t r c = same_later w v c.1
   retry_later w v (Active p) t r c = same_later w v c.1
   retry_later w v (Worn p) t r c = same_later w v c.1
-  retry_later w v (Asked p home) t r c = same_later w v c.1
+  retry_later w v (Asked p home stamp) t r c = same_later w v c.1
   retry_later w v (Ended p) t r c = retried_later w v p t r c
 
   -- ---- operations
@@ -92,14 +92,14 @@ module _ {M S G : Type 0} (sh : Shards M S G) where
   point_later w v Idle t op key r h c = same_later w v c.1
   point_later w v (Active p) t op key r h c = let b = h.stands.born in let k = c.told.turns b.birth b.is in turns_later w v w.clock v.clock (k.asking ++ k.leaving) c.walker.0 k.took
   point_later w v (Worn p) t op key r h c = same_later w v c.1
-  point_later w v (Asked p home) t op key r h c = same_later w v c.1
+  point_later w v (Asked p home stamp) t op key r h c = same_later w v c.1
   point_later w v (Ended p) t op key r h c = same_later w v c.1
 
   range_later : (w v : Walker M S G) (s t : Progress) (lo hi : ℕ) (r : Result (List (ℕ × ℕ)) OpError) → IsSession sh w s → RangeCalled sh w s lo hi r v t → IsLater w v
   range_later w v Idle t lo hi r h c = same_later w v c.1
   range_later w v (Active p) t lo hi r h c = let b = h.stands.born in let k = c.turns b.birth b.is in turns_later w v w.clock v.clock k.turns c.walker.0 k.took
   range_later w v (Worn p) t lo hi r h c = same_later w v c.1
-  range_later w v (Asked p home) t lo hi r h c = same_later w v c.1
+  range_later w v (Asked p home stamp) t lo hi r h c = same_later w v c.1
   range_later w v (Ended p) t lo hi r h c = same_later w v c.1
 
   beside_later : (o : Option TxId) (falls : Bool) (w v : Walker M S G) (s t : Progress) (lo hi : ℕ) (r : Result (List (ℕ × ℕ)) OpError) → IsSession sh w s → RangeBeside o falls sh w s lo hi r v t → IsLater w v
@@ -112,20 +112,20 @@ module _ {M S G : Type 0} (sh : Shards M S G) where
 
   -- ---- ends
 
-  committed_later : (w v : Walker M S G) (p q : SessionState) (count : ℕ) (r : Result Settled CommitFailure) → v.number ≡ w.number → CommitTold count w p r v q → IsLater w v
-  committed_later w v p q count r same (inl (none, is, stays, place)) = same_later w v stays
-  committed_later w v p q count r same (inr (home, low, c)) = turns_later w v w.clock v.clock (c.asking ++ c.rest) same c.took
+  committed_later : (w v : Walker M S G) (p q : SessionState) (count stamp : ℕ) (r : Result Settled CommitFailure) → v.number ≡ w.number → CommitTold count w p stamp r v q → IsLater w v
+  committed_later w v p q count stamp r same (inl (none, is, stays, place)) = same_later w v stays
+  committed_later w v p q count stamp r same (inr (home, low, c)) = turns_later w v w.clock v.clock (c.asking ++ c.rest) same c.took
 
   pub commit_later : (w v : Walker M S G) (s t : Progress) (r : Result Settled CommitError) → CommitCalled sh w s r v t → IsLater w v
   commit_later w v Idle t r c = same_later w v c.1
-  commit_later w v (Active p) t r c = committed_later w v p c.place _ c.answer c.walker.0 c.told
+  commit_later w v (Active p) t r c = committed_later w v p c.place _ c.stamp c.answer c.walker.0 c.told
   commit_later w v (Worn p) t r c = same_later w v c.1
-  commit_later w v (Asked p home) t r c = let d = c.turns in turns_later w v w.clock v.clock d.turns c.walker.0 d.took
+  commit_later w v (Asked p home stamp) t r c = let d = c.turns in turns_later w v w.clock v.clock d.turns c.walker.0 d.took
   commit_later w v (Ended p) t r c = same_later w v c.1
 
   pub abort_later : (w v : Walker M S G) (s t : Progress) (r : Result Unit AbortError) → AbortCalled sh w s r v t → IsLater w v
   abort_later w v Idle t r c = same_later w v c.1
   abort_later w v (Active p) t r c = let d = c.drops in turns_later w v w.clock v.clock d.turns c.walker.0 d.took
   abort_later w v (Worn p) t r c = let d = c.drops in turns_later w v w.clock v.clock d.turns c.walker.0 d.took
-  abort_later w v (Asked p home) t r c = same_later w v c.1
+  abort_later w v (Asked p home stamp) t r c = same_later w v c.1
   abort_later w v (Ended p) t r c = same_later w v c.1

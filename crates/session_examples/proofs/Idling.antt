@@ -12,7 +12,7 @@ pub ended_idle : (t : Progress) → has_ended t ≡ true → active_tx t ≡ Non
 ended_idle Idle e = refl
 ended_idle (Active p) e = absurd cc
 ended_idle (Worn p) e = absurd cc
-ended_idle (Asked p home) e = refl
+ended_idle (Asked p home stamp) e = refl
 ended_idle (Ended p) e = refl
 
 pub ends_idle : (x : Transferred) (t : Progress) → EndsAs (Ok x) t → active_tx t ≡ None

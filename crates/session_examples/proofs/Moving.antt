@@ -127,7 +127,7 @@ module _ {M S G : Type 0} (sh : Shards M S G) where
   settled_done w u v s t r x ops answers h c told some d =
       let m : CommitMade sh u d.place r v t = subst (λ y. CommitCalled sh u y r v t) d.is c in
       subst (λ y. IfOk y (λ u. HasAcknowledged sh ops answers w v)) (sym (told m.answer m.is))
-      (settled_by w u v s m.place ops answers some d m.answer (commits_tell M S G sh u v d.place m.place d.birth m.answer (active_is u s d.place h d.is) d.birth_is m.walker m.told m.stands))
+      (settled_by w u v s m.place ops answers some d m.answer (commits_tell M S G sh u v d.place m.place d.birth m.stamp m.answer (active_is u s d.place h d.is) d.birth_is m.walker m.told m.stands))
 
   -- ---- a transfer
 

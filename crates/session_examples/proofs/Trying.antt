@@ -101,26 +101,26 @@ module _ {M S G : Type 0} (sh : Shards M S G) (v : Walker M S G) (t : Progress) 
 -- ---- commits
 
 -- by how far it is
-tried_phase : (q : SessionState) (r : Result Settled CommitFailure) (x : Phase) → q.phase ≡ x → is_nothing r ≡ false → TriedAs (commit_end r) (after_commit q x) → TriedAs (commit_end r) (progress_committed q (is_nothing r))
-tried_phase q r x phase made h = subst (λ b. TriedAs (commit_end r) (progress_committed q b)) (sym made) (subst (λ y. TriedAs (commit_end r) (after_commit q y)) (sym phase) h)
+tried_phase : (q : SessionState) (stamp : ℕ) (r : Result Settled CommitFailure) (x : Phase) → q.phase ≡ x → is_nothing r ≡ false → TriedAs (commit_end r) (after_commit q stamp x) → TriedAs (commit_end r) (progress_committed q stamp (is_nothing r))
+tried_phase q stamp r x phase made h = subst (λ b. TriedAs (commit_end r) (progress_committed q stamp b)) (sym made) (subst (λ y. TriedAs (commit_end r) (after_commit q stamp y)) (sym phase) h)
 
-abbrev LeavesTried : SessionState → Result Settled CommitFailure → Type 0
-LeavesTried q r = TriedAs (commit_end r) (progress_committed q (is_nothing r))
+abbrev LeavesTried : SessionState → ℕ → Result Settled CommitFailure → Type 0
+LeavesTried q stamp r = TriedAs (commit_end r) (progress_committed q stamp (is_nothing r))
 
-decided_tried : (count n : ℕ) (p q : SessionState) (d : Result Point SettleError) (ts : List Turn) → DecidedBy count n p d ts q → LeavesTried q (committed_as d)
-decided_tried count n p q (Ok point) ts h = tried_phase q (Ok (Committed point)) Told (ap (λ z. z.phase) h.1) refl refl
-decided_tried count n p q (Err (settle.Aborted cause)) ts h = tried_phase q (Err (unmade.Aborted cause)) Refused (ap (λ z. z.phase) h.2) refl refl
-decided_tried count n p q (Err (settle.Unsettled m)) ts h = tt
-decided_tried count n p q (Err (settle.Worn at)) ts h = tt
-decided_tried count n p q (Err settle.Memory) ts h = tt
+decided_tried : (count n : ℕ) (p q : SessionState) (asked : Point) (d : Result Point SettleError) (ts : List Turn) → DecidedBy count n p d ts q → LeavesTried q asked.stamp (committed_as asked d)
+decided_tried count n p q asked (Ok point) ts h = tried_phase q asked.stamp (Ok (Committed asked)) Told (ap (λ z. z.phase) h.1) refl refl
+decided_tried count n p q asked (Err (settle.Aborted cause)) ts h = tried_phase q asked.stamp (Err (unmade.Aborted cause)) Refused (ap (λ z. z.phase) h.2) refl refl
+decided_tried count n p q asked (Err (settle.Unsettled m)) ts h = tt
+decided_tried count n p q asked (Err (settle.Worn at)) ts h = tt
+decided_tried count n p q asked (Err settle.Memory) ts h = tt
 
-committed_tried : (count n : ℕ) (p q : SessionState) (answer : Result Outcome StepError) (r : Result Settled CommitFailure) (ts : List Turn) → CommittedBy count n p answer r ts q → LeavesTried q r
-committed_tried count n p q (Ok out.Asked) r ts h = subst (LeavesTried q) (sym h.1) (decided_tried count n p q h.0 ts h.2)
-committed_tried count n p q (Ok (out.Dead cause)) r ts h = subst (LeavesTried q) (sym h.0) (tried_phase q (Err (unmade.Aborted cause)) HasEnded (ap (λ z. z.phase) h.2) refl refl)
-committed_tried count n p q (Ok out.Down) r ts h = subst (LeavesTried q) (sym h.0) tt
-committed_tried count n p q (Err step.Memory) r ts h = subst (LeavesTried q) (sym h.0) tt
-committed_tried count n p q (Err (step.Worn at)) r ts h = subst (LeavesTried q) (sym h.0) tt
-committed_tried count n p q (Ok _) r ts h = absurd h
+committed_tried : (count n : ℕ) (p q : SessionState) (asked : Point) (answer : Result Outcome StepError) (r : Result Settled CommitFailure) (ts : List Turn) → CommittedBy count n p asked answer r ts q → LeavesTried q asked.stamp r
+committed_tried count n p q asked (Ok out.Asked) r ts h = subst (LeavesTried q asked.stamp) (sym h.1) (decided_tried count n p q asked h.0 ts h.2)
+committed_tried count n p q asked (Ok (out.Dead cause)) r ts h = subst (LeavesTried q asked.stamp) (sym h.0) (tried_phase q asked.stamp (Err (unmade.Aborted cause)) HasEnded (ap (λ z. z.phase) h.2) refl refl)
+committed_tried count n p q asked (Ok out.Down) r ts h = subst (LeavesTried q asked.stamp) (sym h.0) tt
+committed_tried count n p q asked (Err step.Memory) r ts h = subst (LeavesTried q asked.stamp) (sym h.0) tt
+committed_tried count n p q asked (Err (step.Worn at)) r ts h = subst (LeavesTried q asked.stamp) (sym h.0) tt
+committed_tried count n p q asked (Ok _) r ts h = absurd h
 
 -- ---- aborts
 
@@ -139,9 +139,9 @@ aborted_as q (Ok a) = refl
 aborted_as q (Err worn) = tt
 
 module _ {M S G : Type 0} (sh : Shards M S G) where
-  commit_leaves : (w v : Walker M S G) (p q : SessionState) (count : ℕ) (r : Result Settled CommitFailure) → CommitTold count w p r v q → LeavesTried q r
-  commit_leaves w v p q count r (inl (none, is, stays, place)) = subst (LeavesTried q) (sym is) refl
-  commit_leaves w v p q count r (inr (home, low, c)) = committed_tried count home p q c.answer r c.rest c.told
+  commit_leaves : (w v : Walker M S G) (p q : SessionState) (count stamp : ℕ) (r : Result Settled CommitFailure) → CommitTold count w p stamp r v q → LeavesTried q stamp r
+  commit_leaves w v p q count stamp r (inl (none, is, stays, place)) = subst (LeavesTried q stamp) (sym is) refl
+  commit_leaves w v p q count stamp r (inr (home, low, c)) = committed_tried count home p q (record { stamp = stamp; shard = home }) c.answer r c.rest c.told
 
   -- ---- the active transaction
 
@@ -149,7 +149,7 @@ module _ {M S G : Type 0} (sh : Shards M S G) where
   point_is w v Idle t o key r h c = absurd (both_ways false refl h)
   point_is w v (Active p) t o key r h c = (p, refl, c)
   point_is w v (Worn p) t o key r h c = absurd (both_ways false refl h)
-  point_is w v (Asked p home) t o key r h c = absurd (both_ways false refl h)
+  point_is w v (Asked p home stamp) t o key r h c = absurd (both_ways false refl h)
   point_is w v (Ended p) t o key r h c = absurd (both_ways false refl h)
 
   pub look_goes : (w v : Walker M S G) (s t : Progress) (key : ℕ) (r : Result (Option ℕ) OpError) (x : Result ℕ Failure) → is_open s ≡ true → PointCalled sh w s (Get key) key r v t
@@ -173,7 +173,7 @@ module _ {M S G : Type 0} (sh : Shards M S G) where
   commit_is w v Idle t r h c = absurd (both_ways false refl h)
   commit_is w v (Active p) t r h c = (p, refl, c)
   commit_is w v (Worn p) t r h c = absurd (both_ways false refl h)
-  commit_is w v (Asked p home) t r h c = absurd (both_ways false refl h)
+  commit_is w v (Asked p home stamp) t r h c = absurd (both_ways false refl h)
   commit_is w v (Ended p) t r h c = absurd (both_ways false refl h)
 
   pub commit_answered : (w v : Walker M S G) (s t : Progress) (r : Result Settled CommitError) → is_open s ≡ true → CommitCalled sh w s r v t → (e : Result Settled CommitFailure) × (r ≡ commit_told e)
@@ -184,13 +184,13 @@ module _ {M S G : Type 0} (sh : Shards M S G) where
   commit_tried w v s t r x h c told =
       let k = commit_is w v s t r h c in
       let m = k.2 in
-      subst (λ y. TriedAs y t) (sym (told m.answer m.is)) (subst (TriedAs (commit_end m.answer)) (sym m.then) (commit_leaves w v k.0 m.place _ m.answer m.told))
+      subst (λ y. TriedAs y t) (sym (told m.answer m.is)) (subst (TriedAs (commit_end m.answer)) (sym m.then) (commit_leaves w v k.0 m.place _ m.stamp m.answer m.told))
 
   pub abort_closed : (w v : Walker M S G) (s t : Progress) (r : Result Unit AbortError) → AbortCalled sh w s r v t → is_open t ≡ false
   abort_closed w v Idle t r c = ap is_open c.2
   abort_closed w v (Active p) t r c = ap is_open c.then ∙ aborted_closed c.place c.answer
   abort_closed w v (Worn p) t r c = ap is_open c.then ∙ aborted_closed c.place c.answer
-  abort_closed w v (Asked p home) t r c = ap is_open c.2
+  abort_closed w v (Asked p home stamp) t r c = ap is_open c.2
   abort_closed w v (Ended p) t r c = ap is_open c.2
 
   ended_so : (t : Progress) (r : Result Unit AbortError) (x : Result Unit Stop) → AbortedAs r t → AbortEnds r x → IfOk x (λ u. has_ended t ≡ true)
@@ -202,7 +202,7 @@ module _ {M S G : Type 0} (sh : Shards M S G) where
   abort_ended w v Idle t r h c = absurd (both_ways false refl h)
   abort_ended w v (Active p) t r h c = subst (λ x. AbortedAs x t) (sym c.is) (subst (AbortedAs (abort_told c.answer)) (sym c.then) (aborted_as c.place c.answer))
   abort_ended w v (Worn p) t r h c = absurd (both_ways false refl h)
-  abort_ended w v (Asked p home) t r h c = absurd (both_ways false refl h)
+  abort_ended w v (Asked p home stamp) t r h c = absurd (both_ways false refl h)
   abort_ended w v (Ended p) t r h c = absurd (both_ways false refl h)
 
   pub ends_aborted : (w v : Walker M S G) (s t : Progress) (r : Result Unit AbortError) (x : Result Unit Stop) → AbortCalled sh w s r v t → AbortEnds r x → is_open s ≡ true → IfOk x (λ u. has_ended t ≡ true)
@@ -231,7 +231,7 @@ module _ {M S G : Type 0} (sh : Shards M S G) where
   begin_as w v Idle t r h c = begun_as w v Idle t r refl c
   begin_as w v (Active p) t r h c = absurd cc
   begin_as w v (Worn p) t r h c = absurd cc
-  begin_as w v (Asked p home) t r h c = begun_as w v (Asked p home) t r refl c
+  begin_as w v (Asked p home stamp) t r h c = begun_as w v (Asked p home stamp) t r refl c
   begin_as w v (Ended p) t r h c = begun_as w v (Ended p) t r refl c
 
   retried_as : (w v : Walker M S G) (last : SessionState) (t : Progress) (r : Result TxId RetryError) → RetriedNext sh w last r v t → RetriedAs sh v t r
@@ -244,5 +244,5 @@ module _ {M S G : Type 0} (sh : Shards M S G) where
   retry_as w v Idle t r h c = absurd (both_ways false refl h)
   retry_as w v (Active p) t r h c = absurd (both_ways false refl h)
   retry_as w v (Worn p) t r h c = absurd (both_ways false refl h)
-  retry_as w v (Asked p home) t r h c = absurd (both_ways false refl h)
+  retry_as w v (Asked p home stamp) t r h c = absurd (both_ways false refl h)
   retry_as w v (Ended p) t r h c = retried_as w v p t r c

@@ -29,7 +29,7 @@ abbrev pub is_open : Progress → Bool
 is_open (Active p) = true
 is_open Idle = false
 is_open (Worn p) = false
-is_open (Asked p home) = false
+is_open (Asked p home stamp) = false
 is_open (Ended p) = false
 
 -- it ended by an abort
@@ -38,7 +38,7 @@ has_ended (Ended p) = true
 has_ended Idle = false
 has_ended (Active p) = false
 has_ended (Worn p) = false
-has_ended (Asked p home) = false
+has_ended (Asked p home stamp) = false
 
 -- what was moved is acknowledged, and what was refused or given up is aborted
 abbrev pub EndsAs : Result Transferred Stop → Progress → Type 0

@@ -25,6 +25,8 @@ use Rattle.session_ops.specs.Looked.{is_look_outcome, place_looked, LookStands}
 use Rattle.session_ops.specs.declared.settled_looking.SettleError.{SettleError}
 use Rattle.session_ops.specs.declared.settled_looking.SettleError.TheVariants.{Aborted, Unsettled, Worn, Memory}
 use Rattle.session_ops.specs.Settled.{looked_as, refusal_of, IsLook, Acknowledges, SettledBy, PlacedBy, OnlyLooks, Settling, StandsBy}
+use Rattle.law_base.proofs.Shards.{is_told}
+use Rattle.session_ops.proofs.Seeing.{happens_fits}
 use Rattle.session_ops.proofs.Pointing.{stamp_told}
 use Rattle.session_ops.proofs.Parting.{all_append}
 use Rattle.session_ops.proofs.Parting.{any_after, any_before}
@@ -63,7 +65,7 @@ module _ {T : Type 0} where
     where
       acked : r ≡ Ok Acknowledged → Acknowledges n tx (record { stamp = d; shard = n }) a.turn
       acked is =
-          let found = stamp_told tx w c d ps qs (a.turn ∷ []) a.took a.turn refl a.event_is (a.answer_is ∙ is) in
+          let found = stamp_told (Look tx) Acknowledged is_told (λ s. (happens_fits s tx).0) refl w c d ps qs (a.turn ∷ []) a.took a.turn refl a.event_is (a.answer_is ∙ is) in
           ((a.shard_is, a.event_is, a.answer_is ∙ is), (found.0, found.1, ap (λ z. record { stamp = z; shard = n }) found.2))
 
 -- ---- turns after turns

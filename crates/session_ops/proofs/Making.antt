@@ -57,7 +57,7 @@ by_seen : (s : Shard) (tx : TxId) (ts : List (ℕ × ℕ)) (fits : Bool) → Fit
 by_seen s tx ts false = (refl, refl)
 by_seen s tx ts true = by_stage s tx ts (stage_of s.local tx)
 
-happens_fits : (s : Shard) (tx : TxId) (ts : List (ℕ × ℕ)) → Fits (happen s (Request tx ts))
+pub happens_fits : (s : Shard) (tx : TxId) (ts : List (ℕ × ℕ)) → Fits (happen s (Request tx ts))
 happens_fits s tx ts = at s.is_up
   where
     at : (u : Bool) → Fits (elim u [ true ↦ happen_up s (Request tx ts) | false ↦ QuietBeforeWorn Down ])

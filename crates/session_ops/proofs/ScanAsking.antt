@@ -31,6 +31,7 @@ use Rattle.session_ops.specs.declared.committing.Next.TheVariants.{Refuses}
 use Rattle.session_ops.specs.Decided.{DecidedBy, IsLookOrDrop}
 use Rattle.session_ops.specs.Committed.{CommittedBy, next_as, FollowedBy, Following, Committing, Answering}
 use Rattle.law_base.proofs.Lists.{lowest_some as some_touched}
+use Rattle.session_ops.proofs.Pointing.{request_stays, request_made}
 
 -- ---- which shards
 
@@ -56,12 +57,12 @@ module _ {M S G : Type 0} (sh : Shards M S G) where
   answers w p q n (Err NoMemory) fits place h = h
   answers w p q n (Err (IsWorn at)) fits place h = h
 
-  abbrev Follows : Walker M S G → Walker M S G → ℕ → SessionState → Next → Result Settled CommitError → SessionState → Type 0
-  Follows w v n p x r q = Following (length sh.locks.items) w.number w.clock w.passes.items n p x r v.clock v.passes.items q
+  abbrev Follows : Walker M S G → Walker M S G → ℕ → SessionState → Point → Next → Result Settled CommitError → SessionState → Type 0
+  Follows w v n p asked x r q = Following (length sh.locks.items) w.number w.clock w.passes.items n p asked x r v.clock v.passes.items q
 
   -- nothing follows
-  pub follows_none : (w : Walker M S G) (n : ℕ) (p : SessionState) (e : CommitError) → Follows w w n p (Refuses e) (Err e) p
-  follows_none w n p e = record { turns = []; took = no_turn w.clock w.passes.items; only = tt; told = (refl, refl, refl) }
+  pub follows_none : (w : Walker M S G) (n : ℕ) (p : SessionState) (asked : Point) (e : CommitError) → Follows w w n p asked (Refuses e) (Err e) p
+  follows_none w n p asked e = record { turns = []; took = no_turn w.clock w.passes.items; only = tt; told = (refl, refl, refl) }
 
 -- ---- the request before
 
@@ -72,14 +73,14 @@ decided_before count n p x (Err (SettleUnsettled m)) ts q h = h
 decided_before count n p x (Err (SettleWorn at)) ts q h = h
 decided_before count n p x (Err SettleMemory) ts q h = h
 
-told_before : (count n : ℕ) (p : SessionState) (x : Result Outcome StepError) (r : Result Settled CommitError) (ts : List Turn) (q : SessionState) → IfOk x (λ o. is_request_outcome o ≡ true)
-    → FollowedBy count n (place_requested n p x) (next_as n x) r ts q → CommittedBy count n p x r ts q
-told_before count n p (Ok Asked) r ts q fits (d, is, h) = (d, is, decided_before count n p (Standing n) d ts q h)
-told_before count n p (Ok (Dead cause)) r ts q fits h = h
-told_before count n p (Ok DownOut) r ts q fits h = h
-told_before count n p (Ok o) r ts q fits h = absurd (both_ways false refl fits)
-told_before count n p (Err NoMemory) r ts q fits h = h
-told_before count n p (Err (IsWorn at)) r ts q fits h = h
+told_before : (count n : ℕ) (p : SessionState) (asked : Point) (x : Result Outcome StepError) (r : Result Settled CommitError) (ts : List Turn) (q : SessionState) → IfOk x (λ o. is_request_outcome o ≡ true)
+    → FollowedBy count n (place_requested n p x) asked (next_as n x) r ts q → CommittedBy count n p asked x r ts q
+told_before count n p asked (Ok Asked) r ts q fits (d, is, h) = (d, is, decided_before count n p (Standing n) d ts q h)
+told_before count n p asked (Ok (Dead cause)) r ts q fits h = h
+told_before count n p asked (Ok DownOut) r ts q fits h = h
+told_before count n p asked (Ok o) r ts q fits h = absurd (both_ways false refl fits)
+told_before count n p asked (Err NoMemory) r ts q fits h = h
+told_before count n p asked (Err (IsWorn at)) r ts q fits h = h
 
 same_request : (n : ℕ) (p : SessionState) (x : Result Outcome StepError) → ((place_requested n p x).tx ≡ p.tx) × ((place_requested n p x).touched ≡ p.touched)
 same_request n p (Ok Asked) = (refl, refl)
@@ -89,18 +90,20 @@ same_request n p (Err e) = (refl, refl)
 
 module _ {T : Type 0} where
   pub committing : (count w k c d e n : ℕ) (ps qs rs : List (Option (Pass T Note Origin))) (p m q : SessionState) (x : Result Outcome StepError) (y : Next) (r : Result Settled CommitError) → k ≡ w → m ≡ place_requested n p x → y ≡ next_as n x
-      → IfOk x (λ o. is_request_outcome o ≡ true) → RequestTold w c ps n (Request p.tx p.touched) x d qs → Following count k d qs n m y r e rs q → Committing count w c ps n p r e rs q
+      → IfOk x (λ o. is_request_outcome o ≡ true) → RequestTold w c ps n (Request p.tx p.touched) x d qs → Following count k d qs n m (record { stamp = d; shard = n }) y r e rs q → Committing count w c ps n p d r e rs q
   committing count w k c d e n ps qs rs p m q x y r number place next fits a f =
-      let after : Following count w d qs n (place_requested n p x) (next_as n x) r e rs q =
-      subst (λ z. Following count w d qs n (place_requested n p x) z r e rs q) next
-      (subst (λ (z : SessionState). Following count w d qs n z y r e rs q) place (subst (λ (i : ℕ). Following count i d qs n m y r e rs q) number f)) in
+      let asked : Point = record { stamp = d; shard = n } in
+      let after : Following count w d qs n (place_requested n p x) asked (next_as n x) r e rs q =
+      subst (λ z. Following count w d qs n (place_requested n p x) asked z r e rs q) next
+      (subst (λ (z : SessionState). Following count w d qs n z asked y r e rs q) place (subst (λ (i : ℕ). Following count i d qs n m asked y r e rs q) number f)) in
       record {
         answer = x;
         asking = a.turns;
         rest = after.turns;
         took = turns_follow w c d e ps qs rs a.turns after.turns a.took after.took;
         asked = a.is;
+        requested = λ is. request_stays w d e qs rs after.turns p asked after.took (request_made w c d n ps qs p (subst (λ (z : Result Outcome StepError). RequestTold w c ps n (Request p.tx p.touched) z d qs) is a));
         only = subst (λ ts. AllByRecursion (λ t. IsLookOrDrop p.tx ts n t) after.turns) (same_request n p x).1
             (subst (λ y. AllByRecursion (λ t. IsLookOrDrop y (place_requested n p x).touched n t) after.turns) (same_request n p x).0 after.only);
-        told = told_before count n p x r after.turns q fits after.told;
+        told = told_before count n p (record { stamp = d; shard = n }) x r after.turns q fits after.told;
       }

@@ -1,5 +1,5 @@
 -- What a commit tells, from its request on.
-use Rattle.std.specs.Prelude.{◌≡◌, ◌⊎◌, ℕ, true, List, [], ◌++◌, Option, Result, Ok, Err}
+use Rattle.std.specs.Prelude.{◌≡◌, ◌⊎◌, ⊤, ℕ, true, List, [], ◌++◌, Option, Result, Ok, Err}
 use Rattle.std.specs.List.{AllByRecursion}
 use Rattle.clv_base.specs.declared.names.Point.{Point}
 use Rattle.clv_base.specs.declared.events.Event.TheVariants.{Request}
@@ -15,25 +15,25 @@ use Rattle.cluster_turns.specs.declared.shards.Shards.{Shards}
 use Rattle.cluster_turns.specs.declared.shards.Walker.{Walker}
 use Rattle.cluster_turns.specs.CallTurns.{Turn, Took}
 use Rattle.session_ops.specs.Standing.{IsActive, IsGoneAt}
-use Rattle.session_ops.specs.Requested.{IsStanding, IsTurnOf}
+use Rattle.session_ops.specs.Requested.{IsStanding, IsTurnOf, HasRequest}
 use Rattle.session_ops.specs.Dropped.{IsEnding}
 use Rattle.session_ops.specs.declared.settled_looking.SettleError.{SettleError}
 use Rattle.session_ops.specs.declared.committing.Settled.{Settled}
-use Rattle.session_ops.specs.declared.committing.Settled.TheVariants.{Empty}
+use Rattle.session_ops.specs.declared.committing.Settled.TheVariants.{Committed, Empty}
 use Rattle.session_ops.specs.declared.committing.CommitError.{CommitError}
 use Rattle.session_ops.specs.declared.committing.CommitError.TheVariants.{Aborted, Down, Worn, Memory}
 use Rattle.session_ops.specs.declared.committing.Next.{Next}
 use Rattle.session_ops.specs.declared.committing.Next.TheVariants.{Looks, Leaves, Refuses}
 use Rattle.session_ops.specs.Decided.{DropsOthers, IsLookOrDrop, DecidedBy, committed_as}
 
--- by what the request was answered: the commit's answer, its turns after the request, and the place, p before it
-abbrev pub CommittedBy : ℕ → ℕ → SessionState → Result Outcome StepError → Result Settled CommitError → List Turn → SessionState → Type 0
-CommittedBy count n p (Ok Asked) r ts q = (d : Result Point SettleError) × (r ≡ committed_as d) × DecidedBy count n p d ts q
-CommittedBy count n p (Ok (Dead cause)) r ts q = (r ≡ Err (Aborted cause)) × DropsOthers count p.tx p.touched n ts × (q ≡ record p { phase = Ended })
-CommittedBy count n p (Ok DownOut) r ts q = (r ≡ Err (Down n)) × (ts ≡ []) × (q ≡ p)
-CommittedBy count n p (Ok _) r ts q = ⊥
-CommittedBy count n p (Err NoMemory) r ts q = (r ≡ Err Memory) × (ts ≡ []) × (q ≡ p)
-CommittedBy count n p (Err (IsWorn at)) r ts q = (r ≡ Err (Worn at)) × (ts ≡ []) × (q ≡ p)
+-- by what the request was answered: the commit's answer, its turns after the request, and the place, p before it. Where it was asked, it was so at this point
+abbrev pub CommittedBy : ℕ → ℕ → SessionState → Point → Result Outcome StepError → Result Settled CommitError → List Turn → SessionState → Type 0
+CommittedBy count n p asked (Ok Asked) r ts q = (d : Result Point SettleError) × (r ≡ committed_as asked d) × DecidedBy count n p d ts q
+CommittedBy count n p asked (Ok (Dead cause)) r ts q = (r ≡ Err (Aborted cause)) × DropsOthers count p.tx p.touched n ts × (q ≡ record p { phase = Ended })
+CommittedBy count n p asked (Ok DownOut) r ts q = (r ≡ Err (Down n)) × (ts ≡ []) × (q ≡ p)
+CommittedBy count n p asked (Ok _) r ts q = ⊥
+CommittedBy count n p asked (Err NoMemory) r ts q = (r ≡ Err Memory) × (ts ≡ []) × (q ≡ p)
+CommittedBy count n p asked (Err (IsWorn at)) r ts q = (r ≡ Err (Worn at)) × (ts ≡ []) × (q ≡ p)
 
 -- what is to be done by what the request was answered
 abbrev pub next_as : ℕ → Result Outcome StepError → Next
@@ -43,21 +43,21 @@ next_as n (Ok _) = Refuses (Down n)
 next_as n (Err NoMemory) = Refuses Memory
 next_as n (Err (IsWorn at)) = Refuses (Worn at)
 
-abbrev pub FollowedBy : ℕ → ℕ → SessionState → Next → Result Settled CommitError → List Turn → SessionState → Type 0
-FollowedBy count n p Looks r ts q = (d : Result Point SettleError) × (r ≡ committed_as d) × DecidedBy count n p d ts q
-FollowedBy count n p (Leaves cause) r ts q = (r ≡ Err (Aborted cause)) × DropsOthers count p.tx p.touched n ts × (q ≡ p)
-FollowedBy count n p (Refuses e) r ts q = (r ≡ Err e) × (ts ≡ []) × (q ≡ p)
+abbrev pub FollowedBy : ℕ → ℕ → SessionState → Point → Next → Result Settled CommitError → List Turn → SessionState → Type 0
+FollowedBy count n p asked Looks r ts q = (d : Result Point SettleError) × (r ≡ committed_as asked d) × DecidedBy count n p d ts q
+FollowedBy count n p asked (Leaves cause) r ts q = (r ≡ Err (Aborted cause)) × DropsOthers count p.tx p.touched n ts × (q ≡ p)
+FollowedBy count n p asked (Refuses e) r ts q = (r ≡ Err e) × (ts ≡ []) × (q ≡ p)
 
--- the turns after the request
-pub record Following {T : Type 0} (count w clock : ℕ) (before : List (Option (Pass T Note Origin))) (n : ℕ) (p : SessionState) (x : Next) (r : Result Settled CommitError) (clock' : ℕ)
+-- the turns after the request, which if it was asked was so at this point
+pub record Following {T : Type 0} (count w clock : ℕ) (before : List (Option (Pass T Note Origin))) (n : ℕ) (p : SessionState) (asked : Point) (x : Next) (r : Result Settled CommitError) (clock' : ℕ)
     (after : List (Option (Pass T Note Origin))) (q : SessionState) : Type 0 where
   pub turns : List Turn
   pub took : Took w clock before turns clock' after
   pub only : AllByRecursion (IsLookOrDrop p.tx p.touched n) turns
-  pub told : FollowedBy count n p x r turns q
+  pub told : FollowedBy count n p asked x r turns q
 
--- one request, and what comes after it
-pub record Committing {T : Type 0} (count w clock : ℕ) (before : List (Option (Pass T Note Origin))) (n : ℕ) (p : SessionState) (r : Result Settled CommitError) (clock' : ℕ) (after : List (Option (Pass T Note Origin)))
+-- one request, and what comes after it. Where it was asked, it is among the walker's entries, with this stamp
+pub record Committing {T : Type 0} (count w clock : ℕ) (before : List (Option (Pass T Note Origin))) (n : ℕ) (p : SessionState) (stamp : ℕ) (r : Result Settled CommitError) (clock' : ℕ) (after : List (Option (Pass T Note Origin)))
     (q : SessionState) : Type 0 where
   pub answer : Result Outcome StepError
   pub asking : List Turn
@@ -65,7 +65,14 @@ pub record Committing {T : Type 0} (count w clock : ℕ) (before : List (Option 
   pub took : Took w clock before (asking ++ rest) clock' after
   pub asked : IsTurnOf n (Request p.tx p.touched) answer asking
   pub only : AllByRecursion (IsLookOrDrop p.tx p.touched n) rest
-  pub told : CommittedBy count n p answer r rest q
+  pub requested : answer ≡ Ok Asked → HasRequest after p (record { stamp = stamp; shard = n })
+  pub told : CommittedBy count n p (record { stamp = stamp; shard = n }) answer r rest q
+
+-- the point of an acknowledged one is that of its request
+abbrev pub PointsAtRequest : {T E : Type 0} → List (Option (Pass T Note Origin)) → SessionState → Result Settled E → Type 0
+PointsAtRequest passes p (Ok (Committed point)) = HasRequest passes p point
+PointsAtRequest passes p (Ok Empty) = ⊤
+PointsAtRequest passes p (Err e) = ⊤
 
 module _ {M S G : Type 0} where
   -- how the transaction stands then
@@ -74,8 +81,8 @@ module _ {M S G : Type 0} where
   Answering sh w p home (Leaves cause) = IsEnding sh w p × (p.phase ≡ Ended) × IsGoneAt home w p
   Answering sh w p home (Refuses e) = IsActive sh w p
 
-  -- where nothing was touched nothing is done; else the request is made at the lowest touched shard
-  abbrev pub CommitTold : ℕ → Walker M S G → SessionState → Result Settled CommitError → Walker M S G → SessionState → Type 0
-  CommitTold count w p r v q =
+  -- where nothing was touched nothing is done; else the request is made at the lowest touched shard, with this stamp
+  abbrev pub CommitTold : ℕ → Walker M S G → SessionState → ℕ → Result Settled CommitError → Walker M S G → SessionState → Type 0
+  CommitTold count w p stamp r v q =
       ((p.touched ≡ []) × (r ≡ Ok Empty) × (v ≡ w) × (q ≡ p))
-      ⊎ ((home : ℕ) × (is_lowest home p.touched ≡ true) × Committing count w.number w.clock w.passes.items home p r v.clock v.passes.items q)
+      ⊎ ((home : ℕ) × (is_lowest home p.touched ≡ true) × Committing count w.number w.clock w.passes.items home p stamp r v.clock v.passes.items q)

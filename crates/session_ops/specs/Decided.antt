@@ -69,10 +69,10 @@ pub record Deciding {T : Type 0} (count w clock : ℕ) (before : List (Option (P
   pub only : AllByRecursion (IsLookOrDrop p.tx p.touched n) turns
   pub told : DecidedBy count n p r turns q
 
--- a decision, as a commit tells it
-abbrev pub committed_as : Result Point SettleError → Result Settled CommitError
-committed_as (Ok point) = Ok (Committed point)
-committed_as (Err (Aborted cause)) = Err (CommitAborted cause)
-committed_as (Err (Unsettled n)) = Err (CommitUnsettled n)
-committed_as (Err (Worn at)) = Err (CommitWorn at)
-committed_as (Err Memory) = Err CommitMemory
+-- a decision, as the commit of a request at this point tells it
+abbrev pub committed_as : Point → Result Point SettleError → Result Settled CommitError
+committed_as asked (Ok look) = Ok (Committed asked)
+committed_as asked (Err (Aborted cause)) = Err (CommitAborted cause)
+committed_as asked (Err (Unsettled n)) = Err (CommitUnsettled n)
+committed_as asked (Err (Worn at)) = Err (CommitWorn at)
+committed_as asked (Err Memory) = Err CommitMemory

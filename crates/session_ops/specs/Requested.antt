@@ -1,9 +1,13 @@
 -- What the event of a request tells, and what holds after it.
 use Rattle.std.specs.Prelude.{◌≡◌, ◌⊎◌, ℕ, Bool, true, false, List, [], ◌∷◌, Option, Result, Ok, Err}
+use Rattle.clv_base.specs.declared.names.Point.{Point}
+use Rattle.clv_base.specs.declared.events.Entry.{Entry}
 use Rattle.clv_base.specs.declared.events.Event.{Event}
+use Rattle.clv_base.specs.declared.events.Event.TheVariants.{Request}
 use Rattle.clv_base.specs.declared.events.Outcome.{Outcome}
 use Rattle.clv_base.specs.declared.events.Outcome.TheVariants.{Asked, Dead, Down}
 use Rattle.clv_base.specs.FileRules.{tx_has_spelling}
+use Rattle.clv_base.specs.History.{IsAmong}
 use Rattle.clv_base.specs.Sessions.{SessionState, Standing, Ended}
 use Rattle.turn_lock.specs.declared.pass.Pass.{Pass}
 use Rattle.machine_calls.specs.declared.machine.StepError.{StepError}
@@ -12,6 +16,7 @@ use Rattle.machine_laws.specs.declared.notes.Note.{Note}
 use Rattle.machine_laws.specs.declared.notes.Origin.{Origin}
 use Rattle.cluster_turns.specs.declared.shards.Shards.{Shards}
 use Rattle.cluster_turns.specs.declared.shards.Walker.{Walker}
+use Rattle.cluster_turns.specs.Walkers.{kept}
 use Rattle.cluster_turns.specs.CallTurns.{Turn, Took}
 use Rattle.session_ops.specs.Standing.{IsReady, HasBirth, IsActive, IsOver, IsGoneAt}
 
@@ -36,6 +41,14 @@ pub record RequestTold {T : Type 0} (w clock : ℕ) (before : List (Option (Pass
   pub turns : List Turn
   pub took : Took w clock before turns clock' after
   pub is : IsTurnOf n e r turns
+
+-- among the entries that a walker has made is the request of p, asked at this point
+pub record HasRequest {T : Type 0} (passes : List (Option (Pass T Note Origin))) (p : SessionState) (point : Point) : Type 0 where
+  pub entry : Entry
+  pub event : entry.event ≡ Request p.tx p.touched
+  pub outcome : entry.outcome ≡ Asked
+  pub stamp : point.stamp ≡ entry.stamp
+  pub among : IsAmong point.shard entry (kept passes)
 
 module _ {M S G : Type 0} where
   -- the request of the transaction p stands at its home, where it has no active part any more

@@ -5,7 +5,7 @@ ghost use Rattle.cluster_turns.specs.Walkers.{IsSameWalker};
 ghost use Rattle.session_ops.specs.Standing.{IsActive};
 ghost use Rattle.session_ops.specs.Standings.{StandsAs};
 ghost use Rattle.session_ops.specs.Decided.{committed_as};
-ghost use Rattle.session_ops.specs.Committed.{next_as, Answering, Following, Committing, CommitTold};
+ghost use Rattle.session_ops.specs.Committed.{next_as, Answering, Following, Committing, CommitTold, PointsAtRequest};
 
 use crate::ended_leaving::{finish, leave_others};
 use crate::{SettleError, request};
@@ -21,7 +21,7 @@ use std::sync::Wait;
 /// How a commit went well.
 #[derive(Clone, Copy, PartialEq, Eq)]
 pub enum Settled {
-    /// It is acknowledged, by the entry at this point.
+    /// It is acknowledged. Its request stands in the history at this point, which is the transaction's place in the serial one.
     Committed { point: Point },
     /// The transaction touched nothing.
     Empty,
@@ -40,12 +40,20 @@ pub enum CommitError {
     Memory,
 }
 
-// What a decision is, as a commit tells it.
-fn committed_by(answer: Result<Point, SettleError>) -> Result<Settled, CommitError>
-    ensures { result ≡ committed_as answer }
+/// What a commit came to.
+#[derive(Clone, Copy, PartialEq, Eq)]
+pub struct CommitEnd {
+    pub answer: Result<Settled, CommitError>,
+    /// The walker's clock behind its request: the stamp of that, where it was asked.
+    pub stamp: u64,
+}
+
+// What a decision is, as the commit of a request at this point tells it.
+fn committed_by(asked: Point, answer: Result<Point, SettleError>) -> Result<Settled, CommitError>
+    ensures { result ≡ committed_as asked answer }
 {
     match answer {
-        Ok(point) => Ok(Settled::Committed { point }),
+        Ok(_look) => Ok(Settled::Committed { point: asked }),
         Err(SettleError::Aborted(cause)) => Err(CommitError::Aborted(cause)),
         Err(SettleError::Unsettled { shard }) => Err(CommitError::Unsettled { shard }),
         Err(SettleError::Worn { at }) => Err(CommitError::Worn { at }),
@@ -81,17 +89,18 @@ fn go_on<M: Flier, P: Pace, R: Wait>(
     place: &mut Place,
     home: u32,
     pace: &P,
+    asked: Point,
     next: Next,
 ) -> Result<Settled, CommitError>
     requires answering { Answering shards.now walker.old place.old home next }
     ensures walker { IsSameWalker walker.old walker.new }
-    ensures turns { Following (length shards.now.locks.items) walker.old.number walker.old.clock walker.old.passes.items home place.old next result walker.new.clock walker.new.passes.items place.new }
+    ensures turns { Following (length shards.now.locks.items) walker.old.number walker.old.clock walker.old.passes.items home place.old asked next result walker.new.clock walker.new.passes.items place.new }
     ensures stands { StandsAs shards.now walker.new place.new }
 {
     match next {
         Next::Looks => {
             let decided = finish(rt, alloc, shards, walker, place, home, pace);
-            committed_by(decided)
+            committed_by(asked, decided)
         }
         Next::Leaves(cause) => {
             leave_others(rt, alloc, shards, walker, place, home);
@@ -110,22 +119,28 @@ fn commit_at<M: Flier, P: Pace, R: Wait>(
     place: &mut Place,
     home: u32,
     pace: &P,
-) -> Result<Settled, CommitError>
+) -> CommitEnd
     requires active { IsActive shards.now walker.old place.old }
     requires lowest { is_lowest home place.old.touched ≡ true }
     ensures walker { IsSameWalker walker.old walker.new }
-    ensures turns { Committing (length shards.now.locks.items) walker.old.number walker.old.clock walker.old.passes.items home place.old result walker.new.clock walker.new.passes.items place.new }
+    ensures turns { Committing (length shards.now.locks.items) walker.old.number walker.old.clock walker.old.passes.items home place.old result.stamp result.answer walker.new.clock walker.new.passes.items place.new }
+    ensures point { PointsAtRequest walker.new.passes.items place.old result.answer }
     ensures stands { StandsAs shards.now walker.new place.new }
 {
     let answer = request(rt, alloc, shards, walker, place, home);
+    // An entry made just now has the clock's stamp.
+    let stamp = walker.clock;
+    let asked = Point { stamp, shard: home };
     let next = next_by(home, &answer);
-    go_on(rt, alloc, shards, walker, place, home, pace, next)
+    let answer = go_on(rt, alloc, shards, walker, place, home, pace, asked, next);
+    CommitEnd { answer, stamp }
 }
 
 /// Commits the active transaction: one request at the lowest shard that it touched, then looks there until it is decided, with a wait and a round after
 /// each that finds nothing decided; where it died or is aborted, its other parts are dropped. `Empty` comes exactly where it touched nothing. Each answer is
 /// told by the turns of the call: `Down` only where the request found the home down, and `Unsettled` only after the request. After these two, `Worn` and
-/// `Memory` the transaction is active or its request stands, as the place tells; [`finish`] goes on with a request that stands.
+/// `Memory` the transaction is active or its request stands, as the place tells; [`finish`] goes on with a request that stands. The point of an
+/// acknowledged one is that of its request: members of the serial history stand in the order of these.
 pub fn commit<M: Flier, P: Pace, R: Wait>(
     rt: &R,
     alloc: Global,
@@ -133,14 +148,18 @@ pub fn commit<M: Flier, P: Pace, R: Wait>(
     walker: &mut Walker<M>,
     place: &mut Place,
     pace: &P,
-) -> Result<Settled, CommitError>
+) -> CommitEnd
     requires active { IsActive shards.now walker.old place.old }
     ensures walker { IsSameWalker walker.old walker.new }
-    ensures turns { CommitTold (length shards.now.locks.items) walker.old place.old result walker.new place.new }
+    ensures turns { CommitTold (length shards.now.locks.items) walker.old place.old result.stamp result.answer walker.new place.new }
+    ensures point { PointsAtRequest walker.new.passes.items place.old result.answer }
     ensures stands { StandsAs shards.now walker.new place.new }
 {
     match place.home() {
-        None => Ok(Settled::Empty),
+        None => CommitEnd {
+            answer: Ok(Settled::Empty),
+            stamp: walker.clock,
+        },
         Some(home) => commit_at(rt, alloc, shards, walker, place, home, pace),
     }
 }

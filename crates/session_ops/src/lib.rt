@@ -33,7 +33,7 @@ mod waiting;
 pub use aborting::abort;
 pub use asking::ask;
 pub use beginning::begin;
-pub use committing::{CommitError, Settled, commit};
+pub use committing::{CommitEnd, CommitError, Settled, commit};
 pub use dropping::drop_part;
 pub use ended_leaving::{finish, leave_if};
 pub use leaving::drop_parts;

@@ -10,5 +10,5 @@ returns-in-Ok-clause-ran g c =
     let t = c.in-Ok.ensures.told in
     let b = t.4 in
     inl
-    (ran c.args.transaction.now c.args.most (stop_in c.run_tries.result) t.0 u v (g.C.SessionCalls.seen c.run_tries.new.session) t.1 t.2 t.3 b
+    (ran (g.C.SessionCalls.missed c.run_tries.new.session) c.args.transaction.now c.args.most (stop_in c.run_tries.result) t.0 u v (g.C.SessionCalls.seen c.run_tries.new.session) t.1 t.2 t.3 b
     (c.run_tries.ensures.told b.tx t.0 b.active b.serial_is (b.run_is ∙ sym (b.grows).run_is) (b.session_is ∙ sym (b.grows).walker_is)))

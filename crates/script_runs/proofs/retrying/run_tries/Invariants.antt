@@ -1,7 +1,7 @@
 use Rattle.std.proofs.Common.{◌≡◌}
 use Rattle.clv_base.specs.declared.names.TxId.{TxId}
 use Rattle.clv_base.specs.declared.names.Birth.{Birth as BirthIs}
-use Rattle.script_runs.specs.Seen.{Active, untouched}
+use Rattle.script_runs.specs.Seen.{Active, Keeps, untouched}
 use Rattle.script_runs.proofs.Tries.{Trying}
 use Rattle.script_runs.proofs.retrying.run_tries.Given as goal
 
@@ -11,7 +11,8 @@ invariant-loop g l =
     record {
       session : g.C.SessionCalls.holds l.session;
       base : g.C.SessionCalls.base l.session ≡ g.C.SessionCalls.base l.fn.session;
+      misses : Keeps (g.C.SessionCalls.missed l.fn.session) (g.C.SessionCalls.missed l.session);
       trying :
           (tx : TxId) (birth : BirthIs) → u.standing ≡ Active tx birth 0 untouched → tx.serial ≡ u.serial → tx.run ≡ u.run → tx.session ≡ u.walker
-          → Trying l.transaction tx birth l.most l.tried u (g.C.SessionCalls.seen l.session);
+          → Trying (g.C.SessionCalls.missed l.session) l.transaction tx birth l.most l.tried u (g.C.SessionCalls.seen l.session);
     }

@@ -8,6 +8,7 @@ pub loop-init : goal.loop-init
 loop-init g c = record {
   session = c.requires.session;
   base = refl;
+  misses = λ tx n es h. h;
   doing = λ tx birth is. nothing_done tx birth c.args.lines.now (g.C.SessionCalls.seen c.args.session.now) c.new-following.result is c.new-following.ensures;
 }
 
@@ -32,6 +33,7 @@ pub loop-preserved-in-Ok : goal.loop-preserved-in-Ok
 loop-preserved-in-Ok g c = record {
   session = c.in-Ok.ensures.session;
   base = c.in-Ok.ensures.base ∙ c.loop.invariant.base;
+  misses = λ tx n es h. c.in-Ok.ensures.misses tx n es (c.loop.invariant.misses tx n es h);
   doing = λ tx birth is.
       let d = c.loop.invariant.doing tx birth is in
       let next = sym (c.next-in-loop.ensures c.args.lines.now d.done.answers d.place) ∙ c.in-Some-next.is in
@@ -45,6 +47,7 @@ pub loop-preserved : goal.loop-preserved
 loop-preserved g c = record {
   session = c.in-Ok.ensures.session;
   base = c.in-Ok.ensures.base ∙ c.loop.invariant.base;
+  misses = λ tx n es h. c.in-Ok.ensures.misses tx n es (c.loop.invariant.misses tx n es h);
   doing = λ tx birth is.
       let d = c.loop.invariant.doing tx birth is in
       let next = sym (c.next-in-loop.ensures c.args.lines.now d.done.answers d.place) ∙ c.in-Some-next.is in

@@ -7,8 +7,8 @@ use Rattle.session_ops.proofs.committing.go_on.Goals as goal
 
 pub returns-in-Refuses-clause-turns : goal.returns-in-Refuses-clause-turns
 returns-in-Refuses-clause-turns g c = let w = c.args.walker.now in let p = c.args.place.now in
-    subst (λ y. Following (length c.args.shards.now.locks.items) w.number w.clock w.passes.items c.args.home p y (Err c.in-Refuses.error) w.clock w.passes.items p) (sym c.in-Refuses.is)
-    (follows_none c.args.shards.now w c.args.home p c.in-Refuses.error)
+    subst (λ y. Following (length c.args.shards.now.locks.items) w.number w.clock w.passes.items c.args.home p c.args.asked y (Err c.in-Refuses.error) w.clock w.passes.items p) (sym c.in-Refuses.is)
+    (follows_none c.args.shards.now w c.args.home p c.args.asked c.in-Refuses.error)
 
 pub returns-in-Leaves-clause-stands : goal.returns-in-Leaves-clause-stands
 returns-in-Leaves-clause-stands g c = let w = c.args.walker.now in let v = c.leave_others.new.walker in let p = c.args.place.now in let q = c.leave_others.new.place in let l = c.leave_others.ensures in

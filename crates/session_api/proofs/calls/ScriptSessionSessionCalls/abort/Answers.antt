@@ -8,7 +8,11 @@ aborted-requires g c = let s = c.args.self.now.session in let z = c.abort.new.se
 
 pub returns-clause-session : goal.returns-clause-session
 returns-clause-session g c = let s = c.args.self.now.session in let z = c.abort.new.self in let e = c.abort.ensures in
-    (abort_call s.shards.now z.shards.now s.walker z.walker s.progress z.progress c.abort.result c.aborted.result (ap (λ x. x.now) e.shards) c.requires.session c.requires.active e.told e.session c.aborted.ensures.told).holds
+    (abort_call s.shards.now z.shards.now s.walker z.walker s.progress z.progress c.abort.result c.aborted.result (ap (λ x. x.now) e.shards) c.requires.session c.requires.active e.told e.session c.aborted.ensures.told).holds.holds
+
+pub returns-clause-misses : goal.returns-clause-misses
+returns-clause-misses g c = let s = c.args.self.now.session in let z = c.abort.new.self in let e = c.abort.ensures in
+    (abort_call s.shards.now z.shards.now s.walker z.walker s.progress z.progress c.abort.result c.aborted.result (ap (λ x. x.now) e.shards) c.requires.session c.requires.active e.told e.session c.aborted.ensures.told).holds.misses
 
 pub returns-clause-told : goal.returns-clause-told
 returns-clause-told g c = let s = c.args.self.now.session in let z = c.abort.new.self in let e = c.abort.ensures in

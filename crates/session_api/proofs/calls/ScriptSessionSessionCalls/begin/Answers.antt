@@ -7,7 +7,11 @@ begun-requires g c = let s = c.args.self.now.session in let z = c.begin.new.self
 
 pub returns-clause-session : goal.returns-clause-session
 returns-clause-session g c = let s = c.args.self.now.session in let z = c.begin.new.self in let e = c.begin.ensures in
-    (begin_done s.shards.now z.shards.now s.walker z.walker s.progress z.progress c.begin.result c.begun.result (ap (λ x. x.now) e.shards) c.requires.session c.requires.idle e.told e.session c.begun.ensures).0
+    (begin_done s.shards.now z.shards.now s.walker z.walker s.progress z.progress c.begin.result c.begun.result (ap (λ x. x.now) e.shards) c.requires.session c.requires.idle e.told e.session c.begun.ensures).0.holds
+
+pub returns-clause-misses : goal.returns-clause-misses
+returns-clause-misses g c = let s = c.args.self.now.session in let z = c.begin.new.self in let e = c.begin.ensures in
+    (begin_done s.shards.now z.shards.now s.walker z.walker s.progress z.progress c.begin.result c.begun.result (ap (λ x. x.now) e.shards) c.requires.session c.requires.idle e.told e.session c.begun.ensures).0.misses
 
 pub returns-clause-told : goal.returns-clause-told
 returns-clause-told g c = let s = c.args.self.now.session in let z = c.begin.new.self in let e = c.begin.ensures in

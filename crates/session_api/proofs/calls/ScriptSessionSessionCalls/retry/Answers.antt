@@ -9,7 +9,11 @@ retried-requires g c = let s = c.args.self.now.session in let z = c.retry.new.se
 
 pub returns-clause-session : goal.returns-clause-session
 returns-clause-session g c = let s = c.args.self.now.session in let z = c.retry.new.self in let e = c.retry.ensures in
-    (retry_done s.shards.now z.shards.now s.walker z.walker s.progress z.progress c.retry.result c.retried.result (ap (λ x. x.now) e.shards) c.requires.session c.requires.ended e.told e.session c.retried.ensures).0
+    (retry_done s.shards.now z.shards.now s.walker z.walker s.progress z.progress c.retry.result c.retried.result (ap (λ x. x.now) e.shards) c.requires.session c.requires.ended e.told e.session c.retried.ensures).0.holds
+
+pub returns-clause-misses : goal.returns-clause-misses
+returns-clause-misses g c = let s = c.args.self.now.session in let z = c.retry.new.self in let e = c.retry.ensures in
+    (retry_done s.shards.now z.shards.now s.walker z.walker s.progress z.progress c.retry.result c.retried.result (ap (λ x. x.now) e.shards) c.requires.session c.requires.ended e.told e.session c.retried.ensures).0.misses
 
 pub returns-clause-told : goal.returns-clause-told
 returns-clause-told g c = let s = c.args.self.now.session in let z = c.retry.new.self in let e = c.retry.ensures in
