@@ -1,3 +1,4 @@
 pub mod Merging
 pub mod Trees
 mod Telling
+pub mod Nexting

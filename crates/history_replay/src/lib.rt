@@ -9,6 +9,7 @@ mod all_entries;
 mod history;
 mod laws;
 mod map;
+mod next_after;
 mod replaying;
 mod replays;
 mod standing;
