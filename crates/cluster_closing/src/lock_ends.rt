@@ -44,6 +44,7 @@ fn close_all<M: Machine>(
         run: _,
         batches: _,
         lacking: _,
+        left: _,
         found: _,
     } = shards;
     let count = locks.len();

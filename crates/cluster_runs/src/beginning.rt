@@ -88,6 +88,7 @@ fn begin<H: House, M: OverDisks<H::Disk>>(
                 run: _,
                 batches: _,
                 lacking: _,
+                left: _,
                 found: _,
             } = shards;
             give_back_locks::<H, M>(house, locks, passes);

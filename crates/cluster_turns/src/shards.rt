@@ -35,6 +35,8 @@ pub struct Shards<M: Machine> {
     pub batches: [BatchGate; 16],
     /// Not 0 once a session was stopped for want of memory: its transaction may stand in others' way for ever, so nobody waits from then on.
     pub lacking: AtomicU64,
+    /// Not 0 once a request was left standing, as a shard was down: others may wait for it for ever, so who waits looks from then on for a shard that is down.
+    pub left: AtomicU64,
     /// Each shard's log as opening found it.
     pub found: Snapshot<Vec<Vec<LogRecord>>>,
 }
@@ -85,6 +87,16 @@ impl<M: Machine> Shards<M> {
     /// Whether one was, as far as this thread knows.
     pub fn is_lacking(&self) -> bool {
         self.lacking.load(Ordering::SeqCst) != 0
+    }
+
+    /// Tells all sessions that one left its request standing, as a shard was down.
+    pub fn tell_left(&self) {
+        self.left.store(1, Ordering::SeqCst);
+    }
+
+    /// Whether one did, as far as this thread knows.
+    pub fn has_left(&self) -> bool {
+        self.left.load(Ordering::SeqCst) != 0
     }
 
     /// One event of a walker on a shard, in one turn.
