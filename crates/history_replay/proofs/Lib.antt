@@ -1,3 +1,6 @@
 pub mod Merging
 pub mod Trees
 mod Telling
+pub mod Placing
+pub mod Nexting
+pub mod Rising

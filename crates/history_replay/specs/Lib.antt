@@ -4,3 +4,4 @@ pub mod Located
 pub mod Replayed
 pub mod Tables
 pub mod Laws
+pub mod Behind

@@ -10,7 +10,7 @@ use crate::history::History;
 use clv_base::events::Entry;
 use std::alloc::Global;
 
-fn comes_before(shard: u32, entry: &Entry, next_shard: u32, next: &Entry) -> bool
+pub(crate) fn comes_before(shard: u32, entry: &Entry, next_shard: u32, next: &Entry) -> bool
     ensures { result ≡ stands_before (shard, entry.now) (next_shard, next.now) }
 {
     if entry.stamp == next.stamp {

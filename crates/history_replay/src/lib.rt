@@ -9,6 +9,7 @@ mod all_entries;
 mod history;
 mod laws;
 mod map;
+mod next_after;
 mod replaying;
 mod replays;
 mod standing;
@@ -18,7 +19,7 @@ mod transactions;
 
 pub use all_entries::entries;
 pub use history::History;
-pub use laws::{one_journal, one_shard};
+pub use laws::{one_journal, one_shard, ordered_journals};
 pub use map::KeyMap;
 pub use replaying::replayed;
 pub use replays::replay;
