@@ -74,8 +74,8 @@ fn earliest<'a>(
 }
 
 impl History {
-    /// The first entry behind a point, in the order of stamps, then shards; none only where none is behind it. Each journal is searched by halves, and no
-    /// memory is taken.
+    /// The first entry behind a point with its shard, in the order of stamps, then shards; none only where none is behind it. In each journal the stamps must
+    /// rise, as those of a legal history do (`ordered_journals`). Each journal is searched by halves, and no memory is taken.
     pub fn next_after(&self, point: Point) -> Option<(u32, &Entry)>
         requires count { length self.now.journals < 2 ^ 32 }
         requires rise { AreRising self.now.journals }
