@@ -3,7 +3,8 @@
 
 For scripts on one, two and three shards: one run in which a call fails, one in which all later ones fail too, and one that ends in its place; calls
 that are interrupted, that move less than they were asked to, that find no room; all disks from a call on. Then the same of `make`, of the standard
-streams and of threads. Cases at random: sessions that meet on three shards, with one such fault.
+streams and of threads. One shard fails for ever, at one write after the other: sessions that work on another one alone go on to their ends.
+Cases at random: sessions that meet on three shards, with one such fault.
 
 What must hold after each run over logs, where three images of what a crash may leave are made from the calls that it made:
 
@@ -303,6 +304,44 @@ def streams(checks, library, program):
             checks.check(f"FAULTS_CALL={call}: logs", is_kept, folder.logs(), ONE_PUT)
 
 
+# A shard that is down stops only those who need it.
+
+# Session 1 works on shard 1, or on both; 2 and 3 meet on shard 0, at keys that are there before.
+PUTS, APART_TIMES = 12, 25
+APART_BEFORE = b"session\nbegin\nput 1 0\nput 2 0\nput 3 0\nput 4 0\nput 5 0\nput 7 0\ncommit\n"
+
+
+def apart_lines(session, nth):
+    """The nth transaction of sessions 2 and 3: both put under the same keys, each in an order of its own."""
+    keys = [1, 2, 3, 4][nth % 4 :] + [1, 2, 3, 4][: nth % 4]
+    return ["begin", *(f"put {key} {session * 1000 + nth}" for key in (keys if session == 2 else keys[::-1])), "get 5", "commit"]
+
+
+def apart(keys):
+    """The script in which the transactions of session 1 put under these keys."""
+    lines = ["session"]
+    for nth in range(PUTS):
+        lines += ["begin", *(f"put {key} {nth + 1}" for key in keys), "commit"]
+    for session in (2, 3):
+        lines += ["session", *(line for nth in range(APART_TIMES) for line in apart_lines(session, nth))]
+    return reports.script_of(lines)
+
+
+def others_go_on(checks, library, program):
+    for keys in ((11,), (12, 7), (7, 13)):
+        script = apart(keys)
+        for number in range(3, 2 * PUTS + 1):
+            name = f"session 1 puts under {keys}, shard 1 fails from its write {number} on"
+            with Folder(program) as folder:
+                folder.run("make", "10")
+                folder.run("run", script=APART_BEFORE)
+                got, _ = library.run(folder, *RUN, script=script, call=f"write@shard-01.log:{number}:{errno.EIO}:on")
+            checks.check(f"{name}: status", (got.status, got.err) == (6, "disk fault on shard 1\n"), got, script)
+            done = [json.loads(line).get("session") for line in got.out.splitlines()]
+            is_all = (done.count(2), done.count(3)) == (APART_TIMES, APART_TIMES)
+            checks.check(f"{name}: sessions 2 and 3 go on to their ends", is_all, (done.count(2), done.count(3)), script)
+
+
 # Cases at random.
 
 
@@ -343,6 +382,7 @@ def main():
         if library and told.sweeps and told.only is None:
             makes(checks, library, told.program)
             streams(checks, library, told.program)
+            others_go_on(checks, library, told.program)
             sweeps(checks, library, told.program)
         for case, numbers in cases(told) if library else ():
             crowds(checks, library, case, numbers, told.program)

@@ -89,7 +89,7 @@ pub(crate) fn pairs_told<M: Machine>(
     }
 }
 
-// A commit was made. Want of memory is told to all sessions.
+// A commit was made. Want of memory is told to all sessions, and so is a request that was left standing.
 pub(crate) fn committed<M: Machine>(
     shards: &Shards<M>,
     answer: Result<Settled, CommitError>,
@@ -102,7 +102,10 @@ pub(crate) fn committed<M: Machine>(
         Ok(Settled::Empty) => TryEnd::Empty,
         Err(CommitError::Aborted(cause)) => TryEnd::Aborted(cause),
         Err(CommitError::Down { shard }) => TryEnd::Stopped(StopCause::Down { shard }),
-        Err(CommitError::Unsettled { shard }) => TryEnd::Stopped(StopCause::Unsettled { shard }),
+        Err(CommitError::Unsettled { shard }) => {
+            shards.tell_left();
+            TryEnd::Stopped(StopCause::Unsettled { shard })
+        }
         Err(CommitError::Worn { at }) => TryEnd::Stopped(StopCause::Worn { at }),
         Err(CommitError::Memory) => {
             shards.tell_lack();

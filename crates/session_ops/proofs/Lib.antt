@@ -4,6 +4,7 @@ pub mod Trying
 pub mod Passing
 pub mod Outcomes
 pub mod Rounding
+pub mod Noting
 pub mod First
 pub mod New
 pub mod AfterTurn

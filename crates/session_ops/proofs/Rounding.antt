@@ -1,5 +1,5 @@
 -- From what the parts of a round tell to its turns.
-use Rattle.std.proofs.Common.{◌≡◌, refl, subst, ℕ, Bool, true, false, List, [], ◌∷◌, ◌++◌, Option, Some, Result, Ok, Err, inl, inr}
+use Rattle.std.proofs.Common.{◌≡◌, refl, sym, subst, ℕ, Bool, true, false, List, [], ◌∷◌, ◌++◌, Option, Some, Result, Ok, Err, inl, inr}
 use Rattle.std.proofs.lemmas.Bool.{both_ways}
 use Rattle.clv_base.specs.declared.messages.Message.{Message}
 use Rattle.clv_base.specs.declared.events.Event.{Event}
@@ -150,6 +150,9 @@ module _ {T A : Type 0} where
   carry_rounds a count n w c _ ps _ _ (one_sent m c1 qs r d rs walked brought) =
       rounds_follow {A = A} {B = A} w c c1 d ps qs rs (Ok a) (after_carry a r) (one n w c c1 Send (Ok (Sent m)) ps qs (Ok a) refl refl walked (λ t s h. tt)) (bring_rounds a count w c1 d m qs rs r brought)
 
+  pub carry_fails : (a : A) (count n w c d : ℕ) (ps qs : List (Option (Pass T Note Origin))) (e f : CarryError) → CarryTold count n w c ps (Err e) d qs → e ≡ f → Rounded w c ps (after_carry a (Err f)) d qs
+  carry_fails a count n w c d ps qs e f told is = subst (λ x. Rounded w c ps (after_carry a (Err x)) d qs) is (carry_rounds a count n w c d ps qs (Err e) told)
+
 -- ---- a reminder
 
 abbrev pub after_remind : {A : Type 0} → A → Result Reminding CarryError → Result A RoundError
@@ -169,6 +172,12 @@ module _ {T A : Type 0} where
   remind_rounds a n w c d ps qs x walked =
       one n w c d Remind x ps qs (after_remind a (reminded_by n x)) refl refl walked
       (λ t s h. remind_ended a n x t (fits_by fits_remind Remind remind_fits walked.turned.s walked.turned.t c w x walked.turned.told.made walked.turned.told.tells) s h)
+
+  pub remind_tells : (a : A) (n w c d : ℕ) (ps qs : List (Option (Pass T Note Origin))) (x : Result Outcome StepError) (r : Result Reminding CarryError) → r ≡ reminded_by n x → Walked (EventTold c w Remind x d) n w ps qs → Rounded w c ps (after_remind a r) d qs
+  remind_tells a n w c d ps qs x r is walked = subst (λ y. Rounded w c ps (after_remind a y) d qs) (sym is) (remind_rounds a n w c d ps qs x walked)
+
+  pub remind_fails : (a : A) (n w c d : ℕ) (ps qs : List (Option (Pass T Note Origin))) (x : Result Outcome StepError) (e f : CarryError) → Err e ≡ reminded_by n x → Walked (EventTold c w Remind x d) n w ps qs → e ≡ f → Rounded w c ps (after_remind a (Err f)) d qs
+  remind_fails a n w c d ps qs x e f told walked is = subst (λ y. Rounded w c ps (after_remind a (Err y)) d qs) is (remind_tells a n w c d ps qs x (Err e) told walked)
 
 -- ---- a part after others
 

@@ -1,11 +1,12 @@
 -- What a round, or a part of it, tells by its turns.
-use Rattle.std.specs.Prelude.{⊤, ℕ, List, Option, Result, Ok, Err}
+use Rattle.std.specs.Prelude.{◌≡◌, ◌⊎◌, ⊤, ℕ, List, Option, Some, None, Result, Ok, Err}
 use Rattle.turn_lock.specs.declared.pass.Pass.{Pass}
 use Rattle.machine_laws.specs.declared.notes.Note.{Note}
 use Rattle.machine_laws.specs.declared.notes.Origin.{Origin}
 use Rattle.cluster_turns.specs.CallTurns.{Turn, Took, AreOthers, FoundDown, FoundWorn}
 use Rattle.cluster_turns.specs.declared.carrying.CarryError.{CarryError}
 use Rattle.cluster_turns.specs.declared.carrying.CarryError.TheVariants.{Down as CarryDown, Worn as CarryWorn, Memory as NoMemory}
+use Rattle.session_ops.specs.declared.parts.Met.{Met}
 use Rattle.session_ops.specs.declared.parts.RoundError.{RoundError}
 use Rattle.session_ops.specs.declared.parts.RoundError.TheVariants.{Down, Worn, Memory}
 
@@ -22,6 +23,30 @@ pub record Rounded {T A : Type 0} (w clock : ℕ) (before : List (Option (Pass T
   pub took : Took w clock before turns clock' after
   pub others : AreOthers turns
   pub ended : EndedBy r turns
+
+-- the first shard that is passed over stays noted
+abbrev pub first_down : Option ℕ → ℕ → Option ℕ
+first_down None n = Some n
+first_down (Some m) n = Some m
+
+-- a shard that was found down is passed over, or ends the round
+abbrev pub PassedOver : {A : Type 0} → Met → ℕ → Result A RoundError → Met → Type 0
+PassedOver x n (Ok a) y = y ≡ record x { down = first_down x.down n }
+PassedOver x n (Err e) y = (e ≡ Down n) × (y ≡ x)
+
+-- a shard that is noted as passed over was so before, or a turn of these found it down
+abbrev pub Notes : Option ℕ → List Turn → Option ℕ → Type 0
+Notes before ts after = (n : ℕ) → after ≡ Some n → (before ≡ Some n) ⊎ FoundDown n ts
+
+-- a part of a round: what it has met before, and then
+pub record Passed {T A : Type 0} (w clock : ℕ) (before : List (Option (Pass T Note Origin))) (x : Met) (r : Result A RoundError) (clock' : ℕ) (after : List (Option (Pass T Note Origin))) (y : Met) : Type 0 where
+  pub round : Rounded w clock before r clock' after
+  pub noted : Notes x.down round.turns y.down
+
+-- a round that no turn ended ends well, or at the shard that it passed over
+abbrev pub EndsAt : {A : Type 0} → Option ℕ → Result A RoundError → Type 0
+EndsAt down (Ok a) = ⊤
+EndsAt down (Err e) = (n : ℕ) × (down ≡ Some n) × (e ≡ Down n)
 
 -- why no message came, as a round tells it
 abbrev pub refusal_of : CarryError → RoundError

@@ -34,7 +34,7 @@ pub enum CommitError {
     Aborted(AbortCause),
     /// The home was found down before the request was made. The transaction stays active.
     Down { shard: u32 },
-    /// A turn after the request found the shard down: the home, or after a wait any. The request stands.
+    /// A turn after the request found the shard down: the home or a touched one, or after a long wait any. The request stands.
     Unsettled { shard: u32 },
     Worn { at: u64 },
     Memory,

@@ -18,6 +18,7 @@ mod leaving;
 mod looking;
 mod operating;
 mod parts;
+mod patience;
 mod points;
 pub mod promises;
 mod requesting;

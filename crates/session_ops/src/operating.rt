@@ -10,6 +10,7 @@ ghost use Rattle.session_ops.specs.Standing.{IsActive};
 ghost use Rattle.session_ops.specs.Operated.{Operated, PlacedBy, StandsBy, answered_in, tried, refusal_of};
 
 use crate::asking::ask;
+use crate::patience::Patience;
 use crate::{RoundError, round};
 use cluster_turns::{Place, Shards, Walker};
 use clv_base::causes::AbortCause;
@@ -19,6 +20,7 @@ use crossbeam_utils::Backoff;
 use io_model::Pace;
 use machine_calls::{Flier, Machine, StepError};
 use std::alloc::Global;
+use std::array;
 use std::sync::Wait;
 
 /// Why an operation wasn't answered.
@@ -26,7 +28,7 @@ use std::sync::Wait;
 pub enum OpError {
     /// The transaction died of it.
     Aborted(AbortCause),
-    /// The shard was found down: the operation's own, or after a wait any. The transaction stays active.
+    /// The shard was found down: the operation's own or a touched one, or after a long wait any. The transaction stays active.
     Down { shard: u32 },
     Worn { at: u64 },
     Memory,
@@ -83,6 +85,11 @@ fn refused(error: RoundError) -> OpError
     }
 }
 
+// The shards that an operation needs: its own, and those that its transaction touched.
+fn needed_by(place: &Place, shard: u32) -> [bool; 16] {
+    array::from_fn(|n| n as u32 == shard || place.seen(n as u32).is_some())
+}
+
 // A round of a session whose transaction is active, once it is time for one.
 fn pass_round<M: Flier, P: Pace, R: Wait>(
     rt: &R,
@@ -90,6 +97,7 @@ fn pass_round<M: Flier, P: Pace, R: Wait>(
     shards: &Shards<M>,
     walker: &mut Walker<M>,
     place: &Place,
+    shard: u32,
     pace: &P,
     is_time: bool,
 ) -> Result<(), RoundError>
@@ -98,9 +106,9 @@ fn pass_round<M: Flier, P: Pace, R: Wait>(
     ensures round { Rounded walker.old.number walker.old.clock walker.old.passes.items result walker.new.clock walker.new.passes.items }
     ensures stands { IsActive shards.now walker.new place.now }
 {
-    let _place = place;
     if is_time {
-        return round(rt, alloc, shards, walker, pace);
+        let own = needed_by(place, shard);
+        return round(rt, alloc, shards, walker, &own, pace);
     }
     Ok(())
 }
@@ -128,7 +136,7 @@ fn try_and_pass<M: Flier, P: Pace, R: Wait>(
     ensures stands { StandsBy shard shards.now walker.new place.new result }
 {
     match try_once(rt, alloc, shards, walker, place, shard, nth, op) {
-        Ok(None) => match pass_round(rt, alloc, shards, walker, place, pace, is_time) {
+        Ok(None) => match pass_round(rt, alloc, shards, walker, place, shard, pace, is_time) {
             Ok(()) => Ok(None),
             Err(error) => Err(refused(error)),
         },
@@ -143,7 +151,9 @@ const WAITS_PER_ROUND: u64 = 64;
 /// One operation, or part scan, of the active transaction on one shard, until it is answered: while it has to wait it gives way, and makes a round after each
 /// 64th try. Of a session's turns it takes only those of this operation. `Aborted` comes only where one of them died of that cause, and the transaction is
 /// over then; `Down` only where a turn of the call found that shard down, which is the operation's own or comes after a wait; `Worn` only where a turn would
-/// have had a stamp past the last. After these and `Memory` the transaction is active, and its place is as before.
+/// have had a stamp past the last. After these and `Memory` the transaction is active, and its place is as before. A shard that is down and that the
+/// transaction hasn't touched ends the call only where it has waited some two seconds in rounds that moved nothing, or a tenth of a second once a session
+/// has left its request standing: what it waits for may need that shard.
 pub fn operate<M: Flier, P: Pace, R: Wait>(
     rt: &R,
     alloc: Global,
@@ -165,6 +175,7 @@ pub fn operate<M: Flier, P: Pace, R: Wait>(
     ensures stands { StandsBy shard shards.now walker.new place.new (answered_in result) }
 {
     let backoff = Backoff::new();
+    let mut patience = Patience::new();
     let mut waits: u64 = 0;
     for _ in rt.forever() {
         if shards.is_lacking() {
@@ -176,10 +187,14 @@ pub fn operate<M: Flier, P: Pace, R: Wait>(
             rt, alloc, shards, walker, place, shard, nth, op, pace, is_time,
         ) {
             Ok(Some(answer)) => return Ok(answer),
-            Ok(None) => {}
+            Ok(None) => backoff.snooze(),
+            Err(OpError::Down { shard: down }) => {
+                if !patience.bears(rt, shards, &needed_by(place, shard), down) {
+                    return Err(OpError::Down { shard: down });
+                }
+            }
             Err(error) => return Err(error),
         }
-        backoff.snooze();
     }
     unreachable!()
 }

@@ -1,7 +1,7 @@
 // The parts of a round on one shard.
-ghost use Rattle.std.specs.Prelude.{◌≡◌, ◌<◌, length};
+ghost use Rattle.std.specs.Prelude.{◌≡◌, ◌<◌, length, None};
 ghost use Rattle.cluster_turns.specs.Walkers.{IsWalker, IsSameWalker};
-ghost use Rattle.session_ops.specs.Rounds.{Rounded, refusal_of};
+ghost use Rattle.session_ops.specs.Rounds.{PassedOver, Passed, EndsAt};
 
 use cluster_turns::{
     Carry, CarryError, FlushError, Flushed, Shards, Walker, carry_once, flush_once, remind_once,
@@ -28,19 +28,67 @@ pub(crate) struct Met {
     pub(crate) moves: bool,
     // A shard of which another walker writes this batch.
     pub(crate) away: Option<(u32, Batch)>,
+    // The first shard that was found down and passed over.
+    pub(crate) down: Option<u32>,
+}
+
+// Whether the caller needs a shard.
+pub(crate) fn is_own(own: &[bool; 16], shard: u32) -> bool {
+    match own.get(shard as usize) {
+        Some(is) => *is,
+        None => false,
+    }
 }
 
 impl Met {
-    pub(crate) fn new() -> Self {
+    pub(crate) fn new() -> Self
+        ensures none { result.down ≡ None }
+    {
         Met {
             moves: false,
             away: None,
+            down: None,
         }
     }
 
-    fn note(&mut self, flushed: Flushed) {
+    // A shard was found down: that ends the round where the caller needs it, else it is passed over.
+    fn pass_over(&mut self, own: &[bool; 16], shard: u32) -> Result<(), RoundError>
+        ensures passed { PassedOver self.old shard result self.new }
+    {
+        if is_own(own, shard) {
+            return Err(RoundError::Down { shard });
+        }
+        if self.down.is_none() {
+            self.down = Some(shard);
+        }
+        Ok(())
+    }
+
+    fn note(&mut self, flushed: Flushed)
+        ensures down { self.new.down ≡ self.old.down }
+    {
         if let Flushed::Durable(_) = flushed {
             self.moves = true;
+        }
+    }
+
+    // Another walker writes this batch of a shard.
+    fn note_away(&mut self, shard: u32, batch: Batch)
+        ensures down { self.new.down ≡ self.old.down }
+    {
+        self.away = Some((shard, batch));
+    }
+
+    // How a round ends whose own shards are up: at one that was passed over, where it moved nothing and nobody else writes.
+    pub(crate) fn end(self) -> Result<(), RoundError>
+        ensures ended { EndsAt self.down result }
+    {
+        if self.moves || self.away.is_some() {
+            return Ok(());
+        }
+        match self.down {
+            Some(shard) => Err(RoundError::Down { shard }),
+            None => Ok(()),
         }
     }
 }
@@ -52,21 +100,22 @@ fn flush_now<M: Flier, P: Pace, R: Wait>(
     shards: &Shards<M>,
     walker: &mut Walker<M>,
     shard: u32,
+    own: &[bool; 16],
     pace: &P,
     met: &mut Met,
 ) -> Result<(), RoundError>
     requires walker { IsWalker shards.now walker.old }
     requires shard { shard < length shards.now.locks.items }
     ensures walker { IsWalker shards.now walker.new × IsSameWalker walker.old walker.new }
-    ensures flush { Rounded walker.old.number walker.old.clock walker.old.passes.items result walker.new.clock walker.new.passes.items }
+    ensures flush { Passed walker.old.number walker.old.clock walker.old.passes.items met.old result walker.new.clock walker.new.passes.items met.new }
 {
     match flush_once(rt, alloc, shards, walker, shard, pace) {
         Ok(flushed) => {
             met.note(flushed);
             Ok(())
         }
-        Err(FlushError::Failed) => Err(RoundError::Down { shard }),
-        Err(FlushError::Down) => Err(RoundError::Down { shard }),
+        Err(FlushError::Failed) => met.pass_over(own, shard),
+        Err(FlushError::Down) => met.pass_over(own, shard),
         Err(FlushError::Worn { at }) => Err(RoundError::Worn { at }),
         Err(FlushError::Memory) => Err(RoundError::Memory),
     }
@@ -80,26 +129,27 @@ pub(crate) fn flush<M: Flier, P: Pace, R: Wait>(
     walker: &mut Walker<M>,
     shard: u32,
     is_home: bool,
+    own: &[bool; 16],
     pace: &P,
     met: &mut Met,
 ) -> Result<(), RoundError>
     requires walker { IsWalker shards.now walker.old }
     requires shard { shard < length shards.now.locks.items }
     ensures walker { IsWalker shards.now walker.new × IsSameWalker walker.old walker.new }
-    ensures flush { Rounded walker.old.number walker.old.clock walker.old.passes.items result walker.new.clock walker.new.passes.items }
+    ensures flush { Passed walker.old.number walker.old.clock walker.old.passes.items met.old result walker.new.clock walker.new.passes.items met.new }
 {
     let Some(gate) = shards.batches.get(shard as usize) else {
-        return flush_now(rt, alloc, shards, walker, shard, pace, met);
+        return flush_now(rt, alloc, shards, walker, shard, own, pace, met);
     };
     match gate.try_write() {
         Ok(writer) => {
             if is_home {
                 writer.let_others_in(rt);
             }
-            flush_now(rt, alloc, shards, walker, shard, pace, met)
+            flush_now(rt, alloc, shards, walker, shard, own, pace, met)
         }
         Err(batch) => {
-            met.away = Some((shard, batch));
+            met.note_away(shard, batch);
             Ok(())
         }
     }
@@ -117,32 +167,33 @@ pub(crate) fn await_writer<M: Machine, R: Wait>(
     }
 }
 
-fn refused(error: CarryError) -> RoundError
-    ensures { result ≡ refusal_of error }
-{
-    match error {
-        CarryError::Down { shard } => RoundError::Down { shard },
-        CarryError::Worn { at } => RoundError::Worn { at },
-        CarryError::Memory => RoundError::Memory,
-    }
-}
-
-// Carries one message; tells whether there was none.
+// Carries one message; tells whether that is all: there was none, or the sender is down. One whose receiver is down is lost, and others may follow it.
 fn carry<M: Machine, R: Wait>(
     rt: &R,
     alloc: Global,
     shards: &Shards<M>,
     walker: &mut Walker<M>,
     shard: u32,
+    own: &[bool; 16],
+    met: &mut Met,
 ) -> Result<bool, RoundError>
     requires walker { IsWalker shards.now walker.old }
     requires shard { shard < length shards.now.locks.items }
     ensures walker { IsWalker shards.now walker.new × IsSameWalker walker.old walker.new }
-    ensures carried { Rounded walker.old.number walker.old.clock walker.old.passes.items result walker.new.clock walker.new.passes.items }
+    ensures carried { Passed walker.old.number walker.old.clock walker.old.passes.items met.old result walker.new.clock walker.new.passes.items met.new }
 {
     match carry_once(rt, alloc, shards, walker, shard) {
-        Ok(carry) => Ok(carry == Carry::Nothing),
-        Err(error) => Err(refused(error)),
+        Ok(Carry::Carried) => {
+            met.moves = true;
+            Ok(false)
+        }
+        Ok(Carry::Nothing) => Ok(true),
+        Err(CarryError::Down { shard: down }) => match met.pass_over(own, down) {
+            Ok(()) => Ok(down == shard),
+            Err(error) => Err(error),
+        },
+        Err(CarryError::Worn { at }) => Err(RoundError::Worn { at }),
+        Err(CarryError::Memory) => Err(RoundError::Memory),
     }
 }
 
@@ -153,17 +204,18 @@ pub(crate) fn carry_all<M: Machine, R: Wait>(
     shards: &Shards<M>,
     walker: &mut Walker<M>,
     shard: u32,
+    own: &[bool; 16],
     met: &mut Met,
 ) -> Result<(), RoundError>
     requires walker { IsWalker shards.now walker.old }
     requires shard { shard < length shards.now.locks.items }
     ensures walker { IsWalker shards.now walker.new × IsSameWalker walker.old walker.new }
-    ensures carried { Rounded walker.old.number walker.old.clock walker.old.passes.items result walker.new.clock walker.new.passes.items }
+    ensures carried { Passed walker.old.number walker.old.clock walker.old.passes.items met.old result walker.new.clock walker.new.passes.items met.new }
 {
     for _ in rt.forever() {
-        match carry(rt, alloc, shards, walker, shard) {
+        match carry(rt, alloc, shards, walker, shard, own, met) {
             Ok(true) => return Ok(()),
-            Ok(false) => met.moves = true,
+            Ok(false) => {}
             Err(error) => return Err(error),
         }
     }
@@ -177,14 +229,18 @@ pub(crate) fn remind<M: Machine, R: Wait>(
     shards: &Shards<M>,
     walker: &mut Walker<M>,
     shard: u32,
+    own: &[bool; 16],
+    met: &mut Met,
 ) -> Result<(), RoundError>
     requires walker { IsWalker shards.now walker.old }
     requires shard { shard < length shards.now.locks.items }
     ensures walker { IsWalker shards.now walker.new × IsSameWalker walker.old walker.new }
-    ensures reminded { Rounded walker.old.number walker.old.clock walker.old.passes.items result walker.new.clock walker.new.passes.items }
+    ensures reminded { Passed walker.old.number walker.old.clock walker.old.passes.items met.old result walker.new.clock walker.new.passes.items met.new }
 {
     match remind_once(rt, alloc, shards, walker, shard) {
         Ok(_) => Ok(()),
-        Err(error) => Err(refused(error)),
+        Err(CarryError::Down { shard: down }) => met.pass_over(own, down),
+        Err(CarryError::Worn { at }) => Err(RoundError::Worn { at }),
+        Err(CarryError::Memory) => Err(RoundError::Memory),
     }
 }

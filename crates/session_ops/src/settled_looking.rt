@@ -18,7 +18,7 @@ use std::sync::Wait;
 pub enum SettleError {
     /// It was told that it is aborted.
     Aborted(AbortCause),
-    /// A turn found the shard down: the home, or after a wait any. The request stands.
+    /// A turn found the shard down: the home or a touched one, or after a long wait any. The request stands.
     Unsettled { shard: u32 },
     Worn { at: u64 },
     Memory,

@@ -6,8 +6,9 @@ ghost use Rattle.session_ops.specs.Requested.{IsStanding};
 ghost use Rattle.session_ops.specs.Settled.{Settling, PlacedBy, StandsBy, settled_in, refusal_of};
 
 use crate::RoundError;
+use crate::patience::Patience;
 use crate::settled_looking::{SettleError, look_once};
-use crate::waiting::{give_way, horizon_at, pass_round};
+use crate::waiting::{give_way, horizon_at, needed_by, pass_round};
 use cluster_turns::{Place, Shards, Walker};
 use clv_base::names::Point;
 use io_model::Pace;
@@ -98,7 +99,9 @@ fn try_once<M: Flier, P: Pace, R: Wait>(
 /// Looks at the home, with a wait and a round after each look that finds nothing decided, until the request is. Of a session's turns it takes only looks.
 /// The point is that of the entry that acknowledges it. `Aborted` comes only where a look was told that cause, and the transaction is over then;
 /// `Unsettled` only where a turn of the call found that shard down, which is the home or comes after a wait; `Worn` only where a turn would have had a
-/// stamp past the last. After these two and `Memory` the request stands as before.
+/// stamp past the last. After these two and `Memory` the request stands as before. A shard that is down and that the transaction hasn't touched ends the call
+/// only where it has waited some two seconds in rounds that moved nothing, or a tenth of a second once a session has left its request standing: the
+/// decision may need that shard.
 pub fn settle<M: Flier, P: Pace, R: Wait>(
     rt: &R,
     alloc: Global,
@@ -115,10 +118,16 @@ pub fn settle<M: Flier, P: Pace, R: Wait>(
     ensures place { PlacedBy place.old (settled_in result) place.new }
     ensures stands { StandsBy shards.now walker.new place.new home (settled_in result) }
 {
+    let mut patience = Patience::new();
     for _ in rt.forever() {
         match try_once(rt, alloc, shards, walker, place, home, pace) {
             Ok(Some(point)) => return Ok(point),
             Ok(None) => {}
+            Err(SettleError::Unsettled { shard }) => {
+                if !patience.bears(rt, shards, &needed_by(place), shard) {
+                    return Err(SettleError::Unsettled { shard });
+                }
+            }
             Err(error) => return Err(error),
         }
     }

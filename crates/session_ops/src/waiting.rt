@@ -56,6 +56,11 @@ pub(crate) fn give_way<M: Machine>(
     }
 }
 
+// The shards that a request needs: those that its transaction touched.
+pub(crate) fn needed_by(place: &Place) -> [bool; 16] {
+    array::from_fn(|shard| place.seen(shard as u32).is_some())
+}
+
 // A round of a session whose request stands.
 pub(crate) fn pass_round<M: Flier, P: Pace, R: Wait>(
     rt: &R,
@@ -71,6 +76,6 @@ pub(crate) fn pass_round<M: Flier, P: Pace, R: Wait>(
     ensures round { Rounded walker.old.number walker.old.clock walker.old.passes.items result walker.new.clock walker.new.passes.items }
     ensures stands { IsStanding shards.now walker.new place.now home }
 {
-    let own = array::from_fn(|shard| place.seen(shard as u32).is_some());
+    let own = needed_by(place);
     round_for(rt, alloc, shards, walker, home, &own, pace)
 }

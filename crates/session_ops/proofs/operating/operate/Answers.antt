@@ -4,7 +4,7 @@ use Rattle.std.specs.Map.{lookup}
 use Rattle.clv_base.specs.declared.events.Event.TheVariants.{Op}
 use Rattle.clv_base.specs.Sessions.{SessionState}
 use Rattle.session_ops.specs.declared.operating.OpError.TheVariants.{Memory}
-use Rattle.session_ops.specs.Operated.{Operated, PlacedBy}
+use Rattle.session_ops.specs.Operated.{Operated, PlacedBy, StandsBy}
 use Rattle.session_ops.proofs.Trying.{none_tried, some_tried, more_tried}
 use Rattle.session_ops.proofs.operating.operate.Goals as goal
 
@@ -22,11 +22,25 @@ pub returns-in-Err-clause-turns : goal.returns-in-Err-clause-turns
 returns-in-Err-clause-turns g c birth is = let w = c.args.walker.now in let u = c.loop.walker in let v = c.try_and_pass.new.walker in let n = c.args.shard in let p = c.args.place.now in let i = c.loop.invariant in
     more_tried w u v n c.args.nth c.args.op birth p c.loop.place (Err Memory) (Err c.in-Err.error) i.1.0 i.2 (i.3 birth is) (c.in-Err.ensures.turns birth (ap (λ (q : SessionState). q.birth) i.2 ∙ is))
 
-pub loop-preserved : goal.loop-preserved
-loop-preserved g c = let w = c.args.walker.now in let u = c.loop.walker in let v = c.try_and_pass.new.walker in let n = c.args.shard in let p = c.args.place.now in let i = c.loop.invariant in let e = c.in-Ok-None.ensures in (
+pub loop-preserved-in-Ok-None : goal.loop-preserved-in-Ok-None
+loop-preserved-in-Ok-None g c = let w = c.args.walker.now in let u = c.loop.walker in let v = c.try_and_pass.new.walker in let n = c.args.shard in let p = c.args.place.now in let i = c.loop.invariant in let e = c.in-Ok-None.ensures in (
   e.stands,
   (e.walker.0 ∙ i.1.0, e.walker.1 ∙ i.1.1),
   subst (λ o. PlacedBy n c.args.nth c.args.op c.loop.place (Ok o) c.try_and_pass.new.place) c.in-Ok-None.field-0-is e.place ∙ i.2,
   λ birth is. some_tried w.number w.clock v.clock w.passes.items v.passes.items n (Op p.tx birth c.args.nth (lookup (◌==◌ n) p.touched) c.args.op) (Ok c.in-Ok-None.field-0)
       (more_tried w u v n c.args.nth c.args.op birth p c.loop.place (Err Memory) (Ok c.in-Ok-None.field-0) i.1.0 i.2 (i.3 birth is) (e.turns birth (ap (λ (q : SessionState). q.birth) i.2 ∙ is))),
+)
+
+pub returns-then-not-bears-clause-turns : goal.returns-then-not-bears-clause-turns
+returns-then-not-bears-clause-turns g c birth is = let w = c.args.walker.now in let u = c.loop.walker in let v = c.try_and_pass.new.walker in let n = c.args.shard in let p = c.args.place.now in let i = c.loop.invariant in let t = c.in-Err-Down in
+    subst (λ x. Operated w.number w.clock w.passes.items n (Op p.tx birth c.args.nth (lookup (◌==◌ n) p.touched) c.args.op) (Err x) v.clock v.passes.items) t.field-0-is
+    (more_tried w u v n c.args.nth c.args.op birth p c.loop.place (Err Memory) (Err t.field-0) i.1.0 i.2 (i.3 birth is) (t.ensures.turns birth (ap (λ (q : SessionState). q.birth) i.2 ∙ is)))
+
+pub loop-preserved : goal.loop-preserved
+loop-preserved g c = let w = c.args.walker.now in let u = c.loop.walker in let v = c.try_and_pass.new.walker in let n = c.args.shard in let p = c.args.place.now in let i = c.loop.invariant in let t = c.in-Err-Down in let e = t.ensures in (
+  subst (λ x. StandsBy n c.args.shards.now v c.try_and_pass.new.place (Err x)) t.field-0-is e.stands,
+  (e.walker.0 ∙ i.1.0, e.walker.1 ∙ i.1.1),
+  subst (λ x. PlacedBy n c.args.nth c.args.op c.loop.place (Err x) c.try_and_pass.new.place) t.field-0-is e.place ∙ i.2,
+  λ birth is. some_tried w.number w.clock v.clock w.passes.items v.passes.items n (Op p.tx birth c.args.nth (lookup (◌==◌ n) p.touched) c.args.op) (Err t.field-0)
+      (more_tried w u v n c.args.nth c.args.op birth p c.loop.place (Err Memory) (Err t.field-0) i.1.0 i.2 (i.3 birth is) (e.turns birth (ap (λ (q : SessionState). q.birth) i.2 ∙ is))),
 )
