@@ -13,6 +13,7 @@
                        that log alone. MORE is `on`: all later ones fail too; `short`: the call moves one byte and doesn't fail; `half`:
                        a write moves half of its bytes, and the next one fails.
    FAULTS_ALLOC=N      the Nth allocation (malloc or realloc) finds no memory; N.. is that and all later ones, N-M those from N to M.
+   FAULTS_MARKS=1      no allocation finds memory from a write of the word "refuse" to standard output on, up to one of the word "give".
    FAULTS_STOP=N       the process ends in place of the Nth call on a log, with status 137.
 
    A call on a log, its count and its line are one step, whatever other threads do. */
@@ -41,11 +42,13 @@ static long call_number;
 static int call_error;
 static enum more call_more;
 static long first_alloc, last_alloc, stop_number;
+static int has_marks;
 
 /* What has been so far. */
 static char names[FILES][NAME];
 static long calls, disk_calls;
 static atomic_long allocs;
+static atomic_int is_refusing;
 static int has_begun;
 static pthread_mutex_t lock = PTHREAD_MUTEX_INITIALIZER;
 
@@ -93,6 +96,7 @@ __attribute__((constructor)) static void begin(void) {
     real_create = dlsym(RTLD_NEXT, "pthread_create");
     if ((said = getenv("FAULTS_TRACE"))) open_trace(said);
     if ((said = getenv("FAULTS_ALLOC"))) read_allocs(said);
+    has_marks = getenv("FAULTS_MARKS") != 0;
     if ((said = getenv("FAULTS_STOP"))) stop_number = strtol(said, 0, 10);
     if ((said = getenv("FAULTS_CALL"))) {
         snprintf(text, sizeof text, "%s", said);
@@ -160,7 +164,8 @@ static const char *name_of(int file) { return file >= 0 && file < FILES && names
 static int is_refused(void) {
     if (!has_begun) return 0;
     long number = atomic_fetch_add(&allocs, 1) + 1;
-    if (!first_alloc || number < first_alloc || number > last_alloc) return 0;
+    int is_numbered = first_alloc && number >= first_alloc && number <= last_alloc;
+    if (!is_numbered && !is_refusing) return 0;
     tell("fault alloc\n");
     errno = ENOMEM;
     return 1;
@@ -271,8 +276,14 @@ ssize_t read(int file, void *into, size_t size) {
     return fate == FAILS ? failed(call_error) : syscall(SYS_read, file, into, moved(fate, size));
 }
 
+static void mark(const void *from, size_t size) {
+    if (memmem(from, size, "refuse", 6)) is_refusing = 1;
+    if (memmem(from, size, "give", 4)) is_refusing = 0;
+}
+
 ssize_t write(int file, const void *from, size_t size) {
     enum fate fate = file == 1 ? fate_beside("out") : AS_EVER;
+    if (has_marks && file == 1) mark(from, size);
     return fate == FAILS ? failed(call_error) : syscall(SYS_write, file, from, moved(fate, size));
 }
 

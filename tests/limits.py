@@ -215,13 +215,19 @@ def started(folder, script, **streams):
 
 
 def ended(run):
-    """What a run answered that went on; where it doesn't end by itself, that it was killed."""
-    killer = threading.Timer(SECONDS, run.kill)
+    """What a run answered that went on. One that doesn't end in time is killed."""
+    was_killed = threading.Event()
+
+    def kill():
+        was_killed.set()
+        run.kill()
+
+    killer = threading.Timer(SECONDS, kill)
     killer.start()
     out = run.stdout.read() if run.stdout and not run.stdout.closed else b""
     err, status = run.stderr.read(), run.wait()
     killer.cancel()
-    return Ran(status, out.decode("latin-1"), err.decode("latin-1"))
+    return Ran(None if was_killed.is_set() else status, out.decode("latin-1"), err.decode("latin-1"))
 
 
 def is_long(folder):

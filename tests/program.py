@@ -1,12 +1,14 @@
 """Runs the built program in folders of its own, and counts what was checked."""
 
 import argparse
+import contextlib
 import hashlib
 import os
 import random
 import resource
 import shlex
 import shutil
+import signal
 import subprocess
 import sys
 import tempfile
@@ -30,7 +32,14 @@ class Ran:
         return (self.status, self.out, self.err) == (status, "", f"{text}\n")
 
     def __repr__(self):
-        return f"status {self.status}, output {self.out[:400]!r}, error {self.err[:200]!r}"
+        ended = "no end in time" if self.status is None else f"status {self.status}"
+        return f"{ended}, output {self.out[:400]!r}, error {self.err[:200]!r}"
+
+
+def end_all(started):
+    """Ends a run that has a session of its own, with whatever it started."""
+    with contextlib.suppress(ProcessLookupError):
+        os.killpg(started.pid, signal.SIGKILL)
 
 
 class Folder:
@@ -61,11 +70,12 @@ class Folder:
         """Runs the program to its end, with the script, or the open file of this number, as standard input."""
         is_file = isinstance(script, int)
         streams = {"stdin": script if is_file else subprocess.PIPE, "stdout": subprocess.PIPE, "stderr": subprocess.PIPE, **how}
+        streams["start_new_session"] = True
         started = self.start(*words, **streams)
         try:
             out, err = started.communicate(None if is_file else script, timeout=seconds)
         except subprocess.TimeoutExpired:
-            started.kill()
+            end_all(started)
             out, err = started.communicate()
             return Ran(None, (out or b"").decode("latin-1"), (err or b"").decode("latin-1"))
         return Ran(started.returncode, (out or b"").decode("latin-1"), (err or b"").decode("latin-1"))

@@ -6,6 +6,7 @@ import os
 import re
 import struct
 import subprocess
+import threading
 
 import logs
 import reports
@@ -14,6 +15,7 @@ from program import Checks, Folder, Ran, arguments
 TOP = os.path.dirname(os.path.dirname(os.path.abspath(__file__)))
 LAST = (1 << 64) - 1
 LONGEST_SCRIPT = 16777216
+SECONDS = 120
 USAGE = "usage: clv_shell make [SPLIT].. | run [--tries N] | show | load --seed S --sessions N --accounts A --transfers T"
 ONE_PUT = b"session\nbegin\nput 5 10\ncommit\n"
 NOTHING_DONE = '{"aborted":0,"acknowledged":0,"unsettled":0}\n'
@@ -264,13 +266,17 @@ def fed(folder, script, size):
     """A run that is given its script by a pipe, in pieces of this size. It may leave off reading where the script is too long."""
     pipe = subprocess.PIPE
     run = folder.start("run", stdin=pipe, stdout=pipe, stderr=pipe, bufsize=0)
+    killer = threading.Timer(SECONDS, run.kill)
+    killer.start()
     try:
         for place in range(0, len(script), size):
             run.stdin.write(script[place : place + size])
     except BrokenPipeError:
         pass
     out, err = run.communicate()
-    return Ran(run.returncode, out.decode(), err.decode())
+    status = run.returncode if killer.is_alive() else None
+    killer.cancel()
+    return Ran(status, out.decode(), err.decode())
 
 
 def reads_pieces(checks, program):
