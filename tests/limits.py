@@ -145,6 +145,13 @@ def stands_in(checks, folder, title, make, shard, statuses):
             os.rmdir(path)
 
 
+def has_a_hole(checks, folder, size):
+    """A log with a hole up to this size behind its closed gate: what means nothing takes no memory and no time."""
+    os.truncate(folder.log(1), size)
+    got = folder.run("show", limits=[(resource.RLIMIT_AS, 256 * MIB)], seconds=10)
+    checks.check(f"a hole up to {size} bytes behind a log", got.is_fine() and got.out == "[1,1]\n[11,1]\n", got)
+
+
 def files(checks, program):
     with Folder(program) as folder:
         folder.run("make", "10")
@@ -154,10 +161,9 @@ def files(checks, program):
             for shard in (0, 1):
                 folder.put(start)
                 stands_in(checks, folder, title, make, shard, statuses)
-        folder.put(start)
-        os.truncate(folder.log(1), 1 << 40)
-        got = folder.run("show", limits=[(resource.RLIMIT_AS, 256 * MIB)], seconds=SECONDS)
-        checks.check("a log with a hole of a TiB behind it", got.is_fine() or got.is_refused(8, "want of memory"), got)
+        for size in (1 << 31, 1 << 40):
+            folder.put(start)
+            has_a_hole(checks, folder, size)
 
 
 # Standard streams.

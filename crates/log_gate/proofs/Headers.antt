@@ -6,7 +6,7 @@ use Rattle.std.proofs.lemmas.List.{drop_at, drop-drop}
 use Rattle.std.proofs.lemmas.Bool.Decides.{nat_tests}
 use Rattle.byteorder.specs.Endian.{little_bytes, little_number}
 use Rattle.byteorder.specs.Numbers.{little_number-reads_back, little_from-lt, length-bytes_low_first}
-use Rattle.log_gate.specs.Header.{magic, header_bytes, header_size, same_bytes, with_split, has_split, splits_from, has_number, has_count, behind_field, header_of, Rise}
+use Rattle.log_gate.specs.Header.{magic, header_bytes, header_size, same_bytes, with_split, has_split, splits_from, has_number, has_count, behind_field, header_of, Rise, IsHeader}
 use Rattle.log_gate.proofs.Numbers.{written_again}
 use Rattle.law_base.proofs.Lists.{IsBytes, bytes_drop}
 
@@ -78,13 +78,6 @@ splits_read i least (s ∷ splits) rest rise =
     ∙ ap (λ (n : ℕ). with_split n (splits_from None (length splits) (i + 1) (n + 1) (drop 8 bytes))) num
     ∙ ap (λ (l : List ℕ). with_split s (splits_from None (length splits) (i + 1) (s + 1) l)) later
     ∙ ap (with_split s) (splits_read (i + 1) (s + 1) splits rest rise.2)
-
--- what a header that was read says of the bytes
-pub record IsHeader (shard : ℕ) (bytes splits : List ℕ) : Type 0 where
-  pub few : length splits ≤ 15
-  pub rise : Rise 0 splits
-  pub long : header_size splits ≤ length bytes
-  pub front : take (header_size splits) bytes ≡ header_bytes shard splits
 
 number_found : (place n : ℕ) (bytes : List ℕ) → IsBytes bytes → has_number place n bytes ≡ true → (take 4 (drop place bytes) ≡ little_bytes 4 n) × (place + 4 ≤ length bytes)
 number_found place n bytes are holds =

@@ -12,7 +12,12 @@ pub mod Ends
 pub mod RecordLoop
 pub mod SplitLoop
 pub mod Batches
+pub mod Looking
+pub mod Pieces
+pub mod Steps
+pub mod Fronts
 pub mod Unchanged
+pub mod Finding
 pub mod ManyLogs
 pub mod ReopenedUnchanged
 pub mod Laws

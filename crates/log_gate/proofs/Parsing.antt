@@ -1,13 +1,12 @@
 -- Reading a log gate by gate.
-use Rattle.std.proofs.Common.{◌≡◌, ◌≢◌, ℕ, zero, suc, ◌+◌, ◌*◌, ◌/◌, ◌%◌, ◌≤◌, ◌<◌, List, [], ◌∷◌, ◌++◌, length, get_or, take, drop, Result, Ok, Err, Bool, true, false, cond, refl, sym, ◌∙◌, ap, subst, arith, append_assoc, length-append, length-drop, take-append-drop}
+use Rattle.std.proofs.Common.{◌≡◌, ◌≢◌, ℕ, zero, suc, ◌+◌, ◌≤◌, ◌<◌, List, [], ◌∷◌, ◌++◌, length, get_or, take, drop, Result, Ok, Err, Bool, true, false, cond, refl, sym, ◌∙◌, ap, arith, append_assoc, length-append, length-drop, take-append-drop}
 use Rattle.std.specs.List.{AllByRecursion}
-use Rattle.std.proofs.lemmas.List.{append-nil, drop_more, drop_all, drop-drop, length-take, get_or-drop}
+use Rattle.std.proofs.lemmas.List.{append-nil, drop_more, drop_all, drop-drop, length-take}
 use Rattle.std.proofs.lemmas.Bool.Decides.{nat_tests}
 use Rattle.byteorder.specs.Endian.{little_bytes, little_number}
 use Rattle.log_gate.specs.Payloads.{IsPayload, batch, opened, with_first, holds_batch, payloads_from, payload_log}
 use Rattle.log_gate.specs.Gate.{StandsAt}
 use Rattle.log_gate.proofs.Opened.{opened-append}
-use Rattle.law_base.proofs.Lists.{IsBytes}
 
 -- more payloads before those that reading gives
 abbrev pub with_all : List (List ℕ) → Result (List (List ℕ)) ℕ → Result (List (List ℕ)) ℕ
@@ -39,25 +38,6 @@ unfolding payloads_from
 missing zero place = refl
 missing (suc k) place = refl
 
--- four bytes are those of their number
-four_bytes : (rest : List ℕ) → IsBytes rest → 4 ≤ length rest → little_bytes 4 (little_number 4 rest) ≡ take 4 rest
-four_bytes [] bytes long = absurd (omega arith)
-four_bytes (a ∷ []) bytes long = absurd (omega arith)
-four_bytes (a ∷ b ∷ []) bytes long = absurd (omega arith)
-four_bytes (a ∷ b ∷ c ∷ []) bytes long = absurd (omega arith)
-four_bytes (a ∷ b ∷ c ∷ d ∷ rest) bytes long =
-    let n : ℕ = little_number 4 (a ∷ b ∷ c ∷ d ∷ rest) in
-    let ha : a < 256 = bytes 0 in
-    let hb : b < 256 = bytes 1 in
-    let hc : c < 256 = bytes 2 in
-    let hd : d < 256 = bytes 3 in
-    let is : little_number 4 (a ∷ b ∷ c ∷ d ∷ rest) ≡ a + 256 * (b + 256 * (c + 256 * d)) = omega arith in
-    let e0 : (a + 256 * (b + 256 * (c + 256 * d))) % 256 ≡ a = omega arith in
-    let e1 : (a + 256 * (b + 256 * (c + 256 * d))) / 256 % 256 ≡ b = omega arith in
-    let e2 : (a + 256 * (b + 256 * (c + 256 * d))) / 65536 % 256 ≡ c = omega arith in
-    let e3 : (a + 256 * (b + 256 * (c + 256 * d))) / 16777216 % 256 ≡ d = omega arith in
-    ap (little_bytes 4) is ∙ (λ i. e0 i ∷ e1 i ∷ e2 i ∷ e3 i ∷ [])
-
 holds_parts : (n : ℕ) (rest : List ℕ) → holds_batch n rest ≡ true → (4 ≤ length rest) × (1 ≤ n) × (n ≤ 1048576) × (4 + n ≤ length rest)
 holds_parts n rest holds = (grind (arith, nat_tests), grind (arith, nat_tests), grind (arith, nat_tests), grind (arith, nat_tests))
 
@@ -70,7 +50,7 @@ pub record SoFar (bytes : List ℕ) (head : ℕ) (payloads : List (List ℕ)) (a
   pub enough : length (drop at bytes) < fuel
   pub same : with_all payloads (payloads_from fuel at (drop at bytes)) ≡ payload_log head bytes
 
-module _ (bytes : List ℕ) (are : IsBytes bytes) (head : ℕ) where
+module _ (bytes : List ℕ) (head : ℕ) where
   pub start : SoFar bytes head [] head
   unfolding payload_log
   start = record {
@@ -114,19 +94,18 @@ module _ (bytes : List ℕ) (are : IsBytes bytes) (head : ℕ) where
       let f = pred_of far.fuel (omega (arith, far.enough)) in
       sym (here payloads at far f.0 1 f.1 inside gives) ∙ ap (with_all payloads) (none f.0 at (drop (at + 1) bytes) fails)
 
-  pub goes_on : (payloads : List (List ℕ)) (at n : ℕ) → SoFar bytes head payloads at → at < length bytes → get_or bytes at 0 ≡ 1 → n ≡ little_number 4 (drop (at + 1) bytes) → holds_batch n (drop (at + 1) bytes) ≡ true
+  pub goes_on : (payloads : List (List ℕ)) (at n : ℕ) → SoFar bytes head payloads at → at < length bytes → get_or bytes at 0 ≡ 1 → n ≡ little_number 4 (drop (at + 1) bytes) → little_bytes 4 n ≡ take 4 (drop (at + 1) bytes) → holds_batch n (drop (at + 1) bytes) ≡ true
       → SoFar bytes head (payloads ++ take n (drop 4 (drop (at + 1) bytes)) ∷ []) (at + (5 + n))
-  goes_on payloads at n far inside gives is holds =
+  goes_on payloads at n far inside gives is word holds =
       let rest : List ℕ = drop (at + 1) bytes in
       let p : List ℕ = take n (drop 4 (drop (at + 1) bytes)) in
       let f = pred_of far.fuel (omega (arith, far.enough)) in
       let parts = holds_parts n (drop (at + 1) bytes) holds in
       let size : length (take n (drop 4 (drop (at + 1) bytes))) ≡ n = omega (arith, length-take n (drop 4 (drop (at + 1) bytes)), length-drop 4 (drop (at + 1) bytes), parts.3) in
       let behind : drop (at + (5 + n)) bytes ≡ drop (4 + n) (drop (at + 1) bytes) = ap (λ (m : ℕ). drop m bytes) (let e : at + (5 + n) ≡ at + 1 + (4 + n) = omega arith in e) ∙ sym (drop-drop (4 + n) (at + 1) bytes) in
-      let four : little_bytes 4 n ≡ take 4 (drop (at + 1) bytes) = ap (little_bytes 4) is ∙ four_bytes (drop (at + 1) bytes) (λ i. bytes_drop i) parts.0 in
       let body : drop 4 (drop (at + 1) bytes) ≡ p ++ drop (4 + n) (drop (at + 1) bytes) = sym (take-append-drop n (drop 4 (drop (at + 1) bytes))) ∙ ap (λ (l : List ℕ). p ++ l) (drop-drop n 4 (drop (at + 1) bytes)) in
       let whole : drop (at + 1) bytes ≡ batch p ++ drop (at + (5 + n)) bytes =
-      sym (take-append-drop 4 (drop (at + 1) bytes)) ∙ ap (λ (l : List ℕ). l ++ drop 4 (drop (at + 1) bytes)) (sym four ∙ ap (little_bytes 4) (sym size))
+      sym (take-append-drop 4 (drop (at + 1) bytes)) ∙ ap (λ (l : List ℕ). l ++ drop 4 (drop (at + 1) bytes)) (sym word ∙ ap (little_bytes 4) (sym size))
       ∙ ap (λ (l : List ℕ). little_bytes 4 (length p) ++ l) (body ∙ ap (λ (l : List ℕ). p ++ l) (sym behind))
       ∙ sym (append_assoc (little_bytes 4 (length p)) p (drop (at + (5 + n)) bytes)) in
       let one : opened (p ∷ []) ≡ 1 ∷ batch p = ap (λ (l : List ℕ). 1 ∷ l) (append-nil (batch p)) in
@@ -145,9 +124,6 @@ module _ (bytes : List ℕ) (are : IsBytes bytes) (head : ℕ) where
             ∙ here payloads at far f.0 1 f.1 inside gives;
       }
     where
-      bytes_drop : (i : ℕ) → get_or (drop (at + 1) bytes) i 0 < 256
-      bytes_drop i = subst (λ (b : ℕ). b < 256) (sym (get_or-drop (at + 1) bytes i 0)) (are (at + 1 + i))
-
       all_push : (ps : List (List ℕ)) (p : List ℕ) → AllByRecursion IsPayload ps → IsPayload p → AllByRecursion IsPayload (ps ++ p ∷ [])
       all_push [] p all fits = (fits, tt)
       all_push (q ∷ ps) p all fits = (all.0, all_push ps p all.1 fits)

@@ -3,7 +3,7 @@ use Rattle.std.proofs.Common.{◌≡◌, ◌≢◌, ℕ, zero, suc, ◌+◌, ◌
 use Rattle.std.specs.List.{list_all}
 use Rattle.std.proofs.lemmas.List.{append-nil, drop_more, drop_all, drop-drop}
 use Rattle.std.proofs.lemmas.Bool.Decides.{nat_tests}
-use Rattle.byteorder.specs.Endian.{little_number}
+use Rattle.byteorder.specs.Endian.{little_bytes, little_number}
 use Rattle.log_gate.specs.Payloads.{holds_batch}
 use Rattle.clv_base.specs.declared.logs.LogRecord.{LogRecord}
 use Rattle.log_gate.specs.Records.{both, records_from, record_log}
@@ -12,7 +12,6 @@ use Rattle.log_gate.proofs.Parsing.{SoFar, start, stops, goes_on}
 use Rattle.log_gate.specs.Opening.{ParsesAs}
 use Rattle.log_gate.proofs.Views.{spelled_push}
 use Rattle.log_gate.proofs.Records.{all_append}
-use Rattle.law_base.proofs.Lists.{IsBytes}
 
 module _ (read : ℕ → List ℕ → Result (List LogRecord) ℕ) where
   both_none : (r : Result (List LogRecord) ℕ) → both (Ok []) r ≡ r
@@ -56,12 +55,12 @@ pub record Far (passes : LogRecord → Bool) (read : ℕ → List ℕ → Result
   pub enough : length (drop at bytes) < fuel
   pub same : both (Ok records) (records_from read fuel at (drop at bytes)) ≡ record_log read head bytes
 
-module _ (passes : LogRecord → Bool) (read : ℕ → List ℕ → Result (List LogRecord) ℕ) (bytes : List ℕ) (are : IsBytes bytes) (head : ℕ) where
+module _ (passes : LogRecord → Bool) (read : ℕ → List ℕ → Result (List LogRecord) ℕ) (bytes : List ℕ) (head : ℕ) where
   pub start_far : Far passes read bytes head [] head
   unfolding record_log
   start_far = record {
     payloads = [];
-    shape = start bytes are head;
+    shape = start bytes head;
     spelled = refl;
     pass = refl;
     fuel = suc (length bytes);
@@ -88,7 +87,7 @@ module _ (passes : LogRecord → Bool) (read : ℕ → List ℕ → Result (List
       let f = pred_of far.fuel (omega (arith, far.enough)) in record {
         is = sym (here records at far f.0 gate f.1 inside gives) ∙ ap (both (Ok records)) (closed read f.0 at gate (drop (at + 1) bytes) shut) ∙ ap (λ (l : List LogRecord). Ok l) (append-nil records);
         payloads = far.payloads;
-        stands = stops bytes are head far.payloads at gate far.shape inside gives shut;
+        stands = stops bytes head far.payloads at gate far.shape inside gives shut;
         spelled = far.spelled;
         pass = far.pass;
       }
@@ -105,15 +104,15 @@ module _ (passes : LogRecord → Bool) (read : ℕ → List ℕ → Result (List
       let f = pred_of far.fuel (omega (arith, far.enough)) in
       sym (here records at far f.0 1 f.1 inside gives) ∙ ap (both (Ok records)) (more read f.0 at n (drop (at + 1) bytes) is holds ∙ ap (λ (r : Result (List LogRecord) ℕ). both r (records_from read f.0 (at + 5 + n) (drop (4 + n) (drop (at + 1) bytes)))) bad)
 
-  pub goes_far : (records ys : List LogRecord) (at n : ℕ) → Far passes read bytes head records at → at < length bytes → get_or bytes at 0 ≡ 1 → n ≡ little_number 4 (drop (at + 1) bytes) → holds_batch n (drop (at + 1) bytes) ≡ true
+  pub goes_far : (records ys : List LogRecord) (at n : ℕ) → Far passes read bytes head records at → at < length bytes → get_or bytes at 0 ≡ 1 → n ≡ little_number 4 (drop (at + 1) bytes) → little_bytes 4 n ≡ take 4 (drop (at + 1) bytes) → holds_batch n (drop (at + 1) bytes) ≡ true
       → read (at + 5) (take n (drop 4 (drop (at + 1) bytes))) ≡ Ok ys → SpellAll ys (take n (drop 4 (drop (at + 1) bytes))) → IsTrue (list_all passes ys) → Far passes read bytes head (records ++ ys) (at + (5 + n))
-  goes_far records ys at n far inside gives is holds good one pass =
+  goes_far records ys at n far inside gives is word holds good one pass =
       let p : List ℕ = take n (drop 4 (drop (at + 1) bytes)) in
       let f = pred_of far.fuel (omega (arith, far.enough)) in
       let behind : drop (at + (5 + n)) bytes ≡ drop (4 + n) (drop (at + 1) bytes) = ap (λ (m : ℕ). drop m bytes) (let e : at + (5 + n) ≡ at + 1 + (4 + n) = omega arith in e) ∙ sym (drop-drop (4 + n) (at + 1) bytes) in
       record {
         payloads = far.payloads ++ p ∷ [];
-        shape = goes_on bytes are head far.payloads at n far.shape inside gives is holds;
+        shape = goes_on bytes head far.payloads at n far.shape inside gives is word holds;
         spelled = spelled_push far.payloads p records ys far.spelled one;
         pass = all_append passes records ys far.pass pass;
         fuel = f.0;

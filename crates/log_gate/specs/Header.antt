@@ -1,5 +1,5 @@
 -- The header of a shard's log: magic, version 1, the shard, the number of shards, and the splits.
-use Rattle.std.specs.Prelude.{ℕ, zero, suc, ◌+◌, ◌-◌, ◌*◌, ◌<◌, ◌≤◌, ◌^◌, List, [], ◌∷◌, ◌++◌, length, take, drop, Bool, true, false, ◌&&◌, nat_le, nat_lt, nat_eq, get_or, Option, Some, None, Result, Ok, Err, if◌then◌else◌}
+use Rattle.std.specs.Prelude.{◌≡◌, ℕ, zero, suc, ◌+◌, ◌-◌, ◌*◌, ◌<◌, ◌≤◌, ◌^◌, List, [], ◌∷◌, ◌++◌, length, take, drop, Bool, true, false, ◌&&◌, nat_le, nat_lt, nat_eq, get_or, Option, Some, None, Result, Ok, Err, if◌then◌else◌}
 use Rattle.std.specs.List.{flat_map}
 use Rattle.byteorder.specs.Endian.{little_bytes, little_number}
 
@@ -78,3 +78,10 @@ least_after (Some split) = split + 1
 abbrev pub Rise : ℕ → List ℕ → Type 0
 Rise least [] = Unit {0}
 Rise least (s ∷ splits) = (least ≤ s) × (s < 2 ^ 64) × Rise (s + 1) splits
+
+-- these bytes begin with the header of this shard, with these splits
+pub record IsHeader (shard : ℕ) (bytes splits : List ℕ) : Type 0 where
+  pub few : length splits ≤ 15
+  pub rise : Rise 0 splits
+  pub long : header_size splits ≤ length bytes
+  pub front : take (header_size splits) bytes ≡ header_bytes shard splits

@@ -1,10 +1,11 @@
 -- What an opening reads, and the calls of the disk that it makes.
-use Rattle.std.specs.Prelude.{◌≡◌, ◌⊎◌, ◌≤◌, ℕ, List, ◌++◌, length, take, drop, Bool, true, false, Option, Some, None, Vec, IsTrue, Result, Ok, Err}
-use Rattle.std.specs.List.{list_all}
+use Rattle.std.specs.Prelude.{◌≡◌, ◌≢◌, ◌⊎◌, ◌≤◌, ◌+◌, ℕ, List, ◌++◌, length, take, drop, get_or, Bool, true, false, Option, Some, None, Vec, IsTrue, Result, Ok, Err}
+use Rattle.std.specs.List.{list_all, AllByRecursion}
+use Rattle.byteorder.specs.Endian.{little_bytes, little_number}
 use Rattle.std.specs.declared.alloc.Global.{Global}
 use Rattle.clv_base.specs.declared.logs.LogRecord.{LogRecord}
-use Rattle.clv_base.specs.FileRules.{passes_file_rules}
-use Rattle.io_model.specs.Story.{Story, Len, Read, Sync, Sync_failed, after, reads, IsImage}
+use Rattle.clv_base.specs.FileRules.{has_spelling, passes_file_rules}
+use Rattle.io_model.specs.Story.{Call, Len, Read, Write, Cut, Sync, Write_failed, Cut_failed, Sync_failed, Story, reads, IsImage}
 use Rattle.io_model.specs.Disk.{Rose}
 use Rattle.io_model.specs.Crash.{AtEachMoment}
 use Rattle.clv_base.specs.Logs.{record_size}
@@ -15,7 +16,8 @@ use Rattle.log_gate.specs.declared.error.ParseError.{ParseError}
 use Rattle.log_gate.specs.declared.error.ParseError.TheVariants as parsing
 use Rattle.log_gate.specs.declared.error.OpenLogError.{OpenLogError}
 use Rattle.log_gate.specs.declared.error.OpenLogError.TheVariants.{NotLog, Failed, Memory}
-use Rattle.log_gate.specs.Header.{header_bytes, header_size, Rise}
+use Rattle.log_gate.specs.Payloads.{fits_batch, holds_batch}
+use Rattle.log_gate.specs.Header.{header_bytes, header_size, header_of, Rise, IsHeader}
 use Rattle.log_gate.specs.Image.{SpellAll, records_in, checked_log, AllSpelled}
 use Rattle.log_gate.specs.Records.{record_log}
 use Rattle.log_gate.specs.Gate.{StandsAt}
@@ -54,32 +56,97 @@ pub record Found (shard : ℕ) (agreed : Option (List ℕ)) (bytes splits : List
   pub front : take (header_size splits) bytes ≡ header_bytes shard splits
   pub parsed : ParsesAs (passes_file_rules splits shard) (records_in (passes_file_rules splits shard)) (header_size splits) bytes records at
 
--- a sync, and then all is read
-abbrev pub looked : Story → Story
-looked s = after (Read 0 (length (reads s))) (after Len (after Sync s))
+-- the length is asked, or bytes are read
+abbrev pub IsLook : Call → Type 0
+IsLook Len = Unit {0}
+IsLook (Read at count) = Unit {0}
+IsLook (Write at bytes) = ⊥
+IsLook (Cut len) = ⊥
+IsLook Sync = ⊥
+IsLook (Write_failed at count left) = ⊥
+IsLook (Cut_failed len left) = ⊥
+IsLook Sync_failed = ⊥
 
--- some of these calls, up to one that fails
-abbrev pub StopsLooking : Story → Story → Type 0
-StopsLooking s t = (t ≡ s) ⊎ (t ≡ after Sync_failed s) ⊎ (t ≡ after Sync s) ⊎ (t ≡ after Len (after Sync s)) ⊎ (t ≡ looked s)
+-- since then the disk was only looked at
+pub record Looked (s t : Story) : Type 0 where
+  pub newer : List Call
+  pub looks : AllByRecursion IsLook newer
+  pub is : t ≡ record { start = s.start; calls = newer ++ s.calls }
 
--- these calls, or those up to one that fails
-abbrev pub Looks : Result (Vec ℕ Global) OpenLogError → Story → Story → Type 0
-Looks (Ok bytes) s t = (t ≡ looked s) × (bytes.items ≡ reads s)
-Looks (Err (NotLog offset)) s t = ⊥
-Looks (Err Failed) s t = StopsLooking s t
-Looks (Err Memory) s t = StopsLooking s t
+-- and P holds of what a read gives
+abbrev pub Looks : (List ℕ → Type 0) → Story → Story → Type 0
+Looks P s t = Looked s t × P (reads s)
+
+-- so many bytes from a place on were read to the front
+abbrev pub IsPiece : {A E : Type 0} → (at count : ℕ) → List ℕ → Result A E → List ℕ → Type 0
+IsPiece at count into (Ok a) bytes = take count into ≡ take count (drop at bytes)
+IsPiece at count into (Err e) bytes = Unit {0}
+
+-- The size of the payload behind an open gate at this place; none behind a closed one; or the place of a length that no batch has. Behind the gate so
+-- many bytes are left, the first four of which are here, or all.
+abbrev pub TakesGate : (place left : ℕ) → List ℕ → Result (Option ℕ) ParseError → Type 0
+TakesGate place left head (Ok None) = get_or head 0 0 ≢ 1
+TakesGate place left head (Ok (Some n)) = (get_or head 0 0 ≡ 1) × (n ≡ little_number 4 (drop 1 head)) × (fits_batch n left ≡ true) × (little_bytes 4 n ≡ take 4 (drop 1 head))
+TakesGate place left head (Err (parsing.NotLog at)) = (get_or head 0 0 ≡ 1) × (fits_batch (little_number 4 (drop 1 head)) left ≡ false) × (at ≡ place + 1)
+TakesGate place left head (Err parsing.Memory) = Unit {0}
+
+-- an open gate at this place, a length, and so many bytes
+pub record IsOpenAt (at n : ℕ) (bytes : List ℕ) : Type 0 where
+  pub gate : get_or bytes at 0 ≡ 1
+  pub size : n ≡ little_number 4 (drop (at + 1) bytes)
+  pub word : little_bytes 4 n ≡ take 4 (drop (at + 1) bytes)
+  pub holds : holds_batch n (drop (at + 1) bytes) ≡ true
+
+-- the same of all bytes
+abbrev pub StandsGate : (at : ℕ) → Result (Option ℕ) OpenLogError → List ℕ → Type 0
+StandsGate at (Ok None) bytes = get_or bytes at 0 ≢ 1
+StandsGate at (Ok (Some n)) bytes = IsOpenAt at n bytes
+StandsGate at (Err (NotLog offset)) bytes = (get_or bytes at 0 ≡ 1) × (holds_batch (little_number 4 (drop (at + 1) bytes)) (drop (at + 1) bytes) ≡ false) × (offset ≡ at + 1)
+StandsGate at (Err Failed) bytes = Unit {0}
+StandsGate at (Err Memory) bytes = Unit {0}
+
+-- the records of the payload of this size at this place were added, or the first fault was told
+abbrev pub AddsBatch : {A : Type 0} → (LogRecord → Bool) → (place size : ℕ) → List LogRecord → List LogRecord → Result A OpenLogError → List ℕ → Type 0
+AddsBatch passes place size old new (Ok a) bytes = AddsRecords {A = Unit {0}} passes place (take size (drop place bytes)) old new (Ok tt)
+AddsBatch passes place size old new (Err (NotLog offset)) bytes = records_in passes place (take size (drop place bytes)) ≡ Err offset
+AddsBatch passes place size old new (Err Failed) bytes = Unit {0}
+AddsBatch passes place size old new (Err Memory) bytes = Unit {0}
+
+-- the fields of the records are in their bounds, and each passes
+pub record AreGood (passes : LogRecord → Bool) (records : List LogRecord) : Type 0 where
+  pub spelled : IsTrue (list_all has_spelling records)
+  pub pass : IsTrue (list_all passes records)
+
+-- the header of this shard's log, or the first fault
+abbrev pub FindsHeader : (shard : ℕ) → (agreed : Option (List ℕ)) → Result Header OpenLogError → List ℕ → Type 0
+FindsHeader shard agreed (Ok header) bytes = (header_of shard agreed bytes ≡ Ok header.splits) × IsHeader shard bytes header.splits
+FindsHeader shard agreed (Err (NotLog offset)) bytes = header_of shard agreed bytes ≡ Err offset
+FindsHeader shard agreed (Err Failed) bytes = Unit {0}
+FindsHeader shard agreed (Err Memory) bytes = Unit {0}
+
+-- the records behind a header of this length, and the place of the closed gate; or the first fault
+abbrev pub FindsRecords : (LogRecord → Bool) → (head : ℕ) → Result (Vec LogRecord Global × ℕ) OpenLogError → List ℕ → Type 0
+FindsRecords passes head (Ok found) bytes = ParsesAs passes (records_in passes) head bytes found.0.items found.1
+FindsRecords passes head (Err (NotLog offset)) bytes = record_log (records_in passes) head bytes ≡ Err offset
+FindsRecords passes head (Err Failed) bytes = Unit {0}
+FindsRecords passes head (Err Memory) bytes = Unit {0}
+
+-- the whole log, or the first fault
+abbrev pub FindsLog : (shard : ℕ) → (agreed : Option (List ℕ)) → Result (Header × Vec LogRecord Global × ℕ) OpenLogError → List ℕ → Type 0
+FindsLog shard agreed (Ok found) bytes = Found shard agreed bytes found.0.splits found.1.items found.2
+FindsLog shard agreed (Err (NotLog offset)) bytes = checked_log shard agreed bytes ≡ Err offset
+FindsLog shard agreed (Err Failed) bytes = Unit {0}
+FindsLog shard agreed (Err Memory) bytes = Unit {0}
 
 -- the disk isn't changed: at each moment a crash leaves what one before could leave, or what a read gives
 pub record IsUnchanged (s t : Story) : Type 0 where
   pub same : reads t ≡ reads s
   pub moments : AtEachMoment s t (λ image. IsImage s image ⊎ (image ≡ reads s))
 
--- what an opening finds
+-- what an opening finds, and where it finds a log, all that a read gives is durable
 abbrev pub Finds : ℕ → Option (List ℕ) → Result (Header × Vec LogRecord Global × ℕ) OpenLogError → Story → Story → Type 0
-Finds shard agreed (Ok found) s t = Found shard agreed (reads s) found.0.splits found.1.items found.2 × (t ≡ looked s)
-Finds shard agreed (Err (NotLog offset)) s t = checked_log shard agreed (reads s) ≡ Err offset
-Finds shard agreed (Err Failed) s t = Unit {0}
-Finds shard agreed (Err Memory) s t = Unit {0}
+Finds shard agreed (Ok found) s t = FindsLog shard agreed (Ok found) (reads s) × ((image : List ℕ) → IsImage t image → image ≡ reads t)
+Finds shard agreed (Err e) s t = FindsLog shard agreed (Err e) (reads s)
 
 -- `Failed` is answered only where the disk's count rose, and after every other answer the count stands
 abbrev pub CountsOpening : {A : Type 0} → ℕ → ℕ → Result A OpenLogError → Type 0

@@ -19,9 +19,13 @@ abbrev pub with_first : List ℕ → Result (List (List ℕ)) ℕ → Result (Li
 with_first payload (Ok payloads) = Ok (payload ∷ payloads)
 with_first payload (Err place) = Err place
 
+-- a length, and so many bytes as it says, are within what is left
+abbrev pub fits_batch : (size left : ℕ) → Bool
+fits_batch size left = nat_le 4 left && (nat_le 1 size && (nat_le size 1048576 && nat_le (4 + size) left))
+
 -- a length of this size, and so many bytes, stand at the front
 abbrev pub holds_batch : ℕ → List ℕ → Bool
-holds_batch size rest = nat_le 4 (length rest) && (nat_le 1 size && (nat_le size 1048576 && nat_le (4 + size) (length rest)))
+holds_batch size rest = fits_batch size (length rest)
 
 -- The payloads behind open gates, where these bytes begin at this place; or the place of the first field that is
 -- not as it should be. No more than `most` gates are read.

@@ -1,5 +1,6 @@
 // Why a log wasn't made or read.
 ghost use Rattle.std.specs.Prelude.{◌≡◌};
+ghost use Rattle.log_gate.specs.Errors.{of_parsing};
 ghost use Rattle.log_gate.specs.declared.error.OpenLogError.TheVariants.{Memory as no_memory, Failed as disk_failed};
 ghost use Rattle.log_gate.specs.declared.error.MakeError.TheVariants.{Failed as making_failed};
 ghost use Rattle.log_gate.specs.declared.error.ParseError.TheVariants.{Memory as none_to_parse};
@@ -72,5 +73,18 @@ impl<T: Drop> From<AllocFailed<T>> for ParseError {
 
     fn from(_: AllocFailed<T>) -> Self {
         ParseError::Memory
+    }
+}
+
+impl From<ParseError> for OpenLogError {
+    ghost from_gives = { λ error e. e ≡ of_parsing error };
+
+    fn from(error: ParseError) -> Self {
+        match error {
+            ParseError::NotLog(place) => OpenLogError::NotLog {
+                offset: place as u64,
+            },
+            ParseError::Memory => OpenLogError::Memory,
+        }
     }
 }

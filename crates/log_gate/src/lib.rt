@@ -14,6 +14,7 @@ mod opening;
 mod parse;
 mod reading;
 mod reopening;
+mod walking;
 
 pub use error::{MakeError, OpenLogError};
 pub use gate::{LogGate, PushError};

@@ -1,20 +1,12 @@
-// Reading a log's bytes, batch by batch and record by record.
-ghost use Rattle.std.specs.Prelude.{◌≡◌, ◌≤◌, ◌<◌, ◌+◌, ◌^◌, ℕ, List, length, take, drop, true, false, Err, MatchOption, IfOk, IfErr, nat_lt};
+// The bytes of a batch: its gate and length, and its records.
+ghost use Rattle.std.specs.Prelude.{◌≡◌, ◌≤◌, ◌<◌, ◌+◌, ◌^◌, min, length, drop, nat_lt, IfOk, IfSome};
 ghost use Rattle.std.specs.List.{list_all};
-ghost use Rattle.std.specs.Option.{option_map};
-ghost use Rattle.byteorder.specs.Endian.{little_number};
 ghost use Rattle.clv_base.specs.FileRules.{passes_file_rules};
 ghost use Rattle.clv_base.specs.Shards.{in_span};
-ghost use Rattle.log_gate.specs.Payloads.{holds_batch};
-ghost use Rattle.log_gate.specs.Records.{record_log};
-ghost use Rattle.log_gate.specs.Header.{header_size};
-ghost use Rattle.log_gate.specs.Image.{records_in, checked_log};
-ghost use Rattle.log_gate.specs.Opening.{TakesRecord, AddsRecords, ParsesAs, Found};
-ghost use Rattle.log_gate.specs.declared.error.ParseError.TheVariants.{NotLog};
+ghost use Rattle.log_gate.specs.Opening.{TakesGate, TakesRecord, AddsRecords};
 
 use crate::error::ParseError;
 use crate::header::Header;
-use crate::reading::header_at;
 use byteorder::{ByteOrder, LittleEndian};
 use clv_base::logs::LogRecord;
 use log_records::{DecodeError, decode};
@@ -22,25 +14,25 @@ use std::alloc::Global;
 
 const MAX_PAYLOAD: usize = 1048576;
 
-// The size of the payload behind an open gate.
-fn size_at(rest: &[u8]) -> Option<usize>
-    ensures { MatchOption result (holds_batch (little_number 4 rest.now) rest.now ≡ false) (λ n. (n ≡ little_number 4 rest.now) × (holds_batch n rest.now ≡ true)) }
+/// The size of the payload behind the gate at this place, which is the first of these bytes; none where it is closed. Behind it so many bytes are
+/// left, of which the first four follow, or all. `NotLog` names the length, where no batch has it or not so many bytes are left.
+pub fn gate_at(place: usize, left: usize, head: &[u8]) -> Result<Option<usize>, ParseError>
+    requires place { place < 2 ^ 63 }
+    requires head { length head.now ≡ 1 + min 4 left }
+    ensures takes { TakesGate place left head.now result }
+    ensures within { IfOk result (λ size. IfSome size (λ n. (n ≤ 1048576) × (4 + n ≤ left))) }
 {
-    if rest.len() < 4 {
-        return None;
+    if head[0] != 1 {
+        return Ok(None);
     }
-    let size = LittleEndian::read_u32(rest) as usize;
-    if size < 1 || size > MAX_PAYLOAD || rest.len() - 4 < size {
-        return None;
+    if left < 4 {
+        return Err(ParseError::NotLog(place + 1));
     }
-    Some(size)
-}
-
-fn payload_in(rest: &[u8], size: usize) -> &[u8]
-    requires { 4 + size ≤ length rest.now }
-    ensures { result.now ≡ take size (drop 4 rest.now) }
-{
-    &rest[4..4 + size]
+    let size = LittleEndian::read_u32(&head[1..]) as usize;
+    if size < 1 || size > MAX_PAYLOAD || left - 4 < size {
+        return Err(ParseError::NotLog(place + 1));
+    }
+    Ok(Some(size))
 }
 
 fn has_key(header: &Header, key: u64) -> bool
@@ -99,8 +91,8 @@ fn skip(rest: &[u8], size: usize) -> &[u8]
     &rest[size..]
 }
 
-// Adds the records of a payload at this place.
-fn read_batch(
+/// Adds the records of a payload at this place. `NotLog` names the first that is none, or that may not stand on the shard.
+pub fn read_batch(
     alloc: Global,
     header: &Header,
     place: usize,
@@ -121,56 +113,4 @@ fn read_batch(
         rest = skip(rest, size);
     }
     Ok(())
-}
-
-// The records behind open gates, and the place of the closed gate; or the first place that breaks the format.
-fn parse_records(
-    alloc: Global,
-    header: &Header,
-    bytes: &[u8],
-) -> Result<(Vec<LogRecord>, usize), ParseError>
-    ensures found { IfOk result (λ found. ParsesAs (passes_file_rules header.now.splits header.now.shard) (records_in (passes_file_rules header.now.splits header.now.shard)) (header_size header.now.splits) bytes.now found.0.items found.1) }
-    ensures within { IfOk result (λ found. found.1 < length bytes.now) }
-    ensures not_log { IfErr result (λ e. (place : ℕ) → e ≡ NotLog place → record_log (records_in (passes_file_rules header.now.splits header.now.shard)) (header_size header.now.splits) bytes.now ≡ Err place) }
-{
-    let mut records = Vec::new(alloc);
-    let mut at = header.size();
-    while let Some(gate) = bytes.get(at) {
-        if *gate != 1 {
-            return Ok((records, at));
-        }
-        let rest = &bytes[at + 1..];
-        let Some(size) = size_at(rest) else {
-            return Err(ParseError::NotLog(at + 1));
-        };
-        let payload = payload_in(rest, size);
-        match read_batch(alloc, header, at + 5, payload, &mut records) {
-            Ok(()) => at += 5 + size,
-            Err(error) => return Err(error),
-        }
-    }
-    Err(ParseError::NotLog(at))
-}
-
-/// The header, the records and the place of the closed gate in the bytes of a shard's disk; or the first place that
-/// breaks the format.
-pub fn read_image(
-    alloc: Global,
-    shard: u32,
-    agreed: Option<&Header>,
-    bytes: &[u8],
-) -> Result<(Header, Vec<LogRecord>, usize), ParseError>
-    ensures found { IfOk result (λ f. Found shard (option_map (λ h. h.now.splits) agreed.entry) bytes.now f.0.splits f.1.items f.2) }
-    ensures within { IfOk result (λ f. f.2 < length bytes.now) }
-    ensures shard { IfOk result (λ f. f.0.shard ≡ shard) }
-    ensures not_log { IfErr result (λ e. (place : ℕ) → e ≡ NotLog place → checked_log shard (option_map (λ h. h.now.splits) agreed.entry) bytes.now ≡ Err place) }
-{
-    let header = match header_at(alloc, shard, agreed, bytes) {
-        Ok(header) => header,
-        Err(error) => return Err(error),
-    };
-    match parse_records(alloc, &header, bytes) {
-        Ok((records, at)) => Ok((header, records, at)),
-        Err(error) => Err(error),
-    }
 }

@@ -2,7 +2,7 @@
 ghost use Rattle.std.specs.Prelude.{◌≡◌, ◌≤◌, ◌<◌, ◌+◌, ◌-◌, ◌*◌, ◌^◌, ℕ, List, length, take, drop, false, true, MatchOption, IfOk};
 ghost use Rattle.std.specs.Option.{option_map};
 ghost use Rattle.byteorder.specs.Endian.{little_number};
-ghost use Rattle.log_gate.specs.Header.{header_of, splits_from, has_number, has_count, same_bytes, magic, has_split, least_after, agrees_at, agrees_on_count};
+ghost use Rattle.log_gate.specs.Header.{header_of, IsHeader, splits_from, has_number, has_count, same_bytes, magic, has_split, least_after, agrees_at, agrees_on_count};
 ghost use Rattle.log_gate.specs.Opening.{Gives};
 
 use crate::error::ParseError;
@@ -140,6 +140,7 @@ pub fn header_at(
 ) -> Result<Header, ParseError>
     ensures reads { Gives (λ h. h.splits) result (header_of shard (option_map (λ h. h.now.splits) agreed.entry) bytes.now) }
     ensures shard { IfOk result (λ h. h.shard ≡ shard) }
+    ensures found { IfOk result (λ h. IsHeader shard bytes.now h.splits) }
 {
     let list = match read_header(alloc, shard, agreed, bytes) {
         Ok(list) => list,

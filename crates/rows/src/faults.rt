@@ -7,8 +7,8 @@ use disk_memory::Choice;
 
 const UNSETTLED: &[u8] = b"{\"aborted\":0,\"acknowledged\":0,\"unsettled\":1}\n";
 
-// The eleventh call of a disk is its fifth sync, that behind the gate of the transaction's batch.
-const GATE: [&[u64]; 3] = [&[11], &[], &[]];
+// The twelfth call of a disk is its fifth sync, that behind the gate of the transaction's batch.
+const GATE: [&[u64]; 3] = [&[12], &[], &[]];
 
 const ROWS: &[Row] = &[
     Row {
@@ -47,7 +47,7 @@ const ROWS: &[Row] = &[
     Row {
         shows: "a disk's fault says more than one of the sink",
         disks: &[(0, Given::Bytes(EMPTY))],
-        failing: [&[11], &[], &[2]],
+        failing: [&[12], &[], &[2]],
         words: &["run"],
         script: PUT,
         status: Status::DiskFault { shard: 0 },

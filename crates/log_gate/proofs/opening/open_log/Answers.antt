@@ -1,9 +1,22 @@
-use Rattle.std.proofs.Common.{◌<◌, ◌^◌, IfSome, sym, subst, arith}
+use Rattle.std.proofs.Common.{◌≡◌, ◌<◌, ◌^◌, ℕ, List, ◌++◌, length, drop, IfSome, sym, subst, rules, arith, length-take, length-append}
 use Rattle.log_gate.specs.Image.{HasLog, HasHeader}
 use Rattle.log_gate.specs.Gate.{EachNow}
 use Rattle.log_gate.specs.View.{View}
-use Rattle.log_gate.proofs.Unchanged.{opened_log, opened_header, opened_before}
+use Rattle.log_gate.proofs.Unchanged.{opened_holds, opened_log, opened_header, opened_before}
 use Rattle.log_gate.proofs.opening.open_log.Goals as goal
+
+pub made-requires : goal.made-requires
+made-requires g c =
+    let small : c.args.shard < 2 ^ 32 = omega arith in
+    let size : c.in-Ok.scratch.len ≡ 1048581 = search rules in
+    let kept : length c.read_log.new.scratch ≡ 1048581 = search rules in
+    let rest : List ℕ = drop (length c.read_log.new.scratch) c.in-Ok.scratch.items in
+    record {
+      room = λ up. omega (arith, size, kept, length-take c.in-Ok.scratch.len (c.read_log.new.scratch ++ rest), length-append c.read_log.new.scratch rest);
+      place = c.in-Ok-read_log.ensures.within;
+      small = small;
+      holds = λ up. opened_holds c.args.shard _ small (c.in-Ok-read_log.header, c.in-Ok-read_log.records, c.in-Ok-read_log.at) (g.D.Disk.story c.args.disk) (g.D.Disk.story c.read_log.new.disk) c.in-Ok-read_log.ensures.told;
+    }
 
 pub returns-in-Ok-read_log-clause-log : goal.returns-in-Ok-read_log-clause-log
 returns-in-Ok-read_log-clause-log g c =

@@ -1,25 +1,18 @@
-use Rattle.io_model.proofs.Laws.Told.{tells_weaker}
-use Rattle.log_gate.proofs.Batches.{spelled_in_bounds}
-use Rattle.log_gate.proofs.Unchanged.{unchanged, refused, found_told, refused_told}
-use Rattle.std.proofs.Common.{Ok}
+use Rattle.std.proofs.lemmas.Result.{err_from_is_err_and}
+use Rattle.std.specs.Option.{option_map}
+use Rattle.log_gate.proofs.Finding.{opening_told, no_sync, no_length}
 use Rattle.log_gate.proofs.opening.read_log.Goals as goal
 
-pub returns-in-Err-clause-told : goal.returns-in-Err-clause-told
-returns-in-Err-clause-told g c = tells_weaker _ _ _ _ (λ s t _ _ looks. refused s c.args.shard _ c.in-Err.error t looks) c.in-Err.ensures.told
+pub returns-in_err-sync-clause-told : goal.returns-in_err-sync-clause-told
+returns-in_err-sync-clause-told g c =
+    let p = err_from_is_err_and c.from_residual.result c.from_residual.ensures.1 in
+    rw p.1 (no_sync c.args.shard (option_map (λ h. h.now.splits) c.args.agreed) _ _ p.0 p.2 c.in_err-sync.ensures.told)
 
-pub returns-in-Ok-read_image-clause-told : goal.returns-in-Ok-read_image-clause-told
-returns-in-Ok-read_image-clause-told g c =
-    tells_weaker _ _ _ _ (λ s t _ _ looks. found_told s c.args.shard _ t _ _ _ _ c.in-Ok.bytes looks c.deref.ensures.value c.in-Ok-read_image.ensures.found) c.in-Ok.ensures.told
-
-pub returns-in-Ok-read_image-clause-fits : goal.returns-in-Ok-read_image-clause-fits
-returns-in-Ok-read_image-clause-fits g c = c.in-Ok-read_image.ensures.found.parsed.pass
-
-pub returns-in-Ok-read_image-clause-spelled : goal.returns-in-Ok-read_image-clause-spelled
-returns-in-Ok-read_image-clause-spelled g c = spelled_in_bounds c.in-Ok-read_image.ensures.found.parsed.payloads _ c.in-Ok-read_image.ensures.found.parsed.spelled
-
-pub returns-in-Err-NotLog-clause-told : goal.returns-in-Err-NotLog-clause-told
-returns-in-Err-NotLog-clause-told g c =
-    tells_weaker _ _ _ _ (λ s t _ _ looks. refused_told s c.args.shard _ t _ c.in-Err-NotLog.place c.in-Ok.bytes looks c.deref.ensures.value (c.in-Err-NotLog.ensures.not_log c.in-Err-NotLog.place c.in-Err-NotLog.field-0-is)) c.in-Ok.ensures.told
+pub returns-in_err-len-clause-told : goal.returns-in_err-len-clause-told
+returns-in_err-len-clause-told g c =
+    let p = err_from_is_err_and c.from_residual-in_err-len.result c.from_residual-in_err-len.ensures.1 in
+    rw p.1 (no_length c.args.shard (option_map (λ h. h.now.splits) c.args.agreed) _ _ _ p.0 p.2 c.in_ok-sync.ensures.told c.in_err-len.ensures.told)
 
 pub returns-clause-told : goal.returns-clause-told
-returns-clause-told g c = tells_weaker _ _ _ _ (λ s t _ _ looks. (unchanged s (Ok c.in-Ok.bytes) t looks, tt)) c.in-Ok.ensures.told
+returns-clause-told g c =
+    opening_told c.args.shard (option_map (λ h. h.now.splits) c.args.agreed) _ _ _ _ c.in_ok-len.len c.read_found.result c.in_ok-sync.ensures.told c.in_ok-len.ensures.told c.read_found.ensures.told
