@@ -3,8 +3,8 @@
 
 For scripts on one, two and three shards: one run in which a call fails, one in which all later ones fail too, and one that ends in its place; calls
 that are interrupted, that move less than they were asked to, that find no room; all disks from a call on. Then the same of `make`, of the standard
-streams and of threads. One shard fails for ever, at one write after the other: sessions that work on another one alone go on to their ends.
-Cases at random: sessions that meet on three shards, with one such fault.
+streams and of threads, and a write that fails in a run of `load`, which tries its transfers without end. One shard fails for ever, at one write after
+the other: sessions that work on another one alone go on to their ends. Cases at random: sessions that meet on three shards, with one such fault.
 
 What must hold after each run over logs, where three images of what a crash may leave are made from the calls that it made:
 
@@ -342,6 +342,23 @@ def others_go_on(checks, library, program):
             checks.check(f"{name}: sessions 2 and 3 go on to their ends", is_all, (done.count(2), done.count(3)), script)
 
 
+# A run of `load` ends, too, where the filling was left on a shard by a home that failed: nobody ends its part there, of which each transfer dies.
+LOAD = ("load", "--seed", "7", "--sessions", "2", "--accounts", "4", "--transfers", "1")
+LOAD_SECONDS = 30
+
+
+def loads(checks, library, program):
+    for shard in (0, 1):
+        for number in range(1, 9):
+            call = f"write@shard-{shard:02}.log:{number}:{errno.EIO}"
+            with Folder(program) as folder:
+                folder.run("make", "2")
+                got, trace = library.run(folder, *LOAD, seconds=LOAD_SECONDS, call=call)
+            want = expected(trace)
+            checks.check(f"FAULTS_CALL={call}, make 2, {' '.join(LOAD)}: it ends within {LOAD_SECONDS} s", got.status is not None, got)
+            checks.check(f"FAULTS_CALL={call}, make 2, {' '.join(LOAD)}: status", (got.status, got.err) == want, (got, want))
+
+
 # Cases at random.
 
 
@@ -383,6 +400,7 @@ def main():
             makes(checks, library, told.program)
             streams(checks, library, told.program)
             others_go_on(checks, library, told.program)
+            loads(checks, library, told.program)
             sweeps(checks, library, told.program)
         for case, numbers in cases(told) if library else ():
             crowds(checks, library, case, numbers, told.program)

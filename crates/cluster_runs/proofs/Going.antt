@@ -22,7 +22,7 @@ use Rattle.script_runs.specs.declared.ends.StopCause.{StopCause}
 use Rattle.script_runs.specs.declared.ends.TryEnd.{TryEnd}
 use Rattle.script_runs.specs.declared.ends.TryEnd.TheVariants as end
 use Rattle.script_runs.specs.Tries.{Try, IsTry}
-use Rattle.script_runs.specs.Sessions.{Transaction, AreTransactions, FollowsScript, InTries, last, none_left, worn, further, all_done, not_begun, stopped, done, is_to_retry, stopped_by, tries_of, entries_of, session_entries}
+use Rattle.script_runs.specs.Sessions.{Transaction, AreTransactions, FollowsScript, InTries, last, none_left, stopped_between, further, all_done, not_begun, stopped, done, is_to_retry, stopped_by, tries_of, entries_of, session_entries}
 use Rattle.cluster_runs.specs.PromisedSessions.{SessionWent}
 use Rattle.cluster_runs.specs.Replays.{RequestsAreTold}
 use Rattle.cluster_runs.proofs.Telling.{Ends, Told, GoOn, told_left, told_right, try_tells}
@@ -39,7 +39,7 @@ retried_goes_on (end.Stopped cause) h = absurd (both_ways false refl h)
 go_on : (most : Option ℕ) (n : ℕ) (ts : List Try) (cause : Option StopCause) → InTries most n ts cause → cause ≡ None → GoOn ts
 go_on most _ _ _ (last n t over) none = (none, tt)
 go_on most _ _ _ (none_left n t retry left) none = (retried_goes_on t.end retry, tt)
-go_on most _ _ _ (worn n at t retry left) none = absurd cc
+go_on most _ _ _ (stopped_between n t cause stops retry left) none = absurd cc
 go_on most _ _ _ (further n t ts cause retry left more) none = (retried_goes_on t.end retry, go_on most _ ts cause more none)
 
 tries_tell : (splits : List ℕ) (body : Body) (birth : Birth) (ts : List Try) → AllByRecursion (IsTry splits body birth) ts → GoOn ts → (x : ℕ × Entry) (t : TxId) → Among x (entries_of ts) → request_of (x.1).event (x.1).outcome ≡ Some t

@@ -5,4 +5,4 @@ pub use Rattle.law_base.proofs.Lists.{all_append}
 pub use Rattle.script_runs.proofs.Sessions.{tries_more}
 pub use Rattle.script_runs.proofs.Tries.{entries_more}
 pub use Rattle.script_runs.proofs.Doing.{one_more}
-pub use Rattle.script_runs.proofs.Doing.{grows_none}
+pub use Rattle.script_runs.proofs.Doing.{grows_none, grows_on}

@@ -10,7 +10,7 @@ use Rattle.script_runs.specs.declared.ends.StopCause.TheVariants.{Down, Unsettle
 use Rattle.script_runs.specs.declared.ends.TryEnd.{TryEnd}
 use Rattle.script_runs.specs.declared.ends.TryEnd.TheVariants.{Acknowledged, Empty, Asked, Aborted, Stopped}
 use Rattle.script_runs.specs.Tries.{Try, IsTry}
-use Rattle.script_runs.specs.Sessions.{InTries, last, none_left, worn, further, IsNamed, is_to_retry, stopped_by, has_left, entries_of}
+use Rattle.script_runs.specs.Sessions.{InTries, last, none_left, stopped_between, further, IsNamed, is_to_retry, stopped_by, stops_between, has_left, entries_of}
 use Rattle.script_runs.specs.declared.retrying.Next.{Next}
 use Rattle.script_runs.specs.declared.retrying.Next.TheVariants.{Again, Done, Stop}
 use Rattle.script_runs.specs.Dropped.{LetsGo, AllLetGo}
@@ -168,13 +168,20 @@ tries_stopped missed body first birth most tried end next cause u v w d t is n =
     told_so missed body first birth most (Some cause) u w (d.tries ++ new ∷ []) (one_more_try missed body first birth most tried end u v w d t)
     (d.front (new ∷ []) (Some cause) (subst (InTries most d.n (new ∷ [])) (ap stopped_by e) (last d.n new (ap is_to_retry e))))
 
-worn_in : (missed : Misses) (body : Body) (first : TxId) (birth : Birth) (most : Option ℕ) (tried : ℕ) (end : TryEnd) (cause : StopCause) (u v w x : Seen) (d : Trying missed body first birth most tried u v) → Tried missed body d.tx birth end v w → is_to_retry end ≡ true
-    → has_left most tried ≡ true → RetryTold {A = Unit {0}} birth (Err cause) w x → InTriesTold missed body first birth most (Some cause) u x
-worn_in missed body first birth most tried end (Worn at) u v w x d t r l grows =
+-- what stopped the session between two tries made nothing
+told_between : (birth : Birth) (cause : StopCause) (w x : Seen) → RetryTold {A = Unit {0}} birth (Err cause) w x → (stops_between cause ≡ true) × Grows [] w x
+told_between birth (Down n) w x grows = (refl, grows)
+told_between birth (Unsettled n) w x told = absurd told
+told_between birth (Worn at) w x grows = (refl, grows)
+told_between birth Memory w x told = absurd told
+
+stopped_in : (missed : Misses) (body : Body) (first : TxId) (birth : Birth) (most : Option ℕ) (tried : ℕ) (end : TryEnd) (cause : StopCause) (u v w x : Seen) (d : Trying missed body first birth most tried u v) → Tried missed body d.tx birth end v w → is_to_retry end ≡ true
+    → has_left most tried ≡ true → stops_between cause ≡ true → Grows [] w x → InTriesTold missed body first birth most (Some cause) u x
+stopped_in missed body first birth most tried end cause u v w x d t r l s grows =
     let new = try_of missed body d.tx birth end v w t in
     let h = one_more_try missed body first birth most tried end u v w d t in
     let up = grows.serial_rises in
-    told_so missed body first birth most (Some (Worn at)) u x (d.tries ++ new ∷ [])
+    told_so missed body first birth most (Some cause) u x (d.tries ++ new ∷ [])
     (record {
       each = h.each;
       named = h.named;
@@ -182,10 +189,7 @@ worn_in missed body first birth most tried end (Worn at) u v w x d t r l grows =
       serials_rise = λ lo k. rise_later lo (serials (d.tries ++ new ∷ [])) w.serial x.serial (h.serials_rise lo k) up;
       dropped = all_let_go_later missed missed w.clock x.clock (d.tries ++ new ∷ []) (kept_so missed) grows.clock_rises h.dropped;
     })
-    (d.front (new ∷ []) (Some (Worn at)) (worn d.n at new r (same_left most tried d.n true d.count l)))
-worn_in missed body first birth most tried end Memory u v w x d t r l told = absurd told
-worn_in missed body first birth most tried end (Down n) u v w x d t r l told = absurd told
-worn_in missed body first birth most tried end (Unsettled n) u v w x d t r l told = absurd told
+    (d.front (new ∷ []) (Some cause) (stopped_between d.n new cause s r (same_left most tried d.n true d.count l)))
 
 pub can_retry : (birth : Birth) (end : TryEnd) (st : Standing) → LeftBy birth end st → is_to_retry end ≡ true → st ≡ Idle (Some birth)
 can_retry birth Acknowledged st l h = absurd cc
@@ -194,11 +198,12 @@ can_retry birth Asked st l h = l
 can_retry birth (Aborted cause) st l h = l
 can_retry birth (Stopped cause) st l h = absurd cc
 
-pub tries_worn : (missed : Misses) (body : Body) (first : TxId) (birth : Birth) (most : Option ℕ) (tried : ℕ) (end : TryEnd) (next : Next) (cause : StopCause) (u v w x : Seen) (d : Trying missed body first birth most tried u v) → Tried missed body d.tx birth end v w → next ≡ Again
+pub tries_stopped_between : (missed : Misses) (body : Body) (first : TxId) (birth : Birth) (most : Option ℕ) (tried : ℕ) (end : TryEnd) (next : Next) (cause : StopCause) (u v w x : Seen) (d : Trying missed body first birth most tried u v) → Tried missed body d.tx birth end v w → next ≡ Again
     → NextIs end most tried next → ((b : Birth) → w.standing ≡ Idle (Some b) → RetryTold {A = Unit {0}} b (Err cause) w x) → InTriesTold missed body first birth most (Some cause) u x
-tries_worn missed body first birth most tried end next cause u v w x d t is n told =
+tries_stopped_between missed body first birth most tried end next cause u v w x d t is n told =
     let p = subst (NextIs end most tried) is n in
-    worn_in missed body first birth most tried end cause u v w x d t p.0 p.1 (told birth (can_retry birth end w.standing t.left p.0))
+    let k = told_between birth cause w x (told birth (can_retry birth end w.standing t.left p.0)) in
+    stopped_in missed body first birth most tried end cause u v w x d t p.0 p.1 k.0 k.1
 
 next_tried : (missed : Misses) (body : Body) (first : TxId) (birth : Birth) (most : Option ℕ) (tried more_tried : ℕ) (end : TryEnd) (u v w x : Seen) (d : Trying missed body first birth most tried u v) → Tried missed body d.tx birth end v w → is_to_retry end ≡ true
     → has_left most tried ≡ true → Begins birth w x → ((k : ℕ) → most ≡ Some k → more_tried ≡ suc tried) → Trying missed body first birth most more_tried u x

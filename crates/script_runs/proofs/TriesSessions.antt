@@ -16,7 +16,7 @@ use Rattle.script_runs.specs.declared.ends.StopCause.{StopCause}
 use Rattle.script_runs.specs.declared.ends.TryEnd.{TryEnd}
 use Rattle.script_runs.specs.declared.ends.TryEnd.TheVariants as end
 use Rattle.script_runs.specs.Tries.{Try, IsTry, EndsBy, acknowledged, nothing, by_line, in_operation, at_request, at_look, down, unsettled, wanting_before, wanting_behind, unanswered, worn_at_line}
-use Rattle.script_runs.specs.Sessions.{Transaction, IsTransaction, InTries, last, none_left, worn, further, is_to_retry, stopped_by, has_left, AreTransactions, all_done, not_begun, stopped, done, entries_of, tries_of}
+use Rattle.script_runs.specs.Sessions.{Transaction, IsTransaction, InTries, last, none_left, stopped_between, further, is_to_retry, stopped_by, has_left, AreTransactions, all_done, not_begun, stopped, done, entries_of, tries_of}
 use Rattle.script_runs.specs.TriesLaws.{TriesAreFew, IsBornSo, TriesHaveOneBirth, TransactionsHaveOwnBirths, Completes, IsComplete, SessionsGoThrough, SessionsTellTheirTries}
 use Rattle.script_runs.specs.TriesLaws as laws
 use Rattle.script_runs.proofs.TriesListed.{try_born, entries_tell_of_no_other}
@@ -28,7 +28,7 @@ use Rattle.law_base.proofs.Names.{ops_append}
 few : (most n : ℕ) (ts : List Try) (cause : Option StopCause) → InTries (Some most) n ts cause → n ≤ most → n + length ts ≤ suc most
 few most _ _ _ (last n t h) low = omega arith
 few most _ _ _ (none_left n t h k) low = omega arith
-few most _ _ _ (worn n at t h k) low = omega arith
+few most _ _ _ (stopped_between n t cause s h k) low = omega arith
 few most _ _ _ (further n t ts cause h k more) low = let within = ltb-true n most k in let i = few most (suc n) ts cause more (omega arith) in omega arith
 
 pub tries_are_few : TriesAreFew
@@ -105,7 +105,7 @@ goes most count splits body birth _ _ _ (last n t r) none is each =
 goes most count splits body birth _ _ _ (none_left n t r k) none is each =
     let same : n ≡ count = omega arith in
     record { front = []; final = t; tries_are = refl; completes = laws.no_try_left t.end r (ap (has_left most) (sym same) ∙ k) }
-goes most count splits body birth _ _ _ (worn n at t r k) none is each = absurd cc
+goes most count splits body birth _ _ _ (stopped_between n t cause s r k) none is each = absurd cc
 goes most count splits body birth _ _ _ (further n t ts cause r k more) none is each =
     let i = goes most count splits body birth (suc n) ts cause more none (omega arith) each.1 in
     record { front = t ∷ i.front; final = i.final; tries_are = ap (λ l. t ∷ l) i.tries_are; completes = i.completes }

@@ -40,12 +40,21 @@ abbrev pub has_left : Option ℕ → ℕ → Bool
 has_left None n = true
 has_left (Some most) n = nat_lt n most
 
+-- what may stop a session between two tries: a shard was found down, or the beginning of the next one was worn
+abbrev pub stops_between : StopCause → Bool
+stops_between (stop.Down n) = true
+stops_between (stop.Unsettled n) = false
+stops_between (stop.Worn at) = true
+stops_between stop.Memory = false
+
 -- tries from the n-th on, and what stopped the session, if anything did: a further one follows exactly where it is to be tried again and tries are left,
--- unless its beginning was worn
+-- unless the session was stopped before it
 pub data InTries (most : Option ℕ) : ℕ → List Try → Option StopCause → Type 0 where
   last : (n : ℕ) (t : Try) → is_to_retry t.end ≡ false → InTries most n (t ∷ []) (stopped_by t.end)
   none_left : (n : ℕ) (t : Try) → is_to_retry t.end ≡ true → has_left most n ≡ false → InTries most n (t ∷ []) None
-  worn : (n at : ℕ) (t : Try) → is_to_retry t.end ≡ true → has_left most n ≡ true → InTries most n (t ∷ []) (Some (stop.Worn at))
+  stopped_between :
+      (n : ℕ) (t : Try) (cause : StopCause) → stops_between cause ≡ true → is_to_retry t.end ≡ true → has_left most n ≡ true
+      → InTries most n (t ∷ []) (Some cause)
   further :
       (n : ℕ) (t : Try) (ts : List Try) (cause : Option StopCause) → is_to_retry t.end ≡ true → has_left most n ≡ true → InTries most (suc n) ts cause
       → InTries most n (t ∷ ts) cause

@@ -41,11 +41,12 @@ BeginTold (Err Memory) u v = ⊥
 BeginTold (Err (Down n)) u v = ⊥
 BeginTold (Err (Unsettled n)) u v = ⊥
 
+-- nor did a further try before which a shard was found down
 abbrev pub RetryTold : {A : Type 0} → Birth → Result A StopCause → Seen → Seen → Type 0
 RetryTold birth (Ok a) u v = Begins birth u v
 RetryTold birth (Err (Worn at)) u v = Grows [] u v
 RetryTold birth (Err Memory) u v = ⊥
-RetryTold birth (Err (Down n)) u v = ⊥
+RetryTold birth (Err (Down n)) u v = Grows [] u v
 RetryTold birth (Err (Unsettled n)) u v = ⊥
 
 -- ---- drops

@@ -40,8 +40,9 @@ pub trait SessionCalls {
         ensures misses { Keeps (missed self.old) (missed self.new) }
         ensures grounds { IfErr result (grounds self.new) };
 
-    /// Tries the last transaction again, which ended by an abort: with its birth, and a name of its own.
-    fn retry(&mut self) -> Result<(), StopCause>
+    /// Tries the last transaction again, which ended by an abort: with its birth, and a name of its own. Before that it may look for a shard that is down,
+    /// and where it finds one, stop there.
+    fn retry(&mut self, alloc: Global) -> Result<(), StopCause>
         requires session { holds self.old }
         requires ended { (birth : BirthIs) × ((seen self.old).standing ≡ Idle (Some birth)) }
         ensures session { holds self.new }

@@ -5,7 +5,7 @@ use clv_base::causes::AbortCause;
 /// What stops a session.
 #[derive(Clone, Copy, PartialEq, Eq)]
 pub enum StopCause {
-    /// A shard was found down before the transaction's request.
+    /// A shard was found down before the transaction's request, or between two of its tries.
     Down { shard: u32 },
     /// A shard was found down while the transaction's request stood.
     Unsettled { shard: u32 },

@@ -93,7 +93,7 @@ fn run_tries<R: Wait, C: SessionCalls>(
     for _ in rt.forever() {
         let end = run_try(rt, alloc, session, transaction);
         match next_after(end, most, tried) {
-            Next::Again => match session.retry() {
+            Next::Again => match session.retry(alloc) {
                 Ok(()) => tried = next_number(most, tried),
                 Err(cause) => return Err(cause),
             },

@@ -15,6 +15,8 @@ use Rattle.session_ops.specs.Standing.{IsActive}
 use Rattle.session_ops.specs.Beginnings.{IsIdle, Begun}
 use Rattle.session_ops.specs.Requested.{IsStanding, HasRequest}
 use Rattle.session_ops.specs.Dropped.{Dropping, IsLeft}
+use Rattle.session_ops.specs.declared.parts.RoundError.{RoundError}
+use Rattle.session_ops.specs.declared.parts.RoundError.TheVariants as round
 use Rattle.session_ops.specs.declared.settled_looking.SettleError.{SettleError}
 use Rattle.session_ops.specs.Retried.{IsRetriable, Retried}
 use Rattle.session_ops.specs.Parts.{PointTold, StandsUnless, has_died}
@@ -37,6 +39,11 @@ use Rattle.session_api.specs.declared.ending.CommitError.{CommitError}
 use Rattle.session_api.specs.declared.ending.AbortError.{AbortError}
 use Rattle.session_api.specs.declared.ending.AbortError.TheVariants.{NoTx}
 use Rattle.session_api.specs.Progresses.{active_tx, retry_refusal, answer_told, refusal_of, after_op, commit_told, settle_told, commit_refusal, is_nothing, after_commit, progress_committed, abort_told, progress_aborted}
+
+-- what a round answers that found this shard down, if any
+abbrev pub found_in : Option ℕ → Result Unit RoundError
+found_in None = Ok tt
+found_in (Some n) = Err (round.Down n)
 
 module _ {M S G : Type 0} where
   -- how its last transaction stands

@@ -38,8 +38,11 @@ impl<'a, M: Flier, P: Pace, R: Wait> SessionCalls for ScriptSession<'a, M, P, R>
         begun(self.session.begin())
     }
 
-    fn retry(&mut self) -> Result<(), StopCause> {
-        retried(self.session.retry())
+    fn retry(&mut self, alloc: Global) -> Result<(), StopCause> {
+        match self.session.shard_down(alloc) {
+            Some(shard) => Err(StopCause::Down { shard }),
+            None => retried(self.session.retry()),
+        }
     }
 
     fn operate(&mut self, alloc: Global, op: Op) -> Result<Answer, TryEnd> {

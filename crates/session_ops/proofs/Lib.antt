@@ -18,6 +18,7 @@ pub mod RetryLeaving
 pub mod Deciding
 pub mod ScanAsking
 pub mod EndPassing
+pub mod Resting
 pub mod Pointing
 pub mod EndSeeing
 pub mod Performing

@@ -1,5 +1,5 @@
 use Rattle.std.proofs.Common.{◌∙◌, refl, subst}
-use Rattle.script_runs.proofs.Tries.{no_try, tries_done, tries_stopped, tries_worn, tries_go_on, trying_later, tried_later, can_retry, idle_when_done}
+use Rattle.script_runs.proofs.Tries.{no_try, tries_done, tries_stopped, tries_stopped_between, tries_go_on, trying_later, tried_later, can_retry, idle_when_done}
 use Rattle.script_runs.specs.Ran.{NextIs}
 use Rattle.script_runs.proofs.retrying.run_tries.Goals as goal
 
@@ -44,7 +44,7 @@ pub returns-in-Err-clause-told : goal.returns-in-Err-clause-told
 returns-in-Err-clause-told g c tx birth active serial run session =
     let d = c.loop.invariant.trying tx birth active serial run session in
     let t = c.run_try-end.ensures.tried d.tx birth d.active in
-    tries_worn (g.C.SessionCalls.missed c.retry.new.self) c.args.transaction.now tx birth c.args.most c.loop.tried c.run_try-end.result c.next_after.result c.in-Err.cause (g.C.SessionCalls.seen c.args.session.now) (g.C.SessionCalls.seen c.loop.session)
+    tries_stopped_between (g.C.SessionCalls.missed c.retry.new.self) c.args.transaction.now tx birth c.args.most c.loop.tried c.run_try-end.result c.next_after.result c.in-Err.cause (g.C.SessionCalls.seen c.args.session.now) (g.C.SessionCalls.seen c.loop.session)
     (g.C.SessionCalls.seen c.run_try-end.new.session) (g.C.SessionCalls.seen c.retry.new.self)
     (trying_later (g.C.SessionCalls.missed c.loop.session) (g.C.SessionCalls.missed c.retry.new.self) c.args.transaction.now tx birth c.args.most c.loop.tried (g.C.SessionCalls.seen c.args.session.now) (g.C.SessionCalls.seen c.loop.session) (λ tx n es h. c.in-Err.ensures.misses tx n es (c.run_try-end.ensures.misses tx n es h)) d)
     (tried_later (g.C.SessionCalls.missed c.run_try-end.new.session) (g.C.SessionCalls.missed c.retry.new.self) c.args.transaction.now d.tx birth c.run_try-end.result (g.C.SessionCalls.seen c.loop.session) (g.C.SessionCalls.seen c.run_try-end.new.session) c.in-Err.ensures.misses t)
